@@ -1,0 +1,83 @@
+-- Bytes, lines, words and numbers, as every format of the project reads them (our own choice where Golly Help is silent).
+use Rattle.std.specs.Prelude.{◌≡◌, ℕ, zero, suc, ◌+◌, ◌-◌, ◌*◌, ◌<◌, ℤ, pos, neg_ℤ, List, [], ◌∷◌, Bool, true, false, not, ◌&&◌, ◌||◌, ◌==◌, nat_le, IsTrue, if◌then◌else◌, ◌⊎◌}
+use Rattle.std.specs.List.{list_all}
+
+-- a blank is a space, a tab or a CR
+abbrev pub is_blank : ℕ → Bool
+is_blank b = (b == 32) || (b == 9) || (b == 13)
+
+-- LF ends a line
+abbrev pub is_line_end : ℕ → Bool
+is_line_end b = b == 10
+
+-- `0` to `9`
+abbrev pub is_digit : ℕ → Bool
+is_digit b = nat_le 48 b && nat_le b 57
+
+-- each byte passes the test
+abbrev pub Every : (ℕ → Bool) → List ℕ → Type 0
+Every test bytes = IsTrue (list_all test bytes)
+
+-- the bytes up to the first that fails the test, and the bytes from there on
+abbrev pub front : (ℕ → Bool) → List ℕ → List ℕ
+front test [] = []
+front test (b ∷ bs) = if test b then b ∷ front test bs else []
+
+abbrev pub rest : (ℕ → Bool) → List ℕ → List ℕ
+rest test [] = []
+rest test (b ∷ bs) = if test b then rest test bs else b ∷ bs
+
+-- the bytes are none, or the first of them passes the test
+abbrev pub is_end_or : (ℕ → Bool) → List ℕ → Bool
+is_end_or test [] = true
+is_end_or test (b ∷ bs) = test b
+
+-- a byte put in front of the first of these lists
+abbrev pub with_front : ℕ → List (List ℕ) → List (List ℕ)
+with_front b [] = (b ∷ []) ∷ []
+with_front b (l ∷ ls) = (b ∷ l) ∷ ls
+
+-- the lines of a text, each without its LF; after a last LF there is no further line
+abbrev pub lines_of : List ℕ → List (List ℕ)
+lines_of [] = []
+lines_of (b ∷ bs) = if is_line_end b then [] ∷ lines_of bs else with_front b (lines_of bs)
+
+-- a line without the one CR that may stand before its end
+abbrev pub without_cr : List ℕ → List ℕ
+without_cr [] = []
+without_cr (b ∷ []) = if b == 13 then [] else b ∷ []
+without_cr (b ∷ c ∷ bs) = b ∷ without_cr (c ∷ bs)
+
+-- the words of a line: its longest runs of bytes that are no blanks
+abbrev pub words_of : List ℕ → List (List ℕ)
+words_of [] = []
+words_of (b ∷ bs) = if is_blank b then words_of bs else (if is_end_or is_blank bs then (b ∷ []) ∷ words_of bs else with_front b (words_of bs))
+
+-- a byte that may stand in a word: no blank, and no LF
+abbrev pub is_word_byte : ℕ → Bool
+is_word_byte b = not (is_blank b) && not (is_line_end b)
+
+-- a word: one or more bytes, none of them a blank or LF
+abbrev pub IsWord : List ℕ → Type 0
+IsWord [] = IsTrue false
+IsWord (b ∷ bs) = Every is_word_byte (b ∷ bs)
+
+-- one or more decimal digits, leading zeros allowed
+abbrev pub AreDigits : List ℕ → Type 0
+AreDigits [] = IsTrue false
+AreDigits (d ∷ ds) = Every is_digit (d ∷ ds)
+
+-- the number that digits write behind those of n
+abbrev pub value_from : ℕ → List ℕ → ℕ
+value_from n [] = n
+value_from n (d ∷ ds) = value_from (10 * n + (d - 48)) ds
+
+-- the number that decimal digits write
+abbrev pub value : List ℕ → ℕ
+value ds = value_from 0 ds
+
+-- digits, and an optional `-` before them
+abbrev pub IsInteger : List ℕ → ℤ → Type 0
+IsInteger bytes n =
+    (AreDigits bytes × (n ≡ pos (value bytes)))
+    ⊎ ((digits : List ℕ) × (bytes ≡ 45 ∷ digits) × AreDigits digits × (n ≡ neg_ℤ (pos (value digits))))

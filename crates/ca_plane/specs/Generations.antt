@@ -1,0 +1,16 @@
+-- The plane after n generations: all cells change at once, by one rule on a cell and its eight neighbours.
+-- It goes down from one cell and one generation to the picture's cells, and never has a plane after a step.
+use Rattle.std.specs.Prelude.{ℕ, zero, suc, ℤ, pos, ◌+ℤ◌, ◌-ℤ◌, List, [], ◌∷◌}
+use Rattle.ca_plane.specs.Plane.{Picture, cell}
+
+-- the nine cells round a place, row by row: NW, N, NE, W, the centre, E, SW, S, SE (y grows downward)
+abbrev pub around : (ℤ → ℤ → ℕ) → ℤ → ℤ → List ℕ
+around f x y =
+    f (x -ℤ pos 1) (y -ℤ pos 1) ∷ f x (y -ℤ pos 1) ∷ f (x +ℤ pos 1) (y -ℤ pos 1)
+    ∷ f (x -ℤ pos 1) y ∷ f x y ∷ f (x +ℤ pos 1) y
+    ∷ f (x -ℤ pos 1) (y +ℤ pos 1) ∷ f x (y +ℤ pos 1) ∷ f (x +ℤ pos 1) (y +ℤ pos 1) ∷ []
+
+-- the state at (x, y) after n generations, where next gives a cell's next state from the nine cells round it
+abbrev pub after : (List ℕ → ℕ) → Picture → ℕ → ℤ → ℤ → ℕ
+after next p zero x y = cell p x y
+after next p (suc n) x y = next (around (after next p n) x y)

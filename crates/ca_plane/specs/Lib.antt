@@ -1,0 +1,6 @@
+pub mod Plane
+pub mod Generations
+pub mod Change
+pub mod Sparse
+pub mod Bytes
+pub mod Device
