@@ -1,13 +1,10 @@
-// A library with one function.
+//! Rule texts in B/S notation, and the next cell of a B/S rule.
 #![tactic(auto)]
 
-ghost use Rattle.std.specs.Prelude.{◌≡◌};
-ghost use Rattle.ca_rule.specs.Echo.{echo_of};
+mod bs_rule;
+mod counts;
+mod fault;
 
-// The `ensures` clause is the contract: what `echo` returns is `echo_of` of its argument, a definition
-// in `specs/Echo.antt`, which a caller's clause can cite too.
-pub fn echo(x: usize) -> usize
-    ensures { result ≡ echo_of x }
-{
-    x
-}
+pub use bs_rule::BsRule;
+pub use counts::Counts;
+pub use fault::RuleFault;
