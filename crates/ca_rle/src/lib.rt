@@ -1,13 +1,8 @@
-// A library with one function.
+//! Extended RLE, the format of single patterns: its items, its files, its faults, and the reader of its first form.
 #![tactic(auto)]
 
-ghost use Rattle.std.specs.Prelude.{◌≡◌};
-ghost use Rattle.ca_rle.specs.Echo.{echo_of};
+mod fault;
+mod item;
 
-// The `ensures` clause is the contract: what `echo` returns is `echo_of` of its argument, a definition
-// in `specs/Echo.antt`, which a caller's clause can cite too.
-pub fn echo(x: usize) -> usize
-    ensures { result ≡ echo_of x }
-{
-    x
-}
+pub use fault::RleFault;
+pub use item::{Item, Tag};

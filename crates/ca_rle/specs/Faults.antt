@@ -1,0 +1,134 @@
+-- The first fault of an RLE text (the formats' own order: each word of a `#CXRLE` line, each other line before the header,
+-- the header, each item). A text has one such fault at most, and none where it is spelled as a file.
+use Rattle.std.specs.Prelude.{◌≡◌, ℕ, ◌≤◌, ◌<◌, ◌^◌, ℤ, List, [], ◌∷◌, ◌++◌, Bool, true, false, not, ◌||◌, ◌==◌, nat_le, IsTrue, Option, Some, None, is_some, codes, ◌⊎◌, if◌then◌else◌}
+use Rattle.std.specs.Bool.{nat_eq}
+use Rattle.std.specs.List.{flat_map, AllZip, starts_with}
+use Rattle.ca_plane.specs.Bytes.{is_blank, is_line_end, is_digit, is_end_or, front, rest, AreDigits, value}
+use Rattle.ca_rle.specs.declared.fault.RleFault.{RleFault}
+use Rattle.ca_rle.specs.declared.fault.RleFault.TheVariants.{Syntax, Header, XlifeRule, NoEnd, BadState, GenTooLarge, Range, TooManyCells, Memory}
+use Rattle.ca_rle.specs.declared.item.Item.{Item}
+use Rattle.ca_rle.specs.Items.{is_letter, is_prefix, prefixed_state, tag_of, Place, AtStart, InLine, InComment, Run}
+use Rattle.ca_rle.specs.Header.{IsHeader, is_comment, extended_words, Said, Corner, Says, IsXlifeLine}
+use Rattle.ca_rle.specs.File.{IsLine, ended, IsPreamble, IsHeaded}
+
+-- a word of a `#CXRLE` line that begins as `Pos=` or `Gen=` and isn't of that form, or whose generation is too large
+abbrev pub IsBadWord : List ℕ → RleFault → Type 0
+IsBadWord word Syntax =
+    ((starts_with nat_eq word (codes "Pos=") ≡ true) × ((x y : ℤ) → Says word (Corner x y) → ⊥))
+    ⊎ ((starts_with nat_eq word (codes "Gen=") ≡ true) × ((digits : List ℕ) → word ≡ codes "Gen=" ++ digits → AreDigits digits → ⊥))
+IsBadWord word GenTooLarge = (digits : List ℕ) × (word ≡ codes "Gen=" ++ digits) × AreDigits digits × (2 ^ 63 ≤ value digits)
+IsBadWord word Header = ⊥
+IsBadWord word XlifeRule = ⊥
+IsBadWord word NoEnd = ⊥
+IsBadWord word BadState = ⊥
+IsBadWord word Range = ⊥
+IsBadWord word TooManyCells = ⊥
+IsBadWord word Memory = ⊥
+
+-- behind good lines and good words stands a bad word
+pub record HasBadWord (bytes : List ℕ) (fault : RleFault) : Type 0 where
+  pub lines : List (List ℕ)
+  pub said : List Said
+  pub line : List ℕ
+  pub good : List (List ℕ)
+  pub good_said : List Said
+  pub word : List ℕ
+  pub later : List (List ℕ)
+  pub more : List ℕ
+  pub preamble : IsPreamble lines said
+  pub line_is : IsLine line
+  pub comment : is_comment line ≡ true
+  pub words : extended_words line ≡ good ++ word ∷ later
+  pub good_words : AllZip Says good good_said
+  pub bad : IsBadWord word fault
+  pub line_ends : IsTrue (is_end_or is_line_end more)
+  pub spelled : bytes ≡ flat_map ended lines ++ (line ++ more)
+
+-- behind good lines stands a line that is neither a comment nor a header, or the bytes end
+pub record HasNoHeader (bytes : List ℕ) : Type 0 where
+  pub lines : List (List ℕ)
+  pub said : List Said
+  pub line : List ℕ
+  pub more : List ℕ
+  pub preamble : IsPreamble lines said
+  pub line_is : IsLine line
+  pub no_header : (rule : Option (List ℕ)) → IsHeader line rule → ⊥
+  -- the line is no comment, or it is one with good words and the last of the text
+  pub no_comment_or_last : (is_comment line ≡ false) ⊎ ((more ≡ []) × ((last : List Said) × AllZip Says (extended_words line) last))
+  pub line_ends : IsTrue (is_end_or is_line_end more)
+  pub spelled : bytes ≡ flat_map ended lines ++ (line ++ more)
+
+-- behind good lines, one of which gives XLife's rule, stands a header without a rule
+pub record HasXlifeRule (bytes : List ℕ) : Type 0 where
+  pub lines : List (List ℕ)
+  pub said : List Said
+  pub header : List ℕ
+  pub body : List ℕ
+  pub xlife : List ℕ
+  pub earlier : List (List ℕ)
+  pub others : List (List ℕ)
+  pub preamble : IsPreamble lines said
+  pub is_xlife : IsXlifeLine xlife
+  pub among : lines ≡ earlier ++ xlife ∷ others
+  pub header_is_line : IsLine header
+  pub header_is : IsHeader header None
+  pub header_ends : IsTrue (is_end_or is_line_end body)
+  pub spelled : bytes ≡ flat_map ended lines ++ (header ++ body)
+
+-- the bytes behind the white space at the front; none where a comment is cut off by the end
+abbrev pub behind_white : Place → List ℕ → List ℕ
+behind_white AtStart [] = []
+behind_white InLine [] = []
+behind_white InComment [] = []
+behind_white AtStart (b ∷ bs) =
+    if is_line_end b || is_blank b then behind_white AtStart bs
+    else (if b == 35 then behind_white InComment bs else b ∷ bs)
+behind_white InLine (b ∷ bs) =
+    if is_line_end b then behind_white AtStart bs
+    else (if is_blank b then behind_white InLine bs else b ∷ bs)
+behind_white InComment (b ∷ bs) = if is_line_end b then behind_white AtStart bs else behind_white InComment bs
+
+-- the fault of a prefix with what stands behind it: it wants a letter, and the greatest state is 255
+abbrev pub letter_fault : ℕ → List ℕ → Option RleFault
+letter_fault prefix [] = Some NoEnd
+letter_fault prefix (b ∷ bs) = if is_letter b then (if nat_le (prefixed_state prefix b) 255 then None else Some BadState) else Some Syntax
+
+-- the fault of the tag or `!` at the front, if it has one: `!` takes no count
+abbrev pub tag_fault : Bool → List ℕ → Option RleFault
+tag_fault counted [] = Some NoEnd
+tag_fault counted (b ∷ bs) =
+    if b == 33 then (if counted then Some Syntax else None)
+    else (if is_some (tag_of (b ∷ [])) then None
+    else (if is_prefix b then letter_fault b bs else Some Syntax))
+
+-- the fault of digits and what stands behind them: a count of 0 is judged before its tag
+abbrev pub count_fault : List ℕ → List ℕ → Option RleFault
+count_fault [] bytes = tag_fault false bytes
+count_fault (d ∷ ds) bytes = if value (d ∷ ds) == 0 then Some Syntax else tag_fault true (behind_white InLine bytes)
+
+-- the fault of the item or end at the front, if it has one
+abbrev pub item_fault : List ℕ → Option RleFault
+item_fault bytes = count_fault (front is_digit (behind_white InLine bytes)) (rest is_digit (behind_white InLine bytes))
+
+-- behind a good header and good items stands a bad item, or the bytes end
+pub record HasBadItem (bytes : List ℕ) (fault : RleFault) : Type 0 where
+  pub said : List Said
+  pub rule : Option (List ℕ)
+  pub body : List ℕ
+  pub items : List Item
+  pub bad : List ℕ
+  pub headed : IsHeaded bytes said rule body
+  pub good : Run body items bad
+  pub fault_is : item_fault bad ≡ Some fault
+
+-- the first fault in the spelling of a text
+abbrev pub IsFirstFault : List ℕ → RleFault → Type 0
+IsFirstFault bytes Header = HasNoHeader bytes
+IsFirstFault bytes XlifeRule = HasXlifeRule bytes
+IsFirstFault bytes GenTooLarge = HasBadWord bytes GenTooLarge
+IsFirstFault bytes Syntax = HasBadWord bytes Syntax ⊎ HasBadItem bytes Syntax
+IsFirstFault bytes NoEnd = HasBadItem bytes NoEnd
+IsFirstFault bytes BadState = HasBadItem bytes BadState
+IsFirstFault bytes Range = ⊥
+IsFirstFault bytes TooManyCells = ⊥
+IsFirstFault bytes Memory = ⊥

@@ -1,0 +1,73 @@
+-- A whole extended RLE text: lines before the header, the header, and the items (Golly Help, File Formats: Extended RLE format).
+use Rattle.std.specs.Prelude.{◌≡◌, ℕ, ℤ, pos, List, [], ◌∷◌, ◌++◌, not, IsTrue, Option, Some, None, unwrap_or, is_some, true, codes, ◌⊎◌}
+use Rattle.std.specs.List.{flat_map, AllZip, AllByRecursion}
+use Rattle.ca_plane.specs.declared.point.Point.{Point}
+use Rattle.ca_plane.specs.Bytes.{is_line_end, is_end_or, Every}
+use Rattle.ca_rle.specs.declared.item.Item.{Item}
+use Rattle.ca_rle.specs.Items.{Items}
+use Rattle.ca_rle.specs.Header.{IsHeader, is_comment, extended_words, Said, Corner, Generation, Nothing, Says, IsXlifeLine}
+
+-- what an RLE text holds: the corner, the generation, the rule text and the items
+pub record File : Type 0 where
+  pub corner : Point
+  pub generation : ℕ
+  pub rule_text : List ℕ
+  pub items : List Item
+
+-- a line without an LF in it
+abbrev pub IsLine : List ℕ → Type 0
+IsLine line = Every (λ b. not (is_line_end b)) line
+
+-- a line with the LF that ends it
+abbrev pub ended : List ℕ → List ℕ
+ended line = line ++ 10 ∷ []
+
+-- lines that may stand before the header, and what the words of their `#CXRLE` lines say
+pub record IsPreamble (lines : List (List ℕ)) (said : List Said) : Type 0 where
+  pub each_is_line : AllByRecursion IsLine lines
+  pub comments : AllByRecursion (λ l. IsTrue (is_comment l)) lines
+  pub words : AllZip Says (flat_map extended_words lines) said
+
+-- the corner is that of the last `Pos`, and (0, 0) without one
+abbrev pub last_corner : Point → List Said → Point
+last_corner at [] = at
+last_corner at (Corner x y ∷ more) = last_corner (record { y = y; x = x }) more
+last_corner at (Generation count ∷ more) = last_corner at more
+last_corner at (Nothing ∷ more) = last_corner at more
+
+abbrev pub corner_of : List Said → Point
+corner_of said = last_corner (record { y = pos 0; x = pos 0 }) said
+
+-- the generation is that of the last `Gen`, and 0 without one
+abbrev pub last_generation : ℕ → List Said → ℕ
+last_generation count [] = count
+last_generation count (Corner x y ∷ more) = last_generation count more
+last_generation count (Generation later ∷ more) = last_generation later more
+last_generation count (Nothing ∷ more) = last_generation count more
+
+abbrev pub generation_of : List Said → ℕ
+generation_of said = last_generation 0 said
+
+-- lines that may stand before a header, a header behind them, and what stands behind the header's line
+pub record IsHeaded (bytes : List ℕ) (said : List Said) (rule : Option (List ℕ)) (body : List ℕ) : Type 0 where
+  pub lines : List (List ℕ)
+  pub header : List ℕ
+  pub preamble : IsPreamble lines said
+  pub header_is_line : IsLine header
+  pub header_is : IsHeader header rule
+  -- a rule is given, or no line gives XLife's
+  pub named : (is_some rule ≡ true) ⊎ AllByRecursion (λ l. IsXlifeLine l → ⊥) lines
+  -- the body is empty, or begins with the LF that ends the header's line
+  pub header_ends : IsTrue (is_end_or is_line_end body)
+  pub spelled : bytes ≡ flat_map ended lines ++ (header ++ body)
+
+-- the bytes are an RLE text that holds this; without a rule text its rule is `B3/S23`
+pub record IsFile (bytes : List ℕ) (file : File) : Type 0 where
+  pub said : List Said
+  pub rule : Option (List ℕ)
+  pub body : List ℕ
+  pub headed : IsHeaded bytes said rule body
+  pub items : Items body file.items
+  pub corner : file.corner ≡ corner_of said
+  pub generation : file.generation ≡ generation_of said
+  pub rule_text : file.rule_text ≡ unwrap_or rule (codes "B3/S23")

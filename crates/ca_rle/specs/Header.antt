@@ -1,0 +1,67 @@
+-- The header line of an RLE text, and the lines before it (Golly Help, File Formats: Extended RLE format).
+use Rattle.std.specs.Prelude.{◌≡◌, ℕ, ◌<◌, ◌^◌, ℤ, List, [], ◌∷◌, ◌++◌, Bool, false, not, ◌==◌, IsTrue, Option, Some, None, codes, ◌⊎◌, if◌then◌else◌}
+use Rattle.std.specs.Str.{bytes_eq}
+use Rattle.std.specs.List.{list_any, starts_with}
+use Rattle.std.specs.Bool.{nat_eq}
+use Rattle.ca_plane.specs.Bytes.{is_blank, is_line_end, Every, AreDigits, IsInteger, IsWord, value, rest, is_end_or, words_of, without_cr}
+
+-- a part of a header: these very bytes, or a number
+pub data Part : Type 0 where
+  Exactly : (text : List ℕ) → Part
+  Number : Part
+
+abbrev pub IsPart : Part → List ℕ → Type 0
+IsPart (Exactly text) bytes = bytes ≡ text
+IsPart Number bytes = AreDigits bytes
+
+-- the parts one after another, with blanks before each and behind the last
+abbrev pub IsSpaced : List Part → List ℕ → Type 0
+IsSpaced [] bytes = Every is_blank bytes
+IsSpaced (p ∷ ps) bytes = (blanks : List ℕ) × (part : List ℕ) × (more : List ℕ) ×
+    Every is_blank blanks × IsPart p part × IsSpaced ps more × (bytes ≡ blanks ++ (part ++ more))
+
+-- `,` `rule` `=`
+abbrev pub rule_parts : List Part
+rule_parts = Exactly (codes ",") ∷ Exactly (codes "rule") ∷ Exactly (codes "=") ∷ []
+
+-- `x` `=` number `,` `y` `=` number, and then these
+abbrev pub size_parts : List Part → List Part
+size_parts more =
+    Exactly (codes "x") ∷ Exactly (codes "=") ∷ Number ∷ Exactly (codes ",")
+    ∷ Exactly (codes "y") ∷ Exactly (codes "=") ∷ Number ∷ more
+
+-- a header: its size, and a rule text or none. The rule text is a word; what follows a blank behind it is ignored.
+-- `rule =` with nothing but blanks behind it gives none.
+abbrev pub IsHeader : List ℕ → Option (List ℕ) → Type 0
+IsHeader line None = IsSpaced (size_parts []) line ⊎ IsSpaced (size_parts rule_parts) line
+IsHeader line (Some text) = (front : List ℕ) × (ignored : List ℕ) ×
+    IsSpaced (size_parts rule_parts) front × IsWord text × IsTrue (is_end_or is_blank ignored) × (line ≡ front ++ (text ++ ignored))
+
+-- a line that may stand before the header: it is blank, or its first byte that is no blank is `#`
+abbrev pub is_comment : List ℕ → Bool
+is_comment line = is_end_or (λ b. b == 35) (rest is_blank line)
+
+-- the words behind `#CXRLE`, where that is the first word of the line
+abbrev pub words_behind_cxrle : List (List ℕ) → List (List ℕ)
+words_behind_cxrle [] = []
+words_behind_cxrle (w ∷ ws) = if bytes_eq w (codes "#CXRLE") then ws else []
+
+abbrev pub extended_words : List ℕ → List (List ℕ)
+extended_words line = words_behind_cxrle (words_of line)
+
+-- what a word of a `#CXRLE` line says
+pub data Said : Type 0 where
+  Corner : (x y : ℤ) → Said
+  Generation : (count : ℕ) → Said
+  Nothing : Said
+
+-- `Pos=X,Y` is the corner, `Gen=G` the generation, below 2^63; other words say nothing
+abbrev pub Says : List ℕ → Said → Type 0
+Says word (Corner x y) = (a : List ℕ) × (b : List ℕ) × (word ≡ codes "Pos=" ++ (a ++ 44 ∷ b)) × IsInteger a x × IsInteger b y
+Says word (Generation count) = (digits : List ℕ) × (word ≡ codes "Gen=" ++ digits) × AreDigits digits × (count ≡ value digits) × (count < 2 ^ 63)
+Says word Nothing = (starts_with nat_eq word (codes "Pos=") ≡ false) × (starts_with nat_eq word (codes "Gen=") ≡ false)
+
+-- `#r` and a blank begin XLife's rule line; a CR that only ends the line is no blank
+abbrev pub IsXlifeLine : List ℕ → Type 0
+IsXlifeLine line = (blanks : List ℕ) × (blank : ℕ) × (more : List ℕ) ×
+    Every is_blank blanks × IsTrue (is_blank blank) × (without_cr line ≡ blanks ++ (codes "#r" ++ blank ∷ more))

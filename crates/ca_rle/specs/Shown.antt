@@ -1,0 +1,46 @@
+-- The picture of a list of items, by sums over the items before each (Golly Help, File Formats: Extended RLE format).
+use Rattle.std.specs.Prelude.{ℕ, ℤ, pos, ◌+ℤ◌, List, [], ◌∷◌, ◌++◌, map, Bool, true, false, ◌==◌, if◌then◌else◌}
+use Rattle.std.specs.List.{sum_by, after_last, range_with_len}
+use Rattle.ca_plane.specs.declared.point.Point.{Point}
+use Rattle.ca_plane.specs.Plane.{Picture}
+use Rattle.ca_rle.specs.declared.item.Item.{Item}
+use Rattle.ca_rle.specs.declared.item.Tag.{Tag}
+use Rattle.ca_rle.specs.declared.item.Tag.TheVariants.{Cell, RowEnd}
+
+abbrev pub ends_row : Tag → Bool
+ends_row (Cell state) = false
+ends_row RowEnd = true
+
+-- the state of a tag's cells; a row end has none
+abbrev pub state_of : Tag → ℕ
+state_of (Cell state) = state
+state_of RowEnd = 0
+
+-- how many rows down the items lead: the sum of the counts of all row ends
+abbrev pub rows_of : List Item → ℕ
+rows_of items = sum_by (λ i. if ends_row i.tag then i.count else 0) items
+
+-- how far right the items lead: the sum of the counts of the cell items behind the last row end
+abbrev pub columns_of : List Item → ℕ
+columns_of items = sum_by (λ i. i.count) (after_last (λ i. ends_row i.tag) items)
+
+-- so many cells of a state, from a point to the right
+abbrev pub run_of : ℕ → Point → ℕ → Picture
+run_of state at count = map (λ k. (record { y = at.y; x = at.x +ℤ pos k }, state)) (range_with_len 0 count)
+
+-- where the item behind these begins
+abbrev pub place_behind : Point → List Item → Point
+place_behind corner before = record { y = corner.y +ℤ pos (rows_of before); x = corner.x +ℤ pos (columns_of before) }
+
+-- the cells of one item, behind the items before it; dead cells and row ends have none
+abbrev pub cells_of : Point → List Item → Item → Picture
+cells_of corner before item = if state_of item.tag == 0 then [] else run_of (state_of item.tag) (place_behind corner before) item.count
+
+-- the cells of items that stand behind others
+abbrev pub picture_behind : Point → List Item → List Item → Picture
+picture_behind corner before [] = []
+picture_behind corner before (i ∷ is) = cells_of corner before i ++ picture_behind corner (before ++ i ∷ []) is
+
+-- the picture of a list of items, whose first cell is at the corner
+abbrev pub picture_of : Point → List Item → Picture
+picture_of corner items = picture_behind corner [] items

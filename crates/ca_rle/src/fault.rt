@@ -1,0 +1,35 @@
+//! What is wrong with an RLE text.
+
+use thiserror::Error;
+
+/// What is wrong with an RLE text: the first fault of its spelling, else a limit that it passes.
+#[derive(Clone, Copy, Debug, PartialEq, Eq, Error)]
+pub enum RleFault {
+    /// A word of a `#CXRLE` line or an item is misspelled.
+    #[error("syntax")]
+    Syntax,
+    /// No line is a header, or the line where it should stand is none.
+    #[error("no header")]
+    Header,
+    /// The header names no rule, and an `#r` line gives XLife's.
+    #[error("a rule in XLife's way")]
+    XlifeRule,
+    /// The bytes end before `!`.
+    #[error("no end")]
+    NoEnd,
+    /// A cell's state is above 255.
+    #[error("a state above 255")]
+    BadState,
+    /// A count, the corner or a live cell is out of range.
+    #[error("out of range")]
+    Range,
+    /// There are more than 16777216 live cells.
+    #[error("too many cells")]
+    TooManyCells,
+    /// The generation is above 2^63 - 1.
+    #[error("the generation is too large")]
+    GenTooLarge,
+    /// A growth was refused.
+    #[error("out of memory")]
+    Memory,
+}
