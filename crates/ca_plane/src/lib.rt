@@ -1,6 +1,10 @@
 //! Points of the unbounded plane, the trait of rules, the sparse plane, and devices that count their failures.
 #![tactic(auto)]
 
+mod automaton;
+mod memory;
 mod point;
 
+pub use automaton::Automaton;
+pub use memory::{Memory, WriteFault};
 pub use point::{Bounds, Nine, Point};
