@@ -2,6 +2,7 @@
 #![tactic(auto)]
 
 mod automaton;
+pub mod bytes;
 mod memory;
 mod point;
 
