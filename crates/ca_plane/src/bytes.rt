@@ -1,6 +1,6 @@
 //! Blanks, digits, words and lines: what every reader of bytes begins with. Nothing here takes memory.
 
-ghost use Rattle.std.specs.Prelude.{◌≡◌, ℕ, ◌-◌, ◌^◌, ◌++◌, List, not, min, MatchOption};
+ghost use Rattle.std.specs.Prelude.{◌≡◌, ◌≢◌, ℕ, ◌-◌, ◌^◌, ◌++◌, List, not, min, MatchOption};
 ghost use Rattle.std.specs.List.{prefix_len};
 ghost use Rattle.ca_plane.specs.Bytes.{is_blank, is_line_end, is_digit, is_word_byte, Every, front, rest, value};
 
@@ -36,7 +36,10 @@ pub fn split_blanks(bytes: &[u8]) -> (&[u8], &[u8])
 fn digit_length(bytes: &[u8]) -> usize
     ensures { result ≡ prefix_len is_digit bytes.now }
 {
-    bytes.iter().take_while(|byte| byte.is_ascii_digit()).count()
+    bytes
+        .iter()
+        .take_while(|byte| byte.is_ascii_digit())
+        .count()
 }
 
 /// The digits that the bytes begin with, and the bytes from there on.
@@ -78,3 +81,23 @@ pub fn split_line(bytes: &[u8]) -> (&[u8], &[u8])
     bytes.split_at(line_length(bytes))
 }
 
+/// The bytes behind the text, where they begin with it.
+pub fn strip<'a>(bytes: &'a [u8], text: &[u8]) -> Option<&'a [u8]>
+    ensures { MatchOption result ((r : List ℕ) → bytes.now ≢ text.now ++ r) (λ r. bytes.now ≡ text.now ++ r.now) }
+{
+    bytes.strip_prefix(text)
+}
+
+/// The number that the digits write, or the greatest `u64` where it is greater. There may be any count of digits.
+pub fn number(digits: &[u8]) -> u64
+    requires { Every is_digit digits.now }
+    ensures { result ≡ min (value digits.now) (2 ^ 64 - 1) }
+{
+    let mut number: u64 = 0;
+    'digits: for digit in digits {
+        number = number
+            .saturating_mul(10)
+            .saturating_add(u64::from(*digit - b'0'));
+    }
+    number
+}
