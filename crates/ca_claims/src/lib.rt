@@ -1,13 +1,10 @@
-// A library with one function.
+//! Claims about the patterns of files: the text that makes them, and the verdict on each.
 #![tactic(auto)]
 
-ghost use Rattle.std.specs.Prelude.{◌≡◌};
-ghost use Rattle.ca_claims.specs.Echo.{echo_of};
+mod fault;
+mod file;
+mod verdict;
 
-// The `ensures` clause is the contract: what `echo` returns is `echo_of` of its argument, a definition
-// in `specs/Echo.antt`, which a caller's clause can cite too.
-pub fn echo(x: usize) -> usize
-    ensures { result ≡ echo_of x }
-{
-    x
-}
+pub use fault::ClaimFault;
+pub use file::File;
+pub use verdict::{Answer, Cause, Verdict, Why};

@@ -1,0 +1,37 @@
+-- The first faulty line of a claim text (our own; docs/CLAIMS.md). A text has one at most, and none where it is a claim text.
+use Rattle.std.specs.Prelude.{◌≡◌, ℕ, ◌+◌, List, [], ◌∷◌, ◌++◌, length, false, Option, None, IsSome}
+use Rattle.ca_plane.specs.Bytes.{lines_of, words_of}
+use Rattle.ca_claims.specs.declared.fault.ClaimFault.{ClaimFault}
+use Rattle.ca_claims.specs.declared.fault.ClaimFault.TheVariants.{Syntax, UnknownName, NameTaken, Memory}
+use Rattle.ca_claims.specs.Text.{Claim, pattern_of, Line, Load, Claims, is_skipped, WordsSay, path_of, LinesSay, spoken}
+
+-- behind good lines stands a line, the n-th of the text, of whose words this holds after what the earlier lines say
+pub record HasLine (bytes : List ℕ) (n : ℕ) (P : List Line → List (List ℕ) → Type 0) : Type 0 where
+  pub before : List (List ℕ)
+  pub line : List ℕ
+  pub later : List (List ℕ)
+  pub said : List (Option Line)
+  pub good : LinesSay [] before said
+  pub among : lines_of bytes ≡ before ++ line ∷ later
+  pub number : n ≡ length before + 1
+  pub holds : P (spoken said) (words_of line)
+
+-- the words say nothing that a line may say: another keyword, or another count of words
+abbrev pub AreMisspelled : List Line → List (List ℕ) → Type 0
+AreMisspelled earlier words = (is_skipped words ≡ false) × ((line : Line) → WordsSay words line → ⊥)
+
+-- a claim about a name that no earlier line loads
+abbrev pub AskUnknown : List Line → List (List ℕ) → Type 0
+AskUnknown earlier words = (is_skipped words ≡ false) × (claim : Claim) × WordsSay words (Claims claim) × (path_of earlier (pattern_of claim) ≡ None)
+
+-- a name that an earlier line loads is loaded again
+abbrev pub LoadTaken : List Line → List (List ℕ) → Type 0
+LoadTaken earlier words =
+    (is_skipped words ≡ false) × (name : List ℕ) × (path : List ℕ) × WordsSay words (Load name path) × IsSome (path_of earlier name)
+
+-- the text's first fault, with the number of its line
+abbrev pub IsFirstFault : List ℕ → ClaimFault → Type 0
+IsFirstFault bytes (Syntax n) = HasLine bytes n AreMisspelled
+IsFirstFault bytes (UnknownName n) = HasLine bytes n AskUnknown
+IsFirstFault bytes (NameTaken n) = HasLine bytes n LoadTaken
+IsFirstFault bytes Memory = Unit {0}

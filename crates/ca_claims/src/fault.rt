@@ -1,0 +1,20 @@
+//! What is wrong with a claim text.
+
+use thiserror::Error;
+
+/// What is wrong with the first faulty line of a claim text. Lines are counted from 1, blank lines and comments too.
+#[derive(Clone, Copy, Debug, PartialEq, Eq, Error)]
+pub enum ClaimFault {
+    /// An unknown keyword, or another count of words than the keyword wants.
+    #[error("line {line}: syntax")]
+    Syntax { line: u64 },
+    /// A claim about a name that no earlier line loads.
+    #[error("line {line}: unknown name")]
+    UnknownName { line: u64 },
+    /// A name that an earlier line loads is loaded again.
+    #[error("line {line}: name taken")]
+    NameTaken { line: u64 },
+    /// A growth was refused.
+    #[error("out of memory")]
+    Memory,
+}
