@@ -1,13 +1,6 @@
-// A library with one function.
+//! Runs over devices, and the texts that they print.
 #![tactic(auto)]
 
-ghost use Rattle.std.specs.Prelude.{◌≡◌};
-ghost use Rattle.ca_tool.specs.Echo.{echo_of};
+mod fault;
 
-// The `ensures` clause is the contract: what `echo` returns is `echo_of` of its argument, a definition
-// in `specs/Echo.antt`, which a caller's clause can cite too.
-pub fn echo(x: usize) -> usize
-    ensures { result ≡ echo_of x }
-{
-    x
-}
+pub use fault::{Fault, InputFault, ToolFault};

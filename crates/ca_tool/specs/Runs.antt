@@ -1,0 +1,31 @@
+-- What a run reads and writes.
+use Rattle.std.specs.Prelude.{◌≡◌, ℕ, ◌<◌, ◌≤◌, ◌^◌, List, ◌++◌, length, Option, Result, Ok, Err}
+use Rattle.std.specs.Io.KnownBytes.{Appends, Keeps, Consumes, IsAtEnd}
+use Rattle.ca_plane.specs.Device.{Rises, AppendsPrefix}
+use Rattle.ca_claims.specs.Text.{Claim}
+use Rattle.ca_claims.specs.Answers.{AreTrueAnswers}
+use Rattle.ca_claims.specs.declared.verdict.Answer.{Answer}
+use Rattle.ca_tool.specs.declared.fault.InputFault.{InputFault}
+use Rattle.ca_tool.specs.declared.fault.InputFault.TheVariants as inputs
+use Rattle.ca_tool.specs.declared.fault.ToolFault.{ToolFault}
+use Rattle.ca_tool.specs.declared.fault.ToolFault.TheVariants as tools
+use Rattle.ca_tool.specs.Printed.{lines_of, status_of}
+
+-- the greatest length of a file: 67108864 bytes
+abbrev pub max_file : ℕ
+max_file = 2 ^ 26
+
+-- a file was read: just what the reader gave, up to its end, and no more than a file may have
+pub record ReadsAll (old new : Option (List ℕ)) (bytes : List ℕ) : Type 0 where
+  pub given : Consumes old new bytes
+  pub end : IsAtEnd new
+  pub short : length bytes ≤ max_file
+
+-- more bytes came than a file may have
+abbrev pub GivesTooMany : Option (List ℕ) → Option (List ℕ) → Type 0
+GivesTooMany old new = (bytes : List ℕ) × (max_file < length bytes) × Consumes old new bytes
+
+-- claims were answered, truly, and the lines of the answers were written, or a first part of them, or none
+abbrev pub Answered : List (List ℕ × List ℕ) → List (ℕ × Claim) → (List ℕ → Type 0) → (ℕ → Type 0) → Type 0
+Answered files claims Written Ends =
+    (answers : List Answer) × AreTrueAnswers files claims answers × Written (lines_of answers) × Ends (status_of answers)
