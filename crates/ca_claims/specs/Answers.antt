@@ -20,7 +20,7 @@ use Rattle.ca_claims.specs.Truth.{IsTrueClaim, IsReason}
 abbrev pub IsReadable : List ℕ → Type 0
 IsReadable bytes = (rule_text : List ℕ) × (items : List Item) × (rule : BsRule) × IsFirstForm bytes rule_text items × Names rule_text rule
 
--- the cause of a refusal: the pattern's file isn't there, or it isn't read yet; want of memory may come at any time
+-- the cause of a refusal: the pattern's file isn't there, or it or its rule text isn't read yet; want of memory may come at any time
 abbrev pub HasCause : List (List ℕ × List ℕ) → Claim → Cause → Type 0
 HasCause files claim NoFile = bytes_at files (pattern_of claim) ≡ None
 HasCause files claim NotYet = (bytes : List ℕ) × (bytes_at files (pattern_of claim) ≡ Some bytes) × (IsReadable bytes → ⊥)

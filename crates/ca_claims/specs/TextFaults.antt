@@ -1,4 +1,4 @@
--- The first faulty line of a claim text (our own; docs/CLAIMS.md). A text has one at most, and none where it is a claim text.
+-- The first faulty line of a claim text (our own; docs/CLAIMS.md).
 use Rattle.std.specs.Prelude.{◌≡◌, ℕ, ◌+◌, List, [], ◌∷◌, ◌++◌, length, false, Option, None, IsSome}
 use Rattle.ca_plane.specs.Bytes.{lines_of, words_of}
 use Rattle.ca_claims.specs.declared.fault.ClaimFault.{ClaimFault}
@@ -29,7 +29,7 @@ abbrev pub LoadTaken : List Line → List (List ℕ) → Type 0
 LoadTaken earlier words =
     (is_skipped words ≡ false) × (name : List ℕ) × (path : List ℕ) × WordsSay words (Load name path) × IsSome (path_of earlier name)
 
--- the text's first fault, with the number of its line
+-- the text's first fault, with the number of its line; want of memory may come at any time
 abbrev pub IsFirstFault : List ℕ → ClaimFault → Type 0
 IsFirstFault bytes (Syntax n) = HasLine bytes n AreMisspelled
 IsFirstFault bytes (UnknownName n) = HasLine bytes n AskUnknown

@@ -16,7 +16,8 @@ claimed_cell cells (Still pattern) x y = cell cells x y
 
 -- a still life: some cell is live, and one generation on every cell is what it was
 abbrev pub IsTrueClaim : (List ℕ → ℕ) → Picture → Claim → Type 0
-IsTrueClaim next cells (Still pattern) = IsLive cells × ((x y : ℤ) → after next cells 1 x y ≡ cell cells x y)
+IsTrueClaim next cells (Still pattern) =
+    IsLive cells × ((x y : ℤ) → after next cells (generations_of (Still pattern)) x y ≡ claimed_cell cells (Still pattern) x y)
 
 -- the claim is false for this reason: it wants a live pattern and none is, or a cell after the claimed generations isn't the claimed one
 abbrev pub IsReason : (List ℕ → ℕ) → Picture → Claim → Why → Type 0

@@ -18,11 +18,12 @@ is_digit b = nat_le 48 b && nat_le b 57
 abbrev pub Every : (ℕ → Bool) → List ℕ → Type 0
 Every test bytes = IsTrue (list_all test bytes)
 
--- the bytes up to the first that fails the test, and the bytes from there on
+-- the bytes up to the first that fails the test
 abbrev pub front : (ℕ → Bool) → List ℕ → List ℕ
 front test [] = []
 front test (b ∷ bs) = if test b then b ∷ front test bs else []
 
+-- the bytes from the first on that fails the test
 abbrev pub rest : (ℕ → Bool) → List ℕ → List ℕ
 rest test [] = []
 rest test (b ∷ bs) = if test b then rest test bs else b ∷ bs

@@ -1,5 +1,5 @@
--- The first fault of an RLE text (the formats' own order: each word of a `#CXRLE` line, each other line before the header,
--- the header, each item). A text has one such fault at most, and none where it is spelled as a file.
+-- What is wrong with an RLE text. The units of its spelling are each word of a `#CXRLE` line, each other line before the
+-- header, the header, and each item (our own order); the first bad one is the text's first fault.
 use Rattle.std.specs.Prelude.{◌≡◌, ℕ, ◌≤◌, ◌<◌, ◌^◌, ℤ, List, [], ◌∷◌, ◌++◌, Bool, true, false, not, ◌||◌, ◌==◌, nat_le, IsTrue, Option, Some, None, is_some, codes, ◌⊎◌, if◌then◌else◌}
 use Rattle.std.specs.Bool.{nat_eq}
 use Rattle.std.specs.List.{flat_map, AllZip, starts_with}
@@ -9,7 +9,8 @@ use Rattle.ca_rle.specs.declared.fault.RleFault.TheVariants.{Syntax, Header, Xli
 use Rattle.ca_rle.specs.declared.item.Item.{Item}
 use Rattle.ca_rle.specs.Items.{is_letter, is_prefix, prefixed_state, tag_of, Place, AtStart, InLine, InComment, Run}
 use Rattle.ca_rle.specs.Header.{IsHeader, is_comment, extended_words, Said, Corner, Says, IsXlifeLine}
-use Rattle.ca_rle.specs.File.{IsLine, ended, IsPreamble, IsHeaded}
+use Rattle.ca_rle.specs.File.{File, IsLine, ended, IsPreamble, IsHeaded, IsFile}
+use Rattle.ca_rle.specs.Limits.{IsOutOfRange, HasTooManyCells}
 
 -- a word of a `#CXRLE` line that begins as `Pos=` or `Gen=` and isn't of that form, or whose generation is too large
 abbrev pub IsBadWord : List ℕ → RleFault → Type 0
@@ -121,7 +122,7 @@ pub record HasBadItem (bytes : List ℕ) (fault : RleFault) : Type 0 where
   pub good : Run body items bad
   pub fault_is : item_fault bad ≡ Some fault
 
--- the first fault in the spelling of a text
+-- the first fault in the spelling of a text; the limits are no part of the spelling
 abbrev pub IsFirstFault : List ℕ → RleFault → Type 0
 IsFirstFault bytes Header = HasNoHeader bytes
 IsFirstFault bytes XlifeRule = HasXlifeRule bytes
@@ -132,3 +133,15 @@ IsFirstFault bytes BadState = HasBadItem bytes BadState
 IsFirstFault bytes Range = ⊥
 IsFirstFault bytes TooManyCells = ⊥
 IsFirstFault bytes Memory = ⊥
+
+-- the fault of a text: the first in its spelling, else the first limit that it passes; want of memory may come at any time
+abbrev pub IsFaultOf : List ℕ → RleFault → Type 0
+IsFaultOf bytes Syntax = IsFirstFault bytes Syntax
+IsFaultOf bytes Header = IsFirstFault bytes Header
+IsFaultOf bytes XlifeRule = IsFirstFault bytes XlifeRule
+IsFaultOf bytes NoEnd = IsFirstFault bytes NoEnd
+IsFaultOf bytes BadState = IsFirstFault bytes BadState
+IsFaultOf bytes GenTooLarge = IsFirstFault bytes GenTooLarge
+IsFaultOf bytes Range = (file : File) × IsFile bytes file × IsOutOfRange file
+IsFaultOf bytes TooManyCells = (file : File) × IsFile bytes file × HasTooManyCells file
+IsFaultOf bytes Memory = Unit {0}

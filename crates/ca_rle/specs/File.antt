@@ -35,6 +35,7 @@ last_corner at (Corner x y ∷ more) = last_corner (record { y = y; x = x }) mor
 last_corner at (Generation count ∷ more) = last_corner at more
 last_corner at (Nothing ∷ more) = last_corner at more
 
+-- the corner that the words say
 abbrev pub corner_of : List Said → Point
 corner_of said = last_corner (record { y = pos 0; x = pos 0 }) said
 
@@ -45,6 +46,7 @@ last_generation count (Corner x y ∷ more) = last_generation count more
 last_generation count (Generation later ∷ more) = last_generation later more
 last_generation count (Nothing ∷ more) = last_generation count more
 
+-- the generation that the words say
 abbrev pub generation_of : List Said → ℕ
 generation_of said = last_generation 0 said
 

@@ -10,6 +10,7 @@ pub data Part : Type 0 where
   Exactly : (text : List ℕ) → Part
   Number : Part
 
+-- the bytes of a part
 abbrev pub IsPart : Part → List ℕ → Type 0
 IsPart (Exactly text) bytes = bytes ≡ text
 IsPart Number bytes = AreDigits bytes
@@ -46,6 +47,7 @@ abbrev pub words_behind_cxrle : List (List ℕ) → List (List ℕ)
 words_behind_cxrle [] = []
 words_behind_cxrle (w ∷ ws) = if bytes_eq w (codes "#CXRLE") then ws else []
 
+-- the words that a line has behind its `#CXRLE`, and none in any other line
 abbrev pub extended_words : List ℕ → List (List ℕ)
 extended_words line = words_behind_cxrle (words_of line)
 

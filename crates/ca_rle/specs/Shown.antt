@@ -7,6 +7,7 @@ use Rattle.ca_rle.specs.declared.item.Item.{Item}
 use Rattle.ca_rle.specs.declared.item.Tag.{Tag}
 use Rattle.ca_rle.specs.declared.item.Tag.TheVariants.{Cell, RowEnd}
 
+-- whether a tag ends a row
 abbrev pub ends_row : Tag → Bool
 ends_row (Cell state) = false
 ends_row RowEnd = true
