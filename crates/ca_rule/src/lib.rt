@@ -11,3 +11,6 @@ pub use bs_rule::BsRule;
 pub use counts::Counts;
 pub use fault::RuleFault;
 pub use laws::{one_rule, rule_or_fault, worked_examples};
+
+#[cfg(test)]
+mod tests;
