@@ -98,3 +98,6 @@ pub fn send<W: Write>(device: &mut Dev<W>, bytes: &[u8]) -> Result<(), WriteFaul
     }
     Ok(())
 }
+
+#[cfg(test)]
+mod tests;
