@@ -1,2 +1,5 @@
+pub mod Sends
+pub mod Lengths
 pub mod Fronts
+pub mod Lines
 pub mod Numbers

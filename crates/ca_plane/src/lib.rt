@@ -3,9 +3,11 @@
 
 mod automaton;
 pub mod bytes;
+mod device;
 mod memory;
 mod point;
 
 pub use automaton::Automaton;
+pub use device::{Dev, Failed, send};
 pub use memory::{Memory, WriteFault};
 pub use point::{Bounds, Nine, Point};
