@@ -1,0 +1,82 @@
+//! The sparse plane: the cells that aren't 0, by their points.
+ghost use Rattle.std.specs.Prelude.{◌≡◌, ◌+◌, ◌≤◌, ◌↔◌, [], length, IsTrue, IsFalse, IsOk, OnOk, OnErr};
+ghost use Rattle.ca_plane.specs.Plane.{cell, IsLive};
+ghost use Rattle.ca_plane.specs.Change.{Sets};
+ghost use Rattle.ca_plane.specs.Sparse.{IsInPlane, IsSparse};
+
+use crate::memory::Memory;
+use crate::point::Point;
+use std::alloc::Global;
+use std::collections::BTreeMap;
+use std::marker::Model;
+
+/// A plane that keeps its cells of the states 1 to 255, by their points. Every other cell is 0.
+#[derive(Drop)]
+pub struct Plane {
+    cells: BTreeMap<Point, u8>,
+}
+
+impl Model for Plane {
+    ghost use Rattle.ca_plane.specs.Plane.{Picture};
+    ghost use Rattle.ca_plane.specs.Sparse.{IsSparse};
+
+    ghost Value = { Picture };
+
+    ghost view = { λ p. p.cells.entries };
+
+    ghost invariant = { λ p. IsSparse p.cells.entries };
+}
+
+impl Plane {
+    /// The plane whose cells are all 0.
+    pub fn new(alloc: Global) -> Plane
+        ensures { result ≡ [] }
+    {
+        Plane {
+            cells: BTreeMap::new(alloc),
+        }
+    }
+
+    /// The state of the cell at the point.
+    pub fn get(&self, at: Point) -> u8
+        ensures { result ≡ cell self.now at.x at.y }
+    {
+        self.cells.get(&at).copied().unwrap_or(0)
+    }
+
+    /// Writes one cell.
+    ///
+    /// # Errors
+    ///
+    /// Fails where there is no memory for one more cell, and then leaves the plane as it was. A write of 0 never fails.
+    pub fn set(&mut self, at: Point, state: u8) -> Result<(), Memory>
+        requires { IsInPlane at }
+        ensures ok { OnOk result (Sets self.old self.new at state) }
+        ensures zero { state ≡ 0 → IsOk result }
+        ensures err { OnErr result (self.new ≡ self.old) }
+        ensures room { length self.new ≤ length self.old + 1 }
+        ensures sparse { IsSparse self.new }
+    {
+        if state == 0 {
+            self.cells.remove(&at);
+            return Ok(());
+        }
+        self.cells.insert(at, state)?;
+        Ok(())
+    }
+
+    /// How many cells aren't 0.
+    pub fn len(&self) -> usize
+        ensures { result ≡ length self.now }
+    {
+        self.cells.len()
+    }
+
+    /// Whether every cell is 0.
+    pub fn is_empty(&self) -> bool
+        ensures empty { IsTrue result ↔ (self.now ≡ []) }
+        ensures live { IsFalse result → IsLive self.now }
+    {
+        self.cells.is_empty()
+    }
+}
