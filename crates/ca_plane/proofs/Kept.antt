@@ -16,7 +16,7 @@ use Rattle.ca_plane.specs.Plane.{Picture}
 use Rattle.ca_plane.specs.Change.{Sets}
 use Rattle.ca_plane.specs.Sparse.{IsInPlane, point_cmp, IsSparse}
 use Rattle.std.proofs.lemmas.Cmp.{int_eq_equiv}
-use Rattle.ca_plane.proofs.Cells.{cell-lookup, unwrap_or-cond}
+use Rattle.ca_plane.proofs.Pictures.{cell-lookup, unwrap_or-cond}
 
 -- what holds of each image holds of each element, read so
 All-from_map : {X Y : Type 0} (P : X → Type 0) (f : Y → X) (ys : List Y) → All P (map f ys) → All (λ y. P (f y)) ys

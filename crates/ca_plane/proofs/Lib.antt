@@ -1,2 +1,2 @@
-pub mod Cells
+pub mod Pictures
 pub mod Kept

@@ -6,5 +6,5 @@ mod plane;
 mod point;
 
 pub use memory::Memory;
-pub use plane::Plane;
+pub use plane::{Cells, Plane};
 pub use point::{Bounds, Nine, Point};

@@ -1,5 +1,6 @@
 //! The sparse plane: the cells that aren't 0, by their points.
 ghost use Rattle.std.specs.Prelude.{◌≡◌, ◌+◌, ◌≤◌, ◌↔◌, [], length, IsTrue, IsFalse, IsOk, OnOk, OnErr};
+ghost use Rattle.std.specs.Iterator.{YieldsFirst, item_count};
 ghost use Rattle.ca_plane.specs.Plane.{cell, IsLive};
 ghost use Rattle.ca_plane.specs.Change.{Sets};
 ghost use Rattle.ca_plane.specs.Sparse.{IsInPlane, IsSparse};
@@ -7,7 +8,7 @@ ghost use Rattle.ca_plane.specs.Sparse.{IsInPlane, IsSparse};
 use crate::memory::Memory;
 use crate::point::Point;
 use std::alloc::Global;
-use std::collections::BTreeMap;
+use std::collections::{BTreeMap, btree_map};
 use std::marker::Model;
 
 /// A plane that keeps its cells of the states 1 to 255, by their points. Every other cell is 0.
@@ -78,5 +79,42 @@ impl Plane {
         ensures live { IsFalse result → IsLive self.now }
     {
         self.cells.is_empty()
+    }
+
+    /// The cells that aren't 0, row by row from the top, and in a row by rising x.
+    pub fn cells(&self) -> Cells<'_>
+        ensures all { result ≡ self.now }
+        ensures sparse { IsSparse self.now }
+    {
+        Cells {
+            entries: self.cells.iter(),
+        }
+    }
+}
+
+/// The cells of a plane that are still to come.
+#[derive(Drop)]
+pub struct Cells<'a> {
+    entries: btree_map::Iter<'a, Point, u8>,
+}
+
+impl<'a> Model for Cells<'a> {
+    ghost use Rattle.ca_plane.specs.Plane.{Picture};
+
+    ghost Value = { Picture };
+
+    ghost view = { λ c. c.entries };
+}
+
+impl<'a> Iterator for Cells<'a> {
+    type Item = (Point, u8);
+
+    ghost next_gives = { YieldsFirst (λ c. c) };
+
+    ghost remaining = { item_count (λ c. c) };
+
+    fn next(&mut self) -> Option<(Point, u8)> {
+        let (point, state) = self.entries.next()?;
+        Some((*point, *state))
     }
 }

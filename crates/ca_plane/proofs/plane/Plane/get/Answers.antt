@@ -1,7 +1,7 @@
 use Rattle.std.proofs.Common.{◌≡◌, ap, sym, subst, ◌∙◌}
 use Rattle.std.specs.Option.{unwrap_or}
 use Rattle.ca_plane.specs.Plane.{Picture, cell}
-use Rattle.ca_plane.proofs.Cells.{cell-lookup}
+use Rattle.ca_plane.proofs.Pictures.{cell-lookup}
 use Rattle.ca_plane.proofs.plane.Plane.get.Goals as goal
 
 -- the look-up finds the cell

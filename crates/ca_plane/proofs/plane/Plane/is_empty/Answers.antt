@@ -1,6 +1,6 @@
 use Rattle.std.proofs.Common.{ap, subst, length}
 use Rattle.ca_plane.specs.Plane.{Picture, IsLive}
-use Rattle.ca_plane.proofs.Cells.{live_from_nonempty}
+use Rattle.ca_plane.proofs.Pictures.{live_from_nonempty}
 use Rattle.ca_plane.proofs.plane.Plane.is_empty.Goals as goal
 
 pub returns-clause-live : goal.returns-clause-live
