@@ -1,8 +1,9 @@
 //! The sparse plane: the cells that aren't 0, by their points.
-ghost use Rattle.std.specs.Prelude.{◌≡◌, ◌+◌, ◌≤◌, ◌↔◌, [], length, IsTrue, IsFalse, IsOk, OnOk, OnErr};
+ghost use Rattle.std.specs.Prelude.{◌≡◌, ◌+◌, ◌≤◌, ◌↔◌, [], length, IsTrue, IsFalse, IsOk, OnOk, OnErr, IsNone, IfSome};
+ghost use Rattle.std.specs.List.{All};
 ghost use Rattle.std.specs.Iterator.{YieldsFirst, item_count};
-ghost use Rattle.ca_plane.specs.Plane.{cell, IsLive};
-ghost use Rattle.ca_plane.specs.Change.{Sets};
+ghost use Rattle.ca_plane.specs.Plane.{cell, IsSame, IsLive};
+ghost use Rattle.ca_plane.specs.Change.{Sets, DifferAt};
 ghost use Rattle.ca_plane.specs.Sparse.{IsInPlane, IsSparse};
 
 use crate::memory::Memory;
@@ -89,6 +90,37 @@ impl Plane {
         Cells {
             entries: self.cells.iter(),
         }
+    }
+
+    /// Whether every cell is the same in both planes.
+    pub fn same(&self, other: &Plane) -> bool
+        ensures { IsTrue result ↔ IsSame self.now other.now }
+    {
+        self.difference(other).is_none()
+    }
+
+    /// A point whose cell differs in the two planes, if there is one.
+    pub fn difference(&self, other: &Plane) -> Option<Point>
+        ensures none { IsNone result ↔ IsSame self.now other.now }
+        ensures some { IfSome result (DifferAt self.now other.now) }
+    {
+        if let Some(point) = self.first_unlike(other) {
+            return Some(point);
+        }
+        other.first_unlike(self)
+    }
+
+    // The first of the cells here that the other plane shows in another state.
+    fn first_unlike(&self, other: &Plane) -> Option<Point>
+        ensures none { IsNone result → All (λ e. cell other.now e.0.x e.0.y ≡ e.1) self.now }
+        ensures some { IfSome result (DifferAt self.now other.now) }
+    {
+        'cells: for (point, state) in self.cells() {
+            if other.get(point) != state {
+                return Some(point);
+            }
+        }
+        None
     }
 }
 
