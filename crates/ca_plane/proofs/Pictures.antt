@@ -4,8 +4,8 @@ use Rattle.std.specs.Prelude.{ℤ, if◌then◌else◌}
 use Rattle.std.specs.List.{All, AllByRecursion, Contains}
 use Rattle.std.specs.List.Sorted.{IsStrictlySortedBy}
 use Rattle.std.specs.Iterator.{Yields, YieldsFirst}
-use Rattle.std.proofs.lemmas.Map.Iter.{rest_so_far}
-use Rattle.std.proofs.lemmas.List.{map-id}
+use Rattle.std.proofs.lemmas.Map.Iter.{rest_so_far, rest_more, rest_all}
+use Rattle.std.proofs.lemmas.List.{append-nil, map-id}
 use Rattle.std.specs.Ordering.{int_eq, int_cmp}
 use Rattle.std.specs.Cmp.{IsTotalOrder, tied_then}
 use Rattle.std.specs.Map.{lookup}
@@ -155,6 +155,15 @@ IsListed-turn p xs s t u r e sparse start yields some step = All-turn (λ e. e) 
 -- the cells so far, and those that are left
 pub cells_so_far : (p xs s t : Picture) → s ≡ p → Yields (YieldsFirst (λ c. c)) s xs t → p ≡ xs ++ t
 cells_so_far p xs s t start yields = sym start ∙ rest_so_far (λ e. e) xs s t yields ∙ ap (λ ys. ys ++ t) (map-id xs)
+
+-- the cells before the item of a turn, the item, and those after it
+pub cells_turn : (p xs s t u : Picture) (r : Option (Point × ℕ)) (e : Point × ℕ) → s ≡ p → Yields (YieldsFirst (λ c. c)) s xs t → r ≡ Some e → YieldsFirst (λ c. c) t r u → p ≡ xs ++ e ∷ u
+cells_turn p xs s t u r e start yields some step = cells_so_far p xs s t start yields ∙ ap (λ ys. xs ++ ys) (rest_more (λ e. e) t u r e some step)
+
+-- at the end all have come
+pub cells_end : (p xs s t u : Picture) (r : Option (Point × ℕ)) → s ≡ p → Yields (YieldsFirst (λ c. c)) s xs t → r ≡ None → YieldsFirst (λ c. c) t r u → p ≡ xs
+cells_end p xs s t u r start yields none step =
+    cells_so_far p xs s t start yields ∙ ap (λ ys. xs ++ ys) (rest_all (λ e. e) t u r none step) ∙ append-nil xs
 
 -- ---- writes, one after another
 
