@@ -1,2 +1,3 @@
 pub mod Pictures
 pub mod Kept
+pub mod Same
