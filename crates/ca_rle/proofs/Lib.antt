@@ -1,3 +1,6 @@
+pub mod Passing
 pub mod White
-pub mod Reading
+pub mod ItemAt
 pub mod OneList
+pub mod Headers
+pub mod FirstFormFile

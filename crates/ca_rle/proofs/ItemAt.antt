@@ -1,30 +1,15 @@
 -- The item at the front of bytes as a function, and that it is each item that stands there.
 use Rattle.std.proofs.Common.{◌≡◌, ℕ, ◌<◌, ◌⊎◌, inl, inr, Bool, true, false, cond, not, IsTrue, List, [], ◌∷◌, ◌++◌, Option, Some, None, refl, sym, ap, ◌∙◌, append_assoc, arith}
 use Rattle.std.specs.List.{list_all}
-use Rattle.std.proofs.lemmas.Bool.{and_parts, not-true}
+use Rattle.std.proofs.lemmas.Bool.{and_parts}
 use Rattle.std.proofs.lemmas.Bool.Decides.{nat_tests}
-use Rattle.ca_plane.specs.Bytes.{Every, is_digit, is_end_or, front, rest, value, AreDigits}
+use Rattle.ca_plane.specs.Bytes.{is_digit, is_end_or, front, rest, value, AreDigits}
 use Rattle.ca_rle.specs.declared.item.Item.{Item}
 use Rattle.ca_rle.specs.declared.item.Tag.{Tag}
 use Rattle.ca_rle.specs.Items.{InLine, IsWhite, is_prefix, tag_of, IsCount, IsItem, IsEnd}
 use Rattle.ca_rle.specs.Faults.{behind_white}
+use Rattle.ca_rle.proofs.Passing.{front_is, rest_is}
 use Rattle.ca_rle.proofs.White.{Stops, Stops_above, behind_white_is, IsWhite-append, no_digit_behind}
-
--- ---- the front that passes a test
-
-pub front_is : (test : ℕ → Bool) (passed after : List ℕ) → Every test passed → IsTrue (is_end_or (λ b. not (test b)) after) → front test (passed ++ after) ≡ passed
-front_is test [] [] h e = refl
-front_is test [] (b ∷ bs) h e = rw (not-true (test b) e)
-front_is test (p ∷ ps) after h e =
-    let both = and_parts (test p) (list_all test ps) h in
-    rw both.0 (ap (λ (l : List ℕ). p ∷ l) (front_is test ps after both.1 e))
-
-pub rest_is : (test : ℕ → Bool) (passed after : List ℕ) → Every test passed → IsTrue (is_end_or (λ b. not (test b)) after) → rest test (passed ++ after) ≡ after
-rest_is test [] [] h e = refl
-rest_is test [] (b ∷ bs) h e = rw (not-true (test b) e)
-rest_is test (p ∷ ps) after h e =
-    let both = and_parts (test p) (list_all test ps) h in
-    rw both.0 (rest_is test ps after both.1 e)
 
 -- ---- tags
 
