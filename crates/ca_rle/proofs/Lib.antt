@@ -4,3 +4,4 @@ pub mod ItemAt
 pub mod OneList
 pub mod Headers
 pub mod FirstFormFile
+pub mod OneFirstForm

@@ -1,8 +1,8 @@
 -- Bytes that pass a test, joined and in front of others.
-use Rattle.std.proofs.Common.{◌≡◌, ℕ, Bool, true, not, IsTrue, List, [], ◌∷◌, ◌++◌, refl, ap}
+use Rattle.std.proofs.Common.{◌≡◌, ℕ, Bool, true, not, IsTrue, List, [], ◌∷◌, ◌++◌, refl, sym, ap, ◌∙◌}
 use Rattle.std.specs.List.{list_all}
 use Rattle.std.proofs.lemmas.Bool.{and_parts, and_from, not-true}
-use Rattle.ca_plane.specs.Bytes.{Every, front, rest, is_end_or}
+use Rattle.ca_plane.specs.Bytes.{Every, front, rest, is_end_or, is_digit, is_word_byte, AreDigits, IsWord}
 
 pub Every-append : (test : ℕ → Bool) (a b : List ℕ) → Every test a → Every test b → Every test (a ++ b)
 Every-append test [] b p q = q
@@ -30,3 +30,15 @@ rest_is test [] (b ∷ bs) h e = rw (not-true (test b) e)
 rest_is test (p ∷ ps) after h e =
     let both = and_parts (test p) (list_all test ps) h in
     rw both.0 (rest_is test ps after both.1 e)
+
+-- bytes that pass, and others that begin with none, are split in one way
+pub one_split : (test : ℕ → Bool) (a b m n : List ℕ) → Every test a → Every test b → IsTrue (is_end_or (λ c. not (test c)) m) → IsTrue (is_end_or (λ c. not (test c)) n) → a ++ m ≡ b ++ n → (a ≡ b) × (m ≡ n)
+one_split test a b m n p q f g e = (sym (front_is test a m p f) ∙ ap (front test) e ∙ front_is test b n q g, sym (rest_is test a m p f) ∙ ap (rest test) e ∙ rest_is test b n q g)
+
+pub Every-digits : (digits : List ℕ) → AreDigits digits → Every is_digit digits
+Every-digits [] h = refl
+Every-digits (d ∷ ds) h = h
+
+pub Every-word : (word : List ℕ) → IsWord word → Every is_word_byte word
+Every-word [] h = refl
+Every-word (b ∷ bs) h = h

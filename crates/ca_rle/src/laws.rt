@@ -17,3 +17,9 @@ pub fn first_form_is_file()
     ensures { (bytes rule_text : List ℕ) (items : List Item) → IsFirstForm bytes rule_text items → IsFile bytes (first_form_file rule_text items) }
 {
 }
+
+/// Bytes have one reading in the first form at most.
+pub fn one_first_form()
+    ensures { (bytes : List ℕ) (r s : List ℕ) (is js : List Item) → IsFirstForm bytes r is → IsFirstForm bytes s js → (r ≡ s) × (is ≡ js) }
+{
+}
