@@ -1,8 +1,9 @@
 //! Worked examples: what the definitions say of small texts.
 
-ghost use Rattle.std.specs.Prelude.{◌≡◌, ℕ, List, [], ◌∷◌, ◌++◌, pos, codes};
+ghost use Rattle.std.specs.Prelude.{◌≡◌, ℕ, List, [], ◌∷◌, ◌++◌, pos, negsuc, codes};
 ghost use Rattle.ca_rle.specs.declared.item.Tag.TheVariants.{Cell, RowEnd};
 ghost use Rattle.ca_rle.specs.Items.{Items};
+ghost use Rattle.ca_rle.specs.File.{IsFile};
 ghost use Rattle.ca_rle.specs.Shown.{picture_of};
 
 /// What items mean, and white space among them.
@@ -18,6 +19,35 @@ pub fn worked_items()
         × (picture_of (record { y = pos 0; x = pos 0 }) is
             ≡ (record { y = pos 0; x = pos 1 }, 1) ∷ (record { y = pos 1; x = pos 2 }, 1)
             ∷ (record { y = pos 2; x = pos 0 }, 1) ∷ (record { y = pos 2; x = pos 1 }, 1) ∷ (record { y = pos 2; x = pos 2 }, 1) ∷ [])
+    }
+{
+}
+
+/// What whole texts hold.
+pub fn worked_files()
+    ensures glider {
+        let is = record { count = 1; tag = Cell 0 } ∷ record { count = 2; tag = Cell 1 } ∷ record { count = 1; tag = RowEnd }
+            ∷ record { count = 2; tag = Cell 1 } ∷ record { count = 1; tag = RowEnd }
+            ∷ record { count = 1; tag = Cell 0 } ∷ record { count = 1; tag = Cell 1 } ∷ [] in
+        IsFile
+            (codes "#CXRLE Pos=-1,-1 Gen=7" ++ (13 ∷ 10 ∷ codes "x = 3, y = 3, rule = B3/S23" ++ (13 ∷ 10 ∷ codes "b2o$2o$bo!" ++ (13 ∷ 10 ∷ []))))
+            (record { corner = record { y = negsuc 0; x = negsuc 0 }; generation = 7; rule_text = codes "B3/S23"; items = is })
+        × (picture_of (record { y = negsuc 0; x = negsuc 0 }) is
+            ≡ (record { y = negsuc 0; x = pos 0 }, 1) ∷ (record { y = negsuc 0; x = pos 1 }, 1)
+            ∷ (record { y = pos 0; x = negsuc 0 }, 1) ∷ (record { y = pos 0; x = pos 0 }, 1)
+            ∷ (record { y = pos 1; x = pos 0 }, 1) ∷ [])
+    }
+    ensures empty {
+        IsFile (codes "x = 0, y = 0" ++ (10 ∷ codes "!"))
+            (record { corner = record { y = pos 0; x = pos 0 }; generation = 0; rule_text = codes "B3/S23"; items = [] })
+    }
+    ensures corner {
+        let is = record { count = 3; tag = Cell 1 } ∷ record { count = 2; tag = RowEnd } ∷ record { count = 1; tag = Cell 7 } ∷ [] in
+        IsFile (codes "#CXRLE Pos=-3,4" ++ (10 ∷ codes "x = 3, y = 3, rule = Star" ++ (10 ∷ codes "3o2$G!")))
+            (record { corner = record { y = pos 4; x = negsuc 2 }; generation = 0; rule_text = codes "Star"; items = is })
+        × (picture_of (record { y = pos 4; x = negsuc 2 }) is
+            ≡ (record { y = pos 4; x = negsuc 2 }, 1) ∷ (record { y = pos 4; x = negsuc 1 }, 1) ∷ (record { y = pos 4; x = negsuc 0 }, 1)
+            ∷ (record { y = pos 6; x = negsuc 2 }, 7) ∷ [])
     }
 {
 }
