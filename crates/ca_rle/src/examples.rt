@@ -2,6 +2,8 @@
 
 ghost use Rattle.std.specs.Prelude.{◌≡◌, ℕ, List, [], ◌∷◌, ◌++◌, pos, negsuc, codes};
 ghost use Rattle.ca_rle.specs.declared.item.Tag.TheVariants.{Cell, RowEnd};
+ghost use Rattle.ca_rle.specs.declared.fault.RleFault.TheVariants.{Syntax, Header, XlifeRule, NoEnd, BadState, GenTooLarge};
+ghost use Rattle.ca_rle.specs.Faults.{IsFirstFault};
 ghost use Rattle.ca_rle.specs.Items.{Items};
 ghost use Rattle.ca_rle.specs.File.{IsFile};
 ghost use Rattle.ca_rle.specs.Shown.{picture_of};
@@ -49,5 +51,18 @@ pub fn worked_files()
             ≡ (record { y = pos 4; x = negsuc 2 }, 1) ∷ (record { y = pos 4; x = negsuc 1 }, 1) ∷ (record { y = pos 4; x = negsuc 0 }, 1)
             ∷ (record { y = pos 6; x = negsuc 2 }, 7) ∷ [])
     }
+{
+}
+
+/// The first fault of texts, one of each kind.
+pub fn worked_faults()
+    ensures count { IsFirstFault (codes "x = 1, y = 1" ++ (10 ∷ codes "0b!")) Syntax }
+    ensures word { IsFirstFault (codes "#CXRLE Pos=1" ++ (10 ∷ codes "x = 1, y = 1" ++ (10 ∷ codes "o!"))) Syntax }
+    ensures empty { IsFirstFault [] Header }
+    ensures comma { IsFirstFault (codes "x = 3, y = 3," ++ (10 ∷ codes "3o!")) Header }
+    ensures xlife { IsFirstFault (codes "#r 23/3" ++ (10 ∷ codes "x = 1, y = 1" ++ (10 ∷ codes "o!"))) XlifeRule }
+    ensures cut_off { IsFirstFault (codes "x = 3, y = 1" ++ (10 ∷ codes "3o")) NoEnd }
+    ensures state { IsFirstFault (codes "x = 1, y = 1, rule = Star" ++ (10 ∷ codes "yP!")) BadState }
+    ensures generation { IsFirstFault (codes "#CXRLE Gen=9223372036854775808" ++ (10 ∷ codes "x = 1, y = 1" ++ (10 ∷ codes "o!"))) GenTooLarge }
 {
 }
