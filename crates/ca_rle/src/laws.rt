@@ -2,13 +2,21 @@
 
 ghost use Rattle.std.specs.Prelude.{◌≡◌, ℕ, List};
 ghost use Rattle.ca_rle.specs.declared.item.Item.{Item};
-ghost use Rattle.ca_rle.specs.Items.{Items};
+ghost use Rattle.ca_rle.specs.declared.fault.RleFault.{RleFault};
+ghost use Rattle.ca_rle.specs.Items.{Items, Run};
+ghost use Rattle.ca_rle.specs.Faults.{item_fault};
 ghost use Rattle.ca_rle.specs.File.{IsFile};
 ghost use Rattle.ca_rle.specs.FirstForm.{IsFirstForm, first_form_file};
 
 /// Bytes spell one list of items at most.
 pub fn one_list_of_items()
     ensures { (bytes : List ℕ) (is js : List Item) → Items bytes is → Items bytes js → is ≡ js }
+{
+}
+
+/// Behind items of a spelled list stands no bad item.
+pub fn no_fault_in_items()
+    ensures { (bytes bad : List ℕ) (is js : List Item) (f : RleFault) → Items bytes is → Run bytes js bad → item_fault bad ≡ Some f → ⊥ }
 {
 }
 
