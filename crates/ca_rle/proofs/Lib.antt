@@ -4,6 +4,7 @@ pub mod ItemAt
 pub mod OneList
 pub mod NoFault
 pub mod Found
+pub mod Spans
 pub mod Headers
 pub mod FirstFormFile
 pub mod OneFirstForm
