@@ -32,17 +32,17 @@ behind_follows AtStart (b ∷ bs) c more e =
     elim (chosen (is_line_end b || is_blank b) _ _ _ e) [
       | inl w ↦ byte_more AtStart AtStart b bs (c ∷ more) (λ l. rw w.0) (behind_follows AtStart bs c more w.1)
       | inr n ↦ elim (chosen (b == 35) _ _ _ n.1) [
-          | inl w ↦ byte_more AtStart InComment b bs (c ∷ more) (λ l. rw (n.0, w.0)) (behind_follows InComment bs c more w.1)
-          | inr here ↦ ([], refl, here.1)
-        ]
+        | inl w ↦ byte_more AtStart InComment b bs (c ∷ more) (λ l. rw (n.0, w.0)) (behind_follows InComment bs c more w.1)
+        | inr here ↦ ([], refl, here.1)
+      ]
     ]
 behind_follows InLine (b ∷ bs) c more e =
     elim (chosen (is_line_end b) _ _ _ e) [
       | inl w ↦ byte_more InLine AtStart b bs (c ∷ more) (λ l. rw w.0) (behind_follows AtStart bs c more w.1)
       | inr n ↦ elim (chosen (is_blank b) _ _ _ n.1) [
-          | inl w ↦ byte_more InLine InLine b bs (c ∷ more) (λ l. rw (n.0, w.0)) (behind_follows InLine bs c more w.1)
-          | inr here ↦ ([], refl, here.1)
-        ]
+        | inl w ↦ byte_more InLine InLine b bs (c ∷ more) (λ l. rw (n.0, w.0)) (behind_follows InLine bs c more w.1)
+        | inr here ↦ ([], refl, here.1)
+      ]
     ]
 behind_follows InComment (b ∷ bs) c more e =
     elim (chosen (is_line_end b) _ _ _ e) [
@@ -93,10 +93,11 @@ found_behind bytes (c ∷ cs) i more e h pos =
     let digits = front is_digit (c ∷ cs) in
     let letters = tag_found _ i.tag more read.0 in
     let inner = behind_follows InLine (rest is_digit (c ∷ cs)) letters.0 (letters.1 ++ more) letters.3 in
-    let whole : bytes ≡ outer.0 ++ (digits ++ (inner.0 ++ (letters.0 ∷ letters.1 ++ more))) = outer.2 ∙ ap (λ (l : List ℕ). outer.0 ++ l) (front_rest is_digit (c ∷ cs) ∙ ap (λ (l : List ℕ). digits ++ l) inner.2) in
-    (outer.0 ++ (digits ++ (inner.0 ++ letters.0 ∷ letters.1)),
-        (outer.0, digits, inner.0, letters.0 ∷ letters.1, outer.1, count_found digits i.count (Every-front is_digit (c ∷ cs)) read.1 pos, inner.1, letters.2, refl),
-        whole ∙ regroup outer.0 digits inner.0 (letters.0 ∷ letters.1) more)
+    let whole : bytes ≡ outer.0 ++ (digits ++ (inner.0 ++ (letters.0 ∷ letters.1 ++ more))) = outer.2 ∙ ap (λ (l : List ℕ). outer.0 ++ l) (front_rest is_digit (c ∷ cs) ∙ ap (λ (l : List ℕ). digits ++ l) inner.2) in (
+      outer.0 ++ (digits ++ (inner.0 ++ letters.0 ∷ letters.1)),
+      (outer.0, digits, inner.0, letters.0 ∷ letters.1, outer.1, count_found digits i.count (Every-front is_digit (c ∷ cs)) read.1 pos, inner.1, letters.2, refl),
+      whole ∙ regroup outer.0 digits inner.0 (letters.0 ∷ letters.1) more,
+    )
 
 -- the item that is read at the front stands there, if its count isn't 0
 pub item_found : (bytes : List ℕ) (i : Item) (more : List ℕ) → item_at bytes ≡ Some (i, more) → 0 < i.count → StandsBefore i bytes more

@@ -8,3 +8,4 @@ pub mod Spans
 pub mod Headers
 pub mod FirstFormFile
 pub mod OneFirstForm
+pub mod FirstFormLimits

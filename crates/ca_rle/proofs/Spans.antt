@@ -1,12 +1,10 @@
 -- How far items reach: no cell of a picture is further from its corner than the sum of all counts, and there are no more cells.
-use Rattle.std.proofs.Common.{◌≡◌, ℕ, zero, suc, ◌+◌, ◌-◌, ◌<◌, ◌≤◌, ◌^◌, Bool, true, false, cond, not, ◌==◌, List, [], ◌∷◌, ◌++◌, length, map, drop, sum_by, ℤ, pos, ◌+ℤ◌, refl, sym, ap, ◌∙◌, length-append, arith}
-use Rattle.std.specs.List.{AllByRecursion, range_with_len, after_last, suffix_len}
+use Rattle.std.proofs.Common.{◌≡◌, ℕ, zero, suc, ◌+◌, ◌-◌, ◌<◌, ◌≤◌, ◌^◌, Bool, true, false, cond, not, ◌==◌, List, [], ◌∷◌, ◌++◌, length, map, sum_by, pos, ◌+ℤ◌, refl, ap, length-append, arith}
+use Rattle.std.specs.List.{AllByRecursion, range_with_len, suffix_len}
 use Rattle.std.proofs.lemmas.List.Sums.{sum_by-cons, sum_by_push, sum_by-take-drop, sum_by-le-sum_by}
 use Rattle.std.proofs.lemmas.Int.{ints}
 use Rattle.ca_plane.specs.declared.point.Point.{Point}
-use Rattle.ca_plane.specs.Plane.{Picture}
 use Rattle.ca_rle.specs.declared.item.Item.{Item}
-use Rattle.ca_rle.specs.declared.item.Tag.{Tag}
 use Rattle.ca_rle.specs.Shown.{ends_row, state_of, rows_of, columns_of, run_of, place_behind, cells_of, picture_behind}
 use Rattle.ca_rle.specs.Limits.{IsInRange}
 
