@@ -115,7 +115,7 @@ parts_left_is (Number ∷ ps) text more c (blanks, part, later, b, p, s, e) =
 
 -- ---- headers
 
-clear_word : (text ignored : List ℕ) → IsWord text → IsTrue (is_end_or (λ b. not (is_blank b)) (text ++ ignored))
+pub clear_word : (text ignored : List ℕ) → IsWord text → IsTrue (is_end_or (λ b. not (is_blank b)) (text ++ ignored))
 clear_word [] ignored w = absurd cc
 clear_word (b ∷ bs) ignored w = (and_parts (not (is_blank b)) (not (is_line_end b)) (and_parts (is_word_byte b) (list_all is_word_byte bs) w).0).0
 

@@ -8,4 +8,6 @@ pub mod Spans
 pub mod Headers
 pub mod FirstFormFile
 pub mod OneFirstForm
+pub mod OneHeader
+pub mod OneFile
 pub mod FirstFormLimits

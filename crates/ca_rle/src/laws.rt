@@ -5,7 +5,7 @@ ghost use Rattle.ca_rle.specs.declared.item.Item.{Item};
 ghost use Rattle.ca_rle.specs.declared.fault.RleFault.{RleFault};
 ghost use Rattle.ca_rle.specs.Items.{Items, Run};
 ghost use Rattle.ca_rle.specs.Faults.{item_fault};
-ghost use Rattle.ca_rle.specs.File.{IsFile};
+ghost use Rattle.ca_rle.specs.File.{File, IsFile};
 ghost use Rattle.ca_rle.specs.Limits.{IsWithinLimits};
 ghost use Rattle.ca_rle.specs.FirstForm.{IsFirstForm, first_form_file};
 
@@ -17,6 +17,11 @@ pub fn one_list_of_items()
 /// Behind items of a spelled list stands no bad item.
 pub fn no_fault_in_items()
     ensures { (bytes bad : List ℕ) (is js : List Item) (f : RleFault) → Items bytes is → Run bytes js bad → item_fault bad ≡ Some f → ⊥ }
+{}
+
+/// A text is a file in one way at most.
+pub fn one_file()
+    ensures { (bytes : List ℕ) (f g : File) → IsFile bytes f → IsFile bytes g → f ≡ g }
 {}
 
 /// A text of the first form is an RLE file that holds what the first form says.
