@@ -1,6 +1,11 @@
 //! Points of the unbounded plane, the trait of rules, the sparse plane, and devices that count their failures.
 #![tactic(auto)]
 
+mod automaton;
+pub mod bytes;
+mod memory;
 mod point;
 
+pub use automaton::Automaton;
+pub use memory::{Memory, WriteFault};
 pub use point::{Bounds, Nine, Point};
