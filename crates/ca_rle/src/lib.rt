@@ -2,6 +2,7 @@
 #![tactic(auto)]
 
 mod fault;
+mod first_form;
 mod item;
 
 pub use fault::RleFault;

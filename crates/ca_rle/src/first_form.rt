@@ -1,0 +1,98 @@
+//! The first form: a part of extended RLE that is read until the reader of the whole format replaces it.
+
+ghost use Rattle.std.specs.Prelude.{◌≡◌, ℕ, [], ◌∷◌, ◌++◌, List, Some, None, MatchOption, IsTrue, IsFalse, IsNone};
+ghost use Rattle.ca_plane.specs.Bytes.{is_digit, front, rest, Every};
+ghost use Rattle.ca_rle.specs.declared.item.Item.{Item};
+ghost use Rattle.ca_rle.specs.declared.item.Tag.{Tag};
+ghost use Rattle.ca_rle.specs.FirstForm.{IsShortNumber, IsShortCount, IsShortTag, IsPacked};
+ghost use Rattle.ca_rle.specs.FirstFormParts.{HasShortHeader, IsShortBody};
+
+use crate::item::{Item, Tag};
+use ca_plane::bytes::{number, split_digits, split_word, strip};
+
+#[tactic(auto, using(crate::proofs::ShortNumbers::are_digits_front))]
+/// The bytes behind the number of one to three digits that they begin with.
+fn behind_number(bytes: &[u8]) -> Option<&[u8]>
+    ensures {
+        MatchOption result (IsShortNumber (front is_digit bytes.now) → ⊥)
+            (λ r. IsShortNumber (front is_digit bytes.now) × (r.now ≡ rest is_digit bytes.now))
+    }
+{
+    let (digits, behind) = split_digits(bytes);
+    if digits.is_empty() || digits.len() > 3 {
+        return None;
+    }
+    Some(behind)
+}
+
+/// The count that these digits write: 1 for none of them, else their number, without a leading zero.
+fn count(digits: &[u8]) -> Option<u64>
+    requires { Every is_digit digits.now }
+    ensures { MatchOption result ((n : ℕ) → IsShortCount digits.now n → ⊥) (λ n. IsShortCount digits.now n) }
+{
+    let Some(first) = digits.first() else {
+        return Some(1);
+    };
+    if *first == b'0' || digits.len() > 3 {
+        return None;
+    }
+    Some(number(digits))
+}
+
+/// What a letter repeats: `b` is a dead cell, `o` a live one, `$` ends a row.
+fn tag(letter: u8) -> Option<Tag>
+    ensures { MatchOption result ((t : Tag) → IsShortTag letter t → ⊥) (λ t. IsShortTag letter t) }
+{
+    match letter {
+        b'b' => Some(Tag::Cell(0)),
+        b'o' => Some(Tag::Cell(1)),
+        b'$' => Some(Tag::RowEnd),
+        _ => None,
+    }
+}
+
+/// The item that the bytes begin with, and the bytes behind it.
+fn item(bytes: &[u8]) -> Option<(Item, &[u8])>
+    ensures {
+        MatchOption result ((i : Item) → (more : List ℕ) → IsPacked bytes.now (i ∷ []) more → ⊥)
+            (λ r. IsPacked bytes.now (r.0 ∷ []) r.1.now)
+    }
+{
+    let (digits, behind) = split_digits(bytes);
+    let count = count(digits)?;
+    let (letter, rest) = behind.split_first()?;
+    let tag = tag(*letter)?;
+    Some((Item { count, tag }, rest))
+}
+
+/// Whether the bytes are items, `!`, and then one LF or nothing.
+fn is_body(bytes: &[u8]) -> bool
+    ensures yes { IsTrue result → (items : List Item) × IsShortBody bytes.now items }
+    ensures no { IsFalse result → (items : List Item) → IsShortBody bytes.now items → ⊥ }
+{
+    let mut rest = bytes;
+    'items: while let Some((_, more)) = item(rest) {
+        rest = more;
+    }
+    rest == b"!".as_slice() || rest == b"!\n".as_slice()
+}
+
+/// The rule text and the body behind the header that the bytes begin with.
+fn header(bytes: &[u8]) -> Option<(&[u8], &[u8])>
+    ensures {
+        MatchOption result ((rule_text body : List ℕ) → HasShortHeader bytes.now rule_text body → ⊥)
+            (λ r. HasShortHeader bytes.now r.0.now r.1.now)
+    }
+{
+    let width = strip(bytes, b"x = ")?;
+    let comma = behind_number(width)?;
+    let height = strip(comma, b", y = ")?;
+    let comma = behind_number(height)?;
+    let rule = strip(comma, b", rule = ")?;
+    let (rule_text, behind) = split_word(rule);
+    if rule_text.is_empty() {
+        return None;
+    }
+    let body = strip(behind, b"\n")?;
+    Some((rule_text, body))
+}
