@@ -2,3 +2,5 @@ pub mod Lengths
 pub mod Fronts
 pub mod Lines
 pub mod Numbers
+pub mod Pictures
+pub mod Kept
