@@ -1,2 +1,3 @@
 pub mod ShortNumbers
 pub mod ShortHeader
+pub mod Packed
