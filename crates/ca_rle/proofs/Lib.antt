@@ -1,3 +1,5 @@
 pub mod ShortNumbers
 pub mod ShortHeader
 pub mod Packed
+pub mod Bodies
+pub mod Runs

@@ -1,14 +1,18 @@
 //! The first form: a part of extended RLE that is read until the reader of the whole format replaces it.
 
-ghost use Rattle.std.specs.Prelude.{◌≡◌, ℕ, [], ◌∷◌, ◌++◌, List, Some, None, MatchOption, IsTrue, IsFalse, IsNone};
+ghost use Rattle.std.specs.Prelude.{◌≡◌, ◌≤◌, ◌^◌, ◌≤ℤ◌, ℕ, pos, [], ◌∷◌, ◌++◌, List, MatchOption, IsTrue, IsFalse, OnOk, IfOk};
+ghost use Rattle.ca_plane.specs.Plane.{IsSame};
+ghost use Rattle.ca_plane.specs.Sparse.{IsSparse};
 ghost use Rattle.ca_plane.specs.Bytes.{is_digit, front, rest, Every};
 ghost use Rattle.ca_rle.specs.declared.item.Item.{Item};
 ghost use Rattle.ca_rle.specs.declared.item.Tag.{Tag};
 ghost use Rattle.ca_rle.specs.FirstForm.{IsShortNumber, IsShortCount, IsShortTag, IsPacked};
-ghost use Rattle.ca_rle.specs.FirstFormParts.{HasShortHeader, IsShortBody};
+ghost use Rattle.ca_rle.specs.FirstFormParts.{HasShortHeader, IsShortBody, cells_at, place_after};
+ghost use Rattle.ca_rle.specs.Shown.{run_of};
 
 use crate::item::{Item, Tag};
 use ca_plane::bytes::{number, split_digits, split_word, strip};
+use ca_plane::{Memory, Plane, Point};
 
 #[tactic(auto, using(crate::proofs::ShortNumbers::are_digits_front))]
 /// The bytes behind the number of one to three digits that they begin with.
@@ -95,4 +99,51 @@ fn header(bytes: &[u8]) -> Option<(&[u8], &[u8])>
     }
     let body = strip(behind, b"\n")?;
     Some((rule_text, body))
+}
+
+/// Writes so many cells of a state, from a point to the right.
+fn set_run(plane: &mut Plane, at: Point, count: u64, state: u8) -> Result<(), Memory>
+    requires left { pos 0 ≤ℤ at.x }
+    requires right { at.x ≤ℤ pos (2 ^ 30) }
+    requires above { pos 0 ≤ℤ at.y }
+    requires below { at.y ≤ℤ pos (2 ^ 30) }
+    requires few { count ≤ 999 }
+    ensures cells { OnOk result (IsSame plane.new (run_of state at count ++ plane.old)) }
+    ensures sparse { OnOk result (IsSparse plane.old → IsSparse plane.new) }
+{
+    'cells: for step in 0..count {
+        let point = Point {
+            y: at.y,
+            x: at.x + step as i64,
+        };
+        plane.set(point, state)?;
+    }
+    Ok(())
+}
+
+/// Writes the cells of an item that begins at a place, and returns the place behind it.
+fn draw(plane: &mut Plane, at: Point, item: Item) -> Result<Point, Memory>
+    requires left { pos 0 ≤ℤ at.x }
+    requires right { at.x ≤ℤ pos (2 ^ 30) }
+    requires above { pos 0 ≤ℤ at.y }
+    requires below { at.y ≤ℤ pos (2 ^ 30) }
+    requires few { item.count ≤ 999 }
+    ensures place { IfOk result (λ p. p ≡ place_after at item) }
+    ensures cells { OnOk result (IsSame plane.new (cells_at at item ++ plane.old)) }
+    ensures sparse { OnOk result (IsSparse plane.old → IsSparse plane.new) }
+{
+    let count = item.count as i64;
+    let Tag::Cell(state) = item.tag else {
+        return Ok(Point {
+            y: at.y + count,
+            x: 0,
+        });
+    };
+    if state != 0 {
+        set_run(plane, at, item.count, state)?;
+    }
+    Ok(Point {
+        y: at.y,
+        x: at.x + count,
+    })
 }

@@ -4,6 +4,8 @@
 mod fault;
 mod first_form;
 mod item;
+mod pattern;
 
 pub use fault::RleFault;
 pub use item::{Item, Tag};
+pub use pattern::Pattern;
