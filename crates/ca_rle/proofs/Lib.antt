@@ -3,3 +3,4 @@ pub mod ShortHeader
 pub mod Packed
 pub mod Bodies
 pub mod Runs
+pub mod Places
