@@ -4,3 +4,4 @@ pub mod Packed
 pub mod Bodies
 pub mod Runs
 pub mod Places
+pub mod Drawn

@@ -69,3 +69,10 @@ picture_behind-push corner before (j ∷ js) i =
     ap (λ p. cells_of corner before j ++ p) (picture_behind-push corner (before ++ j ∷ []) js i)
     ∙ sym (append_assoc (cells_of corner before j) (picture_behind corner (before ++ j ∷ []) js) (cells_of corner ((before ++ j ∷ []) ++ js) i))
     ∙ ap (λ b. (cells_of corner before j ++ picture_behind corner (before ++ j ∷ []) js) ++ cells_of corner b i) (append_assoc before (j ∷ []) js)
+
+-- an item leads at most its count further down or to the right
+pub rows_of-push-le : (is : List Item) (i : Item) → rows_of (is ++ i ∷ []) ≤ rows_of is + i.count
+rows_of-push-le is i = rw rows_of-push (elim (cases_Bool (ends_row i.tag)) [ inl e ↦ rw e (omega arith) | inr e ↦ rw e (omega arith) ])
+
+pub columns_of-push-le : (is : List Item) (i : Item) → columns_of (is ++ i ∷ []) ≤ columns_of is + i.count
+columns_of-push-le is i = rw columns_of-push (elim (cases_Bool (ends_row i.tag)) [ inl e ↦ rw e (omega arith) | inr e ↦ rw e (omega arith) ])

@@ -1,7 +1,8 @@
 -- Short numbers and counts at the front of bytes.
 use Rattle.std.proofs.Common.{◌≡◌, ℕ, ◌+◌, ◌-◌, ◌*◌, ◌^◌, ◌<◌, ◌≤◌, min, true, false, ◌&&◌, eqb, leb, List, [], ◌∷◌, length, Some, slice_get, refl, ◌∙◌, arith}
+use Rattle.std.specs.List.{list_all}
 use Rattle.std.proofs.lemmas.Bool.{and_parts, leb-true}
-use Rattle.ca_plane.specs.Bytes.{Every, AreDigits, is_digit, front, value}
+use Rattle.ca_plane.specs.Bytes.{Every, AreDigits, is_digit, front, value_from, value}
 use Rattle.ca_plane.proofs.Fronts.{every_front}
 use Rattle.ca_rle.specs.FirstForm.{IsShortCount}
 
@@ -52,3 +53,16 @@ short_count (d ∷ ds) first n h e zero short kept =
 pub count-le : (digits : List ℕ) (n : ℕ) → IsShortCount digits n → n ≤ 999
 count-le [] n h = omega arith
 count-le (d ∷ ds) n h = let small = value_short (d ∷ ds) h.0.0 h.0.1 in omega (arith, h.2)
+
+-- more digits write no less
+value_from-ge : (n : ℕ) (ds : List ℕ) → n ≤ value_from n ds
+value_from-ge n [] = omega arith
+value_from-ge n (d ∷ ds) = omega (arith, value_from-ge (10 * n + (d - 48)) ds)
+
+-- a count is at least 1
+pub count-ge : (digits : List ℕ) (n : ℕ) → IsShortCount digits n → 1 ≤ n
+count-ge [] n h = omega arith
+count-ge (d ∷ ds) n h =
+    let digit = and_parts (is_digit d) (list_all is_digit ds) h.0.0 in
+    let low = leb-true 48 d (and_parts (leb 48 d) (leb d 57) digit.0).0 in
+    omega (arith, h.1, h.2, value_from-ge (10 * 0 + (d - 48)) ds)
