@@ -12,10 +12,11 @@ use Rattle.ca_rle.specs.declared.item.Item.{Item}
 use Rattle.ca_rle.specs.declared.item.Tag.{Tag}
 use Rattle.ca_rle.specs.declared.item.Tag.TheVariants.{Cell, RowEnd}
 use Rattle.ca_rle.specs.FirstForm.{IsShortTag, IsPacked}
-use Rattle.ca_rle.specs.FirstFormParts.{cells_at, place_after}
+use Rattle.ca_rle.specs.FirstFormParts.{IsShortBody, origin, cells_at, place_after}
 use Rattle.ca_rle.specs.Shown.{ends_row, state_of, rows_of, columns_of, run_of, place_behind, cells_of, picture_of}
-use Rattle.ca_rle.proofs.Packed.{starts_with, packed_more, item_shorter}
-use Rattle.ca_rle.proofs.Places.{origin, rows_of-push-le, columns_of-push-le, place_behind-push, picture_behind-push}
+use Rattle.ca_rle.proofs.Packed.{NoItem, starts_with, packed_more, item_shorter}
+use Rattle.ca_rle.proofs.Bodies.{body_same}
+use Rattle.ca_rle.proofs.Places.{rows_of-push-le, columns_of-push-le, place_behind-push, picture_behind-push}
 use Rattle.ca_rle.proofs.Runs.{run_behind, run_clear, run_states, cell-behind-zero}
 use Rattle.ca_rle.proofs.ShortNumbers.{count-le, count-ge}
 
@@ -115,3 +116,10 @@ drawn_more bytes rest more at next plane new items i d item place drawn =
         ap (λ p. cell p x y) whole
         ∙ cell-behind-zero old (cells_at at i) x y d.states (d.ahead x y (tag_ahead at i.count i.tag x y some here))
         ∙ tag_clear at i.count i.tag x y here }
+
+-- drawn to the end, the plane shows the picture of the body's items
+pub drawn_all : (bytes rest : List ℕ) (at : Point) (plane : Picture) (items js : List Item) → IsDrawn bytes rest at plane items → NoItem rest → IsShortBody bytes js
+    → IsSame plane (picture_of origin js) × IsPicture (picture_of origin js)
+drawn_all bytes rest at plane items js d none body =
+    let same = (body_same bytes rest items js d.packed none body).0 in
+    subst (λ is. IsSame plane (picture_of origin is) × IsPicture (picture_of origin is)) same (d.cells, d.states)

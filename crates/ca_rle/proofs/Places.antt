@@ -8,7 +8,7 @@ use Rattle.std.proofs.lemmas.List.Sums.{sum_by_push, prefix_len-le-length}
 use Rattle.ca_plane.specs.declared.point.Point.{Point}
 use Rattle.ca_rle.specs.declared.item.Item.{Item}
 use Rattle.ca_rle.specs.Shown.{ends_row, rows_of, columns_of, place_behind, cells_of, picture_behind}
-use Rattle.ca_rle.specs.FirstFormParts.{place_after}
+use Rattle.ca_rle.specs.FirstFormParts.{origin, place_after}
 
 -- one more element at the end begins anew, or stands behind what was there
 after_last-push : {X : Type 0} (p : X → Bool) (xs : List X) (y : X) → after_last p (xs ++ y ∷ []) ≡ (if p y then [] else after_last p xs ++ y ∷ [])
@@ -43,10 +43,6 @@ columns_of-push is i =
           let more : after_last (λ i. ends_row i.tag) (is ++ i ∷ []) ≡ after_last (λ i. ends_row i.tag) is ++ i ∷ [] = last ∙ rw e refl in
           ap (sum_by (λ i. i.count)) more ∙ sum_by_push (λ i. i.count) (after_last (λ i. ends_row i.tag) is) i ∙ rw e refl
     ]
-
--- where items begin
-abbrev pub origin : Point
-origin = record { y = pos 0; x = pos 0 }
 
 -- the place behind one more item
 pub place_behind-push : (is : List Item) (i : Item) → place_behind origin (is ++ i ∷ []) ≡ place_after (place_behind origin is) i

@@ -22,6 +22,10 @@ pub record IsShortBody (body : List ℕ) (items : List Item) : Type 0 where
   pub last_is : (last ≡ []) ⊎ (last ≡ 10 ∷ [])
   pub packed : IsPacked body items (33 ∷ last)
 
+-- where the first item begins
+abbrev pub origin : Point
+origin = record { y = pos 0; x = pos 0 }
+
 -- the cells of an item that begins at a place
 abbrev pub cells_at : Point → Item → Picture
 cells_at at item = if state_of item.tag == 0 then [] else run_of (state_of item.tag) at item.count

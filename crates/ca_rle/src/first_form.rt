@@ -1,18 +1,19 @@
 //! The first form: a part of extended RLE that is read until the reader of the whole format replaces it.
 
-ghost use Rattle.std.specs.Prelude.{◌≡◌, ◌≤◌, ◌^◌, ◌≤ℤ◌, ℕ, pos, [], ◌∷◌, ◌++◌, List, MatchOption, IsTrue, IsFalse, OnOk, IfOk};
-ghost use Rattle.ca_plane.specs.Plane.{IsSame};
+ghost use Rattle.std.specs.Prelude.{◌≡◌, ◌≤◌, ◌^◌, ◌≤ℤ◌, ℕ, pos, [], ◌∷◌, ◌++◌, List, length, MatchOption, IsTrue, IsFalse, OnOk, IfOk};
+ghost use Rattle.ca_plane.specs.Plane.{IsSame, IsPicture};
 ghost use Rattle.ca_plane.specs.Sparse.{IsSparse};
 ghost use Rattle.ca_plane.specs.Bytes.{is_digit, front, rest, Every};
 ghost use Rattle.ca_rle.specs.declared.item.Item.{Item};
 ghost use Rattle.ca_rle.specs.declared.item.Tag.{Tag};
 ghost use Rattle.ca_rle.specs.FirstForm.{IsShortNumber, IsShortCount, IsShortTag, IsPacked};
-ghost use Rattle.ca_rle.specs.FirstFormParts.{HasShortHeader, IsShortBody, cells_at, place_after};
-ghost use Rattle.ca_rle.specs.Shown.{run_of};
+ghost use Rattle.ca_rle.specs.FirstFormParts.{HasShortHeader, IsShortBody, origin, cells_at, place_after};
+ghost use Rattle.ca_rle.specs.Shown.{run_of, picture_of};
 
 use crate::item::{Item, Tag};
 use ca_plane::bytes::{number, split_digits, split_word, strip};
 use ca_plane::{Memory, Plane, Point};
+use std::alloc::Global;
 
 #[tactic(auto, using(crate::proofs::ShortNumbers::are_digits_front))]
 /// The bytes behind the number of one to three digits that they begin with.
@@ -146,4 +147,23 @@ fn draw(plane: &mut Plane, at: Point, item: Item) -> Result<Point, Memory>
         y: at.y,
         x: at.x + count,
     })
+}
+
+/// The plane that the items of a body show, the first cell of which is at (0, 0).
+fn expand(alloc: Global, body: &[u8]) -> Result<Plane, Memory>
+    requires { length body.now ≤ 4096 }
+    ensures shown {
+        IfOk result (λ p. (items : List Item) → IsShortBody body.now items →
+            IsSame p (picture_of origin items) × IsPicture (picture_of origin items))
+    }
+    ensures sparse { IfOk result (λ p. IsSparse p) }
+{
+    let mut plane = Plane::new(alloc);
+    let mut at = Point { y: 0, x: 0 };
+    let mut rest = body;
+    'items: while let Some((first, more)) = item(rest) {
+        at = draw(&mut plane, at, first)?;
+        rest = more;
+    }
+    Ok(plane)
 }
