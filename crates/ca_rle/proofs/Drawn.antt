@@ -43,7 +43,8 @@ drawn_none bytes plane empty = record {
   columns = omega arith;
   cells = λ x y. ap (λ p. cell p x y) empty;
   states = All-nil (λ e. (1 ≤ e.1) × (e.1 ≤ 255));
-  ahead = λ x y h. refl }
+  ahead = λ x y h. refl;
+}
 
 -- the same cells in front of pictures that are the same
 same_behind : (r p q : Picture) → IsSame p q → IsSame (r ++ p) (r ++ q)
@@ -112,10 +113,11 @@ drawn_more bytes rest more at next plane new items i d item place drawn =
       cells = λ x y. drawn x y ∙ same_behind (cells_at at i) plane old d.cells x y ∙ item_behind old at i d.states d.ahead x y ∙ ap (λ p. cell p x y) (sym whole);
       states = rw whole (All-append (λ e. (1 ≤ e.1) × (e.1 ≤ 255)) old (cells_at at i) d.states (item_states at i (tag_state-le s.letter i.tag s.tag)));
       ahead = λ x y h.
-        let here = subst (λ p. IsAhead p x y) place h in
-        ap (λ p. cell p x y) whole
-        ∙ cell-behind-zero old (cells_at at i) x y d.states (d.ahead x y (tag_ahead at i.count i.tag x y some here))
-        ∙ tag_clear at i.count i.tag x y here }
+          let here = subst (λ p. IsAhead p x y) place h in
+          ap (λ p. cell p x y) whole
+          ∙ cell-behind-zero old (cells_at at i) x y d.states (d.ahead x y (tag_ahead at i.count i.tag x y some here))
+          ∙ tag_clear at i.count i.tag x y here;
+    }
 
 -- drawn to the end, the plane shows the picture of the body's items
 pub drawn_all : (bytes rest : List ℕ) (at : Point) (plane : Picture) (items js : List Item) → IsDrawn bytes rest at plane items → NoItem rest → IsShortBody bytes js

@@ -5,3 +5,4 @@ pub mod Bodies
 pub mod Runs
 pub mod Places
 pub mod Drawn
+pub mod FirstForms

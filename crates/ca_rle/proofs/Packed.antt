@@ -40,7 +40,8 @@ starts_with bytes i is end (digits, letter, more, count, tag, packed, spelled) =
       count = rw (spelled, front_append is_digit digits (letter ∷ more) every ends) count;
       tag = tag;
       behind = rw (spelled, rest_append is_digit digits (letter ∷ more) every ends) refl;
-      next = packed }
+      next = packed;
+    }
 
 -- an item that is read so stands there
 pub item_from : (bytes : List ℕ) (i : Item) (letter : ℕ) (more : List ℕ)

@@ -39,7 +39,7 @@ run_more state at point n old p q same sets row column x y =
     ∙ ap (λ s. if int_eq y point.y && int_eq x point.x then state else s) (same x y)
     ∙ rw (row, column) (run_order state at (range_with_len 0 n) n old x y)
     ∙ ap (λ (r : Picture). cell r x y)
-      (sym (append_assoc (run_of state at n) (run_cell state at n ∷ []) old) ∙ ap (λ (r : Picture). r ++ old) (sym (map-range_with_len_more (run_cell state at) 0 n n (zero-add n))))
+    (sym (append_assoc (run_of state at n) (run_cell state at n ∷ []) old) ∙ ap (λ (r : Picture). r ++ old) (sym (map-range_with_len_more (run_cell state at) 0 n n (zero-add n))))
 
 -- a place that the later of two pictures shows as 0 is as in the earlier
 cell-before-zero : (r p : Picture) (x y : ℤ) → cell p x y ≡ 0 → cell (r ++ p) x y ≡ cell r x y

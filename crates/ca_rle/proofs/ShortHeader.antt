@@ -50,7 +50,8 @@ numbered Next digits more h e next =
     let every = digits_every digits h.0 in
     record {
       number = rw (front_append is_digit digits more every e) h;
-      next = rw (rest_append is_digit digits more every e) next }
+      next = rw (rest_append is_digit digits more every e) next;
+    }
 
 -- a rule text stands before LF
 named : (rule_text body : List ℕ) → IsWord rule_text → IsNamed rule_text body (rule_text ++ 10 ∷ body)
@@ -59,14 +60,15 @@ named rule_text body h =
     record {
       text = front_append is_word_byte rule_text (10 ∷ body) every refl;
       word = h;
-      ends = rest_append is_word_byte rule_text (10 ∷ body) every refl }
+      ends = rest_append is_word_byte rule_text (10 ∷ body) every refl;
+    }
 
 -- a header is read so
 pub reads_header : (bytes rule_text body : List ℕ) → HasShortHeader bytes rule_text body → HasWidth rule_text body bytes
 reads_header bytes rule_text body h =
     let rule : HasRule rule_text body (codes ", rule = " ++ (rule_text ++ 10 ∷ body)) = record { more = rule_text ++ 10 ∷ body; starts = refl; here = named rule_text body h.rule_is } in
     let height : HasHeight rule_text body (codes ", y = " ++ (h.height ++ (codes ", rule = " ++ (rule_text ++ 10 ∷ body)))) =
-          record { more = _; starts = refl; here = numbered (HasRule rule_text body) h.height _ h.height_is refl rule } in
+    record { more = _; starts = refl; here = numbered (HasRule rule_text body) h.height _ h.height_is refl rule } in
     record { more = _; starts = h.spelled; here = numbered (HasHeight rule_text body) h.width _ h.width_is refl height }
 
 -- what follows a text, with the number at its front
@@ -97,9 +99,22 @@ header_from bytes w comma h comma' r text last body x width e y height e' z t so
       width_is = width;
       height_is = height;
       rule_is = is_word text (rw t (every_front is_word_byte r)) some;
-      spelled = split (codes "x = ") bytes w _ x (sym e ∙ split (codes ", y = ") comma h _ y (sym e' ∙ z ∙ ap (λ l. codes ", rule = " ++ l) named)) }
+      spelled = split (codes "x = ") bytes w _ x (sym e ∙ split (codes ", y = ") comma h _ y (sym e' ∙ z ∙ ap (λ l. codes ", rule = " ++ l) named));
+    }
 
 -- no bytes are no word
 pub no_word : (w : List ℕ) → eqb (length w) 0 ≡ true → IsWord w → ⊥
 no_word [] none h = false≢true h
 no_word (b ∷ bs) none h = absurd (omega (arith, eqb-true _ _ none))
+
+-- a text has one header at most
+pub header_same : (bytes rule_text body rule_text' body' : List ℕ) → HasShortHeader bytes rule_text body → HasShortHeader bytes rule_text' body' → body ≡ body'
+header_same bytes t b t' b' h h' =
+    let width = reads_header bytes t b h in
+    let height = width.here.next in
+    let rule = height.here.next in
+    let height' = past (HasHeight t' b') width.more _ width.starts refl (reads_header bytes t' b' h') in
+    let rule' = past (HasRule t' b') height.more _ height.starts refl height' in
+    let named' = step (IsNamed t' b') rule.more rule.starts rule' in
+    let ends : 10 ∷ b ≡ 10 ∷ b' = sym rule.here.ends ∙ named'.ends in
+    cc

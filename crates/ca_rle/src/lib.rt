@@ -7,5 +7,6 @@ mod item;
 mod pattern;
 
 pub use fault::RleFault;
+pub use first_form::{FirstFormFault, read_first_form};
 pub use item::{Item, Tag};
 pub use pattern::Pattern;

@@ -12,7 +12,7 @@ items-preserved c =
     let so_far = c.items.invariant.drawn in
     record {
       drawn = (so_far.0 ++ c.in-Some.first ∷ [], drawn_more _ _ _ _ _ _ _ so_far.0 c.in-Some.first so_far.1 c.in-Some.ensures c.in_ok-at.ensures.place c.in_ok-at.ensures.cells);
-      sparse = c.in_ok-at.ensures.sparse c.items.invariant.sparse
+      sparse = c.in_ok-at.ensures.sparse c.items.invariant.sparse;
     }
 
 pub returns-clause-shown : goal.returns-clause-shown

@@ -8,7 +8,7 @@ use Rattle.ca_rle.proofs.first_form.expand.Given as goal
 abbrev pub invariant-items : goal.invariant-items
 invariant-items l = record {
   drawn : (items : List Item) × IsDrawn l.body l.rest l.at l.plane items;
-  sparse : IsSparse l.plane
+  sparse : IsSparse l.plane;
 }
 
 abbrev pub decreases-items : goal.decreases-items

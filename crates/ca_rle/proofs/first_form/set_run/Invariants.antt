@@ -7,5 +7,5 @@ use Rattle.ca_rle.proofs.first_form.set_run.Given as goal
 abbrev pub invariant-cells : goal.invariant-cells
 invariant-cells l = record {
   shown : IsSame l.plane (run_of l.state l.at l.step ++ l.initial.plane);
-  sparse : IsSparse l.initial.plane → IsSparse l.plane
+  sparse : IsSparse l.initial.plane → IsSparse l.plane;
 }
