@@ -1,6 +1,12 @@
 //! Runs over devices, and the texts that they print.
 #![tactic(auto)]
 
+mod complaint;
 mod fault;
+mod printing;
+mod read;
 
+pub use complaint::complain;
 pub use fault::{Fault, InputFault, ToolFault};
+pub use printing::{lines, status};
+pub use read::{MAX_FILE, read_all};

@@ -1,0 +1,118 @@
+//! The lines that are printed for answers, and the exit status.
+
+ghost use Rattle.std.specs.Prelude.{◌≡◌, OnOk, IfOk, decimal};
+ghost use Rattle.ca_tool.specs.Printed.{why_text, cause_text, verdict_text, line_of, lines_of, status_of, is_refusal, is_no};
+ghost use Rattle.ca_tool.specs.Puts.{Puts};
+ghost use Rattle.std.specs.List.{list_any};
+
+use ca_claims::{Answer, Cause, Verdict, Why};
+use ca_plane::Memory;
+use itoa::Buffer;
+use std::alloc::Global;
+
+fn push_text(out: &mut Vec<u8>, text: &[u8]) -> Result<(), Memory>
+    ensures { OnOk result (Puts out.old.items out.new.items text.now) }
+{
+    out.extend_from_slice(text)?;
+    Ok(())
+}
+
+fn push_number(out: &mut Vec<u8>, number: u64) -> Result<(), Memory>
+    ensures { OnOk result (Puts out.old.items out.new.items (decimal number)) }
+{
+    let mut buffer = Buffer::new();
+    push_text(out, buffer.format(number).as_bytes())
+}
+
+fn push_why(out: &mut Vec<u8>, why: &Why) -> Result<(), Memory>
+    ensures { OnOk result (Puts out.old.items out.new.items (why_text why.now)) }
+{
+    match why {
+        Why::Empty => push_text(out, b"empty"),
+        Why::Differs { gens, .. } => {
+            push_text(out, b"cells differ after ")?;
+            push_number(out, *gens)
+        }
+    }
+}
+
+fn cause_bytes(cause: &Cause) -> &'static [u8]
+    ensures { result.now ≡ cause_text cause.now }
+{
+    match cause {
+        Cause::NoFile => b"no file",
+        Cause::NotYet => b"not yet",
+        Cause::Memory => b"memory",
+    }
+}
+
+fn push_verdict(out: &mut Vec<u8>, verdict: &Verdict) -> Result<(), Memory>
+    ensures { OnOk result (Puts out.old.items out.new.items (verdict_text verdict.now)) }
+{
+    match verdict {
+        Verdict::Yes => push_text(out, b"yes"),
+        Verdict::No(why) => {
+            push_text(out, b"no, ")?;
+            push_why(out, why)
+        }
+        Verdict::Refused(cause) => {
+            push_text(out, b"refused, ")?;
+            push_text(out, cause_bytes(cause))
+        }
+    }
+}
+
+fn push_line(out: &mut Vec<u8>, answer: &Answer) -> Result<(), Memory>
+    ensures { OnOk result (Puts out.old.items out.new.items (line_of answer.now)) }
+{
+    push_text(out, b"line ")?;
+    push_number(out, answer.line)?;
+    push_text(out, b": ")?;
+    push_verdict(out, &answer.verdict)?;
+    push_text(out, b"\n")
+}
+
+/// The lines that are printed for the answers: one for each, in order.
+pub fn lines(alloc: Global, answers: &[Answer]) -> Result<Vec<u8>, Memory>
+    ensures { IfOk result (λ text. text.items ≡ lines_of answers.now) }
+{
+    let mut text = Vec::new(alloc);
+    'answers: for answer in answers {
+        push_line(&mut text, answer)?;
+    }
+    Ok(text)
+}
+
+fn is_refusal(verdict: &Verdict) -> bool
+    ensures { result ≡ is_refusal verdict.now }
+{
+    matches!(verdict, Verdict::Refused(_))
+}
+
+fn is_no(verdict: &Verdict) -> bool
+    ensures { result ≡ is_no verdict.now }
+{
+    matches!(verdict, Verdict::No(_))
+}
+
+fn has_refusal(answers: &[Answer]) -> bool
+    ensures { result ≡ list_any (λ a. is_refusal a.verdict) answers.now }
+{
+    answers.iter().any(|answer| is_refusal(&answer.verdict))
+}
+
+fn has_no(answers: &[Answer]) -> bool
+    ensures { result ≡ list_any (λ a. is_no a.verdict) answers.now }
+{
+    answers.iter().any(|answer| is_no(&answer.verdict))
+}
+
+/// The exit status: 2 where an answer is refused, else 1 where one is no, else 0.
+pub fn status(answers: &[Answer]) -> u8
+    ensures { result ≡ status_of answers.now }
+{
+    if has_refusal(answers) {
+        return 2;
+    }
+    if has_no(answers) { 1 } else { 0 }
+}

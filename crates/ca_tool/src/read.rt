@@ -1,0 +1,40 @@
+//! Reading a whole file.
+
+ghost use Rattle.std.specs.Prelude.{◌≡◌, ◌≢◌, Err, IfOk, IsErrOf};
+ghost use Rattle.ca_plane.specs.Device.{Rises};
+ghost use Rattle.ca_tool.specs.Runs.{ReadsAll, GivesTooMany};
+
+use crate::fault::InputFault;
+use ca_plane::Dev;
+use std::alloc::Global;
+use std::io::Read;
+
+/// How many bytes a file may have.
+pub const MAX_FILE: usize = 67_108_864;
+
+const PIECE: usize = 8192;
+
+/// All bytes that the reader gives up to its end. A read that fails ends the call, and nothing is tried again.
+///
+/// Each read but the last gives a byte or more, and the call ends once it has more bytes than a file may have.
+pub fn read_all<R: Read>(alloc: Global, device: &mut Dev<R>) -> Result<Vec<u8>, InputFault>
+    ensures found { IfOk result (λ v. ReadsAll (R.remaining device.old.inner) (R.remaining device.new.inner) v.items) }
+    ensures too_long { IsErrOf result InputFault.TooLong → GivesTooMany (R.remaining device.old.inner) (R.remaining device.new.inner) }
+    ensures failed { IsErrOf result InputFault.Read → Rises device.old.failures device.new.failures }
+    ensures kept { result ≢ Err InputFault.Read → device.new.failures ≡ device.old.failures }
+{
+    let mut bytes = Vec::new(alloc);
+    let mut buffer = [0u8; PIECE];
+    'reads: while bytes.len() <= MAX_FILE {
+        let Ok(count) = device.read(&mut buffer) else {
+            return Err(InputFault::Read);
+        };
+        if count == 0 {
+            return Ok(bytes);
+        }
+        if bytes.extend_from_slice(&buffer[..count]).is_err() {
+            return Err(InputFault::Memory);
+        }
+    }
+    Err(InputFault::TooLong)
+}
