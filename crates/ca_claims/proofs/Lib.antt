@@ -1,1 +1,2 @@
 pub mod PathLists
+pub mod LineWords
