@@ -6,7 +6,7 @@ mod fault;
 mod file;
 mod verdict;
 
-pub use claims::Claims;
+pub use claims::{read_claims, Claims};
 pub use fault::ClaimFault;
 pub use file::File;
 pub use verdict::{Answer, Cause, Verdict, Why};
