@@ -1,2 +1,4 @@
 pub mod PathLists
 pub mod LineWords
+pub mod Said
+pub mod ReadOn

@@ -4,7 +4,7 @@ ghost use Rattle.std.specs.Prelude.{◌≡◌, ℕ, ◌+◌, ◌∷◌, [], ◌+
 ghost use Rattle.ca_plane.specs.Bytes.{Every, is_line_end, words_of};
 ghost use Rattle.ca_claims.specs.Text.{Line, Load, Claims as Claiming, Still as StillOf, IsAllowed, IsClaimText, spoken, asked_by};
 ghost use Rattle.ca_claims.specs.TextFaults.{IsFirstFault};
-ghost use Rattle.ca_claims.specs.Reading.{IsRead, SaysNext, HasFault, place_of};
+ghost use Rattle.ca_claims.specs.Reading.{IsReading, SaysNext, HasFault};
 
 use super::paths::Paths;
 use super::words::{LineKind, line_kind, next_line};
@@ -24,7 +24,7 @@ struct Reading<'a> {
 impl<'a> Reading<'a> {
     /// Before the first line.
     fn new(alloc: Global) -> Reading<'a>
-        ensures { IsRead [] result.paths result.claims.items (place_of result.names) }
+        ensures { IsReading [] result }
     {
         Reading {
             paths: Paths::new(alloc),
@@ -41,10 +41,10 @@ impl<'a> Reading<'a> {
         name: &'a [u8],
         path: &[u8],
     ) -> Result<(), ClaimFault>
-        ensures loaded { OnOk result ((said : List (Option Line)) → IsRead said self.old.paths self.old.claims.items (place_of self.old.names)
+        ensures loaded { OnOk result ((said : List (Option Line)) → IsReading said self.old
             → IsAllowed (spoken said) (Load name.now path.now)
-            × IsRead (said ++ Some (Load name.now path.now) ∷ []) self.new.paths self.new.claims.items (place_of self.new.names)) }
-        ensures fault { IfErr result (λ f. (said : List (Option Line)) → IsRead said self.old.paths self.old.claims.items (place_of self.old.names)
+            × IsReading (said ++ Some (Load name.now path.now) ∷ []) self.new) }
+        ensures fault { IfErr result (λ f. (said : List (Option Line)) → IsReading said self.old
             → HasFault line (spoken said) (codes "load" ∷ name.now ∷ path.now ∷ []) f) }
     {
         if self.names.contains_key(name) {
@@ -61,10 +61,10 @@ impl<'a> Reading<'a> {
 
     /// The line with this number claims that the pattern of the name is still.
     fn still(&mut self, line: u64, name: &[u8]) -> Result<(), ClaimFault>
-        ensures claimed { OnOk result ((said : List (Option Line)) → IsRead said self.old.paths self.old.claims.items (place_of self.old.names) → line ≡ length said + 1
+        ensures claimed { OnOk result ((said : List (Option Line)) → IsReading said self.old → line ≡ length said + 1
             → IsAllowed (spoken said) (Claiming (StillOf name.now))
-            × IsRead (said ++ Some (Claiming (StillOf name.now)) ∷ []) self.new.paths self.new.claims.items (place_of self.new.names)) }
-        ensures fault { IfErr result (λ f. (said : List (Option Line)) → IsRead said self.old.paths self.old.claims.items (place_of self.old.names)
+            × IsReading (said ++ Some (Claiming (StillOf name.now)) ∷ []) self.new) }
+        ensures fault { IfErr result (λ f. (said : List (Option Line)) → IsReading said self.old
             → HasFault line (spoken said) (codes "still" ∷ name.now ∷ []) f) }
     {
         let Some(pattern) = self.names.get(name) else {
@@ -80,10 +80,10 @@ impl<'a> Reading<'a> {
     /// The next line of the text, which has this number.
     fn read(&mut self, alloc: Global, number: u64, line: &'a [u8]) -> Result<(), ClaimFault>
         requires { Every (λ b. not (is_line_end b)) line.now }
-        ensures said { OnOk result ((said : List (Option Line)) → IsRead said self.old.paths self.old.claims.items (place_of self.old.names) → number ≡ length said + 1
+        ensures said { OnOk result ((said : List (Option Line)) → IsReading said self.old → number ≡ length said + 1
             → (s : Option Line) × SaysNext (spoken said) (words_of line.now) s
-            × IsRead (said ++ s ∷ []) self.new.paths self.new.claims.items (place_of self.new.names)) }
-        ensures fault { IfErr result (λ f. (said : List (Option Line)) → IsRead said self.old.paths self.old.claims.items (place_of self.old.names)
+            × IsReading (said ++ s ∷ []) self.new) }
+        ensures fault { IfErr result (λ f. (said : List (Option Line)) → IsReading said self.old
             → HasFault number (spoken said) (words_of line.now) f) }
     {
         match line_kind(line) {
