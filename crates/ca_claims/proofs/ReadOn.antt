@@ -1,9 +1,9 @@
 -- What is kept of the lines so far, after one more line.
-use Rattle.std.proofs.Common.{◌≡◌, ℕ, ◌+◌, ◌<◌, ◌≤◌, Bool, true, false, cond, List, [], ◌∷◌, ◌++◌, map, slice_get, length, length-append, All, Option, Some, None, IsSome, MatchOption, unwrap_or, is_some, refl, sym, ap, subst, ◌∙◌, inl, inr, arith}
+use Rattle.std.proofs.Common.{◌≡◌, ℕ, ◌+◌, ◌<◌, ◌≤◌, Bool, true, false, cond, List, [], ◌∷◌, ◌++◌, map, slice_get, length, length-append, All, Option, Some, None, IsSome, Result, Ok, Err, is_ok, OnOk, unwrap_or, is_some, refl, sym, ap, subst, ◌∙◌, inl, inr, arith}
 use Rattle.std.specs.Map.{update}
 use Rattle.std.specs.Option.{option_or}
 use Rattle.std.specs.Str.{bytes_eq}
-use Rattle.std.proofs.lemmas.Bool.{cases_Bool}
+use Rattle.std.proofs.lemmas.Bool.{cases_Bool, false≢true}
 use Rattle.std.proofs.lemmas.List.{append-nil, map-append}
 use Rattle.std.proofs.lemmas.List.Elements.{All-head, All-tail, All-weaker, All-push}
 use Rattle.std.proofs.lemmas.Option.{slice_get_within}
@@ -16,6 +16,16 @@ use Rattle.ca_claims.specs.Text.{Claim, Still, Line, Load, Claims, path_of, IsAl
 use Rattle.ca_claims.specs.Reading.{IsRead, StandsAt, with_path}
 use Rattle.ca_claims.proofs.PathLists.{each_once-push, kept_place, no_fewer}
 use Rattle.ca_claims.proofs.Said.{spoken-append, loaded_paths-append, path_of-append, claims_from-append}
+
+-- what holds of a result that is Ok
+pub on_ok_holds : {T E : Type 0} (r : Result T E) (P : Type 0) → is_ok r ≡ true → OnOk r P → P
+on_ok_holds (Ok x) P e h = h
+on_ok_holds (Err x) P e h = absurd (false≢true e)
+
+-- an option that isn't Some
+pub none_from : {X : Type 0} (o : Option X) → is_some o ≡ false → o ≡ None
+none_from None e = refl
+none_from (Some x) e = absurd (false≢true (sym e))
 
 -- nothing follows an option
 option_or_none : (o : Option (List ℕ)) → option_or o None ≡ o
@@ -70,7 +80,7 @@ module _ (said : List (Option Line)) (paths : List (List ℕ)) (claims : List Cl
       }
 
   -- the name wasn't loaded
-  not_loaded : (name : List ℕ) → names name ≡ None → path_of (spoken said) name ≡ None
+  pub not_loaded : (name : List ℕ) → names name ≡ None → path_of (spoken said) name ≡ None
   not_loaded name new = subst (λ o. StandsAt paths o (path_of (spoken said) name)) new (read.named name)
 
   -- where a name's path stands after a line that loads one
