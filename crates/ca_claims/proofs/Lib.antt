@@ -2,3 +2,4 @@ pub mod PathLists
 pub mod LineWords
 pub mod Said
 pub mod ReadOn
+pub mod AllLines
