@@ -1,5 +1,5 @@
 -- Lists of paths, and where a path stands in one.
-use Rattle.std.proofs.Common.{◌≡◌, ◌≢◌, ℕ, zero, suc, ◌+◌, ◌<◌, ◌≤◌, ltb, Bool, true, false, not, cond, ◌||◌, List, [], ◌∷◌, ◌++◌, map, filter, slice_get, position, is_some, option_map, Option, None, Some, MatchOption, if◌then◌else◌, refl, sym, ap, ◌∙◌, length, length-append, arith, inl, inr}
+use Rattle.std.proofs.Common.{◌≡◌, ◌≢◌, ℕ, zero, suc, ◌<◌, ◌≤◌, ltb, Bool, true, false, not, ◌||◌, List, [], ◌∷◌, ◌++◌, map, filter, slice_get, position, is_some, option_map, Option, None, Some, MatchOption, refl, sym, ap, ◌∙◌, length, length-append, arith, inl, inr}
 use Rattle.std.specs.List.{list_any, position_or_len}
 use Rattle.std.specs.Str.{bytes_eq}
 use Rattle.std.proofs.lemmas.Bool.{cases_Bool, false≢true, ltb-true, or_left, or_right}

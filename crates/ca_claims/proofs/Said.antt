@@ -1,13 +1,12 @@
 -- What lines say, one line after another.
-use Rattle.std.proofs.Common.{◌≡◌, ◌≢◌, ℕ, suc, ◌+◌, Bool, true, false, not, cond, List, [], ◌∷◌, ◌++◌, map, filter, length, Option, Some, None, unwrap_or, refl, sym, ap, subst, ◌∙◌, inl, inr, append_assoc, arith}
-use Rattle.std.specs.List.{list_any}
+use Rattle.std.proofs.Common.{◌≡◌, ℕ, suc, ◌+◌, List, [], ◌∷◌, ◌++◌, length, Option, Some, None, unwrap_or, refl, sym, ap, subst, ◌∙◌, inl, inr, append_assoc, arith}
 use Rattle.std.specs.Option.{option_or}
 use Rattle.std.specs.Str.{bytes_eq}
 use Rattle.std.proofs.lemmas.Bool.{cases_Bool}
 use Rattle.std.proofs.lemmas.List.{append-nil}
 use Rattle.ca_plane.specs.Bytes.{words_of}
-use Rattle.ca_claims.specs.Text.{Claim, Still, pattern_of, about, Line, Load, Claims, is_skipped, WordsSay, path_of, IsAllowed, LinesSay, spoken, loaded_paths, each_once, claims_from}
-use Rattle.ca_claims.specs.Reading.{SaysNext, with_path}
+use Rattle.ca_claims.specs.Text.{pattern_of, about, Line, Load, Claims, path_of, IsAllowed, LinesSay, spoken, loaded_paths, claims_from}
+use Rattle.ca_claims.specs.Reading.{SaysNext}
 
 -- what lines say and then more lines
 pub spoken-append : (said more : List (Option Line)) → spoken (said ++ more) ≡ spoken said ++ spoken more

@@ -1,7 +1,7 @@
-use Rattle.std.proofs.Common.{◌≡◌, ℕ, List, ◌∷◌, [], ◌++◌, Option, Some, None, slice_get, sym, ap, subst, ◌∙◌}
+use Rattle.std.proofs.Common.{ℕ, List, ◌∷◌, [], ◌++◌, Some, slice_get, sym, ap, subst, ◌∙◌}
 use Rattle.std.proofs.lemmas.Map.Text.{hash_map_updates_str}
-use Rattle.ca_claims.specs.Text.{Line, Load, IsAllowed, spoken}
-use Rattle.ca_claims.specs.Reading.{IsRead, place_of, with_path}
+use Rattle.ca_claims.specs.Text.{Load}
+use Rattle.ca_claims.specs.Reading.{IsRead, place_of}
 use Rattle.ca_claims.proofs.ReadOn.{on_ok_holds, none_from, read_load}
 use Rattle.ca_claims.proofs.claims.reading.Reading.load.Goals as goal
 

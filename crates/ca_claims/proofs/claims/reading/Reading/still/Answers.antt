@@ -1,4 +1,4 @@
-use Rattle.std.proofs.Common.{◌≡◌, ℕ, List, ◌∷◌, [], ◌++◌, Some, if◌then◌else◌, refl, sym, ap, subst, ◌∙◌}
+use Rattle.std.proofs.Common.{ℕ, List, ◌∷◌, [], ◌++◌, Some, if◌then◌else◌, refl, sym, ap, subst, ◌∙◌}
 use Rattle.ca_claims.specs.declared.claims.line.ClaimKind.TheVariants as kind
 use Rattle.ca_claims.specs.Text.{Still, Claims}
 use Rattle.ca_claims.specs.Reading.{IsRead, place_of}
