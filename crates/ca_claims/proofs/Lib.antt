@@ -3,3 +3,4 @@ pub mod LineWords
 pub mod Said
 pub mod ReadOn
 pub mod AllLines
+pub mod OneMeaning

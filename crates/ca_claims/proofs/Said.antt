@@ -34,7 +34,7 @@ same_claims : (m n : ℕ) (lines others : List Line) (more : List (Option Line))
 same_claims m n lines others more e f = λ i. claims_from (e i) (f i) more
 
 -- one line is before the others
-one_before : (earlier : List Line) (line : Line) (lines : List Line) → (earlier ++ line ∷ []) ++ lines ≡ earlier ++ line ∷ lines
+pub one_before : (earlier : List Line) (line : Line) (lines : List Line) → (earlier ++ line ∷ []) ++ lines ≡ earlier ++ line ∷ lines
 one_before earlier line lines = append_assoc earlier (line ∷ []) lines
 
 -- the claims that they make

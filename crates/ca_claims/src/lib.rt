@@ -4,9 +4,11 @@
 mod claims;
 mod fault;
 mod file;
+mod laws;
 mod verdict;
 
 pub use claims::{read_claims, Claims};
 pub use fault::ClaimFault;
 pub use file::File;
+pub use laws::{no_fault_in_claim_text, one_fault, one_meaning};
 pub use verdict::{Answer, Cause, Verdict, Why};
