@@ -10,10 +10,10 @@ mod paths;
 mod reading;
 mod words;
 
+use crate::ClaimFault;
 pub(crate) use line::{ClaimKind, ClaimLine};
 use paths::Paths;
 pub use reading::read_claims;
-use crate::ClaimFault;
 use std::alloc::Global;
 use std::marker::Model;
 

@@ -7,8 +7,8 @@ mod file;
 mod laws;
 mod verdict;
 
-pub use claims::{read_claims, Claims};
+pub use claims::{Claims, read_claims};
 pub use fault::ClaimFault;
 pub use file::File;
-pub use laws::{no_fault_in_claim_text, one_fault, one_meaning};
+pub use laws::{no_fault_in_claim_text, one_fault, one_meaning, worked_examples};
 pub use verdict::{Answer, Cause, Verdict, Why};
