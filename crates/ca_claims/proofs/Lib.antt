@@ -1,0 +1,6 @@
+pub mod PathLists
+pub mod LineWords
+pub mod Said
+pub mod ReadOn
+pub mod AllLines
+pub mod OneMeaning
