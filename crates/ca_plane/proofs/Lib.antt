@@ -1,2 +1,4 @@
 pub mod Fronts
 pub mod Numbers
+pub mod Pictures
+pub mod Kept

@@ -4,8 +4,10 @@
 mod automaton;
 pub mod bytes;
 mod memory;
+mod plane;
 mod point;
 
 pub use automaton::Automaton;
 pub use memory::{Memory, WriteFault};
+pub use plane::{Cells, Plane};
 pub use point::{Bounds, Nine, Point};
