@@ -1,4 +1,6 @@
+pub mod Lengths
 pub mod Fronts
+pub mod Lines
 pub mod Numbers
 pub mod Pictures
 pub mod Kept

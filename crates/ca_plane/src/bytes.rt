@@ -25,7 +25,7 @@ fn blank_length(bytes: &[u8]) -> usize
 }
 
 /// The blanks that the bytes begin with, and the bytes from there on.
-#[tactic(auto, using(crate::proofs::Fronts::fronts))]
+#[tactic(auto, using(crate::proofs::Lengths::fronts))]
 pub fn split_blanks(bytes: &[u8]) -> (&[u8], &[u8])
     ensures front { result.0.now ≡ front is_blank bytes.now }
     ensures rest { result.1.now ≡ rest is_blank bytes.now }
@@ -43,7 +43,7 @@ fn digit_length(bytes: &[u8]) -> usize
 }
 
 /// The digits that the bytes begin with, and the bytes from there on.
-#[tactic(auto, using(crate::proofs::Fronts::fronts))]
+#[tactic(auto, using(crate::proofs::Lengths::fronts))]
 pub fn split_digits(bytes: &[u8]) -> (&[u8], &[u8])
     ensures front { result.0.now ≡ front is_digit bytes.now }
     ensures rest { result.1.now ≡ rest is_digit bytes.now }
@@ -58,7 +58,7 @@ fn word_length(bytes: &[u8]) -> usize
 }
 
 /// The bytes of a word that the bytes begin with, and the bytes from there on.
-#[tactic(auto, using(crate::proofs::Fronts::fronts))]
+#[tactic(auto, using(crate::proofs::Lengths::fronts))]
 pub fn split_word(bytes: &[u8]) -> (&[u8], &[u8])
     ensures front { result.0.now ≡ front is_word_byte bytes.now }
     ensures rest { result.1.now ≡ rest is_word_byte bytes.now }
@@ -73,7 +73,7 @@ fn line_length(bytes: &[u8]) -> usize
 }
 
 /// The bytes of a line that the bytes begin with, and the bytes from there on.
-#[tactic(auto, using(crate::proofs::Fronts::fronts))]
+#[tactic(auto, using(crate::proofs::Lengths::fronts))]
 pub fn split_line(bytes: &[u8]) -> (&[u8], &[u8])
     ensures front { result.0.now ≡ front (λ b. not (is_line_end b)) bytes.now }
     ensures rest { result.1.now ≡ rest (λ b. not (is_line_end b)) bytes.now }
