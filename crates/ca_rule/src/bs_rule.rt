@@ -1,9 +1,15 @@
 //! Rules in B/S notation.
 
-ghost use Rattle.std.specs.Prelude.{◌≡◌, false};
+ghost use Rattle.std.specs.Prelude.{◌≡◌, false, IfOk, IfErr};
 ghost use Rattle.ca_rule.specs.Counts.{is_count};
+ghost use Rattle.ca_rule.specs.Next.{moore_count};
+ghost use Rattle.std.proofs.Common.{arith, rules};
+ghost use Rattle.std.proofs.lemmas.Bool.Decides.{nat_tests};
 
 use crate::counts::Counts;
+use crate::fault::RuleFault;
+use crate::spelling::spelled;
+use ca_plane::{Automaton, Nine};
 
 /// A two-state rule in B/S notation over the eight neighbours of a cell (Golly Help, QuickLife):
 /// a dead cell with a birth count of live neighbours is born, a live cell with a survival count survives,
@@ -13,4 +19,63 @@ pub struct BsRule {
     pub birth: Counts,
     pub survival: Counts,
     ghost stays_empty: { is_count birth 0 ≡ false },
+}
+
+impl BsRule {
+    ghost use Rattle.ca_rule.specs.Spelling.{Names, IsFaultOf};
+
+    /// The rule that the text names, as `B3/S23` names Conway's Life.
+    pub fn parse(text: &[u8]) -> Result<BsRule, RuleFault>
+        ensures found { IfOk result (λ rule. Names text.now rule) }
+        ensures fault { IfErr result (λ f. IsFaultOf text.now f) }
+    {
+        if text.contains(&b':') {
+            return Err(RuleFault::Bounded);
+        }
+        let Some(digits) = spelled(text) else {
+            return Err(RuleFault::Unknown);
+        };
+        let birth = Counts::of_digits(digits.birth);
+        if birth.contains(0) {
+            return Err(RuleFault::Wakes);
+        }
+        let survival = Counts::of_digits(digits.survival);
+        Ok(BsRule { birth, survival })
+    }
+}
+
+impl Automaton for BsRule {
+    ghost use Rattle.ca_rule.specs.Next.{next_of};
+
+    ghost state_count = { λ _. 2 };
+
+    ghost next_of = { λ rule nine. next_of rule.birth rule.survival nine };
+
+    ghost sound = { λ rule. is_count rule.birth 0 ≡ false };
+
+    fn states(&self) -> u16 {
+        2
+    }
+
+    fn next(&self, nine: &Nine) -> u8 {
+        let count = usize::from(neighbour_sum(nine));
+        let lives = match nine[4] {
+            0 => self.birth.contains(count),
+            1 => self.survival.contains(count),
+            _ => false,
+        };
+        u8::from(lives)
+    }
+
+    ghost closed = { λ rule nine _ _ _. Prim.grind (arith, nat_tests) };
+
+    ghost quiet = { Prim.search rules };
+}
+
+/// The sum of the eight neighbours of the middle of nine cells.
+fn neighbour_sum(nine: &Nine) -> u16
+    ensures { result ≡ moore_count nine.now }
+{
+    let [nw, n, ne, w, _, e, sw, s, se] = nine.map(u16::from);
+    nw + n + ne + w + e + sw + s + se
 }

@@ -1,7 +1,46 @@
 //! Sets of counts of live neighbours.
 
+ghost use Rattle.std.specs.Prelude.{◌≡◌, ℕ, false};
+
 /// A set of counts of live neighbours, each from 0 to 8.
 #[derive(Clone, Copy, Debug, PartialEq, Eq)]
 pub struct Counts {
     holds: [bool; 9],
+}
+
+impl Counts {
+    ghost use Rattle.ca_rule.specs.Counts.{is_count, counts_of};
+
+    /// No count at all.
+    pub const fn none() -> Counts
+        ensures { (n : ℕ) → is_count result n ≡ false }
+    {
+        Counts { holds: [false; 9] }
+    }
+
+    /// Whether `count` is one of these counts. No number above 8 is.
+    pub fn contains(self, count: usize) -> bool
+        ensures { result ≡ is_count self count }
+    {
+        self.holds.get(count).copied().unwrap_or(false)
+    }
+
+    /// The counts from 0 to 8 whose digits these are.
+    pub(crate) fn of_digits(digits: &[u8]) -> Counts
+        ensures { result ≡ counts_of digits.now }
+    {
+        Counts {
+            holds: [
+                digits.contains(&b'0'),
+                digits.contains(&b'1'),
+                digits.contains(&b'2'),
+                digits.contains(&b'3'),
+                digits.contains(&b'4'),
+                digits.contains(&b'5'),
+                digits.contains(&b'6'),
+                digits.contains(&b'7'),
+                digits.contains(&b'8'),
+            ],
+        }
+    }
 }

@@ -4,6 +4,7 @@
 mod bs_rule;
 mod counts;
 mod fault;
+mod spelling;
 
 pub use bs_rule::BsRule;
 pub use counts::Counts;
