@@ -3,6 +3,7 @@
 
 mod fault;
 mod file;
+mod still;
 mod verdict;
 
 pub use fault::ClaimFault;
