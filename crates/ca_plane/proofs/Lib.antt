@@ -1,3 +1,4 @@
+pub mod Sends
 pub mod Lengths
 pub mod Fronts
 pub mod Lines

@@ -101,3 +101,6 @@ pub fn number(digits: &[u8]) -> u64
     }
     number
 }
+
+#[cfg(test)]
+mod tests;

@@ -3,11 +3,13 @@
 
 mod automaton;
 pub mod bytes;
+mod device;
 mod memory;
 mod plane;
 mod point;
 
 pub use automaton::Automaton;
+pub use device::{Dev, Failed, send};
 pub use memory::{Memory, WriteFault};
 pub use plane::{Cells, Plane};
 pub use point::{Bounds, Nine, Point};
