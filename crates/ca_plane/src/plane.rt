@@ -150,3 +150,6 @@ impl<'a> Iterator for Cells<'a> {
         Some((*point, *state))
     }
 }
+
+#[cfg(test)]
+mod tests;

@@ -1,0 +1,66 @@
+use crate::plane::Plane;
+use crate::point::Point;
+use std::test::*;
+
+const FAR: i64 = 1 << 62;
+
+#[test]
+fn cells_are_written_and_taken_out(rt: HostRuntime) -> Result<(), Fail> {
+    let mut plane = Plane::new(rt.alloc());
+    assert!(rt; plane.is_empty());
+    plane.set(Point { y: 4, x: 3 }, 2)?;
+    assert_eq!(rt; plane.get(Point { y: 4, x: 3 }), 2);
+    assert_eq!(rt; plane.get(Point { y: 3, x: 4 }), 0);
+    assert_eq!(rt; plane.len(), 1);
+    assert!(rt; !plane.is_empty());
+    plane.set(Point { y: 4, x: 3 }, 0)?;
+    assert_eq!(rt; plane.get(Point { y: 4, x: 3 }), 0);
+    assert_eq!(rt; plane.len(), 0);
+    Ok(())
+}
+
+#[test]
+fn cells_come_row_by_row(rt: HostRuntime) -> Result<(), Fail> {
+    let mut plane = Plane::new(rt.alloc());
+    plane.set(Point { y: FAR, x: -FAR }, 255)?;
+    plane.set(Point { y: 1, x: 0 }, 1)?;
+    plane.set(Point { y: -FAR, x: FAR }, 3)?;
+    plane.set(Point { y: 0, x: 5 }, 4)?;
+    plane.set(Point { y: -FAR, x: -FAR }, 2)?;
+    plane.set(Point { y: FAR, x: FAR }, 7)?;
+    plane.set(Point { y: 0, x: -5 }, 6)?;
+    let mut cells = plane.cells();
+    for (y, x, state) in [
+        (-FAR, -FAR, 2),
+        (-FAR, FAR, 3),
+        (0, -5, 6),
+        (0, 5, 4),
+        (1, 0, 1),
+        (FAR, -FAR, 255),
+        (FAR, FAR, 7),
+    ] {
+        assert_eq!(rt; cells.next(), Some((Point { y, x }, state)));
+    }
+    assert_eq!(rt; cells.next(), None);
+    Ok(())
+}
+
+#[test]
+fn planes_differ_where_either_has_a_cell(rt: HostRuntime) -> Result<(), Fail> {
+    let mut here = Plane::new(rt.alloc());
+    let mut there = Plane::new(rt.alloc());
+    here.set(Point { y: 0, x: 1 }, 1)?;
+    there.set(Point { y: 0, x: 1 }, 1)?;
+    assert!(rt; here.same(&there));
+    assert_eq!(rt; here.difference(&there), None);
+    there.set(Point { y: 7, x: 7 }, 1)?;
+    assert_eq!(rt; here.difference(&there), Some(Point { y: 7, x: 7 }));
+    assert_eq!(rt; there.difference(&here), Some(Point { y: 7, x: 7 }));
+    here.set(Point { y: 7, x: 7 }, 2)?;
+    assert!(rt; !here.same(&there));
+    there.set(Point { y: 7, x: 7 }, 0)?;
+    there.set(Point { y: -7, x: 7 }, 2)?;
+    assert_eq!(rt; here.len(), there.len());
+    assert!(rt; !here.same(&there));
+    Ok(())
+}
