@@ -1,11 +1,15 @@
 -- A text taken apart at its first `/`, as a rule that it spells is.
-use Rattle.std.proofs.Common.{◌≡◌, ◌==◌, ℕ, ◌+◌, ◌≤◌, List, [], ◌∷◌, ◌++◌, true, false, length, take, drop, Option, Some, None, arith, refl, ap, ◌∙◌}
+use Rattle.std.proofs.Common.{◌≡◌, ◌==◌, ℕ, ◌+◌, ◌≤◌, List, [], ◌∷◌, ◌++◌, true, false, length, take, drop, Option, Some, None, arith, refl, ap, sym, ◌∙◌}
 use Rattle.std.specs.List.{position, position_or_len}
 use Rattle.std.specs.Option.{IfNone}
 use Rattle.std.specs.Str.{bytes_eq}
 use Rattle.std.proofs.lemmas.Bool.Decides.{nat_tests}
+use Rattle.std.proofs.lemmas.List.{append-nil}
 use Rattle.std.proofs.lemmas.Grind.{common_steps}
-use Rattle.ca_rule.specs.Spelling.{are_rising_from, AreRisingDigits, Spells}
+use Rattle.ca_rule.specs.Counts.{has_digit}
+use Rattle.ca_rule.specs.Spelling.{are_rising_from, AreRisingDigits, Spells, has_colon, IsFaultOf}
+use Rattle.ca_rule.specs.declared.fault.RuleFault.{RuleFault}
+use Rattle.ca_rule.specs.declared.fault.RuleFault.TheVariants.{Bounded, Wakes, Unknown}
 
 -- what holds at all holds where there is none
 pub IfNone-from : {T P : Type 0} (r : Option T) → P → IfNone r P
@@ -33,7 +37,7 @@ IsCut-spelled text after birth survival i e p h =
     record {
       place = p ∙ ap (position (λ b. b == 47)) whole ∙ slash_place birth (83 ∷ survival) h.1;
       front = rw whole (grind (arith, common_steps));
-      back = rw whole (grind (arith, common_steps))
+      back = rw whole (grind (arith, common_steps));
     }
 
 -- with no `/` a text spells no rule
@@ -56,3 +60,26 @@ module _ (text after front back : List ℕ) (n : ℕ) (i : Option ℕ) (e : afte
   -- nor where the survival digits don't rise
   pub spells-survival : (last : List ℕ) → last ≡ drop 2 back → are_rising_from 48 last ≡ false → (birth survival : List ℕ) → Spells text birth survival → ⊥
   spells-survival last l fails birth survival h = let t = ap (drop 2) (parts birth survival h).1 in cc (h.2, t)
+
+-- a text spells one rule at most
+pub spells-once : (text b s c t : List ℕ) → Spells text b s → Spells text c t → (b ≡ c) × (s ≡ t)
+spells-once text b s c t h k =
+    let x = IsCut-spelled text (drop 1 text) b s _ refl refl h in
+    let y = IsCut-spelled text (drop 1 text) c t _ refl refl k in
+    (cc, cc)
+
+-- no rising digit is a `:`
+no_colon_behind : (low : ℕ) (digits rest : List ℕ) → are_rising_from low digits ≡ true → has_colon (digits ++ rest) ≡ has_colon rest
+no_colon_behind low [] rest r = refl
+no_colon_behind low (d ∷ ds) rest r = grind (arith, nat_tests, no_colon_behind (d + 1) ds rest)
+
+-- a text that spells a rule has no `:`
+pub spells-no_colon : (text birth survival : List ℕ) → Spells text birth survival → has_colon text ≡ false
+spells-no_colon text birth survival h =
+    ap has_colon h.0 ∙ no_colon_behind 48 birth (47 ∷ 83 ∷ survival) h.1 ∙ ap has_colon (sym (append-nil survival)) ∙ no_colon_behind 48 survival [] h.2
+
+-- a text that spells a rule, without birth on 0, has no fault
+pub names-faultless : (text birth survival : List ℕ) (fault : RuleFault) → Spells text birth survival → has_digit birth 0 ≡ false → IsFaultOf text fault → ⊥
+names-faultless text birth survival Bounded h w k = let n = spells-no_colon text birth survival h in cc
+names-faultless text birth survival Wakes h w k = let same = (spells-once text birth survival k.1 k.2 h k.3).0 in cc (ap (λ ds. has_digit ds 0) same, k.4)
+names-faultless text birth survival Unknown h w k = k.1 birth survival h

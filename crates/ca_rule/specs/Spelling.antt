@@ -1,5 +1,5 @@
 -- How a B/S rule is spelled (Golly Help, QuickLife), and what is wrong with a text that spells none.
-use Rattle.std.specs.Prelude.{◌≡◌, ◌≢◌, ℕ, ◌+◌, List, [], ◌∷◌, ◌++◌, Bool, true, false, ◌&&◌, nat_le, ◌==◌, IsTrue}
+use Rattle.std.specs.Prelude.{◌≡◌, ℕ, ◌+◌, List, [], ◌∷◌, ◌++◌, Bool, true, false, ◌&&◌, nat_le, ◌==◌, IsTrue}
 use Rattle.std.specs.List.{list_any}
 use Rattle.ca_rule.specs.Counts.{has_digit, counts_of}
 use Rattle.ca_rule.specs.declared.bs_rule.BsRule.{BsRule}

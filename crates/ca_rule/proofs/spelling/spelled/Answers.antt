@@ -14,6 +14,6 @@ returns-in_err-survival-clause-none c =
 pub returns-then-not-are_rising_digits-clause-none : goal.returns-then-not-are_rising_digits-clause-none
 returns-then-not-are_rising_digits-clause-none c =
     elim c.then-not-are_rising_digits.branch [
-      then-not-are_rising_digits-via-then-not-are_rising_digits w ↦ spells-birth _ _ _ _ _ _ c.in_ok-after_letter.ensures.cases.1 c.slash_place.ensures c.in_ok-slash.was c.split_at.ensures.front c.split_at.ensures.back (sym w.if-not-are_rising_digits.ensures)
-    | then-not-are_rising_digits-via-else-not-are_rising_digits+then-not-are_rising_digits-2 w ↦ spells-survival _ _ _ _ _ _ c.in_ok-after_letter.ensures.cases.1 c.slash_place.ensures c.in_ok-slash.was c.split_at.ensures.front c.split_at.ensures.back _ c.in_ok-survival.ensures.cases.1 (sym w.if-not-are_rising_digits-2.ensures)
+      | then-not-are_rising_digits-via-then-not-are_rising_digits w ↦ spells-birth _ _ _ _ _ _ c.in_ok-after_letter.ensures.cases.1 c.slash_place.ensures c.in_ok-slash.was c.split_at.ensures.front c.split_at.ensures.back (sym w.if-not-are_rising_digits.ensures)
+      | then-not-are_rising_digits-via-else-not-are_rising_digits+then-not-are_rising_digits-2 w ↦ spells-survival _ _ _ _ _ _ c.in_ok-after_letter.ensures.cases.1 c.slash_place.ensures c.in_ok-slash.was c.split_at.ensures.front c.split_at.ensures.back _ c.in_ok-survival.ensures.cases.1 (sym w.if-not-are_rising_digits-2.ensures)
     ]
