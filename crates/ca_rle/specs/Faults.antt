@@ -1,6 +1,6 @@
 -- The first fault of an RLE text (the formats' own order: each word of a `#CXRLE` line, each other line before the header,
 -- the header, each item). A text has one such fault at most, and none where it is spelled as a file.
-use Rattle.std.specs.Prelude.{◌≡◌, ℕ, ◌≤◌, ◌<◌, ◌^◌, ℤ, List, [], ◌∷◌, ◌++◌, Bool, true, false, not, ◌||◌, ◌==◌, nat_le, IsTrue, Option, Some, None, is_some, codes, ◌⊎◌, if◌then◌else◌}
+use Rattle.std.specs.Prelude.{◌≡◌, ℕ, ◌≤◌, ◌^◌, ℤ, List, [], ◌∷◌, ◌++◌, Bool, true, false, ◌||◌, ◌==◌, nat_le, IsTrue, Option, Some, None, is_some, codes, ◌⊎◌, if◌then◌else◌}
 use Rattle.std.specs.Bool.{nat_eq}
 use Rattle.std.specs.List.{flat_map, AllZip, starts_with}
 use Rattle.ca_plane.specs.Bytes.{is_blank, is_line_end, is_digit, is_end_or, front, rest, AreDigits, value}

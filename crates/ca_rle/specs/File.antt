@@ -1,5 +1,5 @@
 -- A whole extended RLE text: lines before the header, the header, and the items (Golly Help, File Formats: Extended RLE format).
-use Rattle.std.specs.Prelude.{◌≡◌, ℕ, ℤ, pos, List, [], ◌∷◌, ◌++◌, not, IsTrue, Option, Some, None, unwrap_or, is_some, true, codes, ◌⊎◌}
+use Rattle.std.specs.Prelude.{◌≡◌, ℕ, pos, List, [], ◌∷◌, ◌++◌, not, IsTrue, Option, unwrap_or, is_some, true, codes, ◌⊎◌}
 use Rattle.std.specs.List.{flat_map, AllZip, AllByRecursion}
 use Rattle.ca_plane.specs.declared.point.Point.{Point}
 use Rattle.ca_plane.specs.Bytes.{is_line_end, is_end_or, Every}

@@ -1,6 +1,6 @@
 -- The first form: the few RLE texts that are read until the whole format is. It goes out with the whole reader.
-use Rattle.std.specs.Prelude.{◌≡◌, ℕ, ◌≤◌, ◌<◌, pos, List, [], ◌∷◌, ◌++◌, length, ◌≢◌, Option, Some, codes, ◌⊎◌}
-use Rattle.ca_plane.specs.Bytes.{AreDigits, IsWord, value, is_digit}
+use Rattle.std.specs.Prelude.{◌≡◌, ℕ, ◌≤◌, pos, List, [], ◌∷◌, ◌++◌, length, ◌≢◌, codes, ◌⊎◌}
+use Rattle.ca_plane.specs.Bytes.{AreDigits, IsWord, value}
 use Rattle.ca_rle.specs.declared.item.Item.{Item}
 use Rattle.ca_rle.specs.declared.item.Tag.{Tag}
 use Rattle.ca_rle.specs.declared.item.Tag.TheVariants.{Cell, RowEnd}

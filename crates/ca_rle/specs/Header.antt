@@ -1,9 +1,9 @@
 -- The header line of an RLE text, and the lines before it (Golly Help, File Formats: Extended RLE format).
-use Rattle.std.specs.Prelude.{◌≡◌, ℕ, ◌<◌, ◌^◌, ℤ, List, [], ◌∷◌, ◌++◌, Bool, false, not, ◌==◌, IsTrue, Option, Some, None, codes, ◌⊎◌, if◌then◌else◌}
+use Rattle.std.specs.Prelude.{◌≡◌, ℕ, ◌<◌, ◌^◌, ℤ, List, [], ◌∷◌, ◌++◌, Bool, false, ◌==◌, IsTrue, Option, Some, None, codes, ◌⊎◌, if◌then◌else◌}
 use Rattle.std.specs.Str.{bytes_eq}
-use Rattle.std.specs.List.{list_any, starts_with}
+use Rattle.std.specs.List.{starts_with}
 use Rattle.std.specs.Bool.{nat_eq}
-use Rattle.ca_plane.specs.Bytes.{is_blank, is_line_end, Every, AreDigits, IsInteger, IsWord, value, rest, is_end_or, words_of, without_cr}
+use Rattle.ca_plane.specs.Bytes.{is_blank, Every, AreDigits, IsInteger, IsWord, value, rest, is_end_or, words_of, without_cr}
 
 -- a part of a header: these very bytes, or a number
 pub data Part : Type 0 where

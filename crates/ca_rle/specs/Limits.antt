@@ -1,5 +1,5 @@
 -- The limits of an RLE text (our own): what is out of range, and how many live cells are too many.
-use Rattle.std.specs.Prelude.{ℕ, ◌<◌, ◌≤◌, ◌^◌, ℤ, ◌≤ℤ◌, ◌<ℤ◌, pos, neg_ℤ, length}
+use Rattle.std.specs.Prelude.{◌<◌, ◌≤◌, ◌^◌, ◌≤ℤ◌, ◌<ℤ◌, pos, neg_ℤ, length}
 use Rattle.std.specs.List.{AllByRecursion}
 use Rattle.ca_plane.specs.declared.point.Point.{Point}
 use Rattle.ca_rle.specs.File.{File}

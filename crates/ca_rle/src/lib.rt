@@ -3,6 +3,7 @@
 
 mod fault;
 mod item;
+pub mod laws;
 
 pub use fault::RleFault;
 pub use item::{Item, Tag};

@@ -1,0 +1,121 @@
+-- The item at the front of bytes as a function, and that it is each item that stands there.
+use Rattle.std.proofs.Common.{◌≡◌, ℕ, ◌<◌, ◌⊎◌, inl, inr, Bool, true, false, cond, not, IsTrue, List, [], ◌∷◌, ◌++◌, Option, Some, None, refl, sym, ap, ◌∙◌, append_assoc, arith}
+use Rattle.std.specs.List.{list_all}
+use Rattle.std.proofs.lemmas.Bool.{and_parts}
+use Rattle.std.proofs.lemmas.Bool.Decides.{nat_tests}
+use Rattle.ca_plane.specs.Bytes.{is_digit, is_end_or, front, rest, value, AreDigits}
+use Rattle.ca_rle.specs.declared.item.Item.{Item}
+use Rattle.ca_rle.specs.declared.item.Tag.{Tag}
+use Rattle.ca_rle.specs.Items.{InLine, IsWhite, is_prefix, tag_of, IsCount, IsItem, IsEnd}
+use Rattle.ca_rle.specs.Faults.{behind_white}
+use Rattle.ca_rle.proofs.Passing.{front_is, rest_is}
+use Rattle.ca_rle.proofs.White.{Stops, Stops_above, behind_white_is, IsWhite-append, no_digit_behind}
+
+-- ---- tags
+
+chosen : {A : Type 0} (b : Bool) (x y z : A) → cond b x y ≡ z → ((b ≡ true) × (x ≡ z)) ⊎ ((b ≡ false) × (y ≡ z))
+chosen true x y z e = inl (refl, e)
+chosen false x y z e = inr (refl, e)
+
+-- the first byte of a tag ends white space, and is no digit
+pub tag_byte : (b : ℕ) (bs : List ℕ) (t : Tag) → tag_of (b ∷ bs) ≡ Some t → (35 < b) × ((b < 48) ⊎ (57 < b))
+tag_byte b [] t e = grind (arith, nat_tests)
+tag_byte p (b ∷ []) t e = grind (arith, nat_tests)
+tag_byte p (b ∷ c ∷ bs) t e = absurd cc
+
+abbrev pub with_rest : Option Tag → List ℕ → Option (Tag × List ℕ)
+with_rest None more = None
+with_rest (Some t) more = Some (t, more)
+
+-- the tag at the front, and the bytes behind it
+abbrev pub tag_at : List ℕ → Option (Tag × List ℕ)
+tag_at [] = None
+tag_at (b ∷ []) = with_rest (tag_of (b ∷ [])) []
+tag_at (b ∷ c ∷ bs) = cond (is_prefix b) (with_rest (tag_of (b ∷ c ∷ [])) bs) (with_rest (tag_of (b ∷ [])) (c ∷ bs))
+
+one_letter : (b : ℕ) (t : Tag) → tag_of (b ∷ []) ≡ Some t → is_prefix b ≡ false
+one_letter b t e = grind (arith, nat_tests)
+
+two_letters : (p b : ℕ) (t : Tag) → tag_of (p ∷ b ∷ []) ≡ Some t → is_prefix p ≡ true
+two_letters p b t e = grind (arith, nat_tests)
+
+-- no tag's letters begin another's
+pub tag_at_is : (letters more : List ℕ) (t : Tag) → tag_of letters ≡ Some t → tag_at (letters ++ more) ≡ Some (t, more)
+tag_at_is [] more t e = absurd cc
+tag_at_is (b ∷ []) [] t e = rw e
+tag_at_is (b ∷ []) (m ∷ more) t e = rw (one_letter b t e, e)
+tag_at_is (p ∷ b ∷ []) more t e = rw (e, two_letters p b t e)
+tag_at_is (p ∷ b ∷ c ∷ bs) more t e = absurd cc
+
+-- ---- items
+
+abbrev pub count_of : List ℕ → ℕ
+count_of [] = 1
+count_of (d ∷ ds) = value (d ∷ ds)
+
+abbrev pub counted : ℕ → Option (Tag × List ℕ) → Option (Item × List ℕ)
+counted n None = None
+counted n (Some t) = Some (record { count = n; tag = t.0 }, t.1)
+
+-- the item at the front, and the bytes behind it; its count may be 0
+abbrev pub item_at : List ℕ → Option (Item × List ℕ)
+item_at bytes = counted (count_of (front is_digit (behind_white InLine bytes))) (tag_at (behind_white InLine (rest is_digit (behind_white InLine bytes))))
+
+-- the bytes of an item, taken apart, and what stands behind them
+pub record Parts (bytes : List ℕ) (digits letters more : List ℕ) : Type 0 where
+  pub digits_are : front is_digit (behind_white InLine bytes) ≡ digits
+  pub letters_are : behind_white InLine (rest is_digit (behind_white InLine bytes)) ≡ letters ++ more
+
+-- behind white space stands the tag
+behind_is_tag : (white letters more : List ℕ) (t : Tag) → IsWhite white → tag_of letters ≡ Some t → behind_white InLine (white ++ (letters ++ more)) ≡ letters ++ more
+behind_is_tag white [] more t w e = absurd cc
+behind_is_tag white (b ∷ bs) more t w e = behind_white_is InLine white b (bs ++ more) (Stops_above b (tag_byte b bs t e).0) w
+
+-- a tag begins with no digit
+no_digit_tag : (letters more : List ℕ) (t : Tag) → tag_of letters ≡ Some t → IsTrue (is_end_or (λ b. not (is_digit b)) (letters ++ more))
+no_digit_tag [] more t e = absurd cc
+no_digit_tag (b ∷ bs) more t e = let h = (tag_byte b bs t e).1 in grind (arith, nat_tests)
+
+digit_stops : (d : ℕ) (ds : List ℕ) → AreDigits (d ∷ ds) → Stops d
+digit_stops d ds h = Stops_above d (let p = (and_parts (is_digit d) (list_all is_digit ds) h).0 in grind (arith, nat_tests))
+
+pub item_parts : (before digits between letters more : List ℕ) (n : ℕ) (t : Tag) → IsWhite before → IsCount digits n → IsWhite between → tag_of letters ≡ Some t
+    → Parts (before ++ (digits ++ (between ++ (letters ++ more)))) digits letters more
+item_parts before [] between letters more n t v c w e =
+    let seen : behind_white InLine (before ++ (between ++ (letters ++ more))) ≡ letters ++ more = ap (behind_white InLine) (sym (append_assoc before between (letters ++ more))) ∙ behind_is_tag (before ++ between) letters more t (IsWhite-append before between v w) e in
+    let ends = no_digit_tag letters more t e in
+    record {
+      digits_are = rw seen (front_is is_digit [] (letters ++ more) refl ends);
+      letters_are = rw (seen, rest_is is_digit [] (letters ++ more) refl ends) (behind_is_tag [] letters more t refl e);
+    }
+item_parts before (d ∷ ds) between letters more n t v c w e =
+    let seen : behind_white InLine (before ++ (d ∷ ds ++ (between ++ (letters ++ more)))) ≡ d ∷ ds ++ (between ++ (letters ++ more)) = behind_white_is InLine before d (ds ++ (between ++ (letters ++ more))) (digit_stops d ds c.0) v in
+    let ends = no_digit_behind between (letters ++ more) w (no_digit_tag letters more t e) in
+    record {
+      digits_are = rw seen (front_is is_digit (d ∷ ds) (between ++ (letters ++ more)) c.0 ends);
+      letters_are = rw (seen, rest_is is_digit (d ∷ ds) (between ++ (letters ++ more)) c.0 ends) (behind_is_tag between letters more t w e);
+    }
+
+count_is : (digits : List ℕ) (n : ℕ) → IsCount digits n → count_of digits ≡ n
+count_is [] n c = sym c
+count_is (d ∷ ds) n c = sym c.1
+
+regroup : (before digits between letters more : List ℕ) → (before ++ (digits ++ (between ++ letters))) ++ more ≡ before ++ (digits ++ (between ++ (letters ++ more)))
+regroup before digits between letters more = simp append_assoc
+
+-- an item is read as itself, whatever stands behind it
+pub item_at_is : (bytes more : List ℕ) (i : Item) → IsItem bytes i → item_at (bytes ++ more) ≡ Some (i, more)
+item_at_is bytes more i (before, digits, between, letters, v, c, w, e, spelled) =
+    let parts = item_parts before digits between letters more i.count i.tag v c w e in
+    let whole : bytes ++ more ≡ before ++ (digits ++ (between ++ (letters ++ more))) = ap (λ (l : List ℕ). l ++ more) spelled ∙ regroup before digits between letters more in
+    ap item_at whole ∙ rw (parts.digits_are, parts.letters_are, count_is digits i.count c, tag_at_is letters more i.tag e) refl
+
+no_tag_at_end : (ignored : List ℕ) → tag_at (33 ∷ ignored) ≡ None
+no_tag_at_end [] = refl
+no_tag_at_end (b ∷ bs) = refl
+
+-- at the end of a pattern no item is read
+pub no_item_at_end : (bytes : List ℕ) → IsEnd bytes → item_at bytes ≡ None
+no_item_at_end bytes (before, ignored, w, spelled) =
+    let seen : behind_white InLine (before ++ 33 ∷ ignored) ≡ 33 ∷ ignored = behind_white_is InLine before 33 ignored (record { no_line_end = refl; no_blank = refl; no_hash = refl }) w in
+    ap item_at spelled ∙ rw (seen, no_tag_at_end ignored)
