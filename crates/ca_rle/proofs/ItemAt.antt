@@ -13,10 +13,6 @@ use Rattle.ca_rle.proofs.White.{Stops, Stops_above, behind_white_is, IsWhite-app
 
 -- ---- tags
 
-chosen : {A : Type 0} (b : Bool) (x y z : A) → cond b x y ≡ z → ((b ≡ true) × (x ≡ z)) ⊎ ((b ≡ false) × (y ≡ z))
-chosen true x y z e = inl (refl, e)
-chosen false x y z e = inr (refl, e)
-
 -- the first byte of a tag ends white space, and is no digit
 pub tag_byte : (b : ℕ) (bs : List ℕ) (t : Tag) → tag_of (b ∷ bs) ≡ Some t → (35 < b) × ((b < 48) ⊎ (57 < b))
 tag_byte b [] t e = grind (arith, nat_tests)

@@ -1,5 +1,5 @@
 -- Bytes that pass a test, joined and in front of others.
-use Rattle.std.proofs.Common.{◌≡◌, ℕ, Bool, true, not, IsTrue, List, [], ◌∷◌, ◌++◌, refl, sym, ap, ◌∙◌}
+use Rattle.std.proofs.Common.{◌≡◌, ℕ, Bool, true, false, cond, not, IsTrue, List, [], ◌∷◌, ◌++◌, refl, sym, ap, ◌∙◌}
 use Rattle.std.specs.List.{list_all}
 use Rattle.std.proofs.lemmas.Bool.{and_parts, and_from, not-true}
 use Rattle.ca_plane.specs.Bytes.{Every, front, rest, is_end_or, is_digit, is_word_byte, AreDigits, IsWord}
@@ -42,3 +42,20 @@ Every-digits (d ∷ ds) h = h
 pub Every-word : (word : List ℕ) → IsWord word → Every is_word_byte word
 Every-word [] h = refl
 Every-word (b ∷ bs) h = h
+
+-- bytes are their front and the rest of them
+pub front_rest : (test : ℕ → Bool) (bytes : List ℕ) → bytes ≡ front test bytes ++ rest test bytes
+front_rest test [] = refl
+front_rest test (b ∷ bs) =
+    elim (test b) as (λ v. b ∷ bs ≡ cond v (b ∷ front test bs) [] ++ cond v (rest test bs) (b ∷ bs)) [
+      | true ↦ ap (λ (l : List ℕ). b ∷ l) (front_rest test bs)
+      | false ↦ refl
+    ]
+
+front_step : (test : ℕ → Bool) (b : ℕ) (passed : List ℕ) (v : Bool) → test b ≡ v → Every test passed → Every test (cond v (b ∷ passed) [])
+front_step test b passed true e h = and_from (test b) (list_all test passed) e h
+front_step test b passed false e h = refl
+
+pub Every-front : (test : ℕ → Bool) (bytes : List ℕ) → Every test (front test bytes)
+Every-front test [] = refl
+Every-front test (b ∷ bs) = front_step test b (front test bs) (test b) refl (Every-front test bs)
