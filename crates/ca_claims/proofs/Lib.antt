@@ -1,1 +1,2 @@
 pub mod Stills
+pub mod PathLists

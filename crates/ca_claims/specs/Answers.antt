@@ -1,5 +1,5 @@
 -- True answers: what a yes, a no and a refusal say of the files that were handed in.
-use Rattle.std.specs.Prelude.{◌≡◌, ℕ, List, Option, Some, None}
+use Rattle.std.specs.Prelude.{◌≡◌, ℕ, List, Some, None}
 use Rattle.std.specs.List.{AllZip}
 use Rattle.ca_plane.specs.Plane.{Picture}
 use Rattle.ca_rule.specs.declared.bs_rule.BsRule.{BsRule}

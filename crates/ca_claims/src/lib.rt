@@ -1,11 +1,13 @@
 //! Claims about the patterns of files: the text that makes them, and the verdict on each.
 #![tactic(auto)]
 
+mod claims;
 mod fault;
 mod file;
 mod still;
 mod verdict;
 
+pub use claims::Claims;
 pub use fault::ClaimFault;
 pub use file::File;
 pub use verdict::{Answer, Cause, Verdict, Why};

@@ -1,0 +1,74 @@
+//! Claim texts, and what they ask.
+
+ghost use Rattle.std.specs.Prelude.{◌≡◌, ◌≢◌, ℕ, ◌<◌, List, Option, Some, slice_get, length, MatchOption, IfOk, IfErr};
+ghost use Rattle.ca_claims.specs.Text.{Line, IsClaimText, asked_by, pattern_of};
+ghost use Rattle.ca_claims.specs.TextFaults.{IsFirstFault};
+ghost use Rattle.ca_claims.specs.Lines.{numbered, pattern_index, claim_at};
+
+mod line;
+mod paths;
+
+pub(crate) use line::{ClaimKind, ClaimLine};
+use paths::Paths;
+use crate::ClaimFault;
+use std::alloc::Global;
+use std::marker::Model;
+
+/// What a claim text asks: the paths of its files, each once, and its claims.
+#[derive(Drop)]
+pub struct Claims {
+    paths: Paths,
+    claims: Vec<ClaimLine>,
+}
+
+impl Model for Claims {
+    ghost use Rattle.std.specs.Prelude.{◌<◌, length, map, All};
+    ghost use Rattle.ca_claims.specs.Text.{Asked};
+    ghost use Rattle.ca_claims.specs.Lines.{numbered, pattern_index};
+
+    ghost Value = { Asked };
+
+    ghost view = { λ c. record { paths = c.paths; claims = map (numbered c.paths) c.claims.items } };
+
+    ghost invariant = { λ c. All (λ l. pattern_index l.claim < length c.paths) c.claims.items };
+}
+
+impl Claims {
+    /// The number of paths that the text names. Each is counted once.
+    pub fn path_count(&self) -> usize
+        ensures { result ≡ length self.now.paths }
+    {
+        self.paths.len()
+    }
+
+    /// The path with this index, counted from 0 in the order in which the text first names them.
+    pub fn path(&self, index: usize) -> &[u8]
+        requires { index < length self.now.paths }
+        ensures { slice_get self.now.paths index ≡ Some result.now }
+    {
+        self.paths.path(index)
+    }
+
+    /// The index of the path, where the text names it.
+    pub(crate) fn index_of_path(&self, path: &[u8]) -> Option<usize>
+        ensures { MatchOption result ((i : ℕ) → slice_get self.now.paths i ≢ Some path.now) (λ i. slice_get self.now.paths i ≡ Some path.now) }
+    {
+        self.paths.index_of(path)
+    }
+
+    /// The number of claims.
+    pub(crate) fn claim_count(&self) -> usize
+        ensures { result ≡ length self.now.claims }
+    {
+        self.claims.len()
+    }
+
+    /// The claim with this index, counted from 0 in the order of the lines.
+    pub(crate) fn claim(&self, index: usize) -> ClaimLine
+        requires { index < length self.now.claims }
+        ensures claim { slice_get self.now.claims index ≡ Some (numbered self.now.paths result) }
+        ensures path { slice_get self.now.paths (pattern_index result.claim) ≡ Some (pattern_of (claim_at self.now.paths result.claim)) }
+    {
+        self.claims[index]
+    }
+}
