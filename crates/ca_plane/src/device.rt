@@ -1,6 +1,6 @@
 //! Readers and writers that count their failures, and texts sent to a writer.
 
-ghost use Rattle.std.specs.Prelude.{◌≡◌, ℕ, ◌<◌, List, length, OnOk, OnErr, IfOk, IfErr};
+ghost use Rattle.std.specs.Prelude.{◌≡◌, ℕ, ◌<◌, List, [], length, IsOk, OnOk, OnErr, IfOk, IfErr};
 ghost use Rattle.std.specs.Io.{ReadsAtMost, WritesAtMost};
 ghost use Rattle.std.specs.Io.KnownBytes.{Appends, ReadConsumes, WriteAppends};
 ghost use Rattle.ca_plane.specs.Device.{Rises, AppendsPrefix};
@@ -51,10 +51,10 @@ impl<R: Read> Dev<R> {
         ensures kept { OnOk result (self.new.failures ≡ self.old.failures) }
         ensures counted { OnErr result (Rises self.old.failures self.new.failures) }
     {
-        let Ok(count) = self.inner.read(buffer) else {
-            return Err(self.failed());
-        };
-        Ok(count)
+        match self.inner.read(buffer) {
+            Ok(count) => Ok(count),
+            Err(_) => Err(self.failed()),
+        }
     }
 }
 
@@ -85,6 +85,7 @@ impl<W: Write> Dev<W> {
 pub fn send<W: Write>(device: &mut Dev<W>, bytes: &[u8]) -> Result<(), WriteFault>
     ensures all { OnOk result (Appends (W.contents device.old.inner) (W.contents device.new.inner) bytes.now) }
     ensures kept { OnOk result (device.new.failures ≡ device.old.failures) }
+    ensures nothing { bytes.now ≡ [] → IsOk result }
     ensures fault { IfErr result (λ e. e ≡ WriteFault.Write) }
     ensures counted { OnErr result (Rises device.old.failures device.new.failures) }
     ensures front { OnErr result (AppendsPrefix (W.contents device.old.inner) (W.contents device.new.inner) bytes.now) }
