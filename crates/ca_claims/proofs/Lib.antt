@@ -1,2 +1,3 @@
 pub mod Stills
 pub mod PathLists
+pub mod LineWords

@@ -7,6 +7,7 @@ ghost use Rattle.ca_claims.specs.Lines.{numbered, pattern_index, claim_at};
 
 mod line;
 mod paths;
+mod words;
 
 pub(crate) use line::{ClaimKind, ClaimLine};
 use paths::Paths;

@@ -1,0 +1,28 @@
+use Rattle.std.proofs.Common.{◌≡◌, [], ◌∷◌, not, sym, ap, ◌∙◌}
+use Rattle.std.specs.List.{list_all}
+use Rattle.ca_plane.specs.Bytes.{is_line_end, lines_of}
+use Rattle.ca_plane.proofs.Fronts.{every_front}
+use Rattle.std.proofs.lemmas.List.{nil_from_length}
+use Rattle.ca_claims.proofs.LineWords.{line_before, line_alone, fewer}
+use Rattle.ca_claims.proofs.claims.words.next_line.Goals as goal
+
+pub returns-in-Some-clause-lines : goal.returns-in-Some-clause-lines
+returns-in-Some-clause-lines c =
+    let e = c.split_line.ensures in
+    line_before c.args.bytes.now c.in-Some.field-0-0.now c.in-Some.later.now (sym e.rest ∙ c.in-Some.ensures.cases.0) ∙ ap (λ l. l ∷ lines_of c.in-Some.later.now) (sym e.front)
+
+pub returns-in-Some-clause-line : goal.returns-in-Some-clause-line
+returns-in-Some-clause-line c = ap (list_all (λ b. not (is_line_end b))) c.split_line.ensures.front ∙ every_front (λ b. not (is_line_end b)) c.args.bytes.now
+
+pub returns-in-Some-clause-shorter : goal.returns-in-Some-clause-shorter
+returns-in-Some-clause-shorter c =
+    fewer (λ b. not (is_line_end b)) c.args.bytes.now c.in-Some.field-0-0.now c.in-Some.later.now (sym c.split_line.ensures.rest ∙ c.in-Some.ensures.cases.0)
+
+pub returns-in-None-clause-lines : goal.returns-in-None-clause-lines
+returns-in-None-clause-lines c =
+    let e = c.split_line.ensures in
+    let none : c.split_line.result.1.now ≡ [] = nil_from_length c.split_line.result.1.now c.in-None.ensures.cases in
+    line_alone c.args.bytes.now c.requires (sym e.rest ∙ none) ∙ ap (λ l. l ∷ []) (sym e.front) ∙ ap (λ l. c.split_line.result.0.now ∷ lines_of l) (sym none)
+
+pub returns-in-None-clause-line : goal.returns-in-None-clause-line
+returns-in-None-clause-line c = ap (list_all (λ b. not (is_line_end b))) c.split_line.ensures.front ∙ every_front (λ b. not (is_line_end b)) c.args.bytes.now
