@@ -1,3 +1,6 @@
 pub mod Stills
 pub mod PathLists
 pub mod LineWords
+pub mod Judged
+pub mod Found
+pub mod Answered

@@ -1,18 +1,17 @@
 -- Where one generation keeps every cell round the live ones, it keeps every cell.
-use Rattle.std.proofs.Common.{◌≡◌, ℕ, ◌≤◌, List, [], ◌∷◌, length, get_or, Bool, true, false, refl, sym, ap, ◌∙◌, subst, ◌⊎◌, inl, inr, arith, Option, Some, None, MatchOption}
-use Rattle.std.specs.Prelude.{ℤ, pos, ◌+ℤ◌, ◌-ℤ◌, ◌≤ℤ◌, replicate}
-use Rattle.std.specs.List.{All, Contains}
+use Rattle.std.proofs.Common.{◌≡◌, ℕ, List, sym, ap, ◌∙◌, subst, ◌⊎◌, inl, inr, arith, Option, Some, None, MatchOption}
+use Rattle.std.specs.Prelude.{ℤ, pos, ◌+ℤ◌, ◌-ℤ◌, replicate}
+use Rattle.std.specs.List.{All}
 use Rattle.std.specs.Ordering.{int_eq}
 use Rattle.std.proofs.lemmas.Int.{ints}
 use Rattle.std.proofs.lemmas.Bool.{cases_eq, cases_Bool}
 use Rattle.std.proofs.lemmas.Bool.Decides.{Decides-int_eq}
 use Rattle.std.proofs.lemmas.List.Elements.{All-contains}
-use Rattle.ca_plane.specs.declared.point.Point.{Point}
 use Rattle.ca_plane.specs.Plane.{Picture, cell}
 use Rattle.ca_plane.specs.Generations.{around, after}
 use Rattle.ca_plane.proofs.Pictures.{Contains-cell}
 use Rattle.ca_claims.specs.declared.verdict.Why.{Why}
-use Rattle.ca_claims.specs.Near.{IsNear, IsKept, IsRowKept, IsKeptNear}
+use Rattle.ca_claims.specs.Near.{IsNear, IsKept, IsKeptNear}
 
 -- two numbers are the same or not
 cases_int : (a b : ℤ) → (a ≡ b) ⊎ (a ≡ b → ⊥)

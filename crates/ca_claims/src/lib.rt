@@ -6,8 +6,10 @@ mod fault;
 mod file;
 mod still;
 mod verdict;
+mod verifier;
 
 pub use claims::Claims;
 pub use fault::ClaimFault;
 pub use file::File;
 pub use verdict::{Answer, Cause, Verdict, Why};
+pub use verifier::verify;

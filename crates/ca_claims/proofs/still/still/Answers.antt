@@ -1,10 +1,10 @@
-use Rattle.std.proofs.Common.{rules, ◌≡◌, [], ◌++◌, sym, ◌∙◌, ap, subst}
+use Rattle.std.proofs.Common.{rules, ◌≡◌, ◌++◌, sym, ◌∙◌, ap, subst}
 use Rattle.std.specs.List.{All}
 use Rattle.std.proofs.lemmas.List.{append-nil}
 use Rattle.std.proofs.lemmas.List.Elements.{All-push}
-use Rattle.ca_plane.specs.Plane.{Picture, IsLive}
+use Rattle.ca_plane.specs.Plane.{IsLive}
 use Rattle.ca_plane.proofs.Pictures.{cells_so_far}
-use Rattle.ca_claims.specs.Near.{IsKeptNear, IsChanged}
+use Rattle.ca_claims.specs.Near.{IsKeptNear}
 use Rattle.ca_claims.proofs.Stills.{kept_everywhere}
 use Rattle.ca_claims.proofs.still.still.Goals as goal
 
