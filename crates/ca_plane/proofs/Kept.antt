@@ -1,5 +1,5 @@
 -- What a write makes of a sparse picture.
-use Rattle.std.proofs.Common.{◌≡◌, ◌≢◌, ℕ, ◌≤◌, List, [], map, Bool, ◌&&◌, sym, refl, ap, ◌∙◌, subst, arith, Option}
+use Rattle.std.proofs.Common.{◌≡◌, ◌≢◌, ℕ, ◌≤◌, List, map, Bool, ◌&&◌, sym, refl, ap, ◌∙◌, subst, arith, Option}
 use Rattle.std.specs.Prelude.{ℤ}
 use Rattle.std.specs.List.{All}
 use Rattle.std.specs.List.Sorted.{IsStrictlySortedBy}
@@ -9,7 +9,7 @@ use Rattle.std.specs.Map.{keys_of, remove_entry}
 use Rattle.std.specs.Option.{unwrap_or}
 use Rattle.std.specs.BTreeMap.{BTreeMap, is_at, insert_entry, Updates}
 use Rattle.std.proofs.lemmas.List.{get_or-map, length-map}
-use Rattle.std.proofs.lemmas.List.Elements.{All-map, All-nil}
+use Rattle.std.proofs.lemmas.List.Elements.{All-map}
 use Rattle.std.proofs.lemmas.Map.Views.{All-values-insert_entry, All-keys-insert_entry, All-map-remove_entry}
 use Rattle.ca_plane.specs.declared.point.Point.{Point}
 use Rattle.ca_plane.specs.Plane.{Picture}
@@ -41,11 +41,6 @@ IsSparse-remove_entry p q test sparse entries rising = record {
   places = All-from_map IsInPlane (λ e. e.0) q (rw entries (All-map-remove_entry test (λ e. e.0) IsInPlane p (All-map IsInPlane (λ e. e.0) p sparse.places)));
   rising = rising;
 }
-
--- the empty picture is sparse
-pub IsSparse-none : IsSparse []
-unfolding IsStrictlySortedBy
-IsSparse-none = record { states = All-nil _; places = All-nil _; rising = tt }
 
 -- points compare equal in either order
 is_at-tests : (at : Point) (x y : ℤ) → (int_eq y at.y && int_eq x at.x) ≡ is_at (point_cmp at) (record { y = y; x = x })

@@ -5,3 +5,4 @@ pub mod Lines
 pub mod Numbers
 pub mod Pictures
 pub mod Kept
+pub mod Same

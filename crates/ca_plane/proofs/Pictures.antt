@@ -14,7 +14,7 @@ use Rattle.std.specs.BTreeMap.{is_at}
 use Rattle.std.proofs.lemmas.Bool.{cases_eq, cond_both, cond-false, and_parts, false_from_ne_true}
 use Rattle.std.proofs.lemmas.Bool.Decides.{Decides-int_eq}
 use Rattle.std.proofs.lemmas.Cmp.{int_eq_equiv, int_cmp_total, then_total, on_total, eq_by_cmp_equiv, tied_itself}
-use Rattle.std.proofs.lemmas.List.Elements.{All-head, All-tail, All-contains, Contains-get_or}
+use Rattle.std.proofs.lemmas.List.Elements.{All-nil, All-head, All-tail, All-contains, Contains-get_or}
 use Rattle.std.proofs.lemmas.Map.Keys.{IsDistinct-from_sorted, sorted_head, sorted_tail}
 use Rattle.std.proofs.lemmas.Map.Lookups.{CmpEqualImpliesEq, exact_pairs, exact_signed}
 use Rattle.std.proofs.lemmas.Map.Views.{All-turn, Contains-from_lookup, lookup-from_Contains, tells_apart}
@@ -34,13 +34,18 @@ point_cmp_exact p q e =
     ap (λ (c : ℤ × ℤ). let at : Point = record { y = c.0; x = c.1 } in at) both
 
 -- a place passes a point's test exactly at the point
-place-from_true : (x y : ℤ) (at : Point) → (int_eq y at.y && int_eq x at.x) ≡ true → (y ≡ at.y) × (x ≡ at.x)
+pub place-from_true : (x y : ℤ) (at : Point) → (int_eq y at.y && int_eq x at.x) ≡ true → (y ≡ at.y) × (x ≡ at.x)
 place-from_true x y at e =
     let both = and_parts (int_eq y at.y) (int_eq x at.x) e in
     ((Decides-int_eq y at.y).0 both.0, (Decides-int_eq x at.x).0 both.1)
 
 int_eq-other : (x y : ℤ) (at : Point) → (y ≡ at.y → x ≡ at.x → ⊥) → (int_eq y at.y && int_eq x at.x) ≡ false
 int_eq-other x y at other = false_from_ne_true _ (λ e. let place = place-from_true x y at e in other place.0 place.1)
+
+-- the empty picture is sparse
+pub IsSparse-none : IsSparse []
+unfolding IsStrictlySortedBy
+IsSparse-none = record { states = All-nil _; places = All-nil _; rising = tt }
 
 -- a test decides alike between two states and between what look-ups found
 pub unwrap_or-cond : (s t : Bool) (v rest : ℕ) (w o : Option ℕ) → s ≡ t → v ≡ unwrap_or w 0 → rest ≡ unwrap_or o 0 → (if s then v else rest) ≡ unwrap_or (cond t w o) 0
@@ -198,7 +203,7 @@ point-same p q e f =
     let along : record { y = p.y; x = p.x } ≡ record { y = q.y; x = q.x } = cc in along
 
 -- no place is at two points of which one is below the other
-apart-Less : (p q : Point) (x y : ℤ) → point_cmp p q ≡ Less → (int_eq y p.y && int_eq x p.x) ≡ true → (int_eq y q.y && int_eq x q.x) ≡ true → ⊥
+pub apart-Less : (p q : Point) (x y : ℤ) → point_cmp p q ≡ Less → (int_eq y p.y && int_eq x p.x) ≡ true → (int_eq y q.y && int_eq x q.x) ≡ true → ⊥
 apart-Less p q x y less one two =
     let a = place-from_true x y p one in
     let b = place-from_true x y q two in
