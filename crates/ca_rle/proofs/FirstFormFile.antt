@@ -53,7 +53,7 @@ before_rule_is_spaced : (width height : List ℕ) → AreDigits width → AreDig
 before_rule_is_spaced width height w h =
     spaced (size_parts rule_parts)
     (([], codes "x") ∷ (codes " ", codes "=") ∷ (codes " ", width) ∷ ([], codes ",") ∷ (codes " ", codes "y") ∷ (codes " ", codes "=") ∷ (codes " ", height)
-        ∷ ([], codes ",") ∷ (codes " ", codes "rule") ∷ (codes " ", codes "=") ∷ [])
+    ∷ ([], codes ",") ∷ (codes " ", codes "rule") ∷ (codes " ", codes "=") ∷ [])
     (codes " ")
     ((refl, refl), ((refl, refl), ((refl, w), ((refl, refl), ((refl, refl), ((refl, refl), ((refl, h), ((refl, refl), ((refl, refl), ((refl, refl), tt))))))))))
     refl

@@ -1,10 +1,10 @@
 -- The item that is read at the front of bytes stands there, and items that are read one after another do.
-use Rattle.std.proofs.Common.{◌≡◌, ℕ, zero, suc, ◌<◌, ◌⊎◌, inl, inr, Bool, true, false, cond, not, ◌==◌, ◌||◌, IsTrue, List, [], ◌∷◌, ◌++◌, Option, Some, None, nat_lt, ltb-true, eqb-true, refl, sym, ap, ap₂, subst, ◌∙◌, append_assoc, arith}
+use Rattle.std.proofs.Common.{◌≡◌, ℕ, zero, suc, ◌<◌, ◌⊎◌, inl, inr, Bool, true, false, cond, ◌==◌, ◌||◌, IsTrue, List, [], ◌∷◌, ◌++◌, Option, Some, None, nat_lt, ltb-true, eqb-true, refl, sym, ap, ap₂, subst, ◌∙◌, append_assoc}
 use Rattle.std.proofs.lemmas.Option.{some_pair_parts, same_Some, none-some}
-use Rattle.ca_plane.specs.Bytes.{Every, is_blank, is_line_end, is_digit, is_end_or, front, rest, value, AreDigits}
+use Rattle.ca_plane.specs.Bytes.{Every, is_blank, is_line_end, is_digit, front, rest}
 use Rattle.ca_rle.specs.declared.item.Item.{Item}
 use Rattle.ca_rle.specs.declared.item.Tag.{Tag}
-use Rattle.ca_rle.specs.Items.{Place, AtStart, InLine, InComment, is_white_from, IsWhite, tag_of, is_prefix, IsCount, IsItem, Run, IsEnd, Items}
+use Rattle.ca_rle.specs.Items.{Place, AtStart, InLine, InComment, is_white_from, tag_of, is_prefix, IsCount, IsItem, Run, IsEnd, Items}
 use Rattle.ca_rle.specs.Faults.{behind_white}
 use Rattle.ca_rle.proofs.Passing.{front_rest, Every-front}
 use Rattle.ca_rle.proofs.ItemAt.{with_rest, tag_at, count_of, counted, item_at}
@@ -32,17 +32,17 @@ behind_follows AtStart (b ∷ bs) c more e =
     elim (chosen (is_line_end b || is_blank b) _ _ _ e) [
       | inl w ↦ byte_more AtStart AtStart b bs (c ∷ more) (λ l. rw w.0) (behind_follows AtStart bs c more w.1)
       | inr n ↦ elim (chosen (b == 35) _ _ _ n.1) [
-          | inl w ↦ byte_more AtStart InComment b bs (c ∷ more) (λ l. rw (n.0, w.0)) (behind_follows InComment bs c more w.1)
-          | inr here ↦ ([], refl, here.1)
-        ]
+        | inl w ↦ byte_more AtStart InComment b bs (c ∷ more) (λ l. rw (n.0, w.0)) (behind_follows InComment bs c more w.1)
+        | inr here ↦ ([], refl, here.1)
+      ]
     ]
 behind_follows InLine (b ∷ bs) c more e =
     elim (chosen (is_line_end b) _ _ _ e) [
       | inl w ↦ byte_more InLine AtStart b bs (c ∷ more) (λ l. rw w.0) (behind_follows AtStart bs c more w.1)
       | inr n ↦ elim (chosen (is_blank b) _ _ _ n.1) [
-          | inl w ↦ byte_more InLine InLine b bs (c ∷ more) (λ l. rw (n.0, w.0)) (behind_follows InLine bs c more w.1)
-          | inr here ↦ ([], refl, here.1)
-        ]
+        | inl w ↦ byte_more InLine InLine b bs (c ∷ more) (λ l. rw (n.0, w.0)) (behind_follows InLine bs c more w.1)
+        | inr here ↦ ([], refl, here.1)
+      ]
     ]
 behind_follows InComment (b ∷ bs) c more e =
     elim (chosen (is_line_end b) _ _ _ e) [
@@ -93,10 +93,11 @@ found_behind bytes (c ∷ cs) i more e h pos =
     let digits = front is_digit (c ∷ cs) in
     let letters = tag_found _ i.tag more read.0 in
     let inner = behind_follows InLine (rest is_digit (c ∷ cs)) letters.0 (letters.1 ++ more) letters.3 in
-    let whole : bytes ≡ outer.0 ++ (digits ++ (inner.0 ++ (letters.0 ∷ letters.1 ++ more))) = outer.2 ∙ ap (λ (l : List ℕ). outer.0 ++ l) (front_rest is_digit (c ∷ cs) ∙ ap (λ (l : List ℕ). digits ++ l) inner.2) in
-    (outer.0 ++ (digits ++ (inner.0 ++ letters.0 ∷ letters.1)),
-        (outer.0, digits, inner.0, letters.0 ∷ letters.1, outer.1, count_found digits i.count (Every-front is_digit (c ∷ cs)) read.1 pos, inner.1, letters.2, refl),
-        whole ∙ regroup outer.0 digits inner.0 (letters.0 ∷ letters.1) more)
+    let whole : bytes ≡ outer.0 ++ (digits ++ (inner.0 ++ (letters.0 ∷ letters.1 ++ more))) = outer.2 ∙ ap (λ (l : List ℕ). outer.0 ++ l) (front_rest is_digit (c ∷ cs) ∙ ap (λ (l : List ℕ). digits ++ l) inner.2) in (
+      outer.0 ++ (digits ++ (inner.0 ++ letters.0 ∷ letters.1)),
+      (outer.0, digits, inner.0, letters.0 ∷ letters.1, outer.1, count_found digits i.count (Every-front is_digit (c ∷ cs)) read.1 pos, inner.1, letters.2, refl),
+      whole ∙ regroup outer.0 digits inner.0 (letters.0 ∷ letters.1) more,
+    )
 
 -- the item that is read at the front stands there, if its count isn't 0
 pub item_found : (bytes : List ℕ) (i : Item) (more : List ℕ) → item_at bytes ≡ Some (i, more) → 0 < i.count → StandsBefore i bytes more

@@ -1,5 +1,5 @@
 -- The item at the front of bytes as a function, and that it is each item that stands there.
-use Rattle.std.proofs.Common.{◌≡◌, ℕ, ◌<◌, ◌⊎◌, inl, inr, Bool, true, false, cond, not, IsTrue, List, [], ◌∷◌, ◌++◌, Option, Some, None, refl, sym, ap, ◌∙◌, append_assoc, arith}
+use Rattle.std.proofs.Common.{◌≡◌, ℕ, ◌<◌, ◌⊎◌, true, false, cond, not, IsTrue, List, [], ◌∷◌, ◌++◌, Option, Some, None, refl, sym, ap, ◌∙◌, append_assoc, arith}
 use Rattle.std.specs.List.{list_all}
 use Rattle.std.proofs.lemmas.Bool.{and_parts}
 use Rattle.std.proofs.lemmas.Bool.Decides.{nat_tests}
@@ -32,7 +32,7 @@ tag_at (b ∷ c ∷ bs) = cond (is_prefix b) (with_rest (tag_of (b ∷ c ∷ [])
 one_letter : (b : ℕ) (t : Tag) → tag_of (b ∷ []) ≡ Some t → is_prefix b ≡ false
 one_letter b t e = grind (arith, nat_tests)
 
-two_letters : (p b : ℕ) (t : Tag) → tag_of (p ∷ b ∷ []) ≡ Some t → is_prefix p ≡ true
+pub two_letters : (p b : ℕ) (t : Tag) → tag_of (p ∷ b ∷ []) ≡ Some t → is_prefix p ≡ true
 two_letters p b t e = grind (arith, nat_tests)
 
 -- no tag's letters begin another's
@@ -61,6 +61,7 @@ item_at bytes = counted (count_of (front is_digit (behind_white InLine bytes))) 
 pub record Parts (bytes : List ℕ) (digits letters more : List ℕ) : Type 0 where
   pub digits_are : front is_digit (behind_white InLine bytes) ≡ digits
   pub letters_are : behind_white InLine (rest is_digit (behind_white InLine bytes)) ≡ letters ++ more
+  pub uncounted : digits ≡ [] → rest is_digit (behind_white InLine bytes) ≡ letters ++ more
 
 -- behind white space stands the tag
 behind_is_tag : (white letters more : List ℕ) (t : Tag) → IsWhite white → tag_of letters ≡ Some t → behind_white InLine (white ++ (letters ++ more)) ≡ letters ++ more
@@ -83,6 +84,7 @@ item_parts before [] between letters more n t v c w e =
     record {
       digits_are = rw seen (front_is is_digit [] (letters ++ more) refl ends);
       letters_are = rw (seen, rest_is is_digit [] (letters ++ more) refl ends) (behind_is_tag [] letters more t refl e);
+      uncounted = λ _. ap (rest is_digit) seen ∙ rest_is is_digit [] (letters ++ more) refl ends;
     }
 item_parts before (d ∷ ds) between letters more n t v c w e =
     let seen : behind_white InLine (before ++ (d ∷ ds ++ (between ++ (letters ++ more)))) ≡ d ∷ ds ++ (between ++ (letters ++ more)) = behind_white_is InLine before d (ds ++ (between ++ (letters ++ more))) (digit_stops d ds c.0) v in
@@ -90,13 +92,14 @@ item_parts before (d ∷ ds) between letters more n t v c w e =
     record {
       digits_are = rw seen (front_is is_digit (d ∷ ds) (between ++ (letters ++ more)) c.0 ends);
       letters_are = rw (seen, rest_is is_digit (d ∷ ds) (between ++ (letters ++ more)) c.0 ends) (behind_is_tag between letters more t w e);
+      uncounted = λ h. absurd cc;
     }
 
 count_is : (digits : List ℕ) (n : ℕ) → IsCount digits n → count_of digits ≡ n
 count_is [] n c = sym c
 count_is (d ∷ ds) n c = sym c.1
 
-regroup : (before digits between letters more : List ℕ) → (before ++ (digits ++ (between ++ letters))) ++ more ≡ before ++ (digits ++ (between ++ (letters ++ more)))
+pub regroup : (before digits between letters more : List ℕ) → (before ++ (digits ++ (between ++ letters))) ++ more ≡ before ++ (digits ++ (between ++ (letters ++ more)))
 regroup before digits between letters more = simp append_assoc
 
 -- an item is read as itself, whatever stands behind it
@@ -110,8 +113,10 @@ no_tag_at_end : (ignored : List ℕ) → tag_at (33 ∷ ignored) ≡ None
 no_tag_at_end [] = refl
 no_tag_at_end (b ∷ bs) = refl
 
--- at the end of a pattern no item is read
+-- at an end `!` stands behind white space
+pub end_behind : (bytes : List ℕ) → IsEnd bytes → (ignored : List ℕ) × (behind_white InLine bytes ≡ 33 ∷ ignored)
+end_behind bytes (before, ignored, w, spelled) = (ignored, ap (behind_white InLine) spelled ∙ behind_white_is InLine before 33 ignored (record { no_line_end = refl; no_blank = refl; no_hash = refl }) w)
+
+-- at an end no item is read
 pub no_item_at_end : (bytes : List ℕ) → IsEnd bytes → item_at bytes ≡ None
-no_item_at_end bytes (before, ignored, w, spelled) =
-    let seen : behind_white InLine (before ++ 33 ∷ ignored) ≡ 33 ∷ ignored = behind_white_is InLine before 33 ignored (record { no_line_end = refl; no_blank = refl; no_hash = refl }) w in
-    ap item_at spelled ∙ rw (seen, no_tag_at_end ignored)
+no_item_at_end bytes end = let e = end_behind bytes end in rw (e.1, no_tag_at_end e.0)

@@ -2,7 +2,12 @@ pub mod Passing
 pub mod White
 pub mod ItemAt
 pub mod OneList
+pub mod NoFault
 pub mod Found
+pub mod Spans
 pub mod Headers
 pub mod FirstFormFile
 pub mod OneFirstForm
+pub mod OneHeader
+pub mod OneFile
+pub mod FirstFormLimits

@@ -6,7 +6,7 @@ use Rattle.ca_rle.specs.Items.{IsItem, Run, IsEnd, Items}
 use Rattle.ca_rle.proofs.ItemAt.{item_at, item_at_is, no_item_at_end}
 
 -- no item stands where a pattern ends
-item_or_end : (bytes front more : List ℕ) (i : Item) → IsEnd bytes → IsItem front i → bytes ≡ front ++ more → ⊥
+pub item_or_end : (bytes front more : List ℕ) (i : Item) → IsEnd bytes → IsItem front i → bytes ≡ front ++ more → ⊥
 item_or_end bytes front more i end item e = none-some (i, more) (sym (no_item_at_end bytes end) ∙ ap item_at e ∙ item_at_is front more i item)
 
 -- two items at the front of the same bytes are one, and so is what stands behind them

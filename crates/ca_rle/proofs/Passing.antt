@@ -1,7 +1,7 @@
 -- Bytes that pass a test, joined and in front of others.
 use Rattle.std.proofs.Common.{◌≡◌, ℕ, Bool, true, false, cond, not, IsTrue, List, [], ◌∷◌, ◌++◌, refl, sym, ap, ◌∙◌}
-use Rattle.std.specs.List.{list_all}
-use Rattle.std.proofs.lemmas.Bool.{and_parts, and_from, not-true}
+use Rattle.std.specs.List.{list_all, list_any}
+use Rattle.std.proofs.lemmas.Bool.{and_parts, and_from, not-true, or_left, or_right}
 use Rattle.ca_plane.specs.Bytes.{Every, front, rest, is_end_or, is_digit, is_word_byte, AreDigits, IsWord}
 
 pub Every-append : (test : ℕ → Bool) (a b : List ℕ) → Every test a → Every test b → Every test (a ++ b)
@@ -59,3 +59,8 @@ front_step test b passed false e h = refl
 pub Every-front : (test : ℕ → Bool) (bytes : List ℕ) → Every test (front test bytes)
 Every-front test [] = refl
 Every-front test (b ∷ bs) = front_step test b (front test bs) (test b) refl (Every-front test bs)
+
+-- a byte among others that passes
+pub any_behind : (test : ℕ → Bool) (a : List ℕ) (c : ℕ) (b : List ℕ) → test c ≡ true → list_any test (a ++ c ∷ b) ≡ true
+any_behind test [] c b h = or_left (test c) (list_any test b) h
+any_behind test (d ∷ ds) c b h = or_right (test d) (list_any test (ds ++ c ∷ b)) (any_behind test ds c b h)

@@ -1,0 +1,159 @@
+use Rattle.std.proofs.Common.{◌≡◌, ℕ, List, [], ◌++◌, ◌∷◌, Some, None, inl, inr, lit<, lit≤, true≢false, false, IsTrue, ◌==◌, codes, refl, sym, ap, ◌∙◌}
+use Rattle.ca_rle.specs.Header.{size_parts}
+use Rattle.std.specs.List.{list_any}
+use Rattle.std.proofs.lemmas.List.{append_cancel_left}
+use Rattle.ca_plane.specs.Bytes.{is_line_end, is_end_or}
+use Rattle.ca_rle.specs.declared.item.Tag.TheVariants.{Cell}
+use Rattle.ca_rle.specs.File.{IsLine, IsHeaded}
+use Rattle.ca_rle.proofs.Found.{run_found}
+use Rattle.ca_rle.proofs.Passing.{any_behind}
+use Rattle.ca_rle.proofs.Headers.{parts_left, spaced_found, header_found, no_header}
+use Rattle.ca_rle.proofs.examples.worked_faults.Goals as goal
+
+-- a header without a rule in the first line
+plain_header : (header body : List ℕ) → IsLine header → parts_left (size_parts []) header ≡ Some [] → IsTrue (is_end_or is_line_end body) → IsHeaded (header ++ body) [] None body
+plain_header header body line h ends = record {
+  lines = [];
+  header = header;
+  preamble = record { each_is_line = tt; comments = tt; words = tt };
+  header_is_line = line;
+  header_is = inl (spaced_found (size_parts []) header h);
+  named = inr tt;
+  header_ends = ends;
+  spelled = refl;
+}
+
+-- a list that holds no comma isn't split by one
+no_comma : (bytes a b : List ℕ) → list_any (λ c. c == 44) bytes ≡ false → bytes ≡ a ++ 44 ∷ b → ⊥
+no_comma bytes a b n e = true≢false (sym (any_behind (λ c. c == 44) a 44 b refl) ∙ ap (list_any (λ c. c == 44)) (sym e) ∙ n)
+
+pub returns-clause-count : goal.returns-clause-count
+returns-clause-count c = inr (record {
+  said = [];
+  rule = None;
+  body = 10 ∷ codes "0b!";
+  items = [];
+  bad = 10 ∷ codes "0b!";
+  headed = plain_header (codes "x = 1, y = 1") (10 ∷ codes "0b!") refl refl refl;
+  good = refl;
+  fault_is = refl;
+})
+
+pub returns-clause-word : goal.returns-clause-word
+returns-clause-word c = inl (record {
+  lines = [];
+  said = [];
+  line = codes "#CXRLE Pos=1";
+  good = [];
+  good_said = [];
+  word = codes "Pos=1";
+  later = [];
+  more = 10 ∷ codes "x = 1, y = 1" ++ (10 ∷ codes "o!");
+  preamble = record { each_is_line = tt; comments = tt; words = tt };
+  line_is = refl;
+  comment = refl;
+  words = refl;
+  good_words = tt;
+  bad = inl (refl, λ x y says. no_comma (codes "1") says.0 says.1 refl (append_cancel_left (codes "Pos=") _ _ says.2));
+  line_ends = refl;
+  spelled = refl;
+})
+
+pub returns-clause-empty : goal.returns-clause-empty
+returns-clause-empty c = record {
+  lines = [];
+  said = [];
+  line = [];
+  more = [];
+  preamble = record { each_is_line = tt; comments = tt; words = tt };
+  line_is = refl;
+  no_header = no_header [] refl refl;
+  no_comment_or_last = inr (refl, ([], tt));
+  line_ends = refl;
+  spelled = refl;
+}
+
+pub returns-clause-comma : goal.returns-clause-comma
+returns-clause-comma c = record {
+  lines = [];
+  said = [];
+  line = codes "x = 3, y = 3,";
+  more = 10 ∷ codes "3o!";
+  preamble = record { each_is_line = tt; comments = tt; words = tt };
+  line_is = refl;
+  no_header = no_header (codes "x = 3, y = 3,") refl refl;
+  no_comment_or_last = inl refl;
+  line_ends = refl;
+  spelled = refl;
+}
+
+pub returns-clause-xlife : goal.returns-clause-xlife
+returns-clause-xlife c = record {
+  lines = codes "#r 23/3" ∷ [];
+  said = [];
+  header = codes "x = 1, y = 1";
+  body = 10 ∷ codes "o!";
+  xlife = codes "#r 23/3";
+  earlier = [];
+  others = [];
+  preamble = record { each_is_line = (refl, tt); comments = (refl, tt); words = tt };
+  is_xlife = ([], 32, codes "23/3", refl, refl, refl);
+  among = refl;
+  header_is_line = refl;
+  header_is = inl (spaced_found (size_parts []) (codes "x = 1, y = 1") refl);
+  header_ends = refl;
+  spelled = refl;
+}
+
+pub returns-clause-cut_off : goal.returns-clause-cut_off
+returns-clause-cut_off c = record {
+  said = [];
+  rule = None;
+  body = 10 ∷ codes "3o";
+  items = record { count = 3; tag = Cell 1 } ∷ [];
+  bad = [];
+  headed = plain_header (codes "x = 3, y = 1") (10 ∷ codes "3o") refl refl refl;
+  good = run_found (10 ∷ codes "3o") [] [] _ [] refl (lit< tt) refl;
+  fault_is = refl;
+}
+
+pub returns-clause-state : goal.returns-clause-state
+returns-clause-state c = record {
+  said = [];
+  rule = Some (codes "Star");
+  body = 10 ∷ codes "yP!";
+  items = [];
+  bad = 10 ∷ codes "yP!";
+  headed = record {
+    lines = [];
+    header = codes "x = 1, y = 1, rule = Star";
+    preamble = record { each_is_line = tt; comments = tt; words = tt };
+    header_is_line = refl;
+    header_is = header_found (codes "x = 1, y = 1, rule = Star") (codes "Star") [] refl refl refl;
+    named = inl refl;
+    header_ends = refl;
+    spelled = refl;
+  };
+  good = refl;
+  fault_is = refl;
+}
+
+pub returns-clause-generation : goal.returns-clause-generation
+returns-clause-generation c = record {
+  lines = [];
+  said = [];
+  line = codes "#CXRLE Gen=9223372036854775808";
+  good = [];
+  good_said = [];
+  word = codes "Gen=9223372036854775808";
+  later = [];
+  more = 10 ∷ codes "x = 1, y = 1" ++ (10 ∷ codes "o!");
+  preamble = record { each_is_line = tt; comments = tt; words = tt };
+  line_is = refl;
+  comment = refl;
+  words = refl;
+  good_words = tt;
+  bad = (codes "9223372036854775808", refl, refl, lit≤ tt);
+  line_ends = refl;
+  spelled = refl;
+}
