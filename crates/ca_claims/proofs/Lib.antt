@@ -4,3 +4,6 @@ pub mod LineWords
 pub mod Judged
 pub mod Found
 pub mod Answered
+pub mod Said
+pub mod ReadOn
+pub mod AllLines

@@ -1,14 +1,16 @@
 -- Lists of paths, and where a path stands in one.
-use Rattle.std.proofs.Common.{◌≡◌, ◌≢◌, ℕ, zero, suc, ◌<◌, ◌≤◌, ltb, Bool, true, ◌||◌, List, [], ◌∷◌, ◌++◌, map, slice_get, position, is_some, option_map, Option, None, Some, MatchOption, refl, sym, ap, ◌∙◌, length, arith, inl, inr}
+use Rattle.std.proofs.Common.{◌≡◌, ◌≢◌, ℕ, zero, suc, ◌<◌, ◌≤◌, ltb, Bool, true, false, not, ◌||◌, List, [], ◌∷◌, ◌++◌, map, filter, slice_get, position, is_some, option_map, Option, None, Some, MatchOption, refl, sym, ap, ◌∙◌, length, length-append, arith, inl, inr}
 use Rattle.std.specs.List.{list_any, position_or_len}
 use Rattle.std.specs.Str.{bytes_eq}
 use Rattle.std.proofs.lemmas.Bool.{cases_Bool, false≢true, ltb-true, or_left, or_right}
 use Rattle.std.proofs.lemmas.Option.{same_Some, none-some, slice_get-map, slice_get_cases, cond_some}
 use Rattle.std.proofs.lemmas.Slice.Eq.{bytes_eq-Decides}
-use Rattle.std.proofs.lemmas.List.{map-append}
+use Rattle.std.proofs.lemmas.List.{map-append, append-nil}
+use Rattle.std.proofs.lemmas.List.Elements.{filter-append}
 use Rattle.std.proofs.lemmas.List.Quantifiers.{position-Some}
 use Rattle.indexmap.specs.IndexSet.{insert_key}
 use Rattle.ca_claims.specs.Reading.{with_path}
+use Rattle.ca_claims.specs.Text.{each_once}
 
 -- bytes are equal to themselves
 pub bytes_eq_self : (xs : List ℕ) → bytes_eq xs xs ≡ true
@@ -24,6 +26,69 @@ there (p ∷ ps) path (suc i) h = or_right (bytes_eq path p) (list_any (bytes_eq
 -- and isn't put again
 pub with_path_there : (paths : List (List ℕ)) (path : List ℕ) (i : ℕ) → slice_get paths i ≡ Some path → with_path paths path ≡ paths
 with_path_there paths path i h = rw (there paths path i h) refl
+
+-- a filter takes away what is equal to x
+none_left : (p x : List ℕ) (es : List (List ℕ)) → bytes_eq p x ≡ true → filter (λ q. not (bytes_eq q x)) (with_path es p) ≡ filter (λ q. not (bytes_eq q x)) es
+none_left p x es e =
+    let gone : filter (λ q. not (bytes_eq q x)) (p ∷ []) ≡ [] = rw e refl in
+    elim (cases_Bool (list_any (bytes_eq p) es)) [
+        inl here ↦ rw here refl
+      | inr new ↦ rw new (filter-append (λ q. not (bytes_eq q x)) es (p ∷ []) ∙ ap (λ l. filter (λ q. not (bytes_eq q x)) es ++ l) gone ∙ append-nil (filter (λ q. not (bytes_eq q x)) es))
+      ]
+
+-- a path other than x is among these where it is among those other than x
+kept_there : (p x : List ℕ) (es : List (List ℕ)) → bytes_eq p x ≡ false → list_any (bytes_eq p) (filter (λ q. not (bytes_eq q x)) es) ≡ list_any (bytes_eq p) es
+kept_there p x [] e = refl
+kept_there p x (q ∷ es) e =
+    let later = kept_there p x es e in
+    elim (cases_Bool (bytes_eq q x)) [
+        inl same ↦
+            let other : bytes_eq p q ≡ false = ap (bytes_eq p) ((bytes_eq-Decides q x).0 same) ∙ e in
+            rw (same, other) later
+      | inr apart ↦ rw apart (ap (λ b. bytes_eq p q || b) later)
+      ]
+
+-- and is put behind those other than x
+put_behind : (p x : List ℕ) (es : List (List ℕ)) → bytes_eq p x ≡ false → filter (λ q. not (bytes_eq q x)) (with_path es p) ≡ with_path (filter (λ q. not (bytes_eq q x)) es) p
+put_behind p x es e =
+    let stays : filter (λ q. not (bytes_eq q x)) (p ∷ []) ≡ p ∷ [] = rw e refl in
+    let same = kept_there p x es e in
+    elim (cases_Bool (list_any (bytes_eq p) es)) [
+        inl here ↦ rw (same, here) refl
+      | inr new ↦ rw (same, new) (filter-append (λ q. not (bytes_eq q x)) es (p ∷ []) ∙ ap (λ l. filter (λ q. not (bytes_eq q x)) es ++ l) stays)
+      ]
+
+-- a path equal to the first is there
+with_first : (p x : List ℕ) (es : List (List ℕ)) → bytes_eq p x ≡ true → with_path (x ∷ es) p ≡ x ∷ es
+with_first p x es e = rw e refl
+
+-- any other is put behind the first as behind the others
+with_other : (p x : List ℕ) (es : List (List ℕ)) → bytes_eq p x ≡ false → with_path (x ∷ es) p ≡ x ∷ with_path es p
+with_other p x es e = elim (cases_Bool (list_any (bytes_eq p) es)) [ inl here ↦ rw (e, here) refl | inr new ↦ rw (e, new) refl ]
+
+-- each once, after one more path
+pub each_once-push : (ps : List (List ℕ)) (p : List ℕ) → each_once (ps ++ p ∷ []) ≡ with_path (each_once ps) p
+each_once-push [] p = refl
+each_once-push (x ∷ xs) p =
+    let later = ap (λ l. x ∷ filter (λ q. not (bytes_eq q x)) l) (each_once-push xs p) in
+    elim (cases_Bool (bytes_eq p x)) [
+        inl e ↦ later ∙ ap (λ l. x ∷ l) (none_left p x (each_once xs) e) ∙ sym (with_first p x (filter (λ q. not (bytes_eq q x)) (each_once xs)) e)
+      | inr e ↦ later ∙ ap (λ l. x ∷ l) (put_behind p x (each_once xs) e) ∙ sym (with_other p x (filter (λ q. not (bytes_eq q x)) (each_once xs)) e)
+      ]
+
+-- paths keep their places where more come behind them
+stays_before : (paths more : List (List ℕ)) (i : ℕ) → i < length paths → slice_get (paths ++ more) i ≡ slice_get paths i
+stays_before [] more i h = absurd (omega arith)
+stays_before (p ∷ ps) more zero h = refl
+stays_before (p ∷ ps) more (suc i) h = stays_before ps more i (omega arith)
+
+-- the paths keep their places
+pub kept_place : (paths : List (List ℕ)) (path : List ℕ) (i : ℕ) → i < length paths → slice_get (with_path paths path) i ≡ slice_get paths i
+kept_place paths path i h = elim (cases_Bool (list_any (bytes_eq path) paths)) [ inl here ↦ rw here refl | inr new ↦ rw new (stays_before paths (path ∷ []) i h) ]
+
+-- and are no fewer
+pub no_fewer : (paths : List (List ℕ)) (path : List ℕ) → length paths ≤ length (with_path paths path)
+no_fewer paths path = elim (cases_Bool (list_any (bytes_eq path) paths)) [ inl here ↦ rw here (omega arith) | inr new ↦ rw new (omega (arith, length-append paths (path ∷ []))) ]
 
 module _ {K : Type 0} (items : K → List ℕ) (path : List ℕ) where
   -- a test of the items is a test of the keys

@@ -9,11 +9,14 @@ ghost use Rattle.ca_claims.specs.Lines.{numbered, pattern_index, claim_at};
 
 mod line;
 mod paths;
+mod reading;
 mod words;
 
 use crate::ClaimFault;
 pub(crate) use line::{ClaimKind, ClaimLine};
 use paths::Paths;
+pub use reading::read_claims;
+use crate::ClaimFault;
 use std::alloc::Global;
 use std::marker::Model;
 

@@ -1,0 +1,50 @@
+-- A claim text read to its end or to its first fault.
+use Rattle.std.proofs.Common.{◌≡◌, ℕ, ◌+◌, ◌<◌, ◌≤◌, List, [], ◌∷◌, ◌++◌, length, Option, sym, ap, ◌∙◌, append_assoc, arith}
+use Rattle.std.proofs.lemmas.List.{length_push}
+use Rattle.ca_plane.specs.Bytes.{lines_of, words_of}
+use Rattle.ca_claims.specs.declared.claims.reading.Reading.{Reading}
+use Rattle.ca_claims.specs.Text.{Line, LinesSay, spoken}
+use Rattle.ca_claims.specs.Reading.{IsReading, SaysNext}
+use Rattle.ca_claims.proofs.Said.{LinesSay-push, length_said}
+
+-- some lines of the text are read, and these bytes are left
+pub record IsBehind (bytes rest : List ℕ) (number : ℕ) (reading : Reading) : Type 0 where
+  pub done : List (List ℕ)
+  pub said : List (Option Line)
+  pub lines : lines_of bytes ≡ done ++ lines_of rest
+  pub good : LinesSay [] done said
+  pub read : IsReading said reading
+  pub counted : number ≡ length done
+  pub room : number + length rest ≤ length bytes
+
+module _ (bytes rest : List ℕ) (number : ℕ) (reading : Reading) (behind : IsBehind bytes rest number reading) where
+  -- each line has said something or nothing
+  number_said : number + 1 ≡ length behind.said + 1
+  number_said =
+      let said = length_said [] behind.done behind.said behind.good in
+      let counted = behind.counted in
+      omega arith
+
+  -- one more line is counted
+  more_counted : (line : List ℕ) → number + 1 ≡ length (behind.done ++ line ∷ [])
+  more_counted line = let counted = behind.counted in omega (arith, length_push behind.done line)
+
+  -- and the number of lines is at most that of bytes
+  more_room : (later : List ℕ) → length later < length rest → number + 1 + length later ≤ length bytes
+  more_room later shorter = let room = behind.room in omega arith
+
+  -- one more line
+  pub one_read : (line later : List ℕ) (after : Reading) → lines_of rest ≡ line ∷ lines_of later → length later < length rest
+      → ((said : List (Option Line)) → IsReading said reading → number + 1 ≡ length said + 1 → (s : Option Line) × SaysNext (spoken said) (words_of line) s × IsReading (said ++ s ∷ []) after)
+      → IsBehind bytes later (number + 1) after
+  one_read line later after next shorter says =
+      let s = says behind.said behind.read number_said in
+      record {
+        done = behind.done ++ line ∷ [];
+        said = behind.said ++ s.0 ∷ [];
+        lines = behind.lines ∙ ap (λ l. behind.done ++ l) next ∙ sym (append_assoc behind.done (line ∷ []) (lines_of later));
+        good = LinesSay-push [] behind.done behind.said line s.0 behind.good s.1;
+        read = s.2;
+        counted = more_counted line;
+        room = more_room later shorter
+      }

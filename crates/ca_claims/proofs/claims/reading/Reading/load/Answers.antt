@@ -1,0 +1,17 @@
+use Rattle.std.proofs.Common.{ℕ, List, ◌∷◌, [], ◌++◌, Some, slice_get, sym, ap, subst, ◌∙◌}
+use Rattle.std.proofs.lemmas.Map.Text.{hash_map_updates_str}
+use Rattle.ca_claims.specs.Text.{Load}
+use Rattle.ca_claims.specs.Reading.{IsRead, place_of}
+use Rattle.ca_claims.proofs.ReadOn.{on_ok_holds, none_from, read_load}
+use Rattle.ca_claims.proofs.claims.reading.Reading.load.Goals as goal
+
+pub returns-clause-loaded : goal.returns-clause-loaded
+returns-clause-loaded c = λ said read.
+    let name : List ℕ = c.args.name.now in
+    let path : List ℕ = c.args.path.now in
+    let old = c.args.self.now in
+    let new = none_from (place_of old.names name) (sym c.if-contains_key.ensures) in
+    let updates = on_ok_holds c.insert.result _ c.if-is_err.ensures.negation c.insert.ensures.updates in
+    let at = ap (λ l. slice_get l c.in-Ok.place) (sym c.in-Ok.ensures.paths) ∙ c.in-Ok.ensures.index in
+    let loaded = read_load said old.paths old.claims.items (place_of old.names) read name path c.in-Ok.place (place_of c.insert.new.self) new at (hash_map_updates_str name old.names c.insert.new.self _ updates) in
+    (loaded.0, subst (λ l. IsRead (said ++ Some (Load name path) ∷ []) l old.claims.items (place_of c.insert.new.self)) (sym c.in-Ok.ensures.paths) loaded.1)

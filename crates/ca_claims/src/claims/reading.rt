@@ -1,0 +1,116 @@
+//! A claim text read, a line at a time.
+
+ghost use Rattle.std.specs.Prelude.{◌≡◌, ℕ, ◌+◌, ◌∷◌, [], ◌++◌, List, Option, Some, None, not, codes, length, OnOk, IfOk, IfErr};
+ghost use Rattle.ca_plane.specs.Bytes.{Every, is_line_end, words_of};
+ghost use Rattle.ca_claims.specs.Text.{Line, Load, Claims as Claiming, Still as StillOf, IsAllowed, IsClaimText, spoken, asked_by};
+ghost use Rattle.ca_claims.specs.TextFaults.{IsFirstFault};
+ghost use Rattle.ca_claims.specs.Reading.{IsReading, SaysNext, HasFault};
+
+use super::paths::Paths;
+use super::words::{LineKind, line_kind, next_line};
+use super::{ClaimKind, ClaimLine, Claims};
+use crate::ClaimFault;
+use std::alloc::Global;
+use std::collections::HashMap;
+
+/// What the lines of a text have said so far.
+#[derive(Drop)]
+struct Reading<'a> {
+    paths: Paths,
+    claims: Vec<ClaimLine>,
+    names: HashMap<&'a [u8], usize>,
+}
+
+impl<'a> Reading<'a> {
+    /// Before the first line.
+    fn new(alloc: Global) -> Reading<'a>
+        ensures { IsReading [] result }
+    {
+        Reading {
+            paths: Paths::new(alloc),
+            claims: Vec::new(alloc),
+            names: HashMap::new(alloc),
+        }
+    }
+
+    /// The line with this number loads the name from the path.
+    fn load(
+        &mut self,
+        alloc: Global,
+        line: u64,
+        name: &'a [u8],
+        path: &[u8],
+    ) -> Result<(), ClaimFault>
+        ensures loaded { OnOk result ((said : List (Option Line)) → IsReading said self.old
+            → IsAllowed (spoken said) (Load name.now path.now)
+            × IsReading (said ++ Some (Load name.now path.now) ∷ []) self.new) }
+        ensures fault { IfErr result (λ f. (said : List (Option Line)) → IsReading said self.old
+            → HasFault line (spoken said) (codes "load" ∷ name.now ∷ path.now ∷ []) f) }
+    {
+        if self.names.contains_key(name) {
+            return Err(ClaimFault::NameTaken { line });
+        }
+        let Ok(place) = self.paths.put(alloc, path) else {
+            return Err(ClaimFault::Memory);
+        };
+        if self.names.insert(name, place).is_err() {
+            return Err(ClaimFault::Memory);
+        }
+        Ok(())
+    }
+
+    /// The line with this number claims that the pattern of the name is still.
+    fn still(&mut self, line: u64, name: &[u8]) -> Result<(), ClaimFault>
+        ensures claimed { OnOk result ((said : List (Option Line)) → IsReading said self.old → line ≡ length said + 1
+            → IsAllowed (spoken said) (Claiming (StillOf name.now))
+            × IsReading (said ++ Some (Claiming (StillOf name.now)) ∷ []) self.new) }
+        ensures fault { IfErr result (λ f. (said : List (Option Line)) → IsReading said self.old
+            → HasFault line (spoken said) (codes "still" ∷ name.now ∷ []) f) }
+    {
+        let Some(pattern) = self.names.get(name) else {
+            return Err(ClaimFault::UnknownName { line });
+        };
+        let claim = ClaimKind::Still { pattern: *pattern };
+        if self.claims.push(ClaimLine { line, claim }).is_err() {
+            return Err(ClaimFault::Memory);
+        }
+        Ok(())
+    }
+
+    /// The next line of the text, which has this number.
+    fn read(&mut self, alloc: Global, number: u64, line: &'a [u8]) -> Result<(), ClaimFault>
+        requires { Every (λ b. not (is_line_end b)) line.now }
+        ensures said { OnOk result ((said : List (Option Line)) → IsReading said self.old → number ≡ length said + 1
+            → (s : Option Line) × SaysNext (spoken said) (words_of line.now) s
+            × IsReading (said ++ s ∷ []) self.new) }
+        ensures fault { IfErr result (λ f. (said : List (Option Line)) → IsReading said self.old
+            → HasFault number (spoken said) (words_of line.now) f) }
+    {
+        match line_kind(line) {
+            LineKind::Skipped => Ok(()),
+            LineKind::Load { name, path } => self.load(alloc, number, name, path),
+            LineKind::Still { name } => self.still(number, name),
+            LineKind::Misspelled => Err(ClaimFault::Syntax { line: number }),
+        }
+    }
+}
+
+/// What the claim text asks, or its first fault.
+pub fn read_claims(alloc: Global, bytes: &[u8]) -> Result<Claims, ClaimFault>
+    ensures found { IfOk result (λ c. (said : List (Option Line)) × IsClaimText bytes.now said × (c ≡ asked_by said)) }
+    ensures fault { IfErr result (λ f. IsFirstFault bytes.now f) }
+{
+    let mut reading = Reading::new(alloc);
+    let mut rest = bytes;
+    let mut number: u64 = 0;
+    'lines: while !rest.is_empty() {
+        let (line, later) = next_line(rest);
+        number += 1;
+        reading.read(alloc, number, line)?;
+        rest = later;
+    }
+    Ok(Claims {
+        paths: reading.paths,
+        claims: reading.claims,
+    })
+}
