@@ -11,3 +11,11 @@ pub mod OneFirstForm
 pub mod OneHeader
 pub mod OneFile
 pub mod FirstFormLimits
+pub mod ShortNumbers
+pub mod ShortHeader
+pub mod Packed
+pub mod Bodies
+pub mod Runs
+pub mod Places
+pub mod Drawn
+pub mod FirstForms

@@ -3,8 +3,12 @@
 
 pub mod examples;
 mod fault;
+mod first_form;
 mod item;
 pub mod laws;
+mod pattern;
 
 pub use fault::RleFault;
+pub use first_form::{FirstFormFault, read_first_form};
 pub use item::{Item, Tag};
+pub use pattern::Pattern;
