@@ -16,7 +16,6 @@ use crate::ClaimFault;
 pub(crate) use line::{ClaimKind, ClaimLine};
 use paths::Paths;
 pub use reading::read_claims;
-use crate::ClaimFault;
 use std::alloc::Global;
 use std::marker::Model;
 
