@@ -1,5 +1,9 @@
+pub mod Stills
 pub mod PathLists
 pub mod LineWords
+pub mod Judged
+pub mod Found
+pub mod Answered
 pub mod Said
 pub mod ReadOn
 pub mod AllLines

@@ -1,6 +1,8 @@
 //! Claim texts, and what they ask.
 
 ghost use Rattle.std.specs.Prelude.{◌≡◌, ◌≢◌, ℕ, ◌<◌, List, Option, Some, slice_get, length, MatchOption, IfOk, IfErr};
+ghost use Rattle.std.specs.List.{IsDistinct};
+ghost use Rattle.std.specs.Str.{bytes_eq};
 ghost use Rattle.ca_claims.specs.Text.{Line, IsClaimText, asked_by, pattern_of};
 ghost use Rattle.ca_claims.specs.TextFaults.{IsFirstFault};
 ghost use Rattle.ca_claims.specs.Lines.{numbered, pattern_index, claim_at};
@@ -39,7 +41,8 @@ impl Model for Claims {
 impl Claims {
     /// The number of paths that the text names. Each is counted once.
     pub fn path_count(&self) -> usize
-        ensures { result ≡ length self.now.paths }
+        ensures count { result ≡ length self.now.paths }
+        ensures distinct { IsDistinct bytes_eq self.now.paths }
     {
         self.paths.len()
     }

@@ -1,6 +1,8 @@
 //! The paths of a claim text, each once, in the order in which they first appear.
 
 ghost use Rattle.std.specs.Prelude.{◌≡◌, ◌≢◌, ℕ, ◌<◌, [], Some, slice_get, length, IfOk, MatchOption};
+ghost use Rattle.std.specs.List.{IsDistinct};
+ghost use Rattle.std.specs.Str.{bytes_eq};
 ghost use Rattle.ca_claims.specs.Reading.{with_path};
 
 use indexmap::IndexSet;
@@ -33,7 +35,8 @@ impl Paths {
 
     /// The number of the paths.
     pub(crate) fn len(&self) -> usize
-        ensures { result ≡ length self.now }
+        ensures len { result ≡ length self.now }
+        ensures distinct { IsDistinct bytes_eq self.now }
     {
         self.set.len()
     }
