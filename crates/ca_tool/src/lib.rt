@@ -5,8 +5,10 @@ mod complaint;
 mod fault;
 mod printing;
 mod read;
+mod run;
 
 pub use complaint::complain;
 pub use fault::{Fault, InputFault, ToolFault};
 pub use printing::{lines, status};
 pub use read::{MAX_FILE, read_all};
+pub use run::verify_run;
