@@ -1,12 +1,12 @@
 -- A text's lines say one thing, or one of them is the first that is faulty.
-use Rattle.std.proofs.Common.{◌≡◌, ◌≢◌, ℕ, suc, ◌+◌, true, false, List, [], ◌∷◌, ◌++◌, length, Option, Some, None, IsSome, is_some, codes, ◌⊎◌, inl, inr, refl, sym, ap, subst, ◌∙◌, arith}
+use Rattle.std.proofs.Common.{◌≡◌, ◌≢◌, ℕ, suc, ◌+◌, List, [], ◌∷◌, ◌++◌, length, Option, Some, None, is_some, ◌⊎◌, inl, inr, refl, sym, ap, subst, ◌∙◌, arith}
 use Rattle.std.proofs.lemmas.Bool.{false≢true}
 use Rattle.std.proofs.lemmas.List.{append-nil}
 use Rattle.ca_plane.specs.Bytes.{lines_of, words_of}
 use Rattle.ca_claims.specs.declared.fault.ClaimFault.{ClaimFault}
 use Rattle.ca_claims.specs.declared.fault.ClaimFault.TheVariants.{Syntax, UnknownName, NameTaken, Memory}
-use Rattle.ca_claims.specs.Text.{Claim, Still, pattern_of, Line, Load, Claims, is_skipped, WordsSay, path_of, IsAllowed, LinesSay, IsClaimText, spoken}
-use Rattle.ca_claims.specs.TextFaults.{HasLine, AreMisspelled, AskUnknown, LoadTaken, IsFirstFault}
+use Rattle.ca_claims.specs.Text.{Still, Line, Load, Claims, WordsSay, IsAllowed, LinesSay, IsClaimText, spoken}
+use Rattle.ca_claims.specs.TextFaults.{IsFirstFault}
 use Rattle.ca_claims.specs.Reading.{SaysNext, HasFault}
 use Rattle.ca_claims.proofs.Said.{one_before}
 

@@ -1,4 +1,4 @@
-use Rattle.std.proofs.Common.{List, [], ◌∷◌, Option, Some, codes, refl}
+use Rattle.std.proofs.Common.{[], ◌∷◌, Some, codes, refl}
 use Rattle.ca_claims.specs.Text.{Line, Load, Claims, Still, WordsSay}
 use Rattle.ca_claims.proofs.laws.worked_examples.Goals as goal
 
