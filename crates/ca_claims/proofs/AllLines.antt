@@ -46,5 +46,5 @@ module _ (bytes rest : List ℕ) (number : ℕ) (reading : Reading) (behind : Is
         good = LinesSay-push [] behind.done behind.said line s.0 behind.good s.1;
         read = s.2;
         counted = more_counted line;
-        room = more_room later shorter
+        room = more_room later shorter;
       }

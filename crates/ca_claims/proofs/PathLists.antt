@@ -32,9 +32,9 @@ none_left : (p x : List ℕ) (es : List (List ℕ)) → bytes_eq p x ≡ true �
 none_left p x es e =
     let gone : filter (λ q. not (bytes_eq q x)) (p ∷ []) ≡ [] = rw e refl in
     elim (cases_Bool (list_any (bytes_eq p) es)) [
-        inl here ↦ rw here refl
+      | inl here ↦ rw here refl
       | inr new ↦ rw new (filter-append (λ q. not (bytes_eq q x)) es (p ∷ []) ∙ ap (λ l. filter (λ q. not (bytes_eq q x)) es ++ l) gone ∙ append-nil (filter (λ q. not (bytes_eq q x)) es))
-      ]
+    ]
 
 -- a path other than x is among these where it is among those other than x
 kept_there : (p x : List ℕ) (es : List (List ℕ)) → bytes_eq p x ≡ false → list_any (bytes_eq p) (filter (λ q. not (bytes_eq q x)) es) ≡ list_any (bytes_eq p) es
@@ -42,11 +42,11 @@ kept_there p x [] e = refl
 kept_there p x (q ∷ es) e =
     let later = kept_there p x es e in
     elim (cases_Bool (bytes_eq q x)) [
-        inl same ↦
-            let other : bytes_eq p q ≡ false = ap (bytes_eq p) ((bytes_eq-Decides q x).0 same) ∙ e in
-            rw (same, other) later
+      | inl same ↦
+          let other : bytes_eq p q ≡ false = ap (bytes_eq p) ((bytes_eq-Decides q x).0 same) ∙ e in
+          rw (same, other) later
       | inr apart ↦ rw apart (ap (λ b. bytes_eq p q || b) later)
-      ]
+    ]
 
 -- and is put behind those other than x
 put_behind : (p x : List ℕ) (es : List (List ℕ)) → bytes_eq p x ≡ false → filter (λ q. not (bytes_eq q x)) (with_path es p) ≡ with_path (filter (λ q. not (bytes_eq q x)) es) p
@@ -54,9 +54,9 @@ put_behind p x es e =
     let stays : filter (λ q. not (bytes_eq q x)) (p ∷ []) ≡ p ∷ [] = rw e refl in
     let same = kept_there p x es e in
     elim (cases_Bool (list_any (bytes_eq p) es)) [
-        inl here ↦ rw (same, here) refl
+      | inl here ↦ rw (same, here) refl
       | inr new ↦ rw (same, new) (filter-append (λ q. not (bytes_eq q x)) es (p ∷ []) ∙ ap (λ l. filter (λ q. not (bytes_eq q x)) es ++ l) stays)
-      ]
+    ]
 
 -- a path equal to the first is there
 with_first : (p x : List ℕ) (es : List (List ℕ)) → bytes_eq p x ≡ true → with_path (x ∷ es) p ≡ x ∷ es
@@ -72,9 +72,9 @@ each_once-push [] p = refl
 each_once-push (x ∷ xs) p =
     let later = ap (λ l. x ∷ filter (λ q. not (bytes_eq q x)) l) (each_once-push xs p) in
     elim (cases_Bool (bytes_eq p x)) [
-        inl e ↦ later ∙ ap (λ l. x ∷ l) (none_left p x (each_once xs) e) ∙ sym (with_first p x (filter (λ q. not (bytes_eq q x)) (each_once xs)) e)
+      | inl e ↦ later ∙ ap (λ l. x ∷ l) (none_left p x (each_once xs) e) ∙ sym (with_first p x (filter (λ q. not (bytes_eq q x)) (each_once xs)) e)
       | inr e ↦ later ∙ ap (λ l. x ∷ l) (put_behind p x (each_once xs) e) ∙ sym (with_other p x (filter (λ q. not (bytes_eq q x)) (each_once xs)) e)
-      ]
+    ]
 
 -- paths keep their places where more come behind them
 stays_before : (paths more : List (List ℕ)) (i : ℕ) → i < length paths → slice_get (paths ++ more) i ≡ slice_get paths i
@@ -110,11 +110,11 @@ module _ {K : Type 0} (items : K → List ℕ) (path : List ℕ) where
       → MatchOption r ((i : ℕ) → slice_get (map items keys) i ≢ Some path) (λ i. slice_get (map items keys) i ≡ Some path)
   found_at keys None e found = λ i h. false≢true (found ∙ sym (any_items keys) ∙ there (map items keys) path i h)
   found_at keys (Some i) e found = elim (slice_get_cases keys i).1 [
-      inl here ↦
-          let at = position-Some (λ k. bytes_eq path (items k)) keys i here.0 (sym e) in
-          slice_get-map items keys i ∙ ap (option_map items) here.2 ∙ ap Some (sym ((bytes_eq-Decides path (items here.0)).0 (ap (λ k. bytes_eq path (items k)) (sym here.3) ∙ at.1)))
+    | inl here ↦
+        let at = position-Some (λ k. bytes_eq path (items k)) keys i here.0 (sym e) in
+        slice_get-map items keys i ∙ ap (option_map items) here.2 ∙ ap Some (sym ((bytes_eq-Decides path (items here.0)).0 (ap (λ k. bytes_eq path (items k)) (sym here.3) ∙ at.1)))
     | inr past ↦ absurd (no_index keys i (sym e) past.0)
-    ]
+  ]
 
   -- the items of keys, of which one is inserted
   pub items_insert_key : (eq : K → K → Bool) (keys : List K) (k : K) → items k ≡ path → ((j : K) → eq k j ≡ bytes_eq path (items j)) → map items (insert_key eq keys k) ≡ with_path (map items keys) path
@@ -122,9 +122,9 @@ module _ {K : Type 0} (items : K → List ℕ) (path : List ℕ) where
       let tests : eq k ≡ (λ j. bytes_eq path (items j)) = λ i j. same j i in
       let found : list_any (eq k) keys ≡ list_any (bytes_eq path) (map items keys) = ap (λ t. list_any t keys) tests ∙ sym (any_items keys) in
       elim (cases_Bool (list_any (bytes_eq path) (map items keys))) [
-          inl here ↦ rw (found, here) refl
+        | inl here ↦ rw (found, here) refl
         | inr new ↦ rw (found, new) (map-append items keys (k ∷ []) ∙ ap (λ p. map items keys ++ p ∷ []) e)
-        ]
+      ]
 
   -- the item of the key at a place, which is equal to one with these items
   pub item_at : (keys : List K) (i : ℕ) (k j : K) → slice_get keys i ≡ Some k → bytes_eq (items j) (items k) ≡ true → items j ≡ path → slice_get (map items keys) i ≡ Some path

@@ -8,7 +8,7 @@ mod still;
 mod verdict;
 mod verifier;
 
-pub use claims::{read_claims, Claims};
+pub use claims::{Claims, read_claims};
 pub use fault::ClaimFault;
 pub use file::File;
 pub use verdict::{Answer, Cause, Verdict, Why};
