@@ -89,3 +89,6 @@ fn decide<A: Automaton>(rule: &A, cells: &Plane, claim: ClaimKind) -> Verdict
         },
     }
 }
+
+#[cfg(test)]
+mod tests;

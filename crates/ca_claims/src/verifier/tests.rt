@@ -1,0 +1,186 @@
+//! Claim texts and files whose answers were worked out by hand.
+
+use super::*;
+use crate::claims::read_claims;
+use crate::verdict::Why;
+use std::process::Abort;
+use std::test::*;
+
+const BLOCK: &[u8] = b"x = 2, y = 2, rule = B3/S23\n2o$2o!\n";
+
+const BLINKER: &[u8] = b"x = 3, y = 1, rule = B3/S23\n3o!";
+
+fn check_answers(
+    rt: &impl Abort,
+    alloc: Global,
+    text: &[u8],
+    files: &[File<'_>],
+    expected: &[(u64, Verdict)],
+) -> Result<(), Fail> {
+    let claims = read_claims(alloc, text)?;
+    let answers = verify(alloc, &claims, files)?;
+    assert_eq!(rt; answers.len(), expected.len());
+    for (answer, (line, verdict)) in answers.iter().zip(expected) {
+        assert_eq!(rt; answer.line, *line);
+        assert_eq!(rt; answer.verdict, *verdict, "line {line}");
+    }
+    Ok(())
+}
+
+// The verdict on a claim that the pattern of the bytes is a still life.
+fn still_of(alloc: Global, bytes: &[u8]) -> Result<Verdict, Fail> {
+    let claims = read_claims(alloc, b"load p p.rle\nstill p\n")?;
+    let files = [File {
+        path: b"p.rle",
+        bytes,
+    }];
+    let answers = verify(alloc, &claims, &files)?;
+    let answer = answers.first().ok_or("no answer")?;
+    Ok(answer.verdict)
+}
+
+#[test]
+fn each_line_has_its_answer(rt: HostRuntime) -> Result<(), Fail> {
+    let text =
+        b"# patterns\nload b block.rle\n\nload m missing.rle\nload c block.rle\nstill b\nstill m\n still c\r\nstill b";
+    let files = [
+        File {
+            path: b"other.rle",
+            bytes: BLINKER,
+        },
+        File {
+            path: b"block.rle",
+            bytes: BLOCK,
+        },
+    ];
+    let expected = [
+        (6, Verdict::Yes),
+        (7, Verdict::Refused(Cause::NoFile)),
+        (8, Verdict::Yes),
+        (9, Verdict::Yes),
+    ];
+    check_answers(&rt, rt.alloc(), text, &files, &expected)
+}
+
+#[test]
+fn the_first_file_of_a_path_counts(rt: HostRuntime) -> Result<(), Fail> {
+    let text = b"load e empty.rle\nload b block.rle\nstill b\nstill e\n";
+    let files = [
+        File {
+            path: b"block.rle",
+            bytes: BLOCK,
+        },
+        File {
+            path: b"empty.rle",
+            bytes: b"x = 0, y = 0, rule = B3/S23\n!",
+        },
+        File {
+            path: b"block.rle",
+            bytes: b"no pattern",
+        },
+        File {
+            path: b"empty.rle",
+            bytes: BLOCK,
+        },
+    ];
+    let expected = [(3, Verdict::Yes), (4, Verdict::No(Why::Empty))];
+    check_answers(&rt, rt.alloc(), text, &files, &expected)
+}
+
+#[test]
+fn a_text_without_claims_has_no_answers(rt: HostRuntime) -> Result<(), Fail> {
+    check_answers(&rt, rt.alloc(), b"", &[], &[])?;
+    check_answers(&rt, rt.alloc(), b"load b block.rle\n", &[], &[])
+}
+
+#[test]
+fn patterns_that_stay(rt: HostRuntime) -> Result<(), Fail> {
+    let table: [&[u8]; 6] = [
+        BLOCK,
+        b"x = 2, y = 2, rule = B36/S23\n2o$2o!",
+        // A ship, whose dead centre has six live neighbours.
+        b"x = 3, y = 3, rule = B3/S23\nb2o$obo$2o!",
+        // A beehive, which does not begin at its corner.
+        b"x = 4, y = 3, rule = B3/S23\nb2o$o2bo$b2o!",
+        // A lone cell that survives with no neighbours.
+        b"x = 1, y = 1, rule = B/S0\no!",
+        // Two blocks, far from each other.
+        b"x = 999, y = 999, rule = B3/S23\n2o$2o998$998b2o$998b2o!",
+    ];
+    for bytes in table {
+        assert_eq!(rt; still_of(rt.alloc(), bytes)?, Verdict::Yes, "{bytes:?}");
+    }
+    Ok(())
+}
+
+#[test]
+fn patterns_that_change_in_one_cell(rt: HostRuntime) -> Result<(), Fail> {
+    // The ship's centre is born of six.
+    let verdict = still_of(rt.alloc(), b"x = 3, y = 3, rule = B36/S23\nb2o$obo$2o!")?;
+    let why = Why::Differs {
+        x: 1,
+        y: 1,
+        found: 1,
+        claimed: 0,
+        gens: 1,
+    };
+    assert_eq!(rt; verdict, Verdict::No(why));
+    // A lone cell dies.
+    let verdict = still_of(rt.alloc(), b"x = 1, y = 1, rule = B3/S23\n2$5bo!")?;
+    let why = Why::Differs {
+        x: 5,
+        y: 2,
+        found: 0,
+        claimed: 1,
+        gens: 1,
+    };
+    assert_eq!(rt; verdict, Verdict::No(why));
+    Ok(())
+}
+
+// The change that the verdict shows, as (x, y, found, claimed).
+fn change_of(verdict: Verdict) -> Option<(i64, i64, u8, u8)> {
+    match verdict {
+        Verdict::No(
+            Why::Differs {
+                x,
+                y,
+                found,
+                claimed,
+                gens: 1,
+            },
+        ) => Some((x, y, found, claimed)),
+        _ => None,
+    }
+}
+
+#[test]
+fn patterns_that_change_in_several_cells(rt: HostRuntime) -> Result<(), Fail> {
+    let change = change_of(still_of(rt.alloc(), BLINKER)?).ok_or("the blinker changes")?;
+    let changes = [(1, -1, 1, 0), (1, 1, 1, 0), (0, 0, 0, 1), (2, 0, 0, 1)];
+    assert!(rt; changes.contains(&change), "{change:?}");
+    // Each cell of a block has three neighbours.
+    let bytes = b"x = 2, y = 2, rule = B3/S2\n2o$2o!";
+    let change = change_of(still_of(rt.alloc(), bytes)?).ok_or("the block changes")?;
+    let changes = [(0, 0, 0, 1), (1, 0, 0, 1), (0, 1, 0, 1), (1, 1, 0, 1)];
+    assert!(rt; changes.contains(&change), "{change:?}");
+    Ok(())
+}
+
+#[test]
+fn files_that_are_not_read_yet(rt: HostRuntime) -> Result<(), Fail> {
+    let table: [&[u8]; 7] = [
+        b"",
+        b"x = 0, y = 0\n!",
+        b"x = 2, y = 2, rule = B3/S23\r\n2o$2o!\r\n",
+        b"x = 2, y = 2, rule = B3/S23\n2o$2o",
+        b"x = 2, y = 2, rule = Life\n2o$2o!",
+        b"x = 2, y = 2, rule = B03/S23\n2o$2o!",
+        b"x = 2, y = 2, rule = B3/S23:T30,20\n2o$2o!",
+    ];
+    for bytes in table {
+        let verdict = still_of(rt.alloc(), bytes)?;
+        assert_eq!(rt; verdict, Verdict::Refused(Cause::NotYet), "{bytes:?}");
+    }
+    Ok(())
+}
