@@ -8,3 +8,4 @@ pub mod Said
 pub mod ReadOn
 pub mod AllLines
 pub mod OneMeaning
+pub mod Verdicts

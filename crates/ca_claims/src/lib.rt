@@ -7,6 +7,7 @@ mod file;
 mod laws;
 mod still;
 mod verdict;
+pub mod verdict_laws;
 mod verifier;
 
 pub use claims::{Claims, read_claims};

@@ -1,0 +1,47 @@
+//! Laws of verdicts, which no call needs to run: a no means that the claim is false, a file has one meaning, and only
+//! one kind of verdict is true of a claim.
+
+ghost use Rattle.std.specs.Prelude.{◌≡◌, ℕ, List, [], ◌∷◌, codes, pos, negsuc};
+ghost use Rattle.ca_plane.specs.Plane.{Picture};
+ghost use Rattle.ca_plane.specs.Generations.{after};
+ghost use Rattle.ca_rule.specs.Counts.{counts_of};
+ghost use Rattle.ca_rule.specs.Next.{next_of};
+ghost use Rattle.ca_claims.specs.Text.{Claim, Still};
+ghost use Rattle.ca_claims.specs.Means.{Means};
+ghost use Rattle.ca_claims.specs.Truth.{IsTrueClaim, IsReason};
+ghost use Rattle.ca_claims.specs.Answers.{IsTrueVerdict};
+ghost use Rattle.ca_claims.specs.Examples.{life, blinker, block};
+ghost use Rattle.ca_claims.specs.declared.verdict.Why.{Why};
+ghost use Rattle.ca_claims.specs.declared.verdict.Verdict.TheVariants.{Yes, No, Refused};
+ghost use Rattle.ca_claims.specs.declared.verdict.Cause.TheVariants.{NoFile, NotYet};
+
+/// Where there is a reason against a claim, the claim isn't true.
+pub fn no_is_false()
+    ensures { (next : List ℕ → ℕ) (cells : Picture) (claim : Claim) (why : Why) → IsReason next cells claim why → IsTrueClaim next cells claim → ⊥ }
+{}
+
+/// The bytes of a file mean one picture, one rule text and one generation at most.
+pub fn one_meaning_of_a_file()
+    ensures { (bytes : List ℕ) (p q : Picture) (t u : List ℕ) (g h : ℕ) → Means bytes p t g → Means bytes q u h → (p ≡ q) × (t ≡ u) × (g ≡ h) }
+{}
+
+/// A yes and a no aren't both true of a claim, nor is one of them and a refusal for a cause in the files.
+pub fn one_kind_of_verdict()
+    ensures yes_or_no { (files : List (List ℕ × List ℕ)) (claim : Claim) (why : Why) → IsTrueVerdict files claim Yes → IsTrueVerdict files claim (No why) → ⊥ }
+    ensures yes_or_no_file { (files : List (List ℕ × List ℕ)) (claim : Claim) → IsTrueVerdict files claim Yes → IsTrueVerdict files claim (Refused NoFile) → ⊥ }
+    ensures yes_or_not_yet { (files : List (List ℕ × List ℕ)) (claim : Claim) → IsTrueVerdict files claim Yes → IsTrueVerdict files claim (Refused NotYet) → ⊥ }
+    ensures no_or_no_file { (files : List (List ℕ × List ℕ)) (claim : Claim) (why : Why) → IsTrueVerdict files claim (No why) → IsTrueVerdict files claim (Refused NoFile) → ⊥ }
+    ensures no_or_not_yet { (files : List (List ℕ × List ℕ)) (claim : Claim) (why : Why) → IsTrueVerdict files claim (No why) → IsTrueVerdict files claim (Refused NotYet) → ⊥ }
+    ensures no_file_or_not_yet { (files : List (List ℕ × List ℕ)) (claim : Claim) → IsTrueVerdict files claim (Refused NoFile) → IsTrueVerdict files claim (Refused NotYet) → ⊥ }
+{}
+
+/// Cells of the blinker and the block under Conway's Life.
+pub fn worked_generations()
+    ensures north_of_the_blinker_is_born { after life blinker 1 (pos 1) (negsuc 0) ≡ 1 }
+    ensures end_of_the_blinker_dies { after life blinker 1 (pos 0) (pos 0) ≡ 0 }
+    ensures middle_of_the_blinker_stays { after life blinker 1 (pos 1) (pos 0) ≡ 1 }
+    ensures end_of_the_blinker_is_back { after life blinker 2 (pos 0) (pos 0) ≡ 1 }
+    ensures corner_of_the_block_stays { after life block 1 (pos 0) (pos 0) ≡ 1 }
+    ensures beside_the_block_stays_empty { after life block 1 (negsuc 0) (pos 0) ≡ 0 }
+    ensures corner_of_the_block_stays_for_5 { after life block 5 (pos 1) (pos 1) ≡ 1 }
+{}
