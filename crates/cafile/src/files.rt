@@ -5,6 +5,7 @@ use ca_plane::{Dev, Memory};
 use ca_tool::{InputFault, read_all};
 use std::alloc::Global;
 use std::fs;
+use std::io::ErrorKind;
 use std::rt::Files;
 
 /// A file that a claim text names, and that could be read.
@@ -16,10 +17,11 @@ pub struct Loaded {
 
 /// All bytes of a file. One that can't be opened can't be read.
 pub fn read_file<R: Files + AllocGlobal>(rt: &R, path: &str) -> Result<Vec<u8>, InputFault> {
-    let Ok(file) = fs::open(rt, path) else {
-        return Err(InputFault::Read);
-    };
-    read_all(rt.alloc(), &mut Dev::new(file))
+    match fs::open(rt, path) {
+        Ok(file) => read_all(rt.alloc(), &mut Dev::new(file)),
+        Err(error) if error.kind() == ErrorKind::OutOfMemory => Err(InputFault::Memory),
+        Err(_) => Err(InputFault::Read),
+    }
 }
 
 /// The file of a path, or none where the path is no text, or the file can't be read or is too long.
