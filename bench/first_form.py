@@ -14,11 +14,13 @@ PROGRAM = os.path.abspath("crates/cafile/out/cafile")
 
 
 def first_form(length):
-    """A text of the first form with just so many bytes: rows of one live cell in three."""
-    head = "x = 999, y = 4, rule = B3/S23\n"
+    """A text of the first form with just so many bytes: blocks side by side, which are still lifes, and dead cells."""
+    head = "x = 999, y = 99, rule = B3/S23\n"
+    row = "2o2b" * 24 + "2o$"
+    rows = row + row[:-1] + "3$"
     room = length - len(head) - len("!\n")
-    row = "obb" * 300 + "$"
-    return head + (row * (room // len(row) + 1))[:room] + "!\n"
+    body = rows * (room // len(rows))
+    return head + body + "b" * (room - len(body)) + "!\n"
 
 
 def run(claims):
