@@ -24,7 +24,7 @@ pub fn worked_items()
 
 /// What whole texts hold.
 pub fn worked_files()
-    ensures glider { let is = record { count = 1; tag = Cell 0 } ∷ record { count = 2; tag = Cell 1 } ∷ record { count = 1; tag = RowEnd }
+    ensures r_pentomino { let is = record { count = 1; tag = Cell 0 } ∷ record { count = 2; tag = Cell 1 } ∷ record { count = 1; tag = RowEnd }
         ∷ record { count = 2; tag = Cell 1 } ∷ record { count = 1; tag = RowEnd }
         ∷ record { count = 1; tag = Cell 0 } ∷ record { count = 1; tag = Cell 1 } ∷ [] in
         IsFile

@@ -4,8 +4,8 @@ use Rattle.ca_rle.proofs.Found.{items_found}
 use Rattle.ca_rle.proofs.Headers.{spaced_found, header_found}
 use Rattle.ca_rle.proofs.examples.worked_files.Goals as goal
 
-pub returns-clause-glider : goal.returns-clause-glider
-returns-clause-glider c = (
+pub returns-clause-r_pentomino : goal.returns-clause-r_pentomino
+returns-clause-r_pentomino c = (
   record {
     said = Corner (negsuc 0) (negsuc 0) ∷ Generation 7 ∷ [];
     rule = Some (codes "B3/S23");
