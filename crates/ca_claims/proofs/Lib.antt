@@ -7,3 +7,4 @@ pub mod Answered
 pub mod Said
 pub mod ReadOn
 pub mod AllLines
+pub mod OneMeaning

@@ -76,7 +76,7 @@ module _ (said : List (Option Line)) (paths : List (List ℕ)) (claims : List Cl
         once = read.once ∙ ap each_once (sym (loaded_paths-append said (None ∷ []) ∙ append-nil (loaded_paths said)));
         asked = read.asked ∙ sym (claims_from-append 1 [] said (None ∷ []) ∙ append-nil (claims_from 1 [] said));
         within = read.within;
-        named = λ q. subst (λ ls. StandsAt paths (names q) (path_of ls q)) (sym same) (read.named q)
+        named = λ q. subst (λ ls. StandsAt paths (names q) (path_of ls q)) (sym same) (read.named q);
       }
 
   -- the name wasn't loaded
@@ -88,21 +88,24 @@ module _ (said : List (Option Line)) (paths : List (List ℕ)) (claims : List Cl
       → (q : List ℕ) → StandsAt (with_path paths path) (update bytes_eq names name (Some place) q) (path_of (spoken (said ++ Some (Load name path) ∷ [])) q)
   named_after name path place new at q =
       rw (spoken-append said (Some (Load name path) ∷ []))
-        elim (cases_Bool (bytes_eq name q)) [
-          inl e ↦ rw e (path, at, loaded_now (spoken said) name path q (not_loaded name new) e)
+      elim (cases_Bool (bytes_eq name q)) [
+        | inl e ↦ rw e (path, at, loaded_now (spoken said) name path q (not_loaded name new) e)
         | inr e ↦ rw e (subst (StandsAt (with_path paths path) (names q)) (sym (loaded_else (spoken said) name path q e)) (name_kept paths path (names q) (path_of (spoken said) q) (read.named q)))
-        ]
+      ]
 
   -- a line that loads a name from a path
   pub read_load : (name path : List ℕ) (place : ℕ) (after : List ℕ → Option ℕ) → names name ≡ None → slice_get (with_path paths path) place ≡ Some path
       → ((q : List ℕ) → after q ≡ update bytes_eq names name (Some place) q)
       → IsAllowed (spoken said) (Load name path) × IsRead (said ++ Some (Load name path) ∷ []) (with_path paths path) claims after
-  read_load name path place after new at updated = (not_loaded name new, record {
-        once = ap (λ l. with_path l path) read.once ∙ sym (each_once-push (loaded_paths said) path) ∙ ap each_once (sym (loaded_paths-append said (Some (Load name path) ∷ [])));
-        asked = all_kept paths path claims read.within ∙ read.asked ∙ sym (claims_from-append 1 [] said (Some (Load name path) ∷ []) ∙ append-nil (claims_from 1 [] said));
-        within = All-weaker (λ l. pattern_index l.claim < length paths) (λ l. pattern_index l.claim < length (with_path paths path)) (λ l h. omega (arith, no_fewer paths path)) claims read.within;
-        named = λ q. subst (λ o. StandsAt (with_path paths path) o (path_of (spoken (said ++ Some (Load name path) ∷ [])) q)) (sym (updated q)) (named_after name path place new at q)
-      })
+  read_load name path place after new at updated = (
+    not_loaded name new,
+    record {
+      once = ap (λ l. with_path l path) read.once ∙ sym (each_once-push (loaded_paths said) path) ∙ ap each_once (sym (loaded_paths-append said (Some (Load name path) ∷ [])));
+      asked = all_kept paths path claims read.within ∙ read.asked ∙ sym (claims_from-append 1 [] said (Some (Load name path) ∷ []) ∙ append-nil (claims_from 1 [] said));
+      within = All-weaker (λ l. pattern_index l.claim < length paths) (λ l. pattern_index l.claim < length (with_path paths path)) (λ l h. omega (arith, no_fewer paths path)) claims read.within;
+      named = λ q. subst (λ o. StandsAt (with_path paths path) o (path_of (spoken (said ++ Some (Load name path) ∷ [])) q)) (sym (updated q)) (named_after name path place new at q);
+    },
+  )
 
   -- a line that claims something about a name
   pub read_claim : (name : List ℕ) (line pattern : ℕ) → names name ≡ Some pattern → line ≡ length said + 1
@@ -111,13 +114,15 @@ module _ (said : List (Option Line)) (paths : List (List ℕ)) (claims : List Cl
       let s : Option Line = Some (Claims (Still name)) in
       let at = subst (λ o. StandsAt paths o (path_of (spoken said) name)) there (read.named name) in
       let asks : ◌≡◌ {A = ℕ × Claim} (line, Still (unwrap_or (slice_get paths pattern) [])) (1 + length said, Still (unwrap_or (path_of (spoken said) name) [])) =
-          λ i. ((let e : line ≡ 1 + length said = omega arith in e) i, Still (unwrap_or ((at.1 ∙ sym at.2) i) [])) in
-      (ap is_some at.2, record {
-        once = read.once ∙ ap each_once (sym (loaded_paths-append said (s ∷ []) ∙ append-nil (loaded_paths said)));
-        asked = map-append (numbered paths) claims (record { line = line; claim = kind.Still pattern } ∷ [])
-          ∙ ap (λ l. l ++ (line, Still (unwrap_or (slice_get paths pattern) [])) ∷ []) read.asked
-          ∙ ap (λ c. claims_from 1 [] said ++ c ∷ []) asks
-          ∙ sym (claims_from-append 1 [] said (s ∷ []));
-        within = All-push (λ l. pattern_index l.claim < length paths) claims (record { line = line; claim = kind.Still pattern }) read.within (slice_get_within paths pattern at.0 at.1);
-        named = λ q. subst (StandsAt paths (names q)) (sym (ap (λ ls. path_of ls q) (spoken-append said (s ∷ [])) ∙ claim_loads_none (spoken said) (Still name) q)) (read.named q)
-      })
+      λ i. ((let e : line ≡ 1 + length said = omega arith in e) i, Still (unwrap_or ((at.1 ∙ sym at.2) i) [])) in (
+        ap is_some at.2,
+        record {
+          once = read.once ∙ ap each_once (sym (loaded_paths-append said (s ∷ []) ∙ append-nil (loaded_paths said)));
+          asked = map-append (numbered paths) claims (record { line = line; claim = kind.Still pattern } ∷ [])
+              ∙ ap (λ l. l ++ (line, Still (unwrap_or (slice_get paths pattern) [])) ∷ []) read.asked
+              ∙ ap (λ c. claims_from 1 [] said ++ c ∷ []) asks
+              ∙ sym (claims_from-append 1 [] said (s ∷ []));
+          within = All-push (λ l. pattern_index l.claim < length paths) claims (record { line = line; claim = kind.Still pattern }) read.within (slice_get_within paths pattern at.0 at.1);
+          named = λ q. subst (StandsAt paths (names q)) (sym (ap (λ ls. path_of ls q) (spoken-append said (s ∷ [])) ∙ claim_loads_none (spoken said) (Still name) q)) (read.named q);
+        },
+      )

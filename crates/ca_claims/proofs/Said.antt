@@ -34,7 +34,7 @@ same_claims : (m n : ℕ) (lines others : List Line) (more : List (Option Line))
 same_claims m n lines others more e f = λ i. claims_from (e i) (f i) more
 
 -- one line is before the others
-one_before : (earlier : List Line) (line : Line) (lines : List Line) → (earlier ++ line ∷ []) ++ lines ≡ earlier ++ line ∷ lines
+pub one_before : (earlier : List Line) (line : Line) (lines : List Line) → (earlier ++ line ∷ []) ++ lines ≡ earlier ++ line ∷ lines
 one_before earlier line lines = append_assoc earlier (line ∷ []) lines
 
 -- the claims that they make
@@ -50,8 +50,8 @@ claims_from-append n earlier (Some (Load name path) ∷ said) more =
 claims_from-append n earlier (Some (Claims claim) ∷ said) more =
     let line = Claims claim in
     ap (λ l. (n, about claim (unwrap_or (path_of earlier (pattern_of claim)) [])) ∷ l)
-        (claims_from-append (n + 1) (earlier ++ line ∷ []) said more
-        ∙ ap (λ l. claims_from (n + 1) (earlier ++ line ∷ []) said ++ l) (same_claims _ _ _ _ more (omega arith) (one_before earlier line (spoken said))))
+    (claims_from-append (n + 1) (earlier ++ line ∷ []) said more
+    ∙ ap (λ l. claims_from (n + 1) (earlier ++ line ∷ []) said ++ l) (same_claims _ _ _ _ more (omega arith) (one_before earlier line (spoken said))))
 
 -- each line says something or nothing
 pub length_said : (earlier : List Line) (lines : List (List ℕ)) (said : List (Option Line)) → LinesSay earlier lines said → length said ≡ length lines

@@ -10,6 +10,8 @@ ghost use Rattle.ca_claims.specs.Lines.{numbered, pattern_index, claim_at};
 mod line;
 mod paths;
 mod reading;
+#[cfg(test)]
+mod tests;
 mod words;
 
 use crate::ClaimFault;

@@ -4,4 +4,4 @@ use Rattle.ca_claims.proofs.claims.reading.read_claims.Goals as goal
 pub lines-preserved : goal.lines-preserved
 lines-preserved c =
     one_read c.args.bytes.now c.lines.rest.now c.lines.number c.lines.reading c.lines.invariant c.next_line.result.0.now c.next_line.result.1.now c.read.new.self
-      c.next_line.ensures.lines c.next_line.ensures.shorter c.in_ok-read.ensures.said
+    c.next_line.ensures.lines c.next_line.ensures.shorter c.in_ok-read.ensures.said

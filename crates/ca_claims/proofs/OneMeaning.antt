@@ -1,0 +1,137 @@
+-- A text's lines say one thing, or one of them is the first that is faulty.
+use Rattle.std.proofs.Common.{◌≡◌, ◌≢◌, ℕ, suc, ◌+◌, List, [], ◌∷◌, ◌++◌, length, Option, Some, None, is_some, ◌⊎◌, inl, inr, refl, sym, ap, subst, ◌∙◌, arith}
+use Rattle.std.proofs.lemmas.Bool.{false≢true}
+use Rattle.std.proofs.lemmas.List.{append-nil}
+use Rattle.ca_plane.specs.Bytes.{lines_of, words_of}
+use Rattle.ca_claims.specs.declared.fault.ClaimFault.{ClaimFault}
+use Rattle.ca_claims.specs.declared.fault.ClaimFault.TheVariants.{Syntax, UnknownName, NameTaken, Memory}
+use Rattle.ca_claims.specs.Text.{Still, Line, Load, Claims, WordsSay, IsAllowed, LinesSay, IsClaimText, spoken}
+use Rattle.ca_claims.specs.TextFaults.{IsFirstFault}
+use Rattle.ca_claims.specs.Reading.{SaysNext, HasFault}
+use Rattle.ca_claims.proofs.Said.{one_before}
+
+-- words say one thing
+pub same_line : (words : List (List ℕ)) (a b : Line) → WordsSay words a → WordsSay words b → a ≡ b
+same_line words (Load n p) (Load m q) h k = cc
+same_line words (Load n p) (Claims (Still m)) h k = cc
+same_line words (Claims (Still n)) (Load m q) h k = cc
+same_line words (Claims (Still n)) (Claims (Still m)) h k = cc
+
+-- a next line says one thing
+pub same_next : (earlier : List Line) (words : List (List ℕ)) (s t : Option Line) → SaysNext earlier words s → SaysNext earlier words t → s ≡ t
+same_next earlier words None None h k = refl
+same_next earlier words None (Some b) h k = absurd (false≢true (sym k.0 ∙ h))
+same_next earlier words (Some a) None h k = absurd (false≢true (sym h.0 ∙ k))
+same_next earlier words (Some a) (Some b) h k = ap Some (same_line words a b h.1 k.1)
+
+-- lines that stand behind the first
+behind_first : List Line → Option Line → List Line
+behind_first earlier None = earlier
+behind_first earlier (Some line) = earlier ++ line ∷ []
+
+-- the first line and those behind it
+first_says : (earlier : List Line) (l : List ℕ) (ls : List (List ℕ)) (s : Option Line) (said : List (Option Line)) → LinesSay earlier (l ∷ ls) (s ∷ said)
+    → SaysNext earlier (words_of l) s × LinesSay (behind_first earlier s) ls said
+unfolding behind_first
+first_says earlier l ls None said h = (h.0, h.1)
+first_says earlier l ls (Some line) said h = ((h.0, h.1, h.2), h.3)
+
+-- lines say one thing
+pub same_said : (earlier : List Line) (lines : List (List ℕ)) (s t : List (Option Line)) → LinesSay earlier lines s → LinesSay earlier lines t → s ≡ t
+same_said earlier [] [] [] h k = refl
+same_said earlier [] (s ∷ ss) t h k = absurd h
+same_said earlier [] [] (t ∷ ts) h k = absurd k
+same_said earlier (l ∷ ls) [] t h k = absurd h
+same_said earlier (l ∷ ls) (s ∷ ss) [] h k = absurd k
+same_said earlier (l ∷ ls) (s ∷ ss) (t ∷ ts) h k =
+    let a = first_says earlier l ls s ss h in
+    let b = first_says earlier l ls t ts k in
+    let same : s ≡ t = same_next earlier (words_of l) s t a.0 b.0 in
+    let later : ss ≡ ts = same_said (behind_first earlier t) ls ss ts (subst (λ o. LinesSay (behind_first earlier o) ls ss) same a.1) b.1 in
+    λ i. same i ∷ later i
+
+-- what lines say behind the first, and the first's
+spoken_first : (earlier : List Line) (s : Option Line) (said : List (Option Line)) → earlier ++ spoken (s ∷ said) ≡ behind_first earlier s ++ spoken said
+unfolding behind_first
+spoken_first earlier None said = refl
+spoken_first earlier (Some line) said = sym (one_before earlier line (spoken said))
+
+-- a faulty line says nothing that a line may say
+fault_says_none : (n : ℕ) (earlier : List Line) (words : List (List ℕ)) (f : ClaimFault) (s : Option Line) → f ≢ Memory → HasFault n earlier words f → SaysNext earlier words s → ⊥
+fault_says_none n earlier words (Syntax line) None ne h k = false≢true (sym h.1.0 ∙ k)
+fault_says_none n earlier words (Syntax line) (Some a) ne h k = h.1.1 a k.1
+fault_says_none n earlier words (UnknownName line) None ne h k = false≢true (sym h.1.0 ∙ k)
+fault_says_none n earlier words (UnknownName line) (Some a) ne h k =
+    let allowed = subst (IsAllowed earlier) (same_line words a (Claims h.1.1) k.1 h.1.2) k.2 in
+    false≢true (sym (ap is_some h.1.3) ∙ allowed)
+fault_says_none n earlier words (NameTaken line) None ne h k = false≢true (sym h.1.0 ∙ k)
+fault_says_none n earlier words (NameTaken line) (Some a) ne h k =
+    let allowed = subst (IsAllowed earlier) (same_line words a (Load h.1.1 h.1.2) k.1 h.1.3) k.2 in
+    false≢true (sym (ap is_some allowed) ∙ h.1.4)
+fault_says_none n earlier words Memory s ne h k = ne refl
+
+-- a line has one fault
+same_fault : (n : ℕ) (earlier : List Line) (words : List (List ℕ)) (f g : ClaimFault) → f ≢ Memory → g ≢ Memory → HasFault n earlier words f → HasFault n earlier words g → f ≡ g
+same_fault n earlier words (Syntax a) (Syntax b) x y h k = ap Syntax (h.0 ∙ sym k.0)
+same_fault n earlier words (Syntax a) (UnknownName b) x y h k = absurd (h.1.1 (Claims k.1.1) k.1.2)
+same_fault n earlier words (Syntax a) (NameTaken b) x y h k = absurd (h.1.1 (Load k.1.1 k.1.2) k.1.3)
+same_fault n earlier words (UnknownName a) (Syntax b) x y h k = absurd (k.1.1 (Claims h.1.1) h.1.2)
+same_fault n earlier words (UnknownName a) (UnknownName b) x y h k = ap UnknownName (h.0 ∙ sym k.0)
+same_fault n earlier words (UnknownName a) (NameTaken b) x y h k = let both : Claims h.1.1 ≡ Load k.1.1 k.1.2 = same_line words (Claims h.1.1) (Load k.1.1 k.1.2) h.1.2 k.1.3 in cc
+same_fault n earlier words (NameTaken a) (Syntax b) x y h k = absurd (k.1.1 (Load h.1.1 h.1.2) h.1.3)
+same_fault n earlier words (NameTaken a) (UnknownName b) x y h k = let both : Load h.1.1 h.1.2 ≡ Claims k.1.1 = same_line words (Load h.1.1 h.1.2) (Claims k.1.1) h.1.3 k.1.2 in cc
+same_fault n earlier words (NameTaken a) (NameTaken b) x y h k = ap NameTaken (h.0 ∙ sym k.0)
+same_fault n earlier words Memory g x y h k = absurd (x refl)
+same_fault n earlier words f Memory x y h k = absurd (y refl)
+
+-- the first faulty one of these lines, the first of which has the number n, has this fault
+abbrev FirstAt : ℕ → List Line → List (List ℕ) → ClaimFault → Type 0
+FirstAt n earlier [] f = ⊥
+FirstAt n earlier (l ∷ ls) f = HasFault n earlier (words_of l) f ⊎ ((s : Option Line) × SaysNext earlier (words_of l) s × FirstAt (n + 1) (behind_first earlier s) ls f)
+
+-- a fault behind good lines is the first
+first_at : (n : ℕ) (earlier : List Line) (before : List (List ℕ)) (l : List ℕ) (later : List (List ℕ)) (said : List (Option Line)) (f : ClaimFault) → LinesSay earlier before said
+    → HasFault (length before + n) (earlier ++ spoken said) (words_of l) f → FirstAt n earlier (before ++ l ∷ later) f
+first_at n earlier [] l later [] f good h =
+    inl (subst (λ ls. HasFault n ls (words_of l) f) (append-nil earlier) (subst (λ m. HasFault m (earlier ++ []) (words_of l) f) (let e : 0 + n ≡ n = omega arith in e) h))
+first_at n earlier [] l later (s ∷ said) f good h = absurd good
+first_at n earlier (k ∷ ks) l later [] f good h = absurd good
+first_at n earlier (k ∷ ks) l later (s ∷ said) f good h =
+    let a = first_says earlier k ks s said good in
+    let counted : suc (length ks) + n ≡ length ks + (n + 1) = omega arith in
+    inr (s, a.0, first_at (n + 1) (behind_first earlier s) ks l later said f a.1 (subst (λ ls. HasFault (length ks + (n + 1)) ls (words_of l) f) (spoken_first earlier s said) (subst (λ m. HasFault m (earlier ++ spoken (s ∷ said)) (words_of l) f) counted h)))
+
+-- the first fault of a text is that of its lines
+of_lines : (bytes : List ℕ) (f : ClaimFault) → f ≢ Memory → IsFirstFault bytes f → FirstAt 1 [] (lines_of bytes) f
+of_lines bytes (Syntax n) ne h = subst (λ ls. FirstAt 1 [] ls (Syntax n)) (sym h.among) (first_at 1 [] h.before h.line h.later h.said (Syntax n) h.good (h.number, h.holds))
+of_lines bytes (UnknownName n) ne h = subst (λ ls. FirstAt 1 [] ls (UnknownName n)) (sym h.among) (first_at 1 [] h.before h.line h.later h.said (UnknownName n) h.good (h.number, h.holds))
+of_lines bytes (NameTaken n) ne h = subst (λ ls. FirstAt 1 [] ls (NameTaken n)) (sym h.among) (first_at 1 [] h.before h.line h.later h.said (NameTaken n) h.good (h.number, h.holds))
+of_lines bytes Memory ne h = absurd (ne refl)
+
+-- lines that each say something have no fault
+no_fault : (n : ℕ) (earlier : List Line) (lines : List (List ℕ)) (said : List (Option Line)) (f : ClaimFault) → f ≢ Memory → LinesSay earlier lines said → FirstAt n earlier lines f → ⊥
+no_fault n earlier [] said f ne good h = h
+no_fault n earlier (l ∷ ls) [] f ne good h = good
+no_fault n earlier (l ∷ ls) (s ∷ said) f ne good (inl h) = fault_says_none n earlier (words_of l) f s ne h (first_says earlier l ls s said good).0
+no_fault n earlier (l ∷ ls) (s ∷ said) f ne good (inr h) =
+    let a = first_says earlier l ls s said good in
+    let same : h.0 ≡ s = same_next earlier (words_of l) h.0 s h.1 a.0 in
+    no_fault (n + 1) (behind_first earlier s) ls said f ne a.1 (subst (λ o. FirstAt (n + 1) (behind_first earlier o) ls f) same h.2)
+
+-- lines have one first fault
+same_first : (n : ℕ) (earlier : List Line) (lines : List (List ℕ)) (f g : ClaimFault) → f ≢ Memory → g ≢ Memory → FirstAt n earlier lines f → FirstAt n earlier lines g → f ≡ g
+same_first n earlier [] f g x y h k = absurd h
+same_first n earlier (l ∷ ls) f g x y (inl h) (inl k) = same_fault n earlier (words_of l) f g x y h k
+same_first n earlier (l ∷ ls) f g x y (inl h) (inr k) = absurd (fault_says_none n earlier (words_of l) f k.0 x h k.1)
+same_first n earlier (l ∷ ls) f g x y (inr h) (inl k) = absurd (fault_says_none n earlier (words_of l) g h.0 y k h.1)
+same_first n earlier (l ∷ ls) f g x y (inr h) (inr k) =
+    let same : k.0 ≡ h.0 = same_next earlier (words_of l) k.0 h.0 k.1 h.1 in
+    same_first (n + 1) (behind_first earlier h.0) ls f g x y h.2 (subst (λ o. FirstAt (n + 1) (behind_first earlier o) ls g) same k.2)
+
+-- a text whose lines say something has no fault
+pub no_first_fault : (bytes : List ℕ) (said : List (Option Line)) (f : ClaimFault) → f ≢ Memory → IsClaimText bytes said → IsFirstFault bytes f → ⊥
+no_first_fault bytes said f ne good h = no_fault 1 [] (lines_of bytes) said f ne good (of_lines bytes f ne h)
+
+-- a text has one first fault
+pub same_first_fault : (bytes : List ℕ) (f g : ClaimFault) → f ≢ Memory → g ≢ Memory → IsFirstFault bytes f → IsFirstFault bytes g → f ≡ g
+same_first_fault bytes f g x y h k = same_first 1 [] (lines_of bytes) f g x y (of_lines bytes f x h) (of_lines bytes g y k)

@@ -1,0 +1,37 @@
+//! Laws of claim texts, which no call needs to run.
+
+ghost use Rattle.std.specs.Prelude.{◌≡◌, ◌≢◌, ℕ, ◌++◌, List, [], ◌∷◌, Option, Some, None, codes};
+ghost use Rattle.ca_claims.specs.Text.{Line, Load, Claims as Claiming, Still as StillOf, IsClaimText, asked_by};
+ghost use Rattle.ca_claims.specs.TextFaults.{HasLine, AreMisspelled, AskUnknown, LoadTaken, IsFirstFault};
+ghost use Rattle.ca_claims.specs.Examples.{block_text, unknown_text, taken_text, misspelled_text};
+ghost use Rattle.ca_claims.specs.declared.fault.ClaimFault.{ClaimFault};
+ghost use Rattle.ca_claims.specs.declared.fault.ClaimFault.TheVariants as fault;
+
+/// A claim text has one meaning.
+pub fn one_meaning()
+    ensures { (bytes : List ℕ) (s t : List (Option Line)) → IsClaimText bytes s → IsClaimText bytes t → s ≡ t }
+{}
+
+/// A claim text has no fault.
+pub fn no_fault_in_claim_text()
+    ensures { (bytes : List ℕ) (said : List (Option Line)) (f : ClaimFault) → f ≢ fault.Memory → IsClaimText bytes said → IsFirstFault bytes f → ⊥ }
+{}
+
+/// A text has one first fault.
+pub fn one_fault()
+    ensures { (bytes : List ℕ) (f g : ClaimFault) → f ≢ fault.Memory → g ≢ fault.Memory → IsFirstFault bytes f → IsFirstFault bytes g → f ≡ g }
+{}
+
+/// What the definitions say of small texts.
+pub fn worked_examples()
+    // A comment, a blank line, a name and a claim, which is on line 4 and about the name's path.
+    ensures lines { IsClaimText block_text (None ∷ None ∷ Some (Load (codes "b") (codes "block.rle")) ∷ Some (Claiming (StillOf (codes "b"))) ∷ []) }
+    ensures asked { asked_by (None ∷ None ∷ Some (Load (codes "b") (codes "block.rle")) ∷ Some (Claiming (StillOf (codes "b"))) ∷ [])
+        ≡ record { paths = codes "block.rle" ∷ []; claims = (4, StillOf (codes "block.rle")) ∷ [] } }
+    // No lines.
+    ensures empty { IsClaimText [] [] }
+    // Each fault, with the number of its line.
+    ensures unknown { IsFirstFault unknown_text (fault.UnknownName 1) }
+    ensures taken { IsFirstFault taken_text (fault.NameTaken 2) }
+    ensures misspelled { IsFirstFault misspelled_text (fault.Syntax 2) }
+{}
