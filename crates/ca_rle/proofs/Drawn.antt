@@ -1,5 +1,5 @@
 -- Items drawn one after another: what the plane shows, and where the next begins.
-use Rattle.std.proofs.Common.{◌≡◌, ℕ, ◌+◌, ◌*◌, ◌<◌, ◌≤◌, ℤ, pos, ◌+ℤ◌, ◌≤ℤ◌, ◌<ℤ◌, Bool, true, false, ◌&&◌, eqb, List, [], ◌∷◌, ◌++◌, length, ◌⊎◌, inl, inr, refl, sym, ap, subst, ◌∙◌, arith}
+use Rattle.std.proofs.Common.{◌≡◌, ℕ, ◌+◌, ◌*◌, ◌≤◌, ℤ, pos, ◌+ℤ◌, ◌≤ℤ◌, ◌<ℤ◌, ◌&&◌, eqb, List, [], ◌∷◌, ◌++◌, length, ◌⊎◌, inl, inr, refl, sym, ap, subst, ◌∙◌, arith}
 use Rattle.std.specs.Prelude.{if◌then◌else◌}
 use Rattle.std.specs.Ordering.{int_eq}
 use Rattle.std.proofs.lemmas.Bool.{cases_Bool, eqb-false}
@@ -13,7 +13,7 @@ use Rattle.ca_rle.specs.declared.item.Tag.{Tag}
 use Rattle.ca_rle.specs.declared.item.Tag.TheVariants.{Cell, RowEnd}
 use Rattle.ca_rle.specs.FirstForm.{IsShortTag, IsPacked}
 use Rattle.ca_rle.specs.FirstFormParts.{IsShortBody, origin, cells_at, place_after}
-use Rattle.ca_rle.specs.Shown.{ends_row, state_of, rows_of, columns_of, run_of, place_behind, cells_of, picture_of}
+use Rattle.ca_rle.specs.Shown.{state_of, rows_of, columns_of, place_behind, picture_of}
 use Rattle.ca_rle.proofs.Packed.{NoItem, starts_with, packed_more, item_shorter}
 use Rattle.ca_rle.proofs.Bodies.{body_same}
 use Rattle.ca_rle.proofs.Places.{rows_of-push-le, columns_of-push-le, place_behind-push, picture_behind-push}

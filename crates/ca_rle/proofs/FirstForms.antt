@@ -1,5 +1,5 @@
 -- A text of the first form is a header and a body, and the other way round.
-use Rattle.std.proofs.Common.{◌≡◌, ℕ, ◌≤◌, List, length, subst}
+use Rattle.std.proofs.Common.{ℕ, List, subst}
 use Rattle.ca_rle.specs.declared.item.Item.{Item}
 use Rattle.ca_rle.specs.FirstForm.{IsFirstForm}
 use Rattle.ca_rle.specs.FirstFormParts.{HasShortHeader, IsShortBody}

@@ -1,5 +1,5 @@
 -- Rows, columns and cells of items with one more behind them.
-use Rattle.std.proofs.Common.{◌≡◌, ℕ, ◌+◌, ◌-◌, ◌≤◌, ℤ, pos, ◌+ℤ◌, Bool, true, false, not, cond, List, [], ◌∷◌, ◌++◌, length, reverse, drop, inl, inr, refl, sym, ap, ◌∙◌, append_assoc, length-append, arith}
+use Rattle.std.proofs.Common.{◌≡◌, ◌+◌, ◌-◌, ◌≤◌, Bool, not, cond, List, [], ◌∷◌, ◌++◌, length, reverse, drop, inl, inr, refl, sym, ap, ◌∙◌, append_assoc, length-append, arith}
 use Rattle.std.specs.Prelude.{if◌then◌else◌}
 use Rattle.std.specs.List.{sum_by, after_last, suffix_len, prefix_len}
 use Rattle.std.proofs.lemmas.Bool.{cases_Bool}

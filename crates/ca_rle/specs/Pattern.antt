@@ -1,7 +1,6 @@
 -- A pattern that was read.
-use Rattle.std.specs.Prelude.{◌≡◌, ℕ}
+use Rattle.std.specs.Prelude.{◌≡◌}
 use Rattle.ca_plane.specs.Plane.{IsPicture, IsSame}
-use Rattle.ca_plane.specs.Sparse.{IsSparse}
 use Rattle.ca_rle.specs.declared.pattern.Pattern.{Pattern}
 use Rattle.ca_rle.specs.File.{File}
 use Rattle.ca_rle.specs.Shown.{picture_of}

@@ -49,8 +49,8 @@ impl From<Memory> for FirstFormFault {
 /// The most bytes of a text of the first form.
 const MOST_BYTES: usize = 4096;
 
-#[tactic(auto, using(crate::proofs::ShortNumbers::are_digits_front))]
 /// The bytes behind the number of one to three digits that they begin with.
+#[tactic(auto, using(crate::proofs::ShortNumbers::are_digits_front))]
 fn behind_number(bytes: &[u8]) -> Option<&[u8]>
     ensures { MatchOption result (IsShortNumber (front is_digit bytes.now) → ⊥)
         (λ r. IsShortNumber (front is_digit bytes.now) × (r.now ≡ rest is_digit bytes.now)) }

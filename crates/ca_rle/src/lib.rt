@@ -12,3 +12,6 @@ pub use fault::RleFault;
 pub use first_form::{FirstFormFault, read_first_form};
 pub use item::{Item, Tag};
 pub use pattern::Pattern;
+
+#[cfg(test)]
+mod tests;

@@ -1,4 +1,4 @@
-use Rattle.std.proofs.Common.{[], ◌∷◌, ◌++◌, sym, ◌∙◌, rules}
+use Rattle.std.proofs.Common.{[], ◌∷◌, ◌++◌, rules}
 use Rattle.ca_rle.proofs.Packed.{packed_more}
 use Rattle.ca_rle.proofs.Bodies.{no_body}
 use Rattle.ca_rle.proofs.first_form.is_body.Goals as goal

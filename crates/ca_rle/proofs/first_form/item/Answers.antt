@@ -1,4 +1,4 @@
-use Rattle.std.proofs.Common.{◌≡◌, [], ◌∷◌, length, sym, ap, ◌∙◌, arith}
+use Rattle.std.proofs.Common.{◌≡◌, [], length, sym, ap, ◌∙◌, arith}
 use Rattle.ca_plane.specs.Bytes.{is_digit}
 use Rattle.ca_plane.proofs.Fronts.{every_front}
 use Rattle.ca_rle.proofs.Packed.{starts_with, item_from}
