@@ -4,8 +4,8 @@
 mod claims;
 mod fault;
 mod file;
-mod still;
 mod laws;
+mod still;
 mod verdict;
 mod verifier;
 
