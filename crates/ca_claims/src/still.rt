@@ -17,6 +17,7 @@ pub(crate) fn still<A: Automaton>(rule: &A, cells: &Plane) -> Option<Why>
     if cells.is_empty() {
         return Some(Why::Empty);
     }
+    // A rule that tells its states is sound: where all is empty, nothing is born.
     let _states = rule.states();
     'cells: for (at, _state) in cells.cells() {
         if let Some(why) = change_near(rule, cells, at) {
