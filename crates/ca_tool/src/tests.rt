@@ -1,0 +1,7 @@
+//! Texts that come out for texts that go in, and devices that fail.
+
+mod complaints;
+mod devices;
+mod printed;
+mod reads;
+mod runs;
