@@ -2,6 +2,7 @@
 
 mod complaints;
 mod devices;
+mod memory;
 mod printed;
 mod reads;
 mod runs;

@@ -60,3 +60,21 @@ fn a_first_part_of_a_line(rt: HostRuntime) {
         }
     }
 }
+
+#[test]
+fn faults_tell_why(rt: HostRuntime) -> Result<(), Fail> {
+    for (fault, text) in [
+        (Fault::Input(InputFault::Read), "reading failed"),
+        (Fault::Input(InputFault::TooLong), "too long"),
+        (Fault::Input(InputFault::Memory), "out of memory"),
+        (
+            Fault::Claims(ClaimFault::Syntax { line: 7 }),
+            "line 7: syntax",
+        ),
+        (Fault::Tool(ToolFault::Write), "writing failed"),
+        (Fault::Tool(ToolFault::Memory), "out of memory"),
+    ] {
+        assert_eq!(rt; format!(in rt.alloc(); "{fault}")?.as_str(), text);
+    }
+    Ok(())
+}
