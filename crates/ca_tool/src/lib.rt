@@ -12,3 +12,6 @@ pub use fault::{Fault, InputFault, ToolFault};
 pub use printing::{lines, status};
 pub use read::{MAX_FILE, read_all};
 pub use run::verify_run;
+
+#[cfg(test)]
+mod tests;

@@ -1,0 +1,8 @@
+//! Texts that come out for texts that go in, and devices that fail.
+
+mod complaints;
+mod devices;
+mod memory;
+mod printed;
+mod reads;
+mod runs;

@@ -1,0 +1,80 @@
+//! The line of each fault.
+
+use super::devices::{Full, Narrow};
+use crate::{Fault, InputFault, ToolFault, complain};
+use ca_claims::ClaimFault;
+use ca_plane::{Dev, WriteFault};
+use std::test::*;
+
+#[test]
+fn a_line_for_each_fault(rt: HostRuntime) -> Result<(), Fail> {
+    for (fault, line) in [
+        (Fault::Input(InputFault::Read), "cafile: cannot read p\n"),
+        (Fault::Input(InputFault::TooLong), "cafile: too long p\n"),
+        (Fault::Input(InputFault::Memory), "cafile: memory\n"),
+        (Fault::Claims(ClaimFault::Memory), "cafile: memory\n"),
+        (Fault::Tool(ToolFault::Memory), "cafile: memory\n"),
+        (Fault::Tool(ToolFault::Write), "cafile: write\n"),
+        (
+            Fault::Claims(ClaimFault::Syntax { line: 7 }),
+            "cafile: claims line 7: syntax\n",
+        ),
+        (
+            Fault::Claims(ClaimFault::UnknownName { line: 7 }),
+            "cafile: claims line 7: unknown name\n",
+        ),
+        (
+            Fault::Claims(ClaimFault::NameTaken { line: u64::MAX }),
+            "cafile: claims line 18446744073709551615: name taken\n",
+        ),
+    ] {
+        let mut device = Dev::new(Vec::new(rt.alloc()));
+        complain(&fault, b"p", &mut device)?;
+        assert_eq!(rt; device.inner.as_slice(), line.as_bytes());
+        assert_eq!(rt; device.failures, 0);
+    }
+    Ok(())
+}
+
+#[test]
+fn a_line_in_pieces(rt: HostRuntime) -> Result<(), Fail> {
+    let line = b"cafile: cannot read blocks/still.claims\n".as_slice();
+    let fault = Fault::Input(InputFault::Read);
+    let mut device = Narrow::device(rt.alloc(), 3, line.len(), Full::Fails);
+    complain(&fault, b"blocks/still.claims", &mut device)?;
+    assert_eq!(rt; device.inner.taken.as_slice(), line);
+    assert_eq!(rt; device.failures, 0);
+    Ok(())
+}
+
+#[test]
+fn a_first_part_of_a_line(rt: HostRuntime) {
+    let line = b"cafile: claims line 7: unknown name\n".as_slice();
+    let fault = Fault::Claims(ClaimFault::UnknownName { line: 7 });
+    for full in [Full::Fails, Full::TakesNone] {
+        for room in 0..line.len() {
+            let mut device = Narrow::device(rt.alloc(), 3, room, full);
+            assert_eq!(rt; complain(&fault, b"p", &mut device), Err(WriteFault::Write));
+            assert_eq!(rt; device.inner.taken.as_slice(), &line[..room]);
+            assert_eq!(rt; device.failures, 1);
+        }
+    }
+}
+
+#[test]
+fn faults_tell_why(rt: HostRuntime) -> Result<(), Fail> {
+    for (fault, text) in [
+        (Fault::Input(InputFault::Read), "reading failed"),
+        (Fault::Input(InputFault::TooLong), "too long"),
+        (Fault::Input(InputFault::Memory), "out of memory"),
+        (
+            Fault::Claims(ClaimFault::Syntax { line: 7 }),
+            "line 7: syntax",
+        ),
+        (Fault::Tool(ToolFault::Write), "writing failed"),
+        (Fault::Tool(ToolFault::Memory), "out of memory"),
+    ] {
+        assert_eq!(rt; format!(in rt.alloc(); "{fault}")?.as_str(), text);
+    }
+    Ok(())
+}

@@ -1,0 +1,77 @@
+//! Lines and statuses of answers made by hand.
+
+use crate::{lines, status};
+use ca_claims::{Answer, Cause, Verdict, Why};
+use std::test::*;
+
+const DIFFERS: Verdict = Verdict::No(Why::Differs {
+    x: -1,
+    y: i64::MIN,
+    found: 255,
+    claimed: 0,
+    gens: 4_294_967_295,
+});
+
+#[test]
+fn a_line_for_each_answer(rt: HostRuntime) -> Result<(), Fail> {
+    for (line, verdict, text) in [
+        (1, Verdict::Yes, "line 1: yes\n"),
+        (10, Verdict::No(Why::Empty), "line 10: no, empty\n"),
+        (
+            u64::MAX,
+            DIFFERS,
+            "line 18446744073709551615: no, cells differ after 4294967295\n",
+        ),
+        (
+            0,
+            Verdict::Refused(Cause::NoFile),
+            "line 0: refused, no file\n",
+        ),
+        (
+            99,
+            Verdict::Refused(Cause::NotYet),
+            "line 99: refused, not yet\n",
+        ),
+        (
+            100,
+            Verdict::Refused(Cause::Memory),
+            "line 100: refused, memory\n",
+        ),
+    ] {
+        let answers = [
+            Answer { line, verdict },
+            Answer {
+                line: 3,
+                verdict: Verdict::Yes,
+            },
+        ];
+        let printed = lines(rt.alloc(), &answers)?;
+        assert_eq!(rt;
+            printed.strip_suffix(b"line 3: yes\n".as_slice()),
+            Some(text.as_bytes())
+        );
+    }
+    assert!(rt; lines(rt.alloc(), &[])?.is_empty());
+    Ok(())
+}
+
+#[test]
+fn the_status_is_the_worst(rt: HostRuntime) {
+    let yes = Verdict::Yes;
+    let no = Verdict::No(Why::Empty);
+    let refused = Verdict::Refused(Cause::NotYet);
+    let lost = Verdict::Refused(Cause::NoFile);
+    let short = Verdict::Refused(Cause::Memory);
+    assert_eq!(rt; status(&[]), 0);
+    for (verdicts, want) in [
+        ([yes, yes, yes], 0),
+        ([no, yes, yes], 1),
+        ([yes, yes, DIFFERS], 1),
+        ([refused, yes, yes], 2),
+        ([lost, no, yes], 2),
+        ([no, DIFFERS, short], 2),
+    ] {
+        let answers = verdicts.map(|verdict| Answer { line: 1, verdict });
+        assert_eq!(rt; status(&answers), want, "of {verdicts:?}");
+    }
+}
