@@ -1,8 +1,7 @@
 -- The lines of bytes and the words of a line, as they are split off.
-use Rattle.std.proofs.Common.{◌≡◌, ◌≢◌, ℕ, suc, ◌<◌, Bool, true, false, not, ◌==◌, List, [], ◌∷◌, ◌++◌, take, length, codes, refl, sym, ap, ◌∙◌, arith}
+use Rattle.std.proofs.Common.{◌≡◌, ◌≢◌, ℕ, suc, ◌<◌, Bool, true, false, not, List, [], ◌∷◌, ◌++◌, length, codes, refl, sym, ap, ◌∙◌, arith}
 use Rattle.std.specs.Str.{bytes_eq}
 use Rattle.std.proofs.lemmas.Bool.{both_ways, not-true, false≢true}
-use Rattle.std.proofs.lemmas.Bool.Decides.{nat_tests}
 use Rattle.std.proofs.lemmas.Slice.Eq.{bytes_eq-Decides}
 use Rattle.std.proofs.lemmas.List.{append-nil}
 use Rattle.ca_plane.specs.Bytes.{Every, front, rest, is_end_or, is_line_end, is_blank, is_word_byte, IsWord, lines_of, words_of}
@@ -74,15 +73,10 @@ module _ (bytes : List ℕ) (line : Every (λ b. not (is_line_end b)) bytes) whe
       let empty : rest is_blank bytes ≡ [] = no_byte is_blank (rest is_blank bytes) (ap (is_end_or is_blank) (sym same) ∙ blank_after) (rest_ends is_blank bytes) in
       words_behind ∙ ap words_of empty
 
--- a word that doesn't begin with `#`
-no_comment : (keyword : List ℕ) → 0 < length keyword → bytes_eq (35 ∷ []) (take 1 keyword) ≡ false → is_end_or (λ b. b == 35) keyword ≡ false
-no_comment [] some h = absurd (omega arith)
-no_comment (b ∷ bs) some h = grind (arith, nat_tests)
-
 -- words that begin with another keyword say nothing
-pub other_keyword : (keyword : List ℕ) (more : List (List ℕ)) → 0 < length keyword → bytes_eq (35 ∷ []) (take 1 keyword) ≡ false → bytes_eq keyword (codes "load") ≡ false → bytes_eq keyword (codes "still") ≡ false
+pub other_keyword : (keyword : List ℕ) (more : List (List ℕ)) → is_skipped (keyword ∷ []) ≡ false → bytes_eq keyword (codes "load") ≡ false → bytes_eq keyword (codes "still") ≡ false
     → (is_skipped (keyword ∷ more) ≡ false) × ((line : Line) → WordsSay (keyword ∷ more) line → ⊥)
-other_keyword keyword more some comment load still = (no_comment keyword some comment, other)
+other_keyword keyword more comment load still = (comment, other)
   where
     other : (line : Line) → WordsSay (keyword ∷ more) line → ⊥
     other (Load name path) h =

@@ -1,10 +1,10 @@
 //! A claim text read, a line at a time.
 
-ghost use Rattle.std.specs.Prelude.{◌≡◌, ℕ, ◌+◌, ◌∷◌, [], ◌++◌, List, Option, Some, None, not, codes, length, OnOk, IfOk, IfErr};
+ghost use Rattle.std.specs.Prelude.{◌≡◌, ℕ, ◌+◌, ◌∷◌, [], ◌++◌, List, Option, Some, None, not, codes, length, is_some, OnOk, IfOk, IfErr};
 ghost use Rattle.ca_plane.specs.Bytes.{Every, is_line_end, words_of};
 ghost use Rattle.ca_claims.specs.Text.{Line, Load, Claims as Claiming, Still as StillOf, IsAllowed, IsClaimText, spoken, asked_by};
 ghost use Rattle.ca_claims.specs.TextFaults.{IsFirstFault};
-ghost use Rattle.ca_claims.specs.Reading.{IsReading, SaysNext, HasFault};
+ghost use Rattle.ca_claims.specs.Reading.{IsReading, SaysNext, HasFault, place_of};
 
 use super::paths::Paths;
 use super::words::{LineKind, line_kind, next_line};
@@ -33,6 +33,13 @@ impl<'a> Reading<'a> {
         }
     }
 
+    /// Whether a line has loaded the name.
+    fn is_loaded(&self, name: &[u8]) -> bool
+        ensures { result ≡ is_some (place_of self.now.names name.now) }
+    {
+        self.names.contains_key(name)
+    }
+
     /// The line with this number loads the name from the path.
     fn load(
         &mut self,
@@ -47,7 +54,7 @@ impl<'a> Reading<'a> {
         ensures fault { IfErr result (λ f. (said : List (Option Line)) → IsReading said self.old
             → HasFault line (spoken said) (codes "load" ∷ name.now ∷ path.now ∷ []) f) }
     {
-        if self.names.contains_key(name) {
+        if self.is_loaded(name) {
             return Err(ClaimFault::NameTaken { line });
         }
         let Ok(place) = self.paths.put(alloc, path) else {

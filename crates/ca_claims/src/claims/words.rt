@@ -2,6 +2,7 @@
 
 ghost use Rattle.std.specs.Prelude.{◌≡◌, ◌≢◌, ℕ, ◌<◌, List, [], ◌∷◌, not, length, codes, MatchOption, IfSome};
 ghost use Rattle.ca_plane.specs.Bytes.{Every, is_line_end, lines_of, words_of};
+ghost use Rattle.ca_claims.specs.Text.{is_skipped};
 ghost use Rattle.ca_claims.specs.Reading.{IsKind};
 
 use ca_plane::bytes::{split_blanks, split_line, split_word};
@@ -70,6 +71,14 @@ pub(crate) enum LineKind<'a> {
     Misspelled,
 }
 
+/// Whether a line whose first word this is says nothing.
+fn begins_comment(word: &[u8]) -> bool
+    requires { 0 < length word.now }
+    ensures { result ≡ is_skipped (word.now ∷ []) }
+{
+    word.starts_with(b"#")
+}
+
 /// What the line says.
 pub(crate) fn line_kind(line: &[u8]) -> LineKind<'_>
     requires { Every (λ b. not (is_line_end b)) line.now }
@@ -78,7 +87,7 @@ pub(crate) fn line_kind(line: &[u8]) -> LineKind<'_>
     let Some((keyword, rest)) = next_word(line) else {
         return LineKind::Skipped;
     };
-    if keyword.starts_with(b"#") {
+    if begins_comment(keyword) {
         return LineKind::Skipped;
     }
     if keyword == b"load".as_slice() {

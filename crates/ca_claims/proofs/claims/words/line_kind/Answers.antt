@@ -11,6 +11,6 @@ returns c =
     let words = c.in-Some.ensures.words in
     let load = ap (bytes_eq keyword) (sym c.as_slice.ensures) ∙ sym c.if-eq.ensures in
     let still = ap (bytes_eq keyword) (sym c.as_slice-2.ensures) ∙ sym c.if-eq-2.ensures in
-    let said = other_keyword keyword (words_of c.in-Some.rest.now) c.in-Some.ensures.word (sym c.if-starts_with.ensures.value) load still in
+    let said = other_keyword keyword (words_of c.in-Some.rest.now) (sym c.if-begins_comment.ensures) load still in
     let P : List (List ℕ) → Type 0 = λ ws. (is_skipped ws ≡ false) × ((line : Line) → WordsSay ws line → ⊥) in
     subst P (sym words) said
