@@ -1,3 +1,4 @@
+pub mod Boxes
 pub mod Fronts
 pub mod Kept
 pub mod Lengths
@@ -6,3 +7,4 @@ pub mod Numbers
 pub mod Pictures
 pub mod Same
 pub mod Sends
+pub mod Shifts

@@ -14,7 +14,7 @@ use Rattle.std.specs.BTreeMap.{is_at}
 use Rattle.std.proofs.lemmas.Bool.{cases_eq, cond_both, cond-false, and_parts, false_from_ne_true}
 use Rattle.std.proofs.lemmas.Bool.Decides.{Decides-int_eq}
 use Rattle.std.proofs.lemmas.Cmp.{int_eq_equiv, int_cmp_total, then_total, on_total, eq_by_cmp_equiv, tied_itself}
-use Rattle.std.proofs.lemmas.List.Elements.{All-nil, All-head, All-tail, All-contains, Contains-get_or}
+use Rattle.std.proofs.lemmas.List.Elements.{All-nil, All-head, All-tail, All-contains, Contains-get_or, Contains-append_right}
 use Rattle.std.proofs.lemmas.Map.Keys.{IsDistinct-from_sorted, sorted_head, sorted_tail}
 use Rattle.std.proofs.lemmas.Map.Lookups.{CmpEqualImpliesEq, exact_pairs, exact_signed}
 use Rattle.std.proofs.lemmas.Map.Views.{All-turn, Contains-from_lookup, lookup-from_Contains, tells_apart}
@@ -153,6 +153,11 @@ IsListed-all p sparse = λ k d l. record {
   within = sparse.places k d l;
 }
 
+-- a cell in the middle is listed
+pub IsListed-at : (p xs t : Picture) (e : Point × ℕ) → IsSparse p → p ≡ xs ++ e ∷ t → IsListed p e
+IsListed-at p xs t e sparse split =
+    All-contains (IsListed p) p e (IsListed-all p sparse) (subst (λ (q : Picture). Contains q e) (sym split) (Contains-append_right xs (e ∷ t) e (0, omega arith, refl)))
+
 -- the item of a turn is listed
 pub IsListed-turn : (p xs s t u : Picture) (r : Option (Point × ℕ)) (e : Point × ℕ) → IsSparse p → s ≡ p → Yields (YieldsFirst (λ c. c)) s xs t → r ≡ Some e → YieldsFirst (λ c. c) t r u → IsListed p e
 IsListed-turn p xs s t u r e sparse start yields some step = All-turn (λ e. e) (IsListed p) p xs s t u r e (IsListed-all p sparse) start yields some step
@@ -198,7 +203,7 @@ point-middle P [] t e all = all.0
 point-middle P (x ∷ xs) t e all = point-middle P xs t e all.1
 
 -- points with the same coordinates are the same
-point-same : (p q : Point) → p.y ≡ q.y → p.x ≡ q.x → p ≡ q
+pub point-same : (p q : Point) → p.y ≡ q.y → p.x ≡ q.x → p ≡ q
 point-same p q e f =
     let along : record { y = p.y; x = p.x } ≡ record { y = q.y; x = q.x } = cc in along
 

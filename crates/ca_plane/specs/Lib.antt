@@ -4,3 +4,4 @@ pub mod Change
 pub mod Sparse
 pub mod Bytes
 pub mod Device
+pub mod Box

@@ -10,6 +10,6 @@ mod point;
 
 pub use automaton::Automaton;
 pub use device::{Dev, Failed, send};
-pub use memory::{Memory, WriteFault};
+pub use memory::{Memory, MoveFault, WriteFault};
 pub use plane::{Cells, Plane};
 pub use point::{Bounds, Nine, Point};

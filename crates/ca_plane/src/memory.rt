@@ -1,6 +1,7 @@
 //! Want of memory, and what keeps a text from being written.
 
 ghost use Rattle.std.specs.Prelude.{◌≡◌};
+ghost use Rattle.ca_plane.specs.declared.memory.MoveFault.TheVariants.{Memory};
 
 use std::alloc::{AllocError, AllocFailed};
 use thiserror::Error;
@@ -35,4 +36,23 @@ pub enum WriteFault {
     /// A write failed or took no byte, after some first part of the text was written.
     #[error("writing failed")]
     Write,
+}
+
+/// Why a plane was not moved.
+#[derive(Clone, Copy, Debug, PartialEq, Eq, Error)]
+pub enum MoveFault {
+    /// A growth was refused.
+    #[error("out of memory")]
+    Memory,
+    /// A cell would leave the square in which a plane keeps its cells.
+    #[error("a cell would leave the plane")]
+    Range,
+}
+
+impl From<Memory> for MoveFault {
+    ghost from_gives = { λ _ f. f ≡ Memory };
+
+    fn from(_refused: Memory) -> MoveFault {
+        MoveFault::Memory
+    }
 }

@@ -1,16 +1,19 @@
 //! The sparse plane: the cells that aren't 0, by their points.
-ghost use Rattle.std.specs.Prelude.{◌≡◌, ◌+◌, ◌≤◌, ◌↔◌, [], length, IsTrue, IsFalse, IsOk, OnOk, OnErr, IsNone, IfSome};
+ghost use Rattle.std.specs.Prelude.{◌≡◌, ◌+◌, ◌≤◌, ◌↔◌, [], length, IsTrue, IsFalse, IsOk, OnOk, OnErr, IfOk, IsNone, IfSome};
 ghost use Rattle.std.specs.List.{All};
 ghost use Rattle.std.specs.Iterator.{YieldsFirst, item_count};
 ghost use Rattle.ca_plane.specs.Plane.{cell, IsSame, IsLive};
+ghost use Rattle.ca_plane.specs.Box.{IsLeastBox};
 ghost use Rattle.ca_plane.specs.Change.{Sets, DifferAt};
 ghost use Rattle.ca_plane.specs.Sparse.{IsInPlane, IsSparse};
 
 use crate::memory::Memory;
-use crate::point::Point;
+use crate::point::{Bounds, Point};
 use std::alloc::Global;
 use std::collections::{BTreeMap, btree_map};
 use std::marker::Model;
+
+mod moved;
 
 /// A plane that keeps its cells of the states 1 to 255, by their points. Every other cell is 0.
 #[derive(Drop)]
@@ -90,6 +93,35 @@ impl Plane {
         Cells {
             entries: self.cells.iter(),
         }
+    }
+
+    /// The least box round the cells that aren't 0, where there are any.
+    pub fn bounds(&self) -> Option<Bounds>
+        ensures none { IsNone result ↔ (IsLive self.now → ⊥) }
+        ensures some { IfSome result (IsLeastBox self.now) }
+    {
+        let mut cells = self.cells();
+        let (first, _) = cells.next()?;
+        let mut bounds = Bounds::of(first);
+        'cells: for (point, _) in cells {
+            bounds = bounds.grown(point);
+        }
+        Some(bounds)
+    }
+
+    /// The same plane in memory of its own.
+    ///
+    /// # Errors
+    ///
+    /// Fails where there is no memory for it.
+    pub fn copy(&self, alloc: Global) -> Result<Plane, Memory>
+        ensures { IfOk result (λ q. q ≡ self.now) }
+    {
+        let mut copy = Plane::new(alloc);
+        'cells: for (point, state) in self.cells() {
+            copy.set(point, state)?;
+        }
+        Ok(copy)
     }
 
     /// Whether every cell is the same in both planes.

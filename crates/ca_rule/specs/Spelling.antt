@@ -1,43 +1,74 @@
--- How a B/S rule is spelled (Golly Help, QuickLife), and what is wrong with a text that spells none.
-use Rattle.std.specs.Prelude.{◌≡◌, ℕ, ◌+◌, List, [], ◌∷◌, ◌++◌, Bool, true, false, ◌&&◌, nat_le, ◌==◌, IsTrue}
+-- How a B/S rule is spelled (Golly Help, QuickLife; which texts are accepted besides `B3/S23` and `23/3` is our own),
+-- how it is printed (our own), and what is wrong with a text that spells none.
+use Rattle.std.specs.Prelude.{◌≡◌, ℕ, ◌+◌, List, [], ◌∷◌, ◌++◌, Bool, true, false, ◌==◌, IsTrue, ◌⊎◌, filter, map}
 use Rattle.std.specs.List.{list_any}
-use Rattle.ca_rule.specs.Counts.{has_digit, counts_of}
+use Rattle.ca_rule.specs.Counts.{most_of, is_count, has_digit, counts_of, are_digits_up_to}
 use Rattle.ca_rule.specs.declared.bs_rule.BsRule.{BsRule}
+use Rattle.ca_rule.specs.declared.counts.Counts.{Counts}
+use Rattle.ca_rule.specs.declared.hood.Hood.{Hood}
+use Rattle.ca_rule.specs.declared.hood.Hood.TheVariants.{Moore, VonNeumann, Hex}
 use Rattle.ca_rule.specs.declared.fault.RuleFault.{RuleFault}
 use Rattle.ca_rule.specs.declared.fault.RuleFault.TheVariants.{Bounded, Wakes, Unknown}
 
--- rising digits up to `8`, each at most once, the first not below low
-abbrev pub are_rising_from : ℕ → List ℕ → Bool
-are_rising_from low [] = true
-are_rising_from low (d ∷ ds) = (nat_le low d && nat_le d 56) && are_rising_from (d + 1) ds
+-- `B`, `S` or `/` where it is given in upper case: the byte is this letter, of either case
+abbrev pub IsLetter : ℕ → ℕ → Type 0
+IsLetter upper byte = (byte ≡ upper) ⊎ (byte ≡ upper + 32)
 
--- rising digits from `0` to `8`, each at most once, or none
-abbrev pub AreRisingDigits : List ℕ → Type 0
-AreRisingDigits digits = IsTrue (are_rising_from 48 digits)
+-- nothing behind the digits for all eight neighbours, `V` for the four that share a side, `H` for six
+abbrev pub IsSuffix : Hood → List ℕ → Type 0
+IsSuffix Moore suffix = suffix ≡ []
+IsSuffix VonNeumann suffix = (byte : ℕ) × IsLetter 86 byte × (suffix ≡ byte ∷ [])
+IsSuffix Hex suffix = (byte : ℕ) × IsLetter 72 byte × (suffix ≡ byte ∷ [])
 
--- `B`, the birth digits, `/`, `S`, the survival digits: `B3/S23` is Conway's Life
-abbrev pub IsBirthFirst : List ℕ → List ℕ → List ℕ → Type 0
-IsBirthFirst text birth survival = (text ≡ (66 ∷ birth) ++ (47 ∷ 83 ∷ survival)) × AreRisingDigits birth × AreRisingDigits survival
+-- a `/` or nothing
+abbrev pub IsOptionalSlash : List ℕ → Type 0
+IsOptionalSlash bytes = (bytes ≡ []) ⊎ (bytes ≡ 47 ∷ [])
 
--- the text spells a rule with these birth and survival digits (a further spelling is a further case here)
-abbrev pub Spells : List ℕ → List ℕ → List ℕ → Type 0
-Spells text birth survival = IsBirthFirst text birth survival
+-- a letter and digits, an optional `/`, another letter and digits, and the suffix: as `B3/S23`, `s23b3`, `B2S34H`
+abbrev pub IsLettered : ℕ → ℕ → List ℕ → List ℕ → List ℕ → Hood → Type 0
+IsLettered first second text digits later hood = (a : ℕ) × (b : ℕ) × (slash : List ℕ) × (suffix : List ℕ)
+    × IsLetter first a × IsLetter second b × IsOptionalSlash slash × IsSuffix hood suffix
+    × (text ≡ a ∷ (digits ++ (slash ++ b ∷ (later ++ suffix))))
 
--- birth on 0 would wake the empty plane
-abbrev pub WakesEmpty : List ℕ → Type 0
-WakesEmpty birth = IsTrue (has_digit birth 0)
+-- survival digits, `/`, birth digits, and the suffix: as `23/3`
+abbrev pub IsUnlettered : List ℕ → List ℕ → List ℕ → Hood → Type 0
+IsUnlettered text survival birth hood = (suffix : List ℕ) × IsSuffix hood suffix × (text ≡ survival ++ (47 ∷ (birth ++ suffix)))
+
+-- the text spells a rule with these birth and survival digits over this neighbourhood, no digit above its size
+pub record Spells (text birth survival : List ℕ) (hood : Hood) : Type 0 where
+  pub birth_digits : IsTrue (are_digits_up_to (most_of hood) birth)
+  pub survival_digits : IsTrue (are_digits_up_to (most_of hood) survival)
+  pub form : IsLettered 66 83 text birth survival hood ⊎ (IsLettered 83 66 text survival birth hood ⊎ IsUnlettered text survival birth hood)
 
 -- `:` begins the size of a bounded grid
 abbrev pub has_colon : List ℕ → Bool
 has_colon text = list_any (λ b. b == 58) text
 
 -- the text names the rule: it spells it, and leaves the empty plane empty
-abbrev pub Names : List ℕ → BsRule → Type 0
-Names text rule = (birth : List ℕ) × (survival : List ℕ) × Spells text birth survival
-    × (has_digit birth 0 ≡ false) × (rule.birth ≡ counts_of birth) × (rule.survival ≡ counts_of survival)
+pub record Names (text : List ℕ) (rule : BsRule) : Type 0 where
+  pub birth : List ℕ
+  pub survival : List ℕ
+  pub spells : Spells text birth survival rule.hood
+  pub stays_empty : has_digit birth 0 ≡ false
+  pub birth_is : rule.birth ≡ counts_of birth
+  pub survival_is : rule.survival ≡ counts_of survival
 
 -- the fault of a text that names no rule: a bounded grid, else a rule that wakes the empty plane, else no spelling
 abbrev pub IsFaultOf : List ℕ → RuleFault → Type 0
 IsFaultOf text Bounded = has_colon text ≡ true
-IsFaultOf text Wakes = (has_colon text ≡ false) × (birth : List ℕ) × (survival : List ℕ) × Spells text birth survival × WakesEmpty birth
-IsFaultOf text Unknown = (has_colon text ≡ false) × ((birth survival : List ℕ) → Spells text birth survival → ⊥)
+IsFaultOf text Wakes = (has_colon text ≡ false) × (birth : List ℕ) × (survival : List ℕ) × (hood : Hood) × Spells text birth survival hood × (has_digit birth 0 ≡ true)
+IsFaultOf text Unknown = (has_colon text ≡ false) × ((birth survival : List ℕ) (hood : Hood) → Spells text birth survival hood → ⊥)
+
+-- the digits of counts, rising, each once
+abbrev pub digits_of : Counts → List ℕ
+digits_of counts = map (λ n. 48 + n) (filter (is_count counts) (0 ∷ 1 ∷ 2 ∷ 3 ∷ 4 ∷ 5 ∷ 6 ∷ 7 ∷ 8 ∷ []))
+
+-- the suffix that is printed
+abbrev pub suffix_of : Hood → List ℕ
+suffix_of Moore = []
+suffix_of VonNeumann = 86 ∷ []
+suffix_of Hex = 72 ∷ []
+
+-- the printed form: `B`, the birth digits, `/S`, the survival digits, and the suffix
+abbrev pub printed : Hood → Counts → Counts → List ℕ
+printed hood birth survival = 66 ∷ (digits_of birth ++ (47 ∷ 83 ∷ (digits_of survival ++ suffix_of hood)))

@@ -1,5 +1,6 @@
+use crate::memory::MoveFault;
 use crate::plane::Plane;
-use crate::point::Point;
+use crate::point::{Bounds, Point};
 use std::test::*;
 
 const FAR: i64 = 1 << 62;
@@ -62,5 +63,65 @@ fn planes_differ_where_either_has_a_cell(rt: HostRuntime) -> Result<(), Fail> {
     there.set(Point { y: -7, x: 7 }, 2)?;
     assert_eq!(rt; here.len(), there.len());
     assert!(rt; !here.same(&there));
+    Ok(())
+}
+
+#[test]
+fn one_cell_is_boxed_copied_and_moved(rt: HostRuntime) -> Result<(), Fail> {
+    let mut plane = Plane::new(rt.alloc());
+    plane.set(Point { y: 4, x: 3 }, 2)?;
+    let cell = Bounds {
+        x0: 3,
+        y0: 4,
+        x1: 3,
+        y1: 4,
+    };
+    assert_eq!(rt; plane.bounds(), Some(cell));
+    assert!(rt; plane.copy(rt.alloc())?.same(&plane));
+    let moved = plane.translated(rt.alloc(), 1, -1)?;
+    assert_eq!(rt; moved.get(Point { y: 3, x: 4 }), 2);
+    assert_eq!(rt; moved.len(), 1);
+    assert_eq!(rt;
+        plane.translated(rt.alloc(), FAR, 0).err(),
+        Some(MoveFault::Range)
+    );
+    plane.set(Point { y: 4, x: 3 }, 0)?;
+    assert_eq!(rt; plane.bounds(), None);
+    Ok(())
+}
+
+#[test]
+fn the_least_box_reaches_every_cell(rt: HostRuntime) -> Result<(), Fail> {
+    let mut plane = Plane::new(rt.alloc());
+    plane.set(Point { y: -7, x: 2 }, 1)?;
+    plane.set(Point { y: 5, x: -1 }, 3)?;
+    plane.set(Point { y: 0, x: -9 }, 1)?;
+    plane.set(Point { y: -1, x: 8 }, 255)?;
+    let all = Bounds {
+        x0: -9,
+        y0: -7,
+        x1: 8,
+        y1: 5,
+    };
+    assert_eq!(rt; plane.bounds(), Some(all));
+    Ok(())
+}
+
+#[test]
+fn planes_move_to_the_edge_and_no_further(rt: HostRuntime) -> Result<(), Fail> {
+    let mut plane = Plane::new(rt.alloc());
+    assert!(rt; plane.translated(rt.alloc(), i64::MAX, i64::MIN)?.is_empty());
+    plane.set(Point { y: 0, x: FAR - 1 }, 7)?;
+    plane.set(Point { y: -FAR, x: 0 }, 9)?;
+    let moved = plane.translated(rt.alloc(), 1, 0)?;
+    assert_eq!(rt; moved.get(Point { y: 0, x: FAR }), 7);
+    assert_eq!(rt; moved.get(Point { y: -FAR, x: 1 }), 9);
+    assert_eq!(rt; moved.len(), 2);
+    for (dx, dy) in [(2, 0), (0, -1), (i64::MAX, i64::MAX), (i64::MIN, i64::MIN)] {
+        assert_eq!(rt;
+            plane.translated(rt.alloc(), dx, dy).err(),
+            Some(MoveFault::Range)
+        );
+    }
     Ok(())
 }

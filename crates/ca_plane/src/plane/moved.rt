@@ -1,0 +1,78 @@
+//! Planes that are moved.
+
+ghost use Rattle.std.specs.Prelude.{◌≡◌, IsTrue, IsFalse, IsOk, IfOk, IsErrOf, ◌↔◌, ◌≤ℤ◌, ◌+ℤ◌, pos, neg_ℤ, ◌^◌};
+ghost use Rattle.ca_plane.specs.Plane.{IsSame, shifted};
+ghost use Rattle.ca_plane.specs.Box.{LeavesPlane, StaysInPlane, moved};
+ghost use Rattle.ca_plane.specs.Sparse.{IsInPlane};
+
+use crate::memory::MoveFault;
+use crate::plane::Plane;
+use crate::point::Point;
+use std::alloc::Global;
+
+// The greatest coordinate of a plane's cells.
+const FAR: i128 = 1 << 62;
+
+impl Plane {
+    /// The plane moved by `dx` to the right and `dy` downward.
+    ///
+    /// # Errors
+    ///
+    /// `Range` just where a cell would lie beyond 2^62 in some direction, whatever the memory; else fails where there is
+    /// no memory for the moved plane.
+    pub fn translated(&self, alloc: Global, dx: i64, dy: i64) -> Result<Plane, MoveFault>
+        ensures moved { IfOk result (λ q. IsSame q (shifted self.now dx dy)) }
+        ensures range { IsErrOf result MoveFault.Range ↔ LeavesPlane self.now dx dy }
+        ensures within { IsOk result → LeavesPlane self.now dx dy → ⊥ }
+    {
+        if !self.stays(dx, dy) {
+            return Err(MoveFault::Range);
+        }
+        let mut moved = Plane::new(alloc);
+        'cells: for (point, state) in self.cells() {
+            moved.set(point.moved(dx, dy), state)?;
+        }
+        Ok(moved)
+    }
+
+    // Whether each cell stays in the square of a plane when it is moved.
+    fn stays(&self, dx: i64, dy: i64) -> bool
+        ensures stays { IsTrue result → StaysInPlane self.now dx dy }
+        ensures leaves { IsFalse result → LeavesPlane self.now dx dy }
+    {
+        'cells: for (point, _) in self.cells() {
+            if !point.stays(dx, dy) {
+                return false;
+            }
+        }
+        true
+    }
+}
+
+impl Point {
+    // Whether the point is in the square of a plane when it is moved.
+    fn stays(self, dx: i64, dy: i64) -> bool
+        ensures { IsTrue result ↔ IsInPlane (moved self dx dy) }
+    {
+        is_near(self.x, dx) && is_near(self.y, dy)
+    }
+
+    // The point moved by (dx, dy).
+    fn moved(self, dx: i64, dy: i64) -> Point
+        requires { IsInPlane (moved self dx dy) }
+        ensures { result ≡ moved self dx dy }
+    {
+        Point {
+            y: self.y + dy,
+            x: self.x + dx,
+        }
+    }
+}
+
+// Whether a coordinate is one of the square of a plane when it is moved.
+fn is_near(coordinate: i64, distance: i64) -> bool
+    ensures { IsTrue result ↔ (neg_ℤ (pos (2 ^ 62)) ≤ℤ (coordinate +ℤ distance)) × ((coordinate +ℤ distance) ≤ℤ pos (2 ^ 62)) }
+{
+    let moved = i128::from(coordinate) + i128::from(distance);
+    -FAR <= moved && moved <= FAR
+}
