@@ -7,13 +7,11 @@ use Rattle.ca_rule.specs.declared.bs_rule.BsRule.{BsRule}
 use Rattle.ca_rule.specs.declared.fault.RuleFault.{RuleFault}
 use Rattle.ca_rule.specs.Next.{next_of}
 use Rattle.ca_rule.specs.Spelling.{Names, IsFaultOf}
-use Rattle.ca_rule.proofs.Cut.{names-faultless}
 use Rattle.ca_rle.specs.declared.item.Item.{Item}
 use Rattle.ca_rle.specs.FirstForm.{IsFirstForm, first_form_file}
 use Rattle.ca_rle.specs.declared.pattern.Pattern.{Pattern}
 use Rattle.ca_rle.specs.Pattern.{IsPatternOf}
 use Rattle.ca_rle.specs.Shown.{picture_of}
-use Rattle.ca_rle.proofs.OneFirstForm.{one_form}
 use Rattle.ca_rle.proofs.FirstFormFile.{IsFile-from_first_form}
 use Rattle.ca_claims.specs.declared.verdict.Why.{Why}
 use Rattle.ca_claims.specs.declared.verdict.Why.TheVariants.{Empty, Differs}
@@ -27,7 +25,8 @@ use Rattle.ca_claims.specs.Means.{bytes_at}
 use Rattle.ca_claims.specs.Truth.{IsTrueClaim, IsReason, claimed_cell}
 use Rattle.ca_claims.specs.Near.{IsStill, IsChanged}
 use Rattle.ca_claims.specs.Decided.{IsDecided}
-use Rattle.ca_claims.specs.Answers.{IsReadable, IsJudged, IsTrueVerdict}
+use Rattle.ca_claims.specs.declared.verdict.Cause.TheVariants.{BadRule}
+use Rattle.ca_claims.specs.Answers.{HasCause, IsJudged, IsTrueVerdict}
 
 -- pictures that show the same cells show the same cells after n generations
 after-same : (next : List ℕ → ℕ) (p q : Picture) → IsSame p q → (n : ℕ) (x y : ℤ) → after next p n x y ≡ after next q n x y
@@ -73,34 +72,42 @@ judged files claim bytes rule_text items rule there form names = record {
   rule_text = rule_text;
   generation = 0;
   at_path = there;
-  readable = (rule_text, items, rule, form, names);
+  readable = (rule_text, items, form);
   means = (first_form_file rule_text items, IsFile-from_first_form bytes rule_text items form, refl, refl, refl);
   names = names;
 }
 
--- where a rule text has a fault, no rule can be read off the bytes
-pub unreadable : (bytes rule_text : List ℕ) (items : List Item) (fault : RuleFault) → IsFirstForm bytes rule_text items → IsFaultOf rule_text fault → IsReadable bytes → ⊥
-unreadable bytes rule_text items fault form wrong readable =
-    let same = one_form bytes rule_text readable.0 items readable.1 form readable.3 in
-    let names : Names rule_text readable.2 = subst (λ t. Names t readable.2) (sym same.0) readable.4 in
-    names-faultless rule_text names.0 names.1 fault names.2 names.3 wrong
+-- where the rule text of a text of the first form has a fault, that is the cause of a refusal
+pub refused_for_rule : (files : List (List ℕ × List ℕ)) (claim : Claim) (bytes rule_text : List ℕ) (items : List Item) (fault : RuleFault)
+    → bytes_at files (pattern_of claim) ≡ Some bytes → IsFirstForm bytes rule_text items → IsFaultOf rule_text fault
+    → HasCause files claim (BadRule fault)
+refused_for_rule files claim bytes rule_text items fault there form wrong = (
+  bytes,
+  first_form_picture items,
+  rule_text,
+  0,
+  there,
+  (rule_text, items, form),
+  (first_form_file rule_text items, IsFile-from_first_form bytes rule_text items form, refl, refl, refl),
+  wrong,
+)
 
 -- a verdict that is right of the cells that a reader's pattern has is a true verdict
 pub true_verdict : (files : List (List ℕ × List ℕ)) (claim : Claim) (bytes : List ℕ) (pattern : Pattern) (items : List Item) (rule : BsRule) (verdict : Verdict)
     → bytes_at files (pattern_of claim) ≡ Some bytes → IsFirstForm bytes pattern.rule_text.items items
     → IsPatternOf (first_form_file pattern.rule_text.items items) pattern → Names pattern.rule_text.items rule
-    → IsDecided (next_of rule.birth rule.survival) pattern.cells claim verdict → IsTrueVerdict files claim verdict
+    → IsDecided (next_of rule.hood rule.birth rule.survival) pattern.cells claim verdict → IsTrueVerdict files claim verdict
 true_verdict files claim bytes pattern items rule Yes there form shown names decided = (
   first_form_picture items,
   rule,
   judged files claim bytes pattern.rule_text.items items rule there form names,
-  true-same (next_of rule.birth rule.survival) pattern.cells (first_form_picture items) shown.cells claim decided,
+  true-same (next_of rule.hood rule.birth rule.survival) pattern.cells (first_form_picture items) shown.cells claim decided,
 )
 true_verdict files claim bytes pattern items rule (No why) there form shown names decided = (
   first_form_picture items,
   rule,
   judged files claim bytes pattern.rule_text.items items rule there form names,
-  reason-same (next_of rule.birth rule.survival) pattern.cells (first_form_picture items) shown.cells claim why decided,
+  reason-same (next_of rule.hood rule.birth rule.survival) pattern.cells (first_form_picture items) shown.cells claim why decided,
 )
 true_verdict files claim bytes pattern items rule (Refused cause) there form shown names decided = absurd decided
 

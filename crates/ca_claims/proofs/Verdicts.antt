@@ -46,7 +46,7 @@ false_from_reason next p (Still pattern) (Differs x y found claimed gens) reason
     reason.4 (sym reason.2 ∙ ap (λ n. after next p n x y) reason.1 ∙ same ∙ reason.3)
 
 -- the same for equal pictures and rules
-pub false_elsewhere : (p q : Picture) (r s : BsRule) (claim : Claim) (why : Why) → (p ≡ q) × (r.birth ≡ s.birth) × (r.survival ≡ s.survival) → IsTrueClaim (next_of r.birth r.survival) p claim → IsReason (next_of s.birth s.survival) q claim why → ⊥
+pub false_elsewhere : (p q : Picture) (r s : BsRule) (claim : Claim) (why : Why) → (p ≡ q) × (r.birth ≡ s.birth) × (r.survival ≡ s.survival) → IsTrueClaim (next_of r.hood r.birth r.survival) p claim → IsReason (next_of s.birth s.survival) q claim why → ⊥
 false_elsewhere p q r s claim why same true reason =
     let moved = subst (λ b. IsTrueClaim (next_of b r.survival) p claim) same.1 true in
     let moved' = subst (λ v. IsTrueClaim (next_of s.birth v) p claim) same.2 moved in

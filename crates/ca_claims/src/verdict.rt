@@ -1,5 +1,6 @@
 //! Verdicts on claims.
 
+use ca_rule::RuleFault;
 use thiserror::Error;
 
 /// Why a claim is false.
@@ -23,9 +24,12 @@ pub enum Cause {
     /// No file with the pattern's path was handed in.
     #[error("no file")]
     NoFile,
-    /// The pattern's file is of a form that isn't read yet, or its rule text is.
+    /// The pattern's file is of a form that isn't read yet.
     #[error("not yet")]
     NotYet,
+    /// The pattern's rule text names no rule.
+    #[error("{0}")]
+    BadRule(RuleFault),
     /// A growth was refused.
     #[error("out of memory")]
     Memory,

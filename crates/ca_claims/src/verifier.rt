@@ -72,10 +72,10 @@ fn judge(alloc: Global, claim: ClaimKind, bytes: Option<&[u8]>) -> Verdict
         Err(FirstFormFault::OtherForm) => return Verdict::Refused(Cause::NotYet),
         Err(FirstFormFault::Memory) => return Verdict::Refused(Cause::Memory),
     };
-    let Ok(rule) = BsRule::parse(&pattern.rule_text) else {
-        return Verdict::Refused(Cause::NotYet);
-    };
-    decide(&rule, &pattern.cells, claim)
+    match BsRule::parse(&pattern.rule_text) {
+        Ok(rule) => decide(&rule, &pattern.cells, claim),
+        Err(fault) => Verdict::Refused(Cause::BadRule(fault)),
+    }
 }
 
 // Whether the claim is true of the cells under the rule.

@@ -1,6 +1,8 @@
 -- The bytes that are printed for an answer and for a fault (our own; docs/CLAIMS.md).
 use Rattle.std.specs.Prelude.{ℕ, List, [], ◌∷◌, ◌++◌, Bool, true, false, codes, decimal, if◌then◌else◌}
 use Rattle.std.specs.List.{flat_map, list_any}
+use Rattle.ca_rule.specs.declared.fault.RuleFault.{RuleFault}
+use Rattle.ca_rule.specs.declared.fault.RuleFault.TheVariants as rules
 use Rattle.ca_claims.specs.declared.fault.ClaimFault.{ClaimFault}
 use Rattle.ca_claims.specs.declared.fault.ClaimFault.TheVariants as claims
 use Rattle.ca_claims.specs.declared.verdict.Answer.{Answer}
@@ -22,10 +24,17 @@ abbrev pub why_text : Why → List ℕ
 why_text Empty = codes "empty"
 why_text (Differs x y found claimed gens) = codes "cells differ after " ++ decimal gens
 
+-- why a text names no rule
+abbrev pub rule_fault_text : RuleFault → List ℕ
+rule_fault_text rules.Bounded = codes "bounded"
+rule_fault_text rules.Wakes = codes "wakes"
+rule_fault_text rules.Unknown = codes "unknown"
+
 -- why a claim isn't judged
 abbrev pub cause_text : Cause → List ℕ
 cause_text causes.NoFile = codes "no file"
 cause_text causes.NotYet = codes "not yet"
+cause_text (causes.BadRule fault) = codes "bad rule: " ++ rule_fault_text fault
 cause_text causes.Memory = codes "memory"
 
 abbrev pub verdict_text : Verdict → List ℕ

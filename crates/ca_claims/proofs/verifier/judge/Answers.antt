@@ -2,11 +2,11 @@ use Rattle.std.proofs.Common.{rules, ap, ◌∙◌}
 use Rattle.std.specs.Option.{option_copied}
 use Rattle.ca_rule.specs.Spelling.{IsFaultOf, Names}
 use Rattle.ca_claims.specs.Lines.{claim_at}
-use Rattle.ca_claims.proofs.Judged.{unreadable, true_verdict}
+use Rattle.ca_claims.proofs.Judged.{refused_for_rule, true_verdict}
 use Rattle.ca_claims.proofs.verifier.judge.Goals as goal
 
 pub returns-in-Err-OtherForm : goal.returns-in-Err-OtherForm
-returns-in-Err-OtherForm c = λ files paths there. (c.in-Some.bytes.now, there ∙ ap option_copied c.in-Some.is, λ r. c.in-Err-OtherForm.ensures.other (cc) r.0 r.1 r.3)
+returns-in-Err-OtherForm c = λ files paths there. (c.in-Some.bytes.now, there ∙ ap option_copied c.in-Some.is, λ r. c.in-Err-OtherForm.ensures.other (cc) r.0 r.1 r.2)
 
 pub returns-in_default-parse : goal.returns-in_default-parse
 returns-in_default-parse c =
