@@ -1,30 +1,34 @@
 //! Rules in B/S notation.
 
 ghost use Rattle.std.specs.Prelude.{◌≡◌, false, IfOk, IfErr};
-ghost use Rattle.ca_rule.specs.Counts.{is_count};
-ghost use Rattle.ca_rule.specs.Next.{moore_count};
+ghost use Rattle.ca_rule.specs.Counts.{is_count, FitsHood};
+ghost use Rattle.ca_rule.specs.Next.{neighbour_count};
 ghost use Rattle.std.proofs.Common.{arith, rules};
 ghost use Rattle.std.proofs.lemmas.Bool.Decides.{nat_tests};
 
 use crate::counts::Counts;
 use crate::fault::RuleFault;
-use crate::spelling::spelled;
+use crate::hood::Hood;
+use crate::spelling::spelling_of;
 use ca_plane::{Automaton, Nine};
 
-/// A two-state rule in B/S notation over the eight neighbours of a cell (Golly Help, QuickLife):
-/// a dead cell with a birth count of live neighbours is born, a live cell with a survival count survives,
-/// and every other cell is dead next. A rule never gives birth at a count of 0.
+/// A two-state rule in B/S notation (Golly Help, QuickLife): a dead cell with a birth count of live neighbours is born,
+/// a live cell with a survival count survives, and every other cell is dead next.
+/// A rule never gives birth at a count of 0, and has no count above the number of neighbours that it counts.
 #[derive(Clone, Copy, Debug)]
 pub struct BsRule {
     pub birth: Counts,
     pub survival: Counts,
+    pub hood: Hood,
     ghost stays_empty: { is_count birth 0 ≡ false },
+    ghost birth_fits: { FitsHood birth hood },
+    ghost survival_fits: { FitsHood survival hood },
 }
 
 impl BsRule {
     ghost use Rattle.ca_rule.specs.Spelling.{Names, IsFaultOf};
 
-    /// The rule that the text names, as `B3/S23` names Conway's Life.
+    /// The rule that the text names, as `B3/S23`, `s23b3` and `23/3` name Conway's Life. Nothing here takes memory.
     pub fn parse(text: &[u8]) -> Result<BsRule, RuleFault>
         ensures found { IfOk result (λ rule. Names text.now rule) }
         ensures fault { IfErr result (λ f. IsFaultOf text.now f) }
@@ -32,7 +36,7 @@ impl BsRule {
         if text.contains(&b':') {
             return Err(RuleFault::Bounded);
         }
-        let Some(digits) = spelled(text) else {
+        let Some(digits) = spelling_of(text) else {
             return Err(RuleFault::Unknown);
         };
         let birth = Counts::of_digits(digits.birth);
@@ -40,7 +44,12 @@ impl BsRule {
             return Err(RuleFault::Wakes);
         }
         let survival = Counts::of_digits(digits.survival);
-        Ok(BsRule { birth, survival })
+        let hood = digits.hood;
+        Ok(BsRule {
+            birth,
+            survival,
+            hood,
+        })
     }
 }
 
@@ -49,7 +58,7 @@ impl Automaton for BsRule {
 
     ghost state_count = { λ _. 2 };
 
-    ghost next_of = { λ rule nine. next_of rule.birth rule.survival nine };
+    ghost next_of = { λ rule nine. next_of rule.hood rule.birth rule.survival nine };
 
     ghost sound = { λ rule. is_count rule.birth 0 ≡ false };
 
@@ -58,7 +67,7 @@ impl Automaton for BsRule {
     }
 
     fn next(&self, nine: &Nine) -> u8 {
-        let count = usize::from(neighbour_sum(nine));
+        let count = usize::from(neighbour_sum(self.hood, nine));
         let lives = match nine[4] {
             0 => self.birth.contains(count),
             1 => self.survival.contains(count),
@@ -72,10 +81,14 @@ impl Automaton for BsRule {
     ghost quiet = { Prim.search rules };
 }
 
-/// The sum of the eight neighbours of the middle of nine cells.
-fn neighbour_sum(nine: &Nine) -> u16
-    ensures { result ≡ moore_count nine.now }
+/// The sum of the counted neighbours of the middle of nine cells.
+fn neighbour_sum(hood: Hood, nine: &Nine) -> u16
+    ensures { result ≡ neighbour_count hood nine.now }
 {
     let [nw, n, ne, w, _, e, sw, s, se] = nine.map(u16::from);
-    nw + n + ne + w + e + sw + s + se
+    match hood {
+        Hood::Moore => nw + n + ne + w + e + sw + s + se,
+        Hood::VonNeumann => n + w + e + s,
+        Hood::Hex => nw + n + w + e + s + se,
+    }
 }

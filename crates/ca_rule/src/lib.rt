@@ -4,13 +4,10 @@
 mod bs_rule;
 mod counts;
 mod fault;
-mod laws;
+mod hood;
 mod spelling;
 
 pub use bs_rule::BsRule;
 pub use counts::Counts;
 pub use fault::RuleFault;
-pub use laws::{one_rule, rule_or_fault, worked_examples};
-
-#[cfg(test)]
-mod tests;
+pub use hood::Hood;

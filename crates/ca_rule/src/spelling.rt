@@ -1,47 +1,146 @@
 //! How a rule is spelled in B/S notation.
 
-ghost use Rattle.std.specs.Prelude.{◌≡◌, ◌==◌, List, ℕ, IfSome, IfNone, position};
-ghost use Rattle.ca_rule.specs.Spelling.{Spells, are_rising_from};
+ghost use Rattle.std.specs.Prelude.{◌≡◌, ◌≤◌, List, ℕ, None, Some, IfSome, IfNone, MatchOption};
+ghost use Rattle.ca_rule.specs.Counts.{most_of, are_digits_up_to};
+ghost use Rattle.ca_rule.specs.Reading.{is_letter, hood_of, body_of, without_slash, behind_letter, behind_slash, lists_around, lists_around_slash, lists_of};
+ghost use Rattle.ca_rule.specs.Spelling.{Spells};
+ghost use Rattle.ca_rule.specs.declared.hood.Hood.{Hood};
 
-/// The digits of a spelled rule.
+use crate::hood::Hood;
+use ca_plane::bytes::split_digits;
+
+/// The digits and the neighbourhood of a spelled rule.
 #[derive(Clone, Copy)]
-pub(crate) struct Digits<'t> {
+pub(crate) struct Spelled<'t> {
     pub(crate) birth: &'t [u8],
     pub(crate) survival: &'t [u8],
+    pub(crate) hood: Hood,
 }
 
-/// Whether these are digits from `0` to `8`, rising, each at most once.
-fn are_rising_digits(digits: &[u8]) -> bool
-    ensures { result ≡ are_rising_from 48 digits.now }
+/// Whether the byte is this letter, which is given in upper case, of either case.
+fn is_letter(byte: u8, upper: u8) -> bool
+    requires low { 65 ≤ upper }
+    requires high { upper ≤ 90 }
+    ensures { result ≡ is_letter upper byte }
 {
-    let mut low = b'0';
-    'digits: for digit in digits {
-        if *digit < low || b'8' < *digit {
-            return false;
-        }
-        low = *digit + 1;
+    byte == upper || byte == upper + 32
+}
+
+/// The text before its suffix, and the neighbourhood that the suffix stands for.
+fn split_suffix(text: &[u8]) -> (&[u8], Hood)
+    ensures body { result.0.now ≡ body_of text.now }
+    ensures hood { result.1 ≡ hood_of text.now }
+{
+    let Some((last, before)) = text.split_last() else {
+        return (text, Hood::Moore);
+    };
+    if is_letter(*last, b'V') {
+        return (before, Hood::VonNeumann);
     }
-    true
+    if is_letter(*last, b'H') {
+        return (before, Hood::Hex);
+    }
+    (text, Hood::Moore)
 }
 
-/// The place of the first `/`.
-fn slash_place(bytes: &[u8]) -> Option<usize>
-    ensures { result ≡ position (λ b. b == 47) bytes.now }
+/// The bytes without a `/` at their start.
+fn without_slash(bytes: &[u8]) -> &[u8]
+    ensures { result.now ≡ without_slash bytes.now }
 {
-    bytes.iter().position(|byte| *byte == b'/')
+    bytes.strip_prefix(b"/").unwrap_or(bytes)
 }
 
-/// The birth and the survival digits that the text spells.
-pub(crate) fn spelled(text: &[u8]) -> Option<Digits<'_>>
-    ensures found { IfSome result (λ s. Spells text.now s.birth.now s.survival.now) }
-    ensures none { IfNone result ((birth survival : List ℕ) → Spells text.now birth survival → ⊥) }
+/// The bytes behind the letter with which they begin.
+fn behind_letter(bytes: &[u8], upper: u8) -> Option<&[u8]>
+    requires low { 65 ≤ upper }
+    requires high { upper ≤ 90 }
+    ensures { MatchOption result (behind_letter upper bytes.now ≡ None) (λ r. behind_letter upper bytes.now ≡ Some r.now) }
 {
-    let after_letter = text.strip_prefix(b"B")?;
-    let slash = slash_place(after_letter)?;
-    let (birth, rest) = after_letter.split_at(slash);
-    let survival = rest.strip_prefix(b"/S")?;
-    if !are_rising_digits(birth) || !are_rising_digits(survival) {
+    let (first, rest) = bytes.split_first()?;
+    if !is_letter(*first, upper) {
         return None;
     }
-    Some(Digits { birth, survival })
+    Some(rest)
+}
+
+/// The bytes behind the `/` with which they begin.
+fn behind_slash(bytes: &[u8]) -> Option<&[u8]>
+    ensures { MatchOption result (behind_slash bytes.now ≡ None) (λ r. behind_slash bytes.now ≡ Some r.now) }
+{
+    bytes.strip_prefix(b"/")
+}
+
+/// The digits at the start, and what stands behind the letter that follows them, between them an optional `/`.
+fn lists_around(bytes: &[u8], upper: u8) -> Option<(&[u8], &[u8])>
+    requires low { 65 ≤ upper }
+    requires high { upper ≤ 90 }
+    ensures { MatchOption result (lists_around upper bytes.now ≡ None) (λ r. lists_around upper bytes.now ≡ Some (r.0.now, r.1.now)) }
+{
+    let (digits, rest) = split_digits(bytes);
+    let later = behind_letter(without_slash(rest), upper)?;
+    Some((digits, later))
+}
+
+/// The digits at the start, and what stands behind the `/` that follows them.
+fn lists_around_slash(bytes: &[u8]) -> Option<(&[u8], &[u8])>
+    ensures { MatchOption result (lists_around_slash bytes.now ≡ None) (λ r. lists_around_slash bytes.now ≡ Some (r.0.now, r.1.now)) }
+{
+    let (digits, rest) = split_digits(bytes);
+    let later = behind_slash(rest)?;
+    Some((digits, later))
+}
+
+/// The birth and the survival digits of a text without its suffix, whatever stands behind its last `/` or letter.
+fn lists_of(body: &[u8]) -> Option<(&[u8], &[u8])>
+    ensures { MatchOption result (lists_of body.now ≡ None) (λ r. lists_of body.now ≡ Some (r.0.now, r.1.now)) }
+{
+    let (first, rest) = body.split_first()?;
+    if is_letter(*first, b'B') {
+        return lists_around(rest, b'S');
+    }
+    if is_letter(*first, b'S') {
+        let (survival, birth) = lists_around(rest, b'B')?;
+        return Some((birth, survival));
+    }
+    let (survival, birth) = lists_around_slash(body)?;
+    Some((birth, survival))
+}
+
+/// How many neighbours are counted.
+fn most_of(hood: Hood) -> u8
+    ensures { result ≡ most_of hood }
+{
+    match hood {
+        Hood::Moore => 8,
+        Hood::VonNeumann => 4,
+        Hood::Hex => 6,
+    }
+}
+
+/// Whether each byte is a digit from `0` to that of `most`.
+fn are_digits_up_to(most: u8, digits: &[u8]) -> bool
+    requires { most ≤ 8 }
+    ensures { result ≡ are_digits_up_to most digits.now }
+{
+    digits
+        .iter()
+        .all(|digit| b'0' <= *digit && *digit <= b'0' + most)
+}
+
+/// The digits and the neighbourhood that the text spells.
+pub(crate) fn spelling_of(text: &[u8]) -> Option<Spelled<'_>>
+    ensures found { IfSome result (λ s. Spells text.now s.birth.now s.survival.now s.hood) }
+    ensures none { IfNone result ((birth survival : List ℕ) (hood : Hood) → Spells text.now birth survival hood → ⊥) }
+{
+    let (body, hood) = split_suffix(text);
+    let (birth, survival) = lists_of(body)?;
+    let most = most_of(hood);
+    if !are_digits_up_to(most, birth) || !are_digits_up_to(most, survival) {
+        return None;
+    }
+    Some(Spelled {
+        birth,
+        survival,
+        hood,
+    })
 }
