@@ -72,10 +72,11 @@ fn judge(alloc: Global, claim: ClaimKind, bytes: Option<&[u8]>) -> Verdict
         Err(FirstFormFault::OtherForm) => return Verdict::Refused(Cause::NotYet),
         Err(FirstFormFault::Memory) => return Verdict::Refused(Cause::Memory),
     };
-    match BsRule::parse(&pattern.rule_text) {
-        Ok(rule) => decide(&rule, &pattern.cells, claim),
-        Err(fault) => Verdict::Refused(Cause::BadRule(fault)),
-    }
+    let rule = match BsRule::parse(&pattern.rule_text) {
+        Ok(rule) => rule,
+        Err(fault) => return Verdict::Refused(Cause::BadRule(fault)),
+    };
+    decide(&rule, &pattern.cells, claim)
 }
 
 // Whether the claim is true of the cells under the rule.

@@ -1,12 +1,13 @@
 //! The lines that are printed for answers, and the exit status.
 
 ghost use Rattle.std.specs.Prelude.{◌≡◌, OnOk, IfOk, decimal};
-ghost use Rattle.ca_tool.specs.Printed.{why_text, cause_text, verdict_text, line_of, lines_of, status_of, is_refusal, is_no};
+ghost use Rattle.ca_tool.specs.Printed.{why_text, cause_text, rule_fault_text, verdict_text, line_of, lines_of, status_of, is_refusal, is_no};
 ghost use Rattle.ca_tool.specs.Puts.{Puts};
 ghost use Rattle.std.specs.List.{list_any};
 
 use ca_claims::{Answer, Cause, Verdict, Why};
 use ca_plane::Memory;
+use ca_rule::RuleFault;
 use itoa::Buffer;
 use std::alloc::Global;
 
@@ -36,13 +37,27 @@ fn push_why(out: &mut Vec<u8>, why: &Why) -> Result<(), Memory>
     }
 }
 
-fn cause_bytes(cause: &Cause) -> &'static [u8]
-    ensures { result.now ≡ cause_text cause.now }
+fn rule_fault_bytes(fault: RuleFault) -> &'static [u8]
+    ensures { result.now ≡ rule_fault_text fault }
+{
+    match fault {
+        RuleFault::Bounded => b"bounded",
+        RuleFault::Wakes => b"wakes",
+        RuleFault::Unknown => b"unknown",
+    }
+}
+
+fn push_cause(out: &mut Vec<u8>, cause: &Cause) -> Result<(), Memory>
+    ensures { OnOk result (Puts out.old.items out.new.items (cause_text cause.now)) }
 {
     match cause {
-        Cause::NoFile => b"no file",
-        Cause::NotYet => b"not yet",
-        Cause::Memory => b"memory",
+        Cause::NoFile => push_text(out, b"no file"),
+        Cause::NotYet => push_text(out, b"not yet"),
+        Cause::BadRule(fault) => {
+            push_text(out, b"bad rule: ")?;
+            push_text(out, rule_fault_bytes(*fault))
+        }
+        Cause::Memory => push_text(out, b"memory"),
     }
 }
 
@@ -57,7 +72,7 @@ fn push_verdict(out: &mut Vec<u8>, verdict: &Verdict) -> Result<(), Memory>
         }
         Verdict::Refused(cause) => {
             push_text(out, b"refused, ")?;
-            push_text(out, cause_bytes(cause))
+            push_cause(out, cause)
         }
     }
 }

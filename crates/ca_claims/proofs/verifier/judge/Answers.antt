@@ -1,4 +1,4 @@
-use Rattle.std.proofs.Common.{rules, ap, ◌∙◌}
+use Rattle.std.proofs.Common.{rules, ap, ◌∙◌, subst}
 use Rattle.std.specs.Option.{option_copied}
 use Rattle.ca_rule.specs.Spelling.{IsFaultOf, Names}
 use Rattle.ca_claims.specs.Lines.{claim_at}
@@ -8,10 +8,11 @@ use Rattle.ca_claims.proofs.verifier.judge.Goals as goal
 pub returns-in-Err-OtherForm : goal.returns-in-Err-OtherForm
 returns-in-Err-OtherForm c = λ files paths there. (c.in-Some.bytes.now, there ∙ ap option_copied c.in-Some.is, λ r. c.in-Err-OtherForm.ensures.other (cc) r.0 r.1 r.2)
 
-pub returns-in_default-parse : goal.returns-in_default-parse
-returns-in_default-parse c =
-    let fault : IsFaultOf c.in-Ok.pattern.rule_text.items c.in_default-parse.field-0 = search rules in
-    λ files paths there. (c.in-Some.bytes.now, there ∙ ap option_copied c.in-Some.is, unreadable c.in-Some.bytes.now c.in-Ok.pattern.rule_text.items c.in-Ok.ensures.found.0 c.in_default-parse.field-0 c.in-Ok.ensures.found.1 fault)
+pub returns-in-Err : goal.returns-in-Err
+returns-in-Err c =
+    let found = c.in-Ok.ensures.found in
+    let wrong = subst (λ t. IsFaultOf t c.in-Err.fault) c.deref.ensures.value c.in-Err.ensures.fault in
+    λ files paths there. refused_for_rule files (claim_at paths c.args.claim) c.in-Some.bytes.now c.in-Ok.pattern.rule_text.items found.0 c.in-Err.fault (there ∙ ap option_copied c.in-Some.is) found.1 wrong
 
 pub returns : goal.returns
 returns c =
