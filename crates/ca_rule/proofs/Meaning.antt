@@ -1,8 +1,8 @@
 -- A text names one rule at most, and no rule where it has a fault.
-use Rattle.std.proofs.Common.{◌≡◌, ℕ, List, true, false, Some, refl, ap, sym, ◌∙◌}
+use Rattle.std.proofs.Common.{◌≡◌, ◌↔◌, ℕ, List, true, false, Some, refl, ap, sym, ◌∙◌, subst}
 use Rattle.ca_rule.specs.Counts.{has_digit, counts_of}
 use Rattle.ca_rule.specs.Reading.{hood_of, body_of, lists_of}
-use Rattle.ca_rule.specs.Spelling.{Spells, Names, has_colon, IsFaultOf}
+use Rattle.ca_rule.specs.Spelling.{Spells, Names, has_colon, IsFaultOf, printed}
 use Rattle.ca_rule.specs.declared.bs_rule.BsRule.{BsRule}
 use Rattle.ca_rule.specs.declared.hood.Hood.{Hood}
 use Rattle.ca_rule.specs.declared.fault.RuleFault.{RuleFault}
@@ -41,3 +41,11 @@ faultless text birth survival hood Unknown h w k = k.1 birth survival hood h
 -- a text that names a rule has no fault
 pub names-faultless : (text : List ℕ) (rule : BsRule) (fault : RuleFault) → Names text rule → IsFaultOf text fault → ⊥
 names-faultless text rule fault h k = faultless text h.birth h.survival rule.hood fault h.spells h.stays_empty k
+
+-- rules that are named by their printed forms are printed alike exactly where they are equal
+pub alike : (a b : BsRule) → Names (printed a.hood a.birth a.survival) a → Names (printed b.hood b.birth b.survival) b
+    → (printed a.hood a.birth a.survival ≡ printed b.hood b.birth b.survival) ↔ ((a.hood ≡ b.hood) × (a.birth ≡ b.birth) × (a.survival ≡ b.survival))
+alike a b h k = (
+    λ e. let l : Names (printed b.hood b.birth b.survival) a = subst (λ text. Names text a) e h in names-once (printed b.hood b.birth b.survival) a b l k,
+    λ e. ap (λ x. printed x a.birth a.survival) e.0 ∙ ap (λ x. printed b.hood x a.survival) e.1 ∙ ap (λ x. printed b.hood b.birth x) e.2,
+)

@@ -1,6 +1,6 @@
 //! Sets of counts of live neighbours.
 
-ghost use Rattle.std.specs.Prelude.{◌≡◌, ◌++◌, ℕ, false, OnOk};
+ghost use Rattle.std.specs.Prelude.{◌≡◌, ◌++◌, ℕ, false, length, OnOk};
 
 use ca_plane::Memory;
 
@@ -26,6 +26,14 @@ impl Counts {
         ensures { result ≡ is_count self count }
     {
         self.holds.get(count).copied().unwrap_or(false)
+    }
+
+    /// How many numbers may be counts.
+    pub(crate) fn places(self) -> usize
+        ensures places { result ≡ 9 }
+        ensures holds { length self.holds ≡ result }
+    {
+        self.holds.len()
     }
 
     /// The counts from 0 to 8 whose digits these are.

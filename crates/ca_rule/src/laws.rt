@@ -27,7 +27,8 @@ pub fn rule_or_fault()
 pub fn names_itself(rule: &BsRule)
     ensures { Names (printed rule.now.hood rule.now.birth rule.now.survival) rule.now }
 {
-    let _ = rule;
+    let _ = rule.birth.places();
+    let _ = rule.survival.places();
 }
 
 /// Two rules are printed alike exactly where they are equal.
@@ -35,5 +36,6 @@ pub fn alike(a: &BsRule, b: &BsRule)
     ensures { (printed a.now.hood a.now.birth a.now.survival ≡ printed b.now.hood b.now.birth b.now.survival)
         ↔ ((a.now.hood ≡ b.now.hood) × (a.now.birth ≡ b.now.birth) × (a.now.survival ≡ b.now.survival)) }
 {
-    let _ = (a, b);
+    names_itself(a);
+    names_itself(b);
 }
