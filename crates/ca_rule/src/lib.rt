@@ -12,4 +12,4 @@ pub use bs_rule::BsRule;
 pub use counts::Counts;
 pub use fault::RuleFault;
 pub use hood::Hood;
-pub use laws::{alike, names_itself, one_rule, rule_or_fault};
+pub use laws::{alike, names_itself, one_rule, rule_or_fault, worked_examples};
