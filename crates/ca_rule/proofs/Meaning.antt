@@ -1,14 +1,13 @@
 -- A text names one rule at most, and no rule where it has a fault.
-use Rattle.std.proofs.Common.{◌≡◌, ◌↔◌, ℕ, List, true, false, Some, refl, ap, sym, ◌∙◌, subst}
+use Rattle.std.proofs.Common.{◌≡◌, ◌↔◌, ℕ, List, false, Some, ap, sym, ◌∙◌, subst}
 use Rattle.ca_rule.specs.Counts.{has_digit, counts_of}
-use Rattle.ca_rule.specs.Reading.{hood_of, body_of, lists_of}
-use Rattle.ca_rule.specs.Spelling.{Spells, Names, has_colon, IsFaultOf, printed}
+use Rattle.ca_rule.specs.Spelling.{Spells, Names, IsFaultOf, printed}
 use Rattle.ca_rule.specs.declared.bs_rule.BsRule.{BsRule}
 use Rattle.ca_rule.specs.declared.hood.Hood.{Hood}
 use Rattle.ca_rule.specs.declared.fault.RuleFault.{RuleFault}
 use Rattle.ca_rule.specs.declared.fault.RuleFault.TheVariants.{Bounded, Wakes, Unknown}
 use Rattle.ca_rule.proofs.Formed.{first_list, second_list}
-use Rattle.ca_rule.proofs.Reading.{IsRead, read}
+use Rattle.ca_rule.proofs.Reading.{read}
 
 -- two spellings of one text have the same parts
 pub record AreOne (b s c t : List ℕ) (h k : Hood) : Type 0 where
@@ -46,6 +45,6 @@ names-faultless text rule fault h k = faultless text h.birth h.survival rule.hoo
 pub alike : (a b : BsRule) → Names (printed a.hood a.birth a.survival) a → Names (printed b.hood b.birth b.survival) b
     → (printed a.hood a.birth a.survival ≡ printed b.hood b.birth b.survival) ↔ ((a.hood ≡ b.hood) × (a.birth ≡ b.birth) × (a.survival ≡ b.survival))
 alike a b h k = (
-    λ e. let l : Names (printed b.hood b.birth b.survival) a = subst (λ text. Names text a) e h in names-once (printed b.hood b.birth b.survival) a b l k,
-    λ e. ap (λ x. printed x a.birth a.survival) e.0 ∙ ap (λ x. printed b.hood x a.survival) e.1 ∙ ap (λ x. printed b.hood b.birth x) e.2,
+  λ e. let l : Names (printed b.hood b.birth b.survival) a = subst (λ text. Names text a) e h in names-once (printed b.hood b.birth b.survival) a b l k,
+  λ e. ap (λ x. printed x a.birth a.survival) e.0 ∙ ap (λ x. printed b.hood x a.survival) e.1 ∙ ap (λ x. printed b.hood b.birth x) e.2,
 )

@@ -1,17 +1,16 @@
 -- What is read from a rule text is what it spells, and nothing else.
-use Rattle.std.proofs.Common.{◌≡◌, ◌≢◌, ◌==◌, ◌||◌, ◌&&◌, ℕ, ◌+◌, ◌≤◌, List, [], ◌∷◌, ◌++◌, Bool, true, false, not, nat_le, Option, Some, None, refl, ap, sym, ◌∙◌, inl, inr, ◌⊎◌, if◌then◌else◌, arith, append_assoc}
+use Rattle.std.proofs.Common.{◌≡◌, ◌&&◌, ℕ, ◌+◌, ◌≤◌, List, [], ◌∷◌, ◌++◌, true, false, not, nat_le, Some, refl, ap, ◌∙◌, inl, inr, ◌⊎◌, arith, append_assoc}
 use Rattle.std.specs.List.{list_all}
-use Rattle.std.proofs.lemmas.Bool.{and_parts, and_from, cases_Bool}
+use Rattle.std.proofs.lemmas.Bool.{and_parts, and_from}
 use Rattle.std.proofs.lemmas.Bool.Decides.{nat_tests}
-use Rattle.std.proofs.lemmas.Grind.{common_steps}
-use Rattle.ca_plane.specs.Bytes.{Every, is_digit, is_end_or, front, rest}
-use Rattle.ca_plane.proofs.Fronts.{front_append, rest_append, front_then_rest, every_append, every_wider}
+use Rattle.ca_plane.specs.Bytes.{Every, is_digit, is_end_or, rest}
+use Rattle.ca_plane.proofs.Fronts.{front_append, rest_append, every_append, every_wider}
 use Rattle.ca_rule.specs.Counts.{most_of, are_digits_up_to}
 use Rattle.ca_rule.specs.Reading.{is_letter, hood_of, body_of, without_slash, behind_letter, behind_slash, both, swapped, lists_around, lists_around_slash, lists_of}
 use Rattle.ca_rule.specs.Spelling.{IsLetter, IsSuffix, IsOptionalSlash, IsLettered, IsUnlettered, Spells, has_colon}
 use Rattle.ca_rule.specs.declared.hood.Hood.{Hood}
 use Rattle.ca_rule.specs.declared.hood.Hood.TheVariants.{Moore, VonNeumann, Hex}
-use Rattle.ca_rule.proofs.Ends.{IsLetter-from_test, is_letter-from, is_plain, IsSplit, split, no_colon, HasSuffix, has_suffix}
+use Rattle.ca_rule.proofs.Ends.{is_letter-from, is_plain, IsSplit, split, no_colon}
 
 digits-up_to : (most : ℕ) → most ≤ 9 → (ds : List ℕ) → are_digits_up_to most ds ≡ true → Every is_digit ds
 digits-up_to most m ds h = every_wider (λ d. nat_le 48 d && nat_le d (48 + most)) is_digit (λ d t. grind (arith, nat_tests)) ds h
@@ -104,8 +103,8 @@ split-lettered first second text digits later hood i j h k f =
     let whole : text ≡ (f.0 ∷ (digits ++ (f.2 ++ (f.1 ∷ later)))) ++ f.3 = f.8 ∙ simp append_assoc refl in
     take_apart text _ f.3 hood whole
     (and_from _ _ (plain-letter first f.0 i f.4)
-      (every_append is_plain digits _ (plain-digits digits h)
-        (every_append is_plain f.2 _ (plain-slash f.2 f.6) (and_from _ _ (plain-letter second f.1 j f.5) (plain-digits later k)))))
+    (every_append is_plain digits _ (plain-digits digits h)
+    (every_append is_plain f.2 _ (plain-slash f.2 f.6) (and_from _ _ (plain-letter second f.1 j f.5) (plain-digits later k)))))
     f.7
 
 read-birth_first : (text birth survival : List ℕ) (hood : Hood) → Every is_digit birth → Every is_digit survival → IsLettered 66 83 text birth survival hood → IsRead text birth survival hood

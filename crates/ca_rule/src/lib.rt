@@ -13,3 +13,6 @@ pub use counts::Counts;
 pub use fault::RuleFault;
 pub use hood::Hood;
 pub use laws::{alike, names_itself, one_rule, rule_or_fault, worked_examples};
+
+#[cfg(test)]
+mod tests;

@@ -1,4 +1,4 @@
-use Rattle.std.proofs.Common.{rules, ◌∙◌}
+use Rattle.std.proofs.Common.{◌∙◌}
 use Rattle.ca_rule.proofs.Printed.{names_itself}
 use Rattle.ca_rule.proofs.laws.names_itself.Goals as goal
 

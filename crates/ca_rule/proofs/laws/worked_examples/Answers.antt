@@ -1,5 +1,4 @@
 use Rattle.std.proofs.Common.{codes, refl, inl, inr, [], ◌∷◌}
-use Rattle.ca_rule.specs.Reading.{body_of}
 use Rattle.ca_rule.specs.declared.hood.Hood.TheVariants.{Moore, VonNeumann, Hex}
 use Rattle.ca_rule.proofs.Formed.{spells-no_lists, spells-birth, spells-survival}
 use Rattle.ca_rule.proofs.laws.worked_examples.Goals as goal
