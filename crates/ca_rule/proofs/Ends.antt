@@ -1,12 +1,13 @@
 -- The suffix at the end of a rule text, and the text before it.
-use Rattle.std.proofs.Common.{◌≡◌, ◌==◌, ◌||◌, ◌&&◌, ℕ, ◌+◌, ◌≤◌, List, [], ◌∷◌, ◌++◌, Bool, true, false, not, refl, ap, sym, ◌∙◌, inl, inr, if◌then◌else◌, arith}
+use Rattle.std.proofs.Common.{◌≡◌, ◌==◌, ◌||◌, ℕ, List, [], ◌∷◌, ◌++◌, Bool, true, false, not, refl, ap, ◌∙◌, inl, inr, if◌then◌else◌, arith}
 use Rattle.std.specs.List.{list_all}
 use Rattle.std.proofs.lemmas.Bool.{and_parts, cases_Bool}
 use Rattle.std.proofs.lemmas.Bool.Decides.{nat_tests}
 use Rattle.std.proofs.lemmas.List.{append-nil}
+use Rattle.std.proofs.lemmas.List.Folds.{list_any-append}
 use Rattle.ca_plane.specs.Bytes.{Every}
 use Rattle.ca_rule.specs.Reading.{is_letter, hood_at, hood_of, body_of}
-use Rattle.ca_rule.specs.Spelling.{IsLetter, IsSuffix}
+use Rattle.ca_rule.specs.Spelling.{IsLetter, IsSuffix, has_colon}
 use Rattle.ca_rule.specs.declared.hood.Hood.{Hood}
 use Rattle.ca_rule.specs.declared.hood.Hood.TheVariants.{Moore, VonNeumann, Hex}
 
@@ -35,9 +36,9 @@ body_of-last [] b = refl
 body_of-last (c ∷ []) b = cons_if (is_letter 86 b || is_letter 72 b) c [] (b ∷ [])
 body_of-last (c ∷ d ∷ bs) b = ap (λ l. c ∷ l) (body_of-last (d ∷ bs) b) ∙ cons_if (is_letter 86 b || is_letter 72 b) c (d ∷ bs) (d ∷ (bs ++ (b ∷ [])))
 
--- a byte that is no suffix
+-- a byte that is no suffix and no colon
 abbrev pub is_plain : ℕ → Bool
-is_plain b = not (is_letter 86 b || is_letter 72 b)
+is_plain b = not (is_letter 86 b || is_letter 72 b || (b == 58))
 
 hood_at-plain : (b : ℕ) → is_plain b ≡ true → hood_at b ≡ Moore
 hood_at-plain b h = grind (arith, nat_tests)
@@ -54,6 +55,25 @@ body_of-plain : (bs : List ℕ) → Every is_plain bs → body_of bs ≡ bs
 body_of-plain [] h = refl
 body_of-plain (b ∷ []) h = body_at-plain b (and_parts _ _ h).0
 body_of-plain (b ∷ c ∷ bs) h = ap (λ l. b ∷ l) (body_of-plain (c ∷ bs) (and_parts _ _ h).1)
+
+plain_colon : (bs : List ℕ) → Every is_plain bs → has_colon bs ≡ false
+plain_colon [] h = refl
+plain_colon (b ∷ bs) h =
+    let parts = and_parts (is_plain b) (list_all is_plain bs) h in
+    let more = plain_colon bs parts.1 in
+    let other : (b == 58) ≡ false = grind (arith, nat_tests) in
+    rw other more
+
+suffix_colon : (hood : Hood) (suffix : List ℕ) → IsSuffix hood suffix → has_colon suffix ≡ false
+suffix_colon Moore suffix s = rw s refl
+suffix_colon VonNeumann suffix (b, inl e, s) = rw (s, e) refl
+suffix_colon VonNeumann suffix (b, inr e, s) = rw (s, e) refl
+suffix_colon Hex suffix (b, inl e, s) = rw (s, e) refl
+suffix_colon Hex suffix (b, inr e, s) = rw (s, e) refl
+
+-- plain bytes and a suffix hold no colon
+pub no_colon : (text body suffix : List ℕ) (hood : Hood) → text ≡ body ++ suffix → Every is_plain body → IsSuffix hood suffix → has_colon text ≡ false
+no_colon text body suffix hood e h s = ap has_colon e ∙ list_any-append (λ b. b == 58) body suffix ∙ rw (plain_colon body h) (suffix_colon hood suffix s)
 
 -- a text taken apart at its suffix
 pub record IsSplit (text body : List ℕ) (hood : Hood) : Type 0 where

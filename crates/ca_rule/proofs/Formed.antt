@@ -1,5 +1,5 @@
 -- A text from which two lists of digits are read spells them, and a text from which none are read spells no rule.
-use Rattle.std.proofs.Common.{◌≡◌, ◌==◌, ℕ, ◌+◌, List, [], ◌∷◌, ◌++◌, Bool, true, false, Option, Some, None, refl, ap, sym, ◌∙◌, inl, inr, ◌⊎◌, arith, append_assoc}
+use Rattle.std.proofs.Common.{◌≡◌, ◌==◌, ℕ, List, [], ◌∷◌, ◌++◌, true, false, Option, Some, None, refl, ap, sym, ◌∙◌, inl, inr, ◌⊎◌, arith, append_assoc}
 use Rattle.std.specs.Option.{IfNone}
 use Rattle.std.proofs.lemmas.Bool.{cases_Bool}
 use Rattle.std.proofs.lemmas.Bool.Decides.{nat_tests}
@@ -9,8 +9,8 @@ use Rattle.ca_rule.specs.Counts.{most_of, are_digits_up_to}
 use Rattle.ca_rule.specs.Reading.{is_letter, hood_of, body_of, without_slash, behind_letter, behind_slash, both, swapped, lists_around, lists_around_slash, lists_of}
 use Rattle.ca_rule.specs.Spelling.{IsLetter, IsSuffix, IsOptionalSlash, IsLettered, IsUnlettered, Spells}
 use Rattle.ca_rule.specs.declared.hood.Hood.{Hood}
-use Rattle.ca_rule.proofs.Ends.{IsLetter-from_test, HasSuffix, has_suffix}
-use Rattle.ca_rule.proofs.Reading.{IsRead, read}
+use Rattle.ca_rule.proofs.Ends.{IsLetter-from_test, has_suffix}
+use Rattle.ca_rule.proofs.Reading.{read}
 
 -- what holds at all holds where there is none
 pub IfNone-from : {T P : Type 0} (r : Option T) → P → IfNone r P

@@ -1,17 +1,16 @@
 -- What is read from a rule text is what it spells, and nothing else.
-use Rattle.std.proofs.Common.{◌≡◌, ◌≢◌, ◌==◌, ◌||◌, ◌&&◌, ℕ, ◌+◌, ◌≤◌, List, [], ◌∷◌, ◌++◌, Bool, true, false, not, nat_le, Option, Some, None, refl, ap, sym, ◌∙◌, inl, inr, ◌⊎◌, if◌then◌else◌, arith, append_assoc}
+use Rattle.std.proofs.Common.{◌≡◌, ◌&&◌, ℕ, ◌+◌, ◌≤◌, List, [], ◌∷◌, ◌++◌, true, false, not, nat_le, Some, refl, ap, ◌∙◌, inl, inr, ◌⊎◌, arith, append_assoc}
 use Rattle.std.specs.List.{list_all}
-use Rattle.std.proofs.lemmas.Bool.{and_parts, and_from, cases_Bool}
+use Rattle.std.proofs.lemmas.Bool.{and_parts, and_from}
 use Rattle.std.proofs.lemmas.Bool.Decides.{nat_tests}
-use Rattle.std.proofs.lemmas.Grind.{common_steps}
-use Rattle.ca_plane.specs.Bytes.{Every, is_digit, is_end_or, front, rest}
-use Rattle.ca_plane.proofs.Fronts.{front_append, rest_append, front_then_rest, every_append, every_wider}
+use Rattle.ca_plane.specs.Bytes.{Every, is_digit, is_end_or, rest}
+use Rattle.ca_plane.proofs.Fronts.{front_append, rest_append, every_append, every_wider}
 use Rattle.ca_rule.specs.Counts.{most_of, are_digits_up_to}
 use Rattle.ca_rule.specs.Reading.{is_letter, hood_of, body_of, without_slash, behind_letter, behind_slash, both, swapped, lists_around, lists_around_slash, lists_of}
-use Rattle.ca_rule.specs.Spelling.{IsLetter, IsSuffix, IsOptionalSlash, IsLettered, IsUnlettered, Spells}
+use Rattle.ca_rule.specs.Spelling.{IsLetter, IsSuffix, IsOptionalSlash, IsLettered, IsUnlettered, Spells, has_colon}
 use Rattle.ca_rule.specs.declared.hood.Hood.{Hood}
 use Rattle.ca_rule.specs.declared.hood.Hood.TheVariants.{Moore, VonNeumann, Hex}
-use Rattle.ca_rule.proofs.Ends.{IsLetter-from_test, is_letter-from, is_plain, IsSplit, split, HasSuffix, has_suffix}
+use Rattle.ca_rule.proofs.Ends.{is_letter-from, is_plain, IsSplit, split, no_colon}
 
 digits-up_to : (most : ℕ) → most ≤ 9 → (ds : List ℕ) → are_digits_up_to most ds ≡ true → Every is_digit ds
 digits-up_to most m ds h = every_wider (λ d. nat_le 48 d && nat_le d (48 + most)) is_digit (λ d t. grind (arith, nat_tests)) ds h
@@ -88,40 +87,52 @@ plain-slash slash (inr e) = rw e refl
 pub record IsRead (text birth survival : List ℕ) (hood : Hood) : Type 0 where
   pub hood_is : hood_of text ≡ hood
   pub lists_are : lists_of (body_of text) ≡ Some (birth, survival)
+  pub no_colon : has_colon text ≡ false
+
+-- a text taken apart at its suffix, with no colon in it
+record IsTakenApart (text body : List ℕ) (hood : Hood) : Type 0 where
+  found : IsSplit text body hood
+  no_colon : has_colon text ≡ false
+
+take_apart : (text body suffix : List ℕ) (hood : Hood) → text ≡ body ++ suffix → Every is_plain body → IsSuffix hood suffix → IsTakenApart text body hood
+take_apart text body suffix hood e h s = record { found = split text body suffix hood e h s; no_colon = no_colon text body suffix hood e h s }
 
 split-lettered : (first second : ℕ) (text digits later : List ℕ) (hood : Hood) → (first ≡ 66) ⊎ (first ≡ 83) → (second ≡ 66) ⊎ (second ≡ 83) → Every is_digit digits → Every is_digit later
-    → (f : IsLettered first second text digits later hood) → IsSplit text (f.0 ∷ (digits ++ (f.2 ++ (f.1 ∷ later)))) hood
+    → (f : IsLettered first second text digits later hood) → IsTakenApart text (f.0 ∷ (digits ++ (f.2 ++ (f.1 ∷ later)))) hood
 split-lettered first second text digits later hood i j h k f =
     let whole : text ≡ (f.0 ∷ (digits ++ (f.2 ++ (f.1 ∷ later)))) ++ f.3 = f.8 ∙ simp append_assoc refl in
-    split text _ f.3 hood whole
+    take_apart text _ f.3 hood whole
     (and_from _ _ (plain-letter first f.0 i f.4)
-      (every_append is_plain digits _ (plain-digits digits h)
-        (every_append is_plain f.2 _ (plain-slash f.2 f.6) (and_from _ _ (plain-letter second f.1 j f.5) (plain-digits later k)))))
+    (every_append is_plain digits _ (plain-digits digits h)
+    (every_append is_plain f.2 _ (plain-slash f.2 f.6) (and_from _ _ (plain-letter second f.1 j f.5) (plain-digits later k)))))
     f.7
 
 read-birth_first : (text birth survival : List ℕ) (hood : Hood) → Every is_digit birth → Every is_digit survival → IsLettered 66 83 text birth survival hood → IsRead text birth survival hood
 read-birth_first text birth survival hood h k f =
     let s = split-lettered 66 83 text birth survival hood (inl refl) (inr refl) h k f in
     record {
-      hood_is = s.hood_is;
-      lists_are = ap lists_of s.body_is ∙ lists-birth_first f.0 (birth ++ (f.2 ++ (f.1 ∷ survival))) f.4 ∙ around 83 f.1 birth f.2 survival (omega arith) h f.6 f.5;
+      hood_is = s.found.hood_is;
+      no_colon = s.no_colon;
+      lists_are = ap lists_of s.found.body_is ∙ lists-birth_first f.0 (birth ++ (f.2 ++ (f.1 ∷ survival))) f.4 ∙ around 83 f.1 birth f.2 survival (omega arith) h f.6 f.5;
     }
 
 read-survival_first : (text birth survival : List ℕ) (hood : Hood) → Every is_digit birth → Every is_digit survival → IsLettered 83 66 text survival birth hood → IsRead text birth survival hood
 read-survival_first text birth survival hood h k f =
     let s = split-lettered 83 66 text survival birth hood (inr refl) (inl refl) k h f in
     record {
-      hood_is = s.hood_is;
-      lists_are = ap lists_of s.body_is ∙ lists-survival_first f.0 (survival ++ (f.2 ++ (f.1 ∷ birth))) f.4 ∙ ap swapped (around 66 f.1 survival f.2 birth (omega arith) k f.6 f.5);
+      hood_is = s.found.hood_is;
+      no_colon = s.no_colon;
+      lists_are = ap lists_of s.found.body_is ∙ lists-survival_first f.0 (survival ++ (f.2 ++ (f.1 ∷ birth))) f.4 ∙ ap swapped (around 66 f.1 survival f.2 birth (omega arith) k f.6 f.5);
     }
 
 read-unlettered : (text birth survival : List ℕ) (hood : Hood) → Every is_digit birth → Every is_digit survival → IsUnlettered text survival birth hood → IsRead text birth survival hood
 read-unlettered text birth survival hood h k f =
     let whole : text ≡ (survival ++ (47 ∷ birth)) ++ f.0 = f.2 ∙ simp append_assoc refl in
-    let s = split text (survival ++ (47 ∷ birth)) f.0 hood whole (every_append is_plain survival _ (plain-digits survival k) (plain-digits birth h)) f.1 in
+    let s = take_apart text (survival ++ (47 ∷ birth)) f.0 hood whole (every_append is_plain survival _ (plain-digits survival k) (plain-digits birth h)) f.1 in
     record {
-      hood_is = s.hood_is;
-      lists_are = ap lists_of s.body_is ∙ lists-no_letter survival birth k ∙ ap swapped (around_slash survival birth k);
+      hood_is = s.found.hood_is;
+      no_colon = s.no_colon;
+      lists_are = ap lists_of s.found.body_is ∙ lists-no_letter survival birth k ∙ ap swapped (around_slash survival birth k);
     }
 
 -- a text that spells a rule is read as that rule

@@ -1,5 +1,5 @@
 -- Counts of live neighbours, as the digits of a B/S rule give them, and which neighbours are counted (Golly Help, QuickLife).
-use Rattle.std.specs.Prelude.{ℕ, ◌+◌, List, [], ◌∷◌, Bool, true, false, map, ◌==◌, ◌&&◌, nat_le, slice_index_or, ◌||◌, not, IsTrue}
+use Rattle.std.specs.Prelude.{ℕ, ◌+◌, List, [], ◌∷◌, Bool, false, map, ◌==◌, ◌&&◌, nat_le, slice_index_or, ◌||◌, not, IsTrue}
 use Rattle.std.specs.List.{list_any, list_all}
 use Rattle.ca_rule.specs.declared.counts.Counts.{Counts}
 use Rattle.ca_rule.specs.declared.hood.Hood.{Hood}

@@ -1,6 +1,6 @@
 //! Rules in B/S notation.
 
-ghost use Rattle.std.specs.Prelude.{◌≡◌, false, IfOk, IfErr};
+ghost use Rattle.std.specs.Prelude.{◌≡◌, ◌++◌, false, IfOk, IfErr, OnOk};
 ghost use Rattle.ca_rule.specs.Counts.{is_count, FitsHood};
 ghost use Rattle.ca_rule.specs.Next.{neighbour_count};
 ghost use Rattle.std.proofs.Common.{arith, rules};
@@ -10,7 +10,8 @@ use crate::counts::Counts;
 use crate::fault::RuleFault;
 use crate::hood::Hood;
 use crate::spelling::spelling_of;
-use ca_plane::{Automaton, Nine};
+use ca_plane::{Automaton, Memory, Nine};
+use std::alloc::Global;
 
 /// A two-state rule in B/S notation (Golly Help, QuickLife): a dead cell with a birth count of live neighbours is born,
 /// a live cell with a survival count survives, and every other cell is dead next.
@@ -26,7 +27,7 @@ pub struct BsRule {
 }
 
 impl BsRule {
-    ghost use Rattle.ca_rule.specs.Spelling.{Names, IsFaultOf};
+    ghost use Rattle.ca_rule.specs.Spelling.{Names, IsFaultOf, printed};
 
     /// The rule that the text names, as `B3/S23`, `s23b3` and `23/3` name Conway's Life. Nothing here takes memory.
     pub fn parse(text: &[u8]) -> Result<BsRule, RuleFault>
@@ -50,6 +51,19 @@ impl BsRule {
             survival,
             hood,
         })
+    }
+
+    /// The one printed form of the rule, as `B3/S23`: each list of digits rising, then `V` or `H` where it applies.
+    pub fn text(&self, alloc: Global) -> Result<Vec<u8>, Memory>
+        ensures { IfOk result (λ v. v.items ≡ printed self.now.hood self.now.birth self.now.survival) }
+    {
+        let mut out = Vec::new(alloc);
+        out.push(b'B')?;
+        self.birth.push_digits(&mut out)?;
+        out.extend_from_slice(b"/S")?;
+        self.survival.push_digits(&mut out)?;
+        self.hood.push_suffix(&mut out)?;
+        Ok(out)
     }
 }
 

@@ -1,6 +1,8 @@
 //! Sets of counts of live neighbours.
 
-ghost use Rattle.std.specs.Prelude.{◌≡◌, ℕ, false};
+ghost use Rattle.std.specs.Prelude.{◌≡◌, ◌++◌, ℕ, false, length, OnOk};
+
+use ca_plane::Memory;
 
 /// A set of counts of live neighbours, each from 0 to 8.
 #[derive(Clone, Copy, Debug, PartialEq, Eq)]
@@ -10,6 +12,7 @@ pub struct Counts {
 
 impl Counts {
     ghost use Rattle.ca_rule.specs.Counts.{is_count, counts_of};
+    ghost use Rattle.ca_rule.specs.Spelling.{digits_of};
 
     /// No count at all.
     pub const fn none() -> Counts
@@ -23,6 +26,14 @@ impl Counts {
         ensures { result ≡ is_count self count }
     {
         self.holds.get(count).copied().unwrap_or(false)
+    }
+
+    /// How many numbers may be counts.
+    pub(crate) fn places(self) -> usize
+        ensures places { result ≡ 9 }
+        ensures holds { length self.holds ≡ result }
+    {
+        self.holds.len()
     }
 
     /// The counts from 0 to 8 whose digits these are.
@@ -42,5 +53,17 @@ impl Counts {
                 digits.contains(&b'8'),
             ],
         }
+    }
+
+    /// Appends the digits of these counts, rising.
+    pub(crate) fn push_digits(self, out: &mut Vec<u8>) -> Result<(), Memory>
+        ensures { OnOk result (out.new.items ≡ out.old.items ++ digits_of self) }
+    {
+        'counts: for count in 0..9u8 {
+            if self.contains(usize::from(count)) {
+                out.push(b'0' + count)?;
+            }
+        }
+        Ok(())
     }
 }

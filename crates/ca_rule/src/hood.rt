@@ -1,5 +1,9 @@
 //! Which neighbours of a cell are counted.
 
+ghost use Rattle.std.specs.Prelude.{◌≡◌, ◌++◌, OnOk};
+
+use ca_plane::Memory;
+
 /// Which of a cell's neighbours a rule counts (Golly Help, QuickLife).
 #[derive(Clone, Copy, Debug, PartialEq, Eq)]
 pub enum Hood {
@@ -9,4 +13,32 @@ pub enum Hood {
     VonNeumann,
     /// Six cells: all but the north-east and the south-west one (written `H`).
     Hex,
+}
+
+impl Hood {
+    ghost use Rattle.ca_rule.specs.Counts.{most_of};
+    ghost use Rattle.ca_rule.specs.Spelling.{suffix_of};
+
+    /// How many neighbours are counted.
+    pub(crate) fn most(self) -> u8
+        ensures { result ≡ most_of self }
+    {
+        match self {
+            Hood::Moore => 8,
+            Hood::VonNeumann => 4,
+            Hood::Hex => 6,
+        }
+    }
+
+    /// Appends the suffix that is printed.
+    pub(crate) fn push_suffix(self, out: &mut Vec<u8>) -> Result<(), Memory>
+        ensures { OnOk result (out.new.items ≡ out.old.items ++ suffix_of self) }
+    {
+        match self {
+            Hood::Moore => {}
+            Hood::VonNeumann => out.push(b'V')?,
+            Hood::Hex => out.push(b'H')?,
+        }
+        Ok(())
+    }
 }

@@ -1,7 +1,7 @@
 //! How a rule is spelled in B/S notation.
 
 ghost use Rattle.std.specs.Prelude.{◌≡◌, ◌≤◌, List, ℕ, None, Some, IfSome, IfNone, MatchOption};
-ghost use Rattle.ca_rule.specs.Counts.{most_of, are_digits_up_to};
+ghost use Rattle.ca_rule.specs.Counts.{are_digits_up_to};
 ghost use Rattle.ca_rule.specs.Reading.{is_letter, hood_of, body_of, without_slash, behind_letter, behind_slash, lists_around, lists_around_slash, lists_of};
 ghost use Rattle.ca_rule.specs.Spelling.{Spells};
 ghost use Rattle.ca_rule.specs.declared.hood.Hood.{Hood};
@@ -106,17 +106,6 @@ fn lists_of(body: &[u8]) -> Option<(&[u8], &[u8])>
     Some((birth, survival))
 }
 
-/// How many neighbours are counted.
-fn most_of(hood: Hood) -> u8
-    ensures { result ≡ most_of hood }
-{
-    match hood {
-        Hood::Moore => 8,
-        Hood::VonNeumann => 4,
-        Hood::Hex => 6,
-    }
-}
-
 /// Whether each byte is a digit from `0` to that of `most`.
 fn are_digits_up_to(most: u8, digits: &[u8]) -> bool
     requires { most ≤ 8 }
@@ -134,7 +123,7 @@ pub(crate) fn spelling_of(text: &[u8]) -> Option<Spelled<'_>>
 {
     let (body, hood) = split_suffix(text);
     let (birth, survival) = lists_of(body)?;
-    let most = most_of(hood);
+    let most = hood.most();
     if !are_digits_up_to(most, birth) || !are_digits_up_to(most, survival) {
         return None;
     }

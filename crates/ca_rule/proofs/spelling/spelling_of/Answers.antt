@@ -1,5 +1,4 @@
-use Rattle.std.proofs.Common.{◌≡◌, sym, Some}
-use Rattle.ca_rule.specs.Reading.{lists_of}
+use Rattle.std.proofs.Common.{sym}
 use Rattle.ca_rule.proofs.Formed.{IfNone-from, spells-no_lists, spells-found, spells-birth, spells-survival}
 use Rattle.ca_rule.proofs.spelling.spelling_of.Goals as goal
 use Rattle.ca_rule.proofs.spelling.spelling_of.Goals.{then-not-are_digits_up_to-via-then-not-are_digits_up_to, then-not-are_digits_up_to-via-else-not-are_digits_up_to+then-not-are_digits_up_to-2}
@@ -12,10 +11,10 @@ pub returns-then-not-are_digits_up_to-clause-none :
     goal.returns-then-not-are_digits_up_to-clause-none
 returns-then-not-are_digits_up_to-clause-none c =
     elim c.then-not-are_digits_up_to.branch [
-      | then-not-are_digits_up_to-via-then-not-are_digits_up_to w ↦ spells-birth _ _ _ c.split_suffix-hood.ensures.body c.split_suffix-hood.ensures.hood _ _ _ c.in_ok-birth.ensures c.most_of-most.ensures (sym w.if-not-are_digits_up_to.ensures)
-      | then-not-are_digits_up_to-via-else-not-are_digits_up_to+then-not-are_digits_up_to-2 w ↦ spells-survival _ _ _ c.split_suffix-hood.ensures.body c.split_suffix-hood.ensures.hood _ _ _ c.in_ok-birth.ensures c.most_of-most.ensures (sym w.if-not-are_digits_up_to-2.ensures)
+      | then-not-are_digits_up_to-via-then-not-are_digits_up_to w ↦ spells-birth _ _ _ c.split_suffix-hood.ensures.body c.split_suffix-hood.ensures.hood _ _ _ c.in_ok-birth.ensures c.most-most.ensures (sym w.if-not-are_digits_up_to.ensures)
+      | then-not-are_digits_up_to-via-else-not-are_digits_up_to+then-not-are_digits_up_to-2 w ↦ spells-survival _ _ _ c.split_suffix-hood.ensures.body c.split_suffix-hood.ensures.hood _ _ _ c.in_ok-birth.ensures c.most-most.ensures (sym w.if-not-are_digits_up_to-2.ensures)
     ]
 
 pub returns-clause-found : goal.returns-clause-found
 returns-clause-found c =
-    spells-found _ _ _ c.split_suffix-hood.ensures.body c.split_suffix-hood.ensures.hood _ _ _ c.in_ok-birth.ensures c.most_of-most.ensures (sym c.if-not-are_digits_up_to.ensures) (sym c.if-not-are_digits_up_to-2.ensures)
+    spells-found _ _ _ c.split_suffix-hood.ensures.body c.split_suffix-hood.ensures.hood _ _ _ c.in_ok-birth.ensures c.most-most.ensures (sym c.if-not-are_digits_up_to.ensures) (sym c.if-not-are_digits_up_to-2.ensures)

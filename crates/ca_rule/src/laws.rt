@@ -1,0 +1,75 @@
+//! What holds of rule texts, of printed rules and of next cells, said of the definitions alone. These functions are
+//! of no use to a program: each has a law for its contract.
+
+ghost use Rattle.std.specs.Prelude.{◌≡◌, ◌↔◌, ℕ, List, [], ◌∷◌, true, false, codes};
+ghost use Rattle.ca_rule.specs.Counts.{is_count, counts_of};
+ghost use Rattle.ca_rule.specs.Next.{next_of};
+ghost use Rattle.ca_rule.specs.Spelling.{Spells, Names, IsFaultOf, printed};
+ghost use Rattle.ca_rule.specs.declared.bs_rule.BsRule.{BsRule};
+ghost use Rattle.ca_rule.specs.declared.fault.RuleFault.{RuleFault};
+ghost use Rattle.ca_rule.specs.declared.fault.RuleFault.TheVariants.{Bounded, Wakes, Unknown};
+ghost use Rattle.ca_rule.specs.declared.hood.Hood.TheVariants.{Moore, VonNeumann, Hex};
+
+use crate::bs_rule::BsRule;
+
+/// A text names one rule at most.
+pub fn one_rule()
+    ensures { (text : List ℕ) (r s : BsRule) → Names text r → Names text s → (r.hood ≡ s.hood) × (r.birth ≡ s.birth) × (r.survival ≡ s.survival) }
+{}
+
+/// A text that names a rule has no fault, and another has one fault at most.
+pub fn rule_or_fault()
+    ensures rule_alone { (text : List ℕ) (rule : BsRule) (fault : RuleFault) → Names text rule → IsFaultOf text fault → ⊥ }
+    ensures one_fault { (text : List ℕ) (f g : RuleFault) → IsFaultOf text f → IsFaultOf text g → f ≡ g }
+{}
+
+/// Some texts and cells by name.
+pub fn worked_examples()
+    ensures life_is_spelled { Spells (codes "B3/S23") (codes "3") (codes "23") Moore }
+    ensures life_is_spelled_survival_first { Spells (codes "S32/B33") (codes "33") (codes "32") Moore }
+    ensures life_is_spelled_in_lower_case { Spells (codes "s23b3") (codes "3") (codes "23") Moore }
+    ensures life_is_spelled_without_letters { Spells (codes "23/3") (codes "3") (codes "23") Moore }
+    ensures slash_alone_spells_no_counts { Spells (codes "/") [] [] Moore }
+    ensures four_neighbours_are_spelled { Spells (codes "b1sv") (codes "1") [] VonNeumann }
+    ensures six_neighbours_are_spelled { Spells (codes "B6/S6h") (codes "6") (codes "6") Hex }
+    ensures life_is_named { (rule : BsRule) → rule.hood ≡ Moore → rule.birth ≡ counts_of (codes "3") → rule.survival ≡ counts_of (codes "23") → Names (codes "B3/S23") rule }
+    ensures life_is_printed { printed Moore (counts_of (codes "33")) (counts_of (codes "32")) ≡ codes "B3/S23" }
+    ensures four_neighbours_are_printed { printed VonNeumann (counts_of (codes "1")) (counts_of []) ≡ codes "B1/SV" }
+    ensures six_neighbours_are_printed { printed Hex (counts_of (codes "6")) (counts_of (codes "6")) ≡ codes "B6/S6H" }
+    ensures two_is_a_count { is_count (counts_of (codes "23")) 2 ≡ true }
+    ensures nine_is_no_count { is_count (counts_of (codes "012345678")) 9 ≡ false }
+    ensures centre_of_a_blinker_survives { next_of Moore (counts_of (codes "3")) (counts_of (codes "23")) (0 ∷ 0 ∷ 0 ∷ 1 ∷ 1 ∷ 1 ∷ 0 ∷ 0 ∷ 0 ∷ []) ≡ 1 }
+    ensures north_of_a_blinker_is_born { next_of Moore (counts_of (codes "3")) (counts_of (codes "23")) (0 ∷ 0 ∷ 0 ∷ 0 ∷ 0 ∷ 0 ∷ 1 ∷ 1 ∷ 1 ∷ []) ≡ 1 }
+    ensures four_neighbours_are_too_many { next_of Moore (counts_of (codes "3")) (counts_of (codes "23")) (1 ∷ 0 ∷ 1 ∷ 0 ∷ 1 ∷ 0 ∷ 1 ∷ 0 ∷ 1 ∷ []) ≡ 0 }
+    ensures north_west_is_not_among_four { next_of VonNeumann (counts_of (codes "1")) (counts_of []) (1 ∷ 0 ∷ 0 ∷ 0 ∷ 0 ∷ 0 ∷ 0 ∷ 0 ∷ 0 ∷ []) ≡ 0 }
+    ensures north_is_among_four { next_of VonNeumann (counts_of (codes "1")) (counts_of []) (0 ∷ 1 ∷ 0 ∷ 0 ∷ 0 ∷ 0 ∷ 0 ∷ 0 ∷ 0 ∷ []) ≡ 1 }
+    ensures north_east_is_not_among_six { next_of Hex (counts_of (codes "1")) (counts_of []) (0 ∷ 0 ∷ 1 ∷ 0 ∷ 0 ∷ 0 ∷ 0 ∷ 0 ∷ 0 ∷ []) ≡ 0 }
+    ensures north_west_is_among_six { next_of Hex (counts_of (codes "1")) (counts_of []) (1 ∷ 0 ∷ 0 ∷ 0 ∷ 0 ∷ 0 ∷ 0 ∷ 0 ∷ 0 ∷ []) ≡ 1 }
+    ensures birth_on_none_wakes { IsFaultOf (codes "b03s23") Wakes }
+    ensures birth_on_none_wakes_without_letters { IsFaultOf (codes "/0") Wakes }
+    ensures torus_is_bounded { IsFaultOf (codes "B3/S23:T30,20") Bounded }
+    ensures colon_alone_is_bounded { IsFaultOf (codes "B0:") Bounded }
+    ensures names_of_rules_are_unknown { IsFaultOf (codes "Life") Unknown }
+    ensures empty_text_is_unknown { IsFaultOf [] Unknown }
+    ensures nine_neighbours_are_unknown { IsFaultOf (codes "B9/S") Unknown }
+    ensures five_of_four_neighbours_are_unknown { IsFaultOf (codes "B5/SV") Unknown }
+    ensures seven_of_six_neighbours_are_unknown { IsFaultOf (codes "B7/SH") Unknown }
+    ensures unknown_even_with_birth_on_none { IsFaultOf (codes "B08/S9") Unknown }
+{}
+
+/// The printed form of a rule names that rule.
+pub fn names_itself(rule: &BsRule)
+    ensures { Names (printed rule.now.hood rule.now.birth rule.now.survival) rule.now }
+{
+    let _ = rule.birth.places();
+    let _ = rule.survival.places();
+}
+
+/// Two rules are printed alike exactly where they are equal.
+pub fn alike(a: &BsRule, b: &BsRule)
+    ensures { (printed a.now.hood a.now.birth a.now.survival ≡ printed b.now.hood b.now.birth b.now.survival)
+        ↔ ((a.now.hood ≡ b.now.hood) × (a.now.birth ≡ b.now.birth) × (a.now.survival ≡ b.now.survival)) }
+{
+    names_itself(a);
+    names_itself(b);
+}
