@@ -3,6 +3,7 @@ use Rattle.std.specs.Prelude.{ℕ, pos, List, [], ◌∷◌, ◌++◌, codes}
 use Rattle.ca_plane.specs.Plane.{Picture}
 use Rattle.ca_rule.specs.Counts.{counts_of}
 use Rattle.ca_rule.specs.Next.{next_of}
+use Rattle.ca_rule.specs.declared.hood.Hood.TheVariants.{Moore}
 
 -- lines, each ended by LF
 abbrev pub text_of : List (List ℕ) → List ℕ
@@ -27,7 +28,7 @@ misspelled_text = text_of (codes "load a p" ∷ codes "gun a" ∷ [])
 
 -- the next state under Conway's Life, `B3/S23`
 abbrev pub life : List ℕ → ℕ
-life = next_of (counts_of (codes "3")) (counts_of (codes "23"))
+life = next_of Moore (counts_of (codes "3")) (counts_of (codes "23"))
 
 -- three cells in a row, from (0, 0) to the right
 abbrev pub blinker : Picture

@@ -13,7 +13,8 @@ ghost use Rattle.ca_claims.specs.Answers.{IsTrueVerdict};
 ghost use Rattle.ca_claims.specs.Examples.{life, blinker, block};
 ghost use Rattle.ca_claims.specs.declared.verdict.Why.{Why};
 ghost use Rattle.ca_claims.specs.declared.verdict.Verdict.TheVariants.{Yes, No, Refused};
-ghost use Rattle.ca_claims.specs.declared.verdict.Cause.TheVariants.{NoFile, NotYet};
+ghost use Rattle.ca_claims.specs.declared.verdict.Cause.TheVariants.{NoFile, NotYet, BadRule};
+ghost use Rattle.ca_rule.specs.declared.fault.RuleFault.{RuleFault};
 
 /// Where there is a reason against a claim, the claim isn't true.
 pub fn no_is_false()
@@ -33,6 +34,16 @@ pub fn one_kind_of_verdict()
     ensures no_or_no_file { (files : List (List ℕ × List ℕ)) (claim : Claim) (why : Why) → IsTrueVerdict files claim (No why) → IsTrueVerdict files claim (Refused NoFile) → ⊥ }
     ensures no_or_not_yet { (files : List (List ℕ × List ℕ)) (claim : Claim) (why : Why) → IsTrueVerdict files claim (No why) → IsTrueVerdict files claim (Refused NotYet) → ⊥ }
     ensures no_file_or_not_yet { (files : List (List ℕ × List ℕ)) (claim : Claim) → IsTrueVerdict files claim (Refused NoFile) → IsTrueVerdict files claim (Refused NotYet) → ⊥ }
+    ensures yes_or_bad_rule { (files : List (List ℕ × List ℕ)) (claim : Claim) (f : RuleFault) →
+        IsTrueVerdict files claim Yes → IsTrueVerdict files claim (Refused (BadRule f)) → ⊥ }
+    ensures no_or_bad_rule { (files : List (List ℕ × List ℕ)) (claim : Claim) (why : Why) (f : RuleFault) →
+        IsTrueVerdict files claim (No why) → IsTrueVerdict files claim (Refused (BadRule f)) → ⊥ }
+    ensures no_file_or_bad_rule { (files : List (List ℕ × List ℕ)) (claim : Claim) (f : RuleFault) →
+        IsTrueVerdict files claim (Refused NoFile) → IsTrueVerdict files claim (Refused (BadRule f)) → ⊥ }
+    ensures not_yet_or_bad_rule { (files : List (List ℕ × List ℕ)) (claim : Claim) (f : RuleFault) →
+        IsTrueVerdict files claim (Refused NotYet) → IsTrueVerdict files claim (Refused (BadRule f)) → ⊥ }
+    ensures one_bad_rule { (files : List (List ℕ × List ℕ)) (claim : Claim) (f g : RuleFault) →
+        IsTrueVerdict files claim (Refused (BadRule f)) → IsTrueVerdict files claim (Refused (BadRule g)) → f ≡ g }
 {}
 
 /// Cells of the blinker and the block under Conway's Life.
