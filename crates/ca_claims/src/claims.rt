@@ -1,10 +1,7 @@
 //! Claim texts, and what they ask.
 
-ghost use Rattle.std.specs.Prelude.{◌≡◌, ◌≢◌, ℕ, ◌<◌, List, Option, Some, slice_get, length, MatchOption, IfOk, IfErr};
-ghost use Rattle.std.specs.List.{IsDistinct};
-ghost use Rattle.std.specs.Str.{bytes_eq};
-ghost use Rattle.ca_claims.specs.Text.{Line, IsClaimText, asked_by, pattern_of};
-ghost use Rattle.ca_claims.specs.TextFaults.{IsFirstFault};
+ghost use Rattle.std.specs.Prelude.{◌≡◌, ◌≢◌, ℕ, ◌<◌, Some, slice_get, length, MatchOption};
+ghost use Rattle.ca_claims.specs.Text.{pattern_of};
 ghost use Rattle.ca_claims.specs.Lines.{numbered, pattern_index, claim_at};
 
 mod line;
@@ -14,11 +11,9 @@ mod reading;
 mod tests;
 mod words;
 
-use crate::ClaimFault;
 pub(crate) use line::{ClaimKind, ClaimLine};
 use paths::Paths;
 pub use reading::read_claims;
-use std::alloc::Global;
 use std::marker::Model;
 
 /// What a claim text asks: the paths of its files, each once, and its claims.

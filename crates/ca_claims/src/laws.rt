@@ -1,8 +1,8 @@
 //! Laws of claim texts, which no call needs to run.
 
-ghost use Rattle.std.specs.Prelude.{◌≡◌, ◌≢◌, ℕ, ◌++◌, List, [], ◌∷◌, Option, Some, None, codes};
+ghost use Rattle.std.specs.Prelude.{◌≡◌, ◌≢◌, ℕ, List, [], ◌∷◌, Option, Some, None, codes};
 ghost use Rattle.ca_claims.specs.Text.{Line, Load, Claims as Claiming, Still as StillOf, IsClaimText, asked_by};
-ghost use Rattle.ca_claims.specs.TextFaults.{HasLine, AreMisspelled, AskUnknown, LoadTaken, IsFirstFault};
+ghost use Rattle.ca_claims.specs.TextFaults.{IsFirstFault};
 ghost use Rattle.ca_claims.specs.Examples.{block_text, unknown_text, taken_text, misspelled_text};
 ghost use Rattle.ca_claims.specs.declared.fault.ClaimFault.{ClaimFault};
 ghost use Rattle.ca_claims.specs.declared.fault.ClaimFault.TheVariants as fault;
