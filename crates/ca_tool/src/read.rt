@@ -2,7 +2,7 @@
 
 ghost use Rattle.std.specs.Prelude.{◌≡◌, ◌≢◌, Err, IfOk, IsErrOf};
 ghost use Rattle.ca_plane.specs.Device.{Rises};
-ghost use Rattle.ca_tool.specs.Runs.{ReadsAll, GivesTooMany};
+ghost use Rattle.ca_tool.specs.Runs.{ReadsAll, GivesTooMany, TakesNoMore};
 
 use crate::fault::InputFault;
 use ca_plane::Dev;
@@ -16,10 +16,12 @@ const PIECE: usize = 8192;
 
 /// All bytes that the reader gives up to its end. A read that fails ends the call, and nothing is tried again.
 ///
-/// Each read but the last gives a byte or more, and the call ends once it has more bytes than a file may have.
+/// Each read but the last gives a byte or more, and the call ends once it has more bytes than a file may have; it then
+/// took at most 8192 bytes more than that.
 pub fn read_all<R: Read>(alloc: Global, device: &mut Dev<R>) -> Result<Vec<u8>, InputFault>
     ensures found { IfOk result (λ v. ReadsAll (R.remaining device.old.inner) (R.remaining device.new.inner) v.items) }
     ensures too_long { IsErrOf result InputFault.TooLong → GivesTooMany (R.remaining device.old.inner) (R.remaining device.new.inner) }
+    ensures bounded { TakesNoMore (R.remaining device.old.inner) (R.remaining device.new.inner) }
     ensures failed { IsErrOf result InputFault.Read → Rises device.old.failures device.new.failures }
     ensures kept { result ≢ Err InputFault.Read → device.new.failures ≡ device.old.failures }
 {

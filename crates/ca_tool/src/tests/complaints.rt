@@ -1,6 +1,6 @@
 //! The line of each fault.
 
-use super::devices::{Full, Narrow};
+use super::devices::{Narrow, Refusal};
 use crate::{Fault, InputFault, ToolFault, complain};
 use ca_claims::ClaimFault;
 use ca_plane::{Dev, WriteFault};
@@ -40,7 +40,7 @@ fn a_line_for_each_fault(rt: HostRuntime) -> Result<(), Fail> {
 fn a_line_in_pieces(rt: HostRuntime) -> Result<(), Fail> {
     let line = b"cafile: cannot read blocks/still.claims\n".as_slice();
     let fault = Fault::Input(InputFault::Read);
-    let mut device = Narrow::device(rt.alloc(), 3, line.len(), Full::Fails);
+    let mut device = Narrow::device(rt.alloc(), 3, line.len(), Refusal::Fails);
     complain(&fault, b"blocks/still.claims", &mut device)?;
     assert_eq!(rt; device.inner.taken.as_slice(), line);
     assert_eq!(rt; device.failures, 0);
@@ -51,9 +51,9 @@ fn a_line_in_pieces(rt: HostRuntime) -> Result<(), Fail> {
 fn a_first_part_of_a_line(rt: HostRuntime) {
     let line = b"cafile: claims line 7: unknown name\n".as_slice();
     let fault = Fault::Claims(ClaimFault::UnknownName { line: 7 });
-    for full in [Full::Fails, Full::TakesNone] {
+    for refusal in [Refusal::Fails, Refusal::TakesNone] {
         for room in 0..line.len() {
-            let mut device = Narrow::device(rt.alloc(), 3, room, full);
+            let mut device = Narrow::device(rt.alloc(), 3, room, refusal);
             assert_eq!(rt; complain(&fault, b"p", &mut device), Err(WriteFault::Write));
             assert_eq!(rt; device.inner.taken.as_slice(), &line[..room]);
             assert_eq!(rt; device.failures, 1);

@@ -7,29 +7,31 @@ use std::alloc::Global;
 use std::io;
 use std::io::{Error, ErrorKind, Read, Write};
 
-/// What a writer does once its room is full.
+/// How a write takes nothing.
 #[derive(Clone, Copy, Debug, PartialEq, Eq)]
-pub(super) enum Full {
+pub(super) enum Refusal {
     Fails,
     TakesNone,
 }
 
-/// Holds what it takes, which is at most `step` bytes at a time, and `room` bytes in all.
+/// Holds what it takes, which is at most `step` bytes at a time, and refuses one write, once it has `room` bytes.
+///
+/// It takes bytes again behind that write, so a write that is tried again shows.
 #[derive(Drop)]
 pub(super) struct Narrow {
     pub(super) taken: Vec<u8>,
     step: usize,
     room: usize,
-    full: Full,
+    refusal: Refusal,
 }
 
 impl Narrow {
-    pub(super) fn device(alloc: Global, step: usize, room: usize, full: Full) -> Dev<Narrow> {
+    pub(super) fn device(alloc: Global, step: usize, room: usize, refusal: Refusal) -> Dev<Narrow> {
         Dev::new(Narrow {
             taken: Vec::new(alloc),
             step,
             room,
-            full,
+            refusal,
         })
     }
 }
@@ -39,8 +41,12 @@ impl Write for Narrow {
 
     fn write(&mut self, buffer: &[u8]) -> io::Result<usize> {
         let room = self.room.saturating_sub(self.taken.len());
-        if room == 0 && self.full == Full::Fails {
-            return Err(Error::from(ErrorKind::Other));
+        if room == 0 {
+            self.room = usize::MAX;
+            return match self.refusal {
+                Refusal::Fails => Err(Error::from(ErrorKind::Other)),
+                Refusal::TakesNone => Ok(0),
+            };
         }
         let count = buffer.len().min(self.step).min(room);
         self.taken.extend_from_slice(&buffer[..count])?;

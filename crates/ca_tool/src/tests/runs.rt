@@ -1,6 +1,6 @@
 //! Whole runs, from the bytes of claims and files to the lines of the answers.
 
-use super::devices::{Counter, Full, Narrow};
+use super::devices::{Counter, Narrow, Refusal};
 use crate::{ToolFault, verify_run};
 use ca_claims::{File, read_claims};
 use ca_plane::Dev;
@@ -98,7 +98,7 @@ fn claims_are_judged(rt: HostRuntime) -> Result<(), Fail> {
 #[test]
 fn lines_in_pieces(rt: HostRuntime) -> Result<(), Fail> {
     let claims = read_claims(rt.alloc(), MIXED)?;
-    let mut device = Narrow::device(rt.alloc(), 1, MIXED_LINES.len(), Full::Fails);
+    let mut device = Narrow::device(rt.alloc(), 1, MIXED_LINES.len(), Refusal::Fails);
     assert_eq!(rt; verify_run(rt.alloc(), &claims, &FILES, &mut device), Ok(2));
     assert_eq!(rt; device.inner.taken.as_slice(), MIXED_LINES);
     assert_eq!(rt; device.failures, 0);
@@ -114,9 +114,9 @@ fn lines_in_pieces(rt: HostRuntime) -> Result<(), Fail> {
 #[test]
 fn a_first_part_of_the_lines(rt: HostRuntime) -> Result<(), Fail> {
     let claims = read_claims(rt.alloc(), MIXED)?;
-    for full in [Full::Fails, Full::TakesNone] {
+    for refusal in [Refusal::Fails, Refusal::TakesNone] {
         for room in 0..MIXED_LINES.len() {
-            let mut device = Narrow::device(rt.alloc(), 7, room, full);
+            let mut device = Narrow::device(rt.alloc(), 7, room, refusal);
             let result = verify_run(rt.alloc(), &claims, &FILES, &mut device);
             assert_eq!(rt; result, Err(ToolFault::Write));
             assert_eq!(rt; device.inner.taken.as_slice(), &MIXED_LINES[..room]);
@@ -129,7 +129,7 @@ fn a_first_part_of_the_lines(rt: HostRuntime) -> Result<(), Fail> {
 #[test]
 fn no_claims_need_no_room(rt: HostRuntime) -> Result<(), Fail> {
     let claims = read_claims(rt.alloc(), b"load b block.rle\n")?;
-    let mut device = Narrow::device(rt.alloc(), 1, 0, Full::Fails);
+    let mut device = Narrow::device(rt.alloc(), 1, 0, Refusal::Fails);
     assert_eq!(rt; verify_run(rt.alloc(), &claims, &FILES, &mut device), Ok(0));
     assert_eq!(rt; device.failures, 0);
     Ok(())
