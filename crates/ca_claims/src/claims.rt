@@ -1,6 +1,8 @@
 //! Claim texts, and what they ask.
 
 ghost use Rattle.std.specs.Prelude.{◌≡◌, ◌≢◌, ℕ, ◌<◌, Some, slice_get, length, MatchOption};
+ghost use Rattle.std.specs.List.{IsDistinct};
+ghost use Rattle.std.specs.Str.{bytes_eq};
 ghost use Rattle.ca_claims.specs.Text.{pattern_of};
 ghost use Rattle.ca_claims.specs.Lines.{numbered, pattern_index, claim_at};
 
