@@ -1,5 +1,5 @@
 -- The least box round the live cells, and planes that are moved.
-use Rattle.std.specs.Prelude.{◌≡◌, ◌≢◌, ℤ, ◌≤ℤ◌, ◌+ℤ◌}
+use Rattle.std.specs.Prelude.{◌≢◌, ℤ, ◌≤ℤ◌, ◌+ℤ◌}
 use Rattle.std.specs.List.{All}
 use Rattle.ca_plane.specs.declared.point.Point.{Point}
 use Rattle.ca_plane.specs.declared.point.Bounds.{Bounds}
