@@ -3,6 +3,7 @@
 use super::*;
 use crate::claims::read_claims;
 use crate::verdict::Why;
+use ca_rule::RuleFault;
 use std::process::Abort;
 use std::test::*;
 
@@ -169,18 +170,50 @@ fn patterns_that_change_in_several_cells(rt: HostRuntime) -> Result<(), Fail> {
 
 #[test]
 fn files_that_are_not_read_yet(rt: HostRuntime) -> Result<(), Fail> {
-    let table: [&[u8]; 7] = [
+    let table: [&[u8]; 5] = [
         b"",
         b"x = 0, y = 0\n!",
         b"x = 2, y = 2, rule = B3/S23\r\n2o$2o!\r\n",
         b"x = 2, y = 2, rule = B3/S23\n2o$2o",
-        b"x = 2, y = 2, rule = Life\n2o$2o!",
-        b"x = 2, y = 2, rule = B03/S23\n2o$2o!",
-        b"x = 2, y = 2, rule = B3/S23:T30,20\n2o$2o!",
+        b"x = 2, y = 2, rule = Life\n2o$2o",
     ];
     for bytes in table {
         let verdict = still_of(rt.alloc(), bytes)?;
         assert_eq!(rt; verdict, Verdict::Refused(Cause::NotYet), "{bytes:?}");
+    }
+    Ok(())
+}
+
+#[test]
+fn rule_texts_that_name_no_rule(rt: HostRuntime) -> Result<(), Fail> {
+    let table: [(&[u8], RuleFault); 4] = [
+        (b"x = 2, y = 2, rule = B03/S23\n2o$2o!", RuleFault::Wakes),
+        (b"x = 2, y = 2, rule = B3/S23:T30,20\n2o$2o!", RuleFault::Bounded),
+        (b"x = 2, y = 2, rule = Life\n2o$2o!", RuleFault::Unknown),
+        (b"x = 2, y = 2, rule = B5/SV\n2o$2o!", RuleFault::Unknown),
+    ];
+    for (bytes, fault) in table {
+        let verdict = still_of(rt.alloc(), bytes)?;
+        assert_eq!(rt; verdict, Verdict::Refused(Cause::BadRule(fault)), "{bytes:?}");
+    }
+    Ok(())
+}
+
+#[test]
+fn still_lifes_over_other_neighbourhoods(rt: HostRuntime) -> Result<(), Fail> {
+    // Two cells side by side have one neighbour each; two on a diagonal have none that shares a side.
+    let table: [(&[u8], bool); 6] = [
+        (b"x = 2, y = 1, rule = B3/S1V\n2o!", true),
+        (b"x = 2, y = 2, rule = B3/S1V\no$bo!", false),
+        (b"x = 2, y = 2, rule = 0/3v\no$bo!", true),
+        // The hexagonal neighbours are all but the north-east and the south-west.
+        (b"x = 2, y = 2, rule = s1b3h\no$bo!", true),
+        (b"x = 2, y = 2, rule = s1b3h\nbo$o!", false),
+        (b"x = 2, y = 2, rule = S0/B3H\nbo$o!", true),
+    ];
+    for (bytes, is_still) in table {
+        let verdict = still_of(rt.alloc(), bytes)?;
+        assert_eq!(rt; verdict == Verdict::Yes, is_still, "{bytes:?}");
     }
     Ok(())
 }

@@ -2,6 +2,7 @@
 
 use crate::{lines, status};
 use ca_claims::{Answer, Cause, Verdict, Why};
+use ca_rule::RuleFault;
 use std::test::*;
 
 const DIFFERS: Verdict = Verdict::No(Why::Differs {
@@ -31,6 +32,21 @@ fn a_line_for_each_answer(rt: HostRuntime) -> Result<(), Fail> {
             99,
             Verdict::Refused(Cause::NotYet),
             "line 99: refused, not yet\n",
+        ),
+        (
+            99,
+            Verdict::Refused(Cause::BadRule(RuleFault::Bounded)),
+            "line 99: refused, bad rule: bounded\n",
+        ),
+        (
+            99,
+            Verdict::Refused(Cause::BadRule(RuleFault::Wakes)),
+            "line 99: refused, bad rule: wakes\n",
+        ),
+        (
+            99,
+            Verdict::Refused(Cause::BadRule(RuleFault::Unknown)),
+            "line 99: refused, bad rule: unknown\n",
         ),
         (
             100,
