@@ -188,13 +188,20 @@ fn files_that_are_not_read_yet(rt: HostRuntime) -> Result<(), Fail> {
 fn rule_texts_that_name_no_rule(rt: HostRuntime) -> Result<(), Fail> {
     let table: [(&[u8], RuleFault); 4] = [
         (b"x = 2, y = 2, rule = B03/S23\n2o$2o!", RuleFault::Wakes),
-        (b"x = 2, y = 2, rule = B3/S23:T30,20\n2o$2o!", RuleFault::Bounded),
+        (
+            b"x = 2, y = 2, rule = B3/S23:T30,20\n2o$2o!",
+            RuleFault::Bounded,
+        ),
         (b"x = 2, y = 2, rule = Life\n2o$2o!", RuleFault::Unknown),
         (b"x = 2, y = 2, rule = B5/SV\n2o$2o!", RuleFault::Unknown),
     ];
     for (bytes, fault) in table {
         let verdict = still_of(rt.alloc(), bytes)?;
-        assert_eq!(rt; verdict, Verdict::Refused(Cause::BadRule(fault)), "{bytes:?}");
+        assert_eq!(rt;
+            verdict,
+            Verdict::Refused(Cause::BadRule(fault)),
+            "{bytes:?}"
+        );
     }
     Ok(())
 }
