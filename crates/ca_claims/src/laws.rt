@@ -7,7 +7,7 @@ ghost use Rattle.ca_claims.specs.Examples.{block_text, unknown_text, taken_text,
 ghost use Rattle.ca_claims.specs.declared.fault.ClaimFault.{ClaimFault};
 ghost use Rattle.ca_claims.specs.declared.fault.ClaimFault.TheVariants as fault;
 
-/// A claim text has one meaning.
+/// A claim text has one meaning at most.
 pub fn one_meaning()
     ensures { (bytes : List ℕ) (s t : List (Option Line)) → IsClaimText bytes s → IsClaimText bytes t → s ≡ t }
 {}
@@ -17,7 +17,7 @@ pub fn no_fault_in_claim_text()
     ensures { (bytes : List ℕ) (said : List (Option Line)) (f : ClaimFault) → f ≢ fault.Memory → IsClaimText bytes said → IsFirstFault bytes f → ⊥ }
 {}
 
-/// A text has one first fault.
+/// A text has one first fault at most, want of memory apart.
 pub fn one_fault()
     ensures { (bytes : List ℕ) (f g : ClaimFault) → f ≢ fault.Memory → g ≢ fault.Memory → IsFirstFault bytes f → IsFirstFault bytes g → f ≡ g }
 {}

@@ -26,7 +26,8 @@ pub fn one_meaning_of_a_file()
     ensures { (bytes : List ℕ) (p q : Picture) (t u : List ℕ) (g h : ℕ) → Means bytes p t g → Means bytes q u h → (p ≡ q) × (t ≡ u) × (g ≡ h) }
 {}
 
-/// A yes and a no aren't both true of a claim, nor is one of them and a refusal for a cause in the files.
+/// A yes and a no aren't both true of a claim, nor is one of them and a refusal, nor are refusals for two causes; want of
+/// memory apart, which may come at any time.
 pub fn one_kind_of_verdict()
     ensures yes_or_no { (files : List (List ℕ × List ℕ)) (claim : Claim) (why : Why) → IsTrueVerdict files claim Yes → IsTrueVerdict files claim (No why) → ⊥ }
     ensures yes_or_no_file { (files : List (List ℕ × List ℕ)) (claim : Claim) → IsTrueVerdict files claim Yes → IsTrueVerdict files claim (Refused NoFile) → ⊥ }

@@ -10,7 +10,7 @@ use Rattle.ca_rule.specs.declared.hood.Hood.TheVariants.{Moore, VonNeumann, Hex}
 use Rattle.ca_rule.specs.declared.fault.RuleFault.{RuleFault}
 use Rattle.ca_rule.specs.declared.fault.RuleFault.TheVariants.{Bounded, Wakes, Unknown}
 
--- `B`, `S` or `/` where it is given in upper case: the byte is this letter, of either case
+-- the byte is this letter, which is given in upper case, in either case
 abbrev pub IsLetter : ℕ → ℕ → Type 0
 IsLetter upper byte = (byte ≡ upper) ⊎ (byte ≡ upper + 32)
 

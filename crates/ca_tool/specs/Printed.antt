@@ -37,6 +37,7 @@ cause_text causes.NotYet = codes "not yet"
 cause_text (causes.BadRule fault) = codes "bad rule: " ++ rule_fault_text fault
 cause_text causes.Memory = codes "memory"
 
+-- what is said of a claim
 abbrev pub verdict_text : Verdict → List ℕ
 verdict_text Yes = codes "yes"
 verdict_text (No why) = codes "no, " ++ why_text why
@@ -50,11 +51,13 @@ line_of answer = codes "line " ++ (decimal answer.line ++ (codes ": " ++ (verdic
 abbrev pub lines_of : List Answer → List ℕ
 lines_of answers = flat_map line_of answers
 
+-- whether the claim isn't judged
 abbrev pub is_refusal : Verdict → Bool
 is_refusal Yes = false
 is_refusal (No why) = false
 is_refusal (Refused cause) = true
 
+-- whether the claim is false
 abbrev pub is_no : Verdict → Bool
 is_no Yes = false
 is_no (No why) = true
