@@ -1,14 +1,9 @@
 -- What a run reads and writes.
-use Rattle.std.specs.Prelude.{◌≡◌, ℕ, ◌+◌, ◌<◌, ◌≤◌, ◌^◌, List, ◌++◌, length, Option, Result, Ok, Err}
-use Rattle.std.specs.Io.KnownBytes.{Appends, Keeps, Consumes, IsAtEnd}
-use Rattle.ca_plane.specs.Device.{Rises, AppendsPrefix}
+use Rattle.std.specs.Prelude.{ℕ, ◌+◌, ◌<◌, ◌≤◌, ◌^◌, List, length, Option}
+use Rattle.std.specs.Io.KnownBytes.{Consumes, IsAtEnd}
 use Rattle.ca_claims.specs.Text.{Claim}
 use Rattle.ca_claims.specs.Answers.{AreTrueAnswers}
 use Rattle.ca_claims.specs.declared.verdict.Answer.{Answer}
-use Rattle.ca_tool.specs.declared.fault.InputFault.{InputFault}
-use Rattle.ca_tool.specs.declared.fault.InputFault.TheVariants as inputs
-use Rattle.ca_tool.specs.declared.fault.ToolFault.{ToolFault}
-use Rattle.ca_tool.specs.declared.fault.ToolFault.TheVariants as tools
 use Rattle.ca_tool.specs.Printed.{lines_of, status_of}
 
 -- the greatest length of a file: 67108864 bytes

@@ -103,6 +103,11 @@ fn verdicts_or_memory(rt: HostRuntime) {
             1,
         ),
         (b"x = 0, y = 0\n!\n", b"line 2: refused, not yet\n", 2),
+        (
+            b"x = 2, y = 2, rule = B03/S23\n2o$2o!",
+            b"line 2: refused, bad rule: wakes\n",
+            2,
+        ),
     ] {
         judges_or_memory(&rt, bytes, line, status);
     }

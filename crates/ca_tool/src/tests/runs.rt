@@ -6,7 +6,7 @@ use ca_claims::{File, read_claims};
 use ca_plane::Dev;
 use std::test::*;
 
-const FILES: [File<'static>; 4] = [
+const FILES: [File<'static>; 5] = [
     File {
         path: b"block.rle",
         bytes: b"x = 2, y = 2, rule = B3/S23\n2o$2o!",
@@ -20,12 +20,16 @@ const FILES: [File<'static>; 4] = [
         bytes: b"x = 3, y = 3, rule = B3/S23\n!\n",
     },
     File {
+        path: b"wakes.rle",
+        bytes: b"x = 2, y = 2, rule = B03/S23\n2o$2o!\n",
+    },
+    File {
         path: b"no_rule.rle",
         bytes: b"x = 0, y = 0\n!\n",
     },
 ];
 
-const MIXED: &[u8] = b"# Every verdict.
+const MIXED: &[u8] = b"# Several verdicts.
 load block block.rle
 load same block.rle
 
@@ -72,6 +76,11 @@ fn claims_are_judged(rt: HostRuntime) -> Result<(), Fail> {
         (
             b"load b no_rule.rle\nstill b\n",
             b"line 2: refused, not yet\n",
+            2,
+        ),
+        (
+            b"load b wakes.rle\nstill b\n",
+            b"line 2: refused, bad rule: wakes\n",
             2,
         ),
         (
