@@ -1,5 +1,5 @@
 -- What a reader's pattern and a rule of its text say of a claim: verdicts on same pictures are the same.
-use Rattle.std.proofs.Common.{◌≡◌, ℕ, zero, suc, List, [], slice_get, unwrap_or, Some, refl, sym, ap, ◌∙◌, subst}
+use Rattle.std.proofs.Common.{◌≡◌, ℕ, zero, suc, List, [], slice_get, unwrap_or, Some, refl, sym, ap, ◌∙◌}
 use Rattle.std.specs.Prelude.{ℤ, pos}
 use Rattle.ca_plane.specs.Plane.{Picture, IsSame, IsLive}
 use Rattle.ca_plane.specs.Generations.{around, after}

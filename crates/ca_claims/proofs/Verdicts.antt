@@ -1,5 +1,5 @@
 -- A file has one meaning, and a claim one kind of true verdict.
-use Rattle.std.proofs.Common.{refl, ◌≡◌, ℕ, List, Option, Some, sym, ap, ◌∙◌, subst}
+use Rattle.std.proofs.Common.{refl, ◌≡◌, ℕ, List, Some, sym, ap, ◌∙◌, subst}
 use Rattle.ca_plane.specs.Plane.{Picture}
 use Rattle.ca_plane.specs.Generations.{after}
 use Rattle.ca_rule.specs.declared.bs_rule.BsRule.{BsRule}
