@@ -1,0 +1,40 @@
+-- How an RLE text is read: what stands behind its header, and the corner as the reader keeps it.
+use Rattle.std.specs.Prelude.{◌≡◌, ℕ, ◌^◌, ◌-◌, min, List, [], Some, ◌⊎◌}
+use Rattle.ca_plane.specs.declared.point.Point.{Point}
+use Rattle.ca_plane.specs.Sparse.{IsInPlane}
+use Rattle.ca_rle.specs.declared.fault.RleFault.{RleFault}
+use Rattle.ca_rle.specs.declared.fault.RleFault.TheVariants.{Syntax, Header, XlifeRule, NoEnd, BadState, GenTooLarge, Range, TooManyCells, Memory}
+use Rattle.ca_rle.specs.declared.item.Item.{Item}
+use Rattle.ca_rle.specs.Items.{Run, Items}
+use Rattle.ca_rle.specs.File.{File}
+use Rattle.ca_rle.specs.Limits.{IsInRange, IsOutOfRange, HasTooManyCells}
+use Rattle.ca_rle.specs.Faults.{item_fault}
+
+-- the item as the code keeps it: its count is at most 2^64 - 1
+abbrev pub kept : Item → Item
+kept item = record { count = min item.count (2 ^ 64 - 1); tag = item.tag }
+
+-- the reader keeps the corner itself, or, where that is out of range, some place in the plane that is out of range too
+abbrev pub KeepsCorner : Point → Point → Type 0
+KeepsCorner corner place = IsInPlane place × ((place ≡ corner) ⊎ ((IsInRange corner → ⊥) × (IsInRange place → ⊥)))
+
+-- a file with this corner and these items, of which no more is said
+abbrev pub bare_file : Point → List Item → File
+bare_file corner items = record { corner = corner; generation = 0; rule_text = []; items = items }
+
+-- behind good items stands an item with this fault, or the bytes end
+abbrev pub HasBadUnit : List ℕ → RleFault → Type 0
+HasBadUnit body fault = (items : List Item) × (bad : List ℕ) × Run body items bad × (item_fault bad ≡ Some fault)
+
+-- the fault of a body whose first item begins at the corner: that of its first bad item, else the first limit that it passes;
+-- want of memory may come at any time
+abbrev pub IsBodyFault : List ℕ → Point → RleFault → Type 0
+IsBodyFault body corner Syntax = HasBadUnit body Syntax
+IsBodyFault body corner NoEnd = HasBadUnit body NoEnd
+IsBodyFault body corner BadState = HasBadUnit body BadState
+IsBodyFault body corner Range = (items : List Item) × Items body items × IsOutOfRange (bare_file corner items)
+IsBodyFault body corner TooManyCells = (items : List Item) × Items body items × HasTooManyCells (bare_file corner items)
+IsBodyFault body corner Memory = Unit {0}
+IsBodyFault body corner Header = ⊥
+IsBodyFault body corner XlifeRule = ⊥
+IsBodyFault body corner GenTooLarge = ⊥

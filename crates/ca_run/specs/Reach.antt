@@ -1,0 +1,18 @@
+-- How far live cells may stand from the origin for a step, and the box that generations can't leave (our own).
+use Rattle.std.specs.Prelude.{◌≡◌, ◌≢◌, ℕ, ◌-◌, ◌^◌, ℤ, pos, neg_ℤ, ◌+ℤ◌, ◌-ℤ◌, ◌≤ℤ◌, List}
+use Rattle.ca_plane.specs.declared.point.Bounds.{Bounds}
+use Rattle.ca_plane.specs.Plane.{Picture, cell}
+use Rattle.ca_plane.specs.Generations.{after}
+
+-- both coordinates are from -(2^62 - 2) to 2^62 - 2: a cell from which a step is taken
+abbrev pub IsInReach : ℤ → ℤ → Type 0
+IsInReach x y =
+    (neg_ℤ (pos (2 ^ 62 - 2)) ≤ℤ x) × (x ≤ℤ pos (2 ^ 62 - 2)) × (neg_ℤ (pos (2 ^ 62 - 2)) ≤ℤ y) × (y ≤ℤ pos (2 ^ 62 - 2))
+
+-- after n generations some live cell stands out of reach
+abbrev pub LeavesReach : (List ℕ → ℕ) → Picture → ℕ → Type 0
+LeavesReach next cells n = (x : ℤ) × (y : ℤ) × (after next cells n x y ≢ 0) × (IsInReach x y → ⊥)
+
+-- the box grown by n cells on each side
+abbrev pub grown : Bounds → ℕ → Bounds
+grown box n = record { x0 = box.x0 -ℤ pos n; y0 = box.y0 -ℤ pos n; x1 = box.x1 +ℤ pos n; y1 = box.y1 +ℤ pos n }

@@ -1,0 +1,2 @@
+//! Generations of a plane under a rule, step by step, and laws of the plane after n generations.
+#![tactic(auto)]
