@@ -5,3 +5,4 @@ pub mod Sparse
 pub mod Bytes
 pub mod Device
 pub mod Box
+pub mod Puts

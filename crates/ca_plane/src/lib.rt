@@ -7,6 +7,7 @@ mod device;
 mod memory;
 mod plane;
 mod point;
+pub mod text;
 
 pub use automaton::Automaton;
 pub use device::{Dev, Failed, send};

@@ -1,29 +1,15 @@
 //! The lines that are printed for answers, and the exit status.
 
-ghost use Rattle.std.specs.Prelude.{◌≡◌, OnOk, IfOk, decimal};
+ghost use Rattle.std.specs.Prelude.{◌≡◌, OnOk, IfOk};
 ghost use Rattle.ca_tool.specs.Printed.{why_text, cause_text, rule_fault_text, verdict_text, line_of, lines_of, status_of, is_refusal, is_no};
-ghost use Rattle.ca_tool.specs.Puts.{Puts};
+ghost use Rattle.ca_plane.specs.Puts.{Puts};
 ghost use Rattle.std.specs.List.{list_any};
 
 use ca_claims::{Answer, Cause, Verdict, Why};
 use ca_plane::Memory;
+use ca_plane::text::{push_number, push_text};
 use ca_rule::RuleFault;
-use itoa::Buffer;
 use std::alloc::Global;
-
-fn push_text(out: &mut Vec<u8>, text: &[u8]) -> Result<(), Memory>
-    ensures { OnOk result (Puts out.old.items out.new.items text.now) }
-{
-    out.extend_from_slice(text)?;
-    Ok(())
-}
-
-fn push_number(out: &mut Vec<u8>, number: u64) -> Result<(), Memory>
-    ensures { OnOk result (Puts out.old.items out.new.items (decimal number)) }
-{
-    let mut buffer = Buffer::new();
-    push_text(out, buffer.format(number).as_bytes())
-}
 
 fn push_why(out: &mut Vec<u8>, why: &Why) -> Result<(), Memory>
     ensures { OnOk result (Puts out.old.items out.new.items (why_text why.now)) }
