@@ -1,8 +1,8 @@
 -- Generations one after another.
-use Rattle.std.proofs.Common.{◌≡◌, ℕ, zero, suc, ◌+◌, List, refl, sym, ap, ◌∙◌, arith}
+use Rattle.std.proofs.Common.{◌≡◌, ℕ, zero, suc, ◌+◌, List, ap, ◌∙◌, arith}
 use Rattle.std.specs.Prelude.{ℤ}
 use Rattle.ca_plane.specs.Plane.{Picture, cell, IsSame}
-use Rattle.ca_plane.specs.Generations.{around, after}
+use Rattle.ca_plane.specs.Generations.{after}
 use Rattle.ca_run.proofs.Rounds.{around-same}
 
 -- where q shows p after m generations, n generations of q are m + n of p

@@ -1,5 +1,5 @@
 -- The nine cells round a place.
-use Rattle.std.proofs.Common.{◌≡◌, ℕ, List, arith}
+use Rattle.std.proofs.Common.{◌≡◌, ℕ, arith}
 use Rattle.std.specs.Prelude.{ℤ, pos, ◌+ℤ◌, ◌-ℤ◌}
 use Rattle.std.proofs.lemmas.Int.{ints}
 use Rattle.ca_plane.specs.Generations.{around}
@@ -12,7 +12,6 @@ IsRound x y u v = IsInBox (record { x0 = x -ℤ pos 1; y0 = y -ℤ pos 1; x1 = x
 -- planes with the same nine cells round a place
 pub around-same : (f g : ℤ → ℤ → ℕ) (x y : ℤ) → ((u v : ℤ) → IsRound x y u v → f u v ≡ g u v) → around f x y ≡ around g x y
 around-same f g x y same =
-    let at : (u v : ℤ) → IsRound x y u v → f u v ≡ g u v = same in
     let nw = same (x -ℤ pos 1) (y -ℤ pos 1) (omega (arith, ints), omega (arith, ints), omega (arith, ints), omega (arith, ints)) in
     let n = same x (y -ℤ pos 1) (omega (arith, ints), omega (arith, ints), omega (arith, ints), omega (arith, ints)) in
     let ne = same (x +ℤ pos 1) (y -ℤ pos 1) (omega (arith, ints), omega (arith, ints), omega (arith, ints), omega (arith, ints)) in

@@ -1,13 +1,13 @@
 -- Live cells spread by one cell a generation at most, and nothing comes of an empty plane.
-use Rattle.std.proofs.Common.{◌≡◌, ◌≢◌, ℕ, zero, suc, ◌+◌, ◌-◌, ◌^◌, ◌≤◌, List, sym, ap, ◌∙◌, inl, inr, arith}
-use Rattle.std.specs.Prelude.{ℤ, pos, neg_ℤ, ◌+ℤ◌, ◌-ℤ◌, ◌≤ℤ◌, replicate}
+use Rattle.std.proofs.Common.{◌≡◌, ◌≢◌, ℕ, zero, suc, ◌-◌, ◌^◌, ◌≤◌, List, ap, ◌∙◌, inl, inr, arith}
+use Rattle.std.specs.Prelude.{ℤ, pos, neg_ℤ, ◌≤ℤ◌, replicate}
 use Rattle.std.proofs.lemmas.Bool.{cases_eq}
 use Rattle.std.proofs.lemmas.Int.{ints}
 use Rattle.ca_plane.specs.declared.point.Bounds.{Bounds}
 use Rattle.ca_plane.specs.Plane.{Picture, cell, IsLive}
 use Rattle.ca_plane.specs.Generations.{around, after}
 use Rattle.ca_plane.specs.Box.{IsInBox}
-use Rattle.ca_plane.proofs.Pictures.{cell-from_not_live}
+use Rattle.ca_plane.proofs.Pictures.{cell-from_not_live, not_live_from_cell}
 use Rattle.ca_run.specs.Reach.{IsInReach, LeavesReach, grown}
 use Rattle.ca_run.proofs.Rounds.{IsRound, around-same}
 
@@ -17,10 +17,14 @@ quiet_around next f x y quiet none = ap next (around-same f (λ _ _. 0) x y none
 
 -- ---- an empty plane
 
--- a picture that isn't live stays so
+-- a picture that isn't live shows 0 after n generations too
 pub live_later : (next : List ℕ → ℕ) (p : Picture) → next (replicate 9 0) ≡ 0 → (IsLive p → ⊥) → (n : ℕ) (x y : ℤ) → after next p n x y ≡ 0
 live_later next p quiet dead zero x y = cell-from_not_live p dead x y
 live_later next p quiet dead (suc n) x y = quiet_around next (after next p n) x y quiet (λ u v _. live_later next p quiet dead n u v)
+
+-- so what it shows then isn't live either
+pub not_live_later : (next : List ℕ → ℕ) (p q : Picture) (n : ℕ) → next (replicate 9 0) ≡ 0 → (IsLive p → ⊥) → ((x y : ℤ) → cell q x y ≡ after next p n x y) → IsLive q → ⊥
+not_live_later next p q n quiet dead shows = not_live_from_cell q (λ x y. shows x y ∙ live_later next p quiet dead n x y)
 
 -- ---- a box that grows
 
