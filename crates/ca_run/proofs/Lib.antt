@@ -1,0 +1,4 @@
+pub mod Rounds
+pub mod Later
+pub mod Spreading
+pub mod Vectors
