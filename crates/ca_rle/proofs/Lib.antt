@@ -21,3 +21,5 @@ pub mod Drawn
 pub mod FirstForms
 pub mod SameRun
 pub mod OnePlace
+pub mod BadWord
+pub mod OneFault
