@@ -23,3 +23,4 @@ pub mod SameRun
 pub mod OnePlace
 pub mod BadWord
 pub mod OneFault
+pub mod GoodItem
