@@ -24,3 +24,6 @@ pub mod OnePlace
 pub mod BadWord
 pub mod OneFault
 pub mod GoodItem
+pub mod WordOrFault
+pub mod LineKinds
+pub mod FileOrFault

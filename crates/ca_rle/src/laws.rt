@@ -45,6 +45,11 @@ pub fn one_fault()
     ensures { (bytes : List ℕ) (f g : RleFault) → f ≢ Memory → g ≢ Memory → IsFaultOf bytes f → IsFaultOf bytes g → f ≡ g }
 {}
 
+/// Every text is a file, or has a first fault in its spelling.
+pub fn file_or_fault()
+    ensures { (bytes : List ℕ) → ((file : File) × IsFile bytes file) ⊎ ((f : RleFault) × IsFirstFault bytes f) }
+{}
+
 /// A text that is a file within the limits has no fault, want of memory apart.
 pub fn no_fault_within_limits()
     ensures { (bytes : List ℕ) (file : File) (f : RleFault) → IsFile bytes file → IsWithinLimits file → f ≢ Memory → IsFaultOf bytes f → ⊥ }
