@@ -1,13 +1,13 @@
 -- A word of a `#CXRLE` line is good or bad, not both, and the first bad one stands at one place of a text.
-use Rattle.std.proofs.Common.{◌≡◌, ℕ, ◌<◌, ◌≤◌, ◌^◌, ◌⊎◌, inl, inr, true, false, IsTrue, List, [], ◌∷◌, ◌++◌, drop, codes, nat_eq, refl, sym, ap, ap₂, subst, ◌∙◌, true≢false, arith}
+use Rattle.std.proofs.Common.{◌≡◌, ℕ, ◌<◌, ◌≤◌, ◌^◌, inl, inr, true, List, [], ◌∷◌, ◌++◌, drop, codes, nat_eq, refl, sym, ap, ap₂, subst, ◌∙◌, true≢false, arith}
 use Rattle.std.specs.List.{AllZip, starts_with}
 use Rattle.std.proofs.lemmas.List.{append_cancel_left}
-use Rattle.ca_plane.specs.Bytes.{AreDigits, value}
+use Rattle.ca_plane.specs.Bytes.{value}
 use Rattle.ca_rle.specs.declared.fault.RleFault.{RleFault}
-use Rattle.ca_rle.specs.declared.fault.RleFault.TheVariants.{Syntax, Header, XlifeRule, NoEnd, BadState, GenTooLarge, Range, TooManyCells, Memory}
-use Rattle.ca_rle.specs.Header.{is_comment, extended_words, Said, Corner, Generation, Nothing, Says}
+use Rattle.ca_rle.specs.declared.fault.RleFault.TheVariants.{Syntax, GenTooLarge}
+use Rattle.ca_rle.specs.Header.{extended_words, Said, Corner, Generation, Nothing, Says}
 use Rattle.ca_rle.specs.Faults.{IsBadWord, HasBadWord}
-use Rattle.ca_rle.proofs.OnePlace.{IsGood, EndsPreamble, says_split, one_place}
+use Rattle.ca_rle.proofs.OnePlace.{IsGood, EndsPreamble, one_place}
 
 -- ---- one word
 

@@ -1,25 +1,24 @@
 -- Every text is a file, or has a first fault in its spelling.
-use Rattle.std.proofs.Common.{◌≡◌, ℕ, zero, suc, ◌+◌, ◌<◌, ◌⊎◌, inl, inr, Bool, true, false, not, IsTrue, List, [], ◌∷◌, ◌++◌, length, Option, Some, None, unwrap_or, codes, refl, sym, ap, subst, ◌∙◌, append-nil, append_assoc, true≢false, arith, nat_le, ◌==◌, is_some}
+use Rattle.std.proofs.Common.{◌≡◌, ℕ, zero, suc, ◌<◌, ◌⊎◌, inl, inr, Bool, true, false, not, IsTrue, List, [], ◌∷◌, ◌++◌, length, Option, Some, None, unwrap_or, codes, refl, sym, ap, subst, ◌∙◌, append-nil, append_assoc, true≢false, arith, nat_le, ◌==◌, is_some}
 use Rattle.std.specs.List.{flat_map, AllZip, AllByRecursion}
 use Rattle.std.proofs.lemmas.Bool.{cases_Bool, cond_both}
 use Rattle.std.proofs.lemmas.Grind.{flat_map-append}
 use Rattle.std.proofs.lemmas.List.{length-append}
 use Rattle.ca_plane.specs.Bytes.{is_digit, is_line_end, is_end_or, front, rest, value}
-use Rattle.ca_plane.proofs.Fronts.{rest_ends}
 use Rattle.ca_plane.proofs.Lines.{line_ends_by_lf}
 use Rattle.ca_rle.specs.declared.fault.RleFault.{RleFault}
 use Rattle.ca_rle.specs.declared.fault.RleFault.TheVariants.{Syntax, Header, XlifeRule, NoEnd, BadState, GenTooLarge, Range, TooManyCells, Memory}
 use Rattle.ca_rle.specs.declared.item.Item.{Item}
 use Rattle.ca_rle.specs.declared.item.Tag.{Tag}
-use Rattle.ca_rle.specs.Items.{InLine, is_letter, is_prefix, prefixed_state, tag_of, IsItem, Run, Items}
-use Rattle.ca_rle.specs.Header.{IsHeader, is_comment, extended_words, Said, Says, IsXlifeLine}
+use Rattle.ca_rle.specs.Items.{InLine, is_letter, is_prefix, prefixed_state, tag_of, IsItem, Items}
+use Rattle.ca_rle.specs.Header.{IsHeader, is_comment, extended_words, Said, Says}
 use Rattle.ca_rle.specs.File.{File, IsLine, ended, IsPreamble, corner_of, generation_of, IsHeaded, IsFile}
-use Rattle.ca_rle.specs.Faults.{behind_white, letter_fault, tag_fault, count_fault, item_fault, HasBadWord, HasNoHeader, HasBadItem, IsFirstFault}
+use Rattle.ca_rle.specs.Faults.{behind_white, letter_fault, tag_fault, count_fault, item_fault, HasBadWord, HasBadItem, IsFirstFault}
 use Rattle.ca_rle.specs.Reading.{HasBadUnit}
 use Rattle.ca_rle.proofs.Passing.{front_rest, Every-front}
 use Rattle.ca_rle.proofs.OneHeader.{no_comment}
 use Rattle.ca_rle.proofs.GoodItem.{IsItemOrEnd, good_item_or_end}
-use Rattle.ca_rle.proofs.WordOrFault.{AllSayOrBad, all_say_or_bad}
+use Rattle.ca_rle.proofs.WordOrFault.{all_say_or_bad}
 use Rattle.ca_rle.proofs.LineKinds.{header_or_not, xlife_or_none}
 
 -- ---- items
@@ -92,8 +91,8 @@ tag_fault_kind counted (b ∷ bs) =
     cond_both (b == 33) _ _ (λ (o : Option RleFault). none_or_of_item o ≡ true)
     (λ e. cond_both counted _ _ (λ (o : Option RleFault). none_or_of_item o ≡ true) (λ c. refl) (λ c. refl))
     (λ e. cond_both (is_some (tag_of (b ∷ []))) _ _ (λ (o : Option RleFault). none_or_of_item o ≡ true)
-      (λ t. refl)
-      (λ t. cond_both (is_prefix b) _ _ (λ (o : Option RleFault). none_or_of_item o ≡ true) (λ p. letter_fault_kind b bs) (λ p. refl)))
+    (λ t. refl)
+    (λ t. cond_both (is_prefix b) _ _ (λ (o : Option RleFault). none_or_of_item o ≡ true) (λ p. letter_fault_kind b bs) (λ p. refl)))
 
 count_fault_kind : (digits bytes : List ℕ) → none_or_of_item (count_fault digits bytes) ≡ true
 count_fault_kind [] bytes = tag_fault_kind false bytes

@@ -1,6 +1,6 @@
 -- Where bytes have no fault, an item stands at their front, or the end of the pattern.
-use Rattle.std.proofs.Common.{◌≡◌, ℕ, ◌<◌, ◌⊎◌, inl, inr, Bool, true, false, cond, not, ◌==◌, ◌&&◌, List, [], ◌∷◌, ◌++◌, Option, Some, None, is_some, nat_le, refl, sym, ap, subst, ◌∙◌, eqb-true, true≢false, arith}
-use Rattle.std.proofs.lemmas.Bool.{and_parts, and_from, cond_both}
+use Rattle.std.proofs.Common.{◌≡◌, ℕ, ◌<◌, ◌⊎◌, inl, inr, Bool, true, false, cond, ◌==◌, List, [], ◌∷◌, ◌++◌, Option, Some, None, is_some, nat_le, refl, sym, ap, subst, ◌∙◌, eqb-true, true≢false, arith}
+use Rattle.std.proofs.lemmas.Bool.{cond_both}
 use Rattle.std.proofs.lemmas.Bool.Decides.{nat_tests}
 use Rattle.std.proofs.lemmas.Option.{none-some}
 use Rattle.ca_plane.specs.Bytes.{is_digit, front, rest, value}
@@ -13,7 +13,7 @@ use Rattle.ca_rle.specs.Items.{InLine, is_letter, is_prefix, prefixed_state, tag
 use Rattle.ca_rle.specs.Faults.{behind_white, letter_fault, tag_fault, count_fault, item_fault}
 use Rattle.ca_rle.proofs.Passing.{front_rest}
 use Rattle.ca_rle.proofs.White.{Stops_above, behind_white_is}
-use Rattle.ca_rle.proofs.ItemAt.{tag_byte, tag_at, tag_at_is, count_of, item_at}
+use Rattle.ca_rle.proofs.ItemAt.{tag_byte, tag_at_is, count_of, item_at}
 use Rattle.ca_rle.proofs.Found.{end_found, run_found}
 
 -- ---- tags
@@ -32,8 +32,8 @@ letter_tag p [] h = λ e. absurd (none-some NoEnd (sym e))
 letter_tag p (b ∷ bs) h =
     cond_both (is_letter b) _ _ (λ (o : Option RleFault). o ≡ None → BeginsTag (p ∷ b ∷ bs))
     (λ letter. cond_both (nat_le (prefixed_state p b) 255) _ _ (λ (o : Option RleFault). o ≡ None → BeginsTag (p ∷ b ∷ bs))
-      (λ small e. (p ∷ b ∷ [], bs, Cell (prefixed_state p b), rw (h, letter, small) refl, refl))
-      (λ large e. absurd (none-some BadState (sym e))))
+    (λ small e. (p ∷ b ∷ [], bs, Cell (prefixed_state p b), rw (h, letter, small) refl, refl))
+    (λ large e. absurd (none-some BadState (sym e))))
     (λ other e. absurd (none-some Syntax (sym e)))
 
 -- `!` stands at the front of the bytes, where no count stands before it
@@ -51,10 +51,10 @@ good_tag counted (b ∷ bs) =
     cond_both (b == 33) _ _ (λ (o : Option RleFault). o ≡ None → BeginsEnd counted (b ∷ bs) ⊎ BeginsTag (b ∷ bs))
     (λ end e. inl (uncounted counted e, (bs, ap (λ (c : ℕ). c ∷ bs) (eqb-true b 33 end))))
     (λ other. cond_both (is_some (tag_of (b ∷ []))) _ _ (λ (o : Option RleFault). o ≡ None → BeginsEnd counted (b ∷ bs) ⊎ BeginsTag (b ∷ bs))
-      (λ tag e. let t = not_none (tag_of (b ∷ [])) tag in inr (b ∷ [], bs, t.0, t.1, refl))
-      (λ none. cond_both (is_prefix b) _ _ (λ (o : Option RleFault). o ≡ None → BeginsEnd counted (b ∷ bs) ⊎ BeginsTag (b ∷ bs))
-        (λ prefix e. inr (letter_tag b bs prefix e))
-        (λ unknown e. absurd (none-some Syntax (sym e)))))
+    (λ tag e. let t = not_none (tag_of (b ∷ [])) tag in inr (b ∷ [], bs, t.0, t.1, refl))
+    (λ none. cond_both (is_prefix b) _ _ (λ (o : Option RleFault). o ≡ None → BeginsEnd counted (b ∷ bs) ⊎ BeginsTag (b ∷ bs))
+    (λ prefix e. inr (letter_tag b bs prefix e))
+    (λ unknown e. absurd (none-some Syntax (sym e)))))
 
 -- ---- items
 

@@ -1,10 +1,10 @@
 -- A text is a file or has a fault, not both, and it has one fault at most, want of memory apart.
-use Rattle.std.proofs.Common.{◌≡◌, ◌≢◌, ℕ, ◌<◌, ◌≤◌, ◌^◌, ◌⊎◌, inl, inr, true, false, List, [], ◌∷◌, ◌++◌, length, Option, Some, None, is_some, refl, sym, ap, subst, ◌∙◌, true≢false, arith}
+use Rattle.std.proofs.Common.{◌≡◌, ◌≢◌, ℕ, ◌^◌, inl, inr, true, List, [], ◌∷◌, ◌++◌, length, Option, None, is_some, refl, sym, ap, subst, ◌∙◌, true≢false}
 use Rattle.std.specs.List.{AllByRecursion}
 use Rattle.std.proofs.lemmas.Option.{same_Some}
 use Rattle.ca_rle.specs.declared.fault.RleFault.{RleFault}
 use Rattle.ca_rle.specs.declared.fault.RleFault.TheVariants.{Syntax, Header, XlifeRule, NoEnd, BadState, GenTooLarge, Range, TooManyCells, Memory}
-use Rattle.ca_rle.specs.Items.{Items, Run}
+use Rattle.ca_rle.specs.Items.{Run}
 use Rattle.ca_rle.specs.Header.{IsHeader, is_comment, Said, IsXlifeLine}
 use Rattle.ca_rle.specs.File.{File, IsHeaded, IsFile}
 use Rattle.ca_rle.specs.Limits.{IsWithinRange, IsOutOfRange, HasTooManyCells, IsWithinLimits}

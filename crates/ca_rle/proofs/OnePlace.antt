@@ -1,9 +1,8 @@
 -- The lines that may stand before a header end at one place of a text.
-use Rattle.std.proofs.Common.{◌≡◌, ℕ, true, false, not, IsTrue, List, [], ◌∷◌, ◌++◌, Option, None, refl, sym, ap, ap₂, subst, ◌∙◌, append_assoc, true≢false, ◌⊎◌, inl, inr}
+use Rattle.std.proofs.Common.{◌≡◌, ℕ, true, false, not, IsTrue, List, [], ◌∷◌, ◌++◌, Option, None, refl, sym, ap₂, subst, ◌∙◌, append_assoc, true≢false, ◌⊎◌, inl, inr}
 use Rattle.std.specs.List.{flat_map, AllZip}
 use Rattle.std.proofs.lemmas.List.{append_cancel_left}
 use Rattle.ca_plane.specs.Bytes.{is_line_end, is_end_or}
-use Rattle.ca_rle.specs.declared.fault.RleFault.{RleFault}
 use Rattle.ca_rle.specs.Header.{IsHeader, is_comment, extended_words, Said, Says}
 use Rattle.ca_rle.specs.File.{IsLine, ended, IsPreamble, IsHeaded}
 use Rattle.ca_rle.specs.Faults.{HasNoHeader, HasXlifeRule}

@@ -1,7 +1,7 @@
 -- Each word of a `#CXRLE` line says something or is bad.
-use Rattle.std.proofs.Common.{◌≡◌, ℕ, ◌<◌, ◌≤◌, ◌^◌, ◌⊎◌, inl, inr, Bool, true, false, not, ◌==◌, IsTrue, List, [], ◌∷◌, ◌++◌, ℤ, pos, neg_ℤ, take, drop, length, codes, nat_eq, refl, sym, ap, ap₂, subst, ◌∙◌, eqb-true, true≢false, take-append-drop, arith}
+use Rattle.std.proofs.Common.{◌≡◌, ℕ, ◌^◌, ◌⊎◌, inl, inr, Bool, true, false, not, ◌==◌, List, [], ◌∷◌, ◌++◌, ℤ, pos, neg_ℤ, take, drop, length, codes, nat_eq, refl, sym, ap, subst, ◌∙◌, eqb-true, true≢false, take-append-drop, arith}
 use Rattle.std.specs.List.{AllZip, starts_with, list_all}
-use Rattle.std.proofs.lemmas.Bool.{and_parts, cases_Bool, cases_lt}
+use Rattle.std.proofs.lemmas.Bool.{cases_Bool, cases_lt}
 use Rattle.std.proofs.lemmas.Bool.Decides.{nat_tests}
 use Rattle.std.proofs.lemmas.List.{append_cancel_left}
 use Rattle.std.proofs.lemmas.Slice.Eq.{bytes_eq-Decides}
