@@ -84,6 +84,7 @@ first_bad_word (w ∷ ws) (o ∷ os) word other later behind (s ∷ ss) (t ∷ t
 pub bad_line : (bytes : List ℕ) (f : RleFault) (h : HasBadWord bytes f) → IsGood h.line → ⊥
 bad_line bytes f h (comment, (said, good)) = no_bad_among h.good h.word h.later said f (subst (λ (l : List (List ℕ)). AllZip Says l said) h.words good) h.bad
 
+-- the place of a line with a bad word
 pub bad_word_place : (bytes : List ℕ) (f : RleFault) (h : HasBadWord bytes f) → EndsPreamble bytes h.lines h.line h.more
 bad_word_place bytes f h = record { said = h.said; preamble = h.preamble; line_is = h.line_is; line_ends = h.line_ends; bad_or_last = λ good. absurd (bad_line bytes f h good); spelled = h.spelled }
 

@@ -60,6 +60,7 @@ items_within (suc n) bytes h =
       ]
     ]
 
+-- bytes spell items, or have a first bad one
 pub items_or_bad : (bytes : List ℕ) → ItemsOrBad bytes
 items_or_bad bytes = items_within (suc (length bytes)) bytes (omega arith)
 
@@ -98,6 +99,7 @@ count_fault_kind : (digits bytes : List ℕ) → none_or_of_item (count_fault di
 count_fault_kind [] bytes = tag_fault_kind false bytes
 count_fault_kind (d ∷ ds) bytes = cond_both (value (d ∷ ds) == 0) _ _ (λ (o : Option RleFault). none_or_of_item o ≡ true) (λ z. refl) (λ z. tag_fault_kind true (behind_white InLine bytes))
 
+-- the fault of an item is one of these
 pub item_fault_kind : (bytes : List ℕ) (f : RleFault) → item_fault bytes ≡ Some f → is_of_item f ≡ true
 item_fault_kind bytes f e = ap none_or_of_item (sym e) ∙ count_fault_kind (front is_digit (behind_white InLine bytes)) (rest is_digit (behind_white InLine bytes))
 

@@ -62,6 +62,7 @@ good_tag counted (b ∷ bs) =
 abbrev pub IsItemOrEnd : List ℕ → Type 0
 IsItemOrEnd bytes = ((i : Item) × (more : List ℕ) × Run bytes (i ∷ []) more) ⊎ IsEnd bytes
 
+-- digits and a tag at the front are an item
 read_tag : (bytes : List ℕ) (n : ℕ) → 0 < n → count_of (front is_digit (behind_white InLine bytes)) ≡ n → BeginsTag (behind_white InLine (rest is_digit (behind_white InLine bytes))) → IsItemOrEnd bytes
 read_tag bytes n h c (letters, more, t, e, spelled) =
     let read : item_at bytes ≡ Some (record { count = n; tag = t }, more) = rw (c, spelled, tag_at_is letters more t e) refl in
@@ -75,6 +76,7 @@ at_tag bytes (b ∷ bs, more, t, e, spelled) = ap (behind_white InLine) spelled 
 above_0 : (n : ℕ) → (n == 0) ≡ false → 0 < n
 above_0 n h = grind (arith, nat_tests)
 
+-- a unit without a fault, by its digits and what stands behind them
 read_unit : (bytes digits after : List ℕ) → front is_digit (behind_white InLine bytes) ≡ digits → rest is_digit (behind_white InLine bytes) ≡ after → count_fault digits after ≡ None → IsItemOrEnd bytes
 read_unit bytes [] after d a = λ e.
     elim (good_tag false after e) [
@@ -83,7 +85,7 @@ read_unit bytes [] after d a = λ e.
     ]
 read_unit bytes (c ∷ cs) after d a =
     cond_both (value (c ∷ cs) == 0) _ _ (λ (o : Option RleFault). o ≡ None → IsItemOrEnd bytes)
-    (λ zero e. absurd (none-some Syntax (sym e)))
+    (λ none e. absurd (none-some Syntax (sym e)))
     (λ more e. elim (good_tag true (behind_white InLine after) e) [
       | inl end ↦ absurd (true≢false end.0)
       | inr tag ↦ read_tag bytes (value (c ∷ cs)) (above_0 (value (c ∷ cs)) more) (ap count_of d) (subst BeginsTag (ap (behind_white InLine) (sym a)) tag)

@@ -50,6 +50,7 @@ long_header_or_not line None h e = short_header_or_not line (parts_left (size_pa
 long_header_or_not line (Some []) h e = inl (None, inr (spaced_found (size_parts rule_parts) line e))
 long_header_or_not line (Some (b ∷ bs)) h e = inl (Some (front is_word_byte (b ∷ bs)), word_left line b bs h e)
 
+-- a line is a header, or none
 pub header_or_not : (line : List ℕ) → IsLine line → HeaderOrNot line
 header_or_not line h = long_header_or_not line (parts_left (size_parts rule_parts) line) h refl
 
@@ -79,6 +80,7 @@ xlife_found line h =
 xlife_is : (line : List ℕ) → IsXlifeLine line → begins_xlife (rest is_blank (without_cr line)) ≡ true
 xlife_is line (blanks, blank, more, b, h, e) = ap (λ (l : List ℕ). begins_xlife (rest is_blank l)) e ∙ ap begins_xlife (rest_is is_blank blanks (codes "#r" ++ blank ∷ more) b refl) ∙ h
 
+-- a line is XLife's, or not
 pub xlife_or_not : (line : List ℕ) → IsXlifeLine line ⊎ (IsXlifeLine line → ⊥)
 xlife_or_not line =
     elim (cases_Bool (begins_xlife (rest is_blank (without_cr line)))) [
@@ -86,7 +88,7 @@ xlife_or_not line =
       | inr h ↦ inr (λ x. true≢false (sym (xlife_is line x) ∙ h))
     ]
 
--- one of the lines is XLife's
+-- a line of these that is XLife's, with those before and behind it
 pub record HasXlifeLine (lines : List (List ℕ)) : Type 0 where
   pub earlier : List (List ℕ)
   pub xlife : List ℕ
@@ -94,6 +96,7 @@ pub record HasXlifeLine (lines : List (List ℕ)) : Type 0 where
   pub is_xlife : IsXlifeLine xlife
   pub among : lines ≡ earlier ++ xlife ∷ others
 
+-- one of the lines is XLife's, or none is
 abbrev pub XlifeOrNone : List (List ℕ) → Type 0
 XlifeOrNone lines = HasXlifeLine lines ⊎ AllByRecursion (λ l. IsXlifeLine l → ⊥) lines
 
@@ -101,6 +104,7 @@ with_line : (line : List ℕ) (lines : List (List ℕ)) → (IsXlifeLine line �
 with_line line lines n (inl h) = inl (record { earlier = line ∷ h.earlier; xlife = h.xlife; others = h.others; is_xlife = h.is_xlife; among = ap (λ (l : List (List ℕ)). line ∷ l) h.among })
 with_line line lines n (inr none) = inr (n, none)
 
+-- one of some lines is XLife's, or none is
 pub xlife_or_none : (lines : List (List ℕ)) → XlifeOrNone lines
 xlife_or_none [] = inr tt
 xlife_or_none (l ∷ ls) =

@@ -28,9 +28,11 @@ pub record HasHeader (bytes : List ℕ) : Type 0 where
   pub place : EndsPreamble bytes lines header body
   pub header_is : IsHeader header rule
 
+-- a header behind which items may stand
 pub header_of_headed : (bytes : List ℕ) (said : List Said) (rule : Option (List ℕ)) (body : List ℕ) → IsHeaded bytes said rule body → HasHeader bytes
 header_of_headed bytes said rule body h = record { lines = h.lines; header = h.header; rule = rule; body = body; place = headed_place bytes said rule body h; header_is = h.header_is }
 
+-- a header that wants a rule
 pub header_of_xlife : (bytes : List ℕ) → HasXlifeRule bytes → HasHeader bytes
 header_of_xlife bytes h = record { lines = h.lines; header = h.header; rule = None; body = h.body; place = xlife_place bytes h; header_is = h.header_is }
 
@@ -91,6 +93,7 @@ pub data FaultKind (bytes : List ℕ) : RleFault → Type 0 where
   Xlife : HasXlifeRule bytes → FaultKind bytes XlifeRule
   BadItem : {f : RleFault} → HasBadItem bytes f → FaultKind bytes f
 
+-- what a first fault is of
 pub kind_of : (bytes : List ℕ) (f : RleFault) → IsFirstFault bytes f → FaultKind bytes f
 kind_of bytes Header p = NoHeader p
 kind_of bytes XlifeRule p = Xlife p
@@ -148,6 +151,7 @@ pub data LimitKind (bytes : List ℕ) : RleFault → Type 0 where
   TooFar : (file : File) → IsFile bytes file → IsOutOfRange file → LimitKind bytes Range
   TooMany : (file : File) → IsFile bytes file → HasTooManyCells file → LimitKind bytes TooManyCells
 
+-- what a fault is of
 pub limit_kind_of : (bytes : List ℕ) (f : RleFault) → f ≢ Memory → IsFaultOf bytes f → LimitKind bytes f
 limit_kind_of bytes Syntax n p = Spelling p
 limit_kind_of bytes Header n p = Spelling p

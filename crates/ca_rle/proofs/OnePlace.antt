@@ -84,9 +84,11 @@ one_place bytes (l ∷ ls) (k ∷ ks) a b m n p q =
 no_good_header : (line more : List ℕ) (rule : Option (List ℕ)) → IsHeader line rule → IsGood line → more ≡ []
 no_good_header line more rule h good = absurd (true≢false (sym good.0 ∙ no_comment line rule h))
 
+-- the place of a header behind which items may stand
 pub headed_place : (bytes : List ℕ) (said : List Said) (rule : Option (List ℕ)) (body : List ℕ) (h : IsHeaded bytes said rule body) → EndsPreamble bytes h.lines h.header body
 headed_place bytes said rule body h = record { said = said; preamble = h.preamble; line_is = h.header_is_line; line_ends = h.header_ends; bad_or_last = no_good_header h.header body rule h.header_is; spelled = h.spelled }
 
+-- the place of a header that wants a rule
 pub xlife_place : (bytes : List ℕ) (h : HasXlifeRule bytes) → EndsPreamble bytes h.lines h.header h.body
 xlife_place bytes h = record { said = h.said; preamble = h.preamble; line_is = h.header_is_line; line_ends = h.header_ends; bad_or_last = no_good_header h.header h.body None h.header_is; spelled = h.spelled }
 
@@ -94,5 +96,6 @@ no_comment_or_last : (line more : List ℕ) → (is_comment line ≡ false) ⊎ 
 no_comment_or_last line more (inl e) good = absurd (true≢false (sym good.0 ∙ e))
 no_comment_or_last line more (inr e) good = e.0
 
+-- the place where the header is wanting
 pub no_header_place : (bytes : List ℕ) (h : HasNoHeader bytes) → EndsPreamble bytes h.lines h.line h.more
 no_header_place bytes h = record { said = h.said; preamble = h.preamble; line_is = h.line_is; line_ends = h.line_ends; bad_or_last = no_comment_or_last h.line h.more h.no_comment_or_last; spelled = h.spelled }

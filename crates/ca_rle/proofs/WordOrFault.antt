@@ -118,6 +118,7 @@ generation_or_bad word more h e =
       | inr n ↦ inr (Syntax, inr (h, λ digits s d. n (subst AreDigits (append_cancel_left (codes "Gen=") digits more (sym s ∙ e)) d)))
     ]
 
+-- a word says something, or is bad
 pub says_or_bad : (word : List ℕ) → SaysOrBad word
 says_or_bad word =
     elim (cases_Bool (starts_with nat_eq word (codes "Pos="))) [
@@ -146,6 +147,7 @@ with_word : (w : List ℕ) (ws : List (List ℕ)) (s : Said) → Says w s → Al
 with_word w ws s h (inl (ss, hs)) = inl (s ∷ ss, (h, hs))
 with_word w ws s h (inr (f, b)) = inr (f, record { good = w ∷ b.good; said = s ∷ b.said; word = b.word; later = b.later; good_words = (h, b.good_words); bad = b.bad; words_are = ap (λ (l : List (List ℕ)). w ∷ l) b.words_are })
 
+-- each of some words says something, or one of them is the first bad one
 pub all_say_or_bad : (words : List (List ℕ)) → AllSayOrBad words
 all_say_or_bad [] = inl ([], tt)
 all_say_or_bad (w ∷ ws) =
