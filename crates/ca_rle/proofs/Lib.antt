@@ -19,3 +19,9 @@ pub mod Runs
 pub mod Places
 pub mod Drawn
 pub mod FirstForms
+pub mod TidyNumbers
+pub mod TidyBody
+pub mod TidyHead
+pub mod TidyCells
+pub mod TidyReach
+pub mod TidyFile
