@@ -25,3 +25,4 @@ pub mod TidyHead
 pub mod TidyCells
 pub mod TidyReach
 pub mod TidyFile
+pub mod TidyRange

@@ -5,6 +5,7 @@ ghost use Rattle.ca_plane.specs.Bytes.{IsWord};
 ghost use Rattle.ca_plane.specs.Plane.{Picture, cell, IsSame};
 ghost use Rattle.ca_plane.specs.Sparse.{IsInPlane};
 ghost use Rattle.ca_rle.specs.File.{File, IsFile};
+ghost use Rattle.ca_rle.specs.Limits.{IsInRange, IsWithinRange};
 ghost use Rattle.ca_rle.specs.Shown.{picture_of};
 ghost use Rattle.ca_rle.specs.Tidy.{IsTidy};
 
@@ -17,4 +18,14 @@ pub fn tidy_means()
     ensures only { (text : List ℕ) (cells : Picture) (rule_text : List ℕ) (generation states : ℕ) → IsTidy text cells rule_text generation states
         → IsWord rule_text → generation < 2 ^ 63 → ((x y : ℤ) → cell cells x y ≢ 0 → IsInPlane (record { y = y; x = x }))
         → (file : File) → IsFile text file → IsSame cells (picture_of file.corner file.items) × (file.rule_text ≡ rule_text) × (file.generation ≡ generation) }
+{}
+
+/// A tidy text of a plane in range is within the range of the reader.
+pub fn tidy_in_range()
+    ensures file { (text : List ℕ) (cells : Picture) (rule_text : List ℕ) (generation states : ℕ) → IsTidy text cells rule_text generation states
+        → IsWord rule_text → generation < 2 ^ 63 → ((x y : ℤ) → cell cells x y ≢ 0 → IsInRange (record { y = y; x = x }))
+        → (file : File) × IsFile text file × IsWithinRange file }
+    ensures only { (text : List ℕ) (cells : Picture) (rule_text : List ℕ) (generation states : ℕ) → IsTidy text cells rule_text generation states
+        → IsWord rule_text → generation < 2 ^ 63 → ((x y : ℤ) → cell cells x y ≢ 0 → IsInRange (record { y = y; x = x }))
+        → (file : File) → IsFile text file → IsWithinRange file }
 {}
