@@ -26,3 +26,4 @@ pub mod TidyCells
 pub mod TidyReach
 pub mod TidyFile
 pub mod TidyRange
+pub mod OneTidy

@@ -94,7 +94,7 @@ pub picture_drawn : (corner : Point) (is : List Item) → picture_behind corner 
 picture_drawn corner is = drawn_behind corner [] is ∙ ap (λ at. drawn corner.x at is) (point-same (place_behind corner []) corner (omega (arith, ints)) (omega (arith, ints)))
 
 -- a place that is none of an item's
-item_out : (at : Point) (i : Item) (q : Picture) (x y : ℤ) → ((k : ℕ) → k < i.count → y ≡ at.y → x ≡ at.x +ℤ pos k → ⊥) → cell (cells_at at i ++ q) x y ≡ cell q x y
+pub item_out : (at : Point) (i : Item) (q : Picture) (x y : ℤ) → ((k : ℕ) → k < i.count → y ≡ at.y → x ≡ at.x +ℤ pos k → ⊥) → cell (cells_at at i ++ q) x y ≡ cell q x y
 item_out at i q x y h =
     elim (cases_Bool (state_of i.tag == 0)) [
       | inl e ↦ rw e refl
@@ -178,9 +178,12 @@ row_live left at n s is tidy =
     elim (cases_eq s 0) [
       | inl e ↦ (at.x +ℤ pos n, at.y, (refl, omega (arith, ints), omega (arith, ints)), λ z. behind left at n s is _ _ tidy refl refl (z ∙ sym e))
       | inr h ↦
-          let low = tidy_counts (record { count = n; tag = Cell s }) is tidy in
-          (at.x +ℤ pos (n - 1), at.y, (refl, omega (arith, ints), omega (arith, ints)),
-          λ z. h (sym (within left at (record { count = n; tag = Cell s }) is (n - 1) _ _ tidy (omega arith) refl refl) ∙ z))
+          let low = tidy_counts (record { count = n; tag = Cell s }) is tidy in (
+            at.x +ℤ pos (n - 1),
+            at.y,
+            (refl, omega (arith, ints), omega (arith, ints)),
+            λ z. h (sym (within left at (record { count = n; tag = Cell s }) is (n - 1) _ _ tidy (omega arith) refl refl) ∙ z),
+          )
     ]
 
 behind_row_end : (left : ℤ) (at : Point) (n m : ℕ) (t : Tag) (is : List Item) → AreTidy (record { count = n; tag = RowEnd } ∷ record { count = m; tag = t } ∷ is)

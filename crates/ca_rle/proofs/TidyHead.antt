@@ -91,7 +91,7 @@ says_both a b more corner generation p q s =
     let u = integer_in_word a corner.x p in
     let v = integer_in_word b corner.y q in
     let first : words_of (codes "#CXRLE Pos=" ++ (a ++ (codes "," ++ (b ++ more)))) ≡ codes "#CXRLE" ∷ words_of (codes "Pos=" ++ (a ++ (codes "," ++ (b ++ more)))) =
-        words_ahead (codes "#CXRLE") (codes " Pos=" ++ (a ++ (codes "," ++ (b ++ more)))) refl refl in
+    words_ahead (codes "#CXRLE") (codes " Pos=" ++ (a ++ (codes "," ++ (b ++ more)))) refl refl in
     let group : codes "Pos=" ++ (a ++ (codes "," ++ (b ++ more))) ≡ pos_word a b ++ more = ap (λ l. codes "Pos=" ++ l) (sym (append_assoc a (44 ∷ b) more)) in
     let words : words_of (codes "Pos=" ++ (a ++ (codes "," ++ (b ++ more)))) ≡ pos_word a b ∷ words_of more = ap words_of group ∙ words_ahead (pos_word a b) more (pos_is_word a b u v) s.blank_first in
     let all : extended_words (codes "#CXRLE Pos=" ++ (a ++ (codes "," ++ (b ++ more)))) ≡ pos_word a b ∷ words_of more = ap words_behind_cxrle (first ∙ ap (λ l. codes "#CXRLE" ∷ l) words) in
@@ -130,9 +130,14 @@ regroup x width y height rule rule_text = simp (append_assoc, append-nil)
 pub header_line_is : (width height : ℕ) (rule_text : List ℕ) → width < 2 ^ 64 → height < 2 ^ 64 → IsWord rule_text → IsHeader (header_line width height rule_text) (Some rule_text)
 header_line_is width height rule_text p q r =
     let w = (decimal_writes width p).0 in
-    let h = (decimal_writes height q).0 in
-    (before_rule (decimal width) (decimal height), [], before_rule_is_spaced (decimal width) (decimal height) w h, r, refl,
-    regroup (codes "x = ") (decimal width) (codes ", y = ") (decimal height) (codes ", rule = ") rule_text)
+    let h = (decimal_writes height q).0 in (
+      before_rule (decimal width) (decimal height),
+      [],
+      before_rule_is_spaced (decimal width) (decimal height) w h,
+      r,
+      refl,
+      regroup (codes "x = ") (decimal width) (codes ", y = ") (decimal height) (codes ", rule = ") rule_text,
+    )
 
 pub header_line_is_line : (width height : ℕ) (rule_text : List ℕ) → width < 2 ^ 64 → height < 2 ^ 64 → IsWord rule_text → IsLine (header_line width height rule_text)
 header_line_is_line width height rule_text p q r =

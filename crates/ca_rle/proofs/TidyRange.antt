@@ -32,9 +32,10 @@ corner_in_range cells corner width height within (inr (box, least, at, w, h)) =
 -- where no dead cell is listed, what holds of each live cell holds of each that is listed
 listed_in_range : (p : Picture) → AllByRecursion (λ e. e.1 ≢ 0) p → AreInRange p → AllByRecursion (λ e. IsInRange e.0) p
 listed_in_range [] states within = tt
-listed_in_range (e ∷ es) (some, others) within =
-    (within e.0.x e.0.y (λ z. some (sym (cell-first e es) ∙ z)),
-    listed_in_range es others (λ x y live. within x y (live_behind (e ∷ []) es x y (some, tt) live)))
+listed_in_range (e ∷ es) (some, others) within = (
+  within e.0.x e.0.y (λ z. some (sym (cell-first e es) ∙ z)),
+  listed_in_range es others (λ x y live. within x y (live_behind (e ∷ []) es x y (some, tt) live)),
+)
 
 drawn_states : (left : ℤ) (at : Point) (is : List Item) → AllByRecursion (λ e. e.1 ≢ 0) (drawn left at is)
 drawn_states left at [] = tt

@@ -10,7 +10,7 @@ ghost use Rattle.ca_rle.specs.Shown.{picture_of};
 ghost use Rattle.ca_rle.specs.Tidy.{IsTidy};
 
 /// A tidy text is an RLE file of its plane, its rule text and its generation, and of no other.
-/// The live cells lie where a plane keeps cells: a decimal form has at most 64 digits, so a corner further away isn't told.
+/// The live cells are where a plane keeps cells. Of cells anywhere this is false, since a decimal form has at most 64 digits.
 pub fn tidy_means()
     ensures file { (text : List ℕ) (cells : Picture) (rule_text : List ℕ) (generation states : ℕ) → IsTidy text cells rule_text generation states
         → IsWord rule_text → generation < 2 ^ 63 → ((x y : ℤ) → cell cells x y ≢ 0 → IsInPlane (record { y = y; x = x }))
@@ -28,4 +28,10 @@ pub fn tidy_in_range()
     ensures only { (text : List ℕ) (cells : Picture) (rule_text : List ℕ) (generation states : ℕ) → IsTidy text cells rule_text generation states
         → IsWord rule_text → generation < 2 ^ 63 → ((x y : ℤ) → cell cells x y ≢ 0 → IsInRange (record { y = y; x = x }))
         → (file : File) → IsFile text file → IsWithinRange file }
+{}
+
+/// A plane, with its rule text, generation and number of states, has one tidy text.
+pub fn one_tidy_text()
+    ensures { (t u : List ℕ) (cells : Picture) (rule_text : List ℕ) (generation states : ℕ) → IsTidy t cells rule_text generation states
+        → IsTidy u cells rule_text generation states → t ≡ u }
 {}
