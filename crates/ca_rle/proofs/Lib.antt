@@ -27,3 +27,11 @@ pub mod GoodItem
 pub mod WordOrFault
 pub mod LineKinds
 pub mod FileOrFault
+pub mod TidyNumbers
+pub mod TidyBody
+pub mod TidyHead
+pub mod TidyCells
+pub mod TidyReach
+pub mod TidyFile
+pub mod TidyRange
+pub mod OneTidy
