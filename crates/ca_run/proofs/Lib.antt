@@ -1,3 +1,4 @@
 pub mod Points
 pub mod Streams
 pub mod Merged
+pub mod Reached

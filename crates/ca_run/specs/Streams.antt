@@ -6,6 +6,7 @@ use Rattle.ca_plane.specs.declared.point.Point.{Point}
 use Rattle.ca_plane.specs.Plane.{Picture, cell}
 use Rattle.ca_plane.specs.Change.{Sets}
 use Rattle.ca_plane.specs.Sparse.{point_cmp, IsInPlane}
+use Rattle.ca_run.specs.Reach.{IsInReach}
 
 -- the state that each picture shows at the place
 abbrev pub shown : List Picture → ℤ → ℤ → List ℕ
@@ -53,3 +54,7 @@ AreWithout [] [] at = Unit {0}
 AreWithout (p ∷ ps) (q ∷ qs) at = IsWithout p q at × AreWithout ps qs at
 AreWithout [] (q ∷ qs) at = ⊥
 AreWithout (p ∷ ps) [] at = ⊥
+
+-- some live cell stands where no step is taken from it
+abbrev pub IsOutOfReach : Picture → Type 0
+IsOutOfReach p = (x : ℤ) × (y : ℤ) × (cell p x y ≢ 0) × (IsInReach x y → ⊥)

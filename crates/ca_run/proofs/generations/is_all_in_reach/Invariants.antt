@@ -1,6 +1,6 @@
 use Rattle.std.specs.List.{All}
 use Rattle.ca_run.specs.Reach.{IsInReach}
-use Rattle.ca_run.proofs.generations.is_in_reach.Given as goal
+use Rattle.ca_run.proofs.generations.is_all_in_reach.Given as goal
 
 -- the cells so far are in reach
 abbrev pub invariant-cells : goal.invariant-cells
