@@ -7,6 +7,7 @@ mod first_form;
 mod item;
 pub mod laws;
 mod pattern;
+mod unit;
 
 pub use fault::RleFault;
 pub use first_form::{FirstFormFault, read_first_form};
