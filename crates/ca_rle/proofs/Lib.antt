@@ -16,8 +16,10 @@ pub mod ShortHeader
 pub mod Packed
 pub mod Bodies
 pub mod Runs
+pub mod Pushed
 pub mod Places
 pub mod Drawn
 pub mod FirstForms
 pub mod Skipped
 pub mod Units
+pub mod Measured

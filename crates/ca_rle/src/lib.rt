@@ -2,6 +2,7 @@
 #![tactic(auto)]
 
 pub mod examples;
+mod extent;
 mod fault;
 mod first_form;
 mod item;
