@@ -23,3 +23,4 @@ pub mod FirstForms
 pub mod Skipped
 pub mod Units
 pub mod Measured
+pub mod Ranges
