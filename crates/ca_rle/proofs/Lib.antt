@@ -24,3 +24,5 @@ pub mod Skipped
 pub mod Units
 pub mod Measured
 pub mod Ranges
+pub mod Prefixes
+pub mod Pictured

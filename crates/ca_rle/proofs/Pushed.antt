@@ -53,6 +53,14 @@ picture_behind-push corner before (j ∷ js) i =
     ∙ sym (append_assoc (cells_of corner before j) (picture_behind corner (before ++ j ∷ []) js) (cells_of corner ((before ++ j ∷ []) ++ js) i))
     ∙ ap (λ b. (cells_of corner before j ++ picture_behind corner (before ++ j ∷ []) js) ++ cells_of corner b i) (append_assoc before (j ∷ []) js)
 
+-- the cells of two parts stand one behind the other
+pub picture_behind-append : (corner : Point) (before is js : List Item) → picture_behind corner before (is ++ js) ≡ picture_behind corner before is ++ picture_behind corner (before ++ is) js
+picture_behind-append corner before [] js = ap (λ b. picture_behind corner b js) (sym (append-nil before))
+picture_behind-append corner before (i ∷ is) js =
+    ap (λ p. cells_of corner before i ++ p) (picture_behind-append corner (before ++ i ∷ []) is js)
+    ∙ sym (append_assoc (cells_of corner before i) (picture_behind corner (before ++ i ∷ []) is) (picture_behind corner ((before ++ i ∷ []) ++ is) js))
+    ∙ ap (λ b. (cells_of corner before i ++ picture_behind corner (before ++ i ∷ []) is) ++ picture_behind corner b js) (append_assoc before (i ∷ []) is)
+
 -- the greatest count with one more item
 pub longest_of-push : (is : List Item) (i : Item) → longest_of (is ++ i ∷ []) ≡ max (longest_of is) i.count
 longest_of-push [] i = omega arith

@@ -4,8 +4,9 @@ ghost use Rattle.std.specs.Prelude.{◌≡◌, ℕ, ◌+◌, ◌≤◌, ◌^◌,
 ghost use Rattle.ca_rle.specs.declared.item.Item.{Item};
 ghost use Rattle.ca_rle.specs.Items.{Items};
 ghost use Rattle.ca_rle.specs.Shown.{ends_row, state_of};
+ghost use Rattle.ca_rle.specs.Limits.{IsInRange};
 ghost use Rattle.ca_rle.specs.Reading.{HasBadUnit};
-ghost use Rattle.ca_rle.specs.Extent.{kept_number, live_count, IsOffsetOf, IsExtentOf, IsExtentInRange};
+ghost use Rattle.ca_rle.specs.Extent.{kept_number, live_count, IsOffsetOf, IsExtentOf, IsExtentInRange, point_from};
 
 use crate::fault::RleFault;
 use crate::item::{Item, Tag};
@@ -50,6 +51,18 @@ impl Offset {
                 rows: self.rows.saturating_add(item.count),
                 columns: 0,
             },
+        }
+    }
+
+    /// The point at this offset from the corner.
+    pub(crate) fn point(self, corner: Point) -> Point
+        requires corner { IsInRange corner }
+        requires point { IsInRange (point_from corner self) }
+        ensures { result ≡ point_from corner self }
+    {
+        Point {
+            y: corner.y + self.rows as i64,
+            x: corner.x + self.columns as i64,
         }
     }
 }
