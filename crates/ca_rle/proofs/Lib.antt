@@ -26,3 +26,4 @@ pub mod Measured
 pub mod Ranges
 pub mod Prefixes
 pub mod Pictured
+pub mod Judged

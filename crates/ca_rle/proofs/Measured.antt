@@ -1,5 +1,5 @@
 -- The items of a body measured one after another.
-use Rattle.std.proofs.Common.{◌≡◌, ℕ, ◌+◌, ◌-◌, ◌^◌, min, max, Bool, true, false, List, [], ◌∷◌, ◌++◌, ◌==◌, refl, sym, ap, subst, ◌∙◌, arith}
+use Rattle.std.proofs.Common.{◌≡◌, ℕ, ◌+◌, max, Bool, true, false, List, [], ◌∷◌, ◌++◌, ◌==◌, refl, sym, ap, subst, ◌∙◌, arith}
 use Rattle.std.specs.Prelude.{if◌then◌else◌}
 use Rattle.ca_rle.specs.declared.item.Item.{Item}
 use Rattle.ca_rle.specs.declared.extent.Extent.{Extent}
@@ -7,7 +7,7 @@ use Rattle.ca_rle.specs.declared.extent.Offset.{Offset}
 use Rattle.ca_rle.specs.Items.{Run}
 use Rattle.ca_rle.specs.Shown.{ends_row, state_of, rows_of, columns_of}
 use Rattle.ca_rle.specs.Reading.{kept}
-use Rattle.ca_rle.specs.Extent.{kept_number, live_count, live_cells, columns_to, rows_to, IsOffsetOf, IsExtentOf}
+use Rattle.ca_rle.specs.Extent.{kept_number, live_count, IsOffsetOf, IsExtentOf}
 use Rattle.ca_rle.proofs.Units.{IsItemAtFront}
 use Rattle.ca_rle.proofs.Pushed.{rows_of-push, columns_of-push, longest_of-push, right_behind-push, bottom_behind-push, live_cells-push, Run-push}
 

@@ -1,13 +1,8 @@
 -- Rows, columns and cells of items with one more behind them.
-use Rattle.std.proofs.Common.{◌≡◌, ◌+◌, ◌-◌, ◌≤◌, Bool, not, cond, List, [], ◌∷◌, ◌++◌, length, reverse, drop, inl, inr, refl, sym, ap, ◌∙◌, append_assoc, length-append, arith}
-use Rattle.std.specs.Prelude.{if◌then◌else◌}
-use Rattle.std.specs.List.{sum_by, after_last, suffix_len, prefix_len}
+use Rattle.std.proofs.Common.{◌≡◌, ◌+◌, ◌≤◌, List, [], ◌∷◌, ◌++◌, inl, inr, refl, arith}
 use Rattle.std.proofs.lemmas.Bool.{cases_Bool}
-use Rattle.std.proofs.lemmas.List.{append-nil, drop_all, drop-append-le, reverse-append, length-reverse}
-use Rattle.std.proofs.lemmas.List.Sums.{sum_by_push, prefix_len-le-length}
-use Rattle.ca_plane.specs.declared.point.Point.{Point}
 use Rattle.ca_rle.specs.declared.item.Item.{Item}
-use Rattle.ca_rle.specs.Shown.{ends_row, rows_of, columns_of, place_behind, cells_of, picture_behind}
+use Rattle.ca_rle.specs.Shown.{ends_row, rows_of, columns_of, place_behind}
 use Rattle.ca_rle.specs.FirstFormParts.{origin, place_after}
 use Rattle.ca_rle.proofs.Pushed.{rows_of-push, columns_of-push}
 

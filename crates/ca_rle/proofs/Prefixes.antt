@@ -1,15 +1,11 @@
 -- Items that were read so far are the first of all items of the body.
-use Rattle.std.proofs.Common.{◌≡◌, ℕ, ◌≤◌, ◌-◌, List, [], ◌∷◌, ◌++◌, Some, refl, sym, ap, subst, ◌∙◌, arith}
+use Rattle.std.proofs.Common.{◌≡◌, ℕ, ◌≤◌, List, [], ◌∷◌, ◌++◌, Some, refl, sym, ap, subst, ◌∙◌, arith}
 use Rattle.std.proofs.lemmas.Bool.Decides.{nat_tests}
-use Rattle.std.proofs.lemmas.Option.{none-some}
-use Rattle.ca_rle.specs.declared.fault.RleFault.{RleFault}
 use Rattle.ca_rle.specs.declared.item.Item.{Item}
 use Rattle.ca_rle.specs.declared.item.Tag.{Tag}
 use Rattle.ca_rle.specs.Items.{tag_of, Run, IsEnd, Items}
 use Rattle.ca_rle.specs.Shown.{state_of}
-use Rattle.ca_rle.specs.Faults.{item_fault}
 use Rattle.ca_rle.proofs.OneList.{item_or_end, one_item, one_list}
-use Rattle.ca_rle.proofs.NoFault.{no_bad_item}
 
 -- the items behind those that were read spell what is left
 pub items_left : (bytes rest : List ℕ) (all some : List Item) → Items bytes all → Run bytes some rest → (others : List Item) × Items rest others × (all ≡ some ++ others)

@@ -7,7 +7,7 @@ use Rattle.std.proofs.lemmas.List.{append-nil, drop_all, drop-append-le, reverse
 use Rattle.std.proofs.lemmas.List.Sums.{sum_by_push, prefix_len-le-length}
 use Rattle.ca_plane.specs.declared.point.Point.{Point}
 use Rattle.ca_rle.specs.declared.item.Item.{Item}
-use Rattle.ca_rle.specs.Items.{tag_of, IsCount, IsItem, Run}
+use Rattle.ca_rle.specs.Items.{tag_of, IsCount, Run}
 use Rattle.ca_rle.specs.Shown.{ends_row, rows_of, columns_of, cells_of, picture_behind}
 use Rattle.ca_rle.specs.Extent.{longest_of, live_count, live_cells, columns_to, rows_to, right_behind, bottom_behind}
 

@@ -1,5 +1,5 @@
 -- Items are in range just where their extent is.
-use Rattle.std.proofs.Common.{◌≡◌, ℕ, zero, suc, ◌+◌, ◌-◌, ◌<◌, ◌≤◌, ◌^◌, min, max, ℤ, pos, neg_ℤ, ◌+ℤ◌, ◌≤ℤ◌, ◌<ℤ◌, Bool, true, false, cond, List, [], ◌∷◌, ◌++◌, length, map, ◌==◌, sum_by, ◌↔◌, inl, inr, refl, sym, ap, subst, ◌∙◌, length-append, arith}
+use Rattle.std.proofs.Common.{◌≡◌, ℕ, zero, suc, ◌+◌, ◌-◌, ◌<◌, ◌≤◌, ◌^◌, max, ℤ, pos, neg_ℤ, ◌+ℤ◌, ◌≤ℤ◌, Bool, true, false, cond, List, [], ◌∷◌, ◌++◌, length, map, ◌==◌, inl, inr, refl, sym, subst, length-append, arith}
 use Rattle.std.specs.List.{AllByRecursion, range_with_len}
 use Rattle.std.proofs.lemmas.Bool.{cases_eq}
 use Rattle.std.proofs.lemmas.List.Sums.{sum_by-cons}
@@ -7,10 +7,10 @@ use Rattle.std.proofs.lemmas.Int.{ints}
 use Rattle.ca_plane.specs.declared.point.Point.{Point}
 use Rattle.ca_rle.specs.declared.item.Item.{Item}
 use Rattle.ca_rle.specs.declared.extent.Extent.{Extent}
-use Rattle.ca_rle.specs.Shown.{state_of, rows_of, columns_of, run_of, place_behind, cells_of, picture_behind, picture_of}
+use Rattle.ca_rle.specs.Shown.{state_of, rows_of, columns_of, run_of, place_behind, cells_of, picture_behind}
 use Rattle.ca_rle.specs.Limits.{IsInRange, IsWithinRange}
 use Rattle.ca_rle.specs.Reading.{bare_file}
-use Rattle.ca_rle.specs.Extent.{longest_of, live_count, live_cells, columns_to, rows_to, right_behind, bottom_behind, kept_number, IsExtentOf, IsExtentInRange, HasRoom, cells_from}
+use Rattle.ca_rle.specs.Extent.{longest_of, live_count, live_cells, columns_to, rows_to, right_behind, bottom_behind, kept_number, IsExtentOf, IsExtentInRange, HasRoom}
 use Rattle.ca_rle.proofs.Spans.{all_run, all_append, length_run}
 
 -- ---- counts

@@ -1,6 +1,5 @@
 -- What stands at the front of bytes, by the digits there and what is found behind them.
-use Rattle.std.proofs.Common.{◌≡◌, ◌≢◌, ℕ, ◌-◌, ◌<◌, ◌^◌, min, eqb, ne_eqb, eqb-true, Bool, true, false, cond, ◌==◌, List, [], ◌∷◌, ◌++◌, length, Option, Some, None, is_some, ◌⊎◌, inl, inr, refl, sym, ap, ◌∙◌, arith}
-use Rattle.std.proofs.lemmas.Bool.{cases_Bool}
+use Rattle.std.proofs.Common.{◌≡◌, ◌≢◌, ℕ, ◌-◌, ◌<◌, ◌^◌, min, eqb, ne_eqb, eqb-true, Bool, true, false, cond, ◌==◌, List, [], ◌∷◌, ◌++◌, length, Some, None, is_some, refl, sym, ap, ◌∙◌, arith}
 use Rattle.std.proofs.lemmas.Option.{none-some}
 use Rattle.std.proofs.lemmas.List.{nil_from_length}
 use Rattle.ca_plane.specs.Bytes.{is_digit, front, rest, value}
@@ -13,7 +12,7 @@ use Rattle.ca_rle.specs.Items.{InLine, is_prefix, tag_of, Run, IsEnd}
 use Rattle.ca_rle.specs.Faults.{behind_white, letter_fault, tag_fault, count_fault, item_fault}
 use Rattle.ca_rle.specs.Reading.{kept}
 use Rattle.ca_rle.specs.Unit.{IsSplit}
-use Rattle.ca_rle.proofs.ItemAt.{item_at, count_of, counted, tag_at, tag_at_is, behind_is_tag}
+use Rattle.ca_rle.proofs.ItemAt.{item_at, count_of, tag_at_is, behind_is_tag}
 use Rattle.ca_rle.proofs.Found.{run_found, end_found}
 
 -- an item stands at the front, and is kept so

@@ -1,6 +1,7 @@
 //! Extended RLE, the format of single patterns: its items, its files, its faults, and the reader of its first form.
 #![tactic(auto)]
 
+mod body;
 mod drawing;
 pub mod examples;
 mod extent;

@@ -3,7 +3,7 @@ use Rattle.ca_plane.specs.Bytes.{is_blank, is_end_or}
 use Rattle.ca_plane.proofs.Fronts.{rest_ends}
 use Rattle.ca_rle.specs.Items.{InLine}
 use Rattle.ca_rle.specs.Faults.{behind_white}
-use Rattle.ca_rle.proofs.Skipped.{line_blanks, no_white}
+use Rattle.ca_rle.proofs.Skipped.{line_blanks}
 use Rattle.ca_rle.proofs.unit.behind_white.Goals as goal
 
 pub lines-init : goal.lines-init
