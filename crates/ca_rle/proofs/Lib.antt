@@ -16,6 +16,7 @@ pub mod ShortHeader
 pub mod Packed
 pub mod Bodies
 pub mod Runs
+pub mod Pushed
 pub mod Places
 pub mod Drawn
 pub mod FirstForms
@@ -35,3 +36,10 @@ pub mod TidyReach
 pub mod TidyFile
 pub mod TidyRange
 pub mod OneTidy
+pub mod Skipped
+pub mod Units
+pub mod Measured
+pub mod Ranges
+pub mod Prefixes
+pub mod Pictured
+pub mod Judged
