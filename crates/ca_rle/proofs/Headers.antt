@@ -6,6 +6,7 @@ use Rattle.std.proofs.lemmas.Bool.Decides.{nat_tests}
 use Rattle.std.proofs.lemmas.Option.{none-some, same_Some}
 use Rattle.ca_plane.specs.Bytes.{Every, is_blank, is_line_end, is_digit, is_word_byte, IsWord, AreDigits, front, rest, is_end_or}
 use Rattle.ca_rle.specs.Header.{Part, Exactly, Number, IsPart, IsSpaced, size_parts, rule_parts, IsHeader}
+use Rattle.ca_rle.specs.HeaderParts.{strip, left_behind, part_left, parts_left}
 use Rattle.ca_rle.specs.File.{IsLine}
 use Rattle.ca_rle.proofs.Passing.{Every-mono, Every-front, front_is, rest_is, front_rest}
 
@@ -32,25 +33,6 @@ word_is_line [] h = refl
 word_is_line (b ∷ bs) h = Every-mono is_word_byte (λ b. not (is_line_end b)) (b ∷ bs) (λ b t. (and_parts (not (is_blank b)) (not (is_line_end b)) t).1) h
 
 -- ---- parts read from the front
-
--- what is left behind a text
-abbrev pub strip : List ℕ → List ℕ → Option (List ℕ)
-strip [] bytes = Some bytes
-strip (t ∷ ts) [] = None
-strip (t ∷ ts) (b ∷ bs) = cond (t == b) (strip ts bs) None
-
-abbrev left_behind : List ℕ → List ℕ → Option (List ℕ)
-left_behind [] more = None
-left_behind (d ∷ ds) more = Some more
-
-abbrev pub part_left : Part → List ℕ → Option (List ℕ)
-part_left (Exactly text) bytes = strip text bytes
-part_left Number bytes = left_behind (front is_digit bytes) (rest is_digit bytes)
-
--- what is left behind parts, with blanks before each and behind the last
-abbrev pub parts_left : List Part → List ℕ → Option (List ℕ)
-parts_left [] bytes = Some (rest is_blank bytes)
-parts_left (p ∷ ps) bytes = option_and_then (parts_left ps) (part_left p (rest is_blank bytes))
 
 -- the first of the parts, or of what stands behind them, begins with no digit
 abbrev pub opens : List Part → List ℕ → Bool

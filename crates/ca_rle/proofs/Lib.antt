@@ -19,3 +19,5 @@ pub mod Runs
 pub mod Places
 pub mod Drawn
 pub mod FirstForms
+pub mod FirstWords
+pub mod Kept

@@ -4,6 +4,7 @@
 pub mod examples;
 mod fault;
 mod first_form;
+mod front;
 mod item;
 pub mod laws;
 mod pattern;
