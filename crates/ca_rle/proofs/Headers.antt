@@ -48,7 +48,8 @@ are_clear (Exactly [] ∷ ps) more = false
 are_clear (Exactly (c ∷ text) ∷ ps) more = not (is_blank c) && are_clear ps more
 are_clear (Number ∷ ps) more = opens ps more && are_clear ps more
 
-strip_is : (text more : List ℕ) → strip text (text ++ more) ≡ Some more
+-- behind a text is what follows it
+pub strip_is : (text more : List ℕ) → strip text (text ++ more) ≡ Some more
 strip_is [] more = refl
 strip_is (t ∷ ts) more = rw (eq-eqb t t refl) (strip_is ts more)
 
@@ -131,11 +132,13 @@ some_of_cond : (b : Bool) (o : Option (List ℕ)) (more : List ℕ) → cond b o
 some_of_cond true o more e = (refl, e)
 some_of_cond false o more e = absurd cc
 
-then_some_of : (f : List ℕ → Option (List ℕ)) (o : Option (List ℕ)) (more : List ℕ) → option_and_then f o ≡ Some more → (mid : List ℕ) × (o ≡ Some mid) × (f mid ≡ Some more)
+-- where the second step leaves something, so does the first
+pub then_some_of : (f : List ℕ → Option (List ℕ)) (o : Option (List ℕ)) (more : List ℕ) → option_and_then f o ≡ Some more → (mid : List ℕ) × (o ≡ Some mid) × (f mid ≡ Some more)
 then_some_of f None more e = absurd cc
 then_some_of f (Some mid) more e = (mid, refl, e)
 
-strip_found : (text bytes more : List ℕ) → strip text bytes ≡ Some more → bytes ≡ text ++ more
+-- bytes that something is left of begin with the text
+pub strip_found : (text bytes more : List ℕ) → strip text bytes ≡ Some more → bytes ≡ text ++ more
 strip_found [] bytes more e = same_Some bytes more e
 strip_found (t ∷ ts) [] more e = absurd cc
 strip_found (t ∷ ts) (b ∷ bs) more e =

@@ -163,7 +163,7 @@ bad_place word numbers e none =
 
 -- ---- words of a line
 
-all_zip_append : (ws vs : List (List ℕ)) (a b : List Said) → AllZip Says ws a → AllZip Says vs b → AllZip Says (ws ++ vs) (a ++ b)
+pub all_zip_append : (ws vs : List (List ℕ)) (a b : List Said) → AllZip Says ws a → AllZip Says vs b → AllZip Says (ws ++ vs) (a ++ b)
 all_zip_append [] vs [] b p q = q
 all_zip_append (w ∷ ws) vs (s ∷ a) b (p, ps) q = (p, all_zip_append ws vs a b ps q)
 all_zip_append [] vs (s ∷ a) b p q = absurd p

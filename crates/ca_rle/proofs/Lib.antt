@@ -21,3 +21,4 @@ pub mod Drawn
 pub mod FirstForms
 pub mod FirstWords
 pub mod Kept
+pub mod Preambles

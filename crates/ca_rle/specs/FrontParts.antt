@@ -1,13 +1,15 @@
 -- How what stands before the items of an RLE text is read: numbers, words and lines, one after another.
-use Rattle.std.specs.Prelude.{◌≡◌, ℕ, ℤ, ◌^◌, ◌≤ℤ◌, ◌<ℤ◌, pos, neg_ℤ, List, [], ◌∷◌, ◌++◌, true, false, ◌⊎◌}
+use Rattle.std.specs.Prelude.{◌≡◌, ℕ, ℤ, ◌^◌, ◌≤ℤ◌, ◌<ℤ◌, pos, neg_ℤ, List, [], ◌∷◌, ◌++◌, true, false, Option, ◌⊎◌}
+use Rattle.std.specs.Option.{option_copied}
 use Rattle.std.specs.List.{AllZip, AllByRecursion}
 use Rattle.ca_plane.specs.declared.point.Point.{Point}
 use Rattle.ca_plane.specs.Bytes.{IsInteger}
 use Rattle.ca_rle.specs.declared.fault.RleFault.{RleFault}
 use Rattle.ca_rle.specs.declared.front.words.Start.{Start}
 use Rattle.ca_rle.specs.declared.front.lines.Preamble.{Preamble}
+use Rattle.ca_rle.specs.declared.front.Front.{Front}
 use Rattle.ca_rle.specs.Header.{Said, Says, IsXlifeLine}
-use Rattle.ca_rle.specs.File.{IsPreamble, corner_of, generation_of}
+use Rattle.ca_rle.specs.File.{IsPreamble, IsHeaded, corner_of, generation_of}
 use Rattle.ca_rle.specs.Faults.{IsBadWord}
 use Rattle.ca_rle.specs.Reading.{KeepsCorner}
 
@@ -58,3 +60,8 @@ pub record IsRead (lines : List (List ℕ)) (said : List Said) (preamble : Pream
   pub start : IsStart said preamble.start
   pub xlife : preamble.has_xlife_rule ≡ true → HasXlifeLine lines
   pub no_xlife : preamble.has_xlife_rule ≡ false → AllByRecursion (λ l. IsXlifeLine l → ⊥) lines
+
+-- the bytes have this front
+abbrev pub IsFront : List ℕ → Front → Type 0
+IsFront bytes front = (said : List Said) × (rule : Option (List ℕ)) × IsHeaded bytes said rule front.body.now
+    × (option_copied front.rule ≡ rule) × KeepsCorner (corner_of said) front.corner × (front.generation ≡ generation_of said)

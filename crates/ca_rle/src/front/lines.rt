@@ -34,10 +34,13 @@ pub(crate) fn is_comment(line: &[u8]) -> bool
 fn without_cr(line: &[u8]) -> &[u8]
     ensures { result.now ≡ without_cr line.now }
 {
-    match line.split_last() {
-        Some((b'\r', line)) => line,
-        _ => line,
+    let Some((last, before)) = line.split_last() else {
+        return line;
+    };
+    if *last != b'\r' {
+        return line;
     }
+    before
 }
 
 /// Whether the line gives the rule in XLife's way: it begins with `#r` and a blank.
