@@ -22,3 +22,4 @@ pub mod FirstForms
 pub mod FirstWords
 pub mod Kept
 pub mod Preambles
+pub mod HeaderLines
