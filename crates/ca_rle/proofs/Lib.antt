@@ -23,3 +23,4 @@ pub mod FirstWords
 pub mod Kept
 pub mod Preambles
 pub mod HeaderLines
+pub mod FrontLines
