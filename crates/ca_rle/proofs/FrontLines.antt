@@ -55,8 +55,22 @@ module _ (bytes line behind : List ℕ) (lines : List (List ℕ)) (said : List S
     (e : is_end_or is_line_end behind ≡ true) (spelled : bytes ≡ flat_map ended lines ++ (line ++ behind)) where
   bad_word : (f : RleFault) → HasBadWordAmong (extended_words line) f → HasBadWord bytes f
   bad_word f h = record {
-    lines = lines; said = said; line = line; good = h.good; good_said = h.good_said; word = h.word; later = h.later; more = behind;
-    preamble = r.good; line_is = l; comment = comment; words = h.words_are; good_words = h.good_words; bad = h.bad; line_ends = e; spelled = spelled;
+    lines = lines;
+    said = said;
+    line = line;
+    good = h.good;
+    good_said = h.good_said;
+    word = h.word;
+    later = h.later;
+    more = behind;
+    preamble = r.good;
+    line_is = l;
+    comment = comment;
+    words = h.words_are;
+    good_words = h.good_words;
+    bad = h.bad;
+    line_ends = e;
+    spelled = spelled;
   }
 
   -- a bad word in the line is the text's fault
@@ -74,7 +88,14 @@ module _ (bytes line behind : List ℕ) (lines : List (List ℕ)) (said : List S
   -- a comment with good words at the text's end is no header
   pub no_header_there : (last : List Said) → AllZip Says (extended_words line) last → length behind ≡ 0 → HasNoHeader bytes
   no_header_there last z none = record {
-    lines = lines; said = said; line = line; more = behind; preamble = r.good; line_is = l;
+    lines = lines;
+    said = said;
+    line = line;
+    more = behind;
+    preamble = r.good;
+    line_is = l;
     no_header = λ rule h. both_ways _ (no_comment line rule h) comment;
-    no_comment_or_last = inr (nil_from_length behind none, (last, z)); line_ends = e; spelled = spelled;
+    no_comment_or_last = inr (nil_from_length behind none, (last, z));
+    line_ends = e;
+    spelled = spelled;
   }

@@ -98,15 +98,16 @@ kept_in_bits bytes n m (number, i, k) e =
 
 -- a place is kept, where its coordinates are
 keeps_corner : (x y : ℤ) (p : Point) → KeepsNumber x p.x → KeepsNumber y p.y → KeepsCorner (record { y = y; x = x }) p
-keeps_corner x y p h k =
-    ((h.low, h.high, k.low, k.high),
-    elim h.same [
-      | inl e ↦ elim k.same [
-        | inl f ↦ inl (λ t. record { y = f t; x = e t })
-        | inr n ↦ inr (λ r. n.0 (r.2, r.3), λ r. n.1 (r.2, r.3))
-      ]
-      | inr n ↦ inr (λ r. n.0 (r.0, r.1), λ r. n.1 (r.0, r.1))
-    ])
+keeps_corner x y p h k = (
+  (h.low, h.high, k.low, k.high),
+  elim h.same [
+    | inl e ↦ elim k.same [
+      | inl f ↦ inl (λ t. record { y = f t; x = e t })
+      | inr n ↦ inr (λ r. n.0 (r.2, r.3), λ r. n.1 (r.2, r.3))
+    ]
+    | inr n ↦ inr (λ r. n.0 (r.0, r.1), λ r. n.1 (r.0, r.1))
+  ],
+)
 
 corner_append : (at : Point) (a b : List Said) → last_corner at (a ++ b) ≡ last_corner (last_corner at a) b
 corner_append at [] b = refl
@@ -122,27 +123,36 @@ generation_append n (Nothing ∷ a) b = generation_append n a b
 
 -- a word that gives the corner
 pub leads_corner : (word numbers : List ℕ) (p : Point) (old : Start) → word ≡ codes "Pos=" ++ numbers → WritesPair numbers p → Leads (word ∷ []) old (record { corner = p; generation = old.generation })
-leads_corner word numbers p old e (a, b, s, (x, i, k), (y, j, l)) =
-    (Corner x y ∷ [], ((a, b, e ∙ ap (λ (n : List ℕ). codes "Pos=" ++ n) s, i, j), tt), λ said h. record {
-      corner = subst (λ (q : Point). KeepsCorner q p) (sym (corner_append _ said (Corner x y ∷ []))) (keeps_corner x y p k l);
-      generation = h.generation ∙ sym (generation_append 0 said (Corner x y ∷ []));
-    })
+leads_corner word numbers p old e (a, b, s, (x, i, k), (y, j, l)) = (
+  Corner x y ∷ [],
+  ((a, b, e ∙ ap (λ (n : List ℕ). codes "Pos=" ++ n) s, i, j), tt),
+  λ said h. record {
+    corner = subst (λ (q : Point). KeepsCorner q p) (sym (corner_append _ said (Corner x y ∷ []))) (keeps_corner x y p k l);
+    generation = h.generation ∙ sym (generation_append 0 said (Corner x y ∷ []));
+  },
+)
 
 -- a word that gives the generation
 pub leads_generation : (word : List ℕ) (n : ℕ) (old : Start) → Says word (Generation n) → Leads (word ∷ []) old (record { corner = old.corner; generation = n })
-leads_generation word n old s =
-    (Generation n ∷ [], (s, tt), λ said h. record {
-      corner = subst (λ (q : Point). KeepsCorner q old.corner) (sym (corner_append _ said (Generation n ∷ []))) h.corner;
-      generation = sym (generation_append 0 said (Generation n ∷ []));
-    })
+leads_generation word n old s = (
+  Generation n ∷ [],
+  (s, tt),
+  λ said h. record {
+    corner = subst (λ (q : Point). KeepsCorner q old.corner) (sym (corner_append _ said (Generation n ∷ []))) h.corner;
+    generation = sym (generation_append 0 said (Generation n ∷ []));
+  },
+)
 
 -- a word that gives neither
 pub leads_nowhere : (word : List ℕ) (old : Start) → Says word Nothing → Leads (word ∷ []) old old
-leads_nowhere word old s =
-    (Nothing ∷ [], (s, tt), λ said h. record {
-      corner = subst (λ (q : Point). KeepsCorner q old.corner) (sym (corner_append _ said (Nothing ∷ []))) h.corner;
-      generation = h.generation ∙ sym (generation_append 0 said (Nothing ∷ []));
-    })
+leads_nowhere word old s = (
+  Nothing ∷ [],
+  (s, tt),
+  λ said h. record {
+    corner = subst (λ (q : Point). KeepsCorner q old.corner) (sym (corner_append _ said (Nothing ∷ []))) h.corner;
+    generation = h.generation ∙ sym (generation_append 0 said (Nothing ∷ []));
+  },
+)
 
 begins_not : (word text : List ℕ) → ((r : List ℕ) → word ≡ text ++ r → ⊥) → starts_with nat_eq word text ≡ false
 begins_not word text none =
@@ -158,8 +168,10 @@ says_nothing word p g = (begins_not word (codes "Pos=") p, begins_not word (code
 -- behind `Pos=` stand no two numbers
 pub bad_place : (word numbers : List ℕ) → word ≡ codes "Pos=" ++ numbers → ((x y : ℤ) (a b : List ℕ) → numbers ≡ a ++ 44 ∷ b → IsInteger a x → IsInteger b y → ⊥) → IsBadWord word Syntax
 bad_place word numbers e none =
-    inl ((starts_is Decides-eqb word (codes "Pos=") (starts_with nat_eq word (codes "Pos=")) refl).1 numbers e,
-    λ x y (a, b, s, i, j). let same : numbers ≡ a ++ 44 ∷ b = cc in none x y a b same i j)
+    inl (
+      (starts_is Decides-eqb word (codes "Pos=") (starts_with nat_eq word (codes "Pos=")) refl).1 numbers e,
+      λ x y (a, b, s, i, j). let same : numbers ≡ a ++ 44 ∷ b = cc in none x y a b same i j,
+    )
 
 -- ---- words of a line
 

@@ -51,6 +51,9 @@ lines-preserved c =
     let so_far = c.lines.invariant in
     let line = c.split_line.result.0.now in
     let whole = split_there _ _ _ _ so_far.0 so_far.3 c.split_line.ensures.front c.split_line.ensures.rest in
-    let words = c.in_ok-preamble.ensures.found in
-    (so_far.0 ++ line ∷ [], so_far.1 ++ words.0, words.2 so_far.0 so_far.1 so_far.2,
-    line_passed _ line _ _ _ so_far.0 whole c.in-Some.ensures.cases.0 (first_line_ends c.lines.rest.now _ c.split_line.ensures.rest))
+    let words = c.in_ok-preamble.ensures.found in (
+      so_far.0 ++ line ∷ [],
+      so_far.1 ++ words.0,
+      words.2 so_far.0 so_far.1 so_far.2,
+      line_passed _ line _ _ _ so_far.0 whole c.in-Some.ensures.cases.0 (first_line_ends c.lines.rest.now _ c.split_line.ensures.rest),
+    )
