@@ -43,3 +43,8 @@ pub mod Ranges
 pub mod Prefixes
 pub mod Pictured
 pub mod Judged
+pub mod FirstWords
+pub mod Kept
+pub mod Preambles
+pub mod HeaderLines
+pub mod FrontLines
