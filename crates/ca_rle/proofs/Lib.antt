@@ -48,3 +48,4 @@ pub mod Kept
 pub mod Preambles
 pub mod HeaderLines
 pub mod FrontLines
+pub mod Whole

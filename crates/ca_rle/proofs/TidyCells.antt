@@ -14,7 +14,7 @@ use Rattle.ca_rle.specs.declared.item.Tag.{Tag}
 use Rattle.ca_rle.specs.declared.item.Tag.TheVariants.{Cell, RowEnd}
 use Rattle.ca_rle.specs.Shown.{ends_row, state_of, rows_of, columns_of, run_of, place_behind, cells_of, picture_behind}
 use Rattle.ca_rle.specs.Tidy.{AreTidy}
-use Rattle.ca_rle.proofs.Places.{rows_of-push, columns_of-push}
+use Rattle.ca_rle.proofs.Pushed.{rows_of-push, columns_of-push}
 
 -- ---- a run of cells before a picture
 
