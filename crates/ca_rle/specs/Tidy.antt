@@ -63,7 +63,7 @@ abbrev pub IsFrame : Picture → Point → ℕ → ℕ → Type 0
 IsFrame cells corner width height =
     ((IsLive cells → ⊥) × (corner ≡ record { y = pos 0; x = pos 0 }) × (width ≡ 0) × (height ≡ 0))
     ⊎ ((box : Bounds) × IsLeastBox cells box × (corner ≡ record { y = box.y0; x = box.x0 })
-        × (pos width ≡ (box.x1 -ℤ box.x0) +ℤ pos 1) × (pos height ≡ (box.y1 -ℤ box.y0) +ℤ pos 1))
+    × (pos width ≡ (box.x1 -ℤ box.x0) +ℤ pos 1) × (pos height ≡ (box.y1 -ℤ box.y0) +ℤ pos 1))
 
 -- a generation as it is written: nothing for 0
 abbrev pub generation_text : ℕ → List ℕ

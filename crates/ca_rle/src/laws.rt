@@ -1,4 +1,4 @@
-//! Laws of the format: a text has one meaning or one fault, and a text of the first form is a file.
+//! Laws of the format: a text has one meaning or one fault.
 
 ghost use Rattle.std.specs.Prelude.{◌≡◌, ◌≢◌, ◌⊎◌, ℕ, List, [], ◌∷◌, None};
 ghost use Rattle.ca_rle.specs.declared.item.Item.{Item};
@@ -8,7 +8,6 @@ ghost use Rattle.ca_rle.specs.Items.{Items, IsEnd, Run};
 ghost use Rattle.ca_rle.specs.Faults.{item_fault, IsFirstFault, IsFaultOf};
 ghost use Rattle.ca_rle.specs.File.{File, IsFile};
 ghost use Rattle.ca_rle.specs.Limits.{IsWithinLimits};
-ghost use Rattle.ca_rle.specs.FirstForm.{IsFirstForm, first_form_file};
 
 /// Bytes spell one list of items at most.
 pub fn one_list_of_items()
@@ -53,19 +52,4 @@ pub fn file_or_fault()
 /// A text that is a file within the limits has no fault, want of memory apart.
 pub fn no_fault_within_limits()
     ensures { (bytes : List ℕ) (file : File) (f : RleFault) → IsFile bytes file → IsWithinLimits file → f ≢ Memory → IsFaultOf bytes f → ⊥ }
-{}
-
-/// A text of the first form is an RLE file that holds what the first form says.
-pub fn first_form_is_file()
-    ensures { (bytes rule_text : List ℕ) (items : List Item) → IsFirstForm bytes rule_text items → IsFile bytes (first_form_file rule_text items) }
-{}
-
-/// A text of the first form passes no limit.
-pub fn first_form_is_within_limits()
-    ensures { (bytes rule_text : List ℕ) (items : List Item) → IsFirstForm bytes rule_text items → IsWithinLimits (first_form_file rule_text items) }
-{}
-
-/// Bytes have one reading in the first form at most.
-pub fn one_first_form()
-    ensures { (bytes : List ℕ) (r s : List ℕ) (is js : List Item) → IsFirstForm bytes r is → IsFirstForm bytes s js → (r ≡ s) × (is ≡ js) }
 {}

@@ -6,7 +6,6 @@ mod drawing;
 pub mod examples;
 mod extent;
 mod fault;
-mod first_form;
 mod front;
 mod item;
 pub mod laws;
@@ -16,7 +15,6 @@ pub mod tidy_laws;
 mod unit;
 
 pub use fault::RleFault;
-pub use first_form::{FirstFormFault, read_first_form};
 pub use item::{Item, Tag};
 pub use pattern::Pattern;
 pub use read::read_rle;
