@@ -19,3 +19,11 @@ pub mod Runs
 pub mod Places
 pub mod Drawn
 pub mod FirstForms
+pub mod SameRun
+pub mod OnePlace
+pub mod BadWord
+pub mod OneFault
+pub mod GoodItem
+pub mod WordOrFault
+pub mod LineKinds
+pub mod FileOrFault
