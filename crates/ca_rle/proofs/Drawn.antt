@@ -16,7 +16,8 @@ use Rattle.ca_rle.specs.FirstFormParts.{IsShortBody, origin, cells_at, place_aft
 use Rattle.ca_rle.specs.Shown.{state_of, rows_of, columns_of, place_behind, picture_of}
 use Rattle.ca_rle.proofs.Packed.{NoItem, starts_with, packed_more, item_shorter}
 use Rattle.ca_rle.proofs.Bodies.{body_same}
-use Rattle.ca_rle.proofs.Places.{rows_of-push-le, columns_of-push-le, place_behind-push, picture_behind-push}
+use Rattle.ca_rle.proofs.Places.{rows_of-push-le, columns_of-push-le, place_behind-push}
+use Rattle.ca_rle.proofs.Pushed.{picture_behind-push}
 use Rattle.ca_rle.proofs.Runs.{run_behind, run_clear, run_states, cell-behind-zero}
 use Rattle.ca_rle.proofs.ShortNumbers.{count-le, count-ge}
 

@@ -6,6 +6,7 @@ use Rattle.std.proofs.lemmas.Bool.Decides.{nat_tests}
 use Rattle.std.proofs.lemmas.Option.{none-some, same_Some}
 use Rattle.ca_plane.specs.Bytes.{Every, is_blank, is_line_end, is_digit, is_word_byte, IsWord, AreDigits, front, rest, is_end_or}
 use Rattle.ca_rle.specs.Header.{Part, Exactly, Number, IsPart, IsSpaced, size_parts, rule_parts, IsHeader}
+use Rattle.ca_rle.specs.HeaderParts.{strip, left_behind, part_left, parts_left}
 use Rattle.ca_rle.specs.File.{IsLine}
 use Rattle.ca_rle.proofs.Passing.{Every-mono, Every-front, front_is, rest_is, front_rest}
 
@@ -33,25 +34,6 @@ word_is_line (b ∷ bs) h = Every-mono is_word_byte (λ b. not (is_line_end b)) 
 
 -- ---- parts read from the front
 
--- what is left behind a text
-abbrev pub strip : List ℕ → List ℕ → Option (List ℕ)
-strip [] bytes = Some bytes
-strip (t ∷ ts) [] = None
-strip (t ∷ ts) (b ∷ bs) = cond (t == b) (strip ts bs) None
-
-abbrev left_behind : List ℕ → List ℕ → Option (List ℕ)
-left_behind [] more = None
-left_behind (d ∷ ds) more = Some more
-
-abbrev pub part_left : Part → List ℕ → Option (List ℕ)
-part_left (Exactly text) bytes = strip text bytes
-part_left Number bytes = left_behind (front is_digit bytes) (rest is_digit bytes)
-
--- what is left behind parts, with blanks before each and behind the last
-abbrev pub parts_left : List Part → List ℕ → Option (List ℕ)
-parts_left [] bytes = Some (rest is_blank bytes)
-parts_left (p ∷ ps) bytes = option_and_then (parts_left ps) (part_left p (rest is_blank bytes))
-
 -- the first of the parts, or of what stands behind them, begins with no digit
 abbrev pub opens : List Part → List ℕ → Bool
 opens [] more = is_end_or (λ b. not (is_digit b)) more
@@ -66,7 +48,8 @@ are_clear (Exactly [] ∷ ps) more = false
 are_clear (Exactly (c ∷ text) ∷ ps) more = not (is_blank c) && are_clear ps more
 are_clear (Number ∷ ps) more = opens ps more && are_clear ps more
 
-strip_is : (text more : List ℕ) → strip text (text ++ more) ≡ Some more
+-- behind a text is what follows it
+pub strip_is : (text more : List ℕ) → strip text (text ++ more) ≡ Some more
 strip_is [] more = refl
 strip_is (t ∷ ts) more = rw (eq-eqb t t refl) (strip_is ts more)
 
@@ -149,11 +132,13 @@ some_of_cond : (b : Bool) (o : Option (List ℕ)) (more : List ℕ) → cond b o
 some_of_cond true o more e = (refl, e)
 some_of_cond false o more e = absurd cc
 
-then_some_of : (f : List ℕ → Option (List ℕ)) (o : Option (List ℕ)) (more : List ℕ) → option_and_then f o ≡ Some more → (mid : List ℕ) × (o ≡ Some mid) × (f mid ≡ Some more)
+-- where the second step leaves something, so does the first
+pub then_some_of : (f : List ℕ → Option (List ℕ)) (o : Option (List ℕ)) (more : List ℕ) → option_and_then f o ≡ Some more → (mid : List ℕ) × (o ≡ Some mid) × (f mid ≡ Some more)
 then_some_of f None more e = absurd cc
 then_some_of f (Some mid) more e = (mid, refl, e)
 
-strip_found : (text bytes more : List ℕ) → strip text bytes ≡ Some more → bytes ≡ text ++ more
+-- bytes that something is left of begin with the text
+pub strip_found : (text bytes more : List ℕ) → strip text bytes ≡ Some more → bytes ≡ text ++ more
 strip_found [] bytes more e = same_Some bytes more e
 strip_found (t ∷ ts) [] more e = absurd cc
 strip_found (t ∷ ts) (b ∷ bs) more e =

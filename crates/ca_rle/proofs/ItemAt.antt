@@ -64,7 +64,7 @@ pub record Parts (bytes : List ℕ) (digits letters more : List ℕ) : Type 0 wh
   pub uncounted : digits ≡ [] → rest is_digit (behind_white InLine bytes) ≡ letters ++ more
 
 -- behind white space stands the tag
-behind_is_tag : (white letters more : List ℕ) (t : Tag) → IsWhite white → tag_of letters ≡ Some t → behind_white InLine (white ++ (letters ++ more)) ≡ letters ++ more
+pub behind_is_tag : (white letters more : List ℕ) (t : Tag) → IsWhite white → tag_of letters ≡ Some t → behind_white InLine (white ++ (letters ++ more)) ≡ letters ++ more
 behind_is_tag white [] more t w e = absurd cc
 behind_is_tag white (b ∷ bs) more t w e = behind_white_is InLine white b (bs ++ more) (Stops_above b (tag_byte b bs t e).0) w
 

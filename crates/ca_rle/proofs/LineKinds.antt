@@ -9,7 +9,8 @@ use Rattle.ca_plane.proofs.Lines.{ends_by_blank}
 use Rattle.ca_rle.specs.Header.{Part, size_parts, rule_parts, IsHeader, IsXlifeLine}
 use Rattle.ca_rle.specs.File.{IsLine}
 use Rattle.ca_rle.proofs.Passing.{front_rest, Every-front, rest_is}
-use Rattle.ca_rle.proofs.Headers.{parts_left, part_left, has_more, no_header, parts_found, spaced_found, header_found}
+use Rattle.ca_rle.specs.HeaderParts.{parts_left, part_left}
+use Rattle.ca_rle.proofs.Headers.{has_more, no_header, parts_found, spaced_found, header_found}
 
 -- ---- headers
 

@@ -6,8 +6,9 @@ use Rattle.std.proofs.lemmas.Bool.{and_parts}
 use Rattle.std.proofs.lemmas.Bool.Decides.{nat_tests}
 use Rattle.ca_plane.specs.Bytes.{Every, is_blank, is_digit, is_word_byte, is_end_or, front, rest, AreDigits, IsInteger, IsWord, value}
 use Rattle.ca_rle.specs.Header.{Part, IsSpaced, size_parts, rule_parts, IsHeader, is_comment, Said, Corner, Generation, Nothing, Says}
+use Rattle.ca_rle.specs.HeaderParts.{part_left, parts_left}
 use Rattle.ca_rle.proofs.Passing.{front_is, rest_is, one_split, Every-mono, Every-digits, Every-word}
-use Rattle.ca_rle.proofs.Headers.{parts_left, part_left, header_none, header_some}
+use Rattle.ca_rle.proofs.Headers.{header_none, header_some}
 
 -- ---- headers
 
@@ -73,7 +74,7 @@ no_comma_digit b h = grind (arith, nat_tests)
 abbrev no_comma : ℕ → Bool
 no_comma b = not (b == 44)
 
-integer_has_no_comma : (bytes : List ℕ) (x : ℤ) → IsInteger bytes x → Every no_comma bytes
+pub integer_has_no_comma : (bytes : List ℕ) (x : ℤ) → IsInteger bytes x → Every no_comma bytes
 integer_has_no_comma bytes x (inl (d, e)) = Every-mono is_digit no_comma bytes no_comma_digit (Every-digits bytes d)
 integer_has_no_comma bytes x (inr (digits, spelled, d, e)) = rw spelled (Every-mono is_digit no_comma digits no_comma_digit (Every-digits digits d))
 

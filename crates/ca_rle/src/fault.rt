@@ -1,5 +1,8 @@
 //! What is wrong with an RLE text.
 
+ghost use Rattle.std.specs.Prelude.{◌≡◌};
+ghost use Rattle.ca_rle.specs.declared.fault.RleFault.TheVariants.{Memory};
+
 use thiserror::Error;
 
 /// What is wrong with an RLE text: the first fault of its spelling, else a limit that it passes.
@@ -32,4 +35,12 @@ pub enum RleFault {
     /// A growth was refused.
     #[error("out of memory")]
     Memory,
+}
+
+impl From<ca_plane::Memory> for RleFault {
+    ghost from_gives = { λ _ f. f ≡ Memory };
+
+    fn from(_refused: ca_plane::Memory) -> RleFault {
+        RleFault::Memory
+    }
 }

@@ -1,5 +1,8 @@
 //! Items of an RLE text.
 
+ghost use Rattle.std.specs.Prelude.{◌≡◌};
+ghost use Rattle.ca_rle.specs.Shown.{state_of};
+
 /// What an item repeats (Golly Help, File Formats: Extended RLE format).
 #[derive(Clone, Copy, Debug, PartialEq, Eq)]
 pub enum Tag {
@@ -7,6 +10,18 @@ pub enum Tag {
     Cell(u8),
     /// The end of a row.
     RowEnd,
+}
+
+impl Tag {
+    /// The state of the cells, 0 for a row's end.
+    pub(crate) fn state(self) -> u8
+        ensures { result ≡ state_of self }
+    {
+        match self {
+            Tag::Cell(state) => state,
+            Tag::RowEnd => 0,
+        }
+    }
 }
 
 /// An item: a tag, and how often it counts.

@@ -1,17 +1,25 @@
-//! Extended RLE, the format of single patterns: its items, its files, its faults, and the reader of its first form.
+//! Extended RLE, the format of single patterns: its items, its files, its faults, its reader and its writer.
 #![tactic(auto)]
 
+mod body;
+mod drawing;
 pub mod examples;
+mod extent;
 mod fault;
 mod first_form;
+mod front;
 mod item;
 pub mod laws;
 mod pattern;
+mod read;
+pub mod tidy_laws;
+mod unit;
 
 pub use fault::RleFault;
 pub use first_form::{FirstFormFault, read_first_form};
 pub use item::{Item, Tag};
 pub use pattern::Pattern;
+pub use read::read_rle;
 
 #[cfg(test)]
 mod tests;

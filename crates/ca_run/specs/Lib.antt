@@ -1,1 +1,3 @@
+pub mod Window
+pub mod Streams
 pub mod Reach

@@ -7,7 +7,8 @@ use Rattle.ca_rle.specs.declared.item.Tag.TheVariants.{Cell}
 use Rattle.ca_rle.specs.File.{IsLine, IsHeaded}
 use Rattle.ca_rle.proofs.Found.{run_found}
 use Rattle.ca_rle.proofs.Passing.{any_behind}
-use Rattle.ca_rle.proofs.Headers.{parts_left, spaced_found, header_found, no_header}
+use Rattle.ca_rle.specs.HeaderParts.{parts_left}
+use Rattle.ca_rle.proofs.Headers.{spaced_found, header_found, no_header}
 use Rattle.ca_rle.proofs.examples.worked_faults.Goals as goal
 
 -- a header without a rule in the first line

@@ -1,0 +1,101 @@
+-- The lines of a text up to its header, split off one after another.
+use Rattle.std.proofs.Common.{◌≡◌, ℕ, ◌<◌, suc, Bool, true, false, not, List, [], ◌∷◌, ◌++◌, length, Option, inl, inr, refl, sym, ap, subst, ◌∙◌, append_assoc, arith}
+use Rattle.std.specs.List.{AllZip, flat_map, list_all}
+use Rattle.std.proofs.lemmas.Bool.{both_ways, not-true, not-false, eqb-true}
+use Rattle.std.proofs.lemmas.Grind.{flat_map-append}
+use Rattle.std.proofs.lemmas.List.{append-nil, nil_from_length}
+use Rattle.ca_plane.specs.Bytes.{is_line_end, is_end_or, front, rest}
+use Rattle.ca_plane.proofs.Fronts.{front_then_rest, every_front, rest_ends, front_length}
+use Rattle.ca_rle.specs.declared.fault.RleFault.{RleFault}
+use Rattle.ca_rle.specs.declared.fault.RleFault.TheVariants.{Syntax, Header, XlifeRule, NoEnd, BadState, GenTooLarge, Range, TooManyCells, Memory}
+use Rattle.ca_rle.specs.declared.front.lines.Preamble.{Preamble}
+use Rattle.ca_rle.specs.Header.{is_comment, extended_words, Said, Says, IsHeader}
+use Rattle.ca_rle.specs.File.{IsLine, ended}
+use Rattle.ca_rle.specs.Faults.{HasBadWord, HasNoHeader}
+use Rattle.ca_rle.specs.FrontFaults.{IsFrontFault}
+use Rattle.ca_rle.specs.FrontParts.{HasBadWordAmong, IsRead}
+use Rattle.ca_rle.proofs.OneHeader.{no_comment}
+
+-- the bytes of a line
+pub first_line_is_line : (bytes line : List ℕ) → line ≡ front (λ b. not (is_line_end b)) bytes → IsLine line
+first_line_is_line bytes line e = ap (list_all (λ b. not (is_line_end b))) e ∙ every_front (λ b. not (is_line_end b)) bytes
+
+ends : (behind : List ℕ) → is_end_or (λ b. not (not (is_line_end b))) behind ≡ true → is_end_or is_line_end behind ≡ true
+ends [] h = refl
+ends (b ∷ bs) h = not-false (is_line_end b) (not-true (not (is_line_end b)) h)
+
+-- what stands behind a line is empty or begins with its LF
+pub first_line_ends : (bytes behind : List ℕ) → behind ≡ rest (λ b. not (is_line_end b)) bytes → is_end_or is_line_end behind ≡ true
+first_line_ends bytes behind e = ends behind (ap (is_end_or (λ b. not (not (is_line_end b)))) e ∙ rest_ends (λ b. not (is_line_end b)) bytes)
+
+-- the bytes are the lines so far, the next line, and what stands behind it
+pub split_there : (bytes more line behind : List ℕ) (lines : List (List ℕ)) → bytes ≡ flat_map ended lines ++ more → line ≡ front (λ b. not (is_line_end b)) more → behind ≡ rest (λ b. not (is_line_end b)) more
+    → bytes ≡ flat_map ended lines ++ (line ++ behind)
+split_there bytes more line behind lines e f r =
+    let whole : line ++ behind ≡ more = rw (f, r) (front_then_rest (λ b. not (is_line_end b)) more) in
+    e ∙ ap (λ (l : List ℕ). flat_map ended lines ++ l) (sym whole)
+
+-- with the next line among the lines
+pub line_passed : (bytes line behind later : List ℕ) (b : ℕ) (lines : List (List ℕ)) → bytes ≡ flat_map ended lines ++ (line ++ behind) → behind ≡ b ∷ later → is_end_or is_line_end behind ≡ true
+    → bytes ≡ flat_map ended (lines ++ line ∷ []) ++ later
+line_passed bytes line behind later b lines e f h =
+    let lf : b ≡ 10 = eqb-true b 10 (ap (is_end_or is_line_end) (sym f) ∙ h) in
+    let passed : flat_map ended (lines ++ line ∷ []) ≡ flat_map ended lines ++ ended line = flat_map-append ended lines (line ∷ []) ∙ ap (λ (l : List ℕ). flat_map ended lines ++ l) (append-nil (ended line)) in
+    let last : line ++ behind ≡ ended line ++ later = ap (λ (l : List ℕ). line ++ l) (f ∙ ap (λ (c : ℕ). c ∷ later) lf) ∙ sym (append_assoc line (10 ∷ []) later) in
+    e ∙ ap (λ (l : List ℕ). flat_map ended lines ++ l) last ∙ sym (append_assoc (flat_map ended lines) (ended line) later) ∙ ap (λ (l : List ℕ). l ++ later) (sym passed)
+
+-- the bytes behind a line's LF are fewer
+pub fewer_behind : (bytes behind later : List ℕ) (b : ℕ) → behind ≡ rest (λ b. not (is_line_end b)) bytes → behind ≡ b ∷ later → length later < length bytes
+fewer_behind bytes behind later b e f =
+    let whole = front_length (λ b. not (is_line_end b)) bytes in
+    let long : length (rest (λ b. not (is_line_end b)) bytes) ≡ suc (length later) = ap length (sym e ∙ f) in
+    omega arith
+
+module _ (bytes line behind : List ℕ) (lines : List (List ℕ)) (said : List Said) (p : Preamble) (r : IsRead lines said p) (l : IsLine line) (comment : is_comment line ≡ true)
+    (e : is_end_or is_line_end behind ≡ true) (spelled : bytes ≡ flat_map ended lines ++ (line ++ behind)) where
+  bad_word : (f : RleFault) → HasBadWordAmong (extended_words line) f → HasBadWord bytes f
+  bad_word f h = record {
+    lines = lines;
+    said = said;
+    line = line;
+    good = h.good;
+    good_said = h.good_said;
+    word = h.word;
+    later = h.later;
+    more = behind;
+    preamble = r.good;
+    line_is = l;
+    comment = comment;
+    words = h.words_are;
+    good_words = h.good_words;
+    bad = h.bad;
+    line_ends = e;
+    spelled = spelled;
+  }
+
+  -- a bad word in the line is the text's fault
+  pub word_fault : (f : RleFault) → HasBadWordAmong (extended_words line) f → IsFrontFault bytes f
+  word_fault Syntax h = bad_word Syntax h
+  word_fault GenTooLarge h = bad_word GenTooLarge h
+  word_fault Header h = absurd h.bad
+  word_fault XlifeRule h = absurd h.bad
+  word_fault NoEnd h = absurd h.bad
+  word_fault BadState h = absurd h.bad
+  word_fault Range h = absurd h.bad
+  word_fault TooManyCells h = absurd h.bad
+  word_fault Memory h = absurd h.bad
+
+  -- a comment with good words at the text's end is no header
+  pub no_header_there : (last : List Said) → AllZip Says (extended_words line) last → length behind ≡ 0 → HasNoHeader bytes
+  no_header_there last z none = record {
+    lines = lines;
+    said = said;
+    line = line;
+    more = behind;
+    preamble = r.good;
+    line_is = l;
+    no_header = λ rule h. both_ways _ (no_comment line rule h) comment;
+    no_comment_or_last = inr (nil_from_length behind none, (last, z));
+    line_ends = e;
+    spelled = spelled;
+  }

@@ -1,0 +1,195 @@
+-- Numbers and places as the reader keeps them, and what words say of where a pattern starts.
+use Rattle.std.proofs.Common.{◌≡◌, ◌≢◌, ℕ, ◌<◌, ◌≤◌, ◌^◌, min, ℤ, pos, neg_ℤ, Bool, true, false, not, ◌==◌, eqb, leb, List, [], ◌∷◌, ◌++◌, length, Option, Some, None, MatchOption, inl, inr, ◌⊎◌, refl, sym, ap, subst, ◌∙◌, append_assoc, codes, nat_eq, arith}
+use mir.Syntax.{w64}
+use mir.Val.{to_z, of_z}
+use Rattle.std.specs.List.{AllZip, starts_with, list_all}
+use Rattle.std.proofs.lemmas.Bool.{cases_Bool, leb-true, leb-false, eqb-true}
+use Rattle.std.proofs.lemmas.Bool.Decides.{Decides-eqb}
+use Rattle.std.proofs.lemmas.Int.{ints}
+use Rattle.std.proofs.lemmas.List.{append-nil}
+use Rattle.std.proofs.lemmas.Slice.Eq.{starts_is}
+use Rattle.ca_plane.specs.declared.point.Point.{Point}
+use Rattle.ca_plane.specs.Bytes.{Every, is_digit, front, rest, AreDigits, IsInteger, value}
+use Rattle.ca_rle.specs.declared.front.words.Start.{Start}
+use Rattle.ca_rle.specs.declared.fault.RleFault.{RleFault}
+use Rattle.ca_rle.specs.declared.fault.RleFault.TheVariants.{Syntax}
+use Rattle.ca_rle.specs.Header.{Said, Corner, Generation, Nothing, Says}
+use Rattle.ca_rle.specs.File.{last_corner, last_generation, corner_of, generation_of}
+use Rattle.ca_rle.specs.Faults.{IsBadWord}
+use Rattle.ca_rle.specs.Limits.{IsInRange}
+use Rattle.ca_rle.specs.Reading.{KeepsCorner}
+use Rattle.ca_rle.specs.FrontParts.{IsNear, KeepsNumber, Writes, WritesPair, IsStart, Leads, HasBadWordAmong}
+use Rattle.ca_rle.proofs.Passing.{front_is, rest_is, front_rest}
+use Rattle.ca_rle.proofs.OneHeader.{integer_has_no_comma}
+
+-- ---- numbers
+
+-- digits are digits, where there are any
+pub digits_from : (ds : List ℕ) → list_all is_digit ds ≡ true → eqb (length ds) 0 ≡ false → AreDigits ds
+digits_from [] h more = absurd cc
+digits_from (d ∷ ds) h more = h
+
+-- there are some digits
+pub some_digits : (ds : List ℕ) → eqb (length ds) 0 ≡ true → AreDigits ds → ⊥
+some_digits [] e h = absurd cc
+some_digits (d ∷ ds) e h = absurd (omega (arith, eqb-true _ _ e))
+
+keeps : (v : ℕ) (number kept : ℤ) → ((number ≡ pos v) × (kept ≡ pos (min v (2 ^ 61)))) ⊎ ((number ≡ neg_ℤ (pos v)) × (kept ≡ neg_ℤ (pos (min v (2 ^ 61))))) → (v ≤ 2 ^ 61) ⊎ (2 ^ 61 < v) → KeepsNumber number kept
+keeps v number kept (inl (e, f)) (inl h) = record { low = omega (arith, ints); high = omega (arith, ints); same = inl (omega (arith, ints)) }
+keeps v number kept (inl (e, f)) (inr h) = record { low = omega (arith, ints); high = omega (arith, ints); same = inr (λ n. absurd (omega (arith, ints, n.0, n.1)), λ n. absurd (omega (arith, ints, n.0, n.1))) }
+keeps v number kept (inr (e, f)) (inl h) = record { low = omega (arith, ints); high = omega (arith, ints); same = inl (omega (arith, ints)) }
+keeps v number kept (inr (e, f)) (inr h) = record { low = omega (arith, ints); high = omega (arith, ints); same = inr (λ n. absurd (omega (arith, ints, n.0, n.1)), λ n. absurd (omega (arith, ints, n.0, n.1))) }
+
+far_or_not : (v : ℕ) → (v ≤ 2 ^ 61) ⊎ (2 ^ 61 < v)
+far_or_not v = elim (cases_Bool (leb v (2 ^ 61))) [ inl e ↦ inl (leb-true v (2 ^ 61) e) | inr e ↦ inr (leb-false v (2 ^ 61) e) ]
+
+-- digits write a number that is kept
+pub writes_digits : (bytes : List ℕ) (kept : ℤ) → AreDigits bytes → kept ≡ pos (min (value bytes) (2 ^ 61)) → Writes bytes kept
+writes_digits bytes kept d e = (pos (value bytes), inl (d, refl), keeps (value bytes) (pos (value bytes)) kept (inl (refl, e)) (far_or_not (value bytes)))
+
+-- so do `-` and digits
+pub writes_minus : (bytes digits : List ℕ) (kept : ℤ) → bytes ≡ 45 ∷ digits → AreDigits digits → kept ≡ neg_ℤ (pos (min (value digits) (2 ^ 61))) → Writes bytes kept
+writes_minus bytes digits kept s d e =
+    (neg_ℤ (pos (value digits)), inr (digits, s, d, refl), keeps (value digits) (neg_ℤ (pos (value digits))) kept (inr (refl, e)) (far_or_not (value digits)))
+
+-- `-` and no digits are no integer
+pub minus_alone : (bytes digits : List ℕ) → bytes ≡ 45 ∷ digits → (AreDigits digits → ⊥) → (n : ℤ) → IsInteger bytes n → ⊥
+minus_alone bytes digits s none n (inl (d, e)) = absurd (minus_digit digits (subst AreDigits s d))
+  where
+    minus_digit : (digits : List ℕ) → AreDigits (45 ∷ digits) → ⊥
+    minus_digit digits h = absurd cc
+minus_alone bytes digits s none n (inr (ds, t, d, e)) =
+    let same : ds ≡ digits = cc in
+    none (subst AreDigits same d)
+
+-- what is neither digits nor `-` and digits is no integer
+no_integer : (bytes : List ℕ) → ((r : List ℕ) → bytes ≡ 45 ∷ r → ⊥) → (AreDigits bytes → ⊥) → (n : ℤ) → IsInteger bytes n → ⊥
+no_integer bytes minus none n (inl (d, e)) = none d
+no_integer bytes minus none n (inr (ds, t, d, e)) = minus ds t
+
+-- digits write an integer, and what begins with no `-` writes one in no other way
+pub digits_write : (bytes : List ℕ) → ((r : List ℕ) → bytes ≡ 45 ∷ r → ⊥) → (found : Option ℤ)
+    → MatchOption found (AreDigits bytes → ⊥) (λ n. AreDigits bytes × (n ≡ pos (min (value bytes) (2 ^ 61))))
+    → MatchOption found ((n : ℤ) → IsInteger bytes n → ⊥) (λ n. Writes bytes n)
+digits_write bytes minus None h = λ n i. no_integer bytes minus h n i
+digits_write bytes minus (Some n) h = writes_digits bytes n h.0 h.1
+
+-- ---- pairs
+
+-- two numbers with a comma between them are split at it
+pub split_pair : (bytes a b : List ℕ) (x : ℤ) → bytes ≡ a ++ 44 ∷ b → IsInteger a x → (front (λ c. not (c == 44)) bytes ≡ a) × (rest (λ c. not (c == 44)) bytes ≡ 44 ∷ b)
+split_pair bytes a b x e h =
+    let clear = integer_has_no_comma a x h in
+    (ap (front (λ c. not (c == 44))) e ∙ front_is (λ c. not (c == 44)) a (44 ∷ b) clear refl, ap (rest (λ c. not (c == 44))) e ∙ rest_is (λ c. not (c == 44)) a (44 ∷ b) clear refl)
+
+-- the pair is that of the numbers on both sides of the first comma, as they were read
+pub writes_pair : (bytes behind : List ℕ) (p : Point) → rest (λ c. not (c == 44)) bytes ≡ 44 ∷ behind → Writes (front (λ c. not (c == 44)) bytes) p.x → Writes behind p.y → WritesPair bytes p
+writes_pair bytes behind p e x y =
+    let before = front (λ c. not (c == 44)) bytes in
+    (before, behind, front_rest (λ c. not (c == 44)) bytes ∙ ap (λ (l : List ℕ). before ++ l) e, x, y)
+
+-- a number is kept in 64 bits
+pub kept_in_bits : (bytes : List ℕ) (n m : ℤ) → Writes bytes n → m ≡ to_z w64 (of_z w64 n) → Writes bytes m
+kept_in_bits bytes n m (number, i, k) e =
+    let same : n ≡ m = omega (arith, ints, k.low, k.high) in
+    (number, i, subst (λ (l : ℤ). KeepsNumber number l) same k)
+
+-- ---- words
+
+-- a place is kept, where its coordinates are
+keeps_corner : (x y : ℤ) (p : Point) → KeepsNumber x p.x → KeepsNumber y p.y → KeepsCorner (record { y = y; x = x }) p
+keeps_corner x y p h k = (
+  (h.low, h.high, k.low, k.high),
+  elim h.same [
+    | inl e ↦ elim k.same [
+      | inl f ↦ inl (λ t. record { y = f t; x = e t })
+      | inr n ↦ inr (λ r. n.0 (r.2, r.3), λ r. n.1 (r.2, r.3))
+    ]
+    | inr n ↦ inr (λ r. n.0 (r.0, r.1), λ r. n.1 (r.0, r.1))
+  ],
+)
+
+corner_append : (at : Point) (a b : List Said) → last_corner at (a ++ b) ≡ last_corner (last_corner at a) b
+corner_append at [] b = refl
+corner_append at (Corner x y ∷ a) b = corner_append (record { y = y; x = x }) a b
+corner_append at (Generation n ∷ a) b = corner_append at a b
+corner_append at (Nothing ∷ a) b = corner_append at a b
+
+generation_append : (n : ℕ) (a b : List Said) → last_generation n (a ++ b) ≡ last_generation (last_generation n a) b
+generation_append n [] b = refl
+generation_append n (Corner x y ∷ a) b = generation_append n a b
+generation_append n (Generation m ∷ a) b = generation_append m a b
+generation_append n (Nothing ∷ a) b = generation_append n a b
+
+-- a word that gives the corner
+pub leads_corner : (word numbers : List ℕ) (p : Point) (old : Start) → word ≡ codes "Pos=" ++ numbers → WritesPair numbers p → Leads (word ∷ []) old (record { corner = p; generation = old.generation })
+leads_corner word numbers p old e (a, b, s, (x, i, k), (y, j, l)) = (
+  Corner x y ∷ [],
+  ((a, b, e ∙ ap (λ (n : List ℕ). codes "Pos=" ++ n) s, i, j), tt),
+  λ said h. record {
+    corner = subst (λ (q : Point). KeepsCorner q p) (sym (corner_append _ said (Corner x y ∷ []))) (keeps_corner x y p k l);
+    generation = h.generation ∙ sym (generation_append 0 said (Corner x y ∷ []));
+  },
+)
+
+-- a word that gives the generation
+pub leads_generation : (word : List ℕ) (n : ℕ) (old : Start) → Says word (Generation n) → Leads (word ∷ []) old (record { corner = old.corner; generation = n })
+leads_generation word n old s = (
+  Generation n ∷ [],
+  (s, tt),
+  λ said h. record {
+    corner = subst (λ (q : Point). KeepsCorner q old.corner) (sym (corner_append _ said (Generation n ∷ []))) h.corner;
+    generation = sym (generation_append 0 said (Generation n ∷ []));
+  },
+)
+
+-- a word that gives neither
+pub leads_nowhere : (word : List ℕ) (old : Start) → Says word Nothing → Leads (word ∷ []) old old
+leads_nowhere word old s = (
+  Nothing ∷ [],
+  (s, tt),
+  λ said h. record {
+    corner = subst (λ (q : Point). KeepsCorner q old.corner) (sym (corner_append _ said (Nothing ∷ []))) h.corner;
+    generation = h.generation ∙ sym (generation_append 0 said (Nothing ∷ []));
+  },
+)
+
+begins_not : (word text : List ℕ) → ((r : List ℕ) → word ≡ text ++ r → ⊥) → starts_with nat_eq word text ≡ false
+begins_not word text none =
+    elim (cases_Bool (starts_with nat_eq word text)) [
+      | inl e ↦ absurd (none _ ((starts_is Decides-eqb word text (starts_with nat_eq word text) refl).0 e))
+      | inr e ↦ e
+    ]
+
+-- a word that begins neither as `Pos=` nor as `Gen=` says nothing
+pub says_nothing : (word : List ℕ) → ((r : List ℕ) → word ≡ codes "Pos=" ++ r → ⊥) → ((r : List ℕ) → word ≡ codes "Gen=" ++ r → ⊥) → Says word Nothing
+says_nothing word p g = (begins_not word (codes "Pos=") p, begins_not word (codes "Gen=") g)
+
+-- behind `Pos=` stand no two numbers
+pub bad_place : (word numbers : List ℕ) → word ≡ codes "Pos=" ++ numbers → ((x y : ℤ) (a b : List ℕ) → numbers ≡ a ++ 44 ∷ b → IsInteger a x → IsInteger b y → ⊥) → IsBadWord word Syntax
+bad_place word numbers e none =
+    inl (
+      (starts_is Decides-eqb word (codes "Pos=") (starts_with nat_eq word (codes "Pos=")) refl).1 numbers e,
+      λ x y (a, b, s, i, j). let same : numbers ≡ a ++ 44 ∷ b = cc in none x y a b same i j,
+    )
+
+-- ---- words of a line
+
+pub all_zip_append : (ws vs : List (List ℕ)) (a b : List Said) → AllZip Says ws a → AllZip Says vs b → AllZip Says (ws ++ vs) (a ++ b)
+all_zip_append [] vs [] b p q = q
+all_zip_append (w ∷ ws) vs (s ∷ a) b (p, ps) q = (p, all_zip_append ws vs a b ps q)
+all_zip_append [] vs (s ∷ a) b p q = absurd p
+all_zip_append (w ∷ ws) vs [] b p q = absurd p
+
+-- no words lead nowhere
+pub leads_none : (start : Start) → Leads [] start start
+leads_none start = ([], tt, λ said h. subst (λ (l : List Said). IsStart l start) (sym (append-nil said)) h)
+
+-- words behind words
+pub leads_more : (ws vs : List (List ℕ)) (a b c : Start) → Leads ws a b → Leads vs b c → Leads (ws ++ vs) a c
+leads_more ws vs a b c (m, z, f) (n, y, g) =
+    (m ++ n, all_zip_append ws vs m n z y, λ said h. subst (λ (l : List Said). IsStart l c) (append_assoc said m n) (g (said ++ m) (f said h)))
+
+-- a bad word behind good ones
+pub bad_among : (words good : List (List ℕ)) (word : List ℕ) (later : List (List ℕ)) (fault : RleFault) (a b : Start) → words ≡ good ++ word ∷ later → Leads good a b → IsBadWord word fault → HasBadWordAmong words fault
+bad_among words good word later fault a b e l bad = record { good = good; good_said = l.0; word = word; later = later; words_are = e; good_words = l.1; bad = bad }

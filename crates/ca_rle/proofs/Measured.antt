@@ -1,0 +1,87 @@
+-- The items of a body measured one after another.
+use Rattle.std.proofs.Common.{◌≡◌, ℕ, ◌+◌, max, Bool, true, false, List, [], ◌∷◌, ◌++◌, ◌==◌, refl, sym, ap, subst, ◌∙◌, arith}
+use Rattle.std.specs.Prelude.{if◌then◌else◌}
+use Rattle.ca_rle.specs.declared.item.Item.{Item}
+use Rattle.ca_rle.specs.declared.extent.Extent.{Extent}
+use Rattle.ca_rle.specs.declared.extent.Offset.{Offset}
+use Rattle.ca_rle.specs.Items.{Run}
+use Rattle.ca_rle.specs.Shown.{ends_row, state_of, rows_of, columns_of}
+use Rattle.ca_rle.specs.Reading.{kept}
+use Rattle.ca_rle.specs.Extent.{kept_number, live_count, IsOffsetOf, IsExtentOf}
+use Rattle.ca_rle.proofs.Units.{IsItemAtFront}
+use Rattle.ca_rle.proofs.Pushed.{rows_of-push, columns_of-push, longest_of-push, right_behind-push, bottom_behind-push, live_cells-push, Run-push}
+
+-- where the item behind i begins
+pub record IsNextOffset (i : Item) (at next : Offset) : Type 0 where
+  pub rows : next.rows ≡ kept_number (at.rows + (if ends_row i.tag then i.count else 0))
+  pub columns : next.columns ≡ (if ends_row i.tag then 0 else kept_number (at.columns + i.count))
+
+-- the extent grown by i, which begins at an offset
+pub record IsGrownBy (i : Item) (at : Offset) (old new : Extent) : Type 0 where
+  pub longest : new.longest ≡ max old.longest i.count
+  pub right : new.right ≡ max old.right (if state_of i.tag == 0 then 0 else kept_number (at.columns + i.count))
+  pub bottom : new.bottom ≡ max old.bottom (if state_of i.tag == 0 then 0 else kept_number (at.rows + 1))
+  pub cells : new.cells ≡ kept_number (old.cells + live_count i)
+
+-- sums of kept numbers, by a test or not
+kept_sum : (t : Bool) (a b x y n : ℕ) → n ≡ kept_number (x + (if t then y else 0)) → x ≡ kept_number a → y ≡ kept_number b → n ≡ kept_number (a + (if t then b else 0))
+kept_sum true a b x y n e f g = omega (arith, e, f, g)
+kept_sum false a b x y n e f g = omega (arith, e, f, g)
+
+kept_none_or_sum : (t : Bool) (a b x y n : ℕ) → n ≡ (if t then 0 else kept_number (x + y)) → x ≡ kept_number a → y ≡ kept_number b → n ≡ kept_number (if t then 0 else a + b)
+kept_none_or_sum true a b x y n e f g = omega (arith, e)
+kept_none_or_sum false a b x y n e f g = omega (arith, e, f, g)
+
+-- the offset behind one more item
+pub offset_more : (items : List Item) (j : Item) (at next : Offset) → IsOffsetOf items at → IsNextOffset (kept j) at next → IsOffsetOf (items ++ j ∷ []) next
+offset_more items j at next o n = record {
+  rows = kept_sum (ends_row j.tag) (rows_of items) j.count at.rows (kept_number j.count) next.rows n.rows o.rows refl ∙ ap kept_number (sym (rows_of-push items j));
+  columns = kept_none_or_sum (ends_row j.tag) (columns_of items) j.count at.columns (kept_number j.count) next.columns n.columns o.columns refl ∙ ap kept_number (sym (columns_of-push items j));
+}
+
+kept_max : (a b m n : ℕ) → n ≡ max (kept_number a) (kept_number b) → m ≡ max a b → n ≡ kept_number m
+kept_max a b m n e f = omega (arith, e, f)
+
+kept_if : (t : Bool) (a b x y : ℕ) → x ≡ kept_number a → y ≡ kept_number b → (if t then 0 else kept_number (x + y)) ≡ kept_number (if t then 0 else a + b)
+kept_if true a b x y f g = refl
+kept_if false a b x y f g = omega (arith, f, g)
+
+kept_live : (t : Bool) (n : ℕ) → (if t then 0 else kept_number n) ≡ kept_number (if t then 0 else n)
+kept_live true n = refl
+kept_live false n = refl
+
+-- the extent with one more item
+pub extent_more : (items : List Item) (j : Item) (at : Offset) (old new : Extent) → IsOffsetOf items at → IsExtentOf items old → IsGrownBy (kept j) at old new → IsExtentOf (items ++ j ∷ []) new
+extent_more items j at old new o e g = record {
+  longest = omega (arith, g.longest, e.longest, longest_of-push items j);
+  right =
+      let here = kept_if (state_of j.tag == 0) (columns_of items) j.count at.columns (kept_number j.count) o.columns refl in
+      let push = right_behind-push [] items j in
+      omega (arith, g.right, e.right, here, push);
+  bottom =
+      let here = kept_if (state_of j.tag == 0) (rows_of items) 1 at.rows 1 o.rows refl in
+      let push = bottom_behind-push [] items j in
+      omega (arith, g.bottom, e.bottom, here, push);
+  cells =
+      let here = kept_live (state_of j.tag == 0) j.count in
+      let push = live_cells-push items j in
+      omega (arith, g.cells, e.cells, here, push);
+}
+
+-- these items were read and measured, and the next begins at an offset
+pub record IsMeasured (bytes behind : List ℕ) (at : Offset) (extent : Extent) (items : List Item) : Type 0 where
+  pub run : Run bytes items behind
+  pub offset : IsOffsetOf items at
+  pub reach : IsExtentOf items extent
+
+-- one more item
+pub measured_more : (bytes behind more : List ℕ) (at next : Offset) (old new : Extent) (items : List Item) (i : Item) → IsMeasured bytes behind at old items → IsItemAtFront behind i more → IsNextOffset i at next → IsGrownBy i at old new
+    → (all : List Item) × IsMeasured bytes more next new all
+measured_more bytes behind more at next old new items i m (j, item, same) n g = (
+  items ++ j ∷ [],
+  record {
+    run = Run-push bytes items j behind more m.run item;
+    offset = offset_more items j at next m.offset (subst (λ i. IsNextOffset i at next) same n);
+    reach = extent_more items j at old new m.offset m.reach (subst (λ i. IsGrownBy i at old new) same g);
+  },
+)

@@ -1,0 +1,118 @@
+-- Items with one more behind them: where they stand in the bytes, their rows, columns and cells, and how far they reach.
+use Rattle.std.proofs.Common.{◌≡◌, ℕ, ◌+◌, ◌-◌, ◌<◌, ◌≤◌, max, Some, Bool, not, cond, List, [], ◌∷◌, ◌++◌, length, reverse, drop, inl, inr, refl, sym, ap, subst, ◌∙◌, append_assoc, length-append, arith}
+use Rattle.std.specs.Prelude.{if◌then◌else◌}
+use Rattle.std.specs.List.{AllByRecursion, sum_by, after_last, suffix_len, prefix_len}
+use Rattle.std.proofs.lemmas.Bool.{cases_Bool}
+use Rattle.std.proofs.lemmas.List.{append-nil, drop_all, drop-append-le, reverse-append, length-reverse}
+use Rattle.std.proofs.lemmas.List.Sums.{sum_by_push, prefix_len-le-length}
+use Rattle.ca_plane.specs.declared.point.Point.{Point}
+use Rattle.ca_rle.specs.declared.item.Item.{Item}
+use Rattle.ca_rle.specs.Items.{tag_of, IsCount, Run}
+use Rattle.ca_rle.specs.Shown.{ends_row, rows_of, columns_of, cells_of, picture_behind}
+use Rattle.ca_rle.specs.Extent.{longest_of, live_count, live_cells, columns_to, rows_to, right_behind, bottom_behind}
+
+-- one more element at the end begins anew, or stands behind what was there
+after_last-push : {X : Type 0} (p : X → Bool) (xs : List X) (y : X) → after_last p (xs ++ y ∷ []) ≡ (if p y then [] else after_last p xs ++ y ∷ [])
+after_last-push {X} p xs y =
+    let before = suffix_len (λ x. not (p x)) xs in
+    let within : before ≤ length xs = omega (arith, prefix_len-le-length (λ x. not (p x)) (reverse xs), length-reverse xs) in
+    let whole : length (xs ++ y ∷ []) ≡ length xs + 1 = omega (arith, length-append xs (y ∷ [])) in
+    let ends : suffix_len (λ x. not (p x)) (xs ++ y ∷ []) ≡ cond (not (p y)) (1 + before) 0 = ap (prefix_len (λ x. not (p x))) (reverse-append xs (y ∷ [])) in
+    elim (cases_Bool (p y)) [
+      | inl e ↦
+          let none : cond (not (p y)) (1 + before) 0 ≡ 0 = rw e refl in
+          drop_all _ (xs ++ y ∷ []) (omega (arith, ends, none)) ∙ rw e refl
+      | inr e ↦
+          let more : cond (not (p y)) (1 + before) 0 ≡ 1 + before = rw e refl in
+          let start : length (xs ++ y ∷ []) - suffix_len (λ x. not (p x)) (xs ++ y ∷ []) ≡ length xs - before = omega (arith, ends, more) in
+          ap (λ n. drop n (xs ++ y ∷ [])) start ∙ drop-append-le (length xs - before) xs (y ∷ []) (omega arith) ∙ rw e refl
+    ]
+
+-- the row behind one more item
+pub rows_of-push : (is : List Item) (i : Item) → rows_of (is ++ i ∷ []) ≡ rows_of is + (if ends_row i.tag then i.count else 0)
+rows_of-push is i = sum_by_push (λ i. if ends_row i.tag then i.count else 0) is i
+
+-- the column behind one more item
+pub columns_of-push : (is : List Item) (i : Item) → columns_of (is ++ i ∷ []) ≡ (if ends_row i.tag then 0 else columns_of is + i.count)
+columns_of-push is i =
+    let last = after_last-push (λ i. ends_row i.tag) is i in
+    elim (cases_Bool (ends_row i.tag)) [
+      | inl e ↦
+          let none : after_last (λ i. ends_row i.tag) (is ++ i ∷ []) ≡ [] = last ∙ rw e refl in
+          ap (sum_by (λ i. i.count)) none ∙ rw e refl
+      | inr e ↦
+          let more : after_last (λ i. ends_row i.tag) (is ++ i ∷ []) ≡ after_last (λ i. ends_row i.tag) is ++ i ∷ [] = last ∙ rw e refl in
+          ap (sum_by (λ i. i.count)) more ∙ sum_by_push (λ i. i.count) (after_last (λ i. ends_row i.tag) is) i ∙ rw e refl
+    ]
+
+-- the cells of one more item stand behind those of the others
+pub picture_behind-push : (corner : Point) (before is : List Item) (i : Item) → picture_behind corner before (is ++ i ∷ []) ≡ picture_behind corner before is ++ cells_of corner (before ++ is) i
+picture_behind-push corner before [] i = append-nil (cells_of corner before i) ∙ ap (λ b. cells_of corner b i) (sym (append-nil before))
+picture_behind-push corner before (j ∷ js) i =
+    ap (λ p. cells_of corner before j ++ p) (picture_behind-push corner (before ++ j ∷ []) js i)
+    ∙ sym (append_assoc (cells_of corner before j) (picture_behind corner (before ++ j ∷ []) js) (cells_of corner ((before ++ j ∷ []) ++ js) i))
+    ∙ ap (λ b. (cells_of corner before j ++ picture_behind corner (before ++ j ∷ []) js) ++ cells_of corner b i) (append_assoc before (j ∷ []) js)
+
+-- the cells of two parts stand one behind the other
+pub picture_behind-append : (corner : Point) (before is js : List Item) → picture_behind corner before (is ++ js) ≡ picture_behind corner before is ++ picture_behind corner (before ++ is) js
+picture_behind-append corner before [] js = ap (λ b. picture_behind corner b js) (sym (append-nil before))
+picture_behind-append corner before (i ∷ is) js =
+    ap (λ p. cells_of corner before i ++ p) (picture_behind-append corner (before ++ i ∷ []) is js)
+    ∙ sym (append_assoc (cells_of corner before i) (picture_behind corner (before ++ i ∷ []) is) (picture_behind corner ((before ++ i ∷ []) ++ is) js))
+    ∙ ap (λ b. (cells_of corner before i ++ picture_behind corner (before ++ i ∷ []) is) ++ picture_behind corner b js) (append_assoc before (i ∷ []) is)
+
+-- the greatest count with one more item
+pub longest_of-push : (is : List Item) (i : Item) → longest_of (is ++ i ∷ []) ≡ max (longest_of is) i.count
+longest_of-push [] i = omega arith
+longest_of-push (j ∷ js) i = let more = longest_of-push js i in omega (arith, more)
+
+-- the columns and rows that the live cells take
+pub right_behind-push : (before is : List Item) (i : Item) → right_behind before (is ++ i ∷ []) ≡ max (right_behind before is) (columns_to (before ++ is) i)
+right_behind-push before [] i =
+    let same = ap (λ b. columns_to b i) (append-nil before) in
+    omega (arith, same)
+right_behind-push before (j ∷ js) i =
+    let more = right_behind-push (before ++ j ∷ []) js i in
+    let same = ap (λ b. columns_to b i) (append_assoc before (j ∷ []) js) in
+    omega (arith, more, same)
+
+pub bottom_behind-push : (before is : List Item) (i : Item) → bottom_behind before (is ++ i ∷ []) ≡ max (bottom_behind before is) (rows_to (before ++ is) i)
+bottom_behind-push before [] i =
+    let same = ap (λ b. rows_to b i) (append-nil before) in
+    omega (arith, same)
+bottom_behind-push before (j ∷ js) i =
+    let more = bottom_behind-push (before ++ j ∷ []) js i in
+    let same = ap (λ b. rows_to b i) (append_assoc before (j ∷ []) js) in
+    omega (arith, more, same)
+
+-- the live cells with one more item
+pub live_cells-push : (is : List Item) (i : Item) → live_cells (is ++ i ∷ []) ≡ live_cells is + live_count i
+live_cells-push is i = sum_by_push live_count is i
+
+-- ---- in the bytes
+
+-- one more item stands behind those of a run
+pub Run-push : (bytes : List ℕ) (is : List Item) (i : Item) (middle end : List ℕ) → Run bytes is middle → Run middle (i ∷ []) end → Run bytes (is ++ i ∷ []) end
+Run-push bytes [] i middle end done more = subst (λ b. Run b (i ∷ []) end) (sym done) more
+Run-push bytes (j ∷ js) i middle end (front, later, item, run, e) more = (front, later, item, Run-push later js i middle end run more, e)
+
+-- a tag has a letter
+tag_length : (letters : List ℕ) (i : Item) → tag_of letters ≡ Some i.tag → 0 < length letters
+tag_length [] i e = absurd cc
+tag_length (b ∷ bs) i e = omega arith
+
+-- so an item takes at least a byte
+pub item_shorter : (bytes : List ℕ) (i : Item) (more : List ℕ) → Run bytes (i ∷ []) more → length more < length bytes
+item_shorter bytes i more (front, later, (before, digits, between, letters, v, c, w, e, spelled), same, whole) =
+    let some = tag_length letters i e in
+    omega (arith, ap length whole, ap length same, ap length spelled, length-append front later, length-append before (digits ++ (between ++ letters)), length-append digits (between ++ letters), length-append between letters, some)
+
+-- its count is not 0
+count_low : (digits : List ℕ) (n : ℕ) → IsCount digits n → 0 < n
+count_low [] n h = omega (arith, h)
+count_low (d ∷ ds) n h = h.2
+
+-- each count of a run is at least 1
+pub counts_low : (bytes : List ℕ) (is : List Item) (end : List ℕ) → Run bytes is end → AllByRecursion (λ i. 0 < i.count) is
+counts_low bytes [] end run = tt
+counts_low bytes (i ∷ is) end (front, later, (before, digits, between, letters, v, c, w, e, spelled), run, whole) = (count_low digits i.count c, counts_low later is end run)

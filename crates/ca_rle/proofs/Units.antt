@@ -1,0 +1,100 @@
+-- What stands at the front of bytes, by the digits there and what is found behind them.
+use Rattle.std.proofs.Common.{◌≡◌, ◌≢◌, ℕ, ◌-◌, ◌<◌, ◌^◌, min, eqb, ne_eqb, eqb-true, Bool, true, false, cond, ◌==◌, List, [], ◌∷◌, ◌++◌, length, Some, None, is_some, refl, sym, ap, ◌∙◌, arith}
+use Rattle.std.proofs.lemmas.Option.{none-some}
+use Rattle.std.proofs.lemmas.List.{nil_from_length}
+use Rattle.ca_plane.specs.Bytes.{is_digit, front, rest, value}
+use Rattle.ca_plane.proofs.Fronts.{front_then_rest}
+use Rattle.ca_rle.specs.declared.fault.RleFault.{RleFault}
+use Rattle.ca_rle.specs.declared.fault.RleFault.TheVariants.{Syntax}
+use Rattle.ca_rle.specs.declared.item.Item.{Item}
+use Rattle.ca_rle.specs.declared.item.Tag.{Tag}
+use Rattle.ca_rle.specs.Items.{InLine, is_prefix, tag_of, Run, IsEnd}
+use Rattle.ca_rle.specs.Faults.{behind_white, letter_fault, tag_fault, count_fault, item_fault}
+use Rattle.ca_rle.specs.Reading.{kept}
+use Rattle.ca_rle.specs.Unit.{IsSplit}
+use Rattle.ca_rle.proofs.ItemAt.{item_at, count_of, tag_at_is, behind_is_tag}
+use Rattle.ca_rle.proofs.Found.{run_found, end_found}
+
+-- an item stands at the front, and is kept so
+abbrev pub IsItemAtFront : List ℕ → Item → List ℕ → Type 0
+IsItemAtFront bytes i more = (j : Item) × Run bytes (j ∷ []) more × (i ≡ kept j)
+
+-- ---- without digits
+
+-- a tag is an item that counts once
+pub plain_item : (bytes digits behind letters more : List ℕ) (t : Tag) → IsSplit bytes digits behind → eqb (length digits) 0 ≡ true → tag_of letters ≡ Some t → behind ≡ letters ++ more
+    → IsItemAtFront bytes (record { count = 1; tag = t }) more
+plain_item bytes digits behind letters more t s none tag e =
+    let no_digits : front is_digit (behind_white InLine bytes) ≡ [] = sym s.digits_are ∙ nil_from_length digits (eqb-true (length digits) 0 none) in
+    let letters_are : behind_white InLine (rest is_digit (behind_white InLine bytes)) ≡ letters ++ more = ap (behind_white InLine) (sym s.behind_is ∙ e) ∙ behind_is_tag [] letters more t refl tag in
+    let read : item_at bytes ≡ Some (record { count = 1; tag = t }, more) = rw (no_digits, letters_are, tag_at_is letters more t tag) refl in
+    (record { count = 1; tag = t }, run_found bytes more more (record { count = 1; tag = t }) [] read (omega arith) refl, refl)
+
+-- `!` is an end
+pub plain_end : (bytes digits behind ignored : List ℕ) → IsSplit bytes digits behind → eqb (length digits) 0 ≡ true → behind ≡ 33 ∷ ignored → IsEnd bytes
+plain_end bytes digits behind ignored s none e =
+    let no_digits : front is_digit (behind_white InLine bytes) ≡ [] = sym s.digits_are ∙ nil_from_length digits (eqb-true (length digits) 0 none) in
+    end_found bytes ignored (sym (front_then_rest is_digit (behind_white InLine bytes)) ∙ ap (λ l. l ++ rest is_digit (behind_white InLine bytes)) no_digits ∙ sym s.behind_is ∙ e)
+
+-- the tag's fault is the item's
+pub plain_fault : (bytes digits behind : List ℕ) (f : RleFault) → IsSplit bytes digits behind → eqb (length digits) 0 ≡ true → tag_fault false behind ≡ Some f → item_fault bytes ≡ Some f
+plain_fault bytes digits behind f s none e =
+    let no_digits : front is_digit (behind_white InLine bytes) ≡ [] = sym s.digits_are ∙ nil_from_length digits (eqb-true (length digits) 0 none) in
+    rw (no_digits, ← s.behind_is) e
+
+-- ---- behind digits
+
+-- the number that the digits write, where it isn't 0
+counts : (digits : List ℕ) → eqb (length digits) 0 ≡ false → count_of digits ≡ value digits
+counts [] some = absurd cc
+counts (d ∷ ds) some = refl
+
+-- a tag is an item that counts so often
+pub counted_item : (bytes digits behind letters more : List ℕ) (n : ℕ) (t : Tag) → IsSplit bytes digits behind → eqb (length digits) 0 ≡ false
+    → n ≡ min (value digits) (2 ^ 64 - 1) → n ≢ 0 → tag_of letters ≡ Some t → behind_white InLine behind ≡ letters ++ more
+    → IsItemAtFront bytes (record { count = n; tag = t }) more
+counted_item bytes digits behind letters more n t s some number positive tag e =
+    let letters_are : behind_white InLine (rest is_digit (behind_white InLine bytes)) ≡ letters ++ more = ap (behind_white InLine) (sym s.behind_is) ∙ e in
+    let count : count_of (front is_digit (behind_white InLine bytes)) ≡ value digits = ap count_of (sym s.digits_are) ∙ counts digits some in
+    let read : item_at bytes ≡ Some (record { count = value digits; tag = t }, more) = rw (count, letters_are, tag_at_is letters more t tag) refl in
+    let low : 0 < value digits = omega (arith, number, positive) in
+    (record { count = value digits; tag = t }, run_found bytes more more (record { count = value digits; tag = t }) [] read low refl, ap (λ (m : ℕ). let made : Item = record { count = m; tag = t } in made) number)
+
+-- the fault of digits that aren't none
+digits_fault : (digits behind : List ℕ) → eqb (length digits) 0 ≡ false → count_fault digits behind ≡ (cond (value digits == 0) (Some Syntax) (tag_fault true (behind_white InLine behind)))
+digits_fault [] behind some = absurd cc
+digits_fault (d ∷ ds) behind some = refl
+
+fault_is : (bytes digits behind : List ℕ) → IsSplit bytes digits behind → item_fault bytes ≡ count_fault digits behind
+fault_is bytes digits behind s = rw (s.digits_are, s.behind_is) refl
+
+-- a count of 0 is a fault
+pub zero_fault : (bytes digits behind : List ℕ) (n : ℕ) → IsSplit bytes digits behind → eqb (length digits) 0 ≡ false → n ≡ min (value digits) (2 ^ 64 - 1) → n ≡ 0 → item_fault bytes ≡ Some Syntax
+zero_fault bytes digits behind n s some number none =
+    let e : value digits ≡ 0 = omega (arith, number, none) in
+    fault_is bytes digits behind s ∙ digits_fault digits behind some ∙ rw e refl
+
+behind_count : (bytes digits behind : List ℕ) (n : ℕ) → IsSplit bytes digits behind → eqb (length digits) 0 ≡ false → n ≡ min (value digits) (2 ^ 64 - 1) → n ≢ 0 → item_fault bytes ≡ tag_fault true (behind_white InLine behind)
+behind_count bytes digits behind n s some number positive =
+    let e : (value digits == 0) ≡ false = ne_eqb (value digits) 0 (λ z. positive (omega (arith, number, z))) in
+    fault_is bytes digits behind s ∙ digits_fault digits behind some ∙ rw e refl
+
+-- a fault of a tag without a count is its fault behind one too
+counted_fault : (bytes : List ℕ) (f : RleFault) → tag_fault false bytes ≡ Some f → tag_fault true bytes ≡ Some f
+counted_fault [] f e = e
+counted_fault (b ∷ bs) f e = go (b == 33) e
+  where
+    go : (mark : Bool) → cond mark None (cond (is_some (tag_of (b ∷ []))) None (cond (is_prefix b) (letter_fault b bs) (Some Syntax))) ≡ Some f
+        → cond mark (Some Syntax) (cond (is_some (tag_of (b ∷ []))) None (cond (is_prefix b) (letter_fault b bs) (Some Syntax))) ≡ Some f
+    go true h = absurd (none-some f h)
+    go false h = h
+
+-- the tag's fault is the item's
+pub counted_tag_fault : (bytes digits behind seen : List ℕ) (n : ℕ) (f : RleFault) → IsSplit bytes digits behind → eqb (length digits) 0 ≡ false → n ≡ min (value digits) (2 ^ 64 - 1) → n ≢ 0
+    → seen ≡ behind_white InLine behind → tag_fault false seen ≡ Some f → item_fault bytes ≡ Some f
+counted_tag_fault bytes digits behind seen n f s some number positive e h = behind_count bytes digits behind n s some number positive ∙ ap (tag_fault true) (sym e) ∙ counted_fault seen f h
+
+-- and `!` takes no count
+pub counted_end : (bytes digits behind seen ignored : List ℕ) (n : ℕ) → IsSplit bytes digits behind → eqb (length digits) 0 ≡ false → n ≡ min (value digits) (2 ^ 64 - 1) → n ≢ 0
+    → seen ≡ behind_white InLine behind → seen ≡ 33 ∷ ignored → item_fault bytes ≡ Some Syntax
+counted_end bytes digits behind seen ignored n s some number positive e h = behind_count bytes digits behind n s some number positive ∙ ap (tag_fault true) (sym e ∙ h)

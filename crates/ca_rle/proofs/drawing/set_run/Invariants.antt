@@ -1,0 +1,11 @@
+use Rattle.std.proofs.Common.{◌++◌}
+use Rattle.ca_plane.specs.Plane.{IsSame}
+use Rattle.ca_plane.specs.Sparse.{IsSparse}
+use Rattle.ca_rle.specs.Shown.{run_of}
+use Rattle.ca_rle.proofs.drawing.set_run.Given as goal
+
+abbrev pub invariant-cells : goal.invariant-cells
+invariant-cells l = record {
+  shown : IsSame l.plane (run_of l.state l.at l.step ++ l.initial.plane);
+  sparse : IsSparse l.initial.plane → IsSparse l.plane;
+}

@@ -1,0 +1,59 @@
+use Rattle.std.proofs.Common.{ℕ, List, [], ◌∷◌, ◌++◌, sym, subst, ◌∙◌, rules}
+use Rattle.std.proofs.lemmas.Result.{MatchResult-weaker}
+use Rattle.ca_rle.specs.FrontParts.{IsFront}
+use Rattle.ca_rle.specs.FrontFaults.{IsFrontFault}
+use Rattle.ca_rle.proofs.Preambles.{read_none}
+use Rattle.ca_rle.proofs.FrontLines.{first_line_is_line, first_line_ends, split_there, line_passed, fewer_behind, word_fault, no_header_there}
+use Rattle.ca_rle.proofs.front.read_front.Goals as goal
+
+pub front_at-requires-clause-line : goal.front_at-requires-clause-line
+front_at-requires-clause-line c = first_line_is_line c.lines.rest.now _ c.split_line.ensures.front
+
+pub front_at-requires-clause-ends : goal.front_at-requires-clause-ends
+front_at-requires-clause-ends c = first_line_ends c.lines.rest.now _ c.split_line.ensures.rest
+
+pub returns-then-not-is_comment-clause-found : goal.returns-then-not-is_comment-clause-found
+returns-then-not-is_comment-clause-found c =
+    let so_far = c.lines.invariant in
+    let whole = split_there _ _ _ _ so_far.0 so_far.3 c.split_line.ensures.front c.split_line.ensures.rest in
+    MatchResult-weaker c.front_at.result c.front_at.ensures.found (λ f h. subst (λ (l : List ℕ). IsFront l f) (sym whole) (h so_far.0 so_far.1 so_far.2)) (λ f h. h)
+
+pub returns-then-not-is_comment-clause-fault : goal.returns-then-not-is_comment-clause-fault
+returns-then-not-is_comment-clause-fault c =
+    let so_far = c.lines.invariant in
+    let whole = split_there _ _ _ _ so_far.0 so_far.3 c.split_line.ensures.front c.split_line.ensures.rest in
+    MatchResult-weaker c.front_at.result c.front_at.ensures.fault (λ f h. h) (λ f h. subst (λ (l : List ℕ). IsFrontFault l f) (sym whole) (h so_far.0 so_far.1 so_far.2))
+
+pub behind_line-requires-clause-line : goal.behind_line-requires-clause-line
+behind_line-requires-clause-line c = first_line_is_line c.lines.rest.now _ c.split_line.ensures.front
+
+pub returns-in_err-preamble-clause-fault : goal.returns-in_err-preamble-clause-fault
+returns-in_err-preamble-clause-fault c =
+    let so_far = c.lines.invariant in
+    let whole = split_there _ _ _ _ so_far.0 so_far.3 c.split_line.ensures.front c.split_line.ensures.rest in
+    let fault = word_fault c.args.bytes.now c.split_line.result.0.now c.split_line.result.1.now so_far.0 so_far.1 _ so_far.2 (first_line_is_line c.lines.rest.now _ c.split_line.ensures.front) (sym c.is_comment.ensures ∙ c.if-not-is_comment.false)
+    (first_line_ends c.lines.rest.now _ c.split_line.ensures.rest) whole c.in_err-preamble.field-0.0 c.in_err-preamble.ensures.fault in
+    search (rules, fault)
+
+pub returns-in_default-clause-fault : goal.returns-in_default-clause-fault
+returns-in_default-clause-fault c =
+    let so_far = c.lines.invariant in
+    let whole = split_there _ _ _ _ so_far.0 so_far.3 c.split_line.ensures.front c.split_line.ensures.rest in
+    let words = c.in_ok-preamble.ensures.found in
+    no_header_there _ _ _ so_far.0 so_far.1 _ so_far.2 (first_line_is_line c.lines.rest.now _ c.split_line.ensures.front) (sym c.is_comment.ensures ∙ c.if-not-is_comment.false)
+    (first_line_ends c.lines.rest.now _ c.split_line.ensures.rest) whole words.0 words.1 c.in_default.ensures.cases
+
+pub lines-smaller : goal.lines-smaller
+lines-smaller c = fewer_behind _ _ _ _ c.split_line.ensures.rest c.in-Some.ensures.cases.0
+
+pub lines-preserved : goal.lines-preserved
+lines-preserved c =
+    let so_far = c.lines.invariant in
+    let line = c.split_line.result.0.now in
+    let whole = split_there _ _ _ _ so_far.0 so_far.3 c.split_line.ensures.front c.split_line.ensures.rest in
+    let words = c.in_ok-preamble.ensures.found in (
+      so_far.0 ++ line ∷ [],
+      so_far.1 ++ words.0,
+      words.2 so_far.0 so_far.1 so_far.2,
+      line_passed _ line _ _ _ so_far.0 whole c.in-Some.ensures.cases.0 (first_line_ends c.lines.rest.now _ c.split_line.ensures.rest),
+    )

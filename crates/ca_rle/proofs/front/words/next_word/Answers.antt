@@ -1,0 +1,36 @@
+use Rattle.std.proofs.Common.{◌≡◌, ◌<◌, [], ◌∷◌, not, length, sym, ap, ◌∙◌, arith}
+use Rattle.std.specs.List.{list_all}
+use Rattle.std.proofs.lemmas.Bool.{eqb-true, eqb-false}
+use Rattle.std.proofs.lemmas.List.{nil_from_length}
+use Rattle.ca_plane.specs.Bytes.{front, rest, is_blank, is_word_byte, is_line_end, words_of}
+use Rattle.ca_rle.proofs.FirstWords.{no_word, word_before, line_after, fewer}
+use Rattle.ca_rle.proofs.front.words.next_word.Goals as goal
+
+pub returns-then-is_empty-clause-words : goal.returns-then-is_empty-clause-words
+returns-then-is_empty-clause-words c =
+    let none : c.split_word.result.0.now ≡ [] = nil_from_length c.split_word.result.0.now (eqb-true (length c.split_word.result.0.now) 0 (sym c.is_empty.ensures ∙ c.if-is_empty.true)) in
+    no_word c.args.bytes.now c.requires (ap (front is_word_byte) (sym c.split_blanks.ensures.rest) ∙ sym c.split_word.ensures.front ∙ none)
+
+pub returns-clause-words : goal.returns-clause-words
+returns-clause-words c =
+    let word : c.split_word.result.0.now ≡ front is_word_byte (rest is_blank c.args.bytes.now) = c.split_word.ensures.front ∙ ap (front is_word_byte) c.split_blanks.ensures.rest in
+    let more : c.split_word.result.1.now ≡ rest is_word_byte (rest is_blank c.args.bytes.now) = c.split_word.ensures.rest ∙ ap (rest is_word_byte) c.split_blanks.ensures.rest in
+    let ne = eqb-false (length c.split_word.result.0.now) 0 (sym c.is_empty.ensures ∙ c.if-is_empty.false) in
+    let long = ap length word in
+    let some : 0 < length (front is_word_byte (rest is_blank c.args.bytes.now)) = omega arith in
+    word_before c.args.bytes.now c.requires some ∙ ap (λ w. w ∷ words_of (rest is_word_byte (rest is_blank c.args.bytes.now))) (sym word) ∙ ap (λ l. c.split_word.result.0.now ∷ words_of l) (sym more)
+
+pub returns-clause-line : goal.returns-clause-line
+returns-clause-line c =
+    let more : c.split_word.result.1.now ≡ rest is_word_byte (rest is_blank c.args.bytes.now) = c.split_word.ensures.rest ∙ ap (rest is_word_byte) c.split_blanks.ensures.rest in
+    ap (list_all (λ b. not (is_line_end b))) more ∙ line_after c.args.bytes.now c.requires
+
+pub returns-clause-shorter : goal.returns-clause-shorter
+returns-clause-shorter c =
+    let word = c.split_word.ensures.front ∙ ap (front is_word_byte) c.split_blanks.ensures.rest in
+    let more = c.split_word.ensures.rest ∙ ap (rest is_word_byte) c.split_blanks.ensures.rest in
+    let ne = eqb-false (length c.split_word.result.0.now) 0 (sym c.is_empty.ensures ∙ c.if-is_empty.false) in
+    let long = ap length word in
+    let behind = ap length more in
+    let less = fewer c.args.bytes.now (omega arith) in
+    omega arith

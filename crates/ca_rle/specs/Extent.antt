@@ -1,0 +1,82 @@
+-- How far the items of an RLE text reach from the corner, and how the reader keeps that: each number is at most 2^64 - 1.
+use Rattle.std.specs.Prelude.{◌≡◌, ℕ, ◌+◌, ◌-◌, ◌^◌, ◌≤◌, min, max, pos, ◌+ℤ◌, ◌≤ℤ◌, List, [], ◌∷◌, ◌++◌, ◌==◌, if◌then◌else◌}
+use Rattle.std.specs.List.{sum_by}
+use Rattle.ca_plane.specs.declared.point.Point.{Point}
+use Rattle.ca_plane.specs.Plane.{Picture}
+use Rattle.ca_rle.specs.declared.item.Item.{Item}
+use Rattle.ca_rle.specs.declared.extent.Extent.{Extent}
+use Rattle.ca_rle.specs.declared.extent.Offset.{Offset}
+use Rattle.ca_rle.specs.Shown.{state_of, rows_of, columns_of, run_of}
+use Rattle.ca_rle.specs.Limits.{IsInRange}
+
+-- ---- what items show
+
+-- the greatest count
+abbrev pub longest_of : List Item → ℕ
+longest_of [] = 0
+longest_of (i ∷ is) = max i.count (longest_of is)
+
+-- how many live cells an item has
+abbrev pub live_count : Item → ℕ
+live_count i = if state_of i.tag == 0 then 0 else i.count
+
+-- how many live cells the items have
+abbrev pub live_cells : List Item → ℕ
+live_cells is = sum_by live_count is
+
+-- how many columns from the corner on an item's live cells take, behind the items before it
+abbrev pub columns_to : List Item → Item → ℕ
+columns_to before i = if state_of i.tag == 0 then 0 else columns_of before + i.count
+
+-- how many rows
+abbrev pub rows_to : List Item → Item → ℕ
+rows_to before i = if state_of i.tag == 0 then 0 else rows_of before + 1
+
+-- the most of these columns, of items that stand behind others
+abbrev pub right_behind : List Item → List Item → ℕ
+right_behind before [] = 0
+right_behind before (i ∷ is) = max (columns_to before i) (right_behind (before ++ i ∷ []) is)
+
+-- the most of these rows
+abbrev pub bottom_behind : List Item → List Item → ℕ
+bottom_behind before [] = 0
+bottom_behind before (i ∷ is) = max (rows_to before i) (bottom_behind (before ++ i ∷ []) is)
+
+-- ---- how it is kept
+
+-- a number as the code keeps it
+abbrev pub kept_number : ℕ → ℕ
+kept_number n = min n (2 ^ 64 - 1)
+
+-- where the item behind these begins
+pub record IsOffsetOf (items : List Item) (offset : Offset) : Type 0 where
+  pub rows : offset.rows ≡ kept_number (rows_of items)
+  pub columns : offset.columns ≡ kept_number (columns_of items)
+
+-- how far these items reach
+pub record IsExtentOf (items : List Item) (extent : Extent) : Type 0 where
+  pub longest : extent.longest ≡ kept_number (longest_of items)
+  pub right : extent.right ≡ kept_number (right_behind [] items)
+  pub bottom : extent.bottom ≡ kept_number (bottom_behind [] items)
+  pub cells : extent.cells ≡ kept_number (live_cells items)
+
+-- items of this extent are in range from this corner
+pub record IsExtentInRange (extent : Extent) (corner : Point) : Type 0 where
+  pub counts : extent.longest ≤ 2 ^ 62
+  pub start : IsInRange corner
+  pub right : (corner.x +ℤ pos extent.right) ≤ℤ pos (2 ^ 60)
+  pub bottom : (corner.y +ℤ pos extent.bottom) ≤ℤ pos (2 ^ 60)
+
+-- ---- how an item is drawn
+
+-- the point at an offset from the corner
+abbrev pub point_from : Point → Offset → Point
+point_from corner offset = record { y = corner.y +ℤ pos offset.rows; x = corner.x +ℤ pos offset.columns }
+
+-- so many cells from a point to the right are in range
+abbrev pub HasRoom : Point → ℕ → Type 0
+HasRoom at count = IsInRange at × ((at.x +ℤ pos count) ≤ℤ pos (2 ^ 60))
+
+-- the cells of an item that begins at a point
+abbrev pub cells_from : Point → Item → Picture
+cells_from at i = if state_of i.tag == 0 then [] else run_of (state_of i.tag) at i.count

@@ -1,0 +1,67 @@
+-- How what stands before the items of an RLE text is read: numbers, words and lines, one after another.
+use Rattle.std.specs.Prelude.{◌≡◌, ℕ, ℤ, ◌^◌, ◌≤ℤ◌, ◌<ℤ◌, pos, neg_ℤ, List, [], ◌∷◌, ◌++◌, true, false, Option, ◌⊎◌}
+use Rattle.std.specs.Option.{option_copied}
+use Rattle.std.specs.List.{AllZip, AllByRecursion}
+use Rattle.ca_plane.specs.declared.point.Point.{Point}
+use Rattle.ca_plane.specs.Bytes.{IsInteger}
+use Rattle.ca_rle.specs.declared.fault.RleFault.{RleFault}
+use Rattle.ca_rle.specs.declared.front.words.Start.{Start}
+use Rattle.ca_rle.specs.declared.front.lines.Preamble.{Preamble}
+use Rattle.ca_rle.specs.declared.front.Front.{Front}
+use Rattle.ca_rle.specs.Header.{Said, Says, IsXlifeLine}
+use Rattle.ca_rle.specs.File.{IsPreamble, IsHeaded, corner_of, generation_of}
+use Rattle.ca_rle.specs.Faults.{IsBadWord}
+use Rattle.ca_rle.specs.Reading.{KeepsCorner}
+
+-- from -2^60 to 2^60 - 1
+abbrev pub IsNear : ℤ → Type 0
+IsNear n = (neg_ℤ (pos (2 ^ 60)) ≤ℤ n) × (n <ℤ pos (2 ^ 60))
+
+-- the reader keeps the number itself, or, where that is out of range, some number within 2^62 that is out of range too
+pub record KeepsNumber (number kept : ℤ) : Type 0 where
+  pub low : neg_ℤ (pos (2 ^ 62)) ≤ℤ kept
+  pub high : kept ≤ℤ pos (2 ^ 62)
+  pub same : (kept ≡ number) ⊎ ((IsNear number → ⊥) × (IsNear kept → ⊥))
+
+-- the bytes write a number that is kept so
+abbrev pub Writes : List ℕ → ℤ → Type 0
+Writes bytes kept = (number : ℤ) × IsInteger bytes number × KeepsNumber number kept
+
+-- two numbers with a comma between them
+abbrev pub WritesPair : List ℕ → Point → Type 0
+WritesPair bytes place = (a : List ℕ) × (b : List ℕ) × (bytes ≡ a ++ 44 ∷ b) × Writes a place.x × Writes b place.y
+
+-- the start that words say
+pub record IsStart (said : List Said) (start : Start) : Type 0 where
+  pub corner : KeepsCorner (corner_of said) start.corner
+  pub generation : start.generation ≡ generation_of said
+
+-- behind what was said, these words lead from one start to another
+abbrev pub Leads : List (List ℕ) → Start → Start → Type 0
+Leads words old new = (more : List Said) × AllZip Says words more × ((said : List Said) → IsStart said old → IsStart (said ++ more) new)
+
+-- behind good words stands a bad one
+pub record HasBadWordAmong (words : List (List ℕ)) (fault : RleFault) : Type 0 where
+  pub good : List (List ℕ)
+  pub good_said : List Said
+  pub word : List ℕ
+  pub later : List (List ℕ)
+  pub words_are : words ≡ good ++ word ∷ later
+  pub good_words : AllZip Says good good_said
+  pub bad : IsBadWord word fault
+
+-- one of the lines gives XLife's rule
+abbrev pub HasXlifeLine : List (List ℕ) → Type 0
+HasXlifeLine lines = (earlier : List (List ℕ)) × (line : List ℕ) × (later : List (List ℕ)) × IsXlifeLine line × (lines ≡ earlier ++ line ∷ later)
+
+-- what lines before a header say
+pub record IsRead (lines : List (List ℕ)) (said : List Said) (preamble : Preamble) : Type 0 where
+  pub good : IsPreamble lines said
+  pub start : IsStart said preamble.start
+  pub xlife : preamble.has_xlife_rule ≡ true → HasXlifeLine lines
+  pub no_xlife : preamble.has_xlife_rule ≡ false → AllByRecursion (λ l. IsXlifeLine l → ⊥) lines
+
+-- the bytes have this front
+abbrev pub IsFront : List ℕ → Front → Type 0
+IsFront bytes front = (said : List Said) × (rule : Option (List ℕ)) × IsHeaded bytes said rule front.body.now
+    × (option_copied front.rule ≡ rule) × KeepsCorner (corner_of said) front.corner × (front.generation ≡ generation_of said)

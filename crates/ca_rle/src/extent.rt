@@ -1,0 +1,150 @@
+//! How far the items of an RLE text reach, which is judged before anything is drawn. Nothing here takes memory.
+
+ghost use Rattle.std.specs.Prelude.{◌≡◌, ℕ, ◌+◌, ◌≤◌, ◌^◌, max, pos, neg_ℤ, ◌+ℤ◌, ◌≤ℤ◌, ◌<ℤ◌, List, [], ◌==◌, IsTrue, ◌↔◌, IfOk, IfErr, if◌then◌else◌};
+ghost use Rattle.ca_rle.specs.declared.item.Item.{Item};
+ghost use Rattle.ca_rle.specs.Items.{Items};
+ghost use Rattle.ca_rle.specs.Shown.{ends_row, state_of};
+ghost use Rattle.ca_rle.specs.Limits.{IsInRange};
+ghost use Rattle.ca_rle.specs.Reading.{HasBadUnit};
+ghost use Rattle.ca_rle.specs.Extent.{kept_number, live_count, IsOffsetOf, IsExtentOf, IsExtentInRange, point_from};
+
+use crate::fault::RleFault;
+use crate::item::{Item, Tag};
+use crate::unit::next_item;
+use ca_plane::Point;
+
+/// The greatest count of an item that is in range.
+const LONGEST: u64 = 1 << 62;
+
+/// Coordinates that are in range are from -2^60 on, and below 2^60.
+const FAR: i128 = 1 << 60;
+
+/// Where an item begins: so many rows below the corner, and so many columns right of it. At 2^64 - 1 each of them stays.
+#[derive(Clone, Copy, Debug)]
+pub(crate) struct Offset {
+    pub(crate) rows: u64,
+    pub(crate) columns: u64,
+}
+
+impl Offset {
+    /// Where the first item begins.
+    pub(crate) fn start() -> Offset
+        ensures { IsOffsetOf [] result }
+    {
+        Offset {
+            rows: 0,
+            columns: 0,
+        }
+    }
+
+    /// Where the item behind this one begins.
+    pub(crate) fn behind(self, item: Item) -> Offset
+        ensures rows { result.rows ≡ kept_number (self.rows + (if ends_row item.tag then item.count else 0)) }
+        ensures columns { result.columns ≡ (if ends_row item.tag then 0 else kept_number (self.columns + item.count)) }
+    {
+        match item.tag {
+            Tag::Cell(_) => Offset {
+                rows: self.rows,
+                columns: self.columns.saturating_add(item.count),
+            },
+            Tag::RowEnd => Offset {
+                rows: self.rows.saturating_add(item.count),
+                columns: 0,
+            },
+        }
+    }
+
+    /// The point at this offset from the corner.
+    pub(crate) fn point(self, corner: Point) -> Point
+        requires corner { IsInRange corner }
+        requires point { IsInRange (point_from corner self) }
+        ensures { result ≡ point_from corner self }
+    {
+        Point {
+            y: corner.y + self.rows as i64,
+            x: corner.x + self.columns as i64,
+        }
+    }
+}
+
+/// How far items reach. At 2^64 - 1 each number stays.
+#[derive(Clone, Copy, Debug)]
+pub(crate) struct Extent {
+    /// The greatest count.
+    pub(crate) longest: u64,
+    /// The columns from the corner on that live cells take.
+    pub(crate) right: u64,
+    /// The rows from the corner on that live cells take.
+    pub(crate) bottom: u64,
+    /// How many live cells there are.
+    pub(crate) cells: u64,
+}
+
+impl Extent {
+    /// The extent of no items.
+    fn none() -> Extent
+        ensures { IsExtentOf [] result }
+    {
+        Extent {
+            longest: 0,
+            right: 0,
+            bottom: 0,
+            cells: 0,
+        }
+    }
+
+    /// The extent with one more item, which begins at an offset.
+    fn grown(self, at: Offset, item: Item) -> Extent
+        ensures longest { result.longest ≡ max self.longest item.count }
+        ensures right { result.right ≡ max self.right (if state_of item.tag == 0 then 0 else kept_number (at.columns + item.count)) }
+        ensures bottom { result.bottom ≡ max self.bottom (if state_of item.tag == 0 then 0 else kept_number (at.rows + 1)) }
+        ensures cells { result.cells ≡ kept_number (self.cells + live_count item) }
+    {
+        let longest = self.longest.max(item.count);
+        if item.tag.state() == 0 {
+            return Extent { longest, ..self };
+        }
+        Extent {
+            longest,
+            right: self.right.max(at.columns.saturating_add(item.count)),
+            bottom: self.bottom.max(at.rows.saturating_add(1)),
+            cells: self.cells.saturating_add(item.count),
+        }
+    }
+
+    /// Whether items of this extent are in range from this corner.
+    pub(crate) fn is_in_range(self, corner: Point) -> bool
+        ensures { IsTrue result ↔ IsExtentInRange self corner }
+    {
+        self.longest <= LONGEST && has_room(corner.x, self.right) && has_room(corner.y, self.bottom)
+    }
+}
+
+/// Whether a coordinate is in range, and so many cells from there on.
+fn has_room(coordinate: i64, length: u64) -> bool
+    ensures { IsTrue result ↔ (neg_ℤ (pos (2 ^ 60)) ≤ℤ coordinate) × (coordinate <ℤ pos (2 ^ 60)) × ((coordinate +ℤ pos length) ≤ℤ pos (2 ^ 60)) }
+{
+    let start = i128::from(coordinate);
+    let end = start + i128::from(length);
+    -FAR <= start && start < FAR && end <= FAR
+}
+
+/// How far the items of a body reach.
+///
+/// # Errors
+///
+/// The fault of the first item that has one.
+pub(crate) fn measure(body: &[u8]) -> Result<Extent, RleFault>
+    ensures found { IfOk result (λ e. (items : List Item) × Items body.now items × IsExtentOf items e) }
+    ensures fault { IfErr result (λ f. HasBadUnit body.now f) }
+{
+    let mut extent = Extent::none();
+    let mut at = Offset::start();
+    let mut rest = body;
+    'items: while let Some((item, more)) = next_item(rest)? {
+        extent = extent.grown(at, item);
+        at = at.behind(item);
+        rest = more;
+    }
+    Ok(extent)
+}

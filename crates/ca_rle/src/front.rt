@@ -1,0 +1,81 @@
+//! What stands before the items of an RLE text: the lines before the header, and the header.
+
+mod header;
+mod lines;
+mod words;
+
+ghost use Rattle.std.specs.Prelude.{◌≡◌, ℕ, List, ◌++◌, Bool, true, false, not, Option, IfOk, IfErr};
+ghost use Rattle.std.specs.Option.{option_copied};
+ghost use Rattle.std.specs.List.{flat_map};
+ghost use Rattle.ca_plane.specs.Bytes.{Every, is_line_end, is_end_or};
+ghost use Rattle.ca_rle.specs.Header.{Said, is_comment};
+ghost use Rattle.ca_rle.specs.File.{IsHeaded, ended, corner_of, generation_of};
+ghost use Rattle.ca_rle.specs.Reading.{KeepsCorner};
+ghost use Rattle.ca_rle.specs.FrontFaults.{IsFrontFault};
+ghost use Rattle.ca_rle.specs.FrontParts.{IsRead, IsFront};
+
+use self::header::read_header;
+use self::lines::{Preamble, is_comment};
+use crate::fault::RleFault;
+use ca_plane::Point;
+use ca_plane::bytes::split_line;
+
+/// What stands before the items of an RLE text.
+#[derive(Clone, Copy)]
+pub(crate) struct Front<'a> {
+    /// Where the first cell stands; where it is out of range, some place that is out of range too.
+    pub(crate) corner: Point,
+    pub(crate) generation: u64,
+    /// The header's rule text, where it has one.
+    pub(crate) rule: Option<&'a [u8]>,
+    /// What stands behind the header: nothing, or bytes that begin with the LF of its line.
+    pub(crate) body: &'a [u8],
+}
+
+/// Reads the header, which stands in this line behind what the lines before it say.
+fn front_at<'a>(preamble: Preamble, line: &'a [u8], body: &'a [u8]) -> Result<Front<'a>, RleFault>
+    requires line { Every (λ b. not (is_line_end b)) line.now }
+    requires header { is_comment line.now ≡ false }
+    requires ends { is_end_or is_line_end body.now ≡ true }
+    ensures found { IfOk result (λ f. (lines : List (List ℕ)) (said : List Said) → IsRead lines said preamble
+        → IsFront (flat_map ended lines ++ (line.now ++ body.now)) f) }
+    ensures fault { IfErr result (λ f. (lines : List (List ℕ)) (said : List Said) → IsRead lines said preamble
+        → IsFrontFault (flat_map ended lines ++ (line.now ++ body.now)) f) }
+{
+    let Some(header) = read_header(line) else {
+        return Err(RleFault::Header);
+    };
+    if header.rule.is_none() && preamble.has_xlife_rule {
+        return Err(RleFault::XlifeRule);
+    }
+    Ok(Front {
+        corner: preamble.start.corner,
+        generation: preamble.start.generation,
+        rule: header.rule,
+        body,
+    })
+}
+
+/// Reads the lines before the header, and the header.
+pub(crate) fn read_front(bytes: &[u8]) -> Result<Front<'_>, RleFault>
+    ensures found { IfOk result (λ f. (said : List Said) × (rule : Option (List ℕ)) × IsHeaded bytes.now said rule f.body.now
+        × (option_copied f.rule ≡ rule) × KeepsCorner (corner_of said) f.corner × (f.generation ≡ generation_of said)) }
+    ensures fault { IfErr result (λ f. IsFrontFault bytes.now f) }
+{
+    let mut preamble = Preamble::new();
+    let mut rest = bytes;
+    'lines: loop {
+        let (line, behind) = split_line(rest);
+        if !is_comment(line) {
+            return front_at(preamble, line, behind);
+        }
+        preamble = preamble.behind_line(line)?;
+        let Some((_, later)) = behind.split_first() else {
+            return Err(RleFault::Header);
+        };
+        rest = later;
+    }
+}
+
+#[cfg(test)]
+mod tests;

@@ -1,0 +1,67 @@
+//! The reader of extended RLE.
+
+ghost use Rattle.std.specs.Prelude.{◌≡◌, unwrap_or, codes, IfOk, IfErr, IsErrOf};
+ghost use Rattle.std.specs.Option.{option_copied};
+ghost use Rattle.ca_plane.specs.Sparse.{IsSparse};
+ghost use Rattle.ca_rle.specs.File.{File, IsFile};
+ghost use Rattle.ca_rle.specs.Limits.{IsWithinLimits};
+ghost use Rattle.ca_rle.specs.Faults.{IsFaultOf};
+ghost use Rattle.ca_rle.specs.Pattern.{IsPatternOf};
+
+use crate::body::read_body;
+use crate::fault::RleFault;
+use crate::front::read_front;
+use crate::pattern::Pattern;
+use std::alloc::{AllocError, Global};
+
+/// The rule text of a pattern whose header names no rule (Golly Help, File Formats: Extended RLE format).
+const DEFAULT_RULE: &[u8] = b"B3/S23";
+
+// The rule text that the header names, or the default one.
+fn rule_text(alloc: Global, rule: Option<&[u8]>) -> Result<Vec<u8>, AllocError>
+    ensures { IfOk result (λ v. v.items ≡ unwrap_or (option_copied rule.entry) (codes "B3/S23")) }
+{
+    match rule {
+        Some(rule) => Vec::from_slice(alloc, rule),
+        None => Vec::from_slice(alloc, DEFAULT_RULE),
+    }
+}
+
+/// Reads an extended RLE text (Golly Help, File Formats; docs/FORMATS.md): the pattern that it holds, its first cell at the
+/// corner that `Pos` says, or at (0, 0).
+///
+/// The whole text is judged before anything is written: the time for a refused text is in proportion to its bytes, and
+/// it takes no memory.
+///
+/// # Errors
+///
+/// The first fault of the text's spelling; else `Range` where a count is above 2^62, or the corner or a live cell isn't from
+/// -2^60 to 2^60 - 1 in both directions; else `TooManyCells` where more than 16777216 cells are live; and `Memory` where
+/// there is no memory for the pattern of a text without these faults.
+pub fn read_rle(alloc: Global, bytes: &[u8]) -> Result<Pattern, RleFault>
+    // What is read is what the text holds, and it passes no limit.
+    ensures found { IfOk result (λ p. (file : File) × IsFile bytes.now file × IsWithinLimits file × IsPatternOf file p) }
+    ensures sparse { IfOk result (λ p. IsSparse p.cells) }
+    // A text that is refused has this fault.
+    ensures fault { IfErr result (λ f. IsFaultOf bytes.now f) }
+    // Memory is wanted only for a text without a fault.
+    ensures memory { IsErrOf result RleFault.Memory → (file : File) × IsFile bytes.now file × IsWithinLimits file }
+{
+    let front = match read_front(bytes) {
+        Ok(front) => front,
+        Err(fault) => return Err(fault),
+    };
+    let cells = match read_body(alloc, front.body, front.corner) {
+        Ok(cells) => cells,
+        Err(fault) => return Err(fault),
+    };
+    let rule_text = match rule_text(alloc, front.rule) {
+        Ok(rule_text) => rule_text,
+        Err(_) => return Err(RleFault::Memory),
+    };
+    Ok(Pattern {
+        cells,
+        rule_text,
+        generation: front.generation,
+    })
+}

@@ -1,0 +1,124 @@
+//! The plane after one generation, and after n.
+
+ghost use Rattle.std.specs.Prelude.{◌≡◌, ℕ, ◌<◌, ◌-◌, ◌^◌, ℤ, pos, neg_ℤ, ◌≤ℤ◌, IsTrue, IsFalse, IfOk, IsErrOf, ◌↔◌};
+ghost use Rattle.std.specs.List.{All};
+ghost use Rattle.ca_plane.specs.Plane.{cell};
+ghost use Rattle.ca_plane.specs.Sparse.{IsSparse};
+ghost use Rattle.ca_plane.specs.Generations.{after};
+ghost use Rattle.ca_run.specs.Reach.{IsInReach, LeavesReach};
+ghost use Rattle.ca_run.specs.Streams.{IsOutOfReach};
+
+use crate::fault::RunFault;
+use crate::stream::Window;
+use ca_plane::{Automaton, Memory, Plane, Point};
+use std::alloc::Global;
+
+// The greatest coordinate of a cell from which a step is taken.
+const REACH: i64 = (1 << 62) - 2;
+
+/// The plane one generation on.
+///
+/// # Errors
+///
+/// `Range` just where a live cell stands outside -(2^62 - 2) to 2^62 - 2, whatever the memory; else fails where there is no
+/// memory for the plane one generation on.
+pub fn step<A: Automaton>(alloc: Global, rule: &A, plane: &Plane) -> Result<Plane, RunFault>
+    requires { All (λ e. e.1 < A.state_count rule.now) plane.now }
+    ensures after { IfOk result (λ p. (x y : ℤ) → cell p x y ≡ after (A.next_of rule.now) plane.now 1 x y) }
+    ensures states { IfOk result (λ p. All (λ e. e.1 < A.state_count rule.now) p) }
+    ensures sparse { IfOk result (λ p. IsSparse p) }
+    ensures within { IfOk result (λ p. LeavesReach (A.next_of rule.now) plane.now 0 → ⊥) }
+    ensures range { IsErrOf result RunFault.Range → LeavesReach (A.next_of rule.now) plane.now 0 }
+{
+    if !is_all_in_reach(plane) {
+        return Err(RunFault::Range);
+    }
+    let cells = listed(alloc, plane)?;
+    Ok(next_plane(alloc, rule, &cells)?)
+}
+
+// Whether each live cell is one from which a step is taken.
+fn is_all_in_reach(plane: &Plane) -> bool
+    ensures inside { IsTrue result → All (λ e. IsInReach e.0.x e.0.y) plane.now }
+    ensures outside { IsFalse result → IsOutOfReach plane.now }
+    ensures sparse { IsSparse plane.now }
+{
+    'cells: for (at, _) in plane.cells() {
+        if !is_in_reach(at) {
+            return false;
+        }
+    }
+    true
+}
+
+fn is_in_reach(at: Point) -> bool
+    ensures { IsTrue result ↔ IsInReach at.x at.y }
+{
+    is_near(at.x) && is_near(at.y)
+}
+
+fn is_near(coordinate: i64) -> bool
+    ensures { IsTrue result ↔ (neg_ℤ (pos (2 ^ 62 - 2)) ≤ℤ coordinate) × (coordinate ≤ℤ pos (2 ^ 62 - 2)) }
+{
+    -REACH <= coordinate && coordinate <= REACH
+}
+
+// The live cells, row by row from the top.
+fn listed(alloc: Global, plane: &Plane) -> Result<Vec<(Point, u8)>, Memory>
+    ensures { IfOk result (λ v. v.items ≡ plane.now) }
+{
+    let mut cells = Vec::with_capacity(alloc, plane.len())?;
+    'cells: for cell in plane.cells() {
+        cells.push(cell)?;
+    }
+    Ok(cells)
+}
+
+// The plane one generation on from one that shows these cells.
+fn next_plane<A: Automaton>(alloc: Global, rule: &A, cells: &[(Point, u8)]) -> Result<Plane, Memory>
+    requires states { All (λ e. e.1 < A.state_count rule.now) cells.now }
+    requires sparse { IsSparse cells.now }
+    requires reach { All (λ e. IsInReach e.0.x e.0.y) cells.now }
+    ensures after { IfOk result (λ p. (x y : ℤ) → cell p x y ≡ after (A.next_of rule.now) cells.now 1 x y) }
+    ensures states { IfOk result (λ p. All (λ e. e.1 < A.state_count rule.now) p) }
+    ensures sparse { IfOk result (λ p. IsSparse p) }
+{
+    // A rule that tells its states is sound: where all is empty, nothing is born, and its states lead to its states.
+    let _states = rule.states();
+    let mut window = Window::new(cells);
+    let mut next = Plane::new(alloc);
+    'places: while let Some(at) = window.first() {
+        let state = rule.next(&window.take_at(at));
+        if state == 0 {
+            continue 'places;
+        }
+        next.set(at, state)?;
+    }
+    Ok(next)
+}
+
+/// The plane n generations on.
+///
+/// # Errors
+///
+/// `Range` just where before one of the n steps a live cell stands outside -(2^62 - 2) to 2^62 - 2, and the steps before it
+/// had memory; else fails where there is no memory for a plane.
+pub fn steps<A: Automaton>(alloc: Global, rule: &A, plane: &Plane, n: u64) -> Result<Plane, RunFault>
+    requires { All (λ e. e.1 < A.state_count rule.now) plane.now }
+    ensures after { IfOk result (λ p. (x y : ℤ) → cell p x y ≡ after (A.next_of rule.now) plane.now n x y) }
+    ensures states { IfOk result (λ p. All (λ e. e.1 < A.state_count rule.now) p) }
+    ensures sparse { IfOk result (λ p. IsSparse p) }
+    ensures within { IfOk result (λ p. (m : ℕ) → m < n → LeavesReach (A.next_of rule.now) plane.now m → ⊥) }
+    ensures range { IsErrOf result RunFault.Range → (m : ℕ) × (m < n) × LeavesReach (A.next_of rule.now) plane.now m }
+{
+    if n == 0 {
+        // What a plane lists is sparse, and so is its copy.
+        let _cells = plane.cells();
+        return Ok(plane.copy(alloc)?);
+    }
+    let mut now = step(alloc, rule, plane)?;
+    'generations: for _ in 1..n {
+        now = step(alloc, rule, &now)?;
+    }
+    Ok(now)
+}
