@@ -1,51 +1,122 @@
 -- True answers: what a yes, a no and a refusal say of the files that were handed in.
-use Rattle.std.specs.Prelude.{◌≡◌, ℕ, List, Some, None}
-use Rattle.std.specs.List.{AllZip}
-use Rattle.ca_plane.specs.Plane.{Picture}
+use Rattle.std.specs.Prelude.{◌≡◌, ◌≢◌, ℕ, ◌≤◌, ◌<◌, ℤ, List, [], ◌∷◌, Some, None, ◌⊎◌}
+use Rattle.std.specs.List.{AllZip, AllByRecursion}
+use Rattle.ca_plane.specs.Plane.{Picture, cell}
 use Rattle.ca_rule.specs.declared.bs_rule.BsRule.{BsRule}
 use Rattle.ca_rule.specs.Next.{next_of}
-use Rattle.ca_rule.specs.Spelling.{Names, IsFaultOf}
-use Rattle.ca_rle.specs.declared.item.Item.{Item}
-use Rattle.ca_rle.specs.FirstForm.{IsFirstForm}
+use Rattle.ca_rule.specs.Spelling.{Names}
+use Rattle.ca_rule.specs.Spelling as rules
+use Rattle.ca_rle.specs.File as rle
+use Rattle.ca_rle.specs.Limits.{IsWithinLimits}
+use Rattle.ca_rle.specs.Faults as rle_faults
+use Rattle.ca_rle.specs.declared.fault.RleFault.TheVariants as rle_fault
 use Rattle.ca_claims.specs.declared.verdict.Answer.{Answer}
 use Rattle.ca_claims.specs.declared.verdict.Verdict.{Verdict}
 use Rattle.ca_claims.specs.declared.verdict.Verdict.TheVariants.{Yes, No, Refused}
+use Rattle.ca_claims.specs.declared.verdict.PatternFault.{PatternFault}
+use Rattle.ca_claims.specs.declared.verdict.PatternFault.TheVariants as pattern_fault
 use Rattle.ca_claims.specs.declared.verdict.Cause.{Cause}
-use Rattle.ca_claims.specs.declared.verdict.Cause.TheVariants.{NoFile, NotYet, BadRule, Memory}
-use Rattle.ca_claims.specs.Text.{Claim, pattern_of}
+use Rattle.ca_claims.specs.declared.verdict.Cause.TheVariants.{NoFile, BadPattern, BadRule, StateTooLarge, MixedRules, Memory}
+use Rattle.ca_claims.specs.Text.{Claim, Still, Oscillator, Spaceship, Becomes, patterns_of}
 use Rattle.ca_claims.specs.Means.{bytes_at, Means}
 use Rattle.ca_claims.specs.Truth.{IsTrueClaim, IsReason}
 
--- the bytes are a text of the first form (this goes out with the whole reader)
+-- the bytes mean a pattern and pass no limit
 abbrev pub IsReadable : List ℕ → Type 0
-IsReadable bytes = (rule_text : List ℕ) × (items : List Item) × IsFirstForm bytes rule_text items
+IsReadable bytes = (file : rle.File) × rle.IsFile bytes file × IsWithinLimits file
 
--- the first cause of a refusal that holds: the pattern's file isn't there, or it isn't read yet, or its rule text has this
--- fault; want of memory may come at any time
-abbrev pub HasCause : List (List ℕ × List ℕ) → Claim → Cause → Type 0
-HasCause files claim NoFile = bytes_at files (pattern_of claim) ≡ None
-HasCause files claim NotYet = (bytes : List ℕ) × (bytes_at files (pattern_of claim) ≡ Some bytes) × (IsReadable bytes → ⊥)
-HasCause files claim (BadRule fault) = (bytes : List ℕ) × (cells : Picture) × (rule_text : List ℕ) × (generation : ℕ)
-    × (bytes_at files (pattern_of claim) ≡ Some bytes) × IsReadable bytes × Means bytes cells rule_text generation × IsFaultOf rule_text fault
-HasCause files claim Memory = Unit {0}
+-- the fault for which the bytes of a pattern aren't read; want of memory is none of them
+abbrev pub IsPatternFault : List ℕ → PatternFault → Type 0
+IsPatternFault bytes (pattern_fault.Rle fault) = (fault ≢ rle_fault.Memory) × rle_faults.IsFaultOf bytes fault
+IsPatternFault bytes pattern_fault.Memory = ⊥
 
--- the pattern's file is there and is read, and means these cells under this rule
-pub record IsJudged (files : List (List ℕ × List ℕ)) (claim : Claim) (cells : Picture) (rule : BsRule) : Type 0 where
+-- the file of a path was handed in, is read, and means these cells under this rule text
+pub record IsRead (files : List (List ℕ × List ℕ)) (path : List ℕ) (cells : Picture) (rule_text : List ℕ) : Type 0 where
   pub bytes : List ℕ
-  pub rule_text : List ℕ
   pub generation : ℕ
-  pub at_path : bytes_at files (pattern_of claim) ≡ Some bytes
+  pub at_path : bytes_at files path ≡ Some bytes
   pub readable : IsReadable bytes
   pub means : Means bytes cells rule_text generation
-  pub names : Names rule_text rule
 
--- a verdict is true: a yes of a claim that is true of the plane that the file means, a no of one that is false, with the
+-- and the rule text names this rule
+abbrev pub IsRuled : List (List ℕ × List ℕ) → List ℕ → Picture → BsRule → Type 0
+IsRuled files path cells rule = (rule_text : List ℕ) × IsRead files path cells rule_text × Names rule_text rule
+
+-- some cell has a state that isn't below 2, the number of states of a B/S rule
+abbrev pub HasLargeState : Picture → Type 0
+HasLargeState cells = (x : ℤ) × (y : ℤ) × (2 ≤ cell cells x y)
+
+-- no cell has
+abbrev pub HasSmallStates : Picture → Type 0
+HasSmallStates cells = (x y : ℤ) → cell cells x y < 2
+
+-- two rules are the same: one neighbourhood, and the same counts for birth and for survival
+abbrev pub IsSameRule : BsRule → BsRule → Type 0
+IsSameRule r s = (r.hood ≡ s.hood) × (r.birth ≡ s.birth) × (r.survival ≡ s.survival)
+
+-- what is asked of a pattern's path before a cause can hold: its file is there; it reads; its rule is named; its states are small
+abbrev pub IsThere : List (List ℕ × List ℕ) → List ℕ → Type 0
+IsThere files path = (bytes : List ℕ) × (bytes_at files path ≡ Some bytes)
+
+abbrev pub Reads : List (List ℕ × List ℕ) → List ℕ → Type 0
+Reads files path = (bytes : List ℕ) × (bytes_at files path ≡ Some bytes) × IsReadable bytes
+
+abbrev pub HasRule : List (List ℕ × List ℕ) → List ℕ → Type 0
+HasRule files path = (cells : Picture) × (rule : BsRule) × IsRuled files path cells rule
+
+abbrev pub IsSmall : List (List ℕ × List ℕ) → List ℕ → Type 0
+IsSmall files path = (cells : Picture) × (rule : BsRule) × IsRuled files path cells rule × HasSmallStates cells
+
+-- this holds of one of the paths
+abbrev pub SomePath : (List ℕ → Type 0) → List (List ℕ) → Type 0
+SomePath Holds [] = ⊥
+SomePath Holds (p ∷ ps) = Holds p ⊎ SomePath Holds ps
+
+-- this is bad of one of the paths, and those before it are good
+abbrev pub FirstPath : (List ℕ → Type 0) → (List ℕ → Type 0) → List (List ℕ) → Type 0
+FirstPath Good Bad [] = ⊥
+FirstPath Good Bad (p ∷ ps) = Bad p ⊎ (Good p × FirstPath Good Bad ps)
+
+-- the claim is about two patterns with different rules
+abbrev pub HasMixedRules : List (List ℕ × List ℕ) → Claim → Type 0
+HasMixedRules files (Still pattern) = ⊥
+HasMixedRules files (Oscillator pattern period) = ⊥
+HasMixedRules files (Spaceship pattern period dx dy) = ⊥
+HasMixedRules files (Becomes pattern generations other) = (cells : Picture) × (rule : BsRule) × (other_cells : Picture) × (other_rule : BsRule)
+    × IsRuled files pattern cells rule × IsRuled files other other_cells other_rule × (IsSameRule rule other_rule → ⊥)
+
+-- the first cause of a refusal that holds of a claim, in the order of these lines; want of memory may come at any time
+abbrev pub HasCause : List (List ℕ × List ℕ) → Claim → Cause → Type 0
+HasCause files claim NoFile = SomePath (λ p. bytes_at files p ≡ None) (patterns_of claim)
+HasCause files claim (BadPattern fault) = AllByRecursion (IsThere files) (patterns_of claim)
+    × FirstPath (Reads files) (λ p. (bytes : List ℕ) × (bytes_at files p ≡ Some bytes) × IsPatternFault bytes fault) (patterns_of claim)
+HasCause files claim (BadRule fault) = AllByRecursion (Reads files) (patterns_of claim)
+    × FirstPath (HasRule files) (λ p. (cells : Picture) × (text : List ℕ) × IsRead files p cells text × rules.IsFaultOf text fault) (patterns_of claim)
+HasCause files claim StateTooLarge = AllByRecursion (HasRule files) (patterns_of claim)
+    × SomePath (λ p. (cells : Picture) × (rule : BsRule) × IsRuled files p cells rule × HasLargeState cells) (patterns_of claim)
+HasCause files claim MixedRules = AllByRecursion (IsSmall files) (patterns_of claim) × HasMixedRules files claim
+HasCause files claim Memory = Unit {0}
+
+-- a pattern's file is there and is read, and means these cells, of small states, under this rule
+pub record IsGood (files : List (List ℕ × List ℕ)) (path : List ℕ) (cells : Picture) (rule : BsRule) : Type 0 where
+  pub ruled : IsRuled files path cells rule
+  pub small : HasSmallStates cells
+
+-- no cause holds: the claim's patterns mean these cells under this rule; a claim about one pattern names no other
+abbrev pub IsJudged : List (List ℕ × List ℕ) → Claim → Picture → Picture → BsRule → Type 0
+IsJudged files (Still pattern) cells other rule = IsGood files pattern cells rule × (other ≡ [])
+IsJudged files (Oscillator pattern period) cells other rule = IsGood files pattern cells rule × (other ≡ [])
+IsJudged files (Spaceship pattern period dx dy) cells other rule = IsGood files pattern cells rule × (other ≡ [])
+IsJudged files (Becomes pattern generations other_pattern) cells other rule =
+    IsGood files pattern cells rule × (other_rule : BsRule) × IsGood files other_pattern other other_rule × IsSameRule rule other_rule
+
+-- a verdict is true: a yes of a claim that is true of the planes that the files mean, a no of one that is false, with the
 -- reason, and a refusal with its cause; a yes and a no come only where no cause holds
 abbrev pub IsTrueVerdict : List (List ℕ × List ℕ) → Claim → Verdict → Type 0
-IsTrueVerdict files claim Yes = (cells : Picture) × (rule : BsRule) × IsJudged files claim cells rule
-    × IsTrueClaim (next_of rule.hood rule.birth rule.survival) cells claim
-IsTrueVerdict files claim (No why) = (cells : Picture) × (rule : BsRule) × IsJudged files claim cells rule
-    × IsReason (next_of rule.hood rule.birth rule.survival) cells claim why
+IsTrueVerdict files claim Yes = (cells : Picture) × (other : Picture) × (rule : BsRule) × IsJudged files claim cells other rule
+    × IsTrueClaim (next_of rule.hood rule.birth rule.survival) cells other claim
+IsTrueVerdict files claim (No why) = (cells : Picture) × (other : Picture) × (rule : BsRule) × IsJudged files claim cells other rule
+    × IsReason (next_of rule.hood rule.birth rule.survival) cells other claim why
 IsTrueVerdict files claim (Refused cause) = HasCause files claim cause
 
 -- the answer has the number of the claim's line, and a true verdict

@@ -1,19 +1,41 @@
 -- Claim texts: which lines say what (our own format; docs/CLAIMS.md).
-use Rattle.std.specs.Prelude.{◌≡◌, ℕ, ◌+◌, List, [], ◌∷◌, ◌++◌, Bool, true, false, not, ◌==◌, Option, Some, None, IsSome, unwrap_or, codes, filter, if◌then◌else◌}
+use Rattle.std.specs.Prelude.{◌≡◌, ℕ, ◌+◌, ◌≤◌, ◌<◌, ◌^◌, ℤ, pos, neg_ℤ, ◌≤ℤ◌, List, [], ◌∷◌, ◌++◌, Bool, true, false, not, ◌==◌, Option, Some, None, IsSome, unwrap_or, codes, filter, if◌then◌else◌}
 use Rattle.std.specs.Str.{bytes_eq}
-use Rattle.ca_plane.specs.Bytes.{is_end_or, lines_of, words_of}
+use Rattle.std.specs.List.{AllByRecursion}
+use Rattle.ca_plane.specs.Bytes.{is_end_or, lines_of, words_of, AreDigits, IsInteger, value}
 
--- a claim about a pattern, which is given by its name in a text, and by the path of its file once names are resolved
+-- a claim about patterns, which are given by their names in a text, and by the paths of their files once names are resolved
 pub data Claim : Type 0 where
   Still : (pattern : List ℕ) → Claim
+  Oscillator : (pattern : List ℕ) (period : ℕ) → Claim
+  Spaceship : (pattern : List ℕ) (period : ℕ) (dx dy : ℤ) → Claim
+  Becomes : (pattern : List ℕ) (generations : ℕ) (other : List ℕ) → Claim
 
--- the pattern that a claim is about
-abbrev pub pattern_of : Claim → List ℕ
-pattern_of (Still pattern) = pattern
+-- the patterns that a claim is about
+abbrev pub patterns_of : Claim → List (List ℕ)
+patterns_of (Still pattern) = pattern ∷ []
+patterns_of (Oscillator pattern period) = pattern ∷ []
+patterns_of (Spaceship pattern period dx dy) = pattern ∷ []
+patterns_of (Becomes pattern generations other) = pattern ∷ other ∷ []
 
--- the claim about another pattern
-abbrev pub about : Claim → List ℕ → Claim
-about (Still pattern) other = Still other
+-- the claim about other patterns, each given by its own
+abbrev pub about : Claim → (List ℕ → List ℕ) → Claim
+about (Still pattern) f = Still (f pattern)
+about (Oscillator pattern period) f = Oscillator (f pattern) period
+about (Spaceship pattern period dx dy) f = Spaceship (f pattern) period dx dy
+about (Becomes pattern generations other) f = Becomes (f pattern) generations (f other)
+
+-- from -2^60 to 2^60
+abbrev pub IsShift : ℤ → Type 0
+IsShift d = (neg_ℤ (pos (2 ^ 60)) ≤ℤ d) × (d ≤ℤ pos (2 ^ 60))
+
+-- the numbers of a claim are within their limits: a period is at most 2^32 - 1, an oscillator's at least 2 and a spaceship's
+-- at least 1; a shift is at most 2^60 in each direction and not (0, 0); generations are at most 2^60
+abbrev pub HasGoodNumbers : Claim → Type 0
+HasGoodNumbers (Still pattern) = Unit {0}
+HasGoodNumbers (Oscillator pattern period) = (2 ≤ period) × (period < 2 ^ 32)
+HasGoodNumbers (Spaceship pattern period dx dy) = (1 ≤ period) × (period < 2 ^ 32) × IsShift dx × IsShift dy × ((dx ≡ pos 0) → (dy ≡ pos 0) → ⊥)
+HasGoodNumbers (Becomes pattern generations other) = generations ≤ 2 ^ 60
 
 -- what a line says: that a name is loaded from a path, or a claim
 pub data Line : Type 0 where
@@ -25,10 +47,17 @@ abbrev pub is_skipped : List (List ℕ) → Bool
 is_skipped [] = true
 is_skipped (w ∷ ws) = is_end_or (λ b. b == 35) w
 
--- `load NAME PATH` and `still NAME`, by their words
+-- what a line says by its words: `load NAME PATH`, `still NAME`, `oscillator NAME P`, `spaceship NAME P DX DY`, or
+-- `becomes NAME N NAME`
 abbrev pub WordsSay : List (List ℕ) → Line → Type 0
 WordsSay words (Load name path) = words ≡ codes "load" ∷ name ∷ path ∷ []
 WordsSay words (Claims (Still name)) = words ≡ codes "still" ∷ name ∷ []
+WordsSay words (Claims (Oscillator name period)) = (p : List ℕ) ×
+    (words ≡ codes "oscillator" ∷ name ∷ p ∷ []) × AreDigits p × (period ≡ value p)
+WordsSay words (Claims (Spaceship name period dx dy)) = (p : List ℕ) × (x : List ℕ) × (y : List ℕ) ×
+    (words ≡ codes "spaceship" ∷ name ∷ p ∷ x ∷ y ∷ []) × AreDigits p × (period ≡ value p) × IsInteger x dx × IsInteger y dy
+WordsSay words (Claims (Becomes name generations other)) = (n : List ℕ) ×
+    (words ≡ codes "becomes" ∷ name ∷ n ∷ other ∷ []) × AreDigits n × (generations ≡ value n)
 
 -- the path that a name is loaded from
 abbrev pub path_of : List Line → List ℕ → Option (List ℕ)
@@ -36,10 +65,14 @@ path_of [] name = None
 path_of (Load loaded path ∷ ls) name = if bytes_eq loaded name then Some path else path_of ls name
 path_of (Claims claim ∷ ls) name = path_of ls name
 
--- a name is loaded once, and a claim's name is loaded on an earlier line
+-- each of the names is loaded on one of the lines
+abbrev pub AreLoaded : List Line → List (List ℕ) → Type 0
+AreLoaded earlier names = AllByRecursion (λ n. IsSome (path_of earlier n)) names
+
+-- a name is loaded once, and a claim has good numbers, and its names are loaded on earlier lines
 abbrev pub IsAllowed : List Line → Line → Type 0
 IsAllowed earlier (Load name path) = path_of earlier name ≡ None
-IsAllowed earlier (Claims claim) = IsSome (path_of earlier (pattern_of claim))
+IsAllowed earlier (Claims claim) = HasGoodNumbers claim × AreLoaded earlier (patterns_of claim)
 
 -- lines that stand behind what earlier ones say, and what each of them says
 abbrev pub LinesSay : List Line → List (List ℕ) → List (Option Line) → Type 0
@@ -72,13 +105,13 @@ abbrev pub each_once : List (List ℕ) → List (List ℕ)
 each_once [] = []
 each_once (p ∷ ps) = p ∷ filter (λ q. not (bytes_eq q p)) (each_once ps)
 
--- the claims with the numbers of their lines, of which the first is n; each about the path that an earlier line loads
+-- the claims with the numbers of their lines, of which the first is n; each about the paths that earlier lines load
 abbrev pub claims_from : ℕ → List Line → List (Option Line) → List (ℕ × Claim)
 claims_from n earlier [] = []
 claims_from n earlier (None ∷ said) = claims_from (n + 1) earlier said
 claims_from n earlier (Some (Load name path) ∷ said) = claims_from (n + 1) (earlier ++ Load name path ∷ []) said
 claims_from n earlier (Some (Claims claim) ∷ said) =
-    (n, about claim (unwrap_or (path_of earlier (pattern_of claim)) [])) ∷ claims_from (n + 1) (earlier ++ Claims claim ∷ []) said
+    (n, about claim (λ name. unwrap_or (path_of earlier name) [])) ∷ claims_from (n + 1) (earlier ++ Claims claim ∷ []) said
 
 -- what a claim text asks: the paths of its files, each once, and its claims with the numbers of their lines
 pub record Asked : Type 0 where

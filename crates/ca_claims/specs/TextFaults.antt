@@ -2,8 +2,8 @@
 use Rattle.std.specs.Prelude.{◌≡◌, ℕ, ◌+◌, List, [], ◌∷◌, ◌++◌, length, false, Option, None, IsSome}
 use Rattle.ca_plane.specs.Bytes.{lines_of, words_of}
 use Rattle.ca_claims.specs.declared.fault.ClaimFault.{ClaimFault}
-use Rattle.ca_claims.specs.declared.fault.ClaimFault.TheVariants.{Syntax, UnknownName, NameTaken, Memory}
-use Rattle.ca_claims.specs.Text.{Claim, pattern_of, Line, Load, Claims, is_skipped, WordsSay, path_of, LinesSay, spoken}
+use Rattle.ca_claims.specs.declared.fault.ClaimFault.TheVariants.{Syntax, Number, UnknownName, NameTaken, Memory}
+use Rattle.ca_claims.specs.Text.{Claim, patterns_of, HasGoodNumbers, Line, Load, Claims, is_skipped, WordsSay, path_of, AreLoaded, LinesSay, spoken}
 
 -- behind good lines stands a line, the n-th of the text, of whose words this holds after what the earlier lines say
 pub record HasLine (bytes : List ℕ) (n : ℕ) (P : List Line → List (List ℕ) → Type 0) : Type 0 where
@@ -16,13 +16,18 @@ pub record HasLine (bytes : List ℕ) (n : ℕ) (P : List Line → List (List �
   pub number : n ≡ length before + 1
   pub holds : P (spoken said) (words_of line)
 
--- the words say nothing that a line may say: another keyword, or another count of words
+-- the words say nothing that a line may say: another keyword, another count of words, or no number where one is wanted
 abbrev pub AreMisspelled : List Line → List (List ℕ) → Type 0
 AreMisspelled earlier words = (is_skipped words ≡ false) × ((line : Line) → WordsSay words line → ⊥)
 
--- a claim about a name that no earlier line loads
+-- a claim with a number outside its limits
+abbrev pub HaveBadNumber : List Line → List (List ℕ) → Type 0
+HaveBadNumber earlier words = (is_skipped words ≡ false) × (claim : Claim) × WordsSay words (Claims claim) × (HasGoodNumbers claim → ⊥)
+
+-- a claim with good numbers, about a name that no earlier line loads
 abbrev pub AskUnknown : List Line → List (List ℕ) → Type 0
-AskUnknown earlier words = (is_skipped words ≡ false) × (claim : Claim) × WordsSay words (Claims claim) × (path_of earlier (pattern_of claim) ≡ None)
+AskUnknown earlier words =
+    (is_skipped words ≡ false) × (claim : Claim) × WordsSay words (Claims claim) × HasGoodNumbers claim × (AreLoaded earlier (patterns_of claim) → ⊥)
 
 -- a name that an earlier line loads is loaded again
 abbrev pub LoadTaken : List Line → List (List ℕ) → Type 0
@@ -32,6 +37,7 @@ LoadTaken earlier words =
 -- the text's first fault, with the number of its line; want of memory may come at any time
 abbrev pub IsFirstFault : List ℕ → ClaimFault → Type 0
 IsFirstFault bytes (Syntax n) = HasLine bytes n AreMisspelled
+IsFirstFault bytes (Number n) = HasLine bytes n HaveBadNumber
 IsFirstFault bytes (UnknownName n) = HasLine bytes n AskUnknown
 IsFirstFault bytes (NameTaken n) = HasLine bytes n LoadTaken
 IsFirstFault bytes Memory = Unit {0}

@@ -1,5 +1,6 @@
 //! Verdicts on claims.
 
+use ca_rle::RleFault;
 use ca_rule::RuleFault;
 use thiserror::Error;
 
@@ -16,20 +17,41 @@ pub enum Why {
         claimed: u8,
         gens: u64,
     },
+    /// The claimed cells stand after the claimed period, but after `m` generations, fewer than that, the pattern was there
+    /// already, moved by (`dx`, `dy`); and after no fewer. An oscillator's is moved by (0, 0).
+    Earlier { m: u64, dx: i64, dy: i64 },
 }
 
-/// Why a claim isn't judged: the first of these that holds, but that want of memory may come before any other.
+/// Why a pattern wasn't read.
+#[derive(Clone, Copy, Debug, PartialEq, Eq, Error)]
+pub enum PatternFault {
+    /// The fault of an RLE text.
+    #[error("rle: {0}")]
+    Rle(RleFault),
+    /// A growth was refused.
+    #[error("out of memory")]
+    Memory,
+}
+
+/// Why a claim isn't judged: the first of these that holds, but that want of memory may come before any other. Of two
+/// patterns the claim's first goes before the other in each of them.
 #[derive(Clone, Copy, Debug, PartialEq, Eq, Error)]
 pub enum Cause {
-    /// No file with the pattern's path was handed in.
+    /// No file with the path of one of the patterns was handed in.
     #[error("no file")]
     NoFile,
-    /// The pattern's file is of a form that isn't read yet.
-    #[error("not yet")]
-    NotYet,
-    /// The pattern's rule text names no rule.
+    /// A pattern's file doesn't read. Its fault is never want of memory here.
+    #[error("{0}")]
+    BadPattern(PatternFault),
+    /// A pattern's rule text names no rule.
     #[error("{0}")]
     BadRule(RuleFault),
+    /// A pattern has a cell whose state isn't below the number of its rule's states.
+    #[error("state too large")]
+    StateTooLarge,
+    /// The two patterns have different rules.
+    #[error("mixed rules")]
+    MixedRules,
     /// A growth was refused.
     #[error("out of memory")]
     Memory,

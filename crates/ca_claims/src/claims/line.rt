@@ -1,24 +1,25 @@
 //! A claim of a text, with the number of its line.
 
-ghost use Rattle.std.specs.Prelude.{◌≡◌};
-ghost use Rattle.ca_claims.specs.Lines.{pattern_index};
-
 /// What is claimed. A pattern is given by the index of its path among the text's paths.
 #[derive(Clone, Copy, Debug, PartialEq, Eq)]
 pub(crate) enum ClaimKind {
     /// The pattern is live, and one generation on it is what it was.
     Still { pattern: usize },
-}
-
-impl ClaimKind {
-    /// The index of the path of the pattern that the claim is about.
-    pub(crate) fn pattern(self) -> usize
-        ensures { result ≡ pattern_index self }
-    {
-        match self {
-            ClaimKind::Still { pattern } => pattern,
-        }
-    }
+    /// The pattern is live, it is back after the period, and at no time before that.
+    Oscillator { pattern: usize, period: u64 },
+    /// The pattern is live, after the period it is moved by the shift, and at no time before that is it back, however moved.
+    Spaceship {
+        pattern: usize,
+        period: u64,
+        dx: i64,
+        dy: i64,
+    },
+    /// After the generations the pattern's plane is that of the other pattern, cell for cell.
+    Becomes {
+        pattern: usize,
+        generations: u64,
+        other: usize,
+    },
 }
 
 /// A claim, and the number of its line in the text. Lines are counted from 1.
