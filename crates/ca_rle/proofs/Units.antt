@@ -1,5 +1,5 @@
 -- What stands at the front of bytes, by the digits there and what is found behind them.
-use Rattle.std.proofs.Common.{◌≡◌, ◌≢◌, ℕ, ◌-◌, ◌<◌, ◌^◌, min, eqb, ne_eqb, eqb-true, Bool, true, false, cond, ◌==◌, List, [], ◌∷◌, ◌++◌, length, Some, None, is_some, refl, sym, ap, ◌∙◌, arith}
+use Rattle.std.proofs.Common.{◌≡◌, ℕ, ◌-◌, ◌<◌, ◌^◌, min, eqb, ne_eqb, eqb-true, Bool, true, false, cond, ◌==◌, List, [], ◌∷◌, ◌++◌, length, Some, None, is_some, refl, sym, ap, ◌∙◌, arith}
 use Rattle.std.proofs.lemmas.Option.{none-some}
 use Rattle.std.proofs.lemmas.List.{nil_from_length}
 use Rattle.ca_plane.specs.Bytes.{is_digit, front, rest, value}
@@ -44,21 +44,20 @@ plain_fault bytes digits behind f s none e =
 
 -- ---- behind digits
 
--- the number that the digits write, where it isn't 0
+-- the count that digits write
 counts : (digits : List ℕ) → eqb (length digits) 0 ≡ false → count_of digits ≡ value digits
 counts [] some = absurd cc
 counts (d ∷ ds) some = refl
 
 -- a tag is an item that counts so often
 pub counted_item : (bytes digits behind letters more : List ℕ) (n : ℕ) (t : Tag) → IsSplit bytes digits behind → eqb (length digits) 0 ≡ false
-    → n ≡ min (value digits) (2 ^ 64 - 1) → n ≢ 0 → tag_of letters ≡ Some t → behind_white InLine behind ≡ letters ++ more
+    → (0 < value digits) × (n ≡ min (value digits) (2 ^ 64 - 1)) → tag_of letters ≡ Some t → behind_white InLine behind ≡ letters ++ more
     → IsItemAtFront bytes (record { count = n; tag = t }) more
-counted_item bytes digits behind letters more n t s some number positive tag e =
+counted_item bytes digits behind letters more n t s some number tag e =
     let letters_are : behind_white InLine (rest is_digit (behind_white InLine bytes)) ≡ letters ++ more = ap (behind_white InLine) (sym s.behind_is) ∙ e in
     let count : count_of (front is_digit (behind_white InLine bytes)) ≡ value digits = ap count_of (sym s.digits_are) ∙ counts digits some in
     let read : item_at bytes ≡ Some (record { count = value digits; tag = t }, more) = rw (count, letters_are, tag_at_is letters more t tag) refl in
-    let low : 0 < value digits = omega (arith, number, positive) in
-    (record { count = value digits; tag = t }, run_found bytes more more (record { count = value digits; tag = t }) [] read low refl, ap (λ (m : ℕ). let made : Item = record { count = m; tag = t } in made) number)
+    (record { count = value digits; tag = t }, run_found bytes more more (record { count = value digits; tag = t }) [] read number.0 refl, ap (λ (m : ℕ). let made : Item = record { count = m; tag = t } in made) number.1)
 
 -- the fault of digits that aren't none
 digits_fault : (digits behind : List ℕ) → eqb (length digits) 0 ≡ false → count_fault digits behind ≡ (cond (value digits == 0) (Some Syntax) (tag_fault true (behind_white InLine behind)))
@@ -69,14 +68,12 @@ fault_is : (bytes digits behind : List ℕ) → IsSplit bytes digits behind → 
 fault_is bytes digits behind s = rw (s.digits_are, s.behind_is) refl
 
 -- a count of 0 is a fault
-pub zero_fault : (bytes digits behind : List ℕ) (n : ℕ) → IsSplit bytes digits behind → eqb (length digits) 0 ≡ false → n ≡ min (value digits) (2 ^ 64 - 1) → n ≡ 0 → item_fault bytes ≡ Some Syntax
-zero_fault bytes digits behind n s some number none =
-    let e : value digits ≡ 0 = omega (arith, number, none) in
-    fault_is bytes digits behind s ∙ digits_fault digits behind some ∙ rw e refl
+pub zero_fault : (bytes digits behind : List ℕ) → IsSplit bytes digits behind → eqb (length digits) 0 ≡ false → value digits ≡ 0 → item_fault bytes ≡ Some Syntax
+zero_fault bytes digits behind s some none = fault_is bytes digits behind s ∙ digits_fault digits behind some ∙ rw none refl
 
-behind_count : (bytes digits behind : List ℕ) (n : ℕ) → IsSplit bytes digits behind → eqb (length digits) 0 ≡ false → n ≡ min (value digits) (2 ^ 64 - 1) → n ≢ 0 → item_fault bytes ≡ tag_fault true (behind_white InLine behind)
-behind_count bytes digits behind n s some number positive =
-    let e : (value digits == 0) ≡ false = ne_eqb (value digits) 0 (λ z. positive (omega (arith, number, z))) in
+behind_count : (bytes digits behind : List ℕ) → IsSplit bytes digits behind → eqb (length digits) 0 ≡ false → 0 < value digits → item_fault bytes ≡ tag_fault true (behind_white InLine behind)
+behind_count bytes digits behind s some number =
+    let e : (value digits == 0) ≡ false = ne_eqb (value digits) 0 (λ z. omega (arith, number, z)) in
     fault_is bytes digits behind s ∙ digits_fault digits behind some ∙ rw e refl
 
 -- a fault of a tag without a count is its fault behind one too
@@ -90,11 +87,11 @@ counted_fault (b ∷ bs) f e = go (b == 33) e
     go false h = h
 
 -- the tag's fault is the item's
-pub counted_tag_fault : (bytes digits behind seen : List ℕ) (n : ℕ) (f : RleFault) → IsSplit bytes digits behind → eqb (length digits) 0 ≡ false → n ≡ min (value digits) (2 ^ 64 - 1) → n ≢ 0
+pub counted_tag_fault : (bytes digits behind seen : List ℕ) (f : RleFault) → IsSplit bytes digits behind → eqb (length digits) 0 ≡ false → 0 < value digits
     → seen ≡ behind_white InLine behind → tag_fault false seen ≡ Some f → item_fault bytes ≡ Some f
-counted_tag_fault bytes digits behind seen n f s some number positive e h = behind_count bytes digits behind n s some number positive ∙ ap (tag_fault true) (sym e) ∙ counted_fault seen f h
+counted_tag_fault bytes digits behind seen f s some number e h = behind_count bytes digits behind s some number ∙ ap (tag_fault true) (sym e) ∙ counted_fault seen f h
 
 -- and `!` takes no count
-pub counted_end : (bytes digits behind seen ignored : List ℕ) (n : ℕ) → IsSplit bytes digits behind → eqb (length digits) 0 ≡ false → n ≡ min (value digits) (2 ^ 64 - 1) → n ≢ 0
+pub counted_end : (bytes digits behind seen ignored : List ℕ) → IsSplit bytes digits behind → eqb (length digits) 0 ≡ false → 0 < value digits
     → seen ≡ behind_white InLine behind → seen ≡ 33 ∷ ignored → item_fault bytes ≡ Some Syntax
-counted_end bytes digits behind seen ignored n s some number positive e h = behind_count bytes digits behind n s some number positive ∙ ap (tag_fault true) (sym e ∙ h)
+counted_end bytes digits behind seen ignored s some number e h = behind_count bytes digits behind s some number ∙ ap (tag_fault true) (sym e ∙ h)

@@ -1,7 +1,7 @@
 //! One item of an RLE text, read from the front of its bytes. Nothing here takes memory.
 
-ghost use Rattle.std.specs.Prelude.{◌≡◌, ℕ, ◌≤◌, ◌-◌, List, [], ◌∷◌, ◌++◌, Some, false, not, length, MatchOption, MatchResult, IsTrue};
-ghost use Rattle.ca_plane.specs.Bytes.{is_blank, is_end_or};
+ghost use Rattle.std.specs.Prelude.{◌≡◌, ℕ, ◌<◌, ◌≤◌, ◌-◌, ◌^◌, min, List, [], ◌∷◌, ◌++◌, Some, false, not, length, MatchOption, MatchResult, IsTrue};
+ghost use Rattle.ca_plane.specs.Bytes.{is_blank, is_digit, is_end_or, Every, value};
 ghost use Rattle.ca_rle.specs.declared.item.Item.{Item};
 ghost use Rattle.ca_rle.specs.Items.{AtStart, InLine, is_letter, is_prefix, prefixed_state, tag_of, Run, IsEnd};
 ghost use Rattle.ca_rle.specs.Faults.{behind_white, letter_fault, tag_fault, item_fault};
@@ -98,6 +98,18 @@ fn split_count(bytes: &[u8]) -> (&[u8], &[u8])
     split_digits(behind_white(bytes))
 }
 
+/// The count that digits write, or nothing where it is 0. At 2^64 - 1 it stays.
+fn count(digits: &[u8]) -> Option<u64>
+    requires { Every is_digit digits.now }
+    ensures { MatchOption result (value digits.now ≡ 0) (λ n. (0 < value digits.now) × (n ≡ min (value digits.now) (2 ^ 64 - 1))) }
+{
+    let count = number(digits);
+    if count == 0 {
+        return None;
+    }
+    Some(count)
+}
+
 /// The item that stands at the front and the bytes behind it, or nothing where the pattern ends there.
 pub(crate) fn next_item(bytes: &[u8]) -> Result<Option<(Item, &[u8])>, RleFault>
     ensures { MatchResult result (λ o. MatchOption o (IsEnd bytes.now) (λ r. (j : Item) × Run bytes.now (j ∷ []) r.1.now × (r.0 ≡ kept j)))
@@ -110,10 +122,9 @@ pub(crate) fn next_item(bytes: &[u8]) -> Result<Option<(Item, &[u8])>, RleFault>
         };
         return Ok(Some((Item { count: 1, tag }, rest)));
     }
-    let count = number(digits);
-    if count == 0 {
+    let Some(count) = count(digits) else {
         return Err(RleFault::Syntax);
-    }
+    };
     let Some((tag, rest)) = next_tag(behind_white(behind))? else {
         return Err(RleFault::Syntax);
     };
