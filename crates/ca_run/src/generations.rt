@@ -29,6 +29,7 @@ pub fn step<A: Automaton>(alloc: Global, rule: &A, plane: &Plane) -> Result<Plan
     ensures sparse { IfOk result (λ p. IsSparse p) }
     ensures within { IfOk result (λ p. LeavesReach (A.next_of rule.now) plane.now 0 → ⊥) }
     ensures range { IsErrOf result RunFault.Range → LeavesReach (A.next_of rule.now) plane.now 0 }
+    ensures judged { LeavesReach (A.next_of rule.now) plane.now 0 → IsErrOf result RunFault.Range }
 {
     if !is_all_in_reach(plane) {
         return Err(RunFault::Range);
@@ -110,6 +111,7 @@ pub fn steps<A: Automaton>(alloc: Global, rule: &A, plane: &Plane, n: u64) -> Re
     ensures sparse { IfOk result (λ p. IsSparse p) }
     ensures within { IfOk result (λ p. (m : ℕ) → m < n → LeavesReach (A.next_of rule.now) plane.now m → ⊥) }
     ensures range { IsErrOf result RunFault.Range → (m : ℕ) × (m < n) × LeavesReach (A.next_of rule.now) plane.now m }
+    ensures judged { 0 < n → LeavesReach (A.next_of rule.now) plane.now 0 → IsErrOf result RunFault.Range }
 {
     if n == 0 {
         // What a plane lists is sparse, and so is its copy.
