@@ -104,7 +104,12 @@ fn next_plane<A: Automaton>(alloc: Global, rule: &A, cells: &[(Point, u8)]) -> R
 ///
 /// `Range` just where before one of the n steps a live cell stands outside -(2^62 - 2) to 2^62 - 2, and the steps before it
 /// had memory; else fails where there is no memory for a plane.
-pub fn steps<A: Automaton>(alloc: Global, rule: &A, plane: &Plane, n: u64) -> Result<Plane, RunFault>
+pub fn steps<A: Automaton>(
+    alloc: Global,
+    rule: &A,
+    plane: &Plane,
+    n: u64,
+) -> Result<Plane, RunFault>
     requires { All (λ e. e.1 < A.state_count rule.now) plane.now }
     ensures after { IfOk result (λ p. (x y : ℤ) → cell p x y ≡ after (A.next_of rule.now) plane.now n x y) }
     ensures states { IfOk result (λ p. All (λ e. e.1 < A.state_count rule.now) p) }

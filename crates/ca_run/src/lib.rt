@@ -8,6 +8,5 @@ mod stream;
 pub use fault::RunFault;
 pub use generations::{step, steps};
 
-
 #[cfg(test)]
 mod tests;

@@ -91,10 +91,18 @@ fn a_glider_moves_by_one_after_four(rt: HostRuntime) -> Result<(), Fail> {
 fn a_step_is_taken_up_to_the_reach(rt: HostRuntime) -> Result<(), Fail> {
     let near = plane_of(rt.alloc(), &[(REACH, -REACH), (-REACH, REACH)])?;
     assert!(rt; step(rt.alloc(), &Life, &near)?.is_empty());
-    for (x, y) in [(REACH + 1, 0), (-REACH - 1, 0), (0, REACH + 1), (0, -REACH - 1)] {
+    for (x, y) in [
+        (REACH + 1, 0),
+        (-REACH - 1, 0),
+        (0, REACH + 1),
+        (0, -REACH - 1),
+    ] {
         let far = plane_of(rt.alloc(), &[(0, 0), (x, y)])?;
         assert_eq!(rt; step(rt.alloc(), &Life, &far).err(), Some(RunFault::Range));
-        assert_eq!(rt; steps(rt.alloc(), &Life, &far, 1).err(), Some(RunFault::Range));
+        assert_eq!(rt;
+            steps(rt.alloc(), &Life, &far, 1).err(),
+            Some(RunFault::Range)
+        );
         assert!(rt; steps(rt.alloc(), &Life, &far, 0)?.same(&far));
     }
     Ok(())
@@ -105,6 +113,9 @@ fn generations_leave_the_reach(rt: HostRuntime) -> Result<(), Fail> {
     let rows = plane_of(rt.alloc(), &[(5, REACH), (6, REACH), (7, REACH)])?;
     let next = steps(rt.alloc(), &Life, &rows, 1)?;
     assert_eq!(rt; next.get(Point { y: REACH + 1, x: 6 }), 1);
-    assert_eq!(rt; steps(rt.alloc(), &Life, &rows, 2).err(), Some(RunFault::Range));
+    assert_eq!(rt;
+        steps(rt.alloc(), &Life, &rows, 2).err(),
+        Some(RunFault::Range)
+    );
     Ok(())
 }

@@ -1,4 +1,4 @@
-use Rattle.std.proofs.Common.{[], arith}
+use Rattle.std.proofs.Common.{arith}
 use Rattle.ca_plane.proofs.Pictures.{IsSparse-none}
 use Rattle.ca_run.proofs.Reached.{below_Sets, all_below}
 use Rattle.ca_run.proofs.tests.plane_of.Goals as goal
