@@ -1,18 +1,17 @@
 -- A plane written place by place in rising order, from the nine pictures that show the cells round each place.
-use Rattle.std.proofs.Common.{◌≡◌, ◌≢◌, ℕ, ◌+◌, ◌<◌, ◌≤◌, List, [], ◌∷◌, map, length, refl, sym, ap, ◌∙◌, subst, inl, inr, ◌⊎◌, arith, Bool, true, false, ◌&&◌, Option, Some, None, replicate, sum}
+use Rattle.std.proofs.Common.{◌≡◌, ℕ, ◌+◌, ◌<◌, ◌≤◌, List, [], ◌∷◌, length, refl, sym, ap, ◌∙◌, inl, inr, ◌⊎◌, arith, Bool, true, false, ◌&&◌, None, replicate}
 use Rattle.std.specs.Prelude.{ℤ, pos, negsuc, ◌+ℤ◌, ◌-ℤ◌, if◌then◌else◌}
 use Rattle.std.specs.List.{AllByRecursion}
 use Rattle.std.specs.Ordering.{int_eq}
 use Rattle.std.proofs.lemmas.Int.{ints}
-use Rattle.std.proofs.lemmas.Bool.{cases_Bool, cases_eq, cond-false, cond-true}
+use Rattle.std.proofs.lemmas.Bool.{cases_Bool, cases_eq, cond-false}
 use Rattle.ca_plane.specs.declared.point.Point.{Point}
 use Rattle.ca_plane.specs.Plane.{Picture, cell, shifted}
 use Rattle.ca_plane.specs.Generations.{around, after}
 use Rattle.ca_plane.specs.Change.{Sets}
-use Rattle.ca_plane.specs.Sparse.{IsSparse}
 use Rattle.ca_plane.proofs.Pictures.{place-from_true, cell-Sets}
 use Rattle.ca_plane.proofs.Shifts.{cell-shifted}
-use Rattle.ca_run.specs.Streams.{shown, AllQuiet, IsFirstPoint, IsFirst, IsWithout, AreWithout}
+use Rattle.ca_run.specs.Streams.{shown, AllQuiet, IsFirstPoint, IsFirst, AreWithout}
 
 -- ---- nine pictures
 

@@ -1,10 +1,11 @@
 -- Cells that are in reach of a step, and those that are not.
-use Rattle.std.proofs.Common.{◌≡◌, ◌≢◌, ℕ, ◌+◌, ◌<◌, ◌≤◌, List, [], ◌∷◌, length, suc, zero, refl, sym, ap, ◌∙◌, subst, arith, true, false, get_or, add-one, below_more}
-use Rattle.std.specs.Prelude.{ℤ, pos, ◌+ℤ◌, ◌-ℤ◌}
+use Rattle.std.proofs.Common.{◌≡◌, ℕ, ◌+◌, ◌<◌, ◌≤◌, List, [], ◌∷◌, length, refl, sym, ap, ◌∙◌, subst, arith, Bool, true, false, get_or, add-one, below_more}
+use Rattle.std.specs.Prelude.{ℤ, pos, ◌+ℤ◌, ◌-ℤ◌, if◌then◌else◌}
 use Rattle.std.specs.List.{All, AllByRecursion}
 use Rattle.std.proofs.lemmas.List.Elements.{All-contains, All-cons, All-nil}
 use Rattle.ca_plane.specs.declared.point.Point.{Point}
 use Rattle.ca_plane.specs.Plane.{Picture, cell}
+use Rattle.ca_plane.specs.Change.{Sets}
 use Rattle.ca_plane.specs.Generations.{around, after}
 use Rattle.ca_plane.specs.Sparse.{IsSparse}
 use Rattle.ca_plane.proofs.Pictures.{IsListed, Contains-cell, cell-listed, cell-All}
@@ -29,15 +30,14 @@ all_of P (x ∷ xs) all = All-cons P x xs all.0 (all_of P xs all.1)
 around_all : (P : ℕ → Type 0) (f : ℤ → ℤ → ℕ) (x y : ℤ) → ((a b : ℤ) → P (f a b)) → All P (around f x y)
 around_all P f x y h = all_of P (around f x y) (h _ _, (h _ _, (h _ _, (h _ _, (h _ _, (h _ _, (h _ _, (h _ _, (h _ _, tt)))))))))
 
+-- a sparse picture that shows states below n lists such states
+pub all_below : (p : Picture) (n : ℕ) → IsSparse p → ((x y : ℤ) → cell p x y < n) → All (λ e. e.1 < n) p
+all_below p n sparse below = λ k d l. let e = get_or p k d in subst (λ s. s < n) (cell-listed p sparse k d l) (below e.0.x e.0.y)
+
 -- a sparse picture that shows the next states lists states below n, where states below n lead to states below n
 pub states_after : (next : List ℕ → ℕ) (p q : Picture) (n : ℕ) → ((nine : List ℕ) → length nine ≡ 9 → All (λ s. s < n) nine → next nine < n) → 0 < n → All (λ e. e.1 < n) p → IsSparse q → ((x y : ℤ) → cell q x y ≡ after next p 1 x y) → All (λ e. e.1 < n) q
-states_after next p q n closed some states sparse shows = λ k d l.
-    below k d l
-  where
-    below : (k : ℕ) (d : Point × ℕ) (l : k < length q) → (get_or q k d).1 < n
-    below k d l =
-        let e = get_or q k d in
-        subst (λ s. s < n) (sym (shows e.0.x e.0.y) ∙ cell-listed q sparse k d l) (closed (around (cell p) e.0.x e.0.y) refl (around_all (λ s. s < n) (cell p) e.0.x e.0.y (λ a b. cell-All (λ s. s < n) p a b some states)))
+states_after next p q n closed some states sparse shows =
+    all_below q n sparse (λ x y. subst (λ s. s < n) (sym (shows x y)) (closed (around (cell p) x y) refl (around_all (λ s. s < n) (cell p) x y (λ a b. cell-All (λ s. s < n) p a b some states))))
 
 -- ---- generations, one after another
 
@@ -65,3 +65,13 @@ within_one_more P n before now m less = below_more P n before now m less
 -- nor does the first
 pub within_first : (P : ℕ → Type 0) → P 0 → (m : ℕ) → m < 1 → P m
 within_first P now m less = let zero_only : 0 ≡ m = omega arith in subst P zero_only now
+
+-- ---- states below a bound
+
+-- a state below n is written, so all states stay below n
+pub below_Sets : (p q : Picture) (at : Point) (s n : ℕ) → Sets p q at s → s < n → ((x y : ℤ) → cell p x y < n) → (x y : ℤ) → cell q x y < n
+below_Sets p q at s n sets low below x y = subst (λ t. t < n) (sym (sets x y)) (chosen _ (cell p x y) (below x y))
+  where
+    chosen : (b : Bool) (v : ℕ) → v < n → (if b then s else v) < n
+    chosen true v less = low
+    chosen false v less = less

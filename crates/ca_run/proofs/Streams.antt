@@ -1,5 +1,5 @@
 -- Pictures read side by side: their first point, and the cells taken there.
-use Rattle.std.proofs.Common.{◌≡◌, ◌≢◌, ℕ, ◌<◌, ◌≤◌, List, [], ◌∷◌, ◌++◌, map, length, refl, sym, ap, ◌∙◌, subst, inl, inr, ◌⊎◌, arith, Bool, true, false, not, ◌&&◌, cond, Option, Some, None, Ordering, Less, Equal, Greater}
+use Rattle.std.proofs.Common.{◌≡◌, ◌≢◌, ℕ, ◌≤◌, List, [], ◌∷◌, ◌++◌, refl, sym, ap, ◌∙◌, subst, inl, inr, ◌⊎◌, arith, Bool, true, false, not, ◌&&◌, cond, Option, Some, None, Ordering, Less, Equal, Greater}
 use Rattle.std.specs.Prelude.{ℤ, if◌then◌else◌}
 use Rattle.std.specs.List.{All, AllByRecursion}
 use Rattle.std.specs.Ordering.{int_eq, is_lt, ord_min}
@@ -9,11 +9,10 @@ use Rattle.std.proofs.lemmas.List.Elements.{All-nil, All-head}
 use Rattle.std.proofs.lemmas.Map.Keys.{sorted_head}
 use Rattle.ca_plane.specs.declared.point.Point.{Point}
 use Rattle.ca_plane.specs.Plane.{Picture, cell, shifted}
-use Rattle.ca_plane.specs.Change.{Sets}
 use Rattle.ca_plane.specs.Box.{moved}
 use Rattle.ca_plane.specs.Sparse.{point_cmp, IsInPlane, IsSparse}
 use Rattle.ca_plane.proofs.Pictures.{place-from_true, cell-first, point-same}
-use Rattle.ca_run.specs.Streams.{NoneBefore, AllQuiet, IsFirstPoint, IsFirst, IsUpTo, IsEarlier, IsWithout, AreWithout}
+use Rattle.ca_run.specs.Streams.{NoneBefore, IsFirstPoint, IsFirst, IsUpTo, IsEarlier, IsWithout}
 use Rattle.ca_run.proofs.Points.{not_before_itself, not_before_back, not_before_earlier, same_or_after, cell-before, cell-before_first, none_before_first}
 
 -- ---- facts of each picture, for pictures side by side

@@ -29,6 +29,7 @@ pub fn step<A: Automaton>(alloc: Global, rule: &A, plane: &Plane) -> Result<Plan
     ensures sparse { IfOk result (λ p. IsSparse p) }
     ensures within { IfOk result (λ p. LeavesReach (A.next_of rule.now) plane.now 0 → ⊥) }
     ensures range { IsErrOf result RunFault.Range → LeavesReach (A.next_of rule.now) plane.now 0 }
+    ensures judged { LeavesReach (A.next_of rule.now) plane.now 0 → IsErrOf result RunFault.Range }
 {
     if !is_all_in_reach(plane) {
         return Err(RunFault::Range);
@@ -103,13 +104,19 @@ fn next_plane<A: Automaton>(alloc: Global, rule: &A, cells: &[(Point, u8)]) -> R
 ///
 /// `Range` just where before one of the n steps a live cell stands outside -(2^62 - 2) to 2^62 - 2, and the steps before it
 /// had memory; else fails where there is no memory for a plane.
-pub fn steps<A: Automaton>(alloc: Global, rule: &A, plane: &Plane, n: u64) -> Result<Plane, RunFault>
+pub fn steps<A: Automaton>(
+    alloc: Global,
+    rule: &A,
+    plane: &Plane,
+    n: u64,
+) -> Result<Plane, RunFault>
     requires { All (λ e. e.1 < A.state_count rule.now) plane.now }
     ensures after { IfOk result (λ p. (x y : ℤ) → cell p x y ≡ after (A.next_of rule.now) plane.now n x y) }
     ensures states { IfOk result (λ p. All (λ e. e.1 < A.state_count rule.now) p) }
     ensures sparse { IfOk result (λ p. IsSparse p) }
     ensures within { IfOk result (λ p. (m : ℕ) → m < n → LeavesReach (A.next_of rule.now) plane.now m → ⊥) }
     ensures range { IsErrOf result RunFault.Range → (m : ℕ) × (m < n) × LeavesReach (A.next_of rule.now) plane.now m }
+    ensures judged { 0 < n → LeavesReach (A.next_of rule.now) plane.now 0 → IsErrOf result RunFault.Range }
 {
     if n == 0 {
         // What a plane lists is sparse, and so is its copy.

@@ -8,3 +8,6 @@ mod stream;
 
 pub use fault::RunFault;
 pub use generations::{step, steps};
+
+#[cfg(test)]
+mod tests;

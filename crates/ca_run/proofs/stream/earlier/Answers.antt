@@ -1,5 +1,3 @@
-use Rattle.std.proofs.Common.{refl, Some, subst, sym}
-use Rattle.ca_run.specs.Streams.{IsEarlier}
 use Rattle.ca_run.proofs.Streams.{IsEarlier-min}
 use Rattle.ca_run.proofs.stream.earlier.Goals as goal
 
