@@ -19,3 +19,11 @@ pub mod Runs
 pub mod Places
 pub mod Drawn
 pub mod FirstForms
+pub mod Frames
+pub mod Gaps
+pub mod RunByRun
+pub mod Heads
+pub mod StatesOf
+pub mod Laid
+pub mod ItemTexts
+pub mod WholeTexts
