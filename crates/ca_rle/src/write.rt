@@ -85,3 +85,6 @@ pub fn write_rle_to<W: Write>(
     };
     send(out, &text)
 }
+
+#[cfg(test)]
+mod tests;
