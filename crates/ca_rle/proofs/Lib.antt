@@ -39,3 +39,14 @@ pub mod Preambles
 pub mod HeaderLines
 pub mod FrontLines
 pub mod Whole
+pub mod Places
+pub mod Drawn
+pub mod FirstForms
+pub mod Frames
+pub mod Gaps
+pub mod RunByRun
+pub mod Heads
+pub mod StatesOf
+pub mod Laid
+pub mod ItemTexts
+pub mod WholeTexts

@@ -13,11 +13,13 @@ mod pattern;
 mod read;
 pub mod tidy_laws;
 mod unit;
+mod write;
 
 pub use fault::RleFault;
 pub use item::{Item, Tag};
 pub use pattern::Pattern;
 pub use read::read_rle;
+pub use write::{write_rle, write_rle_to};
 
 #[cfg(test)]
 mod tests;

@@ -1,0 +1,8 @@
+use Rattle.std.proofs.Common.{map, take}
+use Rattle.ca_rle.specs.Tidy.{item_text}
+use Rattle.ca_rle.proofs.Laid.{IsLaid}
+use Rattle.ca_rle.proofs.write.layout.push_items.Given as goal
+
+-- the items so far stand in lines, the last of which isn't ended
+abbrev pub invariant-items : goal.invariant-items
+invariant-items l = IsLaid l.fn.out.items l.out.items l.filled (map (item_text l.states) (take l.item-index l.items))

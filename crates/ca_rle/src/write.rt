@@ -1,0 +1,90 @@
+//! The writer of extended RLE: one tidy text for a plane.
+
+ghost use Rattle.std.specs.Prelude.{◌≡◌, ◌<◌, ◌≤◌, ◌^◌, ◌++◌, ◌∷◌, [], ℕ, List, map, codes, OnOk, IfOk, IfErr, IsErrOf};
+ghost use Rattle.std.specs.List.{All};
+ghost use Rattle.std.specs.Io.KnownBytes.{Appends};
+ghost use Rattle.ca_plane.specs.Bytes.{IsWord};
+ghost use Rattle.ca_plane.specs.Device.{Rises, AppendsPrefix};
+ghost use Rattle.ca_rle.specs.Limits.{IsInRange};
+ghost use Rattle.ca_rle.specs.Tidy.{IsTidy};
+
+use ca_plane::{Dev, Memory, Plane, WriteFault, send};
+use std::alloc::Global;
+use std::io::Write;
+
+mod frame;
+mod head;
+mod layout;
+mod runs;
+
+/// The one tidy text of the plane, with its rule text, its generation count, and its rule's number of states.
+///
+/// The first line is `#CXRLE Pos=X,Y`, the upper left corner of the least box round the live cells, with ` Gen=G`
+/// behind it where the generation isn't 0. The second is `x = W, y = H, rule = R`, the size of that box. For the
+/// empty plane the corner is 0,0 and the size 0 by 0. Then come the items and `!`, in lines of at most 70 characters,
+/// none of which is ended earlier than it has to be: `b` and `o` where there are two states, else `.` and letters; no
+/// count of 1, no dead cells at the end of a row, no row end behind the last row, and no two items side by side that
+/// could be one. Each line ends with LF.
+///
+/// # Errors
+///
+/// Fails where there is no memory for the text.
+pub fn write_rle(
+    alloc: Global,
+    cells: &Plane,
+    rule_text: &[u8],
+    generation: u64,
+    states: u16,
+) -> Result<Vec<u8>, Memory>
+    requires range { All (λ e. IsInRange e.0) cells.now }
+    requires states { All (λ e. e.1 < states) cells.now }
+    requires rule { IsWord rule_text.now }
+    requires generation { generation < 2 ^ 63 }
+    ensures tidy { IfOk result (λ text. IsTidy text.items cells.now rule_text.now generation states) }
+{
+    let frame = frame::of(cells);
+    let mut text = Vec::new(alloc);
+    head::push_corner_line(&mut text, frame.corner, generation)?;
+    head::push_header_line(&mut text, frame.width, frame.height, rule_text)?;
+    let items = runs::items(alloc, cells, frame.corner)?;
+    layout::push_items(&mut text, states, &items)?;
+    Ok(text)
+}
+
+/// Writes that text. The whole text is made before its first byte is written.
+///
+/// # Errors
+///
+/// `Memory` where there is no memory for the text: nothing was written. `Write` where a write failed: some first part
+/// of the text was written.
+pub fn write_rle_to<W: Write>(
+    alloc: Global,
+    cells: &Plane,
+    rule_text: &[u8],
+    generation: u64,
+    states: u16,
+    out: &mut Dev<W>,
+) -> Result<(), WriteFault>
+    requires range { All (λ e. IsInRange e.0) cells.now }
+    requires states { All (λ e. e.1 < states) cells.now }
+    requires rule { IsWord rule_text.now }
+    requires generation { generation < 2 ^ 63 }
+    // The tidy text is written whole, and no failure is counted.
+    ensures all { OnOk result ((text : List ℕ) × IsTidy text cells.now rule_text.now generation states
+        × Appends (W.contents out.old.inner) (W.contents out.new.inner) text) }
+    ensures kept { OnOk result (out.new.failures ≡ out.old.failures) }
+    // Without memory the device is as it was.
+    ensures memory { IsErrOf result WriteFault.Memory → out.new ≡ out.old }
+    // A write failed behind some first part of the tidy text.
+    ensures front { IsErrOf result WriteFault.Write → (text : List ℕ) × IsTidy text cells.now rule_text.now generation states
+        × AppendsPrefix (W.contents out.old.inner) (W.contents out.new.inner) text }
+    ensures counted { IsErrOf result WriteFault.Write → Rises out.old.failures out.new.failures }
+{
+    let Ok(text) = write_rle(alloc, cells, rule_text, generation, states) else {
+        return Err(WriteFault::Memory);
+    };
+    send(out, &text)
+}
+
+#[cfg(test)]
+mod tests;

@@ -1,0 +1,46 @@
+//! The corner and the size that a tidy text tells.
+
+ghost use Rattle.std.specs.Prelude.{◌≡◌, ◌≤ℤ◌, ◌+ℤ◌, pos};
+ghost use Rattle.std.specs.List.{All};
+ghost use Rattle.ca_rle.specs.Limits.{IsInRange};
+ghost use Rattle.ca_rle.specs.Tidy.{IsFrame};
+
+use ca_plane::{Plane, Point};
+
+/// The upper left corner of the least box round the live cells, and the box's size.
+#[derive(Clone, Copy)]
+pub(super) struct Frame {
+    pub(super) corner: Point,
+    pub(super) width: u64,
+    pub(super) height: u64,
+}
+
+/// How far it is from a number up to another.
+pub(super) fn distance(from: i64, to: i64) -> u64
+    requires { from ≤ℤ to }
+    ensures { to ≡ from +ℤ pos result }
+{
+    to.abs_diff(from)
+}
+
+/// The frame of the live cells: (0, 0) and 0 by 0 where there are none.
+pub(super) fn of(cells: &Plane) -> Frame
+    requires { All (λ e. IsInRange e.0) cells.now }
+    ensures { IsFrame cells.now result.corner result.width result.height }
+{
+    let Some(bounds) = cells.bounds() else {
+        return Frame {
+            corner: Point { y: 0, x: 0 },
+            width: 0,
+            height: 0,
+        };
+    };
+    Frame {
+        corner: Point {
+            y: bounds.y0,
+            x: bounds.x0,
+        },
+        width: distance(bounds.x0, bounds.x1) + 1,
+        height: distance(bounds.y0, bounds.y1) + 1,
+    }
+}
