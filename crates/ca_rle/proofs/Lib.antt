@@ -39,7 +39,6 @@ pub mod Preambles
 pub mod HeaderLines
 pub mod FrontLines
 pub mod Whole
-pub mod Places
 pub mod Drawn
 pub mod FirstForms
 pub mod Frames
