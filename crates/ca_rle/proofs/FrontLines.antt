@@ -1,5 +1,5 @@
 -- The lines of a text up to its header, split off one after another.
-use Rattle.std.proofs.Common.{◌≡◌, ℕ, ◌<◌, suc, Bool, true, false, not, List, [], ◌∷◌, ◌++◌, length, Option, inl, inr, refl, sym, ap, subst, ◌∙◌, append_assoc, arith}
+use Rattle.std.proofs.Common.{◌≡◌, ℕ, ◌<◌, suc, true, not, List, [], ◌∷◌, ◌++◌, length, inr, refl, sym, ap, ◌∙◌, append_assoc, arith}
 use Rattle.std.specs.List.{AllZip, flat_map, list_all}
 use Rattle.std.proofs.lemmas.Bool.{both_ways, not-true, not-false, eqb-true}
 use Rattle.std.proofs.lemmas.Grind.{flat_map-append}
@@ -9,7 +9,7 @@ use Rattle.ca_plane.proofs.Fronts.{front_then_rest, every_front, rest_ends, fron
 use Rattle.ca_rle.specs.declared.fault.RleFault.{RleFault}
 use Rattle.ca_rle.specs.declared.fault.RleFault.TheVariants.{Syntax, Header, XlifeRule, NoEnd, BadState, GenTooLarge, Range, TooManyCells, Memory}
 use Rattle.ca_rle.specs.declared.front.lines.Preamble.{Preamble}
-use Rattle.ca_rle.specs.Header.{is_comment, extended_words, Said, Says, IsHeader}
+use Rattle.ca_rle.specs.Header.{is_comment, extended_words, Said, Says}
 use Rattle.ca_rle.specs.File.{IsLine, ended}
 use Rattle.ca_rle.specs.Faults.{HasBadWord, HasNoHeader}
 use Rattle.ca_rle.specs.FrontFaults.{IsFrontFault}

@@ -1,14 +1,14 @@
 -- A header line, read part by part.
-use Rattle.std.proofs.Common.{◌≡◌, ℕ, Bool, true, false, not, eqb, ◌<◌, List, [], ◌∷◌, ◌++◌, length, Option, Some, None, option_and_then, inl, inr, refl, sym, ap, subst, ◌∙◌, arith}
+use Rattle.std.proofs.Common.{◌≡◌, ℕ, true, false, not, eqb, ◌<◌, List, [], ◌∷◌, ◌++◌, length, Option, Some, None, option_and_then, inl, inr, refl, sym, ap, ◌∙◌, arith}
 use Rattle.std.specs.List.{list_all}
 use Rattle.std.proofs.lemmas.Bool.{and_parts, and_from, eqb-true, eqb-false}
 use Rattle.std.proofs.lemmas.List.{nil_from_length}
 use Rattle.std.proofs.lemmas.Option.{same_Some}
-use Rattle.ca_plane.specs.Bytes.{Every, is_blank, is_line_end, is_digit, is_word_byte, IsWord, front, rest, is_end_or}
+use Rattle.ca_plane.specs.Bytes.{is_blank, is_line_end, is_word_byte, front, rest, is_end_or}
 use Rattle.ca_plane.proofs.Fronts.{every_front, every_right, every_rest, rest_ends}
 use Rattle.ca_plane.proofs.Lines.{ends_by_blank}
-use Rattle.ca_rle.specs.Header.{Part, Exactly, Number, size_parts, rule_parts, IsHeader}
-use Rattle.ca_rle.specs.HeaderParts.{strip, left_behind, part_left, parts_left}
+use Rattle.ca_rle.specs.Header.{Part, Exactly, size_parts, rule_parts, IsHeader}
+use Rattle.ca_rle.specs.HeaderParts.{strip, part_left, parts_left}
 use Rattle.ca_rle.specs.File.{IsLine}
 use Rattle.ca_rle.proofs.Passing.{front_rest}
 use Rattle.ca_rle.proofs.Headers.{strip_is, strip_found, then_some_of, parts_found, spaced_found, header_found, has_more, no_header}

@@ -1,5 +1,5 @@
 -- Numbers and places as the reader keeps them, and what words say of where a pattern starts.
-use Rattle.std.proofs.Common.{◌≡◌, ◌≢◌, ℕ, ◌<◌, ◌≤◌, ◌^◌, min, ℤ, pos, neg_ℤ, Bool, true, false, not, ◌==◌, eqb, leb, List, [], ◌∷◌, ◌++◌, length, Option, Some, None, MatchOption, inl, inr, ◌⊎◌, refl, sym, ap, subst, ◌∙◌, append_assoc, codes, nat_eq, arith}
+use Rattle.std.proofs.Common.{◌≡◌, ℕ, ◌<◌, ◌≤◌, ◌^◌, min, ℤ, pos, neg_ℤ, true, false, not, ◌==◌, eqb, leb, List, [], ◌∷◌, ◌++◌, length, Option, Some, None, MatchOption, inl, inr, ◌⊎◌, refl, sym, ap, subst, ◌∙◌, append_assoc, codes, nat_eq, arith}
 use mir.Syntax.{w64}
 use mir.Val.{to_z, of_z}
 use Rattle.std.specs.List.{AllZip, starts_with, list_all}
@@ -9,16 +9,15 @@ use Rattle.std.proofs.lemmas.Int.{ints}
 use Rattle.std.proofs.lemmas.List.{append-nil}
 use Rattle.std.proofs.lemmas.Slice.Eq.{starts_is}
 use Rattle.ca_plane.specs.declared.point.Point.{Point}
-use Rattle.ca_plane.specs.Bytes.{Every, is_digit, front, rest, AreDigits, IsInteger, value}
+use Rattle.ca_plane.specs.Bytes.{is_digit, front, rest, AreDigits, IsInteger, value}
 use Rattle.ca_rle.specs.declared.front.words.Start.{Start}
 use Rattle.ca_rle.specs.declared.fault.RleFault.{RleFault}
 use Rattle.ca_rle.specs.declared.fault.RleFault.TheVariants.{Syntax}
 use Rattle.ca_rle.specs.Header.{Said, Corner, Generation, Nothing, Says}
-use Rattle.ca_rle.specs.File.{last_corner, last_generation, corner_of, generation_of}
+use Rattle.ca_rle.specs.File.{last_corner, last_generation}
 use Rattle.ca_rle.specs.Faults.{IsBadWord}
-use Rattle.ca_rle.specs.Limits.{IsInRange}
 use Rattle.ca_rle.specs.Reading.{KeepsCorner}
-use Rattle.ca_rle.specs.FrontParts.{IsNear, KeepsNumber, Writes, WritesPair, IsStart, Leads, HasBadWordAmong}
+use Rattle.ca_rle.specs.FrontParts.{KeepsNumber, Writes, WritesPair, IsStart, Leads, HasBadWordAmong}
 use Rattle.ca_rle.proofs.Passing.{front_is, rest_is, front_rest}
 use Rattle.ca_rle.proofs.OneHeader.{integer_has_no_comma}
 

@@ -1,16 +1,16 @@
 -- The lines before a header, one after another.
-use Rattle.std.proofs.Common.{◌≡◌, ℕ, Bool, true, false, not, ◌==◌, List, [], ◌∷◌, ◌++◌, Some, None, slice_get, inl, inr, refl, sym, ap, subst, ◌∙◌, append_assoc, codes, IsTrue}
-use Rattle.std.specs.List.{AllZip, AllByRecursion, flat_map, list_all}
+use Rattle.std.proofs.Common.{◌≡◌, ℕ, Bool, true, false, ◌==◌, List, [], ◌∷◌, ◌++◌, Some, None, slice_get, refl, sym, ap, subst, ◌∙◌, append_assoc, codes, IsTrue}
+use Rattle.std.specs.List.{AllZip, flat_map}
 use Rattle.std.proofs.lemmas.Bool.{both_ways, ne_eqb}
 use Rattle.std.proofs.lemmas.Grind.{flat_map-append}
 use Rattle.std.proofs.lemmas.List.{append-nil, append_cancel_left}
 use Rattle.std.proofs.lemmas.Option.{same_Some, none-some}
-use Rattle.ca_plane.specs.Bytes.{Every, is_blank, front, rest, is_end_or, without_cr}
+use Rattle.ca_plane.specs.Bytes.{is_blank, front, rest, without_cr}
 use Rattle.ca_rle.specs.declared.front.words.Start.{Start}
 use Rattle.ca_rle.specs.declared.front.lines.Preamble.{Preamble}
 use Rattle.ca_rle.specs.Header.{is_comment, extended_words, Said, Says, IsXlifeLine}
 use Rattle.ca_rle.specs.File.{IsLine, IsPreamble}
-use Rattle.ca_rle.specs.FrontParts.{IsStart, Leads, HasXlifeLine, IsRead}
+use Rattle.ca_rle.specs.FrontParts.{IsStart, HasXlifeLine, IsRead}
 use Rattle.ca_rle.proofs.Passing.{Every-front, front_rest, rest_is}
 use Rattle.ca_rle.proofs.Spans.{all_append}
 use Rattle.ca_rle.proofs.Kept.{all_zip_append}

@@ -9,7 +9,7 @@ ghost use Rattle.ca_rle.specs.HeaderParts.{parts_left};
 use ca_plane::bytes::{split_blanks, split_digits, split_word, strip};
 
 /// A header that was read.
-#[derive(Clone, Copy, Debug)]
+#[derive(Clone, Copy)]
 pub(crate) struct Header<'a> {
     /// Its rule text, where it has one.
     pub(crate) rule: Option<&'a [u8]>,

@@ -1,6 +1,6 @@
 //! The lines before the header.
 
-ghost use Rattle.std.specs.Prelude.{◌≡◌, ℕ, ◌<◌, List, [], ◌∷◌, ◌++◌, true, not, IsTrue, IsFalse, length, codes, MatchOption, IfSome, IfOk, IfErr};
+ghost use Rattle.std.specs.Prelude.{◌≡◌, ℕ, List, [], ◌∷◌, ◌++◌, true, not, IsTrue, IsFalse, MatchOption, IfSome, IfOk, IfErr};
 ghost use Rattle.std.specs.List.{AllZip};
 ghost use Rattle.ca_plane.specs.Bytes.{Every, is_line_end, words_of, without_cr};
 ghost use Rattle.ca_rle.specs.Header.{Said, Says, is_comment, extended_words, IsXlifeLine};
@@ -12,7 +12,7 @@ use ca_plane::Point;
 use ca_plane::bytes::{is_blank, split_blanks, strip};
 
 /// What the lines before a header say.
-#[derive(Clone, Copy, Debug)]
+#[derive(Clone, Copy)]
 pub(crate) struct Preamble {
     pub(crate) start: Start,
     /// Whether one of them gives the rule in XLife's way.

@@ -1,6 +1,6 @@
 //! The words of a line before the header, and where they let a pattern start.
 
-ghost use Rattle.std.specs.Prelude.{◌≡◌, ℕ, ◌<◌, ◌-◌, ◌^◌, pos, min, List, [], ◌∷◌, ◌++◌, not, IsFalse, length, codes, MatchOption, IfSome, IfOk, IfErr, ℤ, ◌==◌};
+ghost use Rattle.std.specs.Prelude.{◌≡◌, ℕ, ◌<◌, ◌-◌, ◌^◌, pos, min, List, [], ◌∷◌, ◌++◌, not, length, codes, MatchOption, IfSome, IfOk, IfErr, ℤ, ◌==◌};
 ghost use Rattle.std.specs.List.{prefix_len, list_all};
 ghost use Rattle.ca_plane.specs.Bytes.{Every, is_line_end, is_digit, AreDigits, IsInteger, words_of, value, front, rest};
 ghost use Rattle.ca_rle.specs.Header.{Says, Generation as SaidGeneration};
@@ -12,7 +12,7 @@ use ca_plane::Point;
 use ca_plane::bytes::{number, split_blanks, split_word, strip};
 
 /// Where and when a pattern starts.
-#[derive(Clone, Copy, Debug)]
+#[derive(Clone, Copy)]
 pub(crate) struct Start {
     /// Where the first cell stands; where it is out of range, some place that is out of range too.
     pub(crate) corner: Point,

@@ -1,4 +1,4 @@
-use Rattle.std.proofs.Common.{◌∷◌, ◌++◌, Some, slice_get, codes, sym, ap, ◌∙◌}
+use Rattle.std.proofs.Common.{◌∷◌, sym, ap, ◌∙◌}
 use Rattle.std.proofs.lemmas.Bool.{both_ways}
 use Rattle.ca_plane.specs.Bytes.{rest, is_blank}
 use Rattle.ca_rle.proofs.Preambles.{xlife_behind, xlife_from, same_blank, no_first}

@@ -1,4 +1,4 @@
-use Rattle.std.proofs.Common.{◌≡◌, refl, sym, ap, subst, ◌∙◌}
+use Rattle.std.proofs.Common.{◌≡◌, refl, sym, subst, ◌∙◌}
 use Rattle.ca_rle.specs.FrontParts.{Writes}
 use Rattle.ca_rle.proofs.Kept.{split_pair, writes_pair, kept_in_bits}
 use Rattle.ca_rle.proofs.front.words.place.Goals as goal

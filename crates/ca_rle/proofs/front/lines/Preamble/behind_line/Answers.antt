@@ -1,4 +1,3 @@
-use Rattle.std.proofs.Common.{sym, ◌∙◌}
 use Rattle.std.proofs.lemmas.Bool.{both_ways}
 use Rattle.ca_rle.proofs.Preambles.{read_more, xlife_before, xlife_last}
 use Rattle.ca_rle.proofs.front.lines.Preamble.behind_line.Goals as goal
