@@ -39,8 +39,6 @@ pub mod Preambles
 pub mod HeaderLines
 pub mod FrontLines
 pub mod Whole
-pub mod Drawn
-pub mod FirstForms
 pub mod Frames
 pub mod Gaps
 pub mod RunByRun

@@ -1,11 +1,12 @@
 -- A tidy text of a plane in range passes no limit of the range.
 use Rattle.std.proofs.Common.{◌≢◌, ℕ, ◌+◌, ◌<◌, ◌≤◌, ◌^◌, inl, inr, List, [], ◌∷◌, ℤ, sym, subst, ◌∙◌, arith}
-use Rattle.std.specs.List.{AllByRecursion}
+use Rattle.std.specs.List.{All, AllByRecursion}
+use Rattle.std.proofs.lemmas.List.Elements.{All-contains}
 use Rattle.std.proofs.lemmas.Int.{ints}
 use Rattle.ca_plane.specs.declared.point.Point.{Point}
 use Rattle.ca_plane.specs.Bytes.{IsWord}
 use Rattle.ca_plane.specs.Plane.{Picture, cell}
-use Rattle.ca_plane.proofs.Pictures.{cell-first}
+use Rattle.ca_plane.proofs.Pictures.{Contains-cell, cell-first}
 use Rattle.ca_rle.specs.declared.item.Item.{Item}
 use Rattle.ca_rle.specs.File.{File, IsFile}
 use Rattle.ca_rle.specs.Limits.{IsInRange, IsWithinRange}
@@ -72,3 +73,7 @@ pub only_in_range : (text : List ℕ) (cells : Picture) (rule_text : List ℕ) (
 only_in_range text cells rule_text generation states t word low within file is =
     let same = one_file text (tidy_file text cells rule_text generation states t) file (file_in_range text cells rule_text generation states t word low within) is in
     subst IsWithinRange same (tidy_within_range text cells rule_text generation states t within)
+
+-- where each listed cell is in range, each live cell is
+pub listed_range : (cells : Picture) → All (λ e. IsInRange e.0) cells → AreInRange cells
+listed_range cells all x y live = All-contains (λ e. IsInRange e.0) cells _ all (Contains-cell cells x y live)

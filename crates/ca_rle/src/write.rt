@@ -5,7 +5,10 @@ ghost use Rattle.std.specs.List.{All};
 ghost use Rattle.std.specs.Io.KnownBytes.{Appends};
 ghost use Rattle.ca_plane.specs.Bytes.{IsWord};
 ghost use Rattle.ca_plane.specs.Device.{Rises, AppendsPrefix};
-ghost use Rattle.ca_rle.specs.Limits.{IsInRange};
+ghost use Rattle.ca_plane.specs.Plane.{IsSame};
+ghost use Rattle.ca_rle.specs.File.{File, IsFile};
+ghost use Rattle.ca_rle.specs.Limits.{IsInRange, IsWithinRange};
+ghost use Rattle.ca_rle.specs.Shown.{picture_of};
 ghost use Rattle.ca_rle.specs.Tidy.{IsTidy};
 
 use ca_plane::{Dev, Memory, Plane, WriteFault, send};
@@ -41,6 +44,9 @@ pub fn write_rle(
     requires rule { IsWord rule_text.now }
     requires generation { generation < 2 ^ 63 }
     ensures tidy { IfOk result (λ text. IsTidy text.items cells.now rule_text.now generation states) }
+    // It means the plane, the rule text and the generation, and is in the reader's range.
+    ensures means { IfOk result (λ text. (file : File) × IsFile text.items file × IsWithinRange file
+        × IsSame cells.now (picture_of file.corner file.items) × (file.rule_text ≡ rule_text.now) × (file.generation ≡ generation)) }
 {
     let frame = frame::of(cells);
     let mut text = Vec::new(alloc);

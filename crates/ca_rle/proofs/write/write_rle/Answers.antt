@@ -1,10 +1,16 @@
 use Rattle.ca_rle.proofs.WholeTexts.{tidy_text}
+use Rattle.ca_rle.proofs.TidyFile.{tidy_file}
+use Rattle.ca_rle.proofs.TidyRange.{file_in_range, tidy_within_range, listed_range}
 use Rattle.ca_rle.proofs.write.write_rle.Goals as goal
+use Rattle.std.proofs.Common.{refl}
 
 pub returns : goal.returns
-returns c = record {
-  tidy =
-  tidy_text _ _ _ _ _ c.args.cells.now c.args.generation c.args.states c.of-frame.result.corner c.of-frame.result.width c.of-frame.result.height c.in_ok-items.items.items _
-  c.new-text.ensures.items c.in_ok-push_corner_line.ensures c.in_ok-push_header_line.ensures c.deref.ensures.value c.in_ok-push_items.ensures c.of-frame.ensures
-  c.in_ok-items.ensures.shown c.in_ok-items.ensures.tidy (c.in_ok-items.ensures.states _ c.requires.states);
-}
+returns c =
+    let tidy = tidy_text _ _ _ _ _ c.args.cells.now c.args.generation c.args.states c.of-frame.result.corner c.of-frame.result.width c.of-frame.result.height c.in_ok-items.items.items _
+      c.new-text.ensures.items c.in_ok-push_corner_line.ensures c.in_ok-push_header_line.ensures c.deref.ensures.value c.in_ok-push_items.ensures c.of-frame.ensures
+      c.in_ok-items.ensures.shown c.in_ok-items.ensures.tidy (c.in_ok-items.ensures.states _ c.requires.states) in
+    let within = listed_range c.args.cells.now c.requires.range in
+    record {
+      tidy = tidy;
+      means = (tidy_file _ c.args.cells.now _ _ _ tidy, file_in_range _ _ _ _ _ tidy c.requires.rule c.requires.generation within, tidy_within_range _ _ _ _ _ tidy within, tidy.shown, refl, refl);
+    }
