@@ -1,13 +1,10 @@
 -- The lines of bytes and the words of a line, as they are split off.
-use Rattle.std.proofs.Common.{◌≡◌, ◌≢◌, ℕ, suc, ◌<◌, Bool, true, false, not, List, [], ◌∷◌, ◌++◌, length, codes, refl, sym, ap, ◌∙◌, arith}
-use Rattle.std.specs.Str.{bytes_eq}
-use Rattle.std.proofs.lemmas.Bool.{both_ways, not-true, false≢true}
-use Rattle.std.proofs.lemmas.Slice.Eq.{bytes_eq-Decides}
+use Rattle.std.proofs.Common.{◌≡◌, ◌≢◌, ℕ, suc, ◌<◌, Bool, true, not, List, [], ◌∷◌, ◌++◌, length, refl, sym, ap, ◌∙◌, arith}
+use Rattle.std.proofs.lemmas.Bool.{both_ways, not-true}
 use Rattle.std.proofs.lemmas.List.{append-nil}
 use Rattle.ca_plane.specs.Bytes.{Every, front, rest, is_end_or, is_line_end, is_blank, is_word_byte, IsWord, lines_of, words_of}
 use Rattle.ca_plane.proofs.Fronts.{front_then_rest, every_front, every_rest, rest_ends, front_length}
 use Rattle.ca_plane.proofs.Lines.{lines_at_end, lines_at_last, line_ends_by_lf, words_behind_blanks, words_ahead, ends_by_blank}
-use Rattle.ca_claims.specs.Text.{Line, Load, Claims, Still, WordsSay, is_skipped}
 
 -- the line that ends before more bytes
 pub line_before : (bytes : List ℕ) (b : ℕ) (more : List ℕ) → rest (λ b. not (is_line_end b)) bytes ≡ b ∷ more → lines_of bytes ≡ front (λ b. not (is_line_end b)) bytes ∷ lines_of more
@@ -72,16 +69,3 @@ module _ (bytes : List ℕ) (line : Every (λ b. not (is_line_end b)) bytes) whe
       let same : more ≡ rest is_blank bytes = ap (λ l. l ++ more) (sym none) ∙ front_then_rest is_word_byte (rest is_blank bytes) in
       let empty : rest is_blank bytes ≡ [] = no_byte is_blank (rest is_blank bytes) (ap (is_end_or is_blank) (sym same) ∙ blank_after) (rest_ends is_blank bytes) in
       words_behind ∙ ap words_of empty
-
--- words that begin with another keyword say nothing
-pub other_keyword : (keyword : List ℕ) (more : List (List ℕ)) → is_skipped (keyword ∷ []) ≡ false → bytes_eq keyword (codes "load") ≡ false → bytes_eq keyword (codes "still") ≡ false
-    → (is_skipped (keyword ∷ more) ≡ false) × ((line : Line) → WordsSay (keyword ∷ more) line → ⊥)
-other_keyword keyword more comment load still = (comment, other)
-  where
-    other : (line : Line) → WordsSay (keyword ∷ more) line → ⊥
-    other (Load name path) h =
-        let same : keyword ≡ codes "load" = cc in
-        false≢true (sym load ∙ (bytes_eq-Decides keyword (codes "load")).1 same)
-    other (Claims (Still name)) h =
-        let same : keyword ≡ codes "still" = cc in
-        false≢true (sym still ∙ (bytes_eq-Decides keyword (codes "still")).1 same)

@@ -2,20 +2,44 @@
 use Rattle.std.proofs.Common.{◌≡◌, ◌≢◌, ℕ, suc, ◌+◌, List, [], ◌∷◌, ◌++◌, length, Option, Some, None, is_some, ◌⊎◌, inl, inr, refl, sym, ap, subst, ◌∙◌, arith}
 use Rattle.std.proofs.lemmas.Bool.{false≢true}
 use Rattle.std.proofs.lemmas.List.{append-nil}
-use Rattle.ca_plane.specs.Bytes.{lines_of, words_of}
+use Rattle.ca_plane.specs.Bytes.{IsInteger, lines_of, words_of}
+use Rattle.ca_rle.proofs.OneHeader.{one_integer}
 use Rattle.ca_claims.specs.declared.fault.ClaimFault.{ClaimFault}
-use Rattle.ca_claims.specs.declared.fault.ClaimFault.TheVariants.{Syntax, UnknownName, NameTaken, Memory}
-use Rattle.ca_claims.specs.Text.{Still, Line, Load, Claims, WordsSay, IsAllowed, LinesSay, IsClaimText, spoken}
+use Rattle.ca_claims.specs.declared.fault.ClaimFault.TheVariants.{Syntax, Number, UnknownName, NameTaken, Memory}
+use Rattle.ca_claims.specs.Text.{Claim, Still, Oscillator, Spaceship, Becomes, Line, Load, Claims, WordsSay, HasGoodNumbers, IsAllowed, LinesSay, IsClaimText, spoken}
 use Rattle.ca_claims.specs.TextFaults.{IsFirstFault}
 use Rattle.ca_claims.specs.Reading.{SaysNext, HasFault}
 use Rattle.ca_claims.proofs.Said.{one_before}
 
+-- words make one claim
+same_claim : (words : List (List ℕ)) (a b : Claim) → WordsSay words (Claims a) → WordsSay words (Claims b) → a ≡ b
+same_claim words (Still n) (Still m) h k = cc
+same_claim words (Oscillator n v) (Oscillator m w) h k = cc
+same_claim words (Spaceship n v dx dy) (Spaceship m w x y) h k =
+    let across : h.1 ≡ k.1 = cc in
+    let down : h.2 ≡ k.2 = cc in
+    let right = one_integer k.1 dx x (subst (λ l. IsInteger l dx) across h.6) k.6 in
+    let below = one_integer k.2 dy y (subst (λ l. IsInteger l dy) down h.7) k.7 in
+    cc
+same_claim words (Becomes n v p) (Becomes m w q) h k = cc
+same_claim words (Still n) b h k = cc
+same_claim words (Oscillator n v) b h k = cc
+same_claim words (Spaceship n v dx dy) b h k = cc
+same_claim words (Becomes n v p) b h k = cc
+
+-- and no name is loaded by words that make a claim
+load_or_claim : (words : List (List ℕ)) (name path : List ℕ) (claim : Claim) → WordsSay words (Load name path) → WordsSay words (Claims claim) → ⊥
+load_or_claim words name path (Still n) h k = cc
+load_or_claim words name path (Oscillator n v) h k = cc
+load_or_claim words name path (Spaceship n v dx dy) h k = cc
+load_or_claim words name path (Becomes n v p) h k = cc
+
 -- words say one thing
 pub same_line : (words : List (List ℕ)) (a b : Line) → WordsSay words a → WordsSay words b → a ≡ b
 same_line words (Load n p) (Load m q) h k = cc
-same_line words (Load n p) (Claims (Still m)) h k = cc
-same_line words (Claims (Still n)) (Load m q) h k = cc
-same_line words (Claims (Still n)) (Claims (Still m)) h k = cc
+same_line words (Load n p) (Claims b) h k = absurd (load_or_claim words n p b h k)
+same_line words (Claims a) (Load m q) h k = absurd (load_or_claim words m q a k h)
+same_line words (Claims a) (Claims b) h k = ap Claims (same_claim words a b h k)
 
 -- a next line says one thing
 pub same_next : (earlier : List Line) (words : List (List ℕ)) (s t : Option Line) → SaysNext earlier words s → SaysNext earlier words t → s ≡ t
@@ -60,10 +84,14 @@ spoken_first earlier (Some line) said = sym (one_before earlier line (spoken sai
 fault_says_none : (n : ℕ) (earlier : List Line) (words : List (List ℕ)) (f : ClaimFault) (s : Option Line) → f ≢ Memory → HasFault n earlier words f → SaysNext earlier words s → ⊥
 fault_says_none n earlier words (Syntax line) None ne h k = false≢true (sym h.1.0 ∙ k)
 fault_says_none n earlier words (Syntax line) (Some a) ne h k = h.1.1 a k.1
+fault_says_none n earlier words (Number line) None ne h k = false≢true (sym h.1.0 ∙ k)
+fault_says_none n earlier words (Number line) (Some a) ne h k =
+    let allowed = subst (IsAllowed earlier) (same_line words a (Claims h.1.1) k.1 h.1.2) k.2 in
+    h.1.3 allowed.0
 fault_says_none n earlier words (UnknownName line) None ne h k = false≢true (sym h.1.0 ∙ k)
 fault_says_none n earlier words (UnknownName line) (Some a) ne h k =
     let allowed = subst (IsAllowed earlier) (same_line words a (Claims h.1.1) k.1 h.1.2) k.2 in
-    false≢true (sym (ap is_some h.1.3) ∙ allowed)
+    h.1.4 allowed.1
 fault_says_none n earlier words (NameTaken line) None ne h k = false≢true (sym h.1.0 ∙ k)
 fault_says_none n earlier words (NameTaken line) (Some a) ne h k =
     let allowed = subst (IsAllowed earlier) (same_line words a (Load h.1.1 h.1.2) k.1 h.1.3) k.2 in
@@ -73,13 +101,20 @@ fault_says_none n earlier words Memory s ne h k = ne refl
 -- a line has one fault
 same_fault : (n : ℕ) (earlier : List Line) (words : List (List ℕ)) (f g : ClaimFault) → f ≢ Memory → g ≢ Memory → HasFault n earlier words f → HasFault n earlier words g → f ≡ g
 same_fault n earlier words (Syntax a) (Syntax b) x y h k = ap Syntax (h.0 ∙ sym k.0)
+same_fault n earlier words (Syntax a) (Number b) x y h k = absurd (h.1.1 (Claims k.1.1) k.1.2)
 same_fault n earlier words (Syntax a) (UnknownName b) x y h k = absurd (h.1.1 (Claims k.1.1) k.1.2)
 same_fault n earlier words (Syntax a) (NameTaken b) x y h k = absurd (h.1.1 (Load k.1.1 k.1.2) k.1.3)
+same_fault n earlier words (Number a) (Syntax b) x y h k = absurd (k.1.1 (Claims h.1.1) h.1.2)
+same_fault n earlier words (Number a) (Number b) x y h k = ap Number (h.0 ∙ sym k.0)
+same_fault n earlier words (Number a) (UnknownName b) x y h k = absurd (h.1.3 (subst HasGoodNumbers (same_claim words k.1.1 h.1.1 k.1.2 h.1.2) k.1.3))
+same_fault n earlier words (Number a) (NameTaken b) x y h k = absurd (load_or_claim words k.1.1 k.1.2 h.1.1 k.1.3 h.1.2)
 same_fault n earlier words (UnknownName a) (Syntax b) x y h k = absurd (k.1.1 (Claims h.1.1) h.1.2)
+same_fault n earlier words (UnknownName a) (Number b) x y h k = absurd (k.1.3 (subst HasGoodNumbers (same_claim words h.1.1 k.1.1 h.1.2 k.1.2) h.1.3))
 same_fault n earlier words (UnknownName a) (UnknownName b) x y h k = ap UnknownName (h.0 ∙ sym k.0)
-same_fault n earlier words (UnknownName a) (NameTaken b) x y h k = let both : Claims h.1.1 ≡ Load k.1.1 k.1.2 = same_line words (Claims h.1.1) (Load k.1.1 k.1.2) h.1.2 k.1.3 in cc
+same_fault n earlier words (UnknownName a) (NameTaken b) x y h k = absurd (load_or_claim words k.1.1 k.1.2 h.1.1 k.1.3 h.1.2)
 same_fault n earlier words (NameTaken a) (Syntax b) x y h k = absurd (k.1.1 (Load h.1.1 h.1.2) h.1.3)
-same_fault n earlier words (NameTaken a) (UnknownName b) x y h k = let both : Load h.1.1 h.1.2 ≡ Claims k.1.1 = same_line words (Load h.1.1 h.1.2) (Claims k.1.1) h.1.3 k.1.2 in cc
+same_fault n earlier words (NameTaken a) (Number b) x y h k = absurd (load_or_claim words h.1.1 h.1.2 k.1.1 h.1.3 k.1.2)
+same_fault n earlier words (NameTaken a) (UnknownName b) x y h k = absurd (load_or_claim words h.1.1 h.1.2 k.1.1 h.1.3 k.1.2)
 same_fault n earlier words (NameTaken a) (NameTaken b) x y h k = ap NameTaken (h.0 ∙ sym k.0)
 same_fault n earlier words Memory g x y h k = absurd (x refl)
 same_fault n earlier words f Memory x y h k = absurd (y refl)
@@ -104,6 +139,7 @@ first_at n earlier (k ∷ ks) l later (s ∷ said) f good h =
 -- the first fault of a text is that of its lines
 of_lines : (bytes : List ℕ) (f : ClaimFault) → f ≢ Memory → IsFirstFault bytes f → FirstAt 1 [] (lines_of bytes) f
 of_lines bytes (Syntax n) ne h = subst (λ ls. FirstAt 1 [] ls (Syntax n)) (sym h.among) (first_at 1 [] h.before h.line h.later h.said (Syntax n) h.good (h.number, h.holds))
+of_lines bytes (Number n) ne h = subst (λ ls. FirstAt 1 [] ls (Number n)) (sym h.among) (first_at 1 [] h.before h.line h.later h.said (Number n) h.good (h.number, h.holds))
 of_lines bytes (UnknownName n) ne h = subst (λ ls. FirstAt 1 [] ls (UnknownName n)) (sym h.among) (first_at 1 [] h.before h.line h.later h.said (UnknownName n) h.good (h.number, h.holds))
 of_lines bytes (NameTaken n) ne h = subst (λ ls. FirstAt 1 [] ls (NameTaken n)) (sym h.among) (first_at 1 [] h.before h.line h.later h.said (NameTaken n) h.good (h.number, h.holds))
 of_lines bytes Memory ne h = absurd (ne refl)

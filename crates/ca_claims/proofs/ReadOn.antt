@@ -1,5 +1,6 @@
 -- What is kept of the lines so far, after one more line.
-use Rattle.std.proofs.Common.{◌≡◌, ℕ, ◌+◌, ◌<◌, true, false, List, [], ◌∷◌, ◌++◌, map, slice_get, length, All, Option, Some, None, Result, Ok, Err, is_ok, OnOk, unwrap_or, is_some, refl, sym, ap, subst, ◌∙◌, inl, inr, arith}
+use Rattle.std.proofs.Common.{◌≡◌, ℕ, ◌+◌, ◌<◌, true, false, List, [], ◌∷◌, ◌++◌, map, slice_get, length, All, Option, Some, None, Result, Ok, Err, is_ok, OnOk, unwrap_or, is_some, IsSome, refl, sym, ap, subst, ◌∙◌, inl, inr, arith}
+use Rattle.std.specs.List.{AllByRecursion}
 use Rattle.std.specs.Map.{update}
 use Rattle.std.specs.Option.{option_or}
 use Rattle.std.specs.Str.{bytes_eq}
@@ -11,9 +12,9 @@ use Rattle.std.proofs.lemmas.Slice.Eq.{bytes_eq-Decides}
 use Rattle.ca_claims.specs.declared.claims.line.ClaimKind.{ClaimKind}
 use Rattle.ca_claims.specs.declared.claims.line.ClaimKind.TheVariants as kind
 use Rattle.ca_claims.specs.declared.claims.line.ClaimLine.{ClaimLine}
-use Rattle.ca_claims.specs.Lines.{pattern_index, claim_at, numbered}
-use Rattle.ca_claims.specs.Text.{Claim, Still, Line, Load, Claims, path_of, IsAllowed, spoken, loaded_paths, each_once, claims_from}
-use Rattle.ca_claims.specs.Reading.{IsRead, StandsAt, with_path}
+use Rattle.ca_claims.specs.Lines.{indices_of, path_at, claim_at, IsAsked, numbered}
+use Rattle.ca_claims.specs.Text.{Claim, Still, Oscillator, Spaceship, Becomes, patterns_of, about, HasGoodNumbers, Line, Load, Claims, path_of, AreLoaded, IsAllowed, spoken, loaded_paths, each_once, claims_from}
+use Rattle.ca_claims.specs.Reading.{IsRead, StandsAt, AreKnown, at_places, with_path}
 use Rattle.ca_claims.proofs.PathLists.{each_once-push, kept_place, no_fewer}
 use Rattle.ca_claims.proofs.Said.{spoken-append, loaded_paths-append, path_of-append, claims_from-append}
 
@@ -32,20 +33,40 @@ option_or_none : (o : Option (List ℕ)) → option_or o None ≡ o
 option_or_none None = refl
 option_or_none (Some p) = refl
 
--- a claim keeps its path where a path is put
-numbered_kept : (paths : List (List ℕ)) (path : List ℕ) (l : ClaimLine) → pattern_index l.claim < length paths → numbered (with_path paths path) l ≡ numbered paths l
-numbered_kept paths path l h = claim_kept l.claim h
-  where
-    claim_kept : (claim : ClaimKind) → pattern_index claim < length paths → ◌≡◌ {A = ℕ × Claim} (l.line, claim_at (with_path paths path) claim) (l.line, claim_at paths claim)
-    claim_kept (kind.Still pattern) h = ap (λ o. (l.line, Still (unwrap_or o []))) (kept_place paths path pattern h)
+-- what holds of each element holds where something weaker does
+AllByRecursion-weaker : {X : Type 0} (P Q : X → Type 0) → ((x : X) → P x → Q x) → (xs : List X) → AllByRecursion P xs → AllByRecursion Q xs
+AllByRecursion-weaker P Q f [] h = tt
+AllByRecursion-weaker P Q f (x ∷ xs) h = (f x h.0, AllByRecursion-weaker P Q f xs h.1)
+
+-- a path keeps its index where a path is put
+path_kept : (paths : List (List ℕ)) (path : List ℕ) (i : ℕ) → i < length paths → path_at (with_path paths path) i ≡ path_at paths i
+path_kept paths path i h = ap (λ o. unwrap_or o []) (kept_place paths path i h)
+
+-- and a claim its paths
+claim_kept : (paths : List (List ℕ)) (path : List ℕ) (claim : ClaimKind) → AllByRecursion (λ i. i < length paths) (indices_of claim) → claim_at (with_path paths path) claim ≡ claim_at paths claim
+claim_kept paths path (kind.Still p) h = ap Still (path_kept paths path p h.0)
+claim_kept paths path (kind.Oscillator p n) h = ap (λ q. Oscillator q n) (path_kept paths path p h.0)
+claim_kept paths path (kind.Spaceship p n dx dy) h = ap (λ q. Spaceship q n dx dy) (path_kept paths path p h.0)
+claim_kept paths path (kind.Becomes p n r) h =
+    let first = path_kept paths path p h.0 in
+    let second = path_kept paths path r h.1.0 in
+    λ i. Becomes (first i) n (second i)
+
+-- what is asked stays so
+asked_kept : (paths : List (List ℕ)) (path : List ℕ) (claim : ClaimKind) → IsAsked paths claim → IsAsked (with_path paths path) claim
+asked_kept paths path claim h = record {
+  within = AllByRecursion-weaker (λ i. i < length paths) (λ i. i < length (with_path paths path)) (λ i lt. omega (arith, no_fewer paths path)) (indices_of claim) h.within;
+  numbers = subst HasGoodNumbers (sym (claim_kept paths path claim h.within)) h.numbers;
+}
 
 -- all claims keep theirs
-all_kept : (paths : List (List ℕ)) (path : List ℕ) (claims : List ClaimLine) → All (λ l. pattern_index l.claim < length paths) claims → map (numbered (with_path paths path)) claims ≡ map (numbered paths) claims
+all_kept : (paths : List (List ℕ)) (path : List ℕ) (claims : List ClaimLine) → All (λ l. IsAsked paths l.claim) claims → map (numbered (with_path paths path)) claims ≡ map (numbered paths) claims
 all_kept paths path [] h = refl
 all_kept paths path (l ∷ ls) h =
-    let first = numbered_kept paths path l (All-head (λ l. pattern_index l.claim < length paths) l ls h) in
-    let others = all_kept paths path ls (All-tail (λ l. pattern_index l.claim < length paths) l ls h) in
-    λ i. first i ∷ others i
+    let asked = All-head (λ k. IsAsked paths k.claim) l ls h in
+    let first = claim_kept paths path l.claim asked.within in
+    let others = all_kept paths path ls (All-tail (λ k. IsAsked paths k.claim) l ls h) in
+    λ i. (l.line, first i) ∷ others i
 
 -- and names keep their paths
 name_kept : (paths : List (List ℕ)) (path : List ℕ) (o : Option ℕ) (found : Option (List ℕ)) → StandsAt paths o found → StandsAt (with_path paths path) o found
@@ -75,7 +96,7 @@ module _ (said : List (Option Line)) (paths : List (List ℕ)) (claims : List Cl
       record {
         once = read.once ∙ ap each_once (sym (loaded_paths-append said (None ∷ []) ∙ append-nil (loaded_paths said)));
         asked = read.asked ∙ sym (claims_from-append 1 [] said (None ∷ []) ∙ append-nil (claims_from 1 [] said));
-        within = read.within;
+        good = read.good;
         named = λ q. subst (λ ls. StandsAt paths (names q) (path_of ls q)) (sym same) (read.named q);
       }
 
@@ -101,28 +122,78 @@ module _ (said : List (Option Line)) (paths : List (List ℕ)) (claims : List Cl
     not_loaded name new,
     record {
       once = ap (λ l. with_path l path) read.once ∙ sym (each_once-push (loaded_paths said) path) ∙ ap each_once (sym (loaded_paths-append said (Some (Load name path) ∷ [])));
-      asked = all_kept paths path claims read.within ∙ read.asked ∙ sym (claims_from-append 1 [] said (Some (Load name path) ∷ []) ∙ append-nil (claims_from 1 [] said));
-      within = All-weaker (λ l. pattern_index l.claim < length paths) (λ l. pattern_index l.claim < length (with_path paths path)) (λ l h. omega (arith, no_fewer paths path)) claims read.within;
+      asked = all_kept paths path claims read.good ∙ read.asked ∙ sym (claims_from-append 1 [] said (Some (Load name path) ∷ []) ∙ append-nil (claims_from 1 [] said));
+      good = All-weaker (λ l. IsAsked paths l.claim) (λ l. IsAsked (with_path paths path) l.claim) (λ l. asked_kept paths path l.claim) claims read.good;
       named = λ q. subst (λ o. StandsAt (with_path paths path) o (path_of (spoken (said ++ Some (Load name path) ∷ [])) q)) (sym (updated q)) (named_after name path place new at q);
     },
   )
 
-  -- a line that claims something about a name
-  pub read_claim : (name : List ℕ) (line pattern : ℕ) → names name ≡ Some pattern → line ≡ length said + 1
-      → IsAllowed (spoken said) (Claims (Still name)) × IsRead (said ++ Some (Claims (Still name)) ∷ []) paths (claims ++ record { line = line; claim = kind.Still pattern } ∷ []) names
-  read_claim name line pattern there number =
-      let s : Option Line = Some (Claims (Still name)) in
-      let at = subst (λ o. StandsAt paths o (path_of (spoken said) name)) there (read.named name) in
-      let asks : ◌≡◌ {A = ℕ × Claim} (line, Still (unwrap_or (slice_get paths pattern) [])) (1 + length said, Still (unwrap_or (path_of (spoken said) name) [])) =
-      λ i. ((let e : line ≡ 1 + length said = omega arith in e) i, Still (unwrap_or ((at.1 ∙ sym at.2) i) [])) in (
-        ap is_some at.2,
+  -- a name that is known is loaded
+  known_loaded : (o : Option ℕ) (found : Option (List ℕ)) → StandsAt paths o found → IsSome o → IsSome found
+  known_loaded None found at known = absurd (false≢true known)
+  known_loaded (Some i) found at known = ap is_some at.2
+
+  -- and the other way round
+  loaded_known : (o : Option ℕ) (found : Option (List ℕ)) → StandsAt paths o found → IsSome found → IsSome o
+  loaded_known None found at loaded = absurd (false≢true (sym (ap is_some at) ∙ loaded))
+  loaded_known (Some i) found at loaded = refl
+
+  -- so are all names of a claim
+  names_loaded : (claim : Claim) → AreKnown names claim → AreLoaded (spoken said) (patterns_of claim)
+  names_loaded claim = AllByRecursion-weaker (λ n. IsSome (names n)) (λ n. IsSome (path_of (spoken said) n)) (λ n. known_loaded (names n) (path_of (spoken said) n) (read.named n)) (patterns_of claim)
+
+  pub names_known : (claim : Claim) → AreLoaded (spoken said) (patterns_of claim) → AreKnown names claim
+  names_known claim = AllByRecursion-weaker (λ n. IsSome (path_of (spoken said) n)) (λ n. IsSome (names n)) (λ n. loaded_known (names n) (path_of (spoken said) n) (read.named n)) (patterns_of claim)
+
+  -- a known name's path stands at its place
+  place_path : (o : Option ℕ) (found : Option (List ℕ)) → StandsAt paths o found → IsSome o → path_at paths (unwrap_or o 0) ≡ unwrap_or found []
+  place_path None found at known = absurd (false≢true known)
+  place_path (Some i) found at known = ap (λ p. unwrap_or p []) (at.1 ∙ sym at.2)
+
+  at_place : (name : List ℕ) → IsSome (names name) → path_at paths (unwrap_or (names name) 0) ≡ unwrap_or (path_of (spoken said) name) []
+  at_place name = place_path (names name) (path_of (spoken said) name) (read.named name)
+
+  -- which is within the paths
+  place_within : (o : Option ℕ) (found : Option (List ℕ)) → StandsAt paths o found → IsSome o → unwrap_or o 0 < length paths
+  place_within None found at known = absurd (false≢true known)
+  place_within (Some i) found at known = slice_get_within paths i at.0 at.1
+
+  is_within : (name : List ℕ) → IsSome (names name) → unwrap_or (names name) 0 < length paths
+  is_within name = place_within (names name) (path_of (spoken said) name) (read.named name)
+
+  -- so a claim at its names' places is about the paths that are loaded
+  places_paths : (claim : Claim) → AreKnown names claim → claim_at paths (at_places names claim) ≡ about claim (λ name. unwrap_or (path_of (spoken said) name) [])
+  places_paths (Still p) h = ap Still (at_place p h.0)
+  places_paths (Oscillator p n) h = ap (λ q. Oscillator q n) (at_place p h.0)
+  places_paths (Spaceship p n dx dy) h = ap (λ q. Spaceship q n dx dy) (at_place p h.0)
+  places_paths (Becomes p n r) h =
+      let first = at_place p h.0 in
+      let second = at_place r h.1.0 in
+      λ i. Becomes (first i) n (second i)
+
+  -- and is asked
+  places_asked : (claim : Claim) → AreKnown names claim → HasGoodNumbers claim → IsAsked paths (at_places names claim)
+  places_asked (Still p) h good = record { within = (is_within p h.0, tt); numbers = good }
+  places_asked (Oscillator p n) h good = record { within = (is_within p h.0, tt); numbers = good }
+  places_asked (Spaceship p n dx dy) h good = record { within = (is_within p h.0, tt); numbers = good }
+  places_asked (Becomes p n r) h good = record { within = (is_within p h.0, (is_within r h.1.0, tt)); numbers = good }
+
+  -- a line that makes a claim
+  pub read_claim : (claim : Claim) (line : ℕ) → AreKnown names claim → HasGoodNumbers claim → line ≡ length said + 1
+      → IsAllowed (spoken said) (Claims claim) × IsRead (said ++ Some (Claims claim) ∷ []) paths (claims ++ record { line = line; claim = at_places names claim } ∷ []) names
+  read_claim claim line known good number =
+      let s : Option Line = Some (Claims claim) in
+      let l : ClaimLine = record { line = line; claim = at_places names claim } in
+      let counted : line ≡ 1 + length said = omega arith in
+      let paths_of = places_paths claim known in (
+        (good, names_loaded claim known),
         record {
           once = read.once ∙ ap each_once (sym (loaded_paths-append said (s ∷ []) ∙ append-nil (loaded_paths said)));
-          asked = map-append (numbered paths) claims (record { line = line; claim = kind.Still pattern } ∷ [])
-              ∙ ap (λ l. l ++ (line, Still (unwrap_or (slice_get paths pattern) [])) ∷ []) read.asked
-              ∙ ap (λ c. claims_from 1 [] said ++ c ∷ []) asks
+          asked = map-append (numbered paths) claims (l ∷ [])
+              ∙ ap (λ cs. cs ++ (line, claim_at paths (at_places names claim)) ∷ []) read.asked
+              ∙ (λ i. claims_from 1 [] said ++ (counted i, paths_of i) ∷ [])
               ∙ sym (claims_from-append 1 [] said (s ∷ []));
-          within = All-push (λ l. pattern_index l.claim < length paths) claims (record { line = line; claim = kind.Still pattern }) read.within (slice_get_within paths pattern at.0 at.1);
-          named = λ q. subst (StandsAt paths (names q)) (sym (ap (λ ls. path_of ls q) (spoken-append said (s ∷ [])) ∙ claim_loads_none (spoken said) (Still name) q)) (read.named q);
+          good = All-push (λ k. IsAsked paths k.claim) claims l read.good (places_asked claim known good);
+          named = λ q. subst (StandsAt paths (names q)) (sym (ap (λ ls. path_of ls q) (spoken-append said (s ∷ [])) ∙ claim_loads_none (spoken said) claim q)) (read.named q);
         },
       )

@@ -5,7 +5,7 @@ use Rattle.std.specs.Str.{bytes_eq}
 use Rattle.std.proofs.lemmas.Bool.{cases_Bool}
 use Rattle.std.proofs.lemmas.List.{append-nil}
 use Rattle.ca_plane.specs.Bytes.{words_of}
-use Rattle.ca_claims.specs.Text.{pattern_of, about, Line, Load, Claims, path_of, IsAllowed, LinesSay, spoken, loaded_paths, claims_from}
+use Rattle.ca_claims.specs.Text.{about, Line, Load, Claims, path_of, IsAllowed, LinesSay, spoken, loaded_paths, claims_from}
 use Rattle.ca_claims.specs.Reading.{SaysNext}
 
 -- what lines say and then more lines
@@ -49,7 +49,7 @@ claims_from-append n earlier (Some (Load name path) ∷ said) more =
     ∙ ap (λ l. claims_from (n + 1) (earlier ++ line ∷ []) said ++ l) (same_claims _ _ _ _ more (omega arith) (one_before earlier line (spoken said)))
 claims_from-append n earlier (Some (Claims claim) ∷ said) more =
     let line = Claims claim in
-    ap (λ l. (n, about claim (unwrap_or (path_of earlier (pattern_of claim)) [])) ∷ l)
+    ap (λ l. (n, about claim (λ name. unwrap_or (path_of earlier name) [])) ∷ l)
     (claims_from-append (n + 1) (earlier ++ line ∷ []) said more
     ∙ ap (λ l. claims_from (n + 1) (earlier ++ line ∷ []) said ++ l) (same_claims _ _ _ _ more (omega arith) (one_before earlier line (spoken said))))
 

@@ -1,9 +1,10 @@
 -- Small claim texts and patterns, for which the definitions are worked out.
-use Rattle.std.specs.Prelude.{ℕ, pos, List, [], ◌∷◌, ◌++◌, codes}
+use Rattle.std.specs.Prelude.{ℕ, pos, neg_ℤ, List, [], ◌∷◌, ◌++◌, Option, None, Some, codes}
 use Rattle.ca_plane.specs.Plane.{Picture}
 use Rattle.ca_rule.specs.Counts.{counts_of}
 use Rattle.ca_rule.specs.Next.{next_of}
 use Rattle.ca_rule.specs.declared.hood.Hood.TheVariants.{Moore}
+use Rattle.ca_claims.specs.Text.{Still, Oscillator, Spaceship, Becomes, Line, Load, Claims, Asked}
 
 -- lines, each ended by LF
 abbrev pub text_of : List (List ℕ) → List ℕ
@@ -14,9 +15,35 @@ text_of (l ∷ ls) = l ++ 10 ∷ text_of ls
 abbrev pub block_text : List ℕ
 block_text = text_of (codes "# a comment" ∷ [] ∷ codes "load b block.rle" ∷ codes "still b" ∷ [])
 
+-- all claims, about the patterns of two files, of which one is loaded by two names; line 2 is a comment and line 7 is blank
+abbrev pub every_text : List ℕ
+every_text = text_of (
+    codes "load b block.rle" ∷ codes "# a comment" ∷ codes "load g glider.rle" ∷ codes "load c block.rle" ∷ codes "still b"
+    ∷ codes "oscillator c 007" ∷ [] ∷ codes "spaceship g 4 -1 2" ∷ codes "becomes g 0 c" ∷ [])
+
+-- what its lines say
+abbrev pub every_said : List (Option Line)
+every_said =
+    Some (Load (codes "b") (codes "block.rle")) ∷ None ∷ Some (Load (codes "g") (codes "glider.rle")) ∷ Some (Load (codes "c") (codes "block.rle"))
+    ∷ Some (Claims (Still (codes "b"))) ∷ Some (Claims (Oscillator (codes "c") 7)) ∷ None
+    ∷ Some (Claims (Spaceship (codes "g") 4 (neg_ℤ (pos 1)) (pos 2))) ∷ Some (Claims (Becomes (codes "g") 0 (codes "c"))) ∷ []
+
+-- what it asks: each path once, in the order of the lines, and each claim with the number of its line
+abbrev pub every_asked : Asked
+every_asked = record {
+  paths = codes "block.rle" ∷ codes "glider.rle" ∷ [];
+  claims =
+      (5, Still (codes "block.rle")) ∷ (6, Oscillator (codes "block.rle") 7)
+      ∷ (8, Spaceship (codes "glider.rle") 4 (neg_ℤ (pos 1)) (pos 2)) ∷ (9, Becomes (codes "glider.rle") 0 (codes "block.rle")) ∷ [];
+}
+
 -- a claim about a name that isn't loaded
 abbrev pub unknown_text : List ℕ
 unknown_text = codes "still q"
+
+-- a claim whose second name isn't loaded
+abbrev pub other_unknown_text : List ℕ
+other_unknown_text = text_of (codes "load a p" ∷ codes "becomes a 1 b" ∷ [])
 
 -- a name that is loaded twice
 abbrev pub taken_text : List ℕ
@@ -25,6 +52,18 @@ taken_text = text_of (codes "load a p" ∷ codes "load a q" ∷ [])
 -- a keyword that isn't one, behind a line that loads a name
 abbrev pub misspelled_text : List ℕ
 misspelled_text = text_of (codes "load a p" ∷ codes "gun a" ∷ [])
+
+-- a word that is no number where one is wanted
+abbrev pub no_number_text : List ℕ
+no_number_text = text_of (codes "load a p" ∷ codes "oscillator a x" ∷ [])
+
+-- a spaceship that stays where it is
+abbrev pub no_shift_text : List ℕ
+no_shift_text = text_of (codes "load a p" ∷ codes "spaceship a 4 0 0" ∷ [])
+
+-- a period that is no oscillator's, of a name that isn't loaded
+abbrev pub no_period_text : List ℕ
+no_period_text = codes "oscillator b 1"
 
 -- the next state under Conway's Life, `B3/S23`
 abbrev pub life : List ℕ → ℕ

@@ -1,33 +1,73 @@
 -- How a claim text is read, a line at a time.
-use Rattle.std.specs.Prelude.{◌≡◌, ℕ, ◌<◌, List, [], ◌∷◌, ◌++◌, map, slice_get, length, All, true, false, Option, None, Some, if◌then◌else◌}
+use Rattle.std.specs.Prelude.{◌≡◌, ℕ, ◌^◌, ℤ, pos, neg_ℤ, ◌≤ℤ◌, ◌<ℤ◌, List, [], ◌∷◌, ◌++◌, map, slice_get, All, true, false, Option, None, Some, IsSome, unwrap_or, if◌then◌else◌}
 use Rattle.std.specs.Borrow.{Bor}
 use Rattle.std.specs.HashMap.{HashMap, get_by}
-use Rattle.std.specs.List.{list_any}
+use Rattle.std.specs.List.{list_any, AllByRecursion}
 use Rattle.std.specs.Str.{bytes_eq}
+use Rattle.ca_claims.specs.declared.claims.line.ClaimKind.{ClaimKind}
+use Rattle.ca_claims.specs.declared.claims.line.ClaimKind.TheVariants as kind
 use Rattle.ca_claims.specs.declared.claims.line.ClaimLine.{ClaimLine}
+use Rattle.ca_claims.specs.declared.claims.named.NamedClaim.{NamedClaim}
+use Rattle.ca_claims.specs.declared.claims.named.NamedClaim.TheVariants as named
 use Rattle.ca_claims.specs.declared.claims.reading.Reading.{Reading}
 use Rattle.ca_claims.specs.declared.claims.words.LineKind.{LineKind}
-use Rattle.ca_claims.specs.declared.claims.words.LineKind.TheVariants.{Skipped, Load, Still, Misspelled}
+use Rattle.ca_claims.specs.declared.claims.words.LineKind.TheVariants.{Skipped, Load, Claim, OutsideLimits, Misspelled}
 use Rattle.ca_claims.specs.declared.fault.ClaimFault.{ClaimFault}
-use Rattle.ca_claims.specs.declared.fault.ClaimFault.TheVariants.{Syntax, UnknownName, NameTaken, Memory}
-use Rattle.ca_claims.specs.Lines.{numbered, pattern_index}
+use Rattle.ca_claims.specs.declared.fault.ClaimFault.TheVariants.{Syntax, Number, UnknownName, NameTaken, Memory}
+use Rattle.ca_claims.specs.Lines.{numbered, IsAsked}
 use Rattle.ca_claims.specs.Text as text
-use Rattle.ca_claims.specs.TextFaults.{AreMisspelled, AskUnknown, LoadTaken}
+use Rattle.ca_claims.specs.TextFaults.{AreMisspelled, HaveBadNumber, AskUnknown, LoadTaken}
 
 -- the paths, with this one behind them where it isn't one of them
 abbrev pub with_path : List (List ℕ) → List ℕ → List (List ℕ)
 with_path paths path = if list_any (bytes_eq path) paths then paths else paths ++ path ∷ []
 
+-- what a line claims, of patterns that are given by their names
+abbrev pub claim_of : NamedClaim → text.Claim
+claim_of (named.Still name) = text.Still name.now
+claim_of (named.Oscillator name period) = text.Oscillator name.now period
+claim_of (named.Spaceship name period dx dy) = text.Spaceship name.now period dx dy
+claim_of (named.Becomes name generations other) = text.Becomes name.now generations other.now
+
+-- a number is held as an i64: as itself where either of them is a shift
+pub record IsHeldShift (n held : ℤ) : Type 0 where
+  pub exact : text.IsShift n → n ≡ held
+  pub sound : text.IsShift held → n ≡ held
+  pub least : neg_ℤ (pos (2 ^ 63)) ≤ℤ held
+  pub greatest : held <ℤ pos (2 ^ 63)
+
+-- a claim is held with numbers of 64 bits: as itself where either of them has good numbers
+pub record IsHeldClaim (claim held : text.Claim) : Type 0 where
+  pub exact : text.HasGoodNumbers claim → claim ≡ held
+  pub sound : text.HasGoodNumbers held → claim ≡ held
+
+-- the words make a claim, which is held so
+abbrev pub MakesClaim : List (List ℕ) → NamedClaim → Type 0
+MakesClaim words held = (claim : text.Claim) × text.WordsSay words (text.Claims claim) × IsHeldClaim claim (claim_of held)
+
 -- the kind of a line with these words
 abbrev pub IsKind : List (List ℕ) → LineKind → Type 0
 IsKind words Skipped = text.is_skipped words ≡ true
 IsKind words (Load name path) = (text.is_skipped words ≡ false) × text.WordsSay words (text.Load name.now path.now)
-IsKind words (Still name) = (text.is_skipped words ≡ false) × text.WordsSay words (text.Claims (text.Still name.now))
+IsKind words (Claim held) = (text.is_skipped words ≡ false) × text.WordsSay words (text.Claims (claim_of held)) × text.HasGoodNumbers (claim_of held)
+IsKind words OutsideLimits =
+    (text.is_skipped words ≡ false) × (claim : text.Claim) × text.WordsSay words (text.Claims claim) × (text.HasGoodNumbers claim → ⊥)
 IsKind words Misspelled = (text.is_skipped words ≡ false) × ((line : text.Line) → text.WordsSay words line → ⊥)
 
 -- the index at which a name's path stands
 abbrev pub place_of : {S : Type 0} → HashMap (Bor (List ℕ)) ℕ S → List ℕ → Option ℕ
 place_of names name = get_by (λ n. bytes_eq name n.now) names
+
+-- each of a claim's names is known
+abbrev pub AreKnown : (List ℕ → Option ℕ) → text.Claim → Type 0
+AreKnown names claim = AllByRecursion (λ n. IsSome (names n)) (text.patterns_of claim)
+
+-- the claim about the paths at the places of its names
+abbrev pub at_places : (List ℕ → Option ℕ) → text.Claim → ClaimKind
+at_places names (text.Still name) = kind.Still (unwrap_or (names name) 0)
+at_places names (text.Oscillator name period) = kind.Oscillator (unwrap_or (names name) 0) period
+at_places names (text.Spaceship name period dx dy) = kind.Spaceship (unwrap_or (names name) 0) period dx dy
+at_places names (text.Becomes name generations other) = kind.Becomes (unwrap_or (names name) 0) generations (unwrap_or (names other) 0)
 
 -- a path, where there is one, stands at this index
 abbrev pub StandsAt : List (List ℕ) → Option ℕ → Option (List ℕ) → Type 0
@@ -38,7 +78,7 @@ StandsAt paths (Some i) found = (path : List ℕ) × (slice_get paths i ≡ Some
 pub record IsRead (said : List (Option text.Line)) (paths : List (List ℕ)) (claims : List ClaimLine) (names : List ℕ → Option ℕ) : Type 0 where
   pub once : paths ≡ text.each_once (text.loaded_paths said)
   pub asked : map (numbered paths) claims ≡ text.claims_from 1 [] said
-  pub within : All (λ l. pattern_index l.claim < length paths) claims
+  pub good : All (λ l. IsAsked paths l.claim) claims
   pub named : (name : List ℕ) → StandsAt paths (names name) (text.path_of (text.spoken said) name)
 
 -- what is kept once the lines have said this
@@ -53,6 +93,7 @@ SaysNext earlier words (Some line) = (text.is_skipped words ≡ false) × text.W
 -- the n-th line has this fault, behind what earlier lines say
 abbrev pub HasFault : ℕ → List text.Line → List (List ℕ) → ClaimFault → Type 0
 HasFault n earlier words (Syntax line) = (line ≡ n) × AreMisspelled earlier words
+HasFault n earlier words (Number line) = (line ≡ n) × HaveBadNumber earlier words
 HasFault n earlier words (UnknownName line) = (line ≡ n) × AskUnknown earlier words
 HasFault n earlier words (NameTaken line) = (line ≡ n) × LoadTaken earlier words
 HasFault n earlier words Memory = Unit {0}

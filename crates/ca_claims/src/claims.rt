@@ -3,10 +3,11 @@
 ghost use Rattle.std.specs.Prelude.{◌≡◌, ◌≢◌, ℕ, ◌<◌, Some, slice_get, length, MatchOption};
 ghost use Rattle.std.specs.List.{IsDistinct};
 ghost use Rattle.std.specs.Str.{bytes_eq};
-ghost use Rattle.ca_claims.specs.Text.{pattern_of};
-ghost use Rattle.ca_claims.specs.Lines.{numbered, pattern_index, claim_at};
+ghost use Rattle.ca_claims.specs.Lines.{numbered, IsAsked};
 
 mod line;
+mod named;
+mod numbers;
 mod paths;
 mod reading;
 #[cfg(test)]
@@ -26,15 +27,15 @@ pub struct Claims {
 }
 
 impl Model for Claims {
-    ghost use Rattle.std.specs.Prelude.{◌<◌, length, map, All};
+    ghost use Rattle.std.specs.Prelude.{map, All};
     ghost use Rattle.ca_claims.specs.Text.{Asked};
-    ghost use Rattle.ca_claims.specs.Lines.{numbered, pattern_index};
+    ghost use Rattle.ca_claims.specs.Lines.{numbered, IsAsked};
 
     ghost Value = { Asked };
 
     ghost view = { λ c. record { paths = c.paths; claims = map (numbered c.paths) c.claims.items } };
 
-    ghost invariant = { λ c. All (λ l. pattern_index l.claim < length c.paths) c.claims.items };
+    ghost invariant = { λ c. All (λ l. IsAsked c.paths l.claim) c.claims.items };
 }
 
 impl Claims {
@@ -72,7 +73,7 @@ impl Claims {
     pub(crate) fn claim(&self, index: usize) -> ClaimLine
         requires { index < length self.now.claims }
         ensures claim { slice_get self.now.claims index ≡ Some (numbered self.now.paths result) }
-        ensures path { slice_get self.now.paths (pattern_index result.claim) ≡ Some (pattern_of (claim_at self.now.paths result.claim)) }
+        ensures asked { IsAsked self.now.paths result.claim }
     {
         self.claims[index]
     }

@@ -3,7 +3,7 @@
 ghost use Rattle.std.specs.Prelude.{◌≡◌, ◌≢◌, ℕ, List, [], ◌∷◌, Option, Some, None, codes};
 ghost use Rattle.ca_claims.specs.Text.{Line, Load, Claims as Claiming, Still as StillOf, IsClaimText, asked_by};
 ghost use Rattle.ca_claims.specs.TextFaults.{IsFirstFault};
-ghost use Rattle.ca_claims.specs.Examples.{block_text, unknown_text, taken_text, misspelled_text};
+ghost use Rattle.ca_claims.specs.Examples.{block_text, every_text, every_said, every_asked, unknown_text, other_unknown_text, taken_text, misspelled_text, no_number_text, no_shift_text, no_period_text};
 ghost use Rattle.ca_claims.specs.declared.fault.ClaimFault.{ClaimFault};
 ghost use Rattle.ca_claims.specs.declared.fault.ClaimFault.TheVariants as fault;
 
@@ -28,10 +28,18 @@ pub fn worked_examples()
     ensures lines { IsClaimText block_text (None ∷ None ∷ Some (Load (codes "b") (codes "block.rle")) ∷ Some (Claiming (StillOf (codes "b"))) ∷ []) }
     ensures asked { asked_by (None ∷ None ∷ Some (Load (codes "b") (codes "block.rle")) ∷ Some (Claiming (StillOf (codes "b"))) ∷ [])
         ≡ record { paths = codes "block.rle" ∷ []; claims = (4, StillOf (codes "block.rle")) ∷ [] } }
+    // All claims.
+    ensures every_line { IsClaimText every_text every_said }
+    ensures every_claim { asked_by every_said ≡ every_asked }
     // No lines.
     ensures empty { IsClaimText [] [] }
     // Each fault, with the number of its line.
     ensures unknown { IsFirstFault unknown_text (fault.UnknownName 1) }
     ensures taken { IsFirstFault taken_text (fault.NameTaken 2) }
+    ensures other_unknown { IsFirstFault other_unknown_text (fault.UnknownName 2) }
     ensures misspelled { IsFirstFault misspelled_text (fault.Syntax 2) }
+    ensures no_number { IsFirstFault no_number_text (fault.Syntax 2) }
+    ensures no_shift { IsFirstFault no_shift_text (fault.Number 2) }
+    // A number comes before an unknown name.
+    ensures no_period { IsFirstFault no_period_text (fault.Number 1) }
 {}

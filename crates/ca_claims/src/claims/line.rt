@@ -4,9 +4,14 @@
 #[derive(Clone, Copy, Debug, PartialEq, Eq)]
 pub(crate) enum ClaimKind {
     /// The pattern is live, and one generation on it is what it was.
-    Still { pattern: usize },
+    Still {
+        pattern: usize,
+    },
     /// The pattern is live, it is back after the period, and at no time before that.
-    Oscillator { pattern: usize, period: u64 },
+    Oscillator {
+        pattern: usize,
+        period: u64,
+    },
     /// The pattern is live, after the period it is moved by the shift, and at no time before that is it back, however moved.
     Spaceship {
         pattern: usize,

@@ -1,11 +1,13 @@
 //! A claim text read, a line at a time.
 
-ghost use Rattle.std.specs.Prelude.{◌≡◌, ℕ, ◌+◌, ◌∷◌, [], ◌++◌, List, Option, Some, None, not, codes, length, is_some, OnOk, IfOk, IfErr};
+ghost use Rattle.std.specs.Prelude.{◌≡◌, ℕ, ◌+◌, ◌∷◌, [], ◌++◌, List, Option, Some, None, not, codes, length, is_some, OnOk, IfOk, IfErr, MatchOption};
 ghost use Rattle.ca_plane.specs.Bytes.{Every, is_line_end, words_of};
-ghost use Rattle.ca_claims.specs.Text.{Line, Load, Claims as Claiming, Still as StillOf, IsAllowed, IsClaimText, spoken, asked_by};
+ghost use Rattle.ca_claims.specs.Text.{Line, Load, Claims as Claiming, HasGoodNumbers, IsAllowed, IsClaimText, spoken, asked_by};
 ghost use Rattle.ca_claims.specs.TextFaults.{IsFirstFault};
-ghost use Rattle.ca_claims.specs.Reading.{IsReading, SaysNext, HasFault, place_of};
+ghost use Rattle.ca_claims.specs.declared.claims.words.LineKind.TheVariants.{Claim};
+ghost use Rattle.ca_claims.specs.Reading.{IsKind, IsReading, SaysNext, HasFault, place_of, claim_of, AreKnown, at_places};
 
+use super::named::NamedClaim;
 use super::paths::Paths;
 use super::words::{LineKind, line_kind, next_line};
 use super::{ClaimKind, ClaimLine, Claims};
@@ -66,18 +68,68 @@ impl<'a> Reading<'a> {
         Ok(())
     }
 
-    /// The line with this number claims that the pattern of the name is still.
-    fn still(&mut self, line: u64, name: &[u8]) -> Result<(), ClaimFault>
-        ensures claimed { OnOk result ((said : List (Option Line)) → IsReading said self.old → line ≡ length said + 1
-            → IsAllowed (spoken said) (Claiming (StillOf name.now))
-            × IsReading (said ++ Some (Claiming (StillOf name.now)) ∷ []) self.new) }
-        ensures fault { IfErr result (λ f. (said : List (Option Line)) → IsReading said self.old
-            → HasFault line (spoken said) (codes "still" ∷ name.now ∷ []) f) }
+    /// The index of the path that a line has loaded the name from.
+    fn place(&self, name: &[u8]) -> Option<usize>
+        ensures { result ≡ place_of self.now.names name.now }
     {
-        let Some(pattern) = self.names.get(name) else {
+        self.names.get(name).copied()
+    }
+
+    /// The claim about the paths that lines have loaded its names from, where each is loaded.
+    fn placed(&self, claim: &NamedClaim<'a>) -> Option<ClaimKind>
+        ensures { MatchOption result (AreKnown (place_of self.now.names) (claim_of claim.now) → ⊥) (λ c. AreKnown (place_of self.now.names) (claim_of claim.now) × (c ≡ at_places (place_of self.now.names) (claim_of claim.now))) }
+    {
+        match *claim {
+            NamedClaim::Still { name } => {
+                let pattern = self.place(name)?;
+                Some(ClaimKind::Still { pattern })
+            }
+            NamedClaim::Oscillator { name, period } => {
+                let pattern = self.place(name)?;
+                Some(ClaimKind::Oscillator { pattern, period })
+            }
+            NamedClaim::Spaceship {
+                name,
+                period,
+                dx,
+                dy,
+            } => {
+                let pattern = self.place(name)?;
+                Some(ClaimKind::Spaceship {
+                    pattern,
+                    period,
+                    dx,
+                    dy,
+                })
+            }
+            NamedClaim::Becomes {
+                name,
+                generations,
+                other,
+            } => {
+                let pattern = self.place(name)?;
+                let other = self.place(other)?;
+                Some(ClaimKind::Becomes {
+                    pattern,
+                    generations,
+                    other,
+                })
+            }
+        }
+    }
+
+    /// The line with this number makes the claim.
+    fn claim(&mut self, line: u64, claim: &NamedClaim<'a>) -> Result<(), ClaimFault>
+        requires { HasGoodNumbers (claim_of claim.now) }
+        ensures claimed { OnOk result ((said : List (Option Line)) → IsReading said self.old → line ≡ length said + 1
+            → IsAllowed (spoken said) (Claiming (claim_of claim.now))
+            × IsReading (said ++ Some (Claiming (claim_of claim.now)) ∷ []) self.new) }
+        ensures fault { IfErr result (λ f. (said : List (Option Line)) → IsReading said self.old
+            → (words : List (List ℕ)) → IsKind words (Claim claim.now) → HasFault line (spoken said) words f) }
+    {
+        let Some(claim) = self.placed(claim) else {
             return Err(ClaimFault::UnknownName { line });
         };
-        let claim = ClaimKind::Still { pattern: *pattern };
         if self.claims.push(ClaimLine { line, claim }).is_err() {
             return Err(ClaimFault::Memory);
         }
@@ -96,7 +148,8 @@ impl<'a> Reading<'a> {
         match line_kind(line) {
             LineKind::Skipped => Ok(()),
             LineKind::Load { name, path } => self.load(alloc, number, name, path),
-            LineKind::Still { name } => self.still(number, name),
+            LineKind::Claim(claim) => self.claim(number, &claim),
+            LineKind::OutsideLimits => Err(ClaimFault::Number { line: number }),
             LineKind::Misspelled => Err(ClaimFault::Syntax { line: number }),
         }
     }

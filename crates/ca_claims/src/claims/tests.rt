@@ -1,3 +1,4 @@
+use super::ClaimKind;
 use crate::{ClaimFault, read_claims};
 use std::alloc::Global;
 use std::test::*;
@@ -30,7 +31,104 @@ fn misspelled_lines(rt: HostRuntime) {
     let second = Some(ClaimFault::Syntax { line: 2 });
     assert_eq!(rt; fault_of(rt.alloc(), b"load a p\nstill a a\n"), second);
     assert_eq!(rt; fault_of(rt.alloc(), b"load a p\nstill\n"), second);
-    assert_eq!(rt; fault_of(rt.alloc(), b"load a p\noscillator a 2\n"), second);
+}
+
+#[test]
+fn claims_that_are_misspelled(rt: HostRuntime) {
+    let texts: [&[u8]; 12] = [
+        b"load a p\noscillator a x",
+        b"load a p\noscillator a",
+        b"load a p\noscillator a -2",
+        b"load a p\nspaceship a 4 +1 1",
+        b"load a p\nspaceship a 4 1 --1",
+        b"load a p\nspaceship a 4 1 -",
+        b"load a p\nspaceship a 0 1 x",
+        b"load a p\nspaceship a 4 1",
+        b"load a p\nbecomes a 1",
+        b"load a p\nbecomes a a 1",
+        b"load a p\nbecomes a 1 a a",
+        b"load a p\nrule r",
+    ];
+    'texts: for text in texts {
+        let second = Some(ClaimFault::Syntax { line: 2 });
+        assert_eq!(rt; fault_of(rt.alloc(), text), second);
+    }
+}
+
+#[test]
+fn numbers_outside_their_limits(rt: HostRuntime) {
+    let texts: [&[u8]; 11] = [
+        b"load a p\noscillator a 1",
+        b"load a p\noscillator a 0",
+        b"load a p\noscillator a 4294967296",
+        b"load a p\nspaceship a 4 0 0",
+        b"load a p\nspaceship a 1 -0 0",
+        b"load a p\nspaceship a 0 1 1",
+        b"load a p\nspaceship a 1 0 1152921504606846977",
+        b"load a p\nspaceship a 1 -1152921504606846977 0",
+        b"load a p\nspaceship a 1 -9999999999999999999999999999999999999999 1",
+        b"load a p\nbecomes a 1152921504606846977 a",
+        b"load a p\nbecomes a 9999999999999999999999999999999999999999 a",
+    ];
+    'texts: for text in texts {
+        let second = Some(ClaimFault::Number { line: 2 });
+        assert_eq!(rt; fault_of(rt.alloc(), text), second);
+    }
+}
+
+#[test]
+fn numbers_before_names(rt: HostRuntime) {
+    let number = Some(ClaimFault::Number { line: 1 });
+    assert_eq!(rt; fault_of(rt.alloc(), b"oscillator b 0"), number);
+    let unknown = Some(ClaimFault::UnknownName { line: 2 });
+    assert_eq!(rt; fault_of(rt.alloc(), b"load a p\nbecomes a 1 b"), unknown);
+}
+
+#[test]
+fn numbers_at_their_limits(rt: HostRuntime) -> Result<(), Fail> {
+    let text =
+        b"load a p\noscillator a 4294967295\nbecomes a 1152921504606846976 a\nspaceship a 1 -1152921504606846976 0\nspaceship a 0004 -000 1152921504606846976\n";
+    let claims = read_claims(rt.alloc(), text).ok().ok_or("four claims")?;
+    assert_eq!(rt; claims.claim_count(), 4);
+    let oscillator = ClaimKind::Oscillator {
+        pattern: 0,
+        period: 4294967295,
+    };
+    assert_eq!(rt; claims.claim(0).claim, oscillator);
+    let becomes = ClaimKind::Becomes {
+        pattern: 0,
+        generations: 1152921504606846976,
+        other: 0,
+    };
+    assert_eq!(rt; claims.claim(1).claim, becomes);
+    let left = ClaimKind::Spaceship {
+        pattern: 0,
+        period: 1,
+        dx: -1152921504606846976,
+        dy: 0,
+    };
+    assert_eq!(rt; claims.claim(2).claim, left);
+    let down = ClaimKind::Spaceship {
+        pattern: 0,
+        period: 4,
+        dx: 0,
+        dy: 1152921504606846976,
+    };
+    assert_eq!(rt; claims.claim(3).claim, down);
+    Ok(())
+}
+
+#[test]
+fn two_names(rt: HostRuntime) -> Result<(), Fail> {
+    let text = b"load a p\nload b q\nload c p\nbecomes b 0 c\n";
+    let claims = read_claims(rt.alloc(), text).ok().ok_or("one claim")?;
+    let becomes = ClaimKind::Becomes {
+        pattern: 1,
+        generations: 0,
+        other: 0,
+    };
+    assert_eq!(rt; claims.claim(0).claim, becomes);
+    Ok(())
 }
 
 #[test]
@@ -65,9 +163,9 @@ fn lines_are_counted(rt: HostRuntime) -> Result<(), Fail> {
     assert_eq!(rt; claims.claim_count(), 2);
     let first = claims.claim(0);
     assert_eq!(rt; first.line, 6);
-    assert_eq!(rt; first.claim.pattern(), 1);
+    assert_eq!(rt; first.claim, ClaimKind::Still { pattern: 1 });
     let second = claims.claim(1);
     assert_eq!(rt; second.line, 8);
-    assert_eq!(rt; second.claim.pattern(), 0);
+    assert_eq!(rt; second.claim, ClaimKind::Still { pattern: 0 });
     Ok(())
 }

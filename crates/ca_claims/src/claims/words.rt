@@ -2,9 +2,11 @@
 
 ghost use Rattle.std.specs.Prelude.{◌≡◌, ◌≢◌, ℕ, ◌<◌, List, [], ◌∷◌, not, length, codes, MatchOption, IfSome};
 ghost use Rattle.ca_plane.specs.Bytes.{Every, is_line_end, lines_of, words_of};
-ghost use Rattle.ca_claims.specs.Text.{is_skipped};
-ghost use Rattle.ca_claims.specs.Reading.{IsKind};
+ghost use Rattle.ca_claims.specs.Text.{Claim, Claims, WordsSay, is_skipped};
+ghost use Rattle.ca_claims.specs.Reading.{IsKind, MakesClaim};
 
+use super::named::NamedClaim;
+use super::numbers::{integer_of, number_of};
 use ca_plane::bytes::{split_blanks, split_line, split_word};
 
 /// The first line of bytes that aren't empty, without its LF, and the bytes behind that.
@@ -58,6 +60,26 @@ fn two_words(bytes: &[u8]) -> Option<(&[u8], &[u8])>
     Some((first, second))
 }
 
+/// The three words of a line's bytes, where they have three and no other.
+fn three_words(bytes: &[u8]) -> Option<(&[u8], &[u8], &[u8])>
+    requires { Every (λ b. not (is_line_end b)) bytes.now }
+    ensures { MatchOption result ((a b c : List ℕ) → words_of bytes.now ≢ a ∷ b ∷ c ∷ []) (λ w. words_of bytes.now ≡ w.0.now ∷ w.1.now ∷ w.2.now ∷ []) }
+{
+    let (first, rest) = next_word(bytes)?;
+    let (second, third) = two_words(rest)?;
+    Some((first, second, third))
+}
+
+/// The four words of a line's bytes, where they have four and no other.
+fn four_words(bytes: &[u8]) -> Option<(&[u8], &[u8], &[u8], &[u8])>
+    requires { Every (λ b. not (is_line_end b)) bytes.now }
+    ensures { MatchOption result ((a b c d : List ℕ) → words_of bytes.now ≢ a ∷ b ∷ c ∷ d ∷ []) (λ w. words_of bytes.now ≡ w.0.now ∷ w.1.now ∷ w.2.now ∷ w.3.now ∷ []) }
+{
+    let (first, rest) = next_word(bytes)?;
+    let (second, third, fourth) = three_words(rest)?;
+    Some((first, second, third, fourth))
+}
+
 /// What a line says, by its words alone.
 #[derive(Clone, Copy, Debug)]
 pub(crate) enum LineKind<'a> {
@@ -65,8 +87,10 @@ pub(crate) enum LineKind<'a> {
     Skipped,
     /// `load NAME PATH`.
     Load { name: &'a [u8], path: &'a [u8] },
-    /// `still NAME`.
-    Still { name: &'a [u8] },
+    /// A claim, whose numbers are within their limits.
+    Claim(NamedClaim<'a>),
+    /// A claim with a number outside its limits.
+    OutsideLimits,
     /// Anything else.
     Misspelled,
 }
@@ -93,10 +117,13 @@ pub(crate) fn line_kind(line: &[u8]) -> LineKind<'_>
     if keyword == b"load".as_slice() {
         return load(rest);
     }
-    if keyword == b"still".as_slice() {
-        return still(rest);
+    let Some(claim) = claim(keyword, rest) else {
+        return LineKind::Misspelled;
+    };
+    if !claim.has_good_numbers() {
+        return LineKind::OutsideLimits;
     }
-    LineKind::Misspelled
+    LineKind::Claim(claim)
 }
 
 /// What a line says whose keyword is `load`, by the words behind that.
@@ -110,13 +137,72 @@ fn load(words: &[u8]) -> LineKind<'_>
     }
 }
 
-/// What a line says whose keyword is `still`, by the words behind that.
-fn still(words: &[u8]) -> LineKind<'_>
+/// The claim that a keyword and the words behind it make.
+fn claim<'a>(keyword: &[u8], words: &'a [u8]) -> Option<NamedClaim<'a>>
     requires { Every (λ b. not (is_line_end b)) words.now }
-    ensures { IsKind (codes "still" ∷ words_of words.now) result }
+    ensures { MatchOption result ((c : Claim) → WordsSay (keyword.now ∷ words_of words.now) (Claims c) → ⊥) (λ c. MakesClaim (keyword.now ∷ words_of words.now) c) }
 {
-    match one_word(words) {
-        Some(name) => LineKind::Still { name },
-        None => LineKind::Misspelled,
+    if keyword == b"still".as_slice() {
+        return still(words);
     }
+    if keyword == b"oscillator".as_slice() {
+        return oscillator(words);
+    }
+    if keyword == b"spaceship".as_slice() {
+        return spaceship(words);
+    }
+    if keyword == b"becomes".as_slice() {
+        return becomes(words);
+    }
+    None
+}
+
+/// The claim of a line whose keyword is `still`, by the words behind that.
+fn still(words: &[u8]) -> Option<NamedClaim<'_>>
+    requires { Every (λ b. not (is_line_end b)) words.now }
+    ensures { MatchOption result ((c : Claim) → WordsSay (codes "still" ∷ words_of words.now) (Claims c) → ⊥) (λ c. MakesClaim (codes "still" ∷ words_of words.now) c) }
+{
+    let name = one_word(words)?;
+    Some(NamedClaim::Still { name })
+}
+
+/// The claim of a line whose keyword is `oscillator`, by the words behind that.
+fn oscillator(words: &[u8]) -> Option<NamedClaim<'_>>
+    requires { Every (λ b. not (is_line_end b)) words.now }
+    ensures { MatchOption result ((c : Claim) → WordsSay (codes "oscillator" ∷ words_of words.now) (Claims c) → ⊥) (λ c. MakesClaim (codes "oscillator" ∷ words_of words.now) c) }
+{
+    let (name, period) = two_words(words)?;
+    let period = number_of(period)?;
+    Some(NamedClaim::Oscillator { name, period })
+}
+
+/// The claim of a line whose keyword is `spaceship`, by the words behind that.
+fn spaceship(words: &[u8]) -> Option<NamedClaim<'_>>
+    requires { Every (λ b. not (is_line_end b)) words.now }
+    ensures { MatchOption result ((c : Claim) → WordsSay (codes "spaceship" ∷ words_of words.now) (Claims c) → ⊥) (λ c. MakesClaim (codes "spaceship" ∷ words_of words.now) c) }
+{
+    let (name, period, dx, dy) = four_words(words)?;
+    let period = number_of(period)?;
+    let dx = integer_of(dx)?;
+    let dy = integer_of(dy)?;
+    Some(NamedClaim::Spaceship {
+        name,
+        period,
+        dx,
+        dy,
+    })
+}
+
+/// The claim of a line whose keyword is `becomes`, by the words behind that.
+fn becomes(words: &[u8]) -> Option<NamedClaim<'_>>
+    requires { Every (λ b. not (is_line_end b)) words.now }
+    ensures { MatchOption result ((c : Claim) → WordsSay (codes "becomes" ∷ words_of words.now) (Claims c) → ⊥) (λ c. MakesClaim (codes "becomes" ∷ words_of words.now) c) }
+{
+    let (name, generations, other) = three_words(words)?;
+    let generations = number_of(generations)?;
+    Some(NamedClaim::Becomes {
+        name,
+        generations,
+        other,
+    })
 }

@@ -1,6 +1,55 @@
-use Rattle.std.proofs.Common.{[], ◌∷◌, Some, codes, refl}
-use Rattle.ca_claims.specs.Text.{Line, Load, Claims, Still, WordsSay}
+use Rattle.std.proofs.Common.{◌≡◌, ◌≤◌, ◌<◌, ◌^◌, ℕ, List, [], ◌∷◌, Some, codes, refl, subst, inl, inr, arith}
+use Rattle.std.specs.Prelude.{ℤ, pos, neg_ℤ}
+use Rattle.std.proofs.lemmas.Bool.{false≢true}
+use Rattle.std.proofs.lemmas.Int.{ints}
+use Rattle.ca_plane.specs.Bytes.{AreDigits}
+use Rattle.ca_claims.specs.Text.{Claim, Still, Oscillator, Spaceship, Becomes, Line, Load, Claims, WordsSay, HasGoodNumbers}
 use Rattle.ca_claims.proofs.laws.worked_examples.Goals as goal
+
+-- one cell to the left and two down, in four generations
+shift_good : (pattern : List ℕ) → HasGoodNumbers (Spaceship pattern 4 (neg_ℤ (pos 1)) (pos 2))
+shift_good pattern = (omega arith, omega arith, (omega (arith, ints), omega (arith, ints)), (omega (arith, ints), omega (arith, ints)), λ e f. omega (arith, ints))
+
+-- what the words of three claims say
+says_oscillator : WordsSay (codes "oscillator" ∷ codes "c" ∷ codes "007" ∷ []) (Claims (Oscillator (codes "c") 7))
+says_oscillator = (codes "007", refl, refl, refl)
+
+says_spaceship : WordsSay (codes "spaceship" ∷ codes "g" ∷ codes "4" ∷ codes "-1" ∷ codes "2" ∷ []) (Claims (Spaceship (codes "g") 4 (neg_ℤ (pos 1)) (pos 2)))
+says_spaceship = (codes "4", codes "-1", codes "2", refl, refl, refl, inr (codes "1", refl, refl, refl), inl (refl, refl))
+
+says_becomes : WordsSay (codes "becomes" ∷ codes "g" ∷ codes "0" ∷ codes "c" ∷ []) (Claims (Becomes (codes "g") 0 (codes "c")))
+says_becomes = (codes "0", refl, refl, refl)
+
+pub returns-clause-every_line : goal.returns-clause-every_line
+returns-clause-every_line c = (
+  refl,
+  refl,
+  refl,
+  (
+    refl,
+    (
+      refl,
+      refl,
+      refl,
+      (
+        refl,
+        refl,
+        refl,
+        (
+          refl,
+          refl,
+          (tt, (refl, tt)),
+          (
+            refl,
+            says_oscillator,
+            ((omega arith, omega arith), (refl, tt)),
+            (refl, (refl, says_spaceship, (shift_good (codes "g"), (refl, tt)), (refl, says_becomes, (omega arith, (refl, (refl, tt))), tt))),
+          ),
+        ),
+      ),
+    ),
+  ),
+)
 
 pub returns-clause-unknown : goal.returns-clause-unknown
 returns-clause-unknown c = record {
@@ -11,7 +60,7 @@ returns-clause-unknown c = record {
   good = tt;
   among = refl;
   number = refl;
-  holds = (refl, Still (codes "q"), refl, refl);
+  holds = (refl, Still (codes "q"), refl, tt, λ h. false≢true h.0);
 }
 
 pub returns-clause-taken : goal.returns-clause-taken
@@ -26,10 +75,25 @@ returns-clause-taken c = record {
   holds = (refl, codes "a", codes "q", refl, refl);
 }
 
+pub returns-clause-other_unknown : goal.returns-clause-other_unknown
+returns-clause-other_unknown c = record {
+  before = codes "load a p" ∷ [];
+  line = codes "becomes a 1 b";
+  later = [];
+  said = Some (Load (codes "a") (codes "p")) ∷ [];
+  good = (refl, refl, refl, tt);
+  among = refl;
+  number = refl;
+  holds = (refl, Becomes (codes "a") 1 (codes "b"), (codes "1", refl, refl, refl), omega arith, λ h. false≢true h.1.0);
+}
+
 -- `gun a` says nothing
 says_nothing : (line : Line) → WordsSay (codes "gun" ∷ codes "a" ∷ []) line → ⊥
 says_nothing (Load name path) h = cc
 says_nothing (Claims (Still name)) h = cc
+says_nothing (Claims (Oscillator name period)) h = cc
+says_nothing (Claims (Spaceship name period dx dy)) h = cc
+says_nothing (Claims (Becomes name generations other)) h = cc
 
 pub returns-clause-misspelled : goal.returns-clause-misspelled
 returns-clause-misspelled c = record {
@@ -41,4 +105,57 @@ returns-clause-misspelled c = record {
   among = refl;
   number = refl;
   holds = (refl, says_nothing);
+}
+
+-- the third word of an oscillator's claim is a number
+period_word : (keyword name word : List ℕ) (n : List ℕ) (p : List ℕ) → keyword ∷ name ∷ word ∷ [] ≡ keyword ∷ n ∷ p ∷ [] → p ≡ word
+period_word keyword name word n p e = cc
+
+-- `oscillator a x` says nothing
+letter_says_nothing : (line : Line) → WordsSay (codes "oscillator" ∷ codes "a" ∷ codes "x" ∷ []) line → ⊥
+letter_says_nothing (Load name path) h = cc
+letter_says_nothing (Claims (Still name)) h = cc
+letter_says_nothing (Claims (Oscillator name period)) h = false≢true (subst AreDigits (period_word (codes "oscillator") (codes "a") (codes "x") name h.0 h.1) h.2)
+letter_says_nothing (Claims (Spaceship name period dx dy)) h = cc
+letter_says_nothing (Claims (Becomes name generations other)) h = cc
+
+pub returns-clause-no_number : goal.returns-clause-no_number
+returns-clause-no_number c = record {
+  before = codes "load a p" ∷ [];
+  line = codes "oscillator a x";
+  later = [];
+  said = Some (Load (codes "a") (codes "p")) ∷ [];
+  good = (refl, refl, refl, tt);
+  among = refl;
+  number = refl;
+  holds = (refl, letter_says_nothing);
+}
+
+pub returns-clause-no_shift : goal.returns-clause-no_shift
+returns-clause-no_shift c = record {
+  before = codes "load a p" ∷ [];
+  line = codes "spaceship a 4 0 0";
+  later = [];
+  said = Some (Load (codes "a") (codes "p")) ∷ [];
+  good = (refl, refl, refl, tt);
+  among = refl;
+  number = refl;
+  holds = (
+    refl,
+    Spaceship (codes "a") 4 (pos 0) (pos 0),
+    (codes "4", codes "0", codes "0", refl, refl, refl, inl (refl, refl), inl (refl, refl)),
+    λ h. h.4 refl refl,
+  );
+}
+
+pub returns-clause-no_period : goal.returns-clause-no_period
+returns-clause-no_period c = record {
+  before = [];
+  line = codes "oscillator b 1";
+  later = [];
+  said = [];
+  good = tt;
+  among = refl;
+  number = refl;
+  holds = (refl, Oscillator (codes "b") 1, (codes "1", refl, refl, refl), λ h. omega arith);
 }

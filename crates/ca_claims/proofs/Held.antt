@@ -1,0 +1,105 @@
+-- The words of a spaceship's claim, and how claims are held with numbers of 64 bits.
+use Rattle.std.proofs.Common.{◌≡◌, ◌≢◌, ℕ, ◌-◌, ◌^◌, ◌<◌, ◌≤◌, min, false, List, [], ◌∷◌, codes, refl, sym, ap, subst, ◌∙◌, arith, w64, to_z, of_z}
+use Rattle.std.specs.Prelude.{ℤ, pos, neg_ℤ, ◌-ℤ◌, FitsSigned}
+use Rattle.std.specs.Str.{bytes_eq}
+use Rattle.std.proofs.lemmas.Bool.{false≢true}
+use Rattle.std.proofs.lemmas.Int.{ints, to_z-of_z}
+use Rattle.std.proofs.lemmas.Slice.Eq.{bytes_eq-Decides}
+use Rattle.ca_plane.specs.Bytes.{AreDigits, IsInteger, value}
+use Rattle.ca_claims.specs.Text.{Claim, Still, Oscillator, Spaceship, Becomes, Line, Load, Claims, WordsSay, IsShift, HasGoodNumbers}
+use Rattle.ca_claims.specs.Reading.{IsHeldShift, IsHeldClaim}
+
+-- what stands behind a word that begins equal words
+behind_word : (w : List ℕ) (vs ws : List (List ℕ)) → w ∷ vs ≡ w ∷ ws → vs ≡ ws
+behind_word w vs ws e = cc
+
+-- words of a spaceship's claim have integers where its shift stands
+shift_words : (words : List (List ℕ)) (name p x y : List ℕ) → words ≡ name ∷ p ∷ x ∷ y ∷ [] → (claim : Claim) → WordsSay (codes "spaceship" ∷ words) (Claims claim)
+    → (dx : ℤ) × (dy : ℤ) × IsInteger x dx × IsInteger y dy
+shift_words words name p x y e (Still n) h = cc
+shift_words words name p x y e (Oscillator n v) h = cc
+shift_words words name p x y e (Spaceship n v dx dy) h =
+    let same = sym (behind_word (codes "spaceship") words (n ∷ h.0 ∷ h.1 ∷ h.2 ∷ []) h.3) ∙ e in
+    let across : h.1 ≡ x = cc in
+    let down : h.2 ≡ y = cc in
+    (dx, dy, subst (λ l. IsInteger l dx) across h.6, subst (λ l. IsInteger l dy) down h.7)
+shift_words words name p x y e (Becomes n v o) h = cc
+
+-- so words without them make none
+pub no_right : (words : List (List ℕ)) (name p x y : List ℕ) → words ≡ name ∷ p ∷ x ∷ y ∷ [] → ((n : ℤ) → IsInteger x n → ⊥)
+    → (claim : Claim) → WordsSay (codes "spaceship" ∷ words) (Claims claim) → ⊥
+no_right words name p x y e none claim h = let s = shift_words words name p x y e claim h in none s.0 s.2
+
+pub no_down : (words : List (List ℕ)) (name p x y : List ℕ) → words ≡ name ∷ p ∷ x ∷ y ∷ [] → ((n : ℤ) → IsInteger y n → ⊥)
+    → (claim : Claim) → WordsSay (codes "spaceship" ∷ words) (Claims claim) → ⊥
+no_down words name p x y e none claim h = let s = shift_words words name p x y e claim h in none s.1 s.3
+
+-- a number below 2^61 is held as itself
+held_number : (n held : ℕ) → held ≡ min n (2 ^ 64 - 1) → (n < 2 ^ 61 → n ≡ held) × (held < 2 ^ 61 → n ≡ held)
+held_number n held e = (λ h. omega arith, λ h. omega arith)
+
+-- a claim is held as itself
+pub held_same : (claim : Claim) → IsHeldClaim claim claim
+held_same claim = record { exact = λ h. refl; sound = λ h. refl }
+
+pub held_oscillator : (name : List ℕ) (n held : ℕ) → held ≡ min n (2 ^ 64 - 1) → IsHeldClaim (Oscillator name n) (Oscillator name held)
+held_oscillator name n held e = record {
+  exact = λ good. ap (Oscillator name) ((held_number n held e).0 (omega arith));
+  sound = λ good. ap (Oscillator name) ((held_number n held e).1 (omega arith));
+}
+
+-- what is held reads so as an `i64`
+as_read : (n held : ℤ) → IsHeldShift n held → to_z w64 (of_z w64 held) ≡ held
+as_read n held h =
+    let least = h.least in
+    let greatest = h.greatest in
+    let fits : FitsSigned w64 held = omega (arith, ints) in
+    to_z-of_z w64 held fits
+
+-- two spaceships with the same numbers
+same_spaceship : (name : List ℕ) (n m : ℕ) (dx dy x y : ℤ) → n ≡ m → dx ≡ x → dy ≡ y → Spaceship name n dx dy ≡ Spaceship name m x y
+same_spaceship name n m dx dy x y e f g = λ i. Spaceship name (e i) (f i) (g i)
+
+pub held_spaceship : (name : List ℕ) (n held : ℕ) (dx dy x y : ℤ) → held ≡ min n (2 ^ 64 - 1) → IsHeldShift dx x → IsHeldShift dy y
+    → IsHeldClaim (Spaceship name n dx dy) (Spaceship name held (to_z w64 (of_z w64 x)) (to_z w64 (of_z w64 y)))
+held_spaceship name n held dx dy x y e f g = rw (as_read dx x f, as_read dy y g) record {
+  exact = λ good. same_spaceship name n held dx dy x y ((held_number n held e).0 (omega arith)) (f.exact good.2) (g.exact good.3);
+  sound = λ good. same_spaceship name n held dx dy x y ((held_number n held e).1 (omega arith)) (f.sound good.2) (g.sound good.3);
+}
+
+pub held_becomes : (name other : List ℕ) (n held : ℕ) → held ≡ min n (2 ^ 64 - 1) → IsHeldClaim (Becomes name n other) (Becomes name held other)
+held_becomes name other n held e = record {
+  exact = λ good. ap (λ k. Becomes name k other) ((held_number n held e).0 (omega arith));
+  sound = λ good. ap (λ k. Becomes name k other) ((held_number n held e).1 (omega arith));
+}
+
+-- what is held for a shift to the right or down
+held_right : (n : ℕ) (held : ℤ) → held ≡ pos (min (min n (2 ^ 64 - 1)) (2 ^ 63 - 1)) → IsHeldShift (pos n) held
+held_right n held e = record {
+  exact = λ h. omega (arith, ints);
+  sound = λ h. omega (arith, ints);
+  least = omega (arith, ints);
+  greatest = omega (arith, ints);
+}
+
+-- and for one to the left or up
+held_left : (n : ℕ) (held : ℤ) → held ≡ pos (min (min n (2 ^ 64 - 1)) (2 ^ 63 - 1)) → IsHeldShift (neg_ℤ (pos n)) (pos 0 -ℤ held)
+held_left n held e = record {
+  exact = λ h. omega (arith, ints);
+  sound = λ h. omega (arith, ints);
+  least = omega (arith, ints);
+  greatest = omega (arith, ints);
+}
+
+-- as an `i64` reads
+pub held_plus : (n number : ℕ) (held : ℤ) → number ≡ min n (2 ^ 64 - 1) → held ≡ pos (min number (2 ^ 63 - 1)) → IsHeldShift (pos n) (to_z w64 (of_z w64 held))
+held_plus n number held e f =
+    let right = held_right n held (f ∙ ap (λ m. pos (min m (2 ^ 63 - 1))) e) in
+    rw (as_read (pos n) held right) right
+
+pub held_minus : (n number : ℕ) (held : ℤ) → number ≡ min n (2 ^ 64 - 1) → held ≡ pos (min number (2 ^ 63 - 1))
+    → IsHeldShift (neg_ℤ (pos n)) (to_z w64 (of_z w64 (pos 0 -ℤ to_z w64 (of_z w64 held))))
+held_minus n number held e f =
+    let same = f ∙ ap (λ m. pos (min m (2 ^ 63 - 1))) e in
+    let left = held_left n held same in
+    rw (as_read (pos n) held (held_right n held same), as_read (neg_ℤ (pos n)) (pos 0 -ℤ held) left) left

@@ -1,0 +1,16 @@
+use Rattle.std.proofs.Common.{◌≡◌, [], ◌∷◌, ◌++◌, Some, if◌then◌else◌, sym, ap, subst, ◌∙◌}
+use Rattle.ca_claims.specs.Text.{Claims}
+use Rattle.ca_claims.specs.Reading.{claim_of, IsRead, place_of}
+use Rattle.ca_claims.proofs.ReadOn.{read_claim}
+use Rattle.ca_claims.proofs.claims.reading.Reading.claim.Goals as goal
+
+pub returns-clause-claimed : goal.returns-clause-claimed
+returns-clause-claimed c = λ said read number.
+    let claim = claim_of c.args.claim.now in
+    let old = c.args.self.now in
+    let placed = c.in-Some.ensures in
+    let claimed = read_claim said old.paths old.claims.items (place_of old.names) read claim c.args.line placed.0 c.requires number in
+    let items = c.push.ensures.items
+    ∙ ap (λ b. if b then old.claims.items ++ record { line = c.args.line; claim = c.in-Some.claim } ∷ [] else old.claims.items) c.if-is_err.ensures.negation
+    ∙ ap (λ k. old.claims.items ++ record { line = c.args.line; claim = k } ∷ []) placed.1 in
+    (claimed.0, subst (λ l. IsRead (said ++ Some (Claims claim) ∷ []) old.paths l (place_of old.names)) (sym items) claimed.1)

@@ -1,0 +1,7 @@
+use Rattle.std.proofs.Common.{sym, ap, codes, ◌∷◌}
+use Rattle.ca_claims.specs.Text.{Still}
+use Rattle.ca_claims.proofs.Held.{held_same}
+use Rattle.ca_claims.proofs.claims.words.still.Goals as goal
+
+pub returns : goal.returns
+returns c = (Still c.in_ok-name.name.now, ap (λ ws. codes "still" ∷ ws) c.in_ok-name.ensures, held_same (Still c.in_ok-name.name.now))

@@ -1,0 +1,66 @@
+//! Claims about patterns that are given by their names.
+
+ghost use Rattle.std.specs.Prelude.{IsTrue, ◌↔◌};
+ghost use Rattle.ca_claims.specs.Text.{HasGoodNumbers, IsShift};
+ghost use Rattle.ca_claims.specs.Reading.{claim_of};
+
+// The longest period.
+const LONGEST_PERIOD: u64 = (1 << 32) - 1;
+// The most generations.
+const MOST_GENERATIONS: u64 = 1 << 60;
+// The greatest shift in one direction.
+const GREATEST_SHIFT: i64 = 1 << 60;
+
+/// What a line claims, of patterns that are given by their names.
+#[derive(Clone, Copy, Debug)]
+pub(crate) enum NamedClaim<'a> {
+    /// `still NAME`.
+    Still {
+        name: &'a [u8],
+    },
+    /// `oscillator NAME P`.
+    Oscillator {
+        name: &'a [u8],
+        period: u64,
+    },
+    /// `spaceship NAME P DX DY`.
+    Spaceship {
+        name: &'a [u8],
+        period: u64,
+        dx: i64,
+        dy: i64,
+    },
+    /// `becomes NAME N NAME2`.
+    Becomes {
+        name: &'a [u8],
+        generations: u64,
+        other: &'a [u8],
+    },
+}
+
+impl NamedClaim<'_> {
+    /// Whether the claim's numbers are within their limits.
+    pub(crate) fn has_good_numbers(&self) -> bool
+        ensures { IsTrue result ↔ HasGoodNumbers (claim_of self.now) }
+    {
+        match *self {
+            NamedClaim::Still { .. } => true,
+            NamedClaim::Oscillator { period, .. } => 2 <= period && period <= LONGEST_PERIOD,
+            NamedClaim::Spaceship { period, dx, dy, .. } => {
+                1 <= period
+                    && period <= LONGEST_PERIOD
+                    && is_shift(dx)
+                    && is_shift(dy)
+                    && (dx != 0 || dy != 0)
+            }
+            NamedClaim::Becomes { generations, .. } => generations <= MOST_GENERATIONS,
+        }
+    }
+}
+
+/// Whether a pattern may be shifted so far in one direction.
+fn is_shift(distance: i64) -> bool
+    ensures { IsTrue result ↔ IsShift distance }
+{
+    -GREATEST_SHIFT <= distance && distance <= GREATEST_SHIFT
+}
