@@ -1,20 +1,21 @@
 //! Verdicts on the claims of a text, each on its own.
 
-ghost use Rattle.std.specs.Prelude.{◌≡◌, ℕ, List, map, IfOk};
+ghost use Rattle.std.specs.Prelude.{◌≡◌, ℕ, ◌<◌, List, [], ◌∷◌, map, length, Some, IfOk, MatchOption, MatchResult};
+ghost use Rattle.std.specs.List.{AllByRecursion};
 ghost use Rattle.std.specs.Option.{option_copied};
-ghost use Rattle.ca_claims.specs.Text.{pattern_of};
-ghost use Rattle.ca_claims.specs.Lines.{claim_at};
+ghost use Rattle.ca_claims.specs.Text.{Claim, patterns_of, HasGoodNumbers};
+ghost use Rattle.ca_claims.specs.Lines.{indices_of, claim_at};
 ghost use Rattle.ca_claims.specs.Means.{contents, bytes_at};
-ghost use Rattle.ca_claims.specs.Decided.{IsDecided};
-ghost use Rattle.ca_claims.specs.Answers.{IsTrueVerdict, AreTrueAnswers};
+ghost use Rattle.ca_claims.specs.Answers.{HasCause, IsTrueVerdict, AreTrueAnswers};
+
+mod patterns;
 
 use crate::claims::{ClaimKind, Claims};
+use crate::decide::decide;
 use crate::file::File;
-use crate::still::still;
 use crate::verdict::{Answer, Cause, Verdict};
-use ca_plane::{Automaton, Memory, Plane};
-use ca_rle::{FirstFormFault, read_first_form};
-use ca_rule::BsRule;
+use ca_plane::{Memory, Plane};
+use patterns::{has_large_state, read, rule_of};
 use std::alloc::Global;
 
 /// One answer for each claim, in the order of their lines. Of two files with one path the first counts.
@@ -30,7 +31,7 @@ pub fn verify(alloc: Global, claims: &Claims, files: &[File<'_>]) -> Result<Vec<
     let mut answers = Vec::with_capacity(alloc, claims.claim_count())?;
     'claims: for index in 0..claims.claim_count() {
         let asked = claims.claim(index);
-        let verdict = judge(alloc, asked.claim, found[asked.claim.pattern()]);
+        let verdict = verdict_of(judge(alloc, asked.claim, &found));
         answers.push(Answer {
             line: asked.line,
             verdict,
@@ -58,38 +59,91 @@ fn find_files<'a>(
     Ok(found)
 }
 
-// The verdict on a claim about a pattern whose file has these bytes, or isn't there.
-fn judge(alloc: Global, claim: ClaimKind, bytes: Option<&[u8]>) -> Verdict
-    ensures { (files : List (List ℕ × List ℕ)) (paths : List (List ℕ))
-        → bytes_at files (pattern_of (claim_at paths claim)) ≡ option_copied bytes.entry
-        → IsTrueVerdict files (claim_at paths claim) result }
+// The verdict that was reached, or a refusal for the cause for which none was.
+fn verdict_of(judged: Result<Verdict, Cause>) -> Verdict
+    ensures { (files : List (List ℕ × List ℕ)) (claim : Claim) → MatchResult judged (IsTrueVerdict files claim) (HasCause files claim) → IsTrueVerdict files claim result }
 {
-    let Some(bytes) = bytes else {
-        return Verdict::Refused(Cause::NoFile);
-    };
-    let pattern = match read_first_form(alloc, bytes) {
-        Ok(pattern) => pattern,
-        Err(FirstFormFault::OtherForm) => return Verdict::Refused(Cause::NotYet),
-        Err(FirstFormFault::Memory) => return Verdict::Refused(Cause::Memory),
-    };
-    let rule = match BsRule::parse(&pattern.rule_text) {
-        Ok(rule) => rule,
-        Err(fault) => return Verdict::Refused(Cause::BadRule(fault)),
-    };
-    decide(&rule, &pattern.cells, claim)
-}
-
-// Whether the claim is true of the cells under the rule.
-fn decide<A: Automaton>(rule: &A, cells: &Plane, claim: ClaimKind) -> Verdict
-    ensures { (paths : List (List ℕ)) → IsDecided (A.next_of rule.now) cells.now (claim_at paths claim) result }
-{
-    match claim {
-        ClaimKind::Still { .. } => match still(rule, cells) {
-            None => Verdict::Yes,
-            Some(why) => Verdict::No(why),
-        },
+    match judged {
+        Ok(verdict) => verdict,
+        Err(cause) => Verdict::Refused(cause),
     }
 }
+
+// The verdict on a claim, where these are the bytes of the files with the paths of the text, or the cause for which there
+// is none.
+fn judge(alloc: Global, claim: ClaimKind, found: &[Option<&[u8]>]) -> Result<Verdict, Cause>
+    requires within { AllByRecursion (λ i. i < length found.now) (indices_of claim) }
+    requires numbers { (paths : List (List ℕ)) → HasGoodNumbers (claim_at paths claim) }
+    ensures { (files : List (List ℕ × List ℕ)) (paths : List (List ℕ)) → map option_copied found.now ≡ map (bytes_at files) paths
+        → MatchResult result (IsTrueVerdict files (claim_at paths claim)) (HasCause files (claim_at paths claim)) }
+{
+    let (pattern, other) = indices(claim);
+    let Some(bytes) = found[pattern] else {
+        return Err(Cause::NoFile);
+    };
+    let Some(other) = other else {
+        return judge_alone(alloc, claim, bytes);
+    };
+    let Some(other_bytes) = found[other] else {
+        return Err(Cause::NoFile);
+    };
+    judge_pair(alloc, claim, bytes, other_bytes)
+}
+
+// The index of the path of the claim's pattern, and that of the other pattern that it may name.
+fn indices(claim: ClaimKind) -> (usize, Option<usize>)
+    ensures { MatchOption result.1 (indices_of claim ≡ result.0 ∷ []) (λ other. indices_of claim ≡ result.0 ∷ other ∷ []) }
+{
+    match claim {
+        ClaimKind::Still { pattern } => (pattern, None),
+        ClaimKind::Oscillator { pattern, .. } => (pattern, None),
+        ClaimKind::Spaceship { pattern, .. } => (pattern, None),
+        ClaimKind::Becomes { pattern, other, .. } => (pattern, Some(other)),
+    }
+}
+
+// The verdict on a claim about one pattern, whose file has these bytes.
+fn judge_alone(alloc: Global, claim: ClaimKind, bytes: &[u8]) -> Result<Verdict, Cause>
+    requires numbers { (paths : List (List ℕ)) → HasGoodNumbers (claim_at paths claim) }
+    ensures { (files : List (List ℕ × List ℕ)) (paths : List (List ℕ)) (path : List ℕ)
+        → patterns_of (claim_at paths claim) ≡ path ∷ [] → bytes_at files path ≡ Some bytes.now
+        → MatchResult result (IsTrueVerdict files (claim_at paths claim)) (HasCause files (claim_at paths claim)) }
+{
+    let pattern = read(alloc, bytes)?;
+    let rule = rule_of(&pattern)?;
+    if has_large_state(&pattern.cells) {
+        return Err(Cause::StateTooLarge);
+    }
+    let nothing = Plane::new(alloc);
+    Ok(decide(alloc, &rule, &pattern.cells, &nothing, claim))
+}
+
+// The verdict on a claim about two patterns, whose files have these bytes.
+fn judge_pair(
+    alloc: Global,
+    claim: ClaimKind,
+    bytes: &[u8],
+    other_bytes: &[u8],
+) -> Result<Verdict, Cause>
+    requires numbers { (paths : List (List ℕ)) → HasGoodNumbers (claim_at paths claim) }
+    ensures { (files : List (List ℕ × List ℕ)) (paths : List (List ℕ)) (path other_path : List ℕ)
+        → patterns_of (claim_at paths claim) ≡ path ∷ other_path ∷ []
+        → bytes_at files path ≡ Some bytes.now → bytes_at files other_path ≡ Some other_bytes.now
+        → MatchResult result (IsTrueVerdict files (claim_at paths claim)) (HasCause files (claim_at paths claim)) }
+{
+    let pattern = read(alloc, bytes)?;
+    let other = read(alloc, other_bytes)?;
+    let rule = rule_of(&pattern)?;
+    let other_rule = rule_of(&other)?;
+    if has_large_state(&pattern.cells) || has_large_state(&other.cells) {
+        return Err(Cause::StateTooLarge);
+    }
+    if !rule.same(&other_rule) {
+        return Err(Cause::MixedRules);
+    }
+    Ok(decide(alloc, &rule, &pattern.cells, &other.cells, claim))
+}
+
 
 #[cfg(test)]
 mod tests;

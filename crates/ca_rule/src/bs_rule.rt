@@ -1,6 +1,6 @@
 //! Rules in B/S notation.
 
-ghost use Rattle.std.specs.Prelude.{◌≡◌, ◌++◌, false, IfOk, IfErr, OnOk};
+ghost use Rattle.std.specs.Prelude.{◌≡◌, ◌↔◌, ◌++◌, false, IsTrue, IfOk, IfErr, OnOk};
 ghost use Rattle.ca_rule.specs.Counts.{is_count, FitsHood};
 ghost use Rattle.ca_rule.specs.Next.{neighbour_count};
 ghost use Rattle.std.proofs.Common.{arith, rules};
@@ -64,6 +64,20 @@ impl BsRule {
         self.survival.push_digits(&mut out)?;
         self.hood.push_suffix(&mut out)?;
         Ok(out)
+    }
+
+    /// Whether the other rule is the same: it counts the same neighbours, and has the same counts for birth and for
+    /// survival. Nothing here takes memory.
+    pub fn same(&self, other: &BsRule) -> bool
+        ensures { IsTrue result ↔ ((self.now.hood ≡ other.now.hood) × (self.now.birth ≡ other.now.birth) × (self.now.survival ≡ other.now.survival)) }
+    {
+        if self.hood != other.hood {
+            return false;
+        }
+        if self.birth != other.birth {
+            return false;
+        }
+        self.survival == other.survival
     }
 }
 

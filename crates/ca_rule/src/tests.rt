@@ -168,6 +168,24 @@ fn texts_that_name_no_rule(rt: HostRuntime) {
     }
 }
 
+#[test]
+fn rules_that_are_the_same(rt: HostRuntime) -> Result<(), Fail> {
+    let life = BsRule::parse(b"B3/S23").ok().ok_or("Life is a rule")?;
+    let table: [(&[u8], bool); 6] = [
+        (b"B3/S23", true),
+        (b"s32b33", true),
+        (b"23/3", true),
+        (b"B36/S23", false),
+        (b"B3/S2", false),
+        (b"B3/S23H", false),
+    ];
+    for (text, is_same) in table {
+        let other = BsRule::parse(text).ok().ok_or("the text names a rule")?;
+        assert_eq!(rt; life.same(&other), is_same, "{text:?}");
+    }
+    Ok(())
+}
+
 /// What a rule says of nine cells, through the trait.
 fn next_of<A: Automaton>(rule: &A, nine: &Nine) -> u8 {
     rule.next(nine)

@@ -1,21 +1,35 @@
-use Rattle.std.proofs.Common.{rules, ap, ◌∙◌, subst}
-use Rattle.std.specs.Option.{option_copied}
-use Rattle.ca_rule.specs.Spelling.{IsFaultOf, Names}
-use Rattle.ca_claims.specs.Lines.{claim_at}
-use Rattle.ca_claims.proofs.Judged.{refused_for_rule, true_verdict}
+use Rattle.std.proofs.Common.{length}
+use Rattle.ca_claims.specs.Lines.{path_at, claim_at}
+use Rattle.ca_claims.proofs.Judged.{one_path, two_paths, first_path, first_within, second_within, bytes_found, no_file, no_file_second}
 use Rattle.ca_claims.proofs.verifier.judge.Goals as goal
 
-pub returns-in-Err-OtherForm : goal.returns-in-Err-OtherForm
-returns-in-Err-OtherForm c = λ files paths there. (c.in-Some.bytes.now, there ∙ ap option_copied c.in-Some.is, λ r. c.in-Err-OtherForm.ensures.other (cc) r.0 r.1 r.2)
+pub returns-in_default : goal.returns-in_default
+returns-in_default c = λ files paths e.
+    let i = c.indices-pattern.result.0 in
+    let first = first_path paths c.args.claim i c.indices-pattern.result.1 c.indices-pattern.ensures in
+    let within = first_within c.args.claim (length c.args.found.now) i c.indices-pattern.result.1 c.requires.within c.indices-pattern.ensures in
+    no_file files (claim_at paths c.args.claim) (path_at paths i) first.0 first.1 (bytes_found files paths c.args.found.now i _ e within c.in_default.is)
 
-pub returns-in-Err : goal.returns-in-Err
-returns-in-Err c =
-    let found = c.in-Ok.ensures.found in
-    let wrong = subst (λ t. IsFaultOf t c.in-Err.fault) c.deref.ensures.value c.in-Err.ensures.fault in
-    λ files paths there. refused_for_rule files (claim_at paths c.args.claim) c.in-Some.bytes.now c.in-Ok.pattern.rule_text.items found.0 c.in-Err.fault (there ∙ ap option_copied c.in-Some.is) found.1 wrong
+pub returns-in_default-other : goal.returns-in_default-other
+returns-in_default-other c = λ files paths e.
+    let i = c.indices-pattern.result.0 in
+    let within = first_within c.args.claim (length c.args.found.now) i c.indices-pattern.result.1 c.requires.within c.indices-pattern.ensures in
+    c.judge_alone.ensures files paths (path_at paths i) (one_path paths c.args.claim i c.indices-pattern.result.1 c.in_default-other.is c.indices-pattern.ensures)
+    (bytes_found files paths c.args.found.now i _ e within c.in-Some.is)
+
+pub returns-in_default-found : goal.returns-in_default-found
+returns-in_default-found c = λ files paths e.
+    let i = c.indices-pattern.result.0 in
+    let j = c.in-Some-other.other in
+    let within = second_within c.args.claim (length c.args.found.now) i j c.indices-pattern.result.1 c.requires.within c.in-Some-other.is c.indices-pattern.ensures in
+    no_file_second files (claim_at paths c.args.claim) (path_at paths i) (path_at paths j)
+    (two_paths paths c.args.claim i j c.indices-pattern.result.1 c.in-Some-other.is c.indices-pattern.ensures) (bytes_found files paths c.args.found.now j _ e within c.in_default-found.is)
 
 pub returns : goal.returns
-returns c =
-    let found = c.in-Ok.ensures.found in
-    let names : Names c.in-Ok.pattern.rule_text.items c.in-Ok-parse.rule = search rules in
-    λ files paths there. true_verdict files (claim_at paths c.args.claim) c.in-Some.bytes.now c.in-Ok.pattern found.0 c.in-Ok-parse.rule _ (there ∙ ap option_copied c.in-Some.is) found.1 found.2 names (c.decide.ensures paths)
+returns c = λ files paths e.
+    let i = c.indices-pattern.result.0 in
+    let j = c.in-Some-other.other in
+    let within = first_within c.args.claim (length c.args.found.now) i c.indices-pattern.result.1 c.requires.within c.indices-pattern.ensures in
+    let other_within = second_within c.args.claim (length c.args.found.now) i j c.indices-pattern.result.1 c.requires.within c.in-Some-other.is c.indices-pattern.ensures in
+    c.judge_pair.ensures files paths (path_at paths i) (path_at paths j) (two_paths paths c.args.claim i j c.indices-pattern.result.1 c.in-Some-other.is c.indices-pattern.ensures)
+    (bytes_found files paths c.args.found.now i _ e within c.in-Some.is) (bytes_found files paths c.args.found.now j _ e other_within c.in-Some-found.is)
