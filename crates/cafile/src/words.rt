@@ -6,6 +6,8 @@ use std::alloc::{AllocError, Global};
 use std::rt::Env;
 use std::{env, io};
 
+const EXAMPLE: &str = "Example: cafile verify examples/block.claims";
+
 /// What the words ask for.
 #[derive(Drop)]
 pub enum Request {
@@ -18,7 +20,7 @@ pub enum Request {
 /// Why the words ask for nothing.
 #[derive(Drop)]
 pub enum WordsFault {
-    /// They aren't UTF-8.
+    /// They aren't UTF-8, or hold no command.
     Usage,
     /// They fit no command, for the reason that this text gives.
     Told { text: String },
@@ -53,8 +55,8 @@ fn given<R: Env + AllocGlobal>(rt: &R) -> Result<Vec<String>, WordsFault> {
 fn command<'a>(alloc: Global) -> Result<Command<'a>, AllocError> {
     Command::new(alloc, "cafile")
         .version("0.1.0")
-        .about("Judges claims about the patterns of Golly's pattern files, with proved verdicts")
-        .after_help("Example: cafile verify examples/block.claims")
+        .about("Gives proved verdicts on claims about the patterns in Golly's files")
+        .after_help(EXAMPLE)
         .subcommand_required(true)
         .subcommand(verify_command(alloc)?)
 }
@@ -64,11 +66,12 @@ fn verify_command<'a>(alloc: Global) -> Result<Command<'a>, AllocError> {
         .required(true)
         .help("The path of the claim text");
     Command::new(alloc, "verify")
-        .about("Prints a verdict for each claim of a claim text")
-        .after_help("Example: cafile verify examples/block.claims")
+        .about("Prints a verdict for each claim of a text: yes, no or refused")
+        .after_help(EXAMPLE)
         .arg(claims)
 }
 
+// The command and its path are required, so that clap finds both wherever it finds no fault.
 fn asked(alloc: Global, matches: &ArgMatches<'_>) -> Result<Request, WordsFault> {
     let Some(verify) = matches.subcommand_matches("verify") else {
         return Err(WordsFault::Usage);
@@ -82,7 +85,7 @@ fn asked(alloc: Global, matches: &ArgMatches<'_>) -> Result<Request, WordsFault>
     Ok(Request::Verify { path })
 }
 
-// Help and version come as an error too.
+// Help and version come from clap as errors too.
 fn told(alloc: Global, error: &Error) -> Result<Request, WordsFault> {
     if error.kind() == ErrorKind::OutOfMemory {
         return Err(WordsFault::Memory);
