@@ -1,15 +1,20 @@
 -- The bytes that are printed for an answer and for a fault (our own; docs/CLAIMS.md).
-use Rattle.std.specs.Prelude.{ℕ, List, [], ◌∷◌, ◌++◌, Bool, true, false, codes, decimal, if◌then◌else◌}
+use Rattle.std.specs.Prelude.{ℕ, ℤ, List, [], ◌∷◌, ◌++◌, Bool, true, false, codes, decimal, if◌then◌else◌}
+use Rattle.std.specs.Fmt.{signed_decimal}
 use Rattle.std.specs.List.{flat_map, list_any}
 use Rattle.ca_rule.specs.declared.fault.RuleFault.{RuleFault}
 use Rattle.ca_rule.specs.declared.fault.RuleFault.TheVariants as rules
+use Rattle.ca_rle.specs.declared.fault.RleFault.{RleFault}
+use Rattle.ca_rle.specs.declared.fault.RleFault.TheVariants as rle
 use Rattle.ca_claims.specs.declared.fault.ClaimFault.{ClaimFault}
 use Rattle.ca_claims.specs.declared.fault.ClaimFault.TheVariants as claims
 use Rattle.ca_claims.specs.declared.verdict.Answer.{Answer}
 use Rattle.ca_claims.specs.declared.verdict.Verdict.{Verdict}
 use Rattle.ca_claims.specs.declared.verdict.Verdict.TheVariants.{Yes, No, Refused}
 use Rattle.ca_claims.specs.declared.verdict.Why.{Why}
-use Rattle.ca_claims.specs.declared.verdict.Why.TheVariants.{Empty, Differs}
+use Rattle.ca_claims.specs.declared.verdict.Why.TheVariants.{Empty, Differs, Earlier}
+use Rattle.ca_claims.specs.declared.verdict.PatternFault.{PatternFault}
+use Rattle.ca_claims.specs.declared.verdict.PatternFault.TheVariants as patterns
 use Rattle.ca_claims.specs.declared.verdict.Cause.{Cause}
 use Rattle.ca_claims.specs.declared.verdict.Cause.TheVariants as causes
 use Rattle.ca_tool.specs.declared.fault.Fault.{Fault}
@@ -19,10 +24,15 @@ use Rattle.ca_tool.specs.declared.fault.InputFault.TheVariants as inputs
 use Rattle.ca_tool.specs.declared.fault.ToolFault.{ToolFault}
 use Rattle.ca_tool.specs.declared.fault.ToolFault.TheVariants as tools
 
+-- an earlier return of a pattern
+abbrev pub return_text : ℕ → ℤ → ℤ → List ℕ
+return_text generations dx dy = codes "the same after " ++ (decimal generations ++ (codes ", shifted by " ++ (signed_decimal dx ++ (codes "," ++ signed_decimal dy))))
+
 -- why a claim is false
 abbrev pub why_text : Why → List ℕ
 why_text Empty = codes "empty"
 why_text (Differs x y found claimed gens) = codes "cells differ after " ++ decimal gens
+why_text (Earlier m dx dy) = return_text m dx dy
 
 -- why a text names no rule
 abbrev pub rule_fault_text : RuleFault → List ℕ
@@ -30,11 +40,30 @@ rule_fault_text rules.Bounded = codes "bounded"
 rule_fault_text rules.Wakes = codes "wakes"
 rule_fault_text rules.Unknown = codes "unknown"
 
+-- why a pattern's file wasn't read
+abbrev pub rle_fault_text : RleFault → List ℕ
+rle_fault_text rle.Syntax = codes "bad pattern: rle syntax"
+rle_fault_text rle.Header = codes "bad pattern: rle header"
+rle_fault_text rle.XlifeRule = codes "bad pattern: rle xlife rule"
+rle_fault_text rle.NoEnd = codes "bad pattern: rle no end"
+rle_fault_text rle.BadState = codes "bad pattern: rle bad state"
+rle_fault_text rle.Range = codes "bad pattern: rle range"
+rle_fault_text rle.TooManyCells = codes "bad pattern: rle too many cells"
+rle_fault_text rle.GenTooLarge = codes "bad pattern: rle gen too large"
+rle_fault_text rle.Memory = codes "memory"
+
+-- want of memory inside another fault is told alone
+abbrev pub pattern_fault_text : PatternFault → List ℕ
+pattern_fault_text (patterns.Rle fault) = rle_fault_text fault
+pattern_fault_text patterns.Memory = codes "memory"
+
 -- why a claim isn't judged
 abbrev pub cause_text : Cause → List ℕ
 cause_text causes.NoFile = codes "no file"
-cause_text causes.NotYet = codes "not yet"
+cause_text (causes.BadPattern fault) = pattern_fault_text fault
 cause_text (causes.BadRule fault) = codes "bad rule: " ++ rule_fault_text fault
+cause_text causes.StateTooLarge = codes "state too large"
+cause_text causes.MixedRules = codes "mixed rules"
 cause_text causes.Memory = codes "memory"
 
 -- what is said of a claim
@@ -70,6 +99,7 @@ status_of answers = if list_any (λ a. is_refusal a.verdict) answers then 2 else
 -- a faulty line of a claim text
 abbrev pub claim_fault_text : ClaimFault → List ℕ
 claim_fault_text (claims.Syntax line) = codes "claims line " ++ (decimal line ++ codes ": syntax")
+claim_fault_text (claims.Number line) = codes "claims line " ++ (decimal line ++ codes ": number")
 claim_fault_text (claims.UnknownName line) = codes "claims line " ++ (decimal line ++ codes ": unknown name")
 claim_fault_text (claims.NameTaken line) = codes "claims line " ++ (decimal line ++ codes ": name taken")
 claim_fault_text claims.Memory = codes "memory"
@@ -99,6 +129,7 @@ complaint fault path = codes "cafile: " ++ (fault_text fault path ++ 10 ∷ [])
 abbrev pub fault_line : Fault → ℕ
 fault_line (faults.Input fault) = 0
 fault_line (faults.Claims (claims.Syntax line)) = line
+fault_line (faults.Claims (claims.Number line)) = line
 fault_line (faults.Claims (claims.UnknownName line)) = line
 fault_line (faults.Claims (claims.NameTaken line)) = line
 fault_line (faults.Claims claims.Memory) = 0

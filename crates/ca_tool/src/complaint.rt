@@ -19,6 +19,7 @@ fn fault_line(fault: &Fault) -> u64
     match fault {
         Fault::Claims(
             ClaimFault::Syntax { line }
+            | ClaimFault::Number { line }
             | ClaimFault::UnknownName { line }
             | ClaimFault::NameTaken { line },
         ) => *line,
@@ -35,6 +36,7 @@ fn fault_pieces<'a>(fault: &Fault, path: &'a [u8], number: &'a [u8]) -> [&'a [u8
         Fault::Input(InputFault::Read) => [b"cannot read ", path, b""],
         Fault::Input(InputFault::TooLong) => [b"too long ", path, b""],
         Fault::Claims(ClaimFault::Syntax { .. }) => [b"claims line ", number, b": syntax"],
+        Fault::Claims(ClaimFault::Number { .. }) => [b"claims line ", number, b": number"],
         Fault::Claims(ClaimFault::UnknownName { .. }) => {
             [b"claims line ", number, b": unknown name"]
         }

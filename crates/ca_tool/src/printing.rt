@@ -1,15 +1,27 @@
 //! The lines that are printed for answers, and the exit status.
 
 ghost use Rattle.std.specs.Prelude.{◌≡◌, OnOk, IfOk};
-ghost use Rattle.ca_tool.specs.Printed.{why_text, cause_text, rule_fault_text, verdict_text, line_of, lines_of, status_of, is_refusal, is_no};
+ghost use Rattle.ca_tool.specs.Printed.{return_text, why_text, cause_text, rule_fault_text, rle_fault_text, pattern_fault_text, verdict_text, line_of, lines_of, status_of, is_refusal, is_no};
 ghost use Rattle.ca_plane.specs.Puts.{Puts};
 ghost use Rattle.std.specs.List.{list_any};
 
-use ca_claims::{Answer, Cause, Verdict, Why};
+use ca_claims::{Answer, Cause, PatternFault, Verdict, Why};
 use ca_plane::Memory;
-use ca_plane::text::{push_number, push_text};
+use ca_plane::text::{push_integer, push_number, push_text};
+use ca_rle::RleFault;
 use ca_rule::RuleFault;
 use std::alloc::Global;
+
+fn push_return(out: &mut Vec<u8>, generations: u64, dx: i64, dy: i64) -> Result<(), Memory>
+    ensures { OnOk result (Puts out.old.items out.new.items (return_text generations dx dy)) }
+{
+    push_text(out, b"the same after ")?;
+    push_number(out, generations)?;
+    push_text(out, b", shifted by ")?;
+    push_integer(out, dx)?;
+    push_text(out, b",")?;
+    push_integer(out, dy)
+}
 
 fn push_why(out: &mut Vec<u8>, why: &Why) -> Result<(), Memory>
     ensures { OnOk result (Puts out.old.items out.new.items (why_text why.now)) }
@@ -20,6 +32,7 @@ fn push_why(out: &mut Vec<u8>, why: &Why) -> Result<(), Memory>
             push_text(out, b"cells differ after ")?;
             push_number(out, *gens)
         }
+        Why::Earlier { m, dx, dy } => push_return(out, *m, *dx, *dy),
     }
 }
 
@@ -33,16 +46,43 @@ fn rule_fault_bytes(fault: RuleFault) -> &'static [u8]
     }
 }
 
+fn rle_fault_bytes(fault: RleFault) -> &'static [u8]
+    ensures { result.now ≡ rle_fault_text fault }
+{
+    match fault {
+        RleFault::Syntax => b"bad pattern: rle syntax",
+        RleFault::Header => b"bad pattern: rle header",
+        RleFault::XlifeRule => b"bad pattern: rle xlife rule",
+        RleFault::NoEnd => b"bad pattern: rle no end",
+        RleFault::BadState => b"bad pattern: rle bad state",
+        RleFault::Range => b"bad pattern: rle range",
+        RleFault::TooManyCells => b"bad pattern: rle too many cells",
+        RleFault::GenTooLarge => b"bad pattern: rle gen too large",
+        RleFault::Memory => b"memory",
+    }
+}
+
+fn pattern_fault_bytes(fault: PatternFault) -> &'static [u8]
+    ensures { result.now ≡ pattern_fault_text fault }
+{
+    match fault {
+        PatternFault::Rle(fault) => rle_fault_bytes(fault),
+        PatternFault::Memory => b"memory",
+    }
+}
+
 fn push_cause(out: &mut Vec<u8>, cause: &Cause) -> Result<(), Memory>
     ensures { OnOk result (Puts out.old.items out.new.items (cause_text cause.now)) }
 {
     match cause {
         Cause::NoFile => push_text(out, b"no file"),
-        Cause::NotYet => push_text(out, b"not yet"),
+        Cause::BadPattern(fault) => push_text(out, pattern_fault_bytes(*fault)),
         Cause::BadRule(fault) => {
             push_text(out, b"bad rule: ")?;
             push_text(out, rule_fault_bytes(*fault))
         }
+        Cause::StateTooLarge => push_text(out, b"state too large"),
+        Cause::MixedRules => push_text(out, b"mixed rules"),
         Cause::Memory => push_text(out, b"memory"),
     }
 }

@@ -20,6 +20,10 @@ fn a_line_for_each_fault(rt: HostRuntime) -> Result<(), Fail> {
             "cafile: claims line 7: syntax\n",
         ),
         (
+            Fault::Claims(ClaimFault::Number { line: 10 }),
+            "cafile: claims line 10: number\n",
+        ),
+        (
             Fault::Claims(ClaimFault::UnknownName { line: 7 }),
             "cafile: claims line 7: unknown name\n",
         ),

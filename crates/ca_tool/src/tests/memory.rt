@@ -18,14 +18,14 @@ fn lines_or_memory(rt: HostRuntime) {
         },
         Answer {
             line: 10,
-            verdict: Verdict::Refused(Cause::NotYet),
+            verdict: Verdict::Refused(Cause::MixedRules),
         },
     ];
     match lines(rt.alloc(), &answers) {
         Ok(text) => {
             assert_eq!(rt;
                 text.as_slice(),
-                b"line 2: yes\nline 10: refused, not yet\n".as_slice()
+                b"line 2: yes\nline 10: refused, mixed rules\n".as_slice()
             );
         }
         Err(fault) => assert_eq!(rt; fault, Memory),
@@ -102,7 +102,7 @@ fn verdicts_or_memory(rt: HostRuntime) {
             b"line 2: no, empty\n",
             1,
         ),
-        (b"x = 0, y = 0\n!\n", b"line 2: refused, not yet\n", 2),
+        (b"x = 0, y = 0\n!\n", b"line 2: no, empty\n", 1),
         (
             b"x = 2, y = 2, rule = B03/S23\n2o$2o!",
             b"line 2: refused, bad rule: wakes\n",

@@ -49,7 +49,7 @@ still same";
 const MIXED_LINES: &[u8] = b"line 10: no, cells differ after 1
 line 12: no, empty
 line 13: refused, no file
-line 14: refused, not yet
+line 14: no, empty
 line 15: yes
 line 16: yes
 ";
@@ -75,8 +75,8 @@ fn claims_are_judged(rt: HostRuntime) -> Result<(), Fail> {
         ),
         (
             b"load b no_rule.rle\nstill b\n",
-            b"line 2: refused, not yet\n",
-            2,
+            b"line 2: no, empty\n",
+            1,
         ),
         (
             b"load b wakes.rle\nstill b\n",
