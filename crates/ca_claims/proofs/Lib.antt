@@ -1,4 +1,6 @@
-pub mod Stills
+pub mod Walks
+pub mod Ranges
+pub mod Times
 pub mod PathLists
 pub mod LineWords
 pub mod Held

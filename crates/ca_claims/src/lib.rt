@@ -2,10 +2,10 @@
 #![tactic(auto)]
 
 mod claims;
+mod decide;
 mod fault;
 mod file;
 mod laws;
-mod still;
 mod verdict;
 pub mod verdict_laws;
 mod verifier;

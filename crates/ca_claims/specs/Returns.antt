@@ -1,0 +1,36 @@
+-- What a run of generations shows of a claim: where its last plane isn't the claimed one, and where the pattern was back before.
+use Rattle.std.specs.Prelude.{◌≡◌, ◌≢◌, ℕ, ◌≤◌, ◌<◌, ℤ, List}
+use Rattle.ca_plane.specs.Plane.{Picture, cell, IsSame, shifted}
+use Rattle.ca_claims.specs.declared.verdict.Why.{Why}
+use Rattle.ca_claims.specs.declared.verdict.Why.TheVariants.{Empty, Differs, Earlier}
+use Rattle.ca_claims.specs.Text.{Claim, Still, Oscillator, Spaceship, Becomes}
+use Rattle.ca_claims.specs.Truth.{IsAfter, IsNotBack, MayReturnBy}
+
+-- a cell of the plane after these generations that isn't the wanted one
+abbrev pub IsDifference : Picture → Picture → ℕ → Why → Type 0
+IsDifference end wanted n Empty = ⊥
+IsDifference end wanted n (Differs x y found claimed generations) =
+    (generations ≡ n) × (cell end x y ≡ found) × (cell wanted x y ≡ claimed) × (found ≢ claimed)
+IsDifference end wanted n (Earlier m dx dy) = ⊥
+
+-- the plane isn't the pattern again, where the claim asks that it isn't: an oscillator's in its place, a spaceship's anywhere
+abbrev pub IsNotAgain : Claim → Picture → Picture → Type 0
+IsNotAgain (Still pattern) cells now = Unit {0}
+IsNotAgain (Oscillator pattern period) cells now = (x : ℤ) × (y : ℤ) × (cell now x y ≢ cell cells x y)
+IsNotAgain (Spaceship pattern period x y) cells now = (dx dy : ℤ) → IsSame now (shifted cells dx dy) → ⊥
+IsNotAgain (Becomes pattern generations other) cells now = Unit {0}
+
+-- the plane is the pattern again, by a vector that counts
+abbrev pub IsAgain : Claim → Picture → Picture → ℤ × ℤ → Type 0
+IsAgain claim cells now v = MayReturnBy claim v.0 v.1 × IsSame now (shifted cells v.0 v.1)
+
+-- the pattern isn't back at a time from 1 on before n
+abbrev pub IsNotBackBefore : (List ℕ → ℕ) → Picture → Claim → ℕ → Type 0
+IsNotBackBefore next cells claim n = (k : ℕ) → 1 ≤ k → k < n → IsNotBack next cells claim k
+
+-- the first return of the pattern, and it is before n
+abbrev pub IsFirstReturn : (List ℕ → ℕ) → Picture → Claim → ℕ → Why → Type 0
+IsFirstReturn next cells claim n Empty = ⊥
+IsFirstReturn next cells claim n (Differs x y found claimed generations) = ⊥
+IsFirstReturn next cells claim n (Earlier m dx dy) = (1 ≤ m) × (m < n) × MayReturnBy claim dx dy
+    × IsAfter next cells m (shifted cells dx dy) × IsNotBackBefore next cells claim m
