@@ -1,6 +1,6 @@
 //! The live cells of a plane in rising order, seen from the nine places round a cell at once.
 
-ghost use Rattle.std.specs.Prelude.{◌≡◌, ℤ, pos, negsuc, ◌≤ℤ◌, ◌+ℤ◌, [], ◌∷◌, ◌++◌};
+ghost use Rattle.std.specs.Prelude.{◌≡◌, ℤ, pos, negsuc, ◌≤ℤ◌, [], ◌∷◌};
 ghost use Rattle.std.specs.List.{All};
 ghost use Rattle.ca_plane.specs.Plane.{cell, shifted};
 ghost use Rattle.ca_plane.specs.Box.{moved};
