@@ -1,5 +1,6 @@
 //! Texts that come out for texts that go in, and devices that fail.
 
+mod claimed;
 mod complaints;
 mod devices;
 mod memory;

@@ -98,13 +98,22 @@ fn a_line_for_each_answer(rt: HostRuntime) -> Result<(), Fail> {
 #[test]
 fn a_text_for_each_fault_of_a_pattern(rt: HostRuntime) -> Result<(), Fail> {
     for (fault, text) in [
-        (PatternFault::Rle(RleFault::Syntax), "bad pattern: rle syntax"),
-        (PatternFault::Rle(RleFault::Header), "bad pattern: rle header"),
+        (
+            PatternFault::Rle(RleFault::Syntax),
+            "bad pattern: rle syntax",
+        ),
+        (
+            PatternFault::Rle(RleFault::Header),
+            "bad pattern: rle header",
+        ),
         (
             PatternFault::Rle(RleFault::XlifeRule),
             "bad pattern: rle xlife rule",
         ),
-        (PatternFault::Rle(RleFault::NoEnd), "bad pattern: rle no end"),
+        (
+            PatternFault::Rle(RleFault::NoEnd),
+            "bad pattern: rle no end",
+        ),
         (
             PatternFault::Rle(RleFault::BadState),
             "bad pattern: rle bad state",

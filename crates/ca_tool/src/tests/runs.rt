@@ -73,11 +73,7 @@ fn claims_are_judged(rt: HostRuntime) -> Result<(), Fail> {
             b"line 2: refused, no file\n",
             2,
         ),
-        (
-            b"load b no_rule.rle\nstill b\n",
-            b"line 2: no, empty\n",
-            1,
-        ),
+        (b"load b no_rule.rle\nstill b\n", b"line 2: no, empty\n", 1),
         (
             b"load b wakes.rle\nstill b\n",
             b"line 2: refused, bad rule: wakes\n",
