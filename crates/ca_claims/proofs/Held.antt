@@ -1,12 +1,9 @@
 -- The words of a spaceship's claim, and how claims are held with numbers of 64 bits.
-use Rattle.std.proofs.Common.{◌≡◌, ◌≢◌, ℕ, ◌-◌, ◌^◌, ◌<◌, ◌≤◌, min, false, List, [], ◌∷◌, codes, refl, sym, ap, subst, ◌∙◌, arith, w64, to_z, of_z}
+use Rattle.std.proofs.Common.{◌≡◌, ℕ, ◌-◌, ◌^◌, ◌<◌, min, List, [], ◌∷◌, codes, refl, sym, ap, subst, ◌∙◌, arith, w64, to_z, of_z}
 use Rattle.std.specs.Prelude.{ℤ, pos, neg_ℤ, ◌-ℤ◌, FitsSigned}
-use Rattle.std.specs.Str.{bytes_eq}
-use Rattle.std.proofs.lemmas.Bool.{false≢true}
 use Rattle.std.proofs.lemmas.Int.{ints, to_z-of_z}
-use Rattle.std.proofs.lemmas.Slice.Eq.{bytes_eq-Decides}
-use Rattle.ca_plane.specs.Bytes.{AreDigits, IsInteger, value}
-use Rattle.ca_claims.specs.Text.{Claim, Still, Oscillator, Spaceship, Becomes, Line, Load, Claims, WordsSay, IsShift, HasGoodNumbers}
+use Rattle.ca_plane.specs.Bytes.{IsInteger}
+use Rattle.ca_claims.specs.Text.{Claim, Still, Oscillator, Spaceship, Becomes, Claims, WordsSay}
 use Rattle.ca_claims.specs.Reading.{IsHeldShift, IsHeldClaim}
 
 -- what stands behind a word that begins equal words

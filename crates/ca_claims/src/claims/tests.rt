@@ -122,6 +122,7 @@ fn numbers_at_their_limits(rt: HostRuntime) -> Result<(), Fail> {
 fn two_names(rt: HostRuntime) -> Result<(), Fail> {
     let text = b"load a p\nload b q\nload c p\nbecomes b 0 c\n";
     let claims = read_claims(rt.alloc(), text).ok().ok_or("one claim")?;
+    assert_eq!(rt; claims.claim_count(), 1);
     let becomes = ClaimKind::Becomes {
         pattern: 1,
         generations: 0,

@@ -1,9 +1,9 @@
-use Rattle.std.proofs.Common.{◌≡◌, ◌≤◌, ◌<◌, ◌^◌, ℕ, List, [], ◌∷◌, Some, codes, refl, subst, inl, inr, arith}
-use Rattle.std.specs.Prelude.{ℤ, pos, neg_ℤ}
+use Rattle.std.proofs.Common.{◌≡◌, ℕ, List, [], ◌∷◌, Some, codes, refl, subst, inl, inr, arith}
+use Rattle.std.specs.Prelude.{pos, neg_ℤ}
 use Rattle.std.proofs.lemmas.Bool.{false≢true}
 use Rattle.std.proofs.lemmas.Int.{ints}
 use Rattle.ca_plane.specs.Bytes.{AreDigits}
-use Rattle.ca_claims.specs.Text.{Claim, Still, Oscillator, Spaceship, Becomes, Line, Load, Claims, WordsSay, HasGoodNumbers}
+use Rattle.ca_claims.specs.Text.{Still, Oscillator, Spaceship, Becomes, Line, Load, Claims, WordsSay, HasGoodNumbers}
 use Rattle.ca_claims.proofs.laws.worked_examples.Goals as goal
 
 -- one cell to the left and two down, in four generations

@@ -1,4 +1,4 @@
-use Rattle.std.proofs.Common.{sym, ap, codes, ◌∷◌}
+use Rattle.std.proofs.Common.{ap, codes, ◌∷◌}
 use Rattle.ca_claims.specs.Text.{Still}
 use Rattle.ca_claims.proofs.Held.{held_same}
 use Rattle.ca_claims.proofs.claims.words.still.Goals as goal

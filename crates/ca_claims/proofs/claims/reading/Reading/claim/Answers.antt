@@ -1,4 +1,4 @@
-use Rattle.std.proofs.Common.{◌≡◌, [], ◌∷◌, ◌++◌, Some, if◌then◌else◌, sym, ap, subst, ◌∙◌}
+use Rattle.std.proofs.Common.{[], ◌∷◌, ◌++◌, Some, if◌then◌else◌, sym, ap, subst, ◌∙◌}
 use Rattle.ca_claims.specs.Text.{Claims}
 use Rattle.ca_claims.specs.Reading.{claim_of, IsRead, place_of}
 use Rattle.ca_claims.proofs.ReadOn.{read_claim}
