@@ -1,6 +1,7 @@
 pub mod Stills
 pub mod PathLists
 pub mod LineWords
+pub mod Alike
 pub mod Judged
 pub mod Found
 pub mod Answered
