@@ -1,5 +1,5 @@
 -- Pictures that show the same cells: claims are true of both, or false of both for the same reasons.
-use Rattle.std.proofs.Common.{◌≡◌, ℕ, List, sym, ◌∙◌}
+use Rattle.std.proofs.Common.{ℕ, List, sym, ◌∙◌}
 use Rattle.std.specs.Prelude.{ℤ, ◌-ℤ◌}
 use Rattle.ca_plane.specs.Plane.{Picture, IsSame, IsLive, shifted}
 use Rattle.ca_plane.proofs.Pictures.{IsSame-sym}

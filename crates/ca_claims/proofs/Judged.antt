@@ -1,6 +1,5 @@
 -- What the patterns of a claim's files say of the claim, and why they say nothing.
 use Rattle.std.proofs.Common.{◌≡◌, ℕ, zero, suc, ◌≤◌, ◌<◌, List, [], ◌∷◌, length, get_or, Bor, Option, MatchOption, ap, Some, None, Result, refl, sym, subst, ◌∙◌, arith, inl, inr, map}
-use Rattle.std.specs.Prelude.{ℤ}
 use Rattle.std.specs.List.{All, AllByRecursion}
 use Rattle.std.specs.Option.{option_copied}
 use Rattle.std.specs.Result.{MatchResult, IsErrAnd}
@@ -9,7 +8,7 @@ use Rattle.std.proofs.lemmas.List.Elements.{All-nil, All-cons, All-contains}
 use Rattle.ca_plane.specs.declared.point.Point.{Point}
 use Rattle.ca_plane.specs.Plane.{Picture, cell, IsSame}
 use Rattle.ca_plane.specs.Sparse.{IsSparse}
-use Rattle.ca_plane.proofs.Pictures.{cell-listed, Contains-cell, IsSame-refl}
+use Rattle.ca_plane.proofs.Pictures.{cell-listed, Contains-cell}
 use Rattle.ca_rule.specs.declared.bs_rule.BsRule.{BsRule}
 use Rattle.ca_rule.specs.declared.fault.RuleFault.{RuleFault}
 use Rattle.ca_rule.specs.Next.{next_of}

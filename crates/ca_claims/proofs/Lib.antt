@@ -4,6 +4,7 @@ pub mod Times
 pub mod PathLists
 pub mod LineWords
 pub mod Held
+pub mod Alike
 pub mod Judged
 pub mod Found
 pub mod Answered

@@ -1,7 +1,13 @@
 -- A file has one meaning, and a claim one kind of true verdict.
-use Rattle.std.proofs.Common.{refl, ◌≡◌, ℕ, List, Some, sym, ap, ◌∙◌, subst}
-use Rattle.ca_plane.specs.Plane.{Picture}
+use Rattle.std.proofs.Common.{◌≡◌, ◌≢◌, ℕ, zero, suc, ◌+◌, ◌-◌, ◌≤◌, ◌<◌, List, [], ◌∷◌, Some, None, refl, sym, ap, ap₂, subst, ◌∙◌, inl, inr, arith}
+use Rattle.std.specs.Prelude.{ℤ, pos, ◌-ℤ◌}
+use Rattle.std.specs.List.{AllByRecursion}
+use Rattle.std.proofs.lemmas.Bool.{cases_order}
+use Rattle.std.proofs.lemmas.Int.{ints}
+use Rattle.std.proofs.lemmas.Option.{same_Some, none-some}
+use Rattle.ca_plane.specs.Plane.{Picture, cell, shifted}
 use Rattle.ca_plane.specs.Generations.{after}
+use Rattle.ca_plane.proofs.Shifts.{cell-shifted}
 use Rattle.ca_rule.specs.declared.bs_rule.BsRule.{BsRule}
 use Rattle.ca_rule.specs.declared.fault.RuleFault.{RuleFault}
 use Rattle.ca_rule.specs.declared.fault.RuleFault.TheVariants.{Bounded, Wakes, Unknown}
@@ -9,14 +15,45 @@ use Rattle.ca_rule.specs.Next.{next_of}
 use Rattle.ca_rule.specs.Spelling.{Names, IsFaultOf}
 use Rattle.ca_rule.proofs.Meaning.{names-once, names-faultless}
 use Rattle.ca_rle.specs.Shown.{picture_of}
+use Rattle.ca_rle.specs.Faults as rle_faults
 use Rattle.ca_rle.proofs.OneFile.{one_file}
+use Rattle.ca_rle.proofs.OneFault.{one_fault, no_fault_within_limits}
 use Rattle.ca_claims.specs.declared.verdict.Why.{Why}
-use Rattle.ca_claims.specs.declared.verdict.Why.TheVariants.{Empty, Differs}
-use Rattle.ca_claims.specs.Text.{Claim, Still, pattern_of}
+use Rattle.ca_claims.specs.declared.verdict.Why.TheVariants.{Empty, Differs, Earlier}
+use Rattle.ca_claims.specs.declared.verdict.PatternFault.{PatternFault}
+use Rattle.ca_claims.specs.declared.verdict.PatternFault.TheVariants as pattern_fault
+use Rattle.ca_claims.specs.declared.verdict.Cause.{Cause}
+use Rattle.ca_claims.specs.declared.verdict.Cause.TheVariants.{NoFile, BadPattern, BadRule, StateTooLarge, MixedRules, Memory}
+use Rattle.ca_claims.specs.Text.{Claim, Still, Oscillator, Spaceship, Becomes, patterns_of}
 use Rattle.ca_claims.specs.Means.{Means, bytes_at}
-use Rattle.ca_claims.specs.Truth.{IsTrueClaim, IsReason}
-use Rattle.ca_claims.specs.declared.verdict.Cause.TheVariants.{BadRule}
-use Rattle.ca_claims.specs.Answers.{HasCause, IsJudged, IsReadable}
+use Rattle.ca_claims.specs.Truth.{IsAfter, IsNotBack, MayReturnBy, IsTrueClaim, IsReason}
+use Rattle.ca_claims.specs.Answers.{IsPatternFault, IsRead, IsRuled, IsSameRule, IsThere, Reads, HasRule, IsSmall, SomePath, FirstPath, HasMixedRules, HasCause, IsJudged}
+use Rattle.ca_claims.proofs.Judged.{IsLarge}
+
+-- ---- a claim is true or there is a reason against it, not both
+
+-- a picture that is moved by (0, 0) shows what it showed
+unmoved : (p : Picture) (dx dy x y : ℤ) → dx ≡ pos 0 → dy ≡ pos 0 → cell (shifted p dx dy) x y ≡ cell p x y
+unmoved p dx dy x y e f =
+    let a : x -ℤ dx ≡ x = omega (arith, ints) in
+    let b : y -ℤ dy ≡ y = omega (arith, ints) in
+    cell-shifted p dx dy x y ∙ ap₂ (cell p) a b
+
+-- a pattern that is back by a vector that counts is back
+back : (next : List ℕ → ℕ) (cells : Picture) (claim : Claim) (m : ℕ) (dx dy : ℤ) → MayReturnBy claim dx dy → IsAfter next cells m (shifted cells dx dy) → IsNotBack next cells claim m → ⊥
+back next cells (Still pattern) m dx dy may h not = may
+back next cells (Oscillator pattern period) m dx dy may h not = not.2 (h not.0 not.1 ∙ unmoved cells dx dy not.0 not.1 may.0 may.1)
+back next cells (Spaceship pattern period x y) m dx dy may h not = not dx dy h
+back next cells (Becomes pattern generations other) m dx dy may h not = may
+
+-- where there is a reason against a claim, it isn't true
+pub false_from_reason : (next : List ℕ → ℕ) (cells other : Picture) (claim : Claim) (why : Why) → IsReason next cells other claim why → IsTrueClaim next cells other claim → ⊥
+false_from_reason next cells other claim Empty reason true = reason.1 (true.live reason.0)
+false_from_reason next cells other claim (Differs x y found wanted generations) reason true =
+    reason.4 (sym reason.2 ∙ ap (λ n. after next cells n x y) reason.1 ∙ true.stands x y ∙ reason.3)
+false_from_reason next cells other claim (Earlier m dx dy) reason true = back next cells claim m dx dy reason.4 reason.5 (true.least m reason.2 reason.3)
+
+-- ---- one meaning
 
 -- bytes mean one picture, one rule text and one generation
 pub one_meaning : (bytes : List ℕ) (p q : Picture) (t u : List ℕ) (g h : ℕ) → Means bytes p t g → Means bytes q u h → (p ≡ q) × (t ≡ u) × (g ≡ h)
@@ -24,61 +61,220 @@ one_meaning bytes p q t u g h a b =
     let same = one_file bytes a.0 b.0 a.1 b.1 in
     (a.2 ∙ ap (λ f. picture_of f.corner f.items) same ∙ sym b.2, a.3 ∙ ap (λ f. f.rule_text) same ∙ sym b.3, a.4 ∙ ap (λ f. f.generation) same ∙ sym b.4)
 
--- a claim's file is judged in one way
-pub one_judged : (files : List (List ℕ × List ℕ)) (claim : Claim) (p q : Picture) (r s : BsRule) → IsJudged files claim p r → IsJudged files claim q s → (p ≡ q) × (r.hood ≡ s.hood) × (r.birth ≡ s.birth) × (r.survival ≡ s.survival)
-one_judged files claim p q r s a b =
-    let bytes : a.bytes ≡ b.bytes = cc (a.at_path, b.at_path) in
-    let means : Means a.bytes q b.rule_text b.generation = subst (λ l. Means l q b.rule_text b.generation) (sym bytes) b.means in
-    let same = one_meaning a.bytes p q a.rule_text b.rule_text a.generation b.generation a.means means in
-    let names : Names a.rule_text s = subst (λ t. Names t s) (sym same.1) b.names in
-    let named = names-once a.rule_text r s a.names names in
-    (same.0, named.0, named.1, named.2)
-
--- where a claim's file is judged, its rule text has no fault
-pub faultless : (files : List (List ℕ × List ℕ)) (claim : Claim) (p : Picture) (r : BsRule) (fault : RuleFault) → IsJudged files claim p r → HasCause files claim (BadRule fault) → ⊥
-faultless files claim p r fault a (bytes, q, text, generation, there, readable, means, wrong) =
-    let same : a.bytes ≡ bytes = cc (a.at_path, there) in
-    let moved : Means a.bytes q text generation = subst (λ l. Means l q text generation) (sym same) means in
-    let one = one_meaning a.bytes p q a.rule_text text a.generation generation a.means moved in
-    names-faultless a.rule_text r fault a.names (subst (λ t. IsFaultOf t fault) (sym one.1) wrong)
-
--- a text has one fault as a rule text
-one_rule_fault : (text : List ℕ) (f g : RuleFault) → IsFaultOf text f → IsFaultOf text g → f ≡ g
-one_rule_fault text Bounded Bounded a b = refl
-one_rule_fault text Bounded Wakes a b = cc (a, b.0)
-one_rule_fault text Bounded Unknown a b = cc (a, b.0)
-one_rule_fault text Wakes Bounded a b = cc (a.0, b)
-one_rule_fault text Wakes Wakes a b = refl
-one_rule_fault text Wakes Unknown a b = absurd (b.1 a.1 a.2 a.3 a.4)
-one_rule_fault text Unknown Bounded a b = cc (a.0, b)
-one_rule_fault text Unknown Wakes a b = absurd (a.1 b.1 b.2 b.3 b.4)
-one_rule_fault text Unknown Unknown a b = refl
-
 -- a rule text has one fault
-pub one_bad_rule : (files : List (List ℕ × List ℕ)) (claim : Claim) (f g : RuleFault) → HasCause files claim (BadRule f) → HasCause files claim (BadRule g) → f ≡ g
-one_bad_rule files claim f g (bytes, p, text, generation, there, readable, means, wrong) (bytes', q, text', generation', there', readable', means', wrong') =
-    let same : bytes ≡ bytes' = cc (there, there') in
-    let moved : Means bytes q text' generation' = subst (λ l. Means l q text' generation') (sym same) means' in
-    let one = one_meaning bytes p q text text' generation generation' means moved in
-    one_rule_fault text f g wrong (subst (λ t. IsFaultOf t g) (sym one.1) wrong')
+one_text_fault : (text : List ℕ) (f g : RuleFault) → IsFaultOf text f → IsFaultOf text g → f ≡ g
+one_text_fault text Bounded Bounded a b = refl
+one_text_fault text Bounded Wakes a b = cc (a, b.0)
+one_text_fault text Bounded Unknown a b = cc (a, b.0)
+one_text_fault text Wakes Bounded a b = cc (a.0, b)
+one_text_fault text Wakes Wakes a b = refl
+one_text_fault text Wakes Unknown a b = absurd (b.1 a.1 a.2 a.3 a.4)
+one_text_fault text Unknown Bounded a b = cc (a.0, b)
+one_text_fault text Unknown Wakes a b = absurd (a.1 b.1 b.2 b.3 b.4)
+one_text_fault text Unknown Unknown a b = refl
 
--- where there is a reason against a claim, it isn't true
-pub false_from_reason : (next : List ℕ → ℕ) (p : Picture) (claim : Claim) (why : Why) → IsReason next p claim why → IsTrueClaim next p claim → ⊥
-false_from_reason next p (Still pattern) Empty reason true = reason true.0
-false_from_reason next p (Still pattern) (Differs x y found claimed gens) reason true =
-    let same = true.1 x y in
-    reason.4 (sym reason.2 ∙ ap (λ n. after next p n x y) reason.1 ∙ same ∙ reason.3)
+module _ (files : List (List ℕ × List ℕ)) (path : List ℕ) where
+  -- the file of a path is read in one way
+  one_read : (p q : Picture) (t u : List ℕ) → IsRead files path p t → IsRead files path q u → (p ≡ q) × (t ≡ u)
+  one_read p q t u a b =
+      let bytes : a.bytes ≡ b.bytes = same_Some a.bytes b.bytes (sym a.at_path ∙ b.at_path) in
+      let one = one_meaning b.bytes p q t u a.generation b.generation (subst (λ l. Means l p t a.generation) bytes a.means) b.means in
+      (one.0, one.1)
 
--- the same for equal pictures and rules
-pub false_elsewhere : (p q : Picture) (r s : BsRule) (claim : Claim) (why : Why) → (p ≡ q) × (r.hood ≡ s.hood) × (r.birth ≡ s.birth) × (r.survival ≡ s.survival) → IsTrueClaim (next_of r.hood r.birth r.survival) p claim → IsReason (next_of s.hood s.birth s.survival) q claim why → ⊥
-false_elsewhere p q r s claim why same true reason =
-    let by_hood = subst (λ h. IsTrueClaim (next_of h r.birth r.survival) p claim) same.1 true in
-    let by_birth = subst (λ b. IsTrueClaim (next_of s.hood b r.survival) p claim) same.2 by_hood in
-    let by_survival = subst (λ v. IsTrueClaim (next_of s.hood s.birth v) p claim) same.3 by_birth in
-    false_from_reason (next_of s.hood s.birth s.survival) q claim why reason (subst (λ c. IsTrueClaim (next_of s.hood s.birth s.survival) c claim) same.0 by_survival)
+  -- and has one rule
+  one_ruled : (p q : Picture) (r s : BsRule) → IsRuled files path p r → IsRuled files path q s → (p ≡ q) × IsSameRule r s
+  one_ruled p q r s a b =
+      let one = one_read p q a.0 b.0 a.1 b.1 in
+      (one.0, names-once b.0 r s (subst (λ t. Names t r) one.1 a.2) b.2)
 
--- a file that is judged can be read
-pub readable_from_judged : (files : List (List ℕ × List ℕ)) (claim : Claim) (p : Picture) (r : BsRule) (bytes : List ℕ) → IsJudged files claim p r → bytes_at files (pattern_of claim) ≡ Some bytes → IsReadable bytes
-readable_from_judged files claim p r bytes judged there =
-    let same : judged.bytes ≡ bytes = cc (judged.at_path, there) in
-    subst IsReadable same judged.readable
+  -- ---- a path is good or bad, not both
+
+  there_or_none : IsThere files path → bytes_at files path ≡ None → ⊥
+  there_or_none a none = none-some a.0 (sym none ∙ a.1)
+
+  reads_or_fault : (fault : PatternFault) → Reads files path → (bytes : List ℕ) × (bytes_at files path ≡ Some bytes) × IsPatternFault bytes fault → ⊥
+  reads_or_fault (pattern_fault.Rle fault) a (bytes, at, wrong) =
+      let same : bytes ≡ a.0 = same_Some bytes a.0 (sym at ∙ a.1) in
+      no_fault_within_limits a.0 a.2.0 fault a.2.1 a.2.2 wrong.0 (subst (λ l. rle_faults.IsFaultOf l fault) same wrong.1)
+  reads_or_fault pattern_fault.Memory a (bytes, at, wrong) = wrong
+
+  named_or_fault : (fault : RuleFault) → HasRule files path → (cells : Picture) × (text : List ℕ) × IsRead files path cells text × IsFaultOf text fault → ⊥
+  named_or_fault fault a (cells, text, read, wrong) =
+      let one = one_read a.0 cells a.2.0 text a.2.1 read in
+      names-faultless text a.1 fault (subst (λ t. Names t a.1) one.1 a.2.2) wrong
+
+  small_or_large : IsSmall files path → IsLarge files path → ⊥
+  small_or_large a (cells, rule, ruled, (x, y, large)) =
+      let one = one_ruled a.0 cells a.1 rule a.2 ruled in
+      let small : cell cells x y < 2 = subst (λ p. cell p x y < 2) one.0 (a.3 x y) in
+      omega arith
+
+  -- ---- and has one fault
+
+  one_pattern_fault : (f g : PatternFault) → (bytes : List ℕ) × (bytes_at files path ≡ Some bytes) × IsPatternFault bytes f
+      → (bytes : List ℕ) × (bytes_at files path ≡ Some bytes) × IsPatternFault bytes g → f ≡ g
+  one_pattern_fault (pattern_fault.Rle f) (pattern_fault.Rle g) (bytes, at, wrong) (others, there, bad) =
+      let same : bytes ≡ others = same_Some bytes others (sym at ∙ there) in
+      ap pattern_fault.Rle (one_fault others f g wrong.0 bad.0 (subst (λ l. rle_faults.IsFaultOf l f) same wrong.1) bad.1)
+  one_pattern_fault pattern_fault.Memory g (bytes, at, wrong) (others, there, bad) = absurd wrong
+  one_pattern_fault (pattern_fault.Rle f) pattern_fault.Memory (bytes, at, wrong) (others, there, bad) = absurd bad
+
+  one_rule_fault : (f g : RuleFault) → (cells : Picture) × (text : List ℕ) × IsRead files path cells text × IsFaultOf text f
+      → (cells : Picture) × (text : List ℕ) × IsRead files path cells text × IsFaultOf text g → f ≡ g
+  one_rule_fault f g (p, t, read, wrong) (q, u, other, bad) =
+      one_text_fault u f g (subst (λ l. IsFaultOf l f) (one_read p q t u read other).1 wrong) bad
+
+-- ---- lists of paths
+
+all_weaker : (P Q : List ℕ → Type 0) → ((p : List ℕ) → P p → Q p) → (ps : List (List ℕ)) → AllByRecursion P ps → AllByRecursion Q ps
+all_weaker P Q h [] all = tt
+all_weaker P Q h (p ∷ ps) all = (h p all.0, all_weaker P Q h ps all.1)
+
+-- where all are good, none is bad
+all_or_some : (Good Bad : List ℕ → Type 0) → ((p : List ℕ) → Good p → Bad p → ⊥) → (ps : List (List ℕ)) → AllByRecursion Good ps → SomePath Bad ps → ⊥
+all_or_some Good Bad h [] all some = some
+all_or_some Good Bad h (p ∷ ps) all (inl bad) = h p all.0 bad
+all_or_some Good Bad h (p ∷ ps) all (inr bad) = all_or_some Good Bad h ps all.1 bad
+
+all_or_first : (Good Bad : List ℕ → Type 0) → ((p : List ℕ) → Good p → Bad p → ⊥) → (ps : List (List ℕ)) → AllByRecursion Good ps → FirstPath Good Bad ps → ⊥
+all_or_first Good Bad h [] all first = first
+all_or_first Good Bad h (p ∷ ps) all (inl bad) = h p all.0 bad
+all_or_first Good Bad h (p ∷ ps) all (inr bad) = all_or_first Good Bad h ps all.1 bad.1
+
+-- the first bad one is bad in one way
+one_first : (Good Bad Worse : List ℕ → Type 0) (Same : Type 0) → ((p : List ℕ) → Good p → Bad p → ⊥) → ((p : List ℕ) → Good p → Worse p → ⊥) → ((p : List ℕ) → Bad p → Worse p → Same)
+    → (ps : List (List ℕ)) → FirstPath Good Bad ps → FirstPath Good Worse ps → Same
+one_first Good Bad Worse Same h k same [] a b = absurd a
+one_first Good Bad Worse Same h k same (p ∷ ps) (inl a) (inl b) = same p a b
+one_first Good Bad Worse Same h k same (p ∷ ps) (inl a) (inr b) = absurd (h p b.0 a)
+one_first Good Bad Worse Same h k same (p ∷ ps) (inr a) (inl b) = absurd (k p a.0 b)
+one_first Good Bad Worse Same h k same (p ∷ ps) (inr a) (inr b) = one_first Good Bad Worse Same h k same ps a.1 b.1
+
+-- ---- causes, in their order
+
+-- the place of a cause in the order
+abbrev place : Cause → ℕ
+place NoFile = 0
+place (BadPattern fault) = 1
+place (BadRule fault) = 2
+place StateTooLarge = 3
+place MixedRules = 4
+place Memory = 5
+
+place_within : (cause : Cause) → cause ≢ Memory → suc (place cause) ≤ 5
+place_within NoFile m = omega arith
+place_within (BadPattern fault) m = omega arith
+place_within (BadRule fault) m = omega arith
+place_within StateTooLarge m = omega arith
+place_within MixedRules m = omega arith
+place_within Memory m = absurd (m refl)
+
+-- none of the first n causes holds
+abbrev IsPast : List (List ℕ × List ℕ) → Claim → ℕ → Type 0
+IsPast files claim zero = Unit {0}
+IsPast files claim (suc zero) = AllByRecursion (IsThere files) (patterns_of claim)
+IsPast files claim (suc (suc zero)) = AllByRecursion (Reads files) (patterns_of claim)
+IsPast files claim (suc (suc (suc zero))) = AllByRecursion (HasRule files) (patterns_of claim)
+IsPast files claim (suc (suc (suc (suc zero)))) = AllByRecursion (IsSmall files) (patterns_of claim)
+IsPast files claim (suc (suc (suc (suc (suc n))))) = AllByRecursion (IsSmall files) (patterns_of claim) × (HasMixedRules files claim → ⊥)
+
+-- nor one fewer
+past_one_fewer : (files : List (List ℕ × List ℕ)) (claim : Claim) (n : ℕ) → IsPast files claim (suc n) → IsPast files claim n
+past_one_fewer files claim zero h = tt
+past_one_fewer files claim (suc zero) h = all_weaker (Reads files) (IsThere files) (λ p r. (r.0, r.1)) (patterns_of claim) h
+past_one_fewer files claim (suc (suc zero)) h = all_weaker (HasRule files) (Reads files) (λ p r. (r.2.1.bytes, r.2.1.at_path, r.2.1.readable)) (patterns_of claim) h
+past_one_fewer files claim (suc (suc (suc zero))) h = all_weaker (IsSmall files) (HasRule files) (λ p r. (r.0, r.1, r.2)) (patterns_of claim) h
+past_one_fewer files claim (suc (suc (suc (suc zero)))) h = h.0
+past_one_fewer files claim (suc (suc (suc (suc (suc n))))) h = h
+
+-- nor any fewer
+past_fewer : (files : List (List ℕ × List ℕ)) (claim : Claim) (n m : ℕ) → IsPast files claim (m + n) → IsPast files claim n
+past_fewer files claim n zero h = let e : zero + n ≡ n = omega arith in subst (IsPast files claim) e h
+past_fewer files claim n (suc m) h =
+    let e : suc m + n ≡ suc (m + n) = omega arith in
+    past_fewer files claim n m (past_one_fewer files claim (m + n) (subst (IsPast files claim) e h))
+
+past_below : (files : List (List ℕ × List ℕ)) (claim : Claim) (n m : ℕ) → n ≤ m → IsPast files claim m → IsPast files claim n
+past_below files claim n m below h = let e : m ≡ (m - n) + n = omega arith in past_fewer files claim n (m - n) (subst (IsPast files claim) e h)
+
+-- a cause comes past those before it
+past_before : (files : List (List ℕ × List ℕ)) (claim : Claim) (cause : Cause) → cause ≢ Memory → HasCause files claim cause → IsPast files claim (place cause)
+past_before files claim NoFile m h = tt
+past_before files claim (BadPattern fault) m h = h.0
+past_before files claim (BadRule fault) m h = h.0
+past_before files claim StateTooLarge m h = h.0
+past_before files claim MixedRules m h = h.0
+past_before files claim Memory m h = absurd (m refl)
+
+-- and not past itself
+not_past : (files : List (List ℕ × List ℕ)) (claim : Claim) (cause : Cause) → cause ≢ Memory → HasCause files claim cause → IsPast files claim (suc (place cause)) → ⊥
+not_past files claim NoFile m h past = all_or_some (IsThere files) (λ p. bytes_at files p ≡ None) (there_or_none files) (patterns_of claim) past h
+not_past files claim (BadPattern fault) m h past =
+    all_or_first (Reads files) (λ p. (bytes : List ℕ) × (bytes_at files p ≡ Some bytes) × IsPatternFault bytes fault) (λ p. reads_or_fault files p fault) (patterns_of claim) past h.1
+not_past files claim (BadRule fault) m h past =
+    all_or_first (HasRule files) (λ p. (cells : Picture) × (text : List ℕ) × IsRead files p cells text × IsFaultOf text fault) (λ p. named_or_fault files p fault) (patterns_of claim) past h.1
+not_past files claim StateTooLarge m h past = all_or_some (IsSmall files) (IsLarge files) (small_or_large files) (patterns_of claim) past h.1
+not_past files claim MixedRules m h past = past.1 h.1
+not_past files claim Memory m h past = m refl
+
+-- causes at one place are one
+same_place : (files : List (List ℕ × List ℕ)) (claim : Claim) (c d : Cause) → c ≢ Memory → d ≢ Memory → place c ≡ place d → HasCause files claim c → HasCause files claim d → c ≡ d
+same_place files claim Memory d m n e h k = absurd (m refl)
+same_place files claim c Memory m n e h k = absurd (n refl)
+same_place files claim NoFile NoFile m n e h k = refl
+same_place files claim (BadPattern f) (BadPattern g) m n e h k =
+    ap BadPattern (one_first (Reads files) (λ p. (bytes : List ℕ) × (bytes_at files p ≡ Some bytes) × IsPatternFault bytes f) (λ p. (bytes : List ℕ) × (bytes_at files p ≡ Some bytes) × IsPatternFault bytes g) (f ≡ g)
+    (λ p. reads_or_fault files p f) (λ p. reads_or_fault files p g) (λ p. one_pattern_fault files p f g) (patterns_of claim) h.1 k.1)
+same_place files claim (BadRule f) (BadRule g) m n e h k =
+    ap BadRule (one_first (HasRule files) (λ p. (cells : Picture) × (text : List ℕ) × IsRead files p cells text × IsFaultOf text f) (λ p. (cells : Picture) × (text : List ℕ) × IsRead files p cells text × IsFaultOf text g) (f ≡ g)
+    (λ p. named_or_fault files p f) (λ p. named_or_fault files p g) (λ p. one_rule_fault files p f g) (patterns_of claim) h.1 k.1)
+same_place files claim StateTooLarge StateTooLarge m n e h k = refl
+same_place files claim MixedRules MixedRules m n e h k = refl
+same_place files claim c d m n e h k = let no : ⊥ = omega arith in absurd no
+
+-- a claim has one cause, want of memory apart
+pub one_cause : (files : List (List ℕ × List ℕ)) (claim : Claim) (c d : Cause) → c ≢ Memory → d ≢ Memory → HasCause files claim c → HasCause files claim d → c ≡ d
+one_cause files claim c d m n h k =
+    elim (cases_order (place c) (place d)) [
+      | inl e ↦ same_place files claim c d m n e h k
+      | inr (inl e) ↦ absurd (not_past files claim c m h (past_below files claim (suc (place c)) (place d) (omega arith) (past_before files claim d n k)))
+      | inr (inr e) ↦ absurd (not_past files claim d n k (past_below files claim (suc (place d)) (place c) (omega arith) (past_before files claim c m h)))
+    ]
+
+-- ---- judged claims
+
+-- what is judged is past every cause
+past_all : (files : List (List ℕ × List ℕ)) (claim : Claim) (cells other : Picture) (rule : BsRule) → IsJudged files claim cells other rule → IsPast files claim 5
+past_all files (Still p) cells other rule j = (((cells, rule, j.0.ruled, j.0.small), tt), λ none. none)
+past_all files (Oscillator p n) cells other rule j = (((cells, rule, j.0.ruled, j.0.small), tt), λ none. none)
+past_all files (Spaceship p n dx dy) cells other rule j = (((cells, rule, j.0.ruled, j.0.small), tt), λ none. none)
+past_all files (Becomes p n q) cells other rule j = (
+  ((cells, rule, j.0.ruled, j.0.small), ((other, j.1, j.2.ruled, j.2.small), tt)),
+  λ mixed.
+      let a = (one_ruled files p cells mixed.0 rule mixed.1 j.0.ruled mixed.4).1 in
+      let b = (one_ruled files q other mixed.2 j.1 mixed.3 j.2.ruled mixed.5).1 in
+      mixed.6 (sym a.0 ∙ j.3.0 ∙ b.0, sym a.1 ∙ j.3.1 ∙ b.1, sym a.2 ∙ j.3.2 ∙ b.2),
+)
+
+-- a claim is judged or refused for a cause, not both, want of memory apart
+pub judged_or_cause : (files : List (List ℕ × List ℕ)) (claim : Claim) (cells other : Picture) (rule : BsRule) (cause : Cause) → cause ≢ Memory → IsJudged files claim cells other rule → HasCause files claim cause → ⊥
+judged_or_cause files claim cells other rule cause m judged h = not_past files claim cause m h (past_below files claim (suc (place cause)) 5 (place_within cause m) (past_all files claim cells other rule judged))
+
+-- a claim is judged in one way
+one_judged : (files : List (List ℕ × List ℕ)) (claim : Claim) (p q o v : Picture) (r s : BsRule) → IsJudged files claim p o r → IsJudged files claim q v s → (p ≡ q) × (o ≡ v) × IsSameRule r s
+one_judged files (Still path) p q o v r s a b = let one = one_ruled files path p q r s a.0.ruled b.0.ruled in (one.0, a.1 ∙ sym b.1, one.1)
+one_judged files (Oscillator path n) p q o v r s a b = let one = one_ruled files path p q r s a.0.ruled b.0.ruled in (one.0, a.1 ∙ sym b.1, one.1)
+one_judged files (Spaceship path n dx dy) p q o v r s a b = let one = one_ruled files path p q r s a.0.ruled b.0.ruled in (one.0, a.1 ∙ sym b.1, one.1)
+one_judged files (Becomes path n other) p q o v r s a b =
+    let one = one_ruled files path p q r s a.0.ruled b.0.ruled in
+    (one.0, (one_ruled files other o v a.1 b.1 a.2.ruled b.2.ruled).0, one.1)
+
+-- a claim that is judged is true or false, not both
+pub yes_or_no : (files : List (List ℕ × List ℕ)) (claim : Claim) (why : Why) (p q o v : Picture) (r s : BsRule) → IsJudged files claim p o r → IsJudged files claim q v s
+    → IsTrueClaim (next_of r.hood r.birth r.survival) p o claim → IsReason (next_of s.hood s.birth s.survival) q v claim why → ⊥
+yes_or_no files claim why p q o v r s a b true reason =
+    let one = one_judged files claim p q o v r s a b in
+    let next : next_of r.hood r.birth r.survival ≡ next_of s.hood s.birth s.survival = λ i. next_of (one.2.0 i) (one.2.1 i) (one.2.2 i) in
+    let by_next = subst (λ f. IsTrueClaim f p o claim) next true in
+    let by_cells = subst (λ c. IsTrueClaim (next_of s.hood s.birth s.survival) c o claim) one.0 by_next in
+    false_from_reason (next_of s.hood s.birth s.survival) q v claim why reason (subst (λ c. IsTrueClaim (next_of s.hood s.birth s.survival) q c claim) one.1 by_cells)

@@ -1,24 +1,22 @@
 //! Laws of verdicts, which no call needs to run: a no means that the claim is false, a file has one meaning, and only
 //! one kind of verdict is true of a claim.
 
-ghost use Rattle.std.specs.Prelude.{◌≡◌, ℕ, List, [], ◌∷◌, codes, pos, negsuc};
+ghost use Rattle.std.specs.Prelude.{◌≡◌, ◌≢◌, ℕ, List, pos, negsuc};
 ghost use Rattle.ca_plane.specs.Plane.{Picture};
 ghost use Rattle.ca_plane.specs.Generations.{after};
-ghost use Rattle.ca_rule.specs.Counts.{counts_of};
-ghost use Rattle.ca_rule.specs.Next.{next_of};
-ghost use Rattle.ca_claims.specs.Text.{Claim, Still};
+ghost use Rattle.ca_claims.specs.Text.{Claim};
 ghost use Rattle.ca_claims.specs.Means.{Means};
 ghost use Rattle.ca_claims.specs.Truth.{IsTrueClaim, IsReason};
 ghost use Rattle.ca_claims.specs.Answers.{IsTrueVerdict};
 ghost use Rattle.ca_claims.specs.Examples.{life, blinker, block};
 ghost use Rattle.ca_claims.specs.declared.verdict.Why.{Why};
 ghost use Rattle.ca_claims.specs.declared.verdict.Verdict.TheVariants.{Yes, No, Refused};
-ghost use Rattle.ca_claims.specs.declared.verdict.Cause.TheVariants.{NoFile, NotYet, BadRule};
-ghost use Rattle.ca_rule.specs.declared.fault.RuleFault.{RuleFault};
+ghost use Rattle.ca_claims.specs.declared.verdict.Cause.{Cause};
+ghost use Rattle.ca_claims.specs.declared.verdict.Cause.TheVariants.{Memory};
 
 /// Where there is a reason against a claim, the claim isn't true.
 pub fn no_is_false()
-    ensures { (next : List ℕ → ℕ) (cells : Picture) (claim : Claim) (why : Why) → IsReason next cells claim why → IsTrueClaim next cells claim → ⊥ }
+    ensures { (next : List ℕ → ℕ) (cells other : Picture) (claim : Claim) (why : Why) → IsReason next cells other claim why → IsTrueClaim next cells other claim → ⊥ }
 {}
 
 /// The bytes of a file mean one picture, one rule text and one generation at most.
@@ -30,21 +28,12 @@ pub fn one_meaning_of_a_file()
 /// memory apart, which may come at any time.
 pub fn one_kind_of_verdict()
     ensures yes_or_no { (files : List (List ℕ × List ℕ)) (claim : Claim) (why : Why) → IsTrueVerdict files claim Yes → IsTrueVerdict files claim (No why) → ⊥ }
-    ensures yes_or_no_file { (files : List (List ℕ × List ℕ)) (claim : Claim) → IsTrueVerdict files claim Yes → IsTrueVerdict files claim (Refused NoFile) → ⊥ }
-    ensures yes_or_not_yet { (files : List (List ℕ × List ℕ)) (claim : Claim) → IsTrueVerdict files claim Yes → IsTrueVerdict files claim (Refused NotYet) → ⊥ }
-    ensures no_or_no_file { (files : List (List ℕ × List ℕ)) (claim : Claim) (why : Why) → IsTrueVerdict files claim (No why) → IsTrueVerdict files claim (Refused NoFile) → ⊥ }
-    ensures no_or_not_yet { (files : List (List ℕ × List ℕ)) (claim : Claim) (why : Why) → IsTrueVerdict files claim (No why) → IsTrueVerdict files claim (Refused NotYet) → ⊥ }
-    ensures no_file_or_not_yet { (files : List (List ℕ × List ℕ)) (claim : Claim) → IsTrueVerdict files claim (Refused NoFile) → IsTrueVerdict files claim (Refused NotYet) → ⊥ }
-    ensures yes_or_bad_rule { (files : List (List ℕ × List ℕ)) (claim : Claim) (f : RuleFault) →
-        IsTrueVerdict files claim Yes → IsTrueVerdict files claim (Refused (BadRule f)) → ⊥ }
-    ensures no_or_bad_rule { (files : List (List ℕ × List ℕ)) (claim : Claim) (why : Why) (f : RuleFault) →
-        IsTrueVerdict files claim (No why) → IsTrueVerdict files claim (Refused (BadRule f)) → ⊥ }
-    ensures no_file_or_bad_rule { (files : List (List ℕ × List ℕ)) (claim : Claim) (f : RuleFault) →
-        IsTrueVerdict files claim (Refused NoFile) → IsTrueVerdict files claim (Refused (BadRule f)) → ⊥ }
-    ensures not_yet_or_bad_rule { (files : List (List ℕ × List ℕ)) (claim : Claim) (f : RuleFault) →
-        IsTrueVerdict files claim (Refused NotYet) → IsTrueVerdict files claim (Refused (BadRule f)) → ⊥ }
-    ensures one_bad_rule { (files : List (List ℕ × List ℕ)) (claim : Claim) (f g : RuleFault) →
-        IsTrueVerdict files claim (Refused (BadRule f)) → IsTrueVerdict files claim (Refused (BadRule g)) → f ≡ g }
+    ensures yes_or_refused { (files : List (List ℕ × List ℕ)) (claim : Claim) (cause : Cause) → cause ≢ Memory
+        → IsTrueVerdict files claim Yes → IsTrueVerdict files claim (Refused cause) → ⊥ }
+    ensures no_or_refused { (files : List (List ℕ × List ℕ)) (claim : Claim) (why : Why) (cause : Cause) → cause ≢ Memory
+        → IsTrueVerdict files claim (No why) → IsTrueVerdict files claim (Refused cause) → ⊥ }
+    ensures one_cause { (files : List (List ℕ × List ℕ)) (claim : Claim) (one two : Cause) → one ≢ Memory → two ≢ Memory
+        → IsTrueVerdict files claim (Refused one) → IsTrueVerdict files claim (Refused two) → one ≡ two }
 {}
 
 /// Cells of the blinker and the block under Conway's Life.

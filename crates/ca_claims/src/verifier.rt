@@ -144,6 +144,5 @@ fn judge_pair(
     Ok(decide(alloc, &rule, &pattern.cells, &other.cells, claim))
 }
 
-
 #[cfg(test)]
 mod tests;

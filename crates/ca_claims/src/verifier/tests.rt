@@ -2,7 +2,8 @@
 
 use super::*;
 use crate::claims::read_claims;
-use crate::verdict::Why;
+use crate::verdict::{PatternFault, Why};
+use ca_rle::RleFault;
 use ca_rule::RuleFault;
 use std::process::Abort;
 use std::test::*;
@@ -169,19 +170,66 @@ fn patterns_that_change_in_several_cells(rt: HostRuntime) -> Result<(), Fail> {
 }
 
 #[test]
-fn files_that_are_not_read_yet(rt: HostRuntime) -> Result<(), Fail> {
-    let table: [&[u8]; 5] = [
-        b"",
-        b"x = 0, y = 0\n!",
-        b"x = 2, y = 2, rule = B3/S23\r\n2o$2o!\r\n",
-        b"x = 2, y = 2, rule = B3/S23\n2o$2o",
-        b"x = 2, y = 2, rule = Life\n2o$2o",
+fn files_that_do_not_read(rt: HostRuntime) -> Result<(), Fail> {
+    let table: [(&[u8], RleFault); 4] = [
+        (b"", RleFault::Header),
+        (b"x = 2, y = 2, rule = B3/S23\n2o$2o", RleFault::NoEnd),
+        // The pattern is read before its rule.
+        (b"x = 2, y = 2, rule = Life\n2o$2o", RleFault::NoEnd),
+        (b"x = 2, y = 2, rule = B3/S23\n0o!", RleFault::Syntax),
     ];
-    for bytes in table {
+    for (bytes, fault) in table {
         let verdict = still_of(rt.alloc(), bytes)?;
-        assert_eq!(rt; verdict, Verdict::Refused(Cause::NotYet), "{bytes:?}");
+        let cause = Cause::BadPattern(PatternFault::Rle(fault));
+        assert_eq!(rt; verdict, Verdict::Refused(cause), "{bytes:?}");
     }
     Ok(())
+}
+
+#[test]
+fn states_that_a_rule_does_not_have(rt: HostRuntime) -> Result<(), Fail> {
+    let verdict = still_of(rt.alloc(), b"x = 2, y = 1, rule = B3/S23\noB!")?;
+    assert_eq!(rt; verdict, Verdict::Refused(Cause::StateTooLarge));
+    Ok(())
+}
+
+#[test]
+fn causes_of_two_patterns_in_their_order(rt: HostRuntime) -> Result<(), Fail> {
+    let text =
+        b"load b b.rle\nload m m.rle\nload w w.rle\nload l l.rle\nload u u.rle\nload s s.rle\n\
+        becomes b 0 m\nbecomes w 0 m\nbecomes u 0 w\nbecomes u 0 l\nbecomes l 0 s\nbecomes b 0 s\n";
+    let files = [
+        File {
+            path: b"b.rle",
+            bytes: BLOCK,
+        },
+        File {
+            path: b"w.rle",
+            bytes: b"no pattern",
+        },
+        File {
+            path: b"l.rle",
+            bytes: b"x = 1, y = 1, rule = B3/S23\nB!",
+        },
+        File {
+            path: b"u.rle",
+            bytes: b"x = 1, y = 1, rule = Life\no!",
+        },
+        File {
+            path: b"s.rle",
+            bytes: b"x = 1, y = 1, rule = B3/S2\no!",
+        },
+    ];
+    let header = Cause::BadPattern(PatternFault::Rle(RleFault::Header));
+    let expected = [
+        (7, Verdict::Refused(Cause::NoFile)),
+        (8, Verdict::Refused(Cause::NoFile)),
+        (9, Verdict::Refused(header)),
+        (10, Verdict::Refused(Cause::BadRule(RuleFault::Unknown))),
+        (11, Verdict::Refused(Cause::StateTooLarge)),
+        (12, Verdict::Refused(Cause::MixedRules)),
+    ];
+    check_answers(&rt, rt.alloc(), text, &files, &expected)
 }
 
 #[test]

@@ -1,4 +1,4 @@
-use Rattle.std.proofs.Common.{◌≡◌, List, [], ◌∷◌, ℕ, refl, subst}
+use Rattle.std.proofs.Common.{[], refl, subst}
 use Rattle.ca_plane.proofs.Pictures.{IsSame-refl}
 use Rattle.ca_rule.specs.Next.{next_of}
 use Rattle.ca_claims.specs.Lines.{claim_at}
