@@ -14,5 +14,5 @@ pub use claims::{Claims, read_claims};
 pub use fault::ClaimFault;
 pub use file::File;
 pub use laws::{no_fault_in_claim_text, one_fault, one_meaning, worked_examples};
-pub use verdict::{Answer, Cause, Verdict, Why};
+pub use verdict::{Answer, Cause, PatternFault, Verdict, Why};
 pub use verifier::verify;
