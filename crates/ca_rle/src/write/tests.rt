@@ -1,9 +1,13 @@
-ghost use Rattle.std.specs.Prelude.{Some};
+ghost use Rattle.std.specs.Prelude.{◌<◌, ◌^◌, Some, IsTrue};
+ghost use Rattle.std.specs.List.{All};
+ghost use Rattle.ca_plane.specs.Bytes.{IsWord};
+ghost use Rattle.ca_rle.specs.Limits.{IsInRange};
 
 use super::*;
 use ca_plane::Point;
 use std::io;
 use std::io::{Error, ErrorKind};
+use std::process::Abort;
 use std::test::*;
 
 /// Takes at most three bytes at a time, and fails once it has `room` bytes.
@@ -51,36 +55,58 @@ fn plane_of(alloc: Global, cells: &[(i32, i32, u8)]) -> Result<Plane, Memory> {
     Ok(plane)
 }
 
+fn is_in_range(at: Point) -> bool
+    ensures { IsTrue result → IsInRange at }
+{
+    const EDGE: i64 = 1 << 60;
+    -EDGE <= at.x && at.x < EDGE && -EDGE <= at.y && at.y < EDGE
+}
+
+// Whether the plane may be written: its cells are in range, and their states below the number of states.
+fn fits(plane: &Plane, states: u16) -> bool
+    ensures range { IsTrue result → All (λ e. IsInRange e.0) plane.now }
+    ensures states { IsTrue result → All (λ e. e.1 < states) plane.now }
+{
+    'cells: for (point, state) in plane.cells() {
+        if !is_in_range(point) || u16::from(state) >= states {
+            return false;
+        }
+    }
+    true
+}
+
 const GLIDER: [(i32, i32, u8); 5] = [(1, 0, 1), (2, 1, 1), (0, 2, 1), (1, 2, 1), (2, 2, 1)];
 
 const GLIDER_TEXT: &[u8] = b"#CXRLE Pos=0,0\nx = 3, y = 3, rule = B3/S23\nbo$2bo$3o!\n";
 
-#[test]
-fn two_states(rt: HostRuntime) -> Result<(), Fail> {
-    let plane = plane_of(rt.alloc(), &GLIDER)?;
-    let text = write_rle(rt.alloc(), &plane, b"B3/S23", 0, 2)?;
-    assert_eq!(rt; text.as_slice(), GLIDER_TEXT);
-    Ok(())
+// The text that is written.
+fn written(
+    rt: &(impl Abort + AllocGlobal),
+    plane: &Plane,
+    rule_text: &[u8],
+    generation: u64,
+    states: u16,
+) -> Result<Vec<u8>, Memory>
+    requires rule { IsWord rule_text.now }
+    requires generation { generation < 2 ^ 63 }
+{
+    assert!(rt; fits(plane, states));
+    write_rle(rt.alloc(), plane, rule_text, generation, states)
 }
 
 #[test]
-fn three_states(rt: HostRuntime) -> Result<(), Fail> {
+fn small_planes(rt: HostRuntime) -> Result<(), Fail> {
+    let glider = plane_of(rt.alloc(), &GLIDER)?;
+    assert_eq!(rt; written(&rt, &glider, b"B3/S23", 0, 2)?.as_slice(), GLIDER_TEXT);
     let cells = [(0, -1, 2), (-1, 0, 2), (0, 0, 2), (1, 0, 2), (0, 1, 2)];
-    let plane = plane_of(rt.alloc(), &cells)?;
-    let text = write_rle(rt.alloc(), &plane, b"Spread", 0, 3)?;
+    let spread = plane_of(rt.alloc(), &cells)?;
     assert_eq!(rt;
-        text.as_slice(),
+        written(&rt, &spread, b"Spread", 0, 3)?.as_slice(),
         b"#CXRLE Pos=-1,-1\nx = 3, y = 3, rule = Spread\n.B$3B$.B!\n".as_slice()
     );
-    Ok(())
-}
-
-#[test]
-fn many_states(rt: HostRuntime) -> Result<(), Fail> {
-    let plane = plane_of(rt.alloc(), &[(0, 0, 25), (1, 0, 240), (2, 0, 255)])?;
-    let text = write_rle(rt.alloc(), &plane, b"Many", 0, 256)?;
+    let many = plane_of(rt.alloc(), &[(0, 0, 25), (1, 0, 240), (2, 0, 255)])?;
     assert_eq!(rt;
-        text.as_slice(),
+        written(&rt, &many, b"Many", 0, 256)?.as_slice(),
         b"#CXRLE Pos=0,0\nx = 3, y = 1, rule = Many\npAxXyO!\n".as_slice()
     );
     Ok(())
@@ -89,14 +115,12 @@ fn many_states(rt: HostRuntime) -> Result<(), Fail> {
 #[test]
 fn no_cells(rt: HostRuntime) -> Result<(), Fail> {
     let plane = Plane::new(rt.alloc());
-    let text = write_rle(rt.alloc(), &plane, b"B3/S23", 0, 2)?;
     assert_eq!(rt;
-        text.as_slice(),
+        written(&rt, &plane, b"B3/S23", 0, 2)?.as_slice(),
         b"#CXRLE Pos=0,0\nx = 0, y = 0, rule = B3/S23\n!\n".as_slice()
     );
-    let text = write_rle(rt.alloc(), &plane, b"B3/S23", 7, 2)?;
     assert_eq!(rt;
-        text.as_slice(),
+        written(&rt, &plane, b"B3/S23", 7, 2)?.as_slice(),
         b"#CXRLE Pos=0,0 Gen=7\nx = 0, y = 0, rule = B3/S23\n!\n".as_slice()
     );
     Ok(())
@@ -114,9 +138,8 @@ fn corners_of_the_range(rt: HostRuntime) -> Result<(), Fail> {
         },
         1,
     )?;
-    let text = write_rle(rt.alloc(), &plane, b"B3/S23", i64::MAX as u64, 2)?;
     assert_eq!(rt;
-        text.as_slice(),
+        written(&rt, &plane, b"B3/S23", i64::MAX as u64, 2)?.as_slice(),
         b"#CXRLE Pos=-1152921504606846976,-1152921504606846976 Gen=9223372036854775807\n\
           x = 2305843009213693952, y = 2305843009213693952, rule = B3/S23\n\
           o2305843009213693951$2305843009213693951bo!\n"
@@ -125,7 +148,7 @@ fn corners_of_the_range(rt: HostRuntime) -> Result<(), Fail> {
     Ok(())
 }
 
-// Puts live cells at every second place of a row, so many from a place on.
+// Puts live cells at every second place of a row, so many from x = 0 on.
 fn set_every_second(plane: &mut Plane, y: i32, count: i32) -> Result<(), Memory> {
     'cells: for step in 0..count {
         let at = Point {
@@ -138,42 +161,29 @@ fn set_every_second(plane: &mut Plane, y: i32, count: i32) -> Result<(), Memory>
 }
 
 #[test]
-fn a_line_of_seventy(rt: HostRuntime) -> Result<(), Fail> {
+fn lines_are_ended_at_seventy(rt: HostRuntime) -> Result<(), Fail> {
     let mut plane = Plane::new(rt.alloc());
     set_every_second(&mut plane, 0, 40)?;
-    let text = write_rle(rt.alloc(), &plane, b"B3/S23", 0, 2)?;
     assert_eq!(rt;
-        text.as_slice(),
+        written(&rt, &plane, b"B3/S23", 0, 2)?.as_slice(),
         b"#CXRLE Pos=0,0\nx = 79, y = 1, rule = B3/S23\n\
           obobobobobobobobobobobobobobobobobobobobobobobobobobobobobobobobobobob\n\
           obobobobo!\n"
             .as_slice()
     );
-    Ok(())
-}
-
-#[test]
-fn the_end_alone_on_a_line(rt: HostRuntime) -> Result<(), Fail> {
-    let mut plane = plane_of(rt.alloc(), &[(68, 0, 1), (69, 0, 1)])?;
-    set_every_second(&mut plane, 0, 34)?;
-    let text = write_rle(rt.alloc(), &plane, b"B3/S23", 0, 2)?;
+    let mut end_alone = plane_of(rt.alloc(), &[(68, 0, 1), (69, 0, 1)])?;
+    set_every_second(&mut end_alone, 0, 34)?;
     assert_eq!(rt;
-        text.as_slice(),
+        written(&rt, &end_alone, b"B3/S23", 0, 2)?.as_slice(),
         b"#CXRLE Pos=0,0\nx = 70, y = 1, rule = B3/S23\n\
           obobobobobobobobobobobobobobobobobobobobobobobobobobobobobobobobobob2o\n\
           !\n"
             .as_slice()
     );
-    Ok(())
-}
-
-#[test]
-fn an_item_of_two_characters_is_not_cut(rt: HostRuntime) -> Result<(), Fail> {
-    let mut plane = plane_of(rt.alloc(), &[(1, 0, 1), (66, 1, 1), (67, 1, 1)])?;
-    set_every_second(&mut plane, 1, 33)?;
-    let text = write_rle(rt.alloc(), &plane, b"B3/S23", 0, 2)?;
+    let mut whole_item = plane_of(rt.alloc(), &[(1, 0, 1), (66, 1, 1), (67, 1, 1)])?;
+    set_every_second(&mut whole_item, 1, 33)?;
     assert_eq!(rt;
-        text.as_slice(),
+        written(&rt, &whole_item, b"B3/S23", 0, 2)?.as_slice(),
         b"#CXRLE Pos=0,0\nx = 68, y = 2, rule = B3/S23\n\
           bo$obobobobobobobobobobobobobobobobobobobobobobobobobobobobobobobobob\n\
           2o!\n"
@@ -183,31 +193,25 @@ fn an_item_of_two_characters_is_not_cut(rt: HostRuntime) -> Result<(), Fail> {
 }
 
 #[test]
-fn a_text_in_pieces(rt: HostRuntime) -> Result<(), Fail> {
+fn texts_in_pieces(rt: HostRuntime) -> Result<(), Fail> {
     let plane = plane_of(rt.alloc(), &GLIDER)?;
-    let mut device = narrow_device(rt.alloc(), usize::MAX);
-    write_rle_to(rt.alloc(), &plane, b"B3/S23", 0, 2, &mut device)?;
-    assert_eq!(rt; device.inner.taken.as_slice(), GLIDER_TEXT);
-    assert_eq!(rt; device.failures, 0);
-    Ok(())
-}
-
-#[test]
-fn a_first_part_of_a_text(rt: HostRuntime) -> Result<(), Fail> {
-    let plane = plane_of(rt.alloc(), &GLIDER)?;
-    'rooms: for room in 0..GLIDER_TEXT.len() {
+    assert!(rt; fits(&plane, 2));
+    'rooms: for room in 0..=GLIDER_TEXT.len() {
         let mut device = narrow_device(rt.alloc(), room);
-        assert_eq!(rt;
-            write_rle_to(rt.alloc(), &plane, b"B3/S23", 0, 2, &mut device),
-            Err(WriteFault::Write)
-        );
+        let result = write_rle_to(rt.alloc(), &plane, b"B3/S23", 0, 2, &mut device);
         assert_eq!(rt; device.inner.taken.as_slice(), &GLIDER_TEXT[..room]);
-        assert_eq!(rt; device.failures, 1);
+        if room == GLIDER_TEXT.len() {
+            assert_eq!(rt; result, Ok(()));
+            assert_eq!(rt; device.failures, 0);
+        } else {
+            assert_eq!(rt; result, Err(WriteFault::Write));
+            assert_eq!(rt; device.failures, 1);
+        }
     }
     Ok(())
 }
 
-// Allocations may fail here: what was written then is nothing.
+// Allocations may fail here, as under `rt try --test --fail-alloc N`: nothing is written then.
 #[test]
 fn writes_or_memory(rt: HostRuntime) {
     let Ok(page) = Vec::with_capacity(rt.alloc(), 64) else {
@@ -216,6 +220,7 @@ fn writes_or_memory(rt: HostRuntime) {
     let Ok(plane) = plane_of(rt.alloc(), &GLIDER) else {
         return;
     };
+    assert!(rt; fits(&plane, 2));
     let mut device = Dev::new(page);
     match write_rle_to(rt.alloc(), &plane, b"B3/S23", 0, 2, &mut device) {
         Ok(()) => assert_eq!(rt; device.inner.as_slice(), GLIDER_TEXT),
