@@ -15,8 +15,8 @@ import time
 PROGRAM = os.path.abspath("crates/cafile/out/cafile")
 
 
-def soup(width, height):
-    """A random soup in RLE, with lines of at most 70 characters, and how many of its cells are live."""
+def write_soup(width, height, path):
+    """Writes a random soup in RLE, with lines of at most 70 characters, and a second file that ends in a faulty item."""
     random.seed(width)
     rows = ["".join(random.choices("ob", (3, 5), k=width)).rstrip("b") for _ in range(height)]
     body = re.sub(r"(.)\1+", lambda run: f"{len(run[0])}{run[1]}", "$".join(rows)) + "!"
@@ -27,7 +27,10 @@ def soup(width, height):
             line = ""
         line += item
     text = f"x = {width}, y = {height}, rule = B3/S23\n" + "\n".join(lines + [line]) + "\n"
-    return text, sum(row.count("o") for row in rows)
+    for name, content in ((path, text), (path + ".bad", text.replace("!", "z"))):
+        with open(name, "w", encoding="ascii") as file:
+            file.write(content)
+    print(sum(row.count("o") for row in rows))
 
 
 def run(folder, claims):
@@ -44,10 +47,29 @@ def run(folder, claims):
 
 
 def report(folder, name, claims):
+    """Runs three times, prints the best, and gives its seconds."""
     results = [run(folder, claims) for _ in range(3)]
     seconds, memory = min(r[0] for r in results), max(r[1] for r in results)
-    print(f"{name}: {seconds:.3f} s, {memory // 1024} MiB, {results[0][2].replace(chr(10), '; ')}", flush=True)
+    print(f"{name}: {seconds:.3f} s, {memory // 1024} MiB, {results[0][2]}", flush=True)
     return seconds
+
+
+def time_soup(folder, width, height):
+    """Times reading, and stepping, a soup."""
+    soup = os.path.join(folder, "soup.rle")
+    # a process of its own makes it, since the memory of a run is counted from that of the process that starts it
+    made = subprocess.run([sys.executable, __file__, str(width), str(height), soup], stdout=subprocess.PIPE, check=True)
+    live, megabytes = int(made.stdout), os.path.getsize(soup) / 1e6
+    print(f"soup of {width} by {height}: {megabytes:.2f} MB, {live} live cells")
+    judged = report(folder, "  judged alone", f"load s {soup}.bad\nstill s\n")
+    print(f"    {megabytes / judged:.0f} MB/s")
+    # `becomes s 0 s` reads the file twice and compares
+    twice = report(folder, "  read twice", f"load s {soup}\nbecomes s 0 s\n")
+    print(f"    {2 * megabytes / twice:.1f} MB/s")
+    still = report(folder, "  still", f"load s {soup}\nstill s\n")
+    five = report(folder, "  after 5", f"load s {soup}\nbecomes s 5 s\n")
+    steps = five - twice
+    print(f"    five steps: {steps / 5:.3f} s each; read and stepped once: {still:.3f} s")
 
 
 def main():
@@ -55,33 +77,19 @@ def main():
         print("build the program first: ./cafile --help", file=sys.stderr)
         return 2
     with tempfile.TemporaryDirectory() as folder:
-        # nothing is read of a file but its spelling where it ends in a faulty item
-        for name, width, height in (("soup of 1000 by 1000", 1000, 1000), ("soup of 16 MB", 4000, 4100)):
-            text, live = soup(width, height)
-            good, bad = os.path.join(folder, "good.rle"), os.path.join(folder, "bad.rle")
-            for path, bytes_of_file in ((good, text), (bad, text.replace("!", "z"))):
-                with open(path, "w", encoding="ascii") as file:
-                    file.write(bytes_of_file)
-            megabytes = len(text) / 1e6
-            print(f"{name}: {megabytes:.2f} MB, {live} live cells")
-            judged = report(folder, "  judged alone", f"load s {bad}\nstill s\n")
-            print(f"    {megabytes / judged:.0f} MB/s")
-            # `becomes s 0 s` reads the file twice and compares
-            both = report(folder, "  read twice", f"load s {good}\nbecomes s 0 s\n")
-            print(f"    {2 * megabytes / both:.0f} MB/s")
-            still = report(folder, "  still", f"load s {good}\nstill s\n")
-            print(f"    one step beside one reading: {live / max(still - both / 2, 0.001) / 1e6:.2f} million live cells a second")
-            if width > 1000:
-                break
-            five = report(folder, "  after 5", f"load s {good}\nbecomes s 5 s\n")
-            print(f"    four steps more: {(five - still) / 4:.3f} s each")
-        pentomino = os.path.abspath("examples/r_pentomino.rle")
-        report(folder, "R-pentomino after 1103", f"load r {pentomino}\nbecomes r 1103 r\n")
-        shuttle = os.path.abspath("examples/queen_bee_shuttle.rle")
-        report(folder, "an oscillator of period 30", f"load q {shuttle}\noscillator q 30\n")
-        copperhead = os.path.abspath("examples/copperhead.rle")
-        report(folder, "a spaceship of period 10", f"load c {copperhead}\nspaceship c 10 0 -1\n")
+        time_soup(folder, 1000, 1000)
+        time_soup(folder, 4000, 4000 * 16 // 11)
+        for name, claim in (
+            ("r_pentomino", "becomes p 1103 p"),
+            ("queen_bee_shuttle", "oscillator p 30"),
+            ("copperhead", "spaceship p 10 0 -1"),
+        ):
+            path = os.path.abspath(f"examples/{name}.rle")
+            report(folder, f"{name}, {claim}", f"load p {path}\n{claim}\n")
     return 0
 
 
-sys.exit(main())
+if len(sys.argv) == 4:
+    write_soup(int(sys.argv[1]), int(sys.argv[2]), sys.argv[3])
+else:
+    sys.exit(main())
