@@ -1,7 +1,7 @@
 #!/usr/bin/env python3
 """A naive stepper, apart from the program: the planes that examples/ claims come from it, and not from cafile.
 
-python3 bench/step.py FILE N prints, in RLE, the pattern of FILE after N generations. It reads two-state files with a B/S rule,
+python3 bench/step.py FILE N prints, in RLE, the pattern of FILE after N generations. It reads two-state files with a rule in the form B3/S23,
 over the Moore, von Neumann (suffix V) or hexagonal (suffix H) neighbourhood.
 """
 import re

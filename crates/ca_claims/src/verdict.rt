@@ -28,7 +28,7 @@ pub enum PatternFault {
     /// The fault of an RLE text.
     #[error("rle: {0}")]
     Rle(RleFault),
-    /// A growth was refused.
+    /// A growth was refused. No verdict has it: want of memory is a cause of its own.
     #[error("out of memory")]
     Memory,
 }

@@ -7,11 +7,11 @@ ghost use Rattle.ca_plane.specs.Puts.{Puts};
 use crate::memory::Memory;
 use itoa::Buffer;
 
-/// Puts the text behind the others.
+/// Puts the text behind what `out` holds.
 ///
 /// # Errors
 ///
-/// Fails where there is no memory for it.
+/// Fails where there is no memory for it; what `out` holds then is open.
 pub fn push_text(out: &mut Vec<u8>, text: &[u8]) -> Result<(), Memory>
     ensures { OnOk result (Puts out.old.items out.new.items text.now) }
 {
@@ -19,11 +19,11 @@ pub fn push_text(out: &mut Vec<u8>, text: &[u8]) -> Result<(), Memory>
     Ok(())
 }
 
-/// Puts the number behind the others, in decimal digits without leading zeros.
+/// Puts the number behind what `out` holds, in decimal digits without leading zeros.
 ///
 /// # Errors
 ///
-/// Fails where there is no memory for it.
+/// Fails where there is no memory for it; what `out` holds then is open.
 pub fn push_number(out: &mut Vec<u8>, number: u64) -> Result<(), Memory>
     ensures { OnOk result (Puts out.old.items out.new.items (decimal number)) }
 {
@@ -31,11 +31,12 @@ pub fn push_number(out: &mut Vec<u8>, number: u64) -> Result<(), Memory>
     push_text(out, buffer.format(number).as_bytes())
 }
 
-/// Puts the number behind the others, in decimal digits without leading zeros, with a `-` before them where it is below 0.
+/// Puts the number behind what `out` holds, in decimal digits without leading zeros, with a `-` before them where it is
+/// below 0.
 ///
 /// # Errors
 ///
-/// Fails where there is no memory for it.
+/// Fails where there is no memory for it; what `out` holds then is open.
 pub fn push_integer(out: &mut Vec<u8>, number: i64) -> Result<(), Memory>
     ensures { OnOk result (Puts out.old.items out.new.items (signed_decimal number)) }
 {

@@ -30,8 +30,8 @@ fn rule_text(alloc: Global, rule: Option<&[u8]>) -> Result<Vec<u8>, AllocError>
 /// Reads an extended RLE text (Golly Help, File Formats; docs/FORMATS.md): the pattern that it holds, its first cell at the
 /// corner that `Pos` says, or at (0, 0).
 ///
-/// The whole text is judged before anything is written: the time for a refused text is in proportion to its bytes, and
-/// it takes no memory.
+/// The whole text is judged before anything is written: a text that is refused takes no memory, and a count is never
+/// counted out before it is known to fit.
 ///
 /// # Errors
 ///

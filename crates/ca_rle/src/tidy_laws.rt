@@ -1,4 +1,4 @@
-//! Laws of tidy texts: what a tidy text says, and that a plane has one.
+//! Laws of tidy texts: what a tidy text says, and that a plane has one at most.
 
 ghost use Rattle.std.specs.Prelude.{◌≡◌, ◌≢◌, ℕ, ◌<◌, ◌^◌, ℤ, List};
 ghost use Rattle.ca_plane.specs.Bytes.{IsWord};
@@ -30,7 +30,7 @@ pub fn tidy_in_range()
         → (file : File) → IsFile text file → IsWithinRange file }
 {}
 
-/// A plane, with its rule text, generation and number of states, has one tidy text.
+/// A plane, with its rule text, generation and number of states, has one tidy text at most.
 pub fn one_tidy_text()
     ensures { (t u : List ℕ) (cells : Picture) (rule_text : List ℕ) (generation states : ℕ) → IsTidy t cells rule_text generation states
         → IsTidy u cells rule_text generation states → t ≡ u }

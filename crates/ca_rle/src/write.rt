@@ -29,6 +29,8 @@ mod runs;
 /// count of 1, no dead cells at the end of a row, no row end behind the last row, and no two items side by side that
 /// could be one. Each line ends with LF.
 ///
+/// The reader refuses the text of a plane with more than 16777216 live cells, and reads that of any other.
+///
 /// # Errors
 ///
 /// Fails where there is no memory for the text.

@@ -20,7 +20,7 @@ pub enum Request {
 /// Why the words ask for nothing.
 #[derive(Drop)]
 pub enum WordsFault {
-    /// They aren't UTF-8, or hold no command.
+    /// They aren't UTF-8. (That they hold no command can't come, since one is asked for.)
     Usage,
     /// They fit no command, for the reason that this text gives.
     Told { text: String },
