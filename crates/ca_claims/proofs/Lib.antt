@@ -13,3 +13,4 @@ pub mod ReadOn
 pub mod AllLines
 pub mod OneMeaning
 pub mod Verdicts
+pub mod OneReason

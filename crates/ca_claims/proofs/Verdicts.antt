@@ -40,7 +40,7 @@ unmoved p dx dy x y e f =
     cell-shifted p dx dy x y ∙ ap₂ (cell p) a b
 
 -- a pattern that is back by a vector that counts is back
-back : (next : List ℕ → ℕ) (cells : Picture) (claim : Claim) (m : ℕ) (dx dy : ℤ) → MayReturnBy claim dx dy → IsAfter next cells m (shifted cells dx dy) → IsNotBack next cells claim m → ⊥
+pub back : (next : List ℕ → ℕ) (cells : Picture) (claim : Claim) (m : ℕ) (dx dy : ℤ) → MayReturnBy claim dx dy → IsAfter next cells m (shifted cells dx dy) → IsNotBack next cells claim m → ⊥
 back next cells (Still pattern) m dx dy may h not = may
 back next cells (Oscillator pattern period) m dx dy may h not = not.2 (h not.0 not.1 ∙ unmoved cells dx dy not.0 not.1 may.0 may.1)
 back next cells (Spaceship pattern period x y) m dx dy may h not = not dx dy h

@@ -71,3 +71,15 @@ IsReason next cells other claim (Earlier m dx dy) = IsLive cells
     × IsAfter next cells (generations_of claim) (claimed claim cells other) × (1 ≤ m) × (m < generations_of claim)
     × MayReturnBy claim dx dy × IsAfter next cells m (shifted cells dx dy)
     × ((k : ℕ) → 1 ≤ k → k < m → IsNotBack next cells claim k)
+
+-- two reasons are of one kind: both want of live cells; or both cells that differ, after as many generations; or one earlier return
+abbrev pub IsSameReason : Why → Why → Type 0
+IsSameReason Empty Empty = Unit {0}
+IsSameReason (Differs x y found wanted g) (Differs u v shown asked h) = g ≡ h
+IsSameReason (Earlier m dx dy) (Earlier n u v) = (m ≡ n) × (dx ≡ u) × (dy ≡ v)
+IsSameReason Empty (Differs x y found wanted g) = ⊥
+IsSameReason Empty (Earlier m dx dy) = ⊥
+IsSameReason (Differs x y found wanted g) Empty = ⊥
+IsSameReason (Differs x y found wanted g) (Earlier m dx dy) = ⊥
+IsSameReason (Earlier m dx dy) Empty = ⊥
+IsSameReason (Earlier m dx dy) (Differs x y found wanted g) = ⊥

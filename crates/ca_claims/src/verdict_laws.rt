@@ -1,12 +1,12 @@
-//! Laws of verdicts, which no call needs to run: a no means that the claim is false, a file has one meaning, and only
-//! one kind of verdict is true of a claim.
+//! Laws of verdicts, which no call needs to run: a no means that the claim is false, and it's false for one kind of reason;
+//! a file has one meaning; and only one kind of verdict is true of a claim.
 
 ghost use Rattle.std.specs.Prelude.{◌≡◌, ◌≢◌, ℕ, List, pos, negsuc};
 ghost use Rattle.ca_plane.specs.Plane.{Picture};
 ghost use Rattle.ca_plane.specs.Generations.{after};
 ghost use Rattle.ca_claims.specs.Text.{Claim};
 ghost use Rattle.ca_claims.specs.Means.{Means};
-ghost use Rattle.ca_claims.specs.Truth.{IsTrueClaim, IsReason};
+ghost use Rattle.ca_claims.specs.Truth.{IsTrueClaim, IsReason, IsSameReason};
 ghost use Rattle.ca_claims.specs.Answers.{IsTrueVerdict};
 ghost use Rattle.ca_claims.specs.Examples.{life, blinker, block};
 ghost use Rattle.ca_claims.specs.declared.verdict.Why.{Why};
@@ -17,6 +17,13 @@ ghost use Rattle.ca_claims.specs.declared.verdict.Cause.TheVariants.{Memory};
 /// Where there is a reason against a claim, the claim isn't true.
 pub fn no_is_false()
     ensures { (next : List ℕ → ℕ) (cells other : Picture) (claim : Claim) (why : Why) → IsReason next cells other claim why → IsTrueClaim next cells other claim → ⊥ }
+{}
+
+/// A claim is false for one kind of reason at most: two reasons are both want of live cells, or both cells that differ after
+/// the claimed generations (which cells is open), or the same earlier return.
+pub fn one_reason()
+    ensures { (next : List ℕ → ℕ) (cells other : Picture) (claim : Claim) (one two : Why) → IsReason next cells other claim one
+        → IsReason next cells other claim two → IsSameReason one two }
 {}
 
 /// The bytes of a file mean one picture, one rule text and one generation at most.
