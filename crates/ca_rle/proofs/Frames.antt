@@ -1,7 +1,6 @@
 -- The least box round cells that are in range.
-use Rattle.std.proofs.Common.{◌≡◌, ◌≢◌, ℕ, ℤ, pos, ◌≤ℤ◌, ◌+ℤ◌, refl, inl, inr, subst, sym, arith}
+use Rattle.std.proofs.Common.{◌≢◌, ℕ, ℤ, ◌≤ℤ◌, inl, inr, subst, sym}
 use Rattle.std.specs.List.{All}
-use Rattle.std.proofs.lemmas.Int.{ints}
 use Rattle.std.proofs.lemmas.List.Elements.{All-contains}
 use Rattle.ca_plane.specs.declared.point.Point.{Point}
 use Rattle.ca_plane.specs.declared.point.Bounds.{Bounds}

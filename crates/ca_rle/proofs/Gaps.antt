@@ -42,10 +42,11 @@ pub gap-over_rows : (left : ℤ) (from to : Point) (old mid new : List Item) (ro
     → mid ≡ old ++ some_of RowEnd rows → new ≡ mid ++ some_of (Cell 0) columns → PutsGap left from to old new
 gap-over_rows left from to old mid new rows columns below some right ends dead =
     let above : 0 < rows = omega (arith, some) in
-    let start : (if rows == 0 then from.x else left) ≡ left = rw (nonzero rows above) refl in
-    (some_of RowEnd rows ++ some_of (Cell 0) columns,
-    record { rows = rows; columns = columns; below = below; right = right ∙ ap (λ (x : ℤ). x +ℤ pos columns) (sym start); gap_is = refl },
-    dead ∙ ap (λ (l : List Item). l ++ some_of (Cell 0) columns) ends ∙ append_assoc old (some_of RowEnd rows) (some_of (Cell 0) columns))
+    let start : (if rows == 0 then from.x else left) ≡ left = rw (nonzero rows above) refl in (
+      some_of RowEnd rows ++ some_of (Cell 0) columns,
+      record { rows = rows; columns = columns; below = below; right = right ∙ ap (λ (x : ℤ). x +ℤ pos columns) (sym start); gap_is = refl },
+      dead ∙ ap (λ (l : List Item). l ++ some_of (Cell 0) columns) ends ∙ append_assoc old (some_of RowEnd rows) (some_of (Cell 0) columns),
+    )
 
 -- ---- places
 

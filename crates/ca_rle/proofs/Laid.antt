@@ -5,7 +5,7 @@ use Rattle.std.proofs.lemmas.List.{append-nil}
 use Rattle.std.proofs.lemmas.List.Concat.{flat_map-append}
 use Rattle.std.proofs.lemmas.List.Folds.{concat-append}
 use Rattle.ca_rle.specs.File.{ended}
-use Rattle.ca_rle.specs.Tidy.{first_text, IsFull, AreLines}
+use Rattle.ca_rle.specs.Tidy.{AreLines}
 use Rattle.ca_rle.specs.Written.{IsPlaced, PutsLines}
 
 -- a piece at a line's end
@@ -90,8 +90,8 @@ laid_more start text new piece filled now pieces laid (inl (room, spelled, count
       filled_is = count ∙ omega (arith, long, laid.filled_is);
       short = omega arith;
       spelled =
-      spelled ∙ ap (λ l. l ++ piece) laid.spelled ∙ append_assoc start (ends ++ concat laid.open_line) piece
-      ∙ ap (λ l. start ++ l) (append_assoc ends (concat laid.open_line) piece ∙ ap (λ l. ends ++ l) (sym (concat-push laid.open_line piece)));
+          spelled ∙ ap (λ l. l ++ piece) laid.spelled ∙ append_assoc start (ends ++ concat laid.open_line) piece
+          ∙ ap (λ l. start ++ l) (append_assoc ends (concat laid.open_line) piece ∙ ap (λ l. ends ++ l) (sym (concat-push laid.open_line piece)));
     }
 laid_more start text new piece filled now pieces laid (inr (full, spelled, count)) short =
     let ends = flat_map (λ line. ended (concat line)) laid.closed in
@@ -110,8 +110,8 @@ laid_more start text new piece filled now pieces laid (inr (full, spelled, count
       filled_is = count ∙ ap length (sym (append-nil piece));
       short = omega arith;
       spelled =
-      spelled ∙ ap (λ l. l ++ 10 ∷ piece) laid.spelled ∙ append_assoc start (ends ++ line) (10 ∷ piece)
-      ∙ ap (λ l. start ++ l) (append_assoc ends line (10 ∷ piece) ∙ sym (ap (λ l. l ++ concat (piece ∷ [])) more ∙ simp (append_assoc, append-nil)));
+          spelled ∙ ap (λ l. l ++ 10 ∷ piece) laid.spelled ∙ append_assoc start (ends ++ line) (10 ∷ piece)
+          ∙ ap (λ l. start ++ l) (append_assoc ends line (10 ∷ piece) ∙ sym (ap (λ l. l ++ concat (piece ∷ [])) more ∙ simp (append_assoc, append-nil)));
     }
 
 -- the last line ended
@@ -129,11 +129,11 @@ laid_end start text new piece filled pieces laid ends = done laid.lines_are
         record {
           lines = laid.closed ++ laid.open_line ∷ [];
           whole =
-          flat_map-append (λ (line : List (List ℕ)). line) laid.closed (laid.open_line ∷ [])
-          ∙ ap (λ l. flat_map (λ (line : List (List ℕ)). line) laid.closed ++ l) (append-nil laid.open_line) ∙ laid.whole;
+              flat_map-append (λ (line : List (List ℕ)). line) laid.closed (laid.open_line ∷ [])
+              ∙ ap (λ l. flat_map (λ (line : List (List ℕ)). line) laid.closed ++ l) (append-nil laid.open_line) ∙ laid.whole;
           lines_are = some.1;
           spelled =
-          ends ∙ ap (λ l. l ++ 10 ∷ []) laid.spelled ∙ append_assoc start (flat_map text_of laid.closed ++ line) (10 ∷ [])
-          ∙ ap (λ l. start ++ l) (append_assoc (flat_map text_of laid.closed) line (10 ∷ []) ∙ ap (λ l. flat_map text_of laid.closed ++ l) (sym (append-nil (line ++ 10 ∷ [])))
-          ∙ sym (flat_map-append text_of laid.closed (laid.open_line ∷ [])));
+              ends ∙ ap (λ l. l ++ 10 ∷ []) laid.spelled ∙ append_assoc start (flat_map text_of laid.closed ++ line) (10 ∷ [])
+              ∙ ap (λ l. start ++ l) (append_assoc (flat_map text_of laid.closed) line (10 ∷ []) ∙ ap (λ l. flat_map text_of laid.closed ++ l) (sym (append-nil (line ++ 10 ∷ [])))
+              ∙ sym (flat_map-append text_of laid.closed (laid.open_line ∷ [])));
         }

@@ -1,6 +1,6 @@
 -- The items of a plane, as they grow run by run.
-use Rattle.std.proofs.Common.{◌≡◌, ◌≢◌, ℕ, zero, suc, ◌+◌, ◌<◌, ◌≤◌, ◌^◌, ℤ, pos, ◌+ℤ◌, ◌≤ℤ◌, ◌<ℤ◌, List, [], ◌∷◌, ◌++◌, map, Ordering, Less, Equal, Greater, Option, Some, None, refl, sym, ap, subst, ◌∙◌, append_assoc, zero-add, arith}
-use Rattle.std.specs.List.{All, AllByRecursion, range_with_len}
+use Rattle.std.proofs.Common.{◌≡◌, ◌≢◌, ℕ, ◌+◌, ◌<◌, ◌^◌, ℤ, pos, ◌+ℤ◌, ◌≤ℤ◌, ◌<ℤ◌, List, [], ◌∷◌, ◌++◌, map, Ordering, Less, Equal, Greater, Option, Some, None, refl, sym, ap, subst, ◌∙◌, append_assoc, zero-add, arith}
+use Rattle.std.specs.List.{AllByRecursion}
 use Rattle.std.specs.List.Sorted.{IsStrictlySortedBy}
 use Rattle.std.specs.Ordering.{int_cmp, ordering_then, MatchOrdering}
 use Rattle.std.specs.Iterator.{YieldsFirst}
@@ -15,7 +15,7 @@ use Rattle.ca_plane.specs.Plane.{Picture, cell}
 use Rattle.ca_plane.specs.Sparse.{IsSparse, point_cmp}
 use Rattle.ca_plane.proofs.Pictures.{IsListed-at, point-same}
 use Rattle.ca_rle.specs.declared.item.Item.{Item}
-use Rattle.ca_rle.specs.declared.item.Tag.TheVariants.{Cell, RowEnd}
+use Rattle.ca_rle.specs.declared.item.Tag.TheVariants.{Cell}
 use Rattle.ca_rle.specs.declared.write.runs.Run.{Run}
 use Rattle.ca_rle.specs.Shown.{place_behind, run_of, picture_of}
 use Rattle.ca_rle.specs.Tidy.{AreTidy}
@@ -105,9 +105,9 @@ abbrev begun : Point × ℕ → Run
 begun e = record { from = e.0; past = e.0.x +ℤ pos 1; state = e.1 }
 
 -- the first run
-read_first : (corner : Point) (gap : List Item) (run : Run) (e : Point × ℕ) → Leads corner.x corner e.0 gap → 0 < e.1
+first_run : (corner : Point) (gap : List Item) (run : Run) (e : Point × ℕ) → Leads corner.x corner e.0 gap → 0 < e.1
     → run.from ≡ e.0 → run.past ≡ e.0.x +ℤ pos 1 → run.state ≡ e.1 → IsReadTo corner gap run (e ∷ [])
-read_first corner gap run e leads live from past state =
+first_run corner gap run e leads live from past state =
     let read : IsReadTo corner gap (begun e) (e ∷ []) = record {
       count = 1;
       some = omega arith;
@@ -137,8 +137,8 @@ read-more corner items run next seen e read from past state row column same =
       place = read.place;
       before = read.before;
       cells =
-      ap (λ (p : Picture). p ++ e ∷ []) read.cells ∙ append_assoc shown (run_of run.state run.from n) (e ∷ [])
-      ∙ ap (λ (p : Picture). shown ++ p) (run_push e run.from run.state n row at same);
+          ap (λ (p : Picture). p ++ e ∷ []) read.cells ∙ append_assoc shown (run_of run.state run.from n) (e ∷ [])
+          ∙ ap (λ (p : Picture). shown ++ p) (run_push e run.from run.state n row at same);
     }
     in
     subst (λ (r : Run). IsReadTo corner items r (seen ++ e ∷ [])) (run_same more next (sym from) (sym past) (sym state)) grown
@@ -159,12 +159,12 @@ run_shown corner items run seen read =
     cells-run corner items run.state read.count read.live ∙ ap (λ (at : Point). picture_of corner items ++ run_of run.state at read.count) read.place ∙ sym read.cells
 
 -- the next run
-read_next : (corner : Point) (items gap : List Item) (run next : Run) (seen : Picture) (e : Point × ℕ) (item : Item) (behind : Point) → IsReadTo corner items run seen
+next_run : (corner : Point) (items gap : List Item) (run next : Run) (seen : Picture) (e : Point × ℕ) (item : Item) (behind : Point) → IsReadTo corner items run seen
     → item.tag ≡ Cell run.state → run.past ≡ run.from.x +ℤ pos item.count → behind.y ≡ run.from.y → behind.x ≡ run.past
     → Leads corner.x behind e.0 gap → 0 < e.1 → (e.0 ≡ behind → run.state ≢ e.1)
     → next.from ≡ e.0 → next.past ≡ e.0.x +ℤ pos 1 → next.state ≡ e.1
     → IsReadTo corner ((items ++ item ∷ []) ++ gap) next (seen ++ e ∷ [])
-read_next corner items gap run next seen e item behind read tag count row column leads live apart from past state =
+next_run corner items gap run next seen e item behind read tag count row column leads live apart from past state =
     let here = item_of (Cell run.state) read.count in
     let whole = items ++ here ∷ [] in
     let place : place_behind corner whole ≡ behind =
@@ -179,8 +179,8 @@ read_next corner items gap run next seen e item behind read tag count row column
       place = place-gap corner behind e.0 whole gap place leads;
       before = before-next corner.x behind e.0 items gap run.state read.count e.1 read.before read.live read.some leads live apart;
       cells =
-      ap (λ (p : Picture). p ++ e ∷ []) (sym (cells-gap corner behind e.0 corner.x whole gap leads ∙ run_shown corner items run seen read))
-      ∙ ap (λ (p : Picture). picture_of corner (whole ++ gap) ++ p) (run_one e);
+          ap (λ (p : Picture). p ++ e ∷ []) (sym (cells-gap corner behind e.0 corner.x whole gap leads ∙ run_shown corner items run seen read))
+          ∙ ap (λ (p : Picture). picture_of corner (whole ++ gap) ++ p) (run_one e);
     }
     in
     subst (λ (i : Item). IsReadTo corner ((items ++ i ∷ []) ++ gap) next (seen ++ e ∷ [])) (sym (run_item corner items run seen item read tag count))
@@ -191,7 +191,7 @@ pub read-first : (corner : Point) (left : ℤ) (none items : List Item) (run : R
     → run.from ≡ e.0 → run.past ≡ e.0.x +ℤ pos 1 → run.state ≡ e.1 → IsReadTo corner items run (e ∷ [])
 read-first corner left none items run e at empty (gap, leads, put) live from past state =
     subst (λ (l : List Item). IsReadTo corner l run (e ∷ [])) (sym (put ∙ ap (λ (l : List Item). l ++ gap) empty))
-    (read_first corner gap run e (subst (λ (x : ℤ). Leads x corner e.0 gap) at leads) live from past state)
+    (first_run corner gap run e (subst (λ (x : ℤ). Leads x corner e.0 gap) at leads) live from past state)
 
 -- the next run, behind a gap that was put behind the item of the one before
 pub read-next : (corner : Point) (left : ℤ) (items mid new : List Item) (run next : Run) (seen : Picture) (e : Point × ℕ) (item : Item) (behind : Point) → IsReadTo corner items run seen
@@ -201,7 +201,7 @@ pub read-next : (corner : Point) (left : ℤ) (items mid new : List Item) (run n
     → IsReadTo corner new next (seen ++ e ∷ [])
 read-next corner left items mid new run next seen e item behind read tag count row column pushed at (gap, leads, put) live apart from past state =
     subst (λ (l : List Item). IsReadTo corner l next (seen ++ e ∷ [])) (sym (put ∙ ap (λ (l : List Item). l ++ gap) pushed))
-    (read_next corner items gap run next seen e item behind read tag count row column (subst (λ (x : ℤ). Leads x behind e.0 gap) at leads) live
+    (next_run corner items gap run next seen e item behind read tag count row column (subst (λ (x : ℤ). Leads x behind e.0 gap) at leads) live
     (λ same z. apart (ap (λ (p : Point). p.y) same ∙ row) (ap (λ (p : Point). p.x) same ∙ column) (sym z)) from past state)
 
 -- the last run

@@ -1,12 +1,11 @@
 -- The states of tidy items are those of the cells that they show.
 use Rattle.std.proofs.Common.{◌≡◌, ℕ, zero, suc, ◌<◌, ◌≤◌, List, [], ◌∷◌, ◌++◌, inl, inr, subst, sym, arith}
-use Rattle.std.specs.List.{All, AllByRecursion}
+use Rattle.std.specs.List.{All}
 use Rattle.std.proofs.lemmas.Bool.{cases_eq}
 use Rattle.std.proofs.lemmas.List.Elements.{All-head, All-tail}
 use Rattle.ca_plane.specs.declared.point.Point.{Point}
 use Rattle.ca_plane.specs.Plane.{Picture, IsPicture}
 use Rattle.ca_rle.specs.declared.item.Item.{Item}
-use Rattle.ca_rle.specs.declared.item.Tag.{Tag}
 use Rattle.ca_rle.specs.Shown.{state_of, run_of, place_behind, cells_of, picture_behind, picture_of}
 use Rattle.ca_rle.specs.Tidy.{AreTidy, HaveStates}
 use Rattle.ca_rle.proofs.Gaps.{nonzero}
@@ -37,9 +36,11 @@ items_states n corner before (i ∷ is) tidy all =
     first_count : (i : Item) (is : List Item) → AreTidy (i ∷ is) → 0 < i.count
     first_count i [] tidy = tidy.0
     first_count i (j ∷ js) tidy = tidy.0
+
     later : (i : Item) (is : List Item) → AreTidy (i ∷ is) → AreTidy is
     later i [] tidy = tt
     later i (j ∷ js) tidy = tidy.3
+
     low : (0 < state_of i.tag → (state_of i.tag ≤ 255) × (state_of i.tag < n)) → state_of i.tag ≤ 255
     low here = elim (cases_eq (state_of i.tag) 0) [ inl e ↦ omega (arith, e) | inr e ↦ (here (omega (arith, e))).0 ]
 

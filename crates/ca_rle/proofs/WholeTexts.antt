@@ -42,8 +42,8 @@ tidy_text none first second text rule_text cells generation states corner width 
   whole = lines.whole ∙ ap (λ (l : List Item). map (item_text states) l ++ codes "!" ∷ []) same;
   lines_are = lines.lines_are;
   spelled =
-  let ends = flat_map (λ line. ended (concat line)) lines.lines in
-  let head = ended (corner_line corner generation) in
-  let header = ended (header_line width height rule_text) in
-  lines.spelled ∙ ap (λ l. l ++ ends) (two.whole ∙ ap (λ l. l ++ header) (one.whole ∙ ap (λ l. l ++ head) empty)) ∙ append_assoc head header ends;
+      let ends = flat_map (λ line. ended (concat line)) lines.lines in
+      let head = ended (corner_line corner generation) in
+      let header = ended (header_line width height rule_text) in
+      lines.spelled ∙ ap (λ l. l ++ ends) (two.whole ∙ ap (λ l. l ++ header) (one.whole ∙ ap (λ l. l ++ head) empty)) ∙ append_assoc head header ends;
 }

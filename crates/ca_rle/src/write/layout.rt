@@ -71,12 +71,7 @@ fn wrap(out: &mut Vec<u8>, start: usize, filled: usize) -> Result<usize, Memory>
     Ok(length)
 }
 
-fn place_item(
-    out: &mut Vec<u8>,
-    states: u16,
-    item: Item,
-    filled: usize,
-) -> Result<usize, Memory>
+fn place_item(out: &mut Vec<u8>, states: u16, item: Item, filled: usize) -> Result<usize, Memory>
     requires { filled ≤ 70 }
     ensures placed { IfOk result (λ n. IsPlaced out.old.items filled (item_text states item) out.new.items n) }
     ensures short { length (item_text states item) ≤ 70 }

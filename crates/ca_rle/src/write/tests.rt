@@ -97,7 +97,10 @@ fn written(
 #[test]
 fn small_planes(rt: HostRuntime) -> Result<(), Fail> {
     let glider = plane_of(rt.alloc(), &GLIDER)?;
-    assert_eq!(rt; written(&rt, &glider, b"B3/S23", 0, 2)?.as_slice(), GLIDER_TEXT);
+    assert_eq!(rt;
+        written(&rt, &glider, b"B3/S23", 0, 2)?.as_slice(),
+        GLIDER_TEXT
+    );
     let cells = [(0, -1, 2), (-1, 0, 2), (0, 0, 2), (1, 0, 2), (0, 1, 2)];
     let spread = plane_of(rt.alloc(), &cells)?;
     assert_eq!(rt;

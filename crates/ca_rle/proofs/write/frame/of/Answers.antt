@@ -1,4 +1,4 @@
-use Rattle.std.proofs.Common.{refl, inr, arith}
+use Rattle.std.proofs.Common.{inr, arith}
 use Rattle.std.proofs.lemmas.Int.{ints}
 use Rattle.ca_plane.proofs.Pictures.{point-same}
 use Rattle.ca_rle.proofs.Frames.{box_in_range}

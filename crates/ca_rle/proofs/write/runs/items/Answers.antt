@@ -1,8 +1,7 @@
-use Rattle.std.proofs.Common.{◌≡◌, ℕ, List, pos, ◌+ℤ◌, w64, to_z, of_z, refl, sym, subst, ap, ◌∙◌, arith}
+use Rattle.std.proofs.Common.{◌≡◌, ℕ, pos, ◌+ℤ◌, w64, to_z, of_z, refl, sym, subst, ap, ◌∙◌, arith}
 use Rattle.std.proofs.lemmas.Int.{ints}
 use Rattle.ca_plane.specs.declared.point.Point.{Point}
 use Rattle.ca_plane.specs.Plane.{Picture}
-use Rattle.ca_rle.specs.declared.item.Item.{Item}
 use Rattle.ca_rle.specs.Shown.{picture_of}
 use Rattle.ca_rle.specs.Tidy.{AreTidy, HaveStates}
 use Rattle.ca_rle.proofs.RunByRun.{IsReadBefore, next-first, next-turn, read-first, read-more, read-next, read-end, before-first_run, before-turn, before-end}
