@@ -23,7 +23,7 @@ by_difference p dx dy u v same = λ x y.
     let bx : (x +ℤ dx) -ℤ u ≡ x -ℤ (u -ℤ dx) = omega (arith, ints) in
     let by : (y +ℤ dy) -ℤ v ≡ y -ℤ (v -ℤ dy) = omega (arith, ints) in
     ap₂ (cell p) ax ay ∙ sym (cell-shifted p dx dy (x +ℤ dx) (y +ℤ dy)) ∙ same (x +ℤ dx) (y +ℤ dy)
-        ∙ cell-shifted p u v (x +ℤ dx) (y +ℤ dy) ∙ ap₂ (cell p) bx by ∙ sym (cell-shifted p (u -ℤ dx) (v -ℤ dy) x y)
+    ∙ cell-shifted p u v (x +ℤ dx) (y +ℤ dy) ∙ ap₂ (cell p) bx by ∙ sym (cell-shifted p (u -ℤ dx) (v -ℤ dy) x y)
 
 -- a live pattern moved by two vectors shows the same by one vector alone
 one_vector : (p : Picture) (dx dy u v : ℤ) → IsLive p → IsSame (shifted p dx dy) (shifted p u v) → (dx ≡ u) × (dy ≡ v)

@@ -19,7 +19,11 @@ pub enum Why {
     },
     /// The claimed cells stand after the claimed period, but after `m` generations, fewer than that, the pattern was there
     /// already, moved by (`dx`, `dy`); and after no fewer. An oscillator's is moved by (0, 0).
-    Earlier { m: u64, dx: i64, dy: i64 },
+    Earlier {
+        m: u64,
+        dx: i64,
+        dy: i64,
+    },
 }
 
 /// Why a pattern wasn't read.

@@ -1,6 +1,6 @@
 -- A whole text from what stands before its items and from its body.
 use Rattle.std.specs.Prelude.{Result, Ok, Err, IsErrOf}
-use Rattle.std.proofs.Common.{◌≡◌, ap, ◌⊎◌, inl, inr, ℕ, List, Option, unwrap_or, codes, refl, sym, subst}
+use Rattle.std.proofs.Common.{◌≡◌, ap, inl, inr, ℕ, List, Option, unwrap_or, codes, refl, sym, subst}
 use Rattle.ca_plane.specs.declared.point.Point.{Point}
 use Rattle.ca_rle.specs.declared.fault.RleFault.{RleFault}
 use Rattle.ca_rle.specs.declared.fault.RleFault.TheVariants.{Syntax, Header, XlifeRule, NoEnd, BadState, GenTooLarge, Range, TooManyCells, Memory}

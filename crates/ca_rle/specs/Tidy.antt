@@ -1,6 +1,6 @@
 -- Tidy texts: the one form in which a plane is written (our own, but for the two sets of letters and the 70 characters,
 -- which are those of Golly Help, File Formats: Extended RLE format).
-use Rattle.std.specs.Prelude.{◌≡◌, ◌≢◌, ℕ, ◌+◌, ◌-◌, ◌<◌, ◌≤◌, ℤ, pos, ◌+ℤ◌, ◌-ℤ◌, List, [], ◌∷◌, ◌++◌, map, length, ◌==◌, nat_le, codes, decimal, ◌⊎◌, if◌then◌else◌, ◌/◌, ◌%◌}
+use Rattle.std.specs.Prelude.{◌≡◌, ◌≢◌, ℕ, ◌+◌, ◌-◌, ◌<◌, ◌≤◌, pos, ◌+ℤ◌, ◌-ℤ◌, List, [], ◌∷◌, ◌++◌, map, length, ◌==◌, nat_le, codes, decimal, ◌⊎◌, if◌then◌else◌, ◌/◌, ◌%◌}
 use Rattle.std.specs.Fmt.{signed_decimal}
 use Rattle.std.specs.List.{flat_map, concat, AllByRecursion}
 use Rattle.ca_plane.specs.declared.point.Point.{Point}

@@ -7,8 +7,8 @@ use Rattle.std.proofs.Common.{refl}
 pub returns : goal.returns
 returns c =
     let tidy = tidy_text _ _ _ _ _ c.args.cells.now c.args.generation c.args.states c.of-frame.result.corner c.of-frame.result.width c.of-frame.result.height c.in_ok-items.items.items _
-      c.new-text.ensures.items c.in_ok-push_corner_line.ensures c.in_ok-push_header_line.ensures c.deref.ensures.value c.in_ok-push_items.ensures c.of-frame.ensures
-      c.in_ok-items.ensures.shown c.in_ok-items.ensures.tidy (c.in_ok-items.ensures.states _ c.requires.states) in
+    c.new-text.ensures.items c.in_ok-push_corner_line.ensures c.in_ok-push_header_line.ensures c.deref.ensures.value c.in_ok-push_items.ensures c.of-frame.ensures
+    c.in_ok-items.ensures.shown c.in_ok-items.ensures.tidy (c.in_ok-items.ensures.states _ c.requires.states) in
     let within = listed_range c.args.cells.now c.requires.range in
     record {
       tidy = tidy;
