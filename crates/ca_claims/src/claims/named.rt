@@ -1,6 +1,6 @@
 //! Claims about patterns that are given by their names.
 
-ghost use Rattle.std.specs.Prelude.{IsTrue, ◌↔◌};
+ghost use Rattle.std.specs.Prelude.{◌≡◌, ◌≤◌, ◌<◌, ◌^◌, pos, IsTrue, ◌↔◌};
 ghost use Rattle.ca_claims.specs.Text.{HasGoodNumbers, IsShift};
 ghost use Rattle.ca_claims.specs.Reading.{claim_of};
 
@@ -45,17 +45,18 @@ impl NamedClaim<'_> {
     {
         match *self {
             NamedClaim::Still { .. } => true,
-            NamedClaim::Oscillator { period, .. } => 2 <= period && period <= LONGEST_PERIOD,
-            NamedClaim::Spaceship { period, dx, dy, .. } => {
-                1 <= period
-                    && period <= LONGEST_PERIOD
-                    && is_shift(dx)
-                    && is_shift(dy)
-                    && (dx != 0 || dy != 0)
-            }
+            NamedClaim::Oscillator { period, .. } => is_period(2, period),
+            NamedClaim::Spaceship { period, dx, dy, .. } => is_period(1, period) && is_move(dx, dy),
             NamedClaim::Becomes { generations, .. } => generations <= MOST_GENERATIONS,
         }
     }
+}
+
+/// Whether a period is this at least, and not too long.
+fn is_period(least: u64, period: u64) -> bool
+    ensures { IsTrue result ↔ ((least ≤ period) × (period < 2 ^ 32)) }
+{
+    least <= period && period <= LONGEST_PERIOD
 }
 
 /// Whether a pattern may be shifted so far in one direction.
@@ -63,4 +64,14 @@ fn is_shift(distance: i64) -> bool
     ensures { IsTrue result ↔ IsShift distance }
 {
     -GREATEST_SHIFT <= distance && distance <= GREATEST_SHIFT
+}
+
+/// Whether a spaceship may be shifted so far, and is.
+fn is_move(dx: i64, dy: i64) -> bool
+    ensures { IsTrue result ↔ (IsShift dx × IsShift dy × ((dx ≡ pos 0) → (dy ≡ pos 0) → ⊥)) }
+{
+    if dx == 0 && dy == 0 {
+        return false;
+    }
+    is_shift(dx) && is_shift(dy)
 }
