@@ -2,6 +2,11 @@
 use Rattle.std.specs.Prelude.{◌≡◌, ℕ, ◌+◌, ◌-◌, ◌^◌, min, Option, List, ◌++◌}
 use Rattle.std.specs.Io.KnownBytes.{Appends}
 
+-- what is read or written, and the count of its failures
+pub record Counted (T : Type 0) : Type 0 where
+  pub inner : T
+  pub failures : ℕ
+
 -- the count of failures rose by one, or stays at its greatest value
 abbrev pub Rises : ℕ → ℕ → Type 0
 Rises old new = new ≡ min (old + 1) (2 ^ 64 - 1)

@@ -1,12 +1,15 @@
-//! Readers and writers that count their failures, and texts sent to a writer.
+//! A reader or a writer that counts its failures.
+//!
+//! Nothing else stands here: the fields of a `Dev` are private, so that no call but its own two can ask the device, or
+//! change the count.
 
-ghost use Rattle.std.specs.Prelude.{◌≡◌, ℕ, ◌<◌, List, [], length, IsOk, OnOk, OnErr, IfOk, IfErr};
+ghost use Rattle.std.specs.Prelude.{◌≡◌, ℕ, ◌<◌, length, OnOk, OnErr, IfOk};
 ghost use Rattle.std.specs.Io.{ReadsAtMost, WritesAtMost};
-ghost use Rattle.std.specs.Io.KnownBytes.{Appends, ReadConsumes, WriteAppends};
-ghost use Rattle.ca_plane.specs.Device.{Rises, AppendsPrefix};
+ghost use Rattle.std.specs.Io.KnownBytes.{ReadConsumes, WriteAppends};
+ghost use Rattle.ca_plane.specs.Device.{Rises};
 
-use crate::memory::WriteFault;
 use std::io::{Read, Write};
+use std::marker::Model;
 use thiserror::Error;
 
 /// A read or a write failed, or a write took no byte of some.
@@ -17,10 +20,16 @@ pub struct Failed;
 /// A reader or a writer that counts its failures.
 #[derive(Debug, Drop)]
 pub struct Dev<T> {
-    /// What is read or written.
-    pub inner: T,
-    /// How many calls failed. The count stops at its greatest value.
-    pub failures: u64,
+    inner: T,
+    failures: u64,
+}
+
+impl<T> Model for Dev<T> {
+    ghost use Rattle.ca_plane.specs.Device.{Counted};
+
+    ghost Value = { Counted T };
+
+    ghost view = { λ d. record { inner = d.inner; failures = d.failures } };
 }
 
 impl<T> Dev<T> {
@@ -30,6 +39,20 @@ impl<T> Dev<T> {
         ensures failures { result.failures ≡ 0 }
     {
         Dev { inner, failures: 0 }
+    }
+
+    /// What is read or written.
+    pub fn inner(&self) -> &T
+        ensures { result.now ≡ self.now.inner }
+    {
+        &self.inner
+    }
+
+    /// How many calls failed. The count stops at its greatest value.
+    pub fn failures(&self) -> u64
+        ensures { result ≡ self.now.failures }
+    {
+        self.failures
     }
 
     fn failed(&mut self) -> Failed
@@ -77,27 +100,6 @@ impl<W: Write> Dev<W> {
         }
         Ok(count)
     }
-}
-
-/// Writes all of the bytes.
-///
-/// It takes no memory. After a failure nothing is tried again, and some first part of the bytes was written.
-pub fn send<W: Write>(device: &mut Dev<W>, bytes: &[u8]) -> Result<(), WriteFault>
-    ensures all { OnOk result (Appends (W.contents device.old.inner) (W.contents device.new.inner) bytes.now) }
-    ensures kept { OnOk result (device.new.failures ≡ device.old.failures) }
-    ensures nothing { bytes.now ≡ [] → IsOk result }
-    ensures fault { IfErr result (λ e. e ≡ WriteFault.Write) }
-    ensures counted { OnErr result (Rises device.old.failures device.new.failures) }
-    ensures front { OnErr result (AppendsPrefix (W.contents device.old.inner) (W.contents device.new.inner) bytes.now) }
-{
-    let mut unsent = bytes;
-    'pieces: while !unsent.is_empty() {
-        let Ok(count) = device.write(unsent) else {
-            return Err(WriteFault::Write);
-        };
-        unsent = &unsent[count..];
-    }
-    Ok(())
 }
 
 #[cfg(test)]

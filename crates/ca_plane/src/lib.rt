@@ -4,13 +4,17 @@
 mod automaton;
 pub mod bytes;
 mod device;
+#[cfg(test)]
+mod faulty;
 mod memory;
 mod plane;
 mod point;
+mod sending;
 pub mod text;
 
 pub use automaton::Automaton;
-pub use device::{Dev, Failed, send};
+pub use device::{Dev, Failed};
 pub use memory::{Memory, MoveFault, WriteFault};
 pub use plane::{Cells, Plane};
 pub use point::{Bounds, Nine, Point};
+pub use sending::send;

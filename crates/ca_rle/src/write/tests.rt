@@ -202,13 +202,13 @@ fn texts_in_pieces(rt: HostRuntime) -> Result<(), Fail> {
     'rooms: for room in 0..=GLIDER_TEXT.len() {
         let mut device = narrow_device(rt.alloc(), room);
         let result = write_rle_to(rt.alloc(), &plane, b"B3/S23", 0, 2, &mut device);
-        assert_eq!(rt; device.inner.taken.as_slice(), &GLIDER_TEXT[..room]);
+        assert_eq!(rt; device.inner().taken.as_slice(), &GLIDER_TEXT[..room]);
         if room == GLIDER_TEXT.len() {
             assert_eq!(rt; result, Ok(()));
-            assert_eq!(rt; device.failures, 0);
+            assert_eq!(rt; device.failures(), 0);
         } else {
             assert_eq!(rt; result, Err(WriteFault::Write));
-            assert_eq!(rt; device.failures, 1);
+            assert_eq!(rt; device.failures(), 1);
         }
     }
     Ok(())
@@ -226,11 +226,11 @@ fn writes_or_memory(rt: HostRuntime) {
     assert!(rt; fits(&plane, 2));
     let mut device = Dev::new(page);
     match write_rle_to(rt.alloc(), &plane, b"B3/S23", 0, 2, &mut device) {
-        Ok(()) => assert_eq!(rt; device.inner.as_slice(), GLIDER_TEXT),
+        Ok(()) => assert_eq!(rt; device.inner().as_slice(), GLIDER_TEXT),
         Err(fault) => {
             assert_eq!(rt; fault, WriteFault::Memory);
-            assert!(rt; device.inner.is_empty());
+            assert!(rt; device.inner().is_empty());
         }
     }
-    assert_eq!(rt; device.failures, 0);
+    assert_eq!(rt; device.failures(), 0);
 }

@@ -39,7 +39,7 @@ fn expect(
     let result = verify_run(rt.alloc(), &claims, &files, &mut device);
     assert_eq!(rt; result, Ok(status), "of {claim}");
     assert_eq!(rt;
-        device.inner.strip_prefix(b"line 3: ".as_slice()),
+        device.inner().strip_prefix(b"line 3: ".as_slice()),
         Some(line.as_bytes()),
         "of {claim}"
     );

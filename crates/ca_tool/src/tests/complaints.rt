@@ -34,8 +34,8 @@ fn a_line_for_each_fault(rt: HostRuntime) -> Result<(), Fail> {
     ] {
         let mut device = Dev::new(Vec::new(rt.alloc()));
         complain(&fault, b"p", &mut device)?;
-        assert_eq!(rt; device.inner.as_slice(), line.as_bytes());
-        assert_eq!(rt; device.failures, 0);
+        assert_eq!(rt; device.inner().as_slice(), line.as_bytes());
+        assert_eq!(rt; device.failures(), 0);
     }
     Ok(())
 }
@@ -46,8 +46,8 @@ fn a_line_in_pieces(rt: HostRuntime) -> Result<(), Fail> {
     let fault = Fault::Input(InputFault::Read);
     let mut device = Narrow::device(rt.alloc(), 3, line.len(), Refusal::Fails);
     complain(&fault, b"blocks/still.claims", &mut device)?;
-    assert_eq!(rt; device.inner.taken.as_slice(), line);
-    assert_eq!(rt; device.failures, 0);
+    assert_eq!(rt; device.inner().taken.as_slice(), line);
+    assert_eq!(rt; device.failures(), 0);
     Ok(())
 }
 
@@ -59,8 +59,8 @@ fn a_first_part_of_a_line(rt: HostRuntime) {
         for room in 0..line.len() {
             let mut device = Narrow::device(rt.alloc(), 3, room, refusal);
             assert_eq!(rt; complain(&fault, b"p", &mut device), Err(WriteFault::Write));
-            assert_eq!(rt; device.inner.taken.as_slice(), &line[..room]);
-            assert_eq!(rt; device.failures, 1);
+            assert_eq!(rt; device.inner().taken.as_slice(), &line[..room]);
+            assert_eq!(rt; device.failures(), 1);
         }
     }
 }

@@ -39,7 +39,7 @@ fn reads_or_memory(rt: HostRuntime) {
         Ok(bytes) => assert_eq!(rt; bytes.as_slice(), b"2o$2o!".as_slice()),
         Err(fault) => assert_eq!(rt; fault, InputFault::Memory),
     }
-    assert_eq!(rt; whole.failures, 0);
+    assert_eq!(rt; whole.failures(), 0);
     let mut endless = Dev::new(io::repeat(b' '));
     assert!(rt;
         matches!(
@@ -47,13 +47,13 @@ fn reads_or_memory(rt: HostRuntime) {
             Err(InputFault::TooLong | InputFault::Memory)
         )
     );
-    assert_eq!(rt; endless.failures, 0);
+    assert_eq!(rt; endless.failures(), 0);
     let mut broken = Faulty::device(io::repeat(b' '), 5);
     match read_all(rt.alloc(), &mut broken) {
-        Err(InputFault::Memory) => assert_eq!(rt; broken.failures, 0),
+        Err(InputFault::Memory) => assert_eq!(rt; broken.failures(), 0),
         result => {
             assert!(rt; matches!(result, Err(InputFault::Read)));
-            assert_eq!(rt; broken.failures, 1);
+            assert_eq!(rt; broken.failures(), 1);
         }
     }
 }
@@ -76,12 +76,12 @@ fn judges_or_memory(rt: &(impl Abort + AllocGlobal), bytes: &[u8], line: &[u8], 
         bytes,
     }];
     let result = verify_run(rt.alloc(), &claims, &files, &mut device);
-    let printed = device.inner.as_slice();
+    let printed = device.inner().as_slice();
     let as_ever = result == Ok(status) && printed == line;
     let refused = result == Ok(2) && printed == b"line 2: refused, memory\n".as_slice();
     let ended = result == Err(ToolFault::Memory) && printed.is_empty();
     assert!(rt; as_ever || refused || ended);
-    assert_eq!(rt; device.failures, 0);
+    assert_eq!(rt; device.failures(), 0);
 }
 
 #[test]

@@ -94,8 +94,8 @@ fn claims_are_judged(rt: HostRuntime) -> Result<(), Fail> {
             verify_run(rt.alloc(), &claims, &FILES, &mut device),
             Ok(status)
         );
-        assert_eq!(rt; device.inner.as_slice(), text);
-        assert_eq!(rt; device.failures, 0);
+        assert_eq!(rt; device.inner().as_slice(), text);
+        assert_eq!(rt; device.failures(), 0);
     }
     Ok(())
 }
@@ -105,14 +105,14 @@ fn lines_in_pieces(rt: HostRuntime) -> Result<(), Fail> {
     let claims = read_claims(rt.alloc(), MIXED)?;
     let mut device = Narrow::device(rt.alloc(), 1, MIXED_LINES.len(), Refusal::Fails);
     assert_eq!(rt; verify_run(rt.alloc(), &claims, &FILES, &mut device), Ok(2));
-    assert_eq!(rt; device.inner.taken.as_slice(), MIXED_LINES);
-    assert_eq!(rt; device.failures, 0);
+    assert_eq!(rt; device.inner().taken.as_slice(), MIXED_LINES);
+    assert_eq!(rt; device.failures(), 0);
     let mut counter = Dev::new(Counter { taken: 0 });
     assert_eq!(rt;
         verify_run(rt.alloc(), &claims, &FILES, &mut counter),
         Ok(2)
     );
-    assert_eq!(rt; counter.inner.taken, MIXED_LINES.len() as u64);
+    assert_eq!(rt; counter.inner().taken, MIXED_LINES.len() as u64);
     Ok(())
 }
 
@@ -124,8 +124,8 @@ fn a_first_part_of_the_lines(rt: HostRuntime) -> Result<(), Fail> {
             let mut device = Narrow::device(rt.alloc(), 7, room, refusal);
             let result = verify_run(rt.alloc(), &claims, &FILES, &mut device);
             assert_eq!(rt; result, Err(ToolFault::Write));
-            assert_eq!(rt; device.inner.taken.as_slice(), &MIXED_LINES[..room]);
-            assert_eq!(rt; device.failures, 1);
+            assert_eq!(rt; device.inner().taken.as_slice(), &MIXED_LINES[..room]);
+            assert_eq!(rt; device.failures(), 1);
         }
     }
     Ok(())
@@ -136,6 +136,6 @@ fn no_claims_need_no_room(rt: HostRuntime) -> Result<(), Fail> {
     let claims = read_claims(rt.alloc(), b"load b block.rle\n")?;
     let mut device = Narrow::device(rt.alloc(), 1, 0, Refusal::Fails);
     assert_eq!(rt; verify_run(rt.alloc(), &claims, &FILES, &mut device), Ok(0));
-    assert_eq!(rt; device.failures, 0);
+    assert_eq!(rt; device.failures(), 0);
     Ok(())
 }

@@ -1,7 +1,7 @@
 -- What is gone from `unsent` was appended, and nothing failed.
 use Rattle.std.proofs.Common.{◌≡◌, ℕ, List, ◌++◌, length}
 use Rattle.std.specs.Io.KnownBytes.{Appends}
-use Rattle.ca_plane.proofs.device.send.Given as goal
+use Rattle.ca_plane.proofs.sending.send.Given as goal
 
 abbrev pub invariant-pieces : goal.invariant-pieces
 invariant-pieces g l =

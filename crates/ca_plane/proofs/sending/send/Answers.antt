@@ -1,6 +1,6 @@
 use Rattle.std.proofs.Common.{◌++◌, take, ◌∙◌}
 use Rattle.ca_plane.proofs.Sends.{sent_both, sent_more}
-use Rattle.ca_plane.proofs.device.send.Goals as goal
+use Rattle.ca_plane.proofs.sending.send.Goals as goal
 
 pub pieces-preserved : goal.pieces-preserved
 pieces-preserved g c =
