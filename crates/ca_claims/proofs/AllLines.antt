@@ -1,10 +1,15 @@
 -- A claim text read to its end or to its first fault.
-use Rattle.std.proofs.Common.{◌≡◌, ℕ, ◌+◌, ◌<◌, ◌≤◌, List, [], ◌∷◌, ◌++◌, length, Option, sym, ap, ◌∙◌, append_assoc, arith}
+use Rattle.std.proofs.Common.{◌≡◌, ℕ, ◌+◌, ◌<◌, ◌≤◌, List, [], ◌∷◌, ◌++◌, length, Option, Result, refl, sym, ap, subst, ◌∙◌, append_assoc, arith}
+use Rattle.std.specs.Result.{IfErr, IsErrAnd}
+use Rattle.std.proofs.lemmas.Result.{err_from_is_err_and}
 use Rattle.std.proofs.lemmas.List.{length_push}
 use Rattle.ca_plane.specs.Bytes.{lines_of, words_of}
 use Rattle.ca_claims.specs.declared.claims.reading.Reading.{Reading}
+use Rattle.ca_claims.specs.declared.fault.ClaimFault.{ClaimFault}
+use Rattle.ca_claims.specs.declared.fault.ClaimFault.TheVariants.{Syntax, Number, UnknownName, NameTaken, Memory}
 use Rattle.ca_claims.specs.Text.{Line, LinesSay, spoken}
-use Rattle.ca_claims.specs.Reading.{IsReading, SaysNext}
+use Rattle.ca_claims.specs.TextFaults.{HasLine, AreMisspelled, HaveBadNumber, AskUnknown, LoadTaken, AreAllowed, IsFirstFault}
+use Rattle.ca_claims.specs.Reading.{IsReading, SaysNext, HasFault}
 use Rattle.ca_claims.proofs.Said.{LinesSay-push, length_said}
 
 -- some lines of the text are read, and these bytes are left
@@ -48,3 +53,33 @@ module _ (bytes rest : List ℕ) (number : ℕ) (reading : Reading) (behind : Is
         counted = more_counted line;
         room = more_room later shorter;
       }
+
+  -- the line that follows, of whose words this holds
+  next_line : (P : List Line → List (List ℕ) → Type 0) (line later : List ℕ) (n : ℕ) → lines_of rest ≡ line ∷ lines_of later → n ≡ number + 1 → P (spoken behind.said) (words_of line) → HasLine bytes n P
+  next_line P line later n next e holds =
+      let counted = behind.counted in
+      record {
+        before = behind.done;
+        line = line;
+        later = lines_of later;
+        said = behind.said;
+        good = behind.good;
+        among = behind.lines ∙ ap (λ l. behind.done ++ l) next;
+        number = omega arith;
+        holds = holds;
+      }
+
+  -- its fault is the first of the text
+  fault_next : (line later : List ℕ) → lines_of rest ≡ line ∷ lines_of later → (f : ClaimFault) → HasFault (number + 1) (spoken behind.said) (words_of line) f → IsFirstFault bytes f
+  fault_next line later next (Syntax n) h = next_line AreMisspelled line later n next h.0 h.1
+  fault_next line later next (Number n) h = next_line HaveBadNumber line later n next h.0 h.1
+  fault_next line later next (UnknownName n) h = next_line AskUnknown line later n next h.0 h.1
+  fault_next line later next (NameTaken n) h = next_line LoadTaken line later n next h.0 h.1
+  fault_next line later next Memory h = (number + 1, next_line AreAllowed line later (number + 1) next refl h)
+
+  -- so is the one that `?` passes on
+  pub first_fault : {T : Type 0} (line later : List ℕ) → lines_of rest ≡ line ∷ lines_of later → (r : Result T ClaimFault) (f : ClaimFault) → IsErrAnd r (λ passed. passed ≡ f)
+      → ((said : List (Option Line)) → IsReading said reading → HasFault (number + 1) (spoken said) (words_of line) f) → IfErr r (λ g. IsFirstFault bytes g)
+  first_fault line later next r f h faults =
+      let p = err_from_is_err_and r h in
+      subst (λ o. IfErr o (λ g. IsFirstFault bytes g)) (sym p.1) (subst (IsFirstFault bytes) (sym p.2) (fault_next line later next f (faults behind.said behind.read)))

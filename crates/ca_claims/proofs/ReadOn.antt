@@ -139,7 +139,7 @@ module _ (said : List (Option Line)) (paths : List (List ℕ)) (claims : List Cl
   loaded_known (Some i) found at loaded = refl
 
   -- so are all names of a claim
-  names_loaded : (claim : Claim) → AreKnown names claim → AreLoaded (spoken said) (patterns_of claim)
+  pub names_loaded : (claim : Claim) → AreKnown names claim → AreLoaded (spoken said) (patterns_of claim)
   names_loaded claim = AllByRecursion-weaker (λ n. IsSome (names n)) (λ n. IsSome (path_of (spoken said) n)) (λ n. known_loaded (names n) (path_of (spoken said) n) (read.named n)) (patterns_of claim)
 
   pub names_known : (claim : Claim) → AreLoaded (spoken said) (patterns_of claim) → AreKnown names claim

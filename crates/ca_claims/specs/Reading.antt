@@ -16,7 +16,7 @@ use Rattle.ca_claims.specs.declared.fault.ClaimFault.{ClaimFault}
 use Rattle.ca_claims.specs.declared.fault.ClaimFault.TheVariants.{Syntax, Number, UnknownName, NameTaken, Memory}
 use Rattle.ca_claims.specs.Lines.{numbered, IsAsked}
 use Rattle.ca_claims.specs.Text as text
-use Rattle.ca_claims.specs.TextFaults.{AreMisspelled, HaveBadNumber, AskUnknown, LoadTaken}
+use Rattle.ca_claims.specs.TextFaults.{AreMisspelled, HaveBadNumber, AskUnknown, LoadTaken, AreAllowed}
 
 -- the paths, with this one behind them where it isn't one of them
 abbrev pub with_path : List (List ℕ) → List ℕ → List (List ℕ)
@@ -96,4 +96,4 @@ HasFault n earlier words (Syntax line) = (line ≡ n) × AreMisspelled earlier w
 HasFault n earlier words (Number line) = (line ≡ n) × HaveBadNumber earlier words
 HasFault n earlier words (UnknownName line) = (line ≡ n) × AskUnknown earlier words
 HasFault n earlier words (NameTaken line) = (line ≡ n) × LoadTaken earlier words
-HasFault n earlier words Memory = Unit {0}
+HasFault n earlier words Memory = AreAllowed earlier words

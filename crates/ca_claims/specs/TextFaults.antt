@@ -3,7 +3,7 @@ use Rattle.std.specs.Prelude.{◌≡◌, ℕ, ◌+◌, List, [], ◌∷◌, ◌+
 use Rattle.ca_plane.specs.Bytes.{lines_of, words_of}
 use Rattle.ca_claims.specs.declared.fault.ClaimFault.{ClaimFault}
 use Rattle.ca_claims.specs.declared.fault.ClaimFault.TheVariants.{Syntax, Number, UnknownName, NameTaken, Memory}
-use Rattle.ca_claims.specs.Text.{Claim, patterns_of, HasGoodNumbers, Line, Load, Claims, is_skipped, WordsSay, path_of, AreLoaded, LinesSay, spoken}
+use Rattle.ca_claims.specs.Text.{Claim, patterns_of, HasGoodNumbers, Line, Load, Claims, is_skipped, WordsSay, path_of, AreLoaded, IsAllowed, LinesSay, spoken}
 
 -- behind good lines stands a line, the n-th of the text, of whose words this holds after what the earlier lines say
 pub record HasLine (bytes : List ℕ) (n : ℕ) (P : List Line → List (List ℕ) → Type 0) : Type 0 where
@@ -34,10 +34,14 @@ abbrev pub LoadTaken : List Line → List (List ℕ) → Type 0
 LoadTaken earlier words =
     (is_skipped words ≡ false) × (name : List ℕ) × (path : List ℕ) × WordsSay words (Load name path) × IsSome (path_of earlier name)
 
--- the text's first fault, with the number of its line; want of memory may come at any time
+-- a good line: a name that no earlier line loads, or a claim with good numbers about names that earlier lines load
+abbrev pub AreAllowed : List Line → List (List ℕ) → Type 0
+AreAllowed earlier words = (is_skipped words ≡ false) × (line : Line) × WordsSay words line × IsAllowed earlier line
+
+-- the text's first fault, with the number of its line; memory is wanted at a good line alone, behind good lines
 abbrev pub IsFirstFault : List ℕ → ClaimFault → Type 0
 IsFirstFault bytes (Syntax n) = HasLine bytes n AreMisspelled
 IsFirstFault bytes (Number n) = HasLine bytes n HaveBadNumber
 IsFirstFault bytes (UnknownName n) = HasLine bytes n AskUnknown
 IsFirstFault bytes (NameTaken n) = HasLine bytes n LoadTaken
-IsFirstFault bytes Memory = Unit {0}
+IsFirstFault bytes Memory = (n : ℕ) × HasLine bytes n AreAllowed

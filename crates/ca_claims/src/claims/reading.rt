@@ -155,7 +155,12 @@ impl<'a> Reading<'a> {
     }
 }
 
-/// What the claim text asks, or its first fault.
+/// What the claim text asks.
+///
+/// # Errors
+///
+/// The first fault of the text; and `Memory` where there is none for a good line, behind lines that are good as well: a
+/// line's spelling, its numbers and its names are judged without memory.
 pub fn read_claims(alloc: Global, bytes: &[u8]) -> Result<Claims, ClaimFault>
     ensures found { IfOk result (λ c. (said : List (Option Line)) × IsClaimText bytes.now said × (c ≡ asked_by said)) }
     ensures fault { IfErr result (λ f. IsFirstFault bytes.now f) }

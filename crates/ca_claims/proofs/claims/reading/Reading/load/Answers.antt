@@ -1,8 +1,8 @@
-use Rattle.std.proofs.Common.{ℕ, List, ◌∷◌, [], ◌++◌, Some, slice_get, sym, ap, subst, ◌∙◌}
+use Rattle.std.proofs.Common.{ℕ, List, ◌∷◌, [], ◌++◌, Some, slice_get, refl, sym, ap, subst, ◌∙◌}
 use Rattle.std.proofs.lemmas.Map.Text.{hash_map_updates_str}
 use Rattle.ca_claims.specs.Text.{Load}
 use Rattle.ca_claims.specs.Reading.{IsRead, place_of}
-use Rattle.ca_claims.proofs.ReadOn.{on_ok_holds, none_from, read_load}
+use Rattle.ca_claims.proofs.ReadOn.{on_ok_holds, none_from, not_loaded, read_load}
 use Rattle.ca_claims.proofs.claims.reading.Reading.load.Goals as goal
 
 pub returns-clause-loaded : goal.returns-clause-loaded
@@ -15,3 +15,16 @@ returns-clause-loaded c = λ said read.
     let at = ap (λ l. slice_get l c.in-Ok.place) (sym c.in-Ok.ensures.paths) ∙ c.in-Ok.ensures.index in
     let loaded = read_load said old.paths old.claims.items (place_of old.names) read name path c.in-Ok.place (place_of c.insert.new.self) new at (hash_map_updates_str name old.names c.insert.new.self _ updates) in
     (loaded.0, subst (λ l. IsRead (said ++ Some (Load name path) ∷ []) l old.claims.items (place_of c.insert.new.self)) (sym c.in-Ok.ensures.paths) loaded.1)
+
+-- memory is wanted at a name that isn't loaded yet
+pub returns-in_default-clause-fault : goal.returns-in_default-clause-fault
+returns-in_default-clause-fault c = λ said read.
+    let old = c.args.self.now in
+    let new = not_loaded said old.paths old.claims.items (place_of old.names) read c.args.name.now (none_from (place_of old.names c.args.name.now) (sym c.if-is_loaded.ensures)) in
+    (refl, Load c.args.name.now c.args.path.now, refl, new)
+
+pub returns-then-is_err-clause-fault : goal.returns-then-is_err-clause-fault
+returns-then-is_err-clause-fault c = λ said read.
+    let old = c.args.self.now in
+    let new = not_loaded said old.paths old.claims.items (place_of old.names) read c.args.name.now (none_from (place_of old.names c.args.name.now) (sym c.if-is_loaded.ensures)) in
+    (refl, Load c.args.name.now c.args.path.now, refl, new)
