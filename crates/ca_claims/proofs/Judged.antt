@@ -27,7 +27,7 @@ use Rattle.ca_claims.specs.Text.{Claim, Still, Oscillator, Spaceship, Becomes, p
 use Rattle.ca_claims.specs.Lines.{path_at, indices_of, claim_at}
 use Rattle.ca_claims.specs.Means.{bytes_at}
 use Rattle.ca_claims.specs.Decided.{IsDecided}
-use Rattle.ca_claims.specs.Answers.{IsPatternFault, IsRead, IsRuled, HasLargeState, HasSmallStates, IsSameRule, IsThere, Reads, HasRule, IsSmall, SomePath, FirstPath, HasMixedRules, HasCause, IsGood, IsJudged, IsTrueVerdict}
+use Rattle.ca_claims.specs.Answers.{IsPatternFault, IsRead, IsRuled, HasLargeState, HasSmallStates, IsSameRule, IsThere, Reads, HasRule, IsSmall, SomePath, FirstPath, FirstIs, HasMixedRules, HasCause, IsGood, IsJudged, IsTrueVerdict}
 use Rattle.ca_claims.specs.Patterns.{IsReadFrom, IsUnread, IsUnnamed}
 use Rattle.ca_claims.proofs.Alike.{true-same, reason-same}
 
@@ -149,6 +149,10 @@ module _ (files : List (List ℕ × List ℕ)) (path bytes : List ℕ) (pattern 
   pub path_is_small : (rule : BsRule) → Names pattern.rule_text.items rule → HasSmallStates pattern.cells → IsSmall files path
   path_is_small rule names small = (picture, rule, path_is_ruled rule names, small_shown small)
 
+-- a good pattern reads
+good_reads : (files : List (List ℕ × List ℕ)) (path : List ℕ) (cells : Picture) (rule : BsRule) → IsGood files path cells rule → Reads files path
+good_reads files path cells rule good = let read = good.ruled.1 in (read.bytes, read.at_path, read.readable)
+
 -- ---- causes
 
 -- a file isn't there, of the first of the paths or of the second
@@ -165,6 +169,10 @@ abbrev HasBadPattern : List (List ℕ × List ℕ) → PatternFault → List (Li
 HasBadPattern files fault paths = AllByRecursion (IsThere files) paths
     × FirstPath (Reads files) (λ p. (bytes : List ℕ) × (bytes_at files p ≡ Some bytes) × IsPatternFault bytes fault) paths
 
+-- memory is wanted, where all files are there and the first reads
+abbrev LacksMemory : List (List ℕ × List ℕ) → List (List ℕ) → Type 0
+LacksMemory files paths = AllByRecursion (IsThere files) paths × FirstIs (Reads files) paths
+
 pub unread : (files : List (List ℕ × List ℕ)) (claim : Claim) (path : List ℕ) (paths : List (List ℕ)) (bytes : List ℕ) (cause : Cause)
     → patterns_of claim ≡ path ∷ paths → AllByRecursion (IsThere files) (path ∷ paths) → bytes_at files path ≡ Some bytes → IsUnread bytes cause → HasCause files claim cause
 unread files claim path paths bytes NoFile e all there h = absurd h
@@ -172,7 +180,7 @@ unread files claim path paths bytes (BadPattern fault) e all there h = subst (Ha
 unread files claim path paths bytes (BadRule fault) e all there h = absurd h
 unread files claim path paths bytes StateTooLarge e all there h = absurd h
 unread files claim path paths bytes MixedRules e all there h = absurd h
-unread files claim path paths bytes Memory e all there h = tt
+unread files claim path paths bytes Memory e all there h = subst (LacksMemory files) (sym e) (all, (bytes, there, h))
 
 pub unread_second : (files : List (List ℕ × List ℕ)) (claim : Claim) (path other bytes : List ℕ) (cause : Cause)
     → patterns_of claim ≡ path ∷ other ∷ [] → Reads files path → bytes_at files other ≡ Some bytes → IsUnread bytes cause → HasCause files claim cause
@@ -182,7 +190,7 @@ unread_second files claim path other bytes (BadPattern fault) e reads there h =
 unread_second files claim path other bytes (BadRule fault) e reads there h = absurd h
 unread_second files claim path other bytes StateTooLarge e reads there h = absurd h
 unread_second files claim path other bytes MixedRules e reads there h = absurd h
-unread_second files claim path other bytes Memory e reads there h = tt
+unread_second files claim path other bytes Memory e reads there h = subst (LacksMemory files) (sym e) (((reads.0, reads.1), ((bytes, there), tt)), reads)
 
 -- a rule text names no rule, where all files read
 abbrev HasBadRule : List (List ℕ × List ℕ) → RuleFault → List (List ℕ) → Type 0
@@ -268,6 +276,16 @@ IsJudged-pair files (Becomes p n q) path other cells other_cells rule other_rule
     let second : other ≡ q = cc in
     (subst (λ l. IsGood files l cells rule) first one, other_rule, subst (λ l. IsGood files l other_cells other_rule) second two, same)
 
+-- a claim that is judged may want memory
+memory_wanted : (files : List (List ℕ × List ℕ)) (claim : Claim) (cells other : Picture) (rule : BsRule) → IsJudged files claim cells other rule → HasCause files claim Memory
+memory_wanted files (Still p) cells other rule judged = let reads = good_reads files p cells rule judged.0 in (((reads.0, reads.1), tt), reads)
+memory_wanted files (Oscillator p n) cells other rule judged = let reads = good_reads files p cells rule judged.0 in (((reads.0, reads.1), tt), reads)
+memory_wanted files (Spaceship p n dx dy) cells other rule judged = let reads = good_reads files p cells rule judged.0 in (((reads.0, reads.1), tt), reads)
+memory_wanted files (Becomes p n q) cells other rule judged =
+    let reads = good_reads files p cells rule judged.0 in
+    let second = good_reads files q other judged.1 judged.2 in
+    (((reads.0, reads.1), ((second.0, second.1), tt)), reads)
+
 -- what is decided of cells is true of the pictures that show the same
 pub true_verdict : (files : List (List ℕ × List ℕ)) (claim : Claim) (cells shown other other_shown : Picture) (rule : BsRule) (verdict : Verdict)
     → IsSame cells shown → IsSame other other_shown → IsJudged files claim shown other_shown rule
@@ -276,4 +294,4 @@ true_verdict files claim cells shown other other_shown rule Yes same others judg
     (shown, other_shown, rule, judged, true-same (next_of rule.hood rule.birth rule.survival) cells shown same other other_shown others claim decided)
 true_verdict files claim cells shown other other_shown rule (No why) same others judged decided =
     (shown, other_shown, rule, judged, reason-same (next_of rule.hood rule.birth rule.survival) cells shown same other other_shown others claim why decided)
-true_verdict files claim cells shown other other_shown rule (Refused cause) same others judged decided = subst (HasCause files claim) (sym decided) tt
+true_verdict files claim cells shown other other_shown rule (Refused cause) same others judged decided = subst (HasCause files claim) (sym decided) (memory_wanted files claim shown other_shown rule judged)

@@ -241,6 +241,10 @@ one_cause files claim c d m n h k =
       | inr (inr e) ↦ absurd (not_past files claim d n k (past_below files claim (suc (place d)) (place c) (omega arith) (past_before files claim c m h)))
     ]
 
+-- a file that isn't there goes before want of memory
+pub no_file_or_memory : (files : List (List ℕ × List ℕ)) (claim : Claim) → HasCause files claim NoFile → HasCause files claim Memory → ⊥
+no_file_or_memory files claim none wanted = all_or_some (IsThere files) (λ p. bytes_at files p ≡ None) (there_or_none files) (patterns_of claim) wanted.0 none
+
 -- ---- judged claims
 
 -- what is judged is past every cause

@@ -77,6 +77,11 @@ abbrev pub FirstPath : (List ℕ → Type 0) → (List ℕ → Type 0) → List 
 FirstPath Good Bad [] = ⊥
 FirstPath Good Bad (p ∷ ps) = Bad p ⊎ (Good p × FirstPath Good Bad ps)
 
+-- this holds of the first of the paths
+abbrev pub FirstIs : (List ℕ → Type 0) → List (List ℕ) → Type 0
+FirstIs Holds [] = ⊥
+FirstIs Holds (p ∷ ps) = Holds p
+
 -- the claim is about two patterns with different rules
 abbrev pub HasMixedRules : List (List ℕ × List ℕ) → Claim → Type 0
 HasMixedRules files (Still pattern) = ⊥
@@ -85,7 +90,8 @@ HasMixedRules files (Spaceship pattern period dx dy) = ⊥
 HasMixedRules files (Becomes pattern generations other) = (cells : Picture) × (rule : BsRule) × (other_cells : Picture) × (other_rule : BsRule)
     × IsRuled files pattern cells rule × IsRuled files other other_cells other_rule × (IsSameRule rule other_rule → ⊥)
 
--- the first cause of a refusal that holds of a claim, in the order of these lines; want of memory may come at any time
+-- the first cause of a refusal that holds of a claim, in the order of these lines; memory is wanted only where all the files
+-- are there and the first of them reads
 abbrev pub HasCause : List (List ℕ × List ℕ) → Claim → Cause → Type 0
 HasCause files claim NoFile = SomePath (λ p. bytes_at files p ≡ None) (patterns_of claim)
 HasCause files claim (BadPattern fault) = AllByRecursion (IsThere files) (patterns_of claim)
@@ -95,7 +101,7 @@ HasCause files claim (BadRule fault) = AllByRecursion (Reads files) (patterns_of
 HasCause files claim StateTooLarge = AllByRecursion (HasRule files) (patterns_of claim)
     × SomePath (λ p. (cells : Picture) × (rule : BsRule) × IsRuled files p cells rule × HasLargeState cells) (patterns_of claim)
 HasCause files claim MixedRules = AllByRecursion (IsSmall files) (patterns_of claim) × HasMixedRules files claim
-HasCause files claim Memory = Unit {0}
+HasCause files claim Memory = AllByRecursion (IsThere files) (patterns_of claim) × FirstIs (Reads files) (patterns_of claim)
 
 -- a pattern's file is there and is read, and means these cells, of small states, under this rule
 pub record IsGood (files : List (List ℕ × List ℕ)) (path : List ℕ) (cells : Picture) (rule : BsRule) : Type 0 where

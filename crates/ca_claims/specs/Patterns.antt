@@ -8,7 +8,7 @@ use Rattle.ca_rle.specs.Pattern.{IsPatternOf}
 use Rattle.ca_rle.specs.declared.pattern.Pattern.{Pattern}
 use Rattle.ca_claims.specs.declared.verdict.Cause.{Cause}
 use Rattle.ca_claims.specs.declared.verdict.Cause.TheVariants.{NoFile, BadPattern, BadRule, StateTooLarge, MixedRules, Memory}
-use Rattle.ca_claims.specs.Answers.{IsPatternFault}
+use Rattle.ca_claims.specs.Answers.{IsReadable, IsPatternFault}
 
 -- the bytes are a file within the limits, and this is its pattern
 pub record IsReadFrom (bytes : List ℕ) (pattern : Pattern) : Type 0 where
@@ -18,14 +18,14 @@ pub record IsReadFrom (bytes : List ℕ) (pattern : Pattern) : Type 0 where
   pub shown : IsPatternOf file pattern
   pub sparse : IsSparse pattern.cells
 
--- why the bytes aren't read: their fault, or want of memory
+-- why the bytes aren't read: their fault, or want of memory for bytes that are readable
 abbrev pub IsUnread : List ℕ → Cause → Type 0
 IsUnread bytes NoFile = ⊥
 IsUnread bytes (BadPattern fault) = IsPatternFault bytes fault
 IsUnread bytes (BadRule fault) = ⊥
 IsUnread bytes StateTooLarge = ⊥
 IsUnread bytes MixedRules = ⊥
-IsUnread bytes Memory = Unit {0}
+IsUnread bytes Memory = IsReadable bytes
 
 -- why the text names no rule
 abbrev pub IsUnnamed : List ℕ → Cause → Type 0

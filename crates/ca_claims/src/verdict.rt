@@ -37,8 +37,8 @@ pub enum PatternFault {
     Memory,
 }
 
-/// Why a claim isn't judged: the first of these that holds, but that want of memory may come before any other. Of two
-/// patterns the claim's first goes before the other in each of them.
+/// Why a claim isn't judged: the first of these that holds, but that want of memory may come before any other, where all
+/// files are there and the first pattern's reads. Of two patterns the claim's first goes before the other in each of them.
 #[derive(Clone, Copy, Debug, PartialEq, Eq, Error)]
 pub enum Cause {
     /// No file with the path of one of the patterns was handed in.

@@ -12,7 +12,7 @@ ghost use Rattle.ca_claims.specs.Examples.{life, blinker, block};
 ghost use Rattle.ca_claims.specs.declared.verdict.Why.{Why};
 ghost use Rattle.ca_claims.specs.declared.verdict.Verdict.TheVariants.{Yes, No, Refused};
 ghost use Rattle.ca_claims.specs.declared.verdict.Cause.{Cause};
-ghost use Rattle.ca_claims.specs.declared.verdict.Cause.TheVariants.{Memory};
+ghost use Rattle.ca_claims.specs.declared.verdict.Cause.TheVariants.{NoFile, Memory};
 
 /// Where there is a reason against a claim, the claim isn't true.
 pub fn no_is_false()
@@ -41,6 +41,7 @@ pub fn one_kind_of_verdict()
         → IsTrueVerdict files claim (No why) → IsTrueVerdict files claim (Refused cause) → ⊥ }
     ensures one_cause { (files : List (List ℕ × List ℕ)) (claim : Claim) (one two : Cause) → one ≢ Memory → two ≢ Memory
         → IsTrueVerdict files claim (Refused one) → IsTrueVerdict files claim (Refused two) → one ≡ two }
+    ensures no_file_or_memory { (files : List (List ℕ × List ℕ)) (claim : Claim) → IsTrueVerdict files claim (Refused NoFile) → IsTrueVerdict files claim (Refused Memory) → ⊥ }
 {}
 
 /// Cells of the blinker and the block under Conway's Life.

@@ -1,4 +1,4 @@
-use Rattle.ca_claims.proofs.Verdicts.{yes_or_no, judged_or_cause, one_cause}
+use Rattle.ca_claims.proofs.Verdicts.{yes_or_no, judged_or_cause, one_cause, no_file_or_memory}
 use Rattle.ca_claims.proofs.verdict_laws.one_kind_of_verdict.Goals as goal
 
 pub returns-clause-yes_or_no : goal.returns-clause-yes_or_no
@@ -12,3 +12,6 @@ returns-clause-no_or_refused c = λ files claim why cause no n r. judged_or_caus
 
 pub returns-clause-one_cause : goal.returns-clause-one_cause
 returns-clause-one_cause c = one_cause
+
+pub returns-clause-no_file_or_memory : goal.returns-clause-no_file_or_memory
+returns-clause-no_file_or_memory c = no_file_or_memory
