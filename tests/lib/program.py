@@ -1,0 +1,68 @@
+"""The built program, run from a test, and a count of what passed."""
+import os
+import subprocess
+import sys
+from dataclasses import dataclass
+
+ROOT = os.path.dirname(os.path.dirname(os.path.dirname(os.path.abspath(__file__))))
+PROGRAM = os.environ.get("CAFILE", os.path.join(ROOT, "crates", "cafile", "out", "cafile"))
+
+
+@dataclass(frozen=True)
+class Outcome:
+    """What a run printed, what it complained of, and its exit status."""
+
+    printed: bytes
+    complaint: bytes
+    status: int
+
+    def __str__(self):
+        return f"printed {self.printed[-400:]!r}, complained {self.complaint[-400:]!r}, status {self.status}"
+
+
+def fault(text):
+    """The outcome of a run that prints nothing and complains of this."""
+    return Outcome(b"", f"cafile: {text}\n".encode(), 2)
+
+
+def lines_outcome(verdicts):
+    """The outcome of a run that gives these verdicts, each with the number of its line."""
+    status = 0
+    for _, verdict in verdicts:
+        status = max(status, 2 if verdict.startswith("refused") else 1 if verdict.startswith("no") else 0)
+    return Outcome("".join(f"line {line}: {verdict}\n" for line, verdict in verdicts).encode(), b"", status)
+
+
+def run(words, **how):
+    """Runs the program at the root of the repository. A run that doesn't end in five minutes fails the test."""
+    ran = subprocess.run([PROGRAM, *words], stdin=subprocess.DEVNULL, cwd=ROOT, timeout=300, check=False,
+                         **{"stdout": subprocess.PIPE, "stderr": subprocess.PIPE, **how})
+    return Outcome(ran.stdout or b"", ran.stderr or b"", ran.returncode)
+
+
+class Tally:
+    """Counts the tests of a script, and prints a line for each."""
+
+    def __init__(self):
+        self.passed = self.failed = 0
+
+    def tell(self, name, complaints):
+        """A test passed where there is nothing to complain of."""
+        if complaints:
+            self.failed += 1
+            print(f"FAILED {name}")
+            for it in complaints[:5]:
+                print(f"    {it}")
+        else:
+            self.passed += 1
+            print(f"passed {name}")
+        sys.stdout.flush()
+
+    def expect(self, name, outcome, wanted):
+        """A test passed where the outcome is the wanted one."""
+        self.tell(name, [] if outcome == wanted else [f"wanted: {wanted}", f"got:    {outcome}"])
+
+    def finish(self):
+        """Prints the sums, and ends with status 1 where a test failed."""
+        print(f"{self.passed} passed, {self.failed} failed")
+        sys.exit(1 if self.failed else 0)

@@ -1,0 +1,160 @@
+#!/usr/bin/env -S python3 -B
+"""Memory that is refused to the built program: it answers want of memory, for one claim or for the run, and never another thing.
+
+Each allocation of a run is refused in turn, by tests/refuse.c, which is loaded before the C library's own allocator, until a run meets no refusal.
+Of each run either nothing changed, or it ended with `cafile: memory` and printed nothing, or one line became `refused, memory`. Besides:
+
+- each claim whose pattern reads is refused by some run: so one that lacks memory doesn't end the whole run;
+- a claim whose file is missing or doesn't read is refused for that in every run;
+- claims are refused in their order, and a run ends whole between two of them only where the list of the answers grows.
+
+At the end memory is refused by the system itself, to a pattern that is too large for it, and the claims round it are answered.
+"""
+import os
+import resource
+import shutil
+import subprocess
+import tempfile
+
+from lib.program import ROOT, Outcome, Tally, fault, lines_outcome, run
+
+# Claim texts of examples/, and how many allocations are passed over between two that are refused.
+EXAMPLES = {"block": 1, "glider": 1, "several": 1, "bad_patterns": 1, "rules": 1, "mixed_rules": 1, "states": 1, "pulsar": 1, "number": 1, "syntax": 1,
+            "unknown_name": 1, "r_pentomino": 11}
+
+NO_MEMORY = fault("memory")
+
+# A block and a row of 16777216 cells are read under this limit of a run's address space, in bytes. The block takes less than 5 million bytes, and the row
+# more than 400 million, at 24 bytes a cell: the limit stands about half-way between the two in their ratio.
+LIMIT = 50_000_000
+
+
+def build(folder):
+    """Compiles the refusing allocator by the kit's compiler, or by one on the path, and gives its path; None where no compiler is there."""
+    kit = os.path.dirname(os.path.dirname(os.path.realpath(shutil.which("rt") or "")))
+    made = os.path.join(folder, "refuse.so")
+    for compiler in (os.path.join(kit, "toolchain", "bin", "clang"), "clang", "cc"):
+        words = [compiler, "-shared", "-fPIC", "-O1", "-nostdlib", "-o", made, os.path.join(ROOT, "tests", "refuse.c")]
+        try:
+            if subprocess.run(words, stdout=subprocess.DEVNULL, stderr=subprocess.DEVNULL, check=False).returncode == 0:
+                return made
+        except OSError:
+            pass
+    return None
+
+
+class Refusing:
+    """Runs of the program over the refusing allocator."""
+
+    def __init__(self, library, told):
+        self.library, self.told = library, told
+
+    def run(self, words, number, goes_on=False):
+        """The outcome of a run whose allocation of this number is refused, those behind it too where it goes on; None where it has no such one."""
+        before = os.fstat(self.told).st_size
+        environment = {"LD_PRELOAD": self.library, "REFUSE": str(number), "REFUSE_TELL": str(self.told), **({"REFUSE_ON": "1"} if goes_on else {})}
+        outcome = run(words, env=environment, pass_fds=(self.told,))
+        return outcome if os.fstat(self.told).st_size > before else None
+
+    def sweep(self, words, step=1, goes_on=False):
+        """The outcomes of runs whose allocations are refused in turn, until none is met, by the number of the refused one."""
+        outcomes, number = {}, 1
+        while (outcome := self.run(words, number, goes_on)) is not None:
+            outcomes[number] = outcome
+            number += step
+        return outcomes
+
+
+def changed_line(ample, outcome):
+    """The place of the one line that became `refused, memory`, where just that changed; else None."""
+    wanted, got = ample.printed.splitlines(), outcome.printed.splitlines()
+    changed = [at for at, (one, other) in enumerate(zip(wanted, got)) if one != other]
+    if len(wanted) != len(got) or len(changed) != 1 or outcome.complaint or outcome.status != 2:
+        return None
+    number = wanted[changed[0]].split(b":")[0]
+    return changed[0] if got[changed[0]] == number + b": refused, memory" else None
+
+
+def needs_no_memory(line):
+    """Whether a claim's ample answer says that its file is missing or doesn't read."""
+    return b": refused, no file" in line or b": refused, bad pattern" in line
+
+
+def judged(ample, outcomes, each_number):
+    """What is wrong with the outcomes of a sweep over a claim text, and what came of them."""
+    complaints, refused, ends, ends_between = [], [], 0, 0
+    for number, outcome in outcomes.items():
+        at = changed_line(ample, outcome)
+        if outcome == NO_MEMORY:
+            ends += 1
+        elif at is not None:
+            ends_between, ends = ends_between + (ends if refused else 0), 0
+            if refused and at < refused[-1]:
+                complaints.append(f"allocation {number}: {outcome.printed!r} comes behind a later claim")
+            refused.append(at)
+        elif outcome != ample:
+            complaints.append(f"allocation {number}: {outcome}")
+    lines = ample.printed.splitlines()
+    for at, line in enumerate(lines):
+        if (at in refused) == needs_no_memory(line) and (each_number or at in refused):
+            complaints.append(f"{line!r}: {'refused for want of memory' if at in refused else 'never refused for want of memory'}")
+    if ends_between > len(lines).bit_length():
+        complaints.append(f"{ends_between} runs ended whole between two claims")
+    whole = sum(outcome == NO_MEMORY for outcome in outcomes.values())
+    return complaints, f"{len(outcomes)} allocations refused: {whole} times cafile: memory, {len(refused)} times one line"
+
+
+def contents(path):
+    """The bytes of a file, none where it isn't there."""
+    if not os.path.exists(path):
+        return b""
+    with open(path, "rb") as file:
+        return file.read()
+
+
+def try_examples(tally, refusing):
+    """Each allocation of some examples in turn."""
+    for name, step in EXAMPLES.items():
+        claims = os.path.join("examples", name)
+        path = os.path.join(ROOT, claims)
+        ample = Outcome(contents(f"{path}.stdout"), contents(f"{path}.stderr"), int(contents(f"{path}.status")))
+        outcomes = refusing.sweep(["verify", f"{claims}.claims"], step)
+        complaints, told = judged(ample, outcomes, step == 1)
+        tally.tell(f"refused memory, {claims}.claims: {told}", complaints if outcomes else ["no allocation was refused"])
+
+
+def try_for_good(tally, refusing):
+    """All allocations from one on: the complaint itself takes none."""
+    for words in (["verify", "examples/several.claims"], ["verify", "examples/syntax.claims"], ["verify", "examples/lost"], ["--help"], ["verify"]):
+        ample, outcomes = run(words), refusing.sweep(words, goes_on=True)
+        wrong = [f"from allocation {number} on: {it}" for number, it in outcomes.items() if it not in (ample, NO_MEMORY)]
+        tally.tell(f"memory refused for good, {' '.join(words)}: {len(outcomes)} runs", wrong if outcomes else ["no allocation was refused"])
+
+
+def try_a_limit(tally, folder):
+    """A pattern that is too large for the memory that the system gives, between two that aren't."""
+    large, claims = os.path.join(folder, "large.rle"), os.path.join(folder, "large.claims")
+    with open(large, "w", encoding="ascii") as file:
+        file.write("x = 16777216, y = 1, rule = B3/S23\n16777216o!\n")
+    with open(claims, "w", encoding="ascii") as file:
+        file.write(f"load block examples/block.rle\nload large {large}\nstill block\nstill large\nstill block\n")
+    outcome = run(["verify", claims], preexec_fn=lambda: resource.setrlimit(resource.RLIMIT_AS, (LIMIT, LIMIT)))
+    tally.expect("memory refused by the system", outcome, lines_outcome([(3, "yes"), (4, "refused, memory"), (5, "yes")]))
+
+
+def main():
+    tally = Tally()
+    with tempfile.TemporaryDirectory() as folder, tempfile.TemporaryFile() as told:
+        library = build(folder)
+        if library is None:
+            tally.tell("refused memory", ["no C compiler was found: neither the kit's nor clang or cc on the path"])
+        else:
+            refusing = Refusing(library, told.fileno())
+            try_examples(tally, refusing)
+            try_for_good(tally, refusing)
+        try_a_limit(tally, folder)
+    tally.finish()
+
+
+if __name__ == "__main__":
+    main()
