@@ -1,0 +1,44 @@
+#!/usr/bin/env -S python3 -B
+"""Runs whose standard output or standard error takes nothing: the fault is told where it can be, the status says it in any case, and no verdict is
+lost in silence."""
+import os
+import subprocess
+
+from lib.program import PROGRAM, Outcome, ROOT, Tally, fault, run
+
+VERIFY = ["verify", "examples/block.claims"]
+
+FAILED_WRITE = fault("write")
+
+
+def without(descriptor, words):
+    """The outcome of a run that is started with this descriptor closed."""
+    script = f'exec "$0" "$@" {descriptor}>&-'
+    ran = subprocess.run(["sh", "-c", script, PROGRAM, *words], stdin=subprocess.DEVNULL, stdout=subprocess.PIPE, stderr=subprocess.PIPE, cwd=ROOT,
+                         timeout=300, check=False)
+    return Outcome(ran.stdout, ran.stderr, ran.returncode)
+
+
+def main():
+    tally = Tally()
+    with open("/dev/full", "wb") as full, open(os.devnull, "rb") as unwritable:
+        for words in (VERIFY, ["verify", "examples/several.claims"], ["--help"], ["--version"]):
+            name = " ".join(words)
+            tally.expect(f"a full standard output, {name}", run(words, stdout=full), FAILED_WRITE)
+            tally.expect(f"a closed standard output, {name}", without(1, words), FAILED_WRITE)
+            tally.expect(f"a standard output that is open for reading alone, {name}", run(words, stdout=unwritable), FAILED_WRITE)
+        tally.expect("a full standard output, and a text that has a fault", run(["verify", "examples/syntax.claims"], stdout=full),
+                     fault("claims line 2: syntax"))
+        for words in (["verify", "examples/syntax.claims"], ["verify", "examples/lost"], ["verify"]):
+            tally.expect(f"a full standard error, {' '.join(words)}", run(words, stderr=full), Outcome(b"", b"", 2))
+            tally.expect(f"a closed standard error, {' '.join(words)}", without(2, words), Outcome(b"", b"", 2))
+        tally.expect("a full standard output and a full standard error", run(VERIFY, stdout=full, stderr=full), Outcome(b"", b"", 2))
+        reading, writing = os.pipe()
+        os.close(reading)
+        with os.fdopen(writing, "wb") as pipe:
+            tally.expect("a pipe that nothing reads", run(VERIFY, stdout=pipe), FAILED_WRITE)
+    tally.finish()
+
+
+if __name__ == "__main__":
+    main()
