@@ -1,5 +1,5 @@
 -- What a run reads and writes.
-use Rattle.std.specs.Prelude.{ℕ, ◌+◌, ◌<◌, ◌≤◌, ◌^◌, List, length, Option}
+use Rattle.std.specs.Prelude.{ℕ, ◌<◌, ◌≤◌, ◌^◌, List, length, Option}
 use Rattle.std.specs.Io.KnownBytes.{Consumes, IsAtEnd}
 use Rattle.ca_claims.specs.Text.{Claim}
 use Rattle.ca_claims.specs.Answers.{AreTrueAnswers}
@@ -20,9 +20,9 @@ pub record ReadsAll (old new : Option (List ℕ)) (bytes : List ℕ) : Type 0 wh
 abbrev pub GivesTooMany : Option (List ℕ) → Option (List ℕ) → Type 0
 GivesTooMany old new = (bytes : List ℕ) × (max_file < length bytes) × Consumes old new bytes
 
--- no more was taken than a file may have and a piece of 8192 bytes
-abbrev pub TakesNoMore : Option (List ℕ) → Option (List ℕ) → Type 0
-TakesNoMore old new = (bytes : List ℕ) × (length bytes ≤ max_file + 8192) × Consumes old new bytes
+-- no more bytes were taken than so many
+abbrev pub TakesAtMost : ℕ → Option (List ℕ) → Option (List ℕ) → Type 0
+TakesAtMost most old new = (bytes : List ℕ) × (length bytes ≤ most) × Consumes old new bytes
 
 -- claims were answered, truly, and the lines of the answers were written, or a first part of them, or none
 abbrev pub Answered : List (List ℕ × List ℕ) → List (ℕ × Claim) → (List ℕ → Type 0) → (ℕ → Type 0) → Type 0
