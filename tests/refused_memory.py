@@ -16,7 +16,7 @@ import shutil
 import subprocess
 import tempfile
 
-from lib.program import ROOT, Outcome, Tally, fault, lines_outcome, run
+from lib.program import ROOT, Tally, example, fault, lines_outcome, run
 
 # Claim texts of examples/, and how many allocations are passed over between two that are refused.
 EXAMPLES = {"block": 1, "glider": 1, "several": 1, "bad_patterns": 1, "rules": 1, "mixed_rules": 1, "states": 1, "pulsar": 1, "number": 1, "syntax": 1,
@@ -104,23 +104,12 @@ def judged(ample, outcomes, each_number):
     return complaints, f"{len(outcomes)} allocations refused: {whole} times cafile: memory, {len(refused)} times one line"
 
 
-def contents(path):
-    """The bytes of a file, none where it isn't there."""
-    if not os.path.exists(path):
-        return b""
-    with open(path, "rb") as file:
-        return file.read()
-
-
 def try_examples(tally, refusing):
     """Each allocation of some examples in turn."""
     for name, step in EXAMPLES.items():
-        claims = os.path.join("examples", name)
-        path = os.path.join(ROOT, claims)
-        ample = Outcome(contents(f"{path}.stdout"), contents(f"{path}.stderr"), int(contents(f"{path}.status")))
-        outcomes = refusing.sweep(["verify", f"{claims}.claims"], step)
-        complaints, told = judged(ample, outcomes, step == 1)
-        tally.tell(f"refused memory, {claims}.claims: {told}", complaints if outcomes else ["no allocation was refused"])
+        outcomes = refusing.sweep(["verify", f"examples/{name}.claims"], step)
+        complaints, told = judged(example(name), outcomes, step == 1)
+        tally.tell(f"refused memory, examples/{name}.claims: {told}", complaints if outcomes else ["no allocation was refused"])
 
 
 def try_for_good(tally, refusing):

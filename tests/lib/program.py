@@ -5,6 +5,7 @@ import sys
 from dataclasses import dataclass
 
 ROOT = os.path.dirname(os.path.dirname(os.path.dirname(os.path.abspath(__file__))))
+EXAMPLES = os.path.join(ROOT, "examples")
 PROGRAM = os.environ.get("CAFILE", os.path.join(ROOT, "crates", "cafile", "out", "cafile"))
 
 
@@ -31,6 +32,20 @@ def lines_outcome(verdicts):
     for _, verdict in verdicts:
         status = max(status, 2 if verdict.startswith("refused") else 1 if verdict.startswith("no") else 0)
     return Outcome("".join(f"line {line}: {verdict}\n" for line, verdict in verdicts).encode(), b"", status)
+
+
+def contents(path):
+    """The bytes of a file, none where it isn't there."""
+    if not os.path.exists(path):
+        return b""
+    with open(path, "rb") as file:
+        return file.read()
+
+
+def example(name):
+    """What a claim text of examples/ has to come to, by the files beside it."""
+    path = os.path.join(EXAMPLES, name)
+    return Outcome(contents(f"{path}.stdout"), contents(f"{path}.stderr"), int(contents(f"{path}.status")))
 
 
 def run(words, **how):
