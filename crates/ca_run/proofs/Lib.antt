@@ -2,7 +2,8 @@ pub mod Rounds
 pub mod Later
 pub mod Spreading
 pub mod Vectors
-pub mod Points
-pub mod Streams
-pub mod Merged
+pub mod Reading
+pub mod Heads
+pub mod Windows
+pub mod Written
 pub mod Reached

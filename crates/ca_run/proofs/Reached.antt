@@ -10,7 +10,7 @@ use Rattle.ca_plane.specs.Generations.{around, after}
 use Rattle.ca_plane.specs.Sparse.{IsSparse}
 use Rattle.ca_plane.proofs.Pictures.{IsListed, Contains-cell, cell-listed, cell-All}
 use Rattle.ca_run.specs.Reach.{IsInReach, LeavesReach}
-use Rattle.ca_run.specs.Streams.{IsOutOfReach}
+use Rattle.ca_run.specs.inner.Reached.{IsOutOfReach}
 
 -- a listed cell out of reach is live there
 pub IsOutOfReach-listed : (p : Picture) (e : Point × ℕ) → IsListed p e → (IsInReach e.0.x e.0.y → false ≡ true) → IsOutOfReach p

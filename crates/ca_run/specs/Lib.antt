@@ -1,3 +1,2 @@
-pub mod Window
-pub mod Streams
 pub mod Reach
+pub mod inner

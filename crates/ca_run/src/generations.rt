@@ -6,10 +6,10 @@ ghost use Rattle.ca_plane.specs.Plane.{cell};
 ghost use Rattle.ca_plane.specs.Sparse.{IsSparse};
 ghost use Rattle.ca_plane.specs.Generations.{after};
 ghost use Rattle.ca_run.specs.Reach.{IsInReach, LeavesReach};
-ghost use Rattle.ca_run.specs.Streams.{IsOutOfReach};
+ghost use Rattle.ca_run.specs.inner.Reached.{IsOutOfReach};
 
 use crate::fault::RunFault;
-use crate::stream::Window;
+use crate::window::Window;
 use ca_plane::{Automaton, Memory, Plane, Point};
 use std::alloc::Global;
 
@@ -88,12 +88,13 @@ fn next_plane<A: Automaton>(alloc: Global, rule: &A, cells: &[(Point, u8)]) -> R
     let _states = rule.states();
     let mut window = Window::new(cells);
     let mut next = Plane::new(alloc);
-    'places: while let Some(at) = window.first() {
-        let state = rule.next(&window.take_at(at));
+    'places: while let Some(place) = window.next_place() {
+        window.move_to(place);
+        let state = rule.next(&window.nine());
         if state == 0 {
             continue 'places;
         }
-        next.set(at, state)?;
+        next.set(place, state)?;
     }
     Ok(next)
 }

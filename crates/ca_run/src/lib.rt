@@ -4,7 +4,9 @@
 mod fault;
 mod generations;
 pub mod laws;
-mod stream;
+mod points;
+mod row;
+mod window;
 
 pub use fault::RunFault;
 pub use generations::{step, steps};

@@ -1,32 +1,66 @@
-use Rattle.std.proofs.Common.{refl, ap, ◌∙◌, arith}
-use Rattle.ca_run.specs.Window.{streams}
-use Rattle.ca_run.proofs.Merged.{IsMerged-write, IsMerged-skip, IsMerged-end, count_falls}
+use Rattle.std.proofs.Common.{refl, subst, sym, arith}
+use Rattle.ca_plane.specs.declared.point.Point.{Point}
+use Rattle.ca_plane.proofs.Pictures.{IsSparse-none}
 use Rattle.ca_run.proofs.Reached.{states_after}
+use Rattle.ca_run.proofs.Windows.{IsReady-next, Shows-next}
+use Rattle.ca_run.proofs.Written.{IsWritten-corner, IsWritten-set, IsWritten-skip, IsWritten-end, moves_left-fall}
 use Rattle.ca_run.proofs.generations.next_plane.Goals as goal
+
+pub places-init : goal.places-init
+places-init g c =
+    let next = g.A.Automaton.next_of c.args.rule.now in
+    let quiet = g.met.A.Automaton.quiet c.args.rule.now c.states-states.ensures.sound in
+    record {
+      shows = c.new-window.ensures.shows;
+      written = rw c.new-window.ensures.place (IsWritten-corner next c.args.cells.now c.new-next.result _ _ c.requires.reach (refl, refl) c.new-next.ensures quiet);
+      sparse = rw c.new-next.ensures IsSparse-none;
+    }
+
+pub move_to-requires-clause-within : goal.move_to-requires-clause-within
+move_to-requires-clause-within g c = (IsReady-next c.args.cells.now c.places.window c.in-Some.place c.requires.reach c.places.invariant.shows c.in-Some.ensures).within
+
+pub move_to-requires-clause-north : goal.move_to-requires-clause-north
+move_to-requires-clause-north g c = (IsReady-next c.args.cells.now c.places.window c.in-Some.place c.requires.reach c.places.invariant.shows c.in-Some.ensures).north.none
+
+pub move_to-requires-clause-middle : goal.move_to-requires-clause-middle
+move_to-requires-clause-middle g c = (IsReady-next c.args.cells.now c.places.window c.in-Some.place c.requires.reach c.places.invariant.shows c.in-Some.ensures).middle.none
+
+pub move_to-requires-clause-south : goal.move_to-requires-clause-south
+move_to-requires-clause-south g c = (IsReady-next c.args.cells.now c.places.window c.in-Some.place c.requires.reach c.places.invariant.shows c.in-Some.ensures).south.none
 
 pub places-preserved-then-state-eq0 : goal.places-preserved-then-state-eq0
 places-preserved-then-state-eq0 g c =
     let next = g.A.Automaton.next_of c.args.rule.now in
+    let quiet = g.met.A.Automaton.quiet c.args.rule.now c.states-states.ensures.sound in
+    let ready = IsReady-next c.args.cells.now c.places.window c.in-Some.place c.requires.reach c.places.invariant.shows c.in-Some.ensures in
     record {
-      merged = IsMerged-skip next c.args.cells.now (streams c.places.window) (streams c.take_at.new.self) c.places.next c.in-Some.at c.next-state.result c.places.invariant.merged c.in-Some.ensures c.take_at.ensures.over (c.next-state.ensures ∙ ap next c.take_at.ensures.states) c.if-state-eq0.true;
+      shows = Shows-next c.args.cells.now c.places.window c.move_to.new.self c.in-Some.place c.places.invariant.shows ready c.move_to.ensures;
+      written = IsWritten-skip next c.args.cells.now c.places.next c.places.window c.move_to.new.self c.in-Some.place c.nine.result c.next-state.result quiet c.requires.reach c.places.invariant.shows c.places.invariant.written c.in-Some.ensures c.move_to.ensures c.nine.ensures c.next-state.ensures c.if-state-eq0.true;
       sparse = c.places.invariant.sparse;
     }
+
+pub places-smaller-then-state-eq0 : goal.places-smaller-then-state-eq0
+places-smaller-then-state-eq0 g c = moves_left-fall c.places.window c.move_to.new.self c.in-Some.place c.in-Some.ensures c.move_to.ensures
 
 pub places-preserved : goal.places-preserved
 places-preserved g c =
     let next = g.A.Automaton.next_of c.args.rule.now in
+    let quiet = g.met.A.Automaton.quiet c.args.rule.now c.states-states.ensures.sound in
+    let ready = IsReady-next c.args.cells.now c.places.window c.in-Some.place c.requires.reach c.places.invariant.shows c.in-Some.ensures in
     record {
-      merged = IsMerged-write next c.args.cells.now (streams c.places.window) (streams c.take_at.new.self) c.places.next c.set.new.self c.in-Some.at c.next-state.result c.places.invariant.merged c.in-Some.ensures c.take_at.ensures.over (c.next-state.ensures ∙ ap next c.take_at.ensures.states) c.in_ok-set.ensures.ok;
+      shows = Shows-next c.args.cells.now c.places.window c.move_to.new.self c.in-Some.place c.places.invariant.shows ready c.move_to.ensures;
+      written = IsWritten-set next c.args.cells.now c.places.next c.set.new.self c.places.window c.move_to.new.self c.in-Some.place c.nine.result c.next-state.result quiet c.requires.reach c.places.invariant.shows c.places.invariant.written c.in-Some.ensures c.move_to.ensures c.nine.ensures c.next-state.ensures c.in_ok-set.ensures.ok;
       sparse = c.in_ok-set.ensures.sparse;
     }
 
 pub places-smaller : goal.places-smaller
-places-smaller g c = count_falls (streams c.places.window) (streams c.take_at.new.self) c.in-Some.at c.take_at.ensures.over c.in-Some.ensures.live
+places-smaller g c = moves_left-fall c.places.window c.move_to.new.self c.in-Some.place c.in-Some.ensures c.move_to.ensures
 
 pub returns-clause-after : goal.returns-clause-after
 returns-clause-after g c =
     let next = g.A.Automaton.next_of c.args.rule.now in
-    IsMerged-end next c.args.cells.now (streams c.places.window) c.places.next c.places.invariant.merged c.in_default.ensures refl (g.met.A.Automaton.quiet c.args.rule.now c.states-states.ensures.sound)
+    let quiet = g.met.A.Automaton.quiet c.args.rule.now c.states-states.ensures.sound in
+    IsWritten-end next c.args.cells.now c.places.next c.places.window quiet c.places.invariant.written c.places.invariant.shows c.in_default.ensures
 
 pub returns-clause-states : goal.returns-clause-states
 returns-clause-states g c =

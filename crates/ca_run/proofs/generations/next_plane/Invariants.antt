@@ -1,15 +1,17 @@
 use Rattle.ca_plane.specs.Sparse.{IsSparse}
-use Rattle.ca_run.specs.Window.{streams}
-use Rattle.ca_run.proofs.Merged.{IsMerged, cell_count}
+use Rattle.ca_run.specs.inner.Window.{Shows}
+use Rattle.ca_run.specs.inner.Written.{IsWritten}
+use Rattle.ca_run.proofs.Written.{moves_left}
 use Rattle.ca_run.proofs.generations.next_plane.Given as goal
 
--- each place is over or still to come
+-- the window shows the cells round its place, and up to there the next generation is written
 abbrev pub invariant-places : goal.invariant-places
 invariant-places g l = record {
-  merged : IsMerged (g.A.Automaton.next_of l.rule) l.cells (streams l.window) l.next;
+  shows : Shows l.cells l.window;
+  written : IsWritten (g.A.Automaton.next_of l.rule) l.cells l.next l.window.place.x l.window.place.y;
   sparse : IsSparse l.next;
 }
 
--- the cells that are still to come
+-- the moves that the window can still take
 abbrev pub decreases-places : goal.decreases-places
-decreases-places g l = cell_count (streams l.window)
+decreases-places g l = moves_left l.window

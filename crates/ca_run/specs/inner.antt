@@ -1,0 +1,6 @@
+pub mod Order
+pub mod Ahead
+pub mod Row
+pub mod Window
+pub mod Reached
+pub mod Written
