@@ -1,6 +1,6 @@
 -- The words of a spaceship's claim, and how claims are held with numbers of 64 bits.
 use Rattle.std.proofs.Common.{◌≡◌, ℕ, ◌-◌, ◌^◌, ◌<◌, min, List, [], ◌∷◌, codes, refl, sym, ap, subst, ◌∙◌, arith, w64, to_z, of_z}
-use Rattle.std.specs.Prelude.{ℤ, pos, neg_ℤ, ◌-ℤ◌, FitsSigned}
+use Rattle.std.specs.Prelude.{ℤ, FitsSigned}
 use Rattle.std.proofs.lemmas.Int.{ints, to_z-of_z}
 use Rattle.ca_plane.specs.Bytes.{IsInteger}
 use Rattle.ca_claims.specs.Text.{Claim, Still, Oscillator, Spaceship, Becomes, Claims, WordsSay}
@@ -69,34 +69,3 @@ held_becomes name other n held e = record {
   exact = λ good. ap (λ k. Becomes name k other) ((held_number n held e).0 (omega arith));
   sound = λ good. ap (λ k. Becomes name k other) ((held_number n held e).1 (omega arith));
 }
-
--- what is held for a shift to the right or down
-held_right : (n : ℕ) (held : ℤ) → held ≡ pos (min (min n (2 ^ 64 - 1)) (2 ^ 63 - 1)) → IsHeldShift (pos n) held
-held_right n held e = record {
-  exact = λ h. omega (arith, ints);
-  sound = λ h. omega (arith, ints);
-  least = omega (arith, ints);
-  greatest = omega (arith, ints);
-}
-
--- and for one to the left or up
-held_left : (n : ℕ) (held : ℤ) → held ≡ pos (min (min n (2 ^ 64 - 1)) (2 ^ 63 - 1)) → IsHeldShift (neg_ℤ (pos n)) (pos 0 -ℤ held)
-held_left n held e = record {
-  exact = λ h. omega (arith, ints);
-  sound = λ h. omega (arith, ints);
-  least = omega (arith, ints);
-  greatest = omega (arith, ints);
-}
-
--- as an `i64` reads
-pub held_plus : (n number : ℕ) (held : ℤ) → number ≡ min n (2 ^ 64 - 1) → held ≡ pos (min number (2 ^ 63 - 1)) → IsHeldShift (pos n) (to_z w64 (of_z w64 held))
-held_plus n number held e f =
-    let right = held_right n held (f ∙ ap (λ m. pos (min m (2 ^ 63 - 1))) e) in
-    rw (as_read (pos n) held right) right
-
-pub held_minus : (n number : ℕ) (held : ℤ) → number ≡ min n (2 ^ 64 - 1) → held ≡ pos (min number (2 ^ 63 - 1))
-    → IsHeldShift (neg_ℤ (pos n)) (to_z w64 (of_z w64 (pos 0 -ℤ to_z w64 (of_z w64 held))))
-held_minus n number held e f =
-    let same = f ∙ ap (λ m. pos (min m (2 ^ 63 - 1))) e in
-    let left = held_left n held same in
-    rw (as_read (pos n) held (held_right n held same), as_read (neg_ℤ (pos n)) (pos 0 -ℤ held) left) left

@@ -2,7 +2,6 @@ pub mod Walks
 pub mod Ranges
 pub mod Times
 pub mod PathLists
-pub mod LineWords
 pub mod Held
 pub mod Alike
 pub mod Judged

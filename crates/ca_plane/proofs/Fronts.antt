@@ -4,7 +4,7 @@ use Rattle.std.specs.List.{list_all}
 use Rattle.std.proofs.lemmas.Bool.{and_parts, and_from, cases_Bool, not-true}
 use Rattle.std.proofs.lemmas.List.Folds.{list_all-append}
 use Rattle.std.proofs.lemmas.List.{append-nil}
-use Rattle.ca_plane.specs.Bytes.{Every, front, rest, is_end_or}
+use Rattle.ca_plane.specs.Bytes.{Every, front, rest, is_end_or, is_digit, is_word_byte, AreDigits, IsWord}
 
 -- the front and then the rest are the bytes
 pub front_then_rest : (test : ℕ → Bool) (bs : List ℕ) → front test bs ++ rest test bs ≡ bs
@@ -77,3 +77,21 @@ every_wider test wider w (x ∷ xs) h =
 -- the bytes of the rest pass what all the bytes pass
 pub every_rest : (test other : ℕ → Bool) (bs : List ℕ) → Every other bs → Every other (rest test bs)
 every_rest test other bs h = every_right other (front test bs) (rest test bs) (ap (list_all other) (front_then_rest test bs) ∙ h)
+
+-- bytes that pass, and others that begin with none that does, are split in one way
+pub one_split : (test : ℕ → Bool) (xs ys after behind : List ℕ) → Every test xs → Every test ys → is_end_or (λ b. not (test b)) after ≡ true → is_end_or (λ b. not (test b)) behind ≡ true
+    → xs ++ after ≡ ys ++ behind → (xs ≡ ys) × (after ≡ behind)
+one_split test xs ys after behind h k a b e = (
+  sym (front_append test xs after h a) ∙ ap (front test) e ∙ front_append test ys behind k b,
+  sym (rest_append test xs after h a) ∙ ap (rest test) e ∙ rest_append test ys behind k b,
+)
+
+-- each of some digits is one
+pub every_digit : (digits : List ℕ) → AreDigits digits → Every is_digit digits
+every_digit [] h = refl
+every_digit (d ∷ ds) h = h
+
+-- each byte of a word may stand in one
+pub every_word_byte : (word : List ℕ) → IsWord word → Every is_word_byte word
+every_word_byte [] h = refl
+every_word_byte (b ∷ bs) h = h

@@ -1,4 +1,5 @@
 pub mod Boxes
+pub mod FirstWords
 pub mod Fronts
 pub mod Kept
 pub mod Lengths

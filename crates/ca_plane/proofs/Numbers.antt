@@ -1,7 +1,9 @@
 -- The number that digits write.
-use Rattle.std.proofs.Common.{◌≡◌, ℕ, ◌+◌, ◌-◌, ◌*◌, ◌<◌, List, [], ◌∷◌, ◌++◌, length, take, get_or, refl, ap, ◌∙◌}
+use Rattle.std.proofs.Common.{◌≡◌, ℕ, zero, suc, ◌+◌, ◌-◌, ◌*◌, ◌^◌, ◌<◌, min, List, [], ◌∷◌, ◌++◌, length, take, get_or, refl, ap, ◌∙◌, arith, w64, to_z, of_z}
+use Rattle.std.specs.Prelude.{ℤ, pos, neg_ℤ, negsuc, ◌+ℤ◌, ◌-ℤ◌, ◌≤ℤ◌, ◌<ℤ◌, FitsSigned}
+use Rattle.std.proofs.lemmas.Int.{ints, to_z-of_z}
 use Rattle.std.proofs.lemmas.List.{take_more}
-use Rattle.ca_plane.specs.Bytes.{value_from, value}
+use Rattle.ca_plane.specs.Bytes.{value_from, value, nearest_i64}
 
 -- digits behind digits go on from the number of those
 pub value_from-append : (n : ℕ) (ds es : List ℕ) → value_from n (ds ++ es) ≡ value_from (value_from n ds) es
@@ -15,3 +17,25 @@ value_more ds i h = ap value (take_more ds i 0 h) ∙ value_from-append 0 (take 
 -- the number that digits behind digits write
 pub value-append : (ds es : List ℕ) → value (ds ++ es) ≡ value_from (value ds) es
 value-append ds es = value_from-append 0 ds es
+
+-- an integer from -2^63 to 2^63 - 1 reads as itself
+reads : (n : ℤ) → neg_ℤ (pos (2 ^ 63)) ≤ℤ n → n <ℤ pos (2 ^ 63) → to_z w64 (of_z w64 n) ≡ n
+reads n low high =
+    let fits : FitsSigned w64 n = omega (arith, ints) in
+    to_z-of_z w64 n fits
+
+-- a number that is kept to 64 bits is as near as the number itself
+pub nearest_plus : (v n : ℕ) (i : ℤ) → n ≡ min v (2 ^ 64 - 1) → i ≡ nearest_i64 (pos 0 +ℤ pos n) → to_z w64 (of_z w64 i) ≡ nearest_i64 (pos v)
+nearest_plus v n i e f =
+    let same : i ≡ pos (min v (2 ^ 63 - 1)) = f ∙ ap pos (omega arith) in
+    reads i (omega (arith, ints)) (omega (arith, ints)) ∙ same
+
+-- and so is its negative
+pub nearest_minus : (v n : ℕ) (i : ℤ) → n ≡ min v (2 ^ 64 - 1) → i ≡ nearest_i64 (pos 0 -ℤ pos n) → to_z w64 (of_z w64 i) ≡ nearest_i64 (neg_ℤ (pos v))
+nearest_minus zero zero i e f = reads i (omega (arith, ints)) (omega (arith, ints)) ∙ f
+nearest_minus zero (suc n) i e f = absurd (omega arith)
+nearest_minus (suc v) zero i e f = absurd (omega arith)
+nearest_minus (suc v) (suc n) i e f =
+    let less : pos 0 -ℤ pos (suc n) ≡ negsuc n = omega (arith, ints) in
+    let same : i ≡ negsuc (min v (2 ^ 63 - 1)) = f ∙ ap nearest_i64 less ∙ ap negsuc (omega arith) in
+    reads i (omega (arith, ints)) (omega (arith, ints)) ∙ same

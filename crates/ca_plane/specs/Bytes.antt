@@ -1,6 +1,7 @@
 -- Bytes, lines, words and numbers, as every format of the project reads them (our own choice where Golly Help is silent).
 use Rattle.std.specs.Prelude.{◌≡◌, ℕ, ◌+◌, ◌-◌, ◌*◌, ℤ, pos, neg_ℤ, List, [], ◌∷◌, Bool, true, false, not, ◌&&◌, ◌||◌, ◌==◌, nat_le, IsTrue, if◌then◌else◌, ◌⊎◌}
 use Rattle.std.specs.List.{list_all}
+use Rattle.std.specs.Int.{w64, saturate_signed}
 
 -- a blank is a space, a tab or a CR
 abbrev pub is_blank : ℕ → Bool
@@ -82,3 +83,7 @@ abbrev pub IsInteger : List ℕ → ℤ → Type 0
 IsInteger bytes n =
     (AreDigits bytes × (n ≡ pos (value bytes)))
     ⊎ ((digits : List ℕ) × (bytes ≡ 45 ∷ digits) × AreDigits digits × (n ≡ neg_ℤ (pos (value digits))))
+
+-- the `i64` that is nearest to an integer: the integer itself, where it is one
+abbrev pub nearest_i64 : ℤ → ℤ
+nearest_i64 n = saturate_signed w64 n

@@ -9,9 +9,10 @@ ghost use Rattle.ca_claims.specs.Reading.{IsKind, IsReading, SaysNext, HasFault,
 
 use super::named::NamedClaim;
 use super::paths::Paths;
-use super::words::{LineKind, line_kind, next_line};
+use super::words::{LineKind, line_kind};
 use super::{ClaimKind, ClaimLine, Claims};
 use crate::ClaimFault;
+use ca_plane::bytes::next_line;
 use std::alloc::Global;
 use std::collections::HashMap;
 

@@ -6,37 +6,8 @@ ghost use Rattle.ca_claims.specs.Text.{Claim, Claims, WordsSay, is_skipped};
 ghost use Rattle.ca_claims.specs.Reading.{IsKind, MakesClaim};
 
 use super::named::NamedClaim;
-use super::numbers::{integer_of, number_of};
-use ca_plane::bytes::{split_blanks, split_line, split_word};
-
-/// The first line of bytes that aren't empty, without its LF, and the bytes behind that.
-pub(crate) fn next_line(bytes: &[u8]) -> (&[u8], &[u8])
-    requires { 0 < length bytes.now }
-    ensures lines { lines_of bytes.now ≡ result.0.now ∷ lines_of result.1.now }
-    ensures line { Every (λ b. not (is_line_end b)) result.0.now }
-    ensures shorter { length result.1.now < length bytes.now }
-{
-    let (line, later) = split_line(bytes);
-    match later.split_first() {
-        Some((_, later)) => (line, later),
-        None => (line, later),
-    }
-}
-
-/// The first word of a line's bytes, and the bytes behind it.
-fn next_word(bytes: &[u8]) -> Option<(&[u8], &[u8])>
-    requires { Every (λ b. not (is_line_end b)) bytes.now }
-    ensures words { MatchOption result (words_of bytes.now ≡ []) (λ w. words_of bytes.now ≡ w.0.now ∷ words_of w.1.now) }
-    ensures word { IfSome result (λ w. 0 < length w.0.now) }
-    ensures line { IfSome result (λ w. Every (λ b. not (is_line_end b)) w.1.now) }
-{
-    let (_, bytes) = split_blanks(bytes);
-    let (word, bytes) = split_word(bytes);
-    if word.is_empty() {
-        return None;
-    }
-    Some((word, bytes))
-}
+use super::numbers::integer_of;
+use ca_plane::bytes::{next_word, whole_number};
 
 /// The word of a line's bytes, where they have one and no other.
 fn one_word(bytes: &[u8]) -> Option<&[u8]>
@@ -172,7 +143,7 @@ fn oscillator(words: &[u8]) -> Option<NamedClaim<'_>>
     ensures { MatchOption result ((c : Claim) → WordsSay (codes "oscillator" ∷ words_of words.now) (Claims c) → ⊥) (λ c. MakesClaim (codes "oscillator" ∷ words_of words.now) c) }
 {
     let (name, period) = two_words(words)?;
-    let period = number_of(period)?;
+    let period = whole_number(period)?;
     Some(NamedClaim::Oscillator { name, period })
 }
 
@@ -182,7 +153,7 @@ fn spaceship(words: &[u8]) -> Option<NamedClaim<'_>>
     ensures { MatchOption result ((c : Claim) → WordsSay (codes "spaceship" ∷ words_of words.now) (Claims c) → ⊥) (λ c. MakesClaim (codes "spaceship" ∷ words_of words.now) c) }
 {
     let (name, period, dx, dy) = four_words(words)?;
-    let period = number_of(period)?;
+    let period = whole_number(period)?;
     let dx = integer_of(dx)?;
     let dy = integer_of(dy)?;
     Some(NamedClaim::Spaceship {
@@ -199,7 +170,7 @@ fn becomes(words: &[u8]) -> Option<NamedClaim<'_>>
     ensures { MatchOption result ((c : Claim) → WordsSay (codes "becomes" ∷ words_of words.now) (Claims c) → ⊥) (λ c. MakesClaim (codes "becomes" ∷ words_of words.now) c) }
 {
     let (name, generations, other) = three_words(words)?;
-    let generations = number_of(generations)?;
+    let generations = whole_number(generations)?;
     Some(NamedClaim::Becomes {
         name,
         generations,

@@ -1,10 +1,11 @@
-use Rattle.std.proofs.Common.{◌≡◌, ◌<◌, [], ◌∷◌, not, length, sym, ap, ◌∙◌, arith}
+use Rattle.std.proofs.Common.{◌≡◌, ◌<◌, [], ◌∷◌, ◌++◌, not, length, sym, ap, ◌∙◌, arith}
 use Rattle.std.specs.List.{list_all}
 use Rattle.std.proofs.lemmas.Bool.{eqb-true, eqb-false}
 use Rattle.std.proofs.lemmas.List.{nil_from_length}
 use Rattle.ca_plane.specs.Bytes.{front, rest, is_blank, is_word_byte, is_line_end, words_of}
-use Rattle.ca_rle.proofs.FirstWords.{no_word, word_before, line_after, fewer}
-use Rattle.ca_rle.proofs.front.words.next_word.Goals as goal
+use Rattle.ca_plane.proofs.Fronts.{front_then_rest, every_front}
+use Rattle.ca_plane.proofs.FirstWords.{no_word, word_before, word_from, line_after, fewer_behind_word}
+use Rattle.ca_plane.proofs.bytes.next_word.Goals as goal
 
 pub returns-then-is_empty-clause-words : goal.returns-then-is_empty-clause-words
 returns-then-is_empty-clause-words c =
@@ -32,5 +33,20 @@ returns-clause-shorter c =
     let ne = eqb-false (length c.split_word.result.0.now) 0 (sym c.is_empty.ensures ∙ c.if-is_empty.false) in
     let long = ap length word in
     let behind = ap length more in
-    let less = fewer c.args.bytes.now (omega arith) in
+    let less = fewer_behind_word c.args.bytes.now (omega arith) in
     omega arith
+
+pub returns-clause-word : goal.returns-clause-word
+returns-clause-word c =
+    let ne = eqb-false (length c.split_word.result.0.now) 0 (sym c.is_empty.ensures ∙ c.if-is_empty.false) in
+    word_from _ (omega arith) (ap (list_all is_word_byte) c.split_word.ensures.front ∙ every_front is_word_byte c.split_blanks.result.1.now)
+
+pub returns-clause-spelled : goal.returns-clause-spelled
+returns-clause-spelled c =
+    let blanks = c.split_blanks.ensures in
+    let word = c.split_word.ensures in (
+      front is_blank c.args.bytes.now,
+      every_front is_blank c.args.bytes.now,
+      sym (front_then_rest is_blank c.args.bytes.now)
+          ∙ ap (λ l. front is_blank c.args.bytes.now ++ l) (sym blanks.rest ∙ sym (front_then_rest is_word_byte c.split_blanks.result.1.now) ∙ ap (λ l. l ++ rest is_word_byte c.split_blanks.result.1.now) (sym word.front) ∙ ap (λ l. c.split_word.result.0.now ++ l) (sym word.rest)),
+    )

@@ -3,8 +3,8 @@ use Rattle.std.specs.List.{list_all}
 use Rattle.ca_plane.specs.Bytes.{is_line_end, lines_of}
 use Rattle.ca_plane.proofs.Fronts.{every_front}
 use Rattle.std.proofs.lemmas.List.{nil_from_length}
-use Rattle.ca_claims.proofs.LineWords.{line_before, line_alone, fewer}
-use Rattle.ca_claims.proofs.claims.words.next_line.Goals as goal
+use Rattle.ca_plane.proofs.FirstWords.{line_before, line_alone, fewer_behind_line}
+use Rattle.ca_plane.proofs.bytes.next_line.Goals as goal
 
 pub returns-in-Some-clause-lines : goal.returns-in-Some-clause-lines
 returns-in-Some-clause-lines c =
@@ -16,7 +16,7 @@ returns-in-Some-clause-line c = ap (list_all (λ b. not (is_line_end b))) c.spli
 
 pub returns-in-Some-clause-shorter : goal.returns-in-Some-clause-shorter
 returns-in-Some-clause-shorter c =
-    fewer (λ b. not (is_line_end b)) c.args.bytes.now c.in-Some.field-0-0.now c.in-Some.later.now (sym c.split_line.ensures.rest ∙ c.in-Some.ensures.cases.0)
+    fewer_behind_line (λ b. not (is_line_end b)) c.args.bytes.now c.in-Some.field-0-0.now c.in-Some.later.now (sym c.split_line.ensures.rest ∙ c.in-Some.ensures.cases.0)
 
 pub returns-in-None-clause-lines : goal.returns-in-None-clause-lines
 returns-in-None-clause-lines c =

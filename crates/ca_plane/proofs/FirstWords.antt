@@ -1,9 +1,29 @@
--- The first word of a line's bytes, and the bytes behind it.
-use Rattle.std.proofs.Common.{◌≡◌, ℕ, ◌<◌, Bool, true, not, List, [], ◌∷◌, ◌++◌, length, refl, sym, ap, ◌∙◌, arith}
+-- The first line of bytes, and the first word of a line, as they are split off.
+use Rattle.std.proofs.Common.{◌≡◌, ◌≢◌, ℕ, suc, ◌<◌, Bool, true, not, List, [], ◌∷◌, ◌++◌, length, refl, sym, ap, ◌∙◌, arith}
 use Rattle.std.proofs.lemmas.Bool.{both_ways, not-true}
-use Rattle.ca_plane.specs.Bytes.{Every, front, rest, is_end_or, is_line_end, is_blank, is_word_byte, IsWord, words_of}
+use Rattle.std.proofs.lemmas.List.{append-nil}
+use Rattle.ca_plane.specs.Bytes.{Every, front, rest, is_end_or, is_line_end, is_blank, is_word_byte, IsWord, lines_of, words_of}
 use Rattle.ca_plane.proofs.Fronts.{front_then_rest, every_front, every_rest, rest_ends, front_length}
-use Rattle.ca_plane.proofs.Lines.{words_behind_blanks, words_ahead, ends_by_blank}
+use Rattle.ca_plane.proofs.Lines.{lines_at_end, lines_at_last, line_ends_by_lf, words_behind_blanks, words_ahead, ends_by_blank}
+
+-- the line that ends before more bytes
+pub line_before : (bytes : List ℕ) (b : ℕ) (more : List ℕ) → rest (λ b. not (is_line_end b)) bytes ≡ b ∷ more → lines_of bytes ≡ front (λ b. not (is_line_end b)) bytes ∷ lines_of more
+line_before bytes b more e = lines_at_end bytes more (e ∙ ap (λ c. c ∷ more) (line_ends_by_lf b bytes more e))
+
+-- the bytes behind a line are fewer
+pub fewer_behind_line : (test : ℕ → Bool) (bytes : List ℕ) (b : ℕ) (more : List ℕ) → rest test bytes ≡ b ∷ more → length more < length bytes
+fewer_behind_line test bytes b more e =
+    let whole = front_length test bytes in
+    let behind : length (rest test bytes) ≡ suc (length more) = ap length e in
+    omega arith
+
+-- the only line
+pub line_alone : (bytes : List ℕ) → 0 < length bytes → rest (λ b. not (is_line_end b)) bytes ≡ [] → lines_of bytes ≡ front (λ b. not (is_line_end b)) bytes ∷ []
+line_alone bytes some e =
+    let line = front (λ b. not (is_line_end b)) bytes in
+    let whole : bytes ≡ line = sym (front_then_rest (λ b. not (is_line_end b)) bytes) ∙ ap (λ l. line ++ l) e ∙ append-nil line in
+    let ne : bytes ≢ [] = λ none. let h = ap length none in omega arith in
+    lines_at_last bytes ne e ∙ ap (λ l. l ∷ []) whole
 
 -- what begins a list both as a test says and as it denies is no byte
 no_byte : (test : ℕ → Bool) (bytes : List ℕ) → is_end_or test bytes ≡ true → is_end_or (λ b. not (test b)) bytes ≡ true → bytes ≡ []
@@ -51,5 +71,5 @@ module _ (bytes : List ℕ) (line : Every (λ b. not (is_line_end b)) bytes) whe
       words_behind ∙ ap words_of empty
 
 -- the bytes behind a word are fewer
-pub fewer : (bytes : List ℕ) → 0 < length (front is_word_byte (rest is_blank bytes)) → length (rest is_word_byte (rest is_blank bytes)) < length bytes
-fewer bytes some = omega (arith, front_length is_blank bytes, front_length is_word_byte (rest is_blank bytes))
+pub fewer_behind_word : (bytes : List ℕ) → 0 < length (front is_word_byte (rest is_blank bytes)) → length (rest is_word_byte (rest is_blank bytes)) < length bytes
+fewer_behind_word bytes some = omega (arith, front_length is_blank bytes, front_length is_word_byte (rest is_blank bytes))
