@@ -15,7 +15,7 @@ use Rattle.ca_rle.specs.Header.{IsHeader, is_comment, extended_words, Said, Says
 use Rattle.ca_rle.specs.File.{File, IsLine, ended, IsPreamble, corner_of, generation_of, IsHeaded, IsFile}
 use Rattle.ca_rle.specs.Faults.{behind_white, letter_fault, tag_fault, count_fault, item_fault, HasBadWord, HasBadItem, IsFirstFault}
 use Rattle.ca_rle.specs.Reading.{HasBadUnit}
-use Rattle.ca_rle.proofs.Passing.{front_rest, Every-front}
+use Rattle.ca_plane.proofs.Fronts.{front_then_rest, every_front}
 use Rattle.ca_rle.proofs.OneHeader.{no_comment}
 use Rattle.ca_rle.proofs.GoodItem.{IsItemOrEnd, good_item_or_end}
 use Rattle.ca_rle.proofs.WordOrFault.{all_say_or_bad}
@@ -196,14 +196,14 @@ ends_by_lf bytes (b ∷ bs) e = rw (line_ends_by_lf b bytes bs e) refl
 first_split : (bytes : List ℕ) (lines : List (List ℕ)) (said : List Said) (left more : List ℕ) → IsPreamble lines said → bytes ≡ flat_map ended lines ++ left → rest in_line left ≡ more → Splits bytes lines said (front in_line left) more
 first_split bytes lines said left more p e r = record {
   preamble = p;
-  line_is = Every-front in_line left;
+  line_is = every_front in_line left;
   line_ends = ends_by_lf left more r;
-  spelled = e ∙ ap (λ (l : List ℕ). flat_map ended lines ++ l) (front_rest in_line left ∙ ap (λ (l : List ℕ). front in_line left ++ l) r);
+  spelled = e ∙ ap (λ (l : List ℕ). flat_map ended lines ++ l) (sym (front_then_rest in_line left) ∙ ap (λ (l : List ℕ). front in_line left ++ l) r);
 }
 
 rest_length : (left more : List ℕ) (b : ℕ) → rest in_line left ≡ b ∷ more → length more < length left
 rest_length left more b e =
-    let whole = ap (λ (l : List ℕ). length l) (front_rest in_line left ∙ ap (λ (l : List ℕ). front in_line left ++ l) e) ∙ length-append (front in_line left) (b ∷ more) in
+    let whole = ap (λ (l : List ℕ). length l) (sym (front_then_rest in_line left) ∙ ap (λ (l : List ℕ). front in_line left ++ l) e) ∙ length-append (front in_line left) (b ∷ more) in
     omega arith
 
 -- a comment whose words are good is followed by a text that is judged, or is the last

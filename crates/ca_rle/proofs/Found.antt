@@ -6,7 +6,7 @@ use Rattle.ca_rle.specs.declared.item.Item.{Item}
 use Rattle.ca_rle.specs.declared.item.Tag.{Tag}
 use Rattle.ca_rle.specs.Items.{Place, AtStart, InLine, InComment, is_white_from, tag_of, is_prefix, IsCount, IsItem, Run, IsEnd, Items}
 use Rattle.ca_rle.specs.Faults.{behind_white}
-use Rattle.ca_rle.proofs.Passing.{front_rest, Every-front}
+use Rattle.ca_plane.proofs.Fronts.{front_then_rest, every_front}
 use Rattle.ca_rle.proofs.ItemAt.{with_rest, tag_at, count_of, counted, item_at}
 
 -- ---- white space
@@ -93,9 +93,9 @@ found_behind bytes (c ∷ cs) i more e h pos =
     let digits = front is_digit (c ∷ cs) in
     let letters = tag_found _ i.tag more read.0 in
     let inner = behind_follows InLine (rest is_digit (c ∷ cs)) letters.0 (letters.1 ++ more) letters.3 in
-    let whole : bytes ≡ outer.0 ++ (digits ++ (inner.0 ++ (letters.0 ∷ letters.1 ++ more))) = outer.2 ∙ ap (λ (l : List ℕ). outer.0 ++ l) (front_rest is_digit (c ∷ cs) ∙ ap (λ (l : List ℕ). digits ++ l) inner.2) in (
+    let whole : bytes ≡ outer.0 ++ (digits ++ (inner.0 ++ (letters.0 ∷ letters.1 ++ more))) = outer.2 ∙ ap (λ (l : List ℕ). outer.0 ++ l) (sym (front_then_rest is_digit (c ∷ cs)) ∙ ap (λ (l : List ℕ). digits ++ l) inner.2) in (
       outer.0 ++ (digits ++ (inner.0 ++ letters.0 ∷ letters.1)),
-      (outer.0, digits, inner.0, letters.0 ∷ letters.1, outer.1, count_found digits i.count (Every-front is_digit (c ∷ cs)) read.1 pos, inner.1, letters.2, refl),
+      (outer.0, digits, inner.0, letters.0 ∷ letters.1, outer.1, count_found digits i.count (every_front is_digit (c ∷ cs)) read.1 pos, inner.1, letters.2, refl),
       whole ∙ regroup outer.0 digits inner.0 (letters.0 ∷ letters.1) more,
     )
 

@@ -11,7 +11,7 @@ use Rattle.ca_rle.specs.declared.item.Tag.{Tag}
 use Rattle.ca_rle.specs.declared.item.Tag.TheVariants.{Cell}
 use Rattle.ca_rle.specs.Items.{InLine, is_letter, is_prefix, prefixed_state, tag_of, Run, IsEnd}
 use Rattle.ca_rle.specs.Faults.{behind_white, letter_fault, tag_fault, count_fault, item_fault}
-use Rattle.ca_rle.proofs.Passing.{front_rest}
+use Rattle.ca_plane.proofs.Fronts.{front_then_rest}
 use Rattle.ca_rle.proofs.White.{Stops_above, behind_white_is}
 use Rattle.ca_rle.proofs.ItemAt.{tag_byte, tag_at_is, count_of, item_at}
 use Rattle.ca_rle.proofs.Found.{end_found, run_found}
@@ -80,7 +80,7 @@ above_0 n h = grind (arith, nat_tests)
 read_unit : (bytes digits after : List ℕ) → front is_digit (behind_white InLine bytes) ≡ digits → rest is_digit (behind_white InLine bytes) ≡ after → count_fault digits after ≡ None → IsItemOrEnd bytes
 read_unit bytes [] after d a = λ e.
     elim (good_tag false after e) [
-      | inl end ↦ inr (end_found bytes end.1.0 (front_rest is_digit (behind_white InLine bytes) ∙ ap (λ (l : List ℕ). l ++ rest is_digit (behind_white InLine bytes)) d ∙ a ∙ end.1.1))
+      | inl end ↦ inr (end_found bytes end.1.0 (sym (front_then_rest is_digit (behind_white InLine bytes)) ∙ ap (λ (l : List ℕ). l ++ rest is_digit (behind_white InLine bytes)) d ∙ a ∙ end.1.1))
       | inr tag ↦ read_tag bytes 1 (omega arith) (ap count_of d) (subst BeginsTag (sym (at_tag after tag) ∙ ap (behind_white InLine) (sym a)) tag)
     ]
 read_unit bytes (c ∷ cs) after d a =

@@ -5,15 +5,14 @@ use Rattle.std.proofs.lemmas.Bool.{and_parts, and_from, eqb-true, eqb-false}
 use Rattle.std.proofs.lemmas.List.{nil_from_length}
 use Rattle.std.proofs.lemmas.Option.{same_Some}
 use Rattle.ca_plane.specs.Bytes.{is_blank, is_line_end, is_word_byte, front, rest, is_end_or}
-use Rattle.ca_plane.proofs.Fronts.{every_front, every_right, every_rest, rest_ends}
 use Rattle.ca_plane.proofs.Lines.{ends_by_blank}
 use Rattle.ca_rle.specs.Header.{Part, Exactly, size_parts, rule_parts, IsHeader}
 use Rattle.ca_rle.specs.HeaderParts.{strip, part_left, parts_left}
 use Rattle.ca_rle.specs.File.{IsLine}
-use Rattle.ca_rle.proofs.Passing.{front_rest}
+use Rattle.ca_plane.proofs.Fronts.{every_front, every_right, every_rest, rest_ends, front_then_rest}
 use Rattle.ca_rle.proofs.Headers.{strip_is, strip_found, then_some_of, parts_found, spaced_found, header_found, has_more, no_header}
 use Rattle.ca_rle.proofs.OneHeader.{parts_append}
-use Rattle.ca_rle.proofs.FirstWords.{word_from}
+use Rattle.ca_plane.proofs.FirstWords.{word_from}
 
 -- ---- parts
 
@@ -95,6 +94,6 @@ module _ (line behind text : List ℕ) (l : IsLine line) (sizes : parts_left (si
   rule_there some =
       let ne = eqb-false (length (front is_word_byte text)) 0 some in
       let long : 0 < length (front is_word_byte text) = omega arith in
-      header_found line (front is_word_byte text) (rest is_word_byte text) (all_left ∙ ap Some (front_rest is_word_byte text))
+      header_found line (front is_word_byte text) (rest is_word_byte text) (all_left ∙ ap Some (sym (front_then_rest is_word_byte text)))
       (word_from (front is_word_byte text) long (every_front is_word_byte text))
       (ends_by_blank (rest is_word_byte text) (every_rest is_word_byte (λ b. not (is_line_end b)) text text_is_line) (rest_ends is_word_byte text))

@@ -8,7 +8,7 @@ use Rattle.ca_plane.specs.Bytes.{Every, is_blank, is_line_end, is_digit, is_word
 use Rattle.ca_rle.specs.Header.{Part, Exactly, Number, IsPart, IsSpaced, size_parts, rule_parts, IsHeader}
 use Rattle.ca_rle.specs.HeaderParts.{strip, left_behind, part_left, parts_left}
 use Rattle.ca_rle.specs.File.{IsLine}
-use Rattle.ca_rle.proofs.Passing.{Every-mono, Every-front, front_is, rest_is, front_rest}
+use Rattle.ca_plane.proofs.Fronts.{every_wider, every_front, front_append, rest_append, front_then_rest}
 
 -- pieces one after another, each behind its blanks
 abbrev pub joined : List (List ℕ × List ℕ) → List ℕ → List ℕ
@@ -26,11 +26,11 @@ spaced (p ∷ ps) [] last h b = absurd h
 
 pub digits_are_line : (digits : List ℕ) → AreDigits digits → IsLine digits
 digits_are_line [] h = refl
-digits_are_line (d ∷ ds) h = Every-mono is_digit (λ b. not (is_line_end b)) (d ∷ ds) (λ b t. grind (arith, nat_tests)) h
+digits_are_line (d ∷ ds) h = every_wider is_digit (λ b. not (is_line_end b)) (λ b t. grind (arith, nat_tests)) (d ∷ ds) h
 
 pub word_is_line : (word : List ℕ) → IsWord word → IsLine word
 word_is_line [] h = refl
-word_is_line (b ∷ bs) h = Every-mono is_word_byte (λ b. not (is_line_end b)) (b ∷ bs) (λ b t. (and_parts (not (is_blank b)) (not (is_line_end b)) t).1) h
+word_is_line (b ∷ bs) h = every_wider is_word_byte (λ b. not (is_line_end b)) (λ b t. (and_parts (not (is_blank b)) (not (is_line_end b)) t).1) (b ∷ bs) h
 
 -- ---- parts read from the front
 
@@ -74,18 +74,18 @@ opens_is (Exactly (c ∷ cs) ∷ ps) text more h (blanks, part, later, b, p, s, 
 
 digits_left : (digits more : List ℕ) → AreDigits digits → IsTrue (is_end_or (λ b. not (is_digit b)) more) → part_left Number (digits ++ more) ≡ Some more
 digits_left [] more d h = absurd cc
-digits_left (c ∷ cs) more d h = rw (front_is is_digit (c ∷ cs) more d h, rest_is is_digit (c ∷ cs) more d h)
+digits_left (c ∷ cs) more d h = rw (front_append is_digit (c ∷ cs) more d h, rest_append is_digit (c ∷ cs) more d h)
 
 digits_open : (digits after : List ℕ) → AreDigits digits → IsTrue (is_end_or (λ b. not (is_blank b)) (digits ++ after))
 digits_open [] after d = absurd cc
 digits_open (c ∷ cs) after d = no_blank_digit c (and_parts (is_digit c) (list_all is_digit cs) d).0
 
 part_step : (p : Part) (ps : List Part) (blanks part after : List ℕ) (more : List ℕ) → Every is_blank blanks → IsTrue (is_end_or (λ b. not (is_blank b)) (part ++ after)) → part_left p (part ++ after) ≡ Some after → parts_left ps after ≡ Some more → parts_left (p ∷ ps) (blanks ++ (part ++ after)) ≡ Some more
-part_step p ps blanks part after more b n l h = rw (rest_is is_blank blanks (part ++ after) b n, l) h
+part_step p ps blanks part after more b n l h = rw (rest_append is_blank blanks (part ++ after) b n, l) h
 
 -- what stands behind spaced parts is left by them
 pub parts_left_is : (ps : List Part) (text more : List ℕ) → IsTrue (are_clear ps more) → IsSpaced ps text → parts_left ps (text ++ more) ≡ Some more
-parts_left_is [] text more c s = ap Some (rest_is is_blank text more s c)
+parts_left_is [] text more c s = ap Some (rest_append is_blank text more s c)
 parts_left_is (Exactly [] ∷ ps) text more c s = absurd cc
 parts_left_is (Exactly (t ∷ ts) ∷ ps) text more c (blanks, part, later, b, p, s, e) =
     let tests = and_parts (not (is_blank t)) (are_clear ps more) c in
@@ -152,19 +152,19 @@ left_found (c ∷ cs) after more d e = (d, same_Some after more e)
 part_found : (p : Part) (bytes more : List ℕ) → part_left p bytes ≡ Some more → (part : List ℕ) × IsPart p part × (bytes ≡ part ++ more)
 part_found (Exactly text) bytes more e = (text, refl, strip_found text bytes more e)
 part_found Number bytes more e =
-    let f = left_found (front is_digit bytes) (rest is_digit bytes) more (Every-front is_digit bytes) e in
-    (front is_digit bytes, f.0, front_rest is_digit bytes ∙ ap (λ (l : List ℕ). front is_digit bytes ++ l) f.1)
+    let f = left_found (front is_digit bytes) (rest is_digit bytes) more (every_front is_digit bytes) e in
+    (front is_digit bytes, f.0, sym (front_then_rest is_digit bytes) ∙ ap (λ (l : List ℕ). front is_digit bytes ++ l) f.1)
 
 -- the parts stand in front of what they leave
 pub parts_found : (ps : List Part) (bytes more : List ℕ) → parts_left ps bytes ≡ Some more → (text : List ℕ) × IsSpaced ps text × (bytes ≡ text ++ more)
-parts_found [] bytes more e = (front is_blank bytes, Every-front is_blank bytes, front_rest is_blank bytes ∙ ap (λ (l : List ℕ). front is_blank bytes ++ l) (same_Some (rest is_blank bytes) more e))
+parts_found [] bytes more e = (front is_blank bytes, every_front is_blank bytes, sym (front_then_rest is_blank bytes) ∙ ap (λ (l : List ℕ). front is_blank bytes ++ l) (same_Some (rest is_blank bytes) more e))
 parts_found (p ∷ ps) bytes more e =
     let step = then_some_of (parts_left ps) (part_left p (rest is_blank bytes)) more e in
     let part = part_found p (rest is_blank bytes) step.0 step.1 in
     let others = parts_found ps step.0 more step.2 in
     let blanks = front is_blank bytes in
-    let whole : bytes ≡ blanks ++ (part.0 ++ (others.0 ++ more)) = front_rest is_blank bytes ∙ ap (λ (l : List ℕ). blanks ++ l) (part.2 ∙ ap (λ (l : List ℕ). part.0 ++ l) others.2) in
-    (blanks ++ (part.0 ++ others.0), (blanks, part.0, others.0, Every-front is_blank bytes, part.1, others.1, refl), whole ∙ simp append_assoc)
+    let whole : bytes ≡ blanks ++ (part.0 ++ (others.0 ++ more)) = sym (front_then_rest is_blank bytes) ∙ ap (λ (l : List ℕ). blanks ++ l) (part.2 ∙ ap (λ (l : List ℕ). part.0 ++ l) others.2) in
+    (blanks ++ (part.0 ++ others.0), (blanks, part.0, others.0, every_front is_blank bytes, part.1, others.1, refl), whole ∙ simp append_assoc)
 
 pub spaced_found : (ps : List Part) (line : List ℕ) → parts_left ps line ≡ Some [] → IsSpaced ps line
 spaced_found ps line e = let f = parts_found ps line [] e in subst (λ (l : List ℕ). IsSpaced ps l) (sym (f.2 ∙ append-nil f.0)) f.1

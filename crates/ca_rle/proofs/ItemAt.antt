@@ -8,7 +8,7 @@ use Rattle.ca_rle.specs.declared.item.Item.{Item}
 use Rattle.ca_rle.specs.declared.item.Tag.{Tag}
 use Rattle.ca_rle.specs.Items.{InLine, IsWhite, is_prefix, tag_of, IsCount, IsItem, IsEnd}
 use Rattle.ca_rle.specs.Faults.{behind_white}
-use Rattle.ca_rle.proofs.Passing.{front_is, rest_is}
+use Rattle.ca_plane.proofs.Fronts.{front_append, rest_append}
 use Rattle.ca_rle.proofs.White.{Stops, Stops_above, behind_white_is, IsWhite-append, no_digit_behind}
 
 -- ---- tags
@@ -82,16 +82,16 @@ item_parts before [] between letters more n t v c w e =
     let seen : behind_white InLine (before ++ (between ++ (letters ++ more))) ≡ letters ++ more = ap (behind_white InLine) (sym (append_assoc before between (letters ++ more))) ∙ behind_is_tag (before ++ between) letters more t (IsWhite-append before between v w) e in
     let ends = no_digit_tag letters more t e in
     record {
-      digits_are = rw seen (front_is is_digit [] (letters ++ more) refl ends);
-      letters_are = rw (seen, rest_is is_digit [] (letters ++ more) refl ends) (behind_is_tag [] letters more t refl e);
-      uncounted = λ _. ap (rest is_digit) seen ∙ rest_is is_digit [] (letters ++ more) refl ends;
+      digits_are = rw seen (front_append is_digit [] (letters ++ more) refl ends);
+      letters_are = rw (seen, rest_append is_digit [] (letters ++ more) refl ends) (behind_is_tag [] letters more t refl e);
+      uncounted = λ _. ap (rest is_digit) seen ∙ rest_append is_digit [] (letters ++ more) refl ends;
     }
 item_parts before (d ∷ ds) between letters more n t v c w e =
     let seen : behind_white InLine (before ++ (d ∷ ds ++ (between ++ (letters ++ more)))) ≡ d ∷ ds ++ (between ++ (letters ++ more)) = behind_white_is InLine before d (ds ++ (between ++ (letters ++ more))) (digit_stops d ds c.0) v in
     let ends = no_digit_behind between (letters ++ more) w (no_digit_tag letters more t e) in
     record {
-      digits_are = rw seen (front_is is_digit (d ∷ ds) (between ++ (letters ++ more)) c.0 ends);
-      letters_are = rw (seen, rest_is is_digit (d ∷ ds) (between ++ (letters ++ more)) c.0 ends) (behind_is_tag between letters more t w e);
+      digits_are = rw seen (front_append is_digit (d ∷ ds) (between ++ (letters ++ more)) c.0 ends);
+      letters_are = rw (seen, rest_append is_digit (d ∷ ds) (between ++ (letters ++ more)) c.0 ends) (behind_is_tag between letters more t w e);
       uncounted = λ h. absurd cc;
     }
 

@@ -1,15 +1,16 @@
 -- Numbers and places as the reader keeps them, and what words say of where a pattern starts.
-use Rattle.std.proofs.Common.{◌≡◌, ℕ, ◌<◌, ◌≤◌, ◌^◌, min, ℤ, pos, neg_ℤ, true, false, not, ◌==◌, eqb, leb, List, [], ◌∷◌, ◌++◌, length, Option, Some, None, MatchOption, inl, inr, ◌⊎◌, refl, sym, ap, subst, ◌∙◌, append_assoc, codes, nat_eq, arith}
+use Rattle.std.proofs.Common.{◌≡◌, ℕ, ◌<◌, ◌≤◌, ◌^◌, min, ℤ, pos, neg_ℤ, negsuc, suc, true, false, not, ◌==◌, eqb, leb, List, [], ◌∷◌, ◌++◌, length, Option, Some, None, MatchOption, inl, inr, ◌⊎◌, refl, sym, ap, subst, ◌∙◌, append_assoc, codes, nat_eq, arith}
 use mir.Syntax.{w64}
 use mir.Val.{to_z, of_z}
 use Rattle.std.specs.List.{AllZip, starts_with, list_all}
 use Rattle.std.proofs.lemmas.Bool.{cases_Bool, leb-true, leb-false, eqb-true}
 use Rattle.std.proofs.lemmas.Bool.Decides.{Decides-eqb}
-use Rattle.std.proofs.lemmas.Int.{ints}
+use Rattle.std.specs.Int.{int_min, int_max}
+use Rattle.std.proofs.lemmas.Int.{ints, int_min_is, int_max_is}
 use Rattle.std.proofs.lemmas.List.{append-nil}
 use Rattle.std.proofs.lemmas.Slice.Eq.{starts_is}
 use Rattle.ca_plane.specs.declared.point.Point.{Point}
-use Rattle.ca_plane.specs.Bytes.{is_digit, front, rest, AreDigits, IsInteger, value}
+use Rattle.ca_plane.specs.Bytes.{front, rest, IsInteger, nearest_i64}
 use Rattle.ca_rle.specs.declared.front.words.Start.{Start}
 use Rattle.ca_rle.specs.declared.fault.RleFault.{RleFault}
 use Rattle.ca_rle.specs.declared.fault.RleFault.TheVariants.{Syntax}
@@ -18,60 +19,34 @@ use Rattle.ca_rle.specs.File.{last_corner, last_generation}
 use Rattle.ca_rle.specs.Faults.{IsBadWord}
 use Rattle.ca_rle.specs.Reading.{KeepsCorner}
 use Rattle.ca_rle.specs.FrontParts.{KeepsNumber, Writes, WritesPair, IsStart, Leads, HasBadWordAmong}
-use Rattle.ca_rle.proofs.Passing.{front_is, rest_is, front_rest}
+use Rattle.ca_plane.proofs.Fronts.{front_append, rest_append, front_then_rest}
 use Rattle.ca_rle.proofs.OneHeader.{integer_has_no_comma}
 
 -- ---- numbers
 
--- digits are digits, where there are any
-pub digits_from : (ds : List ℕ) → list_all is_digit ds ≡ true → eqb (length ds) 0 ≡ false → AreDigits ds
-digits_from [] h more = absurd cc
-digits_from (d ∷ ds) h more = h
-
--- there are some digits
-pub some_digits : (ds : List ℕ) → eqb (length ds) 0 ≡ true → AreDigits ds → ⊥
-some_digits [] e h = absurd cc
-some_digits (d ∷ ds) e h = absurd (omega (arith, eqb-true _ _ e))
-
-keeps : (v : ℕ) (number kept : ℤ) → ((number ≡ pos v) × (kept ≡ pos (min v (2 ^ 61)))) ⊎ ((number ≡ neg_ℤ (pos v)) × (kept ≡ neg_ℤ (pos (min v (2 ^ 61))))) → (v ≤ 2 ^ 61) ⊎ (2 ^ 61 < v) → KeepsNumber number kept
-keeps v number kept (inl (e, f)) (inl h) = record { low = omega (arith, ints); high = omega (arith, ints); same = inl (omega (arith, ints)) }
-keeps v number kept (inl (e, f)) (inr h) = record { low = omega (arith, ints); high = omega (arith, ints); same = inr (λ n. absurd (omega (arith, ints, n.0, n.1)), λ n. absurd (omega (arith, ints, n.0, n.1))) }
-keeps v number kept (inr (e, f)) (inl h) = record { low = omega (arith, ints); high = omega (arith, ints); same = inl (omega (arith, ints)) }
-keeps v number kept (inr (e, f)) (inr h) = record { low = omega (arith, ints); high = omega (arith, ints); same = inr (λ n. absurd (omega (arith, ints, n.0, n.1)), λ n. absurd (omega (arith, ints, n.0, n.1))) }
+-- a number that is kept within 2^61
+keeps_near : (v : ℕ) (number kept : ℤ) → ((number ≡ pos v) × (kept ≡ pos (min v (2 ^ 61)))) ⊎ ((number ≡ neg_ℤ (pos v)) × (kept ≡ neg_ℤ (pos (min v (2 ^ 61))))) → (v ≤ 2 ^ 61) ⊎ (2 ^ 61 < v) → KeepsNumber number kept
+keeps_near v number kept (inl (e, f)) (inl h) = record { low = omega (arith, ints); high = omega (arith, ints); same = inl (omega (arith, ints)) }
+keeps_near v number kept (inl (e, f)) (inr h) = record { low = omega (arith, ints); high = omega (arith, ints); same = inr (λ n. absurd (omega (arith, ints, n.0, n.1)), λ n. absurd (omega (arith, ints, n.0, n.1))) }
+keeps_near v number kept (inr (e, f)) (inl h) = record { low = omega (arith, ints); high = omega (arith, ints); same = inl (omega (arith, ints)) }
+keeps_near v number kept (inr (e, f)) (inr h) = record { low = omega (arith, ints); high = omega (arith, ints); same = inr (λ n. absurd (omega (arith, ints, n.0, n.1)), λ n. absurd (omega (arith, ints, n.0, n.1))) }
 
 far_or_not : (v : ℕ) → (v ≤ 2 ^ 61) ⊎ (2 ^ 61 < v)
 far_or_not v = elim (cases_Bool (leb v (2 ^ 61))) [ inl e ↦ inl (leb-true v (2 ^ 61) e) | inr e ↦ inr (leb-false v (2 ^ 61) e) ]
 
--- digits write a number that is kept
-pub writes_digits : (bytes : List ℕ) (kept : ℤ) → AreDigits bytes → kept ≡ pos (min (value bytes) (2 ^ 61)) → Writes bytes kept
-writes_digits bytes kept d e = (pos (value bytes), inl (d, refl), keeps (value bytes) (pos (value bytes)) kept (inl (refl, e)) (far_or_not (value bytes)))
+-- the nearest number of 64 bits, kept within 2^61, keeps an integer
+clamped : (v : ℕ) (n i kept : ℤ) → i ≡ to_z w64 (of_z w64 i) → ((n ≡ pos v) × (int_max (neg_ℤ (pos (2 ^ 61))) (int_min i (pos (2 ^ 61))) ≡ pos (min v (2 ^ 61)))) ⊎ ((n ≡ neg_ℤ (pos v)) × (int_max (neg_ℤ (pos (2 ^ 61))) (int_min i (pos (2 ^ 61))) ≡ neg_ℤ (pos (min v (2 ^ 61)))))
+    → kept ≡ int_max (neg_ℤ (pos (2 ^ 61))) (int_min (to_z w64 (of_z w64 i)) (pos (2 ^ 61))) → KeepsNumber n kept
+clamped v n i kept r (inl (e, c)) f = keeps_near v n kept (inl (e, f ∙ ap (λ (m : ℤ). int_max (neg_ℤ (pos (2 ^ 61))) (int_min m (pos (2 ^ 61)))) (sym r) ∙ c)) (far_or_not v)
+clamped v n i kept r (inr (e, c)) f = keeps_near v n kept (inr (e, f ∙ ap (λ (m : ℤ). int_max (neg_ℤ (pos (2 ^ 61))) (int_min m (pos (2 ^ 61)))) (sym r) ∙ c)) (far_or_not v)
 
--- so do `-` and digits
-pub writes_minus : (bytes digits : List ℕ) (kept : ℤ) → bytes ≡ 45 ∷ digits → AreDigits digits → kept ≡ neg_ℤ (pos (min (value digits) (2 ^ 61))) → Writes bytes kept
-writes_minus bytes digits kept s d e =
-    (neg_ℤ (pos (value digits)), inr (digits, s, d, refl), keeps (value digits) (neg_ℤ (pos (value digits))) kept (inr (refl, e)) (far_or_not (value digits)))
-
--- `-` and no digits are no integer
-pub minus_alone : (bytes digits : List ℕ) → bytes ≡ 45 ∷ digits → (AreDigits digits → ⊥) → (n : ℤ) → IsInteger bytes n → ⊥
-minus_alone bytes digits s none n (inl (d, e)) = absurd (minus_digit digits (subst AreDigits s d))
-  where
-    minus_digit : (digits : List ℕ) → AreDigits (45 ∷ digits) → ⊥
-    minus_digit digits h = absurd cc
-minus_alone bytes digits s none n (inr (ds, t, d, e)) =
-    let same : ds ≡ digits = cc in
-    none (subst AreDigits same d)
-
--- what is neither digits nor `-` and digits is no integer
-no_integer : (bytes : List ℕ) → ((r : List ℕ) → bytes ≡ 45 ∷ r → ⊥) → (AreDigits bytes → ⊥) → (n : ℤ) → IsInteger bytes n → ⊥
-no_integer bytes minus none n (inl (d, e)) = none d
-no_integer bytes minus none n (inr (ds, t, d, e)) = minus ds t
-
--- digits write an integer, and what begins with no `-` writes one in no other way
-pub digits_write : (bytes : List ℕ) → ((r : List ℕ) → bytes ≡ 45 ∷ r → ⊥) → (found : Option ℤ)
-    → MatchOption found (AreDigits bytes → ⊥) (λ n. AreDigits bytes × (n ≡ pos (min (value bytes) (2 ^ 61))))
-    → MatchOption found ((n : ℤ) → IsInteger bytes n → ⊥) (λ n. Writes bytes n)
-digits_write bytes minus None h = λ n i. no_integer bytes minus h n i
-digits_write bytes minus (Some n) h = writes_digits bytes n h.0 h.1
+pub keeps_clamped : (n i kept : ℤ) → i ≡ nearest_i64 n → kept ≡ int_max (neg_ℤ (pos (2 ^ 61))) (int_min (to_z w64 (of_z w64 i)) (pos (2 ^ 61))) → KeepsNumber n kept
+keeps_clamped (pos v) i kept e f =
+    let c : int_max (neg_ℤ (pos (2 ^ 61))) (int_min i (pos (2 ^ 61))) ≡ pos (min v (2 ^ 61)) = omega (arith, ints, int_min_is i (pos (2 ^ 61)), int_max_is (neg_ℤ (pos (2 ^ 61))) (int_min i (pos (2 ^ 61)))) in
+    clamped v (pos v) i kept (omega (arith, ints)) (inl (refl, c)) f
+keeps_clamped (negsuc v) i kept e f =
+    let c : int_max (neg_ℤ (pos (2 ^ 61))) (int_min i (pos (2 ^ 61))) ≡ neg_ℤ (pos (min (suc v) (2 ^ 61))) = omega (arith, ints, int_min_is i (pos (2 ^ 61)), int_max_is (neg_ℤ (pos (2 ^ 61))) (int_min i (pos (2 ^ 61)))) in
+    clamped (suc v) (negsuc v) i kept (omega (arith, ints)) (inr (refl, c)) f
 
 -- ---- pairs
 
@@ -79,13 +54,13 @@ digits_write bytes minus (Some n) h = writes_digits bytes n h.0 h.1
 pub split_pair : (bytes a b : List ℕ) (x : ℤ) → bytes ≡ a ++ 44 ∷ b → IsInteger a x → (front (λ c. not (c == 44)) bytes ≡ a) × (rest (λ c. not (c == 44)) bytes ≡ 44 ∷ b)
 split_pair bytes a b x e h =
     let clear = integer_has_no_comma a x h in
-    (ap (front (λ c. not (c == 44))) e ∙ front_is (λ c. not (c == 44)) a (44 ∷ b) clear refl, ap (rest (λ c. not (c == 44))) e ∙ rest_is (λ c. not (c == 44)) a (44 ∷ b) clear refl)
+    (ap (front (λ c. not (c == 44))) e ∙ front_append (λ c. not (c == 44)) a (44 ∷ b) clear refl, ap (rest (λ c. not (c == 44))) e ∙ rest_append (λ c. not (c == 44)) a (44 ∷ b) clear refl)
 
 -- the pair is that of the numbers on both sides of the first comma, as they were read
 pub writes_pair : (bytes behind : List ℕ) (p : Point) → rest (λ c. not (c == 44)) bytes ≡ 44 ∷ behind → Writes (front (λ c. not (c == 44)) bytes) p.x → Writes behind p.y → WritesPair bytes p
 writes_pair bytes behind p e x y =
     let before = front (λ c. not (c == 44)) bytes in
-    (before, behind, front_rest (λ c. not (c == 44)) bytes ∙ ap (λ (l : List ℕ). before ++ l) e, x, y)
+    (before, behind, sym (front_then_rest (λ c. not (c == 44)) bytes) ∙ ap (λ (l : List ℕ). before ++ l) e, x, y)
 
 -- a number is kept in 64 bits
 pub kept_in_bits : (bytes : List ℕ) (n m : ℤ) → Writes bytes n → m ≡ to_z w64 (of_z w64 n) → Writes bytes m

@@ -1,4 +1,3 @@
-pub mod Passing
 pub mod White
 pub mod ItemAt
 pub mod OneList
@@ -33,7 +32,6 @@ pub mod Ranges
 pub mod Prefixes
 pub mod Pictured
 pub mod Judged
-pub mod FirstWords
 pub mod Kept
 pub mod Preambles
 pub mod HeaderLines
@@ -47,3 +45,4 @@ pub mod StatesOf
 pub mod Laid
 pub mod ItemTexts
 pub mod WholeTexts
+pub mod FileParts

@@ -4,11 +4,10 @@ use Rattle.std.specs.List.{AllByRecursion, list_all}
 use Rattle.std.proofs.lemmas.Bool.{and_parts, and_from, cases_Bool}
 use Rattle.std.proofs.lemmas.Option.{same_Some}
 use Rattle.ca_plane.specs.Bytes.{Every, is_blank, is_line_end, is_word_byte, is_end_or, front, rest, IsWord, without_cr}
-use Rattle.ca_plane.proofs.Fronts.{rest_ends, every_right, every_rest}
 use Rattle.ca_plane.proofs.Lines.{ends_by_blank}
 use Rattle.ca_rle.specs.Header.{Part, size_parts, rule_parts, IsHeader, IsXlifeLine}
 use Rattle.ca_rle.specs.File.{IsLine}
-use Rattle.ca_rle.proofs.Passing.{front_rest, Every-front, rest_is}
+use Rattle.ca_plane.proofs.Fronts.{rest_ends, every_right, every_rest, front_then_rest, every_front, rest_append}
 use Rattle.ca_rle.specs.HeaderParts.{parts_left, part_left}
 use Rattle.ca_rle.proofs.Headers.{has_more, no_header, parts_found, spaced_found, header_found}
 
@@ -33,9 +32,9 @@ word_left line b bs h e =
     let found = parts_found (size_parts rule_parts) line (b ∷ bs) e in
     let left : IsLine (b ∷ bs) = every_right (λ c. not (is_line_end c)) found.0 (b ∷ bs) (subst IsLine found.2 h) in
     let byte : is_word_byte b ≡ true = and_from (not (is_blank b)) (not (is_line_end b)) (no_blank_left (size_parts rule_parts) (b ∷ bs) line e) (and_parts (not (is_line_end b)) (list_all (λ c. not (is_line_end c)) bs) left).0 in
-    let word = word_front b (front is_word_byte bs) (is_word_byte b) refl byte (Every-front is_word_byte bs) in
+    let word = word_front b (front is_word_byte bs) (is_word_byte b) refl byte (every_front is_word_byte bs) in
     let ends = ends_by_blank (rest is_word_byte (b ∷ bs)) (every_rest is_word_byte (λ c. not (is_line_end c)) (b ∷ bs) left) (rest_ends is_word_byte (b ∷ bs)) in
-    header_found line (front is_word_byte (b ∷ bs)) (rest is_word_byte (b ∷ bs)) (e ∙ ap Some (front_rest is_word_byte (b ∷ bs))) word ends
+    header_found line (front is_word_byte (b ∷ bs)) (rest is_word_byte (b ∷ bs)) (e ∙ ap Some (sym (front_then_rest is_word_byte (b ∷ bs)))) word ends
 
 -- a line is a header, or none
 abbrev pub HeaderOrNot : List ℕ → Type 0
@@ -76,10 +75,10 @@ xlife_begins (a ∷ b ∷ c ∷ cs) h =
 xlife_found : (line : List ℕ) → begins_xlife (rest is_blank (without_cr line)) ≡ true → IsXlifeLine line
 xlife_found line h =
     let b = xlife_begins (rest is_blank (without_cr line)) h in
-    (front is_blank (without_cr line), b.0, b.1, Every-front is_blank (without_cr line), b.2, front_rest is_blank (without_cr line) ∙ ap (λ (l : List ℕ). front is_blank (without_cr line) ++ l) b.3)
+    (front is_blank (without_cr line), b.0, b.1, every_front is_blank (without_cr line), b.2, sym (front_then_rest is_blank (without_cr line)) ∙ ap (λ (l : List ℕ). front is_blank (without_cr line) ++ l) b.3)
 
 xlife_is : (line : List ℕ) → IsXlifeLine line → begins_xlife (rest is_blank (without_cr line)) ≡ true
-xlife_is line (blanks, blank, more, b, h, e) = ap (λ (l : List ℕ). begins_xlife (rest is_blank l)) e ∙ ap begins_xlife (rest_is is_blank blanks (codes "#r" ++ blank ∷ more) b refl) ∙ h
+xlife_is line (blanks, blank, more, b, h, e) = ap (λ (l : List ℕ). begins_xlife (rest is_blank l)) e ∙ ap begins_xlife (rest_append is_blank blanks (codes "#r" ++ blank ∷ more) b refl) ∙ h
 
 -- a line is XLife's, or not
 pub xlife_or_not : (line : List ℕ) → IsXlifeLine line ⊎ (IsXlifeLine line → ⊥)

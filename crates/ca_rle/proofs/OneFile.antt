@@ -6,7 +6,7 @@ use Rattle.ca_plane.specs.Bytes.{is_line_end, is_end_or}
 use Rattle.ca_rle.specs.Items.{Items}
 use Rattle.ca_rle.specs.Header.{IsHeader, is_comment, extended_words, Said, Says}
 use Rattle.ca_rle.specs.File.{File, IsLine, ended, corner_of, generation_of, IsHeaded, IsFile}
-use Rattle.ca_rle.proofs.Passing.{one_split}
+use Rattle.ca_plane.proofs.Fronts.{one_split}
 use Rattle.ca_rle.proofs.OneList.{one_list}
 use Rattle.ca_rle.proofs.OneHeader.{one_header, all_said, no_comment}
 

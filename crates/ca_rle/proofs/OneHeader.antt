@@ -7,7 +7,7 @@ use Rattle.std.proofs.lemmas.Bool.Decides.{nat_tests}
 use Rattle.ca_plane.specs.Bytes.{Every, is_blank, is_digit, is_word_byte, is_end_or, front, rest, AreDigits, IsInteger, IsWord, value}
 use Rattle.ca_rle.specs.Header.{Part, IsSpaced, size_parts, rule_parts, IsHeader, is_comment, Said, Corner, Generation, Nothing, Says}
 use Rattle.ca_rle.specs.HeaderParts.{part_left, parts_left}
-use Rattle.ca_rle.proofs.Passing.{front_is, rest_is, one_split, Every-mono, Every-digits, Every-word}
+use Rattle.ca_plane.proofs.Fronts.{front_append, rest_append, one_split, every_wider, every_digit, every_word_byte}
 use Rattle.ca_rle.proofs.Headers.{header_none, header_some}
 
 -- ---- headers
@@ -61,7 +61,7 @@ rule_is line None h =
     ]
 rule_is line (Some text) h =
     let s = header_some line text h in
-    ap rule_behind s.3 ∙ ap word_or_none (front_is is_word_byte text s.0 (Every-word text s.1) (ignored_ends s.0 s.2)) ∙ is_some_word text s.1
+    ap rule_behind s.3 ∙ ap word_or_none (front_append is_word_byte text s.0 (every_word_byte text s.1) (ignored_ends s.0 s.2)) ∙ is_some_word text s.1
 
 pub one_header : (line : List ℕ) (r s : Option (List ℕ)) → IsHeader line r → IsHeader line s → r ≡ s
 one_header line r s p q = sym (rule_is line r p) ∙ rule_is line s q
@@ -71,12 +71,12 @@ one_header line r s p q = sym (rule_is line r p) ∙ rule_is line s q
 no_comma_digit : (b : ℕ) → is_digit b ≡ true → not (b == 44) ≡ true
 no_comma_digit b h = grind (arith, nat_tests)
 
-abbrev no_comma : ℕ → Bool
+abbrev pub no_comma : ℕ → Bool
 no_comma b = not (b == 44)
 
 pub integer_has_no_comma : (bytes : List ℕ) (x : ℤ) → IsInteger bytes x → Every no_comma bytes
-integer_has_no_comma bytes x (inl (d, e)) = Every-mono is_digit no_comma bytes no_comma_digit (Every-digits bytes d)
-integer_has_no_comma bytes x (inr (digits, spelled, d, e)) = rw spelled (Every-mono is_digit no_comma digits no_comma_digit (Every-digits digits d))
+integer_has_no_comma bytes x (inl (d, e)) = every_wider is_digit no_comma no_comma_digit bytes (every_digit bytes d)
+integer_has_no_comma bytes x (inr (digits, spelled, d, e)) = rw spelled (every_wider is_digit no_comma no_comma_digit digits (every_digit digits d))
 
 no_minus : (digits : List ℕ) → AreDigits (45 ∷ digits) → ⊥
 no_minus digits h = true≢false (sym (and_parts (is_digit 45) (list_all is_digit digits) h).0)
@@ -125,7 +125,7 @@ all_said (w ∷ ws) (s ∷ ss) [] p q = absurd q
 x_is_no_comment : (ps : List Part) (text more : List ℕ) → IsSpaced (size_parts ps) text → is_comment (text ++ more) ≡ false
 x_is_no_comment ps text more (blanks, part, later, b, p, s, e) =
     let whole : text ++ more ≡ blanks ++ (120 ∷ (later ++ more)) = ap (λ (l : List ℕ). l ++ more) (e ∙ ap (λ (q : List ℕ). blanks ++ (q ++ later)) p) ∙ append_assoc blanks (120 ∷ later) more in
-    ap is_comment whole ∙ ap (is_end_or (λ b. b == 35)) (rest_is is_blank blanks (120 ∷ (later ++ more)) b refl)
+    ap is_comment whole ∙ ap (is_end_or (λ b. b == 35)) (rest_append is_blank blanks (120 ∷ (later ++ more)) b refl)
 
 pub no_comment : (line : List ℕ) (rule : Option (List ℕ)) → IsHeader line rule → is_comment line ≡ false
 no_comment line None (inl s) = rw append-nil at (x_is_no_comment [] line [] s)

@@ -6,7 +6,7 @@ use Rattle.ca_plane.specs.Bytes.{is_line_end, is_end_or}
 use Rattle.ca_rle.specs.Header.{IsHeader, is_comment, extended_words, Said, Says}
 use Rattle.ca_rle.specs.File.{IsLine, ended, IsPreamble, IsHeaded}
 use Rattle.ca_rle.specs.Faults.{HasNoHeader, HasXlifeRule}
-use Rattle.ca_rle.proofs.Passing.{one_split}
+use Rattle.ca_plane.proofs.Fronts.{one_split}
 use Rattle.ca_rle.proofs.OneHeader.{no_comment}
 
 -- ---- lines

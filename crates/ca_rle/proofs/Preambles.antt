@@ -11,7 +11,7 @@ use Rattle.ca_rle.specs.declared.front.lines.Preamble.{Preamble}
 use Rattle.ca_rle.specs.Header.{is_comment, extended_words, Said, Says, IsXlifeLine}
 use Rattle.ca_rle.specs.File.{IsLine, IsPreamble}
 use Rattle.ca_rle.specs.FrontParts.{IsStart, HasXlifeLine, IsRead}
-use Rattle.ca_rle.proofs.Passing.{Every-front, front_rest, rest_is}
+use Rattle.ca_plane.proofs.Fronts.{every_front, front_then_rest, rest_append}
 use Rattle.ca_rle.proofs.Spans.{all_append}
 use Rattle.ca_rle.proofs.Kept.{all_zip_append}
 
@@ -42,14 +42,14 @@ first_is (c ∷ cs) b e = (cs, ap (λ (d : ℕ). d ∷ cs) (sym (same_Some b c e
 
 -- what stands behind the blanks of an XLife line
 pub xlife_behind : (line : List ℕ) → IsXlifeLine line → (blank : ℕ) × (more : List ℕ) × IsTrue (is_blank blank) × (rest is_blank (without_cr line) ≡ codes "#r" ++ blank ∷ more)
-xlife_behind line (blanks, blank, more, b, h, e) = (blank, more, h, ap (rest is_blank) e ∙ rest_is is_blank blanks (codes "#r" ++ blank ∷ more) b refl)
+xlife_behind line (blanks, blank, more, b, h, e) = (blank, more, h, ap (rest is_blank) e ∙ rest_append is_blank blanks (codes "#r" ++ blank ∷ more) b refl)
 
 -- and what makes one
 pub xlife_from : (line behind : List ℕ) (blank : ℕ) → rest is_blank (without_cr line) ≡ codes "#r" ++ behind → Some blank ≡ slice_get behind 0 → IsTrue (is_blank blank) → IsXlifeLine line
 xlife_from line behind blank e f h =
     let first = first_is behind blank f in
     let blanks = front is_blank (without_cr line) in
-    (blanks, blank, first.0, Every-front is_blank (without_cr line), h, front_rest is_blank (without_cr line) ∙ ap (λ (l : List ℕ). blanks ++ l) (e ∙ ap (λ (l : List ℕ). codes "#r" ++ l) first.1))
+    (blanks, blank, first.0, every_front is_blank (without_cr line), h, sym (front_then_rest is_blank (without_cr line)) ∙ ap (λ (l : List ℕ). blanks ++ l) (e ∙ ap (λ (l : List ℕ). codes "#r" ++ l) first.1))
 
 -- the byte behind `#r` is the first there
 pub same_blank : (behind : List ℕ) (byte blank : ℕ) (more : List ℕ) → Some byte ≡ slice_get behind 0 → codes "#r" ++ behind ≡ codes "#r" ++ blank ∷ more → IsTrue (is_blank blank) → is_blank byte ≡ true

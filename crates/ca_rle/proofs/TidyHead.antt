@@ -10,17 +10,17 @@ use Rattle.ca_plane.proofs.Lines.{words_ahead, words_next}
 use Rattle.ca_rle.specs.Header.{IsSpaced, size_parts, rule_parts, IsHeader, is_comment, words_behind_cxrle, extended_words, Said, Corner, Generation, Says}
 use Rattle.ca_rle.specs.File.{IsLine, corner_of, generation_of}
 use Rattle.ca_rle.specs.Tidy.{generation_text, corner_line, header_line}
-use Rattle.ca_rle.proofs.Passing.{Every-append, Every-mono, Every-digits}
+use Rattle.ca_plane.proofs.Fronts.{every_append, every_wider, every_digit}
 use Rattle.ca_rle.proofs.Headers.{spaced, digits_are_line, word_is_line}
 use Rattle.ca_rle.proofs.TidyNumbers.{decimal_writes, IsNear, signed_writes}
 
 -- ---- bytes of words
 
 line_from_word : (bytes : List ℕ) → Every is_word_byte bytes → IsLine bytes
-line_from_word bytes h = Every-mono is_word_byte (λ b. not (is_line_end b)) bytes (λ b t. (and_parts (not (is_blank b)) (not (is_line_end b)) t).1) h
+line_from_word bytes h = every_wider is_word_byte (λ b. not (is_line_end b)) (λ b t. (and_parts (not (is_blank b)) (not (is_line_end b)) t).1) bytes h
 
 digits_in_word : (digits : List ℕ) → AreDigits digits → Every is_word_byte digits
-digits_in_word digits h = Every-mono is_digit is_word_byte digits (λ b t. grind (arith, nat_tests)) (Every-digits digits h)
+digits_in_word digits h = every_wider is_digit is_word_byte (λ b t. grind (arith, nat_tests)) digits (every_digit digits h)
 
 integer_in_word : (bytes : List ℕ) (n : ℤ) → IsInteger bytes n → Every is_word_byte bytes
 integer_in_word bytes n (inl (d, e)) = digits_in_word bytes d
@@ -33,7 +33,7 @@ abbrev pos_word : List ℕ → List ℕ → List ℕ
 pos_word a b = codes "Pos=" ++ (a ++ 44 ∷ b)
 
 pos_is_word : (a b : List ℕ) → Every is_word_byte a → Every is_word_byte b → IsWord (pos_word a b)
-pos_is_word a b p q = Every-append is_word_byte a (44 ∷ b) p q
+pos_is_word a b p q = every_append is_word_byte a (44 ∷ b) p q
 
 -- what stands behind the corner's word says the generation
 record SaysCount (bytes : List ℕ) (count : ℕ) : Type 0 where
@@ -97,7 +97,7 @@ says_both a b more corner generation p q s =
     let all : extended_words (codes "#CXRLE Pos=" ++ (a ++ (codes "," ++ (b ++ more)))) ≡ pos_word a b ∷ words_of more = ap words_behind_cxrle (first ∙ ap (λ l. codes "#CXRLE" ∷ l) words) in
     record {
       said = Corner corner.x corner.y ∷ s.said;
-      is_line = Every-append _ a (codes "," ++ (b ++ more)) (line_from_word a u) (Every-append _ b more (line_from_word b v) s.line);
+      is_line = every_append _ a (codes "," ++ (b ++ more)) (line_from_word a u) (every_append _ b more (line_from_word b v) s.line);
       comment = refl;
       words = subst (λ l. AllZip Says l (Corner corner.x corner.y ∷ s.said)) (sym all) ((a, b, refl, p, q), s.words);
       corner_is = s.no_corner corner;
@@ -142,5 +142,5 @@ header_line_is width height rule_text p q r =
 pub header_line_is_line : (width height : ℕ) (rule_text : List ℕ) → width < 2 ^ 64 → height < 2 ^ 64 → IsWord rule_text → IsLine (header_line width height rule_text)
 header_line_is_line width height rule_text p q r =
     let line = λ (b : ℕ). not (is_line_end b) in
-    Every-append line (decimal width) (codes ", y = " ++ (decimal height ++ (codes ", rule = " ++ rule_text))) (digits_are_line (decimal width) (decimal_writes width p).0)
-    (Every-append line (decimal height) (codes ", rule = " ++ rule_text) (digits_are_line (decimal height) (decimal_writes height q).0) (word_is_line rule_text r))
+    every_append line (decimal width) (codes ", y = " ++ (decimal height ++ (codes ", rule = " ++ rule_text))) (digits_are_line (decimal width) (decimal_writes width p).0)
+    (every_append line (decimal height) (codes ", rule = " ++ rule_text) (digits_are_line (decimal height) (decimal_writes height q).0) (word_is_line rule_text r))

@@ -6,7 +6,7 @@ use Rattle.std.proofs.lemmas.Fmt.{decimal_by_steps}
 use Rattle.std.proofs.lemmas.Int.{ints}
 use Rattle.ca_plane.specs.Bytes.{is_digit, AreDigits, IsInteger, value}
 use Rattle.ca_plane.proofs.Numbers.{value-append}
-use Rattle.ca_rle.proofs.Passing.{Every-append}
+use Rattle.ca_plane.proofs.Fronts.{every_append}
 
 -- digits that write this number
 abbrev pub Writes : ℕ → List ℕ → Type 0
@@ -20,7 +20,7 @@ one_digit n h = (rw (digit_is n h) refl, omega arith)
 
 more_digits : (front : List ℕ) (last : ℕ) → AreDigits front → is_digit last ≡ true → AreDigits (front ++ last ∷ [])
 more_digits [] last h d = absurd cc
-more_digits (d ∷ ds) last h l = Every-append is_digit (d ∷ ds) (last ∷ []) h (rw l refl)
+more_digits (d ∷ ds) last h l = every_append is_digit (d ∷ ds) (last ∷ []) h (rw l refl)
 
 more : (n : ℕ) (ds : List ℕ) → 10 ≤ n → Writes (n / 10) ds → Writes n (ds ++ (48 + n % 10) ∷ [])
 more n ds h w = (more_digits ds (48 + n % 10) w.0 (digit_is (n % 10) (omega arith)), omega (arith, w.1, value-append ds ((48 + n % 10) ∷ [])))

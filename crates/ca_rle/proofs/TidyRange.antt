@@ -1,5 +1,5 @@
 -- A tidy text of a plane in range passes no limit of the range.
-use Rattle.std.proofs.Common.{◌≢◌, ℕ, ◌+◌, ◌<◌, ◌≤◌, ◌^◌, inl, inr, List, [], ◌∷◌, ℤ, sym, subst, ◌∙◌, arith}
+use Rattle.std.proofs.Common.{◌≡◌, ◌≢◌, length, ℕ, ◌+◌, ◌<◌, ◌≤◌, ◌^◌, inl, inr, List, [], ◌∷◌, ℤ, sym, subst, ◌∙◌, arith}
 use Rattle.std.specs.List.{All, AllByRecursion}
 use Rattle.std.proofs.lemmas.List.Elements.{All-contains}
 use Rattle.std.proofs.lemmas.Int.{ints}
@@ -9,7 +9,7 @@ use Rattle.ca_plane.specs.Plane.{Picture, cell}
 use Rattle.ca_plane.proofs.Pictures.{Contains-cell, cell-first}
 use Rattle.ca_rle.specs.declared.item.Item.{Item}
 use Rattle.ca_rle.specs.File.{File, IsFile}
-use Rattle.ca_rle.specs.Limits.{IsInRange, IsWithinRange}
+use Rattle.ca_rle.specs.Limits.{IsInRange, IsWithinRange, IsWithinLimits}
 use Rattle.ca_rle.specs.Shown.{picture_of}
 use Rattle.ca_rle.specs.Tidy.{IsFrame, IsTidy}
 use Rattle.ca_rle.proofs.Spans.{all_append}
@@ -77,3 +77,8 @@ only_in_range text cells rule_text generation states t word low within file is =
 -- where each listed cell is in range, each live cell is
 pub listed_range : (cells : Picture) → All (λ e. IsInRange e.0) cells → AreInRange cells
 listed_range cells all x y live = All-contains (λ e. IsInRange e.0) cells _ all (Contains-cell cells x y live)
+
+-- a file that lists so few cells passes no limit, nor does another file of the text, since there is none
+pub within_limits : (text : List ℕ) (given file : File) (cells : Picture) → IsFile text given → IsWithinRange given → picture_of given.corner given.items ≡ cells → length cells ≤ 2 ^ 24
+    → IsFile text file → IsWithinLimits file
+within_limits text given file cells is range shown few other = subst IsWithinLimits (one_file text given file is other) (range, subst (λ (p : Picture). length p ≤ 2 ^ 24) (sym shown) few)

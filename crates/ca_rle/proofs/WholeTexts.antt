@@ -24,7 +24,7 @@ lines_end start text mid new filled now states i items laid all placed end =
     laid_end start mid new (codes "!") now (map (item_text states) items) (laid_more start text mid (codes "!") filled now (map (item_text states) items) whole placed (omega arith)) end.whole
 
 -- the two lines and those of the items are the tidy text
-pub tidy_text : (none first second text rule_text : List ℕ) (cells : Picture) (generation states : ℕ) (corner : Point) (width height : ℕ) (items given : List Item)
+abbrev pub tidy_text : (none first second text rule_text : List ℕ) (cells : Picture) (generation states : ℕ) (corner : Point) (width height : ℕ) (items given : List Item)
     → none ≡ [] → Puts none first (ended (corner_line corner generation)) → Puts first second (ended (header_line width height rule_text))
     → given ≡ items → PutsLines second text (map (item_text states) given ++ codes "!" ∷ [])
     → IsFrame cells corner width height → picture_of corner items ≡ cells → AreTidy items → HaveStates states items

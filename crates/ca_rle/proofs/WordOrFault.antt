@@ -10,7 +10,8 @@ use Rattle.ca_rle.specs.declared.fault.RleFault.{RleFault}
 use Rattle.ca_rle.specs.declared.fault.RleFault.TheVariants.{Syntax, GenTooLarge}
 use Rattle.ca_rle.specs.Header.{Said, Corner, Generation, Nothing, Says}
 use Rattle.ca_rle.specs.Faults.{IsBadWord}
-use Rattle.ca_rle.proofs.Passing.{Every-mono, Every-digits, front_is, rest_is, front_rest}
+use Rattle.ca_rle.proofs.OneHeader.{no_comma, integer_has_no_comma}
+use Rattle.ca_plane.proofs.Fronts.{every_wider, every_digit, front_append, rest_append, front_then_rest}
 
 -- ---- numbers
 
@@ -54,16 +55,6 @@ integer_or_not (b ∷ bs) =
 
 -- ---- a corner
 
-abbrev no_comma : ℕ → Bool
-no_comma b = not (b == 44)
-
-no_comma_digit : (b : ℕ) → is_digit b ≡ true → no_comma b ≡ true
-no_comma_digit b h = grind (arith, nat_tests)
-
-integer_has_no_comma : (bytes : List ℕ) (x : ℤ) → IsInteger bytes x → Every no_comma bytes
-integer_has_no_comma bytes x (inl (d, e)) = Every-mono is_digit no_comma bytes no_comma_digit (Every-digits bytes d)
-integer_has_no_comma bytes x (inr (digits, spelled, d, e)) = rw spelled (Every-mono is_digit no_comma digits no_comma_digit (Every-digits digits d))
-
 -- two integers with a comma between them
 abbrev AreIntegers : List ℕ → ℤ → ℤ → Type 0
 AreIntegers bytes x y = (a : List ℕ) × (b : List ℕ) × (bytes ≡ a ++ 44 ∷ b) × IsInteger a x × IsInteger b y
@@ -72,8 +63,8 @@ AreIntegers bytes x y = (a : List ℕ) × (b : List ℕ) × (bytes ≡ a ++ 44 �
 at_first_comma : (bytes : List ℕ) (x y : ℤ) → AreIntegers bytes x y → (b : List ℕ) × IsInteger (front no_comma bytes) x × (rest no_comma bytes ≡ 44 ∷ b) × IsInteger b y
 at_first_comma bytes x y (a, b, e, i, j) =
     let plain = integer_has_no_comma a x i in
-    let first = ap (front no_comma) e ∙ front_is no_comma a (44 ∷ b) plain refl in
-    (b, subst (λ (l : List ℕ). IsInteger l x) (sym first) i, ap (rest no_comma) e ∙ rest_is no_comma a (44 ∷ b) plain refl, j)
+    let first = ap (front no_comma) e ∙ front_append no_comma a (44 ∷ b) plain refl in
+    (b, subst (λ (l : List ℕ). IsInteger l x) (sym first) i, ap (rest no_comma) e ∙ rest_append no_comma a (44 ∷ b) plain refl, j)
 
 abbrev IntegersOrNot : List ℕ → Type 0
 IntegersOrNot bytes = ((x : ℤ) × (y : ℤ) × AreIntegers bytes x y) ⊎ ((x y : ℤ) → AreIntegers bytes x y → ⊥)
@@ -84,7 +75,7 @@ split_or_not bytes (c ∷ cs) e =
     elim (cases_Bool (c == 44)) [
       | inl comma ↦ elim (integer_or_not (front no_comma bytes)) [
         | inl i ↦ elim (integer_or_not cs) [
-          | inl j ↦ inl (i.0, j.0, (front no_comma bytes, cs, front_rest no_comma bytes ∙ ap (λ (l : List ℕ). front no_comma bytes ++ l) (e ∙ ap (λ (d : ℕ). d ∷ cs) (eqb-true c 44 comma)), i.1, j.1))
+          | inl j ↦ inl (i.0, j.0, (front no_comma bytes, cs, sym (front_then_rest no_comma bytes) ∙ ap (λ (l : List ℕ). front no_comma bytes ++ l) (e ∙ ap (λ (d : ℕ). d ∷ cs) (eqb-true c 44 comma)), i.1, j.1))
           | inr n ↦ inr (λ x y p. let q = at_first_comma bytes x y p in n y (subst (λ (l : List ℕ). IsInteger l y) (ap (λ (l : List ℕ). drop 1 l) (sym q.2 ∙ e)) q.3))
         ]
         | inr n ↦ inr (λ x y p. n x (at_first_comma bytes x y p).1)

@@ -1,13 +1,12 @@
 //! The writer of extended RLE: one tidy text for a plane.
 
-ghost use Rattle.std.specs.Prelude.{◌≡◌, ℕ, ◌<◌, ◌^◌, List, OnOk, IfOk, IsErrOf};
+ghost use Rattle.std.specs.Prelude.{◌≡◌, ℕ, ◌<◌, ◌≤◌, ◌^◌, List, length, OnOk, IfOk, IsErrOf};
 ghost use Rattle.std.specs.List.{All};
 ghost use Rattle.std.specs.Io.KnownBytes.{Appends};
 ghost use Rattle.ca_plane.specs.Bytes.{IsWord};
 ghost use Rattle.ca_plane.specs.Device.{Rises, AppendsPrefix};
-ghost use Rattle.ca_plane.specs.Plane.{IsSame};
 ghost use Rattle.ca_rle.specs.File.{File, IsFile};
-ghost use Rattle.ca_rle.specs.Limits.{IsInRange, IsWithinRange};
+ghost use Rattle.ca_rle.specs.Limits.{IsInRange, IsWithinRange, IsWithinLimits};
 ghost use Rattle.ca_rle.specs.Shown.{picture_of};
 ghost use Rattle.ca_rle.specs.Tidy.{IsTidy};
 
@@ -29,7 +28,8 @@ mod runs;
 /// count of 1, no dead cells at the end of a row, no row end behind the last row, and no two items side by side that
 /// could be one. Each line ends with LF.
 ///
-/// The reader refuses the text of a plane with more than 16777216 live cells, and reads that of any other.
+/// The text's list of cells is the plane's own, so the reader takes it where the plane has at most 16777216 live cells, and
+/// refuses that of any other.
 ///
 /// # Errors
 ///
@@ -46,9 +46,11 @@ pub fn write_rle(
     requires rule { IsWord rule_text.now }
     requires generation { generation < 2 ^ 63 }
     ensures tidy { IfOk result (λ text. IsTidy text.items cells.now rule_text.now generation states) }
-    // It means the plane, the rule text and the generation, and is in the reader's range.
+    // It means the plane, its cells one by one in their order, the rule text and the generation, and is in the reader's range.
     ensures means { IfOk result (λ text. (file : File) × IsFile text.items file × IsWithinRange file
-        × IsSame cells.now (picture_of file.corner file.items) × (file.rule_text ≡ rule_text.now) × (file.generation ≡ generation)) }
+        × (picture_of file.corner file.items ≡ cells.now) × (file.rule_text ≡ rule_text.now) × (file.generation ≡ generation)) }
+    // The reader takes it where the plane has at most 16777216 live cells.
+    ensures limits { length cells.now ≤ 2 ^ 24 → IfOk result (λ text. (file : File) → IsFile text.items file → IsWithinLimits file) }
 {
     let frame = frame::of(cells);
     let mut text = Vec::new(alloc);
@@ -80,6 +82,9 @@ pub fn write_rle_to<W: Write>(
     // The tidy text is written whole, and no failure is counted.
     ensures all { OnOk result ((text : List ℕ) × IsTidy text cells.now rule_text.now generation states
         × Appends (W.contents out.old.inner) (W.contents out.new.inner) text) }
+    // The reader takes what is written where the plane has at most 16777216 live cells.
+    ensures limits { length cells.now ≤ 2 ^ 24 → OnOk result ((text : List ℕ) × Appends (W.contents out.old.inner) (W.contents out.new.inner) text
+        × ((file : File) → IsFile text file → IsWithinLimits file)) }
     ensures kept { OnOk result (out.new.failures ≡ out.old.failures) }
     // Without memory the device is as it was.
     ensures memory { IsErrOf result WriteFault.Memory → out.new ≡ out.old }

@@ -6,10 +6,10 @@ ghost use Rattle.ca_plane.specs.Bytes.{Every, is_line_end, words_of, without_cr}
 ghost use Rattle.ca_rle.specs.Header.{Said, Says, is_comment, extended_words, IsXlifeLine};
 ghost use Rattle.ca_rle.specs.FrontParts.{Leads, HasBadWordAmong, IsRead};
 
-use super::words::{Start, next_word};
+use super::words::Start;
 use crate::fault::RleFault;
 use ca_plane::Point;
-use ca_plane::bytes::{is_blank, split_blanks, strip};
+use ca_plane::bytes::{is_blank, next_word, split_blanks, strip};
 
 /// What the lines before a header say.
 #[derive(Clone, Copy)]

@@ -1,12 +1,12 @@
-use Rattle.std.proofs.Common.{◌≡◌, ℕ, List, [], ◌++◌, ◌∷◌, Some, None, inl, inr, lit<, lit≤, true≢false, false, IsTrue, ◌==◌, codes, refl, sym, ap, ◌∙◌}
+use Rattle.std.proofs.Common.{◌≡◌, ℕ, Bool, true, List, [], ◌++◌, ◌∷◌, Some, None, inl, inr, lit<, lit≤, true≢false, false, IsTrue, ◌==◌, codes, refl, sym, ap, ◌∙◌}
 use Rattle.ca_rle.specs.Header.{size_parts}
 use Rattle.std.specs.List.{list_any}
+use Rattle.std.proofs.lemmas.Bool.{or_left, or_right}
 use Rattle.std.proofs.lemmas.List.{append_cancel_left}
 use Rattle.ca_plane.specs.Bytes.{is_line_end, is_end_or}
 use Rattle.ca_rle.specs.declared.item.Tag.TheVariants.{Cell}
 use Rattle.ca_rle.specs.File.{IsLine, IsHeaded}
 use Rattle.ca_rle.proofs.Found.{run_found}
-use Rattle.ca_rle.proofs.Passing.{any_behind}
 use Rattle.ca_rle.specs.HeaderParts.{parts_left}
 use Rattle.ca_rle.proofs.Headers.{spaced_found, header_found, no_header}
 use Rattle.ca_rle.proofs.examples.worked_faults.Goals as goal
@@ -23,6 +23,11 @@ plain_header header body line h ends = record {
   header_ends = ends;
   spelled = refl;
 }
+
+-- a byte among others that passes
+any_behind : (test : ℕ → Bool) (a : List ℕ) (c : ℕ) (b : List ℕ) → test c ≡ true → list_any test (a ++ c ∷ b) ≡ true
+any_behind test [] c b h = or_left (test c) (list_any test b) h
+any_behind test (d ∷ ds) c b h = or_right (test d) (list_any test (ds ++ c ∷ b)) (any_behind test ds c b h)
 
 -- a list that holds no comma isn't split by one
 no_comma : (bytes a b : List ℕ) → list_any (λ c. c == 44) bytes ≡ false → bytes ≡ a ++ 44 ∷ b → ⊥

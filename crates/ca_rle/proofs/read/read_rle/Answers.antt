@@ -1,4 +1,6 @@
-use Rattle.std.proofs.Common.{◌∙◌, ap, subst, unwrap_or, codes}
+use Rattle.std.proofs.Common.{◌∙◌, ◌<◌, ◌^◌, sym, ap, subst, unwrap_or, codes}
+use Rattle.ca_plane.specs.Bytes.{IsWord}
+use Rattle.ca_rle.proofs.FileParts.{generation_is_low, rule_is_word}
 use Rattle.ca_rle.specs.declared.fault.RleFault.TheVariants.{Memory}
 use Rattle.ca_plane.specs.Plane.{IsSame, IsPicture}
 use Rattle.ca_rle.specs.Shown.{picture_of}
@@ -38,3 +40,17 @@ returns-clause-found c =
       generation = front.5;
     } in
     (file_of front.0 front.1 body.0, whole.0, whole.1, pattern)
+
+pub returns-clause-generation : goal.returns-clause-generation
+returns-clause-generation c =
+    let front = c.in-Ok.ensures.found in
+    let body = c.in-Ok-read_body.ensures.found in
+    let whole = whole_file _ front.0 front.1 _ _ body.0 front.2 front.4 body.1 body.2 in
+    subst (λ n. n < 2 ^ 63) (sym front.5) (generation_is_low c.args.bytes.now (file_of front.0 front.1 body.0) whole.0)
+
+pub returns-clause-rule : goal.returns-clause-rule
+returns-clause-rule c =
+    let front = c.in-Ok.ensures.found in
+    let body = c.in-Ok-read_body.ensures.found in
+    let whole = whole_file _ front.0 front.1 _ _ body.0 front.2 front.4 body.1 body.2 in
+    subst IsWord (sym (c.in-Ok-rule_text.ensures ∙ ap (λ o. unwrap_or o (codes "B3/S23")) front.3)) (rule_is_word c.args.bytes.now (file_of front.0 front.1 body.0) whole.0)

@@ -1,6 +1,6 @@
 use Rattle.ca_rle.proofs.WholeTexts.{tidy_text}
 use Rattle.ca_rle.proofs.TidyFile.{tidy_file}
-use Rattle.ca_rle.proofs.TidyRange.{file_in_range, tidy_within_range, listed_range}
+use Rattle.ca_rle.proofs.TidyRange.{file_in_range, tidy_within_range, listed_range, within_limits}
 use Rattle.ca_rle.proofs.write.write_rle.Goals as goal
 use Rattle.std.proofs.Common.{refl}
 
@@ -10,7 +10,10 @@ returns c =
     c.new-text.ensures.items c.in_ok-push_corner_line.ensures c.in_ok-push_header_line.ensures c.deref.ensures.value c.in_ok-push_items.ensures c.of-frame.ensures
     c.in_ok-items.ensures.shown c.in_ok-items.ensures.tidy (c.in_ok-items.ensures.states _ c.requires.states) in
     let within = listed_range c.args.cells.now c.requires.range in
+    let file = file_in_range _ _ _ _ _ tidy c.requires.rule c.requires.generation within in
+    let range = tidy_within_range _ _ _ _ _ tidy within in
     record {
       tidy = tidy;
-      means = (tidy_file _ c.args.cells.now _ _ _ tidy, file_in_range _ _ _ _ _ tidy c.requires.rule c.requires.generation within, tidy_within_range _ _ _ _ _ tidy within, tidy.shown, refl, refl);
+      means = (tidy_file _ c.args.cells.now _ _ _ tidy, file, range, c.in_ok-items.ensures.shown, refl, refl);
+      limits = λ few other is. within_limits _ _ other c.args.cells.now file range c.in_ok-items.ensures.shown few is;
     }

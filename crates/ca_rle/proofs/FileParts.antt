@@ -1,0 +1,27 @@
+-- What a file holds: its generation is below 2^63, and its rule text is a word.
+use Rattle.std.proofs.Common.{◌≡◌, ℕ, ◌<◌, ◌^◌, List, [], ◌∷◌, Option, Some, None, unwrap_or, codes, refl, sym, subst, arith}
+use Rattle.std.specs.List.{AllZip}
+use Rattle.ca_plane.specs.Bytes.{IsWord}
+use Rattle.ca_rle.specs.Header.{IsHeader, Said, Corner, Generation, Nothing, Says}
+use Rattle.ca_rle.specs.File.{File, IsFile, last_generation}
+
+-- the last generation that words say is below 2^63, where the one before them is
+last_is_low : (n : ℕ) (words : List (List ℕ)) (said : List Said) → n < 2 ^ 63 → AllZip Says words said → last_generation n said < 2 ^ 63
+last_is_low n words [] low says = low
+last_is_low n [] (s ∷ ss) low says = absurd says
+last_is_low n (w ∷ ws) (Corner x y ∷ ss) low says = last_is_low n ws ss low says.1
+last_is_low n (w ∷ ws) (Generation m ∷ ss) low says = last_is_low m ws ss says.0.4 says.1
+last_is_low n (w ∷ ws) (Nothing ∷ ss) low says = last_is_low n ws ss low says.1
+
+-- the generation of a file is below 2^63
+pub generation_is_low : (bytes : List ℕ) (file : File) → IsFile bytes file → file.generation < 2 ^ 63
+generation_is_low bytes file is = subst (λ (n : ℕ). n < 2 ^ 63) (sym is.generation) (last_is_low 0 _ is.said (omega arith) is.headed.preamble.words)
+
+-- the rule text of a header is a word, and so is that of a header without one
+header_word : (line : List ℕ) (rule : Option (List ℕ)) → IsHeader line rule → IsWord (unwrap_or rule (codes "B3/S23"))
+header_word line None h = refl
+header_word line (Some text) h = h.3
+
+-- the rule text of a file is a word
+pub rule_is_word : (bytes : List ℕ) (file : File) → IsFile bytes file → IsWord file.rule_text
+rule_is_word bytes file is = subst IsWord (sym is.rule_text) (header_word is.headed.header is.rule is.headed.header_is)
