@@ -14,7 +14,7 @@ use Rattle.ca_rle.specs.Items.{InLine, is_letter, is_prefix, prefixed_state, tag
 use Rattle.ca_rle.specs.Header.{IsHeader, is_comment, extended_words, Said, Says}
 use Rattle.ca_rle.specs.File.{File, IsLine, ended, IsPreamble, corner_of, generation_of, IsHeaded, IsFile}
 use Rattle.ca_rle.specs.Faults.{behind_white, letter_fault, tag_fault, count_fault, item_fault, HasBadWord, HasBadItem, IsFirstFault}
-use Rattle.ca_rle.specs.Reading.{HasBadUnit}
+use Rattle.ca_rle.specs.inner.BodyFaults.{HasBadUnit}
 use Rattle.ca_plane.proofs.Fronts.{front_then_rest, every_front}
 use Rattle.ca_rle.proofs.OneHeader.{no_comment}
 use Rattle.ca_rle.proofs.GoodItem.{IsItemOrEnd, good_item_or_end}

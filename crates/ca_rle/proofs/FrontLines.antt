@@ -12,8 +12,8 @@ use Rattle.ca_rle.specs.declared.front.lines.Preamble.{Preamble}
 use Rattle.ca_rle.specs.Header.{is_comment, extended_words, Said, Says}
 use Rattle.ca_rle.specs.File.{IsLine, ended}
 use Rattle.ca_rle.specs.Faults.{HasBadWord, HasNoHeader}
-use Rattle.ca_rle.specs.FrontFaults.{IsFrontFault}
-use Rattle.ca_rle.specs.FrontParts.{HasBadWordAmong, IsRead}
+use Rattle.ca_rle.specs.inner.FrontFaults.{IsFrontFault}
+use Rattle.ca_rle.specs.inner.FrontParts.{HasBadWordAmong, IsPreambleOf}
 use Rattle.ca_rle.proofs.OneHeader.{no_comment}
 
 -- the bytes of a line
@@ -51,7 +51,7 @@ fewer_behind bytes behind later b e f =
     let long : length (rest (λ b. not (is_line_end b)) bytes) ≡ suc (length later) = ap length (sym e ∙ f) in
     omega arith
 
-module _ (bytes line behind : List ℕ) (lines : List (List ℕ)) (said : List Said) (p : Preamble) (r : IsRead lines said p) (l : IsLine line) (comment : is_comment line ≡ true)
+module _ (bytes line behind : List ℕ) (lines : List (List ℕ)) (said : List Said) (p : Preamble) (r : IsPreambleOf lines said p) (l : IsLine line) (comment : is_comment line ≡ true)
     (e : is_end_or is_line_end behind ≡ true) (spelled : bytes ≡ flat_map ended lines ++ (line ++ behind)) where
   bad_word : (f : RleFault) → HasBadWordAmong (extended_words line) f → HasBadWord bytes f
   bad_word f h = record {

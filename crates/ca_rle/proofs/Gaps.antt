@@ -11,7 +11,7 @@ use Rattle.ca_rle.specs.declared.item.Tag.{Tag}
 use Rattle.ca_rle.specs.declared.item.Tag.TheVariants.{Cell, RowEnd}
 use Rattle.ca_rle.specs.Shown.{state_of, rows_of, columns_of, run_of, place_behind, picture_of}
 use Rattle.ca_rle.specs.Tidy.{AreTidy}
-use Rattle.ca_rle.specs.Written.{some_of, Leads}
+use Rattle.ca_rle.specs.inner.Written.{some_of, IsGap}
 use Rattle.ca_rle.proofs.Pushed.{rows_of-push, columns_of-push, picture_behind-push}
 
 -- so many of a tag
@@ -29,7 +29,7 @@ some-suc tag n = rw (nonzero (suc n) (omega arith)) refl
 
 -- new is old with a gap behind it
 abbrev pub PutsGap : ℤ → Point → Point → List Item → List Item → Type 0
-PutsGap left from to old new = (gap : List Item) × Leads left from to gap × (new ≡ old ++ gap)
+PutsGap left from to old new = (gap : List Item) × IsGap left from to gap × (new ≡ old ++ gap)
 
 -- a gap within a row
 pub gap-in_row : (left : ℤ) (from to : Point) (old new : List Item) (rows columns : ℕ) → to.y ≡ from.y +ℤ pos rows → rows ≡ 0 → to.x ≡ from.x +ℤ pos columns
@@ -74,7 +74,7 @@ place-dead corner is zero = ap (place_behind corner) (append-nil is) ∙ point-s
 place-dead corner is (suc n) = rw (nonzero (suc n) (omega arith)) (place-cells corner is 0 (suc n))
 
 -- a gap leads to its end
-pub place-gap : (corner from to : Point) (is gap : List Item) → place_behind corner is ≡ from → Leads corner.x from to gap → place_behind corner (is ++ gap) ≡ to
+pub place-gap : (corner from to : Point) (is gap : List Item) → place_behind corner is ≡ from → IsGap corner.x from to gap → place_behind corner (is ++ gap) ≡ to
 place-gap corner from to is gap at leads =
     let rows = some_of RowEnd leads.rows in
     let dead = some_of (Cell 0) leads.columns in
@@ -95,7 +95,7 @@ cells-dead corner is tag (suc n) dead =
     rw (nonzero (suc n) (omega arith)) (picture_behind-push corner [] is (item_of tag (suc n)) ∙ rw dead (append-nil (picture_of corner is)))
 
 -- a gap shows no more
-pub cells-gap : (corner from to : Point) (left : ℤ) (is gap : List Item) → Leads left from to gap → picture_of corner (is ++ gap) ≡ picture_of corner is
+pub cells-gap : (corner from to : Point) (left : ℤ) (is gap : List Item) → IsGap left from to gap → picture_of corner (is ++ gap) ≡ picture_of corner is
 cells-gap corner from to left is gap leads =
     let rows = some_of RowEnd leads.rows in
     let dead = some_of (Cell 0) leads.columns in
@@ -155,18 +155,18 @@ before-gap is t (suc r) (suc c) live row dead here =
     (omega arith) (cell_no_cell 0 t (λ z. omega (arith, z))) (λ _. cell_no_row t)))
 
 -- a gap of no row ends and no dead cells leads nowhere
-gap_stays : (left : ℤ) (from to : Point) (gap : List Item) (leads : Leads left from to gap) → leads.rows ≡ 0 → leads.columns ≡ 0 → to ≡ from
+gap_stays : (left : ℤ) (from to : Point) (gap : List Item) (leads : IsGap left from to gap) → leads.rows ≡ 0 → leads.columns ≡ 0 → to ≡ from
 gap_stays left from to gap leads rows columns =
     let start : (if leads.rows == 0 then from.x else left) ≡ from.x = rw rows refl in
     point-same to from (omega (arith, ints, leads.below)) (omega (arith, ints, leads.right))
 
 -- the first run, behind its gap
-pub before-first : (left : ℤ) (from to : Point) (gap : List Item) (t : ℕ) → Leads left from to gap → 0 < t → AreBefore gap (Cell t)
+pub before-first : (left : ℤ) (from to : Point) (gap : List Item) (t : ℕ) → IsGap left from to gap → 0 < t → AreBefore gap (Cell t)
 before-first left from to gap t leads live =
     subst (λ (l : List Item). AreBefore l (Cell t)) (sym leads.gap_is) (before-gap [] t leads.rows leads.columns live tt tt (λ _ _. tt))
 
 -- a later run, behind the run before it and the gap
-pub before-next : (left : ℤ) (from to : Point) (is gap : List Item) (s m t : ℕ) → AreBefore is (Cell s) → 0 < s → 0 < m → Leads left from to gap → 0 < t
+pub before-next : (left : ℤ) (from to : Point) (is gap : List Item) (s m t : ℕ) → AreBefore is (Cell s) → 0 < s → 0 < m → IsGap left from to gap → 0 < t
     → (to ≡ from → s ≢ t) → AreBefore ((is ++ item_of (Cell s) m ∷ []) ++ gap) (Cell t)
 before-next left from to is gap s m t before some count leads live apart =
     let run = is ++ item_of (Cell s) m ∷ [] in

@@ -14,7 +14,7 @@ use Rattle.ca_rle.specs.Faults.{behind_white, letter_fault, tag_fault, count_fau
 use Rattle.ca_plane.proofs.Fronts.{front_then_rest}
 use Rattle.ca_rle.proofs.White.{Stops_above, behind_white_is}
 use Rattle.ca_rle.proofs.ItemAt.{tag_byte, tag_at_is, count_of, item_at}
-use Rattle.ca_rle.proofs.Found.{end_found, run_found}
+use Rattle.ca_rle.proofs.ReadItems.{end_found, run_found}
 
 -- ---- tags
 

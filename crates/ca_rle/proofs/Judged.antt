@@ -10,8 +10,8 @@ use Rattle.ca_rle.specs.declared.item.Item.{Item}
 use Rattle.ca_rle.specs.Items.{InLine, is_letter, is_prefix, prefixed_state, tag_of, Items}
 use Rattle.ca_rle.specs.Limits.{IsWithinRange, IsWithinLimits}
 use Rattle.ca_rle.specs.Faults.{behind_white, letter_fault, tag_fault, count_fault, item_fault}
-use Rattle.ca_rle.specs.Reading.{bare_file, HasBadUnit, IsBodyFault}
-use Rattle.ca_rle.specs.Extent.{IsExtentOf, IsExtentInRange}
+use Rattle.ca_rle.specs.inner.BodyFaults.{bare_file, HasBadUnit, IsBodyFault}
+use Rattle.ca_rle.specs.inner.Extent.{IsExtentOf, IsExtentInRange}
 use Rattle.ca_rle.proofs.Pushed.{counts_low}
 use Rattle.ca_rle.proofs.Ranges.{within_range, extent_in_range, length-picture}
 

@@ -6,7 +6,7 @@ use Rattle.std.proofs.lemmas.List.Concat.{flat_map-append}
 use Rattle.std.proofs.lemmas.List.Folds.{concat-append}
 use Rattle.ca_rle.specs.File.{ended}
 use Rattle.ca_rle.specs.Tidy.{AreLines}
-use Rattle.ca_rle.specs.Written.{IsPlaced, PutsLines}
+use Rattle.ca_rle.specs.inner.Written.{IsPlaced, PutsLines}
 
 -- a piece at a line's end
 concat-push : (line : List (List ℕ)) (piece : List ℕ) → concat (line ++ piece ∷ []) ≡ concat line ++ piece

@@ -2,7 +2,7 @@ pub mod White
 pub mod ItemAt
 pub mod OneList
 pub mod NoFault
-pub mod Found
+pub mod ReadItems
 pub mod Spans
 pub mod Headers
 pub mod OneHeader
@@ -32,7 +32,7 @@ pub mod Ranges
 pub mod Prefixes
 pub mod Pictured
 pub mod Judged
-pub mod Kept
+pub mod StartWords
 pub mod Preambles
 pub mod HeaderLines
 pub mod FrontLines

@@ -8,7 +8,7 @@ use Rattle.ca_plane.proofs.Lines.{ends_by_blank}
 use Rattle.ca_rle.specs.Header.{Part, size_parts, rule_parts, IsHeader, IsXlifeLine}
 use Rattle.ca_rle.specs.File.{IsLine}
 use Rattle.ca_plane.proofs.Fronts.{rest_ends, every_right, every_rest, front_then_rest, every_front, rest_append}
-use Rattle.ca_rle.specs.HeaderParts.{parts_left, part_left}
+use Rattle.ca_rle.specs.inner.HeaderParts.{parts_left, part_left}
 use Rattle.ca_rle.proofs.Headers.{has_more, no_header, parts_found, spaced_found, header_found}
 
 -- ---- headers

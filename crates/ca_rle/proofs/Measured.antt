@@ -6,8 +6,8 @@ use Rattle.ca_rle.specs.declared.extent.Extent.{Extent}
 use Rattle.ca_rle.specs.declared.extent.Offset.{Offset}
 use Rattle.ca_rle.specs.Items.{Run}
 use Rattle.ca_rle.specs.Shown.{ends_row, state_of, rows_of, columns_of}
-use Rattle.ca_rle.specs.Reading.{kept}
-use Rattle.ca_rle.specs.Extent.{kept_number, live_count, IsOffsetOf, IsExtentOf}
+use Rattle.ca_rle.specs.inner.BodyFaults.{kept}
+use Rattle.ca_rle.specs.inner.Extent.{kept_number, live_count, IsOffsetOf, IsExtentOf}
 use Rattle.ca_rle.proofs.Units.{IsItemAtFront}
 use Rattle.ca_rle.proofs.Pushed.{rows_of-push, columns_of-push, longest_of-push, right_behind-push, bottom_behind-push, live_cells-push, Run-push}
 

@@ -6,7 +6,7 @@ use Rattle.std.proofs.lemmas.Bool.{and_parts}
 use Rattle.std.proofs.lemmas.Bool.Decides.{nat_tests}
 use Rattle.ca_plane.specs.Bytes.{Every, is_blank, is_digit, is_word_byte, is_end_or, front, rest, AreDigits, IsInteger, IsWord, value}
 use Rattle.ca_rle.specs.Header.{Part, IsSpaced, size_parts, rule_parts, IsHeader, is_comment, Said, Corner, Generation, Nothing, Says}
-use Rattle.ca_rle.specs.HeaderParts.{part_left, parts_left}
+use Rattle.ca_rle.specs.inner.HeaderParts.{part_left, parts_left}
 use Rattle.ca_plane.proofs.Fronts.{front_append, rest_append, one_split, every_wider, every_digit, every_word_byte}
 use Rattle.ca_rle.proofs.Headers.{header_none, header_some}
 

@@ -10,10 +10,10 @@ use Rattle.ca_rle.specs.declared.front.words.Start.{Start}
 use Rattle.ca_rle.specs.declared.front.lines.Preamble.{Preamble}
 use Rattle.ca_rle.specs.Header.{is_comment, extended_words, Said, Says, IsXlifeLine}
 use Rattle.ca_rle.specs.File.{IsLine, IsPreamble}
-use Rattle.ca_rle.specs.FrontParts.{IsStart, HasXlifeLine, IsRead}
+use Rattle.ca_rle.specs.inner.FrontParts.{IsStart, HasXlifeLine, IsPreambleOf}
 use Rattle.ca_plane.proofs.Fronts.{every_front, front_then_rest, rest_append}
 use Rattle.ca_rle.proofs.Spans.{all_append}
-use Rattle.ca_rle.proofs.Kept.{all_zip_append}
+use Rattle.ca_rle.proofs.StartWords.{all_zip_append}
 
 -- ---- XLife's rule lines
 
@@ -87,14 +87,14 @@ pub xlife_last : (lines : List (List ℕ)) (line : List ℕ) → IsXlifeLine lin
 xlife_last lines line h = (lines, line, [], h, refl)
 
 -- nothing was said before the first line
-pub read_none : (p : Preamble) → IsStart [] p.start → p.has_xlife_rule ≡ false → IsRead [] [] p
+pub read_none : (p : Preamble) → IsStart [] p.start → p.has_xlife_rule ≡ false → IsPreambleOf [] [] p
 read_none p s x = record { good = record { each_is_line = tt; comments = tt; words = tt }; start = s; xlife = λ t. absurd (both_ways _ x t); no_xlife = λ f. tt }
 
 -- what lines say with one more
 pub read_more : (lines : List (List ℕ)) (line : List ℕ) (said more : List Said) (p : Preamble) (s : Start) (x : Bool)
-    → IsRead lines said p → IsLine line → is_comment line ≡ true → AllZip Says (extended_words line) more → IsStart (said ++ more) s
+    → IsPreambleOf lines said p → IsLine line → is_comment line ≡ true → AllZip Says (extended_words line) more → IsStart (said ++ more) s
     → (x ≡ true → HasXlifeLine (lines ++ line ∷ [])) → (x ≡ false → (p.has_xlife_rule ≡ false) × (IsXlifeLine line → ⊥))
-    → IsRead (lines ++ line ∷ []) (said ++ more) (record { start = s; has_xlife_rule = x })
+    → IsPreambleOf (lines ++ line ∷ []) (said ++ more) (record { start = s; has_xlife_rule = x })
 read_more lines line said more p s x r l c z h given none = record {
   good = preamble_more lines line said more r.good l c z;
   start = h;

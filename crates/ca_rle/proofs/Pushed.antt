@@ -9,7 +9,7 @@ use Rattle.ca_plane.specs.declared.point.Point.{Point}
 use Rattle.ca_rle.specs.declared.item.Item.{Item}
 use Rattle.ca_rle.specs.Items.{tag_of, IsCount, Run}
 use Rattle.ca_rle.specs.Shown.{ends_row, rows_of, columns_of, cells_of, picture_behind}
-use Rattle.ca_rle.specs.Extent.{longest_of, live_count, live_cells, columns_to, rows_to, right_behind, bottom_behind}
+use Rattle.ca_rle.specs.inner.Extent.{longest_of, live_count, live_cells, columns_to, rows_to, right_behind, bottom_behind}
 
 -- one more element at the end begins anew, or stands behind what was there
 after_last-push : {X : Type 0} (p : X → Bool) (xs : List X) (y : X) → after_last p (xs ++ y ∷ []) ≡ (if p y then [] else after_last p xs ++ y ∷ [])

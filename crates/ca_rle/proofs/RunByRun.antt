@@ -19,7 +19,7 @@ use Rattle.ca_rle.specs.declared.item.Tag.TheVariants.{Cell}
 use Rattle.ca_rle.specs.declared.write.runs.Run.{Run}
 use Rattle.ca_rle.specs.Shown.{place_behind, run_of, picture_of}
 use Rattle.ca_rle.specs.Tidy.{AreTidy}
-use Rattle.ca_rle.specs.Written.{Leads}
+use Rattle.ca_rle.specs.inner.Written.{IsGap}
 use Rattle.ca_rle.proofs.Gaps.{PutsGap, item_of, AreBefore, place-cells, place-gap, cells-gap, cells-run, before-first, before-next, tidy-end}
 
 -- ---- reading order
@@ -105,7 +105,7 @@ abbrev begun : Point × ℕ → Run
 begun e = record { from = e.0; past = e.0.x +ℤ pos 1; state = e.1 }
 
 -- the first run
-first_run : (corner : Point) (gap : List Item) (run : Run) (e : Point × ℕ) → Leads corner.x corner e.0 gap → 0 < e.1
+first_run : (corner : Point) (gap : List Item) (run : Run) (e : Point × ℕ) → IsGap corner.x corner e.0 gap → 0 < e.1
     → run.from ≡ e.0 → run.past ≡ e.0.x +ℤ pos 1 → run.state ≡ e.1 → IsReadTo corner gap run (e ∷ [])
 first_run corner gap run e leads live from past state =
     let read : IsReadTo corner gap (begun e) (e ∷ []) = record {
@@ -161,7 +161,7 @@ run_shown corner items run seen read =
 -- the next run
 next_run : (corner : Point) (items gap : List Item) (run next : Run) (seen : Picture) (e : Point × ℕ) (item : Item) (behind : Point) → IsReadTo corner items run seen
     → item.tag ≡ Cell run.state → run.past ≡ run.from.x +ℤ pos item.count → behind.y ≡ run.from.y → behind.x ≡ run.past
-    → Leads corner.x behind e.0 gap → 0 < e.1 → (e.0 ≡ behind → run.state ≢ e.1)
+    → IsGap corner.x behind e.0 gap → 0 < e.1 → (e.0 ≡ behind → run.state ≢ e.1)
     → next.from ≡ e.0 → next.past ≡ e.0.x +ℤ pos 1 → next.state ≡ e.1
     → IsReadTo corner ((items ++ item ∷ []) ++ gap) next (seen ++ e ∷ [])
 next_run corner items gap run next seen e item behind read tag count row column leads live apart from past state =
@@ -191,7 +191,7 @@ pub read-first : (corner : Point) (left : ℤ) (none items : List Item) (run : R
     → run.from ≡ e.0 → run.past ≡ e.0.x +ℤ pos 1 → run.state ≡ e.1 → IsReadTo corner items run (e ∷ [])
 read-first corner left none items run e at empty (gap, leads, put) live from past state =
     subst (λ (l : List Item). IsReadTo corner l run (e ∷ [])) (sym (put ∙ ap (λ (l : List Item). l ++ gap) empty))
-    (first_run corner gap run e (subst (λ (x : ℤ). Leads x corner e.0 gap) at leads) live from past state)
+    (first_run corner gap run e (subst (λ (x : ℤ). IsGap x corner e.0 gap) at leads) live from past state)
 
 -- the next run, behind a gap that was put behind the item of the one before
 pub read-next : (corner : Point) (left : ℤ) (items mid new : List Item) (run next : Run) (seen : Picture) (e : Point × ℕ) (item : Item) (behind : Point) → IsReadTo corner items run seen
@@ -201,7 +201,7 @@ pub read-next : (corner : Point) (left : ℤ) (items mid new : List Item) (run n
     → IsReadTo corner new next (seen ++ e ∷ [])
 read-next corner left items mid new run next seen e item behind read tag count row column pushed at (gap, leads, put) live apart from past state =
     subst (λ (l : List Item). IsReadTo corner l next (seen ++ e ∷ [])) (sym (put ∙ ap (λ (l : List Item). l ++ gap) pushed))
-    (next_run corner items gap run next seen e item behind read tag count row column (subst (λ (x : ℤ). Leads x behind e.0 gap) at leads) live
+    (next_run corner items gap run next seen e item behind read tag count row column (subst (λ (x : ℤ). IsGap x behind e.0 gap) at leads) live
     (λ same z. apart (ap (λ (p : Point). p.y) same ∙ row) (ap (λ (p : Point). p.x) same ∙ column) (sym z)) from past state)
 
 -- the last run

@@ -10,8 +10,8 @@ use Rattle.ca_rle.specs.Header.{Said}
 use Rattle.ca_rle.specs.File.{File, corner_of, generation_of, IsHeaded, IsFile}
 use Rattle.ca_rle.specs.Limits.{IsWithinRange, IsWithinLimits, HasTooManyCells, IsOutOfRange}
 use Rattle.ca_rle.specs.Faults.{IsFaultOf, HasBadItem}
-use Rattle.ca_rle.specs.FrontFaults.{IsFrontFault}
-use Rattle.ca_rle.specs.Reading.{KeepsCorner, bare_file, IsBodyFault, HasBadUnit}
+use Rattle.ca_rle.specs.inner.FrontFaults.{IsFrontFault}
+use Rattle.ca_rle.specs.inner.BodyFaults.{KeepsCorner, bare_file, IsBodyFault, HasBadUnit}
 
 -- what a text holds whose header and items are these
 abbrev pub file_of : List Said → Option (List ℕ) → List Item → File

@@ -9,7 +9,7 @@ use Rattle.ca_rle.specs.declared.item.Item.{Item}
 use Rattle.ca_rle.specs.File.{ended}
 use Rattle.ca_rle.specs.Shown.{picture_of}
 use Rattle.ca_rle.specs.Tidy.{AreTidy, HaveStates, IsFrame, corner_line, header_line, item_text, IsTidy}
-use Rattle.ca_rle.specs.Written.{IsPlaced, PutsLines}
+use Rattle.ca_rle.specs.inner.Written.{IsPlaced, PutsLines}
 use Rattle.ca_rle.proofs.Laid.{IsLaid, laid_more, laid_end}
 
 -- the texts of the first items, with one more

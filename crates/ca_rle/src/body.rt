@@ -7,7 +7,7 @@ ghost use Rattle.ca_rle.specs.declared.item.Item.{Item};
 ghost use Rattle.ca_rle.specs.Items.{Items};
 ghost use Rattle.ca_rle.specs.Shown.{picture_of};
 ghost use Rattle.ca_rle.specs.Limits.{IsWithinLimits};
-ghost use Rattle.ca_rle.specs.Reading.{bare_file, IsBodyFault};
+ghost use Rattle.ca_rle.specs.inner.BodyFaults.{bare_file, IsBodyFault};
 
 use crate::drawing::draw;
 use crate::extent::measure;

@@ -9,8 +9,8 @@ ghost use Rattle.ca_rle.specs.Items.{Run, IsEnd, Items};
 ghost use Rattle.ca_rle.specs.Faults.{item_fault};
 ghost use Rattle.ca_rle.specs.Shown.{state_of, run_of, picture_of};
 ghost use Rattle.ca_rle.specs.Limits.{IsInRange, IsWithinRange};
-ghost use Rattle.ca_rle.specs.Reading.{kept, bare_file};
-ghost use Rattle.ca_rle.specs.Extent.{point_from, HasRoom, cells_from};
+ghost use Rattle.ca_rle.specs.inner.BodyFaults.{kept, bare_file};
+ghost use Rattle.ca_rle.specs.inner.Extent.{point_from, HasRoom, cells_from};
 
 use crate::extent::Offset;
 use crate::item::Item;

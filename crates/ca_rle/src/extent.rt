@@ -5,8 +5,8 @@ ghost use Rattle.ca_rle.specs.declared.item.Item.{Item};
 ghost use Rattle.ca_rle.specs.Items.{Items};
 ghost use Rattle.ca_rle.specs.Shown.{ends_row, state_of};
 ghost use Rattle.ca_rle.specs.Limits.{IsInRange};
-ghost use Rattle.ca_rle.specs.Reading.{HasBadUnit};
-ghost use Rattle.ca_rle.specs.Extent.{kept_number, live_count, IsOffsetOf, IsExtentOf, IsExtentInRange, point_from};
+ghost use Rattle.ca_rle.specs.inner.BodyFaults.{HasBadUnit};
+ghost use Rattle.ca_rle.specs.inner.Extent.{kept_number, live_count, IsOffsetOf, IsExtentOf, IsExtentInRange, point_from};
 
 use crate::fault::RleFault;
 use crate::item::{Item, Tag};
@@ -17,7 +17,7 @@ use ca_plane::Point;
 const LONGEST: u64 = 1 << 62;
 
 /// Coordinates that are in range are from -2^60 on, and below 2^60.
-const FAR: i128 = 1 << 60;
+const RANGE_EDGE: i128 = 1 << 60;
 
 /// Where an item begins: so many rows below the corner, and so many columns right of it. At 2^64 - 1 each of them stays.
 #[derive(Clone, Copy, Debug)]
@@ -126,7 +126,7 @@ fn has_room(coordinate: i64, length: u64) -> bool
 {
     let start = i128::from(coordinate);
     let end = start + i128::from(length);
-    -FAR <= start && start < FAR && end <= FAR
+    -RANGE_EDGE <= start && start < RANGE_EDGE && end <= RANGE_EDGE
 }
 
 /// How far the items of a body reach.

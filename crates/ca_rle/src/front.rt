@@ -10,9 +10,9 @@ ghost use Rattle.std.specs.List.{flat_map};
 ghost use Rattle.ca_plane.specs.Bytes.{Every, is_line_end, is_end_or};
 ghost use Rattle.ca_rle.specs.Header.{Said, is_comment};
 ghost use Rattle.ca_rle.specs.File.{IsHeaded, ended, corner_of, generation_of};
-ghost use Rattle.ca_rle.specs.Reading.{KeepsCorner};
-ghost use Rattle.ca_rle.specs.FrontFaults.{IsFrontFault};
-ghost use Rattle.ca_rle.specs.FrontParts.{IsRead, IsFront};
+ghost use Rattle.ca_rle.specs.inner.BodyFaults.{KeepsCorner};
+ghost use Rattle.ca_rle.specs.inner.FrontFaults.{IsFrontFault};
+ghost use Rattle.ca_rle.specs.inner.FrontParts.{IsPreambleOf, IsFront};
 
 use self::header::read_header;
 use self::lines::{Preamble, is_comment};
@@ -37,9 +37,9 @@ fn front_at<'a>(preamble: Preamble, line: &'a [u8], body: &'a [u8]) -> Result<Fr
     requires line { Every (λ b. not (is_line_end b)) line.now }
     requires header { is_comment line.now ≡ false }
     requires ends { is_end_or is_line_end body.now ≡ true }
-    ensures found { IfOk result (λ f. (lines : List (List ℕ)) (said : List Said) → IsRead lines said preamble
+    ensures found { IfOk result (λ f. (lines : List (List ℕ)) (said : List Said) → IsPreambleOf lines said preamble
         → IsFront (flat_map ended lines ++ (line.now ++ body.now)) f) }
-    ensures fault { IfErr result (λ f. (lines : List (List ℕ)) (said : List Said) → IsRead lines said preamble
+    ensures fault { IfErr result (λ f. (lines : List (List ℕ)) (said : List Said) → IsPreambleOf lines said preamble
         → IsFrontFault (flat_map ended lines ++ (line.now ++ body.now)) f) }
 {
     let Some(header) = read_header(line) else {

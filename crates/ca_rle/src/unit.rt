@@ -5,8 +5,8 @@ ghost use Rattle.ca_plane.specs.Bytes.{is_blank, is_digit, is_end_or, Every, val
 ghost use Rattle.ca_rle.specs.declared.item.Item.{Item};
 ghost use Rattle.ca_rle.specs.Items.{AtStart, InLine, is_letter, is_prefix, prefixed_state, tag_of, Run, IsEnd};
 ghost use Rattle.ca_rle.specs.Faults.{behind_white, letter_fault, tag_fault, item_fault};
-ghost use Rattle.ca_rle.specs.Reading.{kept};
-ghost use Rattle.ca_rle.specs.Unit.{IsSplit};
+ghost use Rattle.ca_rle.specs.inner.BodyFaults.{kept};
+ghost use Rattle.ca_rle.specs.inner.ItemParts.{IsSplit};
 
 use crate::fault::RleFault;
 use crate::item::{Item, Tag};

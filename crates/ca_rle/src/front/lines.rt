@@ -4,7 +4,7 @@ ghost use Rattle.std.specs.Prelude.{◌≡◌, ℕ, List, [], ◌∷◌, ◌++�
 ghost use Rattle.std.specs.List.{AllZip};
 ghost use Rattle.ca_plane.specs.Bytes.{Every, is_line_end, words_of, without_cr};
 ghost use Rattle.ca_rle.specs.Header.{Said, Says, is_comment, extended_words, IsXlifeLine};
-ghost use Rattle.ca_rle.specs.FrontParts.{Leads, HasBadWordAmong, IsRead};
+ghost use Rattle.ca_rle.specs.inner.FrontParts.{Leads, HasBadWordAmong, IsPreambleOf};
 
 use super::words::Start;
 use crate::fault::RleFault;
@@ -74,7 +74,7 @@ fn behind_cxrle(line: &[u8]) -> Option<&[u8]>
 impl Preamble {
     /// Before the first line.
     pub(crate) fn new() -> Preamble
-        ensures { IsRead [] [] result }
+        ensures { IsPreambleOf [] [] result }
     {
         Preamble {
             start: Start {
@@ -102,7 +102,7 @@ impl Preamble {
         requires line { Every (λ b. not (is_line_end b)) line.now }
         requires comment { is_comment line.now ≡ true }
         ensures found { IfOk result (λ p. (more : List Said) × AllZip Says (extended_words line.now) more
-            × ((lines : List (List ℕ)) (said : List Said) → IsRead lines said self → IsRead (lines ++ line.now ∷ []) (said ++ more) p)) }
+            × ((lines : List (List ℕ)) (said : List Said) → IsPreambleOf lines said self → IsPreambleOf (lines ++ line.now ∷ []) (said ++ more) p)) }
         ensures fault { IfErr result (λ f. HasBadWordAmong (extended_words line.now) f) }
     {
         let start = self.start_behind(line)?;

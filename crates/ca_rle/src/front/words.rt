@@ -5,7 +5,7 @@ ghost use Rattle.std.specs.List.{prefix_len, list_all};
 ghost use Rattle.ca_plane.specs.Bytes.{Every, is_line_end, is_digit, AreDigits, IsInteger, words_of, value, front, rest};
 ghost use Rattle.ca_rle.specs.Header.{Says, Generation as SaidGeneration};
 ghost use Rattle.ca_rle.specs.Faults.{IsBadWord};
-ghost use Rattle.ca_rle.specs.FrontParts.{Writes, WritesPair, Leads, HasBadWordAmong};
+ghost use Rattle.ca_rle.specs.inner.FrontParts.{Writes, WritesPair, Leads, HasBadWordAmong};
 
 use crate::fault::RleFault;
 use ca_plane::Point;
@@ -20,13 +20,13 @@ pub(crate) struct Start {
 }
 
 /// More than a coordinate may be, both ways.
-const FAR: i64 = 1 << 61;
+const BEYOND_RANGE: i64 = 1 << 61;
 
 /// The coordinate that the bytes write; where it is out of range, some number that is out of range too.
 fn coordinate(bytes: &[u8]) -> Option<i64>
     ensures { MatchOption result ((n : ℤ) → IsInteger bytes.now n → ⊥) (λ n. Writes bytes.now n) }
 {
-    Some(integer(bytes)?.clamp(-FAR, FAR))
+    Some(integer(bytes)?.clamp(-BEYOND_RANGE, BEYOND_RANGE))
 }
 
 /// The place that two numbers with a comma between them write.

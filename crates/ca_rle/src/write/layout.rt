@@ -3,7 +3,7 @@
 ghost use Rattle.std.specs.Prelude.{◌≡◌, ℕ, ◌≤◌, ◌++◌, ◌∷◌, [], List, map, length, codes, OnOk, IfOk};
 ghost use Rattle.ca_plane.specs.Puts.{Puts};
 ghost use Rattle.ca_rle.specs.Tidy.{letters_of, tag_text, count_text, item_text};
-ghost use Rattle.ca_rle.specs.Written.{IsPlaced, PutsLines};
+ghost use Rattle.ca_rle.specs.inner.Written.{IsPlaced, PutsLines};
 
 use crate::item::{Item, Tag};
 use ca_plane::Memory;

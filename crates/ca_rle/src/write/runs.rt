@@ -6,7 +6,7 @@ ghost use Rattle.ca_rle.specs.declared.item.Item.{Item};
 ghost use Rattle.ca_rle.specs.declared.item.Tag.TheVariants.{Cell};
 ghost use Rattle.ca_rle.specs.Shown.{picture_of};
 ghost use Rattle.ca_rle.specs.Tidy.{AreTidy, HaveStates};
-ghost use Rattle.ca_rle.specs.Written.{some_of, Leads};
+ghost use Rattle.ca_rle.specs.inner.Written.{some_of, IsGap};
 ghost use Rattle.ca_plane.specs.Plane.{cell};
 
 use super::frame::distance;
@@ -84,7 +84,7 @@ fn push_gap(items: &mut Vec<Item>, left: i64, from: Point, to: Point) -> Result<
     requires below { from.y ≤ℤ to.y }
     requires right { to.y ≡ from.y → from.x ≤ℤ to.x }
     requires left { left ≤ℤ to.x }
-    ensures { OnOk result ((gap : List Item) × Leads left from to gap × (items.new.items ≡ items.old.items ++ gap)) }
+    ensures { OnOk result ((gap : List Item) × IsGap left from to gap × (items.new.items ≡ items.old.items ++ gap)) }
 {
     let rows = distance(from.y, to.y);
     if rows == 0 {

@@ -6,8 +6,8 @@ use Rattle.std.proofs.lemmas.List.{append_cancel_left}
 use Rattle.ca_plane.specs.Bytes.{is_line_end, is_end_or}
 use Rattle.ca_rle.specs.declared.item.Tag.TheVariants.{Cell}
 use Rattle.ca_rle.specs.File.{IsLine, IsHeaded}
-use Rattle.ca_rle.proofs.Found.{run_found}
-use Rattle.ca_rle.specs.HeaderParts.{parts_left}
+use Rattle.ca_rle.proofs.ReadItems.{run_found}
+use Rattle.ca_rle.specs.inner.HeaderParts.{parts_left}
 use Rattle.ca_rle.proofs.Headers.{spaced_found, header_found, no_header}
 use Rattle.ca_rle.proofs.examples.worked_faults.Goals as goal
 

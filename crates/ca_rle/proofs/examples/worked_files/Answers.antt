@@ -1,6 +1,6 @@
 use Rattle.std.proofs.Common.{[], ◌++◌, ◌∷◌, pos, negsuc, Some, None, inl, inr, lit<, codes, refl}
 use Rattle.ca_rle.specs.Header.{size_parts, Corner, Generation}
-use Rattle.ca_rle.proofs.Found.{items_found}
+use Rattle.ca_rle.proofs.ReadItems.{items_found}
 use Rattle.ca_rle.proofs.Headers.{spaced_found, header_found}
 use Rattle.ca_rle.proofs.examples.worked_files.Goals as goal
 

@@ -1,5 +1,5 @@
 use Rattle.std.proofs.Common.{◌++◌, ◌∷◌, codes, refl}
-use Rattle.ca_rle.proofs.Found.{items_found}
+use Rattle.ca_rle.proofs.ReadItems.{items_found}
 use Rattle.ca_rle.proofs.examples.worked_items.Goals as goal
 
 pub returns-clause-block : goal.returns-clause-block

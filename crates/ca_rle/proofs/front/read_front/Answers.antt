@@ -1,7 +1,7 @@
 use Rattle.std.proofs.Common.{ℕ, List, [], ◌∷◌, ◌++◌, sym, subst, ◌∙◌, rules}
 use Rattle.std.proofs.lemmas.Result.{MatchResult-weaker}
-use Rattle.ca_rle.specs.FrontParts.{IsFront}
-use Rattle.ca_rle.specs.FrontFaults.{IsFrontFault}
+use Rattle.ca_rle.specs.inner.FrontParts.{IsFront}
+use Rattle.ca_rle.specs.inner.FrontFaults.{IsFrontFault}
 use Rattle.ca_rle.proofs.FrontLines.{first_line_is_line, first_line_ends, split_there, line_passed, fewer_behind, word_fault, no_header_there}
 use Rattle.ca_rle.proofs.front.read_front.Goals as goal
 

@@ -1,5 +1,5 @@
 use Rattle.std.proofs.Common.{refl}
-use Rattle.ca_rle.proofs.Kept.{keeps_clamped, kept_in_bits}
+use Rattle.ca_rle.proofs.StartWords.{keeps_clamped, kept_in_bits}
 use Rattle.ca_rle.proofs.front.words.coordinate.Goals as goal
 
 pub returns : goal.returns

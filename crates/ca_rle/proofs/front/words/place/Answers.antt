@@ -1,6 +1,6 @@
 use Rattle.std.proofs.Common.{◌≡◌, refl, sym, subst, ◌∙◌}
-use Rattle.ca_rle.specs.FrontParts.{Writes}
-use Rattle.ca_rle.proofs.Kept.{split_pair, writes_pair, kept_in_bits}
+use Rattle.ca_rle.specs.inner.FrontParts.{Writes}
+use Rattle.ca_rle.proofs.StartWords.{split_pair, writes_pair, kept_in_bits}
 use Rattle.ca_rle.proofs.front.words.place.Goals as goal
 
 pub returns-in_err-y : goal.returns-in_err-y

@@ -2,7 +2,7 @@ use Rattle.std.proofs.Common.{◌≡◌, ◌++◌, arith}
 use Rattle.std.proofs.lemmas.Int.{ints}
 use Rattle.std.proofs.lemmas.Result.{on_ok_weaker}
 use Rattle.ca_rle.specs.declared.item.Tag.TheVariants.{Cell}
-use Rattle.ca_rle.specs.Written.{some_of}
+use Rattle.ca_rle.specs.inner.Written.{some_of}
 use Rattle.ca_rle.proofs.Gaps.{PutsGap, gap-in_row, gap-over_rows}
 use Rattle.ca_rle.proofs.write.runs.push_gap.Goals as goal
 

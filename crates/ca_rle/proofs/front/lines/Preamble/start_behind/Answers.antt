@@ -1,6 +1,6 @@
 use Rattle.std.proofs.Common.{sym, subst}
-use Rattle.ca_rle.specs.FrontParts.{Leads}
-use Rattle.ca_rle.proofs.Kept.{leads_none}
+use Rattle.ca_rle.specs.inner.FrontParts.{Leads}
+use Rattle.ca_rle.proofs.StartWords.{leads_none}
 use Rattle.ca_rle.proofs.front.lines.Preamble.start_behind.Goals as goal
 
 pub returns-in-None-clause-found : goal.returns-in-None-clause-found

@@ -1,4 +1,4 @@
-use Rattle.ca_rle.proofs.Kept.{leads_corner, leads_generation, leads_nowhere, says_nothing, bad_place}
+use Rattle.ca_rle.proofs.StartWords.{leads_corner, leads_generation, leads_nowhere, says_nothing, bad_place}
 use Rattle.std.proofs.Common.{sym, subst}
 use Rattle.ca_rle.specs.Header.{Says, Generation}
 use Rattle.ca_rle.proofs.front.words.Start.behind_word.Goals as goal

@@ -1,5 +1,5 @@
 use Rattle.std.proofs.Common.{refl, [], ◌∷◌, ◌++◌, sym, ap, ◌∙◌, append_assoc}
-use Rattle.ca_rle.proofs.Kept.{leads_none, leads_more}
+use Rattle.ca_rle.proofs.StartWords.{leads_none, leads_more}
 use Rattle.ca_rle.proofs.front.words.Start.behind_words.Goals as goal
 
 pub words-init : goal.words-init

@@ -1,7 +1,7 @@
 use Rattle.std.proofs.Common.{◌≡◌, ◌++◌, not, length}
 use Rattle.std.specs.Prelude.{ℕ, List}
 use Rattle.ca_plane.specs.Bytes.{Every, is_line_end, words_of}
-use Rattle.ca_rle.specs.FrontParts.{Leads}
+use Rattle.ca_rle.specs.inner.FrontParts.{Leads}
 use Rattle.ca_rle.proofs.front.words.Start.behind_words.Given as goal
 
 abbrev pub invariant-words : goal.invariant-words

@@ -11,7 +11,7 @@ use Rattle.ca_rle.specs.declared.front.Front.{Front}
 use Rattle.ca_rle.specs.Header.{Said, Says, IsXlifeLine}
 use Rattle.ca_rle.specs.File.{IsPreamble, IsHeaded, corner_of, generation_of}
 use Rattle.ca_rle.specs.Faults.{IsBadWord}
-use Rattle.ca_rle.specs.Reading.{KeepsCorner}
+use Rattle.ca_rle.specs.inner.BodyFaults.{KeepsCorner}
 
 -- from -2^60 to 2^60 - 1
 abbrev pub IsNear : ℤ → Type 0
@@ -55,7 +55,7 @@ abbrev pub HasXlifeLine : List (List ℕ) → Type 0
 HasXlifeLine lines = (earlier : List (List ℕ)) × (line : List ℕ) × (later : List (List ℕ)) × IsXlifeLine line × (lines ≡ earlier ++ line ∷ later)
 
 -- what lines before a header say
-pub record IsRead (lines : List (List ℕ)) (said : List Said) (preamble : Preamble) : Type 0 where
+pub record IsPreambleOf (lines : List (List ℕ)) (said : List Said) (preamble : Preamble) : Type 0 where
   pub good : IsPreamble lines said
   pub start : IsStart said preamble.start
   pub xlife : preamble.has_xlife_rule ≡ true → HasXlifeLine lines

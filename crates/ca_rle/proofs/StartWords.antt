@@ -17,8 +17,8 @@ use Rattle.ca_rle.specs.declared.fault.RleFault.TheVariants.{Syntax}
 use Rattle.ca_rle.specs.Header.{Said, Corner, Generation, Nothing, Says}
 use Rattle.ca_rle.specs.File.{last_corner, last_generation}
 use Rattle.ca_rle.specs.Faults.{IsBadWord}
-use Rattle.ca_rle.specs.Reading.{KeepsCorner}
-use Rattle.ca_rle.specs.FrontParts.{KeepsNumber, Writes, WritesPair, IsStart, Leads, HasBadWordAmong}
+use Rattle.ca_rle.specs.inner.BodyFaults.{KeepsCorner}
+use Rattle.ca_rle.specs.inner.FrontParts.{KeepsNumber, Writes, WritesPair, IsStart, Leads, HasBadWordAmong}
 use Rattle.ca_plane.proofs.Fronts.{front_append, rest_append, front_then_rest}
 use Rattle.ca_rle.proofs.OneHeader.{integer_has_no_comma}
 
