@@ -1,9 +1,8 @@
-//! Texts that come out for texts that go in, and devices that fail.
+//! What no claim text can make the program do: devices that fail in mid-stream, and answers and faults made by hand. The rest is shown over the
+//! built program, by examples/ and tests/.
 
-mod claimed;
 mod complaints;
 mod devices;
-mod memory;
 mod printed;
 mod reads;
 mod runs;

@@ -1,4 +1,4 @@
-//! The line of each fault.
+//! Lines of faults that the program isn't made to meet, and lines that are written in part.
 
 use super::devices::{Narrow, Refusal};
 use crate::{Fault, InputFault, ToolFault, complain};
@@ -9,24 +9,9 @@ use std::test::*;
 #[test]
 fn a_line_for_each_fault(rt: HostRuntime) -> Result<(), Fail> {
     for (fault, line) in [
-        (Fault::Input(InputFault::Read), "cafile: cannot read p\n"),
-        (Fault::Input(InputFault::TooLong), "cafile: too long p\n"),
         (Fault::Input(InputFault::Memory), "cafile: memory\n"),
         (Fault::Claims(ClaimFault::Memory), "cafile: memory\n"),
         (Fault::Tool(ToolFault::Memory), "cafile: memory\n"),
-        (Fault::Tool(ToolFault::Write), "cafile: write\n"),
-        (
-            Fault::Claims(ClaimFault::Syntax { line: 7 }),
-            "cafile: claims line 7: syntax\n",
-        ),
-        (
-            Fault::Claims(ClaimFault::Number { line: 10 }),
-            "cafile: claims line 10: number\n",
-        ),
-        (
-            Fault::Claims(ClaimFault::UnknownName { line: 7 }),
-            "cafile: claims line 7: unknown name\n",
-        ),
         (
             Fault::Claims(ClaimFault::NameTaken { line: u64::MAX }),
             "cafile: claims line 18446744073709551615: name taken\n",
