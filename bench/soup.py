@@ -1,5 +1,6 @@
 #!/usr/bin/env python3
-"""Times the built program on large files: a random soup of 1000 by 1000 with three of eight cells live, and one of 16 MB.
+"""Times the built program: on a random soup of 1000 by 1000 with three of eight cells live, on one of 16 MB, on the most live cells that are read, and on
+long runs of small patterns.
 
 Run it at the root of the repository: python3 bench/soup.py
 It prints a line for each run: seconds of wall clock (the best of three), and the greatest memory of a run.
@@ -72,6 +73,15 @@ def time_soup(folder, width, height):
     print(f"    five steps: {steps / 5:.3f} s each; read and stepped once: {still:.3f} s")
 
 
+def time_most_cells(folder):
+    """Times reading a row of as many live cells as are read."""
+    path = os.path.join(folder, "row.rle")
+    with open(path, "w", encoding="ascii") as file:
+        file.write("x = 16777216, y = 1, rule = B3/S23\n16777216o!\n")
+    block = os.path.abspath("examples/block.rle")
+    report(folder, "16777216o!, read", f"load row {path}\nload block {block}\nbecomes row 0 block\n")
+
+
 def main():
     if not os.access(PROGRAM, os.X_OK):
         print("build the program first: ./cafile --help", file=sys.stderr)
@@ -79,10 +89,14 @@ def main():
     with tempfile.TemporaryDirectory() as folder:
         time_soup(folder, 1000, 1000)
         time_soup(folder, 4000, 4000 * 16 // 11)
+        time_most_cells(folder)
         for name, claim in (
             ("r_pentomino", "becomes p 1103 p"),
             ("queen_bee_shuttle", "oscillator p 30"),
             ("copperhead", "spaceship p 10 0 -1"),
+            ("period_840", "oscillator p 840"),
+            ("period_162_ship", "spaceship p 162 0 -10"),
+            ("blinker", "becomes p 100000 p"),
         ):
             path = os.path.abspath(f"examples/{name}.rle")
             report(folder, f"{name}, {claim}", f"load p {path}\n{claim}\n")
