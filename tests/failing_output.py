@@ -29,6 +29,8 @@ def main():
             tally.expect(f"a standard output that is open for reading alone, {name}", run(words, stdout=unwritable), FAILED_WRITE)
         tally.expect("a full standard output, and a text that has a fault", run(["verify", "examples/syntax.claims"], stdout=full),
                      fault("claims line 2: syntax"))
+        for name in ("no_claims", "nothing"):
+            tally.expect(f"a full standard output, and no claims, {name}", run(["verify", f"examples/{name}.claims"], stdout=full), Outcome(b"", b"", 0))
         for words in (["verify", "examples/syntax.claims"], ["verify", "examples/lost"], ["verify"]):
             tally.expect(f"a full standard error, {' '.join(words)}", run(words, stderr=full), Outcome(b"", b"", 2))
             tally.expect(f"a closed standard error, {' '.join(words)}", without(2, words), Outcome(b"", b"", 2))

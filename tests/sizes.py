@@ -127,8 +127,8 @@ def try_the_most_cells(texts):
     """16777216 live cells are read, and one more isn't."""
     row = texts.path("row.rle", "x = 1, y = 1, rule = B3/S23\n16777216o!\n")
     longer = texts.path("longer.rle", "x = 1, y = 1, rule = B3/S23\n16777216o$o!\n")
-    texts.expect("16777216 cells", [f"load row {row}", f"load longer {longer}", "becomes row 0 row", "still longer"],
-                 lines_outcome([(3, "yes"), (4, "refused, bad pattern: rle too many cells")]))
+    texts.expect("16777216 cells", [f"load block {BLOCK}", f"load row {row}", f"load longer {longer}", "becomes row 0 block", "still longer"],
+                 lines_outcome([(4, "no, cells differ after 0"), (5, "refused, bad pattern: rle too many cells")]))
 
 
 def main():
