@@ -1,11 +1,13 @@
 pub mod Boxes
 pub mod FirstWords
+pub mod Compared
+pub mod Gathered
 pub mod Fronts
-pub mod Kept
 pub mod Lengths
 pub mod Lines
 pub mod Numbers
 pub mod Pictures
+pub mod Places
 pub mod Same
 pub mod Sends
 pub mod Shifts

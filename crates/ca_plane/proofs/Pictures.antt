@@ -191,14 +191,14 @@ IsSame-Sets p p' q q' at state one two same = λ x y.
     one x y ∙ ap (λ s. if int_eq y at.y && int_eq x at.x then state else s) (same x y) ∙ sym (two x y)
 
 -- two tests of which one fails choose in either order
-if-swap : (s t : Bool) (u v w z : ℕ) → (s ≡ true → t ≡ true → ⊥) → z ≡ (if t then u else w) → (if s then v else z) ≡ (if t then u else (if s then v else w))
+pub if-swap : (s t : Bool) (u v w z : ℕ) → (s ≡ true → t ≡ true → ⊥) → z ≡ (if t then u else w) → (if s then v else z) ≡ (if t then u else (if s then v else w))
 if-swap true true u v w z apart e = absurd (apart refl refl)
 if-swap true false u v w z apart e = refl
 if-swap false true u v w z apart e = e
 if-swap false false u v w z apart e = e
 
 -- what holds of each point holds of one in the middle
-point-middle : (P : Point → Type 0) (xs t : Picture) (e : Point × ℕ) → AllByRecursion P (map (λ f. f.0) (xs ++ e ∷ t)) → P e.0
+pub point-middle : (P : Point → Type 0) (xs t : Picture) (e : Point × ℕ) → AllByRecursion P (map (λ f. f.0) (xs ++ e ∷ t)) → P e.0
 point-middle P [] t e all = all.0
 point-middle P (x ∷ xs) t e all = point-middle P xs t e all.1
 

@@ -1,6 +1,5 @@
 -- Sparse pictures that show the same cells are the same list.
 use Rattle.std.proofs.Common.{◌≡◌, ℕ, ◌≤◌, [], ◌∷◌, map, true, ◌&&◌, sym, refl, ap, ◌∙◌, subst, inl, inr, ◌⊎◌, arith, Ordering, Less, Equal, Greater}
-use Rattle.std.specs.List.{AllByRecursion}
 use Rattle.std.specs.List.Sorted.{IsStrictlySortedBy}
 use Rattle.std.specs.Ordering.{int_eq, ordering_reverse}
 use Rattle.std.proofs.lemmas.Bool.{cases_Bool, cond-false, false_from_ne_true}
@@ -10,37 +9,34 @@ use Rattle.std.proofs.lemmas.Map.Keys.{sorted_head, sorted_tail}
 use Rattle.ca_plane.specs.declared.point.Point.{Point}
 use Rattle.ca_plane.specs.Plane.{Picture, IsPicture, cell, IsSame}
 use Rattle.ca_plane.specs.Sparse.{point_cmp, IsSparse}
+use Rattle.ca_plane.specs.inner.Places.{ComeBehind}
 use Rattle.ca_plane.proofs.Pictures.{point_cmp_total, point_cmp_exact, cell-first, place-from_true, apart-Less, IsSame-sym}
 
 -- the points of a picture rise
-abbrev Rises : Picture → Type 0
+abbrev pub Rises : Picture → Type 0
 Rises p = IsStrictlySortedBy point_cmp (map (λ e. e.0) p)
 
--- the points of a picture are all above one
-abbrev IsAbove : Point → Picture → Type 0
-IsAbove at p = AllByRecursion (λ q. point_cmp at q ≡ Less) (map (λ e. e.0) p)
-
 -- a point passes its own test
-place-itself : (at : Point) → (int_eq at.y at.y && int_eq at.x at.x) ≡ true
+pub place-itself : (at : Point) → (int_eq at.y at.y && int_eq at.x at.x) ≡ true
 place-itself at = rw (int_eq_equiv.refl at.y, int_eq_equiv.refl at.x) refl
 
--- below all its points a picture shows 0
-cell-below : (at : Point) (p : Picture) → IsAbove at p → cell p at.x at.y ≡ 0
-cell-below at [] above = refl
-cell-below at (e ∷ es) above =
+-- before all its points a picture shows 0
+pub cell-behind : (at : Point) (p : Picture) → ComeBehind at p → cell p at.x at.y ≡ 0
+cell-behind at [] above = refl
+cell-behind at (e ∷ es) above =
     let fails = false_from_ne_true _ (λ passes. apart-Less at e.0 at.x at.y above.0 (place-itself at) passes) in
-    cond-false _ e.1 (cell es at.x at.y) fails ∙ cell-below at es above.1
+    cond-false _ e.1 (cell es at.x at.y) fails ∙ cell-behind at es above.1
 
--- what is above a point is above each lower point
-IsAbove-lower : (a b : Point) (p : Picture) → point_cmp a b ≡ Less → IsAbove b p → IsAbove a p
-IsAbove-lower a b [] less above = tt
-IsAbove-lower a b (e ∷ es) less above = (point_cmp_total.trans a b e.0 less above.0, IsAbove-lower a b es less above.1)
+-- what comes behind a point comes behind each lower point
+pub ComeBehind-lower : (a b : Point) (p : Picture) → point_cmp a b ≡ Less → ComeBehind b p → ComeBehind a p
+ComeBehind-lower a b [] less above = tt
+ComeBehind-lower a b (e ∷ es) less above = (point_cmp_total.trans a b e.0 less above.0, ComeBehind-lower a b es less above.1)
 
 -- a picture with a lower first point shows another cell there
 not_below : (e f : Point × ℕ) (es fs : Picture) → 1 ≤ e.1 → Rises (f ∷ fs) → IsSame (e ∷ es) (f ∷ fs) → point_cmp e.0 f.0 ≡ Less → ⊥
 not_below e f es fs low rises same less =
-    let above : IsAbove e.0 (f ∷ fs) = (less, IsAbove-lower e.0 f.0 fs less (sorted_head point_cmp _ _ rises)) in
-    let zero_there : e.1 ≡ 0 = sym (cell-first e es) ∙ same e.0.x e.0.y ∙ cell-below e.0 (f ∷ fs) above in
+    let above : ComeBehind e.0 (f ∷ fs) = (less, ComeBehind-lower e.0 f.0 fs less (sorted_head point_cmp _ _ rises)) in
+    let zero_there : e.1 ≡ 0 = sym (cell-first e es) ∙ same e.0.x e.0.y ∙ cell-behind e.0 (f ∷ fs) above in
     omega arith
 
 cases_Ordering : (o : Ordering) → (o ≡ Less) ⊎ ((o ≡ Equal) ⊎ (o ≡ Greater))
@@ -65,13 +61,13 @@ rest-same e es fs rises rises' same = λ x y.
     elim (cases_Bool (int_eq y e.0.y && int_eq x e.0.x)) [
       | inl passes ↦
           let place = place-from_true x y e.0 passes in
-          let here : (p : Picture) → Rises (e ∷ p) → cell p x y ≡ 0 = λ p r. rw (place.0, place.1) (cell-below e.0 p (sorted_head point_cmp _ _ r)) in
+          let here : (p : Picture) → Rises (e ∷ p) → cell p x y ≡ 0 = λ p r. rw (place.0, place.1) (cell-behind e.0 p (sorted_head point_cmp _ _ r)) in
           here es rises ∙ sym (here fs rises')
       | inr fails ↦ sym (cond-false _ e.1 (cell es x y) fails) ∙ same x y ∙ cond-false _ e.1 (cell fs x y) fails
     ]
 
 -- entries with the same parts are the same
-entry-same : (e f : Point × ℕ) → e.0 ≡ f.0 → e.1 ≡ f.1 → e ≡ f
+pub entry-same : (e f : Point × ℕ) → e.0 ≡ f.0 → e.1 ≡ f.1 → e ≡ f
 entry-same e f at state =
     let along : (e.0, e.1) ≡ (f.0, f.1) = cc in along
 

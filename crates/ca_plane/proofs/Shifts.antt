@@ -1,20 +1,25 @@
 -- Pictures that are moved, cell by cell.
-use Rattle.std.proofs.Common.{◌≡◌, ℕ, ◌≤◌, [], ◌∷◌, ◌++◌, true, false, Option, Some, Result, Ok, Err, sym, refl, ◌∙◌, subst, arith}
-use Rattle.std.specs.Prelude.{ℤ, ◌+ℤ◌, ◌-ℤ◌}
+use Rattle.std.proofs.Common.{◌≡◌, ℕ, ◌≤◌, [], ◌∷◌, ◌++◌, true, false, Option, Some, Result, Ok, Err, sym, refl, ◌∙◌, subst, arith, Ordering, Less, Equal, Greater}
+use Rattle.std.specs.Prelude.{ℤ, ◌+ℤ◌, ◌-ℤ◌, ◌<ℤ◌}
 use Rattle.std.specs.Iterator.{Yields, YieldsFirst}
 use Rattle.std.specs.Result.{IsErrAnd, IsErrOf}
-use Rattle.std.specs.Ordering.{int_eq}
+use Rattle.std.specs.Ordering.{int_eq, int_cmp, MatchOrdering}
+use Rattle.std.specs.List.Sorted.{IsStrictlySortedBy}
+use Rattle.std.proofs.lemmas.Cmp.{int_ranked}
 use Rattle.std.proofs.lemmas.Bool.Decides.{Decides-int_eq, same_from_decides}
 use Rattle.std.proofs.lemmas.Int.{ints}
-use Rattle.std.proofs.lemmas.List.Elements.{All-contains}
+use Rattle.std.proofs.lemmas.List.Elements.{All-contains, All-map}
 use Rattle.std.proofs.lemmas.Map.Views.{All-turn}
 use Rattle.ca_plane.specs.declared.point.Point.{Point}
 use Rattle.ca_plane.specs.declared.memory.MoveFault.{MoveFault}
 use Rattle.ca_plane.specs.declared.memory.MoveFault.TheVariants.{Memory, Range}
 use Rattle.ca_plane.specs.Plane.{Picture, cell, shifted}
 use Rattle.ca_plane.specs.Change.{Sets}
-use Rattle.ca_plane.specs.Sparse.{IsInPlane, IsSparse}
-use Rattle.ca_plane.specs.Box.{moved, LeavesPlane, StaysInPlane}
+use Rattle.ca_plane.specs.Sparse.{IsInPlane, IsSparse, point_cmp}
+use Rattle.ca_plane.specs.inner.Places.{ComeBehind}
+use Rattle.ca_plane.proofs.Same.{Rises}
+use Rattle.ca_plane.specs.Box.{moved, LeavesPlane}
+use Rattle.ca_plane.specs.inner.Moves.{StaysInPlane}
 use Rattle.ca_plane.proofs.Pictures.{Contains-cell, IsListed, Sets-push}
 
 -- no test both holds and fails
@@ -71,3 +76,40 @@ not_Range (Err f) memory range =
 pub not_Err : {T E : Type 0} (t : T) (e : E) → IsErrOf (Ok t) e → ⊥
 not_Err t e range =
     let no : ⊥ = cc in no
+
+-- ---- moved pictures stay sparse
+
+-- numbers compare as they do when both are moved
+int_cmp-moved : (a b d : ℤ) → int_cmp (a +ℤ d) (b +ℤ d) ≡ int_cmp a b
+int_cmp-moved a b d = same-order (int_cmp (a +ℤ d) (b +ℤ d)) (int_cmp a b) (int_ranked (a +ℤ d) (b +ℤ d) _ refl) (int_ranked a b _ refl)
+  where
+    same-order : (o p : Ordering) → MatchOrdering o ((a +ℤ d) <ℤ (b +ℤ d)) (a +ℤ d ≡ b +ℤ d) ((b +ℤ d) <ℤ (a +ℤ d)) → MatchOrdering p (a <ℤ b) (a ≡ b) (b <ℤ a) → o ≡ p
+    same-order Less Less h k = refl
+    same-order Less Equal h k = absurd (omega (arith, ints))
+    same-order Less Greater h k = absurd (omega (arith, ints))
+    same-order Equal Less h k = absurd (omega (arith, ints))
+    same-order Equal Equal h k = refl
+    same-order Equal Greater h k = absurd (omega (arith, ints))
+    same-order Greater Less h k = absurd (omega (arith, ints))
+    same-order Greater Equal h k = absurd (omega (arith, ints))
+    same-order Greater Greater h k = refl
+
+-- and so do points
+point_cmp-moved : (p q : Point) (dx dy : ℤ) → point_cmp (moved p dx dy) (moved q dx dy) ≡ point_cmp p q
+point_cmp-moved p q dx dy = rw (int_cmp-moved p.y q.y dy, int_cmp-moved p.x q.x dx) refl
+
+ComeBehind-moved : (at : Point) (p : Picture) (dx dy : ℤ) → ComeBehind at p → ComeBehind (moved at dx dy) (shifted p dx dy)
+ComeBehind-moved at [] dx dy behind = tt
+ComeBehind-moved at (e ∷ es) dx dy behind = (point_cmp-moved at e.0 dx dy ∙ behind.0, ComeBehind-moved at es dx dy behind.1)
+
+Rises-moved : (p : Picture) (dx dy : ℤ) → Rises p → Rises (shifted p dx dy)
+unfolding IsStrictlySortedBy
+Rises-moved [] dx dy rises = tt
+Rises-moved (e ∷ es) dx dy rises = (ComeBehind-moved e.0 es dx dy rises.0, Rises-moved es dx dy rises.1)
+
+pub IsSparse-shifted : (p : Picture) (dx dy : ℤ) → IsSparse p → StaysInPlane p dx dy → IsSparse (shifted p dx dy)
+IsSparse-shifted p dx dy sparse stays = record {
+  states = All-map (λ (e : Point × ℕ). (1 ≤ e.1) × (e.1 ≤ 255)) (λ (e : Point × ℕ). (moved e.0 dx dy, e.1)) p sparse.states;
+  places = All-map (λ (e : Point × ℕ). IsInPlane e.0) (λ (e : Point × ℕ). (moved e.0 dx dy, e.1)) p stays;
+  rising = Rises-moved p dx dy sparse.rising;
+}

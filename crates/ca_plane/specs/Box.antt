@@ -1,6 +1,5 @@
 -- The least box round the live cells, and planes that are moved.
 use Rattle.std.specs.Prelude.{◌≢◌, ℤ, ◌≤ℤ◌, ◌+ℤ◌}
-use Rattle.std.specs.List.{All}
 use Rattle.ca_plane.specs.declared.point.Point.{Point}
 use Rattle.ca_plane.specs.declared.point.Bounds.{Bounds}
 use Rattle.ca_plane.specs.Plane.{Picture, cell}
@@ -25,7 +24,3 @@ LeavesPlane cells dx dy = (x : ℤ) × (y : ℤ) × (cell cells x y ≢ 0) × (I
 -- the point moved by (dx, dy)
 abbrev pub moved : Point → ℤ → ℤ → Point
 moved at dx dy = record { y = at.y +ℤ dy; x = at.x +ℤ dx }
-
--- each listed cell, moved by (dx, dy), stays in the square of a plane
-abbrev pub StaysInPlane : Picture → ℤ → ℤ → Type 0
-StaysInPlane cells dx dy = All (λ e. IsInPlane (moved e.0 dx dy)) cells

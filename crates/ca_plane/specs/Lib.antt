@@ -5,4 +5,5 @@ pub mod Sparse
 pub mod Bytes
 pub mod Device
 pub mod Box
+pub mod inner
 pub mod Puts

@@ -2,10 +2,11 @@
 
 ghost use Rattle.std.specs.Prelude.{◌≡◌, IsTrue, IsFalse, IsOk, IfOk, IsErrOf, ◌↔◌, ◌≤ℤ◌, ◌+ℤ◌, pos, neg_ℤ, ◌^◌};
 ghost use Rattle.ca_plane.specs.Plane.{IsSame, shifted};
-ghost use Rattle.ca_plane.specs.Box.{LeavesPlane, StaysInPlane, moved};
-ghost use Rattle.ca_plane.specs.Sparse.{IsInPlane};
+ghost use Rattle.ca_plane.specs.Box.{LeavesPlane, moved};
+ghost use Rattle.ca_plane.specs.inner.Moves.{StaysInPlane};
+ghost use Rattle.ca_plane.specs.Sparse.{IsInPlane, IsSparse};
 
-use crate::memory::MoveFault;
+use crate::memory::{Memory, MoveFault};
 use crate::plane::Plane;
 use crate::point::Point;
 use std::alloc::Global;
@@ -22,15 +23,26 @@ impl Plane {
     /// no memory for the moved plane.
     pub fn translated(&self, alloc: Global, dx: i64, dy: i64) -> Result<Plane, MoveFault>
         ensures moved { IfOk result (λ q. IsSame q (shifted self.now dx dy)) }
+        ensures sparse { IfOk result IsSparse }
         ensures range { IsErrOf result MoveFault.Range ↔ LeavesPlane self.now dx dy }
         ensures within { IsOk result → LeavesPlane self.now dx dy → ⊥ }
     {
         if !self.stays(dx, dy) {
             return Err(MoveFault::Range);
         }
-        let mut moved = Plane::new(alloc);
+        let cells = self.moved_cells(alloc, dx, dy)?;
+        Ok(Plane { cells })
+    }
+
+    // The cells, each moved.
+    fn moved_cells(&self, alloc: Global, dx: i64, dy: i64) -> Result<Vec<(Point, u8)>, Memory>
+        requires { StaysInPlane self.now dx dy }
+        ensures moved { IfOk result (λ v. v.items ≡ shifted self.now dx dy) }
+        ensures sparse { IsSparse self.now }
+    {
+        let mut moved = Vec::with_capacity(alloc, self.len())?;
         'cells: for (point, state) in self.cells() {
-            moved.set(point.moved(dx, dy), state)?;
+            moved.push((point.moved(dx, dy), state))?;
         }
         Ok(moved)
     }

@@ -1,4 +1,4 @@
-use Rattle.ca_plane.specs.Box.{StaysInPlane}
+use Rattle.ca_plane.specs.inner.Moves.{StaysInPlane}
 use Rattle.ca_plane.proofs.plane.Plane.stays.Given as goal
 
 -- the cells so far stay

@@ -1,0 +1,10 @@
+-- Points that are moved, one by one.
+use Rattle.std.specs.Prelude.{ℤ}
+use Rattle.std.specs.List.{All}
+use Rattle.ca_plane.specs.Plane.{Picture}
+use Rattle.ca_plane.specs.Box.{moved}
+use Rattle.ca_plane.specs.Sparse.{IsInPlane}
+
+-- each listed cell, moved by (dx, dy), stays in the square of a plane
+abbrev pub StaysInPlane : Picture → ℤ → ℤ → Type 0
+StaysInPlane cells dx dy = All (λ e. IsInPlane (moved e.0 dx dy)) cells
