@@ -1,6 +1,7 @@
 //! Rules in B/S notation.
 
 ghost use Rattle.std.specs.Prelude.{◌≡◌, ◌↔◌, ◌++◌, false, IsTrue, IfOk, IfErr, OnOk};
+ghost use Rattle.ca_plane.specs.Bytes.{IsWord};
 ghost use Rattle.ca_rule.specs.Counts.{is_count, FitsHood};
 ghost use Rattle.ca_rule.specs.Next.{neighbour_count};
 ghost use Rattle.std.proofs.Common.{arith, rules};
@@ -55,7 +56,8 @@ impl BsRule {
 
     /// The one printed form of the rule, as `B3/S23`: each list of digits rising, then `V` or `H` where it applies.
     pub fn text(&self, alloc: Global) -> Result<Vec<u8>, Memory>
-        ensures { IfOk result (λ v. v.items ≡ printed self.now.hood self.now.birth self.now.survival) }
+        ensures printed { IfOk result (λ v. v.items ≡ printed self.now.hood self.now.birth self.now.survival) }
+        ensures word { IfOk result (λ v. IsWord v.items) }
     {
         let mut out = Vec::new(alloc);
         out.push(b'B')?;
