@@ -1,5 +1,5 @@
 -- What a file holds: its generation is below 2^63, and its rule text is a word.
-use Rattle.std.proofs.Common.{◌≡◌, ℕ, ◌<◌, ◌^◌, List, [], ◌∷◌, Option, Some, None, unwrap_or, codes, refl, sym, subst, arith}
+use Rattle.std.proofs.Common.{ℕ, ◌<◌, ◌^◌, List, [], ◌∷◌, Option, Some, None, unwrap_or, codes, refl, sym, subst, arith}
 use Rattle.std.specs.List.{AllZip}
 use Rattle.ca_plane.specs.Bytes.{IsWord}
 use Rattle.ca_rle.specs.Header.{IsHeader, Said, Corner, Generation, Nothing, Says}

@@ -1,9 +1,9 @@
 -- Numbers and places as the reader keeps them, and what words say of where a pattern starts.
-use Rattle.std.proofs.Common.{◌≡◌, ℕ, ◌<◌, ◌≤◌, ◌^◌, min, ℤ, pos, neg_ℤ, negsuc, suc, true, false, not, ◌==◌, eqb, leb, List, [], ◌∷◌, ◌++◌, length, Option, Some, None, MatchOption, inl, inr, ◌⊎◌, refl, sym, ap, subst, ◌∙◌, append_assoc, codes, nat_eq, arith}
+use Rattle.std.proofs.Common.{◌≡◌, ℕ, ◌<◌, ◌≤◌, ◌^◌, min, ℤ, pos, neg_ℤ, negsuc, suc, false, not, ◌==◌, leb, List, [], ◌∷◌, ◌++◌, inl, inr, ◌⊎◌, refl, sym, ap, subst, ◌∙◌, append_assoc, codes, nat_eq, arith}
 use mir.Syntax.{w64}
 use mir.Val.{to_z, of_z}
-use Rattle.std.specs.List.{AllZip, starts_with, list_all}
-use Rattle.std.proofs.lemmas.Bool.{cases_Bool, leb-true, leb-false, eqb-true}
+use Rattle.std.specs.List.{AllZip, starts_with}
+use Rattle.std.proofs.lemmas.Bool.{cases_Bool, leb-true, leb-false}
 use Rattle.std.proofs.lemmas.Bool.Decides.{Decides-eqb}
 use Rattle.std.specs.Int.{int_min, int_max}
 use Rattle.std.proofs.lemmas.Int.{ints, int_min_is, int_max_is}

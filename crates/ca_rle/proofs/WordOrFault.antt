@@ -1,17 +1,16 @@
 -- Each word of a `#CXRLE` line says something or is bad.
-use Rattle.std.proofs.Common.{◌≡◌, ℕ, ◌^◌, ◌⊎◌, inl, inr, Bool, true, false, not, ◌==◌, List, [], ◌∷◌, ◌++◌, ℤ, pos, neg_ℤ, take, drop, length, codes, nat_eq, refl, sym, ap, subst, ◌∙◌, eqb-true, true≢false, take-append-drop, arith}
+use Rattle.std.proofs.Common.{◌≡◌, ℕ, ◌^◌, ◌⊎◌, inl, inr, true, false, ◌==◌, List, [], ◌∷◌, ◌++◌, ℤ, pos, neg_ℤ, take, drop, length, codes, nat_eq, refl, sym, ap, subst, ◌∙◌, eqb-true, true≢false, take-append-drop}
 use Rattle.std.specs.List.{AllZip, starts_with, list_all}
 use Rattle.std.proofs.lemmas.Bool.{cases_Bool, cases_lt}
-use Rattle.std.proofs.lemmas.Bool.Decides.{nat_tests}
 use Rattle.std.proofs.lemmas.List.{append_cancel_left}
 use Rattle.std.proofs.lemmas.Slice.Eq.{bytes_eq-Decides}
-use Rattle.ca_plane.specs.Bytes.{Every, is_digit, is_end_or, front, rest, AreDigits, IsInteger, value}
+use Rattle.ca_plane.specs.Bytes.{is_digit, is_end_or, front, rest, AreDigits, IsInteger, value}
 use Rattle.ca_rle.specs.declared.fault.RleFault.{RleFault}
 use Rattle.ca_rle.specs.declared.fault.RleFault.TheVariants.{Syntax, GenTooLarge}
 use Rattle.ca_rle.specs.Header.{Said, Corner, Generation, Nothing, Says}
 use Rattle.ca_rle.specs.Faults.{IsBadWord}
 use Rattle.ca_rle.proofs.OneHeader.{no_comma, integer_has_no_comma}
-use Rattle.ca_plane.proofs.Fronts.{every_wider, every_digit, front_append, rest_append, front_then_rest}
+use Rattle.ca_plane.proofs.Fronts.{front_append, rest_append, front_then_rest}
 
 -- ---- numbers
 
