@@ -6,11 +6,11 @@ use Rattle.std.proofs.lemmas.Bool.Decides.{nat_tests}
 use Rattle.ca_plane.specs.Bytes.{is_digit, front, rest}
 use Rattle.ca_plane.proofs.Fronts.{front_then_rest}
 use Rattle.ca_rule.specs.Counts.{most_of, are_digits_up_to}
-use Rattle.ca_rule.specs.Reading.{is_letter, hood_of, body_of, without_slash, behind_letter, behind_slash, both, swapped, lists_around, lists_around_slash, lists_of}
+use Rattle.ca_rule.specs.inner.TextParts.{is_letter, hood_of, body_of, without_slash, behind_letter, behind_slash, both, swapped, lists_around, lists_around_slash, lists_of}
 use Rattle.ca_rule.specs.Spelling.{IsLetter, IsSuffix, IsOptionalSlash, IsLettered, IsUnlettered, Spells}
 use Rattle.ca_rule.specs.declared.hood.Hood.{Hood}
 use Rattle.ca_rule.proofs.Ends.{IsLetter-from_test, has_suffix}
-use Rattle.ca_rule.proofs.Reading.{read}
+use Rattle.ca_rule.proofs.ReadInwards.{read}
 
 -- what holds at all holds where there is none
 pub IfNone-from : {T P : Type 0} (r : Option T) → P → IfNone r P

@@ -7,7 +7,7 @@ use Rattle.ca_rule.specs.declared.hood.Hood.{Hood}
 use Rattle.ca_rule.specs.declared.fault.RuleFault.{RuleFault}
 use Rattle.ca_rule.specs.declared.fault.RuleFault.TheVariants.{Bounded, Wakes, Unknown}
 use Rattle.ca_rule.proofs.Formed.{first_list, second_list}
-use Rattle.ca_rule.proofs.Reading.{read}
+use Rattle.ca_rule.proofs.ReadInwards.{read}
 
 -- two spellings of one text have the same parts
 pub record AreOne (b s c t : List ℕ) (h k : Hood) : Type 0 where

@@ -2,7 +2,7 @@
 
 ghost use Rattle.std.specs.Prelude.{◌≡◌, ◌≤◌, List, ℕ, None, Some, IfSome, IfNone, MatchOption};
 ghost use Rattle.ca_rule.specs.Counts.{are_digits_up_to};
-ghost use Rattle.ca_rule.specs.Reading.{is_letter, hood_of, body_of, without_slash, behind_letter, behind_slash, lists_around, lists_around_slash, lists_of};
+ghost use Rattle.ca_rule.specs.inner.TextParts.{is_letter, hood_of, body_of, without_slash, behind_letter, behind_slash, lists_around, lists_around_slash, lists_of};
 ghost use Rattle.ca_rule.specs.Spelling.{Spells};
 ghost use Rattle.ca_rule.specs.declared.hood.Hood.{Hood};
 
