@@ -8,7 +8,7 @@ from lib.program import EXAMPLES, Tally, example, run
 
 def main():
     tally = Tally()
-    for name in sorted(it.removesuffix(".claims") for it in os.listdir(EXAMPLES) if it.endswith(".claims")):
+    for name in sorted(os.path.splitext(it)[0] for it in os.listdir(EXAMPLES) if it.endswith(".claims")):
         tally.expect(f"examples/{name}.claims", run(["verify", f"examples/{name}.claims"]), example(name))
     tally.finish()
 

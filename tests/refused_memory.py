@@ -8,8 +8,9 @@ Of each run either nothing changed, or it ended with `cafile: memory` and printe
 - a claim whose file is missing or doesn't read is refused for that in every run;
 - claims are refused in their order, and a run ends whole between two of them only where the list of the answers grows.
 
-At the end memory is refused by the system itself, to a pattern that is too large for it, and the claims round it are answered.
+Of runs with many allocations some are tried. At the end memory is refused by the system itself, to a pattern that is too large for it, and the claims round it are answered.
 """
+import itertools
 import os
 import resource
 import shutil
@@ -17,6 +18,7 @@ import subprocess
 import tempfile
 
 from lib.program import ROOT, Tally, example, fault, lines_outcome, run
+from sizes import long_text
 
 # Claim texts of examples/, and how many allocations are passed over between two that are refused.
 EXAMPLES = {"block": 1, "glider": 1, "several": 1, "bad_patterns": 1, "rules": 1, "mixed_rules": 1, "states": 1, "pulsar": 1, "number": 1, "syntax": 1,
@@ -56,13 +58,20 @@ class Refusing:
         outcome = run(words, env=environment, pass_fds=(self.told,))
         return outcome if os.fstat(self.told).st_size > before else None
 
-    def sweep(self, words, step=1, goes_on=False):
-        """The outcomes of runs whose allocations are refused in turn, until none is met, by the number of the refused one."""
-        outcomes, number = {}, 1
-        while (outcome := self.run(words, number, goes_on)) is not None:
+    def sweep(self, words, numbers, goes_on=False):
+        """The outcomes of runs whose allocations with these numbers are refused, until one isn't met, by the number."""
+        outcomes = {}
+        for number in numbers:
+            outcome = self.run(words, number, goes_on)
+            if outcome is None:
+                break
             outcomes[number] = outcome
-            number += step
         return outcomes
+
+
+def by_eighths():
+    """The numbers from 1 on, each about an eighth greater than the one before."""
+    return itertools.accumulate(itertools.repeat(1), lambda number, least: number + max(least, number // 8))
 
 
 def changed_line(ample, outcome):
@@ -98,7 +107,7 @@ def judged(ample, outcomes, each_number):
     for at, line in enumerate(lines):
         if (at in refused) == needs_no_memory(line) and (each_number or at in refused):
             complaints.append(f"{line!r}: {'refused for want of memory' if at in refused else 'never refused for want of memory'}")
-    if ends_between > len(lines).bit_length():
+    if ends_between > (len(lines).bit_length() if each_number else 1):
         complaints.append(f"{ends_between} runs ended whole between two claims")
     whole = sum(outcome == NO_MEMORY for outcome in outcomes.values())
     return complaints, f"{len(outcomes)} allocations refused: {whole} times cafile: memory, {len(refused)} times one line"
@@ -107,15 +116,30 @@ def judged(ample, outcomes, each_number):
 def try_examples(tally, refusing):
     """Each allocation of some examples in turn."""
     for name, step in EXAMPLES.items():
-        outcomes = refusing.sweep(["verify", f"examples/{name}.claims"], step)
+        outcomes = refusing.sweep(["verify", f"examples/{name}.claims"], itertools.count(1, step))
         complaints, told = judged(example(name), outcomes, step == 1)
         tally.tell(f"refused memory, examples/{name}.claims: {told}", complaints if outcomes else ["no allocation was refused"])
+
+
+def try_large(tally, refusing, folder):
+    """Some of the allocations of a long claim text and of a long run."""
+    r_pentomino = ["load r examples/r_pentomino.rle", "load s examples/r_pentomino_1103.rle", "becomes r 1103 s", "becomes r 1102 s", "becomes s 0 s"]
+    for name, (lines, verdicts) in {
+        "a long claim text": long_text(),
+        "1103 generations": (r_pentomino, [(3, "yes"), (4, "no, cells differ after 1102"), (5, "yes")]),
+    }.items():
+        path = os.path.join(folder, "large.claims")
+        with open(path, "w", encoding="ascii") as file:
+            file.write("\n".join(lines) + "\n")
+        outcomes = refusing.sweep(["verify", path], by_eighths())
+        complaints, told = judged(lines_outcome(verdicts), outcomes, False)
+        tally.tell(f"refused memory, {name}: {told}", complaints if outcomes else ["no allocation was refused"])
 
 
 def try_for_good(tally, refusing):
     """All allocations from one on: the complaint itself takes none."""
     for words in (["verify", "examples/several.claims"], ["verify", "examples/syntax.claims"], ["verify", "examples/lost"], ["--help"], ["verify"]):
-        ample, outcomes = run(words), refusing.sweep(words, goes_on=True)
+        ample, outcomes = run(words), refusing.sweep(words, itertools.count(1), goes_on=True)
         wrong = [f"from allocation {number} on: {it}" for number, it in outcomes.items() if it not in (ample, NO_MEMORY)]
         tally.tell(f"memory refused for good, {' '.join(words)}: {len(outcomes)} runs", wrong if outcomes else ["no allocation was refused"])
 
@@ -140,6 +164,7 @@ def main():
         else:
             refusing = Refusing(library, told.fileno())
             try_examples(tally, refusing)
+            try_large(tally, refusing, folder)
             try_for_good(tally, refusing)
         try_a_limit(tally, folder)
     tally.finish()
