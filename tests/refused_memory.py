@@ -32,11 +32,11 @@ LIMIT = 50_000_000
 
 
 def build(folder):
-    """Compiles the refusing allocator by the kit's compiler, or by one on the path, and gives its path; None where no compiler is there."""
+    """Compiles the refusing allocator by the kit's compiler and linker, or by those on the path, and gives its path; None where none are there."""
     kit = os.path.dirname(os.path.dirname(os.path.realpath(shutil.which("rt") or "")))
     made = os.path.join(folder, "refuse.so")
-    for compiler in (os.path.join(kit, "toolchain", "bin", "clang"), "clang", "cc"):
-        words = [compiler, "-shared", "-fPIC", "-O1", "-nostdlib", "-o", made, os.path.join(ROOT, "tests", "refuse.c")]
+    for compiler in ([os.path.join(kit, "toolchain", "bin", "clang"), "-fuse-ld=lld"], ["clang"], ["cc"]):
+        words = [*compiler, "-shared", "-fPIC", "-O1", "-nostdlib", "-o", made, os.path.join(ROOT, "tests", "refuse.c")]
         try:
             if subprocess.run(words, stdout=subprocess.DEVNULL, stderr=subprocess.DEVNULL, check=False).returncode == 0:
                 return made
