@@ -105,8 +105,10 @@ def judged(ample, outcomes, each_number):
             complaints.append(f"allocation {number}: {outcome}")
     lines = ample.printed.splitlines()
     for at, line in enumerate(lines):
-        if (at in refused) == needs_no_memory(line) and (each_number or at in refused):
-            complaints.append(f"{line!r}: {'refused for want of memory' if at in refused else 'never refused for want of memory'}")
+        if needs_no_memory(line) and at in refused:
+            complaints.append(f"{line!r}: refused for want of memory")
+        if each_number and not needs_no_memory(line) and at not in refused:
+            complaints.append(f"{line!r}: never refused for want of memory")
     if ends_between > (len(lines).bit_length() if each_number else 1):
         complaints.append(f"{ends_between} runs ended whole between two claims")
     whole = sum(outcome == NO_MEMORY for outcome in outcomes.values())
