@@ -34,8 +34,7 @@ pub fn step<A: Automaton>(alloc: Global, rule: &A, plane: &Plane) -> Result<Plan
     if !is_all_in_reach(plane) {
         return Err(RunFault::Range);
     }
-    let cells = listed(alloc, plane)?;
-    Ok(next_plane(alloc, rule, &cells)?)
+    Ok(next_plane(alloc, rule, plane.as_slice())?)
 }
 
 // Whether each live cell is one from which a step is taken.
@@ -62,17 +61,6 @@ fn is_near(coordinate: i64) -> bool
     ensures { IsTrue result ↔ (neg_ℤ (pos (2 ^ 62 - 2)) ≤ℤ coordinate) × (coordinate ≤ℤ pos (2 ^ 62 - 2)) }
 {
     -REACH <= coordinate && coordinate <= REACH
-}
-
-// The live cells, row by row from the top.
-fn listed(alloc: Global, plane: &Plane) -> Result<Vec<(Point, u8)>, Memory>
-    ensures { IfOk result (λ v. v.items ≡ plane.now) }
-{
-    let mut cells = Vec::with_capacity(alloc, plane.len())?;
-    'cells: for cell in plane.cells() {
-        cells.push(cell)?;
-    }
-    Ok(cells)
 }
 
 // The plane one generation on from one that shows these cells.
@@ -120,8 +108,6 @@ pub fn steps<A: Automaton>(
     ensures judged { 0 < n → LeavesReach (A.next_of rule.now) plane.now 0 → IsErrOf result RunFault.Range }
 {
     if n == 0 {
-        // What a plane lists is sparse, and so is its copy.
-        let _cells = plane.cells();
         return Ok(plane.copy(alloc)?);
     }
     let mut now = step(alloc, rule, plane)?;
