@@ -1,6 +1,7 @@
 #!/usr/bin/env -S python3 -B
 """The words that the program is started with, and files that aren't there, can't be read, or are as long as a file may be."""
 import os
+import subprocess
 import tempfile
 
 from lib.program import Outcome, Tally, fault, lines_outcome, run
@@ -51,6 +52,18 @@ def try_claim_texts(tally, files):
     tally.expect("a claim text that isn't UTF-8", run(["verify", text]), fault("claims line 3: syntax"))
 
 
+def try_pieces(tally, files):
+    """A claim text, and a pattern, that come through a pipe in pieces."""
+    piped = files.path("piped.claims", b"load block /dev/stdin\nstill block\n")
+    for path, pieces in (
+        ("/dev/stdin", ("load block examples/bl", "ock.rle\\nstill", " block")),
+        (piped, ("x = 2, y = 2\\n2", "o$", "2o!\\n")),
+    ):
+        script = "; sleep 0.1; ".join(f"printf '{it}'" for it in pieces)
+        with subprocess.Popen(["sh", "-c", script], stdout=subprocess.PIPE) as writer:
+            tally.expect(f"{os.path.basename(path)}, in pieces", run(["verify", path], stdin=writer.stdout), lines_outcome([(2, "yes")]))
+
+
 def try_patterns(tally, files):
     """Files of a claim text that aren't there, can't be read, or are too long: the claims about them are refused, and no other."""
     block = b"x = 2, y = 2, rule = B3/S23\n2o$2o!\n"
@@ -78,8 +91,10 @@ def main():
     tally = Tally()
     try_words(tally)
     with tempfile.TemporaryDirectory() as folder:
-        try_claim_texts(tally, Files(folder))
-        try_patterns(tally, Files(folder))
+        files = Files(folder)
+        try_claim_texts(tally, files)
+        try_pieces(tally, files)
+        try_patterns(tally, files)
     tally.finish()
 
 

@@ -50,8 +50,8 @@ def example(name):
 
 def run(words, **how):
     """Runs the program at the root of the repository. A run that doesn't end in five minutes fails the test."""
-    ran = subprocess.run([PROGRAM, *words], stdin=subprocess.DEVNULL, cwd=ROOT, timeout=300, check=False,
-                         **{"stdout": subprocess.PIPE, "stderr": subprocess.PIPE, **how})
+    ran = subprocess.run([PROGRAM, *words], cwd=ROOT, timeout=300, check=False,
+                         **{"stdin": subprocess.DEVNULL, "stdout": subprocess.PIPE, "stderr": subprocess.PIPE, **how})
     return Outcome(ran.stdout or b"", ran.stderr or b"", ran.returncode)
 
 
