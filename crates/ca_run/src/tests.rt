@@ -88,6 +88,23 @@ fn a_glider_moves_by_one_after_four(rt: HostRuntime) -> Result<(), Fail> {
 }
 
 #[test]
+fn a_glider_goes_on_for_thousands_of_generations(rt: HostRuntime) -> Result<(), Fail> {
+    let glider = plane_of(rt.alloc(), &[(1, 0), (2, 1), (0, 2), (1, 2), (2, 2)])?;
+    let moved = plane_of(
+        rt.alloc(),
+        &[
+            (1001, 1000),
+            (1002, 1001),
+            (1000, 1002),
+            (1001, 1002),
+            (1002, 1002),
+        ],
+    )?;
+    assert!(rt; steps(rt.alloc(), &Life, &glider, 4000)?.same(&moved));
+    Ok(())
+}
+
+#[test]
 fn a_step_is_taken_up_to_the_reach(rt: HostRuntime) -> Result<(), Fail> {
     let near = plane_of(rt.alloc(), &[(REACH, -REACH), (-REACH, REACH)])?;
     assert!(rt; step(rt.alloc(), &Life, &near)?.is_empty());
