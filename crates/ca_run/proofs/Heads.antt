@@ -1,6 +1,6 @@
 -- Sparse pictures read from their first cell on.
-use Rattle.std.proofs.Common.{◌≡◌, ◌≢◌, ℕ, ◌≤◌, List, [], ◌∷◌, map, refl, sym, ap, ◌∙◌, subst, inl, inr, ◌⊎◌, arith, Bool, true, false, not, ◌&&◌, Less}
-use Rattle.std.specs.Prelude.{ℤ, if◌then◌else◌}
+use Rattle.std.proofs.Common.{◌≡◌, ◌≢◌, ℕ, ◌≤◌, [], ◌∷◌, map, refl, sym, ◌∙◌, subst, inl, inr, arith, Bool, true, false, not, ◌&&◌, Less}
+use Rattle.std.specs.Prelude.{if◌then◌else◌}
 use Rattle.std.specs.List.{AllByRecursion}
 use Rattle.std.specs.Ordering.{int_eq}
 use Rattle.std.proofs.lemmas.Bool.{cond-false, false_from_ne_true, cases_Bool, cases_eq}
@@ -11,7 +11,7 @@ use Rattle.ca_plane.specs.declared.point.Point.{Point}
 use Rattle.ca_plane.specs.Plane.{Picture, cell}
 use Rattle.ca_plane.specs.Sparse.{point_cmp, IsInPlane, IsSparse}
 use Rattle.ca_plane.proofs.Pictures.{point_cmp_total, apart-Less, place-from_true, cell-first, point-same}
-use Rattle.ca_run.specs.inner.Order.{IsBefore, NoneBefore, IsFirstPlace}
+use Rattle.ca_run.specs.inner.Order.{NoneBefore, IsFirstPlace}
 use Rattle.ca_run.specs.inner.Ahead.{IsWithout}
 use Rattle.ca_run.proofs.Reading.{compared, Less_from_before}
 

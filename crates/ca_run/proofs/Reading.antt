@@ -1,7 +1,7 @@
 -- The order in which a plane is read, and the first of the places with a property.
-use Rattle.std.proofs.Common.{◌≡◌, ◌≢◌, refl, sym, ap, ◌∙◌, subst, inl, inr, ◌⊎◌, arith, Bool, true, false, Option, Some, None, cond, Ordering, Less, Equal, Greater}
-use Rattle.std.specs.Prelude.{ℤ, pos, ◌+ℤ◌, ◌-ℤ◌, ◌<ℤ◌, int_lt}
-use Rattle.std.specs.Ordering.{int_cmp, is_lt, ord_min}
+use Rattle.std.proofs.Common.{◌≡◌, ◌≢◌, refl, sym, subst, inl, inr, ◌⊎◌, arith, Option, Some, None, cond, Ordering, Less, Equal, Greater}
+use Rattle.std.specs.Prelude.{ℤ, ◌+ℤ◌, ◌-ℤ◌, ◌<ℤ◌, ◌≤ℤ◌}
+use Rattle.std.specs.Ordering.{is_lt, ord_min}
 use Rattle.std.proofs.lemmas.Int.{ints}
 use Rattle.ca_plane.specs.declared.point.Point.{Point}
 use Rattle.ca_plane.specs.Sparse.{point_cmp}
@@ -28,6 +28,18 @@ compared u v x y =
       ]
     ]
 
+-- not both of two places are read first
+pub not_both : (x y u v : ℤ) → IsBefore x y u v → (((x ≡ u) × (y ≡ v)) ⊎ IsBefore u v x y) → ⊥
+not_both x y u v later o = omega (arith, ints)
+
+-- and neither where they are the same
+pub not_itself : (u v x y : ℤ) → IsBefore u v x y → v ≡ y → u ≡ x → ⊥
+not_itself u v x y before e f = omega (arith, ints)
+
+-- a place keeps its order where both are moved by as many rows, and the first by no more columns
+pub before-moved : (a b x y c d z w : ℤ) → IsBefore a b x y → (c -ℤ a) ≤ℤ (z -ℤ x) → (d -ℤ b) ≡ (w -ℤ y) → IsBefore c d z w
+before-moved a b x y c d z w before across down = elim before [ inl higher ↦ inl (omega (arith, ints)) | inr along ↦ inr (omega (arith, ints), omega (arith, ints)) ]
+
 -- the order of points says the same
 pub before_from_Less : (p q : Point) → point_cmp p q ≡ Less → IsBefore p.x p.y q.x q.y
 before_from_Less p q less = grind (arith, ints)
@@ -40,20 +52,12 @@ cases_cond-is_lt Less p q r e = inl (refl, e)
 cases_cond-is_lt Equal p q r e = inr (λ (less : Equal ≡ Less). let no : ⊥ = cc in no, e)
 cases_cond-is_lt Greater p q r e = inr (λ (less : Greater ≡ Less). let no : ⊥ = cc in no, e)
 
--- no place is read before itself
-not_before_itself : (p : Point) → IsBefore p.x p.y p.x p.y → ⊥
-not_before_itself p before = omega (arith, ints)
-
--- of two places not both are read first
-not_before_back : (p q : Point) → IsBefore p.x p.y q.x q.y → IsBefore q.x q.y p.x p.y → ⊥
-not_before_back p q before back = omega (arith, ints)
-
 -- the lesser of two points is the earlier
 pub IsEarlier-min : (p q r : Point) → r ≡ ord_min point_cmp p q → IsEarlier (Some p) (Some q) (Some r)
 IsEarlier-min p q r min =
     elim (cases_cond-is_lt (point_cmp q p) p q r min) [
-      | inl less ↦ rw less.1 (record { which = inr refl; left = not_before_back q p (before_from_Less q p less.0); right = not_before_itself q })
-      | inr later ↦ rw later.1 (record { which = inl refl; left = not_before_itself p; right = λ before. later.0 (Less_from_before q p before) })
+      | inl less ↦ rw less.1 (record { which = inr refl; left = λ before. not_both q.x q.y p.x p.y (before_from_Less q p less.0) (inr before); right = λ before. not_itself q.x q.y q.x q.y before refl refl })
+      | inr later ↦ rw later.1 (record { which = inl refl; left = λ before. not_itself p.x p.y p.x p.y before refl refl; right = λ before. later.0 (Less_from_before q p before) })
     ]
 
 pub before-trans : (a b c d e f : ℤ) → IsBefore a b c d → IsBefore c d e f → IsBefore a b e f
@@ -101,8 +105,5 @@ IsFirst-same P Q (Some at) there back first = record {
 pub IsFirstPlace-moved : (P : ℤ → ℤ → Type 0) (at q : Point) (dx dy : ℤ) → IsFirstPlace P at → at.x ≡ q.x +ℤ dx → at.y ≡ q.y +ℤ dy → IsFirstPlace (λ x y. P (x +ℤ dx) (y +ℤ dy)) q
 IsFirstPlace-moved P at q dx dy first across down = record {
   here = subst (λ v. P (q.x +ℤ dx) v) down (subst (λ u. P u at.y) across first.here);
-  first = λ x y holds before. first.first (x +ℤ dx) (y +ℤ dy) holds (farther x y before across down);
+  first = λ x y holds before. first.first (x +ℤ dx) (y +ℤ dy) holds (before-moved x y q.x q.y (x +ℤ dx) (y +ℤ dy) at.x at.y before (omega (arith, ints)) (omega (arith, ints)));
 }
-  where
-    farther : (x y : ℤ) → IsBefore x y q.x q.y → at.x ≡ q.x +ℤ dx → at.y ≡ q.y +ℤ dy → IsBefore (x +ℤ dx) (y +ℤ dy) at.x at.y
-    farther x y before across down = grind (arith, ints)

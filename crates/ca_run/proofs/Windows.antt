@@ -1,5 +1,5 @@
 -- A window that moves over a picture from one place to the next.
-use Rattle.std.proofs.Common.{◌≡◌, ◌≢◌, ℕ, ◌+◌, ◌<◌, ◌≤◌, List, [], ◌∷◌, length, refl, sym, ap, ◌∙◌, subst, inl, inr, ◌⊎◌, arith, Bool, true, false, ◌&&◌, Option, Some, None, replicate}
+use Rattle.std.proofs.Common.{◌≡◌, ◌≢◌, refl, sym, ap, ◌∙◌, subst, inl, inr, ◌⊎◌, arith, Option, Some, None, replicate}
 use Rattle.std.specs.Prelude.{ℤ, pos, negsuc, ◌+ℤ◌, ◌-ℤ◌, ◌≤ℤ◌}
 use Rattle.std.specs.List.{All}
 use Rattle.std.proofs.lemmas.Int.{ints}
@@ -8,17 +8,16 @@ use Rattle.std.proofs.lemmas.List.Elements.{All-contains}
 use Rattle.ca_plane.specs.declared.point.Point.{Point}
 use Rattle.ca_plane.specs.Plane.{Picture, cell}
 use Rattle.ca_plane.specs.Generations.{around}
-use Rattle.ca_plane.specs.Change.{Sets}
 use Rattle.ca_plane.specs.Sparse.{IsInPlane}
 use Rattle.ca_plane.proofs.Pictures.{cell-Sets, cell-Sets-other, Contains-cell}
 use Rattle.ca_run.specs.Reach.{IsInReach}
 use Rattle.ca_run.specs.declared.row.Row.{Row}
 use Rattle.ca_run.specs.declared.window.Window.{Window}
 use Rattle.ca_run.specs.inner.Order.{IsBefore, NoneBefore, IsFirst, IsFirstPlace, IsEarlier}
-use Rattle.ca_run.specs.inner.Ahead.{IsWithout, IsAhead}
+use Rattle.ca_run.specs.inner.Ahead.{IsAhead}
 use Rattle.ca_run.specs.inner.Row.{ShowsRow, IsQuietRow, IsLiveRow, MovesOn}
 use Rattle.ca_run.specs.inner.Window.{seen, Shows, IsQuiet, IsKept, Meets, eastward, IsNextPlace, MovesTo}
-use Rattle.ca_run.proofs.Reading.{compared, before-trans, IsFirst-either, IsFirst-same}
+use Rattle.ca_run.proofs.Reading.{compared, not_both, not_itself, before-moved, before-trans, IsFirst-either, IsFirst-same}
 
 -- ---- the first place from which a cell ahead is seen
 
@@ -45,19 +44,20 @@ pub record Awaits (p : Picture) (row : Row) (x y : ℤ) : Type 0 where
   pub none : NoneBefore row.ahead (x +ℤ pos 1) y
 
 -- a row that moves on to a later place shows the picture there
-pub ShowsRow-MovesOn : (p : Picture) (old new : Row) (a b x y : ℤ) → ShowsRow p old a b → Awaits p old x y → IsBefore a b x y → MovesOn old new (record { y = y; x = x +ℤ pos 1 }) → ShowsRow p new x y
+ShowsRow-MovesOn : (p : Picture) (old new : Row) (a b x y : ℤ) → ShowsRow p old a b → Awaits p old x y → IsBefore a b x y → MovesOn old new (record { y = y; x = x +ℤ pos 1 }) → ShowsRow p new x y
 ShowsRow-MovesOn p old new a b x y shows awaits later moves =
     let at : Point = record { y = y; x = x +ℤ pos 1 } in
+    let onward : IsBefore (a +ℤ pos 1) b (x +ℤ pos 1) y = before-moved a b x y (a +ℤ pos 1) b (x +ℤ pos 1) y later (omega (arith, ints)) (omega (arith, ints)) in
     record {
       west = moves.west ∙ awaits.west;
       centre = moves.centre ∙ awaits.centre;
-      east = moves.east ∙ shows.ahead.after (x +ℤ pos 1) y (onward a b x y later);
+      east = moves.east ∙ shows.ahead.after (x +ℤ pos 1) y onward;
       ahead = record {
         after = λ u v behind.
-            cell-Sets-other old.ahead new.ahead at 0 u v moves.ahead.cells (λ e f. not_itself x y u v behind e f)
-            ∙ shows.ahead.after u v (before-trans (a +ℤ pos 1) b (x +ℤ pos 1) y u v (onward a b x y later) behind);
+            cell-Sets-other old.ahead new.ahead at 0 u v moves.ahead.cells (λ e f. not_itself (x +ℤ pos 1) y u v behind (sym e) (sym f))
+            ∙ shows.ahead.after u v (before-trans (a +ℤ pos 1) b (x +ℤ pos 1) y u v onward behind);
         gone = λ u v not_behind. elim (compared u v (x +ℤ pos 1) y) [
-          | inl before ↦ cell-Sets-other old.ahead new.ahead at 0 u v moves.ahead.cells (λ e f. not_there x y u v before e f) ∙ awaits.none u v before
+          | inl before ↦ cell-Sets-other old.ahead new.ahead at 0 u v moves.ahead.cells (not_itself u v (x +ℤ pos 1) y before) ∙ awaits.none u v before
           | inr o ↦ elim o [
             | inl same ↦ rw (same.0, same.1) (cell-Sets old.ahead new.ahead at 0 moves.ahead.cells)
             | inr behind ↦ absurd (not_behind behind)
@@ -65,32 +65,22 @@ ShowsRow-MovesOn p old new a b x y shows awaits later moves =
         ];
       };
     }
-  where
-    onward : (a b x y : ℤ) → IsBefore a b x y → IsBefore (a +ℤ pos 1) b (x +ℤ pos 1) y
-    onward a b x y later = grind (arith, ints)
-
-    not_itself : (x y u v : ℤ) → IsBefore (x +ℤ pos 1) y u v → v ≡ y → u ≡ x +ℤ pos 1 → ⊥
-    not_itself x y u v behind e f = omega (arith, ints)
-
-    not_there : (x y u v : ℤ) → IsBefore u v (x +ℤ pos 1) y → v ≡ y → u ≡ x +ℤ pos 1 → ⊥
-    not_there x y u v before e f = omega (arith, ints)
 
 -- one place further on what stays in sight is right
-pub Awaits-eastward : (p : Picture) (row : Row) (x y : ℤ) → ShowsRow p row x y → Awaits p row (x +ℤ pos 1) y
-Awaits-eastward p row x y shows = record {
-  west = shows.centre ∙ ap (λ u. cell p u y) (there_and_back x);
-  centre = shows.east;
-  none = λ u v before. shows.ahead.gone u v (λ behind. not_between x y u v before behind);
-}
+Awaits-eastward : (p : Picture) (row : Row) (x y : ℤ) → ShowsRow p row x y → Awaits p row (x +ℤ pos 1) y
+Awaits-eastward p row x y shows =
+    let back : x ≡ (x +ℤ pos 1) -ℤ pos 1 = omega (arith, ints) in
+    record {
+      west = shows.centre ∙ ap (λ u. cell p u y) back;
+      centre = shows.east;
+      none = λ u v before. shows.ahead.gone u v (λ behind. not_between x y u v before behind);
+    }
   where
-    there_and_back : (x : ℤ) → x ≡ (x +ℤ pos 1) -ℤ pos 1
-    there_and_back x = omega (arith, ints)
-
     not_between : (x y u v : ℤ) → IsBefore u v ((x +ℤ pos 1) +ℤ pos 1) y → IsBefore (x +ℤ pos 1) y u v → ⊥
     not_between x y u v before behind = omega (arith, ints)
 
--- where what stays in sight is 0 and no cell ahead is read before (c, y), all is 0 from the middle column up to there
-pub quiet_up_to : (p : Picture) (row : Row) (x y c d u v : ℤ) → ShowsRow p row x y → IsQuietRow row → NoneBefore row.ahead c d → IsBefore (x -ℤ pos 1) y u v → IsBefore u v c d → cell p u v ≡ 0
+-- where what stays in sight is 0 and no cell ahead is read before (c, d), all is 0 from the middle column up to there
+quiet_up_to : (p : Picture) (row : Row) (x y c d u v : ℤ) → ShowsRow p row x y → IsQuietRow row → NoneBefore row.ahead c d → IsBefore (x -ℤ pos 1) y u v → IsBefore u v c d → cell p u v ≡ 0
 quiet_up_to p row x y c d u v shows quiet none after before =
     elim (compared (x +ℤ pos 1) y u v) [
       | inl behind ↦ sym (shows.ahead.after u v behind) ∙ none u v before
@@ -105,50 +95,26 @@ quiet_up_to p row x y c d u v shows quiet none after before =
     in_sight x y u v after o = grind (arith, ints)
 
 -- so a place from which nothing earlier is seen can be moved to at once
-pub Awaits-quiet : (p : Picture) (row : Row) (a b x y : ℤ) → ShowsRow p row a b → IsQuietRow row → NoneBefore row.ahead (x +ℤ pos 1) y → IsBefore a b x y → Awaits p row x y
+Awaits-quiet : (p : Picture) (row : Row) (a b x y : ℤ) → ShowsRow p row a b → IsQuietRow row → NoneBefore row.ahead (x +ℤ pos 1) y → IsBefore a b x y → Awaits p row x y
 Awaits-quiet p row a b x y shows quiet none later = record {
-  west = quiet.0 ∙ sym (quiet_up_to p row a b (x +ℤ pos 1) y (x -ℤ pos 1) y shows quiet none (back a b x y later) (short x y));
-  centre = quiet.1 ∙ sym (quiet_up_to p row a b (x +ℤ pos 1) y x y shows quiet none (back_less a b x y later) (shorter x y));
+  west = quiet.0 ∙ sym (still (x -ℤ pos 1) (omega (arith, ints)) (omega (arith, ints)));
+  centre = quiet.1 ∙ sym (still x (omega (arith, ints)) (omega (arith, ints)));
   none = none;
 }
   where
-    back : (a b x y : ℤ) → IsBefore a b x y → IsBefore (a -ℤ pos 1) b (x -ℤ pos 1) y
-    back a b x y later = grind (arith, ints)
-
-    back_less : (a b x y : ℤ) → IsBefore a b x y → IsBefore (a -ℤ pos 1) b x y
-    back_less a b x y later = grind (arith, ints)
-
-    short : (x y : ℤ) → IsBefore (x -ℤ pos 1) y (x +ℤ pos 1) y
-    short x y = inr (refl, omega (arith, ints))
-
-    shorter : (x y : ℤ) → IsBefore x y (x +ℤ pos 1) y
-    shorter x y = inr (refl, omega (arith, ints))
+    still : (u : ℤ) → (x -ℤ pos 1) ≤ℤ u → u ≤ℤ x → cell p u y ≡ 0
+    still u left right = quiet_up_to p row a b (x +ℤ pos 1) y u y shows quiet none (before-moved a b x y (a -ℤ pos 1) b u y later (omega (arith, ints)) (omega (arith, ints))) (inr (refl, omega (arith, ints)))
 
 -- three cells side by side between the place of the row and (c, d) are 0
 quiet_three : (p : Picture) (row : Row) (a b c d x y : ℤ) → ShowsRow p row a b → IsQuietRow row → NoneBefore row.ahead (c +ℤ pos 1) d → IsBefore a b x y → IsBefore x y c d → (cell p (x -ℤ pos 1) y ≡ 0) × (cell p x y ≡ 0) × (cell p (x +ℤ pos 1) y ≡ 0)
-quiet_three p row a b c d x y shows quiet none later before = (
-  quiet_up_to p row a b (c +ℤ pos 1) d (x -ℤ pos 1) y shows quiet none (west_from a b x y later) (west_to x y c d before),
-  quiet_up_to p row a b (c +ℤ pos 1) d x y shows quiet none (centre_from a b x y later) (centre_to x y c d before),
-  quiet_up_to p row a b (c +ℤ pos 1) d (x +ℤ pos 1) y shows quiet none (east_from a b x y later) (east_to x y c d before),
-)
+quiet_three p row a b c d x y shows quiet none later before =
+    (still (x -ℤ pos 1) (omega (arith, ints)) (omega (arith, ints)), still x (omega (arith, ints)) (omega (arith, ints)), still (x +ℤ pos 1) (omega (arith, ints)) (omega (arith, ints)))
   where
-    west_from : (a b x y : ℤ) → IsBefore a b x y → IsBefore (a -ℤ pos 1) b (x -ℤ pos 1) y
-    west_from a b x y later = grind (arith, ints)
-
-    centre_from : (a b x y : ℤ) → IsBefore a b x y → IsBefore (a -ℤ pos 1) b x y
-    centre_from a b x y later = grind (arith, ints)
-
-    east_from : (a b x y : ℤ) → IsBefore a b x y → IsBefore (a -ℤ pos 1) b (x +ℤ pos 1) y
-    east_from a b x y later = grind (arith, ints)
-
-    west_to : (x y c d : ℤ) → IsBefore x y c d → IsBefore (x -ℤ pos 1) y (c +ℤ pos 1) d
-    west_to x y c d before = grind (arith, ints)
-
-    centre_to : (x y c d : ℤ) → IsBefore x y c d → IsBefore x y (c +ℤ pos 1) d
-    centre_to x y c d before = grind (arith, ints)
-
-    east_to : (x y c d : ℤ) → IsBefore x y c d → IsBefore (x +ℤ pos 1) y (c +ℤ pos 1) d
-    east_to x y c d before = grind (arith, ints)
+    still : (u : ℤ) → (x -ℤ pos 1) ≤ℤ u → u ≤ℤ (x +ℤ pos 1) → cell p u y ≡ 0
+    still u left right =
+        quiet_up_to p row a b (c +ℤ pos 1) d u y shows quiet none
+        (before-moved a b x y (a -ℤ pos 1) b u y later (omega (arith, ints)) (omega (arith, ints)))
+        (before-moved x y c d u y (c +ℤ pos 1) d before (omega (arith, ints)) (omega (arith, ints)))
 
 -- ---- places in reach
 
@@ -206,13 +172,7 @@ IsReady-kept p w reach shows kept = record {
 -- a live cell ahead is read after what is in sight, and is one of the picture
 ahead_later : (p ahead : Picture) (x y u v : ℤ) → IsAhead p ahead x y → cell ahead u v ≢ 0 → IsBefore x y u v
 ahead_later p ahead x y u v is live =
-    elim (compared x y u v) [
-      | inl later ↦ later
-      | inr o ↦ absurd (live (is.gone u v (λ later. not_both x y u v later o)))
-    ]
-  where
-    not_both : (x y u v : ℤ) → IsBefore x y u v → (((x ≡ u) × (y ≡ v)) ⊎ IsBefore u v x y) → ⊥
-    not_both x y u v later o = omega (arith, ints)
+    elim (compared x y u v) [ inl later ↦ later | inr o ↦ absurd (live (is.gone u v (λ later. not_both x y u v later o))) ]
 
 -- a place from which a cell ahead of a row is seen comes later, and lies in the square of a plane
 record IsSeen (a b : ℤ) (at : Point) : Type 0 where
@@ -223,27 +183,25 @@ seen_ahead : (p : Picture) (row : Row) (a b c : ℤ) (at : Point) (d : ℤ) → 
 seen_ahead p row a b c at d reach shows live level up down =
     let later : IsBefore (a +ℤ pos 1) c (at.x +ℤ pos 1) d = ahead_later p row.ahead (a +ℤ pos 1) c (at.x +ℤ pos 1) d shows.ahead live in
     record {
-      later = nearer a b c at.x at.y d later level;
+      later = before-moved (a +ℤ pos 1) c (at.x +ℤ pos 1) d a b at.x at.y later (omega (arith, ints)) (omega (arith, ints));
       within = within_beside at (at.x +ℤ pos 1) d (in_reach p (at.x +ℤ pos 1) d reach (λ e. live (shows.ahead.after (at.x +ℤ pos 1) d later ∙ e))) (omega (arith, ints)) (omega (arith, ints)) up down;
     }
-  where
-    nearer : (a b c x y d : ℤ) → IsBefore (a +ℤ pos 1) c (x +ℤ pos 1) d → (c -ℤ b) ≡ (d -ℤ y) → IsBefore a b x y
-    nearer a b c x y d later level = elim later [ inl above ↦ inl (omega (arith, ints)) | inr along ↦ inr (omega (arith, ints), omega (arith, ints)) ]
+
+-- a picture without live cells before (c, d), said of each place that is one to the east and dy further down
+none_before-moved : (p : Picture) (dy c d : ℤ) → ((x y : ℤ) → cell p (x +ℤ pos 1) (y +ℤ dy) ≢ 0 → IsBefore (x +ℤ pos 1) (y +ℤ dy) c d → ⊥) → NoneBefore p c d
+none_before-moved p dy c d none = λ u v before.
+    let across : (u -ℤ pos 1) +ℤ pos 1 ≡ u = omega (arith, ints) in
+    let down : (v -ℤ dy) +ℤ dy ≡ v = omega (arith, ints) in
+    let same : cell p ((u -ℤ pos 1) +ℤ pos 1) ((v -ℤ dy) +ℤ dy) ≡ cell p u v = ap (λ t. cell p t ((v -ℤ dy) +ℤ dy)) across ∙ ap (λ t. cell p u t) down in
+    elim (cases_eq (cell p u v) 0) [
+      | inl quiet ↦ quiet
+      | inr live ↦ absurd (none (u -ℤ pos 1) (v -ℤ dy) (λ e. live (sym same ∙ e)) (before-moved u v c d ((u -ℤ pos 1) +ℤ pos 1) ((v -ℤ dy) +ℤ dy) c d before (omega (arith, ints)) (omega (arith, ints))))
+    ]
 
 -- no cell ahead of a row is read before those that are seen first
 none_before_seen : (p : Picture) (P : ℤ → ℤ → Type 0) (at : Point) (d dy : ℤ) → IsFirstPlace P at → ((x y : ℤ) → cell p (x +ℤ pos 1) (y +ℤ dy) ≢ 0 → P x y) → d ≡ at.y +ℤ dy → NoneBefore p (at.x +ℤ pos 1) d
-none_before_seen p P at d dy first seen level = λ u v before.
-    elim (cases_eq (cell p u v) 0) [
-      | inl quiet ↦ quiet
-      | inr live ↦
-          let across : (u -ℤ pos 1) +ℤ pos 1 ≡ u = omega (arith, ints) in
-          let down : (v -ℤ dy) +ℤ dy ≡ v = omega (arith, ints) in
-          let there : cell p ((u -ℤ pos 1) +ℤ pos 1) ((v -ℤ dy) +ℤ dy) ≢ 0 = subst (λ t. cell p ((u -ℤ pos 1) +ℤ pos 1) t ≢ 0) (sym down) (subst (λ t. cell p t v ≢ 0) (sym across) live) in
-          absurd (first.first (u -ℤ pos 1) (v -ℤ dy) (seen (u -ℤ pos 1) (v -ℤ dy) there) (nearer u v at.x at.y d dy before level))
-    ]
-  where
-    nearer : (u v x y d dy : ℤ) → IsBefore u v (x +ℤ pos 1) d → d ≡ y +ℤ dy → IsBefore (u -ℤ pos 1) (v -ℤ dy) x y
-    nearer u v x y d dy before level = elim before [ inl above ↦ inl (omega (arith, ints)) | inr along ↦ inr (omega (arith, ints), omega (arith, ints)) ]
+none_before_seen p P at d dy first seen level =
+    none_before-moved p dy (at.x +ℤ pos 1) d (λ x y live before. first.first x y (seen x y live) (before-moved (x +ℤ pos 1) (y +ℤ dy) (at.x +ℤ pos 1) d x y at.x at.y before (omega (arith, ints)) (omega (arith, ints))))
 
 -- a cell ahead of a row is seen
 meets_north : (w : Window) (x y : ℤ) → cell w.north.ahead (x +ℤ pos 1) (y +ℤ negsuc 0) ≢ 0 → Meets w x y
@@ -254,10 +212,10 @@ meets_middle w x y live = inl (inr (subst (λ v. cell w.middle.ahead (x +ℤ pos
 
 -- places keep their order in the rows above and below
 above : (a b x y : ℤ) → IsBefore a b x y → IsBefore a (b -ℤ pos 1) x (y -ℤ pos 1)
-above a b x y before = elim before [ inl higher ↦ inl (omega (arith, ints)) | inr along ↦ inr (omega (arith, ints), along.1) ]
+above a b x y before = before-moved a b x y a (b -ℤ pos 1) x (y -ℤ pos 1) before (omega (arith, ints)) (omega (arith, ints))
 
 below : (a b x y : ℤ) → IsBefore a b x y → IsBefore a (b +ℤ pos 1) x (y +ℤ pos 1)
-below a b x y before = elim before [ inl higher ↦ inl (omega (arith, ints)) | inr along ↦ inr (omega (arith, ints), along.1) ]
+below a b x y before = before-moved a b x y a (b +ℤ pos 1) x (y +ℤ pos 1) before (omega (arith, ints)) (omega (arith, ints))
 
 -- where no cell ahead is seen before (c, d), nothing is live round the places up to there
 quiet_around : (p : Picture) (w : Window) (c d : ℤ) → Shows p w → IsQuiet w → NoneBefore w.north.ahead (c +ℤ pos 1) (d -ℤ pos 1) → NoneBefore w.middle.ahead (c +ℤ pos 1) d → NoneBefore w.south.ahead (c +ℤ pos 1) (d +ℤ pos 1) → (x y : ℤ) → IsBefore w.place.x w.place.y x y → IsBefore x y c d → around (cell p) x y ≡ replicate 9 0
@@ -322,18 +280,8 @@ quiet_end p w x y shows next later =
       | inl kept ↦ absurd (let no : ⊥ = cc (kept.1) in no)
       | inr quiet ↦
           quiet_around p w (x +ℤ pos 1) y shows quiet.0
-          (none_ahead w.north.ahead (negsuc 0) (λ u v live. quiet.1 u v (meets_north w u v live)) _ _)
-          (none_ahead w.middle.ahead (pos 0) (λ u v live. quiet.1 u v (meets_middle w u v live)) _ _)
-          (none_ahead w.south.ahead (pos 1) (λ u v live. quiet.1 u v (inr live)) _ _)
+          (none_before-moved w.north.ahead (negsuc 0) _ _ (λ u v live before. quiet.1 u v (meets_north w u v live)))
+          (none_before-moved w.middle.ahead (pos 0) _ _ (λ u v live before. quiet.1 u v (meets_middle w u v live)))
+          (none_before-moved w.south.ahead (pos 1) _ _ (λ u v live before. quiet.1 u v (inr live)))
           x y later (inr (refl, omega (arith, ints)))
     ]
-  where
-    none_ahead : (ahead : Picture) (dy : ℤ) → ((x y : ℤ) → cell ahead (x +ℤ pos 1) (y +ℤ dy) ≢ 0 → ⊥) → (c d : ℤ) → NoneBefore ahead c d
-    none_ahead ahead dy none c d = λ u v before.
-        elim (cases_eq (cell ahead u v) 0) [
-          | inl quiet ↦ quiet
-          | inr live ↦
-              let across : (u -ℤ pos 1) +ℤ pos 1 ≡ u = omega (arith, ints) in
-              let down : (v -ℤ dy) +ℤ dy ≡ v = omega (arith, ints) in
-              absurd (none (u -ℤ pos 1) (v -ℤ dy) (subst (λ t. cell ahead ((u -ℤ pos 1) +ℤ pos 1) t ≢ 0) (sym down) (subst (λ t. cell ahead t v ≢ 0) (sym across) live)))
-        ]

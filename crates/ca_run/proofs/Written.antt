@@ -1,5 +1,5 @@
 -- The next generation, written place by place as a window moves over the plane.
-use Rattle.std.proofs.Common.{◌≡◌, ◌≢◌, ℕ, zero, suc, ◌+◌, ◌*◌, ◌<◌, ◌≤◌, List, [], ◌∷◌, length, refl, sym, ap, ◌∙◌, subst, inl, inr, ◌⊎◌, arith, Bool, true, false, ◌&&◌, Option, Some, None, replicate}
+use Rattle.std.proofs.Common.{◌≡◌, ◌≢◌, ℕ, zero, suc, ◌+◌, ◌*◌, ◌<◌, ◌≤◌, List, [], length, refl, sym, ap, ◌∙◌, subst, inl, inr, ◌⊎◌, arith, Bool, true, false, Some, None, replicate}
 use Rattle.std.specs.Prelude.{ℤ, pos, neg_ℤ, ◌+ℤ◌, ◌-ℤ◌, ◌-◌, ◌≤ℤ◌, ◌<ℤ◌, ◌^◌, if◌then◌else◌}
 use Rattle.std.specs.List.{All}
 use Rattle.std.proofs.lemmas.Int.{ints}
@@ -12,11 +12,10 @@ use Rattle.ca_run.specs.Reach.{IsInReach}
 use Rattle.ca_run.specs.declared.row.Row.{Row}
 use Rattle.ca_run.specs.declared.window.Window.{Window}
 use Rattle.ca_run.specs.inner.Order.{IsBefore}
-use Rattle.ca_run.specs.inner.Ahead.{IsAhead}
-use Rattle.ca_run.specs.inner.Row.{ShowsRow, IsQuietRow, IsLiveRow, MovesOn}
-use Rattle.ca_run.specs.inner.Window.{seen, Shows, IsQuiet, IsKept, Meets, eastward, IsNextPlace, MovesTo}
+use Rattle.ca_run.specs.inner.Row.{ShowsRow, IsLiveRow, MovesOn}
+use Rattle.ca_run.specs.inner.Window.{seen, Shows, eastward, IsNextPlace, MovesTo}
 use Rattle.ca_run.specs.inner.Written.{IsWritten}
-use Rattle.ca_run.proofs.Reading.{compared, before-trans}
+use Rattle.ca_run.proofs.Reading.{compared, not_both, not_itself, before-trans}
 use Rattle.ca_run.proofs.Windows.{IsReady, IsReady-next, Shows-next, quiet_beyond, quiet_end, seen-around}
 
 -- ---- at first
@@ -81,7 +80,7 @@ set_there next p old new w at s quiet written ready state sets = record {
   up_to = λ x y not_later.
       elim (compared x y at.x at.y) [
         | inl before ↦
-            cell-Sets-other old new at s x y sets (λ e f. not_there x y at.x at.y before e f)
+            cell-Sets-other old new at s x y sets (not_itself x y at.x at.y before)
             ∙ elim (compared w.place.x w.place.y x y) [
               | inl later ↦ written.behind x y later ∙ sym (ap next (ready.between x y later before) ∙ quiet)
               | inr o ↦ written.up_to x y (λ later. not_both w.place.x w.place.y x y later o)
@@ -92,18 +91,9 @@ set_there next p old new w at s quiet written ready state sets = record {
         ]
       ];
   behind = λ x y later.
-      cell-Sets-other old new at s x y sets (λ e f. not_itself x y at.x at.y later e f)
+      cell-Sets-other old new at s x y sets (λ e f. not_itself at.x at.y x y later (sym e) (sym f))
       ∙ written.behind x y (before-trans w.place.x w.place.y at.x at.y x y ready.later later);
 }
-  where
-    not_there : (x y a b : ℤ) → IsBefore x y a b → y ≡ b → x ≡ a → ⊥
-    not_there x y a b before e f = omega (arith, ints)
-
-    not_itself : (x y a b : ℤ) → IsBefore a b x y → y ≡ b → x ≡ a → ⊥
-    not_itself x y a b later e f = omega (arith, ints)
-
-    not_both : (x y u v : ℤ) → IsBefore x y u v → (((x ≡ u) × (y ≡ v)) ⊎ IsBefore u v x y) → ⊥
-    not_both x y u v later o = omega (arith, ints)
 
 pub IsWritten-set : (next : List ℕ → ℕ) (p old new : Picture) (w v : Window) (at : Point) (nine : List ℕ) (s : ℕ) → next (replicate 9 0) ≡ 0 → All (λ e. IsInReach e.0.x e.0.y) p → Shows p w → IsWritten next p old w.place.x w.place.y → IsNextPlace w (Some at) → MovesTo w v at → nine ≡ seen v → s ≡ next nine → Sets old new at s → IsWritten next p new v.place.x v.place.y
 IsWritten-set next p old new w v at nine s quiet reach shows written to moves sight state sets =
@@ -128,9 +118,6 @@ IsWritten-end next p new w quiet written shows none = λ x y.
       | inl later ↦ written.behind x y later ∙ sym (ap next (quiet_end p w x y shows none later) ∙ quiet)
       | inr o ↦ written.up_to x y (λ later. not_both w.place.x w.place.y x y later o)
     ]
-  where
-    not_both : (x y u v : ℤ) → IsBefore x y u v → (((x ≡ u) × (y ≡ v)) ⊎ IsBefore u v x y) → ⊥
-    not_both x y u v later o = omega (arith, ints)
 
 -- ---- the end comes
 

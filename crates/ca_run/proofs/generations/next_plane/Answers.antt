@@ -1,5 +1,4 @@
-use Rattle.std.proofs.Common.{refl, subst, sym, arith}
-use Rattle.ca_plane.specs.declared.point.Point.{Point}
+use Rattle.std.proofs.Common.{refl, arith}
 use Rattle.ca_plane.proofs.Pictures.{IsSparse-none}
 use Rattle.ca_run.proofs.Reached.{states_after}
 use Rattle.ca_run.proofs.Windows.{IsReady-next, Shows-next}

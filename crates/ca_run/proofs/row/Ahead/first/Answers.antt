@@ -1,5 +1,3 @@
-use Rattle.ca_plane.specs.Sparse.{IsSparse}
-use Rattle.std.proofs.Common.{subst}
 use Rattle.ca_run.proofs.Heads.{IsFirstPlace-from_head, within-head}
 use Rattle.ca_run.proofs.row.Ahead.first.Goals as goal
 

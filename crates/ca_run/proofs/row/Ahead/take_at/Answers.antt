@@ -1,4 +1,3 @@
-use Rattle.std.proofs.Common.{refl}
 use Rattle.ca_run.proofs.Heads.{IsSparse-from_tail, quiet_from_test, IsWithout-quiet, without_from_test}
 use Rattle.ca_run.proofs.row.Ahead.take_at.Goals as goal
 

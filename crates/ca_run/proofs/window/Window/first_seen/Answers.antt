@@ -1,6 +1,3 @@
-use Rattle.std.specs.Prelude.{◌≢◌, pos, negsuc, ◌+ℤ◌}
-use Rattle.ca_plane.specs.Plane.{cell}
-use Rattle.ca_run.proofs.Reading.{IsFirst-either}
 use Rattle.ca_run.proofs.Windows.{IsFirst-Meets}
 use Rattle.ca_run.proofs.window.Window.first_seen.Goals as goal
 
