@@ -1,6 +1,9 @@
-use crate::memory::MoveFault;
+ghost use Rattle.ca_plane.specs.Sparse.{IsInPlane};
+
+use crate::memory::{Memory, MoveFault};
 use crate::plane::Plane;
 use crate::point::{Bounds, Point};
+use std::alloc::Global;
 use std::test::*;
 
 const FAR: i64 = 1 << 62;
@@ -123,5 +126,98 @@ fn planes_move_to_the_edge_and_no_further(rt: HostRuntime) -> Result<(), Fail> {
             Some(MoveFault::Range)
         );
     }
+    Ok(())
+}
+
+/// A point of a plane.
+fn near(y: i32, x: i32) -> Point
+    ensures { IsInPlane result }
+{
+    Point {
+        y: i64::from(y),
+        x: i64::from(x),
+    }
+}
+
+/// The plane of cells that are written as y, x and state.
+fn gathered(alloc: Global, cells: &[(i32, i32, u8)]) -> Result<Plane, Memory> {
+    let mut listed = Vec::new(alloc);
+    'cells: for &(y, x, state) in cells {
+        listed.push((near(y, x), state))?;
+    }
+    Plane::from_cells(alloc, listed)
+}
+
+#[test]
+fn of_two_cells_at_one_point_the_first_counts(rt: HostRuntime) -> Result<(), Fail> {
+    let cells = [
+        (1, 2, 3),
+        (0, 5, 1),
+        (1, 2, 7),
+        (-3, 0, 0),
+        (0, 5, 0),
+        (-3, 0, 4),
+        (1, -2, 255),
+        (0, -5, 2),
+    ];
+    let plane = gathered(rt.alloc(), &cells)?;
+    let shown = [
+        (Point { y: 0, x: -5 }, 2),
+        (Point { y: 0, x: 5 }, 1),
+        (Point { y: 1, x: -2 }, 255),
+        (Point { y: 1, x: 2 }, 3),
+    ];
+    assert_eq!(rt; plane.as_slice(), shown.as_slice());
+    assert!(rt; gathered(rt.alloc(), &[])?.is_empty());
+    Ok(())
+}
+
+#[test]
+fn many_cells_come_in_any_order(rt: HostRuntime) -> Result<(), Fail> {
+    let mut cells = Vec::new(rt.alloc());
+    for state in 1..=2u8 {
+        for turn in 0..30_011u32 {
+            cells.push(((turn % 7) as i32, (turn * 37 % 30_011) as i32, state))?;
+        }
+    }
+    let plane = gathered(rt.alloc(), &cells)?;
+    assert_eq!(rt; plane.len(), 30_011);
+    assert!(rt; plane.cells().all(|(_, state)| state == 1));
+    assert_eq!(rt; plane.get(Point { y: 5, x: 185 }), 1);
+    assert_eq!(rt; plane.get(Point { y: 6, x: 185 }), 0);
+    Ok(())
+}
+
+#[test]
+fn planes_hold_100000_cells(rt: HostRuntime) -> Result<(), Fail> {
+    let mut plane = Plane::new(rt.alloc());
+    for row in 0..250u32 {
+        for column in 0..400u32 {
+            let at = Point {
+                y: i64::from(row),
+                x: i64::from(column),
+            };
+            plane.set(at, (column % 255) as u8 + 1)?;
+        }
+    }
+    assert_eq!(rt; plane.len(), 100_000);
+    let mut misread = 0u32;
+    for row in 0..250u32 {
+        for column in 0..400u32 {
+            let at = Point {
+                y: i64::from(row),
+                x: i64::from(column),
+            };
+            if u32::from(plane.get(at)) != column % 255 + 1 {
+                misread = misread.saturating_add(1);
+            }
+        }
+    }
+    assert_eq!(rt; misread, 0);
+    assert!(rt; plane.copy(rt.alloc())?.same(&plane));
+    let moved = plane.translated(rt.alloc(), -400, 250)?;
+    assert_eq!(rt; moved.len(), 100_000);
+    assert_eq!(rt; moved.get(Point { y: 499, x: -1 }), 145);
+    assert_eq!(rt; plane.difference(&moved), Some(Point { y: 0, x: 0 }));
     Ok(())
 }
