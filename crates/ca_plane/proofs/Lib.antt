@@ -11,3 +11,4 @@ pub mod Places
 pub mod Same
 pub mod Sends
 pub mod Shifts
+pub mod Trimmed

@@ -1,7 +1,12 @@
 -- Bytes, lines, words and numbers, as every format of the project reads them (our own choice where Golly Help is silent).
-use Rattle.std.specs.Prelude.{◌≡◌, ℕ, ◌+◌, ◌-◌, ◌*◌, ℤ, pos, neg_ℤ, List, [], ◌∷◌, Bool, true, false, not, ◌&&◌, ◌||◌, ◌==◌, nat_le, IsTrue, if◌then◌else◌, ◌⊎◌}
+use Rattle.std.specs.Prelude.{◌≡◌, ℕ, ◌+◌, ◌-◌, ◌*◌, ℤ, pos, neg_ℤ, List, [], ◌∷◌, Bool, true, false, not, ◌&&◌, ◌||◌, ◌==◌, nat_le, IsTrue, if◌then◌else◌, ◌⊎◌, codes, slice_index}
+use Prim.Native.String.{String}
 use Rattle.std.specs.List.{list_all}
 use Rattle.std.specs.Int.{w64, saturate_signed}
+
+-- the number of the first of some characters: `letter "B"` is 66
+abbrev pub letter : String → ℕ
+letter text = slice_index (codes text) 0
 
 -- a blank is a space, a tab or a CR
 abbrev pub is_blank : ℕ → Bool
@@ -49,6 +54,15 @@ abbrev pub without_cr : List ℕ → List ℕ
 without_cr [] = []
 without_cr (b ∷ []) = if b == 13 then [] else b ∷ []
 without_cr (b ∷ c ∷ bs) = b ∷ without_cr (c ∷ bs)
+
+-- bytes without the blanks that they end with
+abbrev pub without_last_blanks : List ℕ → List ℕ
+without_last_blanks [] = []
+without_last_blanks (b ∷ bs) = if list_all is_blank (b ∷ bs) then [] else b ∷ without_last_blanks bs
+
+-- bytes without the blanks at both ends
+abbrev pub trimmed : List ℕ → List ℕ
+trimmed bytes = without_last_blanks (rest is_blank bytes)
 
 -- the words of a line: its longest runs of bytes that are no blanks
 abbrev pub words_of : List ℕ → List (List ℕ)

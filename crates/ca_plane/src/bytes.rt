@@ -2,7 +2,7 @@
 
 ghost use Rattle.std.specs.Prelude.{◌≡◌, ◌≢◌, ℕ, ◌-◌, ◌<◌, ◌^◌, ◌++◌, List, ◌∷◌, [], length, not, min, ℤ, ◌==◌, MatchOption, IfSome};
 ghost use Rattle.std.specs.List.{prefix_len, list_all};
-ghost use Rattle.ca_plane.specs.Bytes.{is_blank, is_line_end, is_digit, is_word_byte, Every, front, rest, value, AreDigits, IsInteger, nearest_i64, IsWord, lines_of, words_of};
+ghost use Rattle.ca_plane.specs.Bytes.{is_blank, is_line_end, is_digit, is_word_byte, Every, front, rest, trimmed, value, AreDigits, IsInteger, nearest_i64, IsWord, lines_of, words_of};
 
 /// Whether the byte is a blank: a space, a tab or a CR.
 pub fn is_blank(byte: u8) -> bool
@@ -31,6 +31,20 @@ pub fn split_blanks(bytes: &[u8]) -> (&[u8], &[u8])
     ensures rest { result.1.now ≡ rest is_blank bytes.now }
 {
     bytes.split_at(blank_length(bytes))
+}
+
+/// The bytes without the blanks at both ends.
+pub fn trim_blanks(bytes: &[u8]) -> &[u8]
+    ensures { result.now ≡ trimmed bytes.now }
+{
+    let (_, mut left) = split_blanks(bytes);
+    'blanks: while let Some((last, before)) = left.split_last() {
+        if !is_blank(*last) {
+            return left;
+        }
+        left = before;
+    }
+    left
 }
 
 fn digit_length(bytes: &[u8]) -> usize

@@ -1,6 +1,7 @@
 -- How a B/S rule is spelled (Golly Help, QuickLife; which texts are accepted besides `B3/S23` and `23/3` is our own),
 -- how it is printed (our own), and what is wrong with a text that spells none.
-use Rattle.std.specs.Prelude.{◌≡◌, ℕ, ◌+◌, List, [], ◌∷◌, ◌++◌, Bool, true, false, ◌==◌, IsTrue, ◌⊎◌, filter, map}
+use Rattle.std.specs.Prelude.{◌≡◌, ℕ, ◌+◌, List, [], ◌∷◌, ◌++◌, Bool, true, false, ◌==◌, IsTrue, ◌⊎◌, filter, map, codes}
+use Rattle.ca_plane.specs.Bytes.{letter}
 use Rattle.std.specs.List.{list_any}
 use Rattle.ca_rule.specs.Counts.{most_of, is_count, has_digit, counts_of, are_digits_up_to}
 use Rattle.ca_rule.specs.declared.bs_rule.BsRule.{BsRule}
@@ -17,12 +18,12 @@ IsLetter upper byte = (byte ≡ upper) ⊎ (byte ≡ upper + 32)
 -- nothing behind the digits for all eight neighbours, `V` for the four that share a side, `H` for six
 abbrev pub IsSuffix : Hood → List ℕ → Type 0
 IsSuffix Moore suffix = suffix ≡ []
-IsSuffix VonNeumann suffix = (byte : ℕ) × IsLetter 86 byte × (suffix ≡ byte ∷ [])
-IsSuffix Hex suffix = (byte : ℕ) × IsLetter 72 byte × (suffix ≡ byte ∷ [])
+IsSuffix VonNeumann suffix = (byte : ℕ) × IsLetter (letter "V") byte × (suffix ≡ byte ∷ [])
+IsSuffix Hex suffix = (byte : ℕ) × IsLetter (letter "H") byte × (suffix ≡ byte ∷ [])
 
 -- a `/` or nothing
 abbrev pub IsOptionalSlash : List ℕ → Type 0
-IsOptionalSlash bytes = (bytes ≡ []) ⊎ (bytes ≡ 47 ∷ [])
+IsOptionalSlash bytes = (bytes ≡ []) ⊎ (bytes ≡ codes "/")
 
 -- a letter and digits, an optional `/`, another letter and digits, and the suffix: as `B3/S23`, `s23b3`, `B2S34H`
 abbrev pub IsLettered : ℕ → ℕ → List ℕ → List ℕ → List ℕ → Hood → Type 0
@@ -32,17 +33,17 @@ IsLettered first second text digits later hood = (a : ℕ) × (b : ℕ) × (slas
 
 -- survival digits, `/`, birth digits, and the suffix: as `23/3`
 abbrev pub IsUnlettered : List ℕ → List ℕ → List ℕ → Hood → Type 0
-IsUnlettered text survival birth hood = (suffix : List ℕ) × IsSuffix hood suffix × (text ≡ survival ++ (47 ∷ (birth ++ suffix)))
+IsUnlettered text survival birth hood = (suffix : List ℕ) × IsSuffix hood suffix × (text ≡ survival ++ (codes "/" ++ (birth ++ suffix)))
 
 -- the text spells a rule with these birth and survival digits over this neighbourhood, no digit above its size
 pub record Spells (text birth survival : List ℕ) (hood : Hood) : Type 0 where
   pub birth_digits : IsTrue (are_digits_up_to (most_of hood) birth)
   pub survival_digits : IsTrue (are_digits_up_to (most_of hood) survival)
-  pub form : IsLettered 66 83 text birth survival hood ⊎ (IsLettered 83 66 text survival birth hood ⊎ IsUnlettered text survival birth hood)
+  pub form : IsLettered (letter "B") (letter "S") text birth survival hood ⊎ (IsLettered (letter "S") (letter "B") text survival birth hood ⊎ IsUnlettered text survival birth hood)
 
 -- `:` begins the size of a bounded grid
 abbrev pub has_colon : List ℕ → Bool
-has_colon text = list_any (λ b. b == 58) text
+has_colon text = list_any (λ b. b == letter ":") text
 
 -- the text names the rule: it spells it, and leaves the empty plane empty
 pub record Names (text : List ℕ) (rule : BsRule) : Type 0 where
@@ -61,14 +62,14 @@ IsFaultOf text Unknown = (has_colon text ≡ false) × ((birth survival : List �
 
 -- the digits of counts, rising, each once
 abbrev pub digits_of : Counts → List ℕ
-digits_of counts = map (λ n. 48 + n) (filter (is_count counts) (0 ∷ 1 ∷ 2 ∷ 3 ∷ 4 ∷ 5 ∷ 6 ∷ 7 ∷ 8 ∷ []))
+digits_of counts = map (λ n. letter "0" + n) (filter (is_count counts) (0 ∷ 1 ∷ 2 ∷ 3 ∷ 4 ∷ 5 ∷ 6 ∷ 7 ∷ 8 ∷ []))
 
 -- the suffix that is printed
 abbrev pub suffix_of : Hood → List ℕ
 suffix_of Moore = []
-suffix_of VonNeumann = 86 ∷ []
-suffix_of Hex = 72 ∷ []
+suffix_of VonNeumann = codes "V"
+suffix_of Hex = codes "H"
 
 -- the printed form: `B`, the birth digits, `/S`, the survival digits, and the suffix
 abbrev pub printed : Hood → Counts → Counts → List ℕ
-printed hood birth survival = 66 ∷ (digits_of birth ++ (47 ∷ 83 ∷ (digits_of survival ++ suffix_of hood)))
+printed hood birth survival = codes "B" ++ (digits_of birth ++ (codes "/S" ++ (digits_of survival ++ suffix_of hood)))

@@ -44,6 +44,8 @@ fn takes_lines_and_words_from_the_front(rt: HostRuntime) {
     let word = next_word(line);
     assert_eq!(rt; word, Some((b"still".as_slice(), b"\tblock \r".as_slice())));
     assert_eq!(rt; next_word(b" \r"), None);
+    assert_eq!(rt; trim_blanks(b" \tMoore wide \r"), b"Moore wide".as_slice());
+    assert_eq!(rt; trim_blanks(b" \r"), b"".as_slice());
     let (name, rest) = split_at_first(b"a={1,2}", b'=');
     assert_eq!(rt; name, b"a".as_slice());
     assert_eq!(rt; rest, b"={1,2}".as_slice());
