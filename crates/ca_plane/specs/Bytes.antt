@@ -1,5 +1,5 @@
 -- Bytes, lines, words and numbers, as every format of the project reads them (our own choice where Golly Help is silent).
-use Rattle.std.specs.Prelude.{◌≡◌, ℕ, ◌+◌, ◌-◌, ◌*◌, ℤ, pos, neg_ℤ, List, [], ◌∷◌, Bool, true, false, not, ◌&&◌, ◌||◌, ◌==◌, nat_le, IsTrue, if◌then◌else◌, ◌⊎◌, codes, slice_index}
+use Rattle.std.specs.Prelude.{◌≡◌, ℕ, ◌+◌, ◌-◌, ◌*◌, ℤ, pos, neg_ℤ, List, [], ◌∷◌, ◌++◌, Bool, true, false, not, ◌&&◌, ◌||◌, ◌==◌, nat_le, IsTrue, if◌then◌else◌, ◌⊎◌, codes, slice_index}
 use Prim.Native.String.{String}
 use Rattle.std.specs.List.{list_all}
 use Rattle.std.specs.Int.{w64, saturate_signed}
@@ -18,7 +18,7 @@ is_line_end b = b == 10
 
 -- `0` to `9`
 abbrev pub is_digit : ℕ → Bool
-is_digit b = nat_le 48 b && nat_le b 57
+is_digit b = nat_le (letter "0") b && nat_le b (letter "9")
 
 -- each byte passes the test
 abbrev pub Every : (ℕ → Bool) → List ℕ → Type 0
@@ -86,7 +86,7 @@ AreDigits (d ∷ ds) = Every is_digit (d ∷ ds)
 -- the number that digits write behind those of n
 abbrev pub value_from : ℕ → List ℕ → ℕ
 value_from n [] = n
-value_from n (d ∷ ds) = value_from (10 * n + (d - 48)) ds
+value_from n (d ∷ ds) = value_from (10 * n + (d - letter "0")) ds
 
 -- the number that decimal digits write
 abbrev pub value : List ℕ → ℕ
@@ -96,7 +96,7 @@ value ds = value_from 0 ds
 abbrev pub IsInteger : List ℕ → ℤ → Type 0
 IsInteger bytes n =
     (AreDigits bytes × (n ≡ pos (value bytes)))
-    ⊎ ((digits : List ℕ) × (bytes ≡ 45 ∷ digits) × AreDigits digits × (n ≡ neg_ℤ (pos (value digits))))
+    ⊎ ((digits : List ℕ) × (bytes ≡ codes "-" ++ digits) × AreDigits digits × (n ≡ neg_ℤ (pos (value digits))))
 
 -- the `i64` that is nearest to an integer: the integer itself, where it is one
 abbrev pub nearest_i64 : ℤ → ℤ

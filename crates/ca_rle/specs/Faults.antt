@@ -3,7 +3,7 @@
 use Rattle.std.specs.Prelude.{◌≡◌, ℕ, ◌≤◌, ◌^◌, ℤ, List, [], ◌∷◌, ◌++◌, Bool, true, false, ◌||◌, ◌==◌, nat_le, IsTrue, Option, Some, None, is_some, codes, ◌⊎◌, if◌then◌else◌}
 use Rattle.std.specs.Bool.{nat_eq}
 use Rattle.std.specs.List.{flat_map, AllZip, starts_with}
-use Rattle.ca_plane.specs.Bytes.{is_blank, is_line_end, is_digit, is_end_or, front, rest, AreDigits, value}
+use Rattle.ca_plane.specs.Bytes.{letter, is_blank, is_line_end, is_digit, is_end_or, front, rest, AreDigits, value}
 use Rattle.ca_rle.specs.declared.fault.RleFault.{RleFault}
 use Rattle.ca_rle.specs.declared.fault.RleFault.TheVariants.{Syntax, Header, XlifeRule, NoEnd, BadState, GenTooLarge, Range, TooManyCells, Memory}
 use Rattle.ca_rle.specs.declared.item.Item.{Item}
@@ -83,7 +83,7 @@ behind_white InLine [] = []
 behind_white InComment [] = []
 behind_white AtStart (b ∷ bs) =
     if is_line_end b || is_blank b then behind_white AtStart bs
-    else (if b == 35 then behind_white InComment bs else b ∷ bs)
+    else (if b == letter "#" then behind_white InComment bs else b ∷ bs)
 behind_white InLine (b ∷ bs) =
     if is_line_end b then behind_white AtStart bs
     else (if is_blank b then behind_white InLine bs else b ∷ bs)
@@ -98,7 +98,7 @@ letter_fault prefix (b ∷ bs) = if is_letter b then (if nat_le (prefixed_state 
 abbrev pub tag_fault : Bool → List ℕ → Option RleFault
 tag_fault counted [] = Some NoEnd
 tag_fault counted (b ∷ bs) =
-    if b == 33 then (if counted then Some Syntax else None)
+    if b == letter "!" then (if counted then Some Syntax else None)
     else (if is_some (tag_of (b ∷ [])) then None
     else (if is_prefix b then letter_fault b bs else Some Syntax))
 

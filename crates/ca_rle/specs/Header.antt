@@ -3,7 +3,7 @@ use Rattle.std.specs.Prelude.{◌≡◌, ℕ, ◌<◌, ◌^◌, ℤ, List, [], �
 use Rattle.std.specs.Str.{bytes_eq}
 use Rattle.std.specs.List.{starts_with}
 use Rattle.std.specs.Bool.{nat_eq}
-use Rattle.ca_plane.specs.Bytes.{is_blank, Every, AreDigits, IsInteger, IsWord, value, rest, is_end_or, words_of, without_cr}
+use Rattle.ca_plane.specs.Bytes.{letter, is_blank, Every, AreDigits, IsInteger, IsWord, value, rest, is_end_or, words_of, without_cr}
 
 -- a part of a header: these very bytes, or a number
 pub data Part : Type 0 where
@@ -40,7 +40,7 @@ IsHeader line (Some text) = (front : List ℕ) × (ignored : List ℕ) ×
 
 -- a line that may stand before the header: it is blank, or its first byte that is no blank is `#`
 abbrev pub is_comment : List ℕ → Bool
-is_comment line = is_end_or (λ b. b == 35) (rest is_blank line)
+is_comment line = is_end_or (λ b. b == letter "#") (rest is_blank line)
 
 -- the words behind `#CXRLE`, where that is the first word of the line
 abbrev pub words_behind_cxrle : List (List ℕ) → List (List ℕ)
@@ -59,7 +59,7 @@ pub data Said : Type 0 where
 
 -- `Pos=X,Y` is the corner, `Gen=G` the generation, below 2^63; other words say nothing
 abbrev pub Says : List ℕ → Said → Type 0
-Says word (Corner x y) = (a : List ℕ) × (b : List ℕ) × (word ≡ codes "Pos=" ++ (a ++ 44 ∷ b)) × IsInteger a x × IsInteger b y
+Says word (Corner x y) = (a : List ℕ) × (b : List ℕ) × (word ≡ codes "Pos=" ++ (a ++ letter "," ∷ b)) × IsInteger a x × IsInteger b y
 Says word (Generation count) = (digits : List ℕ) × (word ≡ codes "Gen=" ++ digits) × AreDigits digits × (count ≡ value digits) × (count < 2 ^ 63)
 Says word Nothing = (starts_with nat_eq word (codes "Pos=") ≡ false) × (starts_with nat_eq word (codes "Gen=") ≡ false)
 

@@ -1,17 +1,17 @@
 -- The items of an extended RLE text (Golly Help, File Formats: Extended RLE format).
 use Rattle.std.specs.Prelude.{◌≡◌, ℕ, ◌+◌, ◌-◌, ◌*◌, ◌<◌, List, [], ◌∷◌, ◌++◌, Bool, true, false, ◌&&◌, ◌||◌, ◌==◌, nat_le, IsTrue, Option, Some, None, if◌then◌else◌}
-use Rattle.ca_plane.specs.Bytes.{is_blank, is_line_end, AreDigits, value}
+use Rattle.ca_plane.specs.Bytes.{letter, is_blank, is_line_end, AreDigits, value}
 use Rattle.ca_rle.specs.declared.item.Item.{Item}
 use Rattle.ca_rle.specs.declared.item.Tag.{Tag}
 use Rattle.ca_rle.specs.declared.item.Tag.TheVariants.{Cell, RowEnd}
 
 -- `A` to `X`
 abbrev pub is_letter : ℕ → Bool
-is_letter b = nat_le 65 b && nat_le b 88
+is_letter b = nat_le (letter "A") b && nat_le b (letter "X")
 
 -- `p` to `y`, which stand before a letter
 abbrev pub is_prefix : ℕ → Bool
-is_prefix b = nat_le 112 b && nat_le b 121
+is_prefix b = nat_le (letter "p") b && nat_le b (letter "y")
 
 -- the state of a prefix and a letter: 24 more for `p`, 48 more for `q`, and so on
 abbrev pub prefixed_state : ℕ → ℕ → ℕ
@@ -21,10 +21,10 @@ prefixed_state prefix letter = 24 * (prefix - 111) + (letter - 64)
 abbrev pub tag_of : List ℕ → Option Tag
 tag_of [] = None
 tag_of (b ∷ []) =
-    if b == 98 || b == 46 then Some (Cell 0)
-    else (if b == 111 then Some (Cell 1)
+    if b == letter "b" || b == letter "." then Some (Cell 0)
+    else (if b == letter "o" then Some (Cell 1)
     else (if is_letter b then Some (Cell (b - 64))
-    else (if b == 36 then Some RowEnd else None)))
+    else (if b == letter "$" then Some RowEnd else None)))
 tag_of (p ∷ b ∷ []) = if (is_prefix p && is_letter b) && nat_le (prefixed_state p b) 255 then Some (Cell (prefixed_state p b)) else None
 tag_of (p ∷ b ∷ c ∷ bs) = None
 
@@ -41,7 +41,7 @@ is_white_from InLine [] = true
 is_white_from InComment [] = false
 is_white_from AtStart (b ∷ bs) =
     if is_line_end b || is_blank b then is_white_from AtStart bs
-    else (if b == 35 then is_white_from InComment bs else false)
+    else (if b == letter "#" then is_white_from InComment bs else false)
 is_white_from InLine (b ∷ bs) =
     if is_line_end b then is_white_from AtStart bs
     else (if is_blank b then is_white_from InLine bs else false)
@@ -69,7 +69,7 @@ Run bytes (i ∷ is) rest = (front : List ℕ) × (more : List ℕ) × IsItem fr
 
 -- the end of a pattern: white space, `!`, and any bytes
 abbrev pub IsEnd : List ℕ → Type 0
-IsEnd bytes = (before : List ℕ) × (ignored : List ℕ) × IsWhite before × (bytes ≡ before ++ 33 ∷ ignored)
+IsEnd bytes = (before : List ℕ) × (ignored : List ℕ) × IsWhite before × (bytes ≡ before ++ letter "!" ∷ ignored)
 
 -- the bytes spell the items: the items one after another, and then the end
 abbrev pub Items : List ℕ → List Item → Type 0

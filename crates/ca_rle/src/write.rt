@@ -6,7 +6,7 @@ ghost use Rattle.std.specs.Io.KnownBytes.{Appends};
 ghost use Rattle.ca_plane.specs.Bytes.{IsWord};
 ghost use Rattle.ca_plane.specs.Device.{Rises, AppendsPrefix};
 ghost use Rattle.ca_rle.specs.File.{File, IsFile};
-ghost use Rattle.ca_rle.specs.Limits.{IsInRange, IsWithinRange, IsWithinLimits};
+ghost use Rattle.ca_rle.specs.Limits.{most_cells, IsInRange, IsWithinRange, IsWithinLimits};
 ghost use Rattle.ca_rle.specs.Shown.{picture_of};
 ghost use Rattle.ca_rle.specs.Tidy.{IsTidy};
 
@@ -50,7 +50,7 @@ pub fn write_rle(
     ensures means { IfOk result (λ text. (file : File) × IsFile text.items file × IsWithinRange file
         × (picture_of file.corner file.items ≡ cells.now) × (file.rule_text ≡ rule_text.now) × (file.generation ≡ generation)) }
     // The reader takes it where the plane has at most 16777216 live cells.
-    ensures limits { length cells.now ≤ 2 ^ 24 → IfOk result (λ text. (file : File) → IsFile text.items file → IsWithinLimits file) }
+    ensures limits { length cells.now ≤ most_cells → IfOk result (λ text. (file : File) → IsFile text.items file → IsWithinLimits file) }
 {
     let frame = frame::of(cells);
     let mut text = Vec::new(alloc);
@@ -83,7 +83,7 @@ pub fn write_rle_to<W: Write>(
     ensures all { OnOk result ((text : List ℕ) × IsTidy text cells.now rule_text.now generation states
         × Appends (W.contents out.old.inner) (W.contents out.new.inner) text) }
     // The reader takes what is written where the plane has at most 16777216 live cells.
-    ensures limits { length cells.now ≤ 2 ^ 24 → OnOk result ((text : List ℕ) × Appends (W.contents out.old.inner) (W.contents out.new.inner) text
+    ensures limits { length cells.now ≤ most_cells → OnOk result ((text : List ℕ) × Appends (W.contents out.old.inner) (W.contents out.new.inner) text
         × ((file : File) → IsFile text file → IsWithinLimits file)) }
     ensures kept { OnOk result (out.new.failures ≡ out.old.failures) }
     // Without memory the device is as it was.

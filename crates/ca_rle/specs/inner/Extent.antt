@@ -7,7 +7,7 @@ use Rattle.ca_rle.specs.declared.item.Item.{Item}
 use Rattle.ca_rle.specs.declared.extent.Extent.{Extent}
 use Rattle.ca_rle.specs.declared.extent.Offset.{Offset}
 use Rattle.ca_rle.specs.Shown.{state_of, rows_of, columns_of, run_of}
-use Rattle.ca_rle.specs.Limits.{IsInRange}
+use Rattle.ca_rle.specs.Limits.{range, most_count, IsInRange}
 
 -- ---- what items show
 
@@ -62,10 +62,10 @@ pub record IsExtentOf (items : List Item) (extent : Extent) : Type 0 where
 
 -- items of this extent are in range from this corner
 pub record IsExtentInRange (extent : Extent) (corner : Point) : Type 0 where
-  pub counts : extent.longest ≤ 2 ^ 62
+  pub counts : extent.longest ≤ most_count
   pub start : IsInRange corner
-  pub right : (corner.x +ℤ pos extent.right) ≤ℤ pos (2 ^ 60)
-  pub bottom : (corner.y +ℤ pos extent.bottom) ≤ℤ pos (2 ^ 60)
+  pub right : (corner.x +ℤ pos extent.right) ≤ℤ pos range
+  pub bottom : (corner.y +ℤ pos extent.bottom) ≤ℤ pos range
 
 -- ---- how an item is drawn
 
@@ -75,7 +75,7 @@ point_from corner offset = record { y = corner.y +ℤ pos offset.rows; x = corne
 
 -- so many cells from a point to the right are in range
 abbrev pub HasRoom : Point → ℕ → Type 0
-HasRoom at count = IsInRange at × ((at.x +ℤ pos count) ≤ℤ pos (2 ^ 60))
+HasRoom at count = IsInRange at × ((at.x +ℤ pos count) ≤ℤ pos range)
 
 -- the cells of an item that begins at a point
 abbrev pub cells_from : Point → Item → Picture

@@ -10,12 +10,13 @@ use Rattle.ca_rle.specs.declared.front.lines.Preamble.{Preamble}
 use Rattle.ca_rle.specs.declared.front.Front.{Front}
 use Rattle.ca_rle.specs.Header.{Said, Says, IsXlifeLine}
 use Rattle.ca_rle.specs.File.{IsPreamble, IsHeaded, corner_of, generation_of}
+use Rattle.ca_rle.specs.Limits.{range}
 use Rattle.ca_rle.specs.Faults.{IsBadWord}
 use Rattle.ca_rle.specs.inner.BodyFaults.{KeepsCorner}
 
--- from -2^60 to 2^60 - 1
+-- a coordinate in range
 abbrev pub IsNear : ℤ → Type 0
-IsNear n = (neg_ℤ (pos (2 ^ 60)) ≤ℤ n) × (n <ℤ pos (2 ^ 60))
+IsNear n = (neg_ℤ (pos range) ≤ℤ n) × (n <ℤ pos range)
 
 -- the reader keeps the number itself, or, where that is out of range, some number within 2^62 that is out of range too
 pub record KeepsNumber (number kept : ℤ) : Type 0 where
