@@ -10,7 +10,7 @@ use Rattle.ca_claims.specs.declared.fault.ClaimFault.TheVariants.{Syntax, Number
 use Rattle.ca_claims.specs.Text.{Line, LinesSay, spoken}
 use Rattle.ca_claims.specs.TextFaults.{HasLine, AreMisspelled, HaveBadNumber, AskUnknown, LoadTaken, AreAllowed, IsFirstFault}
 use Rattle.ca_claims.specs.Reading.{IsReading, SaysNext, HasFault}
-use Rattle.ca_claims.proofs.Said.{LinesSay-push, length_said}
+use Rattle.ca_claims.proofs.LinesSaid.{LinesSay-push, length_said}
 
 -- some lines of the text are read, and these bytes are left
 pub record IsBehind (bytes rest : List ℕ) (number : ℕ) (reading : Reading) : Type 0 where

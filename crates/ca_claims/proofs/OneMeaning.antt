@@ -6,10 +6,11 @@ use Rattle.ca_plane.specs.Bytes.{IsInteger, lines_of, words_of}
 use Rattle.ca_rle.proofs.OneHeader.{one_integer}
 use Rattle.ca_claims.specs.declared.fault.ClaimFault.{ClaimFault}
 use Rattle.ca_claims.specs.declared.fault.ClaimFault.TheVariants.{Syntax, Number, UnknownName, NameTaken, Memory}
-use Rattle.ca_claims.specs.Text.{Claim, Still, Oscillator, Spaceship, Becomes, Line, Load, Claims, WordsSay, HasGoodNumbers, IsAllowed, LinesSay, IsClaimText, spoken}
+use Rattle.ca_claims.specs.declared.claims.line.Claim.TheVariants.{Still, Oscillator, Spaceship, Becomes}
+use Rattle.ca_claims.specs.Text.{Claim, Line, Load, Claims, WordsSay, HasGoodNumbers, IsAllowed, LinesSay, IsClaimText, spoken}
 use Rattle.ca_claims.specs.TextFaults.{IsFirstFault}
 use Rattle.ca_claims.specs.Reading.{SaysNext, HasFault}
-use Rattle.ca_claims.proofs.Said.{one_before}
+use Rattle.ca_claims.proofs.LinesSaid.{one_before}
 
 -- words make one claim
 same_claim : (words : List (List ℕ)) (a b : Claim) → WordsSay words (Claims a) → WordsSay words (Claims b) → a ≡ b

@@ -9,7 +9,7 @@ use Rattle.ca_plane.proofs.Shifts.{cell-shifted}
 use Rattle.ca_run.proofs.Vectors.{no_vector}
 use Rattle.ca_claims.specs.declared.verdict.Why.{Why}
 use Rattle.ca_claims.specs.declared.verdict.Why.TheVariants.{Empty, Differs, Earlier}
-use Rattle.ca_claims.specs.Text.{Claim}
+use Rattle.ca_claims.specs.declared.claims.asks.Asks.{Asks}
 use Rattle.ca_claims.specs.Truth.{IsReason, IsSameReason}
 use Rattle.ca_claims.proofs.Verdicts.{back}
 
@@ -34,41 +34,41 @@ one_vector p dx dy u v live same =
 -- ---- the time of a return
 
 -- of two first returns neither is the earlier
-no_earlier : (next : List ℕ → ℕ) (cells other : Picture) (claim : Claim) (m n : ℕ) (dx dy u v : ℤ) → IsReason next cells other claim (Earlier m dx dy)
-    → IsReason next cells other claim (Earlier n u v) → m < n → ⊥
-no_earlier next cells other claim m n dx dy u v one two less = back next cells claim m dx dy one.4 one.5 (two.6 m one.2 less)
+no_earlier : (next : List ℕ → ℕ) (cells other : Picture) (asks : Asks) (m n : ℕ) (dx dy u v : ℤ) → IsReason next cells other asks (Earlier m dx dy)
+    → IsReason next cells other asks (Earlier n u v) → m < n → ⊥
+no_earlier next cells other asks m n dx dy u v one two less = back next cells asks.barred m dx dy one.4 one.5 (two.6 m one.2 less)
 
 -- so they are at one time
-one_time : (next : List ℕ → ℕ) (cells other : Picture) (claim : Claim) (m n : ℕ) (dx dy u v : ℤ) → IsReason next cells other claim (Earlier m dx dy)
-    → IsReason next cells other claim (Earlier n u v) → m ≡ n
-one_time next cells other claim m n dx dy u v one two =
+one_time : (next : List ℕ → ℕ) (cells other : Picture) (asks : Asks) (m n : ℕ) (dx dy u v : ℤ) → IsReason next cells other asks (Earlier m dx dy)
+    → IsReason next cells other asks (Earlier n u v) → m ≡ n
+one_time next cells other asks m n dx dy u v one two =
     elim (cases_order m n) [
       | inl e ↦ e
-      | inr (inl less) ↦ absurd (no_earlier next cells other claim m n dx dy u v one two less)
-      | inr (inr more) ↦ absurd (no_earlier next cells other claim n m u v dx dy two one more)
+      | inr (inl less) ↦ absurd (no_earlier next cells other asks m n dx dy u v one two less)
+      | inr (inr more) ↦ absurd (no_earlier next cells other asks n m u v dx dy two one more)
     ]
 
 -- ---- the kinds
 
 -- where a cell isn't the claimed one, the claimed cells don't stand
-not_both : (next : List ℕ → ℕ) (cells other : Picture) (claim : Claim) (x y : ℤ) (found wanted n m : ℕ) (dx dy : ℤ)
-    → IsReason next cells other claim (Differs x y found wanted n) → IsReason next cells other claim (Earlier m dx dy) → ⊥
-not_both next cells other claim x y found wanted n m dx dy differs earlier =
+not_both : (next : List ℕ → ℕ) (cells other : Picture) (asks : Asks) (x y : ℤ) (found wanted n m : ℕ) (dx dy : ℤ)
+    → IsReason next cells other asks (Differs x y found wanted n) → IsReason next cells other asks (Earlier m dx dy) → ⊥
+not_both next cells other asks x y found wanted n m dx dy differs earlier =
     differs.4 (sym differs.2 ∙ ap (λ k. after next cells k x y) differs.1 ∙ earlier.1 x y ∙ differs.3)
 
 -- two reasons against a claim are of one kind, and two returns are one
-pub one_reason : (next : List ℕ → ℕ) (cells other : Picture) (claim : Claim) (one two : Why) → IsReason next cells other claim one
-    → IsReason next cells other claim two → IsSameReason one two
-one_reason next cells other claim Empty Empty h k = tt
-one_reason next cells other claim Empty (Differs x y found wanted n) h k = h.1 (k.0 h.0)
-one_reason next cells other claim Empty (Earlier m dx dy) h k = h.1 k.0
-one_reason next cells other claim (Differs x y found wanted n) Empty h k = k.1 (h.0 k.0)
-one_reason next cells other claim (Differs x y found wanted n) (Differs u v shown asked m) h k = h.1 ∙ sym k.1
-one_reason next cells other claim (Differs x y found wanted n) (Earlier m dx dy) h k = not_both next cells other claim x y found wanted n m dx dy h k
-one_reason next cells other claim (Earlier m dx dy) Empty h k = k.1 h.0
-one_reason next cells other claim (Earlier m dx dy) (Differs x y found wanted n) h k = not_both next cells other claim x y found wanted n m dx dy k h
-one_reason next cells other claim (Earlier m dx dy) (Earlier n u v) h k =
-    let time = one_time next cells other claim m n dx dy u v h k in
+pub one_reason : (next : List ℕ → ℕ) (cells other : Picture) (asks : Asks) (one two : Why) → IsReason next cells other asks one
+    → IsReason next cells other asks two → IsSameReason one two
+one_reason next cells other asks Empty Empty h k = tt
+one_reason next cells other asks Empty (Differs x y found wanted n) h k = h.1 (k.0 h.0)
+one_reason next cells other asks Empty (Earlier m dx dy) h k = h.1 k.0
+one_reason next cells other asks (Differs x y found wanted n) Empty h k = k.1 (h.0 k.0)
+one_reason next cells other asks (Differs x y found wanted n) (Differs u v shown asked m) h k = h.1 ∙ sym k.1
+one_reason next cells other asks (Differs x y found wanted n) (Earlier m dx dy) h k = not_both next cells other asks x y found wanted n m dx dy h k
+one_reason next cells other asks (Earlier m dx dy) Empty h k = k.1 h.0
+one_reason next cells other asks (Earlier m dx dy) (Differs x y found wanted n) h k = not_both next cells other asks x y found wanted n m dx dy k h
+one_reason next cells other asks (Earlier m dx dy) (Earlier n u v) h k =
+    let time = one_time next cells other asks m n dx dy u v h k in
     let same : IsSame (shifted cells dx dy) (shifted cells u v) = λ x y. sym (h.5 x y) ∙ ap (λ t. after next cells t x y) time ∙ k.5 x y in
     let vector = one_vector cells dx dy u v h.0 same in
     (time, vector.0, vector.1)

@@ -9,14 +9,14 @@ use Rattle.std.proofs.lemmas.List.{append-nil, map-append}
 use Rattle.std.proofs.lemmas.List.Elements.{All-head, All-tail, All-weaker, All-push}
 use Rattle.std.proofs.lemmas.Option.{slice_get_within}
 use Rattle.std.proofs.lemmas.Slice.Eq.{bytes_eq-Decides}
-use Rattle.ca_claims.specs.declared.claims.line.ClaimKind.{ClaimKind}
-use Rattle.ca_claims.specs.declared.claims.line.ClaimKind.TheVariants as kind
+use Rattle.ca_claims.specs.declared.claims.line.Claim.{Claim as ClaimOf}
 use Rattle.ca_claims.specs.declared.claims.line.ClaimLine.{ClaimLine}
-use Rattle.ca_claims.specs.Lines.{indices_of, path_at, claim_at, IsAsked, numbered}
-use Rattle.ca_claims.specs.Text.{Claim, Still, Oscillator, Spaceship, Becomes, patterns_of, about, HasGoodNumbers, Line, Load, Claims, path_of, AreLoaded, IsAllowed, spoken, loaded_paths, each_once, claims_from}
+use Rattle.ca_claims.specs.Lines.{path_at, IsAsked, numbered}
+use Rattle.ca_claims.specs.declared.claims.line.Claim.TheVariants.{Still, Oscillator, Spaceship, Becomes}
+use Rattle.ca_claims.specs.Text.{Claim, patterns_of, about, HasGoodNumbers, Line, Load, Claims, path_of, AreLoaded, IsAllowed, spoken, loaded_paths, each_once, claims_from}
 use Rattle.ca_claims.specs.Reading.{IsRead, StandsAt, AreKnown, at_places, with_path}
 use Rattle.ca_claims.proofs.PathLists.{each_once-push, kept_place, no_fewer}
-use Rattle.ca_claims.proofs.Said.{spoken-append, loaded_paths-append, path_of-append, claims_from-append}
+use Rattle.ca_claims.proofs.LinesSaid.{spoken-append, loaded_paths-append, path_of-append, claims_from-append}
 
 -- what holds of a result that is Ok
 pub on_ok_holds : {T E : Type 0} (r : Result T E) (P : Type 0) → is_ok r ≡ true → OnOk r P → P
@@ -43,20 +43,20 @@ path_kept : (paths : List (List ℕ)) (path : List ℕ) (i : ℕ) → i < length
 path_kept paths path i h = ap (λ o. unwrap_or o []) (kept_place paths path i h)
 
 -- and a claim its paths
-claim_kept : (paths : List (List ℕ)) (path : List ℕ) (claim : ClaimKind) → AllByRecursion (λ i. i < length paths) (indices_of claim) → claim_at (with_path paths path) claim ≡ claim_at paths claim
-claim_kept paths path (kind.Still p) h = ap Still (path_kept paths path p h.0)
-claim_kept paths path (kind.Oscillator p n) h = ap (λ q. Oscillator q n) (path_kept paths path p h.0)
-claim_kept paths path (kind.Spaceship p n dx dy) h = ap (λ q. Spaceship q n dx dy) (path_kept paths path p h.0)
-claim_kept paths path (kind.Becomes p n r) h =
+claim_kept : (paths : List (List ℕ)) (path : List ℕ) (claim : ClaimOf ℕ) → AllByRecursion (λ i. i < length paths) (patterns_of claim) → about (path_at (with_path paths path)) claim ≡ about (path_at paths) claim
+claim_kept paths path (Still p) h = ap Still (path_kept paths path p h.0)
+claim_kept paths path (Oscillator p n) h = ap (λ q. Oscillator q n) (path_kept paths path p h.0)
+claim_kept paths path (Spaceship p n dx dy) h = ap (λ q. Spaceship q n dx dy) (path_kept paths path p h.0)
+claim_kept paths path (Becomes p n r) h =
     let first = path_kept paths path p h.0 in
     let second = path_kept paths path r h.1.0 in
     λ i. Becomes (first i) n (second i)
 
 -- what is asked stays so
-asked_kept : (paths : List (List ℕ)) (path : List ℕ) (claim : ClaimKind) → IsAsked paths claim → IsAsked (with_path paths path) claim
+asked_kept : (paths : List (List ℕ)) (path : List ℕ) (claim : ClaimOf ℕ) → IsAsked paths claim → IsAsked (with_path paths path) claim
 asked_kept paths path claim h = record {
-  within = AllByRecursion-weaker (λ i. i < length paths) (λ i. i < length (with_path paths path)) (λ i lt. omega (arith, no_fewer paths path)) (indices_of claim) h.within;
-  numbers = subst HasGoodNumbers (sym (claim_kept paths path claim h.within)) h.numbers;
+  within = AllByRecursion-weaker (λ i. i < length paths) (λ i. i < length (with_path paths path)) (λ i lt. omega (arith, no_fewer paths path)) (patterns_of claim) h.within;
+  numbers = h.numbers;
 }
 
 -- all claims keep theirs
@@ -162,7 +162,7 @@ module _ (said : List (Option Line)) (paths : List (List ℕ)) (claims : List Cl
   is_within name = place_within (names name) (path_of (spoken said) name) (read.named name)
 
   -- so a claim at its names' places is about the paths that are loaded
-  places_paths : (claim : Claim) → AreKnown names claim → claim_at paths (at_places names claim) ≡ about claim (λ name. unwrap_or (path_of (spoken said) name) [])
+  places_paths : (claim : Claim) → AreKnown names claim → about (path_at paths) (at_places names claim) ≡ about (λ name. unwrap_or (path_of (spoken said) name) []) claim
   places_paths (Still p) h = ap Still (at_place p h.0)
   places_paths (Oscillator p n) h = ap (λ q. Oscillator q n) (at_place p h.0)
   places_paths (Spaceship p n dx dy) h = ap (λ q. Spaceship q n dx dy) (at_place p h.0)
@@ -190,7 +190,7 @@ module _ (said : List (Option Line)) (paths : List (List ℕ)) (claims : List Cl
         record {
           once = read.once ∙ ap each_once (sym (loaded_paths-append said (s ∷ []) ∙ append-nil (loaded_paths said)));
           asked = map-append (numbered paths) claims (l ∷ [])
-              ∙ ap (λ cs. cs ++ (line, claim_at paths (at_places names claim)) ∷ []) read.asked
+              ∙ ap (λ cs. cs ++ (line, about (path_at paths) (at_places names claim)) ∷ []) read.asked
               ∙ (λ i. claims_from 1 [] said ++ (counted i, paths_of i) ∷ [])
               ∙ sym (claims_from-append 1 [] said (s ∷ []));
           good = All-push (λ k. IsAsked paths k.claim) claims l read.good (places_asked claim known good);

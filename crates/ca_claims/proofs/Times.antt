@@ -1,98 +1,130 @@
 -- Earlier returns of a pattern, and what they and the last plane say of a claim.
-use Rattle.std.proofs.Common.{◌≡◌, ℕ, ◌+◌, ◌≤◌, ◌^◌, List, Option, Some, None, MatchOption, refl, sym, ap, ap₂, ◌∙◌, subst, inl, inr, arith}
-use Rattle.std.specs.Prelude.{ℤ, pos, ◌-ℤ◌}
+use Rattle.std.proofs.Common.{◌≡◌, ◌≢◌, ℕ, ◌+◌, IsTrue, List, Option, Some, None, MatchOption, refl, sym, ap, ap₂, ◌∙◌, subst, inl, inr, arith, w64, to_z, of_z}
+use Rattle.std.specs.Prelude.{ℤ, pos, ◌-ℤ◌, FitsSigned}
 use Rattle.std.specs.Option.{option_or}
 use Rattle.std.proofs.lemmas.Bool.{cases_eq}
-use Rattle.std.proofs.lemmas.Int.{ints}
+use Rattle.std.proofs.lemmas.Int.{ints, to_z-of_z}
 use Rattle.ca_plane.specs.Plane.{Picture, cell, IsSame, shifted, IsLive}
 use Rattle.ca_plane.specs.Generations.{after}
 use Rattle.ca_plane.proofs.Shifts.{cell-shifted}
 use Rattle.ca_claims.specs.declared.verdict.Why.{Why}
 use Rattle.ca_claims.specs.declared.verdict.Why.TheVariants.{Empty, Differs, Earlier}
-use Rattle.ca_claims.specs.Text.{Claim, Still, Oscillator, Spaceship, Becomes, HasGoodNumbers}
-use Rattle.ca_claims.specs.Truth.{generations_of, claimed, WantsLive, IsAfter, IsNotBack, MayReturnBy, IsTrueClaim, IsReason}
+use Rattle.ca_claims.specs.declared.claims.line.Claim.{Claim as ClaimOf}
+use Rattle.ca_claims.specs.declared.claims.line.Claim.TheVariants.{Still, Oscillator, Spaceship, Becomes}
+use Rattle.ca_claims.specs.declared.claims.asks.Asks.{Asks}
+use Rattle.ca_claims.specs.declared.claims.asks.Barred.{Barred}
+use Rattle.ca_claims.specs.declared.claims.asks.Barred.TheVariants.{Nothing, InPlace, Anywhere}
+use Rattle.ca_claims.specs.Text.{about, IsShift, HasGoodNumbers}
+use Rattle.ca_claims.specs.Truth.{asks_of, claimed, IsAfter, IsNotBack, MayReturnBy, IsTrueClaim, IsReason}
+use Rattle.ca_claims.specs.Decided.{IsBounded}
 use Rattle.ca_claims.specs.Returns.{IsDifference, IsNotAgain, IsNotBackBefore, IsFirstReturn}
 
 -- ---- earlier times
 
 -- one more time at which the pattern isn't back
-pub none_before_more : (next : List ℕ → ℕ) (p : Picture) (claim : Claim) (m : ℕ) → IsNotBackBefore next p claim m → IsNotBack next p claim m → IsNotBackBefore next p claim (m + 1)
-none_before_more next p claim m before here = λ k low high.
+pub none_before_more : (next : List ℕ → ℕ) (p : Picture) (barred : Barred) (m : ℕ) → IsNotBackBefore next p barred m → IsNotBack next p barred m → IsNotBackBefore next p barred (m + 1)
+none_before_more next p barred m before here = λ k low high.
     elim (cases_eq k m) [
-      | inl e ↦ subst (λ n. IsNotBack next p claim n) (sym e) here
+      | inl e ↦ subst (λ n. IsNotBack next p barred n) (sym e) here
       | inr other ↦ before k low (omega arith)
     ]
 
--- a picture moved by (0, 0) is the picture
-pub cell_shifted_0 : (p : Picture) (x y : ℤ) → cell (shifted p (pos 0) (pos 0)) x y ≡ cell p x y
-cell_shifted_0 p x y =
-    let ex : x -ℤ pos 0 ≡ x = omega (arith, ints) in
-    let ey : y -ℤ pos 0 ≡ y = omega (arith, ints) in
-    cell-shifted p (pos 0) (pos 0) x y ∙ ap₂ (cell p) ex ey
+-- a picture that is moved by (0, 0) shows what it showed
+pub unmoved : (p : Picture) (dx dy x y : ℤ) → dx ≡ pos 0 → dy ≡ pos 0 → cell (shifted p dx dy) x y ≡ cell p x y
+unmoved p dx dy x y e f =
+    let a : x -ℤ dx ≡ x = omega (arith, ints) in
+    let b : y -ℤ dy ≡ y = omega (arith, ints) in
+    cell-shifted p dx dy x y ∙ ap₂ (cell p) a b
 
--- where the plane after n generations isn't the pattern again, the pattern isn't back
-pub not_back : (next : List ℕ → ℕ) (p q : Picture) (claim : Claim) (n : ℕ) → IsAfter next p n q → IsNotAgain claim p q → IsNotBack next p claim n
-not_back next p q (Still pattern) n shows unlike = tt
-not_back next p q (Oscillator pattern period) n shows (x, y, other) = (x, y, λ e. other (sym (shows x y) ∙ e))
-not_back next p q (Spaceship pattern period x y) n shows none = λ dx dy back. none dx dy (λ u v. sym (shows u v) ∙ back u v)
-not_back next p q (Becomes pattern generations other) n shows unlike = tt
+pub cell_shifted_0 : (p : Picture) (x y : ℤ) → cell (shifted p (pos 0) (pos 0)) x y ≡ cell p x y
+cell_shifted_0 p x y = unmoved p (pos 0) (pos 0) x y refl refl
+
+-- so a difference from it is one from what is wanted in its place
+pub unlike_unmoved : (end p : Picture) (dx dy : ℤ) (n : ℕ) (unlike : Option Why) → dx ≡ pos 0 → dy ≡ pos 0 → MatchOption unlike (IsSame end p) (IsDifference end p n)
+    → MatchOption unlike (IsSame end (shifted p dx dy)) (IsDifference end (shifted p dx dy) n)
+unlike_unmoved end p dx dy n None e f same = λ x y. same x y ∙ sym (unmoved p dx dy x y e f)
+unlike_unmoved end p dx dy n (Some Empty) e f differs = absurd differs
+unlike_unmoved end p dx dy n (Some (Differs x y found claimed generations)) e f differs = (differs.0, differs.1, unmoved p dx dy x y e f ∙ differs.2, differs.3)
+unlike_unmoved end p dx dy n (Some (Earlier m u v)) e f differs = absurd differs
+
+-- where the plane after n generations shows nothing that is barred, the pattern isn't back
+pub not_back : (next : List ℕ → ℕ) (p q : Picture) (barred : Barred) (n : ℕ) → IsAfter next p n q → IsNotAgain barred p q → IsNotBack next p barred n
+not_back next p q Nothing n shows unlike = tt
+not_back next p q InPlace n shows (x, y, other) = (x, y, λ e. other (sym (shows x y) ∙ e))
+not_back next p q Anywhere n shows none = λ dx dy back. none dx dy (λ u v. sym (shows u v) ∙ back u v)
+
+-- ---- what a claim asks
+
+-- (0, 0) is a shift
+no_shift : IsShift (pos 0)
+no_shift = (omega (arith, ints), omega (arith, ints))
+
+-- a claim with good numbers asks for few generations, and for a live pattern where a return is barred
+pub asks_bounded : (claim : ClaimOf ℕ) → HasGoodNumbers claim → IsBounded (asks_of claim)
+asks_bounded (Still pattern) good = record { few = omega arith; right = no_shift; down = no_shift; live = λ _. refl }
+asks_bounded (Oscillator pattern period) good = record { few = omega (arith, good.1); right = no_shift; down = no_shift; live = λ _. refl }
+asks_bounded (Spaceship pattern period dx dy) good = record { few = omega (arith, good.1); right = good.2; down = good.3; live = λ _. refl }
+asks_bounded (Becomes pattern generations other) good = record { few = good; right = no_shift; down = no_shift; live = λ some. absurd (some refl) }
+
+-- a shift reads so as an `i64`
+pub shift_reads : (d : ℤ) → IsShift d → to_z w64 (of_z w64 d) ≡ d
+shift_reads d shift = let fits : FitsSigned w64 d = omega (arith, ints, shift) in to_z-of_z w64 d fits
+
+-- what a claim asks doesn't lie in how its patterns are given
+pub asks_about : {P Q : Type 0} (f : P → Q) (claim : ClaimOf P) → asks_of (about f claim) ≡ asks_of claim
+asks_about f (Still pattern) = refl
+asks_about f (Oscillator pattern period) = refl
+asks_about f (Spaceship pattern period dx dy) = refl
+asks_about f (Becomes pattern generations other) = refl
 
 -- ---- the verdict
 
--- the generations of a claim are few
-pub generations-few : (claim : Claim) → HasGoodNumbers claim → generations_of claim ≤ 2 ^ 60
-generations-few (Still pattern) good = omega arith
-generations-few (Oscillator pattern period) good = omega (arith, good.1)
-generations-few (Spaceship pattern period dx dy) good = omega (arith, good.1)
-generations-few (Becomes pattern generations other) good = good
-
--- a claim for which a return counts wants a live pattern
-live_from_return : (p : Picture) (claim : Claim) (dx dy : ℤ) → (WantsLive claim → IsLive p) → MayReturnBy claim dx dy → IsLive p
-live_from_return p (Still pattern) dx dy live may = absurd may
-live_from_return p (Oscillator pattern period) dx dy live may = live tt
-live_from_return p (Spaceship pattern period x y) dx dy live may = live tt
-live_from_return p (Becomes pattern generations other) dx dy live may = absurd may
+-- a return that counts is barred
+barred_from_return : (barred : Barred) (dx dy : ℤ) → MayReturnBy barred dx dy → barred ≢ Nothing
+barred_from_return Nothing dx dy may = absurd may
+barred_from_return InPlace dx dy may = λ e. cc
+barred_from_return Anywhere dx dy may = λ e. cc
 
 -- a cell that isn't the claimed one is a reason
-reason_from_difference : (next : List ℕ → ℕ) (p other end : Picture) (claim : Claim) (why : Why) → (WantsLive claim → IsLive p) → IsAfter next p (generations_of claim) end
-    → IsDifference end (claimed claim p other) (generations_of claim) why → IsReason next p other claim why
-reason_from_difference next p other end claim Empty live shows differs = absurd differs
-reason_from_difference next p other end claim (Differs x y found wanted n) live shows differs =
+reason_from_difference : (next : List ℕ → ℕ) (p other end : Picture) (asks : Asks) (why : Why) → (IsTrue asks.live → IsLive p) → IsAfter next p asks.generations end
+    → IsDifference end (claimed asks p other) asks.generations why → IsReason next p other asks why
+reason_from_difference next p other end asks Empty live shows differs = absurd differs
+reason_from_difference next p other end asks (Differs x y found wanted n) live shows differs =
     (live, differs.0, ap (λ k. after next p k x y) differs.0 ∙ shows x y ∙ differs.1, differs.2, differs.3)
-reason_from_difference next p other end claim (Earlier m dx dy) live shows differs = absurd differs
+reason_from_difference next p other end asks (Earlier m dx dy) live shows differs = absurd differs
 
 -- and so is a first return, where the claimed cells stand
-reason_from_return : (next : List ℕ → ℕ) (p other : Picture) (claim : Claim) (why : Why) → (WantsLive claim → IsLive p) → IsAfter next p (generations_of claim) (claimed claim p other)
-    → IsFirstReturn next p claim (generations_of claim) why → IsReason next p other claim why
-reason_from_return next p other claim Empty live stands first = absurd first
-reason_from_return next p other claim (Differs x y found wanted n) live stands first = absurd first
-reason_from_return next p other claim (Earlier m dx dy) live stands first =
-    (live_from_return p claim dx dy live first.2, stands, first.0, first.1, first.2, first.3, first.4)
+reason_from_return : (next : List ℕ → ℕ) (p other : Picture) (asks : Asks) (why : Why) → IsBounded asks → (IsTrue asks.live → IsLive p) → IsAfter next p asks.generations (claimed asks p other)
+    → IsFirstReturn next p asks.barred asks.generations why → IsReason next p other asks why
+reason_from_return next p other asks Empty bounded live stands first = absurd first
+reason_from_return next p other asks (Differs x y found wanted n) bounded live stands first = absurd first
+reason_from_return next p other asks (Earlier m dx dy) bounded live stands first =
+    (live (bounded.live (barred_from_return asks.barred dx dy first.2)), stands, first.0, first.1, first.2, first.3, first.4)
 
-judged_there : (next : List ℕ → ℕ) (p other end : Picture) (claim : Claim) (unlike earlier : Option Why) → (WantsLive claim → IsLive p) → IsAfter next p (generations_of claim) end
-    → MatchOption unlike (IsSame end (claimed claim p other)) (IsDifference end (claimed claim p other) (generations_of claim))
-    → MatchOption earlier (IsNotBackBefore next p claim (generations_of claim)) (IsFirstReturn next p claim (generations_of claim))
-    → MatchOption (option_or unlike earlier) (IsTrueClaim next p other claim) (IsReason next p other claim)
-judged_there next p other end claim None None live shows same none = record { live = live; stands = λ x y. shows x y ∙ same x y; least = none }
-judged_there next p other end claim None (Some why) live shows same first = reason_from_return next p other claim why live (λ x y. shows x y ∙ same x y) first
-judged_there next p other end claim (Some why) earlier live shows differs returns = reason_from_difference next p other end claim why live shows differs
+judged_there : (next : List ℕ → ℕ) (p other end : Picture) (asks : Asks) (unlike earlier : Option Why) → IsBounded asks → (IsTrue asks.live → IsLive p) → IsAfter next p asks.generations end
+    → MatchOption unlike (IsSame end (claimed asks p other)) (IsDifference end (claimed asks p other) asks.generations)
+    → MatchOption earlier (IsNotBackBefore next p asks.barred asks.generations) (IsFirstReturn next p asks.barred asks.generations)
+    → MatchOption (option_or unlike earlier) (IsTrueClaim next p other asks) (IsReason next p other asks)
+judged_there next p other end asks None None bounded live shows same none = record { live = live; stands = λ x y. shows x y ∙ same x y; least = none }
+judged_there next p other end asks None (Some why) bounded live shows same first = reason_from_return next p other asks why bounded live (λ x y. shows x y ∙ same x y) first
+judged_there next p other end asks (Some why) earlier bounded live shows differs returns = reason_from_difference next p other end asks why live shows differs
 
 -- what the last plane and the earlier times say of a claim
-pub judged : (next : List ℕ → ℕ) (p other end : Picture) (claim : Claim) (n : ℕ) (unlike earlier : Option Why) → (WantsLive claim → IsLive p) → n ≡ generations_of claim → IsAfter next p n end
-    → MatchOption unlike (IsSame end (claimed claim p other)) (IsDifference end (claimed claim p other) (generations_of claim))
-    → MatchOption earlier (IsNotBackBefore next p claim n) (IsFirstReturn next p claim n)
-    → MatchOption (option_or unlike earlier) (IsTrueClaim next p other claim) (IsReason next p other claim)
-judged next p other end claim n unlike earlier live e shows differs returns =
-    judged_there next p other end claim unlike earlier live (subst (λ k. IsAfter next p k end) e shows) differs
-    (subst (λ k. MatchOption earlier (IsNotBackBefore next p claim k) (IsFirstReturn next p claim k)) e returns)
+pub judged : (next : List ℕ → ℕ) (p other end : Picture) (asks : Asks) (n : ℕ) (unlike earlier : Option Why) → IsBounded asks → (IsTrue asks.live → IsLive p) → n ≡ asks.generations → IsAfter next p n end
+    → MatchOption unlike (IsSame end (claimed asks p other)) (IsDifference end (claimed asks p other) asks.generations)
+    → MatchOption earlier (IsNotBackBefore next p asks.barred n) (IsFirstReturn next p asks.barred n)
+    → MatchOption (option_or unlike earlier) (IsTrueClaim next p other asks) (IsReason next p other asks)
+judged next p other end asks n unlike earlier bounded live e shows differs returns =
+    judged_there next p other end asks unlike earlier bounded live (subst (λ k. IsAfter next p k end) e shows) differs
+    (subst (λ k. MatchOption earlier (IsNotBackBefore next p asks.barred k) (IsFirstReturn next p asks.barred k)) e returns)
 
 -- at no generations the cells themselves are compared, and there is no earlier time
-pub judged_at_0 : (next : List ℕ → ℕ) (p other : Picture) (claim : Claim) (n : ℕ) (unlike : Option Why) → (WantsLive claim → IsLive p) → n ≡ generations_of claim → n ≡ 0
-    → MatchOption unlike (IsSame p (claimed claim p other)) (IsDifference p (claimed claim p other) (generations_of claim))
-    → MatchOption unlike (IsTrueClaim next p other claim) (IsReason next p other claim)
-judged_at_0 next p other claim n unlike live e none differs =
-    subst (λ o. MatchOption o (IsTrueClaim next p other claim) (IsReason next p other claim)) (or_None unlike)
-    (judged next p other p claim n unlike None live e (subst (λ k. IsAfter next p k p) (sym none) (λ x y. refl)) differs (λ k low high. absurd (omega arith)))
+pub judged_at_0 : (next : List ℕ → ℕ) (p other : Picture) (asks : Asks) (n : ℕ) (unlike : Option Why) → IsBounded asks → (IsTrue asks.live → IsLive p) → n ≡ asks.generations → n ≡ 0
+    → MatchOption unlike (IsSame p (claimed asks p other)) (IsDifference p (claimed asks p other) asks.generations)
+    → MatchOption unlike (IsTrueClaim next p other asks) (IsReason next p other asks)
+judged_at_0 next p other asks n unlike bounded live e none differs =
+    subst (λ o. MatchOption o (IsTrueClaim next p other asks) (IsReason next p other asks)) (or_None unlike)
+    (judged next p other p asks n unlike None bounded live e (subst (λ k. IsAfter next p k p) (sym none) (λ x y. refl)) differs (λ k low high. absurd (omega arith)))
   where
     or_None : (o : Option Why) → option_or o None ≡ o
     or_None None = refl

@@ -1,13 +1,11 @@
 -- A file has one meaning, and a claim one kind of true verdict.
-use Rattle.std.proofs.Common.{◌≡◌, ◌≢◌, ℕ, zero, suc, ◌+◌, ◌-◌, ◌≤◌, ◌<◌, List, [], ◌∷◌, Some, None, refl, sym, ap, ap₂, subst, ◌∙◌, inl, inr, arith}
-use Rattle.std.specs.Prelude.{ℤ, pos, ◌-ℤ◌}
+use Rattle.std.proofs.Common.{◌≡◌, ◌≢◌, ℕ, zero, suc, ◌+◌, ◌-◌, ◌≤◌, ◌<◌, List, [], ◌∷◌, Some, None, refl, sym, ap, subst, ◌∙◌, inl, inr, arith}
+use Rattle.std.specs.Prelude.{ℤ}
 use Rattle.std.specs.List.{AllByRecursion}
 use Rattle.std.proofs.lemmas.Bool.{cases_order}
-use Rattle.std.proofs.lemmas.Int.{ints}
 use Rattle.std.proofs.lemmas.Option.{same_Some, none-some}
 use Rattle.ca_plane.specs.Plane.{Picture, cell, shifted}
 use Rattle.ca_plane.specs.Generations.{after}
-use Rattle.ca_plane.proofs.Shifts.{cell-shifted}
 use Rattle.ca_rule.specs.declared.bs_rule.BsRule.{BsRule}
 use Rattle.ca_rule.specs.declared.fault.RuleFault.{RuleFault}
 use Rattle.ca_rule.specs.declared.fault.RuleFault.TheVariants.{Bounded, Wakes, Unknown}
@@ -18,40 +16,38 @@ use Rattle.ca_rle.specs.Shown.{picture_of}
 use Rattle.ca_rle.specs.Faults as rle_faults
 use Rattle.ca_rle.proofs.OneFile.{one_file}
 use Rattle.ca_rle.proofs.OneFault.{one_fault, no_fault_within_limits}
+use Rattle.ca_claims.proofs.Times.{unmoved}
 use Rattle.ca_claims.specs.declared.verdict.Why.{Why}
 use Rattle.ca_claims.specs.declared.verdict.Why.TheVariants.{Empty, Differs, Earlier}
 use Rattle.ca_claims.specs.declared.verdict.PatternFault.{PatternFault}
 use Rattle.ca_claims.specs.declared.verdict.PatternFault.TheVariants as pattern_fault
 use Rattle.ca_claims.specs.declared.verdict.Cause.{Cause}
 use Rattle.ca_claims.specs.declared.verdict.Cause.TheVariants.{NoFile, BadPattern, BadRule, StateTooLarge, MixedRules, Memory}
-use Rattle.ca_claims.specs.Text.{Claim, Still, Oscillator, Spaceship, Becomes, patterns_of}
+use Rattle.ca_claims.specs.declared.claims.asks.Asks.{Asks}
+use Rattle.ca_claims.specs.declared.claims.asks.Barred.{Barred}
+use Rattle.ca_claims.specs.declared.claims.asks.Barred.TheVariants.{Nothing, InPlace, Anywhere}
 use Rattle.ca_claims.specs.Means.{Means, bytes_at}
 use Rattle.ca_claims.specs.Truth.{IsAfter, IsNotBack, MayReturnBy, IsTrueClaim, IsReason}
-use Rattle.ca_claims.specs.Answers.{IsPatternFault, IsRead, IsRuled, IsSameRule, IsThere, Reads, HasRule, IsSmall, SomePath, FirstPath, HasMixedRules, HasCause, IsJudged}
-use Rattle.ca_claims.proofs.Judged.{IsLarge}
+use Rattle.ca_claims.specs.Answers.{IsPatternFault, IsRead, IsRuled, IsSameRule, IsThere, Reads, HasRule, IsSmall, HasLargeState, SomeOf, FirstBad, HaveOtherRules, HasCause, IsGood, IsJudged}
+
+-- some state of the pattern is too large for its rule
+abbrev IsLarge : List (List ℕ × List ℕ) → List ℕ → Type 0
+IsLarge files path = (cells : Picture) × (rule : BsRule) × IsRuled files path cells rule × HasLargeState cells
 
 -- ---- a claim is true or there is a reason against it, not both
 
--- a picture that is moved by (0, 0) shows what it showed
-unmoved : (p : Picture) (dx dy x y : ℤ) → dx ≡ pos 0 → dy ≡ pos 0 → cell (shifted p dx dy) x y ≡ cell p x y
-unmoved p dx dy x y e f =
-    let a : x -ℤ dx ≡ x = omega (arith, ints) in
-    let b : y -ℤ dy ≡ y = omega (arith, ints) in
-    cell-shifted p dx dy x y ∙ ap₂ (cell p) a b
-
 -- a pattern that is back by a vector that counts is back
-pub back : (next : List ℕ → ℕ) (cells : Picture) (claim : Claim) (m : ℕ) (dx dy : ℤ) → MayReturnBy claim dx dy → IsAfter next cells m (shifted cells dx dy) → IsNotBack next cells claim m → ⊥
-back next cells (Still pattern) m dx dy may h not = may
-back next cells (Oscillator pattern period) m dx dy may h not = not.2 (h not.0 not.1 ∙ unmoved cells dx dy not.0 not.1 may.0 may.1)
-back next cells (Spaceship pattern period x y) m dx dy may h not = not dx dy h
-back next cells (Becomes pattern generations other) m dx dy may h not = may
+pub back : (next : List ℕ → ℕ) (cells : Picture) (barred : Barred) (m : ℕ) (dx dy : ℤ) → MayReturnBy barred dx dy → IsAfter next cells m (shifted cells dx dy) → IsNotBack next cells barred m → ⊥
+back next cells Nothing m dx dy may h not = may
+back next cells InPlace m dx dy may h not = not.2 (h not.0 not.1 ∙ unmoved cells dx dy not.0 not.1 may.0 may.1)
+back next cells Anywhere m dx dy may h not = not dx dy h
 
 -- where there is a reason against a claim, it isn't true
-pub false_from_reason : (next : List ℕ → ℕ) (cells other : Picture) (claim : Claim) (why : Why) → IsReason next cells other claim why → IsTrueClaim next cells other claim → ⊥
-false_from_reason next cells other claim Empty reason true = reason.1 (true.live reason.0)
-false_from_reason next cells other claim (Differs x y found wanted generations) reason true =
+pub false_from_reason : (next : List ℕ → ℕ) (cells other : Picture) (asks : Asks) (why : Why) → IsReason next cells other asks why → IsTrueClaim next cells other asks → ⊥
+false_from_reason next cells other asks Empty reason true = reason.1 (true.live reason.0)
+false_from_reason next cells other asks (Differs x y found wanted generations) reason true =
     reason.4 (sym reason.2 ∙ ap (λ n. after next cells n x y) reason.1 ∙ true.stands x y ∙ reason.3)
-false_from_reason next cells other claim (Earlier m dx dy) reason true = back next cells claim m dx dy reason.4 reason.5 (true.least m reason.2 reason.3)
+false_from_reason next cells other asks (Earlier m dx dy) reason true = back next cells asks.barred m dx dy reason.4 reason.5 (true.least m reason.2 reason.3)
 
 -- ---- one meaning
 
@@ -131,19 +127,19 @@ all_weaker P Q h [] all = tt
 all_weaker P Q h (p ∷ ps) all = (h p all.0, all_weaker P Q h ps all.1)
 
 -- where all are good, none is bad
-all_or_some : (Good Bad : List ℕ → Type 0) → ((p : List ℕ) → Good p → Bad p → ⊥) → (ps : List (List ℕ)) → AllByRecursion Good ps → SomePath Bad ps → ⊥
+all_or_some : (Good Bad : List ℕ → Type 0) → ((p : List ℕ) → Good p → Bad p → ⊥) → (ps : List (List ℕ)) → AllByRecursion Good ps → SomeOf Bad ps → ⊥
 all_or_some Good Bad h [] all some = some
 all_or_some Good Bad h (p ∷ ps) all (inl bad) = h p all.0 bad
 all_or_some Good Bad h (p ∷ ps) all (inr bad) = all_or_some Good Bad h ps all.1 bad
 
-all_or_first : (Good Bad : List ℕ → Type 0) → ((p : List ℕ) → Good p → Bad p → ⊥) → (ps : List (List ℕ)) → AllByRecursion Good ps → FirstPath Good Bad ps → ⊥
+all_or_first : (Good Bad : List ℕ → Type 0) → ((p : List ℕ) → Good p → Bad p → ⊥) → (ps : List (List ℕ)) → AllByRecursion Good ps → FirstBad Good Bad ps → ⊥
 all_or_first Good Bad h [] all first = first
 all_or_first Good Bad h (p ∷ ps) all (inl bad) = h p all.0 bad
 all_or_first Good Bad h (p ∷ ps) all (inr bad) = all_or_first Good Bad h ps all.1 bad.1
 
 -- the first bad one is bad in one way
 one_first : (Good Bad Worse : List ℕ → Type 0) (Same : Type 0) → ((p : List ℕ) → Good p → Bad p → ⊥) → ((p : List ℕ) → Good p → Worse p → ⊥) → ((p : List ℕ) → Bad p → Worse p → Same)
-    → (ps : List (List ℕ)) → FirstPath Good Bad ps → FirstPath Good Worse ps → Same
+    → (ps : List (List ℕ)) → FirstBad Good Bad ps → FirstBad Good Worse ps → Same
 one_first Good Bad Worse Same h k same [] a b = absurd a
 one_first Good Bad Worse Same h k same (p ∷ ps) (inl a) (inl b) = same p a b
 one_first Good Bad Worse Same h k same (p ∷ ps) (inl a) (inr b) = absurd (h p b.0 a)
@@ -170,115 +166,139 @@ place_within MixedRules m = omega arith
 place_within Memory m = absurd (m refl)
 
 -- none of the first n causes holds
-abbrev IsPast : List (List ℕ × List ℕ) → Claim → ℕ → Type 0
-IsPast files claim zero = Unit {0}
-IsPast files claim (suc zero) = AllByRecursion (IsThere files) (patterns_of claim)
-IsPast files claim (suc (suc zero)) = AllByRecursion (Reads files) (patterns_of claim)
-IsPast files claim (suc (suc (suc zero))) = AllByRecursion (HasRule files) (patterns_of claim)
-IsPast files claim (suc (suc (suc (suc zero)))) = AllByRecursion (IsSmall files) (patterns_of claim)
-IsPast files claim (suc (suc (suc (suc (suc n))))) = AllByRecursion (IsSmall files) (patterns_of claim) × (HasMixedRules files claim → ⊥)
+abbrev IsPast : List (List ℕ × List ℕ) → List (List ℕ) → ℕ → Type 0
+IsPast files paths zero = Unit {0}
+IsPast files paths (suc zero) = AllByRecursion (IsThere files) paths
+IsPast files paths (suc (suc zero)) = AllByRecursion (Reads files) paths
+IsPast files paths (suc (suc (suc zero))) = AllByRecursion (HasRule files) paths
+IsPast files paths (suc (suc (suc (suc zero)))) = AllByRecursion (IsSmall files) paths
+IsPast files paths (suc (suc (suc (suc (suc n))))) = AllByRecursion (IsSmall files) paths × (SomeOf (λ p. SomeOf (HaveOtherRules files p) paths) paths → ⊥)
 
 -- nor one fewer
-past_one_fewer : (files : List (List ℕ × List ℕ)) (claim : Claim) (n : ℕ) → IsPast files claim (suc n) → IsPast files claim n
-past_one_fewer files claim zero h = tt
-past_one_fewer files claim (suc zero) h = all_weaker (Reads files) (IsThere files) (λ p r. (r.0, r.1)) (patterns_of claim) h
-past_one_fewer files claim (suc (suc zero)) h = all_weaker (HasRule files) (Reads files) (λ p r. (r.2.1.bytes, r.2.1.at_path, r.2.1.readable)) (patterns_of claim) h
-past_one_fewer files claim (suc (suc (suc zero))) h = all_weaker (IsSmall files) (HasRule files) (λ p r. (r.0, r.1, r.2)) (patterns_of claim) h
-past_one_fewer files claim (suc (suc (suc (suc zero)))) h = h.0
-past_one_fewer files claim (suc (suc (suc (suc (suc n))))) h = h
+past_one_fewer : (files : List (List ℕ × List ℕ)) (paths : List (List ℕ)) (n : ℕ) → IsPast files paths (suc n) → IsPast files paths n
+past_one_fewer files paths zero h = tt
+past_one_fewer files paths (suc zero) h = all_weaker (Reads files) (IsThere files) (λ p r. (r.0, r.1)) paths h
+past_one_fewer files paths (suc (suc zero)) h = all_weaker (HasRule files) (Reads files) (λ p r. (r.2.1.bytes, r.2.1.at_path, r.2.1.readable)) paths h
+past_one_fewer files paths (suc (suc (suc zero))) h = all_weaker (IsSmall files) (HasRule files) (λ p r. (r.0, r.1, r.2)) paths h
+past_one_fewer files paths (suc (suc (suc (suc zero)))) h = h.0
+past_one_fewer files paths (suc (suc (suc (suc (suc n))))) h = h
 
 -- nor any fewer
-past_fewer : (files : List (List ℕ × List ℕ)) (claim : Claim) (n m : ℕ) → IsPast files claim (m + n) → IsPast files claim n
-past_fewer files claim n zero h = let e : zero + n ≡ n = omega arith in subst (IsPast files claim) e h
-past_fewer files claim n (suc m) h =
+past_fewer : (files : List (List ℕ × List ℕ)) (paths : List (List ℕ)) (n m : ℕ) → IsPast files paths (m + n) → IsPast files paths n
+past_fewer files paths n zero h = let e : zero + n ≡ n = omega arith in subst (IsPast files paths) e h
+past_fewer files paths n (suc m) h =
     let e : suc m + n ≡ suc (m + n) = omega arith in
-    past_fewer files claim n m (past_one_fewer files claim (m + n) (subst (IsPast files claim) e h))
+    past_fewer files paths n m (past_one_fewer files paths (m + n) (subst (IsPast files paths) e h))
 
-past_below : (files : List (List ℕ × List ℕ)) (claim : Claim) (n m : ℕ) → n ≤ m → IsPast files claim m → IsPast files claim n
-past_below files claim n m below h = let e : m ≡ (m - n) + n = omega arith in past_fewer files claim n (m - n) (subst (IsPast files claim) e h)
+past_below : (files : List (List ℕ × List ℕ)) (paths : List (List ℕ)) (n m : ℕ) → n ≤ m → IsPast files paths m → IsPast files paths n
+past_below files paths n m below h = let e : m ≡ (m - n) + n = omega arith in past_fewer files paths n (m - n) (subst (IsPast files paths) e h)
 
 -- a cause comes past those before it
-past_before : (files : List (List ℕ × List ℕ)) (claim : Claim) (cause : Cause) → cause ≢ Memory → HasCause files claim cause → IsPast files claim (place cause)
-past_before files claim NoFile m h = tt
-past_before files claim (BadPattern fault) m h = h.0
-past_before files claim (BadRule fault) m h = h.0
-past_before files claim StateTooLarge m h = h.0
-past_before files claim MixedRules m h = h.0
-past_before files claim Memory m h = absurd (m refl)
+past_before : (files : List (List ℕ × List ℕ)) (paths : List (List ℕ)) (cause : Cause) → cause ≢ Memory → HasCause files paths cause → IsPast files paths (place cause)
+past_before files paths NoFile m h = tt
+past_before files paths (BadPattern fault) m h = h.0
+past_before files paths (BadRule fault) m h = h.0
+past_before files paths StateTooLarge m h = h.0
+past_before files paths MixedRules m h = h.0
+past_before files paths Memory m h = absurd (m refl)
 
 -- and not past itself
-not_past : (files : List (List ℕ × List ℕ)) (claim : Claim) (cause : Cause) → cause ≢ Memory → HasCause files claim cause → IsPast files claim (suc (place cause)) → ⊥
-not_past files claim NoFile m h past = all_or_some (IsThere files) (λ p. bytes_at files p ≡ None) (there_or_none files) (patterns_of claim) past h
-not_past files claim (BadPattern fault) m h past =
-    all_or_first (Reads files) (λ p. (bytes : List ℕ) × (bytes_at files p ≡ Some bytes) × IsPatternFault bytes fault) (λ p. reads_or_fault files p fault) (patterns_of claim) past h.1
-not_past files claim (BadRule fault) m h past =
-    all_or_first (HasRule files) (λ p. (cells : Picture) × (text : List ℕ) × IsRead files p cells text × IsFaultOf text fault) (λ p. named_or_fault files p fault) (patterns_of claim) past h.1
-not_past files claim StateTooLarge m h past = all_or_some (IsSmall files) (IsLarge files) (small_or_large files) (patterns_of claim) past h.1
-not_past files claim MixedRules m h past = past.1 h.1
-not_past files claim Memory m h past = m refl
+not_past : (files : List (List ℕ × List ℕ)) (paths : List (List ℕ)) (cause : Cause) → cause ≢ Memory → HasCause files paths cause → IsPast files paths (suc (place cause)) → ⊥
+not_past files paths NoFile m h past = all_or_some (IsThere files) (λ p. bytes_at files p ≡ None) (there_or_none files) paths past h
+not_past files paths (BadPattern fault) m h past =
+    all_or_first (Reads files) (λ p. (bytes : List ℕ) × (bytes_at files p ≡ Some bytes) × IsPatternFault bytes fault) (λ p. reads_or_fault files p fault) paths past h.1
+not_past files paths (BadRule fault) m h past =
+    all_or_first (HasRule files) (λ p. (cells : Picture) × (text : List ℕ) × IsRead files p cells text × IsFaultOf text fault) (λ p. named_or_fault files p fault) paths past h.1
+not_past files paths StateTooLarge m h past = all_or_some (IsSmall files) (IsLarge files) (small_or_large files) paths past h.1
+not_past files paths MixedRules m h past = past.1 h.1
+not_past files paths Memory m h past = m refl
 
 -- causes at one place are one
-same_place : (files : List (List ℕ × List ℕ)) (claim : Claim) (c d : Cause) → c ≢ Memory → d ≢ Memory → place c ≡ place d → HasCause files claim c → HasCause files claim d → c ≡ d
-same_place files claim Memory d m n e h k = absurd (m refl)
-same_place files claim c Memory m n e h k = absurd (n refl)
-same_place files claim NoFile NoFile m n e h k = refl
-same_place files claim (BadPattern f) (BadPattern g) m n e h k =
+same_place : (files : List (List ℕ × List ℕ)) (paths : List (List ℕ)) (c d : Cause) → c ≢ Memory → d ≢ Memory → place c ≡ place d → HasCause files paths c → HasCause files paths d → c ≡ d
+same_place files paths Memory d m n e h k = absurd (m refl)
+same_place files paths c Memory m n e h k = absurd (n refl)
+same_place files paths NoFile NoFile m n e h k = refl
+same_place files paths (BadPattern f) (BadPattern g) m n e h k =
     ap BadPattern (one_first (Reads files) (λ p. (bytes : List ℕ) × (bytes_at files p ≡ Some bytes) × IsPatternFault bytes f) (λ p. (bytes : List ℕ) × (bytes_at files p ≡ Some bytes) × IsPatternFault bytes g) (f ≡ g)
-    (λ p. reads_or_fault files p f) (λ p. reads_or_fault files p g) (λ p. one_pattern_fault files p f g) (patterns_of claim) h.1 k.1)
-same_place files claim (BadRule f) (BadRule g) m n e h k =
+    (λ p. reads_or_fault files p f) (λ p. reads_or_fault files p g) (λ p. one_pattern_fault files p f g) paths h.1 k.1)
+same_place files paths (BadRule f) (BadRule g) m n e h k =
     ap BadRule (one_first (HasRule files) (λ p. (cells : Picture) × (text : List ℕ) × IsRead files p cells text × IsFaultOf text f) (λ p. (cells : Picture) × (text : List ℕ) × IsRead files p cells text × IsFaultOf text g) (f ≡ g)
-    (λ p. named_or_fault files p f) (λ p. named_or_fault files p g) (λ p. one_rule_fault files p f g) (patterns_of claim) h.1 k.1)
-same_place files claim StateTooLarge StateTooLarge m n e h k = refl
-same_place files claim MixedRules MixedRules m n e h k = refl
-same_place files claim c d m n e h k = let no : ⊥ = omega arith in absurd no
+    (λ p. named_or_fault files p f) (λ p. named_or_fault files p g) (λ p. one_rule_fault files p f g) paths h.1 k.1)
+same_place files paths StateTooLarge StateTooLarge m n e h k = refl
+same_place files paths MixedRules MixedRules m n e h k = refl
+same_place files paths c d m n e h k = let no : ⊥ = omega arith in absurd no
 
 -- a claim has one cause, want of memory apart
-pub one_cause : (files : List (List ℕ × List ℕ)) (claim : Claim) (c d : Cause) → c ≢ Memory → d ≢ Memory → HasCause files claim c → HasCause files claim d → c ≡ d
-one_cause files claim c d m n h k =
+pub one_cause : (files : List (List ℕ × List ℕ)) (paths : List (List ℕ)) (c d : Cause) → c ≢ Memory → d ≢ Memory → HasCause files paths c → HasCause files paths d → c ≡ d
+one_cause files paths c d m n h k =
     elim (cases_order (place c) (place d)) [
-      | inl e ↦ same_place files claim c d m n e h k
-      | inr (inl e) ↦ absurd (not_past files claim c m h (past_below files claim (suc (place c)) (place d) (omega arith) (past_before files claim d n k)))
-      | inr (inr e) ↦ absurd (not_past files claim d n k (past_below files claim (suc (place d)) (place c) (omega arith) (past_before files claim c m h)))
+      | inl e ↦ same_place files paths c d m n e h k
+      | inr (inl e) ↦ absurd (not_past files paths c m h (past_below files paths (suc (place c)) (place d) (omega arith) (past_before files paths d n k)))
+      | inr (inr e) ↦ absurd (not_past files paths d n k (past_below files paths (suc (place d)) (place c) (omega arith) (past_before files paths c m h)))
     ]
 
 -- a file that isn't there goes before want of memory
-pub no_file_or_memory : (files : List (List ℕ × List ℕ)) (claim : Claim) → HasCause files claim NoFile → HasCause files claim Memory → ⊥
-no_file_or_memory files claim none wanted = all_or_some (IsThere files) (λ p. bytes_at files p ≡ None) (there_or_none files) (patterns_of claim) wanted.0 none
+pub no_file_or_memory : (files : List (List ℕ × List ℕ)) (paths : List (List ℕ)) → HasCause files paths NoFile → HasCause files paths Memory → ⊥
+no_file_or_memory files paths none wanted = all_or_some (IsThere files) (λ p. bytes_at files p ≡ None) (there_or_none files) paths wanted.0 none
 
 -- ---- judged claims
 
+-- the rules of good patterns with one rule are the same
+no_others : (files : List (List ℕ × List ℕ)) (p q : List ℕ) (cells other : Picture) (rule other_rule : BsRule) → IsGood files p cells rule → IsGood files q other other_rule → IsSameRule rule other_rule → HaveOtherRules files p q → ⊥
+no_others files p q cells other rule other_rule one two same mixed =
+    let a = (one_ruled files p cells mixed.0 rule mixed.1 one.ruled mixed.4).1 in
+    let b = (one_ruled files q other mixed.2 other_rule mixed.3 two.ruled mixed.5).1 in
+    mixed.6 (sym a.0 ∙ same.0 ∙ b.0, sym a.1 ∙ same.1 ∙ b.1, sym a.2 ∙ same.2 ∙ b.2)
+
 -- what is judged is past every cause
-past_all : (files : List (List ℕ × List ℕ)) (claim : Claim) (cells other : Picture) (rule : BsRule) → IsJudged files claim cells other rule → IsPast files claim 5
-past_all files (Still p) cells other rule j = (((cells, rule, j.0.ruled, j.0.small), tt), λ none. none)
-past_all files (Oscillator p n) cells other rule j = (((cells, rule, j.0.ruled, j.0.small), tt), λ none. none)
-past_all files (Spaceship p n dx dy) cells other rule j = (((cells, rule, j.0.ruled, j.0.small), tt), λ none. none)
-past_all files (Becomes p n q) cells other rule j = (
-  ((cells, rule, j.0.ruled, j.0.small), ((other, j.1, j.2.ruled, j.2.small), tt)),
-  λ mixed.
-      let a = (one_ruled files p cells mixed.0 rule mixed.1 j.0.ruled mixed.4).1 in
-      let b = (one_ruled files q other mixed.2 j.1 mixed.3 j.2.ruled mixed.5).1 in
-      mixed.6 (sym a.0 ∙ j.3.0 ∙ b.0, sym a.1 ∙ j.3.1 ∙ b.1, sym a.2 ∙ j.3.2 ∙ b.2),
+past_all : (files : List (List ℕ × List ℕ)) (paths : List (List ℕ)) (cells other : Picture) (rule : BsRule) → IsJudged files paths cells other rule → IsPast files paths 5
+past_all files [] cells other rule j = absurd j
+past_all files (p ∷ []) cells other rule j = (
+  ((cells, rule, j.0.ruled, j.0.small), tt),
+  λ mixed. elim mixed [
+    | inl one ↦ elim one [ inl same ↦ no_others files p p cells cells rule rule j.0 j.0 (refl, refl, refl) same | inr none ↦ none ]
+    | inr none ↦ none
+  ],
 )
+past_all files (p ∷ q ∷ []) cells other rule j = (
+  ((cells, rule, j.0.ruled, j.0.small), ((other, j.1, j.2.ruled, j.2.small), tt)),
+  λ mixed. elim mixed [
+    | inl first ↦
+        elim first [
+          | inl own ↦ no_others files p p cells cells rule rule j.0 j.0 (refl, refl, refl) own
+          | inr (inl both) ↦ no_others files p q cells other rule j.1 j.0 j.2 j.3 both
+          | inr (inr none) ↦ none
+        ]
+    | inr (inl second) ↦
+        elim second [
+          | inl both ↦ no_others files q p other cells j.1 rule j.2 j.0 (sym j.3.0, sym j.3.1, sym j.3.2) both
+          | inr (inl own) ↦ no_others files q q other other j.1 j.1 j.2 j.2 (refl, refl, refl) own
+          | inr (inr none) ↦ none
+        ]
+    | inr (inr none) ↦ none
+  ],
+)
+past_all files (p ∷ q ∷ r ∷ paths) cells other rule j = absurd j
 
 -- a claim is judged or refused for a cause, not both, want of memory apart
-pub judged_or_cause : (files : List (List ℕ × List ℕ)) (claim : Claim) (cells other : Picture) (rule : BsRule) (cause : Cause) → cause ≢ Memory → IsJudged files claim cells other rule → HasCause files claim cause → ⊥
-judged_or_cause files claim cells other rule cause m judged h = not_past files claim cause m h (past_below files claim (suc (place cause)) 5 (place_within cause m) (past_all files claim cells other rule judged))
+pub judged_or_cause : (files : List (List ℕ × List ℕ)) (paths : List (List ℕ)) (cells other : Picture) (rule : BsRule) (cause : Cause) → cause ≢ Memory → IsJudged files paths cells other rule → HasCause files paths cause → ⊥
+judged_or_cause files paths cells other rule cause m judged h = not_past files paths cause m h (past_below files paths (suc (place cause)) 5 (place_within cause m) (past_all files paths cells other rule judged))
 
 -- a claim is judged in one way
-one_judged : (files : List (List ℕ × List ℕ)) (claim : Claim) (p q o v : Picture) (r s : BsRule) → IsJudged files claim p o r → IsJudged files claim q v s → (p ≡ q) × (o ≡ v) × IsSameRule r s
-one_judged files (Still path) p q o v r s a b = let one = one_ruled files path p q r s a.0.ruled b.0.ruled in (one.0, a.1 ∙ sym b.1, one.1)
-one_judged files (Oscillator path n) p q o v r s a b = let one = one_ruled files path p q r s a.0.ruled b.0.ruled in (one.0, a.1 ∙ sym b.1, one.1)
-one_judged files (Spaceship path n dx dy) p q o v r s a b = let one = one_ruled files path p q r s a.0.ruled b.0.ruled in (one.0, a.1 ∙ sym b.1, one.1)
-one_judged files (Becomes path n other) p q o v r s a b =
+one_judged : (files : List (List ℕ × List ℕ)) (paths : List (List ℕ)) (p q o v : Picture) (r s : BsRule) → IsJudged files paths p o r → IsJudged files paths q v s → (p ≡ q) × (o ≡ v) × IsSameRule r s
+one_judged files [] p q o v r s a b = absurd a
+one_judged files (path ∷ []) p q o v r s a b = let one = one_ruled files path p q r s a.0.ruled b.0.ruled in (one.0, a.1 ∙ one.0 ∙ sym b.1, one.1)
+one_judged files (path ∷ other ∷ []) p q o v r s a b =
     let one = one_ruled files path p q r s a.0.ruled b.0.ruled in
     (one.0, (one_ruled files other o v a.1 b.1 a.2.ruled b.2.ruled).0, one.1)
+one_judged files (path ∷ other ∷ third ∷ paths) p q o v r s a b = absurd a
 
 -- a claim that is judged is true or false, not both
-pub yes_or_no : (files : List (List ℕ × List ℕ)) (claim : Claim) (why : Why) (p q o v : Picture) (r s : BsRule) → IsJudged files claim p o r → IsJudged files claim q v s
-    → IsTrueClaim (next_of r.hood r.birth r.survival) p o claim → IsReason (next_of s.hood s.birth s.survival) q v claim why → ⊥
-yes_or_no files claim why p q o v r s a b true reason =
-    let one = one_judged files claim p q o v r s a b in
+pub yes_or_no : (files : List (List ℕ × List ℕ)) (paths : List (List ℕ)) (asks : Asks) (why : Why) (p q o v : Picture) (r s : BsRule) → IsJudged files paths p o r → IsJudged files paths q v s
+    → IsTrueClaim (next_of r.hood r.birth r.survival) p o asks → IsReason (next_of s.hood s.birth s.survival) q v asks why → ⊥
+yes_or_no files paths asks why p q o v r s a b true reason =
+    let one = one_judged files paths p q o v r s a b in
     let next : next_of r.hood r.birth r.survival ≡ next_of s.hood s.birth s.survival = λ i. next_of (one.2.0 i) (one.2.1 i) (one.2.2 i) in
-    let by_next = subst (λ f. IsTrueClaim f p o claim) next true in
-    let by_cells = subst (λ c. IsTrueClaim (next_of s.hood s.birth s.survival) c o claim) one.0 by_next in
-    false_from_reason (next_of s.hood s.birth s.survival) q v claim why reason (subst (λ c. IsTrueClaim (next_of s.hood s.birth s.survival) q c claim) one.1 by_cells)
+    let by_next = subst (λ f. IsTrueClaim f p o asks) next true in
+    let by_cells = subst (λ c. IsTrueClaim (next_of s.hood s.birth s.survival) c o asks) one.0 by_next in
+    false_from_reason (next_of s.hood s.birth s.survival) q v asks why reason (subst (λ c. IsTrueClaim (next_of s.hood s.birth s.survival) q c asks) one.1 by_cells)

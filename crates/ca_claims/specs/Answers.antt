@@ -17,9 +17,9 @@ use Rattle.ca_claims.specs.declared.verdict.PatternFault.{PatternFault}
 use Rattle.ca_claims.specs.declared.verdict.PatternFault.TheVariants as pattern_fault
 use Rattle.ca_claims.specs.declared.verdict.Cause.{Cause}
 use Rattle.ca_claims.specs.declared.verdict.Cause.TheVariants.{NoFile, BadPattern, BadRule, StateTooLarge, MixedRules, Memory}
-use Rattle.ca_claims.specs.Text.{Claim, Still, Oscillator, Spaceship, Becomes, patterns_of}
+use Rattle.ca_claims.specs.Text.{Claim, patterns_of}
 use Rattle.ca_claims.specs.Means.{bytes_at, Means}
-use Rattle.ca_claims.specs.Truth.{IsTrueClaim, IsReason}
+use Rattle.ca_claims.specs.Truth.{asks_of, IsTrueClaim, IsReason}
 
 -- the bytes mean a pattern and pass no limit
 abbrev pub IsReadable : List ℕ → Type 0
@@ -67,63 +67,60 @@ HasRule files path = (cells : Picture) × (rule : BsRule) × IsRuled files path 
 abbrev pub IsSmall : List (List ℕ × List ℕ) → List ℕ → Type 0
 IsSmall files path = (cells : Picture) × (rule : BsRule) × IsRuled files path cells rule × HasSmallStates cells
 
--- this holds of one of the paths
-abbrev pub SomePath : (List ℕ → Type 0) → List (List ℕ) → Type 0
-SomePath Holds [] = ⊥
-SomePath Holds (p ∷ ps) = Holds p ⊎ SomePath Holds ps
+-- this holds of some element
+abbrev pub SomeOf : {X : Type 0} → (X → Type 0) → List X → Type 0
+SomeOf Holds [] = ⊥
+SomeOf Holds (x ∷ xs) = Holds x ⊎ SomeOf Holds xs
 
--- this is bad of one of the paths, and those before it are good
-abbrev pub FirstPath : (List ℕ → Type 0) → (List ℕ → Type 0) → List (List ℕ) → Type 0
-FirstPath Good Bad [] = ⊥
-FirstPath Good Bad (p ∷ ps) = Bad p ⊎ (Good p × FirstPath Good Bad ps)
+-- this is bad of one element, and those before it are good
+abbrev pub FirstBad : {X : Type 0} → (X → Type 0) → (X → Type 0) → List X → Type 0
+FirstBad Good Bad [] = ⊥
+FirstBad Good Bad (x ∷ xs) = Bad x ⊎ (Good x × FirstBad Good Bad xs)
 
--- this holds of the first of the paths
-abbrev pub FirstIs : (List ℕ → Type 0) → List (List ℕ) → Type 0
+-- this holds of the first element
+abbrev pub FirstIs : {X : Type 0} → (X → Type 0) → List X → Type 0
 FirstIs Holds [] = ⊥
-FirstIs Holds (p ∷ ps) = Holds p
+FirstIs Holds (x ∷ xs) = Holds x
 
--- the claim is about two patterns with different rules
-abbrev pub HasMixedRules : List (List ℕ × List ℕ) → Claim → Type 0
-HasMixedRules files (Still pattern) = ⊥
-HasMixedRules files (Oscillator pattern period) = ⊥
-HasMixedRules files (Spaceship pattern period dx dy) = ⊥
-HasMixedRules files (Becomes pattern generations other) = (cells : Picture) × (rule : BsRule) × (other_cells : Picture) × (other_rule : BsRule)
-    × IsRuled files pattern cells rule × IsRuled files other other_cells other_rule × (IsSameRule rule other_rule → ⊥)
+-- the patterns of two paths have different rules
+abbrev pub HaveOtherRules : List (List ℕ × List ℕ) → List ℕ → List ℕ → Type 0
+HaveOtherRules files path other = (cells : Picture) × (rule : BsRule) × (other_cells : Picture) × (other_rule : BsRule)
+    × IsRuled files path cells rule × IsRuled files other other_cells other_rule × (IsSameRule rule other_rule → ⊥)
 
--- the first cause of a refusal that holds of a claim, in the order of these lines; memory is wanted only where all the files
--- are there and the first of them reads
-abbrev pub HasCause : List (List ℕ × List ℕ) → Claim → Cause → Type 0
-HasCause files claim NoFile = SomePath (λ p. bytes_at files p ≡ None) (patterns_of claim)
-HasCause files claim (BadPattern fault) = AllByRecursion (IsThere files) (patterns_of claim)
-    × FirstPath (Reads files) (λ p. (bytes : List ℕ) × (bytes_at files p ≡ Some bytes) × IsPatternFault bytes fault) (patterns_of claim)
-HasCause files claim (BadRule fault) = AllByRecursion (Reads files) (patterns_of claim)
-    × FirstPath (HasRule files) (λ p. (cells : Picture) × (text : List ℕ) × IsRead files p cells text × rules.IsFaultOf text fault) (patterns_of claim)
-HasCause files claim StateTooLarge = AllByRecursion (HasRule files) (patterns_of claim)
-    × SomePath (λ p. (cells : Picture) × (rule : BsRule) × IsRuled files p cells rule × HasLargeState cells) (patterns_of claim)
-HasCause files claim MixedRules = AllByRecursion (IsSmall files) (patterns_of claim) × HasMixedRules files claim
-HasCause files claim Memory = AllByRecursion (IsThere files) (patterns_of claim) × FirstIs (Reads files) (patterns_of claim)
+-- the first cause of a refusal that holds of a claim about patterns of these paths, in the order of these lines; memory is
+-- wanted only where all the files are there and the first of them reads
+abbrev pub HasCause : List (List ℕ × List ℕ) → List (List ℕ) → Cause → Type 0
+HasCause files paths NoFile = SomeOf (λ p. bytes_at files p ≡ None) paths
+HasCause files paths (BadPattern fault) = AllByRecursion (IsThere files) paths
+    × FirstBad (Reads files) (λ p. (bytes : List ℕ) × (bytes_at files p ≡ Some bytes) × IsPatternFault bytes fault) paths
+HasCause files paths (BadRule fault) = AllByRecursion (Reads files) paths
+    × FirstBad (HasRule files) (λ p. (cells : Picture) × (text : List ℕ) × IsRead files p cells text × rules.IsFaultOf text fault) paths
+HasCause files paths StateTooLarge = AllByRecursion (HasRule files) paths
+    × SomeOf (λ p. (cells : Picture) × (rule : BsRule) × IsRuled files p cells rule × HasLargeState cells) paths
+HasCause files paths MixedRules = AllByRecursion (IsSmall files) paths × SomeOf (λ p. SomeOf (HaveOtherRules files p) paths) paths
+HasCause files paths Memory = AllByRecursion (IsThere files) paths × FirstIs (Reads files) paths
 
 -- a pattern's file is there and is read, and means these cells, of small states, under this rule
 pub record IsGood (files : List (List ℕ × List ℕ)) (path : List ℕ) (cells : Picture) (rule : BsRule) : Type 0 where
   pub ruled : IsRuled files path cells rule
   pub small : HasSmallStates cells
 
--- no cause holds: the claim's patterns mean these cells under this rule; a claim about one pattern names no other
-abbrev pub IsJudged : List (List ℕ × List ℕ) → Claim → Picture → Picture → BsRule → Type 0
-IsJudged files (Still pattern) cells other rule = IsGood files pattern cells rule × (other ≡ [])
-IsJudged files (Oscillator pattern period) cells other rule = IsGood files pattern cells rule × (other ≡ [])
-IsJudged files (Spaceship pattern period dx dy) cells other rule = IsGood files pattern cells rule × (other ≡ [])
-IsJudged files (Becomes pattern generations other_pattern) cells other rule =
-    IsGood files pattern cells rule × (other_rule : BsRule) × IsGood files other_pattern other other_rule × IsSameRule rule other_rule
+-- no cause holds: the patterns of a claim's paths mean these cells under this rule; where there is one, it is the other too
+abbrev pub IsJudged : List (List ℕ × List ℕ) → List (List ℕ) → Picture → Picture → BsRule → Type 0
+IsJudged files [] cells other rule = ⊥
+IsJudged files (path ∷ []) cells other rule = IsGood files path cells rule × (other ≡ cells)
+IsJudged files (path ∷ other_path ∷ []) cells other rule =
+    IsGood files path cells rule × (other_rule : BsRule) × IsGood files other_path other other_rule × IsSameRule rule other_rule
+IsJudged files (path ∷ other_path ∷ third ∷ paths) cells other rule = ⊥
 
 -- a verdict is true: a yes of a claim that is true of the planes that the files mean, a no of one that is false, with the
 -- reason, and a refusal with its cause; a yes and a no come only where no cause holds
 abbrev pub IsTrueVerdict : List (List ℕ × List ℕ) → Claim → Verdict → Type 0
-IsTrueVerdict files claim Yes = (cells : Picture) × (other : Picture) × (rule : BsRule) × IsJudged files claim cells other rule
-    × IsTrueClaim (next_of rule.hood rule.birth rule.survival) cells other claim
-IsTrueVerdict files claim (No why) = (cells : Picture) × (other : Picture) × (rule : BsRule) × IsJudged files claim cells other rule
-    × IsReason (next_of rule.hood rule.birth rule.survival) cells other claim why
-IsTrueVerdict files claim (Refused cause) = HasCause files claim cause
+IsTrueVerdict files claim Yes = (cells : Picture) × (other : Picture) × (rule : BsRule) × IsJudged files (patterns_of claim) cells other rule
+    × IsTrueClaim (next_of rule.hood rule.birth rule.survival) cells other (asks_of claim)
+IsTrueVerdict files claim (No why) = (cells : Picture) × (other : Picture) × (rule : BsRule) × IsJudged files (patterns_of claim) cells other rule
+    × IsReason (next_of rule.hood rule.birth rule.survival) cells other (asks_of claim) why
+IsTrueVerdict files claim (Refused cause) = HasCause files (patterns_of claim) cause
 
 -- the answer has the number of the claim's line, and a true verdict
 abbrev pub IsTrueAnswer : List (List ℕ × List ℕ) → ℕ × Claim → Answer → Type 0

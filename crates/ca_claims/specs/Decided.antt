@@ -1,14 +1,23 @@
 -- What a verdict says of a claim about cells that are at hand.
-use Rattle.std.specs.Prelude.{◌≡◌, ℕ, List}
+use Rattle.std.specs.Prelude.{◌≡◌, ◌≢◌, ℕ, ◌≤◌, ◌^◌, List, IsTrue}
 use Rattle.ca_plane.specs.Plane.{Picture}
 use Rattle.ca_claims.specs.declared.verdict.Verdict.{Verdict}
 use Rattle.ca_claims.specs.declared.verdict.Verdict.TheVariants.{Yes, No, Refused}
 use Rattle.ca_claims.specs.declared.verdict.Cause.TheVariants.{Memory}
-use Rattle.ca_claims.specs.Text.{Claim}
+use Rattle.ca_claims.specs.declared.claims.asks.Asks.{Asks}
+use Rattle.ca_claims.specs.declared.claims.asks.Barred.TheVariants.{Nothing}
+use Rattle.ca_claims.specs.Text.{IsShift}
 use Rattle.ca_claims.specs.Truth.{IsTrueClaim, IsReason}
 
+-- what a claim with good numbers asks: few generations, a shift within its limits, and a live pattern where a return is barred
+pub record IsBounded (asks : Asks) : Type 0 where
+  pub few : asks.generations ≤ 2 ^ 60
+  pub right : IsShift asks.dx
+  pub down : IsShift asks.dy
+  pub live : asks.barred ≢ Nothing → IsTrue asks.live
+
 -- a yes of a claim that is true, or a no with a reason, and no refusal but for want of memory
-abbrev pub IsDecided : (List ℕ → ℕ) → Picture → Picture → Claim → Verdict → Type 0
-IsDecided next cells other claim Yes = IsTrueClaim next cells other claim
-IsDecided next cells other claim (No why) = IsReason next cells other claim why
-IsDecided next cells other claim (Refused cause) = cause ≡ Memory
+abbrev pub IsDecided : (List ℕ → ℕ) → Picture → Picture → Asks → Verdict → Type 0
+IsDecided next cells other asks Yes = IsTrueClaim next cells other asks
+IsDecided next cells other asks (No why) = IsReason next cells other asks why
+IsDecided next cells other asks (Refused cause) = cause ≡ Memory

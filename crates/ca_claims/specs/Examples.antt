@@ -4,7 +4,8 @@ use Rattle.ca_plane.specs.Plane.{Picture}
 use Rattle.ca_rule.specs.Counts.{counts_of}
 use Rattle.ca_rule.specs.Next.{next_of}
 use Rattle.ca_rule.specs.declared.hood.Hood.TheVariants.{Moore}
-use Rattle.ca_claims.specs.Text.{Still, Oscillator, Spaceship, Becomes, Line, Load, Claims, Asked}
+use Rattle.ca_claims.specs.declared.claims.line.Claim.TheVariants.{Still, Oscillator, Spaceship, Becomes}
+use Rattle.ca_claims.specs.Text.{Line, Load, Claims, Asked}
 
 -- lines, each ended by LF
 abbrev pub text_of : List (List ℕ) → List ℕ

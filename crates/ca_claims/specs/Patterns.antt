@@ -1,14 +1,27 @@
 -- A pattern that was read for a claim, and why one isn't.
-use Rattle.std.specs.Prelude.{ℕ, List}
+use Rattle.std.specs.Prelude.{◌≡◌, ℕ, List, [], ◌∷◌, ◌⊎◌}
+use Rattle.ca_claims.specs.declared.verifier.one_or_two.OneOrTwo.{OneOrTwo}
+use Rattle.ca_claims.specs.declared.verifier.one_or_two.OneOrTwo.TheVariants.{One, Two}
+use Rattle.ca_plane.specs.Plane.{Picture}
 use Rattle.ca_plane.specs.Sparse.{IsSparse}
-use Rattle.ca_rule.specs.Spelling.{IsFaultOf}
+use Rattle.ca_rule.specs.declared.bs_rule.BsRule.{BsRule}
+use Rattle.ca_rule.specs.Spelling.{Names}
 use Rattle.ca_rle.specs.File as rle
 use Rattle.ca_rle.specs.Limits.{IsWithinLimits}
 use Rattle.ca_rle.specs.Pattern.{IsPatternOf}
 use Rattle.ca_rle.specs.declared.pattern.Pattern.{Pattern}
 use Rattle.ca_claims.specs.declared.verdict.Cause.{Cause}
 use Rattle.ca_claims.specs.declared.verdict.Cause.TheVariants.{NoFile, BadPattern, BadRule, StateTooLarge, MixedRules, Memory}
-use Rattle.ca_claims.specs.Answers.{IsReadable, IsPatternFault}
+use Rattle.ca_claims.specs.Answers.{IsReadable, IsPatternFault, IsSameRule}
+
+-- one or two, as a list
+abbrev pub items : {T : Type 0} → OneOrTwo T → List T
+items (One only) = only ∷ []
+items (Two first second) = first ∷ second ∷ []
+
+-- a list has the elements of another, each once, which are one or two
+abbrev pub IsEachOnce : {X : Type 0} → List X → List X → Type 0
+IsEachOnce {X} each all = (all ≡ each) ⊎ ((x : X) × (each ≡ x ∷ []) × (all ≡ x ∷ x ∷ []))
 
 -- the bytes are a file within the limits, and this is its pattern
 pub record IsReadFrom (bytes : List ℕ) (pattern : Pattern) : Type 0 where
@@ -27,11 +40,24 @@ IsUnread bytes StateTooLarge = ⊥
 IsUnread bytes MixedRules = ⊥
 IsUnread bytes Memory = IsReadable bytes
 
--- why the text names no rule
-abbrev pub IsUnnamed : List ℕ → Cause → Type 0
-IsUnnamed text NoFile = ⊥
-IsUnnamed text (BadPattern fault) = ⊥
-IsUnnamed text (BadRule fault) = IsFaultOf text fault
-IsUnnamed text StateTooLarge = ⊥
-IsUnnamed text MixedRules = ⊥
-IsUnnamed text Memory = ⊥
+-- the pattern's rule text names a rule
+abbrev pub HasName : Pattern → Type 0
+HasName pattern = (rule : BsRule) × Names pattern.rule_text.items rule
+
+-- the rules are this one, or the first is and the second is the same
+abbrev pub AreOfOneRule : List BsRule → BsRule → Type 0
+AreOfOneRule [] rule = ⊥
+AreOfOneRule (r ∷ []) rule = rule ≡ r
+AreOfOneRule (r ∷ s ∷ rules) rule = (rule ≡ r) × IsSameRule r s
+
+-- the second of two rules isn't the same as the first
+abbrev pub AreMixed : List BsRule → Type 0
+AreMixed [] = ⊥
+AreMixed (r ∷ []) = ⊥
+AreMixed (r ∷ s ∷ rules) = IsSameRule r s → ⊥
+
+-- the cells of a pattern, and those of the other, which is the same where there is one
+abbrev pub ArePlanes : List Pattern → Picture → Picture → Type 0
+ArePlanes [] cells other = ⊥
+ArePlanes (p ∷ []) cells other = (cells ≡ p.cells) × (other ≡ p.cells)
+ArePlanes (p ∷ q ∷ patterns) cells other = (cells ≡ p.cells) × (other ≡ q.cells)

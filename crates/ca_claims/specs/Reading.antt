@@ -4,11 +4,8 @@ use Rattle.std.specs.Borrow.{Bor}
 use Rattle.std.specs.HashMap.{HashMap, get_by}
 use Rattle.std.specs.List.{list_any, AllByRecursion}
 use Rattle.std.specs.Str.{bytes_eq}
-use Rattle.ca_claims.specs.declared.claims.line.ClaimKind.{ClaimKind}
-use Rattle.ca_claims.specs.declared.claims.line.ClaimKind.TheVariants as kind
+use Rattle.ca_claims.specs.declared.claims.line.Claim.{Claim as ClaimOf}
 use Rattle.ca_claims.specs.declared.claims.line.ClaimLine.{ClaimLine}
-use Rattle.ca_claims.specs.declared.claims.named.NamedClaim.{NamedClaim}
-use Rattle.ca_claims.specs.declared.claims.named.NamedClaim.TheVariants as named
 use Rattle.ca_claims.specs.declared.claims.reading.Reading.{Reading}
 use Rattle.ca_claims.specs.declared.claims.words.LineKind.{LineKind}
 use Rattle.ca_claims.specs.declared.claims.words.LineKind.TheVariants.{Skipped, Load, Claim, OutsideLimits, Misspelled}
@@ -23,11 +20,8 @@ abbrev pub with_path : List (List ℕ) → List ℕ → List (List ℕ)
 with_path paths path = if list_any (bytes_eq path) paths then paths else paths ++ path ∷ []
 
 -- what a line claims, of patterns that are given by their names
-abbrev pub claim_of : NamedClaim → text.Claim
-claim_of (named.Still name) = text.Still name.now
-claim_of (named.Oscillator name period) = text.Oscillator name.now period
-claim_of (named.Spaceship name period dx dy) = text.Spaceship name.now period dx dy
-claim_of (named.Becomes name generations other) = text.Becomes name.now generations other.now
+abbrev pub claim_of : ClaimOf (Bor (List ℕ)) → text.Claim
+claim_of claim = text.about (λ name. name.now) claim
 
 -- a number is held as an i64: as itself where either of them is a shift
 pub record IsHeldShift (n held : ℤ) : Type 0 where
@@ -42,7 +36,7 @@ pub record IsHeldClaim (claim held : text.Claim) : Type 0 where
   pub sound : text.HasGoodNumbers held → claim ≡ held
 
 -- the words make a claim, which is held so
-abbrev pub MakesClaim : List (List ℕ) → NamedClaim → Type 0
+abbrev pub MakesClaim : List (List ℕ) → ClaimOf (Bor (List ℕ)) → Type 0
 MakesClaim words held = (claim : text.Claim) × text.WordsSay words (text.Claims claim) × IsHeldClaim claim (claim_of held)
 
 -- the kind of a line with these words
@@ -63,11 +57,8 @@ abbrev pub AreKnown : (List ℕ → Option ℕ) → text.Claim → Type 0
 AreKnown names claim = AllByRecursion (λ n. IsSome (names n)) (text.patterns_of claim)
 
 -- the claim about the paths at the places of its names
-abbrev pub at_places : (List ℕ → Option ℕ) → text.Claim → ClaimKind
-at_places names (text.Still name) = kind.Still (unwrap_or (names name) 0)
-at_places names (text.Oscillator name period) = kind.Oscillator (unwrap_or (names name) 0) period
-at_places names (text.Spaceship name period dx dy) = kind.Spaceship (unwrap_or (names name) 0) period dx dy
-at_places names (text.Becomes name generations other) = kind.Becomes (unwrap_or (names name) 0) generations (unwrap_or (names other) 0)
+abbrev pub at_places : (List ℕ → Option ℕ) → text.Claim → ClaimOf ℕ
+at_places names claim = text.about (λ name. unwrap_or (names name) 0) claim
 
 -- a path, where there is one, stands at this index
 abbrev pub StandsAt : List (List ℕ) → Option ℕ → Option (List ℕ) → Type 0

@@ -2,28 +2,27 @@
 use Rattle.std.specs.Prelude.{◌≡◌, ℕ, ◌+◌, ◌≤◌, ◌<◌, ◌^◌, ℤ, pos, neg_ℤ, ◌≤ℤ◌, List, [], ◌∷◌, ◌++◌, Bool, true, false, not, ◌==◌, Option, Some, None, IsSome, unwrap_or, codes, filter, if◌then◌else◌}
 use Rattle.std.specs.Str.{bytes_eq}
 use Rattle.std.specs.List.{AllByRecursion}
+use Rattle.ca_claims.specs.declared.claims.line.Claim.{Claim as ClaimOf}
+use Rattle.ca_claims.specs.declared.claims.line.Claim.TheVariants.{Still, Oscillator, Spaceship, Becomes}
 use Rattle.ca_plane.specs.Bytes.{is_end_or, lines_of, words_of, AreDigits, IsInteger, value}
 
 -- a claim about patterns, which are given by their names in a text, and by the paths of their files once names are resolved
-pub data Claim : Type 0 where
-  Still : (pattern : List ℕ) → Claim
-  Oscillator : (pattern : List ℕ) (period : ℕ) → Claim
-  Spaceship : (pattern : List ℕ) (period : ℕ) (dx dy : ℤ) → Claim
-  Becomes : (pattern : List ℕ) (generations : ℕ) (other : List ℕ) → Claim
+abbrev pub Claim : Type 0
+Claim = ClaimOf (List ℕ)
 
 -- the patterns that a claim is about
-abbrev pub patterns_of : Claim → List (List ℕ)
+abbrev pub patterns_of : {P : Type 0} → ClaimOf P → List P
 patterns_of (Still pattern) = pattern ∷ []
 patterns_of (Oscillator pattern period) = pattern ∷ []
 patterns_of (Spaceship pattern period dx dy) = pattern ∷ []
 patterns_of (Becomes pattern generations other) = pattern ∷ other ∷ []
 
 -- the claim about other patterns, each given by its own
-abbrev pub about : Claim → (List ℕ → List ℕ) → Claim
-about (Still pattern) f = Still (f pattern)
-about (Oscillator pattern period) f = Oscillator (f pattern) period
-about (Spaceship pattern period dx dy) f = Spaceship (f pattern) period dx dy
-about (Becomes pattern generations other) f = Becomes (f pattern) generations (f other)
+abbrev pub about : {P Q : Type 0} → (P → Q) → ClaimOf P → ClaimOf Q
+about f (Still pattern) = Still (f pattern)
+about f (Oscillator pattern period) = Oscillator (f pattern) period
+about f (Spaceship pattern period dx dy) = Spaceship (f pattern) period dx dy
+about f (Becomes pattern generations other) = Becomes (f pattern) generations (f other)
 
 -- from -2^60 to 2^60
 abbrev pub IsShift : ℤ → Type 0
@@ -31,7 +30,7 @@ IsShift d = (neg_ℤ (pos (2 ^ 60)) ≤ℤ d) × (d ≤ℤ pos (2 ^ 60))
 
 -- the numbers of a claim are within their limits: a period is at most 2^32 - 1, an oscillator's at least 2 and a spaceship's
 -- at least 1; a shift is at most 2^60 in each direction and not (0, 0); generations are at most 2^60
-abbrev pub HasGoodNumbers : Claim → Type 0
+abbrev pub HasGoodNumbers : {P : Type 0} → ClaimOf P → Type 0
 HasGoodNumbers (Still pattern) = Unit {0}
 HasGoodNumbers (Oscillator pattern period) = (2 ≤ period) × (period < 2 ^ 32)
 HasGoodNumbers (Spaceship pattern period dx dy) = (1 ≤ period) × (period < 2 ^ 32) × IsShift dx × IsShift dy × ((dx ≡ pos 0) → (dy ≡ pos 0) → ⊥)
@@ -111,7 +110,7 @@ claims_from n earlier [] = []
 claims_from n earlier (None ∷ said) = claims_from (n + 1) earlier said
 claims_from n earlier (Some (Load name path) ∷ said) = claims_from (n + 1) (earlier ++ Load name path ∷ []) said
 claims_from n earlier (Some (Claims claim) ∷ said) =
-    (n, about claim (λ name. unwrap_or (path_of earlier name) [])) ∷ claims_from (n + 1) (earlier ++ Claims claim ∷ []) said
+    (n, about (λ name. unwrap_or (path_of earlier name) []) claim) ∷ claims_from (n + 1) (earlier ++ Claims claim ∷ []) said
 
 -- what a claim text asks: the paths of its files, each once, and its claims with the numbers of their lines
 pub record Asked : Type 0 where

@@ -5,8 +5,9 @@ ghost use Rattle.std.specs.List.{IsDistinct};
 ghost use Rattle.std.specs.Str.{bytes_eq};
 ghost use Rattle.ca_claims.specs.Lines.{numbered, IsAsked};
 
+mod asks;
+mod limits;
 mod line;
-mod named;
 mod numbers;
 mod paths;
 mod reading;
@@ -14,7 +15,8 @@ mod reading;
 mod tests;
 mod words;
 
-pub(crate) use line::{ClaimKind, ClaimLine};
+pub(crate) use asks::{Asks, Barred, Wanted};
+pub(crate) use line::{Claim, ClaimLine};
 use paths::Paths;
 pub use reading::read_claims;
 use std::marker::Model;

@@ -1,39 +1,39 @@
 //! Whether a claim is true of planes that are at hand, by steps of one generation.
 
-ghost use Rattle.std.specs.Prelude.{◌≡◌, ℕ, ◌<◌, List, IfOk, IsTrue, IsFalse, MatchOption};
+ghost use Rattle.std.specs.Prelude.{◌≡◌, ℕ, ◌<◌, List, pos, IfOk, IsTrue, ◌↔◌, MatchOption};
 ghost use Rattle.std.specs.List.{All};
-ghost use Rattle.ca_plane.specs.Plane.{IsSame, shifted, IsLive};
+ghost use Rattle.ca_plane.specs.Plane.{IsSame, shifted};
 ghost use Rattle.ca_rle.specs.Limits.{IsInRange};
-ghost use Rattle.ca_claims.specs.Text.{IsShift, HasGoodNumbers};
-ghost use Rattle.ca_claims.specs.Lines.{claim_at};
-ghost use Rattle.ca_claims.specs.Truth.{generations_of, claimed, WantsLive, IsTrueClaim, IsReason};
-ghost use Rattle.ca_claims.specs.Decided.{IsDecided};
+ghost use Rattle.ca_claims.specs.Text.{IsShift};
+ghost use Rattle.ca_claims.specs.Truth.{whose as whose_cells, claimed, IsTrueClaim, IsReason};
+ghost use Rattle.ca_claims.specs.Decided.{IsBounded, IsDecided};
 ghost use Rattle.ca_claims.specs.Returns.{IsDifference};
 
 mod moves;
 mod run;
 
-use crate::claims::ClaimKind;
+use crate::claims::{Asks, Wanted};
 use crate::verdict::{Cause, Verdict, Why};
 use ca_plane::{Automaton, Memory, MoveFault, Plane};
 use run::run;
 use std::alloc::Global;
 
-/// Whether the claim is true of the cells under the rule. `other` is the plane that a `becomes` names, and for other
-/// claims no matter.
+/// Whether a claim that asks this is true of the cells under the rule. `other` is the plane of the other pattern that a
+/// claim may name.
 pub(crate) fn decide<A: Automaton>(
     alloc: Global,
     rule: &A,
     cells: &Plane,
     other: &Plane,
-    claim: ClaimKind,
+    asks: Asks,
 ) -> Verdict
     requires states { All (λ e. e.1 < A.state_count rule.now) cells.now }
     requires range { All (λ e. IsInRange e.0) cells.now }
-    requires numbers { (paths : List (List ℕ)) → HasGoodNumbers (claim_at paths claim) }
-    ensures { (paths : List (List ℕ)) → IsDecided (A.next_of rule.now) cells.now other.now (claim_at paths claim) result }
+    requires other_range { All (λ e. IsInRange e.0) other.now }
+    requires bounded { IsBounded asks }
+    ensures { IsDecided (A.next_of rule.now) cells.now other.now asks result }
 {
-    match why_not(alloc, rule, cells, other, claim) {
+    match why_not(alloc, rule, cells, other, asks) {
         Ok(None) => Verdict::Yes,
         Ok(Some(why)) => Verdict::No(why),
         Err(Memory) => Verdict::Refused(Cause::Memory),
@@ -46,45 +46,25 @@ fn why_not<A: Automaton>(
     rule: &A,
     cells: &Plane,
     other: &Plane,
-    claim: ClaimKind,
+    asks: Asks,
 ) -> Result<Option<Why>, Memory>
     requires states { All (λ e. e.1 < A.state_count rule.now) cells.now }
     requires range { All (λ e. IsInRange e.0) cells.now }
-    requires numbers { (paths : List (List ℕ)) → HasGoodNumbers (claim_at paths claim) }
-    ensures { IfOk result (λ why. (paths : List (List ℕ)) → MatchOption why
-        (IsTrueClaim (A.next_of rule.now) cells.now other.now (claim_at paths claim))
-        (IsReason (A.next_of rule.now) cells.now other.now (claim_at paths claim))) }
+    requires other_range { All (λ e. IsInRange e.0) other.now }
+    requires bounded { IsBounded asks }
+    ensures { IfOk result (λ why. MatchOption why
+        (IsTrueClaim (A.next_of rule.now) cells.now other.now asks)
+        (IsReason (A.next_of rule.now) cells.now other.now asks)) }
 {
-    if lacks_live_cells(cells, claim) {
+    if asks.live && cells.is_empty() {
         return Ok(Some(Why::Empty));
     }
-    let gens = generations(claim);
-    if gens == 0 {
-        // Only `becomes` speaks of no generation.
-        return unlike_claimed(alloc, cells, cells, other, claim);
+    if asks.generations == 0 {
+        return unlike_claimed(alloc, cells, cells, other, asks);
     }
-    let (end, earlier) = run(alloc, rule, cells, claim, gens)?;
-    let unlike = unlike_claimed(alloc, &end, cells, other, claim)?;
+    let (end, earlier) = run(alloc, rule, cells, asks)?;
+    let unlike = unlike_claimed(alloc, &end, cells, other, asks)?;
     Ok(unlike.or(earlier))
-}
-
-// Whether the claim wants a live pattern, and no cell is live.
-fn lacks_live_cells(cells: &Plane, claim: ClaimKind) -> bool
-    ensures lacks { IsTrue result → (paths : List (List ℕ)) → WantsLive (claim_at paths claim) × (IsLive cells.now → ⊥) }
-    ensures live { IsFalse result → (paths : List (List ℕ)) → WantsLive (claim_at paths claim) → IsLive cells.now }
-{
-    !matches!(claim, ClaimKind::Becomes { .. }) && cells.is_empty()
-}
-
-// How many generations the claim speaks of.
-fn generations(claim: ClaimKind) -> u64
-    ensures { (paths : List (List ℕ)) → result ≡ generations_of (claim_at paths claim) }
-{
-    match claim {
-        ClaimKind::Still { .. } => 1,
-        ClaimKind::Oscillator { period, .. } | ClaimKind::Spaceship { period, .. } => period,
-        ClaimKind::Becomes { generations, .. } => generations,
-    }
 }
 
 // Where the plane after the claim's generations isn't the claimed one, if it isn't.
@@ -93,22 +73,40 @@ fn unlike_claimed(
     end: &Plane,
     cells: &Plane,
     other: &Plane,
-    claim: ClaimKind,
+    asks: Asks,
 ) -> Result<Option<Why>, Memory>
     requires range { All (λ e. IsInRange e.0) cells.now }
-    requires numbers { (paths : List (List ℕ)) → HasGoodNumbers (claim_at paths claim) }
-    ensures { IfOk result (λ why. (paths : List (List ℕ)) → MatchOption why
-        (IsSame end.now (claimed (claim_at paths claim) cells.now other.now))
-        (IsDifference end.now (claimed (claim_at paths claim) cells.now other.now) (generations_of (claim_at paths claim)))) }
+    requires other_range { All (λ e. IsInRange e.0) other.now }
+    requires bounded { IsBounded asks }
+    ensures { IfOk result (λ why. MatchOption why
+        (IsSame end.now (claimed asks cells.now other.now))
+        (IsDifference end.now (claimed asks cells.now other.now) asks.generations)) }
 {
-    match claim {
-        ClaimKind::Still { .. } => Ok(unlike(end, cells, 1)),
-        ClaimKind::Oscillator { period, .. } => Ok(unlike(end, cells, period)),
-        ClaimKind::Spaceship { period, dx, dy, .. } => {
-            let wanted = moved(alloc, cells, dx, dy)?;
-            Ok(unlike(end, &wanted, period))
-        }
-        ClaimKind::Becomes { generations, .. } => Ok(unlike(end, other, generations)),
+    let wanted = whose(asks.wanted, cells, other);
+    if is_in_place(asks.dx, asks.dy) {
+        return Ok(unlike(end, wanted, asks.generations));
+    }
+    let wanted = moved(alloc, wanted, asks.dx, asks.dy)?;
+    Ok(unlike(end, &wanted, asks.generations))
+}
+
+// Whether a vector is (0, 0).
+fn is_in_place(dx: i64, dy: i64) -> bool
+    ensures { IsTrue result ↔ ((dx ≡ pos 0) × (dy ≡ pos 0)) }
+{
+    dx == 0 && dy == 0
+}
+
+// The cells that are wanted.
+fn whose<'a>(wanted: Wanted, cells: &'a Plane, other: &'a Plane) -> &'a Plane
+    requires range { All (λ e. IsInRange e.0) cells.now }
+    requires other_range { All (λ e. IsInRange e.0) other.now }
+    ensures cells { result.now ≡ whose_cells wanted cells.now other.now }
+    ensures range { All (λ e. IsInRange e.0) result.now }
+{
+    match wanted {
+        Wanted::Own => cells,
+        Wanted::Other => other,
     }
 }
 

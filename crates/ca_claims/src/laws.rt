@@ -1,7 +1,8 @@
 //! Laws of claim texts, which no call needs to run.
 
 ghost use Rattle.std.specs.Prelude.{◌≡◌, ◌≢◌, ℕ, List, [], ◌∷◌, Option, Some, None, codes};
-ghost use Rattle.ca_claims.specs.Text.{Line, Load, Claims as Claiming, Still as StillOf, IsClaimText, asked_by};
+ghost use Rattle.ca_claims.specs.Text.{Line, Load, Claims as Claiming, IsClaimText, asked_by};
+ghost use Rattle.ca_claims.specs.declared.claims.line.Claim.TheVariants.{Still as StillOf};
 ghost use Rattle.ca_claims.specs.TextFaults.{IsFirstFault};
 ghost use Rattle.ca_claims.specs.Examples.{block_text, every_text, every_said, every_asked, unknown_text, other_unknown_text, taken_text, misspelled_text, no_number_text, no_shift_text, no_period_text};
 ghost use Rattle.ca_claims.specs.declared.fault.ClaimFault.{ClaimFault};

@@ -6,7 +6,7 @@ ghost use Rattle.ca_plane.specs.Plane.{Picture};
 ghost use Rattle.ca_plane.specs.Generations.{after};
 ghost use Rattle.ca_claims.specs.Text.{Claim};
 ghost use Rattle.ca_claims.specs.Means.{Means};
-ghost use Rattle.ca_claims.specs.Truth.{IsTrueClaim, IsReason, IsSameReason};
+ghost use Rattle.ca_claims.specs.Truth.{asks_of, IsTrueClaim, IsReason, IsSameReason};
 ghost use Rattle.ca_claims.specs.Answers.{IsTrueVerdict};
 ghost use Rattle.ca_claims.specs.Examples.{life, blinker, block};
 ghost use Rattle.ca_claims.specs.declared.verdict.Why.{Why};
@@ -16,14 +16,14 @@ ghost use Rattle.ca_claims.specs.declared.verdict.Cause.TheVariants.{NoFile, Mem
 
 /// Where there is a reason against a claim, the claim isn't true.
 pub fn no_is_false()
-    ensures { (next : List ℕ → ℕ) (cells other : Picture) (claim : Claim) (why : Why) → IsReason next cells other claim why → IsTrueClaim next cells other claim → ⊥ }
+    ensures { (next : List ℕ → ℕ) (cells other : Picture) (claim : Claim) (why : Why) → IsReason next cells other (asks_of claim) why → IsTrueClaim next cells other (asks_of claim) → ⊥ }
 {}
 
 /// A claim is false for one kind of reason at most: two reasons are both want of live cells, or both cells that differ after
 /// the claimed generations (which cells is open), or the same earlier return.
 pub fn one_reason()
-    ensures { (next : List ℕ → ℕ) (cells other : Picture) (claim : Claim) (one two : Why) → IsReason next cells other claim one
-        → IsReason next cells other claim two → IsSameReason one two }
+    ensures { (next : List ℕ → ℕ) (cells other : Picture) (claim : Claim) (one two : Why) → IsReason next cells other (asks_of claim) one
+        → IsReason next cells other (asks_of claim) two → IsSameReason one two }
 {}
 
 /// The bytes of a file mean one picture, one rule text and one generation at most.
@@ -32,7 +32,7 @@ pub fn one_meaning_of_a_file()
 {}
 
 /// A yes and a no aren't both true of a claim, nor is one of them and a refusal, nor are refusals for two causes; want of
-/// memory apart, which may come at any time.
+/// memory apart. Nor are want of memory and a file that isn't there.
 pub fn one_kind_of_verdict()
     ensures yes_or_no { (files : List (List ℕ × List ℕ)) (claim : Claim) (why : Why) → IsTrueVerdict files claim Yes → IsTrueVerdict files claim (No why) → ⊥ }
     ensures yes_or_refused { (files : List (List ℕ × List ℕ)) (claim : Claim) (cause : Cause) → cause ≢ Memory

@@ -1,21 +1,24 @@
 //! Verdicts on the claims of a text, each on its own.
 
-ghost use Rattle.std.specs.Prelude.{◌≡◌, ℕ, ◌<◌, List, [], ◌∷◌, map, length, Some, IfOk, MatchOption, MatchResult};
-ghost use Rattle.std.specs.List.{AllByRecursion};
+ghost use Rattle.std.specs.Prelude.{◌≡◌, ℕ, ◌<◌, List, [], ◌∷◌, map, length, get_or, Some, None, IfOk, MatchOption, MatchResult};
+ghost use Rattle.std.specs.List.{AllByRecursion, AllZip};
 ghost use Rattle.std.specs.Option.{option_copied};
-ghost use Rattle.ca_claims.specs.Text.{Claim, patterns_of, HasGoodNumbers};
-ghost use Rattle.ca_claims.specs.Lines.{indices_of, claim_at};
+ghost use Rattle.ca_claims.specs.Text.{Claim as TextClaim, patterns_of, about, HasGoodNumbers};
+ghost use Rattle.ca_claims.specs.Lines.{path_at};
 ghost use Rattle.ca_claims.specs.Means.{contents, bytes_at};
-ghost use Rattle.ca_claims.specs.Answers.{HasCause, IsTrueVerdict, AreTrueAnswers};
+ghost use Rattle.ca_claims.specs.Answers.{SomeOf, HasCause, IsTrueVerdict, AreTrueAnswers};
+ghost use Rattle.ca_claims.specs.Patterns.{items, IsEachOnce};
 
+mod one_or_two;
 mod patterns;
 
-use crate::claims::{ClaimKind, Claims};
+use crate::claims::{Claim, Claims};
 use crate::decide::decide;
 use crate::file::File;
 use crate::verdict::{Answer, Cause, Verdict};
-use ca_plane::{Memory, Plane};
-use patterns::{has_large_state, read, rule_of};
+use ca_plane::Memory;
+use one_or_two::OneOrTwo;
+use patterns::{has_large_states, one_rule, planes, read_each, rules_of};
 use std::alloc::Global;
 
 /// One answer for each claim, in the order of their lines. Of two files with one path the first counts.
@@ -31,7 +34,7 @@ pub fn verify(alloc: Global, claims: &Claims, files: &[File<'_>]) -> Result<Vec<
     let mut answers = Vec::with_capacity(alloc, claims.claim_count())?;
     'claims: for index in 0..claims.claim_count() {
         let asked = claims.claim(index);
-        let verdict = verdict_of(judge(alloc, asked.claim, &found));
+        let verdict = verdict_of(judge(alloc, &asked.claim, &found));
         answers.push(Answer {
             line: asked.line,
             verdict,
@@ -61,7 +64,7 @@ fn find_files<'a>(
 
 // The verdict that was reached, or a refusal for the cause for which none was.
 fn verdict_of(judged: Result<Verdict, Cause>) -> Verdict
-    ensures { (files : List (List ℕ × List ℕ)) (claim : Claim) → MatchResult judged (IsTrueVerdict files claim) (HasCause files claim) → IsTrueVerdict files claim result }
+    ensures { (files : List (List ℕ × List ℕ)) (claim : TextClaim) → MatchResult judged (IsTrueVerdict files claim) (HasCause files (patterns_of claim)) → IsTrueVerdict files claim result }
 {
     match judged {
         Ok(verdict) => verdict,
@@ -71,77 +74,69 @@ fn verdict_of(judged: Result<Verdict, Cause>) -> Verdict
 
 // The verdict on a claim, where these are the bytes of the files with the paths of the text, or the cause for which there
 // is none.
-fn judge(alloc: Global, claim: ClaimKind, found: &[Option<&[u8]>]) -> Result<Verdict, Cause>
-    requires within { AllByRecursion (λ i. i < length found.now) (indices_of claim) }
-    requires numbers { (paths : List (List ℕ)) → HasGoodNumbers (claim_at paths claim) }
+fn judge(alloc: Global, claim: &Claim<usize>, found: &[Option<&[u8]>]) -> Result<Verdict, Cause>
+    requires within { AllByRecursion (λ i. i < length found.now) (patterns_of claim.now) }
+    requires numbers { HasGoodNumbers claim.now }
     ensures { (files : List (List ℕ × List ℕ)) (paths : List (List ℕ)) → map option_copied found.now ≡ map (bytes_at files) paths
-        → MatchResult result (IsTrueVerdict files (claim_at paths claim)) (HasCause files (claim_at paths claim)) }
+        → MatchResult result (IsTrueVerdict files (about (path_at paths) claim.now)) (HasCause files (patterns_of (about (path_at paths) claim.now))) }
 {
-    let (pattern, other) = indices(claim);
-    let Some(bytes) = found[pattern] else {
+    let Some(files) = files_at(&places_of(claim), found) else {
         return Err(Cause::NoFile);
     };
-    let Some(other) = other else {
-        return judge_alone(alloc, claim, bytes);
+    let patterns = read_each(alloc, &files)?;
+    let rules = match rules_of(&patterns) {
+        Ok(rules) => rules,
+        Err(fault) => return Err(Cause::BadRule(fault)),
     };
-    let Some(other_bytes) = found[other] else {
-        return Err(Cause::NoFile);
-    };
-    judge_pair(alloc, claim, bytes, other_bytes)
-}
-
-// The index of the path of the claim's pattern, and that of the other pattern that it may name.
-fn indices(claim: ClaimKind) -> (usize, Option<usize>)
-    ensures { MatchOption result.1 (indices_of claim ≡ result.0 ∷ []) (λ other. indices_of claim ≡ result.0 ∷ other ∷ []) }
-{
-    match claim {
-        ClaimKind::Still { pattern } => (pattern, None),
-        ClaimKind::Oscillator { pattern, .. } => (pattern, None),
-        ClaimKind::Spaceship { pattern, .. } => (pattern, None),
-        ClaimKind::Becomes { pattern, other, .. } => (pattern, Some(other)),
-    }
-}
-
-// The verdict on a claim about one pattern, whose file has these bytes.
-fn judge_alone(alloc: Global, claim: ClaimKind, bytes: &[u8]) -> Result<Verdict, Cause>
-    requires numbers { (paths : List (List ℕ)) → HasGoodNumbers (claim_at paths claim) }
-    ensures { (files : List (List ℕ × List ℕ)) (paths : List (List ℕ)) (path : List ℕ)
-        → patterns_of (claim_at paths claim) ≡ path ∷ [] → bytes_at files path ≡ Some bytes.now
-        → MatchResult result (IsTrueVerdict files (claim_at paths claim)) (HasCause files (claim_at paths claim)) }
-{
-    let pattern = read(alloc, bytes)?;
-    let rule = rule_of(&pattern)?;
-    if has_large_state(&pattern.cells) {
+    if has_large_states(&patterns) {
         return Err(Cause::StateTooLarge);
     }
-    let nothing = Plane::new(alloc);
-    Ok(decide(alloc, &rule, &pattern.cells, &nothing, claim))
-}
-
-// The verdict on a claim about two patterns, whose files have these bytes.
-fn judge_pair(
-    alloc: Global,
-    claim: ClaimKind,
-    bytes: &[u8],
-    other_bytes: &[u8],
-) -> Result<Verdict, Cause>
-    requires numbers { (paths : List (List ℕ)) → HasGoodNumbers (claim_at paths claim) }
-    ensures { (files : List (List ℕ × List ℕ)) (paths : List (List ℕ)) (path other_path : List ℕ)
-        → patterns_of (claim_at paths claim) ≡ path ∷ other_path ∷ []
-        → bytes_at files path ≡ Some bytes.now → bytes_at files other_path ≡ Some other_bytes.now
-        → MatchResult result (IsTrueVerdict files (claim_at paths claim)) (HasCause files (claim_at paths claim)) }
-{
-    let pattern = read(alloc, bytes)?;
-    let other = read(alloc, other_bytes)?;
-    let rule = rule_of(&pattern)?;
-    let other_rule = rule_of(&other)?;
-    if has_large_state(&pattern.cells) || has_large_state(&other.cells) {
-        return Err(Cause::StateTooLarge);
-    }
-    if !rule.same(&other_rule) {
+    let Some(rule) = one_rule(&rules) else {
         return Err(Cause::MixedRules);
+    };
+    let (cells, other) = planes(&patterns);
+    Ok(decide(alloc, &rule, cells, other, claim.asks()))
+}
+
+// The indices of the paths of a claim's patterns, each once.
+fn places_of(claim: &Claim<usize>) -> OneOrTwo<usize>
+    ensures { IsEachOnce (items result) (patterns_of claim.now) }
+{
+    match *claim {
+        Claim::Still { pattern } => OneOrTwo::One(pattern),
+        Claim::Oscillator { pattern, .. } => OneOrTwo::One(pattern),
+        Claim::Spaceship { pattern, .. } => OneOrTwo::One(pattern),
+        Claim::Becomes { pattern, other, .. } => each_once(pattern, other),
     }
-    Ok(decide(alloc, &rule, &pattern.cells, &other.cells, claim))
+}
+
+// One or both of two indices.
+fn each_once(first: usize, second: usize) -> OneOrTwo<usize>
+    ensures { IsEachOnce (items result) (first ∷ second ∷ []) }
+{
+    if first == second {
+        return OneOrTwo::One(first);
+    }
+    OneOrTwo::Two(first, second)
+}
+
+// The bytes at these indices, where all of them are there.
+fn files_at<'a>(places: &OneOrTwo<usize>, found: &[Option<&'a [u8]>]) -> Option<OneOrTwo<&'a [u8]>>
+    requires { AllByRecursion (λ i. i < length found.now) (items places.now) }
+    ensures { MatchOption result (SomeOf (λ i. get_or found.now i None ≡ None) (items places.now))
+        (λ files. AllZip (λ i b. get_or found.now i None ≡ Some b) (items places.now) (items files)) }
+{
+    match *places {
+        OneOrTwo::One(only) => {
+            let only = found[only]?;
+            Some(OneOrTwo::One(only))
+        }
+        OneOrTwo::Two(first, second) => {
+            let first = found[first]?;
+            let second = found[second]?;
+            Some(OneOrTwo::Two(first, second))
+        }
+    }
 }
 
 #[cfg(test)]

@@ -1,29 +1,30 @@
 //! A claim of a text, with the number of its line.
 
-/// What is claimed. A pattern is given by the index of its path among the text's paths.
+/// What is claimed of patterns, each of which is given by a `P`: by its name, or by the index of its path among the text's
+/// paths.
 #[derive(Clone, Copy, Debug, PartialEq, Eq)]
-pub(crate) enum ClaimKind {
+pub(crate) enum Claim<P> {
     /// The pattern is live, and one generation on it is what it was.
     Still {
-        pattern: usize,
+        pattern: P,
     },
     /// The pattern is live, it is back after the period, and at no time before that.
     Oscillator {
-        pattern: usize,
+        pattern: P,
         period: u64,
     },
     /// The pattern is live, after the period it is moved by the shift, and at no time before that is it back, however moved.
     Spaceship {
-        pattern: usize,
+        pattern: P,
         period: u64,
         dx: i64,
         dy: i64,
     },
     /// After the generations the pattern's plane is that of the other pattern, cell for cell.
     Becomes {
-        pattern: usize,
+        pattern: P,
         generations: u64,
-        other: usize,
+        other: P,
     },
 }
 
@@ -31,5 +32,5 @@ pub(crate) enum ClaimKind {
 #[derive(Clone, Copy, Debug, PartialEq, Eq)]
 pub(crate) struct ClaimLine {
     pub(crate) line: u64,
-    pub(crate) claim: ClaimKind,
+    pub(crate) claim: Claim<usize>,
 }

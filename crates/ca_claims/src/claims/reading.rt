@@ -4,13 +4,13 @@ ghost use Rattle.std.specs.Prelude.{◌≡◌, ℕ, ◌+◌, ◌∷◌, [], ◌+
 ghost use Rattle.ca_plane.specs.Bytes.{Every, is_line_end, words_of};
 ghost use Rattle.ca_claims.specs.Text.{Line, Load, Claims as Claiming, HasGoodNumbers, IsAllowed, IsClaimText, spoken, asked_by};
 ghost use Rattle.ca_claims.specs.TextFaults.{IsFirstFault};
-ghost use Rattle.ca_claims.specs.declared.claims.words.LineKind.TheVariants.{Claim};
+ghost use Rattle.ca_claims.specs.declared.claims.words.LineKind.TheVariants as kind;
 ghost use Rattle.ca_claims.specs.Reading.{IsKind, IsReading, SaysNext, HasFault, place_of, claim_of, AreKnown, at_places};
 
-use super::named::NamedClaim;
+use super::Claims;
+use super::line::{Claim, ClaimLine};
 use super::paths::Paths;
 use super::words::{LineKind, line_kind};
-use super::{ClaimKind, ClaimLine, Claims};
 use crate::ClaimFault;
 use ca_plane::bytes::next_line;
 use std::alloc::Global;
@@ -77,40 +77,40 @@ impl<'a> Reading<'a> {
     }
 
     /// The claim about the paths that lines have loaded its names from, where each is loaded.
-    fn placed(&self, claim: &NamedClaim<'a>) -> Option<ClaimKind>
+    fn placed(&self, claim: &Claim<&'a [u8]>) -> Option<Claim<usize>>
         ensures { MatchOption result (AreKnown (place_of self.now.names) (claim_of claim.now) → ⊥) (λ c. AreKnown (place_of self.now.names) (claim_of claim.now) × (c ≡ at_places (place_of self.now.names) (claim_of claim.now))) }
     {
         match *claim {
-            NamedClaim::Still { name } => {
-                let pattern = self.place(name)?;
-                Some(ClaimKind::Still { pattern })
+            Claim::Still { pattern } => {
+                let pattern = self.place(pattern)?;
+                Some(Claim::Still { pattern })
             }
-            NamedClaim::Oscillator { name, period } => {
-                let pattern = self.place(name)?;
-                Some(ClaimKind::Oscillator { pattern, period })
+            Claim::Oscillator { pattern, period } => {
+                let pattern = self.place(pattern)?;
+                Some(Claim::Oscillator { pattern, period })
             }
-            NamedClaim::Spaceship {
-                name,
+            Claim::Spaceship {
+                pattern,
                 period,
                 dx,
                 dy,
             } => {
-                let pattern = self.place(name)?;
-                Some(ClaimKind::Spaceship {
+                let pattern = self.place(pattern)?;
+                Some(Claim::Spaceship {
                     pattern,
                     period,
                     dx,
                     dy,
                 })
             }
-            NamedClaim::Becomes {
-                name,
+            Claim::Becomes {
+                pattern,
                 generations,
                 other,
             } => {
-                let pattern = self.place(name)?;
+                let pattern = self.place(pattern)?;
                 let other = self.place(other)?;
-                Some(ClaimKind::Becomes {
+                Some(Claim::Becomes {
                     pattern,
                     generations,
                     other,
@@ -120,13 +120,13 @@ impl<'a> Reading<'a> {
     }
 
     /// The line with this number makes the claim.
-    fn claim(&mut self, line: u64, claim: &NamedClaim<'a>) -> Result<(), ClaimFault>
+    fn claim(&mut self, line: u64, claim: &Claim<&'a [u8]>) -> Result<(), ClaimFault>
         requires { HasGoodNumbers (claim_of claim.now) }
         ensures claimed { OnOk result ((said : List (Option Line)) → IsReading said self.old → line ≡ length said + 1
             → IsAllowed (spoken said) (Claiming (claim_of claim.now))
             × IsReading (said ++ Some (Claiming (claim_of claim.now)) ∷ []) self.new) }
         ensures fault { IfErr result (λ f. (said : List (Option Line)) → IsReading said self.old
-            → (words : List (List ℕ)) → IsKind words (Claim claim.now) → HasFault line (spoken said) words f) }
+            → (words : List (List ℕ)) → IsKind words (kind.Claim claim.now) → HasFault line (spoken said) words f) }
     {
         let Some(claim) = self.placed(claim) else {
             return Err(ClaimFault::UnknownName { line });

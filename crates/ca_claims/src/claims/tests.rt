@@ -1,4 +1,4 @@
-use super::ClaimKind;
+use super::Claim;
 use crate::{ClaimFault, read_claims};
 use std::alloc::Global;
 use std::test::*;
@@ -90,25 +90,25 @@ fn numbers_at_their_limits(rt: HostRuntime) -> Result<(), Fail> {
         b"load a p\noscillator a 4294967295\nbecomes a 1152921504606846976 a\nspaceship a 1 -1152921504606846976 0\nspaceship a 0004 -000 1152921504606846976\n";
     let claims = read_claims(rt.alloc(), text).ok().ok_or("four claims")?;
     assert_eq!(rt; claims.claim_count(), 4);
-    let oscillator = ClaimKind::Oscillator {
+    let oscillator = Claim::Oscillator {
         pattern: 0,
         period: 4294967295,
     };
     assert_eq!(rt; claims.claim(0).claim, oscillator);
-    let becomes = ClaimKind::Becomes {
+    let becomes = Claim::Becomes {
         pattern: 0,
         generations: 1152921504606846976,
         other: 0,
     };
     assert_eq!(rt; claims.claim(1).claim, becomes);
-    let left = ClaimKind::Spaceship {
+    let left = Claim::Spaceship {
         pattern: 0,
         period: 1,
         dx: -1152921504606846976,
         dy: 0,
     };
     assert_eq!(rt; claims.claim(2).claim, left);
-    let down = ClaimKind::Spaceship {
+    let down = Claim::Spaceship {
         pattern: 0,
         period: 4,
         dx: 0,
@@ -123,7 +123,7 @@ fn two_names(rt: HostRuntime) -> Result<(), Fail> {
     let text = b"load a p\nload b q\nload c p\nbecomes b 0 c\n";
     let claims = read_claims(rt.alloc(), text).ok().ok_or("one claim")?;
     assert_eq!(rt; claims.claim_count(), 1);
-    let becomes = ClaimKind::Becomes {
+    let becomes = Claim::Becomes {
         pattern: 1,
         generations: 0,
         other: 0,
@@ -164,9 +164,9 @@ fn lines_are_counted(rt: HostRuntime) -> Result<(), Fail> {
     assert_eq!(rt; claims.claim_count(), 2);
     let first = claims.claim(0);
     assert_eq!(rt; first.line, 6);
-    assert_eq!(rt; first.claim, ClaimKind::Still { pattern: 1 });
+    assert_eq!(rt; first.claim, Claim::Still { pattern: 1 });
     let second = claims.claim(1);
     assert_eq!(rt; second.line, 8);
-    assert_eq!(rt; second.claim, ClaimKind::Still { pattern: 0 });
+    assert_eq!(rt; second.claim, Claim::Still { pattern: 0 });
     Ok(())
 }

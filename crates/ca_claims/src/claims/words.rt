@@ -2,10 +2,10 @@
 
 ghost use Rattle.std.specs.Prelude.{◌≡◌, ◌≢◌, ℕ, ◌<◌, List, [], ◌∷◌, not, length, codes, MatchOption, IfSome};
 ghost use Rattle.ca_plane.specs.Bytes.{Every, is_line_end, lines_of, words_of};
-ghost use Rattle.ca_claims.specs.Text.{Claim, Claims, WordsSay, is_skipped};
+ghost use Rattle.ca_claims.specs.Text.{Claim as TextClaim, Claims, WordsSay, is_skipped};
 ghost use Rattle.ca_claims.specs.Reading.{IsKind, MakesClaim};
 
-use super::named::NamedClaim;
+use super::line::Claim;
 use super::numbers::integer_of;
 use ca_plane::bytes::{next_word, whole_number};
 
@@ -59,7 +59,7 @@ pub(crate) enum LineKind<'a> {
     /// `load NAME PATH`.
     Load { name: &'a [u8], path: &'a [u8] },
     /// A claim, whose numbers are within their limits.
-    Claim(NamedClaim<'a>),
+    Claim(Claim<&'a [u8]>),
     /// A claim with a number outside its limits.
     OutsideLimits,
     /// Anything else.
@@ -109,9 +109,9 @@ fn load(words: &[u8]) -> LineKind<'_>
 }
 
 /// The claim that a keyword and the words behind it make.
-fn claim<'a>(keyword: &[u8], words: &'a [u8]) -> Option<NamedClaim<'a>>
+fn claim<'a>(keyword: &[u8], words: &'a [u8]) -> Option<Claim<&'a [u8]>>
     requires { Every (λ b. not (is_line_end b)) words.now }
-    ensures { MatchOption result ((c : Claim) → WordsSay (keyword.now ∷ words_of words.now) (Claims c) → ⊥) (λ c. MakesClaim (keyword.now ∷ words_of words.now) c) }
+    ensures { MatchOption result ((c : TextClaim) → WordsSay (keyword.now ∷ words_of words.now) (Claims c) → ⊥) (λ c. MakesClaim (keyword.now ∷ words_of words.now) c) }
 {
     if keyword == b"still".as_slice() {
         return still(words);
@@ -129,35 +129,38 @@ fn claim<'a>(keyword: &[u8], words: &'a [u8]) -> Option<NamedClaim<'a>>
 }
 
 /// The claim of a line whose keyword is `still`, by the words behind that.
-fn still(words: &[u8]) -> Option<NamedClaim<'_>>
+fn still(words: &[u8]) -> Option<Claim<&[u8]>>
     requires { Every (λ b. not (is_line_end b)) words.now }
-    ensures { MatchOption result ((c : Claim) → WordsSay (codes "still" ∷ words_of words.now) (Claims c) → ⊥) (λ c. MakesClaim (codes "still" ∷ words_of words.now) c) }
+    ensures { MatchOption result ((c : TextClaim) → WordsSay (codes "still" ∷ words_of words.now) (Claims c) → ⊥) (λ c. MakesClaim (codes "still" ∷ words_of words.now) c) }
 {
     let name = one_word(words)?;
-    Some(NamedClaim::Still { name })
+    Some(Claim::Still { pattern: name })
 }
 
 /// The claim of a line whose keyword is `oscillator`, by the words behind that.
-fn oscillator(words: &[u8]) -> Option<NamedClaim<'_>>
+fn oscillator(words: &[u8]) -> Option<Claim<&[u8]>>
     requires { Every (λ b. not (is_line_end b)) words.now }
-    ensures { MatchOption result ((c : Claim) → WordsSay (codes "oscillator" ∷ words_of words.now) (Claims c) → ⊥) (λ c. MakesClaim (codes "oscillator" ∷ words_of words.now) c) }
+    ensures { MatchOption result ((c : TextClaim) → WordsSay (codes "oscillator" ∷ words_of words.now) (Claims c) → ⊥) (λ c. MakesClaim (codes "oscillator" ∷ words_of words.now) c) }
 {
     let (name, period) = two_words(words)?;
     let period = whole_number(period)?;
-    Some(NamedClaim::Oscillator { name, period })
+    Some(Claim::Oscillator {
+        pattern: name,
+        period,
+    })
 }
 
 /// The claim of a line whose keyword is `spaceship`, by the words behind that.
-fn spaceship(words: &[u8]) -> Option<NamedClaim<'_>>
+fn spaceship(words: &[u8]) -> Option<Claim<&[u8]>>
     requires { Every (λ b. not (is_line_end b)) words.now }
-    ensures { MatchOption result ((c : Claim) → WordsSay (codes "spaceship" ∷ words_of words.now) (Claims c) → ⊥) (λ c. MakesClaim (codes "spaceship" ∷ words_of words.now) c) }
+    ensures { MatchOption result ((c : TextClaim) → WordsSay (codes "spaceship" ∷ words_of words.now) (Claims c) → ⊥) (λ c. MakesClaim (codes "spaceship" ∷ words_of words.now) c) }
 {
     let (name, period, dx, dy) = four_words(words)?;
     let period = whole_number(period)?;
     let dx = integer_of(dx)?;
     let dy = integer_of(dy)?;
-    Some(NamedClaim::Spaceship {
-        name,
+    Some(Claim::Spaceship {
+        pattern: name,
         period,
         dx,
         dy,
@@ -165,14 +168,14 @@ fn spaceship(words: &[u8]) -> Option<NamedClaim<'_>>
 }
 
 /// The claim of a line whose keyword is `becomes`, by the words behind that.
-fn becomes(words: &[u8]) -> Option<NamedClaim<'_>>
+fn becomes(words: &[u8]) -> Option<Claim<&[u8]>>
     requires { Every (λ b. not (is_line_end b)) words.now }
-    ensures { MatchOption result ((c : Claim) → WordsSay (codes "becomes" ∷ words_of words.now) (Claims c) → ⊥) (λ c. MakesClaim (codes "becomes" ∷ words_of words.now) c) }
+    ensures { MatchOption result ((c : TextClaim) → WordsSay (codes "becomes" ∷ words_of words.now) (Claims c) → ⊥) (λ c. MakesClaim (codes "becomes" ∷ words_of words.now) c) }
 {
     let (name, generations, other) = three_words(words)?;
     let generations = whole_number(generations)?;
-    Some(NamedClaim::Becomes {
-        name,
+    Some(Claim::Becomes {
+        pattern: name,
         generations,
         other,
     })

@@ -1,48 +1,48 @@
 //! A run of generations, watched for an earlier return of the pattern.
 
-ghost use Rattle.std.specs.Prelude.{◌≡◌, ℕ, ◌+◌, ◌≤◌, ◌<◌, ◌^◌, ℤ, List, IfOk, MatchOption};
+ghost use Rattle.std.specs.Prelude.{◌≡◌, ◌≢◌, ℕ, ◌+◌, ◌≤◌, ◌<◌, ℤ, List, IfOk, IsTrue, MatchOption};
 ghost use Rattle.std.specs.List.{All};
 ghost use Rattle.ca_plane.specs.Plane.{cell, IsLive};
 ghost use Rattle.ca_plane.specs.Generations.{after};
 ghost use Rattle.ca_plane.specs.Sparse.{IsSparse};
 ghost use Rattle.ca_run.specs.Reach.{LeavesReach};
 ghost use Rattle.ca_rle.specs.Limits.{IsInRange};
-ghost use Rattle.ca_claims.specs.Lines.{claim_at};
-ghost use Rattle.ca_claims.specs.Truth.{WantsLive, IsAfter};
+ghost use Rattle.ca_claims.specs.declared.claims.asks.Barred.TheVariants.{Nothing};
+ghost use Rattle.ca_claims.specs.Truth.{IsAfter};
+ghost use Rattle.ca_claims.specs.Decided.{IsBounded};
 ghost use Rattle.ca_claims.specs.Returns.{IsNotAgain, IsAgain, IsNotBackBefore, IsFirstReturn};
 
 use super::moves::vector_between;
-use crate::claims::ClaimKind;
+use crate::claims::{Asks, Barred};
 use crate::verdict::Why;
 use ca_plane::{Automaton, Memory, Plane};
 use ca_run::{RunFault, step};
 use std::alloc::Global;
 
-/// The plane after some generations, and the first return of the pattern before that, where the claim asks that it isn't
-/// back.
+/// The plane after the generations that a claim speaks of, and the first return of the pattern before that, where it is
+/// barred.
 pub(crate) fn run<A: Automaton>(
     alloc: Global,
     rule: &A,
     cells: &Plane,
-    claim: ClaimKind,
-    gens: u64,
+    asks: Asks,
 ) -> Result<(Plane, Option<Why>), Memory>
     requires states { All (λ e. e.1 < A.state_count rule.now) cells.now }
     requires range { All (λ e. IsInRange e.0) cells.now }
-    requires live { (paths : List (List ℕ)) → WantsLive (claim_at paths claim) → IsLive cells.now }
-    requires some { 1 ≤ gens }
-    requires few { gens ≤ 2 ^ 60 }
-    ensures end { IfOk result (λ r. IsAfter (A.next_of rule.now) cells.now gens r.0) }
-    ensures earlier { IfOk result (λ r. (paths : List (List ℕ)) → MatchOption r.1
-        (IsNotBackBefore (A.next_of rule.now) cells.now (claim_at paths claim) gens)
-        (IsFirstReturn (A.next_of rule.now) cells.now (claim_at paths claim) gens)) }
+    requires live { IsTrue asks.live → IsLive cells.now }
+    requires some { 1 ≤ asks.generations }
+    requires bounded { IsBounded asks }
+    ensures end { IfOk result (λ r. IsAfter (A.next_of rule.now) cells.now asks.generations r.0) }
+    ensures earlier { IfOk result (λ r. MatchOption r.1
+        (IsNotBackBefore (A.next_of rule.now) cells.now asks.barred asks.generations)
+        (IsFirstReturn (A.next_of rule.now) cells.now asks.barred asks.generations)) }
 {
     // A rule that tells its states is sound: where all is empty, nothing is born.
     let _states = rule.states();
     let mut now = stepped(alloc, rule, cells)?;
     let mut earlier = None;
-    'times: for m in 1..gens {
-        earlier = first_return(earlier, cells, &now, claim, m);
+    'times: for m in 1..asks.generations {
+        earlier = first_return(earlier, cells, &now, asks.barred, m);
         now = stepped(alloc, rule, &now)?;
     }
     Ok((now, earlier))
@@ -68,38 +68,38 @@ fn first_return(
     earlier: Option<Why>,
     cells: &Plane,
     now: &Plane,
-    claim: ClaimKind,
+    barred: Barred,
     m: u64,
 ) -> Option<Why>
     requires range { All (λ e. IsInRange e.0) cells.now }
-    requires live { (paths : List (List ℕ)) → WantsLive (claim_at paths claim) → IsLive cells.now }
+    requires live { barred ≢ Nothing → IsLive cells.now }
     requires sparse { IsSparse now.now }
     requires some { 1 ≤ m }
-    ensures { (next : List ℕ → ℕ) (paths : List (List ℕ)) → IsAfter next cells.now m now.now
-        → MatchOption earlier (IsNotBackBefore next cells.now (claim_at paths claim) m) (IsFirstReturn next cells.now (claim_at paths claim) m)
-        → MatchOption result (IsNotBackBefore next cells.now (claim_at paths claim) (m + 1)) (IsFirstReturn next cells.now (claim_at paths claim) (m + 1)) }
+    ensures { (next : List ℕ → ℕ) → IsAfter next cells.now m now.now
+        → MatchOption earlier (IsNotBackBefore next cells.now barred m) (IsFirstReturn next cells.now barred m)
+        → MatchOption result (IsNotBackBefore next cells.now barred (m + 1)) (IsFirstReturn next cells.now barred (m + 1)) }
 {
     if let Some(why) = earlier {
         return Some(why);
     }
-    let (dx, dy) = vector_back(cells, now, claim)?;
+    let (dx, dy) = vector_back(cells, now, barred)?;
     Some(Why::Earlier { m, dx, dy })
 }
 
-// The vector by which the plane is the pattern's again, if it is and the claim asks that it isn't back.
+// The vector by which the plane is the pattern's again, if it is and that is barred.
 #[tactic(auto, using(crate::proofs::Times::cell_shifted_0))]
-fn vector_back(cells: &Plane, now: &Plane, claim: ClaimKind) -> Option<(i64, i64)>
+fn vector_back(cells: &Plane, now: &Plane, barred: Barred) -> Option<(i64, i64)>
     requires range { All (λ e. IsInRange e.0) cells.now }
-    requires live { (paths : List (List ℕ)) → WantsLive (claim_at paths claim) → IsLive cells.now }
+    requires live { barred ≢ Nothing → IsLive cells.now }
     requires sparse { IsSparse now.now }
-    ensures { (paths : List (List ℕ)) → MatchOption result (IsNotAgain (claim_at paths claim) cells.now now.now) (IsAgain (claim_at paths claim) cells.now now.now) }
+    ensures { MatchOption result (IsNotAgain barred cells.now now.now) (IsAgain barred cells.now now.now) }
 {
-    match claim {
-        ClaimKind::Still { .. } | ClaimKind::Becomes { .. } => None,
-        ClaimKind::Oscillator { .. } => match now.difference(cells) {
+    match barred {
+        Barred::Nothing => None,
+        Barred::InPlace => match now.difference(cells) {
             None => Some((0, 0)),
             Some(_) => None,
         },
-        ClaimKind::Spaceship { .. } => vector_between(cells, now),
+        Barred::Anywhere => vector_between(cells, now),
     }
 }

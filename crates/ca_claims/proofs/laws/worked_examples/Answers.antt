@@ -3,7 +3,8 @@ use Rattle.std.specs.Prelude.{pos, neg_ℤ}
 use Rattle.std.proofs.lemmas.Bool.{false≢true}
 use Rattle.std.proofs.lemmas.Int.{ints}
 use Rattle.ca_plane.specs.Bytes.{AreDigits}
-use Rattle.ca_claims.specs.Text.{Still, Oscillator, Spaceship, Becomes, Line, Load, Claims, WordsSay, HasGoodNumbers}
+use Rattle.ca_claims.specs.declared.claims.line.Claim.TheVariants.{Still, Oscillator, Spaceship, Becomes}
+use Rattle.ca_claims.specs.Text.{Line, Load, Claims, WordsSay, HasGoodNumbers}
 use Rattle.ca_claims.proofs.laws.worked_examples.Goals as goal
 
 -- one cell to the left and two down, in four generations

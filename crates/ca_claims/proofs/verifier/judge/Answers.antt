@@ -1,35 +1,106 @@
-use Rattle.std.proofs.Common.{length}
-use Rattle.ca_claims.specs.Lines.{path_at, claim_at}
-use Rattle.ca_claims.proofs.Judged.{one_path, two_paths, first_path, first_within, second_within, bytes_found, no_file, no_file_second}
+use Rattle.std.proofs.Common.{◌<◌, length, map, refl, subst, sym}
+use Rattle.ca_rule.specs.Next.{next_of}
+use Rattle.ca_claims.specs.declared.verdict.Cause.TheVariants.{NoFile, BadRule, StateTooLarge, MixedRules}
+use Rattle.ca_claims.specs.Text.{patterns_of, about}
+use Rattle.ca_claims.specs.Lines.{path_at}
+use Rattle.ca_claims.specs.Patterns.{items}
+use Rattle.ca_claims.specs.Decided.{IsBounded, IsDecided}
+use Rattle.ca_claims.proofs.Times.{asks_bounded}
+use Rattle.ca_claims.proofs.Causes.{once_paths, once_all, found_there, found_missing, cause_of_all, read_at, unread, unnamed, too_large, mixed_rules, passed_on, true_verdict, planes_small, planes_in_range}
 use Rattle.ca_claims.proofs.verifier.judge.Goals as goal
 
 pub returns-in_default : goal.returns-in_default
 returns-in_default c = λ files paths e.
-    let i = c.indices-pattern.result.0 in
-    let first = first_path paths c.args.claim i c.indices-pattern.result.1 c.indices-pattern.ensures in
-    let within = first_within c.args.claim (length c.args.found.now) i c.indices-pattern.result.1 c.requires.within c.indices-pattern.ensures in
-    no_file files (claim_at paths c.args.claim) (path_at paths i) first.0 first.1 (bytes_found files paths c.args.found.now i _ e within c.in_default.is)
+    let claim = c.args.claim.now in
+    let places = items c.places_of.result in
+    let each = map (path_at paths) places in
+    let all = patterns_of (about (path_at paths) claim) in
+    let once = once_paths paths claim places c.places_of.ensures in
+    let within = once_all (λ i. i < length c.args.found.now) places (patterns_of claim) c.places_of.ensures c.requires.within in
+    cause_of_all files each all NoFile once (found_missing files paths c.args.found.now e places within c.in_default.ensures)
 
-pub returns-in_default-other : goal.returns-in_default-other
-returns-in_default-other c = λ files paths e.
-    let i = c.indices-pattern.result.0 in
-    let within = first_within c.args.claim (length c.args.found.now) i c.indices-pattern.result.1 c.requires.within c.indices-pattern.ensures in
-    c.judge_alone.ensures files paths (path_at paths i) (one_path paths c.args.claim i c.indices-pattern.result.1 c.in_default-other.is c.indices-pattern.ensures)
-    (bytes_found files paths c.args.found.now i _ e within c.in-Some.is)
+pub returns-in_err-patterns : goal.returns-in_err-patterns
+returns-in_err-patterns c = λ files paths e.
+    let claim = c.args.claim.now in
+    let places = items c.places_of.result in
+    let each = map (path_at paths) places in
+    let all = patterns_of (about (path_at paths) claim) in
+    let once = once_paths paths claim places c.places_of.ensures in
+    let within = once_all (λ i. i < length c.args.found.now) places (patterns_of claim) c.places_of.ensures c.requires.within in
+    let files_there = items c.in-Some.files in
+    let there = found_there files paths c.args.found.now e places files_there within c.in-Some.ensures in
+    let cause = c.in_err-patterns.field-0.0 in
+    passed_on files (about (path_at paths) claim) c.from_residual.result cause c.from_residual.ensures.1
+    (cause_of_all files each all cause once (unread files each files_there cause there c.in_err-patterns.ensures.unread))
 
-pub returns-in_default-found : goal.returns-in_default-found
-returns-in_default-found c = λ files paths e.
-    let i = c.indices-pattern.result.0 in
-    let j = c.in-Some-other.other in
-    let within = second_within c.args.claim (length c.args.found.now) i j c.indices-pattern.result.1 c.requires.within c.in-Some-other.is c.indices-pattern.ensures in
-    no_file_second files (claim_at paths c.args.claim) (path_at paths i) (path_at paths j)
-    (two_paths paths c.args.claim i j c.indices-pattern.result.1 c.in-Some-other.is c.indices-pattern.ensures) (bytes_found files paths c.args.found.now j _ e within c.in_default-found.is)
+pub returns-in-Err : goal.returns-in-Err
+returns-in-Err c = λ files paths e.
+    let claim = c.args.claim.now in
+    let places = items c.places_of.result in
+    let each = map (path_at paths) places in
+    let all = patterns_of (about (path_at paths) claim) in
+    let once = once_paths paths claim places c.places_of.ensures in
+    let within = once_all (λ i. i < length c.args.found.now) places (patterns_of claim) c.places_of.ensures c.requires.within in
+    let files_there = items c.in-Some.files in
+    let there = found_there files paths c.args.found.now e places files_there within c.in-Some.ensures in
+    let patterns = items c.in_ok-patterns.patterns in
+    let read = read_at files each files_there patterns there c.in_ok-patterns.ensures.read in
+    cause_of_all files each all (BadRule c.in-Err.fault) once (unnamed files each patterns read c.in-Err.fault c.in-Err.ensures.unnamed)
+
+pub returns-then-has_large_states : goal.returns-then-has_large_states
+returns-then-has_large_states c = λ files paths e.
+    let claim = c.args.claim.now in
+    let places = items c.places_of.result in
+    let each = map (path_at paths) places in
+    let all = patterns_of (about (path_at paths) claim) in
+    let once = once_paths paths claim places c.places_of.ensures in
+    let within = once_all (λ i. i < length c.args.found.now) places (patterns_of claim) c.places_of.ensures c.requires.within in
+    let files_there = items c.in-Some.files in
+    let there = found_there files paths c.args.found.now e places files_there within c.in-Some.ensures in
+    let patterns = items c.in_ok-patterns.patterns in
+    let read = read_at files each files_there patterns there c.in_ok-patterns.ensures.read in
+    cause_of_all files each all StateTooLarge once (too_large files each patterns read (items c.in-Ok.rules) c.in-Ok.ensures.named (c.if-has_large_states.ensures.large refl))
+
+pub returns-in_default-one_rule : goal.returns-in_default-one_rule
+returns-in_default-one_rule c = λ files paths e.
+    let claim = c.args.claim.now in
+    let places = items c.places_of.result in
+    let each = map (path_at paths) places in
+    let all = patterns_of (about (path_at paths) claim) in
+    let once = once_paths paths claim places c.places_of.ensures in
+    let within = once_all (λ i. i < length c.args.found.now) places (patterns_of claim) c.places_of.ensures c.requires.within in
+    let files_there = items c.in-Some.files in
+    let there = found_there files paths c.args.found.now e places files_there within c.in-Some.ensures in
+    let patterns = items c.in_ok-patterns.patterns in
+    let read = read_at files each files_there patterns there c.in_ok-patterns.ensures.read in
+    cause_of_all files each all MixedRules once
+    (mixed_rules files each patterns (items c.in-Ok.rules) read c.in-Ok.ensures.named (c.if-has_large_states.ensures.small refl) c.in_default-one_rule.ensures)
+
+pub decide-requires-clause-states : goal.decide-requires-clause-states
+decide-requires-clause-states c =
+    planes_small c.in_ok-patterns.patterns (items c.in-Some.files) c.planes.result.0.now c.planes.result.1.now c.in_ok-patterns.ensures.read (c.if-has_large_states.ensures.small refl) c.planes.ensures
+
+pub decide-requires-clause-range : goal.decide-requires-clause-range
+decide-requires-clause-range c = (planes_in_range c.in_ok-patterns.patterns (items c.in-Some.files) c.planes.result.0.now c.planes.result.1.now c.in_ok-patterns.ensures.read c.planes.ensures).0
+
+pub decide-requires-clause-other_range : goal.decide-requires-clause-other_range
+decide-requires-clause-other_range c = (planes_in_range c.in_ok-patterns.patterns (items c.in-Some.files) c.planes.result.0.now c.planes.result.1.now c.in_ok-patterns.ensures.read c.planes.ensures).1
+
+pub decide-requires-clause-bounded : goal.decide-requires-clause-bounded
+decide-requires-clause-bounded c = subst IsBounded (sym c.asks.ensures) (asks_bounded c.args.claim.now c.requires.numbers)
 
 pub returns : goal.returns
 returns c = λ files paths e.
-    let i = c.indices-pattern.result.0 in
-    let j = c.in-Some-other.other in
-    let within = first_within c.args.claim (length c.args.found.now) i c.indices-pattern.result.1 c.requires.within c.indices-pattern.ensures in
-    let other_within = second_within c.args.claim (length c.args.found.now) i j c.indices-pattern.result.1 c.requires.within c.in-Some-other.is c.indices-pattern.ensures in
-    c.judge_pair.ensures files paths (path_at paths i) (path_at paths j) (two_paths paths c.args.claim i j c.indices-pattern.result.1 c.in-Some-other.is c.indices-pattern.ensures)
-    (bytes_found files paths c.args.found.now i _ e within c.in-Some.is) (bytes_found files paths c.args.found.now j _ e other_within c.in-Some-found.is)
+    let claim = c.args.claim.now in
+    let places = items c.places_of.result in
+    let each = map (path_at paths) places in
+    let once = once_paths paths claim places c.places_of.ensures in
+    let within = once_all (λ i. i < length c.args.found.now) places (patterns_of claim) c.places_of.ensures c.requires.within in
+    let files_there = items c.in-Some.files in
+    let there = found_there files paths c.args.found.now e places files_there within c.in-Some.ensures in
+    let patterns = items c.in_ok-patterns.patterns in
+    let read = read_at files each files_there patterns there c.in_ok-patterns.ensures.read in
+    let rule = c.in-Some-one_rule.rule in
+    true_verdict files paths claim each c.in_ok-patterns.patterns (items c.in-Ok.rules) c.planes.result.0.now c.planes.result.1.now rule c.decide.result
+    once read c.in-Ok.ensures.named (c.if-has_large_states.ensures.small refl) c.in-Some-one_rule.ensures c.planes.ensures
+    (subst (λ asks. IsDecided (next_of rule.hood rule.birth rule.survival) c.planes.result.0.now c.planes.result.1.now asks c.decide.result) c.asks.ensures c.decide.ensures)

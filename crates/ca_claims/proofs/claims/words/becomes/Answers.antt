@@ -1,7 +1,7 @@
 use Rattle.std.proofs.Common.{refl, ap, codes, ◌∷◌}
 use Rattle.ca_plane.specs.Bytes.{value}
-use Rattle.ca_claims.specs.Text.{Becomes}
-use Rattle.ca_claims.proofs.Held.{held_becomes}
+use Rattle.ca_claims.specs.declared.claims.line.Claim.TheVariants.{Becomes}
+use Rattle.ca_claims.proofs.HeldNumbers.{held_becomes}
 use Rattle.ca_claims.proofs.claims.words.becomes.Goals as goal
 
 pub returns : goal.returns

@@ -1,7 +1,7 @@
 use Rattle.std.proofs.Common.{refl, ap, codes, ◌∷◌}
 use Rattle.ca_plane.specs.Bytes.{value}
-use Rattle.ca_claims.specs.Text.{Oscillator}
-use Rattle.ca_claims.proofs.Held.{held_oscillator}
+use Rattle.ca_claims.specs.declared.claims.line.Claim.TheVariants.{Oscillator}
+use Rattle.ca_claims.proofs.HeldNumbers.{held_oscillator}
 use Rattle.ca_claims.proofs.claims.words.oscillator.Goals as goal
 
 pub returns : goal.returns

@@ -1,7 +1,7 @@
 use Rattle.std.proofs.Common.{◌∷◌, codes, refl, ap}
 use Rattle.ca_plane.specs.Bytes.{words_of, value}
-use Rattle.ca_claims.specs.Text.{Spaceship}
-use Rattle.ca_claims.proofs.Held.{no_right, no_down, held_spaceship}
+use Rattle.ca_claims.specs.declared.claims.line.Claim.TheVariants.{Spaceship}
+use Rattle.ca_claims.proofs.HeldNumbers.{no_right, no_down, held_spaceship}
 use Rattle.ca_claims.proofs.claims.words.spaceship.Goals as goal
 
 pub returns-in_err-dx : goal.returns-in_err-dx

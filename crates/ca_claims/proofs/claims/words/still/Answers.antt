@@ -1,6 +1,6 @@
 use Rattle.std.proofs.Common.{ap, codes, ◌∷◌}
-use Rattle.ca_claims.specs.Text.{Still}
-use Rattle.ca_claims.proofs.Held.{held_same}
+use Rattle.ca_claims.specs.declared.claims.line.Claim.TheVariants.{Still}
+use Rattle.ca_claims.proofs.HeldNumbers.{held_same}
 use Rattle.ca_claims.proofs.claims.words.still.Goals as goal
 
 pub returns : goal.returns

@@ -1,7 +1,6 @@
-use Rattle.std.proofs.Common.{ℕ, ◌<◌, List, MatchOption}
+use Rattle.std.proofs.Common.{◌<◌, MatchOption}
 use Rattle.std.specs.List.{All}
 use Rattle.ca_plane.specs.Sparse.{IsSparse}
-use Rattle.ca_claims.specs.Lines.{claim_at}
 use Rattle.ca_claims.specs.Truth.{IsAfter}
 use Rattle.ca_claims.specs.Returns.{IsNotBackBefore, IsFirstReturn}
 use Rattle.ca_claims.proofs.decide.run.run.Given as goal
@@ -12,7 +11,7 @@ invariant-times g l = record {
   shows : IsAfter (g.A.Automaton.next_of l.rule) l.cells l.m l.now;
   states : All (λ e. e.1 < g.A.Automaton.state_count l.rule) l.now;
   sparse : IsSparse l.now;
-  earlier : (paths : List (List ℕ)) → MatchOption l.earlier
-      (IsNotBackBefore (g.A.Automaton.next_of l.rule) l.cells (claim_at paths l.fn.claim) l.m)
-      (IsFirstReturn (g.A.Automaton.next_of l.rule) l.cells (claim_at paths l.fn.claim) l.m);
+  earlier : MatchOption l.earlier
+      (IsNotBackBefore (g.A.Automaton.next_of l.rule) l.cells l.fn.asks.barred l.m)
+      (IsFirstReturn (g.A.Automaton.next_of l.rule) l.cells l.fn.asks.barred l.m);
 }

@@ -1,7 +1,7 @@
 use Rattle.std.proofs.Common.{subst}
 use Rattle.std.specs.List.{IsDistinct}
 use Rattle.std.specs.Str.{bytes_eq}
-use Rattle.ca_claims.proofs.Found.{distinct_items}
+use Rattle.ca_claims.proofs.FoundFiles.{distinct_items}
 use Rattle.ca_claims.proofs.claims.paths.Paths.len.Goals as goal
 
 pub returns-clause-distinct : goal.returns-clause-distinct

@@ -1,8 +1,9 @@
-//! Claims about patterns that are given by their names.
+//! The limits of a claim's numbers.
 
 ghost use Rattle.std.specs.Prelude.{◌≡◌, ◌≤◌, ◌<◌, ◌^◌, pos, IsTrue, ◌↔◌};
 ghost use Rattle.ca_claims.specs.Text.{HasGoodNumbers, IsShift};
-ghost use Rattle.ca_claims.specs.Reading.{claim_of};
+
+use super::line::Claim;
 
 // The longest period.
 const LONGEST_PERIOD: u64 = (1 << 32) - 1;
@@ -11,43 +12,16 @@ const MOST_GENERATIONS: u64 = 1 << 60;
 // The greatest shift in one direction.
 const GREATEST_SHIFT: i64 = 1 << 60;
 
-/// What a line claims, of patterns that are given by their names.
-#[derive(Clone, Copy, Debug)]
-pub(crate) enum NamedClaim<'a> {
-    /// `still NAME`.
-    Still {
-        name: &'a [u8],
-    },
-    /// `oscillator NAME P`.
-    Oscillator {
-        name: &'a [u8],
-        period: u64,
-    },
-    /// `spaceship NAME P DX DY`.
-    Spaceship {
-        name: &'a [u8],
-        period: u64,
-        dx: i64,
-        dy: i64,
-    },
-    /// `becomes NAME N NAME2`.
-    Becomes {
-        name: &'a [u8],
-        generations: u64,
-        other: &'a [u8],
-    },
-}
-
-impl NamedClaim<'_> {
+impl<P> Claim<P> {
     /// Whether the claim's numbers are within their limits.
     pub(crate) fn has_good_numbers(&self) -> bool
-        ensures { IsTrue result ↔ HasGoodNumbers (claim_of self.now) }
+        ensures { IsTrue result ↔ HasGoodNumbers self.now }
     {
         match *self {
-            NamedClaim::Still { .. } => true,
-            NamedClaim::Oscillator { period, .. } => is_period(2, period),
-            NamedClaim::Spaceship { period, dx, dy, .. } => is_period(1, period) && is_move(dx, dy),
-            NamedClaim::Becomes { generations, .. } => generations <= MOST_GENERATIONS,
+            Claim::Still { .. } => true,
+            Claim::Oscillator { period, .. } => is_period(2, period),
+            Claim::Spaceship { period, dx, dy, .. } => is_period(1, period) && is_move(dx, dy),
+            Claim::Becomes { generations, .. } => generations <= MOST_GENERATIONS,
         }
     }
 }

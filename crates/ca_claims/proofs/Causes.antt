@@ -1,0 +1,281 @@
+-- Why a claim isn't judged, and its verdict where it is, from the patterns of its files.
+use Rattle.std.proofs.Common.{◌≡◌, ℕ, zero, suc, ◌<◌, List, [], ◌∷◌, map, length, get_or, Bor, Option, Some, None, Result, refl, sym, ap, subst, ◌∙◌, inl, inr, arith}
+use Rattle.std.specs.List.{All, AllByRecursion, AllZip}
+use Rattle.std.specs.Option.{option_copied}
+use Rattle.std.specs.Result.{MatchResult, IsErrAnd}
+use Rattle.std.proofs.lemmas.Result.{err_from_is_err_and}
+use Rattle.ca_plane.specs.Plane.{Picture, IsSame}
+use Rattle.ca_rule.specs.declared.bs_rule.BsRule.{BsRule}
+use Rattle.ca_rule.specs.declared.fault.RuleFault.{RuleFault}
+use Rattle.ca_rule.specs.Next.{next_of}
+use Rattle.ca_rule.specs.Spelling.{Names, IsFaultOf}
+use Rattle.ca_rle.specs.Limits.{IsInRange}
+use Rattle.ca_rle.specs.declared.pattern.Pattern.{Pattern}
+use Rattle.ca_claims.specs.declared.claims.line.Claim.{Claim as ClaimOf}
+use Rattle.ca_claims.specs.declared.claims.line.Claim.TheVariants.{Still, Oscillator, Spaceship, Becomes}
+use Rattle.ca_claims.specs.declared.verdict.Cause.{Cause}
+use Rattle.ca_claims.specs.declared.verdict.Cause.TheVariants.{NoFile, BadPattern, BadRule, StateTooLarge, MixedRules, Memory}
+use Rattle.ca_claims.specs.declared.verdict.Verdict.{Verdict}
+use Rattle.ca_claims.specs.declared.verdict.Verdict.TheVariants.{Yes, No, Refused}
+use Rattle.ca_claims.specs.declared.verifier.one_or_two.OneOrTwo.{OneOrTwo}
+use Rattle.ca_claims.specs.declared.verifier.one_or_two.OneOrTwo.TheVariants.{One, Two}
+use Rattle.ca_claims.specs.Text.{Claim, patterns_of, about}
+use Rattle.ca_claims.specs.Lines.{path_at}
+use Rattle.ca_claims.specs.Means.{bytes_at}
+use Rattle.ca_claims.specs.Truth.{asks_of}
+use Rattle.ca_claims.specs.Decided.{IsDecided}
+use Rattle.ca_claims.specs.Answers.{IsReadable, IsPatternFault, IsRead, IsRuled, HasLargeState, HasSmallStates, IsSameRule, IsThere, Reads, HasRule, IsSmall, SomeOf, FirstBad, HaveOtherRules, HasCause, IsGood, IsJudged, IsTrueVerdict}
+use Rattle.ca_claims.specs.Patterns.{items, IsEachOnce, IsReadFrom, IsUnread, HasName, AreOfOneRule, AreMixed, ArePlanes}
+use Rattle.ca_claims.proofs.Alike.{true-same, reason-same}
+use Rattle.ca_claims.proofs.Times.{asks_about}
+use Rattle.ca_claims.proofs.PatternsRead.{IsReadAt, in_range, path_has_fault, path_has_rule, path_is_good, path_is_large, path_is_ruled, path_is_small, path_reads, picture, shows_picture, small-listed}
+use Rattle.ca_claims.proofs.Zipped.{zip_left, zip_beside, zip_some, zip_first, zip_head, zip_through, none_bad}
+
+-- ---- the paths of a claim's patterns
+
+-- each path stands where its index does
+pub paths_of : {P Q : Type 0} (f : P → Q) (claim : ClaimOf P) → patterns_of (about f claim) ≡ map f (patterns_of claim)
+paths_of f (Still pattern) = refl
+paths_of f (Oscillator pattern period) = refl
+paths_of f (Spaceship pattern period dx dy) = refl
+paths_of f (Becomes pattern generations other) = refl
+
+-- what is each once stays so
+once_map : {P Q : Type 0} (f : P → Q) (each all : List P) → IsEachOnce each all → IsEachOnce (map f each) (map f all)
+once_map f each all (inl same) = inl (ap (map f) same)
+once_map f each all (inr (x, e, d)) = inr (f x, ap (map f) e, ap (map f) d)
+
+-- and so do the paths at indices
+pub once_paths : (paths : List (List ℕ)) (claim : ClaimOf ℕ) (places : List ℕ) → IsEachOnce places (patterns_of claim) → IsEachOnce (map (path_at paths) places) (patterns_of (about (path_at paths) claim))
+once_paths paths claim places once =
+    subst (IsEachOnce (map (path_at paths) places)) (sym (paths_of (path_at paths) claim)) (once_map (path_at paths) places (patterns_of claim) once)
+
+-- what holds of all holds of each
+pub once_all : {X : Type 0} (P : X → Type 0) (each all : List X) → IsEachOnce each all → AllByRecursion P all → AllByRecursion P each
+once_all P each all (inl same) h = subst (AllByRecursion P) same h
+once_all P each all (inr (x, e, d)) h = subst (AllByRecursion P) (sym e) ((subst (AllByRecursion P) d h).0, tt)
+
+-- the bytes of the path at an index are found at that index
+bytes_found : (files : List (List ℕ × List ℕ)) (paths : List (List ℕ)) (found : List (Option (Bor (List ℕ)))) (i : ℕ) (o : Option (Bor (List ℕ)))
+    → map option_copied found ≡ map (bytes_at files) paths → i < length found → get_or found i None ≡ o → bytes_at files (path_at paths i) ≡ option_copied o
+bytes_found files paths [] i o e within at = let no : ⊥ = omega arith in absurd no
+bytes_found files [] (f ∷ fs) i o e within at = let no : ⊥ = cc in absurd no
+bytes_found files (p ∷ ps) (f ∷ fs) zero o e within at = let head : option_copied f ≡ bytes_at files p = cc in sym head ∙ ap option_copied at
+bytes_found files (p ∷ ps) (f ∷ fs) (suc i) o e within at =
+    let tail : map option_copied fs ≡ map (bytes_at files) ps = cc in
+    bytes_found files ps fs i o tail (omega arith) at
+
+module _ (files : List (List ℕ × List ℕ)) (paths : List (List ℕ)) (found : List (Option (Bor (List ℕ)))) (same : map option_copied found ≡ map (bytes_at files) paths) where
+  -- so the files at some indices are those of their paths
+  pub found_there : (places : List ℕ) (there : List (Bor (List ℕ))) → AllByRecursion (λ i. i < length found) places → AllZip (λ i b. get_or found i None ≡ Some b) places there
+      → AllZip (λ path b. bytes_at files path ≡ Some b.now) (map (path_at paths) places) there
+  found_there [] [] within at = tt
+  found_there [] (b ∷ bs) within at = absurd at
+  found_there (i ∷ is) [] within at = absurd at
+  found_there (i ∷ is) (b ∷ bs) within at = (bytes_found files paths found i (Some b) same within.0 at.0, found_there is bs within.1 at.1)
+
+  -- and where one is missing, no file has its path
+  pub found_missing : (places : List ℕ) → AllByRecursion (λ i. i < length found) places → SomeOf (λ i. get_or found i None ≡ None) places → HasCause files (map (path_at paths) places) NoFile
+  found_missing [] within some = some
+  found_missing (i ∷ is) within (inl here) = inl (bytes_found files paths found i None same within.0 here)
+  found_missing (i ∷ is) within (inr later) = inr (found_missing is within.1 later)
+
+-- ---- what is said of each path is said of all
+
+module _ (files : List (List ℕ × List ℕ)) where
+  cause_twice : (path : List ℕ) (cause : Cause) → HasCause files (path ∷ []) cause → HasCause files (path ∷ path ∷ []) cause
+  cause_twice path NoFile (inl none) = inl none
+  cause_twice path NoFile (inr none) = absurd none
+  cause_twice path (BadPattern fault) (all, inl bad) = ((all.0, (all.0, tt)), inl bad)
+  cause_twice path (BadPattern fault) (all, inr none) = absurd none.1
+  cause_twice path (BadRule fault) (all, inl bad) = ((all.0, (all.0, tt)), inl bad)
+  cause_twice path (BadRule fault) (all, inr none) = absurd none.1
+  cause_twice path StateTooLarge (all, inl large) = ((all.0, (all.0, tt)), inl large)
+  cause_twice path StateTooLarge (all, inr none) = absurd none
+  cause_twice path MixedRules (all, inl (inl mixed)) = ((all.0, (all.0, tt)), inl (inl mixed))
+  cause_twice path MixedRules (all, inl (inr none)) = absurd none
+  cause_twice path MixedRules (all, inr none) = absurd none
+  cause_twice path Memory (all, first) = ((all.0, (all.0, tt)), first)
+
+  pub cause_of_all : (each all : List (List ℕ)) (cause : Cause) → IsEachOnce each all → HasCause files each cause → HasCause files all cause
+  cause_of_all each all cause (inl same) h = subst (λ l. HasCause files l cause) (sym same) h
+  cause_of_all each all cause (inr (x, e, d)) h = subst (λ l. HasCause files l cause) (sym d) (cause_twice x cause (subst (λ l. HasCause files l cause) e h))
+
+  judged_of_all : (each all : List (List ℕ)) (cells other : Picture) (rule : BsRule) → IsEachOnce each all → IsJudged files each cells other rule → IsJudged files all cells other rule
+  judged_of_all each all cells other rule (inl same) h = subst (λ l. IsJudged files l cells other rule) (sym same) h
+  judged_of_all each all cells other rule (inr (x, e, d)) h =
+      let one = subst (λ l. IsJudged files l cells other rule) e h in
+      let two : IsJudged files (x ∷ x ∷ []) cells other rule = (one.0, rule, subst (λ o. IsGood files x o rule) (sym one.1) one.0, (refl, refl, refl)) in
+      subst (λ l. IsJudged files l cells other rule) (sym d) two
+
+  -- ---- causes
+
+  -- a file doesn't read, or memory is wanted for it
+  pub unread : (paths : List (List ℕ)) (there : List (Bor (List ℕ))) (cause : Cause) → AllZip (λ path b. bytes_at files path ≡ Some b.now) paths there
+      → FirstBad (λ b. IsReadable b.now) (λ b. IsUnread b.now cause) there → HasCause files paths cause
+  unread paths there NoFile at first = absurd (none_bad (λ b. IsReadable b.now) there first)
+  unread paths there (BadPattern fault) at first = (
+    zip_left (λ path b. bytes_at files path ≡ Some b.now) (IsThere files) (λ path b e. (b.now, e)) paths there at,
+    zip_first (λ path b. bytes_at files path ≡ Some b.now) (Reads files) (λ path. (bytes : List ℕ) × (bytes_at files path ≡ Some bytes) × IsPatternFault bytes fault)
+        (λ b. IsReadable b.now) (λ b. IsPatternFault b.now fault) (λ path b e reads. (b.now, e, reads)) (λ path b e wrong. (b.now, e, wrong)) paths there at first,
+  )
+  unread paths there (BadRule fault) at first = absurd (none_bad (λ b. IsReadable b.now) there first)
+  unread paths there StateTooLarge at first = absurd (none_bad (λ b. IsReadable b.now) there first)
+  unread paths there MixedRules at first = absurd (none_bad (λ b. IsReadable b.now) there first)
+  unread paths there Memory at first = (
+    zip_left (λ path b. bytes_at files path ≡ Some b.now) (IsThere files) (λ path b e. (b.now, e)) paths there at,
+    zip_head (λ path b. bytes_at files path ≡ Some b.now) (Reads files) (λ b. IsReadable b.now) (λ path b e reads. (b.now, e, reads)) paths there at first,
+  )
+
+  -- the patterns of files that were read
+  pub read_at : (paths : List (List ℕ)) (there : List (Bor (List ℕ))) (patterns : List Pattern) → AllZip (λ path b. bytes_at files path ≡ Some b.now) paths there
+      → AllZip (λ b p. IsReadFrom b.now p) there patterns → AllZip (IsReadAt files) paths patterns
+  read_at = zip_through (λ path b. bytes_at files path ≡ Some b.now) (λ b p. IsReadFrom b.now p) (IsReadAt files) (λ path b p e read. record { bytes = b.now; at_path = e; read = read })
+
+  module _ (paths : List (List ℕ)) (patterns : List Pattern) (read : AllZip (IsReadAt files) paths patterns) where
+    -- a rule text names no rule
+    pub unnamed : (fault : RuleFault) → FirstBad HasName (λ p. IsFaultOf p.rule_text.items fault) patterns → HasCause files paths (BadRule fault)
+    unnamed fault first = (
+      zip_left (IsReadAt files) (Reads files) (path_reads files) paths patterns read,
+      zip_first (IsReadAt files) (HasRule files) (λ path. (cells : Picture) × (text : List ℕ) × IsRead files path cells text × IsFaultOf text fault)
+          HasName (λ p. IsFaultOf p.rule_text.items fault) (path_has_rule files) (λ path p at. path_has_fault files path p at fault) paths patterns read first,
+    )
+
+    module _ (rules : List BsRule) (names : AllZip (λ p r. Names p.rule_text.items r) patterns rules) where
+      named : AllZip (λ path p. IsReadAt files path p × HasName p) paths patterns
+      named = zip_beside (IsReadAt files) HasName paths patterns read (zip_left (λ p r. Names p.rule_text.items r) HasName (λ p r n. (r, n)) patterns rules names)
+
+      -- a state is too large
+      pub too_large : SomeOf (λ p. HasLargeState p.cells) patterns → HasCause files paths StateTooLarge
+      too_large some = (
+        zip_left (λ path p. IsReadAt files path p × HasName p) (HasRule files) (λ path p h. path_has_rule files path p h.0 h.1) paths patterns named,
+        zip_some (λ path p. IsReadAt files path p × HasName p) (λ path. (cells : Picture) × (rule : BsRule) × IsRuled files path cells rule × HasLargeState cells)
+            (λ p. HasLargeState p.cells) (λ path p h large. path_is_large files path p h.0 h.1 large) paths patterns named some,
+      )
+
+      all_small : AllByRecursion (λ p. HasSmallStates p.cells) patterns → AllByRecursion (IsSmall files) paths
+      all_small small =
+          zip_left (λ path p. (IsReadAt files path p × HasName p) × HasSmallStates p.cells) (IsSmall files) (λ path p h. path_is_small files path p h.0.0 h.0.1 h.1) paths patterns
+          (zip_beside (λ path p. IsReadAt files path p × HasName p) (λ p. HasSmallStates p.cells) paths patterns named small)
+
+  -- the first two patterns have different rules
+  other_rules : (paths : List (List ℕ)) (patterns : List Pattern) (rules : List BsRule) → AllZip (IsReadAt files) paths patterns → AllZip (λ p r. Names p.rule_text.items r) patterns rules
+      → AreMixed rules → SomeOf (λ p. SomeOf (HaveOtherRules files p) paths) paths
+  other_rules paths patterns [] read names mixed = absurd mixed
+  other_rules paths patterns (r ∷ []) read names mixed = absurd mixed
+  other_rules paths [] (r ∷ s ∷ rules) read names mixed = absurd names
+  other_rules paths (a ∷ []) (r ∷ s ∷ rules) read names mixed = absurd names.1
+  other_rules [] (a ∷ b ∷ patterns) (r ∷ s ∷ rules) read names mixed = absurd read
+  other_rules (p ∷ []) (a ∷ b ∷ patterns) (r ∷ s ∷ rules) read names mixed = absurd read.1
+  other_rules (p ∷ q ∷ paths) (a ∷ b ∷ patterns) (r ∷ s ∷ rules) read names mixed =
+      inl (inr (inl (picture files p a read.0, r, picture files q b read.1.0, s, path_is_ruled files p a read.0 r names.0, path_is_ruled files q b read.1.0 s names.1.0, mixed)))
+
+  pub mixed_rules : (paths : List (List ℕ)) (patterns : List Pattern) (rules : List BsRule) → AllZip (IsReadAt files) paths patterns → AllZip (λ p r. Names p.rule_text.items r) patterns rules
+      → AllByRecursion (λ p. HasSmallStates p.cells) patterns → AreMixed rules → HasCause files paths MixedRules
+  mixed_rules paths patterns rules read names small mixed = (all_small paths patterns read rules names small, other_rules paths patterns rules read names mixed)
+
+  -- ---- verdicts
+
+  -- no cause holds: the planes show what the files mean
+  record IsShown (paths : List (List ℕ)) (cells other : Picture) (rule : BsRule) : Type 0 where
+    shown : Picture
+    other_shown : Picture
+    same : IsSame cells shown
+    other_same : IsSame other other_shown
+    judged : IsJudged files paths shown other_shown rule
+
+  all_shown : (paths : List (List ℕ)) (patterns : OneOrTwo Pattern) (rules : List BsRule) (cells other : Picture) (rule : BsRule) → AllZip (IsReadAt files) paths (items patterns)
+      → AllZip (λ p r. Names p.rule_text.items r) (items patterns) rules → AllByRecursion (λ p. HasSmallStates p.cells) (items patterns) → AreOfOneRule rules rule → ArePlanes (items patterns) cells other
+      → IsShown paths cells other rule
+  all_shown [] (One a) rules cells other rule read names small one planes = absurd read
+  all_shown (p ∷ q ∷ paths) (One a) rules cells other rule read names small one planes = absurd read.1
+  all_shown (p ∷ []) (One a) [] cells other rule read names small one planes = absurd names
+  all_shown (p ∷ []) (One a) (r ∷ s ∷ rules) cells other rule read names small one planes = absurd names.1
+  all_shown (p ∷ []) (One a) (r ∷ []) cells other rule read names small one planes = record {
+    shown = picture files p a read.0;
+    other_shown = picture files p a read.0;
+    same = subst (λ l. IsSame l (picture files p a read.0)) (sym planes.0) (shows_picture files p a read.0);
+    other_same = subst (λ l. IsSame l (picture files p a read.0)) (sym planes.1) (shows_picture files p a read.0);
+    judged = (path_is_good files p a read.0 rule (subst (Names a.rule_text.items) (sym one) names.0) small.0, refl);
+  }
+  all_shown [] (Two a b) rules cells other rule read names small one planes = absurd read
+  all_shown (p ∷ []) (Two a b) rules cells other rule read names small one planes = absurd read.1
+  all_shown (p ∷ q ∷ o ∷ paths) (Two a b) rules cells other rule read names small one planes = absurd read.1.1
+  all_shown (p ∷ q ∷ []) (Two a b) [] cells other rule read names small one planes = absurd names
+  all_shown (p ∷ q ∷ []) (Two a b) (r ∷ []) cells other rule read names small one planes = absurd names.1
+  all_shown (p ∷ q ∷ []) (Two a b) (r ∷ s ∷ t ∷ rules) cells other rule read names small one planes = absurd names.1.1
+  all_shown (p ∷ q ∷ []) (Two a b) (r ∷ s ∷ []) cells other rule read names small one planes = record {
+    shown = picture files p a read.0;
+    other_shown = picture files q b read.1.0;
+    same = subst (λ l. IsSame l (picture files p a read.0)) (sym planes.0) (shows_picture files p a read.0);
+    other_same = subst (λ l. IsSame l (picture files q b read.1.0)) (sym planes.1) (shows_picture files q b read.1.0);
+    judged = (
+      path_is_good files p a read.0 rule (subst (Names a.rule_text.items) (sym one.0) names.0) small.0,
+      s,
+      path_is_good files q b read.1.0 s names.1.0 small.1.0,
+      subst (λ t. IsSameRule t s) (sym one.0) one.1,
+    );
+  }
+
+  -- a claim that is judged may want memory
+  good_reads : (path : List ℕ) (cells : Picture) (rule : BsRule) → IsGood files path cells rule → Reads files path
+  good_reads path cells rule good = let read = good.ruled.1 in (read.bytes, read.at_path, read.readable)
+
+  memory_wanted : (paths : List (List ℕ)) (cells other : Picture) (rule : BsRule) → IsJudged files paths cells other rule → HasCause files paths Memory
+  memory_wanted [] cells other rule judged = absurd judged
+  memory_wanted (p ∷ []) cells other rule judged = let reads = good_reads p cells rule judged.0 in (((reads.0, reads.1), tt), reads)
+  memory_wanted (p ∷ q ∷ []) cells other rule judged =
+      let reads = good_reads p cells rule judged.0 in
+      let second = good_reads q other judged.1 judged.2 in
+      (((reads.0, reads.1), ((second.0, second.1), tt)), reads)
+  memory_wanted (p ∷ q ∷ r ∷ paths) cells other rule judged = absurd judged
+
+  -- what is decided of cells is true of the pictures that show the same
+  decided_true : (claim : Claim) (cells shown other other_shown : Picture) (rule : BsRule) (verdict : Verdict)
+      → IsSame cells shown → IsSame other other_shown → IsJudged files (patterns_of claim) shown other_shown rule
+      → IsDecided (next_of rule.hood rule.birth rule.survival) cells other (asks_of claim) verdict → IsTrueVerdict files claim verdict
+  decided_true claim cells shown other other_shown rule Yes same others judged decided =
+      (shown, other_shown, rule, judged, true-same (next_of rule.hood rule.birth rule.survival) cells shown same other other_shown others (asks_of claim) decided)
+  decided_true claim cells shown other other_shown rule (No why) same others judged decided =
+      (shown, other_shown, rule, judged, reason-same (next_of rule.hood rule.birth rule.survival) cells shown same other other_shown others (asks_of claim) why decided)
+  decided_true claim cells shown other other_shown rule (Refused cause) same others judged decided =
+      subst (HasCause files (patterns_of claim)) (sym decided) (memory_wanted (patterns_of claim) shown other_shown rule judged)
+
+  pub true_verdict : (at : List (List ℕ)) (claim : ClaimOf ℕ) (paths : List (List ℕ)) (patterns : OneOrTwo Pattern) (rules : List BsRule) (cells other : Picture) (rule : BsRule) (verdict : Verdict)
+      → IsEachOnce paths (patterns_of (about (path_at at) claim)) → AllZip (IsReadAt files) paths (items patterns) → AllZip (λ p r. Names p.rule_text.items r) (items patterns) rules
+      → AllByRecursion (λ p. HasSmallStates p.cells) (items patterns) → AreOfOneRule rules rule → ArePlanes (items patterns) cells other
+      → IsDecided (next_of rule.hood rule.birth rule.survival) cells other (asks_of claim) verdict → IsTrueVerdict files (about (path_at at) claim) verdict
+  true_verdict at claim paths patterns rules cells other rule verdict once read names small one planes decided =
+      let all = all_shown paths patterns rules cells other rule read names small one planes in
+      decided_true (about (path_at at) claim) cells all.shown other all.other_shown rule verdict all.same all.other_same
+      (judged_of_all paths (patterns_of (about (path_at at) claim)) all.shown all.other_shown rule once all.judged)
+      (subst (λ asks. IsDecided (next_of rule.hood rule.birth rule.survival) cells other asks verdict) (sym (asks_about (path_at at) claim)) decided)
+
+  -- a cause that `?` passes on
+  pub passed_on : (claim : Claim) (r : Result Verdict Cause) (cause : Cause)
+      → IsErrAnd r (λ passed. passed ≡ cause) → HasCause files (patterns_of claim) cause → MatchResult r (IsTrueVerdict files claim) (HasCause files (patterns_of claim))
+  passed_on claim r cause h holds =
+      let p = err_from_is_err_and r h in
+      subst (λ o. MatchResult o (IsTrueVerdict files claim) (HasCause files (patterns_of claim))) (sym p.1) (subst (HasCause files (patterns_of claim)) (sym p.2) holds)
+
+-- ---- the planes that are judged
+
+-- their states are small
+pub planes_small : (patterns : OneOrTwo Pattern) (there : List (Bor (List ℕ))) (cells other : Picture) → AllZip (λ b p. IsReadFrom b.now p) there (items patterns)
+    → AllByRecursion (λ p. HasSmallStates p.cells) (items patterns) → ArePlanes (items patterns) cells other → All (λ e. e.1 < 2) cells
+planes_small (One a) [] cells other read small planes = absurd read
+planes_small (One a) (b ∷ bs) cells other read small planes = subst (All (λ e. e.1 < 2)) (sym planes.0) (small-listed a.cells read.0.sparse small.0)
+planes_small (Two a c) [] cells other read small planes = absurd read
+planes_small (Two a c) (b ∷ bs) cells other read small planes = subst (All (λ e. e.1 < 2)) (sym planes.0) (small-listed a.cells read.0.sparse small.0)
+
+-- and their cells in range
+pub planes_in_range : (patterns : OneOrTwo Pattern) (there : List (Bor (List ℕ))) (cells other : Picture) → AllZip (λ b p. IsReadFrom b.now p) there (items patterns) → ArePlanes (items patterns) cells other
+    → All (λ e. IsInRange e.0) cells × All (λ e. IsInRange e.0) other
+planes_in_range (One a) [] cells other read planes = absurd read
+planes_in_range (One a) (b ∷ bs) cells other read planes =
+    let range = in_range b.now a read.0 in
+    (subst (All (λ e. IsInRange e.0)) (sym planes.0) range, subst (All (λ e. IsInRange e.0)) (sym planes.1) range)
+planes_in_range (Two a c) [] cells other read planes = absurd read
+planes_in_range (Two a c) (b ∷ []) cells other read planes = absurd read.1
+planes_in_range (Two a c) (b ∷ d ∷ bs) cells other read planes =
+    (subst (All (λ e. IsInRange e.0)) (sym planes.0) (in_range b.now a read.0), subst (All (λ e. IsInRange e.0)) (sym planes.1) (in_range d.now c read.1.0))

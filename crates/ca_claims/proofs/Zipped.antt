@@ -1,0 +1,60 @@
+-- Lists whose elements belong together, one by one: what holds of the one holds of the other.
+use Rattle.std.proofs.Common.{List, [], ◌∷◌, inl, inr}
+use Rattle.std.specs.List.{AllByRecursion, AllZip}
+use Rattle.ca_claims.specs.Answers.{SomeOf, FirstBad, FirstIs}
+
+module _ {X Y : Type 0} (R : X → Y → Type 0) where
+  -- of all on the left
+  pub zip_left : (P : X → Type 0) → ((x : X) (y : Y) → R x y → P x) → (xs : List X) (ys : List Y) → AllZip R xs ys → AllByRecursion P xs
+  zip_left P f [] [] all = tt
+  zip_left P f [] (y ∷ ys) all = absurd all
+  zip_left P f (x ∷ xs) [] all = absurd all
+  zip_left P f (x ∷ xs) (y ∷ ys) all = (f x y all.0, zip_left P f xs ys all.1)
+
+  -- what holds of all on the right beside
+  pub zip_beside : (Q : Y → Type 0) (xs : List X) (ys : List Y) → AllZip R xs ys → AllByRecursion Q ys → AllZip (λ x y. R x y × Q y) xs ys
+  zip_beside Q [] [] all right = tt
+  zip_beside Q [] (y ∷ ys) all right = absurd all
+  zip_beside Q (x ∷ xs) [] all right = absurd all
+  zip_beside Q (x ∷ xs) (y ∷ ys) all right = ((all.0, right.0), zip_beside Q xs ys all.1 right.1)
+
+  -- of some
+  pub zip_some : (P : X → Type 0) (Q : Y → Type 0) → ((x : X) (y : Y) → R x y → Q y → P x) → (xs : List X) (ys : List Y) → AllZip R xs ys → SomeOf Q ys → SomeOf P xs
+  zip_some P Q f [] [] all some = absurd some
+  zip_some P Q f [] (y ∷ ys) all some = absurd all
+  zip_some P Q f (x ∷ xs) [] all some = absurd all
+  zip_some P Q f (x ∷ xs) (y ∷ ys) all (inl here) = inl (f x y all.0 here)
+  zip_some P Q f (x ∷ xs) (y ∷ ys) all (inr later) = inr (zip_some P Q f xs ys all.1 later)
+
+  -- of the first bad one and those before it
+  pub zip_first : (Good Bad : X → Type 0) (Right Wrong : Y → Type 0) → ((x : X) (y : Y) → R x y → Right y → Good x) → ((x : X) (y : Y) → R x y → Wrong y → Bad x)
+      → (xs : List X) (ys : List Y) → AllZip R xs ys → FirstBad Right Wrong ys → FirstBad Good Bad xs
+  zip_first Good Bad Right Wrong f g [] [] all first = absurd first
+  zip_first Good Bad Right Wrong f g [] (y ∷ ys) all first = absurd all
+  zip_first Good Bad Right Wrong f g (x ∷ xs) [] all first = absurd all
+  zip_first Good Bad Right Wrong f g (x ∷ xs) (y ∷ ys) all (inl here) = inl (g x y all.0 here)
+  zip_first Good Bad Right Wrong f g (x ∷ xs) (y ∷ ys) all (inr later) = inr (f x y all.0 later.0, zip_first Good Bad Right Wrong f g xs ys all.1 later.1)
+
+  -- of the first, where a bad one is as good as the others
+  pub zip_head : (Good : X → Type 0) (Right : Y → Type 0) → ((x : X) (y : Y) → R x y → Right y → Good x) → (xs : List X) (ys : List Y) → AllZip R xs ys → FirstBad Right Right ys → FirstIs Good xs
+  zip_head Good Right f [] [] all first = absurd first
+  zip_head Good Right f [] (y ∷ ys) all first = absurd all
+  zip_head Good Right f (x ∷ xs) [] all first = absurd all
+  zip_head Good Right f (x ∷ xs) (y ∷ ys) all (inl here) = f x y all.0 here
+  zip_head Good Right f (x ∷ xs) (y ∷ ys) all (inr later) = f x y all.0 later.0
+
+-- where none can be bad, none is the first
+pub none_bad : {X : Type 0} (Good : X → Type 0) (xs : List X) → FirstBad Good (λ x. ⊥) xs → ⊥
+none_bad Good [] first = first
+none_bad Good (x ∷ xs) (inl here) = here
+none_bad Good (x ∷ xs) (inr later) = none_bad Good xs later.1
+
+-- what belongs together by way of a third list
+pub zip_through : {X Y Z : Type 0} (R : X → Y → Type 0) (S : Y → Z → Type 0) (T : X → Z → Type 0) → ((x : X) (y : Y) (z : Z) → R x y → S y z → T x z)
+    → (xs : List X) (ys : List Y) (zs : List Z) → AllZip R xs ys → AllZip S ys zs → AllZip T xs zs
+zip_through R S T f [] [] [] one two = tt
+zip_through R S T f [] [] (z ∷ zs) one two = absurd two
+zip_through R S T f [] (y ∷ ys) zs one two = absurd one
+zip_through R S T f (x ∷ xs) [] zs one two = absurd one
+zip_through R S T f (x ∷ xs) (y ∷ ys) [] one two = absurd two
+zip_through R S T f (x ∷ xs) (y ∷ ys) (z ∷ zs) one two = (f x y z one.0 two.0, zip_through R S T f xs ys zs one.1 two.1)
