@@ -64,13 +64,13 @@ def time_soup(folder, width, height):
     print(f"soup of {width} by {height}: {megabytes:.2f} MB, {live} live cells")
     judged = report(folder, "  judged alone", f"load s {soup}.bad\nstill s\n")
     print(f"    {megabytes / judged:.0f} MB/s")
-    # `becomes s 0 s` reads the file twice and compares
-    twice = report(folder, "  read twice", f"load s {soup}\nbecomes s 0 s\n")
-    print(f"    {2 * megabytes / twice:.1f} MB/s")
+    # `becomes s 0 s` reads the file, once for both names, and compares the plane with itself
+    read = report(folder, "  read", f"load s {soup}\nbecomes s 0 s\n")
+    print(f"    {megabytes / read:.1f} MB/s, {read / live * 1e9:.0f} ns a live cell")
     still = report(folder, "  still", f"load s {soup}\nstill s\n")
     five = report(folder, "  after 5", f"load s {soup}\nbecomes s 5 s\n")
-    steps = five - twice
-    print(f"    five steps: {steps / 5:.3f} s each; read and stepped once: {still:.3f} s")
+    step = (five - read) / 5
+    print(f"    five steps: {step:.3f} s each, {live / step / 1e6:.1f} million live cells a second; read and stepped once: {still:.3f} s")
 
 
 def time_most_cells(folder):
