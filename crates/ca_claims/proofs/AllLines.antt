@@ -9,7 +9,7 @@ use Rattle.ca_claims.specs.declared.fault.ClaimFault.{ClaimFault}
 use Rattle.ca_claims.specs.declared.fault.ClaimFault.TheVariants.{Syntax, Number, UnknownName, NameTaken, Memory}
 use Rattle.ca_claims.specs.Text.{Line, LinesSay, spoken}
 use Rattle.ca_claims.specs.TextFaults.{HasLine, AreMisspelled, HaveBadNumber, AskUnknown, LoadTaken, AreAllowed, IsFirstFault}
-use Rattle.ca_claims.specs.Reading.{IsReading, SaysNext, HasFault}
+use Rattle.ca_claims.specs.inner.Reading.{IsReading, SaysNext, HasFault}
 use Rattle.ca_claims.proofs.LinesSaid.{LinesSay-push, length_said}
 
 -- some lines of the text are read, and these bytes are left

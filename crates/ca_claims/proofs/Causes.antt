@@ -20,12 +20,12 @@ use Rattle.ca_claims.specs.declared.verdict.Verdict.TheVariants.{Yes, No, Refuse
 use Rattle.ca_claims.specs.declared.verifier.one_or_two.OneOrTwo.{OneOrTwo}
 use Rattle.ca_claims.specs.declared.verifier.one_or_two.OneOrTwo.TheVariants.{One, Two}
 use Rattle.ca_claims.specs.Text.{Claim, patterns_of, about}
-use Rattle.ca_claims.specs.Lines.{path_at}
+use Rattle.ca_claims.specs.Places.{path_at}
 use Rattle.ca_claims.specs.Means.{bytes_at}
 use Rattle.ca_claims.specs.Truth.{asks_of}
-use Rattle.ca_claims.specs.Decided.{IsDecided}
+use Rattle.ca_claims.specs.inner.Decided.{IsDecided}
 use Rattle.ca_claims.specs.Answers.{IsReadable, IsPatternFault, IsRead, IsRuled, HasLargeState, HasSmallStates, IsSameRule, IsThere, Reads, HasRule, IsSmall, SomeOf, FirstBad, HaveOtherRules, HasCause, IsGood, IsJudged, IsTrueVerdict}
-use Rattle.ca_claims.specs.Patterns.{items, IsEachOnce, IsReadFrom, IsUnread, HasName, AreOfOneRule, AreMixed, ArePlanes}
+use Rattle.ca_claims.specs.inner.Patterns.{items, IsEachOnce, IsReadFrom, IsUnread, HasName, AreOfOneRule, AreMixed, ArePlanes}
 use Rattle.ca_claims.proofs.Alike.{true-same, reason-same}
 use Rattle.ca_claims.proofs.Times.{asks_about}
 use Rattle.ca_claims.proofs.PatternsRead.{IsReadAt, in_range, path_has_fault, path_has_rule, path_is_good, path_is_large, path_is_ruled, path_is_small, path_reads, picture, shows_picture, small-listed}

@@ -5,7 +5,7 @@ use Rattle.std.proofs.lemmas.Int.{ints, to_z-of_z}
 use Rattle.ca_plane.specs.Bytes.{IsInteger}
 use Rattle.ca_claims.specs.declared.claims.line.Claim.TheVariants.{Still, Oscillator, Spaceship, Becomes}
 use Rattle.ca_claims.specs.Text.{Claim, Claims, WordsSay}
-use Rattle.ca_claims.specs.Reading.{IsHeldShift, IsHeldClaim}
+use Rattle.ca_claims.specs.inner.Reading.{IsHeldShift, IsHeldClaim}
 
 -- what stands behind a word that begins equal words
 behind_word : (w : List ℕ) (vs ws : List (List ℕ)) → w ∷ vs ≡ w ∷ ws → vs ≡ ws

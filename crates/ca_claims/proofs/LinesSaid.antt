@@ -6,7 +6,7 @@ use Rattle.std.proofs.lemmas.Bool.{cases_Bool}
 use Rattle.std.proofs.lemmas.List.{append-nil}
 use Rattle.ca_plane.specs.Bytes.{words_of}
 use Rattle.ca_claims.specs.Text.{about, Line, Load, Claims, path_of, IsAllowed, LinesSay, spoken, loaded_paths, claims_from}
-use Rattle.ca_claims.specs.Reading.{SaysNext}
+use Rattle.ca_claims.specs.inner.Reading.{SaysNext}
 
 -- what lines say and then more lines
 pub spoken-append : (said more : List (Option Line)) → spoken (said ++ more) ≡ spoken said ++ spoken more

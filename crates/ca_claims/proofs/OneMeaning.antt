@@ -9,7 +9,7 @@ use Rattle.ca_claims.specs.declared.fault.ClaimFault.TheVariants.{Syntax, Number
 use Rattle.ca_claims.specs.declared.claims.line.Claim.TheVariants.{Still, Oscillator, Spaceship, Becomes}
 use Rattle.ca_claims.specs.Text.{Claim, Line, Load, Claims, WordsSay, HasGoodNumbers, IsAllowed, LinesSay, IsClaimText, spoken}
 use Rattle.ca_claims.specs.TextFaults.{IsFirstFault}
-use Rattle.ca_claims.specs.Reading.{SaysNext, HasFault}
+use Rattle.ca_claims.specs.inner.Reading.{SaysNext, HasFault}
 use Rattle.ca_claims.proofs.LinesSaid.{one_before}
 
 -- words make one claim

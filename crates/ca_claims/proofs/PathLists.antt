@@ -9,7 +9,7 @@ use Rattle.std.proofs.lemmas.List.{map-append, append-nil}
 use Rattle.std.proofs.lemmas.List.Elements.{filter-append}
 use Rattle.std.proofs.lemmas.List.Quantifiers.{position-Some}
 use Rattle.indexmap.specs.IndexSet.{insert_key}
-use Rattle.ca_claims.specs.Reading.{with_path}
+use Rattle.ca_claims.specs.inner.Reading.{with_path}
 use Rattle.ca_claims.specs.Text.{each_once}
 
 -- bytes are equal to themselves

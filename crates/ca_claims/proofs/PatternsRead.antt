@@ -14,7 +14,7 @@ use Rattle.ca_rle.specs.Shown.{picture_of}
 use Rattle.ca_rle.specs.declared.pattern.Pattern.{Pattern}
 use Rattle.ca_claims.specs.Means.{bytes_at}
 use Rattle.ca_claims.specs.Answers.{IsRead, IsRuled, HasLargeState, HasSmallStates, Reads, HasRule, IsSmall, IsGood}
-use Rattle.ca_claims.specs.Patterns.{IsReadFrom, HasName}
+use Rattle.ca_claims.specs.inner.Patterns.{IsReadFrom, HasName}
 
 -- ---- the cells of a pattern that was read
 

@@ -11,10 +11,10 @@ use Rattle.std.proofs.lemmas.Option.{slice_get_within}
 use Rattle.std.proofs.lemmas.Slice.Eq.{bytes_eq-Decides}
 use Rattle.ca_claims.specs.declared.claims.line.Claim.{Claim as ClaimOf}
 use Rattle.ca_claims.specs.declared.claims.line.ClaimLine.{ClaimLine}
-use Rattle.ca_claims.specs.Lines.{path_at, IsAsked, numbered}
+use Rattle.ca_claims.specs.Places.{path_at, IsAsked, numbered}
 use Rattle.ca_claims.specs.declared.claims.line.Claim.TheVariants.{Still, Oscillator, Spaceship, Becomes}
 use Rattle.ca_claims.specs.Text.{Claim, patterns_of, about, HasGoodNumbers, Line, Load, Claims, path_of, AreLoaded, IsAllowed, spoken, loaded_paths, each_once, claims_from}
-use Rattle.ca_claims.specs.Reading.{IsRead, StandsAt, AreKnown, at_places, with_path}
+use Rattle.ca_claims.specs.inner.Reading.{IsKept, StandsAt, AreKnown, at_places, with_path}
 use Rattle.ca_claims.proofs.PathLists.{each_once-push, kept_place, no_fewer}
 use Rattle.ca_claims.proofs.LinesSaid.{spoken-append, loaded_paths-append, path_of-append, claims_from-append}
 
@@ -88,9 +88,9 @@ loaded_else lines name path q e = path_of-append lines (Load name path ∷ []) q
 claim_loads_none : (lines : List Line) (claim : Claim) (q : List ℕ) → path_of (lines ++ Claims claim ∷ []) q ≡ path_of lines q
 claim_loads_none lines claim q = path_of-append lines (Claims claim ∷ []) q ∙ option_or_none (path_of lines q)
 
-module _ (said : List (Option Line)) (paths : List (List ℕ)) (claims : List ClaimLine) (names : List ℕ → Option ℕ) (read : IsRead said paths claims names) where
+module _ (said : List (Option Line)) (paths : List (List ℕ)) (claims : List ClaimLine) (names : List ℕ → Option ℕ) (read : IsKept said paths claims names) where
   -- a line that says nothing
-  pub read_none : IsRead (said ++ None ∷ []) paths claims names
+  pub read_none : IsKept (said ++ None ∷ []) paths claims names
   read_none =
       let same : spoken (said ++ None ∷ []) ≡ spoken said = spoken-append said (None ∷ []) ∙ append-nil (spoken said) in
       record {
@@ -117,7 +117,7 @@ module _ (said : List (Option Line)) (paths : List (List ℕ)) (claims : List Cl
   -- a line that loads a name from a path
   pub read_load : (name path : List ℕ) (place : ℕ) (after : List ℕ → Option ℕ) → names name ≡ None → slice_get (with_path paths path) place ≡ Some path
       → ((q : List ℕ) → after q ≡ update bytes_eq names name (Some place) q)
-      → IsAllowed (spoken said) (Load name path) × IsRead (said ++ Some (Load name path) ∷ []) (with_path paths path) claims after
+      → IsAllowed (spoken said) (Load name path) × IsKept (said ++ Some (Load name path) ∷ []) (with_path paths path) claims after
   read_load name path place after new at updated = (
     not_loaded name new,
     record {
@@ -180,7 +180,7 @@ module _ (said : List (Option Line)) (paths : List (List ℕ)) (claims : List Cl
 
   -- a line that makes a claim
   pub read_claim : (claim : Claim) (line : ℕ) → AreKnown names claim → HasGoodNumbers claim → line ≡ length said + 1
-      → IsAllowed (spoken said) (Claims claim) × IsRead (said ++ Some (Claims claim) ∷ []) paths (claims ++ record { line = line; claim = at_places names claim } ∷ []) names
+      → IsAllowed (spoken said) (Claims claim) × IsKept (said ++ Some (Claims claim) ∷ []) paths (claims ++ record { line = line; claim = at_places names claim } ∷ []) names
   read_claim claim line known good number =
       let s : Option Line = Some (Claims claim) in
       let l : ClaimLine = record { line = line; claim = at_places names claim } in

@@ -1,23 +1,20 @@
 -- Earlier returns of a pattern, and what they and the last plane say of a claim.
-use Rattle.std.proofs.Common.{◌≡◌, ◌≢◌, ℕ, ◌+◌, IsTrue, List, Option, Some, None, MatchOption, refl, sym, ap, ap₂, ◌∙◌, subst, inl, inr, arith, w64, to_z, of_z}
+use Rattle.std.proofs.Common.{◌≡◌, ℕ, ◌+◌, List, Option, Some, None, MatchOption, refl, sym, ap₂, ◌∙◌, subst, inl, inr, arith, w64, to_z, of_z}
 use Rattle.std.specs.Prelude.{ℤ, pos, ◌-ℤ◌, FitsSigned}
-use Rattle.std.specs.Option.{option_or}
 use Rattle.std.proofs.lemmas.Bool.{cases_eq}
 use Rattle.std.proofs.lemmas.Int.{ints, to_z-of_z}
-use Rattle.ca_plane.specs.Plane.{Picture, cell, IsSame, shifted, IsLive}
-use Rattle.ca_plane.specs.Generations.{after}
+use Rattle.ca_plane.specs.Plane.{Picture, cell, IsSame, shifted}
 use Rattle.ca_plane.proofs.Shifts.{cell-shifted}
 use Rattle.ca_claims.specs.declared.verdict.Why.{Why}
 use Rattle.ca_claims.specs.declared.verdict.Why.TheVariants.{Empty, Differs, Earlier}
 use Rattle.ca_claims.specs.declared.claims.line.Claim.{Claim as ClaimOf}
 use Rattle.ca_claims.specs.declared.claims.line.Claim.TheVariants.{Still, Oscillator, Spaceship, Becomes}
-use Rattle.ca_claims.specs.declared.claims.asks.Asks.{Asks}
 use Rattle.ca_claims.specs.declared.claims.asks.Barred.{Barred}
 use Rattle.ca_claims.specs.declared.claims.asks.Barred.TheVariants.{Nothing, InPlace, Anywhere}
 use Rattle.ca_claims.specs.Text.{about, IsShift, HasGoodNumbers}
-use Rattle.ca_claims.specs.Truth.{asks_of, claimed, IsAfter, IsNotBack, MayReturnBy, IsTrueClaim, IsReason}
-use Rattle.ca_claims.specs.Decided.{IsBounded}
-use Rattle.ca_claims.specs.Returns.{IsDifference, IsNotAgain, IsNotBackBefore, IsFirstReturn}
+use Rattle.ca_claims.specs.Truth.{asks_of, claimed, IsAfter, IsNotBack}
+use Rattle.ca_claims.specs.inner.Decided.{IsBounded}
+use Rattle.ca_claims.specs.inner.Returns.{IsDifference, IsNotAgain, IsNotBackBefore}
 
 -- ---- earlier times
 
@@ -76,56 +73,3 @@ asks_about f (Still pattern) = refl
 asks_about f (Oscillator pattern period) = refl
 asks_about f (Spaceship pattern period dx dy) = refl
 asks_about f (Becomes pattern generations other) = refl
-
--- ---- the verdict
-
--- a return that counts is barred
-barred_from_return : (barred : Barred) (dx dy : ℤ) → MayReturnBy barred dx dy → barred ≢ Nothing
-barred_from_return Nothing dx dy may = absurd may
-barred_from_return InPlace dx dy may = λ e. cc
-barred_from_return Anywhere dx dy may = λ e. cc
-
--- a cell that isn't the claimed one is a reason
-reason_from_difference : (next : List ℕ → ℕ) (p other end : Picture) (asks : Asks) (why : Why) → (IsTrue asks.live → IsLive p) → IsAfter next p asks.generations end
-    → IsDifference end (claimed asks p other) asks.generations why → IsReason next p other asks why
-reason_from_difference next p other end asks Empty live shows differs = absurd differs
-reason_from_difference next p other end asks (Differs x y found wanted n) live shows differs =
-    (live, differs.0, ap (λ k. after next p k x y) differs.0 ∙ shows x y ∙ differs.1, differs.2, differs.3)
-reason_from_difference next p other end asks (Earlier m dx dy) live shows differs = absurd differs
-
--- and so is a first return, where the claimed cells stand
-reason_from_return : (next : List ℕ → ℕ) (p other : Picture) (asks : Asks) (why : Why) → IsBounded asks → (IsTrue asks.live → IsLive p) → IsAfter next p asks.generations (claimed asks p other)
-    → IsFirstReturn next p asks.barred asks.generations why → IsReason next p other asks why
-reason_from_return next p other asks Empty bounded live stands first = absurd first
-reason_from_return next p other asks (Differs x y found wanted n) bounded live stands first = absurd first
-reason_from_return next p other asks (Earlier m dx dy) bounded live stands first =
-    (live (bounded.live (barred_from_return asks.barred dx dy first.2)), stands, first.0, first.1, first.2, first.3, first.4)
-
-judged_there : (next : List ℕ → ℕ) (p other end : Picture) (asks : Asks) (unlike earlier : Option Why) → IsBounded asks → (IsTrue asks.live → IsLive p) → IsAfter next p asks.generations end
-    → MatchOption unlike (IsSame end (claimed asks p other)) (IsDifference end (claimed asks p other) asks.generations)
-    → MatchOption earlier (IsNotBackBefore next p asks.barred asks.generations) (IsFirstReturn next p asks.barred asks.generations)
-    → MatchOption (option_or unlike earlier) (IsTrueClaim next p other asks) (IsReason next p other asks)
-judged_there next p other end asks None None bounded live shows same none = record { live = live; stands = λ x y. shows x y ∙ same x y; least = none }
-judged_there next p other end asks None (Some why) bounded live shows same first = reason_from_return next p other asks why bounded live (λ x y. shows x y ∙ same x y) first
-judged_there next p other end asks (Some why) earlier bounded live shows differs returns = reason_from_difference next p other end asks why live shows differs
-
--- what the last plane and the earlier times say of a claim
-pub judged : (next : List ℕ → ℕ) (p other end : Picture) (asks : Asks) (n : ℕ) (unlike earlier : Option Why) → IsBounded asks → (IsTrue asks.live → IsLive p) → n ≡ asks.generations → IsAfter next p n end
-    → MatchOption unlike (IsSame end (claimed asks p other)) (IsDifference end (claimed asks p other) asks.generations)
-    → MatchOption earlier (IsNotBackBefore next p asks.barred n) (IsFirstReturn next p asks.barred n)
-    → MatchOption (option_or unlike earlier) (IsTrueClaim next p other asks) (IsReason next p other asks)
-judged next p other end asks n unlike earlier bounded live e shows differs returns =
-    judged_there next p other end asks unlike earlier bounded live (subst (λ k. IsAfter next p k end) e shows) differs
-    (subst (λ k. MatchOption earlier (IsNotBackBefore next p asks.barred k) (IsFirstReturn next p asks.barred k)) e returns)
-
--- at no generations the cells themselves are compared, and there is no earlier time
-pub judged_at_0 : (next : List ℕ → ℕ) (p other : Picture) (asks : Asks) (n : ℕ) (unlike : Option Why) → IsBounded asks → (IsTrue asks.live → IsLive p) → n ≡ asks.generations → n ≡ 0
-    → MatchOption unlike (IsSame p (claimed asks p other)) (IsDifference p (claimed asks p other) asks.generations)
-    → MatchOption unlike (IsTrueClaim next p other asks) (IsReason next p other asks)
-judged_at_0 next p other asks n unlike bounded live e none differs =
-    subst (λ o. MatchOption o (IsTrueClaim next p other asks) (IsReason next p other asks)) (or_None unlike)
-    (judged next p other p asks n unlike None bounded live e (subst (λ k. IsAfter next p k p) (sym none) (λ x y. refl)) differs (λ k low high. absurd (omega arith)))
-  where
-    or_None : (o : Option Why) → option_or o None ≡ o
-    or_None None = refl
-    or_None (Some why) = refl

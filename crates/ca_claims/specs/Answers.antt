@@ -38,7 +38,7 @@ pub record IsRead (files : List (List ℕ × List ℕ)) (path : List ℕ) (cells
   pub readable : IsReadable bytes
   pub means : Means bytes cells rule_text generation
 
--- and the rule text names this rule
+-- the file means these cells, and its rule text names this rule
 abbrev pub IsRuled : List (List ℕ × List ℕ) → List ℕ → Picture → BsRule → Type 0
 IsRuled files path cells rule = (rule_text : List ℕ) × IsRead files path cells rule_text × Names rule_text rule
 
@@ -54,16 +54,19 @@ HasSmallStates cells = (x y : ℤ) → cell cells x y < 2
 abbrev pub IsSameRule : BsRule → BsRule → Type 0
 IsSameRule r s = (r.hood ≡ s.hood) × (r.birth ≡ s.birth) × (r.survival ≡ s.survival)
 
--- what is asked of a pattern's path before a cause can hold: its file is there; it reads; its rule is named; its states are small
+-- the file of a pattern's path is there
 abbrev pub IsThere : List (List ℕ × List ℕ) → List ℕ → Type 0
 IsThere files path = (bytes : List ℕ) × (bytes_at files path ≡ Some bytes)
 
+-- and it reads
 abbrev pub Reads : List (List ℕ × List ℕ) → List ℕ → Type 0
 Reads files path = (bytes : List ℕ) × (bytes_at files path ≡ Some bytes) × IsReadable bytes
 
+-- and its rule text names a rule
 abbrev pub HasRule : List (List ℕ × List ℕ) → List ℕ → Type 0
 HasRule files path = (cells : Picture) × (rule : BsRule) × IsRuled files path cells rule
 
+-- and its states are small
 abbrev pub IsSmall : List (List ℕ × List ℕ) → List ℕ → Type 0
 IsSmall files path = (cells : Picture) × (rule : BsRule) × IsRuled files path cells rule × HasSmallStates cells
 

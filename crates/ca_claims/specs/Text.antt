@@ -1,10 +1,11 @@
 -- Claim texts: which lines say what (our own format; docs/CLAIMS.md).
-use Rattle.std.specs.Prelude.{◌≡◌, ℕ, ◌+◌, ◌≤◌, ◌<◌, ◌^◌, ℤ, pos, neg_ℤ, ◌≤ℤ◌, List, [], ◌∷◌, ◌++◌, Bool, true, false, not, ◌==◌, Option, Some, None, IsSome, unwrap_or, codes, filter, if◌then◌else◌}
+use Rattle.std.specs.Prelude.{◌≡◌, ℕ, ◌+◌, ◌-◌, ◌≤◌, ◌^◌, ℤ, pos, neg_ℤ, ◌≤ℤ◌, List, [], ◌∷◌, ◌++◌, Bool, true, false, not, Option, Some, None, IsSome, unwrap_or, codes, filter, if◌then◌else◌}
 use Rattle.std.specs.Str.{bytes_eq}
-use Rattle.std.specs.List.{AllByRecursion}
+use Rattle.std.specs.Bool.{nat_eq}
+use Rattle.std.specs.List.{AllByRecursion, starts_with}
 use Rattle.ca_claims.specs.declared.claims.line.Claim.{Claim as ClaimOf}
 use Rattle.ca_claims.specs.declared.claims.line.Claim.TheVariants.{Still, Oscillator, Spaceship, Becomes}
-use Rattle.ca_plane.specs.Bytes.{is_end_or, lines_of, words_of, AreDigits, IsInteger, value}
+use Rattle.ca_plane.specs.Bytes.{lines_of, words_of, AreDigits, IsInteger, value}
 
 -- a claim about patterns, which are given by their names in a text, and by the paths of their files once names are resolved
 abbrev pub Claim : Type 0
@@ -24,17 +25,29 @@ about f (Oscillator pattern period) = Oscillator (f pattern) period
 about f (Spaceship pattern period dx dy) = Spaceship (f pattern) period dx dy
 about f (Becomes pattern generations other) = Becomes (f pattern) generations (f other)
 
--- from -2^60 to 2^60
-abbrev pub IsShift : ℤ → Type 0
-IsShift d = (neg_ℤ (pos (2 ^ 60)) ≤ℤ d) × (d ≤ℤ pos (2 ^ 60))
+-- the greatest shift in one direction
+abbrev pub greatest_shift : ℕ
+greatest_shift = 2 ^ 60
 
--- the numbers of a claim are within their limits: a period is at most 2^32 - 1, an oscillator's at least 2 and a spaceship's
--- at least 1; a shift is at most 2^60 in each direction and not (0, 0); generations are at most 2^60
+-- the most generations
+abbrev pub most_generations : ℕ
+most_generations = 2 ^ 60
+
+-- the longest period
+abbrev pub longest_period : ℕ
+longest_period = 2 ^ 32 - 1
+
+-- at most the greatest, to either side
+abbrev pub IsShift : ℤ → Type 0
+IsShift d = (neg_ℤ (pos greatest_shift) ≤ℤ d) × (d ≤ℤ pos greatest_shift)
+
+-- the numbers of a claim are within their limits: a period is at most the longest, an oscillator's at least 2 and a spaceship's
+-- at least 1; a spaceship is shifted, by no more than the greatest shift to either side; generations are at most the most
 abbrev pub HasGoodNumbers : {P : Type 0} → ClaimOf P → Type 0
 HasGoodNumbers (Still pattern) = Unit {0}
-HasGoodNumbers (Oscillator pattern period) = (2 ≤ period) × (period < 2 ^ 32)
-HasGoodNumbers (Spaceship pattern period dx dy) = (1 ≤ period) × (period < 2 ^ 32) × IsShift dx × IsShift dy × ((dx ≡ pos 0) → (dy ≡ pos 0) → ⊥)
-HasGoodNumbers (Becomes pattern generations other) = generations ≤ 2 ^ 60
+HasGoodNumbers (Oscillator pattern period) = (2 ≤ period) × (period ≤ longest_period)
+HasGoodNumbers (Spaceship pattern period dx dy) = (1 ≤ period) × (period ≤ longest_period) × IsShift dx × IsShift dy × ((dx ≡ pos 0) → (dy ≡ pos 0) → ⊥)
+HasGoodNumbers (Becomes pattern generations other) = generations ≤ most_generations
 
 -- what a line says: that a name is loaded from a path, or a claim
 pub data Line : Type 0 where
@@ -44,7 +57,7 @@ pub data Line : Type 0 where
 -- a line without words says nothing, nor does one whose first word begins with `#`
 abbrev pub is_skipped : List (List ℕ) → Bool
 is_skipped [] = true
-is_skipped (w ∷ ws) = is_end_or (λ b. b == 35) w
+is_skipped (w ∷ ws) = starts_with nat_eq w (codes "#")
 
 -- what a line says by its words: `load NAME PATH`, `still NAME`, `oscillator NAME P`, `spaceship NAME P DX DY`, or
 -- `becomes NAME N NAME`

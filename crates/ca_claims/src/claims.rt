@@ -3,7 +3,7 @@
 ghost use Rattle.std.specs.Prelude.{◌≡◌, ◌≢◌, ℕ, ◌<◌, Some, slice_get, length, MatchOption};
 ghost use Rattle.std.specs.List.{IsDistinct};
 ghost use Rattle.std.specs.Str.{bytes_eq};
-ghost use Rattle.ca_claims.specs.Lines.{numbered, IsAsked};
+ghost use Rattle.ca_claims.specs.Places.{numbered, IsAsked};
 
 mod asks;
 mod limits;
@@ -31,7 +31,7 @@ pub struct Claims {
 impl Model for Claims {
     ghost use Rattle.std.specs.Prelude.{map, All};
     ghost use Rattle.ca_claims.specs.Text.{Asked};
-    ghost use Rattle.ca_claims.specs.Lines.{numbered, IsAsked};
+    ghost use Rattle.ca_claims.specs.Places.{numbered, IsAsked};
 
     ghost Value = { Asked };
 

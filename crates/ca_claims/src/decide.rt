@@ -6,8 +6,8 @@ ghost use Rattle.ca_plane.specs.Plane.{IsSame, shifted};
 ghost use Rattle.ca_rle.specs.Limits.{IsInRange};
 ghost use Rattle.ca_claims.specs.Text.{IsShift};
 ghost use Rattle.ca_claims.specs.Truth.{whose as whose_cells, claimed, IsTrueClaim, IsReason};
-ghost use Rattle.ca_claims.specs.Decided.{IsBounded, IsDecided};
-ghost use Rattle.ca_claims.specs.Returns.{IsDifference};
+ghost use Rattle.ca_claims.specs.inner.Decided.{IsBounded, IsDecided};
+ghost use Rattle.ca_claims.specs.inner.Returns.{IsDifference};
 
 mod moves;
 mod run;

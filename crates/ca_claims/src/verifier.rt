@@ -4,10 +4,10 @@ ghost use Rattle.std.specs.Prelude.{◌≡◌, ℕ, ◌<◌, List, [], ◌∷◌
 ghost use Rattle.std.specs.List.{AllByRecursion, AllZip};
 ghost use Rattle.std.specs.Option.{option_copied};
 ghost use Rattle.ca_claims.specs.Text.{Claim as TextClaim, patterns_of, about, HasGoodNumbers};
-ghost use Rattle.ca_claims.specs.Lines.{path_at};
+ghost use Rattle.ca_claims.specs.Places.{path_at};
 ghost use Rattle.ca_claims.specs.Means.{contents, bytes_at};
 ghost use Rattle.ca_claims.specs.Answers.{SomeOf, HasCause, IsTrueVerdict, AreTrueAnswers};
-ghost use Rattle.ca_claims.specs.Patterns.{items, IsEachOnce};
+ghost use Rattle.ca_claims.specs.inner.Patterns.{items, IsEachOnce};
 
 mod one_or_two;
 mod patterns;

@@ -1,7 +1,7 @@
 //! The limits of a claim's numbers.
 
 ghost use Rattle.std.specs.Prelude.{◌≡◌, ◌≤◌, ◌<◌, ◌^◌, pos, IsTrue, ◌↔◌};
-ghost use Rattle.ca_claims.specs.Text.{HasGoodNumbers, IsShift};
+ghost use Rattle.ca_claims.specs.Text.{longest_period, HasGoodNumbers, IsShift};
 
 use super::line::Claim;
 
@@ -28,7 +28,7 @@ impl<P> Claim<P> {
 
 /// Whether a period is this at least, and not too long.
 fn is_period(least: u64, period: u64) -> bool
-    ensures { IsTrue result ↔ ((least ≤ period) × (period < 2 ^ 32)) }
+    ensures { IsTrue result ↔ ((least ≤ period) × (period ≤ longest_period)) }
 {
     least <= period && period <= LONGEST_PERIOD
 }

@@ -2,7 +2,7 @@
 
 ghost use Rattle.std.specs.Prelude.{ℤ, MatchOption};
 ghost use Rattle.ca_plane.specs.Bytes.{IsInteger};
-ghost use Rattle.ca_claims.specs.Reading.{IsHeldShift};
+ghost use Rattle.ca_claims.specs.inner.Reading.{IsHeldShift};
 
 use ca_plane::bytes::integer;
 

@@ -3,7 +3,7 @@
 ghost use Rattle.std.specs.Prelude.{◌≡◌, ◌≢◌, ℕ, ◌<◌, [], Some, slice_get, length, IfOk, MatchOption};
 ghost use Rattle.std.specs.List.{IsDistinct};
 ghost use Rattle.std.specs.Str.{bytes_eq};
-ghost use Rattle.ca_claims.specs.Reading.{with_path};
+ghost use Rattle.ca_claims.specs.inner.Reading.{with_path};
 
 use indexmap::IndexSet;
 use std::alloc::{AllocError, Global};

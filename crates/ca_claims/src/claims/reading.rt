@@ -5,7 +5,7 @@ ghost use Rattle.ca_plane.specs.Bytes.{Every, is_line_end, words_of};
 ghost use Rattle.ca_claims.specs.Text.{Line, Load, Claims as Claiming, HasGoodNumbers, IsAllowed, IsClaimText, spoken, asked_by};
 ghost use Rattle.ca_claims.specs.TextFaults.{IsFirstFault};
 ghost use Rattle.ca_claims.specs.declared.claims.words.LineKind.TheVariants as kind;
-ghost use Rattle.ca_claims.specs.Reading.{IsKind, IsReading, SaysNext, HasFault, place_of, claim_of, AreKnown, at_places};
+ghost use Rattle.ca_claims.specs.inner.Reading.{IsKind, IsReading, SaysNext, HasFault, place_of, claim_of, AreKnown, at_places};
 
 use super::Claims;
 use super::line::{Claim, ClaimLine};

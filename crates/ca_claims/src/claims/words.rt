@@ -3,7 +3,7 @@
 ghost use Rattle.std.specs.Prelude.{◌≡◌, ◌≢◌, ℕ, ◌<◌, List, [], ◌∷◌, not, length, codes, MatchOption, IfSome};
 ghost use Rattle.ca_plane.specs.Bytes.{Every, is_line_end, lines_of, words_of};
 ghost use Rattle.ca_claims.specs.Text.{Claim as TextClaim, Claims, WordsSay, is_skipped};
-ghost use Rattle.ca_claims.specs.Reading.{IsKind, MakesClaim};
+ghost use Rattle.ca_claims.specs.inner.Reading.{IsKind, MakesClaim};
 
 use super::line::Claim;
 use super::numbers::integer_of;

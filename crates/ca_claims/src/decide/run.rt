@@ -9,8 +9,8 @@ ghost use Rattle.ca_run.specs.Reach.{LeavesReach};
 ghost use Rattle.ca_rle.specs.Limits.{IsInRange};
 ghost use Rattle.ca_claims.specs.declared.claims.asks.Barred.TheVariants.{Nothing};
 ghost use Rattle.ca_claims.specs.Truth.{IsAfter};
-ghost use Rattle.ca_claims.specs.Decided.{IsBounded};
-ghost use Rattle.ca_claims.specs.Returns.{IsNotAgain, IsAgain, IsNotBackBefore, IsFirstReturn};
+ghost use Rattle.ca_claims.specs.inner.Decided.{IsBounded};
+ghost use Rattle.ca_claims.specs.inner.Returns.{IsNotAgain, IsAgain, IsNotBackBefore, IsFirstReturn};
 
 use super::moves::vector_between;
 use crate::claims::{Asks, Barred};

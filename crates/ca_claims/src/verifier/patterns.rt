@@ -4,7 +4,7 @@ ghost use Rattle.std.specs.Prelude.{◌≡◌, ℕ, ◌<◌, IsTrue, IsFalse, If
 ghost use Rattle.std.specs.List.{All, AllByRecursion, AllZip};
 ghost use Rattle.ca_rule.specs.Spelling.{Names, IsFaultOf};
 ghost use Rattle.ca_claims.specs.Answers.{IsReadable, HasLargeState, HasSmallStates, SomeOf, FirstBad};
-ghost use Rattle.ca_claims.specs.Patterns.{items, IsReadFrom, IsUnread, HasName, AreOfOneRule, AreMixed, ArePlanes};
+ghost use Rattle.ca_claims.specs.inner.Patterns.{items, IsReadFrom, IsUnread, HasName, AreOfOneRule, AreMixed, ArePlanes};
 
 use super::one_or_two::OneOrTwo;
 use crate::verdict::{Cause, PatternFault};

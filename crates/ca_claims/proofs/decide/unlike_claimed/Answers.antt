@@ -1,7 +1,7 @@
 use Rattle.std.proofs.Common.{◌≡◌, MatchOption, refl, sym, subst, ◌∙◌}
 use Rattle.std.specs.Prelude.{pos}
 use Rattle.ca_plane.specs.Plane.{Picture, IsSame, shifted}
-use Rattle.ca_claims.specs.Returns.{IsDifference}
+use Rattle.ca_claims.specs.inner.Returns.{IsDifference}
 use Rattle.ca_claims.proofs.Times.{shift_reads, unlike_unmoved}
 use Rattle.ca_claims.proofs.decide.unlike_claimed.Goals as goal
 

@@ -2,7 +2,7 @@ use Rattle.std.proofs.Common.{◌≡◌, ◌+◌, ◌<◌, take, map, length, re
 use Rattle.std.specs.List.{AllByRecursion}
 use Rattle.std.specs.Option.{option_copied}
 use Rattle.ca_claims.specs.Text.{patterns_of, about}
-use Rattle.ca_claims.specs.Lines.{path_at}
+use Rattle.ca_claims.specs.Places.{path_at}
 use Rattle.ca_claims.specs.Means.{contents, bytes_at}
 use Rattle.ca_claims.specs.Answers.{AreTrueAnswers}
 use Rattle.ca_claims.proofs.Answered.{answers-more}

@@ -3,7 +3,7 @@ use Rattle.std.specs.Str.{bytes_eq}
 use Rattle.std.proofs.lemmas.Slice.Eq.{bytes_eq-Decides}
 use Rattle.ca_plane.specs.Bytes.{words_of}
 use Rattle.ca_claims.specs.Text.{Claim, Claims, WordsSay}
-use Rattle.ca_claims.specs.Reading.{MakesClaim}
+use Rattle.ca_claims.specs.inner.Reading.{MakesClaim}
 use Rattle.ca_claims.proofs.claims.words.claim.Goals as goal
 
 pub returns-then-eq-2 : goal.returns-then-eq-2

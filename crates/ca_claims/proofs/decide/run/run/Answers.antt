@@ -1,6 +1,6 @@
 use Rattle.std.proofs.Common.{◌≡◌, ◌∙◌, refl, sym, subst, arith, MatchOption}
 use Rattle.ca_run.proofs.Later.{after_again}
-use Rattle.ca_claims.specs.Returns.{IsNotBackBefore, IsFirstReturn}
+use Rattle.ca_claims.specs.inner.Returns.{IsNotBackBefore, IsFirstReturn}
 use Rattle.ca_claims.proofs.Ranges.{leaves_no_reach}
 use Rattle.ca_claims.proofs.decide.run.run.Goals as goal
 

@@ -4,7 +4,7 @@ use Rattle.std.proofs.lemmas.Result.{err_from_is_err_and}
 use Rattle.ca_rule.specs.Spelling.{IsFaultOf}
 use Rattle.ca_rule.specs.declared.fault.RuleFault.{RuleFault}
 use Rattle.ca_claims.specs.Answers.{FirstBad}
-use Rattle.ca_claims.specs.Patterns.{HasName}
+use Rattle.ca_claims.specs.inner.Patterns.{HasName}
 use Rattle.ca_claims.proofs.verifier.patterns.rules_of.Goals as goal
 
 pub returns-in_err-second-in-Two-clause-unnamed : goal.returns-in_err-second-in-Two-clause-unnamed

@@ -1,6 +1,6 @@
 use Rattle.std.proofs.Common.{ℕ, List, map, sym, ap, ◌∙◌}
 use Rattle.std.specs.Str.{bytes_eq}
-use Rattle.ca_claims.specs.Reading.{with_path}
+use Rattle.ca_claims.specs.inner.Reading.{with_path}
 use Rattle.ca_claims.proofs.PathLists.{with_path_there, items_insert_key, item_at}
 use Rattle.ca_claims.proofs.claims.paths.Paths.put.Goals as goal
 

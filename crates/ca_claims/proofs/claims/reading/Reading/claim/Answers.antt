@@ -1,6 +1,6 @@
 use Rattle.std.proofs.Common.{[], ◌∷◌, ◌++◌, Some, if◌then◌else◌, sym, ap, subst, ◌∙◌}
 use Rattle.ca_claims.specs.Text.{Claims}
-use Rattle.ca_claims.specs.Reading.{claim_of, IsRead, place_of}
+use Rattle.ca_claims.specs.inner.Reading.{claim_of, IsKept, place_of}
 use Rattle.ca_claims.proofs.ReadOn.{names_loaded, read_claim}
 use Rattle.ca_claims.proofs.claims.reading.Reading.claim.Goals as goal
 
@@ -13,7 +13,7 @@ returns-clause-claimed c = λ said read number.
     let items = c.push.ensures.items
     ∙ ap (λ b. if b then old.claims.items ++ record { line = c.args.line; claim = c.in-Some.claim } ∷ [] else old.claims.items) c.if-is_err.ensures.negation
     ∙ ap (λ k. old.claims.items ++ record { line = c.args.line; claim = k } ∷ []) placed.1 in
-    (claimed.0, subst (λ l. IsRead (said ++ Some (Claims claim) ∷ []) old.paths l (place_of old.names)) (sym items) claimed.1)
+    (claimed.0, subst (λ l. IsKept (said ++ Some (Claims claim) ∷ []) old.paths l (place_of old.names)) (sym items) claimed.1)
 
 -- memory is wanted at a claim about names that are loaded
 pub returns-then-is_err-clause-fault : goal.returns-then-is_err-clause-fault

@@ -1,7 +1,7 @@
 use Rattle.std.proofs.Common.{ℕ, List, ◌∷◌, [], ◌++◌, Some, slice_get, refl, sym, ap, subst, ◌∙◌}
 use Rattle.std.proofs.lemmas.Map.Text.{hash_map_updates_str}
 use Rattle.ca_claims.specs.Text.{Load}
-use Rattle.ca_claims.specs.Reading.{IsRead, place_of}
+use Rattle.ca_claims.specs.inner.Reading.{IsKept, place_of}
 use Rattle.ca_claims.proofs.ReadOn.{on_ok_holds, none_from, not_loaded, read_load}
 use Rattle.ca_claims.proofs.claims.reading.Reading.load.Goals as goal
 
@@ -14,7 +14,7 @@ returns-clause-loaded c = λ said read.
     let updates = on_ok_holds c.insert.result _ c.if-is_err.ensures.negation c.insert.ensures.updates in
     let at = ap (λ l. slice_get l c.in-Ok.place) (sym c.in-Ok.ensures.paths) ∙ c.in-Ok.ensures.index in
     let loaded = read_load said old.paths old.claims.items (place_of old.names) read name path c.in-Ok.place (place_of c.insert.new.self) new at (hash_map_updates_str name old.names c.insert.new.self _ updates) in
-    (loaded.0, subst (λ l. IsRead (said ++ Some (Load name path) ∷ []) l old.claims.items (place_of c.insert.new.self)) (sym c.in-Ok.ensures.paths) loaded.1)
+    (loaded.0, subst (λ l. IsKept (said ++ Some (Load name path) ∷ []) l old.claims.items (place_of c.insert.new.self)) (sym c.in-Ok.ensures.paths) loaded.1)
 
 -- memory is wanted at a name that isn't loaded yet
 pub returns-in_default-clause-fault : goal.returns-in_default-clause-fault

@@ -1,17 +1,17 @@
 -- What a verdict says of a claim about cells that are at hand.
-use Rattle.std.specs.Prelude.{◌≡◌, ◌≢◌, ℕ, ◌≤◌, ◌^◌, List, IsTrue}
+use Rattle.std.specs.Prelude.{◌≡◌, ◌≢◌, ℕ, ◌≤◌, List, IsTrue}
 use Rattle.ca_plane.specs.Plane.{Picture}
 use Rattle.ca_claims.specs.declared.verdict.Verdict.{Verdict}
 use Rattle.ca_claims.specs.declared.verdict.Verdict.TheVariants.{Yes, No, Refused}
 use Rattle.ca_claims.specs.declared.verdict.Cause.TheVariants.{Memory}
 use Rattle.ca_claims.specs.declared.claims.asks.Asks.{Asks}
 use Rattle.ca_claims.specs.declared.claims.asks.Barred.TheVariants.{Nothing}
-use Rattle.ca_claims.specs.Text.{IsShift}
+use Rattle.ca_claims.specs.Text.{most_generations, IsShift}
 use Rattle.ca_claims.specs.Truth.{IsTrueClaim, IsReason}
 
 -- what a claim with good numbers asks: few generations, a shift within its limits, and a live pattern where a return is barred
 pub record IsBounded (asks : Asks) : Type 0 where
-  pub few : asks.generations ≤ 2 ^ 60
+  pub few : asks.generations ≤ most_generations
   pub right : IsShift asks.dx
   pub down : IsShift asks.dy
   pub live : asks.barred ≢ Nothing → IsTrue asks.live

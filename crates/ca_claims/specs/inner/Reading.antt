@@ -11,7 +11,7 @@ use Rattle.ca_claims.specs.declared.claims.words.LineKind.{LineKind}
 use Rattle.ca_claims.specs.declared.claims.words.LineKind.TheVariants.{Skipped, Load, Claim, OutsideLimits, Misspelled}
 use Rattle.ca_claims.specs.declared.fault.ClaimFault.{ClaimFault}
 use Rattle.ca_claims.specs.declared.fault.ClaimFault.TheVariants.{Syntax, Number, UnknownName, NameTaken, Memory}
-use Rattle.ca_claims.specs.Lines.{numbered, IsAsked}
+use Rattle.ca_claims.specs.Places.{numbered, IsAsked}
 use Rattle.ca_claims.specs.Text as text
 use Rattle.ca_claims.specs.TextFaults.{AreMisspelled, HaveBadNumber, AskUnknown, LoadTaken, AreAllowed}
 
@@ -66,7 +66,7 @@ StandsAt paths None found = found ≡ None
 StandsAt paths (Some i) found = (path : List ℕ) × (slice_get paths i ≡ Some path) × (found ≡ Some path)
 
 -- the paths, claims and names that are kept once the lines have said this
-pub record IsRead (said : List (Option text.Line)) (paths : List (List ℕ)) (claims : List ClaimLine) (names : List ℕ → Option ℕ) : Type 0 where
+pub record IsKept (said : List (Option text.Line)) (paths : List (List ℕ)) (claims : List ClaimLine) (names : List ℕ → Option ℕ) : Type 0 where
   pub once : paths ≡ text.each_once (text.loaded_paths said)
   pub asked : map (numbered paths) claims ≡ text.claims_from 1 [] said
   pub good : All (λ l. IsAsked paths l.claim) claims
@@ -74,7 +74,7 @@ pub record IsRead (said : List (Option text.Line)) (paths : List (List ℕ)) (cl
 
 -- what is kept once the lines have said this
 abbrev pub IsReading : List (Option text.Line) → Reading → Type 0
-IsReading said reading = IsRead said reading.paths reading.claims.items (place_of reading.names)
+IsReading said reading = IsKept said reading.paths reading.claims.items (place_of reading.names)
 
 -- the next line says this, behind what earlier lines say
 abbrev pub SaysNext : List text.Line → List (List ℕ) → Option text.Line → Type 0

@@ -1,0 +1,4 @@
+pub mod Decided
+pub mod Patterns
+pub mod Reading
+pub mod Returns
