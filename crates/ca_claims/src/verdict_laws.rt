@@ -1,18 +1,30 @@
-//! Laws of verdicts, which no call needs to run: a no means that the claim is false, and it's false for one kind of reason;
+//! Laws of verdicts, which no call needs to run: what a true claim of each kind is; a no means that the claim is false, and it's false for one kind of reason;
 //! a file has one meaning; and only one kind of verdict is true of a claim.
 
-ghost use Rattle.std.specs.Prelude.{◌≡◌, ◌≢◌, ℕ, List, pos, negsuc};
-ghost use Rattle.ca_plane.specs.Plane.{Picture};
+ghost use Rattle.std.specs.Prelude.{◌≡◌, ◌≢◌, ℕ, ◌≤◌, ◌<◌, ◌↔◌, ℤ, List, pos, negsuc};
+ghost use Rattle.ca_plane.specs.Plane.{Picture, shifted, IsLive};
 ghost use Rattle.ca_plane.specs.Generations.{after};
+ghost use Rattle.ca_claims.specs.declared.claims.line.Claim.TheVariants.{Still, Oscillator, Spaceship, Becomes};
 ghost use Rattle.ca_claims.specs.Text.{Claim};
 ghost use Rattle.ca_claims.specs.Means.{Means};
-ghost use Rattle.ca_claims.specs.Truth.{asks_of, IsTrueClaim, IsReason, IsSameReason};
+ghost use Rattle.ca_claims.specs.Truth.{asks_of, IsAfter, IsChanged, IsNowhere, IsTrueClaim, IsReason, IsSameReason};
 ghost use Rattle.ca_claims.specs.Answers.{IsTrueVerdict};
 ghost use Rattle.ca_claims.specs.Examples.{life, blinker, block};
 ghost use Rattle.ca_claims.specs.declared.verdict.Why.{Why};
 ghost use Rattle.ca_claims.specs.declared.verdict.Verdict.TheVariants.{Yes, No, Refused};
 ghost use Rattle.ca_claims.specs.declared.verdict.Cause.{Cause};
 ghost use Rattle.ca_claims.specs.declared.verdict.Cause.TheVariants.{NoFile, Memory};
+
+/// What it means that a claim of each kind is true.
+pub fn true_claims()
+    ensures still { (next : List ℕ → ℕ) (cells other : Picture) (pattern : List ℕ) → IsTrueClaim next cells other (asks_of (Still pattern)) ↔ (IsLive cells × IsAfter next cells 1 cells) }
+    ensures oscillator { (next : List ℕ → ℕ) (cells other : Picture) (pattern : List ℕ) (period : ℕ) → IsTrueClaim next cells other (asks_of (Oscillator pattern period))
+        ↔ (IsLive cells × IsAfter next cells period cells × ((m : ℕ) → 1 ≤ m → m < period → IsChanged next cells m)) }
+    ensures spaceship { (next : List ℕ → ℕ) (cells other : Picture) (pattern : List ℕ) (period : ℕ) (dx dy : ℤ) → IsTrueClaim next cells other (asks_of (Spaceship pattern period dx dy))
+        ↔ (IsLive cells × IsAfter next cells period (shifted cells dx dy) × ((m : ℕ) → 1 ≤ m → m < period → IsNowhere next cells m)) }
+    ensures becomes { (next : List ℕ → ℕ) (cells other : Picture) (pattern : List ℕ) (generations : ℕ) (other_pattern : List ℕ)
+        → IsTrueClaim next cells other (asks_of (Becomes pattern generations other_pattern)) ↔ IsAfter next cells generations other }
+{}
 
 /// Where there is a reason against a claim, the claim isn't true.
 pub fn no_is_false()
