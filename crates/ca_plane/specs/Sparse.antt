@@ -1,5 +1,5 @@
 -- What holds of the picture that a sparse plane keeps.
-use Rattle.std.specs.Prelude.{◌≤ℤ◌, pos, neg_ℤ, ◌^◌, map}
+use Rattle.std.specs.Prelude.{ℤ, ◌≤ℤ◌, pos, neg_ℤ, ◌^◌, map}
 use Rattle.std.specs.List.{All}
 use Rattle.std.specs.List.Sorted.{IsStrictlySortedBy}
 use Rattle.std.specs.Ordering.{int_cmp, ordering_then}
@@ -7,9 +7,13 @@ use Rattle.std.specs.declared.cmp.Ordering.{Ordering}
 use Rattle.ca_plane.specs.declared.point.Point.{Point}
 use Rattle.ca_plane.specs.Plane.{Picture, IsPicture}
 
--- both coordinates are from -2^62 to 2^62: where a plane keeps cells
+-- how far from 0 a coordinate of a plane's cells may be
+abbrev pub reach : ℤ
+reach = pos (2 ^ 62)
+
+-- the square in which a plane keeps its cells
 abbrev pub IsInPlane : Point → Type 0
-IsInPlane p = (neg_ℤ (pos (2 ^ 62)) ≤ℤ p.x) × (p.x ≤ℤ pos (2 ^ 62)) × (neg_ℤ (pos (2 ^ 62)) ≤ℤ p.y) × (p.y ≤ℤ pos (2 ^ 62))
+IsInPlane p = (neg_ℤ reach ≤ℤ p.x) × (p.x ≤ℤ reach) × (neg_ℤ reach ≤ℤ p.y) × (p.y ≤ℤ reach)
 
 -- by y, and then by x: row by row from the top
 abbrev pub point_cmp : Point → Point → Ordering

@@ -3,7 +3,7 @@
 ghost use Rattle.std.specs.Prelude.{◌≡◌, IsTrue, IsFalse, IsOk, IfOk, IsErrOf, ◌↔◌, ◌≤ℤ◌, ◌+ℤ◌, pos, neg_ℤ, ◌^◌};
 ghost use Rattle.ca_plane.specs.Plane.{IsSame, shifted};
 ghost use Rattle.ca_plane.specs.Box.{LeavesPlane, moved};
-ghost use Rattle.ca_plane.specs.inner.Moves.{StaysInPlane};
+ghost use Rattle.ca_plane.specs.inner.Moves.{IsNear, StaysInPlane};
 ghost use Rattle.ca_plane.specs.Sparse.{IsInPlane, IsSparse};
 
 use crate::memory::{Memory, MoveFault};
@@ -83,7 +83,7 @@ impl Point {
 
 // Whether a coordinate is one of the square of a plane when it is moved.
 fn is_near(coordinate: i64, distance: i64) -> bool
-    ensures { IsTrue result ↔ (neg_ℤ (pos (2 ^ 62)) ≤ℤ (coordinate +ℤ distance)) × ((coordinate +ℤ distance) ≤ℤ pos (2 ^ 62)) }
+    ensures { IsTrue result ↔ IsNear (coordinate +ℤ distance) }
 {
     let moved = i128::from(coordinate) + i128::from(distance);
     -FAR <= moved && moved <= FAR
