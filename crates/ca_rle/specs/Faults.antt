@@ -1,6 +1,6 @@
 -- What is wrong with an RLE text. The units of its spelling are each word of a `#CXRLE` line, each other line before the
 -- header, the header, and each item (our own order); the first bad one is the text's first fault.
-use Rattle.std.specs.Prelude.{◌≡◌, ℕ, ◌≤◌, ◌^◌, ℤ, List, [], ◌∷◌, ◌++◌, Bool, true, false, ◌||◌, ◌==◌, nat_le, IsTrue, Option, Some, None, is_some, codes, ◌⊎◌, if◌then◌else◌}
+use Rattle.std.specs.Prelude.{◌≡◌, ℕ, ◌≤◌, ℤ, List, [], ◌∷◌, ◌++◌, Bool, true, false, ◌||◌, ◌==◌, nat_le, IsTrue, Option, Some, None, is_some, codes, ◌⊎◌, if◌then◌else◌}
 use Rattle.std.specs.Bool.{nat_eq}
 use Rattle.std.specs.List.{flat_map, AllZip, starts_with}
 use Rattle.ca_plane.specs.Bytes.{letter, is_blank, is_line_end, is_digit, is_end_or, front, rest, AreDigits, value}
@@ -8,7 +8,7 @@ use Rattle.ca_rle.specs.declared.fault.RleFault.{RleFault}
 use Rattle.ca_rle.specs.declared.fault.RleFault.TheVariants.{Syntax, Header, XlifeRule, NoEnd, BadState, GenTooLarge, Range, TooManyCells, Memory}
 use Rattle.ca_rle.specs.declared.item.Item.{Item}
 use Rattle.ca_rle.specs.Items.{is_letter, is_prefix, prefixed_state, tag_of, Place, AtStart, InLine, InComment, Run}
-use Rattle.ca_rle.specs.Header.{IsHeader, is_comment, extended_words, Said, Corner, Says, IsXlifeLine}
+use Rattle.ca_rle.specs.Header.{generation_limit, IsHeader, is_comment, extended_words, Said, Corner, Says, IsXlifeLine}
 use Rattle.ca_rle.specs.File.{File, IsLine, ended, IsPreamble, IsHeaded, IsFile}
 use Rattle.ca_rle.specs.Limits.{IsOutOfRange, HasTooManyCells}
 
@@ -17,7 +17,7 @@ abbrev pub IsBadWord : List ℕ → RleFault → Type 0
 IsBadWord word Syntax =
     ((starts_with nat_eq word (codes "Pos=") ≡ true) × ((x y : ℤ) → Says word (Corner x y) → ⊥))
     ⊎ ((starts_with nat_eq word (codes "Gen=") ≡ true) × ((digits : List ℕ) → word ≡ codes "Gen=" ++ digits → AreDigits digits → ⊥))
-IsBadWord word GenTooLarge = (digits : List ℕ) × (word ≡ codes "Gen=" ++ digits) × AreDigits digits × (2 ^ 63 ≤ value digits)
+IsBadWord word GenTooLarge = (digits : List ℕ) × (word ≡ codes "Gen=" ++ digits) × AreDigits digits × (generation_limit ≤ value digits)
 IsBadWord word Header = ⊥
 IsBadWord word XlifeRule = ⊥
 IsBadWord word NoEnd = ⊥

@@ -57,10 +57,14 @@ pub data Said : Type 0 where
   Generation : (count : ℕ) → Said
   Nothing : Said
 
--- `Pos=X,Y` is the corner, `Gen=G` the generation, below 2^63; other words say nothing
+-- generations are below 2^63
+abbrev pub generation_limit : ℕ
+generation_limit = 2 ^ 63
+
+-- `Pos=X,Y` is the corner, `Gen=G` the generation, below its limit; other words say nothing
 abbrev pub Says : List ℕ → Said → Type 0
 Says word (Corner x y) = (a : List ℕ) × (b : List ℕ) × (word ≡ codes "Pos=" ++ (a ++ letter "," ∷ b)) × IsInteger a x × IsInteger b y
-Says word (Generation count) = (digits : List ℕ) × (word ≡ codes "Gen=" ++ digits) × AreDigits digits × (count ≡ value digits) × (count < 2 ^ 63)
+Says word (Generation count) = (digits : List ℕ) × (word ≡ codes "Gen=" ++ digits) × AreDigits digits × (count ≡ value digits) × (count < generation_limit)
 Says word Nothing = (starts_with nat_eq word (codes "Pos=") ≡ false) × (starts_with nat_eq word (codes "Gen=") ≡ false)
 
 -- `#r` and a blank begin XLife's rule line; a CR that only ends the line is no blank

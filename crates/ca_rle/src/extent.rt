@@ -1,10 +1,10 @@
 //! How far the items of an RLE text reach, which is judged before anything is drawn. Nothing here takes memory.
 
-ghost use Rattle.std.specs.Prelude.{◌≡◌, ℕ, ◌+◌, ◌≤◌, ◌^◌, max, pos, neg_ℤ, ◌+ℤ◌, ◌≤ℤ◌, ◌<ℤ◌, List, [], ◌==◌, IsTrue, ◌↔◌, IfOk, IfErr, if◌then◌else◌};
+ghost use Rattle.std.specs.Prelude.{◌≡◌, ◌+◌, ◌≤◌, max, pos, neg_ℤ, ◌+ℤ◌, ◌≤ℤ◌, ◌<ℤ◌, List, [], ◌==◌, IsTrue, ◌↔◌, IfOk, IfErr, if◌then◌else◌};
 ghost use Rattle.ca_rle.specs.declared.item.Item.{Item};
 ghost use Rattle.ca_rle.specs.Items.{Items};
 ghost use Rattle.ca_rle.specs.Shown.{ends_row, state_of};
-ghost use Rattle.ca_rle.specs.Limits.{IsInRange};
+ghost use Rattle.ca_rle.specs.Limits.{range, IsInRange};
 ghost use Rattle.ca_rle.specs.inner.BodyFaults.{HasBadUnit};
 ghost use Rattle.ca_rle.specs.inner.Extent.{kept_number, live_count, IsOffsetOf, IsExtentOf, IsExtentInRange, point_from};
 
@@ -122,7 +122,7 @@ impl Extent {
 
 /// Whether a coordinate is in range, and so many cells from there on.
 fn has_room(coordinate: i64, length: u64) -> bool
-    ensures { IsTrue result ↔ (neg_ℤ (pos (2 ^ 60)) ≤ℤ coordinate) × (coordinate <ℤ pos (2 ^ 60)) × ((coordinate +ℤ pos length) ≤ℤ pos (2 ^ 60)) }
+    ensures { IsTrue result ↔ (neg_ℤ (pos range) ≤ℤ coordinate) × (coordinate <ℤ pos range) × ((coordinate +ℤ pos length) ≤ℤ pos range) }
 {
     let start = i128::from(coordinate);
     let end = start + i128::from(length);

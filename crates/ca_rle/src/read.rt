@@ -1,9 +1,10 @@
 //! The reader of extended RLE.
 
-ghost use Rattle.std.specs.Prelude.{◌≡◌, ◌<◌, ◌^◌, unwrap_or, codes, IfOk, IfErr, IsErrOf};
+ghost use Rattle.std.specs.Prelude.{◌≡◌, ◌<◌, unwrap_or, codes, IfOk, IfErr, IsErrOf};
 ghost use Rattle.std.specs.Option.{option_copied};
 ghost use Rattle.ca_plane.specs.Bytes.{IsWord};
 ghost use Rattle.ca_plane.specs.Sparse.{IsSparse};
+ghost use Rattle.ca_rle.specs.Header.{generation_limit};
 ghost use Rattle.ca_rle.specs.File.{File, IsFile};
 ghost use Rattle.ca_rle.specs.Limits.{IsWithinLimits};
 ghost use Rattle.ca_rle.specs.Faults.{IsFaultOf};
@@ -43,7 +44,7 @@ pub fn read_rle(alloc: Global, bytes: &[u8]) -> Result<Pattern, RleFault>
     // What is read is what the text holds, and it passes no limit.
     ensures found { IfOk result (λ p. (file : File) × IsFile bytes.now file × IsWithinLimits file × IsPatternOf file p) }
     ensures sparse { IfOk result (λ p. IsSparse p.cells) }
-    ensures generation { IfOk result (λ p. p.generation < 2 ^ 63) }
+    ensures generation { IfOk result (λ p. p.generation < generation_limit) }
     ensures rule { IfOk result (λ p. IsWord p.rule_text.items) }
     // A text that is refused has this fault.
     ensures fault { IfErr result (λ f. IsFaultOf bytes.now f) }

@@ -1,10 +1,11 @@
 //! The writer of extended RLE: one tidy text for a plane.
 
-ghost use Rattle.std.specs.Prelude.{◌≡◌, ℕ, ◌<◌, ◌≤◌, ◌^◌, List, length, OnOk, IfOk, IsErrOf};
+ghost use Rattle.std.specs.Prelude.{◌≡◌, ℕ, ◌<◌, ◌≤◌, List, length, OnOk, IfOk, IsErrOf};
 ghost use Rattle.std.specs.List.{All};
 ghost use Rattle.std.specs.Io.KnownBytes.{Appends};
 ghost use Rattle.ca_plane.specs.Bytes.{IsWord};
 ghost use Rattle.ca_plane.specs.Device.{Rises, AppendsPrefix};
+ghost use Rattle.ca_rle.specs.Header.{generation_limit};
 ghost use Rattle.ca_rle.specs.File.{File, IsFile};
 ghost use Rattle.ca_rle.specs.Limits.{most_cells, IsInRange, IsWithinRange, IsWithinLimits};
 ghost use Rattle.ca_rle.specs.Shown.{picture_of};
@@ -44,7 +45,7 @@ pub fn write_rle(
     requires range { All (λ e. IsInRange e.0) cells.now }
     requires states { All (λ e. e.1 < states) cells.now }
     requires rule { IsWord rule_text.now }
-    requires generation { generation < 2 ^ 63 }
+    requires generation { generation < generation_limit }
     ensures tidy { IfOk result (λ text. IsTidy text.items cells.now rule_text.now generation states) }
     // It means the plane, its cells one by one in their order, the rule text and the generation, and is in the reader's range.
     ensures means { IfOk result (λ text. (file : File) × IsFile text.items file × IsWithinRange file
@@ -78,7 +79,7 @@ pub fn write_rle_to<W: Write>(
     requires range { All (λ e. IsInRange e.0) cells.now }
     requires states { All (λ e. e.1 < states) cells.now }
     requires rule { IsWord rule_text.now }
-    requires generation { generation < 2 ^ 63 }
+    requires generation { generation < generation_limit }
     // The tidy text is written whole, and no failure is counted.
     ensures all { OnOk result ((text : List ℕ) × IsTidy text cells.now rule_text.now generation states
         × Appends (W.contents out.old.inner) (W.contents out.new.inner) text) }

@@ -1,6 +1,6 @@
 //! Rules in B/S notation.
 
-ghost use Rattle.std.specs.Prelude.{◌≡◌, ◌↔◌, ◌++◌, false, IsTrue, IfOk, IfErr, OnOk};
+ghost use Rattle.std.specs.Prelude.{◌≡◌, ◌↔◌, false, IsTrue, IfOk, IfErr};
 ghost use Rattle.ca_plane.specs.Bytes.{IsWord};
 ghost use Rattle.ca_rule.specs.Counts.{is_count, FitsHood};
 ghost use Rattle.ca_rule.specs.Next.{neighbour_count};

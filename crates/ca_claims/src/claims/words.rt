@@ -1,7 +1,7 @@
 //! The lines of a claim text, and the words of a line.
 
-ghost use Rattle.std.specs.Prelude.{◌≡◌, ◌≢◌, ℕ, ◌<◌, List, [], ◌∷◌, not, length, codes, MatchOption, IfSome};
-ghost use Rattle.ca_plane.specs.Bytes.{Every, is_line_end, lines_of, words_of};
+ghost use Rattle.std.specs.Prelude.{◌≡◌, ◌≢◌, ℕ, ◌<◌, List, [], ◌∷◌, not, length, codes, MatchOption};
+ghost use Rattle.ca_plane.specs.Bytes.{Every, is_line_end, words_of};
 ghost use Rattle.ca_claims.specs.Text.{Claim as TextClaim, Claims, WordsSay, is_skipped};
 ghost use Rattle.ca_claims.specs.inner.Reading.{IsKind, MakesClaim};
 

@@ -1,8 +1,7 @@
 //! The words of a line before the header, and where they let a pattern start.
 
-ghost use Rattle.std.specs.Prelude.{◌≡◌, ℕ, ◌<◌, ◌-◌, ◌^◌, pos, min, List, [], ◌∷◌, ◌++◌, not, length, codes, MatchOption, IfSome, IfOk, IfErr, ℤ, ◌==◌};
-ghost use Rattle.std.specs.List.{prefix_len, list_all};
-ghost use Rattle.ca_plane.specs.Bytes.{Every, is_line_end, is_digit, AreDigits, IsInteger, words_of, value, front, rest};
+ghost use Rattle.std.specs.Prelude.{◌≡◌, ℕ, List, [], ◌∷◌, ◌++◌, not, codes, MatchOption, IfOk, IfErr, ℤ};
+ghost use Rattle.ca_plane.specs.Bytes.{Every, is_line_end, IsInteger, words_of};
 ghost use Rattle.ca_rle.specs.Header.{Says, Generation as SaidGeneration};
 ghost use Rattle.ca_rle.specs.Faults.{IsBadWord};
 ghost use Rattle.ca_rle.specs.inner.FrontParts.{Writes, WritesPair, Leads, HasBadWordAmong};

@@ -1,5 +1,6 @@
-ghost use Rattle.std.specs.Prelude.{◌<◌, ◌^◌, Some, IsTrue};
+ghost use Rattle.std.specs.Prelude.{◌<◌, Some, IsTrue};
 ghost use Rattle.std.specs.List.{All};
+ghost use Rattle.ca_rle.specs.Header.{generation_limit};
 ghost use Rattle.ca_plane.specs.Bytes.{IsWord};
 ghost use Rattle.ca_rle.specs.Limits.{IsInRange};
 
@@ -88,7 +89,7 @@ fn written(
     states: u16,
 ) -> Result<Vec<u8>, Memory>
     requires rule { IsWord rule_text.now }
-    requires generation { generation < 2 ^ 63 }
+    requires generation { generation < generation_limit }
 {
     assert!(rt; fits(plane, states));
     write_rle(rt.alloc(), plane, rule_text, generation, states)
