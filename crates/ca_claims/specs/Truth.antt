@@ -12,21 +12,21 @@ use Rattle.ca_claims.specs.declared.claims.asks.Barred.TheVariants.{Nothing, InP
 use Rattle.ca_claims.specs.declared.verdict.Why.{Why}
 use Rattle.ca_claims.specs.declared.verdict.Why.TheVariants.{Empty, Differs, Earlier}
 
--- what each kind of claim asks: whether the pattern must be live; which cells are wanted after how many generations, the
--- pattern's own or the other's, moved by (dx, dy); and what is barred from the times before: nothing, the pattern in its
--- place, or the pattern anywhere
+-- what each kind of claim asks: whether the pattern must be live; after how many generations which cells are wanted, the
+-- pattern's own or the other's, moved by (dx, dy); and what no time before that may show: nothing is barred, or the pattern
+-- in its place, or the pattern anywhere
 abbrev pub asks_of : {P : Type 0} → ClaimOf P → Asks
 asks_of (Still pattern) = record { live = true; generations = 1; wanted = Own; dx = pos 0; dy = pos 0; barred = Nothing }
 asks_of (Oscillator pattern period) = record { live = true; generations = period; wanted = Own; dx = pos 0; dy = pos 0; barred = InPlace }
 asks_of (Spaceship pattern period dx dy) = record { live = true; generations = period; wanted = Own; dx = dx; dy = dy; barred = Anywhere }
 asks_of (Becomes pattern generations other) = record { live = false; generations = generations; wanted = Other; dx = pos 0; dy = pos 0; barred = Nothing }
 
--- the cells that are wanted, of the pattern's own and the other's
+-- the cells that are wanted: the pattern's own, or the other's
 abbrev pub whose : Wanted → Picture → Picture → Picture
 whose Own cells other = cells
 whose Other cells other = other
 
--- moved by the vector
+-- the claimed cells: those that are wanted, moved by the vector
 abbrev pub claimed : Asks → Picture → Picture → Picture
 claimed asks cells other = shifted (whose asks.wanted cells other) asks.dx asks.dy
 
@@ -42,7 +42,7 @@ IsChanged next cells n = (x : ℤ) × (y : ℤ) × (after next cells n x y ≢ c
 abbrev pub IsNowhere : (List ℕ → ℕ) → Picture → ℕ → Type 0
 IsNowhere next cells n = (dx dy : ℤ) → IsAfter next cells n (shifted cells dx dy) → ⊥
 
--- at a time that shows nothing that is barred
+-- after n generations nothing is shown that is barred: the pattern in its place, or the pattern anywhere
 abbrev pub IsNotBack : (List ℕ → ℕ) → Picture → Barred → ℕ → Type 0
 IsNotBack next cells Nothing n = Unit {0}
 IsNotBack next cells InPlace n = IsChanged next cells n
@@ -55,7 +55,7 @@ pub record IsTrueClaim (next : List ℕ → ℕ) (cells other : Picture) (asks :
   pub stands : IsAfter next cells asks.generations (claimed asks cells other)
   pub least : (m : ℕ) → 1 ≤ m → m < asks.generations → IsNotBack next cells asks.barred m
 
--- the vector by which an earlier return counts
+-- the vector by which an earlier return is barred: (0, 0) in its place, and any anywhere
 abbrev pub MayReturnBy : Barred → ℤ → ℤ → Type 0
 MayReturnBy Nothing dx dy = ⊥
 MayReturnBy InPlace dx dy = (dx ≡ pos 0) × (dy ≡ pos 0)
