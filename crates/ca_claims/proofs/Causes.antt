@@ -12,7 +12,6 @@ use Rattle.ca_rule.specs.Spelling.{Names, IsFaultOf}
 use Rattle.ca_rle.specs.Limits.{IsInRange}
 use Rattle.ca_rle.specs.declared.pattern.Pattern.{Pattern}
 use Rattle.ca_claims.specs.declared.claims.line.Claim.{Claim as ClaimOf}
-use Rattle.ca_claims.specs.declared.claims.line.Claim.TheVariants.{Still, Oscillator, Spaceship, Becomes}
 use Rattle.ca_claims.specs.declared.verdict.Cause.{Cause}
 use Rattle.ca_claims.specs.declared.verdict.Cause.TheVariants.{NoFile, BadPattern, BadRule, StateTooLarge, MixedRules, Memory}
 use Rattle.ca_claims.specs.declared.verdict.Verdict.{Verdict}
@@ -27,18 +26,11 @@ use Rattle.ca_claims.specs.inner.Decided.{IsDecided}
 use Rattle.ca_claims.specs.Answers.{IsReadable, IsPatternFault, IsRead, IsRuled, HasLargeState, HasSmallStates, IsSameRule, IsThere, Reads, HasRule, IsSmall, SomeOf, FirstBad, HaveOtherRules, HasCause, IsGood, IsJudged, IsTrueVerdict}
 use Rattle.ca_claims.specs.inner.Patterns.{items, IsEachOnce, IsReadFrom, IsUnread, HasName, AreOfOneRule, AreMixed, ArePlanes}
 use Rattle.ca_claims.proofs.Alike.{true-same, reason-same}
-use Rattle.ca_claims.proofs.Times.{asks_about}
+use Rattle.ca_claims.proofs.ClaimKinds.{asks_about, paths_of}
 use Rattle.ca_claims.proofs.PatternsRead.{IsReadAt, in_range, path_has_fault, path_has_rule, path_is_good, path_is_large, path_is_ruled, path_is_small, path_reads, picture, shows_picture, small-listed}
 use Rattle.ca_claims.proofs.Zipped.{zip_left, zip_beside, zip_some, zip_first, zip_head, zip_through, none_bad}
 
 -- ---- the paths of a claim's patterns
-
--- each path stands where its index does
-pub paths_of : {P Q : Type 0} (f : P → Q) (claim : ClaimOf P) → patterns_of (about f claim) ≡ map f (patterns_of claim)
-paths_of f (Still pattern) = refl
-paths_of f (Oscillator pattern period) = refl
-paths_of f (Spaceship pattern period dx dy) = refl
-paths_of f (Becomes pattern generations other) = refl
 
 -- what is each once stays so
 once_map : {P Q : Type 0} (f : P → Q) (each all : List P) → IsEachOnce each all → IsEachOnce (map f each) (map f all)

@@ -12,9 +12,9 @@ use Rattle.std.proofs.lemmas.Slice.Eq.{bytes_eq-Decides}
 use Rattle.ca_claims.specs.declared.claims.line.Claim.{Claim as ClaimOf}
 use Rattle.ca_claims.specs.declared.claims.line.ClaimLine.{ClaimLine}
 use Rattle.ca_claims.specs.Places.{path_at, IsAsked, numbered}
-use Rattle.ca_claims.specs.declared.claims.line.Claim.TheVariants.{Still, Oscillator, Spaceship, Becomes}
 use Rattle.ca_claims.specs.Text.{Claim, patterns_of, about, HasGoodNumbers, Line, Load, Claims, path_of, AreLoaded, IsAllowed, spoken, loaded_paths, each_once, claims_from}
 use Rattle.ca_claims.specs.inner.Reading.{IsKept, StandsAt, AreKnown, at_places, with_path}
+use Rattle.ca_claims.proofs.ClaimKinds.{paths_of, about_same, about_twice, numbers_about}
 use Rattle.ca_claims.proofs.PathLists.{each_once-push, kept_place, no_fewer}
 use Rattle.ca_claims.proofs.LinesSaid.{spoken-append, loaded_paths-append, path_of-append, claims_from-append}
 
@@ -38,19 +38,20 @@ AllByRecursion-weaker : {X : Type 0} (P Q : X → Type 0) → ((x : X) → P x �
 AllByRecursion-weaker P Q f [] h = tt
 AllByRecursion-weaker P Q f (x ∷ xs) h = (f x h.0, AllByRecursion-weaker P Q f xs h.1)
 
+-- what holds of what each element is mapped to holds of the mapped elements
+all_map : {X Y : Type 0} (f : X → Y) (P : Y → Type 0) (xs : List X) → AllByRecursion (λ x. P (f x)) xs → AllByRecursion P (map f xs)
+all_map f P [] h = tt
+all_map f P (x ∷ xs) h = (h.0, all_map f P xs h.1)
+
 -- a path keeps its index where a path is put
 path_kept : (paths : List (List ℕ)) (path : List ℕ) (i : ℕ) → i < length paths → path_at (with_path paths path) i ≡ path_at paths i
 path_kept paths path i h = ap (λ o. unwrap_or o []) (kept_place paths path i h)
 
 -- and a claim its paths
 claim_kept : (paths : List (List ℕ)) (path : List ℕ) (claim : ClaimOf ℕ) → AllByRecursion (λ i. i < length paths) (patterns_of claim) → about (path_at (with_path paths path)) claim ≡ about (path_at paths) claim
-claim_kept paths path (Still p) h = ap Still (path_kept paths path p h.0)
-claim_kept paths path (Oscillator p n) h = ap (λ q. Oscillator q n) (path_kept paths path p h.0)
-claim_kept paths path (Spaceship p n dx dy) h = ap (λ q. Spaceship q n dx dy) (path_kept paths path p h.0)
-claim_kept paths path (Becomes p n r) h =
-    let first = path_kept paths path p h.0 in
-    let second = path_kept paths path r h.1.0 in
-    λ i. Becomes (first i) n (second i)
+claim_kept paths path claim within =
+    about_same (path_at (with_path paths path)) (path_at paths) claim
+    (AllByRecursion-weaker (λ i. i < length paths) (λ i. path_at (with_path paths path) i ≡ path_at paths i) (λ i lt. path_kept paths path i lt) (patterns_of claim) within)
 
 -- what is asked stays so
 asked_kept : (paths : List (List ℕ)) (path : List ℕ) (claim : ClaimOf ℕ) → IsAsked paths claim → IsAsked (with_path paths path) claim
@@ -163,20 +164,18 @@ module _ (said : List (Option Line)) (paths : List (List ℕ)) (claims : List Cl
 
   -- so a claim at its names' places is about the paths that are loaded
   places_paths : (claim : Claim) → AreKnown names claim → about (path_at paths) (at_places names claim) ≡ about (λ name. unwrap_or (path_of (spoken said) name) []) claim
-  places_paths (Still p) h = ap Still (at_place p h.0)
-  places_paths (Oscillator p n) h = ap (λ q. Oscillator q n) (at_place p h.0)
-  places_paths (Spaceship p n dx dy) h = ap (λ q. Spaceship q n dx dy) (at_place p h.0)
-  places_paths (Becomes p n r) h =
-      let first = at_place p h.0 in
-      let second = at_place r h.1.0 in
-      λ i. Becomes (first i) n (second i)
+  places_paths claim known =
+      about_twice (λ name. unwrap_or (names name) 0) (path_at paths) claim
+      ∙ about_same (λ name. path_at paths (unwrap_or (names name) 0)) (λ name. unwrap_or (path_of (spoken said) name) []) claim
+      (AllByRecursion-weaker (λ n. IsSome (names n)) (λ n. path_at paths (unwrap_or (names n) 0) ≡ unwrap_or (path_of (spoken said) n) []) at_place (patterns_of claim) known)
 
   -- and is asked
   places_asked : (claim : Claim) → AreKnown names claim → HasGoodNumbers claim → IsAsked paths (at_places names claim)
-  places_asked (Still p) h good = record { within = (is_within p h.0, tt); numbers = good }
-  places_asked (Oscillator p n) h good = record { within = (is_within p h.0, tt); numbers = good }
-  places_asked (Spaceship p n dx dy) h good = record { within = (is_within p h.0, tt); numbers = good }
-  places_asked (Becomes p n r) h good = record { within = (is_within p h.0, (is_within r h.1.0, tt)); numbers = good }
+  places_asked claim known good = record {
+    within = subst (AllByRecursion (λ i. i < length paths)) (sym (paths_of (λ name. unwrap_or (names name) 0) claim)) (all_map (λ name. unwrap_or (names name) 0) (λ i. i < length paths) (patterns_of claim)
+        (AllByRecursion-weaker (λ n. IsSome (names n)) (λ n. unwrap_or (names n) 0 < length paths) is_within (patterns_of claim) known));
+    numbers = numbers_about (λ name. unwrap_or (names name) 0) claim good;
+  }
 
   -- a line that makes a claim
   pub read_claim : (claim : Claim) (line : ℕ) → AreKnown names claim → HasGoodNumbers claim → line ≡ length said + 1

@@ -7,13 +7,10 @@ use Rattle.ca_plane.specs.Plane.{Picture, cell, IsSame, shifted}
 use Rattle.ca_plane.proofs.Shifts.{cell-shifted}
 use Rattle.ca_claims.specs.declared.verdict.Why.{Why}
 use Rattle.ca_claims.specs.declared.verdict.Why.TheVariants.{Empty, Differs, Earlier}
-use Rattle.ca_claims.specs.declared.claims.line.Claim.{Claim as ClaimOf}
-use Rattle.ca_claims.specs.declared.claims.line.Claim.TheVariants.{Still, Oscillator, Spaceship, Becomes}
 use Rattle.ca_claims.specs.declared.claims.asks.Barred.{Barred}
 use Rattle.ca_claims.specs.declared.claims.asks.Barred.TheVariants.{Nothing, InPlace, Anywhere}
-use Rattle.ca_claims.specs.Text.{about, IsShift, HasGoodNumbers}
-use Rattle.ca_claims.specs.Truth.{asks_of, claimed, IsAfter, IsNotBack}
-use Rattle.ca_claims.specs.inner.Decided.{IsBounded}
+use Rattle.ca_claims.specs.Text.{IsShift}
+use Rattle.ca_claims.specs.Truth.{claimed, IsAfter, IsNotBack}
 use Rattle.ca_claims.specs.inner.Returns.{IsDifference, IsNotAgain, IsNotBackBefore}
 
 -- ---- earlier times
@@ -50,26 +47,8 @@ not_back next p q Nothing n shows unlike = tt
 not_back next p q InPlace n shows (x, y, other) = (x, y, λ e. other (sym (shows x y) ∙ e))
 not_back next p q Anywhere n shows none = λ dx dy back. none dx dy (λ u v. sym (shows u v) ∙ back u v)
 
--- ---- what a claim asks
-
--- (0, 0) is a shift
-no_shift : IsShift (pos 0)
-no_shift = (omega (arith, ints), omega (arith, ints))
-
--- a claim with good numbers asks for few generations, and for a live pattern where a return is barred
-pub asks_bounded : (claim : ClaimOf ℕ) → HasGoodNumbers claim → IsBounded (asks_of claim)
-asks_bounded (Still pattern) good = record { few = omega arith; right = no_shift; down = no_shift; live = λ _. refl }
-asks_bounded (Oscillator pattern period) good = record { few = omega (arith, good.1); right = no_shift; down = no_shift; live = λ _. refl }
-asks_bounded (Spaceship pattern period dx dy) good = record { few = omega (arith, good.1); right = good.2; down = good.3; live = λ _. refl }
-asks_bounded (Becomes pattern generations other) good = record { few = good; right = no_shift; down = no_shift; live = λ some. absurd (some refl) }
+-- ---- the vector of a claim
 
 -- a shift reads so as an `i64`
 pub shift_reads : (d : ℤ) → IsShift d → to_z w64 (of_z w64 d) ≡ d
 shift_reads d shift = let fits : FitsSigned w64 d = omega (arith, ints, shift) in to_z-of_z w64 d fits
-
--- what a claim asks doesn't lie in how its patterns are given
-pub asks_about : {P Q : Type 0} (f : P → Q) (claim : ClaimOf P) → asks_of (about f claim) ≡ asks_of claim
-asks_about f (Still pattern) = refl
-asks_about f (Oscillator pattern period) = refl
-asks_about f (Spaceship pattern period dx dy) = refl
-asks_about f (Becomes pattern generations other) = refl

@@ -5,7 +5,7 @@ use Rattle.ca_claims.specs.Text.{patterns_of, about}
 use Rattle.ca_claims.specs.Places.{path_at}
 use Rattle.ca_claims.specs.inner.Patterns.{items}
 use Rattle.ca_claims.specs.inner.Decided.{IsBounded, IsDecided}
-use Rattle.ca_claims.proofs.Times.{asks_bounded}
+use Rattle.ca_claims.proofs.ClaimKinds.{asks_bounded}
 use Rattle.ca_claims.proofs.Causes.{once_paths, once_all, found_there, found_missing, cause_of_all, read_at, unread, unnamed, too_large, mixed_rules, passed_on, true_verdict, planes_small, planes_in_range}
 use Rattle.ca_claims.proofs.verifier.judge.Goals as goal
 
