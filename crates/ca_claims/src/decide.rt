@@ -1,6 +1,6 @@
 //! Whether a claim is true of planes that are at hand, by steps of one generation.
 
-ghost use Rattle.std.specs.Prelude.{◌≡◌, ℕ, ◌<◌, List, pos, IfOk, IsTrue, ◌↔◌, MatchOption};
+ghost use Rattle.std.specs.Prelude.{◌≡◌, ◌<◌, pos, IfOk, IsTrue, ◌↔◌, MatchOption};
 ghost use Rattle.std.specs.List.{All};
 ghost use Rattle.ca_plane.specs.Plane.{IsSame, shifted};
 ghost use Rattle.ca_rle.specs.Limits.{IsInRange};

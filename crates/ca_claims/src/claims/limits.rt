@@ -1,6 +1,6 @@
 //! The limits of a claim's numbers.
 
-ghost use Rattle.std.specs.Prelude.{◌≡◌, ◌≤◌, ◌<◌, ◌^◌, pos, IsTrue, ◌↔◌};
+ghost use Rattle.std.specs.Prelude.{◌≡◌, ◌≤◌, ◌<◌, pos, IsTrue, ◌↔◌};
 ghost use Rattle.ca_claims.specs.Text.{longest_period, HasGoodNumbers, IsShift};
 
 use super::line::Claim;

@@ -1,7 +1,7 @@
 //! The patterns of a claim's files, and the rules of their texts.
 
-ghost use Rattle.std.specs.Prelude.{◌≡◌, ℕ, ◌<◌, IsTrue, IsFalse, IfOk, IfErr, MatchOption, MatchResult};
-ghost use Rattle.std.specs.List.{All, AllByRecursion, AllZip};
+ghost use Rattle.std.specs.Prelude.{IsTrue, IsFalse, IfOk, IfErr, MatchOption, MatchResult};
+ghost use Rattle.std.specs.List.{AllByRecursion, AllZip};
 ghost use Rattle.ca_rule.specs.Spelling.{Names, IsFaultOf};
 ghost use Rattle.ca_claims.specs.Answers.{IsReadable, HasLargeState, HasSmallStates, SomeOf, FirstBad};
 ghost use Rattle.ca_claims.specs.inner.Patterns.{items, IsReadFrom, IsUnread, HasName, AreOfOneRule, AreMixed, ArePlanes};
