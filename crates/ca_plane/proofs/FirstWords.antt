@@ -10,6 +10,18 @@ use Rattle.ca_plane.proofs.Lines.{lines_at_end, lines_at_last, line_ends_by_lf, 
 pub line_before : (bytes : List ℕ) (b : ℕ) (more : List ℕ) → rest (λ b. not (is_line_end b)) bytes ≡ b ∷ more → lines_of bytes ≡ front (λ b. not (is_line_end b)) bytes ∷ lines_of more
 line_before bytes b more e = lines_at_end bytes more (e ∙ ap (λ c. c ∷ more) (line_ends_by_lf b bytes more e))
 
+-- the line, its LF, and more bytes
+pub line_then_more : (bytes : List ℕ) (b : ℕ) (more : List ℕ) → rest (λ b. not (is_line_end b)) bytes ≡ b ∷ more → bytes ≡ front (λ b. not (is_line_end b)) bytes ++ 10 ∷ more
+line_then_more bytes b more e =
+    let line = front (λ b. not (is_line_end b)) bytes in
+    sym (front_then_rest (λ b. not (is_line_end b)) bytes) ∙ ap (λ l. line ++ l) (e ∙ ap (λ c. c ∷ more) (line_ends_by_lf b bytes more e))
+
+-- the line alone
+pub line_then_none : (bytes : List ℕ) → rest (λ b. not (is_line_end b)) bytes ≡ [] → bytes ≡ front (λ b. not (is_line_end b)) bytes
+line_then_none bytes e =
+    let line = front (λ b. not (is_line_end b)) bytes in
+    sym (front_then_rest (λ b. not (is_line_end b)) bytes) ∙ ap (λ l. line ++ l) e ∙ append-nil line
+
 -- the bytes behind a line are fewer
 pub fewer_behind_line : (test : ℕ → Bool) (bytes : List ℕ) (b : ℕ) (more : List ℕ) → rest test bytes ≡ b ∷ more → length more < length bytes
 fewer_behind_line test bytes b more e =
@@ -20,10 +32,8 @@ fewer_behind_line test bytes b more e =
 -- the only line
 pub line_alone : (bytes : List ℕ) → 0 < length bytes → rest (λ b. not (is_line_end b)) bytes ≡ [] → lines_of bytes ≡ front (λ b. not (is_line_end b)) bytes ∷ []
 line_alone bytes some e =
-    let line = front (λ b. not (is_line_end b)) bytes in
-    let whole : bytes ≡ line = sym (front_then_rest (λ b. not (is_line_end b)) bytes) ∙ ap (λ l. line ++ l) e ∙ append-nil line in
     let ne : bytes ≢ [] = λ none. let h = ap length none in omega arith in
-    lines_at_last bytes ne e ∙ ap (λ l. l ∷ []) whole
+    lines_at_last bytes ne e ∙ ap (λ l. l ∷ []) (line_then_none bytes e)
 
 -- what begins a list both as a test says and as it denies is no byte
 no_byte : (test : ℕ → Bool) (bytes : List ℕ) → is_end_or test bytes ≡ true → is_end_or (λ b. not (test b)) bytes ≡ true → bytes ≡ []

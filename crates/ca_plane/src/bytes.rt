@@ -1,6 +1,6 @@
 //! Blanks, words, numbers and lines: what every reader of bytes begins with. Nothing here takes memory.
 
-ghost use Rattle.std.specs.Prelude.{◌≡◌, ◌≢◌, ℕ, ◌-◌, ◌<◌, ◌^◌, ◌++◌, List, ◌∷◌, [], length, not, min, ℤ, ◌==◌, MatchOption, IfSome};
+ghost use Rattle.std.specs.Prelude.{◌≡◌, ◌≢◌, ◌⊎◌, ℕ, ◌-◌, ◌<◌, ◌^◌, ◌++◌, List, ◌∷◌, [], length, not, min, ℤ, ◌==◌, MatchOption, IfSome};
 ghost use Rattle.std.specs.List.{prefix_len, list_all};
 ghost use Rattle.ca_plane.specs.Bytes.{is_blank, is_line_end, is_digit, is_word_byte, Every, front, rest, trimmed, value, AreDigits, IsInteger, nearest_i64, IsWord, lines_of, words_of};
 
@@ -106,6 +106,7 @@ pub fn split_line(bytes: &[u8]) -> (&[u8], &[u8])
 /// The first line of bytes that aren't empty, without its LF, and the bytes behind that.
 pub fn next_line(bytes: &[u8]) -> (&[u8], &[u8])
     requires { 0 < length bytes.now }
+    ensures spelled { (bytes.now ≡ result.0.now ++ 10 ∷ result.1.now) ⊎ ((bytes.now ≡ result.0.now) × (result.1.now ≡ [])) }
     ensures lines { lines_of bytes.now ≡ result.0.now ∷ lines_of result.1.now }
     ensures line { Every (λ b. not (is_line_end b)) result.0.now }
     ensures shorter { length result.1.now < length bytes.now }
