@@ -18,7 +18,7 @@ patterns_of (Oscillator pattern period) = pattern ∷ []
 patterns_of (Spaceship pattern period dx dy) = pattern ∷ []
 patterns_of (Becomes pattern generations other) = pattern ∷ other ∷ []
 
--- the claim about other patterns, each given by its own
+-- the same claim, with f of what gives each pattern
 abbrev pub about : {P Q : Type 0} → (P → Q) → ClaimOf P → ClaimOf Q
 about f (Still pattern) = Still (f pattern)
 about f (Oscillator pattern period) = Oscillator (f pattern) period
@@ -42,7 +42,7 @@ abbrev pub IsShift : ℤ → Type 0
 IsShift d = (neg_ℤ (pos greatest_shift) ≤ℤ d) × (d ≤ℤ pos greatest_shift)
 
 -- the numbers of a claim are within their limits: a period is at most the longest, an oscillator's at least 2 and a spaceship's
--- at least 1; a spaceship is shifted, by no more than the greatest shift to either side; generations are at most the most
+-- at least 1; a spaceship is shifted, by no more than the greatest shift to either side; generations are no more than the most generations
 abbrev pub HasGoodNumbers : {P : Type 0} → ClaimOf P → Type 0
 HasGoodNumbers (Still pattern) = Unit {0}
 HasGoodNumbers (Oscillator pattern period) = (2 ≤ period) × (period ≤ longest_period)

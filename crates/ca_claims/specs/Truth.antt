@@ -13,7 +13,7 @@ use Rattle.ca_claims.specs.declared.verdict.Why.{Why}
 use Rattle.ca_claims.specs.declared.verdict.Why.TheVariants.{Empty, Differs, Earlier}
 
 -- what each kind of claim asks: whether the pattern must be live; after how many generations which cells are wanted, the
--- pattern's own or the other's, moved by (dx, dy); and what no time before that may show: nothing is barred, or the pattern
+-- pattern's own or the other's, moved by (dx, dy); and what no time from 1 on before that may show: nothing is barred, or the pattern
 -- in its place, or the pattern anywhere
 abbrev pub asks_of : {P : Type 0} → ClaimOf P → Asks
 asks_of (Still pattern) = record { live = true; generations = 1; wanted = Own; dx = pos 0; dy = pos 0; barred = Nothing }

@@ -13,7 +13,7 @@ pub fn one_meaning()
     ensures { (bytes : List ℕ) (s t : List (Option Line)) → IsClaimText bytes s → IsClaimText bytes t → s ≡ t }
 {}
 
-/// A claim text has no fault.
+/// A claim text has no fault, want of memory apart.
 pub fn no_fault_in_claim_text()
     ensures { (bytes : List ℕ) (said : List (Option Line)) (f : ClaimFault) → f ≢ fault.Memory → IsClaimText bytes said → IsFirstFault bytes f → ⊥ }
 {}

@@ -1,5 +1,6 @@
-//! Laws of verdicts, which no call needs to run: what a true claim of each kind is; a no means that the claim is false, and it's false for one kind of reason;
-//! a file has one meaning; and only one kind of verdict is true of a claim.
+//! Laws of verdicts, which no call needs to run: what a true claim of each kind is; a no means that the claim is false, and
+//! it's false for one kind of reason; a file has one meaning; and but for want of memory only one kind of verdict is true
+//! of a claim.
 
 ghost use Rattle.std.specs.Prelude.{◌≡◌, ◌≢◌, ℕ, ◌≤◌, ◌<◌, ◌↔◌, ℤ, List, pos, negsuc};
 ghost use Rattle.ca_plane.specs.Plane.{Picture, shifted, IsLive};

@@ -134,7 +134,7 @@ IsFirstFault bytes Range = ⊥
 IsFirstFault bytes TooManyCells = ⊥
 IsFirstFault bytes Memory = ⊥
 
--- the fault of a text: the first in its spelling, else the first limit that it passes; want of memory may come at any time
+-- the fault of a text: the first in its spelling, else the first limit that it passes; of want of memory nothing is said here
 abbrev pub IsFaultOf : List ℕ → RleFault → Type 0
 IsFaultOf bytes Syntax = IsFirstFault bytes Syntax
 IsFaultOf bytes Header = IsFirstFault bytes Header

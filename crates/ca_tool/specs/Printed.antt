@@ -124,13 +124,3 @@ fault_text (faults.Tool fault) path = tool_fault_text fault
 -- the line that tells a fault
 abbrev pub complaint : Fault → List ℕ → List ℕ
 complaint fault path = codes "cafile: " ++ (fault_text fault path ++ 10 ∷ [])
-
--- the number of the line that a fault names, or 0
-abbrev pub fault_line : Fault → ℕ
-fault_line (faults.Input fault) = 0
-fault_line (faults.Claims (claims.Syntax line)) = line
-fault_line (faults.Claims (claims.Number line)) = line
-fault_line (faults.Claims (claims.UnknownName line)) = line
-fault_line (faults.Claims (claims.NameTaken line)) = line
-fault_line (faults.Claims claims.Memory) = 0
-fault_line (faults.Tool fault) = 0

@@ -4,7 +4,8 @@ ghost use Rattle.std.specs.Prelude.{◌≡◌, ◌++◌, decimal, OnOk, OnErr, I
 ghost use Rattle.std.specs.List.{flat_map};
 ghost use Rattle.std.specs.Io.KnownBytes.{Appends};
 ghost use Rattle.ca_plane.specs.Device.{Rises, AppendsPrefix};
-ghost use Rattle.ca_tool.specs.Printed.{fault_text, fault_line, complaint};
+ghost use Rattle.ca_tool.specs.Printed.{fault_text, complaint};
+ghost use Rattle.ca_tool.specs.inner.Complaint.{fault_line};
 
 use crate::fault::{Fault, InputFault, ToolFault};
 use ca_claims::ClaimFault;

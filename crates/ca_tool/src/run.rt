@@ -16,7 +16,7 @@ use std::io::Write;
 /// Judges each claim, writes a line for each, in order, and answers the exit status: 2 where a claim is refused,
 /// else 1 where one is false, else 0.
 ///
-/// Where memory is refused to the list of answers or to their text, nothing is written.
+/// Where memory is refused to the table of the files, to the list of answers or to their text, nothing is written.
 pub fn verify_run<W: Write>(
     alloc: Global,
     claims: &Claims,

@@ -8,12 +8,13 @@ pub(crate) enum Claim<P> {
     Still {
         pattern: P,
     },
-    /// The pattern is live, it is back after the period, and at no time before that.
+    /// The pattern is live, it is back after the period, and at no time from 1 on before that.
     Oscillator {
         pattern: P,
         period: u64,
     },
-    /// The pattern is live, after the period it is moved by the shift, and at no time before that is it back, however moved.
+    /// The pattern is live, after the period it is moved by the shift, and at no time from 1 on before that is it back,
+    /// however moved.
     Spaceship {
         pattern: P,
         period: u64,
