@@ -1,4 +1,4 @@
-//! Rule texts in B/S notation, and the next cell of a B/S rule.
+//! Rules: texts that name them, and the next cell under each.
 #![tactic(auto)]
 
 mod bs_rule;
@@ -6,6 +6,7 @@ mod counts;
 mod fault;
 mod hood;
 mod laws;
+mod rule;
 mod spelling;
 
 pub use bs_rule::BsRule;
@@ -13,6 +14,7 @@ pub use counts::Counts;
 pub use fault::RuleFault;
 pub use hood::Hood;
 pub use laws::{alike, names_itself, one_rule, rule_or_fault, worked_examples};
+pub use rule::{Rule, resolve};
 
 #[cfg(test)]
 mod tests;
