@@ -5,10 +5,10 @@ use Rattle.std.specs.Option.{option_copied}
 use Rattle.std.specs.Result.{MatchResult, IsErrAnd}
 use Rattle.std.proofs.lemmas.Result.{err_from_is_err_and}
 use Rattle.ca_plane.specs.Plane.{Picture, IsSame}
-use Rattle.ca_rule.specs.declared.bs_rule.BsRule.{BsRule}
+use Rattle.ca_rule.specs.declared.rule.Rule.{Rule}
 use Rattle.ca_rule.specs.declared.fault.RuleFault.{RuleFault}
-use Rattle.ca_rule.specs.Next.{next_of}
-use Rattle.ca_rule.specs.Spelling.{Names, IsFaultOf}
+use Rattle.ca_rule.specs.Rule.{states_of, next_of, IsSameRule, IsRuleFault}
+use Rattle.ca_rule.proofs.Rules.{same-refl}
 use Rattle.ca_rle.specs.Limits.{IsInRange}
 use Rattle.ca_rle.specs.declared.pattern.Pattern.{Pattern}
 use Rattle.ca_claims.specs.declared.claims.line.Claim.{Claim as ClaimOf}
@@ -18,16 +18,17 @@ use Rattle.ca_claims.specs.declared.verdict.Verdict.{Verdict}
 use Rattle.ca_claims.specs.declared.verdict.Verdict.TheVariants.{Yes, No, Refused}
 use Rattle.ca_claims.specs.declared.verifier.one_or_two.OneOrTwo.{OneOrTwo}
 use Rattle.ca_claims.specs.declared.verifier.one_or_two.OneOrTwo.TheVariants.{One, Two}
+use Rattle.ca_claims.specs.declared.verifier.ruled.Ruled.{Ruled}
 use Rattle.ca_claims.specs.Text.{Claim, patterns_of, about}
 use Rattle.ca_claims.specs.Places.{path_at}
 use Rattle.ca_claims.specs.Means.{bytes_at}
 use Rattle.ca_claims.specs.Truth.{asks_of}
 use Rattle.ca_claims.specs.inner.Decided.{IsDecided}
-use Rattle.ca_claims.specs.Answers.{IsReadable, IsPatternFault, IsRead, IsRuled, HasLargeState, HasSmallStates, IsSameRule, IsThere, Reads, HasRule, IsSmall, SomeOf, FirstBad, HaveOtherRules, HasCause, IsGood, IsJudged, IsTrueVerdict}
-use Rattle.ca_claims.specs.inner.Patterns.{items, IsEachOnce, IsReadFrom, IsUnread, HasName, AreOfOneRule, AreMixed, ArePlanes}
+use Rattle.ca_claims.specs.Answers.{IsReadable, IsPatternFault, IsRead, IsRuled, HasLargeState, HasSmallStates, IsThere, Reads, HasRule, IsSmall, SomeOf, FirstBad, HaveOtherRules, HasCause, IsGood, IsJudged, IsTrueVerdict}
+use Rattle.ca_claims.specs.inner.Patterns.{items, IsEachOnce, IsReadFrom, IsUnread, HasName, IsRuledAs, AreOfOneRule, AreMixed, ArePlanes}
 use Rattle.ca_claims.proofs.Alike.{true-same, reason-same}
 use Rattle.ca_claims.proofs.ClaimKinds.{asks_about, paths_of}
-use Rattle.ca_claims.proofs.PatternsRead.{IsReadAt, in_range, path_has_fault, path_has_rule, path_is_good, path_is_large, path_is_ruled, path_is_small, path_reads, picture, shows_picture, small-listed}
+use Rattle.ca_claims.proofs.PatternsRead.{IsReadAt, IsRuledAt, in_range, path_has_fault, path_has_rule, path_reads, ruled_at, ruled_has_rule, ruled_is_good, ruled_is_large, ruled_is_small, ruled_picture, ruled_reads, shows_picture, small-listed}
 use Rattle.ca_claims.proofs.Zipped.{zip_left, zip_beside, zip_some, zip_first, zip_head, zip_through, none_bad}
 
 -- ---- the paths of a claim's patterns
@@ -93,11 +94,11 @@ module _ (files : List (List ℕ × List ℕ)) where
   cause_of_all each all cause (inl same) h = subst (λ l. HasCause files l cause) (sym same) h
   cause_of_all each all cause (inr (x, e, d)) h = subst (λ l. HasCause files l cause) (sym d) (cause_twice x cause (subst (λ l. HasCause files l cause) e h))
 
-  judged_of_all : (each all : List (List ℕ)) (cells other : Picture) (rule : BsRule) → IsEachOnce each all → IsJudged files each cells other rule → IsJudged files all cells other rule
+  judged_of_all : (each all : List (List ℕ)) (cells other : Picture) (rule : Rule) → IsEachOnce each all → IsJudged files each cells other rule → IsJudged files all cells other rule
   judged_of_all each all cells other rule (inl same) h = subst (λ l. IsJudged files l cells other rule) (sym same) h
   judged_of_all each all cells other rule (inr (x, e, d)) h =
       let one = subst (λ l. IsJudged files l cells other rule) e h in
-      let two : IsJudged files (x ∷ x ∷ []) cells other rule = (one.0, rule, subst (λ o. IsGood files x o rule) (sym one.1) one.0, (refl, refl, refl)) in
+      let two : IsJudged files (x ∷ x ∷ []) cells other rule = (one.0, rule, subst (λ o. IsGood files x o rule) (sym one.1) one.0, same-refl rule) in
       subst (λ l. IsJudged files l cells other rule) (sym d) two
 
   -- ---- causes
@@ -126,94 +127,95 @@ module _ (files : List (List ℕ × List ℕ)) where
 
   module _ (paths : List (List ℕ)) (patterns : List Pattern) (read : AllZip (IsReadAt files) paths patterns) where
     -- a rule text names no rule
-    pub unnamed : (fault : RuleFault) → FirstBad HasName (λ p. IsFaultOf p.rule_text.items fault) patterns → HasCause files paths (BadRule fault)
+    pub unnamed : (fault : RuleFault) → FirstBad HasName (λ p. IsRuleFault p.rule_text.items fault) patterns → HasCause files paths (BadRule fault)
     unnamed fault first = (
       zip_left (IsReadAt files) (Reads files) (path_reads files) paths patterns read,
-      zip_first (IsReadAt files) (HasRule files) (λ path. (cells : Picture) × (text : List ℕ) × IsRead files path cells text × IsFaultOf text fault)
-          HasName (λ p. IsFaultOf p.rule_text.items fault) (path_has_rule files) (λ path p at. path_has_fault files path p at fault) paths patterns read first,
+      zip_first (IsReadAt files) (HasRule files) (λ path. (cells : Picture) × (text : List ℕ) × IsRead files path cells text × IsRuleFault text fault)
+          HasName (λ p. IsRuleFault p.rule_text.items fault) (path_has_rule files) (λ path p at. path_has_fault files path p at fault) paths patterns read first,
     )
 
-    module _ (rules : List BsRule) (names : AllZip (λ p r. Names p.rule_text.items r) patterns rules) where
-      named : AllZip (λ path p. IsReadAt files path p × HasName p) paths patterns
-      named = zip_beside (IsReadAt files) HasName paths patterns read (zip_left (λ p r. Names p.rule_text.items r) HasName (λ p r n. (r, n)) patterns rules names)
+  -- the patterns with the rules that their texts name
+  pub ruled_each : (paths : List (List ℕ)) (patterns : List Pattern) (ruled : List Ruled) → AllZip (IsReadAt files) paths patterns → AllZip IsRuledAs patterns ruled → AllZip (IsRuledAt files) paths ruled
+  ruled_each = zip_through (IsReadAt files) IsRuledAs (IsRuledAt files) (ruled_at files)
 
-      -- a state is too large
-      pub too_large : SomeOf (λ p. HasLargeState p.cells) patterns → HasCause files paths StateTooLarge
-      too_large some = (
-        zip_left (λ path p. IsReadAt files path p × HasName p) (HasRule files) (λ path p h. path_has_rule files path p h.0 h.1) paths patterns named,
-        zip_some (λ path p. IsReadAt files path p × HasName p) (λ path. (cells : Picture) × (rule : BsRule) × IsRuled files path cells rule × HasLargeState cells)
-            (λ p. HasLargeState p.cells) (λ path p h large. path_is_large files path p h.0 h.1 large) paths patterns named some,
-      )
+  module _ (paths : List (List ℕ)) (patterns : List Ruled) (ruled : AllZip (IsRuledAt files) paths patterns) where
+    -- a state is too large
+    pub too_large : SomeOf (λ r. HasLargeState r.rule r.pattern.cells) patterns → HasCause files paths StateTooLarge
+    too_large some = (
+      zip_left (IsRuledAt files) (HasRule files) (ruled_has_rule files) paths patterns ruled,
+      zip_some (IsRuledAt files) (λ path. (cells : Picture) × (rule : Rule) × IsRuled files path cells rule × HasLargeState rule cells)
+          (λ r. HasLargeState r.rule r.pattern.cells) (ruled_is_large files) paths patterns ruled some,
+    )
 
-      all_small : AllByRecursion (λ p. HasSmallStates p.cells) patterns → AllByRecursion (IsSmall files) paths
-      all_small small =
-          zip_left (λ path p. (IsReadAt files path p × HasName p) × HasSmallStates p.cells) (IsSmall files) (λ path p h. path_is_small files path p h.0.0 h.0.1 h.1) paths patterns
-          (zip_beside (λ path p. IsReadAt files path p × HasName p) (λ p. HasSmallStates p.cells) paths patterns named small)
+    all_small : AllByRecursion (λ r. HasSmallStates r.rule r.pattern.cells) patterns → AllByRecursion (IsSmall files) paths
+    all_small small =
+        zip_left (λ path r. IsRuledAt files path r × HasSmallStates r.rule r.pattern.cells) (IsSmall files) (λ path r h. ruled_is_small files path r h.0 h.1) paths patterns
+        (zip_beside (IsRuledAt files) (λ r. HasSmallStates r.rule r.pattern.cells) paths patterns ruled small)
 
   -- the first two patterns have different rules
-  other_rules : (paths : List (List ℕ)) (patterns : List Pattern) (rules : List BsRule) → AllZip (IsReadAt files) paths patterns → AllZip (λ p r. Names p.rule_text.items r) patterns rules
-      → AreMixed rules → SomeOf (λ p. SomeOf (HaveOtherRules files p) paths) paths
-  other_rules paths patterns [] read names mixed = absurd mixed
-  other_rules paths patterns (r ∷ []) read names mixed = absurd mixed
-  other_rules paths [] (r ∷ s ∷ rules) read names mixed = absurd names
-  other_rules paths (a ∷ []) (r ∷ s ∷ rules) read names mixed = absurd names.1
-  other_rules [] (a ∷ b ∷ patterns) (r ∷ s ∷ rules) read names mixed = absurd read
-  other_rules (p ∷ []) (a ∷ b ∷ patterns) (r ∷ s ∷ rules) read names mixed = absurd read.1
-  other_rules (p ∷ q ∷ paths) (a ∷ b ∷ patterns) (r ∷ s ∷ rules) read names mixed =
-      inl (inr (inl (picture files p a read.0, r, picture files q b read.1.0, s, path_is_ruled files p a read.0 r names.0, path_is_ruled files q b read.1.0 s names.1.0, mixed)))
+  other_rules : (paths : List (List ℕ)) (patterns : List Ruled) → AllZip (IsRuledAt files) paths patterns → AreMixed patterns → SomeOf (λ p. SomeOf (HaveOtherRules files p) paths) paths
+  other_rules paths [] ruled mixed = absurd mixed
+  other_rules paths (a ∷ []) ruled mixed = absurd mixed
+  other_rules [] (a ∷ b ∷ patterns) ruled mixed = absurd ruled
+  other_rules (p ∷ []) (a ∷ b ∷ patterns) ruled mixed = absurd ruled.1
+  other_rules (p ∷ q ∷ paths) (a ∷ b ∷ patterns) ruled mixed =
+      inl (inr (inl (ruled_picture files p a ruled.0, a.rule, ruled_picture files q b ruled.1.0, b.rule, ruled_reads files p a ruled.0, ruled_reads files q b ruled.1.0, mixed)))
 
-  pub mixed_rules : (paths : List (List ℕ)) (patterns : List Pattern) (rules : List BsRule) → AllZip (IsReadAt files) paths patterns → AllZip (λ p r. Names p.rule_text.items r) patterns rules
-      → AllByRecursion (λ p. HasSmallStates p.cells) patterns → AreMixed rules → HasCause files paths MixedRules
-  mixed_rules paths patterns rules read names small mixed = (all_small paths patterns read rules names small, other_rules paths patterns rules read names mixed)
+  pub mixed_rules : (paths : List (List ℕ)) (patterns : List Ruled) → AllZip (IsRuledAt files) paths patterns
+      → AllByRecursion (λ r. HasSmallStates r.rule r.pattern.cells) patterns → AreMixed patterns → HasCause files paths MixedRules
+  mixed_rules paths patterns ruled small mixed = (all_small paths patterns ruled small, other_rules paths patterns ruled mixed)
 
   -- ---- verdicts
 
   -- no cause holds: the planes show what the files mean
-  record IsShown (paths : List (List ℕ)) (cells other : Picture) (rule : BsRule) : Type 0 where
+  record IsShown (paths : List (List ℕ)) (cells other : Picture) (rule : Rule) : Type 0 where
     shown : Picture
     other_shown : Picture
     same : IsSame cells shown
     other_same : IsSame other other_shown
     judged : IsJudged files paths shown other_shown rule
 
-  all_shown : (paths : List (List ℕ)) (patterns : OneOrTwo Pattern) (rules : List BsRule) (cells other : Picture) (rule : BsRule) → AllZip (IsReadAt files) paths (items patterns)
-      → AllZip (λ p r. Names p.rule_text.items r) (items patterns) rules → AllByRecursion (λ p. HasSmallStates p.cells) (items patterns) → AreOfOneRule rules rule → ArePlanes (items patterns) cells other
+  -- a plane is that of a pattern
+  plane_shown : (path : List ℕ) (a : Ruled) (at : IsRuledAt files path a) (cells : Picture) → cells ≡ a.pattern.cells → IsSame cells (ruled_picture files path a at)
+  plane_shown path a at cells e = subst (λ l. IsSame l (ruled_picture files path a at)) (sym e) (shows_picture files path a.pattern at.read_at)
+
+  -- whose rule is this one
+  good_under : (path : List ℕ) (a : Ruled) (at : IsRuledAt files path a) (rule : Rule) → rule ≡ a.rule → HasSmallStates a.rule a.pattern.cells → IsGood files path (ruled_picture files path a at) rule
+  good_under path a at rule e small = subst (IsGood files path (ruled_picture files path a at)) (sym e) (ruled_is_good files path a at small)
+
+  all_shown : (paths : List (List ℕ)) (patterns : OneOrTwo Ruled) (cells other : Picture) (rule : Rule) → AllZip (IsRuledAt files) paths (items patterns)
+      → AllByRecursion (λ r. HasSmallStates r.rule r.pattern.cells) (items patterns) → AreOfOneRule (items patterns) rule → ArePlanes (items patterns) cells other
       → IsShown paths cells other rule
-  all_shown [] (One a) rules cells other rule read names small one planes = absurd read
-  all_shown (p ∷ q ∷ paths) (One a) rules cells other rule read names small one planes = absurd read.1
-  all_shown (p ∷ []) (One a) [] cells other rule read names small one planes = absurd names
-  all_shown (p ∷ []) (One a) (r ∷ s ∷ rules) cells other rule read names small one planes = absurd names.1
-  all_shown (p ∷ []) (One a) (r ∷ []) cells other rule read names small one planes = record {
-    shown = picture files p a read.0;
-    other_shown = picture files p a read.0;
-    same = subst (λ l. IsSame l (picture files p a read.0)) (sym planes.0) (shows_picture files p a read.0);
-    other_same = subst (λ l. IsSame l (picture files p a read.0)) (sym planes.1) (shows_picture files p a read.0);
-    judged = (path_is_good files p a read.0 rule (subst (Names a.rule_text.items) (sym one) names.0) small.0, refl);
+  all_shown [] (One a) cells other rule ruled small one planes = absurd ruled
+  all_shown (p ∷ q ∷ paths) (One a) cells other rule ruled small one planes = absurd ruled.1
+  all_shown (p ∷ []) (One a) cells other rule ruled small one planes = record {
+    shown = ruled_picture files p a ruled.0;
+    other_shown = ruled_picture files p a ruled.0;
+    same = plane_shown p a ruled.0 cells planes.0;
+    other_same = plane_shown p a ruled.0 other planes.1;
+    judged = (good_under p a ruled.0 rule one small.0, refl);
   }
-  all_shown [] (Two a b) rules cells other rule read names small one planes = absurd read
-  all_shown (p ∷ []) (Two a b) rules cells other rule read names small one planes = absurd read.1
-  all_shown (p ∷ q ∷ o ∷ paths) (Two a b) rules cells other rule read names small one planes = absurd read.1.1
-  all_shown (p ∷ q ∷ []) (Two a b) [] cells other rule read names small one planes = absurd names
-  all_shown (p ∷ q ∷ []) (Two a b) (r ∷ []) cells other rule read names small one planes = absurd names.1
-  all_shown (p ∷ q ∷ []) (Two a b) (r ∷ s ∷ t ∷ rules) cells other rule read names small one planes = absurd names.1.1
-  all_shown (p ∷ q ∷ []) (Two a b) (r ∷ s ∷ []) cells other rule read names small one planes = record {
-    shown = picture files p a read.0;
-    other_shown = picture files q b read.1.0;
-    same = subst (λ l. IsSame l (picture files p a read.0)) (sym planes.0) (shows_picture files p a read.0);
-    other_same = subst (λ l. IsSame l (picture files q b read.1.0)) (sym planes.1) (shows_picture files q b read.1.0);
+  all_shown [] (Two a b) cells other rule ruled small one planes = absurd ruled
+  all_shown (p ∷ []) (Two a b) cells other rule ruled small one planes = absurd ruled.1
+  all_shown (p ∷ q ∷ o ∷ paths) (Two a b) cells other rule ruled small one planes = absurd ruled.1.1
+  all_shown (p ∷ q ∷ []) (Two a b) cells other rule ruled small one planes = record {
+    shown = ruled_picture files p a ruled.0;
+    other_shown = ruled_picture files q b ruled.1.0;
+    same = plane_shown p a ruled.0 cells planes.0;
+    other_same = plane_shown q b ruled.1.0 other planes.1;
     judged = (
-      path_is_good files p a read.0 rule (subst (Names a.rule_text.items) (sym one.0) names.0) small.0,
-      s,
-      path_is_good files q b read.1.0 s names.1.0 small.1.0,
-      subst (λ t. IsSameRule t s) (sym one.0) one.1,
+      good_under p a ruled.0 rule one.0 small.0,
+      b.rule,
+      ruled_is_good files q b ruled.1.0 small.1.0,
+      subst (λ r. IsSameRule r b.rule) (sym one.0) one.1,
     );
   }
 
   -- a claim that is judged may want memory
-  good_reads : (path : List ℕ) (cells : Picture) (rule : BsRule) → IsGood files path cells rule → Reads files path
+  good_reads : (path : List ℕ) (cells : Picture) (rule : Rule) → IsGood files path cells rule → Reads files path
   good_reads path cells rule good = let read = good.ruled.1 in (read.bytes, read.at_path, read.readable)
 
-  memory_wanted : (paths : List (List ℕ)) (cells other : Picture) (rule : BsRule) → IsJudged files paths cells other rule → HasCause files paths Memory
+  memory_wanted : (paths : List (List ℕ)) (cells other : Picture) (rule : Rule) → IsJudged files paths cells other rule → HasCause files paths Memory
   memory_wanted [] cells other rule judged = absurd judged
   memory_wanted (p ∷ []) cells other rule judged = let reads = good_reads p cells rule judged.0 in (((reads.0, reads.1), tt), reads)
   memory_wanted (p ∷ q ∷ []) cells other rule judged =
@@ -223,25 +225,25 @@ module _ (files : List (List ℕ × List ℕ)) where
   memory_wanted (p ∷ q ∷ r ∷ paths) cells other rule judged = absurd judged
 
   -- what is decided of cells is true of the pictures that show the same
-  decided_true : (claim : Claim) (cells shown other other_shown : Picture) (rule : BsRule) (verdict : Verdict)
+  decided_true : (claim : Claim) (cells shown other other_shown : Picture) (rule : Rule) (verdict : Verdict)
       → IsSame cells shown → IsSame other other_shown → IsJudged files (patterns_of claim) shown other_shown rule
-      → IsDecided (next_of rule.hood rule.birth rule.survival) cells other (asks_of claim) verdict → IsTrueVerdict files claim verdict
+      → IsDecided (next_of rule) cells other (asks_of claim) verdict → IsTrueVerdict files claim verdict
   decided_true claim cells shown other other_shown rule Yes same others judged decided =
-      (shown, other_shown, rule, judged, true-same (next_of rule.hood rule.birth rule.survival) cells shown same other other_shown others (asks_of claim) decided)
+      (shown, other_shown, rule, judged, true-same (next_of rule) cells shown same other other_shown others (asks_of claim) decided)
   decided_true claim cells shown other other_shown rule (No why) same others judged decided =
-      (shown, other_shown, rule, judged, reason-same (next_of rule.hood rule.birth rule.survival) cells shown same other other_shown others (asks_of claim) why decided)
+      (shown, other_shown, rule, judged, reason-same (next_of rule) cells shown same other other_shown others (asks_of claim) why decided)
   decided_true claim cells shown other other_shown rule (Refused cause) same others judged decided =
       subst (HasCause files (patterns_of claim)) (sym decided) (memory_wanted (patterns_of claim) shown other_shown rule judged)
 
-  pub true_verdict : (at : List (List ℕ)) (claim : ClaimOf ℕ) (paths : List (List ℕ)) (patterns : OneOrTwo Pattern) (rules : List BsRule) (cells other : Picture) (rule : BsRule) (verdict : Verdict)
-      → IsEachOnce paths (patterns_of (about (path_at at) claim)) → AllZip (IsReadAt files) paths (items patterns) → AllZip (λ p r. Names p.rule_text.items r) (items patterns) rules
-      → AllByRecursion (λ p. HasSmallStates p.cells) (items patterns) → AreOfOneRule rules rule → ArePlanes (items patterns) cells other
-      → IsDecided (next_of rule.hood rule.birth rule.survival) cells other (asks_of claim) verdict → IsTrueVerdict files (about (path_at at) claim) verdict
-  true_verdict at claim paths patterns rules cells other rule verdict once read names small one planes decided =
-      let all = all_shown paths patterns rules cells other rule read names small one planes in
+  pub true_verdict : (at : List (List ℕ)) (claim : ClaimOf ℕ) (paths : List (List ℕ)) (patterns : OneOrTwo Ruled) (cells other : Picture) (rule : Rule) (verdict : Verdict)
+      → IsEachOnce paths (patterns_of (about (path_at at) claim)) → AllZip (IsRuledAt files) paths (items patterns)
+      → AllByRecursion (λ r. HasSmallStates r.rule r.pattern.cells) (items patterns) → AreOfOneRule (items patterns) rule → ArePlanes (items patterns) cells other
+      → IsDecided (next_of rule) cells other (asks_of claim) verdict → IsTrueVerdict files (about (path_at at) claim) verdict
+  true_verdict at claim paths patterns cells other rule verdict once ruled small one planes decided =
+      let all = all_shown paths patterns cells other rule ruled small one planes in
       decided_true (about (path_at at) claim) cells all.shown other all.other_shown rule verdict all.same all.other_same
       (judged_of_all paths (patterns_of (about (path_at at) claim)) all.shown all.other_shown rule once all.judged)
-      (subst (λ asks. IsDecided (next_of rule.hood rule.birth rule.survival) cells other asks verdict) (sym (asks_about (path_at at) claim)) decided)
+      (subst (λ asks. IsDecided (next_of rule) cells other asks verdict) (sym (asks_about (path_at at) claim)) decided)
 
   -- a cause that `?` passes on
   pub passed_on : (claim : Claim) (r : Result Verdict Cause) (cause : Cause)
@@ -252,22 +254,34 @@ module _ (files : List (List ℕ × List ℕ)) where
 
 -- ---- the planes that are judged
 
--- their states are small
-pub planes_small : (patterns : OneOrTwo Pattern) (there : List (Bor (List ℕ))) (cells other : Picture) → AllZip (λ b p. IsReadFrom b.now p) there (items patterns)
-    → AllByRecursion (λ p. HasSmallStates p.cells) (items patterns) → ArePlanes (items patterns) cells other → All (λ e. e.1 < 2) cells
-planes_small (One a) [] cells other read small planes = absurd read
-planes_small (One a) (b ∷ bs) cells other read small planes = subst (All (λ e. e.1 < 2)) (sym planes.0) (small-listed a.cells read.0.sparse small.0)
-planes_small (Two a c) [] cells other read small planes = absurd read
-planes_small (Two a c) (b ∷ bs) cells other read small planes = subst (All (λ e. e.1 < 2)) (sym planes.0) (small-listed a.cells read.0.sparse small.0)
+-- they are those of patterns that were read
+pub ruled_from : (there : List (Bor (List ℕ))) (patterns : List Pattern) (ruled : List Ruled) → AllZip (λ b p. IsReadFrom b.now p) there patterns → AllZip IsRuledAs patterns ruled
+    → AllZip (λ b r. IsReadFrom b.now r.pattern) there ruled
+ruled_from =
+    zip_through (λ b p. IsReadFrom b.now p) IsRuledAs (λ b r. IsReadFrom b.now r.pattern) (λ b p r read kept. subst (IsReadFrom b.now) (sym kept.0) read)
+
+-- the states of the first are small
+first_small : (a : Ruled) (b : Bor (List ℕ)) (cells : Picture) (rule : Rule) → IsReadFrom b.now a.pattern → HasSmallStates a.rule a.pattern.cells → rule ≡ a.rule → cells ≡ a.pattern.cells
+    → All (λ e. e.1 < states_of rule) cells
+first_small a b cells rule read small of_rule of_cells =
+    subst (λ r. All (λ e. e.1 < states_of r) cells) (sym of_rule) (subst (All (λ e. e.1 < states_of a.rule)) (sym of_cells) (small-listed a.rule a.pattern.cells read.sparse small))
+
+-- so those of a claim's pattern are
+pub planes_small : (patterns : OneOrTwo Ruled) (there : List (Bor (List ℕ))) (cells other : Picture) (rule : Rule) → AllZip (λ b r. IsReadFrom b.now r.pattern) there (items patterns)
+    → AllByRecursion (λ r. HasSmallStates r.rule r.pattern.cells) (items patterns) → AreOfOneRule (items patterns) rule → ArePlanes (items patterns) cells other → All (λ e. e.1 < states_of rule) cells
+planes_small (One a) [] cells other rule read small one planes = absurd read
+planes_small (One a) (b ∷ bs) cells other rule read small one planes = first_small a b cells rule read.0 small.0 one planes.0
+planes_small (Two a c) [] cells other rule read small one planes = absurd read
+planes_small (Two a c) (b ∷ bs) cells other rule read small one planes = first_small a b cells rule read.0 small.0 one.0 planes.0
 
 -- and their cells in range
-pub planes_in_range : (patterns : OneOrTwo Pattern) (there : List (Bor (List ℕ))) (cells other : Picture) → AllZip (λ b p. IsReadFrom b.now p) there (items patterns) → ArePlanes (items patterns) cells other
+pub planes_in_range : (patterns : OneOrTwo Ruled) (there : List (Bor (List ℕ))) (cells other : Picture) → AllZip (λ b r. IsReadFrom b.now r.pattern) there (items patterns) → ArePlanes (items patterns) cells other
     → All (λ e. IsInRange e.0) cells × All (λ e. IsInRange e.0) other
 planes_in_range (One a) [] cells other read planes = absurd read
 planes_in_range (One a) (b ∷ bs) cells other read planes =
-    let range = in_range b.now a read.0 in
+    let range = in_range b.now a.pattern read.0 in
     (subst (All (λ e. IsInRange e.0)) (sym planes.0) range, subst (All (λ e. IsInRange e.0)) (sym planes.1) range)
 planes_in_range (Two a c) [] cells other read planes = absurd read
 planes_in_range (Two a c) (b ∷ []) cells other read planes = absurd read.1
 planes_in_range (Two a c) (b ∷ d ∷ bs) cells other read planes =
-    (subst (All (λ e. IsInRange e.0)) (sym planes.0) (in_range b.now a read.0), subst (All (λ e. IsInRange e.0)) (sym planes.1) (in_range d.now c read.1.0))
+    (subst (All (λ e. IsInRange e.0)) (sym planes.0) (in_range b.now a.pattern read.0), subst (All (λ e. IsInRange e.0)) (sym planes.1) (in_range d.now c.pattern read.1.0))

@@ -6,15 +6,16 @@ use Rattle.ca_plane.specs.declared.point.Point.{Point}
 use Rattle.ca_plane.specs.Plane.{Picture, cell, IsSame}
 use Rattle.ca_plane.specs.Sparse.{IsSparse}
 use Rattle.ca_plane.proofs.Pictures.{cell-listed, Contains-cell}
-use Rattle.ca_rule.specs.declared.bs_rule.BsRule.{BsRule}
+use Rattle.ca_rule.specs.declared.rule.Rule.{Rule}
 use Rattle.ca_rule.specs.declared.fault.RuleFault.{RuleFault}
-use Rattle.ca_rule.specs.Spelling.{Names, IsFaultOf}
+use Rattle.ca_rule.specs.Rule.{states_of, NamesRule, IsRuleFault}
 use Rattle.ca_rle.specs.Limits.{IsInRange}
 use Rattle.ca_rle.specs.Shown.{picture_of}
 use Rattle.ca_rle.specs.declared.pattern.Pattern.{Pattern}
 use Rattle.ca_claims.specs.Means.{bytes_at}
 use Rattle.ca_claims.specs.Answers.{IsRead, IsRuled, HasLargeState, HasSmallStates, Reads, HasRule, IsSmall, IsGood}
-use Rattle.ca_claims.specs.inner.Patterns.{IsReadFrom, HasName}
+use Rattle.ca_claims.specs.inner.Patterns.{IsReadFrom, HasName, IsRuledAs}
+use Rattle.ca_claims.specs.declared.verifier.ruled.Ruled.{Ruled}
 
 -- ---- the cells of a pattern that was read
 
@@ -23,8 +24,8 @@ All-each P [] h = All-nil P
 All-each P (x ∷ xs) h = All-cons P x xs h.0 (All-each P xs h.1)
 
 -- each listed state of a sparse picture is small where each cell is
-pub small-listed : (p : Picture) → IsSparse p → HasSmallStates p → All (λ e. e.1 < 2) p
-small-listed p sparse small = λ k d l. subst (λ s. s < 2) (cell-listed p sparse k d l) (small (get_or p k d).0.x (get_or p k d).0.y)
+pub small-listed : (rule : Rule) (p : Picture) → IsSparse p → HasSmallStates rule p → All (λ e. e.1 < states_of rule) p
+small-listed rule p sparse small = λ k d l. subst (λ s. s < states_of rule) (cell-listed p sparse k d l) (small (get_or p k d).0.x (get_or p k d).0.y)
 
 -- each cell of a sparse picture is in range where each that a picture of the same cells lists is
 range-listed : (p q : Picture) → IsSparse p → IsSame p q → AllByRecursion (λ e. IsInRange e.0) q → All (λ e. IsInRange e.0) p
@@ -72,26 +73,48 @@ module _ (files : List (List ℕ × List ℕ)) (path : List ℕ) (pattern : Patt
     means = (at.read.file, at.read.is_file, refl, at.read.shown.rule_text, refl);
   }
 
-  pub path_has_fault : (fault : RuleFault) → IsFaultOf pattern.rule_text.items fault → (cells : Picture) × (text : List ℕ) × IsRead files path cells text × IsFaultOf text fault
+  pub path_has_fault : (fault : RuleFault) → IsRuleFault pattern.rule_text.items fault → (cells : Picture) × (text : List ℕ) × IsRead files path cells text × IsRuleFault text fault
   path_has_fault fault wrong = (picture, pattern.rule_text.items, path_is_read, wrong)
 
-  pub path_is_ruled : (rule : BsRule) → Names pattern.rule_text.items rule → IsRuled files path picture rule
+  pub path_is_ruled : (rule : Rule) → NamesRule pattern.rule_text.items rule → IsRuled files path picture rule
   path_is_ruled rule names = (pattern.rule_text.items, path_is_read, names)
 
   pub path_has_rule : HasName pattern → HasRule files path
   path_has_rule named = (picture, named.0, path_is_ruled named.0 named.1)
 
-  large_shown : HasLargeState pattern.cells → HasLargeState picture
-  large_shown h = (h.0, h.1, subst (λ s. 2 ≤ s) (at.read.shown.cells h.0 h.1) h.2)
+-- ---- a pattern whose rule text names a rule
 
-  pub path_is_large : HasName pattern → HasLargeState pattern.cells → (cells : Picture) × (rule : BsRule) × IsRuled files path cells rule × HasLargeState cells
-  path_is_large named large = (picture, named.0, path_is_ruled named.0 named.1, large_shown large)
+-- the pattern is that of the file with this path, and the rule that of its rule text
+pub record IsRuledAt (files : List (List ℕ × List ℕ)) (path : List ℕ) (ruled : Ruled) : Type 0 where
+  pub read_at : IsReadAt files path ruled.pattern
+  pub named : NamesRule ruled.pattern.rule_text.items ruled.rule
 
-  small_shown : HasSmallStates pattern.cells → HasSmallStates picture
-  small_shown h = λ x y. subst (λ s. s < 2) (at.read.shown.cells x y) (h x y)
+pub ruled_at : (files : List (List ℕ × List ℕ)) (path : List ℕ) (pattern : Pattern) (ruled : Ruled) → IsReadAt files path pattern → IsRuledAs pattern ruled → IsRuledAt files path ruled
+ruled_at files path pattern ruled at kept = record {
+  read_at = subst (IsReadAt files path) (sym kept.0) at;
+  named = subst (λ p. NamesRule p.rule_text.items ruled.rule) (sym kept.0) kept.1;
+}
 
-  pub path_is_good : (rule : BsRule) → Names pattern.rule_text.items rule → HasSmallStates pattern.cells → IsGood files path picture rule
-  path_is_good rule names small = record { ruled = path_is_ruled rule names; small = small_shown small }
+module _ (files : List (List ℕ × List ℕ)) (path : List ℕ) (ruled : Ruled) (at : IsRuledAt files path ruled) where
+  -- the picture of its file
+  abbrev pub ruled_picture : Picture
+  ruled_picture = picture files path ruled.pattern at.read_at
 
-  pub path_is_small : HasName pattern → HasSmallStates pattern.cells → IsSmall files path
-  path_is_small named small = (picture, named.0, path_is_ruled named.0 named.1, small_shown small)
+  pub ruled_reads : IsRuled files path ruled_picture ruled.rule
+  ruled_reads = path_is_ruled files path ruled.pattern at.read_at ruled.rule at.named
+
+  pub ruled_has_rule : HasRule files path
+  ruled_has_rule = (ruled_picture, ruled.rule, ruled_reads)
+
+  pub ruled_is_large : HasLargeState ruled.rule ruled.pattern.cells → (cells : Picture) × (rule : Rule) × IsRuled files path cells rule × HasLargeState rule cells
+  ruled_is_large large =
+      (ruled_picture, ruled.rule, ruled_reads, (large.0, large.1, subst (λ s. states_of ruled.rule ≤ s) (at.read_at.read.shown.cells large.0 large.1) large.2))
+
+  small_shown : HasSmallStates ruled.rule ruled.pattern.cells → HasSmallStates ruled.rule ruled_picture
+  small_shown small = λ x y. subst (λ s. s < states_of ruled.rule) (at.read_at.read.shown.cells x y) (small x y)
+
+  pub ruled_is_good : HasSmallStates ruled.rule ruled.pattern.cells → IsGood files path ruled_picture ruled.rule
+  ruled_is_good small = record { ruled = ruled_reads; small = small_shown small }
+
+  pub ruled_is_small : HasSmallStates ruled.rule ruled.pattern.cells → IsSmall files path
+  ruled_is_small small = (ruled_picture, ruled.rule, ruled_reads, small_shown small)

@@ -6,12 +6,10 @@ use Rattle.std.proofs.lemmas.Bool.{cases_order}
 use Rattle.std.proofs.lemmas.Option.{same_Some, none-some}
 use Rattle.ca_plane.specs.Plane.{Picture, cell, shifted}
 use Rattle.ca_plane.specs.Generations.{after}
-use Rattle.ca_rule.specs.declared.bs_rule.BsRule.{BsRule}
+use Rattle.ca_rule.specs.declared.rule.Rule.{Rule}
 use Rattle.ca_rule.specs.declared.fault.RuleFault.{RuleFault}
-use Rattle.ca_rule.specs.declared.fault.RuleFault.TheVariants.{Bounded, Wakes, Unknown}
-use Rattle.ca_rule.specs.Next.{next_of}
-use Rattle.ca_rule.specs.Spelling.{Names, IsFaultOf}
-use Rattle.ca_rule.proofs.Meaning.{names-once, names-faultless}
+use Rattle.ca_rule.specs.Rule.{states_of, next_of, IsSameRule, NamesRule, IsRuleFault}
+use Rattle.ca_rule.proofs.Rules.{same-refl, same-sym, same-trans, same-states, same-next, named-once, named-faultless, one-rule-fault}
 use Rattle.ca_rle.specs.Shown.{picture_of}
 use Rattle.ca_rle.specs.Faults as rle_faults
 use Rattle.ca_rle.proofs.OneFile.{one_file}
@@ -28,11 +26,11 @@ use Rattle.ca_claims.specs.declared.claims.asks.Barred.{Barred}
 use Rattle.ca_claims.specs.declared.claims.asks.Barred.TheVariants.{Nothing, InPlace, Anywhere}
 use Rattle.ca_claims.specs.Means.{Means, bytes_at}
 use Rattle.ca_claims.specs.Truth.{IsAfter, IsNotBack, MayReturnBy, IsTrueClaim, IsReason}
-use Rattle.ca_claims.specs.Answers.{IsPatternFault, IsRead, IsRuled, IsSameRule, IsThere, Reads, HasRule, IsSmall, HasLargeState, SomeOf, FirstBad, HaveOtherRules, HasCause, IsGood, IsJudged}
+use Rattle.ca_claims.specs.Answers.{IsPatternFault, IsRead, IsRuled, IsThere, Reads, HasRule, IsSmall, HasLargeState, SomeOf, FirstBad, HaveOtherRules, HasCause, IsGood, IsJudged}
 
 -- some state of the pattern is too large for its rule
 abbrev IsLarge : List (List ℕ × List ℕ) → List ℕ → Type 0
-IsLarge files path = (cells : Picture) × (rule : BsRule) × IsRuled files path cells rule × HasLargeState cells
+IsLarge files path = (cells : Picture) × (rule : Rule) × IsRuled files path cells rule × HasLargeState rule cells
 
 -- ---- a claim is true or there is a reason against it, not both
 
@@ -57,18 +55,6 @@ one_meaning bytes p q t u g h a b =
     let same = one_file bytes a.0 b.0 a.1 b.1 in
     (a.2 ∙ ap (λ f. picture_of f.corner f.items) same ∙ sym b.2, a.3 ∙ ap (λ f. f.rule_text) same ∙ sym b.3, a.4 ∙ ap (λ f. f.generation) same ∙ sym b.4)
 
--- a rule text has one fault
-one_text_fault : (text : List ℕ) (f g : RuleFault) → IsFaultOf text f → IsFaultOf text g → f ≡ g
-one_text_fault text Bounded Bounded a b = refl
-one_text_fault text Bounded Wakes a b = cc (a, b.0)
-one_text_fault text Bounded Unknown a b = cc (a, b.0)
-one_text_fault text Wakes Bounded a b = cc (a.0, b)
-one_text_fault text Wakes Wakes a b = refl
-one_text_fault text Wakes Unknown a b = absurd (b.1 a.1 a.2 a.3 a.4)
-one_text_fault text Unknown Bounded a b = cc (a.0, b)
-one_text_fault text Unknown Wakes a b = absurd (a.1 b.1 b.2 b.3 b.4)
-one_text_fault text Unknown Unknown a b = refl
-
 module _ (files : List (List ℕ × List ℕ)) (path : List ℕ) where
   -- the file of a path is read in one way
   one_read : (p q : Picture) (t u : List ℕ) → IsRead files path p t → IsRead files path q u → (p ≡ q) × (t ≡ u)
@@ -78,10 +64,10 @@ module _ (files : List (List ℕ × List ℕ)) (path : List ℕ) where
       (one.0, one.1)
 
   -- and has one rule
-  one_ruled : (p q : Picture) (r s : BsRule) → IsRuled files path p r → IsRuled files path q s → (p ≡ q) × IsSameRule r s
+  one_ruled : (p q : Picture) (r s : Rule) → IsRuled files path p r → IsRuled files path q s → (p ≡ q) × IsSameRule r s
   one_ruled p q r s a b =
       let one = one_read p q a.0 b.0 a.1 b.1 in
-      (one.0, names-once b.0 r s (subst (λ t. Names t r) one.1 a.2) b.2)
+      (one.0, named-once b.0 r s (subst (λ t. NamesRule t r) one.1 a.2) b.2)
 
   -- ---- a path is good or bad, not both
 
@@ -94,15 +80,16 @@ module _ (files : List (List ℕ × List ℕ)) (path : List ℕ) where
       no_fault_within_limits a.0 a.2.0 fault a.2.1 a.2.2 wrong.0 (subst (λ l. rle_faults.IsFaultOf l fault) same wrong.1)
   reads_or_fault pattern_fault.Memory a (bytes, at, wrong) = wrong
 
-  named_or_fault : (fault : RuleFault) → HasRule files path → (cells : Picture) × (text : List ℕ) × IsRead files path cells text × IsFaultOf text fault → ⊥
+  named_or_fault : (fault : RuleFault) → HasRule files path → (cells : Picture) × (text : List ℕ) × IsRead files path cells text × IsRuleFault text fault → ⊥
   named_or_fault fault a (cells, text, read, wrong) =
       let one = one_read a.0 cells a.2.0 text a.2.1 read in
-      names-faultless text a.1 fault (subst (λ t. Names t a.1) one.1 a.2.2) wrong
+      named-faultless text a.1 fault (subst (λ t. NamesRule t a.1) one.1 a.2.2) wrong
 
   small_or_large : IsSmall files path → IsLarge files path → ⊥
   small_or_large a (cells, rule, ruled, (x, y, large)) =
       let one = one_ruled a.0 cells a.1 rule a.2 ruled in
-      let small : cell cells x y < 2 = subst (λ p. cell p x y < 2) one.0 (a.3 x y) in
+      let few : cell cells x y < states_of a.1 = subst (λ p. cell p x y < states_of a.1) one.0 (a.3 x y) in
+      let small : cell cells x y < states_of rule = subst (λ n. cell cells x y < n) (same-states a.1 rule one.1) few in
       omega arith
 
   -- ---- and has one fault
@@ -115,10 +102,10 @@ module _ (files : List (List ℕ × List ℕ)) (path : List ℕ) where
   one_pattern_fault pattern_fault.Memory g (bytes, at, wrong) (others, there, bad) = absurd wrong
   one_pattern_fault (pattern_fault.Rle f) pattern_fault.Memory (bytes, at, wrong) (others, there, bad) = absurd bad
 
-  one_rule_fault : (f g : RuleFault) → (cells : Picture) × (text : List ℕ) × IsRead files path cells text × IsFaultOf text f
-      → (cells : Picture) × (text : List ℕ) × IsRead files path cells text × IsFaultOf text g → f ≡ g
+  one_rule_fault : (f g : RuleFault) → (cells : Picture) × (text : List ℕ) × IsRead files path cells text × IsRuleFault text f
+      → (cells : Picture) × (text : List ℕ) × IsRead files path cells text × IsRuleFault text g → f ≡ g
   one_rule_fault f g (p, t, read, wrong) (q, u, other, bad) =
-      one_text_fault u f g (subst (λ l. IsFaultOf l f) (one_read p q t u read other).1 wrong) bad
+      one-rule-fault u f g (subst (λ l. IsRuleFault l f) (one_read p q t u read other).1 wrong) bad
 
 -- ---- lists of paths
 
@@ -208,7 +195,7 @@ not_past files paths NoFile m h past = all_or_some (IsThere files) (λ p. bytes_
 not_past files paths (BadPattern fault) m h past =
     all_or_first (Reads files) (λ p. (bytes : List ℕ) × (bytes_at files p ≡ Some bytes) × IsPatternFault bytes fault) (λ p. reads_or_fault files p fault) paths past h.1
 not_past files paths (BadRule fault) m h past =
-    all_or_first (HasRule files) (λ p. (cells : Picture) × (text : List ℕ) × IsRead files p cells text × IsFaultOf text fault) (λ p. named_or_fault files p fault) paths past h.1
+    all_or_first (HasRule files) (λ p. (cells : Picture) × (text : List ℕ) × IsRead files p cells text × IsRuleFault text fault) (λ p. named_or_fault files p fault) paths past h.1
 not_past files paths StateTooLarge m h past = all_or_some (IsSmall files) (IsLarge files) (small_or_large files) paths past h.1
 not_past files paths MixedRules m h past = past.1 h.1
 not_past files paths Memory m h past = m refl
@@ -222,7 +209,7 @@ same_place files paths (BadPattern f) (BadPattern g) m n e h k =
     ap BadPattern (one_first (Reads files) (λ p. (bytes : List ℕ) × (bytes_at files p ≡ Some bytes) × IsPatternFault bytes f) (λ p. (bytes : List ℕ) × (bytes_at files p ≡ Some bytes) × IsPatternFault bytes g) (f ≡ g)
     (λ p. reads_or_fault files p f) (λ p. reads_or_fault files p g) (λ p. one_pattern_fault files p f g) paths h.1 k.1)
 same_place files paths (BadRule f) (BadRule g) m n e h k =
-    ap BadRule (one_first (HasRule files) (λ p. (cells : Picture) × (text : List ℕ) × IsRead files p cells text × IsFaultOf text f) (λ p. (cells : Picture) × (text : List ℕ) × IsRead files p cells text × IsFaultOf text g) (f ≡ g)
+    ap BadRule (one_first (HasRule files) (λ p. (cells : Picture) × (text : List ℕ) × IsRead files p cells text × IsRuleFault text f) (λ p. (cells : Picture) × (text : List ℕ) × IsRead files p cells text × IsRuleFault text g) (f ≡ g)
     (λ p. named_or_fault files p f) (λ p. named_or_fault files p g) (λ p. one_rule_fault files p f g) paths h.1 k.1)
 same_place files paths StateTooLarge StateTooLarge m n e h k = refl
 same_place files paths MixedRules MixedRules m n e h k = refl
@@ -244,19 +231,19 @@ no_file_or_memory files paths none wanted = all_or_some (IsThere files) (λ p. b
 -- ---- judged claims
 
 -- the rules of good patterns with one rule are the same
-no_others : (files : List (List ℕ × List ℕ)) (p q : List ℕ) (cells other : Picture) (rule other_rule : BsRule) → IsGood files p cells rule → IsGood files q other other_rule → IsSameRule rule other_rule → HaveOtherRules files p q → ⊥
+no_others : (files : List (List ℕ × List ℕ)) (p q : List ℕ) (cells other : Picture) (rule other_rule : Rule) → IsGood files p cells rule → IsGood files q other other_rule → IsSameRule rule other_rule → HaveOtherRules files p q → ⊥
 no_others files p q cells other rule other_rule one two same mixed =
     let a = (one_ruled files p cells mixed.0 rule mixed.1 one.ruled mixed.4).1 in
     let b = (one_ruled files q other mixed.2 other_rule mixed.3 two.ruled mixed.5).1 in
-    mixed.6 (sym a.0 ∙ same.0 ∙ b.0, sym a.1 ∙ same.1 ∙ b.1, sym a.2 ∙ same.2 ∙ b.2)
+    mixed.6 (same-trans mixed.1 rule mixed.3 (same-sym rule mixed.1 a) (same-trans rule other_rule mixed.3 same b))
 
 -- what is judged is past every cause
-past_all : (files : List (List ℕ × List ℕ)) (paths : List (List ℕ)) (cells other : Picture) (rule : BsRule) → IsJudged files paths cells other rule → IsPast files paths 5
+past_all : (files : List (List ℕ × List ℕ)) (paths : List (List ℕ)) (cells other : Picture) (rule : Rule) → IsJudged files paths cells other rule → IsPast files paths 5
 past_all files [] cells other rule j = absurd j
 past_all files (p ∷ []) cells other rule j = (
   ((cells, rule, j.0.ruled, j.0.small), tt),
   λ mixed. elim mixed [
-    | inl one ↦ elim one [ inl same ↦ no_others files p p cells cells rule rule j.0 j.0 (refl, refl, refl) same | inr none ↦ none ]
+    | inl one ↦ elim one [ inl same ↦ no_others files p p cells cells rule rule j.0 j.0 (same-refl rule) same | inr none ↦ none ]
     | inr none ↦ none
   ],
 )
@@ -265,14 +252,14 @@ past_all files (p ∷ q ∷ []) cells other rule j = (
   λ mixed. elim mixed [
     | inl first ↦
         elim first [
-          | inl own ↦ no_others files p p cells cells rule rule j.0 j.0 (refl, refl, refl) own
+          | inl own ↦ no_others files p p cells cells rule rule j.0 j.0 (same-refl rule) own
           | inr (inl both) ↦ no_others files p q cells other rule j.1 j.0 j.2 j.3 both
           | inr (inr none) ↦ none
         ]
     | inr (inl second) ↦
         elim second [
-          | inl both ↦ no_others files q p other cells j.1 rule j.2 j.0 (sym j.3.0, sym j.3.1, sym j.3.2) both
-          | inr (inl own) ↦ no_others files q q other other j.1 j.1 j.2 j.2 (refl, refl, refl) own
+          | inl both ↦ no_others files q p other cells j.1 rule j.2 j.0 (same-sym rule j.1 j.3) both
+          | inr (inl own) ↦ no_others files q q other other j.1 j.1 j.2 j.2 (same-refl j.1) own
           | inr (inr none) ↦ none
         ]
     | inr (inr none) ↦ none
@@ -281,11 +268,11 @@ past_all files (p ∷ q ∷ []) cells other rule j = (
 past_all files (p ∷ q ∷ r ∷ paths) cells other rule j = absurd j
 
 -- a claim is judged or refused for a cause, not both, want of memory apart
-pub judged_or_cause : (files : List (List ℕ × List ℕ)) (paths : List (List ℕ)) (cells other : Picture) (rule : BsRule) (cause : Cause) → cause ≢ Memory → IsJudged files paths cells other rule → HasCause files paths cause → ⊥
+pub judged_or_cause : (files : List (List ℕ × List ℕ)) (paths : List (List ℕ)) (cells other : Picture) (rule : Rule) (cause : Cause) → cause ≢ Memory → IsJudged files paths cells other rule → HasCause files paths cause → ⊥
 judged_or_cause files paths cells other rule cause m judged h = not_past files paths cause m h (past_below files paths (suc (place cause)) 5 (place_within cause m) (past_all files paths cells other rule judged))
 
 -- a claim is judged in one way
-one_judged : (files : List (List ℕ × List ℕ)) (paths : List (List ℕ)) (p q o v : Picture) (r s : BsRule) → IsJudged files paths p o r → IsJudged files paths q v s → (p ≡ q) × (o ≡ v) × IsSameRule r s
+one_judged : (files : List (List ℕ × List ℕ)) (paths : List (List ℕ)) (p q o v : Picture) (r s : Rule) → IsJudged files paths p o r → IsJudged files paths q v s → (p ≡ q) × (o ≡ v) × IsSameRule r s
 one_judged files [] p q o v r s a b = absurd a
 one_judged files (path ∷ []) p q o v r s a b = let one = one_ruled files path p q r s a.0.ruled b.0.ruled in (one.0, a.1 ∙ one.0 ∙ sym b.1, one.1)
 one_judged files (path ∷ other ∷ []) p q o v r s a b =
@@ -294,11 +281,10 @@ one_judged files (path ∷ other ∷ []) p q o v r s a b =
 one_judged files (path ∷ other ∷ third ∷ paths) p q o v r s a b = absurd a
 
 -- a claim that is judged is true or false, not both
-pub yes_or_no : (files : List (List ℕ × List ℕ)) (paths : List (List ℕ)) (asks : Asks) (why : Why) (p q o v : Picture) (r s : BsRule) → IsJudged files paths p o r → IsJudged files paths q v s
-    → IsTrueClaim (next_of r.hood r.birth r.survival) p o asks → IsReason (next_of s.hood s.birth s.survival) q v asks why → ⊥
+pub yes_or_no : (files : List (List ℕ × List ℕ)) (paths : List (List ℕ)) (asks : Asks) (why : Why) (p q o v : Picture) (r s : Rule) → IsJudged files paths p o r → IsJudged files paths q v s
+    → IsTrueClaim (next_of r) p o asks → IsReason (next_of s) q v asks why → ⊥
 yes_or_no files paths asks why p q o v r s a b true reason =
     let one = one_judged files paths p q o v r s a b in
-    let next : next_of r.hood r.birth r.survival ≡ next_of s.hood s.birth s.survival = λ i. next_of (one.2.0 i) (one.2.1 i) (one.2.2 i) in
-    let by_next = subst (λ f. IsTrueClaim f p o asks) next true in
-    let by_cells = subst (λ c. IsTrueClaim (next_of s.hood s.birth s.survival) c o asks) one.0 by_next in
-    false_from_reason (next_of s.hood s.birth s.survival) q v asks why reason (subst (λ c. IsTrueClaim (next_of s.hood s.birth s.survival) q c asks) one.1 by_cells)
+    let by_next = subst (λ f. IsTrueClaim f p o asks) (same-next r s one.2) true in
+    let by_cells = subst (λ c. IsTrueClaim (next_of s) c o asks) one.0 by_next in
+    false_from_reason (next_of s) q v asks why reason (subst (λ c. IsTrueClaim (next_of s) q c asks) one.1 by_cells)

@@ -2,10 +2,8 @@
 use Rattle.std.specs.Prelude.{◌≡◌, ◌≢◌, ℕ, ◌≤◌, ◌<◌, ℤ, List, [], ◌∷◌, Some, None, ◌⊎◌}
 use Rattle.std.specs.List.{AllZip, AllByRecursion}
 use Rattle.ca_plane.specs.Plane.{Picture, cell}
-use Rattle.ca_rule.specs.declared.bs_rule.BsRule.{BsRule}
-use Rattle.ca_rule.specs.Next.{next_of}
-use Rattle.ca_rule.specs.Spelling.{Names}
-use Rattle.ca_rule.specs.Spelling as rules
+use Rattle.ca_rule.specs.declared.rule.Rule.{Rule}
+use Rattle.ca_rule.specs.Rule.{states_of, next_of, IsSameRule, NamesRule, IsRuleFault}
 use Rattle.ca_rle.specs.File as rle
 use Rattle.ca_rle.specs.Limits.{IsWithinLimits}
 use Rattle.ca_rle.specs.Faults as rle_faults
@@ -39,20 +37,16 @@ pub record IsRead (files : List (List ℕ × List ℕ)) (path : List ℕ) (cells
   pub means : Means bytes cells rule_text generation
 
 -- the file means these cells, and its rule text names this rule
-abbrev pub IsRuled : List (List ℕ × List ℕ) → List ℕ → Picture → BsRule → Type 0
-IsRuled files path cells rule = (rule_text : List ℕ) × IsRead files path cells rule_text × Names rule_text rule
+abbrev pub IsRuled : List (List ℕ × List ℕ) → List ℕ → Picture → Rule → Type 0
+IsRuled files path cells rule = (rule_text : List ℕ) × IsRead files path cells rule_text × NamesRule rule_text rule
 
--- some cell has a state that isn't below 2, the number of states of a B/S rule
-abbrev pub HasLargeState : Picture → Type 0
-HasLargeState cells = (x : ℤ) × (y : ℤ) × (2 ≤ cell cells x y)
+-- some cell has a state that isn't below the number of the rule's states
+abbrev pub HasLargeState : Rule → Picture → Type 0
+HasLargeState rule cells = (x : ℤ) × (y : ℤ) × (states_of rule ≤ cell cells x y)
 
 -- no cell has
-abbrev pub HasSmallStates : Picture → Type 0
-HasSmallStates cells = (x y : ℤ) → cell cells x y < 2
-
--- two rules are the same: one neighbourhood, and the same counts for birth and for survival
-abbrev pub IsSameRule : BsRule → BsRule → Type 0
-IsSameRule r s = (r.hood ≡ s.hood) × (r.birth ≡ s.birth) × (r.survival ≡ s.survival)
+abbrev pub HasSmallStates : Rule → Picture → Type 0
+HasSmallStates rule cells = (x y : ℤ) → cell cells x y < states_of rule
 
 -- the file of a pattern's path is there
 abbrev pub IsThere : List (List ℕ × List ℕ) → List ℕ → Type 0
@@ -64,11 +58,11 @@ Reads files path = (bytes : List ℕ) × (bytes_at files path ≡ Some bytes) ×
 
 -- and its rule text names a rule
 abbrev pub HasRule : List (List ℕ × List ℕ) → List ℕ → Type 0
-HasRule files path = (cells : Picture) × (rule : BsRule) × IsRuled files path cells rule
+HasRule files path = (cells : Picture) × (rule : Rule) × IsRuled files path cells rule
 
 -- and its states are small
 abbrev pub IsSmall : List (List ℕ × List ℕ) → List ℕ → Type 0
-IsSmall files path = (cells : Picture) × (rule : BsRule) × IsRuled files path cells rule × HasSmallStates cells
+IsSmall files path = (cells : Picture) × (rule : Rule) × IsRuled files path cells rule × HasSmallStates rule cells
 
 -- this holds of some element
 abbrev pub SomeOf : {X : Type 0} → (X → Type 0) → List X → Type 0
@@ -87,7 +81,7 @@ FirstIs Holds (x ∷ xs) = Holds x
 
 -- the patterns of two paths have different rules
 abbrev pub HaveOtherRules : List (List ℕ × List ℕ) → List ℕ → List ℕ → Type 0
-HaveOtherRules files path other = (cells : Picture) × (rule : BsRule) × (other_cells : Picture) × (other_rule : BsRule)
+HaveOtherRules files path other = (cells : Picture) × (rule : Rule) × (other_cells : Picture) × (other_rule : Rule)
     × IsRuled files path cells rule × IsRuled files other other_cells other_rule × (IsSameRule rule other_rule → ⊥)
 
 -- the first cause of a refusal that holds of a claim about patterns of these paths, in the order of these lines; memory is
@@ -97,32 +91,32 @@ HasCause files paths NoFile = SomeOf (λ p. bytes_at files p ≡ None) paths
 HasCause files paths (BadPattern fault) = AllByRecursion (IsThere files) paths
     × FirstBad (Reads files) (λ p. (bytes : List ℕ) × (bytes_at files p ≡ Some bytes) × IsPatternFault bytes fault) paths
 HasCause files paths (BadRule fault) = AllByRecursion (Reads files) paths
-    × FirstBad (HasRule files) (λ p. (cells : Picture) × (text : List ℕ) × IsRead files p cells text × rules.IsFaultOf text fault) paths
+    × FirstBad (HasRule files) (λ p. (cells : Picture) × (text : List ℕ) × IsRead files p cells text × IsRuleFault text fault) paths
 HasCause files paths StateTooLarge = AllByRecursion (HasRule files) paths
-    × SomeOf (λ p. (cells : Picture) × (rule : BsRule) × IsRuled files p cells rule × HasLargeState cells) paths
+    × SomeOf (λ p. (cells : Picture) × (rule : Rule) × IsRuled files p cells rule × HasLargeState rule cells) paths
 HasCause files paths MixedRules = AllByRecursion (IsSmall files) paths × SomeOf (λ p. SomeOf (HaveOtherRules files p) paths) paths
 HasCause files paths Memory = AllByRecursion (IsThere files) paths × FirstIs (Reads files) paths
 
 -- a pattern's file is there and is read, and means these cells, of small states, under this rule
-pub record IsGood (files : List (List ℕ × List ℕ)) (path : List ℕ) (cells : Picture) (rule : BsRule) : Type 0 where
+pub record IsGood (files : List (List ℕ × List ℕ)) (path : List ℕ) (cells : Picture) (rule : Rule) : Type 0 where
   pub ruled : IsRuled files path cells rule
-  pub small : HasSmallStates cells
+  pub small : HasSmallStates rule cells
 
 -- no cause holds: the patterns of a claim's paths mean these cells under this rule; where there is one, it is the other too
-abbrev pub IsJudged : List (List ℕ × List ℕ) → List (List ℕ) → Picture → Picture → BsRule → Type 0
+abbrev pub IsJudged : List (List ℕ × List ℕ) → List (List ℕ) → Picture → Picture → Rule → Type 0
 IsJudged files [] cells other rule = ⊥
 IsJudged files (path ∷ []) cells other rule = IsGood files path cells rule × (other ≡ cells)
 IsJudged files (path ∷ other_path ∷ []) cells other rule =
-    IsGood files path cells rule × (other_rule : BsRule) × IsGood files other_path other other_rule × IsSameRule rule other_rule
+    IsGood files path cells rule × (other_rule : Rule) × IsGood files other_path other other_rule × IsSameRule rule other_rule
 IsJudged files (path ∷ other_path ∷ third ∷ paths) cells other rule = ⊥
 
 -- a verdict is true: a yes of a claim that is true of the planes that the files mean, a no of one that is false, with the
 -- reason, and a refusal with its cause; a yes and a no come only where no cause holds
 abbrev pub IsTrueVerdict : List (List ℕ × List ℕ) → Claim → Verdict → Type 0
-IsTrueVerdict files claim Yes = (cells : Picture) × (other : Picture) × (rule : BsRule) × IsJudged files (patterns_of claim) cells other rule
-    × IsTrueClaim (next_of rule.hood rule.birth rule.survival) cells other (asks_of claim)
-IsTrueVerdict files claim (No why) = (cells : Picture) × (other : Picture) × (rule : BsRule) × IsJudged files (patterns_of claim) cells other rule
-    × IsReason (next_of rule.hood rule.birth rule.survival) cells other (asks_of claim) why
+IsTrueVerdict files claim Yes = (cells : Picture) × (other : Picture) × (rule : Rule) × IsJudged files (patterns_of claim) cells other rule
+    × IsTrueClaim (next_of rule) cells other (asks_of claim)
+IsTrueVerdict files claim (No why) = (cells : Picture) × (other : Picture) × (rule : Rule) × IsJudged files (patterns_of claim) cells other rule
+    × IsReason (next_of rule) cells other (asks_of claim) why
 IsTrueVerdict files claim (Refused cause) = HasCause files (patterns_of claim) cause
 
 -- the answer has the number of the claim's line, and a true verdict

@@ -11,6 +11,7 @@ ghost use Rattle.ca_claims.specs.inner.Patterns.{items, IsEachOnce};
 
 mod one_or_two;
 mod patterns;
+mod ruled;
 
 use crate::claims::{Claim, Claims};
 use crate::decide::decide;
@@ -18,7 +19,7 @@ use crate::file::File;
 use crate::verdict::{Answer, Cause, Verdict};
 use ca_plane::Memory;
 use one_or_two::OneOrTwo;
-use patterns::{has_large_states, one_rule, planes, read_each, rules_of};
+use patterns::{has_large_states, one_rule, planes, read_each, with_rules};
 use std::alloc::Global;
 
 /// One answer for each claim, in the order of their lines. Of two files with one path the first counts.
@@ -84,14 +85,14 @@ fn judge(alloc: Global, claim: &Claim<usize>, found: &[Option<&[u8]>]) -> Result
         return Err(Cause::NoFile);
     };
     let patterns = read_each(alloc, &files)?;
-    let rules = match rules_of(&patterns) {
-        Ok(rules) => rules,
+    let patterns = match with_rules(patterns) {
+        Ok(patterns) => patterns,
         Err(fault) => return Err(Cause::BadRule(fault)),
     };
     if has_large_states(&patterns) {
         return Err(Cause::StateTooLarge);
     }
-    let Some(rule) = one_rule(&rules) else {
+    let Some(rule) = one_rule(&patterns) else {
         return Err(Cause::MixedRules);
     };
     let (cells, other) = planes(&patterns);

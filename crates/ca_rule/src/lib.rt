@@ -7,6 +7,7 @@ mod fault;
 mod hood;
 mod laws;
 mod rule;
+mod rule_laws;
 mod spelling;
 
 pub use bs_rule::BsRule;
@@ -15,6 +16,7 @@ pub use fault::RuleFault;
 pub use hood::Hood;
 pub use laws::{alike, names_itself, one_rule, rule_or_fault, worked_examples};
 pub use rule::{Rule, resolve};
+pub use rule_laws::{named_rules, same_rules};
 
 #[cfg(test)]
 mod tests;

@@ -186,6 +186,22 @@ fn rules_that_are_the_same(rt: HostRuntime) -> Result<(), Fail> {
     Ok(())
 }
 
+#[test]
+fn rules_of_any_kind(rt: HostRuntime) -> Result<(), Fail> {
+    let life = resolve(b"23/3").ok().ok_or("Life is a rule")?;
+    let text = life.text(rt.alloc()).ok().ok_or("memory is ample")?;
+    assert_eq!(rt; text.as_slice(), b"B3/S23".as_slice());
+    let again = resolve(&text).ok().ok_or("the printed form names a rule")?;
+    let other = resolve(b"B3/S23H").ok().ok_or("the text names a rule")?;
+    assert!(rt; life.same(&again));
+    assert!(rt; !life.same(&other));
+    assert_eq!(rt; life.states(), 2);
+    assert_eq!(rt; next_of(&life, &[0, 0, 0, 1, 1, 1, 0, 0, 0]), 1);
+    assert_eq!(rt; next_of(&life, &[0, 0, 0, 1, 0, 1, 0, 0, 0]), 0);
+    assert_eq!(rt; resolve(b"Life").err(), Some(RuleFault::Unknown));
+    Ok(())
+}
+
 /// What a rule says of nine cells, through the trait.
 fn next_of<A: Automaton>(rule: &A, nine: &Nine) -> u8 {
     rule.next(nine)

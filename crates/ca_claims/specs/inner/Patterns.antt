@@ -2,17 +2,18 @@
 use Rattle.std.specs.Prelude.{◌≡◌, ℕ, List, [], ◌∷◌, ◌⊎◌}
 use Rattle.ca_claims.specs.declared.verifier.one_or_two.OneOrTwo.{OneOrTwo}
 use Rattle.ca_claims.specs.declared.verifier.one_or_two.OneOrTwo.TheVariants.{One, Two}
+use Rattle.ca_claims.specs.declared.verifier.ruled.Ruled.{Ruled}
 use Rattle.ca_plane.specs.Plane.{Picture}
 use Rattle.ca_plane.specs.Sparse.{IsSparse}
-use Rattle.ca_rule.specs.declared.bs_rule.BsRule.{BsRule}
-use Rattle.ca_rule.specs.Spelling.{Names}
+use Rattle.ca_rule.specs.declared.rule.Rule.{Rule}
+use Rattle.ca_rule.specs.Rule.{IsSameRule, NamesRule}
 use Rattle.ca_rle.specs.File as rle
 use Rattle.ca_rle.specs.Limits.{IsWithinLimits}
 use Rattle.ca_rle.specs.Pattern.{IsPatternOf}
 use Rattle.ca_rle.specs.declared.pattern.Pattern.{Pattern}
 use Rattle.ca_claims.specs.declared.verdict.Cause.{Cause}
 use Rattle.ca_claims.specs.declared.verdict.Cause.TheVariants.{NoFile, BadPattern, BadRule, StateTooLarge, MixedRules, Memory}
-use Rattle.ca_claims.specs.Answers.{IsReadable, IsPatternFault, IsSameRule}
+use Rattle.ca_claims.specs.Answers.{IsReadable, IsPatternFault}
 
 -- one or two, as a list
 abbrev pub items : {T : Type 0} → OneOrTwo T → List T
@@ -42,22 +43,26 @@ IsUnread bytes Memory = IsReadable bytes
 
 -- the pattern's rule text names a rule
 abbrev pub HasName : Pattern → Type 0
-HasName pattern = (rule : BsRule) × Names pattern.rule_text.items rule
+HasName pattern = (rule : Rule) × NamesRule pattern.rule_text.items rule
 
--- the rules are this one, or the first is and the second is the same
-abbrev pub AreOfOneRule : List BsRule → BsRule → Type 0
+-- the pattern with a rule that its rule text names
+abbrev pub IsRuledAs : Pattern → Ruled → Type 0
+IsRuledAs pattern ruled = (ruled.pattern ≡ pattern) × NamesRule pattern.rule_text.items ruled.rule
+
+-- the rule is that of the one pattern, or of the first of two, and the second's is the same
+abbrev pub AreOfOneRule : List Ruled → Rule → Type 0
 AreOfOneRule [] rule = ⊥
-AreOfOneRule (r ∷ []) rule = rule ≡ r
-AreOfOneRule (r ∷ s ∷ rules) rule = (rule ≡ r) × IsSameRule r s
+AreOfOneRule (a ∷ []) rule = rule ≡ a.rule
+AreOfOneRule (a ∷ b ∷ patterns) rule = (rule ≡ a.rule) × IsSameRule a.rule b.rule
 
--- the second of two rules isn't the same as the first
-abbrev pub AreMixed : List BsRule → Type 0
+-- the second of two patterns hasn't the same rule as the first
+abbrev pub AreMixed : List Ruled → Type 0
 AreMixed [] = ⊥
-AreMixed (r ∷ []) = ⊥
-AreMixed (r ∷ s ∷ rules) = IsSameRule r s → ⊥
+AreMixed (a ∷ []) = ⊥
+AreMixed (a ∷ b ∷ patterns) = IsSameRule a.rule b.rule → ⊥
 
 -- the cells of a pattern, and those of the other, which is the same where there is one
-abbrev pub ArePlanes : List Pattern → Picture → Picture → Type 0
+abbrev pub ArePlanes : List Ruled → Picture → Picture → Type 0
 ArePlanes [] cells other = ⊥
-ArePlanes (p ∷ []) cells other = (cells ≡ p.cells) × (other ≡ p.cells)
-ArePlanes (p ∷ q ∷ patterns) cells other = (cells ≡ p.cells) × (other ≡ q.cells)
+ArePlanes (a ∷ []) cells other = (cells ≡ a.pattern.cells) × (other ≡ a.pattern.cells)
+ArePlanes (a ∷ b ∷ patterns) cells other = (cells ≡ a.pattern.cells) × (other ≡ b.pattern.cells)

@@ -1,16 +1,17 @@
 //! The patterns of a claim's files, and the rules of their texts.
 
-ghost use Rattle.std.specs.Prelude.{IsTrue, IsFalse, IfOk, IfErr, MatchOption, MatchResult};
-ghost use Rattle.std.specs.List.{AllByRecursion, AllZip};
-ghost use Rattle.ca_rule.specs.Spelling.{Names, IsFaultOf};
+ghost use Rattle.std.specs.Prelude.{◌≡◌, ℕ, ◌<◌, IsTrue, IsFalse, IfOk, IfErr, MatchOption, MatchResult};
+ghost use Rattle.std.specs.List.{All, AllByRecursion, AllZip};
+ghost use Rattle.ca_rule.specs.Rule.{IsRuleFault};
 ghost use Rattle.ca_claims.specs.Answers.{IsReadable, HasLargeState, HasSmallStates, SomeOf, FirstBad};
-ghost use Rattle.ca_claims.specs.inner.Patterns.{items, IsReadFrom, IsUnread, HasName, AreOfOneRule, AreMixed, ArePlanes};
+ghost use Rattle.ca_claims.specs.inner.Patterns.{items, IsReadFrom, IsUnread, HasName, IsRuledAs, AreOfOneRule, AreMixed, ArePlanes};
 
 use super::one_or_two::OneOrTwo;
+use super::ruled::Ruled;
 use crate::verdict::{Cause, PatternFault};
-use ca_plane::Plane;
+use ca_plane::{Automaton, Plane};
 use ca_rle::{Pattern, RleFault, read_rle};
-use ca_rule::{BsRule, RuleFault};
+use ca_rule::{Rule, RuleFault, resolve};
 use std::alloc::Global;
 
 /// The patterns of files with these bytes, or the first cause for which one of them isn't read.
@@ -42,75 +43,76 @@ fn read(alloc: Global, bytes: &[u8]) -> Result<Pattern, Cause>
     }
 }
 
-/// The rules that the patterns' rule texts name, or what is wrong with the first one that names none.
-pub(crate) fn rules_of(patterns: &OneOrTwo<Pattern>) -> Result<OneOrTwo<BsRule>, RuleFault>
-    ensures named { IfOk result (λ rules. AllZip (λ p r. Names p.rule_text.items r) (items patterns.now) (items rules)) }
-    ensures unnamed { IfErr result (λ fault. FirstBad HasName (λ p. IsFaultOf p.rule_text.items fault) (items patterns.now)) }
+/// The patterns with the rules that their rule texts name, or what is wrong with the first text that names none.
+pub(crate) fn with_rules(patterns: OneOrTwo<Pattern>) -> Result<OneOrTwo<Ruled>, RuleFault>
+    ensures named { IfOk result (λ ruled. AllZip IsRuledAs (items patterns) (items ruled)) }
+    ensures unnamed { IfErr result (λ fault. FirstBad HasName (λ p. IsRuleFault p.rule_text.items fault) (items patterns)) }
 {
     match patterns {
         OneOrTwo::One(only) => {
-            let only = rule_of(only)?;
+            let only = with_rule(only)?;
             Ok(OneOrTwo::One(only))
         }
         OneOrTwo::Two(first, second) => {
-            let first = rule_of(first)?;
-            let second = rule_of(second)?;
+            let first = with_rule(first)?;
+            let second = with_rule(second)?;
             Ok(OneOrTwo::Two(first, second))
         }
     }
 }
 
-/// The rule that the pattern's rule text names, or what is wrong with the text.
-fn rule_of(pattern: &Pattern) -> Result<BsRule, RuleFault>
-    ensures { MatchResult result (Names pattern.now.rule_text.items) (IsFaultOf pattern.now.rule_text.items) }
+/// The pattern with the rule that its rule text names, or what is wrong with the text.
+fn with_rule(pattern: Pattern) -> Result<Ruled, RuleFault>
+    ensures { MatchResult result (IsRuledAs pattern) (IsRuleFault pattern.rule_text.items) }
 {
-    BsRule::parse(&pattern.rule_text)
+    let rule = resolve(&pattern.rule_text)?;
+    Ok(Ruled { pattern, rule })
 }
 
-/// Whether one of the patterns has a cell with a state that a B/S rule doesn't have.
-pub(crate) fn has_large_states(patterns: &OneOrTwo<Pattern>) -> bool
-    ensures large { IsTrue result → SomeOf (λ p. HasLargeState p.cells) (items patterns.now) }
-    ensures small { IsFalse result → AllByRecursion (λ p. HasSmallStates p.cells) (items patterns.now) }
+/// Whether one of the patterns has a cell with a state that its rule doesn't have.
+pub(crate) fn has_large_states(patterns: &OneOrTwo<Ruled>) -> bool
+    ensures large { IsTrue result → SomeOf (λ r. HasLargeState r.rule r.pattern.cells) (items patterns.now) }
+    ensures small { IsFalse result → AllByRecursion (λ r. HasSmallStates r.rule r.pattern.cells) (items patterns.now) }
 {
     match patterns {
-        OneOrTwo::One(only) => has_large_state(&only.cells),
-        OneOrTwo::Two(first, second) => has_large_state(&first.cells)
-            || has_large_state(&second.cells),
+        OneOrTwo::One(only) => has_large_state(only),
+        OneOrTwo::Two(first, second) => has_large_state(first) || has_large_state(second),
     }
 }
 
-/// The rule, or the first of two that are the same.
-pub(crate) fn one_rule(rules: &OneOrTwo<BsRule>) -> Option<BsRule>
-    ensures { MatchOption result (AreMixed (items rules.now)) (λ rule. AreOfOneRule (items rules.now) rule) }
+/// The rule of the patterns, or that of the first where the second's is the same.
+pub(crate) fn one_rule(patterns: &OneOrTwo<Ruled>) -> Option<Rule>
+    ensures { MatchOption result (AreMixed (items patterns.now)) (λ rule. AreOfOneRule (items patterns.now) rule) }
 {
-    match rules {
-        OneOrTwo::One(only) => Some(*only),
+    match patterns {
+        OneOrTwo::One(only) => Some(only.rule),
         OneOrTwo::Two(first, second) => {
-            if !first.same(second) {
+            if !first.rule.same(&second.rule) {
                 return None;
             }
-            Some(*first)
+            Some(first.rule)
         }
     }
 }
 
 /// The planes of a claim's pattern and of the other one, which is the same where there is one.
-pub(crate) fn planes(patterns: &OneOrTwo<Pattern>) -> (&Plane, &Plane)
+pub(crate) fn planes(patterns: &OneOrTwo<Ruled>) -> (&Plane, &Plane)
     ensures { ArePlanes (items patterns.now) result.0.now result.1.now }
 {
     match patterns {
-        OneOrTwo::One(only) => (&only.cells, &only.cells),
-        OneOrTwo::Two(first, second) => (&first.cells, &second.cells),
+        OneOrTwo::One(only) => (&only.pattern.cells, &only.pattern.cells),
+        OneOrTwo::Two(first, second) => (&first.pattern.cells, &second.pattern.cells),
     }
 }
 
-/// Whether some cell has a state that a B/S rule doesn't have: 2 or more.
-fn has_large_state(cells: &Plane) -> bool
-    ensures large { IsTrue result → HasLargeState cells.now }
-    ensures small { IsFalse result → HasSmallStates cells.now }
+/// Whether some cell of the pattern has a state that its rule doesn't have.
+fn has_large_state(ruled: &Ruled) -> bool
+    ensures large { IsTrue result → HasLargeState ruled.now.rule ruled.now.pattern.cells }
+    ensures small { IsFalse result → HasSmallStates ruled.now.rule ruled.now.pattern.cells }
 {
-    'cells: for (_, state) in cells.cells() {
-        if state >= 2 {
+    let states = ruled.rule.states();
+    'cells: for (_, state) in ruled.pattern.cells.cells() {
+        if u16::from(state) >= states {
             return true;
         }
     }
