@@ -102,7 +102,7 @@ pub record IsGood (files : List (List ℕ × List ℕ)) (path : List ℕ) (cells
   pub ruled : IsRuled files path cells rule
   pub small : HasSmallStates rule cells
 
--- no cause holds: the patterns of a claim's paths mean these cells under this rule; where there is one, it is the other too
+-- no cause but want of memory holds: the patterns of a claim's paths mean these cells under this rule; where there is one, it is the other too
 abbrev pub IsJudged : List (List ℕ × List ℕ) → List (List ℕ) → Picture → Picture → Rule → Type 0
 IsJudged files [] cells other rule = ⊥
 IsJudged files (path ∷ []) cells other rule = IsGood files path cells rule × (other ≡ cells)
@@ -111,7 +111,7 @@ IsJudged files (path ∷ other_path ∷ []) cells other rule =
 IsJudged files (path ∷ other_path ∷ third ∷ paths) cells other rule = ⊥
 
 -- a verdict is true: a yes of a claim that is true of the planes that the files mean, a no of one that is false, with the
--- reason, and a refusal with its cause; a yes and a no come only where no cause holds
+-- reason, and a refusal with its cause; a yes and a no come only where no cause but want of memory holds
 abbrev pub IsTrueVerdict : List (List ℕ × List ℕ) → Claim → Verdict → Type 0
 IsTrueVerdict files claim Yes = (cells : Picture) × (other : Picture) × (rule : Rule) × IsJudged files (patterns_of claim) cells other rule
     × IsTrueClaim (next_of rule) cells other (asks_of claim)
