@@ -11,8 +11,6 @@ mod line;
 mod numbers;
 mod paths;
 mod reading;
-#[cfg(test)]
-mod tests;
 mod words;
 
 pub(crate) use asks::{Asks, Barred, Wanted};

@@ -139,6 +139,3 @@ fn files_at<'a>(places: &OneOrTwo<usize>, found: &[Option<&'a [u8]>]) -> Option<
         }
     }
 }
-
-#[cfg(test)]
-mod tests;

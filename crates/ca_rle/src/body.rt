@@ -45,6 +45,3 @@ pub(crate) fn read_body(alloc: Global, body: &[u8], corner: Point) -> Result<Pla
     let plane = draw(alloc, body, corner)?;
     Ok(plane)
 }
-
-#[cfg(test)]
-mod tests;

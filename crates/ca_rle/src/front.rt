@@ -76,6 +76,3 @@ pub(crate) fn read_front(bytes: &[u8]) -> Result<Front<'_>, RleFault>
         rest = later;
     }
 }
-
-#[cfg(test)]
-mod tests;

@@ -20,6 +20,3 @@ pub use item::{Item, Tag};
 pub use pattern::Pattern;
 pub use read::read_rle;
 pub use write::{write_rle, write_rle_to};
-
-#[cfg(test)]
-mod tests;

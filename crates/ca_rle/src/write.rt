@@ -99,6 +99,3 @@ pub fn write_rle_to<W: Write>(
     };
     send(out, &text)
 }
-
-#[cfg(test)]
-mod tests;

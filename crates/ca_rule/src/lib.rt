@@ -17,6 +17,3 @@ pub use hood::Hood;
 pub use laws::{alike, names_itself, one_rule, rule_or_fault, worked_examples};
 pub use rule::{Rule, resolve};
 pub use rule_laws::{named_rules, same_rules};
-
-#[cfg(test)]
-mod tests;

@@ -1,8 +1,13 @@
-//! What no claim text can make the program do: devices that fail in mid-stream, and answers and faults made by hand. The rest is shown over the
-//! built program, by examples/ and tests/.
+//! What no claim text can make the program do: devices that fail in mid-stream, answers and faults made by hand, and what the libraries offer and no
+//! command asks for. The rest is shown over the built program, by examples/ and tests/.
 
+mod asked;
 mod complaints;
 mod devices;
+mod patterns;
 mod printed;
 mod reads;
+mod rules;
 mod runs;
+mod verdicts;
+mod writes;

@@ -1,47 +1,17 @@
-ghost use Rattle.std.specs.Prelude.{◌<◌, Some, IsTrue};
+//! Planes written as RLE texts, which no claim asks for.
+
+ghost use Rattle.std.specs.Prelude.{◌<◌, IsTrue};
 ghost use Rattle.std.specs.List.{All};
 ghost use Rattle.ca_rle.specs.Header.{generation_limit};
 ghost use Rattle.ca_plane.specs.Bytes.{IsWord};
 ghost use Rattle.ca_rle.specs.Limits.{IsInRange};
 
-use super::*;
-use ca_plane::Point;
-use std::io;
-use std::io::{Error, ErrorKind};
+use super::devices::{Narrow, Refusal};
+use ca_plane::{Dev, Memory, Plane, Point, WriteFault};
+use ca_rle::{write_rle, write_rle_to};
+use std::alloc::Global;
 use std::process::Abort;
 use std::test::*;
-
-/// Takes at most three bytes at a time, and fails once it has `room` bytes.
-#[derive(Drop)]
-struct Narrow {
-    taken: Vec<u8>,
-    room: usize,
-}
-
-impl Write for Narrow {
-    ghost contents = { λ w. Some w.taken.items };
-
-    fn write(&mut self, buffer: &[u8]) -> io::Result<usize> {
-        let room = self.room.saturating_sub(self.taken.len());
-        if room == 0 {
-            return Err(Error::from(ErrorKind::Other));
-        }
-        let count = buffer.len().min(3).min(room);
-        self.taken.extend_from_slice(&buffer[..count])?;
-        Ok(count)
-    }
-
-    fn flush(&mut self) -> io::Result<()> {
-        Ok(())
-    }
-}
-
-fn narrow_device(alloc: Global, room: usize) -> Dev<Narrow> {
-    Dev::new(Narrow {
-        taken: Vec::new(alloc),
-        room,
-    })
-}
 
 // The plane of these cells, each with its x, its y and its state. They lie within a plane's square.
 fn plane_of(alloc: Global, cells: &[(i32, i32, u8)]) -> Result<Plane, Memory> {
@@ -201,7 +171,7 @@ fn texts_in_pieces(rt: HostRuntime) -> Result<(), Fail> {
     let plane = plane_of(rt.alloc(), &GLIDER)?;
     assert!(rt; fits(&plane, 2));
     'rooms: for room in 0..=GLIDER_TEXT.len() {
-        let mut device = narrow_device(rt.alloc(), room);
+        let mut device = Narrow::device(rt.alloc(), 3, room, Refusal::Fails);
         let result = write_rle_to(rt.alloc(), &plane, b"B3/S23", 0, 2, &mut device);
         assert_eq!(rt; device.inner().taken.as_slice(), &GLIDER_TEXT[..room]);
         if room == GLIDER_TEXT.len() {

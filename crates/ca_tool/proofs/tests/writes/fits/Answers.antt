@@ -3,7 +3,7 @@ use Rattle.std.specs.List.{All}
 use Rattle.ca_plane.specs.Plane.{Picture}
 use Rattle.ca_plane.proofs.Pictures.{cells_end}
 use Rattle.ca_rle.specs.Limits.{IsInRange}
-use Rattle.ca_rle.proofs.write.tests.fits.Goals as goal
+use Rattle.ca_tool.proofs.tests.writes.fits.Goals as goal
 
 -- at the end all cells have come
 pub returns-clause-range : goal.returns-clause-range

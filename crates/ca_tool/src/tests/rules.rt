@@ -1,0 +1,184 @@
+//! Rules through their public calls: what no claim asks of them.
+
+use ca_plane::{Automaton, Nine};
+use ca_rule::{BsRule, Counts, Hood, RuleFault, resolve};
+use std::process::Abort;
+use std::test::*;
+
+fn check_counts(rt: &impl Abort, counts: Counts, expected: &[usize], text: &[u8]) {
+    for count in 0..12 {
+        assert_eq!(rt;
+            counts.contains(count),
+            expected.contains(&count),
+            "{count} in {text:?}"
+        );
+    }
+}
+
+#[test]
+fn texts_that_name_a_rule(rt: HostRuntime) -> Result<(), Fail> {
+    let table: [(&[u8], &[usize], &[usize]); 5] = [
+        (b"B3/S23", &[3], &[2, 3]),
+        (b"B36/S23", &[3, 6], &[2, 3]),
+        (b"B/S", &[], &[]),
+        (b"B/S0", &[], &[0]),
+        (
+            b"B12345678/S012345678",
+            &[1, 2, 3, 4, 5, 6, 7, 8],
+            &[0, 1, 2, 3, 4, 5, 6, 7, 8],
+        ),
+    ];
+    for (text, birth, survival) in table {
+        let rule = BsRule::parse(text).ok().ok_or("the text names a rule")?;
+        check_counts(&rt, rule.birth, birth, text);
+        check_counts(&rt, rule.survival, survival, text);
+    }
+    check_counts(&rt, Counts::none(), &[], b"none");
+    Ok(())
+}
+
+/// Rules in their printed form.
+const PRINTED: [&[u8]; 30] = [
+    b"B3/S23",
+    b"B36/S23",
+    b"B37/S23",
+    b"B3678/S34678",
+    b"B2/S",
+    b"B234/S",
+    b"B1357/S1357",
+    b"B1357/S02468",
+    b"B36/S125",
+    b"B3/S12345",
+    b"B3/S1234",
+    b"B35678/S5678",
+    b"B368/S245",
+    b"B4678/S35678",
+    b"B3/S012345678",
+    b"B1/S1",
+    b"B2/S0",
+    b"B3/S45678",
+    b"B34/S34",
+    b"B357/S1358",
+    b"B/S",
+    b"B3/S23V",
+    b"B1/SV",
+    b"B4/S1234V",
+    b"B/SV",
+    b"B1234/S1234V",
+    b"B6/S6H",
+    b"B2/S34H",
+    b"B123456/S0123456H",
+    b"B/SH",
+];
+
+#[test]
+fn printed_rules(rt: HostRuntime) -> Result<(), Fail> {
+    for printed in PRINTED {
+        let rule = resolve(printed).ok().ok_or("the text names a rule")?;
+        assert_eq!(rt; rule.text(rt.alloc())?.as_slice(), printed);
+        assert_eq!(rt; rule.bs.text(rt.alloc())?.as_slice(), printed);
+    }
+    for text in [b"s32b33".as_slice(), b"23/3"] {
+        let rule = resolve(text).ok().ok_or("the text names a rule")?;
+        assert_eq!(rt; rule.text(rt.alloc())?.as_slice(), b"B3/S23".as_slice());
+    }
+    Ok(())
+}
+
+#[test]
+fn texts_that_are_no_word(rt: HostRuntime) {
+    for text in [b"".as_slice(), b"B3/S23 ", b" B3/S23", b"B3 /S23"] {
+        assert_eq!(rt; resolve(text).err(), Some(RuleFault::Unknown), "{text:?}");
+    }
+}
+
+#[test]
+fn rules_that_are_the_same(rt: HostRuntime) -> Result<(), Fail> {
+    let life = resolve(b"B3/S23").ok().ok_or("Life is a rule")?;
+    let table: [(&[u8], bool); 6] = [
+        (b"B3/S23", true),
+        (b"s32b33", true),
+        (b"23/3", true),
+        (b"B36/S23", false),
+        (b"B3/S2", false),
+        (b"B3/S23H", false),
+    ];
+    for (text, is_same) in table {
+        let other = resolve(text).ok().ok_or("the text names a rule")?;
+        assert_eq!(rt; life.same(&other), is_same, "{text:?}");
+        assert_eq!(rt; life.bs.same(&other.bs), is_same, "{text:?}");
+    }
+    Ok(())
+}
+
+/// What a rule says of nine cells, through the trait.
+fn next_of<A: Automaton>(rule: &A, nine: &Nine) -> u8 {
+    rule.next(nine)
+}
+
+#[test]
+fn cells_of_life(rt: HostRuntime) -> Result<(), Fail> {
+    let life = resolve(b"B3/S23").ok().ok_or("Life is a rule")?;
+    assert_eq!(rt; life.states(), 2);
+    let table: [(Nine, u8); 8] = [
+        ([0, 0, 0, 0, 0, 0, 0, 0, 0], 0),
+        ([0, 0, 0, 1, 1, 1, 0, 0, 0], 1),
+        ([0, 0, 0, 0, 1, 1, 0, 0, 0], 0),
+        ([0, 0, 0, 0, 0, 0, 1, 1, 1], 1),
+        ([0, 0, 0, 1, 0, 1, 0, 0, 0], 0),
+        ([1, 0, 1, 0, 1, 0, 1, 0, 1], 0),
+        ([1, 1, 1, 1, 0, 1, 1, 1, 1], 0),
+        ([0, 0, 0, 1, 2, 1, 0, 0, 0], 0),
+    ];
+    for (nine, state) in table {
+        assert_eq!(rt; next_of(&life, &nine), state, "{nine:?}");
+        assert_eq!(rt; next_of(&life.bs, &nine), state, "{nine:?}");
+    }
+    Ok(())
+}
+
+/// Looks at each place of nine alone and left out, under a rule that has birth at one neighbour and survival at all.
+fn check_places(rt: &impl Abort, rule: &BsRule, counted: &[usize]) {
+    for place in 0..9 {
+        let mut alone: Nine = [0; 9];
+        alone[place] = 1;
+        let born = rule.next(&alone) == 1;
+        assert_eq!(rt; born, counted.contains(&place), "only {place}");
+        let mut crowd: Nine = [1; 9];
+        crowd[place] = 0;
+        let survives = rule.next(&crowd) == 1;
+        let left = place != 4 && !counted.contains(&place);
+        assert_eq!(rt; survives, left, "all but {place}");
+    }
+    assert_eq!(rt; rule.next(&[1; 9]), 1);
+    assert_eq!(rt; rule.next(&[255; 9]), 0);
+}
+
+#[test]
+fn each_neighbour_counts_once(rt: HostRuntime) -> Result<(), Fail> {
+    let table: [(&[u8], Hood, &[usize]); 3] = [
+        (b"B1/S8", Hood::Moore, &[0, 1, 2, 3, 5, 6, 7, 8]),
+        (b"B1/S4V", Hood::VonNeumann, &[1, 3, 5, 7]),
+        (b"B1/S6H", Hood::Hex, &[0, 1, 3, 5, 7, 8]),
+    ];
+    for (text, hood, counted) in table {
+        let rule = BsRule::parse(text).ok().ok_or("the text names a rule")?;
+        assert_eq!(rt; rule.hood, hood, "{text:?}");
+        check_places(&rt, &rule, counted);
+    }
+    Ok(())
+}
+
+#[test]
+fn texts_of_faults(rt: HostRuntime) -> Result<(), Fail> {
+    let table = [
+        (RuleFault::Bounded, "a rule on a bounded grid"),
+        (RuleFault::Wakes, "a rule that wakes the empty plane"),
+        (RuleFault::Unknown, "an unknown rule"),
+    ];
+    for (fault, words) in table {
+        let text = format!(in rt.alloc(); "{fault}")?;
+        assert_eq!(rt; text.as_str(), words);
+    }
+    Ok(())
+}

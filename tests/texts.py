@@ -1,0 +1,387 @@
+#!/usr/bin/env -S python3 -B
+"""Claim texts, pattern files and rule texts too small and too many for examples/: what each has to come to was worked out by hand.
+
+Which cells a file holds is asked by `becomes read 0 plain`, where the plain file spells out the same cells one by one, from another corner.
+"""
+import itertools
+import os
+import tempfile
+
+from lib.program import Outcome, Tally, fault, lines_outcome, run
+
+# 2^60: the cells of files lie from -EDGE to EDGE - 1.
+EDGE = 1152921504606846976
+
+HEADER = "x = 3, y = 3, rule = B3/S23\n"
+
+# Claim texts with a fault, and the fault.
+FAULTS = (
+    ("still q\n", "1: unknown name"),
+    ("still b\nload b block.rle\n", "1: unknown name"),
+    ("load a p\nbecomes a 1 b", "2: unknown name"),
+    ("load a p\nload a q\n", "2: name taken"),
+    ("gun a\n", "1: syntax"),
+    ("load a\n", "1: syntax"),
+    ("load a b c\n", "1: syntax"),
+    ("LOAD a p\n", "1: syntax"),
+    ("load# a p\n", "1: syntax"),
+    ("load a p\nrule r", "2: syntax"),
+    ("load a p\nstill a a\n", "2: syntax"),
+    ("load a p\nstill\n", "2: syntax"),
+    ("load a p\noscillator a", "2: syntax"),
+    ("load a p\noscillator a x", "2: syntax"),
+    ("load a p\noscillator a -2", "2: syntax"),
+    ("load a p\nspaceship a 4 1", "2: syntax"),
+    ("load a p\nspaceship a 4 +1 1", "2: syntax"),
+    ("load a p\nspaceship a 4 1 --1", "2: syntax"),
+    ("load a p\nspaceship a 4 1 -", "2: syntax"),
+    ("load a p\nspaceship a 0 1 x", "2: syntax"),
+    ("load a p\nbecomes a 1", "2: syntax"),
+    ("load a p\nbecomes a a 1", "2: syntax"),
+    ("load a p\nbecomes a 1 a a", "2: syntax"),
+    ("load a p\noscillator a 1", "2: number"),
+    ("load a p\noscillator a 0", "2: number"),
+    ("load a p\noscillator a 4294967296", "2: number"),
+    ("load a p\nspaceship a 4 0 0", "2: number"),
+    ("load a p\nspaceship a 1 -0 0", "2: number"),
+    ("load a p\nspaceship a 0 1 1", "2: number"),
+    ("load a p\nspaceship a 1 0 1152921504606846977", "2: number"),
+    ("load a p\nspaceship a 1 -1152921504606846977 0", "2: number"),
+    ("load a p\nspaceship a 1 -9999999999999999999999999999999999999999 1", "2: number"),
+    ("load a p\nbecomes a 1152921504606846977 a", "2: number"),
+    ("load a p\nbecomes a 9999999999999999999999999999999999999999 a", "2: number"),
+    # The number is told, not the name.
+    ("oscillator b 0", "1: number"),
+)
+
+# Claim texts without a fault, and their verdicts.
+CLAIM_TEXTS = {
+    "numbers at their limits": (
+        f"load a lost.rle\noscillator a 4294967295\nbecomes a {EDGE} a\nspaceship a 1 -{EDGE} 0\nspaceship a 0004 -000 {EDGE}\n",
+        [(at, "refused, no file") for at in (2, 3, 4, 5)],
+    ),
+    "numbers with leading zeros": (
+        "load a examples/glider.rle\nload b examples/lwss.rle\nspaceship a 0004 1 01\nspaceship b 4 -002 -000\nbecomes a 000 a\noscillator a 002\n",
+        [(3, "yes"), (4, "yes"), (5, "yes"), (6, "no, cells differ after 2")],
+    ),
+    "two names of one path": (
+        "load a examples/block.rle\nload b examples/blinker.rle\nload c examples/block.rle\nbecomes b 0 c\nbecomes a 0 c\nbecomes c 0 b\nbecomes b 2 b\n",
+        [(4, "no, cells differ after 0"), (5, "yes"), (6, "no, cells differ after 0"), (7, "yes")],
+    ),
+    "lines that end with CR LF": (
+        "# two patterns\r\n\r\n\tload a  examples/beehive.rle \r\n  #still a\r\nload b examples/blinker.rle\r\nstill b\r\n\r\nstill a",
+        [(6, "no, cells differ after 1"), (8, "yes")],
+    ),
+    "a file that is not there": (
+        "# patterns\nload b examples/block.rle\n\nload m lost.rle\nload c examples/block.rle\nstill b\nstill m\n still c\r\nstill b",
+        [(6, "yes"), (7, "refused, no file"), (8, "yes"), (9, "yes")],
+    ),
+}
+
+# Bodies behind a usual header, and their live cells.
+BODIES = (
+    ("2o$2o!", [(0, 0), (1, 0), (0, 1), (1, 1)]),
+    ("bo$2bo$3o!\n", [(1, 0), (2, 1), (0, 2), (1, 2), (2, 2)]),
+    ("3$o!", [(0, 3)]),
+    ("o!zzz", [(0, 0)]),
+    ("!", []),
+    (".A2.A$A!", [(1, 0), (4, 0), (0, 1)]),
+    ("3\n# c, 2o!\no!", [(0, 0), (1, 0), (2, 0)]),
+    ("\r\n \t#CXRLE Pos=9,9\r\n\r\n3 \r\n o\r\n#r 1/2\n!", [(0, 0), (1, 0), (2, 0)]),
+    ("  3o!", [(0, 0), (1, 0), (2, 0)]),
+    ("003o!", [(0, 0), (1, 0), (2, 0)]),
+    # Each count is 2^62, and together they are more than 2^64.
+    (f"{4 * EDGE}b{4 * EDGE}b{4 * EDGE}b\n{4 * EDGE}b{4 * EDGE}b$o${4 * EDGE}b!", [(0, 1)]),
+    (f"o{4 * EDGE}${4 * EDGE}${4 * EDGE}$\n{4 * EDGE}${4 * EDGE}$!", [(0, 0)]),
+    (f"{4 * EDGE}${4 * EDGE}$!", []),
+    (f"o{4 * EDGE}b$o!", [(0, 0), (0, 1)]),
+)
+
+# Whole files, and their live cells.
+FILES = (
+    ("#N R-pentomino\r\n#C a comment\r\n#CXRLE Pos=-1,-1 Gen=7\r\nx = 3, y = 3, rule = B3/S23\r\nb2o$2o$bo!\r\n", [(0, -1), (1, -1), (-1, 0), (0, 0), (0, 1)]),
+    ("#N Glider\n#CXRLE Pos=-3,4 Gen=7\nx = 3, y = 3, rule = B3/S23\n3o!\n", [(-3, 4), (-2, 4), (-1, 4)]),
+    ("#CXRLE Pos=-2,7\nx = 3, y = 3\nbo$2bo$3o!", [(-1, 7), (0, 8), (-2, 9), (-1, 9), (0, 9)]),
+    ("#CXRLE Pos=1,2 Gen=5 Pos=-3,-0\n  #CXRLE Gen=9223372036854775807\r\nx = 1, y = 1\no!", [(-3, 0)]),
+    ("x=0,y=0\no!", [(0, 0)]),
+    (" x  = 00 ,\ty = 0 \no!", [(0, 0)]),
+    ("\n \nx = 1, y = 1, rule =\no!", [(0, 0)]),
+    ("#r\r\nx = 1, y = 1, rule = \no!", [(0, 0)]),
+    ("x = 1, y = 1, rule = \t\no!", [(0, 0)]),
+    ("#CXRLEPos=1\n # Pos=2\nx = 1, y = 1\no!", [(0, 0)]),
+    ("#CXRLE pos=1 Pos Gen:3\nx = 1, y = 1\no!", [(0, 0)]),
+    ("#CXRLE Gen=0000000000000000000000000000001\nx = 9999999999999999999999999999999999999999, y = 1\no!", [(0, 0)]),
+    ("x=0,y=0,rule=23/3\no!", [(0, 0)]),
+    (f"#CXRLE Pos={EDGE - 1},0\n{HEADER}o!", [(EDGE - 1, 0)]),
+    (f"#CXRLE Pos={EDGE - 1},{EDGE - 1}\n{HEADER}o9b$9b$!", [(EDGE - 1, EDGE - 1)]),
+    (f"#CXRLE Pos=-{EDGE},{EDGE - 1}\n{HEADER}o!", [(-EDGE, EDGE - 1)]),
+    (f"#CXRLE Pos=-{EDGE},-{EDGE}\n{HEADER}{EDGE}${EDGE}bo!", [(0, 0)]),
+)
+
+# Bodies behind a usual header, and what is wrong with them.
+BAD_BODIES = (
+    ("3o", "no end"), ("3", "no end"), ("p", "no end"), ("op", "no end"), ("# o!", "no end"), ("o\n# o!", "no end"), ("2o$2o", "no end"),
+    ("0", "syntax"), ("0!", "syntax"), ("0b!", "syntax"), ("00b!", "syntax"), ("0o!", "syntax"), ("2!", "syntax"), ("3!", "syntax"), ("z!", "syntax"),
+    ("1 2o!", "syntax"), ("3 4o!", "syntax"), ("p A!", "syntax"), ("o#!", "syntax"), ("o # o!", "syntax"), ("0yP!", "syntax"),
+    ("99999999999999999999b2!", "syntax"), ("99999999999999999999999999999999999999999o?", "syntax"),
+    ("yP!", "bad state"), ("yX!", "bad state"),
+    ("9999999999999999999b!", "range"), ("99999999999999999999999999999999999999999b!", "range"), (f"{4 * EDGE + 1}b!", "range"), (f"{4 * EDGE + 1}$!", "range"),
+    (f"{EDGE}bo!", "range"), (f"{4 * EDGE}$o!", "range"), (f"{4 * EDGE}${4 * EDGE}$o!", "range"), (f"{EDGE + 1}o!", "range"),
+    ("16777217o!", "too many cells"), (f"{EDGE}o!", "too many cells"),
+)
+
+# Whole files, and what is wrong with them.
+BAD_FILES = (
+    ("", "header"), ("#C only a comment", "header"), ("#C only a comment\n", "header"), ("[M2]\n", "header"), ("bo$!", "header"), ("bo$2bo$3o!", "header"),
+    ("\ufeffx = 1, y = 1\no!", "header"), ("x = 3, y = 3,\n3o!", "header"), ("x = 3, y = 3, rules = B3/S23\no!", "header"), ("X = 3, y = 3\n3o!", "header"),
+    ("x = -3, y = 3\n3o!", "header"), ("x = 3, y = \n3o!", "header"), ("x = 3\ny = 3\n3o!", "header"), ("#r 23/3\nx = 1, y = 1,\no!", "header"),
+    ("#r 23/3\nx = 1, y = 1\no!", "xlife rule"), ("#r 23/3\nx = 1, y = 1\n0o!", "xlife rule"), (" #r\t\n# c\nx = 1, y = 1, rule =\no!", "xlife rule"),
+    ("#CXRLE Gen=9223372036854775808\nx = 1, y = 1\no!", "gen too large"), ("#CXRLE Gen=9223372036854775808 Gen=1\nx = 1, y = 1\no!", "gen too large"),
+    ("#CXRLE Gen=9223372036854775808 Gen=1 Pos=1\nx = 1, y = 1", "gen too large"),
+    ("#CXRLE Pos=1\nx = 1, y = 1\no!", "syntax"), ("#CXRLE Pos=1,\nx = 1, y = 1\no!", "syntax"), ("#CXRLE Pos=+1,1\nx = 1, y = 1\no!", "syntax"),
+    ("#CXRLE Pos=1,2,3\nx = 1, y = 1\no!", "syntax"), ("#CXRLE Pos=1, 2\nx = 1, y = 1\no!", "syntax"), ("#CXRLE Gen=-1\nx = 1, y = 1\no!", "syntax"),
+    ("#CXRLE Gen=-1 Gen=9223372036854775808\nx = 1, y = 1\no!", "syntax"), ("#CXRLE Gen=", "syntax"),
+    ("x = 3, y = 3", "no end"), (f"#CXRLE Pos={EDGE},0\nx = 1, y = 1", "no end"), (f"#CXRLE Pos=0,-{EDGE + 1}\nx = 1, y = 1\n", "no end"),
+    # The pattern is read before its rule.
+    ("x = 2, y = 2, rule = Life\n2o$2o", "no end"),
+    (f"#CXRLE Pos={EDGE},0\n{HEADER}o!", "range"), (f"#CXRLE Pos={EDGE},0\n{HEADER}!", "range"), (f"#CXRLE Pos=0,-{EDGE + 1}\n{HEADER}!", "range"),
+    (f"#CXRLE Pos=0,-{EDGE + 1}\n{HEADER}$o!", "range"), (f"#CXRLE Pos={EDGE - 1},{EDGE - 1}\n{HEADER}2o!", "range"),
+    (f"#CXRLE Pos={EDGE - 1},{EDGE - 1}\n{HEADER}$o!", "range"), ("#CXRLE Pos=0,-99999999999999999999999\nx = 1, y = 1\no!", "range"),
+)
+
+# The spellings of rules, by the printed form of each.
+SPELLINGS = {
+    "B3/S23": "B3/S23 23/3 s23b3 b3s23 B3S32 S32/B33 32/3",
+    "B36/S23": "23/36 b63/s32",
+    "B37/S23": "B37/S23",
+    "B3678/S34678": "34678/3678 S87643B8763",
+    "B2/S": "/2 b2s sB2 S/b22",
+    "B234/S": "/234",
+    "B1357/S1357": "1357/1357 B7531S1357",
+    "B1357/S02468": "02468/1357 B1357/S86420",
+    "B36/S125": "125/36 b36/S521",
+    "B3/S12345": "12345/3 S54321/B3",
+    "B3/S1234": "1234/3",
+    "B35678/S5678": "5678/35678",
+    "B368/S245": "245/368 B863/s542",
+    "B4678/S35678": "35678/4678",
+    "B3/S012345678": "012345678/3 S876543210B3",
+    "B1/S1": "1/1 b11s111",
+    "B2/S0": "0/2",
+    "B3/S45678": "45678/3",
+    "B34/S34": "34/34",
+    "B357/S1358": "1358/357",
+    "B/S": "/ BS sb S/b",
+    "B3/S23V": "23/3V",
+    "B1/SV": "b1sv",
+    "B4/S1234V": "S4321B4V",
+    "B/SV": "/v",
+    "B1234/S1234V": "1234/1234v",
+    "B6/S6H": "B6/S6h",
+    "B2/S34H": "B2/S34H 43/2h s43b2H",
+    "B123456/S0123456H": "s0123456b654321H",
+    "B/SH": "BSh",
+}
+
+# Texts that name no rule, by why they don't. Their words are what a header can hold.
+NO_RULES = {
+    "bounded": "B3/S23:T30,20 B03/S23:P8 23/3: B0: :Life :",
+    "wakes": "B012345678/S B0/S b03s23 /0 s3b0 23/300 B0SV /0h B03/S23",
+    "unknown": """Life B S V h 23 B3 B3/ B3V B9/S B/S9 9/3 23/9 B5/SV B/S5v 5/3V B7/SH S8B3h 23/37H B08/S9 B05/SV B3/S2/S3 B3//S23 /B3/S23 B3/S23/
+        23//3 23/3/ B3/23 23/B3 B3/B23 s23s3 B3/S23VV B3/S23VH B3/S23M VB3/S23 B3V/S23 B3/S2-3""",
+}
+
+CHANGES = "no, cells differ after 1"
+
+# Patterns, their rules, and whether they are still lifes.
+STILL_LIFES = (
+    ("B3/S23", "2o$2o!", "yes"),
+    ("B36/S23", "2o$2o!", "yes"),
+    # A ship, whose dead centre has six live neighbours.
+    ("B3/S23", "b2o$obo$2o!", "yes"),
+    ("B36/S23", "b2o$obo$2o!", CHANGES),
+    # A beehive, which does not begin at its corner.
+    ("B3/S23", "b2o$o2bo$b2o!", "yes"),
+    # A lone cell has no neighbours.
+    ("B/S0", "o!", "yes"),
+    ("B3/S23", "2$5bo!", CHANGES),
+    # Two blocks, far from each other.
+    ("B3/S23", "2o$2o998$998b2o$998b2o!", "yes"),
+    ("B3/S23", "3o!", CHANGES),
+    # Each cell of a block has three neighbours.
+    ("B3/S2", "2o$2o!", CHANGES),
+    # Two cells side by side have one neighbour each; two on a diagonal have none that shares a side.
+    ("B3/S1V", "2o!", "yes"),
+    ("B3/S1V", "o$bo!", CHANGES),
+    ("0/3v", "o$bo!", "yes"),
+    # The hexagonal neighbours are all but the north-east and the south-west.
+    ("s1b3h", "o$bo!", "yes"),
+    ("s1b3h", "bo$o!", CHANGES),
+    ("S0/B3H", "bo$o!", "yes"),
+    ("B3/S23", "oB!", "refused, state too large"),
+    ("B3/S23", "pAxXyO!", "refused, state too large"),
+)
+
+# A lone cell is born again at each neighbour that counts it.
+RINGS = (
+    ("B1/S8", [(-1, -1), (0, -1), (1, -1), (-1, 0), (1, 0), (-1, 1), (0, 1), (1, 1)]),
+    ("B1/S4V", [(0, -1), (-1, 0), (1, 0), (0, 1)]),
+    ("B1/S6H", [(-1, -1), (0, -1), (-1, 0), (1, 0), (0, 1), (1, 1)]),
+)
+
+
+def plain(cells, rule="B3/S23"):
+    """A file of these cells, with no counts, from the corner above and left of them where that is in range."""
+    left = max(min((x for x, _ in cells), default=0) - 1, -EDGE)
+    top = max(min((y for _, y in cells), default=0) - 1, -EDGE)
+    rows = []
+    for y in range(top, max((y for _, y in cells), default=top) + 1):
+        end = max((x for x, at in cells if at == y), default=left - 1)
+        rows.append("".join("o" if (x, y) in cells else "b" for x in range(left, end + 1)))
+    return f"#CXRLE Pos={left},{top}\nx = 1, y = 1, rule = {rule}\n{'$'.join(rows)}!\n"
+
+
+class Table:
+    """Claims about files that are written for them, judged in one run."""
+
+    def __init__(self, folder):
+        self.folder = tempfile.mkdtemp(dir=folder)
+        self.names = {}
+        self.claims = []
+
+    def name(self, text):
+        """The name of a file of this text, which is written where there is none."""
+        content = text if isinstance(text, bytes) else text.encode()
+        if content not in self.names:
+            self.names[content] = f"p{len(self.names)}"
+            with open(self.path(self.names[content]), "wb") as file:
+                file.write(content)
+        return self.names[content]
+
+    def path(self, name):
+        """The path of the file with this name."""
+        return os.path.join(self.folder, name)
+
+    def still(self, text, verdict):
+        """Claims that the text's pattern is a still life, which has to come to this verdict."""
+        self.claims.append((f"still {self.name(text)}", verdict, text))
+
+    def becomes(self, text, generations, other, verdict="yes"):
+        """Claims that the text's pattern becomes the other's."""
+        self.claims.append((f"becomes {self.name(text)} {generations} {self.name(other)}", verdict, (text, other)))
+
+    def judge(self, tally, what):
+        """Runs the program, and compares the lines that it prints."""
+        loads = [f"load {name} {self.path(name)}" for name in self.names.values()]
+        text = self.path("text.claims")
+        with open(text, "w", encoding="ascii") as file:
+            file.write("\n".join([*loads, *(claim for claim, _, _ in self.claims)]) + "\n")
+        outcome = run(["verify", text])
+        wanted = lines_outcome([(len(loads) + 1 + at, verdict) for at, (_, verdict, _) in enumerate(self.claims)])
+        pairs = itertools.zip_longest(outcome.printed.split(b"\n"), wanted.printed.split(b"\n"), self.claims)
+        complaints = [f"wanted {right}, got {left}, of {asked}" for left, right, asked in pairs if left != right]
+        if (outcome.complaint, outcome.status) != (wanted.complaint, wanted.status):
+            complaints.append(str(Outcome(b"", outcome.complaint, outcome.status)))
+        tally.tell(f"{what}: {len(self.claims)}", complaints)
+
+
+def try_claim_texts(tally, folder):
+    """Claim texts with a fault and without one."""
+    path = os.path.join(folder, "text.claims")
+
+    def ran(text):
+        with open(path, "w", encoding="ascii", newline="") as file:
+            file.write(text)
+        return run(["verify", path])
+
+    for text, told in FAULTS:
+        tally.expect(f"the fault {told}, of {text!r}", ran(text), fault(f"claims line {told}"))
+    for what, (text, verdicts) in CLAIM_TEXTS.items():
+        tally.expect(what, ran(text), lines_outcome(verdicts))
+
+
+def try_cells(tally, folder):
+    """Files that hold these cells and no others."""
+    table = Table(folder)
+    for text, cells in [*((HEADER + body, cells) for body, cells in BODIES), *FILES]:
+        table.becomes(text, 0, plain(cells))
+        table.becomes(text, 0, plain(cells[1:] if cells else [(0, 0)]), "no, cells differ after 0")
+    table.judge(tally, "cells of files")
+
+
+def try_faults(tally, folder):
+    """Files that don't read."""
+    table = Table(folder)
+    for text, told in [*((HEADER + body, told) for body, told in BAD_BODIES), *BAD_FILES]:
+        table.still(text, f"refused, bad pattern: rle {told}")
+    table.judge(tally, "files that do not read")
+
+
+def try_cut_text(tally, folder):
+    """A text cut at each place."""
+    text = HEADER + "b2o$2o$bo!"
+    table = Table(folder)
+    for length in range(len(text)):
+        # A header without a rule, or with a rule of one letter at least, stands there whole.
+        is_headed = length == len("x = 3, y = 3") or length >= len("x = 3, y = 3, rule =")
+        table.still(text[:length], f"refused, bad pattern: rle {'no end' if is_headed else 'header'}")
+    table.still(text, CHANGES)
+    table.judge(tally, "a text cut short")
+
+
+def try_each_byte(tally, folder):
+    """Bodies of one byte and an end."""
+    table = Table(folder)
+    for byte in range(256):
+        verdict = "refused, bad pattern: rle syntax"
+        if byte in b"b.$! \t\r\n":
+            verdict = "no, empty"
+        elif byte in b"oA":
+            verdict = CHANGES
+        elif byte in b"BCDEFGHIJKLMNOPQRSTUVWX":
+            verdict = "refused, state too large"
+        elif byte in b"#":
+            verdict = "refused, bad pattern: rle no end"
+        table.still(HEADER.encode() + bytes([byte]) + b"!", verdict)
+    table.judge(tally, "bodies of one byte")
+
+
+def try_rules(tally, folder):
+    """Texts that name a rule, and which are of one rule; and texts that name none."""
+    def block(rule):
+        return f"x = 2, y = 2, rule = {rule}\n2o$2o!\n"
+
+    table = Table(folder)
+    for printed, texts in SPELLINGS.items():
+        for text in texts.split():
+            table.becomes(block(text), 0, block(printed))
+    for one, other in itertools.permutations([*SPELLINGS, "B3/S2", "B3/S23H"], 2):
+        table.becomes(block(one), 0, block(other), "refused, mixed rules")
+    table.judge(tally, "spellings of rules")
+    table = Table(folder)
+    for told, texts in NO_RULES.items():
+        for text in texts.split():
+            table.still(block(text), f"refused, bad rule: {told}")
+    table.judge(tally, "texts that name no rule")
+
+
+def try_patterns(tally, folder):
+    """Patterns under rules of each neighbourhood."""
+    table = Table(folder)
+    for rule, body, verdict in STILL_LIFES:
+        table.still(f"x = 1, y = 1, rule = {rule}\n{body}\n", verdict)
+    for rule, cells in RINGS:
+        table.becomes(f"x = 1, y = 1, rule = {rule}\no!", 1, plain(cells, rule))
+    table.judge(tally, "patterns and their rules")
+
+
+def main():
+    tally = Tally()
+    with tempfile.TemporaryDirectory() as folder:
+        for it in (try_claim_texts, try_cells, try_faults, try_cut_text, try_each_byte, try_rules, try_patterns):
+            it(tally, folder)
+    tally.finish()
+
+
+if __name__ == "__main__":
+    main()
