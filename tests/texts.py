@@ -145,13 +145,14 @@ BAD_FILES = (
     # The pattern is read before its rule.
     ("x = 2, y = 2, rule = Life\n2o$2o", "no end"),
     (f"#CXRLE Pos={EDGE},0\n{HEADER}o!", "range"), (f"#CXRLE Pos={EDGE},0\n{HEADER}!", "range"), (f"#CXRLE Pos=0,-{EDGE + 1}\n{HEADER}!", "range"),
-    (f"#CXRLE Pos=0,-{EDGE + 1}\n{HEADER}$o!", "range"), (f"#CXRLE Pos={EDGE - 1},{EDGE - 1}\n{HEADER}2o!", "range"),
+    (f"#CXRLE Pos=0,-{EDGE + 1}\n{HEADER}$o!", "range"), (f"#CXRLE Pos={EDGE - 1},0\n{HEADER}2o!", "range"),
+    (f"#CXRLE Pos={EDGE - 1},{EDGE - 1}\n{HEADER}2o!", "range"),
     (f"#CXRLE Pos={EDGE - 1},{EDGE - 1}\n{HEADER}$o!", "range"), ("#CXRLE Pos=0,-99999999999999999999999\nx = 1, y = 1\no!", "range"),
 )
 
 # The spellings of rules, by the printed form of each.
 SPELLINGS = {
-    "B3/S23": "B3/S23 23/3 s23b3 b3s23 B3S32 S32/B33 32/3",
+    "B3/S23": "B3/S23 23/3 s23b3 b3s23 s32b33 B3S32 S32/B33 32/3",
     "B36/S23": "23/36 b63/s32",
     "B37/S23": "B37/S23",
     "B3678/S34678": "34678/3678 S87643B8763",
@@ -222,11 +223,14 @@ STILL_LIFES = (
     ("B3/S23", "pAxXyO!", "refused, state too large"),
 )
 
-# A lone cell is born again at each neighbour that counts it.
-RINGS = (
-    ("B1/S8", [(-1, -1), (0, -1), (1, -1), (-1, 0), (1, 0), (-1, 1), (0, 1), (1, 1)]),
-    ("B1/S4V", [(0, -1), (-1, 0), (1, 0), (0, 1)]),
-    ("B1/S6H", [(-1, -1), (0, -1), (-1, 0), (1, 0), (0, 1), (1, 1)]),
+# The places round a cell.
+ROUND = [(-1, -1), (0, -1), (1, -1), (-1, 0), (1, 0), (-1, 1), (0, 1), (1, 1)]
+
+# Rules that give birth to a cell with one live neighbour, rules that let one survive with all of them live, and the places that both count.
+COUNTED = (
+    ("B1/S", "B/S8", ROUND),
+    ("B1/SV", "B/S4V", [(0, -1), (-1, 0), (1, 0), (0, 1)]),
+    ("B1/SH", "B/S6H", [(-1, -1), (0, -1), (-1, 0), (1, 0), (0, 1), (1, 1)]),
 )
 
 
@@ -370,8 +374,16 @@ def try_patterns(tally, folder):
     table = Table(folder)
     for rule, body, verdict in STILL_LIFES:
         table.still(f"x = 1, y = 1, rule = {rule}\n{body}\n", verdict)
-    for rule, cells in RINGS:
-        table.becomes(f"x = 1, y = 1, rule = {rule}\no!", 1, plain(cells, rule))
+    large, other = "x = 1, y = 1, rule = B3/S23\nB!", plain([(0, 0)], "B3/S2")
+    table.becomes(large, 0, other, "refused, state too large")
+    table.becomes(plain([(0, 0)]), 0, other, "refused, mixed rules")
+    for birth, survival, counted in COUNTED:
+        table.becomes(plain([(0, 0)], birth), 1, plain(counted, birth))
+        table.becomes(plain([(0, 0), *ROUND], survival), 1, plain([(0, 0)], survival))
+        table.becomes(plain(ROUND, survival), 1, plain([], survival))
+        for place in ROUND:
+            crowd = [(0, 0), *(it for it in ROUND if it != place)]
+            table.becomes(plain(crowd, survival), 1, plain([] if place in counted else [(0, 0)], survival))
     table.judge(tally, "patterns and their rules")
 
 

@@ -11,21 +11,3 @@ fn each_path_once(rt: HostRuntime) -> Result<(), Fail> {
     assert_eq!(rt; claims.path(1), b"r".as_slice());
     Ok(())
 }
-
-#[test]
-fn paths_between_blanks(rt: HostRuntime) -> Result<(), Fail> {
-    let text =
-        b"# two still lifes\r\n\r\n\tload a  beehive.rle \r\n  #still a\r\nload b block.rle\r\nstill b\r\n\r\nstill a";
-    let claims = read_claims(rt.alloc(), text)?;
-    assert_eq!(rt; claims.path_count(), 2);
-    assert_eq!(rt; claims.path(0), b"beehive.rle".as_slice());
-    assert_eq!(rt; claims.path(1), b"block.rle".as_slice());
-    Ok(())
-}
-
-#[test]
-fn no_paths(rt: HostRuntime) -> Result<(), Fail> {
-    assert_eq!(rt; read_claims(rt.alloc(), b"")?.path_count(), 0);
-    assert_eq!(rt; read_claims(rt.alloc(), b"# load a p\n")?.path_count(), 0);
-    Ok(())
-}

@@ -1,8 +1,9 @@
-//! Lines of answers that no claim text causes.
+//! Lines of answers that no claim text causes, and causes in the words of their crates.
 
 use crate::lines;
 use ca_claims::{Answer, Cause, PatternFault, Verdict, Why};
 use ca_rle::RleFault;
+use ca_rule::RuleFault;
 use std::test::*;
 
 const ANSWERS: [Answer; 5] = [
@@ -49,4 +50,43 @@ line 15: refused, memory
 fn a_line_for_each_answer(rt: HostRuntime) -> Result<(), Fail> {
     assert_eq!(rt; lines(rt.alloc(), &ANSWERS)?.as_slice(), LINES);
     Ok(())
+}
+
+#[test]
+fn causes_tell_why(rt: HostRuntime) -> Result<(), Fail> {
+    for (cause, text) in [
+        (Cause::NoFile, "no file"),
+        (rle(RleFault::Syntax), "rle: syntax"),
+        (rle(RleFault::Header), "rle: no header"),
+        (rle(RleFault::XlifeRule), "rle: a rule in XLife's way"),
+        (rle(RleFault::NoEnd), "rle: no end"),
+        (rle(RleFault::BadState), "rle: a state above 255"),
+        (rle(RleFault::Range), "rle: out of range"),
+        (rle(RleFault::TooManyCells), "rle: too many cells"),
+        (
+            rle(RleFault::GenTooLarge),
+            "rle: the generation is too large",
+        ),
+        (rle(RleFault::Memory), "rle: out of memory"),
+        (Cause::BadPattern(PatternFault::Memory), "out of memory"),
+        (
+            Cause::BadRule(RuleFault::Bounded),
+            "a rule on a bounded grid",
+        ),
+        (
+            Cause::BadRule(RuleFault::Wakes),
+            "a rule that wakes the empty plane",
+        ),
+        (Cause::BadRule(RuleFault::Unknown), "an unknown rule"),
+        (Cause::StateTooLarge, "state too large"),
+        (Cause::MixedRules, "mixed rules"),
+        (Cause::Memory, "out of memory"),
+    ] {
+        assert_eq!(rt; format!(in rt.alloc(); "{cause}")?.as_str(), text);
+    }
+    Ok(())
+}
+
+fn rle(fault: RleFault) -> Cause {
+    Cause::BadPattern(PatternFault::Rle(fault))
 }

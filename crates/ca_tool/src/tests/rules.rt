@@ -1,7 +1,7 @@
 //! Rules through their public calls: what no claim asks of them.
 
 use ca_plane::{Automaton, Nine};
-use ca_rule::{BsRule, Counts, Hood, RuleFault, resolve};
+use ca_rule::{BsRule, Counts, RuleFault, resolve};
 use std::process::Abort;
 use std::test::*;
 
@@ -76,11 +76,6 @@ fn printed_rules(rt: HostRuntime) -> Result<(), Fail> {
     for printed in PRINTED {
         let rule = resolve(printed).ok().ok_or("the text names a rule")?;
         assert_eq!(rt; rule.text(rt.alloc())?.as_slice(), printed);
-        assert_eq!(rt; rule.bs.text(rt.alloc())?.as_slice(), printed);
-    }
-    for text in [b"s32b33".as_slice(), b"23/3"] {
-        let rule = resolve(text).ok().ok_or("the text names a rule")?;
-        assert_eq!(rt; rule.text(rt.alloc())?.as_slice(), b"B3/S23".as_slice());
     }
     Ok(())
 }
@@ -92,25 +87,6 @@ fn texts_that_are_no_word(rt: HostRuntime) {
     }
 }
 
-#[test]
-fn rules_that_are_the_same(rt: HostRuntime) -> Result<(), Fail> {
-    let life = resolve(b"B3/S23").ok().ok_or("Life is a rule")?;
-    let table: [(&[u8], bool); 6] = [
-        (b"B3/S23", true),
-        (b"s32b33", true),
-        (b"23/3", true),
-        (b"B36/S23", false),
-        (b"B3/S2", false),
-        (b"B3/S23H", false),
-    ];
-    for (text, is_same) in table {
-        let other = resolve(text).ok().ok_or("the text names a rule")?;
-        assert_eq!(rt; life.same(&other), is_same, "{text:?}");
-        assert_eq!(rt; life.bs.same(&other.bs), is_same, "{text:?}");
-    }
-    Ok(())
-}
-
 /// What a rule says of nine cells, through the trait.
 fn next_of<A: Automaton>(rule: &A, nine: &Nine) -> u8 {
     rule.next(nine)
@@ -120,7 +96,7 @@ fn next_of<A: Automaton>(rule: &A, nine: &Nine) -> u8 {
 fn cells_of_life(rt: HostRuntime) -> Result<(), Fail> {
     let life = resolve(b"B3/S23").ok().ok_or("Life is a rule")?;
     assert_eq!(rt; life.states(), 2);
-    let table: [(Nine, u8); 8] = [
+    let table: [(Nine, u8); 9] = [
         ([0, 0, 0, 0, 0, 0, 0, 0, 0], 0),
         ([0, 0, 0, 1, 1, 1, 0, 0, 0], 1),
         ([0, 0, 0, 0, 1, 1, 0, 0, 0], 0),
@@ -129,56 +105,10 @@ fn cells_of_life(rt: HostRuntime) -> Result<(), Fail> {
         ([1, 0, 1, 0, 1, 0, 1, 0, 1], 0),
         ([1, 1, 1, 1, 0, 1, 1, 1, 1], 0),
         ([0, 0, 0, 1, 2, 1, 0, 0, 0], 0),
+        ([255; 9], 0),
     ];
     for (nine, state) in table {
         assert_eq!(rt; next_of(&life, &nine), state, "{nine:?}");
-        assert_eq!(rt; next_of(&life.bs, &nine), state, "{nine:?}");
-    }
-    Ok(())
-}
-
-/// Looks at each place of nine alone and left out, under a rule that has birth at one neighbour and survival at all.
-fn check_places(rt: &impl Abort, rule: &BsRule, counted: &[usize]) {
-    for place in 0..9 {
-        let mut alone: Nine = [0; 9];
-        alone[place] = 1;
-        let born = rule.next(&alone) == 1;
-        assert_eq!(rt; born, counted.contains(&place), "only {place}");
-        let mut crowd: Nine = [1; 9];
-        crowd[place] = 0;
-        let survives = rule.next(&crowd) == 1;
-        let left = place != 4 && !counted.contains(&place);
-        assert_eq!(rt; survives, left, "all but {place}");
-    }
-    assert_eq!(rt; rule.next(&[1; 9]), 1);
-    assert_eq!(rt; rule.next(&[255; 9]), 0);
-}
-
-#[test]
-fn each_neighbour_counts_once(rt: HostRuntime) -> Result<(), Fail> {
-    let table: [(&[u8], Hood, &[usize]); 3] = [
-        (b"B1/S8", Hood::Moore, &[0, 1, 2, 3, 5, 6, 7, 8]),
-        (b"B1/S4V", Hood::VonNeumann, &[1, 3, 5, 7]),
-        (b"B1/S6H", Hood::Hex, &[0, 1, 3, 5, 7, 8]),
-    ];
-    for (text, hood, counted) in table {
-        let rule = BsRule::parse(text).ok().ok_or("the text names a rule")?;
-        assert_eq!(rt; rule.hood, hood, "{text:?}");
-        check_places(&rt, &rule, counted);
-    }
-    Ok(())
-}
-
-#[test]
-fn texts_of_faults(rt: HostRuntime) -> Result<(), Fail> {
-    let table = [
-        (RuleFault::Bounded, "a rule on a bounded grid"),
-        (RuleFault::Wakes, "a rule that wakes the empty plane"),
-        (RuleFault::Unknown, "an unknown rule"),
-    ];
-    for (fault, words) in table {
-        let text = format!(in rt.alloc(); "{fault}")?;
-        assert_eq!(rt; text.as_str(), words);
     }
     Ok(())
 }

@@ -50,53 +50,45 @@ const GLIDER: [(i32, i32, u8); 5] = [(1, 0, 1), (2, 1, 1), (0, 2, 1), (1, 2, 1),
 
 const GLIDER_TEXT: &[u8] = b"#CXRLE Pos=0,0\nx = 3, y = 3, rule = B3/S23\nbo$2bo$3o!\n";
 
-// The text that is written.
-fn written(
+// The plane is written as this text.
+fn expect_text(
     rt: &(impl Abort + AllocGlobal),
     plane: &Plane,
     rule_text: &[u8],
     generation: u64,
     states: u16,
-) -> Result<Vec<u8>, Memory>
+    text: &[u8],
+) -> Result<(), Memory>
     requires rule { IsWord rule_text.now }
     requires generation { generation < generation_limit }
 {
     assert!(rt; fits(plane, states));
-    write_rle(rt.alloc(), plane, rule_text, generation, states)
+    let written = write_rle(rt.alloc(), plane, rule_text, generation, states)?;
+    assert_eq!(rt; written.as_slice(), text);
+    Ok(())
 }
 
 #[test]
 fn small_planes(rt: HostRuntime) -> Result<(), Fail> {
     let glider = plane_of(rt.alloc(), &GLIDER)?;
-    assert_eq!(rt;
-        written(&rt, &glider, b"B3/S23", 0, 2)?.as_slice(),
-        GLIDER_TEXT
-    );
+    expect_text(&rt, &glider, b"B3/S23", 0, 2, GLIDER_TEXT)?;
     let cells = [(0, -1, 2), (-1, 0, 2), (0, 0, 2), (1, 0, 2), (0, 1, 2)];
     let spread = plane_of(rt.alloc(), &cells)?;
-    assert_eq!(rt;
-        written(&rt, &spread, b"Spread", 0, 3)?.as_slice(),
-        b"#CXRLE Pos=-1,-1\nx = 3, y = 3, rule = Spread\n.B$3B$.B!\n".as_slice()
-    );
+    let text = b"#CXRLE Pos=-1,-1\nx = 3, y = 3, rule = Spread\n.B$3B$.B!\n";
+    expect_text(&rt, &spread, b"Spread", 0, 3, text)?;
     let many = plane_of(rt.alloc(), &[(0, 0, 25), (1, 0, 240), (2, 0, 255)])?;
-    assert_eq!(rt;
-        written(&rt, &many, b"Many", 0, 256)?.as_slice(),
-        b"#CXRLE Pos=0,0\nx = 3, y = 1, rule = Many\npAxXyO!\n".as_slice()
-    );
+    let text = b"#CXRLE Pos=0,0\nx = 3, y = 1, rule = Many\npAxXyO!\n";
+    expect_text(&rt, &many, b"Many", 0, 256, text)?;
     Ok(())
 }
 
 #[test]
 fn no_cells(rt: HostRuntime) -> Result<(), Fail> {
     let plane = Plane::new(rt.alloc());
-    assert_eq!(rt;
-        written(&rt, &plane, b"B3/S23", 0, 2)?.as_slice(),
-        b"#CXRLE Pos=0,0\nx = 0, y = 0, rule = B3/S23\n!\n".as_slice()
-    );
-    assert_eq!(rt;
-        written(&rt, &plane, b"B3/S23", 7, 2)?.as_slice(),
-        b"#CXRLE Pos=0,0 Gen=7\nx = 0, y = 0, rule = B3/S23\n!\n".as_slice()
-    );
+    let text = b"#CXRLE Pos=0,0\nx = 0, y = 0, rule = B3/S23\n!\n";
+    expect_text(&rt, &plane, b"B3/S23", 0, 2, text)?;
+    let text = b"#CXRLE Pos=0,0 Gen=7\nx = 0, y = 0, rule = B3/S23\n!\n";
+    expect_text(&rt, &plane, b"B3/S23", 7, 2, text)?;
     Ok(())
 }
 
@@ -112,13 +104,10 @@ fn corners_of_the_range(rt: HostRuntime) -> Result<(), Fail> {
         },
         1,
     )?;
-    assert_eq!(rt;
-        written(&rt, &plane, b"B3/S23", i64::MAX as u64, 2)?.as_slice(),
-        b"#CXRLE Pos=-1152921504606846976,-1152921504606846976 Gen=9223372036854775807\n\
+    let text = b"#CXRLE Pos=-1152921504606846976,-1152921504606846976 Gen=9223372036854775807\n\
           x = 2305843009213693952, y = 2305843009213693952, rule = B3/S23\n\
-          o2305843009213693951$2305843009213693951bo!\n"
-            .as_slice()
-    );
+          o2305843009213693951$2305843009213693951bo!\n";
+    expect_text(&rt, &plane, b"B3/S23", i64::MAX as u64, 2, text)?;
     Ok(())
 }
 
@@ -134,35 +123,33 @@ fn set_every_second(plane: &mut Plane, y: i32, count: i32) -> Result<(), Memory>
     Ok(())
 }
 
+// Some cells and, in row y, live cells at so many even places from x = 0 on, are written as this text.
+fn expect_row(
+    rt: &(impl Abort + AllocGlobal),
+    cells: &[(i32, i32, u8)],
+    y: i32,
+    count: i32,
+    text: &[u8],
+) -> Result<(), Memory> {
+    let mut plane = plane_of(rt.alloc(), cells)?;
+    set_every_second(&mut plane, y, count)?;
+    expect_text(rt, &plane, b"B3/S23", 0, 2, text)
+}
+
 #[test]
 fn lines_are_ended_at_seventy(rt: HostRuntime) -> Result<(), Fail> {
-    let mut plane = Plane::new(rt.alloc());
-    set_every_second(&mut plane, 0, 40)?;
-    assert_eq!(rt;
-        written(&rt, &plane, b"B3/S23", 0, 2)?.as_slice(),
-        b"#CXRLE Pos=0,0\nx = 79, y = 1, rule = B3/S23\n\
+    let text = b"#CXRLE Pos=0,0\nx = 79, y = 1, rule = B3/S23\n\
           obobobobobobobobobobobobobobobobobobobobobobobobobobobobobobobobobobob\n\
-          obobobobo!\n"
-            .as_slice()
-    );
-    let mut end_alone = plane_of(rt.alloc(), &[(68, 0, 1), (69, 0, 1)])?;
-    set_every_second(&mut end_alone, 0, 34)?;
-    assert_eq!(rt;
-        written(&rt, &end_alone, b"B3/S23", 0, 2)?.as_slice(),
-        b"#CXRLE Pos=0,0\nx = 70, y = 1, rule = B3/S23\n\
+          obobobobo!\n";
+    expect_row(&rt, &[], 0, 40, text)?;
+    let end_alone = b"#CXRLE Pos=0,0\nx = 70, y = 1, rule = B3/S23\n\
           obobobobobobobobobobobobobobobobobobobobobobobobobobobobobobobobobob2o\n\
-          !\n"
-            .as_slice()
-    );
-    let mut whole_item = plane_of(rt.alloc(), &[(1, 0, 1), (66, 1, 1), (67, 1, 1)])?;
-    set_every_second(&mut whole_item, 1, 33)?;
-    assert_eq!(rt;
-        written(&rt, &whole_item, b"B3/S23", 0, 2)?.as_slice(),
-        b"#CXRLE Pos=0,0\nx = 68, y = 2, rule = B3/S23\n\
+          !\n";
+    expect_row(&rt, &[(68, 0, 1), (69, 0, 1)], 0, 34, end_alone)?;
+    let whole_item = b"#CXRLE Pos=0,0\nx = 68, y = 2, rule = B3/S23\n\
           bo$obobobobobobobobobobobobobobobobobobobobobobobobobobobobobobobobob\n\
-          2o!\n"
-            .as_slice()
-    );
+          2o!\n";
+    expect_row(&rt, &[(1, 0, 1), (66, 1, 1), (67, 1, 1)], 1, 33, whole_item)?;
     Ok(())
 }
 
