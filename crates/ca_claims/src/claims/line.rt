@@ -2,7 +2,7 @@
 
 /// What is claimed of patterns, each of which is given by a `P`: by its name, or by the index of its path among the text's
 /// paths.
-#[derive(Clone, Copy, Debug, PartialEq, Eq)]
+#[derive(Clone, Copy, Debug)]
 pub(crate) enum Claim<P> {
     /// The pattern is live, and one generation on it is what it was.
     Still {
@@ -30,7 +30,7 @@ pub(crate) enum Claim<P> {
 }
 
 /// A claim, and the number of its line in the text. Lines are counted from 1.
-#[derive(Clone, Copy, Debug, PartialEq, Eq)]
+#[derive(Clone, Copy)]
 pub(crate) struct ClaimLine {
     pub(crate) line: u64,
     pub(crate) claim: Claim<usize>,
