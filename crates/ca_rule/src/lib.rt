@@ -9,6 +9,7 @@ mod laws;
 mod rule;
 mod rule_laws;
 mod spelling;
+mod table;
 
 pub use bs_rule::BsRule;
 pub use counts::Counts;
@@ -17,3 +18,4 @@ pub use hood::Hood;
 pub use laws::{alike, names_itself, one_rule, rule_or_fault, worked_examples};
 pub use rule::{Rule, resolve};
 pub use rule_laws::{named_rules, same_rules};
+pub use table::{Neighbourhood, Slot, Symmetry, TableFault, worked_cells, worked_orders};

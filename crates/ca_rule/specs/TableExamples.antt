@@ -1,0 +1,66 @@
+-- Small rule tables and cells for the worked examples.
+use Rattle.std.specs.Prelude.{ℕ, ◌-◌, List, [], ◌∷◌, ◌||◌, ◌==◌, nat_le, map, codes}
+use Rattle.ca_rule.specs.declared.table.neighbourhood.Neighbourhood.{Neighbourhood}
+use Rattle.ca_rule.specs.declared.table.neighbourhood.Neighbourhood.TheVariants.{VonNeumann, Moore, Hexagonal, OneDimensional}
+use Rattle.ca_rule.specs.declared.table.neighbourhood.Symmetry.{Symmetry}
+use Rattle.ca_rule.specs.declared.table.slot.Slot.{Slot}
+use Rattle.ca_rule.specs.declared.table.slot.Slot.TheVariants.{Number, Variable}
+use Rattle.ca_rule.specs.TableNext.{States, Transition, TableRule}
+
+-- numbers below ten, as digits
+abbrev pub digits : List ℕ → List ℕ
+digits text = map (λ b. b - 48) text
+
+-- a table of three states with `var a={1,2}`, `var b={0,1,2}` and these transitions
+abbrev pub table_of : Neighbourhood → Symmetry → List Transition → TableRule
+table_of of under lines = record {
+  name = codes "Spread";
+  states = 3;
+  neighbourhood = of;
+  symmetry = under;
+  variables = (λ s. (s == 1) || (s == 2)) ∷ (λ s. nat_le s 2) ∷ [];
+  transitions = lines;
+}
+
+-- `a` and `b`
+abbrev pub a : Slot
+a = Variable 0
+
+abbrev pub b : Slot
+b = Variable 1
+
+-- a transition of four neighbours, given by its centre, north, east, south and west, and its result
+abbrev pub line : Slot → Slot → Slot → Slot → Slot → Slot → Transition
+line centre north east south west becomes = record { inputs = centre ∷ north ∷ east ∷ south ∷ west ∷ []; result = becomes }
+
+-- `0,a,0,0,0,a`
+abbrev pub one_neighbour : Transition
+one_neighbour = line (Number 0) a (Number 0) (Number 0) (Number 0) a
+
+-- `0,a,b,0,0,a`
+abbrev pub two_neighbours : Transition
+two_neighbours = line (Number 0) a b (Number 0) (Number 0) a
+
+-- `0,a,a,0,0,a`
+abbrev pub like_neighbours : Transition
+like_neighbours = line (Number 0) a a (Number 0) (Number 0) a
+
+-- `0,1,0,0,0,2`
+abbrev pub north_of_one : Transition
+north_of_one = line (Number 0) (Number 1) (Number 0) (Number 0) (Number 0) (Number 2)
+
+-- `0,0,1,0,0,0,0,0,0,1`, `0,0,1,0,0,0,0,1`, `0,0,1,1`: a live cell at the second position of the ring
+abbrev pub second_of_eight : Transition
+second_of_eight = record {
+  inputs = Number 0 ∷ Number 0 ∷ Number 1 ∷ Number 0 ∷ Number 0 ∷ Number 0 ∷ Number 0 ∷ Number 0 ∷ Number 0 ∷ [];
+  result = Number 1;
+}
+
+abbrev pub second_of_six : Transition
+second_of_six = record {
+  inputs = Number 0 ∷ Number 0 ∷ Number 1 ∷ Number 0 ∷ Number 0 ∷ Number 0 ∷ Number 0 ∷ [];
+  result = Number 1;
+}
+
+abbrev pub second_of_two : Transition
+second_of_two = record { inputs = Number 0 ∷ Number 0 ∷ Number 1 ∷ []; result = Number 1 }

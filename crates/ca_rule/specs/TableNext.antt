@@ -1,0 +1,84 @@
+-- The next state of a cell under a rule table (Golly Help, File Formats: rule tables; that a result variable has the cell
+-- that it takes under the least fitting order is our own).
+use Rattle.std.specs.Prelude.{ℕ, List, [], ◌∷◌, Bool, true, false, not, ◌&&◌, ◌||◌, ◌==◌, Option, Some, None, slice_index, slice_index_or, map, zip, if◌then◌else◌, unwrap_or}
+use Rattle.std.specs.List.{list_all}
+use Rattle.ca_rule.specs.declared.table.neighbourhood.Neighbourhood.{Neighbourhood}
+use Rattle.ca_rule.specs.declared.table.neighbourhood.Symmetry.{Symmetry}
+use Rattle.ca_rule.specs.declared.table.slot.Slot.{Slot}
+use Rattle.ca_rule.specs.declared.table.slot.Slot.TheVariants.{Number, Variable}
+use Rattle.ca_rule.specs.TableOrders.{ring, orders}
+
+-- a set of states, by its test
+abbrev pub States : Type 0
+States = ℕ → Bool
+
+-- a transition: the slots of the centre and of the ring, and the result
+pub record Transition : Type 0 where
+  pub inputs : List Slot
+  pub result : Slot
+
+-- what a table says. A variable's states are those of its `var` line; the lines are counted from 0
+pub record TableRule : Type 0 where
+  pub name : List ℕ
+  pub states : ℕ
+  pub neighbourhood : Neighbourhood
+  pub symmetry : Symmetry
+  pub variables : List States
+  pub transitions : List Transition
+
+-- the states of the variable with this number
+abbrev pub states_of : List States → ℕ → States
+states_of variables v = slice_index_or variables v (λ s. false)
+
+-- the cells that the slots take under an order: the centre, and then the ring's cells, each at its position
+abbrev pub arranged : Neighbourhood → List ℕ → List ℕ → List ℕ
+arranged neighbourhood nine order = slice_index nine 4 ∷ map (λ position. slice_index nine (slice_index (ring neighbourhood) position)) order
+
+-- a slot with the cell that it takes
+abbrev pub Taken : Type 0
+Taken = Slot × ℕ
+
+-- the slot is that number, or a variable that has that state
+abbrev pub admits : List States → Slot → ℕ → Bool
+admits variables (Number state) cell = cell == state
+admits variables (Variable v) cell = states_of variables v cell
+
+-- the slot is the variable with this number
+abbrev pub is_variable : ℕ → Slot → Bool
+is_variable v (Number state) = false
+is_variable v (Variable w) = v == w
+
+-- each slot of the variable takes this cell
+abbrev pub take_one_cell : List Taken → Slot → ℕ → Bool
+take_one_cell all (Number state) cell = true
+take_one_cell all (Variable v) cell = list_all (λ (t : Taken). not (is_variable v t.0) || (t.1 == cell)) all
+
+-- each slot admits its cell, and all slots of one variable take one cell
+abbrev pub fits : List States → List Taken → Bool
+fits variables all = list_all (λ (t : Taken). admits variables t.0 t.1 && take_one_cell all t.0 t.1) all
+
+-- the cell that the variable takes
+abbrev pub cell_of : ℕ → List Taken → ℕ
+cell_of v [] = 0
+cell_of v (t ∷ ts) = if is_variable v t.0 then t.1 else cell_of v ts
+
+-- the state that a result gives: its number, or the cell of its variable
+abbrev pub given : Slot → List Taken → ℕ
+given (Number state) all = state
+given (Variable v) all = cell_of v all
+
+-- what a transition gives under the first of these orders under which it fits
+abbrev pub outcome : Neighbourhood → List States → List ℕ → Transition → List (List ℕ) → Option ℕ
+outcome neighbourhood variables nine t [] = None
+outcome neighbourhood variables nine t (g ∷ gs) =
+    if fits variables (zip t.inputs (arranged neighbourhood nine g)) then Some (given t.result (zip t.inputs (arranged neighbourhood nine g)))
+    else outcome neighbourhood variables nine t gs
+
+-- what the first transition gives that fits under one of these orders; where none fits, the centre stays
+abbrev pub next_by : Neighbourhood → List States → List (List ℕ) → List ℕ → List Transition → ℕ
+next_by neighbourhood variables gs nine [] = slice_index nine 4
+next_by neighbourhood variables gs nine (t ∷ ts) = unwrap_or (outcome neighbourhood variables nine t gs) (next_by neighbourhood variables gs nine ts)
+
+-- the next state of the centre of nine cells: transitions are tried in the order of the file
+abbrev pub table_next : TableRule → List ℕ → ℕ
+table_next table nine = next_by table.neighbourhood table.variables (orders table.neighbourhood table.symmetry) nine table.transitions
