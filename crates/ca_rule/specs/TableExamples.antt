@@ -1,11 +1,10 @@
 -- Small rule tables and cells for the worked examples.
-use Rattle.std.specs.Prelude.{ℕ, ◌-◌, List, [], ◌∷◌, ◌||◌, ◌==◌, nat_le, map, codes}
+use Rattle.std.specs.Prelude.{ℕ, ◌-◌, List, [], ◌∷◌, ◌++◌, map, flat_map, codes}
 use Rattle.ca_rule.specs.declared.table.neighbourhood.Neighbourhood.{Neighbourhood}
-use Rattle.ca_rule.specs.declared.table.neighbourhood.Neighbourhood.TheVariants.{VonNeumann, Moore, Hexagonal, OneDimensional}
 use Rattle.ca_rule.specs.declared.table.neighbourhood.Symmetry.{Symmetry}
 use Rattle.ca_rule.specs.declared.table.slot.Slot.{Slot}
 use Rattle.ca_rule.specs.declared.table.slot.Slot.TheVariants.{Number, Variable}
-use Rattle.ca_rule.specs.TableNext.{States, Transition, TableRule}
+use Rattle.ca_rule.specs.TableNext.{Transition, TableRule}
 
 -- numbers below ten, as digits
 abbrev pub digits : List ℕ → List ℕ
@@ -18,7 +17,7 @@ table_of of under lines = record {
   states = 3;
   neighbourhood = of;
   symmetry = under;
-  variables = (λ s. (s == 1) || (s == 2)) ∷ (λ s. nat_le s 2) ∷ [];
+  variables = (1 ∷ 2 ∷ []) ∷ (0 ∷ 1 ∷ 2 ∷ []) ∷ [];
   transitions = lines;
 }
 
@@ -64,3 +63,12 @@ second_of_six = record {
 
 abbrev pub second_of_two : Transition
 second_of_two = record { inputs = Number 0 ∷ Number 0 ∷ Number 1 ∷ []; result = Number 1 }
+
+-- lines, each with its LF
+abbrev pub text_of : List (List ℕ) → List ℕ
+text_of lines = flat_map (λ l. l ++ codes "\n") lines
+
+-- a rule file of seven lines, of which the table's settings are given
+abbrev pub file_with : List ℕ → List ℕ → List ℕ → List ℕ → List ℕ
+file_with states neighbourhood symmetry last =
+    text_of (codes "@RULE Spread" ∷ codes "@TABLE" ∷ states ∷ neighbourhood ∷ symmetry ∷ codes "var a={1,2}" ∷ last ∷ [])

@@ -1,16 +1,16 @@
 -- The next state of a cell under a rule table (Golly Help, File Formats: rule tables; that a result variable has the cell
 -- that it takes under the least fitting order is our own).
-use Rattle.std.specs.Prelude.{ℕ, List, [], ◌∷◌, Bool, true, false, not, ◌&&◌, ◌||◌, ◌==◌, Option, Some, None, slice_index, slice_index_or, map, zip, if◌then◌else◌, unwrap_or}
-use Rattle.std.specs.List.{list_all}
+use Rattle.std.specs.Prelude.{ℕ, List, [], ◌∷◌, Bool, true, false, not, ◌&&◌, ◌||◌, ◌==◌, ◌≡◌, ◌≤◌, ◌<◌, replicate, length, All, Option, Some, None, slice_index, slice_index_or, map, zip, if◌then◌else◌, unwrap_or}
+use Rattle.std.specs.List.{list_all, list_any}
 use Rattle.ca_rule.specs.declared.table.neighbourhood.Neighbourhood.{Neighbourhood}
 use Rattle.ca_rule.specs.declared.table.neighbourhood.Symmetry.{Symmetry}
 use Rattle.ca_rule.specs.declared.table.slot.Slot.{Slot}
 use Rattle.ca_rule.specs.declared.table.slot.Slot.TheVariants.{Number, Variable}
 use Rattle.ca_rule.specs.TableOrders.{ring, orders}
 
--- a set of states, by its test
+-- a set of states, as a list of them
 abbrev pub States : Type 0
-States = ℕ → Bool
+States = List ℕ
 
 -- a transition: the slots of the centre and of the ring, and the result
 pub record Transition : Type 0 where
@@ -28,7 +28,7 @@ pub record TableRule : Type 0 where
 
 -- the states of the variable with this number
 abbrev pub states_of : List States → ℕ → States
-states_of variables v = slice_index_or variables v (λ s. false)
+states_of variables v = slice_index_or variables v []
 
 -- the cells that the slots take under an order: the centre, and then the ring's cells, each at its position
 abbrev pub arranged : Neighbourhood → List ℕ → List ℕ → List ℕ
@@ -41,7 +41,7 @@ Taken = Slot × ℕ
 -- the slot is that number, or a variable that has that state
 abbrev pub admits : List States → Slot → ℕ → Bool
 admits variables (Number state) cell = cell == state
-admits variables (Variable v) cell = states_of variables v cell
+admits variables (Variable v) cell = list_any (λ s. s == cell) (states_of variables v)
 
 -- the slot is the variable with this number
 abbrev pub is_variable : ℕ → Slot → Bool
@@ -82,3 +82,10 @@ next_by neighbourhood variables gs nine (t ∷ ts) = unwrap_or (outcome neighbou
 -- the next state of the centre of nine cells: transitions are tried in the order of the file
 abbrev pub table_next : TableRule → List ℕ → ℕ
 table_next table nine = next_by table.neighbourhood table.variables (orders table.neighbourhood table.symmetry) nine table.transitions
+
+-- a table of two to 256 states under which states lead to states, and the empty plane stays empty
+pub record IsSound (table : TableRule) : Type 0 where
+  pub low : 2 ≤ table.states
+  pub high : table.states ≤ 256
+  pub closed : (nine : List ℕ) → length nine ≡ 9 → All (λ s. s < table.states) nine → table_next table nine < table.states
+  pub quiet : table_next table (replicate 9 0) ≡ 0

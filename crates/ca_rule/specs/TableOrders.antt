@@ -1,6 +1,6 @@
 -- The neighbourhoods of rule tables and their symmetries (Golly Help, File Formats: rule tables; that the orders of a
 -- symmetry are taken in lexicographic order, and which orders the hexagonal symmetries have, is our own).
-use Rattle.std.specs.Prelude.{ℕ, zero, suc, ◌+◌, ◌-◌, ◌%◌, List, [], ◌∷◌, ◌++◌, Bool, true, false, ◌==◌, nat_lt, map, length, flat_map, codes, if◌then◌else◌}
+use Rattle.std.specs.Prelude.{ℕ, zero, suc, ◌+◌, ◌-◌, ◌%◌, List, [], ◌∷◌, ◌++◌, Bool, true, false, ◌==◌, nat_lt, map, length, flat_map, if◌then◌else◌}
 use Rattle.std.specs.List.{range_with_len}
 use Rattle.ca_rule.specs.declared.table.neighbourhood.Neighbourhood.{Neighbourhood}
 use Rattle.ca_rule.specs.declared.table.neighbourhood.Neighbourhood.TheVariants.{VonNeumann, Moore, Hexagonal, OneDimensional}
@@ -66,21 +66,25 @@ symmetries_of Moore = Identity ∷ Rotate4 ∷ Rotate4Reflect ∷ ReflectHorizon
 symmetries_of Hexagonal = Identity ∷ Rotate2 ∷ Rotate3 ∷ Rotate6 ∷ Rotate6Reflect ∷ Permute ∷ []
 symmetries_of OneDimensional = Identity ∷ Reflect ∷ Permute ∷ []
 
--- the orders of a symmetry of a neighbourhood, in lexicographic order; a symmetry that it doesn't have has none
+-- the orders of a symmetry that turns or mirrors the ring of a neighbourhood; one that it doesn't have has none
+abbrev pub round_orders : Neighbourhood → Symmetry → List (List ℕ)
+round_orders VonNeumann Rotate4 = round 4 (0 ∷ 1 ∷ 2 ∷ 3 ∷ []) []
+round_orders VonNeumann Rotate4Reflect = round 4 (0 ∷ 1 ∷ 2 ∷ 3 ∷ []) (0 ∷ 1 ∷ 2 ∷ 3 ∷ [])
+round_orders VonNeumann ReflectHorizontal = round 4 (0 ∷ []) (0 ∷ [])
+round_orders Moore Rotate4 = round 8 (0 ∷ 2 ∷ 4 ∷ 6 ∷ []) []
+round_orders Moore Rotate4Reflect = round 8 (0 ∷ 2 ∷ 4 ∷ 6 ∷ []) (0 ∷ 2 ∷ 4 ∷ 6 ∷ [])
+round_orders Moore ReflectHorizontal = round 8 (0 ∷ []) (0 ∷ [])
+round_orders Moore Rotate8 = round 8 (0 ∷ 1 ∷ 2 ∷ 3 ∷ 4 ∷ 5 ∷ 6 ∷ 7 ∷ []) []
+round_orders Moore Rotate8Reflect = round 8 (0 ∷ 1 ∷ 2 ∷ 3 ∷ 4 ∷ 5 ∷ 6 ∷ 7 ∷ []) (0 ∷ 1 ∷ 2 ∷ 3 ∷ 4 ∷ 5 ∷ 6 ∷ 7 ∷ [])
+round_orders Hexagonal Rotate2 = round 6 (0 ∷ 3 ∷ []) []
+round_orders Hexagonal Rotate3 = round 6 (0 ∷ 2 ∷ 4 ∷ []) []
+round_orders Hexagonal Rotate6 = round 6 (0 ∷ 1 ∷ 2 ∷ 3 ∷ 4 ∷ 5 ∷ []) []
+round_orders Hexagonal Rotate6Reflect = round 6 (0 ∷ 1 ∷ 2 ∷ 3 ∷ 4 ∷ 5 ∷ []) (0 ∷ 1 ∷ 2 ∷ 3 ∷ 4 ∷ 5 ∷ [])
+round_orders OneDimensional Reflect = round 2 (0 ∷ []) (1 ∷ [])
+round_orders neighbourhood symmetry = []
+
+-- the orders of a symmetry of a neighbourhood, in lexicographic order
 abbrev pub orders : Neighbourhood → Symmetry → List (List ℕ)
 orders neighbourhood Identity = forward (ring_size neighbourhood) 0 ∷ []
 orders neighbourhood Permute = every_order (ring_size neighbourhood) (forward (ring_size neighbourhood) 0)
-orders VonNeumann Rotate4 = round 4 (0 ∷ 1 ∷ 2 ∷ 3 ∷ []) []
-orders VonNeumann Rotate4Reflect = round 4 (0 ∷ 1 ∷ 2 ∷ 3 ∷ []) (0 ∷ 1 ∷ 2 ∷ 3 ∷ [])
-orders VonNeumann ReflectHorizontal = round 4 (0 ∷ []) (0 ∷ [])
-orders Moore Rotate4 = round 8 (0 ∷ 2 ∷ 4 ∷ 6 ∷ []) []
-orders Moore Rotate4Reflect = round 8 (0 ∷ 2 ∷ 4 ∷ 6 ∷ []) (0 ∷ 2 ∷ 4 ∷ 6 ∷ [])
-orders Moore ReflectHorizontal = round 8 (0 ∷ []) (0 ∷ [])
-orders Moore Rotate8 = round 8 (0 ∷ 1 ∷ 2 ∷ 3 ∷ 4 ∷ 5 ∷ 6 ∷ 7 ∷ []) []
-orders Moore Rotate8Reflect = round 8 (0 ∷ 1 ∷ 2 ∷ 3 ∷ 4 ∷ 5 ∷ 6 ∷ 7 ∷ []) (0 ∷ 1 ∷ 2 ∷ 3 ∷ 4 ∷ 5 ∷ 6 ∷ 7 ∷ [])
-orders Hexagonal Rotate2 = round 6 (0 ∷ 3 ∷ []) []
-orders Hexagonal Rotate3 = round 6 (0 ∷ 2 ∷ 4 ∷ []) []
-orders Hexagonal Rotate6 = round 6 (0 ∷ 1 ∷ 2 ∷ 3 ∷ 4 ∷ 5 ∷ []) []
-orders Hexagonal Rotate6Reflect = round 6 (0 ∷ 1 ∷ 2 ∷ 3 ∷ 4 ∷ 5 ∷ []) (0 ∷ 1 ∷ 2 ∷ 3 ∷ 4 ∷ 5 ∷ [])
-orders OneDimensional Reflect = round 2 (0 ∷ []) (1 ∷ [])
-orders neighbourhood symmetry = []
+orders neighbourhood symmetry = round_orders neighbourhood symmetry

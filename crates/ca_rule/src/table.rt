@@ -6,6 +6,6 @@ pub(crate) mod neighbourhood;
 pub(crate) mod slot;
 
 pub use fault::TableFault;
-pub use laws::{worked_cells, worked_orders};
+pub use laws::{worked_cells, worked_orders, worked_texts};
 pub use neighbourhood::{Neighbourhood, Symmetry};
 pub use slot::Slot;

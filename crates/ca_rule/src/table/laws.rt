@@ -1,10 +1,15 @@
 //! What holds of the orders of symmetries and of next cells under rule tables, said of the definitions alone. These
 //! functions are of no use to a program: each has laws for its contract.
 
-ghost use Rattle.std.specs.Prelude.{◌≡◌, [], ◌∷◌, map, codes};
+ghost use Rattle.std.specs.Prelude.{◌≡◌, [], ◌∷◌, true, false, None, Some, map, codes};
 ghost use Rattle.ca_rule.specs.TableOrders.{orders};
 ghost use Rattle.ca_rule.specs.TableNext.{table_next};
-ghost use Rattle.ca_rule.specs.TableExamples.{digits, table_of, one_neighbour, two_neighbours, like_neighbours, north_of_one, second_of_eight, second_of_six, second_of_two};
+ghost use Rattle.ca_rule.specs.TableLines.{lines_said, setting, is_setting, begins_variable, is_name, fields_of, IsVariableLine};
+ghost use Rattle.ca_rule.specs.TableText.{IsTable};
+ghost use Rattle.ca_rule.specs.TableFaults.{IsFaultOf};
+ghost use Rattle.ca_rule.specs.declared.table.fault.TableFault.TheVariants.{NoRuleLine, NoTable, States, Neighborhood, Symmetries};
+ghost use Rattle.ca_rule.specs.TableNext.{TableRule};
+ghost use Rattle.ca_rule.specs.TableExamples.{text_of, file_with, digits, table_of, one_neighbour, two_neighbours, like_neighbours, north_of_one, second_of_eight, second_of_six, second_of_two};
 ghost use Rattle.ca_rule.specs.declared.table.neighbourhood.Neighbourhood.TheVariants.{VonNeumann, Moore, Hexagonal, OneDimensional};
 ghost use Rattle.ca_rule.specs.declared.table.neighbourhood.Symmetry.TheVariants.{Identity, Rotate4, Rotate4Reflect, ReflectHorizontal, Rotate8, Rotate8Reflect, Rotate2, Rotate3, Rotate6, Rotate6Reflect, Reflect, Permute};
 
@@ -75,4 +80,30 @@ pub fn worked_cells()
     ensures north_east_is_not_among_six { table_next (table_of Hexagonal Identity (second_of_six ∷ [])) (digits (codes "001001100")) ≡ 1 }
     ensures second_of_two_is_east { table_next (table_of OneDimensional Identity (second_of_two ∷ [])) (digits (codes "000001000")) ≡ 1 }
     ensures rows_above_and_below_do_not_count { table_next (table_of OneDimensional Identity (second_of_two ∷ [])) (digits (codes "111001111")) ≡ 1 }
+{}
+
+/// Some lines and texts of rule tables.
+pub fn worked_texts()
+    ensures comments_and_blanks_are_dropped { lines_said (codes " @RULE A # b\r\n\n# c\n\t@TABLE") ≡ (1, codes "@RULE A") ∷ (4, codes "@TABLE") ∷ [] }
+    ensures blanks_may_stand_round_the_colon { setting (codes "n_states") (3, codes "n_states : 3") ≡ Some (codes "3") }
+    ensures all_behind_the_colon_is_the_value { setting (codes "n_states") (3, codes "n_states:3 4") ≡ Some (codes "3 4") }
+    ensures other_words_are_no_settings { is_setting (3, codes "states:3") ≡ false }
+    ensures var_alone_is_no_variable { begins_variable (6, codes "var") ≡ false }
+    ensures var_and_a_blank_is_one { begins_variable (6, codes "var a") ≡ true }
+    ensures variable_is_spelled { IsVariableLine (6, codes "var a = { 1 , b }") (codes "a") (codes "1" ∷ codes "b" ∷ []) }
+    ensures names_begin_with_no_digit { is_name (codes "1a") ≡ false }
+    ensures names_may_hold_digits { is_name (codes "a1") ≡ true }
+    ensures fields_stand_between_commas { fields_of (7, codes "0,a, 12 ,a") ≡ codes "0" ∷ codes "a" ∷ codes "12" ∷ codes "a" ∷ [] }
+    ensures each_byte_is_a_field { fields_of (7, codes "0a0") ≡ codes "0" ∷ codes "a" ∷ codes "0" ∷ [] }
+    ensures table_is_read { (table : TableRule) × IsTable (file_with (codes "n_states:3") (codes "neighborhood:vonNeumann") (codes "symmetries:rotate4") (codes "0,a,0,0,0,a")) table
+        × (table.transitions ≡ one_neighbour ∷ []) }
+    ensures table_is_read_without_commas { (table : TableRule) × IsTable (file_with (codes "n_states:3") (codes "neighborhood:vonNeumann") (codes "symmetries:rotate4") (codes "0a000a")) table
+        × (table.transitions ≡ one_neighbour ∷ []) }
+    ensures rule_line_is_missing { IsFaultOf (text_of (codes "# a" ∷ codes "@RUL Spread" ∷ codes "@TABLE" ∷ [])) (NoRuleLine 2) }
+    ensures rule_line_wants_a_name { IsFaultOf (text_of (codes "@RULE" ∷ codes "@TABLE" ∷ [])) (NoRuleLine 1) }
+    ensures empty_text_has_no_rule_line { IsFaultOf [] (NoRuleLine 1) }
+    ensures table_is_missing { IsFaultOf (text_of (codes "@RULE Spread" ∷ codes "@TABLES" ∷ codes "n_states:3" ∷ [])) (NoTable 3) }
+    ensures one_state_is_too_few { IsFaultOf (file_with (codes "n_states:1") (codes "neighborhood:vonNeumann") (codes "symmetries:rotate4") (codes "0a000a")) (States 6) }
+    ensures neighbourhood_is_unknown { IsFaultOf (file_with (codes "n_states:3") (codes "neighborhood:Margolus") (codes "symmetries:rotate4") (codes "0a000a")) (Neighborhood 6) }
+    ensures symmetry_is_unknown { IsFaultOf (file_with (codes "n_states:3") (codes "neighborhood:vonNeumann") (codes "symmetries:rotate8") (codes "0a000a")) (Symmetries 6) }
 {}

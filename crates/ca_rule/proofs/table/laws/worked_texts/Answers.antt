@@ -1,0 +1,145 @@
+use Rattle.std.proofs.Common.{ℕ, List, arith, codes, refl, inl, inr, [], ◌∷◌, ◌≡◌, true}
+use Rattle.ca_rule.specs.declared.table.neighbourhood.Neighbourhood.TheVariants.{VonNeumann}
+use Rattle.ca_rule.specs.declared.table.neighbourhood.Symmetry.TheVariants.{Rotate4}
+use Rattle.ca_rule.specs.declared.table.slot.Slot.TheVariants.{Number}
+use Rattle.ca_rule.specs.TableLines.{Line, IsTransitionLine}
+use Rattle.ca_rule.specs.TableText.{HasTable, are_settings, Settings, Said, nothing, SaysVariable, SaysTransition, made}
+use Rattle.ca_rule.specs.TableFaults.{HasSettings, LackStates, LackNeighbourhood, LackSymmetry}
+use Rattle.ca_rule.specs.TableExamples.{file_with, one_neighbour, a}
+use Rattle.ca_rule.proofs.table.laws.worked_texts.Goals as goal
+
+pub returns-clause-variable_is_spelled : goal.returns-clause-variable_is_spelled
+returns-clause-variable_is_spelled c = record {
+  first = codes " ";
+  second = codes " ";
+  third = codes " ";
+  inside = codes " 1 , b ";
+  begins = refl;
+  first_blanks = refl;
+  second_blanks = refl;
+  third_blanks = refl;
+  named = refl;
+  fields_are = refl;
+  are_fields = refl;
+  spelled = refl;
+}
+
+-- the settings of the examples, and what their statements say
+abbrev of_four : Settings
+of_four = record { states = 3; neighbourhood = VonNeumann; symmetry = Rotate4 }
+
+abbrev one_said : Said
+one_said = record { variables = (codes "a", 1 ∷ 2 ∷ []) ∷ []; transitions = [] }
+
+abbrev both_said : Said
+both_said = record { variables = (codes "a", 1 ∷ 2 ∷ []) ∷ []; transitions = one_neighbour ∷ [] }
+
+-- the lines of the settings, and those behind them
+abbrev settings_with : List ℕ → List ℕ → List ℕ → List Line
+settings_with states neighbourhood symmetry = (3, states) ∷ (4, neighbourhood) ∷ (5, symmetry) ∷ []
+
+abbrev statements_with : List ℕ → List Line
+statements_with last = (6, codes "var a={1,2}") ∷ (7, last) ∷ []
+
+says_one : SaysVariable of_four nothing (6, codes "var a={1,2}") one_said
+says_one = record {
+  name = codes "a";
+  fields = codes "1" ∷ codes "2" ∷ [];
+  slots = Number 1 ∷ Number 2 ∷ [];
+  spelled = record {
+    first = codes " ";
+    second = [];
+    third = [];
+    inside = codes "1,2";
+    begins = refl;
+    first_blanks = refl;
+    second_blanks = refl;
+    third_blanks = refl;
+    named = refl;
+    fields_are = refl;
+    are_fields = refl;
+    spelled = refl;
+  };
+  stand = ((refl, refl, omega arith), ((refl, refl, omega arith), tt));
+  after_is = refl;
+}
+
+-- the transition, however its fields are set apart
+says_both : (last : List ℕ) → IsTransitionLine (7, last) 6 (codes "0" ∷ codes "a" ∷ codes "0" ∷ codes "0" ∷ codes "0" ∷ codes "a" ∷ []) → SaysTransition of_four one_said (7, last) both_said
+says_both last is_spelled = record {
+  fields = codes "0" ∷ codes "a" ∷ codes "0" ∷ codes "0" ∷ codes "0" ∷ codes "a" ∷ [];
+  inputs = Number 0 ∷ a ∷ Number 0 ∷ Number 0 ∷ Number 0 ∷ [];
+  result = a;
+  spelled = is_spelled;
+  stand = ((refl, refl, omega arith), ((refl, refl), ((refl, refl, omega arith), ((refl, refl, omega arith), ((refl, refl, omega arith), ((refl, refl), tt))))));
+  bound = refl;
+  after_is = refl;
+}
+
+pub returns-clause-table_is_read : goal.returns-clause-table_is_read
+returns-clause-table_is_read c = (
+  made (codes "Spread") of_four both_said,
+  record {
+    name = codes "Spread";
+    setting_lines = settings_with (codes "n_states:3") (codes "neighborhood:vonNeumann") (codes "symmetries:rotate4");
+    statements = statements_with (codes "0,a,0,0,0,a");
+    later = [];
+    settings = of_four;
+    said = both_said;
+    has_table = record { rule_line = (1, codes "@RULE Spread"); skipped = []; table_line = (2, codes "@TABLE"); named = refl; no_table = refl; begins = refl; whole = refl };
+    mean = record { once = refl; states_are = refl; neighbourhood_is = refl; symmetry_is = refl };
+    say = (one_said, inl says_one, (both_said, inr (says_both (codes "0,a,0,0,0,a") (record { no_variable = refl; fields_are = refl; are_fields = refl; count = refl })), refl));
+    ends = refl;
+    table_is = refl;
+  },
+  refl,
+)
+
+pub returns-clause-table_is_read_without_commas : goal.returns-clause-table_is_read_without_commas
+returns-clause-table_is_read_without_commas c = (
+  made (codes "Spread") of_four both_said,
+  record {
+    name = codes "Spread";
+    setting_lines = settings_with (codes "n_states:3") (codes "neighborhood:vonNeumann") (codes "symmetries:rotate4");
+    statements = statements_with (codes "0a000a");
+    later = [];
+    settings = of_four;
+    said = both_said;
+    has_table = record { rule_line = (1, codes "@RULE Spread"); skipped = []; table_line = (2, codes "@TABLE"); named = refl; no_table = refl; begins = refl; whole = refl };
+    mean = record { once = refl; states_are = refl; neighbourhood_is = refl; symmetry_is = refl };
+    say = (one_said, inl says_one, (both_said, inr (says_both (codes "0a000a") (record { no_variable = refl; fields_are = refl; are_fields = refl; count = refl })), refl));
+    ends = refl;
+    table_is = refl;
+  },
+  refl,
+)
+
+pub returns-clause-table_is_missing : goal.returns-clause-table_is_missing
+returns-clause-table_is_missing c = ((codes "Spread", refl, refl), refl)
+
+-- settings that end at the sixth line
+module _ (states neighbourhood symmetry : List ℕ) (P : List Line → Type 0) where
+  end_at_six : HasTable (file_with states neighbourhood symmetry (codes "0a000a")) (codes "Spread") ((3, states) ∷ (4, neighbourhood) ∷ (5, symmetry) ∷ statements_with (codes "0a000a"))
+      → are_settings [] (settings_with states neighbourhood symmetry) ≡ true → P (settings_with states neighbourhood symmetry) → HasSettings (file_with states neighbourhood symmetry (codes "0a000a")) 6 P
+  end_at_six has are holding = record {
+    name = codes "Spread";
+    lines = settings_with states neighbourhood symmetry;
+    behind = statements_with (codes "0a000a");
+    has_table = has;
+    once = are;
+    ends = refl;
+    number = refl;
+    holds = holding;
+  }
+
+pub returns-clause-one_state_is_too_few : goal.returns-clause-one_state_is_too_few
+returns-clause-one_state_is_too_few c =
+    inl (end_at_six (codes "n_states:1") (codes "neighborhood:vonNeumann") (codes "symmetries:rotate4") LackStates (record { rule_line = (1, codes "@RULE Spread"); skipped = []; table_line = (2, codes "@TABLE"); named = refl; no_table = refl; begins = refl; whole = refl }) refl refl)
+
+pub returns-clause-neighbourhood_is_unknown : goal.returns-clause-neighbourhood_is_unknown
+returns-clause-neighbourhood_is_unknown c =
+    end_at_six (codes "n_states:3") (codes "neighborhood:Margolus") (codes "symmetries:rotate4") LackNeighbourhood (record { rule_line = (1, codes "@RULE Spread"); skipped = []; table_line = (2, codes "@TABLE"); named = refl; no_table = refl; begins = refl; whole = refl }) refl (3, refl, refl)
+
+pub returns-clause-symmetry_is_unknown : goal.returns-clause-symmetry_is_unknown
+returns-clause-symmetry_is_unknown c =
+    end_at_six (codes "n_states:3") (codes "neighborhood:vonNeumann") (codes "symmetries:rotate8") LackSymmetry (record { rule_line = (1, codes "@RULE Spread"); skipped = []; table_line = (2, codes "@TABLE"); named = refl; no_table = refl; begins = refl; whole = refl }) refl (3, VonNeumann, refl, refl, refl)

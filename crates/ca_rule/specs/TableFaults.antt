@@ -1,0 +1,139 @@
+-- What is wrong with the text of a rule table: the first faulty line (our own order).
+use Rattle.std.specs.Prelude.{◌≡◌, ◌≢◌, ℕ, ◌≤◌, List, [], ◌∷◌, ◌++◌, replicate, Bool, true, false, not, Some, None, ◌⊎◌}
+use Rattle.std.specs.List.{list_any, AllZip}
+use Rattle.ca_plane.specs.Bytes.{value}
+use Rattle.ca_rule.specs.declared.table.fault.TableFault.{TableFault}
+use Rattle.ca_rule.specs.declared.table.fault.TableFault.TheVariants.{NoRuleLine, NoTable, Syntax, States, Neighborhood, Symmetries, Variable, Unbound, Wakes, Memory}
+use Rattle.ca_rule.specs.declared.table.neighbourhood.Neighbourhood.{Neighbourhood}
+use Rattle.ca_rule.specs.declared.table.slot.Slot.{Slot}
+use Rattle.ca_rule.specs.TableNext.{TableRule, table_next}
+use Rattle.ca_rule.specs.TableLines.{Line, lines_said, last_line, rule_name, begins_table, begins_section, is_setting, states_set, neighbourhood_set, symmetry_set, are_digits, is_name, IsVariableLine, IsTransitionLine}
+use Rattle.ca_rule.specs.TableText.{HasTable, sets_again, are_settings, Settings, Mean, Said, nothing, number_of, StandsFor, is_bound, field_count, Say, IsTable}
+
+-- the number of the first of the lines, or of the text's last where there is none
+abbrev pub number_at : List ℕ → List Line → ℕ
+number_at bytes [] = last_line bytes
+number_at bytes (l ∷ ls) = l.0
+
+-- the first of the lines, if there is one, is no setting
+abbrev pub is_behind_settings : List Line → Bool
+is_behind_settings [] = true
+is_behind_settings (l ∷ ls) = not (is_setting l)
+
+-- the first line that says something is no `@RULE` with a name
+abbrev pub HasNoRuleLine : List Line → Type 0
+HasNoRuleLine [] = Unit {0}
+HasNoRuleLine (l ∷ ls) = rule_name l ≡ None
+
+-- no line behind the first begins a table
+abbrev pub HasNoTable : List Line → Type 0
+HasNoTable [] = ⊥
+HasNoTable (l ∷ ls) = (name : List ℕ) × (rule_name l ≡ Some name) × (list_any begins_table ls ≡ false)
+
+-- behind good settings, the n-th line of the text is a setting that one of them sets
+pub record SetsAgain (bytes : List ℕ) (n : ℕ) : Type 0 where
+  pub name : List ℕ
+  pub good : List Line
+  pub line : Line
+  pub later : List Line
+  pub has_table : HasTable bytes name (good ++ line ∷ later)
+  pub once : are_settings [] good ≡ true
+  pub again : sets_again good line ≡ true
+  pub number : n ≡ line.0
+
+-- all settings of the table have been set, each once at most, and this holds of them. They end at the n-th line of the
+-- text: the first other line, or the text's last
+pub record HasSettings (bytes : List ℕ) (n : ℕ) (P : List Line → Type 0) : Type 0 where
+  pub name : List ℕ
+  pub lines : List Line
+  pub behind : List Line
+  pub has_table : HasTable bytes name (lines ++ behind)
+  pub once : are_settings [] lines ≡ true
+  pub ends : is_behind_settings behind ≡ true
+  pub number : n ≡ number_at bytes behind
+  pub holds : P lines
+
+-- no number of states is set, or none from 2 to 256
+abbrev pub LackStates : List Line → Type 0
+LackStates lines = states_set lines ≡ None
+
+-- a number of states is, but no neighbourhood that there is
+abbrev pub LackNeighbourhood : List Line → Type 0
+LackNeighbourhood lines = (n : ℕ) × (states_set lines ≡ Some n) × (neighbourhood_set lines ≡ None)
+
+-- both are, but no symmetry that the neighbourhood has
+abbrev pub LackSymmetry : List Line → Type 0
+LackSymmetry lines = (n : ℕ) × (neighbourhood : Neighbourhood)
+    × (states_set lines ≡ Some n) × (neighbourhood_set lines ≡ Some neighbourhood) × (symmetry_set neighbourhood lines ≡ None)
+
+-- behind good settings and good statements stands a line of the table, the n-th of the text, of which this holds
+pub record HasStatement (bytes : List ℕ) (n : ℕ) (P : Settings → Said → Line → Type 0) : Type 0 where
+  pub name : List ℕ
+  pub setting_lines : List Line
+  pub good : List Line
+  pub line : Line
+  pub later : List Line
+  pub settings : Settings
+  pub said : Said
+  pub has_table : HasTable bytes name (setting_lines ++ (good ++ line ∷ later))
+  pub mean : Mean setting_lines settings
+  pub ends : is_behind_settings (good ++ line ∷ later) ≡ true
+  pub say : Say settings nothing good said
+  pub in_table : begins_section line ≡ false
+  pub number : n ≡ line.0
+  pub holds : P settings said line
+
+-- the line is spelled neither as a variable's nor as a transition; so is a setting that stands behind a statement
+abbrev pub IsMisspelled : Settings → Said → Line → Type 0
+IsMisspelled settings said line =
+    ((name : List ℕ) (fields : List (List ℕ)) → IsVariableLine line name fields → ⊥)
+    × ((fields : List (List ℕ)) → IsTransitionLine line (field_count settings) fields → ⊥)
+
+-- the fields of a line that is spelled as a variable's or as a transition
+abbrev pub HasFields : Settings → Line → List (List ℕ) → Type 0
+HasFields settings line fields = ((name : List ℕ) × IsVariableLine line name fields) ⊎ IsTransitionLine line (field_count settings) fields
+
+-- of its fields, the first that stands for nothing is one of which this holds
+pub record HasBadField (settings : Settings) (said : Said) (line : Line) (P : List ℕ → Type 0) : Type 0 where
+  pub good : List (List ℕ)
+  pub slots : List Slot
+  pub field : List ℕ
+  pub later : List (List ℕ)
+  pub spelled : HasFields settings line (good ++ field ∷ later)
+  pub stand : AllZip (StandsFor settings said) good slots
+  pub holds : P field
+
+-- a number that is no state of the table
+abbrev pub HasBadState : Settings → Said → Line → Type 0
+HasBadState settings said line = HasBadField settings said line (λ field. (are_digits field ≡ true) × (settings.states ≤ value field))
+
+-- a name that no earlier variable has
+abbrev pub HasUnknownName : Settings → Said → Line → Type 0
+HasUnknownName settings said line = HasBadField settings said line (λ field. (is_name field ≡ true) × (number_of 0 said.variables field ≡ None))
+
+-- a transition whose result is a variable that stands in no input
+pub record HasUnbound (settings : Settings) (said : Said) (line : Line) : Type 0 where
+  pub fields : List (List ℕ)
+  pub inputs : List Slot
+  pub result : Slot
+  pub spelled : IsTransitionLine line (field_count settings) fields
+  pub stand : AllZip (StandsFor settings said) fields (inputs ++ result ∷ [])
+  pub unbound : is_bound result inputs ≡ false
+
+-- the table turns nine zeros into another state
+abbrev pub DoesWake : TableRule → Type 0
+DoesWake table = table_next table (replicate 9 0) ≢ 0
+
+-- the text's fault, with the number of its line: the first in its spelling, else that the table wakes; want of memory may
+-- come at any time
+abbrev pub IsFaultOf : List ℕ → TableFault → Type 0
+IsFaultOf bytes (NoRuleLine n) = HasNoRuleLine (lines_said bytes) × (n ≡ number_at bytes (lines_said bytes))
+IsFaultOf bytes (NoTable n) = HasNoTable (lines_said bytes) × (n ≡ last_line bytes)
+IsFaultOf bytes (Syntax n) = SetsAgain bytes n ⊎ HasStatement bytes n IsMisspelled
+IsFaultOf bytes (States n) = HasSettings bytes n LackStates ⊎ HasStatement bytes n HasBadState
+IsFaultOf bytes (Neighborhood n) = HasSettings bytes n LackNeighbourhood
+IsFaultOf bytes (Symmetries n) = HasSettings bytes n LackSymmetry
+IsFaultOf bytes (Variable n) = HasStatement bytes n HasUnknownName
+IsFaultOf bytes (Unbound n) = HasStatement bytes n HasUnbound
+IsFaultOf bytes (Wakes n) = (table : TableRule) × IsTable bytes table × DoesWake table × (n ≡ last_line bytes)
+IsFaultOf bytes Memory = Unit {0}
