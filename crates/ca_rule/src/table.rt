@@ -1,11 +1,133 @@
 //! Rule tables: the rules of files with an `@TABLE` section.
 
+ghost use Rattle.std.specs.Prelude.{◌≡◌};
+ghost use Rattle.ca_rule.specs.TableSearch.{placements_of};
+ghost use Rattle.ca_rule.specs.TablePlaces.{next_at};
+
+pub(crate) mod choice;
 pub(crate) mod fault;
 mod laws;
 pub(crate) mod neighbourhood;
+mod placement;
 pub(crate) mod slot;
+mod state_set;
+mod transition;
 
+use ca_plane::{Automaton, Nine};
 pub use fault::TableFault;
 pub use laws::{worked_cells, worked_orders, worked_texts};
 pub use neighbourhood::{Neighbourhood, Symmetry};
+use placement::Orders;
 pub use slot::Slot;
+use state_set::StateSet;
+use std::marker::Model;
+use transition::Transition;
+
+/// A rule table: the rule of a file with an `@TABLE` section (Golly Help, File Formats: rule tables). It leaves the empty
+/// plane empty.
+#[derive(Drop)]
+pub struct Table {
+    name: Vec<u8>,
+    states: u16,
+    neighbourhood: Neighbourhood,
+    symmetry: Symmetry,
+    variables: Vec<StateSet>,
+    transitions: Vec<Transition>,
+}
+
+impl Model for Table {
+    ghost use Rattle.ca_rule.specs.TableNext.{TableRule, IsSound};
+    ghost use Rattle.ca_rule.specs.TableStored.{stored};
+
+    ghost Value = { TableRule };
+
+    ghost view = { λ t. stored t.name.items t.states t.neighbourhood t.symmetry t.variables.items t.transitions.items };
+
+    ghost invariant = { λ t. IsSound (stored t.name.items t.states t.neighbourhood t.symmetry t.variables.items t.transitions.items) };
+}
+
+impl Table {
+    ghost use Rattle.std.specs.Prelude.{◌≡◌, ◌≢◌, ◌≤◌, true, replicate, IfSome, IfNone};
+    ghost use Rattle.std.specs.List.{list_all};
+    ghost use Rattle.ca_rule.specs.TableNext.{Transition as TransitionValue, table_next};
+    ghost use Rattle.ca_rule.specs.TableStored.{stored, is_below};
+
+    /// The table of these parts, unless it turns nine zeros into another state.
+    pub(crate) fn of_parts(
+        name: Vec<u8>,
+        states: u16,
+        neighbourhood: Neighbourhood,
+        symmetry: Symmetry,
+        variables: Vec<StateSet>,
+        transitions: Vec<Transition>,
+    ) -> Option<Table>
+        requires low { 2 ≤ states }
+        requires high { states ≤ 256 }
+        requires results { list_all (λ (t : TransitionValue). is_below states t.result) transitions.items ≡ true }
+        ensures parts { IfSome result (λ t. t ≡ stored name.items states neighbourhood symmetry variables.items transitions.items) }
+        ensures quiet { IfSome result (λ t. table_next t (replicate 9 0) ≡ 0) }
+        ensures wakes { IfNone result (table_next (stored name.items states neighbourhood symmetry variables.items transitions.items) (replicate 9 0) ≢ 0) }
+    {
+        let orders = Orders::of(neighbourhood, symmetry);
+        if first_outcome(&variables, &transitions, orders, &[0; 9]) != 0 {
+            return None;
+        }
+        Some(Table {
+            name,
+            states,
+            neighbourhood,
+            symmetry,
+            variables,
+            transitions,
+        })
+    }
+
+    /// The name that the file's `@RULE` line gives.
+    pub fn name(&self) -> &[u8]
+        ensures { result.now ≡ self.now.name }
+    {
+        &self.name
+    }
+}
+
+/// What the first transition gives that fits in one of the orders; where none fits, the centre stays.
+fn first_outcome(
+    variables: &[StateSet],
+    transitions: &[Transition],
+    orders: Orders,
+    nine: &Nine,
+) -> u8
+    ensures { result ≡ next_at variables.now (placements_of orders) nine.now transitions.now }
+{
+    let mut left = transitions;
+    'transitions: while let Some((transition, later)) = left.split_first() {
+        if let Some(state) = transition.outcome(variables, orders, nine) {
+            return state;
+        }
+        left = later;
+    }
+    nine[4]
+}
+
+impl Automaton for Table {
+    ghost use Rattle.ca_rule.specs.TableNext.{IsSound, table_next};
+
+    ghost state_count = { λ table. table.states };
+
+    ghost next_of = { table_next };
+
+    ghost sound = { IsSound };
+
+    fn states(&self) -> u16 {
+        self.states
+    }
+
+    fn next(&self, nine: &Nine) -> u8 {
+        let orders = Orders::of(self.neighbourhood, self.symmetry);
+        first_outcome(&self.variables, &self.transitions, orders, nine)
+    }
+
+    ghost closed = { λ table nine sound. sound.closed nine };
+
+    ghost quiet = { λ table sound. sound.quiet };
+}

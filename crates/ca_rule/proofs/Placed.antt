@@ -1,0 +1,35 @@
+-- What a table gives by the orders of its symmetry, and by the places to which they lead.
+use Rattle.std.proofs.Common.{◌≡◌, ℕ, List, [], ◌∷◌, map, zip, slice_index, refl, ap, ◌∙◌, Some, unwrap_or}
+use Rattle.std.specs.Prelude.{if◌then◌else◌}
+use Rattle.ca_rule.specs.declared.table.neighbourhood.Neighbourhood.{Neighbourhood}
+use Rattle.ca_rule.specs.declared.table.neighbourhood.Symmetry.{Symmetry}
+use Rattle.ca_rule.specs.TableOrders.{ring, orders}
+use Rattle.ca_rule.specs.TableNext.{States, Transition, arranged, fits, given, outcome, next_by, table_next}
+use Rattle.ca_rule.specs.TableStored.{stored}
+use Rattle.ca_rule.specs.TablePlaces.{places, outcome_at, next_at}
+
+-- the cells at the places of an order's positions
+cells-at : (h : Neighbourhood) (nine order : List ℕ) → map (slice_index nine) (map (slice_index (ring h)) order) ≡ map (λ position. slice_index nine (slice_index (ring h) position)) order
+cells-at h nine [] = refl
+cells-at h nine (p ∷ ps) = ap (λ l. slice_index nine (slice_index (ring h) p) ∷ l) (cells-at h nine ps)
+
+arranged-at : (h : Neighbourhood) (nine order : List ℕ) → map (slice_index nine) (places h order) ≡ arranged h nine order
+arranged-at h nine order = ap (λ l. slice_index nine 4 ∷ l) (cells-at h nine order)
+
+outcome-at : (h : Neighbourhood) (variables : List States) (nine : List ℕ) (t : Transition) (gs : List (List ℕ)) → outcome_at variables nine t (map (places h) gs) ≡ outcome h variables nine t gs
+outcome-at h variables nine t [] = refl
+outcome-at h variables nine t (g ∷ gs) =
+    ap (λ cells. if fits variables (zip t.inputs cells) then Some (given t.result (zip t.inputs cells)) else outcome_at variables nine t (map (places h) gs)) (arranged-at h nine g)
+    ∙ ap (λ o. if fits variables (zip t.inputs (arranged h nine g)) then Some (given t.result (zip t.inputs (arranged h nine g))) else o) (outcome-at h variables nine t gs)
+
+-- the next state is the same by either
+pub next-at : (h : Neighbourhood) (variables : List States) (gs : List (List ℕ)) (nine : List ℕ) (ts : List Transition) → next_at variables (map (places h) gs) nine ts ≡ next_by h variables gs nine ts
+next-at h variables gs nine [] = refl
+next-at h variables gs nine (t ∷ ts) =
+    ap (λ o. unwrap_or o (next_at variables (map (places h) gs) nine ts)) (outcome-at h variables nine t gs)
+    ∙ ap (λ n. unwrap_or (outcome h variables nine t gs) n) (next-at h variables gs nine ts)
+
+-- so it is where the places are those of the orders of the table's symmetry
+pub stored-next : (named : List ℕ) (count : ℕ) (h : Neighbourhood) (s : Symmetry) (sets : List States) (ts : List Transition) (nine : List ℕ) (placed : List (List ℕ)) →
+    placed ≡ map (places h) (orders h s) → next_at sets placed nine ts ≡ table_next (stored named count h s sets ts) nine
+stored-next named count h s sets ts nine placed e = ap (λ ps. next_at sets ps nine ts) e ∙ next-at h sets (orders h s) nine ts

@@ -1,0 +1,35 @@
+use Rattle.std.proofs.Common.{◌≡◌, ◌<◌, replicate, sym, ◌∙◌, arith}
+use Rattle.std.proofs.lemmas.Bool.Decides.{nat_tests}
+use Rattle.ca_rule.specs.TableSearch.{placements_of}
+use Rattle.ca_rule.specs.TablePlaces.{next_at}
+use Rattle.ca_rule.specs.TableStored.{stored}
+use Rattle.ca_rule.proofs.Closed.{closed}
+use Rattle.ca_rule.proofs.Placed.{stored-next}
+use Rattle.ca_rule.proofs.table.Table.of_parts.Goals as goal
+
+pub returns-then-first_outcome-ne0-clause-wakes : goal.returns-then-first_outcome-ne0-clause-wakes
+returns-then-first_outcome-ne0-clause-wakes c =
+    let found : c.first_outcome.result ≡ next_at c.args.variables.items (placements_of c.of-orders.result) (replicate 9 0) c.args.transitions.items
+    = cc (c.first_outcome.ensures, c.deref.ensures.value, c.deref-2.ensures.value) in
+    let same = stored-next c.args.name.items c.args.states c.args.neighbourhood c.args.symmetry c.args.variables.items c.args.transitions.items
+    (replicate 9 0) (placements_of c.of-orders.result) c.of-orders.ensures in
+    λ quiet. let zero : c.first_outcome.result ≡ 0 = found ∙ same ∙ quiet in grind (arith, nat_tests)
+
+pub returns-clause-quiet : goal.returns-clause-quiet
+returns-clause-quiet c =
+    let found : c.first_outcome.result ≡ next_at c.args.variables.items (placements_of c.of-orders.result) (replicate 9 0) c.args.transitions.items
+    = cc (c.first_outcome.ensures, c.deref.ensures.value, c.deref-2.ensures.value) in
+    let same = stored-next c.args.name.items c.args.states c.args.neighbourhood c.args.symmetry c.args.variables.items c.args.transitions.items
+    (replicate 9 0) (placements_of c.of-orders.result) c.of-orders.ensures in
+    let zero : c.first_outcome.result ≡ 0 = grind (arith, nat_tests) in
+    sym same ∙ sym found ∙ zero
+
+pub invariant_of-result : goal.invariant_of-result
+invariant_of-result c =
+    let some : 0 < c.args.states = omega arith in
+    record {
+      low = c.requires.low;
+      high = c.requires.high;
+      closed = closed (stored c.args.name.items c.args.states c.args.neighbourhood c.args.symmetry c.args.variables.items c.args.transitions.items) some c.requires.results;
+      quiet = returns-clause-quiet c;
+    }

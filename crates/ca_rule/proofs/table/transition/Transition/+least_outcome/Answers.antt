@@ -1,0 +1,46 @@
+use Rattle.std.proofs.Common.{◌≡◌, ◌+◌, ◌-◌, ◌<◌, ◌≤◌, suc, length, drop, map, zip, slice_index, false, ap, sym, ◌∙◌, arith}
+use Rattle.std.specs.Option.{option_or}
+use Rattle.std.proofs.lemmas.Bool.Decides.{nat_tests}
+use Rattle.ca_rule.specs.TableOrders.{picks, every_order}
+use Rattle.ca_rule.specs.TableNext.{fits}
+use Rattle.ca_rule.specs.TablePlaces.{taken_at}
+use Rattle.ca_rule.specs.TableSearch.{picked_outcome}
+use Rattle.ca_rule.specs.TableChoice.{taken_of, free_of}
+use Rattle.ca_rule.proofs.Searched.{least_outcome-unfit, all-picks, one-pick, no-pick}
+use Rattle.ca_rule.proofs.table.transition.Transition.+least_outcome.Goals as goal
+
+pub returns-then-not-fits : goal.returns-then-not-fits
+returns-then-not-fits t c =
+    let same : c.deref.result.now ≡ c.args.self.now.inputs = c.deref.ensures.value ∙ ap (λ l. l.inputs) c.self.view_is in
+    let whole : fits c.args.variables.now (zip c.deref.result.now (map (slice_index c.args.nine.now) c.taken.result.now)) ≡ fits c.args.variables.now (taken_at c.args.nine.now c.args.self.now (taken_of c.args.choice))
+    = ap (λ s. fits c.args.variables.now (zip s (map (slice_index c.args.nine.now) c.taken.result.now))) same
+    ∙ ap (λ p. fits c.args.variables.now (zip c.args.self.now.inputs (map (slice_index c.args.nine.now) p))) c.taken.ensures in
+    let none : fits c.args.variables.now (taken_at c.args.nine.now c.args.self.now (taken_of c.args.choice)) ≡ false = sym whole ∙ sym c.if-not-fits.ensures in
+    sym (least_outcome-unfit c.args.variables.now c.args.nine.now c.args.self.now (taken_of c.args.choice) none (every_order (length (free_of c.args.choice)) (free_of c.args.choice)))
+
+pub returns-in-Some : goal.returns-in-Some
+returns-in-Some t c =
+    let count : length (free_of c.args.choice) ≡ suc (c.free_count-count.result - 1) = first_of (omega arith, grind (arith, nat_tests)) in
+    let here : c.places.at < length (free_of c.args.choice) = first_of (omega arith, grind (arith, nat_tests)) in
+    let start = all-picks c.args.variables.now c.args.nine.now c.args.self.now (taken_of c.args.choice) (free_of c.args.choice) (c.free_count-count.result - 1) count in
+    let step = one-pick c.args.variables.now c.args.nine.now c.args.self.now (taken_of c.args.choice) (free_of c.args.choice) (c.free_count-count.result - 1) count c.places.at
+    (taken_of c.with.result) (free_of c.with.result) here c.with.ensures.taken c.with.ensures.free in
+    sym (start ∙ c.places.invariant ∙ step
+    ∙ ap (λ o. option_or o (picked_outcome c.args.variables.now c.args.nine.now c.args.self.now (taken_of c.args.choice) (c.free_count-count.result - 1) (drop (c.places.at + 1) (picks (free_of c.args.choice))))) (sym c.in-Some.ensures))
+
+pub places-preserved : goal.places-preserved
+places-preserved t c =
+    let count : length (free_of c.args.choice) ≡ suc (c.free_count-count.result - 1) = first_of (omega arith, grind (arith, nat_tests)) in
+    let here : c.places.at < length (free_of c.args.choice) = first_of (omega arith, grind (arith, nat_tests)) in
+    let step = one-pick c.args.variables.now c.args.nine.now c.args.self.now (taken_of c.args.choice) (free_of c.args.choice) (c.free_count-count.result - 1) count c.places.at
+    (taken_of c.with.result) (free_of c.with.result) here c.with.ensures.taken c.with.ensures.free in
+    c.places.invariant ∙ step
+    ∙ ap (λ o. option_or o (picked_outcome c.args.variables.now c.args.nine.now c.args.self.now (taken_of c.args.choice) (c.free_count-count.result - 1) (drop (c.places.at + 1) (picks (free_of c.args.choice))))) (sym c.in_default.ensures)
+
+pub returns : goal.returns
+returns t c =
+    let count : length (free_of c.args.choice) ≡ suc (c.free_count-count.result - 1) = first_of (omega arith, grind (arith, nat_tests)) in
+    let end : length (free_of c.args.choice) ≤ c.places.at = first_of (omega arith, grind (arith, nat_tests)) in
+    let start = all-picks c.args.variables.now c.args.nine.now c.args.self.now (taken_of c.args.choice) (free_of c.args.choice) (c.free_count-count.result - 1) count in
+    sym (start ∙ c.places.invariant
+    ∙ no-pick c.args.variables.now c.args.nine.now c.args.self.now (taken_of c.args.choice) (free_of c.args.choice) (c.free_count-count.result - 1) count c.places.at end)

@@ -1,0 +1,24 @@
+-- Where the slots of a transition take their cells.
+use Rattle.std.specs.Prelude.{ℕ, List, [], ◌∷◌, Option, Some, None, unwrap_or, slice_index, map, zip, if◌then◌else◌}
+use Rattle.ca_rule.specs.declared.table.neighbourhood.Neighbourhood.{Neighbourhood}
+use Rattle.ca_rule.specs.TableOrders.{ring}
+use Rattle.ca_rule.specs.TableNext.{States, Transition, Taken, fits, given}
+
+-- the places among nine cells of the cells that the slots take under an order, the centre's first
+abbrev pub places : Neighbourhood → List ℕ → List ℕ
+places neighbourhood order = 4 ∷ map (slice_index (ring neighbourhood)) order
+
+-- the slots of a transition with the cells at those places
+abbrev pub taken_at : List ℕ → Transition → List ℕ → List Taken
+taken_at nine t placement = zip t.inputs (map (slice_index nine) placement)
+
+-- what a transition gives at the first of these placements at which it fits
+abbrev pub outcome_at : List States → List ℕ → Transition → List (List ℕ) → Option ℕ
+outcome_at variables nine t [] = None
+outcome_at variables nine t (p ∷ ps) =
+    if fits variables (taken_at nine t p) then Some (given t.result (taken_at nine t p)) else outcome_at variables nine t ps
+
+-- what the first transition gives that fits at one of these placements; where none fits, the centre stays
+abbrev pub next_at : List States → List (List ℕ) → List ℕ → List Transition → ℕ
+next_at variables ps nine [] = slice_index nine 4
+next_at variables ps nine (t ∷ ts) = unwrap_or (outcome_at variables nine t ps) (next_at variables ps nine ts)

@@ -1,0 +1,23 @@
+-- A rule table as its fields keep it.
+use Rattle.std.specs.Prelude.{ℕ, List, Bool, true, nat_lt}
+use Rattle.ca_rule.specs.declared.table.neighbourhood.Neighbourhood.{Neighbourhood}
+use Rattle.ca_rule.specs.declared.table.neighbourhood.Symmetry.{Symmetry}
+use Rattle.ca_rule.specs.declared.table.slot.Slot.{Slot}
+use Rattle.ca_rule.specs.declared.table.slot.Slot.TheVariants.{Number, Variable}
+use Rattle.ca_rule.specs.TableNext.{States, Transition, TableRule}
+
+-- the table of these parts
+abbrev pub stored : List ℕ → ℕ → Neighbourhood → Symmetry → List States → List Transition → TableRule
+stored named count of under sets lines = record {
+  name = named;
+  states = count;
+  neighbourhood = of;
+  symmetry = under;
+  variables = sets;
+  transitions = lines;
+}
+
+-- a result that is a number is a state below the count
+abbrev pub is_below : ℕ → Slot → Bool
+is_below count (Number state) = nat_lt state count
+is_below count (Variable v) = true

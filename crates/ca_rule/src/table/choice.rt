@@ -1,0 +1,74 @@
+//! The places that the slots of a transition take, slot by slot.
+
+ghost use Rattle.std.specs.Prelude.{◌≡◌, ◌<◌, ◌≤◌, ◌+◌, [], ◌∷◌, ◌++◌, length, get_or, remove};
+ghost use Rattle.ca_rule.specs.TableOrders.{ring};
+
+use crate::table::neighbourhood::Neighbourhood;
+
+/// Places among nine cells: those that the first slots have taken, and those that are free, in the order of the ring.
+#[derive(Clone, Copy)]
+pub(crate) struct Choice {
+    taken: [u8; 9],
+    taken_count: usize,
+    free: [u8; 8],
+    free_count: usize,
+    ghost few_free: { free_count ≤ 8 },
+    ghost few: { taken_count + free_count ≤ 9 },
+}
+
+impl Choice {
+    ghost use Rattle.ca_rule.specs.TableChoice.{taken_of, free_of};
+
+    /// The centre is taken, by the first slot, and the ring is free.
+    pub(crate) fn of_ring(neighbourhood: Neighbourhood) -> Choice
+        ensures taken { taken_of result ≡ 4 ∷ [] }
+        ensures free { free_of result ≡ ring neighbourhood }
+    {
+        let (free, free_count) = match neighbourhood {
+            Neighbourhood::VonNeumann => ([1, 5, 7, 3, 0, 0, 0, 0], 4),
+            Neighbourhood::Moore => ([1, 2, 5, 8, 7, 6, 3, 0], 8),
+            Neighbourhood::Hexagonal => ([1, 5, 8, 7, 3, 0, 0, 0], 6),
+            Neighbourhood::OneDimensional => ([3, 5, 0, 0, 0, 0, 0, 0], 2),
+        };
+        Choice {
+            taken: [4, 0, 0, 0, 0, 0, 0, 0, 0],
+            taken_count: 1,
+            free,
+            free_count,
+        }
+    }
+
+    /// The places that are taken, in the order of the slots.
+    pub(crate) fn taken(&self) -> &[u8]
+        ensures { result.now ≡ taken_of self.now }
+    {
+        &self.taken[..self.taken_count]
+    }
+
+    /// How many places are free.
+    pub(crate) fn free_count(&self) -> usize
+        ensures count { result ≡ self.now.free_count }
+        ensures length { result ≡ length (free_of self.now) }
+    {
+        self.free_count
+    }
+
+    /// The next slot takes one of the free places.
+    pub(crate) fn with(self, at: usize) -> Choice
+        requires { at < self.free_count }
+        ensures taken { taken_of result ≡ taken_of self ++ get_or (free_of self) at 0 ∷ [] }
+        ensures free { free_of result ≡ remove (free_of self) at }
+        ensures count { result.free_count + 1 ≡ self.free_count }
+    {
+        let mut taken = self.taken;
+        taken[self.taken_count] = self.free[at];
+        let mut free = self.free;
+        free[at..].rotate_left(1);
+        Choice {
+            taken,
+            taken_count: self.taken_count + 1,
+            free,
+            free_count: self.free_count - 1,
+        }
+    }
+}

@@ -1,0 +1,149 @@
+//! Where the slots of a transition take their cells.
+
+ghost use Rattle.std.specs.Prelude.{◌≡◌, ◌≢◌, map};
+ghost use Rattle.ca_rule.specs.TableOrders.{orders};
+ghost use Rattle.ca_rule.specs.TablePlaces.{places};
+ghost use Rattle.ca_rule.specs.declared.table.neighbourhood.Symmetry.TheVariants.{Permute};
+
+use crate::table::neighbourhood::{Neighbourhood, Symmetry};
+
+/// In which orders the slots of a transition take their cells.
+#[derive(Clone, Copy)]
+pub(crate) enum Orders {
+    /// In these, each given by the places of the slots' cells.
+    Listed(&'static [&'static [u8]]),
+    /// In every order of the neighbourhood's ring.
+    Every(Neighbourhood),
+}
+
+impl Orders {
+    ghost use Rattle.std.specs.Prelude.{◌≡◌, map};
+    ghost use Rattle.ca_rule.specs.TableOrders.{orders};
+    ghost use Rattle.ca_rule.specs.TablePlaces.{places};
+    ghost use Rattle.ca_rule.specs.TableSearch.{placements_of};
+
+    /// The orders of a symmetry of the neighbourhood.
+    #[tactic(auto, using(crate::proofs::Permuted::every_order_placed))]
+    pub(crate) fn of(neighbourhood: Neighbourhood, symmetry: Symmetry) -> Orders
+        ensures { placements_of result ≡ map (places neighbourhood) (orders neighbourhood symmetry) }
+    {
+        match symmetry {
+            Symmetry::Permute => Orders::Every(neighbourhood),
+            _ => Orders::Listed(placements(neighbourhood, symmetry)),
+        }
+    }
+}
+
+/// For each order of the symmetry, but for `permute`: the places of the slots' cells among nine, the centre's first.
+/// A symmetry that the neighbourhood doesn't have has none.
+fn placements(neighbourhood: Neighbourhood, symmetry: Symmetry) -> &'static [&'static [u8]]
+    ensures { symmetry ≢ Permute → map (λ p. p.now) result.now ≡ map (places neighbourhood) (orders neighbourhood symmetry) }
+{
+    match (neighbourhood, symmetry) {
+        (Neighbourhood::VonNeumann, Symmetry::Identity) => &[&[4, 1, 5, 7, 3]],
+        (Neighbourhood::VonNeumann, Symmetry::Rotate4) => &[
+            &[4, 1, 5, 7, 3],
+            &[4, 5, 7, 3, 1],
+            &[4, 7, 3, 1, 5],
+            &[4, 3, 1, 5, 7],
+        ],
+        (Neighbourhood::VonNeumann, Symmetry::Rotate4Reflect) => &[
+            &[4, 1, 5, 7, 3],
+            &[4, 1, 3, 7, 5],
+            &[4, 5, 1, 3, 7],
+            &[4, 5, 7, 3, 1],
+            &[4, 7, 5, 1, 3],
+            &[4, 7, 3, 1, 5],
+            &[4, 3, 1, 5, 7],
+            &[4, 3, 7, 5, 1],
+        ],
+        (Neighbourhood::VonNeumann, Symmetry::ReflectHorizontal) => &[
+            &[4, 1, 5, 7, 3],
+            &[4, 1, 3, 7, 5],
+        ],
+        (Neighbourhood::Moore, Symmetry::Identity) => &[&[4, 1, 2, 5, 8, 7, 6, 3, 0]],
+        (Neighbourhood::Moore, Symmetry::Rotate4) => &[
+            &[4, 1, 2, 5, 8, 7, 6, 3, 0],
+            &[4, 5, 8, 7, 6, 3, 0, 1, 2],
+            &[4, 7, 6, 3, 0, 1, 2, 5, 8],
+            &[4, 3, 0, 1, 2, 5, 8, 7, 6],
+        ],
+        (Neighbourhood::Moore, Symmetry::Rotate4Reflect) => &[
+            &[4, 1, 2, 5, 8, 7, 6, 3, 0],
+            &[4, 1, 0, 3, 6, 7, 8, 5, 2],
+            &[4, 5, 2, 1, 0, 3, 6, 7, 8],
+            &[4, 5, 8, 7, 6, 3, 0, 1, 2],
+            &[4, 7, 8, 5, 2, 1, 0, 3, 6],
+            &[4, 7, 6, 3, 0, 1, 2, 5, 8],
+            &[4, 3, 6, 7, 8, 5, 2, 1, 0],
+            &[4, 3, 0, 1, 2, 5, 8, 7, 6],
+        ],
+        (Neighbourhood::Moore, Symmetry::ReflectHorizontal) => &[
+            &[4, 1, 2, 5, 8, 7, 6, 3, 0],
+            &[4, 1, 0, 3, 6, 7, 8, 5, 2],
+        ],
+        (Neighbourhood::Moore, Symmetry::Rotate8) => &[
+            &[4, 1, 2, 5, 8, 7, 6, 3, 0],
+            &[4, 2, 5, 8, 7, 6, 3, 0, 1],
+            &[4, 5, 8, 7, 6, 3, 0, 1, 2],
+            &[4, 8, 7, 6, 3, 0, 1, 2, 5],
+            &[4, 7, 6, 3, 0, 1, 2, 5, 8],
+            &[4, 6, 3, 0, 1, 2, 5, 8, 7],
+            &[4, 3, 0, 1, 2, 5, 8, 7, 6],
+            &[4, 0, 1, 2, 5, 8, 7, 6, 3],
+        ],
+        (Neighbourhood::Moore, Symmetry::Rotate8Reflect) => &[
+            &[4, 1, 2, 5, 8, 7, 6, 3, 0],
+            &[4, 1, 0, 3, 6, 7, 8, 5, 2],
+            &[4, 2, 1, 0, 3, 6, 7, 8, 5],
+            &[4, 2, 5, 8, 7, 6, 3, 0, 1],
+            &[4, 5, 2, 1, 0, 3, 6, 7, 8],
+            &[4, 5, 8, 7, 6, 3, 0, 1, 2],
+            &[4, 8, 5, 2, 1, 0, 3, 6, 7],
+            &[4, 8, 7, 6, 3, 0, 1, 2, 5],
+            &[4, 7, 8, 5, 2, 1, 0, 3, 6],
+            &[4, 7, 6, 3, 0, 1, 2, 5, 8],
+            &[4, 6, 7, 8, 5, 2, 1, 0, 3],
+            &[4, 6, 3, 0, 1, 2, 5, 8, 7],
+            &[4, 3, 6, 7, 8, 5, 2, 1, 0],
+            &[4, 3, 0, 1, 2, 5, 8, 7, 6],
+            &[4, 0, 1, 2, 5, 8, 7, 6, 3],
+            &[4, 0, 3, 6, 7, 8, 5, 2, 1],
+        ],
+        (Neighbourhood::Hexagonal, Symmetry::Identity) => &[&[4, 1, 5, 8, 7, 3, 0]],
+        (Neighbourhood::Hexagonal, Symmetry::Rotate2) => &[
+            &[4, 1, 5, 8, 7, 3, 0],
+            &[4, 7, 3, 0, 1, 5, 8],
+        ],
+        (Neighbourhood::Hexagonal, Symmetry::Rotate3) => &[
+            &[4, 1, 5, 8, 7, 3, 0],
+            &[4, 8, 7, 3, 0, 1, 5],
+            &[4, 3, 0, 1, 5, 8, 7],
+        ],
+        (Neighbourhood::Hexagonal, Symmetry::Rotate6) => &[
+            &[4, 1, 5, 8, 7, 3, 0],
+            &[4, 5, 8, 7, 3, 0, 1],
+            &[4, 8, 7, 3, 0, 1, 5],
+            &[4, 7, 3, 0, 1, 5, 8],
+            &[4, 3, 0, 1, 5, 8, 7],
+            &[4, 0, 1, 5, 8, 7, 3],
+        ],
+        (Neighbourhood::Hexagonal, Symmetry::Rotate6Reflect) => &[
+            &[4, 1, 5, 8, 7, 3, 0],
+            &[4, 1, 0, 3, 7, 8, 5],
+            &[4, 5, 1, 0, 3, 7, 8],
+            &[4, 5, 8, 7, 3, 0, 1],
+            &[4, 8, 5, 1, 0, 3, 7],
+            &[4, 8, 7, 3, 0, 1, 5],
+            &[4, 7, 8, 5, 1, 0, 3],
+            &[4, 7, 3, 0, 1, 5, 8],
+            &[4, 3, 7, 8, 5, 1, 0],
+            &[4, 3, 0, 1, 5, 8, 7],
+            &[4, 0, 1, 5, 8, 7, 3],
+            &[4, 0, 3, 7, 8, 5, 1],
+        ],
+        (Neighbourhood::OneDimensional, Symmetry::Identity) => &[&[4, 3, 5]],
+        (Neighbourhood::OneDimensional, Symmetry::Reflect) => &[&[4, 3, 5], &[4, 5, 3]],
+        _ => &[],
+    }
+}

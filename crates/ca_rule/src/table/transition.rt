@@ -1,0 +1,187 @@
+//! Transitions of rule tables.
+
+ghost use Rattle.std.specs.Prelude.{◌≡◌, ◌==◌, ◌||◌, not, map, zip, slice_index};
+ghost use Rattle.std.specs.List.{list_all};
+ghost use Rattle.ca_rule.specs.TableNext.{Taken, is_variable, admits, cell_of, fits, given};
+
+use crate::table::choice::Choice;
+use crate::table::placement::Orders;
+use crate::table::slot::Slot;
+use crate::table::state_set::StateSet;
+use ca_plane::Nine;
+use std::marker::Model;
+
+/// A transition: what its slots admit, the centre's first, and what it gives.
+#[derive(Drop)]
+pub(crate) struct Transition {
+    inputs: Vec<Slot>,
+    result: Slot,
+}
+
+impl Model for Transition {
+    ghost use Rattle.ca_rule.specs.TableNext.{Transition as TransitionValue};
+
+    ghost Value = { TransitionValue };
+
+    ghost view = { λ t. record { inputs = t.inputs.items; result = t.result } };
+}
+
+impl Transition {
+    ghost use Rattle.std.specs.Prelude.{◌≡◌, map, length};
+    ghost use Rattle.ca_rule.specs.TablePlaces.{outcome_at};
+    ghost use Rattle.ca_rule.specs.TableSearch.{least_outcome, placements_of};
+    ghost use Rattle.ca_rule.specs.TableChoice.{taken_of, free_of};
+
+    /// The state that the transition gives in the first of the orders in which it fits, if it fits in one.
+    #[tactic(auto, using(crate::proofs::Permuted::outcome_of_ring))]
+    pub(crate) fn outcome(&self, variables: &[StateSet], orders: Orders, nine: &Nine) -> Option<u8>
+        ensures { result ≡ outcome_at variables.now nine.now self.now (placements_of orders) }
+    {
+        match orders {
+            Orders::Listed(placements) => self.listed_outcome(variables, placements, nine),
+            Orders::Every(neighbourhood) => {
+                self.least_outcome(variables, Choice::of_ring(neighbourhood), nine)
+            }
+        }
+    }
+
+    /// The state that the transition gives at the first of the placements at which it fits, if it fits at one.
+    fn listed_outcome(
+        &self,
+        variables: &[StateSet],
+        placements: &[&[u8]],
+        nine: &Nine,
+    ) -> Option<u8>
+        ensures { result ≡ outcome_at variables.now nine.now self.now (map (λ p. p.now) placements.now) }
+    {
+        let (placement, later) = placements.split_first()?;
+        if fits(variables, &self.inputs, placement, nine) {
+            return Some(given(self.result, &self.inputs, placement, nine));
+        }
+        self.listed_outcome(variables, later, nine)
+    }
+
+    /// The state that the transition gives in the least order of the free places, behind those that are taken, in which
+    /// it fits. The next slot takes one free place after another, from the least on; where the slots don't fit at the
+    /// places taken so far, no order of the others is tried.
+    fn least_outcome(&self, variables: &[StateSet], choice: Choice, nine: &Nine) -> Option<u8>
+        ensures { result ≡ least_outcome variables.now nine.now self.now (taken_of choice) (length (free_of choice)) (free_of choice) }
+    {
+        if !fits(variables, &self.inputs, choice.taken(), nine) {
+            return None;
+        }
+        let count = choice.free_count();
+        if count == 0 {
+            return Some(given(self.result, &self.inputs, choice.taken(), nine));
+        }
+        'places: for at in 0..count {
+            if let Some(state) = self.least_outcome(variables, choice.with(at), nine) {
+                return Some(state);
+            }
+        }
+        None
+    }
+}
+
+/// The cell at a place among nine.
+fn cell_at(nine: &Nine, place: u8) -> u8
+    ensures { result ≡ slice_index nine.now place }
+{
+    nine.get(usize::from(place)).copied().unwrap_or(0)
+}
+
+/// Whether the slot is that state, or a variable that has it.
+fn admits(variables: &[StateSet], slot: Slot, cell: u8) -> bool
+    ensures { result ≡ admits variables.now slot cell }
+{
+    match slot {
+        Slot::Number(state) => cell == state,
+        Slot::Variable(number) => match variables.get(number) {
+            Some(states) => states.contains(cell),
+            None => false,
+        },
+    }
+}
+
+/// Whether the slot is the variable.
+fn is_variable(number: usize, slot: Slot) -> bool
+    ensures { result ≡ is_variable number slot }
+{
+    match slot {
+        Slot::Number(_) => false,
+        Slot::Variable(other) => number == other,
+    }
+}
+
+/// Whether each slot of the variable takes this cell, where each takes that at its place.
+fn takes_one_cell(number: usize, cell: u8, slots: &[Slot], places: &[u8], nine: &Nine) -> bool
+    ensures { result ≡ list_all (λ (t : Taken). not (is_variable number t.0) || (t.1 == cell)) (zip slots.now (map (slice_index nine.now) places.now)) }
+{
+    let mut slots_left = slots;
+    let mut places_left = places;
+    'slots: while let Some((slot, slots_later)) = slots_left.split_first() {
+        let Some((place, places_later)) = places_left.split_first() else {
+            return true;
+        };
+        if is_variable(number, *slot) && cell_at(nine, *place) != cell {
+            return false;
+        }
+        slots_left = slots_later;
+        places_left = places_later;
+    }
+    true
+}
+
+/// The cell that the variable takes.
+fn cell_of(number: usize, slots: &[Slot], places: &[u8], nine: &Nine) -> u8
+    ensures { result ≡ cell_of number (zip slots.now (map (slice_index nine.now) places.now)) }
+{
+    let mut slots_left = slots;
+    let mut places_left = places;
+    'slots: while let Some((slot, slots_later)) = slots_left.split_first() {
+        let Some((place, places_later)) = places_left.split_first() else {
+            return 0;
+        };
+        if is_variable(number, *slot) {
+            return cell_at(nine, *place);
+        }
+        slots_left = slots_later;
+        places_left = places_later;
+    }
+    0
+}
+
+/// Whether each slot admits the cell at its place, and all slots of one variable take one cell.
+fn fits(variables: &[StateSet], slots: &[Slot], places: &[u8], nine: &Nine) -> bool
+    ensures { result ≡ fits variables.now (zip slots.now (map (slice_index nine.now) places.now)) }
+{
+    let mut slots_left = slots;
+    let mut places_left = places;
+    'slots: while let Some((slot, slots_later)) = slots_left.split_first() {
+        let Some((place, places_later)) = places_left.split_first() else {
+            return true;
+        };
+        let cell = cell_at(nine, *place);
+        if !admits(variables, *slot, cell) {
+            return false;
+        }
+        if let Slot::Variable(number) = *slot {
+            if !takes_one_cell(number, cell, slots, places, nine) {
+                return false;
+            }
+        }
+        slots_left = slots_later;
+        places_left = places_later;
+    }
+    true
+}
+
+/// The state that a result gives: its number, or the cell of its variable.
+fn given(becomes: Slot, slots: &[Slot], places: &[u8], nine: &Nine) -> u8
+    ensures { let all = zip slots.now (map (slice_index nine.now) places.now) in result ≡ given becomes all }
+{
+    match becomes {
+        Slot::Number(state) => state,
+        Slot::Variable(number) => cell_of(number, slots, places, nine),
+    }
+}
