@@ -7,6 +7,7 @@ ghost use Rattle.ca_rule.specs.TablePlaces.{next_at};
 pub(crate) mod choice;
 pub(crate) mod fault;
 mod laws;
+mod lines;
 pub(crate) mod neighbourhood;
 mod placement;
 pub(crate) mod slot;

@@ -1,0 +1,97 @@
+//! The lines of a rule file.
+
+ghost use Rattle.std.specs.Prelude.{◌≡◌, ◌==◌, not, None, Some, MatchOption};
+ghost use Rattle.std.specs.List.{list_all, prefix_len};
+ghost use Rattle.ca_plane.specs.Bytes.{is_digit};
+ghost use Rattle.ca_rule.specs.TableLines.{without_last_blanks, trimmed, content_of, behind, are_digits, is_name_byte, is_name};
+
+use ca_plane::bytes::{is_blank, split_blanks, strip};
+
+/// The bytes without the blanks at their end.
+#[tactic(auto, using(crate::proofs::Trimmed::ends))]
+fn without_last_blanks(bytes: &[u8]) -> &[u8]
+    ensures { result.now ≡ without_last_blanks bytes.now }
+{
+    let Some((last, before)) = bytes.split_last() else {
+        return bytes;
+    };
+    if !is_blank(*last) {
+        return bytes;
+    }
+    without_last_blanks(before)
+}
+
+/// The bytes without the blanks at both ends.
+pub(crate) fn trimmed(bytes: &[u8]) -> &[u8]
+    ensures { result.now ≡ trimmed bytes.now }
+{
+    let (_, rest) = split_blanks(bytes);
+    without_last_blanks(rest)
+}
+
+/// How many bytes stand before the first `#`.
+fn comment_start(line: &[u8]) -> usize
+    ensures { result ≡ prefix_len (λ b. not (b == 35)) line.now }
+{
+    line.iter().take_while(|byte| **byte != b'#').count()
+}
+
+/// What a line says: the bytes before its first `#`, without the blanks at both ends.
+#[tactic(auto, using(ca_plane::proofs::Lengths::fronts))]
+pub(crate) fn content_of(line: &[u8]) -> &[u8]
+    ensures { result.now ≡ content_of line.now }
+{
+    let (said, _) = line.split_at(comment_start(line));
+    trimmed(said)
+}
+
+/// What stands behind the text with which the bytes begin.
+pub(crate) fn behind<'a>(text: &[u8], bytes: &'a [u8]) -> Option<&'a [u8]>
+    ensures { MatchOption result (behind text.now bytes.now ≡ None) (λ r. behind text.now bytes.now ≡ Some r.now) }
+{
+    strip(bytes, text)
+}
+
+/// Whether each byte is a digit.
+fn all_digits(bytes: &[u8]) -> bool
+    ensures { result ≡ list_all is_digit bytes.now }
+{
+    bytes.iter().all(|byte| byte.is_ascii_digit())
+}
+
+/// Whether the bytes are one or more digits.
+pub(crate) fn are_digits(bytes: &[u8]) -> bool
+    ensures { result ≡ are_digits bytes.now }
+{
+    if bytes.is_empty() {
+        return false;
+    }
+    all_digits(bytes)
+}
+
+/// Whether the byte may stand in a name.
+fn is_name_byte(byte: u8) -> bool
+    ensures { result ≡ is_name_byte byte }
+{
+    !is_blank(byte) && !matches!(byte, b',' | b'{' | b'}' | b'=' | b'#' | b':' | b'@')
+}
+
+/// Whether each byte may stand in a name.
+fn all_name_bytes(bytes: &[u8]) -> bool
+    ensures { result ≡ list_all is_name_byte bytes.now }
+{
+    bytes.iter().all(|byte| is_name_byte(*byte))
+}
+
+/// Whether the bytes are a name.
+pub(crate) fn is_name(bytes: &[u8]) -> bool
+    ensures { result ≡ is_name bytes.now }
+{
+    let Some((first, _)) = bytes.split_first() else {
+        return false;
+    };
+    if first.is_ascii_digit() {
+        return false;
+    }
+    all_name_bytes(bytes)
+}
