@@ -1,9 +1,9 @@
 //! The lines of a rule file.
 
-ghost use Rattle.std.specs.Prelude.{◌≡◌, ◌==◌, not, None, Some, MatchOption};
+ghost use Rattle.std.specs.Prelude.{◌≡◌, ◌==◌, ℕ, not, None, Some, MatchOption};
 ghost use Rattle.std.specs.List.{list_all, prefix_len};
 ghost use Rattle.ca_plane.specs.Bytes.{is_digit};
-ghost use Rattle.ca_rule.specs.TableLines.{without_last_blanks, trimmed, content_of, behind, are_digits, is_name_byte, is_name};
+ghost use Rattle.ca_rule.specs.TableLines.{without_last_blanks, trimmed, content_of, begins_section, behind, setting, begins_variable, are_digits, is_name_byte, is_name};
 
 use ca_plane::bytes::{is_blank, split_blanks, strip};
 
@@ -50,6 +50,38 @@ pub(crate) fn behind<'a>(text: &[u8], bytes: &'a [u8]) -> Option<&'a [u8]>
     ensures { MatchOption result (behind text.now bytes.now ≡ None) (λ r. behind text.now bytes.now ≡ Some r.now) }
 {
     strip(bytes, text)
+}
+
+/// Whether the line begins a section.
+pub(crate) fn begins_section(content: &[u8]) -> bool
+    ensures { (n : ℕ) → result ≡ begins_section (n, content.now) }
+{
+    let Some((first, _)) = content.split_first() else {
+        return false;
+    };
+    *first == b'@'
+}
+
+/// Whether the line is that of a variable: it begins with `var` and a blank.
+pub(crate) fn begins_variable(content: &[u8]) -> bool
+    ensures { (n : ℕ) → result ≡ begins_variable (n, content.now) }
+{
+    let Some(rest) = behind(b"var", content) else {
+        return false;
+    };
+    let Some((first, _)) = rest.split_first() else {
+        return false;
+    };
+    is_blank(*first)
+}
+
+/// The value of the setting with this word, where the line is that one.
+pub(crate) fn setting<'a>(word: &[u8], content: &'a [u8]) -> Option<&'a [u8]>
+    ensures { (n : ℕ) → MatchOption result (setting word.now (n, content.now) ≡ None) (λ r. setting word.now (n, content.now) ≡ Some r.now) }
+{
+    let (_, colon) = split_blanks(behind(word, content)?);
+    let (_, value) = split_blanks(behind(b":", colon)?);
+    Some(value)
 }
 
 /// Whether each byte is a digit.
