@@ -9,7 +9,7 @@ use Rattle.ca_rule.specs.declared.table.slot.Slot.{Slot}
 use Rattle.ca_rule.specs.declared.table.slot.Slot.TheVariants.{Number, Variable}
 use Rattle.ca_rule.specs.TableOrders.{ring, orders}
 use Rattle.ca_rule.specs.TableNext.{States, Transition, TableRule, arranged, is_variable, fits, cell_of, given, outcome, next_by, table_next}
-use Rattle.ca_rule.specs.TableStored.{is_below}
+use Rattle.ca_rule.specs.inner.TableStored.{is_below}
 
 -- each cell of nine is below the count, and so is what stands behind them
 module _ (count : ℕ) (nine : List ℕ) (some : 0 < count) (cells : (i : ℕ) → slice_index nine i < count) where

@@ -4,7 +4,7 @@ use Rattle.std.specs.List.{list_any, range_with_len}
 use Rattle.std.proofs.lemmas.Bool.{cases_Bool}
 use Rattle.std.proofs.lemmas.Bool.Decides.{nat_tests}
 use Rattle.std.proofs.lemmas.Map.Views.{any-filter_same}
-use Rattle.ca_rule.specs.TableStates.{is_in, states_in}
+use Rattle.ca_rule.specs.inner.TableStates.{is_in, states_in}
 
 and-true : (b : Bool) → (b && true) ≡ b
 and-true true = refl

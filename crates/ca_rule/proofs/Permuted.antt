@@ -7,8 +7,8 @@ use Rattle.ca_rule.specs.declared.table.neighbourhood.Neighbourhood.TheVariants.
 use Rattle.ca_rule.specs.TableOrders.{ring, ring_size, forward, picks, every_order, orders}
 use Rattle.ca_rule.specs.declared.table.neighbourhood.Symmetry.TheVariants.{Permute}
 use Rattle.ca_rule.specs.TableNext.{States, Transition}
-use Rattle.ca_rule.specs.TablePlaces.{places, outcome_at}
-use Rattle.ca_rule.specs.TableSearch.{least_outcome}
+use Rattle.ca_rule.specs.inner.TablePlaces.{places, outcome_at}
+use Rattle.ca_rule.specs.inner.TableSearch.{least_outcome}
 
 -- a pick with one more element among the others
 abbrev with_first : ℕ → ℕ × List ℕ → ℕ × List ℕ

@@ -5,8 +5,8 @@ use Rattle.ca_rule.specs.declared.table.neighbourhood.Neighbourhood.{Neighbourho
 use Rattle.ca_rule.specs.declared.table.neighbourhood.Symmetry.{Symmetry}
 use Rattle.ca_rule.specs.TableOrders.{ring, orders}
 use Rattle.ca_rule.specs.TableNext.{States, Transition, arranged, fits, given, outcome, next_by, table_next}
-use Rattle.ca_rule.specs.TableStored.{stored}
-use Rattle.ca_rule.specs.TablePlaces.{places, outcome_at, next_at}
+use Rattle.ca_rule.specs.inner.TableStored.{stored}
+use Rattle.ca_rule.specs.inner.TablePlaces.{places, outcome_at, next_at}
 
 -- the cells at the places of an order's positions
 cells-at : (h : Neighbourhood) (nine order : List ℕ) → map (slice_index nine) (map (slice_index (ring h)) order) ≡ map (λ position. slice_index nine (slice_index (ring h) position)) order

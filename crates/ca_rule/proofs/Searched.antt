@@ -10,8 +10,8 @@ use Rattle.ca_rule.specs.declared.table.slot.Slot.{Slot}
 use Rattle.ca_rule.specs.declared.table.slot.Slot.TheVariants.{Number, Variable}
 use Rattle.ca_rule.specs.TableOrders.{picks, every_order}
 use Rattle.ca_rule.specs.TableNext.{States, Transition, Taken, admits, is_variable, take_one_cell, fits}
-use Rattle.ca_rule.specs.TablePlaces.{taken_at, outcome_at}
-use Rattle.ca_rule.specs.TableSearch.{least_outcome, picked_outcome}
+use Rattle.ca_rule.specs.inner.TablePlaces.{taken_at, outcome_at}
+use Rattle.ca_rule.specs.inner.TableSearch.{least_outcome, picked_outcome}
 
 -- the first of two rows of placements decides, and else the second
 module _ (variables : List States) (nine : List ℕ) (t : Transition) where

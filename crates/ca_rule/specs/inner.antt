@@ -1,2 +1,7 @@
 -- Definitions that private contracts alone cite. No public contract rests on them.
 pub mod TextParts
+pub mod TablePlaces
+pub mod TableSearch
+pub mod TableChoice
+pub mod TableStates
+pub mod TableStored

@@ -1,8 +1,8 @@
 //! Rule tables: the rules of files with an `@TABLE` section.
 
 ghost use Rattle.std.specs.Prelude.{◌≡◌};
-ghost use Rattle.ca_rule.specs.TableSearch.{placements_of};
-ghost use Rattle.ca_rule.specs.TablePlaces.{next_at};
+ghost use Rattle.ca_rule.specs.inner.TableSearch.{placements_of};
+ghost use Rattle.ca_rule.specs.inner.TablePlaces.{next_at};
 
 pub(crate) mod choice;
 pub(crate) mod fault;
@@ -38,7 +38,7 @@ pub struct Table {
 
 impl Model for Table {
     ghost use Rattle.ca_rule.specs.TableNext.{TableRule, IsSound};
-    ghost use Rattle.ca_rule.specs.TableStored.{stored};
+    ghost use Rattle.ca_rule.specs.inner.TableStored.{stored};
 
     ghost Value = { TableRule };
 
@@ -51,7 +51,7 @@ impl Table {
     ghost use Rattle.std.specs.Prelude.{◌≡◌, ◌≢◌, ◌≤◌, true, replicate, IfSome, IfNone};
     ghost use Rattle.std.specs.List.{list_all};
     ghost use Rattle.ca_rule.specs.TableNext.{Transition as TransitionValue, table_next};
-    ghost use Rattle.ca_rule.specs.TableStored.{stored, is_below};
+    ghost use Rattle.ca_rule.specs.inner.TableStored.{stored, is_below};
 
     /// The table of these parts, unless it turns nine zeros into another state.
     pub(crate) fn of_parts(

@@ -17,7 +17,7 @@ pub(crate) struct Choice {
 }
 
 impl Choice {
-    ghost use Rattle.ca_rule.specs.TableChoice.{taken_of, free_of};
+    ghost use Rattle.ca_rule.specs.inner.TableChoice.{taken_of, free_of};
 
     /// The centre is taken, by the first slot, and the ring is free.
     pub(crate) fn of_ring(neighbourhood: Neighbourhood) -> Choice

@@ -2,7 +2,7 @@
 
 ghost use Rattle.std.specs.Prelude.{◌≡◌, ◌≢◌, map};
 ghost use Rattle.ca_rule.specs.TableOrders.{orders};
-ghost use Rattle.ca_rule.specs.TablePlaces.{places};
+ghost use Rattle.ca_rule.specs.inner.TablePlaces.{places};
 ghost use Rattle.ca_rule.specs.declared.table.neighbourhood.Symmetry.TheVariants.{Permute};
 
 use crate::table::neighbourhood::{Neighbourhood, Symmetry};
@@ -19,8 +19,8 @@ pub(crate) enum Orders {
 impl Orders {
     ghost use Rattle.std.specs.Prelude.{◌≡◌, map};
     ghost use Rattle.ca_rule.specs.TableOrders.{orders};
-    ghost use Rattle.ca_rule.specs.TablePlaces.{places};
-    ghost use Rattle.ca_rule.specs.TableSearch.{placements_of};
+    ghost use Rattle.ca_rule.specs.inner.TablePlaces.{places};
+    ghost use Rattle.ca_rule.specs.inner.TableSearch.{placements_of};
 
     /// The orders of a symmetry of the neighbourhood.
     #[tactic(auto, using(crate::proofs::Permuted::every_order_placed))]

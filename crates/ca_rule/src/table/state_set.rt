@@ -14,7 +14,7 @@ pub(crate) struct StateSet {
 impl Model for StateSet {
     ghost use Rattle.std.specs.Prelude.{◌≡◌, length};
     ghost use Rattle.ca_rule.specs.TableNext.{States};
-    ghost use Rattle.ca_rule.specs.TableStates.{states_in};
+    ghost use Rattle.ca_rule.specs.inner.TableStates.{states_in};
 
     ghost Value = { States };
 

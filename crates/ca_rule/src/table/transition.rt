@@ -28,9 +28,9 @@ impl Model for Transition {
 
 impl Transition {
     ghost use Rattle.std.specs.Prelude.{◌≡◌, map, length};
-    ghost use Rattle.ca_rule.specs.TablePlaces.{outcome_at};
-    ghost use Rattle.ca_rule.specs.TableSearch.{least_outcome, placements_of};
-    ghost use Rattle.ca_rule.specs.TableChoice.{taken_of, free_of};
+    ghost use Rattle.ca_rule.specs.inner.TablePlaces.{outcome_at};
+    ghost use Rattle.ca_rule.specs.inner.TableSearch.{least_outcome, placements_of};
+    ghost use Rattle.ca_rule.specs.inner.TableChoice.{taken_of, free_of};
 
     /// The state that the transition gives in the first of the orders in which it fits, if it fits in one.
     #[tactic(auto, using(crate::proofs::Permuted::outcome_of_ring))]

@@ -1,6 +1,6 @@
 use Rattle.std.proofs.Common.{◌≡◌, length}
-use Rattle.ca_rule.specs.TableSearch.{placements_of}
-use Rattle.ca_rule.specs.TablePlaces.{next_at}
+use Rattle.ca_rule.specs.inner.TableSearch.{placements_of}
+use Rattle.ca_rule.specs.inner.TablePlaces.{next_at}
 use Rattle.ca_rule.proofs.table.first_outcome.Given as goal
 
 -- the state lies with the transitions that are left

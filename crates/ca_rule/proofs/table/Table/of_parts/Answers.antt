@@ -1,8 +1,8 @@
 use Rattle.std.proofs.Common.{◌≡◌, ◌<◌, replicate, sym, ◌∙◌, arith}
 use Rattle.std.proofs.lemmas.Bool.Decides.{nat_tests}
-use Rattle.ca_rule.specs.TableSearch.{placements_of}
-use Rattle.ca_rule.specs.TablePlaces.{next_at}
-use Rattle.ca_rule.specs.TableStored.{stored}
+use Rattle.ca_rule.specs.inner.TableSearch.{placements_of}
+use Rattle.ca_rule.specs.inner.TablePlaces.{next_at}
+use Rattle.ca_rule.specs.inner.TableStored.{stored}
 use Rattle.ca_rule.proofs.Closed.{closed}
 use Rattle.ca_rule.proofs.Placed.{stored-next}
 use Rattle.ca_rule.proofs.table.Table.of_parts.Goals as goal

@@ -3,9 +3,9 @@ use Rattle.std.specs.Option.{option_or}
 use Rattle.std.proofs.lemmas.Bool.Decides.{nat_tests}
 use Rattle.ca_rule.specs.TableOrders.{picks, every_order}
 use Rattle.ca_rule.specs.TableNext.{fits}
-use Rattle.ca_rule.specs.TablePlaces.{taken_at}
-use Rattle.ca_rule.specs.TableSearch.{picked_outcome}
-use Rattle.ca_rule.specs.TableChoice.{taken_of, free_of}
+use Rattle.ca_rule.specs.inner.TablePlaces.{taken_at}
+use Rattle.ca_rule.specs.inner.TableSearch.{picked_outcome}
+use Rattle.ca_rule.specs.inner.TableChoice.{taken_of, free_of}
 use Rattle.ca_rule.proofs.Searched.{least_outcome-unfit, all-picks, one-pick, no-pick}
 use Rattle.ca_rule.proofs.table.transition.Transition.+least_outcome.Goals as goal
 

@@ -1,7 +1,7 @@
 use Rattle.std.proofs.Common.{◌≡◌, ◌-◌, drop}
 use Rattle.ca_rule.specs.TableOrders.{picks}
-use Rattle.ca_rule.specs.TableSearch.{picked_outcome}
-use Rattle.ca_rule.specs.TableChoice.{taken_of, free_of}
+use Rattle.ca_rule.specs.inner.TableSearch.{picked_outcome}
+use Rattle.ca_rule.specs.inner.TableChoice.{taken_of, free_of}
 use Rattle.ca_rule.proofs.table.transition.Transition.+least_outcome.Given as goal
 
 -- the outcome lies with the picks that are left
