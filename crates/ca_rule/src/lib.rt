@@ -18,5 +18,6 @@ pub use hood::Hood;
 pub use laws::{alike, names_itself, one_rule, rule_or_fault, worked_examples};
 pub use rule::{Rule, resolve};
 pub use rule_laws::{named_rules, same_rules};
-pub use table::{Neighbourhood, Slot, Symmetry, TableFault, worked_cells, worked_orders};
 pub use table::{
+    Neighbourhood, Slot, Symmetry, Table, TableFault, worked_cells, worked_orders, worked_texts,
+};
