@@ -44,7 +44,7 @@ module _ (f : ℕ → ℕ) where
       ∙ ap (λ l. map (λ g. f p.0 ∷ g) (every_order n (map f p.1)) ++ l) (picked-map n fewer ps)
 
   -- the orders of changed elements are the orders, changed
-  every_order-map : (n : ℕ) (xs : List ℕ) → map (map f) (every_order n xs) ≡ every_order n (map f xs)
+  pub every_order-map : (n : ℕ) (xs : List ℕ) → map (map f) (every_order n xs) ≡ every_order n (map f xs)
   every_order-map zero xs = refl
   every_order-map (suc n) xs =
       picked-map n (every_order-map n) (picks xs) ∙ ap (flat_map (λ (p : ℕ × List ℕ). map (λ g. p.0 ∷ g) (every_order n p.1))) (sym (picks-map xs))

@@ -1,5 +1,5 @@
 -- The orders of `permute`, tried slot by slot.
-use Rattle.std.specs.Prelude.{ℕ, List, [], ◌∷◌, ◌++◌, Option, None, map}
+use Rattle.std.specs.Prelude.{ℕ, List, [], ◌∷◌, ◌++◌, ◌≡◌, ◌<◌, Option, None, map, get_or, remove}
 use Rattle.std.specs.Option.{option_or}
 use Rattle.std.specs.Borrow.{Bor}
 use Rattle.ca_rule.specs.declared.table.placement.Orders.{Orders}
@@ -18,6 +18,11 @@ abbrev pub picked_outcome : List States → List ℕ → Transition → List ℕ
 picked_outcome variables nine t taken n [] = None
 picked_outcome variables nine t taken n (p ∷ ps) =
     option_or (least_outcome variables nine t (taken ++ p.0 ∷ []) n p.1) (picked_outcome variables nine t taken n ps)
+
+-- the next slot finds no outcome at the first of the free places
+abbrev pub LeadToNone : List States → List ℕ → Transition → List ℕ → ℕ → List ℕ → ℕ → Type 0
+LeadToNone variables nine t taken n free count =
+    (k : ℕ) → k < count → least_outcome variables nine t (taken ++ get_or free k 0 ∷ []) n (remove free k) ≡ None
 
 -- the placements of orders: those that are listed, or those of every order of the ring behind the centre
 abbrev pub placements_of : Orders → List (List ℕ)

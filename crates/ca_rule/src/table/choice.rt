@@ -1,9 +1,11 @@
 //! The places that the slots of a transition take, slot by slot.
 
-ghost use Rattle.std.specs.Prelude.{◌≡◌, ◌<◌, ◌≤◌, ◌+◌, [], ◌∷◌, ◌++◌, length, get_or, remove};
+ghost use Rattle.std.specs.Prelude.{◌≡◌, ◌==◌, ◌<◌, ◌≤◌, ◌+◌, [], ◌∷◌, ◌++◌, length, take, get_or, slice_index, remove};
+ghost use Rattle.std.specs.List.{list_any};
 ghost use Rattle.ca_rule.specs.TableOrders.{ring};
 
 use crate::table::neighbourhood::Neighbourhood;
+use ca_plane::Nine;
 
 /// Places among nine cells: those that the first slots have taken, and those that are free, in the order of the ring.
 #[derive(Clone, Copy)]
@@ -53,6 +55,15 @@ impl Choice {
         self.free_count
     }
 
+    /// Whether the cell at that free place is equal to the cell at a free place before it.
+    pub(crate) fn repeats(&self, at: usize, nine: &Nine) -> bool
+        requires { at < self.now.free_count }
+        ensures { result ≡ list_any (λ p. slice_index nine.now p == slice_index nine.now (get_or (free_of self.now) at 0)) (take at (free_of self.now)) }
+    {
+        let cell = cell_at(nine, self.free[at]);
+        has_cell(&self.free[..at], cell, nine)
+    }
+
     /// The next slot takes one of the free places.
     pub(crate) fn with(self, at: usize) -> Choice
         requires { at < self.free_count }
@@ -71,4 +82,18 @@ impl Choice {
             free_count: self.free_count - 1,
         }
     }
+}
+
+/// The cell at a place among nine.
+pub(crate) fn cell_at(nine: &Nine, place: u8) -> u8
+    ensures { result ≡ slice_index nine.now place }
+{
+    nine.get(usize::from(place)).copied().unwrap_or(0)
+}
+
+/// Whether the cell is at one of the places.
+fn has_cell(places: &[u8], cell: u8, nine: &Nine) -> bool
+    ensures { result ≡ list_any (λ p. slice_index nine.now p == cell) places.now }
+{
+    places.iter().any(|place| cell_at(nine, *place) == cell)
 }

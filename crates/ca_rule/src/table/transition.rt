@@ -4,7 +4,7 @@ ghost use Rattle.std.specs.Prelude.{◌≡◌, ◌==◌, ◌||◌, not, map, zip
 ghost use Rattle.std.specs.List.{list_all};
 ghost use Rattle.ca_rule.specs.TableNext.{Taken, is_variable, admits, cell_of, fits, given};
 
-use crate::table::choice::Choice;
+use crate::table::choice::{Choice, cell_at};
 use crate::table::placement::Orders;
 use crate::table::slot::Slot;
 use crate::table::state_set::StateSet;
@@ -62,8 +62,8 @@ impl Transition {
     }
 
     /// The state that the transition gives in the least order of the free places, behind those that are taken, in which
-    /// it fits. The next slot takes one free place after another, from the least on; where the slots don't fit at the
-    /// places taken so far, no order of the others is tried.
+    /// it fits. The next slot takes one free place after another, from the least on, but of equal cells the first alone;
+    /// where the slots don't fit at the places taken so far, no order of the others is tried.
     fn least_outcome(&self, variables: &[StateSet], choice: Choice, nine: &Nine) -> Option<u8>
         ensures { result ≡ least_outcome variables.now nine.now self.now (taken_of choice) (length (free_of choice)) (free_of choice) }
     {
@@ -75,19 +75,15 @@ impl Transition {
             return Some(given(self.result, &self.inputs, choice.taken(), nine));
         }
         'places: for at in 0..count {
+            if choice.repeats(at, nine) {
+                continue;
+            }
             if let Some(state) = self.least_outcome(variables, choice.with(at), nine) {
                 return Some(state);
             }
         }
         None
     }
-}
-
-/// The cell at a place among nine.
-fn cell_at(nine: &Nine, place: u8) -> u8
-    ensures { result ≡ slice_index nine.now place }
-{
-    nine.get(usize::from(place)).copied().unwrap_or(0)
 }
 
 /// Whether the slot is that state, or a variable that has it.
