@@ -25,6 +25,16 @@ any-found p (suc k) (x ∷ xs) e =
       | inr h ↦ let found = any-found p k xs (rw h at e) in (suc found.0, omega (arith, found.1), omega (arith, found.2), found.3)
     ]
 
+-- the cells at places that pass a test
+pub counted : (nine : List ℕ) (p : ℕ → Bool) (ys : List ℕ) → count_by p (map (slice_index nine) ys) ≡ count_by (λ y. p (slice_index nine y)) ys
+counted nine p [] = refl
+counted nine p (y ∷ ys) =
+    count-cons p (slice_index nine y) (map (slice_index nine) ys) ∙ ap (λ n. cond (p (slice_index nine y)) 1 0 + n) (counted nine p ys)
+    ∙ sym (sum_by-cons (λ z. cond (p (slice_index nine z)) 1 0) y ys)
+
+mapped : (nine xs ys : List ℕ) → Alike xs ys → Alike (map (slice_index nine) xs) (map (slice_index nine) ys)
+mapped nine xs ys h = record { counts = λ p. counted nine p xs ∙ h.counts (λ y. p (slice_index nine y)) ∙ sym (counted nine p ys) }
+
 module _ (variables : List States) (nine : List ℕ) (t : Transition) where
   -- the slots don't fit where the first take their cells at these places, and the others take these cells
   abbrev Unfit : List ℕ → List ℕ → Type 0
@@ -64,19 +74,10 @@ module _ (variables : List States) (nine : List ℕ) (t : Transition) where
       → Alike (map (slice_index nine) (remove xs i)) (map (slice_index nine) (remove xs j))
   same_without xs i j hi hj e =
       let f = slice_index nine in
-      let first = mapped (get_or xs i 0 ∷ remove xs i) xs (Alike-sym xs _ (remove-alike xs i hi)) in
-      let second = mapped xs (get_or xs j 0 ∷ remove xs j) (remove-alike xs j hj) in
+      let first = mapped nine (get_or xs i 0 ∷ remove xs i) xs (Alike-sym xs _ (remove-alike xs i hi)) in
+      let second = mapped nine xs (get_or xs j 0 ∷ remove xs j) (remove-alike xs j hj) in
       Alike-uncons (f (get_or xs i 0)) (map f (remove xs i)) (map f (remove xs j))
       (subst (λ c. Alike (map f (get_or xs i 0 ∷ remove xs i)) (c ∷ map f (remove xs j))) (sym e) (Alike-trans (map f (get_or xs i 0 ∷ remove xs i)) (map f xs) (map f (get_or xs j 0 ∷ remove xs j)) first second))
-    where
-      counted : (p : ℕ → Bool) (ys : List ℕ) → count_by p (map (slice_index nine) ys) ≡ count_by (λ y. p (slice_index nine y)) ys
-      counted p [] = refl
-      counted p (y ∷ ys) =
-          count-cons p (slice_index nine y) (map (slice_index nine) ys) ∙ ap (λ n. cond (p (slice_index nine y)) 1 0 + n) (counted p ys)
-          ∙ sym (sum_by-cons (λ z. cond (p (slice_index nine z)) 1 0) y ys)
-
-      mapped : (xs ys : List ℕ) → Alike xs ys → Alike (map (slice_index nine) xs) (map (slice_index nine) ys)
-      mapped xs ys h = record { counts = λ p. counted p xs ∙ h.counts (λ y. p (slice_index nine y)) ∙ sym (counted p ys) }
 
   -- a place whose cell was tried before leads to none
   pub repeated : (taken free : List ℕ) (m at : ℕ) → at < length free → length free ≡ suc m

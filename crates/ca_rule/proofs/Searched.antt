@@ -45,7 +45,7 @@ module _ (variables : List States) (nine : List ℕ) (t : Transition) where
 list_all-front : {X : Type 0} (p : X → Bool) (xs ys : List X) → list_all p xs ≡ false → list_all p (xs ++ ys) ≡ false
 list_all-front p xs ys e = list_all-append p xs ys ∙ rw e refl
 
-take_one_cell-front : (xs ys : List Taken) (s : Slot) (c : ℕ) → take_one_cell xs s c ≡ false → take_one_cell (xs ++ ys) s c ≡ false
+pub take_one_cell-front : (xs ys : List Taken) (s : Slot) (c : ℕ) → take_one_cell xs s c ≡ false → take_one_cell (xs ++ ys) s c ≡ false
 take_one_cell-front xs ys (Number n) c e = cc
 take_one_cell-front xs ys (Variable v) c e = list_all-front (λ (t : Taken). not (is_variable v t.0) || (t.1 == c)) xs ys e
 
@@ -72,7 +72,7 @@ fits-front variables xs ys e = each-front variables xs ys xs e
 map_at : (nine xs ys : List ℕ) → map (slice_index nine) (xs ++ ys) ≡ map (slice_index nine) xs ++ map (slice_index nine) ys
 map_at nine xs ys = map-append (slice_index nine) xs ys
 
-zip-append : (slots : List Slot) (xs ys : List ℕ) → zip slots (xs ++ ys) ≡ zip slots xs ++ zip (drop (length xs) slots) ys
+pub zip-append : (slots : List Slot) (xs ys : List ℕ) → zip slots (xs ++ ys) ≡ zip slots xs ++ zip (drop (length xs) slots) ys
 zip-append [] [] ys = refl
 zip-append [] (x ∷ xs) ys = refl
 zip-append (s ∷ ss) [] ys = refl

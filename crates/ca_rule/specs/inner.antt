@@ -3,5 +3,6 @@ pub mod TextParts
 pub mod TablePlaces
 pub mod TableSearch
 pub mod TableChoice
+pub mod TableCrowd
 pub mod TableStates
 pub mod TableStored

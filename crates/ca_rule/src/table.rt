@@ -5,6 +5,7 @@ ghost use Rattle.ca_rule.specs.inner.TableSearch.{placements_of};
 ghost use Rattle.ca_rule.specs.inner.TablePlaces.{next_at};
 
 pub(crate) mod choice;
+mod crowd;
 pub(crate) mod fault;
 mod laws;
 mod lines;

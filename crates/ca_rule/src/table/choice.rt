@@ -47,6 +47,13 @@ impl Choice {
         &self.taken[..self.taken_count]
     }
 
+    /// The places that are free, in the order of the ring.
+    pub(crate) fn free(&self) -> &[u8]
+        ensures { result.now ≡ free_of self.now }
+    {
+        &self.free[..self.free_count]
+    }
+
     /// How many places are free.
     pub(crate) fn free_count(&self) -> usize
         ensures count { result ≡ self.now.free_count }

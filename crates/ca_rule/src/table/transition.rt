@@ -5,6 +5,7 @@ ghost use Rattle.std.specs.List.{list_all};
 ghost use Rattle.ca_rule.specs.TableNext.{Taken, is_variable, admits, cell_of, fits, given};
 
 use crate::table::choice::{Choice, cell_at};
+use crate::table::crowd::has_crowd;
 use crate::table::placement::Orders;
 use crate::table::slot::Slot;
 use crate::table::state_set::StateSet;
@@ -27,8 +28,9 @@ impl Model for Transition {
 }
 
 impl Transition {
-    ghost use Rattle.std.specs.Prelude.{◌≡◌, map, length};
-    ghost use Rattle.ca_rule.specs.inner.TablePlaces.{outcome_at};
+    ghost use Rattle.std.specs.Prelude.{◌≡◌, map, length, true, None};
+    ghost use Rattle.ca_rule.specs.TableNext.{fits};
+    ghost use Rattle.ca_rule.specs.inner.TablePlaces.{taken_at, outcome_at};
     ghost use Rattle.ca_rule.specs.inner.TableSearch.{least_outcome, placements_of};
     ghost use Rattle.ca_rule.specs.inner.TableChoice.{taken_of, free_of};
 
@@ -40,7 +42,12 @@ impl Transition {
         match orders {
             Orders::Listed(placements) => self.listed_outcome(variables, placements, nine),
             Orders::Every(neighbourhood) => {
-                self.least_outcome(variables, Choice::of_ring(neighbourhood), nine)
+                let choice = Choice::of_ring(neighbourhood);
+                if self.fits_at(variables, &choice, nine) {
+                    self.least_outcome(variables, choice, nine)
+                } else {
+                    None
+                }
             }
         }
     }
@@ -63,31 +70,54 @@ impl Transition {
 
     /// The state that the transition gives in the least order of the free places, behind those that are taken, in which
     /// it fits. The next slot takes one free place after another, from the least on, but of equal cells the first alone;
-    /// where the slots don't fit at the places taken so far, no order of the others is tried.
+    /// where the slots don't fit at the places taken so far, no order of the others is tried. Once a place has led to
+    /// none, the others are tried only where the slots left aren't too many for the cells that they may take.
     fn least_outcome(&self, variables: &[StateSet], choice: Choice, nine: &Nine) -> Option<u8>
+        requires fit { fits variables.now (taken_at nine.now self.now (taken_of choice)) ≡ true }
         ensures { result ≡ least_outcome variables.now nine.now self.now (taken_of choice) (length (free_of choice)) (free_of choice) }
     {
-        if !fits(variables, &self.inputs, choice.taken(), nine) {
-            return None;
-        }
         let count = choice.free_count();
         if count == 0 {
             return Some(given(self.result, &self.inputs, choice.taken(), nine));
         }
+        let mut is_first = true;
         'places: for at in 0..count {
             if choice.repeats(at, nine) {
                 continue;
             }
-            if let Some(state) = self.least_outcome(variables, choice.with(at), nine) {
+            let next = choice.with(at);
+            if !self.fits_at(variables, &next, nine) {
+                continue;
+            }
+            if let Some(state) = self.least_outcome(variables, next, nine) {
                 return Some(state);
             }
+            if is_first && self.has_crowd(variables, &choice, nine) {
+                return None;
+            }
+            is_first = false;
         }
         None
+    }
+
+    /// Whether the first slots fit at the places that are taken.
+    fn fits_at(&self, variables: &[StateSet], choice: &Choice, nine: &Nine) -> bool
+        ensures { result ≡ fits variables.now (taken_at nine.now self.now (taken_of choice.now)) }
+    {
+        fits(variables, &self.inputs, choice.taken(), nine)
+    }
+
+    /// Whether some of the slots left are more than the free cells that one of them may take, as far as is found.
+    fn has_crowd(&self, variables: &[StateSet], choice: &Choice, nine: &Nine) -> bool
+        ensures { result ≡ true →
+            least_outcome variables.now nine.now self.now (taken_of choice.now) (length (free_of choice.now)) (free_of choice.now) ≡ None }
+    {
+        has_crowd(variables, &self.inputs, choice.taken(), nine, choice.free())
     }
 }
 
 /// Whether the slot is that state, or a variable that has it.
-fn admits(variables: &[StateSet], slot: Slot, cell: u8) -> bool
+pub(crate) fn admits(variables: &[StateSet], slot: Slot, cell: u8) -> bool
     ensures { result ≡ admits variables.now slot cell }
 {
     match slot {
@@ -110,7 +140,13 @@ fn is_variable(number: usize, slot: Slot) -> bool
 }
 
 /// Whether each slot of the variable takes this cell, where each takes that at its place.
-fn takes_one_cell(number: usize, cell: u8, slots: &[Slot], places: &[u8], nine: &Nine) -> bool
+pub(crate) fn takes_one_cell(
+    number: usize,
+    cell: u8,
+    slots: &[Slot],
+    places: &[u8],
+    nine: &Nine,
+) -> bool
     ensures { result ≡ list_all (λ (t : Taken). not (is_variable number t.0) || (t.1 == cell)) (zip slots.now (map (slice_index nine.now) places.now)) }
 {
     let mut slots_left = slots;

@@ -1,23 +1,12 @@
-use Rattle.std.proofs.Common.{◌≡◌, ◌+◌, ◌-◌, ◌<◌, ◌≤◌, suc, length, drop, map, zip, slice_index, false, ap, sym, ◌∙◌, arith}
+use Rattle.std.proofs.Common.{◌≡◌, ◌+◌, ◌-◌, ◌<◌, ◌≤◌, suc, length, drop, ap, sym, ◌∙◌, arith}
 use Rattle.std.specs.Option.{option_or}
 use Rattle.std.proofs.lemmas.Bool.Decides.{nat_tests}
 use Rattle.ca_rule.specs.TableOrders.{picks, every_order}
-use Rattle.ca_rule.specs.TableNext.{fits}
-use Rattle.ca_rule.specs.inner.TablePlaces.{taken_at}
 use Rattle.ca_rule.specs.inner.TableSearch.{picked_outcome}
 use Rattle.ca_rule.specs.inner.TableChoice.{taken_of, free_of}
 use Rattle.ca_rule.proofs.Searched.{least_outcome-unfit, all-picks, one-pick, no-pick}
 use Rattle.ca_rule.proofs.Repeated.{repeated, led_to_none, none_here}
 use Rattle.ca_rule.proofs.table.transition.Transition.+least_outcome.Goals as goal
-
-pub returns-then-not-fits : goal.returns-then-not-fits
-returns-then-not-fits t c =
-    let same : c.deref.result.now ≡ c.args.self.now.inputs = c.deref.ensures.value ∙ ap (λ l. l.inputs) c.self.view_is in
-    let whole : fits c.args.variables.now (zip c.deref.result.now (map (slice_index c.args.nine.now) c.taken.result.now)) ≡ fits c.args.variables.now (taken_at c.args.nine.now c.args.self.now (taken_of c.args.choice))
-    = ap (λ s. fits c.args.variables.now (zip s (map (slice_index c.args.nine.now) c.taken.result.now))) same
-    ∙ ap (λ p. fits c.args.variables.now (zip c.args.self.now.inputs (map (slice_index c.args.nine.now) p))) c.taken.ensures in
-    let none : fits c.args.variables.now (taken_at c.args.nine.now c.args.self.now (taken_of c.args.choice)) ≡ false = sym whole ∙ sym c.if-not-fits.ensures in
-    sym (least_outcome-unfit c.args.variables.now c.args.nine.now c.args.self.now (taken_of c.args.choice) none (every_order (length (free_of c.args.choice)) (free_of c.args.choice)))
 
 pub returns-in-Some : goal.returns-in-Some
 returns-in-Some t c =
@@ -25,7 +14,7 @@ returns-in-Some t c =
     let here : c.places.at < length (free_of c.args.choice) = first_of (omega arith, grind (arith, nat_tests)) in
     let start = all-picks c.args.variables.now c.args.nine.now c.args.self.now (taken_of c.args.choice) (free_of c.args.choice) (c.free_count-count.result - 1) count in
     let step = one-pick c.args.variables.now c.args.nine.now c.args.self.now (taken_of c.args.choice) (free_of c.args.choice) (c.free_count-count.result - 1) count c.places.at
-    (taken_of c.with.result) (free_of c.with.result) here c.with.ensures.taken c.with.ensures.free in
+    (taken_of c.with-next.result) (free_of c.with-next.result) here c.with-next.ensures.taken c.with-next.ensures.free in
     sym (start ∙ c.places.invariant.left ∙ step
     ∙ ap (λ o. option_or o (picked_outcome c.args.variables.now c.args.nine.now c.args.self.now (taken_of c.args.choice) (c.free_count-count.result - 1) (drop (c.places.at + 1) (picks (free_of c.args.choice))))) (sym c.in-Some.ensures))
 
@@ -34,7 +23,19 @@ places-preserved t c =
     let count : length (free_of c.args.choice) ≡ suc (c.free_count-count.result - 1) = first_of (omega arith, grind (arith, nat_tests)) in
     let here : c.places.at < length (free_of c.args.choice) = first_of (omega arith, grind (arith, nat_tests)) in
     let none = led_to_none c.args.variables.now c.args.nine.now c.args.self.now (taken_of c.args.choice) (free_of c.args.choice) (c.free_count-count.result - 1) c.places.at
-    (taken_of c.with.result) (free_of c.with.result) count here c.with.ensures.taken c.with.ensures.free (sym c.in_default.ensures) in
+    (taken_of c.with-next.result) (free_of c.with-next.result) count here c.with-next.ensures.taken c.with-next.ensures.free (sym c.in_default.ensures) in
+    let more = none_here c.args.variables.now c.args.nine.now c.args.self.now (taken_of c.args.choice) (free_of c.args.choice) (c.free_count-count.result - 1) c.places.at count here
+    c.places.invariant.left c.places.invariant.tried none in
+    record { left = more.0; tried = more.1 }
+
+pub places-preserved-then-not-fits_at : goal.places-preserved-then-not-fits_at
+places-preserved-then-not-fits_at t c =
+    let count : length (free_of c.args.choice) ≡ suc (c.free_count-count.result - 1) = first_of (omega arith, grind (arith, nat_tests)) in
+    let here : c.places.at < length (free_of c.args.choice) = first_of (omega arith, grind (arith, nat_tests)) in
+    let unfit = least_outcome-unfit c.args.variables.now c.args.nine.now c.args.self.now (taken_of c.with-next.result) (sym c.if-not-fits_at.ensures)
+    (every_order (length (free_of c.with-next.result)) (free_of c.with-next.result)) in
+    let none = led_to_none c.args.variables.now c.args.nine.now c.args.self.now (taken_of c.args.choice) (free_of c.args.choice) (c.free_count-count.result - 1) c.places.at
+    (taken_of c.with-next.result) (free_of c.with-next.result) count here c.with-next.ensures.taken c.with-next.ensures.free unfit in
     let more = none_here c.args.variables.now c.args.nine.now c.args.self.now (taken_of c.args.choice) (free_of c.args.choice) (c.free_count-count.result - 1) c.places.at count here
     c.places.invariant.left c.places.invariant.tried none in
     record { left = more.0; tried = more.1 }
