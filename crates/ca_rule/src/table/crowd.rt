@@ -1,14 +1,121 @@
 //! Slots that are too many for the cells that they may take.
 
-ghost use Rattle.std.specs.Prelude.{◌≡◌, ◌≤◌, true, length, map, zip, slice_index};
+ghost use Rattle.std.specs.Prelude.{◌≡◌, ◌==◌, ◌≤◌, true, length, map, zip, slice_index};
 ghost use Rattle.std.specs.List.{count_by};
-ghost use Rattle.ca_rule.specs.inner.TableCrowd.{may_take, one_takes, slots_in, are_crowded, HasCrowd};
+ghost use Rattle.ca_rule.specs.TableNext.{is_variable};
+ghost use Rattle.ca_rule.specs.inner.TableCrowd.{slots_in, HasCrowd};
 
 use crate::table::choice::cell_at;
 use crate::table::slot::Slot;
 use crate::table::state_set::StateSet;
-use crate::table::transition::{admits, takes_one_cell};
+use crate::table::transition::{admits, is_variable, takes_one_cell};
 use ca_plane::Nine;
+
+/// A transition whose first slots have taken places.
+#[derive(Clone, Copy)]
+struct Begun<'t> {
+    variables: &'t [StateSet],
+    nine: &'t Nine,
+    /// All slots, and the places of the first of them.
+    slots: &'t [Slot],
+    places: &'t [u8],
+    /// The slots behind those, and the places that are free.
+    left: &'t [Slot],
+    free: &'t [u8],
+}
+
+impl Begun<'_> {
+    ghost use Rattle.std.specs.Prelude.{◌≡◌, ◌≤◌, length, map, zip, slice_index};
+    ghost use Rattle.std.specs.List.{count_by};
+    ghost use Rattle.ca_rule.specs.inner.TableCrowd.{has_room, may_take, one_takes, are_crowded};
+
+    /// Whether so many of the free cells are like the cell as slots left are like the slot, where that is a variable.
+    fn has_room(&self, slot: Slot, cell: u8) -> bool
+        ensures { result ≡ has_room self.now.nine.now self.now.left.now self.now.free.now slot cell }
+    {
+        match slot {
+            Slot::Number(_) => true,
+            Slot::Variable(number) => {
+                like_cells(self.free, cell, self.nine) >= like_slots(self.left, number)
+            }
+        }
+    }
+
+    /// Whether the slot may take the cell.
+    fn may_take(&self, slot: Slot, cell: u8) -> bool
+        ensures { let taken = zip self.now.slots.now (map (slice_index self.now.nine.now) self.now.places.now) in
+            result ≡ may_take self.now.variables.now self.now.nine.now taken self.now.left.now self.now.free.now slot cell }
+    {
+        if !admits(self.variables, slot, cell) {
+            return false;
+        }
+        if let Slot::Variable(number) = slot {
+            if !takes_one_cell(number, cell, self.slots, self.places, self.nine) {
+                return false;
+            }
+        }
+        self.has_room(slot, cell)
+    }
+
+    /// Whether one of the slots in the set may take the cell. The set's least bit stands for the first slot.
+    fn one_takes(&self, slots: &[Slot], set: u8, cell: u8) -> bool
+        ensures { let taken = zip self.now.slots.now (map (slice_index self.now.nine.now) self.now.places.now) in
+            result ≡ one_takes self.now.variables.now self.now.nine.now taken self.now.left.now self.now.free.now slots.now set cell }
+    {
+        let Some((slot, later)) = slots.split_first() else {
+            return false;
+        };
+        if set % 2 == 1 && self.may_take(*slot, cell) {
+            return true;
+        }
+        self.one_takes(later, set / 2, cell)
+    }
+
+    /// How many of the cells at the places one of the slots left in the set may take.
+    fn cells_taken(&self, set: u8, places: &[u8]) -> usize
+        ensures count { let taken = zip self.now.slots.now (map (slice_index self.now.nine.now) self.now.places.now) in
+            result ≡ count_by (λ p. one_takes self.now.variables.now self.now.nine.now taken self.now.left.now self.now.free.now self.now.left.now set (slice_index self.now.nine.now p)) places.now }
+        ensures within { result ≤ length places.now }
+    {
+        let Some((place, later)) = places.split_first() else {
+            return 0;
+        };
+        let others = self.cells_taken(set, later);
+        let cell = cell_at(self.nine, *place);
+        if self.one_takes(self.left, set, cell) {
+            others + 1
+        } else {
+            others
+        }
+    }
+
+    /// Whether the slots left that are in the set are more than the free cells that one of them may take.
+    fn are_crowded(&self, set: u8) -> bool
+        ensures { let taken = zip self.now.slots.now (map (slice_index self.now.nine.now) self.now.places.now) in
+            result ≡ are_crowded self.now.variables.now self.now.nine.now taken self.now.left.now self.now.free.now set }
+    {
+        self.cells_taken(set, self.free) < slots_in(self.left, set)
+    }
+
+    /// A set of the slots left to try: where slots are too many for their cells, these are.
+    fn crowd(&self) -> Option<u8> {
+        let mut takable = [u8::MAX; 8];
+        'slots: for (cells, slot) in takable.iter_mut().zip(self.left.iter()) {
+            *cells = self.takable_cells(*slot, self.free);
+        }
+        smallest_crowd(&takable, self.left.len())
+    }
+
+    /// Of the cells at the places, those that the slot may take. The least bit stands for the first one.
+    fn takable_cells(&self, slot: Slot, places: &[u8]) -> u8 {
+        let Some((place, later)) = places.split_first() else {
+            return 0;
+        };
+        let first = self.may_take(slot, cell_at(self.nine, *place));
+        let others = self.takable_cells(slot, later);
+        others.wrapping_mul(2) | u8::from(first)
+    }
+}
 
 /// Whether some of the slots behind the places are more than the free cells that one of them may take, as far as is found.
 pub(crate) fn has_crowd(
@@ -27,73 +134,46 @@ pub(crate) fn has_crowd(
     if free.len() < left.len() {
         return false;
     }
-    match crowd(variables, slots, places, nine, left, free) {
-        Some(set) => are_crowded(variables, slots, places, nine, left, set, free),
+    let begun = Begun {
+        variables,
+        nine,
+        slots,
+        places,
+        left,
+        free,
+    };
+    match begun.crowd() {
+        Some(set) => begun.are_crowded(set),
         None => false,
     }
 }
 
-/// Whether the slot may take the cell, beside the first slots with the cells at those places.
-fn may_take(
-    variables: &[StateSet],
-    slots: &[Slot],
-    places: &[u8],
-    nine: &Nine,
-    slot: Slot,
-    cell: u8,
-) -> bool
-    ensures { result ≡ may_take variables.now (zip slots.now (map (slice_index nine.now) places.now)) slot cell }
+/// How many of the slots are the variable.
+fn like_slots(slots: &[Slot], number: usize) -> usize
+    ensures count { result ≡ count_by (is_variable number) slots.now }
+    ensures within { result ≤ length slots.now }
 {
-    if !admits(variables, slot, cell) {
-        return false;
-    }
-    match slot {
-        Slot::Number(_) => true,
-        Slot::Variable(number) => takes_one_cell(number, cell, slots, places, nine),
-    }
-}
-
-/// Whether one of the slots left that are in the set may take the cell. The set's least bit stands for the first slot.
-fn one_takes(
-    variables: &[StateSet],
-    slots: &[Slot],
-    places: &[u8],
-    nine: &Nine,
-    left: &[Slot],
-    set: u8,
-    cell: u8,
-) -> bool
-    ensures { result ≡ one_takes variables.now (zip slots.now (map (slice_index nine.now) places.now)) left.now set cell }
-{
-    let Some((slot, later)) = left.split_first() else {
-        return false;
-    };
-    if set % 2 == 1 && may_take(variables, slots, places, nine, *slot, cell) {
-        return true;
-    }
-    one_takes(variables, slots, places, nine, later, set / 2, cell)
-}
-
-/// How many of the free cells one of the slots in the set may take.
-fn cells_taken(
-    variables: &[StateSet],
-    slots: &[Slot],
-    places: &[u8],
-    nine: &Nine,
-    left: &[Slot],
-    set: u8,
-    free: &[u8],
-) -> usize
-    ensures count { let taken = zip slots.now (map (slice_index nine.now) places.now) in
-        result ≡ count_by (λ p. one_takes variables.now taken left.now set (slice_index nine.now p)) free.now }
-    ensures within { result ≤ length free.now }
-{
-    let Some((place, later)) = free.split_first() else {
+    let Some((slot, later)) = slots.split_first() else {
         return 0;
     };
-    let others = cells_taken(variables, slots, places, nine, left, set, later);
-    let cell = cell_at(nine, *place);
-    if one_takes(variables, slots, places, nine, left, set, cell) {
+    let others = like_slots(later, number);
+    if is_variable(number, *slot) {
+        others + 1
+    } else {
+        others
+    }
+}
+
+/// How many of the places have the cell.
+fn like_cells(places: &[u8], cell: u8, nine: &Nine) -> usize
+    ensures count { result ≡ count_by (λ p. slice_index nine.now p == cell) places.now }
+    ensures within { result ≤ length places.now }
+{
+    let Some((place, later)) = places.split_first() else {
+        return 0;
+    };
+    let others = like_cells(later, cell, nine);
+    if cell_at(nine, *place) == cell {
         others + 1
     } else {
         others
@@ -110,55 +190,6 @@ fn slots_in(slots: &[Slot], set: u8) -> usize
     };
     let others = slots_in(later, set / 2);
     if set % 2 == 1 { others + 1 } else { others }
-}
-
-/// Whether the slots left that are in the set are more than the free cells that one of them may take.
-fn are_crowded(
-    variables: &[StateSet],
-    slots: &[Slot],
-    places: &[u8],
-    nine: &Nine,
-    left: &[Slot],
-    set: u8,
-    free: &[u8],
-) -> bool
-    ensures { result ≡ are_crowded variables.now nine.now (zip slots.now (map (slice_index nine.now) places.now)) left.now set free.now }
-{
-    cells_taken(variables, slots, places, nine, left, set, free) < slots_in(left, set)
-}
-
-/// A set of the slots left to try: where slots are too many for their cells, these are.
-fn crowd(
-    variables: &[StateSet],
-    slots: &[Slot],
-    places: &[u8],
-    nine: &Nine,
-    left: &[Slot],
-    free: &[u8],
-) -> Option<u8> {
-    let mut takable = [u8::MAX; 8];
-    'slots: for (cells, slot) in takable.iter_mut().zip(left.iter()) {
-        *cells = takable_cells(variables, slots, places, nine, *slot, free);
-    }
-    smallest_crowd(&takable, left.len())
-}
-
-/// The free cells that the slot may take. The least bit stands for the first one.
-fn takable_cells(
-    variables: &[StateSet],
-    slots: &[Slot],
-    places: &[u8],
-    nine: &Nine,
-    slot: Slot,
-    free: &[u8],
-) -> u8 {
-    let Some((place, later)) = free.split_first() else {
-        return 0;
-    };
-    let cell = cell_at(nine, *place);
-    let first = may_take(variables, slots, places, nine, slot, cell);
-    let others = takable_cells(variables, slots, places, nine, slot, later);
-    others.wrapping_mul(2) | u8::from(first)
 }
 
 /// The first set of slots, of so many, that are more than the cells that they may take.

@@ -130,7 +130,7 @@ pub(crate) fn admits(variables: &[StateSet], slot: Slot, cell: u8) -> bool
 }
 
 /// Whether the slot is the variable.
-fn is_variable(number: usize, slot: Slot) -> bool
+pub(crate) fn is_variable(number: usize, slot: Slot) -> bool
     ensures { result ≡ is_variable number slot }
 {
     match slot {
