@@ -1,8 +1,9 @@
 //! Rule tables: the rules of files with an `@TABLE` section.
 
-ghost use Rattle.std.specs.Prelude.{◌≡◌};
+ghost use Rattle.std.specs.Prelude.{◌≡◌, true};
+ghost use Rattle.std.specs.List.{list_all};
 ghost use Rattle.ca_rule.specs.inner.TableSearch.{placements_of};
-ghost use Rattle.ca_rule.specs.inner.TablePlaces.{next_at};
+ghost use Rattle.ca_rule.specs.inner.TablePlaces.{begins_at_centre, next_at};
 
 pub(crate) mod choice;
 mod crowd;
@@ -99,6 +100,7 @@ fn first_outcome(
     orders: Orders,
     nine: &Nine,
 ) -> u8
+    requires centred { list_all begins_at_centre (placements_of orders) ≡ true }
     ensures { result ≡ next_at variables.now (placements_of orders) nine.now transitions.now }
 {
     let mut left = transitions;

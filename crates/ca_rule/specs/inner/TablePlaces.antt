@@ -1,8 +1,9 @@
 -- Where the slots of a transition take their cells.
-use Rattle.std.specs.Prelude.{ℕ, List, [], ◌∷◌, Option, Some, None, unwrap_or, slice_index, map, zip, if◌then◌else◌}
+use Rattle.std.specs.Prelude.{ℕ, Bool, true, false, ◌==◌, List, [], ◌∷◌, Option, Some, None, unwrap_or, slice_index, map, zip, if◌then◌else◌}
 use Rattle.ca_rule.specs.declared.table.neighbourhood.Neighbourhood.{Neighbourhood}
+use Rattle.ca_rule.specs.declared.table.slot.Slot.{Slot}
 use Rattle.ca_rule.specs.TableOrders.{ring}
-use Rattle.ca_rule.specs.TableNext.{States, Transition, Taken, fits, given}
+use Rattle.ca_rule.specs.TableNext.{States, Transition, Taken, admits, fits, given}
 
 -- the places among nine cells of the cells that the slots take under an order, the centre's first
 abbrev pub places : Neighbourhood → List ℕ → List ℕ
@@ -22,3 +23,16 @@ outcome_at variables nine t (p ∷ ps) =
 abbrev pub next_at : List States → List (List ℕ) → List ℕ → List Transition → ℕ
 next_at variables ps nine [] = slice_index nine 4
 next_at variables ps nine (t ∷ ts) = unwrap_or (outcome_at variables nine t ps) (next_at variables ps nine ts)
+
+-- the first of these places is the centre's
+abbrev pub begins_at_centre : List ℕ → Bool
+begins_at_centre [] = false
+begins_at_centre (p ∷ ps) = p == 4
+
+-- the first slot admits the centre
+abbrev pub slots_admit : List States → ℕ → List Slot → Bool
+slots_admit variables cell [] = true
+slots_admit variables cell (s ∷ ss) = admits variables s cell
+
+abbrev pub admits_centre : List States → List ℕ → Transition → Bool
+admits_centre variables nine t = slots_admit variables (slice_index nine 4) t.inputs

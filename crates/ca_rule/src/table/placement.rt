@@ -17,15 +17,17 @@ pub(crate) enum Orders {
 }
 
 impl Orders {
-    ghost use Rattle.std.specs.Prelude.{◌≡◌, map};
+    ghost use Rattle.std.specs.Prelude.{◌≡◌, true, map};
+    ghost use Rattle.std.specs.List.{list_all};
     ghost use Rattle.ca_rule.specs.TableOrders.{orders};
-    ghost use Rattle.ca_rule.specs.inner.TablePlaces.{places};
+    ghost use Rattle.ca_rule.specs.inner.TablePlaces.{begins_at_centre, places};
     ghost use Rattle.ca_rule.specs.inner.TableSearch.{placements_of};
 
     /// The orders of a symmetry of the neighbourhood.
     #[tactic(auto, using(crate::proofs::Permuted::every_order_placed))]
     pub(crate) fn of(neighbourhood: Neighbourhood, symmetry: Symmetry) -> Orders
-        ensures { placements_of result ≡ map (places neighbourhood) (orders neighbourhood symmetry) }
+        ensures placements { placements_of result ≡ map (places neighbourhood) (orders neighbourhood symmetry) }
+        ensures centred { list_all begins_at_centre (placements_of result) ≡ true }
     {
         match symmetry {
             Symmetry::Permute => Orders::Every(neighbourhood),

@@ -30,15 +30,20 @@ impl Model for Transition {
 impl Transition {
     ghost use Rattle.std.specs.Prelude.{◌≡◌, map, length, true, None};
     ghost use Rattle.ca_rule.specs.TableNext.{fits};
-    ghost use Rattle.ca_rule.specs.inner.TablePlaces.{taken_at, outcome_at};
+    ghost use Rattle.std.specs.List.{list_all};
+    ghost use Rattle.ca_rule.specs.inner.TablePlaces.{begins_at_centre, admits_centre, taken_at, outcome_at};
     ghost use Rattle.ca_rule.specs.inner.TableSearch.{least_outcome, placements_of};
     ghost use Rattle.ca_rule.specs.inner.TableChoice.{taken_of, free_of};
 
     /// The state that the transition gives in the first of the orders in which it fits, if it fits in one.
     #[tactic(auto, using(crate::proofs::Permuted::outcome_of_ring))]
     pub(crate) fn outcome(&self, variables: &[StateSet], orders: Orders, nine: &Nine) -> Option<u8>
+        requires centred { list_all begins_at_centre (placements_of orders) ≡ true }
         ensures { result ≡ outcome_at variables.now nine.now self.now (placements_of orders) }
     {
+        if !self.admits_centre(variables, nine) {
+            return None;
+        }
         match orders {
             Orders::Listed(placements) => self.listed_outcome(variables, placements, nine),
             Orders::Every(neighbourhood) => {
@@ -49,6 +54,16 @@ impl Transition {
                     None
                 }
             }
+        }
+    }
+
+    /// Whether the first slot admits the centre. Where it doesn't, the transition fits in no order.
+    fn admits_centre(&self, variables: &[StateSet], nine: &Nine) -> bool
+        ensures { result ≡ admits_centre variables.now nine.now self.now }
+    {
+        match self.inputs.first() {
+            Some(slot) => admits(variables, *slot, nine[4]),
+            None => true,
         }
     }
 

@@ -12,7 +12,7 @@ returns-then-first_outcome-ne0-clause-wakes c =
     let found : c.first_outcome.result ≡ next_at c.args.variables.items (placements_of c.of-orders.result) (replicate 9 0) c.args.transitions.items
     = cc (c.first_outcome.ensures, c.deref.ensures.value, c.deref-2.ensures.value) in
     let same = stored-next c.args.name.items c.args.states c.args.neighbourhood c.args.symmetry c.args.variables.items c.args.transitions.items
-    (replicate 9 0) (placements_of c.of-orders.result) c.of-orders.ensures in
+    (replicate 9 0) (placements_of c.of-orders.result) c.of-orders.ensures.placements in
     λ quiet. let zero : c.first_outcome.result ≡ 0 = found ∙ same ∙ quiet in grind (arith, nat_tests)
 
 pub returns-clause-quiet : goal.returns-clause-quiet
@@ -20,7 +20,7 @@ returns-clause-quiet c =
     let found : c.first_outcome.result ≡ next_at c.args.variables.items (placements_of c.of-orders.result) (replicate 9 0) c.args.transitions.items
     = cc (c.first_outcome.ensures, c.deref.ensures.value, c.deref-2.ensures.value) in
     let same = stored-next c.args.name.items c.args.states c.args.neighbourhood c.args.symmetry c.args.variables.items c.args.transitions.items
-    (replicate 9 0) (placements_of c.of-orders.result) c.of-orders.ensures in
+    (replicate 9 0) (placements_of c.of-orders.result) c.of-orders.ensures.placements in
     let zero : c.first_outcome.result ≡ 0 = grind (arith, nat_tests) in
     sym same ∙ sym found ∙ zero
 

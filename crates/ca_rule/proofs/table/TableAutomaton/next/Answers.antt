@@ -10,5 +10,5 @@ returns c =
     let found : c.first_outcome.result ≡ next_at c.self.inside.variables.items (placements_of c.of-orders.result) c.args.nine.now c.self.inside.transitions.items
     = cc (c.first_outcome.ensures, c.deref.ensures.value, c.deref-2.ensures.value) in
     let same = stored-next c.self.inside.name.items c.self.inside.states c.self.inside.neighbourhood c.self.inside.symmetry c.self.inside.variables.items c.self.inside.transitions.items
-    c.args.nine.now (placements_of c.of-orders.result) c.of-orders.ensures in
+    c.args.nine.now (placements_of c.of-orders.result) c.of-orders.ensures.placements in
     subst (λ t. c.first_outcome.result ≡ table_next t c.args.nine.now) c.self.view_is (found ∙ same)
