@@ -2,7 +2,7 @@
 
 ghost use Rattle.std.specs.Prelude.{◌≡◌, ◌==◌, ◌||◌, not, map, zip, slice_index};
 ghost use Rattle.std.specs.List.{list_all};
-ghost use Rattle.ca_rule.specs.TableNext.{Taken, is_variable, admits, cell_of, fits, given};
+ghost use Rattle.ca_rule.specs.TableNext.{Taken, is_variable, admits, take_one_cell, cell_of, fits, given};
 
 use crate::table::choice::{Choice, cell_at};
 use crate::table::crowd::has_crowd;
@@ -199,8 +199,16 @@ fn cell_of(number: usize, slots: &[Slot], places: &[u8], nine: &Nine) -> u8
 }
 
 /// Whether each slot admits the cell at its place, and all slots of one variable take one cell.
+#[tactic(auto, using(crate::proofs::Halved::fits_halved))]
 fn fits(variables: &[StateSet], slots: &[Slot], places: &[u8], nine: &Nine) -> bool
     ensures { result ≡ fits variables.now (zip slots.now (map (slice_index nine.now) places.now)) }
+{
+    each_admits(variables, slots, places, nine) && each_takes_one_cell(slots, places, nine)
+}
+
+/// Whether each slot admits the cell at its place.
+fn each_admits(variables: &[StateSet], slots: &[Slot], places: &[u8], nine: &Nine) -> bool
+    ensures { result ≡ list_all (λ (t : Taken). admits variables.now t.0 t.1) (zip slots.now (map (slice_index nine.now) places.now)) }
 {
     let mut slots_left = slots;
     let mut places_left = places;
@@ -208,11 +216,28 @@ fn fits(variables: &[StateSet], slots: &[Slot], places: &[u8], nine: &Nine) -> b
         let Some((place, places_later)) = places_left.split_first() else {
             return true;
         };
-        let cell = cell_at(nine, *place);
-        if !admits(variables, *slot, cell) {
+        if !admits(variables, *slot, cell_at(nine, *place)) {
             return false;
         }
+        slots_left = slots_later;
+        places_left = places_later;
+    }
+    true
+}
+
+/// Whether all slots of one variable take one cell.
+fn each_takes_one_cell(slots: &[Slot], places: &[u8], nine: &Nine) -> bool
+    ensures { let all = zip slots.now (map (slice_index nine.now) places.now) in
+        result ≡ list_all (λ (t : Taken). take_one_cell all t.0 t.1) all }
+{
+    let mut slots_left = slots;
+    let mut places_left = places;
+    'slots: while let Some((slot, slots_later)) = slots_left.split_first() {
+        let Some((place, places_later)) = places_left.split_first() else {
+            return true;
+        };
         if let Slot::Variable(number) = *slot {
+            let cell = cell_at(nine, *place);
             if !takes_one_cell(number, cell, slots, places, nine) {
                 return false;
             }
