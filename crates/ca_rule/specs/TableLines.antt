@@ -4,21 +4,12 @@ use Rattle.std.specs.Prelude.{◌≡◌, ℕ, List, [], ◌∷◌, ◌++◌, len
 use Rattle.std.specs.List.{list_all, list_any, enumerate_from}
 use Rattle.std.specs.Option.{option_or}
 use Rattle.std.specs.Str.{bytes_eq}
-use Rattle.ca_plane.specs.Bytes.{is_blank, is_digit, Every, front, rest, with_front, lines_of, words_of, value}
+use Rattle.ca_plane.specs.Bytes.{is_blank, is_digit, Every, front, rest, trimmed, with_front, lines_of, words_of, value}
 use Rattle.ca_rule.specs.declared.table.neighbourhood.Neighbourhood.{Neighbourhood}
 use Rattle.ca_rule.specs.declared.table.neighbourhood.Neighbourhood.TheVariants.{VonNeumann, Moore, Hexagonal, OneDimensional}
 use Rattle.ca_rule.specs.declared.table.neighbourhood.Symmetry.{Symmetry}
 use Rattle.ca_rule.specs.declared.table.neighbourhood.Symmetry.TheVariants.{Identity, Rotate4, Rotate4Reflect, ReflectHorizontal, Rotate8, Rotate8Reflect, Rotate2, Rotate3, Rotate6, Rotate6Reflect, Reflect, Permute}
 use Rattle.ca_rule.specs.TableOrders.{symmetries_of}
-
--- without the blanks at the end
-abbrev pub without_last_blanks : List ℕ → List ℕ
-without_last_blanks [] = []
-without_last_blanks (b ∷ bs) = if list_all is_blank (b ∷ bs) then [] else b ∷ without_last_blanks bs
-
--- without the blanks at both ends
-abbrev pub trimmed : List ℕ → List ℕ
-trimmed bytes = without_last_blanks (rest is_blank bytes)
 
 -- what a line says: the bytes before its first `#`, without the blanks at both ends
 abbrev pub content_of : List ℕ → List ℕ

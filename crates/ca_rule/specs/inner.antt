@@ -6,3 +6,4 @@ pub mod TableChoice
 pub mod TableCrowd
 pub mod TableStates
 pub mod TableStored
+pub mod TableReading

@@ -2,32 +2,10 @@
 
 ghost use Rattle.std.specs.Prelude.{◌≡◌, ◌==◌, ℕ, not, None, Some, MatchOption};
 ghost use Rattle.std.specs.List.{list_all, prefix_len};
-ghost use Rattle.ca_plane.specs.Bytes.{is_digit};
-ghost use Rattle.ca_rule.specs.TableLines.{without_last_blanks, trimmed, content_of, begins_section, behind, setting, begins_variable, are_digits, is_name_byte, is_name};
+ghost use Rattle.ca_plane.specs.Bytes.{Every, is_digit, is_blank, is_line_end};
+ghost use Rattle.ca_rule.specs.TableLines.{content_of, rule_name, begins_section, begins_table, behind, setting, begins_variable, are_digits, is_name_byte, is_name};
 
-use ca_plane::bytes::{is_blank, split_blanks, strip};
-
-/// The bytes without the blanks at their end.
-#[tactic(auto, using(crate::proofs::Trimmed::ends))]
-fn without_last_blanks(bytes: &[u8]) -> &[u8]
-    ensures { result.now ≡ without_last_blanks bytes.now }
-{
-    let Some((last, before)) = bytes.split_last() else {
-        return bytes;
-    };
-    if !is_blank(*last) {
-        return bytes;
-    }
-    without_last_blanks(before)
-}
-
-/// The bytes without the blanks at both ends.
-pub(crate) fn trimmed(bytes: &[u8]) -> &[u8]
-    ensures { result.now ≡ trimmed bytes.now }
-{
-    let (_, rest) = split_blanks(bytes);
-    without_last_blanks(rest)
-}
+use ca_plane::bytes::{is_blank, next_word, split_blanks, strip, trim_blanks};
 
 /// How many bytes stand before the first `#`.
 fn comment_start(line: &[u8]) -> usize
@@ -42,7 +20,36 @@ pub(crate) fn content_of(line: &[u8]) -> &[u8]
     ensures { result.now ≡ content_of line.now }
 {
     let (said, _) = line.split_at(comment_start(line));
-    trimmed(said)
+    trim_blanks(said)
+}
+
+/// The name that the line `@RULE` gives.
+pub(crate) fn rule_name(content: &[u8]) -> Option<&[u8]>
+    requires { Every (λ b. not (is_line_end b)) content.now }
+    ensures { (n : ℕ) → MatchOption result (rule_name (n, content.now) ≡ None) (λ r. rule_name (n, content.now) ≡ Some r.now) }
+{
+    let (word, rest) = next_word(content)?;
+    let (name, _) = next_word(rest)?;
+    if word == b"@RULE".as_slice() {
+        return Some(name);
+    }
+    None
+}
+
+/// How many bytes stand before the first blank.
+fn first_word_length(content: &[u8]) -> usize
+    ensures { result ≡ prefix_len (λ b. not (is_blank b)) content.now }
+{
+    content.iter().take_while(|byte| !is_blank(**byte)).count()
+}
+
+/// Whether the line begins a table.
+#[tactic(auto, using(ca_plane::proofs::Lengths::fronts))]
+pub(crate) fn begins_table(content: &[u8]) -> bool
+    ensures { (n : ℕ) → result ≡ begins_table (n, content.now) }
+{
+    let (word, _) = content.split_at(first_word_length(content));
+    word == b"@TABLE".as_slice()
 }
 
 /// What stands behind the text with which the bytes begin.

@@ -1,0 +1,43 @@
+-- How a rule file is read, a line at a time.
+use Rattle.std.specs.Prelude.{◌≡◌, ℕ, ◌+◌, List, ◌∷◌, ◌++◌, map, filter, Bool, true, false, Option, Some}
+use Rattle.std.specs.List.{list_any, enumerate_from}
+use Rattle.ca_plane.specs.Bytes.{lines_of}
+use Rattle.ca_rule.specs.declared.table.said_lines.SaidLine.{SaidLine}
+use Rattle.ca_rule.specs.declared.table.said_lines.SaidLines.{SaidLines}
+use Rattle.ca_rule.specs.TableLines.{Line, content_of, says_something, lines_said, rule_name, begins_table}
+
+-- the lines of these bytes that say something, where the first of all has the number n
+abbrev pub said_from : ℕ → List ℕ → List Line
+said_from n bytes = filter says_something (enumerate_from n (map content_of (lines_of bytes)))
+
+-- the lines that are left
+abbrev pub left_of : SaidLines → List Line
+left_of lines = said_from (lines.read + 1) lines.left.now
+
+-- a line that is left
+abbrev pub line_of : SaidLine → Line
+line_of line = (line.number, line.content.now)
+
+-- the whole text
+abbrev pub text_of : SaidLines → List ℕ
+text_of lines = lines.text.now
+
+-- the text's first line gives this name, and these lines stand behind it
+pub record IsNamed (bytes name : List ℕ) (lines : List Line) : Type 0 where
+  pub rule_line : Line
+  pub named : rule_name rule_line ≡ Some name
+  pub whole : lines_said bytes ≡ rule_line ∷ lines
+
+-- behind lines of which none begins a table stand these
+pub record IsBehindSkipped (all lines : List Line) : Type 0 where
+  pub skipped : List Line
+  pub no_table : list_any begins_table skipped ≡ false
+  pub whole : all ≡ skipped ++ lines
+
+-- behind the first line that begins a table stand these
+pub record IsBehindTable (all lines : List Line) : Type 0 where
+  pub skipped : List Line
+  pub table_line : Line
+  pub no_table : list_any begins_table skipped ≡ false
+  pub begins : begins_table table_line ≡ true
+  pub whole : all ≡ skipped ++ table_line ∷ lines

@@ -1,0 +1,59 @@
+//! The head of a rule file: its name, and where its table begins.
+
+ghost use Rattle.std.specs.Prelude.{◌≡◌, false, IfSome, IfOk, IfErr, MatchOption};
+ghost use Rattle.std.specs.List.{list_any};
+ghost use Rattle.ca_rule.specs.TableLines.{lines_said, begins_table};
+ghost use Rattle.ca_rule.specs.TableText.{HasTable};
+ghost use Rattle.ca_rule.specs.TableFaults.{IsFaultOf};
+ghost use Rattle.ca_rule.specs.inner.TableReading.{text_of, left_of, IsNamed, IsBehindTable};
+
+use crate::table::fault::TableFault;
+use crate::table::lines::{begins_table, rule_name};
+use crate::table::said_lines::SaidLines;
+
+/// The name that the text's first line gives, and the lines behind that.
+fn name_of<'a>(lines: &SaidLines<'a>) -> Result<(&'a [u8], SaidLines<'a>), TableFault>
+    requires { left_of lines.now ≡ lines_said (text_of lines.now) }
+    ensures named { IfOk result (λ r. IsNamed (text_of lines.now) r.0.now (left_of r.1)) }
+    ensures text { IfOk result (λ r. text_of r.1 ≡ text_of lines.now) }
+    ensures fault { IfErr result (λ f. IsFaultOf (text_of lines.now) f) }
+{
+    let Some((line, later)) = lines.next() else {
+        let line = lines.number();
+        return Err(TableFault::NoRuleLine { line });
+    };
+    let Some(name) = rule_name(line.content) else {
+        return Err(TableFault::NoRuleLine { line: line.number });
+    };
+    Ok((name, later))
+}
+
+/// The lines behind the first that begins a table.
+fn behind_table<'a>(lines: &SaidLines<'a>) -> Option<SaidLines<'a>>
+    ensures found { MatchOption result (list_any begins_table (left_of lines.now) ≡ false) (λ r. IsBehindTable (left_of lines.now) (left_of r)) }
+    ensures text { IfSome result (λ r. text_of r ≡ text_of lines.now) }
+{
+    let mut left = *lines;
+    'lines: while let Some((line, later)) = left.next() {
+        if begins_table(line.content) {
+            return Some(later);
+        }
+        left = later;
+    }
+    None
+}
+
+/// The name of the text, and the lines behind that which begins its table.
+pub(crate) fn table_lines(text: &[u8]) -> Result<(&[u8], SaidLines<'_>), TableFault>
+    ensures found { IfOk result (λ r. HasTable text.now r.0.now (left_of r.1)) }
+    ensures text { IfOk result (λ r. text_of r.1 ≡ text.now) }
+    ensures fault { IfErr result (λ f. IsFaultOf text.now f) }
+{
+    let lines = SaidLines::of_text(text);
+    let (name, behind) = name_of(&lines)?;
+    let Some(left) = behind_table(&behind) else {
+        let line = lines.last_line();
+        return Err(TableFault::NoTable { line });
+    };
+    Ok((name, left))
+}
