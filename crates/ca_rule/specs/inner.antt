@@ -7,3 +7,4 @@ pub mod TableCrowd
 pub mod TableStates
 pub mod TableStored
 pub mod TableReading
+pub mod TableSettings

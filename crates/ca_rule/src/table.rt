@@ -14,6 +14,7 @@ mod lines;
 pub(crate) mod neighbourhood;
 mod placement;
 pub(crate) mod said_lines;
+pub(crate) mod settings;
 pub(crate) mod slot;
 mod state_set;
 mod transition;

@@ -1,0 +1,174 @@
+-- The settings of a rule table, a line at a time.
+use Rattle.std.proofs.Common.{◌≡◌, ℕ, Bool, true, false, not, ◌&&◌, ◌||◌, List, [], ◌∷◌, ◌++◌, Option, Some, None, codes, refl, sym, ap, subst, ◌∙◌, append_assoc, inl, inr, ◌⊎◌, Bor}
+use Rattle.std.specs.Prelude.{is_some, option_map, MatchOption, Result, IfErr}
+use Rattle.std.specs.Result.{IsErrAnd}
+use Rattle.std.proofs.lemmas.Result.{err_from_is_err_and}
+use Rattle.std.specs.Option.{option_or}
+use Rattle.std.proofs.lemmas.Bool.{cases_Bool}
+use Rattle.std.proofs.lemmas.List.{append-nil}
+use Rattle.ca_rule.specs.declared.table.settings.SettingValues.{SettingValues}
+use Rattle.ca_rule.specs.declared.table.fault.TableFault.{TableFault}
+use Rattle.ca_rule.specs.TableLines.{Line, setting, is_setting, value_of}
+use Rattle.ca_rule.specs.TableText.{HasTable, Settings, Mean, sets_again, are_settings}
+use Rattle.ca_rule.specs.TableFaults.{number_at, is_behind_settings, SetsAgain, HasSettings, IsFaultOf}
+use Rattle.ca_rule.specs.inner.TableSettings.{bytes_of, AreValuesOf, AreGivenBy, has_some, have_one, joined, IsBehindSettings, IsBehindMeant, HaveEnd}
+
+-- a value that is matched is that of the bytes
+pub matched : (value : Option (Bor (List ℕ))) (is : Option (List ℕ)) → MatchOption value (is ≡ None) (λ r. is ≡ Some r.now) → is ≡ bytes_of value
+matched None is h = h
+matched (Some r) is h = h
+
+-- the bytes are there where the value is
+some-bytes : (value : Option (Bor (List ℕ))) → is_some (bytes_of value) ≡ is_some value
+some-bytes None = refl
+some-bytes (Some r) = refl
+
+-- the first of two values
+or-bytes : (one other : Option (Bor (List ℕ))) → bytes_of (option_or one other) ≡ option_or (bytes_of one) (bytes_of other)
+or-bytes None other = refl
+or-bytes (Some r) other = refl
+
+or-none : (value : Option (List ℕ)) → option_or value None ≡ value
+or-none None = refl
+or-none (Some r) = refl
+
+cases_Option : (o : Option (List ℕ)) → (o ≡ None) ⊎ ((r : List ℕ) × (o ≡ Some r))
+cases_Option None = inl refl
+cases_Option (Some r) = inr (r, refl)
+
+-- three tests of which one holds, and two that both hold
+any-of : (a b c x y z : Bool) → a ≡ x → b ≡ y → c ≡ z → ((a || b) || c) ≡ (x || (y || (z || false)))
+any-of true b c x y z e f g = rw (sym e) refl
+any-of false true c x y z e f g = rw (sym e) (rw (sym f) refl)
+any-of false false true x y z e f g = rw (sym e) (rw (sym f) (rw (sym g) refl))
+any-of false false false x y z e f g = rw (sym e) (rw (sym f) (rw (sym g) refl))
+
+both-of : (a b x y : Bool) → a ≡ x → b ≡ y → (a && b) ≡ (y && x)
+both-of true true x y e f = rw (sym e) (rw (sym f) refl)
+both-of true false x y e f = rw (sym e) (rw (sym f) refl)
+both-of false true x y e f = rw (sym e) (rw (sym f) refl)
+both-of false false x y e f = rw (sym e) (rw (sym f) refl)
+
+and-parts : (a b : Bool) → (a && b) ≡ true → (a ≡ true) × (b ≡ true)
+and-parts true true h = (refl, refl)
+and-parts true false h = cc
+and-parts false b h = cc
+
+and-both : (a b : Bool) → a ≡ true → b ≡ true → (a && b) ≡ true
+and-both true true e f = refl
+and-both true false e f = cc
+and-both false b e f = cc
+
+-- the value that one more line gives
+value-snoc : (word : List ℕ) (ls : List Line) (l : Line) → value_of word (ls ++ l ∷ []) ≡ option_or (value_of word ls) (setting word l)
+value-snoc word [] l = or-none (setting word l)
+value-snoc word (x ∷ xs) l = elim (cases_Option (setting word x)) [
+  | inl n ↦ rw n (value-snoc word xs l)
+  | inr s ↦ rw s.1 refl
+]
+
+module _ (line : Line) (given : SettingValues) (are : AreGivenBy line given) where
+  -- whether a word's setting is given
+  given-states : is_some given.states ≡ is_some (setting (codes "n_states") line)
+  given-states = sym (some-bytes given.states) ∙ ap is_some (sym are.states_are)
+
+  given-neighbourhood : is_some given.neighbourhood ≡ is_some (setting (codes "neighborhood") line)
+  given-neighbourhood = sym (some-bytes given.neighbourhood) ∙ ap is_some (sym are.neighbourhood_is)
+
+  given-symmetry : is_some given.symmetry ≡ is_some (setting (codes "symmetries") line)
+  given-symmetry = sym (some-bytes given.symmetry) ∙ ap is_some (sym are.symmetry_is)
+
+  -- a line that gives a value is a setting
+  pub is-setting : has_some given ≡ is_setting line
+  is-setting = any-of _ _ _ _ _ _ given-states given-neighbourhood given-symmetry
+
+  -- one that gives a value again sets again
+  pub is-again : (lines : List Line) (values : SettingValues) → AreValuesOf lines values → have_one values given ≡ sets_again lines line
+  is-again lines values of = any-of _ _ _ _ _ _
+      (both-of _ _ _ _ (sym (some-bytes values.states) ∙ ap is_some (sym of.states_are)) given-states)
+      (both-of _ _ _ _ (sym (some-bytes values.neighbourhood) ∙ ap is_some (sym of.neighbourhood_is)) given-neighbourhood)
+      (both-of _ _ _ _ (sym (some-bytes values.symmetry) ∙ ap is_some (sym of.symmetry_is)) given-symmetry)
+
+  -- and the values with this line's
+  pub values-snoc : (lines : List Line) (values : SettingValues) → AreValuesOf lines values → AreValuesOf (lines ++ line ∷ []) (joined values given)
+  values-snoc lines values of = record {
+    states_are = value-snoc (codes "n_states") lines line ∙ ap (λ o. option_or o (setting (codes "n_states") line)) of.states_are ∙ ap (option_or (bytes_of values.states)) are.states_are ∙ sym (or-bytes values.states given.states);
+    neighbourhood_is = value-snoc (codes "neighborhood") lines line ∙ ap (λ o. option_or o (setting (codes "neighborhood") line)) of.neighbourhood_is ∙ ap (option_or (bytes_of values.neighbourhood)) are.neighbourhood_is ∙ sym (or-bytes values.neighbourhood given.neighbourhood);
+    symmetry_is = value-snoc (codes "symmetries") lines line ∙ ap (λ o. option_or o (setting (codes "symmetries") line)) of.symmetry_is ∙ ap (option_or (bytes_of values.symmetry)) are.symmetry_is ∙ sym (or-bytes values.symmetry given.symmetry);
+  }
+
+-- one more setting that isn't set again
+pub settings-snoc : (earlier ls : List Line) (l : Line) → are_settings earlier ls ≡ true → is_setting l ≡ true → sets_again (earlier ++ ls) l ≡ false → are_settings earlier (ls ++ l ∷ []) ≡ true
+settings-snoc earlier [] l once is fresh =
+    let none : sets_again earlier l ≡ false = subst (λ e. sets_again e l ≡ false) (append-nil earlier) fresh in
+    rw is (rw none refl)
+settings-snoc earlier (x ∷ xs) l once is fresh =
+    let parts = and-parts (is_setting x && not (sets_again earlier x)) (are_settings (earlier ++ x ∷ []) xs) once in
+    let fresher : sets_again ((earlier ++ x ∷ []) ++ xs) l ≡ false = subst (λ e. sets_again e l ≡ false) (sym (append_assoc earlier (x ∷ []) xs)) fresh in
+    and-both _ _ parts.0 (settings-snoc (earlier ++ x ∷ []) xs l parts.1 is fresher)
+
+-- before the first line
+pub no-settings : (all : List Line) (values : SettingValues) → AreValuesOf [] values → IsBehindSettings all values all
+no-settings all values of = record { good = []; once = refl; values_are = of; whole = refl }
+
+module _ (all left later : List Line) (line : Line) (values given : SettingValues) (before : IsBehindSettings all values left) (next : left ≡ line ∷ later) (are : AreGivenBy line given) where
+  -- one more setting is read
+  pub one-setting : has_some given ≡ true → have_one values given ≡ false → IsBehindSettings all (joined values given) later
+  one-setting some fresh = record {
+    good = before.good ++ line ∷ [];
+    once = settings-snoc [] before.good line before.once (sym (is-setting line given are) ∙ some) (sym (is-again line given are before.good values before.values_are) ∙ fresh);
+    values_are = values-snoc line given are before.good values before.values_are;
+    whole = before.whole ∙ ap (λ l. before.good ++ l) next ∙ sym (append_assoc before.good (line ∷ []) later);
+  }
+
+  -- a setting is set again
+  pub set-again : (bytes name : List ℕ) → HasTable bytes name all → have_one values given ≡ true → SetsAgain bytes line.0
+  set-again bytes name has again = record {
+    name = name;
+    good = before.good;
+    line = line;
+    later = later;
+    has_table = subst (HasTable bytes name) (before.whole ∙ ap (λ l. before.good ++ l) next) has;
+    once = before.once;
+    again = sym (is-again line given are before.good values before.values_are) ∙ again;
+    number = refl;
+  }
+
+-- another line ends the settings
+pub settings-end : (left later : List Line) (line : Line) (given : SettingValues) → left ≡ line ∷ later → AreGivenBy line given → has_some given ≡ false → is_behind_settings left ≡ true
+settings-end left later line given next are none = ap is_behind_settings next ∙ ap not (sym (is-setting line given are) ∙ none)
+
+-- the settings end, and something is wrong with them
+pub has-settings : (bytes : List ℕ) (n : ℕ) (good : List Line) (P : List Line → Type 0) → HaveEnd bytes n good → P good → HasSettings bytes n P
+has-settings bytes n good P end holding = record {
+  name = end.name;
+  lines = good;
+  behind = end.behind;
+  has_table = end.has_table;
+  once = end.once;
+  ends = end.ends;
+  number = end.number;
+  holds = holding;
+}
+
+-- what holds of an error holds of the one that is passed on
+pub passed-on : {T E : Type 0} (r : Result T E) (e : E) (P : E → Type 0) → IsErrAnd r (λ passed. passed ≡ e) → P e → IfErr r P
+passed-on r e P h holds =
+    let p = err_from_is_err_and r h in
+    subst (λ o. IfErr o P) (sym p.1) (subst P (sym p.2) holds)
+
+-- so settings that mean something stand before the lines that are left
+pub all-meant : (all left : List Line) (values : SettingValues) (settings : Settings) → IsBehindSettings all values left → ((good : List Line) → AreValuesOf good values → are_settings [] good ≡ true → Mean good settings) → IsBehindMeant all settings left
+all-meant all left values settings before meaning = record { good = before.good; mean = meaning before.good before.values_are before.once; whole = before.whole }
+
+-- and else the fault is that of the text
+pub settings-fault : (bytes text name : List ℕ) (n : ℕ) (all left : List Line) (values : SettingValues) (f : TableFault) → text ≡ bytes → HasTable bytes name all → IsBehindSettings all values left → is_behind_settings left ≡ true → n ≡ number_at text left
+    → ((bytes : List ℕ) (good : List Line) → AreValuesOf good values → HaveEnd bytes n good → IsFaultOf bytes f) → IsFaultOf bytes f
+settings-fault bytes text name n all left values f same has before ended number faults = faults bytes before.good before.values_are (record {
+  name = name;
+  behind = left;
+  has_table = subst (HasTable bytes name) before.whole has;
+  once = before.once;
+  ends = ended;
+  number = number ∙ ap (λ t. number_at t left) same;
+})

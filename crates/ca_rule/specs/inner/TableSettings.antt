@@ -1,0 +1,67 @@
+-- How the settings of a rule table are read.
+use Rattle.std.specs.Prelude.{◌≡◌, ℕ, List, [], ◌++◌, Bool, true, ◌&&◌, ◌||◌, Option, is_some, option_map, codes}
+use Rattle.std.specs.Option.{option_or}
+use Rattle.std.specs.Borrow.{Bor}
+use Rattle.ca_rule.specs.declared.table.settings.SettingValues.{SettingValues}
+use Rattle.ca_rule.specs.declared.table.settings.TableSettings.{TableSettings}
+use Rattle.ca_rule.specs.TableLines.{Line, setting, value_of}
+use Rattle.ca_rule.specs.TableText.{HasTable, Settings, Mean, are_settings}
+use Rattle.ca_rule.specs.TableFaults.{number_at, is_behind_settings}
+
+-- the bytes, where there are some
+abbrev pub bytes_of : Option (Bor (List ℕ)) → Option (List ℕ)
+bytes_of value = option_map (λ (b : Bor (List ℕ)). b.now) value
+
+-- these are the values that the lines give
+pub record AreValuesOf (lines : List Line) (values : SettingValues) : Type 0 where
+  pub states_are : value_of (codes "n_states") lines ≡ bytes_of values.states
+  pub neighbourhood_is : value_of (codes "neighborhood") lines ≡ bytes_of values.neighbourhood
+  pub symmetry_is : value_of (codes "symmetries") lines ≡ bytes_of values.symmetry
+
+-- these are the values that one line gives
+pub record AreGivenBy (line : Line) (values : SettingValues) : Type 0 where
+  pub states_are : setting (codes "n_states") line ≡ bytes_of values.states
+  pub neighbourhood_is : setting (codes "neighborhood") line ≡ bytes_of values.neighbourhood
+  pub symmetry_is : setting (codes "symmetries") line ≡ bytes_of values.symmetry
+
+-- what the settings mean
+abbrev pub meaning_of : TableSettings → Settings
+meaning_of settings = record { states = settings.states; neighbourhood = settings.neighbourhood; symmetry = settings.symmetry }
+
+-- behind settings of which none is set again, and which give these values, stand these lines
+pub record IsBehindSettings (all : List Line) (values : SettingValues) (lines : List Line) : Type 0 where
+  pub good : List Line
+  pub once : are_settings [] good ≡ true
+  pub values_are : AreValuesOf good values
+  pub whole : all ≡ good ++ lines
+
+-- a setting has a value
+abbrev pub has_some : SettingValues → Bool
+has_some v = (is_some v.states || is_some v.neighbourhood) || is_some v.symmetry
+
+-- a setting has a value here and there
+abbrev pub have_one : SettingValues → SettingValues → Bool
+have_one v w = ((is_some v.states && is_some w.states) || (is_some v.neighbourhood && is_some w.neighbourhood)) || (is_some v.symmetry && is_some w.symmetry)
+
+-- these values, and for a setting that has none the other's
+abbrev pub joined : SettingValues → SettingValues → SettingValues
+joined v w = record {
+  states = option_or v.states w.states;
+  neighbourhood = option_or v.neighbourhood w.neighbourhood;
+  symmetry = option_or v.symmetry w.symmetry;
+}
+
+-- behind settings that mean this stand these lines
+pub record IsBehindMeant (all : List Line) (settings : Settings) (lines : List Line) : Type 0 where
+  pub good : List Line
+  pub mean : Mean good settings
+  pub whole : all ≡ good ++ lines
+
+-- these are all settings of the table, and they end at the n-th line of the text
+pub record HaveEnd (bytes : List ℕ) (n : ℕ) (good : List Line) : Type 0 where
+  pub name : List ℕ
+  pub behind : List Line
+  pub has_table : HasTable bytes name (good ++ behind)
+  pub once : are_settings [] good ≡ true
+  pub ends : is_behind_settings behind ≡ true
+  pub number : n ≡ number_at bytes behind
