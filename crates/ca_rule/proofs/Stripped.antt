@@ -1,12 +1,22 @@
 -- What stands behind a text.
-use Rattle.std.proofs.Common.{◌≡◌, ◌≢◌, ◌==◌, ℕ, List, [], ◌∷◌, ◌++◌, Option, Some, None, MatchOption, eq-eqb, refl, ap, ◌∙◌, arith, inl, inr, Bor}
+use Rattle.std.proofs.Common.{◌≡◌, ◌≢◌, ◌==◌, ℕ, List, [], ◌∷◌, ◌++◌, Option, Some, None, MatchOption, eq-eqb, unwrap_or, refl, ap, ◌∙◌, arith, inl, inr, Bor}
 use Rattle.std.proofs.lemmas.Bool.{cases_Bool}
 use Rattle.std.proofs.lemmas.Bool.Decides.{nat_tests}
 use Rattle.ca_rule.specs.TableLines.{behind}
 
-behind-is : (text more : List ℕ) → behind text (text ++ more) ≡ Some more
+pub behind-is : (text more : List ℕ) → behind text (text ++ more) ≡ Some more
 behind-is [] more = refl
 behind-is (t ∷ ts) more = rw (eq-eqb t t refl) (behind-is ts more)
+
+-- and the text stands before it
+pub behind-whole : (text bytes more : List ℕ) → behind text bytes ≡ Some more → bytes ≡ text ++ more
+behind-whole [] bytes more e = ap (λ o. unwrap_or o []) e
+behind-whole (t ∷ ts) [] more e = cc
+behind-whole (t ∷ ts) (b ∷ bs) more e =
+    elim (cases_Bool (t == b)) [
+      | inl v ↦ let same : b ≡ t = grind (arith, nat_tests) in let k = rw v at e in ap (λ x. x ∷ bs) same ∙ ap (λ l. t ∷ l) (behind-whole ts bs more k)
+      | inr v ↦ let k = rw v at e in cc
+    ]
 
 -- bytes that don't begin with the text have nothing behind it
 behind-none : (text bytes : List ℕ) → ((r : List ℕ) → bytes ≢ text ++ r) → behind text bytes ≡ None

@@ -8,3 +8,4 @@ pub mod TableStates
 pub mod TableStored
 pub mod TableReading
 pub mod TableSettings
+pub mod TableFields

@@ -8,6 +8,7 @@ ghost use Rattle.ca_rule.specs.inner.TablePlaces.{begins_at_centre, next_at};
 pub(crate) mod choice;
 mod crowd;
 pub(crate) mod fault;
+pub(crate) mod fields;
 mod head;
 mod laws;
 mod lines;
@@ -18,6 +19,7 @@ pub(crate) mod settings;
 pub(crate) mod slot;
 mod state_set;
 mod transition;
+mod variable_line;
 
 use ca_plane::{Automaton, Nine};
 pub use fault::TableFault;

@@ -109,7 +109,7 @@ pub(crate) fn are_digits(bytes: &[u8]) -> bool
 }
 
 /// Whether the byte may stand in a name.
-fn is_name_byte(byte: u8) -> bool
+pub(crate) fn is_name_byte(byte: u8) -> bool
     ensures { result ≡ is_name_byte byte }
 {
     !is_blank(byte) && !matches!(byte, b',' | b'{' | b'}' | b'=' | b'#' | b':' | b'@')

@@ -1,0 +1,23 @@
+-- How the fields of a line are read, one after another.
+use Rattle.std.specs.Prelude.{◌≡◌, ℕ, List, [], ◌∷◌, ◌++◌, map, codes, Option, option_and_then}
+use Rattle.ca_plane.specs.Bytes.{is_blank, Every, rest}
+use Rattle.ca_rule.specs.declared.table.fields.FieldsLeft.{FieldsLeft}
+use Rattle.ca_rule.specs.declared.table.fields.FieldsLeft.TheVariants.{Between, Bytes}
+use Rattle.ca_rule.specs.TableLines.{behind, fields_between}
+
+-- the fields that are left
+abbrev pub fields_left : FieldsLeft → List (List ℕ)
+fields_left (Between bytes) = fields_between bytes.now
+fields_left (Bytes bytes) = map (λ b. b ∷ []) bytes.now
+
+-- what stands behind `=` and `{`, with blanks before either
+abbrev pub opened : List ℕ → Option (List ℕ)
+opened bytes = option_and_then (λ more. behind (codes "{") (rest is_blank more)) (behind (codes "=") (rest is_blank bytes))
+
+-- `=`, and then this in braces; blanks may stand before `=` and `{`
+pub record IsBraced (bytes inside : List ℕ) : Type 0 where
+  pub second : List ℕ
+  pub third : List ℕ
+  pub second_blanks : Every is_blank second
+  pub third_blanks : Every is_blank third
+  pub spelled : bytes ≡ second ++ (codes "=" ++ (third ++ (codes "{" ++ (inside ++ codes "}"))))
