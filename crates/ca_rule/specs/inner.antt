@@ -9,3 +9,5 @@ pub mod TableStored
 pub mod TableReading
 pub mod TableSettings
 pub mod TableFields
+pub mod TableStatements
+pub mod TableNames

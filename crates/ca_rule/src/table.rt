@@ -12,14 +12,16 @@ pub(crate) mod fields;
 mod head;
 mod laws;
 mod lines;
+pub(crate) mod names;
 pub(crate) mod neighbourhood;
 mod placement;
 pub(crate) mod said_lines;
 pub(crate) mod settings;
 pub(crate) mod slot;
 mod state_set;
+pub(crate) mod statement;
 mod transition;
-mod variable_line;
+pub(crate) mod variable_line;
 
 use ca_plane::{Automaton, Nine};
 pub use fault::TableFault;

@@ -1,0 +1,50 @@
+//! The statements of a rule table, by their spelling.
+
+ghost use Rattle.std.specs.Prelude.{◌≡◌, ℕ, List, MatchOption};
+ghost use Rattle.ca_rule.specs.TableLines.{IsTransitionLine};
+ghost use Rattle.ca_rule.specs.TableText.{Settings, Said, field_count};
+ghost use Rattle.ca_rule.specs.TableFaults.{IsMisspelled};
+ghost use Rattle.ca_rule.specs.inner.TableFields.{fields_left};
+ghost use Rattle.ca_rule.specs.inner.TableStatements.{IsStatement};
+
+use crate::table::fields::FieldsLeft;
+use crate::table::lines::begins_variable;
+use crate::table::variable_line::{VariableLine, variable_line};
+
+/// A statement, by its spelling.
+#[derive(Clone, Copy)]
+pub(crate) enum Statement<'a> {
+    Variable(VariableLine<'a>),
+    /// A transition, with its fields: the result is the last.
+    Transition(FieldsLeft<'a>),
+}
+
+/// The fields of a transition, where the line is spelled as one of so many slots.
+fn transition_fields(content: &[u8], slots: usize) -> Option<FieldsLeft<'_>>
+    ensures { (n : ℕ) → MatchOption result ((fields : List (List ℕ)) → IsTransitionLine (n, content.now) slots fields → ⊥) (λ f. IsTransitionLine (n, content.now) slots (fields_left f)) }
+{
+    if begins_variable(content) {
+        return None;
+    }
+    let fields = FieldsLeft::of_line(content);
+    if !fields.are_as_many_as(slots) {
+        return None;
+    }
+    if !fields.are_spelled() {
+        return None;
+    }
+    Some(fields)
+}
+
+/// What the line states, by its spelling, in a table whose transitions have so many slots.
+pub(crate) fn read_statement(content: &[u8], slots: usize) -> Option<Statement<'_>>
+    ensures { (n : ℕ) (settings : Settings) (said : Said) → slots ≡ field_count settings → MatchOption result (IsMisspelled settings said (n, content.now)) (IsStatement (n, content.now) slots) }
+{
+    if let Some(line) = variable_line(content) {
+        return Some(Statement::Variable(line));
+    }
+    let Some(fields) = transition_fields(content, slots) else {
+        return None;
+    };
+    Some(Statement::Transition(fields))
+}
