@@ -1,7 +1,7 @@
 -- What the fields of a line stand for, one after another.
-use Rattle.std.proofs.Common.{◌≡◌, ℕ, true, List, [], ◌∷◌, ◌++◌, Option, sym, ap, ◌∙◌, append_assoc}
+use Rattle.std.proofs.Common.{◌≡◌, ℕ, true, List, [], ◌∷◌, ◌++◌, Option, Result, Ok, Err, is_ok, OnOk, sym, ap, ◌∙◌, append_assoc}
 use Rattle.std.specs.List.{list_all, AllZip}
-use Rattle.std.proofs.lemmas.Bool.{and_parts}
+use Rattle.std.proofs.lemmas.Bool.{and_parts, false≢true}
 use Rattle.ca_rule.specs.declared.table.slot.Slot.{Slot}
 use Rattle.ca_rule.specs.TableLines.{is_field}
 use Rattle.ca_rule.specs.inner.TableNames.{IsSlot, AreSlots}
@@ -25,3 +25,8 @@ slots-push states numbers fields left later slots slot field before next is = re
 -- those behind it are spelled as fields too
 pub rest-spelled : (left later : List (List ℕ)) (field : List ℕ) → left ≡ field ∷ later → list_all is_field left ≡ true → list_all is_field later ≡ true
 rest-spelled left later field next all = (and_parts (is_field field) (list_all is_field later) (ap (list_all is_field) (sym next) ∙ all)).1
+
+-- what holds of a result that is Ok
+pub on-ok : {T E : Type 0} (r : Result T E) (P : Type 0) → is_ok r ≡ true → OnOk r P → P
+on-ok (Ok x) P e h = h
+on-ok (Err x) P e h = absurd (false≢true e)

@@ -1,10 +1,10 @@
 -- The lines of a rule file, one after another.
-use Rattle.std.proofs.Common.{◌≡◌, ◌==◌, ◌<◌, ◌≤◌, ℕ, ◌+◌, Bool, true, false, not, ◌&&◌, List, [], ◌∷◌, length, map, refl, ap, ◌∙◌, arith, inl, inr}
+use Rattle.std.proofs.Common.{◌≡◌, ◌==◌, ◌<◌, ◌≤◌, ℕ, ◌+◌, Bool, true, false, not, List, [], ◌∷◌, length, map, refl, ap, ◌∙◌, arith, inl, inr}
 use Rattle.std.specs.List.{list_all, enumerate_from}
-use Rattle.std.specs.Prelude.{filter, if◌then◌else◌, nat_le}
+use Rattle.std.specs.Prelude.{filter, if◌then◌else◌}
 use Rattle.std.proofs.lemmas.Bool.{cases_Bool}
 use Rattle.std.proofs.lemmas.Bool.Decides.{nat_tests}
-use Rattle.ca_plane.specs.Bytes.{is_blank, is_line_end, Every, front, rest, without_last_blanks, trimmed, lines_of}
+use Rattle.ca_plane.specs.Bytes.{is_blank, is_line_end, Every, front, rest, without_last_blanks, lines_of}
 use Rattle.ca_rule.specs.TableLines.{content_of, says_something}
 use Rattle.ca_rule.specs.declared.table.said_lines.SaidLines.{SaidLines}
 use Rattle.ca_rule.specs.inner.TableReading.{said_from, left_of}

@@ -1,10 +1,10 @@
 -- The head of a rule file.
-use Rattle.std.proofs.Common.{◌≡◌, ℕ, Bool, true, false, ◌||◌, List, [], ◌∷◌, ◌++◌, Some, None, refl, sym, ap, subst, ◌∙◌, append_assoc, inl, inr}
+use Rattle.std.proofs.Common.{◌≡◌, ℕ, Bool, true, false, List, [], ◌∷◌, ◌++◌, refl, sym, ap, subst, ◌∙◌, append_assoc, inl, inr}
 use Rattle.std.proofs.lemmas.Bool.{cases_Bool}
 use Rattle.std.specs.List.{list_any}
 use Rattle.std.proofs.lemmas.List.{append-nil}
 use Rattle.ca_rule.specs.declared.table.fault.TableFault.TheVariants.{NoRuleLine, NoTable}
-use Rattle.ca_rule.specs.TableLines.{Line, lines_said, last_line, rule_name, begins_table}
+use Rattle.ca_rule.specs.TableLines.{Line, lines_said, last_line, begins_table}
 use Rattle.ca_rule.specs.TableText.{HasTable}
 use Rattle.ca_rule.specs.TableFaults.{number_at, HasNoRuleLine, HasNoTable, IsFaultOf}
 use Rattle.ca_rule.specs.inner.TableReading.{IsNamed, IsBehindSkipped, IsBehindTable}

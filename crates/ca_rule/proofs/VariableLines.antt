@@ -1,10 +1,9 @@
 -- The line of a variable, read from its start.
-use Rattle.std.proofs.Common.{◌≡◌, ◌≢◌, ◌==◌, ℕ, Bool, true, false, not, ◌&&◌, List, [], ◌∷◌, ◌++◌, ◌+◌, length, Option, Some, None, unwrap_or, codes, refl, sym, ap, subst, ◌∙◌, arith, inl, inr, Bor}
+use Rattle.std.proofs.Common.{◌≡◌, ◌≢◌, ℕ, Bool, true, not, List, [], ◌∷◌, ◌++◌, ◌+◌, length, Option, Some, None, unwrap_or, codes, refl, sym, ap, subst, ◌∙◌, arith, inl, inr, Bor}
 use Rattle.std.specs.Prelude.{option_and_then, MatchOption}
 use Rattle.std.specs.List.{list_all}
 use Rattle.std.proofs.lemmas.List.{append_cancel_right, length_push}
 use Rattle.std.proofs.lemmas.Bool.{and_parts, cases_Bool}
-use Rattle.std.proofs.lemmas.Bool.Decides.{nat_tests}
 use Rattle.ca_plane.specs.Bytes.{is_blank, Every, front, rest, is_end_or}
 use Rattle.ca_plane.proofs.Fronts.{front_then_rest, every_front, front_append, rest_append}
 use Rattle.ca_rule.specs.TableLines.{Line, behind, begins_variable, is_name_byte, is_name, is_field, fields_between, IsVariableLine}

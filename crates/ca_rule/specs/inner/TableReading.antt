@@ -1,5 +1,5 @@
 -- How a rule file is read, a line at a time.
-use Rattle.std.specs.Prelude.{◌≡◌, ℕ, ◌+◌, List, ◌∷◌, ◌++◌, map, filter, Bool, true, false, Option, Some}
+use Rattle.std.specs.Prelude.{◌≡◌, ℕ, ◌+◌, List, ◌∷◌, ◌++◌, map, filter, true, false, Some}
 use Rattle.std.specs.List.{list_any, enumerate_from}
 use Rattle.ca_plane.specs.Bytes.{lines_of}
 use Rattle.ca_rule.specs.declared.table.said_lines.SaidLine.{SaidLine}

@@ -30,7 +30,9 @@ pub(crate) struct Names<'a> {
 }
 
 impl<'a> Names<'a> {
-    ghost use Rattle.std.specs.Prelude.{None};
+    ghost use Rattle.std.specs.Prelude.{None, Some, OnOk};
+    ghost use Rattle.std.specs.Map.{update};
+    ghost use Rattle.std.specs.Str.{bytes_eq};
     ghost use Rattle.ca_rule.specs.inner.TableNames.{number_in, IsSlot, IsNoSlot, HasNoSlot};
 
     /// Before the first variable.
@@ -47,6 +49,16 @@ impl<'a> Names<'a> {
         ensures { result ≡ number_in self.now name.now }
     {
         self.numbers.get(name).copied()
+    }
+
+    /// The name has this number from here on.
+    pub(crate) fn put(&mut self, name: &'a [u8], number: usize) -> Result<(), FieldFault>
+        ensures { OnOk result ((other : List ℕ) → number_in self.new other ≡ update bytes_eq (number_in self.old) name.now (Some number) other) }
+    {
+        if self.numbers.insert(name, number).is_err() {
+            return Err(FieldFault::Memory);
+        }
+        Ok(())
     }
 
     /// What the field stands for in a table of so many states.

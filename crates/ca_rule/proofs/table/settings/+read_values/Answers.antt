@@ -1,7 +1,4 @@
-use Rattle.std.proofs.Common.{List, inl, sym, subst, ◌∙◌}
-use Rattle.ca_rule.specs.TableLines.{Line}
-use Rattle.ca_rule.specs.TableText.{HasTable}
-use Rattle.ca_rule.specs.TableFaults.{IsFaultOf}
+use Rattle.std.proofs.Common.{inl, sym, subst}
 use Rattle.ca_rule.specs.inner.TableReading.{left_of, line_of}
 use Rattle.ca_rule.specs.inner.TableSettings.{IsBehindSettings}
 use Rattle.ca_rule.proofs.SettingsRead.{settings-end, set-again, one-setting}

@@ -1,8 +1,8 @@
-use Rattle.std.proofs.Common.{ℕ, List, refl, subst}
+use Rattle.std.proofs.Common.{ℕ, List}
 use Rattle.ca_rule.specs.TableText.{HasTable}
 use Rattle.ca_rule.specs.TableFaults.{IsFaultOf}
 use Rattle.ca_rule.specs.inner.TableReading.{text_of, left_of}
-use Rattle.ca_rule.specs.inner.TableSettings.{IsBehindSettings, meaning_of}
+use Rattle.ca_rule.specs.inner.TableSettings.{meaning_of}
 use Rattle.ca_rule.proofs.SettingsRead.{no-settings, passed-on, all-meant, settings-fault}
 use Rattle.ca_rule.proofs.table.settings.read_settings.Goals as goal
 
