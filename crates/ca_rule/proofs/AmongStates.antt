@@ -17,7 +17,7 @@ none-above : (q : ℕ → Bool) (a n : ℕ) → ((t : ℕ) → a ≤ t → t < a
 none-above q a zero h = refl
 none-above q a (suc n) h = rw (h a (omega arith) (omega arith)) (none-above q (a + 1) n (λ t low high. h t (omega arith) (omega arith)))
 
-zero-plus : (n : ℕ) → 0 + n ≡ n
+pub zero-plus : (n : ℕ) → 0 + n ≡ n
 zero-plus n = omega arith
 
 suc-plus : (m n : ℕ) → suc m + n ≡ suc (m + n)

@@ -11,3 +11,4 @@ pub mod TableSettings
 pub mod TableFields
 pub mod TableStatements
 pub mod TableNames
+pub mod TableSaid

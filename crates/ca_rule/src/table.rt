@@ -20,6 +20,7 @@ pub(crate) mod settings;
 pub(crate) mod slot;
 mod state_set;
 pub(crate) mod statement;
+pub(crate) mod statements;
 mod transition;
 pub(crate) mod variable_line;
 

@@ -37,6 +37,12 @@ pub record HasNoSlot (states : ℕ) (numbers : List ℕ → Option ℕ) (fields 
   pub stand : AllZip (IsSlot states numbers) good slots
   pub holds : IsNoSlot states numbers field fault
 
+-- one of the fields stands for nothing; want of memory may come at any time
+abbrev pub IsFaultAmong : ℕ → (List ℕ → Option ℕ) → List (List ℕ) → FieldFault → Type 0
+IsFaultAmong states numbers fields State = HasNoSlot states numbers fields State
+IsFaultAmong states numbers fields Name = HasNoSlot states numbers fields Name
+IsFaultAmong states numbers fields Memory = Unit {0}
+
 -- so many of the fields have been read
 pub record AreSlots (states : ℕ) (numbers : List ℕ → Option ℕ) (fields left : List (List ℕ)) (slots : List Slot) : Type 0 where
   pub good : List (List ℕ)

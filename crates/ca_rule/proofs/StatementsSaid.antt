@@ -1,0 +1,96 @@
+-- What the statements of a rule table have said, after one more of them.
+use Rattle.std.proofs.Common.{◌≡◌, ℕ, suc, ◌+◌, ◌<◌, List, [], ◌∷◌, ◌++◌, length, cond, Option, Some, None, if◌then◌else◌, refl, sym, ap, subst, ◌∙◌, inl, inr, arith}
+use Rattle.std.specs.List.{AllZip}
+use Rattle.std.specs.Map.{update}
+use Rattle.std.specs.Option.{option_or}
+use Rattle.std.specs.Str.{bytes_eq}
+use Rattle.std.proofs.lemmas.Bool.{cases_Bool}
+use Rattle.std.proofs.lemmas.List.{map-append, length-map}
+use Rattle.ca_rule.specs.declared.table.names.FieldFault.{FieldFault}
+use Rattle.ca_rule.specs.declared.table.names.FieldFault.TheVariants.{State, Name, Memory}
+use Rattle.ca_rule.specs.declared.table.slot.Slot.{Slot}
+use Rattle.ca_rule.specs.declared.table.slot.Slot.TheVariants.{Number, Variable}
+use Rattle.ca_rule.specs.TableNext.{States}
+use Rattle.ca_rule.specs.TableText.{Settings, Said, StandsFor, number_of, states_said, states_among}
+use Rattle.ca_rule.specs.inner.TableNames.{number_in, IsSlot, IsNoSlot, HasNoSlot, IsFaultAmong}
+use Rattle.ca_rule.specs.inner.TableSaid.{IsKept, with_variable}
+use Rattle.ca_rule.specs.declared.table.statements.Statements.{Statements}
+use Rattle.ca_rule.proofs.AmongStates.{zero-plus}
+
+-- the number of a name, with one more variable
+pub number-snoc : (n : ℕ) (vs : List (List ℕ × States)) (name : List ℕ) (states : States) (other : List ℕ)
+    → number_of n (vs ++ (name, states) ∷ []) other ≡ update bytes_eq (number_of n vs) name (Some (n + length vs)) other
+number-snoc n [] name states other =
+    elim (cases_Bool (bytes_eq name other)) [
+      | inl e ↦ rw e (ap Some (omega arith))
+      | inr e ↦ rw e refl
+    ]
+number-snoc n (v ∷ vs) name states other =
+    let more = number-snoc (n + 1) vs name states other in
+    elim (cases_Bool (bytes_eq name other)) [
+      | inl e ↦ let k : number_of (n + 1) (vs ++ (name, states) ∷ []) other ≡ Some (n + suc (length vs)) = more ∙ rw e (ap Some (omega arith)) in
+          ap (λ o. option_or o (if bytes_eq v.0 other then Some n else None)) k ∙ rw e refl
+      | inr e ↦ let k : number_of (n + 1) (vs ++ (name, states) ∷ []) other ≡ number_of (n + 1) vs other = more ∙ rw e refl in
+          ap (λ o. option_or o (if bytes_eq v.0 other then Some n else None)) k ∙ rw e refl
+    ]
+
+-- fields stand for what their names are numbered as
+module _ (settings : Settings) (said : Said) (count : ℕ) (numbers : List ℕ → Option ℕ) (same : settings.states ≡ count) (named : (name : List ℕ) → numbers name ≡ number_of 0 said.variables name) where
+  stands : (field : List ℕ) (slot : Slot) → IsSlot count numbers field slot → StandsFor settings said field slot
+  stands field (Number state) h = (h.0, h.1, subst (λ c. state < c) (sym same) h.2)
+  stands field (Variable v) h = (h.0, sym (named field) ∙ h.1)
+
+  pub all-stand : (fields : List (List ℕ)) (slots : List Slot) → AllZip (IsSlot count numbers) fields slots → AllZip (StandsFor settings said) fields slots
+  all-stand [] [] h = tt
+  all-stand [] (s ∷ ss) h = absurd h
+  all-stand (f ∷ fs) [] h = absurd h
+  all-stand (f ∷ fs) (s ∷ ss) h = (stands f s h.0, all-stand fs ss h.1)
+
+-- the same of numbers that are equal name by name
+module _ (count : ℕ) (numbers others : List ℕ → Option ℕ) (named : (name : List ℕ) → numbers name ≡ others name) where
+  slot-by : (field : List ℕ) (slot : Slot) → IsSlot count numbers field slot → IsSlot count others field slot
+  slot-by field (Number state) h = h
+  slot-by field (Variable v) h = (h.0, sym (named field) ∙ h.1)
+
+  slots-by : (fields : List (List ℕ)) (slots : List Slot) → AllZip (IsSlot count numbers) fields slots → AllZip (IsSlot count others) fields slots
+  slots-by [] [] h = tt
+  slots-by [] (s ∷ ss) h = absurd h
+  slots-by (f ∷ fs) [] h = absurd h
+  slots-by (f ∷ fs) (s ∷ ss) h = (slot-by f s h.0, slots-by fs ss h.1)
+
+  no-slot-by : (field : List ℕ) (fault : FieldFault) → IsNoSlot count numbers field fault → IsNoSlot count others field fault
+  no-slot-by field State h = h
+  no-slot-by field Name h = (h.0, sym (named field) ∙ h.1)
+  no-slot-by field Memory h = h
+
+  pub has-no-slot-by : (fields : List (List ℕ)) (fault : FieldFault) → HasNoSlot count numbers fields fault → HasNoSlot count others fields fault
+  has-no-slot-by fields fault h = record {
+    good = h.good;
+    slots = h.slots;
+    field = h.field;
+    later = h.later;
+    whole = h.whole;
+    stand = slots-by h.good h.slots h.stand;
+    holds = no-slot-by h.field fault h.holds;
+  }
+
+-- so a fault of fields is one by those numbers
+pub fault-among : (count : ℕ) (numbers others : List ℕ → Option ℕ) (named : (name : List ℕ) → numbers name ≡ others name) (fields : List (List ℕ)) (fault : FieldFault) → HasNoSlot count numbers fields fault → IsFaultAmong count others fields fault
+fault-among count numbers others named fields State h = has-no-slot-by count numbers others named fields State h
+fault-among count numbers others named fields Name h = has-no-slot-by count numbers others named fields Name h
+fault-among count numbers others named fields Memory h = tt
+
+-- one more variable is kept
+pub variable-kept : (settings : Settings) (said : Said) (old new : Statements) (name : List ℕ) (slots : List Slot) (set : States) (number : ℕ) → IsKept said old
+    → ((other : List ℕ) → number_in new.names other ≡ update bytes_eq (number_in old.names) name (Some number) other) → number ≡ length old.variables.items
+    → new.variables.items ≡ old.variables.items ++ set ∷ [] → set ≡ states_among settings (states_said said) slots → new.transitions.items ≡ old.transitions.items → IsKept (with_variable settings said name slots) new
+variable-kept settings said old new name slots set number kept put counted pushed among others =
+    let many : number ≡ 0 + length said.variables = counted ∙ ap length (sym kept.sets) ∙ length-map said.variables (λ (v : List ℕ × States). v.1) ∙ sym (zero-plus (length said.variables)) in
+    record {
+      named = λ other. put other ∙ ap (λ n. update bytes_eq (number_in old.names) name (Some n) other) many
+          ∙ ap (λ o. cond (bytes_eq name other) (Some (0 + length said.variables)) o) (kept.named other)
+          ∙ sym (number-snoc 0 said.variables name (states_among settings (states_said said) slots) other);
+      sets = map-append (λ (v : List ℕ × States). v.1) said.variables ((name, states_among settings (states_said said) slots) ∷ [])
+          ∙ ap (λ l. l ++ states_among settings (states_said said) slots ∷ []) kept.sets ∙ ap (λ x. old.variables.items ++ x ∷ []) (sym among) ∙ sym pushed;
+      lines = kept.lines ∙ sym others;
+    }
