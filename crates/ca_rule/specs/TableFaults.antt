@@ -30,7 +30,7 @@ abbrev pub HasNoTable : List Line → Type 0
 HasNoTable [] = ⊥
 HasNoTable (l ∷ ls) = (name : List ℕ) × (rule_name l ≡ Some name) × (list_any begins_table ls ≡ false)
 
--- behind good settings, the n-th line of the text is a setting that one of them sets
+-- behind settings, each once and not yet judged, the n-th line of the text is a setting that one of them sets
 pub record SetsAgain (bytes : List ℕ) (n : ℕ) : Type 0 where
   pub name : List ℕ
   pub good : List Line
@@ -41,8 +41,8 @@ pub record SetsAgain (bytes : List ℕ) (n : ℕ) : Type 0 where
   pub again : sets_again good line ≡ true
   pub number : n ≡ line.0
 
--- all settings of the table have been set, each once at most, and this holds of them. They end at the n-th line of the
--- text: the first other line, or the text's last
+-- the table's first lines are settings, each once, up to the n-th line of the text: the first other line, or the text's
+-- last; this holds of them
 pub record HasSettings (bytes : List ℕ) (n : ℕ) (P : List Line → Type 0) : Type 0 where
   pub name : List ℕ
   pub lines : List Line
@@ -83,7 +83,7 @@ pub record HasStatement (bytes : List ℕ) (n : ℕ) (P : Settings → Said → 
   pub number : n ≡ line.0
   pub holds : P settings said line
 
--- the line is spelled neither as a variable's nor as a transition; so is a setting that stands behind a statement
+-- the line is spelled neither as a variable's nor as a transition; a setting behind a statement is such a line
 abbrev pub IsMisspelled : Settings → Said → Line → Type 0
 IsMisspelled settings said line =
     ((name : List ℕ) (fields : List (List ℕ)) → IsVariableLine line name fields → ⊥)
@@ -103,11 +103,11 @@ pub record HasBadField (settings : Settings) (said : Said) (line : Line) (P : Li
   pub stand : AllZip (StandsFor settings said) good slots
   pub holds : P field
 
--- a number that is no state of the table
+-- the first field that stands for nothing is a number that is no state of the table
 abbrev pub HasBadState : Settings → Said → Line → Type 0
 HasBadState settings said line = HasBadField settings said line (λ field. (are_digits field ≡ true) × (settings.states ≤ value field))
 
--- a name that no earlier variable has
+-- the first field that stands for nothing is a name that no earlier variable has
 abbrev pub HasUnknownName : Settings → Said → Line → Type 0
 HasUnknownName settings said line = HasBadField settings said line (λ field. (is_name field ≡ true) × (number_of 0 said.variables field ≡ None))
 
@@ -124,8 +124,8 @@ pub record HasUnbound (settings : Settings) (said : Said) (line : Line) : Type 0
 abbrev pub DoesWake : TableRule → Type 0
 DoesWake table = table_next table (replicate 9 0) ≢ 0
 
--- the text's fault, with the number of its line: the first in its spelling, else that the table wakes; want of memory may
--- come at any time
+-- the text's fault, with the number of its line: the first faulty line's, else that the table wakes; of want of memory
+-- nothing is said here
 abbrev pub IsFaultOf : List ℕ → TableFault → Type 0
 IsFaultOf bytes (NoRuleLine n) = HasNoRuleLine (lines_said bytes) × (n ≡ number_at bytes (lines_said bytes))
 IsFaultOf bytes (NoTable n) = HasNoTable (lines_said bytes) × (n ≡ last_line bytes)

@@ -17,7 +17,7 @@ pub record Transition : Type 0 where
   pub inputs : List Slot
   pub result : Slot
 
--- what a table says. A variable's states are those of its `var` line; the lines are counted from 0
+-- what a table says. Variables are numbered from 0, by their `var` lines, and have the states of these
 pub record TableRule : Type 0 where
   pub name : List ℕ
   pub states : ℕ

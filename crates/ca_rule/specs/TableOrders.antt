@@ -45,7 +45,7 @@ abbrev pub in_order : List (List ℕ) → List (List ℕ)
 in_order [] = []
 in_order (g ∷ gs) = put_among g (in_order gs)
 
--- round a ring of n: the orders that go forward from some positions, and those that go back from some
+-- round a ring of n, in lexicographic order: the orders that go forward from some positions, and those that go back from some
 abbrev pub round : ℕ → List ℕ → List ℕ → List (List ℕ)
 round n from back_from = in_order (map (forward n) from ++ map (backward n) back_from)
 

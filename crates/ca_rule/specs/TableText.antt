@@ -58,7 +58,7 @@ nothing = record { variables = []; transitions = [] }
 abbrev pub states_said : Said → List States
 states_said said = map (λ (v : List ℕ × States). v.1) said.variables
 
--- the number of the last variable of this name, where the first of them has the number n; a later line replaces an
+-- the number of the last variable of this name, where the list's first variable has the number n; a later line replaces an
 -- earlier one for the lines below it (our own)
 abbrev pub number_of : ℕ → List (List ℕ × States) → List ℕ → Option ℕ
 number_of n [] name = None
