@@ -1,36 +1,68 @@
 -- Rules of every kind: what a cell is next, how many states there are, which rules are the same, and how a rule is named
 -- and printed. Another kind of rule is one more case of each of these.
-use Rattle.std.specs.Prelude.{◌≡◌, ℕ, List, false}
+use Rattle.std.specs.Prelude.{◌≡◌, ℕ, List, false, Option, Some, None, find}
+use Rattle.std.specs.Str.{bytes_eq}
 use Rattle.ca_rule.specs.Counts.{is_count}
 use Rattle.ca_rule.specs.Next as bs
 use Rattle.ca_rule.specs.Spelling as bs_text
+use Rattle.ca_rule.specs.TableNext.{TableRule, IsSound, table_next}
+use Rattle.ca_rule.specs.declared.bs_rule.BsRule.{BsRule}
 use Rattle.ca_rule.specs.declared.fault.RuleFault.{RuleFault}
+use Rattle.ca_rule.specs.declared.fault.RuleFault.TheVariants.{Bounded, Wakes, Unknown}
 use Rattle.ca_rule.specs.declared.rule.Rule.{Rule}
+use Rattle.ca_rule.specs.declared.rule.Rule.TheVariants as rule
+
+-- a rule of any kind: one in B/S notation, or a table
+pub data RuleValue : Type 0 where
+  Bs : BsRule → RuleValue
+  Tab : TableRule → RuleValue
+
+-- the rule that a program holds, of a table by a reference
+abbrev pub rule_value : Rule → RuleValue
+rule_value (rule.Bs bs) = Bs bs
+rule_value (rule.Tab table) = Tab table.now
 
 -- how many states a cell can have: two under a B/S rule
-abbrev pub states_of : Rule → ℕ
-states_of rule = 2
+abbrev pub states_of : RuleValue → ℕ
+states_of (Bs rule) = 2
+states_of (Tab table) = table.states
 
 -- the next state of the centre of nine cells
-abbrev pub next_of : Rule → List ℕ → ℕ
-next_of rule nine = bs.next_of rule.bs.hood rule.bs.birth rule.bs.survival nine
+abbrev pub next_of : RuleValue → List ℕ → ℕ
+next_of (Bs rule) nine = bs.next_of rule.hood rule.birth rule.survival nine
+next_of (Tab table) nine = table_next table nine
 
--- no cell is born where all is empty
-abbrev pub StaysEmpty : Rule → Type 0
-StaysEmpty rule = is_count rule.bs.birth 0 ≡ false
+-- states lead to states, and the empty plane stays empty: a B/S rule gives no birth at a count of 0
+abbrev pub IsSoundRule : RuleValue → Type 0
+IsSoundRule (Bs rule) = is_count rule.birth 0 ≡ false
+IsSoundRule (Tab table) = IsSound table
 
--- two rules are the same: both B/S rules, with one neighbourhood and the same counts for birth and for survival
-abbrev pub IsSameRule : Rule → Rule → Type 0
-IsSameRule r s = (r.bs.hood ≡ s.bs.hood) × (r.bs.birth ≡ s.bs.birth) × (r.bs.survival ≡ s.bs.survival)
+-- two rules are the same: both B/S rules, with one neighbourhood and the same counts for birth and for survival, or both
+-- tables, with one name
+abbrev pub IsSameRule : RuleValue → RuleValue → Type 0
+IsSameRule (Bs r) (Bs s) = (r.hood ≡ s.hood) × (r.birth ≡ s.birth) × (r.survival ≡ s.survival)
+IsSameRule (Bs r) (Tab u) = ⊥
+IsSameRule (Tab t) (Bs s) = ⊥
+IsSameRule (Tab t) (Tab u) = t.name ≡ u.name
 
--- the text names the rule: it spells a B/S rule
-abbrev pub NamesRule : List ℕ → Rule → Type 0
-NamesRule text rule = bs_text.Names text rule.bs
+-- the first table of this name, byte for byte
+abbrev pub first_named : List ℕ → List TableRule → Option TableRule
+first_named name tables = find (λ (t : TableRule). bytes_eq t.name name) tables
 
--- the fault of a text that names no rule of any kind
-abbrev pub IsRuleFault : List ℕ → RuleFault → Type 0
-IsRuleFault text fault = bs_text.IsFaultOf text fault
+-- the text names the rule among the tables: it has no `:`, and it spells that B/S rule, which gives no birth at a count of
+-- 0, or spells no B/S rule, and that is the first table of this name
+abbrev pub NamesRule : List ℕ → List TableRule → RuleValue → Type 0
+NamesRule text tables (Bs rule) = (bs_text.has_colon text ≡ false) × bs_text.Names text rule
+NamesRule text tables (Tab table) = (bs_text.has_colon text ≡ false) × bs_text.SpellsNone text × (first_named text tables ≡ Some table)
 
--- the one printed form
-abbrev pub printed_form : Rule → List ℕ
-printed_form rule = bs_text.printed rule.bs.hood rule.bs.birth rule.bs.survival
+-- the fault of a text that names no rule: a bounded grid, else a B/S rule that wakes the empty plane, else neither a B/S
+-- rule nor the name of a table
+abbrev pub IsRuleFault : List ℕ → List TableRule → RuleFault → Type 0
+IsRuleFault text tables Bounded = bs_text.IsFaultOf text Bounded
+IsRuleFault text tables Wakes = bs_text.IsFaultOf text Wakes
+IsRuleFault text tables Unknown = bs_text.IsFaultOf text Unknown × (first_named text tables ≡ None)
+
+-- the one printed form: that of a B/S rule, or the table's name
+abbrev pub printed_form : RuleValue → List ℕ
+printed_form (Bs rule) = bs_text.printed rule.hood rule.birth rule.survival
+printed_form (Tab table) = table.name

@@ -54,11 +54,15 @@ pub record Names (text : List ℕ) (rule : BsRule) : Type 0 where
   pub birth_is : rule.birth ≡ counts_of birth
   pub survival_is : rule.survival ≡ counts_of survival
 
+-- the text spells no rule, with birth on 0 or without
+abbrev pub SpellsNone : List ℕ → Type 0
+SpellsNone text = (birth survival : List ℕ) (hood : Hood) → Spells text birth survival hood → ⊥
+
 -- the fault of a text that names no rule: a bounded grid, else a rule that wakes the empty plane, else no spelling
 abbrev pub IsFaultOf : List ℕ → RuleFault → Type 0
 IsFaultOf text Bounded = has_colon text ≡ true
 IsFaultOf text Wakes = (has_colon text ≡ false) × (birth : List ℕ) × (survival : List ℕ) × (hood : Hood) × Spells text birth survival hood × (has_digit birth 0 ≡ true)
-IsFaultOf text Unknown = (has_colon text ≡ false) × ((birth survival : List ℕ) (hood : Hood) → Spells text birth survival hood → ⊥)
+IsFaultOf text Unknown = (has_colon text ≡ false) × SpellsNone text
 
 -- the digits of counts, rising, each once
 abbrev pub digits_of : Counts → List ℕ

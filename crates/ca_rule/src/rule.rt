@@ -1,73 +1,122 @@
 //! Rules of every kind, and the rule that a text names.
 
-ghost use Rattle.std.specs.Prelude.{◌≡◌, ◌↔◌, IsTrue, IfOk, IfErr};
+ghost use Rattle.std.specs.Prelude.{◌≡◌, ◌↔◌, None, Some, IsTrue, IfOk, IfErr, MatchOption};
 ghost use Rattle.ca_plane.specs.Bytes.{IsWord};
-ghost use Rattle.ca_rule.specs.Rule.{NamesRule, IsRuleFault, printed_form, IsSameRule};
+ghost use Rattle.ca_rule.specs.Rule.{rule_value, first_named, NamesRule, IsRuleFault, printed_form, IsSameRule};
 
 use crate::bs_rule::BsRule;
 use crate::fault::RuleFault;
+use crate::table::Table;
 use ca_plane::{Automaton, Memory, Nine};
 use std::alloc::Global;
 
-/// A rule of any kind. So far all rules are in B/S notation.
-#[derive(Clone, Copy, Debug)]
-pub struct Rule {
-    pub bs: BsRule,
+/// A rule of any kind.
+#[derive(Clone, Copy)]
+pub enum Rule<'t> {
+    /// A rule in B/S notation.
+    Bs(BsRule),
+    /// A rule table.
+    Tab(&'t Table),
 }
 
-/// The rule that the text names, as `B3/S23`, `s23b3` and `23/3` name Conway's Life. Nothing here takes memory.
+/// The rule that the text names: a rule in B/S notation, as `B3/S23`, `s23b3` and `23/3` name Conway's Life, or else the
+/// first of the tables whose name is the text, byte for byte. Nothing here takes memory.
 ///
 /// # Errors
 ///
 /// Fails where the text names no rule, with the reason.
-pub fn resolve(text: &[u8]) -> Result<Rule, RuleFault>
-    ensures found { IfOk result (λ rule. NamesRule text.now rule) }
-    ensures fault { IfErr result (λ f. IsRuleFault text.now f) }
+pub fn resolve<'t>(text: &[u8], tables: &'t [Table]) -> Result<Rule<'t>, RuleFault>
+    ensures found { IfOk result (λ rule. NamesRule text.now tables.now (rule_value rule)) }
+    ensures fault { IfErr result (λ f. IsRuleFault text.now tables.now f) }
 {
     match BsRule::parse(text) {
-        Ok(bs) => Ok(Rule { bs }),
-        Err(fault) => Err(fault),
+        Ok(bs) => Ok(Rule::Bs(bs)),
+        Err(RuleFault::Bounded) => Err(RuleFault::Bounded),
+        Err(RuleFault::Wakes) => Err(RuleFault::Wakes),
+        Err(RuleFault::Unknown) => {
+            let Some(table) = first_named(text, tables) else {
+                return Err(RuleFault::Unknown);
+            };
+            Ok(Rule::Tab(table))
+        }
     }
 }
 
-impl Rule {
-    /// The one printed form of the rule, as `B3/S23`.
+/// The first of the tables of this name.
+fn first_named<'t>(name: &[u8], tables: &'t [Table]) -> Option<&'t Table>
+    ensures { MatchOption result (first_named name.now tables.now ≡ None) (λ table. first_named name.now tables.now ≡ Some table.now) }
+{
+    let mut left = tables;
+    'tables: while let Some((table, later)) = left.split_first() {
+        if table.name() == name {
+            return Some(table);
+        }
+        left = later;
+    }
+    None
+}
+
+impl Rule<'_> {
+    /// The one printed form of the rule: `B3/S23` and the like, or the table's name.
     pub fn text(&self, alloc: Global) -> Result<Vec<u8>, Memory>
-        ensures printed { IfOk result (λ v. v.items ≡ printed_form self.now) }
+        ensures printed { IfOk result (λ v. v.items ≡ printed_form (rule_value self.now)) }
         ensures word { IfOk result (λ v. IsWord v.items) }
     {
-        self.bs.text(alloc)
+        match *self {
+            Rule::Bs(bs) => bs.text(alloc),
+            Rule::Tab(table) => {
+                let mut out = Vec::new(alloc);
+                out.extend_from_slice(table.name())?;
+                Ok(out)
+            }
+        }
     }
 
-    /// Whether the other rule is the same: it counts the same neighbours, and has the same counts for birth and for
-    /// survival. Nothing here takes memory.
-    pub fn same(&self, other: &Rule) -> bool
-        ensures { IsTrue result ↔ IsSameRule self.now other.now }
+    /// Whether the other rule is the same: both are in B/S notation, count the same neighbours, and have the same counts
+    /// for birth and for survival, or both are tables of one name. Nothing here takes memory.
+    pub fn same(&self, other: &Rule<'_>) -> bool
+        ensures { IsTrue result ↔ IsSameRule (rule_value self.now) (rule_value other.now) }
     {
-        self.bs.same(&other.bs)
+        match *self {
+            Rule::Bs(bs) => match *other {
+                Rule::Bs(other) => bs.same(&other),
+                Rule::Tab(_) => false,
+            },
+            Rule::Tab(table) => match *other {
+                Rule::Bs(_) => false,
+                Rule::Tab(other) => table.name() == other.name(),
+            },
+        }
     }
 }
 
-impl Automaton for Rule {
+impl Automaton for Rule<'_> {
     ghost use Rattle.std.proofs.Common.{arith, rules};
     ghost use Rattle.std.proofs.lemmas.Bool.Decides.{nat_tests};
-    ghost use Rattle.ca_rule.specs.Rule.{states_of, next_of, StaysEmpty};
+    ghost use Rattle.ca_rule.specs.Rule.{rule_value, states_of, next_of, IsSoundRule};
+    ghost use Rattle.ca_rule.specs.declared.rule.Rule.TheVariants.{Bs, Tab};
 
-    ghost state_count = { states_of };
+    ghost state_count = { λ rule. states_of (rule_value rule) };
 
-    ghost next_of = { next_of };
+    ghost next_of = { λ rule. next_of (rule_value rule) };
 
-    ghost sound = { StaysEmpty };
+    ghost sound = { λ rule. IsSoundRule (rule_value rule) };
 
     fn states(&self) -> u16 {
-        self.bs.states()
+        match *self {
+            Rule::Bs(bs) => bs.states(),
+            Rule::Tab(table) => table.states(),
+        }
     }
 
     fn next(&self, nine: &Nine) -> u8 {
-        self.bs.next(nine)
+        match *self {
+            Rule::Bs(bs) => bs.next(nine),
+            Rule::Tab(table) => table.next(nine),
+        }
     }
 
-    ghost closed = { λ rule nine _ _ _. Prim.grind (arith, nat_tests) };
+    ghost closed = { elim [ Bs bs ↦ λ nine _ _ _. Prim.grind (arith, nat_tests) | Tab table ↦ λ nine sound. sound.closed nine ] };
 
-    ghost quiet = { Prim.search rules };
+    ghost quiet = { elim [ Bs bs ↦ Prim.search rules | Tab table ↦ λ sound. sound.quiet ] };
 }

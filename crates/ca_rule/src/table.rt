@@ -47,19 +47,20 @@ pub struct Table {
 }
 
 impl Model for Table {
-    ghost use Rattle.ca_rule.specs.TableNext.{TableRule, IsSound};
-    ghost use Rattle.ca_rule.specs.inner.TableStored.{stored};
+    ghost use Rattle.ca_rule.specs.TableNext.{TableRule};
+    ghost use Rattle.ca_rule.specs.inner.TableStored.{stored, IsKept};
 
     ghost Value = { TableRule };
 
     ghost view = { λ t. stored t.name.items t.states t.neighbourhood t.symmetry t.variables.items t.transitions.items };
 
-    ghost invariant = { λ t. IsSound (stored t.name.items t.states t.neighbourhood t.symmetry t.variables.items t.transitions.items) };
+    ghost invariant = { λ t. IsKept (stored t.name.items t.states t.neighbourhood t.symmetry t.variables.items t.transitions.items) };
 }
 
 impl Table {
     ghost use Rattle.std.specs.Prelude.{◌≡◌, ◌≢◌, ◌≤◌, true, replicate, IfSome, IfNone};
     ghost use Rattle.std.specs.List.{list_all};
+    ghost use Rattle.ca_plane.specs.Bytes.{IsWord};
     ghost use Rattle.ca_rule.specs.TableNext.{Transition as TransitionValue, table_next};
     ghost use Rattle.ca_rule.specs.inner.TableStored.{stored, is_below};
 
@@ -72,6 +73,7 @@ impl Table {
         variables: Vec<StateSet>,
         transitions: Vec<Transition>,
     ) -> Option<Table>
+        requires named { IsWord name.items }
         requires low { 2 ≤ states }
         requires high { states ≤ 256 }
         requires results { list_all (λ (t : TransitionValue). is_below states t.result) transitions.items ≡ true }
@@ -95,7 +97,8 @@ impl Table {
 
     /// The name that the file's `@RULE` line gives.
     pub fn name(&self) -> &[u8]
-        ensures { result.now ≡ self.now.name }
+        ensures name { result.now ≡ self.now.name }
+        ensures word { IsWord result.now }
     {
         &self.name
     }

@@ -4,7 +4,8 @@ use Rattle.ca_rule.specs.declared.table.neighbourhood.Neighbourhood.{Neighbourho
 use Rattle.ca_rule.specs.declared.table.neighbourhood.Symmetry.{Symmetry}
 use Rattle.ca_rule.specs.declared.table.slot.Slot.{Slot}
 use Rattle.ca_rule.specs.declared.table.slot.Slot.TheVariants.{Number, Variable}
-use Rattle.ca_rule.specs.TableNext.{States, Transition, TableRule}
+use Rattle.ca_plane.specs.Bytes.{IsWord}
+use Rattle.ca_rule.specs.TableNext.{States, Transition, TableRule, IsSound}
 
 -- the table of these parts
 abbrev pub stored : List ℕ → ℕ → Neighbourhood → Symmetry → List States → List Transition → TableRule
@@ -21,3 +22,8 @@ stored named count of under sets lines = record {
 abbrev pub is_below : ℕ → Slot → Bool
 is_below count (Number state) = nat_lt state count
 is_below count (Variable v) = true
+
+-- what holds of each table that is kept: its name is a word, and it is sound
+pub record IsKept (table : TableRule) : Type 0 where
+  pub named : IsWord table.name
+  pub sound : IsSound table

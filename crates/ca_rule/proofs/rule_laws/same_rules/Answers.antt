@@ -1,9 +1,6 @@
 use Rattle.std.proofs.Common.{ap}
-use Rattle.ca_rule.proofs.Rules.{same-states, same-next, same-refl, same-sym, same-trans}
+use Rattle.ca_rule.proofs.Rules.{same-next, same-refl, same-sym, same-trans}
 use Rattle.ca_rule.proofs.rule_laws.same_rules.Goals as goal
-
-pub returns-clause-states : goal.returns-clause-states
-returns-clause-states c = same-states
 
 pub returns-clause-next : goal.returns-clause-next
 returns-clause-next c = λ r s nine same. ap (λ next. next nine) (same-next r s same)

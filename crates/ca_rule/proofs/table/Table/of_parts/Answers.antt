@@ -28,8 +28,11 @@ pub invariant_of-result : goal.invariant_of-result
 invariant_of-result c =
     let some : 0 < c.args.states = omega arith in
     record {
-      low = c.requires.low;
-      high = c.requires.high;
-      closed = closed (stored c.args.name.items c.args.states c.args.neighbourhood c.args.symmetry c.args.variables.items c.args.transitions.items) some c.requires.results;
-      quiet = returns-clause-quiet c;
+      named = c.requires.named;
+      sound = record {
+        low = c.requires.low;
+        high = c.requires.high;
+        closed = closed (stored c.args.name.items c.args.states c.args.neighbourhood c.args.symmetry c.args.variables.items c.args.transitions.items) some c.requires.results;
+        quiet = returns-clause-quiet c;
+      };
     }
