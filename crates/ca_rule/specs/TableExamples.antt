@@ -1,7 +1,9 @@
 -- Small rule tables and cells for the worked examples.
 use Rattle.std.specs.Prelude.{ℕ, ◌-◌, List, [], ◌∷◌, ◌++◌, map, flat_map, codes}
 use Rattle.ca_rule.specs.declared.table.neighbourhood.Neighbourhood.{Neighbourhood}
+use Rattle.ca_rule.specs.declared.table.neighbourhood.Neighbourhood.TheVariants.{VonNeumann}
 use Rattle.ca_rule.specs.declared.table.neighbourhood.Symmetry.{Symmetry}
+use Rattle.ca_rule.specs.declared.table.neighbourhood.Symmetry.TheVariants.{Identity}
 use Rattle.ca_rule.specs.declared.table.slot.Slot.{Slot}
 use Rattle.ca_rule.specs.declared.table.slot.Slot.TheVariants.{Number, Variable}
 use Rattle.ca_rule.specs.TableNext.{Transition, TableRule}
@@ -20,6 +22,10 @@ table_of of under lines = record {
   variables = (1 ∷ 2 ∷ []) ∷ (0 ∷ 1 ∷ 2 ∷ []) ∷ [];
   transitions = lines;
 }
+
+-- one of another name, without transitions
+abbrev pub named : List ℕ → TableRule
+named other = record (table_of VonNeumann Identity []) { name = other }
 
 -- `a` and `b`
 abbrev pub a : Slot

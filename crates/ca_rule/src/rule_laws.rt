@@ -1,11 +1,17 @@
 //! What holds of rules of every kind and of the texts that name them, said of the definitions alone. These functions are
 //! of no use to a program: each has a law for its contract.
 
-ghost use Rattle.std.specs.Prelude.{◌≡◌, ℕ, List};
+ghost use Rattle.std.specs.Prelude.{◌≡◌, ℕ, List, [], ◌∷◌, codes};
 ghost use Rattle.ca_rule.specs.TableNext.{TableRule};
-ghost use Rattle.ca_rule.specs.Rule.{RuleValue, Bs, next_of, IsSameRule, NamesRule, IsRuleFault, printed_form};
+ghost use Rattle.ca_rule.specs.TableExamples.{table_of, named, one_neighbour, north_of_one};
+ghost use Rattle.ca_rule.specs.Counts.{counts_of};
+ghost use Rattle.ca_rule.specs.Rule.{RuleValue, Bs, Tab, next_of, IsSameRule, NamesRule, IsRuleFault, printed_form};
 ghost use Rattle.ca_rule.specs.declared.bs_rule.BsRule.{BsRule};
 ghost use Rattle.ca_rule.specs.declared.fault.RuleFault.{RuleFault};
+ghost use Rattle.ca_rule.specs.declared.fault.RuleFault.TheVariants.{Bounded, Wakes, Unknown};
+ghost use Rattle.ca_rule.specs.declared.hood.Hood.TheVariants.{Moore};
+ghost use Rattle.ca_rule.specs.declared.table.neighbourhood.Neighbourhood.TheVariants.{VonNeumann};
+ghost use Rattle.ca_rule.specs.declared.table.neighbourhood.Symmetry.TheVariants.{Rotate4};
 
 /// A text names one rule at most among tables, or has one fault, and not both. The printed form of a rule that it names
 /// names that rule too. Two rules that are named among the same tables are the same only where they are equal.
@@ -24,4 +30,17 @@ pub fn same_rules()
     ensures reflexive { (r : RuleValue) → IsSameRule r r }
     ensures symmetric { (r s : RuleValue) → IsSameRule r s → IsSameRule s r }
     ensures transitive { (r s t : RuleValue) → IsSameRule r s → IsSameRule s t → IsSameRule r t }
+{}
+
+/// Some texts among tables.
+pub fn worked_names()
+    ensures table_is_named { NamesRule (codes "Spread") (table_of VonNeumann Rotate4 [] ∷ []) (Tab (table_of VonNeumann Rotate4 [])) }
+    ensures other_names_are_passed_over { NamesRule (codes "Spread") (named (codes "Spreads") ∷ table_of VonNeumann Rotate4 [] ∷ []) (Tab (table_of VonNeumann Rotate4 [])) }
+    ensures first_of_a_name_is_named { NamesRule (codes "Spread") (table_of VonNeumann Rotate4 (one_neighbour ∷ []) ∷ table_of VonNeumann Rotate4 (north_of_one ∷ []) ∷ [])
+        (Tab (table_of VonNeumann Rotate4 (one_neighbour ∷ []))) }
+    ensures life_is_no_table { (rule : BsRule) → rule.hood ≡ Moore → rule.birth ≡ counts_of (codes "3") → rule.survival ≡ counts_of (codes "23") → NamesRule (codes "23/3") (named (codes "23/3") ∷ []) (Bs rule) }
+    ensures lower_case_is_another_name { IsRuleFault (codes "spread") (table_of VonNeumann Rotate4 [] ∷ []) Unknown }
+    ensures empty_text_is_no_name { IsRuleFault [] (table_of VonNeumann Rotate4 [] ∷ []) Unknown }
+    ensures waking_rule_is_no_table { IsRuleFault (codes "b03s23") (named (codes "b03s23") ∷ []) Wakes }
+    ensures colon_is_no_table { IsRuleFault (codes "Spread:T9") (named (codes "Spread:T9") ∷ []) Bounded }
 {}
