@@ -5,7 +5,7 @@ use Rattle.std.specs.Str.{bytes_eq}
 use Rattle.std.proofs.lemmas.Bool.{cases_Bool}
 use Rattle.std.proofs.lemmas.List.{append-nil}
 use Rattle.ca_plane.specs.Bytes.{words_of}
-use Rattle.ca_claims.specs.Text.{about, Line, Load, Claims, path_of, IsAllowed, LinesSay, spoken, loaded_paths, claims_from}
+use Rattle.ca_claims.specs.Text.{about, Line, Rule, Load, Claims, path_of, IsAllowed, LinesSay, spoken, rule_paths, file_paths, claims_from}
 use Rattle.ca_claims.specs.inner.Reading.{SaysNext}
 
 -- what lines say and then more lines
@@ -14,16 +14,26 @@ spoken-append [] more = refl
 spoken-append (None ∷ said) more = spoken-append said more
 spoken-append (Some line ∷ said) more = ap (λ l. line ∷ l) (spoken-append said more)
 
--- the paths that they load
-pub loaded_paths-append : (said more : List (Option Line)) → loaded_paths (said ++ more) ≡ loaded_paths said ++ loaded_paths more
-loaded_paths-append [] more = refl
-loaded_paths-append (None ∷ said) more = loaded_paths-append said more
-loaded_paths-append (Some (Load name path) ∷ said) more = ap (λ l. path ∷ l) (loaded_paths-append said more)
-loaded_paths-append (Some (Claims claim) ∷ said) more = loaded_paths-append said more
+-- the paths of their tables
+pub rule_paths-append : (said more : List (Option Line)) → rule_paths (said ++ more) ≡ rule_paths said ++ rule_paths more
+rule_paths-append [] more = refl
+rule_paths-append (None ∷ said) more = rule_paths-append said more
+rule_paths-append (Some (Rule path) ∷ said) more = ap (λ l. path ∷ l) (rule_paths-append said more)
+rule_paths-append (Some (Load name path) ∷ said) more = rule_paths-append said more
+rule_paths-append (Some (Claims claim) ∷ said) more = rule_paths-append said more
+
+-- the paths of their files
+pub file_paths-append : (said more : List (Option Line)) → file_paths (said ++ more) ≡ file_paths said ++ file_paths more
+file_paths-append [] more = refl
+file_paths-append (None ∷ said) more = file_paths-append said more
+file_paths-append (Some (Rule path) ∷ said) more = ap (λ l. path ∷ l) (file_paths-append said more)
+file_paths-append (Some (Load name path) ∷ said) more = ap (λ l. path ∷ l) (file_paths-append said more)
+file_paths-append (Some (Claims claim) ∷ said) more = file_paths-append said more
 
 -- the path that they load a name from
 pub path_of-append : (lines more : List Line) (name : List ℕ) → path_of (lines ++ more) name ≡ option_or (path_of lines name) (path_of more name)
 path_of-append [] more name = refl
+path_of-append (Rule path ∷ lines) more name = path_of-append lines more name
 path_of-append (Load loaded path ∷ lines) more name =
     let later = path_of-append lines more name in
     elim (cases_Bool (bytes_eq loaded name)) [ inl e ↦ rw e refl | inr e ↦ rw e later ]
@@ -43,6 +53,10 @@ claims_from-append n earlier [] more = ap (λ k. claims_from k earlier more) (om
 claims_from-append n earlier (None ∷ said) more =
     claims_from-append (n + 1) earlier said more
     ∙ ap (λ l. claims_from (n + 1) earlier said ++ l) (same_claims _ _ _ _ more (omega arith) refl)
+claims_from-append n earlier (Some (Rule path) ∷ said) more =
+    let line = Rule path in
+    claims_from-append (n + 1) (earlier ++ line ∷ []) said more
+    ∙ ap (λ l. claims_from (n + 1) (earlier ++ line ∷ []) said ++ l) (same_claims _ _ _ _ more (omega arith) (one_before earlier line (spoken said)))
 claims_from-append n earlier (Some (Load name path) ∷ said) more =
     let line = Load name path in
     claims_from-append (n + 1) (earlier ++ line ∷ []) said more

@@ -7,7 +7,7 @@ use Rattle.ca_rle.proofs.OneHeader.{one_integer}
 use Rattle.ca_claims.specs.declared.fault.ClaimFault.{ClaimFault}
 use Rattle.ca_claims.specs.declared.fault.ClaimFault.TheVariants.{Syntax, Number, UnknownName, NameTaken, Memory}
 use Rattle.ca_claims.specs.declared.claims.line.Claim.TheVariants.{Still, Oscillator, Spaceship, Becomes}
-use Rattle.ca_claims.specs.Text.{Claim, Line, Load, Claims, WordsSay, HasGoodNumbers, IsAllowed, LinesSay, IsClaimText, spoken}
+use Rattle.ca_claims.specs.Text.{Claim, Line, Rule, Load, Claims, WordsSay, HasGoodNumbers, IsAllowed, LinesSay, IsClaimText, spoken}
 use Rattle.ca_claims.specs.TextFaults.{IsFirstFault}
 use Rattle.ca_claims.specs.inner.Reading.{SaysNext, HasFault}
 use Rattle.ca_claims.proofs.LinesSaid.{one_before}
@@ -35,10 +35,22 @@ load_or_claim words name path (Oscillator n v) h k = cc
 load_or_claim words name path (Spaceship n v dx dy) h k = cc
 load_or_claim words name path (Becomes n v p) h k = cc
 
+-- nor is a table
+rule_or_claim : (words : List (List ℕ)) (path : List ℕ) (claim : Claim) → WordsSay words (Rule path) → WordsSay words (Claims claim) → ⊥
+rule_or_claim words path (Still n) h k = cc
+rule_or_claim words path (Oscillator n v) h k = cc
+rule_or_claim words path (Spaceship n v dx dy) h k = cc
+rule_or_claim words path (Becomes n v p) h k = cc
+
 -- words say one thing
 pub same_line : (words : List (List ℕ)) (a b : Line) → WordsSay words a → WordsSay words b → a ≡ b
+same_line words (Rule p) (Rule q) h k = cc
+same_line words (Rule p) (Load m q) h k = cc
+same_line words (Rule p) (Claims b) h k = absurd (rule_or_claim words p b h k)
+same_line words (Load n p) (Rule q) h k = cc
 same_line words (Load n p) (Load m q) h k = cc
 same_line words (Load n p) (Claims b) h k = absurd (load_or_claim words n p b h k)
+same_line words (Claims a) (Rule q) h k = absurd (rule_or_claim words q a k h)
 same_line words (Claims a) (Load m q) h k = absurd (load_or_claim words m q a k h)
 same_line words (Claims a) (Claims b) h k = ap Claims (same_claim words a b h k)
 

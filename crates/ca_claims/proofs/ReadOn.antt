@@ -12,11 +12,11 @@ use Rattle.std.proofs.lemmas.Slice.Eq.{bytes_eq-Decides}
 use Rattle.ca_claims.specs.declared.claims.line.Claim.{Claim as ClaimOf}
 use Rattle.ca_claims.specs.declared.claims.line.ClaimLine.{ClaimLine}
 use Rattle.ca_claims.specs.Places.{path_at, IsAsked, numbered}
-use Rattle.ca_claims.specs.Text.{Claim, patterns_of, about, HasGoodNumbers, Line, Load, Claims, path_of, AreLoaded, IsAllowed, spoken, loaded_paths, each_once, claims_from}
+use Rattle.ca_claims.specs.Text.{Claim, patterns_of, about, HasGoodNumbers, Line, Rule, Load, Claims, path_of, AreLoaded, IsAllowed, spoken, rule_paths, file_paths, each_once, claims_from}
 use Rattle.ca_claims.specs.inner.Reading.{IsKept, StandsAt, AreKnown, at_places, with_path}
 use Rattle.ca_claims.proofs.ClaimKinds.{paths_of, about_same, about_twice, numbers_about}
 use Rattle.ca_claims.proofs.PathLists.{each_once-push, kept_place, no_fewer}
-use Rattle.ca_claims.proofs.LinesSaid.{spoken-append, loaded_paths-append, path_of-append, claims_from-append}
+use Rattle.ca_claims.proofs.LinesSaid.{spoken-append, rule_paths-append, file_paths-append, path_of-append, claims_from-append}
 
 -- what holds of a result that is Ok
 pub on_ok_holds : {T E : Type 0} (r : Result T E) (P : Type 0) → is_ok r ≡ true → OnOk r P → P
@@ -60,6 +60,18 @@ asked_kept paths path claim h = record {
   numbers = h.numbers;
 }
 
+-- rules keep their tables
+rules_kept : (paths : List (List ℕ)) (path : List ℕ) (rules : List ℕ) → All (λ i. i < length paths) rules → map (path_at (with_path paths path)) rules ≡ map (path_at paths) rules
+rules_kept paths path [] h = refl
+rules_kept paths path (i ∷ is) h =
+    let first = path_kept paths path i (All-head (λ k. k < length paths) i is h) in
+    let others = rules_kept paths path is (All-tail (λ k. k < length paths) i is h) in
+    λ j. first j ∷ others j
+
+-- and their places within the paths
+places_kept : (paths : List (List ℕ)) (path : List ℕ) (rules : List ℕ) → All (λ i. i < length paths) rules → All (λ i. i < length (with_path paths path)) rules
+places_kept paths path rules h = All-weaker (λ i. i < length paths) (λ i. i < length (with_path paths path)) (λ i lt. omega (arith, no_fewer paths path)) rules h
+
 -- all claims keep theirs
 all_kept : (paths : List (List ℕ)) (path : List ℕ) (claims : List ClaimLine) → All (λ l. IsAsked paths l.claim) claims → map (numbered (with_path paths path)) claims ≡ map (numbered paths) claims
 all_kept paths path [] h = refl
@@ -85,20 +97,54 @@ loaded_now lines name path q none e =
 loaded_else : (lines : List Line) (name path q : List ℕ) → bytes_eq name q ≡ false → path_of (lines ++ Load name path ∷ []) q ≡ path_of lines q
 loaded_else lines name path q e = path_of-append lines (Load name path ∷ []) q ∙ rw e (option_or_none (path_of lines q))
 
--- a claim loads nothing
+-- a rule table loads nothing
+rule_loads_none : (lines : List Line) (path q : List ℕ) → path_of (lines ++ Rule path ∷ []) q ≡ path_of lines q
+rule_loads_none lines path q = path_of-append lines (Rule path ∷ []) q ∙ option_or_none (path_of lines q)
+
+-- nor does a claim
 claim_loads_none : (lines : List Line) (claim : Claim) (q : List ℕ) → path_of (lines ++ Claims claim ∷ []) q ≡ path_of lines q
 claim_loads_none lines claim q = path_of-append lines (Claims claim ∷ []) q ∙ option_or_none (path_of lines q)
 
-module _ (said : List (Option Line)) (paths : List (List ℕ)) (claims : List ClaimLine) (names : List ℕ → Option ℕ) (read : IsKept said paths claims names) where
+module _ (said : List (Option Line)) (paths : List (List ℕ)) (rules : List ℕ) (claims : List ClaimLine) (names : List ℕ → Option ℕ) (read : IsKept said paths rules claims names) where
   -- a line that says nothing
-  pub read_none : IsKept (said ++ None ∷ []) paths claims names
+  pub read_none : IsKept (said ++ None ∷ []) paths rules claims names
   read_none =
       let same : spoken (said ++ None ∷ []) ≡ spoken said = spoken-append said (None ∷ []) ∙ append-nil (spoken said) in
       record {
-        once = read.once ∙ ap each_once (sym (loaded_paths-append said (None ∷ []) ∙ append-nil (loaded_paths said)));
+        once = read.once ∙ ap each_once (sym (file_paths-append said (None ∷ []) ∙ append-nil (file_paths said)));
+        ruled = read.ruled ∙ sym (rule_paths-append said (None ∷ []) ∙ append-nil (rule_paths said));
+        placed = read.placed;
         asked = read.asked ∙ sym (claims_from-append 1 [] said (None ∷ []) ∙ append-nil (claims_from 1 [] said));
         good = read.good;
         named = λ q. subst (λ ls. StandsAt paths (names q) (path_of ls q)) (sym same) (read.named q);
+      }
+
+  -- the paths after a line with one more
+  once_more : (path : List ℕ) (line : Line) → file_paths (Some line ∷ []) ≡ path ∷ [] → with_path paths path ≡ each_once (file_paths (said ++ Some line ∷ []))
+  once_more path line e =
+      ap (λ l. with_path l path) read.once ∙ sym (each_once-push (file_paths said) path)
+      ∙ ap (λ l. each_once (file_paths said ++ l)) (sym e) ∙ ap each_once (sym (file_paths-append said (Some line ∷ [])))
+
+  -- what was asked before it
+  asked_before : (path : List ℕ) → All (λ l. IsAsked (with_path paths path) l.claim) claims
+  asked_before path = All-weaker (λ l. IsAsked paths l.claim) (λ l. IsAsked (with_path paths path) l.claim) (λ l. asked_kept paths path l.claim) claims read.good
+
+  -- a line that says where a rule table is
+  pub read_rule : (path : List ℕ) (place : ℕ) → slice_get (with_path paths path) place ≡ Some path
+      → IsKept (said ++ Some (Rule path) ∷ []) (with_path paths path) (rules ++ place ∷ []) claims names
+  read_rule path place at =
+      let s : Option Line = Some (Rule path) in
+      record {
+        once = once_more path (Rule path) refl;
+        ruled = map-append (path_at (with_path paths path)) rules (place ∷ [])
+            ∙ ap (λ l. l ++ path_at (with_path paths path) place ∷ []) (rules_kept paths path rules read.placed ∙ read.ruled)
+            ∙ ap (λ p. rule_paths said ++ unwrap_or p [] ∷ []) at
+            ∙ sym (rule_paths-append said (s ∷ []));
+        placed = All-push (λ i. i < length (with_path paths path)) rules place (places_kept paths path rules read.placed) (slice_get_within (with_path paths path) place path at);
+        asked = all_kept paths path claims read.good ∙ read.asked ∙ sym (claims_from-append 1 [] said (s ∷ []) ∙ append-nil (claims_from 1 [] said));
+        good = asked_before path;
+        named = λ q. subst (StandsAt (with_path paths path) (names q)) (sym (ap (λ ls. path_of ls q) (spoken-append said (s ∷ [])) ∙ rule_loads_none (spoken said) path q))
+            (name_kept paths path (names q) (path_of (spoken said) q) (read.named q));
       }
 
   -- the name wasn't loaded
@@ -118,13 +164,15 @@ module _ (said : List (Option Line)) (paths : List (List ℕ)) (claims : List Cl
   -- a line that loads a name from a path
   pub read_load : (name path : List ℕ) (place : ℕ) (after : List ℕ → Option ℕ) → names name ≡ None → slice_get (with_path paths path) place ≡ Some path
       → ((q : List ℕ) → after q ≡ update bytes_eq names name (Some place) q)
-      → IsAllowed (spoken said) (Load name path) × IsKept (said ++ Some (Load name path) ∷ []) (with_path paths path) claims after
+      → IsAllowed (spoken said) (Load name path) × IsKept (said ++ Some (Load name path) ∷ []) (with_path paths path) rules claims after
   read_load name path place after new at updated = (
     not_loaded name new,
     record {
-      once = ap (λ l. with_path l path) read.once ∙ sym (each_once-push (loaded_paths said) path) ∙ ap each_once (sym (loaded_paths-append said (Some (Load name path) ∷ [])));
+      once = once_more path (Load name path) refl;
+      ruled = rules_kept paths path rules read.placed ∙ read.ruled ∙ sym (rule_paths-append said (Some (Load name path) ∷ []) ∙ append-nil (rule_paths said));
+      placed = places_kept paths path rules read.placed;
       asked = all_kept paths path claims read.good ∙ read.asked ∙ sym (claims_from-append 1 [] said (Some (Load name path) ∷ []) ∙ append-nil (claims_from 1 [] said));
-      good = All-weaker (λ l. IsAsked paths l.claim) (λ l. IsAsked (with_path paths path) l.claim) (λ l. asked_kept paths path l.claim) claims read.good;
+      good = asked_before path;
       named = λ q. subst (λ o. StandsAt (with_path paths path) o (path_of (spoken (said ++ Some (Load name path) ∷ [])) q)) (sym (updated q)) (named_after name path place new at q);
     },
   )
@@ -179,7 +227,7 @@ module _ (said : List (Option Line)) (paths : List (List ℕ)) (claims : List Cl
 
   -- a line that makes a claim
   pub read_claim : (claim : Claim) (line : ℕ) → AreKnown names claim → HasGoodNumbers claim → line ≡ length said + 1
-      → IsAllowed (spoken said) (Claims claim) × IsKept (said ++ Some (Claims claim) ∷ []) paths (claims ++ record { line = line; claim = at_places names claim } ∷ []) names
+      → IsAllowed (spoken said) (Claims claim) × IsKept (said ++ Some (Claims claim) ∷ []) paths rules (claims ++ record { line = line; claim = at_places names claim } ∷ []) names
   read_claim claim line known good number =
       let s : Option Line = Some (Claims claim) in
       let l : ClaimLine = record { line = line; claim = at_places names claim } in
@@ -187,7 +235,9 @@ module _ (said : List (Option Line)) (paths : List (List ℕ)) (claims : List Cl
       let paths_of = places_paths claim known in (
         (good, names_loaded claim known),
         record {
-          once = read.once ∙ ap each_once (sym (loaded_paths-append said (s ∷ []) ∙ append-nil (loaded_paths said)));
+          once = read.once ∙ ap each_once (sym (file_paths-append said (s ∷ []) ∙ append-nil (file_paths said)));
+          ruled = read.ruled ∙ sym (rule_paths-append said (s ∷ []) ∙ append-nil (rule_paths said));
+          placed = read.placed;
           asked = map-append (numbered paths) claims (l ∷ [])
               ∙ ap (λ cs. cs ++ (line, about (path_at paths) (at_places names claim)) ∷ []) read.asked
               ∙ (λ i. claims_from 1 [] said ++ (counted i, paths_of i) ∷ [])

@@ -5,7 +5,7 @@ use Rattle.ca_rule.specs.Counts.{counts_of}
 use Rattle.ca_rule.specs.Next.{next_of}
 use Rattle.ca_rule.specs.declared.hood.Hood.TheVariants.{Moore}
 use Rattle.ca_claims.specs.declared.claims.line.Claim.TheVariants.{Still, Oscillator, Spaceship, Becomes}
-use Rattle.ca_claims.specs.Text.{Line, Load, Claims, Asked}
+use Rattle.ca_claims.specs.Text.{Line, Rule, Load, Claims, Asked}
 
 -- lines, each ended by LF
 abbrev pub text_of : List (List ℕ) → List ℕ
@@ -33,10 +33,41 @@ every_said =
 abbrev pub every_asked : Asked
 every_asked = record {
   paths = codes "block.rle" ∷ codes "glider.rle" ∷ [];
+  rules = [];
   claims =
       (5, Still (codes "block.rle")) ∷ (6, Oscillator (codes "block.rle") 7)
       ∷ (8, Spaceship (codes "glider.rle") 4 (neg_ℤ (pos 1)) (pos 2)) ∷ (9, Becomes (codes "glider.rle") 0 (codes "block.rle")) ∷ [];
 }
+
+-- a rule table behind two names of one path
+abbrev pub table_text : List ℕ
+table_text = text_of (codes "load a p" ∷ codes "load b p" ∷ codes "rule r" ∷ [])
+
+-- what its lines say
+abbrev pub table_said : List (Option Line)
+table_said = Some (Load (codes "a") (codes "p")) ∷ Some (Load (codes "b") (codes "p")) ∷ Some (Rule (codes "r")) ∷ []
+
+-- rule tables before and behind a name and a claim, one of them on two lines
+abbrev pub tables_text : List ℕ
+tables_text = text_of (codes "rule r" ∷ codes "load a p" ∷ codes "still a" ∷ codes "rule q" ∷ codes "rule r" ∷ [])
+
+-- what its lines say
+abbrev pub tables_said : List (Option Line)
+tables_said =
+    Some (Rule (codes "r")) ∷ Some (Load (codes "a") (codes "p")) ∷ Some (Claims (Still (codes "a")))
+    ∷ Some (Rule (codes "q")) ∷ Some (Rule (codes "r")) ∷ []
+
+-- what it asks: the path on two lines is one of the files, and two of the rule tables
+abbrev pub tables_asked : Asked
+tables_asked = record {
+  paths = codes "r" ∷ codes "p" ∷ codes "q" ∷ [];
+  rules = codes "r" ∷ codes "q" ∷ codes "r" ∷ [];
+  claims = (3, Still (codes "p")) ∷ [];
+}
+
+-- two paths where one is wanted
+abbrev pub two_tables_text : List ℕ
+two_tables_text = text_of (codes "rule r" ∷ codes "rule r q" ∷ [])
 
 -- a claim about a name that isn't loaded
 abbrev pub unknown_text : List ℕ

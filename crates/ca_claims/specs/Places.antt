@@ -1,4 +1,4 @@
--- What the claims of a text stand for, whose patterns are given by the indices of their paths.
+-- What the rules and claims of a text stand for, whose files are given by the indices of their paths.
 use Rattle.std.specs.Prelude.{ℕ, ◌<◌, List, [], slice_get, unwrap_or, length}
 use Rattle.std.specs.List.{AllByRecursion}
 use Rattle.ca_claims.specs.declared.claims.line.Claim.{Claim as ClaimOf}

@@ -49,8 +49,9 @@ HasGoodNumbers (Oscillator pattern period) = (2 ≤ period) × (period ≤ longe
 HasGoodNumbers (Spaceship pattern period dx dy) = (1 ≤ period) × (period ≤ longest_period) × IsShift dx × IsShift dy × ((dx ≡ pos 0) → (dy ≡ pos 0) → ⊥)
 HasGoodNumbers (Becomes pattern generations other) = generations ≤ most_generations
 
--- what a line says: that a name is loaded from a path, or a claim
+-- what a line says: that a rule table is at a path, that a name is loaded from a path, or a claim
 pub data Line : Type 0 where
+  Rule : (path : List ℕ) → Line
   Load : (name path : List ℕ) → Line
   Claims : (claim : Claim) → Line
 
@@ -59,9 +60,10 @@ abbrev pub is_skipped : List (List ℕ) → Bool
 is_skipped [] = true
 is_skipped (w ∷ ws) = starts_with nat_eq w (codes "#")
 
--- what a line says by its words: `load NAME PATH`, `still NAME`, `oscillator NAME P`, `spaceship NAME P DX DY`, or
+-- what a line says by its words: `rule PATH`, `load NAME PATH`, `still NAME`, `oscillator NAME P`, `spaceship NAME P DX DY`, or
 -- `becomes NAME N NAME`
 abbrev pub WordsSay : List (List ℕ) → Line → Type 0
+WordsSay words (Rule path) = words ≡ codes "rule" ∷ path ∷ []
 WordsSay words (Load name path) = words ≡ codes "load" ∷ name ∷ path ∷ []
 WordsSay words (Claims (Still name)) = words ≡ codes "still" ∷ name ∷ []
 WordsSay words (Claims (Oscillator name period)) = (p : List ℕ) ×
@@ -74,6 +76,7 @@ WordsSay words (Claims (Becomes name generations other)) = (n : List ℕ) ×
 -- the path that a name is loaded from
 abbrev pub path_of : List Line → List ℕ → Option (List ℕ)
 path_of [] name = None
+path_of (Rule path ∷ ls) name = path_of ls name
 path_of (Load loaded path ∷ ls) name = if bytes_eq loaded name then Some path else path_of ls name
 path_of (Claims claim ∷ ls) name = path_of ls name
 
@@ -81,8 +84,9 @@ path_of (Claims claim ∷ ls) name = path_of ls name
 abbrev pub AreLoaded : List Line → List (List ℕ) → Type 0
 AreLoaded earlier names = AllByRecursion (λ n. IsSome (path_of earlier n)) names
 
--- a name is loaded once, and a claim has good numbers, and its names are loaded on earlier lines
+-- a rule table may stand anywhere; a name is loaded once; and a claim has good numbers, and its names are loaded on earlier lines
 abbrev pub IsAllowed : List Line → Line → Type 0
+IsAllowed earlier (Rule path) = Unit {0}
 IsAllowed earlier (Load name path) = path_of earlier name ≡ None
 IsAllowed earlier (Claims claim) = HasGoodNumbers claim × AreLoaded earlier (patterns_of claim)
 
@@ -105,12 +109,21 @@ spoken [] = []
 spoken (None ∷ said) = spoken said
 spoken (Some line ∷ said) = line ∷ spoken said
 
--- the paths of the lines that load, in their order
-abbrev pub loaded_paths : List (Option Line) → List (List ℕ)
-loaded_paths [] = []
-loaded_paths (None ∷ said) = loaded_paths said
-loaded_paths (Some (Load name path) ∷ said) = path ∷ loaded_paths said
-loaded_paths (Some (Claims claim) ∷ said) = loaded_paths said
+-- the paths of the rule tables, in the order of their lines
+abbrev pub rule_paths : List (Option Line) → List (List ℕ)
+rule_paths [] = []
+rule_paths (None ∷ said) = rule_paths said
+rule_paths (Some (Rule path) ∷ said) = path ∷ rule_paths said
+rule_paths (Some (Load name path) ∷ said) = rule_paths said
+rule_paths (Some (Claims claim) ∷ said) = rule_paths said
+
+-- the paths of the rule tables and of the names that are loaded, in the order of their lines
+abbrev pub file_paths : List (Option Line) → List (List ℕ)
+file_paths [] = []
+file_paths (None ∷ said) = file_paths said
+file_paths (Some (Rule path) ∷ said) = path ∷ file_paths said
+file_paths (Some (Load name path) ∷ said) = path ∷ file_paths said
+file_paths (Some (Claims claim) ∷ said) = file_paths said
 
 -- each once, where it stands first
 abbrev pub each_once : List (List ℕ) → List (List ℕ)
@@ -121,15 +134,18 @@ each_once (p ∷ ps) = p ∷ filter (λ q. not (bytes_eq q p)) (each_once ps)
 abbrev pub claims_from : ℕ → List Line → List (Option Line) → List (ℕ × Claim)
 claims_from n earlier [] = []
 claims_from n earlier (None ∷ said) = claims_from (n + 1) earlier said
+claims_from n earlier (Some (Rule path) ∷ said) = claims_from (n + 1) (earlier ++ Rule path ∷ []) said
 claims_from n earlier (Some (Load name path) ∷ said) = claims_from (n + 1) (earlier ++ Load name path ∷ []) said
 claims_from n earlier (Some (Claims claim) ∷ said) =
     (n, about (λ name. unwrap_or (path_of earlier name) []) claim) ∷ claims_from (n + 1) (earlier ++ Claims claim ∷ []) said
 
--- what a claim text asks: the paths of its files, each once, and its claims with the numbers of their lines
+-- what a claim text asks: the paths of its files, each once; those of the rule tables, one for each of their lines; and its
+-- claims with the numbers of their lines
 pub record Asked : Type 0 where
   pub paths : List (List ℕ)
+  pub rules : List (List ℕ)
   pub claims : List (ℕ × Claim)
 
 -- what the lines of a text ask; lines are counted from 1, skipped ones too
 abbrev pub asked_by : List (Option Line) → Asked
-asked_by said = record { paths = each_once (loaded_paths said); claims = claims_from 1 [] said }
+asked_by said = record { paths = each_once (file_paths said); rules = rule_paths said; claims = claims_from 1 [] said }

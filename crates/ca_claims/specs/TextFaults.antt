@@ -34,7 +34,7 @@ abbrev pub LoadTaken : List Line → List (List ℕ) → Type 0
 LoadTaken earlier words =
     (is_skipped words ≡ false) × (name : List ℕ) × (path : List ℕ) × WordsSay words (Load name path) × IsSome (path_of earlier name)
 
--- a good line: a name that no earlier line loads, or a claim with good numbers about names that earlier lines load
+-- a good line: a rule table, a name that no earlier line loads, or a claim with good numbers about names that earlier lines load
 abbrev pub AreAllowed : List Line → List (List ℕ) → Type 0
 AreAllowed earlier words = (is_skipped words ≡ false) × (line : Line) × WordsSay words line × IsAllowed earlier line
 

@@ -1,9 +1,9 @@
 //! Claim texts, and what they ask.
 
-ghost use Rattle.std.specs.Prelude.{◌≡◌, ◌≢◌, ℕ, ◌<◌, Some, slice_get, length, MatchOption};
+ghost use Rattle.std.specs.Prelude.{◌≡◌, ◌≢◌, ℕ, ◌<◌, Some, map, slice_get, length, All, MatchOption};
 ghost use Rattle.std.specs.List.{IsDistinct};
 ghost use Rattle.std.specs.Str.{bytes_eq};
-ghost use Rattle.ca_claims.specs.Places.{numbered, IsAsked};
+ghost use Rattle.ca_claims.specs.Places.{path_at, numbered, IsAsked};
 
 mod asks;
 mod limits;
@@ -19,23 +19,28 @@ use paths::Paths;
 pub use reading::read_claims;
 use std::marker::Model;
 
-/// What a claim text asks: the paths of its files, each once, and its claims.
+/// What a claim text asks: the paths of its files, each once, the rule tables, and its claims.
 #[derive(Drop)]
 pub struct Claims {
     paths: Paths,
+    rules: Vec<usize>,
     claims: Vec<ClaimLine>,
 }
 
 impl Model for Claims {
-    ghost use Rattle.std.specs.Prelude.{map, All};
+    ghost use Rattle.std.specs.Prelude.{map, length, ◌<◌, All};
     ghost use Rattle.ca_claims.specs.Text.{Asked};
-    ghost use Rattle.ca_claims.specs.Places.{numbered, IsAsked};
+    ghost use Rattle.ca_claims.specs.Places.{path_at, numbered, IsAsked};
 
     ghost Value = { Asked };
 
-    ghost view = { λ c. record { paths = c.paths; claims = map (numbered c.paths) c.claims.items } };
+    ghost view = { λ c. record {
+      paths = c.paths;
+      rules = map (path_at c.paths) c.rules.items;
+      claims = map (numbered c.paths) c.claims.items;
+    } };
 
-    ghost invariant = { λ c. All (λ l. IsAsked c.paths l.claim) c.claims.items };
+    ghost invariant = { λ c. All (λ i. i < length c.paths) c.rules.items × All (λ l. IsAsked c.paths l.claim) c.claims.items };
 }
 
 impl Claims {
@@ -60,6 +65,14 @@ impl Claims {
         ensures { MatchOption result ((i : ℕ) → slice_get self.now.paths i ≢ Some path.now) (λ i. slice_get self.now.paths i ≡ Some path.now) }
     {
         self.paths.index_of(path)
+    }
+
+    /// The indices of the paths of the rule tables, one for each of their lines, in the order of the lines.
+    pub(crate) fn rules(&self) -> &[usize]
+        ensures paths { map (path_at self.now.paths) result.now ≡ self.now.rules }
+        ensures within { All (λ i. i < length self.now.paths) result.now }
+    {
+        &self.rules
     }
 
     /// The number of claims.

@@ -4,7 +4,7 @@ ghost use Rattle.std.specs.Prelude.{◌≡◌, ◌≢◌, ℕ, List, [], ◌∷�
 ghost use Rattle.ca_claims.specs.Text.{Line, Load, Claims as Claiming, IsClaimText, asked_by};
 ghost use Rattle.ca_claims.specs.declared.claims.line.Claim.TheVariants.{Still as StillOf};
 ghost use Rattle.ca_claims.specs.TextFaults.{IsFirstFault};
-ghost use Rattle.ca_claims.specs.Examples.{block_text, every_text, every_said, every_asked, unknown_text, other_unknown_text, taken_text, misspelled_text, no_number_text, no_shift_text, no_period_text};
+ghost use Rattle.ca_claims.specs.Examples.{block_text, every_text, every_said, every_asked, table_text, table_said, tables_text, tables_said, tables_asked, two_tables_text, unknown_text, other_unknown_text, taken_text, misspelled_text, no_number_text, no_shift_text, no_period_text};
 ghost use Rattle.ca_claims.specs.declared.fault.ClaimFault.{ClaimFault};
 ghost use Rattle.ca_claims.specs.declared.fault.ClaimFault.TheVariants as fault;
 
@@ -28,10 +28,16 @@ pub fn worked_examples()
     // A comment, a blank line, a name and a claim, which is on line 4 and about the name's path.
     ensures lines { IsClaimText block_text (None ∷ None ∷ Some (Load (codes "b") (codes "block.rle")) ∷ Some (Claiming (StillOf (codes "b"))) ∷ []) }
     ensures asked { asked_by (None ∷ None ∷ Some (Load (codes "b") (codes "block.rle")) ∷ Some (Claiming (StillOf (codes "b"))) ∷ [])
-        ≡ record { paths = codes "block.rle" ∷ []; claims = (4, StillOf (codes "block.rle")) ∷ [] } }
+        ≡ record { paths = codes "block.rle" ∷ []; rules = []; claims = (4, StillOf (codes "block.rle")) ∷ [] } }
     // All claims.
     ensures every_line { IsClaimText every_text every_said }
     ensures every_claim { asked_by every_said ≡ every_asked }
+    // A rule table behind two names of one path.
+    ensures table_line { IsClaimText table_text table_said }
+    ensures table_paths { asked_by table_said ≡ record { paths = codes "p" ∷ codes "r" ∷ []; rules = codes "r" ∷ []; claims = [] } }
+    // Rule tables before and behind a name and a claim.
+    ensures tables_line { IsClaimText tables_text tables_said }
+    ensures tables_paths { asked_by tables_said ≡ tables_asked }
     // No lines.
     ensures empty { IsClaimText [] [] }
     // Each fault, with the number of its line.
@@ -39,6 +45,7 @@ pub fn worked_examples()
     ensures taken { IsFirstFault taken_text (fault.NameTaken 2) }
     ensures other_unknown { IsFirstFault other_unknown_text (fault.UnknownName 2) }
     ensures misspelled { IsFirstFault misspelled_text (fault.Syntax 2) }
+    ensures two_tables { IsFirstFault two_tables_text (fault.Syntax 2) }
     ensures no_number { IsFirstFault no_number_text (fault.Syntax 2) }
     ensures no_shift { IsFirstFault no_shift_text (fault.Number 2) }
     // A number comes before an unknown name.

@@ -1,5 +1,5 @@
 -- How a claim text is read, a line at a time.
-use Rattle.std.specs.Prelude.{◌≡◌, ℕ, ◌^◌, ℤ, pos, neg_ℤ, ◌≤ℤ◌, ◌<ℤ◌, List, [], ◌∷◌, ◌++◌, map, slice_get, All, true, false, Option, None, Some, IsSome, unwrap_or, if◌then◌else◌}
+use Rattle.std.specs.Prelude.{◌≡◌, ℕ, ◌<◌, ◌^◌, ℤ, pos, neg_ℤ, ◌≤ℤ◌, ◌<ℤ◌, List, [], ◌∷◌, ◌++◌, map, slice_get, length, All, true, false, Option, None, Some, IsSome, unwrap_or, if◌then◌else◌}
 use Rattle.std.specs.Borrow.{Bor}
 use Rattle.std.specs.HashMap.{HashMap, get_by}
 use Rattle.std.specs.List.{list_any, AllByRecursion}
@@ -8,10 +8,10 @@ use Rattle.ca_claims.specs.declared.claims.line.Claim.{Claim as ClaimOf}
 use Rattle.ca_claims.specs.declared.claims.line.ClaimLine.{ClaimLine}
 use Rattle.ca_claims.specs.declared.claims.reading.Reading.{Reading}
 use Rattle.ca_claims.specs.declared.claims.words.LineKind.{LineKind}
-use Rattle.ca_claims.specs.declared.claims.words.LineKind.TheVariants.{Skipped, Load, Claim, OutsideLimits, Misspelled}
+use Rattle.ca_claims.specs.declared.claims.words.LineKind.TheVariants.{Skipped, Rule, Load, Claim, OutsideLimits, Misspelled}
 use Rattle.ca_claims.specs.declared.fault.ClaimFault.{ClaimFault}
 use Rattle.ca_claims.specs.declared.fault.ClaimFault.TheVariants.{Syntax, Number, UnknownName, NameTaken, Memory}
-use Rattle.ca_claims.specs.Places.{numbered, IsAsked}
+use Rattle.ca_claims.specs.Places.{path_at, numbered, IsAsked}
 use Rattle.ca_claims.specs.Text as text
 use Rattle.ca_claims.specs.TextFaults.{AreMisspelled, HaveBadNumber, AskUnknown, LoadTaken, AreAllowed}
 
@@ -42,6 +42,7 @@ MakesClaim words held = (claim : text.Claim) × text.WordsSay words (text.Claims
 -- the kind of a line with these words
 abbrev pub IsKind : List (List ℕ) → LineKind → Type 0
 IsKind words Skipped = text.is_skipped words ≡ true
+IsKind words (Rule path) = (text.is_skipped words ≡ false) × text.WordsSay words (text.Rule path.now)
 IsKind words (Load name path) = (text.is_skipped words ≡ false) × text.WordsSay words (text.Load name.now path.now)
 IsKind words (Claim held) = (text.is_skipped words ≡ false) × text.WordsSay words (text.Claims (claim_of held)) × text.HasGoodNumbers (claim_of held)
 IsKind words OutsideLimits =
@@ -65,16 +66,18 @@ abbrev pub StandsAt : List (List ℕ) → Option ℕ → Option (List ℕ) → T
 StandsAt paths None found = found ≡ None
 StandsAt paths (Some i) found = (path : List ℕ) × (slice_get paths i ≡ Some path) × (found ≡ Some path)
 
--- the paths, claims and names that are kept once the lines have said this
-pub record IsKept (said : List (Option text.Line)) (paths : List (List ℕ)) (claims : List ClaimLine) (names : List ℕ → Option ℕ) : Type 0 where
-  pub once : paths ≡ text.each_once (text.loaded_paths said)
+-- the paths, the places of the rule tables, the claims and the names that are kept once the lines have said this
+pub record IsKept (said : List (Option text.Line)) (paths : List (List ℕ)) (rules : List ℕ) (claims : List ClaimLine) (names : List ℕ → Option ℕ) : Type 0 where
+  pub once : paths ≡ text.each_once (text.file_paths said)
+  pub ruled : map (path_at paths) rules ≡ text.rule_paths said
+  pub placed : All (λ i. i < length paths) rules
   pub asked : map (numbered paths) claims ≡ text.claims_from 1 [] said
   pub good : All (λ l. IsAsked paths l.claim) claims
   pub named : (name : List ℕ) → StandsAt paths (names name) (text.path_of (text.spoken said) name)
 
 -- what is kept once the lines have said this
 abbrev pub IsReading : List (Option text.Line) → Reading → Type 0
-IsReading said reading = IsKept said reading.paths reading.claims.items (place_of reading.names)
+IsReading said reading = IsKept said reading.paths reading.rules.items reading.claims.items (place_of reading.names)
 
 -- the next line says this, behind what earlier lines say
 abbrev pub SaysNext : List text.Line → List (List ℕ) → Option text.Line → Type 0

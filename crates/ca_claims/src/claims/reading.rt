@@ -2,9 +2,10 @@
 
 ghost use Rattle.std.specs.Prelude.{◌≡◌, ℕ, ◌+◌, ◌∷◌, [], ◌++◌, List, Option, Some, None, not, codes, length, is_some, OnOk, IfOk, IfErr, MatchOption};
 ghost use Rattle.ca_plane.specs.Bytes.{Every, is_line_end, words_of};
-ghost use Rattle.ca_claims.specs.Text.{Line, Load, Claims as Claiming, HasGoodNumbers, IsAllowed, IsClaimText, spoken, asked_by};
+ghost use Rattle.ca_claims.specs.Text.{Line, Rule, Load, Claims as Claiming, HasGoodNumbers, IsAllowed, IsClaimText, spoken, asked_by};
 ghost use Rattle.ca_claims.specs.TextFaults.{IsFirstFault};
 ghost use Rattle.ca_claims.specs.declared.claims.words.LineKind.TheVariants as kind;
+ghost use Rattle.ca_claims.specs.declared.fault.ClaimFault.TheVariants as fault;
 ghost use Rattle.ca_claims.specs.inner.Reading.{IsKind, IsReading, SaysNext, HasFault, place_of, claim_of, AreKnown, at_places};
 
 use super::Claims;
@@ -20,6 +21,7 @@ use std::collections::HashMap;
 #[derive(Drop)]
 struct Reading<'a> {
     paths: Paths,
+    rules: Vec<usize>,
     claims: Vec<ClaimLine>,
     names: HashMap<&'a [u8], usize>,
 }
@@ -31,9 +33,25 @@ impl<'a> Reading<'a> {
     {
         Reading {
             paths: Paths::new(alloc),
+            rules: Vec::new(alloc),
             claims: Vec::new(alloc),
             names: HashMap::new(alloc),
         }
+    }
+
+    /// A line says that a rule table is at the path.
+    fn rule(&mut self, alloc: Global, path: &[u8]) -> Result<(), ClaimFault>
+        ensures ruled { OnOk result ((said : List (Option Line)) → IsReading said self.old
+            → IsReading (said ++ Some (Rule path.now) ∷ []) self.new) }
+        ensures fault { IfErr result (λ f. f ≡ fault.Memory) }
+    {
+        let Ok(place) = self.paths.put(alloc, path) else {
+            return Err(ClaimFault::Memory);
+        };
+        if self.rules.push(place).is_err() {
+            return Err(ClaimFault::Memory);
+        }
+        Ok(())
     }
 
     /// Whether a line has loaded the name.
@@ -148,6 +166,7 @@ impl<'a> Reading<'a> {
     {
         match line_kind(line) {
             LineKind::Skipped => Ok(()),
+            LineKind::Rule { path } => self.rule(alloc, path),
             LineKind::Load { name, path } => self.load(alloc, number, name, path),
             LineKind::Claim(claim) => self.claim(number, &claim),
             LineKind::OutsideLimits => Err(ClaimFault::Number { line: number }),
@@ -177,6 +196,7 @@ pub fn read_claims(alloc: Global, bytes: &[u8]) -> Result<Claims, ClaimFault>
     }
     Ok(Claims {
         paths: reading.paths,
+        rules: reading.rules,
         claims: reading.claims,
     })
 }

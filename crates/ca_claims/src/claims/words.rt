@@ -56,6 +56,8 @@ fn four_words(bytes: &[u8]) -> Option<(&[u8], &[u8], &[u8], &[u8])>
 pub(crate) enum LineKind<'a> {
     /// No words, or a first word that begins with `#`.
     Skipped,
+    /// `rule PATH`.
+    Rule { path: &'a [u8] },
     /// `load NAME PATH`.
     Load { name: &'a [u8], path: &'a [u8] },
     /// A claim, whose numbers are within their limits.
@@ -85,6 +87,9 @@ pub(crate) fn line_kind(line: &[u8]) -> LineKind<'_>
     if begins_comment(keyword) {
         return LineKind::Skipped;
     }
+    if keyword == b"rule".as_slice() {
+        return rule(rest);
+    }
     if keyword == b"load".as_slice() {
         return load(rest);
     }
@@ -95,6 +100,17 @@ pub(crate) fn line_kind(line: &[u8]) -> LineKind<'_>
         return LineKind::OutsideLimits;
     }
     LineKind::Claim(claim)
+}
+
+/// What a line says whose keyword is `rule`, by the words behind that.
+fn rule(words: &[u8]) -> LineKind<'_>
+    requires { Every (λ b. not (is_line_end b)) words.now }
+    ensures { IsKind (codes "rule" ∷ words_of words.now) result }
+{
+    match one_word(words) {
+        Some(path) => LineKind::Rule { path },
+        None => LineKind::Misspelled,
+    }
 }
 
 /// What a line says whose keyword is `load`, by the words behind that.

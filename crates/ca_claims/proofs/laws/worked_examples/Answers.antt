@@ -1,10 +1,11 @@
-use Rattle.std.proofs.Common.{◌≡◌, ℕ, List, [], ◌∷◌, Some, codes, refl, subst, inl, inr, arith}
+use Rattle.std.proofs.Common.{◌≡◌, ℕ, List, [], ◌∷◌, get_or, Some, codes, refl, sym, ap, subst, inl, inr, arith}
 use Rattle.std.specs.Prelude.{pos, neg_ℤ}
+use Rattle.std.specs.Str.{bytes_eq}
 use Rattle.std.proofs.lemmas.Bool.{false≢true}
 use Rattle.std.proofs.lemmas.Int.{ints}
 use Rattle.ca_plane.specs.Bytes.{AreDigits}
 use Rattle.ca_claims.specs.declared.claims.line.Claim.TheVariants.{Still, Oscillator, Spaceship, Becomes}
-use Rattle.ca_claims.specs.Text.{Line, Load, Claims, WordsSay, HasGoodNumbers}
+use Rattle.ca_claims.specs.Text.{Line, Rule, Load, Claims, WordsSay, HasGoodNumbers}
 use Rattle.ca_claims.proofs.laws.worked_examples.Goals as goal
 
 -- one cell to the left and two down, in four generations
@@ -88,8 +89,30 @@ returns-clause-other_unknown c = record {
   holds = (refl, Becomes (codes "a") 1 (codes "b"), (codes "1", refl, refl, refl), omega arith, λ h. false≢true h.1.0);
 }
 
+-- `rule r q` says nothing
+two_say_nothing : (line : Line) → WordsSay (codes "rule" ∷ codes "r" ∷ codes "q" ∷ []) line → ⊥
+two_say_nothing (Rule path) h = cc
+two_say_nothing (Load name path) h = false≢true (sym (ap (λ words. bytes_eq (get_or words 0 []) (codes "rule")) h))
+two_say_nothing (Claims (Still name)) h = cc
+two_say_nothing (Claims (Oscillator name period)) h = cc
+two_say_nothing (Claims (Spaceship name period dx dy)) h = cc
+two_say_nothing (Claims (Becomes name generations other)) h = cc
+
+pub returns-clause-two_tables : goal.returns-clause-two_tables
+returns-clause-two_tables c = record {
+  before = codes "rule r" ∷ [];
+  line = codes "rule r q";
+  later = [];
+  said = Some (Rule (codes "r")) ∷ [];
+  good = (refl, refl, tt, tt);
+  among = refl;
+  number = refl;
+  holds = (refl, two_say_nothing);
+}
+
 -- `gun a` says nothing
 says_nothing : (line : Line) → WordsSay (codes "gun" ∷ codes "a" ∷ []) line → ⊥
+says_nothing (Rule path) h = cc
 says_nothing (Load name path) h = cc
 says_nothing (Claims (Still name)) h = cc
 says_nothing (Claims (Oscillator name period)) h = cc
@@ -114,6 +137,7 @@ period_word keyword name word n p e = cc
 
 -- `oscillator a x` says nothing
 letter_says_nothing : (line : Line) → WordsSay (codes "oscillator" ∷ codes "a" ∷ codes "x" ∷ []) line → ⊥
+letter_says_nothing (Rule path) h = cc
 letter_says_nothing (Load name path) h = cc
 letter_says_nothing (Claims (Still name)) h = cc
 letter_says_nothing (Claims (Oscillator name period)) h = false≢true (subst AreDigits (period_word (codes "oscillator") (codes "a") (codes "x") name h.0 h.1) h.2)
