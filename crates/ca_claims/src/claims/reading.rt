@@ -5,7 +5,6 @@ ghost use Rattle.ca_plane.specs.Bytes.{Every, is_line_end, words_of};
 ghost use Rattle.ca_claims.specs.Text.{Line, Rule, Load, Claims as Claiming, HasGoodNumbers, IsAllowed, IsClaimText, spoken, asked_by};
 ghost use Rattle.ca_claims.specs.TextFaults.{IsFirstFault};
 ghost use Rattle.ca_claims.specs.declared.claims.words.LineKind.TheVariants as kind;
-ghost use Rattle.ca_claims.specs.declared.fault.ClaimFault.TheVariants as fault;
 ghost use Rattle.ca_claims.specs.inner.Reading.{IsKind, IsReading, SaysNext, HasFault, place_of, claim_of, AreKnown, at_places};
 
 use super::Claims;
@@ -43,12 +42,12 @@ impl<'a> Reading<'a> {
     fn rule(&mut self, alloc: Global, path: &[u8]) -> Result<(), ClaimFault>
         ensures ruled { OnOk result ((said : List (Option Line)) → IsReading said self.old
             → IsReading (said ++ Some (Rule path.now) ∷ []) self.new) }
-        ensures fault { IfErr result (λ f. f ≡ fault.Memory) }
+        ensures fault { IfErr result (λ f. (line : ℕ) (earlier : List Line) → HasFault line earlier (codes "rule" ∷ path.now ∷ []) f) }
     {
-        let Ok(place) = self.paths.put(alloc, path) else {
+        let Ok(table) = self.paths.put(alloc, path) else {
             return Err(ClaimFault::Memory);
         };
-        if self.rules.push(place).is_err() {
+        if self.rules.push(table).is_err() {
             return Err(ClaimFault::Memory);
         }
         Ok(())

@@ -1,4 +1,4 @@
-use Rattle.std.proofs.Common.{ℕ, List, [], ◌∷◌, ◌++◌, Some, slice_get, if◌then◌else◌, sym, ap, subst, ◌∙◌}
+use Rattle.std.proofs.Common.{ℕ, List, [], ◌∷◌, ◌++◌, Some, slice_get, if◌then◌else◌, refl, sym, ap, subst, ◌∙◌}
 use Rattle.ca_claims.specs.Text.{Rule}
 use Rattle.ca_claims.specs.inner.Reading.{IsKept, place_of, with_path}
 use Rattle.ca_claims.proofs.ReadOn.{read_rule}
@@ -8,9 +8,16 @@ pub returns-clause-ruled : goal.returns-clause-ruled
 returns-clause-ruled c = λ said read.
     let path : List ℕ = c.args.path.now in
     let old = c.args.self.now in
-    let place = c.in-Ok.place in
+    let place = c.in-Ok.table in
     let at = ap (λ l. slice_get l place) (sym c.in-Ok.ensures.paths) ∙ c.in-Ok.ensures.index in
     let items = c.push.ensures.items ∙ ap (λ b. if b then old.rules.items ++ place ∷ [] else old.rules.items) c.if-is_err.ensures.negation in
     let ruled = read_rule said old.paths old.rules.items old.claims.items (place_of old.names) read path place at in
     subst (λ l. IsKept (said ++ Some (Rule path) ∷ []) l c.push.new.self.items old.claims.items (place_of old.names)) (sym c.in-Ok.ensures.paths)
     (subst (λ l. IsKept (said ++ Some (Rule path) ∷ []) (with_path old.paths path) l old.claims.items (place_of old.names)) (sym items) ruled)
+
+-- memory is wanted at a line that is allowed anywhere
+pub returns-in_default-clause-fault : goal.returns-in_default-clause-fault
+returns-in_default-clause-fault c = λ line earlier. (refl, Rule c.args.path.now, refl, tt)
+
+pub returns-then-is_err-clause-fault : goal.returns-then-is_err-clause-fault
+returns-then-is_err-clause-fault c = λ line earlier. (refl, Rule c.args.path.now, refl, tt)
