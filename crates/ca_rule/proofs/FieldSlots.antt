@@ -1,5 +1,5 @@
 -- What the fields of a line stand for, one after another.
-use Rattle.std.proofs.Common.{◌≡◌, ℕ, true, List, [], ◌∷◌, ◌++◌, Option, Result, Ok, Err, is_ok, OnOk, sym, ap, ◌∙◌, append_assoc}
+use Rattle.std.proofs.Common.{◌≡◌, ◌≤◌, ℕ, true, List, [], ◌∷◌, ◌++◌, length, Option, Result, Ok, Err, is_ok, OnOk, sym, ap, ◌∙◌, append_assoc, arith}
 use Rattle.std.specs.List.{list_all, AllZip}
 use Rattle.std.proofs.lemmas.Bool.{and_parts, false≢true}
 use Rattle.ca_rule.specs.declared.table.slot.Slot.{Slot}
@@ -30,3 +30,9 @@ rest-spelled left later field next all = (and_parts (is_field field) (list_all i
 pub on-ok : {T E : Type 0} (r : Result T E) (P : Type 0) → is_ok r ≡ true → OnOk r P → P
 on-ok (Ok x) P e h = h
 on-ok (Err x) P e h = absurd (false≢true e)
+
+-- fields have as many slots
+pub no-slots : (states : ℕ) (numbers : List ℕ → Option ℕ) (fields : List (List ℕ)) (slots : List Slot) → AllZip (IsSlot states numbers) fields slots → length slots ≡ 0 → 1 ≤ length fields → ⊥
+no-slots states numbers [] slots stand none some = absurd (omega arith)
+no-slots states numbers (f ∷ fs) [] stand none some = absurd stand
+no-slots states numbers (f ∷ fs) (s ∷ ss) stand none some = absurd (omega arith)

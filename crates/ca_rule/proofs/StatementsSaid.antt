@@ -6,14 +6,12 @@ use Rattle.std.specs.Option.{option_or}
 use Rattle.std.specs.Str.{bytes_eq}
 use Rattle.std.proofs.lemmas.Bool.{cases_Bool}
 use Rattle.std.proofs.lemmas.List.{map-append, length-map}
-use Rattle.ca_rule.specs.declared.table.names.FieldFault.{FieldFault}
-use Rattle.ca_rule.specs.declared.table.names.FieldFault.TheVariants.{State, Name, Memory}
 use Rattle.ca_rule.specs.declared.table.slot.Slot.{Slot}
 use Rattle.ca_rule.specs.declared.table.slot.Slot.TheVariants.{Number, Variable}
 use Rattle.ca_rule.specs.TableNext.{States}
 use Rattle.ca_rule.specs.TableText.{Settings, Said, StandsFor, number_of, states_said, states_among}
-use Rattle.ca_rule.specs.inner.TableNames.{number_in, IsSlot, IsNoSlot, HasNoSlot, IsFaultAmong}
-use Rattle.ca_rule.specs.inner.TableSaid.{IsKept, with_variable}
+use Rattle.ca_rule.specs.inner.TableNames.{number_in, IsSlot}
+use Rattle.ca_rule.specs.inner.TableSaid.{IsKept, with_variable, with_transition}
 use Rattle.ca_rule.specs.declared.table.statements.Statements.{Statements}
 use Rattle.ca_rule.proofs.AmongStates.{zero-plus}
 
@@ -46,40 +44,6 @@ module _ (settings : Settings) (said : Said) (count : ℕ) (numbers : List ℕ �
   all-stand (f ∷ fs) [] h = absurd h
   all-stand (f ∷ fs) (s ∷ ss) h = (stands f s h.0, all-stand fs ss h.1)
 
--- the same of numbers that are equal name by name
-module _ (count : ℕ) (numbers others : List ℕ → Option ℕ) (named : (name : List ℕ) → numbers name ≡ others name) where
-  slot-by : (field : List ℕ) (slot : Slot) → IsSlot count numbers field slot → IsSlot count others field slot
-  slot-by field (Number state) h = h
-  slot-by field (Variable v) h = (h.0, sym (named field) ∙ h.1)
-
-  slots-by : (fields : List (List ℕ)) (slots : List Slot) → AllZip (IsSlot count numbers) fields slots → AllZip (IsSlot count others) fields slots
-  slots-by [] [] h = tt
-  slots-by [] (s ∷ ss) h = absurd h
-  slots-by (f ∷ fs) [] h = absurd h
-  slots-by (f ∷ fs) (s ∷ ss) h = (slot-by f s h.0, slots-by fs ss h.1)
-
-  no-slot-by : (field : List ℕ) (fault : FieldFault) → IsNoSlot count numbers field fault → IsNoSlot count others field fault
-  no-slot-by field State h = h
-  no-slot-by field Name h = (h.0, sym (named field) ∙ h.1)
-  no-slot-by field Memory h = h
-
-  pub has-no-slot-by : (fields : List (List ℕ)) (fault : FieldFault) → HasNoSlot count numbers fields fault → HasNoSlot count others fields fault
-  has-no-slot-by fields fault h = record {
-    good = h.good;
-    slots = h.slots;
-    field = h.field;
-    later = h.later;
-    whole = h.whole;
-    stand = slots-by h.good h.slots h.stand;
-    holds = no-slot-by h.field fault h.holds;
-  }
-
--- so a fault of fields is one by those numbers
-pub fault-among : (count : ℕ) (numbers others : List ℕ → Option ℕ) (named : (name : List ℕ) → numbers name ≡ others name) (fields : List (List ℕ)) (fault : FieldFault) → HasNoSlot count numbers fields fault → IsFaultAmong count others fields fault
-fault-among count numbers others named fields State h = has-no-slot-by count numbers others named fields State h
-fault-among count numbers others named fields Name h = has-no-slot-by count numbers others named fields Name h
-fault-among count numbers others named fields Memory h = tt
-
 -- one more variable is kept
 pub variable-kept : (settings : Settings) (said : Said) (old new : Statements) (name : List ℕ) (slots : List Slot) (set : States) (number : ℕ) → IsKept said old
     → ((other : List ℕ) → number_in new.names other ≡ update bytes_eq (number_in old.names) name (Some number) other) → number ≡ length old.variables.items
@@ -94,3 +58,12 @@ variable-kept settings said old new name slots set number kept put counted pushe
           ∙ ap (λ l. l ++ states_among settings (states_said said) slots ∷ []) kept.sets ∙ ap (λ x. old.variables.items ++ x ∷ []) (sym among) ∙ sym pushed;
       lines = kept.lines ∙ sym others;
     }
+
+-- one more transition is kept
+pub transition-kept : (said : Said) (old new : Statements) (inputs : List Slot) (result : Slot) → IsKept said old → new.names ≡ old.names → new.variables.items ≡ old.variables.items
+    → new.transitions.items ≡ old.transitions.items ++ record { inputs = inputs; result = result } ∷ [] → IsKept (with_transition said inputs result) new
+transition-kept said old new inputs result kept names sets pushed = record {
+  named = λ name. ap (λ n. number_in n name) names ∙ kept.named name;
+  sets = kept.sets ∙ sym sets;
+  lines = ap (λ l. l ++ record { inputs = inputs; result = result } ∷ []) kept.lines ∙ sym pushed;
+}

@@ -8,7 +8,7 @@ use Rattle.ca_rule.specs.declared.table.neighbourhood.Neighbourhood.{Neighbourho
 use Rattle.ca_rule.specs.declared.table.slot.Slot.{Slot}
 use Rattle.ca_rule.specs.TableNext.{TableRule, table_next}
 use Rattle.ca_rule.specs.TableLines.{Line, lines_said, last_line, rule_name, begins_table, begins_section, is_setting, states_set, neighbourhood_set, symmetry_set, are_digits, is_name, IsVariableLine, IsTransitionLine}
-use Rattle.ca_rule.specs.TableText.{HasTable, sets_again, are_settings, Settings, Mean, Said, nothing, number_of, StandsFor, is_bound, field_count, Say, IsTable}
+use Rattle.ca_rule.specs.TableText.{HasTable, sets_again, are_settings, Settings, Mean, Said, nothing, number_of, StandsFor, SaysVariable, is_bound, field_count, SaysTransition, Say, IsTable}
 
 -- the number of the first of the lines, or of the text's last where there is none
 abbrev pub number_at : List ℕ → List Line → ℕ
@@ -120,12 +120,16 @@ pub record HasUnbound (settings : Settings) (said : Said) (line : Line) : Type 0
   pub stand : AllZip (StandsFor settings said) fields (inputs ++ result ∷ [])
   pub unbound : is_bound result inputs ≡ false
 
+-- the line is a good statement
+abbrev pub SaysMore : Settings → Said → Line → Type 0
+SaysMore settings said line = (after : Said) × (SaysVariable settings said line after ⊎ SaysTransition settings said line after)
+
 -- the table turns nine zeros into another state
 abbrev pub DoesWake : TableRule → Type 0
 DoesWake table = table_next table (replicate 9 0) ≢ 0
 
--- the text's fault, with the number of its line: the first faulty line's, else that the table wakes; of want of memory
--- nothing is said here
+-- the text's fault, with the number of its line: the first faulty line's, else that the table wakes; memory may be wanting
+-- at a good statement behind good lines, and at the end of a table
 abbrev pub IsFaultOf : List ℕ → TableFault → Type 0
 IsFaultOf bytes (NoRuleLine n) = HasNoRuleLine (lines_said bytes) × (n ≡ number_at bytes (lines_said bytes))
 IsFaultOf bytes (NoTable n) = HasNoTable (lines_said bytes) × (n ≡ last_line bytes)
@@ -136,4 +140,4 @@ IsFaultOf bytes (Symmetries n) = HasSettings bytes n LackSymmetry
 IsFaultOf bytes (Variable n) = HasStatement bytes n HasUnknownName
 IsFaultOf bytes (Unbound n) = HasStatement bytes n HasUnbound
 IsFaultOf bytes (Wakes n) = (table : TableRule) × IsTable bytes table × DoesWake table × (n ≡ last_line bytes)
-IsFaultOf bytes Memory = Unit {0}
+IsFaultOf bytes Memory = ((n : ℕ) × HasStatement bytes n SaysMore) ⊎ ((table : TableRule) × IsTable bytes table)

@@ -10,5 +10,7 @@ pub mod TableReading
 pub mod TableSettings
 pub mod TableFields
 pub mod TableStatements
+pub mod TableSlots
 pub mod TableNames
 pub mod TableSaid
+pub mod TableSaying

@@ -15,13 +15,16 @@ mod lines;
 pub(crate) mod names;
 pub(crate) mod neighbourhood;
 mod placement;
+mod reading;
 pub(crate) mod said_lines;
 pub(crate) mod settings;
 pub(crate) mod slot;
 mod state_set;
 pub(crate) mod statement;
+pub(crate) mod statement_fault;
 pub(crate) mod statements;
 mod transition;
+pub(crate) mod transition_slots;
 pub(crate) mod variable_line;
 
 use ca_plane::{Automaton, Nine};

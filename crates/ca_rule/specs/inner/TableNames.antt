@@ -1,16 +1,17 @@
 -- How the names of variables are kept, and what fields stand for.
-use Rattle.std.specs.Prelude.{◌≡◌, ℕ, ◌<◌, ◌≤◌, List, ◌∷◌, ◌++◌, true, Option, Some, None}
+use Rattle.std.specs.Prelude.{◌≡◌, ℕ, ◌<◌, ◌≤◌, List, [], ◌∷◌, ◌++◌, Bool, true, false, Option, Some, None}
 use Rattle.std.specs.Borrow.{Bor}
 use Rattle.std.specs.HashMap.{get_by}
 use Rattle.std.specs.List.{AllZip}
 use Rattle.std.specs.Str.{bytes_eq}
 use Rattle.ca_plane.specs.Bytes.{value}
-use Rattle.ca_rule.specs.declared.table.names.FieldFault.{FieldFault}
-use Rattle.ca_rule.specs.declared.table.names.FieldFault.TheVariants.{State, Name, Memory}
 use Rattle.ca_rule.specs.declared.table.names.Names.{Names}
 use Rattle.ca_rule.specs.declared.table.slot.Slot.{Slot}
 use Rattle.ca_rule.specs.declared.table.slot.Slot.TheVariants.{Number, Variable}
+use Rattle.ca_rule.specs.declared.table.statement_fault.StatementFault.{StatementFault}
+use Rattle.ca_rule.specs.declared.table.statement_fault.StatementFault.TheVariants.{State, Name, Unbound, Memory}
 use Rattle.ca_rule.specs.TableLines.{are_digits, is_name}
+use Rattle.ca_rule.specs.TableText.{is_bound}
 
 -- the number that is kept for a name
 abbrev pub number_in : Names → List ℕ → Option ℕ
@@ -22,13 +23,13 @@ IsSlot states numbers field (Number state) = (are_digits field ≡ true) × (sta
 IsSlot states numbers field (Variable v) = (is_name field ≡ true) × (numbers field ≡ Some v)
 
 -- a field stands for nothing
-abbrev pub IsNoSlot : ℕ → (List ℕ → Option ℕ) → List ℕ → FieldFault → Type 0
+abbrev pub IsNoSlot : ℕ → (List ℕ → Option ℕ) → List ℕ → StatementFault → Type 0
 IsNoSlot states numbers field State = (are_digits field ≡ true) × (states ≤ value field)
 IsNoSlot states numbers field Name = (is_name field ≡ true) × (numbers field ≡ None)
-IsNoSlot states numbers field Memory = Unit {0}
+IsNoSlot states numbers field fault = ⊥
 
 -- behind fields that stand for these slots stands one that stands for nothing
-pub record HasNoSlot (states : ℕ) (numbers : List ℕ → Option ℕ) (fields : List (List ℕ)) (fault : FieldFault) : Type 0 where
+pub record HasNoSlot (states : ℕ) (numbers : List ℕ → Option ℕ) (fields : List (List ℕ)) (fault : StatementFault) : Type 0 where
   pub good : List (List ℕ)
   pub slots : List Slot
   pub field : List ℕ
@@ -37,11 +38,27 @@ pub record HasNoSlot (states : ℕ) (numbers : List ℕ → Option ℕ) (fields 
   pub stand : AllZip (IsSlot states numbers) good slots
   pub holds : IsNoSlot states numbers field fault
 
--- one of the fields stands for nothing; want of memory may come at any time
-abbrev pub IsFaultAmong : ℕ → (List ℕ → Option ℕ) → List (List ℕ) → FieldFault → Type 0
-IsFaultAmong states numbers fields State = HasNoSlot states numbers fields State
-IsFaultAmong states numbers fields Name = HasNoSlot states numbers fields Name
-IsFaultAmong states numbers fields Memory = Unit {0}
+-- the fields stand for slots
+abbrev pub HaveSlots : ℕ → (List ℕ → Option ℕ) → List (List ℕ) → Type 0
+HaveSlots states numbers fields = (slots : List Slot) × AllZip (IsSlot states numbers) fields slots
+
+-- one of the fields stands for nothing, or memory was wanting, and they stand for slots
+abbrev pub IsFaultAmong : ℕ → (List ℕ → Option ℕ) → List (List ℕ) → StatementFault → Type 0
+IsFaultAmong states numbers fields Memory = HaveSlots states numbers fields
+IsFaultAmong states numbers fields fault = HasNoSlot states numbers fields fault
+
+-- the fields stand for the slots of a transition and its result, which is bound or isn't
+pub record HaveResult (states : ℕ) (numbers : List ℕ → Option ℕ) (fields : List (List ℕ)) (bound : Bool) : Type 0 where
+  pub inputs : List Slot
+  pub result : Slot
+  pub stand : AllZip (IsSlot states numbers) fields (inputs ++ result ∷ [])
+  pub bound_is : is_bound result inputs ≡ bound
+
+-- the same of the fields of a transition: the result may be unbound, and where memory was wanting it is bound
+abbrev pub IsFaultOfTransition : ℕ → (List ℕ → Option ℕ) → List (List ℕ) → StatementFault → Type 0
+IsFaultOfTransition states numbers fields Unbound = HaveResult states numbers fields false
+IsFaultOfTransition states numbers fields Memory = HaveResult states numbers fields true
+IsFaultOfTransition states numbers fields fault = HasNoSlot states numbers fields fault
 
 -- so many of the fields have been read
 pub record AreSlots (states : ℕ) (numbers : List ℕ → Option ℕ) (fields left : List (List ℕ)) (slots : List Slot) : Type 0 where

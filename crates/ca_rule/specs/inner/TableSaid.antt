@@ -14,3 +14,7 @@ pub record IsKept (said : Said) (kept : Statements) : Type 0 where
 -- one more variable is said
 abbrev pub with_variable : Settings → Said → List ℕ → List Slot → Said
 with_variable settings said name slots = record said { variables = said.variables ++ (name, states_among settings (states_said said) slots) ∷ [] }
+
+-- one more transition is said
+abbrev pub with_transition : Said → List Slot → Slot → Said
+with_transition said inputs result = record said { transitions = said.transitions ++ record { inputs = inputs; result = result } ∷ [] }

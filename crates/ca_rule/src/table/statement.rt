@@ -1,7 +1,8 @@
 //! The statements of a rule table, by their spelling.
 
-ghost use Rattle.std.specs.Prelude.{◌≡◌, ℕ, List, MatchOption};
+ghost use Rattle.std.specs.Prelude.{◌≡◌, ◌≤◌, ◌+◌, ℕ, List, MatchOption};
 ghost use Rattle.ca_rule.specs.TableLines.{IsTransitionLine};
+ghost use Rattle.ca_rule.specs.TableOrders.{ring_size};
 ghost use Rattle.ca_rule.specs.TableText.{Settings, Said, field_count};
 ghost use Rattle.ca_rule.specs.TableFaults.{IsMisspelled};
 ghost use Rattle.ca_rule.specs.inner.TableFields.{fields_left};
@@ -9,6 +10,7 @@ ghost use Rattle.ca_rule.specs.inner.TableStatements.{IsStatement};
 
 use crate::table::fields::FieldsLeft;
 use crate::table::lines::begins_variable;
+use crate::table::neighbourhood::Neighbourhood;
 use crate::table::variable_line::{VariableLine, variable_line};
 
 /// A statement, by its spelling.
@@ -17,6 +19,20 @@ pub(crate) enum Statement<'a> {
     Variable(VariableLine<'a>),
     /// A transition, with its fields: the result is the last.
     Transition(FieldsLeft<'a>),
+}
+
+/// How many fields a transition has: the centre, the ring, and the result.
+pub(crate) fn field_count(neighbourhood: Neighbourhood) -> usize
+    ensures count { result ≡ ring_size neighbourhood + 2 }
+    ensures some { 1 ≤ result }
+    ensures few { result ≤ 10 }
+{
+    match neighbourhood {
+        Neighbourhood::VonNeumann => 6,
+        Neighbourhood::Moore => 10,
+        Neighbourhood::Hexagonal => 8,
+        Neighbourhood::OneDimensional => 4,
+    }
 }
 
 /// The fields of a transition, where the line is spelled as one of so many slots.

@@ -1,16 +1,23 @@
 //! What the statements of a rule table say, one after another.
 
-ghost use Rattle.std.specs.Prelude.{◌≡◌, ◌≤◌, ◌∷◌, [], ◌++◌, true, List, OnOk, IfErr};
-ghost use Rattle.std.specs.List.{list_all, AllZip};
+ghost use Rattle.std.specs.Prelude.{◌≡◌, ◌≤◌, ◌∷◌, [], ◌++◌, ℕ, length, true, List, OnOk, IfErr};
+ghost use Rattle.std.specs.List.{list_all, list_any, AllZip};
 ghost use Rattle.ca_rule.specs.declared.table.slot.Slot.{Slot as SlotValue};
 ghost use Rattle.ca_rule.specs.TableLines.{is_field, fields_between};
-ghost use Rattle.ca_rule.specs.TableText.{Settings, Said, StandsFor, number_of};
-ghost use Rattle.ca_rule.specs.inner.TableNames.{IsFaultAmong};
+ghost use Rattle.ca_rule.specs.TableNext.{is_variable};
+ghost use Rattle.ca_rule.specs.TableText.{Settings, Said, StandsFor, is_bound};
+ghost use Rattle.ca_rule.specs.inner.TableFields.{fields_left};
+ghost use Rattle.ca_rule.specs.inner.TableNames.{number_in, IsFaultAmong, IsFaultOfTransition};
+ghost use Rattle.ca_rule.specs.inner.TableSettings.{meaning_of};
 
 use crate::table::fields::FieldsLeft;
-use crate::table::names::{FieldFault, Names};
+use crate::table::names::Names;
+use crate::table::settings::TableSettings;
+use crate::table::slot::Slot;
 use crate::table::state_set::{StateSet, states_among};
-use crate::table::transition::Transition;
+use crate::table::statement::{Statement, field_count, read_statement};
+use crate::table::statement_fault::StatementFault;
+use crate::table::transition::{Transition, is_variable};
 use crate::table::variable_line::VariableLine;
 use std::alloc::Global;
 
@@ -24,7 +31,8 @@ pub(crate) struct Statements<'a> {
 
 impl<'a> Statements<'a> {
     ghost use Rattle.ca_rule.specs.TableText.{nothing};
-    ghost use Rattle.ca_rule.specs.inner.TableSaid.{IsKept, with_variable};
+    ghost use Rattle.ca_rule.specs.inner.TableSaid.{IsKept, with_variable, with_transition};
+    ghost use Rattle.ca_rule.specs.inner.TableSaying.{IsKeptBehind, IsFaultOfLine};
 
     /// Before the first statement.
     pub(crate) fn new(alloc: Global) -> Statements<'a>
@@ -38,28 +46,97 @@ impl<'a> Statements<'a> {
     }
 
     /// The line says one more variable, in a table of so many states.
-    pub(crate) fn add_variable(
+    fn add_variable(
         &mut self,
         alloc: Global,
         states: u16,
         line: &VariableLine<'a>,
-    ) -> Result<(), FieldFault>
+    ) -> Result<(), StatementFault>
         requires low { states ≤ 256 }
         requires fields { list_all is_field (fields_between line.now.inside.now) ≡ true }
         ensures said { OnOk result ((settings : Settings) (said : Said) → settings.states ≡ states → IsKept said self.old
             → (slots : List SlotValue) × AllZip (StandsFor settings said) (fields_between line.now.inside.now) slots × IsKept (with_variable settings said line.now.name.now slots) self.new) }
-        ensures fault { IfErr result (λ f. (said : Said) → IsKept said self.old → IsFaultAmong states (number_of 0 said.variables) (fields_between line.now.inside.now) f) }
+        ensures fault { IfErr result (IsFaultAmong states (number_in self.old.names) (fields_between line.now.inside.now)) }
     {
         let fields = FieldsLeft::inside(line.inside);
         let slots = self.names.slots(alloc, states, &fields)?;
         let set = states_among(states, &self.variables, &slots);
         let number = self.variables.len();
         if self.variables.push(set).is_err() {
-            return Err(FieldFault::Memory);
+            return Err(StatementFault::Memory);
         }
         if self.names.put(line.name, number).is_err() {
-            return Err(FieldFault::Memory);
+            return Err(StatementFault::Memory);
         }
         Ok(())
     }
+    /// The fields say one more transition, in a table of so many states.
+    fn add_transition(
+        &mut self,
+        alloc: Global,
+        states: u16,
+        fields: &FieldsLeft<'_>,
+    ) -> Result<(), StatementFault>
+        requires low { states ≤ 256 }
+        requires some { 1 ≤ length (fields_left fields.now) }
+        requires few { length (fields_left fields.now) ≤ 10 }
+        requires fields { list_all is_field (fields_left fields.now) ≡ true }
+        ensures said { OnOk result ((settings : Settings) (said : Said) → settings.states ≡ states → IsKept said self.old
+            → (inputs : List SlotValue) × (becomes : SlotValue) × AllZip (StandsFor settings said) (fields_left fields.now) (inputs ++ becomes ∷ []) × (is_bound becomes inputs ≡ true) × IsKept (with_transition said inputs becomes) self.new) }
+        ensures fault { IfErr result (IsFaultOfTransition states (number_in self.old.names) (fields_left fields.now)) }
+    {
+        let slots = self.names.transition_slots(states, fields)?;
+        let Some((becomes, inputs)) = slots.all().split_last() else {
+            return Err(StatementFault::Syntax);
+        };
+        if !is_bound(*becomes, inputs) {
+            return Err(StatementFault::Unbound);
+        }
+        let Ok(inputs) = inputs.to_vec(alloc) else {
+            return Err(StatementFault::Memory);
+        };
+        let transition = Transition::new(inputs, *becomes);
+        if self.transitions.push(transition).is_err() {
+            return Err(StatementFault::Memory);
+        }
+        Ok(())
+    }
+
+    /// The line says one more variable or transition.
+    pub(crate) fn add(
+        &mut self,
+        alloc: Global,
+        settings: &TableSettings,
+        content: &'a [u8],
+    ) -> Result<(), StatementFault>
+        requires low { settings.now.states ≤ 256 }
+        ensures said { OnOk result ((n : ℕ) (said : Said) → IsKept said self.old → IsKeptBehind (meaning_of settings.now) said (n, content.now) self.new) }
+        ensures fault { IfErr result (λ f. (n : ℕ) (said : Said) → IsKept said self.old → IsFaultOfLine (meaning_of settings.now) said (n, content.now) f) }
+    {
+        let count = field_count(settings.neighbourhood);
+        let Some(statement) = read_statement(content, count) else {
+            return Err(StatementFault::Syntax);
+        };
+        match statement {
+            Statement::Variable(line) => self.add_variable(alloc, settings.states, &line),
+            Statement::Transition(fields) => self.add_transition(alloc, settings.states, &fields),
+        }
+    }
+}
+
+/// Whether the result is a number, or a variable that stands among the inputs.
+fn is_bound(becomes: Slot, inputs: &[Slot]) -> bool
+    ensures { result ≡ is_bound becomes inputs.now }
+{
+    match becomes {
+        Slot::Number(_) => true,
+        Slot::Variable(number) => has_variable(number, inputs),
+    }
+}
+
+/// Whether the variable is one of the slots.
+fn has_variable(number: usize, slots: &[Slot]) -> bool
+    ensures { result ≡ list_any (is_variable number) slots.now }
+{
+    slots.iter().any(|slot| is_variable(number, *slot))
 }

@@ -35,6 +35,16 @@ impl Transition {
     ghost use Rattle.ca_rule.specs.inner.TableSearch.{least_outcome, placements_of};
     ghost use Rattle.ca_rule.specs.inner.TableChoice.{taken_of, free_of};
 
+    /// The transition with these slots, the centre's first, and this result.
+    pub(crate) fn new(inputs: Vec<Slot>, becomes: Slot) -> Transition
+        ensures { result ≡ record { inputs = inputs.items; result = becomes } }
+    {
+        Transition {
+            inputs,
+            result: becomes,
+        }
+    }
+
     /// The state that the transition gives in the first of the orders in which it fits, if it fits in one.
     #[tactic(auto, using(crate::proofs::Permuted::outcome_of_ring))]
     pub(crate) fn outcome(&self, variables: &[StateSet], orders: Orders, nine: &Nine) -> Option<u8>

@@ -3,21 +3,18 @@ use Rattle.std.specs.Prelude.{filter}
 use Rattle.std.specs.List.{list_any, AllZip, range_with_len}
 use Rattle.ca_rule.specs.TableLines.{fields_between}
 use Rattle.ca_rule.specs.TableNext.{admits}
-use Rattle.ca_rule.specs.TableText.{Said, StandsFor, number_of, states_said, states_among}
+use Rattle.ca_rule.specs.TableText.{StandsFor, states_among, states_said}
 use Rattle.ca_rule.specs.inner.TableFields.{fields_left}
 use Rattle.ca_rule.specs.inner.TableNames.{number_in, IsFaultAmong}
-use Rattle.ca_rule.specs.inner.TableSaid.{IsKept}
 use Rattle.ca_rule.proofs.FieldSlots.{on-ok}
 use Rattle.ca_rule.proofs.SettingsRead.{passed-on}
-use Rattle.ca_rule.proofs.StatementsSaid.{all-stand, fault-among, variable-kept}
+use Rattle.ca_rule.proofs.StatementsSaid.{all-stand, variable-kept}
 use Rattle.ca_rule.proofs.table.statements.Statements.add_variable.Goals as goal
 
 pub returns-in_err-slots-clause-fault : goal.returns-in_err-slots-clause-fault
 returns-in_err-slots-clause-fault c =
-    passed-on c.from_residual.result c.in_err-slots.field-0.0 (λ f. (said : Said) → IsKept said c.args.self.now → IsFaultAmong c.args.states (number_of 0 said.variables) (fields_between c.args.line.now.inside.now) f)
-    c.from_residual.ensures.1 (λ said kept.
-    subst (λ fs. IsFaultAmong c.args.states (number_of 0 said.variables) fs c.in_err-slots.field-0.0) c.inside-fields.ensures
-    (fault-among c.args.states (number_in c.args.self.now.names) (number_of 0 said.variables) kept.named (fields_left c.inside-fields.result) c.in_err-slots.field-0.0 c.in_err-slots.ensures.fault))
+    passed-on c.from_residual.result c.in_err-slots.field-0.0 (IsFaultAmong c.args.states (number_in c.args.self.now.names) (fields_between c.args.line.now.inside.now)) c.from_residual.ensures.1
+    (subst (λ fs. IsFaultAmong c.args.states (number_in c.args.self.now.names) fs c.in_err-slots.field-0.0) c.inside-fields.ensures c.in_err-slots.ensures.fault)
 
 pub returns-clause-said : goal.returns-clause-said
 returns-clause-said c = λ settings said same kept.

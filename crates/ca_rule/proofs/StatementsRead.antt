@@ -1,0 +1,136 @@
+-- The statements of a rule table, a line at a time.
+use Rattle.std.proofs.Common.{◌≡◌, ℕ, ◌≤◌, true, false, List, [], ◌∷◌, ◌++◌, Option, ◌⊎◌, refl, sym, ap, subst, ◌∙◌, append_assoc, inl, inr}
+use Rattle.std.specs.List.{AllZip}
+use Rattle.ca_plane.specs.Bytes.{value}
+use Rattle.ca_rule.specs.declared.table.slot.Slot.{Slot}
+use Rattle.ca_rule.specs.declared.table.statement_fault.StatementFault.{StatementFault}
+use Rattle.ca_rule.specs.declared.table.statement_fault.StatementFault.TheVariants.{Syntax, State, Name, Unbound, Memory}
+use Rattle.ca_rule.specs.declared.table.statements.Statements.{Statements}
+use Rattle.ca_rule.specs.TableLines.{Line, begins_section, IsVariableLine, IsTransitionLine}
+use Rattle.ca_rule.specs.TableText.{HasTable, Settings, Mean, Said, nothing, StandsFor, number_of, SaysVariable, is_bound, field_count, SaysTransition, Say}
+use Rattle.ca_rule.specs.TableFaults.{is_behind_settings, HasStatement, HasFields, IsFaultOf}
+use Rattle.ca_rule.specs.inner.TableNames.{HasNoSlot, IsFaultAmong, IsFaultOfTransition}
+use Rattle.ca_rule.specs.inner.TableSaid.{IsKept, with_variable, with_transition}
+use Rattle.ca_rule.specs.inner.TableSaying.{fault_at, IsKeptBehind, IsFaultOfLine, IsBehindSaid, AreAllSaid}
+use Rattle.ca_rule.proofs.StatementsSaid.{all-stand}
+
+-- the line of a variable says one more, and it is kept
+pub variable-behind : (settings : Settings) (said : Said) (line : Line) (name : List ℕ) (fields : List (List ℕ)) (kept : Statements) → IsVariableLine line name fields
+    → (slots : List Slot) × AllZip (StandsFor settings said) fields slots × IsKept (with_variable settings said name slots) kept → IsKeptBehind settings said line kept
+variable-behind settings said line name fields kept is h =
+    (with_variable settings said name h.0, inl (record { name = name; fields = fields; slots = h.0; spelled = is; stand = h.1; after_is = refl }), h.2)
+
+-- and so a transition
+pub transition-behind : (settings : Settings) (said : Said) (line : Line) (fields : List (List ℕ)) (kept : Statements) → IsTransitionLine line (field_count settings) fields
+    → (inputs : List Slot) × (becomes : Slot) × AllZip (StandsFor settings said) fields (inputs ++ becomes ∷ []) × (is_bound becomes inputs ≡ true) × IsKept (with_transition said inputs becomes) kept → IsKeptBehind settings said line kept
+transition-behind settings said line fields kept is h =
+    (with_transition said h.0 h.1, inr (record { fields = fields; inputs = h.0; result = h.1; spelled = is; stand = h.2; bound = h.3; after_is = refl }), h.4)
+
+-- a fault among the fields of a line is the line's
+module _ (settings : Settings) (said : Said) (count : ℕ) (numbers : List ℕ → Option ℕ) (same : settings.states ≡ count) (named : (name : List ℕ) → numbers name ≡ number_of 0 said.variables name) (line : Line) (fields : List (List ℕ)) where
+  no-slot : (f : StatementFault) → HasFields settings line fields → HasNoSlot count numbers fields f → IsFaultOfLine settings said line f
+  no-slot State spelled h = record {
+    good = h.good;
+    slots = h.slots;
+    field = h.field;
+    later = h.later;
+    spelled = subst (HasFields settings line) h.whole spelled;
+    stand = all-stand settings said count numbers same named h.good h.slots h.stand;
+    holds = (h.holds.0, subst (λ c. c ≤ value h.field) (sym same) h.holds.1);
+  }
+  no-slot Name spelled h = record {
+    good = h.good;
+    slots = h.slots;
+    field = h.field;
+    later = h.later;
+    spelled = subst (HasFields settings line) h.whole spelled;
+    stand = all-stand settings said count numbers same named h.good h.slots h.stand;
+    holds = (h.holds.0, sym (named h.field) ∙ h.holds.1);
+  }
+  no-slot Syntax spelled h = absurd h.holds
+  no-slot Unbound spelled h = absurd h.holds
+  no-slot Memory spelled h = absurd h.holds
+
+  pub variable-fault : (name : List ℕ) (f : StatementFault) → IsVariableLine line name fields → IsFaultAmong count numbers fields f → IsFaultOfLine settings said line f
+  variable-fault name Memory is h =
+      (with_variable settings said name h.0, inl (record { name = name; fields = fields; slots = h.0; spelled = is; stand = all-stand settings said count numbers same named fields h.0 h.1; after_is = refl }))
+  variable-fault name Syntax is h = no-slot Syntax (inl (name, is)) h
+  variable-fault name State is h = no-slot State (inl (name, is)) h
+  variable-fault name Name is h = no-slot Name (inl (name, is)) h
+  variable-fault name Unbound is h = no-slot Unbound (inl (name, is)) h
+
+  pub transition-fault : (f : StatementFault) → IsTransitionLine line (field_count settings) fields → IsFaultOfTransition count numbers fields f → IsFaultOfLine settings said line f
+  transition-fault Memory is h = (
+    with_transition said h.inputs h.result,
+    inr (record { fields = fields; inputs = h.inputs; result = h.result; spelled = is; stand = all-stand settings said count numbers same named fields (h.inputs ++ h.result ∷ []) h.stand; bound = h.bound_is; after_is = refl }),
+  )
+  transition-fault Unbound is h = record {
+    fields = fields;
+    inputs = h.inputs;
+    result = h.result;
+    spelled = is;
+    stand = all-stand settings said count numbers same named fields (h.inputs ++ h.result ∷ []) h.stand;
+    unbound = h.bound_is;
+  }
+  transition-fault Syntax is h = no-slot Syntax (inr is) h
+  transition-fault State is h = no-slot State (inr is) h
+  transition-fault Name is h = no-slot Name (inr is) h
+
+-- one more line says something behind the others
+say-snoc : (settings : Settings) (said mid after : Said) (ls : List Line) (l : Line) → Say settings said ls mid → SaysVariable settings mid l after ⊎ SaysTransition settings mid l after → Say settings said (ls ++ l ∷ []) after
+say-snoc settings said mid after [] l h says = (after, subst (λ s. SaysVariable settings s l after ⊎ SaysTransition settings s l after) (sym h) says, refl)
+say-snoc settings said mid after (x ∷ xs) l h says = (h.0, h.1, say-snoc settings h.0 mid after xs l h.2 says)
+
+-- before the first line
+pub none-said : (settings : Settings) (all : List Line) (kept : Statements) → IsKept nothing kept → IsBehindSaid settings all all kept
+none-said settings all kept is = record { good = []; said = nothing; whole = refl; say = refl; is_kept = is }
+
+-- one more line is said
+pub one-said : (settings : Settings) (all left later : List Line) (line : Line) (old new : Statements) → IsBehindSaid settings all left old → left ≡ line ∷ later
+    → ((said : Said) → IsKept said old → IsKeptBehind settings said line new) → IsBehindSaid settings all later new
+one-said settings all left later line old new before next more =
+    let is = more before.said before.is_kept in
+    record {
+      good = before.good ++ line ∷ [];
+      said = is.0;
+      whole = before.whole ∙ ap (λ l. before.good ++ l) next ∙ sym (append_assoc before.good (line ∷ []) later);
+      say = say-snoc settings nothing before.said is.0 before.good line before.say is.1;
+      is_kept = is.2;
+    }
+
+-- a section begins behind them, or they end
+pub section-behind : (settings : Settings) (all left later : List Line) (line : Line) (kept : Statements) → IsBehindSaid settings all left kept → left ≡ line ∷ later → begins_section line ≡ true → AreAllSaid settings all kept
+section-behind settings all left later line kept before next begins = record { later = line ∷ later; behind = subst (λ l. IsBehindSaid settings all l kept) next before; ends = begins }
+
+pub none-behind : (settings : Settings) (all left : List Line) (kept : Statements) → IsBehindSaid settings all left kept → left ≡ [] → AreAllSaid settings all kept
+none-behind settings all left kept before none = record { later = []; behind = subst (λ l. IsBehindSaid settings all l kept) none before; ends = refl }
+
+-- or the next line has a fault
+module _ (settings : Settings) (all left later : List Line) (line : Line) (kept : Statements) (before : IsBehindSaid settings all left kept) (next : left ≡ line ∷ later) (in_table : begins_section line ≡ false)
+    (bytes name : List ℕ) (head : List Line) (has : HasTable bytes name (head ++ all)) (mean : Mean head settings) (ended : is_behind_settings all ≡ true) where
+  has-statement : (P : Settings → Said → Line → Type 0) → P settings before.said line → HasStatement bytes line.0 P
+  has-statement P holding =
+      let whole = before.whole ∙ ap (λ l. before.good ++ l) next in
+      record {
+        name = name;
+        setting_lines = head;
+        good = before.good;
+        line = line;
+        later = later;
+        settings = settings;
+        said = before.said;
+        has_table = subst (λ l. HasTable bytes name (head ++ l)) whole has;
+        mean = mean;
+        ends = ap is_behind_settings (sym whole) ∙ ended;
+        say = before.say;
+        in_table = in_table;
+        number = refl;
+        holds = holding;
+      }
+
+  pub line-fault : (f : StatementFault) → ((said : Said) → IsKept said kept → IsFaultOfLine settings said line f) → IsFaultOf bytes (fault_at line.0 f)
+  line-fault Syntax fault = inr (has-statement _ (fault before.said before.is_kept))
+  line-fault State fault = inr (has-statement _ (fault before.said before.is_kept))
+  line-fault Name fault = has-statement _ (fault before.said before.is_kept)
+  line-fault Unbound fault = has-statement _ (fault before.said before.is_kept)
+  line-fault Memory fault = inl (line.0, has-statement _ (fault before.said before.is_kept))

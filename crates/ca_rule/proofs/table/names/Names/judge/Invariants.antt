@@ -1,0 +1,15 @@
+use Rattle.std.proofs.Common.{◌≡◌, List, true, length}
+use Rattle.std.specs.List.{list_all}
+use Rattle.ca_rule.specs.declared.table.slot.Slot.{Slot}
+use Rattle.ca_rule.specs.TableLines.{is_field}
+use Rattle.ca_rule.specs.inner.TableFields.{fields_left}
+use Rattle.ca_rule.specs.inner.TableNames.{number_in, AreSlots}
+use Rattle.ca_rule.proofs.table.names.Names.judge.Given as goal
+
+-- the fields before those that are left stand for slots
+abbrev pub invariant-fields : goal.invariant-fields
+invariant-fields l =
+    ((slots : List Slot) × AreSlots l.fn.states (number_in l.self) (fields_left l.fields) (fields_left l.left) slots) × (list_all is_field (fields_left l.left) ≡ true)
+
+abbrev pub decreases-fields : goal.decreases-fields
+decreases-fields l = length (fields_left l.left)
