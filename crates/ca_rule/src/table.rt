@@ -29,11 +29,15 @@ pub(crate) mod variable_line;
 
 use ca_plane::{Automaton, Nine};
 pub use fault::TableFault;
+use head::table_lines;
 pub use laws::{worked_cells, worked_orders, worked_texts};
 pub use neighbourhood::{Neighbourhood, Symmetry};
 use placement::Orders;
+use reading::read_statements;
+use settings::read_settings;
 pub use slot::Slot;
 use state_set::StateSet;
+use std::alloc::Global;
 use std::marker::Model;
 use transition::Transition;
 
@@ -61,11 +65,41 @@ impl Model for Table {
 }
 
 impl Table {
-    ghost use Rattle.std.specs.Prelude.{◌≡◌, ◌≢◌, ◌≤◌, true, replicate, IfSome, IfNone};
+    ghost use Rattle.std.specs.Prelude.{◌≡◌, ◌≢◌, ◌≤◌, true, replicate, IfSome, IfNone, IfOk, IfErr};
     ghost use Rattle.std.specs.List.{list_all};
     ghost use Rattle.ca_plane.specs.Bytes.{IsWord};
     ghost use Rattle.ca_rule.specs.TableNext.{Transition as TransitionValue, table_next};
+    ghost use Rattle.ca_rule.specs.TableText.{IsTable};
+    ghost use Rattle.ca_rule.specs.TableFaults.{IsFaultOf};
     ghost use Rattle.ca_rule.specs.inner.TableStored.{stored, is_below};
+
+    /// The table of a rule file's text, or what is wrong with its first faulty line. Want of memory is told only where a
+    /// good statement or the whole table was read.
+    pub fn parse(alloc: Global, text: &[u8]) -> Result<Table, TableFault>
+        ensures found { IfOk result (IsTable text.now) }
+        ensures quiet { IfOk result (λ t. table_next t (replicate 9 0) ≡ 0) }
+        ensures fault { IfErr result (IsFaultOf text.now) }
+    {
+        let (name, lines) = table_lines(text)?;
+        let (settings, behind) = read_settings(&lines)?;
+        let statements = read_statements(alloc, &settings, &behind)?;
+        let Ok(name) = name.to_vec(alloc) else {
+            return Err(TableFault::Memory);
+        };
+        let (variables, transitions) = statements.into_parts();
+        let Some(table) = Table::of_parts(
+            name,
+            settings.states,
+            settings.neighbourhood,
+            settings.symmetry,
+            variables,
+            transitions,
+        ) else {
+            let line = lines.last_line();
+            return Err(TableFault::Wakes { line });
+        };
+        Ok(table)
+    }
 
     /// The table of these parts, unless it turns nine zeros into another state.
     pub(crate) fn of_parts(

@@ -122,6 +122,14 @@ impl<'a> Statements<'a> {
             Statement::Transition(fields) => self.add_transition(alloc, settings.states, &fields),
         }
     }
+
+    /// The sets of the variables, and the transitions.
+    pub(crate) fn into_parts(self) -> (Vec<StateSet>, Vec<Transition>)
+        ensures variables { result.0.items ≡ self.entry.variables.items }
+        ensures transitions { result.1.items ≡ self.entry.transitions.items }
+    {
+        (self.variables, self.transitions)
+    }
 }
 
 /// Whether the result is a number, or a variable that stands among the inputs.

@@ -1,0 +1,87 @@
+-- The text of a rule table, read whole.
+use Rattle.std.proofs.Common.{◌≡◌, ◌≤◌, ℕ, true, codes, ◌&&◌, List, [], ◌∷◌, ◌++◌, nat_le, Option, Some, None, refl, sym, ap, subst, ◌∙◌, inl, inr, ◌⊎◌, arith, option_and_then}
+use Rattle.std.specs.List.{list_all, AllZip}
+use Rattle.std.proofs.lemmas.Bool.{cases_Bool, and_parts}
+use Rattle.std.proofs.lemmas.Bool.Decides.{nat_tests}
+use Rattle.std.proofs.lemmas.List.Folds.{list_all-append}
+use Rattle.std.proofs.lemmas.Option.{none-some, same_Some}
+use Rattle.ca_plane.specs.Bytes.{value}
+use Rattle.ca_rule.specs.declared.table.slot.Slot.{Slot}
+use Rattle.ca_rule.specs.declared.table.slot.Slot.TheVariants.{Number, Variable}
+use Rattle.ca_rule.specs.declared.table.statements.Statements.{Statements}
+use Rattle.ca_rule.specs.TableNext.{Transition}
+use Rattle.ca_rule.specs.TableLines.{Line, are_digits, state_count, value_of}
+use Rattle.ca_rule.specs.TableText.{HasTable, Settings, Said, nothing, StandsFor, SaysVariable, SaysTransition, Say, IsTable}
+use Rattle.ca_rule.specs.inner.TableSaying.{AreAllSaid}
+use Rattle.ca_rule.specs.inner.TableSettings.{IsBehindMeant}
+use Rattle.ca_rule.specs.inner.TableStored.{stored, is_below}
+
+-- a number of states that is given is from 2 to 256
+count-within : (bytes : List ℕ) (n : ℕ) → state_count bytes ≡ Some n → (2 ≤ n) × (n ≤ 256)
+count-within bytes n is =
+    elim (cases_Bool (are_digits bytes && (nat_le 2 (value bytes) && nat_le (value bytes) 256))) [
+      | inl t ↦ let k = rw t at is in
+          let same = same_Some (value bytes) n k in
+          let both = and_parts (nat_le 2 (value bytes)) (nat_le (value bytes) 256) (and_parts (are_digits bytes) (nat_le 2 (value bytes) && nat_le (value bytes) 256) t).1 in
+          let low : 2 ≤ value bytes = let l = both.0 in grind (arith, nat_tests) in
+          let high : value bytes ≤ 256 = let h = both.1 in grind (arith, nat_tests) in
+          (subst (λ m. 2 ≤ m) same low, subst (λ m. m ≤ 256) same high)
+      | inr t ↦ let k = rw t at is in absurd (none-some n k)
+    ]
+
+set-within : (value : Option (List ℕ)) (n : ℕ) → option_and_then state_count value ≡ Some n → (2 ≤ n) × (n ≤ 256)
+set-within None n is = absurd (none-some n is)
+set-within (Some bytes) n is = count-within bytes n is
+
+-- settings mean so many states
+pub states-within : (all left : List Line) (settings : Settings) → IsBehindMeant all settings left → (2 ≤ settings.states) × (settings.states ≤ 256)
+states-within all left settings before = set-within (value_of (codes "n_states") before.good) settings.states before.mean.states_are
+
+-- a slot that a field stands for is below the number of states
+module _ (settings : Settings) where
+  stands-below : (said : Said) (field : List ℕ) (slot : Slot) → StandsFor settings said field slot → is_below settings.states slot ≡ true
+  stands-below said field (Number state) h = let low = h.2 in grind (arith, nat_tests)
+  stands-below said field (Variable v) h = refl
+
+  last-below : (said : Said) (fields : List (List ℕ)) (inputs : List Slot) (result : Slot) → AllZip (StandsFor settings said) fields (inputs ++ result ∷ []) → is_below settings.states result ≡ true
+  last-below said [] [] result h = absurd h
+  last-below said [] (i ∷ is) result h = absurd h
+  last-below said (f ∷ fs) [] result h = stands-below said f result h.0
+  last-below said (f ∷ fs) (i ∷ is) result h = last-below said fs is result h.1
+
+  -- so are the results of the transitions that a line says
+  line-below : (said after : Said) (line : Line) → list_all (λ t. is_below settings.states t.result) said.transitions ≡ true → SaysVariable settings said line after ⊎ SaysTransition settings said line after
+      → list_all (λ t. is_below settings.states t.result) after.transitions ≡ true
+  line-below said after line below (inl v) = ap (λ (s : Said). list_all (λ t. is_below settings.states t.result) s.transitions) v.after_is ∙ below
+  line-below said after line below (inr v) =
+      let low = last-below said v.fields v.inputs v.result v.stand in
+      ap (λ (s : Said). list_all (λ t. is_below settings.states t.result) s.transitions) v.after_is
+      ∙ list_all-append (λ t. is_below settings.states t.result) said.transitions (record { inputs = v.inputs; result = v.result } ∷ [])
+      ∙ rw below (rw low refl)
+
+  -- and those that all lines say
+  pub all-below : (said after : Said) (lines : List Line) → list_all (λ t. is_below settings.states t.result) said.transitions ≡ true → Say settings said lines after → list_all (λ t. is_below settings.states t.result) after.transitions ≡ true
+  all-below said after [] below h = subst (λ (s : Said). list_all (λ t. is_below settings.states t.result) s.transitions ≡ true) h below
+  all-below said after (l ∷ ls) below h = all-below h.0 after ls (line-below said h.0 l below h.1) h.2
+
+  pub kept-below : (all : List Line) (kept : Statements) → AreAllSaid settings all kept → list_all (λ (t : Transition). is_below settings.states t.result) kept.transitions.items ≡ true
+  kept-below all kept h =
+      let said = h.behind.said in
+      ap (list_all (λ (t : Transition). is_below settings.states t.result)) (sym h.behind.is_kept.lines) ∙ all-below nothing said h.behind.good refl h.behind.say
+
+-- what is stored is what the text says
+pub is-table : (bytes name : List ℕ) (all left : List Line) (settings : Settings) (kept : Statements) → HasTable bytes name all → IsBehindMeant all settings left → AreAllSaid settings left kept
+    → IsTable bytes (stored name settings.states settings.neighbourhood settings.symmetry kept.variables.items kept.transitions.items)
+is-table bytes name all left settings kept has before h = record {
+  name = name;
+  setting_lines = before.good;
+  statements = h.behind.good;
+  later = h.later;
+  settings = settings;
+  said = h.behind.said;
+  has_table = subst (HasTable bytes name) (before.whole ∙ ap (λ l. before.good ++ l) h.behind.whole) has;
+  mean = before.mean;
+  say = h.behind.say;
+  ends = h.ends;
+  table_is = λ i. stored name settings.states settings.neighbourhood settings.symmetry (sym h.behind.is_kept.sets i) (sym h.behind.is_kept.lines i);
+}
