@@ -1,0 +1,248 @@
+-- A line of a rule table is spelled in one way at most.
+use Rattle.std.proofs.Common.{◌≡◌, ℕ, Bool, true, false, ◌&&◌, ◌||◌, ◌==◌, List, [], ◌∷◌, ◌++◌, length, map, Option, Some, None, is_some, option_map, option_and_then, unwrap_or, codes, if◌then◌else◌, refl, sym, ap, subst, ◌∙◌, arith, inl, inr, eq-eqb, true≢false}
+use Rattle.std.specs.List.{list_all, list_any}
+use Rattle.std.proofs.lemmas.Bool.{cases_Bool, or_cases, and_parts, and_from, or_from, or_left, or_right, false≢true}
+use Rattle.std.proofs.lemmas.Bool.Decides.{nat_tests}
+use Rattle.ca_plane.specs.Bytes.{is_blank, is_digit, front, rest, without_last_blanks, trimmed, with_front}
+use Rattle.ca_plane.proofs.Fronts.{front_then_rest, every_right}
+use Rattle.ca_rule.specs.TableLines.{Line, behind, setting, setting_words, is_setting, begins_with, begins_section, begins_variable, is_name_byte, are_digits, is_name, is_field, parts_of, fields_between, fields_of, IsVariableLine, IsTransitionLine}
+use Rattle.ca_rule.specs.inner.TableFields.{opened, IsBraced}
+use Rattle.ca_rule.proofs.Stripped.{behind-whole}
+use Rattle.ca_rule.proofs.VariableLines.{HasParts, parts-of-line, line-of-parts, opened-braced, braced-opened}
+
+-- ---- where something is some
+
+pub map-some : {A B : Type 0} (f : A → B) (o : Option A) (y : B) → option_map f o ≡ Some y → (x : A) × (o ≡ Some x) × (f x ≡ y)
+map-some f None y e = cc
+map-some f (Some x) y e = (x, refl, ap (λ o. unwrap_or o (f x)) e)
+
+pub then-some : {A B : Type 0} (f : A → Option B) (o : Option A) (y : B) → option_and_then f o ≡ Some y → (x : A) × (o ≡ Some x) × (f x ≡ Some y)
+then-some f None y e = cc
+then-some f (Some x) y e = (x, refl, e)
+
+-- the value, where the test is passed
+abbrev pub some_if : {A : Type 0} → Bool → A → Option A
+some_if true x = Some x
+some_if false x = None
+
+pub some-if : {A : Type 0} (b : Bool) (x y : A) → some_if b x ≡ Some y → (b ≡ true) × (x ≡ y)
+some-if true x y e = (refl, ap (λ o. unwrap_or o x) e)
+some-if false x y e = cc
+
+-- ---- a variable's line
+
+-- the bytes before a last brace
+abbrev before_brace : List ℕ → Option (List ℕ)
+before_brace [] = None
+before_brace (b ∷ []) = some_if (b == 125) []
+before_brace (b ∷ c ∷ bs) = option_map (λ l. b ∷ l) (before_brace (c ∷ bs))
+
+before-brace : (inside : List ℕ) → before_brace (inside ++ codes "}") ≡ Some inside
+before-brace [] = refl
+before-brace (b ∷ []) = refl
+before-brace (b ∷ c ∷ bs) = ap (option_map (λ l. b ∷ l)) (before-brace (c ∷ bs))
+
+brace-before : (bytes inside : List ℕ) → before_brace bytes ≡ Some inside → bytes ≡ inside ++ codes "}"
+brace-before [] inside e = cc
+brace-before (b ∷ []) inside e =
+    let parts = some-if (b == 125) [] inside e in
+    let same : b ≡ 125 = let k = parts.0 in grind (arith, nat_tests) in
+    ap (λ x. x ∷ []) same ∙ ap (λ l. l ++ codes "}") parts.1
+brace-before (b ∷ c ∷ bs) inside e =
+    let m = map-some (λ l. b ∷ l) (before_brace (c ∷ bs)) inside e in
+    ap (λ l. b ∷ l) (brace-before (c ∷ bs) m.0 m.1) ∙ ap (λ l. l ++ codes "}") m.2
+
+-- the name and the fields, where they are spelled as such
+abbrev named_fields : List ℕ → List ℕ → Option (List ℕ × List (List ℕ))
+named_fields name inside = some_if (is_name name && list_all is_field (fields_between inside)) (name, fields_between inside)
+
+-- what the bytes behind `var` spell
+abbrev variable_in : List ℕ → Option (List ℕ × List (List ℕ))
+variable_in more = option_and_then (named_fields (front is_name_byte (rest is_blank more))) (option_and_then before_brace (opened (rest is_name_byte (rest is_blank more))))
+
+-- the name and the fields of a variable's line
+abbrev pub variable_of : Line → Option (List ℕ × List (List ℕ))
+variable_of line = option_and_then (λ more. if begins_variable line then variable_in more else None) (behind (codes "var") line.1)
+
+pub variable-is-of : (line : Line) (name : List ℕ) (fields : List (List ℕ)) → IsVariableLine line name fields → variable_of line ≡ Some (name, fields)
+variable-is-of line name fields v =
+    let p = parts-of-line line name fields v in
+    let inside = ap (option_and_then before_brace) (opened-braced (rest is_name_byte (rest is_blank p.more)) v.inside p.braces) ∙ before-brace v.inside in
+    let good = and_from (is_name name) (list_all is_field (fields_between v.inside)) v.named (ap (list_all is_field) v.fields_are ∙ v.are_fields) in
+    ap (option_and_then (λ more. if begins_variable line then variable_in more else None)) p.is_var
+    ∙ ap (λ b. if b then variable_in p.more else None) v.begins
+    ∙ ap (option_and_then (named_fields (front is_name_byte (rest is_blank p.more)))) inside
+    ∙ ap (λ n. named_fields n v.inside) p.name_is
+    ∙ ap (λ b. some_if b (name, fields_between v.inside)) good
+    ∙ ap (λ fs. Some (name, fs)) v.fields_are
+
+if-some : {A : Type 0} (b : Bool) (o : Option A) (y : A) → (if b then o else None) ≡ Some y → (b ≡ true) × (o ≡ Some y)
+if-some true o y e = (refl, e)
+if-some false o y e = cc
+
+pub variable-of-is : (line : Line) (v : List ℕ × List (List ℕ)) → variable_of line ≡ Some v → IsVariableLine line v.0 v.1
+variable-of-is line v e =
+    let m = then-some (λ more. if begins_variable line then variable_in more else None) (behind (codes "var") line.1) v e in
+    let begun = if-some (begins_variable line) (variable_in m.0) v m.2 in
+    let i = then-some (named_fields (front is_name_byte (rest is_blank m.0))) (option_and_then before_brace (opened (rest is_name_byte (rest is_blank m.0)))) v begun.1 in
+    let o = then-some before_brace (opened (rest is_name_byte (rest is_blank m.0))) i.0 i.1 in
+    let good = some-if (is_name (front is_name_byte (rest is_blank m.0)) && list_all is_field (fields_between i.0)) (front is_name_byte (rest is_blank m.0), fields_between i.0) v i.2 in
+    let both = and_parts (is_name (front is_name_byte (rest is_blank m.0))) (list_all is_field (fields_between i.0)) good.0 in
+    subst (λ (w : List ℕ × List (List ℕ)). IsVariableLine line w.0 w.1) good.1 (line-of-parts line (front is_name_byte (rest is_blank m.0)) i.0 begun.0
+      (record { more = m.0; is_var = m.1; name_is = refl; braces = braced-opened (rest is_name_byte (rest is_blank m.0)) i.0 o.0 o.1 (brace-before o.0 i.0 o.2) }) both.0 both.1)
+
+-- ---- a transition
+
+-- the fields of a transition of so many slots
+abbrev pub transition_of : ℕ → Line → Option (List (List ℕ))
+transition_of slots line = if begins_variable line then None else some_if (list_all is_field (fields_of line) && (length (fields_of line) == slots)) (fields_of line)
+
+pub transition-is-of : (line : Line) (slots : ℕ) (fields : List (List ℕ)) → IsTransitionLine line slots fields → transition_of slots line ≡ Some fields
+transition-is-of line slots fields t =
+    let good = and_from (list_all is_field fields) (length fields == slots) t.are_fields (eq-eqb (length fields) slots t.count) in
+    ap (λ b. if b then None else some_if (list_all is_field (fields_of line) && (length (fields_of line) == slots)) (fields_of line)) t.no_variable
+    ∙ ap (λ fs. some_if (list_all is_field fs && (length fs == slots)) fs) t.fields_are
+    ∙ ap (λ b. some_if b fields) good
+
+unless-some : {A : Type 0} (b : Bool) (o : Option A) (y : A) → (if b then None else o) ≡ Some y → (b ≡ false) × (o ≡ Some y)
+unless-some true o y e = cc
+unless-some false o y e = (refl, e)
+
+pub transition-of-is : (line : Line) (slots : ℕ) (fields : List (List ℕ)) → transition_of slots line ≡ Some fields → IsTransitionLine line slots fields
+transition-of-is line slots fields e =
+    let u = unless-some (begins_variable line) (some_if (list_all is_field (fields_of line) && (length (fields_of line) == slots)) (fields_of line)) fields e in
+    let s = some-if (list_all is_field (fields_of line) && (length (fields_of line) == slots)) (fields_of line) fields u.1 in
+    let both = and_parts (list_all is_field (fields_of line)) (length (fields_of line) == slots) s.0 in
+    let count : length (fields_of line) ≡ slots = let k = both.1 in grind (arith, nat_tests) in
+    record {
+      no_variable = u.0;
+      fields_are = s.1;
+      are_fields = ap (list_all is_field) (sym s.1) ∙ both.0;
+      count = ap length (sym s.1) ∙ count;
+    }
+
+-- ---- no setting and no section is a statement
+
+-- a byte that may stand in a transition
+abbrev stands_in_one : ℕ → Bool
+stands_in_one b = is_blank b || ((b == 44) || (is_digit b || is_name_byte b))
+
+digit-stands : (b : ℕ) → is_digit b ≡ true → stands_in_one b ≡ true
+digit-stands b e = or_right (is_blank b) _ (or_right (b == 44) _ (or_left (is_digit b) (is_name_byte b) e))
+
+name-stands : (b : ℕ) → is_name_byte b ≡ true → stands_in_one b ≡ true
+name-stands b e = or_right (is_blank b) _ (or_right (b == 44) _ (or_right (is_digit b) (is_name_byte b) e))
+
+every-stands : (test : ℕ → Bool) (bytes : List ℕ) → ((b : ℕ) → test b ≡ true → stands_in_one b ≡ true) → list_all test bytes ≡ true → list_all stands_in_one bytes ≡ true
+every-stands test [] one all = refl
+every-stands test (b ∷ bs) one all =
+    let parts = and_parts (test b) (list_all test bs) all in
+    and_from (stands_in_one b) (list_all stands_in_one bs) (one b parts.0) (every-stands test bs one parts.1)
+
+field-stands : (field : List ℕ) → is_field field ≡ true → list_all stands_in_one field ≡ true
+field-stands field e = elim (or_cases (are_digits field) (is_name field) e) [
+  | inl d ↦ every-stands is_digit field digit-stands (and_parts _ (list_all is_digit field) d).1
+  | inr n ↦ every-stands is_name_byte field name-stands (and_parts _ (list_all is_name_byte field) n).1
+]
+
+-- blanks may stand there too
+behind-blanks : (bytes : List ℕ) → list_all stands_in_one (rest is_blank bytes) ≡ true → list_all stands_in_one bytes ≡ true
+behind-blanks [] all = refl
+behind-blanks (b ∷ bs) all = elim (cases_Bool (is_blank b)) [
+  | inl t ↦ and_from (stands_in_one b) (list_all stands_in_one bs) (or_left (is_blank b) _ t) (behind-blanks bs (let k = rw t at all in k))
+  | inr t ↦ let k = rw t at all in k
+]
+
+before-blanks : (bytes : List ℕ) → list_all stands_in_one (without_last_blanks bytes) ≡ true → list_all stands_in_one bytes ≡ true
+before-blanks [] all = refl
+before-blanks (b ∷ bs) all = elim (cases_Bool (list_all is_blank (b ∷ bs))) [
+  | inl t ↦ every-stands is_blank (b ∷ bs) (λ c e. or_left (is_blank c) _ e) t
+  | inr t ↦
+    let k : list_all stands_in_one (b ∷ without_last_blanks bs) ≡ true = ap (λ v. list_all stands_in_one (if v then [] else b ∷ without_last_blanks bs)) (sym t) ∙ all in
+    let parts = and_parts (stands_in_one b) (list_all stands_in_one (without_last_blanks bs)) k in
+    and_from (stands_in_one b) (list_all stands_in_one bs) parts.0 (before-blanks bs parts.1)
+]
+
+with-front-stands : (b : ℕ) (parts : List (List ℕ)) → list_all (list_all stands_in_one) (with_front b parts) ≡ true → (stands_in_one b ≡ true) × (list_all (list_all stands_in_one) parts ≡ true)
+with-front-stands b [] all = ((and_parts (stands_in_one b) true (and_parts (stands_in_one b && true) true all).0).0, refl)
+with-front-stands b (p ∷ ps) all =
+    let one = and_parts (stands_in_one b && list_all stands_in_one p) (list_all (list_all stands_in_one) ps) all in
+    let two = and_parts (stands_in_one b) (list_all stands_in_one p) one.0 in
+    (two.0, and_from (list_all stands_in_one p) (list_all (list_all stands_in_one) ps) two.1 one.1)
+
+parts-stand : (bytes : List ℕ) → list_all (list_all stands_in_one) (parts_of bytes) ≡ true → list_all stands_in_one bytes ≡ true
+parts-stand [] all = refl
+parts-stand (b ∷ bs) all = elim (cases_Bool (b == 44)) [
+  | inl t ↦ and_from (stands_in_one b) (list_all stands_in_one bs) (or_right (is_blank b) _ (or_left (b == 44) _ t)) (parts-stand bs (ap (λ v. list_all (list_all stands_in_one) (if v then [] ∷ parts_of bs else with_front b (parts_of bs))) (sym t) ∙ all))
+  | inr t ↦
+    let parts = with-front-stands b (parts_of bs) (ap (λ v. list_all (list_all stands_in_one) (if v then [] ∷ parts_of bs else with_front b (parts_of bs))) (sym t) ∙ all) in
+    and_from (stands_in_one b) (list_all stands_in_one bs) parts.0 (parts-stand bs parts.1)
+]
+
+fields-stand : (parts : List (List ℕ)) → list_all is_field (map trimmed parts) ≡ true → list_all (list_all stands_in_one) parts ≡ true
+fields-stand [] all = refl
+fields-stand (p ∷ ps) all =
+    let parts = and_parts (is_field (trimmed p)) (list_all is_field (map trimmed ps)) all in
+    and_from (list_all stands_in_one p) (list_all (list_all stands_in_one) ps) (behind-blanks p (before-blanks (rest is_blank p) (field-stands (trimmed p) parts.0))) (fields-stand ps parts.1)
+
+bytes-stand : (bytes : List ℕ) → list_all is_field (map (λ b. b ∷ []) bytes) ≡ true → list_all stands_in_one bytes ≡ true
+bytes-stand [] all = refl
+bytes-stand (b ∷ bs) all =
+    let parts = and_parts (is_field (b ∷ [])) (list_all is_field (map (λ b. b ∷ []) bs)) all in
+    and_from (stands_in_one b) (list_all stands_in_one bs) (and_parts (stands_in_one b) true (field-stands (b ∷ []) parts.0)).0 (bytes-stand bs parts.1)
+
+line-stands : (line : Line) (slots : ℕ) (fields : List (List ℕ)) → IsTransitionLine line slots fields → list_all stands_in_one line.1 ≡ true
+line-stands line slots fields t =
+    let all : list_all is_field (fields_of line) ≡ true = ap (list_all is_field) t.fields_are ∙ t.are_fields in
+    elim (cases_Bool (list_any (λ b. b == 44) line.1)) [
+      | inl c ↦ parts-stand line.1 (fields-stand (parts_of line.1) (ap (λ v. list_all is_field (if v then fields_between line.1 else map (λ b. b ∷ []) line.1)) (sym c) ∙ all))
+      | inr c ↦ bytes-stand line.1 (ap (λ v. list_all is_field (if v then fields_between line.1 else map (λ b. b ∷ []) line.1)) (sym c) ∙ all)
+    ]
+
+-- ---- what begins a section is no statement
+
+at-sign : (bytes : List ℕ) → list_all stands_in_one bytes ≡ true → begins_with (λ b. b == 64) bytes ≡ false
+at-sign [] all = refl
+at-sign (b ∷ bs) all = elim (cases_Bool (b == 64)) [
+  | inl t ↦
+    let same : b ≡ 64 = grind (arith, nat_tests) in
+    let none : stands_in_one b ≡ false = ap stands_in_one same in
+    absurd (true≢false (sym (and_parts (stands_in_one b) (list_all stands_in_one bs) all).0 ∙ none))
+  | inr t ↦ t
+]
+
+pub transition-no-section : (line : Line) (slots : ℕ) (fields : List (List ℕ)) → IsTransitionLine line slots fields → begins_section line ≡ false
+transition-no-section line slots fields t = at-sign line.1 (line-stands line slots fields t)
+
+pub variable-no-section : (line : Line) (name : List ℕ) (fields : List (List ℕ)) → IsVariableLine line name fields → begins_section line ≡ false
+variable-no-section line name fields v = ap (begins_with (λ b. b == 64)) v.spelled
+
+-- ---- nor is a setting
+
+pub variable-no-setting : (line : Line) (name : List ℕ) (fields : List (List ℕ)) → IsVariableLine line name fields → is_setting line ≡ false
+variable-no-setting line name fields v = ap (λ l. is_setting (line.0, l)) v.spelled
+
+is-some : {A : Type 0} (o : Option A) → is_some o ≡ true → (x : A) × (o ≡ Some x)
+is-some None e = absurd (false≢true e)
+is-some (Some x) e = (x, refl)
+
+-- a colon stands in the line of a setting
+colon-stands : (word : List ℕ) (line : Line) → is_some (setting word line) ≡ true → list_all stands_in_one line.1 ≡ true → ⊥
+colon-stands word line some all =
+    let value = is-some (setting word line) some in
+    let m = map-some (rest is_blank) (option_and_then (λ bytes. behind (codes ":") (rest is_blank bytes)) (behind word line.1)) value.0 value.1 in
+    let t = then-some (λ bytes. behind (codes ":") (rest is_blank bytes)) (behind word line.1) m.0 m.1 in
+    let later = every_right stands_in_one word t.0 (ap (list_all stands_in_one) (sym (behind-whole word line.1 t.0 t.1)) ∙ all) in
+    let colon : t.0 ≡ front is_blank t.0 ++ (codes ":" ++ m.0) = sym (front_then_rest is_blank t.0) ∙ ap (λ l. front is_blank t.0 ++ l) (behind-whole (codes ":") (rest is_blank t.0) m.0 t.2) in
+    let last = every_right stands_in_one (front is_blank t.0) (codes ":" ++ m.0) (ap (list_all stands_in_one) (sym colon) ∙ later) in
+    false≢true last
+
+any-word : (words : List (List ℕ)) (line : Line) → list_all stands_in_one line.1 ≡ true → list_any (λ word. is_some (setting word line)) words ≡ false
+any-word [] line all = refl
+any-word (w ∷ ws) line all = elim (cases_Bool (is_some (setting w line))) [
+  | inl t ↦ absurd (colon-stands w line t all)
+  | inr t ↦ or_from (is_some (setting w line)) (list_any (λ word. is_some (setting word line)) ws) t (any-word ws line all)
+]
+
+pub transition-no-setting : (line : Line) (slots : ℕ) (fields : List (List ℕ)) → IsTransitionLine line slots fields → is_setting line ≡ false
+transition-no-setting line slots fields t = any-word setting_words line (line-stands line slots fields t)
