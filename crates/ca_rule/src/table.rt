@@ -23,6 +23,7 @@ mod state_set;
 pub(crate) mod statement;
 pub(crate) mod statement_fault;
 pub(crate) mod statements;
+mod text_laws;
 mod transition;
 pub(crate) mod transition_slots;
 pub(crate) mod variable_line;
@@ -39,6 +40,7 @@ pub use slot::Slot;
 use state_set::StateSet;
 use std::alloc::Global;
 use std::marker::Model;
+pub use text_laws::one_table;
 use transition::Transition;
 
 /// A rule table: the rule of a file with an `@TABLE` section (Golly Help, File Formats: rule tables). It leaves the empty
