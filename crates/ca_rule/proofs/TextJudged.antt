@@ -202,3 +202,75 @@ is-read bytes t h =
 -- a text is that of one table at most
 pub one_table : (bytes : List ℕ) (t u : TableRule) → IsTable bytes t → IsTable bytes u → t ≡ u
 one_table bytes t u h k = ap (λ r. result_unwrap_or r t) (sym (is-read bytes t h) ∙ is-read bytes u k)
+
+-- ---- faults
+
+again-read : (bytes : List ℕ) (n : ℕ) → SetsAgain bytes n → reading bytes ≡ Err (Syntax n)
+again-read bytes n a =
+    has-table bytes a.name (a.good ++ a.line ∷ a.later) a.has_table ∙ settings-again bytes a.name [] a.good a.line a.later a.once a.again
+    ∙ ap (λ m. Err (Syntax m)) (sym a.number)
+
+settings-read : (bytes : List ℕ) (n : ℕ) (P : List Line → Type 0) (f : TableFault) (h : HasSettings bytes n P) → settings_of n h.lines ≡ Err f → reading bytes ≡ Err f
+settings-read bytes n P f h e =
+    has-table bytes h.name (h.lines ++ h.behind) h.has_table
+    ∙ settings-end bytes h.name [] h.lines h.behind h.once h.ends
+    ∙ ap (λ m. then_ok (λ settings. by_statements h.name settings nothing h.behind) (settings_of m h.lines)) (sym h.number)
+    ∙ ap (then_ok (λ settings. by_statements h.name settings nothing h.behind)) e
+
+statement-read : (bytes : List ℕ) (n : ℕ) (P : Settings → Said → Line → Type 0) (f : ℕ → TableFault) (h : HasStatement bytes n P) → step_of h.settings h.said h.line ≡ Err (f h.line.0) → reading bytes ≡ Err (f n)
+statement-read bytes n P f h e =
+    has-table bytes h.name (h.setting_lines ++ (h.good ++ h.line ∷ h.later)) h.has_table
+    ∙ settings-end bytes h.name [] h.setting_lines (h.good ++ h.line ∷ h.later) h.mean.once h.ends
+    ∙ ap (then_ok (λ settings. by_statements h.name settings nothing (h.good ++ h.line ∷ h.later))) (settings-mean (number_at bytes (h.good ++ h.line ∷ h.later)) h.setting_lines h.settings h.mean)
+    ∙ statements-fault h.name h.settings nothing h.good h.line h.later h.said (f h.line.0) h.say h.in_table e
+    ∙ ap (λ m. Err (f m)) (sym h.number)
+
+abbrev fault_or : TableFault → Result TableRule TableFault → TableFault
+fault_or f (Ok t) = f
+fault_or f (Err g) = g
+
+-- a fault by its kind: want of memory, one that is read, or that the table wakes
+pub data FaultKind (bytes : List ℕ) : TableFault → Type 0 where
+  OfMemory : FaultKind bytes Memory
+  OfReading : {f : TableFault} → reading bytes ≡ Err f → FaultKind bytes f
+  OfWaking : (t : TableRule) → IsTable bytes t → DoesWake t → FaultKind bytes (Wakes (last_line bytes))
+
+-- what a fault is of
+kind_of : (bytes : List ℕ) (f : TableFault) → IsFaultOf bytes f → FaultKind bytes f
+kind_of bytes (NoRuleLine n) h = OfReading (no-rule-line bytes (lines_said bytes) h.0 ∙ ap (λ m. Err (NoRuleLine m)) (sym h.1))
+kind_of bytes (NoTable n) h = OfReading (no-table-line bytes (lines_said bytes) h.0 ∙ ap (λ m. Err (NoTable m)) (sym h.1))
+kind_of bytes (Syntax n) (inl h) = OfReading (again-read bytes n h)
+kind_of bytes (Syntax n) (inr h) = OfReading (statement-read bytes n IsMisspelled (λ m. Syntax m) h (step-misspelled h.settings h.said h.line h.holds))
+kind_of bytes (States n) (inl h) = OfReading (settings-read bytes n LackStates (States n) h (lack-states n h.lines h.holds))
+kind_of bytes (States n) (inr h) = OfReading (statement-read bytes n HasBadState (λ m. States m) h (step-bad-state h.settings h.said h.line h.holds))
+kind_of bytes (Neighborhood n) h = OfReading (settings-read bytes n LackNeighbourhood (Neighborhood n) h (lack-neighbourhood n h.lines h.holds))
+kind_of bytes (Symmetries n) h = OfReading (settings-read bytes n LackSymmetry (Symmetries n) h (lack-symmetry n h.lines h.holds))
+kind_of bytes (Variable n) h = OfReading (statement-read bytes n HasUnknownName (λ m. Variable m) h (step-unknown-name h.settings h.said h.line h.holds))
+kind_of bytes (Unbound n) h = OfReading (statement-read bytes n HasUnbound (λ m. Unbound m) h (step-unbound h.settings h.said h.line h.holds))
+kind_of bytes (Wakes n) (t, is, wakes, number) = subst (λ m. FaultKind bytes (Wakes m)) (sym number) (OfWaking t is wakes)
+kind_of bytes Memory h = OfMemory
+
+table-or-fault : (bytes : List ℕ) (t : TableRule) (f : TableFault) → IsTable bytes t → reading bytes ≡ Err f → ⊥
+table-or-fault bytes t f is e = let k : Ok t ≡ Err f = sym (is-read bytes t is) ∙ e in true≢false (ap is_ok k)
+
+none_by_kind : (bytes : List ℕ) (t : TableRule) (f : TableFault) → IsTable bytes t → FaultKind bytes f → (f ≡ Memory) ⊎ ((f ≡ Wakes (last_line bytes)) × DoesWake t)
+none_by_kind bytes t f is OfMemory = inl refl
+none_by_kind bytes t f is (OfReading e) = absurd (table-or-fault bytes t f is e)
+none_by_kind bytes t f is (OfWaking u also wakes) = inr (refl, subst DoesWake (one_table bytes u t also is) wakes)
+
+-- a text of a table has no fault but that it wakes, want of memory apart
+pub none_of_a_table : (bytes : List ℕ) (t : TableRule) (f : TableFault) → IsTable bytes t → IsFaultOf bytes f → (f ≡ Memory) ⊎ ((f ≡ Wakes (last_line bytes)) × DoesWake t)
+none_of_a_table bytes t f is h = none_by_kind bytes t f is (kind_of bytes f h)
+
+one_kind : (bytes : List ℕ) (f g : TableFault) → f ≢ Memory → g ≢ Memory → FaultKind bytes f → FaultKind bytes g → f ≡ g
+one_kind bytes f g m n OfMemory k = absurd (m refl)
+one_kind bytes f g m n (OfReading d) OfMemory = absurd (n refl)
+one_kind bytes f g m n (OfReading d) (OfReading e) = ap (fault_or f) (sym d ∙ e)
+one_kind bytes f g m n (OfReading d) (OfWaking t is wakes) = absurd (table-or-fault bytes t f is d)
+one_kind bytes f g m n (OfWaking t is wakes) OfMemory = absurd (n refl)
+one_kind bytes f g m n (OfWaking t is wakes) (OfReading e) = absurd (table-or-fault bytes t g is e)
+one_kind bytes f g m n (OfWaking t is wakes) (OfWaking u also others) = refl
+
+-- a text has one fault at most, want of memory apart
+pub one_fault : (bytes : List ℕ) (f g : TableFault) → f ≢ Memory → g ≢ Memory → IsFaultOf bytes f → IsFaultOf bytes g → f ≡ g
+one_fault bytes f g m n h k = one_kind bytes f g m n (kind_of bytes f h) (kind_of bytes g k)

@@ -19,6 +19,6 @@ pub use laws::{alike, names_itself, one_rule, rule_or_fault, worked_examples};
 pub use rule::{Rule, resolve};
 pub use rule_laws::{named_rules, same_rules, worked_names};
 pub use table::{
-    Neighbourhood, Slot, Symmetry, Table, TableFault, one_table, worked_cells, worked_orders,
-    worked_texts,
+    Neighbourhood, Slot, Symmetry, Table, TableFault, one_table, table_or_fault, worked_cells,
+    worked_orders, worked_texts,
 };

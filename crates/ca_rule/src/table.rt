@@ -40,7 +40,7 @@ pub use slot::Slot;
 use state_set::StateSet;
 use std::alloc::Global;
 use std::marker::Model;
-pub use text_laws::one_table;
+pub use text_laws::{one_table, table_or_fault};
 use transition::Transition;
 
 /// A rule table: the rule of a file with an `@TABLE` section (Golly Help, File Formats: rule tables). It leaves the empty
