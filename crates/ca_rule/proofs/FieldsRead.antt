@@ -1,7 +1,7 @@
 -- A statement of a rule table says one thing at most.
-use Rattle.std.proofs.Common.{◌≡◌, ℕ, ◌<◌, ◌≤◌, ◌⊎◌, Bool, true, false, not, ◌&&◌, ◌||◌, ◌==◌, List, [], ◌∷◌, ◌++◌, length, Option, Some, None, Result, Ok, Err, option_map, nat_lt, if◌then◌else◌, refl, sym, ap, subst, ◌∙◌, arith, inl, inr, true≢false}
+use Rattle.std.proofs.Common.{◌≡◌, ℕ, ◌<◌, ◌≤◌, ◌⊎◌, true, false, not, ◌||◌, List, [], ◌∷◌, ◌++◌, Option, Some, None, Result, Ok, Err, option_map, nat_lt, if◌then◌else◌, refl, sym, ap, subst, ◌∙◌, arith, inl, inr, true≢false}
 use Rattle.std.specs.List.{list_all, AllZip}
-use Rattle.std.proofs.lemmas.Bool.{cases_Bool, or_cases, and_parts, false≢true, false_from_ne_true}
+use Rattle.std.proofs.lemmas.Bool.{cases_Bool, and_parts, false_from_ne_true}
 use Rattle.std.proofs.lemmas.Bool.Decides.{nat_tests}
 use Rattle.ca_plane.specs.Bytes.{is_digit, value}
 use Rattle.ca_rule.specs.declared.table.fault.TableFault.{TableFault}
@@ -10,7 +10,7 @@ use Rattle.ca_rule.specs.declared.table.slot.Slot.{Slot}
 use Rattle.ca_rule.specs.declared.table.slot.Slot.TheVariants.{Number, Variable}
 use Rattle.ca_rule.specs.TableLines.{Line, begins_section, is_setting, are_digits, is_name, is_field, IsVariableLine, IsTransitionLine}
 use Rattle.ca_rule.specs.TableText.{Settings, Said, number_of, StandsFor, is_bound, field_count, SaysVariable, SaysTransition}
-use Rattle.ca_rule.specs.TableFaults.{IsMisspelled, HasFields, HasBadField, HasBadState, HasUnknownName, HasUnbound}
+use Rattle.ca_rule.specs.TableFaults.{IsMisspelled, HasFields, HasBadState, HasUnknownName, HasUnbound}
 use Rattle.ca_rule.specs.inner.TableSaid.{with_variable}
 use Rattle.ca_rule.proofs.LineRead.{map-some, some_if, some-if, variable_of, variable-is-of, variable-of-is, transition_of, transition-is-of, transition-of-is, transition-no-section, variable-no-section, variable-no-setting, transition-no-setting}
 
@@ -61,7 +61,7 @@ module _ (settings : Settings) (said : Said) where
       ap (λ b. if b then some_if (nat_lt (value field) settings.states) (Number (value field)) else option_map Variable (number_of 0 said.variables field)) (no-digits field h.0)
       ∙ ap (option_map Variable) h.1
 
-  slot-stands : (field : List ℕ) (slot : Slot) → is_field field ≡ true → slot_of settings said field ≡ Some slot → StandsFor settings said field slot
+  pub slot-stands : (field : List ℕ) (slot : Slot) → is_field field ≡ true → slot_of settings said field ≡ Some slot → StandsFor settings said field slot
   slot-stands field slot is e = elim (cases_Bool (are_digits field)) [
     | inl d ↦
       let s = some-if (nat_lt (value field) settings.states) (Number (value field)) slot (ap (λ b. if b then some_if (nat_lt (value field) settings.states) (Number (value field)) else option_map Variable (number_of 0 said.variables field)) (sym d) ∙ e) in

@@ -6,9 +6,9 @@ use Rattle.std.proofs.lemmas.Bool.Decides.{nat_tests}
 use Rattle.ca_plane.specs.Bytes.{is_blank, is_digit, front, rest, without_last_blanks, trimmed, with_front}
 use Rattle.ca_plane.proofs.Fronts.{front_then_rest, every_right}
 use Rattle.ca_rule.specs.TableLines.{Line, behind, setting, setting_words, is_setting, begins_with, begins_section, begins_variable, is_name_byte, are_digits, is_name, is_field, parts_of, fields_between, fields_of, IsVariableLine, IsTransitionLine}
-use Rattle.ca_rule.specs.inner.TableFields.{opened, IsBraced}
+use Rattle.ca_rule.specs.inner.TableFields.{opened}
 use Rattle.ca_rule.proofs.Stripped.{behind-whole}
-use Rattle.ca_rule.proofs.VariableLines.{HasParts, parts-of-line, line-of-parts, opened-braced, braced-opened}
+use Rattle.ca_rule.proofs.VariableLines.{parts-of-line, line-of-parts, opened-braced, braced-opened}
 
 -- ---- where something is some
 

@@ -1,15 +1,15 @@
 -- A text is the text of one table at most, or has one fault.
-use Rattle.std.proofs.Common.{◌≡◌, ◌≢◌, ℕ, ◌⊎◌, Bool, true, false, not, ◌&&◌, List, [], ◌∷◌, ◌++◌, Option, Some, None, Result, Ok, Err, is_some, is_ok, if◌then◌else◌, ◌==◌, refl, sym, ap, subst, ◌∙◌, arith, inl, inr, true≢false, append_assoc, append-nil}
+use Rattle.std.proofs.Common.{◌≡◌, ◌≢◌, ℕ, ◌⊎◌, Bool, true, false, not, ◌&&◌, List, [], ◌∷◌, ◌++◌, Option, Some, None, Result, Ok, Err, is_some, is_ok, if◌then◌else◌, refl, sym, ap, subst, ◌∙◌, arith, inl, inr, true≢false, append_assoc, append-nil}
 use Rattle.std.specs.List.{list_any}
 use Rattle.std.specs.Result.{result_unwrap_or}
-use Rattle.std.proofs.lemmas.Bool.{cases_Bool, and_parts, or_cases, or_parts, or_left, or_right, false≢true, not-true}
+use Rattle.std.proofs.lemmas.Bool.{and_parts, or_cases, or_parts, or_left, or_right, false≢true, not-true}
 use Rattle.std.proofs.lemmas.Bool.Decides.{nat_tests}
 use Rattle.ca_rule.specs.declared.table.fault.TableFault.{TableFault}
 use Rattle.ca_rule.specs.declared.table.fault.TableFault.TheVariants.{NoRuleLine, NoTable, Syntax, States, Neighborhood, Symmetries, Variable, Unbound, Wakes, Memory}
 use Rattle.ca_rule.specs.declared.table.neighbourhood.Neighbourhood.{Neighbourhood}
 use Rattle.ca_rule.specs.declared.table.neighbourhood.Symmetry.{Symmetry}
 use Rattle.ca_rule.specs.TableNext.{TableRule}
-use Rattle.ca_rule.specs.TableLines.{Line, lines_said, last_line, rule_name, begins_table, begins_with, begins_section, setting, setting_words, is_setting, value_of, states_set, neighbourhood_set, symmetry_set}
+use Rattle.ca_rule.specs.TableLines.{Line, lines_said, last_line, rule_name, begins_table, begins_section, setting, setting_words, is_setting, value_of, states_set, neighbourhood_set, symmetry_set}
 use Rattle.ca_rule.specs.TableText.{HasTable, sets_again, are_settings, Settings, Mean, Said, nothing, Say, made, is_end_of_section, IsTable}
 use Rattle.ca_rule.specs.TableFaults.{number_at, is_behind_settings, HasNoRuleLine, HasNoTable, SetsAgain, HasSettings, LackStates, LackNeighbourhood, LackSymmetry, HasStatement, IsMisspelled, HasBadState, HasUnknownName, HasUnbound, DoesWake, IsFaultOf}
 use Rattle.ca_rule.proofs.FieldsRead.{then_ok, step_of, step-says, says-no-setting, says-no-section, step-misspelled, step-bad-state, step-unknown-name, step-unbound}
