@@ -64,13 +64,13 @@ module _ (settings : Settings) (said : Said) where
   pub slot-stands : (field : List ℕ) (slot : Slot) → is_field field ≡ true → slot_of settings said field ≡ Some slot → StandsFor settings said field slot
   slot-stands field slot is e = elim (cases_Bool (are_digits field)) [
     | inl d ↦
-      let s = some-if (nat_lt (value field) settings.states) (Number (value field)) slot (ap (λ b. if b then some_if (nat_lt (value field) settings.states) (Number (value field)) else option_map Variable (number_of 0 said.variables field)) (sym d) ∙ e) in
-      let low : value field < settings.states = let k = s.0 in grind (arith, nat_tests) in
-      subst (StandsFor settings said field) s.1 (d, refl, low)
+        let s = some-if (nat_lt (value field) settings.states) (Number (value field)) slot (ap (λ b. if b then some_if (nat_lt (value field) settings.states) (Number (value field)) else option_map Variable (number_of 0 said.variables field)) (sym d) ∙ e) in
+        let low : value field < settings.states = let k = s.0 in grind (arith, nat_tests) in
+        subst (StandsFor settings said field) s.1 (d, refl, low)
     | inr d ↦
-      let m = map-some Variable (number_of 0 said.variables field) slot (ap (λ b. if b then some_if (nat_lt (value field) settings.states) (Number (value field)) else option_map Variable (number_of 0 said.variables field)) (sym d) ∙ e) in
-      let name : is_name field ≡ true = ap (λ b. b || is_name field) (sym d) ∙ is in
-      subst (StandsFor settings said field) m.2 (name, m.1)
+        let m = map-some Variable (number_of 0 said.variables field) slot (ap (λ b. if b then some_if (nat_lt (value field) settings.states) (Number (value field)) else option_map Variable (number_of 0 said.variables field)) (sym d) ∙ e) in
+        let name : is_name field ≡ true = ap (λ b. b || is_name field) (sym d) ∙ is in
+        subst (StandsFor settings said field) m.2 (name, m.1)
   ]
 
   -- fields that stand for slots
@@ -204,13 +204,13 @@ module _ (settings : Settings) (said : Said) (line : Line) where
   pub step-bad-state : HasBadState settings said line → step_of settings said line ≡ Err (faults.States line.0)
   step-bad-state b =
       at-fields (b.good ++ b.field ∷ b.later) (field_fault line.0 b.field) b.spelled
-        (slots-end settings said line.0 b.good b.slots b.field b.later b.stand (state-none settings said b.field b.holds.0 b.holds.1))
+      (slots-end settings said line.0 b.good b.slots b.field b.later b.stand (state-none settings said b.field b.holds.0 b.holds.1))
       ∙ ap (λ d. Err (if d then faults.States line.0 else faults.Variable line.0)) b.holds.0
 
   pub step-unknown-name : HasUnknownName settings said line → step_of settings said line ≡ Err (faults.Variable line.0)
   step-unknown-name b =
       at-fields (b.good ++ b.field ∷ b.later) (field_fault line.0 b.field) b.spelled
-        (slots-end settings said line.0 b.good b.slots b.field b.later b.stand (name-none settings said b.field b.holds.0 b.holds.1))
+      (slots-end settings said line.0 b.good b.slots b.field b.later b.stand (name-none settings said b.field b.holds.0 b.holds.1))
       ∙ ap (λ d. Err (if d then faults.States line.0 else faults.Variable line.0)) (no-digits b.field b.holds.0)
 
   pub step-unbound : HasUnbound settings said line → step_of settings said line ≡ Err (faults.Unbound line.0)

@@ -89,7 +89,7 @@ variable-of-is line v e =
     let good = some-if (is_name (front is_name_byte (rest is_blank m.0)) && list_all is_field (fields_between i.0)) (front is_name_byte (rest is_blank m.0), fields_between i.0) v i.2 in
     let both = and_parts (is_name (front is_name_byte (rest is_blank m.0))) (list_all is_field (fields_between i.0)) good.0 in
     subst (λ (w : List ℕ × List (List ℕ)). IsVariableLine line w.0 w.1) good.1 (line-of-parts line (front is_name_byte (rest is_blank m.0)) i.0 begun.0
-      (record { more = m.0; is_var = m.1; name_is = refl; braces = braced-opened (rest is_name_byte (rest is_blank m.0)) i.0 o.0 o.1 (brace-before o.0 i.0 o.2) }) both.0 both.1)
+    (record { more = m.0; is_var = m.1; name_is = refl; braces = braced-opened (rest is_name_byte (rest is_blank m.0)) i.0 o.0 o.1 (brace-before o.0 i.0 o.2) }) both.0 both.1)
 
 -- ---- a transition
 
@@ -158,9 +158,9 @@ before-blanks [] all = refl
 before-blanks (b ∷ bs) all = elim (cases_Bool (list_all is_blank (b ∷ bs))) [
   | inl t ↦ every-stands is_blank (b ∷ bs) (λ c e. or_left (is_blank c) _ e) t
   | inr t ↦
-    let k : list_all stands_in_one (b ∷ without_last_blanks bs) ≡ true = ap (λ v. list_all stands_in_one (if v then [] else b ∷ without_last_blanks bs)) (sym t) ∙ all in
-    let parts = and_parts (stands_in_one b) (list_all stands_in_one (without_last_blanks bs)) k in
-    and_from (stands_in_one b) (list_all stands_in_one bs) parts.0 (before-blanks bs parts.1)
+      let k : list_all stands_in_one (b ∷ without_last_blanks bs) ≡ true = ap (λ v. list_all stands_in_one (if v then [] else b ∷ without_last_blanks bs)) (sym t) ∙ all in
+      let parts = and_parts (stands_in_one b) (list_all stands_in_one (without_last_blanks bs)) k in
+      and_from (stands_in_one b) (list_all stands_in_one bs) parts.0 (before-blanks bs parts.1)
 ]
 
 with-front-stands : (b : ℕ) (parts : List (List ℕ)) → list_all (list_all stands_in_one) (with_front b parts) ≡ true → (stands_in_one b ≡ true) × (list_all (list_all stands_in_one) parts ≡ true)
@@ -175,8 +175,8 @@ parts-stand [] all = refl
 parts-stand (b ∷ bs) all = elim (cases_Bool (b == 44)) [
   | inl t ↦ and_from (stands_in_one b) (list_all stands_in_one bs) (or_right (is_blank b) _ (or_left (b == 44) _ t)) (parts-stand bs (ap (λ v. list_all (list_all stands_in_one) (if v then [] ∷ parts_of bs else with_front b (parts_of bs))) (sym t) ∙ all))
   | inr t ↦
-    let parts = with-front-stands b (parts_of bs) (ap (λ v. list_all (list_all stands_in_one) (if v then [] ∷ parts_of bs else with_front b (parts_of bs))) (sym t) ∙ all) in
-    and_from (stands_in_one b) (list_all stands_in_one bs) parts.0 (parts-stand bs parts.1)
+      let parts = with-front-stands b (parts_of bs) (ap (λ v. list_all (list_all stands_in_one) (if v then [] ∷ parts_of bs else with_front b (parts_of bs))) (sym t) ∙ all) in
+      and_from (stands_in_one b) (list_all stands_in_one bs) parts.0 (parts-stand bs parts.1)
 ]
 
 fields-stand : (parts : List (List ℕ)) → list_all is_field (map trimmed parts) ≡ true → list_all (list_all stands_in_one) parts ≡ true
@@ -205,9 +205,9 @@ at-sign : (bytes : List ℕ) → list_all stands_in_one bytes ≡ true → begin
 at-sign [] all = refl
 at-sign (b ∷ bs) all = elim (cases_Bool (b == 64)) [
   | inl t ↦
-    let same : b ≡ 64 = grind (arith, nat_tests) in
-    let none : stands_in_one b ≡ false = ap stands_in_one same in
-    absurd (true≢false (sym (and_parts (stands_in_one b) (list_all stands_in_one bs) all).0 ∙ none))
+      let same : b ≡ 64 = grind (arith, nat_tests) in
+      let none : stands_in_one b ≡ false = ap stands_in_one same in
+      absurd (true≢false (sym (and_parts (stands_in_one b) (list_all stands_in_one bs) all).0 ∙ none))
   | inr t ↦ t
 ]
 

@@ -5,7 +5,7 @@ use Rattle.std.proofs.lemmas.Bool.{cases_Bool, cases_eq, and_parts, or_from, or_
 use Rattle.std.proofs.lemmas.Bool.Decides.{nat_tests}
 use Rattle.ca_plane.specs.Bytes.{value}
 use Rattle.ca_rule.specs.declared.table.fault.TableFault.{TableFault}
-use Rattle.ca_rule.specs.declared.table.fault.TableFault.TheVariants.{NoRuleLine, NoTable, Syntax, States, Neighborhood, Symmetries, Unbound, Wakes, Memory} 
+use Rattle.ca_rule.specs.declared.table.fault.TableFault.TheVariants.{NoRuleLine, NoTable, Syntax, States, Neighborhood, Symmetries, Unbound, Wakes, Memory}
 use Rattle.ca_rule.specs.declared.table.fault.TableFault.TheVariants as faults
 use Rattle.ca_rule.specs.declared.table.neighbourhood.Neighbourhood.{Neighbourhood}
 use Rattle.ca_rule.specs.declared.table.neighbourhood.Symmetry.{Symmetry}
@@ -69,7 +69,7 @@ module _ (settings : Settings) (said : Said) where
   high-state : (field : List ℕ) → are_digits field ≡ true → slot_of settings said field ≡ None → settings.states ≤ value field
   high-state field d none =
       let test = some-none (nat_lt (value field) settings.states) (Number (value field))
-            (ap (λ b. if b then some_if (nat_lt (value field) settings.states) (Number (value field)) else option_map Variable (number_of 0 said.variables field)) (sym d) ∙ none) in
+      (ap (λ b. if b then some_if (nat_lt (value field) settings.states) (Number (value field)) else option_map Variable (number_of 0 said.variables field)) (sym d) ∙ none) in
       grind (arith, nat_tests)
 
   no-number : (field : List ℕ) → are_digits field ≡ false → slot_of settings said field ≡ None → number_of 0 said.variables field ≡ None
@@ -106,8 +106,8 @@ module _ (settings : Settings) (said : Said) (line : Line) where
   bad-field fields spelled b = elim (cases_Bool (are_digits b.field)) [
     | inl d ↦ BadState (record { good = b.good; slots = b.slots; field = b.field; later = b.later; spelled = subst (HasFields settings line) b.whole spelled; stand = b.stand; holds = (d, high-state settings said b.field d b.none) })
     | inr d ↦
-      let name : is_name b.field ≡ true = ap (λ v. v || is_name b.field) (sym d) ∙ b.is in
-      UnknownName (record { good = b.good; slots = b.slots; field = b.field; later = b.later; spelled = subst (HasFields settings line) b.whole spelled; stand = b.stand; holds = (name, no-number settings said b.field d b.none) })
+        let name : is_name b.field ≡ true = ap (λ v. v || is_name b.field) (sym d) ∙ b.is in
+        UnknownName (record { good = b.good; slots = b.slots; field = b.field; later = b.later; spelled = subst (HasFields settings line) b.whole spelled; stand = b.stand; holds = (name, no-number settings said b.field d b.none) })
   ]
 
   variable-or-bad : (name : List ℕ) (fields : List (List ℕ)) → IsVariableLine line name fields → SaysOrBad settings said line
@@ -125,10 +125,10 @@ module _ (settings : Settings) (said : Said) (line : Line) where
   transition-or-bad : (fields : List (List ℕ)) → IsTransitionLine line (field_count settings) fields → SaysOrBad settings said line
   transition-or-bad fields t = elim (fields-or-bad settings said fields t.are_fields) [
     | inl s ↦
-      let same = zip-length (StandsFor settings said) fields s.0 s.1 in
-      let count = t.count in
-      let some : 1 ≤ length s.0 = omega arith in
-      bound-or-bad fields (inputs_of s.0) (result_of s.0) t (subst (AllZip (StandsFor settings said) fields) (split-last s.0 some) s.1)
+        let same = zip-length (StandsFor settings said) fields s.0 s.1 in
+        let count = t.count in
+        let some : 1 ≤ length s.0 = omega arith in
+        bound-or-bad fields (inputs_of s.0) (result_of s.0) t (subst (AllZip (StandsFor settings said) fields) (split-last s.0 some) s.1)
     | inr b ↦ inr (bad-field fields (inr t) b)
   ]
 
@@ -218,10 +218,10 @@ module _ (bytes named : List ℕ) (setting_lines : List Line) (settings : Settin
     | inl s ↦ all-read good said (l ∷ ls) b s
     | inr s ↦ elim (says-or-bad settings said l) [
       | inl n ↦ statements-or-fault (good ++ l ∷ []) n.0 ls (record {
-          has_table = subst (λ lines. HasTable bytes named (setting_lines ++ lines)) (sym (append_assoc good (l ∷ []) ls)) b.has_table;
-          ends = ap is_behind_settings (append_assoc good (l ∷ []) ls) ∙ b.ends;
-          say = say-then settings nothing good l said n.0 b.say n.1;
-        })
+        has_table = subst (λ lines. HasTable bytes named (setting_lines ++ lines)) (sym (append_assoc good (l ∷ []) ls)) b.has_table;
+        ends = ap is_behind_settings (append_assoc good (l ∷ []) ls) ∙ b.ends;
+        say = say-then settings nothing good l said n.0 b.say n.1;
+      })
       | inr h ↦ bad-line good said l ls b s h
     ]
   ]
@@ -243,7 +243,7 @@ module _ (bytes named : List ℕ) where
       inr (Symmetries (number_at bytes behind), other-than-memory (Symmetries (number_at bytes behind)) refl, lacking LackSymmetry good behind h (count, of, s, n, e))
   symmetry-or-fault good behind count of (Some under) h s n e =
       statements-or-fault bytes named good (record { states = count; neighbourhood = of; symmetry = under }) (record { once = h.once; states_are = s; neighbourhood_is = n; symmetry_is = e }) [] nothing behind
-        (record { has_table = h.has_table; ends = h.ends; say = refl })
+      (record { has_table = h.has_table; ends = h.ends; say = refl })
 
   neighbourhood-or-fault : (good behind : List Line) (count : ℕ) (of : Option Neighbourhood) → HaveEnded good behind → states_set good ≡ Some count → neighbourhood_set good ≡ of → TableOrFault bytes
   neighbourhood-or-fault good behind count None h s e =
@@ -275,8 +275,11 @@ any-then (s ∷ ss) l none other =
 
 lines-or-fault : (bytes named : List ℕ) (rule_line : Line) (skipped left : List Line) → rule_name rule_line ≡ Some named → list_any begins_table skipped ≡ false → lines_said bytes ≡ rule_line ∷ (skipped ++ left) → TableOrFault bytes
 lines-or-fault bytes named rule_line skipped [] is none whole =
-    inr (NoTable (last_line bytes), other-than-memory (NoTable (last_line bytes)) refl,
-      (subst HasNoTable (sym (whole ∙ ap (λ l. rule_line ∷ l) (append-nil skipped))) (named, is, none), refl))
+    inr (
+      NoTable (last_line bytes),
+      other-than-memory (NoTable (last_line bytes)) refl,
+      (subst HasNoTable (sym (whole ∙ ap (λ l. rule_line ∷ l) (append-nil skipped))) (named, is, none), refl),
+    )
 lines-or-fault bytes named rule_line skipped (l ∷ ls) is none whole = elim (cases_Bool (begins_table l)) [
   | inl t ↦ settings-or-fault bytes named [] ls (record { rule_line = rule_line; skipped = skipped; table_line = l; named = is; no_table = none; begins = t; whole = whole }) refl
   | inr t ↦ lines-or-fault bytes named rule_line (skipped ++ l ∷ []) ls is (any-then skipped l none t) (whole ∙ ap (λ k. rule_line ∷ k) (sym (append_assoc skipped (l ∷ []) ls)))
