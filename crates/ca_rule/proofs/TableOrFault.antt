@@ -1,5 +1,5 @@
 -- Every text is the text of a table, or has a fault.
-use Rattle.std.proofs.Common.{◌≡◌, ◌≢◌, ℕ, ◌≤◌, ◌⊎◌, Bool, true, false, not, ◌||◌, List, [], ◌∷◌, ◌++◌, length, replicate, Option, Some, None, option_map, nat_lt, if◌then◌else◌, refl, sym, ap, subst, ◌∙◌, arith, inl, inr, true≢false, append_assoc, append-nil}
+use Rattle.std.proofs.Common.{◌≡◌, ◌≢◌, ℕ, ◌≤◌, ◌⊎◌, Bool, true, false, not, ◌||◌, List, [], ◌∷◌, ◌++◌, length, replicate, Option, Some, None, option_map, nat_lt, refl, sym, ap, subst, ◌∙◌, arith, inl, inr, true≢false, append_assoc, append-nil}
 use Rattle.std.specs.List.{list_all, list_any, AllZip}
 use Rattle.std.proofs.lemmas.Bool.{cases_Bool, cases_eq, and_parts, or_from, or_parts}
 use Rattle.std.proofs.lemmas.Bool.Decides.{nat_tests}
@@ -14,10 +14,10 @@ use Rattle.ca_rule.specs.declared.table.slot.Slot.TheVariants.{Number, Variable}
 use Rattle.ca_rule.specs.TableNext.{TableRule, table_next}
 use Rattle.ca_rule.specs.TableLines.{Line, lines_said, last_line, rule_name, begins_table, begins_section, is_setting, states_set, neighbourhood_set, symmetry_set, are_digits, is_name, is_field, IsVariableLine, IsTransitionLine}
 use Rattle.ca_rule.specs.TableText.{HasTable, sets_again, are_settings, Settings, Mean, Said, nothing, number_of, StandsFor, is_bound, field_count, Say, made, is_end_of_section, IsTable}
-use Rattle.ca_rule.specs.TableFaults.{number_at, is_behind_settings, HasNoRuleLine, HasNoTable, HasSettings, LackStates, LackNeighbourhood, LackSymmetry, HasStatement, IsMisspelled, HasFields, HasBadState, HasUnknownName, HasUnbound, IsFaultOf}
+use Rattle.ca_rule.specs.TableFaults.{number_at, is_behind_settings, HasNoRuleLine, HasNoTable, HasSettings, LackStates, LackNeighbourhood, LackSymmetry, HasStatement, IsMisspelled, HasFields, HasBadField, HasBadState, HasUnknownName, HasUnbound, IsFaultOf}
 use Rattle.ca_rule.specs.inner.TableSaid.{with_variable}
-use Rattle.ca_rule.proofs.LineRead.{some_if, variable_of, variable-is-of, variable-of-is, transition_of, transition-is-of, transition-of-is}
-use Rattle.ca_rule.proofs.FieldsRead.{slot_of, slot-stands, inputs_of, result_of, with_transition, Says}
+use Rattle.ca_rule.proofs.OneSpelling.{some_if, variable_of, variable-is-of, variable-of-is, transition_of, transition-is-of, transition-of-is}
+use Rattle.ca_rule.proofs.OneStatement.{slot_if, slot_of, slot-stands, inputs_of, result_of, with_transition, Says}
 use Rattle.ca_rule.proofs.SettingsRead.{settings-snoc}
 
 -- ---- fields
@@ -69,12 +69,12 @@ module _ (settings : Settings) (said : Said) where
   high-state : (field : List ℕ) → are_digits field ≡ true → slot_of settings said field ≡ None → settings.states ≤ value field
   high-state field d none =
       let test = some-none (nat_lt (value field) settings.states) (Number (value field))
-      (ap (λ b. if b then some_if (nat_lt (value field) settings.states) (Number (value field)) else option_map Variable (number_of 0 said.variables field)) (sym d) ∙ none) in
+      (ap (slot_if settings said field) (sym d) ∙ none) in
       grind (arith, nat_tests)
 
   no-number : (field : List ℕ) → are_digits field ≡ false → slot_of settings said field ≡ None → number_of 0 said.variables field ≡ None
   no-number field d none = map-none Variable (number_of 0 said.variables field)
-      (ap (λ b. if b then some_if (nat_lt (value field) settings.states) (Number (value field)) else option_map Variable (number_of 0 said.variables field)) (sym d) ∙ none)
+      (ap (slot_if settings said field) (sym d) ∙ none)
 
 -- ---- lines
 
@@ -102,12 +102,23 @@ zip-length R (x ∷ xs) [] h = absurd h
 zip-length R (x ∷ xs) (y ∷ ys) h = let more = zip-length R xs ys h.1 in omega arith
 
 module _ (settings : Settings) (said : Said) (line : Line) where
+  first-bad : (P : List ℕ → Type 0) (fields : List (List ℕ)) → HasFields settings line fields → (b : FirstBad settings said fields) → P b.field → HasBadField settings said line P
+  first-bad P fields spelled b holds = record {
+    good = b.good;
+    slots = b.slots;
+    field = b.field;
+    later = b.later;
+    spelled = subst (HasFields settings line) b.whole spelled;
+    stand = b.stand;
+    holds = holds;
+  }
+
   bad-field : (fields : List (List ℕ)) → HasFields settings line fields → FirstBad settings said fields → IsBadLine settings said line
   bad-field fields spelled b = elim (cases_Bool (are_digits b.field)) [
-    | inl d ↦ BadState (record { good = b.good; slots = b.slots; field = b.field; later = b.later; spelled = subst (HasFields settings line) b.whole spelled; stand = b.stand; holds = (d, high-state settings said b.field d b.none) })
+    | inl d ↦ BadState (first-bad (λ field. (are_digits field ≡ true) × (settings.states ≤ value field)) fields spelled b (d, high-state settings said b.field d b.none))
     | inr d ↦
         let name : is_name b.field ≡ true = ap (λ v. v || is_name b.field) (sym d) ∙ b.is in
-        UnknownName (record { good = b.good; slots = b.slots; field = b.field; later = b.later; spelled = subst (HasFields settings line) b.whole spelled; stand = b.stand; holds = (name, no-number settings said b.field d b.none) })
+        UnknownName (first-bad (λ field. (is_name field ≡ true) × (number_of 0 said.variables field ≡ None)) fields spelled b (name, no-number settings said b.field d b.none))
   ]
 
   variable-or-bad : (name : List ℕ) (fields : List (List ℕ)) → IsVariableLine line name fields → SaysOrBad settings said line

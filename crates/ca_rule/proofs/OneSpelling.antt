@@ -1,7 +1,7 @@
 -- A line of a rule table is spelled in one way at most.
 use Rattle.std.proofs.Common.{◌≡◌, ℕ, Bool, true, false, ◌&&◌, ◌||◌, ◌==◌, List, [], ◌∷◌, ◌++◌, length, map, Option, Some, None, is_some, option_map, option_and_then, unwrap_or, codes, if◌then◌else◌, refl, sym, ap, subst, ◌∙◌, arith, inl, inr, eq-eqb, true≢false}
 use Rattle.std.specs.List.{list_all, list_any}
-use Rattle.std.proofs.lemmas.Bool.{cases_Bool, or_cases, and_parts, and_from, or_from, or_left, or_right, false≢true}
+use Rattle.std.proofs.lemmas.Bool.{cases_Bool, or_cases, and_parts, and_from, or_from, or_left, or_right, false≢true, cond-true, cond-false}
 use Rattle.std.proofs.lemmas.Bool.Decides.{nat_tests}
 use Rattle.ca_plane.specs.Bytes.{is_blank, is_digit, front, rest, without_last_blanks, trimmed, with_front}
 use Rattle.ca_plane.proofs.Fronts.{front_then_rest, every_right}
@@ -56,22 +56,32 @@ brace-before (b ∷ c ∷ bs) inside e =
 abbrev named_fields : List ℕ → List ℕ → Option (List ℕ × List (List ℕ))
 named_fields name inside = some_if (is_name name && list_all is_field (fields_between inside)) (name, fields_between inside)
 
+-- the name behind `var`, and what stands behind it
+abbrev name_in : List ℕ → List ℕ
+name_in more = front is_name_byte (rest is_blank more)
+
+abbrev tail_in : List ℕ → List ℕ
+tail_in more = rest is_name_byte (rest is_blank more)
+
 -- what the bytes behind `var` spell
 abbrev variable_in : List ℕ → Option (List ℕ × List (List ℕ))
-variable_in more = option_and_then (named_fields (front is_name_byte (rest is_blank more))) (option_and_then before_brace (opened (rest is_name_byte (rest is_blank more))))
+variable_in more = option_and_then (named_fields (name_in more)) (option_and_then before_brace (opened (tail_in more)))
+
+abbrev variable_if : Bool → List ℕ → Option (List ℕ × List (List ℕ))
+variable_if begins more = if begins then variable_in more else None
 
 -- the name and the fields of a variable's line
 abbrev pub variable_of : Line → Option (List ℕ × List (List ℕ))
-variable_of line = option_and_then (λ more. if begins_variable line then variable_in more else None) (behind (codes "var") line.1)
+variable_of line = option_and_then (variable_if (begins_variable line)) (behind (codes "var") line.1)
 
 pub variable-is-of : (line : Line) (name : List ℕ) (fields : List (List ℕ)) → IsVariableLine line name fields → variable_of line ≡ Some (name, fields)
 variable-is-of line name fields v =
     let p = parts-of-line line name fields v in
-    let inside = ap (option_and_then before_brace) (opened-braced (rest is_name_byte (rest is_blank p.more)) v.inside p.braces) ∙ before-brace v.inside in
+    let inside = ap (option_and_then before_brace) (opened-braced (tail_in p.more) v.inside p.braces) ∙ before-brace v.inside in
     let good = and_from (is_name name) (list_all is_field (fields_between v.inside)) v.named (ap (list_all is_field) v.fields_are ∙ v.are_fields) in
-    ap (option_and_then (λ more. if begins_variable line then variable_in more else None)) p.is_var
-    ∙ ap (λ b. if b then variable_in p.more else None) v.begins
-    ∙ ap (option_and_then (named_fields (front is_name_byte (rest is_blank p.more)))) inside
+    ap (option_and_then (variable_if (begins_variable line))) p.is_var
+    ∙ cond-true _ _ _ v.begins
+    ∙ ap (option_and_then (named_fields (name_in p.more))) inside
     ∙ ap (λ n. named_fields n v.inside) p.name_is
     ∙ ap (λ b. some_if b (name, fields_between v.inside)) good
     ∙ ap (λ fs. Some (name, fs)) v.fields_are
@@ -82,26 +92,30 @@ if-some false o y e = cc
 
 pub variable-of-is : (line : Line) (v : List ℕ × List (List ℕ)) → variable_of line ≡ Some v → IsVariableLine line v.0 v.1
 variable-of-is line v e =
-    let m = then-some (λ more. if begins_variable line then variable_in more else None) (behind (codes "var") line.1) v e in
+    let m = then-some (variable_if (begins_variable line)) (behind (codes "var") line.1) v e in
     let begun = if-some (begins_variable line) (variable_in m.0) v m.2 in
-    let i = then-some (named_fields (front is_name_byte (rest is_blank m.0))) (option_and_then before_brace (opened (rest is_name_byte (rest is_blank m.0)))) v begun.1 in
-    let o = then-some before_brace (opened (rest is_name_byte (rest is_blank m.0))) i.0 i.1 in
-    let good = some-if (is_name (front is_name_byte (rest is_blank m.0)) && list_all is_field (fields_between i.0)) (front is_name_byte (rest is_blank m.0), fields_between i.0) v i.2 in
-    let both = and_parts (is_name (front is_name_byte (rest is_blank m.0))) (list_all is_field (fields_between i.0)) good.0 in
-    subst (λ (w : List ℕ × List (List ℕ)). IsVariableLine line w.0 w.1) good.1 (line-of-parts line (front is_name_byte (rest is_blank m.0)) i.0 begun.0
-    (record { more = m.0; is_var = m.1; name_is = refl; braces = braced-opened (rest is_name_byte (rest is_blank m.0)) i.0 o.0 o.1 (brace-before o.0 i.0 o.2) }) both.0 both.1)
+    let i = then-some (named_fields (name_in m.0)) (option_and_then before_brace (opened (tail_in m.0))) v begun.1 in
+    let o = then-some before_brace (opened (tail_in m.0)) i.0 i.1 in
+    let good = some-if (is_name (name_in m.0) && list_all is_field (fields_between i.0)) (name_in m.0, fields_between i.0) v i.2 in
+    let both = and_parts (is_name (name_in m.0)) (list_all is_field (fields_between i.0)) good.0 in
+    subst (λ (w : List ℕ × List (List ℕ)). IsVariableLine line w.0 w.1) good.1 (line-of-parts line (name_in m.0) i.0 begun.0
+    (record { more = m.0; is_var = m.1; name_is = refl; braces = braced-opened (tail_in m.0) i.0 o.0 o.1 (brace-before o.0 i.0 o.2) }) both.0 both.1)
 
 -- ---- a transition
 
+-- the fields, where they are so many
+abbrev so_many : ℕ → List (List ℕ) → Option (List (List ℕ))
+so_many slots fields = some_if (list_all is_field fields && (length fields == slots)) fields
+
 -- the fields of a transition of so many slots
 abbrev pub transition_of : ℕ → Line → Option (List (List ℕ))
-transition_of slots line = if begins_variable line then None else some_if (list_all is_field (fields_of line) && (length (fields_of line) == slots)) (fields_of line)
+transition_of slots line = if begins_variable line then None else so_many slots (fields_of line)
 
 pub transition-is-of : (line : Line) (slots : ℕ) (fields : List (List ℕ)) → IsTransitionLine line slots fields → transition_of slots line ≡ Some fields
 transition-is-of line slots fields t =
     let good = and_from (list_all is_field fields) (length fields == slots) t.are_fields (eq-eqb (length fields) slots t.count) in
-    ap (λ b. if b then None else some_if (list_all is_field (fields_of line) && (length (fields_of line) == slots)) (fields_of line)) t.no_variable
-    ∙ ap (λ fs. some_if (list_all is_field fs && (length fs == slots)) fs) t.fields_are
+    cond-false _ _ _ t.no_variable
+    ∙ ap (so_many slots) t.fields_are
     ∙ ap (λ b. some_if b fields) good
 
 unless-some : {A : Type 0} (b : Bool) (o : Option A) (y : A) → (if b then None else o) ≡ Some y → (b ≡ false) × (o ≡ Some y)
@@ -110,7 +124,7 @@ unless-some false o y e = (refl, e)
 
 pub transition-of-is : (line : Line) (slots : ℕ) (fields : List (List ℕ)) → transition_of slots line ≡ Some fields → IsTransitionLine line slots fields
 transition-of-is line slots fields e =
-    let u = unless-some (begins_variable line) (some_if (list_all is_field (fields_of line) && (length (fields_of line) == slots)) (fields_of line)) fields e in
+    let u = unless-some (begins_variable line) (so_many slots (fields_of line)) fields e in
     let s = some-if (list_all is_field (fields_of line) && (length (fields_of line) == slots)) (fields_of line) fields u.1 in
     let both = and_parts (list_all is_field (fields_of line)) (length (fields_of line) == slots) s.0 in
     let count : length (fields_of line) ≡ slots = let k = both.1 in grind (arith, nat_tests) in

@@ -2,7 +2,7 @@
 use Rattle.std.proofs.Common.{◌≡◌, ◌≢◌, ℕ, ◌⊎◌, Bool, true, false, not, ◌&&◌, List, [], ◌∷◌, ◌++◌, Option, Some, None, Result, Ok, Err, is_some, is_ok, if◌then◌else◌, refl, sym, ap, subst, ◌∙◌, arith, inl, inr, true≢false, append_assoc, append-nil}
 use Rattle.std.specs.List.{list_any}
 use Rattle.std.specs.Result.{result_unwrap_or}
-use Rattle.std.proofs.lemmas.Bool.{and_parts, or_cases, or_parts, or_left, or_right, false≢true, not-true}
+use Rattle.std.proofs.lemmas.Bool.{and_parts, or_cases, or_parts, or_left, or_right, false≢true, not-true, cond-true, cond-false}
 use Rattle.std.proofs.lemmas.Bool.Decides.{nat_tests}
 use Rattle.ca_rule.specs.declared.table.fault.TableFault.{TableFault}
 use Rattle.ca_rule.specs.declared.table.fault.TableFault.TheVariants.{NoRuleLine, NoTable, Syntax, States, Neighborhood, Symmetries, Variable, Unbound, Wakes, Memory}
@@ -12,7 +12,7 @@ use Rattle.ca_rule.specs.TableNext.{TableRule}
 use Rattle.ca_rule.specs.TableLines.{Line, lines_said, last_line, rule_name, begins_table, begins_section, setting, setting_words, is_setting, value_of, states_set, neighbourhood_set, symmetry_set}
 use Rattle.ca_rule.specs.TableText.{HasTable, sets_again, are_settings, Settings, Mean, Said, nothing, Say, made, is_end_of_section, IsTable}
 use Rattle.ca_rule.specs.TableFaults.{number_at, is_behind_settings, HasNoRuleLine, HasNoTable, SetsAgain, HasSettings, LackStates, LackNeighbourhood, LackSymmetry, HasStatement, IsMisspelled, HasBadState, HasUnknownName, HasUnbound, DoesWake, IsFaultOf}
-use Rattle.ca_rule.proofs.FieldsRead.{then_ok, step_of, step-says, says-no-setting, says-no-section, step-misspelled, step-bad-state, step-unknown-name, step-unbound}
+use Rattle.ca_rule.proofs.OneStatement.{then_ok, step_of, step-says, says-no-setting, says-no-section, step-misspelled, step-bad-state, step-unknown-name, step-unbound}
 
 -- ---- a reading
 
@@ -20,6 +20,10 @@ use Rattle.ca_rule.proofs.FieldsRead.{then_ok, step_of, step-says, says-no-setti
 abbrev by_statements : List ℕ → Settings → Said → List Line → Result TableRule TableFault
 by_statements named settings said [] = Ok (made named settings said)
 by_statements named settings said (l ∷ ls) = if begins_section l then Ok (made named settings said) else then_ok (λ next. by_statements named settings next ls) (step_of settings said l)
+
+-- what they make behind settings
+abbrev from_nothing : List ℕ → List Line → Settings → Result TableRule TableFault
+from_nothing named lines settings = by_statements named settings nothing lines
 
 abbrev with_symmetry : ℕ → ℕ → Neighbourhood → Option Symmetry → Result Settings TableFault
 with_symmetry n count of None = Err (Symmetries n)
@@ -30,13 +34,16 @@ with_states n None of under = Err (States n)
 with_states n (Some count) None under = Err (Neighborhood n)
 with_states n (Some count) (Some of) under = with_symmetry n count of (under of)
 
+abbrev under_of : List Line → Neighbourhood → Option Symmetry
+under_of lines of = symmetry_set of lines
+
 -- what settings mean, which end at the n-th line
 abbrev settings_of : ℕ → List Line → Result Settings TableFault
-settings_of n lines = with_states n (states_set lines) (neighbourhood_set lines) (λ of. symmetry_set of lines)
+settings_of n lines = with_states n (states_set lines) (neighbourhood_set lines) (under_of lines)
 
 -- the settings end, and these lines stand behind them
 abbrev by_meaning : List ℕ → List ℕ → List Line → List Line → Result TableRule TableFault
-by_meaning bytes named good behind = then_ok (λ settings. by_statements named settings nothing behind) (settings_of (number_at bytes behind) good)
+by_meaning bytes named good behind = then_ok (from_nothing named behind) (settings_of (number_at bytes behind) good)
 
 -- behind settings stand these lines
 abbrev by_settings : List ℕ → List ℕ → List Line → List Line → Result TableRule TableFault
@@ -65,16 +72,16 @@ reading bytes = by_lines bytes (lines_said bytes)
 
 module _ (bytes named : List ℕ) where
   skipped-table : (skipped : List Line) (line : Line) (lines : List Line) → list_any begins_table skipped ≡ false → begins_table line ≡ true → by_table bytes named (skipped ++ line ∷ lines) ≡ by_settings bytes named [] lines
-  skipped-table [] line lines none begins = ap (λ b. if b then by_settings bytes named [] lines else by_table bytes named lines) begins
+  skipped-table [] line lines none begins = cond-true _ _ _ begins
   skipped-table (s ∷ ss) line lines none begins =
       let parts = or_parts (begins_table s) (list_any begins_table ss) none in
-      ap (λ b. if b then by_settings bytes named [] (ss ++ line ∷ lines) else by_table bytes named (ss ++ line ∷ lines)) parts.0 ∙ skipped-table ss line lines parts.1 begins
+      cond-false _ _ _ parts.0 ∙ skipped-table ss line lines parts.1 begins
 
   no-table : (lines : List Line) → list_any begins_table lines ≡ false → by_table bytes named lines ≡ Err (NoTable (last_line bytes))
   no-table [] none = refl
   no-table (l ∷ ls) none =
       let parts = or_parts (begins_table l) (list_any begins_table ls) none in
-      ap (λ b. if b then by_settings bytes named [] ls else by_table bytes named ls) parts.0 ∙ no-table ls parts.1
+      cond-false _ _ _ parts.0 ∙ no-table ls parts.1
 
 -- a text with a table is read from behind `@TABLE` on
 has-table : (bytes named : List ℕ) (lines : List Line) → HasTable bytes named lines → reading bytes ≡ by_settings bytes named [] lines
@@ -107,13 +114,13 @@ module _ (bytes named : List ℕ) where
   good-setting : (earlier : List Line) (line : Line) (later : List Line) → (is_setting line && not (sets_again earlier line)) ≡ true → by_settings bytes named earlier (line ∷ later) ≡ by_settings bytes named (earlier ++ line ∷ []) later
   good-setting earlier line later e =
       let parts = and_parts (is_setting line) (not (sets_again earlier line)) e in
-      ap (λ b. if b then (if sets_again earlier line then Err (Syntax line.0) else by_settings bytes named (earlier ++ line ∷ []) later) else by_meaning bytes named earlier (line ∷ later)) parts.0
-      ∙ ap (λ b. if b then Err (Syntax line.0) else by_settings bytes named (earlier ++ line ∷ []) later) (not-true (sets_again earlier line) parts.1)
+      cond-true _ _ _ parts.0
+      ∙ cond-false _ _ _ (not-true (sets_again earlier line) parts.1)
 
   settings-end : (earlier good behind : List Line) → are_settings earlier good ≡ true → is_behind_settings behind ≡ true → by_settings bytes named earlier (good ++ behind) ≡ by_meaning bytes named (earlier ++ good) behind
   settings-end earlier [] [] once ends = ap (λ g. by_meaning bytes named g []) (sym (append-nil earlier))
   settings-end earlier [] (l ∷ ls) once ends =
-      ap (λ b. if b then (if sets_again earlier l then Err (Syntax l.0) else by_settings bytes named (earlier ++ l ∷ []) ls) else by_meaning bytes named earlier (l ∷ ls)) (not-true (is_setting l) ends)
+      cond-false _ _ _ (not-true (is_setting l) ends)
       ∙ ap (λ g. by_meaning bytes named g (l ∷ ls)) (sym (append-nil earlier))
   settings-end earlier (x ∷ xs) behind once ends =
       let parts = and_parts (is_setting x && not (sets_again earlier x)) (are_settings (earlier ++ x ∷ []) xs) once in
@@ -123,8 +130,8 @@ module _ (bytes named : List ℕ) where
   settings-again : (earlier good : List Line) (line : Line) (later : List Line) → are_settings earlier good ≡ true → sets_again (earlier ++ good) line ≡ true → by_settings bytes named earlier (good ++ line ∷ later) ≡ Err (Syntax line.0)
   settings-again earlier [] line later once again =
       let twice : sets_again earlier line ≡ true = ap (λ g. sets_again g line) (sym (append-nil earlier)) ∙ again in
-      ap (λ b. if b then (if sets_again earlier line then Err (Syntax line.0) else by_settings bytes named (earlier ++ line ∷ []) later) else by_meaning bytes named earlier (line ∷ later)) (again-setting earlier line twice)
-      ∙ ap (λ b. if b then Err (Syntax line.0) else by_settings bytes named (earlier ++ line ∷ []) later) twice
+      cond-true _ _ _ (again-setting earlier line twice)
+      ∙ cond-true _ _ _ twice
   settings-again earlier (x ∷ xs) line later once again =
       let parts = and_parts (is_setting x && not (sets_again earlier x)) (are_settings (earlier ++ x ∷ []) xs) once in
       good-setting earlier x (xs ++ line ∷ later) parts.0
@@ -133,22 +140,22 @@ module _ (bytes named : List ℕ) where
 -- what settings mean
 settings-mean : (n : ℕ) (lines : List Line) (settings : Settings) → Mean lines settings → settings_of n lines ≡ Ok settings
 settings-mean n lines settings m =
-    ap (λ o. with_states n o (neighbourhood_set lines) (λ of. symmetry_set of lines)) m.states_are
-    ∙ ap (λ o. with_states n (Some settings.states) o (λ of. symmetry_set of lines)) m.neighbourhood_is
+    ap (λ o. with_states n o (neighbourhood_set lines) (under_of lines)) m.states_are
+    ∙ ap (λ o. with_states n (Some settings.states) o (under_of lines)) m.neighbourhood_is
     ∙ ap (with_symmetry n settings.states settings.neighbourhood) m.symmetry_is
 
 lack-states : (n : ℕ) (lines : List Line) → LackStates lines → settings_of n lines ≡ Err (States n)
-lack-states n lines none = ap (λ o. with_states n o (neighbourhood_set lines) (λ of. symmetry_set of lines)) none
+lack-states n lines none = ap (λ o. with_states n o (neighbourhood_set lines) (under_of lines)) none
 
 lack-neighbourhood : (n : ℕ) (lines : List Line) → LackNeighbourhood lines → settings_of n lines ≡ Err (Neighborhood n)
 lack-neighbourhood n lines (count, some, none) =
-    ap (λ o. with_states n o (neighbourhood_set lines) (λ of. symmetry_set of lines)) some
-    ∙ ap (λ o. with_states n (Some count) o (λ of. symmetry_set of lines)) none
+    ap (λ o. with_states n o (neighbourhood_set lines) (under_of lines)) some
+    ∙ ap (λ o. with_states n (Some count) o (under_of lines)) none
 
 lack-symmetry : (n : ℕ) (lines : List Line) → LackSymmetry lines → settings_of n lines ≡ Err (Symmetries n)
 lack-symmetry n lines (count, of, some, other, none) =
-    ap (λ o. with_states n o (neighbourhood_set lines) (λ of. symmetry_set of lines)) some
-    ∙ ap (λ o. with_states n (Some count) o (λ of. symmetry_set of lines)) other
+    ap (λ o. with_states n o (neighbourhood_set lines) (under_of lines)) some
+    ∙ ap (λ o. with_states n (Some count) o (under_of lines)) other
     ∙ ap (with_symmetry n count of) none
 
 -- ---- statements
@@ -157,21 +164,21 @@ module _ (named : List ℕ) (settings : Settings) where
   statements-end : (said : Said) (good later : List Line) (after : Said) → Say settings said good after → is_end_of_section later ≡ true → by_statements named settings said (good ++ later) ≡ Ok (made named settings after)
   statements-end said [] [] after say ends = ap (λ s. Ok (made named settings s)) say
   statements-end said [] (l ∷ ls) after say ends =
-      ap (λ b. if b then Ok (made named settings said) else then_ok (λ next. by_statements named settings next ls) (step_of settings said l)) ends
+      cond-true _ _ _ ends
       ∙ ap (λ s. Ok (made named settings s)) say
   statements-end said (x ∷ xs) later after (next, says, more) ends =
-      ap (λ b. if b then Ok (made named settings said) else then_ok (λ next. by_statements named settings next (xs ++ later)) (step_of settings said x)) (says-no-section settings said x next says)
+      cond-false _ _ _ (says-no-section settings said x next says)
       ∙ ap (then_ok (λ next. by_statements named settings next (xs ++ later))) (step-says settings said x next says)
       ∙ statements-end next xs later after more ends
 
   statements-fault : (said : Said) (good : List Line) (line : Line) (later : List Line) (after : Said) (f : TableFault) → Say settings said good after → begins_section line ≡ false → step_of settings after line ≡ Err f
       → by_statements named settings said (good ++ line ∷ later) ≡ Err f
   statements-fault said [] line later after f say inside fault =
-      ap (λ b. if b then Ok (made named settings said) else then_ok (λ next. by_statements named settings next later) (step_of settings said line)) inside
+      cond-false _ _ _ inside
       ∙ ap (λ s. then_ok (λ next. by_statements named settings next later) (step_of settings s line)) say
       ∙ ap (then_ok (λ next. by_statements named settings next later)) fault
   statements-fault said (x ∷ xs) line later after f (next, says, more) inside fault =
-      ap (λ b. if b then Ok (made named settings said) else then_ok (λ next. by_statements named settings next (xs ++ line ∷ later)) (step_of settings said x)) (says-no-section settings said x next says)
+      cond-false _ _ _ (says-no-section settings said x next says)
       ∙ ap (then_ok (λ next. by_statements named settings next (xs ++ line ∷ later))) (step-says settings said x next says)
       ∙ statements-fault next xs line later after f more inside fault
 
@@ -195,7 +202,7 @@ is-read : (bytes : List ℕ) (t : TableRule) → IsTable bytes t → reading byt
 is-read bytes t h =
     has-table bytes h.name (h.setting_lines ++ (h.statements ++ h.later)) h.has_table
     ∙ settings-end bytes h.name [] h.setting_lines (h.statements ++ h.later) h.mean.once (behind-settings h.settings nothing h.statements h.later h.said h.say h.ends)
-    ∙ ap (then_ok (λ settings. by_statements h.name settings nothing (h.statements ++ h.later))) (settings-mean (number_at bytes (h.statements ++ h.later)) h.setting_lines h.settings h.mean)
+    ∙ ap (then_ok (from_nothing h.name (h.statements ++ h.later))) (settings-mean (number_at bytes (h.statements ++ h.later)) h.setting_lines h.settings h.mean)
     ∙ statements-end h.name h.settings nothing h.statements h.later h.said h.say h.ends
     ∙ ap (λ x. Ok x) (sym h.table_is)
 
@@ -214,14 +221,14 @@ settings-read : (bytes : List ℕ) (n : ℕ) (P : List Line → Type 0) (f : Tab
 settings-read bytes n P f h e =
     has-table bytes h.name (h.lines ++ h.behind) h.has_table
     ∙ settings-end bytes h.name [] h.lines h.behind h.once h.ends
-    ∙ ap (λ m. then_ok (λ settings. by_statements h.name settings nothing h.behind) (settings_of m h.lines)) (sym h.number)
-    ∙ ap (then_ok (λ settings. by_statements h.name settings nothing h.behind)) e
+    ∙ ap (λ m. then_ok (from_nothing h.name h.behind) (settings_of m h.lines)) (sym h.number)
+    ∙ ap (then_ok (from_nothing h.name h.behind)) e
 
 statement-read : (bytes : List ℕ) (n : ℕ) (P : Settings → Said → Line → Type 0) (f : ℕ → TableFault) (h : HasStatement bytes n P) → step_of h.settings h.said h.line ≡ Err (f h.line.0) → reading bytes ≡ Err (f n)
 statement-read bytes n P f h e =
     has-table bytes h.name (h.setting_lines ++ (h.good ++ h.line ∷ h.later)) h.has_table
     ∙ settings-end bytes h.name [] h.setting_lines (h.good ++ h.line ∷ h.later) h.mean.once h.ends
-    ∙ ap (then_ok (λ settings. by_statements h.name settings nothing (h.good ++ h.line ∷ h.later))) (settings-mean (number_at bytes (h.good ++ h.line ∷ h.later)) h.setting_lines h.settings h.mean)
+    ∙ ap (then_ok (from_nothing h.name (h.good ++ h.line ∷ h.later))) (settings-mean (number_at bytes (h.good ++ h.line ∷ h.later)) h.setting_lines h.settings h.mean)
     ∙ statements-fault h.name h.settings nothing h.good h.line h.later h.said (f h.line.0) h.say h.in_table e
     ∙ ap (λ m. Err (f m)) (sym h.number)
 

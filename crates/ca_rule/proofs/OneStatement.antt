@@ -1,5 +1,5 @@
 -- A statement of a rule table says one thing at most.
-use Rattle.std.proofs.Common.{◌≡◌, ℕ, ◌<◌, ◌≤◌, ◌⊎◌, true, false, not, ◌||◌, List, [], ◌∷◌, ◌++◌, Option, Some, None, Result, Ok, Err, option_map, nat_lt, if◌then◌else◌, refl, sym, ap, subst, ◌∙◌, arith, inl, inr, true≢false}
+use Rattle.std.proofs.Common.{◌≡◌, ℕ, ◌<◌, ◌≤◌, ◌⊎◌, Bool, true, false, not, ◌||◌, List, [], ◌∷◌, ◌++◌, Option, Some, None, Result, Ok, Err, option_map, nat_lt, refl, sym, ap, subst, ◌∙◌, arith, inl, inr, true≢false}
 use Rattle.std.specs.List.{list_all, AllZip}
 use Rattle.std.proofs.lemmas.Bool.{cases_Bool, and_parts, false_from_ne_true}
 use Rattle.std.proofs.lemmas.Bool.Decides.{nat_tests}
@@ -12,7 +12,7 @@ use Rattle.ca_rule.specs.TableLines.{Line, begins_section, is_setting, are_digit
 use Rattle.ca_rule.specs.TableText.{Settings, Said, number_of, StandsFor, is_bound, field_count, SaysVariable, SaysTransition}
 use Rattle.ca_rule.specs.TableFaults.{IsMisspelled, HasFields, HasBadState, HasUnknownName, HasUnbound}
 use Rattle.ca_rule.specs.inner.TableSaid.{with_variable}
-use Rattle.ca_rule.proofs.LineRead.{map-some, some_if, some-if, variable_of, variable-is-of, variable-of-is, transition_of, transition-is-of, transition-of-is, transition-no-section, variable-no-section, variable-no-setting, transition-no-setting}
+use Rattle.ca_rule.proofs.OneSpelling.{map-some, some_if, some-if, variable_of, variable-is-of, variable-of-is, transition_of, transition-is-of, transition-of-is, transition-no-section, variable-no-section, variable-no-setting, transition-no-setting}
 
 -- what follows from a value; an error is passed on
 abbrev pub then_ok : {T U E : Type 0} → (T → Result U E) → Result T E → Result U E
@@ -21,14 +21,22 @@ then_ok f (Err e) = Err e
 
 -- ---- fields
 
+-- what a field stands for, where it is known whether it is a number
+abbrev pub slot_if : Settings → Said → List ℕ → Bool → Option Slot
+slot_if settings said field true = some_if (nat_lt (value field) settings.states) (Number (value field))
+slot_if settings said field false = option_map Variable (number_of 0 said.variables field)
+
 -- what a field stands for
 abbrev pub slot_of : Settings → Said → List ℕ → Option Slot
-slot_of settings said field =
-    if are_digits field then some_if (nat_lt (value field) settings.states) (Number (value field)) else option_map Variable (number_of 0 said.variables field)
+slot_of settings said field = slot_if settings said field (are_digits field)
+
+abbrev fault_if : ℕ → Bool → TableFault
+fault_if n true = faults.States n
+fault_if n false = faults.Variable n
 
 -- the fault of a field that stands for nothing
-abbrev pub field_fault : ℕ → List ℕ → TableFault
-field_fault n field = if are_digits field then faults.States n else faults.Variable n
+abbrev field_fault : ℕ → List ℕ → TableFault
+field_fault n field = fault_if n (are_digits field)
 
 abbrev with_slot : Option Slot → TableFault → Result (List Slot) TableFault → Result (List Slot) TableFault
 with_slot None fault later = Err fault
@@ -55,20 +63,20 @@ module _ (settings : Settings) (said : Said) where
   slot-is field (Number state) h =
       let low : value field < settings.states = subst (λ v. v < settings.states) h.1 h.2 in
       let test : nat_lt (value field) settings.states ≡ true = grind (arith, nat_tests) in
-      ap (λ b. if b then some_if (nat_lt (value field) settings.states) (Number (value field)) else option_map Variable (number_of 0 said.variables field)) h.0
+      ap (slot_if settings said field) h.0
       ∙ ap (λ b. some_if b (Number (value field))) test ∙ ap (λ v. Some (Number v)) (sym h.1)
   slot-is field (Variable v) h =
-      ap (λ b. if b then some_if (nat_lt (value field) settings.states) (Number (value field)) else option_map Variable (number_of 0 said.variables field)) (no-digits field h.0)
+      ap (slot_if settings said field) (no-digits field h.0)
       ∙ ap (option_map Variable) h.1
 
   pub slot-stands : (field : List ℕ) (slot : Slot) → is_field field ≡ true → slot_of settings said field ≡ Some slot → StandsFor settings said field slot
   slot-stands field slot is e = elim (cases_Bool (are_digits field)) [
     | inl d ↦
-        let s = some-if (nat_lt (value field) settings.states) (Number (value field)) slot (ap (λ b. if b then some_if (nat_lt (value field) settings.states) (Number (value field)) else option_map Variable (number_of 0 said.variables field)) (sym d) ∙ e) in
+        let s = some-if (nat_lt (value field) settings.states) (Number (value field)) slot (ap (slot_if settings said field) (sym d) ∙ e) in
         let low : value field < settings.states = let k = s.0 in grind (arith, nat_tests) in
         subst (StandsFor settings said field) s.1 (d, refl, low)
     | inr d ↦
-        let m = map-some Variable (number_of 0 said.variables field) slot (ap (λ b. if b then some_if (nat_lt (value field) settings.states) (Number (value field)) else option_map Variable (number_of 0 said.variables field)) (sym d) ∙ e) in
+        let m = map-some Variable (number_of 0 said.variables field) slot (ap (slot_if settings said field) (sym d) ∙ e) in
         let name : is_name field ≡ true = ap (λ b. b || is_name field) (sym d) ∙ is in
         subst (StandsFor settings said field) m.2 (name, m.1)
   ]
@@ -94,13 +102,13 @@ module _ (settings : Settings) (said : Said) where
   state-none : (field : List ℕ) → are_digits field ≡ true → settings.states ≤ value field → slot_of settings said field ≡ None
   state-none field d high =
       let test : nat_lt (value field) settings.states ≡ false = grind (arith, nat_tests) in
-      ap (λ b. if b then some_if (nat_lt (value field) settings.states) (Number (value field)) else option_map Variable (number_of 0 said.variables field)) d
+      ap (slot_if settings said field) d
       ∙ ap (λ b. some_if b (Number (value field))) test
 
   -- a name of no variable
   name-none : (field : List ℕ) → is_name field ≡ true → number_of 0 said.variables field ≡ None → slot_of settings said field ≡ None
   name-none field name none =
-      ap (λ b. if b then some_if (nat_lt (value field) settings.states) (Number (value field)) else option_map Variable (number_of 0 said.variables field)) (no-digits field name)
+      ap (slot_if settings said field) (no-digits field name)
       ∙ ap (option_map Variable) none
 
 -- ---- statements
@@ -130,8 +138,12 @@ result-is (s ∷ t ∷ ss) result = result-is (t ∷ ss) result
 abbrev pub with_transition : Said → List Slot → Slot → Said
 with_transition said inputs result = record said { transitions = said.transitions ++ record { inputs = inputs; result = result } ∷ [] }
 
+abbrev said_if : Said → ℕ → List Slot → Slot → Bool → Result Said TableFault
+said_if said n inputs result true = Ok (with_transition said inputs result)
+said_if said n inputs result false = Err (faults.Unbound n)
+
 abbrev bound_or_fault : Said → ℕ → List Slot → Slot → Result Said TableFault
-bound_or_fault said n inputs result = if is_bound result inputs then Ok (with_transition said inputs result) else Err (faults.Unbound n)
+bound_or_fault said n inputs result = said_if said n inputs result (is_bound result inputs)
 
 abbrev step_with : Settings → Said → Line → Option (List ℕ × List (List ℕ)) → Option (List (List ℕ)) → Result Said TableFault
 step_with settings said line (Some v) t = then_ok (λ slots. Ok (with_variable settings said v.0 slots)) (slots_of settings said line.0 v.1)
@@ -179,7 +191,7 @@ module _ (settings : Settings) (said : Said) (line : Line) where
       ∙ ap (λ a. Ok a) (sym v.after_is)
   step-says after (inr t) =
       at-slots t.fields t.inputs t.result t.spelled t.stand
-      ∙ ap (λ b. if b then Ok (with_transition said t.inputs t.result) else Err (faults.Unbound line.0)) t.bound
+      ∙ ap (said_if said line.0 t.inputs t.result) t.bound
       ∙ ap (λ a. Ok a) (sym t.after_is)
 
   -- a line that says something is no setting, and begins no section
@@ -205,15 +217,15 @@ module _ (settings : Settings) (said : Said) (line : Line) where
   step-bad-state b =
       at-fields (b.good ++ b.field ∷ b.later) (field_fault line.0 b.field) b.spelled
       (slots-end settings said line.0 b.good b.slots b.field b.later b.stand (state-none settings said b.field b.holds.0 b.holds.1))
-      ∙ ap (λ d. Err (if d then faults.States line.0 else faults.Variable line.0)) b.holds.0
+      ∙ ap (λ d. Err (fault_if line.0 d)) b.holds.0
 
   pub step-unknown-name : HasUnknownName settings said line → step_of settings said line ≡ Err (faults.Variable line.0)
   step-unknown-name b =
       at-fields (b.good ++ b.field ∷ b.later) (field_fault line.0 b.field) b.spelled
       (slots-end settings said line.0 b.good b.slots b.field b.later b.stand (name-none settings said b.field b.holds.0 b.holds.1))
-      ∙ ap (λ d. Err (if d then faults.States line.0 else faults.Variable line.0)) (no-digits b.field b.holds.0)
+      ∙ ap (λ d. Err (fault_if line.0 d)) (no-digits b.field b.holds.0)
 
   pub step-unbound : HasUnbound settings said line → step_of settings said line ≡ Err (faults.Unbound line.0)
   step-unbound u =
       at-slots u.fields u.inputs u.result u.spelled u.stand
-      ∙ ap (λ b. if b then Ok (with_transition said u.inputs u.result) else Err (faults.Unbound line.0)) u.unbound
+      ∙ ap (said_if said line.0 u.inputs u.result) u.unbound
