@@ -2,6 +2,7 @@
 
 ghost use Rattle.std.specs.Prelude.{◌≡◌, false, IfSome, IfOk, IfErr, MatchOption};
 ghost use Rattle.std.specs.List.{list_any};
+ghost use Rattle.ca_plane.specs.Bytes.{IsWord};
 ghost use Rattle.ca_rule.specs.TableLines.{lines_said, begins_table};
 ghost use Rattle.ca_rule.specs.TableText.{HasTable};
 ghost use Rattle.ca_rule.specs.TableFaults.{IsFaultOf};
@@ -15,6 +16,7 @@ use crate::table::said_lines::SaidLines;
 fn name_of<'a>(lines: &SaidLines<'a>) -> Result<(&'a [u8], SaidLines<'a>), TableFault>
     requires { left_of lines.now ≡ lines_said (text_of lines.now) }
     ensures named { IfOk result (λ r. IsNamed (text_of lines.now) r.0.now (left_of r.1)) }
+    ensures word { IfOk result (λ r. IsWord r.0.now) }
     ensures text { IfOk result (λ r. text_of r.1 ≡ text_of lines.now) }
     ensures fault { IfErr result (λ f. IsFaultOf (text_of lines.now) f) }
 {
@@ -46,6 +48,7 @@ fn behind_table<'a>(lines: &SaidLines<'a>) -> Option<SaidLines<'a>>
 /// The name of the text, and the lines behind that which begins its table.
 pub(crate) fn table_lines(text: &[u8]) -> Result<(&[u8], SaidLines<'_>), TableFault>
     ensures found { IfOk result (λ r. HasTable text.now r.0.now (left_of r.1)) }
+    ensures word { IfOk result (λ r. IsWord r.0.now) }
     ensures text { IfOk result (λ r. text_of r.1 ≡ text.now) }
     ensures fault { IfErr result (λ f. IsFaultOf text.now f) }
 {

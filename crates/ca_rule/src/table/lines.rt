@@ -1,8 +1,8 @@
 //! The lines of a rule file.
 
-ghost use Rattle.std.specs.Prelude.{◌≡◌, ◌==◌, ℕ, not, None, Some, MatchOption};
+ghost use Rattle.std.specs.Prelude.{◌≡◌, ◌==◌, ℕ, not, None, Some, IfSome, MatchOption};
 ghost use Rattle.std.specs.List.{list_all, prefix_len};
-ghost use Rattle.ca_plane.specs.Bytes.{Every, is_digit, is_blank, is_line_end};
+ghost use Rattle.ca_plane.specs.Bytes.{Every, IsWord, is_digit, is_blank, is_line_end};
 ghost use Rattle.ca_rule.specs.TableLines.{content_of, rule_name, begins_section, begins_table, behind, setting, begins_variable, are_digits, is_name_byte, is_name};
 
 use ca_plane::bytes::{is_blank, next_word, split_blanks, strip, trim_blanks};
@@ -26,7 +26,8 @@ pub(crate) fn content_of(line: &[u8]) -> &[u8]
 /// The name that the line `@RULE` gives.
 pub(crate) fn rule_name(content: &[u8]) -> Option<&[u8]>
     requires { Every (λ b. not (is_line_end b)) content.now }
-    ensures { (n : ℕ) → MatchOption result (rule_name (n, content.now) ≡ None) (λ r. rule_name (n, content.now) ≡ Some r.now) }
+    ensures name { (n : ℕ) → MatchOption result (rule_name (n, content.now) ≡ None) (λ r. rule_name (n, content.now) ≡ Some r.now) }
+    ensures word { IfSome result (λ r. IsWord r.now) }
 {
     let (word, rest) = next_word(content)?;
     let (name, _) = next_word(rest)?;

@@ -1,5 +1,6 @@
-use Rattle.std.proofs.Common.{◌≢◌, replicate, inr, ap, subst, ◌∙◌}
+use Rattle.std.proofs.Common.{◌≢◌, sym, replicate, inr, ap, subst, ◌∙◌}
 use Rattle.std.specs.List.{list_all}
+use Rattle.ca_plane.specs.Bytes.{IsWord}
 use Rattle.ca_rule.specs.TableNext.{Transition, table_next}
 use Rattle.ca_rule.specs.TableLines.{last_line}
 use Rattle.ca_rule.specs.inner.TableReading.{left_of}
@@ -15,6 +16,9 @@ returns-in_default-clause-fault c =
       is-table c.args.text.now c.in_ok-name.name.now (left_of c.in_ok-name.lines) (left_of c.in_ok-settings.behind) (meaning_of c.in_ok-settings.settings) c.in_ok-statements.statements
           c.in_ok-name.ensures.found c.in_ok-settings.ensures.found c.in_ok-statements.ensures.found,
     )
+
+pub of_parts-requires-clause-named : goal.of_parts-requires-clause-named
+of_parts-requires-clause-named c = subst IsWord (sym (c.in-Ok.ensures.items_if_clones_equal (λ x y e. e))) c.in_ok-name.ensures.word
 
 pub of_parts-requires-clause-results : goal.of_parts-requires-clause-results
 of_parts-requires-clause-results c =
