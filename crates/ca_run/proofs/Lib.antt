@@ -2,6 +2,7 @@ pub mod Rounds
 pub mod Later
 pub mod Spreading
 pub mod Vectors
+pub mod Returns
 pub mod Reading
 pub mod Heads
 pub mod Windows

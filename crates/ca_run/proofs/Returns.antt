@@ -1,0 +1,144 @@
+-- What a later cell depends on, pictures that are moved, and times at which a picture is back.
+use Rattle.std.proofs.Common.{◌≡◌, ℕ, zero, suc, ◌+◌, ◌*◌, ◌-◌, ◌≤◌, List, refl, sym, ap, ap₂, ◌∙◌, subst, inl, inr, arith}
+use Rattle.std.specs.Prelude.{ℤ, pos, ◌+ℤ◌, ◌-ℤ◌, ◌*ℤ◌}
+use Rattle.std.specs.Int.{◌∣◌}
+use Rattle.std.proofs.Math.Nat.{dvd_refl, dvd-add, zero-mul, suc-mul}
+use Rattle.std.proofs.Math.IntN.{suc_ℤ-*ℤ, zero-*ℤ}
+use Rattle.std.proofs.lemmas.Bool.{cases_eq}
+use Rattle.std.proofs.lemmas.Int.{ints}
+use Rattle.ca_plane.specs.Plane.{Picture, cell, IsSame, shifted, IsLive}
+use Rattle.ca_plane.specs.Generations.{around, after}
+use Rattle.ca_plane.proofs.Shifts.{cell-shifted}
+use Rattle.ca_run.specs.Later.{IsAfter, IsWithin, AgreeWithin, IsBackInPlace, IsBackAnywhere, IsLeast}
+use Rattle.ca_run.proofs.Rounds.{IsRound, around-same}
+use Rattle.ca_run.proofs.Later.{after_again}
+use Rattle.ca_run.proofs.Vectors.{no_vector}
+
+-- ---- what a later cell depends on
+
+-- a place within n of one beside (x, y) is within n + 1 of (x, y)
+IsWithin-round : (n : ℕ) (x y u v a b : ℤ) → IsRound x y u v → IsWithin n u v a b → IsWithin (suc n) x y a b
+IsWithin-round n x y u v a b round within =
+    (omega (arith, ints, round, within), omega (arith, ints, round, within), omega (arith, ints, round, within), omega (arith, ints, round, within))
+
+-- pictures with the same cells within n of (x, y) have the same state there after n generations
+pub near : (next : List ℕ → ℕ) (p q : Picture) (n : ℕ) (x y : ℤ) → AgreeWithin n x y p q → after next p n x y ≡ after next q n x y
+near next p q zero x y agree = agree x y (omega (arith, ints), omega (arith, ints), omega (arith, ints), omega (arith, ints))
+near next p q (suc n) x y agree =
+    ap next (around-same (after next p n) (after next q n) x y (λ u v round. near next p q n u v (λ a b within. agree a b (IsWithin-round n x y u v a b round within))))
+
+-- ---- pictures that are moved
+
+-- the nine cells round a place of a plane that is moved are those round the place before the move
+around-moved : (f : ℤ → ℤ → ℕ) (dx dy x y : ℤ) → around (λ u v. f (u -ℤ dx) (v -ℤ dy)) x y ≡ around f (x -ℤ dx) (y -ℤ dy)
+around-moved f dx dy x y =
+    let west : (x -ℤ pos 1) -ℤ dx ≡ (x -ℤ dx) -ℤ pos 1 = omega (arith, ints) in
+    let east : (x +ℤ pos 1) -ℤ dx ≡ (x -ℤ dx) +ℤ pos 1 = omega (arith, ints) in
+    let north : (y -ℤ pos 1) -ℤ dy ≡ (y -ℤ dy) -ℤ pos 1 = omega (arith, ints) in
+    let south : (y +ℤ pos 1) -ℤ dy ≡ (y -ℤ dy) +ℤ pos 1 = omega (arith, ints) in
+    rw (west, east, north, south) refl
+
+-- a moved picture shows after n generations what the picture shows then, moved
+pub after-shifted : (next : List ℕ → ℕ) (p : Picture) (dx dy : ℤ) (n : ℕ) (x y : ℤ) → after next (shifted p dx dy) n x y ≡ after next p n (x -ℤ dx) (y -ℤ dy)
+after-shifted next p dx dy zero x y = cell-shifted p dx dy x y
+after-shifted next p dx dy (suc n) x y =
+    ap next (around-same (after next (shifted p dx dy) n) (λ u v. after next p n (u -ℤ dx) (v -ℤ dy)) x y (λ u v _. after-shifted next p dx dy n u v)
+    ∙ around-moved (after next p n) dx dy x y)
+
+-- the same, told of the place behind the move
+pub after-moved : (next : List ℕ → ℕ) (p : Picture) (dx dy : ℤ) (n : ℕ) (x y : ℤ) → after next (shifted p dx dy) n (x +ℤ dx) (y +ℤ dy) ≡ after next p n x y
+after-moved next p dx dy n x y =
+    let bx : (x +ℤ dx) -ℤ dx ≡ x = omega (arith, ints) in
+    let by : (y +ℤ dy) -ℤ dy ≡ y = omega (arith, ints) in
+    after-shifted next p dx dy n (x +ℤ dx) (y +ℤ dy) ∙ ap₂ (after next p n) bx by
+
+-- ---- generations that add up
+
+-- n generations of the picture that stands after m are m + n generations
+pub after_stands : (next : List ℕ → ℕ) (p q : Picture) (m n : ℕ) → IsAfter next p m q → (x y : ℤ) → after next q n x y ≡ after next p (m + n) x y
+after_stands next p q m n stands = after_again next p q m (λ x y. sym (stands x y)) n
+
+-- where a picture is back by a vector after m generations, m + n generations are n, moved by that vector
+after_back : (next : List ℕ → ℕ) (p : Picture) (m n : ℕ) (dx dy : ℤ) → IsAfter next p m (shifted p dx dy) → (x y : ℤ) → after next p (m + n) x y ≡ after next p n (x -ℤ dx) (y -ℤ dy)
+after_back next p m n dx dy back x y = sym (after_stands next p (shifted p dx dy) m n back x y) ∙ after-shifted next p dx dy n x y
+
+-- ---- times at which a picture is back
+
+-- a picture that is back after m generations and after m + n is back after n: in its place,
+pub in_place_between : (next : List ℕ → ℕ) (p : Picture) (m n : ℕ) → IsAfter next p m p → IsAfter next p (m + n) p → IsAfter next p n p
+in_place_between next p m n back again x y = after_stands next p p m n back x y ∙ again x y
+
+-- and moved by the difference of the vectors
+pub moved_between : (next : List ℕ → ℕ) (p : Picture) (m n : ℕ) (dx dy u v : ℤ) → IsAfter next p m (shifted p dx dy) → IsAfter next p (m + n) (shifted p u v) → IsAfter next p n (shifted p (u -ℤ dx) (v -ℤ dy))
+moved_between next p m n dx dy u v back again x y =
+    let bx : x ≡ (x +ℤ dx) -ℤ dx = omega (arith, ints) in
+    let by : y ≡ (y +ℤ dy) -ℤ dy = omega (arith, ints) in
+    let ax : (x +ℤ dx) -ℤ u ≡ x -ℤ (u -ℤ dx) = omega (arith, ints) in
+    let ay : (y +ℤ dy) -ℤ v ≡ y -ℤ (v -ℤ dy) = omega (arith, ints) in
+    ap₂ (after next p n) bx by ∙ sym (after_back next p m n dx dy back (x +ℤ dx) (y +ℤ dy)) ∙ again (x +ℤ dx) (y +ℤ dy)
+    ∙ cell-shifted p u v (x +ℤ dx) (y +ℤ dy) ∙ ap₂ (cell p) ax ay ∙ sym (cell-shifted p (u -ℤ dx) (v -ℤ dy) x y)
+
+-- what holds of the difference of two times, where there is one, holds at multiples of its least time only
+multiples : (IsTime : ℕ → Type 0) (m : ℕ) → 1 ≤ m → IsLeast IsTime m → ((n : ℕ) → 1 ≤ n → IsTime (m + n) → IsTime n) → (limit n : ℕ) → n ≤ limit → IsTime n → m ∣ n
+multiples IsTime m some least between zero n within time =
+    let low : m ≤ n = least.least n time in
+    absurd (omega arith)
+multiples IsTime m some least between (suc limit) n within time =
+    let low : m ≤ n = least.least n time in
+    let split : n ≡ m + (n - m) = omega arith in
+    elim (cases_eq (n - m) 0) [
+      | inl none ↦
+          let same : m ≡ n = omega arith in
+          subst (λ t. m ∣ t) same (dvd_refl m)
+      | inr more ↦
+          subst (λ t. m ∣ t) (sym split)
+          (dvd-add m (dvd_refl m) (multiples IsTime m some least between limit (n - m) (omega arith) (between (n - m) (omega arith) (subst IsTime split time))))
+    ]
+
+-- so a picture is back in its place at multiples of the least such time only
+pub multiples_in_place : (next : List ℕ → ℕ) (p : Picture) (m n : ℕ) → IsLeast (IsBackInPlace next p) m → IsBackInPlace next p n → m ∣ n
+multiples_in_place next p m n least back =
+    multiples (IsBackInPlace next p) m least.one.0 least (λ r some again. (some, in_place_between next p m r least.one.1 again.1)) n n (omega arith) back
+
+-- and the same of times at which it's back by some vector
+pub multiples_anywhere : (next : List ℕ → ℕ) (p : Picture) (m n : ℕ) → IsLeast (IsBackAnywhere next p) m → IsBackAnywhere next p n → m ∣ n
+multiples_anywhere next p m n least back =
+    let first = least.one in
+    multiples (IsBackAnywhere next p) m first.0 least
+    (λ r some again. (some, again.1 -ℤ first.1, again.2 -ℤ first.2, moved_between next p m r first.1 first.2 again.1 again.2 first.3 again.3)) n n (omega arith) back
+
+-- ---- the vector
+
+-- one more of a number is that number more
+one_more : (k : ℕ) (d : ℤ) → pos (suc k) *ℤ d ≡ (pos k *ℤ d) +ℤ d
+one_more k d = suc_ℤ-*ℤ (pos k) d
+
+-- a picture that is back by a vector after m generations is back by k times the vector after k times m
+pub back_times : (next : List ℕ → ℕ) (p : Picture) (m k : ℕ) (dx dy : ℤ) → IsAfter next p m (shifted p dx dy) → IsAfter next p (k * m) (shifted p (pos k *ℤ dx) (pos k *ℤ dy))
+back_times next p m zero dx dy back x y =
+    let ax : x ≡ x -ℤ (pos zero *ℤ dx) = rw (zero-*ℤ dx) (omega (arith, ints)) in
+    let ay : y ≡ y -ℤ (pos zero *ℤ dy) = rw (zero-*ℤ dy) (omega (arith, ints)) in
+    ap (λ j. after next p j x y) (zero-mul m) ∙ ap₂ (cell p) ax ay ∙ sym (cell-shifted p (pos zero *ℤ dx) (pos zero *ℤ dy) x y)
+back_times next p m (suc k) dx dy back x y =
+    let ax : (x -ℤ dx) -ℤ (pos k *ℤ dx) ≡ x -ℤ (pos (suc k) *ℤ dx) = rw (one_more k dx) (omega (arith, ints)) in
+    let ay : (y -ℤ dy) -ℤ (pos k *ℤ dy) ≡ y -ℤ (pos (suc k) *ℤ dy) = rw (one_more k dy) (omega (arith, ints)) in
+    let sum : suc k * m ≡ m + k * m = rw (suc-mul k m) (omega arith) in
+    ap (λ j. after next p j x y) sum ∙ after_back next p m (k * m) dx dy back x y ∙ back_times next p m k dx dy back (x -ℤ dx) (y -ℤ dy)
+    ∙ cell-shifted p (pos k *ℤ dx) (pos k *ℤ dy) (x -ℤ dx) (y -ℤ dy) ∙ ap₂ (cell p) ax ay ∙ sym (cell-shifted p (pos (suc k) *ℤ dx) (pos (suc k) *ℤ dy) x y)
+
+-- a live picture that is the same picture moved by two vectors is moved by one
+one_vector : (p : Picture) (dx dy u v : ℤ) → IsLive p → IsSame (shifted p dx dy) (shifted p u v) → (u ≡ dx) × (v ≡ dy)
+one_vector p dx dy u v live same =
+    let none = no_vector p (u -ℤ dx) (v -ℤ dy) live (λ x y.
+    let bx : x ≡ (x +ℤ dx) -ℤ dx = omega (arith, ints) in
+    let by : y ≡ (y +ℤ dy) -ℤ dy = omega (arith, ints) in
+    let ax : (x +ℤ dx) -ℤ u ≡ x -ℤ (u -ℤ dx) = omega (arith, ints) in
+    let ay : (y +ℤ dy) -ℤ v ≡ y -ℤ (v -ℤ dy) = omega (arith, ints) in
+    ap₂ (cell p) bx by ∙ sym (cell-shifted p dx dy (x +ℤ dx) (y +ℤ dy)) ∙ same (x +ℤ dx) (y +ℤ dy) ∙ cell-shifted p u v (x +ℤ dx) (y +ℤ dy)
+    ∙ ap₂ (cell p) ax ay ∙ sym (cell-shifted p (u -ℤ dx) (v -ℤ dy) x y)) in
+    (omega (arith, ints, none.0), omega (arith, ints, none.1))
+
+-- so its vector after k times m generations is k times the one after m
+pub vector_times : (next : List ℕ → ℕ) (p : Picture) (m k : ℕ) (dx dy u v : ℤ) → IsLive p → IsAfter next p m (shifted p dx dy) → IsAfter next p (k * m) (shifted p u v) → (u ≡ pos k *ℤ dx) × (v ≡ pos k *ℤ dy)
+vector_times next p m k dx dy u v live back again =
+    one_vector p (pos k *ℤ dx) (pos k *ℤ dy) u v live (λ x y. sym (back_times next p m k dx dy back x y) ∙ again x y)

@@ -1,0 +1,30 @@
+-- Pictures over the generations: which one stands later, which cells a later cell depends on, and when a picture is back (our own).
+use Rattle.std.specs.Prelude.{◌≡◌, ℕ, ◌≤◌, ℤ, pos, ◌+ℤ◌, ◌-ℤ◌, List}
+use Rattle.ca_plane.specs.Plane.{Picture, cell, shifted}
+use Rattle.ca_plane.specs.Generations.{after}
+use Rattle.ca_plane.specs.Box.{IsInBox}
+
+-- after n generations the plane has this picture's cells, at every x and y
+abbrev pub IsAfter : (List ℕ → ℕ) → Picture → ℕ → Picture → Type 0
+IsAfter next cells n picture = (x y : ℤ) → after next cells n x y ≡ cell picture x y
+
+-- (u, v) lies within n of (x, y) in each direction
+abbrev pub IsWithin : ℕ → ℤ → ℤ → ℤ → ℤ → Type 0
+IsWithin n x y u v = IsInBox (record { x0 = x -ℤ pos n; y0 = y -ℤ pos n; x1 = x +ℤ pos n; y1 = y +ℤ pos n }) u v
+
+-- the two pictures show the same cells at all places within n of (x, y)
+abbrev pub AgreeWithin : ℕ → ℤ → ℤ → Picture → Picture → Type 0
+AgreeWithin n x y p q = (u v : ℤ) → IsWithin n x y u v → cell p u v ≡ cell q u v
+
+-- n is a time from 1 on at which the picture stands again in its place
+abbrev pub IsBackInPlace : (List ℕ → ℕ) → Picture → ℕ → Type 0
+IsBackInPlace next cells n = (1 ≤ n) × IsAfter next cells n cells
+
+-- n is a time from 1 on at which the picture stands again, moved by some vector
+abbrev pub IsBackAnywhere : (List ℕ → ℕ) → Picture → ℕ → Type 0
+IsBackAnywhere next cells n = (1 ≤ n) × (dx : ℤ) × (dy : ℤ) × IsAfter next cells n (shifted cells dx dy)
+
+-- m is one of the times, and none of them is before it
+pub record IsLeast (IsTime : ℕ → Type 0) (m : ℕ) : Type 0 where
+  pub one : IsTime m
+  pub least : (n : ℕ) → IsTime n → m ≤ n
