@@ -46,8 +46,8 @@ after-shifted next p dx dy (suc n) x y =
     ∙ around-moved (after next p n) dx dy x y)
 
 -- the same, told of the place behind the move
-pub after-moved : (next : List ℕ → ℕ) (p : Picture) (dx dy : ℤ) (n : ℕ) (x y : ℤ) → after next (shifted p dx dy) n (x +ℤ dx) (y +ℤ dy) ≡ after next p n x y
-after-moved next p dx dy n x y =
+pub after_moved : (next : List ℕ → ℕ) (p : Picture) (dx dy : ℤ) (n : ℕ) (x y : ℤ) → after next (shifted p dx dy) n (x +ℤ dx) (y +ℤ dy) ≡ after next p n x y
+after_moved next p dx dy n x y =
     let bx : (x +ℤ dx) -ℤ dx ≡ x = omega (arith, ints) in
     let by : (y +ℤ dy) -ℤ dy ≡ y = omega (arith, ints) in
     after-shifted next p dx dy n (x +ℤ dx) (y +ℤ dy) ∙ ap₂ (after next p n) bx by
