@@ -2,6 +2,7 @@
 use Rattle.std.proofs.Common.{ℕ, List, sym, ◌∙◌}
 use Rattle.std.specs.Prelude.{ℤ, ◌-ℤ◌}
 use Rattle.ca_plane.specs.Plane.{Picture, IsSame, IsLive, shifted}
+use Rattle.ca_plane.specs.Generations.{IsAfter}
 use Rattle.ca_plane.proofs.Pictures.{IsSame-sym}
 use Rattle.ca_plane.proofs.Shifts.{cell-shifted}
 use Rattle.ca_run.proofs.Later.{after_of_same}
@@ -12,7 +13,7 @@ use Rattle.ca_claims.specs.declared.claims.asks.Wanted.{Wanted}
 use Rattle.ca_claims.specs.declared.claims.asks.Wanted.TheVariants.{Own, Other}
 use Rattle.ca_claims.specs.declared.claims.asks.Barred.{Barred}
 use Rattle.ca_claims.specs.declared.claims.asks.Barred.TheVariants.{Nothing, InPlace, Anywhere}
-use Rattle.ca_claims.specs.Truth.{whose, claimed, IsAfter, IsNotBack, IsTrueClaim, IsReason}
+use Rattle.ca_claims.specs.Truth.{whose, claimed, IsNotBack, IsTrueClaim, IsReason}
 
 -- pictures that show the same do so when they are moved
 shifted-same : (p q : Picture) (dx dy : ℤ) → IsSame p q → IsSame (shifted p dx dy) (shifted q dx dy)

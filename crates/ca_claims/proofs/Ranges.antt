@@ -7,13 +7,13 @@ use Rattle.std.proofs.lemmas.List.Elements.{All-contains}
 use Rattle.ca_plane.specs.declared.point.Point.{Point}
 use Rattle.ca_plane.specs.declared.point.Bounds.{Bounds}
 use Rattle.ca_plane.specs.Plane.{Picture, cell}
+use Rattle.ca_plane.specs.Generations.{IsAfter}
 use Rattle.ca_plane.specs.Box.{IsLeastBox, LeavesPlane}
 use Rattle.ca_plane.proofs.Pictures.{Contains-cell}
 use Rattle.ca_run.specs.Reach.{LeavesReach}
 use Rattle.ca_run.proofs.Spreading.{leaves_none}
 use Rattle.ca_rle.specs.Limits.{IsInRange}
 use Rattle.ca_claims.specs.Text.{IsShift}
-use Rattle.ca_claims.specs.Truth.{IsAfter}
 
 -- what holds of the listed points holds of a live one
 live-All : (P : Point → Type 0) (p : Picture) (x y : ℤ) → All (λ e. P e.0) p → cell p x y ≢ 0 → P (record { y = y; x = x })

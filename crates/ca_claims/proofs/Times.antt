@@ -4,13 +4,14 @@ use Rattle.std.specs.Prelude.{ℤ, pos, ◌-ℤ◌, FitsSigned}
 use Rattle.std.proofs.lemmas.Bool.{cases_eq}
 use Rattle.std.proofs.lemmas.Int.{ints, to_z-of_z}
 use Rattle.ca_plane.specs.Plane.{Picture, cell, IsSame, shifted}
+use Rattle.ca_plane.specs.Generations.{IsAfter}
 use Rattle.ca_plane.proofs.Shifts.{cell-shifted}
 use Rattle.ca_claims.specs.declared.verdict.Why.{Why}
 use Rattle.ca_claims.specs.declared.verdict.Why.TheVariants.{Empty, Differs, Earlier}
 use Rattle.ca_claims.specs.declared.claims.asks.Barred.{Barred}
 use Rattle.ca_claims.specs.declared.claims.asks.Barred.TheVariants.{Nothing, InPlace, Anywhere}
 use Rattle.ca_claims.specs.Text.{IsShift}
-use Rattle.ca_claims.specs.Truth.{claimed, IsAfter, IsNotBack}
+use Rattle.ca_claims.specs.Truth.{claimed, IsNotBack}
 use Rattle.ca_claims.specs.inner.Returns.{IsDifference, IsNotAgain, IsNotBackBefore}
 
 -- ---- earlier times

@@ -5,7 +5,7 @@ use Rattle.std.specs.List.{AllByRecursion}
 use Rattle.std.proofs.lemmas.Bool.{cases_order}
 use Rattle.std.proofs.lemmas.Option.{same_Some, none-some}
 use Rattle.ca_plane.specs.Plane.{Picture, cell, shifted}
-use Rattle.ca_plane.specs.Generations.{after}
+use Rattle.ca_plane.specs.Generations.{after, IsAfter}
 use Rattle.ca_rule.specs.declared.rule.Rule.{Rule}
 use Rattle.ca_rule.specs.declared.fault.RuleFault.{RuleFault}
 use Rattle.ca_rule.specs.Rule.{states_of, next_of, IsSameRule, NamesRule, IsRuleFault}
@@ -25,7 +25,7 @@ use Rattle.ca_claims.specs.declared.claims.asks.Asks.{Asks}
 use Rattle.ca_claims.specs.declared.claims.asks.Barred.{Barred}
 use Rattle.ca_claims.specs.declared.claims.asks.Barred.TheVariants.{Nothing, InPlace, Anywhere}
 use Rattle.ca_claims.specs.Means.{Means, bytes_at}
-use Rattle.ca_claims.specs.Truth.{IsAfter, IsNotBack, MayReturnBy, IsTrueClaim, IsReason}
+use Rattle.ca_claims.specs.Truth.{IsNotBack, MayReturnBy, IsTrueClaim, IsReason}
 use Rattle.ca_claims.specs.Answers.{IsPatternFault, IsRead, IsRuled, IsThere, Reads, HasRule, IsSmall, HasLargeState, SomeOf, FirstBad, HaveOtherRules, HasCause, IsGood, IsJudged}
 
 -- some state of the pattern is too large for its rule

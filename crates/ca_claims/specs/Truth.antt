@@ -1,7 +1,7 @@
 -- Which claims are true of pictures under a rule, and what a verdict has to show (our own; docs/CLAIMS.md).
 use Rattle.std.specs.Prelude.{◌≡◌, ◌≢◌, ℕ, ◌≤◌, ◌<◌, ℤ, pos, List, true, false, IsTrue}
 use Rattle.ca_plane.specs.Plane.{Picture, cell, shifted, IsLive}
-use Rattle.ca_plane.specs.Generations.{after}
+use Rattle.ca_plane.specs.Generations.{after, IsAfter}
 use Rattle.ca_claims.specs.declared.claims.line.Claim.{Claim as ClaimOf}
 use Rattle.ca_claims.specs.declared.claims.line.Claim.TheVariants.{Still, Oscillator, Spaceship, Becomes}
 use Rattle.ca_claims.specs.declared.claims.asks.Asks.{Asks}
@@ -29,10 +29,6 @@ whose Other cells other = other
 -- the claimed cells: those that are wanted, moved by the vector
 abbrev pub claimed : Asks → Picture → Picture → Picture
 claimed asks cells other = shifted (whose asks.wanted cells other) asks.dx asks.dy
-
--- after n generations the plane has this picture's cells, at every x and y
-abbrev pub IsAfter : (List ℕ → ℕ) → Picture → ℕ → Picture → Type 0
-IsAfter next cells n picture = (x y : ℤ) → after next cells n x y ≡ cell picture x y
 
 -- after n generations some cell isn't what it was
 abbrev pub IsChanged : (List ℕ → ℕ) → Picture → ℕ → Type 0

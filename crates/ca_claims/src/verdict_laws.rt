@@ -4,11 +4,11 @@
 
 ghost use Rattle.std.specs.Prelude.{◌≡◌, ◌≢◌, ℕ, ◌≤◌, ◌<◌, ◌↔◌, ℤ, List, pos, negsuc};
 ghost use Rattle.ca_plane.specs.Plane.{Picture, shifted, IsLive};
-ghost use Rattle.ca_plane.specs.Generations.{after};
+ghost use Rattle.ca_plane.specs.Generations.{after, IsAfter};
 ghost use Rattle.ca_claims.specs.declared.claims.line.Claim.TheVariants.{Still, Oscillator, Spaceship, Becomes};
 ghost use Rattle.ca_claims.specs.Text.{Claim};
 ghost use Rattle.ca_claims.specs.Means.{Means};
-ghost use Rattle.ca_claims.specs.Truth.{asks_of, IsAfter, IsChanged, IsNowhere, IsTrueClaim, IsReason, IsSameReason};
+ghost use Rattle.ca_claims.specs.Truth.{asks_of, IsChanged, IsNowhere, IsTrueClaim, IsReason, IsSameReason};
 ghost use Rattle.ca_claims.specs.Answers.{IsTrueVerdict};
 ghost use Rattle.ca_claims.specs.Examples.{life, blinker, block};
 ghost use Rattle.ca_claims.specs.declared.verdict.Why.{Why};

@@ -1,6 +1,6 @@
 -- The plane after n generations: all cells change at once, by one rule on a cell and its eight neighbours.
 -- It goes down from one cell and one generation to the picture's cells, and never has a plane after a step.
-use Rattle.std.specs.Prelude.{ℕ, zero, suc, ℤ, pos, ◌+ℤ◌, ◌-ℤ◌, List, [], ◌∷◌}
+use Rattle.std.specs.Prelude.{◌≡◌, ℕ, zero, suc, ℤ, pos, ◌+ℤ◌, ◌-ℤ◌, List, [], ◌∷◌}
 use Rattle.ca_plane.specs.Plane.{Picture, cell}
 
 -- the nine cells round a place, row by row: NW, N, NE, W, the centre, E, SW, S, SE (y grows downward)
@@ -14,3 +14,7 @@ around f x y =
 abbrev pub after : (List ℕ → ℕ) → Picture → ℕ → ℤ → ℤ → ℕ
 after next p zero x y = cell p x y
 after next p (suc n) x y = next (around (after next p n) x y)
+
+-- after n generations the plane has this picture's cells, at every x and y
+abbrev pub IsAfter : (List ℕ → ℕ) → Picture → ℕ → Picture → Type 0
+IsAfter next cells n picture = (x y : ℤ) → after next cells n x y ≡ cell picture x y

@@ -7,9 +7,9 @@ use Rattle.std.proofs.Math.IntN.{suc_ℤ-*ℤ, zero-*ℤ}
 use Rattle.std.proofs.lemmas.Bool.{cases_eq}
 use Rattle.std.proofs.lemmas.Int.{ints}
 use Rattle.ca_plane.specs.Plane.{Picture, cell, IsSame, shifted, IsLive}
-use Rattle.ca_plane.specs.Generations.{around, after}
+use Rattle.ca_plane.specs.Generations.{around, after, IsAfter}
 use Rattle.ca_plane.proofs.Shifts.{cell-shifted}
-use Rattle.ca_run.specs.Later.{IsAfter, IsWithin, AgreeWithin, IsBackInPlace, IsBackAnywhere, IsLeast}
+use Rattle.ca_run.specs.Later.{IsWithin, AgreeWithin, IsBackInPlace, IsBackAnywhere, IsLeast}
 use Rattle.ca_run.proofs.Rounds.{IsRound, around-same}
 use Rattle.ca_run.proofs.Later.{after_again}
 use Rattle.ca_run.proofs.Vectors.{no_vector}

@@ -1,12 +1,8 @@
--- Pictures over the generations: which one stands later, which cells a later cell depends on, and when a picture is back (our own).
+-- Pictures over the generations: which cells a later cell depends on, and when a picture is back (our own).
 use Rattle.std.specs.Prelude.{◌≡◌, ℕ, ◌≤◌, ℤ, pos, ◌+ℤ◌, ◌-ℤ◌, List}
 use Rattle.ca_plane.specs.Plane.{Picture, cell, shifted}
-use Rattle.ca_plane.specs.Generations.{after}
+use Rattle.ca_plane.specs.Generations.{IsAfter}
 use Rattle.ca_plane.specs.Box.{IsInBox}
-
--- after n generations the plane has this picture's cells, at every x and y
-abbrev pub IsAfter : (List ℕ → ℕ) → Picture → ℕ → Picture → Type 0
-IsAfter next cells n picture = (x y : ℤ) → after next cells n x y ≡ cell picture x y
 
 -- (u, v) lies within n of (x, y) in each direction
 abbrev pub IsWithin : ℕ → ℤ → ℤ → ℤ → ℤ → Type 0

@@ -4,9 +4,9 @@ ghost use Rattle.std.specs.Prelude.{◌≡◌, ◌≢◌, ℕ, ◌+◌, ◌*◌,
 ghost use Rattle.std.specs.Int.{◌∣◌};
 ghost use Rattle.ca_plane.specs.declared.point.Bounds.{Bounds};
 ghost use Rattle.ca_plane.specs.Plane.{Picture, cell, IsSame, shifted, IsLive};
-ghost use Rattle.ca_plane.specs.Generations.{after};
+ghost use Rattle.ca_plane.specs.Generations.{after, IsAfter};
 ghost use Rattle.ca_plane.specs.Box.{IsInBox};
-ghost use Rattle.ca_run.specs.Later.{IsAfter, AgreeWithin, IsBackInPlace, IsBackAnywhere, IsLeast};
+ghost use Rattle.ca_run.specs.Later.{AgreeWithin, IsBackInPlace, IsBackAnywhere, IsLeast};
 ghost use Rattle.ca_run.specs.Reach.{grown};
 
 use ca_plane::Automaton;

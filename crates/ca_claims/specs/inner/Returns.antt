@@ -1,11 +1,12 @@
 -- What a run of generations shows of a claim: where its last plane isn't the claimed one, and where the pattern was back before.
 use Rattle.std.specs.Prelude.{◌≡◌, ◌≢◌, ℕ, ◌≤◌, ◌<◌, ℤ, List}
 use Rattle.ca_plane.specs.Plane.{Picture, cell, IsSame, shifted}
+use Rattle.ca_plane.specs.Generations.{IsAfter}
 use Rattle.ca_claims.specs.declared.verdict.Why.{Why}
 use Rattle.ca_claims.specs.declared.verdict.Why.TheVariants.{Empty, Differs, Earlier}
 use Rattle.ca_claims.specs.declared.claims.asks.Barred.{Barred}
 use Rattle.ca_claims.specs.declared.claims.asks.Barred.TheVariants.{Nothing, InPlace, Anywhere}
-use Rattle.ca_claims.specs.Truth.{IsAfter, IsNotBack, MayReturnBy}
+use Rattle.ca_claims.specs.Truth.{IsNotBack, MayReturnBy}
 
 -- a cell of the plane after these generations that isn't the wanted one
 abbrev pub IsDifference : Picture → Picture → ℕ → Why → Type 0

@@ -1,7 +1,7 @@
 use Rattle.std.proofs.Common.{ℕ, List, refl, sym, ◌∙◌}
 use Rattle.std.specs.Prelude.{pos}
 use Rattle.ca_plane.specs.Plane.{Picture, shifted}
-use Rattle.ca_claims.specs.Truth.{IsAfter}
+use Rattle.ca_plane.specs.Generations.{IsAfter}
 use Rattle.ca_claims.proofs.Times.{cell_shifted_0}
 use Rattle.ca_claims.proofs.verdict_laws.true_claims.Goals as goal
 

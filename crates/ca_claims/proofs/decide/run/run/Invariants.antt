@@ -1,7 +1,7 @@
 use Rattle.std.proofs.Common.{◌<◌, MatchOption}
 use Rattle.std.specs.List.{All}
 use Rattle.ca_plane.specs.Sparse.{IsSparse}
-use Rattle.ca_claims.specs.Truth.{IsAfter}
+use Rattle.ca_plane.specs.Generations.{IsAfter}
 use Rattle.ca_claims.specs.inner.Returns.{IsNotBackBefore, IsFirstReturn}
 use Rattle.ca_claims.proofs.decide.run.run.Given as goal
 
