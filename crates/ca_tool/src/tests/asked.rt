@@ -11,3 +11,9 @@ fn each_path_once(rt: HostRuntime) -> Result<(), Fail> {
     assert_eq!(rt; claims.path(1), b"r".as_slice());
     Ok(())
 }
+
+#[test]
+fn no_paths(rt: HostRuntime) -> Result<(), Fail> {
+    assert_eq!(rt; read_claims(rt.alloc(), b"")?.path_count(), 0);
+    Ok(())
+}

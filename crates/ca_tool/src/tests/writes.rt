@@ -4,11 +4,12 @@ ghost use Rattle.std.specs.Prelude.{◌<◌, IsTrue};
 ghost use Rattle.std.specs.List.{All};
 ghost use Rattle.ca_rle.specs.Header.{generation_limit};
 ghost use Rattle.ca_plane.specs.Bytes.{IsWord};
+ghost use Rattle.ca_plane.specs.Sparse.{IsInPlane};
 ghost use Rattle.ca_rle.specs.Limits.{IsInRange};
 
 use super::devices::{Narrow, Refusal};
 use ca_plane::{Dev, Memory, Plane, Point, WriteFault};
-use ca_rle::{write_rle, write_rle_to};
+use ca_rle::{read_rle, write_rle, write_rle_to};
 use std::alloc::Global;
 use std::process::Abort;
 use std::test::*;
@@ -150,6 +151,41 @@ fn lines_are_ended_at_seventy(rt: HostRuntime) -> Result<(), Fail> {
           bo$obobobobobobobobobobobobobobobobobobobobobobobobobobobobobobobobob\n\
           2o!\n";
     expect_row(&rt, &[(1, 0, 1), (66, 1, 1), (67, 1, 1)], 1, 33, whole_item)?;
+    Ok(())
+}
+
+// The even place of this number in the row y = 0.
+fn even_place(number: i32) -> Point
+    ensures { IsInPlane result }
+{
+    Point {
+        y: 0,
+        x: 2 * i64::from(number),
+    }
+}
+
+// The plane of live cells at so many even places, from x = 0 on.
+fn gathered(alloc: Global, count: i32) -> Result<Plane, Memory> {
+    let mut cells = Vec::new(alloc);
+    'cells: for number in 0..count {
+        cells.push((even_place(number), 1))?;
+    }
+    Plane::from_cells(alloc, cells)
+}
+
+#[test]
+fn a_hundred_thousand_cells(rt: HostRuntime) -> Result<(), Fail> {
+    let plane = gathered(rt.alloc(), 100_000)?;
+    let mut text = Vec::new(rt.alloc());
+    text.extend_from_slice(b"#CXRLE Pos=0,0\nx = 199999, y = 1, rule = B3/S23\n")?;
+    'lines: for _ in 0..2857 {
+        text.extend_from_slice(
+            b"obobobobobobobobobobobobobobobobobobobobobobobobobobobobobobobobobobob\n",
+        )?;
+    }
+    text.extend_from_slice(b"obobobobo!\n")?;
+    expect_text(&rt, &plane, b"B3/S23", 0, 2, &text)?;
+    assert!(rt; read_rle(rt.alloc(), &text)?.cells.same(&plane));
     Ok(())
 }
 
