@@ -87,6 +87,7 @@ impl<'a> Statements<'a> {
     {
         let slots = self.names.transition_slots(states, fields)?;
         let Some((becomes, inputs)) = slots.all().split_last() else {
+            // A transition has a result, so that this isn't reached.
             return Err(StatementFault::Syntax);
         };
         if !is_bound(*becomes, inputs) {
