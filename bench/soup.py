@@ -103,7 +103,8 @@ def main():
     return 0
 
 
-if len(sys.argv) == 4:
-    write_soup(int(sys.argv[1]), int(sys.argv[2]), sys.argv[3])
-else:
-    sys.exit(main())
+if __name__ == "__main__":
+    if len(sys.argv) == 4:
+        write_soup(int(sys.argv[1]), int(sys.argv[2]), sys.argv[3])
+    else:
+        sys.exit(main())
