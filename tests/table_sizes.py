@@ -10,6 +10,9 @@ from lib.program import Tally, lines_outcome, run
 # The seconds within which each run has to end.
 BOUND = 20
 
+# The most bytes that a file may have.
+MAX_FILE = 67108864
+
 EVERY_STATE = ",".join(str(state) for state in range(256))
 DOT = "x = 1, y = 1, rule = Wide\nB!\n"
 # What a lone cell of state 2 becomes where a cell takes the state of a live neighbour, in a ring of four.
@@ -77,19 +80,26 @@ FILES = (
     ("a transition of two million fields", lambda: table(["0," * 2000000 + "0"]), DOT, DOT, "refused, bad table: syntax"),
     ("a line of ten million bytes", lambda: table(["0" * 10000000]), DOT, DOT, "refused, bad table: syntax"),
     ("ten million brackets", lambda: table(["var a=" + "{" * 10000000]), DOT, DOT, "refused, bad table: syntax"),
-    ("an unknown name behind 300000 variables", lambda: table([*naming_each_other(300000), "0,b,0,0,0,1"], 3), DOT, DOT, "refused, bad table: variable"),
+    ("an unknown name behind 300000 variables", lambda: table([*naming_each_other(300000), "0,b,0,0,0,1"], 3), DOT, DOT,
+     "refused, bad table: variable"),
+    ("a file of 67108864 bytes", lambda: table(["var a={1,2}", "0,a,0,0,0,a"]).ljust(MAX_FILE), DOT, SPREAD_DOT, GOOD),
+    ("a file of 67108865 bytes", lambda: table(["var a={1,2}", "0,a,0,0,0,a"]).ljust(MAX_FILE + 1), DOT, SPREAD_DOT, "refused, no file"),
     ("a name of a million bytes", lambda: table(["var a={1,2}", "0,a,0,0,0,a"], name="W" * 1000000), DOT.replace("Wide", "W" * 1000000),
      SPREAD_DOT.replace("Wide", "W" * 1000000), GOOD),
-    ("a variable's name of a million bytes", lambda: table([f"var {'a' * 1000000}={{1,2}}", f"0,{'a' * 1000000},0,0,0,{'a' * 1000000}"]), DOT, SPREAD_DOT, GOOD),
+    ("a variable's name of a million bytes", lambda: table([f"var {'a' * 1000000}={{1,2}}", f"0,{'a' * 1000000},0,0,0,{'a' * 1000000}"]), DOT,
+     SPREAD_DOT, GOOD),
     ("1000 names of 1000 bytes that differ in the last", lambda: table(
-        [*(f"var {'a' * 1000}{at}={{1,2}}" for at in range(1000)), *(f"0,{'a' * 1000}{at},0,0,0,{'a' * 1000}{at}" for at in range(1000))]), DOT, SPREAD_DOT, GOOD),
-    ("numbers of a million digits", lambda: table([f"var a={{{'0' * 1000000}1,2}}", f"{'0' * 1000000},a,0,0,0,a"], "0" * 1000000 + "3"), DOT, SPREAD_DOT, GOOD),
+        [*(f"var {'a' * 1000}{at}={{1,2}}" for at in range(1000)), *(f"0,{'a' * 1000}{at},0,0,0,{'a' * 1000}{at}" for at in range(1000))]), DOT,
+     SPREAD_DOT, GOOD),
+    ("numbers of a million digits", lambda: table([f"var a={{{'0' * 1000000}1,2}}", f"{'0' * 1000000},a,0,0,0,a"], "0" * 1000000 + "3"), DOT,
+     SPREAD_DOT, GOOD),
     ("a number of states of a million digits", lambda: table([], "9" * 1000000), DOT, DOT, "refused, bad table: states"),
     ("ten million bytes of comments", lambda: "# @TABLE\n" * 1000000 + table(["var a={1,2}", "#" * 1000000, "0,a,0,0,0,a"]), DOT, SPREAD_DOT, GOOD),
     ("ten million empty lines", lambda: "\n" * 10000000 + table(["var a={1,2}", "0,a,0,0,0,a"]), DOT, SPREAD_DOT, GOOD),
     ("a million sections", lambda: "@RULE Wide\n" + "@TREE\n" * 1000000 + table(["var a={1,2}", "0,a,0,0,0,a"]), DOT, SPREAD_DOT, GOOD),
     ("settings a million times", lambda: table(["symmetries:rotate4"] * 1000000), DOT, DOT, "refused, bad table: syntax"),
-    ("10000 transitions that nearly fit under many orders", lambda: table(nearly_fitting(10000), neighbourhood="Moore", symmetry="permute"), CROWD, CROWD, GOOD),
+    ("10000 transitions that nearly fit under many orders", lambda: table(nearly_fitting(10000), neighbourhood="Moore", symmetry="permute"), CROWD,
+     CROWD, GOOD),
 )
 
 

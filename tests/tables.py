@@ -310,7 +310,15 @@ SAME = {
         "@RULE Spread\n# @TABLE",
     ),
     2: (" @TABLE\t", "@TABLE x", "@TABLE @TREE", "@TABLE#x", "@TABLE\r"),
-    3: ("n_states \t: \t3", "  n_states:3  ", "n_states:3#4", "n_states:0000000000000000000000000000000000000003", "n_states:3\r", "n_states:\r3", "\n\nn_states:3\n\n"),
+    3: (
+        "n_states \t: \t3",
+        "  n_states:3  ",
+        "n_states:3#4",
+        "n_states:0000000000000000000000000000000000000003",
+        "n_states:3\r",
+        "n_states:\r3",
+        "\n\nn_states:3\n\n",
+    ),
     4: ("neighborhood : vonNeumann ", "neighborhood:vonNeumann # Moore", "\tneighborhood\t:\tvonNeumann"),
     5: (
         "symmetries : rotate4\t",
@@ -348,7 +356,8 @@ SAME = {
         "0,a,0,0,0,a\n@ICONS\n/* XPM */\n\"7 7 1 1\"\nn_states:2",
         # names of many kinds
         *(f"var {name}={{1,2}}\n0,{name},0,0,0,{name}" for name in (
-            "A", "aa", "a1", "a_b", "a.b", "-", "-1", "+1", ".", "$", "*", "!", '"a"', "(1)", "[a]", "a;b", "a|b", "\x0b", "\x0c", "\x00", "\x7f", "\xe9", "\xff\xfe",
+            "A", "aa", "a1", "a_b", "a.b", "-", "-1", "+1", ".", "$", "*", "!", '"a"', "(1)", "[a]", "a;b", "a|b",
+            "\x0b", "\x0c", "\x00", "\x7f", "\xe9", "\xff\xfe",
             "n_states", "neighborhood", "var", "RULE", "a" * 1000)),
         "var \xe9={1,2}\n0\xe9000\xe9",
         "var ;={1,2}\n0;000;",
@@ -560,7 +569,8 @@ def try_rule_lines(tally, folder):
     texts.line(f"load a {path}")
     texts.line("still a", "refused, bad pattern: rle header")
     tally.tell("a rule file that is loaded too", texts.complaints())
-    for text, told in (("rule", "1 syntax"), ("rule a b", "1 syntax"), ("RULE a", "1 syntax"), ("rules a", "1 syntax"), ("rule a\nstill b", "2 unknown name")):
+    for text, told in (("rule", "1 syntax"), ("rule a b", "1 syntax"), ("RULE a", "1 syntax"), ("rules a", "1 syntax"),
+                       ("rule a\nstill b", "2 unknown name")):
         line, kind = told.split(" ", 1)
         tally.expect(f"the claim text {text!r}", run(["verify", Texts(folder).path(text)]), fault(f"claims line {line}: {kind}"))
     tally.expect("a rule line without claims", run(["verify", Texts(folder).path("rule lost\nload a lost")]), Outcome(b"", b"", 0))

@@ -1,7 +1,7 @@
 #!/usr/bin/env python3
 """Times the built program under rule tables: WireWorld with 100000 live cells, and many of Langton's loops.
 
-Run it at the root of the repository: python3 bench/tables.py
+Run it at the root of the repository: python3 bench/wires_and_loops.py
 It prints a line for each run: seconds of wall clock (the best of three), and the greatest memory of a run. With a folder behind these words it only
 puts the planes there.
 """
