@@ -1,0 +1,36 @@
+-- What holds of the nodes of every store, and how they grow.
+use Rattle.std.specs.Prelude.{◌≡◌, ℕ, ◌+◌, ◌-◌, ◌^◌, ◌<◌, ◌≤◌, List, length, max, slice_index_or}
+use Rattle.ca_quad.specs.declared.node.Node.{Node}
+use Rattle.ca_quad.specs.declared.node.Node.TheVariants.{Leaf, Block, Join}
+use Rattle.ca_quad.specs.Squares.{IsAmong, kept}
+
+-- four parts of a square of this level: each is one level lower and kept at an earlier place, and not all are named by their cells
+pub record IsJoin (nodes : List Node) (places level nw ne sw se : ℕ) : Type 0 where
+  pub least : 2 ≤ level
+  pub most : level ≤ 125
+  pub is_nw : IsAmong nodes places nw (level - 1)
+  pub is_ne : IsAmong nodes places ne (level - 1)
+  pub is_sw : IsAmong nodes places sw (level - 1)
+  pub is_se : IsAmong nodes places se (level - 1)
+  pub large : kept 0 ≤ max (max nw ne) (max sw se)
+
+-- the node may be kept behind the first places: it isn't named by its cells, and its parts come earlier
+abbrev pub IsGood : List Node → ℕ → Node → Type 0
+IsGood nodes places (Leaf nw ne sw se) = 2 ≤ max (max nw ne) (max sw se)
+IsGood nodes places (Block n) = n < 2 ^ 64
+IsGood nodes places (Join level nw ne sw se) = IsJoin nodes places level nw ne sw se
+
+-- the node at a place
+abbrev pub node_at : List Node → ℕ → Node
+node_at nodes place = slice_index_or nodes place (Leaf 0 0 0 0)
+
+-- each node is good, and none stands twice
+pub record IsSound (nodes : List Node) : Type 0 where
+  pub good : (place : ℕ) → place < length nodes → IsGood nodes place (node_at nodes place)
+  pub once : (i j : ℕ) → i < length nodes → j < length nodes → node_at nodes i ≡ node_at nodes j → i ≡ j
+
+-- the new nodes are the old ones, and more behind them
+pub record Grows (old new : List Node) : Type 0 where
+  pub sound : IsSound new
+  pub longer : length old ≤ length new
+  pub kept : (place : ℕ) → place < length old → node_at new place ≡ node_at old place

@@ -1,0 +1,79 @@
+-- Squares of cells, as a list of nodes keeps them (Gosper, "Exploiting regularities in large cellular spaces").
+-- A square of level k has 2 ^ k cells a side. Its four quarters are told in the order
+-- north-west, north-east, south-west, south-east.
+use Rattle.std.specs.Prelude.{◌≡◌, ℕ, zero, suc, ◌+◌, ◌-◌, ◌*◌, ◌/◌, ◌%◌, ◌^◌, ◌<◌, List, length, nat_lt, ◌==◌, ◌&&◌, if◌then◌else◌, slice_index_or}
+use Rattle.ca_quad.specs.declared.named.Named.{Named}
+use Rattle.ca_quad.specs.declared.named.Named.TheVariants.{Cells2, Cells4, Kept}
+use Rattle.ca_quad.specs.declared.node.Node.{Node}
+use Rattle.ca_quad.specs.declared.node.Node.TheVariants.{Leaf, Block, Join}
+use Rattle.ca_quad.specs.declared.square.Square.{Square}
+use Rattle.ca_quad.specs.declared.square.Square.TheVariants.{Four, Parts}
+
+-- an id is a number. The first 16 name the 2 by 2 squares of two states, by their cells
+abbrev pub cells2 : ℕ → ℕ
+cells2 cells = cells
+
+-- the next 65536 name the 4 by 4 squares of two states
+abbrev pub cells4 : ℕ → ℕ
+cells4 cells = 16 + cells
+
+-- and the others the nodes of the list, by their places
+abbrev pub kept : ℕ → ℕ
+kept place = 65552 + place
+
+-- what an id names
+abbrev pub named : ℕ → Named
+named id = if nat_lt id 16 then Cells2 id else (if nat_lt id 65552 then Cells4 (id - 16) else Kept (id - 65552))
+
+-- what a node shows: a block's parts are its number's digits of base 65536
+abbrev pub seen : Node → Square
+seen (Leaf nw ne sw se) = Four nw ne sw se
+seen (Block n) = Parts 3 (cells4 (n % 65536)) (cells4 (n / 65536 % 65536)) (cells4 (n / 4294967296 % 65536)) (cells4 (n / 281474976710656))
+seen (Join level nw ne sw se) = Parts level nw ne sw se
+
+-- what a named square shows: cells are binary digits, and parts are digits of base 16
+abbrev pub shown : List Node → Named → Square
+shown nodes (Cells2 n) = Four (n % 2) (n / 2 % 2) (n / 4 % 2) (n / 8)
+shown nodes (Cells4 n) = Parts 2 (cells2 (n % 16)) (cells2 (n / 16 % 16)) (cells2 (n / 256 % 16)) (cells2 (n / 4096))
+shown nodes (Kept place) = seen (slice_index_or nodes place (Leaf 0 0 0 0))
+
+-- the square of an id: its four cells, or its level and four parts
+abbrev pub square_of : List Node → ℕ → Square
+square_of nodes id = shown nodes (named id)
+
+abbrev pub level : Square → ℕ
+level (Four nw ne sw se) = 1
+level (Parts k nw ne sw se) = k
+
+-- the level of an id's square
+abbrev pub level_of : List Node → ℕ → ℕ
+level_of nodes id = level (square_of nodes id)
+
+-- the id names a square of this level, by its cells or by one of the first places
+pub record IsAmong (nodes : List Node) (places id level : ℕ) : Type 0 where
+  pub before : id < kept places
+  pub is_level : level_of nodes id ≡ level
+
+-- the id names a square of this level
+abbrev pub IsOf : List Node → ℕ → ℕ → Type 0
+IsOf nodes id level = IsAmong nodes (length nodes) id level
+
+-- one cell: its state at (0, 0), and 0 elsewhere
+abbrev pub dot : ℕ → ℕ → ℕ → ℕ
+dot state x y = if (x == 0) && (y == 0) then state else 0
+
+-- four squares that lie together, each with this many cells a side
+abbrev pub together : ℕ → (ℕ → ℕ → ℕ) → (ℕ → ℕ → ℕ) → (ℕ → ℕ → ℕ) → (ℕ → ℕ → ℕ) → ℕ → ℕ → ℕ
+together side nw ne sw se x y =
+    if nat_lt y side then (if nat_lt x side then nw x y else ne (x - side) y)
+    else (if nat_lt x side then sw x (y - side) else se (x - side) (y - side))
+
+-- the cells of a square whose quarters have this many cells a side
+abbrev pub cells_in : (ℕ → ℕ → ℕ → ℕ) → Square → ℕ → ℕ → ℕ → ℕ
+cells_in part (Four nw ne sw se) side = together side (dot nw) (dot ne) (dot sw) (dot se)
+cells_in part (Parts k nw ne sw se) side = together side (part nw) (part ne) (part sw) (part se)
+
+-- the state at (x, y) of a square of this level, counted from its upper left corner; 0 beyond its side
+abbrev pub cell_of : List Node → ℕ → ℕ → ℕ → ℕ → ℕ
+cell_of nodes zero id = λ x y. 0
+cell_of nodes (suc k) id = cells_in (cell_of nodes k) (square_of nodes id) (2 ^ k)

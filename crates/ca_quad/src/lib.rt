@@ -1,0 +1,15 @@
+//! Squares of cells that are kept once each, and the trees that they make.
+#![tactic(auto)]
+
+mod fault;
+mod id;
+mod named;
+mod node;
+mod square;
+mod store;
+mod tree;
+
+pub use fault::QuadFault;
+pub use id::Id;
+pub use store::Store;
+pub use tree::{Spot, Tree, WideBounds};
