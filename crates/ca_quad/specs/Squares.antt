@@ -31,10 +31,14 @@ seen (Leaf nw ne sw se) = Four nw ne sw se
 seen (Block n) = Parts 3 (cells4 (n % 65536)) (cells4 (n / 65536 % 65536)) (cells4 (n / 4294967296 % 65536)) (cells4 (n / 281474976710656))
 seen (Join level nw ne sw se) = Parts level nw ne sw se
 
--- what a named square shows: cells are binary digits, and parts are digits of base 16
+-- a 4 by 4 square of two states shows its parts: its number's digits of base 16
+abbrev pub shown_cells4 : ℕ → Square
+shown_cells4 n = Parts 2 (cells2 (n % 16)) (cells2 (n / 16 % 16)) (cells2 (n / 256 % 16)) (cells2 (n / 4096))
+
+-- what a named square shows: a 2 by 2 square's cells are its number's binary digits
 abbrev pub shown : List Node → Named → Square
 shown nodes (Cells2 n) = Four (n % 2) (n / 2 % 2) (n / 4 % 2) (n / 8)
-shown nodes (Cells4 n) = Parts 2 (cells2 (n % 16)) (cells2 (n / 16 % 16)) (cells2 (n / 256 % 16)) (cells2 (n / 4096))
+shown nodes (Cells4 n) = shown_cells4 n
 shown nodes (Kept place) = seen (slice_index_or nodes place (Leaf 0 0 0 0))
 
 -- the square of an id: its four cells, or its level and four parts

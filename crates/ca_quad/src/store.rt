@@ -1,7 +1,8 @@
 //! The store of squares.
 
 ghost use Rattle.std.specs.Prelude.{◌≡◌, ◌+◌, ◌≤◌, ◌<◌, [], length, IfOk, OnErr};
-ghost use Rattle.ca_quad.specs.Squares.{seen, square_of, level_of, IsOf};
+ghost use Rattle.ca_quad.specs.declared.node.Node.TheVariants.{Block};
+ghost use Rattle.ca_quad.specs.Squares.{kept, seen, shown_cells4, square_of};
 ghost use Rattle.ca_quad.specs.Sound.{IsSound, IsGood, Grows};
 
 use crate::id::Id;
@@ -47,5 +48,69 @@ impl Store {
         ensures sound { IsSound self.now }
     {
         self.nodes.len()
+    }
+
+    // Keeps the node, where it isn't kept yet, and gives its name.
+    fn put(&mut self, node: Node) -> Result<Id, Memory>
+        requires { IsGood self.old (length self.old) node }
+        ensures kept { IfOk result (λ id. id < kept (length self.new)) }
+        ensures shows { IfOk result (λ id. square_of self.new id ≡ seen node) }
+        ensures grows { Grows self.old self.new }
+        ensures count { length self.new ≤ length self.old + 1 }
+        ensures err { OnErr result (self.new ≡ self.old) }
+    {
+        let (place, _) = self.nodes.insert_full(node)?;
+        let _ = self.nodes.len();
+        Ok(Id::kept(place))
+    }
+
+    // What the square looks like.
+    fn square(&self, id: Id) -> Square
+        requires { id < kept (length self.now) }
+        ensures shows { result ≡ square_of self.now id }
+        ensures sound { IsSound self.now }
+    {
+        match id.named() {
+            Named::Cells2(n) => Square::Four(n % 2, n / 2 % 2, n / 4 % 2, n / 8),
+            Named::Cells4(n) => parts_of_cells4(n),
+            Named::Kept(place) => shown(self.nodes.as_slice()[place as usize]),
+        }
+    }
+}
+
+// The parts of a 4 by 4 square of two states.
+fn parts_of_cells4(n: u16) -> Square
+    ensures { result ≡ shown_cells4 n }
+{
+    Square::Parts(
+        2,
+        Id::cells2((n % 16) as u8),
+        Id::cells2((n / 16 % 16) as u8),
+        Id::cells2((n / 256 % 16) as u8),
+        Id::cells2((n / 4096) as u8),
+    )
+}
+
+// The parts of an 8 by 8 square of two states.
+fn parts_of_block(n: u64) -> Square
+    ensures { result ≡ seen (Block n) }
+{
+    Square::Parts(
+        3,
+        Id::cells4((n % 65536) as u16),
+        Id::cells4((n / 65536 % 65536) as u16),
+        Id::cells4((n / 4294967296 % 65536) as u16),
+        Id::cells4((n / 281474976710656) as u16),
+    )
+}
+
+// What a kept node looks like.
+fn shown(node: Node) -> Square
+    ensures { result ≡ seen node }
+{
+    match node {
+        Node::Leaf(nw, ne, sw, se) => Square::Four(nw, ne, sw, se),
+        Node::Block(n) => parts_of_block(n),
+        Node::Join(level, nw, ne, sw, se) => Square::Parts(level, nw, ne, sw, se),
     }
 }
