@@ -1,2 +1,4 @@
 pub mod Nodes
 pub mod Growth
+pub mod Views
+pub mod Cells

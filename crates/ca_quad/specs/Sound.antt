@@ -4,21 +4,20 @@ use Rattle.ca_quad.specs.declared.node.Node.{Node}
 use Rattle.ca_quad.specs.declared.node.Node.TheVariants.{Leaf, Block, Join}
 use Rattle.ca_quad.specs.Squares.{IsAmong, kept}
 
--- four parts of a square of this level: each is one level lower and kept at an earlier place, and not all are named by their cells
-pub record IsJoin (nodes : List Node) (places level nw ne sw se : ℕ) : Type 0 where
+-- the four parts of a square of this level: each is one level lower, and named by its cells or by one of the first places
+pub record HasParts (nodes : List Node) (places level nw ne sw se : ℕ) : Type 0 where
   pub least : 2 ≤ level
   pub most : level ≤ 125
   pub is_nw : IsAmong nodes places nw (level - 1)
   pub is_ne : IsAmong nodes places ne (level - 1)
   pub is_sw : IsAmong nodes places sw (level - 1)
   pub is_se : IsAmong nodes places se (level - 1)
-  pub large : kept 0 ≤ max (max nw ne) (max sw se)
 
 -- the node may be kept behind the first places: it isn't named by its cells, and its parts come earlier
 abbrev pub IsGood : List Node → ℕ → Node → Type 0
 IsGood nodes places (Leaf nw ne sw se) = 2 ≤ max (max nw ne) (max sw se)
 IsGood nodes places (Block n) = n < 2 ^ 64
-IsGood nodes places (Join level nw ne sw se) = IsJoin nodes places level nw ne sw se
+IsGood nodes places (Join level nw ne sw se) = HasParts nodes places level nw ne sw se × (kept 0 ≤ max (max nw ne) (max sw se))
 
 -- the node at a place
 abbrev pub node_at : List Node → ℕ → Node
