@@ -9,8 +9,9 @@ use Rattle.ca_quad.specs.declared.square.Square.{Square}
 use Rattle.ca_quad.specs.declared.square.Square.TheVariants.{Four, Parts}
 use Rattle.ca_quad.specs.Squares.{kept, square_of, level, level_of, IsAmong, IsOf, dot, together, cells_in, cell_of}
 use Rattle.ca_quad.specs.Sound.{HasParts, IsSound, Grows}
+use Rattle.ca_quad.specs.inner.Whole.{IsWhole}
 use Rattle.ca_quad.proofs.Growth.{below_or_not, square_stays}
-use Rattle.ca_quad.proofs.Views.{IsWhole, square_whole, known_by_square}
+use Rattle.ca_quad.proofs.Views.{square_whole, known_by_square}
 
 -- which quarter a cell is in
 module _ (side : ℕ) (nw ne sw se : ℕ → ℕ → ℕ) (x y : ℕ) where

@@ -2,3 +2,4 @@ pub mod Nodes
 pub mod Growth
 pub mod Views
 pub mod Cells
+pub mod Joined

@@ -11,6 +11,7 @@ use Rattle.ca_quad.specs.declared.square.Square.{Square}
 use Rattle.ca_quad.specs.declared.square.Square.TheVariants.{Four, Parts}
 use Rattle.ca_quad.specs.Squares.{cells2, cells4, named, kept, seen, shown, square_of, level, level_of, IsAmong}
 use Rattle.ca_quad.specs.Sound.{HasParts, IsGood, node_at, IsSound}
+use Rattle.ca_quad.specs.inner.Whole.{IsWhole}
 use Rattle.ca_quad.proofs.Growth.{IsBelow, named_below}
 
 pub named_cells2 : (n : ℕ) → n < 16 → named (cells2 n) ≡ Cells2 n
@@ -23,16 +24,11 @@ named_cells4 n h =
     let g : 16 + n - 16 ≡ n = omega arith in
     rw (e, f, g) refl
 
-among_cells2 : (nodes : List Node) (places n : ℕ) → n < 16 → IsAmong nodes places (cells2 n) 1
+pub among_cells2 : (nodes : List Node) (places n : ℕ) → n < 16 → IsAmong nodes places (cells2 n) 1
 among_cells2 nodes places n h = record { before = omega arith; is_level = ap (λ m. level (shown nodes m)) (named_cells2 n h) }
 
-among_cells4 : (nodes : List Node) (places n : ℕ) → n < 65536 → IsAmong nodes places (cells4 n) 2
+pub among_cells4 : (nodes : List Node) (places n : ℕ) → n < 65536 → IsAmong nodes places (cells4 n) 2
 among_cells4 nodes places n h = record { before = omega arith; is_level = ap (λ m. level (shown nodes m)) (named_cells4 n h) }
-
--- its parts are squares of these nodes, one level lower
-abbrev pub IsWhole : List Node → ℕ → Square → Type 0
-IsWhole nodes places (Four nw ne sw se) = Unit {0}
-IsWhole nodes places (Parts k nw ne sw se) = HasParts nodes places k nw ne sw se
 
 among_more : (nodes : List Node) (few places id k : ℕ) → few ≤ places → IsAmong nodes few id k → IsAmong nodes places id k
 among_more nodes few places id k h a = record { before = omega arith; is_level = a.is_level }

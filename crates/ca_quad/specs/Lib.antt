@@ -1,2 +1,4 @@
 pub mod Squares
 pub mod Sound
+pub mod Trees
+pub mod inner

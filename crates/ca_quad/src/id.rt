@@ -1,7 +1,8 @@
 //! The names of squares.
 
-ghost use Rattle.std.specs.Prelude.{◌≡◌, ◌+◌, ◌<◌, ◌^◌};
+ghost use Rattle.std.specs.Prelude.{◌≡◌, ◌+◌, ◌<◌, ◌≤◌, ◌^◌, ◌⊎◌, max, min, MatchOption};
 ghost use Rattle.ca_quad.specs.Squares.{named, cells2, cells4, kept};
+ghost use Rattle.ca_quad.specs.inner.Named.{AreCells2, AreCells4};
 
 use crate::named::Named;
 use std::marker::Model;
@@ -64,5 +65,32 @@ impl Id {
             return Named::Cells4((self.number - 16) as u16);
         }
         Named::Kept(self.number - 65552)
+    }
+
+    // The cells of four 2 by 2 squares of two states that lie together.
+    pub(crate) fn sixteen_cells(nw: Id, ne: Id, sw: Id, se: Id) -> Option<u16>
+        ensures { MatchOption result (16 ≤ max (max nw ne) (max sw se)) (AreCells2 nw ne sw se) }
+    {
+        if nw.number.max(ne.number).max(sw.number.max(se.number)) >= 16 {
+            return None;
+        }
+        Some((nw.number + 16 * ne.number + 256 * sw.number + 4096 * se.number) as u16)
+    }
+
+    // The cells of four 4 by 4 squares of two states that lie together.
+    pub(crate) fn sixty_four_cells(nw: Id, ne: Id, sw: Id, se: Id) -> Option<u64>
+        ensures { MatchOption result ((min (min nw ne) (min sw se) < 16) ⊎ (65552 ≤ max (max nw ne) (max sw se))) (AreCells4 nw ne sw se) }
+    {
+        let most = nw.number.max(ne.number).max(sw.number.max(se.number));
+        let least = nw.number.min(ne.number).min(sw.number.min(se.number));
+        if least < 16 || most >= 65552 {
+            return None;
+        }
+        Some(
+            (nw.number - 16)
+                + 65536 * (ne.number - 16)
+                + 4294967296 * (sw.number - 16)
+                + 281474976710656 * (se.number - 16),
+        )
     }
 }

@@ -2,8 +2,13 @@
 
 ghost use Rattle.std.specs.Prelude.{◌≡◌, ◌+◌, ◌≤◌, ◌<◌, [], length, IfOk, OnErr};
 ghost use Rattle.ca_quad.specs.declared.node.Node.TheVariants.{Block};
-ghost use Rattle.ca_quad.specs.Squares.{kept, seen, shown_cells4, square_of};
+ghost use Rattle.ca_quad.specs.Squares.{seen, shown_cells4, square_of};
 ghost use Rattle.ca_quad.specs.Sound.{IsSound, IsGood, Grows};
+ghost use Rattle.ca_quad.specs.Trees.{IsIn};
+ghost use Rattle.ca_quad.specs.inner.Whole.{IsWhole};
+
+mod make;
+mod read;
 
 use crate::id::Id;
 use crate::named::Named;
@@ -53,7 +58,7 @@ impl Store {
     // Keeps the node, where it isn't kept yet, and gives its name.
     fn put(&mut self, node: Node) -> Result<Id, Memory>
         requires { IsGood self.old (length self.old) node }
-        ensures kept { IfOk result (λ id. id < kept (length self.new)) }
+        ensures known { IfOk result (IsIn self.new) }
         ensures shows { IfOk result (λ id. square_of self.new id ≡ seen node) }
         ensures grows { Grows self.old self.new }
         ensures count { length self.new ≤ length self.old + 1 }
@@ -66,7 +71,17 @@ impl Store {
 
     // What the square looks like.
     fn square(&self, id: Id) -> Square
-        requires { id < kept (length self.now) }
+        requires { IsIn self.now id }
+        ensures shows { result ≡ square_of self.now id }
+        ensures whole { IsWhole self.now (length self.now) result }
+        ensures sound { IsSound self.now }
+    {
+        self.named_square(id)
+    }
+
+    // The same, but nothing is said of its parts.
+    fn named_square(&self, id: Id) -> Square
+        requires { IsIn self.now id }
         ensures shows { result ≡ square_of self.now id }
         ensures sound { IsSound self.now }
     {

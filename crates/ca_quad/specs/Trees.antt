@@ -1,0 +1,49 @@
+-- What calls give: squares with stated cells, and the cells of trees on the unbounded plane.
+use Rattle.std.specs.Prelude.{◌≡◌, ℕ, ◌+◌, ◌-◌, ◌^◌, ◌<◌, ◌≤◌, ℤ, pos, ◌+ℤ◌, List, [], ◌∷◌, length}
+use Rattle.ca_quad.specs.declared.node.Node.{Node}
+use Rattle.ca_quad.specs.declared.square.Square.{Square}
+use Rattle.ca_quad.specs.declared.square.Square.TheVariants.{Four, Parts}
+use Rattle.ca_quad.specs.declared.tree.Tree.{Tree}
+use Rattle.ca_quad.specs.Squares.{kept, IsOf, cell_of}
+
+-- the id is one of these nodes' squares
+abbrev pub IsIn : List Node → ℕ → Type 0
+IsIn nodes id = id < kept (length nodes)
+
+-- the id names a square of this level with these cells
+pub record Shows (nodes : List Node) (id level : ℕ) (cells : ℕ → ℕ → ℕ) : Type 0 where
+  pub is_square : IsOf nodes id level
+  pub has_cells : (x y : ℕ) → cell_of nodes level id x y ≡ cells x y
+
+-- four squares of this level, which make one of the next
+pub record AreFour (nodes : List Node) (level nw ne sw se : ℕ) : Type 0 where
+  pub is_low : level ≤ 124
+  pub is_nw : IsOf nodes nw level
+  pub is_ne : IsOf nodes ne level
+  pub is_sw : IsOf nodes sw level
+  pub is_se : IsOf nodes se level
+
+-- the four cells of a square of level 1
+abbrev pub corners : Square → List ℕ
+corners (Four nw ne sw se) = nw ∷ ne ∷ sw ∷ se ∷ []
+corners (Parts level nw ne sw se) = []
+
+-- the four parts of a larger one
+abbrev pub parts : Square → List ℕ
+parts (Four nw ne sw se) = []
+parts (Parts level nw ne sw se) = nw ∷ ne ∷ sw ∷ se ∷ []
+
+-- the tree's root is a square of its level
+abbrev pub IsTree : List Node → Tree → Type 0
+IsTree nodes tree = IsOf nodes tree.root tree.level
+
+-- cells that are counted from a corner; above it and to the left of it all is 0
+abbrev pub from_corner : (ℕ → ℕ → ℕ) → ℤ → ℤ → ℕ
+from_corner cells (pos x) (pos y) = cells x y
+from_corner cells _ _ = 0
+
+-- the state at (x, y) of a tree, whose middle is the corner of the cell (0, 0)
+abbrev pub cell : List Node → Tree → ℤ → ℤ → ℕ
+cell nodes tree x y =
+    let half = pos (2 ^ (tree.level - 1)) in
+    from_corner (cell_of nodes tree.level tree.root) (x +ℤ half) (y +ℤ half)

@@ -1,0 +1,55 @@
+//! Squares that are made of cells, and of smaller squares.
+
+ghost use Rattle.std.specs.Prelude.{◌≡◌, ℕ, suc, ◌+◌, ◌≤◌, ◌^◌, length, IfOk, OnErr};
+ghost use Rattle.ca_quad.specs.Squares.{dot, together, cell_of, IsOf};
+ghost use Rattle.ca_quad.specs.Sound.{Grows};
+ghost use Rattle.ca_quad.specs.Trees.{Shows, AreFour};
+
+use super::Store;
+use crate::id::Id;
+use crate::node::Node;
+use ca_plane::Memory;
+
+impl Store {
+    /// The 2 by 2 square of these cells.
+    ///
+    /// # Errors
+    ///
+    /// Fails where there is no memory for one more square, and then leaves the store as it was.
+    pub fn leaf(&mut self, nw: u8, ne: u8, sw: u8, se: u8) -> Result<Id, Memory>
+        ensures shows { IfOk result (λ id. Shows self.new id 1 (together 1 (dot nw) (dot ne) (dot sw) (dot se))) }
+        ensures grows { Grows self.old self.new }
+        ensures count { length self.new ≤ length self.old + 1 }
+        ensures err { OnErr result (self.new ≡ self.old) }
+    {
+        let _ = &self.nodes;
+        if nw < 2 && ne < 2 && sw < 2 && se < 2 {
+            return Ok(Id::cells2(nw + 2 * ne + 4 * sw + 8 * se));
+        }
+        self.put(Node::Leaf(nw, ne, sw, se))
+    }
+
+    /// The square of these four, which have one level, at most 124.
+    ///
+    /// # Errors
+    ///
+    /// Fails where there is no memory for one more square, and then leaves the store as it was.
+    pub fn join(&mut self, nw: Id, ne: Id, sw: Id, se: Id) -> Result<Id, Memory>
+        requires { (level : ℕ) × AreFour self.old level nw ne sw se }
+        ensures shows { (level : ℕ) → IsOf self.old nw level → IfOk result (λ id. Shows self.new id (suc level)
+            (together (2 ^ level) (cell_of self.old level nw) (cell_of self.old level ne) (cell_of self.old level sw) (cell_of self.old level se))) }
+        ensures grows { Grows self.old self.new }
+        ensures count { length self.new ≤ length self.old + 1 }
+        ensures err { OnErr result (self.new ≡ self.old) }
+    {
+        let _ = &self.nodes;
+        if let Some(cells) = Id::sixteen_cells(nw, ne, sw, se) {
+            return Ok(Id::cells4(cells));
+        }
+        if let Some(cells) = Id::sixty_four_cells(nw, ne, sw, se) {
+            return self.put(Node::Block(cells));
+        }
+        let level = self.level(nw) + 1;
+        self.put(Node::Join(level, nw, ne, sw, se))
+    }
+}
