@@ -1,14 +1,13 @@
 -- Cells of squares: where they end, that they stay, and that they tell the square.
-use Rattle.std.proofs.Common.{◌≡◌, ◌≢◌, ℕ, zero, suc, ◌+◌, ◌-◌, ◌*◌, ◌<◌, ◌≤◌, ◌^◌, ◌⊎◌, inl, inr, true, false, ◌==◌, ◌&&◌, List, length, nat_lt, refl, sym, ap, subst, ◌∙◌, arith}
-use Rattle.std.specs.Prelude.{if◌then◌else◌}
+use Rattle.std.proofs.Common.{◌≡◌, ℕ, zero, suc, ◌+◌, ◌-◌, ◌<◌, ◌≤◌, ◌^◌, ◌⊎◌, inl, inr, true, false, ◌==◌, List, length, nat_lt, refl, sym, ap, subst, ◌∙◌, arith}
 use Rattle.std.proofs.lemmas.Bool.{cases_Bool}
 use Rattle.std.proofs.lemmas.Bool.Decides.{nat_tests}
 use Rattle.std.proofs.Math.Nat.{two-pow-succ}
 use Rattle.ca_quad.specs.declared.node.Node.{Node}
 use Rattle.ca_quad.specs.declared.square.Square.{Square}
 use Rattle.ca_quad.specs.declared.square.Square.TheVariants.{Four, Parts}
-use Rattle.ca_quad.specs.Squares.{kept, square_of, level, level_of, IsAmong, IsOf, dot, together, cells_in, cell_of}
-use Rattle.ca_quad.specs.Sound.{HasParts, IsSound, Grows}
+use Rattle.ca_quad.specs.Squares.{square_of, level, IsOf, dot, together, cells_in, cell_of}
+use Rattle.ca_quad.specs.Sound.{IsSound, Grows}
 use Rattle.ca_quad.specs.inner.Whole.{IsWhole}
 use Rattle.ca_quad.proofs.Growth.{below_or_not, square_stays}
 use Rattle.ca_quad.proofs.Views.{square_whole, known_by_square}

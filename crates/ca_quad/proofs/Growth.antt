@@ -1,6 +1,5 @@
 -- Old ids name the same squares when nodes are added.
-use Rattle.std.proofs.Common.{◌≡◌, ℕ, Some, ◌+◌, ◌-◌, ◌<◌, ◌≤◌, ◌^◌, ◌⊎◌, inl, inr, Bool, true, false, List, [], ◌∷◌, ◌++◌, length, get_or, nat_lt, refl, sym, ap, subst, ◌∙◌, true≢false, arith, length-append, max}
-use Rattle.std.specs.Prelude.{if◌then◌else◌}
+use Rattle.std.proofs.Common.{◌≡◌, ℕ, Some, ◌+◌, ◌-◌, ◌<◌, ◌≤◌, ◌⊎◌, inl, inr, true, false, List, [], ◌∷◌, ◌++◌, length, nat_lt, refl, sym, ap, subst, ◌∙◌, true≢false, arith, length-append}
 use Rattle.std.proofs.lemmas.Bool.{cases_Bool}
 use Rattle.std.proofs.lemmas.Bool.Decides.{nat_tests, leb_tells}
 use Rattle.std.proofs.Math.ListN.{get_or-append}
@@ -14,9 +13,9 @@ use Rattle.ca_quad.specs.declared.named.Named.{Named}
 use Rattle.ca_quad.specs.declared.named.Named.TheVariants.{Cells2, Cells4, Kept}
 use Rattle.ca_quad.specs.declared.node.Node.{Node}
 use Rattle.ca_quad.specs.declared.node.Node.TheVariants.{Leaf, Block, Join}
-use Rattle.ca_quad.specs.Squares.{named, kept, seen, shown, square_of, level, level_of, IsAmong}
+use Rattle.ca_quad.specs.Squares.{named, kept, seen, shown, square_of, level, IsAmong}
 use Rattle.ca_quad.proofs.Nodes.{node_eq, node_eq-self, node_eq-same}
-use Rattle.ca_quad.specs.Sound.{HasParts, IsGood, node_at, IsSound, Grows}
+use Rattle.ca_quad.specs.Sound.{IsGood, node_at, IsSound, Grows}
 
 pub below_or_not : (a b : ℕ) → (a < b) ⊎ (b ≤ a)
 below_or_not a b = elim (leb_tells b a) [ inl e ↦ inr e.1 | inr e ↦ inl e.1 ]
@@ -59,18 +58,17 @@ among_stays places old new same id k h = record {
 pub good_stays : (places : ℕ) (old new : List Node) → SameFirst places old new → (n : Node) → IsGood old places n → IsGood new places n
 good_stays places old new same (Leaf nw ne sw se) h = h
 good_stays places old new same (Block n) h = h
-good_stays places old new same (Join k nw ne sw se) h =
-    (
-      record {
-        least = h.0.least;
-        most = h.0.most;
-        is_nw = among_stays places old new same nw (k - 1) h.0.is_nw;
-        is_ne = among_stays places old new same ne (k - 1) h.0.is_ne;
-        is_sw = among_stays places old new same sw (k - 1) h.0.is_sw;
-        is_se = among_stays places old new same se (k - 1) h.0.is_se;
-      },
-      h.1
-    )
+good_stays places old new same (Join k nw ne sw se) h = (
+  record {
+    least = h.0.least;
+    most = h.0.most;
+    is_nw = among_stays places old new same nw (k - 1) h.0.is_nw;
+    is_ne = among_stays places old new same ne (k - 1) h.0.is_ne;
+    is_sw = among_stays places old new same sw (k - 1) h.0.is_sw;
+    is_se = among_stays places old new same se (k - 1) h.0.is_se;
+  },
+  h.1,
+)
 
 -- a good node that isn't there yet may be put behind the others
 module _ (nodes : List Node) (node : Node) (sound : IsSound nodes) (good : IsGood nodes (length nodes) node)

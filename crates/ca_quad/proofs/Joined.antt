@@ -1,10 +1,9 @@
 -- A square of four parts shows them together.
-use Rattle.std.proofs.Common.{◌≡◌, ℕ, suc, Result, Ok, Err, IfOk, ◌+◌, ◌-◌, ◌*◌, ◌/◌, ◌%◌, ◌<◌, ◌≤◌, ◌^◌, List, length, refl, sym, ap, subst, ◌∙◌, arith}
+use Rattle.std.proofs.Common.{◌≡◌, ℕ, suc, Result, Ok, Err, IfOk, ◌+◌, ◌%◌, ◌^◌, List, refl, sym, ap, subst, ◌∙◌, arith}
 use Rattle.ca_quad.specs.declared.node.Node.{Node}
 use Rattle.ca_quad.specs.declared.node.Node.TheVariants.{Block}
-use Rattle.ca_quad.specs.declared.square.Square.{Square}
-use Rattle.ca_quad.specs.declared.square.Square.TheVariants.{Four, Parts}
-use Rattle.ca_quad.specs.Squares.{cells2, cells4, kept, seen, shown, square_of, level, level_of, IsAmong, IsOf, together, cells_in, cell_of}
+use Rattle.ca_quad.specs.declared.square.Square.TheVariants.{Parts}
+use Rattle.ca_quad.specs.Squares.{cells4, seen, shown, square_of, level, level_of, IsOf, together, cells_in, cell_of}
 use Rattle.ca_quad.specs.Sound.{IsSound, Grows}
 use Rattle.ca_quad.specs.Trees.{IsIn, Shows, AreFour}
 use Rattle.ca_quad.specs.inner.Named.{AreCells2, AreCells4}
@@ -24,7 +23,7 @@ joined old new sound grows id k nw ne sw se four known e =
     let c = cells_stay old new sound grows k sw four.is_sw in
     let d = cells_stay old new sound grows k se four.is_se in
     let same : cells_in (cell_of new k) (square_of new id) (2 ^ k) ≡ together (2 ^ k) (cell_of old k nw) (cell_of old k ne) (cell_of old k sw) (cell_of old k se) =
-        rw (e, a, b, c, d) refl
+    rw (e, a, b, c, d) refl
     in
     record {
       is_square = record { before = known; is_level = ap level e ∙ omega arith };

@@ -3,3 +3,6 @@ pub mod Growth
 pub mod Views
 pub mod Cells
 pub mod Joined
+pub mod Walks
+pub mod Edges
+pub mod Windows

@@ -1,10 +1,11 @@
 -- What calls give: squares with stated cells, and the cells of trees on the unbounded plane.
-use Rattle.std.specs.Prelude.{◌≡◌, ℕ, ◌+◌, ◌-◌, ◌^◌, ◌<◌, ◌≤◌, ℤ, pos, ◌+ℤ◌, List, [], ◌∷◌, length}
+use Rattle.std.specs.Prelude.{◌≡◌, ℕ, ◌-◌, ◌^◌, ◌<◌, ◌≤◌, ℤ, pos, ◌+ℤ◌, List, [], ◌∷◌, length, slice_index}
+use Rattle.std.specs.Int.{bit_at}
 use Rattle.ca_quad.specs.declared.node.Node.{Node}
 use Rattle.ca_quad.specs.declared.square.Square.{Square}
 use Rattle.ca_quad.specs.declared.square.Square.TheVariants.{Four, Parts}
 use Rattle.ca_quad.specs.declared.tree.Tree.{Tree}
-use Rattle.ca_quad.specs.Squares.{kept, IsOf, cell_of}
+use Rattle.ca_quad.specs.Squares.{kept, level_of, IsOf, cell_of}
 
 -- the id is one of these nodes' squares
 abbrev pub IsIn : List Node → ℕ → Type 0
@@ -15,6 +16,10 @@ pub record Shows (nodes : List Node) (id level : ℕ) (cells : ℕ → ℕ → �
   pub is_square : IsOf nodes id level
   pub has_cells : (x y : ℕ) → cell_of nodes level id x y ≡ cells x y
 
+-- every cell is 0
+abbrev pub IsEmpty : (ℕ → ℕ → ℕ) → Type 0
+IsEmpty cells = (x y : ℕ) → cells x y ≡ 0
+
 -- four squares of this level, which make one of the next
 pub record AreFour (nodes : List Node) (level nw ne sw se : ℕ) : Type 0 where
   pub is_low : level ≤ 124
@@ -22,6 +27,20 @@ pub record AreFour (nodes : List Node) (level nw ne sw se : ℕ) : Type 0 where
   pub is_ne : IsOf nodes ne level
   pub is_sw : IsOf nodes sw level
   pub is_se : IsOf nodes se level
+
+-- two squares of the same level with the same cells
+pub record AreSame (nodes : List Node) (a b : ℕ) : Type 0 where
+  pub same_level : level_of nodes a ≡ level_of nodes b
+  pub same_cells : (x y : ℕ) → cell_of nodes (level_of nodes a) a x y ≡ cell_of nodes (level_of nodes b) b x y
+
+-- an old square stays what it was
+pub record Stays (old new : List Node) (id level : ℕ) : Type 0 where
+  pub is_square : IsOf new id level
+  pub has_cells : (x y : ℕ) → cell_of new level id x y ≡ cell_of old level id x y
+
+-- the cells of rows from the top, a bit each, the lowest in the west
+abbrev pub row_cells : List ℕ → ℕ → ℕ → ℕ
+row_cells rows x y = bit_at (slice_index rows y) x
 
 -- the four cells of a square of level 1
 abbrev pub corners : Square → List ℕ

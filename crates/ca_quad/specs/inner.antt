@@ -1,3 +1,4 @@
 -- What only private contracts speak of.
 pub mod Whole
 pub mod Named
+pub mod Window

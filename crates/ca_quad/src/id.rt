@@ -1,6 +1,6 @@
 //! The names of squares.
 
-ghost use Rattle.std.specs.Prelude.{◌≡◌, ◌+◌, ◌<◌, ◌≤◌, ◌^◌, ◌⊎◌, max, min, MatchOption};
+ghost use Rattle.std.specs.Prelude.{◌≡◌, ◌+◌, ◌<◌, ◌≤◌, ◌^◌, ◌⊎◌, max, min, MatchOption, IsTrue, ◌↔◌};
 ghost use Rattle.ca_quad.specs.Squares.{named, cells2, cells4, kept};
 ghost use Rattle.ca_quad.specs.inner.Named.{AreCells2, AreCells4};
 
@@ -92,5 +92,12 @@ impl Id {
                 + 4294967296 * (sw.number - 16)
                 + 281474976710656 * (se.number - 16),
         )
+    }
+
+    // Whether four squares are one.
+    pub(crate) fn are_one(nw: Id, ne: Id, sw: Id, se: Id) -> bool
+        ensures { IsTrue result ↔ ((nw ≡ ne) × (nw ≡ sw) × (nw ≡ se)) }
+    {
+        nw == ne && nw == sw && nw == se
     }
 }

@@ -3,6 +3,7 @@
 
 mod fault;
 mod id;
+pub mod laws;
 mod named;
 mod node;
 mod square;

@@ -1,12 +1,13 @@
 //! What squares hold.
 
-ghost use Rattle.std.specs.Prelude.{◌≡◌, ℕ, ◌≤◌};
-ghost use Rattle.ca_quad.specs.Squares.{level_of, square_of};
-ghost use Rattle.ca_quad.specs.Trees.{IsIn, corners, parts};
+ghost use Rattle.std.specs.Prelude.{◌≡◌, ℕ, ◌+◌, ◌-◌, ◌<◌, ◌≤◌, ◌^◌, ◌↔◌, ◌⊎◌, pos, ◌+ℤ◌, ◌<ℤ◌, ◌≤ℤ◌, IsTrue, IfSome, IfNone};
+ghost use Rattle.ca_quad.specs.Squares.{level_of, square_of, IsOf, dot, together, cell_of};
+ghost use Rattle.ca_quad.specs.Trees.{IsIn, IsEmpty, IsTree, corners, parts, cell};
 
 use super::Store;
 use crate::id::Id;
 use crate::square::Square;
+use crate::tree::{Spot, Tree};
 
 impl Store {
     /// The level of a square: it has 2^level cells a side.
@@ -44,5 +45,101 @@ impl Store {
             Square::Four(_, _, _, _) => unreachable!(),
             Square::Parts(_, nw, ne, sw, se) => [nw, ne, sw, se],
         }
+    }
+
+    /// Whether every cell of a square is 0.
+    pub fn is_empty(&self, id: Id) -> bool
+        requires { IsIn self.now id }
+        ensures { (level : ℕ) → IsOf self.now id level → IsTrue result ↔ IsEmpty (cell_of self.now level id) }
+    {
+        match self.square(id) {
+            Square::Four(nw, ne, sw, se) => nw.max(ne).max(sw.max(se)) == 0,
+            Square::Parts(_, nw, ne, sw, se) => {
+                if !Id::are_one(nw, ne, sw, se) {
+                    return false;
+                }
+                self.is_empty(nw)
+            }
+        }
+    }
+
+    /// The state of a tree's cell.
+    pub fn cell(&self, tree: Tree, at: Spot) -> u8
+        requires { IsTree self.now tree }
+        ensures { result ≡ cell self.now tree at.x at.y }
+    {
+        let half = half_side(self.level(tree.root));
+        let Some(x) = from_edge(half, at.x) else {
+            return 0;
+        };
+        let Some(y) = from_edge(half, at.y) else {
+            return 0;
+        };
+        self.cell_in(tree.root, x, y)
+    }
+
+    // The state of a square's cell, counted from its upper left corner.
+    fn cell_in(&self, id: Id, x: u128, y: u128) -> u8
+        requires known { IsIn self.now id }
+        requires x { x < 2 ^ level_of self.now id }
+        requires y { y < 2 ^ level_of self.now id }
+        ensures { (level : ℕ) → IsOf self.now id level → result ≡ cell_of self.now level id x y }
+    {
+        match self.square(id) {
+            Square::Four(nw, ne, sw, se) => corner(x, y, nw, ne, sw, se),
+            Square::Parts(level, nw, ne, sw, se) => {
+                let half = half_side(level);
+                if y < half {
+                    if x < half {
+                        return self.cell_in(nw, x, y);
+                    }
+                    return self.cell_in(ne, x - half, y);
+                }
+                if x < half {
+                    return self.cell_in(sw, x, y - half);
+                }
+                self.cell_in(se, x - half, y - half)
+            }
+        }
+    }
+}
+
+// Half the side of a square of this level.
+fn half_side(level: u8) -> u128
+    requires least { 1 ≤ level }
+    requires most { level ≤ 125 }
+    ensures half { result ≡ 2 ^ (level - 1) }
+    ensures low { result ≤ 2 ^ 124 }
+{
+    1 << (level - 1)
+}
+
+// The way of a place from the edge of a tree, where it lies in the tree.
+fn from_edge(half: u128, at: i128) -> Option<u128>
+    requires { half ≤ 2 ^ 124 }
+    ensures inside { IfSome result (λ n. (at +ℤ pos half ≡ pos n) × (n < half + half)) }
+    ensures outside { IfNone result (((at +ℤ pos half) <ℤ pos 0) ⊎ (pos (half + half) ≤ℤ (at +ℤ pos half))) }
+{
+    let half = half as i128;
+    if at < -half {
+        return None;
+    }
+    if at >= half {
+        return None;
+    }
+    Some((at + half) as u128)
+}
+
+// The cell of a 2 by 2 square.
+fn corner(x: u128, y: u128, nw: u8, ne: u8, sw: u8, se: u8) -> u8
+    requires x { x < 2 }
+    requires y { y < 2 }
+    ensures { result ≡ together 1 (dot nw) (dot ne) (dot sw) (dot se) x y }
+{
+    match (x, y) {
+        (0, 0) => nw,
+        (_, 0) => ne,
+        (0, _) => sw,
+        (_, _) => se,
     }
 }

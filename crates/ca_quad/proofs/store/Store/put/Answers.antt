@@ -1,4 +1,4 @@
-use Rattle.std.proofs.Common.{◌≡◌, length, sym, subst}
+use Rattle.std.proofs.Common.{length, sym, subst}
 use Rattle.ca_quad.specs.Sound.{IsGood, Grows}
 use Rattle.ca_quad.proofs.Growth.{put_grows, kept_shows}
 use Rattle.ca_quad.proofs.store.Store.put.Goals as goal

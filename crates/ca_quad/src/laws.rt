@@ -1,0 +1,21 @@
+//! Laws of the squares of a store, over the definitions alone.
+
+ghost use Rattle.std.specs.Prelude.{◌≡◌, ℕ, ◌↔◌, List};
+ghost use Rattle.ca_quad.specs.declared.node.Node.{Node};
+ghost use Rattle.ca_quad.specs.Squares.{IsOf};
+ghost use Rattle.ca_quad.specs.Sound.{IsSound, Grows};
+ghost use Rattle.ca_quad.specs.Trees.{IsIn, AreSame, Stays};
+
+use crate::store::Store;
+
+/// Two squares of a store have one id exactly where level and all cells are equal.
+pub fn one_id(store: &Store)
+    ensures { (a b : ℕ) → IsIn store.now a → IsIn store.now b → (a ≡ b) ↔ AreSame store.now a b }
+{
+    let _squares = store.count();
+}
+
+/// When a store grows, every old id names the same square.
+pub fn old_squares_stay()
+    ensures { (old new : List Node) → IsSound old → Grows old new → (id level : ℕ) → IsOf old id level → Stays old new id level }
+{}
