@@ -3,7 +3,7 @@ use Rattle.std.proofs.Common.{◌≡◌, ℕ, suc, Result, Ok, Err, IfOk, ◌+�
 use Rattle.ca_quad.specs.declared.node.Node.{Node}
 use Rattle.ca_quad.specs.declared.node.Node.TheVariants.{Block}
 use Rattle.ca_quad.specs.declared.square.Square.TheVariants.{Parts}
-use Rattle.ca_quad.specs.Squares.{cells4, seen, shown, square_of, level, level_of, IsOf, together, cells_in, cell_of}
+use Rattle.ca_quad.specs.Squares.{digit, cells4, seen, shown, square_of, level, level_of, IsOf, together, cells_in, cell_of}
 use Rattle.ca_quad.specs.Sound.{IsSound, Grows}
 use Rattle.ca_quad.specs.Trees.{IsIn, Shows, AreFour}
 use Rattle.ca_quad.specs.inner.Named.{AreCells2, AreCells4}
@@ -39,11 +39,11 @@ joined_ok old new sound grows (Err e) k nw ne sw se four known f = tt
 -- four 2 by 2 squares of two states are the parts of a 4 by 4 square
 pub sixteen : (nodes : List Node) (k nw ne sw se n : ℕ) → IsOf nodes nw k → AreCells2 nw ne sw se n → square_of nodes (cells4 n) ≡ Parts (k + 1) nw ne sw se
 sixteen nodes k nw ne sw se n h are =
-    let e : k ≡ 1 = sym h.is_level ∙ (ap (level_of nodes) (sym are.is_nw) ∙ (among_cells2 nodes 0 (n % 16) (omega arith)).is_level) in
+    let e : k ≡ 1 = sym h.is_level ∙ (ap (level_of nodes) (sym are.is_nw) ∙ (among_cells2 nodes 0 (digit 16 n 0) (omega arith)).is_level) in
     ap (shown nodes) (named_cells4 n are.low) ∙ rw (e, are.is_nw, are.is_ne, are.is_sw, are.is_se) refl
 
 -- four 4 by 4 squares of two states are the parts of a block
 pub sixty_four : (nodes : List Node) (k nw ne sw se n : ℕ) → IsOf nodes nw k → AreCells4 nw ne sw se n → seen (Block n) ≡ Parts (k + 1) nw ne sw se
 sixty_four nodes k nw ne sw se n h are =
-    let e : k ≡ 2 = sym h.is_level ∙ (ap (level_of nodes) (sym are.is_nw) ∙ (among_cells4 nodes 0 (n % 65536) (omega arith)).is_level) in
+    let e : k ≡ 2 = sym h.is_level ∙ (ap (level_of nodes) (sym are.is_nw) ∙ (among_cells4 nodes 0 (digit 65536 n 0) (omega arith)).is_level) in
     rw (e, are.is_nw, are.is_ne, are.is_sw, are.is_se) refl

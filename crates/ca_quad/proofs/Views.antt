@@ -6,7 +6,7 @@ use Rattle.ca_quad.specs.declared.named.Named.{Named}
 use Rattle.ca_quad.specs.declared.named.Named.TheVariants.{Cells2, Cells4, Kept}
 use Rattle.ca_quad.specs.declared.node.Node.{Node}
 use Rattle.ca_quad.specs.declared.node.Node.TheVariants.{Leaf, Block, Join}
-use Rattle.ca_quad.specs.Squares.{cells2, cells4, named, kept, seen, shown, square_of, level, IsAmong}
+use Rattle.ca_quad.specs.Squares.{digit, cells2, cells4, named, kept, seen, shown, square_of, level, IsAmong}
 use Rattle.ca_quad.specs.Sound.{IsGood, node_at, IsSound}
 use Rattle.ca_quad.specs.inner.Whole.{IsWhole}
 use Rattle.ca_quad.proofs.Growth.{IsBelow, named_below}
@@ -35,10 +35,10 @@ seen_whole nodes few places h (Leaf nw ne sw se) good = tt
 seen_whole nodes few places h (Block n) good = record {
   least = omega arith;
   most = omega arith;
-  is_nw = among_cells4 nodes places (n % 65536) (omega arith);
-  is_ne = among_cells4 nodes places (n / 65536 % 65536) (omega arith);
-  is_sw = among_cells4 nodes places (n / 4294967296 % 65536) (omega arith);
-  is_se = among_cells4 nodes places (n / 281474976710656) (omega arith);
+  is_nw = among_cells4 nodes places (digit 65536 n 0) (omega arith);
+  is_ne = among_cells4 nodes places (digit 65536 n 1) (omega arith);
+  is_sw = among_cells4 nodes places (digit 65536 n 2) (omega arith);
+  is_se = among_cells4 nodes places (digit 65536 n 3) (omega arith);
 }
 seen_whole nodes few places h (Join k nw ne sw se) good = record {
   least = good.0.least;
@@ -54,10 +54,10 @@ shown_whole nodes sound (Cells2 n) h = tt
 shown_whole nodes sound (Cells4 n) h = record {
   least = omega arith;
   most = omega arith;
-  is_nw = among_cells2 nodes (length nodes) (n % 16) (omega arith);
-  is_ne = among_cells2 nodes (length nodes) (n / 16 % 16) (omega arith);
-  is_sw = among_cells2 nodes (length nodes) (n / 256 % 16) (omega arith);
-  is_se = among_cells2 nodes (length nodes) (n / 4096) (omega arith);
+  is_nw = among_cells2 nodes (length nodes) (digit 16 n 0) (omega arith);
+  is_ne = among_cells2 nodes (length nodes) (digit 16 n 1) (omega arith);
+  is_sw = among_cells2 nodes (length nodes) (digit 16 n 2) (omega arith);
+  is_se = among_cells2 nodes (length nodes) (digit 16 n 3) (omega arith);
 }
 shown_whole nodes sound (Kept place) h = seen_whole nodes place (length nodes) (omega arith) (node_at nodes place) (sound.good place h)
 
@@ -71,24 +71,24 @@ seen_same nodes i j (Leaf nw ne sw se) (Block n) g h e = cc
 seen_same nodes i j (Leaf nw ne sw se) (Join k a b c d) g h e = cc
 seen_same nodes i j (Block m) (Leaf a b c d) g h e = cc
 seen_same nodes i j (Block m) (Block n) g h e =
-    let p : cells4 (m % 65536) ≡ cells4 (n % 65536) = cc in
-    let q : cells4 (m / 65536 % 65536) ≡ cells4 (n / 65536 % 65536) = cc in
-    let r : cells4 (m / 4294967296 % 65536) ≡ cells4 (n / 4294967296 % 65536) = cc in
-    let s : cells4 (m / 281474976710656) ≡ cells4 (n / 281474976710656) = cc in
+    let p : cells4 (digit 65536 m 0) ≡ cells4 (digit 65536 n 0) = cc in
+    let q : cells4 (digit 65536 m 1) ≡ cells4 (digit 65536 n 1) = cc in
+    let r : cells4 (digit 65536 m 2) ≡ cells4 (digit 65536 n 2) = cc in
+    let s : cells4 (digit 65536 m 3) ≡ cells4 (digit 65536 n 3) = cc in
     ap (λ (n : ℕ). Block n) (omega arith)
 seen_same nodes i j (Block m) (Join k a b c d) g h e =
-    let p : cells4 (m % 65536) ≡ a = cc in
-    let q : cells4 (m / 65536 % 65536) ≡ b = cc in
-    let r : cells4 (m / 4294967296 % 65536) ≡ c = cc in
-    let s : cells4 (m / 281474976710656) ≡ d = cc in
+    let p : cells4 (digit 65536 m 0) ≡ a = cc in
+    let q : cells4 (digit 65536 m 1) ≡ b = cc in
+    let r : cells4 (digit 65536 m 2) ≡ c = cc in
+    let s : cells4 (digit 65536 m 3) ≡ d = cc in
     let low : 65552 ≤ max (max a b) (max c d) = h.1 in
     absurd (omega arith)
 seen_same nodes i j (Join k a b c d) (Leaf nw ne sw se) g h e = cc
 seen_same nodes i j (Join k a b c d) (Block m) g h e =
-    let p : cells4 (m % 65536) ≡ a = cc in
-    let q : cells4 (m / 65536 % 65536) ≡ b = cc in
-    let r : cells4 (m / 4294967296 % 65536) ≡ c = cc in
-    let s : cells4 (m / 281474976710656) ≡ d = cc in
+    let p : cells4 (digit 65536 m 0) ≡ a = cc in
+    let q : cells4 (digit 65536 m 1) ≡ b = cc in
+    let r : cells4 (digit 65536 m 2) ≡ c = cc in
+    let s : cells4 (digit 65536 m 3) ≡ d = cc in
     let low : 65552 ≤ max (max a b) (max c d) = g.1 in
     absurd (omega arith)
 seen_same nodes i j (Join k nw ne sw se) (Join l a b c d) g h e = cc
@@ -96,10 +96,10 @@ seen_same nodes i j (Join k nw ne sw se) (Join l a b c d) g h e = cc
 -- no good node looks like a square that is named by its cells
 cells2_not_kept : (nodes : List Node) (i m : ℕ) (n : Node) → m < 16 → IsGood nodes i n → shown nodes (Cells2 m) ≡ seen n → ⊥
 cells2_not_kept nodes i m (Leaf a b c d) h g e =
-    let p : m % 2 ≡ a = cc in
-    let q : m / 2 % 2 ≡ b = cc in
-    let r : m / 4 % 2 ≡ c = cc in
-    let s : m / 8 ≡ d = cc in
+    let p : digit 2 m 0 ≡ a = cc in
+    let q : digit 2 m 1 ≡ b = cc in
+    let r : digit 2 m 2 ≡ c = cc in
+    let s : digit 2 m 3 ≡ d = cc in
     omega arith
 cells2_not_kept nodes i m (Block n) h g e = cc
 cells2_not_kept nodes i m (Join k a b c d) h g e = cc
@@ -108,29 +108,29 @@ cells4_not_kept : (nodes : List Node) (i m : ℕ) (n : Node) → m < 65536 → I
 cells4_not_kept nodes i m (Leaf a b c d) h g e = cc
 cells4_not_kept nodes i m (Block n) h g e = cc
 cells4_not_kept nodes i m (Join k a b c d) h g e =
-    let p : m % 16 ≡ a = cc in
-    let q : m / 16 % 16 ≡ b = cc in
-    let r : m / 256 % 16 ≡ c = cc in
-    let s : m / 4096 ≡ d = cc in
+    let p : digit 16 m 0 ≡ a = cc in
+    let q : digit 16 m 1 ≡ b = cc in
+    let r : digit 16 m 2 ≡ c = cc in
+    let s : digit 16 m 3 ≡ d = cc in
     let low : 65552 ≤ max (max a b) (max c d) = g.1 in
     omega arith
 
 -- names that look alike are equal
 shown_same : (nodes : List Node) → IsSound nodes → (m n : Named) → IsBelow (length nodes) m → IsBelow (length nodes) n → shown nodes m ≡ shown nodes n → m ≡ n
 shown_same nodes sound (Cells2 m) (Cells2 n) g h e =
-    let p : m % 2 ≡ n % 2 = cc in
-    let q : m / 2 % 2 ≡ n / 2 % 2 = cc in
-    let r : m / 4 % 2 ≡ n / 4 % 2 = cc in
-    let s : m / 8 ≡ n / 8 = cc in
+    let p : digit 2 m 0 ≡ digit 2 n 0 = cc in
+    let q : digit 2 m 1 ≡ digit 2 n 1 = cc in
+    let r : digit 2 m 2 ≡ digit 2 n 2 = cc in
+    let s : digit 2 m 3 ≡ digit 2 n 3 = cc in
     ap (λ (n : ℕ). Cells2 n) (omega arith)
 shown_same nodes sound (Cells2 m) (Cells4 n) g h e = cc
 shown_same nodes sound (Cells2 m) (Kept i) g h e = absurd (cells2_not_kept nodes i m (node_at nodes i) g (sound.good i h) e)
 shown_same nodes sound (Cells4 m) (Cells2 n) g h e = cc
 shown_same nodes sound (Cells4 m) (Cells4 n) g h e =
-    let p : m % 16 ≡ n % 16 = cc in
-    let q : m / 16 % 16 ≡ n / 16 % 16 = cc in
-    let r : m / 256 % 16 ≡ n / 256 % 16 = cc in
-    let s : m / 4096 ≡ n / 4096 = cc in
+    let p : digit 16 m 0 ≡ digit 16 n 0 = cc in
+    let q : digit 16 m 1 ≡ digit 16 n 1 = cc in
+    let r : digit 16 m 2 ≡ digit 16 n 2 = cc in
+    let s : digit 16 m 3 ≡ digit 16 n 3 = cc in
     ap (λ (n : ℕ). Cells4 n) (omega arith)
 shown_same nodes sound (Cells4 m) (Kept i) g h e = absurd (cells4_not_kept nodes i m (node_at nodes i) g (sound.good i h) e)
 shown_same nodes sound (Kept i) (Cells2 n) g h e = absurd (cells2_not_kept nodes i n (node_at nodes i) h (sound.good i g) (sym e))

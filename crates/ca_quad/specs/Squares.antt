@@ -25,19 +25,23 @@ kept place = 65552 + place
 abbrev pub named : ℕ → Named
 named id = if nat_lt id 16 then Cells2 id else (if nat_lt id 65552 then Cells4 (id - 16) else Kept (id - 65552))
 
+-- the digit of a number at a place, the lowest at place 0
+abbrev pub digit : ℕ → ℕ → ℕ → ℕ
+digit base n place = n / base ^ place % base
+
 -- what a node shows: a block's parts are its number's digits of base 65536
 abbrev pub seen : Node → Square
 seen (Leaf nw ne sw se) = Four nw ne sw se
-seen (Block n) = Parts 3 (cells4 (n % 65536)) (cells4 (n / 65536 % 65536)) (cells4 (n / 4294967296 % 65536)) (cells4 (n / 281474976710656))
+seen (Block n) = Parts 3 (cells4 (digit 65536 n 0)) (cells4 (digit 65536 n 1)) (cells4 (digit 65536 n 2)) (cells4 (digit 65536 n 3))
 seen (Join level nw ne sw se) = Parts level nw ne sw se
 
 -- a 4 by 4 square of two states shows its parts: its number's digits of base 16
 abbrev pub shown_cells4 : ℕ → Square
-shown_cells4 n = Parts 2 (cells2 (n % 16)) (cells2 (n / 16 % 16)) (cells2 (n / 256 % 16)) (cells2 (n / 4096))
+shown_cells4 n = Parts 2 (cells2 (digit 16 n 0)) (cells2 (digit 16 n 1)) (cells2 (digit 16 n 2)) (cells2 (digit 16 n 3))
 
 -- what a named square shows: a 2 by 2 square's cells are its number's binary digits
 abbrev pub shown : List Node → Named → Square
-shown nodes (Cells2 n) = Four (n % 2) (n / 2 % 2) (n / 4 % 2) (n / 8)
+shown nodes (Cells2 n) = Four (digit 2 n 0) (digit 2 n 1) (digit 2 n 2) (digit 2 n 3)
 shown nodes (Cells4 n) = shown_cells4 n
 shown nodes (Kept place) = seen (slice_index_or nodes place (Leaf 0 0 0 0))
 

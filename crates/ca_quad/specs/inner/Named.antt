@@ -1,19 +1,19 @@
 -- Four squares that are named by their cells, and the number of the square that they make.
 use Rattle.std.specs.Prelude.{◌≡◌, ℕ, ◌/◌, ◌%◌, ◌<◌, ◌^◌}
-use Rattle.ca_quad.specs.Squares.{cells2, cells4}
+use Rattle.ca_quad.specs.Squares.{digit, cells2, cells4}
 
 -- four 2 by 2 squares are the parts of the 4 by 4 square of this number
 pub record AreCells2 (nw ne sw se n : ℕ) : Type 0 where
   pub low : n < 65536
-  pub is_nw : cells2 (n % 16) ≡ nw
-  pub is_ne : cells2 (n / 16 % 16) ≡ ne
-  pub is_sw : cells2 (n / 256 % 16) ≡ sw
-  pub is_se : cells2 (n / 4096) ≡ se
+  pub is_nw : cells2 (digit 16 n 0) ≡ nw
+  pub is_ne : cells2 (digit 16 n 1) ≡ ne
+  pub is_sw : cells2 (digit 16 n 2) ≡ sw
+  pub is_se : cells2 (digit 16 n 3) ≡ se
 
 -- four 4 by 4 squares are the parts of the 8 by 8 square of this number
 pub record AreCells4 (nw ne sw se n : ℕ) : Type 0 where
   pub low : n < 2 ^ 64
-  pub is_nw : cells4 (n % 65536) ≡ nw
-  pub is_ne : cells4 (n / 65536 % 65536) ≡ ne
-  pub is_sw : cells4 (n / 4294967296 % 65536) ≡ sw
-  pub is_se : cells4 (n / 281474976710656) ≡ se
+  pub is_nw : cells4 (digit 65536 n 0) ≡ nw
+  pub is_ne : cells4 (digit 65536 n 1) ≡ ne
+  pub is_sw : cells4 (digit 65536 n 2) ≡ sw
+  pub is_se : cells4 (digit 65536 n 3) ≡ se
