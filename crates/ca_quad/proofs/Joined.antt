@@ -1,5 +1,5 @@
 -- A square of four parts shows them together.
-use Rattle.std.proofs.Common.{◌≡◌, ℕ, suc, Result, Ok, Err, IfOk, ◌+◌, ◌%◌, ◌^◌, List, refl, sym, ap, subst, ◌∙◌, arith}
+use Rattle.std.proofs.Common.{◌≡◌, ℕ, suc, Result, Ok, Err, IfOk, ◌+◌, ◌^◌, List, refl, sym, ap, subst, ◌∙◌, arith}
 use Rattle.ca_quad.specs.declared.node.Node.{Node}
 use Rattle.ca_quad.specs.declared.node.Node.TheVariants.{Block}
 use Rattle.ca_quad.specs.declared.square.Square.TheVariants.{Parts}

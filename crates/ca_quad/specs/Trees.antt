@@ -1,11 +1,11 @@
 -- What calls give: squares with stated cells, and the cells of trees on the unbounded plane.
-use Rattle.std.specs.Prelude.{◌≡◌, ℕ, ◌-◌, ◌^◌, ◌<◌, ◌≤◌, ℤ, pos, ◌+ℤ◌, List, [], ◌∷◌, length, slice_index}
+use Rattle.std.specs.Prelude.{◌≡◌, ℕ, suc, ◌-◌, ◌^◌, ◌<◌, ◌≤◌, ℤ, pos, ◌+ℤ◌, List, [], ◌∷◌, length, slice_index}
 use Rattle.std.specs.Int.{bit_at}
 use Rattle.ca_quad.specs.declared.node.Node.{Node}
 use Rattle.ca_quad.specs.declared.square.Square.{Square}
 use Rattle.ca_quad.specs.declared.square.Square.TheVariants.{Four, Parts}
 use Rattle.ca_quad.specs.declared.tree.Tree.{Tree}
-use Rattle.ca_quad.specs.Squares.{kept, level_of, IsOf, cell_of}
+use Rattle.ca_quad.specs.Squares.{kept, level_of, IsOf, dot, together, cell_of}
 
 -- the id is one of these nodes' squares
 abbrev pub IsIn : List Node → ℕ → Type 0
@@ -41,6 +41,21 @@ pub record Stays (old new : List Node) (id level : ℕ) : Type 0 where
 -- the cells of rows from the top, a bit each, the lowest in the west
 abbrev pub row_cells : List ℕ → ℕ → ℕ → ℕ
 row_cells rows x y = bit_at (slice_index rows y) x
+
+-- these four cells make the square
+pub record AreCorners (nodes : List Node) (id : ℕ) (cells : List ℕ) : Type 0 where
+  pub has_cells : (x y : ℕ) → cell_of nodes 1 id x y
+      ≡ together 1 (dot (slice_index cells 0)) (dot (slice_index cells 1)) (dot (slice_index cells 2)) (dot (slice_index cells 3)) x y
+
+-- these four squares of the level below make the square
+pub record AreQuarters (nodes : List Node) (id level : ℕ) (quarters : List ℕ) : Type 0 where
+  pub is_nw : IsOf nodes (slice_index quarters 0) level
+  pub is_ne : IsOf nodes (slice_index quarters 1) level
+  pub is_sw : IsOf nodes (slice_index quarters 2) level
+  pub is_se : IsOf nodes (slice_index quarters 3) level
+  pub has_cells : (x y : ℕ) → cell_of nodes (suc level) id x y
+      ≡ together (2 ^ level) (cell_of nodes level (slice_index quarters 0)) (cell_of nodes level (slice_index quarters 1))
+      (cell_of nodes level (slice_index quarters 2)) (cell_of nodes level (slice_index quarters 3)) x y
 
 -- the four cells of a square of level 1
 abbrev pub corners : Square → List ℕ

@@ -65,6 +65,7 @@ impl Store {
         ensures err { OnErr result (self.new ≡ self.old) }
     {
         let (place, _) = self.nodes.insert_full(node)?;
+        // A table has fewer than 2^63 entries, so an id has room for any place.
         let _ = self.nodes.len();
         Ok(Id::kept(place))
     }

@@ -1,5 +1,5 @@
 -- Four squares that are named by their cells, and the number of the square that they make.
-use Rattle.std.specs.Prelude.{◌≡◌, ℕ, ◌/◌, ◌%◌, ◌<◌, ◌^◌}
+use Rattle.std.specs.Prelude.{◌≡◌, ℕ, ◌<◌, ◌^◌}
 use Rattle.ca_quad.specs.Squares.{digit, cells2, cells4}
 
 -- four 2 by 2 squares are the parts of the 4 by 4 square of this number

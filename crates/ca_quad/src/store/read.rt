@@ -1,8 +1,8 @@
 //! What squares hold.
 
-ghost use Rattle.std.specs.Prelude.{◌≡◌, ℕ, ◌+◌, ◌-◌, ◌<◌, ◌≤◌, ◌^◌, ◌↔◌, ◌⊎◌, pos, ◌+ℤ◌, ◌<ℤ◌, ◌≤ℤ◌, IsTrue, IfSome, IfNone};
+ghost use Rattle.std.specs.Prelude.{◌≡◌, ℕ, suc, ◌+◌, ◌-◌, ◌<◌, ◌≤◌, ◌^◌, ◌↔◌, ◌⊎◌, pos, ◌+ℤ◌, ◌<ℤ◌, ◌≤ℤ◌, IsTrue, IfSome, IfNone};
 ghost use Rattle.ca_quad.specs.Squares.{level_of, square_of, IsOf, dot, together, cell_of};
-ghost use Rattle.ca_quad.specs.Trees.{IsIn, IsEmpty, IsTree, corners, parts, cell};
+ghost use Rattle.ca_quad.specs.Trees.{IsIn, IsEmpty, IsTree, AreCorners, AreQuarters, corners, parts, cell};
 
 use super::Store;
 use crate::id::Id;
@@ -27,7 +27,8 @@ impl Store {
     pub fn cells4(&self, id: Id) -> [u8; 4]
         requires known { IsIn self.now id }
         requires level { level_of self.now id ≡ 1 }
-        ensures { result ≡ corners (square_of self.now id) }
+        ensures value { result ≡ corners (square_of self.now id) }
+        ensures corners { AreCorners self.now id result }
     {
         match self.square(id) {
             Square::Four(nw, ne, sw, se) => [nw, ne, sw, se],
@@ -39,7 +40,8 @@ impl Store {
     pub fn children(&self, id: Id) -> [Id; 4]
         requires known { IsIn self.now id }
         requires level { 2 ≤ level_of self.now id }
-        ensures { result ≡ parts (square_of self.now id) }
+        ensures value { result ≡ parts (square_of self.now id) }
+        ensures quarters { (level : ℕ) → IsOf self.now id (suc level) → AreQuarters self.now id level result }
     {
         match self.square(id) {
             Square::Four(_, _, _, _) => unreachable!(),
