@@ -74,7 +74,7 @@ module _ (nodes : List Node) (k : ℕ) (cells : ℕ → ℕ → ℕ) (left top n
 -- four dots show four cells
 dots_window : (cells : ℕ → ℕ → ℕ) (left top a b c d : ℕ) → a ≡ cells left top → b ≡ cells (left + 1) top → c ≡ cells left (top + 1) → d ≡ cells (left + 1) (top + 1)
     → (x y : ℕ) → x < 2 → y < 2 → together 1 (dot a) (dot b) (dot c) (dot d) x y ≡ cells (left + x) (top + y)
-dots_window cells left top a b c d e f g h zero zero i j = rw (add-zero, add-zero) e
+dots_window cells left top a b c d e f g h zero zero i j = simp add-zero e
 dots_window cells left top a b c d e f g h (suc zero) zero i j = rw add-zero f
 dots_window cells left top a b c d e f g h zero (suc zero) i j = rw add-zero g
 dots_window cells left top a b c d e f g h (suc zero) (suc zero) i j = h
@@ -97,7 +97,7 @@ window_all new (Ok id) k cells ends h = record {
   has_cells = λ x y.
       elim (below_or_not x (2 ^ k)) [
         | inl p ↦ elim (below_or_not y (2 ^ k)) [
-          | inl q ↦ rw (zero-add, zero-add) at (h.has_cells x y p q)
+          | inl q ↦ simp zero-add at (h.has_cells x y p q)
           | inr q ↦ cell_ends new k id x y (inr q) ∙ sym (ends x y (inr q))
         ]
         | inr p ↦ cell_ends new k id x y (inl p) ∙ sym (ends x y (inl p))

@@ -8,7 +8,7 @@ use crate::named::Named;
 use std::marker::Model;
 
 /// The name of a square in a store. Two squares of a store have one id exactly where level and cells are the same.
-#[derive(Clone, Copy, PartialEq, Eq, Hash, Drop)]
+#[derive(Clone, Copy, Debug, PartialEq, Eq, Hash, Drop)]
 pub struct Id {
     // Below 16 a 2 by 2 square of two states, below 65552 a 4 by 4 one, and else a place in the store.
     number: u64,

@@ -4,7 +4,7 @@ use crate::id::Id;
 
 /// A square that lies on the unbounded plane. One of level k covers x and y from -2^(k-1) to 2^(k-1) - 1.
 /// Every cell outside it is 0.
-#[derive(Clone, Copy, PartialEq, Eq, Drop)]
+#[derive(Clone, Copy, Debug, PartialEq, Eq, Drop)]
 pub struct Tree {
     pub root: Id,
     /// The level of the root, from 1 to 125.
