@@ -5,15 +5,16 @@ use Rattle.std.specs.Option.{option_copied}
 use Rattle.std.specs.Result.{MatchResult, IsErrAnd}
 use Rattle.std.proofs.lemmas.Result.{err_from_is_err_and}
 use Rattle.ca_plane.specs.Plane.{Picture, IsSame}
-use Rattle.ca_rule.specs.declared.rule.Rule.{Rule}
+use Rattle.ca_rule.specs.TableNext.{TableRule}
 use Rattle.ca_rule.specs.declared.fault.RuleFault.{RuleFault}
-use Rattle.ca_rule.specs.Rule.{states_of, next_of, IsSameRule, IsRuleFault}
+use Rattle.ca_rule.specs.declared.table.fault.TableFault.{TableFault}
+use Rattle.ca_rule.specs.Rule.{RuleValue, states_of, next_of, IsSameRule, IsRuleFault}
 use Rattle.ca_rule.proofs.Rules.{same-refl}
 use Rattle.ca_rle.specs.Limits.{IsInRange}
 use Rattle.ca_rle.specs.declared.pattern.Pattern.{Pattern}
 use Rattle.ca_claims.specs.declared.claims.line.Claim.{Claim as ClaimOf}
 use Rattle.ca_claims.specs.declared.verdict.Cause.{Cause}
-use Rattle.ca_claims.specs.declared.verdict.Cause.TheVariants.{NoFile, BadPattern, BadRule, StateTooLarge, MixedRules, Memory}
+use Rattle.ca_claims.specs.declared.verdict.Cause.TheVariants.{NoFile, BadTable, BadPattern, BadRule, StateTooLarge, MixedRules, Memory}
 use Rattle.ca_claims.specs.declared.verdict.Verdict.{Verdict}
 use Rattle.ca_claims.specs.declared.verdict.Verdict.TheVariants.{Yes, No, Refused}
 use Rattle.ca_claims.specs.declared.verifier.one_or_two.OneOrTwo.{OneOrTwo}
@@ -24,8 +25,8 @@ use Rattle.ca_claims.specs.Places.{path_at}
 use Rattle.ca_claims.specs.Means.{bytes_at}
 use Rattle.ca_claims.specs.Truth.{asks_of}
 use Rattle.ca_claims.specs.inner.Decided.{IsDecided}
-use Rattle.ca_claims.specs.Answers.{IsReadable, IsPatternFault, IsRead, IsRuled, HasLargeState, HasSmallStates, IsThere, Reads, HasRule, IsSmall, SomeOf, FirstBad, HaveOtherRules, HasCause, IsGood, IsJudged, IsTrueVerdict}
-use Rattle.ca_claims.specs.inner.Patterns.{items, IsEachOnce, IsReadFrom, IsUnread, HasName, IsRuledAs, AreOfOneRule, AreMixed, ArePlanes}
+use Rattle.ca_claims.specs.Answers.{IsReadable, IsPatternFault, IsQuietTable, IsTableFault, IsRead, IsTableAt, AreTables, IsRuled, HasLargeState, HasSmallStates, IsMissing, IsThere, HasTable, Reads, HasRule, IsSmall, SomeOf, FirstBad, HaveOtherRules, HasCause, IsGood, AreGood, IsTrueVerdict}
+use Rattle.ca_claims.specs.inner.Patterns.{items, IsEachOnce, IsReadFrom, IsUnread, HasName, rule_of, IsRuledAs, AreOfOneRule, AreMixed, ArePlanes}
 use Rattle.ca_claims.proofs.Alike.{true-same, reason-same}
 use Rattle.ca_claims.proofs.ClaimKinds.{asks_about, paths_of}
 use Rattle.ca_claims.proofs.PatternsRead.{IsReadAt, IsRuledAt, in_range, path_has_fault, path_has_rule, path_reads, ruled_at, ruled_has_rule, ruled_is_good, ruled_is_large, ruled_is_small, ruled_picture, ruled_reads, shows_picture, small-listed}
@@ -68,47 +69,95 @@ module _ (files : List (List ℕ × List ℕ)) (paths : List (List ℕ)) (found 
   found_there (i ∷ is) (b ∷ bs) within at = (bytes_found files paths found i (Some b) same within.0 at.0, found_there is bs within.1 at.1)
 
   -- and where one is missing, no file has its path
-  pub found_missing : (places : List ℕ) → AllByRecursion (λ i. i < length found) places → SomeOf (λ i. get_or found i None ≡ None) places → HasCause files (map (path_at paths) places) NoFile
+  pub found_missing : (places : List ℕ) → AllByRecursion (λ i. i < length found) places → SomeOf (λ i. get_or found i None ≡ None) places → SomeOf (IsMissing files) (map (path_at paths) places)
   found_missing [] within some = some
   found_missing (i ∷ is) within (inl here) = inl (bytes_found files paths found i None same within.0 here)
   found_missing (i ∷ is) within (inr later) = inr (found_missing is within.1 later)
 
 -- ---- what is said of each path is said of all
 
+module _ (files : List (List ℕ × List ℕ)) (rules : List (List ℕ)) where
+  cause_twice : (path : List ℕ) (cause : Cause) → HasCause files rules (path ∷ []) cause → HasCause files rules (path ∷ path ∷ []) cause
+  cause_twice path NoFile (inl (inl none)) = inl (inl none)
+  cause_twice path NoFile (inl (inr none)) = absurd none
+  cause_twice path NoFile (inr none) = inr none
+  cause_twice path (BadTable fault) (all, there, first) = ((all.0, (all.0, tt)), there, first)
+  cause_twice path (BadPattern fault) (tables, are, all, inl bad) = (tables, are, (all.0, (all.0, tt)), inl bad)
+  cause_twice path (BadPattern fault) (tables, are, all, inr none) = absurd none.1
+  cause_twice path (BadRule fault) (tables, are, all, inl bad) = (tables, are, (all.0, (all.0, tt)), inl bad)
+  cause_twice path (BadRule fault) (tables, are, all, inr none) = absurd none.1
+  cause_twice path StateTooLarge (tables, are, all, inl large) = (tables, are, (all.0, (all.0, tt)), inl large)
+  cause_twice path StateTooLarge (tables, are, all, inr none) = absurd none
+  cause_twice path MixedRules (tables, are, all, inl (inl mixed)) = (tables, are, (all.0, (all.0, tt)), inl (inl mixed))
+  cause_twice path MixedRules (tables, are, all, inl (inr none)) = absurd none
+  cause_twice path MixedRules (tables, are, all, inr none) = absurd none
+  cause_twice path Memory (tables, are, all, first) = (tables, are, (all.0, (all.0, tt)), first)
+
+  pub cause_of_all : (each all : List (List ℕ)) (cause : Cause) → IsEachOnce each all → HasCause files rules each cause → HasCause files rules all cause
+  cause_of_all each all cause (inl same) h = subst (λ l. HasCause files rules l cause) (sym same) h
+  cause_of_all each all cause (inr (x, e, d)) h = subst (λ l. HasCause files rules l cause) (sym d) (cause_twice x cause (subst (λ l. HasCause files rules l cause) e h))
+
+  -- a cause that `?` passes on
+  pub passed_on : (claim : Claim) (r : Result Verdict Cause) (cause : Cause)
+      → IsErrAnd r (λ passed. passed ≡ cause) → HasCause files rules (patterns_of claim) cause → MatchResult r (IsTrueVerdict files rules claim) (HasCause files rules (patterns_of claim))
+  passed_on claim r cause h holds =
+      let p = err_from_is_err_and r h in
+      subst (λ o. MatchResult o (IsTrueVerdict files rules claim) (HasCause files rules (patterns_of claim))) (sym p.1) (subst (HasCause files rules (patterns_of claim)) (sym p.2) holds)
+
+-- ---- files that are there
+
+-- the files of paths with these bytes are there
+pub all_there : (files : List (List ℕ × List ℕ)) (paths : List (List ℕ)) (there : List (Bor (List ℕ))) → AllZip (λ path b. bytes_at files path ≡ Some b.now) paths there → AllByRecursion (IsThere files) paths
+all_there files = zip_left (λ path b. bytes_at files path ≡ Some b.now) (IsThere files) (λ path b e. (b.now, e))
+
+-- ---- the tables of files that are there
+
+module _ (files : List (List ℕ × List ℕ)) (rules : List (List ℕ)) (there : List (Bor (List ℕ))) (at : AllZip (λ path b. bytes_at files path ≡ Some b.now) rules there) where
+  -- these are the tables of the texts
+  pub are_tables : (tables : List TableRule) → AllZip (λ b t. IsQuietTable b.now t) there tables → AreTables files rules tables
+  are_tables tables = zip_through (λ path b. bytes_at files path ≡ Some b.now) (λ b t. IsQuietTable b.now t) (IsTableAt files) (λ path b t e is. (b.now, e, is)) rules there tables at
+
+  -- or this is the first that is faulty
+  pub first_faulty : (fault : TableFault) → FirstBad (λ b. (table : TableRule) × IsQuietTable b.now table) (λ b. IsTableFault b.now fault) there
+      → FirstBad (HasTable files) (λ p. (bytes : List ℕ) × (bytes_at files p ≡ Some bytes) × IsTableFault bytes fault) rules
+  first_faulty fault =
+      zip_first (λ path b. bytes_at files path ≡ Some b.now) (HasTable files) (λ p. (bytes : List ℕ) × (bytes_at files p ≡ Some bytes) × IsTableFault bytes fault)
+      (λ b. (table : TableRule) × IsQuietTable b.now table) (λ b. IsTableFault b.now fault) (λ path b e has. (has.0, (b.now, e, has.1))) (λ path b e wrong. (b.now, e, wrong)) rules there at
+
+-- ---- patterns that were read
+
 module _ (files : List (List ℕ × List ℕ)) where
-  cause_twice : (path : List ℕ) (cause : Cause) → HasCause files (path ∷ []) cause → HasCause files (path ∷ path ∷ []) cause
-  cause_twice path NoFile (inl none) = inl none
-  cause_twice path NoFile (inr none) = absurd none
-  cause_twice path (BadPattern fault) (all, inl bad) = ((all.0, (all.0, tt)), inl bad)
-  cause_twice path (BadPattern fault) (all, inr none) = absurd none.1
-  cause_twice path (BadRule fault) (all, inl bad) = ((all.0, (all.0, tt)), inl bad)
-  cause_twice path (BadRule fault) (all, inr none) = absurd none.1
-  cause_twice path StateTooLarge (all, inl large) = ((all.0, (all.0, tt)), inl large)
-  cause_twice path StateTooLarge (all, inr none) = absurd none
-  cause_twice path MixedRules (all, inl (inl mixed)) = ((all.0, (all.0, tt)), inl (inl mixed))
-  cause_twice path MixedRules (all, inl (inr none)) = absurd none
-  cause_twice path MixedRules (all, inr none) = absurd none
-  cause_twice path Memory (all, first) = ((all.0, (all.0, tt)), first)
+  -- the patterns of files that were read
+  pub read_at : (paths : List (List ℕ)) (there : List (Bor (List ℕ))) (patterns : List Pattern) → AllZip (λ path b. bytes_at files path ≡ Some b.now) paths there
+      → AllZip (λ b p. IsReadFrom b.now p) there patterns → AllZip (IsReadAt files) paths patterns
+  read_at = zip_through (λ path b. bytes_at files path ≡ Some b.now) (λ b p. IsReadFrom b.now p) (IsReadAt files) (λ path b p e read. record { bytes = b.now; at_path = e; read = read })
 
-  pub cause_of_all : (each all : List (List ℕ)) (cause : Cause) → IsEachOnce each all → HasCause files each cause → HasCause files all cause
-  cause_of_all each all cause (inl same) h = subst (λ l. HasCause files l cause) (sym same) h
-  cause_of_all each all cause (inr (x, e, d)) h = subst (λ l. HasCause files l cause) (sym d) (cause_twice x cause (subst (λ l. HasCause files l cause) e h))
+  module _ (tables : List TableRule) where
+    -- the patterns with the rules that their texts name
+    pub ruled_each : (paths : List (List ℕ)) (patterns : List Pattern) (ruled : List Ruled) → AllZip (IsReadAt files) paths patterns → AllZip (IsRuledAs tables) patterns ruled
+        → AllZip (IsRuledAt files tables) paths ruled
+    ruled_each = zip_through (IsReadAt files) (IsRuledAs tables) (IsRuledAt files tables) (ruled_at files tables)
 
-  judged_of_all : (each all : List (List ℕ)) (cells other : Picture) (rule : Rule) → IsEachOnce each all → IsJudged files each cells other rule → IsJudged files all cells other rule
-  judged_of_all each all cells other rule (inl same) h = subst (λ l. IsJudged files l cells other rule) (sym same) h
-  judged_of_all each all cells other rule (inr (x, e, d)) h =
-      let one = subst (λ l. IsJudged files l cells other rule) e h in
-      let two : IsJudged files (x ∷ x ∷ []) cells other rule = (one.0, rule, subst (λ o. IsGood files x o rule) (sym one.1) one.0, same-refl rule) in
-      subst (λ l. IsJudged files l cells other rule) (sym d) two
+    judged_twice : (path : List ℕ) (cells other : Picture) (rule : RuleValue) → AreGood files tables (path ∷ []) cells other rule → AreGood files tables (path ∷ path ∷ []) cells other rule
+    judged_twice path cells other rule one = (one.0, rule, subst (λ o. IsGood files tables path o rule) (sym one.1) one.0, same-refl rule)
 
-  -- ---- causes
+    judged_of_all : (each all : List (List ℕ)) (cells other : Picture) (rule : RuleValue) → IsEachOnce each all → AreGood files tables each cells other rule → AreGood files tables all cells other rule
+    judged_of_all each all cells other rule (inl same) h = subst (λ l. AreGood files tables l cells other rule) (sym same) h
+    judged_of_all each all cells other rule (inr (x, e, d)) h =
+        subst (λ l. AreGood files tables l cells other rule) (sym d) (judged_twice x cells other rule (subst (λ l. AreGood files tables l cells other rule) e h))
 
+-- ---- causes and verdicts, where the tables are good
+
+module _ (files : List (List ℕ × List ℕ)) (rules : List (List ℕ)) (tables : List TableRule) (are : AreTables files rules tables) where
   -- a file doesn't read, or memory is wanted for it
   pub unread : (paths : List (List ℕ)) (there : List (Bor (List ℕ))) (cause : Cause) → AllZip (λ path b. bytes_at files path ≡ Some b.now) paths there
-      → FirstBad (λ b. IsReadable b.now) (λ b. IsUnread b.now cause) there → HasCause files paths cause
+      → FirstBad (λ b. IsReadable b.now) (λ b. IsUnread b.now cause) there → HasCause files rules paths cause
   unread paths there NoFile at first = absurd (none_bad (λ b. IsReadable b.now) there first)
+  unread paths there (BadTable fault) at first = absurd (none_bad (λ b. IsReadable b.now) there first)
   unread paths there (BadPattern fault) at first = (
-    zip_left (λ path b. bytes_at files path ≡ Some b.now) (IsThere files) (λ path b e. (b.now, e)) paths there at,
+    tables,
+    are,
+    all_there files paths there at,
     zip_first (λ path b. bytes_at files path ≡ Some b.now) (Reads files) (λ path. (bytes : List ℕ) × (bytes_at files path ≡ Some bytes) × IsPatternFault bytes fault)
         (λ b. IsReadable b.now) (λ b. IsPatternFault b.now fault) (λ path b e reads. (b.now, e, reads)) (λ path b e wrong. (b.now, e, wrong)) paths there at first,
   )
@@ -116,81 +165,86 @@ module _ (files : List (List ℕ × List ℕ)) where
   unread paths there StateTooLarge at first = absurd (none_bad (λ b. IsReadable b.now) there first)
   unread paths there MixedRules at first = absurd (none_bad (λ b. IsReadable b.now) there first)
   unread paths there Memory at first = (
-    zip_left (λ path b. bytes_at files path ≡ Some b.now) (IsThere files) (λ path b e. (b.now, e)) paths there at,
+    tables,
+    are,
+    all_there files paths there at,
     zip_head (λ path b. bytes_at files path ≡ Some b.now) (Reads files) (λ b. IsReadable b.now) (λ path b e reads. (b.now, e, reads)) paths there at first,
   )
 
-  -- the patterns of files that were read
-  pub read_at : (paths : List (List ℕ)) (there : List (Bor (List ℕ))) (patterns : List Pattern) → AllZip (λ path b. bytes_at files path ≡ Some b.now) paths there
-      → AllZip (λ b p. IsReadFrom b.now p) there patterns → AllZip (IsReadAt files) paths patterns
-  read_at = zip_through (λ path b. bytes_at files path ≡ Some b.now) (λ b p. IsReadFrom b.now p) (IsReadAt files) (λ path b p e read. record { bytes = b.now; at_path = e; read = read })
+  -- a rule text names no rule
+  pub unnamed : (paths : List (List ℕ)) (patterns : List Pattern) (fault : RuleFault) → AllZip (IsReadAt files) paths patterns
+      → FirstBad (HasName tables) (λ p. IsRuleFault p.rule_text.items tables fault) patterns → HasCause files rules paths (BadRule fault)
+  unnamed paths patterns fault read first = (
+    tables,
+    are,
+    zip_left (IsReadAt files) (Reads files) (path_reads files) paths patterns read,
+    zip_first (IsReadAt files) (HasRule files tables) (λ path. (cells : Picture) × (text : List ℕ) × IsRead files path cells text × IsRuleFault text tables fault)
+        (HasName tables) (λ p. IsRuleFault p.rule_text.items tables fault) (λ path p at. path_has_rule files path p at tables) (λ path p at. path_has_fault files path p at tables fault) paths patterns read first,
+  )
 
-  module _ (paths : List (List ℕ)) (patterns : List Pattern) (read : AllZip (IsReadAt files) paths patterns) where
-    -- a rule text names no rule
-    pub unnamed : (fault : RuleFault) → FirstBad HasName (λ p. IsRuleFault p.rule_text.items fault) patterns → HasCause files paths (BadRule fault)
-    unnamed fault first = (
-      zip_left (IsReadAt files) (Reads files) (path_reads files) paths patterns read,
-      zip_first (IsReadAt files) (HasRule files) (λ path. (cells : Picture) × (text : List ℕ) × IsRead files path cells text × IsRuleFault text fault)
-          HasName (λ p. IsRuleFault p.rule_text.items fault) (path_has_rule files) (λ path p at. path_has_fault files path p at fault) paths patterns read first,
-    )
-
-  -- the patterns with the rules that their texts name
-  pub ruled_each : (paths : List (List ℕ)) (patterns : List Pattern) (ruled : List Ruled) → AllZip (IsReadAt files) paths patterns → AllZip IsRuledAs patterns ruled → AllZip (IsRuledAt files) paths ruled
-  ruled_each = zip_through (IsReadAt files) IsRuledAs (IsRuledAt files) (ruled_at files)
-
-  module _ (paths : List (List ℕ)) (patterns : List Ruled) (ruled : AllZip (IsRuledAt files) paths patterns) where
+  module _ (paths : List (List ℕ)) (patterns : List Ruled) (ruled : AllZip (IsRuledAt files tables) paths patterns) where
     -- a state is too large
-    pub too_large : SomeOf (λ r. HasLargeState r.rule r.pattern.cells) patterns → HasCause files paths StateTooLarge
+    pub too_large : SomeOf (λ r. HasLargeState (rule_of r) r.pattern.cells) patterns → HasCause files rules paths StateTooLarge
     too_large some = (
-      zip_left (IsRuledAt files) (HasRule files) (ruled_has_rule files) paths patterns ruled,
-      zip_some (IsRuledAt files) (λ path. (cells : Picture) × (rule : Rule) × IsRuled files path cells rule × HasLargeState rule cells)
-          (λ r. HasLargeState r.rule r.pattern.cells) (ruled_is_large files) paths patterns ruled some,
+      tables,
+      are,
+      zip_left (IsRuledAt files tables) (HasRule files tables) (ruled_has_rule files tables) paths patterns ruled,
+      zip_some (IsRuledAt files tables) (λ path. (cells : Picture) × (rule : RuleValue) × IsRuled files tables path cells rule × HasLargeState rule cells)
+          (λ r. HasLargeState (rule_of r) r.pattern.cells) (ruled_is_large files tables) paths patterns ruled some,
     )
 
-    all_small : AllByRecursion (λ r. HasSmallStates r.rule r.pattern.cells) patterns → AllByRecursion (IsSmall files) paths
+    all_small : AllByRecursion (λ r. HasSmallStates (rule_of r) r.pattern.cells) patterns → AllByRecursion (IsSmall files tables) paths
     all_small small =
-        zip_left (λ path r. IsRuledAt files path r × HasSmallStates r.rule r.pattern.cells) (IsSmall files) (λ path r h. ruled_is_small files path r h.0 h.1) paths patterns
-        (zip_beside (IsRuledAt files) (λ r. HasSmallStates r.rule r.pattern.cells) paths patterns ruled small)
+        zip_left (λ path r. IsRuledAt files tables path r × HasSmallStates (rule_of r) r.pattern.cells) (IsSmall files tables) (λ path r h. ruled_is_small files tables path r h.0 h.1) paths patterns
+        (zip_beside (IsRuledAt files tables) (λ r. HasSmallStates (rule_of r) r.pattern.cells) paths patterns ruled small)
 
   -- the first two patterns have different rules
-  other_rules : (paths : List (List ℕ)) (patterns : List Ruled) → AllZip (IsRuledAt files) paths patterns → AreMixed patterns → SomeOf (λ p. SomeOf (HaveOtherRules files p) paths) paths
+  other_rules : (paths : List (List ℕ)) (patterns : List Ruled) → AllZip (IsRuledAt files tables) paths patterns → AreMixed patterns → SomeOf (λ p. SomeOf (HaveOtherRules files tables p) paths) paths
   other_rules paths [] ruled mixed = absurd mixed
   other_rules paths (a ∷ []) ruled mixed = absurd mixed
   other_rules [] (a ∷ b ∷ patterns) ruled mixed = absurd ruled
   other_rules (p ∷ []) (a ∷ b ∷ patterns) ruled mixed = absurd ruled.1
   other_rules (p ∷ q ∷ paths) (a ∷ b ∷ patterns) ruled mixed =
-      inl (inr (inl (ruled_picture files p a ruled.0, a.rule, ruled_picture files q b ruled.1.0, b.rule, ruled_reads files p a ruled.0, ruled_reads files q b ruled.1.0, mixed)))
+      inl (inr (inl (
+        ruled_picture files tables p a ruled.0,
+        rule_of a,
+        ruled_picture files tables q b ruled.1.0,
+        rule_of b,
+        ruled_reads files tables p a ruled.0,
+        ruled_reads files tables q b ruled.1.0,
+        mixed,
+      )))
 
-  pub mixed_rules : (paths : List (List ℕ)) (patterns : List Ruled) → AllZip (IsRuledAt files) paths patterns
-      → AllByRecursion (λ r. HasSmallStates r.rule r.pattern.cells) patterns → AreMixed patterns → HasCause files paths MixedRules
-  mixed_rules paths patterns ruled small mixed = (all_small paths patterns ruled small, other_rules paths patterns ruled mixed)
+  pub mixed_rules : (paths : List (List ℕ)) (patterns : List Ruled) → AllZip (IsRuledAt files tables) paths patterns
+      → AllByRecursion (λ r. HasSmallStates (rule_of r) r.pattern.cells) patterns → AreMixed patterns → HasCause files rules paths MixedRules
+  mixed_rules paths patterns ruled small mixed = (tables, are, all_small paths patterns ruled small, other_rules paths patterns ruled mixed)
 
   -- ---- verdicts
 
-  -- no cause holds: the planes show what the files mean
-  record IsShown (paths : List (List ℕ)) (cells other : Picture) (rule : Rule) : Type 0 where
+  -- the planes show what the files mean
+  record IsShown (paths : List (List ℕ)) (cells other : Picture) (rule : RuleValue) : Type 0 where
     shown : Picture
     other_shown : Picture
     same : IsSame cells shown
     other_same : IsSame other other_shown
-    judged : IsJudged files paths shown other_shown rule
+    judged : AreGood files tables paths shown other_shown rule
 
   -- a plane is that of a pattern
-  plane_shown : (path : List ℕ) (a : Ruled) (at : IsRuledAt files path a) (cells : Picture) → cells ≡ a.pattern.cells → IsSame cells (ruled_picture files path a at)
-  plane_shown path a at cells e = subst (λ l. IsSame l (ruled_picture files path a at)) (sym e) (shows_picture files path a.pattern at.read_at)
+  plane_shown : (path : List ℕ) (a : Ruled) (at : IsRuledAt files tables path a) (cells : Picture) → cells ≡ a.pattern.cells → IsSame cells (ruled_picture files tables path a at)
+  plane_shown path a at cells e = subst (λ l. IsSame l (ruled_picture files tables path a at)) (sym e) (shows_picture files path a.pattern at.read_at)
 
   -- whose rule is this one
-  good_under : (path : List ℕ) (a : Ruled) (at : IsRuledAt files path a) (rule : Rule) → rule ≡ a.rule → HasSmallStates a.rule a.pattern.cells → IsGood files path (ruled_picture files path a at) rule
-  good_under path a at rule e small = subst (IsGood files path (ruled_picture files path a at)) (sym e) (ruled_is_good files path a at small)
+  good_under : (path : List ℕ) (a : Ruled) (at : IsRuledAt files tables path a) (rule : RuleValue) → rule ≡ rule_of a → HasSmallStates (rule_of a) a.pattern.cells → IsGood files tables path (ruled_picture files tables path a at) rule
+  good_under path a at rule e small = subst (IsGood files tables path (ruled_picture files tables path a at)) (sym e) (ruled_is_good files tables path a at small)
 
-  all_shown : (paths : List (List ℕ)) (patterns : OneOrTwo Ruled) (cells other : Picture) (rule : Rule) → AllZip (IsRuledAt files) paths (items patterns)
-      → AllByRecursion (λ r. HasSmallStates r.rule r.pattern.cells) (items patterns) → AreOfOneRule (items patterns) rule → ArePlanes (items patterns) cells other
+  all_shown : (paths : List (List ℕ)) (patterns : OneOrTwo Ruled) (cells other : Picture) (rule : RuleValue) → AllZip (IsRuledAt files tables) paths (items patterns)
+      → AllByRecursion (λ r. HasSmallStates (rule_of r) r.pattern.cells) (items patterns) → AreOfOneRule (items patterns) rule → ArePlanes (items patterns) cells other
       → IsShown paths cells other rule
   all_shown [] (One a) cells other rule ruled small one planes = absurd ruled
   all_shown (p ∷ q ∷ paths) (One a) cells other rule ruled small one planes = absurd ruled.1
   all_shown (p ∷ []) (One a) cells other rule ruled small one planes = record {
-    shown = ruled_picture files p a ruled.0;
-    other_shown = ruled_picture files p a ruled.0;
+    shown = ruled_picture files tables p a ruled.0;
+    other_shown = ruled_picture files tables p a ruled.0;
     same = plane_shown p a ruled.0 cells planes.0;
     other_same = plane_shown p a ruled.0 other planes.1;
     judged = (good_under p a ruled.0 rule one small.0, refl);
@@ -199,76 +253,69 @@ module _ (files : List (List ℕ × List ℕ)) where
   all_shown (p ∷ []) (Two a b) cells other rule ruled small one planes = absurd ruled.1
   all_shown (p ∷ q ∷ o ∷ paths) (Two a b) cells other rule ruled small one planes = absurd ruled.1.1
   all_shown (p ∷ q ∷ []) (Two a b) cells other rule ruled small one planes = record {
-    shown = ruled_picture files p a ruled.0;
-    other_shown = ruled_picture files q b ruled.1.0;
+    shown = ruled_picture files tables p a ruled.0;
+    other_shown = ruled_picture files tables q b ruled.1.0;
     same = plane_shown p a ruled.0 cells planes.0;
     other_same = plane_shown q b ruled.1.0 other planes.1;
     judged = (
       good_under p a ruled.0 rule one.0 small.0,
-      b.rule,
-      ruled_is_good files q b ruled.1.0 small.1.0,
-      subst (λ r. IsSameRule r b.rule) (sym one.0) one.1,
+      rule_of b,
+      ruled_is_good files tables q b ruled.1.0 small.1.0,
+      subst (λ r. IsSameRule r (rule_of b)) (sym one.0) one.1,
     );
   }
 
   -- a claim that is judged may want memory
-  good_reads : (path : List ℕ) (cells : Picture) (rule : Rule) → IsGood files path cells rule → Reads files path
+  good_reads : (path : List ℕ) (cells : Picture) (rule : RuleValue) → IsGood files tables path cells rule → Reads files path
   good_reads path cells rule good = let read = good.ruled.1 in (read.bytes, read.at_path, read.readable)
 
-  memory_wanted : (paths : List (List ℕ)) (cells other : Picture) (rule : Rule) → IsJudged files paths cells other rule → HasCause files paths Memory
+  memory_wanted : (paths : List (List ℕ)) (cells other : Picture) (rule : RuleValue) → AreGood files tables paths cells other rule → HasCause files rules paths Memory
   memory_wanted [] cells other rule judged = absurd judged
-  memory_wanted (p ∷ []) cells other rule judged = let reads = good_reads p cells rule judged.0 in (((reads.0, reads.1), tt), reads)
+  memory_wanted (p ∷ []) cells other rule judged = let reads = good_reads p cells rule judged.0 in (tables, are, ((reads.0, reads.1), tt), reads)
   memory_wanted (p ∷ q ∷ []) cells other rule judged =
       let reads = good_reads p cells rule judged.0 in
       let second = good_reads q other judged.1 judged.2 in
-      (((reads.0, reads.1), ((second.0, second.1), tt)), reads)
+      (tables, are, ((reads.0, reads.1), ((second.0, second.1), tt)), reads)
   memory_wanted (p ∷ q ∷ r ∷ paths) cells other rule judged = absurd judged
 
   -- what is decided of cells is true of the pictures that show the same
-  decided_true : (claim : Claim) (cells shown other other_shown : Picture) (rule : Rule) (verdict : Verdict)
-      → IsSame cells shown → IsSame other other_shown → IsJudged files (patterns_of claim) shown other_shown rule
-      → IsDecided (next_of rule) cells other (asks_of claim) verdict → IsTrueVerdict files claim verdict
+  decided_true : (claim : Claim) (cells shown other other_shown : Picture) (rule : RuleValue) (verdict : Verdict)
+      → IsSame cells shown → IsSame other other_shown → AreGood files tables (patterns_of claim) shown other_shown rule
+      → IsDecided (next_of rule) cells other (asks_of claim) verdict → IsTrueVerdict files rules claim verdict
   decided_true claim cells shown other other_shown rule Yes same others judged decided =
-      (shown, other_shown, rule, judged, true-same (next_of rule) cells shown same other other_shown others (asks_of claim) decided)
+      (shown, other_shown, rule, (tables, are, judged), true-same (next_of rule) cells shown same other other_shown others (asks_of claim) decided)
   decided_true claim cells shown other other_shown rule (No why) same others judged decided =
-      (shown, other_shown, rule, judged, reason-same (next_of rule) cells shown same other other_shown others (asks_of claim) why decided)
+      (shown, other_shown, rule, (tables, are, judged), reason-same (next_of rule) cells shown same other other_shown others (asks_of claim) why decided)
   decided_true claim cells shown other other_shown rule (Refused cause) same others judged decided =
-      subst (HasCause files (patterns_of claim)) (sym decided) (memory_wanted (patterns_of claim) shown other_shown rule judged)
+      subst (HasCause files rules (patterns_of claim)) (sym decided) (memory_wanted (patterns_of claim) shown other_shown rule judged)
 
-  pub true_verdict : (at : List (List ℕ)) (claim : ClaimOf ℕ) (paths : List (List ℕ)) (patterns : OneOrTwo Ruled) (cells other : Picture) (rule : Rule) (verdict : Verdict)
-      → IsEachOnce paths (patterns_of (about (path_at at) claim)) → AllZip (IsRuledAt files) paths (items patterns)
-      → AllByRecursion (λ r. HasSmallStates r.rule r.pattern.cells) (items patterns) → AreOfOneRule (items patterns) rule → ArePlanes (items patterns) cells other
-      → IsDecided (next_of rule) cells other (asks_of claim) verdict → IsTrueVerdict files (about (path_at at) claim) verdict
+  pub true_verdict : (at : List (List ℕ)) (claim : ClaimOf ℕ) (paths : List (List ℕ)) (patterns : OneOrTwo Ruled) (cells other : Picture) (rule : RuleValue) (verdict : Verdict)
+      → IsEachOnce paths (patterns_of (about (path_at at) claim)) → AllZip (IsRuledAt files tables) paths (items patterns)
+      → AllByRecursion (λ r. HasSmallStates (rule_of r) r.pattern.cells) (items patterns) → AreOfOneRule (items patterns) rule → ArePlanes (items patterns) cells other
+      → IsDecided (next_of rule) cells other (asks_of claim) verdict → IsTrueVerdict files rules (about (path_at at) claim) verdict
   true_verdict at claim paths patterns cells other rule verdict once ruled small one planes decided =
       let all = all_shown paths patterns cells other rule ruled small one planes in
       decided_true (about (path_at at) claim) cells all.shown other all.other_shown rule verdict all.same all.other_same
-      (judged_of_all paths (patterns_of (about (path_at at) claim)) all.shown all.other_shown rule once all.judged)
+      (judged_of_all files tables paths (patterns_of (about (path_at at) claim)) all.shown all.other_shown rule once all.judged)
       (subst (λ asks. IsDecided (next_of rule) cells other asks verdict) (sym (asks_about (path_at at) claim)) decided)
-
-  -- a cause that `?` passes on
-  pub passed_on : (claim : Claim) (r : Result Verdict Cause) (cause : Cause)
-      → IsErrAnd r (λ passed. passed ≡ cause) → HasCause files (patterns_of claim) cause → MatchResult r (IsTrueVerdict files claim) (HasCause files (patterns_of claim))
-  passed_on claim r cause h holds =
-      let p = err_from_is_err_and r h in
-      subst (λ o. MatchResult o (IsTrueVerdict files claim) (HasCause files (patterns_of claim))) (sym p.1) (subst (HasCause files (patterns_of claim)) (sym p.2) holds)
 
 -- ---- the planes that are judged
 
 -- they are those of patterns that were read
-pub ruled_from : (there : List (Bor (List ℕ))) (patterns : List Pattern) (ruled : List Ruled) → AllZip (λ b p. IsReadFrom b.now p) there patterns → AllZip IsRuledAs patterns ruled
+pub ruled_from : (there : List (Bor (List ℕ))) (patterns : List Pattern) (tables : List TableRule) (ruled : List Ruled) → AllZip (λ b p. IsReadFrom b.now p) there patterns → AllZip (IsRuledAs tables) patterns ruled
     → AllZip (λ b r. IsReadFrom b.now r.pattern) there ruled
-ruled_from =
-    zip_through (λ b p. IsReadFrom b.now p) IsRuledAs (λ b r. IsReadFrom b.now r.pattern) (λ b p r read kept. subst (IsReadFrom b.now) (sym kept.0) read)
+ruled_from there patterns tables ruled =
+    zip_through (λ b p. IsReadFrom b.now p) (IsRuledAs tables) (λ b r. IsReadFrom b.now r.pattern) (λ b p r read kept. subst (IsReadFrom b.now) (sym kept.0) read) there patterns ruled
 
 -- the states of the first are small
-first_small : (a : Ruled) (b : Bor (List ℕ)) (cells : Picture) (rule : Rule) → IsReadFrom b.now a.pattern → HasSmallStates a.rule a.pattern.cells → rule ≡ a.rule → cells ≡ a.pattern.cells
+first_small : (a : Ruled) (b : Bor (List ℕ)) (cells : Picture) (rule : RuleValue) → IsReadFrom b.now a.pattern → HasSmallStates (rule_of a) a.pattern.cells → rule ≡ rule_of a → cells ≡ a.pattern.cells
     → All (λ e. e.1 < states_of rule) cells
 first_small a b cells rule read small of_rule of_cells =
-    subst (λ r. All (λ e. e.1 < states_of r) cells) (sym of_rule) (subst (All (λ e. e.1 < states_of a.rule)) (sym of_cells) (small-listed a.rule a.pattern.cells read.sparse small))
+    subst (λ r. All (λ e. e.1 < states_of r) cells) (sym of_rule) (subst (All (λ e. e.1 < states_of (rule_of a))) (sym of_cells) (small-listed (rule_of a) a.pattern.cells read.sparse small))
 
 -- so those of a claim's pattern are
-pub planes_small : (patterns : OneOrTwo Ruled) (there : List (Bor (List ℕ))) (cells other : Picture) (rule : Rule) → AllZip (λ b r. IsReadFrom b.now r.pattern) there (items patterns)
-    → AllByRecursion (λ r. HasSmallStates r.rule r.pattern.cells) (items patterns) → AreOfOneRule (items patterns) rule → ArePlanes (items patterns) cells other → All (λ e. e.1 < states_of rule) cells
+pub planes_small : (patterns : OneOrTwo Ruled) (there : List (Bor (List ℕ))) (cells other : Picture) (rule : RuleValue) → AllZip (λ b r. IsReadFrom b.now r.pattern) there (items patterns)
+    → AllByRecursion (λ r. HasSmallStates (rule_of r) r.pattern.cells) (items patterns) → AreOfOneRule (items patterns) rule → ArePlanes (items patterns) cells other → All (λ e. e.1 < states_of rule) cells
 planes_small (One a) [] cells other rule read small one planes = absurd read
 planes_small (One a) (b ∷ bs) cells other rule read small one planes = first_small a b cells rule read.0 small.0 one planes.0
 planes_small (Two a c) [] cells other rule read small one planes = absurd read

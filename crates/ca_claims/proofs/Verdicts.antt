@@ -1,15 +1,17 @@
 -- A file has one meaning, and a claim one kind of true verdict.
-use Rattle.std.proofs.Common.{◌≡◌, ◌≢◌, ℕ, zero, suc, ◌+◌, ◌-◌, ◌≤◌, ◌<◌, List, [], ◌∷◌, Some, None, refl, sym, ap, subst, ◌∙◌, inl, inr, arith}
+use Rattle.std.proofs.Common.{◌≡◌, ◌≢◌, ℕ, zero, suc, ◌+◌, ◌-◌, ◌≤◌, ◌<◌, List, [], ◌∷◌, Some, refl, sym, ap, subst, ◌∙◌, inl, inr, arith}
 use Rattle.std.specs.Prelude.{ℤ}
 use Rattle.std.specs.List.{AllByRecursion}
 use Rattle.std.proofs.lemmas.Bool.{cases_order}
 use Rattle.std.proofs.lemmas.Option.{same_Some, none-some}
 use Rattle.ca_plane.specs.Plane.{Picture, cell, shifted}
 use Rattle.ca_plane.specs.Generations.{after, IsAfter}
-use Rattle.ca_rule.specs.declared.rule.Rule.{Rule}
+use Rattle.ca_rule.specs.TableNext.{TableRule}
+use Rattle.ca_rule.specs.declared.table.fault.TableFault.{TableFault}
 use Rattle.ca_rule.specs.declared.fault.RuleFault.{RuleFault}
-use Rattle.ca_rule.specs.Rule.{states_of, next_of, IsSameRule, NamesRule, IsRuleFault}
-use Rattle.ca_rule.proofs.Rules.{same-refl, same-sym, same-trans, same-states, same-next, named-once, named-faultless, one-rule-fault}
+use Rattle.ca_rule.specs.Rule.{RuleValue, states_of, next_of, IsSameRule, NamesRule, IsRuleFault}
+use Rattle.ca_rule.proofs.Rules.{same-refl, same-sym, named-once, named-faultless, one-rule-fault}
+use Rattle.ca_rule.proofs.OneTable.{one_table, none_of_a_table, one_fault as one_table_fault}
 use Rattle.ca_rle.specs.Shown.{picture_of}
 use Rattle.ca_rle.specs.Faults as rle_faults
 use Rattle.ca_rle.proofs.OneFile.{one_file}
@@ -20,17 +22,30 @@ use Rattle.ca_claims.specs.declared.verdict.Why.TheVariants.{Empty, Differs, Ear
 use Rattle.ca_claims.specs.declared.verdict.PatternFault.{PatternFault}
 use Rattle.ca_claims.specs.declared.verdict.PatternFault.TheVariants as pattern_fault
 use Rattle.ca_claims.specs.declared.verdict.Cause.{Cause}
-use Rattle.ca_claims.specs.declared.verdict.Cause.TheVariants.{NoFile, BadPattern, BadRule, StateTooLarge, MixedRules, Memory}
+use Rattle.ca_claims.specs.declared.verdict.Cause.TheVariants.{NoFile, BadTable, BadPattern, BadRule, StateTooLarge, MixedRules, Memory}
 use Rattle.ca_claims.specs.declared.claims.asks.Asks.{Asks}
 use Rattle.ca_claims.specs.declared.claims.asks.Barred.{Barred}
 use Rattle.ca_claims.specs.declared.claims.asks.Barred.TheVariants.{Nothing, InPlace, Anywhere}
 use Rattle.ca_claims.specs.Means.{Means, bytes_at}
 use Rattle.ca_claims.specs.Truth.{IsNotBack, MayReturnBy, IsTrueClaim, IsReason}
-use Rattle.ca_claims.specs.Answers.{IsPatternFault, IsRead, IsRuled, IsThere, Reads, HasRule, IsSmall, HasLargeState, SomeOf, FirstBad, HaveOtherRules, HasCause, IsGood, IsJudged}
+use Rattle.ca_claims.specs.Answers.{IsPatternFault, IsQuietTable, IsTableFault, IsRead, IsTableAt, AreTables, IsRuled, IsMissing, IsThere, HasTable, Reads, HasRule, IsSmall, HasLargeState, SomeOf, FirstBad, HaveOtherRules, HasCause, IsGood, AreGood, IsJudged}
+use Rattle.ca_claims.proofs.Zipped.{zip_left}
+
+-- the file of the path has this fault as the text of a table
+abbrev IsBadTable : List (List ℕ × List ℕ) → TableFault → List ℕ → Type 0
+IsBadTable files fault path = (bytes : List ℕ) × (bytes_at files path ≡ Some bytes) × IsTableFault bytes fault
+
+-- as that of a pattern
+abbrev IsBad : List (List ℕ × List ℕ) → PatternFault → List ℕ → Type 0
+IsBad files fault path = (bytes : List ℕ) × (bytes_at files path ≡ Some bytes) × IsPatternFault bytes fault
+
+-- its rule text has this fault
+abbrev IsUnnamed : List (List ℕ × List ℕ) → List TableRule → RuleFault → List ℕ → Type 0
+IsUnnamed files tables fault path = (cells : Picture) × (text : List ℕ) × IsRead files path cells text × IsRuleFault text tables fault
 
 -- some state of the pattern is too large for its rule
-abbrev IsLarge : List (List ℕ × List ℕ) → List ℕ → Type 0
-IsLarge files path = (cells : Picture) × (rule : Rule) × IsRuled files path cells rule × HasLargeState rule cells
+abbrev IsLarge : List (List ℕ × List ℕ) → List TableRule → List ℕ → Type 0
+IsLarge files tables path = (cells : Picture) × (rule : RuleValue) × IsRuled files tables path cells rule × HasLargeState rule cells
 
 -- ---- a claim is true or there is a reason against it, not both
 
@@ -63,49 +78,80 @@ module _ (files : List (List ℕ × List ℕ)) (path : List ℕ) where
       let one = one_meaning b.bytes p q t u a.generation b.generation (subst (λ l. Means l p t a.generation) bytes a.means) b.means in
       (one.0, one.1)
 
-  -- and has one rule
-  one_ruled : (p q : Picture) (r s : Rule) → IsRuled files path p r → IsRuled files path q s → (p ≡ q) × IsSameRule r s
-  one_ruled p q r s a b =
-      let one = one_read p q a.0 b.0 a.1 b.1 in
-      (one.0, named-once b.0 r s (subst (λ t. NamesRule t r) one.1 a.2) b.2)
-
   -- ---- a path is good or bad, not both
 
-  there_or_none : IsThere files path → bytes_at files path ≡ None → ⊥
+  there_or_none : IsThere files path → IsMissing files path → ⊥
   there_or_none a none = none-some a.0 (sym none ∙ a.1)
 
-  reads_or_fault : (fault : PatternFault) → Reads files path → (bytes : List ℕ) × (bytes_at files path ≡ Some bytes) × IsPatternFault bytes fault → ⊥
+  -- the file of a path is one table
+  one_table_at : (t u : TableRule) → IsTableAt files path t → IsTableAt files path u → t ≡ u
+  one_table_at t u (bytes, at, a) (others, there, b) =
+      let same : bytes ≡ others = same_Some bytes others (sym at ∙ there) in
+      one_table others t u (subst (λ l. IsQuietTable l t) same a).0 b.0
+
+  table_or_fault : (fault : TableFault) → HasTable files path → IsBadTable files fault path → ⊥
+  table_or_fault fault (t, (bytes, at, a)) (others, there, wrong) =
+      let same : bytes ≡ others = same_Some bytes others (sym at ∙ there) in
+      let quiet = subst (λ l. IsQuietTable l t) same a in
+      elim (none_of_a_table others t fault quiet.0 wrong.1) [ inl memory ↦ wrong.0 memory | inr wakes ↦ wakes.1 quiet.1 ]
+
+  one_bad_table : (f g : TableFault) → IsBadTable files f path → IsBadTable files g path → f ≡ g
+  one_bad_table f g (bytes, at, wrong) (others, there, bad) =
+      let same : bytes ≡ others = same_Some bytes others (sym at ∙ there) in
+      let wrong_too = subst (λ l. IsTableFault l f) same wrong in
+      one_table_fault others f g wrong_too.0 bad.0 wrong_too.1 bad.1
+
+  reads_or_fault : (fault : PatternFault) → Reads files path → IsBad files fault path → ⊥
   reads_or_fault (pattern_fault.Rle fault) a (bytes, at, wrong) =
       let same : bytes ≡ a.0 = same_Some bytes a.0 (sym at ∙ a.1) in
       no_fault_within_limits a.0 a.2.0 fault a.2.1 a.2.2 wrong.0 (subst (λ l. rle_faults.IsFaultOf l fault) same wrong.1)
   reads_or_fault pattern_fault.Memory a (bytes, at, wrong) = wrong
 
-  named_or_fault : (fault : RuleFault) → HasRule files path → (cells : Picture) × (text : List ℕ) × IsRead files path cells text × IsRuleFault text fault → ⊥
-  named_or_fault fault a (cells, text, read, wrong) =
-      let one = one_read a.0 cells a.2.0 text a.2.1 read in
-      named-faultless text a.1 fault (subst (λ t. NamesRule t a.1) one.1 a.2.2) wrong
-
-  small_or_large : IsSmall files path → IsLarge files path → ⊥
-  small_or_large a (cells, rule, ruled, (x, y, large)) =
-      let one = one_ruled a.0 cells a.1 rule a.2 ruled in
-      let few : cell cells x y < states_of a.1 = subst (λ p. cell p x y < states_of a.1) one.0 (a.3 x y) in
-      let small : cell cells x y < states_of rule = subst (λ n. cell cells x y < n) (same-states a.1 rule one.1) few in
-      omega arith
-
-  -- ---- and has one fault
-
-  one_pattern_fault : (f g : PatternFault) → (bytes : List ℕ) × (bytes_at files path ≡ Some bytes) × IsPatternFault bytes f
-      → (bytes : List ℕ) × (bytes_at files path ≡ Some bytes) × IsPatternFault bytes g → f ≡ g
+  one_pattern_fault : (f g : PatternFault) → IsBad files f path → IsBad files g path → f ≡ g
   one_pattern_fault (pattern_fault.Rle f) (pattern_fault.Rle g) (bytes, at, wrong) (others, there, bad) =
       let same : bytes ≡ others = same_Some bytes others (sym at ∙ there) in
       ap pattern_fault.Rle (one_fault others f g wrong.0 bad.0 (subst (λ l. rle_faults.IsFaultOf l f) same wrong.1) bad.1)
   one_pattern_fault pattern_fault.Memory g (bytes, at, wrong) (others, there, bad) = absurd wrong
   one_pattern_fault (pattern_fault.Rle f) pattern_fault.Memory (bytes, at, wrong) (others, there, bad) = absurd bad
 
-  one_rule_fault : (f g : RuleFault) → (cells : Picture) × (text : List ℕ) × IsRead files path cells text × IsRuleFault text f
-      → (cells : Picture) × (text : List ℕ) × IsRead files path cells text × IsRuleFault text g → f ≡ g
-  one_rule_fault f g (p, t, read, wrong) (q, u, other, bad) =
-      one-rule-fault u f g (subst (λ l. IsRuleFault l f) (one_read p q t u read other).1 wrong) bad
+  module _ (tables : List TableRule) where
+    -- the pattern of a path has one rule
+    one_ruled : (p q : Picture) (r s : RuleValue) → IsRuled files tables path p r → IsRuled files tables path q s → (p ≡ q) × (r ≡ s)
+    one_ruled p q r s a b =
+        let one = one_read p q a.0 b.0 a.1 b.1 in
+        (one.0, named-once b.0 tables r s (subst (λ t. NamesRule t tables r) one.1 a.2) b.2)
+
+    named_or_fault : (fault : RuleFault) → HasRule files tables path → IsUnnamed files tables fault path → ⊥
+    named_or_fault fault a (cells, text, read, wrong) =
+        let one = one_read a.0 cells a.2.0 text a.2.1 read in
+        named-faultless text tables a.1 fault (subst (λ t. NamesRule t tables a.1) one.1 a.2.2) wrong
+
+    one_rule_fault : (f g : RuleFault) → IsUnnamed files tables f path → IsUnnamed files tables g path → f ≡ g
+    one_rule_fault f g (p, t, read, wrong) (q, u, other, bad) =
+        one-rule-fault u tables f g (subst (λ l. IsRuleFault l tables f) (one_read p q t u read other).1 wrong) bad
+
+    small_or_large : IsSmall files tables path → IsLarge files tables path → ⊥
+    small_or_large a (cells, rule, ruled, (x, y, large)) =
+        let one = one_ruled a.0 cells a.1 rule a.2 ruled in
+        let few : cell cells x y < states_of a.1 = subst (λ p. cell p x y < states_of a.1) one.0 (a.3 x y) in
+        let small : cell cells x y < states_of rule = subst (λ r. cell cells x y < states_of r) one.1 few in
+        omega arith
+
+-- the files of paths are one list of tables
+one_tables : (files : List (List ℕ × List ℕ)) (rules : List (List ℕ)) (ts us : List TableRule) → AreTables files rules ts → AreTables files rules us → ts ≡ us
+one_tables files [] [] [] a b = refl
+one_tables files [] (t ∷ ts) us a b = absurd a
+one_tables files [] [] (u ∷ us) a b = absurd b
+one_tables files (r ∷ rs) [] us a b = absurd a
+one_tables files (r ∷ rs) (t ∷ ts) [] a b = absurd b
+one_tables files (r ∷ rs) (t ∷ ts) (u ∷ us) a b =
+    let head = one_table_at files r t u a.0 b.0 in
+    let tail = one_tables files rs ts us a.1 b.1 in
+    cc
+
+-- all of which are there
+tables_there : (files : List (List ℕ × List ℕ)) (rules : List (List ℕ)) (tables : List TableRule) → AreTables files rules tables → AllByRecursion (IsThere files) rules
+tables_there files = zip_left (IsTableAt files) (IsThere files) (λ path table at. (at.0, at.1))
 
 -- ---- lists of paths
 
@@ -138,153 +184,193 @@ one_first Good Bad Worse Same h k same (p ∷ ps) (inr a) (inr b) = one_first Go
 -- the place of a cause in the order
 abbrev place : Cause → ℕ
 place NoFile = 0
-place (BadPattern fault) = 1
-place (BadRule fault) = 2
-place StateTooLarge = 3
-place MixedRules = 4
-place Memory = 5
+place (BadTable fault) = 1
+place (BadPattern fault) = 2
+place (BadRule fault) = 3
+place StateTooLarge = 4
+place MixedRules = 5
+place Memory = 6
 
-place_within : (cause : Cause) → cause ≢ Memory → suc (place cause) ≤ 5
+place_within : (cause : Cause) → cause ≢ Memory → suc (place cause) ≤ 6
 place_within NoFile m = omega arith
+place_within (BadTable fault) m = omega arith
 place_within (BadPattern fault) m = omega arith
 place_within (BadRule fault) m = omega arith
 place_within StateTooLarge m = omega arith
 place_within MixedRules m = omega arith
 place_within Memory m = absurd (m refl)
 
+-- this holds of the tables
+abbrev OfTables : List (List ℕ × List ℕ) → List (List ℕ) → (List TableRule → Type 0) → Type 0
+OfTables files rules Holds = (tables : List TableRule) × AreTables files rules tables × Holds tables
+
+-- and of those that are the same
+of_these : (files : List (List ℕ × List ℕ)) (rules : List (List ℕ)) (Holds : List TableRule → Type 0) (tables : List TableRule) → AreTables files rules tables → OfTables files rules Holds → Holds tables
+of_these files rules Holds tables are (others, there, h) = subst Holds (one_tables files rules others tables there are) h
+
 -- none of the first n causes holds
-abbrev IsPast : List (List ℕ × List ℕ) → List (List ℕ) → ℕ → Type 0
-IsPast files paths zero = Unit {0}
-IsPast files paths (suc zero) = AllByRecursion (IsThere files) paths
-IsPast files paths (suc (suc zero)) = AllByRecursion (Reads files) paths
-IsPast files paths (suc (suc (suc zero))) = AllByRecursion (HasRule files) paths
-IsPast files paths (suc (suc (suc (suc zero)))) = AllByRecursion (IsSmall files) paths
-IsPast files paths (suc (suc (suc (suc (suc n))))) = AllByRecursion (IsSmall files) paths × (SomeOf (λ p. SomeOf (HaveOtherRules files p) paths) paths → ⊥)
+abbrev IsPast : List (List ℕ × List ℕ) → List (List ℕ) → List (List ℕ) → ℕ → Type 0
+IsPast files rules paths zero = Unit {0}
+IsPast files rules paths (suc zero) = AllByRecursion (IsThere files) paths × AllByRecursion (IsThere files) rules
+IsPast files rules paths (suc (suc zero)) = OfTables files rules (λ tables. AllByRecursion (IsThere files) paths)
+IsPast files rules paths (suc (suc (suc zero))) = OfTables files rules (λ tables. AllByRecursion (Reads files) paths)
+IsPast files rules paths (suc (suc (suc (suc zero)))) = OfTables files rules (λ tables. AllByRecursion (HasRule files tables) paths)
+IsPast files rules paths (suc (suc (suc (suc (suc zero))))) = OfTables files rules (λ tables. AllByRecursion (IsSmall files tables) paths)
+IsPast files rules paths (suc (suc (suc (suc (suc (suc n)))))) =
+    OfTables files rules (λ tables. AllByRecursion (IsSmall files tables) paths × (SomeOf (λ p. SomeOf (HaveOtherRules files tables p) paths) paths → ⊥))
 
--- nor one fewer
-past_one_fewer : (files : List (List ℕ × List ℕ)) (paths : List (List ℕ)) (n : ℕ) → IsPast files paths (suc n) → IsPast files paths n
-past_one_fewer files paths zero h = tt
-past_one_fewer files paths (suc zero) h = all_weaker (Reads files) (IsThere files) (λ p r. (r.0, r.1)) paths h
-past_one_fewer files paths (suc (suc zero)) h = all_weaker (HasRule files) (Reads files) (λ p r. (r.2.1.bytes, r.2.1.at_path, r.2.1.readable)) paths h
-past_one_fewer files paths (suc (suc (suc zero))) h = all_weaker (IsSmall files) (HasRule files) (λ p r. (r.0, r.1, r.2)) paths h
-past_one_fewer files paths (suc (suc (suc (suc zero)))) h = h.0
-past_one_fewer files paths (suc (suc (suc (suc (suc n))))) h = h
+module _ (files : List (List ℕ × List ℕ)) (rules paths : List (List ℕ)) where
+  -- nor one fewer
+  past_one_fewer : (n : ℕ) → IsPast files rules paths (suc n) → IsPast files rules paths n
+  past_one_fewer zero h = tt
+  past_one_fewer (suc zero) (tables, are, h) = (h, tables_there files rules tables are)
+  past_one_fewer (suc (suc zero)) (tables, are, h) = (tables, are, all_weaker (Reads files) (IsThere files) (λ p r. (r.0, r.1)) paths h)
+  past_one_fewer (suc (suc (suc zero))) (tables, are, h) = (tables, are, all_weaker (HasRule files tables) (Reads files) (λ p r. (r.2.1.bytes, r.2.1.at_path, r.2.1.readable)) paths h)
+  past_one_fewer (suc (suc (suc (suc zero)))) (tables, are, h) = (tables, are, all_weaker (IsSmall files tables) (HasRule files tables) (λ p r. (r.0, r.1, r.2)) paths h)
+  past_one_fewer (suc (suc (suc (suc (suc zero))))) (tables, are, h) = (tables, are, h.0)
+  past_one_fewer (suc (suc (suc (suc (suc (suc n)))))) h = h
 
--- nor any fewer
-past_fewer : (files : List (List ℕ × List ℕ)) (paths : List (List ℕ)) (n m : ℕ) → IsPast files paths (m + n) → IsPast files paths n
-past_fewer files paths n zero h = let e : zero + n ≡ n = omega arith in subst (IsPast files paths) e h
-past_fewer files paths n (suc m) h =
-    let e : suc m + n ≡ suc (m + n) = omega arith in
-    past_fewer files paths n m (past_one_fewer files paths (m + n) (subst (IsPast files paths) e h))
+  -- nor any fewer
+  past_fewer : (n m : ℕ) → IsPast files rules paths (m + n) → IsPast files rules paths n
+  past_fewer n zero h = let e : zero + n ≡ n = omega arith in subst (IsPast files rules paths) e h
+  past_fewer n (suc m) h =
+      let e : suc m + n ≡ suc (m + n) = omega arith in
+      past_fewer n m (past_one_fewer (m + n) (subst (IsPast files rules paths) e h))
 
-past_below : (files : List (List ℕ × List ℕ)) (paths : List (List ℕ)) (n m : ℕ) → n ≤ m → IsPast files paths m → IsPast files paths n
-past_below files paths n m below h = let e : m ≡ (m - n) + n = omega arith in past_fewer files paths n (m - n) (subst (IsPast files paths) e h)
+  past_below : (n m : ℕ) → n ≤ m → IsPast files rules paths m → IsPast files rules paths n
+  past_below n m below h = let e : m ≡ (m - n) + n = omega arith in past_fewer n (m - n) (subst (IsPast files rules paths) e h)
 
--- a cause comes past those before it
-past_before : (files : List (List ℕ × List ℕ)) (paths : List (List ℕ)) (cause : Cause) → cause ≢ Memory → HasCause files paths cause → IsPast files paths (place cause)
-past_before files paths NoFile m h = tt
-past_before files paths (BadPattern fault) m h = h.0
-past_before files paths (BadRule fault) m h = h.0
-past_before files paths StateTooLarge m h = h.0
-past_before files paths MixedRules m h = h.0
-past_before files paths Memory m h = absurd (m refl)
+  -- a cause comes past those before it
+  past_before : (cause : Cause) → cause ≢ Memory → HasCause files rules paths cause → IsPast files rules paths (place cause)
+  past_before NoFile m h = tt
+  past_before (BadTable fault) m h = (h.0, h.1)
+  past_before (BadPattern fault) m (tables, are, all, first) = (tables, are, all)
+  past_before (BadRule fault) m (tables, are, all, first) = (tables, are, all)
+  past_before StateTooLarge m (tables, are, all, some) = (tables, are, all)
+  past_before MixedRules m (tables, are, all, some) = (tables, are, all)
+  past_before Memory m h = absurd (m refl)
 
--- and not past itself
-not_past : (files : List (List ℕ × List ℕ)) (paths : List (List ℕ)) (cause : Cause) → cause ≢ Memory → HasCause files paths cause → IsPast files paths (suc (place cause)) → ⊥
-not_past files paths NoFile m h past = all_or_some (IsThere files) (λ p. bytes_at files p ≡ None) (there_or_none files) paths past h
-not_past files paths (BadPattern fault) m h past =
-    all_or_first (Reads files) (λ p. (bytes : List ℕ) × (bytes_at files p ≡ Some bytes) × IsPatternFault bytes fault) (λ p. reads_or_fault files p fault) paths past h.1
-not_past files paths (BadRule fault) m h past =
-    all_or_first (HasRule files) (λ p. (cells : Picture) × (text : List ℕ) × IsRead files p cells text × IsRuleFault text fault) (λ p. named_or_fault files p fault) paths past h.1
-not_past files paths StateTooLarge m h past = all_or_some (IsSmall files) (IsLarge files) (small_or_large files) paths past h.1
-not_past files paths MixedRules m h past = past.1 h.1
-not_past files paths Memory m h past = m refl
+  -- all tables are good or one is bad, not both
+  tables_or_fault : (fault : TableFault) (tables : List TableRule) → AreTables files rules tables → FirstBad (HasTable files) (IsBadTable files fault) rules → ⊥
+  tables_or_fault fault tables are first =
+      all_or_first (HasTable files) (IsBadTable files fault) (λ p. table_or_fault files p fault) rules (zip_left (IsTableAt files) (HasTable files) (λ path table at. (table, at)) rules tables are) first
 
--- causes at one place are one
-same_place : (files : List (List ℕ × List ℕ)) (paths : List (List ℕ)) (c d : Cause) → c ≢ Memory → d ≢ Memory → place c ≡ place d → HasCause files paths c → HasCause files paths d → c ≡ d
-same_place files paths Memory d m n e h k = absurd (m refl)
-same_place files paths c Memory m n e h k = absurd (n refl)
-same_place files paths NoFile NoFile m n e h k = refl
-same_place files paths (BadPattern f) (BadPattern g) m n e h k =
-    ap BadPattern (one_first (Reads files) (λ p. (bytes : List ℕ) × (bytes_at files p ≡ Some bytes) × IsPatternFault bytes f) (λ p. (bytes : List ℕ) × (bytes_at files p ≡ Some bytes) × IsPatternFault bytes g) (f ≡ g)
-    (λ p. reads_or_fault files p f) (λ p. reads_or_fault files p g) (λ p. one_pattern_fault files p f g) paths h.1 k.1)
-same_place files paths (BadRule f) (BadRule g) m n e h k =
-    ap BadRule (one_first (HasRule files) (λ p. (cells : Picture) × (text : List ℕ) × IsRead files p cells text × IsRuleFault text f) (λ p. (cells : Picture) × (text : List ℕ) × IsRead files p cells text × IsRuleFault text g) (f ≡ g)
-    (λ p. named_or_fault files p f) (λ p. named_or_fault files p g) (λ p. one_rule_fault files p f g) paths h.1 k.1)
-same_place files paths StateTooLarge StateTooLarge m n e h k = refl
-same_place files paths MixedRules MixedRules m n e h k = refl
-same_place files paths c d m n e h k = let no : ⊥ = omega arith in absurd no
+  -- a cause isn't past itself
+  not_past : (cause : Cause) → cause ≢ Memory → HasCause files rules paths cause → IsPast files rules paths (suc (place cause)) → ⊥
+  not_past NoFile m (inl none) past = all_or_some (IsThere files) (IsMissing files) (there_or_none files) paths past.0 none
+  not_past NoFile m (inr none) past = all_or_some (IsThere files) (IsMissing files) (there_or_none files) rules past.1 none
+  not_past (BadTable fault) m h (tables, are, past) = tables_or_fault fault tables are h.2
+  not_past (BadPattern fault) m (tables, are, all, first) (others, there, past) = all_or_first (Reads files) (IsBad files fault) (λ p. reads_or_fault files p fault) paths past first
+  not_past (BadRule fault) m (tables, are, all, first) past =
+      all_or_first (HasRule files tables) (IsUnnamed files tables fault) (λ p. named_or_fault files p tables fault) paths
+      (of_these files rules (λ t. AllByRecursion (HasRule files t) paths) tables are past) first
+  not_past StateTooLarge m (tables, are, all, some) past =
+      all_or_some (IsSmall files tables) (IsLarge files tables) (λ p. small_or_large files p tables) paths (of_these files rules (λ t. AllByRecursion (IsSmall files t) paths) tables are past) some
+  not_past MixedRules m (tables, are, all, some) past =
+      (of_these files rules (λ t. AllByRecursion (IsSmall files t) paths × (SomeOf (λ p. SomeOf (HaveOtherRules files t p) paths) paths → ⊥)) tables are past).1 some
+  not_past Memory m h past = m refl
 
--- a claim has one cause, want of memory apart
-pub one_cause : (files : List (List ℕ × List ℕ)) (paths : List (List ℕ)) (c d : Cause) → c ≢ Memory → d ≢ Memory → HasCause files paths c → HasCause files paths d → c ≡ d
-one_cause files paths c d m n h k =
-    elim (cases_order (place c) (place d)) [
-      | inl e ↦ same_place files paths c d m n e h k
-      | inr (inl e) ↦ absurd (not_past files paths c m h (past_below files paths (suc (place c)) (place d) (omega arith) (past_before files paths d n k)))
-      | inr (inr e) ↦ absurd (not_past files paths d n k (past_below files paths (suc (place d)) (place c) (omega arith) (past_before files paths c m h)))
-    ]
+  -- causes at one place are one
+  same_place : (c d : Cause) → c ≢ Memory → d ≢ Memory → place c ≡ place d → HasCause files rules paths c → HasCause files rules paths d → c ≡ d
+  same_place Memory d m n e h k = absurd (m refl)
+  same_place c Memory m n e h k = absurd (n refl)
+  same_place NoFile NoFile m n e h k = refl
+  same_place (BadTable f) (BadTable g) m n e h k =
+      ap BadTable (one_first (HasTable files) (IsBadTable files f) (IsBadTable files g) (f ≡ g) (λ p. table_or_fault files p f) (λ p. table_or_fault files p g) (λ p. one_bad_table files p f g) rules h.2 k.2)
+  same_place (BadPattern f) (BadPattern g) m n e (tables, are, all, first) (others, there, each, other) =
+      ap BadPattern (one_first (Reads files) (IsBad files f) (IsBad files g) (f ≡ g) (λ p. reads_or_fault files p f) (λ p. reads_or_fault files p g) (λ p. one_pattern_fault files p f g) paths first other)
+  same_place (BadRule f) (BadRule g) m n e (tables, are, all, first) (others, there, each, other) =
+      let same = one_tables files rules others tables there are in
+      let too = subst (λ t. FirstBad (HasRule files t) (IsUnnamed files t g) paths) same other in
+      ap BadRule (one_first (HasRule files tables) (IsUnnamed files tables f) (IsUnnamed files tables g) (f ≡ g)
+      (λ p. named_or_fault files p tables f) (λ p. named_or_fault files p tables g) (λ p. one_rule_fault files p tables f g) paths first too)
+  same_place StateTooLarge StateTooLarge m n e h k = refl
+  same_place MixedRules MixedRules m n e h k = refl
+  same_place c d m n e h k = let no : ⊥ = omega arith in absurd no
 
--- a file that isn't there goes before want of memory
-pub no_file_or_memory : (files : List (List ℕ × List ℕ)) (paths : List (List ℕ)) → HasCause files paths NoFile → HasCause files paths Memory → ⊥
-no_file_or_memory files paths none wanted = all_or_some (IsThere files) (λ p. bytes_at files p ≡ None) (there_or_none files) paths wanted.0 none
+  -- a claim has one cause, want of memory apart
+  pub one_cause : (c d : Cause) → c ≢ Memory → d ≢ Memory → HasCause files rules paths c → HasCause files rules paths d → c ≡ d
+  one_cause c d m n h k =
+      elim (cases_order (place c) (place d)) [
+        | inl e ↦ same_place c d m n e h k
+        | inr (inl e) ↦ absurd (not_past c m h (past_below (suc (place c)) (place d) (omega arith) (past_before d n k)))
+        | inr (inr e) ↦ absurd (not_past d n k (past_below (suc (place d)) (place c) (omega arith) (past_before c m h)))
+      ]
+
+  -- a file that isn't there goes before want of memory
+  pub no_file_or_memory : HasCause files rules paths NoFile → HasCause files rules paths Memory → ⊥
+  no_file_or_memory none (tables, are, all, first) = not_past NoFile (λ e. cc) none (all, tables_there files rules tables are)
+
+  -- and so does a bad table
+  pub bad_table_or_memory : (fault : TableFault) → HasCause files rules paths (BadTable fault) → HasCause files rules paths Memory → ⊥
+  bad_table_or_memory fault bad (tables, are, all, first) = tables_or_fault fault tables are bad.2
 
 -- ---- judged claims
 
--- the rules of good patterns with one rule are the same
-no_others : (files : List (List ℕ × List ℕ)) (p q : List ℕ) (cells other : Picture) (rule other_rule : Rule) → IsGood files p cells rule → IsGood files q other other_rule → IsSameRule rule other_rule → HaveOtherRules files p q → ⊥
-no_others files p q cells other rule other_rule one two same mixed =
-    let a = (one_ruled files p cells mixed.0 rule mixed.1 one.ruled mixed.4).1 in
-    let b = (one_ruled files q other mixed.2 other_rule mixed.3 two.ruled mixed.5).1 in
-    mixed.6 (same-trans mixed.1 rule mixed.3 (same-sym rule mixed.1 a) (same-trans rule other_rule mixed.3 same b))
+module _ (files : List (List ℕ × List ℕ)) (tables : List TableRule) where
+  -- the rules of good patterns with one rule are the same
+  no_others : (p q : List ℕ) (cells other : Picture) (rule other_rule : RuleValue) → IsGood files tables p cells rule → IsGood files tables q other other_rule → IsSameRule rule other_rule
+      → HaveOtherRules files tables p q → ⊥
+  no_others p q cells other rule other_rule one two same mixed =
+      let a = (one_ruled files p tables cells mixed.0 rule mixed.1 one.ruled mixed.4).1 in
+      let b = (one_ruled files q tables other mixed.2 other_rule mixed.3 two.ruled mixed.5).1 in
+      mixed.6 (subst (λ r. IsSameRule r mixed.3) a (subst (IsSameRule rule) b same))
 
--- what is judged is past every cause
-past_all : (files : List (List ℕ × List ℕ)) (paths : List (List ℕ)) (cells other : Picture) (rule : Rule) → IsJudged files paths cells other rule → IsPast files paths 5
-past_all files [] cells other rule j = absurd j
-past_all files (p ∷ []) cells other rule j = (
-  ((cells, rule, j.0.ruled, j.0.small), tt),
-  λ mixed. elim mixed [
-    | inl one ↦ elim one [ inl same ↦ no_others files p p cells cells rule rule j.0 j.0 (same-refl rule) same | inr none ↦ none ]
-    | inr none ↦ none
-  ],
-)
-past_all files (p ∷ q ∷ []) cells other rule j = (
-  ((cells, rule, j.0.ruled, j.0.small), ((other, j.1, j.2.ruled, j.2.small), tt)),
-  λ mixed. elim mixed [
-    | inl first ↦
-        elim first [
-          | inl own ↦ no_others files p p cells cells rule rule j.0 j.0 (same-refl rule) own
-          | inr (inl both) ↦ no_others files p q cells other rule j.1 j.0 j.2 j.3 both
-          | inr (inr none) ↦ none
-        ]
-    | inr (inl second) ↦
-        elim second [
-          | inl both ↦ no_others files q p other cells j.1 rule j.2 j.0 (same-sym rule j.1 j.3) both
-          | inr (inl own) ↦ no_others files q q other other j.1 j.1 j.2 j.2 (same-refl j.1) own
-          | inr (inr none) ↦ none
-        ]
-    | inr (inr none) ↦ none
-  ],
-)
-past_all files (p ∷ q ∷ r ∷ paths) cells other rule j = absurd j
+  -- of good patterns no two have different rules
+  none_mixed : (paths : List (List ℕ)) (cells other : Picture) (rule : RuleValue) → AreGood files tables paths cells other rule
+      → AllByRecursion (IsSmall files tables) paths × (SomeOf (λ p. SomeOf (HaveOtherRules files tables p) paths) paths → ⊥)
+  none_mixed [] cells other rule j = absurd j
+  none_mixed (p ∷ []) cells other rule j = (
+    ((cells, rule, j.0.ruled, j.0.small), tt),
+    λ mixed. elim mixed [
+      | inl one ↦ elim one [ inl same ↦ no_others p p cells cells rule rule j.0 j.0 (same-refl rule) same | inr none ↦ none ]
+      | inr none ↦ none
+    ],
+  )
+  none_mixed (p ∷ q ∷ []) cells other rule j = (
+    ((cells, rule, j.0.ruled, j.0.small), ((other, j.1, j.2.ruled, j.2.small), tt)),
+    λ mixed. elim mixed [
+      | inl first ↦
+          elim first [
+            | inl own ↦ no_others p p cells cells rule rule j.0 j.0 (same-refl rule) own
+            | inr (inl both) ↦ no_others p q cells other rule j.1 j.0 j.2 j.3 both
+            | inr (inr none) ↦ none
+          ]
+      | inr (inl second) ↦
+          elim second [
+            | inl both ↦ no_others q p other cells j.1 rule j.2 j.0 (same-sym rule j.1 j.3) both
+            | inr (inl own) ↦ no_others q q other other j.1 j.1 j.2 j.2 (same-refl j.1) own
+            | inr (inr none) ↦ none
+          ]
+      | inr (inr none) ↦ none
+    ],
+  )
+  none_mixed (p ∷ q ∷ r ∷ paths) cells other rule j = absurd j
 
--- a claim is judged or refused for a cause, not both, want of memory apart
-pub judged_or_cause : (files : List (List ℕ × List ℕ)) (paths : List (List ℕ)) (cells other : Picture) (rule : Rule) (cause : Cause) → cause ≢ Memory → IsJudged files paths cells other rule → HasCause files paths cause → ⊥
-judged_or_cause files paths cells other rule cause m judged h = not_past files paths cause m h (past_below files paths (suc (place cause)) 5 (place_within cause m) (past_all files paths cells other rule judged))
+  -- patterns are good in one way
+  one_good : (paths : List (List ℕ)) (p q o v : Picture) (r s : RuleValue) → AreGood files tables paths p o r → AreGood files tables paths q v s → (p ≡ q) × (o ≡ v) × (r ≡ s)
+  one_good [] p q o v r s a b = absurd a
+  one_good (path ∷ []) p q o v r s a b = let one = one_ruled files path tables p q r s a.0.ruled b.0.ruled in (one.0, a.1 ∙ one.0 ∙ sym b.1, one.1)
+  one_good (path ∷ other ∷ []) p q o v r s a b =
+      let one = one_ruled files path tables p q r s a.0.ruled b.0.ruled in
+      (one.0, (one_ruled files other tables o v a.1 b.1 a.2.ruled b.2.ruled).0, one.1)
+  one_good (path ∷ other ∷ third ∷ paths) p q o v r s a b = absurd a
 
--- a claim is judged in one way
-one_judged : (files : List (List ℕ × List ℕ)) (paths : List (List ℕ)) (p q o v : Picture) (r s : Rule) → IsJudged files paths p o r → IsJudged files paths q v s → (p ≡ q) × (o ≡ v) × IsSameRule r s
-one_judged files [] p q o v r s a b = absurd a
-one_judged files (path ∷ []) p q o v r s a b = let one = one_ruled files path p q r s a.0.ruled b.0.ruled in (one.0, a.1 ∙ one.0 ∙ sym b.1, one.1)
-one_judged files (path ∷ other ∷ []) p q o v r s a b =
-    let one = one_ruled files path p q r s a.0.ruled b.0.ruled in
-    (one.0, (one_ruled files other o v a.1 b.1 a.2.ruled b.2.ruled).0, one.1)
-one_judged files (path ∷ other ∷ third ∷ paths) p q o v r s a b = absurd a
+module _ (files : List (List ℕ × List ℕ)) (rules paths : List (List ℕ)) where
+  -- a claim is judged or refused for a cause, not both, want of memory apart
+  pub judged_or_cause : (cells other : Picture) (rule : RuleValue) (cause : Cause) → cause ≢ Memory → IsJudged files rules paths cells other rule → HasCause files rules paths cause → ⊥
+  judged_or_cause cells other rule cause m (tables, are, good) h =
+      not_past files rules paths cause m h (past_below files rules paths (suc (place cause)) 6 (place_within cause m) (tables, are, none_mixed files tables paths cells other rule good))
 
--- a claim that is judged is true or false, not both
-pub yes_or_no : (files : List (List ℕ × List ℕ)) (paths : List (List ℕ)) (asks : Asks) (why : Why) (p q o v : Picture) (r s : Rule) → IsJudged files paths p o r → IsJudged files paths q v s
-    → IsTrueClaim (next_of r) p o asks → IsReason (next_of s) q v asks why → ⊥
-yes_or_no files paths asks why p q o v r s a b true reason =
-    let one = one_judged files paths p q o v r s a b in
-    let by_next = subst (λ f. IsTrueClaim f p o asks) (same-next r s one.2) true in
-    let by_cells = subst (λ c. IsTrueClaim (next_of s) c o asks) one.0 by_next in
-    false_from_reason (next_of s) q v asks why reason (subst (λ c. IsTrueClaim (next_of s) q c asks) one.1 by_cells)
+  -- a claim is judged in one way
+  one_judged : (p q o v : Picture) (r s : RuleValue) → IsJudged files rules paths p o r → IsJudged files rules paths q v s → (p ≡ q) × (o ≡ v) × (r ≡ s)
+  one_judged p q o v r s (tables, are, good) b = one_good files tables paths p q o v r s good (of_these files rules (λ t. AreGood files t paths q v s) tables are b)
+
+  -- a claim that is judged is true or false, not both
+  pub yes_or_no : (asks : Asks) (why : Why) (p q o v : Picture) (r s : RuleValue) → IsJudged files rules paths p o r → IsJudged files rules paths q v s
+      → IsTrueClaim (next_of r) p o asks → IsReason (next_of s) q v asks why → ⊥
+  yes_or_no asks why p q o v r s a b true reason =
+      let one = one_judged p q o v r s a b in
+      let by_rule = subst (λ u. IsTrueClaim (next_of u) p o asks) one.2 true in
+      let by_cells = subst (λ c. IsTrueClaim (next_of s) c o asks) one.0 by_rule in
+      false_from_reason (next_of s) q v asks why reason (subst (λ c. IsTrueClaim (next_of s) q c asks) one.1 by_cells)

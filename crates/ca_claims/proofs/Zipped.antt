@@ -1,6 +1,9 @@
 -- Lists whose elements belong together, one by one: what holds of the one holds of the other.
-use Rattle.std.proofs.Common.{List, [], ◌∷◌, inl, inr}
-use Rattle.std.specs.List.{AllByRecursion, AllZip}
+use Rattle.std.proofs.Common.{◌≡◌, ℕ, zero, suc, ◌+◌, List, [], ◌∷◌, ◌++◌, take, slice_get, Some, add-one, inl, inr, ap, subst, sym, arith}
+use Rattle.std.specs.List.{All, AllByRecursion, AllZip}
+use Rattle.std.proofs.Math.Seq.{take-suc}
+use Rattle.std.proofs.lemmas.Option.{same_Some, none-some, slice_get_within, get_or_from_slice_get}
+use Rattle.indexmap.proofs.SetLemmas.{AllZip-push}
 use Rattle.ca_claims.specs.Answers.{SomeOf, FirstBad, FirstIs}
 
 module _ {X Y : Type 0} (R : X → Y → Type 0) where
@@ -58,3 +61,33 @@ zip_through R S T f [] (y ∷ ys) zs one two = absurd one
 zip_through R S T f (x ∷ xs) [] zs one two = absurd one
 zip_through R S T f (x ∷ xs) (y ∷ ys) [] one two = absurd two
 zip_through R S T f (x ∷ xs) (y ∷ ys) (z ∷ zs) one two = (f x y z one.0 two.0, zip_through R S T f xs ys zs one.1 two.1)
+
+-- what holds at each index holds of all
+pub each-All : {X : Type 0} (P : X → Type 0) (xs : List X) → All P xs → AllByRecursion P xs
+each-All P [] h = tt
+each-All P (x ∷ xs) h = (h zero x (omega arith), each-All P xs (λ k d l. h (suc k) d (omega arith)))
+
+-- ---- lists that are gone through from the left
+
+-- the first elements and the next one
+take-more : {X : Type 0} (xs : List X) (i : ℕ) (x : X) → slice_get xs i ≡ Some x → take (i + 1) xs ≡ take i xs ++ x ∷ []
+take-more xs i x e =
+    rw (add-one, take-suc xs i x (slice_get_within xs i x e)) (ap (λ y. take i xs ++ y ∷ []) (get_or_from_slice_get xs i x x e))
+
+module _ {X Y : Type 0} (R : X → Y → Type 0) where
+  -- one pair more
+  pub zip_more : (xs : List X) (ys : List Y) (i : ℕ) (x : X) (y : Y) → AllZip R (take i xs) ys → slice_get xs i ≡ Some x → R x y → AllZip R (take (i + 1) xs) (ys ++ y ∷ [])
+  zip_more xs ys i x y before e here = subst (λ l. AllZip R l (ys ++ y ∷ [])) (sym (take-more xs i x e)) (AllZip-push R (take i xs) ys x y before here)
+
+  -- an element that is bad, behind those that belong to others
+  pub first_behind : (Good Bad : X → Type 0) → ((x : X) (y : Y) → R x y → Good x) → (xs : List X) (ys : List Y) (i : ℕ) (x : X) → AllZip R (take i xs) ys → slice_get xs i ≡ Some x → Bad x → FirstBad Good Bad xs
+  first_behind Good Bad f [] ys i x before e bad = absurd (none-some x e)
+  first_behind Good Bad f (z ∷ zs) ys zero x before e bad = inl (subst Bad (sym (same_Some z x e)) bad)
+  first_behind Good Bad f (z ∷ zs) [] (suc i) x before e bad = absurd before
+  first_behind Good Bad f (z ∷ zs) (y ∷ ys) (suc i) x before e bad = inr (f z y before.0, first_behind Good Bad f zs ys i x before.1 e bad)
+
+-- some element is one of which this holds
+pub some_at : {X : Type 0} (Holds : X → Type 0) (xs : List X) (i : ℕ) (x : X) → slice_get xs i ≡ Some x → Holds x → SomeOf Holds xs
+some_at Holds [] i x e h = absurd (none-some x e)
+some_at Holds (z ∷ zs) zero x e h = inl (subst Holds (sym (same_Some z x e)) h)
+some_at Holds (z ∷ zs) (suc i) x e h = inr (some_at Holds zs i x e h)

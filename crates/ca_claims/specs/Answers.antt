@@ -1,9 +1,13 @@
 -- True answers: what a yes, a no and a refusal say of the files that were handed in.
-use Rattle.std.specs.Prelude.{◌≡◌, ◌≢◌, ℕ, ◌≤◌, ◌<◌, ℤ, List, [], ◌∷◌, Some, None, ◌⊎◌}
+use Rattle.std.specs.Prelude.{◌≡◌, ◌≢◌, ℕ, ◌≤◌, ◌<◌, ℤ, List, [], ◌∷◌, replicate, Some, None, ◌⊎◌}
 use Rattle.std.specs.List.{AllZip, AllByRecursion}
 use Rattle.ca_plane.specs.Plane.{Picture, cell}
-use Rattle.ca_rule.specs.declared.rule.Rule.{Rule}
-use Rattle.ca_rule.specs.Rule.{states_of, next_of, IsSameRule, NamesRule, IsRuleFault}
+use Rattle.ca_rule.specs.TableNext.{TableRule, table_next}
+use Rattle.ca_rule.specs.TableText.{IsTable}
+use Rattle.ca_rule.specs.TableFaults as table_faults
+use Rattle.ca_rule.specs.declared.table.fault.TableFault.{TableFault}
+use Rattle.ca_rule.specs.declared.table.fault.TableFault.TheVariants as table_fault
+use Rattle.ca_rule.specs.Rule.{RuleValue, states_of, next_of, IsSameRule, NamesRule, IsRuleFault}
 use Rattle.ca_rle.specs.File as rle
 use Rattle.ca_rle.specs.Limits.{IsWithinLimits}
 use Rattle.ca_rle.specs.Faults as rle_faults
@@ -14,7 +18,7 @@ use Rattle.ca_claims.specs.declared.verdict.Verdict.TheVariants.{Yes, No, Refuse
 use Rattle.ca_claims.specs.declared.verdict.PatternFault.{PatternFault}
 use Rattle.ca_claims.specs.declared.verdict.PatternFault.TheVariants as pattern_fault
 use Rattle.ca_claims.specs.declared.verdict.Cause.{Cause}
-use Rattle.ca_claims.specs.declared.verdict.Cause.TheVariants.{NoFile, BadPattern, BadRule, StateTooLarge, MixedRules, Memory}
+use Rattle.ca_claims.specs.declared.verdict.Cause.TheVariants.{NoFile, BadTable, BadPattern, BadRule, StateTooLarge, MixedRules, Memory}
 use Rattle.ca_claims.specs.Text.{Claim, patterns_of}
 use Rattle.ca_claims.specs.Means.{bytes_at, Means}
 use Rattle.ca_claims.specs.Truth.{asks_of, IsTrueClaim, IsReason}
@@ -28,6 +32,14 @@ abbrev pub IsPatternFault : List ℕ → PatternFault → Type 0
 IsPatternFault bytes (pattern_fault.Rle fault) = (fault ≢ rle_fault.Memory) × rle_faults.IsFaultOf bytes fault
 IsPatternFault bytes pattern_fault.Memory = ⊥
 
+-- the bytes are the text of this table, which leaves the empty plane empty
+abbrev pub IsQuietTable : List ℕ → TableRule → Type 0
+IsQuietTable bytes table = IsTable bytes table × (table_next table (replicate 9 0) ≡ 0)
+
+-- the fault for which the bytes are the text of no such table; want of memory is none of them
+abbrev pub IsTableFault : List ℕ → TableFault → Type 0
+IsTableFault bytes fault = (fault ≢ table_fault.Memory) × table_faults.IsFaultOf bytes fault
+
 -- the file of a path was handed in, is read, and means these cells under this rule text
 pub record IsRead (files : List (List ℕ × List ℕ)) (path : List ℕ) (cells : Picture) (rule_text : List ℕ) : Type 0 where
   pub bytes : List ℕ
@@ -36,33 +48,49 @@ pub record IsRead (files : List (List ℕ × List ℕ)) (path : List ℕ) (cells
   pub readable : IsReadable bytes
   pub means : Means bytes cells rule_text generation
 
--- the file means these cells, and its rule text names this rule
-abbrev pub IsRuled : List (List ℕ × List ℕ) → List ℕ → Picture → Rule → Type 0
-IsRuled files path cells rule = (rule_text : List ℕ) × IsRead files path cells rule_text × NamesRule rule_text rule
+-- the file of a rule line's path was handed in, and is the text of this table
+abbrev pub IsTableAt : List (List ℕ × List ℕ) → List ℕ → TableRule → Type 0
+IsTableAt files path table = (bytes : List ℕ) × (bytes_at files path ≡ Some bytes) × IsQuietTable bytes table
+
+-- the files of the rule lines' paths are these tables, in the order of the lines
+abbrev pub AreTables : List (List ℕ × List ℕ) → List (List ℕ) → List TableRule → Type 0
+AreTables files rules tables = AllZip (IsTableAt files) rules tables
+
+-- the file means these cells, and its rule text names this rule among the tables
+abbrev pub IsRuled : List (List ℕ × List ℕ) → List TableRule → List ℕ → Picture → RuleValue → Type 0
+IsRuled files tables path cells rule = (rule_text : List ℕ) × IsRead files path cells rule_text × NamesRule rule_text tables rule
 
 -- some cell has a state that isn't below the number of the rule's states
-abbrev pub HasLargeState : Rule → Picture → Type 0
+abbrev pub HasLargeState : RuleValue → Picture → Type 0
 HasLargeState rule cells = (x : ℤ) × (y : ℤ) × (states_of rule ≤ cell cells x y)
 
 -- no cell has
-abbrev pub HasSmallStates : Rule → Picture → Type 0
+abbrev pub HasSmallStates : RuleValue → Picture → Type 0
 HasSmallStates rule cells = (x y : ℤ) → cell cells x y < states_of rule
 
--- the file of a pattern's path is there
+-- no file of this path was handed in
+abbrev pub IsMissing : List (List ℕ × List ℕ) → List ℕ → Type 0
+IsMissing files path = bytes_at files path ≡ None
+
+-- the file of this path is there
 abbrev pub IsThere : List (List ℕ × List ℕ) → List ℕ → Type 0
 IsThere files path = (bytes : List ℕ) × (bytes_at files path ≡ Some bytes)
 
--- and it reads
+-- it is the text of a table that leaves the empty plane empty
+abbrev pub HasTable : List (List ℕ × List ℕ) → List ℕ → Type 0
+HasTable files path = (table : TableRule) × IsTableAt files path table
+
+-- the file of a pattern's path is there, and it reads
 abbrev pub Reads : List (List ℕ × List ℕ) → List ℕ → Type 0
 Reads files path = (bytes : List ℕ) × (bytes_at files path ≡ Some bytes) × IsReadable bytes
 
 -- and its rule text names a rule
-abbrev pub HasRule : List (List ℕ × List ℕ) → List ℕ → Type 0
-HasRule files path = (cells : Picture) × (rule : Rule) × IsRuled files path cells rule
+abbrev pub HasRule : List (List ℕ × List ℕ) → List TableRule → List ℕ → Type 0
+HasRule files tables path = (cells : Picture) × (rule : RuleValue) × IsRuled files tables path cells rule
 
 -- and its states are small
-abbrev pub IsSmall : List (List ℕ × List ℕ) → List ℕ → Type 0
-IsSmall files path = (cells : Picture) × (rule : Rule) × IsRuled files path cells rule × HasSmallStates rule cells
+abbrev pub IsSmall : List (List ℕ × List ℕ) → List TableRule → List ℕ → Type 0
+IsSmall files tables path = (cells : Picture) × (rule : RuleValue) × IsRuled files tables path cells rule × HasSmallStates rule cells
 
 -- this holds of some element
 abbrev pub SomeOf : {X : Type 0} → (X → Type 0) → List X → Type 0
@@ -80,49 +108,57 @@ FirstIs Holds [] = ⊥
 FirstIs Holds (x ∷ xs) = Holds x
 
 -- the patterns of two paths have different rules
-abbrev pub HaveOtherRules : List (List ℕ × List ℕ) → List ℕ → List ℕ → Type 0
-HaveOtherRules files path other = (cells : Picture) × (rule : Rule) × (other_cells : Picture) × (other_rule : Rule)
-    × IsRuled files path cells rule × IsRuled files other other_cells other_rule × (IsSameRule rule other_rule → ⊥)
+abbrev pub HaveOtherRules : List (List ℕ × List ℕ) → List TableRule → List ℕ → List ℕ → Type 0
+HaveOtherRules files tables path other = (cells : Picture) × (rule : RuleValue) × (other_cells : Picture) × (other_rule : RuleValue)
+    × IsRuled files tables path cells rule × IsRuled files tables other other_cells other_rule × (IsSameRule rule other_rule → ⊥)
 
--- the first cause of a refusal that holds of a claim about patterns of these paths, in the order of these lines; memory is
--- wanted only where all the files are there and the first of them reads
-abbrev pub HasCause : List (List ℕ × List ℕ) → List (List ℕ) → Cause → Type 0
-HasCause files paths NoFile = SomeOf (λ p. bytes_at files p ≡ None) paths
-HasCause files paths (BadPattern fault) = AllByRecursion (IsThere files) paths
+-- the first cause of a refusal that holds of a claim about patterns of these paths, in the order of these lines, where the
+-- text has rule lines of those paths. A table is judged only where all the files are there, and a pattern only where all
+-- the tables are good; memory is wanted only where the first of the patterns reads besides
+abbrev pub HasCause : List (List ℕ × List ℕ) → List (List ℕ) → List (List ℕ) → Cause → Type 0
+HasCause files rules paths NoFile = SomeOf (IsMissing files) paths ⊎ SomeOf (IsMissing files) rules
+HasCause files rules paths (BadTable fault) = AllByRecursion (IsThere files) paths × AllByRecursion (IsThere files) rules
+    × FirstBad (HasTable files) (λ p. (bytes : List ℕ) × (bytes_at files p ≡ Some bytes) × IsTableFault bytes fault) rules
+HasCause files rules paths (BadPattern fault) = (tables : List TableRule) × AreTables files rules tables × AllByRecursion (IsThere files) paths
     × FirstBad (Reads files) (λ p. (bytes : List ℕ) × (bytes_at files p ≡ Some bytes) × IsPatternFault bytes fault) paths
-HasCause files paths (BadRule fault) = AllByRecursion (Reads files) paths
-    × FirstBad (HasRule files) (λ p. (cells : Picture) × (text : List ℕ) × IsRead files p cells text × IsRuleFault text fault) paths
-HasCause files paths StateTooLarge = AllByRecursion (HasRule files) paths
-    × SomeOf (λ p. (cells : Picture) × (rule : Rule) × IsRuled files p cells rule × HasLargeState rule cells) paths
-HasCause files paths MixedRules = AllByRecursion (IsSmall files) paths × SomeOf (λ p. SomeOf (HaveOtherRules files p) paths) paths
-HasCause files paths Memory = AllByRecursion (IsThere files) paths × FirstIs (Reads files) paths
+HasCause files rules paths (BadRule fault) = (tables : List TableRule) × AreTables files rules tables × AllByRecursion (Reads files) paths
+    × FirstBad (HasRule files tables) (λ p. (cells : Picture) × (text : List ℕ) × IsRead files p cells text × IsRuleFault text tables fault) paths
+HasCause files rules paths StateTooLarge = (tables : List TableRule) × AreTables files rules tables × AllByRecursion (HasRule files tables) paths
+    × SomeOf (λ p. (cells : Picture) × (rule : RuleValue) × IsRuled files tables p cells rule × HasLargeState rule cells) paths
+HasCause files rules paths MixedRules = (tables : List TableRule) × AreTables files rules tables × AllByRecursion (IsSmall files tables) paths
+    × SomeOf (λ p. SomeOf (HaveOtherRules files tables p) paths) paths
+HasCause files rules paths Memory = (tables : List TableRule) × AreTables files rules tables × AllByRecursion (IsThere files) paths × FirstIs (Reads files) paths
 
 -- a pattern's file is there and is read, and means these cells, of small states, under this rule
-pub record IsGood (files : List (List ℕ × List ℕ)) (path : List ℕ) (cells : Picture) (rule : Rule) : Type 0 where
-  pub ruled : IsRuled files path cells rule
+pub record IsGood (files : List (List ℕ × List ℕ)) (tables : List TableRule) (path : List ℕ) (cells : Picture) (rule : RuleValue) : Type 0 where
+  pub ruled : IsRuled files tables path cells rule
   pub small : HasSmallStates rule cells
 
--- no cause but want of memory holds: the patterns of a claim's paths mean these cells under this rule; where there is one, it is the other too
-abbrev pub IsJudged : List (List ℕ × List ℕ) → List (List ℕ) → Picture → Picture → Rule → Type 0
-IsJudged files [] cells other rule = ⊥
-IsJudged files (path ∷ []) cells other rule = IsGood files path cells rule × (other ≡ cells)
-IsJudged files (path ∷ other_path ∷ []) cells other rule =
-    IsGood files path cells rule × (other_rule : Rule) × IsGood files other_path other other_rule × IsSameRule rule other_rule
-IsJudged files (path ∷ other_path ∷ third ∷ paths) cells other rule = ⊥
+-- the patterns of a claim's paths mean these cells under this rule; where there is one pattern, it is the other too
+abbrev pub AreGood : List (List ℕ × List ℕ) → List TableRule → List (List ℕ) → Picture → Picture → RuleValue → Type 0
+AreGood files tables [] cells other rule = ⊥
+AreGood files tables (path ∷ []) cells other rule = IsGood files tables path cells rule × (other ≡ cells)
+AreGood files tables (path ∷ other_path ∷ []) cells other rule =
+    IsGood files tables path cells rule × (other_rule : RuleValue) × IsGood files tables other_path other other_rule × IsSameRule rule other_rule
+AreGood files tables (path ∷ other_path ∷ third ∷ paths) cells other rule = ⊥
+
+-- no cause but want of memory holds: all the tables are good, and so are the claim's patterns
+abbrev pub IsJudged : List (List ℕ × List ℕ) → List (List ℕ) → List (List ℕ) → Picture → Picture → RuleValue → Type 0
+IsJudged files rules paths cells other rule = (tables : List TableRule) × AreTables files rules tables × AreGood files tables paths cells other rule
 
 -- a verdict is true: a yes of a claim that is true of the planes that the files mean, a no of one that is false, with the
 -- reason, and a refusal with its cause; a yes and a no come only where no cause but want of memory holds
-abbrev pub IsTrueVerdict : List (List ℕ × List ℕ) → Claim → Verdict → Type 0
-IsTrueVerdict files claim Yes = (cells : Picture) × (other : Picture) × (rule : Rule) × IsJudged files (patterns_of claim) cells other rule
+abbrev pub IsTrueVerdict : List (List ℕ × List ℕ) → List (List ℕ) → Claim → Verdict → Type 0
+IsTrueVerdict files rules claim Yes = (cells : Picture) × (other : Picture) × (rule : RuleValue) × IsJudged files rules (patterns_of claim) cells other rule
     × IsTrueClaim (next_of rule) cells other (asks_of claim)
-IsTrueVerdict files claim (No why) = (cells : Picture) × (other : Picture) × (rule : Rule) × IsJudged files (patterns_of claim) cells other rule
+IsTrueVerdict files rules claim (No why) = (cells : Picture) × (other : Picture) × (rule : RuleValue) × IsJudged files rules (patterns_of claim) cells other rule
     × IsReason (next_of rule) cells other (asks_of claim) why
-IsTrueVerdict files claim (Refused cause) = HasCause files (patterns_of claim) cause
+IsTrueVerdict files rules claim (Refused cause) = HasCause files rules (patterns_of claim) cause
 
 -- the answer has the number of the claim's line, and a true verdict
-abbrev pub IsTrueAnswer : List (List ℕ × List ℕ) → ℕ × Claim → Answer → Type 0
-IsTrueAnswer files numbered answer = (answer.line ≡ numbered.0) × IsTrueVerdict files numbered.1 answer.verdict
+abbrev pub IsTrueAnswer : List (List ℕ × List ℕ) → List (List ℕ) → ℕ × Claim → Answer → Type 0
+IsTrueAnswer files rules numbered answer = (answer.line ≡ numbered.0) × IsTrueVerdict files rules numbered.1 answer.verdict
 
--- one answer for each claim, in order, each of them true
-abbrev pub AreTrueAnswers : List (List ℕ × List ℕ) → List (ℕ × Claim) → List Answer → Type 0
-AreTrueAnswers files claims answers = AllZip (IsTrueAnswer files) claims answers
+-- one answer for each claim, in order, each of them true, where the text has rule lines of these paths
+abbrev pub AreTrueAnswers : List (List ℕ × List ℕ) → List (List ℕ) → List (ℕ × Claim) → List Answer → Type 0
+AreTrueAnswers files rules claims answers = AllZip (IsTrueAnswer files rules) claims answers

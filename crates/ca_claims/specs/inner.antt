@@ -2,3 +2,4 @@ pub mod Decided
 pub mod Patterns
 pub mod Reading
 pub mod Returns
+pub mod Tables

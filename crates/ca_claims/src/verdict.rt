@@ -1,7 +1,7 @@
 //! Verdicts on claims.
 
 use ca_rle::RleFault;
-use ca_rule::RuleFault;
+use ca_rule::{RuleFault, TableFault};
 use thiserror::Error;
 
 /// Why a claim is false.
@@ -38,16 +38,21 @@ pub enum PatternFault {
 }
 
 /// Why a claim isn't judged: the first of these that holds, but that want of memory may come before any other, where all
-/// files are there and the first pattern's reads. Of two patterns the claim's first goes before the other in each of them.
+/// files are there, all rule tables are good, and the first pattern's file reads. Of two patterns the claim's first goes
+/// before the other in each of them.
 #[derive(Clone, Copy, Debug, PartialEq, Eq, Error)]
 pub enum Cause {
-    /// No file with the path of one of the patterns was handed in.
+    /// No file with the path of one of the patterns, or of a rule line of the text, was handed in.
     #[error("no file")]
     NoFile,
+    /// The file of a rule line is the text of no rule table, or of one that wakes the empty plane; the first such line's.
+    /// Its fault is never want of memory here.
+    #[error("rule table: {0}")]
+    BadTable(TableFault),
     /// A pattern's file doesn't read. Its fault is never want of memory here.
     #[error("{0}")]
     BadPattern(PatternFault),
-    /// A pattern's rule text names no rule.
+    /// A pattern's rule text names no rule, neither in B/S notation nor among the tables.
     #[error("{0}")]
     BadRule(RuleFault),
     /// A pattern has a cell whose state isn't below the number of its rule's states.

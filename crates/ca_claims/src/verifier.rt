@@ -6,36 +6,57 @@ ghost use Rattle.std.specs.Option.{option_copied};
 ghost use Rattle.ca_claims.specs.Text.{Claim as TextClaim, patterns_of, about, HasGoodNumbers};
 ghost use Rattle.ca_claims.specs.Places.{path_at};
 ghost use Rattle.ca_claims.specs.Means.{contents, bytes_at};
-ghost use Rattle.ca_claims.specs.Answers.{SomeOf, HasCause, IsTrueVerdict, AreTrueAnswers};
+ghost use Rattle.ca_claims.specs.Answers.{AreTables, SomeOf, HasCause, IsTrueVerdict, AreTrueAnswers};
 ghost use Rattle.ca_claims.specs.inner.Patterns.{items, IsEachOnce};
+ghost use Rattle.ca_claims.specs.inner.Tables.{AreRead};
 
 mod one_or_two;
 mod patterns;
 mod ruled;
+mod tables;
 
 use crate::claims::{Claim, Claims};
 use crate::decide::decide;
 use crate::file::File;
 use crate::verdict::{Answer, Cause, Verdict};
 use ca_plane::Memory;
+use ca_rule::Table;
 use one_or_two::OneOrTwo;
 use patterns::{has_large_states, one_rule, planes, read_each, with_rules};
 use std::alloc::Global;
+use tables::Tables;
 
-/// One answer for each claim, in the order of their lines. Of two files with one path the first counts.
+/// One answer for each claim, in the order of their lines. Of two files with one path the first counts. The rule tables
+/// are read once for all claims; of two tables with one name that of the first rule line counts.
 ///
 /// # Errors
 ///
-/// Fails where there is no memory for the table of the files or for the answers. Want of memory in one claim refuses
+/// Fails where there is no memory for the list of the files, for the rule tables or for the answers. Want of memory in one claim refuses
 /// that claim alone.
 pub fn verify(alloc: Global, claims: &Claims, files: &[File<'_>]) -> Result<Vec<Answer>, Memory>
-    ensures answers { IfOk result (λ v. AreTrueAnswers (contents files.now) claims.now.claims v.items) }
+    ensures answers { IfOk result (λ v. AreTrueAnswers (contents files.now) claims.now.rules claims.now.claims v.items) }
 {
     let found = find_files(alloc, claims, files)?;
+    let tables = Tables::read(alloc, claims.rules(), &found)?;
+    answer_each(alloc, claims, &found, &tables)
+}
+
+// One answer for each claim, where these are the bytes of the files with the paths of the text and what its rule lines'
+// files hold.
+fn answer_each(
+    alloc: Global,
+    claims: &Claims,
+    found: &[Option<&[u8]>],
+    tables: &Tables,
+) -> Result<Vec<Answer>, Memory>
+    requires { length found.now ≡ length claims.now.paths }
+    ensures { (files : List (List ℕ × List ℕ)) → map option_copied found.now ≡ map (bytes_at files) claims.now.paths → AreRead files claims.now.rules tables.now
+        → IfOk result (λ v. AreTrueAnswers files claims.now.rules claims.now.claims v.items) }
+{
     let mut answers = Vec::with_capacity(alloc, claims.claim_count())?;
     'claims: for index in 0..claims.claim_count() {
         let asked = claims.claim(index);
-        let verdict = verdict_of(judge(alloc, &asked.claim, &found));
+        let verdict = verdict_of(judge(alloc, &asked.claim, found, tables));
         answers.push(Answer {
             line: asked.line,
             verdict,
@@ -65,7 +86,8 @@ fn find_files<'a>(
 
 // The verdict that was reached, or a refusal for the cause for which none was.
 fn verdict_of(judged: Result<Verdict, Cause>) -> Verdict
-    ensures { (files : List (List ℕ × List ℕ)) (claim : TextClaim) → MatchResult judged (IsTrueVerdict files claim) (HasCause files (patterns_of claim)) → IsTrueVerdict files claim result }
+    ensures { (files : List (List ℕ × List ℕ)) (rules : List (List ℕ)) (claim : TextClaim) → MatchResult judged (IsTrueVerdict files rules claim) (HasCause files rules (patterns_of claim))
+        → IsTrueVerdict files rules claim result }
 {
     match judged {
         Ok(verdict) => verdict,
@@ -73,19 +95,40 @@ fn verdict_of(judged: Result<Verdict, Cause>) -> Verdict
     }
 }
 
-// The verdict on a claim, where these are the bytes of the files with the paths of the text, or the cause for which there
-// is none.
-fn judge(alloc: Global, claim: &Claim<usize>, found: &[Option<&[u8]>]) -> Result<Verdict, Cause>
+// The verdict on a claim, where these are the bytes of the files with the paths of the text and what its rule lines' files
+// hold, or the cause for which there is none.
+fn judge(
+    alloc: Global,
+    claim: &Claim<usize>,
+    found: &[Option<&[u8]>],
+    tables: &Tables,
+) -> Result<Verdict, Cause>
     requires within { AllByRecursion (λ i. i < length found.now) (patterns_of claim.now) }
     requires numbers { HasGoodNumbers claim.now }
-    ensures { (files : List (List ℕ × List ℕ)) (paths : List (List ℕ)) → map option_copied found.now ≡ map (bytes_at files) paths
-        → MatchResult result (IsTrueVerdict files (about (path_at paths) claim.now)) (HasCause files (patterns_of (about (path_at paths) claim.now))) }
+    ensures { (files : List (List ℕ × List ℕ)) (paths rules : List (List ℕ)) → map option_copied found.now ≡ map (bytes_at files) paths → AreRead files rules tables.now
+        → MatchResult result (IsTrueVerdict files rules (about (path_at paths) claim.now)) (HasCause files rules (patterns_of (about (path_at paths) claim.now))) }
 {
     let Some(files) = files_at(&places_of(claim), found) else {
         return Err(Cause::NoFile);
     };
-    let patterns = read_each(alloc, &files)?;
-    let patterns = match with_rules(patterns) {
+    let tables = tables.all()?;
+    judge_by(alloc, claim, &files, tables)
+}
+
+// The verdict on a claim, where these are the bytes of its patterns' files, each once, and the text's tables.
+fn judge_by(
+    alloc: Global,
+    claim: &Claim<usize>,
+    there: &OneOrTwo<&[u8]>,
+    tables: &[Table],
+) -> Result<Verdict, Cause>
+    requires { HasGoodNumbers claim.now }
+    ensures { (files : List (List ℕ × List ℕ)) (paths rules each : List (List ℕ)) → IsEachOnce each (patterns_of (about (path_at paths) claim.now))
+        → AllZip (λ path b. bytes_at files path ≡ Some b.now) each (items there.now) → AreTables files rules tables.now
+        → MatchResult result (IsTrueVerdict files rules (about (path_at paths) claim.now)) (HasCause files rules (patterns_of (about (path_at paths) claim.now))) }
+{
+    let patterns = read_each(alloc, there)?;
+    let patterns = match with_rules(patterns, tables) {
         Ok(patterns) => patterns,
         Err(fault) => return Err(Cause::BadRule(fault)),
     };

@@ -5,14 +5,14 @@ use Rattle.ca_claims.specs.declared.verifier.one_or_two.OneOrTwo.TheVariants.{On
 use Rattle.ca_claims.specs.declared.verifier.ruled.Ruled.{Ruled}
 use Rattle.ca_plane.specs.Plane.{Picture}
 use Rattle.ca_plane.specs.Sparse.{IsSparse}
-use Rattle.ca_rule.specs.declared.rule.Rule.{Rule}
-use Rattle.ca_rule.specs.Rule.{IsSameRule, NamesRule}
+use Rattle.ca_rule.specs.TableNext.{TableRule}
+use Rattle.ca_rule.specs.Rule.{RuleValue, rule_value, IsSameRule, NamesRule}
 use Rattle.ca_rle.specs.File as rle
 use Rattle.ca_rle.specs.Limits.{IsWithinLimits}
 use Rattle.ca_rle.specs.Pattern.{IsPatternOf}
 use Rattle.ca_rle.specs.declared.pattern.Pattern.{Pattern}
 use Rattle.ca_claims.specs.declared.verdict.Cause.{Cause}
-use Rattle.ca_claims.specs.declared.verdict.Cause.TheVariants.{NoFile, BadPattern, BadRule, StateTooLarge, MixedRules, Memory}
+use Rattle.ca_claims.specs.declared.verdict.Cause.TheVariants.{NoFile, BadTable, BadPattern, BadRule, StateTooLarge, MixedRules, Memory}
 use Rattle.ca_claims.specs.Answers.{IsReadable, IsPatternFault}
 
 -- one or two, as a list
@@ -35,31 +35,36 @@ pub record IsReadFrom (bytes : List ℕ) (pattern : Pattern) : Type 0 where
 -- why the bytes aren't read: their fault, or want of memory for bytes that are readable
 abbrev pub IsUnread : List ℕ → Cause → Type 0
 IsUnread bytes NoFile = ⊥
+IsUnread bytes (BadTable fault) = ⊥
 IsUnread bytes (BadPattern fault) = IsPatternFault bytes fault
 IsUnread bytes (BadRule fault) = ⊥
 IsUnread bytes StateTooLarge = ⊥
 IsUnread bytes MixedRules = ⊥
 IsUnread bytes Memory = IsReadable bytes
 
--- the pattern's rule text names a rule
-abbrev pub HasName : Pattern → Type 0
-HasName pattern = (rule : Rule) × NamesRule pattern.rule_text.items rule
+-- the pattern's rule text names a rule among the tables
+abbrev pub HasName : List TableRule → Pattern → Type 0
+HasName tables pattern = (rule : RuleValue) × NamesRule pattern.rule_text.items tables rule
+
+-- the rule of a pattern
+abbrev pub rule_of : Ruled → RuleValue
+rule_of ruled = rule_value ruled.rule
 
 -- the pattern with a rule that its rule text names
-abbrev pub IsRuledAs : Pattern → Ruled → Type 0
-IsRuledAs pattern ruled = (ruled.pattern ≡ pattern) × NamesRule pattern.rule_text.items ruled.rule
+abbrev pub IsRuledAs : List TableRule → Pattern → Ruled → Type 0
+IsRuledAs tables pattern ruled = (ruled.pattern ≡ pattern) × NamesRule pattern.rule_text.items tables (rule_of ruled)
 
 -- the rule is that of the one pattern, or of the first of two, and the second's is the same
-abbrev pub AreOfOneRule : List Ruled → Rule → Type 0
+abbrev pub AreOfOneRule : List Ruled → RuleValue → Type 0
 AreOfOneRule [] rule = ⊥
-AreOfOneRule (a ∷ []) rule = rule ≡ a.rule
-AreOfOneRule (a ∷ b ∷ patterns) rule = (rule ≡ a.rule) × IsSameRule a.rule b.rule
+AreOfOneRule (a ∷ []) rule = rule ≡ rule_of a
+AreOfOneRule (a ∷ b ∷ patterns) rule = (rule ≡ rule_of a) × IsSameRule (rule_of a) (rule_of b)
 
 -- the second of two patterns hasn't the same rule as the first
 abbrev pub AreMixed : List Ruled → Type 0
 AreMixed [] = ⊥
 AreMixed (a ∷ []) = ⊥
-AreMixed (a ∷ b ∷ patterns) = IsSameRule a.rule b.rule → ⊥
+AreMixed (a ∷ b ∷ patterns) = IsSameRule (rule_of a) (rule_of b) → ⊥
 
 -- the cells of a pattern, and those of the other, which is the same where there is one
 abbrev pub ArePlanes : List Ruled → Picture → Picture → Type 0

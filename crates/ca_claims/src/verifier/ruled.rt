@@ -5,7 +5,7 @@ use ca_rule::Rule;
 
 /// A pattern, and the rule that its rule text names.
 #[derive(Drop)]
-pub(crate) struct Ruled {
+pub(crate) struct Ruled<'t> {
     pub pattern: Pattern,
-    pub rule: Rule,
+    pub rule: Rule<'t>,
 }

@@ -9,6 +9,7 @@ pub returns-in_err-rule : goal.returns-in_err-rule
 returns-in_err-rule c =
     let pattern = c.args.pattern in
     let text = pattern.rule_text.items in
+    let tables = c.args.tables.now in
     let passed = err_from_is_err_and c.from_residual.result c.from_residual.ensures.1 in
-    let fault = subst (λ t. IsRuleFault t c.in_err-rule.field-0.0) c.deref.ensures.value c.in_err-rule.ensures.fault in
-    subst (λ r. MatchResult r (IsRuledAs pattern) (IsRuleFault text)) (sym passed.1) (subst (IsRuleFault text) (sym passed.2) fault)
+    let fault = subst (λ t. IsRuleFault t tables c.in_err-rule.field-0.0) c.deref.ensures.value c.in_err-rule.ensures.fault in
+    subst (λ r. MatchResult r (IsRuledAs tables pattern) (IsRuleFault text tables)) (sym passed.1) (subst (IsRuleFault text tables) (sym passed.2) fault)
