@@ -5,6 +5,8 @@ pub mod TableSearch
 pub mod TableChoice
 pub mod TableCrowd
 pub mod TableStates
+pub mod TableSieve
+pub mod TableDistinct
 pub mod TableStored
 pub mod TableReading
 pub mod TableSettings

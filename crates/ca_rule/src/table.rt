@@ -1,10 +1,5 @@
 //! Rule tables: the rules of files with an `@TABLE` section.
 
-ghost use Rattle.std.specs.Prelude.{◌≡◌, true};
-ghost use Rattle.std.specs.List.{list_all};
-ghost use Rattle.ca_rule.specs.inner.TableSearch.{placements_of};
-ghost use Rattle.ca_rule.specs.inner.TablePlaces.{begins_at_centre, next_at};
-
 pub(crate) mod choice;
 mod crowd;
 pub(crate) mod fault;
@@ -14,10 +9,13 @@ mod laws;
 mod lines;
 pub(crate) mod names;
 pub(crate) mod neighbourhood;
+mod parts_fault;
 mod placement;
 mod reading;
 pub(crate) mod said_lines;
 pub(crate) mod settings;
+mod sieve;
+mod sifted;
 pub(crate) mod slot;
 mod state_set;
 pub(crate) mod statement;
@@ -33,9 +31,11 @@ pub use fault::TableFault;
 use head::table_lines;
 pub use laws::{worked_cells, worked_orders, worked_texts};
 pub use neighbourhood::{Neighbourhood, Symmetry};
+pub(crate) use parts_fault::PartsFault;
 use placement::Orders;
 use reading::read_statements;
 use settings::read_settings;
+use sifted::{Sifted, first_outcome};
 pub use slot::Slot;
 use state_set::StateSet;
 use std::alloc::Global;
@@ -51,8 +51,7 @@ pub struct Table {
     states: u16,
     neighbourhood: Neighbourhood,
     symmetry: Symmetry,
-    variables: Vec<StateSet>,
-    transitions: Vec<Transition>,
+    sifted: Sifted,
 }
 
 impl Model for Table {
@@ -61,19 +60,19 @@ impl Model for Table {
 
     ghost Value = { TableRule };
 
-    ghost view = { λ t. stored t.name.items t.states t.neighbourhood t.symmetry t.variables.items t.transitions.items };
+    ghost view = { λ t. stored t.name.items t.states t.neighbourhood t.symmetry t.sifted.variables t.sifted.transitions };
 
-    ghost invariant = { λ t. IsKept (stored t.name.items t.states t.neighbourhood t.symmetry t.variables.items t.transitions.items) };
+    ghost invariant = { λ t. IsKept (stored t.name.items t.states t.neighbourhood t.symmetry t.sifted.variables t.sifted.transitions) };
 }
 
 impl Table {
-    ghost use Rattle.std.specs.Prelude.{◌≡◌, ◌≢◌, ◌≤◌, true, replicate, IfSome, IfNone, IfOk, IfErr};
+    ghost use Rattle.std.specs.Prelude.{◌≡◌, ◌≢◌, ◌≤◌, true, replicate, IfOk, IfErr};
     ghost use Rattle.std.specs.List.{list_all};
     ghost use Rattle.ca_plane.specs.Bytes.{IsWord};
     ghost use Rattle.ca_rule.specs.TableNext.{Transition as TransitionValue, table_next};
     ghost use Rattle.ca_rule.specs.TableText.{IsTable};
     ghost use Rattle.ca_rule.specs.TableFaults.{IsFaultOf};
-    ghost use Rattle.ca_rule.specs.inner.TableStored.{stored, is_below};
+    ghost use Rattle.ca_rule.specs.inner.TableStored.{stored, is_below, IsPartsFault};
 
     /// The table of a rule file's text, or what is wrong with its first faulty line. Want of memory is told only where a
     /// good statement or the whole table was read.
@@ -89,48 +88,57 @@ impl Table {
             return Err(TableFault::Memory);
         };
         let (variables, transitions) = statements.into_parts();
-        let Some(table) = Table::of_parts(
+        let made = Table::of_parts(
+            alloc,
             name,
             settings.states,
             settings.neighbourhood,
             settings.symmetry,
             variables,
             transitions,
-        ) else {
-            let line = lines.last_line();
-            return Err(TableFault::Wakes { line });
-        };
-        Ok(table)
+        );
+        match made {
+            Ok(table) => Ok(table),
+            Err(fault) => Err(fault.at(lines.last_line())),
+        }
     }
 
-    /// The table of these parts, unless it turns nine zeros into another state.
+    /// The table of these parts.
+    ///
+    /// # Errors
+    ///
+    /// `Wakes` where it would turn nine zeros into another state, whatever the memory; else fails where there is no memory
+    /// for sieves of the transitions.
     pub(crate) fn of_parts(
+        alloc: Global,
         name: Vec<u8>,
         states: u16,
         neighbourhood: Neighbourhood,
         symmetry: Symmetry,
         variables: Vec<StateSet>,
         transitions: Vec<Transition>,
-    ) -> Option<Table>
+    ) -> Result<Table, PartsFault>
         requires named { IsWord name.items }
         requires low { 2 ≤ states }
         requires high { states ≤ 256 }
         requires results { list_all (λ (t : TransitionValue). is_below states t.result) transitions.items ≡ true }
-        ensures parts { IfSome result (λ t. t ≡ stored name.items states neighbourhood symmetry variables.items transitions.items) }
-        ensures quiet { IfSome result (λ t. table_next t (replicate 9 0) ≡ 0) }
-        ensures wakes { IfNone result (table_next (stored name.items states neighbourhood symmetry variables.items transitions.items) (replicate 9 0) ≢ 0) }
+        ensures parts { IfOk result (λ t. t ≡ stored name.items states neighbourhood symmetry variables.items transitions.items) }
+        ensures quiet { IfOk result (λ t. table_next t (replicate 9 0) ≡ 0) }
+        ensures fault { IfErr result (IsPartsFault (stored name.items states neighbourhood symmetry variables.items transitions.items)) }
     {
         let orders = Orders::of(neighbourhood, symmetry);
         if first_outcome(&variables, &transitions, orders, &[0; 9]) != 0 {
-            return None;
+            return Err(PartsFault::Wakes);
         }
-        Some(Table {
+        let Ok(sifted) = Sifted::of(alloc, states, variables, transitions) else {
+            return Err(PartsFault::Memory);
+        };
+        Ok(Table {
             name,
             states,
             neighbourhood,
             symmetry,
-            variables,
-            transitions,
+            sifted,
         })
     }
 
@@ -141,26 +149,6 @@ impl Table {
     {
         &self.name
     }
-}
-
-/// What the first transition gives that fits in one of the orders; where none fits, the centre stays.
-fn first_outcome(
-    variables: &[StateSet],
-    transitions: &[Transition],
-    orders: Orders,
-    nine: &Nine,
-) -> u8
-    requires centred { list_all begins_at_centre (placements_of orders) ≡ true }
-    ensures { result ≡ next_at variables.now (placements_of orders) nine.now transitions.now }
-{
-    let mut left = transitions;
-    'transitions: while let Some((transition, later)) = left.split_first() {
-        if let Some(state) = transition.outcome(variables, orders, nine) {
-            return state;
-        }
-        left = later;
-    }
-    nine[4]
 }
 
 impl Automaton for Table {
@@ -178,7 +166,7 @@ impl Automaton for Table {
 
     fn next(&self, nine: &Nine) -> u8 {
         let orders = Orders::of(self.neighbourhood, self.symmetry);
-        first_outcome(&self.variables, &self.transitions, orders, nine)
+        self.sifted.next(orders, nine)
     }
 
     ghost closed = { λ table nine sound. sound.closed nine };

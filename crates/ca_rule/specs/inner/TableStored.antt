@@ -1,11 +1,14 @@
 -- A rule table as its fields keep it.
-use Rattle.std.specs.Prelude.{ℕ, List, Bool, true, nat_lt}
+use Rattle.std.specs.Prelude.{◌≡◌, ℕ, List, Bool, true, nat_lt, replicate}
 use Rattle.ca_rule.specs.declared.table.neighbourhood.Neighbourhood.{Neighbourhood}
 use Rattle.ca_rule.specs.declared.table.neighbourhood.Symmetry.{Symmetry}
 use Rattle.ca_rule.specs.declared.table.slot.Slot.{Slot}
 use Rattle.ca_rule.specs.declared.table.slot.Slot.TheVariants.{Number, Variable}
 use Rattle.ca_plane.specs.Bytes.{IsWord}
-use Rattle.ca_rule.specs.TableNext.{States, Transition, TableRule, IsSound}
+use Rattle.ca_rule.specs.declared.table.parts_fault.PartsFault.{PartsFault}
+use Rattle.ca_rule.specs.declared.table.parts_fault.PartsFault.TheVariants.{Wakes, Memory}
+use Rattle.ca_rule.specs.TableNext.{States, Transition, TableRule, table_next, IsSound}
+use Rattle.ca_rule.specs.TableFaults.{DoesWake}
 
 -- the table of these parts
 abbrev pub stored : List ℕ → ℕ → Neighbourhood → Symmetry → List States → List Transition → TableRule
@@ -27,3 +30,8 @@ is_below count (Variable v) = true
 pub record IsKept (table : TableRule) : Type 0 where
   pub named : IsWord table.name
   pub sound : IsSound table
+
+-- why the parts of a table aren't kept: it wakes, or memory is wanting for one that doesn't
+abbrev pub IsPartsFault : TableRule → PartsFault → Type 0
+IsPartsFault table Wakes = DoesWake table
+IsPartsFault table Memory = table_next table (replicate 9 0) ≡ 0

@@ -1,7 +1,7 @@
 //! Where the slots of a transition take their cells.
 
-ghost use Rattle.std.specs.Prelude.{◌≡◌, ◌≢◌, map};
-ghost use Rattle.ca_rule.specs.TableOrders.{orders};
+ghost use Rattle.std.specs.Prelude.{◌≡◌, ◌≢◌, ◌∷◌, map};
+ghost use Rattle.ca_rule.specs.TableOrders.{ring, orders};
 ghost use Rattle.ca_rule.specs.inner.TablePlaces.{places};
 ghost use Rattle.ca_rule.specs.declared.table.neighbourhood.Symmetry.TheVariants.{Permute};
 
@@ -33,6 +33,18 @@ impl Orders {
             Symmetry::Permute => Orders::Every(neighbourhood),
             _ => Orders::Listed(placements(neighbourhood, symmetry)),
         }
+    }
+}
+
+/// The places of the slots' cells where the ring's cells are taken as they stand.
+pub(crate) fn as_it_stands(neighbourhood: Neighbourhood) -> &'static [u8]
+    ensures { result.now ≡ 4 ∷ ring neighbourhood }
+{
+    match neighbourhood {
+        Neighbourhood::VonNeumann => &[4, 1, 5, 7, 3],
+        Neighbourhood::Moore => &[4, 1, 2, 5, 8, 7, 6, 3, 0],
+        Neighbourhood::Hexagonal => &[4, 1, 5, 8, 7, 3, 0],
+        Neighbourhood::OneDimensional => &[4, 3, 5],
     }
 }
 

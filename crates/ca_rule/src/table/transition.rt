@@ -1,12 +1,14 @@
 //! Transitions of rule tables.
 
-ghost use Rattle.std.specs.Prelude.{◌≡◌, ◌==◌, ◌||◌, not, map, zip, slice_index};
-ghost use Rattle.std.specs.List.{list_all};
+ghost use Rattle.std.specs.Prelude.{◌≡◌, ◌==◌, ◌||◌, ◌%◌, ℕ, true, false, not, map, zip, slice_index};
+ghost use Rattle.std.specs.Int.{bit_at};
+ghost use Rattle.std.specs.List.{list_all, list_any};
+ghost use Rattle.ca_rule.specs.inner.TableDistinct.{are_distinct};
 ghost use Rattle.ca_rule.specs.TableNext.{Taken, is_variable, admits, take_one_cell, cell_of, fits, given};
 
 use crate::table::choice::{Choice, cell_at};
 use crate::table::crowd::has_crowd;
-use crate::table::placement::Orders;
+use crate::table::placement::{Orders, as_it_stands};
 use crate::table::slot::Slot;
 use crate::table::state_set::StateSet;
 use ca_plane::Nine;
@@ -28,10 +30,10 @@ impl Model for Transition {
 }
 
 impl Transition {
-    ghost use Rattle.std.specs.Prelude.{◌≡◌, map, length, true, None};
+    ghost use Rattle.std.specs.Prelude.{◌≡◌, map, length, drop, true, None};
     ghost use Rattle.ca_rule.specs.TableNext.{fits};
     ghost use Rattle.std.specs.List.{list_all};
-    ghost use Rattle.ca_rule.specs.inner.TablePlaces.{begins_at_centre, admits_centre, taken_at, outcome_at};
+    ghost use Rattle.ca_rule.specs.inner.TablePlaces.{begins_at_centre, slots_admit, admits_centre, taken_at, outcome_at};
     ghost use Rattle.ca_rule.specs.inner.TableSearch.{least_outcome, placements_of};
     ghost use Rattle.ca_rule.specs.inner.TableChoice.{taken_of, free_of};
 
@@ -57,6 +59,10 @@ impl Transition {
         match orders {
             Orders::Listed(placements) => self.listed_outcome(variables, placements, nine),
             Orders::Every(neighbourhood) => {
+                let standing = as_it_stands(neighbourhood);
+                if fits(variables, &self.inputs, standing, nine) {
+                    return Some(given(self.result, &self.inputs, standing, nine));
+                }
                 let choice = Choice::of_ring(neighbourhood);
                 if self.fits_at(variables, &choice, nine) {
                     self.least_outcome(variables, choice, nine)
@@ -64,6 +70,23 @@ impl Transition {
                     None
                 }
             }
+        }
+    }
+
+    /// How many slots there are.
+    pub(crate) fn len(&self) -> usize
+        ensures { result ≡ length self.now.inputs }
+    {
+        self.inputs.len()
+    }
+
+    /// Whether the slot, counted from 0, admits the state, if there is one.
+    pub(crate) fn slot_admits(&self, variables: &[StateSet], slot: usize, state: u8) -> bool
+        ensures { result ≡ slots_admit variables.now state (drop slot self.now.inputs) }
+    {
+        match self.inputs.get(slot) {
+            Some(slot) => admits(variables, *slot, state),
+            None => true,
         }
     }
 
@@ -216,6 +239,24 @@ fn fits(variables: &[StateSet], slots: &[Slot], places: &[u8], nine: &Nine) -> b
     each_admits(variables, slots, places, nine) && each_takes_one_cell(slots, places, nine)
 }
 
+/// Whether no variable stands twice among the slots, nor is seen. Each variable is seen by its number's remainder by 64, so
+/// that the answer may be no where two numbers have one remainder.
+fn are_distinct(slots: &[Slot], seen: u64) -> bool
+    ensures distinct { result ≡ true → are_distinct slots.now ≡ true }
+    ensures apart { result ≡ true → (v : ℕ) → bit_at seen (v % 64) ≡ 1 → list_any (is_variable v) slots.now ≡ false }
+{
+    let Some((slot, later)) = slots.split_first() else {
+        return true;
+    };
+    let Slot::Variable(number) = *slot else {
+        return are_distinct(later, seen);
+    };
+    if (seen >> (number % 64)) % 2 == 1 {
+        return false;
+    }
+    are_distinct(later, seen | (1 << (number % 64)))
+}
+
 /// Whether each slot admits the cell at its place.
 fn each_admits(variables: &[StateSet], slots: &[Slot], places: &[u8], nine: &Nine) -> bool
     ensures { result ≡ list_all (λ (t : Taken). admits variables.now t.0 t.1) (zip slots.now (map (slice_index nine.now) places.now)) }
@@ -240,6 +281,9 @@ fn each_takes_one_cell(slots: &[Slot], places: &[u8], nine: &Nine) -> bool
     ensures { let all = zip slots.now (map (slice_index nine.now) places.now) in
         result ≡ list_all (λ (t : Taken). take_one_cell all t.0 t.1) all }
 {
+    if are_distinct(slots, 0) {
+        return true;
+    }
     let mut slots_left = slots;
     let mut places_left = places;
     'slots: while let Some((slot, slots_later)) = slots_left.split_first() {

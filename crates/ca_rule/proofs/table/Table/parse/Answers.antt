@@ -5,7 +5,7 @@ use Rattle.ca_rule.specs.TableNext.{Transition, table_next}
 use Rattle.ca_rule.specs.TableLines.{last_line}
 use Rattle.ca_rule.specs.inner.TableReading.{left_of}
 use Rattle.ca_rule.specs.inner.TableSettings.{meaning_of}
-use Rattle.ca_rule.specs.inner.TableStored.{stored, is_below}
+use Rattle.ca_rule.specs.inner.TableStored.{stored, is_below, IsPartsFault}
 use Rattle.ca_rule.proofs.TableParsed.{kept-below, is-table}
 use Rattle.ca_rule.proofs.table.Table.parse.Goals as goal
 
@@ -17,23 +17,17 @@ returns-in_default-clause-fault c =
           c.in_ok-name.ensures.found c.in_ok-settings.ensures.found c.in_ok-statements.ensures.found,
     )
 
-pub of_parts-requires-clause-named : goal.of_parts-requires-clause-named
-of_parts-requires-clause-named c = subst IsWord (sym (c.in-Ok.ensures.items_if_clones_equal (λ x y e. e))) c.in_ok-name.ensures.word
-
-pub of_parts-requires-clause-results : goal.of_parts-requires-clause-results
-of_parts-requires-clause-results c =
+pub of_parts-made-requires-clause-results : goal.of_parts-made-requires-clause-results
+of_parts-made-requires-clause-results c =
     let below = kept-below (meaning_of c.in_ok-settings.settings) (left_of c.in_ok-settings.behind) c.in_ok-statements.statements c.in_ok-statements.ensures.found in
     ap (list_all (λ (t : Transition). is_below c.in_ok-settings.settings.states t.result)) c.into_parts-variables.ensures.transitions ∙ below
 
-pub returns-in_default-of_parts-clause-fault : goal.returns-in_default-of_parts-clause-fault
-returns-in_default-of_parts-clause-fault c =
+pub returns-in-Err-clause-fault : goal.returns-in-Err-clause-fault
+returns-in-Err-clause-fault c =
     let settings = c.in_ok-settings.settings in
     let kept = c.in_ok-statements.statements in
     let table = is-table c.args.text.now c.in_ok-name.name.now (left_of c.in_ok-name.lines) (left_of c.in_ok-settings.behind) (meaning_of settings) kept
     c.in_ok-name.ensures.found c.in_ok-settings.ensures.found c.in_ok-statements.ensures.found in
-    let named = c.in-Ok.ensures.items_if_clones_equal (λ x y e. e) in (
-      _,
-      table,
-      subst (λ t. table_next t (replicate 9 0) ≢ 0) (λ i. stored (named i) settings.states settings.neighbourhood settings.symmetry (c.into_parts-variables.ensures.variables i) (c.into_parts-variables.ensures.transitions i)) c.in_default-of_parts.ensures.wakes,
-      c.last_line-line.ensures ∙ ap last_line c.in_ok-name.ensures.text,
-    )
+    let named = c.in-Ok.ensures.items_if_clones_equal (λ x y e. e) in
+    c.at.ensures c.args.text.now _ table (c.last_line.ensures ∙ ap last_line c.in_ok-name.ensures.text)
+    (subst (λ t. IsPartsFault t c.in-Err.fault) (λ i. stored (named i) settings.states settings.neighbourhood settings.symmetry (c.into_parts-variables.ensures.variables i) (c.into_parts-variables.ensures.transitions i)) c.in-Err.ensures.fault)

@@ -1,9 +1,11 @@
-use Rattle.std.proofs.Common.{◌∙◌, map, ◌++◌, ap, sym}
+use Rattle.std.proofs.Common.{◌≡◌, ◌∙◌, map, zip, slice_index, true, Some, ◌++◌, ap, sym}
 use Rattle.ca_rule.specs.TableOrders.{ring, ring_size, every_order}
-use Rattle.ca_rule.specs.inner.TablePlaces.{outcome_at}
+use Rattle.ca_rule.specs.inner.TablePlaces.{taken_at, outcome_at}
 use Rattle.ca_rule.specs.inner.TableSearch.{placements_of}
 use Rattle.ca_rule.specs.inner.TableChoice.{taken_of}
 use Rattle.ca_rule.proofs.Searched.{least_outcome-unfit}
+use Rattle.ca_rule.specs.TableNext.{fits, given}
+use Rattle.ca_rule.proofs.Idle.{stands-first}
 use Rattle.ca_rule.proofs.Placed.{outcome-uncentred}
 use Rattle.ca_rule.proofs.table.transition.Transition.outcome.Goals as goal
 
@@ -17,3 +19,15 @@ returns-else-fits_at c =
 pub returns-then-not-admits_centre : goal.returns-then-not-admits_centre
 returns-then-not-admits_centre c =
     sym (outcome-uncentred c.args.variables.now c.args.nine.now c.args.self.now (placements_of c.args.orders) c.requires.centred (sym c.admits_centre.ensures ∙ c.if-not-admits_centre.true))
+
+pub returns-then-fits : goal.returns-then-fits
+returns-then-fits c =
+    let cells = map (slice_index c.args.nine.now) c.as_it_stands-standing.result.now in
+    let slots : c.deref.result.now ≡ c.args.self.now.inputs = c.deref.ensures.value ∙ ap (λ l. l.inputs) c.self.view_is in
+    let same : c.deref-then-fits.result.now ≡ c.args.self.now.inputs = c.deref-then-fits.ensures.value ∙ ap (λ l. l.inputs) c.self.view_is in
+    let fit : fits c.args.variables.now (taken_at c.args.nine.now c.args.self.now c.as_it_stands-standing.result.now) ≡ true
+    = ap (λ s. fits c.args.variables.now (zip s cells)) (sym slots) ∙ sym c.fits.ensures ∙ c.if-fits.true in
+    let state : c.given.result ≡ given c.args.self.now.result (taken_at c.args.nine.now c.args.self.now c.as_it_stands-standing.result.now)
+    = c.given.ensures ∙ ap (λ s. given c.self.inside.result (zip s cells)) same ∙ ap (λ r. given r (zip c.args.self.now.inputs cells)) (ap (λ l. l.result) c.self.view_is) in
+    ap Some state ∙ sym (stands-first c.args.variables.now c.args.nine.now c.args.self.now c.in-Every.neighbourhood c.as_it_stands-standing.result.now c.as_it_stands-standing.ensures fit)
+    ∙ ap (λ o. outcome_at c.args.variables.now c.args.nine.now c.args.self.now (placements_of o)) (sym c.in-Every.is)

@@ -1,7 +1,7 @@
 use Rattle.std.proofs.Common.{◌≡◌, length}
 use Rattle.ca_rule.specs.inner.TableSearch.{placements_of}
 use Rattle.ca_rule.specs.inner.TablePlaces.{next_at}
-use Rattle.ca_rule.proofs.table.first_outcome.Given as goal
+use Rattle.ca_rule.proofs.table.sifted.first_outcome.Given as goal
 
 -- the state lies with the transitions that are left
 abbrev pub invariant-transitions : goal.invariant-transitions

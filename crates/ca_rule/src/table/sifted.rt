@@ -1,0 +1,157 @@
+//! The transitions of a rule table, with sieves that pass over those that can't fit.
+
+ghost use Rattle.std.specs.Prelude.{◌≡◌, ◌≤◌, true, IfOk, drop, unwrap_or};
+ghost use Rattle.std.specs.List.{list_all};
+ghost use Rattle.ca_rule.specs.inner.TableSearch.{placements_of};
+ghost use Rattle.ca_rule.specs.inner.TablePlaces.{begins_at_centre, next_at};
+ghost use Rattle.ca_rule.specs.inner.TableSieve.{IsSieve, AreSieves};
+
+use crate::table::placement::Orders;
+use crate::table::sieve::Sieve;
+use crate::table::state_set::StateSet;
+use crate::table::transition::Transition;
+use ca_plane::{Memory, Nine};
+use std::alloc::Global;
+use std::marker::Model;
+
+/// The variables of a table, its transitions, and a sieve of each 64 of them.
+#[derive(Drop)]
+pub(crate) struct Sifted {
+    variables: Vec<StateSet>,
+    transitions: Vec<Transition>,
+    sieves: Vec<Sieve>,
+}
+
+impl Model for Sifted {
+    ghost use Rattle.ca_rule.specs.inner.TableSieve.{Lines, AreSieves};
+
+    ghost Value = { Lines };
+
+    ghost view = { λ s. record { variables = s.variables.items; transitions = s.transitions.items } };
+
+    ghost invariant = { λ s. AreSieves s.variables.items s.transitions.items s.sieves.items };
+}
+
+impl Sifted {
+    ghost use Rattle.std.specs.Prelude.{◌≡◌, ◌≤◌, true, IfOk};
+    ghost use Rattle.std.specs.List.{list_all};
+    ghost use Rattle.ca_rule.specs.inner.TableSearch.{placements_of};
+    ghost use Rattle.ca_rule.specs.inner.TablePlaces.{begins_at_centre, next_at};
+    ghost use Rattle.ca_rule.specs.inner.TableSieve.{Lines};
+
+    /// The transitions of a table with so many states.
+    ///
+    /// # Errors
+    ///
+    /// Fails where there is no memory for their sieves.
+    pub(crate) fn of(
+        alloc: Global,
+        states: u16,
+        variables: Vec<StateSet>,
+        transitions: Vec<Transition>,
+    ) -> Result<Sifted, Memory>
+        requires { states ≤ 256 }
+        ensures variables { IfOk result (λ sifted. sifted.variables ≡ variables.items) }
+        ensures transitions { IfOk result (λ sifted. sifted.transitions ≡ transitions.items) }
+    {
+        let sieves = sieves_of(alloc, states, &variables, &transitions)?;
+        Ok(Sifted {
+            variables,
+            transitions,
+            sieves,
+        })
+    }
+
+    /// What the first transition gives that fits in one of the orders; where none fits, the centre stays.
+    pub(crate) fn next(&self, orders: Orders, nine: &Nine) -> u8
+        requires centred { list_all begins_at_centre (placements_of orders) ≡ true }
+        ensures { result ≡ next_at self.now.variables (placements_of orders) nine.now self.now.transitions }
+    {
+        let mut left: &[Transition] = &self.transitions;
+        let mut sieves: &[Sieve] = &self.sieves;
+        'sieves: while let Some((sieve, later)) = sieves.split_first() {
+            if let Some(state) = sifted_outcome(sieve, &self.variables, left, orders, nine) {
+                return state;
+            }
+            left = behind_64(left);
+            sieves = later;
+        }
+        first_outcome(&self.variables, left, orders, nine)
+    }
+}
+
+/// A sieve of each 64 of the transitions of a table with so many states.
+fn sieves_of(
+    alloc: Global,
+    states: u16,
+    variables: &[StateSet],
+    transitions: &[Transition],
+) -> Result<Vec<Sieve>, Memory>
+    requires { states ≤ 256 }
+    ensures { IfOk result (λ sieves. AreSieves variables.now transitions.now sieves.items) }
+{
+    let mut sieves = Vec::new(alloc);
+    let mut left = transitions;
+    'sieves: while !left.is_empty() {
+        sieves.push(Sieve::of(alloc, states, variables, left)?)?;
+        left = behind_64(left);
+    }
+    Ok(sieves)
+}
+
+/// The transitions behind the first 64.
+fn behind_64(transitions: &[Transition]) -> &[Transition]
+    ensures { result.now ≡ drop 64 transitions.now }
+{
+    if transitions.len() <= 64 {
+        return &[];
+    }
+    transitions.split_at(64).1
+}
+
+/// What the first of 64 transitions gives that fits in one of the orders, if one of them fits.
+fn sifted_outcome(
+    sieve: &Sieve,
+    variables: &[StateSet],
+    transitions: &[Transition],
+    orders: Orders,
+    nine: &Nine,
+) -> Option<u8>
+    requires centred { list_all begins_at_centre (placements_of orders) ≡ true }
+    requires sieve { IsSieve variables.now transitions.now sieve.now }
+    ensures { next_at variables.now (placements_of orders) nine.now transitions.now
+        ≡ unwrap_or result (next_at variables.now (placements_of orders) nine.now (drop 64 transitions.now)) }
+{
+    let mut bits = sieve.passed(orders, nine);
+    'candidates: while bits != 0 {
+        let at = bits.trailing_zeros();
+        let Some(transition) = transitions.get(at as usize) else {
+            return None;
+        };
+        if let Some(state) = transition.outcome(variables, orders, nine) {
+            return Some(state);
+        }
+        bits &= !(1 << at);
+    }
+    None
+}
+
+/// What the first transition gives that fits in one of the orders; where none fits, the centre stays.
+pub(crate) fn first_outcome(
+    variables: &[StateSet],
+    transitions: &[Transition],
+    orders: Orders,
+    nine: &Nine,
+) -> u8
+    requires centred { list_all begins_at_centre (placements_of orders) ≡ true }
+    ensures { result ≡ next_at variables.now (placements_of orders) nine.now transitions.now }
+{
+    let mut left = transitions;
+    'transitions: while let Some((transition, later)) = left.split_first() {
+        if let Some(state) = transition.outcome(variables, orders, nine) {
+            return state;
+        }
+        left = later;
+    }
+    nine[4]
+}
