@@ -4,6 +4,8 @@ use Rattle.std.specs.Fmt.{signed_decimal}
 use Rattle.std.specs.List.{flat_map, list_any}
 use Rattle.ca_rule.specs.declared.fault.RuleFault.{RuleFault}
 use Rattle.ca_rule.specs.declared.fault.RuleFault.TheVariants as rules
+use Rattle.ca_rule.specs.declared.table.fault.TableFault.{TableFault}
+use Rattle.ca_rule.specs.declared.table.fault.TableFault.TheVariants as tables
 use Rattle.ca_rle.specs.declared.fault.RleFault.{RleFault}
 use Rattle.ca_rle.specs.declared.fault.RleFault.TheVariants as rle
 use Rattle.ca_claims.specs.declared.fault.ClaimFault.{ClaimFault}
@@ -40,6 +42,19 @@ rule_fault_text rules.Bounded = codes "bounded"
 rule_fault_text rules.Wakes = codes "wakes"
 rule_fault_text rules.Unknown = codes "unknown"
 
+-- why a rule line's file is no good table; its faulty line isn't told, and want of memory is told alone
+abbrev pub table_fault_text : TableFault → List ℕ
+table_fault_text (tables.NoRuleLine line) = codes "bad table: no rule line"
+table_fault_text (tables.NoTable line) = codes "bad table: no table"
+table_fault_text (tables.Syntax line) = codes "bad table: syntax"
+table_fault_text (tables.States line) = codes "bad table: states"
+table_fault_text (tables.Neighborhood line) = codes "bad table: neighborhood"
+table_fault_text (tables.Symmetries line) = codes "bad table: symmetries"
+table_fault_text (tables.Variable line) = codes "bad table: variable"
+table_fault_text (tables.Unbound line) = codes "bad table: unbound"
+table_fault_text (tables.Wakes line) = codes "bad table: wakes"
+table_fault_text tables.Memory = codes "memory"
+
 -- why a pattern's file wasn't read
 abbrev pub rle_fault_text : RleFault → List ℕ
 rle_fault_text rle.Syntax = codes "bad pattern: rle syntax"
@@ -60,6 +75,7 @@ pattern_fault_text patterns.Memory = codes "memory"
 -- why a claim isn't judged
 abbrev pub cause_text : Cause → List ℕ
 cause_text causes.NoFile = codes "no file"
+cause_text (causes.BadTable fault) = table_fault_text fault
 cause_text (causes.BadPattern fault) = pattern_fault_text fault
 cause_text (causes.BadRule fault) = codes "bad rule: " ++ rule_fault_text fault
 cause_text causes.StateTooLarge = codes "state too large"

@@ -24,7 +24,7 @@ GivesTooMany old new = (bytes : List ℕ) × (max_file < length bytes) × Consum
 abbrev pub TakesAtMost : ℕ → Option (List ℕ) → Option (List ℕ) → Type 0
 TakesAtMost most old new = (bytes : List ℕ) × (length bytes ≤ most) × Consumes old new bytes
 
--- claims were answered, truly, and the lines of the answers were written, or a first part of them, or none
-abbrev pub Answered : List (List ℕ × List ℕ) → List (ℕ × Claim) → (List ℕ → Type 0) → (ℕ → Type 0) → Type 0
-Answered files claims Written Ends =
-    (answers : List Answer) × AreTrueAnswers files claims answers × Written (lines_of answers) × Ends (status_of answers)
+-- claims of a text with rule lines of these paths were answered, truly, and the lines of the answers were written, or a first part of them, or none
+abbrev pub Answered : List (List ℕ × List ℕ) → List (List ℕ) → List (ℕ × Claim) → (List ℕ → Type 0) → (ℕ → Type 0) → Type 0
+Answered files rules claims Written Ends =
+    (answers : List Answer) × AreTrueAnswers files rules claims answers × Written (lines_of answers) × Ends (status_of answers)

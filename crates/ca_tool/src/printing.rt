@@ -1,7 +1,7 @@
 //! The lines that are printed for answers, and the exit status.
 
 ghost use Rattle.std.specs.Prelude.{◌≡◌, OnOk, IfOk};
-ghost use Rattle.ca_tool.specs.Printed.{return_text, why_text, cause_text, rule_fault_text, rle_fault_text, pattern_fault_text, verdict_text, line_of, lines_of, status_of, is_refusal, is_no};
+ghost use Rattle.ca_tool.specs.Printed.{return_text, why_text, cause_text, rule_fault_text, table_fault_text, rle_fault_text, pattern_fault_text, verdict_text, line_of, lines_of, status_of, is_refusal, is_no};
 ghost use Rattle.ca_plane.specs.Puts.{Puts};
 ghost use Rattle.std.specs.List.{list_any};
 
@@ -9,7 +9,7 @@ use ca_claims::{Answer, Cause, PatternFault, Verdict, Why};
 use ca_plane::Memory;
 use ca_plane::text::{push_integer, push_number, push_text};
 use ca_rle::RleFault;
-use ca_rule::RuleFault;
+use ca_rule::{RuleFault, TableFault};
 use std::alloc::Global;
 
 fn push_return(out: &mut Vec<u8>, generations: u64, dx: i64, dy: i64) -> Result<(), Memory>
@@ -46,6 +46,23 @@ fn rule_fault_bytes(fault: RuleFault) -> &'static [u8]
     }
 }
 
+fn table_fault_bytes(fault: TableFault) -> &'static [u8]
+    ensures { result.now ≡ table_fault_text fault }
+{
+    match fault {
+        TableFault::NoRuleLine { .. } => b"bad table: no rule line",
+        TableFault::NoTable { .. } => b"bad table: no table",
+        TableFault::Syntax { .. } => b"bad table: syntax",
+        TableFault::States { .. } => b"bad table: states",
+        TableFault::Neighborhood { .. } => b"bad table: neighborhood",
+        TableFault::Symmetries { .. } => b"bad table: symmetries",
+        TableFault::Variable { .. } => b"bad table: variable",
+        TableFault::Unbound { .. } => b"bad table: unbound",
+        TableFault::Wakes { .. } => b"bad table: wakes",
+        TableFault::Memory => b"memory",
+    }
+}
+
 fn rle_fault_bytes(fault: RleFault) -> &'static [u8]
     ensures { result.now ≡ rle_fault_text fault }
 {
@@ -76,6 +93,7 @@ fn push_cause(out: &mut Vec<u8>, cause: &Cause) -> Result<(), Memory>
 {
     match cause {
         Cause::NoFile => push_text(out, b"no file"),
+        Cause::BadTable(fault) => push_text(out, table_fault_bytes(*fault)),
         Cause::BadPattern(fault) => push_text(out, pattern_fault_bytes(*fault)),
         Cause::BadRule(fault) => {
             push_text(out, b"bad rule: ")?;

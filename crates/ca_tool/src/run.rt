@@ -16,7 +16,8 @@ use std::io::Write;
 /// Judges each claim, writes a line for each, in order, and answers the exit status: 2 where a claim is refused,
 /// else 1 where one is false, else 0.
 ///
-/// Where memory is refused to the table of the files, to the list of answers or to their text, nothing is written.
+/// Where memory is refused to the list of the files, to the rule tables, to the list of answers or to their text, nothing is
+/// written.
 pub fn verify_run<W: Write>(
     alloc: Global,
     claims: &Claims,
@@ -24,12 +25,12 @@ pub fn verify_run<W: Write>(
     device: &mut Dev<W>,
 ) -> Result<u8, ToolFault>
     // The answers are true, all their lines are written, and the status is theirs.
-    ensures answered { IfOk result (λ code. Answered (contents files.now) claims.now.claims
+    ensures answered { IfOk result (λ code. Answered (contents files.now) claims.now.rules claims.now.claims
         (Appends (W.contents device.old.inner) (W.contents device.new.inner)) (λ s. code ≡ s)) }
     ensures kept { OnOk result (device.new.failures ≡ device.old.failures) }
 
     // A write failed, after a first part of the lines of true answers.
-    ensures front { IsErrOf result ToolFault.Write → Answered (contents files.now) claims.now.claims
+    ensures front { IsErrOf result ToolFault.Write → Answered (contents files.now) claims.now.rules claims.now.claims
         (AppendsPrefix (W.contents device.old.inner) (W.contents device.new.inner)) (λ s. Unit {0}) }
     ensures counted { IsErrOf result ToolFault.Write → Rises device.old.failures device.new.failures }
 

@@ -3,7 +3,7 @@
 use crate::lines;
 use ca_claims::{Answer, Cause, PatternFault, Verdict, Why};
 use ca_rle::RleFault;
-use ca_rule::RuleFault;
+use ca_rule::{RuleFault, TableFault};
 use std::test::*;
 
 const ANSWERS: [Answer; 5] = [
@@ -56,6 +56,14 @@ fn a_line_for_each_answer(rt: HostRuntime) -> Result<(), Fail> {
 fn causes_tell_why(rt: HostRuntime) -> Result<(), Fail> {
     for (cause, text) in [
         (Cause::NoFile, "no file"),
+        (
+            Cause::BadTable(TableFault::Syntax { line: 7 }),
+            "rule table: line 7: syntax",
+        ),
+        (
+            Cause::BadTable(TableFault::Memory),
+            "rule table: out of memory",
+        ),
         (rle(RleFault::Syntax), "rle: syntax"),
         (rle(RleFault::Header), "rle: no header"),
         (rle(RleFault::XlifeRule), "rle: a rule in XLife's way"),

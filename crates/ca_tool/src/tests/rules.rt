@@ -74,7 +74,7 @@ const PRINTED: [&[u8]; 30] = [
 #[test]
 fn printed_rules(rt: HostRuntime) -> Result<(), Fail> {
     for printed in PRINTED {
-        let rule = resolve(printed).ok().ok_or("the text names a rule")?;
+        let rule = resolve(printed, &[]).ok().ok_or("the text names a rule")?;
         assert_eq!(rt; rule.text(rt.alloc())?.as_slice(), printed);
     }
     Ok(())
@@ -83,7 +83,11 @@ fn printed_rules(rt: HostRuntime) -> Result<(), Fail> {
 #[test]
 fn texts_that_are_no_word(rt: HostRuntime) {
     for text in [b"".as_slice(), b"B3/S23 ", b" B3/S23", b"B3 /S23"] {
-        assert_eq!(rt; resolve(text).err(), Some(RuleFault::Unknown), "{text:?}");
+        assert_eq!(rt;
+            resolve(text, &[]).err(),
+            Some(RuleFault::Unknown),
+            "{text:?}"
+        );
     }
 }
 
@@ -94,7 +98,7 @@ fn next_of<A: Automaton>(rule: &A, nine: &Nine) -> u8 {
 
 #[test]
 fn cells_of_life(rt: HostRuntime) -> Result<(), Fail> {
-    let life = resolve(b"B3/S23").ok().ok_or("Life is a rule")?;
+    let life = resolve(b"B3/S23", &[]).ok().ok_or("Life is a rule")?;
     assert_eq!(rt; life.states(), 2);
     let table: [(Nine, u8); 9] = [
         ([0, 0, 0, 0, 0, 0, 0, 0, 0], 0),
