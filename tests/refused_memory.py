@@ -5,7 +5,7 @@ Each allocation of a run is refused in turn, by tests/refuse.c, which is loaded 
 Of each run either nothing changed, or it ended with `cafile: memory` and printed nothing, or one line became `refused, memory`. Besides:
 
 - each claim whose pattern reads is refused by some run: so one that lacks memory doesn't end the whole run;
-- a claim whose file is missing or doesn't read is refused for that in every run;
+- a claim whose file, or a rule file, is missing or doesn't read is refused for that in every run;
 - claims are refused in their order, and a run ends whole between two of them only where the list of the answers grows.
 
 Of runs with many allocations some are tried. At the end memory is refused by the system itself, to a pattern that is too large for it, and the claims round it are answered.
@@ -22,7 +22,7 @@ from sizes import long_text
 
 # Claim texts of examples/, and how many allocations are passed over between two that are refused.
 EXAMPLES = {"block": 1, "glider": 1, "several": 1, "bad_patterns": 1, "rules": 1, "mixed_rules": 1, "states": 1, "pulsar": 1, "number": 1, "syntax": 1,
-            "unknown_name": 1, "r_pentomino": 11}
+            "unknown_name": 1, "table_causes": 1, "bad_table": 1, "slide": 1, "tables": 5, "r_pentomino": 11}
 
 NO_MEMORY = fault("memory")
 
@@ -85,8 +85,8 @@ def changed_line(ample, outcome):
 
 
 def needs_no_memory(line):
-    """Whether a claim's ample answer says that its file is missing or doesn't read."""
-    return b": refused, no file" in line or b": refused, bad pattern" in line
+    """Whether a claim's ample answer says that a file is missing or doesn't read."""
+    return any(b": refused, " + cause in line for cause in (b"no file", b"bad table", b"bad pattern"))
 
 
 def judged(ample, outcomes, each_number):
