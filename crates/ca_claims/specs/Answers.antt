@@ -112,9 +112,9 @@ abbrev pub HaveOtherRules : List (List ℕ × List ℕ) → List TableRule → L
 HaveOtherRules files tables path other = (cells : Picture) × (rule : RuleValue) × (other_cells : Picture) × (other_rule : RuleValue)
     × IsRuled files tables path cells rule × IsRuled files tables other other_cells other_rule × (IsSameRule rule other_rule → ⊥)
 
--- the first cause of a refusal that holds of a claim about patterns of these paths, in the order of these lines, where the
--- text has rule lines of those paths. A table is judged only where all the files are there, and a pattern only where all
--- the tables are good; memory is wanted only where the first of the patterns reads besides
+-- the first cause of a refusal that holds of a claim about patterns of these paths, in the order of these lines; `rules`
+-- are the paths of the text's rule lines. A table is judged only where all the files are there, and a pattern only where
+-- all the tables are good; memory is wanted only where besides the first of the patterns reads
 abbrev pub HasCause : List (List ℕ × List ℕ) → List (List ℕ) → List (List ℕ) → Cause → Type 0
 HasCause files rules paths NoFile = SomeOf (IsMissing files) paths ⊎ SomeOf (IsMissing files) rules
 HasCause files rules paths (BadTable fault) = AllByRecursion (IsThere files) paths × AllByRecursion (IsThere files) rules
@@ -159,6 +159,6 @@ IsTrueVerdict files rules claim (Refused cause) = HasCause files rules (patterns
 abbrev pub IsTrueAnswer : List (List ℕ × List ℕ) → List (List ℕ) → ℕ × Claim → Answer → Type 0
 IsTrueAnswer files rules numbered answer = (answer.line ≡ numbered.0) × IsTrueVerdict files rules numbered.1 answer.verdict
 
--- one answer for each claim, in order, each of them true, where the text has rule lines of these paths
+-- one answer for each claim, in order, each of them true; `rules` are the paths of the text's rule lines
 abbrev pub AreTrueAnswers : List (List ℕ × List ℕ) → List (List ℕ) → List (ℕ × Claim) → List Answer → Type 0
 AreTrueAnswers files rules claims answers = AllZip (IsTrueAnswer files rules) claims answers

@@ -23,6 +23,6 @@ pub returns : goal.returns
 returns c = λ files paths e.
     let rules = map (path_at paths) c.args.places.now in
     let there = found_there files paths c.args.found.now e c.args.places.now c.in-Some.files.items (each-All _ c.args.places.now c.requires) (rw c.in-Some.is at c.in_ok-files.ensures) in
-    let differ : c.in-Err.fault ≢ Memory = search rules in
+    let differ : c.in-Err.fault ≢ Memory = c.in_default-fault.not-Memory in
     let first = subst (λ l. FirstBad (λ b. (table : TableRule) × IsQuietTable b.now table) (λ b. IsTableFault b.now c.in-Err.fault) l) c.deref.ensures.value (c.in-Err.ensures.fault differ) in
     (all_there files rules c.in-Some.files.items there, first_faulty files rules c.in-Some.files.items there c.in-Err.fault first)
