@@ -11,7 +11,7 @@ pub enum RuleFault {
     /// The text spells a rule under which an empty plane doesn't stay empty.
     #[error("a rule that wakes the empty plane")]
     Wakes,
-    /// The text is no spelling of a rule.
+    /// The text spells no rule, and is the name of no table that was given.
     #[error("an unknown rule")]
     Unknown,
 }

@@ -15,7 +15,7 @@ pub enum TableFault {
     /// of fields than the neighbourhood wants.
     #[error("line {line}: syntax")]
     Syntax { line: u64 },
-    /// A number of states that isn't from 2 to 256, or a state that isn't below it.
+    /// No number of states, or one that isn't from 2 to 256, or a state that isn't below it.
     #[error("line {line}: states")]
     States { line: u64 },
     /// No neighbourhood, or an unknown one.
