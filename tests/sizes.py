@@ -21,14 +21,15 @@ CLAIMS = (
     ("still lost", "refused, no file"),
 )
 
-LINES = 6000
+# The lines of a long claim text, and of one beyond 2 ^ 16 claims.
+LINES, MANY_LINES = 6000, 100000
 
 
-def long_text():
+def long_text(count=LINES):
     """The lines of a long claim text, and its verdicts with their lines."""
     lines = [f"load block {BLOCK}", f"load blinker {BLINKER}", f"load nothing {EMPTY}", "load lost examples/lost.rle"]
     verdicts = []
-    while len(lines) < LINES:
+    while len(lines) < count:
         claim, verdict = CLAIMS[len(lines) % len(CLAIMS)]
         lines.append(claim)
         verdicts.append((len(lines), verdict))
@@ -58,6 +59,8 @@ class Texts:
 
 def try_long_texts(texts):
     """Thousands of lines, and a fault of each kind in a late one."""
+    lines, verdicts = long_text(MANY_LINES)
+    texts.expect("a longer claim text", lines, lines_outcome(verdicts))
     lines, verdicts = long_text()
     texts.expect("a long claim text", lines, lines_outcome(verdicts))
     for late in (len(lines) - 700, len(lines)):

@@ -71,21 +71,21 @@ CROWD = "x = 1, y = 1, rule = Wide\nFEC$CIG$HHB!\n"
 # Rule files, and what is claimed: a pattern, what it becomes, and the verdict.
 GOOD = "yes"
 FILES = (
-    ("300000 variables that name earlier ones", lambda: table(naming_each_other(300000), 3), DOT, SPREAD_DOT, GOOD),
-    ("one variable, replaced 500000 times", lambda: table(one_name_again(500000), 3), DOT, SPREAD_DOT, GOOD),
+    ("600000 variables that name earlier ones", lambda: table(naming_each_other(600000), 3), DOT, SPREAD_DOT, GOOD),
+    ("one variable, replaced 600000 times", lambda: table(one_name_again(600000), 3), DOT, SPREAD_DOT, GOOD),
     ("10000 variables of all states", lambda: table(sets_of_every_state(10000)), DOT, SPREAD_DOT, GOOD),
-    ("a variable of a million elements", lambda: table([f"var a={{{'1,2,' * 500000}1}}", "0,a,0,0,0,a"], 3), DOT, SPREAD_DOT, GOOD),
-    ("a million transitions", lambda: table(transitions(1000000)), DOT, SPREAD_DOT, GOOD),
-    ("a million transitions under eight orders", lambda: table(transitions(1000000), symmetry="rotate4reflect"), DOT, SPREAD_DOT, GOOD),
+    ("a variable of 1100000 elements", lambda: table([f"var a={{{'1,2,' * 550000}1}}", "0,a,0,0,0,a"], 3), DOT, SPREAD_DOT, GOOD),
+    ("1100000 transitions", lambda: table(transitions(1100000)), DOT, SPREAD_DOT, GOOD),
+    ("1100000 transitions under eight orders", lambda: table(transitions(1100000), symmetry="rotate4reflect"), DOT, SPREAD_DOT, GOOD),
     ("a transition of two million fields", lambda: table(["0," * 2000000 + "0"]), DOT, DOT, "refused, bad table: syntax"),
     ("a line of ten million bytes", lambda: table(["0" * 10000000]), DOT, DOT, "refused, bad table: syntax"),
     ("ten million brackets", lambda: table(["var a=" + "{" * 10000000]), DOT, DOT, "refused, bad table: syntax"),
-    ("an unknown name behind 300000 variables", lambda: table([*naming_each_other(300000), "0,b,0,0,0,1"], 3), DOT, DOT,
+    ("an unknown name behind 600000 variables", lambda: table([*naming_each_other(600000), "0,b,0,0,0,1"], 3), DOT, DOT,
      "refused, bad table: variable"),
     ("a file of 67108864 bytes", lambda: table(["var a={1,2}", "0,a,0,0,0,a"]).ljust(MAX_FILE), DOT, SPREAD_DOT, GOOD),
     ("a file of 67108865 bytes", lambda: table(["var a={1,2}", "0,a,0,0,0,a"]).ljust(MAX_FILE + 1), DOT, SPREAD_DOT, "refused, no file"),
-    ("a name of a million bytes", lambda: table(["var a={1,2}", "0,a,0,0,0,a"], name="W" * 1000000), DOT.replace("Wide", "W" * 1000000),
-     SPREAD_DOT.replace("Wide", "W" * 1000000), GOOD),
+    ("a name of 1100000 bytes", lambda: table(["var a={1,2}", "0,a,0,0,0,a"], name="W" * 1100000), DOT.replace("Wide", "W" * 1100000),
+     SPREAD_DOT.replace("Wide", "W" * 1100000), GOOD),
     ("a variable's name of a million bytes", lambda: table([f"var {'a' * 1000000}={{1,2}}", f"0,{'a' * 1000000},0,0,0,{'a' * 1000000}"]), DOT,
      SPREAD_DOT, GOOD),
     ("1000 names of 1000 bytes that differ in the last", lambda: table(
@@ -128,8 +128,8 @@ def try_file(tally, folder, name, text, before, after, verdict):
 
 
 def try_many_rules(tally, folder):
-    """Thousands of rule files, the last of which a pattern names."""
-    count, lines = 3000, []
+    """Thousands of rule files, the last of which a pattern names; and a rule line that comes again many times."""
+    count, lines = 5000, []
     for at in range(count):
         path = os.path.join(folder, f"r{at}")
         with open(path, "w", encoding="ascii") as file:
@@ -145,6 +145,10 @@ def try_many_rules(tally, folder):
     with open(path, "w", encoding="ascii") as file:
         file.write("\n".join(lines) + "\n")
     expect_in_time(tally, f"{count} rule files and claims", path, lines_outcome([(count + 3 + at, "yes") for at in range(count)]))
+    again = [lines[count - 1]] * 70000
+    with open(path, "w", encoding="ascii") as file:
+        file.write("\n".join([*again, *lines[count:count + 3]]) + "\n")
+    expect_in_time(tally, f"{len(again)} lines of one rule file", path, lines_outcome([(len(again) + 3, "yes")]))
 
 
 def main():
