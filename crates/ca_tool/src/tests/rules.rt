@@ -1,7 +1,7 @@
 //! Rules through their public calls: what no claim asks of them.
 
 use ca_plane::{Automaton, Nine};
-use ca_rule::{BsRule, Counts, RuleFault, resolve};
+use ca_rule::{BsRule, Counts, RuleFault, Table, resolve};
 use std::process::Abort;
 use std::test::*;
 
@@ -77,6 +77,24 @@ fn printed_rules(rt: HostRuntime) -> Result<(), Fail> {
         let rule = resolve(printed, &[]).ok().ok_or("the text names a rule")?;
         assert_eq!(rt; rule.text(rt.alloc())?.as_slice(), printed);
     }
+    Ok(())
+}
+
+/// A rule file, whose name has more bytes than any B/S rule's printed form.
+const SPREAD: &[u8] =
+    b"@RULE A-rule-whose-name-is-longer-than-any-printed-form\n@TABLE\nn_states:3\nneighborhood:vonNeumann\nsymmetries:rotate4\nvar a={1,2}\n0a000a\n";
+
+#[test]
+fn a_table_prints_its_name(rt: HostRuntime) -> Result<(), Fail> {
+    let name = b"A-rule-whose-name-is-longer-than-any-printed-form";
+    let table = Table::parse(rt.alloc(), SPREAD)
+        .ok()
+        .ok_or("the text is a table's")?;
+    let tables = [table];
+    let rule = resolve(name, &tables)
+        .ok()
+        .ok_or("the text names the table")?;
+    assert_eq!(rt; rule.text(rt.alloc())?.as_slice(), name.as_slice());
     Ok(())
 }
 
