@@ -1,0 +1,6 @@
+pub mod Nodes
+pub mod File
+pub mod Shown
+pub mod Limits
+pub mod Faults
+pub mod Tidy

@@ -1,0 +1,48 @@
+-- The nodes of a macrocell text: squares whose sides are powers of two, each given by its cells or by four earlier squares
+-- (Golly Help, File Formats: Macrocell format; what is marked so is our own).
+use Rattle.std.specs.Prelude.{◌≡◌, ℕ, zero, suc, ◌-◌, ◌≤◌, List, [], ◌∷◌, map, length, Bool, ◌==◌, Some, slice_get, option_map, if◌then◌else◌}
+use Rattle.std.specs.List.{AllByRecursion}
+use Rattle.ca_plane.specs.Bytes.{letter, with_front}
+
+-- a node: a leaf of 8 by 8 cells of two states by its rows, of which dead cells and rows at the end may be left out; a square of
+-- 2 by 2 cells by their states; or one by its level and the numbers of its four parts
+pub data Node : Type 0 where
+  Leaf : (rows : List (List Bool)) → Node
+  Cells : (nw ne sw se : ℕ) → Node
+  Parts : (level nw ne sw se : ℕ) → Node
+
+-- the level of a square whose side is 2^level cells
+abbrev pub level_of : Node → ℕ
+level_of (Leaf rows) = 3
+level_of (Cells nw ne sw se) = 1
+level_of (Parts level nw ne sw se) = level
+
+-- how a cell of a leaf is written: `*` is live, `.` is dead
+abbrev pub mark_of : Bool → ℕ
+mark_of live = if live then letter "*" else letter "."
+
+-- the rows that bytes give: `$` ends a row; behind the last row it may be left out (our own)
+abbrev pub rows_of : List ℕ → List (List ℕ)
+rows_of [] = []
+rows_of (b ∷ bs) = if b == letter "$" then [] ∷ rows_of bs else with_front b (rows_of bs)
+
+-- the bytes are those of a leaf: at most eight rows of at most eight cells
+pub record IsLeaf (bytes : List ℕ) (rows : List (List Bool)) : Type 0 where
+  pub marks : rows_of bytes ≡ map (map mark_of) rows
+  pub height : length rows ≤ 8
+  pub width : AllByRecursion (λ row. length row ≤ 8) rows
+
+-- a number may name a part of this level behind earlier nodes: 0 is the empty square, and nodes are numbered from 1
+abbrev pub Names : List Node → ℕ → ℕ → Type 0
+Names earlier level zero = Unit {0}
+Names earlier level (suc i) = option_map level_of (slice_get earlier i) ≡ Some level
+
+-- the levels of squares that are given by their parts
+abbrev pub IsLevel : ℕ → Type 0
+IsLevel level = (2 ≤ level) × (level ≤ 120)
+
+-- a node may stand behind earlier ones: states are at most 255, and parts are earlier nodes of one level less
+abbrev pub StandsBehind : List Node → Node → Type 0
+StandsBehind earlier (Leaf rows) = Unit {0}
+StandsBehind earlier (Cells nw ne sw se) = AllByRecursion (λ state. state ≤ 255) (nw ∷ ne ∷ sw ∷ se ∷ [])
+StandsBehind earlier (Parts level nw ne sw se) = IsLevel level × AllByRecursion (Names earlier (level - 1)) (nw ∷ ne ∷ sw ∷ se ∷ [])
