@@ -4,3 +4,5 @@ pub mod Shown
 pub mod Limits
 pub mod Faults
 pub mod Tidy
+pub mod Examples
+pub mod inner

@@ -10,10 +10,14 @@ use Rattle.ca_macro.specs.Shown.{numbered, picture_of}
 abbrev pub lowest_level : ℕ → ℕ
 lowest_level states = if states == 2 then 4 else 1
 
--- the live cells lie in the square of this level round the centre
+-- a place lies in the square of this level round the centre
+abbrev pub IsInSquare : ℕ → (x y : ℤ) → Type 0
+IsInSquare level x y =
+    (neg_ℤ (pos (2 ^ (level - 1))) ≤ℤ x) × (x <ℤ pos (2 ^ (level - 1))) × (neg_ℤ (pos (2 ^ (level - 1))) ≤ℤ y) × (y <ℤ pos (2 ^ (level - 1)))
+
+-- each live cell does
 abbrev pub Fits : ℕ → (ℤ → ℤ → ℕ) → Type 0
-Fits level cells = (x y : ℤ) → cells x y ≢ 0
-    → (neg_ℤ (pos (2 ^ (level - 1))) ≤ℤ x) × (x <ℤ pos (2 ^ (level - 1))) × (neg_ℤ (pos (2 ^ (level - 1))) ≤ℤ y) × (y <ℤ pos (2 ^ (level - 1)))
+Fits level cells = (x y : ℤ) → cells x y ≢ 0 → IsInSquare level x y
 
 -- of the levels that a root may have, the least that holds the live cells
 pub record IsLeastLevel (states : ℕ) (cells : ℤ → ℤ → ℕ) (level : ℕ) : Type 0 where

@@ -1,6 +1,7 @@
 //! Macrocell, the format of shared squares: its nodes, its files and its faults.
 #![tactic(auto)]
 
+pub mod examples;
 mod fault;
 
 pub use fault::MacroFault;

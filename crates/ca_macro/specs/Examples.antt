@@ -1,0 +1,89 @@
+-- Small macrocell texts, for which the definitions are worked out.
+use Rattle.std.specs.Prelude.{ℕ, pos, negsuc, List, [], ◌∷◌, ◌++◌, true, false, codes}
+use Rattle.std.specs.List.{flat_map}
+use Rattle.ca_plane.specs.Plane.{Picture}
+use Rattle.ca_macro.specs.Nodes.{Node, Leaf, Cells, Parts}
+use Rattle.ca_macro.specs.File.{File}
+
+-- lines, each ended by LF
+abbrev pub text_of : List (List ℕ) → List ℕ
+text_of lines = flat_map (λ line. line ++ 10 ∷ []) lines
+
+-- a line behind `[M2]`
+abbrev pub behind_first : List ℕ → List ℕ
+behind_first line = text_of (codes "[M2]" ∷ line ∷ [])
+
+-- a glider
+abbrev pub glider_text : List ℕ
+glider_text = text_of (codes "[M2] (cafile)" ∷ codes "#R B3/S23" ∷ codes ".*$..*$***$$$$$$" ∷ codes "4 0 0 0 1" ∷ [])
+
+abbrev pub glider_leaf : Node
+glider_leaf = Leaf ((false ∷ true ∷ []) ∷ (false ∷ false ∷ true ∷ []) ∷ (true ∷ true ∷ true ∷ []) ∷ [] ∷ [] ∷ [] ∷ [] ∷ [] ∷ [])
+
+abbrev pub glider_file : File
+glider_file = record { nodes = glider_leaf ∷ Parts 4 0 0 0 1 ∷ []; rule_text = codes "B3/S23"; generation = 0 }
+
+abbrev pub glider : Picture
+glider =
+    (record { y = pos 0; x = pos 1 }, 1) ∷ (record { y = pos 1; x = pos 2 }, 1)
+    ∷ (record { y = pos 2; x = pos 0 }, 1) ∷ (record { y = pos 2; x = pos 1 }, 1) ∷ (record { y = pos 2; x = pos 2 }, 1) ∷ []
+
+-- a glider as Golly writes it, after 4 generations
+abbrev pub golly_text : List ℕ
+golly_text = text_of (codes "[M2] (golly 4.2)" ∷ codes "#R B3/S23" ∷ codes "#G 4" ∷ codes "$$..*$...*$.***$$$$" ∷ codes "4 0 0 0 1" ∷ [])
+
+abbrev pub golly_leaf : Node
+golly_leaf = Leaf (
+    [] ∷ [] ∷ (false ∷ false ∷ true ∷ []) ∷ (false ∷ false ∷ false ∷ true ∷ []) ∷ (false ∷ true ∷ true ∷ true ∷ []) ∷ [] ∷ [] ∷ [] ∷ [])
+
+abbrev pub golly_file : File
+golly_file = record { nodes = golly_leaf ∷ Parts 4 0 0 0 1 ∷ []; rule_text = codes "B3/S23"; generation = 4 }
+
+-- it lies one cell further right and two further down
+abbrev pub golly_glider : Picture
+golly_glider =
+    (record { y = pos 2; x = pos 2 }, 1) ∷ (record { y = pos 3; x = pos 3 }, 1)
+    ∷ (record { y = pos 4; x = pos 1 }, 1) ∷ (record { y = pos 4; x = pos 2 }, 1) ∷ (record { y = pos 4; x = pos 3 }, 1) ∷ []
+
+-- a cross of five cells of state 2, under a rule of three states
+abbrev pub cross_text : List ℕ
+cross_text = text_of (
+    codes "[M2] (cafile)" ∷ codes "#R Spread" ∷ codes "1 0 0 2 0" ∷ codes "1 0 2 0 0" ∷ codes "1 2 2 2 0" ∷ codes "2 0 1 2 3" ∷ [])
+
+abbrev pub cross_file : File
+cross_file = record {
+  nodes = Cells 0 0 2 0 ∷ Cells 0 2 0 0 ∷ Cells 2 2 2 0 ∷ Parts 2 0 1 2 3 ∷ [];
+  rule_text = codes "Spread";
+  generation = 0;
+}
+
+abbrev pub cross : Picture
+cross =
+    (record { y = negsuc 0; x = pos 0 }, 2) ∷ (record { y = pos 0; x = negsuc 0 }, 2)
+    ∷ (record { y = pos 0; x = pos 0 }, 2) ∷ (record { y = pos 0; x = pos 1 }, 2) ∷ (record { y = pos 1; x = pos 0 }, 2) ∷ []
+
+-- the empty plane under a rule of two states, and of three
+abbrev pub empty_text : List ℕ
+empty_text = text_of (codes "[M2] (cafile)" ∷ codes "#R B3/S23" ∷ codes "4 0 0 0 0" ∷ [])
+
+abbrev pub empty_text_of_states : List ℕ
+empty_text_of_states = text_of (codes "[M2] (cafile)" ∷ codes "#R Spread" ∷ codes "1 0 0 0 0" ∷ [])
+
+-- comments, blank lines, blanks at the ends of lines and CR, two rule texts, and a last line that isn't ended; leaves and states
+-- in one text
+abbrev pub mixed_text : List ℕ
+mixed_text = codes "[M2]\r\n# 4 0 0 0 0\r\n #R Old rule\r\n\r\n#R\r\n#Rule\r\n\t#R New\r\n#G 007 \r\n**$**$\r\n1 0 0 0 0200\r\n2 2 0 0 2\r\n#G"
+
+abbrev pub mixed_leaf : Node
+mixed_leaf = Leaf ((true ∷ true ∷ []) ∷ (true ∷ true ∷ []) ∷ [])
+
+abbrev pub mixed_file : File
+mixed_file = record {
+  nodes = mixed_leaf ∷ Cells 0 0 0 200 ∷ Parts 2 2 0 0 2 ∷ [];
+  rule_text = codes "New";
+  generation = 7;
+}
+
+-- the root alone is shown
+abbrev pub mixed : Picture
+mixed = (record { y = negsuc 0; x = negsuc 0 }, 200) ∷ (record { y = pos 1; x = pos 1 }, 200) ∷ []

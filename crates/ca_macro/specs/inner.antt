@@ -1,0 +1,2 @@
+-- Definitions that private contracts alone cite: how a text is read, part by part. No public contract rests on them.
+pub mod Leaves

@@ -1,0 +1,46 @@
+-- The line of a leaf, read byte by byte.
+use Rattle.std.specs.Prelude.{ℕ, zero, suc, ◌+◌, ◌-◌, ◌*◌, List, [], ◌∷◌, ◌++◌, map, length, replicate, Bool, true, false, ◌&&◌, ◌||◌, ◌==◌, nat_le, Option, Some, None, if◌then◌else◌}
+use Rattle.std.specs.List.{list_all}
+use Rattle.ca_plane.specs.Bytes.{letter}
+use Rattle.ca_macro.specs.declared.fault.MacroFault.{MacroFault}
+use Rattle.ca_macro.specs.declared.fault.MacroFault.TheVariants.{Syntax, LeafSize}
+use Rattle.ca_macro.specs.Nodes.{rows_of}
+use Rattle.ca_macro.specs.Faults.{is_leaf_byte}
+
+-- the byte of a cell
+abbrev pub is_mark : ℕ → Bool
+is_mark b = (b == letter ".") || (b == letter "*")
+
+-- the byte of a live one
+abbrev pub is_live : ℕ → Bool
+is_live b = b == letter "*"
+
+-- there is room for the rows: so many, of cells alone; so many cells in the first, and eight in the others
+abbrev pub has_room : (height width : ℕ) → List (List ℕ) → Bool
+has_room height width [] = true
+has_room zero width (r ∷ rs) = false
+has_room (suc height) width (r ∷ rs) = (list_all is_mark r && nat_le (length r) width) && has_room height 8 rs
+
+-- the bytes are those of a leaf
+abbrev pub is_leaf : List ℕ → Bool
+is_leaf bytes = has_room 8 8 (rows_of bytes)
+
+-- the fault of bytes that go on where so many rows are left, and so many cells of the first of them
+abbrev pub leaf_fault : (height width : ℕ) → List ℕ → Option MacroFault
+leaf_fault height width [] = None
+leaf_fault zero width (b ∷ bs) = if is_leaf_byte b then Some LeafSize else Some Syntax
+leaf_fault (suc height) zero (b ∷ bs) =
+    if b == letter "$" then leaf_fault height 8 bs
+    else (if is_mark b then Some LeafSize else Some Syntax)
+leaf_fault (suc height) (suc width) (b ∷ bs) =
+    if b == letter "$" then leaf_fault height 8 bs
+    else (if is_mark b then leaf_fault (suc height) width bs else Some Syntax)
+
+-- a row's cells as the bits of a number, of which bit 0 is the first cell
+abbrev pub row_bits : List Bool → ℕ
+row_bits [] = 0
+row_bits (live ∷ more) = (if live then 1 else 0) + 2 * row_bits more
+
+-- a leaf's eight rows
+abbrev pub leaf_bits : List (List Bool) → List ℕ
+leaf_bits rows = map row_bits rows ++ replicate (8 - length rows) 0

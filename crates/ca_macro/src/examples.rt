@@ -1,0 +1,54 @@
+//! Worked examples: what the definitions say of small texts.
+
+ghost use Rattle.std.specs.Prelude.{◌≡◌, ℕ, List, [], ◌∷◌, codes};
+ghost use Rattle.ca_plane.specs.Plane.{cell};
+ghost use Rattle.ca_macro.specs.declared.fault.MacroFault.TheVariants.{NotMacro, Timeline, Syntax, Forward, Level, LeafSize, GenTooLarge};
+ghost use Rattle.ca_macro.specs.Nodes.{Parts};
+ghost use Rattle.ca_macro.specs.File.{IsFile};
+ghost use Rattle.ca_macro.specs.Shown.{picture_of};
+ghost use Rattle.ca_macro.specs.Faults.{IsFirstFault};
+ghost use Rattle.ca_macro.specs.Tidy.{IsTidy};
+ghost use Rattle.ca_macro.specs.Examples.{text_of, behind_first, glider_text, glider_file, glider, golly_text, golly_file, golly_glider, cross_text, cross_file, cross, empty_text, empty_text_of_states, mixed_text, mixed_file, mixed};
+
+/// What whole texts hold, and the pictures that they show.
+pub fn worked_files()
+    ensures glider { IsFile glider_text glider_file × (picture_of glider_file.nodes ≡ glider) }
+    ensures golly { IsFile golly_text golly_file × (picture_of golly_file.nodes ≡ golly_glider) }
+    ensures cross { IsFile cross_text cross_file × (picture_of cross_file.nodes ≡ cross) }
+    ensures mixed { IsFile mixed_text mixed_file × (picture_of mixed_file.nodes ≡ mixed) }
+    ensures no_node { IsFile (codes "[M2]") (record { nodes = []; rule_text = codes "B3/S23"; generation = 0 }) × (picture_of [] ≡ []) }
+    ensures highest { IsFile (behind_first (codes "120 0 0 0 0")) (record { nodes = Parts 120 0 0 0 0 ∷ []; rule_text = codes "B3/S23"; generation = 0 })
+        × (picture_of (Parts 120 0 0 0 0 ∷ []) ≡ []) }
+{}
+
+/// The first fault of texts.
+pub fn worked_faults()
+    ensures not_macro { IsFirstFault (text_of (codes "x = 0, y = 0" ∷ codes "!" ∷ [])) NotMacro }
+    ensures blank_first { IsFirstFault (codes " [M2]") NotMacro }
+    ensures timeline { IsFirstFault (behind_first (codes "#FRAMES 2")) Timeline }
+    ensures own_number { IsFirstFault (behind_first (codes "4 0 0 0 1")) Forward }
+    ensures later_number { IsFirstFault (behind_first (codes "4 0 0 0 2")) Forward }
+    ensures gap { IsFirstFault (text_of (codes "[M2]" ∷ codes "*$" ∷ codes "5 0 0 0 1" ∷ [])) Level }
+    ensures level_first { IsFirstFault (text_of (codes "[M2]" ∷ codes "*$" ∷ codes "5 0 1 9 0" ∷ [])) Level }
+    ensures forward_first { IsFirstFault (text_of (codes "[M2]" ∷ codes "*$" ∷ codes "5 0 9 1 0" ∷ [])) Forward }
+    ensures too_high { IsFirstFault (behind_first (codes "121 0 0 0 0")) Level }
+    ensures no_level { IsFirstFault (behind_first (codes "0 0 0 0 256")) Level }
+    ensures ninth_cell { IsFirstFault (behind_first (codes "*********$")) LeafSize }
+    ensures ninth_cell_first { IsFirstFault (behind_first (codes "*********x")) LeafSize }
+    ensures ninth_row { IsFirstFault (behind_first (codes "$$$$$$$$.")) LeafSize }
+    ensures other_byte_first { IsFirstFault (behind_first (codes "$$$$$$$$x")) Syntax }
+    ensures blank_inside { IsFirstFault (behind_first (codes "*$ *$")) Syntax }
+    ensures state { IsFirstFault (behind_first (codes "1 0 0 0 256")) Syntax }
+    ensures four_numbers { IsFirstFault (behind_first (codes "4 0 0 0")) Syntax }
+    ensures two_generations { IsFirstFault (behind_first (codes "#G 4 5")) Syntax }
+    ensures generation { IsFirstFault (behind_first (codes "#G 9223372036854775808")) GenTooLarge }
+    ensures first_line { IsFirstFault (text_of (codes "[M2]" ∷ codes "4 0 0 0" ∷ codes "#FRAMES 2" ∷ [])) Syntax }
+{}
+
+/// The tidy texts of small planes.
+pub fn worked_tidy_texts()
+    ensures glider { IsTidy glider_text (cell glider) (codes "B3/S23") 0 2 }
+    ensures cross { IsTidy cross_text (cell cross) (codes "Spread") 0 3 }
+    ensures empty { IsTidy empty_text (cell []) (codes "B3/S23") 0 2 }
+    ensures empty_of_states { IsTidy empty_text_of_states (cell []) (codes "Spread") 0 3 }
+{}
