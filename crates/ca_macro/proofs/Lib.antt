@@ -1,2 +1,4 @@
 pub mod Leaves
+pub mod LeafLines
+pub mod Numbers
 pub mod Worked

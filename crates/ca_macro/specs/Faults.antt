@@ -23,7 +23,7 @@ pub record HasLine (bytes : List ℕ) (P : List Node → List ℕ → Type 0) : 
 
 -- the line begins a plane of a timeline
 abbrev pub IsTimeline : List Node → List ℕ → Type 0
-IsTimeline earlier line = starts_with nat_eq (trimmed line) (codes "#FRAME") ≡ true
+IsTimeline earlier line = (w : List ℕ) × (ws : List (List ℕ)) × (words_of line ≡ w ∷ ws) × (starts_with nat_eq w (codes "#FRAME") ≡ true)
 
 -- behind `#G` stand words, and they aren't one number
 abbrev pub HasBadGeneration : List ℕ → Type 0

@@ -3,5 +3,6 @@
 
 pub mod examples;
 mod fault;
+mod line;
 
 pub use fault::MacroFault;

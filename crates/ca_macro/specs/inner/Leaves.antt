@@ -1,11 +1,11 @@
 -- The line of a leaf, read byte by byte.
-use Rattle.std.specs.Prelude.{ℕ, zero, suc, ◌+◌, ◌-◌, ◌*◌, List, [], ◌∷◌, ◌++◌, map, length, replicate, Bool, true, false, ◌&&◌, ◌||◌, ◌==◌, nat_le, Option, Some, None, if◌then◌else◌}
+use Rattle.std.specs.Prelude.{◌≡◌, ◌⊎◌, ℕ, zero, suc, ◌+◌, ◌-◌, ◌*◌, List, [], ◌∷◌, map, length, Bool, true, false, not, ◌&&◌, ◌||◌, ◌==◌, nat_le, Option, Some, None, if◌then◌else◌}
 use Rattle.std.specs.List.{list_all}
 use Rattle.ca_plane.specs.Bytes.{letter}
 use Rattle.ca_macro.specs.declared.fault.MacroFault.{MacroFault}
-use Rattle.ca_macro.specs.declared.fault.MacroFault.TheVariants.{Syntax, LeafSize}
+use Rattle.ca_macro.specs.declared.fault.MacroFault.TheVariants.{NotMacro, Timeline, Syntax, Forward, Level, LeafSize, Range, GenTooLarge, Memory}
 use Rattle.ca_macro.specs.Nodes.{rows_of}
-use Rattle.ca_macro.specs.Faults.{is_leaf_byte}
+use Rattle.ca_macro.specs.Faults.{is_leaf_byte, HasBadByte}
 
 -- the byte of a cell
 abbrev pub is_mark : ℕ → Bool
@@ -28,19 +28,39 @@ is_leaf bytes = has_room 8 8 (rows_of bytes)
 -- the fault of bytes that go on where so many rows are left, and so many cells of the first of them
 abbrev pub leaf_fault : (height width : ℕ) → List ℕ → Option MacroFault
 leaf_fault height width [] = None
-leaf_fault zero width (b ∷ bs) = if is_leaf_byte b then Some LeafSize else Some Syntax
-leaf_fault (suc height) zero (b ∷ bs) =
-    if b == letter "$" then leaf_fault height 8 bs
-    else (if is_mark b then Some LeafSize else Some Syntax)
-leaf_fault (suc height) (suc width) (b ∷ bs) =
-    if b == letter "$" then leaf_fault height 8 bs
-    else (if is_mark b then leaf_fault (suc height) width bs else Some Syntax)
+leaf_fault height width (b ∷ bs) =
+    if height == 0 then (if is_leaf_byte b then Some LeafSize else Some Syntax)
+    else (if b == letter "$" then leaf_fault (height - 1) 8 bs
+    else (if is_mark b then (if width == 0 then Some LeafSize else leaf_fault height (width - 1) bs)
+    else Some Syntax))
+
+-- what is wrong with the line of a leaf
+abbrev pub IsLeafFault : List ℕ → MacroFault → Type 0
+IsLeafFault bytes NotMacro = ⊥
+IsLeafFault bytes Timeline = ⊥
+IsLeafFault bytes Syntax = HasBadByte bytes (λ b. not (is_leaf_byte b))
+IsLeafFault bytes Forward = ⊥
+IsLeafFault bytes Level = ⊥
+IsLeafFault bytes LeafSize = HasBadByte bytes is_leaf_byte
+IsLeafFault bytes Range = ⊥
+IsLeafFault bytes GenTooLarge = ⊥
+IsLeafFault bytes Memory = ⊥
 
 -- a row's cells as the bits of a number, of which bit 0 is the first cell
 abbrev pub row_bits : List Bool → ℕ
 row_bits [] = 0
 row_bits (live ∷ more) = (if live then 1 else 0) + 2 * row_bits more
 
--- a leaf's eight rows
-abbrev pub leaf_bits : List (List Bool) → List ℕ
-leaf_bits rows = map row_bits rows ++ replicate (8 - length rows) 0
+-- so many rows, each by its bits; the rows that are left out are dead
+abbrev pub leaf_bits : ℕ → List (List Bool) → List ℕ
+leaf_bits zero rows = []
+leaf_bits (suc height) [] = 0 ∷ leaf_bits height []
+leaf_bits (suc height) (row ∷ rows) = row_bits row ∷ leaf_bits height rows
+
+-- the cells of rows that bytes give
+abbrev pub cells_of : List ℕ → List (List Bool)
+cells_of bytes = map (map is_live) (rows_of bytes)
+
+-- the first row of bytes, and the bytes behind its `$`
+abbrev pub IsSplit : (bytes row later : List ℕ) → Type 0
+IsSplit bytes row later = (rows_of bytes ≡ row ∷ rows_of later) ⊎ ((bytes ≡ []) × (row ≡ []) × (later ≡ []))

@@ -23,7 +23,7 @@ pub returns-clause-blank_first : goal.returns-clause-blank_first
 returns-clause-blank_first c = refl
 
 pub returns-clause-timeline : goal.returns-clause-timeline
-returns-clause-timeline c = faulty (behind_first (codes "#FRAMES 2")) (codes "#FRAMES 2") [] IsTimeline refl refl refl
+returns-clause-timeline c = faulty (behind_first (codes "#FRAMES 2")) (codes "#FRAMES 2") [] IsTimeline refl refl (codes "#FRAMES", codes "2" ∷ [], refl, refl)
 
 pub returns-clause-own_number : goal.returns-clause-own_number
 returns-clause-own_number c = faulty (behind_first (codes "4 0 0 0 1")) (codes "4 0 0 0 1") [] HasForwardPart refl refl (4, 0, 0, 0, 1, numbers_found (codes "4 0 0 0 1") refl, (lit≤ tt, lit≤ tt), record { good = 0 ∷ 0 ∷ 0 ∷ []; number = 1; more = []; spelled = refl; named = (tt, (tt, (tt, tt))); holds = lit< tt })

@@ -1,0 +1,249 @@
+-- The line of a leaf: its first bad byte, and its rows one after another.
+use Rattle.std.proofs.Common.{◌≡◌, ◌≢◌, ℕ, zero, suc, ◌-◌, ◌⊎◌, inl, inr, Bool, true, false, not, ◌==◌, nat_le, List, [], ◌∷◌, ◌++◌, length, Some, None, refl, sym, ap, subst, ◌∙◌, arith, if◌then◌else◌}
+use Rattle.std.proofs.lemmas.Bool.{cases_Bool, true≢false}
+use Rattle.std.proofs.lemmas.Bool.Decides.{nat_tests}
+use Rattle.std.proofs.lemmas.List.{nil_from_length}
+use Rattle.std.proofs.lemmas.Option.{same_Some}
+use Rattle.ca_plane.specs.Bytes.{is_end_or, with_front, front, rest}
+use Rattle.ca_macro.specs.declared.fault.MacroFault.{MacroFault}
+use Rattle.ca_macro.specs.declared.fault.MacroFault.TheVariants.{Syntax, LeafSize}
+use Rattle.ca_macro.specs.Nodes.{rows_of}
+use Rattle.ca_macro.specs.Faults.{is_leaf_byte, HasBadByte}
+use Rattle.ca_macro.specs.inner.Leaves.{is_mark, has_room, leaf_fault, IsLeafFault, cells_of, IsSplit}
+use Rattle.ca_macro.proofs.Leaves.{leaf_found, no_leaf}
+
+-- ---- one byte more
+
+suc_test : (n : ℕ) → (suc n == 0) ≡ false
+suc_test n = grind (arith, nat_tests)
+
+one_before : (n : ℕ) → suc n - 1 ≡ n
+one_before n = omega arith
+
+at_row : (h w b : ℕ) (bs : List ℕ) → (b == 36) ≡ true → leaf_fault (suc h) w (b ∷ bs) ≡ leaf_fault h 8 bs
+at_row h w b bs e = rw (suc_test h) (rw e (ap (λ k. leaf_fault k 8 bs) (one_before h)))
+
+at_full : (h b : ℕ) (bs : List ℕ) → (b == 36) ≡ false → is_mark b ≡ true → leaf_fault (suc h) zero (b ∷ bs) ≡ Some LeafSize
+at_full h b bs e m = rw (suc_test h) (rw e (rw m refl))
+
+at_cell : (h w b : ℕ) (bs : List ℕ) → (b == 36) ≡ false → is_mark b ≡ true → leaf_fault (suc h) (suc w) (b ∷ bs) ≡ leaf_fault (suc h) w bs
+at_cell h w b bs e m = rw (suc_test h) (rw e (rw m (rw (suc_test w) (ap (λ k. leaf_fault (suc h) k bs) (one_before w)))))
+
+at_other : (h w b : ℕ) (bs : List ℕ) → (b == 36) ≡ false → is_mark b ≡ false → leaf_fault (suc h) w (b ∷ bs) ≡ Some Syntax
+at_other h w b bs e m = rw (suc_test h) (rw e (rw m refl))
+
+row_ends : (b : ℕ) (bs : List ℕ) → (b == 36) ≡ true → rows_of (b ∷ bs) ≡ [] ∷ rows_of bs
+row_ends b bs e = rw e refl
+
+row_grows : (b : ℕ) (bs : List ℕ) → (b == 36) ≡ false → rows_of (b ∷ bs) ≡ with_front b (rows_of bs)
+row_grows b bs e = rw e refl
+
+-- ---- room for one byte more
+
+no_width : (n : ℕ) → nat_le 0 n ≡ true
+no_width n = grind (arith, nat_tests)
+
+one_less : (m n : ℕ) → nat_le (suc m) (suc n) ≡ nat_le m n
+one_less m n = grind (arith, nat_tests)
+
+one_is_more : (m : ℕ) → nat_le (suc m) 0 ≡ false
+one_is_more m = grind (arith, nat_tests)
+
+room_behind_row : (h w : ℕ) (rs : List (List ℕ)) → has_room (suc h) w ([] ∷ rs) ≡ has_room h 8 rs
+room_behind_row h w rs = rw (no_width w) refl
+
+room_behind_cell : (h w b : ℕ) (rs : List (List ℕ)) → is_mark b ≡ true → has_room (suc h) (suc w) (with_front b rs) ≡ has_room (suc h) w rs
+room_behind_cell h w b [] m = rw m (rw (one_less 0 w) (rw (no_width w) refl))
+room_behind_cell h w b (r ∷ rs) m = rw m (rw (one_less (length r) w) refl)
+
+no_room_without_rows : (w b : ℕ) (rs : List (List ℕ)) → has_room zero w (with_front b rs) ≡ false
+no_room_without_rows w b [] = refl
+no_room_without_rows w b (r ∷ rs) = refl
+
+no_room_in_row : (h b : ℕ) (rs : List (List ℕ)) → has_room (suc h) 0 (with_front b rs) ≡ false
+no_room_in_row h b [] = grind (arith, nat_tests, one_is_more 0)
+no_room_in_row h b (r ∷ rs) = grind (arith, nat_tests, one_is_more (length r))
+
+no_room_for_other : (h w b : ℕ) (rs : List (List ℕ)) → is_mark b ≡ false → has_room (suc h) w (with_front b rs) ≡ false
+no_room_for_other h w b [] m = rw m refl
+no_room_for_other h w b (r ∷ rs) m = rw m refl
+
+-- ---- bytes without a fault have room
+
+no_fault_at_end : (t : Bool) (f g : MacroFault) → (if t then Some f else Some g) ≡ None → ⊥
+no_fault_at_end true f g e = absurd cc
+no_fault_at_end false f g e = absurd cc
+
+-- rows for which there is room where these are left
+abbrev HaveRoom : List ℕ → Type 0
+HaveRoom bs = (h w : ℕ) → leaf_fault h w bs ≡ None → has_room h w (rows_of bs) ≡ true
+
+cell_none : (b : ℕ) (bs : List ℕ) (h w : ℕ) → HaveRoom bs → (b == 36) ≡ false → is_mark b ≡ true → leaf_fault (suc h) w (b ∷ bs) ≡ None → has_room (suc h) w (rows_of (b ∷ bs)) ≡ true
+cell_none b bs h zero later f m e = absurd (let z = sym (at_full h b bs f m) ∙ e in cc)
+cell_none b bs h (suc w) later f m e =
+    ap (has_room (suc h) (suc w)) (row_grows b bs f) ∙ room_behind_cell h w b (rows_of bs) m ∙ later (suc h) w (sym (at_cell h w b bs f m) ∙ e)
+
+pub fault_none : (bytes : List ℕ) (h w : ℕ) → leaf_fault h w bytes ≡ None → has_room h w (rows_of bytes) ≡ true
+fault_none [] h w e = refl
+fault_none (b ∷ bs) zero w e = absurd (no_fault_at_end (is_leaf_byte b) LeafSize Syntax e)
+fault_none (b ∷ bs) (suc h) w e =
+    elim (cases_Bool (b == 36)) [
+      | inl t ↦ ap (has_room (suc h) w) (row_ends b bs t) ∙ room_behind_row h w (rows_of bs) ∙ fault_none bs h 8 (sym (at_row h w b bs t) ∙ e)
+      | inr f ↦ elim (cases_Bool (is_mark b)) [
+        | inl m ↦ cell_none b bs h w (fault_none bs) f m e
+        | inr o ↦ absurd (let z = sym (at_other h w b bs f o) ∙ e in cc)
+      ]
+    ]
+
+-- ---- the first bad byte
+
+-- the fault of a bad byte
+abbrev Tells : MacroFault → ℕ → Type 0
+Tells f b = ((f ≡ LeafSize) × (is_leaf_byte b ≡ true)) ⊎ ((f ≡ Syntax) × (is_leaf_byte b ≡ false))
+
+-- behind bytes for which there is room stands one for which there isn't
+record BadAt (bytes : List ℕ) (h w : ℕ) (f : MacroFault) : Type 0 where
+  good : List ℕ
+  byte : ℕ
+  more : List ℕ
+  spelled : bytes ≡ good ++ byte ∷ more
+  room : has_room h w (rows_of good) ≡ true
+  full : has_room h w (rows_of (good ++ byte ∷ [])) ≡ false
+  tells : Tells f byte
+
+here : (b : ℕ) (bs : List ℕ) (h w : ℕ) (f : MacroFault) → has_room h w (rows_of (b ∷ [])) ≡ false → Tells f b → BadAt (b ∷ bs) h w f
+here b bs h w f full tells = record { good = []; byte = b; more = bs; spelled = refl; room = refl; full = full; tells = tells }
+
+behind : (b : ℕ) (bs : List ℕ) (h w i v : ℕ) (f : MacroFault) → ((xs : List ℕ) → has_room h w (rows_of (b ∷ xs)) ≡ has_room i v (rows_of xs)) → BadAt bs i v f → BadAt (b ∷ bs) h w f
+behind b bs h w i v f same bad = record {
+  good = b ∷ bad.good;
+  byte = bad.byte;
+  more = bad.more;
+  spelled = ap (λ xs. b ∷ xs) bad.spelled;
+  room = same bad.good ∙ bad.room;
+  full = same (bad.good ++ bad.byte ∷ []) ∙ bad.full;
+  tells = bad.tells;
+}
+
+full_without_rows : (w b : ℕ) → has_room zero w (rows_of (b ∷ [])) ≡ false
+full_without_rows w b =
+    elim (cases_Bool (b == 36)) [
+      | inl t ↦ ap (has_room zero w) (row_ends b [] t)
+      | inr f ↦ ap (has_room zero w) (row_grows b [] f) ∙ no_room_without_rows w b []
+    ]
+
+mark_is_leaf_byte : (b : ℕ) → is_mark b ≡ true → is_leaf_byte b ≡ true
+mark_is_leaf_byte b m = grind (arith, nat_tests)
+
+other_is_none : (b : ℕ) → (b == 36) ≡ false → is_mark b ≡ false → is_leaf_byte b ≡ false
+other_is_none b f m = grind (arith, nat_tests)
+
+end_tells : (b : ℕ) (f : MacroFault) (t : Bool) → is_leaf_byte b ≡ t → (if t then Some LeafSize else Some Syntax) ≡ Some f → Tells f b
+end_tells b f true t e = inl (sym (same_Some LeafSize f e), t)
+end_tells b f false t e = inr (sym (same_Some Syntax f e), t)
+
+-- where the bytes of a leaf go bad
+abbrev GoBad : List ℕ → Type 0
+GoBad bs = (h w : ℕ) (f : MacroFault) → leaf_fault h w bs ≡ Some f → BadAt bs h w f
+
+cell_some : (b : ℕ) (bs : List ℕ) (h w : ℕ) (f : MacroFault) → GoBad bs → (b == 36) ≡ false → is_mark b ≡ true → leaf_fault (suc h) w (b ∷ bs) ≡ Some f → BadAt (b ∷ bs) (suc h) w f
+cell_some b bs h zero f later n m e =
+    here b bs (suc h) zero f (ap (has_room (suc h) zero) (row_grows b [] n) ∙ no_room_in_row h b [])
+    (inl (sym (same_Some LeafSize f (sym (at_full h b bs n m) ∙ e)), mark_is_leaf_byte b m))
+cell_some b bs h (suc w) f later n m e =
+    behind b bs (suc h) (suc w) (suc h) w f (λ xs. ap (has_room (suc h) (suc w)) (row_grows b xs n) ∙ room_behind_cell h w b (rows_of xs) m)
+    (later (suc h) w f (sym (at_cell h w b bs n m) ∙ e))
+
+fault_some : (bytes : List ℕ) (h w : ℕ) (f : MacroFault) → leaf_fault h w bytes ≡ Some f → BadAt bytes h w f
+fault_some [] h w f e = absurd cc
+fault_some (b ∷ bs) zero w f e = here b bs zero w f (full_without_rows w b) (end_tells b f (is_leaf_byte b) refl e)
+fault_some (b ∷ bs) (suc h) w f e =
+    elim (cases_Bool (b == 36)) [
+      | inl t ↦ behind b bs (suc h) w h 8 f (λ xs. ap (has_room (suc h) w) (row_ends b xs t) ∙ room_behind_row h w (rows_of xs)) (fault_some bs h 8 f (sym (at_row h w b bs t) ∙ e))
+      | inr n ↦ elim (cases_Bool (is_mark b)) [
+        | inl m ↦ cell_some b bs h w f (fault_some bs) n m e
+        | inr o ↦
+            here b bs (suc h) w f (ap (has_room (suc h) w) (row_grows b [] n) ∙ no_room_for_other h w b [] o)
+            (inr (sym (same_Some Syntax f (sym (at_other h w b bs n o) ∙ e)), other_is_none b n o))
+      ]
+    ]
+
+mark_or_row : (b : ℕ) → is_leaf_byte b ≡ true → (b == 36) ≡ false → is_mark b ≡ true
+mark_or_row b t n = grind (arith, nat_tests)
+
+-- one byte of a leaf is a leaf
+first_room : (b : ℕ) → is_leaf_byte b ≡ true → has_room 8 8 (rows_of (b ∷ [])) ≡ true
+first_room b t =
+    elim (cases_Bool (b == 36)) [
+      | inl r ↦ ap (has_room 8 8) (row_ends b [] r)
+      | inr n ↦ ap (has_room 8 8) (row_grows b [] n) ∙ room_behind_cell 7 7 b [] (mark_or_row b t n)
+    ]
+
+-- good bytes stand before the bad one
+some_good : (bytes good : List ℕ) (byte : ℕ) (more : List ℕ) → is_end_or is_leaf_byte bytes ≡ true → bytes ≡ good ++ byte ∷ more → has_room 8 8 (rows_of (good ++ byte ∷ [])) ≡ false → good ≢ []
+some_good bytes [] byte more begins e full z =
+    true≢false (sym (first_room byte (sym (ap (is_end_or is_leaf_byte) e) ∙ begins)) ∙ full)
+some_good bytes (g ∷ gs) byte more begins e full z = absurd cc
+
+bad_found : (bytes : List ℕ) (test : ℕ → Bool) (f : MacroFault) (bad : BadAt bytes 8 8 f) → is_end_or is_leaf_byte bytes ≡ true → test bad.byte ≡ true → HasBadByte bytes test
+bad_found bytes test f bad begins passes = record {
+  good = bad.good;
+  rows = cells_of bad.good;
+  byte = bad.byte;
+  more = bad.more;
+  some = some_good bytes bad.good bad.byte bad.more begins bad.spelled bad.full;
+  leaf = leaf_found bad.good bad.room;
+  spelled = bad.spelled;
+  ends_leaf = λ longer. no_leaf (bad.good ++ bad.byte ∷ []) longer bad.full;
+  passes = passes;
+}
+
+-- bytes that begin as a leaf and have a fault are no leaf from their first bad byte on
+pub fault_found : (bytes : List ℕ) (f : MacroFault) → is_end_or is_leaf_byte bytes ≡ true → leaf_fault 8 8 bytes ≡ Some f → IsLeafFault bytes f
+fault_found bytes f begins e = told (fault_some bytes 8 8 f e)
+  where
+    told : BadAt bytes 8 8 f → IsLeafFault bytes f
+    told bad = elim bad.tells [
+      | inl s ↦ subst (IsLeafFault bytes) (sym s.0) (bad_found bytes is_leaf_byte f bad begins s.1)
+      | inr s ↦ subst (IsLeafFault bytes) (sym s.0) (bad_found bytes (λ b. not (is_leaf_byte b)) f bad begins (ap not s.1))
+    ]
+
+-- ---- row by row
+
+-- a byte that ends no row
+abbrev goes_on : ℕ → Bool
+goes_on b = not (b == 36)
+
+pub split_some : (bytes : List ℕ) (b : ℕ) (later : List ℕ) → rest goes_on bytes ≡ b ∷ later → rows_of bytes ≡ front goes_on bytes ∷ rows_of later
+split_some [] b later e = absurd cc
+split_some (c ∷ bs) b later e =
+    elim (cases_Bool (c == 36)) [
+      | inl t ↦ row_ends c bs t ∙ rw t (let same : c ∷ bs ≡ b ∷ later = rw t at e in ap (λ xs. [] ∷ rows_of xs) (same_tail same))
+      | inr n ↦ row_grows c bs n ∙ rw n (ap (with_front c) (split_some bs b later (rw n at e)))
+    ]
+  where
+    same_tail : {x y : ℕ} {xs ys : List ℕ} → x ∷ xs ≡ y ∷ ys → xs ≡ ys
+    same_tail same = cc
+
+pub split_none : (bytes : List ℕ) → rest goes_on bytes ≡ [] → (bytes ≡ []) ⊎ (rows_of bytes ≡ front goes_on bytes ∷ [])
+split_none [] e = inl refl
+split_none (c ∷ bs) e =
+    elim (cases_Bool (c == 36)) [
+      | inl t ↦ absurd (let none : c ∷ bs ≡ [] = rw t at e in cc)
+      | inr n ↦ inr (row_grows c bs n ∙ rw n (elim (split_none bs (rw n at e)) [
+        | inl z ↦ rw z refl
+        | inr s ↦ ap (with_front c) s
+      ]))
+    ]
+
+-- the same of a split that is given
+pub split_found : (bytes row left later : List ℕ) (b : ℕ) → row ≡ front goes_on bytes → left ≡ rest goes_on bytes → left ≡ b ∷ later → IsSplit bytes row later
+split_found bytes row left later b r l e = inl (rw r (split_some bytes b later (sym l ∙ e)))
+
+pub split_end : (bytes row left : List ℕ) → row ≡ front goes_on bytes → left ≡ rest goes_on bytes → length left ≡ 0 → IsSplit bytes row left
+split_end bytes row left r l e =
+    let none = nil_from_length left e in
+    elim (split_none bytes (sym l ∙ none)) [
+      | inl z ↦ inr (z, r ∙ rw z refl, none)
+      | inr s ↦ inl (s ∙ rw (r, none) refl)
+    ]
