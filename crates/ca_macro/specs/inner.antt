@@ -1,3 +1,4 @@
 -- Definitions that private contracts alone cite: how a text is read, part by part. No public contract rests on them.
 pub mod Leaves
 pub mod Numbers
+pub mod Comments

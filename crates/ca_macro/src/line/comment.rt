@@ -1,0 +1,78 @@
+//! A line whose first word begins with `#`.
+
+ghost use Rattle.std.specs.Prelude.{◌≡◌, not, ◌∷◌, true, codes, IfOk, IfErr};
+ghost use Rattle.std.specs.Bool.{nat_eq};
+ghost use Rattle.std.specs.List.{starts_with};
+ghost use Rattle.ca_plane.specs.Bytes.{is_line_end, Every, words_of};
+ghost use Rattle.ca_macro.specs.File.{WordsSay};
+ghost use Rattle.ca_macro.specs.inner.Comments.{said_of, IsCommentFault};
+
+use crate::fault::MacroFault;
+use ca_plane::bytes::{next_word, whole_number};
+
+/// What a line says that begins with `#`.
+#[derive(Clone, Copy)]
+pub(crate) enum Comment<'a> {
+    /// It is a comment.
+    Nothing,
+    /// The rule text.
+    Rule(&'a [u8]),
+    /// The generation.
+    Generation(u64),
+}
+
+/// What the words behind `#R` say: the first is the rule text.
+fn rule(behind: &[u8]) -> Comment<'_>
+    requires { Every (λ b. not (is_line_end b)) behind.now }
+    ensures { WordsSay (codes "#R" ∷ words_of behind.now) (said_of result) }
+{
+    match next_word(behind) {
+        Some((text, _)) => Comment::Rule(text),
+        None => Comment::Nothing,
+    }
+}
+
+/// What the words behind `#G` say: one number is the generation.
+fn generation(behind: &[u8]) -> Result<Comment<'_>, MacroFault>
+    requires { Every (λ b. not (is_line_end b)) behind.now }
+    ensures said { IfOk result (λ s. WordsSay (codes "#G" ∷ words_of behind.now) (said_of s)) }
+    ensures fault { IfErr result (λ f. IsCommentFault (codes "#G" ∷ words_of behind.now) f) }
+{
+    let Some((digits, more)) = next_word(behind) else {
+        return Ok(Comment::Nothing);
+    };
+    if next_word(more).is_some() {
+        return Err(MacroFault::Syntax);
+    }
+    let Some(count) = whole_number(digits) else {
+        return Err(MacroFault::Syntax);
+    };
+    if count >= 1 << 63 {
+        return Err(MacroFault::GenTooLarge);
+    }
+    Ok(Comment::Generation(count))
+}
+
+/// What a line says by its first word, which begins with `#`, and the words behind it.
+///
+/// # Errors
+///
+/// `Timeline` where the word begins with `#FRAME`. Behind `#G`: `Syntax` where the words aren't one number, `GenTooLarge`
+/// where that is above 2^63 - 1.
+pub(crate) fn said_by<'a>(word: &[u8], behind: &'a [u8]) -> Result<Comment<'a>, MacroFault>
+    requires comment { starts_with nat_eq word.now (codes "#") ≡ true }
+    requires line { Every (λ b. not (is_line_end b)) behind.now }
+    ensures said { IfOk result (λ s. WordsSay (word.now ∷ words_of behind.now) (said_of s)) }
+    ensures fault { IfErr result (λ f. IsCommentFault (word.now ∷ words_of behind.now) f) }
+{
+    if word.starts_with(b"#FRAME") {
+        return Err(MacroFault::Timeline);
+    }
+    if word == b"#R".as_slice() {
+        return Ok(rule(behind));
+    }
+    if word == b"#G".as_slice() {
+        return generation(behind);
+    }
+    Ok(Comment::Nothing)
+}
