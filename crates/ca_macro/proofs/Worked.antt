@@ -38,8 +38,8 @@ numbers_found line h = words_found (words_of line) h
 -- ---- faulty lines
 
 -- the line behind the first
-pub faulty : (bytes line : List ℕ) (later : List (List ℕ)) (P : List Node → List ℕ → Type 0) → begins_macro bytes ≡ true → lines_of bytes ≡ codes "[M2]" ∷ line ∷ later
-    → P [] line → HasLine bytes P
+pub faulty : (bytes line : List ℕ) (later : List (List ℕ)) (P : List Node → List (List ℕ) → Type 0) → begins_macro bytes ≡ true → lines_of bytes ≡ codes "[M2]" ∷ line ∷ later
+    → P [] (words_of line) → HasLine bytes P
 faulty bytes line later P begins lines holds = record {
   first = codes "[M2]";
   good = [];
@@ -57,8 +57,8 @@ abbrev pub one_cell : Node
 one_cell = Leaf ((true ∷ []) ∷ [])
 
 -- the line behind the first and a leaf of one cell
-pub faulty_behind_leaf : (bytes line : List ℕ) (P : List Node → List ℕ → Type 0) → begins_macro bytes ≡ true → lines_of bytes ≡ codes "[M2]" ∷ codes "*$" ∷ line ∷ []
-    → P (one_cell ∷ []) line → HasLine bytes P
+pub faulty_behind_leaf : (bytes line : List ℕ) (P : List Node → List (List ℕ) → Type 0) → begins_macro bytes ≡ true → lines_of bytes ≡ codes "[M2]" ∷ codes "*$" ∷ line ∷ []
+    → P (one_cell ∷ []) (words_of line) → HasLine bytes P
 faulty_behind_leaf bytes line P begins lines holds = record {
   first = codes "[M2]";
   good = codes "*$" ∷ [];

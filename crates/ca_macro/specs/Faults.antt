@@ -2,15 +2,15 @@
 use Rattle.std.specs.Prelude.{◌≡◌, ◌≢◌, ℕ, ◌-◌, ◌<◌, ◌≤◌, List, [], ◌∷◌, ◌++◌, length, Bool, true, false, not, ◌||◌, ◌==◌, codes, ◌⊎◌}
 use Rattle.std.specs.Bool.{nat_eq}
 use Rattle.std.specs.List.{AllByRecursion, starts_with, flat_map}
-use Rattle.ca_plane.specs.Bytes.{letter, is_end_or, AreDigits, value, lines_of, words_of, trimmed}
+use Rattle.ca_plane.specs.Bytes.{letter, is_end_or, AreDigits, value, lines_of, words_of}
 use Rattle.ca_macro.specs.declared.fault.MacroFault.{MacroFault}
 use Rattle.ca_macro.specs.declared.fault.MacroFault.TheVariants.{NotMacro, Timeline, Syntax, Forward, Level, LeafSize, Range, GenTooLarge, Memory}
 use Rattle.ca_macro.specs.Nodes.{Node, IsLeaf, Names, IsLevel, StandsBehind}
 use Rattle.ca_macro.specs.File.{Said, Adds, generation_limit, AreNumbers, WordsSay, added, LinesSay, File, begins_macro, IsFile}
 use Rattle.ca_macro.specs.Limits.{IsOutOfRange}
 
--- behind `[M2]` and good lines stands a line of which this holds, after the nodes of the earlier lines
-pub record HasLine (bytes : List ℕ) (P : List Node → List ℕ → Type 0) : Type 0 where
+-- behind `[M2]` and good lines stands a line of whose words this holds, after the nodes of the earlier lines
+pub record HasLine (bytes : List ℕ) (P : List Node → List (List ℕ) → Type 0) : Type 0 where
   pub first : List ℕ
   pub good : List (List ℕ)
   pub line : List ℕ
@@ -19,27 +19,26 @@ pub record HasLine (bytes : List ℕ) (P : List Node → List ℕ → Type 0) : 
   pub begins : begins_macro bytes ≡ true
   pub lines_are : lines_of bytes ≡ first ∷ (good ++ line ∷ later)
   pub say : LinesSay [] good said
-  pub holds : P (flat_map added said) line
+  pub holds : P (flat_map added said) (words_of line)
 
--- the line begins a plane of a timeline
-abbrev pub IsTimeline : List Node → List ℕ → Type 0
-IsTimeline earlier line = (w : List ℕ) × (ws : List (List ℕ)) × (words_of line ≡ w ∷ ws) × (starts_with nat_eq w (codes "#FRAME") ≡ true)
+-- the first word begins a plane of a timeline
+abbrev pub AreTimeline : List (List ℕ) → Type 0
+AreTimeline words = (w : List ℕ) × (ws : List (List ℕ)) × (words ≡ w ∷ ws) × (starts_with nat_eq w (codes "#FRAME") ≡ true)
 
 -- behind `#G` stand words, and they aren't one number
-abbrev pub HasBadGeneration : List ℕ → Type 0
-HasBadGeneration line = (words : List (List ℕ)) × (words_of line ≡ codes "#G" ∷ words) × (words ≢ [])
-    × ((digits : List ℕ) → words ≡ digits ∷ [] → AreDigits digits → ⊥)
+abbrev pub HaveBadGeneration : List (List ℕ) → Type 0
+HaveBadGeneration words = (behind : List (List ℕ)) × (words ≡ codes "#G" ∷ behind) × (behind ≢ [])
+    × ((digits : List ℕ) → behind ≡ digits ∷ [] → AreDigits digits → ⊥)
 
 -- behind `#G` stands one number, which is too large
-abbrev pub HasLargeGeneration : List Node → List ℕ → Type 0
-HasLargeGeneration earlier line = (digits : List ℕ) × (words_of line ≡ codes "#G" ∷ digits ∷ [])
-    × AreDigits digits × (generation_limit ≤ value digits)
+abbrev pub HaveLargeGeneration : List (List ℕ) → Type 0
+HaveLargeGeneration words = (digits : List ℕ) × (words ≡ codes "#G" ∷ digits ∷ []) × AreDigits digits × (generation_limit ≤ value digits)
 
 -- the bytes of leaves
 abbrev pub is_leaf_byte : ℕ → Bool
 is_leaf_byte b = (b == letter ".") || ((b == letter "*") || (b == letter "$"))
 
--- bytes that begin a leaf: up to a byte they are one, and with it they aren't. This byte passes the test
+-- bytes that begin as a leaf: up to a byte they are one, and with it they aren't. This byte passes the test
 pub record HasBadByte (bytes : List ℕ) (test : ℕ → Bool) : Type 0 where
   pub good : List ℕ
   pub rows : List (List Bool)
@@ -52,26 +51,31 @@ pub record HasBadByte (bytes : List ℕ) (test : ℕ → Bool) : Type 0 where
   pub passes : test byte ≡ true
 
 -- a ninth cell of a row, or a cell or row behind eight rows
-abbrev pub HasLargeLeaf : List Node → List ℕ → Type 0
-HasLargeLeaf earlier line = HasBadByte (trimmed line) is_leaf_byte
+abbrev pub HaveLargeLeaf : List (List ℕ) → Type 0
+HaveLargeLeaf words = (w : List ℕ) × (ws : List (List ℕ)) × (words ≡ w ∷ ws) × HasBadByte w is_leaf_byte
 
--- the line begins as that of five numbers: it isn't blank, nor a comment or a leaf
-abbrev pub begins_node : List ℕ → Bool
-begins_node line = not (is_end_or (λ b. (b == letter "#") || is_leaf_byte b) (trimmed line))
+-- another byte among those of a leaf, or words behind it
+abbrev pub HaveBadLeaf : List (List ℕ) → Type 0
+HaveBadLeaf words = (w : List ℕ) × (ws : List (List ℕ)) × (words ≡ w ∷ ws)
+    × (HasBadByte w (λ b. not (is_leaf_byte b)) ⊎ (((rows : List (List Bool)) × IsLeaf w rows) × (ws ≢ [])))
 
--- it isn't five numbers
-abbrev pub LacksNumbers : List ℕ → Type 0
-LacksNumbers line = (begins_node line ≡ true) × ((level nw ne sw se : ℕ) → AreNumbers (words_of line) level nw ne sw se → ⊥)
+-- the words begin as those of a node of five numbers: not as a comment, and not as a leaf
+abbrev pub begin_node : List (List ℕ) → Bool
+begin_node [] = false
+begin_node (w ∷ ws) = not (is_end_or (λ b. (b == letter "#") || is_leaf_byte b) w)
+
+-- they aren't five numbers
+abbrev pub LackNumbers : List (List ℕ) → Type 0
+LackNumbers words = (begin_node words ≡ true) × ((level nw ne sw se : ℕ) → AreNumbers words level nw ne sw se → ⊥)
 
 -- of four states one is above 255
-abbrev pub HasLargeState : List ℕ → Type 0
-HasLargeState line = (nw : ℕ) × (ne : ℕ) × (sw : ℕ) × (se : ℕ) × AreNumbers (words_of line) 1 nw ne sw se
+abbrev pub HaveLargeState : List (List ℕ) → Type 0
+HaveLargeState words = (nw : ℕ) × (ne : ℕ) × (sw : ℕ) × (se : ℕ) × AreNumbers words 1 nw ne sw se
     × (AllByRecursion (λ state. state ≤ 255) (nw ∷ ne ∷ sw ∷ se ∷ []) → ⊥)
 
--- the line says nothing that a line may say
-abbrev pub IsMisspelled : List Node → List ℕ → Type 0
-IsMisspelled earlier line =
-    HasBadGeneration line ⊎ (HasBadByte (trimmed line) (λ b. not (is_leaf_byte b)) ⊎ (LacksNumbers line ⊎ HasLargeState line))
+-- the words say nothing that a line may say
+abbrev pub AreMisspelled : List (List ℕ) → Type 0
+AreMisspelled words = HaveBadGeneration words ⊎ (HaveBadLeaf words ⊎ (LackNumbers words ⊎ HaveLargeState words))
 
 -- of these numbers of nodes, the first that may not name a part of this level is one of which this holds
 pub record HasBadPart (earlier : List Node) (level : ℕ) (numbers : List ℕ) (P : ℕ → Type 0) : Type 0 where
@@ -83,34 +87,49 @@ pub record HasBadPart (earlier : List Node) (level : ℕ) (numbers : List ℕ) (
   pub holds : P number
 
 -- a square of a level from 2 to 120, whose first bad part is one of which this holds
-abbrev pub HasPart : List Node → List ℕ → (ℕ → ℕ → Type 0) → Type 0
-HasPart earlier line P = (level : ℕ) × (nw : ℕ) × (ne : ℕ) × (sw : ℕ) × (se : ℕ) × AreNumbers (words_of line) level nw ne sw se
+abbrev pub HavePart : List Node → List (List ℕ) → (ℕ → ℕ → Type 0) → Type 0
+HavePart earlier words P = (level : ℕ) × (nw : ℕ) × (ne : ℕ) × (sw : ℕ) × (se : ℕ) × AreNumbers words level nw ne sw se
     × IsLevel level × HasBadPart earlier (level - 1) (nw ∷ ne ∷ sw ∷ se ∷ []) (P (level - 1))
 
 -- the first bad part isn't an earlier node
-abbrev pub HasForwardPart : List Node → List ℕ → Type 0
-HasForwardPart earlier line = HasPart earlier line (λ level number. length earlier < number)
+abbrev pub HaveForwardPart : List Node → List (List ℕ) → Type 0
+HaveForwardPart earlier words = HavePart earlier words (λ level number. length earlier < number)
+
+-- no square has this level
+abbrev pub HaveNoLevel : List (List ℕ) → Type 0
+HaveNoLevel words = (level : ℕ) × (nw : ℕ) × (ne : ℕ) × (sw : ℕ) × (se : ℕ) × AreNumbers words level nw ne sw se × ((level ≡ 0) ⊎ (120 < level))
 
 -- the level is 0 or above 120, or the first bad part is an earlier node of another level
-abbrev pub HasBadLevel : List Node → List ℕ → Type 0
-HasBadLevel earlier line =
-    ((level : ℕ) × (nw : ℕ) × (ne : ℕ) × (sw : ℕ) × (se : ℕ) × AreNumbers (words_of line) level nw ne sw se × ((level ≡ 0) ⊎ (120 < level)))
-    ⊎ HasPart earlier line (λ level number. (number ≤ length earlier) × (Names earlier level number → ⊥))
+abbrev pub HaveBadLevel : List Node → List (List ℕ) → Type 0
+HaveBadLevel earlier words =
+    HaveNoLevel words ⊎ HavePart earlier words (λ level number. (number ≤ length earlier) × (Names earlier level number → ⊥))
 
--- the line adds a node
-abbrev pub AddsNode : List Node → List ℕ → Type 0
-AddsNode earlier line = (node : Node) × WordsSay (words_of line) (Adds node) × StandsBehind earlier node
+-- the words add a node
+abbrev pub AddNode : List Node → List (List ℕ) → Type 0
+AddNode earlier words = (node : Node) × WordsSay words (Adds node) × StandsBehind earlier node
+
+-- what is wrong with the words of a line behind earlier nodes
+abbrev pub AreFaulty : MacroFault → List Node → List (List ℕ) → Type 0
+AreFaulty NotMacro earlier words = ⊥
+AreFaulty Timeline earlier words = AreTimeline words
+AreFaulty Syntax earlier words = AreMisspelled words
+AreFaulty Forward earlier words = HaveForwardPart earlier words
+AreFaulty Level earlier words = HaveBadLevel earlier words
+AreFaulty LeafSize earlier words = HaveLargeLeaf words
+AreFaulty Range earlier words = ⊥
+AreFaulty GenTooLarge earlier words = HaveLargeGeneration words
+AreFaulty Memory earlier words = ⊥
 
 -- the first fault in the spelling of a text
 abbrev pub IsFirstFault : List ℕ → MacroFault → Type 0
 IsFirstFault bytes NotMacro = begins_macro bytes ≡ false
-IsFirstFault bytes Timeline = HasLine bytes IsTimeline
-IsFirstFault bytes Syntax = HasLine bytes IsMisspelled
-IsFirstFault bytes Forward = HasLine bytes HasForwardPart
-IsFirstFault bytes Level = HasLine bytes HasBadLevel
-IsFirstFault bytes LeafSize = HasLine bytes HasLargeLeaf
-IsFirstFault bytes GenTooLarge = HasLine bytes HasLargeGeneration
+IsFirstFault bytes Timeline = HasLine bytes (AreFaulty Timeline)
+IsFirstFault bytes Syntax = HasLine bytes (AreFaulty Syntax)
+IsFirstFault bytes Forward = HasLine bytes (AreFaulty Forward)
+IsFirstFault bytes Level = HasLine bytes (AreFaulty Level)
+IsFirstFault bytes LeafSize = HasLine bytes (AreFaulty LeafSize)
 IsFirstFault bytes Range = ⊥
+IsFirstFault bytes GenTooLarge = HasLine bytes (AreFaulty GenTooLarge)
 IsFirstFault bytes Memory = ⊥
 
 -- the fault of a text: the first in its spelling, else a live cell that is out of range. Memory may be wanting at a good line that
@@ -124,4 +143,4 @@ IsFaultOf bytes Level = IsFirstFault bytes Level
 IsFaultOf bytes LeafSize = IsFirstFault bytes LeafSize
 IsFaultOf bytes GenTooLarge = IsFirstFault bytes GenTooLarge
 IsFaultOf bytes Range = (file : File) × IsFile bytes file × IsOutOfRange file
-IsFaultOf bytes Memory = HasLine bytes AddsNode ⊎ ((file : File) × IsFile bytes file)
+IsFaultOf bytes Memory = HasLine bytes AddNode ⊎ ((file : File) × IsFile bytes file)

@@ -1,11 +1,13 @@
 //! A line whose first word begins with `#`.
 
-ghost use Rattle.std.specs.Prelude.{◌≡◌, not, ◌∷◌, true, codes, IfOk, IfErr};
+ghost use Rattle.std.specs.Prelude.{◌≡◌, not, List, ◌∷◌, true, codes, IfOk, IfErr};
 ghost use Rattle.std.specs.Bool.{nat_eq};
 ghost use Rattle.std.specs.List.{starts_with};
 ghost use Rattle.ca_plane.specs.Bytes.{is_line_end, Every, words_of};
 ghost use Rattle.ca_macro.specs.File.{WordsSay};
-ghost use Rattle.ca_macro.specs.inner.Comments.{said_of, IsCommentFault};
+ghost use Rattle.ca_macro.specs.Nodes.{Node};
+ghost use Rattle.ca_macro.specs.Faults.{AreFaulty};
+ghost use Rattle.ca_macro.specs.inner.Comments.{said_of};
 
 use crate::fault::MacroFault;
 use ca_plane::bytes::{next_word, whole_number};
@@ -36,7 +38,7 @@ fn rule(behind: &[u8]) -> Comment<'_>
 fn generation(behind: &[u8]) -> Result<Comment<'_>, MacroFault>
     requires { Every (λ b. not (is_line_end b)) behind.now }
     ensures said { IfOk result (λ s. WordsSay (codes "#G" ∷ words_of behind.now) (said_of s)) }
-    ensures fault { IfErr result (λ f. IsCommentFault (codes "#G" ∷ words_of behind.now) f) }
+    ensures fault { IfErr result (λ f. (earlier : List Node) → AreFaulty f earlier (codes "#G" ∷ words_of behind.now)) }
 {
     let Some((digits, more)) = next_word(behind) else {
         return Ok(Comment::Nothing);
@@ -63,7 +65,7 @@ pub(crate) fn said_by<'a>(word: &[u8], behind: &'a [u8]) -> Result<Comment<'a>, 
     requires comment { starts_with nat_eq word.now (codes "#") ≡ true }
     requires line { Every (λ b. not (is_line_end b)) behind.now }
     ensures said { IfOk result (λ s. WordsSay (word.now ∷ words_of behind.now) (said_of s)) }
-    ensures fault { IfErr result (λ f. IsCommentFault (word.now ∷ words_of behind.now) f) }
+    ensures fault { IfErr result (λ f. (earlier : List Node) → AreFaulty f earlier (word.now ∷ words_of behind.now)) }
 {
     if word.starts_with(b"#FRAME") {
         return Err(MacroFault::Timeline);
