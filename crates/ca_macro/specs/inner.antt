@@ -2,3 +2,4 @@
 pub mod Leaves
 pub mod Numbers
 pub mod Comments
+pub mod Lines

@@ -29,18 +29,32 @@ fn set_numbers(numbers: &mut [u64], line: &[u8]) -> bool
     set_numbers(later, line)
 }
 
-/// A node's five numbers: its level, and its states or the numbers of its parts. A number above the greatest `u64` is kept as
-/// that. None where the line isn't five numbers.
-pub(crate) fn five_numbers(line: &[u8]) -> Option<[u64; 5]>
+/// A node's five numbers. One above the greatest `u64` is kept as that.
+#[derive(Clone, Copy)]
+pub(crate) struct Numbers {
+    pub(crate) level: u64,
+    pub(crate) nw: u64,
+    pub(crate) ne: u64,
+    pub(crate) sw: u64,
+    pub(crate) se: u64,
+}
+
+/// The five numbers of a line. None where it isn't five numbers.
+pub(crate) fn five_numbers(line: &[u8]) -> Option<Numbers>
     requires { Every (λ b. not (is_line_end b)) line.now }
     ensures { MatchOption result
         ((level nw ne sw se : ℕ) → AreNumbers (words_of line.now) level nw ne sw se → ⊥)
         (λ kept. AreKept (words_of line.now) kept) }
 {
     let mut numbers = [0; 5];
-    if set_numbers(&mut numbers, line) {
-        Some(numbers)
-    } else {
-        None
+    if !set_numbers(&mut numbers, line) {
+        return None;
     }
+    Some(Numbers {
+        level: numbers[0],
+        nw: numbers[1],
+        ne: numbers[2],
+        sw: numbers[3],
+        se: numbers[4],
+    })
 }

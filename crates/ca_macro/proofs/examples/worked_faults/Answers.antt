@@ -78,4 +78,3 @@ returns-clause-generation c = faulty (behind_first (codes "#G 922337203685477580
 
 pub returns-clause-first_line : goal.returns-clause-first_line
 returns-clause-first_line c = faulty (text_of (codes "[M2]" ∷ codes "4 0 0 0" ∷ codes "#FRAMES 2" ∷ [])) (codes "4 0 0 0") (codes "#FRAMES 2" ∷ []) (AreFaulty Syntax) refl refl (inr (inr (inl (refl, λ level nw ne sw se h. h.1.1.1.1))))
-
