@@ -28,6 +28,24 @@ glider =
     (record { y = pos 0; x = pos 1 }, 1) ∷ (record { y = pos 1; x = pos 2 }, 1)
     ∷ (record { y = pos 2; x = pos 0 }, 1) ∷ (record { y = pos 2; x = pos 1 }, 1) ∷ (record { y = pos 2; x = pos 2 }, 1) ∷ []
 
+-- the same cut off inside its leaf
+abbrev pub cut_text : List ℕ
+cut_text = codes "[M2] (cafile)\n#R B3/S23\n.*$..*$"
+
+abbrev pub cut_leaf : Node
+cut_leaf = Leaf ((false ∷ true ∷ []) ∷ (false ∷ false ∷ true ∷ []) ∷ [])
+
+abbrev pub cut_file : File
+cut_file = record { nodes = cut_leaf ∷ []; rule_text = codes "B3/S23"; generation = 0 }
+
+-- the leaf is the root then
+abbrev pub cut : Picture
+cut = (record { y = negsuc 3; x = negsuc 2 }, 1) ∷ (record { y = negsuc 2; x = negsuc 1 }, 1) ∷ []
+
+-- a text cut off inside its last line
+abbrev pub cut_numbers_text : List ℕ
+cut_numbers_text = codes "[M2]\n*$\n4 0 0 0 "
+
 -- a glider as Golly writes it, after 4 generations
 abbrev pub golly_text : List ℕ
 golly_text = text_of (codes "[M2] (golly 4.2)" ∷ codes "#R B3/S23" ∷ codes "#G 4" ∷ codes "$$..*$...*$.***$$$$" ∷ codes "4 0 0 0 1" ∷ [])

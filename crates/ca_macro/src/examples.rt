@@ -8,11 +8,12 @@ ghost use Rattle.ca_macro.specs.File.{IsFile};
 ghost use Rattle.ca_macro.specs.Shown.{picture_of};
 ghost use Rattle.ca_macro.specs.Faults.{IsFirstFault};
 ghost use Rattle.ca_macro.specs.Tidy.{IsTidy};
-ghost use Rattle.ca_macro.specs.Examples.{text_of, behind_first, glider_text, glider_file, glider, golly_text, golly_file, golly_glider, cross_text, cross_file, cross, empty_text, empty_text_of_states, mixed_text, mixed_file, mixed};
+ghost use Rattle.ca_macro.specs.Examples.{text_of, behind_first, glider_text, glider_file, glider, cut_text, cut_file, cut, cut_numbers_text, golly_text, golly_file, golly_glider, cross_text, cross_file, cross, empty_text, empty_text_of_states, mixed_text, mixed_file, mixed};
 
 /// What whole texts hold, and the pictures that they show.
 pub fn worked_files()
     ensures glider { IsFile glider_text glider_file × (picture_of glider_file.nodes ≡ glider) }
+    ensures cut { IsFile cut_text cut_file × (picture_of cut_file.nodes ≡ cut) }
     ensures golly { IsFile golly_text golly_file × (picture_of golly_file.nodes ≡ golly_glider) }
     ensures cross { IsFile cross_text cross_file × (picture_of cross_file.nodes ≡ cross) }
     ensures mixed { IsFile mixed_text mixed_file × (picture_of mixed_file.nodes ≡ mixed) }
@@ -40,6 +41,7 @@ pub fn worked_faults()
     ensures blank_inside { IsFirstFault (behind_first (codes "*$ *$")) Syntax }
     ensures state { IsFirstFault (behind_first (codes "1 0 0 0 256")) Syntax }
     ensures four_numbers { IsFirstFault (behind_first (codes "4 0 0 0")) Syntax }
+    ensures cut { IsFirstFault cut_numbers_text Syntax }
     ensures two_generations { IsFirstFault (behind_first (codes "#G 4 5")) Syntax }
     ensures generation { IsFirstFault (behind_first (codes "#G 9223372036854775808")) GenTooLarge }
     ensures first_line { IsFirstFault (text_of (codes "[M2]" ∷ codes "4 0 0 0" ∷ codes "#FRAMES 2" ∷ [])) Syntax }

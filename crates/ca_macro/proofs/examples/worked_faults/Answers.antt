@@ -2,7 +2,7 @@ use Rattle.std.proofs.Common.{◌≡◌, ◌≢◌, ℕ, ◌≤◌, List, [], �
 use Rattle.std.proofs.lemmas.Option.{same_Some}
 use Rattle.ca_macro.specs.declared.fault.MacroFault.TheVariants.{Timeline, Syntax, Forward, Level, LeafSize, GenTooLarge}
 use Rattle.ca_macro.specs.Faults.{is_leaf_byte, AreFaulty}
-use Rattle.ca_macro.specs.Examples.{text_of, behind_first}
+use Rattle.ca_macro.specs.Examples.{text_of, behind_first, cut_numbers_text}
 use Rattle.ca_macro.specs.inner.Leaves.{cells_of}
 use Rattle.ca_macro.proofs.Leaves.{leaf_found}
 use Rattle.ca_macro.proofs.Worked.{numbers_found, faulty, faulty_behind_leaf, bad_byte}
@@ -78,3 +78,6 @@ returns-clause-generation c = faulty (behind_first (codes "#G 922337203685477580
 
 pub returns-clause-first_line : goal.returns-clause-first_line
 returns-clause-first_line c = faulty (text_of (codes "[M2]" ∷ codes "4 0 0 0" ∷ codes "#FRAMES 2" ∷ [])) (codes "4 0 0 0") (codes "#FRAMES 2" ∷ []) (AreFaulty Syntax) refl refl (inr (inr (inl (refl, λ level nw ne sw se h. h.1.1.1.1))))
+
+pub returns-clause-cut : goal.returns-clause-cut
+returns-clause-cut c = faulty_behind_leaf cut_numbers_text (codes "4 0 0 0 ") (AreFaulty Syntax) refl refl (inr (inr (inl (refl, λ level nw ne sw se h. h.1.1.1.1))))

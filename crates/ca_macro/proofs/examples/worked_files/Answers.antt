@@ -1,7 +1,7 @@
 use Rattle.std.proofs.Common.{[], ◌∷◌, lit≤, lit<, codes, refl}
 use Rattle.ca_macro.specs.Nodes.{Cells, Parts}
 use Rattle.ca_macro.specs.File.{Nothing, Rule, Generation, Adds}
-use Rattle.ca_macro.specs.Examples.{glider_leaf, golly_leaf, mixed_leaf}
+use Rattle.ca_macro.specs.Examples.{glider_leaf, cut_leaf, golly_leaf, mixed_leaf}
 use Rattle.ca_macro.proofs.Leaves.{leaf_found}
 use Rattle.ca_macro.proofs.Worked.{numbers_found}
 use Rattle.ca_macro.proofs.examples.worked_files.Goals as goal
@@ -15,6 +15,22 @@ returns-clause-glider c = (
     begins = refl;
     lines_are = refl;
     say = (([], refl), tt, ((codes ".*$..*$***$$$$$$", refl, leaf_found (codes ".*$..*$***$$$$$$") refl), tt, (numbers_found (codes "4 0 0 0 1") refl, ((lit≤ tt, lit≤ tt), (tt, (tt, (tt, (refl, tt))))), tt)));
+    nodes = refl;
+    rule_text = refl;
+    generation = refl;
+  },
+  refl,
+)
+
+pub returns-clause-cut : goal.returns-clause-cut
+returns-clause-cut c = (
+  record {
+    first = codes "[M2] (cafile)";
+    lines = codes "#R B3/S23" ∷ codes ".*$..*$" ∷ [];
+    said = Rule (codes "B3/S23") ∷ Adds cut_leaf ∷ [];
+    begins = refl;
+    lines_are = refl;
+    say = (([], refl), tt, ((codes ".*$..*$", refl, leaf_found (codes ".*$..*$") refl), tt, tt));
     nodes = refl;
     rule_text = refl;
     generation = refl;
