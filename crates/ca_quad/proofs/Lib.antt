@@ -6,3 +6,4 @@ pub mod Joined
 pub mod Walks
 pub mod Edges
 pub mod Windows
+pub mod Population

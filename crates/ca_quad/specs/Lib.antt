@@ -1,4 +1,5 @@
 pub mod Squares
 pub mod Sound
 pub mod Trees
+pub mod Population
 pub mod inner

@@ -2,3 +2,4 @@
 pub mod Whole
 pub mod Named
 pub mod Window
+pub mod Found

@@ -7,7 +7,9 @@ ghost use Rattle.ca_quad.specs.Sound.{IsSound, IsGood, Grows};
 ghost use Rattle.ca_quad.specs.Trees.{IsIn};
 ghost use Rattle.ca_quad.specs.inner.Whole.{IsWhole};
 
+mod found;
 mod make;
+mod population;
 mod read;
 
 use crate::id::Id;

@@ -1,0 +1,111 @@
+-- The live cells of four squares that lie together are those of each.
+use Rattle.std.proofs.Common.{◌≡◌, ℕ, zero, suc, ◌+◌, ◌-◌, ◌*◌, ◌<◌, ◌≤◌, ◌^◌, min, inl, inr, true, false, ◌==◌, cond, Some, Result, Ok, Err, IfOk, List, length, refl, sym, ap, subst, ◌∙◌, arith}
+use Rattle.std.proofs.lemmas.Bool.{cases_Bool, eqb-true}
+use Rattle.std.proofs.lemmas.Bool.Decides.{nat_tests}
+use Rattle.std.proofs.Math.Nat.{two-pow-succ, pow-le-pow_right}
+use Rattle.ca_quad.specs.declared.node.Node.{Node}
+use Rattle.ca_quad.specs.declared.square.Square.TheVariants.{Parts}
+use Rattle.ca_quad.specs.Squares.{square_of, level, IsOf, dot, together, cell_of}
+use Rattle.ca_quad.specs.Sound.{HasParts}
+use Rattle.ca_quad.specs.Population.{sum_below, live, population}
+use Rattle.ca_quad.specs.inner.Found.{found_for, IsCountOf}
+use Rattle.ca_quad.proofs.Cells.{at_nw, at_ne, at_sw, at_se}
+use Rattle.ca_quad.proofs.Walks.{parts_show}
+
+sum_split : (m n : ℕ) (term : ℕ → ℕ) → sum_below (m + n) term ≡ sum_below m term + sum_below n (λ i. term (m + i))
+sum_split m zero term = let e : m + zero ≡ m = omega arith in rw e (omega arith)
+sum_split m (suc n) term = let e : m + suc n ≡ suc (m + n) = omega arith in rw e (omega (arith, sum_split m n term))
+
+sum_same : (n : ℕ) (f g : ℕ → ℕ) → ((i : ℕ) → i < n → f i ≡ g i) → sum_below n f ≡ sum_below n g
+sum_same zero f g same = refl
+sum_same (suc n) f g same = omega (arith, sum_same n f g (λ i h. same i (omega arith)), same n (omega arith))
+
+sum_plus : (n : ℕ) (f g : ℕ → ℕ) → sum_below n (λ i. f i + g i) ≡ sum_below n f + sum_below n g
+sum_plus zero f g = refl
+sum_plus (suc n) f g = omega (arith, sum_plus n f g)
+
+-- the live cells of a row
+row : (ℕ → ℕ → ℕ) → ℕ → ℕ → ℕ
+row cells side y = sum_below side (λ x. live (cells x y))
+
+module _ (side : ℕ) (nw ne sw se : ℕ → ℕ → ℕ) where
+  all : ℕ → ℕ → ℕ
+  all = together side nw ne sw se
+
+  northern : (y : ℕ) → y < side → row all (side + side) y ≡ row nw side y + row ne side y
+  unfolding row all
+  northern y h =
+      let a : sum_below side (λ x. live (together side nw ne sw se x y)) ≡ sum_below side (λ x. live (nw x y)) = sum_same side _ _ (λ x i. ap live (at_nw side nw ne sw se x y i h)) in
+      let b : sum_below side (λ x. live (together side nw ne sw se (side + x) y)) ≡ sum_below side (λ x. live (ne x y)) = sum_same side _ _ (λ x i. ap live (at_ne side nw ne sw se x y h)) in
+      omega (arith, a, b, sum_split side side (λ x. live (together side nw ne sw se x y)))
+
+  southern : (y : ℕ) → row all (side + side) (side + y) ≡ row sw side y + row se side y
+  unfolding row all
+  southern y =
+      let a : sum_below side (λ x. live (together side nw ne sw se x (side + y))) ≡ sum_below side (λ x. live (sw x y)) = sum_same side _ _ (λ x i. ap live (at_sw side nw ne sw se x y i)) in
+      let b : sum_below side (λ x. live (together side nw ne sw se (side + x) (side + y))) ≡ sum_below side (λ x. live (se x y)) = sum_same side _ _ (λ x i. ap live (at_se side nw ne sw se x y)) in
+      omega (arith, a, b, sum_split side side (λ x. live (together side nw ne sw se x (side + y))))
+
+  -- the four are counted apart
+  pub population_together : population (together side nw ne sw se) (side + side) ≡ population nw side + population ne side + (population sw side + population se side)
+  unfolding row all
+  population_together =
+      let a = sum_same side (row all (side + side)) (λ y. row nw side y + row ne side y) northern in
+      let b = sum_same side (λ y. row all (side + side) (side + y)) (λ y. row sw side y + row se side y) (λ y h. southern y) in
+      omega (arith, a, b, sum_split side side (row all (side + side)), sum_plus side (row nw side) (row ne side), sum_plus side (row sw side) (row se side))
+
+some_same : {V : Type 0} {v w : V} → Some v ≡ Some w → v ≡ w
+some_same e = cc
+
+-- what was found is kept, and one thing more
+module _ {V : Type 0} (Is : ℕ → V → Type 0) (old new : List (ℕ × V)) (id : ℕ) (value : V) (before : (other : ℕ) (w : V) → found_for old other ≡ Some w → Is other w)
+    (is : Is id value) (put : (other : ℕ) → found_for new other ≡ cond (id == other) (Some value) (found_for old other)) where
+  pub found_more : (other : ℕ) (w : V) → found_for new other ≡ Some w → Is other w
+  found_more other w h =
+      elim (cases_Bool (id == other)) [
+        | inl e ↦
+            let f : cond (id == other) (Some value) (found_for old other) ≡ Some value = rw e refl in
+            let g : value ≡ w = some_same (sym f ∙ (sym (put other) ∙ h)) in
+            subst (λ (v : V). Is other v) g (subst (λ n. Is n value) (eqb-true id other e) is)
+        | inr e ↦
+            let f : cond (id == other) (Some value) (found_for old other) ≡ found_for old other = rw e refl in
+            before other w (sym f ∙ (sym (put other) ∙ h))
+      ]
+
+-- the live cells of a square are those of its parts
+module _ (nodes : List Node) (id m nw ne sw se : ℕ) (e : Parts m nw ne sw se ≡ square_of nodes id) (whole : HasParts nodes (length nodes) m nw ne sw se) where
+  pub count_in_parts : (a b c d n : ℕ) → IsCountOf nodes nw a → IsCountOf nodes ne b → IsCountOf nodes sw c → IsCountOf nodes se d
+      → n ≡ min (a + b + (c + d)) (2 ^ 128 - 1) → IsCountOf nodes id n
+  count_in_parts a b c d n p q r s all k h =
+      let some : 1 ≤ m = omega (arith, whole.least) in
+      let f : k ≡ m = sym h.is_level ∙ ap level (sym e) in
+      let next : suc (m - 1) ≡ k = omega arith in
+      let side : 2 ^ k ≡ 2 ^ (m - 1) + 2 ^ (m - 1) = ap (λ k. 2 ^ k) (sym next) ∙ two-pow-succ (m - 1) in
+      let part = cell_of nodes (m - 1) in
+      let whole_is : population (cell_of nodes k id) (2 ^ k) ≡ population (part nw) (2 ^ (m - 1)) + population (part ne) (2 ^ (m - 1)) + (population (part sw) (2 ^ (m - 1)) + population (part se) (2 ^ (m - 1)))
+          = rw (parts_show nodes id k h m nw ne sw se some e, side) (population_together (2 ^ (m - 1)) (part nw) (part ne) (part sw) (part se)) in
+      omega (arith, whole_is, p (m - 1) whole.is_nw, q (m - 1) whole.is_ne, r (m - 1) whole.is_sw, s (m - 1) whole.is_se)
+
+live_least : (state : ℕ) → live state ≤ 1
+live_least state = elim (cases_Bool (state == 0)) [ inl e ↦ rw e (omega arith) | inr e ↦ rw e (omega arith) ]
+
+-- a square of this side has few enough cells for a u128
+module _ (side : ℕ) (low : side ≤ 2 ^ 63) (cells : ℕ → ℕ → ℕ) where
+  row_least : (y n : ℕ) → sum_below n (λ x. live (cells x y)) ≤ n
+  row_least y zero = omega arith
+  row_least y (suc n) = omega (arith, row_least y n, live_least (cells n y))
+
+  rows_least : (n : ℕ) → sum_below n (λ y. sum_below side (λ x. live (cells x y))) ≤ 2 ^ 63 * n
+  rows_least zero = omega arith
+  rows_least (suc n) = omega (arith, low, rows_least n, row_least n side)
+
+  population_least : population cells side ≤ 2 ^ 126
+  population_least = omega (arith, low, rows_least side)
+
+-- at a level of at most 63 the count is exact
+pub count_exact : {E : Type 0} (nodes : List Node) (r : Result ℕ E) (id k : ℕ) → IsOf nodes id k → k ≤ 63 → IfOk r (IsCountOf nodes id)
+    → IfOk r (λ n. n ≡ population (cell_of nodes k id) (2 ^ k))
+count_exact nodes (Ok n) id k h low count =
+    let side : 2 ^ k ≤ 2 ^ 63 = pow-le-pow_right {n = 2} (omega arith) {i = k} {j = 63} low in
+    omega (arith, count k h, population_least (2 ^ k) side (cell_of nodes k id))
+count_exact nodes (Err e) id k h low count = tt

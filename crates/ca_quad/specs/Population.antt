@@ -1,0 +1,15 @@
+-- How many cells of a square are live, that is, aren't 0.
+use Rattle.std.specs.Prelude.{ℕ, zero, suc, ◌+◌, ◌==◌, if◌then◌else◌}
+
+-- the sum of the terms 0 to n - 1
+abbrev pub sum_below : ℕ → (ℕ → ℕ) → ℕ
+sum_below zero term = 0
+sum_below (suc n) term = sum_below n term + term n
+
+-- a live cell counts 1
+abbrev pub live : ℕ → ℕ
+live state = if state == 0 then 0 else 1
+
+-- how many cells are live, of all with x and y below the side
+abbrev pub population : (ℕ → ℕ → ℕ) → ℕ → ℕ
+population cells side = sum_below side (λ y. sum_below side (λ x. live (cells x y)))
