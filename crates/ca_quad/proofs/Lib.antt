@@ -7,3 +7,5 @@ pub mod Walks
 pub mod Edges
 pub mod Windows
 pub mod Population
+pub mod Extents
+pub mod Boxes

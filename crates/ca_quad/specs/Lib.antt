@@ -2,4 +2,5 @@ pub mod Squares
 pub mod Sound
 pub mod Trees
 pub mod Population
+pub mod Boxes
 pub mod inner

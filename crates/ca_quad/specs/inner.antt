@@ -3,3 +3,4 @@ pub mod Whole
 pub mod Named
 pub mod Window
 pub mod Found
+pub mod Extent

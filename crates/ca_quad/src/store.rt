@@ -7,6 +7,8 @@ ghost use Rattle.ca_quad.specs.Sound.{IsSound, IsGood, Grows};
 ghost use Rattle.ca_quad.specs.Trees.{IsIn};
 ghost use Rattle.ca_quad.specs.inner.Whole.{IsWhole};
 
+mod bounds;
+mod extent;
 mod found;
 mod make;
 mod population;

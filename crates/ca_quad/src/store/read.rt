@@ -107,7 +107,7 @@ impl Store {
 }
 
 // Half the side of a square of this level.
-fn half_side(level: u8) -> u128
+pub(crate) fn half_side(level: u8) -> u128
     requires least { 1 ≤ level }
     requires most { level ≤ 125 }
     ensures half { result ≡ 2 ^ (level - 1) }

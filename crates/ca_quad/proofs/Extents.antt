@@ -1,0 +1,139 @@
+-- The least boxes of squares that lie side by side, and of four that lie together.
+use Rattle.std.proofs.Common.{◌≡◌, ◌≢◌, ℕ, suc, ◌+◌, ◌-◌, ◌<◌, ◌≤◌, ◌^◌, min, max, ◌⊎◌, inl, inr, true, false, ◌==◌, ◌&&◌, Option, Some, None, MatchOption, List, length, nat_lt, refl, sym, ap, subst, ◌∙◌, arith}
+use Rattle.std.proofs.lemmas.Bool.{cases_Bool}
+use Rattle.std.proofs.lemmas.Bool.Decides.{nat_tests}
+use Rattle.std.proofs.Math.Nat.{two-pow-succ}
+use Rattle.ca_quad.specs.declared.node.Node.{Node}
+use Rattle.ca_quad.specs.declared.square.Square.TheVariants.{Four, Parts}
+use Rattle.ca_quad.specs.declared.store.extent.Extent.{Extent}
+use Rattle.ca_quad.specs.Squares.{square_of, level, IsOf, dot, together, cell_of}
+use Rattle.ca_quad.specs.Sound.{HasParts}
+use Rattle.ca_quad.specs.Trees.{IsEmpty}
+use Rattle.ca_quad.specs.inner.Extent.{beside, turned, IsExtent, IsExtentOf, IsBoxOf}
+use Rattle.ca_quad.proofs.Growth.{below_or_not}
+use Rattle.ca_quad.proofs.Walks.{four_show, parts_show}
+
+live_as : (a b : ℕ) → a ≡ b → b ≢ 0 → a ≢ 0
+live_as a b e h i = h (sym e ∙ i)
+
+module _ (side : ℕ) (w e : ℕ → ℕ → ℕ) (x y : ℕ) where
+  in_west : x < side → beside side w e x y ≡ w x y
+  in_west h = let f : nat_lt x side ≡ true = grind (arith, nat_tests) in rw f refl
+
+  behind : side ≤ x → beside side w e x y ≡ e (x - side) y
+  behind h = let f : nat_lt x side ≡ false = grind (arith, nat_tests) in rw f refl
+
+  in_east : beside side w e (x + side) y ≡ e x y
+  in_east =
+      let f : nat_lt (x + side) side ≡ false = grind (arith, nat_tests) in
+      let g : x + side - side ≡ x = omega arith in
+      rw (f, g) refl
+
+-- beside an empty square
+module _ (side rows : ℕ) (w e : ℕ → ℕ → ℕ) (none : IsEmpty e) where
+  west_live : (x y : ℕ) → beside side w e x y ≢ 0 → w x y ≢ 0
+  west_live x y h =
+      elim (below_or_not x side) [
+        | inl i ↦ live_as (w x y) (beside side w e x y) (sym (in_west side w e x y i)) h
+        | inr i ↦ absurd (h (behind side w e x y i ∙ none (x - side) y))
+      ]
+
+  west_box : (box : Extent) → IsExtent w side rows box → IsExtent (beside side w e) (side + side) rows box
+  west_box box h =
+      let low : (x y : ℕ) → w x y ≢ 0 → beside side w e x y ≢ 0 = λ x y i. live_as (beside side w e x y) (w x y) (in_west side w e x y (omega (arith, (h.all x y i).1, h.is_right))) i in
+      record {
+        all = λ x y i. h.all x y (west_live x y i);
+        left = (h.left.0, low box.left h.left.0 h.left.1);
+        right = (h.right.0, low box.right h.right.0 h.right.1);
+        top = (h.top.0, low h.top.0 box.top h.top.1);
+        bottom = (h.bottom.0, low h.bottom.0 box.bottom h.bottom.1);
+        is_right = omega (arith, h.is_right);
+        is_bottom = h.is_bottom;
+      }
+
+  pub west_only : (found : Option Extent) → IsExtentOf w side rows found → IsExtentOf (beside side w e) (side + side) rows found
+  west_only (Some box) h = west_box box h
+  west_only None h = λ x y. elim (below_or_not x side) [ inl i ↦ in_west side w e x y i ∙ h x y | inr i ↦ behind side w e x y i ∙ none (x - side) y ]
+
+-- an eastern square that isn't empty
+module _ (side rows : ℕ) (low : side ≤ 2 ^ 124) (w e : ℕ → ℕ → ℕ) (east box : Extent) (q : IsExtent e side rows east) (right : box.right ≡ min (east.right + side) (2 ^ 128 - 1)) where
+  e_live : (x y : ℕ) → e x y ≢ 0 → beside side w e (x + side) y ≢ 0
+  e_live x y i = live_as (beside side w e (x + side) y) (e x y) (in_east side w e x y) i
+
+  right_is : box.right ≡ east.right + side
+  right_is = omega (arith, low, q.is_right, right)
+
+  on_right : (y : ℕ) × (beside side w e box.right y ≢ 0)
+  on_right = (q.right.0, subst (λ x. beside side w e x q.right.0 ≢ 0) (sym right_is) (e_live east.right q.right.0 q.right.1))
+
+  -- beside a western one that is
+  pub east_only : IsEmpty w → box.left ≡ min (east.left + side) (2 ^ 128 - 1) → box.top ≡ east.top → box.bottom ≡ east.bottom → IsExtent (beside side w e) (side + side) rows box
+  east_only none left top bottom =
+      let left_is : box.left ≡ east.left + side = omega (arith, low, left, (q.all east.left q.left.0 q.left.1).1, q.is_right) in
+      record {
+        all = λ x y i. elim (below_or_not x side) [
+          | inl j ↦ absurd (i (in_west side w e x y j ∙ none x y))
+          | inr j ↦
+              let h = q.all (x - side) y (live_as (e (x - side) y) (beside side w e x y) (sym (behind side w e x y j)) i) in
+              (omega arith, omega arith, omega arith, omega arith)
+        ];
+        left = (q.left.0, subst (λ x. beside side w e x q.left.0 ≢ 0) (sym left_is) (e_live east.left q.left.0 q.left.1));
+        right = on_right;
+        top = (q.top.0 + side, subst (λ y. beside side w e (q.top.0 + side) y ≢ 0) (sym top) (e_live q.top.0 east.top q.top.1));
+        bottom = (q.bottom.0 + side, subst (λ y. beside side w e (q.bottom.0 + side) y ≢ 0) (sym bottom) (e_live q.bottom.0 east.bottom q.bottom.1));
+        is_right = omega (arith, right_is, q.is_right);
+        is_bottom = omega (arith, bottom, q.is_bottom);
+      }
+
+  -- and beside one that isn't
+  module _ (west : Extent) (p : IsExtent w side rows west) where
+    w_live : (x y : ℕ) → w x y ≢ 0 → beside side w e x y ≢ 0
+    w_live x y i = live_as (beside side w e x y) (w x y) (in_west side w e x y (omega (arith, (p.all x y i).1, p.is_right))) i
+
+    inside : box.left ≡ west.left → box.top ≡ min west.top east.top → box.bottom ≡ max west.bottom east.bottom
+        → (x y : ℕ) → beside side w e x y ≢ 0 → (box.left ≤ x) × (x ≤ box.right) × (box.top ≤ y) × (y ≤ box.bottom)
+    inside left top bottom x y i =
+        elim (below_or_not x side) [
+          | inl j ↦
+              let h = p.all x y (live_as (w x y) (beside side w e x y) (sym (in_west side w e x y j)) i) in
+              (omega arith, omega (arith, right_is), omega arith, omega arith)
+          | inr j ↦
+              let h = q.all (x - side) y (live_as (e (x - side) y) (beside side w e x y) (sym (behind side w e x y j)) i) in
+              let l = p.all west.left p.left.0 p.left.1 in
+              (omega (arith, p.is_right), omega (arith, right_is), omega arith, omega arith)
+        ]
+
+    on_row : (row : ℕ) → (row ≡ west.top) ⊎ (row ≡ west.bottom) ⊎ (row ≡ east.top) ⊎ (row ≡ east.bottom) → (x : ℕ) × (beside side w e x row ≢ 0)
+    on_row row (inl f) = (p.top.0, subst (λ y. beside side w e p.top.0 y ≢ 0) (sym f) (w_live p.top.0 west.top p.top.1))
+    on_row row (inr (inl f)) = (p.bottom.0, subst (λ y. beside side w e p.bottom.0 y ≢ 0) (sym f) (w_live p.bottom.0 west.bottom p.bottom.1))
+    on_row row (inr (inr (inl f))) = (q.top.0 + side, subst (λ y. beside side w e (q.top.0 + side) y ≢ 0) (sym f) (e_live q.top.0 east.top q.top.1))
+    on_row row (inr (inr (inr f))) = (q.bottom.0 + side, subst (λ y. beside side w e (q.bottom.0 + side) y ≢ 0) (sym f) (e_live q.bottom.0 east.bottom q.bottom.1))
+
+    pub both : box.left ≡ west.left → box.top ≡ min west.top east.top → box.bottom ≡ max west.bottom east.bottom → IsExtent (beside side w e) (side + side) rows box
+    both left top bottom = record {
+      all = inside left top bottom;
+      left = (p.left.0, subst (λ x. beside side w e x p.left.0 ≢ 0) (sym left) (w_live west.left p.left.0 p.left.1));
+      right = on_right;
+      top = on_row box.top (elim (below_or_not west.top east.top) [ inl f ↦ inl (omega arith) | inr f ↦ inr (inr (inl (omega arith))) ]);
+      bottom = on_row box.bottom (elim (below_or_not west.bottom east.bottom) [ inl f ↦ inr (inr (inr (omega arith))) | inr f ↦ inr (inl (omega arith)) ]);
+      is_right = omega (arith, right_is, q.is_right);
+      is_bottom = omega (arith, bottom, p.is_bottom, q.is_bottom);
+    }
+
+-- the box of a square is made of those of its parts
+module _ (nodes : List Node) (id m nw ne sw se : ℕ) (e : Parts m nw ne sw se ≡ square_of nodes id) (whole : HasParts nodes (length nodes) m nw ne sw se) where
+  pub box_of_parts : (side : ℕ) → side ≡ 2 ^ (m - 1) → (a b c d all : Option Extent) → IsBoxOf nodes nw a → IsBoxOf nodes ne b → IsBoxOf nodes sw c → IsBoxOf nodes se d
+      → ((o p q r : ℕ → ℕ → ℕ) → IsExtentOf o side side a → IsExtentOf p side side b → IsExtentOf q side side c → IsExtentOf r side side d
+          → IsExtentOf (together side o p q r) (side + side) (side + side) all)
+      → IsBoxOf nodes id all
+  box_of_parts side half a b c d all g h i j joined k of =
+      let some : 1 ≤ m = omega (arith, whole.least) in
+      let f : k ≡ m = sym of.is_level ∙ ap level (sym e) in
+      let next : suc (m - 1) ≡ k = omega arith in
+      let both : 2 ^ k ≡ side + side = ap (λ k. 2 ^ k) (sym next) ∙ (two-pow-succ (m - 1) ∙ ap (λ n. n + n) (sym half)) in
+      let part = cell_of nodes (m - 1) in
+      let fits : (id : ℕ) (found : Option Extent) → IsExtentOf (part id) (2 ^ (m - 1)) (2 ^ (m - 1)) found → IsExtentOf (part id) side side found
+          = λ id found h. subst (λ n. IsExtentOf (part id) n n found) (sym half) h in
+      let cells : cell_of nodes k id ≡ together side (part nw) (part ne) (part sw) (part se) = parts_show nodes id k of m nw ne sw se some e ∙ ap (λ n. together n (part nw) (part ne) (part sw) (part se)) (sym half) in
+      rw (cells, both)
+      (joined (part nw) (part ne) (part sw) (part se) (fits nw a (g (m - 1) whole.is_nw)) (fits ne b (h (m - 1) whole.is_ne)) (fits sw c (i (m - 1) whole.is_sw)) (fits se d (j (m - 1) whole.is_se)))

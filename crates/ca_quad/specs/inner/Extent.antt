@@ -1,0 +1,41 @@
+-- The least box round the live cells of a square, counted from its corner.
+use Rattle.std.specs.Prelude.{◌≢◌, ℕ, ◌-◌, ◌<◌, ◌≤◌, nat_lt, if◌then◌else◌, Option, MatchOption, Some, ◌≡◌, ◌^◌, List}
+use Rattle.ca_quad.specs.declared.node.Node.{Node}
+use Rattle.ca_quad.specs.declared.store.extent.Extent.{Extent}
+use Rattle.ca_quad.specs.Squares.{IsOf, cell_of}
+use Rattle.ca_quad.specs.Trees.{IsEmpty}
+use Rattle.ca_quad.specs.inner.Found.{found_for}
+
+-- two squares that lie side by side, of which the western one has this many columns
+abbrev pub beside : ℕ → (ℕ → ℕ → ℕ) → (ℕ → ℕ → ℕ) → ℕ → ℕ → ℕ
+beside side west east x y = if nat_lt x side then west x y else east (x - side) y
+
+-- x and y change places
+abbrev pub turned : (ℕ → ℕ → ℕ) → ℕ → ℕ → ℕ
+turned cells x y = cells y x
+
+-- the least box round the live cells, which lie in so many columns and rows: one lies on each of its sides
+pub record IsExtent (cells : ℕ → ℕ → ℕ) (columns rows : ℕ) (box : Extent) : Type 0 where
+  pub all : (x y : ℕ) → cells x y ≢ 0 → (box.left ≤ x) × (x ≤ box.right) × (box.top ≤ y) × (y ≤ box.bottom)
+  pub left : (y : ℕ) × (cells box.left y ≢ 0)
+  pub right : (y : ℕ) × (cells box.right y ≢ 0)
+  pub top : (x : ℕ) × (cells x box.top ≢ 0)
+  pub bottom : (x : ℕ) × (cells x box.bottom ≢ 0)
+  pub is_right : box.right < columns
+  pub is_bottom : box.bottom < rows
+
+-- the box lies in a square of this side
+abbrev pub IsWithin : ℕ → Extent → Type 0
+IsWithin side box = (box.left < side) × (box.top < side) × (box.right < side) × (box.bottom < side)
+
+-- the least box round the live cells, where there are any
+abbrev pub IsExtentOf : (ℕ → ℕ → ℕ) → ℕ → ℕ → Option Extent → Type 0
+IsExtentOf cells columns rows found = MatchOption found (IsEmpty cells) (IsExtent cells columns rows)
+
+-- the least box round the live cells of a square
+abbrev pub IsBoxOf : List Node → ℕ → Option Extent → Type 0
+IsBoxOf nodes id found = (level : ℕ) → IsOf nodes id level → IsExtentOf (cell_of nodes level id) (2 ^ level) (2 ^ level) found
+
+-- each box that was found is that of its square
+abbrev pub AreBoxes : List Node → List (ℕ × Option Extent) → Type 0
+AreBoxes nodes boxes = (id : ℕ) (found : Option Extent) → found_for boxes id ≡ Some found → IsBoxOf nodes id found

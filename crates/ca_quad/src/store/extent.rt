@@ -1,0 +1,90 @@
+//! The least box round the live cells of a square.
+
+ghost use Rattle.std.specs.Prelude.{◌≡◌, ℕ, ◌+◌, ◌-◌, ◌≤◌, ◌^◌, min};
+ghost use Rattle.ca_quad.specs.Squares.{dot, together};
+ghost use Rattle.ca_quad.specs.inner.Extent.{beside, turned, IsExtentOf};
+
+// The least box round the live cells of a square, counted from its corner, both ends included.
+#[derive(Clone, Copy, Drop)]
+pub(crate) struct Extent {
+    pub left: u128,
+    pub top: u128,
+    pub right: u128,
+    pub bottom: u128,
+}
+
+impl Extent {
+    // The box of one cell.
+    pub(crate) fn of_cell(state: u8) -> Option<Extent>
+        ensures { IsExtentOf (dot state) 1 1 result }
+    {
+        if state == 0 {
+            return None;
+        }
+        Some(Extent {
+            left: 0,
+            top: 0,
+            right: 0,
+            bottom: 0,
+        })
+    }
+
+    // The box of four squares of this side that lie together.
+    pub(crate) fn of_four(
+        side: u128,
+        nw: Option<Extent>,
+        ne: Option<Extent>,
+        sw: Option<Extent>,
+        se: Option<Extent>,
+    ) -> Option<Extent>
+        requires { side ≤ 2 ^ 124 }
+        ensures { (a b c d : ℕ → ℕ → ℕ) → IsExtentOf a side side nw → IsExtentOf b side side ne → IsExtentOf c side side sw → IsExtentOf d side side se
+            → IsExtentOf (together side a b c d) (side + side) (side + side) result }
+    {
+        let north = beside(side, nw, ne);
+        let south = beside(side, sw, se);
+        turned(beside(side, turned(north), turned(south)))
+    }
+}
+
+// The box of two squares that lie side by side, where the western one has this many columns.
+fn beside(side: u128, west: Option<Extent>, east: Option<Extent>) -> Option<Extent>
+    requires { side ≤ 2 ^ 124 }
+    ensures { (w e : ℕ → ℕ → ℕ) (rows : ℕ) → IsExtentOf w side rows west → IsExtentOf e side rows east → IsExtentOf (beside side w e) (side + side) rows result }
+{
+    let Some(east) = east else {
+        return west;
+    };
+    // A column of a square is below 2^124, so no sum stops at the greatest u128.
+    let right = east.right.saturating_add(side);
+    let Some(west) = west else {
+        let left = east.left.saturating_add(side);
+        return Some(Extent {
+            left,
+            top: east.top,
+            right,
+            bottom: east.bottom,
+        });
+    };
+    Some(Extent {
+        left: west.left,
+        top: west.top.min(east.top),
+        right,
+        bottom: west.bottom.max(east.bottom),
+    })
+}
+
+// The box of the cells whose x and y change places.
+fn turned(found: Option<Extent>) -> Option<Extent>
+    ensures { (cells : ℕ → ℕ → ℕ) (columns rows : ℕ) → IsExtentOf cells columns rows found → IsExtentOf (turned cells) rows columns result }
+{
+    let Some(box_found) = found else {
+        return None;
+    };
+    Some(Extent {
+        left: box_found.top,
+        top: box_found.left,
+        right: box_found.bottom,
+        bottom: box_found.right,
+    })
+}
