@@ -1,5 +1,5 @@
 -- The box of a tree is that of its root, moved to the middle.
-use Rattle.std.proofs.Common.{◌≡◌, ◌≢◌, ℕ, suc, ◌+◌, ◌-◌, ◌<◌, ◌≤◌, ◌^◌, ℤ, pos, negsuc, ◌+ℤ◌, ◌-ℤ◌, ◌≤ℤ◌, List, refl, sym, ap, subst, ◌∙◌, arith}
+use Rattle.std.proofs.Common.{◌≡◌, ◌≢◌, ℕ, suc, ◌+◌, ◌-◌, ◌≤◌, ◌^◌, ℤ, pos, negsuc, ◌+ℤ◌, ◌-ℤ◌, ◌≤ℤ◌, List, refl, sym, ap, ◌∙◌, arith}
 use Rattle.std.proofs.lemmas.Int.{ints}
 use Rattle.std.proofs.Math.Nat.{two-pow-succ}
 use Rattle.ca_quad.specs.declared.node.Node.{Node}
@@ -23,7 +23,7 @@ holds_from cells columns rows box h (pos a) (negsuc b) i = absurd (i refl)
 holds_from cells columns rows box h (negsuc a) (pos b) i = absurd (i refl)
 holds_from cells columns rows box h (negsuc a) (negsuc b) i = absurd (i refl)
 
-dead_from : (cells : ℕ → ℕ → ℕ) → IsEmpty cells → (u v : ℤ) → from_corner cells u v ≡ 0
+pub dead_from : (cells : ℕ → ℕ → ℕ) → IsEmpty cells → (u v : ℤ) → from_corner cells u v ≡ 0
 dead_from cells h (pos a) (pos b) = h a b
 dead_from cells h (pos a) (negsuc b) = refl
 dead_from cells h (negsuc a) (pos b) = refl
@@ -60,7 +60,7 @@ module _ (nodes : List Node) (tree : Tree) where
         → IsLeastBox (cell nodes tree) wide
     tree_box columns rows box wide h x0 y0 x1 y1 =
         let there : (a b : ℕ) (x y : ℤ) → x ≡ pos a -ℤ pos half → y ≡ pos b -ℤ pos half → cell_of nodes tree.level tree.root a b ≢ 0 → cell nodes tree x y ≢ 0
-            = λ a b x y f g i j. i (sym (at_place a b x y f g) ∙ j) in
+        = λ a b x y f g i j. i (sym (at_place a b x y f g) ∙ j) in
         record {
           all = λ x y i.
               let k = holds_from (cell_of nodes tree.level tree.root) columns rows box h (x +ℤ pos half) (y +ℤ pos half) (λ j. i (cell_at x y ∙ j)) in

@@ -46,7 +46,7 @@ module _ (side : ℕ) (nw ne sw se : ℕ → ℕ → ℕ) (x y : ℕ) where
 abbrev pub Ends : ℕ → (ℕ → ℕ → ℕ) → Type 0
 Ends side cells = (x y : ℕ) → (side ≤ x) ⊎ (side ≤ y) → cells x y ≡ 0
 
-dot_ends : (state side : ℕ) → 1 ≤ side → Ends side (dot state)
+pub dot_ends : (state side : ℕ) → 1 ≤ side → Ends side (dot state)
 dot_ends state side h x y (inl p) = let e : (x == 0) ≡ false = grind (arith, nat_tests) in rw e refl
 dot_ends state side h x y (inr p) =
     let e : (y == 0) ≡ false = grind (arith, nat_tests) in

@@ -13,14 +13,14 @@ abbrev pub IsOff : ℕ → ℤ → Type 0
 IsOff side u = (u <ℤ pos 0) ⊎ (pos side ≤ℤ u)
 
 module _ (cells : ℕ → ℕ → ℕ) (side : ℕ) (ends : Ends side cells) where
-  off_x : (u v : ℤ) → IsOff side u → from_corner cells u v ≡ 0
+  pub off_x : (u v : ℤ) → IsOff side u → from_corner cells u v ≡ 0
   off_x (pos a) (pos b) (inl h) = absurd (omega (arith, ints))
   off_x (pos a) (pos b) (inr h) = ends a b (inl (omega (arith, ints)))
   off_x (pos a) (negsuc b) h = refl
   off_x (negsuc a) (pos b) h = refl
   off_x (negsuc a) (negsuc b) h = refl
 
-  off_y : (u v : ℤ) → IsOff side v → from_corner cells u v ≡ 0
+  pub off_y : (u v : ℤ) → IsOff side v → from_corner cells u v ≡ 0
   off_y (pos a) (pos b) (inl h) = absurd (omega (arith, ints))
   off_y (pos a) (pos b) (inr h) = ends a b (inr (omega (arith, ints)))
   off_y (pos a) (negsuc b) h = refl

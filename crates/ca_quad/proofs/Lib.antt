@@ -9,3 +9,5 @@ pub mod Windows
 pub mod Population
 pub mod Extents
 pub mod Boxes
+pub mod Reach
+pub mod Drawn

@@ -1,11 +1,10 @@
 -- The live cells of four squares that lie together are those of each.
-use Rattle.std.proofs.Common.{◌≡◌, ℕ, zero, suc, ◌+◌, ◌-◌, ◌*◌, ◌<◌, ◌≤◌, ◌^◌, min, inl, inr, true, false, ◌==◌, cond, Some, Result, Ok, Err, IfOk, List, length, refl, sym, ap, subst, ◌∙◌, arith}
+use Rattle.std.proofs.Common.{◌≡◌, ℕ, zero, suc, ◌+◌, ◌-◌, ◌*◌, ◌<◌, ◌≤◌, ◌^◌, min, inl, inr, ◌==◌, cond, Some, Result, Ok, Err, IfOk, List, length, refl, sym, ap, subst, ◌∙◌, arith}
 use Rattle.std.proofs.lemmas.Bool.{cases_Bool, eqb-true}
-use Rattle.std.proofs.lemmas.Bool.Decides.{nat_tests}
 use Rattle.std.proofs.Math.Nat.{two-pow-succ, pow-le-pow_right}
 use Rattle.ca_quad.specs.declared.node.Node.{Node}
 use Rattle.ca_quad.specs.declared.square.Square.TheVariants.{Parts}
-use Rattle.ca_quad.specs.Squares.{square_of, level, IsOf, dot, together, cell_of}
+use Rattle.ca_quad.specs.Squares.{square_of, level, IsOf, together, cell_of}
 use Rattle.ca_quad.specs.Sound.{HasParts}
 use Rattle.ca_quad.specs.Population.{sum_below, live, population}
 use Rattle.ca_quad.specs.inner.Found.{found_for, IsCountOf}
@@ -83,7 +82,7 @@ module _ (nodes : List Node) (id m nw ne sw se : ℕ) (e : Parts m nw ne sw se �
       let side : 2 ^ k ≡ 2 ^ (m - 1) + 2 ^ (m - 1) = ap (λ k. 2 ^ k) (sym next) ∙ two-pow-succ (m - 1) in
       let part = cell_of nodes (m - 1) in
       let whole_is : population (cell_of nodes k id) (2 ^ k) ≡ population (part nw) (2 ^ (m - 1)) + population (part ne) (2 ^ (m - 1)) + (population (part sw) (2 ^ (m - 1)) + population (part se) (2 ^ (m - 1)))
-          = rw (parts_show nodes id k h m nw ne sw se some e, side) (population_together (2 ^ (m - 1)) (part nw) (part ne) (part sw) (part se)) in
+      = rw (parts_show nodes id k h m nw ne sw se some e, side) (population_together (2 ^ (m - 1)) (part nw) (part ne) (part sw) (part se)) in
       omega (arith, whole_is, p (m - 1) whole.is_nw, q (m - 1) whole.is_ne, r (m - 1) whole.is_sw, s (m - 1) whole.is_se)
 
 live_least : (state : ℕ) → live state ≤ 1

@@ -3,4 +3,5 @@ pub mod Sound
 pub mod Trees
 pub mod Population
 pub mod Boxes
+pub mod Expanded
 pub mod inner

@@ -1,5 +1,8 @@
--- How many cells of a square are live, that is, aren't 0.
-use Rattle.std.specs.Prelude.{ℕ, zero, suc, ◌+◌, ◌==◌, if◌then◌else◌}
+-- How many cells are live, that is, aren't 0.
+use Rattle.std.specs.Prelude.{ℕ, zero, suc, ◌+◌, ◌^◌, ◌==◌, if◌then◌else◌, List}
+use Rattle.ca_quad.specs.declared.node.Node.{Node}
+use Rattle.ca_quad.specs.declared.tree.Tree.{Tree}
+use Rattle.ca_quad.specs.Squares.{cell_of}
 
 -- the sum of the terms 0 to n - 1
 abbrev pub sum_below : ℕ → (ℕ → ℕ) → ℕ
@@ -10,6 +13,10 @@ sum_below (suc n) term = sum_below n term + term n
 abbrev pub live : ℕ → ℕ
 live state = if state == 0 then 0 else 1
 
--- how many cells are live, of all with x and y below the side
+-- how many cells of a square are live: of all with x and y below the side
 abbrev pub population : (ℕ → ℕ → ℕ) → ℕ → ℕ
 population cells side = sum_below side (λ y. sum_below side (λ x. live (cells x y)))
+
+-- how many cells of a tree are live
+abbrev pub live_cells : List Node → Tree → ℕ
+live_cells nodes tree = population (cell_of nodes tree.level tree.root) (2 ^ tree.level)

@@ -4,3 +4,4 @@ pub mod Named
 pub mod Window
 pub mod Found
 pub mod Extent
+pub mod Drawn

@@ -13,6 +13,7 @@ mod found;
 mod make;
 mod population;
 mod read;
+mod to_plane;
 
 use crate::id::Id;
 use crate::named::Named;

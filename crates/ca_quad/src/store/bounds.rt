@@ -5,10 +5,10 @@ ghost use Rattle.ca_quad.specs.Trees.{IsIn, IsTree, cell};
 ghost use Rattle.ca_quad.specs.Boxes.{IsDead, IsLeastBox};
 ghost use Rattle.ca_quad.specs.inner.Extent.{IsWithin, IsBoxOf, AreBoxes};
 
+use super::Store;
 use super::extent::Extent;
 use super::found::Found;
 use super::read::half_side;
-use super::Store;
 use crate::id::Id;
 use crate::square::Square;
 use crate::tree::{Tree, WideBounds};
@@ -35,11 +35,7 @@ impl Store {
     }
 
     // The least box round the live cells of a square.
-    fn extent(
-        &self,
-        id: Id,
-        extents: &mut Found<Option<Extent>>,
-    ) -> Result<Option<Extent>, Memory>
+    fn extent(&self, id: Id, extents: &mut Found<Option<Extent>>) -> Result<Option<Extent>, Memory>
         requires known { IsIn self.now id }
         requires extents { AreBoxes self.now extents.old }
         ensures least { IfOk result (IsBoxOf self.now id) }

@@ -1,13 +1,12 @@
 //! How many cells are live.
 
 ghost use Rattle.std.specs.Prelude.{◌≡◌, ◌+◌, ◌-◌, ◌≤◌, ◌^◌, min, IfOk, OnOk};
-ghost use Rattle.ca_quad.specs.Squares.{cell_of};
 ghost use Rattle.ca_quad.specs.Trees.{IsIn, IsTree};
-ghost use Rattle.ca_quad.specs.Population.{live, population};
+ghost use Rattle.ca_quad.specs.Population.{live, live_cells};
 ghost use Rattle.ca_quad.specs.inner.Found.{IsCountOf, AreCounts};
 
-use super::found::Found;
 use super::Store;
+use super::found::Found;
 use crate::id::Id;
 use crate::square::Square;
 use crate::tree::Tree;
@@ -25,7 +24,7 @@ impl Store {
     pub fn population(&self, alloc: Global, tree: Tree) -> Result<u128, Memory>
         requires tree { IsTree self.now tree }
         requires level { tree.level ≤ 63 }
-        ensures { IfOk result (λ n. n ≡ population (cell_of self.now tree.level tree.root) (2 ^ tree.level)) }
+        ensures { IfOk result (λ n. n ≡ live_cells self.now tree) }
     {
         self.live_cells(tree.root, &mut Found::new(alloc))
     }

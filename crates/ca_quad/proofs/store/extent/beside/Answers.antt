@@ -1,5 +1,4 @@
 use Rattle.std.proofs.Common.{refl, subst}
-use Rattle.ca_quad.specs.Trees.{IsEmpty}
 use Rattle.ca_quad.specs.inner.Extent.{IsExtentOf}
 use Rattle.ca_quad.proofs.Extents.{east_only, both}
 use Rattle.ca_quad.proofs.store.extent.beside.Goals as goal

@@ -1,0 +1,34 @@
+-- Trees that are made planes, and why one is refused (the limits are our own).
+use Rattle.std.specs.Prelude.{◌≡◌, ◌≢◌, ℕ, ◌<◌, ◌≤◌, ◌^◌, ℤ, List}
+use Rattle.ca_plane.specs.Plane.{Picture}
+use Rattle.ca_plane.specs.Plane as plane
+use Rattle.ca_plane.specs.Sparse.{IsInPlane}
+use Rattle.ca_quad.specs.declared.fault.QuadFault.{QuadFault}
+use Rattle.ca_quad.specs.declared.fault.QuadFault.TheVariants.{Memory, TooManyCells, Range}
+use Rattle.ca_quad.specs.declared.node.Node.{Node}
+use Rattle.ca_quad.specs.declared.tree.Tree.{Tree}
+use Rattle.ca_quad.specs.Trees.{cell}
+use Rattle.ca_quad.specs.Population.{live_cells}
+
+-- the most live cells that are handled at once: 16777216
+abbrev pub most_cells : ℕ
+most_cells = 2 ^ 24
+
+-- every live cell lies in the square of a plane
+abbrev pub FitsPlane : (ℤ → ℤ → ℕ) → Type 0
+FitsPlane cells = (x y : ℤ) → cells x y ≢ 0 → IsInPlane (record { y = y; x = x })
+
+-- some live cell lies outside it
+abbrev pub LeavesPlane : (ℤ → ℤ → ℕ) → Type 0
+LeavesPlane cells = (x : ℤ) × (y : ℤ) × (cells x y ≢ 0) × (IsInPlane (record { y = y; x = x }) → ⊥)
+
+-- a picture shows the cells of a tree, which aren't too many
+pub record IsExpanded (nodes : List Node) (tree : Tree) (picture : Picture) : Type 0 where
+  pub shows : (x y : ℤ) → plane.cell picture x y ≡ cell nodes tree x y
+  pub few : live_cells nodes tree ≤ most_cells
+
+-- why a tree isn't made a plane; want of memory may come at any time
+abbrev pub IsRefused : List Node → Tree → QuadFault → Type 0
+IsRefused nodes tree Memory = Unit {0}
+IsRefused nodes tree Range = LeavesPlane (cell nodes tree)
+IsRefused nodes tree TooManyCells = FitsPlane (cell nodes tree) × (most_cells < live_cells nodes tree)

@@ -1,0 +1,196 @@
+//! Trees that are made planes.
+
+ghost use Rattle.std.specs.Prelude.{◌≡◌, ◌≤◌, ◌^◌, ◌⊎◌, pos, neg_ℤ, ◌≤ℤ◌, ◌<ℤ◌, IsTrue, IsFalse, IfOk, IfErr, OnOk};
+ghost use Rattle.ca_plane.specs.Sparse.{IsInPlane, IsSparse, reach};
+ghost use Rattle.ca_quad.specs.Squares.{dot};
+ghost use Rattle.ca_quad.specs.Trees.{IsIn, IsTree, cell};
+ghost use Rattle.ca_quad.specs.Population.{live_cells};
+ghost use Rattle.ca_quad.specs.Expanded.{most_cells, FitsPlane, IsExpanded, IsRefused};
+ghost use Rattle.ca_quad.specs.inner.Drawn.{cells_of, side_of, placed, IsNear, CanDraw, AreDrawn, Draws, ArePartCorners};
+
+use super::Store;
+use super::found::Found;
+use super::read::half_side;
+use crate::fault::QuadFault;
+use crate::id::Id;
+use crate::square::Square;
+use crate::tree::{Spot, Tree, WideBounds};
+use ca_plane::{Memory, Plane, Point};
+use std::alloc::Global;
+
+// The most live cells that are handled at once.
+const MAX_CELLS: u128 = 16777216;
+
+// How far from 0 a coordinate of a plane's cells may be.
+const REACH: i128 = 4611686018427387904;
+
+// The corners of three parts of a square; the north-western one has that of the square.
+#[derive(Clone, Copy, Drop)]
+pub(crate) struct Corners {
+    pub ne: Spot,
+    pub sw: Spot,
+    pub se: Spot,
+}
+
+impl Store {
+    /// The plane with the cells of a tree.
+    ///
+    /// The limits are judged by squares, each looked at once, before a cell is read.
+    ///
+    /// # Errors
+    ///
+    /// `Range` where a live cell lies outside the square in which a plane keeps its cells, that is, from -2^62 to 2^62 in
+    /// both directions; else `TooManyCells` where more than 16777216 cells are live; and `Memory` where a growth is refused.
+    pub fn to_plane(&self, alloc: Global, tree: Tree) -> Result<Plane, QuadFault>
+        requires { IsTree self.now tree }
+        ensures cells { IfOk result (IsExpanded self.now tree) }
+        ensures sparse { IfOk result IsSparse }
+        ensures fault { IfErr result (IsRefused self.now tree) }
+    {
+        self.check_limits(alloc, tree)?;
+        let mut cells = Vec::new(alloc);
+        let corner = first_corner(half_side(self.level(tree.root)));
+        self.draw(tree.root, corner, &mut cells)?;
+        Ok(Plane::from_cells(alloc, cells)?)
+    }
+
+    // Looks whether the live cells of a tree lie in the square of a plane and aren't too many.
+    fn check_limits(&self, alloc: Global, tree: Tree) -> Result<(), QuadFault>
+        requires { IsTree self.now tree }
+        ensures fits { OnOk result (FitsPlane (cell self.now tree)) }
+        ensures few { OnOk result (live_cells self.now tree ≤ most_cells) }
+        ensures fault { IfErr result (IsRefused self.now tree) }
+    {
+        self.check_reach(alloc, tree)?;
+        if self.live_cells(tree.root, &mut Found::new(alloc))? > MAX_CELLS {
+            return Err(QuadFault::TooManyCells);
+        }
+        Ok(())
+    }
+
+    // Looks whether the live cells of a tree lie in the square of a plane.
+    fn check_reach(&self, alloc: Global, tree: Tree) -> Result<(), QuadFault>
+        requires { IsTree self.now tree }
+        ensures fits { OnOk result (FitsPlane (cell self.now tree)) }
+        ensures fault { IfErr result (IsRefused self.now tree) }
+    {
+        let Some(bounds) = self.bounds(alloc, tree)? else {
+            return Ok(());
+        };
+        if !columns_fit(bounds) {
+            return Err(QuadFault::Range);
+        }
+        if !rows_fit(bounds) {
+            return Err(QuadFault::Range);
+        }
+        Ok(())
+    }
+
+    // Adds the live cells of a square whose corner lies there.
+    fn draw(&self, id: Id, at: Spot, cells: &mut Vec<(Point, u8)>) -> Result<(), Memory>
+        requires known { IsIn self.now id }
+        requires near { CanDraw (cells_of self.now id) (side_of self.now id) at }
+        requires drawn { AreDrawn cells.old.items }
+        ensures { OnOk result (Draws cells.old.items cells.new.items (placed (cells_of self.now id) at)) }
+    {
+        if self.is_empty(id) {
+            return Ok(());
+        }
+        match self.square(id) {
+            Square::Four(nw, ne, sw, se) => {
+                let corners = part_corners(at, 1);
+                draw_cell(nw, at, cells)?;
+                draw_cell(ne, corners.ne, cells)?;
+                draw_cell(sw, corners.sw, cells)?;
+                draw_cell(se, corners.se, cells)?;
+                Ok(())
+            }
+            Square::Parts(level, nw, ne, sw, se) => {
+                let corners = part_corners(at, half_side(level));
+                self.draw(nw, at, cells)?;
+                self.draw(ne, corners.ne, cells)?;
+                self.draw(sw, corners.sw, cells)?;
+                self.draw(se, corners.se, cells)?;
+                Ok(())
+            }
+        }
+    }
+}
+
+// Adds a cell, where it is live.
+fn draw_cell(state: u8, at: Spot, cells: &mut Vec<(Point, u8)>) -> Result<(), Memory>
+    requires near { CanDraw (dot state) 1 at }
+    requires drawn { AreDrawn cells.old.items }
+    ensures { OnOk result (Draws cells.old.items cells.new.items (placed (dot state) at)) }
+{
+    if state == 0 {
+        return Ok(());
+    }
+    cells.push((point(at), state))?;
+    Ok(())
+}
+
+// The corner of a tree with this half of a side.
+fn first_corner(half: u128) -> Spot
+    requires { half ≤ 2 ^ 124 }
+    ensures x { result.x ≡ neg_ℤ (pos half) }
+    ensures y { result.y ≡ neg_ℤ (pos half) }
+{
+    let edge = -(half as i128);
+    Spot { x: edge, y: edge }
+}
+
+// The corners of the parts of a square whose own corner lies there, and whose parts have this side.
+fn part_corners(at: Spot, side: u128) -> Corners
+    requires side { side ≤ 2 ^ 124 }
+    requires near { IsNear at }
+    ensures { ArePartCorners at side result }
+{
+    let east = at.x + side as i128;
+    let south = at.y + side as i128;
+    Corners {
+        ne: Spot { x: east, y: at.y },
+        sw: Spot { x: at.x, y: south },
+        se: Spot { x: east, y: south },
+    }
+}
+
+// The point of a plane at a place.
+fn point(at: Spot) -> Point
+    requires { IsInPlane (record { y = at.y; x = at.x }) }
+    ensures x { result.x ≡ at.x }
+    ensures y { result.y ≡ at.y }
+{
+    Point {
+        y: at.y as i64,
+        x: at.x as i64,
+    }
+}
+
+// Whether the columns of the box are those of a plane's cells.
+fn columns_fit(bounds: WideBounds) -> bool
+    ensures yes { IsTrue result → (neg_ℤ reach ≤ℤ bounds.x0) × (bounds.x1 ≤ℤ reach) }
+    ensures no { IsFalse result → (bounds.x0 <ℤ neg_ℤ reach) ⊎ (reach <ℤ bounds.x1) }
+{
+    if bounds.x0 < -REACH {
+        return false;
+    }
+    if bounds.x1 > REACH {
+        return false;
+    }
+    true
+}
+
+// Whether its rows are.
+fn rows_fit(bounds: WideBounds) -> bool
+    ensures yes { IsTrue result → (neg_ℤ reach ≤ℤ bounds.y0) × (bounds.y1 ≤ℤ reach) }
+    ensures no { IsFalse result → (bounds.y0 <ℤ neg_ℤ reach) ⊎ (reach <ℤ bounds.y1) }
+{
+    if bounds.y0 < -REACH {
+        return false;
+    }
+    if bounds.y1 > REACH {
+        return false;
+    }
+    true
+}
