@@ -11,3 +11,5 @@ pub mod Extents
 pub mod Boxes
 pub mod Reach
 pub mod Drawn
+pub mod Quarters
+pub mod Differ

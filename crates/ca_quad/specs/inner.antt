@@ -5,3 +5,4 @@ pub mod Window
 pub mod Found
 pub mod Extent
 pub mod Drawn
+pub mod Difference

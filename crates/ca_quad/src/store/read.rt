@@ -132,6 +132,15 @@ fn from_edge(half: u128, at: i128) -> Option<u128>
     Some((at + half) as u128)
 }
 
+// The place that lies this way from the edge of a tree.
+pub(super) fn from_middle(half: u128, way: u128) -> i128
+    requires half { half ≤ 2 ^ 124 }
+    requires way { way < 2 ^ 125 }
+    ensures { result +ℤ pos half ≡ pos way }
+{
+    way as i128 - half as i128
+}
+
 // The cell of a 2 by 2 square.
 fn corner(x: u128, y: u128, nw: u8, ne: u8, sw: u8, se: u8) -> u8
     requires x { x < 2 }

@@ -1,0 +1,5 @@
+use Rattle.ca_quad.specs.Squares.{level_of}
+use Rattle.ca_quad.proofs.store.Store.+difference_in.Given as goal
+
+abbrev pub decreases-difference_in : goal.decreases-difference_in
+decreases-difference_in l = level_of l.self.now l.a
