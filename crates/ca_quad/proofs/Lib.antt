@@ -13,3 +13,5 @@ pub mod Reach
 pub mod Drawn
 pub mod Quarters
 pub mod Differ
+pub mod Rings
+pub mod Shown

@@ -6,3 +6,4 @@ pub mod Found
 pub mod Extent
 pub mod Drawn
 pub mod Difference
+pub mod Ring

@@ -15,6 +15,7 @@ mod make;
 mod population;
 mod read;
 mod to_plane;
+mod resize;
 
 use crate::id::Id;
 use crate::named::Named;

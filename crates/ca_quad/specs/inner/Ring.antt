@@ -1,0 +1,27 @@
+-- Squares with a ring of empty cells round them, a quarter of the larger side wide.
+use Rattle.std.specs.Prelude.{◌≡◌, ℕ, suc, ◌+◌, ◌-◌, ◌<◌, ◌≤◌, ◌^◌, ◌⊎◌, List}
+use Rattle.ca_quad.specs.declared.node.Node.{Node}
+use Rattle.ca_quad.specs.Squares.{IsOf, together, cell_of}
+
+-- no live cell
+abbrev pub none : ℕ → ℕ → ℕ
+none x y = 0
+
+-- four squares of this side, and a ring round them that is as wide
+abbrev pub ringed : ℕ → (ℕ → ℕ → ℕ) → (ℕ → ℕ → ℕ) → (ℕ → ℕ → ℕ) → (ℕ → ℕ → ℕ) → ℕ → ℕ → ℕ
+ringed side nw ne sw se =
+    together (side + side) (together side none none none nw) (together side none none ne none) (together side none sw none none) (together side se none none none)
+
+-- it is before the middle, or behind it
+abbrev pub IsOut : ℕ → ℕ → Type 0
+IsOut side n = (n < side) ⊎ (side + side + side ≤ n)
+
+-- the larger cells are the smaller ones, and 0 in a ring round them
+pub record IsRinged (side : ℕ) (small big : ℕ → ℕ → ℕ) : Type 0 where
+  pub inside : (x y : ℕ) → x < side + side → y < side + side → big (side + x) (side + y) ≡ small x y
+  pub ring : (x y : ℕ) → IsOut side x ⊎ IsOut side y → big x y ≡ 0
+
+-- the larger square is the smaller one, of this level in its list of nodes, with a ring round it
+pub record Rings (smaller larger : List Node) (level small big : ℕ) : Type 0 where
+  pub is_square : IsOf larger big (suc level)
+  pub is_ringed : IsRinged (2 ^ (level - 1)) (cell_of smaller level small) (cell_of larger (suc level) big)
