@@ -15,3 +15,5 @@ pub mod Quarters
 pub mod Differ
 pub mod Rings
 pub mod Shown
+pub mod Middle
+pub mod Trims

@@ -1,5 +1,5 @@
 -- Rings of empty cells change nothing on the plane.
-use Rattle.std.proofs.Common.{◌≡◌, ℕ, suc, ◌+◌, ◌-◌, ◌<◌, ◌≤◌, ◌^◌, ◌⊎◌, inl, inr, ℤ, pos, negsuc, ◌+ℤ◌, ◌<ℤ◌, List, refl, sym, ap, subst, ◌∙◌, arith}
+use Rattle.std.proofs.Common.{◌==◌, if◌then◌else◌, ◌≡◌, ℕ, suc, ◌+◌, ◌-◌, ◌<◌, ◌≤◌, ◌^◌, ◌⊎◌, inl, inr, ℤ, pos, negsuc, ◌+ℤ◌, ◌<ℤ◌, List, refl, sym, ap, subst, ◌∙◌, arith}
 use Rattle.std.proofs.lemmas.Int.{ints}
 use Rattle.std.proofs.Math.Nat.{two-pow-succ}
 use Rattle.ca_quad.specs.declared.node.Node.{Node}
@@ -17,6 +17,45 @@ in_or_out s n =
     elim (below_or_not n s) [
       | inl h ↦ inr (inl h)
       | inr h ↦ elim (below_or_not n (s + s + s)) [ inl i ↦ inl (h, i) | inr i ↦ inr (inr i) ]
+    ]
+
+-- the cells of a square of sixteen parts, row by row in each quarter
+abbrev pub sixteen : ℕ → (ℕ → ℕ → ℕ → ℕ) → ℕ → ℕ → ℕ
+sixteen s f =
+    together (s + s) (together s (f 0) (f 1) (f 2) (f 3)) (together s (f 4) (f 5) (f 6) (f 7)) (together s (f 8) (f 9) (f 10) (f 11)) (together s (f 12) (f 13) (f 14) (f 15))
+
+-- its middle is four of the parts
+pub inside_sixteen : (s : ℕ) (f : ℕ → ℕ → ℕ → ℕ) (x y : ℕ) → x < s + s → y < s + s → sixteen s f (s + x) (s + y) ≡ together s (f 3) (f 6) (f 9) (f 12) x y
+inside_sixteen s f x y h k =
+    let nw = together s (f 0) (f 1) (f 2) (f 3) in
+    let ne = together s (f 4) (f 5) (f 6) (f 7) in
+    let sw = together s (f 8) (f 9) (f 10) (f 11) in
+    let se = together s (f 12) (f 13) (f 14) (f 15) in
+    elim (below_or_not y s) [
+      | inl j ↦
+          let v : s + y - s ≡ y = omega arith in
+          elim (below_or_not x s) [
+            | inl i ↦
+                let u : s + x - s ≡ x = omega arith in
+                in_nw (s + s) nw ne sw se (s + x) (s + y) (omega arith) (omega arith)
+                ∙ (in_se s (f 0) (f 1) (f 2) (f 3) (s + x) (s + y) (omega arith) (omega arith) ∙ (rw (u, v) refl ∙ sym (in_nw s (f 3) (f 6) (f 9) (f 12) x y i j)))
+            | inr i ↦
+                let u : s + x - (s + s) ≡ x - s = omega arith in
+                in_ne (s + s) nw ne sw se (s + x) (s + y) (omega arith) (omega arith)
+                ∙ (in_sw s (f 4) (f 5) (f 6) (f 7) (s + x - (s + s)) (s + y) (omega arith) (omega arith) ∙ (rw (u, v) refl ∙ sym (in_ne s (f 3) (f 6) (f 9) (f 12) x y i j)))
+          ]
+      | inr j ↦
+          let v : s + y - (s + s) ≡ y - s = omega arith in
+          elim (below_or_not x s) [
+            | inl i ↦
+                let u : s + x - s ≡ x = omega arith in
+                in_sw (s + s) nw ne sw se (s + x) (s + y) (omega arith) (omega arith)
+                ∙ (in_ne s (f 8) (f 9) (f 10) (f 11) (s + x) (s + y - (s + s)) (omega arith) (omega arith) ∙ (rw (u, v) refl ∙ sym (in_sw s (f 3) (f 6) (f 9) (f 12) x y i j)))
+            | inr i ↦
+                let u : s + x - (s + s) ≡ x - s = omega arith in
+                in_se (s + s) nw ne sw se (s + x) (s + y) (omega arith) (omega arith)
+                ∙ (in_nw s (f 12) (f 13) (f 14) (f 15) (s + x - (s + s)) (s + y - (s + s)) (omega arith) (omega arith) ∙ (rw (u, v) refl ∙ sym (in_se s (f 3) (f 6) (f 9) (f 12) x y i j)))
+          ]
     ]
 
 module _ (s : ℕ) (a b c d : ℕ → ℕ → ℕ) (x y : ℕ) where
@@ -88,38 +127,9 @@ module _ (s : ℕ) (a b c d : ℕ → ℕ → ℕ) where
         ]
       ]
 
-  inside_same : (x y : ℕ) → x < s + s → y < s + s → ringed s a b c d (s + x) (s + y) ≡ together s a b c d x y
-  inside_same x y h k =
-      elim (below_or_not y s) [
-        | inl j ↦
-            let f : s + y - s ≡ y = omega arith in
-            elim (below_or_not x s) [
-            | inl i ↦
-                let e : s + x - s ≡ x = omega arith in
-                quarter_a s a b c d (s + x) (s + y) (omega arith) (omega arith)
-                ∙ (in_se s none none none a (s + x) (s + y) (omega arith) (omega arith) ∙ (rw (e, f) refl ∙ sym (in_nw s a b c d x y i j)))
-            | inr i ↦
-                let e : s + x - (s + s) ≡ x - s = omega arith in
-                quarter_b s a b c d (s + x) (s + y) (omega arith) (omega arith)
-                ∙ (in_sw s none none b none (s + x - (s + s)) (s + y) (omega arith) (omega arith) ∙ (rw (e, f) refl ∙ sym (in_ne s a b c d x y i j)))
-          ]
-        | inr j ↦
-            let f : s + y - (s + s) ≡ y - s = omega arith in
-            elim (below_or_not x s) [
-            | inl i ↦
-                let e : s + x - s ≡ x = omega arith in
-                quarter_c s a b c d (s + x) (s + y) (omega arith) (omega arith)
-                ∙ (in_ne s none c none none (s + x) (s + y - (s + s)) (omega arith) (omega arith) ∙ (rw (e, f) refl ∙ sym (in_sw s a b c d x y i j)))
-            | inr i ↦
-                let e : s + x - (s + s) ≡ x - s = omega arith in
-                quarter_d s a b c d (s + x) (s + y) (omega arith) (omega arith)
-                ∙ (in_nw s d none none none (s + x - (s + s)) (s + y - (s + s)) (omega arith) (omega arith) ∙ (rw (e, f) refl ∙ sym (in_se s a b c d x y i j)))
-          ]
-      ]
-
   -- four squares with a ring are ringed
   pub is_ringed : IsRinged s (together s a b c d) (ringed s a b c d)
-  is_ringed = record { inside = inside_same; ring = ring_empty }
+  is_ringed = record { inside = λ x y. inside_sixteen s (λ n. if n == 3 then a else (if n == 6 then b else (if n == 9 then c else (if n == 12 then d else none)))) x y; ring = ring_empty }
 
 -- two squares with a ring round the same cells are the same
 pub ringed_once : (s : ℕ) (small p q : ℕ → ℕ → ℕ) → IsRinged s small p → IsRinged s small q → (x y : ℕ) → p x y ≡ q x y

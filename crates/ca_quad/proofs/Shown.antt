@@ -161,7 +161,7 @@ module _ (s1 s2 s3 s4 : List Node) (g2 : Grows s1 s2) (g3 : Grows s2 s3) (g4 : G
         cell_a.has_cells cell_b.has_cells cell_c.has_cells cell_d.has_cells)
 
 -- ringed by other words
-ringed_as : (s : ℕ) (p q small big : ℕ → ℕ → ℕ) → IsRinged s p q → ((x y : ℕ) → small x y ≡ p x y) → ((x y : ℕ) → big x y ≡ q x y) → IsRinged s small big
+pub ringed_as : (s : ℕ) (p q small big : ℕ → ℕ → ℕ) → IsRinged s p q → ((x y : ℕ) → small x y ≡ p x y) → ((x y : ℕ) → big x y ≡ q x y) → IsRinged s small big
 ringed_as s p q small big h e f = record {
   inside = λ x y i j. f (s + x) (s + y) ∙ (h.inside x y i j ∙ sym (e x y));
   ring = λ x y o. f x y ∙ h.ring x y o;

@@ -1,5 +1,5 @@
 -- Squares with a ring of empty cells round them, a quarter of the larger side wide.
-use Rattle.std.specs.Prelude.{◌≡◌, ℕ, suc, ◌+◌, ◌-◌, ◌<◌, ◌≤◌, ◌^◌, ◌⊎◌, List}
+use Rattle.std.specs.Prelude.{◌≡◌, ℕ, suc, ◌+◌, ◌-◌, ◌<◌, ◌≤◌, ◌^◌, ◌⊎◌, List, Option, MatchOption}
 use Rattle.ca_quad.specs.declared.node.Node.{Node}
 use Rattle.ca_quad.specs.Squares.{IsOf, together, cell_of}
 
@@ -25,3 +25,16 @@ pub record IsRinged (side : ℕ) (small big : ℕ → ℕ → ℕ) : Type 0 wher
 pub record Rings (smaller larger : List Node) (level small big : ℕ) : Type 0 where
   pub is_square : IsOf larger big (suc level)
   pub is_ringed : IsRinged (2 ^ (level - 1)) (cell_of smaller level small) (cell_of larger (suc level) big)
+
+-- the square of this level is the middle of larger cells, which are 0 in a ring round it
+pub record IsMiddle (nodes : List Node) (level : ℕ) (big : ℕ → ℕ → ℕ) (small : ℕ) : Type 0 where
+  pub is_square : IsOf nodes small level
+  pub is_ringed : IsRinged (2 ^ (level - 1)) (cell_of nodes level small) big
+
+-- no cells of half the side have a ring round them that makes these
+abbrev pub HasNoRing : ℕ → (ℕ → ℕ → ℕ) → Type 0
+HasNoRing level big = (small : ℕ → ℕ → ℕ) → IsRinged (2 ^ (level - 1)) small big → ⊥
+
+-- it tells the middle, and none where there are live cells round it
+abbrev pub TellsMiddle : List Node → ℕ → (ℕ → ℕ → ℕ) → Option ℕ → Type 0
+TellsMiddle nodes level big answer = MatchOption answer (HasNoRing level big) (IsMiddle nodes level big)

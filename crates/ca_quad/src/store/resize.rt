@@ -1,10 +1,11 @@
 //! Trees of one level more or less, with the same cells.
 
-ghost use Rattle.std.specs.Prelude.{◌≡◌, ℕ, suc, ◌+◌, ◌≤◌, ◌^◌, ℤ, length, IfOk};
-ghost use Rattle.ca_quad.specs.Squares.{level_of, dot, cell_of, IsOf};
+ghost use Rattle.std.specs.Prelude.{◌≡◌, ℕ, suc, ◌+◌, ◌≤◌, ◌^◌, ◌↔◌, ℤ, length, IfOk, IsTrue};
+ghost use Rattle.ca_quad.specs.Squares.{level_of, dot, together, cell_of, IsOf};
 ghost use Rattle.ca_quad.specs.Sound.{Grows};
-ghost use Rattle.ca_quad.specs.Trees.{IsIn, IsTree, Shows, AreFour, cell};
-ghost use Rattle.ca_quad.specs.inner.Ring.{Rings, ringed};
+ghost use Rattle.ca_quad.specs.Trees.{IsIn, IsEmpty, IsTree, Shows, AreFour, cell};
+ghost use Rattle.ca_quad.specs.Trimmed.{IsTrimmed};
+ghost use Rattle.ca_quad.specs.inner.Ring.{Rings, TellsMiddle, ringed};
 
 use super::Store;
 use crate::id::Id;
@@ -78,5 +79,132 @@ impl Store {
         let c = self.join(e, sw, e, e)?;
         let d = self.join(se, e, e, e)?;
         self.join(a, b, c, d)
+    }
+
+    /// The tree of the least level, at least 1, that holds every live cell of a tree.
+    ///
+    /// # Errors
+    ///
+    /// Fails where there is no memory for more squares, and may leave more squares in the store than before.
+    pub fn trim(&mut self, tree: Tree) -> Result<Tree, Memory>
+        requires tree { IsTree self.old tree }
+        ensures tree { IfOk result (IsTree self.new) }
+        ensures cells { IfOk result (λ t. (x y : ℤ) → cell self.new t x y ≡ cell self.old tree x y) }
+        ensures trimmed { IfOk result (IsTrimmed self.new) }
+        ensures grows { Grows self.old self.new }
+        ensures levels { length self.new ≤ length self.old + tree.level }
+        ensures count { length self.new ≤ length self.old + 130 }
+    {
+        let _ = &self.nodes;
+        if self.level(tree.root) == 1 {
+            return Ok(tree);
+        }
+        let Some(root) = self.middle(tree.root)? else {
+            return Ok(tree);
+        };
+        self.trim(Tree {
+            root,
+            level: tree.level - 1,
+        })
+    }
+
+    // The middle of a square, half its side wide, where there are no live cells round it.
+    fn middle(&mut self, id: Id) -> Result<Option<Id>, Memory>
+        requires known { IsIn self.old id }
+        requires large { 2 ≤ level_of self.old id }
+        ensures tells { (level : ℕ) → IsOf self.old id (suc level) → IfOk result (TellsMiddle self.new level (cell_of self.old (suc level) id)) }
+        ensures grows { Grows self.old self.new }
+        ensures count { length self.new ≤ length self.old + 1 }
+    {
+        let Square::Parts(level, nw, ne, sw, se) = self.square(id) else {
+            unreachable!()
+        };
+        if level == 2 {
+            return self.middle_cells(nw, ne, sw, se);
+        }
+        self.middle_parts(nw, ne, sw, se)
+    }
+
+    // The same for four squares of level 1. Their outer cells are a to l.
+    fn middle_cells(&mut self, nw: Id, ne: Id, sw: Id, se: Id) -> Result<Option<Id>, Memory>
+        requires four { AreFour self.old 1 nw ne sw se }
+        ensures tells { IfOk result (TellsMiddle self.new 1 (together 2 (cell_of self.old 1 nw) (cell_of self.old 1 ne) (cell_of self.old 1 sw) (cell_of self.old 1 se))) }
+        ensures grows { Grows self.old self.new }
+        ensures count { length self.new ≤ length self.old + 1 }
+    {
+        let _ = &self.nodes;
+        let Square::Four(a, b, c, north_west) = self.square(nw) else {
+            unreachable!()
+        };
+        let Square::Four(d, e, north_east, f) = self.square(ne) else {
+            unreachable!()
+        };
+        let Square::Four(g, south_west, h, i) = self.square(sw) else {
+            unreachable!()
+        };
+        let Square::Four(south_east, j, k, l) = self.square(se) else {
+            unreachable!()
+        };
+        if a.max(b).max(c).max(d.max(e).max(f)) > 0 {
+            return Ok(None);
+        }
+        if g.max(h).max(i).max(j.max(k).max(l)) > 0 {
+            return Ok(None);
+        }
+        Ok(Some(self.leaf(north_west, north_east, south_west, south_east)?))
+    }
+
+    // The same for four squares of one level, at least 2. Their outer parts are a to l.
+    fn middle_parts(&mut self, nw: Id, ne: Id, sw: Id, se: Id) -> Result<Option<Id>, Memory>
+        requires large { 2 ≤ level_of self.old nw }
+        requires four { AreFour self.old (level_of self.old nw) nw ne sw se }
+        ensures tells { (level : ℕ) → IsOf self.old nw level → IfOk result (TellsMiddle self.new level
+            (together (2 ^ level) (cell_of self.old level nw) (cell_of self.old level ne) (cell_of self.old level sw) (cell_of self.old level se))) }
+        ensures grows { Grows self.old self.new }
+        ensures count { length self.new ≤ length self.old + 1 }
+    {
+        let _ = &self.nodes;
+        let Square::Parts(_, a, b, c, north_west) = self.square(nw) else {
+            unreachable!()
+        };
+        let Square::Parts(_, d, e, north_east, f) = self.square(ne) else {
+            unreachable!()
+        };
+        let Square::Parts(_, g, south_west, h, i) = self.square(sw) else {
+            unreachable!()
+        };
+        let Square::Parts(_, south_east, j, k, l) = self.square(se) else {
+            unreachable!()
+        };
+        if !self.are_empty(a, b, c) {
+            return Ok(None);
+        }
+        if !self.are_empty(d, e, f) {
+            return Ok(None);
+        }
+        if !self.are_empty(g, h, i) {
+            return Ok(None);
+        }
+        if !self.are_empty(j, k, l) {
+            return Ok(None);
+        }
+        Ok(Some(self.join(north_west, north_east, south_west, south_east)?))
+    }
+
+    // Whether every cell of three squares of one level is 0.
+    fn are_empty(&self, a: Id, b: Id, c: Id) -> bool
+        requires a { IsIn self.now a }
+        requires b { IsIn self.now b }
+        requires c { IsIn self.now c }
+        ensures { (level : ℕ) → IsOf self.now a level → IsOf self.now b level → IsOf self.now c level
+            → IsTrue result ↔ (IsEmpty (cell_of self.now level a) × IsEmpty (cell_of self.now level b) × IsEmpty (cell_of self.now level c)) }
+    {
+        if !self.is_empty(a) {
+            return false;
+        }
+        if !self.is_empty(b) {
+            return false;
+        }
+        self.is_empty(c)
     }
 }
