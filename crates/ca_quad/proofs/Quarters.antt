@@ -1,5 +1,5 @@
 -- The quarters of a square show its cells.
-use Rattle.std.proofs.Common.{◌≡◌, ℕ, suc, zero-add, ◌+◌, ◌-◌, ◌≤◌, ◌^◌, List, length, sym, ap, subst, ◌∙◌, arith}
+use Rattle.std.proofs.Common.{◌≡◌, ℕ, suc, zero-add, ◌+◌, ◌-◌, ◌^◌, List, length, sym, ap, subst, ◌∙◌, arith}
 use Rattle.ca_quad.specs.declared.node.Node.{Node}
 use Rattle.ca_quad.specs.declared.square.Square.TheVariants.{Parts}
 use Rattle.ca_quad.specs.Squares.{square_of, level, level_of, IsOf, cell_of, together}
@@ -53,7 +53,3 @@ module _ (nodes : List Node) (id k : ℕ) (h : IsOf nodes id (suc k)) (m nw ne s
     is_square = subst (IsOf nodes se) one_lower w.is_se;
     has_cells = λ x y i j. sym (parts_cells (2 ^ k + x) (2 ^ k + y) ∙ at_se (2 ^ k) (cell_of nodes k nw) (cell_of nodes k ne) (cell_of nodes k sw) (cell_of nodes k se) x y);
   }
-
--- the level of a square is one above that of its quarters
-pub of_next : (nodes : List Node) (id : ℕ) → IsIn nodes id → 2 ≤ level_of nodes id → IsOf nodes id (suc (level_of nodes id - 1))
-of_next nodes id known h = record { before = known; is_level = omega arith }
