@@ -25,7 +25,7 @@ use Rattle.ca_claims.specs.Places.{path_at}
 use Rattle.ca_claims.specs.Means.{bytes_at}
 use Rattle.ca_claims.specs.Truth.{asks_of}
 use Rattle.ca_claims.specs.inner.Decided.{IsDecided}
-use Rattle.ca_claims.specs.Answers.{IsReadable, IsPatternFault, IsQuietTable, IsTableFault, IsRead, IsTableAt, AreTables, IsRuled, HasLargeState, HasSmallStates, IsMissing, IsThere, HasTable, Reads, HasRule, IsSmall, SomeOf, FirstBad, HaveOtherRules, HasCause, IsGood, AreGood, IsTrueVerdict}
+use Rattle.ca_claims.specs.Answers.{IsReadable, IsPatternFault, IsQuietTable, IsTableFault, IsRead, IsTableAt, AreTables, IsRuled, HasLargeState, HasSmallStates, IsMissing, IsThere, HoldsTable, Reads, HasRule, IsSmall, SomeOf, FirstBad, HaveOtherRules, HasCause, IsGood, AreGood, IsTrueVerdict}
 use Rattle.ca_claims.specs.inner.Patterns.{items, IsEachOnce, IsReadFrom, IsUnread, HasName, rule_of, IsRuledAs, AreOfOneRule, AreMixed, ArePlanes}
 use Rattle.ca_claims.proofs.Alike.{true-same, reason-same}
 use Rattle.ca_claims.proofs.ClaimKinds.{asks_about, paths_of}
@@ -119,9 +119,9 @@ module _ (files : List (List ℕ × List ℕ)) (rules : List (List ℕ)) (there 
 
   -- or this is the first that is faulty
   pub first_faulty : (fault : TableFault) → FirstBad (λ b. (table : TableRule) × IsQuietTable b.now table) (λ b. IsTableFault b.now fault) there
-      → FirstBad (HasTable files) (λ p. (bytes : List ℕ) × (bytes_at files p ≡ Some bytes) × IsTableFault bytes fault) rules
+      → FirstBad (HoldsTable files) (λ p. (bytes : List ℕ) × (bytes_at files p ≡ Some bytes) × IsTableFault bytes fault) rules
   first_faulty fault =
-      zip_first (λ path b. bytes_at files path ≡ Some b.now) (HasTable files) (λ p. (bytes : List ℕ) × (bytes_at files p ≡ Some bytes) × IsTableFault bytes fault)
+      zip_first (λ path b. bytes_at files path ≡ Some b.now) (HoldsTable files) (λ p. (bytes : List ℕ) × (bytes_at files p ≡ Some bytes) × IsTableFault bytes fault)
       (λ b. (table : TableRule) × IsQuietTable b.now table) (λ b. IsTableFault b.now fault) (λ path b e has. (has.0, (b.now, e, has.1))) (λ path b e wrong. (b.now, e, wrong)) rules there at
 
 -- ---- patterns that were read

@@ -28,7 +28,7 @@ use Rattle.ca_claims.specs.declared.claims.asks.Barred.{Barred}
 use Rattle.ca_claims.specs.declared.claims.asks.Barred.TheVariants.{Nothing, InPlace, Anywhere}
 use Rattle.ca_claims.specs.Means.{Means, bytes_at}
 use Rattle.ca_claims.specs.Truth.{IsNotBack, MayReturnBy, IsTrueClaim, IsReason}
-use Rattle.ca_claims.specs.Answers.{IsPatternFault, IsQuietTable, IsTableFault, IsRead, IsTableAt, AreTables, IsRuled, IsMissing, IsThere, HasTable, Reads, HasRule, IsSmall, HasLargeState, SomeOf, FirstBad, HaveOtherRules, HasCause, IsGood, AreGood, IsJudged}
+use Rattle.ca_claims.specs.Answers.{IsPatternFault, IsQuietTable, IsTableFault, IsRead, IsTableAt, AreTables, IsRuled, IsMissing, IsThere, HoldsTable, Reads, HasRule, IsSmall, HasLargeState, SomeOf, FirstBad, HaveOtherRules, HasCause, IsGood, AreGood, IsJudged}
 use Rattle.ca_claims.proofs.Zipped.{zip_left}
 
 -- the file of the path has this fault as the text of a table
@@ -89,7 +89,7 @@ module _ (files : List (List ℕ × List ℕ)) (path : List ℕ) where
       let same : bytes ≡ others = same_Some bytes others (sym at ∙ there) in
       one_table others t u (subst (λ l. IsQuietTable l t) same a).0 b.0
 
-  table_or_fault : (fault : TableFault) → HasTable files path → IsBadTable files fault path → ⊥
+  table_or_fault : (fault : TableFault) → HoldsTable files path → IsBadTable files fault path → ⊥
   table_or_fault fault (t, (bytes, at, a)) (others, there, wrong) =
       let same : bytes ≡ others = same_Some bytes others (sym at ∙ there) in
       let quiet = subst (λ l. IsQuietTable l t) same a in
@@ -251,9 +251,9 @@ module _ (files : List (List ℕ × List ℕ)) (rules paths : List (List ℕ)) w
   past_before Memory m h = absurd (m refl)
 
   -- all tables are good or one is bad, not both
-  tables_or_fault : (fault : TableFault) (tables : List TableRule) → AreTables files rules tables → FirstBad (HasTable files) (IsBadTable files fault) rules → ⊥
+  tables_or_fault : (fault : TableFault) (tables : List TableRule) → AreTables files rules tables → FirstBad (HoldsTable files) (IsBadTable files fault) rules → ⊥
   tables_or_fault fault tables are first =
-      all_or_first (HasTable files) (IsBadTable files fault) (λ p. table_or_fault files p fault) rules (zip_left (IsTableAt files) (HasTable files) (λ path table at. (table, at)) rules tables are) first
+      all_or_first (HoldsTable files) (IsBadTable files fault) (λ p. table_or_fault files p fault) rules (zip_left (IsTableAt files) (HoldsTable files) (λ path table at. (table, at)) rules tables are) first
 
   -- a cause isn't past itself
   not_past : (cause : Cause) → cause ≢ Memory → HasCause files rules paths cause → IsPast files rules paths (suc (place cause)) → ⊥
@@ -276,7 +276,7 @@ module _ (files : List (List ℕ × List ℕ)) (rules paths : List (List ℕ)) w
   same_place c Memory m n e h k = absurd (n refl)
   same_place NoFile NoFile m n e h k = refl
   same_place (BadTable f) (BadTable g) m n e h k =
-      ap BadTable (one_first (HasTable files) (IsBadTable files f) (IsBadTable files g) (f ≡ g) (λ p. table_or_fault files p f) (λ p. table_or_fault files p g) (λ p. one_bad_table files p f g) rules h.2 k.2)
+      ap BadTable (one_first (HoldsTable files) (IsBadTable files f) (IsBadTable files g) (f ≡ g) (λ p. table_or_fault files p f) (λ p. table_or_fault files p g) (λ p. one_bad_table files p f g) rules h.2 k.2)
   same_place (BadPattern f) (BadPattern g) m n e (tables, are, all, first) (others, there, each, other) =
       ap BadPattern (one_first (Reads files) (IsBad files f) (IsBad files g) (f ≡ g) (λ p. reads_or_fault files p f) (λ p. reads_or_fault files p g) (λ p. one_pattern_fault files p f g) paths first other)
   same_place (BadRule f) (BadRule g) m n e (tables, are, all, first) (others, there, each, other) =

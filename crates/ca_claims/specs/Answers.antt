@@ -77,8 +77,8 @@ abbrev pub IsThere : List (List ℕ × List ℕ) → List ℕ → Type 0
 IsThere files path = (bytes : List ℕ) × (bytes_at files path ≡ Some bytes)
 
 -- it is the text of a table that leaves the empty plane empty
-abbrev pub HasTable : List (List ℕ × List ℕ) → List ℕ → Type 0
-HasTable files path = (table : TableRule) × IsTableAt files path table
+abbrev pub HoldsTable : List (List ℕ × List ℕ) → List ℕ → Type 0
+HoldsTable files path = (table : TableRule) × IsTableAt files path table
 
 -- the file of a pattern's path is there, and it reads
 abbrev pub Reads : List (List ℕ × List ℕ) → List ℕ → Type 0
@@ -118,7 +118,7 @@ HaveOtherRules files tables path other = (cells : Picture) × (rule : RuleValue)
 abbrev pub HasCause : List (List ℕ × List ℕ) → List (List ℕ) → List (List ℕ) → Cause → Type 0
 HasCause files rules paths NoFile = SomeOf (IsMissing files) paths ⊎ SomeOf (IsMissing files) rules
 HasCause files rules paths (BadTable fault) = AllByRecursion (IsThere files) paths × AllByRecursion (IsThere files) rules
-    × FirstBad (HasTable files) (λ p. (bytes : List ℕ) × (bytes_at files p ≡ Some bytes) × IsTableFault bytes fault) rules
+    × FirstBad (HoldsTable files) (λ p. (bytes : List ℕ) × (bytes_at files p ≡ Some bytes) × IsTableFault bytes fault) rules
 HasCause files rules paths (BadPattern fault) = (tables : List TableRule) × AreTables files rules tables × AllByRecursion (IsThere files) paths
     × FirstBad (Reads files) (λ p. (bytes : List ℕ) × (bytes_at files p ≡ Some bytes) × IsPatternFault bytes fault) paths
 HasCause files rules paths (BadRule fault) = (tables : List TableRule) × AreTables files rules tables × AllByRecursion (Reads files) paths
