@@ -4,6 +4,8 @@ ghost use Rattle.std.specs.Prelude.{◌≡◌, ◌≤◌, IsTrue, IfOk};
 ghost use Rattle.ca_quad.specs.Squares.{IsOf};
 ghost use Rattle.ca_quad.specs.Trees.{IsIn, IsTree};
 
+mod walks;
+
 use super::*;
 use crate::named::Named;
 use ca_plane::Memory;
