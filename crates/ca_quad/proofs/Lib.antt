@@ -11,6 +11,7 @@ pub mod Extents
 pub mod Boxes
 pub mod Reach
 pub mod Drawn
+pub mod Filled
 pub mod Quarters
 pub mod Differ
 pub mod Rings

@@ -7,3 +7,4 @@ pub mod Extent
 pub mod Drawn
 pub mod Difference
 pub mod Ring
+pub mod Filled

@@ -10,6 +10,7 @@ ghost use Rattle.ca_quad.specs.inner.Whole.{IsWhole};
 mod bounds;
 mod extent;
 mod found;
+mod from_plane;
 mod difference;
 mod make;
 mod population;

@@ -131,7 +131,7 @@ fn draw_cell(state: u8, at: Spot, cells: &mut Vec<(Point, u8)>) -> Result<(), Me
 }
 
 // The corner of a tree with this half of a side.
-fn first_corner(half: u128) -> Spot
+pub(super) fn first_corner(half: u128) -> Spot
     requires { half ≤ 2 ^ 124 }
     ensures x { result.x ≡ neg_ℤ (pos half) }
     ensures y { result.y ≡ neg_ℤ (pos half) }
@@ -141,7 +141,7 @@ fn first_corner(half: u128) -> Spot
 }
 
 // The corners of the parts of a square whose own corner lies there, and whose parts have this side.
-fn part_corners(at: Spot, side: u128) -> Corners
+pub(super) fn part_corners(at: Spot, side: u128) -> Corners
     requires side { side ≤ 2 ^ 124 }
     requires near { IsNear at }
     ensures { ArePartCorners at side result }
