@@ -60,7 +60,7 @@ module _ (nodes : List Node) (a b : Tree) (same : a.level ≡ b.level) (half : �
   trees_differ h =
       d.differ
       (sym (cell_at nodes a half e u v x y f g)
-        ∙ (h ∙ subst (λ l. cell nodes b u v ≡ cell_of nodes l b.root x y) (sym same) (cell_at nodes b half (subst (λ l. half ≡ 2 ^ (l - 1)) same e) u v x y f g)))
+      ∙ (h ∙ subst (λ l. cell nodes b u v ≡ cell_of nodes l b.root x y) (sym same) (cell_at nodes b half (subst (λ l. half ≡ 2 ^ (l - 1)) same e) u v x y f g)))
 
 pub way_fits : (k x : ℕ) → k ≤ 125 → x < 2 ^ k → x < 2 ^ 125
 way_fits k x h i =

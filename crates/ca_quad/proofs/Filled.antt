@@ -163,26 +163,26 @@ window_to nodes id k half side p q from at dx dy ex ey agree h = record {
 module _ (s1 s2 s3 s4 : List Node) (sound : IsSound s1) (g2 : Grows s1 s2) (g3 : Grows s2 s3) (g4 : Grows s3 s4) (level half : ℕ) (large : 2 ≤ level) (side : half ≡ 2 ^ (level - 1)) (at : Spot) (cs : Corners) (are : ArePartCorners at half cs)
     (cells a b c d : Picture) (in_a : AgreeIn half at a cells) (in_b : AgreeIn half cs.ne b cells) (in_c : AgreeIn half cs.sw c cells) (in_d : AgreeIn half cs.se d cells) (nw ne sw se : ℕ)
     (p : ShowsFrom s1 nw (level - 1) (counted a at) 0 0) (q : ShowsFrom s2 ne (level - 1) (counted b cs.ne) 0 0) (r : ShowsFrom s3 sw (level - 1) (counted c cs.sw) 0 0) (s : ShowsFrom s4 se (level - 1) (counted d cs.se) 0 0)
-    where
-  filled_four : FourWindows s4 (level - 1) (counted cells at) 0 0 nw ne sw se
-  filled_four =
-      let k = level - 1 in
-      gathered s1 s2 s3 s4 sound g2 g3 g4 k (counted cells at) 0 0 nw ne sw se
-      (window_to s1 nw k half side a cells at at 0 0 (omega (arith, ints)) (omega (arith, ints)) in_a p)
-      (window_to s2 ne k half side b cells cs.ne at (0 + 2 ^ k) 0 (omega (arith, ints, are.ne_x)) (omega (arith, ints, are.ne_y)) in_b q)
-      (window_to s3 sw k half side c cells cs.sw at 0 (0 + 2 ^ k) (omega (arith, ints, are.sw_x)) (omega (arith, ints, are.sw_y)) in_c r)
-      (window_to s4 se k half side d cells cs.se at (0 + 2 ^ k) (0 + 2 ^ k) (omega (arith, ints, are.se_x)) (omega (arith, ints, are.se_y)) in_d s)
+  where
+    filled_four : FourWindows s4 (level - 1) (counted cells at) 0 0 nw ne sw se
+    filled_four =
+        let k = level - 1 in
+        gathered s1 s2 s3 s4 sound g2 g3 g4 k (counted cells at) 0 0 nw ne sw se
+        (window_to s1 nw k half side a cells at at 0 0 (omega (arith, ints)) (omega (arith, ints)) in_a p)
+        (window_to s2 ne k half side b cells cs.ne at (0 + 2 ^ k) 0 (omega (arith, ints, are.ne_x)) (omega (arith, ints, are.ne_y)) in_b q)
+        (window_to s3 sw k half side c cells cs.sw at 0 (0 + 2 ^ k) (omega (arith, ints, are.sw_x)) (omega (arith, ints, are.sw_y)) in_c r)
+        (window_to s4 se k half side d cells cs.se at (0 + 2 ^ k) (0 + 2 ^ k) (omega (arith, ints, are.se_x)) (omega (arith, ints, are.se_y)) in_d s)
 
-  pub can_join : level ≤ 65 → AreFour s4 (level - 1) nw ne sw se
-  can_join low = four_windows s4 (level - 1) (counted cells at) 0 0 nw ne sw se filled_four (omega arith)
+    pub can_join : level ≤ 65 → AreFour s4 (level - 1) nw ne sw se
+    can_join low = four_windows s4 (level - 1) (counted cells at) 0 0 nw ne sw se filled_four (omega arith)
 
-  pub filled_joined : {E : Type 0} (new : List Node) (u : Result ℕ E)
-      → ((l : ℕ) → IsOf s4 nw l → IfOk u (λ id. Shows new id (suc l) (together (2 ^ l) (cell_of s4 l nw) (cell_of s4 l ne) (cell_of s4 l sw) (cell_of s4 l se))))
-      → IfOk u (λ id. ShowsFrom new id level (counted cells at) 0 0)
-  filled_joined new u join =
-      let next : suc (level - 1) ≡ level = omega arith in
-      subst (λ l. IfOk u (λ id. ShowsFrom new id l (counted cells at) 0 0)) next
-      (window_joined s4 (level - 1) (counted cells at) 0 0 nw ne sw se filled_four new u (join (level - 1) filled_four.a.is_square))
+    pub filled_joined : {E : Type 0} (new : List Node) (u : Result ℕ E)
+        → ((l : ℕ) → IsOf s4 nw l → IfOk u (λ id. Shows new id (suc l) (together (2 ^ l) (cell_of s4 l nw) (cell_of s4 l ne) (cell_of s4 l sw) (cell_of s4 l se))))
+        → IfOk u (λ id. ShowsFrom new id level (counted cells at) 0 0)
+    filled_joined new u join =
+        let next : suc (level - 1) ≡ level = omega arith in
+        subst (λ l. IfOk u (λ id. ShowsFrom new id l (counted cells at) 0 0)) next
+        (window_joined s4 (level - 1) (counted cells at) 0 0 nw ne sw se filled_four new u (join (level - 1) filled_four.a.is_square))
 
 -- a tree that holds the box of all live cells holds these
 pub holds_all : (p : Picture) (box : Bounds) (level : ℕ) → IsLeastBox p box → HoldsBox (2 ^ (level - 1)) box → HoldsAll level (cell p)

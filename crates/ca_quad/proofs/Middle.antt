@@ -58,10 +58,10 @@ module _ (s : ℕ) (f : ℕ → ℕ → ℕ → ℕ) where
       ringed_as s (together s (f 3) (f 6) (f 9) (f 12)) (ringed s (f 3) (f 6) (f 9) (f 12)) (together s (f 3) (f 6) (f 9) (f 12)) (sixteen s f) (is_ringed s (f 3) (f 6) (f 9) (f 12))
       (λ x y. refl)
       (together_same (s + s) nw ne sw se ring_nw ring_ne ring_sw ring_se
-        (together_same s (f 0) (f 1) (f 2) (f 3) none none none (f 3) h.e0 h.e1 h.e2 (λ x y. refl))
-        (together_same s (f 4) (f 5) (f 6) (f 7) none none (f 6) none h.e4 h.e5 (λ x y. refl) h.e7)
-        (together_same s (f 8) (f 9) (f 10) (f 11) none (f 9) none none h.e8 (λ x y. refl) h.e10 h.e11)
-        (together_same s (f 12) (f 13) (f 14) (f 15) (f 12) none none none (λ x y. refl) h.e13 h.e14 h.e15))
+      (together_same s (f 0) (f 1) (f 2) (f 3) none none none (f 3) h.e0 h.e1 h.e2 (λ x y. refl))
+      (together_same s (f 4) (f 5) (f 6) (f 7) none none (f 6) none h.e4 h.e5 (λ x y. refl) h.e7)
+      (together_same s (f 8) (f 9) (f 10) (f 11) none (f 9) none none h.e8 (λ x y. refl) h.e10 h.e11)
+      (together_same s (f 12) (f 13) (f 14) (f 15) (f 12) none none none (λ x y. refl) h.e13 h.e14 h.e15))
 
   module _ (ends : (n : ℕ) → Ends s (f n)) (small : ℕ → ℕ → ℕ) (h : IsRinged s small (sixteen s f)) where
     none_ends : Ends s none
@@ -150,5 +150,5 @@ middle_is new k f big id e hollow shows = record {
   is_square = shows.is_square;
   is_ringed = subst (IsRinged (2 ^ (k - 1)) (cell_of new k id)) e
       (ringed_as (2 ^ (k - 1)) (together (2 ^ (k - 1)) (f 3) (f 6) (f 9) (f 12)) (sixteen (2 ^ (k - 1)) f) (cell_of new k id) (sixteen (2 ^ (k - 1)) f) (hollow_ringed (2 ^ (k - 1)) f hollow)
-        shows.has_cells (λ x y. refl));
+      shows.has_cells (λ x y. refl));
 }

@@ -141,7 +141,7 @@ ringed_once s small p q h k x y =
             let f : s + (y - s) ≡ y = omega arith in
             subst (λ n. p n y ≡ q n y) e
             (subst (λ n. p (s + (x - s)) n ≡ q (s + (x - s)) n) f
-              (h.inside (x - s) (y - s) (omega arith) (omega arith) ∙ sym (k.inside (x - s) (y - s) (omega arith) (omega arith))))
+            (h.inside (x - s) (y - s) (omega arith) (omega arith) ∙ sym (k.inside (x - s) (y - s) (omega arith) (omega arith))))
         | inr o ↦ h.ring x y (inr o) ∙ sym (k.ring x y (inr o))
       ]
       | inr o ↦ h.ring x y (inl o) ∙ sym (k.ring x y (inl o))
@@ -195,5 +195,5 @@ ring_keeps p q small big some e h x y =
     let keeps = same_plane s (cell_of p small.level small.root) (cell_of q (suc small.level) big.root) h ends (x +ℤ pos s) (y +ℤ pos s) in
     subst (λ l. from_corner (cell_of q l big.root) (x +ℤ pos (2 ^ (l - 1))) (y +ℤ pos (2 ^ (l - 1))) ≡ cell p small x y) (sym e)
     (subst (λ n. from_corner (cell_of q (suc small.level) big.root) (x +ℤ pos n) (y +ℤ pos n) ≡ cell p small x y) (sym wide)
-      (subst (λ n. from_corner (cell_of q (suc small.level) big.root) n (y +ℤ pos (s + s)) ≡ cell p small x y) (sym u)
-        (subst (λ n. from_corner (cell_of q (suc small.level) big.root) ((x +ℤ pos s) +ℤ pos s) n ≡ cell p small x y) (sym v) keeps)))
+    (subst (λ n. from_corner (cell_of q (suc small.level) big.root) n (y +ℤ pos (s + s)) ≡ cell p small x y) (sym u)
+    (subst (λ n. from_corner (cell_of q (suc small.level) big.root) ((x +ℤ pos s) +ℤ pos s) n ≡ cell p small x y) (sym v) keeps)))

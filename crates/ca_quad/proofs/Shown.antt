@@ -53,110 +53,110 @@ module _ (s0 s1 s2 s3 s4 s5 : List Node) (sound : IsSound s0) (g1 : Grows s0 s1)
     (ja : (l : ℕ) → IsOf s1 e l → Shows s2 a (suc l) (together (2 ^ l) (cell_of s1 l e) (cell_of s1 l e) (cell_of s1 l e) (cell_of s1 l nw)))
     (jb : (l : ℕ) → IsOf s2 e l → Shows s3 b (suc l) (together (2 ^ l) (cell_of s2 l e) (cell_of s2 l e) (cell_of s2 l ne) (cell_of s2 l e)))
     (jc : (l : ℕ) → IsOf s3 e l → Shows s4 c (suc l) (together (2 ^ l) (cell_of s3 l e) (cell_of s3 l sw) (cell_of s3 l e) (cell_of s3 l e)))
-    where
-  e2 : Shows s2 e k none
-  e2 = shows_stays s1 s2 g1.sound g2 e k none empty
+  where
+    e2 : Shows s2 e k none
+    e2 = shows_stays s1 s2 g1.sound g2 e k none empty
 
-  e3 : Shows s3 e k none
-  e3 = shows_stays s2 s3 g2.sound g3 e k none e2
+    e3 : Shows s3 e k none
+    e3 = shows_stays s2 s3 g2.sound g3 e k none e2
 
-  e4 : Shows s4 e k none
-  e4 = shows_stays s3 s4 g3.sound g4 e k none e3
+    e4 : Shows s4 e k none
+    e4 = shows_stays s3 s4 g3.sound g4 e k none e3
 
-  to2 : Grows s0 s2
-  to2 = grows_on s0 s1 s2 g1 g2
+    to2 : Grows s0 s2
+    to2 = grows_on s0 s1 s2 g1 g2
 
-  to3 : Grows s0 s3
-  to3 = grows_on s0 s2 s3 to2 g3
+    to3 : Grows s0 s3
+    to3 = grows_on s0 s2 s3 to2 g3
 
-  to4 : Grows s0 s4
-  to4 = grows_on s0 s3 s4 to3 g4
+    to4 : Grows s0 s4
+    to4 = grows_on s0 s3 s4 to3 g4
 
-  part1 : Shows s1 nw k (cell_of s0 k nw)
-  part1 = shows_stays s0 s1 sound g1 nw k (cell_of s0 k nw) (shows_self s0 nw k four.is_nw)
+    part1 : Shows s1 nw k (cell_of s0 k nw)
+    part1 = shows_stays s0 s1 sound g1 nw k (cell_of s0 k nw) (shows_self s0 nw k four.is_nw)
 
-  part2 : Shows s2 ne k (cell_of s0 k ne)
-  part2 = shows_stays s0 s2 sound to2 ne k (cell_of s0 k ne) (shows_self s0 ne k four.is_ne)
+    part2 : Shows s2 ne k (cell_of s0 k ne)
+    part2 = shows_stays s0 s2 sound to2 ne k (cell_of s0 k ne) (shows_self s0 ne k four.is_ne)
 
-  part3 : Shows s3 sw k (cell_of s0 k sw)
-  part3 = shows_stays s0 s3 sound to3 sw k (cell_of s0 k sw) (shows_self s0 sw k four.is_sw)
+    part3 : Shows s3 sw k (cell_of s0 k sw)
+    part3 = shows_stays s0 s3 sound to3 sw k (cell_of s0 k sw) (shows_self s0 sw k four.is_sw)
 
-  part4 : Shows s4 se k (cell_of s0 k se)
-  part4 = shows_stays s0 s4 sound to4 se k (cell_of s0 k se) (shows_self s0 se k four.is_se)
+    part4 : Shows s4 se k (cell_of s0 k se)
+    part4 = shows_stays s0 s4 sound to4 se k (cell_of s0 k se) (shows_self s0 se k four.is_se)
 
-  pub last_four : k ≤ 124 → AreFour s4 k se e e e
-  last_four = four_show_together s4 k se e e e (cell_of s0 k se) none none none part4 e4 e4 e4
+    pub last_four : k ≤ 124 → AreFour s4 k se e e e
+    last_four = four_show_together s4 k se e e e (cell_of s0 k se) none none none part4 e4 e4 e4
 
-  to_a : Shows s5 a (suc k) (together (2 ^ k) none none none (cell_of s0 k nw))
-  to_a = shows_stays s2 s5 g2.sound (grows_on s2 s3 s5 g3 (grows_on s3 s4 s5 g4 g5)) a (suc k) (together (2 ^ k) none none none (cell_of s0 k nw))
-      (shows_as s2 a (suc k) (together (2 ^ k) (cell_of s1 k e) (cell_of s1 k e) (cell_of s1 k e) (cell_of s1 k nw)) (together (2 ^ k) none none none (cell_of s0 k nw))
+    to_a : Shows s5 a (suc k) (together (2 ^ k) none none none (cell_of s0 k nw))
+    to_a = shows_stays s2 s5 g2.sound (grows_on s2 s3 s5 g3 (grows_on s3 s4 s5 g4 g5)) a (suc k) (together (2 ^ k) none none none (cell_of s0 k nw))
+        (shows_as s2 a (suc k) (together (2 ^ k) (cell_of s1 k e) (cell_of s1 k e) (cell_of s1 k e) (cell_of s1 k nw)) (together (2 ^ k) none none none (cell_of s0 k nw))
         (shown_together s1 k e e e nw none none none (cell_of s0 k nw) empty empty empty part1) (ja k empty.is_square))
 
-  to_b : Shows s5 b (suc k) (together (2 ^ k) none none (cell_of s0 k ne) none)
-  to_b = shows_stays s3 s5 g3.sound (grows_on s3 s4 s5 g4 g5) b (suc k) (together (2 ^ k) none none (cell_of s0 k ne) none)
-      (shows_as s3 b (suc k) (together (2 ^ k) (cell_of s2 k e) (cell_of s2 k e) (cell_of s2 k ne) (cell_of s2 k e)) (together (2 ^ k) none none (cell_of s0 k ne) none)
+    to_b : Shows s5 b (suc k) (together (2 ^ k) none none (cell_of s0 k ne) none)
+    to_b = shows_stays s3 s5 g3.sound (grows_on s3 s4 s5 g4 g5) b (suc k) (together (2 ^ k) none none (cell_of s0 k ne) none)
+        (shows_as s3 b (suc k) (together (2 ^ k) (cell_of s2 k e) (cell_of s2 k e) (cell_of s2 k ne) (cell_of s2 k e)) (together (2 ^ k) none none (cell_of s0 k ne) none)
         (shown_together s2 k e e ne e none none (cell_of s0 k ne) none e2 e2 part2 e2) (jb k e2.is_square))
 
-  to_c : Shows s5 c (suc k) (together (2 ^ k) none (cell_of s0 k sw) none none)
-  to_c = shows_stays s4 s5 g4.sound g5 c (suc k) (together (2 ^ k) none (cell_of s0 k sw) none none)
-      (shows_as s4 c (suc k) (together (2 ^ k) (cell_of s3 k e) (cell_of s3 k sw) (cell_of s3 k e) (cell_of s3 k e)) (together (2 ^ k) none (cell_of s0 k sw) none none)
+    to_c : Shows s5 c (suc k) (together (2 ^ k) none (cell_of s0 k sw) none none)
+    to_c = shows_stays s4 s5 g4.sound g5 c (suc k) (together (2 ^ k) none (cell_of s0 k sw) none none)
+        (shows_as s4 c (suc k) (together (2 ^ k) (cell_of s3 k e) (cell_of s3 k sw) (cell_of s3 k e) (cell_of s3 k e)) (together (2 ^ k) none (cell_of s0 k sw) none none)
         (shown_together s3 k e sw e e none (cell_of s0 k sw) none none e3 part3 e3 e3) (jc k e3.is_square))
 
-  module _ (jd : (l : ℕ) → IsOf s4 se l → Shows s5 d (suc l) (together (2 ^ l) (cell_of s4 l se) (cell_of s4 l e) (cell_of s4 l e) (cell_of s4 l e))) where
-    to_d : Shows s5 d (suc k) (together (2 ^ k) (cell_of s0 k se) none none none)
-    to_d =
-        shows_as s5 d (suc k) (together (2 ^ k) (cell_of s4 k se) (cell_of s4 k e) (cell_of s4 k e) (cell_of s4 k e)) (together (2 ^ k) (cell_of s0 k se) none none none)
-        (shown_together s4 k se e e e (cell_of s0 k se) none none none part4 e4 e4 e4) (jd k part4.is_square)
+    module _ (jd : (l : ℕ) → IsOf s4 se l → Shows s5 d (suc l) (together (2 ^ l) (cell_of s4 l se) (cell_of s4 l e) (cell_of s4 l e) (cell_of s4 l e))) where
+      to_d : Shows s5 d (suc k) (together (2 ^ k) (cell_of s0 k se) none none none)
+      to_d =
+          shows_as s5 d (suc k) (together (2 ^ k) (cell_of s4 k se) (cell_of s4 k e) (cell_of s4 k e) (cell_of s4 k e)) (together (2 ^ k) (cell_of s0 k se) none none none)
+          (shown_together s4 k se e e e (cell_of s0 k se) none none none part4 e4 e4 e4) (jd k part4.is_square)
 
-    pub ring_four : k ≤ 123 → AreFour s5 (suc k) a b c d
-    ring_four low = record { is_low = omega arith; is_nw = to_a.is_square; is_ne = to_b.is_square; is_sw = to_c.is_square; is_se = to_d.is_square }
+      pub ring_four : k ≤ 123 → AreFour s5 (suc k) a b c d
+      ring_four low = record { is_low = omega arith; is_nw = to_a.is_square; is_ne = to_b.is_square; is_sw = to_c.is_square; is_se = to_d.is_square }
 
-    pub ring_shows : {E : Type 0} (s6 : List Node) (r : Result ℕ E)
-        → IfOk r (λ id. Shows s6 id (suc (suc k)) (together (2 ^ suc k) (cell_of s5 (suc k) a) (cell_of s5 (suc k) b) (cell_of s5 (suc k) c) (cell_of s5 (suc k) d)))
-        → IfOk r (λ id. Shows s6 id (suc (suc k)) (ringed (2 ^ k) (cell_of s0 k nw) (cell_of s0 k ne) (cell_of s0 k sw) (cell_of s0 k se)))
-    ring_shows s6 r =
-        subst
-        (λ n. IfOk r (λ id. Shows s6 id (suc (suc k)) (together (2 ^ suc k) (cell_of s5 (suc k) a) (cell_of s5 (suc k) b) (cell_of s5 (suc k) c) (cell_of s5 (suc k) d)))
+      pub ring_shows : {E : Type 0} (s6 : List Node) (r : Result ℕ E)
+          → IfOk r (λ id. Shows s6 id (suc (suc k)) (together (2 ^ suc k) (cell_of s5 (suc k) a) (cell_of s5 (suc k) b) (cell_of s5 (suc k) c) (cell_of s5 (suc k) d)))
+          → IfOk r (λ id. Shows s6 id (suc (suc k)) (ringed (2 ^ k) (cell_of s0 k nw) (cell_of s0 k ne) (cell_of s0 k sw) (cell_of s0 k se)))
+      ring_shows s6 r =
+          subst
+          (λ n. IfOk r (λ id. Shows s6 id (suc (suc k)) (together (2 ^ suc k) (cell_of s5 (suc k) a) (cell_of s5 (suc k) b) (cell_of s5 (suc k) c) (cell_of s5 (suc k) d)))
           → IfOk r (λ id. Shows s6 id (suc (suc k)) (together n (together (2 ^ k) none none none (cell_of s0 k nw)) (together (2 ^ k) none none (cell_of s0 k ne) none) (together (2 ^ k) none (cell_of s0 k sw) none none) (together (2 ^ k) (cell_of s0 k se) none none none))))
-        (two-pow-succ k)
-        (ok_as s6 r (suc (suc k)) (together (2 ^ suc k) (cell_of s5 (suc k) a) (cell_of s5 (suc k) b) (cell_of s5 (suc k) c) (cell_of s5 (suc k) d))
+          (two-pow-succ k)
+          (ok_as s6 r (suc (suc k)) (together (2 ^ suc k) (cell_of s5 (suc k) a) (cell_of s5 (suc k) b) (cell_of s5 (suc k) c) (cell_of s5 (suc k) d))
           (together (2 ^ suc k) (together (2 ^ k) none none none (cell_of s0 k nw)) (together (2 ^ k) none none (cell_of s0 k ne) none) (together (2 ^ k) none (cell_of s0 k sw) none none) (together (2 ^ k) (cell_of s0 k se) none none none))
           (together_same (2 ^ suc k) (cell_of s5 (suc k) a) (cell_of s5 (suc k) b) (cell_of s5 (suc k) c) (cell_of s5 (suc k) d)
-            (together (2 ^ k) none none none (cell_of s0 k nw)) (together (2 ^ k) none none (cell_of s0 k ne) none) (together (2 ^ k) none (cell_of s0 k sw) none none) (together (2 ^ k) (cell_of s0 k se) none none none)
-            to_a.has_cells to_b.has_cells to_c.has_cells to_d.has_cells))
+          (together (2 ^ k) none none none (cell_of s0 k nw)) (together (2 ^ k) none none (cell_of s0 k ne) none) (together (2 ^ k) none (cell_of s0 k sw) none none) (together (2 ^ k) (cell_of s0 k se) none none none)
+          to_a.has_cells to_b.has_cells to_c.has_cells to_d.has_cells))
 
 -- four leaves of a cell each
 module _ (s1 s2 s3 s4 : List Node) (g2 : Grows s1 s2) (g3 : Grows s2 s3) (g4 : Grows s3 s4) (sound : IsSound s1) (nw ne sw se a b c d : ℕ)
     (la : Shows s1 a 1 (together 1 (dot 0) (dot 0) (dot 0) (dot nw))) (lb : Shows s2 b 1 (together 1 (dot 0) (dot 0) (dot ne) (dot 0)))
     (lc : Shows s3 c 1 (together 1 (dot 0) (dot sw) (dot 0) (dot 0))) (ld : Shows s4 d 1 (together 1 (dot se) (dot 0) (dot 0) (dot 0)))
-    where
-  no_dot : (x y : ℕ) → dot 0 x y ≡ none x y
-  no_dot = dot_empty 0 refl
+  where
+    no_dot : (x y : ℕ) → dot 0 x y ≡ none x y
+    no_dot = dot_empty 0 refl
 
-  cell_a : Shows s4 a 1 (together 1 none none none (dot nw))
-  cell_a = shows_stays s1 s4 sound (grows_on s1 s2 s4 g2 (grows_on s2 s3 s4 g3 g4)) a 1 (together 1 none none none (dot nw))
-      (shows_as s1 a 1 (together 1 (dot 0) (dot 0) (dot 0) (dot nw)) (together 1 none none none (dot nw)) (together_same 1 (dot 0) (dot 0) (dot 0) (dot nw) none none none (dot nw) no_dot no_dot no_dot (λ x y. refl)) la)
+    cell_a : Shows s4 a 1 (together 1 none none none (dot nw))
+    cell_a = shows_stays s1 s4 sound (grows_on s1 s2 s4 g2 (grows_on s2 s3 s4 g3 g4)) a 1 (together 1 none none none (dot nw))
+        (shows_as s1 a 1 (together 1 (dot 0) (dot 0) (dot 0) (dot nw)) (together 1 none none none (dot nw)) (together_same 1 (dot 0) (dot 0) (dot 0) (dot nw) none none none (dot nw) no_dot no_dot no_dot (λ x y. refl)) la)
 
-  cell_b : Shows s4 b 1 (together 1 none none (dot ne) none)
-  cell_b = shows_stays s2 s4 g2.sound (grows_on s2 s3 s4 g3 g4) b 1 (together 1 none none (dot ne) none)
-      (shows_as s2 b 1 (together 1 (dot 0) (dot 0) (dot ne) (dot 0)) (together 1 none none (dot ne) none) (together_same 1 (dot 0) (dot 0) (dot ne) (dot 0) none none (dot ne) none no_dot no_dot (λ x y. refl) no_dot) lb)
+    cell_b : Shows s4 b 1 (together 1 none none (dot ne) none)
+    cell_b = shows_stays s2 s4 g2.sound (grows_on s2 s3 s4 g3 g4) b 1 (together 1 none none (dot ne) none)
+        (shows_as s2 b 1 (together 1 (dot 0) (dot 0) (dot ne) (dot 0)) (together 1 none none (dot ne) none) (together_same 1 (dot 0) (dot 0) (dot ne) (dot 0) none none (dot ne) none no_dot no_dot (λ x y. refl) no_dot) lb)
 
-  cell_c : Shows s4 c 1 (together 1 none (dot sw) none none)
-  cell_c = shows_stays s3 s4 g3.sound g4 c 1 (together 1 none (dot sw) none none)
-      (shows_as s3 c 1 (together 1 (dot 0) (dot sw) (dot 0) (dot 0)) (together 1 none (dot sw) none none) (together_same 1 (dot 0) (dot sw) (dot 0) (dot 0) none (dot sw) none none no_dot (λ x y. refl) no_dot no_dot) lc)
+    cell_c : Shows s4 c 1 (together 1 none (dot sw) none none)
+    cell_c = shows_stays s3 s4 g3.sound g4 c 1 (together 1 none (dot sw) none none)
+        (shows_as s3 c 1 (together 1 (dot 0) (dot sw) (dot 0) (dot 0)) (together 1 none (dot sw) none none) (together_same 1 (dot 0) (dot sw) (dot 0) (dot 0) none (dot sw) none none no_dot (λ x y. refl) no_dot no_dot) lc)
 
-  cell_d : Shows s4 d 1 (together 1 (dot se) none none none)
-  cell_d =
-      shows_as s4 d 1 (together 1 (dot se) (dot 0) (dot 0) (dot 0)) (together 1 (dot se) none none none) (together_same 1 (dot se) (dot 0) (dot 0) (dot 0) (dot se) none none none (λ x y. refl) no_dot no_dot no_dot) ld
+    cell_d : Shows s4 d 1 (together 1 (dot se) none none none)
+    cell_d =
+        shows_as s4 d 1 (together 1 (dot se) (dot 0) (dot 0) (dot 0)) (together 1 (dot se) none none none) (together_same 1 (dot se) (dot 0) (dot 0) (dot 0) (dot se) none none none (λ x y. refl) no_dot no_dot no_dot) ld
 
-  pub leaves_four : AreFour s4 1 a b c d
-  leaves_four = record { is_low = omega arith; is_nw = cell_a.is_square; is_ne = cell_b.is_square; is_sw = cell_c.is_square; is_se = cell_d.is_square }
+    pub leaves_four : AreFour s4 1 a b c d
+    leaves_four = record { is_low = omega arith; is_nw = cell_a.is_square; is_ne = cell_b.is_square; is_sw = cell_c.is_square; is_se = cell_d.is_square }
 
-  pub leaves_ring : {E : Type 0} (s5 : List Node) (r : Result ℕ E)
-      → IfOk r (λ id. Shows s5 id 2 (together 2 (cell_of s4 1 a) (cell_of s4 1 b) (cell_of s4 1 c) (cell_of s4 1 d))) → IfOk r (λ id. Shows s5 id 2 (ringed 1 (dot nw) (dot ne) (dot sw) (dot se)))
-  leaves_ring s5 r =
-      ok_as s5 r 2 (together 2 (cell_of s4 1 a) (cell_of s4 1 b) (cell_of s4 1 c) (cell_of s4 1 d)) (ringed 1 (dot nw) (dot ne) (dot sw) (dot se))
-      (together_same 2 (cell_of s4 1 a) (cell_of s4 1 b) (cell_of s4 1 c) (cell_of s4 1 d)
+    pub leaves_ring : {E : Type 0} (s5 : List Node) (r : Result ℕ E)
+        → IfOk r (λ id. Shows s5 id 2 (together 2 (cell_of s4 1 a) (cell_of s4 1 b) (cell_of s4 1 c) (cell_of s4 1 d))) → IfOk r (λ id. Shows s5 id 2 (ringed 1 (dot nw) (dot ne) (dot sw) (dot se)))
+    leaves_ring s5 r =
+        ok_as s5 r 2 (together 2 (cell_of s4 1 a) (cell_of s4 1 b) (cell_of s4 1 c) (cell_of s4 1 d)) (ringed 1 (dot nw) (dot ne) (dot sw) (dot se))
+        (together_same 2 (cell_of s4 1 a) (cell_of s4 1 b) (cell_of s4 1 c) (cell_of s4 1 d)
         (together 1 none none none (dot nw)) (together 1 none none (dot ne) none) (together 1 none (dot sw) none none) (together 1 (dot se) none none none)
         cell_a.has_cells cell_b.has_cells cell_c.has_cells cell_d.has_cells)
 
@@ -176,7 +176,7 @@ rings old new level k id big e a b c d small shows =
       is_square = shows.is_square;
       is_ringed = subst (λ n. IsRinged (2 ^ n) (cell_of old (suc k) id) (cell_of new (suc (suc k)) big)) (sym back)
           (ringed_as (2 ^ k) (together (2 ^ k) a b c d) (ringed (2 ^ k) a b c d) (cell_of old (suc k) id) (cell_of new (suc (suc k)) big) (is_ringed (2 ^ k) a b c d)
-            (λ x y. ap (λ f. f x y) (subst (λ l. cell_of old l id ≡ together (2 ^ k) a b c d) (sym e) small)) shows.has_cells);
+          (λ x y. ap (λ f. f x y) (subst (λ l. cell_of old l id ≡ together (2 ^ k) a b c d) (sym e) small)) shows.has_cells);
     })
 
 pub rings_ok : {E : Type 0} (old new : List Node) (level k id : ℕ) (r : Result ℕ E) → suc k ≡ level → (a b c d : ℕ → ℕ → ℕ) → cell_of old level id ≡ together (2 ^ k) a b c d

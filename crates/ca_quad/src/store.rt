@@ -8,15 +8,15 @@ ghost use Rattle.ca_quad.specs.Trees.{IsIn};
 ghost use Rattle.ca_quad.specs.inner.Whole.{IsWhole};
 
 mod bounds;
+mod difference;
 mod extent;
 mod found;
 mod from_plane;
-mod difference;
 mod make;
 mod population;
 mod read;
-mod to_plane;
 mod resize;
+mod to_plane;
 
 use crate::id::Id;
 use crate::named::Named;

@@ -93,6 +93,9 @@ fn a_glider_is_made_a_plane(rt: HostRuntime) -> Result<(), Fail> {
     plane.set(Point { y: 2, x: 1 }, 1)?;
     plane.set(Point { y: 2, x: 2 }, 1)?;
     assert!(rt; plane_of(&store, rt.alloc(), root)??.same(&plane));
+    let tree = store.from_plane(&plane)?;
+    assert_eq!(rt; tree.level, 3);
+    assert_eq!(rt; tree.root, root);
     Ok(())
 }
 
@@ -132,6 +135,9 @@ fn a_cell_at_the_edge_of_a_plane_is_found(rt: HostRuntime) -> Result<(), Fail> {
     };
     assert_eq!(rt; plane.get(at), 1);
     assert_eq!(rt; plane.len(), 1);
+    let tree = store.from_plane(&plane)?;
+    assert_eq!(rt; tree.level, 64);
+    assert_eq!(rt; tree.root, root);
     assert_eq!(rt; trimmed(&mut store, root)?.root, root);
     let outside = one_cell(&mut store, Corner::SouthEast, 1, 64)?;
     assert_eq!(rt;
@@ -180,5 +186,7 @@ fn many_cells_are_made_a_plane(rt: HostRuntime) -> Result<(), Fail> {
     assert_eq!(rt; plane.get(Point { y: -256, x: 255 }), 1);
     assert_eq!(rt; plane.get(Point { y: 255, x: -256 }), 0);
     assert_eq!(rt; plane.get(Point { y: 255, x: 255 }), 2);
+    let tree = store.from_plane(&plane)?;
+    assert_eq!(rt; tree.root, square);
     Ok(())
 }

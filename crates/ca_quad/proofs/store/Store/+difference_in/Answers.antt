@@ -4,7 +4,6 @@ use Rattle.ca_quad.specs.Squares.{level_of, IsOf}
 use Rattle.ca_quad.proofs.Differ.{at_level, differ_within, differ_some, place_fits}
 use Rattle.ca_quad.proofs.store.Store.+difference_in.Goals as goal
 
-
 pub returns-in_err-p : goal.returns-in_err-p
 returns-in_err-p t c =
     let k = level_of c.args.self.now c.args.a - 1 in

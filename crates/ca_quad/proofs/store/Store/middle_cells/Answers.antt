@@ -11,10 +11,10 @@ returns-then-max-gt0-clause-tells c = λ small h.
     let nodes = c.args.self.now in
     let cells = (c.in-Four.a ∷ c.in-Four.b ∷ c.in-Four.c ∷ c.in-Four.north_west ∷ c.in-Four-square.d ∷ c.in-Four-square.e ∷ c.in-Four-square.north_east ∷ c.in-Four-square.f ∷ c.in-Four-square-2.g ∷ c.in-Four-square-2.south_west ∷ c.in-Four-square-2.h ∷ c.in-Four-square-2.i ∷ c.in-Four-square-3.south_east ∷ c.in-Four-square-3.j ∷ c.in-Four-square-3.k ∷ c.in-Four-square-3.l ∷ []) in
     let big = as_sixteen 1 (dots cells) (cell_of nodes 1 c.args.nw) (cell_of nodes 1 c.args.ne) (cell_of nodes 1 c.args.sw) (cell_of nodes 1 c.args.se)
-        (four_show nodes c.args.nw 1 c.requires.four.is_nw c.in-Four.a c.in-Four.b c.in-Four.c c.in-Four.north_west c.in-Four.ensures.shows)
-        (four_show nodes c.args.ne 1 c.requires.four.is_ne c.in-Four-square.d c.in-Four-square.e c.in-Four-square.north_east c.in-Four-square.f c.in-Four-square.ensures.shows)
-        (four_show nodes c.args.sw 1 c.requires.four.is_sw c.in-Four-square-2.g c.in-Four-square-2.south_west c.in-Four-square-2.h c.in-Four-square-2.i c.in-Four-square-2.ensures.shows)
-        (four_show nodes c.args.se 1 c.requires.four.is_se c.in-Four-square-3.south_east c.in-Four-square-3.j c.in-Four-square-3.k c.in-Four-square-3.l c.in-Four-square-3.ensures.shows) in
+    (four_show nodes c.args.nw 1 c.requires.four.is_nw c.in-Four.a c.in-Four.b c.in-Four.c c.in-Four.north_west c.in-Four.ensures.shows)
+    (four_show nodes c.args.ne 1 c.requires.four.is_ne c.in-Four-square.d c.in-Four-square.e c.in-Four-square.north_east c.in-Four-square.f c.in-Four-square.ensures.shows)
+    (four_show nodes c.args.sw 1 c.requires.four.is_sw c.in-Four-square-2.g c.in-Four-square-2.south_west c.in-Four-square-2.h c.in-Four-square-2.i c.in-Four-square-2.ensures.shows)
+    (four_show nodes c.args.se 1 c.requires.four.is_se c.in-Four-square-3.south_east c.in-Four-square-3.j c.in-Four-square-3.k c.in-Four-square-3.l c.in-Four-square-3.ensures.shows) in
     let z = ringed_hollow 1 (dots cells) (dots_end cells) small (subst (IsRinged 1 small) (sym big) h) in
     let z0 : c.in-Four.a ≡ 0 = z.e0 0 0 in
     let z1 : c.in-Four.b ≡ 0 = z.e1 0 0 in
@@ -29,10 +29,10 @@ returns-then-max-gt0-2-clause-tells c = λ small h.
     let nodes = c.args.self.now in
     let cells = (c.in-Four.a ∷ c.in-Four.b ∷ c.in-Four.c ∷ c.in-Four.north_west ∷ c.in-Four-square.d ∷ c.in-Four-square.e ∷ c.in-Four-square.north_east ∷ c.in-Four-square.f ∷ c.in-Four-square-2.g ∷ c.in-Four-square-2.south_west ∷ c.in-Four-square-2.h ∷ c.in-Four-square-2.i ∷ c.in-Four-square-3.south_east ∷ c.in-Four-square-3.j ∷ c.in-Four-square-3.k ∷ c.in-Four-square-3.l ∷ []) in
     let big = as_sixteen 1 (dots cells) (cell_of nodes 1 c.args.nw) (cell_of nodes 1 c.args.ne) (cell_of nodes 1 c.args.sw) (cell_of nodes 1 c.args.se)
-        (four_show nodes c.args.nw 1 c.requires.four.is_nw c.in-Four.a c.in-Four.b c.in-Four.c c.in-Four.north_west c.in-Four.ensures.shows)
-        (four_show nodes c.args.ne 1 c.requires.four.is_ne c.in-Four-square.d c.in-Four-square.e c.in-Four-square.north_east c.in-Four-square.f c.in-Four-square.ensures.shows)
-        (four_show nodes c.args.sw 1 c.requires.four.is_sw c.in-Four-square-2.g c.in-Four-square-2.south_west c.in-Four-square-2.h c.in-Four-square-2.i c.in-Four-square-2.ensures.shows)
-        (four_show nodes c.args.se 1 c.requires.four.is_se c.in-Four-square-3.south_east c.in-Four-square-3.j c.in-Four-square-3.k c.in-Four-square-3.l c.in-Four-square-3.ensures.shows) in
+    (four_show nodes c.args.nw 1 c.requires.four.is_nw c.in-Four.a c.in-Four.b c.in-Four.c c.in-Four.north_west c.in-Four.ensures.shows)
+    (four_show nodes c.args.ne 1 c.requires.four.is_ne c.in-Four-square.d c.in-Four-square.e c.in-Four-square.north_east c.in-Four-square.f c.in-Four-square.ensures.shows)
+    (four_show nodes c.args.sw 1 c.requires.four.is_sw c.in-Four-square-2.g c.in-Four-square-2.south_west c.in-Four-square-2.h c.in-Four-square-2.i c.in-Four-square-2.ensures.shows)
+    (four_show nodes c.args.se 1 c.requires.four.is_se c.in-Four-square-3.south_east c.in-Four-square-3.j c.in-Four-square-3.k c.in-Four-square-3.l c.in-Four-square-3.ensures.shows) in
     let z = ringed_hollow 1 (dots cells) (dots_end cells) small (subst (IsRinged 1 small) (sym big) h) in
     let z8 : c.in-Four-square-2.g ≡ 0 = z.e8 0 0 in
     let z10 : c.in-Four-square-2.h ≡ 0 = z.e10 0 0 in
@@ -47,10 +47,10 @@ returns-clause-tells c =
     let nodes = c.args.self.now in
     let cells = (c.in-Four.a ∷ c.in-Four.b ∷ c.in-Four.c ∷ c.in-Four.north_west ∷ c.in-Four-square.d ∷ c.in-Four-square.e ∷ c.in-Four-square.north_east ∷ c.in-Four-square.f ∷ c.in-Four-square-2.g ∷ c.in-Four-square-2.south_west ∷ c.in-Four-square-2.h ∷ c.in-Four-square-2.i ∷ c.in-Four-square-3.south_east ∷ c.in-Four-square-3.j ∷ c.in-Four-square-3.k ∷ c.in-Four-square-3.l ∷ []) in
     let big = as_sixteen 1 (dots cells) (cell_of nodes 1 c.args.nw) (cell_of nodes 1 c.args.ne) (cell_of nodes 1 c.args.sw) (cell_of nodes 1 c.args.se)
-        (four_show nodes c.args.nw 1 c.requires.four.is_nw c.in-Four.a c.in-Four.b c.in-Four.c c.in-Four.north_west c.in-Four.ensures.shows)
-        (four_show nodes c.args.ne 1 c.requires.four.is_ne c.in-Four-square.d c.in-Four-square.e c.in-Four-square.north_east c.in-Four-square.f c.in-Four-square.ensures.shows)
-        (four_show nodes c.args.sw 1 c.requires.four.is_sw c.in-Four-square-2.g c.in-Four-square-2.south_west c.in-Four-square-2.h c.in-Four-square-2.i c.in-Four-square-2.ensures.shows)
-        (four_show nodes c.args.se 1 c.requires.four.is_se c.in-Four-square-3.south_east c.in-Four-square-3.j c.in-Four-square-3.k c.in-Four-square-3.l c.in-Four-square-3.ensures.shows) in
+    (four_show nodes c.args.nw 1 c.requires.four.is_nw c.in-Four.a c.in-Four.b c.in-Four.c c.in-Four.north_west c.in-Four.ensures.shows)
+    (four_show nodes c.args.ne 1 c.requires.four.is_ne c.in-Four-square.d c.in-Four-square.e c.in-Four-square.north_east c.in-Four-square.f c.in-Four-square.ensures.shows)
+    (four_show nodes c.args.sw 1 c.requires.four.is_sw c.in-Four-square-2.g c.in-Four-square-2.south_west c.in-Four-square-2.h c.in-Four-square-2.i c.in-Four-square-2.ensures.shows)
+    (four_show nodes c.args.se 1 c.requires.four.is_se c.in-Four-square-3.south_east c.in-Four-square-3.j c.in-Four-square-3.k c.in-Four-square-3.l c.in-Four-square-3.ensures.shows) in
     middle_is c.leaf.new.self 1 (dots cells) _ c.in_ok-leaf.field-0 big
     (record {
       e0 = dot_empty c.in-Four.a (grind (arith, nat_tests));
