@@ -10,7 +10,7 @@ use Rattle.ca_rule.specs.declared.fault.RuleFault.{RuleFault}
 use Rattle.ca_rule.specs.declared.table.fault.TableFault.{TableFault}
 use Rattle.ca_rule.specs.Rule.{RuleValue, states_of, next_of, IsSameRule, IsRuleFault}
 use Rattle.ca_rule.proofs.Rules.{same-refl}
-use Rattle.ca_rle.specs.Limits.{IsInRange}
+use Rattle.ca_plane.specs.Limits.{IsInRange}
 use Rattle.ca_rle.specs.declared.pattern.Pattern.{Pattern}
 use Rattle.ca_claims.specs.declared.claims.line.Claim.{Claim as ClaimOf}
 use Rattle.ca_claims.specs.declared.verdict.Cause.{Cause}

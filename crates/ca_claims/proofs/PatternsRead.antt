@@ -9,7 +9,7 @@ use Rattle.ca_plane.proofs.Pictures.{cell-listed, Contains-cell}
 use Rattle.ca_rule.specs.TableNext.{TableRule}
 use Rattle.ca_rule.specs.declared.fault.RuleFault.{RuleFault}
 use Rattle.ca_rule.specs.Rule.{RuleValue, states_of, NamesRule, IsRuleFault}
-use Rattle.ca_rle.specs.Limits.{IsInRange}
+use Rattle.ca_plane.specs.Limits.{IsInRange}
 use Rattle.ca_rle.specs.Shown.{picture_of}
 use Rattle.ca_rle.specs.declared.pattern.Pattern.{Pattern}
 use Rattle.ca_claims.specs.Means.{bytes_at}

@@ -12,7 +12,7 @@ use Rattle.ca_plane.specs.Box.{IsLeastBox, LeavesPlane}
 use Rattle.ca_plane.proofs.Pictures.{Contains-cell}
 use Rattle.ca_run.specs.Reach.{LeavesReach}
 use Rattle.ca_run.proofs.Spreading.{leaves_none}
-use Rattle.ca_rle.specs.Limits.{IsInRange}
+use Rattle.ca_plane.specs.Limits.{IsInRange}
 use Rattle.ca_claims.specs.Text.{IsShift}
 
 -- what holds of the listed points holds of a live one

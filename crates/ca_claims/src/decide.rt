@@ -3,7 +3,7 @@
 ghost use Rattle.std.specs.Prelude.{◌≡◌, ◌<◌, pos, IfOk, IsTrue, ◌↔◌, MatchOption};
 ghost use Rattle.std.specs.List.{All};
 ghost use Rattle.ca_plane.specs.Plane.{IsSame, shifted};
-ghost use Rattle.ca_rle.specs.Limits.{IsInRange};
+ghost use Rattle.ca_plane.specs.Limits.{IsInRange};
 ghost use Rattle.ca_claims.specs.Text.{IsShift};
 ghost use Rattle.ca_claims.specs.Truth.{whose as whose_cells, claimed, IsTrueClaim, IsReason};
 ghost use Rattle.ca_claims.specs.inner.Decided.{IsBounded, IsDecided};

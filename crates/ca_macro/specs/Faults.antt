@@ -6,7 +6,8 @@ use Rattle.ca_plane.specs.Bytes.{letter, is_end_or, AreDigits, value, lines_of, 
 use Rattle.ca_macro.specs.declared.fault.MacroFault.{MacroFault}
 use Rattle.ca_macro.specs.declared.fault.MacroFault.TheVariants.{NotMacro, Timeline, Syntax, Forward, Level, LeafSize, Range, GenTooLarge, Memory}
 use Rattle.ca_macro.specs.Nodes.{Node, IsLeaf, Names, IsLevel, StandsBehind}
-use Rattle.ca_macro.specs.File.{Said, Adds, generation_limit, AreNumbers, WordsSay, added, LinesSay, File, begins_macro, IsFile}
+use Rattle.ca_macro.specs.File.{Said, Adds, AreNumbers, WordsSay, added, LinesSay, File, begins_macro, IsFile}
+use Rattle.ca_plane.specs.Limits.{generation_limit}
 use Rattle.ca_macro.specs.Limits.{IsOutOfRange}
 
 -- behind `[M2]` and good lines stands a line of whose words this holds, after the nodes of the earlier lines

@@ -1,8 +1,9 @@
 -- A macrocell text: what each of its lines says (Golly Help, File Formats: Macrocell format; what is marked so is our own).
-use Rattle.std.specs.Prelude.{◌≡◌, ℕ, ◌<◌, ◌^◌, List, [], ◌∷◌, ◌++◌, Bool, true, not, ◌&&◌, ◌||◌, IsTrue, codes}
+use Rattle.std.specs.Prelude.{◌≡◌, ℕ, ◌<◌, List, [], ◌∷◌, ◌++◌, Bool, true, not, ◌&&◌, ◌||◌, IsTrue, codes}
 use Rattle.std.specs.Bool.{nat_eq}
 use Rattle.std.specs.List.{AllZip, starts_with, flat_map}
 use Rattle.std.specs.Str.{bytes_eq}
+use Rattle.ca_plane.specs.Limits.{generation_limit, default_rule}
 use Rattle.ca_plane.specs.Bytes.{AreDigits, value, lines_of, words_of}
 use Rattle.ca_macro.specs.Nodes.{Node, Leaf, Cells, Parts, IsLeaf, StandsBehind}
 
@@ -12,10 +13,6 @@ pub data Said : Type 0 where
   Rule : (text : List ℕ) → Said
   Generation : (count : ℕ) → Said
   Adds : (node : Node) → Said
-
--- generations are below 2^63
-abbrev pub generation_limit : ℕ
-generation_limit = 2 ^ 63
 
 -- the words of a line that says nothing: it is blank (our own), or a comment, which begins with `#`. `#FRAME` begins a plane of a
 -- timeline; `#R` and `#G` are comments where they stand alone
@@ -91,8 +88,8 @@ pub record File : Type 0 where
 abbrev pub begins_macro : List ℕ → Bool
 begins_macro bytes = starts_with nat_eq bytes (codes "[M2]")
 
--- the bytes are a macrocell text that holds this. What follows `[M2]` on the first line is ignored; without a rule text the rule is
--- `B3/S23`, and without a generation it is 0 (our own)
+-- the bytes are a macrocell text that holds this. What follows `[M2]` on the first line is ignored; without a rule text it is the
+-- default one, and without a generation it is 0 (our own)
 pub record IsFile (bytes : List ℕ) (file : File) : Type 0 where
   pub first : List ℕ
   pub lines : List (List ℕ)
@@ -101,5 +98,5 @@ pub record IsFile (bytes : List ℕ) (file : File) : Type 0 where
   pub lines_are : lines_of bytes ≡ first ∷ lines
   pub say : LinesSay [] lines said
   pub nodes : file.nodes ≡ flat_map added said
-  pub rule_text : file.rule_text ≡ last_rule (codes "B3/S23") said
+  pub rule_text : file.rule_text ≡ last_rule default_rule said
   pub generation : file.generation ≡ last_generation 0 said

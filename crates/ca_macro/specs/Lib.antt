@@ -3,6 +3,7 @@ pub mod File
 pub mod Shown
 pub mod Limits
 pub mod Faults
+pub mod Pattern
 pub mod Tidy
 pub mod Examples
 pub mod inner

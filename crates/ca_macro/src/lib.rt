@@ -4,5 +4,11 @@
 pub mod examples;
 mod fault;
 mod line;
+mod pattern;
+mod read;
+mod write;
 
 pub use fault::MacroFault;
+pub use pattern::MacroPattern;
+pub use read::read_macro;
+pub use write::{write_macro, write_macro_to};

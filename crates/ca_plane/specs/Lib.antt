@@ -5,5 +5,7 @@ pub mod Sparse
 pub mod Bytes
 pub mod Device
 pub mod Box
+pub mod Limits
+pub mod Population
 pub mod inner
 pub mod Puts

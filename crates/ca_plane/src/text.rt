@@ -1,11 +1,31 @@
 //! Texts that are put together, piece by piece: for every writer.
 
-ghost use Rattle.std.specs.Prelude.{OnOk, decimal};
+ghost use Rattle.std.specs.Prelude.{◌≡◌, OnOk, IfOk, decimal, unwrap_or};
 ghost use Rattle.std.specs.Fmt.{signed_decimal};
+ghost use Rattle.std.specs.Option.{option_copied};
+ghost use Rattle.ca_plane.specs.Limits.{default_rule};
 ghost use Rattle.ca_plane.specs.Puts.{Puts};
 
 use crate::memory::Memory;
 use itoa::Buffer;
+use std::alloc::{AllocError, Global};
+
+/// The rule text of a file that names none (Golly Help, File Formats: Extended RLE format).
+const DEFAULT_RULE: &[u8] = b"B3/S23";
+
+/// The rule text that a file names, or else the default one.
+///
+/// # Errors
+///
+/// Fails where there is no memory for it.
+pub fn rule_text(alloc: Global, named: Option<&[u8]>) -> Result<Vec<u8>, AllocError>
+    ensures { IfOk result (λ v. v.items ≡ unwrap_or (option_copied named.entry) default_rule) }
+{
+    match named {
+        Some(text) => Vec::from_slice(alloc, text),
+        None => Vec::from_slice(alloc, DEFAULT_RULE),
+    }
+}
 
 /// Puts the text behind what `out` holds.
 ///

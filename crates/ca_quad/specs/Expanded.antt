@@ -1,18 +1,15 @@
 -- Trees that are made planes, and why one is refused (the limits are our own).
-use Rattle.std.specs.Prelude.{◌≡◌, ◌≢◌, ℕ, ◌<◌, ◌≤◌, ◌^◌, ℤ, List}
+use Rattle.std.specs.Prelude.{◌≡◌, ◌≢◌, ℕ, ◌<◌, ◌≤◌, ℤ, List}
 use Rattle.ca_plane.specs.Plane.{Picture}
 use Rattle.ca_plane.specs.Plane as plane
 use Rattle.ca_plane.specs.Sparse.{IsInPlane}
+use Rattle.ca_plane.specs.Limits.{most_cells}
 use Rattle.ca_quad.specs.declared.fault.QuadFault.{QuadFault}
 use Rattle.ca_quad.specs.declared.fault.QuadFault.TheVariants.{Memory, TooManyCells, Range}
 use Rattle.ca_quad.specs.declared.node.Node.{Node}
 use Rattle.ca_quad.specs.declared.tree.Tree.{Tree}
 use Rattle.ca_quad.specs.Trees.{cell}
 use Rattle.ca_quad.specs.Population.{live_cells}
-
--- the most live cells that are handled at once: 16777216
-abbrev pub most_cells : ℕ
-most_cells = 2 ^ 24
 
 -- every live cell lies in the square of a plane
 abbrev pub FitsPlane : (ℤ → ℤ → ℕ) → Type 0

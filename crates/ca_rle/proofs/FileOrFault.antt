@@ -1,9 +1,10 @@
 -- Every text is a file, or has a first fault in its spelling.
-use Rattle.std.proofs.Common.{◌≡◌, ℕ, zero, suc, ◌<◌, ◌⊎◌, inl, inr, Bool, true, false, not, IsTrue, List, [], ◌∷◌, ◌++◌, length, Option, Some, None, unwrap_or, codes, refl, sym, ap, subst, ◌∙◌, append-nil, append_assoc, true≢false, arith, nat_le, ◌==◌, is_some}
+use Rattle.std.proofs.Common.{◌≡◌, ℕ, zero, suc, ◌<◌, ◌⊎◌, inl, inr, Bool, true, false, not, IsTrue, List, [], ◌∷◌, ◌++◌, length, Option, Some, None, unwrap_or, refl, sym, ap, subst, ◌∙◌, append-nil, append_assoc, true≢false, arith, nat_le, ◌==◌, is_some}
 use Rattle.std.specs.List.{flat_map, AllZip, AllByRecursion}
 use Rattle.std.proofs.lemmas.Bool.{cases_Bool, cond_both}
 use Rattle.std.proofs.lemmas.Grind.{flat_map-append}
 use Rattle.std.proofs.lemmas.List.{length-append}
+use Rattle.ca_plane.specs.Limits.{default_rule}
 use Rattle.ca_plane.specs.Bytes.{is_digit, is_line_end, is_end_or, front, rest, value}
 use Rattle.ca_plane.proofs.Lines.{line_ends_by_lf}
 use Rattle.ca_rle.specs.declared.fault.RleFault.{RleFault}
@@ -128,7 +129,7 @@ FileOrFault bytes = ((file : File) × IsFile bytes file) ⊎ ((f : RleFault) × 
 headed_or_fault : (bytes : List ℕ) (said : List Said) (rule : Option (List ℕ)) (body : List ℕ) → IsHeaded bytes said rule body → FileOrFault bytes
 headed_or_fault bytes said rule body h =
     elim (items_or_bad body) [
-      | inl i ↦ inl (record { corner = corner_of said; generation = generation_of said; rule_text = unwrap_or rule (codes "B3/S23"); items = i.0 }, record { said = said; rule = rule; body = body; headed = h; items = i.1; corner = refl; generation = refl; rule_text = refl })
+      | inl i ↦ inl (record { corner = corner_of said; generation = generation_of said; rule_text = unwrap_or rule default_rule; items = i.0 }, record { said = said; rule = rule; body = body; headed = h; items = i.1; corner = refl; generation = refl; rule_text = refl })
       | inr b ↦ inr (b.0, first_from_item bytes b.0 (record { said = said; rule = rule; body = body; items = b.1.0; bad = b.1.1; headed = h; good = b.1.2; fault_is = b.1.3 }))
     ]
 

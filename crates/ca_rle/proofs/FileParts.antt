@@ -1,6 +1,7 @@
 -- What a file holds: its generation is below 2^63, and its rule text is a word.
-use Rattle.std.proofs.Common.{ℕ, ◌<◌, ◌^◌, List, [], ◌∷◌, Option, Some, None, unwrap_or, codes, refl, sym, subst, arith}
+use Rattle.std.proofs.Common.{ℕ, ◌<◌, ◌^◌, List, [], ◌∷◌, Option, Some, None, unwrap_or, refl, sym, subst, arith}
 use Rattle.std.specs.List.{AllZip}
+use Rattle.ca_plane.specs.Limits.{default_rule}
 use Rattle.ca_plane.specs.Bytes.{IsWord}
 use Rattle.ca_rle.specs.Header.{IsHeader, Said, Corner, Generation, Nothing, Says}
 use Rattle.ca_rle.specs.File.{File, IsFile, last_generation}
@@ -18,7 +19,7 @@ pub generation_is_low : (bytes : List ℕ) (file : File) → IsFile bytes file �
 generation_is_low bytes file is = subst (λ (n : ℕ). n < 2 ^ 63) (sym is.generation) (last_is_low 0 _ is.said (omega arith) is.headed.preamble.words)
 
 -- the rule text of a header is a word, and so is that of a header without one
-header_word : (line : List ℕ) (rule : Option (List ℕ)) → IsHeader line rule → IsWord (unwrap_or rule (codes "B3/S23"))
+header_word : (line : List ℕ) (rule : Option (List ℕ)) → IsHeader line rule → IsWord (unwrap_or rule default_rule)
 header_word line None h = refl
 header_word line (Some text) h = h.3
 

@@ -7,7 +7,7 @@ use Rattle.ca_plane.specs.declared.point.Bounds.{Bounds}
 use Rattle.ca_plane.specs.Plane.{Picture, cell}
 use Rattle.ca_plane.specs.Box.{IsLeastBox}
 use Rattle.ca_plane.proofs.Pictures.{Contains-cell}
-use Rattle.ca_rle.specs.Limits.{IsInRange}
+use Rattle.ca_plane.specs.Limits.{IsInRange}
 use Rattle.ca_rle.specs.Tidy.{IsFrame}
 
 -- the place of a live cell is in range

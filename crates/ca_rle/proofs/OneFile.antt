@@ -1,7 +1,8 @@
 -- A text is a file in one way at most.
-use Rattle.std.proofs.Common.{◌≡◌, ℕ, true, not, List, [], ◌∷◌, ◌++◌, Option, unwrap_or, true≢false, codes, refl, sym, ap, ap₂, subst, ◌∙◌, append_assoc}
+use Rattle.std.proofs.Common.{◌≡◌, ℕ, true, not, List, [], ◌∷◌, ◌++◌, Option, unwrap_or, true≢false, refl, sym, ap, ap₂, subst, ◌∙◌, append_assoc}
 use Rattle.std.specs.List.{flat_map, AllZip, AllByRecursion}
 use Rattle.std.proofs.lemmas.List.{append_cancel_left}
+use Rattle.ca_plane.specs.Limits.{default_rule}
 use Rattle.ca_plane.specs.Bytes.{is_line_end, is_end_or}
 use Rattle.ca_rle.specs.Items.{Items}
 use Rattle.ca_rle.specs.Header.{IsHeader, is_comment, extended_words, Said, Says}
@@ -65,5 +66,5 @@ one_file bytes f g p q =
     same_file f g
     (p.corner ∙ ap corner_of h.0 ∙ sym q.corner)
     (p.generation ∙ ap generation_of h.0 ∙ sym q.generation)
-    (p.rule_text ∙ ap (λ (o : Option (List ℕ)). unwrap_or o (codes "B3/S23")) h.1 ∙ sym q.rule_text)
+    (p.rule_text ∙ ap (λ (o : Option (List ℕ)). unwrap_or o default_rule) h.1 ∙ sym q.rule_text)
     (one_list q.body f.items g.items (subst (λ (l : List ℕ). Items l f.items) h.2 p.items) q.items)

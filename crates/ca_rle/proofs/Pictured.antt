@@ -16,7 +16,8 @@ use Rattle.ca_rle.specs.declared.item.Tag.{Tag}
 use Rattle.ca_rle.specs.declared.item.Tag.TheVariants.{Cell, RowEnd}
 use Rattle.ca_rle.specs.Items.{Run, IsEnd, Items}
 use Rattle.ca_rle.specs.Shown.{ends_row, state_of, rows_of, columns_of, place_behind, cells_of, picture_behind, picture_of}
-use Rattle.ca_rle.specs.Limits.{IsInRange, IsWithinRange}
+use Rattle.ca_rle.specs.Limits.{IsWithinRange}
+use Rattle.ca_plane.specs.Limits.{IsInRange}
 use Rattle.ca_rle.specs.inner.BodyFaults.{bare_file, kept}
 use Rattle.ca_rle.specs.inner.Extent.{IsOffsetOf, point_from, HasRoom, cells_from}
 use Rattle.ca_rle.proofs.Units.{IsItemAtFront}

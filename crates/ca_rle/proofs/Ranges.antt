@@ -8,7 +8,8 @@ use Rattle.ca_plane.specs.declared.point.Point.{Point}
 use Rattle.ca_rle.specs.declared.item.Item.{Item}
 use Rattle.ca_rle.specs.declared.extent.Extent.{Extent}
 use Rattle.ca_rle.specs.Shown.{state_of, rows_of, columns_of, run_of, place_behind, cells_of, picture_behind}
-use Rattle.ca_rle.specs.Limits.{IsInRange, IsWithinRange}
+use Rattle.ca_rle.specs.Limits.{IsWithinRange}
+use Rattle.ca_plane.specs.Limits.{IsInRange}
 use Rattle.ca_rle.specs.inner.BodyFaults.{bare_file}
 use Rattle.ca_rle.specs.inner.Extent.{longest_of, live_count, live_cells, columns_to, rows_to, right_behind, bottom_behind, kept_number, IsExtentOf, IsExtentInRange, HasRoom}
 use Rattle.ca_rle.proofs.Spans.{all_run, all_append, length_run}

@@ -6,7 +6,7 @@ use Rattle.std.proofs.lemmas.Int.{ints}
 use Rattle.ca_plane.specs.declared.point.Point.{Point}
 use Rattle.ca_rle.specs.declared.item.Item.{Item}
 use Rattle.ca_rle.specs.Shown.{ends_row, state_of, rows_of, columns_of, run_of, place_behind, cells_of, picture_behind}
-use Rattle.ca_rle.specs.Limits.{IsInRange}
+use Rattle.ca_plane.specs.Limits.{IsInRange}
 
 -- the sum of all counts
 abbrev pub span : List Item → ℕ

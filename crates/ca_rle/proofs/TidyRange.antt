@@ -9,7 +9,8 @@ use Rattle.ca_plane.specs.Plane.{Picture, cell}
 use Rattle.ca_plane.proofs.Pictures.{Contains-cell, cell-first}
 use Rattle.ca_rle.specs.declared.item.Item.{Item}
 use Rattle.ca_rle.specs.File.{File, IsFile}
-use Rattle.ca_rle.specs.Limits.{IsInRange, IsWithinRange, IsWithinLimits}
+use Rattle.ca_rle.specs.Limits.{IsWithinRange, IsWithinLimits}
+use Rattle.ca_plane.specs.Limits.{IsInRange}
 use Rattle.ca_rle.specs.Shown.{picture_of}
 use Rattle.ca_rle.specs.Tidy.{IsFrame, IsTidy}
 use Rattle.ca_rle.proofs.Spans.{all_append}

@@ -1,6 +1,7 @@
 -- A whole text from what stands before its items and from its body.
 use Rattle.std.specs.Prelude.{Result, Ok, Err, IsErrOf}
-use Rattle.std.proofs.Common.{◌≡◌, ap, inl, inr, ℕ, List, Option, unwrap_or, codes, refl, sym, subst}
+use Rattle.std.proofs.Common.{◌≡◌, ap, inl, inr, ℕ, List, Option, unwrap_or, refl, sym, subst}
+use Rattle.ca_plane.specs.Limits.{default_rule}
 use Rattle.ca_plane.specs.declared.point.Point.{Point}
 use Rattle.ca_rle.specs.declared.fault.RleFault.{RleFault}
 use Rattle.ca_rle.specs.declared.fault.RleFault.TheVariants.{Syntax, Header, XlifeRule, NoEnd, BadState, GenTooLarge, Range, TooManyCells, Memory}
@@ -15,7 +16,7 @@ use Rattle.ca_rle.specs.inner.BodyFaults.{KeepsCorner, bare_file, IsBodyFault, H
 
 -- what a text holds whose header and items are these
 abbrev pub file_of : List Said → Option (List ℕ) → List Item → File
-file_of said rule items = record { corner = corner_of said; generation = generation_of said; rule_text = unwrap_or rule (codes "B3/S23"); items = items }
+file_of said rule items = record { corner = corner_of said; generation = generation_of said; rule_text = unwrap_or rule default_rule; items = items }
 
 pub is_file : (bytes : List ℕ) (said : List Said) (rule : Option (List ℕ)) (body : List ℕ) (items : List Item) → IsHeaded bytes said rule body → Items body items → IsFile bytes (file_of said rule items)
 is_file bytes said rule body items headed is = record { said = said; rule = rule; body = body; headed = headed; items = is; corner = refl; generation = refl; rule_text = refl }

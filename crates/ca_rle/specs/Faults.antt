@@ -8,7 +8,8 @@ use Rattle.ca_rle.specs.declared.fault.RleFault.{RleFault}
 use Rattle.ca_rle.specs.declared.fault.RleFault.TheVariants.{Syntax, Header, XlifeRule, NoEnd, BadState, GenTooLarge, Range, TooManyCells, Memory}
 use Rattle.ca_rle.specs.declared.item.Item.{Item}
 use Rattle.ca_rle.specs.Items.{is_letter, is_prefix, prefixed_state, tag_of, Place, AtStart, InLine, InComment, Run}
-use Rattle.ca_rle.specs.Header.{generation_limit, IsHeader, is_comment, extended_words, Said, Corner, Says, IsXlifeLine}
+use Rattle.ca_rle.specs.Header.{IsHeader, is_comment, extended_words, Said, Corner, Says, IsXlifeLine}
+use Rattle.ca_plane.specs.Limits.{generation_limit}
 use Rattle.ca_rle.specs.File.{File, IsLine, ended, IsPreamble, IsHeaded, IsFile}
 use Rattle.ca_rle.specs.Limits.{IsOutOfRange, HasTooManyCells}
 

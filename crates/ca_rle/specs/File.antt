@@ -1,7 +1,8 @@
 -- A whole extended RLE text: lines before the header, the header, and the items (Golly Help, File Formats: Extended RLE format).
-use Rattle.std.specs.Prelude.{◌≡◌, ℕ, pos, List, [], ◌∷◌, ◌++◌, not, IsTrue, Option, unwrap_or, is_some, true, codes, ◌⊎◌}
+use Rattle.std.specs.Prelude.{◌≡◌, ℕ, pos, List, [], ◌∷◌, ◌++◌, not, IsTrue, Option, unwrap_or, is_some, true, ◌⊎◌}
 use Rattle.std.specs.List.{flat_map, AllZip, AllByRecursion}
 use Rattle.ca_plane.specs.declared.point.Point.{Point}
+use Rattle.ca_plane.specs.Limits.{default_rule}
 use Rattle.ca_plane.specs.Bytes.{is_line_end, is_end_or, Every}
 use Rattle.ca_rle.specs.declared.item.Item.{Item}
 use Rattle.ca_rle.specs.Items.{Items}
@@ -72,4 +73,4 @@ pub record IsFile (bytes : List ℕ) (file : File) : Type 0 where
   pub items : Items body file.items
   pub corner : file.corner ≡ corner_of said
   pub generation : file.generation ≡ generation_of said
-  pub rule_text : file.rule_text ≡ unwrap_or rule (codes "B3/S23")
+  pub rule_text : file.rule_text ≡ unwrap_or rule default_rule

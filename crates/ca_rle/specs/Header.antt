@@ -1,8 +1,9 @@
 -- The header line of an RLE text, and the lines before it (Golly Help, File Formats: Extended RLE format).
-use Rattle.std.specs.Prelude.{◌≡◌, ℕ, ◌<◌, ◌^◌, ℤ, List, [], ◌∷◌, ◌++◌, Bool, false, ◌==◌, IsTrue, Option, Some, None, codes, ◌⊎◌, if◌then◌else◌}
+use Rattle.std.specs.Prelude.{◌≡◌, ℕ, ◌<◌, ℤ, List, [], ◌∷◌, ◌++◌, Bool, false, ◌==◌, IsTrue, Option, Some, None, codes, ◌⊎◌, if◌then◌else◌}
 use Rattle.std.specs.Str.{bytes_eq}
 use Rattle.std.specs.List.{starts_with}
 use Rattle.std.specs.Bool.{nat_eq}
+use Rattle.ca_plane.specs.Limits.{generation_limit}
 use Rattle.ca_plane.specs.Bytes.{letter, is_blank, Every, AreDigits, IsInteger, IsWord, value, rest, is_end_or, words_of, without_cr}
 
 -- a part of a header: these very bytes, or a number
@@ -56,10 +57,6 @@ pub data Said : Type 0 where
   Corner : (x y : ℤ) → Said
   Generation : (count : ℕ) → Said
   Nothing : Said
-
--- generations are below 2^63
-abbrev pub generation_limit : ℕ
-generation_limit = 2 ^ 63
 
 -- `Pos=X,Y` is the corner, `Gen=G` the generation, below its limit; other words say nothing
 abbrev pub Says : List ℕ → Said → Type 0

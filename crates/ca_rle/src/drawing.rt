@@ -8,7 +8,8 @@ ghost use Rattle.ca_rle.specs.declared.fault.RleFault.{RleFault};
 ghost use Rattle.ca_rle.specs.Items.{Run, IsEnd, Items};
 ghost use Rattle.ca_rle.specs.Faults.{item_fault};
 ghost use Rattle.ca_rle.specs.Shown.{state_of, run_of, picture_of};
-ghost use Rattle.ca_rle.specs.Limits.{IsInRange, IsWithinRange};
+ghost use Rattle.ca_rle.specs.Limits.{IsWithinRange};
+ghost use Rattle.ca_plane.specs.Limits.{IsInRange};
 ghost use Rattle.ca_rle.specs.inner.BodyFaults.{kept, bare_file};
 ghost use Rattle.ca_rle.specs.inner.Extent.{point_from, HasRoom, cells_from};
 

@@ -4,7 +4,7 @@ ghost use Rattle.std.specs.Prelude.{◌≡◌, ◌+◌, ◌≤◌, max, pos, neg
 ghost use Rattle.ca_rle.specs.declared.item.Item.{Item};
 ghost use Rattle.ca_rle.specs.Items.{Items};
 ghost use Rattle.ca_rle.specs.Shown.{ends_row, state_of};
-ghost use Rattle.ca_rle.specs.Limits.{range, IsInRange};
+ghost use Rattle.ca_plane.specs.Limits.{IsInRange, range};
 ghost use Rattle.ca_rle.specs.inner.BodyFaults.{HasBadUnit};
 ghost use Rattle.ca_rle.specs.inner.Extent.{kept_number, live_count, IsOffsetOf, IsExtentOf, IsExtentInRange, point_from};
 

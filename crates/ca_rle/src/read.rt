@@ -1,10 +1,9 @@
 //! The reader of extended RLE.
 
-ghost use Rattle.std.specs.Prelude.{◌≡◌, ◌<◌, unwrap_or, codes, IfOk, IfErr, IsErrOf};
-ghost use Rattle.std.specs.Option.{option_copied};
+ghost use Rattle.std.specs.Prelude.{◌<◌, IfOk, IfErr, IsErrOf};
 ghost use Rattle.ca_plane.specs.Bytes.{IsWord};
 ghost use Rattle.ca_plane.specs.Sparse.{IsSparse};
-ghost use Rattle.ca_rle.specs.Header.{generation_limit};
+ghost use Rattle.ca_plane.specs.Limits.{generation_limit};
 ghost use Rattle.ca_rle.specs.File.{File, IsFile};
 ghost use Rattle.ca_rle.specs.Limits.{IsWithinLimits};
 ghost use Rattle.ca_rle.specs.Faults.{IsFaultOf};
@@ -14,20 +13,8 @@ use crate::body::read_body;
 use crate::fault::RleFault;
 use crate::front::read_front;
 use crate::pattern::Pattern;
-use std::alloc::{AllocError, Global};
-
-/// The rule text of a pattern whose header names no rule (Golly Help, File Formats: Extended RLE format).
-const DEFAULT_RULE: &[u8] = b"B3/S23";
-
-// The rule text that the header names, or the default one.
-fn rule_text(alloc: Global, rule: Option<&[u8]>) -> Result<Vec<u8>, AllocError>
-    ensures { IfOk result (λ v. v.items ≡ unwrap_or (option_copied rule.entry) (codes "B3/S23")) }
-{
-    match rule {
-        Some(rule) => Vec::from_slice(alloc, rule),
-        None => Vec::from_slice(alloc, DEFAULT_RULE),
-    }
-}
+use ca_plane::text::rule_text;
+use std::alloc::Global;
 
 /// Reads an extended RLE text (Golly Help, File Formats; docs/FORMATS.md): the pattern that it holds, its first cell at the
 /// corner that `Pos` says, or at (0, 0).

@@ -4,9 +4,9 @@ ghost use Rattle.std.specs.Prelude.{◌≡◌, ◌≢◌, ℕ, ◌<◌, ℤ, Lis
 ghost use Rattle.ca_plane.specs.Bytes.{IsWord};
 ghost use Rattle.ca_plane.specs.Plane.{Picture, cell, IsSame};
 ghost use Rattle.ca_plane.specs.Sparse.{IsInPlane};
-ghost use Rattle.ca_rle.specs.Header.{generation_limit};
+ghost use Rattle.ca_plane.specs.Limits.{IsInRange, generation_limit};
 ghost use Rattle.ca_rle.specs.File.{File, IsFile};
-ghost use Rattle.ca_rle.specs.Limits.{IsInRange, IsWithinRange};
+ghost use Rattle.ca_rle.specs.Limits.{IsWithinRange};
 ghost use Rattle.ca_rle.specs.Shown.{picture_of};
 ghost use Rattle.ca_rle.specs.Tidy.{IsTidy};
 

@@ -5,9 +5,9 @@ ghost use Rattle.std.specs.List.{All};
 ghost use Rattle.std.specs.Io.KnownBytes.{Appends};
 ghost use Rattle.ca_plane.specs.Bytes.{IsWord};
 ghost use Rattle.ca_plane.specs.Device.{Rises, AppendsPrefix};
-ghost use Rattle.ca_rle.specs.Header.{generation_limit};
+ghost use Rattle.ca_plane.specs.Limits.{IsInRange, generation_limit, most_cells};
 ghost use Rattle.ca_rle.specs.File.{File, IsFile};
-ghost use Rattle.ca_rle.specs.Limits.{most_cells, IsInRange, IsWithinRange, IsWithinLimits};
+ghost use Rattle.ca_rle.specs.Limits.{IsWithinRange, IsWithinLimits};
 ghost use Rattle.ca_rle.specs.Shown.{picture_of};
 ghost use Rattle.ca_rle.specs.Tidy.{IsTidy};
 

@@ -5,7 +5,7 @@ ghost use Rattle.std.specs.List.{All};
 ghost use Rattle.ca_plane.specs.Plane.{IsSame, shifted, IsLive};
 ghost use Rattle.ca_plane.specs.Sparse.{IsSparse};
 ghost use Rattle.ca_plane.specs.Box.{moved};
-ghost use Rattle.ca_rle.specs.Limits.{IsInRange};
+ghost use Rattle.ca_plane.specs.Limits.{IsInRange};
 
 use ca_plane::{Plane, Point};
 

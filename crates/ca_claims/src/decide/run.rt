@@ -6,7 +6,7 @@ ghost use Rattle.ca_plane.specs.Plane.{cell, IsLive};
 ghost use Rattle.ca_plane.specs.Generations.{after, IsAfter};
 ghost use Rattle.ca_plane.specs.Sparse.{IsSparse};
 ghost use Rattle.ca_run.specs.Reach.{LeavesReach};
-ghost use Rattle.ca_rle.specs.Limits.{IsInRange};
+ghost use Rattle.ca_plane.specs.Limits.{IsInRange};
 ghost use Rattle.ca_claims.specs.declared.claims.asks.Barred.TheVariants.{Nothing};
 ghost use Rattle.ca_claims.specs.inner.Decided.{IsBounded};
 ghost use Rattle.ca_claims.specs.inner.Returns.{IsNotAgain, IsAgain, IsNotBackBefore, IsFirstReturn};

@@ -5,7 +5,8 @@ ghost use Rattle.ca_plane.specs.Sparse.{IsInPlane, IsSparse, reach};
 ghost use Rattle.ca_quad.specs.Squares.{dot};
 ghost use Rattle.ca_quad.specs.Trees.{IsIn, IsTree, cell};
 ghost use Rattle.ca_quad.specs.Population.{live_cells};
-ghost use Rattle.ca_quad.specs.Expanded.{most_cells, FitsPlane, IsExpanded, IsRefused};
+ghost use Rattle.ca_quad.specs.Expanded.{FitsPlane, IsExpanded, IsRefused};
+ghost use Rattle.ca_plane.specs.Limits.{most_cells};
 ghost use Rattle.ca_quad.specs.inner.Drawn.{cells_of, side_of, placed, IsNear, CanDraw, AreDrawn, Draws, ArePartCorners};
 
 use super::Store;

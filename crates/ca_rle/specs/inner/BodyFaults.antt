@@ -7,7 +7,8 @@ use Rattle.ca_rle.specs.declared.fault.RleFault.TheVariants.{Syntax, Header, Xli
 use Rattle.ca_rle.specs.declared.item.Item.{Item}
 use Rattle.ca_rle.specs.Items.{Run, Items}
 use Rattle.ca_rle.specs.File.{File}
-use Rattle.ca_rle.specs.Limits.{IsInRange, IsOutOfRange, HasTooManyCells}
+use Rattle.ca_rle.specs.Limits.{IsOutOfRange, HasTooManyCells}
+use Rattle.ca_plane.specs.Limits.{IsInRange}
 use Rattle.ca_rle.specs.Faults.{item_fault}
 
 -- the item as the code keeps it: its count is at most 2^64 - 1

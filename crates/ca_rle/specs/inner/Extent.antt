@@ -7,7 +7,8 @@ use Rattle.ca_rle.specs.declared.item.Item.{Item}
 use Rattle.ca_rle.specs.declared.extent.Extent.{Extent}
 use Rattle.ca_rle.specs.declared.extent.Offset.{Offset}
 use Rattle.ca_rle.specs.Shown.{state_of, rows_of, columns_of, run_of}
-use Rattle.ca_rle.specs.Limits.{range, most_count, IsInRange}
+use Rattle.ca_rle.specs.Limits.{most_count}
+use Rattle.ca_plane.specs.Limits.{IsInRange, range}
 
 -- ---- what items show
 

@@ -10,7 +10,7 @@ use Rattle.ca_rle.specs.declared.front.lines.Preamble.{Preamble}
 use Rattle.ca_rle.specs.declared.front.Front.{Front}
 use Rattle.ca_rle.specs.Header.{Said, Says, IsXlifeLine}
 use Rattle.ca_rle.specs.File.{IsPreamble, IsHeaded, corner_of, generation_of}
-use Rattle.ca_rle.specs.Limits.{range}
+use Rattle.ca_plane.specs.Limits.{range}
 use Rattle.ca_rle.specs.Faults.{IsBadWord}
 use Rattle.ca_rle.specs.inner.BodyFaults.{KeepsCorner}
 

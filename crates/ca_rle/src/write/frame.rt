@@ -2,7 +2,7 @@
 
 ghost use Rattle.std.specs.Prelude.{◌≡◌, ◌≤ℤ◌, ◌+ℤ◌, pos};
 ghost use Rattle.std.specs.List.{All};
-ghost use Rattle.ca_rle.specs.Limits.{IsInRange};
+ghost use Rattle.ca_plane.specs.Limits.{IsInRange};
 ghost use Rattle.ca_rle.specs.Tidy.{IsFrame};
 
 use ca_plane::{Plane, Point};

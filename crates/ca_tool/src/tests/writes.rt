@@ -2,10 +2,9 @@
 
 ghost use Rattle.std.specs.Prelude.{◌<◌, IsTrue};
 ghost use Rattle.std.specs.List.{All};
-ghost use Rattle.ca_rle.specs.Header.{generation_limit};
+ghost use Rattle.ca_plane.specs.Limits.{IsInRange, generation_limit};
 ghost use Rattle.ca_plane.specs.Bytes.{IsWord};
 ghost use Rattle.ca_plane.specs.Sparse.{IsInPlane};
-ghost use Rattle.ca_rle.specs.Limits.{IsInRange};
 
 use super::devices::{Narrow, Refusal};
 use ca_plane::{Dev, Memory, Plane, Point, WriteFault};

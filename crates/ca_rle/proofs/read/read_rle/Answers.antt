@@ -1,4 +1,5 @@
-use Rattle.std.proofs.Common.{◌∙◌, ◌<◌, ◌^◌, sym, ap, subst, unwrap_or, codes}
+use Rattle.std.proofs.Common.{◌∙◌, ◌<◌, ◌^◌, sym, ap, subst, unwrap_or}
+use Rattle.ca_plane.specs.Limits.{default_rule}
 use Rattle.ca_plane.specs.Bytes.{IsWord}
 use Rattle.ca_rle.proofs.FileParts.{generation_is_low, rule_is_word}
 use Rattle.ca_rle.specs.declared.fault.RleFault.TheVariants.{Memory}
@@ -36,7 +37,7 @@ returns-clause-found c =
     let pattern : IsPatternOf (file_of front.0 front.1 body.0) (record { cells = c.in-Ok-read_body.cells; rule_text = c.in-Ok-rule_text.rule_text; generation = c.in-Ok.front.generation }) = record {
       cells = subst (λ p. IsSame c.in-Ok-read_body.cells (picture_of p body.0)) same body.3;
       states = subst (λ p. IsPicture (picture_of p body.0)) same body.4;
-      rule_text = c.in-Ok-rule_text.ensures ∙ ap (λ o. unwrap_or o (codes "B3/S23")) front.3;
+      rule_text = c.in-Ok-rule_text.ensures ∙ ap (λ o. unwrap_or o default_rule) front.3;
       generation = front.5;
     } in
     (file_of front.0 front.1 body.0, whole.0, whole.1, pattern)
@@ -53,4 +54,4 @@ returns-clause-rule c =
     let front = c.in-Ok.ensures.found in
     let body = c.in-Ok-read_body.ensures.found in
     let whole = whole_file _ front.0 front.1 _ _ body.0 front.2 front.4 body.1 body.2 in
-    subst IsWord (sym (c.in-Ok-rule_text.ensures ∙ ap (λ o. unwrap_or o (codes "B3/S23")) front.3)) (rule_is_word c.args.bytes.now (file_of front.0 front.1 body.0) whole.0)
+    subst IsWord (sym (c.in-Ok-rule_text.ensures ∙ ap (λ o. unwrap_or o default_rule) front.3)) (rule_is_word c.args.bytes.now (file_of front.0 front.1 body.0) whole.0)

@@ -5,7 +5,7 @@ use Rattle.std.proofs.lemmas.Bool.{false≢true}
 use Rattle.ca_plane.specs.Plane.{IsSame, shifted}
 use Rattle.ca_plane.specs.Sparse.{IsInPlane}
 use Rattle.ca_run.proofs.Vectors.{live-moved, same_shift}
-use Rattle.ca_rle.specs.Limits.{IsInRange}
+use Rattle.ca_plane.specs.Limits.{IsInRange}
 use Rattle.ca_claims.proofs.Ranges.{corner-All}
 use Rattle.ca_claims.proofs.decide.moves.vector_between.Goals as goal
 

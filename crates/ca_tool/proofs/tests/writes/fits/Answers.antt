@@ -2,7 +2,7 @@ use Rattle.std.proofs.Common.{◌<◌, ◌∙◌, sym, subst}
 use Rattle.std.specs.List.{All}
 use Rattle.ca_plane.specs.Plane.{Picture}
 use Rattle.ca_plane.proofs.Pictures.{cells_end}
-use Rattle.ca_rle.specs.Limits.{IsInRange}
+use Rattle.ca_plane.specs.Limits.{IsInRange}
 use Rattle.ca_tool.proofs.tests.writes.fits.Goals as goal
 
 -- at the end all cells have come

@@ -1,0 +1,30 @@
+-- A macrocell text that was read into a store of squares.
+use Rattle.std.specs.Prelude.{◌≡◌, ◌≢◌, ℕ, ℤ, List}
+use Rattle.ca_plane.specs.Plane.{IsPicture, cell}
+use Rattle.ca_plane.specs.Limits.{IsInRange}
+use Rattle.ca_quad.specs.declared.node.Node.{Node}
+use Rattle.ca_quad.specs.Trees as trees
+use Rattle.ca_quad.specs.Trimmed.{IsTrimmed}
+use Rattle.ca_macro.specs.declared.pattern.MacroPattern.{MacroPattern}
+use Rattle.ca_macro.specs.File.{File}
+use Rattle.ca_macro.specs.Shown.{picture_of}
+
+-- the pattern has the file's cells, rule text and generation; its tree has the least level, and the file's picture has states from 1
+-- to 255
+pub record IsPatternOf (nodes : List Node) (file : File) (pattern : MacroPattern) : Type 0 where
+  pub tree : trees.IsTree nodes pattern.tree
+  pub trimmed : IsTrimmed nodes pattern.tree
+  pub cells : (x y : ℤ) → trees.cell nodes pattern.tree x y ≡ cell (picture_of file.nodes) x y
+  pub states : IsPicture (picture_of file.nodes)
+  pub rule_text : pattern.rule_text.items ≡ file.rule_text
+  pub generation : pattern.generation ≡ file.generation
+
+-- every live cell is in range
+abbrev pub AreInRange : (ℤ → ℤ → ℕ) → Type 0
+AreInRange cells = (x y : ℤ) → cells x y ≢ 0 → IsInRange (record { y = y; x = x })
+
+-- the file means these cells, this rule text and this generation
+pub record Holds (file : File) (cells : ℤ → ℤ → ℕ) (rule_text : List ℕ) (generation : ℕ) : Type 0 where
+  pub shown : (x y : ℤ) → cell (picture_of file.nodes) x y ≡ cells x y
+  pub rule_is : file.rule_text ≡ rule_text
+  pub generation_is : file.generation ≡ generation

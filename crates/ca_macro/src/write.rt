@@ -1,0 +1,92 @@
+//! The writer of macrocell: one tidy text for a tree.
+
+ghost use Rattle.std.specs.Prelude.{◌≡◌, ◌<◌, ℤ, ℕ, List, IfOk, OnOk, IsErrOf};
+ghost use Rattle.std.specs.Io.KnownBytes.{Appends};
+ghost use Rattle.ca_plane.specs.Bytes.{IsWord};
+ghost use Rattle.ca_plane.specs.Device.{Rises, AppendsPrefix};
+ghost use Rattle.ca_plane.specs.Limits.{generation_limit};
+ghost use Rattle.ca_quad.specs.Sound.{Grows};
+ghost use Rattle.ca_quad.specs.Trees.{IsTree, cell};
+ghost use Rattle.ca_macro.specs.File.{File, IsFile};
+ghost use Rattle.ca_macro.specs.Limits.{IsWithinRange};
+ghost use Rattle.ca_macro.specs.Pattern.{AreInRange, Holds};
+ghost use Rattle.ca_macro.specs.Tidy.{IsTidy};
+
+use ca_plane::{Dev, Memory, WriteFault, send};
+use ca_quad::{Store, Tree};
+use std::alloc::Global;
+use std::io::Write;
+
+/// The one tidy text of a tree's cells, with their rule text, their generation count, and their rule's number of states.
+///
+/// The first line is `[M2] (cafile)`, the second `#R ` and the rule text, and where the generation isn't 0 the third is `#G ` and
+/// the generation. Then comes a line for each square but the empty ones, each square once, its parts before it, so that the
+/// root is last: of two states the 8 by 8 squares as leaves, of more the 2 by 2 ones as four states. The root has the least
+/// level that holds every live cell, at least 4 where there are two states, and else at least 1. The empty plane is
+/// `4 0 0 0 0` or `1 0 0 0 0`. Each line ends with LF.
+///
+/// # Errors
+///
+/// Fails where there is no memory for the text. The store is then as before or has more squares.
+pub fn write_macro(
+    alloc: Global,
+    store: &mut Store,
+    tree: Tree,
+    rule_text: &[u8],
+    generation: u64,
+    states: u16,
+) -> Result<Vec<u8>, Memory>
+    requires tree { IsTree store.old tree }
+    requires range { AreInRange (cell store.old tree) }
+    requires states { (x y : ℤ) → cell store.old tree x y < states }
+    requires rule { IsWord rule_text.now }
+    requires generation { generation < generation_limit }
+    ensures tidy { IfOk result (λ text. IsTidy text.items (cell store.old tree) rule_text.now generation states) }
+    // It means the cells, the rule text and the generation, and the reader takes it.
+    ensures means { IfOk result (λ text. (file : File) × IsFile text.items file × IsWithinRange file
+        × Holds file (cell store.old tree) rule_text.now generation) }
+    // Every old square stays.
+    ensures grows { Grows store.old store.new }
+{
+    let _ = (alloc, &store, tree, rule_text, generation, states);
+    Err(Memory)
+}
+
+/// Writes that text. The whole text is made before its first byte is written.
+///
+/// # Errors
+///
+/// `Memory` where there is no memory for the text: nothing was written. `Write` where a write failed: some first part
+/// of the text was written.
+pub fn write_macro_to<W: Write>(
+    alloc: Global,
+    store: &mut Store,
+    tree: Tree,
+    rule_text: &[u8],
+    generation: u64,
+    states: u16,
+    out: &mut Dev<W>,
+) -> Result<(), WriteFault>
+    requires tree { IsTree store.old tree }
+    requires range { AreInRange (cell store.old tree) }
+    requires states { (x y : ℤ) → cell store.old tree x y < states }
+    requires rule { IsWord rule_text.now }
+    requires generation { generation < generation_limit }
+    // The tidy text is written whole, and no failure is counted.
+    ensures all { OnOk result ((text : List ℕ) × IsTidy text (cell store.old tree) rule_text.now generation states
+        × Appends (W.contents out.old.inner) (W.contents out.new.inner) text) }
+    ensures kept { OnOk result (out.new.failures ≡ out.old.failures) }
+    // Without memory the device is as it was.
+    ensures memory { IsErrOf result WriteFault.Memory → out.new ≡ out.old }
+    // A write failed behind some first part of the tidy text.
+    ensures front { IsErrOf result WriteFault.Write → (text : List ℕ) × IsTidy text (cell store.old tree) rule_text.now generation states
+        × AppendsPrefix (W.contents out.old.inner) (W.contents out.new.inner) text }
+    ensures counted { IsErrOf result WriteFault.Write → Rises out.old.failures out.new.failures }
+    // Every old square stays.
+    ensures grows { Grows store.old store.new }
+{
+    let Ok(text) = write_macro(alloc, store, tree, rule_text, generation, states) else {
+        return Err(WriteFault::Memory);
+    };
+    send(out, &text)
+}
