@@ -3,7 +3,8 @@
 ghost use Rattle.std.specs.Prelude.{◌≡◌, ◌≢◌, ◌∷◌, map};
 ghost use Rattle.ca_rule.specs.TableOrders.{ring, orders};
 ghost use Rattle.ca_rule.specs.inner.TablePlaces.{places};
-ghost use Rattle.ca_rule.specs.declared.table.neighbourhood.Symmetry.TheVariants.{Permute};
+ghost use Rattle.ca_rule.specs.declared.table.neighbourhood.Neighbourhood.TheVariants.{VonNeumann, Moore, Hexagonal, OneDimensional};
+ghost use Rattle.ca_rule.specs.declared.table.neighbourhood.Symmetry.TheVariants.{Rotate8, Rotate8Reflect, Permute};
 
 use crate::table::neighbourhood::{Neighbourhood, Symmetry};
 
@@ -53,15 +54,27 @@ pub(crate) fn as_it_stands(neighbourhood: Neighbourhood) -> &'static [u8]
 fn placements(neighbourhood: Neighbourhood, symmetry: Symmetry) -> &'static [&'static [u8]]
     ensures { symmetry ≢ Permute → map (λ p. p.now) result.now ≡ map (places neighbourhood) (orders neighbourhood symmetry) }
 {
-    match (neighbourhood, symmetry) {
-        (Neighbourhood::VonNeumann, Symmetry::Identity) => &[&[4, 1, 5, 7, 3]],
-        (Neighbourhood::VonNeumann, Symmetry::Rotate4) => &[
+    match neighbourhood {
+        Neighbourhood::VonNeumann => placements_of_four(symmetry),
+        Neighbourhood::Moore => placements_of_eight(symmetry),
+        Neighbourhood::Hexagonal => placements_of_six(symmetry),
+        Neighbourhood::OneDimensional => placements_of_two(symmetry),
+    }
+}
+
+/// Those round a ring of four.
+fn placements_of_four(symmetry: Symmetry) -> &'static [&'static [u8]]
+    ensures { symmetry ≢ Permute → map (λ p. p.now) result.now ≡ map (places VonNeumann) (orders VonNeumann symmetry) }
+{
+    match symmetry {
+        Symmetry::Identity => &[&[4, 1, 5, 7, 3]],
+        Symmetry::Rotate4 => &[
             &[4, 1, 5, 7, 3],
             &[4, 5, 7, 3, 1],
             &[4, 7, 3, 1, 5],
             &[4, 3, 1, 5, 7],
         ],
-        (Neighbourhood::VonNeumann, Symmetry::Rotate4Reflect) => &[
+        Symmetry::Rotate4Reflect => &[
             &[4, 1, 5, 7, 3],
             &[4, 1, 3, 7, 5],
             &[4, 5, 1, 3, 7],
@@ -71,18 +84,24 @@ fn placements(neighbourhood: Neighbourhood, symmetry: Symmetry) -> &'static [&'s
             &[4, 3, 1, 5, 7],
             &[4, 3, 7, 5, 1],
         ],
-        (Neighbourhood::VonNeumann, Symmetry::ReflectHorizontal) => &[
-            &[4, 1, 5, 7, 3],
-            &[4, 1, 3, 7, 5],
-        ],
-        (Neighbourhood::Moore, Symmetry::Identity) => &[&[4, 1, 2, 5, 8, 7, 6, 3, 0]],
-        (Neighbourhood::Moore, Symmetry::Rotate4) => &[
+        Symmetry::ReflectHorizontal => &[&[4, 1, 5, 7, 3], &[4, 1, 3, 7, 5]],
+        _ => &[],
+    }
+}
+
+/// Those round a ring of eight.
+fn placements_of_eight(symmetry: Symmetry) -> &'static [&'static [u8]]
+    ensures { symmetry ≢ Permute → map (λ p. p.now) result.now ≡ map (places Moore) (orders Moore symmetry) }
+{
+    match symmetry {
+        Symmetry::Identity => &[&[4, 1, 2, 5, 8, 7, 6, 3, 0]],
+        Symmetry::Rotate4 => &[
             &[4, 1, 2, 5, 8, 7, 6, 3, 0],
             &[4, 5, 8, 7, 6, 3, 0, 1, 2],
             &[4, 7, 6, 3, 0, 1, 2, 5, 8],
             &[4, 3, 0, 1, 2, 5, 8, 7, 6],
         ],
-        (Neighbourhood::Moore, Symmetry::Rotate4Reflect) => &[
+        Symmetry::Rotate4Reflect => &[
             &[4, 1, 2, 5, 8, 7, 6, 3, 0],
             &[4, 1, 0, 3, 6, 7, 8, 5, 2],
             &[4, 5, 2, 1, 0, 3, 6, 7, 8],
@@ -92,49 +111,69 @@ fn placements(neighbourhood: Neighbourhood, symmetry: Symmetry) -> &'static [&'s
             &[4, 3, 6, 7, 8, 5, 2, 1, 0],
             &[4, 3, 0, 1, 2, 5, 8, 7, 6],
         ],
-        (Neighbourhood::Moore, Symmetry::ReflectHorizontal) => &[
+        Symmetry::ReflectHorizontal => &[
             &[4, 1, 2, 5, 8, 7, 6, 3, 0],
             &[4, 1, 0, 3, 6, 7, 8, 5, 2],
         ],
-        (Neighbourhood::Moore, Symmetry::Rotate8) => &[
-            &[4, 1, 2, 5, 8, 7, 6, 3, 0],
-            &[4, 2, 5, 8, 7, 6, 3, 0, 1],
-            &[4, 5, 8, 7, 6, 3, 0, 1, 2],
-            &[4, 8, 7, 6, 3, 0, 1, 2, 5],
-            &[4, 7, 6, 3, 0, 1, 2, 5, 8],
-            &[4, 6, 3, 0, 1, 2, 5, 8, 7],
-            &[4, 3, 0, 1, 2, 5, 8, 7, 6],
-            &[4, 0, 1, 2, 5, 8, 7, 6, 3],
-        ],
-        (Neighbourhood::Moore, Symmetry::Rotate8Reflect) => &[
-            &[4, 1, 2, 5, 8, 7, 6, 3, 0],
-            &[4, 1, 0, 3, 6, 7, 8, 5, 2],
-            &[4, 2, 1, 0, 3, 6, 7, 8, 5],
-            &[4, 2, 5, 8, 7, 6, 3, 0, 1],
-            &[4, 5, 2, 1, 0, 3, 6, 7, 8],
-            &[4, 5, 8, 7, 6, 3, 0, 1, 2],
-            &[4, 8, 5, 2, 1, 0, 3, 6, 7],
-            &[4, 8, 7, 6, 3, 0, 1, 2, 5],
-            &[4, 7, 8, 5, 2, 1, 0, 3, 6],
-            &[4, 7, 6, 3, 0, 1, 2, 5, 8],
-            &[4, 6, 7, 8, 5, 2, 1, 0, 3],
-            &[4, 6, 3, 0, 1, 2, 5, 8, 7],
-            &[4, 3, 6, 7, 8, 5, 2, 1, 0],
-            &[4, 3, 0, 1, 2, 5, 8, 7, 6],
-            &[4, 0, 1, 2, 5, 8, 7, 6, 3],
-            &[4, 0, 3, 6, 7, 8, 5, 2, 1],
-        ],
-        (Neighbourhood::Hexagonal, Symmetry::Identity) => &[&[4, 1, 5, 8, 7, 3, 0]],
-        (Neighbourhood::Hexagonal, Symmetry::Rotate2) => &[
-            &[4, 1, 5, 8, 7, 3, 0],
-            &[4, 7, 3, 0, 1, 5, 8],
-        ],
-        (Neighbourhood::Hexagonal, Symmetry::Rotate3) => &[
+        Symmetry::Rotate8 => by_eighths(),
+        Symmetry::Rotate8Reflect => by_eighths_and_mirrored(),
+        _ => &[],
+    }
+}
+
+/// Those round a ring of eight that is turned by eighths.
+fn by_eighths() -> &'static [&'static [u8]]
+    ensures { map (λ p. p.now) result.now ≡ map (places Moore) (orders Moore Rotate8) }
+{
+    &[
+        &[4, 1, 2, 5, 8, 7, 6, 3, 0],
+        &[4, 2, 5, 8, 7, 6, 3, 0, 1],
+        &[4, 5, 8, 7, 6, 3, 0, 1, 2],
+        &[4, 8, 7, 6, 3, 0, 1, 2, 5],
+        &[4, 7, 6, 3, 0, 1, 2, 5, 8],
+        &[4, 6, 3, 0, 1, 2, 5, 8, 7],
+        &[4, 3, 0, 1, 2, 5, 8, 7, 6],
+        &[4, 0, 1, 2, 5, 8, 7, 6, 3],
+    ]
+}
+
+/// Those round a ring of eight that is turned by eighths, and mirrored.
+fn by_eighths_and_mirrored() -> &'static [&'static [u8]]
+    ensures { map (λ p. p.now) result.now ≡ map (places Moore) (orders Moore Rotate8Reflect) }
+{
+    &[
+        &[4, 1, 2, 5, 8, 7, 6, 3, 0],
+        &[4, 1, 0, 3, 6, 7, 8, 5, 2],
+        &[4, 2, 1, 0, 3, 6, 7, 8, 5],
+        &[4, 2, 5, 8, 7, 6, 3, 0, 1],
+        &[4, 5, 2, 1, 0, 3, 6, 7, 8],
+        &[4, 5, 8, 7, 6, 3, 0, 1, 2],
+        &[4, 8, 5, 2, 1, 0, 3, 6, 7],
+        &[4, 8, 7, 6, 3, 0, 1, 2, 5],
+        &[4, 7, 8, 5, 2, 1, 0, 3, 6],
+        &[4, 7, 6, 3, 0, 1, 2, 5, 8],
+        &[4, 6, 7, 8, 5, 2, 1, 0, 3],
+        &[4, 6, 3, 0, 1, 2, 5, 8, 7],
+        &[4, 3, 6, 7, 8, 5, 2, 1, 0],
+        &[4, 3, 0, 1, 2, 5, 8, 7, 6],
+        &[4, 0, 1, 2, 5, 8, 7, 6, 3],
+        &[4, 0, 3, 6, 7, 8, 5, 2, 1],
+    ]
+}
+
+/// Those round a ring of six.
+fn placements_of_six(symmetry: Symmetry) -> &'static [&'static [u8]]
+    ensures { symmetry ≢ Permute → map (λ p. p.now) result.now ≡ map (places Hexagonal) (orders Hexagonal symmetry) }
+{
+    match symmetry {
+        Symmetry::Identity => &[&[4, 1, 5, 8, 7, 3, 0]],
+        Symmetry::Rotate2 => &[&[4, 1, 5, 8, 7, 3, 0], &[4, 7, 3, 0, 1, 5, 8]],
+        Symmetry::Rotate3 => &[
             &[4, 1, 5, 8, 7, 3, 0],
             &[4, 8, 7, 3, 0, 1, 5],
             &[4, 3, 0, 1, 5, 8, 7],
         ],
-        (Neighbourhood::Hexagonal, Symmetry::Rotate6) => &[
+        Symmetry::Rotate6 => &[
             &[4, 1, 5, 8, 7, 3, 0],
             &[4, 5, 8, 7, 3, 0, 1],
             &[4, 8, 7, 3, 0, 1, 5],
@@ -142,7 +181,7 @@ fn placements(neighbourhood: Neighbourhood, symmetry: Symmetry) -> &'static [&'s
             &[4, 3, 0, 1, 5, 8, 7],
             &[4, 0, 1, 5, 8, 7, 3],
         ],
-        (Neighbourhood::Hexagonal, Symmetry::Rotate6Reflect) => &[
+        Symmetry::Rotate6Reflect => &[
             &[4, 1, 5, 8, 7, 3, 0],
             &[4, 1, 0, 3, 7, 8, 5],
             &[4, 5, 1, 0, 3, 7, 8],
@@ -156,8 +195,17 @@ fn placements(neighbourhood: Neighbourhood, symmetry: Symmetry) -> &'static [&'s
             &[4, 0, 1, 5, 8, 7, 3],
             &[4, 0, 3, 7, 8, 5, 1],
         ],
-        (Neighbourhood::OneDimensional, Symmetry::Identity) => &[&[4, 3, 5]],
-        (Neighbourhood::OneDimensional, Symmetry::Reflect) => &[&[4, 3, 5], &[4, 5, 3]],
+        _ => &[],
+    }
+}
+
+/// Those of two cells.
+fn placements_of_two(symmetry: Symmetry) -> &'static [&'static [u8]]
+    ensures { symmetry ≢ Permute → map (λ p. p.now) result.now ≡ map (places OneDimensional) (orders OneDimensional symmetry) }
+{
+    match symmetry {
+        Symmetry::Identity => &[&[4, 3, 5]],
+        Symmetry::Reflect => &[&[4, 3, 5], &[4, 5, 3]],
         _ => &[],
     }
 }
