@@ -23,7 +23,7 @@ pub fn rule_or_fault()
     ensures one_fault { (text : List ℕ) (f g : RuleFault) → IsFaultOf text f → IsFaultOf text g → f ≡ g }
 {}
 
-/// Some texts and cells by name.
+/// Some texts that name rules, and printed rules.
 pub fn worked_examples()
     ensures life_is_spelled { Spells (codes "B3/S23") (codes "3") (codes "23") Moore }
     ensures life_is_spelled_survival_first { Spells (codes "S32/B33") (codes "33") (codes "32") Moore }
@@ -36,15 +36,10 @@ pub fn worked_examples()
     ensures life_is_printed { printed Moore (counts_of (codes "33")) (counts_of (codes "32")) ≡ codes "B3/S23" }
     ensures four_neighbours_are_printed { printed VonNeumann (counts_of (codes "1")) (counts_of []) ≡ codes "B1/SV" }
     ensures six_neighbours_are_printed { printed Hex (counts_of (codes "6")) (counts_of (codes "6")) ≡ codes "B6/S6H" }
-    ensures two_is_a_count { is_count (counts_of (codes "23")) 2 ≡ true }
-    ensures nine_is_no_count { is_count (counts_of (codes "012345678")) 9 ≡ false }
-    ensures centre_of_a_blinker_survives { next_of Moore (counts_of (codes "3")) (counts_of (codes "23")) (0 ∷ 0 ∷ 0 ∷ 1 ∷ 1 ∷ 1 ∷ 0 ∷ 0 ∷ 0 ∷ []) ≡ 1 }
-    ensures north_of_a_blinker_is_born { next_of Moore (counts_of (codes "3")) (counts_of (codes "23")) (0 ∷ 0 ∷ 0 ∷ 0 ∷ 0 ∷ 0 ∷ 1 ∷ 1 ∷ 1 ∷ []) ≡ 1 }
-    ensures four_neighbours_are_too_many { next_of Moore (counts_of (codes "3")) (counts_of (codes "23")) (1 ∷ 0 ∷ 1 ∷ 0 ∷ 1 ∷ 0 ∷ 1 ∷ 0 ∷ 1 ∷ []) ≡ 0 }
-    ensures north_west_is_not_among_four { next_of VonNeumann (counts_of (codes "1")) (counts_of []) (1 ∷ 0 ∷ 0 ∷ 0 ∷ 0 ∷ 0 ∷ 0 ∷ 0 ∷ 0 ∷ []) ≡ 0 }
-    ensures north_is_among_four { next_of VonNeumann (counts_of (codes "1")) (counts_of []) (0 ∷ 1 ∷ 0 ∷ 0 ∷ 0 ∷ 0 ∷ 0 ∷ 0 ∷ 0 ∷ []) ≡ 1 }
-    ensures north_east_is_not_among_six { next_of Hex (counts_of (codes "1")) (counts_of []) (0 ∷ 0 ∷ 1 ∷ 0 ∷ 0 ∷ 0 ∷ 0 ∷ 0 ∷ 0 ∷ []) ≡ 0 }
-    ensures north_west_is_among_six { next_of Hex (counts_of (codes "1")) (counts_of []) (1 ∷ 0 ∷ 0 ∷ 0 ∷ 0 ∷ 0 ∷ 0 ∷ 0 ∷ 0 ∷ []) ≡ 1 }
+{}
+
+/// Some texts that name no rule.
+pub fn worked_faults()
     ensures birth_on_none_wakes { IsFaultOf (codes "b03s23") Wakes }
     ensures birth_on_none_wakes_without_letters { IsFaultOf (codes "/0") Wakes }
     ensures torus_is_bounded { IsFaultOf (codes "B3/S23:T30,20") Bounded }
@@ -55,6 +50,19 @@ pub fn worked_examples()
     ensures five_of_four_neighbours_are_unknown { IsFaultOf (codes "B5/SV") Unknown }
     ensures seven_of_six_neighbours_are_unknown { IsFaultOf (codes "B7/SH") Unknown }
     ensures unknown_even_with_birth_on_none { IsFaultOf (codes "B08/S9") Unknown }
+{}
+
+/// Some counts, and some cells under B/S rules.
+pub fn worked_next_cells()
+    ensures two_is_a_count { is_count (counts_of (codes "23")) 2 ≡ true }
+    ensures nine_is_no_count { is_count (counts_of (codes "012345678")) 9 ≡ false }
+    ensures centre_of_a_blinker_survives { next_of Moore (counts_of (codes "3")) (counts_of (codes "23")) (0 ∷ 0 ∷ 0 ∷ 1 ∷ 1 ∷ 1 ∷ 0 ∷ 0 ∷ 0 ∷ []) ≡ 1 }
+    ensures north_of_a_blinker_is_born { next_of Moore (counts_of (codes "3")) (counts_of (codes "23")) (0 ∷ 0 ∷ 0 ∷ 0 ∷ 0 ∷ 0 ∷ 1 ∷ 1 ∷ 1 ∷ []) ≡ 1 }
+    ensures four_neighbours_are_too_many { next_of Moore (counts_of (codes "3")) (counts_of (codes "23")) (1 ∷ 0 ∷ 1 ∷ 0 ∷ 1 ∷ 0 ∷ 1 ∷ 0 ∷ 1 ∷ []) ≡ 0 }
+    ensures north_west_is_not_among_four { next_of VonNeumann (counts_of (codes "1")) (counts_of []) (1 ∷ 0 ∷ 0 ∷ 0 ∷ 0 ∷ 0 ∷ 0 ∷ 0 ∷ 0 ∷ []) ≡ 0 }
+    ensures north_is_among_four { next_of VonNeumann (counts_of (codes "1")) (counts_of []) (0 ∷ 1 ∷ 0 ∷ 0 ∷ 0 ∷ 0 ∷ 0 ∷ 0 ∷ 0 ∷ []) ≡ 1 }
+    ensures north_east_is_not_among_six { next_of Hex (counts_of (codes "1")) (counts_of []) (0 ∷ 0 ∷ 1 ∷ 0 ∷ 0 ∷ 0 ∷ 0 ∷ 0 ∷ 0 ∷ []) ≡ 0 }
+    ensures north_west_is_among_six { next_of Hex (counts_of (codes "1")) (counts_of []) (1 ∷ 0 ∷ 0 ∷ 0 ∷ 0 ∷ 0 ∷ 0 ∷ 0 ∷ 0 ∷ []) ≡ 1 }
 {}
 
 /// The printed form of a rule names that rule.

@@ -15,7 +15,9 @@ pub use bs_rule::BsRule;
 pub use counts::Counts;
 pub use fault::RuleFault;
 pub use hood::Hood;
-pub use laws::{alike, names_itself, one_rule, rule_or_fault, worked_examples};
+pub use laws::{
+    alike, names_itself, one_rule, rule_or_fault, worked_examples, worked_faults, worked_next_cells,
+};
 pub use rule::{Rule, resolve};
 pub use rule_laws::{named_rules, same_rules, worked_names};
 pub use table::{
