@@ -8,6 +8,7 @@ pub mod Lines
 pub mod Numbers
 pub mod Pictures
 pub mod Places
+pub mod Populations
 pub mod Same
 pub mod Sends
 pub mod Shifts

@@ -9,6 +9,7 @@ mod faulty;
 mod memory;
 mod plane;
 mod point;
+pub mod population_laws;
 mod sending;
 pub mod text;
 

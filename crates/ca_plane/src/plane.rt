@@ -5,6 +5,7 @@ ghost use Rattle.std.specs.Iterator.{YieldsFirst, item_count};
 ghost use Rattle.ca_plane.specs.Plane.{cell, IsSame, IsLive};
 ghost use Rattle.ca_plane.specs.Box.{IsLeastBox};
 ghost use Rattle.ca_plane.specs.Change.{Sets, DifferAt};
+ghost use Rattle.ca_plane.specs.Population.{HasPopulation};
 ghost use Rattle.ca_plane.specs.Sparse.{IsInPlane, IsSparse};
 ghost use Rattle.ca_plane.specs.inner.Places.{ComeBefore, IsAt, IsGap};
 
@@ -137,6 +138,7 @@ impl Plane {
     /// How many cells aren't 0.
     pub fn len(&self) -> usize
         ensures count { result ≡ length self.now }
+        ensures population { HasPopulation (cell self.now) result }
         ensures sparse { IsSparse self.now }
     {
         self.cells.len()
