@@ -83,7 +83,7 @@ square_ends : (part : ℕ → ℕ → ℕ → ℕ) (side : ℕ) → 1 ≤ side �
 square_ends part side h ends (Four nw ne sw se) = together_ends side (dot nw) (dot ne) (dot sw) (dot se) (dot_ends nw side h) (dot_ends ne side h) (dot_ends sw side h) (dot_ends se side h)
 square_ends part side h ends (Parts k nw ne sw se) = together_ends side (part nw) (part ne) (part sw) (part se) (ends nw) (ends ne) (ends sw) (ends se)
 
-one_up : (k : ℕ) → 1 ≤ 2 ^ k
+pub one_up : (k : ℕ) → 1 ≤ 2 ^ k
 one_up zero = omega arith
 one_up (suc k) = omega (arith, one_up k, two-pow-succ k)
 

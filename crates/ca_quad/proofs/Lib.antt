@@ -7,6 +7,7 @@ pub mod Walks
 pub mod Edges
 pub mod Windows
 pub mod Population
+pub mod Listed
 pub mod Extents
 pub mod Boxes
 pub mod Reach

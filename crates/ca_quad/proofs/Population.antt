@@ -6,16 +6,16 @@ use Rattle.ca_quad.specs.declared.node.Node.{Node}
 use Rattle.ca_quad.specs.declared.square.Square.TheVariants.{Parts}
 use Rattle.ca_quad.specs.Squares.{square_of, level, IsOf, together, cell_of}
 use Rattle.ca_quad.specs.Sound.{HasParts}
-use Rattle.ca_quad.specs.Population.{sum_below, live, population}
+use Rattle.ca_quad.specs.inner.Population.{sum_below, live, population}
 use Rattle.ca_quad.specs.inner.Found.{found_for, IsCountOf}
 use Rattle.ca_quad.proofs.Cells.{at_nw, at_ne, at_sw, at_se}
 use Rattle.ca_quad.proofs.Walks.{parts_show}
 
-sum_split : (m n : ℕ) (term : ℕ → ℕ) → sum_below (m + n) term ≡ sum_below m term + sum_below n (λ i. term (m + i))
+pub sum_split : (m n : ℕ) (term : ℕ → ℕ) → sum_below (m + n) term ≡ sum_below m term + sum_below n (λ i. term (m + i))
 sum_split m zero term = let e : m + zero ≡ m = omega arith in rw e (omega arith)
 sum_split m (suc n) term = let e : m + suc n ≡ suc (m + n) = omega arith in rw e (omega (arith, sum_split m n term))
 
-sum_same : (n : ℕ) (f g : ℕ → ℕ) → ((i : ℕ) → i < n → f i ≡ g i) → sum_below n f ≡ sum_below n g
+pub sum_same : (n : ℕ) (f g : ℕ → ℕ) → ((i : ℕ) → i < n → f i ≡ g i) → sum_below n f ≡ sum_below n g
 sum_same zero f g same = refl
 sum_same (suc n) f g same = omega (arith, sum_same n f g (λ i h. same i (omega arith)), same n (omega arith))
 

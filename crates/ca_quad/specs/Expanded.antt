@@ -1,15 +1,14 @@
 -- Trees that are made planes, and why one is refused (the limits are our own).
-use Rattle.std.specs.Prelude.{◌≡◌, ◌≢◌, ℕ, ◌<◌, ◌≤◌, ℤ, List}
+use Rattle.std.specs.Prelude.{◌≡◌, ◌≢◌, ℕ, ℤ, List}
 use Rattle.ca_plane.specs.Plane.{Picture}
 use Rattle.ca_plane.specs.Plane as plane
 use Rattle.ca_plane.specs.Sparse.{IsInPlane}
-use Rattle.ca_plane.specs.Limits.{most_cells}
+use Rattle.ca_plane.specs.Population.{HasFewCells, HasTooManyCells}
 use Rattle.ca_quad.specs.declared.fault.QuadFault.{QuadFault}
 use Rattle.ca_quad.specs.declared.fault.QuadFault.TheVariants.{Memory, TooManyCells, Range}
 use Rattle.ca_quad.specs.declared.node.Node.{Node}
 use Rattle.ca_quad.specs.declared.tree.Tree.{Tree}
 use Rattle.ca_quad.specs.Trees.{cell}
-use Rattle.ca_quad.specs.Population.{live_cells}
 
 -- every live cell lies in the square of a plane
 abbrev pub FitsPlane : (ℤ → ℤ → ℕ) → Type 0
@@ -22,10 +21,10 @@ LeavesPlane cells = (x : ℤ) × (y : ℤ) × (cells x y ≢ 0) × (IsInPlane (r
 -- a picture shows the cells of a tree, which aren't too many
 pub record IsExpanded (nodes : List Node) (tree : Tree) (picture : Picture) : Type 0 where
   pub shows : (x y : ℤ) → plane.cell picture x y ≡ cell nodes tree x y
-  pub few : live_cells nodes tree ≤ most_cells
+  pub few : HasFewCells (cell nodes tree)
 
 -- why a tree isn't made a plane; want of memory may come at any time
 abbrev pub IsRefused : List Node → Tree → QuadFault → Type 0
 IsRefused nodes tree Memory = Unit {0}
 IsRefused nodes tree Range = LeavesPlane (cell nodes tree)
-IsRefused nodes tree TooManyCells = FitsPlane (cell nodes tree) × (most_cells < live_cells nodes tree)
+IsRefused nodes tree TooManyCells = FitsPlane (cell nodes tree) × HasTooManyCells (cell nodes tree)

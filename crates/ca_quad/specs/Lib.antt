@@ -1,7 +1,6 @@
 pub mod Squares
 pub mod Sound
 pub mod Trees
-pub mod Population
 pub mod Boxes
 pub mod Expanded
 pub mod Trimmed

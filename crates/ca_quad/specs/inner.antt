@@ -2,6 +2,7 @@
 pub mod Whole
 pub mod Named
 pub mod Window
+pub mod Population
 pub mod Found
 pub mod Extent
 pub mod Drawn

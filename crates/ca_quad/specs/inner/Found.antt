@@ -3,7 +3,7 @@ use Rattle.std.specs.Prelude.{◌≡◌, ℕ, ◌-◌, ◌^◌, ◌==◌, min, L
 use Rattle.std.specs.Map.{lookup}
 use Rattle.ca_quad.specs.declared.node.Node.{Node}
 use Rattle.ca_quad.specs.Squares.{IsOf, cell_of}
-use Rattle.ca_quad.specs.Population.{population}
+use Rattle.ca_quad.specs.inner.Population.{population}
 
 -- what was found for a square, if anything
 abbrev pub found_for : {V : Type 0} → List (ℕ × V) → ℕ → Option V

@@ -1,4 +1,4 @@
--- How many cells are live, that is, aren't 0.
+-- How many cells are live, as a sum over the square.
 use Rattle.std.specs.Prelude.{ℕ, zero, suc, ◌+◌, ◌^◌, ◌==◌, if◌then◌else◌, List}
 use Rattle.ca_quad.specs.declared.node.Node.{Node}
 use Rattle.ca_quad.specs.declared.tree.Tree.{Tree}

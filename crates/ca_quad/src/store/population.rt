@@ -1,8 +1,9 @@
 //! How many cells are live.
 
 ghost use Rattle.std.specs.Prelude.{◌≡◌, ◌+◌, ◌-◌, ◌≤◌, ◌^◌, min, IfOk, OnOk};
-ghost use Rattle.ca_quad.specs.Trees.{IsIn, IsTree};
-ghost use Rattle.ca_quad.specs.Population.{live, live_cells};
+ghost use Rattle.ca_plane.specs.Population.{HasPopulation};
+ghost use Rattle.ca_quad.specs.Trees.{IsIn, IsTree, cell};
+ghost use Rattle.ca_quad.specs.inner.Population.{live};
 ghost use Rattle.ca_quad.specs.inner.Found.{IsCountOf, AreCounts};
 
 use super::Store;
@@ -24,7 +25,7 @@ impl Store {
     pub fn population(&self, alloc: Global, tree: Tree) -> Result<u128, Memory>
         requires tree { IsTree self.now tree }
         requires level { tree.level ≤ 63 }
-        ensures { IfOk result (λ n. n ≡ live_cells self.now tree) }
+        ensures { IfOk result (HasPopulation (cell self.now tree)) }
     {
         self.live_cells(tree.root, &mut Found::new(alloc))
     }

@@ -4,9 +4,8 @@ ghost use Rattle.std.specs.Prelude.{◌≡◌, ◌≤◌, ◌^◌, ◌⊎◌, po
 ghost use Rattle.ca_plane.specs.Sparse.{IsInPlane, IsSparse, reach};
 ghost use Rattle.ca_quad.specs.Squares.{dot};
 ghost use Rattle.ca_quad.specs.Trees.{IsIn, IsTree, cell};
-ghost use Rattle.ca_quad.specs.Population.{live_cells};
 ghost use Rattle.ca_quad.specs.Expanded.{FitsPlane, IsExpanded, IsRefused};
-ghost use Rattle.ca_plane.specs.Limits.{most_cells};
+ghost use Rattle.ca_plane.specs.Population.{HasFewCells};
 ghost use Rattle.ca_quad.specs.inner.Drawn.{cells_of, side_of, placed, IsNear, CanDraw, AreDrawn, Draws, ArePartCorners};
 
 use super::Store;
@@ -59,7 +58,7 @@ impl Store {
     fn check_limits(&self, alloc: Global, tree: Tree) -> Result<(), QuadFault>
         requires { IsTree self.now tree }
         ensures fits { OnOk result (FitsPlane (cell self.now tree)) }
-        ensures few { OnOk result (live_cells self.now tree ≤ most_cells) }
+        ensures few { OnOk result (HasFewCells (cell self.now tree)) }
         ensures fault { IfErr result (IsRefused self.now tree) }
     {
         self.check_reach(alloc, tree)?;

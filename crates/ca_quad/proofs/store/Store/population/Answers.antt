@@ -1,5 +1,5 @@
-use Rattle.ca_quad.proofs.Population.{count_exact}
+use Rattle.ca_quad.proofs.Listed.{counts_all}
 use Rattle.ca_quad.proofs.store.Store.population.Goals as goal
 
 pub returns : goal.returns
-returns c = count_exact c.args.self.now c.live_cells.result c.args.tree.root c.args.tree.level c.requires.tree c.requires.level c.live_cells.ensures.count
+returns c = counts_all c.args.self.now c.args.tree c.requires.tree c.live_cells.result c.requires.level c.live_cells.ensures.count
