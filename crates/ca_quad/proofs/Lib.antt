@@ -8,6 +8,7 @@ pub mod Edges
 pub mod Windows
 pub mod Population
 pub mod Listed
+pub mod Greatest
 pub mod Extents
 pub mod Boxes
 pub mod Reach

@@ -4,6 +4,7 @@ pub mod Named
 pub mod Window
 pub mod Population
 pub mod Found
+pub mod Greatest
 pub mod Extent
 pub mod Drawn
 pub mod Difference

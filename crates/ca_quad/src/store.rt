@@ -12,6 +12,7 @@ mod difference;
 mod extent;
 mod found;
 mod from_plane;
+mod greatest;
 mod make;
 mod population;
 mod read;

@@ -1,0 +1,113 @@
+-- The greatest state of four squares that lie together is the greatest of theirs.
+use Rattle.std.proofs.Common.{◌≡◌, ◌≢◌, ℕ, ◌+◌, ◌-◌, ◌<◌, ◌≤◌, ◌^◌, ◌⊎◌, inl, inr, max, ◌==◌, ◌&&◌, List, length, nat_lt, ℤ, pos, negsuc, ◌+ℤ◌, ◌-ℤ◌, Result, Ok, Err, IfOk, refl, sym, ◌∙◌, arith}
+use Rattle.std.proofs.lemmas.Bool.{cases_Bool}
+use Rattle.std.proofs.lemmas.Int.{ints}
+use Rattle.ca_quad.specs.declared.node.Node.{Node}
+use Rattle.ca_quad.specs.declared.square.Square.TheVariants.{Four, Parts}
+use Rattle.ca_quad.specs.declared.tree.Tree.{Tree}
+use Rattle.ca_quad.specs.Squares.{square_of, dot, together, cell_of}
+use Rattle.ca_quad.specs.Sound.{HasParts}
+use Rattle.ca_quad.specs.Trees.{from_corner, IsTree, cell}
+use Rattle.ca_quad.specs.inner.Greatest.{IsGreatest, IsGreatestOf}
+use Rattle.ca_quad.proofs.Cells.{at_nw, at_ne, at_sw, at_se, Ends, cell_ends, dot_ends}
+use Rattle.ca_quad.proofs.Growth.{below_or_not}
+use Rattle.ca_quad.proofs.Walks.{four_show, parts_show}
+
+-- a live cell lies within the side
+pub live_within : (side : ℕ) (cells : ℕ → ℕ → ℕ) → Ends side cells → (x y : ℕ) → cells x y ≢ 0 → (x < side) × (y < side)
+live_within side cells ends x y live = (
+  elim (below_or_not x side) [ inl h ↦ h | inr h ↦ absurd (live (ends x y (inl h))) ],
+  elim (below_or_not y side) [ inl h ↦ h | inr h ↦ absurd (live (ends x y (inr h))) ],
+)
+
+-- the greatest of four is one of them
+one_of_max : (a b c d m : ℕ) → m ≡ max (max a b) (max c d) → (m ≡ a) ⊎ ((m ≡ b) ⊎ ((m ≡ c) ⊎ (m ≡ d)))
+one_of_max a b c d m e =
+    elim (below_or_not a m) [
+      | inr h ↦ inl (omega arith)
+      | inl h ↦ elim (below_or_not b m) [
+        | inr i ↦ inr (inl (omega arith))
+        | inl i ↦ elim (below_or_not c m) [ inr j ↦ inr (inr (inl (omega arith))) | inl j ↦ inr (inr (inr (omega arith))) ]
+      ]
+    ]
+
+module _ (side : ℕ) (nw ne sw se : ℕ → ℕ → ℕ) (a b c d : ℕ) (is_nw : IsGreatest nw a) (is_ne : IsGreatest ne b) (is_sw : IsGreatest sw c) (is_se : IsGreatest se d) where
+  no_more : (m : ℕ) → m ≡ max (max a b) (max c d) → (x y : ℕ) → together side nw ne sw se x y ≤ m
+  no_more m e x y =
+      elim (cases_Bool (nat_lt y side)) [
+        | inl f ↦ elim (cases_Bool (nat_lt x side)) [ inl g ↦ rw (f, g) (omega (arith, e, is_nw.most x y)) | inr g ↦ rw (f, g) (omega (arith, e, is_ne.most (x - side) y)) ]
+        | inr f ↦ elim (cases_Bool (nat_lt x side)) [
+          | inl g ↦ rw (f, g) (omega (arith, e, is_sw.most x (y - side)))
+          | inr g ↦ rw (f, g) (omega (arith, e, is_se.most (x - side) (y - side)))
+        ]
+      ]
+
+  module _ (end_nw : Ends side nw) (end_ne : Ends side ne) (end_sw : Ends side sw) where
+    some_has : (m : ℕ) → m ≢ 0 → (m ≡ a) ⊎ ((m ≡ b) ⊎ ((m ≡ c) ⊎ (m ≡ d))) → (x : ℕ) × (y : ℕ) × (together side nw ne sw se x y ≡ m)
+    some_has m live (inl e) =
+        let (x, y, is) = is_nw.shown (λ z. live (e ∙ z)) in
+        let (i, j) = live_within side nw end_nw x y (λ z. live (e ∙ (sym is ∙ z))) in
+        (x, y, at_nw side nw ne sw se x y i j ∙ (is ∙ sym e))
+    some_has m live (inr (inl e)) =
+        let (x, y, is) = is_ne.shown (λ z. live (e ∙ z)) in
+        let (i, j) = live_within side ne end_ne x y (λ z. live (e ∙ (sym is ∙ z))) in
+        (side + x, y, at_ne side nw ne sw se x y j ∙ (is ∙ sym e))
+    some_has m live (inr (inr (inl e))) =
+        let (x, y, is) = is_sw.shown (λ z. live (e ∙ z)) in
+        let (i, j) = live_within side sw end_sw x y (λ z. live (e ∙ (sym is ∙ z))) in
+        (x, side + y, at_sw side nw ne sw se x y i ∙ (is ∙ sym e))
+    some_has m live (inr (inr (inr e))) =
+        let (x, y, is) = is_se.shown (λ z. live (e ∙ z)) in
+        (side + x, side + y, at_se side nw ne sw se x y ∙ (is ∙ sym e))
+
+    -- of the four together
+    pub greatest_together : (m : ℕ) → m ≡ max (max a b) (max c d) → IsGreatest (together side nw ne sw se) m
+    greatest_together m e = record { most = no_more m e; shown = λ live. some_has m live (one_of_max a b c d m e) }
+
+-- one cell's greatest state is its own
+greatest_dot : (state : ℕ) → IsGreatest (dot state) state
+greatest_dot state = record {
+  most = λ x y. elim (cases_Bool ((x == 0) && (y == 0))) [ inl f ↦ rw f (omega arith) | inr f ↦ rw f (omega arith) ];
+  shown = λ live. (0, 0, refl);
+}
+
+-- the greatest state of a square is that of its cells
+pub greatest_four : (nodes : List Node) (id nw ne sw se : ℕ) → Four nw ne sw se ≡ square_of nodes id → (m : ℕ) → m ≡ max (max nw ne) (max sw se) → IsGreatestOf nodes id m
+greatest_four nodes id nw ne sw se e m is k h =
+    let ends : (state : ℕ) → Ends 1 (dot state) = λ state. dot_ends state 1 (omega arith) in
+    rw (four_show nodes id k h nw ne sw se e)
+    (greatest_together 1 (dot nw) (dot ne) (dot sw) (dot se) nw ne sw se (greatest_dot nw) (greatest_dot ne) (greatest_dot sw) (greatest_dot se) (ends nw) (ends ne) (ends sw) m is)
+
+-- or that of its parts
+module _ (nodes : List Node) (id l nw ne sw se : ℕ) (e : Parts l nw ne sw se ≡ square_of nodes id) (whole : HasParts nodes (length nodes) l nw ne sw se) where
+  pub greatest_parts : (a b c d m : ℕ) → IsGreatestOf nodes nw a → IsGreatestOf nodes ne b → IsGreatestOf nodes sw c → IsGreatestOf nodes se d → m ≡ max (max a b) (max c d) → IsGreatestOf nodes id m
+  greatest_parts a b c d m p q r s is k h =
+      let part = cell_of nodes (l - 1) in
+      let ends = cell_ends nodes (l - 1) in
+      rw (parts_show nodes id k h l nw ne sw se (omega (arith, whole.least)) e)
+      (greatest_together (2 ^ (l - 1)) (part nw) (part ne) (part sw) (part se) a b c d (p (l - 1) whole.is_nw) (q (l - 1) whole.is_ne) (r (l - 1) whole.is_sw) (s (l - 1) whole.is_se)
+      (ends nw) (ends ne) (ends sw) m is)
+
+-- counted from the corner no state is greater
+from_corner_most : (cells : ℕ → ℕ → ℕ) (s : ℕ) → IsGreatest cells s → (u v : ℤ) → from_corner cells u v ≤ s
+from_corner_most cells s is (pos a) (pos b) = is.most a b
+from_corner_most cells s is (pos a) (negsuc b) = omega arith
+from_corner_most cells s is (negsuc a) (pos b) = omega arith
+from_corner_most cells s is (negsuc a) (negsuc b) = omega arith
+
+-- the greatest state of a tree is that of its root
+module _ (nodes : List Node) (tree : Tree) (is : IsTree nodes tree) where
+  pub tree_most : {E : Type 0} (r : Result ℕ E) → IfOk r (IsGreatestOf nodes tree.root) → IfOk r (λ s. (x y : ℤ) → cell nodes tree x y ≤ s)
+  tree_most (Ok s) h = λ x y.
+      from_corner_most (cell_of nodes tree.level tree.root) s (h tree.level is) (x +ℤ pos (2 ^ (tree.level - 1))) (y +ℤ pos (2 ^ (tree.level - 1)))
+  tree_most (Err e) h = tt
+
+  back : (n half : ℕ) → pos n -ℤ pos half +ℤ pos half ≡ pos n
+  back n half = omega (arith, ints)
+
+  pub tree_shown : {E : Type 0} (r : Result ℕ E) → IfOk r (IsGreatestOf nodes tree.root) → IfOk r (λ s. s ≢ 0 → (x : ℤ) × (y : ℤ) × (cell nodes tree x y ≡ s))
+  tree_shown (Ok s) h = λ live.
+      let half = 2 ^ (tree.level - 1) in
+      let (a, b, here) = (h tree.level is).shown live in
+      (pos a -ℤ pos half, pos b -ℤ pos half, rw (back a half, back b half) here)
+  tree_shown (Err e) h = tt
