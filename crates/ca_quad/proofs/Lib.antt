@@ -9,6 +9,7 @@ pub mod Windows
 pub mod Population
 pub mod Listed
 pub mod Greatest
+pub mod Numbered
 pub mod Extents
 pub mod Boxes
 pub mod Reach

@@ -85,7 +85,7 @@ module _ (nodes : List Node) (id m nw ne sw se : ℕ) (e : Parts m nw ne sw se �
       = rw (parts_show nodes id k h m nw ne sw se some e, side) (population_together (2 ^ (m - 1)) (part nw) (part ne) (part sw) (part se)) in
       omega (arith, whole_is, p (m - 1) whole.is_nw, q (m - 1) whole.is_ne, r (m - 1) whole.is_sw, s (m - 1) whole.is_se)
 
-live_least : (state : ℕ) → live state ≤ 1
+pub live_least : (state : ℕ) → live state ≤ 1
 live_least state = elim (cases_Bool (state == 0)) [ inl e ↦ rw e (omega arith) | inr e ↦ rw e (omega arith) ]
 
 -- a square of this side has few enough cells for a u128

@@ -14,6 +14,7 @@ mod found;
 mod from_plane;
 mod greatest;
 mod make;
+mod numbered;
 mod population;
 mod read;
 mod resize;

@@ -2,6 +2,7 @@
 
 ghost use Rattle.std.specs.Prelude.{◌≡◌, ◌≢◌, ◌≤◌, ℤ, max, IfOk, OnOk};
 ghost use Rattle.ca_quad.specs.Trees.{IsIn, IsTree, cell};
+ghost use Rattle.ca_quad.specs.inner.Population.{live};
 ghost use Rattle.ca_quad.specs.inner.Greatest.{IsGreatestOf, AreGreatest};
 
 use super::Store;
@@ -35,6 +36,9 @@ impl Store {
         ensures greatest { IfOk result (IsGreatestOf self.now id) }
         ensures found { OnOk result (AreGreatest self.now found.new) }
     {
+        if let Some(cells) = self.number(id) {
+            return Ok(one_if_any(cells));
+        }
         match self.square(id) {
             Square::Four(nw, ne, sw, se) => Ok(greatest(nw, ne, sw, se)),
             Square::Parts(_, nw, ne, sw, se) => {
@@ -51,6 +55,16 @@ impl Store {
             }
         }
     }
+}
+
+// The greatest state of a square of two states whose cells are the digits of this number.
+fn one_if_any(cells: u64) -> u8
+    ensures { result ≡ live cells }
+{
+    if cells == 0 {
+        return 0;
+    }
+    1
 }
 
 // The greatest of four states.

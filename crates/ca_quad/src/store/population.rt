@@ -37,6 +37,9 @@ impl Store {
         ensures count { IfOk result (IsCountOf self.now id) }
         ensures counts { OnOk result (AreCounts self.now counts.new) }
     {
+        if let Some(cells) = self.number(id) {
+            return Ok(cells.count_ones() as u128);
+        }
         match self.square(id) {
             Square::Four(nw, ne, sw, se) => Ok(live(nw) + live(ne) + live(sw) + live(se)),
             Square::Parts(_, nw, ne, sw, se) => {

@@ -1,4 +1,5 @@
 use Rattle.ca_quad.specs.inner.Found.{IsCountOf}
+use Rattle.ca_quad.proofs.Numbered.{count_of_number}
 use Rattle.ca_quad.proofs.Population.{found_more, count_in_parts}
 use Rattle.ca_quad.proofs.store.Store.+live_cells.Goals as goal
 
@@ -12,3 +13,6 @@ pub returns-in_ok-put-in-Parts-clause-counts : goal.returns-in_ok-put-in-Parts-c
 returns-in_ok-put-in-Parts-clause-counts t c =
     found_more (IsCountOf c.args.self.now) c.live_cells-in-Parts-3.new.counts c.put.new.self c.args.id c.in_all-count.result c.in_ok-se-in-Parts.ensures.counts
     (returns-in_ok-put-in-Parts-clause-count t c) c.in_ok-put-in-Parts.ensures
+
+pub returns-in-Some-clause-count : goal.returns-in-Some-clause-count
+returns-in-Some-clause-count t c = count_of_number c.args.self.now c.in-Some.ensures.sound c.args.id c.in-Some.cells c.requires.known c.in-Some.ensures.number

@@ -1,0 +1,19 @@
+-- Squares of two states whose cells are the binary digits of one number.
+use Rattle.std.specs.Prelude.{◌≡◌, ℕ, ◌+◌, ◌*◌, ◌<◌, ◌^◌, ◌⊎◌, List}
+use Rattle.ca_quad.specs.declared.named.Named.TheVariants.{Cells2}
+use Rattle.ca_quad.specs.declared.node.Node.{Node}
+use Rattle.ca_quad.specs.declared.node.Node.TheVariants.{Block}
+use Rattle.ca_quad.specs.Squares.{seen, shown_cells4, shown, square_of}
+
+-- the number tells the cells of the square, which are 2 by 2, 4 by 4 or 8 by 8
+abbrev pub IsNumberOf : List Node → ℕ → ℕ → Type 0
+IsNumberOf nodes id n =
+    ((n < 16) × (square_of nodes id ≡ shown nodes (Cells2 n)))
+    ⊎ (((n < 65536) × (square_of nodes id ≡ shown_cells4 n)) ⊎ ((n < 2 ^ 64) × (square_of nodes id ≡ seen (Block n))))
+
+-- the four are the digits of a number, of so many binary digits each, the lowest first
+pub record AreDigits (k n a b c d : ℕ) : Type 0 where
+  pub first : a < 2 ^ k
+  pub second : b < 2 ^ k
+  pub third : c < 2 ^ k
+  pub is : n ≡ ((d * 2 ^ k + c) * 2 ^ k + b) * 2 ^ k + a

@@ -1,0 +1,38 @@
+//! Squares of two states whose cells are the binary digits of one number.
+
+ghost use Rattle.std.specs.Prelude.{◌≡◌, IfSome};
+ghost use Rattle.ca_quad.specs.declared.node.Node.TheVariants.{Block};
+ghost use Rattle.ca_quad.specs.Sound.{IsSound};
+ghost use Rattle.ca_quad.specs.Trees.{IsIn};
+ghost use Rattle.ca_quad.specs.inner.Numbered.{IsNumberOf};
+
+use super::Store;
+use crate::id::Id;
+use crate::named::Named;
+use crate::node::Node;
+
+impl Store {
+    // The number of a square's cells, where it has two states and at most 8 by 8 cells.
+    pub(super) fn number(&self, id: Id) -> Option<u64>
+        requires { IsIn self.now id }
+        ensures number { IfSome result (IsNumberOf self.now id) }
+        ensures sound { IsSound self.now }
+    {
+        match id.named() {
+            Named::Cells2(n) => Some(n as u64),
+            Named::Cells4(n) => Some(n as u64),
+            Named::Kept(place) => block_number(self.nodes.as_slice()[place as usize]),
+        }
+    }
+}
+
+// The number of a node that is a block.
+fn block_number(node: Node) -> Option<u64>
+    ensures { IfSome result (λ n. node ≡ Block n) }
+{
+    match node {
+        Node::Leaf(_, _, _, _) => None,
+        Node::Block(n) => Some(n),
+        Node::Join(_, _, _, _, _) => None,
+    }
+}
