@@ -1,17 +1,11 @@
 -- Squares that are filled with the cells of a picture.
-use Rattle.std.proofs.Common.{◌≡◌, ℕ, suc, Some, ◌+◌, ◌-◌, ◌<◌, ◌≤◌, ◌^◌, ◌⊎◌, inl, inr, ◌&&◌, ℤ, pos, negsuc, neg_ℤ, ◌+ℤ◌, ◌<ℤ◌, ◌≤ℤ◌, Result, IfOk, List, [], ◌∷◌, ◌++◌, drop, get_or, length, slice_index, refl, sym, ap, subst, ◌∙◌, arith}
-use Rattle.std.specs.List.{slice_get}
-use Rattle.std.specs.Ordering.{int_eq}
-use Rattle.std.proofs.lemmas.Bool.{cases_Bool, cases_eq}
+use Rattle.std.proofs.Common.{◌≡◌, ℕ, suc, ◌+◌, ◌-◌, ◌<◌, ◌≤◌, ◌^◌, ◌⊎◌, inl, inr, ℤ, pos, negsuc, neg_ℤ, ◌+ℤ◌, ◌<ℤ◌, ◌≤ℤ◌, Result, IfOk, List, [], ◌∷◌, get_or, length, slice_index, refl, sym, ap, subst, ◌∙◌, arith}
+use Rattle.std.proofs.lemmas.Bool.{cases_eq}
 use Rattle.std.proofs.lemmas.Int.{ints}
-use Rattle.std.proofs.lemmas.List.{append_assoc, append-nil, drop_more, drop_all}
-use Rattle.std.proofs.lemmas.Option.{get_or_from_slice_get, slice_get_within}
 use Rattle.std.proofs.Math.Nat.{two-pow-succ, pow-le-pow_right}
 use Rattle.ca_plane.specs.declared.point.Bounds.{Bounds}
-use Rattle.ca_plane.specs.declared.point.Point.{Point}
 use Rattle.ca_plane.specs.Box.{IsLeastBox}
 use Rattle.ca_plane.specs.Plane.{Picture, cell}
-use Rattle.ca_plane.proofs.Pictures.{place-from_true}
 use Rattle.ca_quad.specs.declared.node.Node.{Node}
 use Rattle.ca_quad.specs.declared.store.to_plane.Corners.{Corners}
 use Rattle.ca_quad.specs.declared.tree.Spot.{Spot}
@@ -21,7 +15,7 @@ use Rattle.ca_quad.specs.Sound.{IsSound, Grows}
 use Rattle.ca_quad.specs.Trees.{Shows, AreFour, AreQuarters, cell as tree_cell}
 use Rattle.ca_quad.specs.Trimmed.{HoldsAll}
 use Rattle.ca_quad.specs.inner.Drawn.{ArePartCorners}
-use Rattle.ca_quad.specs.inner.Filled.{counted, LiesNear, AgreeIn, HoldsBox}
+use Rattle.ca_quad.specs.inner.Filled.{counted, LiesNear, HoldsBox}
 use Rattle.ca_quad.specs.inner.Ring.{none}
 use Rattle.ca_quad.specs.inner.Window.{ShowsFrom}
 use Rattle.ca_quad.proofs.Differ.{cell_at}
@@ -34,44 +28,6 @@ use Rattle.ca_quad.proofs.Windows.{FourWindows, gathered, four_windows, window_j
 -- a cell, counted from a place
 pub counted_at : (p : Picture) (at : Spot) (x y : ℤ) (a b : ℕ) → x ≡ at.x +ℤ pos a → y ≡ at.y +ℤ pos b → cell p x y ≡ counted p at a b
 counted_at p at x y a b e f = ap (λ n. cell p n y) e ∙ ap (λ n. cell p (at.x +ℤ pos a) n) f
-
--- a point that lies elsewhere may be left out
-cell_without : (w : Picture) (e : Point × ℕ) (r : Picture) (x y : ℤ) → (e.0.x ≡ x → e.0.y ≡ y → ⊥) → cell (w ++ e ∷ r) x y ≡ cell (w ++ r) x y
-cell_without [] e r x y other =
-    elim (cases_Bool (int_eq y e.0.y && int_eq x e.0.x)) [
-      | inl t ↦ let both = place-from_true x y e.0 t in absurd (other (sym both.1) (sym both.0))
-      | inr t ↦ rw t refl
-    ]
-cell_without (f ∷ w) e r x y other =
-    elim (cases_Bool (int_eq y f.0.y && int_eq x f.0.x)) [ inl t ↦ rw t refl | inr t ↦ rw t (cell_without w e r x y other) ]
-
--- the rest of a list, and its first element
-rest_at : (cells : Picture) (i : ℕ) (e : Point × ℕ) → slice_get cells i ≡ Some e → drop i cells ≡ e ∷ drop (i + 1) cells
-rest_at cells i e at = drop_more cells i e (slice_get_within cells i e at) ∙ ap (λ f. f ∷ drop (i + 1) cells) (get_or_from_slice_get cells i e e at)
-
-module _ (side : ℕ) (at : Spot) (cells within : Picture) (i : ℕ) where
-  pub agree_first : within ≡ [] → AgreeIn side at (within ++ drop 0 cells) cells
-  agree_first e = record { cells = λ x y h k. ap (λ w. counted (w ++ cells) at x y) e }
-
-  pub agree_last : length cells ≤ i → AgreeIn side at (within ++ drop i cells) cells → AgreeIn side at within cells
-  agree_last past h = record {
-    cells = λ x y j k. sym (ap (λ r. counted (within ++ r) at x y) (drop_all i cells past) ∙ ap (λ w. counted w at x y) (append-nil within)) ∙ h.cells x y j k;
-  }
-
-  module _ (e : Point × ℕ) (there : slice_get cells i ≡ Some e) (h : AgreeIn side at (within ++ drop i cells) cells) where
-    pub agree_kept : (new : Picture) → new ≡ within ++ e ∷ [] → AgreeIn side at (new ++ drop (i + 1) cells) cells
-    agree_kept new f =
-        let same : new ++ drop (i + 1) cells ≡ within ++ drop i cells =
-        ap (λ w. w ++ drop (i + 1) cells) f ∙ (append_assoc within (e ∷ []) (drop (i + 1) cells) ∙ ap (λ r. within ++ r) (sym (rest_at cells i e there)))
-        in
-        record { cells = λ x y j k. ap (λ w. counted w at x y) same ∙ h.cells x y j k }
-
-    pub agree_dropped : ((x y : ℕ) → x < side → y < side → e.0.x ≡ at.x +ℤ pos x → e.0.y ≡ at.y +ℤ pos y → ⊥) → AgreeIn side at (within ++ drop (i + 1) cells) cells
-    agree_dropped other = record {
-      cells = λ x y j k.
-          sym (ap (λ r. counted (within ++ r) at x y) (rest_at cells i e there) ∙ cell_without within e (drop (i + 1) cells) (at.x +ℤ pos x) (at.y +ℤ pos y) (other x y j k))
-          ∙ h.cells x y j k;
-    }
 
 -- the first quarter of an empty square is empty
 none_first : (nodes : List Node) → IsSound nodes → (id k : ℕ) (parts : List ℕ) (d : ℕ) → length parts ≡ 4 → Shows nodes id (suc k) none → AreQuarters nodes id k parts → Shows nodes (get_or parts 0 d) k none
@@ -134,10 +90,6 @@ module _ (level half : ℕ) (large : 2 ≤ level) (side : half ≡ 2 ^ (level - 
     bottom = omega (arith, ints, near.bottom, twice, are.se_y, side);
   }
 
-  -- the last by the number that the code has
-  pub near_last : LiesNear half cs.se
-  near_last = subst (λ n. LiesNear n cs.se) (sym side) near_se
-
 -- the whole tree lies near
 pub near_first : (level half : ℕ) (at : Spot) → 1 ≤ level → level ≤ 65 → half ≡ 2 ^ (level - 1) → at.x ≡ neg_ℤ (pos half) → at.y ≡ neg_ℤ (pos half) → LiesNear (2 ^ level) at
 near_first level half at least most side ex ey =
@@ -146,43 +98,58 @@ near_first level half at least most side ex ey =
     let low : 2 ^ (level - 1) ≤ 2 ^ 64 = pow-le-pow_right {n = 2} (omega arith) {i = level - 1} {j = 64} (omega arith) in
     record { left = omega (arith, ints); right = omega (arith, ints); top = omega (arith, ints); bottom = omega (arith, ints) }
 
--- cells that were counted from another place, and may have been picked out
-window_to : (nodes : List Node) (id k half : ℕ) → half ≡ 2 ^ k → (p q : Picture) (from at : Spot) (dx dy : ℕ) → from.x ≡ at.x +ℤ pos dx → from.y ≡ at.y +ℤ pos dy
-    → AgreeIn half from p q → ShowsFrom nodes id k (counted p from) 0 0 → ShowsFrom nodes id k (counted q at) dx dy
-window_to nodes id k half side p q from at dx dy ex ey agree h = record {
+-- cells that were counted from another place
+window_to : (nodes : List Node) (id k : ℕ) (p : Picture) (from at : Spot) (dx dy : ℕ) → from.x ≡ at.x +ℤ pos dx → from.y ≡ at.y +ℤ pos dy
+    → ShowsFrom nodes id k (counted p from) 0 0 → ShowsFrom nodes id k (counted p at) dx dy
+window_to nodes id k p from at dx dy ex ey h = record {
   is_square = h.is_square;
   has_cells = λ x y i j.
       let u : 0 + x ≡ x = omega arith in
       let v : 0 + y ≡ y = omega arith in
       h.has_cells x y i j
       ∙ (ap (λ n. counted p from n (0 + y)) u ∙ ap (λ n. counted p from x n) v)
-      ∙ (agree.cells x y (omega arith) (omega arith) ∙ counted_at q at (from.x +ℤ pos x) (from.y +ℤ pos y) (dx + x) (dy + y) (omega (arith, ints)) (omega (arith, ints)));
+      ∙ counted_at p at (from.x +ℤ pos x) (from.y +ℤ pos y) (dx + x) (dy + y) (omega (arith, ints)) (omega (arith, ints));
 }
 
--- four quarters that are filled one after the other
-module _ (s1 s2 s3 s4 : List Node) (sound : IsSound s1) (g2 : Grows s1 s2) (g3 : Grows s2 s3) (g4 : Grows s3 s4) (level half : ℕ) (large : 2 ≤ level) (side : half ≡ 2 ^ (level - 1)) (at : Spot) (cs : Corners) (are : ArePartCorners at half cs)
-    (cells a b c d : Picture) (in_a : AgreeIn half at a cells) (in_b : AgreeIn half cs.ne b cells) (in_c : AgreeIn half cs.sw c cells) (in_d : AgreeIn half cs.se d cells) (nw ne sw se : ℕ)
-    (p : ShowsFrom s1 nw (level - 1) (counted a at) 0 0) (q : ShowsFrom s2 ne (level - 1) (counted b cs.ne) 0 0) (r : ShowsFrom s3 sw (level - 1) (counted c cs.sw) 0 0) (s : ShowsFrom s4 se (level - 1) (counted d cs.se) 0 0)
-  where
-    filled_four : FourWindows s4 (level - 1) (counted cells at) 0 0 nw ne sw se
-    filled_four =
+-- four quarters that are made one after the other
+module _ (s1 s2 s3 s4 : List Node) (sound : IsSound s1) (g2 : Grows s1 s2) (g3 : Grows s2 s3) (g4 : Grows s3 s4) (level half : ℕ) (large : 2 ≤ level) (side : half ≡ 2 ^ (level - 1)) (nw ne sw se : ℕ) where
+  module _ (cells : ℕ → ℕ → ℕ) (x y : ℕ) (p : ShowsFrom s1 nw (level - 1) cells x y) (q : ShowsFrom s2 ne (level - 1) cells (x + half) y) (r : ShowsFrom s3 sw (level - 1) cells x (y + half)) (s : ShowsFrom s4 se (level - 1) cells (x + half) (y + half)) where
+    quarters : FourWindows s4 (level - 1) cells x y nw ne sw se
+    quarters =
         let k = level - 1 in
-        gathered s1 s2 s3 s4 sound g2 g3 g4 k (counted cells at) 0 0 nw ne sw se
-        (window_to s1 nw k half side a cells at at 0 0 (omega (arith, ints)) (omega (arith, ints)) in_a p)
-        (window_to s2 ne k half side b cells cs.ne at (0 + 2 ^ k) 0 (omega (arith, ints, are.ne_x)) (omega (arith, ints, are.ne_y)) in_b q)
-        (window_to s3 sw k half side c cells cs.sw at 0 (0 + 2 ^ k) (omega (arith, ints, are.sw_x)) (omega (arith, ints, are.sw_y)) in_c r)
-        (window_to s4 se k half side d cells cs.se at (0 + 2 ^ k) (0 + 2 ^ k) (omega (arith, ints, are.se_x)) (omega (arith, ints, are.se_y)) in_d s)
+        gathered s1 s2 s3 s4 sound g2 g3 g4 k cells x y nw ne sw se p
+        (subst (λ n. ShowsFrom s2 ne k cells (x + n) y) side q) (subst (λ n. ShowsFrom s3 sw k cells x (y + n)) side r) (subst (λ n. ShowsFrom s4 se k cells (x + n) (y + n)) side s)
 
-    pub can_join : level ≤ 65 → AreFour s4 (level - 1) nw ne sw se
-    can_join low = four_windows s4 (level - 1) (counted cells at) 0 0 nw ne sw se filled_four (omega arith)
+    pub can_join : level ≤ 125 → AreFour s4 (level - 1) nw ne sw se
+    can_join low = four_windows s4 (level - 1) cells x y nw ne sw se quarters (omega arith)
 
-    pub filled_joined : {E : Type 0} (new : List Node) (u : Result ℕ E)
+    pub joined : {E : Type 0} (new : List Node) (u : Result ℕ E)
         → ((l : ℕ) → IsOf s4 nw l → IfOk u (λ id. Shows new id (suc l) (together (2 ^ l) (cell_of s4 l nw) (cell_of s4 l ne) (cell_of s4 l sw) (cell_of s4 l se))))
-        → IfOk u (λ id. ShowsFrom new id level (counted cells at) 0 0)
-    filled_joined new u join =
+        → IfOk u (λ id. ShowsFrom new id level cells x y)
+    joined new u join =
         let next : suc (level - 1) ≡ level = omega arith in
-        subst (λ l. IfOk u (λ id. ShowsFrom new id l (counted cells at) 0 0)) next
-        (window_joined s4 (level - 1) (counted cells at) 0 0 nw ne sw se filled_four new u (join (level - 1) filled_four.a.is_square))
+        subst (λ l. IfOk u (λ id. ShowsFrom new id l cells x y)) next (window_joined s4 (level - 1) cells x y nw ne sw se quarters new u (join (level - 1) quarters.a.is_square))
+
+  -- the same of squares that were filled, each from its own corner on
+  module _ (at : Spot) (cs : Corners) (are : ArePartCorners at half cs) (cells : Picture)
+      (p : ShowsFrom s1 nw (level - 1) (counted cells at) 0 0) (q : ShowsFrom s2 ne (level - 1) (counted cells cs.ne) 0 0) (r : ShowsFrom s3 sw (level - 1) (counted cells cs.sw) 0 0) (s : ShowsFrom s4 se (level - 1) (counted cells cs.se) 0 0)
+    where
+      to_ne : ShowsFrom s2 ne (level - 1) (counted cells at) (0 + half) 0
+      to_ne = window_to s2 ne (level - 1) cells cs.ne at (0 + half) 0 (omega (arith, ints, are.ne_x)) (omega (arith, ints, are.ne_y)) q
+
+      to_sw : ShowsFrom s3 sw (level - 1) (counted cells at) 0 (0 + half)
+      to_sw = window_to s3 sw (level - 1) cells cs.sw at 0 (0 + half) (omega (arith, ints, are.sw_x)) (omega (arith, ints, are.sw_y)) r
+
+      to_se : ShowsFrom s4 se (level - 1) (counted cells at) (0 + half) (0 + half)
+      to_se = window_to s4 se (level - 1) cells cs.se at (0 + half) (0 + half) (omega (arith, ints, are.se_x)) (omega (arith, ints, are.se_y)) s
+
+      pub can_join_filled : level ≤ 125 → AreFour s4 (level - 1) nw ne sw se
+      can_join_filled = can_join (counted cells at) 0 0 p to_ne to_sw to_se
+
+      pub filled_joined : {E : Type 0} (new : List Node) (u : Result ℕ E)
+          → ((l : ℕ) → IsOf s4 nw l → IfOk u (λ id. Shows new id (suc l) (together (2 ^ l) (cell_of s4 l nw) (cell_of s4 l ne) (cell_of s4 l sw) (cell_of s4 l se))))
+          → IfOk u (λ id. ShowsFrom new id level (counted cells at) 0 0)
+      filled_joined = joined (counted cells at) 0 0 p to_ne to_sw to_se
 
 -- a tree that holds the box of all live cells holds these
 pub holds_all : (p : Picture) (box : Bounds) (level : ℕ) → IsLeastBox p box → HoldsBox (2 ^ (level - 1)) box → HoldsAll level (cell p)

@@ -15,6 +15,9 @@ pub mod Boxes
 pub mod Reach
 pub mod Drawn
 pub mod Filled
+pub mod Held
+pub mod Covers
+pub mod Blocks
 pub mod Quarters
 pub mod Differ
 pub mod Rings

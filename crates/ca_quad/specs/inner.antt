@@ -11,3 +11,5 @@ pub mod Drawn
 pub mod Difference
 pub mod Ring
 pub mod Filled
+pub mod Rows
+pub mod Block

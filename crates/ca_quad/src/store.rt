@@ -7,6 +7,7 @@ ghost use Rattle.ca_quad.specs.Sound.{IsSound, IsGood, Grows};
 ghost use Rattle.ca_quad.specs.Trees.{IsIn};
 ghost use Rattle.ca_quad.specs.inner.Whole.{IsWhole};
 
+mod block;
 mod bounds;
 mod difference;
 mod extent;
@@ -18,6 +19,7 @@ mod numbered;
 mod population;
 mod read;
 mod resize;
+mod rows;
 mod to_plane;
 
 use crate::id::Id;

@@ -1,5 +1,5 @@
 -- Cells of a plane that are gathered into squares.
-use Rattle.std.specs.Prelude.{◌≡◌, ℕ, ◌<◌, ◌^◌, pos, neg_ℤ, ◌+ℤ◌, ◌<ℤ◌, ◌≤ℤ◌}
+use Rattle.std.specs.Prelude.{ℕ, ◌^◌, pos, neg_ℤ, ◌+ℤ◌, ◌<ℤ◌, ◌≤ℤ◌}
 use Rattle.ca_plane.specs.declared.point.Bounds.{Bounds}
 use Rattle.ca_plane.specs.Plane.{Picture, cell}
 use Rattle.ca_quad.specs.declared.tree.Spot.{Spot}
@@ -14,10 +14,6 @@ pub record LiesNear (side : ℕ) (at : Spot) : Type 0 where
   pub right : (at.x +ℤ pos side) ≤ℤ pos (2 ^ 64)
   pub top : neg_ℤ (pos (2 ^ 64)) ≤ℤ at.y
   pub bottom : (at.y +ℤ pos side) ≤ℤ pos (2 ^ 64)
-
--- the two pictures have the same cells in the square of this side that lies there
-pub record AgreeIn (side : ℕ) (at : Spot) (p q : Picture) : Type 0 where
-  pub cells : (x y : ℕ) → x < side → y < side → counted p at x y ≡ counted q at x y
 
 -- a tree with this half of a side holds the box
 abbrev pub HoldsBox : ℕ → Bounds → Type 0

@@ -1,4 +1,4 @@
-use Rattle.std.proofs.Common.{◌≡◌, ap, subst, ◌++◌, ◌∙◌}
+use Rattle.std.proofs.Common.{subst, arith}
 use Rattle.ca_plane.specs.Plane.{Picture, cell as plane_cell}
 use Rattle.ca_quad.specs.declared.tree.Tree.{Tree}
 use Rattle.ca_quad.specs.Trees.{cell}
@@ -10,15 +10,14 @@ use Rattle.ca_quad.proofs.store.Store.from_plane.Goals as goal
 
 pub fill-requires-clause-near : goal.fill-requires-clause-near
 fill-requires-clause-near c =
-    near_first c.level_for-level.result c.half_side.result c.first_corner-corner.result c.level_for-level.ensures.least c.level_for-level.ensures.most c.half_side.ensures.half c.first_corner-corner.ensures.x c.first_corner-corner.ensures.y
+    near_first c.level_for-level.result c.half_side.result c.first_corner-corner.result (omega (arith, c.level_for-level.ensures.least)) c.level_for-level.ensures.most c.half_side.ensures.half c.first_corner-corner.ensures.x c.first_corner-corner.ensures.y
 
 pub returns-clause-cells : goal.returns-clause-cells
 returns-clause-cells c =
     let plane = c.args.plane.now in
     let tree : Tree = record { root = c.in_ok-root.root; level = c.level_for-level.result } in
     let at = c.first_corner-corner.result in
-    let same : c.extend_from_slice.new.self.items ≡ plane = c.in_ok-extend_from_slice.ensures.items ∙ (ap (λ (p : Picture). p ++ c.as_slice.result.now) c.in_ok-cells.ensures.items ∙ c.as_slice.ensures.all) in
     cells_as c.trim.new.self c.trim.result (cell c.fill.new.self tree) (plane_cell plane)
-    (tree_filled c.fill.new.self tree plane c.half_side.result c.half_side.ensures.half c.level_for-level.ensures.least at c.first_corner-corner.ensures.x c.first_corner-corner.ensures.y
-    (subst (λ (p : Picture). ShowsFrom c.fill.new.self tree.root tree.level (counted p at) 0 0) same c.in_ok-root.ensures.shows) c.level_for-level.ensures.holds)
+    (tree_filled c.fill.new.self tree plane c.half_side.result c.half_side.ensures.half (omega (arith, c.level_for-level.ensures.least)) at c.first_corner-corner.ensures.x c.first_corner-corner.ensures.y
+    (subst (λ (p : Picture). ShowsFrom c.fill.new.self tree.root tree.level (counted p at) 0 0) c.as_slice-cells.ensures.all c.in_ok-root.ensures.shows) c.level_for-level.ensures.holds)
     c.trim.ensures.cells

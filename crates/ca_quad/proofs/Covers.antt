@@ -1,0 +1,108 @@
+-- Rows that hold the cells of a square, and of its quarters.
+use Rattle.std.proofs.Common.{◌≡◌, ◌≢◌, ℕ, ◌+◌, ◌-◌, ◌<◌, ◌≤◌, ◌^◌, inl, inr, ℤ, pos, ◌+ℤ◌, List, [], ◌∷◌, get_or, length, suc, refl, sym, ap, subst, ◌∙◌, arith}
+use Rattle.std.proofs.lemmas.Bool.{cases_eq}
+use Rattle.std.proofs.lemmas.Int.{ints}
+use Rattle.std.proofs.lemmas.List.{get_or_default}
+use Rattle.std.proofs.Math.Nat.{two-pow-succ}
+use Rattle.ca_plane.specs.declared.point.Point.{Point}
+use Rattle.ca_plane.specs.Plane.{Picture, cell}
+use Rattle.ca_plane.proofs.Pictures.{Contains-cell}
+use Rattle.ca_quad.specs.declared.node.Node.{Node}
+use Rattle.ca_quad.specs.declared.store.rows.Quarters.{Quarters}
+use Rattle.ca_quad.specs.declared.store.rows.Row.{Row}
+use Rattle.ca_quad.specs.declared.store.to_plane.Corners.{Corners}
+use Rattle.ca_quad.specs.declared.tree.Spot.{Spot}
+use Rattle.ca_quad.specs.Trees.{Shows}
+use Rattle.ca_quad.specs.inner.Drawn.{ArePartCorners}
+use Rattle.ca_quad.specs.inner.Filled.{counted}
+use Rattle.ca_quad.specs.inner.Ring.{none}
+use Rattle.ca_quad.specs.inner.Rows.{point_at, AreRows, Hold, Cover, IsPart, AreParts}
+use Rattle.ca_quad.specs.inner.Window.{ShowsFrom}
+
+-- a part of a part
+pub part_part : (p : Picture) (rows half part : List Row) (P Q : Point → Type 0) → IsPart p rows P half → IsPart p half Q part → IsPart p rows (λ q. P q × Q q) part
+part_part p rows half part P Q a b = record { are = b.are; held = λ i h t. b.held i (a.held i h t.0) t.1 }
+
+-- where a cell is live, there is a place for it
+pub place_of : (p : Picture) (x y : ℤ) → cell p x y ≢ 0 → (k : ℕ) × (k < length p) × ((point_at p k).x ≡ x) × ((point_at p k).y ≡ y)
+place_of p x y live =
+    let (k, low, e) = Contains-cell p x y live in
+    let point : Point = record { y = y; x = x } in
+    let origin : Point = record { y = pos 0; x = pos 0 } in
+    let same : get_or p k (origin, 0) ≡ get_or p k (point, cell p x y) = get_or_default p k (origin, 0) (point, cell p x y) low in
+    let at : point_at p k ≡ point = ap (λ (f : Point × ℕ). f.0) (same ∙ e) in
+    (k, low, ap (λ (q : Point). q.x) at, ap (λ (q : Point). q.y) at)
+
+-- where no row holds anything, nothing is live
+pub covered_none : (p : Picture) (rows : List Row) (side : ℕ) (at : Spot) → rows ≡ [] → Cover p rows side at → (x y : ℕ) → x < side → y < side → counted p at x y ≡ 0
+covered_none p rows side at e cover x y i j =
+    elim (cases_eq (counted p at x y) 0) [
+      | inl z ↦ z
+      | inr live ↦
+          let (k, low, ex, ey) = place_of p (at.x +ℤ pos x) (at.y +ℤ pos y) live in
+          absurd (subst (λ rs. Hold rs k) e (cover.held k x y low i j ex ey))
+    ]
+
+no_rows : (rows : List Row) → length rows ≡ 0 → rows ≡ []
+no_rows [] e = refl
+no_rows (r ∷ rs) e = absurd (omega arith)
+
+pub shows_none : (nodes : List Node) (id level : ℕ) (p : Picture) (rows : List Row) (at : Spot) → length rows ≡ 0 → Cover p rows (2 ^ level) at → Shows nodes id level none → ShowsFrom nodes id level (counted p at) 0 0
+shows_none nodes id level p rows at e cover h = record {
+  is_square = h.is_square;
+  has_cells = λ x y i j. h.has_cells x y ∙ sym (covered_none p rows (2 ^ level) at (no_rows rows e) cover (0 + x) (0 + y) (omega arith) (omega arith));
+}
+
+-- the quarters of a square
+module _ (level half : ℕ) (large : 2 ≤ level) (side : half ≡ 2 ^ (level - 1)) (at : Spot) (cs : Corners) (are : ArePartCorners at half cs) (p : Picture) (rows : List Row) (cover : Cover p rows (2 ^ level) at)
+    (parts : Quarters) (round : AreParts p rows cs.se parts) where
+  twice : 2 ^ level ≡ 2 ^ (level - 1) + 2 ^ (level - 1)
+  twice =
+      let next : level ≡ suc (level - 1) = omega arith in
+      ap (λ n. 2 ^ n) next ∙ two-pow-succ (level - 1)
+
+  -- rows that hold a quarter's cells
+  pub record Holds (now : List Row) (corner : Spot) : Type 0 where
+    pub are_rows : AreRows p now
+    pub covers : Cover p now (2 ^ (level - 1)) corner
+
+  module _ (now : List Row) where
+    pub holds_nw : now ≡ parts.nw.items → Holds now at
+    holds_nw e = rw e (record {
+      are_rows = round.nw.are;
+      covers = record {
+        held = λ i x y low a b ex ey.
+            round.nw.held i (cover.held i x y low (omega (arith, twice)) (omega (arith, twice)) ex ey)
+            (omega (arith, ints, side, are.se_x), omega (arith, ints, side, are.se_y));
+      };
+    })
+
+    pub holds_ne : now ≡ parts.ne.items → Holds now cs.ne
+    holds_ne e = rw e (record {
+      are_rows = round.ne.are;
+      covers = record {
+        held = λ i x y low a b ex ey.
+            round.ne.held i (cover.held i (half + x) y low (omega (arith, twice, side)) (omega (arith, twice)) (omega (arith, ints, are.ne_x)) (omega (arith, ints, are.ne_y)))
+            (omega (arith, ints, are.se_x, are.ne_x), omega (arith, ints, side, are.se_y, are.ne_y));
+      };
+    })
+
+    pub holds_sw : now ≡ parts.sw.items → Holds now cs.sw
+    holds_sw e = rw e (record {
+      are_rows = round.sw.are;
+      covers = record {
+        held = λ i x y low a b ex ey.
+            round.sw.held i (cover.held i x (half + y) low (omega (arith, twice)) (omega (arith, twice, side)) (omega (arith, ints, are.sw_x)) (omega (arith, ints, are.sw_y)))
+            (omega (arith, ints, side, are.se_x, are.sw_x), omega (arith, ints, are.se_y, are.sw_y));
+      };
+    })
+
+    pub holds_se : now ≡ parts.se.items → Holds now cs.se
+    holds_se e = rw e (record {
+      are_rows = round.se.are;
+      covers = record {
+        held = λ i x y low a b ex ey.
+            round.se.held i (cover.held i (half + x) (half + y) low (omega (arith, twice, side)) (omega (arith, twice, side)) (omega (arith, ints, are.se_x)) (omega (arith, ints, are.se_y)))
+            (omega (arith, ints), omega (arith, ints));
+      };
+    })

@@ -1,0 +1,163 @@
+-- Places of a list of cells, and the rows that hold them.
+use Rattle.std.proofs.Common.{◌≡◌, ℕ, ◌+◌, ◌<◌, ◌≤◌, ◌⊎◌, inl, inr, Some, ℤ, pos, ◌<ℤ◌, ◌≤ℤ◌, List, [], ◌∷◌, ◌++◌, drop, get_or, length, map, sym, ap, subst, ◌∙◌, arith, Less}
+use Rattle.std.specs.List.{slice_get}
+use Rattle.std.proofs.lemmas.Bool.{cases_eq}
+use Rattle.std.proofs.lemmas.Int.{ints}
+use Rattle.std.proofs.lemmas.List.{get_or-map, length-map, drop_more, drop_all}
+use Rattle.std.proofs.lemmas.List.Elements.{All-append, All-nil, All-cons, All-get_or}
+use Rattle.std.proofs.lemmas.Map.Keys.{Less-from_sorted}
+use Rattle.std.proofs.lemmas.Option.{get_or_from_slice_get, slice_get_within}
+use Rattle.ca_plane.specs.declared.point.Point.{Point}
+use Rattle.ca_plane.specs.Plane.{Picture}
+use Rattle.ca_plane.specs.Sparse.{point_cmp, IsSparse}
+use Rattle.ca_quad.specs.declared.store.rows.Row.{Row}
+use Rattle.ca_quad.specs.declared.tree.Spot.{Spot}
+use Rattle.ca_quad.specs.inner.Rows.{point_at, ComesBefore, IsInRow, IsRow, AreRows, Hold, IsPart, IsNorth, IsSouth}
+
+-- ---- the order of the list
+
+earlier_from_Less : (p q : Point) → point_cmp p q ≡ Less → (p.y <ℤ q.y) ⊎ ((p.y ≡ q.y) × (p.x <ℤ q.x))
+earlier_from_Less p q less = grind (arith, ints)
+
+module _ (p : Picture) (sparse : IsSparse p) where
+  rises : (i j : ℕ) → i < j → j < length p → point_cmp (point_at p i) (point_at p j) ≡ Less
+  rises i j low high =
+      let origin : Point = record { y = pos 0; x = pos 0 } in
+      let d : Point × ℕ = (origin, 0) in
+      let one : get_or (map (λ (e : Point × ℕ). e.0) p) i origin ≡ (get_or p i d).0 = get_or-map (λ (e : Point × ℕ). e.0) p i d origin (omega arith) in
+      let two : get_or (map (λ (e : Point × ℕ). e.0) p) j origin ≡ (get_or p j d).0 = get_or-map (λ (e : Point × ℕ). e.0) p j d origin high in
+      rw (← one, ← two) (Less-from_sorted point_cmp (map (λ (e : Point × ℕ). e.0) p) i j origin sparse.rising low (omega (arith, length-map p (λ (e : Point × ℕ). e.0))))
+
+  -- what comes before a later cell's spot comes before an earlier one's
+  pub comes_earlier : (at : Spot) (i j : ℕ) → i ≤ j → j < length p → ComesBefore (point_at p j) at → ComesBefore (point_at p i) at
+  comes_earlier at i j le high before =
+      elim (cases_eq i j) [
+        | inl e ↦ subst (λ n. ComesBefore (point_at p n) at) (sym e) before
+        | inr other ↦ elim (earlier_from_Less (point_at p i) (point_at p j) (rises i j (omega arith) high)) [
+          | inl higher ↦ elim before [ inl b ↦ inl (omega (arith, ints)) | inr b ↦ inl (omega (arith, ints)) ]
+          | inr along ↦ elim before [ inl b ↦ inl (omega (arith, ints)) | inr b ↦ inr (omega (arith, ints), omega (arith, ints)) ]
+        ]
+      ]
+
+  -- a later cell has no lesser y
+  pub y_rises : (i j : ℕ) → i ≤ j → j < length p → (point_at p i).y ≤ℤ (point_at p j).y
+  y_rises i j le high =
+      elim (cases_eq i j) [
+        | inl e ↦ subst (λ n. (point_at p i).y ≤ℤ (point_at p n).y) e (omega (arith, ints))
+        | inr other ↦ elim (earlier_from_Less (point_at p i) (point_at p j) (rises i j (omega arith) high)) [
+          | inl higher ↦ omega (arith, ints)
+          | inr along ↦ omega (arith, ints)
+        ]
+      ]
+
+-- ---- rows in a list of rows
+
+Hold-left : (rs ts : List Row) (i : ℕ) → Hold rs i → Hold (rs ++ ts) i
+Hold-left [] ts i h = absurd h
+Hold-left (r ∷ rs) ts i (inl h) = inl h
+Hold-left (r ∷ rs) ts i (inr h) = inr (Hold-left rs ts i h)
+
+Hold-last : (rs : List Row) (r : Row) (i : ℕ) → IsInRow r i → Hold (rs ++ r ∷ []) i
+Hold-last [] r i h = inl h
+Hold-last (q ∷ rs) r i h = inr (Hold-last rs r i h)
+
+-- a list with one row more
+module _ (rs new : List Row) (r : Row) (e : new ≡ rs ++ r ∷ []) where
+  pub Hold-push : (i : ℕ) → Hold rs i ⊎ IsInRow r i → Hold new i
+  Hold-push i (inl h) = rw e (Hold-left rs (r ∷ []) i h)
+  Hold-push i (inr h) = rw e (Hold-last rs r i h)
+
+  pub AreRows-push : (p : Picture) → AreRows p rs → IsRow p r → AreRows p new
+  AreRows-push p are is = rw e (All-append (IsRow p) rs (r ∷ []) are (All-cons (IsRow p) r [] is (All-nil _)))
+
+-- no place is in an empty row
+pub Hold-same : (rs : List Row) (r : Row) → r.first ≡ r.end → (i : ℕ) → Hold rs i ⊎ IsInRow r i → Hold rs i
+Hold-same rs r e i (inl h) = h
+Hold-same rs r e i (inr h) = absurd (omega (arith, h.from, h.below))
+
+pub rest_at : (rows : List Row) (k : ℕ) (r : Row) → slice_get rows k ≡ Some r → drop k rows ≡ r ∷ drop (k + 1) rows
+rest_at rows k r at = drop_more rows k r (slice_get_within rows k r at) ∙ ap (λ f. f ∷ drop (k + 1) rows) (get_or_from_slice_get rows k r r at)
+
+pub row_is : (p : Picture) (rows : List Row) (k : ℕ) (r : Row) → slice_get rows k ≡ Some r → AreRows p rows → IsRow p r
+row_is p rows k r at are = subst (IsRow p) (get_or_from_slice_get rows k r r at) (All-get_or (IsRow p) rows k r (slice_get_within rows k r at) are)
+
+-- ---- parts that are collected
+
+-- the part has the passing cells of the rows, but for those that are still to come
+pub record IsSoFar (p : Picture) (rows : List Row) (passes : Point → Type 0) (part : List Row) (k : ℕ) : Type 0 where
+  pub are : AreRows p part
+  pub held : (i : ℕ) → Hold rows i → passes (point_at p i) → Hold part i ⊎ Hold (drop k rows) i
+
+module _ (p : Picture) (rows : List Row) (passes : Point → Type 0) where
+  pub part_first : (part : List Row) → part ≡ [] → IsSoFar p rows passes part 0
+  part_first part e = record { are = rw e (All-nil _); held = λ i h t. inr h }
+
+  pub part_last : (part : List Row) (k : ℕ) → length rows ≤ k → IsSoFar p rows passes part k → IsPart p rows passes part
+  part_last part k past so = record {
+    are = so.are;
+    held = λ i h t. elim (so.held i h t) [ inl g ↦ g | inr g ↦ absurd (subst (λ rs. Hold rs i) (drop_all k rows past) g) ];
+  }
+
+  -- a row is looked at
+  pub part_next : (part new : List Row) (k : ℕ) (r : Row) → slice_get rows k ≡ Some r → IsSoFar p rows passes part k → AreRows p new → ((i : ℕ) → Hold part i → Hold new i)
+      → ((i : ℕ) → IsInRow r i → passes (point_at p i) → Hold new i) → IsSoFar p rows passes new (k + 1)
+  part_next part new k r at so are old here = record {
+    are = are;
+    held = λ i h t. elim (so.held i h t) [
+      | inl g ↦ inl (old i g)
+      | inr g ↦ elim (subst (λ rs. Hold rs i) (rest_at rows k r at) g) [ inl j ↦ inl (here i j t) | inr j ↦ inr j ]
+    ];
+  }
+
+-- ---- rows of a list
+
+module _ (p : Picture) (sparse : IsSparse p) where
+  -- the places from one on whose points come before the end of its row
+  pub row_made : (first : ℕ) (at : Spot) (row : Row) → at.y ≡ (point_at p first).y → row.y ≡ (point_at p first).y → row.first ≡ first → first < row.end → row.end ≤ length p
+      → ((i : ℕ) → first + 1 ≤ i → i < row.end → ComesBefore (point_at p i) at) → IsRow p row
+  row_made first at row ey ry e some range before = record {
+    order = omega arith;
+    range = range;
+    same = λ i h. same i (omega (arith, h.from)) h.below;
+  }
+    where
+      same : (i : ℕ) → first ≤ i → i < row.end → (point_at p i).y ≡ row.y
+      same i low high =
+          elim (cases_eq i first) [
+            | inl one ↦ ap (λ n. (point_at p n).y) one ∙ sym ry
+            | inr other ↦
+                let up = y_rises p sparse first i low (omega (arith, range)) in
+                elim (before i (omega arith) high) [ inl b ↦ absurd (omega (arith, ints)) | inr b ↦ b.0 ∙ (ey ∙ sym ry) ]
+          ]
+
+  -- some of its places
+  pub row_cut : (row new : Row) → IsRow p row → new.y ≡ row.y → row.first ≤ new.first → new.first ≤ new.end → new.end ≤ row.end → IsRow p new
+  row_cut row new is ey low order high = record {
+    order = order;
+    range = omega (arith, is.range);
+    same = λ i h. is.same i (record { from = omega (arith, h.from); below = omega (arith, h.below) }) ∙ sym ey;
+  }
+
+-- a row goes to the part that it belongs to, and the other part stays
+module _ (p : Picture) (rows : List Row) (are : AreRows p rows) (k : ℕ) (r : Row) (at : slice_get rows k ≡ Some r) (y : ℤ) where
+  is : IsRow p r
+  is = row_is p rows k r at are
+
+  module _ (north south new_north new_south more : List Row) (n : IsSoFar p rows (IsNorth y) north k) (s : IsSoFar p rows (IsSouth y) south k) where
+    pub north_next : r.y <ℤ y → new_north ≡ more → new_south ≡ south → more ≡ north ++ r ∷ [] → IsSoFar p rows (IsNorth y) new_north (k + 1) × IsSoFar p rows (IsSouth y) new_south (k + 1)
+    north_next low e f g =
+        let items : new_north ≡ north ++ r ∷ [] = e ∙ g in
+        let more_held = Hold-push north new_north r items in (
+          part_next p rows (IsNorth y) north new_north k r at n (AreRows-push north new_north r items p n.are is) (λ i h. more_held i (inl h)) (λ i h t. more_held i (inr h)),
+          subst (λ part. IsSoFar p rows (IsSouth y) part (k + 1)) (sym f)
+              (part_next p rows (IsSouth y) south south k r at s s.are (λ i h. h) (λ i h t. let same = is.same i h in absurd (omega (arith, ints)))),
+        )
+
+    pub south_next : y ≤ℤ r.y → new_north ≡ north → new_south ≡ more → more ≡ south ++ r ∷ [] → IsSoFar p rows (IsNorth y) new_north (k + 1) × IsSoFar p rows (IsSouth y) new_south (k + 1)
+    south_next high e f g =
+        let items : new_south ≡ south ++ r ∷ [] = f ∙ g in
+        let more_held = Hold-push south new_south r items in (
+          subst (λ part. IsSoFar p rows (IsNorth y) part (k + 1)) (sym e)
+              (part_next p rows (IsNorth y) north north k r at n n.are (λ i h. h) (λ i h t. let same = is.same i h in absurd (omega (arith, ints)))),
+          part_next p rows (IsSouth y) south new_south k r at s (AreRows-push south new_south r items p s.are is) (λ i h. more_held i (inl h)) (λ i h t. more_held i (inr h)),
+        )

@@ -1,0 +1,145 @@
+//! Blocks of 16 by 16 cells, which are read at once.
+
+ghost use Rattle.std.specs.Prelude.{◌≡◌, ℕ, ◌+◌, ◌<◌, ◌≤◌, ◌^◌, pos, neg_ℤ, ◌+ℤ◌, ◌≤ℤ◌, IfOk, MatchOption};
+ghost use Rattle.ca_plane.specs.Sparse.{IsSparse};
+ghost use Rattle.ca_quad.specs.Sound.{Grows};
+ghost use Rattle.ca_quad.specs.inner.Block.{block_cells, IsCell, TellsPlace, IsPut, IsRight};
+ghost use Rattle.ca_quad.specs.inner.Filled.{counted, LiesNear};
+ghost use Rattle.ca_quad.specs.inner.Rows.{point_at, IsInRow, IsRow, AreRows, Cover};
+ghost use Rattle.ca_quad.specs.inner.Window.{ShowsFrom};
+
+use super::Store;
+use super::read::half_side;
+use super::rows::Row;
+use crate::id::Id;
+use crate::tree::Spot;
+use ca_plane::{Memory, Point};
+
+impl Store {
+    // The square of level 4 whose corner lies there and which shows the cells, of which the rows hold all that lie there.
+    pub(super) fn fill_block(
+        &mut self,
+        cells: &[(Point, u8)],
+        rows: &[Row],
+        at: Spot,
+    ) -> Result<Id, Memory>
+        requires near { LiesNear 16 at }
+        requires sparse { IsSparse cells.now }
+        requires rows { AreRows cells.now rows.now }
+        requires cover { Cover cells.now rows.now 16 at }
+        ensures shows { IfOk result (λ id. ShowsFrom self.new id 4 (counted cells.now at) 0 0) }
+        ensures grows { Grows self.old self.new }
+    {
+        let states = states_of(cells, rows, at);
+        self.gather(&states, 4, 0, 0)
+    }
+
+    // The square of this level with the cells of a block from a place on.
+    fn gather(&mut self, states: &[u8; 256], level: u8, x: usize, y: usize) -> Result<Id, Memory>
+        requires least { 1 ≤ level }
+        requires most { level ≤ 4 }
+        requires x { x + 2 ^ level ≤ 16 }
+        requires y { y + 2 ^ level ≤ 16 }
+        ensures shows { IfOk result (λ id. ShowsFrom self.new id level (block_cells states.now) x y) }
+        ensures grows { Grows self.old self.new }
+    {
+        if level == 1 {
+            return self.gather_leaf(states, x, y);
+        }
+        let half = half_side(level) as usize;
+        let nw = self.gather(states, level - 1, x, y)?;
+        let ne = self.gather(states, level - 1, x + half, y)?;
+        let sw = self.gather(states, level - 1, x, y + half)?;
+        let se = self.gather(states, level - 1, x + half, y + half)?;
+        self.join(nw, ne, sw, se)
+    }
+
+    // The 2 by 2 square with the cells of a block from a place on.
+    fn gather_leaf(&mut self, states: &[u8; 256], x: usize, y: usize) -> Result<Id, Memory>
+        requires x { x ≤ 14 }
+        requires y { y ≤ 14 }
+        ensures shows { IfOk result (λ id. ShowsFrom self.new id 1 (block_cells states.now) x y) }
+        ensures grows { Grows self.old self.new }
+    {
+        self.leaf(
+            block_cell(states, x, y),
+            block_cell(states, x + 1, y),
+            block_cell(states, x, y + 1),
+            block_cell(states, x + 1, y + 1),
+        )
+    }
+}
+
+// The state of a block's cell.
+fn block_cell(states: &[u8; 256], x: usize, y: usize) -> u8
+    requires x { x ≤ 15 }
+    requires y { y ≤ 15 }
+    ensures { result ≡ block_cells states.now x y }
+{
+    states[16 * y + x]
+}
+
+// The states of the block whose corner lies there; the rows hold all cells that lie there.
+fn states_of(cells: &[(Point, u8)], rows: &[Row], at: Spot) -> [u8; 256]
+    requires near { LiesNear 16 at }
+    requires sparse { IsSparse cells.now }
+    requires rows { AreRows cells.now rows.now }
+    requires cover { Cover cells.now rows.now 16 at }
+    ensures { (x y : ℕ) → x < 16 → y < 16 → IsRight cells.now at result x y }
+{
+    let mut states = [0; 256];
+    'rows: for &row in rows {
+        put_row(&mut states, cells, row, at);
+    }
+    states
+}
+
+// Writes the states of a row's cells, of those that lie in the block.
+fn put_row(states: &mut [u8; 256], cells: &[(Point, u8)], row: Row, at: Spot)
+    requires near { LiesNear 16 at }
+    requires sparse { IsSparse cells.now }
+    requires row { IsRow cells.now row }
+    ensures put { (i x y : ℕ) → IsInRow row i → IsCell at (point_at cells.now i) x y → IsRight cells.now at states.new x y }
+    ensures kept { (x y : ℕ) → x < 16 → y < 16 → IsRight cells.now at states.old x y → IsRight cells.now at states.new x y }
+{
+    'places: for place in row.first..row.end {
+        let (point, state) = cells[place];
+        put_cell(states, point, state, at);
+    }
+}
+
+// Writes the state of a cell, where it lies in the block.
+fn put_cell(states: &mut [u8; 256], point: Point, state: u8, at: Spot)
+    requires near { LiesNear 16 at }
+    ensures { IsPut at point state states.old states.new }
+{
+    if let Some(place) = place_in(point, at) {
+        states[place] = state;
+    }
+}
+
+// The place of a point's state in a block, where the point lies there.
+fn place_in(point: Point, at: Spot) -> Option<usize>
+    requires near { LiesNear 16 at }
+    ensures { TellsPlace at point result }
+{
+    let x = way(at.x, point.x)?;
+    let y = way(at.y, point.y)?;
+    Some(16 * y + x)
+}
+
+// How far the coordinate lies behind the first one, where that is less than 16.
+fn way(first: i128, coordinate: i64) -> Option<usize>
+    requires low { neg_ℤ (pos (2 ^ 64)) ≤ℤ first }
+    requires high { (first +ℤ pos 16) ≤ℤ pos (2 ^ 64) }
+    ensures { MatchOption result ((n : ℕ) → n < 16 → coordinate ≡ first +ℤ pos n → ⊥) (λ n. (n < 16) × (coordinate ≡ first +ℤ pos n)) }
+{
+    let way = i128::from(coordinate) - first;
+    if way < 0 {
+        return None;
+    }
+    if way >= 16 {
+        return None;
+    }
+    Some(way as usize)
+}
