@@ -2,3 +2,9 @@ pub mod Leaves
 pub mod LeafLines
 pub mod Numbers
 pub mod Worked
+pub mod Drawings
+pub mod KeptSquares
+pub mod LinesRead
+pub mod EmptySquares
+pub mod Ranges
+pub mod Saying

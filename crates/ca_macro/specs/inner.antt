@@ -3,3 +3,4 @@ pub mod Leaves
 pub mod Numbers
 pub mod Comments
 pub mod Lines
+pub mod Reading

@@ -16,7 +16,8 @@ use ca_plane::bytes::next_word;
 pub(crate) use comment::Comment;
 use comment::said_by;
 use leaf::{is_leaf_byte, leaf};
-use numbers::{Numbers, five_numbers};
+pub(crate) use numbers::Numbers;
+use numbers::five_numbers;
 
 /// What a line says.
 #[derive(Clone, Copy)]

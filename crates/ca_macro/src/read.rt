@@ -1,18 +1,78 @@
 //! The reader of macrocell.
 
-ghost use Rattle.std.specs.Prelude.{◌<◌, IfOk, IfErr};
+ghost use Rattle.std.specs.Prelude.{◌≡◌, ◌⊎◌, ◌<◌, List, [], ◌∷◌, ◌++◌, true, IfOk, IfErr};
 ghost use Rattle.ca_plane.specs.Bytes.{IsWord};
 ghost use Rattle.ca_plane.specs.Limits.{generation_limit};
-ghost use Rattle.ca_quad.specs.Sound.{Grows};
-ghost use Rattle.ca_macro.specs.File.{File, IsFile};
-ghost use Rattle.ca_macro.specs.Limits.{IsWithinRange};
+ghost use Rattle.ca_quad.specs.Sound.{IsSound, Grows};
+ghost use Rattle.ca_macro.specs.declared.fault.MacroFault.TheVariants.{Range, Memory};
+ghost use Rattle.ca_macro.specs.File.{Said, File, IsFile, begins_macro};
+ghost use Rattle.ca_macro.specs.Limits.{IsWithinRange, IsOutOfRange};
 ghost use Rattle.ca_macro.specs.Faults.{IsFaultOf};
 ghost use Rattle.ca_macro.specs.Pattern.{IsPatternOf};
+ghost use Rattle.ca_macro.specs.inner.Reading.{IsReading, file_of};
+
+mod empties;
+mod range;
+mod reading;
+mod squares;
 
 use crate::fault::MacroFault;
 use crate::pattern::MacroPattern;
+use ca_plane::bytes::next_line;
+use ca_plane::text::rule_text;
 use ca_quad::Store;
+use range::trim_in_range;
+use reading::Reading;
 use std::alloc::Global;
+
+/// What the lines behind the first one say, read into the store.
+fn read_lines<'a>(
+    alloc: Global,
+    store: &mut Store,
+    bytes: &'a [u8],
+) -> Result<Reading<'a>, MacroFault>
+    requires { begins_macro bytes.now ≡ true }
+    ensures found { IfOk result (λ r. (said : List Said) × IsFile bytes.now (file_of said) × IsReading store.new said r) }
+    ensures fault { IfErr result (λ f. IsFaultOf bytes.now f) }
+    ensures grows { Grows store.old store.new }
+{
+    let _ = store.count();
+    let mut reading = Reading::new(alloc);
+    let (_, mut rest) = next_line(bytes);
+    'lines: while !rest.is_empty() {
+        let (line, later) = next_line(rest);
+        reading.read(store, line)?;
+        rest = later;
+    }
+    Ok(reading)
+}
+
+/// The pattern of a text whose lines have been read.
+fn pattern_of(
+    alloc: Global,
+    store: &mut Store,
+    reading: &Reading<'_>,
+) -> Result<MacroPattern, MacroFault>
+    requires { (said : List Said) × IsReading store.old said reading.now }
+    ensures found { IfOk result (λ p. (said : List Said) → IsReading store.old said reading.now
+        → IsWithinRange (file_of said) × IsPatternOf store.new (file_of said) p) }
+    ensures generation { IfOk result (λ p. p.generation < generation_limit) }
+    ensures rule { IfOk result (λ p. IsWord p.rule_text.items) }
+    ensures fault { IfErr result (λ f. (said : List Said) → IsReading store.old said reading.now
+        → (f ≡ Memory) ⊎ ((f ≡ Range) × IsOutOfRange (file_of said))) }
+    ensures grows { Grows store.old store.new }
+{
+    let root = reading.squares.root(store)?;
+    let tree = trim_in_range(alloc, store, root)?;
+    let Ok(rule_text) = rule_text(alloc, reading.rule) else {
+        return Err(MacroFault::Memory);
+    };
+    Ok(MacroPattern {
+        tree,
+        rule_text,
+        generation: reading.generation,
+    })
+}
 
 /// Reads a macrocell text (Golly Help, File Formats; docs/FORMATS.md) into the store: the pattern that it holds, the centre of
 /// its root at the corner between the cells (-1, -1) and (0, 0).
@@ -39,6 +99,10 @@ pub fn read_macro(
     // Every old square stays.
     ensures grows { Grows store.old store.new }
 {
-    let _ = (alloc, &store, bytes);
-    Err(MacroFault::Memory)
+    let _ = store.count();
+    if !bytes.starts_with(b"[M2]") {
+        return Err(MacroFault::NotMacro);
+    }
+    let reading = read_lines(alloc, store, bytes)?;
+    pattern_of(alloc, store, &reading)
 }

@@ -1,0 +1,94 @@
+-- How a macrocell text is read into a store of squares, a line at a time.
+use Rattle.std.specs.Prelude.{◌≡◌, ℕ, suc, ◌-◌, ◌<◌, ◌≤◌, ℤ, List, [], ◌∷◌, length, slice_index, Option, None, Some, IfSome, unwrap_or}
+use Rattle.std.specs.List.{flat_map}
+use Rattle.std.specs.Option.{option_copied}
+use Rattle.ca_plane.specs.Bytes.{IsWord}
+use Rattle.ca_plane.specs.Limits.{generation_limit, default_rule}
+use Rattle.ca_plane.specs.Plane.{Picture, IsPicture, cell}
+use Rattle.ca_quad.specs.declared.node.Node.{Node as Kept}
+use Rattle.ca_quad.specs.declared.tree.Tree.{Tree}
+use Rattle.ca_quad.specs.Squares.{cell_of}
+use Rattle.ca_quad.specs.Sound.{IsSound}
+use Rattle.ca_quad.specs.Trees.{Shows, IsTree, from_corner}
+use Rattle.ca_macro.specs.declared.fault.MacroFault.{MacroFault}
+use Rattle.ca_macro.specs.declared.fault.MacroFault.TheVariants.{NotMacro, Timeline, Syntax, Forward, Level, LeafSize, Range, GenTooLarge, Memory}
+use Rattle.ca_macro.specs.declared.line.numbers.Numbers.{Numbers}
+use Rattle.ca_macro.specs.declared.read.reading.Reading.{Reading}
+use Rattle.ca_macro.specs.declared.read.squares.Squares.{Squares}
+use Rattle.ca_macro.specs.Nodes.{Node, Parts, level_of, Names, StandsBehind}
+use Rattle.ca_macro.specs.File.{Said, File, added, last_rule, last_generation}
+use Rattle.ca_macro.specs.Shown.{numbered, squares_of}
+use Rattle.ca_macro.specs.Faults.{AreFaulty, HasBadPart, AddNode}
+use Rattle.ca_macro.specs.inner.Numbers.{kept_of}
+
+-- the square shows the cells of a picture, counted from its upper left corner
+pub record Draws (store : List Kept) (square : Tree) (picture : Picture) : Type 0 where
+  pub is_tree : IsTree store square
+  pub states : IsPicture picture
+  pub has_cells : (x y : ℤ) → cell picture x y ≡ from_corner (cell_of store square.level square.root) x y
+
+-- each node's square has its level and shows its picture
+abbrev pub AreDrawn : List Kept → List Node → List Picture → List Tree → Type 0
+AreDrawn store [] [] [] = Unit {0}
+AreDrawn store [] [] (t ∷ ts) = ⊥
+AreDrawn store [] (p ∷ ps) ts = ⊥
+AreDrawn store (n ∷ ns) [] ts = ⊥
+AreDrawn store (n ∷ ns) (p ∷ ps) [] = ⊥
+AreDrawn store (n ∷ ns) (p ∷ ps) (t ∷ ts) = (t.level ≡ level_of n) × Draws store t p × AreDrawn store ns ps ts
+
+-- the squares of level 1, 2 and so on whose cells are all 0
+abbrev pub AreEmpties : List Kept → List ℕ → Type 0
+AreEmpties store ids = (i : ℕ) → i < length ids → Shows store (slice_index ids i) (suc i) (λ x y. 0)
+
+-- the squares that are kept for a text's nodes
+pub record AreSquares (store : List Kept) (nodes : List Node) (squares : Squares) : Type 0 where
+  pub sound : IsSound store
+  pub drawn : AreDrawn store nodes (squares_of nodes) squares.squares.items
+  pub empties : AreEmpties store squares.empties.ids.items
+
+-- a number names a part of this level: the empty square, or this one
+abbrev pub IsPart : List Kept → List Node → (level number : ℕ) → Option ℕ → Type 0
+IsPart store nodes level number None = number ≡ 0
+IsPart store nodes level number (Some id) =
+    Names nodes level number × Draws store (record { root = id; level = level }) (numbered (squares_of nodes) number)
+
+-- a number may not name a part of this level, and this is why
+abbrev pub IsBadNumber : MacroFault → List Node → (level number : ℕ) → Type 0
+IsBadNumber NotMacro nodes level number = ⊥
+IsBadNumber Timeline nodes level number = ⊥
+IsBadNumber Syntax nodes level number = ⊥
+IsBadNumber Forward nodes level number = length nodes < number
+IsBadNumber Level nodes level number = (number ≤ length nodes) × (Names nodes level number → ⊥)
+IsBadNumber LeafSize nodes level number = ⊥
+IsBadNumber Range nodes level number = ⊥
+IsBadNumber GenTooLarge nodes level number = ⊥
+IsBadNumber Memory nodes level number = ⊥
+
+-- of these numbers this is kept
+pub record KeepsParts (kept : Numbers) (nw ne sw se : ℕ) : Type 0 where
+  pub is_nw : kept.nw ≡ kept_of nw
+  pub is_ne : kept.ne ≡ kept_of ne
+  pub is_sw : kept.sw ≡ kept_of sw
+  pub is_se : kept.se ≡ kept_of se
+
+-- four numbers can't be a square's parts, or there is no memory for the square
+abbrev pub HaveFault : MacroFault → List Node → (level nw ne sw se : ℕ) → Type 0
+HaveFault Memory nodes level nw ne sw se = StandsBehind nodes (Parts level nw ne sw se)
+HaveFault f nodes level nw ne sw se = HasBadPart nodes (level - 1) (nw ∷ ne ∷ sw ∷ se ∷ []) (IsBadNumber f nodes (level - 1))
+
+-- the fault of a line with these words behind earlier nodes
+abbrev pub HasFault : MacroFault → List Node → List (List ℕ) → Type 0
+HasFault Memory earlier words = AddNode earlier words
+HasFault f earlier words = AreFaulty f earlier words
+
+-- what is kept once lines have said this
+pub record IsReading (store : List Kept) (said : List Said) (reading : Reading) : Type 0 where
+  pub squares : AreSquares store (flat_map added said) reading.squares
+  pub rule : (text : List ℕ) → last_rule text said ≡ unwrap_or (option_copied reading.rule) text
+  pub word : IfSome reading.rule (λ r. IsWord r.now)
+  pub generation : last_generation 0 said ≡ reading.generation
+  pub limit : reading.generation < generation_limit
+
+-- the file of lines that say this
+abbrev pub file_of : List Said → File
+file_of said = record { nodes = flat_map added said; rule_text = last_rule default_rule said; generation = last_generation 0 said }

@@ -1,0 +1,64 @@
+//! Whether the live cells of a tree are in range.
+
+ghost use Rattle.std.specs.Prelude.{◌≡◌, ◌⊎◌, ◌↔◌, ◌≤ℤ◌, ◌<ℤ◌, ℤ, pos, neg_ℤ, IsTrue, IfOk, OnOk, IfErr};
+ghost use Rattle.ca_plane.specs.Limits.{range};
+ghost use Rattle.ca_quad.specs.Sound.{Grows};
+ghost use Rattle.ca_quad.specs.Trees.{IsTree, cell};
+ghost use Rattle.ca_quad.specs.Trimmed.{IsTrimmed};
+ghost use Rattle.ca_macro.specs.declared.fault.MacroFault.TheVariants.{Range, Memory};
+ghost use Rattle.ca_macro.specs.Pattern.{AreInRange};
+
+use crate::fault::MacroFault;
+use ca_quad::{Store, Tree, WideBounds};
+use std::alloc::Global;
+
+/// Coordinates of live cells are from -2^60 to 2^60 - 1.
+const RANGE: i128 = 1 << 60;
+
+fn is_in_range(cells: WideBounds) -> bool
+    ensures { IsTrue result ↔ ((neg_ℤ (pos range) ≤ℤ cells.x0) × (cells.x1 <ℤ pos range) × (neg_ℤ (pos range) ≤ℤ cells.y0) × (cells.y1 <ℤ pos range)) }
+{
+    -RANGE <= cells.x0 && cells.x1 < RANGE && -RANGE <= cells.y0 && cells.y1 < RANGE
+}
+
+/// Judges whether each live cell of the tree is in range.
+///
+/// # Errors
+///
+/// `Range` where a live cell isn't, and `Memory` where there is none to find that out.
+fn check_range(alloc: Global, store: &Store, tree: Tree) -> Result<(), MacroFault>
+    requires { IsTree store.now tree }
+    ensures good { OnOk result (AreInRange (cell store.now tree)) }
+    ensures fault { IfErr result (λ f. (f ≡ Memory) ⊎ ((f ≡ Range) × (AreInRange (cell store.now tree) → ⊥))) }
+{
+    let Some(cells) = store.bounds(alloc, tree)? else {
+        return Ok(());
+    };
+    if !is_in_range(cells) {
+        return Err(MacroFault::Range);
+    }
+    Ok(())
+}
+
+/// The tree of the least level with the same cells, where they are in range.
+///
+/// # Errors
+///
+/// `Range` where a live cell is out of range, and `Memory` where there is none.
+pub(crate) fn trim_in_range(
+    alloc: Global,
+    store: &mut Store,
+    tree: Tree,
+) -> Result<Tree, MacroFault>
+    requires { IsTree store.old tree }
+    ensures tree { IfOk result (IsTree store.new) }
+    ensures cells { IfOk result (λ t. (x y : ℤ) → cell store.new t x y ≡ cell store.old tree x y) }
+    ensures trimmed { IfOk result (IsTrimmed store.new) }
+    ensures range { OnOk result (AreInRange (cell store.old tree)) }
+    ensures fault { IfErr result (λ f. (f ≡ Memory) ⊎ ((f ≡ Range) × (AreInRange (cell store.old tree) → ⊥))) }
+    ensures grows { Grows store.old store.new }
+{
+    let _ = store.count();
+    check_range(alloc, store, tree)?;
+    Ok(store.trim(tree)?)
+}

@@ -1,0 +1,80 @@
+//! A macrocell text read, a line at a time.
+
+ghost use Rattle.std.specs.Prelude.{◌≡◌, ℕ, List, [], ◌∷◌, ◌++◌, not, OnOk, IfErr};
+ghost use Rattle.std.specs.List.{flat_map};
+ghost use Rattle.ca_plane.specs.Bytes.{Every, is_line_end, words_of};
+ghost use Rattle.ca_quad.specs.declared.node.Node.{Node as Kept};
+ghost use Rattle.ca_quad.specs.Sound.{IsSound, Grows};
+ghost use Rattle.ca_macro.specs.File.{Said, WordsSay, IsAllowed, added};
+ghost use Rattle.ca_macro.specs.inner.Comments.{said_of};
+ghost use Rattle.ca_macro.specs.inner.Reading.{IsReading, HasFault};
+
+use crate::fault::MacroFault;
+use crate::line::{Comment, Line, read_line};
+use crate::read::squares::Squares;
+use ca_quad::Store;
+use std::alloc::Global;
+
+/// What the lines of a text have said so far.
+#[derive(Drop)]
+pub(crate) struct Reading<'a> {
+    pub(crate) squares: Squares,
+    pub(crate) rule: Option<&'a [u8]>,
+    pub(crate) generation: u64,
+}
+
+impl<'a> Reading<'a> {
+    /// Before the first line.
+    pub(crate) fn new(alloc: Global) -> Reading<'a>
+        ensures { (store : List Kept) → IsSound store → IsReading store [] result }
+    {
+        Reading {
+            squares: Squares::new(alloc),
+            rule: None,
+            generation: 0,
+        }
+    }
+
+    /// A line says the rule text, the generation, or nothing.
+    fn comment(&mut self, comment: Comment<'a>)
+        ensures { (store : List Kept) (said : List Said) (line : List ℕ) → Every (λ b. not (is_line_end b)) line → WordsSay (words_of line) (said_of comment.entry)
+            → IsReading store said self.old → IsReading store (said ++ said_of comment.entry ∷ []) self.new }
+    {
+        match comment {
+            Comment::Nothing => {}
+            Comment::Rule(text) => self.rule = Some(text),
+            Comment::Generation(count) => self.generation = count,
+        }
+    }
+
+    /// The next line of the text.
+    ///
+    /// # Errors
+    ///
+    /// The line's fault; and `Memory` where there is none for the node of a good line.
+    pub(crate) fn read(&mut self, store: &mut Store, line: &'a [u8]) -> Result<(), MacroFault>
+        requires line { Every (λ b. not (is_line_end b)) line.now }
+        requires reading { (said : List Said) × IsReading store.old said self.old }
+        ensures said { OnOk result ((said : List Said) → IsReading store.old said self.old
+            → (s : Said) × WordsSay (words_of line.now) s × IsAllowed (flat_map added said) s × IsReading store.new (said ++ s ∷ []) self.new) }
+        ensures fault { IfErr result (λ f. (said : List Said) → IsReading store.old said self.old
+            → HasFault f (flat_map added said) (words_of line.now)) }
+        ensures grows { Grows store.old store.new }
+    {
+        match read_line(line)? {
+            Line::Comment(comment) => {
+                self.comment(comment);
+                Ok(())
+            }
+            Line::Leaf(rows) => {
+                self.squares.add_leaf(store, &rows)?;
+                Ok(())
+            }
+            Line::Cells(states) => {
+                self.squares.add_cells(store, states)?;
+                Ok(())
+            }
+            Line::Parts(numbers) => self.squares.add_parts(store, numbers),
+        }
+    }
+}
