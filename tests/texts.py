@@ -136,7 +136,7 @@ BAD_BODIES = (
 
 # Whole files, and what is wrong with them.
 BAD_FILES = (
-    ("", "header"), ("#C only a comment", "header"), ("#C only a comment\n", "header"), ("[M2]\n", "header"), ("bo$!", "header"), ("bo$2bo$3o!", "header"),
+    ("", "header"), ("#C only a comment", "header"), ("#C only a comment\n", "header"), (" [M2]\n", "header"), ("[M1]\n", "header"), ("[M2", "header"), ("bo$!", "header"), ("bo$2bo$3o!", "header"),
     ("\ufeffx = 1, y = 1\no!", "header"), ("x = 3, y = 3,\n3o!", "header"), ("x = 3, y = 3, rules = B3/S23\no!", "header"), ("X = 3, y = 3\n3o!", "header"),
     ("x = -3, y = 3\n3o!", "header"), ("x = 3, y = \n3o!", "header"), ("x = 3\ny = 3\n3o!", "header"), ("#r 23/3\nx = 1, y = 1,\no!", "header"),
     ("#r 23/3\nx = 1, y = 1\no!", "xlife rule"), ("#r 23/3\nx = 1, y = 1\n0o!", "xlife rule"), (" #r\t\n# c\nx = 1, y = 1, rule =\no!", "xlife rule"),

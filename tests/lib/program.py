@@ -42,8 +42,14 @@ def contents(path):
         return file.read()
 
 
+def example_words(file):
+    """The words that the program is started with for an example: those of NAME.words, or `verify` and the claim text."""
+    path = os.path.join(EXAMPLES, file)
+    return contents(path).decode().split("\n")[:-1] if file.endswith(".words") else ["verify", f"examples/{file}"]
+
+
 def example(name):
-    """What a claim text of examples/ has to come to, by the files beside it."""
+    """What an example has to come to, by the files beside it."""
     path = os.path.join(EXAMPLES, name)
     return Outcome(contents(f"{path}.stdout"), contents(f"{path}.stderr"), int(contents(f"{path}.status")))
 
