@@ -306,12 +306,16 @@ class Sloppy:
     def text(self, tree, rule, generation):
         """The text of a tree."""
         self.node(tree.root, tree.level, True)
-        for value, lines in ((rule, ("#R Other", f"#R {rule}", f"\t#R  {rule} more")), (generation, ("#G 12", f"#G {generation}", f"#G\t000{generation} "))):
-            kept = [lines[0]] * self.chance.randrange(3) + [self.chance.choice(lines[1:])] * (value not in ("B3/S23", 0) or self.chance.random() < 0.5)
-            if value in ("B3/S23", 0) and len(kept) and kept[-1] == lines[0]:
-                kept.append(lines[1])
-            for place, line in zip(sorted(self.chance.randrange(len(self.lines) + 1) for _ in kept), kept[::-1]):
-                self.lines.insert(len(self.lines) - place, line)
+        for wrong, right, is_usual in (
+            ("#R Other", (f"#R {rule}", f"\t#R  {rule} more"), rule == "B3/S23"),
+            ("#G 12", (f"#G {generation}", f"#G\t000{generation} "), generation == 0),
+        ):
+            said = [wrong] * self.chance.randrange(3)
+            if said or not is_usual or self.chance.random() < 0.5:
+                said.append(self.chance.choice(right))
+            places = sorted(self.chance.randrange(len(self.lines) + 1) for _ in said)
+            for place, line in reversed(list(zip(places, said))):
+                self.lines.insert(place, line)
         end = self.chance.choice(("\n", "\n", "\r\n"))
         head = self.chance.choice(("[M2] (golly 4.2)", "[M2]", "[M2] 4 0 0 0", "[M2]#FRAMES"))
         return (end.join([head, *self.lines]) + self.chance.choice((end, ""))).encode()
