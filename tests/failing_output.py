@@ -7,6 +7,9 @@ import subprocess
 from lib.program import PROGRAM, Outcome, ROOT, Tally, fault, run
 
 VERIFY = ["verify", "examples/block.claims"]
+SHOW = ["show", "examples/macrocell/glider.mc"]
+CONVERT = ["convert", "examples/glider.rle", "--to", "mc"]
+BACK = ["convert", "examples/macrocell/gun.mc", "--to", "rle"]
 
 FAILED_WRITE = fault("write")
 
@@ -22,23 +25,26 @@ def without(descriptor, words):
 def main():
     tally = Tally()
     with open("/dev/full", "wb") as full, open(os.devnull, "rb") as unwritable:
-        for words in (VERIFY, ["verify", "examples/several.claims"], ["--help"], ["--version"]):
+        for words in (VERIFY, ["verify", "examples/several.claims"], SHOW, CONVERT, BACK, ["--help"], ["--version"]):
             name = " ".join(words)
             tally.expect(f"a full standard output, {name}", run(words, stdout=full), FAILED_WRITE)
             tally.expect(f"a closed standard output, {name}", without(1, words), FAILED_WRITE)
             tally.expect(f"a standard output that is open for reading alone, {name}", run(words, stdout=unwritable), FAILED_WRITE)
         tally.expect("a full standard output, and a text that has a fault", run(["verify", "examples/syntax.claims"], stdout=full),
                      fault("claims line 2: syntax"))
+        tally.expect("a full standard output, and a pattern that has a fault", run(["show", "examples/bad/syntax.mc"], stdout=full),
+                     fault("bad pattern: macrocell syntax"))
         for name in ("no_claims", "nothing"):
             tally.expect(f"a full standard output, and no claims, {name}", run(["verify", f"examples/{name}.claims"], stdout=full), Outcome(b"", b"", 0))
-        for words in (["verify", "examples/syntax.claims"], ["verify", "examples/lost"], ["verify"]):
+        for words in (["verify", "examples/syntax.claims"], ["verify", "examples/lost"], ["verify"], ["show", "examples/lost"], ["show"]):
             tally.expect(f"a full standard error, {' '.join(words)}", run(words, stderr=full), Outcome(b"", b"", 2))
             tally.expect(f"a closed standard error, {' '.join(words)}", without(2, words), Outcome(b"", b"", 2))
         tally.expect("a full standard output and a full standard error", run(VERIFY, stdout=full, stderr=full), Outcome(b"", b"", 2))
         reading, writing = os.pipe()
         os.close(reading)
         with os.fdopen(writing, "wb") as pipe:
-            tally.expect("a pipe that nothing reads", run(VERIFY, stdout=pipe), FAILED_WRITE)
+            for words in (VERIFY, SHOW, CONVERT):
+                tally.expect(f"a pipe that nothing reads, {words[0]}", run(words, stdout=pipe), FAILED_WRITE)
     tally.finish()
 
 

@@ -5,8 +5,10 @@ Each allocation of a run is refused in turn, by tests/refuse.c, which is loaded 
 Of each run either nothing changed, or it ended with `cafile: memory` and printed nothing, or one line became `refused, memory`. Besides:
 
 - each claim whose pattern reads is refused by some run: so one that lacks memory doesn't end the whole run;
-- a claim whose file, or a rule file, is missing or doesn't read is refused for that in every run;
+- a claim whose file, or a rule file, is missing, or whose rule file or RLE doesn't read, is refused for that in every run;
 - claims are refused in their order, and a run ends whole between two of them only where the list of the answers grows.
+
+A run of `show` or `convert` prints all that it prints with ample memory, or nothing and `cafile: memory`.
 
 Of runs with many allocations some are tried. At the end memory is refused by the system itself, to a pattern that is too large for it, and the claims round it are answered.
 """
@@ -17,12 +19,17 @@ import shutil
 import subprocess
 import tempfile
 
-from lib.program import ROOT, Tally, example, fault, lines_outcome, run
+from lib.program import ROOT, Tally, example, example_words, fault, lines_outcome, run
 from sizes import long_text
 
 # Claim texts of examples/, and how many allocations are passed over between two that are refused.
 EXAMPLES = {"block": 1, "glider": 1, "several": 1, "bad_patterns": 1, "rules": 1, "mixed_rules": 1, "states": 1, "pulsar": 1, "number": 1, "syntax": 1,
-            "unknown_name": 1, "table_causes": 1, "bad_table": 1, "slide": 1, "tables": 5, "r_pentomino": 11}
+            "unknown_name": 1, "table_causes": 1, "bad_table": 1, "slide": 1, "tables": 5, "r_pentomino": 11, "macrocells": 11, "bad_macrocells": 5}
+
+# Examples of `show` and `convert`, in both formats, with a rule file and without, and with a fault.
+WORDS = {"show_rle": 1, "show_macrocell": 1, "show_table": 1, "show_no_table": 1, "show_bad_table": 1, "show_timeline": 1, "show_full_square": 7,
+         "convert_to_macrocell": 1, "convert_to_rle": 1, "convert_both_leaves": 1, "convert_table_to_macrocell": 1, "convert_table_to_rle": 1,
+         "convert_empty_to_macrocell": 1, "convert_too_many_cells": 7, "convert_full_square": 7, "convert_gun_to_macrocell": 3}
 
 NO_MEMORY = fault("memory")
 
@@ -85,8 +92,8 @@ def changed_line(ample, outcome):
 
 
 def needs_no_memory(line):
-    """Whether a claim's ample answer says that a file is missing or doesn't read."""
-    return any(b": refused, " + cause in line for cause in (b"no file", b"bad table", b"bad pattern"))
+    """Whether a claim's ample answer says that a file is missing, or that a rule file or an RLE doesn't read: macrocell's nodes are kept as they are read."""
+    return any(b": refused, " + cause in line for cause in (b"no file", b"bad table", b"bad pattern: rle"))
 
 
 def judged(ample, outcomes, each_number):
@@ -123,6 +130,20 @@ def try_examples(tally, refusing):
         tally.tell(f"refused memory, examples/{name}.claims: {told}", complaints if outcomes else ["no allocation was refused"])
 
 
+def wrong_ones(ample, outcomes):
+    """The outcomes that are neither the ample one nor want of memory with nothing printed."""
+    return [f"allocation {number}: {it}" for number, it in outcomes.items() if it not in (ample, NO_MEMORY)]
+
+
+def try_words(tally, refusing):
+    """Each allocation of some runs of `show` and `convert` in turn: all is printed as with ample memory, or nothing."""
+    for name, step in WORDS.items():
+        words, ample = example_words(f"{name}.words"), example(name)
+        outcomes = refusing.sweep(words, itertools.count(1, step))
+        complaints = wrong_ones(ample, outcomes) or ([] if NO_MEMORY in outcomes.values() else ["no run met want of memory"])
+        tally.tell(f"refused memory, examples/{name}.words: {len(outcomes)} allocations refused", complaints)
+
+
 def try_large(tally, refusing, folder):
     """Some of the allocations of a long claim text and of a long run."""
     r_pentomino = ["load r examples/r_pentomino.rle", "load s examples/r_pentomino_1103.rle", "becomes r 1103 s", "becomes r 1102 s", "becomes s 0 s"]
@@ -140,21 +161,27 @@ def try_large(tally, refusing, folder):
 
 def try_for_good(tally, refusing):
     """All allocations from one on: the complaint itself takes none."""
-    for words in (["verify", "examples/several.claims"], ["verify", "examples/syntax.claims"], ["verify", "examples/lost"], ["--help"], ["verify"]):
+    for words in (["verify", "examples/several.claims"], ["verify", "examples/syntax.claims"], ["verify", "examples/lost"], ["--help"], ["verify"],
+                  ["show", "examples/macrocell/glider.mc"], ["convert", "examples/glider.rle", "--to", "mc"], ["show", "examples/lost"]):
         ample, outcomes = run(words), refusing.sweep(words, itertools.count(1), goes_on=True)
-        wrong = [f"from allocation {number} on: {it}" for number, it in outcomes.items() if it not in (ample, NO_MEMORY)]
+        wrong = wrong_ones(ample, outcomes)
         tally.tell(f"memory refused for good, {' '.join(words)}: {len(outcomes)} runs", wrong if outcomes else ["no allocation was refused"])
 
 
 def try_a_limit(tally, folder):
-    """A pattern that is too large for the memory that the system gives, between two that aren't."""
+    """A pattern that is too large for the memory that the system gives, between two that aren't, and by itself."""
     large, claims = os.path.join(folder, "large.rle"), os.path.join(folder, "large.claims")
     with open(large, "w", encoding="ascii") as file:
         file.write("x = 16777216, y = 1, rule = B3/S23\n16777216o!\n")
     with open(claims, "w", encoding="ascii") as file:
         file.write(f"load block examples/block.rle\nload large {large}\nstill block\nstill large\nstill block\n")
-    outcome = run(["verify", claims], preexec_fn=lambda: resource.setrlimit(resource.RLIMIT_AS, (LIMIT, LIMIT)))
+    def limit():
+        resource.setrlimit(resource.RLIMIT_AS, (LIMIT, LIMIT))
+
+    outcome = run(["verify", claims], preexec_fn=limit)
     tally.expect("memory refused by the system", outcome, lines_outcome([(3, "yes"), (4, "refused, memory"), (5, "yes")]))
+    for words in (["show", large], ["convert", large, "--to", "mc"]):
+        tally.expect(f"memory refused by the system, {words[0]}", run(words, preexec_fn=limit), NO_MEMORY)
 
 
 def main():
@@ -166,6 +193,7 @@ def main():
         else:
             refusing = Refusing(library, told.fileno())
             try_examples(tally, refusing)
+            try_words(tally, refusing)
             try_large(tally, refusing, folder)
             try_for_good(tally, refusing)
         try_a_limit(tally, folder)

@@ -11,15 +11,25 @@ MAX_FILE = 67108864
 
 def try_words(tally):
     """Help and version come on standard output with status 0, and words that ask for nothing are told on standard error with status 2."""
-    for words, text in ((["--help"], b"verify"), (["verify", "--help"], b"CLAIMS"), (["help", "verify"], b"CLAIMS"), (["--version"], b"cafile ")):
+    for words, text in ((["--help"], b"verify"), (["--help"], b"show"), (["--help"], b"convert"), (["verify", "--help"], b"CLAIMS"),
+                        (["help", "verify"], b"CLAIMS"), (["show", "--help"], b"--rule"), (["convert", "--help"], b"--to"), (["--version"], b"cafile ")):
         outcome = run(words)
         well = text in outcome.printed and (outcome.complaint, outcome.status) == (b"", 0)
         tally.tell(" ".join(words), [] if well else [str(outcome)])
-    for words in ([], ["verify"], ["check", "examples/block.claims"], ["verify", "examples/block.claims", "more"], ["verify", "--fast", "examples/block.claims"]):
+    block = "examples/block.rle"
+    for words in (
+        [], ["verify"], ["check", "examples/block.claims"], ["verify", "examples/block.claims", "more"], ["verify", "--fast", "examples/block.claims"],
+        ["show"], ["show", block, block], ["show", block, "--rule"], ["show", block, "--to", "rle"], ["show", block, "--fast"], ["Show", block],
+        ["show", "--rule", block], ["show", block, "--rule", block, "--rule", block], ["verify", "examples/block.claims", "--rule", block],
+        ["convert"], ["convert", block], ["convert", "--to", "rle"], ["convert", block, "--to"], ["convert", block, "--to", "life"],
+        ["convert", block, "--to", "RLE"], ["convert", block, "--to", ""], ["convert", block, "rle"], ["convert", block, "--to", "rle", "mc"],
+        ["convert", block, "--to", "rle", "--to", "mc"],
+    ):
         outcome = run(words)
         well = outcome.complaint and (outcome.printed, outcome.status) == (b"", 2)
         tally.tell(f"faulty words: {' '.join(words)}", [] if well else [str(outcome)])
-    tally.expect("words that aren't UTF-8", run(["verify", b"\xff.claims"]), fault("usage"))
+    for words in (["verify", b"\xff.claims"], ["show", b"\xff.rle"], ["show", block, "--rule", b"\xff"], ["convert", block, "--to", b"\xff"]):
+        tally.expect(f"words that aren't UTF-8, {words[0]}", run(words), fault("usage"))
 
 
 class Files:
