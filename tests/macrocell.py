@@ -9,7 +9,8 @@ import tempfile
 
 from lib import macrocell, rle
 from lib.macrocell import EDGE
-from lib.program import Outcome, Tally, fault, run
+from lib.program import Tally, ample, fault, run
+from lib.rle import step
 from texts import Table
 
 
@@ -148,11 +149,6 @@ class Runs:
         """Tells the runs up to here as one test."""
         tally.tell(f"{name}: {self.count}", self.complaints)
         self.complaints, self.count = [], 0
-
-
-def ample(text):
-    """The outcome of a run that prints this."""
-    return Outcome(text, b"", 0)
 
 
 def try_faults(tally, folder):
@@ -321,9 +317,21 @@ class Sloppy:
         return (end.join([head, *self.lines]) + self.chance.choice((end, ""))).encode()
 
 
+def claim_of(table, chance, pattern, text):
+    """Claims of a text that its plane is the pattern's, isn't one of a cell less, and becomes what naive steps come to."""
+    cells, rule = pattern.tree.cells(), pattern.rule
+    table.becomes(text, 0, rle.tidy(cells, rule, 0, 2))
+    later = step.steps(cells, step.Counting(rule), 2)
+    if all(-EDGE <= it < EDGE for place in later for it in place):
+        table.becomes(text, 2, rle.tidy(later, rule, 0, 2))
+    if cells:
+        lost = chance.choice(list(cells))
+        table.becomes(text, 0, rle.tidy({place: 1 for place in cells if place != lost}, rule, 0, 2), "no, cells differ after 0")
+
+
 def try_random_planes(tally, folder):
-    """Random planes: shown, converted each way, and back again."""
-    chance, runs = random.Random(1), Runs(folder)
+    """Random planes: shown, converted each way, and back again, and judged."""
+    chance, runs, table_of_claims = random.Random(1), Runs(folder), Table(folder)
     for name in TABLES:
         runs.path(name, table_file(name))
     for _ in range(150):
@@ -334,11 +342,14 @@ def try_random_planes(tally, folder):
         level = min(macrocell.HIGHEST_LEVEL, max(1, pattern.tree.level) + chance.choice((0, 0, 1, 2, 7, 59)))
         sloppy = Sloppy(chance, pattern.tree.squares).text(pattern.tree.fitted(level), rule, pattern.generation)
         tidy, items = macrocell.tidy(pattern, states), rle.tidy(cells, pattern.rule, pattern.generation, states)
+        if not table:
+            claim_of(table_of_claims, chance, pattern, sloppy)
         for text, kind in ((sloppy, "macrocell"), (tidy, "macrocell"), (items, "rle")):
             runs.expect(text, ["show", "FILE", *more], ample(pattern.shown(kind=kind)))
             runs.expect(text, ["convert", "FILE", "--to", "mc", *more], ample(tidy))
             runs.expect(text, ["convert", "FILE", "--to", "rle", *more], ample(items))
     runs.tell(tally, "random planes, shown and converted")
+    table_of_claims.judge(tally, "random planes, judged")
 
 
 def mutilated(chance, text):

@@ -10,7 +10,7 @@ import tempfile
 import time
 
 from lib import rle
-from lib.program import Outcome, Tally, fault, lines_outcome, run
+from lib.program import Tally, ample, fault, lines_outcome, run
 
 # The seconds within which each run has to end.
 BOUND = 20
@@ -51,7 +51,7 @@ def deep_two():
 
 def figures(generation, cells, box, kind="macrocell"):
     """The outcome of `show` under the usual rule."""
-    return Outcome(f"format {kind}\nrule B3/S23\ngen {generation}\ncells {cells}\nbox {box}\n".encode(), b"", 0)
+    return ample(f"format {kind}\nrule B3/S23\ngen {generation}\ncells {cells}\nbox {box}\n".encode())
 
 
 def bad(kind):
@@ -142,11 +142,11 @@ class Texts:
     def round_trip(self, name, text, kind, cells, box):
         """Converts a tidy text of this kind to the other and back, and to its own; and compares the figures of each."""
         other = "rle" if kind == "mc" else "mc"
-        self.converted(name, text, kind, Outcome(text, b"", 0))
+        self.converted(name, text, kind, ample(text))
         path = self.path("there", text)
         between = run(["convert", path, "--to", other])
         self.tally.tell(f"{name}, to {other}", [] if (between.complaint, between.status) == (b"", 0) else [str(between)])
-        self.converted(f"{name}, and back", between.printed, kind, Outcome(text, b"", 0))
+        self.converted(f"{name}, and back", between.printed, kind, ample(text))
         for it, words in ((text, kind), (between.printed, other)):
             self.shown(f"{name}, {words}", it, figures(0, cells, box, "rle" if words == "rle" else "macrocell"))
         loads = f"load a {path}\nload b {self.path('back', between.printed)}\n"
@@ -169,19 +169,19 @@ def try_far_cells(texts):
     corners = header("mc") + "\n".join([*lines, "61 58 116 174 232\n"]).encode()
     items = header("rle", -EDGE, -EDGE, 2 * EDGE, 2 * EDGE) + f"o{2 * EDGE - 2}bo{2 * EDGE - 1}$o{2 * EDGE - 2}bo!\n".encode()
     texts.round_trip("cells at the corners of the range", corners, "mc", 4, ALL)
-    texts.converted("cells at the corners of the range", corners, "rle", Outcome(items, b"", 0))
+    texts.converted("cells at the corners of the range", corners, "rle", ample(items))
     side = 1 << 20
     items = [item for y in range(side) for item in ((f"{y}b" if y > 1 else "b" * y), "o", "$")]
     diagonal = header("rle", -side // 2, -side // 2, side, side) + rle.folded([*filter(None, items[:-1]), "!"]).encode() + b"\n"
-    texts.converted("a diagonal of 2^20 cells", chain(("1 1 0 0 1", 1), "{0} 0 0 {0}", 20), "rle", Outcome(diagonal, b"", 0))
+    texts.converted("a diagonal of 2^20 cells", chain(("1 1 0 0 1", 1), "{0} 0 0 {0}", 20), "rle", ample(diagonal))
     square = header("rle", -2048, -2048, 4096, 4096) + rle.folded(["4096o", "$"] * 4095 + ["4096o", "!"]).encode() + b"\n"
     tree = header("mc") + chain(FULL, FOURFOLD, 12, "").encode()
-    texts.converted("a square of 16777216 cells", square, "mc", Outcome(tree, b"", 0))
-    texts.converted("a square of 16777216 cells", tree, "rle", Outcome(square, b"", 0))
+    texts.converted("a square of 16777216 cells", square, "mc", ample(tree))
+    texts.converted("a square of 16777216 cells", tree, "rle", ample(square))
     for level in (13, 24, 25, 61):
         texts.converted(f"a full square of level {level}", chain(FULL, FOURFOLD, level), "rle", TOO_MANY)
     full = header("mc") + chain(FULL, FOURFOLD, 61, "").encode()
-    texts.converted("the full square of level 61", full, "mc", Outcome(full, b"", 0))
+    texts.converted("the full square of level 61", full, "mc", ample(full))
     texts.converted("a diagonal of 2^61 cells", chain(("1 1 0 0 1", 1), "{0} 0 0 {0}", 61), "rle", TOO_MANY)
 
 
@@ -190,8 +190,8 @@ def try_rows(texts):
     count = 1 << 24
     row = header("mc") + chain(("********$$$$$$$$", 3), "{0} {0} 0 0", 24, "").encode()
     items = header("rle", 0, 0, count, 1) + b"16777216o!\n"
-    texts.converted("a row of 16777216 cells", items, "mc", Outcome(row + b"25 0 0 0 22\n", b"", 0))
-    texts.converted("a row of 16777216 cells", row + b"25 0 0 0 22\n", "rle", Outcome(items, b"", 0))
+    texts.converted("a row of 16777216 cells", items, "mc", ample(row + b"25 0 0 0 22\n"))
+    texts.converted("a row of 16777216 cells", row + b"25 0 0 0 22\n", "rle", ample(items))
     more = row + b"*$\n" + "".join(f"{level} {level + 19} 0 0 0\n" for level in range(4, 25)).encode() + b"25 0 44 0 22\n"
     texts.shown("a cell more", more, figures(0, count + 1, f"0 -{count} {count} {count + 1}"))
     texts.converted("a cell more", more, "rle", TOO_MANY)
@@ -242,7 +242,7 @@ def try_soups(texts):
     text = rle.tidy(cells, "Wide", 5, 256)
     there = run(["convert", texts.path("wide.rle", text), "--to", "mc", "--rule", table])
     texts.expect("a random plane of 256 states, and back", ["convert", texts.path("wide.mc", there.printed), "--to", "rle", "--rule", table],
-                 Outcome(text, b"", 0))
+                 ample(text))
 
 
 def main():

@@ -6,8 +6,7 @@ import os
 import tempfile
 
 from lib import macrocell, rle
-from lib.program import Tally, fault, run
-from macrocell import ample
+from lib.program import Tally, ample, fault, run
 
 MAX_FILE = 67108864
 

@@ -26,6 +26,11 @@ def fault(text):
     return Outcome(b"", f"cafile: {text}\n".encode(), 2)
 
 
+def ample(text):
+    """The outcome of a run that prints this."""
+    return Outcome(text, b"", 0)
+
+
 def lines_outcome(verdicts):
     """The outcome of a run that gives these verdicts, each with the number of its line."""
     status = 0

@@ -5,6 +5,7 @@ import sys
 from lib.program import ROOT
 
 sys.path.append(os.path.join(ROOT, "bench"))
+import step  # noqa: E402
 from step import folded, tag_of  # noqa: E402
 
 
