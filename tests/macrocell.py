@@ -92,14 +92,16 @@ GOOD = (
     ("[M2]\n#G 9\n#G 000\n", {}, 0), ("[M2]\n#R s23b3\n#R S32/B33\n", {}, 0),
     # a leaf is a root of level 3: its upper left cell is at -4,-4
     ("[M2]\n*", at((-4, -4), (0, 0)), 0), ("[M2]\n*$\n", at((-4, -4), (0, 0)), 0), ("[M2]\n*$$$$$$$$", at((-4, -4), (0, 0)), 0),
-    ("[M2]\n.......*\n", at((-4, -4), (7, 0)), 0), ("[M2]\n$$$$$$$.......*$\n", at((-4, -4), (7, 7)), 0), ("[M2]\n$$$$$$$.......*", at((-4, -4), (7, 7)), 0),
+    ("[M2]\n.......*\n", at((-4, -4), (7, 0)), 0), ("[M2]\n$$$$$$$.......*$\n", at((-4, -4), (7, 7)), 0),
+    ("[M2]\n$$$$$$$.......*", at((-4, -4), (7, 7)), 0),
     ("[M2]\n$$*.*.....$$\n", at((-4, -4), (0, 2), (2, 2)), 0), ("[M2]\n  *.*\t \r\n", at((-4, -4), (0, 0), (2, 0)), 0),
     ("[M2]\n$$$$....**$....**$\n", BLOCK, 0),
     ("[M2]\n" + "********$" * 8, {(x, y): 1 for x in range(-4, 4) for y in range(-4, 4)}, 0),
     # a square of level 1 has four states, of which the first is at -1,-1
     ("[M2]\n1 1 0 0 0", {(-1, -1): 1}, 0), ("[M2]\n1 0 1 0 0", {(0, -1): 1}, 0), ("[M2]\n1 0 0 1 0", {(-1, 0): 1}, 0), ("[M2]\n1 0 0 0 1", {(0, 0): 1}, 0),
     ("[M2]\n0001 0 00 000 0001\n", {(0, 0): 1}, 0), ("[M2]\n \t1\t0\r0  0 1\r \r\n", {(0, 0): 1}, 0), ("[M2]\n1 0 0 0 1\r\r\r\n", {(0, 0): 1}, 0),
-    ("[M2]\n1 1 1 1 1\n2 0 0 0 1\n", BLOCK, 0), ("[M2]\n1 1 1 1 1\n2 1 0 0 0\n", at((-2, -2), *BLOCK), 0), ("[M2]\n1 1 1 1 1\n2 0 1 0 0\n", at((0, -2), *BLOCK), 0),
+    ("[M2]\n1 1 1 1 1\n2 0 0 0 1\n", BLOCK, 0), ("[M2]\n1 1 1 1 1\n2 1 0 0 0\n", at((-2, -2), *BLOCK), 0),
+    ("[M2]\n1 1 1 1 1\n2 0 1 0 0\n", at((0, -2), *BLOCK), 0),
     ("[M2]\n1 1 1 1 1\n2 0 0 1 0\n", at((-2, 0), *BLOCK), 0),
     # comments and blank lines have no number, and empty squares have one
     ("[M2]\n#C 1\n1 0 0 0 0\n\n#C 2\n1 0 0 0 1\n#C 3\n2 0 0 0 2\n", {(1, 1): 1}, 0),
@@ -110,7 +112,8 @@ GOOD = (
     (f"[M2]\n{NORTH_WEST}61 58 0 0 0\n", {(-EDGE, -EDGE): 1}, 0), (f"[M2]\n{NORTH_EAST}61 0 0 0 58\n", {(EDGE - 1, 0): 1}, 0),
     (f"[M2]\n{SOUTH_EAST}61 0 0 0 58\n", {(EDGE - 1, EDGE - 1): 1}, 0), (f"[M2]\n{SOUTH_EAST}61 58 0 0 0\n62 0 0 0 59\n", {(EDGE - 1, EDGE - 1): 1}, 0),
     (f"[M2]\n{SOUTH_EAST}61 0 58 0 0\n", {(EDGE - 1, -1): 1}, 0), (f"[M2]\n{SOUTH_EAST}61 0 0 0 58\n62 59 0 0 0\n", {(-1, -1): 1}, 0),
-    (f"[M2]\n{chain('*$', '{} 0 0 0', 119)}120 0 0 0 117\n", {(0, 0): 1}, 0), (f"[M2]\n{chain('$$$$$$$.......*$', '0 0 0 {}', 119)}120 117 0 0 0\n", {(-1, -1): 1}, 0),
+    (f"[M2]\n{chain('*$', '{} 0 0 0', 119)}120 0 0 0 117\n", {(0, 0): 1}, 0),
+    (f"[M2]\n{chain('$$$$$$$.......*$', '0 0 0 {}', 119)}120 117 0 0 0\n", {(-1, -1): 1}, 0),
 )
 
 # A text, cut after each of its bytes.
@@ -121,7 +124,8 @@ GLIDER_CELLS = ((1, 0), (2, 1), (0, 2), (1, 2), (2, 2))
 TABLES = {"Two": 2, "Three": 3, "Wide": 256}
 
 # Rule texts, their printed form, and the file and states of tables.
-RULES = (("B3/S23", "B3/S23", None, 2), ("s6/b5h", "B5/S6H", None, 2), ("23/3", "B3/S23", None, 2), *((name, name, name, states) for name, states in TABLES.items()))
+RULES = (("B3/S23", "B3/S23", None, 2), ("s6/b5h", "B5/S6H", None, 2), ("23/3", "B3/S23", None, 2),
+         *((name, name, name, states) for name, states in TABLES.items()))
 
 
 class Runs:
@@ -317,6 +321,22 @@ class Sloppy:
         return (end.join([head, *self.lines]) + self.chance.choice((end, ""))).encode()
 
 
+def sloppy_items(chance, text, rule):
+    """An RLE text of the same plane as this tidy one: with runs that are cut, other tags, white space and comments, and numbers that bound nothing."""
+    corner, _, *lines = text.decode("latin-1").split("\n")
+    written = [chance.choice(("", "#N a plane\r\n", " #CXRLE Pos=5,-5\n\n")), corner, f"\nx=0 , y = 7,rule={rule} or another\n"]
+    for count, tag in re.findall(r"(\d*)([p-y]?[A-X]|[b.o$!])", "".join(lines)):
+        left = int(count or 1)
+        while left:
+            part = chance.randrange(1, left + 1) if chance.random() < 0.3 else left
+            left -= part
+            for it in ("" if tag == "!" or (part == 1 and chance.random() < 0.9) else f"{chance.choice(('', '', '00'))}{part}", tag):
+                written += [chance.choice(("",) * 12 + ("\n", " ", "\r\n", "\n #C 3o!\n", "\t\n#CXRLE Pos=9,9\r\n")), it]
+        if tag in "b.oA":
+            written[-1] = chance.choice("b." if tag in "b." else "oA")
+    return ("".join(written) + chance.choice(("", "\n", "o!", "\n0\n"))).encode("latin-1")
+
+
 def claim_of(table, chance, pattern, text):
     """Claims of a text that its plane is the pattern's, isn't one of a cell less, and becomes what naive steps come to."""
     cells, rule = pattern.tree.cells(), pattern.rule
@@ -344,7 +364,7 @@ def try_random_planes(tally, folder):
         tidy, items = macrocell.tidy(pattern, states), rle.tidy(cells, pattern.rule, pattern.generation, states)
         if not table:
             claim_of(table_of_claims, chance, pattern, sloppy)
-        for text, kind in ((sloppy, "macrocell"), (tidy, "macrocell"), (items, "rle")):
+        for text, kind in ((sloppy, "macrocell"), (tidy, "macrocell"), (sloppy_items(chance, items, rule), "rle"), (items, "rle")):
             runs.expect(text, ["show", "FILE", *more], ample(pattern.shown(kind=kind)))
             runs.expect(text, ["convert", "FILE", "--to", "mc", *more], ample(tidy))
             runs.expect(text, ["convert", "FILE", "--to", "rle", *more], ample(items))
@@ -361,7 +381,8 @@ def mutilated(chance, text):
             text = text[: number.start()] + str(chance.choice((0, 1, 2, 3, 4, 5, 120, 121, 255, 256, int(number[0]) + 1))) + text[number.end() :]
             continue
         place = chance.randrange(text.index("\n") + 1, len(text) + 1)
-        piece = chance.choice([*"0011223456789.*$$ #\n\t\r", "\n#G 4", "\n#FRAME", "00", "99999999999999999999", "\n1 0 1 0 0", "\n*$", "x", "-", "", "", ""])
+        pieces = [*"0011223456789.*$$ #\n\t\r", "\n#G 4", "\n#FRAME", "00", "99999999999999999999", "\n1 0 1 0 0", "\n*$", "x", "-", "", "", ""]
+        piece = chance.choice(pieces)
         text = text[:place] + piece + text[place + chance.choice((0, 1, 1, 1, 3, 12)) :]
     lines = text.split("\n")
     if chance.random() < 0.2 and len(lines) > 3:

@@ -201,8 +201,8 @@ class Reader:
                 rows[-1].append(int(byte == ord("*")))
         row = {(x, y): state for y, states in enumerate(rows) for x, state in enumerate(states)}
         for level in (1, 2, 3):
-            side = 8 >> level
-            row = {(x, y): self.squares.join(level, [row.get((2 * x + at % 2, 2 * y + at // 2), 0) for at in range(4)]) for x in range(side) for y in range(side)}
+            places = [(x, y) for x in range(8 >> level) for y in range(8 >> level)]
+            row = {(x, y): self.squares.join(level, [row.get((2 * x + at % 2, 2 * y + at // 2), 0) for at in range(4)]) for x, y in places}
         return row[0, 0]
 
     def numbers(self, numbers):
