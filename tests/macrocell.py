@@ -354,7 +354,7 @@ def try_random_planes(tally, folder):
     chance, runs, table_of_claims = random.Random(1), Runs(folder), Table(folder)
     for name in TABLES:
         runs.path(name, table_file(name))
-    for _ in range(150):
+    for _ in range(100):
         rule, printed, table, states = chance.choice(RULES)
         cells = random_cells(chance, states)
         pattern = macrocell.Pattern(macrocell.tree_of(cells), printed, chance.choice((0, 0, 1, 77, (1 << 63) - 1)))
@@ -394,7 +394,7 @@ def mutilated(chance, text):
 def try_mutilated_texts(tally, folder):
     """Texts with random changes: the program has to tell what the naive reader tells."""
     chance, runs, kinds = random.Random(2), Runs(folder), {}
-    while sum(kinds.values()) < 500:
+    while sum(kinds.values()) < 400:
         tree = macrocell.tree_of(random_cells(chance, 2))
         text = Sloppy(chance, tree.squares).text(tree.fitted(tree.level + chance.randrange(3)), "B3/S23", 0).decode()
         if len(text) > 3000:
