@@ -1,5 +1,5 @@
 -- The line of a leaf: its first bad byte, and its rows one after another.
-use Rattle.std.proofs.Common.{◌≡◌, ◌≢◌, ℕ, zero, suc, ◌-◌, ◌⊎◌, inl, inr, Bool, true, false, not, ◌==◌, nat_le, List, [], ◌∷◌, ◌++◌, length, Some, None, refl, sym, ap, subst, ◌∙◌, arith, if◌then◌else◌}
+use Rattle.std.proofs.Common.{◌≡◌, ◌≢◌, ℕ, zero, suc, ◌-◌, ◌⊎◌, inl, inr, Bool, true, false, not, ◌==◌, nat_le, List, [], ◌∷◌, ◌++◌, length, Option, Some, None, refl, sym, ap, subst, ◌∙◌, arith, if◌then◌else◌}
 use Rattle.std.proofs.lemmas.Bool.{cases_Bool, true≢false}
 use Rattle.std.proofs.lemmas.Bool.Decides.{nat_tests}
 use Rattle.std.proofs.lemmas.List.{nil_from_length}
@@ -7,10 +7,10 @@ use Rattle.std.proofs.lemmas.Option.{same_Some}
 use Rattle.ca_plane.specs.Bytes.{is_end_or, with_front, front, rest}
 use Rattle.ca_macro.specs.declared.fault.MacroFault.{MacroFault}
 use Rattle.ca_macro.specs.declared.fault.MacroFault.TheVariants.{Syntax, LeafSize}
-use Rattle.ca_macro.specs.Nodes.{rows_of}
+use Rattle.ca_macro.specs.Nodes.{rows_of, IsLeaf}
 use Rattle.ca_macro.specs.Faults.{is_leaf_byte, HasBadByte}
 use Rattle.ca_macro.specs.inner.Leaves.{is_mark, has_room, leaf_fault, IsLeafFault, cells_of, IsSplit}
-use Rattle.ca_macro.proofs.Leaves.{leaf_found, no_leaf}
+use Rattle.ca_macro.proofs.Leaves.{leaf_found, leaf_passes, no_leaf}
 
 -- ---- one byte more
 
@@ -246,4 +246,107 @@ split_end bytes row left r l e =
     elim (split_none bytes (sym l ∙ none)) [
       | inl z ↦ inr (z, r ∙ rw z refl, none)
       | inr s ↦ inl (s ∙ rw (r, none) refl)
+    ]
+
+-- ---- what is told of bytes that are a leaf, or go bad
+
+-- bytes for which there is room have no fault
+abbrev HaveNone : List ℕ → Type 0
+HaveNone bs = (h w : ℕ) → has_room h w (rows_of bs) ≡ true → leaf_fault h w bs ≡ None
+
+no_room_none : (h w b : ℕ) (rs : List (List ℕ)) → has_room zero w (with_front b rs) ≡ true → ⊥
+no_room_none h w b rs e = true≢false (sym e ∙ no_room_without_rows w b rs)
+
+cell_room : (b : ℕ) (bs : List ℕ) (h w : ℕ) → HaveNone bs → (b == 36) ≡ false → is_mark b ≡ true → has_room (suc h) w (rows_of (b ∷ bs)) ≡ true → leaf_fault (suc h) w (b ∷ bs) ≡ None
+cell_room b bs h zero later n m e = absurd (true≢false (sym e ∙ (ap (has_room (suc h) zero) (row_grows b bs n) ∙ no_room_in_row h b (rows_of bs))))
+cell_room b bs h (suc w) later n m e =
+    at_cell h w b bs n m ∙ later (suc h) w (sym (ap (has_room (suc h) (suc w)) (row_grows b bs n) ∙ room_behind_cell h w b (rows_of bs) m) ∙ e)
+
+room_none : (bytes : List ℕ) → HaveNone bytes
+room_none [] h w e = refl
+room_none (b ∷ bs) zero w e =
+    elim (cases_Bool (b == 36)) [
+      | inl t ↦ absurd (true≢false (sym e ∙ ap (has_room zero w) (row_ends b bs t)))
+      | inr n ↦ absurd (no_room_none zero w b (rows_of bs) (sym (ap (has_room zero w) (row_grows b bs n)) ∙ e))
+    ]
+room_none (b ∷ bs) (suc h) w e =
+    elim (cases_Bool (b == 36)) [
+      | inl t ↦ at_row h w b bs t ∙ room_none bs h 8 (sym (ap (has_room (suc h) w) (row_ends b bs t) ∙ room_behind_row h w (rows_of bs)) ∙ e)
+      | inr n ↦ elim (cases_Bool (is_mark b)) [
+        | inl m ↦ cell_room b bs h w (room_none bs) n m e
+        | inr o ↦ absurd (true≢false (sym e ∙ (ap (has_room (suc h) w) (row_grows b bs n) ∙ no_room_for_other h w b (rows_of bs) o)))
+      ]
+    ]
+
+-- a leaf has no fault
+pub leaf_none : (bytes : List ℕ) (rows : List (List Bool)) → IsLeaf bytes rows → leaf_fault 8 8 bytes ≡ None
+leaf_none bytes rows leaf = room_none bytes 8 8 (leaf_passes bytes rows leaf)
+
+-- the fault of a byte with which bytes are no leaf
+abbrev pub byte_fault : ℕ → Option MacroFault
+byte_fault b = if is_leaf_byte b then Some LeafSize else Some Syntax
+
+-- the fault of bytes is that of the first bad one
+abbrev HaveBad : List ℕ → Type 0
+HaveBad good = (h w byte : ℕ) (more : List ℕ) → has_room h w (rows_of good) ≡ true → has_room h w (rows_of (good ++ byte ∷ [])) ≡ false → leaf_fault h w (good ++ byte ∷ more) ≡ byte_fault byte
+
+bad_cell : (h w b : ℕ) (more : List ℕ) → (b == 36) ≡ false → is_mark b ≡ true → has_room (suc h) w (rows_of (b ∷ [])) ≡ false → leaf_fault (suc h) w (b ∷ more) ≡ byte_fault b
+bad_cell h zero b more n m full = at_full h b more n m ∙ rw (mark_is_leaf_byte b m) refl
+bad_cell h (suc w) b more n m full = absurd (true≢false (sym (ap (has_room (suc h) (suc w)) (row_grows b [] n) ∙ room_behind_cell h w b [] m) ∙ full))
+
+bad_first : (h w byte : ℕ) (more : List ℕ) → has_room h w (rows_of (byte ∷ [])) ≡ false → leaf_fault h w (byte ∷ more) ≡ byte_fault byte
+bad_first zero w byte more full = refl
+bad_first (suc h) w byte more full =
+    elim (cases_Bool (byte == 36)) [
+      | inl t ↦ absurd (true≢false (sym (ap (has_room (suc h) w) (row_ends byte [] t) ∙ room_behind_row h w []) ∙ full))
+      | inr n ↦ elim (cases_Bool (is_mark byte)) [
+        | inl m ↦ bad_cell h w byte more n m full
+        | inr o ↦ at_other h w byte more n o ∙ rw (other_is_none byte n o) refl
+      ]
+    ]
+
+bad_behind_cell : (g : ℕ) (gs : List ℕ) (h w byte : ℕ) (more : List ℕ) → HaveBad gs → (g == 36) ≡ false → is_mark g ≡ true
+    → has_room (suc h) w (rows_of (g ∷ gs)) ≡ true → has_room (suc h) w (rows_of (g ∷ (gs ++ byte ∷ []))) ≡ false → leaf_fault (suc h) w (g ∷ (gs ++ byte ∷ more)) ≡ byte_fault byte
+bad_behind_cell g gs h zero byte more later n m room full = absurd (true≢false (sym room ∙ (ap (has_room (suc h) zero) (row_grows g gs n) ∙ no_room_in_row h g (rows_of gs))))
+bad_behind_cell g gs h (suc w) byte more later n m room full =
+    let same : (xs : List ℕ) → has_room (suc h) (suc w) (rows_of (g ∷ xs)) ≡ has_room (suc h) w (rows_of xs) = λ xs. ap (has_room (suc h) (suc w)) (row_grows g xs n) ∙ room_behind_cell h w g (rows_of xs) m in
+    at_cell h w g (gs ++ byte ∷ more) n m ∙ later (suc h) w byte more (sym (same gs) ∙ room) (sym (same (gs ++ byte ∷ [])) ∙ full)
+
+bad_behind : (good : List ℕ) → HaveBad good
+bad_behind [] h w byte more room full = bad_first h w byte more full
+bad_behind (g ∷ gs) zero w byte more room full =
+    elim (cases_Bool (g == 36)) [
+      | inl t ↦ absurd (true≢false (sym room ∙ ap (has_room zero w) (row_ends g gs t)))
+      | inr n ↦ absurd (no_room_none zero w g (rows_of gs) (sym (ap (has_room zero w) (row_grows g gs n)) ∙ room))
+    ]
+bad_behind (g ∷ gs) (suc h) w byte more room full =
+    elim (cases_Bool (g == 36)) [
+      | inl t ↦
+          let same : (xs : List ℕ) → has_room (suc h) w (rows_of (g ∷ xs)) ≡ has_room h 8 (rows_of xs) = λ xs. ap (has_room (suc h) w) (row_ends g xs t) ∙ room_behind_row h w (rows_of xs) in
+          at_row h w g (gs ++ byte ∷ more) t ∙ bad_behind gs h 8 byte more (sym (same gs) ∙ room) (sym (same (gs ++ byte ∷ [])) ∙ full)
+      | inr n ↦ elim (cases_Bool (is_mark g)) [
+        | inl m ↦ bad_behind_cell g gs h w byte more (bad_behind gs) n m room full
+        | inr o ↦ absurd (true≢false (sym room ∙ (ap (has_room (suc h) w) (row_grows g gs n) ∙ no_room_for_other h w g (rows_of gs) o)))
+      ]
+    ]
+
+-- bytes with a bad one have its fault
+pub bad_fault : (bytes : List ℕ) (test : ℕ → Bool) (bad : HasBadByte bytes test) → leaf_fault 8 8 bytes ≡ byte_fault bad.byte
+bad_fault bytes test bad =
+    ap (leaf_fault 8 8) bad.spelled
+    ∙ bad_behind bad.good 8 8 bad.byte bad.more (leaf_passes bad.good bad.rows bad.leaf) (full (has_room 8 8 (rows_of (bad.good ++ bad.byte ∷ []))) refl)
+  where
+    full : (t : Bool) → has_room 8 8 (rows_of (bad.good ++ bad.byte ∷ [])) ≡ t → has_room 8 8 (rows_of (bad.good ++ bad.byte ∷ [])) ≡ false
+    full true e = absurd (bad.ends_leaf (cells_of (bad.good ++ bad.byte ∷ [])) (leaf_found (bad.good ++ bad.byte ∷ []) e))
+    full false e = e
+
+-- a leaf begins with a byte of leaves
+pub leaf_begins : (b : ℕ) (bs : List ℕ) → leaf_fault 8 8 (b ∷ bs) ≡ None → is_leaf_byte b ≡ true
+leaf_begins b bs e =
+    elim (cases_Bool (b == 36)) [
+      | inl t ↦ grind (arith, nat_tests)
+      | inr n ↦ elim (cases_Bool (is_mark b)) [
+        | inl m ↦ mark_is_leaf_byte b m
+        | inr o ↦ absurd (let z = sym (at_other 7 8 b bs n o) ∙ e in cc)
+      ]
     ]

@@ -1,5 +1,5 @@
 -- Leaves: what a test by rows finds, and what one byte by byte does.
-use Rattle.std.proofs.Common.{◌≡◌, ℕ, zero, suc, ◌≤◌, Bool, true, false, ◌&&◌, nat_le, List, [], ◌∷◌, map, length, refl, sym, ap₂, subst, ◌∙◌, arith}
+use Rattle.std.proofs.Common.{◌≡◌, ℕ, zero, suc, ◌≤◌, Bool, true, false, ◌&&◌, nat_le, List, [], ◌∷◌, map, length, refl, sym, ap, ap₂, subst, ◌∙◌, arith}
 use Rattle.std.specs.List.{AllByRecursion, list_all}
 use Rattle.std.proofs.lemmas.Bool.{and_parts, and_from, leb-true, le-leb, true≢false}
 use Rattle.std.proofs.lemmas.List.{length-map}
@@ -67,3 +67,20 @@ leaf_passes bytes rows leaf = subst (λ rs. has_room 8 8 rs ≡ true) (sym leaf.
 -- bytes that don't are no leaf
 pub no_leaf : (bytes : List ℕ) (rows : List (List Bool)) → is_leaf bytes ≡ false → IsLeaf bytes rows → ⊥
 no_leaf bytes rows h leaf = true≢false (sym (leaf_passes bytes rows leaf) ∙ h)
+
+-- ---- the rows of a leaf are those of its bytes
+
+live_found : (live : Bool) → is_live (mark_of live) ≡ live
+live_found true = refl
+live_found false = refl
+
+row_found : (row : List Bool) → map is_live (map mark_of row) ≡ row
+row_found [] = refl
+row_found (live ∷ row) = ap₂ (λ x xs. x ∷ xs) (live_found live) (row_found row)
+
+rows_found : (rows : List (List Bool)) → map (map is_live) (map (map mark_of) rows) ≡ rows
+rows_found [] = refl
+rows_found (row ∷ rows) = ap₂ (λ x xs. x ∷ xs) (row_found row) (rows_found rows)
+
+pub one_leaf : (bytes : List ℕ) (rows : List (List Bool)) → IsLeaf bytes rows → map (map is_live) (rows_of bytes) ≡ rows
+one_leaf bytes rows leaf = ap (map (map is_live)) leaf.marks ∙ rows_found rows

@@ -8,3 +8,6 @@ pub mod LinesRead
 pub mod EmptySquares
 pub mod Ranges
 pub mod Saying
+pub mod Verdicts
+pub mod OneMeaning
+pub mod FileOrFault

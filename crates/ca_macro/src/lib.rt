@@ -3,6 +3,7 @@
 
 pub mod examples;
 mod fault;
+pub mod laws;
 mod line;
 mod pattern;
 mod read;
