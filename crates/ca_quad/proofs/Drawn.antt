@@ -1,15 +1,11 @@
--- Live cells that are collected square by square show what the squares show.
-use Rattle.std.proofs.Common.{◌≡◌, ◌≢◌, ℕ, suc, ◌+◌, ◌-◌, ◌<◌, ◌≤◌, ◌^◌, ◌⊎◌, inl, inr, true, ◌==◌, ◌&&◌, if◌then◌else◌, ℤ, pos, negsuc, neg_ℤ, ◌+ℤ◌, ◌-ℤ◌, ◌≤ℤ◌, ◌<ℤ◌, List, [], ◌∷◌, ◌++◌, length, refl, sym, ap, subst, ◌∙◌, true≢false, arith}
-use Rattle.std.specs.List.{All}
+-- Squares that are drawn part by part.
+use Rattle.std.proofs.Common.{◌≡◌, ◌≢◌, ℕ, suc, ◌+◌, ◌-◌, ◌<◌, ◌≤◌, ◌^◌, ◌⊎◌, inl, inr, true, ◌==◌, ◌&&◌, if◌then◌else◌, ℤ, pos, negsuc, neg_ℤ, ◌+ℤ◌, ◌-ℤ◌, ◌≤ℤ◌, ◌<ℤ◌, List, length, refl, sym, ap, subst, ◌∙◌, true≢false, arith}
 use Rattle.std.specs.Ordering.{int_eq}
 use Rattle.std.proofs.lemmas.Bool.{cases_Bool, eqb-true, and_parts}
 use Rattle.std.proofs.lemmas.Cmp.{int_eq_equiv}
 use Rattle.std.proofs.lemmas.Int.{ints}
-use Rattle.std.proofs.lemmas.List.Elements.{All-head, All-tail, All-append, All-nil, All-cons}
 use Rattle.std.proofs.Math.Nat.{two-pow-succ}
 use Rattle.ca_plane.specs.declared.point.Point.{Point}
-use Rattle.ca_plane.specs.Plane.{Picture, cell}
-use Rattle.ca_plane.specs.Sparse.{IsInPlane}
 use Rattle.ca_plane.proofs.Pictures.{place-from_true}
 use Rattle.ca_quad.specs.declared.node.Node.{Node}
 use Rattle.ca_quad.specs.declared.square.Square.TheVariants.{Four, Parts}
@@ -18,36 +14,14 @@ use Rattle.ca_quad.specs.declared.tree.Spot.{Spot}
 use Rattle.ca_quad.specs.declared.tree.Tree.{Tree}
 use Rattle.ca_quad.specs.Squares.{square_of, level, level_of, IsOf, dot, together, cell_of}
 use Rattle.ca_quad.specs.Sound.{HasParts}
-use Rattle.ca_quad.specs.Trees.{IsIn, IsEmpty, IsTree, from_corner, cell as tree_cell}
+use Rattle.ca_quad.specs.Trees.{IsIn, IsTree, from_corner, cell as tree_cell}
 use Rattle.ca_quad.specs.Expanded.{FitsPlane}
-use Rattle.ca_quad.specs.inner.Drawn.{cells_of, side_of, placed, IsNear, CanDraw, AreDrawn, or_else, Draws, ArePartCorners}
+use Rattle.ca_quad.specs.inner.Drawn.{cells_of, side_of, placed, IsNear, CanDraw, ArePartCorners, Agrees, IsLive, IsReady}
 use Rattle.ca_quad.proofs.Growth.{below_or_not}
 use Rattle.ca_quad.proofs.Cells.{Ends, cell_ends, dot_ends}
 use Rattle.ca_quad.proofs.Walks.{four_show, parts_show, in_nw, in_ne, in_sw, in_se}
 use Rattle.ca_quad.proofs.Edges.{off_x, off_y}
-use Rattle.ca_quad.proofs.Boxes.{dead_from, cell_at}
-
-or_else_zero : (a : ℕ) → or_else a 0 ≡ a
-or_else_zero a = elim (cases_Bool (a == 0)) [ inl e ↦ rw e (sym (eqb-true a 0 e)) | inr e ↦ rw e refl ]
-
-or_else_live : (a b : ℕ) → a ≢ 0 → or_else a b ≡ a
-or_else_live a b h = elim (cases_Bool (a == 0)) [ inl e ↦ absurd (h (eqb-true a 0 e)) | inr e ↦ rw e refl ]
-
--- a list behind another shows where that shows 0
-cell_append : (xs ys : Picture) → All (λ e. e.1 ≢ 0) xs → (x y : ℤ) → cell (xs ++ ys) x y ≡ or_else (cell xs x y) (cell ys x y)
-cell_append [] ys live x y = refl
-cell_append (e ∷ es) ys live x y =
-    elim (cases_Bool (int_eq y e.0.y && int_eq x e.0.x)) [
-      | inl t ↦ rw t (sym (or_else_live e.1 (cell ys x y) (All-head (λ (f : Point × ℕ). f.1 ≢ 0) e es live)))
-      | inr t ↦ rw t (cell_append es ys (All-tail (λ (f : Point × ℕ). f.1 ≢ 0) e es live) x y)
-    ]
-
--- an empty square adds nothing
-pub draws_none : (old : Picture) (cells : ℕ → ℕ → ℕ) (at : Spot) → AreDrawn old → IsEmpty cells → Draws old old (placed cells at)
-draws_none old cells at are none = record {
-  are = are;
-  shows = λ x y. sym (ap (or_else (cell old x y)) (dead_from cells none (x -ℤ at.x) (y -ℤ at.y)) ∙ or_else_zero (cell old x y));
-}
+use Rattle.ca_quad.proofs.Boxes.{cell_at}
 
 dot_other : (state : ℕ) (u v : ℤ) → (u ≡ pos 0 → v ≡ pos 0 → ⊥) → from_corner (dot state) u v ≡ 0
 dot_other state (pos a) (pos b) h =
@@ -61,7 +35,7 @@ dot_other state (pos a) (negsuc b) h = refl
 dot_other state (negsuc a) (pos b) h = refl
 dot_other state (negsuc a) (negsuc b) h = refl
 
-dot_shown : (state : ℕ) (at : Point) (x y : ℤ) → (if int_eq y at.y && int_eq x at.x then state else 0) ≡ from_corner (dot state) (x -ℤ at.x) (y -ℤ at.y)
+pub dot_shown : (state : ℕ) (at : Point) (x y : ℤ) → (if int_eq y at.y && int_eq x at.x then state else 0) ≡ from_corner (dot state) (x -ℤ at.x) (y -ℤ at.y)
 dot_shown state at x y =
     elim (cases_Bool (int_eq y at.y && int_eq x at.x)) [
       | inl e ↦
@@ -78,6 +52,15 @@ dot_shown state at x y =
           rw e (sym (dot_other state (x -ℤ at.x) (y -ℤ at.y) apart))
     ]
 
+-- a live dot is at its place
+dot_place : (state : ℕ) (at : Spot) (x y : ℤ) → IsLive (placed (dot state) at) x y → (x ≡ at.x) × (y ≡ at.y)
+dot_place state at x y live =
+    let point : Point = record { y = at.y; x = at.x } in
+    elim (cases_Bool (int_eq y at.y && int_eq x at.x)) [
+      | inl e ↦ let both = place-from_true x y point e in (both.1, both.0)
+      | inr e ↦ absurd (live (sym (dot_shown state point x y) ∙ rw e refl))
+    ]
+
 -- the cell's own place
 pub dot_at : (state : ℕ) (at : Spot) → placed (dot state) at at.x at.y ≡ state
 dot_at state at =
@@ -85,33 +68,9 @@ dot_at state at =
     let i : at.y -ℤ at.y ≡ pos 0 = omega (arith, ints) in
     rw (h, i) refl
 
--- a live cell is put behind the others
-pub draws_cell : (old new : Picture) (state : ℕ) (at : Point) (spot : Spot) → AreDrawn old → state ≢ 0 → IsInPlane (record { y = spot.y; x = spot.x }) → at.x ≡ spot.x → at.y ≡ spot.y → new ≡ old ++ (at, state) ∷ [] → Draws old new (placed (dot state) spot)
-draws_cell old new state at spot are live there ex ey items =
-    let inside : IsInPlane at = rw (ex, ey) there in
-    let one : AreDrawn ((at, state) ∷ []) = record {
-      places = All-cons (λ (e : Point × ℕ). IsInPlane e.0) (at, state) [] inside (All-nil _);
-      live = All-cons (λ (e : Point × ℕ). e.1 ≢ 0) (at, state) [] live (All-nil _);
-    } in
-    rw (items, ← ex, ← ey)
-    (record {
-      are = record {
-        places = All-append (λ (e : Point × ℕ). IsInPlane e.0) old ((at, state) ∷ []) are.places one.places;
-        live = All-append (λ (e : Point × ℕ). e.1 ≢ 0) old ((at, state) ∷ []) are.live one.live;
-      };
-      shows = λ x y. cell_append old ((at, state) ∷ []) are.live x y ∙ ap (or_else (cell old x y)) (dot_shown state at x y);
-    })
-
 -- of four squares that lie together one shows the cell, and the others show 0
 IsOneOf : ℕ → ℕ → ℕ → ℕ → ℕ → Type 0
 IsOneOf t a b c d = ((t ≡ a) × (b ≡ 0) × (c ≡ 0) × (d ≡ 0)) ⊎ (((t ≡ b) × (a ≡ 0) × (c ≡ 0) × (d ≡ 0)) ⊎ (((t ≡ c) × (a ≡ 0) × (b ≡ 0) × (d ≡ 0)) ⊎ ((t ≡ d) × (a ≡ 0) × (b ≡ 0) × (c ≡ 0))))
-
-pick : (o a b c d t : ℕ) → IsOneOf t a b c d → or_else (or_else (or_else (or_else o a) b) c) d ≡ or_else o t
-unfolding IsOneOf
-pick o a b c d t (inl (e, f, g, h)) = rw (e, f, g, h) (or_else_zero _ ∙ (or_else_zero _ ∙ or_else_zero _))
-pick o a b c d t (inr (inl (e, f, g, h))) = rw (e, f, g, h) (or_else_zero _ ∙ (or_else_zero _ ∙ ap (λ n. or_else n b) (or_else_zero o)))
-pick o a b c d t (inr (inr (inl (e, f, g, h)))) = rw (e, f, g, h) (or_else_zero _ ∙ ap (λ n. or_else n c) (or_else_zero _ ∙ or_else_zero o))
-pick o a b c d t (inr (inr (inr (e, f, g, h)))) = rw (e, f, g, h) (ap (λ n. or_else n d) (or_else_zero _ ∙ (or_else_zero _ ∙ or_else_zero o)))
 
 none_live : (t a b c d : ℕ) → IsOneOf t a b c d → t ≡ 0 → (a ≡ 0) × (b ≡ 0) × (c ≡ 0) × (d ≡ 0)
 unfolding IsOneOf
@@ -119,6 +78,21 @@ none_live t a b c d (inl (e, f, g, h)) z = (sym e ∙ z, f, g, h)
 none_live t a b c d (inr (inl (e, f, g, h))) z = (f, sym e ∙ z, g, h)
 none_live t a b c d (inr (inr (inl (e, f, g, h)))) z = (f, g, sym e ∙ z, h)
 none_live t a b c d (inr (inr (inr (e, f, g, h)))) z = (f, g, h, sym e ∙ z)
+
+-- and so is each of the others that isn't 0
+one_same : (t a b c d : ℕ) → IsOneOf t a b c d → (a ≢ 0 → a ≡ t) × (b ≢ 0 → b ≡ t) × (c ≢ 0 → c ≡ t) × (d ≢ 0 → d ≡ t)
+unfolding IsOneOf
+one_same t a b c d (inl (e, f, g, h)) = (λ l. sym e, λ l. absurd (l f), λ l. absurd (l g), λ l. absurd (l h))
+one_same t a b c d (inr (inl (e, f, g, h))) = (λ l. absurd (l f), λ l. sym e, λ l. absurd (l g), λ l. absurd (l h))
+one_same t a b c d (inr (inr (inl (e, f, g, h)))) = (λ l. absurd (l f), λ l. absurd (l g), λ l. sym e, λ l. absurd (l h))
+one_same t a b c d (inr (inr (inr (e, f, g, h)))) = (λ l. absurd (l f), λ l. absurd (l g), λ l. absurd (l h), λ l. sym e)
+
+one_live : (t a b c d : ℕ) → IsOneOf t a b c d → t ≢ 0 → ((a ≢ 0) ⊎ (b ≢ 0)) ⊎ ((c ≢ 0) ⊎ (d ≢ 0))
+unfolding IsOneOf
+one_live t a b c d (inl (e, f, g, h)) l = inl (inl (λ z. l (e ∙ z)))
+one_live t a b c d (inr (inl (e, f, g, h))) l = inl (inr (λ z. l (e ∙ z)))
+one_live t a b c d (inr (inr (inl (e, f, g, h)))) l = inr (inl (λ z. l (e ∙ z)))
+one_live t a b c d (inr (inr (inr (e, f, g, h)))) l = inr (inr (λ z. l (e ∙ z)))
 
 int_below : (u : ℤ) (n : ℕ) → (u <ℤ pos n) ⊎ (pos n ≤ℤ u)
 int_below (pos a) n = elim (below_or_not a n) [ inl h ↦ inl (omega (arith, ints)) | inr h ↦ inr (omega (arith, ints)) ]
@@ -179,15 +153,19 @@ module _ (side : ℕ) (nw ne sw se : ℕ → ℕ → ℕ) where
           let f : y -ℤ (at.y +ℤ pos side) ≡ y -ℤ at.y -ℤ pos side = omega (arith, ints) in
           rw (are.ne_x, are.ne_y, are.sw_x, are.sw_y, are.se_x, are.se_y, e, f) (one_of (x -ℤ at.x) (y -ℤ at.y))
 
-      -- four squares that are drawn in turn
-      pub draws_four : (o p q r s : Picture) → Draws o p (placed nw at) → Draws p q (placed ne cs.ne) → Draws q r (placed sw cs.sw) → Draws r s (placed se cs.se) → Draws o s (placed (together side nw ne sw se) at)
-      draws_four o p q r s a b c d = record {
-        are = d.are;
-        shows = λ x y.
-            d.shows x y
-            ∙ (ap (λ n. or_else n (placed se cs.se x y)) (c.shows x y ∙ ap (λ n. or_else n (placed sw cs.sw x y)) (b.shows x y ∙ ap (λ n. or_else n (placed ne cs.ne x y)) (a.shows x y)))
-            ∙ pick (cell o x y) (placed nw at x y) (placed ne cs.ne x y) (placed sw cs.sw x y) (placed se cs.se x y) (placed all at x y) (placed_one x y));
-      }
+      -- where four squares are cells of a picture, so is each
+      pub four_agree : (pic : ℤ → ℤ → ℕ) → Agrees pic (placed all at) → Agrees pic (placed nw at) × Agrees pic (placed ne cs.ne) × Agrees pic (placed sw cs.sw) × Agrees pic (placed se cs.se)
+      four_agree pic h =
+          let same = λ (x y : ℤ). one_same (placed all at x y) (placed nw at x y) (placed ne cs.ne x y) (placed sw cs.sw x y) (placed se cs.se x y) (placed_one x y) in (
+            λ x y l. let e = (same x y).0 l in e ∙ h x y (λ z. l (e ∙ z)),
+            λ x y l. let e = (same x y).1 l in e ∙ h x y (λ z. l (e ∙ z)),
+            λ x y l. let e = (same x y).2 l in e ∙ h x y (λ z. l (e ∙ z)),
+            λ x y l. let e = (same x y).3 l in e ∙ h x y (λ z. l (e ∙ z)),
+          )
+
+      -- a live cell is one of theirs
+      pub four_live : (x y : ℤ) → IsLive (placed all at) x y → (IsLive (placed nw at) x y ⊎ IsLive (placed ne cs.ne) x y) ⊎ (IsLive (placed sw cs.sw) x y ⊎ IsLive (placed se cs.se) x y)
+      four_live x y = one_live (placed all at x y) (placed nw at x y) (placed ne cs.ne x y) (placed sw cs.sw x y) (placed se cs.se x y) (placed_one x y)
 
       -- where a square may be drawn, so may each of its parts
       module _ (can : CanDraw (together side nw ne sw se) (side + side) at) where
@@ -287,10 +265,49 @@ module _ (nodes : List Node) (id nw ne sw se : ℕ) (before : IsIn nodes id) (e 
         can_se 1 (dot nw) (dot ne) (dot sw) (dot se) (dot_end nw) (dot_end ne) (dot_end sw) (dot_end se) at cs are all,
       )
 
-  pub cells_drawn : (o p q r s : Picture) → Draws o p (placed (dot nw) at) → Draws p q (placed (dot ne) cs.ne) → Draws q r (placed (dot sw) cs.sw) → Draws r s (placed (dot se) cs.se) → Draws o s (placed (cells_of nodes id) at)
-  cells_drawn o p q r s a b c d =
-      subst (λ cells. Draws o s (placed cells at)) (sym (four_cells nodes id nw ne sw se before e))
-      (draws_four 1 (dot nw) (dot ne) (dot sw) (dot se) (dot_end nw) (dot_end ne) (dot_end sw) (dot_end se) at cs are o p q r s a b c d)
+  -- the four cells agree with a picture where the square does
+  pub cells_agree : (pic : ℤ → ℤ → ℕ) → Agrees pic (placed (cells_of nodes id) at) → Agrees pic (placed (dot nw) at) × Agrees pic (placed (dot ne) cs.ne) × Agrees pic (placed (dot sw) cs.sw) × Agrees pic (placed (dot se) cs.se)
+  cells_agree pic h =
+      four_agree 1 (dot nw) (dot ne) (dot sw) (dot se) (dot_end nw) (dot_end ne) (dot_end sw) (dot_end se) at cs are pic
+      (subst (λ cells. Agrees pic (placed cells at)) (four_cells nodes id nw ne sw se before e) h)
+
+  -- a live cell is one of them
+  cells_live : (x y : ℤ) → IsLive (placed (cells_of nodes id) at) x y → (IsLive (placed (dot nw) at) x y ⊎ IsLive (placed (dot ne) cs.ne) x y) ⊎ (IsLive (placed (dot sw) cs.sw) x y ⊎ IsLive (placed (dot se) cs.se) x y)
+  cells_live x y h =
+      four_live 1 (dot nw) (dot ne) (dot sw) (dot se) (dot_end nw) (dot_end ne) (dot_end sw) (dot_end se) at cs are x y
+      (subst (λ cells. IsLive (placed cells at) x y) (four_cells nodes id nw ne sw se before e) h)
+
+  -- of the upper row, and of the lower
+  pub upper_live : (x y : ℤ) → IsLive (placed (cells_of nodes id) at) x y → y ≡ at.y +ℤ pos 0 → IsLive (placed (dot nw) at) x y ⊎ IsLive (placed (dot ne) cs.ne) x y
+  upper_live x y h f = elim (cells_live x y h) [
+    | inl u ↦ u
+    | inr u ↦ elim u [
+      | inl l ↦ let g = (dot_place sw cs.sw x y l).1 in absurd (omega (arith, ints, are.sw_y))
+      | inr l ↦ let g = (dot_place se cs.se x y l).1 in absurd (omega (arith, ints, are.se_y))
+    ]
+  ]
+
+  pub lower_live : (x y : ℤ) → IsLive (placed (cells_of nodes id) at) x y → y ≡ at.y +ℤ pos 1 → IsLive (placed (dot sw) cs.sw) x y ⊎ IsLive (placed (dot se) cs.se) x y
+  lower_live x y h f = elim (cells_live x y h) [
+    | inr u ↦ u
+    | inl u ↦ elim u [
+      | inl l ↦ let g = (dot_place nw at x y l).1 in absurd (omega (arith, ints))
+      | inr l ↦ let g = (dot_place ne cs.ne x y l).1 in absurd (omega (arith, ints, are.ne_y))
+    ]
+  ]
+
+  -- the row of a live cell
+  pub row_live : (x y : ℤ) → IsLive (placed (cells_of nodes id) at) x y → (y ≡ at.y +ℤ pos 0) ⊎ (y ≡ at.y +ℤ pos 1)
+  row_live x y h = elim (cells_live x y h) [
+    | inl u ↦ elim u [
+      | inl l ↦ let g = (dot_place nw at x y l).1 in inl (omega (arith, ints))
+      | inr l ↦ let g = (dot_place ne cs.ne x y l).1 in inl (omega (arith, ints, are.ne_y))
+    ]
+    | inr u ↦ elim u [
+      | inl l ↦ let g = (dot_place sw cs.sw x y l).1 in inr (omega (arith, ints, are.sw_y))
+      | inr l ↦ let g = (dot_place se cs.se x y l).1 in inr (omega (arith, ints, are.se_y))
+    ]
+  ]
 
 -- and four parts
 module _ (nodes : List Node) (id nw ne sw se : ℕ) (before : IsIn nodes id) (m : ℕ) (e : Parts m nw ne sw se ≡ square_of nodes id) (whole : HasParts nodes (length nodes) m nw ne sw se)
@@ -318,12 +335,35 @@ module _ (nodes : List Node) (id nw ne sw se : ℕ) (before : IsIn nodes id) (m 
         part_can nodes se (m - 1) half whole.is_se half_is cs.se (can_se half (part nw) (part ne) (part sw) (part se) a b c d at cs are all),
       )
 
-  pub parts_drawn : (o p q r s : Picture) → Draws o p (placed (cells_of nodes nw) at) → Draws p q (placed (cells_of nodes ne) cs.ne) → Draws q r (placed (cells_of nodes sw) cs.sw) → Draws r s (placed (cells_of nodes se) cs.se)
-      → Draws o s (placed (cells_of nodes id) at)
-  parts_drawn o p q r s a b c d =
+  part_ready : (pic : ℤ → ℤ → ℕ) (part : ℕ) (spot : Spot) → IsOf nodes part (m - 1) → CanDraw (cells_of nodes part) (side_of nodes part) spot → Agrees pic (placed (cells_of nodes part) spot) → IsReady nodes pic (m - 1) (record { id = part; at = spot })
+  part_ready pic part spot of can agrees = record { is_square = of; can = can; agrees = agrees }
+
+  parts_agree : (pic : ℤ → ℤ → ℕ) → Agrees pic (placed (cells_of nodes id) at)
+      → Agrees pic (placed (cells_of nodes nw) at) × Agrees pic (placed (cells_of nodes ne) cs.ne) × Agrees pic (placed (cells_of nodes sw) cs.sw) × Agrees pic (placed (cells_of nodes se) cs.se)
+  parts_agree pic h =
       let part = cells_of nodes in
-      subst (λ cells. Draws o s (placed cells at)) (sym (parts_cells nodes id nw ne sw se before m e whole half half_is))
-      (draws_four half (part nw) (part ne) (part sw) (part se) (end_of nw whole.is_nw) (end_of ne whole.is_ne) (end_of sw whole.is_sw) (end_of se whole.is_se) at cs are o p q r s a b c d)
+      four_agree half (part nw) (part ne) (part sw) (part se) (end_of nw whole.is_nw) (end_of ne whole.is_ne) (end_of sw whole.is_sw) (end_of se whole.is_se) at cs are pic
+      (subst (λ cells. Agrees pic (placed cells at)) (parts_cells nodes id nw ne sw se before m e whole half half_is) h)
+
+  -- each part may be drawn
+  pub parts_ready : (pic : ℤ → ℤ → ℕ) → CanDraw (cells_of nodes id) (side_of nodes id) at → Agrees pic (placed (cells_of nodes id) at)
+      → IsReady nodes pic (m - 1) (record { id = nw; at = at }) × IsReady nodes pic (m - 1) (record { id = ne; at = cs.ne }) × IsReady nodes pic (m - 1) (record { id = sw; at = cs.sw }) × IsReady nodes pic (m - 1) (record { id = se; at = cs.se })
+  parts_ready pic can h =
+      let cans = parts_each can in
+      let agree = parts_agree pic h in (
+        part_ready pic nw at whole.is_nw cans.0 agree.0,
+        part_ready pic ne cs.ne whole.is_ne cans.1 agree.1,
+        part_ready pic sw cs.sw whole.is_sw cans.2 agree.2,
+        part_ready pic se cs.se whole.is_se cans.3 agree.3,
+      )
+
+  -- a live cell is one of theirs
+  pub parts_live : (x y : ℤ) → IsLive (placed (cells_of nodes id) at) x y
+      → (IsLive (placed (cells_of nodes nw) at) x y ⊎ IsLive (placed (cells_of nodes ne) cs.ne) x y) ⊎ (IsLive (placed (cells_of nodes sw) cs.sw) x y ⊎ IsLive (placed (cells_of nodes se) cs.se) x y)
+  parts_live x y h =
+      let part = cells_of nodes in
+      four_live half (part nw) (part ne) (part sw) (part se) (end_of nw whole.is_nw) (end_of ne whole.is_ne) (end_of sw whole.is_sw) (end_of se whole.is_se) at cs are x y
+      (subst (λ cells. IsLive (placed cells at) x y) (parts_cells nodes id nw ne sw se before m e whole half half_is) h)
 
 -- a whole tree
 module _ (nodes : List Node) (tree : Tree) (is : IsTree nodes tree) (some : 1 ≤ tree.level) (half : ℕ) (half_is : half ≡ 2 ^ (tree.level - 1)) (low : half ≤ 2 ^ 124) (at : Spot)
@@ -346,5 +386,5 @@ module _ (nodes : List Node) (tree : Tree) (is : IsTree nodes tree) (some : 1 �
         fits = λ x y h. fits x y (λ z. h (tree_placed x y ∙ z));
       }
 
-  pub tree_drawn : (old new : Picture) → old ≡ [] → Draws old new (placed (cells_of nodes tree.root) at) → (x y : ℤ) → cell new x y ≡ tree_cell nodes tree x y
-  tree_drawn old new e d x y = d.shows x y ∙ (ap (λ (p : Picture). or_else (cell p x y) (placed (cells_of nodes tree.root) at x y)) e ∙ tree_placed x y)
+  pub tree_ready : FitsPlane (tree_cell nodes tree) → IsReady nodes (tree_cell nodes tree) tree.level (record { id = tree.root; at = at })
+  tree_ready fits = record { is_square = is; can = tree_can fits; agrees = λ x y live. tree_placed x y }

@@ -14,6 +14,7 @@ pub mod Extents
 pub mod Boxes
 pub mod Reach
 pub mod Drawn
+pub mod Painted
 pub mod Filled
 pub mod Held
 pub mod Covers

@@ -10,6 +10,7 @@ ghost use Rattle.ca_quad.specs.inner.Whole.{IsWhole};
 mod block;
 mod bounds;
 mod difference;
+mod draw;
 mod extent;
 mod found;
 mod from_plane;

@@ -1,12 +1,13 @@
 -- Live cells that are collected, square by square.
-use Rattle.std.specs.Prelude.{◌≡◌, ◌≢◌, ℕ, ◌^◌, ◌==◌, if◌then◌else◌, ℤ, pos, neg_ℤ, ◌+ℤ◌, ◌-ℤ◌, ◌≤ℤ◌, List}
+use Rattle.std.specs.Prelude.{◌≡◌, ◌≢◌, ℕ, ◌-◌, ◌^◌, ◌⊎◌, ℤ, pos, neg_ℤ, ◌+ℤ◌, ◌-ℤ◌, ◌≤ℤ◌, List, [], ◌∷◌}
 use Rattle.std.specs.List.{All}
 use Rattle.ca_plane.specs.Plane.{Picture, cell}
-use Rattle.ca_plane.specs.Sparse.{IsInPlane}
 use Rattle.ca_quad.specs.declared.node.Node.{Node}
+use Rattle.ca_quad.specs.declared.store.draw.Halves.{Halves}
+use Rattle.ca_quad.specs.declared.store.draw.Placed.{Placed}
 use Rattle.ca_quad.specs.declared.store.to_plane.Corners.{Corners}
 use Rattle.ca_quad.specs.declared.tree.Spot.{Spot}
-use Rattle.ca_quad.specs.Squares.{level_of, cell_of}
+use Rattle.ca_quad.specs.Squares.{level_of, IsOf, cell_of}
 use Rattle.ca_quad.specs.Trees.{from_corner}
 use Rattle.ca_quad.specs.Expanded.{FitsPlane}
 
@@ -43,16 +44,55 @@ pub record ArePartCorners (at : Spot) (side : ℕ) (corners : Corners) : Type 0 
   pub se_x : corners.se.x ≡ at.x +ℤ pos side
   pub se_y : corners.se.y ≡ at.y +ℤ pos side
 
--- the cells are live, and lie in the square of a plane
-pub record AreDrawn (cells : Picture) : Type 0 where
-  pub places : All (λ e. IsInPlane e.0) cells
-  pub live : All (λ e. e.1 ≢ 0) cells
+-- where the cells are live, these are the same
+abbrev pub Agrees : (ℤ → ℤ → ℕ) → (ℤ → ℤ → ℕ) → Type 0
+Agrees all cells = (x y : ℤ) → cells x y ≢ 0 → cells x y ≡ all x y
 
--- the state, or the other one where it is 0
-abbrev pub or_else : ℕ → ℕ → ℕ
-or_else state other = if state == 0 then other else state
+-- the cells of a square, at its place
+abbrev pub shown : List Node → Placed → ℤ → ℤ → ℕ
+shown nodes square = placed (cells_of nodes square.id) square.at
 
--- the new picture shows the old one, and these cells where that shows 0
-pub record Draws (old new : Picture) (cells : ℤ → ℤ → ℕ) : Type 0 where
-  pub are : AreDrawn new
-  pub shows : (x y : ℤ) → cell new x y ≡ or_else (cell old x y) (cells x y)
+-- a square of this level may be drawn, and shows some of these cells
+pub record IsReady (nodes : List Node) (all : ℤ → ℤ → ℕ) (level : ℕ) (square : Placed) : Type 0 where
+  pub is_square : IsOf nodes square.id level
+  pub can : CanDraw (cells_of nodes square.id) (side_of nodes square.id) square.at
+  pub agrees : Agrees all (shown nodes square)
+
+-- each of the squares is
+abbrev pub AreReady : List Node → (ℤ → ℤ → ℕ) → ℕ → List Placed → Type 0
+AreReady nodes all level squares = All (IsReady nodes all level) squares
+
+-- the cell is live
+abbrev pub IsLive : (ℤ → ℤ → ℕ) → ℤ → ℤ → Type 0
+IsLive cells x y = cells x y ≢ 0
+
+-- one of the squares has a live cell there
+abbrev pub IsLiveIn : List Node → List Placed → ℤ → ℤ → Type 0
+IsLiveIn nodes [] x y = ⊥
+IsLiveIn nodes (s ∷ ss) x y = IsLive (shown nodes s) x y ⊎ IsLiveIn nodes ss x y
+
+-- the same of the upper row of each square, or of the next one
+abbrev pub IsLiveInRow : List Node → ℕ → List Placed → ℤ → ℤ → Type 0
+IsLiveInRow nodes row [] x y = ⊥
+IsLiveInRow nodes row (s ∷ ss) x y = (IsLive (shown nodes s) x y × (y ≡ s.at.y +ℤ pos row)) ⊎ IsLiveInRow nodes row ss x y
+
+-- these cells were written, and no right one was lost
+pub record Paints (all : ℤ → ℤ → ℕ) (old new : Picture) (live : ℤ → ℤ → Type 0) : Type 0 where
+  pub kept : (x y : ℤ) → cell old x y ≡ all x y → cell new x y ≡ all x y
+  pub put : (x y : ℤ) → live x y → cell new x y ≡ all x y
+
+-- a square came to the others, unless it has no live cell
+pub record IsAdded (nodes : List Node) (square : Placed) (old new : List Placed) : Type 0 where
+  pub live : (x y : ℤ) → IsLiveIn nodes old x y ⊎ IsLive (shown nodes square) x y → IsLiveIn nodes new x y
+  pub ready : (all : ℤ → ℤ → ℕ) (level : ℕ) → AreReady nodes all level old → IsReady nodes all level square → AreReady nodes all level new
+
+-- the parts of a square of this level came to the halves
+pub record ArePushed (nodes : List Node) (level : ℕ) (square : Placed) (old new : Halves) : Type 0 where
+  pub live : (x y : ℤ) → (IsLiveIn nodes old.north.items x y ⊎ IsLiveIn nodes old.south.items x y) ⊎ IsLive (shown nodes square) x y → IsLiveIn nodes new.north.items x y ⊎ IsLiveIn nodes new.south.items x y
+  pub ready : (all : ℤ → ℤ → ℕ) → IsReady nodes all level square → AreReady nodes all (level - 1) old.north.items × AreReady nodes all (level - 1) old.south.items
+      → AreReady nodes all (level - 1) new.north.items × AreReady nodes all (level - 1) new.south.items
+
+-- the halves have all live cells of the squares
+pub record AreHalves (nodes : List Node) (level : ℕ) (squares : List Placed) (halves : Halves) : Type 0 where
+  pub live : (x y : ℤ) → IsLiveIn nodes squares x y → IsLiveIn nodes halves.north.items x y ⊎ IsLiveIn nodes halves.south.items x y
+  pub ready : (all : ℤ → ℤ → ℕ) → AreReady nodes all level squares → AreReady nodes all (level - 1) halves.north.items × AreReady nodes all (level - 1) halves.south.items

@@ -2,20 +2,17 @@
 
 ghost use Rattle.std.specs.Prelude.{◌≡◌, ◌≤◌, ◌^◌, ◌⊎◌, pos, neg_ℤ, ◌≤ℤ◌, ◌<ℤ◌, IsTrue, IsFalse, IfOk, IfErr, OnOk};
 ghost use Rattle.ca_plane.specs.Sparse.{IsInPlane, IsSparse, reach};
-ghost use Rattle.ca_quad.specs.Squares.{dot};
-ghost use Rattle.ca_quad.specs.Trees.{IsIn, IsTree, cell};
+ghost use Rattle.ca_quad.specs.Trees.{IsTree, cell};
 ghost use Rattle.ca_quad.specs.Expanded.{FitsPlane, IsExpanded, IsRefused};
 ghost use Rattle.ca_plane.specs.Population.{HasFewCells};
-ghost use Rattle.ca_quad.specs.inner.Drawn.{cells_of, side_of, placed, IsNear, CanDraw, AreDrawn, Draws, ArePartCorners};
+ghost use Rattle.ca_quad.specs.inner.Drawn.{IsNear, ArePartCorners};
 
 use super::Store;
 use super::found::Found;
 use super::read::half_side;
 use crate::fault::QuadFault;
-use crate::id::Id;
-use crate::square::Square;
 use crate::tree::{Spot, Tree, WideBounds};
-use ca_plane::{Memory, Plane, Point};
+use ca_plane::{Plane, Point};
 use std::alloc::Global;
 
 // The most live cells that are handled at once.
@@ -48,10 +45,7 @@ impl Store {
         ensures fault { IfErr result (IsRefused self.now tree) }
     {
         self.check_limits(alloc, tree)?;
-        let mut cells = Vec::new(alloc);
-        let corner = first_corner(half_side(self.level(tree.root)));
-        self.draw(tree.root, corner, &mut cells)?;
-        Ok(Plane::from_cells(alloc, cells)?)
+        Ok(self.drawn(alloc, tree)?)
     }
 
     // Looks whether the live cells of a tree lie in the square of a plane and aren't too many.
@@ -85,49 +79,6 @@ impl Store {
         }
         Ok(())
     }
-
-    // Adds the live cells of a square whose corner lies there.
-    fn draw(&self, id: Id, at: Spot, cells: &mut Vec<(Point, u8)>) -> Result<(), Memory>
-        requires known { IsIn self.now id }
-        requires near { CanDraw (cells_of self.now id) (side_of self.now id) at }
-        requires drawn { AreDrawn cells.old.items }
-        ensures { OnOk result (Draws cells.old.items cells.new.items (placed (cells_of self.now id) at)) }
-    {
-        if self.is_empty(id) {
-            return Ok(());
-        }
-        match self.square(id) {
-            Square::Four(nw, ne, sw, se) => {
-                let corners = part_corners(at, 1);
-                draw_cell(nw, at, cells)?;
-                draw_cell(ne, corners.ne, cells)?;
-                draw_cell(sw, corners.sw, cells)?;
-                draw_cell(se, corners.se, cells)?;
-                Ok(())
-            }
-            Square::Parts(level, nw, ne, sw, se) => {
-                let corners = part_corners(at, half_side(level));
-                self.draw(nw, at, cells)?;
-                self.draw(ne, corners.ne, cells)?;
-                self.draw(sw, corners.sw, cells)?;
-                self.draw(se, corners.se, cells)?;
-                Ok(())
-            }
-        }
-    }
-}
-
-// Adds a cell, where it is live.
-fn draw_cell(state: u8, at: Spot, cells: &mut Vec<(Point, u8)>) -> Result<(), Memory>
-    requires near { CanDraw (dot state) 1 at }
-    requires drawn { AreDrawn cells.old.items }
-    ensures { OnOk result (Draws cells.old.items cells.new.items (placed (dot state) at)) }
-{
-    if state == 0 {
-        return Ok(());
-    }
-    cells.push((point(at), state))?;
-    Ok(())
 }
 
 // The corner of a tree with this half of a side.
@@ -156,7 +107,7 @@ pub(super) fn part_corners(at: Spot, side: u128) -> Corners
 }
 
 // The point of a plane at a place.
-fn point(at: Spot) -> Point
+pub(super) fn point(at: Spot) -> Point
     requires { IsInPlane (record { y = at.y; x = at.x }) }
     ensures x { result.x ≡ at.x }
     ensures y { result.y ≡ at.y }
