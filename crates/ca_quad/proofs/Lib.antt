@@ -6,6 +6,7 @@ pub mod Joined
 pub mod Walks
 pub mod Edges
 pub mod Windows
+pub mod EightRows
 pub mod Population
 pub mod Listed
 pub mod Greatest

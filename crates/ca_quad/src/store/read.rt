@@ -81,7 +81,7 @@ impl Store {
     }
 
     // The state of a square's cell, counted from its upper left corner.
-    fn cell_in(&self, id: Id, x: u128, y: u128) -> u8
+    pub(super) fn cell_in(&self, id: Id, x: u128, y: u128) -> u8
         requires known { IsIn self.now id }
         requires x { x < 2 ^ level_of self.now id }
         requires y { y < 2 ^ level_of self.now id }
