@@ -11,3 +11,9 @@ pub mod Saying
 pub mod Verdicts
 pub mod OneMeaning
 pub mod FileOrFault
+pub mod Behind
+pub mod Orders
+pub mod Pictures
+pub mod Gathering
+pub mod WrittenNodes
+pub mod Lines

@@ -4,3 +4,4 @@ pub mod Numbers
 pub mod Comments
 pub mod Lines
 pub mod Reading
+pub mod Written

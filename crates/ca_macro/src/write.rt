@@ -17,6 +17,12 @@ use ca_quad::{Store, Tree};
 use std::alloc::Global;
 use std::io::Write;
 
+mod lines;
+mod nodes;
+mod numbers;
+mod root;
+mod written;
+
 /// The one tidy text of a tree's cells, with their rule text, their generation count, and their rule's number of states.
 ///
 /// The first line is `[M2] (cafile)`, the second `#R ` and the rule text, and where the generation isn't 0 the third is `#G ` and
@@ -48,8 +54,11 @@ pub fn write_macro(
     // Every old square stays.
     ensures grows { Grows store.old store.new }
 {
-    let _ = (alloc, &store, tree, rule_text, generation, states);
-    Err(Memory)
+    let root = root::root_of(store, tree, states)?;
+    let nodes = nodes::nodes_of(alloc, store, root, states)?;
+    let mut text = Vec::new(alloc);
+    lines::push_lines(&mut text, rule_text, generation, &nodes)?;
+    Ok(text)
 }
 
 /// Writes that text. The whole text is made before its first byte is written.

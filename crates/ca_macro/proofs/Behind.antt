@@ -1,0 +1,131 @@
+-- Lists that are made node by node: the pictures of nodes, and the walks over them.
+use Rattle.std.proofs.Common.{◌≡◌, ℕ, zero, suc, ◌+◌, ◌<◌, ◌≤◌, List, [], ◌∷◌, ◌++◌, length, refl, sym, ap, subst, ◌∙◌, arith, length-append}
+use Rattle.std.specs.List.{AllByRecursion, flat_map, slice_index_or}
+use Rattle.std.proofs.Math.ListN.{get_or-append}
+use Rattle.std.proofs.Math.Seq.{get_or-append_seam}
+use Rattle.ca_plane.specs.Plane.{Picture}
+use Rattle.ca_macro.specs.Nodes.{Node}
+use Rattle.ca_macro.specs.Shown.{numbered, square_of, squares_behind, squares_of}
+use Rattle.ca_macro.specs.Tidy.{parts_of, walks_behind}
+
+-- ---- lists that are made one after another, each from the earlier ones
+
+module _ {A B : Type 0} (step : List (List A) → B → List A) where
+  abbrev pub behind : List (List A) → List B → List (List A)
+  behind earlier [] = earlier
+  behind earlier (n ∷ ns) = behind (earlier ++ step earlier n ∷ []) ns
+
+  behind_last : (earlier : List (List A)) (ns : List B) (n : B) → behind earlier (ns ++ n ∷ []) ≡ behind earlier ns ++ step (behind earlier ns) n ∷ []
+  behind_last earlier [] n = refl
+  behind_last earlier (m ∷ ns) n = behind_last (earlier ++ step earlier m ∷ []) ns n
+
+  behind_length : (earlier : List (List A)) (ns : List B) → length (behind earlier ns) ≡ length earlier + length ns
+  behind_length earlier [] = omega arith
+  behind_length earlier (m ∷ ns) =
+      let e = behind_length (earlier ++ step earlier m ∷ []) ns in
+      let f = length-append earlier (step earlier m ∷ []) in
+      omega arith
+
+  behind_first : (earlier : List (List A)) (ns : List B) (i : ℕ) → i < length earlier → slice_index_or (behind earlier ns) i [] ≡ slice_index_or earlier i []
+  behind_first earlier [] i h = refl
+  behind_first earlier (m ∷ ns) i h =
+      let f = length-append earlier (step earlier m ∷ []) in
+      behind_first (earlier ++ step earlier m ∷ []) ns i (omega arith) ∙ get_or-append earlier (step earlier m ∷ []) [] i h
+
+  behind_both : (earlier : List (List A)) (ns ms : List B) → behind earlier (ns ++ ms) ≡ behind (behind earlier ns) ms
+  behind_both earlier [] ms = refl
+  behind_both earlier (n ∷ ns) ms = behind_both (earlier ++ step earlier n ∷ []) ns ms
+
+  -- what has a number keeps its list
+  number_stays : (ns ms : List B) (n : ℕ) → n ≤ length ns → numbered (behind [] (ns ++ ms)) n ≡ numbered (behind [] ns) n
+  number_stays ns ms zero h = refl
+  number_stays ns ms (suc i) h =
+      let e = behind_length [] ns in
+      ap (λ l. slice_index_or l i []) (behind_both [] ns ms) ∙ behind_first (behind [] ns) ms i (omega arith)
+
+  number_last : (ns : List B) (n : B) → numbered (behind [] (ns ++ n ∷ [])) (suc (length ns)) ≡ step (behind [] ns) n
+  number_last ns n =
+      let e : length (behind [] ns) ≡ length ns = let f = behind_length [] ns in omega arith in
+      ap (λ l. slice_index_or l (length ns) []) (behind_last [] ns n)
+      ∙ subst (λ k. slice_index_or (behind [] ns ++ step (behind [] ns) n ∷ []) k [] ≡ step (behind [] ns) n) e (get_or-append_seam (behind [] ns) (step (behind [] ns) n) [] [])
+
+-- ---- pictures
+
+squares_are : (earlier : List Picture) (ns : List Node) → squares_behind earlier ns ≡ behind square_of earlier ns
+squares_are earlier [] = refl
+squares_are earlier (n ∷ ns) = squares_are (earlier ++ square_of earlier n ∷ []) ns
+
+pub squares_length : (ns : List Node) → length (squares_of ns) ≡ length ns
+squares_length ns = let e = behind_length square_of [] ns in ap length (squares_are [] ns) ∙ omega arith
+
+pub square_stays : (ns ms : List Node) (n : ℕ) → n ≤ length ns → numbered (squares_of (ns ++ ms)) n ≡ numbered (squares_of ns) n
+square_stays ns ms n h =
+    ap (λ l. numbered l n) (squares_are [] (ns ++ ms)) ∙ number_stays square_of ns ms n h ∙ ap (λ l. numbered l n) (sym (squares_are [] ns))
+
+pub square_last : (ns : List Node) (n : Node) → numbered (squares_of (ns ++ n ∷ [])) (suc (length ns)) ≡ square_of (squares_of ns) n
+square_last ns n =
+    ap (λ l. numbered l (suc (length ns))) (squares_are [] (ns ++ n ∷ [])) ∙ number_last square_of ns n ∙ ap (λ l. square_of l n) (sym (squares_are [] ns))
+
+-- ---- walks
+
+abbrev pub walk_to : List (List ℕ) → Node → List ℕ
+walk_to earlier n = flat_map (numbered earlier) (parts_of n) ++ (length earlier + 1) ∷ []
+
+walks_are : (earlier : List (List ℕ)) (ns : List Node) → walks_behind earlier ns ≡ behind walk_to earlier ns
+walks_are earlier [] = refl
+walks_are earlier (n ∷ ns) = walks_are (earlier ++ walk_to earlier n ∷ []) ns
+
+pub walks_length : (ns : List Node) → length (walks_behind [] ns) ≡ length ns
+walks_length ns = let e = behind_length walk_to [] ns in ap length (walks_are [] ns) ∙ omega arith
+
+pub walk_stays : (ns ms : List Node) (n : ℕ) → n ≤ length ns → numbered (walks_behind [] (ns ++ ms)) n ≡ numbered (walks_behind [] ns) n
+walk_stays ns ms n h =
+    ap (λ l. numbered l n) (walks_are [] (ns ++ ms)) ∙ number_stays walk_to ns ms n h ∙ ap (λ l. numbered l n) (sym (walks_are [] ns))
+
+pub walk_last : (ns : List Node) (n : Node) → numbered (walks_behind [] (ns ++ n ∷ [])) (suc (length ns)) ≡ walk_to (walks_behind [] ns) n
+walk_last ns n =
+    ap (λ l. numbered l (suc (length ns))) (walks_are [] (ns ++ n ∷ [])) ∙ number_last walk_to ns n ∙ ap (λ l. walk_to l n) (sym (walks_are [] ns))
+
+-- ---- walks come to earlier nodes alone
+
+pub all_append : {A : Type 0} (P : A → Type 0) (xs ys : List A) → AllByRecursion P xs → AllByRecursion P ys → AllByRecursion P (xs ++ ys)
+all_append P [] ys a b = b
+all_append P (x ∷ xs) ys a b = (a.0, all_append P xs ys a.1 b)
+
+pub all_weaker : {A : Type 0} (P Q : A → Type 0) → ((x : A) → P x → Q x) → (xs : List A) → AllByRecursion P xs → AllByRecursion Q xs
+all_weaker P Q f [] a = tt
+all_weaker P Q f (x ∷ xs) a = (f x a.0, all_weaker P Q f xs a.1)
+
+-- each is from 1 to this number
+abbrev pub Within : ℕ → List ℕ → Type 0
+Within most numbers = AllByRecursion (λ m. (1 ≤ m) × (m ≤ most)) numbers
+
+within_more : (most more : ℕ) → most ≤ more → (numbers : List ℕ) → Within most numbers → Within more numbers
+within_more most more h = all_weaker _ _ (λ m w. (w.0, omega (arith, w.1)))
+
+numbered_within : (most : ℕ) (lists : List (List ℕ)) → AllByRecursion (Within most) lists → (n : ℕ) → Within most (numbered lists n)
+numbered_within most lists a zero = tt
+numbered_within most [] a (suc i) = tt
+numbered_within most (l ∷ ls) a (suc zero) = a.0
+numbered_within most (l ∷ ls) a (suc (suc i)) = numbered_within most ls a.1 (suc i)
+
+flat_within : (most : ℕ) (lists : List (List ℕ)) → AllByRecursion (Within most) lists → (ns : List ℕ) → Within most (flat_map (numbered lists) ns)
+flat_within most lists a [] = tt
+flat_within most lists a (n ∷ ns) = all_append _ (numbered lists n) (flat_map (numbered lists) ns) (numbered_within most lists a n) (flat_within most lists a ns)
+
+walks_within : (earlier : List (List ℕ)) (ns : List Node) → AllByRecursion (Within (length earlier)) earlier
+    → AllByRecursion (Within (length (walks_behind earlier ns))) (walks_behind earlier ns)
+walks_within earlier [] a = a
+walks_within earlier (n ∷ ns) a =
+    let e : length (earlier ++ walk_to earlier n ∷ []) ≡ length earlier + 1 = length-append earlier (walk_to earlier n ∷ []) in
+    let old = all_weaker (Within (length earlier)) (Within (length earlier + 1)) (within_more (length earlier) (length earlier + 1) (omega arith)) earlier a in
+    let mine : Within (length earlier + 1) (walk_to earlier n) =
+    all_append _ (flat_map (numbered earlier) (parts_of n)) ((length earlier + 1) ∷ [])
+    (within_more (length earlier) (length earlier + 1) (omega arith) _ (flat_within (length earlier) earlier a (parts_of n))) ((omega arith, omega arith), tt) in
+    walks_within (earlier ++ walk_to earlier n ∷ []) ns
+    (subst (λ k. AllByRecursion (Within k) (earlier ++ walk_to earlier n ∷ [])) (sym e) (all_append (Within (length earlier + 1)) earlier (walk_to earlier n ∷ []) old (mine, tt)))
+
+pub walk_within : (ns : List Node) (n : ℕ) → Within (length ns) (numbered (walks_behind [] ns) n)
+walk_within ns n =
+    subst (λ k. Within k (numbered (walks_behind [] ns) n)) (walks_length ns)
+    (numbered_within (length (walks_behind [] ns)) (walks_behind [] ns) (walks_within [] ns tt) n)

@@ -1,0 +1,225 @@
+-- One node more behind those that were gathered.
+use Rattle.std.proofs.Common.{◌≡◌, ◌≢◌, ℕ, zero, suc, ◌+◌, ◌-◌, ◌<◌, ◌≤◌, ◌^◌, ◌==◌, ◌⊎◌, inl, inr, Bool, true, false, not, ◌&&◌, ℤ, pos, negsuc, List, [], ◌∷◌, ◌++◌, map, length, Option, Some, None, cond, option_map, slice_index, refl, sym, ap, ap₂, subst, ◌∙◌, arith, append_assoc, append-nil, length-append, true≢false}
+use Rattle.std.specs.List.{AllByRecursion, AllPairs, slice_index_or, slice_get, list_all}
+use Rattle.std.proofs.Math.ListN.{get_or-append}
+use Rattle.std.proofs.Math.Seq.{get_or-append_seam}
+use Rattle.std.proofs.lemmas.Bool.{cases_Bool, and_parts, eqb-true}
+use Rattle.std.proofs.lemmas.Bool.Decides.{nat_tests}
+use Rattle.std.proofs.lemmas.Option.{same_Some}
+use Rattle.ca_plane.specs.Plane.{Picture, cell}
+use Rattle.ca_quad.specs.declared.node.Node.{Node as Kept}
+use Rattle.ca_quad.specs.Squares as squares
+use Rattle.ca_quad.specs.Sound.{IsSound}
+use Rattle.ca_quad.specs.Trees.{from_corner, IsIn, IsEmpty}
+use Rattle.ca_quad.proofs.Cells.{same_cells}
+use Rattle.ca_quad.proofs.Growth.{below_or_not}
+use Rattle.ca_macro.specs.Nodes.{Node, Leaf, Cells, Parts, level_of, Names, StandsBehind}
+use Rattle.ca_macro.specs.Shown.{numbered, row_from, rows_from, state_of, joined, square_of, squares_of}
+use Rattle.ca_macro.specs.Tidy.{AreInPlace, HasForm, is_empty}
+use Rattle.ca_macro.specs.inner.Written.{number_of, cells_of, IsPictureOf, IsNumberOf, IsNodeOf, IsGathered}
+use Rattle.ca_macro.proofs.Behind.{squares_length, square_stays, square_last, all_append}
+
+-- ---- places in lists of nodes
+
+in_place_more : (earlier ns : List Node) (node : Node) → AreInPlace earlier ns → StandsBehind (earlier ++ ns) node → AreInPlace earlier (ns ++ node ∷ [])
+in_place_more earlier [] node h s = (subst (λ l. StandsBehind l node) (append-nil earlier) s, tt)
+in_place_more earlier (n ∷ ns) node h s = (h.0, in_place_more (earlier ++ n ∷ []) ns node h.1 (subst (λ l. StandsBehind l node) (sym (append_assoc earlier (n ∷ []) ns)) s))
+
+in_place_at : (earlier front : List Node) (n : Node) (rest : List Node) → AreInPlace earlier (front ++ n ∷ rest) → StandsBehind (earlier ++ front) n
+in_place_at earlier [] n rest h = subst (λ l. StandsBehind l n) (sym (append-nil earlier)) h.0
+in_place_at earlier (m ∷ front) n rest h = subst (λ l. StandsBehind l n) (append_assoc earlier (m ∷ []) front) (in_place_at (earlier ++ m ∷ []) front n rest h.1)
+
+split_at : (ns : List Node) (i : ℕ) (d : Node) → i < length ns → (front : List Node) × (rest : List Node) × (ns ≡ front ++ slice_index_or ns i d ∷ rest) × (length front ≡ i)
+split_at [] i d h = absurd (omega arith)
+split_at (n ∷ ns) zero d h = ([], ns, refl, refl)
+split_at (n ∷ ns) (suc i) d h =
+    let s = split_at ns i d (omega arith) in
+    (n ∷ s.0, s.1, ap (λ l. n ∷ l) s.2, let e = s.3 in omega arith)
+
+names_get : (ns ms : List Node) (level i : ℕ) → option_map level_of (slice_get ns i) ≡ Some level → option_map level_of (slice_get (ns ++ ms) i) ≡ Some level
+names_get [] ms level i h = absurd cc
+names_get (n ∷ ns) ms level zero h = h
+names_get (n ∷ ns) ms level (suc i) h = names_get ns ms level i h
+
+pub names_stay : (ns ms : List Node) (level n : ℕ) → Names ns level n → Names (ns ++ ms) level n
+names_stay ns ms level zero h = tt
+names_stay ns ms level (suc i) h = names_get ns ms level i h
+
+names_low : (ns : List Node) (level n : ℕ) → Names ns level n → n ≤ length ns
+names_low ns level zero h = omega arith
+names_low [] level (suc i) h = absurd cc
+names_low (n ∷ ns) level (suc zero) h = omega arith
+names_low (n ∷ ns) level (suc (suc i)) h = let r = names_low ns level (suc i) h in omega arith
+
+get_last : (ns : List Node) (n : Node) → slice_get (ns ++ n ∷ []) (length ns) ≡ Some n
+get_last [] n = refl
+get_last (m ∷ ns) n = get_last ns n
+
+names_level : (ns : List Node) (level i : ℕ) (d : Node) → option_map level_of (slice_get ns i) ≡ Some level → level_of (slice_index_or ns i d) ≡ level
+names_level [] level i d h = absurd cc
+names_level (n ∷ ns) level zero d h = same_Some (level_of n) level h
+names_level (n ∷ ns) level (suc i) d h = names_level ns level i d h
+
+-- ---- pictures of nodes
+
+square_of_stays : (ns ms : List Node) (node : Node) → StandsBehind ns node → square_of (squares_of (ns ++ ms)) node ≡ square_of (squares_of ns) node
+square_of_stays ns ms (Leaf rows) h = refl
+square_of_stays ns ms (Cells nw ne sw se) h = refl
+square_of_stays ns ms (Parts level nw ne sw se) h =
+    let low = names_low ns (level - 1) in
+    let a = square_stays ns ms nw (low nw h.1.0) in
+    let b = square_stays ns ms ne (low ne h.1.1.0) in
+    let c = square_stays ns ms sw (low sw h.1.1.1.0) in
+    let d = square_stays ns ms se (low se h.1.1.1.1.0) in
+    rw (a, b, c, d) refl
+
+-- what has a number shows what its node shows
+square_at : (ns : List Node) (i : ℕ) (d : Node) → AreInPlace [] ns → i < length ns → numbered (squares_of ns) (suc i) ≡ square_of (squares_of ns) (slice_index_or ns i d)
+square_at ns i d h low =
+    let s = split_at ns i d low in
+    let node = slice_index_or ns i d in
+    let stands : StandsBehind s.0 node = in_place_at [] s.0 node s.1 (subst (AreInPlace []) s.2 h) in
+    let again : (s.0 ++ node ∷ []) ++ s.1 ≡ ns = append_assoc s.0 (node ∷ []) s.1 ∙ sym s.2 in
+    let count = length-append s.0 (node ∷ []) in
+    let first : numbered (squares_of ns) (suc (length s.0)) ≡ square_of (squares_of s.0) node =
+    ap (λ l. numbered (squares_of l) (suc (length s.0))) (sym again) ∙ square_stays (s.0 ++ node ∷ []) s.1 (suc (length s.0)) (omega arith) ∙ square_last s.0 node in
+    let second : square_of (squares_of ns) node ≡ square_of (squares_of s.0) node =
+    ap (λ l. square_of (squares_of l) node) s.2 ∙ square_of_stays s.0 (node ∷ s.1) node stands in
+    ap (λ k. numbered (squares_of ns) (suc k)) (sym s.3) ∙ first ∙ sym second
+
+-- ---- squares with one picture are one
+
+same_shown : (p : Picture) (f g : ℕ → ℕ → ℕ) → IsPictureOf p f → IsPictureOf p g → (x y : ℕ) → f x y ≡ g x y
+same_shown p f g a b x y = sym (a (pos x) (pos y)) ∙ b (pos x) (pos y)
+
+one_square : (kept : List Kept) → IsSound kept → (a b : ℕ) → IsIn kept a → IsIn kept b → squares.level_of kept a ≡ squares.level_of kept b → (p : Picture) → IsPictureOf p (cells_of kept a) → IsPictureOf p (cells_of kept b) → a ≡ b
+one_square kept sound a b h i same p f g =
+    let level = squares.level_of kept a in
+    let at : IsPictureOf p (squares.cell_of kept level b) = subst (λ l. IsPictureOf p (squares.cell_of kept l b)) (sym same) g in
+    same_cells kept sound level a b (record { before = h; is_level = refl }) (record { before = i; is_level = sym same })
+    (same_shown p (cells_of kept a) (squares.cell_of kept level b) f at)
+
+-- ---- nodes without live cells
+
+dead_row : (row : List Bool) (x y : ℤ) → list_all not row ≡ true → row_from x y (map state_of row) ≡ []
+dead_row [] x y h = refl
+dead_row (true ∷ row) x y h = absurd cc
+dead_row (false ∷ row) x y h = dead_row row _ y h
+
+dead_rows : (rows : List (List Bool)) (y : ℤ) → list_all (list_all not) rows ≡ true → rows_from y (map (map state_of) rows) ≡ []
+dead_rows [] y h = refl
+dead_rows (row ∷ rows) y h =
+    let p = and_parts (list_all not row) (list_all (list_all not) rows) h in
+    rw (dead_row row (pos 0) y p.0) (dead_rows rows _ p.1)
+
+four_dead : (a b c d : ℕ) → list_all (λ n. n == 0) (a ∷ b ∷ c ∷ d ∷ []) ≡ true → (a ≡ 0) × (b ≡ 0) × (c ≡ 0) × (d ≡ 0)
+four_dead a b c d h =
+    let p = and_parts (a == 0) _ h in
+    let q = and_parts (b == 0) _ p.1 in
+    let r = and_parts (c == 0) _ q.1 in
+    let s = and_parts (d == 0) true r.1 in
+    (eqb-true a 0 p.0, eqb-true b 0 q.0, eqb-true c 0 r.0, eqb-true d 0 s.0)
+
+pub dead_square : (earlier : List Picture) (node : Node) → is_empty node ≡ true → square_of earlier node ≡ []
+dead_square earlier (Leaf rows) h = dead_rows rows (pos 0) h
+dead_square earlier (Cells nw ne sw se) h = let z = four_dead nw ne sw se h in rw (z.0, z.1, z.2, z.3) refl
+dead_square earlier (Parts level nw ne sw se) h = let z = four_dead nw ne sw se h in rw (z.0, z.1, z.2, z.3) refl
+
+pub corner_zero : (f : ℕ → ℕ → ℕ) → IsEmpty f → (x y : ℤ) → 0 ≡ from_corner f x y
+corner_zero f h (pos x) (pos y) = sym (h x y)
+corner_zero f h (pos x) (negsuc y) = refl
+corner_zero f h (negsuc x) (pos y) = refl
+corner_zero f h (negsuc x) (negsuc y) = refl
+
+live_node : (earlier : List Picture) (node : Node) (f : ℕ → ℕ → ℕ) → IsPictureOf (square_of earlier node) f → (IsEmpty f → ⊥) → is_empty node ≡ false
+live_node earlier node f shows live =
+    elim (cases_Bool (is_empty node)) [
+      | inl e ↦ absurd (live (λ x y. sym (shows (pos x) (pos y)) ∙ ap (λ p. cell p (pos x) (pos y)) (dead_square earlier node e)))
+      | inr e ↦ e
+    ]
+
+-- ---- numbers go on to name their squares
+
+pub number_goes_on : (kept : List Kept) (ns ms : List Node) (id n : ℕ) → IsNumberOf kept ns id n → IsNumberOf kept (ns ++ ms) id n
+number_goes_on kept ns ms id n h = record {
+  at_most = let e = length-append ns ms in let f = h.at_most in omega arith;
+  names = names_stay ns ms (squares.level_of kept id) n h.names;
+  shows = subst (λ p. IsPictureOf p (cells_of kept id)) (sym (square_stays ns ms n h.at_most)) h.shows;
+}
+
+pub last_number : (kept : List Kept) (states : ℕ) (ns : List Node) (id : ℕ) (node : Node) → IsNodeOf kept states ns id node → IsNumberOf kept (ns ++ node ∷ []) id (suc (length ns))
+last_number kept states ns id node h = record {
+  at_most = let e = length-append ns (node ∷ []) in omega arith;
+  names = ap (option_map level_of) (get_last ns node) ∙ ap Some h.level;
+  shows = subst (λ p. IsPictureOf p (cells_of kept id)) (sym (square_last ns node)) h.shows;
+}
+
+-- ---- a node is put behind the others
+
+module _ (kept : List Kept) (sound : IsSound kept) (states : ℕ) (ns : List Node) (old new : List (ℕ × ℕ)) (id : ℕ) (node : Node) (known : IsIn kept id)
+    (gathered : IsGathered kept states ns old) (is : IsNodeOf kept states ns id node) (live : IsEmpty (cells_of kept id) → ⊥) (none : number_of old id ≡ None)
+    (put : (other : ℕ) → number_of new other ≡ cond (id == other) (Some (suc (length ns))) (number_of old other)) where
+  other_node : (i : ℕ) (d : Node) → i < length ns → slice_index_or ns i d ≡ node → ⊥
+  other_node i d low same =
+      let e = gathered.each i low in
+      let other = e.0 in
+      let f = gathered.numbered other (suc i) e.1 in
+      let level : squares.level_of kept other ≡ squares.level_of kept id =
+      sym (names_level ns (squares.level_of kept other) i d f.1.names) ∙ ap level_of same ∙ is.level in
+      let picture : numbered (squares_of ns) (suc i) ≡ square_of (squares_of ns) node = square_at ns i d gathered.in_place low ∙ ap (square_of (squares_of ns)) same in
+      let one : other ≡ id = one_square kept sound other id f.0 known level (square_of (squares_of ns) node) (subst (λ p. IsPictureOf p (cells_of kept other)) picture f.1.shows) is.shows in
+      let some : number_of old id ≡ Some (suc i) = ap (number_of old) (sym one) ∙ e.1 in
+      absurd (let z = sym none ∙ some in cc)
+
+  distinct_more : AllPairs (λ m n. m ≢ n) (ns ++ node ∷ [])
+  distinct_more = λ i j d h k.
+      let count = length-append ns (node ∷ []) in
+      let front : (i : ℕ) → i < length ns → slice_index_or (ns ++ node ∷ []) i d ≡ slice_index_or ns i d = λ i l. get_or-append ns (node ∷ []) d i l in
+      elim (below_or_not j (length ns)) [
+        | inl l ↦ λ e. gathered.distinct i j d h l (sym (front i (omega arith)) ∙ e ∙ front j l)
+        | inr l ↦
+            let at : j ≡ length ns = omega arith in
+            λ e. other_node i d (omega arith) (sym (front i (omega arith)) ∙ e ∙ ap (λ k. slice_index_or (ns ++ node ∷ []) k d) at ∙ get_or-append_seam ns node [] d)
+      ]
+
+  numbered_more : (other n : ℕ) → number_of new other ≡ Some n → IsIn kept other × IsNumberOf kept (ns ++ node ∷ []) other n
+  numbered_more other n e =
+      elim (cases_Bool (id == other)) [
+        | inl t ↦
+            let same : id ≡ other = eqb-true id other t in
+            let put_here : cond (id == other) (Some (suc (length ns))) (number_of old other) ≡ Some (suc (length ns)) = rw t refl in
+            let at : suc (length ns) ≡ n = same_Some _ n (sym put_here ∙ sym (put other) ∙ e) in
+            (subst (IsIn kept) same known, subst (λ k. IsNumberOf kept (ns ++ node ∷ []) other k) at (subst (λ k. IsNumberOf kept (ns ++ node ∷ []) k (suc (length ns))) same (last_number kept states ns id node is)))
+        | inr t ↦
+            let kept_here : cond (id == other) (Some (suc (length ns))) (number_of old other) ≡ number_of old other = rw t refl in
+            let f = gathered.numbered other n (sym kept_here ∙ sym (put other) ∙ e) in
+            (f.0, number_goes_on kept ns (node ∷ []) other n f.1)
+      ]
+
+  each_more : (i : ℕ) → i < length (ns ++ node ∷ []) → (other : ℕ) × (number_of new other ≡ Some (suc i))
+  each_more i h =
+      let count = length-append ns (node ∷ []) in
+      elim (below_or_not i (length ns)) [
+        | inl l ↦
+            let e = gathered.each i l in
+            elim (cases_Bool (id == e.0)) [
+              | inl t ↦
+                  let some : number_of old id ≡ Some (suc i) = ap (number_of old) (eqb-true id e.0 t) ∙ e.1 in
+                  absurd (let z = sym none ∙ some in cc)
+              | inr t ↦ (e.0, put e.0 ∙ rw t e.1)
+            ]
+        | inr l ↦
+            let at : i ≡ length ns = omega arith in
+            let t : (id == id) ≡ true = grind (arith, nat_tests) in
+            (id, put id ∙ rw t (ap (λ k. Some (suc k)) (sym at)))
+      ]
+
+  pub gathered_more : IsGathered kept states (ns ++ node ∷ []) new
+  gathered_more = record {
+    in_place = in_place_more [] ns node gathered.in_place is.in_place;
+    forms = all_append (HasForm states) ns (node ∷ []) gathered.forms (is.form, tt);
+    distinct = distinct_more;
+    live = all_append (λ n. is_empty n ≡ false) ns (node ∷ []) gathered.live (live_node (squares_of ns) node (cells_of kept id) is.shows live, tt);
+    numbered = numbered_more;
+    each = each_more;
+  }

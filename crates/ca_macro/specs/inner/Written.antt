@@ -1,0 +1,88 @@
+-- The nodes that a writer has gathered from a store of squares, and the numbers of their squares.
+use Rattle.std.specs.Prelude.{◌≡◌, ◌≢◌, ℕ, zero, suc, ◌+◌, ◌<◌, ◌≤◌, ◌/◌, ◌%◌, ◌==◌, ℤ, List, [], ◌∷◌, ◌++◌, map, length, Bool, true, false, Option, Some, None, if◌then◌else◌, slice_index, ◌⊎◌}
+use Rattle.std.specs.List.{AllByRecursion, AllPairs, last_or, range_with_len}
+use Rattle.std.specs.Map.{lookup}
+use Rattle.ca_plane.specs.Plane.{Picture, cell}
+use Rattle.ca_quad.specs.declared.node.Node.{Node as Kept}
+use Rattle.ca_quad.specs.Squares as squares
+use Rattle.ca_quad.specs.Trees.{from_corner, IsEmpty}
+use Rattle.ca_macro.specs.declared.write.written.Written.{Written}
+use Rattle.ca_macro.specs.declared.write.written.Written.TheVariants.{Leaf, Cells, Parts}
+use Rattle.ca_macro.specs.Nodes.{Node, level_of, Names, StandsBehind}
+use Rattle.ca_macro.specs.Nodes as nodes
+use Rattle.ca_macro.specs.Shown.{numbered, square_of, squares_of, picture_of}
+use Rattle.ca_macro.specs.Tidy.{IsLeastLevel, AreInPlace, HasForm, is_empty, walks_behind, walk_of, each_once}
+
+-- the number of a square, if it has one
+abbrev pub number_of : List (ℕ × ℕ) → ℕ → Option ℕ
+number_of numbers id = lookup (λ (k : ℕ). id == k) numbers
+
+-- a row's cells by its bits, without the dead cells at its end
+abbrev pub row_of : ℕ → ℕ → List Bool
+row_of zero bits = []
+row_of (suc width) bits = if bits == 0 then [] else (bits % 2 == 1) ∷ row_of width (bits / 2)
+
+-- the node that is written
+abbrev pub node_of : Written → Node
+node_of (Leaf rows) = nodes.Leaf (map (row_of 8) rows)
+node_of (Cells states) = nodes.Cells (slice_index states 0) (slice_index states 1) (slice_index states 2) (slice_index states 3)
+node_of (Parts level numbers) = nodes.Parts level (slice_index numbers 0) (slice_index numbers 1) (slice_index numbers 2) (slice_index numbers 3)
+
+-- the cells of an id's square
+abbrev pub cells_of : List Kept → ℕ → ℕ → ℕ → ℕ
+cells_of kept id = squares.cell_of kept (squares.level_of kept id) id
+
+-- a picture shows a square, its upper left cell at (0, 0)
+abbrev pub IsPictureOf : Picture → (ℕ → ℕ → ℕ) → Type 0
+IsPictureOf picture cells = (x y : ℤ) → cell picture x y ≡ from_corner cells x y
+
+-- the number names a square among these nodes
+pub record IsNumberOf (kept : List Kept) (ns : List Node) (id number : ℕ) : Type 0 where
+  pub at_most : number ≤ length ns
+  pub names : Names ns (squares.level_of kept id) number
+  pub shows : IsPictureOf (numbered (squares_of ns) number) (cells_of kept id)
+
+-- the node may be written for this square behind these nodes
+pub record IsNodeOf (kept : List Kept) (states : ℕ) (ns : List Node) (id : ℕ) (node : Node) : Type 0 where
+  pub in_place : StandsBehind ns node
+  pub form : HasForm states node
+  pub level : level_of node ≡ squares.level_of kept id
+  pub shows : IsPictureOf (square_of (squares_of ns) node) (cells_of kept id)
+
+-- what has been gathered: nodes as they are written, each that of a square, and the squares' numbers
+pub record IsGathered (kept : List Kept) (states : ℕ) (ns : List Node) (numbers : List (ℕ × ℕ)) : Type 0 where
+  pub in_place : AreInPlace [] ns
+  pub forms : AllByRecursion (HasForm states) ns
+  pub distinct : AllPairs (λ m n. m ≢ n) ns
+  pub live : AllByRecursion (λ n. is_empty n ≡ false) ns
+  pub numbered : (id number : ℕ) → number_of numbers id ≡ Some number → (id < squares.kept (length kept)) × IsNumberOf kept ns id number
+  pub each : (i : ℕ) → i < length ns → (id : ℕ) × (number_of numbers id ≡ Some (suc i))
+
+-- there are more nodes behind the old ones
+abbrev pub Extends : List Node → List Node → Type 0
+Extends old new = (more : List Node) × (new ≡ old ++ more)
+
+-- where walks so far came first to the old nodes in their order, they come first to the new ones in theirs, after one over this number
+abbrev pub GoesOn : List Node → List Node → ℕ → Type 0
+GoesOn old new number = (walked : List ℕ) → each_once walked ≡ range_with_len 1 (length old)
+    → each_once (walked ++ numbered (walks_behind [] new) number) ≡ range_with_len 1 (length new)
+
+-- the level of the squares that are written without parts
+abbrev pub leaf_level : ℕ → ℕ
+leaf_level states = if states == 2 then 3 else 1
+
+-- the root of the empty plane
+abbrev pub empty_root : ℕ → Node
+empty_root states = if states == 2 then nodes.Parts 4 0 0 0 0 else nodes.Cells 0 0 0 0
+
+-- the nodes of a tidy text
+pub record AreTidyNodes (states : ℕ) (cells : ℤ → ℤ → ℕ) (ns : List Node) : Type 0 where
+  pub root : Node
+  pub shown : (x y : ℤ) → cells x y ≡ cell (picture_of ns) x y
+  pub root_is_last : last_or None ns ≡ Some root
+  pub level : IsLeastLevel states cells (level_of root)
+  pub in_place : AreInPlace [] ns
+  pub forms : AllByRecursion (HasForm states) ns
+  pub distinct : AllPairs (λ m n. m ≢ n) ns
+  pub empties : AllByRecursion (λ n. is_empty n ≡ false) ns ⊎ (ns ≡ root ∷ [])
+  pub order : each_once (walk_of ns) ≡ range_with_len 1 (length ns)

@@ -1,0 +1,144 @@
+//! The nodes of a tree, each square once, its parts before it.
+
+ghost use Rattle.std.specs.Prelude.{◌≡◌, ◌≢◌, ◌+◌, ◌<◌, ◌≤◌, ◌++◌, ◌∷◌, [], ℕ, ℤ, List, map, length, slice_index, OnOk, IfOk, IfSome, Some, None};
+ghost use Rattle.ca_quad.specs.Squares.{level_of};
+ghost use Rattle.ca_quad.specs.Trees.{IsIn, IsTree, IsEmpty, cell};
+ghost use Rattle.ca_macro.specs.Nodes.{Node};
+ghost use Rattle.ca_macro.specs.Tidy.{IsLeastLevel, parts_of};
+ghost use Rattle.ca_macro.specs.inner.Written.{number_of, node_of, cells_of, IsNumberOf, IsNodeOf, IsGathered, Extends, GoesOn, leaf_level, empty_root, AreTidyNodes};
+
+use super::numbers::Numbers;
+use super::written::Written;
+use ca_plane::Memory;
+use ca_quad::{Id, Store, Tree};
+use std::alloc::Global;
+
+/// What has been gathered so far.
+#[derive(Drop)]
+struct Gathered {
+    nodes: Vec<Written>,
+    numbers: Numbers,
+}
+
+impl Gathered {
+    /// Puts the node of a square behind the others, and gives the square its number.
+    fn push(&mut self, store: &Store, states: u16, id: Id, node: Written) -> Result<u64, Memory>
+        requires known { IsIn store.now id }
+        requires gathered { IsGathered store.now states (map node_of self.old.nodes.items) self.old.numbers }
+        requires node { IsNodeOf store.now states (map node_of self.old.nodes.items) id (node_of node) }
+        requires live { IsEmpty (cells_of store.now id) → ⊥ }
+        requires new { number_of self.old.numbers id ≡ None }
+        ensures number { IfOk result (IsNumberOf store.now (map node_of self.new.nodes.items) id) }
+        ensures last { IfOk result (λ n. n ≡ length (map node_of self.new.nodes.items)) }
+        ensures gathered { OnOk result (IsGathered store.now states (map node_of self.new.nodes.items) self.new.numbers) }
+        ensures more { OnOk result (map node_of self.new.nodes.items ≡ map node_of self.old.nodes.items ++ node_of node ∷ []) }
+        ensures keeps { OnOk result ((other : ℕ) → other ≢ id → number_of self.new.numbers other ≡ number_of self.old.numbers other) }
+    {
+        let _squares = store.count();
+        self.nodes.push(node)?;
+        let number = self.nodes.len() as u64;
+        self.numbers.put(id, number)?;
+        Ok(number)
+    }
+}
+
+/// The level of the squares that are written without parts.
+fn leaf_level(states: u16) -> u8
+    ensures { result ≡ leaf_level states }
+{
+    if states == 2 {
+        return 3;
+    }
+    1
+}
+
+/// The node of a square that is written without parts.
+fn leaf(store: &Store, states: u16, id: Id) -> Written
+    requires known { IsIn store.now id }
+    requires level { level_of store.now id ≡ leaf_level states }
+    requires states { (x y : ℕ) → cells_of store.now id x y < states }
+    ensures node { (ns : List Node) → IsNodeOf store.now states ns id (node_of result) }
+    ensures parts { parts_of (node_of result) ≡ [] }
+{
+    if states == 2 {
+        return Written::Leaf(store.leaf8(id));
+    }
+    Written::Cells(store.cells4(id))
+}
+
+/// One of four parts.
+fn part(parts: &[Id; 4], place: usize) -> Id
+    requires { place < 4 }
+    ensures { result ≡ slice_index parts.now place }
+{
+    parts[place]
+}
+
+/// The number of a square, which is 0 where it is empty. Its node is put behind the others where it isn't there yet.
+fn number(store: &Store, states: u16, id: Id, gathered: &mut Gathered) -> Result<u64, Memory>
+    requires known { IsIn store.now id }
+    requires least { leaf_level states ≤ level_of store.now id }
+    requires most { level_of store.now id ≤ 120 }
+    requires states { (x y : ℕ) → cells_of store.now id x y < states }
+    requires gathered { IsGathered store.now states (map node_of gathered.old.nodes.items) gathered.old.numbers }
+    ensures number { IfOk result (IsNumberOf store.now (map node_of gathered.new.nodes.items) id) }
+    ensures gathered { OnOk result (IsGathered store.now states (map node_of gathered.new.nodes.items) gathered.new.numbers) }
+    ensures more { OnOk result (Extends (map node_of gathered.old.nodes.items) (map node_of gathered.new.nodes.items)) }
+    ensures order { IfOk result (GoesOn (map node_of gathered.old.nodes.items) (map node_of gathered.new.nodes.items)) }
+    // Larger squares have no new numbers.
+    ensures keeps { OnOk result ((other : ℕ) → level_of store.now id < level_of store.now other → number_of gathered.new.numbers other ≡ number_of gathered.old.numbers other) }
+    // A square that is new is the last.
+    ensures last { IfOk result (λ n. (IsEmpty (cells_of store.now id) → ⊥) → number_of gathered.old.numbers id ≡ None → n ≡ length (map node_of gathered.new.nodes.items)) }
+{
+    if store.is_empty(id) {
+        return Ok(0);
+    }
+    if let Some(number) = gathered.numbers.get(id) {
+        return Ok(number);
+    }
+    let level = store.level(id);
+    if level == leaf_level(states) {
+        return gathered.push(store, states, id, leaf(store, states, id));
+    }
+    let parts = store.children(id);
+    let nw = number(store, states, part(&parts, 0), gathered)?;
+    let ne = number(store, states, part(&parts, 1), gathered)?;
+    let sw = number(store, states, part(&parts, 2), gathered)?;
+    let se = number(store, states, part(&parts, 3), gathered)?;
+    gathered.push(store, states, id, Written::Parts(level, [nw, ne, sw, se]))
+}
+
+/// The root of the empty plane.
+fn empty_root(states: u16) -> Written
+    ensures { node_of result ≡ empty_root states }
+{
+    if states == 2 {
+        return Written::Parts(4, [0, 0, 0, 0]);
+    }
+    Written::Cells([0, 0, 0, 0])
+}
+
+/// The nodes of a tidy text of a tree.
+pub(super) fn nodes_of(
+    alloc: Global,
+    store: &Store,
+    tree: Tree,
+    states: u16,
+) -> Result<Vec<Written>, Memory>
+    requires tree { IsTree store.now tree }
+    requires level { IsLeastLevel states (cell store.now tree) tree.level }
+    requires most { tree.level ≤ 120 }
+    requires states { (x y : ℤ) → cell store.now tree x y < states }
+    ensures { IfOk result (λ ns. AreTidyNodes states (cell store.now tree) (map node_of ns.items)) }
+{
+    let mut gathered = Gathered {
+        nodes: Vec::new(alloc),
+        numbers: Numbers::new(alloc),
+    };
+    if store.is_empty(tree.root) {
+        gathered.nodes.push(empty_root(states))?;
+        return Ok(gathered.nodes);
+    }
+    number(store, states, tree.root, &mut gathered)?;
+    Ok(gathered.nodes)
+}
