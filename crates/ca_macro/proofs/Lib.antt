@@ -17,3 +17,4 @@ pub mod Pictures
 pub mod Gathering
 pub mod WrittenNodes
 pub mod Lines
+pub mod Roots

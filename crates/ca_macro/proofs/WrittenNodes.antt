@@ -88,6 +88,18 @@ all_end_live (b ∷ bs) low = (ends_live b (low 0), all_end_live bs (λ y. low (
 unequal : (a b : ℕ) → (a ≡ b → ⊥) → (a == b) ≡ false
 unequal a b h = elim (cases_Bool (a == b)) [ inl e ↦ absurd (h (eqb-true a b e)) | inr e ↦ e ]
 
+row_length : (width bits : ℕ) → length (row_of width bits) ≤ width
+row_length zero bits = omega arith
+row_length (suc width) bits =
+    elim (cases_Bool (bits == 0)) [
+      | inl e ↦ rw e (omega arith)
+      | inr e ↦ rw e (let l = row_length width (bits / 2) in omega arith)
+    ]
+
+all_short : (bytes : List ℕ) → AllByRecursion (λ row. length row ≤ 8) (map (row_of 8) bytes)
+all_short [] = tt
+all_short (b ∷ bs) = (row_length 8 b, all_short bs)
+
 -- the level that the test of the states tells
 pub two_level : (states level : ℕ) → states ≡ 2 → level ≡ leaf_level states → level ≡ 3
 two_level states level e h = h ∙ rw e refl
@@ -113,7 +125,7 @@ pub leaf_node : (kept : List Kept) (states : ℕ) (ns : List Node) (id : ℕ) (b
     → ((x y : ℕ) → squares.cell_of kept 3 id x y ≡ row_cells bytes x y) → IsNodeOf kept states ns id (Leaf (map (row_of 8) bytes))
 leaf_node kept states ns id bytes two level eight low shows = record {
   in_place = tt;
-  form = (two, length-map bytes (row_of 8) ∙ eight, all_end_live bytes low);
+  form = (two, length-map bytes (row_of 8) ∙ eight, all_short bytes, all_end_live bytes low);
   level = sym level;
   shows = leaf_shows bytes (cells_of kept id) low (subst (λ l. (x y : ℕ) → squares.cell_of kept l id x y ≡ row_cells bytes x y) (sym level) shows);
 }

@@ -30,10 +30,11 @@ abbrev pub AreInPlace : List Node → List Node → Type 0
 AreInPlace earlier [] = Unit {0}
 AreInPlace earlier (n ∷ ns) = StandsBehind earlier n × AreInPlace (earlier ++ n ∷ []) ns
 
--- the form of a node: where there are two states, squares of level 3 are leaves, of eight rows without dead cells at their ends, and
--- no lower ones are written; else squares of level 1 are four states
+-- the form of a node: where there are two states, squares of level 3 are leaves, of eight rows of at most eight cells without dead
+-- cells at their ends, and no lower ones are written; else squares of level 1 are four states
 abbrev pub HasForm : ℕ → Node → Type 0
-HasForm states (Leaf rows) = (states ≡ 2) × (length rows ≡ 8) × AllByRecursion (λ row. last_or (Some true) row ≡ Some true) rows
+HasForm states (Leaf rows) =
+    (states ≡ 2) × (length rows ≡ 8) × AllByRecursion (λ row. length row ≤ 8) rows × AllByRecursion (λ row. last_or (Some true) row ≡ Some true) rows
 HasForm states (Cells nw ne sw se) = states ≢ 2
 HasForm states (Parts level nw ne sw se) = states ≡ 2 → 4 ≤ level
 

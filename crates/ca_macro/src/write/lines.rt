@@ -33,7 +33,7 @@ fn push_row(out: &mut Vec<u8>, row: u8, width: u8) -> Result<(), Memory>
 }
 
 fn push_rows(out: &mut Vec<u8>, rows: &[u8; 8]) -> Result<(), Memory>
-    ensures { OnOk result (Puts out.old.items out.new.items (flat_map (λ (row : ℕ). map mark_of (row_of 8 row) ++ codes "$") rows.now)) }
+    ensures { OnOk result (Puts out.old.items out.new.items (flat_map (λ row. map mark_of row ++ codes "$") (map (row_of 8) rows.now))) }
 {
     'rows: for row in rows {
         push_row(out, *row, 8)?;

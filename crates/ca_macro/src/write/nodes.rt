@@ -3,9 +3,9 @@
 ghost use Rattle.std.specs.Prelude.{◌≡◌, ◌≢◌, ◌+◌, ◌<◌, ◌≤◌, ◌++◌, ◌∷◌, [], ℕ, ℤ, List, map, length, slice_index, OnOk, IfOk, IfSome, Some, None};
 ghost use Rattle.ca_quad.specs.Squares.{level_of};
 ghost use Rattle.ca_quad.specs.Trees.{IsIn, IsTree, IsEmpty, cell};
-ghost use Rattle.ca_macro.specs.Nodes.{Node};
+ghost use Rattle.ca_macro.specs.Nodes.{Node, Leaf, Cells};
 ghost use Rattle.ca_macro.specs.Tidy.{IsLeastLevel, parts_of};
-ghost use Rattle.ca_macro.specs.inner.Written.{number_of, node_of, cells_of, IsNumberOf, IsNodeOf, IsGathered, Extends, GoesOn, leaf_level, empty_root, AreTidyNodes};
+ghost use Rattle.ca_macro.specs.inner.Written.{number_of, row_of, node_of, cells_of, IsNumberOf, IsNodeOf, IsGathered, Extends, GoesOn, leaf_level, empty_root, AreTidyNodes};
 
 use super::numbers::Numbers;
 use super::written::Written;
@@ -52,6 +52,23 @@ fn leaf_level(states: u16) -> u8
     1
 }
 
+/// The node of these rows.
+fn rows_node(rows: [u8; 8]) -> Written
+    ensures node { node_of result ≡ Leaf (map (row_of 8) rows) }
+    ensures height { length rows ≡ 8 }
+    ensures low { (y : ℕ) → slice_index rows y < 256 }
+{
+    Written::Leaf(rows)
+}
+
+/// The node of these four states.
+fn states_node(states: [u8; 4]) -> Written
+    ensures node { node_of result ≡ Cells (slice_index states 0) (slice_index states 1) (slice_index states 2) (slice_index states 3) }
+    ensures low { (i : ℕ) → slice_index states i < 256 }
+{
+    Written::Cells(states)
+}
+
 /// The node of a square that is written without parts.
 fn leaf(store: &Store, states: u16, id: Id) -> Written
     requires known { IsIn store.now id }
@@ -61,9 +78,9 @@ fn leaf(store: &Store, states: u16, id: Id) -> Written
     ensures parts { parts_of (node_of result) ≡ [] }
 {
     if states == 2 {
-        return Written::Leaf(store.leaf8(id));
+        return rows_node(store.leaf8(id));
     }
-    Written::Cells(store.cells4(id))
+    states_node(store.cells4(id))
 }
 
 /// One of four parts.

@@ -27,7 +27,7 @@ returns-clause-glider c = record {
     least = λ other h f. h;
   };
   in_place = (tt, (((lit≤ tt, lit≤ tt), (tt, (tt, (tt, (refl, tt))))), tt));
-  forms = ((refl, refl, (refl, (refl, (refl, (refl, (refl, (refl, (refl, (refl, tt))))))))), (λ e. lit≤ tt, tt));
+  forms = ((refl, refl, (lit≤ tt, (lit≤ tt, (lit≤ tt, (lit≤ tt, (lit≤ tt, (lit≤ tt, (lit≤ tt, (lit≤ tt, tt)))))))), (refl, (refl, (refl, (refl, (refl, (refl, (refl, (refl, tt))))))))), (λ e. lit≤ tt, tt));
   distinct = pairs_found glider_file.nodes ((λ e. absurd cc, tt), (tt, tt));
   empties = inl (refl, (refl, tt));
   order = refl;
