@@ -45,7 +45,7 @@ pub names_stay : (ns ms : List Node) (level n : ℕ) → Names ns level n → Na
 names_stay ns ms level zero h = tt
 names_stay ns ms level (suc i) h = names_get ns ms level i h
 
-names_low : (ns : List Node) (level n : ℕ) → Names ns level n → n ≤ length ns
+pub names_low : (ns : List Node) (level n : ℕ) → Names ns level n → n ≤ length ns
 names_low ns level zero h = omega arith
 names_low [] level (suc i) h = absurd cc
 names_low (n ∷ ns) level (suc zero) h = omega arith

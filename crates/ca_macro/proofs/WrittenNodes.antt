@@ -42,7 +42,7 @@ squares_live : (earlier : List Picture) (ns : List Node) → AllByRecursion None
 squares_live earlier [] a = a
 squares_live earlier (n ∷ ns) a = squares_live (earlier ++ square_of earlier n ∷ []) ns (all_append NoneDead earlier (square_of earlier n ∷ []) a (square_live earlier a n, tt))
 
-live_at : (ns : List Node) (n : ℕ) → NoneDead (numbered (squares_of ns) n)
+pub live_at : (ns : List Node) (n : ℕ) → NoneDead (numbered (squares_of ns) n)
 live_at ns n = numbered_live (squares_of ns) (squares_live [] ns tt) n
 
 -- ---- an empty square has the number 0

@@ -7,6 +7,7 @@ pub mod laws;
 mod line;
 mod pattern;
 mod read;
+pub mod tidy_laws;
 mod write;
 
 pub use fault::MacroFault;
