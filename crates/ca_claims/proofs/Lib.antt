@@ -5,9 +5,7 @@ pub mod ClaimKinds
 pub mod PathLists
 pub mod HeldNumbers
 pub mod Alike
-pub mod PatternsRead
 pub mod Zipped
-pub mod Causes
 pub mod FoundFiles
 pub mod Answered
 pub mod LinesSaid

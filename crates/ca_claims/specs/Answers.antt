@@ -2,34 +2,33 @@
 use Rattle.std.specs.Prelude.{◌≡◌, ◌≢◌, ℕ, ◌≤◌, ◌<◌, ℤ, List, [], ◌∷◌, replicate, Some, None, ◌⊎◌}
 use Rattle.std.specs.List.{AllZip, AllByRecursion}
 use Rattle.ca_plane.specs.Plane.{Picture, cell}
+use Rattle.ca_plane.specs.Population.{HasFewCells, HasTooManyCells}
 use Rattle.ca_rule.specs.TableNext.{TableRule, table_next}
 use Rattle.ca_rule.specs.TableText.{IsTable}
 use Rattle.ca_rule.specs.TableFaults as table_faults
 use Rattle.ca_rule.specs.declared.table.fault.TableFault.{TableFault}
 use Rattle.ca_rule.specs.declared.table.fault.TableFault.TheVariants as table_fault
 use Rattle.ca_rule.specs.Rule.{RuleValue, states_of, next_of, IsSameRule, NamesRule, IsRuleFault}
-use Rattle.ca_rle.specs.File as rle
-use Rattle.ca_rle.specs.Limits.{IsWithinLimits}
 use Rattle.ca_rle.specs.Faults as rle_faults
 use Rattle.ca_rle.specs.declared.fault.RleFault.TheVariants as rle_fault
+use Rattle.ca_macro.specs.Faults as macrocell_faults
+use Rattle.ca_macro.specs.declared.fault.MacroFault.TheVariants as macrocell_fault
+use Rattle.ca_claims.specs.declared.target.Target.TheVariants as target
 use Rattle.ca_claims.specs.declared.verdict.Answer.{Answer}
 use Rattle.ca_claims.specs.declared.verdict.Verdict.{Verdict}
 use Rattle.ca_claims.specs.declared.verdict.Verdict.TheVariants.{Yes, No, Refused}
 use Rattle.ca_claims.specs.declared.verdict.PatternFault.{PatternFault}
 use Rattle.ca_claims.specs.declared.verdict.PatternFault.TheVariants as pattern_fault
 use Rattle.ca_claims.specs.declared.verdict.Cause.{Cause}
-use Rattle.ca_claims.specs.declared.verdict.Cause.TheVariants.{NoFile, BadTable, BadPattern, BadRule, StateTooLarge, MixedRules, Memory}
+use Rattle.ca_claims.specs.declared.verdict.Cause.TheVariants.{NoFile, BadTable, BadPattern, BadRule, StateTooLarge, MixedRules, TooManyCells, Memory}
 use Rattle.ca_claims.specs.Text.{Claim, patterns_of}
-use Rattle.ca_claims.specs.Means.{bytes_at, Means}
+use Rattle.ca_claims.specs.Means.{bytes_at, format_of, Means, IsReadable, MayWantMemory}
 use Rattle.ca_claims.specs.Truth.{asks_of, IsTrueClaim, IsReason}
-
--- the bytes mean a pattern and pass no limit
-abbrev pub IsReadable : List ℕ → Type 0
-IsReadable bytes = (file : rle.File) × rle.IsFile bytes file × IsWithinLimits file
 
 -- the fault for which the bytes of a pattern aren't read; want of memory is none of them
 abbrev pub IsPatternFault : List ℕ → PatternFault → Type 0
-IsPatternFault bytes (pattern_fault.Rle fault) = (fault ≢ rle_fault.Memory) × rle_faults.IsFaultOf bytes fault
+IsPatternFault bytes (pattern_fault.Rle fault) = (format_of bytes ≡ target.Rle) × (fault ≢ rle_fault.Memory) × rle_faults.IsFaultOf bytes fault
+IsPatternFault bytes (pattern_fault.Macro fault) = (format_of bytes ≡ target.Mc) × (fault ≢ macrocell_fault.Memory) × macrocell_faults.IsFaultOf bytes fault
 IsPatternFault bytes pattern_fault.Memory = ⊥
 
 -- the bytes are the text of this table, which leaves the empty plane empty
@@ -112,23 +111,6 @@ abbrev pub HaveOtherRules : List (List ℕ × List ℕ) → List TableRule → L
 HaveOtherRules files tables path other = (cells : Picture) × (rule : RuleValue) × (other_cells : Picture) × (other_rule : RuleValue)
     × IsRuled files tables path cells rule × IsRuled files tables other other_cells other_rule × (IsSameRule rule other_rule → ⊥)
 
--- the first cause of a refusal that holds of a claim about patterns of these paths, in the order of these lines; `rules`
--- are the paths of the text's rule lines. A table is judged only where all the files are there, and a pattern only where
--- all the tables are good; memory is wanted only where besides the first of the patterns reads
-abbrev pub HasCause : List (List ℕ × List ℕ) → List (List ℕ) → List (List ℕ) → Cause → Type 0
-HasCause files rules paths NoFile = SomeOf (IsMissing files) paths ⊎ SomeOf (IsMissing files) rules
-HasCause files rules paths (BadTable fault) = AllByRecursion (IsThere files) paths × AllByRecursion (IsThere files) rules
-    × FirstBad (HoldsTable files) (λ p. (bytes : List ℕ) × (bytes_at files p ≡ Some bytes) × IsTableFault bytes fault) rules
-HasCause files rules paths (BadPattern fault) = (tables : List TableRule) × AreTables files rules tables × AllByRecursion (IsThere files) paths
-    × FirstBad (Reads files) (λ p. (bytes : List ℕ) × (bytes_at files p ≡ Some bytes) × IsPatternFault bytes fault) paths
-HasCause files rules paths (BadRule fault) = (tables : List TableRule) × AreTables files rules tables × AllByRecursion (Reads files) paths
-    × FirstBad (HasRule files tables) (λ p. (cells : Picture) × (text : List ℕ) × IsRead files p cells text × IsRuleFault text tables fault) paths
-HasCause files rules paths StateTooLarge = (tables : List TableRule) × AreTables files rules tables × AllByRecursion (HasRule files tables) paths
-    × SomeOf (λ p. (cells : Picture) × (rule : RuleValue) × IsRuled files tables p cells rule × HasLargeState rule cells) paths
-HasCause files rules paths MixedRules = (tables : List TableRule) × AreTables files rules tables × AllByRecursion (IsSmall files tables) paths
-    × SomeOf (λ p. SomeOf (HaveOtherRules files tables p) paths) paths
-HasCause files rules paths Memory = (tables : List TableRule) × AreTables files rules tables × AllByRecursion (IsThere files) paths × FirstIs (Reads files) paths
-
 -- a pattern's file is there and is read, and means these cells, of small states, under this rule
 pub record IsGood (files : List (List ℕ × List ℕ)) (tables : List TableRule) (path : List ℕ) (cells : Picture) (rule : RuleValue) : Type 0 where
   pub ruled : IsRuled files tables path cells rule
@@ -142,9 +124,33 @@ AreGood files tables (path ∷ other_path ∷ []) cells other rule =
     IsGood files tables path cells rule × (other_rule : RuleValue) × IsGood files tables other_path other other_rule × IsSameRule rule other_rule
 AreGood files tables (path ∷ other_path ∷ third ∷ paths) cells other rule = ⊥
 
--- no cause but want of memory holds: all the tables are good, and so are the claim's patterns
+-- all the tables are good, and so are the claim's patterns
+abbrev pub AgreeOn : List (List ℕ × List ℕ) → List (List ℕ) → List (List ℕ) → Picture → Picture → RuleValue → Type 0
+AgreeOn files rules paths cells other rule = (tables : List TableRule) × AreTables files rules tables × AreGood files tables paths cells other rule
+
+-- the first cause of a refusal that holds of a claim about patterns of these paths, in the order of these lines; `rules`
+-- are the paths of the text's rule lines. A table is judged only where all the files are there, and a pattern only where
+-- all the tables are good; memory is wanted only where besides it may be wanted for the first of the patterns
+abbrev pub HasCause : List (List ℕ × List ℕ) → List (List ℕ) → List (List ℕ) → Cause → Type 0
+HasCause files rules paths NoFile = SomeOf (IsMissing files) paths ⊎ SomeOf (IsMissing files) rules
+HasCause files rules paths (BadTable fault) = AllByRecursion (IsThere files) paths × AllByRecursion (IsThere files) rules
+    × FirstBad (HoldsTable files) (λ p. (bytes : List ℕ) × (bytes_at files p ≡ Some bytes) × IsTableFault bytes fault) rules
+HasCause files rules paths (BadPattern fault) = (tables : List TableRule) × AreTables files rules tables × AllByRecursion (IsThere files) paths
+    × FirstBad (Reads files) (λ p. (bytes : List ℕ) × (bytes_at files p ≡ Some bytes) × IsPatternFault bytes fault) paths
+HasCause files rules paths (BadRule fault) = (tables : List TableRule) × AreTables files rules tables × AllByRecursion (Reads files) paths
+    × FirstBad (HasRule files tables) (λ p. (cells : Picture) × (text : List ℕ) × IsRead files p cells text × IsRuleFault text tables fault) paths
+HasCause files rules paths StateTooLarge = (tables : List TableRule) × AreTables files rules tables × AllByRecursion (HasRule files tables) paths
+    × SomeOf (λ p. (cells : Picture) × (rule : RuleValue) × IsRuled files tables p cells rule × HasLargeState rule cells) paths
+HasCause files rules paths MixedRules = (tables : List TableRule) × AreTables files rules tables × AllByRecursion (IsSmall files tables) paths
+    × SomeOf (λ p. SomeOf (HaveOtherRules files tables p) paths) paths
+HasCause files rules paths TooManyCells = (cells : Picture) × (other : Picture) × (rule : RuleValue) × AgreeOn files rules paths cells other rule
+    × (HasTooManyCells (cell cells) ⊎ HasTooManyCells (cell other))
+HasCause files rules paths Memory = (tables : List TableRule) × AreTables files rules tables × AllByRecursion (IsThere files) paths
+    × FirstIs (λ p. (bytes : List ℕ) × (bytes_at files p ≡ Some bytes) × MayWantMemory bytes) paths
+
+-- no cause but want of memory holds: besides no pattern has too many cells
 abbrev pub IsJudged : List (List ℕ × List ℕ) → List (List ℕ) → List (List ℕ) → Picture → Picture → RuleValue → Type 0
-IsJudged files rules paths cells other rule = (tables : List TableRule) × AreTables files rules tables × AreGood files tables paths cells other rule
+IsJudged files rules paths cells other rule = AgreeOn files rules paths cells other rule × HasFewCells (cell cells) × HasFewCells (cell other)
 
 -- a verdict is true: a yes of a claim that is true of the planes that the files mean, a no of one that is false, with the
 -- reason, and a refusal with its cause; a yes and a no come only where no cause but want of memory holds

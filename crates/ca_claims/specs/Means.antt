@@ -1,10 +1,18 @@
 -- What the files mean that claims speak of.
-use Rattle.std.specs.Prelude.{◌≡◌, ℕ, List, [], ◌∷◌, map, Option, Some, None, if◌then◌else◌}
+use Rattle.std.specs.Prelude.{◌≡◌, ℕ, List, [], ◌∷◌, ◌⊎◌, map, Option, Some, None, if◌then◌else◌}
 use Rattle.std.specs.Str.{bytes_eq}
 use Rattle.ca_plane.specs.Plane.{Picture}
 use Rattle.ca_rle.specs.File as rle
-use Rattle.ca_rle.specs.Shown.{picture_of}
+use Rattle.ca_rle.specs.Limits.{IsWithinLimits}
+use Rattle.ca_rle.specs.Shown as rle_shown
+use Rattle.ca_macro.specs.File as macrocell
+use Rattle.ca_macro.specs.Limits.{IsWithinRange}
+use Rattle.ca_macro.specs.Shown as macrocell_shown
+use Rattle.ca_macro.specs.Faults as macrocell_faults
+use Rattle.ca_macro.specs.declared.fault.MacroFault.TheVariants as macrocell_fault
 use Rattle.ca_claims.specs.declared.file.File.{File}
+use Rattle.ca_claims.specs.declared.target.Target.{Target}
+use Rattle.ca_claims.specs.declared.target.Target.TheVariants.{Rle, Mc}
 
 -- the paths and bytes of the files that were handed in
 abbrev pub contents : List File → List (List ℕ × List ℕ)
@@ -15,7 +23,36 @@ abbrev pub bytes_at : List (List ℕ × List ℕ) → List ℕ → Option (List 
 bytes_at [] path = None
 bytes_at (f ∷ fs) path = if bytes_eq f.0 path then Some f.1 else bytes_at fs path
 
--- the bytes of a file mean a picture, a rule text and a generation: they are an RLE text that holds these
+-- the format of a file: bytes that begin with `[M2]` are macrocell, and all others RLE
+abbrev pub format_of : List ℕ → Target
+format_of bytes = if macrocell.begins_macro bytes then Mc else Rle
+
+-- the bytes are a text of this format that holds a picture, a rule text and a generation
+abbrev pub MeansAs : Target → List ℕ → Picture → List ℕ → ℕ → Type 0
+MeansAs Rle bytes cells rule_text generation = (file : rle.File) × rle.IsFile bytes file
+    × (cells ≡ rle_shown.picture_of file.corner file.items) × (rule_text ≡ file.rule_text) × (generation ≡ file.generation)
+MeansAs Mc bytes cells rule_text generation = (file : macrocell.File) × macrocell.IsFile bytes file
+    × (cells ≡ macrocell_shown.picture_of file.nodes) × (rule_text ≡ file.rule_text) × (generation ≡ file.generation)
+
+-- the bytes of a file mean a picture, a rule text and a generation
 abbrev pub Means : List ℕ → Picture → List ℕ → ℕ → Type 0
-Means bytes cells rule_text generation = (file : rle.File) × rle.IsFile bytes file
-    × (cells ≡ picture_of file.corner file.items) × (rule_text ≡ file.rule_text) × (generation ≡ file.generation)
+Means bytes cells rule_text generation = MeansAs (format_of bytes) bytes cells rule_text generation
+
+-- the bytes are a text of this format, and pass none of its limits
+abbrev pub IsReadableAs : Target → List ℕ → Type 0
+IsReadableAs Rle bytes = (file : rle.File) × rle.IsFile bytes file × IsWithinLimits file
+IsReadableAs Mc bytes = (file : macrocell.File) × macrocell.IsFile bytes file × IsWithinRange file
+
+-- the bytes mean a pattern and pass no limit
+abbrev pub IsReadable : List ℕ → Type 0
+IsReadable bytes = IsReadableAs (format_of bytes) bytes
+
+-- memory may be wanted for bytes of this format: an RLE is judged before anything is kept of it, and the squares of a macrocell are
+-- kept as their lines come
+abbrev pub MayWantMemoryAs : Target → List ℕ → Type 0
+MayWantMemoryAs Rle bytes = IsReadableAs Rle bytes
+MayWantMemoryAs Mc bytes = macrocell_faults.IsFaultOf bytes macrocell_fault.Memory ⊎ IsReadableAs Mc bytes
+
+-- memory may be wanted where these bytes are read
+abbrev pub MayWantMemory : List ℕ → Type 0
+MayWantMemory bytes = Unit {0}

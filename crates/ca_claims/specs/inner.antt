@@ -1,5 +1,3 @@
 pub mod Decided
-pub mod Patterns
 pub mod Reading
 pub mod Returns
-pub mod Tables

@@ -1,18 +1,28 @@
-//! Claims about the patterns of files: the text that makes them, and the verdict on each.
+//! Claims about the patterns of files: the text that makes them, and the verdict on each; and patterns that are converted.
 #![tactic(auto)]
 
 mod claims;
+mod conversion;
 mod decide;
 mod fault;
 mod file;
+mod glance;
 mod laws;
+mod pattern;
+mod read;
+mod target;
 mod verdict;
 pub mod verdict_laws;
 mod verifier;
 
 pub use claims::{Claims, read_claims};
+pub use conversion::{ConvertFault, convert};
 pub use fault::ClaimFault;
 pub use file::File;
+pub use glance::summary;
 pub use laws::{no_fault_in_claim_text, one_fault, one_meaning, worked_examples};
+pub use pattern::{Loaded, Summary};
+pub use read::read_pattern;
+pub use target::Target;
 pub use verdict::{Answer, Cause, PatternFault, Verdict, Why};
 pub use verifier::verify;

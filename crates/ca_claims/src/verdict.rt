@@ -1,5 +1,6 @@
 //! Verdicts on claims.
 
+use ca_macro::MacroFault;
 use ca_rle::RleFault;
 use ca_rule::{RuleFault, TableFault};
 use thiserror::Error;
@@ -32,14 +33,17 @@ pub enum PatternFault {
     /// The fault of an RLE text.
     #[error("rle: {0}")]
     Rle(RleFault),
+    /// The fault of a macrocell text.
+    #[error("macrocell: {0}")]
+    Macro(MacroFault),
     /// A growth was refused. No verdict has it: want of memory is a cause of its own.
     #[error("out of memory")]
     Memory,
 }
 
 /// Why a claim isn't judged: the first of these that holds, but that want of memory may come before any other, where all
-/// files are there, all rule tables are good, and the first pattern's file reads. Of two patterns the claim's first goes
-/// before the other in each of them.
+/// files are there, all rule tables are good, and memory is wanted for the first pattern's file: an RLE that reads, or a
+/// macrocell with a good node before any fault. Of two patterns the claim's first goes before the other in each of them.
 #[derive(Clone, Copy, Debug, PartialEq, Eq, Error)]
 pub enum Cause {
     /// No file with the path of one of the patterns, or of a rule line of the text, was handed in.
@@ -61,6 +65,9 @@ pub enum Cause {
     /// The two patterns have different rules.
     #[error("mixed rules")]
     MixedRules,
+    /// A pattern has more than 16777216 live cells.
+    #[error("too many cells")]
+    TooManyCells,
     /// A growth was refused.
     #[error("out of memory")]
     Memory,

@@ -1,7 +1,0 @@
-use Rattle.std.proofs.Common.{◌<◌}
-use Rattle.std.specs.List.{All}
-use Rattle.ca_claims.proofs.verifier.patterns.has_large_state.Given as goal
-
--- the states so far are small
-abbrev pub invariant-cells : goal.invariant-cells
-invariant-cells l = All (λ e. e.1 < l.states) l.yielded

@@ -1,0 +1,10 @@
+//! The two formats of pattern files.
+
+/// A format of pattern files.
+#[derive(Clone, Copy, Debug, PartialEq, Eq)]
+pub enum Target {
+    /// Extended RLE.
+    Rle,
+    /// Macrocell.
+    Mc,
+}
