@@ -6,6 +6,7 @@ pub mod PathLists
 pub mod HeldNumbers
 pub mod Alike
 pub mod Zipped
+pub mod FilesRead
 pub mod FoundFiles
 pub mod Answered
 pub mod LinesSaid

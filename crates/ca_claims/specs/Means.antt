@@ -55,4 +55,4 @@ MayWantMemoryAs Mc bytes = macrocell_faults.IsFaultOf bytes macrocell_fault.Memo
 
 -- memory may be wanted where these bytes are read
 abbrev pub MayWantMemory : List ℕ → Type 0
-MayWantMemory bytes = Unit {0}
+MayWantMemory bytes = MayWantMemoryAs (format_of bytes) bytes

@@ -1,20 +1,24 @@
 //! Pattern files of both formats, read into a store of squares.
 
-ghost use Rattle.std.specs.Prelude.{◌≢◌, ◌<◌, IfOk, IfErr, IsErrOf};
+ghost use Rattle.std.specs.Prelude.{◌≡◌, ◌≢◌, ◌<◌, IfOk, IfErr, IsErrOf};
 ghost use Rattle.ca_plane.specs.Plane.{Picture};
 ghost use Rattle.ca_plane.specs.Bytes.{IsWord};
 ghost use Rattle.ca_plane.specs.Limits.{generation_limit};
 ghost use Rattle.ca_quad.specs.Sound.{Grows};
 ghost use Rattle.ca_quad.specs.Trees.{cell};
 ghost use Rattle.ca_macro.specs.Pattern.{AreInRange};
+ghost use Rattle.ca_claims.specs.declared.target.Target.TheVariants.{Rle, Mc};
 ghost use Rattle.ca_claims.specs.declared.verdict.PatternFault.TheVariants as pattern_fault;
-ghost use Rattle.ca_claims.specs.Means.{MayWantMemory};
+ghost use Rattle.ca_claims.specs.Means.{format_of, MayWantMemory};
 ghost use Rattle.ca_claims.specs.Answers.{IsPatternFault};
 ghost use Rattle.ca_claims.specs.Loaded.{IsLoaded};
 
 use crate::pattern::Loaded;
+use crate::target::Target;
 use crate::verdict::PatternFault;
+use ca_macro::{MacroFault, read_macro};
 use ca_quad::Store;
+use ca_rle::{Pattern, RleFault, read_rle};
 use std::alloc::Global;
 
 /// Reads a pattern file into the store: bytes that begin with `[M2]` as macrocell, and all others as RLE.
@@ -40,8 +44,74 @@ pub fn read_pattern(
     // Every old square stays.
     ensures grows { Grows store.old store.new }
 {
+    match format_of(bytes) {
+        Target::Rle => load_rle(alloc, store, bytes),
+        Target::Mc => load_macro(alloc, store, bytes),
+    }
+}
+
+/// The format of a file with these bytes.
+fn format_of(bytes: &[u8]) -> Target
+    ensures { result ≡ format_of bytes.now }
+{
+    if bytes.starts_with(b"[M2]") {
+        return Target::Mc;
+    }
+    Target::Rle
+}
+
+/// Reads an RLE file into the store.
+fn load_rle(alloc: Global, store: &mut Store, bytes: &[u8]) -> Result<Loaded, PatternFault>
+    requires { format_of bytes.now ≡ Rle }
+    ensures read { IfOk result (λ p. (cells : Picture) × IsLoaded store.new bytes.now cells p) }
+    ensures range { IfOk result (λ p. AreInRange (cell store.new p.tree)) }
+    ensures generation { IfOk result (λ p. p.generation < generation_limit) }
+    ensures rule { IfOk result (λ p. IsWord p.rule_text.items) }
+    ensures fault { IfErr result (λ f. f ≢ pattern_fault.Memory → IsPatternFault bytes.now f) }
+    ensures memory { IsErrOf result PatternFault.Memory → MayWantMemory bytes.now }
+    ensures grows { Grows store.old store.new }
+{
     let _ = store.count();
-    let _ = alloc;
-    let _ = bytes;
-    Err(PatternFault::Memory)
+    let pattern = match read_rle(alloc, bytes) {
+        Ok(pattern) => pattern,
+        Err(RleFault::Memory) => return Err(PatternFault::Memory),
+        Err(fault) => return Err(PatternFault::Rle(fault)),
+    };
+    let Ok(tree) = store.from_plane(&pattern.cells) else {
+        return Err(PatternFault::Memory);
+    };
+    let Pattern {
+        rule_text,
+        generation,
+        ..
+    } = pattern;
+    Ok(Loaded {
+        kind: Target::Rle,
+        tree,
+        rule_text,
+        generation,
+    })
+}
+
+/// Reads a macrocell file into the store.
+fn load_macro(alloc: Global, store: &mut Store, bytes: &[u8]) -> Result<Loaded, PatternFault>
+    requires { format_of bytes.now ≡ Mc }
+    ensures read { IfOk result (λ p. (cells : Picture) × IsLoaded store.new bytes.now cells p) }
+    ensures range { IfOk result (λ p. AreInRange (cell store.new p.tree)) }
+    ensures generation { IfOk result (λ p. p.generation < generation_limit) }
+    ensures rule { IfOk result (λ p. IsWord p.rule_text.items) }
+    ensures fault { IfErr result (λ f. f ≢ pattern_fault.Memory → IsPatternFault bytes.now f) }
+    ensures memory { IsErrOf result PatternFault.Memory → MayWantMemory bytes.now }
+    ensures grows { Grows store.old store.new }
+{
+    match read_macro(alloc, store, bytes) {
+        Ok(pattern) => Ok(Loaded {
+            kind: Target::Mc,
+            tree: pattern.tree,
+            rule_text: pattern.rule_text,
+            generation: pattern.generation,
+        }),
+        Err(MacroFault::Memory) => Err(PatternFault::Memory),
+        Err(fault) => Err(PatternFault::Macro(fault)),
+    }
 }

@@ -1,0 +1,30 @@
+use Rattle.std.proofs.Common.{refl, sym, ◌∙◌}
+use Rattle.ca_rle.specs.Shown.{picture_of}
+use Rattle.ca_claims.specs.declared.target.Target.TheVariants.{Rle}
+use Rattle.ca_claims.specs.Means.{MeansAs, IsReadableAs}
+use Rattle.ca_claims.proofs.FilesRead.{in_format, shown_in_range}
+use Rattle.ca_claims.proofs.read.load_rle.Goals as goal
+
+pub returns-clause-read : goal.returns-clause-read
+returns-clause-read c =
+    let found = c.in-Ok.ensures.found in
+    let file = found.0 in
+    let cells = picture_of file.corner file.items in
+    (
+      cells,
+      record {
+        kind = sym c.requires;
+        tree = c.in-Ok-from_plane.ensures.tree;
+        trimmed = c.in-Ok-from_plane.ensures.trimmed;
+        shows = λ x y. c.in-Ok-from_plane.ensures.cells x y ∙ found.3.cells x y;
+        readable = in_format (λ t. IsReadableAs t c.args.bytes.now) c.args.bytes.now Rle c.requires (file, found.1, found.2);
+        means =
+            in_format (λ t. MeansAs t c.args.bytes.now cells c.in-Ok.pattern.rule_text.items c.in-Ok.pattern.generation) c.args.bytes.now Rle c.requires
+            (file, found.1, refl, found.3.rule_text, found.3.generation);
+      },
+    )
+
+pub returns-clause-range : goal.returns-clause-range
+returns-clause-range c =
+    let found = c.in-Ok.ensures.found in
+    shown_in_range _ (picture_of found.0.corner found.0.items) (λ x y. c.in-Ok-from_plane.ensures.cells x y ∙ found.3.cells x y) found.2.0.cells
