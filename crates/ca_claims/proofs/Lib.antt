@@ -6,6 +6,9 @@ pub mod PathLists
 pub mod HeldNumbers
 pub mod Alike
 pub mod Zipped
+pub mod Shown
+pub mod PatternsRead
+pub mod Causes
 pub mod FilesRead
 pub mod FoundFiles
 pub mod Answered

@@ -38,13 +38,14 @@ module _ {X Y : Type 0} (R : X → Y → Type 0) where
   zip_first Good Bad Right Wrong f g (x ∷ xs) (y ∷ ys) all (inl here) = inl (g x y all.0 here)
   zip_first Good Bad Right Wrong f g (x ∷ xs) (y ∷ ys) all (inr later) = inr (f x y all.0 later.0, zip_first Good Bad Right Wrong f g xs ys all.1 later.1)
 
-  -- of the first, where a bad one is as good as the others
-  pub zip_head : (Good : X → Type 0) (Right : Y → Type 0) → ((x : X) (y : Y) → R x y → Right y → Good x) → (xs : List X) (ys : List Y) → AllZip R xs ys → FirstBad Right Right ys → FirstIs Good xs
-  zip_head Good Right f [] [] all first = absurd first
-  zip_head Good Right f [] (y ∷ ys) all first = absurd all
-  zip_head Good Right f (x ∷ xs) [] all first = absurd all
-  zip_head Good Right f (x ∷ xs) (y ∷ ys) all (inl here) = f x y all.0 here
-  zip_head Good Right f (x ∷ xs) (y ∷ ys) all (inr later) = f x y all.0 later.0
+  -- of the first, where the same follows from a bad one as from a good one
+  pub zip_front : (Holds : X → Type 0) (Right Wrong : Y → Type 0) → ((x : X) (y : Y) → R x y → Right y → Holds x) → ((x : X) (y : Y) → R x y → Wrong y → Holds x)
+      → (xs : List X) (ys : List Y) → AllZip R xs ys → FirstBad Right Wrong ys → FirstIs Holds xs
+  zip_front Holds Right Wrong f g [] [] all first = absurd first
+  zip_front Holds Right Wrong f g [] (y ∷ ys) all first = absurd all
+  zip_front Holds Right Wrong f g (x ∷ xs) [] all first = absurd all
+  zip_front Holds Right Wrong f g (x ∷ xs) (y ∷ ys) all (inl here) = g x y all.0 here
+  zip_front Holds Right Wrong f g (x ∷ xs) (y ∷ ys) all (inr later) = f x y all.0 later.0
 
 -- where none can be bad, none is the first
 pub none_bad : {X : Type 0} (Good : X → Type 0) (xs : List X) → FirstBad Good (λ x. ⊥) xs → ⊥

@@ -60,12 +60,12 @@ abbrev pub IsRuled : List (List ℕ × List ℕ) → List TableRule → List ℕ
 IsRuled files tables path cells rule = (rule_text : List ℕ) × IsRead files path cells rule_text × NamesRule rule_text tables rule
 
 -- some cell has a state that isn't below the number of the rule's states
-abbrev pub HasLargeState : RuleValue → Picture → Type 0
-HasLargeState rule cells = (x : ℤ) × (y : ℤ) × (states_of rule ≤ cell cells x y)
+abbrev pub HasLargeState : RuleValue → (ℤ → ℤ → ℕ) → Type 0
+HasLargeState rule cells = (x : ℤ) × (y : ℤ) × (states_of rule ≤ cells x y)
 
 -- no cell has
-abbrev pub HasSmallStates : RuleValue → Picture → Type 0
-HasSmallStates rule cells = (x y : ℤ) → cell cells x y < states_of rule
+abbrev pub HasSmallStates : RuleValue → (ℤ → ℤ → ℕ) → Type 0
+HasSmallStates rule cells = (x y : ℤ) → cells x y < states_of rule
 
 -- no file of this path was handed in
 abbrev pub IsMissing : List (List ℕ × List ℕ) → List ℕ → Type 0
@@ -89,7 +89,7 @@ HasRule files tables path = (cells : Picture) × (rule : RuleValue) × IsRuled f
 
 -- and its states are small
 abbrev pub IsSmall : List (List ℕ × List ℕ) → List TableRule → List ℕ → Type 0
-IsSmall files tables path = (cells : Picture) × (rule : RuleValue) × IsRuled files tables path cells rule × HasSmallStates rule cells
+IsSmall files tables path = (cells : Picture) × (rule : RuleValue) × IsRuled files tables path cells rule × HasSmallStates rule (cell cells)
 
 -- this holds of some element
 abbrev pub SomeOf : {X : Type 0} → (X → Type 0) → List X → Type 0
@@ -114,7 +114,7 @@ HaveOtherRules files tables path other = (cells : Picture) × (rule : RuleValue)
 -- a pattern's file is there and is read, and means these cells, of small states, under this rule
 pub record IsGood (files : List (List ℕ × List ℕ)) (tables : List TableRule) (path : List ℕ) (cells : Picture) (rule : RuleValue) : Type 0 where
   pub ruled : IsRuled files tables path cells rule
-  pub small : HasSmallStates rule cells
+  pub small : HasSmallStates rule (cell cells)
 
 -- the patterns of a claim's paths mean these cells under this rule; where there is one pattern, it is the other too
 abbrev pub AreGood : List (List ℕ × List ℕ) → List TableRule → List (List ℕ) → Picture → Picture → RuleValue → Type 0
@@ -140,7 +140,7 @@ HasCause files rules paths (BadPattern fault) = (tables : List TableRule) × Are
 HasCause files rules paths (BadRule fault) = (tables : List TableRule) × AreTables files rules tables × AllByRecursion (Reads files) paths
     × FirstBad (HasRule files tables) (λ p. (cells : Picture) × (text : List ℕ) × IsRead files p cells text × IsRuleFault text tables fault) paths
 HasCause files rules paths StateTooLarge = (tables : List TableRule) × AreTables files rules tables × AllByRecursion (HasRule files tables) paths
-    × SomeOf (λ p. (cells : Picture) × (rule : RuleValue) × IsRuled files tables p cells rule × HasLargeState rule cells) paths
+    × SomeOf (λ p. (cells : Picture) × (rule : RuleValue) × IsRuled files tables p cells rule × HasLargeState rule (cell cells)) paths
 HasCause files rules paths MixedRules = (tables : List TableRule) × AreTables files rules tables × AllByRecursion (IsSmall files tables) paths
     × SomeOf (λ p. SomeOf (HaveOtherRules files tables p) paths) paths
 HasCause files rules paths TooManyCells = (cells : Picture) × (other : Picture) × (rule : RuleValue) × AgreeOn files rules paths cells other rule

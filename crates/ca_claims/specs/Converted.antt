@@ -34,7 +34,7 @@ pub record IsConverted (bytes : List ℕ) (tables : List TableRule) (target : Ta
   pub rule : RuleValue
   pub generation : ℕ
   pub under : IsUnder bytes tables cells rule generation
-  pub small : HasSmallStates rule cells
+  pub small : HasSmallStates rule (cell cells)
   pub shown : Picture
   pub same : IsSame cells shown
   pub format : format_of text ≡ target
@@ -48,7 +48,7 @@ pub record IsSummary (bytes : List ℕ) (tables : List TableRule) (summary : Sum
   pub cells : Picture
   pub rule : RuleValue
   pub under : IsUnder bytes tables cells rule summary.generation
-  pub small : HasSmallStates rule cells
+  pub small : HasSmallStates rule (cell cells)
   pub kind : summary.kind ≡ format_of bytes
   pub printed : summary.rule_text.items ≡ printed_form rule
   pub population : HasPopulation (cell cells) summary.cells
@@ -61,7 +61,7 @@ IsSummaryFault bytes tables (BadPattern fault) = IsPatternFault bytes fault
 IsSummaryFault bytes tables (BadRule fault) = (cells : Picture) × (rule_text : List ℕ) × (generation : ℕ)
     × IsReadable bytes × Means bytes cells rule_text generation × IsRuleFault rule_text tables fault
 IsSummaryFault bytes tables StateTooLarge = (cells : Picture) × (rule : RuleValue) × (generation : ℕ)
-    × IsUnder bytes tables cells rule generation × HasLargeState rule cells
+    × IsUnder bytes tables cells rule generation × HasLargeState rule (cell cells)
 IsSummaryFault bytes tables TooManyCells = ⊥
 IsSummaryFault bytes tables Memory = MayWantMemory bytes
 
@@ -71,5 +71,5 @@ IsConvertFault bytes tables target (BadPattern fault) = IsSummaryFault bytes tab
 IsConvertFault bytes tables target (BadRule fault) = IsSummaryFault bytes tables (BadRule fault)
 IsConvertFault bytes tables target StateTooLarge = IsSummaryFault bytes tables StateTooLarge
 IsConvertFault bytes tables target TooManyCells = (target ≡ Rle) × (cells : Picture) × (rule : RuleValue) × (generation : ℕ)
-    × IsUnder bytes tables cells rule generation × HasSmallStates rule cells × HasTooManyCells (cell cells)
+    × IsUnder bytes tables cells rule generation × HasSmallStates rule (cell cells) × HasTooManyCells (cell cells)
 IsConvertFault bytes tables target Memory = IsSummaryFault bytes tables Memory

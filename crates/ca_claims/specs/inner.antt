@@ -1,3 +1,6 @@
+pub mod Cells
 pub mod Decided
+pub mod Patterns
 pub mod Reading
 pub mod Returns
+pub mod Tables

@@ -1,6 +1,7 @@
 //! Claims about the patterns of files: the text that makes them, and the verdict on each; and patterns that are converted.
 #![tactic(auto)]
 
+mod cells;
 mod claims;
 mod conversion;
 mod decide;

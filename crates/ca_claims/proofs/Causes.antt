@@ -1,0 +1,473 @@
+-- Why a claim isn't judged, and its verdict where it is, from the patterns of its files.
+use Rattle.std.proofs.Common.{◌≡◌, ℕ, zero, suc, ◌<◌, List, [], ◌∷◌, map, length, get_or, Bor, Option, Some, None, Result, refl, sym, ap, subst, ◌∙◌, inl, inr, ◌⊎◌, arith}
+use Rattle.std.specs.List.{All, AllByRecursion, AllZip}
+use Rattle.std.specs.Option.{option_copied}
+use Rattle.std.specs.Result.{MatchResult, IsErrAnd}
+use Rattle.std.proofs.lemmas.Result.{err_from_is_err_and}
+use Rattle.ca_plane.specs.Plane.{Picture, IsSame, cell}
+use Rattle.ca_plane.specs.Population.{HasFewCells, HasTooManyCells}
+use Rattle.ca_quad.specs.declared.node.Node.{Node}
+use Rattle.ca_quad.specs.Trees as trees
+use Rattle.ca_rule.specs.TableNext.{TableRule}
+use Rattle.ca_rule.specs.declared.fault.RuleFault.{RuleFault}
+use Rattle.ca_rule.specs.declared.table.fault.TableFault.{TableFault}
+use Rattle.ca_rule.specs.Rule.{RuleValue, states_of, next_of, IsSameRule, IsRuleFault}
+use Rattle.ca_rule.proofs.Rules.{same-refl}
+use Rattle.ca_plane.specs.Limits.{IsInRange}
+use Rattle.ca_macro.specs.Pattern.{AreInRange}
+use Rattle.ca_claims.specs.declared.pattern.Loaded.{Loaded}
+use Rattle.ca_claims.specs.declared.claims.line.Claim.{Claim as ClaimOf}
+use Rattle.ca_claims.specs.declared.verdict.Cause.{Cause}
+use Rattle.ca_claims.specs.declared.verdict.Cause.TheVariants.{NoFile, BadTable, BadPattern, BadRule, StateTooLarge, MixedRules, TooManyCells, Memory}
+use Rattle.ca_claims.specs.declared.verdict.Verdict.{Verdict}
+use Rattle.ca_claims.specs.declared.verdict.Verdict.TheVariants.{Yes, No, Refused}
+use Rattle.ca_claims.specs.declared.verifier.one_or_two.OneOrTwo.{OneOrTwo}
+use Rattle.ca_claims.specs.declared.verifier.one_or_two.OneOrTwo.TheVariants.{One, Two}
+use Rattle.ca_claims.specs.declared.verifier.ruled.Ruled.{Ruled}
+use Rattle.ca_claims.specs.Text.{Claim, patterns_of, about}
+use Rattle.ca_claims.specs.Places.{path_at}
+use Rattle.ca_claims.specs.Means.{bytes_at, IsReadable, MayWantMemory}
+use Rattle.ca_claims.specs.Truth.{asks_of}
+use Rattle.ca_claims.specs.inner.Decided.{IsDecided}
+use Rattle.ca_claims.specs.Answers.{IsPatternFault, IsQuietTable, IsTableFault, IsRead, IsTableAt, AreTables, IsRuled, HasLargeState, IsMissing, IsThere, HoldsTable, Reads, HasRule, IsSmall, SomeOf, FirstBad, FirstIs, HaveOtherRules, AgreeOn, HasCause, IsGood, AreGood, IsTrueVerdict}
+use Rattle.ca_claims.specs.inner.Patterns.{items, IsEachOnce, IsReadFrom, IsUnread, HasName, rule_of, IsRuledAs, ShowsLarge, ShowsSmall, AreOfOneRule, AreMixed, Disagree, IsShownBy, IsCrowded, AreBoth}
+use Rattle.ca_claims.proofs.Alike.{true-same, reason-same}
+use Rattle.ca_claims.proofs.ClaimKinds.{asks_about, paths_of}
+use Rattle.ca_claims.proofs.PatternsRead.{IsReadAt, IsRuledAt, listed_in_range, listed_small, path_has_fault, path_has_rule, path_reads, plane_is_few, plane_shows, ruled_at, ruled_has_rule, ruled_is_good, ruled_is_large, ruled_is_many, ruled_is_small, ruled_picture, ruled_reads, wanted}
+use Rattle.ca_claims.proofs.Zipped.{zip_left, zip_beside, zip_some, zip_first, zip_front, zip_through, none_bad}
+
+-- ---- the paths of a claim's patterns
+
+-- what is each once stays so
+once_map : {P Q : Type 0} (f : P → Q) (each all : List P) → IsEachOnce each all → IsEachOnce (map f each) (map f all)
+once_map f each all (inl same) = inl (ap (map f) same)
+once_map f each all (inr (x, e, d)) = inr (f x, ap (map f) e, ap (map f) d)
+
+-- and so do the paths at indices
+pub once_paths : (paths : List (List ℕ)) (claim : ClaimOf ℕ) (places : List ℕ) → IsEachOnce places (patterns_of claim) → IsEachOnce (map (path_at paths) places) (patterns_of (about (path_at paths) claim))
+once_paths paths claim places once =
+    subst (IsEachOnce (map (path_at paths) places)) (sym (paths_of (path_at paths) claim)) (once_map (path_at paths) places (patterns_of claim) once)
+
+-- what holds of all holds of each
+pub once_all : {X : Type 0} (P : X → Type 0) (each all : List X) → IsEachOnce each all → AllByRecursion P all → AllByRecursion P each
+once_all P each all (inl same) h = subst (AllByRecursion P) same h
+once_all P each all (inr (x, e, d)) h = subst (AllByRecursion P) (sym e) ((subst (AllByRecursion P) d h).0, tt)
+
+-- the bytes of the path at an index are found at that index
+bytes_found : (files : List (List ℕ × List ℕ)) (paths : List (List ℕ)) (found : List (Option (Bor (List ℕ)))) (i : ℕ) (o : Option (Bor (List ℕ)))
+    → map option_copied found ≡ map (bytes_at files) paths → i < length found → get_or found i None ≡ o → bytes_at files (path_at paths i) ≡ option_copied o
+bytes_found files paths [] i o e within at = let no : ⊥ = omega arith in absurd no
+bytes_found files [] (f ∷ fs) i o e within at = let no : ⊥ = cc in absurd no
+bytes_found files (p ∷ ps) (f ∷ fs) zero o e within at = let head : option_copied f ≡ bytes_at files p = cc in sym head ∙ ap option_copied at
+bytes_found files (p ∷ ps) (f ∷ fs) (suc i) o e within at =
+    let tail : map option_copied fs ≡ map (bytes_at files) ps = cc in
+    bytes_found files ps fs i o tail (omega arith) at
+
+module _ (files : List (List ℕ × List ℕ)) (paths : List (List ℕ)) (found : List (Option (Bor (List ℕ)))) (same : map option_copied found ≡ map (bytes_at files) paths) where
+  -- so the files at some indices are those of their paths
+  pub found_there : (places : List ℕ) (there : List (Bor (List ℕ))) → AllByRecursion (λ i. i < length found) places → AllZip (λ i b. get_or found i None ≡ Some b) places there
+      → AllZip (λ path b. bytes_at files path ≡ Some b.now) (map (path_at paths) places) there
+  found_there [] [] within at = tt
+  found_there [] (b ∷ bs) within at = absurd at
+  found_there (i ∷ is) [] within at = absurd at
+  found_there (i ∷ is) (b ∷ bs) within at = (bytes_found files paths found i (Some b) same within.0 at.0, found_there is bs within.1 at.1)
+
+  -- and where one is missing, no file has its path
+  pub found_missing : (places : List ℕ) → AllByRecursion (λ i. i < length found) places → SomeOf (λ i. get_or found i None ≡ None) places → SomeOf (IsMissing files) (map (path_at paths) places)
+  found_missing [] within some = some
+  found_missing (i ∷ is) within (inl here) = inl (bytes_found files paths found i None same within.0 here)
+  found_missing (i ∷ is) within (inr later) = inr (found_missing is within.1 later)
+
+-- ---- what is said of each path is said of all
+
+module _ (files : List (List ℕ × List ℕ)) (tables : List TableRule) where
+  judged_twice : (path : List ℕ) (cells other : Picture) (rule : RuleValue) → AreGood files tables (path ∷ []) cells other rule → AreGood files tables (path ∷ path ∷ []) cells other rule
+  judged_twice path cells other rule one = (one.0, rule, subst (λ o. IsGood files tables path o rule) (sym one.1) one.0, same-refl rule)
+
+module _ (files : List (List ℕ × List ℕ)) (rules : List (List ℕ)) where
+  cause_twice : (path : List ℕ) (cause : Cause) → HasCause files rules (path ∷ []) cause → HasCause files rules (path ∷ path ∷ []) cause
+  cause_twice path NoFile (inl (inl none)) = inl (inl none)
+  cause_twice path NoFile (inl (inr none)) = absurd none
+  cause_twice path NoFile (inr none) = inr none
+  cause_twice path (BadTable fault) (all, there, first) = ((all.0, (all.0, tt)), there, first)
+  cause_twice path (BadPattern fault) (tables, are, all, inl bad) = (tables, are, (all.0, (all.0, tt)), inl bad)
+  cause_twice path (BadPattern fault) (tables, are, all, inr none) = absurd none.1
+  cause_twice path (BadRule fault) (tables, are, all, inl bad) = (tables, are, (all.0, (all.0, tt)), inl bad)
+  cause_twice path (BadRule fault) (tables, are, all, inr none) = absurd none.1
+  cause_twice path StateTooLarge (tables, are, all, inl large) = (tables, are, (all.0, (all.0, tt)), inl large)
+  cause_twice path StateTooLarge (tables, are, all, inr none) = absurd none
+  cause_twice path MixedRules (tables, are, all, inl (inl mixed)) = (tables, are, (all.0, (all.0, tt)), inl (inl mixed))
+  cause_twice path MixedRules (tables, are, all, inl (inr none)) = absurd none
+  cause_twice path MixedRules (tables, are, all, inr none) = absurd none
+  cause_twice path TooManyCells (cells, other, rule, (tables, are, good), some) = (cells, other, rule, (tables, are, judged_twice files tables path cells other rule good), some)
+  cause_twice path Memory (tables, are, all, first) = (tables, are, (all.0, (all.0, tt)), first)
+
+  pub cause_of_all : (each all : List (List ℕ)) (cause : Cause) → IsEachOnce each all → HasCause files rules each cause → HasCause files rules all cause
+  cause_of_all each all cause (inl same) h = subst (λ l. HasCause files rules l cause) (sym same) h
+  cause_of_all each all cause (inr (x, e, d)) h = subst (λ l. HasCause files rules l cause) (sym d) (cause_twice x cause (subst (λ l. HasCause files rules l cause) e h))
+
+  -- a cause that `?` passes on
+  pub passed_on : (claim : Claim) (r : Result Verdict Cause) (cause : Cause)
+      → IsErrAnd r (λ passed. passed ≡ cause) → HasCause files rules (patterns_of claim) cause → MatchResult r (IsTrueVerdict files rules claim) (HasCause files rules (patterns_of claim))
+  passed_on claim r cause h holds =
+      let p = err_from_is_err_and r h in
+      subst (λ o. MatchResult o (IsTrueVerdict files rules claim) (HasCause files rules (patterns_of claim))) (sym p.1) (subst (HasCause files rules (patterns_of claim)) (sym p.2) holds)
+
+-- ---- files that are there
+
+-- the files of paths with these bytes are there
+pub all_there : (files : List (List ℕ × List ℕ)) (paths : List (List ℕ)) (there : List (Bor (List ℕ))) → AllZip (λ path b. bytes_at files path ≡ Some b.now) paths there → AllByRecursion (IsThere files) paths
+all_there files = zip_left (λ path b. bytes_at files path ≡ Some b.now) (IsThere files) (λ path b e. (b.now, e))
+
+-- ---- the tables of files that are there
+
+module _ (files : List (List ℕ × List ℕ)) (rules : List (List ℕ)) (there : List (Bor (List ℕ))) (at : AllZip (λ path b. bytes_at files path ≡ Some b.now) rules there) where
+  -- these are the tables of the texts
+  pub are_tables : (tables : List TableRule) → AllZip (λ b t. IsQuietTable b.now t) there tables → AreTables files rules tables
+  are_tables tables = zip_through (λ path b. bytes_at files path ≡ Some b.now) (λ b t. IsQuietTable b.now t) (IsTableAt files) (λ path b t e is. (b.now, e, is)) rules there tables at
+
+  -- or this is the first that is faulty
+  pub first_faulty : (fault : TableFault) → FirstBad (λ b. (table : TableRule) × IsQuietTable b.now table) (λ b. IsTableFault b.now fault) there
+      → FirstBad (HoldsTable files) (λ p. (bytes : List ℕ) × (bytes_at files p ≡ Some bytes) × IsTableFault bytes fault) rules
+  first_faulty fault =
+      zip_first (λ path b. bytes_at files path ≡ Some b.now) (HoldsTable files) (λ p. (bytes : List ℕ) × (bytes_at files p ≡ Some bytes) × IsTableFault bytes fault)
+      (λ b. (table : TableRule) × IsQuietTable b.now table) (λ b. IsTableFault b.now fault) (λ path b e has. (has.0, (b.now, e, has.1))) (λ path b e wrong. (b.now, e, wrong)) rules there at
+
+-- ---- patterns that were read
+
+module _ (nodes : List Node) (files : List (List ℕ × List ℕ)) where
+  -- the patterns of files that were read
+  pub read_at : (paths : List (List ℕ)) (there : List (Bor (List ℕ))) (patterns : List Loaded) → AllZip (λ path b. bytes_at files path ≡ Some b.now) paths there
+      → AllZip (λ b p. IsReadFrom nodes b.now p) there patterns → AllZip (IsReadAt nodes files) paths patterns
+  read_at =
+      zip_through (λ path b. bytes_at files path ≡ Some b.now) (λ b p. IsReadFrom nodes b.now p) (IsReadAt nodes files) (λ path b p e read. record { bytes = b.now; at_path = e; read = read })
+
+  -- the patterns with the rules that their texts name
+  pub ruled_each : (tables : List TableRule) (paths : List (List ℕ)) (patterns : List Loaded) (ruled : List Ruled) → AllZip (IsReadAt nodes files) paths patterns → AllZip (IsRuledAs tables) patterns ruled
+      → AllZip (λ path r. IsRuledAt nodes files path tables r) paths ruled
+  ruled_each tables =
+      zip_through (IsReadAt nodes files) (IsRuledAs tables) (λ path r. IsRuledAt nodes files path tables r) (λ path p r. ruled_at nodes files path tables p r)
+
+-- what holds of all on the right of a list
+right_all : {X Y : Type 0} (R : X → Y → Type 0) (Q : Y → Type 0) → ((x : X) (y : Y) → R x y → Q y) → (xs : List X) (ys : List Y) → AllZip R xs ys → AllByRecursion Q ys
+right_all R Q f [] [] all = tt
+right_all R Q f [] (y ∷ ys) all = absurd all
+right_all R Q f (x ∷ xs) [] all = absurd all
+right_all R Q f (x ∷ xs) (y ∷ ys) all = (f x y all.0, right_all R Q f xs ys all.1)
+
+-- the trees of patterns that were read are in the store, and in range
+module _ (nodes : List Node) (there : List (Bor (List ℕ))) (tables : List TableRule) (patterns : List Loaded) (ruled : List Ruled) (read : AllZip (λ b p. IsReadFrom nodes b.now p) there patterns)
+    (named : AllZip (IsRuledAs tables) patterns ruled) where
+  read_ruled : AllZip (λ b r. IsReadFrom nodes b.now r.pattern) there ruled
+  read_ruled =
+      zip_through (λ b p. IsReadFrom nodes b.now p) (IsRuledAs tables) (λ b r. IsReadFrom nodes b.now r.pattern) (λ b p r is kept. subst (IsReadFrom nodes b.now) (sym kept.0) is)
+      there patterns ruled read named
+
+  pub are_trees : AllByRecursion (λ r. trees.IsTree nodes r.pattern.tree) ruled
+  are_trees = right_all (λ b r. IsReadFrom nodes b.now r.pattern) (λ r. trees.IsTree nodes r.pattern.tree) (λ b r is. is.loaded.tree) there ruled read_ruled
+
+  pub are_in_range : AllByRecursion (λ r. AreInRange (trees.cell nodes r.pattern.tree)) ruled
+  are_in_range = right_all (λ b r. IsReadFrom nodes b.now r.pattern) (λ r. AreInRange (trees.cell nodes r.pattern.tree)) (λ b r is. is.range) there ruled read_ruled
+
+-- ---- causes and verdicts, where the tables are good
+
+judged_of_all : (files : List (List ℕ × List ℕ)) (tables : List TableRule) (each all : List (List ℕ)) (cells other : Picture) (rule : RuleValue)
+    → IsEachOnce each all → AreGood files tables each cells other rule → AreGood files tables all cells other rule
+judged_of_all files tables each all cells other rule (inl same) h = subst (λ l. AreGood files tables l cells other rule) (sym same) h
+judged_of_all files tables each all cells other rule (inr (x, e, d)) h =
+    subst (λ l. AreGood files tables l cells other rule) (sym d) (judged_twice files tables x cells other rule (subst (λ l. AreGood files tables l cells other rule) e h))
+
+-- the file of the path is there, and memory may be wanted for it
+abbrev WantsMemory : List (List ℕ × List ℕ) → List ℕ → Type 0
+WantsMemory files path = (bytes : List ℕ) × (bytes_at files path ≡ Some bytes) × MayWantMemory bytes
+
+reads_want : (files : List (List ℕ × List ℕ)) (path : List ℕ) → Reads files path → WantsMemory files path
+reads_want files path reads = (reads.0, reads.1, wanted reads.0 reads.2)
+
+module _ (files : List (List ℕ × List ℕ)) (rules : List (List ℕ)) (tables : List TableRule) (are : AreTables files rules tables) where
+  -- a file doesn't read, or memory is wanted for it
+  pub unread : (paths : List (List ℕ)) (there : List (Bor (List ℕ))) (cause : Cause) → AllZip (λ path b. bytes_at files path ≡ Some b.now) paths there
+      → FirstBad (λ b. IsReadable b.now) (λ b. IsUnread b.now cause) there → HasCause files rules paths cause
+  unread paths there NoFile at first = absurd (none_bad (λ b. IsReadable b.now) there first)
+  unread paths there (BadTable fault) at first = absurd (none_bad (λ b. IsReadable b.now) there first)
+  unread paths there (BadPattern fault) at first = (
+    tables,
+    are,
+    all_there files paths there at,
+    zip_first (λ path b. bytes_at files path ≡ Some b.now) (Reads files) (λ path. (bytes : List ℕ) × (bytes_at files path ≡ Some bytes) × IsPatternFault bytes fault)
+        (λ b. IsReadable b.now) (λ b. IsPatternFault b.now fault) (λ path b e reads. (b.now, e, reads)) (λ path b e wrong. (b.now, e, wrong)) paths there at first,
+  )
+  unread paths there (BadRule fault) at first = absurd (none_bad (λ b. IsReadable b.now) there first)
+  unread paths there StateTooLarge at first = absurd (none_bad (λ b. IsReadable b.now) there first)
+  unread paths there MixedRules at first = absurd (none_bad (λ b. IsReadable b.now) there first)
+  unread paths there TooManyCells at first = absurd (none_bad (λ b. IsReadable b.now) there first)
+  unread paths there Memory at first = (
+    tables,
+    are,
+    all_there files paths there at,
+    zip_front (λ path b. bytes_at files path ≡ Some b.now) (WantsMemory files) (λ b. IsReadable b.now) (λ b. MayWantMemory b.now)
+        (λ path b e reads. (b.now, e, wanted b.now reads)) (λ path b e wants. (b.now, e, wants)) paths there at first,
+  )
+
+  -- memory is wanted for patterns that were read
+  pub read_wanting : (paths : List (List ℕ)) → AllByRecursion (Reads files) paths → FirstIs (Reads files) paths → HasCause files rules paths Memory
+  read_wanting [] reads first = absurd first
+  read_wanting (p ∷ paths) reads first = (tables, are, there_all (p ∷ paths) reads, reads_want files p first)
+    where
+      there_all : (ps : List (List ℕ)) → AllByRecursion (Reads files) ps → AllByRecursion (IsThere files) ps
+      there_all [] all = tt
+      there_all (q ∷ qs) all = ((all.0.0, all.0.1), there_all qs all.1)
+
+  module _ (nodes : List Node) where
+    -- a rule text names no rule
+    pub unnamed : (paths : List (List ℕ)) (patterns : List Loaded) (fault : RuleFault) → AllZip (IsReadAt nodes files) paths patterns
+        → FirstBad (HasName tables) (λ p. IsRuleFault p.rule_text.items tables fault) patterns → HasCause files rules paths (BadRule fault)
+    unnamed paths patterns fault read first = (
+      tables,
+      are,
+      zip_left (IsReadAt nodes files) (Reads files) (path_reads nodes files) paths patterns read,
+      zip_first (IsReadAt nodes files) (HasRule files tables) (λ path. (cells : Picture) × (text : List ℕ) × IsRead files path cells text × IsRuleFault text tables fault)
+          (HasName tables) (λ p. IsRuleFault p.rule_text.items tables fault) (λ path p at. path_has_rule nodes files path p at tables) (λ path p at. path_has_fault nodes files path p at tables fault) paths patterns read first,
+    )
+
+    -- the pattern is that of the file with a path, with its rule
+    abbrev At : List ℕ → Ruled → Type 0
+    At path ruled = IsRuledAt nodes files path tables ruled
+
+    module _ (paths : List (List ℕ)) (patterns : List Ruled) (ruled : AllZip At paths patterns) where
+      -- a state is too large
+      too_large : SomeOf (ShowsLarge nodes) patterns → HasCause files rules paths StateTooLarge
+      too_large some = (
+        tables,
+        are,
+        zip_left At (HasRule files tables) (λ path r at. ruled_has_rule nodes files path tables r at) paths patterns ruled,
+        zip_some At (λ path. (cells : Picture) × (rule : RuleValue) × IsRuled files tables path cells rule × HasLargeState rule (cell cells))
+            (ShowsLarge nodes) (λ path r at. ruled_is_large nodes files path tables r at) paths patterns ruled some,
+      )
+
+      all_small : AllByRecursion (ShowsSmall nodes) patterns → AllByRecursion (IsSmall files tables) paths
+      all_small small =
+          zip_left (λ path r. At path r × ShowsSmall nodes r) (IsSmall files tables) (λ path r h. ruled_is_small nodes files path tables r h.0 h.1) paths patterns
+          (zip_beside At (ShowsSmall nodes) paths patterns ruled small)
+
+      all_read : AllByRecursion (Reads files) paths
+      all_read = zip_left At (Reads files) (λ path r at. path_reads nodes files path r.pattern at.read_at) paths patterns ruled
+
+    -- the first two patterns have different rules
+    other_rules : (paths : List (List ℕ)) (patterns : List Ruled) → AllZip At paths patterns → AreMixed patterns → SomeOf (λ p. SomeOf (HaveOtherRules files tables p) paths) paths
+    other_rules paths [] ruled mixed = absurd mixed
+    other_rules paths (a ∷ []) ruled mixed = absurd mixed
+    other_rules [] (a ∷ b ∷ patterns) ruled mixed = absurd ruled
+    other_rules (p ∷ []) (a ∷ b ∷ patterns) ruled mixed = absurd ruled.1
+    other_rules (p ∷ q ∷ paths) (a ∷ b ∷ patterns) ruled mixed =
+        inl (inr (inl (
+          ruled_picture nodes files p tables a ruled.0,
+          rule_of a,
+          ruled_picture nodes files q tables b ruled.1.0,
+          rule_of b,
+          ruled_reads nodes files p tables a ruled.0,
+          ruled_reads nodes files q tables b ruled.1.0,
+          mixed,
+        )))
+
+    -- memory is wanted for patterns with rules
+    wanting : (paths : List (List ℕ)) (patterns : OneOrTwo Ruled) → AllZip At paths (items patterns) → HasCause files rules paths Memory
+    wanting [] (One a) ruled = absurd ruled
+    wanting [] (Two a b) ruled = absurd ruled
+    wanting (p ∷ paths) (One a) ruled = let reads = all_read (p ∷ paths) (a ∷ []) ruled in read_wanting (p ∷ paths) reads reads.0
+    wanting (p ∷ paths) (Two a b) ruled = let reads = all_read (p ∷ paths) (a ∷ b ∷ []) ruled in read_wanting (p ∷ paths) reads reads.0
+
+    -- the patterns have no one rule under which their states are small
+    pub disagreed : (paths : List (List ℕ)) (patterns : OneOrTwo Ruled) (cause : Cause) → AllZip At paths (items patterns) → Disagree nodes (items patterns) cause → HasCause files rules paths cause
+    disagreed paths patterns NoFile ruled h = absurd h
+    disagreed paths patterns (BadTable fault) ruled h = absurd h
+    disagreed paths patterns (BadPattern fault) ruled h = absurd h
+    disagreed paths patterns (BadRule fault) ruled h = absurd h
+    disagreed paths patterns StateTooLarge ruled h = too_large paths (items patterns) ruled h
+    disagreed paths patterns MixedRules ruled h = (tables, are, all_small paths (items patterns) ruled h.0, other_rules paths (items patterns) ruled h.1)
+    disagreed paths patterns TooManyCells ruled h = absurd h
+    disagreed paths patterns Memory ruled h = wanting paths patterns ruled
+
+    -- ---- the pictures that the files mean
+
+    -- patterns agree on these pictures
+    record Agreed (paths : List (List ℕ)) (rule : RuleValue) : Type 0 where
+      shown : Picture
+      other_shown : Picture
+      good : AreGood files tables paths shown other_shown rule
+
+    good_under : (path : List ℕ) (a : Ruled) (at : At path a) (rule : RuleValue) → rule ≡ rule_of a → ShowsSmall nodes a → IsGood files tables path (ruled_picture nodes files path tables a at) rule
+    good_under path a at rule e small = subst (IsGood files tables path (ruled_picture nodes files path tables a at)) (sym e) (ruled_is_good nodes files path tables a at small)
+
+    agreed : (paths : List (List ℕ)) (patterns : OneOrTwo Ruled) (rule : RuleValue) → AllZip At paths (items patterns)
+        → AllByRecursion (ShowsSmall nodes) (items patterns) → AreOfOneRule (items patterns) rule → Agreed paths rule
+    agreed [] (One a) rule ruled small one = absurd ruled
+    agreed (p ∷ q ∷ paths) (One a) rule ruled small one = absurd ruled.1
+    agreed (p ∷ []) (One a) rule ruled small one = record {
+      shown = ruled_picture nodes files p tables a ruled.0;
+      other_shown = ruled_picture nodes files p tables a ruled.0;
+      good = (good_under p a ruled.0 rule one small.0, refl);
+    }
+    agreed [] (Two a b) rule ruled small one = absurd ruled
+    agreed (p ∷ []) (Two a b) rule ruled small one = absurd ruled.1
+    agreed (p ∷ q ∷ o ∷ paths) (Two a b) rule ruled small one = absurd ruled.1.1
+    agreed (p ∷ q ∷ []) (Two a b) rule ruled small one = record {
+      shown = ruled_picture nodes files p tables a ruled.0;
+      other_shown = ruled_picture nodes files q tables b ruled.1.0;
+      good = (
+        good_under p a ruled.0 rule one.0 small.0,
+        rule_of b,
+        ruled_is_good nodes files q tables b ruled.1.0 small.1.0,
+        subst (λ r. IsSameRule r (rule_of b)) (sym one.0) one.1,
+      );
+    }
+
+    -- where a plane would have too many cells, so has a picture
+    too_many : (paths : List (List ℕ)) (patterns : OneOrTwo Ruled) (rule : RuleValue) (ruled : AllZip At paths (items patterns))
+        (small : AllByRecursion (ShowsSmall nodes) (items patterns)) (one : AreOfOneRule (items patterns) rule) → SomeOf (IsCrowded nodes TooManyCells) (items patterns)
+        → HasTooManyCells (cell (agreed paths patterns rule ruled small one).shown) ⊎ HasTooManyCells (cell (agreed paths patterns rule ruled small one).other_shown)
+    unfolding agreed
+    too_many [] (One a) rule ruled small one some = absurd ruled
+    too_many (p ∷ q ∷ paths) (One a) rule ruled small one some = absurd ruled.1
+    too_many (p ∷ []) (One a) rule ruled small one (inl many) = inl (ruled_is_many nodes files p tables a ruled.0 many)
+    too_many (p ∷ []) (One a) rule ruled small one (inr none) = absurd none
+    too_many [] (Two a b) rule ruled small one some = absurd ruled
+    too_many (p ∷ []) (Two a b) rule ruled small one some = absurd ruled.1
+    too_many (p ∷ q ∷ o ∷ paths) (Two a b) rule ruled small one some = absurd ruled.1.1
+    too_many (p ∷ q ∷ []) (Two a b) rule ruled small one (inl many) = inl (ruled_is_many nodes files p tables a ruled.0 many)
+    too_many (p ∷ q ∷ []) (Two a b) rule ruled small one (inr (inl many)) = inr (ruled_is_many nodes files q tables b ruled.1.0 many)
+    too_many (p ∷ q ∷ []) (Two a b) rule ruled small one (inr (inr none)) = absurd none
+
+    no_crowd : (patterns : List Ruled) → SomeOf (λ a. ⊥) patterns → ⊥
+    no_crowd [] some = some
+    no_crowd (a ∷ patterns) (inl here) = here
+    no_crowd (a ∷ patterns) (inr later) = no_crowd patterns later
+
+    -- so why one of the patterns isn't made a plane is a cause
+    pub crowded : (paths : List (List ℕ)) (patterns : OneOrTwo Ruled) (rule : RuleValue) (cause : Cause) → AllZip At paths (items patterns) → AllByRecursion (ShowsSmall nodes) (items patterns)
+        → AreOfOneRule (items patterns) rule → SomeOf (IsCrowded nodes cause) (items patterns) → HasCause files rules paths cause
+    crowded paths patterns rule NoFile ruled small one some = absurd (no_crowd (items patterns) some)
+    crowded paths patterns rule (BadTable fault) ruled small one some = absurd (no_crowd (items patterns) some)
+    crowded paths patterns rule (BadPattern fault) ruled small one some = absurd (no_crowd (items patterns) some)
+    crowded paths patterns rule (BadRule fault) ruled small one some = absurd (no_crowd (items patterns) some)
+    crowded paths patterns rule StateTooLarge ruled small one some = absurd (no_crowd (items patterns) some)
+    crowded paths patterns rule MixedRules ruled small one some = absurd (no_crowd (items patterns) some)
+    crowded paths patterns rule TooManyCells ruled small one some =
+        let all = agreed paths patterns rule ruled small one in
+        (all.shown, all.other_shown, rule, (tables, are, all.good), too_many paths patterns rule ruled small one some)
+    crowded paths patterns rule Memory ruled small one some = wanting paths patterns ruled
+
+    -- ---- verdicts
+
+    -- planes show what the files mean, which has few cells
+    record IsShown (paths : List (List ℕ)) (cells other : Picture) (rule : RuleValue) : Type 0 where
+      shown : Picture
+      other_shown : Picture
+      same : IsSame cells shown
+      other_same : IsSame other other_shown
+      few : HasFewCells (cell shown)
+      other_few : HasFewCells (cell other_shown)
+      good : AreGood files tables paths shown other_shown rule
+
+    -- a plane is that of a pattern
+    plane_same : (path : List ℕ) (a : Ruled) (at : At path a) (plane cells : Picture) → IsShownBy nodes a plane → cells ≡ plane → IsSame cells (ruled_picture nodes files path tables a at)
+    plane_same path a at plane cells shown e = subst (λ l. IsSame l (ruled_picture nodes files path tables a at)) (sym e) (plane_shows nodes files path tables a at plane shown)
+
+    all_shown : (paths : List (List ℕ)) (patterns : OneOrTwo Ruled) (planes : List Picture) (cells other : Picture) (rule : RuleValue) → AllZip At paths (items patterns)
+        → AllByRecursion (ShowsSmall nodes) (items patterns) → AreOfOneRule (items patterns) rule → AllZip (IsShownBy nodes) (items patterns) planes → AreBoth planes cells other
+        → IsShown paths cells other rule
+    unfolding agreed
+    all_shown [] (One a) planes cells other rule ruled small one made both = absurd ruled
+    all_shown (p ∷ q ∷ paths) (One a) planes cells other rule ruled small one made both = absurd ruled.1
+    all_shown (p ∷ []) (One a) [] cells other rule ruled small one made both = absurd made
+    all_shown (p ∷ []) (One a) (u ∷ v ∷ planes) cells other rule ruled small one made both = absurd made.1
+    all_shown (p ∷ []) (One a) (u ∷ []) cells other rule ruled small one made both = record {
+      shown = ruled_picture nodes files p tables a ruled.0;
+      other_shown = ruled_picture nodes files p tables a ruled.0;
+      same = plane_same p a ruled.0 u cells made.0 both.0;
+      other_same = plane_same p a ruled.0 u other made.0 both.1;
+      few = plane_is_few nodes files p tables a ruled.0 u made.0;
+      other_few = plane_is_few nodes files p tables a ruled.0 u made.0;
+      good = (agreed (p ∷ []) (One a) rule ruled small one).good;
+    }
+    all_shown [] (Two a b) planes cells other rule ruled small one made both = absurd ruled
+    all_shown (p ∷ []) (Two a b) planes cells other rule ruled small one made both = absurd ruled.1
+    all_shown (p ∷ q ∷ o ∷ paths) (Two a b) planes cells other rule ruled small one made both = absurd ruled.1.1
+    all_shown (p ∷ q ∷ []) (Two a b) [] cells other rule ruled small one made both = absurd made
+    all_shown (p ∷ q ∷ []) (Two a b) (u ∷ []) cells other rule ruled small one made both = absurd made.1
+    all_shown (p ∷ q ∷ []) (Two a b) (u ∷ v ∷ w ∷ planes) cells other rule ruled small one made both = absurd made.1.1
+    all_shown (p ∷ q ∷ []) (Two a b) (u ∷ v ∷ []) cells other rule ruled small one made both = record {
+      shown = ruled_picture nodes files p tables a ruled.0;
+      other_shown = ruled_picture nodes files q tables b ruled.1.0;
+      same = plane_same p a ruled.0 u cells made.0 both.0;
+      other_same = plane_same q b ruled.1.0 v other made.1.0 both.1;
+      few = plane_is_few nodes files p tables a ruled.0 u made.0;
+      other_few = plane_is_few nodes files q tables b ruled.1.0 v made.1.0;
+      good = (agreed (p ∷ q ∷ []) (Two a b) rule ruled small one).good;
+    }
+
+  -- a claim that is judged may want memory
+  good_reads : (path : List ℕ) (cells : Picture) (rule : RuleValue) → IsGood files tables path cells rule → Reads files path
+  good_reads path cells rule good = let read = good.ruled.1 in (read.bytes, read.at_path, read.readable)
+
+  memory_wanted : (paths : List (List ℕ)) (cells other : Picture) (rule : RuleValue) → AreGood files tables paths cells other rule → HasCause files rules paths Memory
+  memory_wanted [] cells other rule judged = absurd judged
+  memory_wanted (p ∷ []) cells other rule judged = let reads = good_reads p cells rule judged.0 in read_wanting (p ∷ []) (reads, tt) reads
+  memory_wanted (p ∷ q ∷ []) cells other rule judged =
+      let reads = good_reads p cells rule judged.0 in
+      read_wanting (p ∷ q ∷ []) (reads, (good_reads q other judged.1 judged.2, tt)) reads
+  memory_wanted (p ∷ q ∷ r ∷ paths) cells other rule judged = absurd judged
+
+  -- what is decided of cells is true of the pictures that show the same
+  decided_true : (claim : Claim) (cells shown other other_shown : Picture) (rule : RuleValue) (verdict : Verdict)
+      → IsSame cells shown → IsSame other other_shown → HasFewCells (cell shown) → HasFewCells (cell other_shown) → AreGood files tables (patterns_of claim) shown other_shown rule
+      → IsDecided (next_of rule) cells other (asks_of claim) verdict → IsTrueVerdict files rules claim verdict
+  decided_true claim cells shown other other_shown rule Yes same others few other_few good decided =
+      (shown, other_shown, rule, ((tables, are, good), few, other_few), true-same (next_of rule) cells shown same other other_shown others (asks_of claim) decided)
+  decided_true claim cells shown other other_shown rule (No why) same others few other_few good decided =
+      (shown, other_shown, rule, ((tables, are, good), few, other_few), reason-same (next_of rule) cells shown same other other_shown others (asks_of claim) why decided)
+  decided_true claim cells shown other other_shown rule (Refused cause) same others few other_few good decided =
+      subst (HasCause files rules (patterns_of claim)) (sym decided) (memory_wanted (patterns_of claim) shown other_shown rule good)
+
+  pub true_verdict : (nodes : List Node) (at : List (List ℕ)) (claim : ClaimOf ℕ) (paths : List (List ℕ)) (patterns : OneOrTwo Ruled) (planes : List Picture) (cells other : Picture) (rule : RuleValue) (verdict : Verdict)
+      → IsEachOnce paths (patterns_of (about (path_at at) claim)) → AllZip (λ path r. IsRuledAt nodes files path tables r) paths (items patterns)
+      → AllByRecursion (ShowsSmall nodes) (items patterns) → AreOfOneRule (items patterns) rule → AllZip (IsShownBy nodes) (items patterns) planes → AreBoth planes cells other
+      → IsDecided (next_of rule) cells other (asks_of claim) verdict → IsTrueVerdict files rules (about (path_at at) claim) verdict
+  true_verdict nodes at claim paths patterns planes cells other rule verdict once ruled small one made both decided =
+      let all = all_shown nodes paths patterns planes cells other rule ruled small one made both in
+      decided_true (about (path_at at) claim) cells all.shown other all.other_shown rule verdict all.same all.other_same all.few all.other_few
+      (judged_of_all files tables paths (patterns_of (about (path_at at) claim)) all.shown all.other_shown rule once all.good)
+      (subst (λ asks. IsDecided (next_of rule) cells other asks verdict) (sym (asks_about (path_at at) claim)) decided)
+
+-- ---- the planes that are judged
+
+module _ (nodes : List Node) where
+  -- the states of the first are small
+  first_small : (a : Ruled) (plane cells : Picture) (rule : RuleValue) → IsShownBy nodes a plane → ShowsSmall nodes a → rule ≡ rule_of a → cells ≡ plane → All (λ e. e.1 < states_of rule) cells
+  first_small a plane cells rule shown small of_rule of_cells =
+      subst (λ r. All (λ e. e.1 < states_of r) cells) (sym of_rule) (subst (All (λ e. e.1 < states_of (rule_of a))) (sym of_cells) (listed_small nodes a plane shown small))
+
+  -- so those of a claim's pattern are
+  pub planes_small : (patterns : OneOrTwo Ruled) (planes : List Picture) (cells other : Picture) (rule : RuleValue) → AllZip (IsShownBy nodes) (items patterns) planes
+      → AllByRecursion (ShowsSmall nodes) (items patterns) → AreOfOneRule (items patterns) rule → AreBoth planes cells other → All (λ e. e.1 < states_of rule) cells
+  planes_small (One a) [] cells other rule made small one both = absurd both
+  planes_small (One a) (u ∷ []) cells other rule made small one both = first_small a u cells rule made.0 small.0 one both.0
+  planes_small (One a) (u ∷ v ∷ planes) cells other rule made small one both = absurd made.1
+  planes_small (Two a b) [] cells other rule made small one both = absurd both
+  planes_small (Two a b) (u ∷ []) cells other rule made small one both = absurd made.1
+  planes_small (Two a b) (u ∷ v ∷ planes) cells other rule made small one both = first_small a u cells rule made.0 small.0 one.0 both.0
+
+  -- and their cells in range
+  pub planes_in_range : (patterns : List Ruled) (planes : List Picture) (cells other : Picture) → AllZip (IsShownBy nodes) patterns planes
+      → AllByRecursion (λ r. AreInRange (trees.cell nodes r.pattern.tree)) patterns → AreBoth planes cells other → All (λ e. IsInRange e.0) cells × All (λ e. IsInRange e.0) other
+  planes_in_range patterns [] cells other made range both = absurd both
+  planes_in_range [] (u ∷ planes) cells other made range both = absurd made
+  planes_in_range (a ∷ patterns) (u ∷ []) cells other made range both =
+      let all = listed_in_range nodes a u made.0 range.0 in
+      (subst (All (λ e. IsInRange e.0)) (sym both.0) all, subst (All (λ e. IsInRange e.0)) (sym both.1) all)
+  planes_in_range (a ∷ []) (u ∷ v ∷ planes) cells other made range both = absurd made.1
+  planes_in_range (a ∷ b ∷ patterns) (u ∷ v ∷ planes) cells other made range both =
+      (
+        subst (All (λ e. IsInRange e.0)) (sym both.0) (listed_in_range nodes a u made.0 range.0),
+        subst (All (λ e. IsInRange e.0)) (sym both.1) (listed_in_range nodes b v made.1.0 range.1.0),
+      )

@@ -1,0 +1,163 @@
+-- The patterns of files that were read into a store, and what they say of the files' paths.
+use Rattle.std.proofs.Common.{◌≡◌, ℕ, ◌≤◌, ◌<◌, List, [], ◌∷◌, get_or, Some, inr, sym, subst, ◌∙◌, arith}
+use Rattle.std.specs.Prelude.{ℤ}
+use Rattle.std.specs.List.{All}
+use Rattle.ca_plane.specs.declared.point.Point.{Point}
+use Rattle.ca_plane.specs.Plane.{Picture, cell}
+use Rattle.ca_plane.specs.Sparse.{IsSparse}
+use Rattle.ca_plane.specs.Population.{HasFewCells, HasTooManyCells}
+use Rattle.ca_plane.specs.Limits.{IsInRange}
+use Rattle.ca_plane.proofs.Pictures.{cell-listed}
+use Rattle.ca_quad.specs.declared.node.Node.{Node}
+use Rattle.ca_quad.specs.Sound.{IsSound, Grows}
+use Rattle.ca_quad.specs.Trees as trees
+use Rattle.ca_quad.specs.Trimmed.{HoldsAll, IsTrimmed}
+use Rattle.ca_quad.proofs.Cells.{of_stays}
+use Rattle.ca_quad.proofs.Trims.{trees_stay}
+use Rattle.ca_rule.specs.TableNext.{TableRule}
+use Rattle.ca_rule.specs.declared.fault.RuleFault.{RuleFault}
+use Rattle.ca_rule.specs.Rule.{RuleValue, states_of, NamesRule, IsRuleFault}
+use Rattle.ca_macro.specs.Pattern.{AreInRange}
+use Rattle.ca_claims.specs.declared.pattern.Loaded.{Loaded}
+use Rattle.ca_claims.specs.declared.target.Target.{Target}
+use Rattle.ca_claims.specs.declared.target.Target.TheVariants.{Rle, Mc}
+use Rattle.ca_claims.specs.declared.verifier.ruled.Ruled.{Ruled}
+use Rattle.ca_claims.specs.Means.{bytes_at, format_of, IsReadableAs, IsReadable, MayWantMemoryAs, MayWantMemory}
+use Rattle.ca_claims.specs.Answers.{IsRead, IsRuled, HasLargeState, HasSmallStates, Reads, HasRule, IsSmall, IsGood}
+use Rattle.ca_claims.specs.Loaded.{IsLoaded}
+use Rattle.ca_claims.specs.inner.Patterns.{IsReadFrom, HasName, rule_of, IsRuledAs, ShowsLarge, ShowsSmall, IsShownBy}
+use Rattle.ca_claims.proofs.Shown.{small_shown, large_shown, few_shown, many_shown}
+
+-- ---- files that read
+
+-- memory may be wanted for them
+wanted_as : (format : Target) (bytes : List ℕ) → IsReadableAs format bytes → MayWantMemoryAs format bytes
+wanted_as Rle bytes reads = reads
+wanted_as Mc bytes reads = inr reads
+
+pub wanted : (bytes : List ℕ) → IsReadable bytes → MayWantMemory bytes
+wanted bytes reads = wanted_as (format_of bytes) bytes reads
+
+-- ---- patterns of a store that grows
+
+module _ (old new : List Node) (grows : Grows old new) (sound : IsSound old) where
+  -- a tree of the least level stays one
+  trimmed_stays : (tree : _) → trees.IsTree old tree → IsTrimmed old tree → IsTrimmed new tree
+  trimmed_stays tree is trimmed = λ level low high holds.
+      trimmed level low high (λ x y live. holds x y (λ e. live (sym (trees_stay old new sound grows tree is x y) ∙ e)))
+
+  -- a pattern that was read stays one
+  pub read_stays : (bytes : List ℕ) (pattern : Loaded) → IsReadFrom old bytes pattern → IsReadFrom new bytes pattern
+  read_stays bytes pattern read =
+      let loaded = read.loaded in
+      let stays = trees_stay old new sound grows pattern.tree loaded.tree in
+      record {
+        cells = read.cells;
+        loaded = record {
+          kind = loaded.kind;
+          tree = of_stays old new sound grows pattern.tree.root pattern.tree.level loaded.tree;
+          trimmed = trimmed_stays pattern.tree loaded.tree loaded.trimmed;
+          shows = λ x y. stays x y ∙ loaded.shows x y;
+          readable = loaded.readable;
+          means = loaded.means;
+        };
+        range = λ x y live. read.range x y (λ e. live (stays x y ∙ e));
+      }
+
+-- ---- a pattern that was read
+
+module _ (nodes : List Node) (files : List (List ℕ × List ℕ)) (path : List ℕ) where
+  -- the pattern is that of the file with this path
+  pub record IsReadAt (pattern : Loaded) : Type 0 where
+    pub bytes : List ℕ
+    pub at_path : bytes_at files path ≡ Some bytes
+    pub read : IsReadFrom nodes bytes pattern
+
+  module _ (pattern : Loaded) (at : IsReadAt pattern) where
+    pub path_reads : Reads files path
+    path_reads = (at.bytes, at.at_path, at.read.loaded.readable)
+
+    path_is_read : IsRead files path at.read.cells pattern.rule_text.items
+    path_is_read = record {
+      bytes = at.bytes;
+      generation = pattern.generation;
+      at_path = at.at_path;
+      readable = at.read.loaded.readable;
+      means = at.read.loaded.means;
+    }
+
+    pub path_has_fault : (tables : List TableRule) (fault : RuleFault) → IsRuleFault pattern.rule_text.items tables fault
+        → (cells : Picture) × (text : List ℕ) × IsRead files path cells text × IsRuleFault text tables fault
+    path_has_fault tables fault wrong = (at.read.cells, pattern.rule_text.items, path_is_read, wrong)
+
+    pub path_is_ruled : (tables : List TableRule) (rule : RuleValue) → NamesRule pattern.rule_text.items tables rule → IsRuled files tables path at.read.cells rule
+    path_is_ruled tables rule names = (pattern.rule_text.items, path_is_read, names)
+
+    pub path_has_rule : (tables : List TableRule) → HasName tables pattern → HasRule files tables path
+    path_has_rule tables named = (at.read.cells, named.0, path_is_ruled tables named.0 named.1)
+
+  -- ---- a pattern whose rule text names a rule
+
+  module _ (tables : List TableRule) where
+    -- the pattern is that of the file with this path, and the rule that of its rule text
+    pub record IsRuledAt (ruled : Ruled) : Type 0 where
+      pub read_at : IsReadAt ruled.pattern
+      pub named : NamesRule ruled.pattern.rule_text.items tables (rule_of ruled)
+
+    pub ruled_at : (pattern : Loaded) (ruled : Ruled) → IsReadAt pattern → IsRuledAs tables pattern ruled → IsRuledAt ruled
+    ruled_at pattern ruled at kept = record {
+      read_at = subst IsReadAt (sym kept.0) at;
+      named = subst (λ p. NamesRule p.rule_text.items tables (rule_of ruled)) (sym kept.0) kept.1;
+    }
+
+    module _ (ruled : Ruled) (at : IsRuledAt ruled) where
+      -- the picture of its file
+      abbrev pub ruled_picture : Picture
+      ruled_picture = at.read_at.read.cells
+
+      -- which the tree shows
+      tree_shows : (x y : ℤ) → trees.cell nodes ruled.pattern.tree x y ≡ cell ruled_picture x y
+      tree_shows = at.read_at.read.loaded.shows
+
+      pub ruled_reads : IsRuled files tables path ruled_picture (rule_of ruled)
+      ruled_reads = path_is_ruled ruled.pattern at.read_at tables (rule_of ruled) at.named
+
+      pub ruled_has_rule : HasRule files tables path
+      ruled_has_rule = (ruled_picture, rule_of ruled, ruled_reads)
+
+      pub ruled_is_large : ShowsLarge nodes ruled → (cells : Picture) × (rule : RuleValue) × IsRuled files tables path cells rule × HasLargeState rule (cell cells)
+      ruled_is_large large =
+          (ruled_picture, rule_of ruled, ruled_reads, large_shown (trees.cell nodes ruled.pattern.tree) (cell ruled_picture) tree_shows (rule_of ruled) large)
+
+      ruled_small : ShowsSmall nodes ruled → HasSmallStates (rule_of ruled) (cell ruled_picture)
+      ruled_small = small_shown (trees.cell nodes ruled.pattern.tree) (cell ruled_picture) tree_shows (rule_of ruled)
+
+      pub ruled_is_good : ShowsSmall nodes ruled → IsGood files tables path ruled_picture (rule_of ruled)
+      ruled_is_good small = record { ruled = ruled_reads; small = ruled_small small }
+
+      pub ruled_is_small : ShowsSmall nodes ruled → IsSmall files tables path
+      ruled_is_small small = (ruled_picture, rule_of ruled, ruled_reads, ruled_small small)
+
+      pub ruled_is_many : HasTooManyCells (trees.cell nodes ruled.pattern.tree) → HasTooManyCells (cell ruled_picture)
+      ruled_is_many = many_shown (trees.cell nodes ruled.pattern.tree) (cell ruled_picture) tree_shows
+
+      -- ---- its plane
+      module _ (plane : Picture) (shown : IsShownBy nodes ruled plane) where
+        pub plane_is_few : HasFewCells (cell ruled_picture)
+        plane_is_few = few_shown (trees.cell nodes ruled.pattern.tree) (cell ruled_picture) tree_shows shown.few
+
+        pub plane_shows : (x y : ℤ) → cell plane x y ≡ cell ruled_picture x y
+        plane_shows x y = shown.shows x y ∙ tree_shows x y
+
+-- each listed state of a plane is small where the tree's are
+pub listed_small : (nodes : List Node) (ruled : Ruled) (plane : Picture) → IsShownBy nodes ruled plane → ShowsSmall nodes ruled → All (λ e. e.1 < states_of (rule_of ruled)) plane
+listed_small nodes ruled plane shown small = λ k d l.
+    let at : Point = (get_or plane k d).0 in
+    subst (λ s. s < states_of (rule_of ruled)) (sym (shown.shows at.x at.y) ∙ cell-listed plane shown.sparse k d l) (small at.x at.y)
+
+-- and each listed cell is in range
+pub listed_in_range : (nodes : List Node) (ruled : Ruled) (plane : Picture) → IsShownBy nodes ruled plane → AreInRange (trees.cell nodes ruled.pattern.tree) → All (λ e. IsInRange e.0) plane
+listed_in_range nodes ruled plane shown range = λ k d l.
+    let at : Point = (get_or plane k d).0 in
+    let low : 1 ≤ (get_or plane k d).1 = (shown.sparse.states k d l).0 in
+    range at.x at.y (λ e. let none : (get_or plane k d).1 ≡ 0 = sym (cell-listed plane shown.sparse k d l) ∙ shown.shows at.x at.y ∙ e in omega arith)

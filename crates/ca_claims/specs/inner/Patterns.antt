@@ -1,0 +1,110 @@
+-- A pattern that was read for a claim, and why one isn't.
+use Rattle.std.specs.Prelude.{◌≡◌, ℕ, List, [], ◌∷◌, ◌⊎◌}
+use Rattle.std.specs.List.{AllByRecursion}
+use Rattle.ca_claims.specs.declared.verifier.one_or_two.OneOrTwo.{OneOrTwo}
+use Rattle.ca_claims.specs.declared.verifier.one_or_two.OneOrTwo.TheVariants.{One, Two}
+use Rattle.ca_claims.specs.declared.verifier.ruled.Ruled.{Ruled}
+use Rattle.ca_plane.specs.Plane.{Picture}
+use Rattle.ca_plane.specs.Population.{HasTooManyCells}
+use Rattle.ca_quad.specs.declared.node.Node.{Node}
+use Rattle.ca_quad.specs.Trees.{cell}
+use Rattle.ca_rule.specs.TableNext.{TableRule}
+use Rattle.ca_rule.specs.Rule.{RuleValue, rule_value, IsSameRule, NamesRule}
+use Rattle.ca_macro.specs.Pattern.{AreInRange}
+use Rattle.ca_claims.specs.declared.pattern.Loaded.{Loaded}
+use Rattle.ca_claims.specs.declared.verdict.Cause.{Cause}
+use Rattle.ca_claims.specs.declared.verdict.Cause.TheVariants.{NoFile, BadTable, BadPattern, BadRule, StateTooLarge, MixedRules, TooManyCells, Memory}
+use Rattle.ca_claims.specs.Means.{MayWantMemory}
+use Rattle.ca_claims.specs.Answers.{IsPatternFault, HasLargeState, HasSmallStates, SomeOf}
+use Rattle.ca_claims.specs.Loaded.{IsLoaded}
+use Rattle.ca_claims.specs.inner.Cells.{IsPlaneOf}
+
+-- one or two, as a list
+abbrev pub items : {T : Type 0} → OneOrTwo T → List T
+items (One only) = only ∷ []
+items (Two first second) = first ∷ second ∷ []
+
+-- a list has the elements of another, each once, which are one or two
+abbrev pub IsEachOnce : {X : Type 0} → List X → List X → Type 0
+IsEachOnce {X} each all = (all ≡ each) ⊎ ((x : X) × (each ≡ x ∷ []) × (all ≡ x ∷ x ∷ []))
+
+-- the bytes are a file that reads, and this is its pattern in the store of these nodes, whose live cells are in range
+pub record IsReadFrom (nodes : List Node) (bytes : List ℕ) (pattern : Loaded) : Type 0 where
+  pub cells : Picture
+  pub loaded : IsLoaded nodes bytes cells pattern
+  pub range : AreInRange (cell nodes pattern.tree)
+
+-- why the bytes aren't read: their fault, or want of memory where it may be wanted
+abbrev pub IsUnread : List ℕ → Cause → Type 0
+IsUnread bytes NoFile = ⊥
+IsUnread bytes (BadTable fault) = ⊥
+IsUnread bytes (BadPattern fault) = IsPatternFault bytes fault
+IsUnread bytes (BadRule fault) = ⊥
+IsUnread bytes StateTooLarge = ⊥
+IsUnread bytes MixedRules = ⊥
+IsUnread bytes TooManyCells = ⊥
+IsUnread bytes Memory = MayWantMemory bytes
+
+-- the pattern's rule text names a rule among the tables
+abbrev pub HasName : List TableRule → Loaded → Type 0
+HasName tables pattern = (rule : RuleValue) × NamesRule pattern.rule_text.items tables rule
+
+-- the rule of a pattern
+abbrev pub rule_of : Ruled → RuleValue
+rule_of ruled = rule_value ruled.rule
+
+-- the pattern with a rule that its rule text names
+abbrev pub IsRuledAs : List TableRule → Loaded → Ruled → Type 0
+IsRuledAs tables pattern ruled = (ruled.pattern ≡ pattern) × NamesRule pattern.rule_text.items tables (rule_of ruled)
+
+-- the rule is that of the one pattern, or of the first of two, and the second's is the same
+abbrev pub AreOfOneRule : List Ruled → RuleValue → Type 0
+AreOfOneRule [] rule = ⊥
+AreOfOneRule (a ∷ []) rule = rule ≡ rule_of a
+AreOfOneRule (a ∷ b ∷ patterns) rule = (rule ≡ rule_of a) × IsSameRule (rule_of a) (rule_of b)
+
+-- the second of two patterns hasn't the same rule as the first
+abbrev pub AreMixed : List Ruled → Type 0
+AreMixed [] = ⊥
+AreMixed (a ∷ []) = ⊥
+AreMixed (a ∷ b ∷ patterns) = IsSameRule (rule_of a) (rule_of b) → ⊥
+
+-- some state of the pattern's cells is too large for its rule
+abbrev pub ShowsLarge : List Node → Ruled → Type 0
+ShowsLarge nodes ruled = HasLargeState (rule_of ruled) (cell nodes ruled.pattern.tree)
+
+-- none is
+abbrev pub ShowsSmall : List Node → Ruled → Type 0
+ShowsSmall nodes ruled = HasSmallStates (rule_of ruled) (cell nodes ruled.pattern.tree)
+
+-- why patterns have no one rule under which their states are small
+abbrev pub Disagree : List Node → List Ruled → Cause → Type 0
+Disagree nodes patterns NoFile = ⊥
+Disagree nodes patterns (BadTable fault) = ⊥
+Disagree nodes patterns (BadPattern fault) = ⊥
+Disagree nodes patterns (BadRule fault) = ⊥
+Disagree nodes patterns StateTooLarge = SomeOf (ShowsLarge nodes) patterns
+Disagree nodes patterns MixedRules = AllByRecursion (ShowsSmall nodes) patterns × AreMixed patterns
+Disagree nodes patterns TooManyCells = ⊥
+Disagree nodes patterns Memory = Unit {0}
+
+-- a plane shows the pattern's cells
+abbrev pub IsShownBy : List Node → Ruled → Picture → Type 0
+IsShownBy nodes ruled plane = IsPlaneOf nodes ruled.pattern.tree plane
+
+-- why a pattern isn't made a plane
+abbrev pub IsCrowded : List Node → Cause → Ruled → Type 0
+IsCrowded nodes NoFile ruled = ⊥
+IsCrowded nodes (BadTable fault) ruled = ⊥
+IsCrowded nodes (BadPattern fault) ruled = ⊥
+IsCrowded nodes (BadRule fault) ruled = ⊥
+IsCrowded nodes StateTooLarge ruled = ⊥
+IsCrowded nodes MixedRules ruled = ⊥
+IsCrowded nodes TooManyCells ruled = HasTooManyCells (cell nodes ruled.pattern.tree)
+IsCrowded nodes Memory ruled = Unit {0}
+
+-- the plane of the claim's pattern, and that of the other, which is the same where there is one
+abbrev pub AreBoth : List Picture → Picture → Picture → Type 0
+AreBoth [] cells other = ⊥
+AreBoth (p ∷ []) cells other = (cells ≡ p) × (other ≡ p)
+AreBoth (p ∷ q ∷ planes) cells other = (cells ≡ p) × (other ≡ q)

@@ -1,0 +1,43 @@
+//! What is judged of the cells of a tree.
+
+ghost use Rattle.std.specs.Prelude.{IsTrue, IsFalse, IfOk, MatchOption};
+ghost use Rattle.ca_quad.specs.Trees.{IsTree, cell};
+ghost use Rattle.ca_macro.specs.Pattern.{AreInRange};
+ghost use Rattle.ca_plane.specs.Population.{HasTooManyCells};
+ghost use Rattle.ca_rule.specs.Rule.{rule_value};
+ghost use Rattle.ca_claims.specs.Answers.{HasLargeState, HasSmallStates};
+ghost use Rattle.ca_claims.specs.inner.Cells.{IsPlaneOf};
+
+use ca_plane::{Automaton, Memory, Plane};
+use ca_quad::{QuadFault, Store, Tree};
+use ca_rule::Rule;
+use std::alloc::Global;
+
+/// Whether some cell of the tree has a state that the rule doesn't have.
+pub(crate) fn has_large_state(
+    alloc: Global,
+    store: &Store,
+    tree: Tree,
+    rule: &Rule<'_>,
+) -> Result<bool, Memory>
+    requires { IsTree store.now tree }
+    ensures large { IfOk result (λ large. IsTrue large → HasLargeState (rule_value rule.now) (cell store.now tree)) }
+    ensures small { IfOk result (λ large. IsFalse large → HasSmallStates (rule_value rule.now) (cell store.now tree)) }
+{
+    let greatest = store.greatest_state(alloc, tree)?;
+    Ok(u16::from(greatest) >= rule.states())
+}
+
+/// The plane with the cells of the tree. None where it has too many.
+pub(crate) fn plane_of(alloc: Global, store: &Store, tree: Tree) -> Result<Option<Plane>, Memory>
+    requires tree { IsTree store.now tree }
+    requires range { AreInRange (cell store.now tree) }
+    ensures { IfOk result (λ found. MatchOption found (HasTooManyCells (cell store.now tree)) (IsPlaneOf store.now tree)) }
+{
+    match store.to_plane(alloc, tree) {
+        Ok(cells) => Ok(Some(cells)),
+        Err(QuadFault::Memory) => Err(Memory),
+        Err(QuadFault::TooManyCells) => Ok(None),
+        Err(QuadFault::Range) => unreachable!(),
+    }
+}

@@ -1,0 +1,82 @@
+//! The patterns of a claim's files, and the rules of their texts.
+
+ghost use Rattle.std.specs.Prelude.{IfOk, IfErr, MatchResult};
+ghost use Rattle.std.specs.List.{AllZip};
+ghost use Rattle.ca_quad.specs.Sound.{Grows};
+ghost use Rattle.ca_rule.specs.Rule.{IsRuleFault};
+ghost use Rattle.ca_claims.specs.Means.{IsReadable};
+ghost use Rattle.ca_claims.specs.Answers.{FirstBad};
+ghost use Rattle.ca_claims.specs.inner.Patterns.{items, IsReadFrom, IsUnread, HasName, IsRuledAs};
+
+use super::one_or_two::OneOrTwo;
+use super::ruled::Ruled;
+use crate::pattern::Loaded;
+use crate::read::read_pattern;
+use crate::verdict::{Cause, PatternFault};
+use ca_quad::Store;
+use ca_rule::{RuleFault, Table, resolve};
+use std::alloc::Global;
+
+/// The patterns of files with these bytes, read into the store, or the first cause for which one of them isn't read.
+pub(crate) fn read_each(
+    alloc: Global,
+    store: &mut Store,
+    files: &OneOrTwo<&[u8]>,
+) -> Result<OneOrTwo<Loaded>, Cause>
+    ensures read { IfOk result (λ patterns. AllZip (λ b p. IsReadFrom store.new b.now p) (items files.now) (items patterns)) }
+    ensures unread { IfErr result (λ cause. FirstBad (λ b. IsReadable b.now) (λ b. IsUnread b.now cause) (items files.now)) }
+{
+    match *files {
+        OneOrTwo::One(only) => {
+            let only = read(alloc, store, only)?;
+            Ok(OneOrTwo::One(only))
+        }
+        OneOrTwo::Two(first, second) => {
+            let first = read(alloc, store, first)?;
+            let second = read(alloc, store, second)?;
+            Ok(OneOrTwo::Two(first, second))
+        }
+    }
+}
+
+/// The pattern of a file's bytes, or the cause for which they aren't read.
+fn read(alloc: Global, store: &mut Store, bytes: &[u8]) -> Result<Loaded, Cause>
+    ensures read { MatchResult result (IsReadFrom store.new bytes.now) (IsUnread bytes.now) }
+    ensures grows { Grows store.old store.new }
+{
+    match read_pattern(alloc, store, bytes) {
+        Ok(pattern) => Ok(pattern),
+        Err(PatternFault::Memory) => Err(Cause::Memory),
+        Err(fault) => Err(Cause::BadPattern(fault)),
+    }
+}
+
+/// The patterns with the rules that their rule texts name among the tables, or what is wrong with the first text that
+/// names none.
+pub(crate) fn with_rules<'t>(
+    patterns: OneOrTwo<Loaded>,
+    tables: &'t [Table],
+) -> Result<OneOrTwo<Ruled<'t>>, RuleFault>
+    ensures named { IfOk result (λ ruled. AllZip (IsRuledAs tables.now) (items patterns) (items ruled)) }
+    ensures unnamed { IfErr result (λ fault. FirstBad (HasName tables.now) (λ p. IsRuleFault p.rule_text.items tables.now fault) (items patterns)) }
+{
+    match patterns {
+        OneOrTwo::One(only) => {
+            let only = with_rule(only, tables)?;
+            Ok(OneOrTwo::One(only))
+        }
+        OneOrTwo::Two(first, second) => {
+            let first = with_rule(first, tables)?;
+            let second = with_rule(second, tables)?;
+            Ok(OneOrTwo::Two(first, second))
+        }
+    }
+}
+
+/// The pattern with the rule that its rule text names among the tables, or what is wrong with the text.
+fn with_rule<'t>(pattern: Loaded, tables: &'t [Table]) -> Result<Ruled<'t>, RuleFault>
+    ensures { MatchResult result (IsRuledAs tables.now pattern) (IsRuleFault pattern.rule_text.items tables.now) }
+{
+    let rule = resolve(&pattern.rule_text, tables)?;
+    Ok(Ruled { pattern, rule })
+}
