@@ -10,6 +10,8 @@ pub mod Shown
 pub mod PatternsRead
 pub mod Causes
 pub mod FilesRead
+pub mod Written
+pub mod Told
 pub mod FoundFiles
 pub mod Answered
 pub mod LinesSaid

@@ -21,7 +21,7 @@ use Rattle.ca_macro.specs.Pattern.{AreInRange}
 use Rattle.ca_claims.specs.declared.pattern.Loaded.{Loaded}
 use Rattle.ca_claims.specs.declared.target.Target.{Target}
 use Rattle.ca_claims.specs.declared.target.Target.TheVariants.{Rle, Mc}
-use Rattle.ca_claims.specs.declared.verifier.ruled.Ruled.{Ruled}
+use Rattle.ca_claims.specs.declared.ruled.Ruled.{Ruled}
 use Rattle.ca_claims.specs.Means.{bytes_at, format_of, IsReadableAs, IsReadable, MayWantMemoryAs, MayWantMemory}
 use Rattle.ca_claims.specs.Answers.{IsRead, IsRuled, HasLargeState, HasSmallStates, Reads, HasRule, IsSmall, IsGood}
 use Rattle.ca_claims.specs.Loaded.{IsLoaded}

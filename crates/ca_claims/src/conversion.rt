@@ -1,10 +1,23 @@
 //! Patterns that are written in another form.
 
-ghost use Rattle.std.specs.Prelude.{IfOk, IfErr};
+ghost use Rattle.std.specs.Prelude.{◌<◌, IfOk, IfErr};
+ghost use Rattle.ca_plane.specs.Limits.{generation_limit};
+ghost use Rattle.ca_quad.specs.Trees.{IsTree, cell};
+ghost use Rattle.ca_macro.specs.Pattern.{AreInRange};
+ghost use Rattle.ca_claims.specs.declared.target.Target.TheVariants.{Rle, Mc};
+ghost use Rattle.ca_claims.specs.Answers.{HasSmallStates};
 ghost use Rattle.ca_claims.specs.Converted.{IsConverted, IsConvertFault};
+ghost use Rattle.ca_claims.specs.inner.Patterns.{rule_of};
+ghost use Rattle.ca_claims.specs.inner.Ready.{IsWrittenAs, IsUnwritten};
 
+use crate::cells::plane_of;
+use crate::ruled::{Ruled, read_ruled};
 use crate::target::Target;
 use crate::verdict::PatternFault;
+use ca_macro::write_macro;
+use ca_plane::Automaton;
+use ca_quad::Store;
+use ca_rle::write_rle;
 use ca_rule::{RuleFault, Table};
 use std::alloc::Global;
 use thiserror::Error;
@@ -46,8 +59,58 @@ pub fn convert(
     ensures converted { IfOk result (λ text. IsConverted bytes.now tables.now target text.items) }
     ensures fault { IfErr result (IsConvertFault bytes.now tables.now target) }
 {
-    let _ = (alloc, target);
-    let _ = bytes;
-    let _ = tables;
-    Err(ConvertFault::Memory)
+    let mut store = Store::new(alloc);
+    let ruled = read_ruled(alloc, &mut store, bytes, tables)?;
+    match target {
+        Target::Rle => rle_of(alloc, &store, &ruled),
+        Target::Mc => macro_of(alloc, &mut store, &ruled),
+    }
+}
+
+/// The tidy RLE of a pattern, where it hasn't too many cells.
+fn rle_of(alloc: Global, store: &Store, ruled: &Ruled<'_>) -> Result<Vec<u8>, ConvertFault>
+    requires tree { IsTree store.now ruled.now.pattern.tree }
+    requires range { AreInRange (cell store.now ruled.now.pattern.tree) }
+    requires small { HasSmallStates (rule_of ruled.now) (cell store.now ruled.now.pattern.tree) }
+    requires generation { ruled.now.pattern.generation < generation_limit }
+    ensures written { IfOk result (λ text. IsWrittenAs Rle store.now ruled.now text.items) }
+    ensures fault { IfErr result (IsUnwritten Rle store.now ruled.now) }
+{
+    let cells = match plane_of(alloc, store, ruled.pattern.tree) {
+        Ok(Some(cells)) => cells,
+        Ok(None) => return Err(ConvertFault::TooManyCells),
+        Err(_) => return Err(ConvertFault::Memory),
+    };
+    let Ok(rule_text) = ruled.rule.text(alloc) else {
+        return Err(ConvertFault::Memory);
+    };
+    let generation = ruled.pattern.generation;
+    match write_rle(alloc, &cells, &rule_text, generation, ruled.rule.states()) {
+        Ok(text) => Ok(text),
+        Err(_) => Err(ConvertFault::Memory),
+    }
+}
+
+/// The tidy macrocell of a pattern.
+fn macro_of(
+    alloc: Global,
+    store: &mut Store,
+    ruled: &Ruled<'_>,
+) -> Result<Vec<u8>, ConvertFault>
+    requires tree { IsTree store.old ruled.now.pattern.tree }
+    requires range { AreInRange (cell store.old ruled.now.pattern.tree) }
+    requires small { HasSmallStates (rule_of ruled.now) (cell store.old ruled.now.pattern.tree) }
+    requires generation { ruled.now.pattern.generation < generation_limit }
+    ensures written { IfOk result (λ text. IsWrittenAs Mc store.old ruled.now text.items) }
+    ensures fault { IfErr result (IsUnwritten Mc store.old ruled.now) }
+{
+    let Ok(rule_text) = ruled.rule.text(alloc) else {
+        return Err(ConvertFault::Memory);
+    };
+    let tree = ruled.pattern.tree;
+    let generation = ruled.pattern.generation;
+    match write_macro(alloc, store, tree, &rule_text, generation, ruled.rule.states()) {
+        Ok(text) => Ok(text),
+        Err(_) => Err(ConvertFault::Memory),
+    }
 }

@@ -1,11 +1,22 @@
 //! What is told of a pattern file at a glance.
 
-ghost use Rattle.std.specs.Prelude.{IfOk, IfErr};
+ghost use Rattle.std.specs.Prelude.{◌≡◌, ℤ, ◌≤ℤ◌, pos, negsuc, IfOk, IfErr, MatchOption};
 ghost use Rattle.ca_plane.specs.Bytes.{IsWord};
+ghost use Rattle.ca_plane.specs.Plane.{Picture, IsLive};
+ghost use Rattle.ca_plane.specs.Plane as plane;
+ghost use Rattle.ca_plane.specs.Box.{IsLeastBox};
+ghost use Rattle.ca_plane.specs.Population.{HasPopulation};
+ghost use Rattle.ca_quad.specs.Trees.{IsTree, cell};
+ghost use Rattle.ca_quad.specs.Trimmed.{IsTrimmed};
+ghost use Rattle.ca_macro.specs.Pattern.{AreInRange};
 ghost use Rattle.ca_claims.specs.Converted.{IsSummary, IsSummaryFault};
+ghost use Rattle.ca_claims.specs.inner.Glance.{IsNear, IsTold};
 
 use crate::conversion::ConvertFault;
 use crate::pattern::Summary;
+use crate::ruled::{Ruled, read_ruled};
+use ca_plane::{Bounds, Memory};
+use ca_quad::{Store, Tree, WideBounds};
 use ca_rule::Table;
 use std::alloc::Global;
 
@@ -19,8 +30,59 @@ pub fn summary(alloc: Global, bytes: &[u8], tables: &[Table]) -> Result<Summary,
     ensures word { IfOk result (λ s. IsWord s.rule_text.items) }
     ensures fault { IfErr result (IsSummaryFault bytes.now tables.now) }
 {
-    let _ = alloc;
-    let _ = bytes;
-    let _ = tables;
-    Err(ConvertFault::Memory)
+    let mut store = Store::new(alloc);
+    let ruled = read_ruled(alloc, &mut store, bytes, tables)?;
+    match sum_up(alloc, &store, &ruled) {
+        Ok(summary) => Ok(summary),
+        Err(_) => Err(ConvertFault::Memory),
+    }
+}
+
+/// The summary of a pattern.
+fn sum_up(alloc: Global, store: &Store, ruled: &Ruled<'_>) -> Result<Summary, Memory>
+    requires tree { IsTree store.now ruled.now.pattern.tree }
+    requires trimmed { IsTrimmed store.now ruled.now.pattern.tree }
+    requires range { AreInRange (cell store.now ruled.now.pattern.tree) }
+    ensures told { IfOk result (IsTold store.now ruled.now) }
+    ensures word { IfOk result (λ s. IsWord s.rule_text.items) }
+{
+    let cells = store.population(alloc, ruled.pattern.tree)?;
+    let bounds = bounds_of(alloc, store, ruled.pattern.tree)?;
+    let rule_text = ruled.rule.text(alloc)?;
+    Ok(Summary {
+        kind: ruled.pattern.kind,
+        rule_text,
+        generation: ruled.pattern.generation,
+        cells,
+        bounds,
+    })
+}
+
+/// The least box round the live cells of a tree, where there are any.
+fn bounds_of(alloc: Global, store: &Store, tree: Tree) -> Result<Option<Bounds>, Memory>
+    requires tree { IsTree store.now tree }
+    requires range { AreInRange (cell store.now tree) }
+    ensures { (cells : Picture) → ((x y : ℤ) → cell store.now tree x y ≡ plane.cell cells x y)
+        → IfOk result (λ found. MatchOption found (IsLive cells → ⊥) (IsLeastBox cells)) }
+{
+    match store.bounds(alloc, tree)? {
+        Some(bounds) => Ok(Some(narrowed(bounds))),
+        None => Ok(None),
+    }
+}
+
+/// A box that lies near the middle of the plane.
+fn narrowed(bounds: WideBounds) -> Bounds
+    requires { IsNear bounds }
+    ensures x0 { result.x0 ≡ bounds.x0 }
+    ensures y0 { result.y0 ≡ bounds.y0 }
+    ensures x1 { result.x1 ≡ bounds.x1 }
+    ensures y1 { result.y1 ≡ bounds.y1 }
+{
+    Bounds {
+        x0: bounds.x0 as i64,
+        y0: bounds.y0 as i64,
+        x1: bounds.x1 as i64,
+        y1: bounds.y1 as i64,
+    }
 }

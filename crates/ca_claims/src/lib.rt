@@ -11,6 +11,7 @@ mod glance;
 mod laws;
 mod pattern;
 mod read;
+mod ruled;
 mod target;
 mod verdict;
 pub mod verdict_laws;

@@ -14,7 +14,6 @@ mod agreement;
 mod one_or_two;
 mod patterns;
 mod planes;
-mod ruled;
 mod tables;
 
 use crate::claims::{Claim, Claims};

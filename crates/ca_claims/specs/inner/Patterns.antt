@@ -3,7 +3,7 @@ use Rattle.std.specs.Prelude.{◌≡◌, ℕ, List, [], ◌∷◌, ◌⊎◌}
 use Rattle.std.specs.List.{AllByRecursion}
 use Rattle.ca_claims.specs.declared.verifier.one_or_two.OneOrTwo.{OneOrTwo}
 use Rattle.ca_claims.specs.declared.verifier.one_or_two.OneOrTwo.TheVariants.{One, Two}
-use Rattle.ca_claims.specs.declared.verifier.ruled.Ruled.{Ruled}
+use Rattle.ca_claims.specs.declared.ruled.Ruled.{Ruled}
 use Rattle.ca_plane.specs.Plane.{Picture}
 use Rattle.ca_plane.specs.Population.{HasTooManyCells}
 use Rattle.ca_quad.specs.declared.node.Node.{Node}

@@ -8,8 +8,8 @@ ghost use Rattle.ca_claims.specs.Answers.{SomeOf};
 ghost use Rattle.ca_claims.specs.inner.Patterns.{items, ShowsLarge, ShowsSmall, AreOfOneRule, AreMixed, Disagree};
 
 use super::one_or_two::OneOrTwo;
-use super::ruled::Ruled;
 use crate::cells::has_large_state;
+use crate::ruled::Ruled;
 use crate::verdict::Cause;
 use ca_plane::Memory;
 use ca_quad::Store;

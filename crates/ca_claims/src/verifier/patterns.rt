@@ -9,12 +9,12 @@ ghost use Rattle.ca_claims.specs.Answers.{FirstBad};
 ghost use Rattle.ca_claims.specs.inner.Patterns.{items, IsReadFrom, IsUnread, HasName, IsRuledAs};
 
 use super::one_or_two::OneOrTwo;
-use super::ruled::Ruled;
 use crate::pattern::Loaded;
 use crate::read::read_pattern;
+use crate::ruled::{Ruled, with_rule};
 use crate::verdict::{Cause, PatternFault};
 use ca_quad::Store;
-use ca_rule::{RuleFault, Table, resolve};
+use ca_rule::{RuleFault, Table};
 use std::alloc::Global;
 
 /// The patterns of files with these bytes, read into the store, or the first cause for which one of them isn't read.
@@ -71,12 +71,4 @@ pub(crate) fn with_rules<'t>(
             Ok(OneOrTwo::Two(first, second))
         }
     }
-}
-
-/// The pattern with the rule that its rule text names among the tables, or what is wrong with the text.
-fn with_rule<'t>(pattern: Loaded, tables: &'t [Table]) -> Result<Ruled<'t>, RuleFault>
-    ensures { MatchResult result (IsRuledAs tables.now pattern) (IsRuleFault pattern.rule_text.items tables.now) }
-{
-    let rule = resolve(&pattern.rule_text, tables)?;
-    Ok(Ruled { pattern, rule })
 }

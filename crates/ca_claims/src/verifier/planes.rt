@@ -8,8 +8,8 @@ ghost use Rattle.ca_claims.specs.Answers.{SomeOf};
 ghost use Rattle.ca_claims.specs.inner.Patterns.{items, IsShownBy, IsCrowded, AreBoth};
 
 use super::one_or_two::OneOrTwo;
-use super::ruled::Ruled;
 use crate::cells::plane_of;
+use crate::ruled::Ruled;
 use crate::verdict::Cause;
 use ca_plane::Plane;
 use ca_quad::Store;

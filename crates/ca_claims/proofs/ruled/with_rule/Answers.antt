@@ -3,7 +3,7 @@ use Rattle.std.specs.Result.{MatchResult}
 use Rattle.std.proofs.lemmas.Result.{err_from_is_err_and}
 use Rattle.ca_rule.specs.Rule.{IsRuleFault}
 use Rattle.ca_claims.specs.inner.Patterns.{IsRuledAs}
-use Rattle.ca_claims.proofs.verifier.patterns.with_rule.Goals as goal
+use Rattle.ca_claims.proofs.ruled.with_rule.Goals as goal
 
 pub returns-in_err-rule : goal.returns-in_err-rule
 returns-in_err-rule c =
