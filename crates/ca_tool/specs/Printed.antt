@@ -1,13 +1,16 @@
 -- The bytes that are printed for an answer and for a fault (our own; docs/CLAIMS.md).
-use Rattle.std.specs.Prelude.{ℕ, ℤ, List, [], ◌∷◌, ◌++◌, Bool, true, false, codes, decimal, if◌then◌else◌}
+use Rattle.std.specs.Prelude.{ℕ, ℤ, pos, ◌+ℤ◌, ◌-ℤ◌, List, [], ◌∷◌, ◌++◌, Bool, true, false, Option, None, Some, codes, decimal, if◌then◌else◌}
 use Rattle.std.specs.Fmt.{signed_decimal}
 use Rattle.std.specs.List.{flat_map, list_any}
+use Rattle.ca_plane.specs.declared.point.Bounds.{Bounds}
 use Rattle.ca_rule.specs.declared.fault.RuleFault.{RuleFault}
 use Rattle.ca_rule.specs.declared.fault.RuleFault.TheVariants as rules
 use Rattle.ca_rule.specs.declared.table.fault.TableFault.{TableFault}
 use Rattle.ca_rule.specs.declared.table.fault.TableFault.TheVariants as tables
 use Rattle.ca_rle.specs.declared.fault.RleFault.{RleFault}
 use Rattle.ca_rle.specs.declared.fault.RleFault.TheVariants as rle
+use Rattle.ca_macro.specs.declared.fault.MacroFault.{MacroFault}
+use Rattle.ca_macro.specs.declared.fault.MacroFault.TheVariants as macrocell
 use Rattle.ca_claims.specs.declared.fault.ClaimFault.{ClaimFault}
 use Rattle.ca_claims.specs.declared.fault.ClaimFault.TheVariants as claims
 use Rattle.ca_claims.specs.declared.verdict.Answer.{Answer}
@@ -19,6 +22,11 @@ use Rattle.ca_claims.specs.declared.verdict.PatternFault.{PatternFault}
 use Rattle.ca_claims.specs.declared.verdict.PatternFault.TheVariants as patterns
 use Rattle.ca_claims.specs.declared.verdict.Cause.{Cause}
 use Rattle.ca_claims.specs.declared.verdict.Cause.TheVariants as causes
+use Rattle.ca_claims.specs.declared.target.Target.{Target}
+use Rattle.ca_claims.specs.declared.target.Target.TheVariants.{Rle, Mc}
+use Rattle.ca_claims.specs.declared.conversion.ConvertFault.{ConvertFault}
+use Rattle.ca_claims.specs.declared.conversion.ConvertFault.TheVariants as converts
+use Rattle.ca_claims.specs.declared.pattern.Summary.{Summary}
 use Rattle.ca_tool.specs.declared.fault.Fault.{Fault}
 use Rattle.ca_tool.specs.declared.fault.Fault.TheVariants as faults
 use Rattle.ca_tool.specs.declared.fault.InputFault.{InputFault}
@@ -42,18 +50,26 @@ rule_fault_text rules.Bounded = codes "bounded"
 rule_fault_text rules.Wakes = codes "wakes"
 rule_fault_text rules.Unknown = codes "unknown"
 
--- why a rule line's file is no good table; its faulty line isn't told, and want of memory is told alone
+-- what is wrong with a rule table, behind some words on its faulty line; want of memory is told alone
+abbrev pub table_text : (ℕ → List ℕ) → TableFault → List ℕ
+table_text words (tables.NoRuleLine line) = words line ++ codes " no rule line"
+table_text words (tables.NoTable line) = words line ++ codes " no table"
+table_text words (tables.Syntax line) = words line ++ codes " syntax"
+table_text words (tables.States line) = words line ++ codes " states"
+table_text words (tables.Neighborhood line) = words line ++ codes " neighborhood"
+table_text words (tables.Symmetries line) = words line ++ codes " symmetries"
+table_text words (tables.Variable line) = words line ++ codes " variable"
+table_text words (tables.Unbound line) = words line ++ codes " unbound"
+table_text words (tables.Wakes line) = words line ++ codes " wakes"
+table_text words tables.Memory = codes "memory"
+
+-- why a rule line's file is no good table; its faulty line isn't told
 abbrev pub table_fault_text : TableFault → List ℕ
-table_fault_text (tables.NoRuleLine line) = codes "bad table: no rule line"
-table_fault_text (tables.NoTable line) = codes "bad table: no table"
-table_fault_text (tables.Syntax line) = codes "bad table: syntax"
-table_fault_text (tables.States line) = codes "bad table: states"
-table_fault_text (tables.Neighborhood line) = codes "bad table: neighborhood"
-table_fault_text (tables.Symmetries line) = codes "bad table: symmetries"
-table_fault_text (tables.Variable line) = codes "bad table: variable"
-table_fault_text (tables.Unbound line) = codes "bad table: unbound"
-table_fault_text (tables.Wakes line) = codes "bad table: wakes"
-table_fault_text tables.Memory = codes "memory"
+table_fault_text fault = table_text (λ line. codes "bad table:") fault
+
+-- why the `--rule` file is no good table
+abbrev pub rule_file_text : TableFault → List ℕ
+rule_file_text fault = table_text (λ line. codes "bad table: line " ++ decimal line) fault
 
 -- why a pattern's file wasn't read
 abbrev pub rle_fault_text : RleFault → List ℕ
@@ -67,9 +83,21 @@ rle_fault_text rle.TooManyCells = codes "bad pattern: rle too many cells"
 rle_fault_text rle.GenTooLarge = codes "bad pattern: rle gen too large"
 rle_fault_text rle.Memory = codes "memory"
 
+abbrev pub macro_fault_text : MacroFault → List ℕ
+macro_fault_text macrocell.NotMacro = codes "bad pattern: macrocell not macro"
+macro_fault_text macrocell.Timeline = codes "bad pattern: macrocell timeline"
+macro_fault_text macrocell.Syntax = codes "bad pattern: macrocell syntax"
+macro_fault_text macrocell.Forward = codes "bad pattern: macrocell forward"
+macro_fault_text macrocell.Level = codes "bad pattern: macrocell level"
+macro_fault_text macrocell.LeafSize = codes "bad pattern: macrocell leaf size"
+macro_fault_text macrocell.Range = codes "bad pattern: macrocell range"
+macro_fault_text macrocell.GenTooLarge = codes "bad pattern: macrocell gen too large"
+macro_fault_text macrocell.Memory = codes "memory"
+
 -- want of memory inside another fault is told alone
 abbrev pub pattern_fault_text : PatternFault → List ℕ
 pattern_fault_text (patterns.Rle fault) = rle_fault_text fault
+pattern_fault_text (patterns.Macro fault) = macro_fault_text fault
 pattern_fault_text patterns.Memory = codes "memory"
 
 -- why a claim isn't judged
@@ -80,6 +108,7 @@ cause_text (causes.BadPattern fault) = pattern_fault_text fault
 cause_text (causes.BadRule fault) = codes "bad rule: " ++ rule_fault_text fault
 cause_text causes.StateTooLarge = codes "state too large"
 cause_text causes.MixedRules = codes "mixed rules"
+cause_text causes.TooManyCells = codes "too many cells"
 cause_text causes.Memory = codes "memory"
 
 -- what is said of a claim
@@ -126,17 +155,61 @@ input_fault_text inputs.Read path = codes "cannot read " ++ path
 input_fault_text inputs.TooLong path = codes "too long " ++ path
 input_fault_text inputs.Memory path = codes "memory"
 
--- a run that failed
-abbrev pub tool_fault_text : ToolFault → List ℕ
-tool_fault_text tools.Write = codes "write"
-tool_fault_text tools.Memory = codes "memory"
+-- why a pattern isn't shown or converted
+abbrev pub convert_fault_text : ConvertFault → List ℕ
+convert_fault_text (converts.BadPattern fault) = pattern_fault_text fault
+convert_fault_text (converts.BadRule fault) = codes "bad rule: " ++ rule_fault_text fault
+convert_fault_text converts.StateTooLarge = codes "state too large"
+convert_fault_text converts.TooManyCells = codes "too many cells"
+convert_fault_text converts.Memory = codes "memory"
+
+-- a run that failed, over the file of this path
+abbrev pub tool_fault_text : ToolFault → List ℕ → List ℕ
+tool_fault_text (tools.Input fault) path = input_fault_text fault path
+tool_fault_text (tools.BadTable fault) path = rule_file_text fault
+tool_fault_text (tools.Convert fault) path = convert_fault_text fault
+tool_fault_text tools.Write path = codes "write"
+tool_fault_text tools.Memory path = codes "memory"
 
 -- a fault of the program, path being the file that was read
 abbrev pub fault_text : Fault → List ℕ → List ℕ
 fault_text (faults.Input fault) path = input_fault_text fault path
 fault_text (faults.Claims fault) path = claim_fault_text fault
-fault_text (faults.Tool fault) path = tool_fault_text fault
+fault_text (faults.Tool fault) path = tool_fault_text fault path
 
 -- the line that tells a fault
 abbrev pub complaint : Fault → List ℕ → List ℕ
 complaint fault path = codes "cafile: " ++ (fault_text fault path ++ 10 ∷ [])
+
+-- the name of a format
+abbrev pub format_name : Target → List ℕ
+format_name Rle = codes "rle"
+format_name Mc = codes "macrocell"
+
+-- two numbers
+abbrev pub pair_text : ℤ → ℤ → List ℕ
+pair_text a b = signed_decimal a ++ (codes " " ++ signed_decimal b)
+
+-- how long the side of a box is that goes from one coordinate to another, both of them in it
+abbrev pub side : ℤ → ℤ → ℤ
+side first last = last -ℤ first +ℤ pos 1
+
+-- a box: its upper left corner, its width and its height
+abbrev pub bounds_text : Bounds → List ℕ
+bounds_text box = pair_text box.x0 box.y0 ++ (codes " " ++ pair_text (side box.x0 box.x1) (side box.y0 box.y1))
+
+-- the box round live cells, where there are any
+abbrev pub box_text : Option Bounds → List ℕ
+box_text None = codes "none"
+box_text (Some box) = bounds_text box
+
+-- a line of a word and what stands behind it
+abbrev pub word_line : List ℕ → List ℕ → List ℕ
+word_line word text = word ++ (32 ∷ (text ++ 10 ∷ []))
+
+-- what is shown of a pattern, in five lines
+abbrev pub summary_text : Summary → List ℕ
+summary_text summary =
+    word_line (codes "format") (format_name summary.kind) ++ (word_line (codes "rule") summary.rule_text.items
+    ++ (word_line (codes "gen") (decimal summary.generation) ++ (word_line (codes "cells") (decimal summary.cells)
+    ++ word_line (codes "box") (box_text summary.bounds))))

@@ -1,10 +1,22 @@
 -- What a run reads and writes.
-use Rattle.std.specs.Prelude.{ℕ, ◌<◌, ◌≤◌, ◌^◌, List, length, Option}
+use Rattle.std.specs.Prelude.{◌≡◌, ◌≢◌, ℕ, ◌<◌, ◌≤◌, ◌^◌, List, [], ◌∷◌, length, Option, None, Some, ◌⊎◌}
 use Rattle.std.specs.Io.KnownBytes.{Consumes, IsAtEnd}
 use Rattle.ca_claims.specs.Text.{Claim}
-use Rattle.ca_claims.specs.Answers.{AreTrueAnswers}
+use Rattle.ca_rule.specs.TableNext.{TableRule}
+use Rattle.ca_rule.specs.TableFaults as table_faults
+use Rattle.ca_rule.specs.declared.table.fault.TableFault.{TableFault}
+use Rattle.ca_rule.specs.declared.table.fault.TableFault.TheVariants as table_fault
+use Rattle.ca_claims.specs.Answers.{AreTrueAnswers, IsQuietTable}
+use Rattle.ca_claims.specs.Converted.{IsSummary}
 use Rattle.ca_claims.specs.declared.verdict.Answer.{Answer}
-use Rattle.ca_tool.specs.Printed.{lines_of, status_of}
+use Rattle.ca_claims.specs.declared.pattern.Summary.{Summary}
+use Rattle.ca_claims.specs.declared.conversion.ConvertFault.{ConvertFault}
+use Rattle.ca_claims.specs.declared.conversion.ConvertFault.TheVariants as convert_fault
+use Rattle.ca_tool.specs.declared.fault.InputFault.{InputFault}
+use Rattle.ca_tool.specs.declared.fault.InputFault.TheVariants as inputs
+use Rattle.ca_tool.specs.declared.fault.ToolFault.{ToolFault}
+use Rattle.ca_tool.specs.declared.fault.ToolFault.TheVariants.{Input, BadTable, Convert, Write, Memory}
+use Rattle.ca_tool.specs.Printed.{lines_of, status_of, summary_text}
 
 -- the greatest length of a file: 67108864 bytes
 abbrev pub max_file : ℕ
@@ -28,3 +40,46 @@ TakesAtMost most old new = (bytes : List ℕ) × (length bytes ≤ most) × Cons
 abbrev pub Answered : List (List ℕ × List ℕ) → List (List ℕ) → List (ℕ × Claim) → (List ℕ → Type 0) → (ℕ → Type 0) → Type 0
 Answered files rules claims Written Ends =
     (answers : List Answer) × AreTrueAnswers files rules claims answers × Written (lines_of answers) × Ends (status_of answers)
+
+-- what a file gave that isn't read; of a read that fails the device tells
+abbrev pub IsInputFault : Option (List ℕ) → Option (List ℕ) → InputFault → Type 0
+IsInputFault old new inputs.Read = Unit {0}
+IsInputFault old new inputs.TooLong = GivesTooMany old new
+IsInputFault old new inputs.Memory = TakesAtMost max_file old new
+
+-- the tables that a run knows: that of the rule file, or none without one
+abbrev pub AreKnown : Option (List ℕ) → List TableRule → Type 0
+AreKnown None tables = tables ≡ []
+AreKnown (Some rule) tables = (table : TableRule) × IsQuietTable rule table × (tables ≡ table ∷ [])
+
+-- the file was read whole, the rule file is a table, and this holds of the file's bytes and the tables
+abbrev pub IsOf : Option (List ℕ) → Option (List ℕ) → Option (List ℕ) → (List ℕ → List TableRule → Type 0) → Type 0
+IsOf old new rule Holds = (bytes : List ℕ) × (tables : List TableRule) × ReadsAll old new bytes × AreKnown rule tables × Holds bytes tables
+
+-- a text that is of the file was written, or a first part of it
+abbrev pub Wrote : (List ℕ → List TableRule → List ℕ → Type 0) → (List ℕ → Type 0) → List ℕ → List TableRule → Type 0
+Wrote IsText Written bytes tables = (text : List ℕ) × IsText bytes tables text × Written text
+
+-- the text is the five lines of a summary that is true of the bytes
+pub record IsShown (bytes : List ℕ) (tables : List TableRule) (text : List ℕ) : Type 0 where
+  pub summary : Summary
+  pub holds : IsSummary bytes tables summary
+  pub lines : text ≡ summary_text summary
+
+-- the file was read whole
+abbrev pub WasRead : Option (List ℕ) → Option (List ℕ) → Type 0
+WasRead old new = (bytes : List ℕ) × ReadsAll old new bytes
+
+-- what is wrong with the rule file, or that memory may be wanting for its table
+abbrev pub IsRuleFileFault : Option (List ℕ) → TableFault → Type 0
+IsRuleFileFault rule fault = (text : List ℕ) × (rule ≡ Some text) × table_faults.IsFaultOf text fault
+
+-- why a run wrote nothing, where IsFault says why bytes under some tables are refused: the file isn't read; or it is, and the rule file is no
+-- good table; or it is, and the pattern is refused; or memory is wanting, for the table or for the pattern
+abbrev pub IsRunFault : Option (List ℕ) → Option (List ℕ) → Option (List ℕ) → (List ℕ → List TableRule → ConvertFault → Type 0) → ToolFault → Type 0
+IsRunFault old new rule IsFault (Input fault) = IsInputFault old new fault
+IsRunFault old new rule IsFault (BadTable fault) = (fault ≢ table_fault.Memory) × WasRead old new × IsRuleFileFault rule fault
+IsRunFault old new rule IsFault (Convert fault) = (fault ≢ convert_fault.Memory) × IsOf old new rule (λ bytes tables. IsFault bytes tables fault)
+IsRunFault old new rule IsFault Write = ⊥
+IsRunFault old new rule IsFault Memory = (WasRead old new × IsRuleFileFault rule table_fault.Memory)
+    ⊎ IsOf old new rule (λ bytes tables. IsFault bytes tables convert_fault.Memory)

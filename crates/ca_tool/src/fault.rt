@@ -1,6 +1,7 @@
 //! Faults of the program.
 
-use ca_claims::ClaimFault;
+use ca_claims::{ClaimFault, ConvertFault};
+use ca_rule::TableFault;
 use thiserror::Error;
 
 /// Why a file was not read.
@@ -17,13 +18,23 @@ pub enum InputFault {
     Memory,
 }
 
-/// Why a run ended without its whole text being written.
+/// Why a run ended without its whole text being written: the first of these that holds, but that want of memory may come
+/// before any other. On all but `Write` nothing was written.
 #[derive(Clone, Copy, Debug, PartialEq, Eq, Error)]
 pub enum ToolFault {
+    /// The file was not read.
+    #[error("{0}")]
+    Input(InputFault),
+    /// The rule file holds no table, or one that wakes the empty plane. Its fault is never want of memory here.
+    #[error("rule table: {0}")]
+    BadTable(TableFault),
+    /// The pattern isn't shown or converted. Its fault is never want of memory here.
+    #[error("{0}")]
+    Convert(ConvertFault),
     /// A write failed or took no byte; a first part of the text was written.
     #[error("writing failed")]
     Write,
-    /// A growth was refused, and nothing was written.
+    /// A growth was refused.
     #[error("out of memory")]
     Memory,
 }

@@ -3,12 +3,16 @@
 
 mod complaint;
 mod fault;
+mod pattern_run;
 mod printing;
 mod read;
 mod run;
+mod shown;
+mod texts;
 
 pub use complaint::complain;
 pub use fault::{Fault, InputFault, ToolFault};
+pub use pattern_run::{convert_run, show_run};
 pub use printing::{lines, status};
 pub use read::{MAX_FILE, read_all};
 pub use run::verify_run;

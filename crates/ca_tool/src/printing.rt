@@ -1,15 +1,15 @@
 //! The lines that are printed for answers, and the exit status.
 
 ghost use Rattle.std.specs.Prelude.{◌≡◌, OnOk, IfOk};
-ghost use Rattle.ca_tool.specs.Printed.{return_text, why_text, cause_text, rule_fault_text, table_fault_text, rle_fault_text, pattern_fault_text, verdict_text, line_of, lines_of, status_of, is_refusal, is_no};
+ghost use Rattle.ca_tool.specs.Printed.{return_text, why_text, table_fault_text, cause_text, verdict_text, line_of, lines_of, status_of, is_refusal, is_no};
 ghost use Rattle.ca_plane.specs.Puts.{Puts};
 ghost use Rattle.std.specs.List.{list_any};
 
-use ca_claims::{Answer, Cause, PatternFault, Verdict, Why};
+use crate::texts::{pattern_fault_bytes, rule_fault_bytes, table_kind};
+use ca_claims::{Answer, Cause, Verdict, Why};
 use ca_plane::Memory;
 use ca_plane::text::{push_integer, push_number, push_text};
-use ca_rle::RleFault;
-use ca_rule::{RuleFault, TableFault};
+use ca_rule::TableFault;
 use std::alloc::Global;
 
 fn push_return(out: &mut Vec<u8>, generations: u64, dx: i64, dy: i64) -> Result<(), Memory>
@@ -36,56 +36,14 @@ fn push_why(out: &mut Vec<u8>, why: &Why) -> Result<(), Memory>
     }
 }
 
-fn rule_fault_bytes(fault: RuleFault) -> &'static [u8]
-    ensures { result.now ≡ rule_fault_text fault }
+fn push_table_fault(out: &mut Vec<u8>, fault: TableFault) -> Result<(), Memory>
+    ensures { OnOk result (Puts out.old.items out.new.items (table_fault_text fault)) }
 {
-    match fault {
-        RuleFault::Bounded => b"bounded",
-        RuleFault::Wakes => b"wakes",
-        RuleFault::Unknown => b"unknown",
+    if let TableFault::Memory = fault {
+        return push_text(out, b"memory");
     }
-}
-
-fn table_fault_bytes(fault: TableFault) -> &'static [u8]
-    ensures { result.now ≡ table_fault_text fault }
-{
-    match fault {
-        TableFault::NoRuleLine { .. } => b"bad table: no rule line",
-        TableFault::NoTable { .. } => b"bad table: no table",
-        TableFault::Syntax { .. } => b"bad table: syntax",
-        TableFault::States { .. } => b"bad table: states",
-        TableFault::Neighborhood { .. } => b"bad table: neighborhood",
-        TableFault::Symmetries { .. } => b"bad table: symmetries",
-        TableFault::Variable { .. } => b"bad table: variable",
-        TableFault::Unbound { .. } => b"bad table: unbound",
-        TableFault::Wakes { .. } => b"bad table: wakes",
-        TableFault::Memory => b"memory",
-    }
-}
-
-fn rle_fault_bytes(fault: RleFault) -> &'static [u8]
-    ensures { result.now ≡ rle_fault_text fault }
-{
-    match fault {
-        RleFault::Syntax => b"bad pattern: rle syntax",
-        RleFault::Header => b"bad pattern: rle header",
-        RleFault::XlifeRule => b"bad pattern: rle xlife rule",
-        RleFault::NoEnd => b"bad pattern: rle no end",
-        RleFault::BadState => b"bad pattern: rle bad state",
-        RleFault::Range => b"bad pattern: rle range",
-        RleFault::TooManyCells => b"bad pattern: rle too many cells",
-        RleFault::GenTooLarge => b"bad pattern: rle gen too large",
-        RleFault::Memory => b"memory",
-    }
-}
-
-fn pattern_fault_bytes(fault: PatternFault) -> &'static [u8]
-    ensures { result.now ≡ pattern_fault_text fault }
-{
-    match fault {
-        PatternFault::Rle(fault) => rle_fault_bytes(fault),
-        PatternFault::Memory => b"memory",
-    }
+    push_text(out, b"bad table:")?;
+    push_text(out, table_kind(fault))
 }
 
 fn push_cause(out: &mut Vec<u8>, cause: &Cause) -> Result<(), Memory>
@@ -93,7 +51,7 @@ fn push_cause(out: &mut Vec<u8>, cause: &Cause) -> Result<(), Memory>
 {
     match cause {
         Cause::NoFile => push_text(out, b"no file"),
-        Cause::BadTable(fault) => push_text(out, table_fault_bytes(*fault)),
+        Cause::BadTable(fault) => push_table_fault(out, *fault),
         Cause::BadPattern(fault) => push_text(out, pattern_fault_bytes(*fault)),
         Cause::BadRule(fault) => {
             push_text(out, b"bad rule: ")?;
@@ -101,6 +59,7 @@ fn push_cause(out: &mut Vec<u8>, cause: &Cause) -> Result<(), Memory>
         }
         Cause::StateTooLarge => push_text(out, b"state too large"),
         Cause::MixedRules => push_text(out, b"mixed rules"),
+        Cause::TooManyCells => push_text(out, b"too many cells"),
         Cause::Memory => push_text(out, b"memory"),
     }
 }

@@ -1,0 +1,24 @@
+-- What a run answers where a part of it failed.
+use Rattle.std.specs.Prelude.{◌≡◌, ◌≢◌}
+use Rattle.ca_rule.specs.declared.table.fault.TableFault.{TableFault}
+use Rattle.ca_rule.specs.declared.table.fault.TableFault.TheVariants as table_fault
+use Rattle.ca_claims.specs.declared.conversion.ConvertFault.{ConvertFault}
+use Rattle.ca_claims.specs.declared.conversion.ConvertFault.TheVariants as convert_fault
+use Rattle.ca_tool.specs.declared.fault.ToolFault.{ToolFault}
+use Rattle.ca_tool.specs.declared.fault.ToolFault.TheVariants.{Input, BadTable, Convert, Write, Memory}
+
+-- a table's fault, or want of memory alone
+abbrev pub TellsTable : TableFault → ToolFault → Type 0
+TellsTable fault (Input told) = ⊥
+TellsTable fault (BadTable told) = (fault ≢ table_fault.Memory) × (told ≡ fault)
+TellsTable fault (Convert told) = ⊥
+TellsTable fault Write = ⊥
+TellsTable fault Memory = fault ≡ table_fault.Memory
+
+-- a pattern's fault, or want of memory alone
+abbrev pub TellsConvert : ConvertFault → ToolFault → Type 0
+TellsConvert fault (Input told) = ⊥
+TellsConvert fault (BadTable told) = ⊥
+TellsConvert fault (Convert told) = (fault ≢ convert_fault.Memory) × (told ≡ fault)
+TellsConvert fault Write = ⊥
+TellsConvert fault Memory = fault ≡ convert_fault.Memory

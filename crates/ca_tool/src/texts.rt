@@ -1,0 +1,83 @@
+//! The texts of faults that stand in others.
+
+ghost use Rattle.std.specs.Prelude.{◌≡◌, ◌≢◌, ℕ, List, ◌++◌};
+ghost use Rattle.ca_rule.specs.declared.table.fault.TableFault.TheVariants as table_fault;
+ghost use Rattle.ca_tool.specs.Printed.{table_text, rule_fault_text, rle_fault_text, macro_fault_text, pattern_fault_text};
+ghost use Rattle.ca_tool.specs.inner.Complaint.{table_line};
+
+use ca_claims::PatternFault;
+use ca_macro::MacroFault;
+use ca_rle::RleFault;
+use ca_rule::{RuleFault, TableFault};
+
+/// Why a text names no rule.
+pub(crate) fn rule_fault_bytes<'a>(fault: RuleFault) -> &'a [u8]
+    ensures { result.now ≡ rule_fault_text fault }
+{
+    match fault {
+        RuleFault::Bounded => b"bounded",
+        RuleFault::Wakes => b"wakes",
+        RuleFault::Unknown => b"unknown",
+    }
+}
+
+/// What is wrong with a rule table, behind a space, where it isn't that memory is wanting.
+pub(crate) fn table_kind<'a>(fault: TableFault) -> &'a [u8]
+    ensures { (words : ℕ → List ℕ) → fault ≢ table_fault.Memory → table_text words fault ≡ words (table_line fault) ++ result.now }
+{
+    match fault {
+        TableFault::NoRuleLine { .. } => b" no rule line",
+        TableFault::NoTable { .. } => b" no table",
+        TableFault::Syntax { .. } => b" syntax",
+        TableFault::States { .. } => b" states",
+        TableFault::Neighborhood { .. } => b" neighborhood",
+        TableFault::Symmetries { .. } => b" symmetries",
+        TableFault::Variable { .. } => b" variable",
+        TableFault::Unbound { .. } => b" unbound",
+        TableFault::Wakes { .. } => b" wakes",
+        TableFault::Memory => b"",
+    }
+}
+
+/// Why a pattern wasn't read.
+pub(crate) fn pattern_fault_bytes<'a>(fault: PatternFault) -> &'a [u8]
+    ensures { result.now ≡ pattern_fault_text fault }
+{
+    match fault {
+        PatternFault::Rle(fault) => rle_fault_bytes(fault),
+        PatternFault::Macro(fault) => macro_fault_bytes(fault),
+        PatternFault::Memory => b"memory",
+    }
+}
+
+fn rle_fault_bytes(fault: RleFault) -> &'static [u8]
+    ensures { result.now ≡ rle_fault_text fault }
+{
+    match fault {
+        RleFault::Syntax => b"bad pattern: rle syntax",
+        RleFault::Header => b"bad pattern: rle header",
+        RleFault::XlifeRule => b"bad pattern: rle xlife rule",
+        RleFault::NoEnd => b"bad pattern: rle no end",
+        RleFault::BadState => b"bad pattern: rle bad state",
+        RleFault::Range => b"bad pattern: rle range",
+        RleFault::TooManyCells => b"bad pattern: rle too many cells",
+        RleFault::GenTooLarge => b"bad pattern: rle gen too large",
+        RleFault::Memory => b"memory",
+    }
+}
+
+fn macro_fault_bytes(fault: MacroFault) -> &'static [u8]
+    ensures { result.now ≡ macro_fault_text fault }
+{
+    match fault {
+        MacroFault::NotMacro => b"bad pattern: macrocell not macro",
+        MacroFault::Timeline => b"bad pattern: macrocell timeline",
+        MacroFault::Syntax => b"bad pattern: macrocell syntax",
+        MacroFault::Forward => b"bad pattern: macrocell forward",
+        MacroFault::Level => b"bad pattern: macrocell level",
+        MacroFault::LeafSize => b"bad pattern: macrocell leaf size",
+        MacroFault::Range => b"bad pattern: macrocell range",
+        MacroFault::GenTooLarge => b"bad pattern: macrocell gen too large",
+        MacroFault::Memory => b"memory",
+    }
+}
