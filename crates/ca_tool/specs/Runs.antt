@@ -53,8 +53,8 @@ AreKnown None tables = tables ≡ []
 AreKnown (Some rule) tables = (table : TableRule) × IsQuietTable rule table × (tables ≡ table ∷ [])
 
 -- the file was read whole, the rule file is a table, and this holds of the file's bytes and the tables
-abbrev pub IsOf : Option (List ℕ) → Option (List ℕ) → Option (List ℕ) → (List ℕ → List TableRule → Type 0) → Type 0
-IsOf old new rule Holds = (bytes : List ℕ) × (tables : List TableRule) × ReadsAll old new bytes × AreKnown rule tables × Holds bytes tables
+abbrev pub HoldsOfFile : Option (List ℕ) → Option (List ℕ) → Option (List ℕ) → (List ℕ → List TableRule → Type 0) → Type 0
+HoldsOfFile old new rule Holds = (bytes : List ℕ) × (tables : List TableRule) × ReadsAll old new bytes × AreKnown rule tables × Holds bytes tables
 
 -- a text that is of the file was written, or a first part of it
 abbrev pub Wrote : (List ℕ → List TableRule → List ℕ → Type 0) → (List ℕ → Type 0) → List ℕ → List TableRule → Type 0
@@ -79,7 +79,7 @@ IsRuleFileFault rule fault = (text : List ℕ) × (rule ≡ Some text) × table_
 abbrev pub IsRunFault : Option (List ℕ) → Option (List ℕ) → Option (List ℕ) → (List ℕ → List TableRule → ConvertFault → Type 0) → ToolFault → Type 0
 IsRunFault old new rule IsFault (Input fault) = IsInputFault old new fault
 IsRunFault old new rule IsFault (BadTable fault) = (fault ≢ table_fault.Memory) × WasRead old new × IsRuleFileFault rule fault
-IsRunFault old new rule IsFault (Convert fault) = (fault ≢ convert_fault.Memory) × IsOf old new rule (λ bytes tables. IsFault bytes tables fault)
+IsRunFault old new rule IsFault (Convert fault) = (fault ≢ convert_fault.Memory) × HoldsOfFile old new rule (λ bytes tables. IsFault bytes tables fault)
 IsRunFault old new rule IsFault Write = ⊥
 IsRunFault old new rule IsFault Memory = (WasRead old new × IsRuleFileFault rule table_fault.Memory)
-    ⊎ IsOf old new rule (λ bytes tables. IsFault bytes tables convert_fault.Memory)
+    ⊎ HoldsOfFile old new rule (λ bytes tables. IsFault bytes tables convert_fault.Memory)

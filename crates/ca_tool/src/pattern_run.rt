@@ -6,7 +6,7 @@ ghost use Rattle.std.specs.Io.KnownBytes.{Appends};
 ghost use Rattle.ca_plane.specs.Device.{Rises, AppendsPrefix};
 ghost use Rattle.ca_claims.specs.Converted.{IsConverted, IsSummaryFault, IsConvertFault};
 ghost use Rattle.ca_tool.specs.declared.fault.InputFault.TheVariants as inputs;
-ghost use Rattle.ca_tool.specs.Runs.{max_file, TakesAtMost, AreKnown, IsOf, Wrote, IsShown, IsRuleFileFault, IsRunFault};
+ghost use Rattle.ca_tool.specs.Runs.{max_file, TakesAtMost, AreKnown, HoldsOfFile, Wrote, IsShown, IsRuleFileFault, IsRunFault};
 ghost use Rattle.ca_tool.specs.inner.Refusals.{TellsTable, TellsConvert};
 
 use crate::fault::ToolFault;
@@ -30,12 +30,12 @@ pub fn show_run<R: Read, W: Write>(
 ) -> Result<u8, ToolFault>
     // The file was read, and the lines of a true summary of it were written.
     ensures status { IfOk result (λ status. status ≡ 0) }
-    ensures shown { IfOk result (λ status. IsOf (R.remaining input.old.inner) (R.remaining input.new.inner) (option_copied table.entry)
+    ensures shown { IfOk result (λ status. HoldsOfFile (R.remaining input.old.inner) (R.remaining input.new.inner) (option_copied table.entry)
         (Wrote IsShown (Appends (W.contents output.old.inner) (W.contents output.new.inner)))) }
     ensures kept { IfOk result (λ status. output.new.failures ≡ output.old.failures) }
 
     // A write failed, after a first part of such lines.
-    ensures front { IsErrOf result ToolFault.Write → IsOf (R.remaining input.old.inner) (R.remaining input.new.inner) (option_copied table.entry)
+    ensures front { IsErrOf result ToolFault.Write → HoldsOfFile (R.remaining input.old.inner) (R.remaining input.new.inner) (option_copied table.entry)
         (Wrote IsShown (AppendsPrefix (W.contents output.old.inner) (W.contents output.new.inner))) }
     ensures counted { IsErrOf result ToolFault.Write → Rises output.old.failures output.new.failures }
 
@@ -76,12 +76,12 @@ pub fn convert_run<R: Read, W: Write>(
 ) -> Result<u8, ToolFault>
     // The file was read, and what it is converted to was written.
     ensures status { IfOk result (λ status. status ≡ 0) }
-    ensures converted { IfOk result (λ status. IsOf (R.remaining input.old.inner) (R.remaining input.new.inner) (option_copied table.entry)
+    ensures converted { IfOk result (λ status. HoldsOfFile (R.remaining input.old.inner) (R.remaining input.new.inner) (option_copied table.entry)
         (Wrote (λ bytes tables text. IsConverted bytes tables target text) (Appends (W.contents output.old.inner) (W.contents output.new.inner)))) }
     ensures kept { IfOk result (λ status. output.new.failures ≡ output.old.failures) }
 
     // A write failed, after a first part of it.
-    ensures front { IsErrOf result ToolFault.Write → IsOf (R.remaining input.old.inner) (R.remaining input.new.inner) (option_copied table.entry)
+    ensures front { IsErrOf result ToolFault.Write → HoldsOfFile (R.remaining input.old.inner) (R.remaining input.new.inner) (option_copied table.entry)
         (Wrote (λ bytes tables text. IsConverted bytes tables target text) (AppendsPrefix (W.contents output.old.inner) (W.contents output.new.inner))) }
     ensures counted { IsErrOf result ToolFault.Write → Rises output.old.failures output.new.failures }
 
