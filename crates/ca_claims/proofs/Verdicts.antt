@@ -1,16 +1,56 @@
 -- A file has one meaning, and a claim one kind of true verdict.
-use Rattle.std.proofs.Common.{◌≡◌, ◌≢◌, ℕ, zero, suc, ◌+◌, ◌-◌, ◌≤◌, ◌<◌, List, [], ◌∷◌, Some, refl, sym, ap, subst, ◌∙◌, inl, inr, arith}
+use Rattle.std.proofs.Common.{◌≡◌, ◌≢◌, ℕ, zero, suc, ◌+◌, ◌-◌, ◌≤◌, ◌<◌, List, [], ◌∷◌, Some, refl, sym, ap, subst, ◌∙◌, inl, inr, ◌⊎◌, arith}
 use Rattle.std.specs.Prelude.{ℤ}
 use Rattle.std.specs.List.{AllByRecursion}
+use Rattle.std.proofs.lemmas.Bool.{cases_order}
+use Rattle.std.proofs.lemmas.Option.{same_Some, none-some}
 use Rattle.ca_plane.specs.Plane.{Picture, cell, shifted}
 use Rattle.ca_plane.specs.Generations.{after, IsAfter}
+use Rattle.ca_rule.specs.TableNext.{TableRule}
+use Rattle.ca_rule.specs.declared.table.fault.TableFault.{TableFault}
+use Rattle.ca_rule.specs.declared.fault.RuleFault.{RuleFault}
+use Rattle.ca_rule.specs.Rule.{RuleValue, states_of, next_of, IsSameRule, NamesRule, IsRuleFault}
+use Rattle.ca_rule.proofs.Rules.{same-refl, same-sym, named-once, named-faultless, one-rule-fault}
+use Rattle.ca_rule.proofs.OneTable.{one_table, none_of_a_table, one_fault as one_table_fault}
+use Rattle.ca_rle.specs.Shown as rle_shown
+use Rattle.ca_rle.proofs.OneFile as rle_file
+use Rattle.ca_rle.proofs.OneFault as rle_fault
+use Rattle.ca_macro.specs.Shown as macrocell_shown
+use Rattle.ca_macro.proofs.OneMeaning as macrocell
+use Rattle.ca_plane.specs.Population.{HasFewCells, HasTooManyCells}
+use Rattle.ca_plane.proofs.Populations.{not_both}
 use Rattle.ca_claims.proofs.Times.{unmoved}
 use Rattle.ca_claims.specs.declared.verdict.Why.{Why}
 use Rattle.ca_claims.specs.declared.verdict.Why.TheVariants.{Empty, Differs, Earlier}
+use Rattle.ca_claims.specs.declared.verdict.PatternFault.{PatternFault}
+use Rattle.ca_claims.specs.declared.verdict.PatternFault.TheVariants as pattern_fault
+use Rattle.ca_claims.specs.declared.verdict.Cause.{Cause}
+use Rattle.ca_claims.specs.declared.verdict.Cause.TheVariants.{NoFile, BadTable, BadPattern, BadRule, StateTooLarge, MixedRules, TooManyCells, Memory}
 use Rattle.ca_claims.specs.declared.claims.asks.Asks.{Asks}
 use Rattle.ca_claims.specs.declared.claims.asks.Barred.{Barred}
 use Rattle.ca_claims.specs.declared.claims.asks.Barred.TheVariants.{Nothing, InPlace, Anywhere}
+use Rattle.ca_claims.specs.declared.target.Target.{Target}
+use Rattle.ca_claims.specs.declared.target.Target.TheVariants as target
+use Rattle.ca_claims.specs.Means.{format_of, MeansAs, Means, IsReadableAs, IsReadable, bytes_at}
 use Rattle.ca_claims.specs.Truth.{IsNotBack, MayReturnBy, IsTrueClaim, IsReason}
+use Rattle.ca_claims.specs.Answers.{IsPatternFault, IsQuietTable, IsTableFault, IsRead, IsTableAt, AreTables, IsRuled, IsMissing, IsThere, HoldsTable, Reads, HasRule, IsSmall, HasLargeState, SomeOf, FirstBad, HaveOtherRules, AgreeOn, HasCause, IsGood, AreGood, IsJudged}
+use Rattle.ca_claims.proofs.Zipped.{zip_left}
+
+-- the file of the path has this fault as the text of a table
+abbrev IsBadTable : List (List ℕ × List ℕ) → TableFault → List ℕ → Type 0
+IsBadTable files fault path = (bytes : List ℕ) × (bytes_at files path ≡ Some bytes) × IsTableFault bytes fault
+
+-- as that of a pattern
+abbrev IsBad : List (List ℕ × List ℕ) → PatternFault → List ℕ → Type 0
+IsBad files fault path = (bytes : List ℕ) × (bytes_at files path ≡ Some bytes) × IsPatternFault bytes fault
+
+-- its rule text has this fault
+abbrev IsUnnamed : List (List ℕ × List ℕ) → List TableRule → RuleFault → List ℕ → Type 0
+IsUnnamed files tables fault path = (cells : Picture) × (text : List ℕ) × IsRead files path cells text × IsRuleFault text tables fault
+
+-- some state of the pattern is too large for its rule
+abbrev IsLarge : List (List ℕ × List ℕ) → List TableRule → List ℕ → Type 0
+IsLarge files tables path = (cells : Picture) × (rule : RuleValue) × IsRuled files tables path cells rule × HasLargeState rule (cell cells)
 
 -- ---- a claim is true or there is a reason against it, not both
 
@@ -26,3 +66,376 @@ false_from_reason next cells other asks Empty reason true = reason.1 (true.live 
 false_from_reason next cells other asks (Differs x y found wanted generations) reason true =
     reason.4 (sym reason.2 ∙ ap (λ n. after next cells n x y) reason.1 ∙ true.stands x y ∙ reason.3)
 false_from_reason next cells other asks (Earlier m dx dy) reason true = back next cells asks.barred m dx dy reason.4 reason.5 (true.least m reason.2 reason.3)
+
+-- ---- one meaning
+
+-- bytes of a format mean one picture, one rule text and one generation
+one_meaning_as : (format : Target) (bytes : List ℕ) (p q : Picture) (t u : List ℕ) (g h : ℕ) → MeansAs format bytes p t g → MeansAs format bytes q u h → (p ≡ q) × (t ≡ u) × (g ≡ h)
+one_meaning_as target.Rle bytes p q t u g h a b =
+    let same = rle_file.one_file bytes a.0 b.0 a.1 b.1 in
+    (a.2 ∙ ap (λ f. rle_shown.picture_of f.corner f.items) same ∙ sym b.2, a.3 ∙ ap (λ f. f.rule_text) same ∙ sym b.3, a.4 ∙ ap (λ f. f.generation) same ∙ sym b.4)
+one_meaning_as target.Mc bytes p q t u g h a b =
+    let same = macrocell.one_file bytes a.0 b.0 a.1 b.1 in
+    (a.2 ∙ ap (λ f. macrocell_shown.picture_of f.nodes) same ∙ sym b.2, a.3 ∙ ap (λ f. f.rule_text) same ∙ sym b.3, a.4 ∙ ap (λ f. f.generation) same ∙ sym b.4)
+
+-- and so do any bytes
+pub one_meaning : (bytes : List ℕ) (p q : Picture) (t u : List ℕ) (g h : ℕ) → Means bytes p t g → Means bytes q u h → (p ≡ q) × (t ≡ u) × (g ≡ h)
+one_meaning bytes p q t u g h a b = one_meaning_as (format_of bytes) bytes p q t u g h a b
+
+-- ---- one fault
+
+-- bytes that read have no fault
+pub reads_without_fault : (bytes : List ℕ) (fault : PatternFault) → IsReadable bytes → IsPatternFault bytes fault → ⊥
+reads_without_fault bytes (pattern_fault.Rle fault) reads wrong =
+    let (file, is, within) = subst (λ t. IsReadableAs t bytes) wrong.0 reads in
+    rle_fault.no_fault_within_limits bytes file fault is within wrong.1 wrong.2
+reads_without_fault bytes (pattern_fault.Macro fault) reads wrong =
+    let (file, is, within) = subst (λ t. IsReadableAs t bytes) wrong.0 reads in
+    macrocell.no_fault_within_range bytes file fault is within wrong.1 wrong.2
+reads_without_fault bytes pattern_fault.Memory reads wrong = wrong
+
+-- no format is the other
+rle_or_macro : (bytes : List ℕ) → format_of bytes ≡ target.Rle → format_of bytes ≡ target.Mc → ⊥
+rle_or_macro bytes a b = let e : target.Rle ≡ target.Mc = sym a ∙ b in cc
+
+-- bytes have one fault
+one_fault_of : (bytes : List ℕ) (f g : PatternFault) → IsPatternFault bytes f → IsPatternFault bytes g → f ≡ g
+one_fault_of bytes (pattern_fault.Rle f) (pattern_fault.Rle g) a b = ap pattern_fault.Rle (rle_fault.one_fault bytes f g a.1 b.1 a.2 b.2)
+one_fault_of bytes (pattern_fault.Macro f) (pattern_fault.Macro g) a b = ap pattern_fault.Macro (macrocell.one_fault bytes f g a.1 b.1 a.2 b.2)
+one_fault_of bytes (pattern_fault.Rle f) (pattern_fault.Macro g) a b = absurd (rle_or_macro bytes a.0 b.0)
+one_fault_of bytes (pattern_fault.Macro f) (pattern_fault.Rle g) a b = absurd (rle_or_macro bytes b.0 a.0)
+one_fault_of bytes pattern_fault.Memory g a b = absurd a
+one_fault_of bytes (pattern_fault.Rle f) pattern_fault.Memory a b = absurd b
+one_fault_of bytes (pattern_fault.Macro f) pattern_fault.Memory a b = absurd b
+
+module _ (files : List (List ℕ × List ℕ)) (path : List ℕ) where
+  -- the file of a path is read in one way
+  one_read : (p q : Picture) (t u : List ℕ) → IsRead files path p t → IsRead files path q u → (p ≡ q) × (t ≡ u)
+  one_read p q t u a b =
+      let bytes : a.bytes ≡ b.bytes = same_Some a.bytes b.bytes (sym a.at_path ∙ b.at_path) in
+      let one = one_meaning b.bytes p q t u a.generation b.generation (subst (λ l. Means l p t a.generation) bytes a.means) b.means in
+      (one.0, one.1)
+
+  -- ---- a path is good or bad, not both
+
+  there_or_none : IsThere files path → IsMissing files path → ⊥
+  there_or_none a none = none-some a.0 (sym none ∙ a.1)
+
+  -- the file of a path is one table
+  one_table_at : (t u : TableRule) → IsTableAt files path t → IsTableAt files path u → t ≡ u
+  one_table_at t u (bytes, at, a) (others, there, b) =
+      let same : bytes ≡ others = same_Some bytes others (sym at ∙ there) in
+      one_table others t u (subst (λ l. IsQuietTable l t) same a).0 b.0
+
+  table_or_fault : (fault : TableFault) → HoldsTable files path → IsBadTable files fault path → ⊥
+  table_or_fault fault (t, (bytes, at, a)) (others, there, wrong) =
+      let same : bytes ≡ others = same_Some bytes others (sym at ∙ there) in
+      let quiet = subst (λ l. IsQuietTable l t) same a in
+      elim (none_of_a_table others t fault quiet.0 wrong.1) [ inl memory ↦ wrong.0 memory | inr wakes ↦ wakes.1 quiet.1 ]
+
+  one_bad_table : (f g : TableFault) → IsBadTable files f path → IsBadTable files g path → f ≡ g
+  one_bad_table f g (bytes, at, wrong) (others, there, bad) =
+      let same : bytes ≡ others = same_Some bytes others (sym at ∙ there) in
+      let wrong_too = subst (λ l. IsTableFault l f) same wrong in
+      one_table_fault others f g wrong_too.0 bad.0 wrong_too.1 bad.1
+
+  reads_or_fault : (fault : PatternFault) → Reads files path → IsBad files fault path → ⊥
+  reads_or_fault fault a (bytes, at, wrong) =
+      let same : bytes ≡ a.0 = same_Some bytes a.0 (sym at ∙ a.1) in
+      reads_without_fault a.0 fault a.2 (subst (λ l. IsPatternFault l fault) same wrong)
+
+  one_pattern_fault : (f g : PatternFault) → IsBad files f path → IsBad files g path → f ≡ g
+  one_pattern_fault f g (bytes, at, wrong) (others, there, bad) =
+      let same : bytes ≡ others = same_Some bytes others (sym at ∙ there) in
+      one_fault_of others f g (subst (λ l. IsPatternFault l f) same wrong) bad
+
+  module _ (tables : List TableRule) where
+    -- the pattern of a path has one rule
+    one_ruled : (p q : Picture) (r s : RuleValue) → IsRuled files tables path p r → IsRuled files tables path q s → (p ≡ q) × (r ≡ s)
+    one_ruled p q r s a b =
+        let one = one_read p q a.0 b.0 a.1 b.1 in
+        (one.0, named-once b.0 tables r s (subst (λ t. NamesRule t tables r) one.1 a.2) b.2)
+
+    named_or_fault : (fault : RuleFault) → HasRule files tables path → IsUnnamed files tables fault path → ⊥
+    named_or_fault fault a (cells, text, read, wrong) =
+        let one = one_read a.0 cells a.2.0 text a.2.1 read in
+        named-faultless text tables a.1 fault (subst (λ t. NamesRule t tables a.1) one.1 a.2.2) wrong
+
+    one_rule_fault : (f g : RuleFault) → IsUnnamed files tables f path → IsUnnamed files tables g path → f ≡ g
+    one_rule_fault f g (p, t, read, wrong) (q, u, other, bad) =
+        one-rule-fault u tables f g (subst (λ l. IsRuleFault l tables f) (one_read p q t u read other).1 wrong) bad
+
+    small_or_large : IsSmall files tables path → IsLarge files tables path → ⊥
+    small_or_large a (cells, rule, ruled, (x, y, large)) =
+        let one = one_ruled a.0 cells a.1 rule a.2 ruled in
+        let few : cell cells x y < states_of a.1 = subst (λ p. cell p x y < states_of a.1) one.0 (a.3 x y) in
+        let small : cell cells x y < states_of rule = subst (λ r. cell cells x y < states_of r) one.1 few in
+        omega arith
+
+-- the files of paths are one list of tables
+one_tables : (files : List (List ℕ × List ℕ)) (rules : List (List ℕ)) (ts us : List TableRule) → AreTables files rules ts → AreTables files rules us → ts ≡ us
+one_tables files [] [] [] a b = refl
+one_tables files [] (t ∷ ts) us a b = absurd a
+one_tables files [] [] (u ∷ us) a b = absurd b
+one_tables files (r ∷ rs) [] us a b = absurd a
+one_tables files (r ∷ rs) (t ∷ ts) [] a b = absurd b
+one_tables files (r ∷ rs) (t ∷ ts) (u ∷ us) a b =
+    let head = one_table_at files r t u a.0 b.0 in
+    let tail = one_tables files rs ts us a.1 b.1 in
+    cc
+
+-- all of which are there
+tables_there : (files : List (List ℕ × List ℕ)) (rules : List (List ℕ)) (tables : List TableRule) → AreTables files rules tables → AllByRecursion (IsThere files) rules
+tables_there files = zip_left (IsTableAt files) (IsThere files) (λ path table at. (at.0, at.1))
+
+-- ---- lists of paths
+
+all_weaker : (P Q : List ℕ → Type 0) → ((p : List ℕ) → P p → Q p) → (ps : List (List ℕ)) → AllByRecursion P ps → AllByRecursion Q ps
+all_weaker P Q h [] all = tt
+all_weaker P Q h (p ∷ ps) all = (h p all.0, all_weaker P Q h ps all.1)
+
+-- where all are good, none is bad
+all_or_some : (Good Bad : List ℕ → Type 0) → ((p : List ℕ) → Good p → Bad p → ⊥) → (ps : List (List ℕ)) → AllByRecursion Good ps → SomeOf Bad ps → ⊥
+all_or_some Good Bad h [] all some = some
+all_or_some Good Bad h (p ∷ ps) all (inl bad) = h p all.0 bad
+all_or_some Good Bad h (p ∷ ps) all (inr bad) = all_or_some Good Bad h ps all.1 bad
+
+all_or_first : (Good Bad : List ℕ → Type 0) → ((p : List ℕ) → Good p → Bad p → ⊥) → (ps : List (List ℕ)) → AllByRecursion Good ps → FirstBad Good Bad ps → ⊥
+all_or_first Good Bad h [] all first = first
+all_or_first Good Bad h (p ∷ ps) all (inl bad) = h p all.0 bad
+all_or_first Good Bad h (p ∷ ps) all (inr bad) = all_or_first Good Bad h ps all.1 bad.1
+
+-- the first bad one is bad in one way
+one_first : (Good Bad Worse : List ℕ → Type 0) (Same : Type 0) → ((p : List ℕ) → Good p → Bad p → ⊥) → ((p : List ℕ) → Good p → Worse p → ⊥) → ((p : List ℕ) → Bad p → Worse p → Same)
+    → (ps : List (List ℕ)) → FirstBad Good Bad ps → FirstBad Good Worse ps → Same
+one_first Good Bad Worse Same h k same [] a b = absurd a
+one_first Good Bad Worse Same h k same (p ∷ ps) (inl a) (inl b) = same p a b
+one_first Good Bad Worse Same h k same (p ∷ ps) (inl a) (inr b) = absurd (h p b.0 a)
+one_first Good Bad Worse Same h k same (p ∷ ps) (inr a) (inl b) = absurd (k p a.0 b)
+one_first Good Bad Worse Same h k same (p ∷ ps) (inr a) (inr b) = one_first Good Bad Worse Same h k same ps a.1 b.1
+
+-- ---- good patterns
+
+module _ (files : List (List ℕ × List ℕ)) (tables : List TableRule) where
+  -- the rules of good patterns with one rule are the same
+  no_others : (p q : List ℕ) (cells other : Picture) (rule other_rule : RuleValue) → IsGood files tables p cells rule → IsGood files tables q other other_rule → IsSameRule rule other_rule
+      → HaveOtherRules files tables p q → ⊥
+  no_others p q cells other rule other_rule one two same mixed =
+      let a = (one_ruled files p tables cells mixed.0 rule mixed.1 one.ruled mixed.4).1 in
+      let b = (one_ruled files q tables other mixed.2 other_rule mixed.3 two.ruled mixed.5).1 in
+      mixed.6 (subst (λ r. IsSameRule r mixed.3) a (subst (IsSameRule rule) b same))
+
+  -- of good patterns no two have different rules
+  none_mixed : (paths : List (List ℕ)) (cells other : Picture) (rule : RuleValue) → AreGood files tables paths cells other rule
+      → AllByRecursion (IsSmall files tables) paths × (SomeOf (λ p. SomeOf (HaveOtherRules files tables p) paths) paths → ⊥)
+  none_mixed [] cells other rule j = absurd j
+  none_mixed (p ∷ []) cells other rule j = (
+    ((cells, rule, j.0.ruled, j.0.small), tt),
+    λ mixed. elim mixed [
+      | inl one ↦ elim one [ inl same ↦ no_others p p cells cells rule rule j.0 j.0 (same-refl rule) same | inr none ↦ none ]
+      | inr none ↦ none
+    ],
+  )
+  none_mixed (p ∷ q ∷ []) cells other rule j = (
+    ((cells, rule, j.0.ruled, j.0.small), ((other, j.1, j.2.ruled, j.2.small), tt)),
+    λ mixed. elim mixed [
+      | inl first ↦
+          elim first [
+            | inl own ↦ no_others p p cells cells rule rule j.0 j.0 (same-refl rule) own
+            | inr (inl both) ↦ no_others p q cells other rule j.1 j.0 j.2 j.3 both
+            | inr (inr none) ↦ none
+          ]
+      | inr (inl second) ↦
+          elim second [
+            | inl both ↦ no_others q p other cells j.1 rule j.2 j.0 (same-sym rule j.1 j.3) both
+            | inr (inl own) ↦ no_others q q other other j.1 j.1 j.2 j.2 (same-refl j.1) own
+            | inr (inr none) ↦ none
+          ]
+      | inr (inr none) ↦ none
+    ],
+  )
+  none_mixed (p ∷ q ∷ r ∷ paths) cells other rule j = absurd j
+
+  -- patterns are good in one way
+  one_good : (paths : List (List ℕ)) (p q o v : Picture) (r s : RuleValue) → AreGood files tables paths p o r → AreGood files tables paths q v s → (p ≡ q) × (o ≡ v) × (r ≡ s)
+  one_good [] p q o v r s a b = absurd a
+  one_good (path ∷ []) p q o v r s a b = let one = one_ruled files path tables p q r s a.0.ruled b.0.ruled in (one.0, a.1 ∙ one.0 ∙ sym b.1, one.1)
+  one_good (path ∷ other ∷ []) p q o v r s a b =
+      let one = one_ruled files path tables p q r s a.0.ruled b.0.ruled in
+      (one.0, (one_ruled files other tables o v a.1 b.1 a.2.ruled b.2.ruled).0, one.1)
+  one_good (path ∷ other ∷ third ∷ paths) p q o v r s a b = absurd a
+
+-- ---- causes, in their order
+
+-- the place of a cause in the order
+abbrev place : Cause → ℕ
+place NoFile = 0
+place (BadTable fault) = 1
+place (BadPattern fault) = 2
+place (BadRule fault) = 3
+place StateTooLarge = 4
+place MixedRules = 5
+place TooManyCells = 6
+place Memory = 7
+
+place_within : (cause : Cause) → cause ≢ Memory → suc (place cause) ≤ 7
+place_within NoFile m = omega arith
+place_within (BadTable fault) m = omega arith
+place_within (BadPattern fault) m = omega arith
+place_within (BadRule fault) m = omega arith
+place_within StateTooLarge m = omega arith
+place_within MixedRules m = omega arith
+place_within TooManyCells m = omega arith
+place_within Memory m = absurd (m refl)
+
+-- this holds of the tables
+abbrev OfTables : List (List ℕ × List ℕ) → List (List ℕ) → (List TableRule → Type 0) → Type 0
+OfTables files rules Holds = (tables : List TableRule) × AreTables files rules tables × Holds tables
+
+-- and of those that are the same
+of_these : (files : List (List ℕ × List ℕ)) (rules : List (List ℕ)) (Holds : List TableRule → Type 0) (tables : List TableRule) → AreTables files rules tables → OfTables files rules Holds → Holds tables
+of_these files rules Holds tables are (others, there, h) = subst Holds (one_tables files rules others tables there are) h
+
+-- patterns that agree have few cells
+abbrev AreFew : List (List ℕ × List ℕ) → List (List ℕ) → List (List ℕ) → Type 0
+AreFew files rules paths = (cells other : Picture) (rule : RuleValue) → AgreeOn files rules paths cells other rule → HasTooManyCells (cell cells) ⊎ HasTooManyCells (cell other) → ⊥
+
+-- none of the first n causes holds
+abbrev IsPast : List (List ℕ × List ℕ) → List (List ℕ) → List (List ℕ) → ℕ → Type 0
+IsPast files rules paths zero = Unit {0}
+IsPast files rules paths (suc zero) = AllByRecursion (IsThere files) paths × AllByRecursion (IsThere files) rules
+IsPast files rules paths (suc (suc zero)) = OfTables files rules (λ tables. AllByRecursion (IsThere files) paths)
+IsPast files rules paths (suc (suc (suc zero))) = OfTables files rules (λ tables. AllByRecursion (Reads files) paths)
+IsPast files rules paths (suc (suc (suc (suc zero)))) = OfTables files rules (λ tables. AllByRecursion (HasRule files tables) paths)
+IsPast files rules paths (suc (suc (suc (suc (suc zero))))) = OfTables files rules (λ tables. AllByRecursion (IsSmall files tables) paths)
+IsPast files rules paths (suc (suc (suc (suc (suc (suc zero)))))) =
+    OfTables files rules (λ tables. AllByRecursion (IsSmall files tables) paths × (SomeOf (λ p. SomeOf (HaveOtherRules files tables p) paths) paths → ⊥))
+IsPast files rules paths (suc (suc (suc (suc (suc (suc (suc n))))))) =
+    OfTables files rules (λ tables. AllByRecursion (IsSmall files tables) paths × (SomeOf (λ p. SomeOf (HaveOtherRules files tables p) paths) paths → ⊥))
+    × AreFew files rules paths
+
+module _ (files : List (List ℕ × List ℕ)) (rules paths : List (List ℕ)) where
+  -- nor one fewer
+  past_one_fewer : (n : ℕ) → IsPast files rules paths (suc n) → IsPast files rules paths n
+  past_one_fewer zero h = tt
+  past_one_fewer (suc zero) (tables, are, h) = (h, tables_there files rules tables are)
+  past_one_fewer (suc (suc zero)) (tables, are, h) = (tables, are, all_weaker (Reads files) (IsThere files) (λ p r. (r.0, r.1)) paths h)
+  past_one_fewer (suc (suc (suc zero))) (tables, are, h) = (tables, are, all_weaker (HasRule files tables) (Reads files) (λ p r. (r.2.1.bytes, r.2.1.at_path, r.2.1.readable)) paths h)
+  past_one_fewer (suc (suc (suc (suc zero)))) (tables, are, h) = (tables, are, all_weaker (IsSmall files tables) (HasRule files tables) (λ p r. (r.0, r.1, r.2)) paths h)
+  past_one_fewer (suc (suc (suc (suc (suc zero))))) (tables, are, h) = (tables, are, h.0)
+  past_one_fewer (suc (suc (suc (suc (suc (suc zero)))))) h = h.0
+  past_one_fewer (suc (suc (suc (suc (suc (suc (suc n))))))) h = h
+
+  -- nor any fewer
+  past_fewer : (n m : ℕ) → IsPast files rules paths (m + n) → IsPast files rules paths n
+  past_fewer n zero h = let e : zero + n ≡ n = omega arith in subst (IsPast files rules paths) e h
+  past_fewer n (suc m) h =
+      let e : suc m + n ≡ suc (m + n) = omega arith in
+      past_fewer n m (past_one_fewer (m + n) (subst (IsPast files rules paths) e h))
+
+  past_below : (n m : ℕ) → n ≤ m → IsPast files rules paths m → IsPast files rules paths n
+  past_below n m below h = let e : m ≡ (m - n) + n = omega arith in past_fewer n (m - n) (subst (IsPast files rules paths) e h)
+
+  -- a cause comes past those before it
+  past_before : (cause : Cause) → cause ≢ Memory → HasCause files rules paths cause → IsPast files rules paths (place cause)
+  past_before NoFile m h = tt
+  past_before (BadTable fault) m h = (h.0, h.1)
+  past_before (BadPattern fault) m (tables, are, all, first) = (tables, are, all)
+  past_before (BadRule fault) m (tables, are, all, first) = (tables, are, all)
+  past_before StateTooLarge m (tables, are, all, some) = (tables, are, all)
+  past_before MixedRules m (tables, are, all, some) = (tables, are, all)
+  past_before TooManyCells m (cells, other, rule, (tables, are, good), some) = (tables, are, none_mixed files tables paths cells other rule good)
+  past_before Memory m h = absurd (m refl)
+
+  -- all tables are good or one is bad, not both
+  tables_or_fault : (fault : TableFault) (tables : List TableRule) → AreTables files rules tables → FirstBad (HoldsTable files) (IsBadTable files fault) rules → ⊥
+  tables_or_fault fault tables are first =
+      all_or_first (HoldsTable files) (IsBadTable files fault) (λ p. table_or_fault files p fault) rules (zip_left (IsTableAt files) (HoldsTable files) (λ path table at. (table, at)) rules tables are) first
+
+  -- a cause isn't past itself
+  not_past : (cause : Cause) → cause ≢ Memory → HasCause files rules paths cause → IsPast files rules paths (suc (place cause)) → ⊥
+  not_past NoFile m (inl none) past = all_or_some (IsThere files) (IsMissing files) (there_or_none files) paths past.0 none
+  not_past NoFile m (inr none) past = all_or_some (IsThere files) (IsMissing files) (there_or_none files) rules past.1 none
+  not_past (BadTable fault) m h (tables, are, past) = tables_or_fault fault tables are h.2
+  not_past (BadPattern fault) m (tables, are, all, first) (others, there, past) = all_or_first (Reads files) (IsBad files fault) (λ p. reads_or_fault files p fault) paths past first
+  not_past (BadRule fault) m (tables, are, all, first) past =
+      all_or_first (HasRule files tables) (IsUnnamed files tables fault) (λ p. named_or_fault files p tables fault) paths
+      (of_these files rules (λ t. AllByRecursion (HasRule files t) paths) tables are past) first
+  not_past StateTooLarge m (tables, are, all, some) past =
+      all_or_some (IsSmall files tables) (IsLarge files tables) (λ p. small_or_large files p tables) paths (of_these files rules (λ t. AllByRecursion (IsSmall files t) paths) tables are past) some
+  not_past MixedRules m (tables, are, all, some) past =
+      (of_these files rules (λ t. AllByRecursion (IsSmall files t) paths × (SomeOf (λ p. SomeOf (HaveOtherRules files t p) paths) paths → ⊥)) tables are past).1 some
+  not_past TooManyCells m (cells, other, rule, agree, some) past = past.1 cells other rule agree some
+  not_past Memory m h past = m refl
+
+  -- causes at one place are one
+  same_place : (c d : Cause) → c ≢ Memory → d ≢ Memory → place c ≡ place d → HasCause files rules paths c → HasCause files rules paths d → c ≡ d
+  same_place Memory d m n e h k = absurd (m refl)
+  same_place c Memory m n e h k = absurd (n refl)
+  same_place NoFile NoFile m n e h k = refl
+  same_place (BadTable f) (BadTable g) m n e h k =
+      ap BadTable (one_first (HoldsTable files) (IsBadTable files f) (IsBadTable files g) (f ≡ g) (λ p. table_or_fault files p f) (λ p. table_or_fault files p g) (λ p. one_bad_table files p f g) rules h.2 k.2)
+  same_place (BadPattern f) (BadPattern g) m n e (tables, are, all, first) (others, there, each, other) =
+      ap BadPattern (one_first (Reads files) (IsBad files f) (IsBad files g) (f ≡ g) (λ p. reads_or_fault files p f) (λ p. reads_or_fault files p g) (λ p. one_pattern_fault files p f g) paths first other)
+  same_place (BadRule f) (BadRule g) m n e (tables, are, all, first) (others, there, each, other) =
+      let same = one_tables files rules others tables there are in
+      let too = subst (λ t. FirstBad (HasRule files t) (IsUnnamed files t g) paths) same other in
+      ap BadRule (one_first (HasRule files tables) (IsUnnamed files tables f) (IsUnnamed files tables g) (f ≡ g)
+      (λ p. named_or_fault files p tables f) (λ p. named_or_fault files p tables g) (λ p. one_rule_fault files p tables f g) paths first too)
+  same_place StateTooLarge StateTooLarge m n e h k = refl
+  same_place MixedRules MixedRules m n e h k = refl
+  same_place TooManyCells TooManyCells m n e h k = refl
+  same_place c d m n e h k = let no : ⊥ = omega arith in absurd no
+
+  -- a claim has one cause, want of memory apart
+  pub one_cause : (c d : Cause) → c ≢ Memory → d ≢ Memory → HasCause files rules paths c → HasCause files rules paths d → c ≡ d
+  one_cause c d m n h k =
+      elim (cases_order (place c) (place d)) [
+        | inl e ↦ same_place c d m n e h k
+        | inr (inl e) ↦ absurd (not_past c m h (past_below (suc (place c)) (place d) (omega arith) (past_before d n k)))
+        | inr (inr e) ↦ absurd (not_past d n k (past_below (suc (place d)) (place c) (omega arith) (past_before c m h)))
+      ]
+
+  -- a file that isn't there goes before want of memory
+  pub no_file_or_memory : HasCause files rules paths NoFile → HasCause files rules paths Memory → ⊥
+  no_file_or_memory none (tables, are, all, first) = not_past NoFile (λ e. cc) none (all, tables_there files rules tables are)
+
+  -- and so does a bad table
+  pub bad_table_or_memory : (fault : TableFault) → HasCause files rules paths (BadTable fault) → HasCause files rules paths Memory → ⊥
+  bad_table_or_memory fault bad (tables, are, all, first) = tables_or_fault fault tables are bad.2
+
+-- ---- judged claims
+
+module _ (files : List (List ℕ × List ℕ)) (rules paths : List (List ℕ)) where
+  -- a claim's patterns agree in one way
+  one_agreed : (p q o v : Picture) (r s : RuleValue) → AgreeOn files rules paths p o r → AgreeOn files rules paths q v s → (p ≡ q) × (o ≡ v) × (r ≡ s)
+  one_agreed p q o v r s (tables, are, good) b = one_good files tables paths p q o v r s good (of_these files rules (λ t. AreGood files t paths q v s) tables are b)
+
+  -- where few cells are judged, the patterns have few in any way
+  judged_few : (cells other : Picture) (rule : RuleValue) → IsJudged files rules paths cells other rule → AreFew files rules paths
+  judged_few cells other rule judged = λ p o r agree many.
+      let one = one_agreed cells p other o rule r judged.0 agree in
+      elim many [
+        | inl own ↦ not_both (cell cells) (cell p) (λ x y. ap (λ l. cell l x y) one.0) judged.1 own
+        | inr others ↦ not_both (cell other) (cell o) (λ x y. ap (λ l. cell l x y) one.1) judged.2 others
+      ]
+
+  -- a claim is judged or refused for a cause, not both, want of memory apart
+  pub judged_or_cause : (cells other : Picture) (rule : RuleValue) (cause : Cause) → cause ≢ Memory → IsJudged files rules paths cells other rule → HasCause files rules paths cause → ⊥
+  judged_or_cause cells other rule cause m judged h =
+      let (tables, are, good) = judged.0 in
+      not_past files rules paths cause m h
+      (past_below files rules paths (suc (place cause)) 7 (place_within cause m) ((tables, are, none_mixed files tables paths cells other rule good), judged_few cells other rule judged))
+
+  -- a claim is judged in one way
+  one_judged : (p q o v : Picture) (r s : RuleValue) → IsJudged files rules paths p o r → IsJudged files rules paths q v s → (p ≡ q) × (o ≡ v) × (r ≡ s)
+  one_judged p q o v r s a b = one_agreed p q o v r s a.0 b.0
+
+  -- a claim that is judged is true or false, not both
+  pub yes_or_no : (asks : Asks) (why : Why) (p q o v : Picture) (r s : RuleValue) → IsJudged files rules paths p o r → IsJudged files rules paths q v s
+      → IsTrueClaim (next_of r) p o asks → IsReason (next_of s) q v asks why → ⊥
+  yes_or_no asks why p q o v r s a b true reason =
+      let one = one_judged p q o v r s a b in
+      let by_rule = subst (λ u. IsTrueClaim (next_of u) p o asks) one.2 true in
+      let by_cells = subst (λ c. IsTrueClaim (next_of s) c o asks) one.0 by_rule in
+      false_from_reason (next_of s) q v asks why reason (subst (λ c. IsTrueClaim (next_of s) q c asks) one.1 by_cells)

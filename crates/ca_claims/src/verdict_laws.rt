@@ -7,9 +7,15 @@ ghost use Rattle.ca_plane.specs.Plane.{Picture, shifted, IsLive};
 ghost use Rattle.ca_plane.specs.Generations.{after, IsAfter};
 ghost use Rattle.ca_claims.specs.declared.claims.line.Claim.TheVariants.{Still, Oscillator, Spaceship, Becomes};
 ghost use Rattle.ca_claims.specs.Text.{Claim};
+ghost use Rattle.ca_claims.specs.Means.{Means};
 ghost use Rattle.ca_claims.specs.Truth.{asks_of, IsChanged, IsNowhere, IsTrueClaim, IsReason, IsSameReason};
+ghost use Rattle.ca_claims.specs.Answers.{IsTrueVerdict};
 ghost use Rattle.ca_claims.specs.Examples.{life, blinker, block};
 ghost use Rattle.ca_claims.specs.declared.verdict.Why.{Why};
+ghost use Rattle.ca_claims.specs.declared.verdict.Verdict.TheVariants.{Yes, No, Refused};
+ghost use Rattle.ca_claims.specs.declared.verdict.Cause.{Cause};
+ghost use Rattle.ca_claims.specs.declared.verdict.Cause.TheVariants.{NoFile, BadTable, Memory};
+ghost use Rattle.ca_rule.specs.declared.table.fault.TableFault.{TableFault};
 
 /// What it means that a claim of each kind is true.
 pub fn true_claims()
@@ -32,6 +38,26 @@ pub fn no_is_false()
 pub fn one_reason()
     ensures { (next : List ℕ → ℕ) (cells other : Picture) (claim : Claim) (one two : Why) → IsReason next cells other (asks_of claim) one
         → IsReason next cells other (asks_of claim) two → IsSameReason one two }
+{}
+
+/// The bytes of a file mean one picture, one rule text and one generation at most.
+pub fn one_meaning_of_a_file()
+    ensures { (bytes : List ℕ) (p q : Picture) (t u : List ℕ) (g h : ℕ) → Means bytes p t g → Means bytes q u h → (p ≡ q) × (t ≡ u) × (g ≡ h) }
+{}
+
+/// A yes and a no aren't both true of a claim, nor is one of them and a refusal, nor are refusals for two causes; want of
+/// memory apart. Nor are want of memory and a file that isn't there, or want of memory and a bad table.
+pub fn one_kind_of_verdict()
+    ensures yes_or_no { (files : List (List ℕ × List ℕ)) (rules : List (List ℕ)) (claim : Claim) (why : Why) → IsTrueVerdict files rules claim Yes → IsTrueVerdict files rules claim (No why) → ⊥ }
+    ensures yes_or_refused { (files : List (List ℕ × List ℕ)) (rules : List (List ℕ)) (claim : Claim) (cause : Cause) → cause ≢ Memory
+        → IsTrueVerdict files rules claim Yes → IsTrueVerdict files rules claim (Refused cause) → ⊥ }
+    ensures no_or_refused { (files : List (List ℕ × List ℕ)) (rules : List (List ℕ)) (claim : Claim) (why : Why) (cause : Cause) → cause ≢ Memory
+        → IsTrueVerdict files rules claim (No why) → IsTrueVerdict files rules claim (Refused cause) → ⊥ }
+    ensures one_cause { (files : List (List ℕ × List ℕ)) (rules : List (List ℕ)) (claim : Claim) (one two : Cause) → one ≢ Memory → two ≢ Memory
+        → IsTrueVerdict files rules claim (Refused one) → IsTrueVerdict files rules claim (Refused two) → one ≡ two }
+    ensures no_file_or_memory { (files : List (List ℕ × List ℕ)) (rules : List (List ℕ)) (claim : Claim) → IsTrueVerdict files rules claim (Refused NoFile) → IsTrueVerdict files rules claim (Refused Memory) → ⊥ }
+    ensures bad_table_or_memory { (files : List (List ℕ × List ℕ)) (rules : List (List ℕ)) (claim : Claim) (fault : TableFault)
+        → IsTrueVerdict files rules claim (Refused (BadTable fault)) → IsTrueVerdict files rules claim (Refused Memory) → ⊥ }
 {}
 
 /// Cells of the blinker and the block under Conway's Life.

@@ -1,0 +1,22 @@
+use Rattle.ca_claims.specs.Text.{patterns_of}
+use Rattle.ca_claims.specs.Truth.{asks_of}
+use Rattle.ca_claims.proofs.Verdicts.{yes_or_no, judged_or_cause, one_cause, no_file_or_memory, bad_table_or_memory}
+use Rattle.ca_claims.proofs.verdict_laws.one_kind_of_verdict.Goals as goal
+
+pub returns-clause-yes_or_no : goal.returns-clause-yes_or_no
+returns-clause-yes_or_no c = λ files rules claim why y n. yes_or_no files rules (patterns_of claim) (asks_of claim) why y.0 n.0 y.1 n.1 y.2 n.2 y.3 n.3 y.4 n.4
+
+pub returns-clause-yes_or_refused : goal.returns-clause-yes_or_refused
+returns-clause-yes_or_refused c = λ files rules claim cause no y r. judged_or_cause files rules (patterns_of claim) y.0 y.1 y.2 cause no y.3 r
+
+pub returns-clause-no_or_refused : goal.returns-clause-no_or_refused
+returns-clause-no_or_refused c = λ files rules claim why cause no n r. judged_or_cause files rules (patterns_of claim) n.0 n.1 n.2 cause no n.3 r
+
+pub returns-clause-one_cause : goal.returns-clause-one_cause
+returns-clause-one_cause c = λ files rules claim. one_cause files rules (patterns_of claim)
+
+pub returns-clause-no_file_or_memory : goal.returns-clause-no_file_or_memory
+returns-clause-no_file_or_memory c = λ files rules claim. no_file_or_memory files rules (patterns_of claim)
+
+pub returns-clause-bad_table_or_memory : goal.returns-clause-bad_table_or_memory
+returns-clause-bad_table_or_memory c = λ files rules claim. bad_table_or_memory files rules (patterns_of claim)
