@@ -6,8 +6,8 @@ ghost use Rattle.std.specs.Io.KnownBytes.{Appends};
 ghost use Rattle.ca_plane.specs.Device.{Rises, AppendsPrefix};
 ghost use Rattle.ca_claims.specs.Converted.{IsConverted, IsSummaryFault, IsConvertFault};
 ghost use Rattle.ca_tool.specs.declared.fault.InputFault.TheVariants as inputs;
-ghost use Rattle.ca_tool.specs.Runs.{max_file, TakesAtMost, AreKnown, HoldsOfFile, Wrote, IsShown, IsRuleFileFault, IsRunFault};
-ghost use Rattle.ca_tool.specs.inner.Refusals.{TellsTable, TellsConvert};
+ghost use Rattle.ca_tool.specs.Runs.{max_file, ReadsAll, TakesAtMost, AreKnown, HoldsOfFile, Wrote, IsShown, IsRuleFileFault, IsRunFault};
+ghost use Rattle.ca_tool.specs.inner.Refusals.{TellsTable, TellsConvert, IsReadingFault};
 
 use crate::fault::ToolFault;
 use crate::read::read_all;
@@ -48,14 +48,7 @@ pub fn show_run<R: Read, W: Write>(
     ensures failed { IsErrOf result (ToolFault.Input inputs.Read) → Rises input.old.failures input.new.failures }
     ensures unfailed { result ≢ Err (ToolFault.Input inputs.Read) → input.new.failures ≡ input.old.failures }
 {
-    let bytes = match read_all(alloc, input) {
-        Ok(bytes) => bytes,
-        Err(fault) => return Err(ToolFault::Input(fault)),
-    };
-    let table = match rule_table(alloc, table) {
-        Ok(table) => table,
-        Err(fault) => return Err(table_refusal(fault)),
-    };
+    let (bytes, table) = read_and_parse(alloc, input, table)?;
     let text = match shown(alloc, &bytes, tables_of(&table)) {
         Ok(text) => text,
         Err(fault) => return Err(convert_refusal(fault)),
@@ -95,19 +88,35 @@ pub fn convert_run<R: Read, W: Write>(
     ensures failed { IsErrOf result (ToolFault.Input inputs.Read) → Rises input.old.failures input.new.failures }
     ensures unfailed { result ≢ Err (ToolFault.Input inputs.Read) → input.new.failures ≡ input.old.failures }
 {
-    let bytes = match read_all(alloc, input) {
-        Ok(bytes) => bytes,
-        Err(fault) => return Err(ToolFault::Input(fault)),
-    };
-    let table = match rule_table(alloc, table) {
-        Ok(table) => table,
-        Err(fault) => return Err(table_refusal(fault)),
-    };
+    let (bytes, table) = read_and_parse(alloc, input, table)?;
     let text = match convert(alloc, &bytes, target, tables_of(&table)) {
         Ok(text) => text,
         Err(fault) => return Err(convert_refusal(fault)),
     };
     write(output, &text)
+}
+
+// All bytes of the file, and then the table of the rule file's text, if there is one.
+fn read_and_parse<R: Read>(
+    alloc: Global,
+    input: &mut Dev<R>,
+    rule: Option<&[u8]>,
+) -> Result<(Vec<u8>, Option<Table>), ToolFault>
+    ensures read { IfOk result (λ r. ReadsAll (R.remaining input.old.inner) (R.remaining input.new.inner) r.0.items) }
+    ensures known { IfOk result (λ r. AreKnown (option_copied rule.entry) (option_to_list r.1)) }
+    ensures fault { IfErr result (IsReadingFault (R.remaining input.old.inner) (R.remaining input.new.inner) (option_copied rule.entry)) }
+    ensures bounded { TakesAtMost (max_file + 8192) (R.remaining input.old.inner) (R.remaining input.new.inner) }
+    ensures failed { IsErrOf result (ToolFault.Input inputs.Read) → Rises input.old.failures input.new.failures }
+    ensures unfailed { result ≢ Err (ToolFault.Input inputs.Read) → input.new.failures ≡ input.old.failures }
+{
+    let bytes = match read_all(alloc, input) {
+        Ok(bytes) => bytes,
+        Err(fault) => return Err(ToolFault::Input(fault)),
+    };
+    match rule_table(alloc, rule) {
+        Ok(table) => Ok((bytes, table)),
+        Err(fault) => Err(table_refusal(fault)),
+    }
 }
 
 // The table of the rule file's text, if there is one.

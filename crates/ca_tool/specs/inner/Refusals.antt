@@ -1,11 +1,12 @@
 -- What a run answers where a part of it failed.
-use Rattle.std.specs.Prelude.{◌≡◌, ◌≢◌}
+use Rattle.std.specs.Prelude.{◌≡◌, ◌≢◌, ℕ, List, Option}
 use Rattle.ca_rule.specs.declared.table.fault.TableFault.{TableFault}
 use Rattle.ca_rule.specs.declared.table.fault.TableFault.TheVariants as table_fault
 use Rattle.ca_claims.specs.declared.conversion.ConvertFault.{ConvertFault}
 use Rattle.ca_claims.specs.declared.conversion.ConvertFault.TheVariants as convert_fault
 use Rattle.ca_tool.specs.declared.fault.ToolFault.{ToolFault}
 use Rattle.ca_tool.specs.declared.fault.ToolFault.TheVariants.{Input, BadTable, Convert, Write, Memory}
+use Rattle.ca_tool.specs.Runs.{WasRead, IsInputFault, IsRuleFileFault}
 
 -- a table's fault, or want of memory alone
 abbrev pub TellsTable : TableFault → ToolFault → Type 0
@@ -22,3 +23,11 @@ TellsConvert fault (BadTable told) = ⊥
 TellsConvert fault (Convert told) = (fault ≢ convert_fault.Memory) × (told ≡ fault)
 TellsConvert fault Write = ⊥
 TellsConvert fault Memory = fault ≡ convert_fault.Memory
+
+-- why the file isn't read, or its rule file no good table, or that memory is wanting for that table
+abbrev pub IsReadingFault : Option (List ℕ) → Option (List ℕ) → Option (List ℕ) → ToolFault → Type 0
+IsReadingFault old new rule (Input fault) = IsInputFault old new fault
+IsReadingFault old new rule (BadTable fault) = (fault ≢ table_fault.Memory) × WasRead old new × IsRuleFileFault rule fault
+IsReadingFault old new rule (Convert fault) = ⊥
+IsReadingFault old new rule Write = ⊥
+IsReadingFault old new rule Memory = WasRead old new × IsRuleFileFault rule table_fault.Memory

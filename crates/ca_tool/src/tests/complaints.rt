@@ -2,8 +2,10 @@
 
 use super::devices::{Narrow, Refusal};
 use crate::{Fault, InputFault, ToolFault, complain};
-use ca_claims::ClaimFault;
+use ca_claims::{ClaimFault, ConvertFault, PatternFault};
+use ca_macro::MacroFault;
 use ca_plane::{Dev, WriteFault};
+use ca_rule::TableFault;
 use std::test::*;
 
 #[test]
@@ -12,6 +14,27 @@ fn a_line_for_each_fault(rt: HostRuntime) -> Result<(), Fail> {
         (Fault::Input(InputFault::Memory), "cafile: memory\n"),
         (Fault::Claims(ClaimFault::Memory), "cafile: memory\n"),
         (Fault::Tool(ToolFault::Memory), "cafile: memory\n"),
+        (
+            Fault::Tool(ToolFault::Input(InputFault::TooLong)),
+            "cafile: too long p\n",
+        ),
+        (
+            Fault::Tool(ToolFault::BadTable(TableFault::Memory)),
+            "cafile: memory\n",
+        ),
+        (
+            Fault::Tool(ToolFault::BadTable(TableFault::Wakes { line: u64::MAX })),
+            "cafile: bad table: line 18446744073709551615 wakes\n",
+        ),
+        (
+            Fault::Tool(ToolFault::Convert(ConvertFault::Memory)),
+            "cafile: memory\n",
+        ),
+        (macrocell(MacroFault::Memory), "cafile: memory\n"),
+        (
+            macrocell(MacroFault::LeafSize),
+            "cafile: bad pattern: macrocell leaf size\n",
+        ),
         (
             Fault::Claims(ClaimFault::NameTaken { line: u64::MAX }),
             "cafile: claims line 18446744073709551615: name taken\n",
@@ -60,10 +83,24 @@ fn faults_tell_why(rt: HostRuntime) -> Result<(), Fail> {
             Fault::Claims(ClaimFault::Syntax { line: 7 }),
             "line 7: syntax",
         ),
+        (
+            Fault::Tool(ToolFault::Input(InputFault::TooLong)),
+            "too long",
+        ),
+        (
+            Fault::Tool(ToolFault::BadTable(TableFault::States { line: 3 })),
+            "rule table: line 3: states",
+        ),
+        (macrocell(MacroFault::Timeline), "macrocell: a timeline"),
         (Fault::Tool(ToolFault::Write), "writing failed"),
         (Fault::Tool(ToolFault::Memory), "out of memory"),
     ] {
         assert_eq!(rt; format!(in rt.alloc(); "{fault}")?.as_str(), text);
     }
     Ok(())
+}
+
+fn macrocell(fault: MacroFault) -> Fault {
+    let fault = PatternFault::Macro(fault);
+    Fault::Tool(ToolFault::Convert(ConvertFault::BadPattern(fault)))
 }

@@ -2,11 +2,12 @@
 
 use crate::lines;
 use ca_claims::{Answer, Cause, PatternFault, Verdict, Why};
+use ca_macro::MacroFault;
 use ca_rle::RleFault;
 use ca_rule::{RuleFault, TableFault};
 use std::test::*;
 
-const ANSWERS: [Answer; 5] = [
+const ANSWERS: [Answer; 7] = [
     Answer {
         line: 0,
         verdict: Verdict::Yes,
@@ -37,6 +38,14 @@ const ANSWERS: [Answer; 5] = [
         line: 15,
         verdict: Verdict::Refused(Cause::BadPattern(PatternFault::Memory)),
     },
+    Answer {
+        line: 16,
+        verdict: Verdict::Refused(Cause::BadPattern(PatternFault::Macro(MacroFault::Memory))),
+    },
+    Answer {
+        line: 17,
+        verdict: Verdict::Refused(Cause::BadTable(TableFault::Memory)),
+    },
 ];
 
 const LINES: &[u8] = b"line 0: yes
@@ -44,6 +53,8 @@ line 18446744073709551615: no, cells differ after 4294967295
 line 13: no, the same after 4294967294, shifted by -9223372036854775808,-1
 line 14: refused, memory
 line 15: refused, memory
+line 16: refused, memory
+line 17: refused, memory
 ";
 
 #[test]
@@ -76,6 +87,10 @@ fn causes_tell_why(rt: HostRuntime) -> Result<(), Fail> {
             "rle: the generation is too large",
         ),
         (rle(RleFault::Memory), "rle: out of memory"),
+        (
+            Cause::BadPattern(PatternFault::Macro(MacroFault::Level)),
+            "macrocell: a bad level",
+        ),
         (Cause::BadPattern(PatternFault::Memory), "out of memory"),
         (
             Cause::BadRule(RuleFault::Bounded),
@@ -88,6 +103,7 @@ fn causes_tell_why(rt: HostRuntime) -> Result<(), Fail> {
         (Cause::BadRule(RuleFault::Unknown), "an unknown rule"),
         (Cause::StateTooLarge, "state too large"),
         (Cause::MixedRules, "mixed rules"),
+        (Cause::TooManyCells, "too many cells"),
         (Cause::Memory, "out of memory"),
     ] {
         assert_eq!(rt; format!(in rt.alloc(); "{cause}")?.as_str(), text);
