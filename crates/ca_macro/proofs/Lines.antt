@@ -44,7 +44,7 @@ text_whole rule g m =
 pub puts_five : (a b c d e f t u v w x : List ℕ) → Puts a b t → Puts b c u → Puts c d v → Puts d e w → Puts e f x → Puts a f (t ++ (u ++ (v ++ (w ++ x))))
 puts_five a b c d e f t u v w x p q r s y = puts_on a b f t (u ++ (v ++ (w ++ x))) p (puts_on b c f u (v ++ (w ++ x)) q (puts_on c d f v (w ++ x) r (puts_on d e f w x s y)))
 
-unequal : (a b : ℕ) → (a ≡ b → ⊥) → (a == b) ≡ false
+pub unequal : (a b : ℕ) → (a ≡ b → ⊥) → (a == b) ≡ false
 unequal a b h = elim (cases_Bool (a == b)) [ inl e ↦ absurd (h (eqb-true a b e)) | inr e ↦ e ]
 
 -- a row's first cell, and the others

@@ -127,11 +127,13 @@ module _ (states : ℕ) (text rule : List ℕ) (generation : ℕ) (ns : List Nod
 
 later_live : (e : Point × ℕ) (es p : Picture) → NoneDead (e ∷ es) → AllByRecursion (λ f. cell es f.0.x f.0.y ≢ 0) p → AllByRecursion (λ f. cell (e ∷ es) f.0.x f.0.y ≢ 0) p
 later_live e es [] live a = tt
-later_live e es (f ∷ p) live a =
-    (elim (cases_Bool (int_eq f.0.y e.0.y && int_eq f.0.x e.0.x)) [
-      | inl t ↦ λ z. live.0 (sym (rw t refl) ∙ z)
-      | inr t ↦ λ z. a.0 (sym (rw t refl) ∙ z)
-    ], later_live e es p live a.1)
+later_live e es (f ∷ p) live a = (
+  elim (cases_Bool (int_eq f.0.y e.0.y && int_eq f.0.x e.0.x)) [
+    | inl t ↦ λ z. live.0 (sym (rw t refl) ∙ z)
+    | inr t ↦ λ z. a.0 (sym (rw t refl) ∙ z)
+  ],
+  later_live e es p live a.1,
+)
 
 listed_live : (p : Picture) → NoneDead p → AllByRecursion (λ e. cell p e.0.x e.0.y ≢ 0) p
 listed_live [] live = tt

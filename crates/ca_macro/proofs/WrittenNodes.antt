@@ -16,6 +16,7 @@ use Rattle.ca_macro.specs.Nodes.{Node, Leaf, Cells, Parts, Names, level_of}
 use Rattle.ca_macro.specs.Shown.{numbered, joined, square_of, squares_behind, squares_of, state_of}
 use Rattle.ca_macro.specs.Tidy.{HasForm}
 use Rattle.ca_macro.specs.inner.Written.{row_of, cells_of, IsPictureOf, IsNumberOf, IsNodeOf, Extends, GoesOn, leaf_level}
+use Rattle.ca_macro.proofs.Lines.{unequal}
 use Rattle.ca_macro.proofs.Behind.{all_append}
 use Rattle.ca_macro.proofs.Pictures.{NoneDead, rows_live, shifted_live, leaf_shows, four_show, joined_show, picture_as}
 use Rattle.ca_macro.proofs.Gathering.{corner_zero, number_goes_on}
@@ -84,9 +85,6 @@ ends_live bits h =
 all_end_live : (bytes : List ℕ) → ((y : ℕ) → slice_index bytes y < 256) → AllByRecursion (λ row. last_or (Some true) row ≡ Some true) (map (row_of 8) bytes)
 all_end_live [] low = tt
 all_end_live (b ∷ bs) low = (ends_live b (low 0), all_end_live bs (λ y. low (suc y)))
-
-unequal : (a b : ℕ) → (a ≡ b → ⊥) → (a == b) ≡ false
-unequal a b h = elim (cases_Bool (a == b)) [ inl e ↦ absurd (h (eqb-true a b e)) | inr e ↦ e ]
 
 row_length : (width bits : ℕ) → length (row_of width bits) ≤ width
 row_length zero bits = omega arith

@@ -48,7 +48,14 @@ fn push_next(out: &mut Vec<u8>, number: u64) -> Result<(), Memory>
     push_number(out, number)
 }
 
-fn push_numbers(out: &mut Vec<u8>, level: u8, nw: u64, ne: u64, sw: u64, se: u64) -> Result<(), Memory>
+fn push_numbers(
+    out: &mut Vec<u8>,
+    level: u8,
+    nw: u64,
+    ne: u64,
+    sw: u64,
+    se: u64,
+) -> Result<(), Memory>
     ensures { OnOk result (Puts out.old.items out.new.items (numbers_text (level ∷ nw ∷ ne ∷ sw ∷ se ∷ []))) }
 {
     push_number(out, level as u64)?;

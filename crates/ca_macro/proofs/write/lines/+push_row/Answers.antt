@@ -1,4 +1,4 @@
-use Rattle.std.proofs.Common.{◌≡◌, ◌-◌, ◌/◌, ◌%◌, ◌==◌, ◌∷◌, [], ◌++◌, map, sym, ap, subst}
+use Rattle.std.proofs.Common.{◌-◌, ◌/◌, ◌%◌, ◌==◌, ◌∷◌, [], ◌++◌, map, subst}
 use Rattle.std.proofs.lemmas.Result.{on_ok_weaker}
 use Rattle.ca_plane.specs.Puts.{Puts}
 use Rattle.ca_macro.specs.Nodes.{mark_of}

@@ -1,6 +1,6 @@
-use Rattle.std.proofs.Common.{◌≡◌, ◌≢◌, ℕ, suc, ◌+◌, ◌-◌, ◌<◌, ◌≤◌, [], ◌∷◌, ◌++◌, map, length, None, refl, sym, ap, subst, ◌∙◌, arith}
+use Rattle.std.proofs.Common.{◌≡◌, ◌≢◌, ℕ, suc, ◌-◌, ◌<◌, ◌≤◌, [], ◌∷◌, ◌++◌, map, refl, sym, ap, subst, ◌∙◌, arith}
 use Rattle.std.proofs.lemmas.Result.{on_ok_weaker}
-use Rattle.ca_quad.specs.Squares.{level_of, IsOf}
+use Rattle.ca_quad.specs.Squares.{level_of}
 use Rattle.ca_quad.specs.Trees.{AreQuarters}
 use Rattle.ca_macro.specs.Nodes.{Parts}
 use Rattle.ca_macro.specs.inner.Written.{number_of, node_of, IsNumberOf, Extends, leaf_level}
@@ -224,6 +224,6 @@ returns-clause-keeps t c =
     let new = c.push-2.new.self.numbers in
     on_ok_weaker {P = (one : ℕ) → one ≢ id → number_of new one ≡ number_of now one} {Q = (one : ℕ) → level_of kept id < level_of kept one → number_of new one ≡ number_of before one} c.push-2.result
     (λ keeps one higher.
-        keeps one (λ same. let e = ap (level_of kept) same in omega arith)
-        ∙ c.in_ok-se.ensures.keeps one (omega (arith, is_level, at3)) ∙ c.in_ok-sw.ensures.keeps one (omega (arith, is_level, at2)) ∙ c.in_ok-ne.ensures.keeps one (omega (arith, is_level, at1)) ∙ c.in_ok-nw.ensures.keeps one (omega (arith, is_level, at0)))
+    keeps one (λ same. let e = ap (level_of kept) same in omega arith)
+    ∙ c.in_ok-se.ensures.keeps one (omega (arith, is_level, at3)) ∙ c.in_ok-sw.ensures.keeps one (omega (arith, is_level, at2)) ∙ c.in_ok-ne.ensures.keeps one (omega (arith, is_level, at1)) ∙ c.in_ok-nw.ensures.keeps one (omega (arith, is_level, at0)))
     c.push-2.ensures.keeps

@@ -2,8 +2,6 @@ use Rattle.std.proofs.Common.{◌≡◌, ◌==◌, ℕ, suc, [], ◌∷◌, ◌+
 use Rattle.std.proofs.lemmas.List.{length-map, map-append}
 use Rattle.ca_macro.specs.inner.Written.{number_of, node_of, IsNumberOf, IsGathered}
 use Rattle.ca_macro.proofs.Gathering.{last_number, gathered_more}
-use Rattle.ca_macro.proofs.Orders.{goes_again}
-use Rattle.ca_macro.proofs.Pictures.{joined_show}
 use Rattle.ca_macro.proofs.write.nodes.Gathered.push.Goals as goal
 
 pub returns-clause-number : goal.returns-clause-number
