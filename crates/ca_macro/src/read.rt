@@ -36,6 +36,7 @@ fn read_lines<'a>(
     ensures fault { IfErr result (λ f. IsFaultOf bytes.now f) }
     ensures grows { Grows store.old store.new }
 {
+    // Says what holds of every store.
     let _ = store.count();
     let mut reading = Reading::new(alloc);
     let (_, mut rest) = next_line(bytes);
@@ -99,6 +100,7 @@ pub fn read_macro(
     // Every old square stays.
     ensures grows { Grows store.old store.new }
 {
+    // Says what holds of every store.
     let _ = store.count();
     if !bytes.starts_with(b"[M2]") {
         return Err(MacroFault::NotMacro);

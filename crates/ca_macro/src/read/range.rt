@@ -58,6 +58,7 @@ pub(crate) fn trim_in_range(
     ensures fault { IfErr result (λ f. (f ≡ Memory) ⊎ ((f ≡ Range) × (AreInRange (cell store.old tree) → ⊥))) }
     ensures grows { Grows store.old store.new }
 {
+    // Says what holds of every store.
     let _ = store.count();
     check_range(alloc, store, tree)?;
     Ok(store.trim(tree)?)

@@ -1,9 +1,9 @@
-use Rattle.std.proofs.Common.{List, inl, inr, sym, ap, ◌∙◌}
+use Rattle.std.proofs.Common.{inl, inr, sym, ◌∙◌}
 use Rattle.std.specs.List.{flat_map}
 use Rattle.ca_plane.specs.Limits.{default_rule}
 use Rattle.ca_plane.specs.Plane.{cell}
 use Rattle.ca_quad.specs.Trees.{cell as tree_cell}
-use Rattle.ca_macro.specs.File.{Said, added}
+use Rattle.ca_macro.specs.File.{added}
 use Rattle.ca_macro.specs.Shown.{picture_of}
 use Rattle.ca_macro.proofs.KeptSquares.{picture_states}
 use Rattle.ca_macro.proofs.Ranges.{entries_in_range, cells_in_range, range_as}

@@ -1,4 +1,4 @@
-use Rattle.ca_macro.proofs.LinesRead.{none_read, one_read, first_fault, all_read}
+use Rattle.ca_macro.proofs.LinesRead.{none_read, one_read}
 use Rattle.ca_quad.proofs.Growth.{grows_same}
 use Rattle.ca_macro.proofs.read.read_lines.Goals as goal
 

@@ -1,4 +1,4 @@
-use Rattle.std.proofs.Common.{refl, sym, subst, ◌∙◌, inr, false, true}
+use Rattle.std.proofs.Common.{refl, sym, subst, ◌∙◌, inr}
 use Rattle.std.specs.Option.{MatchOption}
 use Rattle.std.proofs.lemmas.Bool.{false≢true}
 use Rattle.ca_quad.specs.Boxes.{IsDead, IsLeastBox}

@@ -1,7 +1,5 @@
 use Rattle.std.proofs.Common.{◌≡◌, ◌-◌, ◌∷◌, [], ◌++◌, suc, Some, length, ap, sym, subst, ◌∙◌, arith}
 use Rattle.std.specs.List.{slice_get}
-use Rattle.std.proofs.lemmas.List.{nil_from_length}
-use Rattle.ca_quad.specs.Sound.{Grows}
 use Rattle.ca_quad.specs.Trees.{Shows}
 use Rattle.ca_macro.specs.inner.Reading.{AreEmpties}
 use Rattle.ca_macro.proofs.EmptySquares.{leaf_empty, join_empty, last_empty, empties_push}

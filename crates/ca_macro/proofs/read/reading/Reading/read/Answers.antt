@@ -1,13 +1,12 @@
-use Rattle.std.proofs.Common.{ℕ, List, [], ◌∷◌, ◌++◌, Result, Ok, Err, refl, subst, ◌∙◌}
+use Rattle.std.proofs.Common.{subst}
 use Rattle.std.specs.List.{flat_map}
 use Rattle.ca_plane.specs.Bytes.{words_of}
 use Rattle.ca_macro.specs.declared.fault.MacroFault.TheVariants.{Memory}
 use Rattle.ca_macro.specs.declared.line.Line.TheVariants as line
-use Rattle.ca_macro.specs.Nodes.{Node, Leaf, Cells, Parts}
-use Rattle.ca_macro.specs.File.{Said, Adds, added}
+use Rattle.ca_macro.specs.Nodes.{Leaf, Cells, Parts}
+use Rattle.ca_macro.specs.File.{Adds, added}
 use Rattle.ca_macro.specs.inner.Comments.{said_of}
 use Rattle.ca_macro.specs.inner.Lines.{Reads}
-use Rattle.ca_macro.specs.inner.Reading.{HasFault}
 use Rattle.ca_macro.proofs.Saying.{passed_on, faulty_line, comment_allowed, node_said, parts_fault, parts_ok, parts_err}
 use Rattle.ca_macro.proofs.read.reading.Reading.read.Goals as goal
 

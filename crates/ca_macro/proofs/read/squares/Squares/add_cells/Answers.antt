@@ -1,4 +1,4 @@
-use Rattle.std.proofs.Common.{refl, slice_index, ap, subst, ◌^◌}
+use Rattle.std.proofs.Common.{refl, slice_index, subst}
 use Rattle.ca_quad.specs.Squares.{dot, together}
 use Rattle.ca_quad.specs.Trees.{Shows}
 use Rattle.ca_macro.specs.Nodes.{Cells}
