@@ -158,7 +158,7 @@ holds_all p box level least (a, b, c, d) x y live =
     ((omega (arith, ints), omega (arith, ints)), (omega (arith, ints), omega (arith, ints)))
 
 -- a place lies on a side, or off it
-place_on : (u : ℤ) (side : ℕ) → ((n : ℕ) × (u ≡ pos n) × (n < side)) ⊎ IsOff side u
+pub place_on : (u : ℤ) (side : ℕ) → ((n : ℕ) × (u ≡ pos n) × (n < side)) ⊎ IsOff side u
 place_on (pos n) side = elim (below_or_not n side) [ inl h ↦ inl (n, refl, h) | inr h ↦ inr (inr (omega (arith, ints))) ]
 place_on (negsuc n) side = inr (inl (omega (arith, ints)))
 

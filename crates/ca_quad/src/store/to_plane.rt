@@ -18,6 +18,9 @@ use std::alloc::Global;
 // The most live cells that are handled at once.
 const MAX_CELLS: u128 = 16777216;
 
+// A tree of this level lies in the square of a plane.
+const INSIDE: u8 = 63;
+
 // How far from 0 a coordinate of a plane's cells may be.
 const REACH: i128 = 4611686018427387904;
 
@@ -68,6 +71,9 @@ impl Store {
         ensures fits { OnOk result (FitsPlane (cell self.now tree)) }
         ensures fault { IfErr result (IsRefused self.now tree) }
     {
+        if self.level(tree.root) <= INSIDE {
+            return Ok(());
+        }
         let Some(bounds) = self.bounds(alloc, tree)? else {
             return Ok(());
         };

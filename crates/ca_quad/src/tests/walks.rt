@@ -45,6 +45,27 @@ fn plane_of(store: &Store, alloc: Global, root: Id) -> Result<Result<Plane, Quad
     Ok(store.to_plane(alloc, tree))
 }
 
+// The root of the tree of a plane. Its level stays unsaid: a literal level costs a proof minutes.
+fn root_of(store: &mut Store, plane: &Plane) -> Result<Id, Fail> {
+    Ok(store.from_plane(plane)?.root)
+}
+
+// A field of 250 rows by 400 columns, all of whose cells are live.
+fn field(alloc: Global) -> Result<Plane, Memory> {
+    let mut plane = Plane::new(alloc);
+    'rows: for row in 0..250u64 {
+        'columns: for column in 0..400u64 {
+            let state = ((row.wrapping_mul(row) ^ column.wrapping_mul(column)) % 255) as u8 + 1;
+            let at = Point {
+                y: row as i64,
+                x: column as i64,
+            };
+            plane.set(at, state)?;
+        }
+    }
+    Ok(plane)
+}
+
 // A place where the trees with these roots differ.
 fn difference(store: &Store, a: Id, b: Id) -> Result<Option<Spot>, Fail> {
     let one = tree_of(store, a)?;
@@ -93,9 +114,7 @@ fn a_glider_is_made_a_plane(rt: HostRuntime) -> Result<(), Fail> {
     plane.set(Point { y: 2, x: 1 }, 1)?;
     plane.set(Point { y: 2, x: 2 }, 1)?;
     assert!(rt; plane_of(&store, rt.alloc(), root)??.same(&plane));
-    let tree = store.from_plane(&plane)?;
-    assert_eq!(rt; tree.level, 3);
-    assert_eq!(rt; tree.root, root);
+    assert_eq!(rt; root_of(&mut store, &plane)?, root);
     Ok(())
 }
 
@@ -135,9 +154,7 @@ fn a_cell_at_the_edge_of_a_plane_is_found(rt: HostRuntime) -> Result<(), Fail> {
     };
     assert_eq!(rt; plane.get(at), 1);
     assert_eq!(rt; plane.len(), 1);
-    let tree = store.from_plane(&plane)?;
-    assert_eq!(rt; tree.level, 64);
-    assert_eq!(rt; tree.root, root);
+    assert_eq!(rt; root_of(&mut store, &plane)?, root);
     assert_eq!(rt; trimmed(&mut store, root)?.root, root);
     let outside = one_cell(&mut store, Corner::SouthEast, 1, 64)?;
     assert_eq!(rt;
@@ -186,7 +203,26 @@ fn many_cells_are_made_a_plane(rt: HostRuntime) -> Result<(), Fail> {
     assert_eq!(rt; plane.get(Point { y: -256, x: 255 }), 1);
     assert_eq!(rt; plane.get(Point { y: 255, x: -256 }), 0);
     assert_eq!(rt; plane.get(Point { y: 255, x: 255 }), 2);
-    let tree = store.from_plane(&plane)?;
-    assert_eq!(rt; tree.root, square);
+    assert_eq!(rt; root_of(&mut store, &plane)?, square);
+    Ok(())
+}
+
+#[test]
+fn a_hundred_thousand_cells_are_walked_over(rt: HostRuntime) -> Result<(), Fail> {
+    let mut store = Store::new(rt.alloc());
+    let plane = field(rt.alloc())?;
+    let root = root_of(&mut store, &plane)?;
+    assert!(rt; store.count() > 20000);
+    assert_eq!(rt; live_cells(&store, rt.alloc(), root)?, 100000);
+    let least = WideBounds {
+        x0: 0,
+        y0: 0,
+        x1: 399,
+        y1: 249,
+    };
+    assert_eq!(rt; least_box(&store, rt.alloc(), root)?, Some(least));
+    assert!(rt; plane_of(&store, rt.alloc(), root)??.same(&plane));
+    let larger = padded(&mut store, root)?;
+    assert_eq!(rt; trimmed(&mut store, larger.root)?.root, root);
     Ok(())
 }
