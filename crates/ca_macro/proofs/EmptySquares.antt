@@ -1,13 +1,13 @@
 -- Squares whose cells are all 0, level by level.
-use Rattle.std.proofs.Common.{◌≡◌, ℕ, zero, suc, ◌+◌, ◌-◌, ◌<◌, ◌≤◌, ◌^◌, ◌⊎◌, inl, inr, List, [], ◌∷◌, ◌++◌, length, get_or, slice_index, Some, Option, refl, sym, ap, subst, ◌∙◌, arith}
+use Rattle.std.proofs.Common.{◌≡◌, ℕ, suc, ◌-◌, ◌^◌, inl, inr, List, [], ◌∷◌, ◌++◌, length, get_or, slice_index, Some, refl, sym, subst, arith}
 use Rattle.std.specs.List.{slice_get}
 use Rattle.std.proofs.lemmas.List.{get_or_append_left, length_push}
 use Rattle.std.proofs.lemmas.Option.{slice_get_within, get_or_from_slice_get}
 use Rattle.std.proofs.Math.Seq.{get_or-append_seam}
 use Rattle.ca_quad.specs.declared.node.Node.{Node as Kept}
-use Rattle.ca_quad.specs.Squares.{IsOf, dot, together, cell_of}
+use Rattle.ca_quad.specs.Squares.{dot, together, cell_of}
 use Rattle.ca_quad.specs.Sound.{IsSound, Grows}
-use Rattle.ca_quad.specs.Trees.{Shows, AreFour}
+use Rattle.ca_quad.specs.Trees.{Shows}
 use Rattle.ca_quad.proofs.Growth.{below_or_not}
 use Rattle.ca_quad.proofs.Shown.{shows_as, shows_stays}
 use Rattle.ca_quad.proofs.Walks.{dot_empty, together_empty}

@@ -1,19 +1,19 @@
 -- Every text is a file or has a first fault: each line says something, or is faulty.
-use Rattle.std.proofs.Common.{◌≡◌, ◌≢◌, ℕ, zero, suc, ◌-◌, ◌<◌, ◌≤◌, ◌⊎◌, inl, inr, Bool, true, false, not, ◌&&◌, ◌||◌, ◌==◌, nat_lt, nat_le, nat_eq, List, [], ◌∷◌, ◌++◌, length, Option, Some, None, refl, sym, ap, subst, ◌∙◌, arith, codes}
+use Rattle.std.proofs.Common.{◌≡◌, ◌≢◌, ℕ, zero, suc, ◌-◌, ◌<◌, ◌≤◌, ◌⊎◌, inl, inr, Bool, true, false, not, ◌||◌, ◌==◌, nat_le, nat_eq, List, [], ◌∷◌, ◌++◌, length, Option, Some, None, refl, sym, ap, subst, ◌∙◌, arith, codes}
 use Rattle.std.specs.List.{AllByRecursion, list_all, starts_with, flat_map}
 use Rattle.std.specs.Str.{bytes_eq}
-use Rattle.std.proofs.lemmas.Bool.{cases_Bool, and_parts, and_from, true≢false}
+use Rattle.std.proofs.lemmas.Bool.{cases_Bool, and_from, true≢false}
 use Rattle.std.proofs.lemmas.Bool.Decides.{nat_tests}
 use Rattle.std.proofs.lemmas.List.{append-nil, append_assoc}
 use Rattle.std.proofs.lemmas.Slice.Eq.{bytes_eq-Decides}
-use Rattle.ca_plane.specs.Bytes.{letter, is_line_end, is_end_or, with_front, AreDigits, value, lines_of, words_of}
+use Rattle.ca_plane.specs.Bytes.{letter, is_line_end, is_end_or, with_front, value, lines_of, words_of}
 use Rattle.ca_plane.specs.Limits.{generation_limit}
 use Rattle.ca_quad.proofs.Growth.{below_or_not}
 use Rattle.ca_macro.specs.declared.fault.MacroFault.{MacroFault}
 use Rattle.ca_macro.specs.declared.fault.MacroFault.TheVariants.{NotMacro, Timeline, Syntax, Forward, Level, LeafSize, Range, GenTooLarge, Memory}
 use Rattle.ca_macro.specs.Nodes.{Node, Leaf, Cells, Parts, Names, IsLevel}
-use Rattle.ca_macro.specs.File.{Said, Nothing, Rule, Generation, Adds, is_comment, AreNumbers, WordsSay, added, IsAllowed, LinesSay, File, begins_macro, IsFile}
-use Rattle.ca_macro.specs.Faults.{HasLine, is_leaf_byte, HasBadByte, HasBadPart, AreMisspelled, AreFaulty, IsFirstFault}
+use Rattle.ca_macro.specs.File.{Said, Nothing, Rule, Generation, Adds, AreNumbers, WordsSay, added, IsAllowed, LinesSay, File, begins_macro, IsFile}
+use Rattle.ca_macro.specs.Faults.{HasLine, is_leaf_byte, HasBadPart, AreFaulty, IsFirstFault}
 use Rattle.ca_macro.specs.inner.Leaves.{leaf_fault, cells_of, IsLeafFault}
 use Rattle.ca_macro.specs.inner.Reading.{file_of}
 use Rattle.ca_macro.proofs.Leaves.{leaf_found}

@@ -1,30 +1,24 @@
 -- The squares that are kept for nodes: they stay, one more is put behind them, and each is found by its number.
-use Rattle.std.proofs.Common.{◌≡◌, ℕ, zero, suc, ◌+◌, ◌-◌, ◌*◌, ◌<◌, ◌≤◌, ◌^◌, ◌⊎◌, inl, inr, min, ℤ, pos, neg_ℤ, ◌+ℤ◌, ◌-ℤ◌, List, [], ◌∷◌, ◌++◌, map, length, get_or, slice_index, Bool, Option, Some, None, unwrap_or, MatchOption, Result, Ok, Err, IfOk, refl, sym, ap, subst, ◌∙◌, arith}
+use Rattle.std.proofs.Common.{◌≡◌, ℕ, zero, suc, ◌-◌, ◌<◌, ◌≤◌, ◌^◌, ℤ, pos, neg_ℤ, ◌+ℤ◌, ◌-ℤ◌, List, [], ◌∷◌, ◌++◌, map, length, get_or, slice_index, Bool, Option, Some, None, unwrap_or, refl, sym, ap, subst, ◌∙◌, arith}
 use Rattle.std.specs.List.{slice_get, AllByRecursion, last_or}
 use Rattle.std.proofs.lemmas.Int.{ints}
-use Rattle.std.proofs.lemmas.List.{append-nil, append_assoc}
 use Rattle.std.proofs.lemmas.List.Elements.{All-nil}
 use Rattle.std.proofs.lemmas.Option.{slice_get_within, same_Some}
-use Rattle.std.proofs.Math.Nat.{two-pow-succ}
-use Rattle.ca_plane.specs.Plane.{Picture, IsPicture, cell, shifted}
+use Rattle.ca_plane.specs.Plane.{Picture, IsPicture, cell}
 use Rattle.ca_plane.proofs.Shifts.{cell-shifted}
 use Rattle.ca_quad.specs.declared.node.Node.{Node as Kept}
 use Rattle.ca_quad.specs.declared.tree.Tree.{Tree}
-use Rattle.ca_quad.specs.Squares.{IsOf, dot, together, cell_of}
+use Rattle.ca_quad.specs.Squares.{dot, together, cell_of}
 use Rattle.ca_quad.specs.Sound.{IsSound, Grows}
 use Rattle.ca_quad.specs.Trees.{Shows, AreFour, IsTree, row_cells, from_corner, cell as tree_cell}
-use Rattle.ca_quad.proofs.Growth.{below_or_not, grows_on}
-use Rattle.ca_quad.proofs.Cells.{Ends, cell_ends, cells_stay, of_stays}
+use Rattle.ca_quad.proofs.Cells.{cell_ends, cells_stay, of_stays}
 use Rattle.ca_quad.proofs.Shown.{shows_stays}
-use Rattle.ca_macro.specs.declared.fault.MacroFault.{MacroFault}
-use Rattle.ca_macro.specs.declared.fault.MacroFault.TheVariants.{NotMacro, Timeline, Syntax, Forward, Level, LeafSize, Range, GenTooLarge, Memory}
 use Rattle.ca_macro.specs.declared.read.squares.Squares.{Squares}
 use Rattle.ca_macro.specs.Nodes.{Node, Leaf, Cells, Parts, level_of, Names, IsLevel, StandsBehind}
 use Rattle.ca_macro.specs.Shown.{state_of, rows_from, joined, numbered, square_of, squares_behind, squares_of, centred, rooted, picture_of}
-use Rattle.ca_macro.specs.Faults.{HasBadPart}
 use Rattle.ca_macro.specs.inner.Leaves.{leaf_bits}
 use Rattle.ca_macro.specs.inner.Numbers.{kept_of}
-use Rattle.ca_macro.specs.inner.Reading.{Draws, AreDrawn, AreEmpties, AreSquares, IsPart, IsBadNumber, HaveFault}
+use Rattle.ca_macro.specs.inner.Reading.{Draws, AreDrawn, AreEmpties, AreSquares, IsPart}
 use Rattle.ca_macro.proofs.Drawings.{AreStates, rows_states, rows_cell, from_corner_same, in_rows, four_cells, leaf_cell, leaf_states, shifted_states, joined_states, joined_cell}
 
 -- ---- squares go on to show their pictures

@@ -1,6 +1,6 @@
 -- A macrocell text read line by line, to its end or to its first fault.
-use Rattle.std.proofs.Common.{◌≡◌, ℕ, List, [], ◌∷◌, ◌++◌, Bool, true, false, not, Option, Some, None, unwrap_or, Result, Ok, Err, IfErr, inl, inr, ◌⊎◌, refl, sym, ap, subst, ◌∙◌, arith}
-use Rattle.std.specs.List.{flat_map, All}
+use Rattle.std.proofs.Common.{◌≡◌, ℕ, List, [], ◌∷◌, ◌++◌, true, Result, IfErr, inl, refl, sym, ap, subst, ◌∙◌}
+use Rattle.std.specs.List.{flat_map}
 use Rattle.std.specs.Result.{IsErrAnd}
 use Rattle.std.proofs.lemmas.Result.{err_from_is_err_and}
 use Rattle.std.proofs.lemmas.List.{append-nil, append_assoc}
@@ -12,7 +12,7 @@ use Rattle.ca_macro.specs.declared.fault.MacroFault.{MacroFault}
 use Rattle.ca_macro.specs.declared.fault.MacroFault.TheVariants.{NotMacro, Timeline, Syntax, Forward, Level, LeafSize, Range, GenTooLarge, Memory}
 use Rattle.ca_macro.specs.declared.read.reading.Reading.{Reading}
 use Rattle.ca_macro.specs.Nodes.{Node}
-use Rattle.ca_macro.specs.File.{Said, Nothing, Rule, Generation, Adds, WordsSay, added, IsAllowed, LinesSay, File, begins_macro, IsFile}
+use Rattle.ca_macro.specs.File.{Said, WordsSay, added, IsAllowed, LinesSay, begins_macro, IsFile}
 use Rattle.ca_macro.specs.Faults.{HasLine, AreFaulty, AddNode, IsFaultOf}
 use Rattle.ca_macro.specs.inner.Reading.{HasFault, IsReading, file_of}
 

@@ -1,8 +1,7 @@
 -- What is kept once one more line has said something, or what is wrong with it.
-use Rattle.std.proofs.Common.{◌≡◌, ℕ, ◌-◌, ◌<◌, ◌≤◌, List, [], ◌∷◌, ◌++◌, length, Bool, true, false, not, ◌&&◌, ◌||◌, Option, Some, None, unwrap_or, Result, Ok, Err, IfErr, OnOk, IsTrue, inl, inr, refl, sym, ap, subst, ◌∙◌, arith, codes, if◌then◌else◌}
+use Rattle.std.proofs.Common.{◌≡◌, ℕ, ◌-◌, ◌<◌, List, [], ◌∷◌, ◌++◌, true, false, not, Some, Result, Ok, Err, IfErr, OnOk, inl, inr, refl, sym, ap, subst, ◌∙◌, codes}
 use Rattle.std.specs.Borrow.{Bor}
 use Rattle.std.specs.List.{flat_map, list_all, AllByRecursion}
-use Rattle.std.specs.Option.{option_copied}
 use Rattle.std.specs.Result.{IsErrAnd}
 use Rattle.std.proofs.lemmas.Result.{err_from_is_err_and}
 use Rattle.std.proofs.lemmas.Bool.{cases_Bool, and_parts, and_from}
@@ -14,14 +13,13 @@ use Rattle.ca_macro.specs.declared.fault.MacroFault.{MacroFault}
 use Rattle.ca_macro.specs.declared.fault.MacroFault.TheVariants.{NotMacro, Timeline, Syntax, Forward, Level, LeafSize, Range, GenTooLarge, Memory}
 use Rattle.ca_macro.specs.declared.line.comment.Comment.{Comment}
 use Rattle.ca_macro.specs.declared.line.comment.Comment.TheVariants as comment
-use Rattle.ca_macro.specs.declared.line.numbers.Numbers.{Numbers}
 use Rattle.ca_macro.specs.declared.read.reading.Reading.{Reading}
 use Rattle.ca_macro.specs.declared.read.squares.Squares.{Squares}
-use Rattle.ca_macro.specs.Nodes.{Node, Leaf, Cells, Parts, IsLevel, Names, StandsBehind}
+use Rattle.ca_macro.specs.Nodes.{Node, Parts, IsLevel}
 use Rattle.ca_macro.specs.File.{Said, Nothing, Rule, Generation, Adds, WordsSay, added, IsAllowed, last_rule, last_generation}
 use Rattle.ca_macro.specs.Faults.{AreFaulty, HasBadPart}
 use Rattle.ca_macro.specs.inner.Comments.{said_of}
-use Rattle.ca_macro.specs.inner.Reading.{AreSquares, IsBadNumber, KeepsParts, HaveFault, HasFault, IsReading}
+use Rattle.ca_macro.specs.inner.Reading.{AreSquares, IsBadNumber, HaveFault, HasFault, IsReading}
 use Rattle.ca_macro.proofs.LinesRead.{added-push}
 
 -- ---- a fault that `?` passes on

@@ -1,19 +1,17 @@
 -- A line behind earlier nodes says one thing at most, or has one fault at most: what it is, decided word by word.
-use Rattle.std.proofs.Common.{◌≡◌, ◌≢◌, ℕ, zero, suc, ◌-◌, ◌<◌, ◌≤◌, ◌⊎◌, inl, inr, Bool, true, false, not, ◌&&◌, ◌||◌, ◌==◌, nat_lt, nat_le, nat_eq, List, [], ◌∷◌, ◌++◌, map, length, Option, Some, None, Result, Ok, Err, refl, sym, ap, subst, ◌∙◌, arith, codes, if◌then◌else◌, option_map, IsTrue}
+use Rattle.std.proofs.Common.{◌≡◌, ◌≢◌, ℕ, zero, suc, ◌-◌, ◌<◌, ◌≤◌, ◌⊎◌, inl, inr, Bool, true, false, not, ◌&&◌, ◌||◌, ◌==◌, nat_lt, nat_le, nat_eq, List, [], ◌∷◌, ◌++◌, length, Option, Some, None, Result, Ok, Err, refl, sym, ap, ◌∙◌, arith, codes, if◌then◌else◌, option_map}
 use Rattle.std.specs.Prelude.{slice_get}
-use Rattle.std.specs.List.{AllZip, AllByRecursion, list_all, starts_with}
+use Rattle.std.specs.List.{AllByRecursion, list_all, starts_with}
 use Rattle.std.specs.Str.{bytes_eq}
 use Rattle.std.proofs.lemmas.Bool.{cases_Bool, and_parts, and_from, true≢false}
 use Rattle.std.proofs.lemmas.Bool.Decides.{nat_tests}
-use Rattle.std.proofs.lemmas.Option.{same_Some}
 use Rattle.ca_plane.specs.Bytes.{letter, is_digit, is_end_or, AreDigits, value}
 use Rattle.ca_plane.specs.Limits.{generation_limit}
-use Rattle.ca_quad.proofs.Growth.{below_or_not}
 use Rattle.ca_macro.specs.declared.fault.MacroFault.{MacroFault}
 use Rattle.ca_macro.specs.declared.fault.MacroFault.TheVariants.{NotMacro, Timeline, Syntax, Forward, Level, LeafSize, Range, GenTooLarge, Memory}
-use Rattle.ca_macro.specs.Nodes.{Node, Leaf, Cells, Parts, IsLeaf, level_of, Names, IsLevel, StandsBehind}
-use Rattle.ca_macro.specs.File.{Said, Nothing, Rule, Generation, Adds, is_comment, IsNumber, AreNumbers, WordsSay, IsAllowed}
-use Rattle.ca_macro.specs.Faults.{is_leaf_byte, HasBadByte, HasBadPart, HavePart, begin_node, LackNumbers, AreFaulty}
+use Rattle.ca_macro.specs.Nodes.{Node, Leaf, Cells, Parts, IsLeaf, level_of, Names, IsLevel}
+use Rattle.ca_macro.specs.File.{Said, Nothing, Rule, Generation, Adds, is_comment, AreNumbers, WordsSay, IsAllowed}
+use Rattle.ca_macro.specs.Faults.{is_leaf_byte, HasBadByte, HavePart, LackNumbers, AreFaulty}
 use Rattle.ca_macro.specs.inner.Leaves.{leaf_fault, cells_of}
 use Rattle.ca_macro.proofs.Leaves.{one_leaf}
 use Rattle.ca_macro.proofs.LeafLines.{byte_fault, leaf_none, bad_fault, leaf_begins}
