@@ -296,19 +296,6 @@ module _ (nodes : List Node) (id nw ne sw se : ℕ) (before : IsIn nodes id) (e 
     ]
   ]
 
-  -- the row of a live cell
-  pub row_live : (x y : ℤ) → IsLive (placed (cells_of nodes id) at) x y → (y ≡ at.y +ℤ pos 0) ⊎ (y ≡ at.y +ℤ pos 1)
-  row_live x y h = elim (cells_live x y h) [
-    | inl u ↦ elim u [
-      | inl l ↦ let g = (dot_place nw at x y l).1 in inl (omega (arith, ints))
-      | inr l ↦ let g = (dot_place ne cs.ne x y l).1 in inl (omega (arith, ints, are.ne_y))
-    ]
-    | inr u ↦ elim u [
-      | inl l ↦ let g = (dot_place sw cs.sw x y l).1 in inr (omega (arith, ints, are.sw_y))
-      | inr l ↦ let g = (dot_place se cs.se x y l).1 in inr (omega (arith, ints, are.se_y))
-    ]
-  ]
-
 -- and four parts
 module _ (nodes : List Node) (id nw ne sw se : ℕ) (before : IsIn nodes id) (m : ℕ) (e : Parts m nw ne sw se ≡ square_of nodes id) (whole : HasParts nodes (length nodes) m nw ne sw se)
     (half : ℕ) (half_is : half ≡ 2 ^ (m - 1)) (at : Spot) (cs : Corners) (are : ArePartCorners at half cs) where

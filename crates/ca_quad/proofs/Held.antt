@@ -1,6 +1,6 @@
 -- Places of a list of cells, and the rows that hold them.
 use Rattle.std.proofs.Common.{◌≡◌, ℕ, ◌+◌, ◌<◌, ◌≤◌, ◌⊎◌, inl, inr, Some, ℤ, pos, ◌<ℤ◌, ◌≤ℤ◌, List, [], ◌∷◌, ◌++◌, drop, get_or, length, map, sym, ap, subst, ◌∙◌, arith, Less}
-use Rattle.std.specs.List.{slice_get}
+use Rattle.std.specs.List.{All, slice_get}
 use Rattle.std.proofs.lemmas.Bool.{cases_eq}
 use Rattle.std.proofs.lemmas.Int.{ints}
 use Rattle.std.proofs.lemmas.List.{get_or-map, length-map, drop_more, drop_all}
@@ -75,11 +75,13 @@ pub Hold-same : (rs : List Row) (r : Row) → r.first ≡ r.end → (i : ℕ) �
 Hold-same rs r e i (inl h) = h
 Hold-same rs r e i (inr h) = absurd (omega (arith, h.from, h.below))
 
-pub rest_at : (rows : List Row) (k : ℕ) (r : Row) → slice_get rows k ≡ Some r → drop k rows ≡ r ∷ drop (k + 1) rows
-rest_at rows k r at = drop_more rows k r (slice_get_within rows k r at) ∙ ap (λ f. f ∷ drop (k + 1) rows) (get_or_from_slice_get rows k r r at)
+-- the rest of a list, and its first element
+pub rest_at : {X : Type 0} (xs : List X) (k : ℕ) (x : X) → slice_get xs k ≡ Some x → drop k xs ≡ x ∷ drop (k + 1) xs
+rest_at xs k x at = drop_more xs k x (slice_get_within xs k x at) ∙ ap (λ e. e ∷ drop (k + 1) xs) (get_or_from_slice_get xs k x x at)
 
-pub row_is : (p : Picture) (rows : List Row) (k : ℕ) (r : Row) → slice_get rows k ≡ Some r → AreRows p rows → IsRow p r
-row_is p rows k r at are = subst (IsRow p) (get_or_from_slice_get rows k r r at) (All-get_or (IsRow p) rows k r (slice_get_within rows k r at) are)
+-- what holds of all elements holds of one
+pub all_at : {X : Type 0} (P : X → Type 0) (xs : List X) (k : ℕ) (x : X) → slice_get xs k ≡ Some x → All P xs → P x
+all_at P xs k x at all = subst P (get_or_from_slice_get xs k x x at) (All-get_or P xs k x (slice_get_within xs k x at) all)
 
 -- ---- parts that are collected
 
@@ -141,7 +143,7 @@ module _ (p : Picture) (sparse : IsSparse p) where
 -- a row goes to the part that it belongs to, and the other part stays
 module _ (p : Picture) (rows : List Row) (are : AreRows p rows) (k : ℕ) (r : Row) (at : slice_get rows k ≡ Some r) (y : ℤ) where
   is : IsRow p r
-  is = row_is p rows k r at are
+  is = all_at (IsRow p) rows k r at are
 
   module _ (north south new_north new_south more : List Row) (n : IsSoFar p rows (IsNorth y) north k) (s : IsSoFar p rows (IsSouth y) south k) where
     pub north_next : r.y <ℤ y → new_north ≡ more → new_south ≡ south → more ≡ north ++ r ∷ [] → IsSoFar p rows (IsNorth y) new_north (k + 1) × IsSoFar p rows (IsSouth y) new_south (k + 1)

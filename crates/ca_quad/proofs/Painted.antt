@@ -1,12 +1,9 @@
 -- Cells that are written to a plane.
-use Rattle.std.proofs.Common.{◌≡◌, ◌≢◌, ℕ, zero, suc, ◌+◌, ◌-◌, ◌^◌, Result, Ok, Err, OnOk, ◌⊎◌, inl, inr, Some, ◌&&◌, true, ◌==◌, if◌then◌else◌, ℤ, pos, negsuc, ◌+ℤ◌, ◌-ℤ◌, List, [], ◌∷◌, ◌++◌, drop, length, refl, sym, ap, subst, ◌∙◌, arith}
-use Rattle.std.specs.List.{slice_get}
+use Rattle.std.proofs.Common.{◌≡◌, ◌≢◌, ℕ, zero, suc, ◌-◌, ◌^◌, Result, Ok, Err, OnOk, ◌⊎◌, inl, inr, ◌&&◌, true, ◌==◌, if◌then◌else◌, ℤ, pos, negsuc, ◌+ℤ◌, ◌-ℤ◌, List, [], ◌∷◌, ◌++◌, length, refl, sym, ap, subst, ◌∙◌, arith}
 use Rattle.std.specs.Ordering.{int_eq}
 use Rattle.std.proofs.lemmas.Bool.{cases_Bool, cases_eq}
 use Rattle.std.proofs.lemmas.Int.{ints}
-use Rattle.std.proofs.lemmas.List.{drop_more}
-use Rattle.std.proofs.lemmas.List.Elements.{All-append, All-nil, All-cons, All-head, All-tail, All-get_or}
-use Rattle.std.proofs.lemmas.Option.{get_or_from_slice_get, slice_get_within}
+use Rattle.std.proofs.lemmas.List.Elements.{All-append, All-nil, All-cons, All-head, All-tail}
 use Rattle.ca_plane.specs.declared.point.Point.{Point}
 use Rattle.ca_plane.specs.Change.{Sets}
 use Rattle.ca_plane.specs.Plane.{Picture, cell}
@@ -94,13 +91,6 @@ module _ (nodes : List Node) where
     live = λ x y h. elim h [ inl l ↦ l | inr l ↦ absurd (none x y l) ];
     ready = λ all level are is. are;
   }
-
-  -- the squares that are still to come
-  pub rest_at : (rows : List Placed) (k : ℕ) (r : Placed) → slice_get rows k ≡ Some r → drop k rows ≡ r ∷ drop (k + 1) rows
-  rest_at rows k r at = drop_more rows k r (slice_get_within rows k r at) ∙ ap (λ f. f ∷ drop (k + 1) rows) (get_or_from_slice_get rows k r r at)
-
-  pub ready_at : (all : ℤ → ℤ → ℕ) (level : ℕ) (rows : List Placed) (k : ℕ) (r : Placed) → slice_get rows k ≡ Some r → AreReady nodes all level rows → IsReady nodes all level r
-  ready_at all level rows k r at are = subst (IsReady nodes all level) (get_or_from_slice_get rows k r r at) (All-get_or (IsReady nodes all level) rows k r (slice_get_within rows k r at) are)
 
 -- the last of two, whose answer is handed on
 pub paints_last : {T E : Type 0} (all : ℤ → ℤ → ℕ) (r : Result T E) (a b c : Picture) (l m live : ℤ → ℤ → Type 0) → Paints all a b l → OnOk r (Paints all b c m) → ((x y : ℤ) → live x y → l x y ⊎ m x y) → OnOk r (Paints all a c live)

@@ -1,8 +1,8 @@
 use Rattle.std.proofs.Common.{◌≡◌, Some, length, refl, inl, inr, subst}
 use Rattle.std.specs.List.{slice_get}
 use Rattle.std.proofs.lemmas.Option.{slice_get_read}
-use Rattle.ca_quad.specs.inner.Drawn.{IsLiveIn}
-use Rattle.ca_quad.proofs.Painted.{rest_at, ready_at}
+use Rattle.ca_quad.specs.inner.Drawn.{IsReady, IsLiveIn}
+use Rattle.ca_quad.proofs.Held.{rest_at, all_at}
 use Rattle.ca_quad.proofs.store.Store.halves_of.Goals as goal
 
 pub squares-preserved : goal.squares-preserved
@@ -16,7 +16,7 @@ squares-preserved c =
     let pushed = c.in_ok-push_parts.ensures in (
       λ x y l. elim (live x y l) [
         | inl h ↦ inl (pushed.live x y (inl h))
-        | inr rest ↦ elim (subst (λ rs. IsLiveIn nodes rs x y) (rest_at nodes squares k s at) rest) [ inl here ↦ inl (pushed.live x y (inr here)) | inr more ↦ inr more ]
+        | inr rest ↦ elim (subst (λ rs. IsLiveIn nodes rs x y) (rest_at squares k s at) rest) [ inl here ↦ inl (pushed.live x y (inr here)) | inr more ↦ inr more ]
       ],
-      λ all are. pushed.ready all (ready_at nodes all c.args.level squares k s at are) (ready all are),
+      λ all are. pushed.ready all (all_at (IsReady nodes all c.args.level) squares k s at are) (ready all are),
     )
