@@ -15,13 +15,19 @@ pub struct Loaded {
     bytes: Vec<u8>,
 }
 
-/// All bytes of a file. One that can't be opened can't be read.
-pub fn read_file<R: Files + AllocGlobal>(rt: &R, path: &str) -> Result<Vec<u8>, InputFault> {
+/// The file of a path. One that can't be opened can't be read.
+pub fn open_file<R: Files>(rt: &R, path: &str) -> Result<Dev<R::File>, InputFault> {
     match fs::open(rt, path) {
-        Ok(file) => read_all(rt.alloc(), &mut Dev::new(file)),
+        Ok(file) => Ok(Dev::new(file)),
         Err(error) if error.kind() == ErrorKind::OutOfMemory => Err(InputFault::Memory),
         Err(_) => Err(InputFault::Read),
     }
+}
+
+/// All bytes of a file.
+pub fn read_file<R: Files + AllocGlobal>(rt: &R, path: &str) -> Result<Vec<u8>, InputFault> {
+    let mut file = open_file(rt, path)?;
+    read_all(rt.alloc(), &mut file)
 }
 
 /// The file of a path, or none where the path is no text, or the file can't be read or is too long.

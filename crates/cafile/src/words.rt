@@ -1,26 +1,51 @@
 //! The words that the program is started with.
 
+use ca_claims::Target;
 use clap::error::ErrorKind;
 use clap::{Arg, ArgMatches, Command, Error};
 use std::alloc::{AllocError, Global};
 use std::rt::Env;
 use std::{env, io};
 
-const EXAMPLE: &str = "Example: cafile verify examples/block.claims";
+const EXAMPLES: &str = "Examples:
+  cafile show examples/glider.rle
+  cafile convert examples/glider.rle --to mc
+  cafile verify examples/block.claims";
+
+const SHOW_EXAMPLE: &str = "Example: cafile show examples/glider.rle";
+
+const CONVERT_EXAMPLE: &str = "Example: cafile convert examples/glider.rle --to mc";
+
+const VERIFY_EXAMPLE: &str = "Example: cafile verify examples/block.claims";
 
 /// What the words ask for.
 #[derive(Drop)]
 pub enum Request {
+    /// What the pattern file at this path holds, with the table of the rule file, if one is named.
+    Show {
+        path: String,
+        rule: Option<String>,
+    },
+    /// The pattern file at this path in the target's format, with the table of the rule file, if one is named.
+    Convert {
+        path: String,
+        target: Target,
+        rule: Option<String>,
+    },
     /// A verdict for each claim of the text at this path.
-    Verify { path: String },
+    Verify {
+        path: String,
+    },
     /// This text, the help or the version.
-    Show { text: String },
+    Help {
+        text: String,
+    },
 }
 
 /// Why the words ask for nothing.
 #[derive(Drop)]
 pub enum WordsFault {
-    /// They aren't UTF-8. (That they hold no command can't come, since one is asked for.)
+    /// They aren't UTF-8. (That they hold no command, or lack one of its words, can't come, since clap asks for those.)
     Usage,
     /// They fit no command, for the reason that this text gives.
     Told { text: String },
@@ -55,10 +80,39 @@ fn given<R: Env + AllocGlobal>(rt: &R) -> Result<Vec<String>, WordsFault> {
 fn command<'a>(alloc: Global) -> Result<Command<'a>, AllocError> {
     Command::new(alloc, "cafile")
         .version("0.1.0")
-        .about("Gives proved verdicts on claims about the patterns in Golly's files")
-        .after_help(EXAMPLE)
+        .about(
+            "Reads and writes Golly's pattern files, and gives proved verdicts on claims about them",
+        )
+        .after_help(EXAMPLES)
         .subcommand_required(true)
+        .subcommand(show_command(alloc)?)?
+        .subcommand(convert_command(alloc)?)?
         .subcommand(verify_command(alloc)?)
+}
+
+fn show_command<'a>(alloc: Global) -> Result<Command<'a>, AllocError> {
+    Command::new(alloc, "show")
+        .about(
+            "Prints the format, the rule, the generation, the number of live cells and their box",
+        )
+        .after_help(SHOW_EXAMPLE)
+        .arg(file_word(alloc))?
+        .arg(rule_word(alloc))
+}
+
+fn convert_command<'a>(alloc: Global) -> Result<Command<'a>, AllocError> {
+    let target = Arg::new(alloc, "to")
+        .long("to")
+        .value_name("FORMAT")
+        .required(true)
+        .value_parser(["rle", "mc"].as_slice())
+        .help("The format to write: extended RLE or macrocell");
+    Command::new(alloc, "convert")
+        .about("Writes the pattern of a file in a format to standard output")
+        .after_help(CONVERT_EXAMPLE)
+        .arg(file_word(alloc))?
+        .arg(target)?
+        .arg(rule_word(alloc))
 }
 
 fn verify_command<'a>(alloc: Global) -> Result<Command<'a>, AllocError> {
@@ -67,22 +121,66 @@ fn verify_command<'a>(alloc: Global) -> Result<Command<'a>, AllocError> {
         .help("The path of the claim text");
     Command::new(alloc, "verify")
         .about("Prints a verdict for each claim of a text: yes, no or refused")
-        .after_help(EXAMPLE)
+        .after_help(VERIFY_EXAMPLE)
         .arg(claims)
 }
 
-// The command and its path are required, so that clap finds both wherever it finds no fault.
+fn file_word<'a>(alloc: Global) -> Arg<'a> {
+    Arg::new(alloc, "FILE")
+        .required(true)
+        .help("The path of the pattern file")
+}
+
+fn rule_word<'a>(alloc: Global) -> Arg<'a> {
+    Arg::new(alloc, "rule").long("rule").value_name("FILE").help(
+        "The path of a rule file, whose table the pattern's rule may name",
+    )
+}
+
+// The command and its words are required, so that clap finds them wherever it finds no fault.
 fn asked(alloc: Global, matches: &ArgMatches<'_>) -> Result<Request, WordsFault> {
-    let Some(verify) = matches.subcommand_matches("verify") else {
+    if let Some(words) = matches.subcommand_matches("show") {
+        let path = word_of(alloc, words, "FILE")?;
+        let rule = rule_of(alloc, words)?;
+        return Ok(Request::Show { path, rule });
+    }
+    if let Some(words) = matches.subcommand_matches("convert") {
+        let path = word_of(alloc, words, "FILE")?;
+        let target = target_of(words)?;
+        let rule = rule_of(alloc, words)?;
+        return Ok(Request::Convert { path, target, rule });
+    }
+    if let Some(words) = matches.subcommand_matches("verify") {
+        let path = word_of(alloc, words, "CLAIMS")?;
+        return Ok(Request::Verify { path });
+    }
+    Err(WordsFault::Usage)
+}
+
+fn word_of(alloc: Global, words: &ArgMatches<'_>, name: &str) -> Result<String, WordsFault> {
+    let Some(text) = words.get_str(name) else {
         return Err(WordsFault::Usage);
     };
-    let Some(path) = verify.get_str("CLAIMS") else {
-        return Err(WordsFault::Usage);
-    };
-    let Ok(path) = String::from_str(alloc, path) else {
+    let Ok(text) = String::from_str(alloc, text) else {
         return Err(WordsFault::Memory);
     };
-    Ok(Request::Verify { path })
+    Ok(text)
+}
+
+fn rule_of(alloc: Global, words: &ArgMatches<'_>) -> Result<Option<String>, WordsFault> {
+    if !words.contains_id("rule") {
+        return Ok(None);
+    }
+    let path = word_of(alloc, words, "rule")?;
+    Ok(Some(path))
+}
+
+fn target_of(words: &ArgMatches<'_>) -> Result<Target, WordsFault> {
+    match words.get_str("to") {
+        Some("rle") => Ok(Target::Rle),
+        Some("mc") => Ok(Target::Mc),
+        _ => Err(WordsFault::Usage),
+    }
 }
 
 // Help and version come from clap as errors too.
@@ -96,5 +194,5 @@ fn told(alloc: Global, error: &Error) -> Result<Request, WordsFault> {
     if error.use_stderr() {
         return Err(WordsFault::Told { text });
     }
-    Ok(Request::Show { text })
+    Ok(Request::Help { text })
 }

@@ -1,0 +1,88 @@
+//! The commands `show` and `convert`.
+
+use crate::FAULT;
+use crate::files::{open_file, read_file};
+use ca_claims::Target;
+use ca_plane::Dev;
+use ca_tool::{Fault, InputFault, ToolFault, complain, convert_run, show_run};
+use std::io::Write;
+use std::rt::Files;
+
+/// Tells what the pattern file of a path holds, and answers the exit status.
+pub fn show_file<R: Files + AllocGlobal, W: Write, E: Write>(
+    rt: &R,
+    path: &str,
+    rule: Option<&str>,
+    output: &mut Dev<W>,
+    errors: &mut Dev<E>,
+) -> u8 {
+    let Some((mut file, rule)) = open(rt, path, rule, errors) else {
+        return FAULT;
+    };
+    let run = show_run(rt.alloc(), &mut file, bytes_of(&rule), output);
+    ended(run, path, errors)
+}
+
+/// Writes the pattern file of a path in the target's format, and answers the exit status.
+pub fn convert_file<R: Files + AllocGlobal, W: Write, E: Write>(
+    rt: &R,
+    path: &str,
+    target: Target,
+    rule: Option<&str>,
+    output: &mut Dev<W>,
+    errors: &mut Dev<E>,
+) -> u8 {
+    let Some((mut file, rule)) = open(rt, path, rule, errors) else {
+        return FAULT;
+    };
+    let run = convert_run(rt.alloc(), &mut file, target, bytes_of(&rule), output);
+    ended(run, path, errors)
+}
+
+// Opens the pattern file and reads the rule file, if one is named. Where one of them fails, it tells which, and gives nothing.
+fn open<R: Files + AllocGlobal, E: Write>(
+    rt: &R,
+    path: &str,
+    rule: Option<&str>,
+    errors: &mut Dev<E>,
+) -> Option<(Dev<R::File>, Option<Vec<u8>>)> {
+    let file = match open_file(rt, path) {
+        Ok(file) => file,
+        Err(fault) => {
+            tell(fault, path, errors);
+            return None;
+        }
+    };
+    let Some(rule_path) = rule else {
+        return Some((file, None));
+    };
+    match read_file(rt, rule_path) {
+        Ok(bytes) => Some((file, Some(bytes))),
+        Err(fault) => {
+            tell(fault, rule_path, errors);
+            None
+        }
+    }
+}
+
+fn tell<E: Write>(fault: InputFault, path: &str, errors: &mut Dev<E>) {
+    let _ = complain(&Fault::Input(fault), path.as_bytes(), errors);
+}
+
+fn bytes_of(file: &Option<Vec<u8>>) -> Option<&[u8]> {
+    match file {
+        Some(bytes) => Some(bytes.as_slice()),
+        None => None,
+    }
+}
+
+// The exit status of a run, whose fault is told.
+fn ended<E: Write>(run: Result<u8, ToolFault>, path: &str, errors: &mut Dev<E>) -> u8 {
+    match run {
+        Ok(status) => status,
+        Err(fault) => {
+            let _ = complain(&Fault::Tool(fault), path.as_bytes(), errors);
+            FAULT
+        }
+    }
+}
