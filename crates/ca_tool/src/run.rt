@@ -1,6 +1,6 @@
 //! A run of `verify`: claims in, the lines of their answers out.
 
-ghost use Rattle.std.specs.Prelude.{◌≡◌, IfOk, IfErr, OnOk, IsErrOf};
+ghost use Rattle.std.specs.Prelude.{◌≡◌, ◌⊎◌, IfOk, IfErr, OnOk, IsErrOf};
 ghost use Rattle.std.specs.Io.KnownBytes.{Appends, Keeps};
 ghost use Rattle.ca_plane.specs.Device.{Rises, AppendsPrefix};
 ghost use Rattle.ca_claims.specs.Means.{contents};
@@ -28,6 +28,9 @@ pub fn verify_run<W: Write>(
     ensures answered { IfOk result (λ code. Answered (contents files.now) claims.now.rules claims.now.claims
         (Appends (W.contents device.old.inner) (W.contents device.new.inner)) (λ s. code ≡ s)) }
     ensures kept { OnOk result (device.new.failures ≡ device.old.failures) }
+
+    // It fails for a write or for want of memory alone.
+    ensures fault { IfErr result (λ f. (f ≡ ToolFault.Write) ⊎ (f ≡ ToolFault.Memory)) }
 
     // A write failed, after a first part of the lines of true answers.
     ensures front { IsErrOf result ToolFault.Write → Answered (contents files.now) claims.now.rules claims.now.claims
