@@ -29,7 +29,7 @@ use Rattle.ca_claims.specs.Places.{path_at}
 use Rattle.ca_claims.specs.Means.{bytes_at, IsReadable, MayWantMemory}
 use Rattle.ca_claims.specs.Truth.{asks_of}
 use Rattle.ca_claims.specs.inner.Decided.{IsDecided}
-use Rattle.ca_claims.specs.Answers.{IsPatternFault, IsQuietTable, IsTableFault, IsRead, IsTableAt, AreTables, IsRuled, HasLargeState, IsMissing, IsThere, HoldsTable, Reads, HasRule, IsSmall, SomeOf, FirstBad, FirstIs, HaveOtherRules, AgreeOn, HasCause, IsGood, AreGood, IsTrueVerdict}
+use Rattle.ca_claims.specs.Answers.{IsPatternFault, IsQuietTable, IsTableFault, IsRead, IsTableAt, AreTables, IsRuled, HasLargeState, IsMissing, IsThere, HoldsTable, Reads, HasRule, IsSmall, SomeOf, FirstBad, FirstIs, HaveOtherRules, HasCause, IsGood, AreGood, IsTrueVerdict}
 use Rattle.ca_claims.specs.inner.Patterns.{items, IsEachOnce, IsReadFrom, IsUnread, HasName, rule_of, IsRuledAs, ShowsLarge, ShowsSmall, AreOfOneRule, AreMixed, Disagree, IsShownBy, IsCrowded, AreBoth}
 use Rattle.ca_claims.proofs.Alike.{true-same, reason-same}
 use Rattle.ca_claims.proofs.ClaimKinds.{asks_about, paths_of}

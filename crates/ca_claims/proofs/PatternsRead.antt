@@ -1,17 +1,16 @@
 -- The patterns of files that were read into a store, and what they say of the files' paths.
-use Rattle.std.proofs.Common.{◌≡◌, ℕ, ◌≤◌, ◌<◌, List, [], ◌∷◌, get_or, Some, inr, sym, subst, ◌∙◌, arith}
+use Rattle.std.proofs.Common.{◌≡◌, ℕ, ◌≤◌, ◌<◌, List, get_or, Some, inr, sym, subst, ◌∙◌, arith}
 use Rattle.std.specs.Prelude.{ℤ}
 use Rattle.std.specs.List.{All}
 use Rattle.ca_plane.specs.declared.point.Point.{Point}
 use Rattle.ca_plane.specs.Plane.{Picture, cell}
-use Rattle.ca_plane.specs.Sparse.{IsSparse}
 use Rattle.ca_plane.specs.Population.{HasFewCells, HasTooManyCells}
 use Rattle.ca_plane.specs.Limits.{IsInRange}
 use Rattle.ca_plane.proofs.Pictures.{cell-listed}
 use Rattle.ca_quad.specs.declared.node.Node.{Node}
 use Rattle.ca_quad.specs.Sound.{IsSound, Grows}
 use Rattle.ca_quad.specs.Trees as trees
-use Rattle.ca_quad.specs.Trimmed.{HoldsAll, IsTrimmed}
+use Rattle.ca_quad.specs.Trimmed.{IsTrimmed}
 use Rattle.ca_quad.proofs.Cells.{of_stays}
 use Rattle.ca_quad.proofs.Trims.{trees_stay}
 use Rattle.ca_rule.specs.TableNext.{TableRule}
@@ -24,7 +23,6 @@ use Rattle.ca_claims.specs.declared.target.Target.TheVariants.{Rle, Mc}
 use Rattle.ca_claims.specs.declared.ruled.Ruled.{Ruled}
 use Rattle.ca_claims.specs.Means.{bytes_at, format_of, IsReadableAs, IsReadable, MayWantMemoryAs, MayWantMemory}
 use Rattle.ca_claims.specs.Answers.{IsRead, IsRuled, HasLargeState, HasSmallStates, Reads, HasRule, IsSmall, IsGood}
-use Rattle.ca_claims.specs.Loaded.{IsLoaded}
 use Rattle.ca_claims.specs.inner.Patterns.{IsReadFrom, HasName, rule_of, IsRuledAs, ShowsLarge, ShowsSmall, IsShownBy}
 use Rattle.ca_claims.proofs.Shown.{small_shown, large_shown, few_shown, many_shown}
 

@@ -17,7 +17,7 @@ use Rattle.ca_rle.proofs.OneFile as rle_file
 use Rattle.ca_rle.proofs.OneFault as rle_fault
 use Rattle.ca_macro.specs.Shown as macrocell_shown
 use Rattle.ca_macro.proofs.OneMeaning as macrocell
-use Rattle.ca_plane.specs.Population.{HasFewCells, HasTooManyCells}
+use Rattle.ca_plane.specs.Population.{HasTooManyCells}
 use Rattle.ca_plane.proofs.Populations.{not_both}
 use Rattle.ca_claims.proofs.Times.{unmoved}
 use Rattle.ca_claims.specs.declared.verdict.Why.{Why}

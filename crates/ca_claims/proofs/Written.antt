@@ -1,5 +1,5 @@
 -- What is written means what the pattern means.
-use Rattle.std.proofs.Common.{◌≡◌, ◌≢◌, ℕ, ◌≤◌, List, [], ◌∷◌, length, Option, Some, refl, sym, ap, subst, ◌∙◌, arith}
+use Rattle.std.proofs.Common.{◌≡◌, ℕ, ◌≤◌, List, length, Option, Some, refl, sym, ap, subst, ◌∙◌}
 use Rattle.std.specs.Prelude.{ℤ}
 use Rattle.std.specs.Option.{MatchOption}
 use Rattle.ca_plane.specs.Plane.{Picture}

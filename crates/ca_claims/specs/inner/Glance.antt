@@ -1,5 +1,5 @@
 -- What is told of a pattern in a store.
-use Rattle.std.specs.Prelude.{◌≡◌, ℕ, ℤ, pos, neg_ℤ, ◌≤ℤ◌, ◌<ℤ◌, ◌^◌, List, MatchOption}
+use Rattle.std.specs.Prelude.{◌≡◌, ℤ, pos, neg_ℤ, ◌≤ℤ◌, ◌<ℤ◌, List, MatchOption}
 use Rattle.ca_plane.specs.Plane.{Picture, IsLive}
 use Rattle.ca_plane.specs.Plane as plane
 use Rattle.ca_plane.specs.Box.{IsLeastBox}

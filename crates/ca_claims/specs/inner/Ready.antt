@@ -10,7 +10,7 @@ use Rattle.ca_rule.specs.TableNext.{TableRule}
 use Rattle.ca_rule.specs.Rule.{states_of, printed_form, NamesRule}
 use Rattle.ca_claims.specs.declared.ruled.Ruled.{Ruled}
 use Rattle.ca_claims.specs.declared.target.Target.{Target}
-use Rattle.ca_claims.specs.declared.target.Target.TheVariants.{Rle, Mc}
+use Rattle.ca_claims.specs.declared.target.Target.TheVariants.{Rle}
 use Rattle.ca_claims.specs.declared.conversion.ConvertFault.{ConvertFault}
 use Rattle.ca_claims.specs.declared.conversion.ConvertFault.TheVariants.{BadPattern, BadRule, StateTooLarge, TooManyCells, Memory}
 use Rattle.ca_claims.specs.Means.{format_of, Means, IsReadable}

@@ -1,6 +1,5 @@
 use Rattle.std.proofs.Common.{subst, ◌∙◌}
 use Rattle.ca_macro.specs.Tidy.{IsTidy}
-use Rattle.ca_macro.specs.Pattern.{Holds}
 use Rattle.ca_quad.specs.Trees.{cell}
 use Rattle.ca_claims.proofs.Written.{written_macro}
 use Rattle.ca_claims.proofs.conversion.macro_of.Goals as goal
