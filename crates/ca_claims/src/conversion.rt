@@ -23,8 +23,8 @@ use std::alloc::Global;
 use thiserror::Error;
 
 /// Why a pattern isn't converted, or no summary of it is given: the first of these that holds, but that want of memory may
-/// come before any other where memory is wanted for the pattern's file: an RLE that reads, or a macrocell with a good node
-/// before any fault.
+/// come before any other where memory is wanted for the pattern's file: an RLE that reads, or a macrocell that is spelled
+/// well or has a good node before any fault.
 #[derive(Clone, Copy, Debug, PartialEq, Eq, Error)]
 pub enum ConvertFault {
     /// The bytes don't read. Their fault is never want of memory here.

@@ -43,7 +43,8 @@ pub enum PatternFault {
 
 /// Why a claim isn't judged: the first of these that holds, but that want of memory may come before any other, where all
 /// files are there, all rule tables are good, and memory is wanted for the first pattern's file: an RLE that reads, or a
-/// macrocell with a good node before any fault. Of two patterns the claim's first goes before the other in each of them.
+/// macrocell that is spelled well or has a good node before any fault. Of two patterns the claim's first goes before the
+/// other in each of them.
 #[derive(Clone, Copy, Debug, PartialEq, Eq, Error)]
 pub enum Cause {
     /// No file with the path of one of the patterns, or of a rule line of the text, was handed in.
