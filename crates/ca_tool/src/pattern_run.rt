@@ -21,7 +21,7 @@ use std::io::{Read, Write};
 /// Reads a pattern file and writes the five lines that are shown of it, under the table of the rule file, if there is one.
 /// It answers the exit status 0.
 ///
-/// The file is read whole before the table is read, and nothing is written before all is judged.
+/// The file is read whole before the table is judged, and nothing is written before all is judged.
 pub fn show_run<R: Read, W: Write>(
     alloc: Global,
     input: &mut Dev<R>,
@@ -59,7 +59,7 @@ pub fn show_run<R: Read, W: Write>(
 /// Reads a pattern file and writes the file of the target's format that it is converted to, under the table of the rule
 /// file, if there is one. It answers the exit status 0.
 ///
-/// The file is read whole before the table is read, and nothing is written before all is judged.
+/// The file is read whole before the table is judged, and nothing is written before all is judged.
 pub fn convert_run<R: Read, W: Write>(
     alloc: Global,
     input: &mut Dev<R>,
