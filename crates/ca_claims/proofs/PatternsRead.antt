@@ -31,7 +31,7 @@ use Rattle.ca_claims.proofs.Shown.{small_shown, large_shown, few_shown, many_sho
 -- memory may be wanted for them
 wanted_as : (format : Target) (bytes : List ℕ) → IsReadableAs format bytes → MayWantMemoryAs format bytes
 wanted_as Rle bytes reads = reads
-wanted_as Mc bytes reads = inr reads
+wanted_as Mc bytes reads = inr (reads.0, reads.1)
 
 pub wanted : (bytes : List ℕ) → IsReadable bytes → MayWantMemory bytes
 wanted bytes reads = wanted_as (format_of bytes) bytes reads

@@ -1,5 +1,5 @@
 -- What the files mean that claims speak of.
-use Rattle.std.specs.Prelude.{◌≡◌, ℕ, List, [], ◌∷◌, ◌⊎◌, map, Option, Some, None, if◌then◌else◌}
+use Rattle.std.specs.Prelude.{◌≡◌, ℕ, List, [], ◌∷◌, map, Option, Some, None, if◌then◌else◌}
 use Rattle.std.specs.Str.{bytes_eq}
 use Rattle.ca_plane.specs.Plane.{Picture}
 use Rattle.ca_rle.specs.File as rle
@@ -51,7 +51,7 @@ IsReadable bytes = IsReadableAs (format_of bytes) bytes
 -- kept as their lines come
 abbrev pub MayWantMemoryAs : Target → List ℕ → Type 0
 MayWantMemoryAs Rle bytes = IsReadableAs Rle bytes
-MayWantMemoryAs Mc bytes = macrocell_faults.IsFaultOf bytes macrocell_fault.Memory ⊎ IsReadableAs Mc bytes
+MayWantMemoryAs Mc bytes = macrocell_faults.IsFaultOf bytes macrocell_fault.Memory
 
 -- memory may be wanted where these bytes are read
 abbrev pub MayWantMemory : List ℕ → Type 0
