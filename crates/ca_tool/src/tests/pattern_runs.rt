@@ -72,7 +72,8 @@ fn converts_in_pieces(rt: HostRuntime) {
             let wanted = if whole { Ok(0) } else { Err(ToolFault::Write) };
             let result = convert_run(alloc, &mut input, target, table, &mut output);
             assert_eq!(rt; result, wanted);
-            assert_eq!(rt; output.inner().taken.as_slice(), &text[..room]);
+            assert!(rt; text.starts_with(&output.inner().taken));
+            assert_eq!(rt; output.inner().taken.len(), room);
             assert_eq!(rt; output.failures(), u64::from(!whole));
         }
     }
