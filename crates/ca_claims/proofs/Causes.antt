@@ -466,8 +466,7 @@ module _ (nodes : List Node) where
       let all = listed_in_range nodes a u made.0 range.0 in
       (subst (All (λ e. IsInRange e.0)) (sym both.0) all, subst (All (λ e. IsInRange e.0)) (sym both.1) all)
   planes_in_range (a ∷ []) (u ∷ v ∷ planes) cells other made range both = absurd made.1
-  planes_in_range (a ∷ b ∷ patterns) (u ∷ v ∷ planes) cells other made range both =
-      (
-        subst (All (λ e. IsInRange e.0)) (sym both.0) (listed_in_range nodes a u made.0 range.0),
-        subst (All (λ e. IsInRange e.0)) (sym both.1) (listed_in_range nodes b v made.1.0 range.1.0),
-      )
+  planes_in_range (a ∷ b ∷ patterns) (u ∷ v ∷ planes) cells other made range both = (
+    subst (All (λ e. IsInRange e.0)) (sym both.0) (listed_in_range nodes a u made.0 range.0),
+    subst (All (λ e. IsInRange e.0)) (sym both.1) (listed_in_range nodes b v made.1.0 range.1.0),
+  )

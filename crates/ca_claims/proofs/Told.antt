@@ -25,10 +25,10 @@ use Rattle.ca_claims.proofs.Shown.{small_shown, many_shown, population_shown}
 -- a tree of the least level whose live cells are in range has a low level
 pub level_is_low : (nodes : List Node) (tree : Tree) → IsTrimmed nodes tree → AreInRange (trees.cell nodes tree) → tree.level ≤ 63
 level_is_low nodes tree trimmed range = elim (cases_order tree.level 61) [
-      inl low ↦ omega (arith, low)
-    | inr (inl same) ↦ omega (arith, same)
-    | inr (inr high) ↦ absurd (trimmed 61 (omega arith) high (λ x y live. let at = range x y live in ((at.0, at.1), (at.2, at.3))))
-    ]
+  | inl low ↦ omega (arith, low)
+  | inr (inl same) ↦ omega (arith, same)
+  | inr (inr high) ↦ absurd (trimmed 61 (omega arith) high (λ x y live. let at = range x y live in ((at.0, at.1), (at.2, at.3))))
+]
 
 -- a pattern that was read is under the rule that its rule text names
 pub under : (nodes : List Node) (bytes : List ℕ) (tables : List TableRule) (ruled : Ruled) (read : IsReadFrom nodes bytes ruled.pattern) → NamesRule ruled.pattern.rule_text.items tables (rule_of ruled)
@@ -49,8 +49,7 @@ module _ (nodes : List Node) (bytes : List ℕ) (tables : List TableRule) (ruled
   unwritten target TooManyCells h =
       let read = ready.read in
       let shows = read.loaded.shows in
-      let tree = trees.cell nodes ruled.pattern.tree in
-      (
+      let tree = trees.cell nodes ruled.pattern.tree in (
         h.0,
         read.cells,
         rule_of ruled,

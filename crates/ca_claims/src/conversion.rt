@@ -92,11 +92,7 @@ fn rle_of(alloc: Global, store: &Store, ruled: &Ruled<'_>) -> Result<Vec<u8>, Co
 }
 
 /// The tidy macrocell of a pattern.
-fn macro_of(
-    alloc: Global,
-    store: &mut Store,
-    ruled: &Ruled<'_>,
-) -> Result<Vec<u8>, ConvertFault>
+fn macro_of(alloc: Global, store: &mut Store, ruled: &Ruled<'_>) -> Result<Vec<u8>, ConvertFault>
     requires tree { IsTree store.old ruled.now.pattern.tree }
     requires range { AreInRange (cell store.old ruled.now.pattern.tree) }
     requires small { HasSmallStates (rule_of ruled.now) (cell store.old ruled.now.pattern.tree) }
@@ -109,7 +105,14 @@ fn macro_of(
     };
     let tree = ruled.pattern.tree;
     let generation = ruled.pattern.generation;
-    match write_macro(alloc, store, tree, &rule_text, generation, ruled.rule.states()) {
+    match write_macro(
+        alloc,
+        store,
+        tree,
+        &rule_text,
+        generation,
+        ruled.rule.states(),
+    ) {
         Ok(text) => Ok(text),
         Err(_) => Err(ConvertFault::Memory),
     }

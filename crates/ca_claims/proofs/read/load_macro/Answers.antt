@@ -9,8 +9,7 @@ pub returns-in-Ok-clause-read : goal.returns-in-Ok-clause-read
 returns-in-Ok-clause-read c =
     let found = c.in-Ok.ensures.found in
     let file = found.0 in
-    let cells = picture_of file.nodes in
-    (
+    let cells = picture_of file.nodes in (
       cells,
       record {
         kind = sym c.requires;

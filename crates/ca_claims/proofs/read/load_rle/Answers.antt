@@ -9,8 +9,7 @@ pub returns-clause-read : goal.returns-clause-read
 returns-clause-read c =
     let found = c.in-Ok.ensures.found in
     let file = found.0 in
-    let cells = picture_of file.corner file.items in
-    (
+    let cells = picture_of file.corner file.items in (
       cells,
       record {
         kind = sym c.requires;

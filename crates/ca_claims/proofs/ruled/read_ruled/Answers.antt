@@ -8,8 +8,7 @@ use Rattle.ca_claims.proofs.ruled.read_ruled.Goals as goal
 pub returns-in-Err-resolve-clause-fault : goal.returns-in-Err-resolve-clause-fault
 returns-in-Err-resolve-clause-fault c =
     let (cells, loaded) = c.in-Ok.ensures.read in
-    let pattern = c.in-Ok.pattern in
-    (
+    let pattern = c.in-Ok.pattern in (
       cells,
       pattern.rule_text.items,
       pattern.generation,
@@ -22,8 +21,7 @@ pub returns-in-Ok-true-clause-fault : goal.returns-in-Ok-true-clause-fault
 returns-in-Ok-true-clause-fault c =
     let (cells, loaded) = c.in-Ok.ensures.read in
     let pattern = c.in-Ok.pattern in
-    let rule = rule_value c.in-Ok-resolve.rule in
-    (
+    let rule = rule_value c.in-Ok-resolve.rule in (
       cells,
       rule,
       pattern.generation,
