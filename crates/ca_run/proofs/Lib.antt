@@ -1,5 +1,11 @@
 pub mod Rounds
 pub mod Later
+pub mod Laters
+pub mod Looks
+pub mod Shown
+pub mod Bases
+pub mod Leap
+pub mod Trees
 pub mod Spreading
 pub mod Vectors
 pub mod Returns

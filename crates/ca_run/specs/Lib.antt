@@ -1,3 +1,5 @@
 pub mod Reach
 pub mod Later
+pub mod Centre
+pub mod Leaping
 pub mod inner

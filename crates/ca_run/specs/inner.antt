@@ -4,3 +4,5 @@ pub mod Row
 pub mod Window
 pub mod Reached
 pub mod Written
+pub mod Shown
+pub mod Memo

@@ -1,7 +1,8 @@
-//! Why a plane was not stepped.
+//! Why a plane was not stepped, and why a tree was not advanced.
 
 ghost use Rattle.std.specs.Prelude.{◌≡◌};
 ghost use Rattle.ca_run.specs.declared.fault.RunFault.TheVariants.{Memory};
+ghost use Rattle.ca_run.specs.declared.fault.LeapFault.TheVariants.{Memory as NoMemory};
 
 use thiserror::Error;
 
@@ -21,5 +22,21 @@ impl From<ca_plane::Memory> for RunFault {
 
     fn from(_refused: ca_plane::Memory) -> RunFault {
         RunFault::Memory
+    }
+}
+
+/// Why a tree was not advanced.
+#[derive(Clone, Copy, Debug, PartialEq, Eq, Error)]
+pub enum LeapFault {
+    /// A growth was refused.
+    #[error("out of memory")]
+    Memory,
+}
+
+impl From<ca_plane::Memory> for LeapFault {
+    ghost from_gives = { λ _ f. f ≡ NoMemory };
+
+    fn from(_refused: ca_plane::Memory) -> LeapFault {
+        LeapFault::Memory
     }
 }

@@ -4,12 +4,14 @@
 mod fault;
 mod generations;
 pub mod laws;
+mod leaper;
 mod points;
 mod row;
 mod window;
 
-pub use fault::RunFault;
+pub use fault::{LeapFault, RunFault};
 pub use generations::{step, steps};
+pub use leaper::Leaper;
 
 #[cfg(test)]
 mod tests;

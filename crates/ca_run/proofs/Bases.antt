@@ -1,0 +1,136 @@
+-- Squares of 4 by 4 cells, and empty squares.
+use Rattle.std.proofs.Common.{◌≡◌, ℕ, zero, suc, ◌+◌, ◌≤◌, ◌^◌, Result, Ok, Err, IfOk, List, [], ◌∷◌, length, get_or, slice_index, refl, sym, ap, ap₂, subst, ◌∙◌, arith}
+use Rattle.std.specs.Prelude.{ℤ, pos, negsuc, ◌+ℤ◌, replicate}
+use Rattle.std.proofs.lemmas.Int.{ints}
+use Rattle.std.proofs.lemmas.List.{get_or_default}
+use Rattle.ca_quad.specs.declared.node.Node.{Node}
+use Rattle.ca_quad.specs.Squares.{IsOf, dot, together, cell_of}
+use Rattle.ca_quad.specs.Sound.{IsSound, Grows}
+use Rattle.ca_quad.specs.Trees.{Shows, AreQuarters, AreCorners, IsEmpty, from_corner}
+use Rattle.ca_run.specs.Centre.{later, IsCentre}
+use Rattle.ca_run.specs.inner.Shown.{Looks, ShowsAt, sixteen}
+use Rattle.ca_run.proofs.Laters.{later_same, later_none}
+use Rattle.ca_run.proofs.Looks.{looks_together}
+use Rattle.ca_run.proofs.Shown.{is_centre_at}
+
+-- the cells of a square of four squares of four cells
+sixteen_cells : (nodes : List Node) (id : ℕ) (parts nw ne sw se : List ℕ) → AreQuarters nodes id 1 parts → AreCorners nodes (slice_index parts 0) nw → AreCorners nodes (slice_index parts 1) ne
+    → AreCorners nodes (slice_index parts 2) sw → AreCorners nodes (slice_index parts 3) se
+    → slice_index nw 0 ∷ slice_index nw 1 ∷ slice_index ne 0 ∷ slice_index ne 1
+    ∷ slice_index nw 2 ∷ slice_index nw 3 ∷ slice_index ne 2 ∷ slice_index ne 3
+    ∷ slice_index sw 0 ∷ slice_index sw 1 ∷ slice_index se 0 ∷ slice_index se 1
+    ∷ slice_index sw 2 ∷ slice_index sw 3 ∷ slice_index se 2 ∷ slice_index se 3 ∷ [] ≡ sixteen (cell_of nodes 2 id)
+sixteen_cells nodes id parts nw ne sw se are a b c d =
+    let f = cell_of nodes 2 id in
+    let e00 : f 0 0 ≡ slice_index nw 0 = are.has_cells 0 0 ∙ a.has_cells 0 0 in
+    let e10 : f 1 0 ≡ slice_index nw 1 = are.has_cells 1 0 ∙ a.has_cells 1 0 in
+    let e20 : f 2 0 ≡ slice_index ne 0 = are.has_cells 2 0 ∙ b.has_cells 0 0 in
+    let e30 : f 3 0 ≡ slice_index ne 1 = are.has_cells 3 0 ∙ b.has_cells 1 0 in
+    let e01 : f 0 1 ≡ slice_index nw 2 = are.has_cells 0 1 ∙ a.has_cells 0 1 in
+    let e11 : f 1 1 ≡ slice_index nw 3 = are.has_cells 1 1 ∙ a.has_cells 1 1 in
+    let e21 : f 2 1 ≡ slice_index ne 2 = are.has_cells 2 1 ∙ b.has_cells 0 1 in
+    let e31 : f 3 1 ≡ slice_index ne 3 = are.has_cells 3 1 ∙ b.has_cells 1 1 in
+    let e02 : f 0 2 ≡ slice_index sw 0 = are.has_cells 0 2 ∙ c.has_cells 0 0 in
+    let e12 : f 1 2 ≡ slice_index sw 1 = are.has_cells 1 2 ∙ c.has_cells 1 0 in
+    let e22 : f 2 2 ≡ slice_index se 0 = are.has_cells 2 2 ∙ d.has_cells 0 0 in
+    let e32 : f 3 2 ≡ slice_index se 1 = are.has_cells 3 2 ∙ d.has_cells 1 0 in
+    let e03 : f 0 3 ≡ slice_index sw 2 = are.has_cells 0 3 ∙ c.has_cells 0 1 in
+    let e13 : f 1 3 ≡ slice_index sw 3 = are.has_cells 1 3 ∙ c.has_cells 1 1 in
+    let e23 : f 2 3 ≡ slice_index se 2 = are.has_cells 2 3 ∙ d.has_cells 0 1 in
+    let e33 : f 3 3 ≡ slice_index se 3 = are.has_cells 3 3 ∙ d.has_cells 1 1 in
+    cc
+
+pub sixteen_known : (inside nodes : List Node) → inside ≡ nodes → (id : ℕ) (parts : List ℕ) (p q r s : ℕ) (nw ne sw se : List ℕ) → length parts ≡ 4 → AreQuarters inside id 1 parts
+    → AreCorners inside (get_or parts 0 p) nw → AreCorners inside (get_or parts 1 q) ne → AreCorners inside (get_or parts 2 r) sw → AreCorners inside (get_or parts 3 s) se
+    → slice_index nw 0 ∷ slice_index nw 1 ∷ slice_index ne 0 ∷ slice_index ne 1
+    ∷ slice_index nw 2 ∷ slice_index nw 3 ∷ slice_index ne 2 ∷ slice_index ne 3
+    ∷ slice_index sw 0 ∷ slice_index sw 1 ∷ slice_index se 0 ∷ slice_index se 1
+    ∷ slice_index sw 2 ∷ slice_index sw 3 ∷ slice_index se 2 ∷ slice_index se 3 ∷ [] ≡ sixteen (cell_of nodes 2 id)
+sixteen_known inside nodes same id parts p q r s nw ne sw se four are a b c d =
+    subst (λ n. slice_index nw 0 ∷ slice_index nw 1 ∷ slice_index ne 0 ∷ slice_index ne 1
+    ∷ slice_index nw 2 ∷ slice_index nw 3 ∷ slice_index ne 2 ∷ slice_index ne 3
+    ∷ slice_index sw 0 ∷ slice_index sw 1 ∷ slice_index se 0 ∷ slice_index se 1
+    ∷ slice_index sw 2 ∷ slice_index sw 3 ∷ slice_index se 2 ∷ slice_index se 3 ∷ [] ≡ sixteen (cell_of n 2 id)) same
+    (sixteen_cells inside id parts nw ne sw se are
+    (subst (λ i. AreCorners inside i nw) (get_or_default parts 0 p 0 (omega arith)) a) (subst (λ i. AreCorners inside i ne) (get_or_default parts 1 q 0 (omega arith)) b)
+    (subst (λ i. AreCorners inside i sw) (get_or_default parts 2 r 0 (omega arith)) c) (subst (λ i. AreCorners inside i se) (get_or_default parts 3 s 0 (omega arith)) d))
+
+-- ---- 2 by 2 squares
+
+dot_looks : (state : ℕ) (p : ℤ → ℤ → ℕ) (a b : ℤ) → state ≡ p a b → Looks 1 (dot state) p a b
+dot_looks state p a b e zero zero i j =
+    let ax : a ≡ a +ℤ pos 0 = omega (arith, ints) in
+    let by : b ≡ b +ℤ pos 0 = omega (arith, ints) in
+    e ∙ ap₂ p ax by
+dot_looks state p a b e (suc x) y i j = absurd (omega arith)
+dot_looks state p a b e zero (suc y) i j = absurd (omega arith)
+
+dots_look : (s t u v : ℕ) (p : ℤ → ℤ → ℕ) (a b : ℤ) → s ≡ p a b → t ≡ p (a +ℤ pos 1) b → u ≡ p a (b +ℤ pos 1) → v ≡ p (a +ℤ pos 1) (b +ℤ pos 1)
+    → Looks 2 (together 1 (dot s) (dot t) (dot u) (dot v)) p a b
+dots_look s t u v p a b e f g h =
+    looks_together 1 (dot s) (dot t) (dot u) (dot v) p a b (dot_looks s p a b e) (dot_looks t p (a +ℤ pos 1) b f) (dot_looks u p a (b +ℤ pos 1) g) (dot_looks v p (a +ℤ pos 1) (b +ℤ pos 1) h)
+
+-- a square of four cells that are those of a plane shows it
+dots_at : {E : Type 0} (new : List Node) (r : Result ℕ E) (s t u v : ℕ) (p : ℤ → ℤ → ℕ) (a b : ℤ) → s ≡ p a b → t ≡ p (a +ℤ pos 1) b → u ≡ p a (b +ℤ pos 1) → v ≡ p (a +ℤ pos 1) (b +ℤ pos 1)
+    → IfOk r (λ id. Shows new id 1 (together 1 (dot s) (dot t) (dot u) (dot v))) → IfOk r (λ id. ShowsAt new id 1 p a b)
+dots_at new (Err e) s t u v p a b f g h i shows = tt
+dots_at new (Ok id) s t u v p a b f g h i shows = record {
+  is_square = shows.is_square;
+  looks = λ x y l m. shows.has_cells x y ∙ dots_look s t u v p a b f g h i x y l m;
+}
+
+-- the middle of sixteen cells
+pub inner_cells_at : {E : Type 0} (old new : List Node) (r : Result ℕ E) (id : ℕ) (cells : List ℕ) (p : ℤ → ℤ → ℕ) (a b : ℤ) → cells ≡ sixteen (cell_of old 2 id) → ShowsAt old id 2 p a b
+    → IfOk r (λ half. Shows new half 1 (together 1 (dot (slice_index cells 5)) (dot (slice_index cells 6)) (dot (slice_index cells 9)) (dot (slice_index cells 10))))
+    → IfOk r (λ half. ShowsAt new half 1 p (a +ℤ pos 1) (b +ℤ pos 1))
+inner_cells_at old new r id cells p a b e shows made =
+    let ax : a +ℤ pos 2 ≡ (a +ℤ pos 1) +ℤ pos 1 = omega (arith, ints) in
+    let by : b +ℤ pos 2 ≡ (b +ℤ pos 1) +ℤ pos 1 = omega (arith, ints) in
+    dots_at new r (slice_index cells 5) (slice_index cells 6) (slice_index cells 9) (slice_index cells 10) p (a +ℤ pos 1) (b +ℤ pos 1)
+    (ap (λ l. slice_index l 5) e ∙ shows.looks 1 1 (omega arith) (omega arith))
+    (ap (λ l. slice_index l 6) e ∙ shows.looks 2 1 (omega arith) (omega arith) ∙ ap (λ x. p x (b +ℤ pos 1)) ax)
+    (ap (λ l. slice_index l 9) e ∙ shows.looks 1 2 (omega arith) (omega arith) ∙ ap (λ y. p (a +ℤ pos 1) y) by)
+    (ap (λ l. slice_index l 10) e ∙ shows.looks 2 2 (omega arith) (omega arith) ∙ ap₂ p ax by) made
+
+-- the next states of the four in the middle are the centre after one generation
+pub next_four_centre : {E : Type 0} (next : List ℕ → ℕ) (old new : List Node) → IsSound old → Grows old new → (r : Result ℕ E) (id : ℕ) (cells : List ℕ) (nw ne sw se : ℕ) → IsOf old id 2 → cells ≡ sixteen (cell_of old 2 id)
+    → nw ≡ next (slice_index cells 0 ∷ slice_index cells 1 ∷ slice_index cells 2 ∷ slice_index cells 4 ∷ slice_index cells 5 ∷ slice_index cells 6 ∷ slice_index cells 8 ∷ slice_index cells 9 ∷ slice_index cells 10 ∷ [])
+    → ne ≡ next (slice_index cells 1 ∷ slice_index cells 2 ∷ slice_index cells 3 ∷ slice_index cells 5 ∷ slice_index cells 6 ∷ slice_index cells 7 ∷ slice_index cells 9 ∷ slice_index cells 10 ∷ slice_index cells 11 ∷ [])
+    → sw ≡ next (slice_index cells 4 ∷ slice_index cells 5 ∷ slice_index cells 6 ∷ slice_index cells 8 ∷ slice_index cells 9 ∷ slice_index cells 10 ∷ slice_index cells 12 ∷ slice_index cells 13 ∷ slice_index cells 14 ∷ [])
+    → se ≡ next (slice_index cells 5 ∷ slice_index cells 6 ∷ slice_index cells 7 ∷ slice_index cells 9 ∷ slice_index cells 10 ∷ slice_index cells 11 ∷ slice_index cells 13 ∷ slice_index cells 14 ∷ slice_index cells 15 ∷ [])
+    → IfOk r (λ half. Shows new half 1 (together 1 (dot nw) (dot ne) (dot sw) (dot se))) → IfOk r (IsCentre next new id 0 0)
+next_four_centre next old new sound grows r id cells nw ne sw se square e a b c d made = centre_of r (dots_at new r nw ne sw se q (pos 0 +ℤ pos 1) (pos 0 +ℤ pos 1)
+    (subst (λ l. nw ≡ next (slice_index l 0 ∷ slice_index l 1 ∷ slice_index l 2 ∷ slice_index l 4 ∷ slice_index l 5 ∷ slice_index l 6 ∷ slice_index l 8 ∷ slice_index l 9 ∷ slice_index l 10 ∷ [])) e a)
+    (subst (λ l. ne ≡ next (slice_index l 1 ∷ slice_index l 2 ∷ slice_index l 3 ∷ slice_index l 5 ∷ slice_index l 6 ∷ slice_index l 7 ∷ slice_index l 9 ∷ slice_index l 10 ∷ slice_index l 11 ∷ [])) e b)
+    (subst (λ l. sw ≡ next (slice_index l 4 ∷ slice_index l 5 ∷ slice_index l 6 ∷ slice_index l 8 ∷ slice_index l 9 ∷ slice_index l 10 ∷ slice_index l 12 ∷ slice_index l 13 ∷ slice_index l 14 ∷ [])) e c)
+    (subst (λ l. se ≡ next (slice_index l 5 ∷ slice_index l 6 ∷ slice_index l 7 ∷ slice_index l 9 ∷ slice_index l 10 ∷ slice_index l 11 ∷ slice_index l 13 ∷ slice_index l 14 ∷ slice_index l 15 ∷ [])) e d) made)
+  where
+    q : ℤ → ℤ → ℕ
+    q = later next (from_corner (cell_of old 2 id)) 1
+
+    centre_of : {E : Type 0} (r : Result ℕ E) → IfOk r (λ half. ShowsAt new half 1 q (pos 0 +ℤ pos 1) (pos 0 +ℤ pos 1)) → IfOk r (IsCentre next new id 0 0)
+    centre_of (Err f) shows = tt
+    centre_of (Ok half) shows = is_centre_at next old new sound grows id 0 0 0 1 half square (omega arith) refl shows
+
+-- ---- empty squares
+
+-- an empty square shows the empty plane
+pub empty_at : (nodes : List Node) (id level : ℕ) → IsOf nodes id level → IsEmpty (cell_of nodes level id) → ShowsAt nodes id level (λ _ _. 0) (pos 0) (pos 0)
+empty_at nodes id level square empty = record { is_square = square; looks = λ x y i j. empty x y }
+
+from_corner-empty : (cells : ℕ → ℕ → ℕ) → IsEmpty cells → (x y : ℤ) → from_corner cells x y ≡ 0
+from_corner-empty cells empty (pos x) (pos y) = empty x y
+from_corner-empty cells empty (pos x) (negsuc y) = refl
+from_corner-empty cells empty (negsuc x) y = refl
+
+-- the centre of an empty square is an empty square
+pub empty_is_centre : (next : List ℕ → ℕ) → next (replicate 9 0) ≡ 0 → (nodes : List Node) (id k j half : ℕ) → IsOf nodes id (suc (suc k)) → j ≤ k → IsEmpty (cell_of nodes (suc (suc k)) id)
+    → ShowsAt nodes half (suc k) (λ _ _. 0) (pos 0) (pos 0) → IsCentre next nodes id k j half
+empty_is_centre next quiet nodes id k j half square few empty shows = record {
+  in_time = few;
+  is_square = square;
+  is_half = shows.is_square;
+  has_cells = λ u v s t.
+      shows.looks u v s t
+      ∙ sym (later_same next (from_corner (cell_of nodes (suc (suc k)) id)) (λ _ _. 0) (2 ^ j) (from_corner-empty (cell_of nodes (suc (suc k)) id) empty) (pos (2 ^ k + u)) (pos (2 ^ k + v)) ∙ later_none next quiet (2 ^ j) (pos (2 ^ k + u)) (pos (2 ^ k + v)));
+}

@@ -1,0 +1,115 @@
+-- The steps of a leap by nine squares: which squares show which places.
+use Rattle.std.proofs.Common.{◌≡◌, ℕ, suc, ◌+◌, ◌≤◌, ◌^◌, Result, Ok, Err, IfOk, List, refl, ap, subst, arith}
+use Rattle.std.specs.Prelude.{ℤ, pos, ◌+ℤ◌}
+use Rattle.std.proofs.lemmas.Int.{ints}
+use Rattle.std.proofs.Math.Nat.{two-pow-succ}
+use Rattle.ca_quad.specs.declared.node.Node.{Node}
+use Rattle.ca_quad.specs.Squares.{IsOf, cell_of}
+use Rattle.ca_quad.specs.Sound.{IsSound, Grows}
+use Rattle.ca_quad.specs.Trees.{from_corner}
+use Rattle.ca_quad.proofs.Growth.{grows_same, grows_on}
+use Rattle.ca_run.specs.declared.leaper.trio.Trio.{Trio}
+use Rattle.ca_run.specs.declared.leaper.trio.Rows.{Rows}
+use Rattle.ca_run.specs.Centre.{later, IsCentre}
+use Rattle.ca_run.specs.Leaping.{Leaping, GoesOn}
+use Rattle.ca_run.specs.inner.Shown.{ShowsAt, FourShow, ThreeShow, TwoShow, NineShow, side}
+use Rattle.ca_run.proofs.Shown.{at_stays, three_stay, at_from, centre_at, is_centre_at, at_corner}
+
+-- a leaper that does nothing goes on
+pub goes_on_same : (Rule : Type 0) (l : Leaping Rule) → IsSound l.nodes → GoesOn Rule l l
+goes_on_same Rule l sound = record { rule = refl; grows = grows_same l.nodes sound }
+
+-- the centre that a call gives shows the plane later
+pub centre_ok : {E : Type 0} (next : List ℕ → ℕ) (old new : List Node) → IsSound old → Grows old new → (r : Result ℕ E) (id k j : ℕ) (p : ℤ → ℤ → ℕ) (a b : ℤ) → ShowsAt old id (suc (suc k)) p a b
+    → IfOk r (IsCentre next new id k j) → IfOk r (λ half. ShowsAt new half (suc k) (later next p (2 ^ j)) (a +ℤ side k) (b +ℤ side k))
+centre_ok next old new sound grows (Err e) id k j p a b shows is_centre = tt
+centre_ok next old new sound grows (Ok half) id k j p a b shows is_centre = centre_at next old new sound grows id k j half p a b shows is_centre
+
+-- what shows a square's own cells later is its centre
+pub nine_centre : {E : Type 0} (next : List ℕ → ℕ) (old new : List Node) → IsSound old → Grows old new → (r : Result ℕ E) (id below k m n j : ℕ) → suc below ≡ k → IsOf old id (suc (suc k)) → j ≤ k → m + n ≡ 2 ^ j
+    → ((p : ℤ → ℤ → ℕ) (a b : ℤ) → ShowsAt old id (suc (suc (suc below))) p a b → IfOk r (λ half. ShowsAt new half (suc (suc below)) (later next (later next p m) n) (a +ℤ side (suc below)) (b +ℤ side (suc below))))
+    → IfOk r (IsCentre next new id k j)
+nine_centre next old new sound grows r id below k m n j up square few sum shows =
+    given r (subst (λ l. ((p : ℤ → ℤ → ℕ) (a b : ℤ) → ShowsAt old id (suc (suc l)) p a b → IfOk r (λ half. ShowsAt new half (suc l) (later next (later next p m) n) (a +ℤ side l) (b +ℤ side l)))) up shows
+    (from_corner (cell_of old (suc (suc k)) id)) (pos 0) (pos 0) (at_corner old id (suc (suc k)) square))
+  where
+    given : {E : Type 0} (r : Result ℕ E) → IfOk r (λ half. ShowsAt new half (suc k) (later next (later next (from_corner (cell_of old (suc (suc k)) id)) m) n) (pos 0 +ℤ side k) (pos 0 +ℤ side k))
+        → IfOk r (IsCentre next new id k j)
+    given (Err e) h = tt
+    given (Ok half) h = is_centre_at next old new sound grows id k j m n half square few sum h
+
+module _ (nodes : List Node) (level : ℕ) where
+  -- three squares from a place by another name
+  pub three_from : (three : Trio) (p : ℤ → ℤ → ℕ) (a b c d : ℤ) → a ≡ c → b ≡ d → ThreeShow nodes level three p a b → ThreeShow nodes level three p c d
+  three_from three p a b c d e f h = subst (λ x. ThreeShow nodes level three p x d) e (subst (λ y. ThreeShow nodes level three p a y) f h)
+
+  -- the four in the west of two rows of three
+  pub west_four : (north south : Trio) (p : ℤ → ℤ → ℕ) (a b : ℤ) → ThreeShow nodes level north p a b → ThreeShow nodes level south p a (b +ℤ side level)
+      → FourShow nodes level north.west north.middle south.west south.middle p a b
+  west_four north south p a b n s = record { at_nw = n.at_west; at_ne = n.at_middle; at_sw = s.at_west; at_se = s.at_middle }
+
+  -- and those in the east
+  pub east_four : (north south : Trio) (p : ℤ → ℤ → ℕ) (a b : ℤ) → ThreeShow nodes level north p a b → ThreeShow nodes level south p a (b +ℤ side level)
+      → FourShow nodes level north.middle north.east south.middle south.east p (a +ℤ side level) b
+  east_four north south p a b n s = record { at_nw = n.at_middle; at_ne = n.at_east; at_sw = s.at_middle; at_se = s.at_east }
+
+module _ (k : ℕ) where
+  -- half of a side and then a side is a side and then half of it
+  pub side_turn : (a : ℤ) → (a +ℤ side (suc k)) +ℤ side k ≡ (a +ℤ side k) +ℤ side (suc k)
+  side_turn a = omega (arith, ints)
+
+  pub side_twice : (a : ℤ) → (a +ℤ side k) +ℤ side k ≡ a +ℤ side (suc k)
+  side_twice a =
+      let up = two-pow-succ k in
+      omega (arith, ints, up)
+
+  pub side_far : (a : ℤ) → (a +ℤ side (suc (suc k))) +ℤ side k ≡ (a +ℤ side k) +ℤ side (suc k) +ℤ side (suc k)
+  side_far a =
+      let up = two-pow-succ (suc k) in
+      omega (arith, ints, up)
+
+  pub side_last : (a : ℤ) → ((a +ℤ side k) +ℤ side (suc k)) +ℤ side k ≡ (a +ℤ side (suc k)) +ℤ side (suc k)
+  side_last a =
+      let up = two-pow-succ k in
+      omega (arith, ints, up)
+
+  -- centres of two squares that lie side by side and overlap by half
+  pub pair_at : (mid new : List Node) → IsSound mid → Grows mid new → (west east : ℕ) (p : ℤ → ℤ → ℕ) (a b c : ℤ) → ShowsAt mid west (suc k) p (a +ℤ side k) c → ShowsAt new east (suc k) p ((a +ℤ side (suc k)) +ℤ side k) c
+      → TwoShow new (suc k) west east p (a +ℤ side k) c
+  pair_at mid new sound grows west east p a b c w e = record {
+    at_west = at_stays mid new sound grows west (suc k) p (a +ℤ side k) c w;
+    at_east = at_from new east (suc k) p ((a +ℤ side (suc k)) +ℤ side k) c ((a +ℤ side k) +ℤ side (suc k)) c (side_turn a) refl e;
+  }
+
+  -- and of three
+  pub trio_at : (s2 s3 s4 : List Node) → IsSound s2 → IsSound s3 → Grows s2 s3 → Grows s3 s4 → (three : Trio) (p : ℤ → ℤ → ℕ) (a c : ℤ) → ShowsAt s2 three.west (suc k) p (a +ℤ side k) c
+      → ShowsAt s3 three.middle (suc k) p ((a +ℤ side (suc k)) +ℤ side k) c → ShowsAt s4 three.east (suc k) p ((a +ℤ side (suc (suc k))) +ℤ side k) c → ThreeShow s4 (suc k) three p (a +ℤ side k) c
+  trio_at s2 s3 s4 sound2 sound3 g h three p a c w m e = record {
+    at_west = at_stays s2 s4 sound2 (grows_on s2 s3 s4 g h) three.west (suc k) p (a +ℤ side k) c w;
+    at_middle = at_from s4 three.middle (suc k) p ((a +ℤ side (suc k)) +ℤ side k) c ((a +ℤ side k) +ℤ side (suc k)) c (side_turn a) refl (at_stays s3 s4 sound3 h three.middle (suc k) p ((a +ℤ side (suc k)) +ℤ side k) c m);
+    at_east = at_from s4 three.east (suc k) p ((a +ℤ side (suc (suc k))) +ℤ side k) c ((a +ℤ side k) +ℤ side (suc k) +ℤ side (suc k)) c (side_far a) refl e;
+  }
+
+  -- and of nine
+  pub nine_at : (s1 s4 s5 : List Node) → IsSound s1 → IsSound s4 → Grows s1 s4 → Grows s4 s5 → (rows : Rows) (p : ℤ → ℤ → ℕ) (c b : ℤ) → ThreeShow s1 (suc k) rows.north p c (b +ℤ side k)
+      → ThreeShow s4 (suc k) rows.middle p c ((b +ℤ side (suc k)) +ℤ side k) → ThreeShow s5 (suc k) rows.south p c ((b +ℤ side (suc (suc k))) +ℤ side k) → NineShow s5 (suc k) rows p c (b +ℤ side k)
+  nine_at s1 s4 s5 sound1 sound4 g h rows p c b n m s = record {
+    at_north = three_stay s1 s5 sound1 (grows_on s1 s4 s5 g h) (suc k) rows.north p c (b +ℤ side k) n;
+    at_middle = three_from s5 (suc k) rows.middle p c ((b +ℤ side (suc k)) +ℤ side k) c ((b +ℤ side k) +ℤ side (suc k)) refl (side_turn b) (three_stay s4 s5 sound4 h (suc k) rows.middle p c ((b +ℤ side (suc k)) +ℤ side k) m);
+    at_south = three_from s5 (suc k) rows.south p c ((b +ℤ side (suc (suc k))) +ℤ side k) c ((b +ℤ side k) +ℤ side (suc k) +ℤ side (suc k)) refl (side_far b) s;
+  }
+
+  -- the four centres lie together
+  pub four_at : (s2 s3 : List Node) → IsSound s2 → Grows s2 s3 → (nw ne sw se : ℕ) (p : ℤ → ℤ → ℕ) (a b : ℤ) → TwoShow s2 (suc k) nw ne p ((a +ℤ side k) +ℤ side k) ((b +ℤ side k) +ℤ side k)
+      → TwoShow s3 (suc k) sw se p ((a +ℤ side k) +ℤ side k) (((b +ℤ side k) +ℤ side (suc k)) +ℤ side k) → FourShow s3 (suc k) nw ne sw se p (a +ℤ side (suc k)) (b +ℤ side (suc k))
+  four_at s2 s3 sound grows nw ne sw se p a b n s =
+      let x = side_twice a in
+      let y = side_twice b in
+      let z = side_last b in
+      let xx = ap (λ i. i +ℤ side (suc k)) x in
+      record {
+        at_nw = at_from s3 nw (suc k) p _ _ _ _ x y (at_stays s2 s3 sound grows nw (suc k) p _ _ n.at_west);
+        at_ne = at_from s3 ne (suc k) p _ _ _ _ xx y (at_stays s2 s3 sound grows ne (suc k) p _ _ n.at_east);
+        at_sw = at_from s3 sw (suc k) p _ _ _ _ x z s.at_west;
+        at_se = at_from s3 se (suc k) p _ _ _ _ xx z s.at_east;
+      }

@@ -1,0 +1,222 @@
+-- Squares that show a plane: they go on to do so, and so do their parts, joins and centres.
+use Rattle.std.proofs.Common.{◌≡◌, ℕ, suc, ◌+◌, ◌<◌, ◌≤◌, ◌^◌, Option, Some, None, Result, Ok, Err, IfOk, IfSome, List, length, get_or, slice_index, refl, sym, ap, ap₂, subst, ◌∙◌, arith}
+use Rattle.std.specs.Prelude.{ℤ, pos, ◌+ℤ◌}
+use Rattle.std.proofs.lemmas.Int.{ints}
+use Rattle.std.proofs.lemmas.List.{get_or_default}
+use Rattle.std.proofs.Math.Nat.{two-pow-succ}
+use Rattle.std.proofs.Math.Pow.{pow_mono}
+use Rattle.ca_quad.specs.declared.node.Node.{Node}
+use Rattle.ca_quad.specs.Squares.{IsOf, together, cell_of}
+use Rattle.ca_quad.specs.Sound.{IsSound, Grows}
+use Rattle.ca_quad.specs.Trees.{Shows, AreQuarters, from_corner}
+use Rattle.ca_quad.proofs.Growth.{grows_on}
+use Rattle.ca_quad.proofs.Cells.{cells_stay, of_stays}
+use Rattle.ca_run.specs.declared.leaper.trio.Trio.{Trio}
+use Rattle.ca_run.specs.Centre.{later, centre, IsCentre}
+use Rattle.ca_run.specs.Leaping.{Leaping, GoesOn}
+use Rattle.ca_run.specs.inner.Shown.{Looks, ShowsAt, FourShow, ThreeShow, TwoShow, AreThree, side}
+use Rattle.ca_run.specs.inner.Memo.{remembered, AreCentres, IsLeaper}
+use Rattle.ca_run.proofs.Laters.{later_again}
+use Rattle.ca_run.proofs.Looks.{looks_from, looks_together, looks_nw, looks_ne, looks_sw, looks_se, looks_centre}
+
+-- ---- growth
+
+pub goes_on_again : (Rule : Type 0) (old mid new : Leaping Rule) → GoesOn Rule old mid → GoesOn Rule mid new → GoesOn Rule old new
+goes_on_again Rule old mid new g h = record { rule = h.rule ∙ g.rule; grows = grows_on old.nodes mid.nodes new.nodes g.grows h.grows }
+
+module _ (old new : List Node) (sound : IsSound old) (grows : Grows old new) where
+  pub at_stays : (id level : ℕ) (p : ℤ → ℤ → ℕ) (a b : ℤ) → ShowsAt old id level p a b → ShowsAt new id level p a b
+  at_stays id level p a b h = record {
+    is_square = of_stays old new sound grows id level h.is_square;
+    looks = λ x y i j. ap (λ f. f x y) (cells_stay old new sound grows level id h.is_square) ∙ h.looks x y i j;
+  }
+
+  pub three_stay : (level : ℕ) (three : Trio) (p : ℤ → ℤ → ℕ) (a b : ℤ) → ThreeShow old level three p a b → ThreeShow new level three p a b
+  three_stay level three p a b h = record {
+    at_west = at_stays three.west level p a b h.at_west;
+    at_middle = at_stays three.middle level p (a +ℤ side level) b h.at_middle;
+    at_east = at_stays three.east level p (a +ℤ side level +ℤ side level) b h.at_east;
+  }
+
+  pub three_are : (level : ℕ) (three : Trio) → AreThree old level three → AreThree new level three
+  three_are level three h = record {
+    west = of_stays old new sound grows three.west level h.west;
+    middle = of_stays old new sound grows three.middle level h.middle;
+    east = of_stays old new sound grows three.east level h.east;
+  }
+
+  pub two_stay : (level west east : ℕ) (p : ℤ → ℤ → ℕ) (a b : ℤ) → TwoShow old level west east p a b → TwoShow new level west east p a b
+  two_stay level west east p a b h = record {
+    at_west = at_stays west level p a b h.at_west;
+    at_east = at_stays east level p (a +ℤ side level) b h.at_east;
+  }
+
+  pub centre_stays : (next : List ℕ → ℕ) (id k j half : ℕ) → IsCentre next old id k j half → IsCentre next new id k j half
+  centre_stays next id k j half h = record {
+    in_time = h.in_time;
+    is_square = of_stays old new sound grows id (suc (suc k)) h.is_square;
+    is_half = of_stays old new sound grows half (suc k) h.is_half;
+    has_cells = λ u v s t.
+        ap (λ f. f u v) (cells_stay old new sound grows (suc k) half h.is_half)
+        ∙ (h.has_cells u v s t ∙ ap (λ f. centre next f (2 ^ k) (2 ^ j) u v) (sym (cells_stay old new sound grows (suc (suc k)) id h.is_square)));
+  }
+
+  pub centres_stay : (next : List ℕ → ℕ) (results : List ((ℕ × ℕ) × ℕ)) → AreCentres next old results → AreCentres next new results
+  centres_stay next results h id j half e =
+      let there = h id j half e in
+      (there.0, centre_stays next id there.0 j half there.1)
+
+  -- a leaper stays one as its store grows
+  pub leaper_stays : (next : List ℕ → ℕ) (S : Type 0) (results : List ((ℕ × ℕ) × ℕ)) → IsLeaper next S old results → IsLeaper next S new results
+  leaper_stays next S results h = record { rule = h.rule; squares = grows.sound; centres = centres_stay next results h.centres }
+
+-- the same from a place by another name
+pub at_from : (nodes : List Node) (id level : ℕ) (p : ℤ → ℤ → ℕ) (a b c d : ℤ) → a ≡ c → b ≡ d → ShowsAt nodes id level p a b → ShowsAt nodes id level p c d
+at_from nodes id level p a b c d e f h = record { is_square = h.is_square; looks = looks_from (2 ^ level) (cell_of nodes level id) p a b c d e f h.looks }
+
+-- twice a side is the side of the level above
+pub side_up : (k : ℕ) → side (suc k) ≡ side k +ℤ side k
+side_up k =
+    let up = two-pow-succ k in
+    omega (arith, ints, up)
+
+-- ---- joins and parts
+
+-- the square of four that show a plane shows it
+pub joined_at : {E : Type 0} (old new : List Node) (r : Result ℕ E) (k nw ne sw se : ℕ) (p : ℤ → ℤ → ℕ) (a b : ℤ) → FourShow old k nw ne sw se p a b
+    → IfOk r (λ id. Shows new id (suc k) (together (2 ^ k) (cell_of old k nw) (cell_of old k ne) (cell_of old k sw) (cell_of old k se)))
+    → IfOk r (λ id. ShowsAt new id (suc k) p a b)
+joined_at old new (Err e) k nw ne sw se p a b four shows = tt
+joined_at old new (Ok id) k nw ne sw se p a b four shows = record {
+  is_square = shows.is_square;
+  looks = λ x y i j.
+      shows.has_cells x y
+      ∙ looks_together (2 ^ k) (cell_of old k nw) (cell_of old k ne) (cell_of old k sw) (cell_of old k se) p a b four.at_nw.looks four.at_ne.looks four.at_sw.looks four.at_se.looks x y
+      (subst (λ n. x < n) (two-pow-succ k) i) (subst (λ n. y < n) (two-pow-succ k) j);
+}
+
+-- the square of four is of the level above
+pub joined_of : {E : Type 0} (new : List Node) (r : Result ℕ E) (k : ℕ) (cells : ℕ → ℕ → ℕ) → IfOk r (λ id. Shows new id (suc k) cells) → IfOk r (λ id. IsOf new id (suc k))
+joined_of new (Err e) k cells shows = tt
+joined_of new (Ok id) k cells shows = shows.is_square
+
+-- the parts of a square that shows a plane show it
+pub parts_at : (nodes : List Node) (id k : ℕ) (quarters : List ℕ) (p : ℤ → ℤ → ℕ) (a b : ℤ) → AreQuarters nodes id k quarters → ShowsAt nodes id (suc k) p a b
+    → FourShow nodes k (slice_index quarters 0) (slice_index quarters 1) (slice_index quarters 2) (slice_index quarters 3) p a b
+parts_at nodes id k quarters p a b are h =
+    let nw = slice_index quarters 0 in
+    let ne = slice_index quarters 1 in
+    let sw = slice_index quarters 2 in
+    let se = slice_index quarters 3 in
+    let cells = cell_of nodes k in
+    let all : Looks (2 ^ k + 2 ^ k) (together (2 ^ k) (cells nw) (cells ne) (cells sw) (cells se)) p a b =
+    λ x y i j. sym (are.has_cells x y) ∙ h.looks x y (subst (λ n. x < n) (sym (two-pow-succ k)) i) (subst (λ n. y < n) (sym (two-pow-succ k)) j)
+    in
+    record {
+      at_nw = record { is_square = are.is_nw; looks = looks_nw (2 ^ k) (cells nw) (cells ne) (cells sw) (cells se) p a b all };
+      at_ne = record { is_square = are.is_ne; looks = looks_ne (2 ^ k) (cells nw) (cells ne) (cells sw) (cells se) p a b all };
+      at_sw = record { is_square = are.is_sw; looks = looks_sw (2 ^ k) (cells nw) (cells ne) (cells sw) (cells se) p a b all };
+      at_se = record { is_square = are.is_se; looks = looks_se (2 ^ k) (cells nw) (cells ne) (cells sw) (cells se) p a b all };
+    }
+
+-- ---- centres
+
+-- the centre of a square that shows a plane shows what the plane is 2 ^ j generations later
+pub centre_at : (next : List ℕ → ℕ) (old new : List Node) → IsSound old → Grows old new → (id k j half : ℕ) (p : ℤ → ℤ → ℕ) (a b : ℤ) → ShowsAt old id (suc (suc k)) p a b → IsCentre next new id k j half
+    → ShowsAt new half (suc k) (later next p (2 ^ j)) (a +ℤ side k) (b +ℤ side k)
+centre_at next old new sound grows id k j half p a b shows is_centre =
+    let up = two-pow-succ k in
+    let up_again = two-pow-succ (suc k) in
+    let wide : 2 ^ suc (suc k) ≡ 2 ^ k + 2 ^ k + (2 ^ k + 2 ^ k) = omega arith in
+    let there = at_stays old new sound grows id (suc (suc k)) p a b shows in
+    let looks = looks_centre next (2 ^ k) (2 ^ j) (cell_of new (suc (suc k)) id) (cell_of new (suc k) half) p a b (pow_mono is_centre.in_time)
+        (subst (λ n. Looks n (cell_of new (suc (suc k)) id) p a b) wide there.looks)
+        (λ u v s t. is_centre.has_cells u v (subst (λ n. u < n) (sym up) s) (subst (λ n. v < n) (sym up) t)) in
+    record { is_square = is_centre.is_half; looks = subst (λ n. Looks n (cell_of new (suc k) half) (later next p (2 ^ j)) (a +ℤ side k) (b +ℤ side k)) (sym up) looks }
+
+-- a square shows its own cells from (0, 0) on
+pub at_corner : (nodes : List Node) (id level : ℕ) → IsOf nodes id level → ShowsAt nodes id level (from_corner (cell_of nodes level id)) (pos 0) (pos 0)
+at_corner nodes id level h = record {
+  is_square = h;
+  looks = λ x y i j.
+      let ax : pos 0 +ℤ pos x ≡ pos x = omega (arith, ints) in
+      let by : pos 0 +ℤ pos y ≡ pos y = omega (arith, ints) in
+      sym (ap₂ (from_corner (cell_of nodes level id)) ax by);
+}
+
+-- a square that shows the plane of another's cells later, a quarter of the side further in, is its centre
+pub is_centre_at : (next : List ℕ → ℕ) (old new : List Node) → IsSound old → Grows old new → (id k j m n half : ℕ) → IsOf old id (suc (suc k)) → j ≤ k → m + n ≡ 2 ^ j
+    → ShowsAt new half (suc k) (later next (later next (from_corner (cell_of old (suc (suc k)) id)) m) n) (pos 0 +ℤ side k) (pos 0 +ℤ side k)
+    → IsCentre next new id k j half
+is_centre_at next old new sound grows id k j m n half square few sum shows = record {
+  in_time = few;
+  is_square = of_stays old new sound grows id (suc (suc k)) square;
+  is_half = shows.is_square;
+  has_cells = λ u v s t.
+      let p = from_corner (cell_of old (suc (suc k)) id) in
+      let ax : (pos 0 +ℤ side k) +ℤ pos u ≡ pos (2 ^ k + u) = omega (arith, ints) in
+      let by : (pos 0 +ℤ side k) +ℤ pos v ≡ pos (2 ^ k + v) = omega (arith, ints) in
+      shows.looks u v s t ∙ ap₂ (later next (later next p m) n) ax by ∙ later_again next p m n (pos (2 ^ k + u)) (pos (2 ^ k + v))
+      ∙ ap (λ i. later next p i (pos (2 ^ k + u)) (pos (2 ^ k + v))) sum
+      ∙ ap (λ f. centre next f (2 ^ k) (2 ^ j) u v) (sym (cells_stay old new sound grows (suc (suc k)) id square));
+}
+
+-- ---- what is remembered
+
+-- what is remembered for a square is its centre
+pub recalled : (next : List ℕ → ℕ) (nodes : List Node) (results : List ((ℕ × ℕ) × ℕ)) (id k j : ℕ) (found : Option ℕ) → AreCentres next nodes results → IsOf nodes id (suc (suc k))
+    → found ≡ remembered results id j → IfSome found (IsCentre next nodes id k j)
+recalled next nodes results id k j None all square e = tt
+recalled next nodes results id k j (Some half) all square e =
+    let there = all id j half (sym e) in
+    let same : there.0 ≡ k = omega (arith, there.1.is_square.is_level, square.is_level) in
+    subst (λ l. IsCentre next nodes id l j half) same there.1
+
+-- ---- parts
+
+-- the parts that a call gives of a square that shows a plane show it
+pub quarters_at : (inside nodes : List Node) → inside ≡ nodes → (id k : ℕ) (quarters : List ℕ) (d e f g : ℕ) (p : ℤ → ℤ → ℕ) (a b : ℤ) → length quarters ≡ 4 → AreQuarters inside id k quarters → ShowsAt nodes id (suc k) p a b
+    → FourShow nodes k (get_or quarters 0 d) (get_or quarters 1 e) (get_or quarters 2 f) (get_or quarters 3 g) p a b
+quarters_at inside nodes same id k quarters d e f g p a b four are h =
+    let nw : get_or quarters 0 d ≡ slice_index quarters 0 = get_or_default quarters 0 d 0 (omega arith) in
+    let ne : get_or quarters 1 e ≡ slice_index quarters 1 = get_or_default quarters 1 e 0 (omega arith) in
+    let sw : get_or quarters 2 f ≡ slice_index quarters 2 = get_or_default quarters 2 f 0 (omega arith) in
+    let se : get_or quarters 3 g ≡ slice_index quarters 3 = get_or_default quarters 3 g 0 (omega arith) in
+    rw (nw, ne, sw, se) (parts_at nodes id k quarters p a b (subst (λ n. AreQuarters n id k quarters) same are) h)
+
+module _ (nodes : List Node) (k : ℕ) where
+  twice : (a : ℤ) → a +ℤ side (suc k) ≡ (a +ℤ side k) +ℤ side k
+  twice a =
+      let up = two-pow-succ k in
+      omega (arith, ints, up)
+
+  -- the four in the middle of two squares side by side
+  pub four_between : (m n o q r s t u : ℕ) (p : ℤ → ℤ → ℕ) (a b : ℤ) → FourShow nodes k m n o q p a b → FourShow nodes k r s t u p (a +ℤ side (suc k)) b
+      → FourShow nodes k n r q t p (a +ℤ side k) b
+  four_between m n o q r s t u p a b west east = record {
+    at_nw = west.at_ne;
+    at_ne = at_from nodes r k p (a +ℤ side (suc k)) b ((a +ℤ side k) +ℤ side k) b (twice a) refl east.at_nw;
+    at_sw = west.at_se;
+    at_se = at_from nodes t k p (a +ℤ side (suc k)) (b +ℤ side k) ((a +ℤ side k) +ℤ side k) (b +ℤ side k) (twice a) refl east.at_sw;
+  }
+
+  -- and of two of which one lies over the other
+  pub four_halfway : (m n o q r s t u : ℕ) (p : ℤ → ℤ → ℕ) (a b : ℤ) → FourShow nodes k m n o q p a b → FourShow nodes k r s t u p a (b +ℤ side (suc k))
+      → FourShow nodes k o q r s p a (b +ℤ side k)
+  four_halfway m n o q r s t u p a b north south = record {
+    at_nw = north.at_sw;
+    at_ne = north.at_se;
+    at_sw = at_from nodes r k p a (b +ℤ side (suc k)) a ((b +ℤ side k) +ℤ side k) refl (twice b) south.at_nw;
+    at_se = at_from nodes s k p (a +ℤ side k) (b +ℤ side (suc k)) (a +ℤ side k) ((b +ℤ side k) +ℤ side k) refl (twice b) south.at_ne;
+  }
+
+  -- and of four
+  pub four_inner : (m n o q r s t u v w x y c d e f : ℕ) (p : ℤ → ℤ → ℕ) (a b : ℤ) → FourShow nodes k m n o q p a b → FourShow nodes k r s t u p (a +ℤ side (suc k)) b
+      → FourShow nodes k v w x y p a (b +ℤ side (suc k)) → FourShow nodes k c d e f p (a +ℤ side (suc k)) (b +ℤ side (suc k))
+      → FourShow nodes k q t w c p (a +ℤ side k) (b +ℤ side k)
+  four_inner m n o q r s t u v w x y c d e f p a b nw ne sw se = record {
+    at_nw = nw.at_se;
+    at_ne = at_from nodes t k p (a +ℤ side (suc k)) (b +ℤ side k) ((a +ℤ side k) +ℤ side k) (b +ℤ side k) (twice a) refl ne.at_sw;
+    at_sw = at_from nodes w k p (a +ℤ side k) (b +ℤ side (suc k)) (a +ℤ side k) ((b +ℤ side k) +ℤ side k) refl (twice b) sw.at_ne;
+    at_se = at_from nodes c k p (a +ℤ side (suc k)) (b +ℤ side (suc k)) ((a +ℤ side k) +ℤ side k) ((b +ℤ side k) +ℤ side k) (twice a) (twice b) se.at_nw;
+  }

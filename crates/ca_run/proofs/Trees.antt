@@ -1,0 +1,137 @@
+-- Trees that leap: what they show, and where all stays empty.
+use Rattle.std.proofs.Common.{◌≡◌, ℕ, suc, ◌+◌, ◌-◌, ◌*◌, ◌/◌, ◌%◌, ◌≤◌, ◌^◌, ◌⊎◌, inl, inr, Option, Some, None, IfSome, List, refl, sym, ap, ap₂, subst, ◌∙◌, arith}
+use Rattle.std.specs.Prelude.{ℤ, pos, negsuc, neg_ℤ, ◌+ℤ◌, ◌<ℤ◌, ◌≤ℤ◌, replicate}
+use Rattle.std.proofs.lemmas.Int.{ints}
+use Rattle.std.proofs.Math.Nat.{two-pow-succ}
+use Rattle.std.proofs.Math.Pow.{pow_mono}
+use Rattle.std.proofs.lemmas.Nat.{mod-pow-add}
+use Rattle.ca_quad.specs.declared.node.Node.{Node}
+use Rattle.ca_quad.specs.declared.tree.Tree.{Tree}
+use Rattle.ca_quad.specs.Squares.{cell_of}
+use Rattle.ca_quad.specs.Sound.{IsSound, Grows}
+use Rattle.ca_quad.specs.Trees.{IsTree, from_corner, cell}
+use Rattle.ca_quad.proofs.Growth.{below_or_not}
+use Rattle.ca_quad.proofs.Cells.{cell_ends, cells_stay}
+use Rattle.ca_quad.proofs.Edges.{outside_x, outside_y}
+use Rattle.ca_run.specs.Centre.{later, IsCentre}
+use Rattle.ca_run.specs.inner.Shown.{ShowsAt, side}
+use Rattle.ca_run.proofs.Laters.{later_same, later_dead, later_again}
+use Rattle.ca_run.proofs.Shown.{at_from, centre_at}
+
+-- beyond a way from 0, to the left or to the right
+abbrev pub IsBeyond : ℕ → ℤ → Type 0
+IsBeyond way x = (x <ℤ neg_ℤ (pos way)) ⊎ (pos way ≤ℤ x)
+
+-- every cell beyond a way from the origin is 0
+abbrev pub DiesBeyond : ℕ → (ℤ → ℤ → ℕ) → Type 0
+DiesBeyond way p = (x y : ℤ) → IsBeyond way x ⊎ IsBeyond way y → p x y ≡ 0
+
+-- a tree is empty beyond half its side
+pub tree_dies : (nodes : List Node) (tree : Tree) → 1 ≤ tree.level → DiesBeyond (2 ^ (tree.level - 1)) (cell nodes tree)
+tree_dies nodes tree some x y (inl (inl h)) = outside_x nodes tree (2 ^ (tree.level - 1)) some refl x y (inl (omega (arith, ints, h)))
+tree_dies nodes tree some x y (inl (inr h)) = outside_x nodes tree (2 ^ (tree.level - 1)) some refl x y (inr (omega (arith, ints, h)))
+tree_dies nodes tree some x y (inr (inl h)) = outside_y nodes tree (2 ^ (tree.level - 1)) some refl x y (inl (omega (arith, ints, h)))
+tree_dies nodes tree some x y (inr (inr h)) = outside_y nodes tree (2 ^ (tree.level - 1)) some refl x y (inr (omega (arith, ints, h)))
+
+beyond_near : (way n far : ℕ) (x s : ℤ) → way + n ≤ far → s ≤ℤ (x +ℤ pos n) → x ≤ℤ (s +ℤ pos n) → IsBeyond far x → IsBeyond way s
+beyond_near way n far x s h low high (inl e) = inl (omega (arith, ints, h, low, high, e))
+beyond_near way n far x s h low high (inr e) = inr (omega (arith, ints, h, low, high, e))
+
+-- n generations later it is empty n cells further out
+pub later_dies : (next : List ℕ → ℕ) → next (replicate 9 0) ≡ 0 → (p : ℤ → ℤ → ℕ) (way n far : ℕ) → way + n ≤ far → DiesBeyond way p → DiesBeyond far (later next p n)
+later_dies next quiet p way n far h dies x y out =
+    later_dead next p quiet n x y (λ s t within.
+    let sx : s ≤ℤ (x +ℤ pos n) = omega (arith, ints, within) in
+    let xs : x ≤ℤ (s +ℤ pos n) = omega (arith, ints, within) in
+    let ty : t ≤ℤ (y +ℤ pos n) = omega (arith, ints, within) in
+    let yt : y ≤ℤ (t +ℤ pos n) = omega (arith, ints, within) in
+    dies s t (elim out [ inl e ↦ inl (beyond_near way n far x s h sx xs e) | inr e ↦ inr (beyond_near way n far y t h ty yt e) ]))
+
+-- the root of a tree shows the tree's cells
+pub root_at : (nodes : List Node) (tree : Tree) → IsTree nodes tree → ShowsAt nodes tree.root tree.level (cell nodes tree) (neg_ℤ (pos (2 ^ (tree.level - 1)))) (neg_ℤ (pos (2 ^ (tree.level - 1))))
+root_at nodes tree h = record {
+  is_square = h;
+  looks = λ x y i j.
+      let half = 2 ^ (tree.level - 1) in
+      let ax : (neg_ℤ (pos half) +ℤ pos x) +ℤ pos half ≡ pos x = omega (arith, ints) in
+      let by : (neg_ℤ (pos half) +ℤ pos y) +ℤ pos half ≡ pos y = omega (arith, ints) in
+      sym (ap₂ (from_corner (cell_of nodes tree.level tree.root)) ax by);
+}
+
+-- a square that shows all that is live of a plane, from the corner of a tree on, is the root of a tree with the plane's cells
+module _ (nodes : List Node) (root k : ℕ) (q : ℤ → ℤ → ℕ) (shows : ShowsAt nodes root (suc k) q (neg_ℤ (pos (2 ^ k))) (neg_ℤ (pos (2 ^ k)))) (dies : DiesBeyond (2 ^ k) q) where
+  shown_from : (x y u v : ℤ) → x +ℤ pos (2 ^ k) ≡ u → y +ℤ pos (2 ^ k) ≡ v → from_corner (cell_of nodes (suc k) root) u v ≡ q x y
+  shown_from x y (pos a) (pos b) e f =
+      let wide = two-pow-succ k in
+      elim (below_or_not a (2 ^ suc k)) [
+        | inl i ↦ elim (below_or_not b (2 ^ suc k)) [
+          | inl j ↦
+              let ax : neg_ℤ (pos (2 ^ k)) +ℤ pos a ≡ x = omega (arith, ints, e) in
+              let by : neg_ℤ (pos (2 ^ k)) +ℤ pos b ≡ y = omega (arith, ints, f) in
+              shows.looks a b i j ∙ ap₂ q ax by
+          | inr j ↦ cell_ends nodes (suc k) root a b (inr j) ∙ sym (dies x y (inr (inr (omega (arith, ints, f, j, wide)))))
+        ]
+        | inr i ↦ cell_ends nodes (suc k) root a b (inl i) ∙ sym (dies x y (inl (inr (omega (arith, ints, e, i, wide)))))
+      ]
+  shown_from x y (pos a) (negsuc b) e f = sym (dies x y (inr (inl (omega (arith, ints, f)))))
+  shown_from x y (negsuc a) v e f = sym (dies x y (inl (inl (omega (arith, ints, e)))))
+
+  pub tree_at : (tree : Tree) → tree.root ≡ root → tree.level ≡ suc k → (x y : ℤ) → cell nodes tree x y ≡ q x y
+  tree_at tree e f x y =
+      let half : tree.level - 1 ≡ k = omega arith in
+      let same : cell nodes tree x y ≡ from_corner (cell_of nodes (suc k) root) (x +ℤ pos (2 ^ k)) (y +ℤ pos (2 ^ k)) = rw (half, e, f) refl in
+      same ∙ shown_from x y (x +ℤ pos (2 ^ k)) (y +ℤ pos (2 ^ k)) refl refl
+
+-- ---- a leap
+
+-- two parts of a sum of two halves
+powers_fit : (l j k : ℕ) → 1 ≤ l → l ≤ k → j + 1 ≤ k → 2 ^ (l - 1) + 2 ^ j ≤ 2 ^ k
+powers_fit l j k some low time =
+    let next : suc (k - 1) ≡ k = omega arith in
+    let up : 2 ^ k ≡ 2 ^ (k - 1) + 2 ^ (k - 1) = ap (λ n. 2 ^ n) (sym next) ∙ two-pow-succ (k - 1) in
+    let lower : l - 1 ≤ k - 1 = omega arith in
+    let sooner : j ≤ k - 1 = omega arith in
+    let a : 2 ^ (l - 1) ≤ 2 ^ (k - 1) = pow_mono lower in
+    let b : 2 ^ j ≤ 2 ^ (k - 1) = pow_mono sooner in
+    omega (arith, a, b, up)
+
+-- the centre of a tree with a wide empty margin is the tree 2 ^ j generations later
+pub leap_cells : (next : List ℕ → ℕ) → next (replicate 9 0) ≡ 0 → (s0 s1 s2 : List Node) → IsSound s1 → Grows s1 s2 → (tree wide half : Tree) (k j root : ℕ) → 1 ≤ tree.level → tree.level ≤ k → j + 1 ≤ k
+    → IsTree s1 wide → wide.level ≡ suc (suc k) → ((x y : ℤ) → cell s1 wide x y ≡ cell s0 tree x y) → IsCentre next s2 wide.root k j root → half.root ≡ root → half.level ≡ suc k
+    → (x y : ℤ) → cell s2 half x y ≡ later next (cell s0 tree) (2 ^ j) x y
+leap_cells next quiet s0 s1 s2 sound grows tree wide half k j root some low time is_tree level same is_centre e f x y =
+    let p = cell s1 wide in
+    let corner : wide.level - 1 ≡ suc k = omega arith in
+    let up = two-pow-succ k in
+    let place : neg_ℤ (pos (2 ^ suc k)) +ℤ side k ≡ neg_ℤ (pos (2 ^ k)) = omega (arith, ints, up) in
+    let shown = subst (λ n. ShowsAt s1 wide.root (suc (suc k)) p (neg_ℤ (pos (2 ^ n))) (neg_ℤ (pos (2 ^ n)))) corner
+        (subst (λ n. ShowsAt s1 wide.root n p (neg_ℤ (pos (2 ^ (wide.level - 1)))) (neg_ℤ (pos (2 ^ (wide.level - 1))))) level (root_at s1 wide is_tree)) in
+    let centred = at_from s2 root (suc k) (later next p (2 ^ j)) _ _ _ _ place place
+        (centre_at next s1 s2 sound grows wide.root k j root p (neg_ℤ (pos (2 ^ suc k))) (neg_ℤ (pos (2 ^ suc k))) shown is_centre) in
+    let dies : DiesBeyond (2 ^ (tree.level - 1)) p = λ u v out. same u v ∙ tree_dies s0 tree some u v out in
+    let later_dead_out = later_dies next quiet p (2 ^ (tree.level - 1)) (2 ^ j) (2 ^ k) (powers_fit tree.level j k some low time) dies in
+    tree_at s2 root k (later next p (2 ^ j)) centred later_dead_out half e f x y ∙ later_same next p (cell s0 tree) (2 ^ j) same x y
+
+-- one binary digit more: the tree after the digits so far, and then after this one
+pub one_digit : (next : List ℕ → ℕ) (s0 s1 s2 : List Node) (tree now more : Tree) (n j : ℕ) → n / 2 ^ j % 2 ≡ 1 → ((x y : ℤ) → cell s1 now x y ≡ later next (cell s0 tree) (n % 2 ^ j) x y)
+    → ((x y : ℤ) → cell s2 more x y ≡ later next (cell s1 now) (2 ^ j) x y) → (x y : ℤ) → cell s2 more x y ≡ later next (cell s0 tree) (n % 2 ^ (1 + j)) x y
+one_digit next s0 s1 s2 tree now more n j digit so_far leap x y =
+    let sum : n % 2 ^ j + 2 ^ j ≡ n % 2 ^ (1 + j) = sym (mod-pow-add n 1 j ∙ (ap (λ d. d * 2 ^ j + n % 2 ^ j) digit ∙ omega arith)) in
+    leap x y ∙ later_same next (cell s1 now) (later next (cell s0 tree) (n % 2 ^ j)) (2 ^ j) so_far x y ∙ later_again next (cell s0 tree) (n % 2 ^ j) (2 ^ j) x y
+    ∙ ap (λ m. later next (cell s0 tree) m x y) sum
+
+-- and none where the digit is 0
+pub no_digit : (n j : ℕ) → n / 2 ^ j % 2 ≡ 0 → n % 2 ^ j ≡ n % 2 ^ (1 + j)
+no_digit n j digit = sym (mod-pow-add n 1 j ∙ (ap (λ d. d * 2 ^ j + n % 2 ^ j) digit ∙ omega arith))
+
+-- ---- trees that stay
+
+-- an old tree keeps its cells
+pub tree_stays : (old new : List Node) → IsSound old → Grows old new → (tree : Tree) → IsTree old tree → (x y : ℤ) → cell new tree x y ≡ cell old tree x y
+tree_stays old new sound grows tree h x y =
+    ap (λ f. from_corner f (x +ℤ pos (2 ^ (tree.level - 1))) (y +ℤ pos (2 ^ (tree.level - 1)))) (cells_stay old new sound grows tree.level tree.root h)
+
+-- what holds of a place holds in other words
+pub some_as : {X : Type 0} (r : Option X) (P Q : X → Type 0) → ((x : X) → P x → Q x) → IfSome r P → IfSome r Q
+some_as None P Q turn h = tt
+some_as (Some x) P Q turn h = turn x h

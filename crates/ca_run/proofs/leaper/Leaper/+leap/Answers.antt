@@ -1,0 +1,236 @@
+use Rattle.std.proofs.Common.{rules, ◌≡◌, suc, ◌+◌, ◌-◌, ◌≤◌, ◌^◌, IfOk, refl, sym, ap, subst, ◌∙◌, arith}
+use Rattle.std.specs.Prelude.{◌+ℤ◌}
+use Rattle.std.proofs.lemmas.Bool.Decides.{nat_tests}
+use Rattle.std.proofs.Math.Nat.{two-pow-succ}
+use Rattle.ca_quad.specs.Squares.{IsOf}
+use Rattle.ca_quad.specs.Sound.{IsSound}
+use Rattle.ca_quad.proofs.Growth.{grows_on}
+use Rattle.ca_quad.proofs.Cells.{of_stays}
+use Rattle.ca_run.specs.Centre.{later, IsCentre}
+use Rattle.ca_run.specs.inner.Shown.{ShowsAt, FourShow, AreThree, side, generations}
+use Rattle.ca_run.proofs.Shown.{goes_on_again, at_stays, three_stay, three_are}
+use Rattle.ca_run.proofs.Leap.{goes_on_same, centre_ok, nine_centre, west_four, east_four, pair_at, trio_at, nine_at, four_at}
+use Rattle.ca_run.proofs.leaper.Leaper.+leap.Goals as goal
+
+pub centre-returns-in-Some-clause-goes_on : goal.centre-returns-in-Some-clause-goes_on
+centre-returns-in-Some-clause-goes_on g t c = goes_on_same _ c.args.self.now (subst (λ l. IsSound l.nodes) c.self.view_is c.self.invariant.squares)
+
+pub centre-returns-in-Some-empty_centre-clause-goes_on : goal.centre-returns-in-Some-empty_centre-clause-goes_on
+centre-returns-in-Some-empty_centre-clause-goes_on g t c = goes_on_same _ c.args.self.now (subst (λ l. IsSound l.nodes) c.self.view_is c.self.invariant.squares)
+
+pub first_centre-returns-in-Some-clause-shows : goal.first_centre-returns-in-Some-clause-shows
+first_centre-returns-in-Some-clause-shows g t c = λ next p a b e shows.
+    let sound = subst (λ l. IsSound l.nodes) c.self.view_is c.self.invariant.squares in
+    let new = c.centre.new.self.nodes in
+    rw c.in-Some.is
+    (centre_ok next c.args.self.now.nodes new sound c.centre.ensures.goes_on.grows c.centre.result c.args.id c.args.grain c.in-Some.j p a b shows
+    (subst (λ f. IfOk c.centre.result (IsCentre f new c.args.id c.args.grain c.in-Some.j)) (sym e) c.centre.ensures.centre))
+
+pub joined_centre-returns-clause-shows : goal.joined_centre-returns-clause-shows
+joined_centre-returns-clause-shows g t c = λ next p a b e four.
+    let joined = c.in_ok-id.ensures.goes_on in
+    let same = e ∙ sym (ap (g.A.Automaton.next_of) joined.rule) in
+    let new = c.centre.new.self.nodes in
+    centre_ok next c.join.new.self.nodes new joined.grows.sound c.centre.ensures.goes_on.grows c.centre.result c.in_ok-id.id c.args.grain c.args.j p a b (c.in_ok-id.ensures.shows p a b four)
+    (subst (λ f. IfOk c.centre.result (IsCentre f new c.in_ok-id.id c.args.grain c.args.j)) (sym same) c.centre.ensures.centre)
+
+pub joined_centre-returns-clause-goes_on : goal.joined_centre-returns-clause-goes_on
+joined_centre-returns-clause-goes_on g t c = goes_on_again _ c.args.self.now c.join.new.self c.centre.new.self c.in_ok-id.ensures.goes_on c.centre.ensures.goes_on
+
+pub new_centre-returns-then-j-grain-clause-centre : goal.new_centre-returns-then-j-grain-clause-centre
+new_centre-returns-then-j-grain-clause-centre g t c =
+    let some : 1 ≤ c.args.grain = grind (arith, nat_tests) in
+    let all : c.args.j ≡ c.args.grain = grind (arith, nat_tests) in
+    let up : suc (c.args.grain - 1) ≡ c.args.grain = omega arith in
+    let one : suc (c.args.j - 1) ≡ c.args.j = omega arith in
+    let sum : 2 ^ (c.args.j - 1) + 2 ^ (c.args.j - 1) ≡ 2 ^ c.args.j = sym (two-pow-succ (c.args.j - 1)) ∙ ap (λ n. 2 ^ n) one in
+    let sound = subst (λ l. IsSound l.nodes) c.self.view_is c.self.invariant.squares in
+    let next = g.A.Automaton.next_of c.args.self.now.rule in
+    nine_centre next c.args.self.now.nodes c.by_nine.new.self.nodes sound c.by_nine.ensures.goes_on.grows c.by_nine.result c.args.id (c.args.grain - 1) c.args.grain (2 ^ (c.args.j - 1)) (2 ^ (c.args.j - 1)) c.args.j up
+    c.requires.square c.requires.time sum (λ p a b shows. c.by_nine.ensures.shows next p a b refl shows)
+
+pub new_centre-returns-clause-centre : goal.new_centre-returns-clause-centre
+new_centre-returns-clause-centre g t c =
+    let some : 1 ≤ c.args.grain = grind (arith, nat_tests) in
+    let up : suc (c.args.grain - 1) ≡ c.args.grain = omega arith in
+    let sum : 0 + 2 ^ c.args.j ≡ 2 ^ c.args.j = omega arith in
+    let sound = subst (λ l. IsSound l.nodes) c.self.view_is c.self.invariant.squares in
+    let next = g.A.Automaton.next_of c.args.self.now.rule in
+    nine_centre next c.args.self.now.nodes c.by_nine-2.new.self.nodes sound c.by_nine-2.ensures.goes_on.grows c.by_nine-2.result c.args.id (c.args.grain - 1) c.args.grain 0 (2 ^ c.args.j) c.args.j up
+    c.requires.square c.requires.time sum (λ p a b shows. c.by_nine-2.ensures.shows next p a b refl shows)
+
+pub pair-returns-clause-shows : goal.pair-returns-clause-shows
+pair-returns-clause-shows g t c = λ next p a b e north south.
+    let k = c.args.grain in
+    let s0 = c.args.self.now in
+    let s1 = c.joined_centre.new.self in
+    let s2 = c.joined_centre-2.new.self in
+    let g1 = c.in_ok-west.ensures.goes_on in
+    let g2 = c.in_ok-east.ensures.goes_on in
+    let sound = subst (λ l. IsSound l.nodes) c.self.view_is c.self.invariant.squares in
+    let n = c.args.north.now in
+    let s = c.args.south.now in
+    let west = c.in_ok-west.ensures.shows next p a b e (west_four s0.nodes (suc k) n s p a b north south) in
+    let east = c.in_ok-east.ensures.shows next p (a +ℤ side (suc k)) b (e ∙ sym (ap (g.A.Automaton.next_of) g1.rule))
+        (east_four s1.nodes (suc k) n s p a b (three_stay s0.nodes s1.nodes sound g1.grows (suc k) n p a b north) (three_stay s0.nodes s1.nodes sound g1.grows (suc k) s p a (b +ℤ side (suc k)) south)) in
+    pair_at k s1.nodes s2.nodes g1.grows.sound g2.grows c.in_ok-west.west c.in_ok-east.east (later next p (2 ^ c.args.j)) a b (b +ℤ side k) west east
+
+pub pair-returns-clause-goes_on : goal.pair-returns-clause-goes_on
+pair-returns-clause-goes_on g t c = goes_on_again _ c.args.self.now c.joined_centre.new.self c.joined_centre-2.new.self c.in_ok-west.ensures.goes_on c.in_ok-east.ensures.goes_on
+
+pub trio-returns-clause-shows : goal.trio-returns-clause-shows
+trio-returns-clause-shows g t c = λ next p a b e two.
+    let k = c.args.grain in
+    let s0 = c.args.self.now in
+    let s1 = c.between.new.self in
+    let s2 = c.first_centre.new.self in
+    let s3 = c.first_centre-2.new.self in
+    let s4 = c.first_centre-3.new.self in
+    let g1 = c.in_ok-middle.ensures.goes_on in
+    let g2 = c.in_ok-west.ensures.goes_on in
+    let g3 = c.in_ok-middle-2.ensures.goes_on in
+    let g4 = c.in_ok-east.ensures.goes_on in
+    let sound = subst (λ l. IsSound l.nodes) c.self.view_is c.self.invariant.squares in
+    let e1 = e ∙ sym (ap (g.A.Automaton.next_of) g1.rule) in
+    let e2 = e1 ∙ sym (ap (g.A.Automaton.next_of) g2.rule) in
+    let e3 = e2 ∙ sym (ap (g.A.Automaton.next_of) g3.rule) in
+    let between = c.in_ok-middle.ensures.shows p a b two in
+    let west = c.in_ok-west.ensures.shows next p a b e1 (at_stays s0.nodes s1.nodes sound g1.grows c.args.west (suc (suc k)) p a b two.at_west) in
+    let middle = c.in_ok-middle-2.ensures.shows next p (a +ℤ side (suc k)) b e2 (at_stays s1.nodes s2.nodes g1.grows.sound g2.grows c.in_ok-middle.middle (suc (suc k)) p (a +ℤ side (suc k)) b between) in
+    let east = c.in_ok-east.ensures.shows next p (a +ℤ side (suc (suc k))) b e3
+        (at_stays s0.nodes s3.nodes sound (grows_on s0.nodes s2.nodes s3.nodes (grows_on s0.nodes s1.nodes s2.nodes g1.grows g2.grows) g3.grows) c.args.east (suc (suc k)) p (a +ℤ side (suc (suc k))) b two.at_east) in
+    trio_at k s2.nodes s3.nodes s4.nodes g2.grows.sound g3.grows.sound g3.grows g4.grows (record { west = c.in_ok-west.west; middle = c.in_ok-middle-2.middle; east = c.in_ok-east.east })
+    (later next p (generations c.args.first)) a (b +ℤ side k) west middle east
+
+pub trio-returns-clause-goes_on : goal.trio-returns-clause-goes_on
+trio-returns-clause-goes_on g t c =
+    goes_on_again _ c.args.self.now c.first_centre-2.new.self c.first_centre-3.new.self
+    (goes_on_again _ c.args.self.now c.first_centre.new.self c.first_centre-2.new.self
+    (goes_on_again _ c.args.self.now c.between.new.self c.first_centre.new.self c.in_ok-middle.ensures.goes_on c.in_ok-west.ensures.goes_on) c.in_ok-middle-2.ensures.goes_on) c.in_ok-east.ensures.goes_on
+
+pub nine-trio-requires-3 : goal.nine-trio-requires-3
+nine-trio-requires-3 g t c κs within =
+    let s0 = c.args.self.now.nodes in
+    let s1 = c.trio.new.self.nodes in
+    let s2 = c.halfway.new.self.nodes in
+    let s3 = c.halfway-2.new.self.nodes in
+    let s4 = c.trio-2.new.self.nodes in
+    let one : c.args.grain + 1 ≡ suc c.args.grain = omega arith in
+    let grows = grows_on s0 s3 s4 (grows_on s0 s2 s3 (grows_on s0 s1 s2 c.in_ok-north.ensures.goes_on.grows c.in_ok-west.ensures.goes_on.grows) c.in_ok-east.ensures.goes_on.grows) c.in_ok-middle.ensures.goes_on.grows in
+    let k = suc (suc c.args.grain) in
+    let west : IsOf s4 c.quarters-nw.result.2 k = of_stays s0 s4 c.quarters-nw.ensures.sound grows c.quarters-nw.result.2 k (subst (λ n. IsOf s0 c.quarters-nw.result.2 (suc n)) one c.quarters-nw.ensures.sw) in
+    let east : IsOf s4 c.quarters-nw.result.3 k = of_stays s0 s4 c.quarters-nw.ensures.sound grows c.quarters-nw.result.3 k (subst (λ n. IsOf s0 c.quarters-nw.result.3 (suc n)) one c.quarters-nw.ensures.se) in
+    search rules
+
+pub nine-returns-clause-shows : goal.nine-returns-clause-shows
+nine-returns-clause-shows g t c = λ next p a b e shows.
+    let k = c.args.grain in
+    let s0 = c.args.self.now.nodes in
+    let s1 = c.trio.new.self.nodes in
+    let s2 = c.halfway.new.self.nodes in
+    let s3 = c.halfway-2.new.self.nodes in
+    let s4 = c.trio-2.new.self.nodes in
+    let s5 = c.trio-3.new.self.nodes in
+    let g1 = c.in_ok-north.ensures.goes_on in
+    let g2 = c.in_ok-west.ensures.goes_on in
+    let g3 = c.in_ok-east.ensures.goes_on in
+    let g4 = c.in_ok-middle.ensures.goes_on in
+    let g5 = c.in_ok-south.ensures.goes_on in
+    let sound = c.quarters-nw.ensures.sound in
+    let to2 = grows_on s0 s1 s2 g1.grows g2.grows in
+    let to4 = grows_on s0 s3 s4 (grows_on s0 s2 s3 to2 g3.grows) g4.grows in
+    let from1 = grows_on s1 s3 s4 (grows_on s1 s2 s3 g2.grows g3.grows) g4.grows in
+    let e1 = e ∙ sym (ap (g.A.Automaton.next_of) g1.rule) in
+    let e3 = (e1 ∙ sym (ap (g.A.Automaton.next_of) g2.rule)) ∙ sym (ap (g.A.Automaton.next_of) g3.rule) in
+    let e4 = e3 ∙ sym (ap (g.A.Automaton.next_of) g4.rule) in
+    let one : k + 1 ≡ suc k = omega arith in
+    let q = c.quarters-nw.result in
+    let l = suc (suc k) in
+    let parts = subst (λ n. FourShow s0 (suc n) q.0 q.1 q.2 q.3 p a b) one (c.quarters-nw.ensures.shows p a b (subst (λ n. ShowsAt s0 c.args.id (suc (suc n)) p a b) (sym one) shows)) in
+    let north = c.in_ok-north.ensures.shows next p a b e (record { at_west = parts.at_nw; at_east = parts.at_ne }) in
+    let west = c.in_ok-west.ensures.shows p a b (at_stays s0 s1 sound g1.grows q.0 l p a b parts.at_nw) (at_stays s0 s1 sound g1.grows q.2 l p a (b +ℤ side l) parts.at_sw) in
+    let east = c.in_ok-east.ensures.shows p (a +ℤ side l) b (at_stays s0 s2 sound to2 q.1 l p (a +ℤ side l) b parts.at_ne) (at_stays s0 s2 sound to2 q.3 l p (a +ℤ side l) (b +ℤ side l) parts.at_se) in
+    let middle = c.in_ok-middle.ensures.shows next p a (b +ℤ side (suc k)) e3 (record { at_west = at_stays s2 s3 g2.grows.sound g3.grows c.in_ok-west.west l p a (b +ℤ side (suc k)) west; at_east = east }) in
+    let south = c.in_ok-south.ensures.shows next p a (b +ℤ side l) e4
+        (record { at_west = at_stays s0 s4 sound to4 q.2 l p a (b +ℤ side l) parts.at_sw; at_east = at_stays s0 s4 sound to4 q.3 l p (a +ℤ side l) (b +ℤ side l) parts.at_se }) in
+    nine_at k s1 s4 s5 g1.grows.sound g4.grows.sound from1 g5.grows (record { north = c.in_ok-north.north; middle = c.in_ok-middle.middle; south = c.in_ok-south.south })
+    (later next p (generations c.args.first)) (a +ℤ side k) b north middle south
+
+pub nine-returns-clause-squares : goal.nine-returns-clause-squares
+nine-returns-clause-squares g t c =
+    let k = suc c.args.grain in
+    let s1 = c.trio.new.self.nodes in
+    let s2 = c.halfway.new.self.nodes in
+    let s3 = c.halfway-2.new.self.nodes in
+    let s4 = c.trio-2.new.self.nodes in
+    let s5 = c.trio-3.new.self.nodes in
+    let g5 = c.in_ok-south.ensures.goes_on.grows in
+    let from1 = grows_on s1 s4 s5 (grows_on s1 s3 s4 (grows_on s1 s2 s3 c.in_ok-west.ensures.goes_on.grows c.in_ok-east.ensures.goes_on.grows) c.in_ok-middle.ensures.goes_on.grows) g5 in
+    record {
+      north = three_are s1 s5 c.in_ok-north.ensures.goes_on.grows.sound from1 k c.in_ok-north.north c.in_ok-north.ensures.squares;
+      middle = three_are s4 s5 c.in_ok-middle.ensures.goes_on.grows.sound g5 k c.in_ok-middle.middle c.in_ok-middle.ensures.squares;
+      south = c.in_ok-south.ensures.squares;
+    }
+
+pub nine-returns-clause-goes_on : goal.nine-returns-clause-goes_on
+nine-returns-clause-goes_on g t c =
+    goes_on_again _ c.args.self.now c.trio-2.new.self c.trio-3.new.self
+    (goes_on_again _ c.args.self.now c.halfway-2.new.self c.trio-2.new.self
+    (goes_on_again _ c.args.self.now c.halfway.new.self c.halfway-2.new.self
+    (goes_on_again _ c.args.self.now c.trio.new.self c.halfway.new.self c.in_ok-north.ensures.goes_on c.in_ok-west.ensures.goes_on) c.in_ok-east.ensures.goes_on) c.in_ok-middle.ensures.goes_on) c.in_ok-south.ensures.goes_on
+
+pub by_nine-pair-requires-2 : goal.by_nine-pair-requires-2
+by_nine-pair-requires-2 g t c κs within =
+    let s1 = c.nine.new.self.nodes in
+    let s2 = c.pair.new.self.nodes in
+    let sound = c.in_ok-rows.ensures.goes_on.grows.sound in
+    let grows = c.in_ok-nw.ensures.goes_on.grows in
+    let rows = c.in_ok-rows.rows in
+    let k = suc c.args.grain in
+    let middle : AreThree s2 k rows.middle = three_are s1 s2 sound grows k rows.middle c.in_ok-rows.ensures.squares.middle in
+    let south : AreThree s2 k rows.south = three_are s1 s2 sound grows k rows.south c.in_ok-rows.ensures.squares.south in
+    search rules
+
+pub by_nine-join-requires : goal.by_nine-join-requires
+by_nine-join-requires g t c =
+    let s2 = c.pair.new.self.nodes in
+    let s3 = c.pair-2.new.self.nodes in
+    let sound = c.in_ok-nw.ensures.goes_on.grows.sound in
+    let grows = c.in_ok-sw.ensures.goes_on.grows in
+    let k = suc c.args.grain in
+    record {
+      is_low = omega (arith, c.requires.low);
+      is_nw = of_stays s2 s3 sound grows c.in_ok-nw.nw k c.in_ok-nw.ensures.west;
+      is_ne = of_stays s2 s3 sound grows c.in_ok-nw.ne k c.in_ok-nw.ensures.east;
+      is_sw = c.in_ok-sw.ensures.west;
+      is_se = c.in_ok-sw.ensures.east;
+    }
+
+pub by_nine-returns-clause-shows : goal.by_nine-returns-clause-shows
+by_nine-returns-clause-shows g t c = λ next p a b e shows.
+    let k = c.args.grain in
+    let s1 = c.nine.new.self.nodes in
+    let s2 = c.pair.new.self.nodes in
+    let s3 = c.pair-2.new.self.nodes in
+    let g1 = c.in_ok-rows.ensures.goes_on in
+    let g2 = c.in_ok-nw.ensures.goes_on in
+    let g3 = c.in_ok-sw.ensures.goes_on in
+    let e1 = e ∙ sym (ap (g.A.Automaton.next_of) g1.rule) in
+    let e2 = e1 ∙ sym (ap (g.A.Automaton.next_of) g2.rule) in
+    let mid = later next p (generations c.args.first) in
+    let last = later next mid (2 ^ c.args.j) in
+    let x = a +ℤ side k in
+    let y = b +ℤ side k in
+    let rows = c.in_ok-rows.rows in
+    let nine = c.in_ok-rows.ensures.shows next p a b e shows in
+    let north = c.in_ok-nw.ensures.shows next mid x y e1 nine.at_north nine.at_middle in
+    let south = c.in_ok-sw.ensures.shows next mid x (y +ℤ side (suc k)) e2
+        (three_stay s1 s2 g1.grows.sound g2.grows (suc k) rows.middle mid x (y +ℤ side (suc k)) nine.at_middle)
+        (three_stay s1 s2 g1.grows.sound g2.grows (suc k) rows.south mid x (y +ℤ side (suc k) +ℤ side (suc k)) nine.at_south) in
+    c.join.ensures.shows last (a +ℤ side (suc k)) (b +ℤ side (suc k)) (four_at k s2 s3 g2.grows.sound g3.grows c.in_ok-nw.nw c.in_ok-nw.ne c.in_ok-sw.sw c.in_ok-sw.se last a b north south)
+
+pub by_nine-returns-clause-goes_on : goal.by_nine-returns-clause-goes_on
+by_nine-returns-clause-goes_on g t c =
+    goes_on_again _ c.args.self.now c.pair-2.new.self c.join.new.self
+    (goes_on_again _ c.args.self.now c.pair.new.self c.pair-2.new.self
+    (goes_on_again _ c.args.self.now c.nine.new.self c.pair.new.self c.in_ok-rows.ensures.goes_on c.in_ok-nw.ensures.goes_on) c.in_ok-sw.ensures.goes_on) c.join.ensures.goes_on

@@ -1,0 +1,26 @@
+use Rattle.std.proofs.Common.{◌+◌, ◌*◌}
+use Rattle.ca_run.proofs.leaper.Leaper.+leap.Given as goal
+
+abbrev pub decreases-centre : goal.decreases-centre
+decreases-centre g l = 10 * l.grain + 5
+
+abbrev pub decreases-new_centre : goal.decreases-new_centre
+decreases-new_centre g l = 10 * l.grain + 4
+
+abbrev pub decreases-by_nine : goal.decreases-by_nine
+decreases-by_nine g l = 10 * l.grain + 13
+
+abbrev pub decreases-nine : goal.decreases-nine
+decreases-nine g l = 10 * l.grain + 12
+
+abbrev pub decreases-trio : goal.decreases-trio
+decreases-trio g l = 10 * l.grain + 8
+
+abbrev pub decreases-first_centre : goal.decreases-first_centre
+decreases-first_centre g l = 10 * l.grain + 6
+
+abbrev pub decreases-pair : goal.decreases-pair
+decreases-pair g l = 10 * l.grain + 8
+
+abbrev pub decreases-joined_centre : goal.decreases-joined_centre
+decreases-joined_centre g l = 10 * l.grain + 6

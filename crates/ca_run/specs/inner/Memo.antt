@@ -1,0 +1,20 @@
+-- What a leaper remembers.
+use Rattle.std.specs.Prelude.{◌≡◌, ℕ, ◌==◌, ◌&&◌, List, Option, Some}
+use Rattle.std.specs.Map.{lookup}
+use Rattle.ca_quad.specs.declared.node.Node.{Node}
+use Rattle.ca_quad.specs.Sound.{IsSound}
+use Rattle.ca_run.specs.Centre.{IsCentre}
+
+-- what is remembered for a square after 2 ^ j generations, if anything
+abbrev pub remembered : List ((ℕ × ℕ) × ℕ) → ℕ → ℕ → Option ℕ
+remembered results id j = lookup (λ (k : ℕ × ℕ). (id == k.0) && (j == k.1)) results
+
+-- each remembered result is the centre of its square
+abbrev pub AreCentres : (List ℕ → ℕ) → List Node → List ((ℕ × ℕ) × ℕ) → Type 0
+AreCentres next nodes results = (id j half : ℕ) → remembered results id j ≡ Some half → (k : ℕ) × IsCentre next nodes id k j half
+
+-- the rule and the squares are sound, and what is remembered are centres
+pub record IsLeaper (next : List ℕ → ℕ) (RuleIsSound : Type 0) (nodes : List Node) (results : List ((ℕ × ℕ) × ℕ)) : Type 0 where
+  pub rule : RuleIsSound
+  pub squares : IsSound nodes
+  pub centres : AreCentres next nodes results

@@ -1,0 +1,73 @@
+-- Squares that show a plane from some place on (our own).
+use Rattle.std.specs.Prelude.{◌≡◌, ℕ, ◌<◌, ◌≤◌, ◌^◌, ℤ, pos, ◌+ℤ◌, List, [], ◌∷◌, Option, Some, None}
+use Rattle.ca_quad.specs.declared.node.Node.{Node}
+use Rattle.ca_quad.specs.Squares.{IsOf, cell_of}
+use Rattle.ca_run.specs.declared.leaper.trio.Trio.{Trio}
+use Rattle.ca_run.specs.declared.leaper.trio.Rows.{Rows}
+
+-- as far as the side reaches, the cells are those of the plane from (a, b) on
+abbrev pub Looks : ℕ → (ℕ → ℕ → ℕ) → (ℤ → ℤ → ℕ) → ℤ → ℤ → Type 0
+Looks side cells p a b = (x y : ℕ) → x < side → y < side → cells x y ≡ p (a +ℤ pos x) (b +ℤ pos y)
+
+-- the id names a square of this level, which shows the plane from (a, b) on
+pub record ShowsAt (nodes : List Node) (id level : ℕ) (p : ℤ → ℤ → ℕ) (a b : ℤ) : Type 0 where
+  pub is_square : IsOf nodes id level
+  pub looks : Looks (2 ^ level) (cell_of nodes level id) p a b
+
+-- the side of a square of this level
+abbrev pub side : ℕ → ℤ
+side level = pos (2 ^ level)
+
+-- four squares of this level show the plane: together they show it from (a, b) on
+pub record FourShow (nodes : List Node) (level nw ne sw se : ℕ) (p : ℤ → ℤ → ℕ) (a b : ℤ) : Type 0 where
+  pub at_nw : ShowsAt nodes nw level p a b
+  pub at_ne : ShowsAt nodes ne level p (a +ℤ side level) b
+  pub at_sw : ShowsAt nodes sw level p a (b +ℤ side level)
+  pub at_se : ShowsAt nodes se level p (a +ℤ side level) (b +ℤ side level)
+
+-- three squares of this level are there
+pub record AreThree (nodes : List Node) (level : ℕ) (three : Trio) : Type 0 where
+  pub west : IsOf nodes three.west level
+  pub middle : IsOf nodes three.middle level
+  pub east : IsOf nodes three.east level
+
+-- three squares of this level, side by side, show the plane from (a, b) on
+pub record ThreeShow (nodes : List Node) (level : ℕ) (three : Trio) (p : ℤ → ℤ → ℕ) (a b : ℤ) : Type 0 where
+  pub at_west : ShowsAt nodes three.west level p a b
+  pub at_middle : ShowsAt nodes three.middle level p (a +ℤ side level) b
+  pub at_east : ShowsAt nodes three.east level p (a +ℤ side level +ℤ side level) b
+
+-- nine squares of this level are there
+pub record AreNine (nodes : List Node) (level : ℕ) (rows : Rows) : Type 0 where
+  pub north : AreThree nodes level rows.north
+  pub middle : AreThree nodes level rows.middle
+  pub south : AreThree nodes level rows.south
+
+-- nine squares of this level show the plane: together they show it from (a, b) on
+pub record NineShow (nodes : List Node) (level : ℕ) (rows : Rows) (p : ℤ → ℤ → ℕ) (a b : ℤ) : Type 0 where
+  pub at_north : ThreeShow nodes level rows.north p a b
+  pub at_middle : ThreeShow nodes level rows.middle p a (b +ℤ side level)
+  pub at_south : ThreeShow nodes level rows.south p a (b +ℤ side level +ℤ side level)
+
+-- two squares of this level, side by side, show the plane from (a, b) on
+pub record TwoShow (nodes : List Node) (level west east : ℕ) (p : ℤ → ℤ → ℕ) (a b : ℤ) : Type 0 where
+  pub at_west : ShowsAt nodes west level p a b
+  pub at_east : ShowsAt nodes east level p (a +ℤ side level) b
+
+-- how many generations the first half of a leap goes: none, or 2 ^ j
+abbrev pub generations : Option ℕ → ℕ
+generations None = 0
+generations (Some j) = 2 ^ j
+
+-- they aren't too many for a centre of squares of level grain + 2
+abbrev pub IsTimely : ℕ → Option ℕ → Type 0
+IsTimely grain None = Unit {0}
+IsTimely grain (Some j) = j ≤ grain
+
+-- the sixteen cells of a square of 4 by 4, row by row
+abbrev pub sixteen : (ℕ → ℕ → ℕ) → List ℕ
+sixteen f =
+    f 0 0 ∷ f 1 0 ∷ f 2 0 ∷ f 3 0
+    ∷ f 0 1 ∷ f 1 1 ∷ f 2 1 ∷ f 3 1
+    ∷ f 0 2 ∷ f 1 2 ∷ f 2 2 ∷ f 3 2
+    ∷ f 0 3 ∷ f 1 3 ∷ f 2 3 ∷ f 3 3 ∷ []

@@ -1,0 +1,104 @@
+//! Leaps by powers of two over shared squares (Gosper, "Exploiting regularities in large cellular spaces").
+
+ghost use Rattle.std.specs.Prelude.{◌≡◌, ℕ, suc, ℤ, IfOk, IfSome};
+ghost use Rattle.ca_quad.specs.Squares.{IsOf};
+ghost use Rattle.ca_quad.specs.Sound.{IsSound};
+ghost use Rattle.ca_quad.specs.Squares.{dot, together};
+ghost use Rattle.ca_quad.specs.Trees.{AreFour, Shows};
+ghost use Rattle.ca_run.specs.Centre.{IsCentre};
+ghost use Rattle.ca_run.specs.Leaping.{GoesOn};
+ghost use Rattle.ca_run.specs.inner.Shown.{ShowsAt, FourShow};
+
+mod advance;
+mod base;
+mod centres;
+mod memo;
+mod parts;
+mod planes;
+mod trio;
+
+use ca_plane::{Automaton, Memory};
+use ca_quad::{Id, Store};
+use memo::Memo;
+use std::alloc::Global;
+use std::marker::Model;
+
+/// A store of squares, a rule, and the centres of squares that were worked out so far.
+#[derive(Drop)]
+pub struct Leaper<A: Automaton> {
+    store: Store,
+    rule: A,
+    memo: Memo,
+}
+
+impl<A: Automaton> Model for Leaper<A> {
+    ghost use Rattle.ca_run.specs.Leaping.{Leaping};
+    ghost use Rattle.ca_run.specs.inner.Memo.{IsLeaper};
+
+    ghost Value = { Leaping A };
+
+    ghost view = { λ l. record { rule = l.rule; nodes = l.store } };
+
+    ghost invariant = { λ l. IsLeaper (A.next_of l.rule) (A.sound l.rule) l.store l.memo };
+}
+
+impl<A: Automaton> Leaper<A> {
+    /// A leaper over the squares of a store, which has worked out nothing yet.
+    pub fn new(alloc: Global, store: Store, rule: A) -> Leaper<A>
+        ensures store { result.nodes ≡ store }
+        ensures rule { result.rule ≡ rule }
+    {
+        let _states = rule.states();
+        let _squares = store.count();
+        Leaper {
+            store,
+            rule,
+            memo: Memo::new(alloc),
+        }
+    }
+
+    /// The store of the squares.
+    pub fn store(&self) -> &Store
+        ensures nodes { result.now ≡ self.now.nodes }
+        ensures sound { IsSound self.now.nodes }
+    {
+        let _ = &self.memo;
+        &self.store
+    }
+
+    // What is remembered for a square.
+    fn recall(&self, id: Id, grain: u8, j: u8) -> Option<Id>
+        requires { IsOf self.now.nodes id (suc (suc grain)) }
+        ensures { IfSome result (IsCentre (A.next_of self.now.rule) self.now.nodes id grain j) }
+    {
+        self.memo.get(id, j)
+    }
+
+    // Remembers the centre of a square.
+    fn remember(&mut self, id: Id, grain: u8, j: u8, half: Id) -> Result<(), Memory>
+        requires { IsCentre (A.next_of self.old.rule) self.old.nodes id grain j half }
+        ensures { self.new ≡ self.old }
+    {
+        let _ = grain;
+        self.memo.put(id, j, half)
+    }
+
+    // The 2 by 2 square of these cells.
+    fn leaf(&mut self, nw: u8, ne: u8, sw: u8, se: u8) -> Result<Id, Memory>
+        ensures shows { IfOk result (λ id. Shows self.new.nodes id 1 (together 1 (dot nw) (dot ne) (dot sw) (dot se))) }
+        ensures goes_on { GoesOn A self.old self.new }
+    {
+        self.store.leaf(nw, ne, sw, se)
+    }
+
+    // The square of four whose own parts have the level `grain`.
+    fn join(&mut self, nw: Id, ne: Id, sw: Id, se: Id, grain: u8) -> Result<Id, Memory>
+        requires { AreFour self.old.nodes (suc grain) nw ne sw se }
+        ensures shows { (p : ℤ → ℤ → ℕ) (a b : ℤ) → FourShow self.old.nodes (suc grain) nw ne sw se p a b → IfOk result (λ id. ShowsAt self.new.nodes id (suc (suc grain)) p a b) }
+        ensures square { IfOk result (λ id. IsOf self.new.nodes id (suc (suc grain))) }
+        ensures goes_on { GoesOn A self.old self.new }
+    {
+        let _ = grain;
+        self.store.join(nw, ne, sw, se)
+    }
+}

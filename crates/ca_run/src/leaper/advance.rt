@@ -1,0 +1,97 @@
+//! Trees after n generations.
+
+ghost use Rattle.std.specs.Prelude.{◌≡◌, ◌+◌, ◌≤◌, ◌^◌, max, ℤ, Ok, IfOk};
+ghost use Rattle.ca_quad.specs.Sound.{IsSound};
+ghost use Rattle.ca_quad.specs.Trees.{IsTree, cell};
+ghost use Rattle.ca_run.specs.Centre.{later};
+ghost use Rattle.ca_run.specs.Leaping.{GoesOn};
+
+use super::Leaper;
+use crate::fault::LeapFault;
+use ca_plane::{Automaton, Memory};
+use ca_quad::Tree;
+
+// The most generations of one call.
+const MOST: u64 = 1 << 60;
+
+impl<A: Automaton> Leaper<A> {
+    /// The tree n generations on. Its level is at most 64, and n at most 2^60.
+    ///
+    /// # Errors
+    ///
+    /// Fails where there is no memory for more squares or results. Every tree stays as it was, and later calls go on with
+    /// what was worked out so far.
+    pub fn advance(&mut self, tree: Tree, n: u64) -> Result<Tree, LeapFault>
+        requires tree { IsTree self.old.nodes tree }
+        requires level { tree.level ≤ 64 }
+        requires time { n ≤ 2 ^ 60 }
+        ensures tree { IfOk result (IsTree self.new.nodes) }
+        ensures level { IfOk result (λ t. t.level ≤ 124) }
+        ensures cells { IfOk result (λ t. (x y : ℤ) → cell self.new.nodes t x y ≡ later (A.next_of self.old.rule) (cell self.old.nodes tree) n x y) }
+        ensures none { n ≡ 0 → result ≡ Ok tree }
+        ensures goes_on { GoesOn A self.old self.new }
+    {
+        let _ = &self.store;
+        if n == MOST {
+            return Ok(self.leap(tree, 60)?);
+        }
+        let mut now = tree;
+        'digits: for j in 0..60 {
+            if (n >> j) % 2 == 1 {
+                now = self.leap(now, j)?;
+            }
+        }
+        Ok(now)
+    }
+
+    // The tree 2^j generations on.
+    fn leap(&mut self, tree: Tree, j: u8) -> Result<Tree, Memory>
+        requires tree { IsTree self.old.nodes tree }
+        requires level { tree.level ≤ 123 }
+        requires time { j ≤ 60 }
+        ensures tree { IfOk result (IsTree self.new.nodes) }
+        ensures level { IfOk result (λ t. t.level ≡ max tree.level (j + 1) + 1) }
+        ensures cells { IfOk result (λ t. (x y : ℤ) → cell self.new.nodes t x y ≡ later (A.next_of self.old.rule) (cell self.old.nodes tree) (2 ^ j) x y) }
+        ensures goes_on { GoesOn A self.old self.new }
+    {
+        // So all that is live 2^j generations on lies in the centre.
+        let grain = self.store.level(tree.root).max(j + 1);
+        let wide = self.padded(tree, grain + 2)?;
+        let root = self.centre(wide.root, grain, j)?;
+        Ok(Tree {
+            root,
+            level: grain + 1,
+        })
+    }
+
+    // The tree of this level that shows the same cells.
+    pub(super) fn padded(&mut self, tree: Tree, level: u8) -> Result<Tree, Memory>
+        requires tree { IsTree self.old.nodes tree }
+        requires more { tree.level ≤ level }
+        requires most { level ≤ 125 }
+        ensures tree { IfOk result (IsTree self.new.nodes) }
+        ensures level { IfOk result (λ t. t.level ≡ level) }
+        ensures cells { IfOk result (λ t. (x y : ℤ) → cell self.new.nodes t x y ≡ cell self.old.nodes tree x y) }
+        ensures goes_on { GoesOn A self.old self.new }
+        ensures sound { IsSound self.old.nodes }
+    {
+        let _ = &self.store;
+        if tree.level == level {
+            return Ok(tree);
+        }
+        let wide = self.pad(tree)?;
+        self.padded(wide, level)
+    }
+
+    // The tree of one level more that shows the same cells.
+    fn pad(&mut self, tree: Tree) -> Result<Tree, Memory>
+        requires tree { IsTree self.old.nodes tree }
+        requires low { tree.level ≤ 124 }
+        ensures tree { IfOk result (IsTree self.new.nodes) }
+        ensures level { IfOk result (λ t. t.level ≡ tree.level + 1) }
+        ensures cells { IfOk result (λ t. (x y : ℤ) → cell self.new.nodes t x y ≡ cell self.old.nodes tree x y) }
+        ensures goes_on { GoesOn A self.old self.new }
+    {
+        self.store.pad(tree)
+    }
+}

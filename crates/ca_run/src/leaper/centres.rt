@@ -1,0 +1,207 @@
+//! The centres of squares after 2^j generations.
+
+ghost use Rattle.std.specs.Prelude.{◌≡◌, ℕ, suc, ◌≤◌, ◌^◌, ℤ, pos, ◌+ℤ◌, List, Option, IfOk, IfSome};
+ghost use Rattle.ca_quad.specs.Squares.{IsOf};
+ghost use Rattle.ca_quad.specs.Trees.{AreFour};
+ghost use Rattle.ca_run.specs.Centre.{later, IsCentre};
+ghost use Rattle.ca_run.specs.Leaping.{GoesOn};
+ghost use Rattle.ca_run.specs.inner.Shown.{ShowsAt, FourShow, TwoShow, ThreeShow, NineShow, AreThree, AreNine, side, generations, IsTimely};
+
+use super::Leaper;
+use super::trio::{Rows, Trio};
+use ca_plane::{Automaton, Memory};
+use ca_quad::Id;
+
+// A square's grain is the level of its sixteen parts: its own level is that and 2.
+impl<A: Automaton> Leaper<A> {
+    // The centre of a square after 2^j generations.
+    #[cycle(leap)]
+    pub(super) fn centre(&mut self, id: Id, grain: u8, j: u8) -> Result<Id, Memory>
+        requires square { IsOf self.old.nodes id (suc (suc grain)) }
+        requires low { grain ≤ 123 }
+        requires time { j ≤ grain }
+        ensures centre { IfOk result (IsCentre (A.next_of self.old.rule) self.new.nodes id grain j) }
+        ensures goes_on { GoesOn A self.old self.new }
+    {
+        let _ = &self.store;
+        if let Some(half) = self.recall(id, grain, j) {
+            return Ok(half);
+        }
+        if let Some(half) = self.empty_centre(id, grain, j) {
+            return Ok(half);
+        }
+        let half = self.new_centre(id, grain, j)?;
+        self.remember(id, grain, j, half)?;
+        Ok(half)
+    }
+
+    // The centre of a square that is empty.
+    fn empty_centre(&self, id: Id, grain: u8, j: u8) -> Option<Id>
+        requires square { IsOf self.now.nodes id (suc (suc grain)) }
+        requires time { j ≤ grain }
+        ensures { IfSome result (IsCentre (A.next_of self.now.rule) self.now.nodes id grain j) }
+    {
+        let _ = j;
+        if !self.store.is_empty(id) {
+            return None;
+        }
+        let (half, _, _, _) = self.quarters(id, grain);
+        Some(half)
+    }
+
+    // The centre of a square that isn't remembered.
+    #[cycle(leap)]
+    fn new_centre(&mut self, id: Id, grain: u8, j: u8) -> Result<Id, Memory>
+        requires square { IsOf self.old.nodes id (suc (suc grain)) }
+        requires low { grain ≤ 123 }
+        requires time { j ≤ grain }
+        ensures centre { IfOk result (IsCentre (A.next_of self.old.rule) self.new.nodes id grain j) }
+        ensures goes_on { GoesOn A self.old self.new }
+    {
+        let _ = &self.store;
+        if grain == 0 {
+            return self.next_four(id);
+        }
+        if j == grain {
+            return self.by_nine(id, grain - 1, Some(j - 1), j - 1);
+        }
+        self.by_nine(id, grain - 1, None, j)
+    }
+
+    // The centre of a square by nine squares that overlap, each half as wide: their centres make four squares, and the
+    // centres of these are the result.
+    #[cycle(leap)]
+    fn by_nine(&mut self, id: Id, grain: u8, first: Option<u8>, j: u8) -> Result<Id, Memory>
+        requires square { IsOf self.old.nodes id (suc (suc (suc grain))) }
+        requires low { grain ≤ 122 }
+        requires first { IsTimely grain first }
+        requires time { j ≤ grain }
+        ensures shows { (next : List ℕ → ℕ) (p : ℤ → ℤ → ℕ) (a b : ℤ) → next ≡ A.next_of self.old.rule → ShowsAt self.old.nodes id (suc (suc (suc grain))) p a b
+            → IfOk result (λ half. ShowsAt self.new.nodes half (suc (suc grain)) (later next (later next p (generations first)) (2 ^ j)) (a +ℤ side (suc grain)) (b +ℤ side (suc grain))) }
+        ensures goes_on { GoesOn A self.old self.new }
+    {
+        let rows = self.nine(id, grain, first)?;
+        let (nw, ne) = self.pair(&rows.north, &rows.middle, grain, j)?;
+        let (sw, se) = self.pair(&rows.middle, &rows.south, grain, j)?;
+        self.join(nw, ne, sw, se, grain)
+    }
+
+    // The centres of the nine squares.
+    #[cycle(leap)]
+    fn nine(&mut self, id: Id, grain: u8, first: Option<u8>) -> Result<Rows, Memory>
+        requires square { IsOf self.old.nodes id (suc (suc (suc grain))) }
+        requires low { grain ≤ 122 }
+        requires first { IsTimely grain first }
+        ensures shows { (next : List ℕ → ℕ) (p : ℤ → ℤ → ℕ) (a b : ℤ) → next ≡ A.next_of self.old.rule → ShowsAt self.old.nodes id (suc (suc (suc grain))) p a b
+            → IfOk result (λ rows. NineShow self.new.nodes (suc grain) rows (later next p (generations first)) (a +ℤ side grain) (b +ℤ side grain)) }
+        ensures squares { IfOk result (AreNine self.new.nodes (suc grain)) }
+        ensures goes_on { GoesOn A self.old self.new }
+    {
+        let (nw, ne, sw, se) = self.quarters(id, grain + 1);
+        let north = self.trio(nw, ne, grain, first)?;
+        let west = self.halfway(nw, sw, grain)?;
+        let east = self.halfway(ne, se, grain)?;
+        let middle = self.trio(west, east, grain, first)?;
+        let south = self.trio(sw, se, grain, first)?;
+        Ok(Rows {
+            north,
+            middle,
+            south,
+        })
+    }
+
+    // The centres of two squares side by side, and of the one between them.
+    #[cycle(leap)]
+    fn trio(&mut self, west: Id, east: Id, grain: u8, first: Option<u8>) -> Result<Trio, Memory>
+        requires west { IsOf self.old.nodes west (suc (suc grain)) }
+        requires east { IsOf self.old.nodes east (suc (suc grain)) }
+        requires low { grain ≤ 122 }
+        requires first { IsTimely grain first }
+        ensures shows { (next : List ℕ → ℕ) (p : ℤ → ℤ → ℕ) (a b : ℤ) → next ≡ A.next_of self.old.rule → TwoShow self.old.nodes (suc (suc grain)) west east p a b
+            → IfOk result (λ three. ThreeShow self.new.nodes (suc grain) three (later next p (generations first)) (a +ℤ side grain) (b +ℤ side grain)) }
+        ensures squares { IfOk result (AreThree self.new.nodes (suc grain)) }
+        ensures goes_on { GoesOn A self.old self.new }
+    {
+        let _ = &self.store;
+        let middle = self.between(west, east, grain)?;
+        let west = self.first_centre(west, grain, first)?;
+        let middle = self.first_centre(middle, grain, first)?;
+        let east = self.first_centre(east, grain, first)?;
+        Ok(Trio { west, middle, east })
+    }
+
+    // The centre of a square as it is, or after 2^j generations.
+    #[cycle(leap)]
+    fn first_centre(&mut self, id: Id, grain: u8, first: Option<u8>) -> Result<Id, Memory>
+        requires square { IsOf self.old.nodes id (suc (suc grain)) }
+        requires low { grain ≤ 122 }
+        requires first { IsTimely grain first }
+        ensures shows { (next : List ℕ → ℕ) (p : ℤ → ℤ → ℕ) (a b : ℤ) → next ≡ A.next_of self.old.rule → ShowsAt self.old.nodes id (suc (suc grain)) p a b
+            → IfOk result (λ half. ShowsAt self.new.nodes half (suc grain) (later next p (generations first)) (a +ℤ side grain) (b +ℤ side grain)) }
+        ensures square { IfOk result (λ half. IsOf self.new.nodes half (suc grain)) }
+        ensures goes_on { GoesOn A self.old self.new }
+    {
+        let _ = &self.store;
+        match first {
+            None => self.inner(id, grain),
+            Some(j) => self.centre(id, grain, j),
+        }
+    }
+
+    // The centres after 2^j generations of two squares that overlap by half, made of two rows of three.
+    #[cycle(leap)]
+    fn pair(&mut self, north: &Trio, south: &Trio, grain: u8, j: u8) -> Result<(Id, Id), Memory>
+        requires north { AreThree self.old.nodes (suc grain) north.now }
+        requires south { AreThree self.old.nodes (suc grain) south.now }
+        requires low { grain ≤ 122 }
+        requires time { j ≤ grain }
+        ensures shows { (next : List ℕ → ℕ) (p : ℤ → ℤ → ℕ) (a b : ℤ) → next ≡ A.next_of self.old.rule
+            → ThreeShow self.old.nodes (suc grain) north.now p a b → ThreeShow self.old.nodes (suc grain) south.now p a (b +ℤ side (suc grain))
+            → IfOk result (λ two. TwoShow self.new.nodes (suc grain) two.0 two.1 (later next p (2 ^ j)) (a +ℤ side grain) (b +ℤ side grain)) }
+        ensures west { IfOk result (λ two. IsOf self.new.nodes two.0 (suc grain)) }
+        ensures east { IfOk result (λ two. IsOf self.new.nodes two.1 (suc grain)) }
+        ensures goes_on { GoesOn A self.old self.new }
+    {
+        let _ = &self.store;
+        let west = self.joined_centre(
+            north.west,
+            north.middle,
+            south.west,
+            south.middle,
+            grain,
+            j,
+        )?;
+        let east = self.joined_centre(
+            north.middle,
+            north.east,
+            south.middle,
+            south.east,
+            grain,
+            j,
+        )?;
+        Ok((west, east))
+    }
+
+    // The centre after 2^j generations of the square of these four.
+    #[cycle(leap)]
+    fn joined_centre(
+        &mut self,
+        nw: Id,
+        ne: Id,
+        sw: Id,
+        se: Id,
+        grain: u8,
+        j: u8,
+    ) -> Result<Id, Memory>
+        requires four { AreFour self.old.nodes (suc grain) nw ne sw se }
+        requires low { grain ≤ 122 }
+        requires time { j ≤ grain }
+        ensures shows { (next : List ℕ → ℕ) (p : ℤ → ℤ → ℕ) (a b : ℤ) → next ≡ A.next_of self.old.rule → FourShow self.old.nodes (suc grain) nw ne sw se p a b
+            → IfOk result (λ half. ShowsAt self.new.nodes half (suc grain) (later next p (2 ^ j)) (a +ℤ side grain) (b +ℤ side grain)) }
+        ensures square { IfOk result (λ half. IsOf self.new.nodes half (suc grain)) }
+        ensures goes_on { GoesOn A self.old self.new }
+    {
+        let id = self.join(nw, ne, sw, se, grain)?;
+        self.centre(id, grain, j)
+    }
+}

@@ -1,0 +1,105 @@
+//! Parts of squares, and squares that lie between others.
+
+ghost use Rattle.std.specs.Prelude.{◌≡◌, ℕ, suc, ◌≤◌, ◌^◌, ℤ, pos, ◌+ℤ◌, IfOk};
+ghost use Rattle.ca_quad.specs.Squares.{IsOf};
+ghost use Rattle.ca_quad.specs.Sound.{IsSound};
+ghost use Rattle.ca_run.specs.Leaping.{GoesOn};
+ghost use Rattle.ca_run.specs.inner.Shown.{ShowsAt, FourShow, TwoShow, side};
+
+use super::Leaper;
+use ca_plane::{Automaton, Memory};
+use ca_quad::Id;
+
+// A square's grain is the level of its sixteen parts: its own level is that and 2.
+impl<A: Automaton> Leaper<A> {
+    // The four parts of a square.
+    pub(super) fn quarters(&self, id: Id, grain: u8) -> (Id, Id, Id, Id)
+        requires { IsOf self.now.nodes id (suc (suc grain)) }
+        ensures shows { (p : ℤ → ℤ → ℕ) (a b : ℤ) → ShowsAt self.now.nodes id (suc (suc grain)) p a b
+            → FourShow self.now.nodes (suc grain) result.0 result.1 result.2 result.3 p a b }
+        ensures nw { IsOf self.now.nodes result.0 (suc grain) }
+        ensures ne { IsOf self.now.nodes result.1 (suc grain) }
+        ensures sw { IsOf self.now.nodes result.2 (suc grain) }
+        ensures se { IsOf self.now.nodes result.3 (suc grain) }
+        ensures sound { IsSound self.now.nodes }
+    {
+        let _ = grain;
+        let [nw, ne, sw, se] = self.store.children(id);
+        (nw, ne, sw, se)
+    }
+
+    // The square in the middle between two that lie side by side.
+    pub(super) fn between(&mut self, west: Id, east: Id, grain: u8) -> Result<Id, Memory>
+        requires west { IsOf self.old.nodes west (suc (suc grain)) }
+        requires east { IsOf self.old.nodes east (suc (suc grain)) }
+        requires low { grain ≤ 123 }
+        ensures shows { (p : ℤ → ℤ → ℕ) (a b : ℤ) → TwoShow self.old.nodes (suc (suc grain)) west east p a b
+            → IfOk result (λ id. ShowsAt self.new.nodes id (suc (suc grain)) p (a +ℤ side (suc grain)) b) }
+        ensures square { IfOk result (λ id. IsOf self.new.nodes id (suc (suc grain))) }
+        ensures goes_on { GoesOn A self.old self.new }
+    {
+        let (_, nw, _, sw) = self.quarters(west, grain);
+        let (ne, _, se, _) = self.quarters(east, grain);
+        self.join(nw, ne, sw, se, grain)
+    }
+
+    // The square in the middle between two of which one lies over the other.
+    pub(super) fn halfway(&mut self, north: Id, south: Id, grain: u8) -> Result<Id, Memory>
+        requires north { IsOf self.old.nodes north (suc (suc grain)) }
+        requires south { IsOf self.old.nodes south (suc (suc grain)) }
+        requires low { grain ≤ 123 }
+        ensures shows { (p : ℤ → ℤ → ℕ) (a b : ℤ) → ShowsAt self.old.nodes north (suc (suc grain)) p a b
+            → ShowsAt self.old.nodes south (suc (suc grain)) p a (b +ℤ side (suc (suc grain)))
+            → IfOk result (λ id. ShowsAt self.new.nodes id (suc (suc grain)) p a (b +ℤ side (suc grain))) }
+        ensures square { IfOk result (λ id. IsOf self.new.nodes id (suc (suc grain))) }
+        ensures goes_on { GoesOn A self.old self.new }
+    {
+        let (_, _, nw, ne) = self.quarters(north, grain);
+        let (sw, se, _, _) = self.quarters(south, grain);
+        self.join(nw, ne, sw, se, grain)
+    }
+
+    // The middle of a square, half its side wide.
+    pub(super) fn inner(&mut self, id: Id, grain: u8) -> Result<Id, Memory>
+        requires square { IsOf self.old.nodes id (suc (suc grain)) }
+        requires low { grain ≤ 123 }
+        ensures shows { (p : ℤ → ℤ → ℕ) (a b : ℤ) → ShowsAt self.old.nodes id (suc (suc grain)) p a b
+            → IfOk result (λ half. ShowsAt self.new.nodes half (suc grain) p (a +ℤ side grain) (b +ℤ side grain)) }
+        ensures square { IfOk result (λ half. IsOf self.new.nodes half (suc grain)) }
+        ensures goes_on { GoesOn A self.old self.new }
+    {
+        if grain == 0 {
+            return self.inner_cells(id);
+        }
+        self.inner_parts(id, grain - 1)
+    }
+
+    // The same where its parts have parts.
+    fn inner_parts(&mut self, id: Id, grain: u8) -> Result<Id, Memory>
+        requires square { IsOf self.old.nodes id (suc (suc (suc grain))) }
+        requires low { grain ≤ 122 }
+        ensures shows { (p : ℤ → ℤ → ℕ) (a b : ℤ) → ShowsAt self.old.nodes id (suc (suc (suc grain))) p a b
+            → IfOk result (λ half. ShowsAt self.new.nodes half (suc (suc grain)) p (a +ℤ side (suc grain)) (b +ℤ side (suc grain))) }
+        ensures square { IfOk result (λ half. IsOf self.new.nodes half (suc (suc grain))) }
+        ensures goes_on { GoesOn A self.old self.new }
+    {
+        let (nw, ne, sw, se) = self.quarters(id, grain + 1);
+        let (_, _, _, nw) = self.quarters(nw, grain);
+        let (_, _, ne, _) = self.quarters(ne, grain);
+        let (_, sw, _, _) = self.quarters(sw, grain);
+        let (se, _, _, _) = self.quarters(se, grain);
+        self.join(nw, ne, sw, se, grain)
+    }
+
+    // The same where its parts have cells.
+    fn inner_cells(&mut self, id: Id) -> Result<Id, Memory>
+        requires square { IsOf self.old.nodes id 2 }
+        ensures shows { (p : ℤ → ℤ → ℕ) (a b : ℤ) → ShowsAt self.old.nodes id 2 p a b
+            → IfOk result (λ half. ShowsAt self.new.nodes half 1 p (a +ℤ pos 1) (b +ℤ pos 1)) }
+        ensures square { IfOk result (λ half. IsOf self.new.nodes half 1) }
+        ensures goes_on { GoesOn A self.old self.new }
+    {
+        let [_, _, _, _, _, nw, ne, _, _, sw, se, _, _, _, _, _] = self.cells16(id);
+        self.leaf(nw, ne, sw, se)
+    }
+}

@@ -1,0 +1,47 @@
+//! Planes that are made trees, and where trees differ.
+
+ghost use Rattle.std.specs.Prelude.{◌≡◌, ◌≢◌, ◌≤◌, ◌↔◌, ℤ, IfOk, IsNone, IfSome};
+ghost use Rattle.ca_plane.specs.Plane.{cell as plane_cell};
+ghost use Rattle.ca_quad.specs.Trees.{IsTree, cell};
+ghost use Rattle.ca_quad.specs.Trimmed.{IsTrimmed};
+ghost use Rattle.ca_run.specs.Leaping.{GoesOn};
+
+use super::Leaper;
+use ca_plane::{Automaton, Memory, Plane};
+use ca_quad::{Spot, Tree};
+
+impl<A: Automaton> Leaper<A> {
+    /// The tree of the least level that shows the cells of a plane.
+    ///
+    /// # Errors
+    ///
+    /// Fails where there is no memory for more squares. Every tree stays as it was.
+    pub fn load_plane(&mut self, plane: &Plane) -> Result<Tree, Memory>
+        ensures tree { IfOk result (IsTree self.new.nodes) }
+        ensures cells { IfOk result (λ t. (x y : ℤ) → cell self.new.nodes t x y ≡ plane_cell plane.now x y) }
+        ensures trimmed { IfOk result (IsTrimmed self.new.nodes) }
+        ensures goes_on { GoesOn A self.old self.new }
+    {
+        self.store.from_plane(plane)
+    }
+
+    /// A place where two trees differ, whose levels are at most 124. None exactly where all cells agree.
+    ///
+    /// # Errors
+    ///
+    /// Fails where there is no memory for more squares. Every tree stays as it was.
+    pub fn difference(&mut self, a: Tree, b: Tree) -> Result<Option<Spot>, Memory>
+        requires a { IsTree self.old.nodes a }
+        requires b { IsTree self.old.nodes b }
+        requires a_low { a.level ≤ 124 }
+        requires b_low { b.level ≤ 124 }
+        ensures none { IfOk result (λ found. IsNone found ↔ ((x y : ℤ) → cell self.old.nodes a x y ≡ cell self.old.nodes b x y)) }
+        ensures some { IfOk result (λ found. IfSome found (λ at. cell self.old.nodes a at.x at.y ≢ cell self.old.nodes b at.x at.y)) }
+        ensures goes_on { GoesOn A self.old self.new }
+    {
+        let level = a.level.max(b.level);
+        let a = self.padded(a, level)?;
+        let b = self.padded(b, level)?;
+        Ok(self.store.difference(a, b))
+    }
+}
