@@ -12,7 +12,6 @@ use Rattle.ca_run.specs.Centre.{later, centre}
 use Rattle.ca_run.specs.inner.Shown.{Looks}
 use Rattle.ca_run.proofs.Laters.{later_near, later_seen}
 
-
 -- the same from a place by another name
 pub looks_from : (side : ℕ) (cells : ℕ → ℕ → ℕ) (p : ℤ → ℤ → ℕ) (a b c d : ℤ) → a ≡ c → b ≡ d → Looks side cells p a b → Looks side cells p c d
 looks_from side cells p a b c d e f h x y i j = h x y i j ∙ ap₂ (λ s t. p (s +ℤ pos x) (t +ℤ pos y)) e f
@@ -59,7 +58,6 @@ module _ (s : ℕ) (nw ne sw se : ℕ → ℕ → ℕ) (p : ℤ → ℤ → ℕ)
         let u : a +ℤ pos (s + x) ≡ (a +ℤ pos s) +ℤ pos x = omega (arith, ints) in
         let v : b +ℤ pos (s + y) ≡ (b +ℤ pos s) +ℤ pos y = omega (arith, ints) in
         sym (at_se s nw ne sw se x y) ∙ h (s + x) (s + y) (omega arith) (omega arith) ∙ ap₂ p u v
-
 
 -- the centre of a square that shows a plane shows what the plane is n generations later, a quarter of the side further in
 pub looks_centre : (next : List ℕ → ℕ) (h n : ℕ) (cells half : ℕ → ℕ → ℕ) (p : ℤ → ℤ → ℕ) (a b : ℤ) → n ≤ h → Looks (h + h + (h + h)) cells p a b

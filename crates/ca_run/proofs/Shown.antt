@@ -130,8 +130,8 @@ centre_at next old new sound grows id k j half p a b shows is_centre =
     let wide : 2 ^ suc (suc k) ≡ 2 ^ k + 2 ^ k + (2 ^ k + 2 ^ k) = omega arith in
     let there = at_stays old new sound grows id (suc (suc k)) p a b shows in
     let looks = looks_centre next (2 ^ k) (2 ^ j) (cell_of new (suc (suc k)) id) (cell_of new (suc k) half) p a b (pow_mono is_centre.in_time)
-        (subst (λ n. Looks n (cell_of new (suc (suc k)) id) p a b) wide there.looks)
-        (λ u v s t. is_centre.has_cells u v (subst (λ n. u < n) (sym up) s) (subst (λ n. v < n) (sym up) t)) in
+    (subst (λ n. Looks n (cell_of new (suc (suc k)) id) p a b) wide there.looks)
+    (λ u v s t. is_centre.has_cells u v (subst (λ n. u < n) (sym up) s) (subst (λ n. v < n) (sym up) t)) in
     record { is_square = is_centre.is_half; looks = subst (λ n. Looks n (cell_of new (suc k) half) (later next p (2 ^ j)) (a +ℤ side k) (b +ℤ side k)) (sym up) looks }
 
 -- a square shows its own cells from (0, 0) on

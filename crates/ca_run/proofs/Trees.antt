@@ -105,9 +105,9 @@ leap_cells next quiet s0 s1 s2 sound grows tree wide half k j root some low time
     let up = two-pow-succ k in
     let place : neg_ℤ (pos (2 ^ suc k)) +ℤ side k ≡ neg_ℤ (pos (2 ^ k)) = omega (arith, ints, up) in
     let shown = subst (λ n. ShowsAt s1 wide.root (suc (suc k)) p (neg_ℤ (pos (2 ^ n))) (neg_ℤ (pos (2 ^ n)))) corner
-        (subst (λ n. ShowsAt s1 wide.root n p (neg_ℤ (pos (2 ^ (wide.level - 1)))) (neg_ℤ (pos (2 ^ (wide.level - 1))))) level (root_at s1 wide is_tree)) in
+    (subst (λ n. ShowsAt s1 wide.root n p (neg_ℤ (pos (2 ^ (wide.level - 1)))) (neg_ℤ (pos (2 ^ (wide.level - 1))))) level (root_at s1 wide is_tree)) in
     let centred = at_from s2 root (suc k) (later next p (2 ^ j)) _ _ _ _ place place
-        (centre_at next s1 s2 sound grows wide.root k j root p (neg_ℤ (pos (2 ^ suc k))) (neg_ℤ (pos (2 ^ suc k))) shown is_centre) in
+    (centre_at next s1 s2 sound grows wide.root k j root p (neg_ℤ (pos (2 ^ suc k))) (neg_ℤ (pos (2 ^ suc k))) shown is_centre) in
     let dies : DiesBeyond (2 ^ (tree.level - 1)) p = λ u v out. same u v ∙ tree_dies s0 tree some u v out in
     let later_dead_out = later_dies next quiet p (2 ^ (tree.level - 1)) (2 ^ j) (2 ^ k) (powers_fit tree.level j k some low time) dies in
     tree_at s2 root k (later next p (2 ^ j)) centred later_dead_out half e f x y ∙ later_same next p (cell s0 tree) (2 ^ j) same x y

@@ -6,6 +6,8 @@ ghost use Rattle.ca_plane.specs.Sparse.{IsInPlane};
 ghost use Rattle.std.proofs.Common.{rules, arith};
 ghost use Rattle.std.proofs.lemmas.Bool.Decides.{nat_tests};
 
+mod leaps;
+
 use super::*;
 use ca_plane::{Automaton, Nine, Plane, Point};
 use std::alloc::Global;
@@ -18,6 +20,7 @@ const REACH: i64 = 4611686018427387902;
 const FAR: i64 = 1 << 62;
 
 // Conway's game of life: of a cell and its eight neighbours three are live, or four with the cell itself.
+#[derive(Drop)]
 struct Life;
 
 impl Automaton for Life {

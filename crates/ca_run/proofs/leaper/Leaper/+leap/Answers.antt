@@ -72,7 +72,7 @@ pair-returns-clause-shows g t c = λ next p a b e north south.
     let s = c.args.south.now in
     let west = c.in_ok-west.ensures.shows next p a b e (west_four s0.nodes (suc k) n s p a b north south) in
     let east = c.in_ok-east.ensures.shows next p (a +ℤ side (suc k)) b (e ∙ sym (ap (g.A.Automaton.next_of) g1.rule))
-        (east_four s1.nodes (suc k) n s p a b (three_stay s0.nodes s1.nodes sound g1.grows (suc k) n p a b north) (three_stay s0.nodes s1.nodes sound g1.grows (suc k) s p a (b +ℤ side (suc k)) south)) in
+    (east_four s1.nodes (suc k) n s p a b (three_stay s0.nodes s1.nodes sound g1.grows (suc k) n p a b north) (three_stay s0.nodes s1.nodes sound g1.grows (suc k) s p a (b +ℤ side (suc k)) south)) in
     pair_at k s1.nodes s2.nodes g1.grows.sound g2.grows c.in_ok-west.west c.in_ok-east.east (later next p (2 ^ c.args.j)) a b (b +ℤ side k) west east
 
 pub pair-returns-clause-goes_on : goal.pair-returns-clause-goes_on
@@ -98,7 +98,7 @@ trio-returns-clause-shows g t c = λ next p a b e two.
     let west = c.in_ok-west.ensures.shows next p a b e1 (at_stays s0.nodes s1.nodes sound g1.grows c.args.west (suc (suc k)) p a b two.at_west) in
     let middle = c.in_ok-middle-2.ensures.shows next p (a +ℤ side (suc k)) b e2 (at_stays s1.nodes s2.nodes g1.grows.sound g2.grows c.in_ok-middle.middle (suc (suc k)) p (a +ℤ side (suc k)) b between) in
     let east = c.in_ok-east.ensures.shows next p (a +ℤ side (suc (suc k))) b e3
-        (at_stays s0.nodes s3.nodes sound (grows_on s0.nodes s2.nodes s3.nodes (grows_on s0.nodes s1.nodes s2.nodes g1.grows g2.grows) g3.grows) c.args.east (suc (suc k)) p (a +ℤ side (suc (suc k))) b two.at_east) in
+    (at_stays s0.nodes s3.nodes sound (grows_on s0.nodes s2.nodes s3.nodes (grows_on s0.nodes s1.nodes s2.nodes g1.grows g2.grows) g3.grows) c.args.east (suc (suc k)) p (a +ℤ side (suc (suc k))) b two.at_east) in
     trio_at k s2.nodes s3.nodes s4.nodes g2.grows.sound g3.grows.sound g3.grows g4.grows (record { west = c.in_ok-west.west; middle = c.in_ok-middle-2.middle; east = c.in_ok-east.east })
     (later next p (generations c.args.first)) a (b +ℤ side k) west middle east
 
@@ -152,7 +152,7 @@ nine-returns-clause-shows g t c = λ next p a b e shows.
     let east = c.in_ok-east.ensures.shows p (a +ℤ side l) b (at_stays s0 s2 sound to2 q.1 l p (a +ℤ side l) b parts.at_ne) (at_stays s0 s2 sound to2 q.3 l p (a +ℤ side l) (b +ℤ side l) parts.at_se) in
     let middle = c.in_ok-middle.ensures.shows next p a (b +ℤ side (suc k)) e3 (record { at_west = at_stays s2 s3 g2.grows.sound g3.grows c.in_ok-west.west l p a (b +ℤ side (suc k)) west; at_east = east }) in
     let south = c.in_ok-south.ensures.shows next p a (b +ℤ side l) e4
-        (record { at_west = at_stays s0 s4 sound to4 q.2 l p a (b +ℤ side l) parts.at_sw; at_east = at_stays s0 s4 sound to4 q.3 l p (a +ℤ side l) (b +ℤ side l) parts.at_se }) in
+    (record { at_west = at_stays s0 s4 sound to4 q.2 l p a (b +ℤ side l) parts.at_sw; at_east = at_stays s0 s4 sound to4 q.3 l p (a +ℤ side l) (b +ℤ side l) parts.at_se }) in
     nine_at k s1 s4 s5 g1.grows.sound g4.grows.sound from1 g5.grows (record { north = c.in_ok-north.north; middle = c.in_ok-middle.middle; south = c.in_ok-south.south })
     (later next p (generations c.args.first)) (a +ℤ side k) b north middle south
 
@@ -225,8 +225,8 @@ by_nine-returns-clause-shows g t c = λ next p a b e shows.
     let nine = c.in_ok-rows.ensures.shows next p a b e shows in
     let north = c.in_ok-nw.ensures.shows next mid x y e1 nine.at_north nine.at_middle in
     let south = c.in_ok-sw.ensures.shows next mid x (y +ℤ side (suc k)) e2
-        (three_stay s1 s2 g1.grows.sound g2.grows (suc k) rows.middle mid x (y +ℤ side (suc k)) nine.at_middle)
-        (three_stay s1 s2 g1.grows.sound g2.grows (suc k) rows.south mid x (y +ℤ side (suc k) +ℤ side (suc k)) nine.at_south) in
+    (three_stay s1 s2 g1.grows.sound g2.grows (suc k) rows.middle mid x (y +ℤ side (suc k)) nine.at_middle)
+    (three_stay s1 s2 g1.grows.sound g2.grows (suc k) rows.south mid x (y +ℤ side (suc k) +ℤ side (suc k)) nine.at_south) in
     c.join.ensures.shows last (a +ℤ side (suc k)) (b +ℤ side (suc k)) (four_at k s2 s3 g2.grows.sound g3.grows c.in_ok-nw.nw c.in_ok-nw.ne c.in_ok-sw.sw c.in_ok-sw.se last a b north south)
 
 pub by_nine-returns-clause-goes_on : goal.by_nine-returns-clause-goes_on
