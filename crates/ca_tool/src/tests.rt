@@ -4,6 +4,7 @@
 mod asked;
 mod complaints;
 mod devices;
+mod macrocells;
 mod pattern_runs;
 mod patterns;
 mod printed;
