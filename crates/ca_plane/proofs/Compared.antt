@@ -11,7 +11,7 @@ use Rattle.ca_plane.proofs.Pictures.{IsListed-at, point_cmp_total, point_cmp_exa
 use Rattle.ca_plane.proofs.Same.{Rises, ComeBehind-lower, entry-same}
 use Rattle.ca_plane.proofs.Places.{before-of, behind-of, cell-gap}
 
--- the next cell of one differs where all that is left of the other comes behind it
+-- the next cell of one differs where all that is left of the other comes after it
 pub DifferAt-first : (p q xs u t : Picture) (e : Point × ℕ) → IsSparse p → p ≡ xs ++ e ∷ u → q ≡ xs ++ t → ComeBehind e.0 t → DifferAt p q e.0
 DifferAt-first p q xs u t e sparse one two behind = λ same.
     let listed = IsListed-at p xs u e sparse one in
@@ -25,7 +25,7 @@ DifferAt-first p q xs u t e sparse one two behind = λ same.
 pub DifferAt-end : (p q xs u t : Picture) (e : Point × ℕ) → IsSparse p → p ≡ xs ++ e ∷ u → q ≡ xs ++ t → t ≡ [] → DifferAt p q e.0
 DifferAt-end p q xs u t e sparse one two none = DifferAt-first p q xs u t e sparse one two (rw none tt)
 
--- and where the other's next cell comes behind it
+-- and where the other's next cell comes after it
 pub DifferAt-less : (p q xs u t v : Picture) (e f : Point × ℕ) → IsSparse p → IsSparse q → p ≡ xs ++ e ∷ u → q ≡ xs ++ t → t ≡ f ∷ v → point_cmp e.0 f.0 ≡ Less → DifferAt p q e.0
 DifferAt-less p q xs u t v e f sparse sparse' one two next less =
     let parts : q ≡ xs ++ f ∷ v = two ∙ ap (λ (l : Picture). xs ++ l) next in
@@ -47,7 +47,7 @@ DifferAt-states p q xs u t v e f sparse sparse' one two next tied apart = λ sam
     let other : cell q e.0.x e.0.y ≡ f.1 = subst (λ (r : Point). cell q r.x r.y ≡ f.1) at (IsListed-at q xs v f sparse' parts).shown in
     apart (sym (IsListed-at p xs u e sparse one).shown ∙ same ∙ other)
 
--- a cell behind all of the other's differs
+-- a cell after all of the other's differs
 pub DifferAt-longer : (p q t u : Picture) (e : Point × ℕ) → IsSparse q → q ≡ p ++ t → t ≡ e ∷ u → DifferAt p q e.0
 DifferAt-longer p q t u e sparse two next =
     let parts : q ≡ p ++ e ∷ u = two ∙ ap (λ (l : Picture). p ++ l) next in

@@ -22,7 +22,7 @@ line_then_none bytes e =
     let line = front (λ b. not (is_line_end b)) bytes in
     sym (front_then_rest (λ b. not (is_line_end b)) bytes) ∙ ap (λ l. line ++ l) e ∙ append-nil line
 
--- the bytes behind a line are fewer
+-- the bytes after a line are fewer
 pub fewer_behind_line : (test : ℕ → Bool) (bytes : List ℕ) (b : ℕ) (more : List ℕ) → rest test bytes ≡ b ∷ more → length more < length bytes
 fewer_behind_line test bytes b more e =
     let whole = front_length test bytes in
@@ -40,13 +40,13 @@ no_byte : (test : ℕ → Bool) (bytes : List ℕ) → is_end_or test bytes ≡ 
 no_byte test [] h e = refl
 no_byte test (b ∷ bs) h e = absurd (both_ways (test b) (not-true (test b) e) h)
 
--- bytes that all may stand in a word, one at least, are one
+-- bytes that all may be in a word, one at least, are one
 pub word_from : (word : List ℕ) → 0 < length word → Every is_word_byte word → IsWord word
 word_from [] some h = absurd (omega arith)
 word_from (b ∷ bs) some h = h
 
 module _ (bytes : List ℕ) (line : Every (λ b. not (is_line_end b)) bytes) where
-  -- the bytes behind blanks have the words
+  -- the bytes after blanks have the words
   words_behind : words_of bytes ≡ words_of (rest is_blank bytes)
   words_behind =
       ap words_of (sym (front_then_rest is_blank bytes)) ∙ words_behind_blanks (front is_blank bytes) (rest is_blank bytes) (every_front is_blank bytes)
@@ -55,11 +55,11 @@ module _ (bytes : List ℕ) (line : Every (λ b. not (is_line_end b)) bytes) whe
   line_behind : Every (λ b. not (is_line_end b)) (rest is_blank bytes)
   line_behind = every_rest is_blank (λ b. not (is_line_end b)) bytes line
 
-  -- the bytes behind blanks and a word are a line's too
+  -- the bytes after blanks and a word are a line's too
   pub line_after : Every (λ b. not (is_line_end b)) (rest is_word_byte (rest is_blank bytes))
   line_after = every_rest is_word_byte (λ b. not (is_line_end b)) (rest is_blank bytes) line_behind
 
-  -- what goes on behind a word is nothing or a blank
+  -- what follows a word is nothing or a blank
   blank_after : is_end_or is_blank (rest is_word_byte (rest is_blank bytes)) ≡ true
   blank_after = ends_by_blank (rest is_word_byte (rest is_blank bytes)) line_after (rest_ends is_word_byte (rest is_blank bytes))
 
@@ -80,6 +80,6 @@ module _ (bytes : List ℕ) (line : Every (λ b. not (is_line_end b)) bytes) whe
       let empty : rest is_blank bytes ≡ [] = no_byte is_blank (rest is_blank bytes) (ap (is_end_or is_blank) (sym same) ∙ blank_after) (rest_ends is_blank bytes) in
       words_behind ∙ ap words_of empty
 
--- the bytes behind a word are fewer
+-- the bytes after a word are fewer
 pub fewer_behind_word : (bytes : List ℕ) → 0 < length (front is_word_byte (rest is_blank bytes)) → length (rest is_word_byte (rest is_blank bytes)) < length bytes
 fewer_behind_word bytes some = omega (arith, front_length is_blank bytes, front_length is_word_byte (rest is_blank bytes))

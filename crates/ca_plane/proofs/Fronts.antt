@@ -1,4 +1,4 @@
--- The front of bytes that pass a test, and the rest behind it: for readers, whose code splits bytes and whose contracts join them.
+-- The front of bytes that pass a test, and the rest after it: for readers, whose code splits bytes and whose contracts join them.
 use Rattle.std.proofs.Common.{◌≡◌, ℕ, ◌+◌, Bool, true, not, List, [], ◌∷◌, ◌++◌, length, refl, ap, sym, ◌∙◌, inl, inr, length-append}
 use Rattle.std.specs.List.{list_all}
 use Rattle.std.proofs.lemmas.Bool.{and_parts, and_from, cases_Bool, not-true}
@@ -91,7 +91,7 @@ pub every_digit : (digits : List ℕ) → AreDigits digits → Every is_digit di
 every_digit [] h = refl
 every_digit (d ∷ ds) h = h
 
--- each byte of a word may stand in one
+-- each byte of a word may be in one
 pub every_word_byte : (word : List ℕ) → IsWord word → Every is_word_byte word
 every_word_byte [] h = refl
 every_word_byte (b ∷ bs) h = h

@@ -27,7 +27,7 @@ pub lines_alone : (line : List ℕ) → line ≢ [] → Every (λ b. not (is_lin
 lines_alone [] ne h = absurd (ne refl)
 lines_alone (b ∷ bs) ne h = lines_last b bs h
 
--- the first line of bytes where it has an LF, and the lines behind that
+-- the first line of bytes where it has an LF, and the lines after that
 pub lines_at_end : (bytes more : List ℕ) → rest (λ b. not (is_line_end b)) bytes ≡ 10 ∷ more → lines_of bytes ≡ front (λ b. not (is_line_end b)) bytes ∷ lines_of more
 lines_at_end bytes more e =
     let line = front (λ b. not (is_line_end b)) bytes in
@@ -41,7 +41,7 @@ lines_at_last bytes ne e =
     let whole : line ≡ bytes = sym (append-nil line) ∙ ap (λ l. line ++ l) (sym e) ∙ front_then_rest (λ b. not (is_line_end b)) bytes in
     lines_alone bytes ne (ap (list_all (λ b. not (is_line_end b))) (sym whole) ∙ every_front (λ b. not (is_line_end b)) bytes)
 
--- what stands behind a line's bytes begins with LF
+-- what follows a line's bytes begins with LF
 pub line_ends_by_lf : (b : ℕ) (bytes more : List ℕ) → rest (λ b. not (is_line_end b)) bytes ≡ b ∷ more → b ≡ 10
 line_ends_by_lf b bytes more e =
     let ends : not (not (is_line_end b)) ≡ true = ap (is_end_or (λ c. not (not (is_line_end c)))) (sym e) ∙ rest_ends (λ b. not (is_line_end b)) bytes in
@@ -76,14 +76,14 @@ words_of_run b (c ∷ bs) more h e =
     let next = and_parts (not (is_blank c)) (list_all (λ b. not (is_blank b)) bs) parts.1 in
     word_step b (c ∷ bs ++ more) (not-true (is_blank b) parts.0) (not-true (is_blank c) next.0) ∙ ap (with_front b) (words_of_run c bs more parts.1 e)
 
--- a word, and behind it nothing or a blank
+-- a word, and after it nothing or a blank
 pub words_ahead : (word more : List ℕ) → IsWord word → is_end_or is_blank more ≡ true → words_of (word ++ more) ≡ word ∷ words_of more
 words_ahead [] more h e = absurd (false≢true h)
 words_ahead (b ∷ bs) more h e =
     let no_blanks = every_wider is_word_byte (λ b. not (is_blank b)) (λ c t. (and_parts (not (is_blank c)) (not (is_line_end c)) t).0) (b ∷ bs) h in
     words_of_run b bs more no_blanks e
 
--- blanks, a word, and behind it nothing or a blank
+-- blanks, a word, and after it nothing or a blank
 pub words_next : (blanks word more : List ℕ) → Every is_blank blanks → IsWord word → is_end_or is_blank more ≡ true → words_of (blanks ++ (word ++ more)) ≡ word ∷ words_of more
 words_next blanks word more h w e = words_behind_blanks blanks (word ++ more) h ∙ words_ahead word more w e
 

@@ -1,4 +1,4 @@
--- Where the cell of a point stands among rising cells, and what a write there makes of them.
+-- Where the cell of a point is among rising cells, and what a write there makes of them.
 use Rattle.std.proofs.Common.{◌≡◌, ◌≢◌, ℕ, suc, ◌<◌, ◌≤◌, List, [], ◌∷◌, ◌++◌, ◌+◌, add-one, length, get_or, set, take, drop, map, Bool, true, false, ◌&&◌, sym, refl, ap, ◌∙◌, subst, arith, Result, Ok, Err, IfOk, IfErr, Ordering, Less, Equal, Greater, take-append-drop, drop-cons}
 use Rattle.std.specs.Prelude.{ℤ, if◌then◌else◌}
 use Rattle.std.specs.List.{All, AllByRecursion, insert, remove}
@@ -56,12 +56,12 @@ pub before-of : (xs t : Picture) (e : Point × ℕ) → Rises (xs ++ e ∷ t) �
 before-of [] t e rises = tt
 before-of (x ∷ xs) t e rises = (point-middle (λ q. point_cmp x.0 q ≡ Less) xs t e (sorted_head point_cmp _ _ rises), before-of xs t e (sorted_tail point_cmp _ _ rises))
 
--- and those behind it behind
+-- and those after one come after its point
 pub behind-of : (xs t : Picture) (e : Point × ℕ) → Rises (xs ++ e ∷ t) → ComeBehind e.0 t
 behind-of [] t e rises = sorted_head point_cmp _ _ rises
 behind-of (x ∷ xs) t e rises = behind-of xs t e (sorted_tail point_cmp _ _ rises)
 
--- a point behind the last cell is behind them all
+-- a point after the last cell is after them all
 pub before-last : (xs : Picture) (e : Point × ℕ) (at : Point) → Rises (xs ++ e ∷ []) → point_cmp e.0 at ≡ Less → ComeBefore at (xs ++ e ∷ [])
 before-last [] e at rises less = (less, tt)
 before-last (x ∷ xs) e at rises less =
@@ -100,7 +100,7 @@ if-again : (b : Bool) (s w v u : ℕ) → u ≡ (if b then w else v) → (if b t
 if-again true s w v u e = refl
 if-again false s w v u e = sym e
 
--- where 0 stands at the test, nothing is to be written
+-- where the test gives 0, nothing is to be written
 if-zero : (b : Bool) (w v u : ℕ) → u ≡ (if b then w else v) → (b ≡ true → v ≡ 0) → v ≡ (if b then 0 else u)
 if-zero true w v u e zeroed = zeroed refl
 if-zero false w v u e zeroed = sym e
@@ -208,7 +208,7 @@ cell-at_place p at i d sparse h =
 
 -- ---- the search
 
--- a point behind the end
+-- a point after the end
 pub IsGap-end : (p : Picture) (at : Point) → ComeBefore at p → IsGap p at (length p)
 IsGap-end p at before = record {
   in_range = omega arith;
@@ -217,7 +217,7 @@ IsGap-end p at before = record {
 }
 
 module _ (p : Picture) (sparse : IsSparse p) (at : Point) where
-  -- the cells before a place stand before those behind it
+  -- the cells before a place come before those after it
   falls_nowhere : IsSortedBy (λ (a : Point × ℕ) (b : Point × ℕ). is_lt (point_cmp a.0 b.0)) p
   falls_nowhere k d low high =
       let one : get_or (map (λ (e : Point × ℕ). e.0) p) k d.0 ≡ (get_or p k d).0 = get_or-map (λ (e : Point × ℕ). e.0) p k d d.0 (omega arith) in

@@ -27,7 +27,7 @@ cell-behind at (e ∷ es) above =
     let fails = false_from_ne_true _ (λ passes. apart-Less at e.0 at.x at.y above.0 (place-itself at) passes) in
     cond-false _ e.1 (cell es at.x at.y) fails ∙ cell-behind at es above.1
 
--- what comes behind a point comes behind each lower point
+-- what comes after a point comes after each lower point
 pub ComeBehind-lower : (a b : Point) (p : Picture) → point_cmp a b ≡ Less → ComeBehind b p → ComeBehind a p
 ComeBehind-lower a b [] less above = tt
 ComeBehind-lower a b (e ∷ es) less above = (point_cmp_total.trans a b e.0 less above.0, ComeBehind-lower a b es less above.1)
@@ -55,7 +55,7 @@ first-point e f es fs low low' rises rises' same =
       ]
     ]
 
--- behind the same first cell the same cells are shown
+-- after the same first cell the same cells are shown
 rest-same : (e : Point × ℕ) (es fs : Picture) → Rises (e ∷ es) → Rises (e ∷ fs) → IsSame (e ∷ es) (e ∷ fs) → IsSame es fs
 rest-same e es fs rises rises' same = λ x y.
     elim (cases_Bool (int_eq y e.0.y && int_eq x e.0.x)) [

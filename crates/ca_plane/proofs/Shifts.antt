@@ -65,7 +65,7 @@ pub Sets-push_shifted : (p xs t : Picture) (e : Point × ℕ) (at : Point) (dx d
 Sets-push_shifted p xs t e at dx dy sparse split there =
     subst (λ (q : Point). Sets (shifted xs dx dy) (shifted (xs ++ e ∷ []) dx dy) q e.1) (sym there) (Sets-shifted xs (xs ++ e ∷ []) e.0 e.1 dx dy (Sets-push p xs t e sparse split))
 
--- want of memory is no fault of range
+-- out of memory is no fault of range
 pub not_Range : {T : Type 0} (r : Result T MoveFault) → IsErrAnd r (λ f. f ≡ Memory) → IsErrOf r Range → ⊥
 not_Range (Ok t) memory range =
     let no : ⊥ = cc in no

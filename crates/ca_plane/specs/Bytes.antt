@@ -49,7 +49,7 @@ abbrev pub lines_of : List ℕ → List (List ℕ)
 lines_of [] = []
 lines_of (b ∷ bs) = if is_line_end b then [] ∷ lines_of bs else with_front b (lines_of bs)
 
--- a line without the one CR that may stand before its end
+-- a line without the one CR that may be before its end
 abbrev pub without_cr : List ℕ → List ℕ
 without_cr [] = []
 without_cr (b ∷ []) = if b == 13 then [] else b ∷ []
@@ -69,7 +69,7 @@ abbrev pub words_of : List ℕ → List (List ℕ)
 words_of [] = []
 words_of (b ∷ bs) = if is_blank b then words_of bs else (if is_end_or is_blank bs then (b ∷ []) ∷ words_of bs else with_front b (words_of bs))
 
--- a byte that may stand in a word: no blank, and no LF
+-- a byte that may be in a word: no blank, and no LF
 abbrev pub is_word_byte : ℕ → Bool
 is_word_byte b = not (is_blank b) && not (is_line_end b)
 
@@ -83,7 +83,7 @@ abbrev pub AreDigits : List ℕ → Type 0
 AreDigits [] = IsTrue false
 AreDigits (d ∷ ds) = Every is_digit (d ∷ ds)
 
--- the number that digits write behind those of n
+-- the number that digits write after those of n
 abbrev pub value_from : ℕ → List ℕ → ℕ
 value_from n [] = n
 value_from n (d ∷ ds) = value_from (10 * n + (d - letter "0")) ds

@@ -11,6 +11,6 @@ pub record Counted (T : Type 0) : Type 0 where
 abbrev pub Rises : ℕ → ℕ → Type 0
 Rises old new = new ≡ min (old + 1) (2 ^ 64 - 1)
 
--- the bytes sent in the call are the first of these, and known bytes of the writer grew by just those
+-- the bytes sent in the call are the first of these, and known bytes of the writer grew by exactly those
 abbrev pub AppendsPrefix : Option (List ℕ) → Option (List ℕ) → List ℕ → Type 0
 AppendsPrefix old new bytes = (sent : List ℕ) × (unsent : List ℕ) × (bytes ≡ sent ++ unsent) × Appends old new sent

@@ -1,4 +1,4 @@
--- The limits of pattern files, and the rule of a file that names none (our own, but for that rule: Golly Help, File Formats).
+-- The limits of pattern files, and the rule of a file that names none (our own, except that rule: Golly Help, File Formats).
 use Rattle.std.specs.Prelude.{ℕ, ◌^◌, pos, neg_ℤ, ◌≤ℤ◌, ◌<ℤ◌, List, codes}
 use Rattle.ca_plane.specs.declared.point.Point.{Point}
 

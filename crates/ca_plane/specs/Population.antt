@@ -10,7 +10,7 @@ pub record AreLivePlaces (cells : ℤ → ℤ → ℕ) (places : List Point) : T
   pub live : AllByRecursion (λ p. cells p.x p.y ≢ 0) places
   pub all : (x y : ℤ) → cells x y ≢ 0 → Contains places (record { y = y; x = x })
 
--- so many cells are live
+-- this many cells are live
 abbrev pub HasPopulation : (ℤ → ℤ → ℕ) → ℕ → Type 0
 HasPopulation cells count = (places : List Point) × AreLivePlaces cells places × (count ≡ length places)
 

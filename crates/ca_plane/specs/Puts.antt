@@ -1,4 +1,4 @@
--- Texts that are put behind others.
+-- Texts that are put after others.
 use Rattle.std.specs.Prelude.{◌≡◌, ℕ, List, ◌++◌}
 
 -- new is old with the text at its end

@@ -11,7 +11,7 @@ pub fn is_blank(byte: u8) -> bool
     matches!(byte, b' ' | b'\t' | b'\r')
 }
 
-/// Whether the byte may stand in a word: it is no blank, and no LF.
+/// Whether the byte may be in a word: it is no blank, and no LF.
 pub fn is_word_byte(byte: u8) -> bool
     ensures { result ≡ is_word_byte byte }
 {
@@ -103,7 +103,7 @@ pub fn split_line(bytes: &[u8]) -> (&[u8], &[u8])
     split_at_first(bytes, b'\n')
 }
 
-/// The first line of bytes that aren't empty, without its LF, and the bytes behind that.
+/// The first line of bytes that aren't empty, without its LF, and the bytes after that.
 pub fn next_line(bytes: &[u8]) -> (&[u8], &[u8])
     requires { 0 < length bytes.now }
     ensures spelled { (bytes.now ≡ result.0.now ++ 10 ∷ result.1.now) ⊎ ((bytes.now ≡ result.0.now) × (result.1.now ≡ [])) }
@@ -118,7 +118,7 @@ pub fn next_line(bytes: &[u8]) -> (&[u8], &[u8])
     }
 }
 
-/// The first word of a line's bytes, and the bytes behind it. None where the bytes hold no word.
+/// The first word of a line's bytes, and the bytes after it. None where the bytes hold no word.
 pub fn next_word(bytes: &[u8]) -> Option<(&[u8], &[u8])>
     requires { Every (λ b. not (is_line_end b)) bytes.now }
     ensures words { MatchOption result (words_of bytes.now ≡ []) (λ w. words_of bytes.now ≡ w.0.now ∷ words_of w.1.now) }
@@ -136,7 +136,7 @@ pub fn next_word(bytes: &[u8]) -> Option<(&[u8], &[u8])>
     Some((word, bytes))
 }
 
-/// The bytes behind the text, where they begin with it.
+/// The bytes after the text, where they begin with it.
 pub fn strip<'a>(bytes: &'a [u8], text: &[u8]) -> Option<&'a [u8]>
     ensures { MatchOption result ((r : List ℕ) → bytes.now ≢ text.now ++ r) (λ r. bytes.now ≡ text.now ++ r.now) }
 {

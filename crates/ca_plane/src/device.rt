@@ -1,6 +1,6 @@
 //! A reader or a writer that counts its failures.
 //!
-//! Nothing else stands here: the fields of a `Dev` are private, so that no call but its own two can ask the device, or
+//! Nothing else is here: the fields of a `Dev` are private, so that no call but its own two can ask the device, or
 //! change the count.
 
 ghost use Rattle.std.specs.Prelude.{◌≡◌, ℕ, ◌<◌, length, OnOk, OnErr, IfOk};
@@ -67,7 +67,7 @@ impl<T> Dev<T> {
 impl<R: Read> Dev<R> {
     /// Reads some bytes into the front of the buffer, and answers how many.
     ///
-    /// It fails only where the inner reader does, and just then counts a failure.
+    /// It fails only where the inner reader does, and counts a failure exactly then.
     pub fn read(&mut self, buffer: &mut [u8]) -> Result<usize, Failed>
         ensures bound { ReadsAtMost result buffer.new }
         ensures bytes { ReadConsumes (R.remaining self.old.inner) (R.remaining self.new.inner) result buffer.new }
@@ -84,7 +84,7 @@ impl<R: Read> Dev<R> {
 impl<W: Write> Dev<W> {
     /// Writes the first of the bytes, and answers how many it took.
     ///
-    /// It fails only where the inner writer does or takes no byte of some, and just then counts a failure.
+    /// It fails only where the inner writer does or takes no byte of some, and counts a failure exactly then.
     pub fn write(&mut self, bytes: &[u8]) -> Result<usize, Failed>
         ensures bound { WritesAtMost result bytes.now }
         ensures some { IfOk result (λ n. 0 < length bytes.now → 0 < n) }

@@ -1,4 +1,4 @@
-//! Want of memory, and what keeps a text from being written.
+//! Out of memory, and why a text isn't written or a plane isn't moved.
 
 ghost use Rattle.std.specs.Prelude.{◌≡◌};
 ghost use Rattle.ca_plane.specs.declared.memory.MoveFault.TheVariants.{Memory};

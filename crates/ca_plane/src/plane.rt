@@ -81,7 +81,7 @@ impl Plane {
         }
     }
 
-    // Writes the state of the cell that stands there.
+    // Writes the state of the cell that is there.
     fn write(&mut self, place: usize, at: Point, state: u8)
         requires there { IsAt self.old at place }
         requires within { IsInPlane at }

@@ -27,7 +27,7 @@ pub fn rule_text(alloc: Global, named: Option<&[u8]>) -> Result<Vec<u8>, AllocEr
     }
 }
 
-/// Puts the text behind what `out` holds.
+/// Puts the text after what `out` holds.
 ///
 /// # Errors
 ///
@@ -39,7 +39,7 @@ pub fn push_text(out: &mut Vec<u8>, text: &[u8]) -> Result<(), Memory>
     Ok(())
 }
 
-/// Puts the number behind what `out` holds, in decimal digits without leading zeros.
+/// Puts the number after what `out` holds, in decimal digits without leading zeros.
 ///
 /// # Errors
 ///
@@ -51,7 +51,7 @@ pub fn push_number(out: &mut Vec<u8>, number: u64) -> Result<(), Memory>
     push_text(out, buffer.format(number).as_bytes())
 }
 
-/// Puts the number behind what `out` holds, in decimal digits without leading zeros, with a `-` before them where it is
+/// Puts the number after what `out` holds, in decimal digits without leading zeros, with a `-` before them where it is
 /// below 0.
 ///
 /// # Errors

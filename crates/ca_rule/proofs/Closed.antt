@@ -11,7 +11,7 @@ use Rattle.ca_rule.specs.TableOrders.{ring, orders}
 use Rattle.ca_rule.specs.TableNext.{States, Transition, TableRule, arranged, is_variable, fits, cell_of, given, outcome, next_by, table_next}
 use Rattle.ca_rule.specs.inner.TableStored.{is_below}
 
--- each cell of nine is below the count, and so is what stands behind them
+-- each cell of nine is below the count, and so is what follows them
 module _ (count : ℕ) (nine : List ℕ) (some : 0 < count) (cells : (i : ℕ) → slice_index nine i < count) where
   cell_below : (v : ℕ) (slots : List Slot) (h : Neighbourhood) (positions : List ℕ) →
       cell_of v (zip slots (map (λ position. slice_index nine (slice_index (ring h) position)) positions)) < count

@@ -1,4 +1,4 @@
--- Where no variable stands twice among slots, all slots of one variable take one cell.
+-- Where no variable comes twice among slots, all slots of one variable take one cell.
 use Rattle.std.proofs.Common.{◌≡◌, ◌==◌, ◌%◌, ◌*◌, ◌^◌, ◌<◌, ℕ, List, [], ◌∷◌, ◌++◌, Bool, true, false, not, ◌||◌, zip, refl, ap, sym, subst, ◌∙◌, inl, inr, arith, eq-eqb, append_assoc, bit_or}
 use Rattle.std.specs.Int.{bit_at}
 use Rattle.std.specs.List.{list_all, list_any}
@@ -45,7 +45,7 @@ or-true : (b : Bool) → (b || true) ≡ true
 or-true true = refl
 or-true false = refl
 
--- a slot takes one cell, apart from those before and behind it
+-- a slot takes one cell, apart from those before and after it
 alone : (w d : ℕ) (before : List Taken) (ss : List Slot) (ds : List ℕ) → IsApart w before → list_any (is_variable w) ss ≡ false
     → take_one_cell (before ++ (Variable w, d) ∷ zip ss ds) (Variable w) d ≡ true
 alone w d before ss ds apart none =

@@ -88,7 +88,7 @@ split-H : (body : List ℕ) (b : ℕ) → IsLetter 72 b → IsSplit (body ++ (b 
 split-H body b (inl e) = record { hood_is = hood_of-last body b ∙ ap hood_at e; body_is = body_of-last body b ∙ rw e refl }
 split-H body b (inr e) = record { hood_is = hood_of-last body b ∙ ap hood_at e; body_is = body_of-last body b ∙ rw e refl }
 
--- a suffix behind plain bytes is found
+-- a suffix after plain bytes is found
 pub split : (text body suffix : List ℕ) (hood : Hood) → text ≡ body ++ suffix → Every is_plain body → IsSuffix hood suffix → IsSplit text body hood
 split text body suffix Moore e h s =
     let same : text ≡ body = e ∙ ap (λ l. body ++ l) s ∙ append-nil body in
@@ -118,7 +118,7 @@ suffix-one b =
       ]
     ]
 
--- what is found to be the suffix is one, and stands behind the rest
+-- what is found to be the suffix is one, and follows the rest
 pub has_suffix : (text : List ℕ) → HasSuffix text (body_of text) (hood_of text)
 has_suffix [] = record { suffix = []; is_suffix = refl; whole = refl }
 has_suffix (b ∷ []) = suffix-one b

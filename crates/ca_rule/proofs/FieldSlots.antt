@@ -22,7 +22,7 @@ slots-push states numbers fields left later slots slot field before next is = re
   stand = zip-push (IsSlot states numbers) before.good slots field slot before.stand is;
 }
 
--- those behind it are spelled as fields too
+-- those after it are spelled as fields too
 pub rest-spelled : (left later : List (List ℕ)) (field : List ℕ) → left ≡ field ∷ later → list_all is_field left ≡ true → list_all is_field later ≡ true
 rest-spelled left later field next all = (and_parts (is_field field) (list_all is_field later) (ap (list_all is_field) (sym next) ∙ all)).1
 

@@ -4,7 +4,7 @@ use Rattle.std.proofs.lemmas.Bool.{cases_Bool}
 use Rattle.ca_plane.specs.Bytes.{front, rest, trimmed, with_front}
 use Rattle.ca_rule.specs.TableLines.{parts_of, fields_between}
 
--- behind the last comma stands one part
+-- one part follows the last comma
 last-part : (bytes : List ℕ) → rest (λ b. not (b == 44)) bytes ≡ [] → parts_of bytes ≡ front (λ b. not (b == 44)) bytes ∷ []
 last-part [] e = refl
 last-part (b ∷ bs) e =
@@ -13,7 +13,7 @@ last-part (b ∷ bs) e =
       | inr t ↦ rw t (ap (with_front b) (last-part bs (let k = rw t at e in k)))
     ]
 
--- before a comma stands one part
+-- one part comes before a comma
 next-part : (bytes later : List ℕ) (comma : ℕ) → rest (λ b. not (b == 44)) bytes ≡ comma ∷ later → parts_of bytes ≡ front (λ b. not (b == 44)) bytes ∷ parts_of later
 next-part [] later comma e = cc
 next-part (b ∷ bs) later comma e =

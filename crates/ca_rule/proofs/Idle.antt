@@ -1,4 +1,4 @@
--- Where a slot admits none of the ring's cells, no order of the ring fits; and the ring as it stands is its first order.
+-- Where a slot admits none of the ring's cells, no order of the ring fits; and the ring in its own order is its first order.
 use Rattle.std.proofs.Common.{◌≡◌, ◌<◌, ◌≤◌, ◌==◌, ℕ, zero, suc, List, [], ◌∷◌, ◌++◌, Bool, true, false, map, zip, drop, length, get_or, slice_index, refl, ap, sym, subst, ◌∙◌, Some, None, inl, inr, arith, bit_and}
 use Rattle.std.specs.Prelude.{cond, flat_map}
 use Rattle.std.specs.Int.{bit_at}

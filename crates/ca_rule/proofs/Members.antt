@@ -10,7 +10,7 @@ and-true : (b : Bool) → (b && true) ≡ b
 and-true true = refl
 and-true false = refl
 
--- a number stands among the numbers of its range
+-- a number is among the numbers of its range
 list_any-range : (state a n : ℕ) → a ≤ state → state < a + n → list_any (λ s. s == state) (range_with_len a n) ≡ true
 list_any-range state a zero low high = absurd (omega arith)
 list_any-range state a (suc n) low high =

@@ -56,14 +56,14 @@ brace-before (b ∷ c ∷ bs) inside e =
 abbrev named_fields : List ℕ → List ℕ → Option (List ℕ × List (List ℕ))
 named_fields name inside = some_if (is_name name && list_all is_field (fields_between inside)) (name, fields_between inside)
 
--- the name behind `var`, and what stands behind it
+-- the name after `var`, and what follows it
 abbrev name_in : List ℕ → List ℕ
 name_in more = front is_name_byte (rest is_blank more)
 
 abbrev tail_in : List ℕ → List ℕ
 tail_in more = rest is_name_byte (rest is_blank more)
 
--- what the bytes behind `var` spell
+-- what the bytes after `var` spell
 abbrev variable_in : List ℕ → Option (List ℕ × List (List ℕ))
 variable_in more = option_and_then (named_fields (name_in more)) (option_and_then before_brace (opened (tail_in more)))
 
@@ -107,7 +107,7 @@ variable-of-is line v e =
 abbrev so_many : ℕ → List (List ℕ) → Option (List (List ℕ))
 so_many slots fields = some_if (list_all is_field fields && (length fields == slots)) fields
 
--- the fields of a transition of so many slots
+-- the fields of a transition of this many slots
 abbrev pub transition_of : ℕ → Line → Option (List (List ℕ))
 transition_of slots line = if begins_variable line then None else so_many slots (fields_of line)
 
@@ -137,7 +137,7 @@ transition-of-is line slots fields e =
 
 -- ---- no setting and no section is a statement
 
--- a byte that may stand in a transition
+-- a byte that may be in a transition
 abbrev stands_in_one : ℕ → Bool
 stands_in_one b = is_blank b || ((b == 44) || (is_digit b || is_name_byte b))
 
@@ -159,7 +159,7 @@ field-stands field e = elim (or_cases (are_digits field) (is_name field) e) [
   | inr n ↦ every-stands is_name_byte field name-stands (and_parts _ (list_all is_name_byte field) n).1
 ]
 
--- blanks may stand there too
+-- blanks may be there too
 behind-blanks : (bytes : List ℕ) → list_all stands_in_one (rest is_blank bytes) ≡ true → list_all stands_in_one bytes ≡ true
 behind-blanks [] all = refl
 behind-blanks (b ∷ bs) all = elim (cases_Bool (is_blank b)) [
@@ -240,7 +240,7 @@ is-some : {A : Type 0} (o : Option A) → is_some o ≡ true → (x : A) × (o �
 is-some None e = absurd (false≢true e)
 is-some (Some x) e = (x, refl)
 
--- a colon stands in the line of a setting
+-- a colon is in the line of a setting
 colon-stands : (word : List ℕ) (line : Line) → is_some (setting word line) ≡ true → list_all stands_in_one line.1 ≡ true → ⊥
 colon-stands word line some all =
     let value = is-some (setting word line) some in

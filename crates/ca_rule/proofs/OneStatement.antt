@@ -89,7 +89,7 @@ module _ (settings : Settings) (said : Said) where
   slots-are n (f ∷ fs) (s ∷ ss) h =
       ap (λ o. with_slot o (field_fault n f) (slots_of settings said n fs)) (slot-is f s h.0) ∙ ap (then_ok (λ ss. Ok (s ∷ ss))) (slots-are n fs ss h.1)
 
-  -- and one behind them that stands for nothing
+  -- and one after them that stands for nothing
   slots-end : (n : ℕ) (good : List (List ℕ)) (slots : List Slot) (field : List ℕ) (later : List (List ℕ)) → AllZip (StandsFor settings said) good slots → slot_of settings said field ≡ None
       → slots_of settings said n (good ++ field ∷ later) ≡ Err (field_fault n field)
   slots-end n [] [] field later h none = ap (λ o. with_slot o (field_fault n field) (slots_of settings said n later)) none

@@ -16,12 +16,12 @@ use Rattle.ca_rule.proofs.OneStatement.{then_ok, step_of, step-says, says-no-set
 
 -- ---- a reading
 
--- what statements make behind what was said, or the first fault
+-- what statements make after what was said, or the first fault
 abbrev by_statements : List ℕ → Settings → Said → List Line → Result TableRule TableFault
 by_statements named settings said [] = Ok (made named settings said)
 by_statements named settings said (l ∷ ls) = if begins_section l then Ok (made named settings said) else then_ok (λ next. by_statements named settings next ls) (step_of settings said l)
 
--- what they make behind settings
+-- what they make after settings
 abbrev from_nothing : List ℕ → List Line → Settings → Result TableRule TableFault
 from_nothing named lines settings = by_statements named settings nothing lines
 
@@ -41,17 +41,17 @@ under_of lines of = symmetry_set of lines
 abbrev settings_of : ℕ → List Line → Result Settings TableFault
 settings_of n lines = with_states n (states_set lines) (neighbourhood_set lines) (under_of lines)
 
--- the settings end, and these lines stand behind them
+-- the settings end, and these lines follow them
 abbrev by_meaning : List ℕ → List ℕ → List Line → List Line → Result TableRule TableFault
 by_meaning bytes named good behind = then_ok (from_nothing named behind) (settings_of (number_at bytes behind) good)
 
--- behind settings stand these lines
+-- these lines follow settings
 abbrev by_settings : List ℕ → List ℕ → List Line → List Line → Result TableRule TableFault
 by_settings bytes named good [] = by_meaning bytes named good []
 by_settings bytes named good (l ∷ ls) =
     if is_setting l then (if sets_again good l then Err (Syntax l.0) else by_settings bytes named (good ++ l ∷ []) ls) else by_meaning bytes named good (l ∷ ls)
 
--- behind the name stand these lines
+-- these lines follow the name
 abbrev by_table : List ℕ → List ℕ → List Line → Result TableRule TableFault
 by_table bytes named [] = Err (NoTable (last_line bytes))
 by_table bytes named (l ∷ ls) = if begins_table l then by_settings bytes named [] ls else by_table bytes named ls
@@ -83,7 +83,7 @@ module _ (bytes named : List ℕ) where
       let parts = or_parts (begins_table l) (list_any begins_table ls) none in
       cond-false _ _ _ parts.0 ∙ no-table ls parts.1
 
--- a text with a table is read from behind `@TABLE` on
+-- a text with a table is read from after `@TABLE` on
 has-table : (bytes named : List ℕ) (lines : List Line) → HasTable bytes named lines → reading bytes ≡ by_settings bytes named [] lines
 has-table bytes named lines h =
     ap (by_lines bytes) h.whole ∙ ap (λ o. by_name bytes h.rule_line.0 o (h.skipped ++ h.table_line ∷ lines)) h.named
@@ -189,7 +189,7 @@ section-no-setting (n, b ∷ bs) e =
     let same : b ≡ 64 = grind (arith, nat_tests) in
     ap (λ c. is_setting (n, c ∷ bs)) same
 
--- so statements stand behind the settings
+-- so statements follow the settings
 pub behind-settings : (settings : Settings) (said : Said) (good later : List Line) (after : Said) → Say settings said good after → is_end_of_section later ≡ true → is_behind_settings (good ++ later) ≡ true
 behind-settings settings said [] [] after say ends = refl
 behind-settings settings said [] (l ∷ ls) after say ends = ap not (section-no-setting l ends)
@@ -236,7 +236,7 @@ abbrev fault_or : TableFault → Result TableRule TableFault → TableFault
 fault_or f (Ok t) = f
 fault_or f (Err g) = g
 
--- a fault by its kind: want of memory, one that is read, or that the table wakes
+-- a fault by its kind: out of memory, one that is read, or that the table wakes
 pub data FaultKind (bytes : List ℕ) : TableFault → Type 0 where
   OfMemory : FaultKind bytes Memory
   OfReading : {f : TableFault} → reading bytes ≡ Err f → FaultKind bytes f
@@ -265,7 +265,7 @@ none_by_kind bytes t f is OfMemory = inl refl
 none_by_kind bytes t f is (OfReading e) = absurd (table-or-fault bytes t f is e)
 none_by_kind bytes t f is (OfWaking u also wakes) = inr (refl, subst DoesWake (one_table bytes u t also is) wakes)
 
--- a text of a table has no fault but that it wakes, want of memory apart
+-- a text of a table has no fault but that it wakes, out of memory apart
 pub none_of_a_table : (bytes : List ℕ) (t : TableRule) (f : TableFault) → IsTable bytes t → IsFaultOf bytes f → (f ≡ Memory) ⊎ ((f ≡ Wakes (last_line bytes)) × DoesWake t)
 none_of_a_table bytes t f is h = none_by_kind bytes t f is (kind_of bytes f h)
 
@@ -278,6 +278,6 @@ one_kind bytes f g m n (OfWaking t is wakes) OfMemory = absurd (n refl)
 one_kind bytes f g m n (OfWaking t is wakes) (OfReading e) = absurd (table-or-fault bytes t g is e)
 one_kind bytes f g m n (OfWaking t is wakes) (OfWaking u also others) = refl
 
--- a text has one fault at most, want of memory apart
+-- a text has one fault at most, out of memory apart
 pub one_fault : (bytes : List ℕ) (f g : TableFault) → f ≢ Memory → g ≢ Memory → IsFaultOf bytes f → IsFaultOf bytes g → f ≡ g
 one_fault bytes f g m n h k = one_kind bytes f g m n (kind_of bytes f h) (kind_of bytes g k)

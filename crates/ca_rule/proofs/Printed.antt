@@ -42,7 +42,7 @@ digits_from-other counts n h t = ap (λ ns. map (λ m. 48 + m) (filter (is_count
 pub push_counted : (counts : Counts) (n : ℕ) (items whole : List ℕ) → n < 9 → is_count counts n ≡ true → items ++ digits_from counts n ≡ whole → (items ++ ((48 + n) ∷ [])) ++ digits_from counts (n + 1) ≡ whole
 push_counted counts n items whole h t e = append_assoc items _ _ ∙ ap (λ l. items ++ l) (sym (digits_from-counted counts n h t)) ∙ e
 
--- a digit stands among those of the counts where it is one of them
+-- a digit is among those of the counts where it is one of them
 has_digit-of : (p : ℕ → Bool) (n : ℕ) (ns : List ℕ) → has_digit (map (λ m. 48 + m) (filter p ns)) n ≡ (list_any (λ m. m == n) ns && p n)
 has_digit-of p n [] = refl
 has_digit-of p n (m ∷ ms) =

@@ -109,7 +109,7 @@ module _ (variables : List States) (nine : List ℕ) (t : Transition) where
       subst (λ l. least_outcome variables nine t l m (remove free at) ≡ None) e
       (subst (λ l. least_outcome variables nine t more m l ≡ None) f (subst (λ n. least_outcome variables nine t more n others ≡ None) fewer none))
 
-  -- so the outcome lies with the picks behind it
+  -- so the outcome lies with the picks after it
   pub none_here : (taken free : List ℕ) (m at : ℕ) → length free ≡ suc m → at < length free
       → picked_outcome variables nine t taken m (picks free) ≡ picked_outcome variables nine t taken m (drop at (picks free)) → LeadToNone variables nine t taken m free at
       → least_outcome variables nine t (taken ++ get_or free at 0 ∷ []) m (remove free at) ≡ None

@@ -29,7 +29,7 @@ next-silent n bytes line later e none =
     ap (λ ls. filter says_something (enumerate_from n (map content_of ls))) e
     ∙ ap (λ v. if v then (n, content_of line) ∷ said_from (n + 1) later else said_from (n + 1) later) says
 
--- bytes that all pass a test: so do those before one, those behind blanks, and those before the last blanks
+-- bytes that all pass a test: so do those before one, those after blanks, and those before the last blanks
 module _ (test : ℕ → Bool) where
   front-every : (stop : ℕ → Bool) (bytes : List ℕ) → list_all test bytes ≡ true → list_all test (front stop bytes) ≡ true
   front-every stop [] h = refl

@@ -23,7 +23,7 @@ module _ (variables : List States) (nine : List ℕ) (t : Transition) where
         | inr e ↦ rw e (outcome_at-append ps qs)
       ]
 
-  -- an order behind a place, and the place behind those taken
+  -- an order after a place, and the place after those taken
   behind : (taken : List ℕ) (x : ℕ) (gs : List (List ℕ)) → map (λ g. taken ++ g) (map (λ g. x ∷ g) gs) ≡ map (λ g. (taken ++ x ∷ []) ++ g) gs
   behind taken x [] = refl
   behind taken x (g ∷ gs) = ap (λ l. (taken ++ x ∷ g) ∷ l) (behind taken x gs) ∙ ap (λ l. l ∷ map (λ h. (taken ++ x ∷ []) ++ h) gs) (sym (append_assoc taken (x ∷ []) g))
@@ -110,7 +110,7 @@ length-remove [] i h = absurd (omega arith)
 length-remove (x ∷ xs) zero h = refl
 length-remove (x ∷ xs) (suc i) h = ap suc (length-remove xs i (omega arith))
 
--- nothing is left behind the end
+-- nothing is left after the end
 drop-end : (ps : List (ℕ × List ℕ)) (i : ℕ) → length ps ≤ i → drop i ps ≡ []
 drop-end [] zero h = refl
 drop-end [] (suc i) h = refl
@@ -122,7 +122,7 @@ module _ (variables : List States) (nine : List ℕ) (t : Transition) (taken fre
   pub all-picks : least_outcome variables nine t taken (length free) free ≡ picked_outcome variables nine t taken m (picks free)
   all-picks = ap (λ n. least_outcome variables nine t taken n free) count ∙ least_outcome-picks variables nine t taken m free
 
-  -- one pick leads to an outcome, and else those behind it
+  -- one pick leads to an outcome, or else those after it
   pub one-pick : (at : ℕ) (more others : List ℕ) → at < length free → more ≡ taken ++ get_or free at 0 ∷ [] → others ≡ remove free at →
       picked_outcome variables nine t taken m (drop at (picks free))
       ≡ option_or (least_outcome variables nine t more (length others) others) (picked_outcome variables nine t taken m (drop (at + 1) (picks free)))
@@ -135,6 +135,6 @@ module _ (variables : List States) (nine : List ℕ) (t : Transition) (taken fre
       ∙ ap (λ l. option_or (least_outcome variables nine t more m l) (picked_outcome variables nine t taken m (drop (at + 1) (picks free)))) (sym f)
       ∙ ap (λ n. option_or (least_outcome variables nine t more n others) (picked_outcome variables nine t taken m (drop (at + 1) (picks free)))) fewer
 
-  -- behind the last pick there is none
+  -- there is none after the last pick
   pub no-pick : (at : ℕ) → length free ≤ at → picked_outcome variables nine t taken m (drop at (picks free)) ≡ None
   no-pick at h = ap (picked_outcome variables nine t taken m) (drop-end (picks free) at (omega (arith, length-picks free)))

@@ -156,7 +156,7 @@ passed-on r e P h holds =
     let p = err_from_is_err_and r h in
     subst (λ o. IfErr o P) (sym p.1) (subst P (sym p.2) holds)
 
--- so settings that mean something stand before the lines that are left
+-- so settings that mean something come before the lines that are left
 pub all-meant : (all left : List Line) (values : SettingValues) (settings : Settings) → IsBehindSettings all values left → ((good : List Line) → AreValuesOf good values → are_settings [] good ≡ true → Mean good settings) → IsBehindMeant all settings left
 all-meant all left values settings before meaning = record { good = before.good; mean = meaning before.good before.values_are before.once; whole = before.whole }
 

@@ -19,7 +19,7 @@ Alike-sym xs ys h = record { counts = λ p. sym (h.counts p) }
 pub Alike-trans : (xs ys zs : List ℕ) → Alike xs ys → Alike ys zs → Alike xs zs
 Alike-trans xs ys zs h k = record { counts = λ p. h.counts p ∙ k.counts p }
 
--- behind one more element
+-- after one more element
 pub Alike-cons : (x : ℕ) (xs ys : List ℕ) → Alike xs ys → Alike (x ∷ xs) (x ∷ ys)
 Alike-cons x xs ys h = record { counts = λ p. omega (arith, h.counts p, count-cons p x xs, count-cons p x ys) }
 
@@ -97,7 +97,7 @@ orders-alike (suc n) xs e =
     (each-more (λ g. Alike q.1 g) (λ g. Alike xs (q.0 ∷ g)) (λ g k. Alike-trans xs (q.0 ∷ q.1) (q.0 ∷ g) h (Alike-cons q.0 q.1 g k)) (every_order n q.1)
     (orders-alike n q.1 (omega (arith, length-alike xs (q.0 ∷ q.1) h))))) (picks xs) (picks-alike xs))
 
--- an element that stands in a list is picked
+-- an element that is in a list is picked
 pick-found : (Q : ℕ × List ℕ → Type 0) (xs : List ℕ) (x : ℕ) → 1 ≤ count_by (λ y. y == x) xs → AllByRecursion Q (picks xs)
     → (r : List ℕ) × Q (x, r) × Alike xs (x ∷ r)
 pick-found Q [] x some all = absurd (omega arith)

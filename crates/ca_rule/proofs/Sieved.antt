@@ -39,7 +39,7 @@ and-not : (b : Bool) → (b && false) ≡ false
 and-not true = refl
 and-not false = refl
 
--- of two numbers of bits, the first tells of this slot and the second of those behind it
+-- of two numbers of bits, the first tells of this slot and the second of those after it
 pub here-or-later : (variables : List States) (nine : List ℕ) (slots : List Slot) (slot place : ℕ) (places later : List ℕ) (a b k : ℕ) → places ≡ place ∷ later
     → bit_at (bit_and a b) k ≡ 0
     → (bit_at a k ≡ 0 → slots_admit variables (slice_index nine place) (drop slot slots) ≡ false)
@@ -66,7 +66,7 @@ told-here variables ts rows held slot row state cell k sieve e within found same
     ap (λ s. slots_admit variables s (drop slot (inputs_at ts k))) (sym same)
     ∙ sieve slot (subst (λ l. slot < length l) e within) state small k few there (ap (λ r. bit_at (slice_index r state) k) (sym (found ∙ ap (λ l. get_or l slot []) e)) ∙ zeros)
 
--- the transitions behind the first that is left
+-- the transitions after the first that is left
 pub next-left : (ts left later : List Transition) (t : Transition) (at : ℕ) → left ≡ drop at ts → left ≡ t ∷ later → later ≡ drop (at + 1) ts
 next-left ts left later t at from first = ap (drop 1) (sym first ∙ from) ∙ drop-drop 1 at ts
 

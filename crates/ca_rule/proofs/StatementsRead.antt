@@ -76,7 +76,7 @@ module _ (settings : Settings) (said : Said) (count : ℕ) (numbers : List ℕ �
   transition-fault State is h = no-slot State (inr is) h
   transition-fault Name is h = no-slot Name (inr is) h
 
--- one more line says something behind the others
+-- one more line says something after the others
 say-snoc : (settings : Settings) (said mid after : Said) (ls : List Line) (l : Line) → Say settings said ls mid → SaysVariable settings mid l after ⊎ SaysTransition settings mid l after → Say settings said (ls ++ l ∷ []) after
 say-snoc settings said mid after [] l h says = (after, subst (λ s. SaysVariable settings s l after ⊎ SaysTransition settings s l after) (sym h) says, refl)
 say-snoc settings said mid after (x ∷ xs) l h says = (h.0, h.1, say-snoc settings h.0 mid after xs l h.2 says)
@@ -98,7 +98,7 @@ one-said settings all left later line old new before next more =
       is_kept = is.2;
     }
 
--- a section begins behind them, or they end
+-- a section begins after them, or they end
 pub section-behind : (settings : Settings) (all left later : List Line) (line : Line) (kept : Statements) → IsBehindSaid settings all left kept → left ≡ line ∷ later → begins_section line ≡ true → AreAllSaid settings all kept
 section-behind settings all left later line kept before next begins = record { later = line ∷ later; behind = subst (λ l. IsBehindSaid settings all l kept) next before; ends = begins }
 

@@ -52,7 +52,7 @@ table-begins all left later line before next begun = record {
   whole = before.whole ∙ ap (λ l. before.skipped ++ l) next;
 }
 
--- so behind the name stands a table
+-- so a table follows the name
 pub has-table : (bytes name : List ℕ) (all lines : List Line) → IsNamed bytes name all → IsBehindTable all lines → HasTable bytes name lines
 has-table bytes name all lines named behind = record {
   rule_line = named.rule_line;

@@ -156,7 +156,7 @@ module _ (settings : Settings) (said : Said) (line : Line) where
 
 -- ---- a text
 
--- the text is that of a table that leaves the empty plane empty, or has a fault, which isn't want of memory
+-- the text is that of a table that leaves the empty plane empty, or has a fault, and it isn't out of memory
 abbrev pub TableOrFault : List ℕ → Type 0
 TableOrFault bytes = ((t : TableRule) × IsTable bytes t × (table_next t (replicate 9 0) ≡ 0)) ⊎ ((f : TableFault) × (f ≢ Memory) × IsFaultOf bytes f)
 
@@ -178,7 +178,7 @@ say-then settings said [] line after next say says = (next, subst (λ s. Says se
 say-then settings said (x ∷ xs) line after next (other, one, more) says = (other, one, say-then settings other xs line after next more says)
 
 module _ (bytes named : List ℕ) (setting_lines : List Line) (settings : Settings) (mean : Mean setting_lines settings) where
-  -- behind good statements stand these lines
+  -- these lines follow good statements
   record BehindStatements (good : List Line) (said : Said) (left : List Line) : Type 0 where
     has_table : HasTable bytes named (setting_lines ++ (good ++ left))
     ends : is_behind_settings (good ++ left) ≡ true
@@ -240,7 +240,7 @@ module _ (bytes named : List ℕ) (setting_lines : List Line) (settings : Settin
 -- ---- settings
 
 module _ (bytes named : List ℕ) where
-  -- the settings end, and these lines stand behind them
+  -- the settings end, and these lines follow them
   record HaveEnded (good behind : List Line) : Type 0 where
     has_table : HasTable bytes named (good ++ behind)
     once : are_settings [] good ≡ true

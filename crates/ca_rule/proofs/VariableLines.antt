@@ -10,7 +10,7 @@ use Rattle.ca_rule.specs.TableLines.{Line, behind, begins_variable, is_name_byte
 use Rattle.ca_rule.specs.inner.TableFields.{opened, IsBraced}
 use Rattle.ca_rule.proofs.Stripped.{behind-is, behind-whole}
 
--- a blank or a sign stands behind blanks
+-- a blank or a sign follows blanks
 blanks-end : (test : ℕ → Bool) (blanks more : List ℕ) → ((b : ℕ) → is_blank b ≡ true → test b ≡ true) → Every is_blank blanks → is_end_or test more ≡ true → is_end_or test (blanks ++ more) ≡ true
 blanks-end test [] more blank all end = end
 blanks-end test (b ∷ bs) more blank all end = blank b (and_parts (is_blank b) (list_all is_blank bs) all).0
@@ -24,7 +24,7 @@ no-blank b e = elim (cases_Bool (is_blank b)) [
   | inr t ↦ rw t refl
 ]
 
--- no blank stands at the start of a name
+-- no blank is at the start of a name
 name-begins : (name more : List ℕ) → is_name name ≡ true → is_end_or (λ b. not (is_blank b)) (name ++ more) ≡ true
 name-begins [] more e = cc
 name-begins (b ∷ bs) more e = no-blank b (and_parts (is_name_byte b) (list_all is_name_byte bs) (and_parts _ (list_all is_name_byte (b ∷ bs)) e).1).0
@@ -38,7 +38,7 @@ opened-braced bytes inside b =
     ap (option_and_then (λ more. behind (codes "{") (rest is_blank more))) two
     ∙ ap (behind (codes "{")) three ∙ behind-is (codes "{") (inside ++ codes "}")
 
--- where something stands behind the first part, and behind the second
+-- where something follows the first part, and the second
 opened-parts : (o : Option (List ℕ)) (r : List ℕ) → option_and_then (λ more. behind (codes "{") (rest is_blank more)) o ≡ Some r → (more : List ℕ) × (o ≡ Some more) × (behind (codes "{") (rest is_blank more) ≡ Some r)
 opened-parts None r e = cc
 opened-parts (Some more) r e = (more, refl, e)
@@ -58,7 +58,7 @@ braced-opened bytes inside r e end =
           ∙ ap (λ l. codes "=" ++ l) (sym (front_then_rest is_blank parts.0) ∙ ap (λ l. front is_blank parts.0 ++ l) (two ∙ ap (λ l. codes "{" ++ l) end)));
     }
 
--- a line that is spelled as a variable's has its name behind `var` and blanks, and braces behind that
+-- a line that is spelled as a variable's has its name after `var` and blanks, and braces after that
 pub record HasParts (line name inside : List ℕ) : Type 0 where
   pub more : List ℕ
   pub is_var : behind (codes "var") line ≡ Some more
@@ -127,7 +127,7 @@ other-last bytes before last e other r h = other (sym (last-push before last) �
 pub no-last : (bytes : List ℕ) → length bytes ≡ 0 → (r : List ℕ) → bytes ≢ r ++ codes "}"
 no-last bytes e r h = let k : length bytes ≡ length r + 1 = ap length h ∙ length_push r 125 in omega arith
 
--- what stands before the last brace is braced
+-- what comes before the last brace is braced
 pub braced-suffix : (bytes more : List ℕ) (o : Option (Bor (List ℕ))) → opened bytes ≡ Some more
     → MatchOption o ((r : List ℕ) → more ≢ r ++ codes "}") (λ r. more ≡ r.now ++ codes "}") → MatchOption o ((inside : List ℕ) → IsBraced bytes inside → ⊥) (λ r. IsBraced bytes r.now)
 braced-suffix bytes more None opens none = λ inside b. none inside (ap (λ o. unwrap_or o []) (sym opens ∙ opened-braced bytes inside b))

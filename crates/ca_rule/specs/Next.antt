@@ -5,7 +5,7 @@ use Rattle.ca_rule.specs.declared.hood.Hood.{Hood}
 use Rattle.ca_rule.specs.declared.hood.Hood.TheVariants.{Moore, VonNeumann, Hex}
 use Rattle.ca_rule.specs.Counts.{is_count}
 
--- the sum of the counted neighbours among nine cells, which stand NW, N, NE, W, the centre, E, SW, S, SE:
+-- the sum of the counted neighbours among nine cells, in the order NW, N, NE, W, the centre, E, SW, S, SE:
 -- all eight; N, W, E and S; or all but NE and SW
 abbrev pub neighbour_count : Hood → List ℕ → ℕ
 neighbour_count Moore nine =

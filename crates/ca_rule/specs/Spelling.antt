@@ -15,7 +15,7 @@ use Rattle.ca_rule.specs.declared.fault.RuleFault.TheVariants.{Bounded, Wakes, U
 abbrev pub IsLetter : ℕ → ℕ → Type 0
 IsLetter upper byte = (byte ≡ upper) ⊎ (byte ≡ upper + 32)
 
--- nothing behind the digits for all eight neighbours, `V` for the four that share a side, `H` for six
+-- nothing after the digits for all eight neighbours, `V` for the four that share a side, `H` for six
 abbrev pub IsSuffix : Hood → List ℕ → Type 0
 IsSuffix Moore suffix = suffix ≡ []
 IsSuffix VonNeumann suffix = (byte : ℕ) × IsLetter (letter "V") byte × (suffix ≡ byte ∷ [])

@@ -25,12 +25,12 @@ abbrev pub HasNoRuleLine : List Line → Type 0
 HasNoRuleLine [] = Unit {0}
 HasNoRuleLine (l ∷ ls) = rule_name l ≡ None
 
--- no line behind the first begins a table
+-- no line after the first begins a table
 abbrev pub HasNoTable : List Line → Type 0
 HasNoTable [] = ⊥
 HasNoTable (l ∷ ls) = (name : List ℕ) × (rule_name l ≡ Some name) × (list_any begins_table ls ≡ false)
 
--- behind settings, each once and not yet judged, the n-th line of the text is a setting that one of them sets
+-- after settings, each once and not yet judged, the n-th line of the text is a setting that one of them sets
 pub record SetsAgain (bytes : List ℕ) (n : ℕ) : Type 0 where
   pub name : List ℕ
   pub good : List Line
@@ -66,7 +66,7 @@ abbrev pub LackSymmetry : List Line → Type 0
 LackSymmetry lines = (n : ℕ) × (neighbourhood : Neighbourhood)
     × (states_set lines ≡ Some n) × (neighbourhood_set lines ≡ Some neighbourhood) × (symmetry_set neighbourhood lines ≡ None)
 
--- behind good settings and good statements stands a line of the table, the n-th of the text, of which this holds
+-- after good settings and good statements comes a line of the table, the n-th of the text, and this holds of it
 pub record HasStatement (bytes : List ℕ) (n : ℕ) (P : Settings → Said → Line → Type 0) : Type 0 where
   pub name : List ℕ
   pub setting_lines : List Line
@@ -83,7 +83,7 @@ pub record HasStatement (bytes : List ℕ) (n : ℕ) (P : Settings → Said → 
   pub number : n ≡ line.0
   pub holds : P settings said line
 
--- the line is spelled neither as a variable's nor as a transition; a setting behind a statement is such a line
+-- the line is spelled neither as a variable's nor as a transition; a setting after a statement is such a line
 abbrev pub IsMisspelled : Settings → Said → Line → Type 0
 IsMisspelled settings said line =
     ((name : List ℕ) (fields : List (List ℕ)) → IsVariableLine line name fields → ⊥)
@@ -111,7 +111,7 @@ HasBadState settings said line = HasBadField settings said line (λ field. (are_
 abbrev pub HasUnknownName : Settings → Said → Line → Type 0
 HasUnknownName settings said line = HasBadField settings said line (λ field. (is_name field ≡ true) × (number_of 0 said.variables field ≡ None))
 
--- a transition whose result is a variable that stands in no input
+-- a transition whose result is a variable that is no input
 pub record HasUnbound (settings : Settings) (said : Said) (line : Line) : Type 0 where
   pub fields : List (List ℕ)
   pub inputs : List Slot
@@ -128,8 +128,8 @@ SaysMore settings said line = (after : Said) × (SaysVariable settings said line
 abbrev pub DoesWake : TableRule → Type 0
 DoesWake table = table_next table (replicate 9 0) ≢ 0
 
--- the text's fault, with the number of its line: the first faulty line's, else that the table wakes; memory may be wanting
--- at a good statement behind good lines, and at the end of a table
+-- the text's fault, with the number of its line: the first faulty line's, else that the table wakes. Out of memory may
+-- come at a good statement after good lines, and at the end of a table
 abbrev pub IsFaultOf : List ℕ → TableFault → Type 0
 IsFaultOf bytes (NoRuleLine n) = HasNoRuleLine (lines_said bytes) × (n ≡ number_at bytes (lines_said bytes))
 IsFaultOf bytes (NoTable n) = HasNoTable (lines_said bytes) × (n ≡ last_line bytes)

@@ -54,7 +54,7 @@ begins_section line = begins_with (λ b. b == 64) line.1
 abbrev pub begins_table : Line → Bool
 begins_table line = bytes_eq (front (λ b. not (is_blank b)) line.1) (codes "@TABLE")
 
--- what stands behind the text with which the bytes begin
+-- what follows the text with which the bytes begin
 abbrev pub behind : List ℕ → List ℕ → Option (List ℕ)
 behind [] bytes = Some bytes
 behind (t ∷ ts) [] = None
@@ -64,8 +64,8 @@ behind (t ∷ ts) (b ∷ bs) = if t == b then behind ts bs else None
 abbrev pub setting_words : List (List ℕ)
 setting_words = codes "n_states" ∷ codes "neighborhood" ∷ codes "symmetries" ∷ []
 
--- the value of a setting, where the line is the one with this word: the word, `:`, and all behind it (our own); blanks may
--- stand round the `:`
+-- the value of a setting, where the line is the one with this word: the word, `:`, and all after it (our own); blanks may
+-- be round the `:`
 abbrev pub setting : List ℕ → Line → Option (List ℕ)
 setting word line = option_map (rest is_blank) (option_and_then (λ bytes. behind (codes ":") (rest is_blank bytes)) (behind word line.1))
 
@@ -130,7 +130,7 @@ symmetry_set neighbourhood settings = option_and_then (symmetry_named neighbourh
 abbrev pub begins_variable : Line → Bool
 begins_variable line = unwrap_or (option_map (begins_with is_blank) (behind (codes "var") line.1)) false
 
--- a byte that may stand in a name: no blank and none of `,` `{` `}` `=` `#` `:` `@`; the bytes from 128 on may (our own)
+-- a byte that may be in a name: no blank and none of `,` `{` `}` `=` `#` `:` `@`; the bytes from 128 on may (our own)
 abbrev pub is_name_byte : ℕ → Bool
 is_name_byte b = not (is_blank b || list_any (λ c. b == c) (codes ",{}=#:@"))
 
@@ -155,7 +155,7 @@ fields_between bytes = map trimmed (parts_of bytes)
 abbrev pub fields_of : Line → List (List ℕ)
 fields_of line = if list_any (λ b. b == 44) line.1 then fields_between line.1 else map (λ b. b ∷ []) line.1
 
--- the line of a variable: `var`, a blank, a name, `=`, `{`, fields with commas between, `}`; blanks may stand between
+-- the line of a variable: `var`, a blank, a name, `=`, `{`, fields with commas between, `}`; blanks may be between
 pub record IsVariableLine (line : Line) (name : List ℕ) (fields : List (List ℕ)) : Type 0 where
   pub first : List ℕ
   pub second : List ℕ
@@ -170,7 +170,7 @@ pub record IsVariableLine (line : Line) (name : List ℕ) (fields : List (List �
   pub are_fields : list_all is_field fields ≡ true
   pub spelled : line.1 ≡ codes "var" ++ (first ++ (name ++ (second ++ (codes "=" ++ (third ++ (codes "{" ++ (inside ++ codes "}")))))))
 
--- a transition of so many slots, of which the result is the last
+-- a transition of this many slots, of which the result is the last
 pub record IsTransitionLine (line : Line) (slots : ℕ) (fields : List (List ℕ)) : Type 0 where
   pub no_variable : begins_variable line ≡ false
   pub fields_are : fields_of line ≡ fields

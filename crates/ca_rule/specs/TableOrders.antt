@@ -29,7 +29,7 @@ forward n s = map (λ i. (s + i) % n) (range_with_len 0 n)
 abbrev pub backward : ℕ → ℕ → List ℕ
 backward n s = map (λ i. (s + n - i) % n) (range_with_len 0 n)
 
--- in lexicographic order the first list stands before the second, or they are one
+-- in lexicographic order the first list comes before the second, or they are one
 abbrev pub stands_before : List ℕ → List ℕ → Bool
 stands_before [] ys = true
 stands_before (x ∷ xs) [] = false

@@ -12,7 +12,7 @@ use Rattle.ca_rule.specs.TableOrders.{ring_size}
 use Rattle.ca_rule.specs.TableNext.{States, admits, is_variable, Transition, TableRule}
 use Rattle.ca_rule.specs.TableLines.{Line, lines_said, rule_name, begins_table, begins_section, is_setting, setting, setting_words, value_of, states_set, neighbourhood_set, symmetry_set, are_digits, is_name, IsVariableLine, IsTransitionLine}
 
--- the text gives this name, and these lines stand behind the one that begins its table: first `@RULE`, then lines that are
+-- the text gives this name, and these lines follow the one that begins its table: first `@RULE`, then lines that are
 -- skipped, then the first `@TABLE`
 pub record HasTable (bytes name : List ℕ) (lines : List Line) : Type 0 where
   pub rule_line : Line
@@ -27,7 +27,7 @@ pub record HasTable (bytes name : List ℕ) (lines : List Line) : Type 0 where
 abbrev pub sets_again : List Line → Line → Bool
 sets_again earlier line = list_any (λ word. is_some (setting word line) && is_some (value_of word earlier)) setting_words
 
--- behind earlier lines, all lines are settings, and none is set again
+-- after earlier lines, all lines are settings, and none is set again
 abbrev pub are_settings : List Line → List Line → Bool
 are_settings earlier [] = true
 are_settings earlier (l ∷ ls) = (is_setting l && not (sets_again earlier l)) && are_settings (earlier ++ l ∷ []) ls
@@ -73,7 +73,7 @@ StandsFor settings said field (Variable v) = (is_name field ≡ true) × (number
 abbrev pub states_among : Settings → List States → List Slot → States
 states_among settings variables slots = filter (λ s. list_any (λ slot. admits variables slot s) slots) (range_with_len 0 settings.states)
 
--- behind what was said, the line says one more variable
+-- after what was said, the line says one more variable
 pub record SaysVariable (settings : Settings) (said : Said) (line : Line) (after : Said) : Type 0 where
   pub name : List ℕ
   pub fields : List (List ℕ)
@@ -82,7 +82,7 @@ pub record SaysVariable (settings : Settings) (said : Said) (line : Line) (after
   pub stand : AllZip (StandsFor settings said) fields slots
   pub after_is : after ≡ record said { variables = said.variables ++ (name, states_among settings (states_said said) slots) ∷ [] }
 
--- a result is a number, or a variable that stands among the inputs
+-- a result is a number, or a variable among the inputs
 abbrev pub is_bound : Slot → List Slot → Bool
 is_bound (Number state) inputs = true
 is_bound (Variable v) inputs = list_any (is_variable v) inputs
@@ -101,7 +101,7 @@ pub record SaysTransition (settings : Settings) (said : Said) (line : Line) (aft
   pub bound : is_bound result inputs ≡ true
   pub after_is : after ≡ record said { transitions = said.transitions ++ record { inputs = inputs; result = result } ∷ [] }
 
--- the lines are statements, which say this, one after another, behind what was said
+-- the lines are statements, which say this, one after another, after what was said
 abbrev pub Say : Settings → Said → List Line → Said → Type 0
 Say settings said [] after = said ≡ after
 Say settings said (l ∷ ls) after = (next : Said) × (SaysVariable settings said l next ⊎ SaysTransition settings said l next) × Say settings next ls after
@@ -122,7 +122,7 @@ abbrev pub is_end_of_section : List Line → Bool
 is_end_of_section [] = true
 is_end_of_section (l ∷ ls) = begins_section l
 
--- the text is that of the table: its settings, then its statements, up to the next section or the end. What stands behind
+-- the text is that of the table: its settings, then its statements, up to the next section or the end. What follows
 -- a later `@`, also a second `@RULE` or `@TABLE`, is skipped (our own)
 pub record IsTable (bytes : List ℕ) (table : TableRule) : Type 0 where
   pub name : List ℕ

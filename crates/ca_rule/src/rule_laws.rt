@@ -23,7 +23,7 @@ pub fn named_rules()
     ensures same_are_equal { (text other : List ℕ) (tables : List TableRule) (r s : RuleValue) → NamesRule text tables r → NamesRule other tables s → IsSameRule r s → r ≡ s }
 {}
 
-/// Each rule is the same as itself, whichever of two stands first, and by way of a third. B/S rules that are the same have
+/// Each rule is the same as itself, whichever of two comes first, and by way of a third. B/S rules that are the same have
 /// the same next cells; of tables only the names are compared.
 pub fn same_rules()
     ensures next { (r s : BsRule) (nine : List ℕ) → IsSameRule (Bs r) (Bs s) → next_of (Bs r) nine ≡ next_of (Bs s) nine }

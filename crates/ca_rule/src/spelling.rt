@@ -50,7 +50,7 @@ fn without_slash(bytes: &[u8]) -> &[u8]
     bytes.strip_prefix(b"/").unwrap_or(bytes)
 }
 
-/// The bytes behind the letter with which they begin.
+/// The bytes after the letter with which they begin.
 fn behind_letter(bytes: &[u8], upper: u8) -> Option<&[u8]>
     requires low { 65 ≤ upper }
     requires high { upper ≤ 90 }
@@ -63,14 +63,14 @@ fn behind_letter(bytes: &[u8], upper: u8) -> Option<&[u8]>
     Some(rest)
 }
 
-/// The bytes behind the `/` with which they begin.
+/// The bytes after the `/` with which they begin.
 fn behind_slash(bytes: &[u8]) -> Option<&[u8]>
     ensures { MatchOption result (behind_slash bytes.now ≡ None) (λ r. behind_slash bytes.now ≡ Some r.now) }
 {
     bytes.strip_prefix(b"/")
 }
 
-/// The digits at the start, and what stands behind the letter that follows them, between them an optional `/`.
+/// The digits at the start, and what comes after the letter that follows them, with an optional `/` before it.
 fn lists_around(bytes: &[u8], upper: u8) -> Option<(&[u8], &[u8])>
     requires low { 65 ≤ upper }
     requires high { upper ≤ 90 }
@@ -81,7 +81,7 @@ fn lists_around(bytes: &[u8], upper: u8) -> Option<(&[u8], &[u8])>
     Some((digits, later))
 }
 
-/// The digits at the start, and what stands behind the `/` that follows them.
+/// The digits at the start, and what comes after the `/` that follows them.
 fn lists_around_slash(bytes: &[u8]) -> Option<(&[u8], &[u8])>
     ensures { MatchOption result (lists_around_slash bytes.now ≡ None) (λ r. lists_around_slash bytes.now ≡ Some (r.0.now, r.1.now)) }
 {
@@ -90,7 +90,7 @@ fn lists_around_slash(bytes: &[u8]) -> Option<(&[u8], &[u8])>
     Some((digits, later))
 }
 
-/// The birth and the survival digits of a text without its suffix, whatever stands behind its last `/` or letter.
+/// The birth and the survival digits of a text without its suffix, whatever follows its last `/` or letter.
 fn lists_of(body: &[u8]) -> Option<(&[u8], &[u8])>
     ensures { MatchOption result (lists_of body.now ≡ None) (λ r. lists_of body.now ≡ Some (r.0.now, r.1.now)) }
 {

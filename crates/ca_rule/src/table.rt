@@ -74,7 +74,7 @@ impl Table {
     ghost use Rattle.ca_rule.specs.TableFaults.{IsFaultOf};
     ghost use Rattle.ca_rule.specs.inner.TableStored.{stored, is_below, IsPartsFault};
 
-    /// The table of a rule file's text, or what is wrong with its first faulty line. Want of memory is told only where a
+    /// The table of a rule file's text, or what is wrong with its first faulty line. Out of memory comes only where a
     /// good statement or the whole table was read.
     pub fn parse(alloc: Global, text: &[u8]) -> Result<Table, TableFault>
         ensures found { IfOk result (IsTable text.now) }
@@ -107,8 +107,8 @@ impl Table {
     ///
     /// # Errors
     ///
-    /// `Wakes` where it would turn nine zeros into another state, whatever the memory; else fails where there is no memory
-    /// for sieves of the transitions.
+    /// `Wakes` where it would turn nine zeros into another state, however much memory there is. Else fails where there is
+    /// no memory for sieves of the transitions.
     pub(crate) fn of_parts(
         alloc: Global,
         name: Vec<u8>,

@@ -13,7 +13,7 @@ use std::alloc::Global;
 impl Plane {
     /// The plane that shows the cells, which may come in any order. Of two at one point the first counts.
     ///
-    /// It sorts them once, where `set` moves all that stands behind a cell.
+    /// It sorts them once, where `set` moves all that follows a cell.
     ///
     /// # Errors
     ///

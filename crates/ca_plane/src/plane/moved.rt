@@ -19,8 +19,8 @@ impl Plane {
     ///
     /// # Errors
     ///
-    /// `Range` just where a cell would lie beyond 2^62 in some direction, whatever the memory; else fails where there is
-    /// no memory for the moved plane.
+    /// `Range` exactly where a cell would lie beyond 2^62 in some direction, however much memory there is. Else fails
+    /// where there is no memory for the moved plane.
     pub fn translated(&self, alloc: Global, dx: i64, dy: i64) -> Result<Plane, MoveFault>
         ensures moved { IfOk result (λ q. IsSame q (shifted self.now dx dy)) }
         ensures sparse { IfOk result IsSparse }

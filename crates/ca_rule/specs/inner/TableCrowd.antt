@@ -6,7 +6,7 @@ use Rattle.ca_rule.specs.declared.table.slot.Slot.{Slot}
 use Rattle.ca_rule.specs.TableNext.{States, Taken, admits, is_variable, take_one_cell}
 use Rattle.ca_rule.specs.declared.table.slot.Slot.TheVariants.{Number, Variable}
 
--- where the slot is a variable: so many of the cells at the free places are this one as slots left are that variable
+-- where the slot is a variable: as many of the cells at the free places are this one as slots left are that variable
 abbrev pub has_room : List ℕ → List Slot → List ℕ → Slot → ℕ → Bool
 has_room nine left free (Number state) cell = true
 has_room nine left free (Variable v) cell = nat_le (count_by (is_variable v) left) (count_by (λ p. slice_index nine p == cell) free)
@@ -31,7 +31,7 @@ abbrev pub are_crowded : List States → List ℕ → List Taken → List Slot �
 are_crowded variables nine taken left free set =
     nat_lt (count_by (λ p. one_takes variables nine taken left free left set (slice_index nine p)) free) (slots_in left set)
 
--- some of the slots behind those with places, which aren't more than the free places, are too many for the cells there
+-- some of the slots after those with places, which aren't more than the free places, are too many for the cells there
 pub record HasCrowd (variables : List States) (nine : List ℕ) (slots : List Slot) (places free : List ℕ) : Type 0 where
   pub set : ℕ
   pub few : length (drop (length places) slots) ≤ length free

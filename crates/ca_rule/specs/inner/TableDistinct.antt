@@ -5,7 +5,7 @@ use Rattle.ca_rule.specs.declared.table.slot.Slot.{Slot}
 use Rattle.ca_rule.specs.declared.table.slot.Slot.TheVariants.{Number, Variable}
 use Rattle.ca_rule.specs.TableNext.{is_variable}
 
--- no variable stands twice among the slots
+-- no variable comes twice among the slots
 abbrev pub are_distinct : List Slot → Bool
 are_distinct [] = true
 are_distinct (Number state ∷ ss) = are_distinct ss

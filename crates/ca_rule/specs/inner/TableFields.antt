@@ -10,11 +10,11 @@ abbrev pub fields_left : FieldsLeft → List (List ℕ)
 fields_left (Between bytes) = fields_between bytes.now
 fields_left (Bytes bytes) = map (λ b. b ∷ []) bytes.now
 
--- what stands behind `=` and `{`, with blanks before either
+-- what follows `=` and `{`, with blanks before either
 abbrev pub opened : List ℕ → Option (List ℕ)
 opened bytes = option_and_then (λ more. behind (codes "{") (rest is_blank more)) (behind (codes "=") (rest is_blank bytes))
 
--- `=`, and then this in braces; blanks may stand before `=` and `{`
+-- `=`, and then this in braces; blanks may be before `=` and `{`
 pub record IsBraced (bytes inside : List ℕ) : Type 0 where
   pub second : List ℕ
   pub third : List ℕ

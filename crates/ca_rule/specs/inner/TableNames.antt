@@ -28,7 +28,7 @@ IsNoSlot states numbers field State = (are_digits field ≡ true) × (states ≤
 IsNoSlot states numbers field Name = (is_name field ≡ true) × (numbers field ≡ None)
 IsNoSlot states numbers field fault = ⊥
 
--- behind fields that stand for these slots stands one that stands for nothing
+-- after fields that stand for these slots comes one that stands for nothing
 pub record HasNoSlot (states : ℕ) (numbers : List ℕ → Option ℕ) (fields : List (List ℕ)) (fault : StatementFault) : Type 0 where
   pub good : List (List ℕ)
   pub slots : List Slot
@@ -42,7 +42,7 @@ pub record HasNoSlot (states : ℕ) (numbers : List ℕ → Option ℕ) (fields 
 abbrev pub HaveSlots : ℕ → (List ℕ → Option ℕ) → List (List ℕ) → Type 0
 HaveSlots states numbers fields = (slots : List Slot) × AllZip (IsSlot states numbers) fields slots
 
--- one of the fields stands for nothing, or memory was wanting, and they stand for slots
+-- one of the fields stands for nothing, or memory ran out, and they stand for slots
 abbrev pub IsFaultAmong : ℕ → (List ℕ → Option ℕ) → List (List ℕ) → StatementFault → Type 0
 IsFaultAmong states numbers fields Memory = HaveSlots states numbers fields
 IsFaultAmong states numbers fields fault = HasNoSlot states numbers fields fault
@@ -54,13 +54,13 @@ pub record HaveResult (states : ℕ) (numbers : List ℕ → Option ℕ) (fields
   pub stand : AllZip (IsSlot states numbers) fields (inputs ++ result ∷ [])
   pub bound_is : is_bound result inputs ≡ bound
 
--- the same of the fields of a transition: the result may be unbound, and where memory was wanting it is bound
+-- the same of the fields of a transition: the result may be unbound, and where memory ran out it is bound
 abbrev pub IsFaultOfTransition : ℕ → (List ℕ → Option ℕ) → List (List ℕ) → StatementFault → Type 0
 IsFaultOfTransition states numbers fields Unbound = HaveResult states numbers fields false
 IsFaultOfTransition states numbers fields Memory = HaveResult states numbers fields true
 IsFaultOfTransition states numbers fields fault = HasNoSlot states numbers fields fault
 
--- so many of the fields have been read
+-- this many of the fields have been read
 pub record AreSlots (states : ℕ) (numbers : List ℕ → Option ℕ) (fields left : List (List ℕ)) (slots : List Slot) : Type 0 where
   pub good : List (List ℕ)
   pub whole : fields ≡ good ++ left

@@ -22,19 +22,19 @@ line_of line = (line.number, line.content.now)
 abbrev pub text_of : SaidLines → List ℕ
 text_of lines = lines.text.now
 
--- the text's first line gives this name, and these lines stand behind it
+-- the text's first line gives this name, and these lines follow it
 pub record IsNamed (bytes name : List ℕ) (lines : List Line) : Type 0 where
   pub rule_line : Line
   pub named : rule_name rule_line ≡ Some name
   pub whole : lines_said bytes ≡ rule_line ∷ lines
 
--- behind lines of which none begins a table stand these
+-- these lines follow others of which none begins a table
 pub record IsBehindSkipped (all lines : List Line) : Type 0 where
   pub skipped : List Line
   pub no_table : list_any begins_table skipped ≡ false
   pub whole : all ≡ skipped ++ lines
 
--- behind the first line that begins a table stand these
+-- these follow the first line that begins a table
 pub record IsBehindTable (all lines : List Line) : Type 0 where
   pub skipped : List Line
   pub table_line : Line

@@ -18,7 +18,7 @@ fault_at n Name = table_fault.Variable n
 fault_at n Unbound = table_fault.Unbound n
 fault_at n Memory = table_fault.Memory
 
--- the line's fault; where memory was wanting it has none
+-- the line's fault; where memory ran out it has none
 abbrev pub IsFaultOfLine : Settings → Said → Line → StatementFault → Type 0
 IsFaultOfLine settings said line Syntax = IsMisspelled settings said line
 IsFaultOfLine settings said line State = HasBadState settings said line
@@ -26,7 +26,7 @@ IsFaultOfLine settings said line Name = HasUnknownName settings said line
 IsFaultOfLine settings said line Unbound = HasUnbound settings said line
 IsFaultOfLine settings said line Memory = SaysMore settings said line
 
--- the line says this, behind what was said, and it is kept
+-- the line says this, after what was said, and it is kept
 abbrev pub IsKeptBehind : Settings → Said → Line → Statements → Type 0
 IsKeptBehind settings said line kept = (after : Said) × (SaysVariable settings said line after ⊎ SaysTransition settings said line after) × IsKept after kept
 

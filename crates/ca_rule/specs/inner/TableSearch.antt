@@ -24,7 +24,7 @@ abbrev pub LeadToNone : List States → List ℕ → Transition → List ℕ →
 LeadToNone variables nine t taken n free count =
     (k : ℕ) → k < count → least_outcome variables nine t (taken ++ get_or free k 0 ∷ []) n (remove free k) ≡ None
 
--- the placements of orders: those that are listed, or those of every order of the ring behind the centre
+-- the placements of orders: those that are listed, or those of every order of the ring after the centre
 abbrev pub placements_of : Orders → List (List ℕ)
 placements_of (Listed ps) = map (λ (p : Bor (List ℕ)). p.now) ps.now
 placements_of (Every neighbourhood) = map (λ g. (4 ∷ []) ++ g) (every_order (ring_size neighbourhood) (ring neighbourhood))

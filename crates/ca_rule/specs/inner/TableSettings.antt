@@ -28,7 +28,7 @@ pub record AreGivenBy (line : Line) (values : SettingValues) : Type 0 where
 abbrev pub meaning_of : TableSettings → Settings
 meaning_of settings = record { states = settings.states; neighbourhood = settings.neighbourhood; symmetry = settings.symmetry }
 
--- behind settings of which none is set again, and which give these values, stand these lines
+-- these lines follow settings of which none is set again, and which give these values
 pub record IsBehindSettings (all : List Line) (values : SettingValues) (lines : List Line) : Type 0 where
   pub good : List Line
   pub once : are_settings [] good ≡ true
@@ -51,7 +51,7 @@ joined v w = record {
   symmetry = option_or v.symmetry w.symmetry;
 }
 
--- behind settings that mean this stand these lines
+-- these lines follow settings that mean this
 pub record IsBehindMeant (all : List Line) (settings : Settings) (lines : List Line) : Type 0 where
   pub good : List Line
   pub mean : Mean good settings

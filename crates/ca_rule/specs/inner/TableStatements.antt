@@ -5,7 +5,7 @@ use Rattle.ca_rule.specs.declared.table.statement.Statement.TheVariants.{Variabl
 use Rattle.ca_rule.specs.TableLines.{Line, fields_between, IsVariableLine, IsTransitionLine}
 use Rattle.ca_rule.specs.inner.TableFields.{fields_left}
 
--- the line is spelled so, where transitions have so many slots
+-- the line is spelled so, where transitions have this many slots
 abbrev pub IsStatement : Line → ℕ → Statement → Type 0
 IsStatement line slots (Variable v) = IsVariableLine line v.name.now (fields_between v.inside.now)
 IsStatement line slots (Transition fields) = IsTransitionLine line slots (fields_left fields)

@@ -31,7 +31,7 @@ pub record IsKept (table : TableRule) : Type 0 where
   pub named : IsWord table.name
   pub sound : IsSound table
 
--- why the parts of a table aren't kept: it wakes, or memory is wanting for one that doesn't
+-- why the parts of a table aren't kept: it wakes, or there is no memory for one that doesn't
 abbrev pub IsPartsFault : TableRule → PartsFault → Type 0
 IsPartsFault table Wakes = DoesWake table
 IsPartsFault table Memory = table_next table (replicate 9 0) ≡ 0

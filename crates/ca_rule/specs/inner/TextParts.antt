@@ -8,11 +8,11 @@ use Rattle.ca_rule.specs.declared.hood.Hood.TheVariants.{Moore, VonNeumann, Hex}
 abbrev pub is_letter : ℕ → ℕ → Bool
 is_letter upper byte = (byte == upper) || (byte == upper + 32)
 
--- the neighbourhood for which the byte stands at the end of a text
+-- the neighbourhood that the byte means at the end of a text
 abbrev pub hood_at : ℕ → Hood
 hood_at byte = if is_letter 86 byte then VonNeumann else (if is_letter 72 byte then Hex else Moore)
 
--- the neighbourhood for which the end of a text stands
+-- the neighbourhood that the end of a text means
 abbrev pub hood_of : List ℕ → Hood
 hood_of [] = Moore
 hood_of (b ∷ []) = hood_at b
@@ -29,12 +29,12 @@ abbrev pub without_slash : List ℕ → List ℕ
 without_slash [] = []
 without_slash (b ∷ bs) = if b == 47 then bs else b ∷ bs
 
--- the bytes behind the letter with which they begin
+-- the bytes after the letter with which they begin
 abbrev pub behind_letter : ℕ → List ℕ → Option (List ℕ)
 behind_letter upper [] = None
 behind_letter upper (b ∷ bs) = if is_letter upper b then Some bs else None
 
--- the bytes behind the `/` with which they begin
+-- the bytes after the `/` with which they begin
 abbrev pub behind_slash : List ℕ → Option (List ℕ)
 behind_slash [] = None
 behind_slash (b ∷ bs) = if b == 47 then Some bs else None
@@ -49,11 +49,11 @@ abbrev pub swapped : Option (List ℕ × List ℕ) → Option (List ℕ × List 
 swapped None = None
 swapped (Some lists) = Some (lists.1, lists.0)
 
--- digits, an optional `/`, the letter, and what stands behind it
+-- digits, an optional `/`, the letter, and what follows it
 abbrev pub lists_around : ℕ → List ℕ → Option (List ℕ × List ℕ)
 lists_around upper bytes = both (front is_digit bytes) (behind_letter upper (without_slash (rest is_digit bytes)))
 
--- digits, a `/`, and what stands behind it
+-- digits, a `/`, and what follows it
 abbrev pub lists_around_slash : List ℕ → Option (List ℕ × List ℕ)
 lists_around_slash bytes = both (front is_digit bytes) (behind_slash (rest is_digit bytes))
 

@@ -19,7 +19,7 @@ struct Begun<'t> {
     /// All slots, and the places of the first of them.
     slots: &'t [Slot],
     places: &'t [u8],
-    /// The slots behind those, and the places that are free.
+    /// The slots after those, and the places that are free.
     left: &'t [Slot],
     free: &'t [u8],
 }
@@ -29,7 +29,7 @@ impl Begun<'_> {
     ghost use Rattle.std.specs.List.{count_by};
     ghost use Rattle.ca_rule.specs.inner.TableCrowd.{has_room, may_take, one_takes, are_crowded};
 
-    /// Whether so many of the free cells are like the cell as slots left are like the slot, where that is a variable.
+    /// Whether as many of the free cells are like the cell as slots left are like the slot, where that is a variable.
     fn has_room(&self, slot: Slot, cell: u8) -> bool
         ensures { result ≡ has_room self.now.nine.now self.now.left.now self.now.free.now slot cell }
     {
@@ -117,7 +117,7 @@ impl Begun<'_> {
     }
 }
 
-/// Whether some of the slots behind the places are more than the free cells that one of them may take, as far as is found.
+/// Whether some of the slots after the places are more than the free cells that one of them may take, as far as is found.
 pub(crate) fn has_crowd(
     variables: &[StateSet],
     slots: &[Slot],
@@ -192,7 +192,7 @@ fn slots_in(slots: &[Slot], set: u8) -> usize
     if set % 2 == 1 { others + 1 } else { others }
 }
 
-/// The first set of slots, of so many, that are more than the cells that they may take.
+/// The first set of slots, of this many, that are more than the cells that they may take.
 fn smallest_crowd(takable: &[u8; 8], count: usize) -> Option<u8> {
     let mut cells_of = [0_u8; 256];
     'sets: for set in 1..=u8::MAX {

@@ -12,7 +12,7 @@ pub enum TableFault {
     #[error("line {line}: no table")]
     NoTable { line: u64 },
     /// A setting a second time or too late, a `var` line or a transition that isn't spelled as one, or another number
-    /// of fields than the neighbourhood wants.
+    /// of fields than the neighbourhood needs.
     #[error("line {line}: syntax")]
     Syntax { line: u64 },
     /// No number of states, or one that isn't from 2 to 256, or a state that isn't below it.
@@ -27,7 +27,7 @@ pub enum TableFault {
     /// The name of no earlier variable.
     #[error("line {line}: variable")]
     Variable { line: u64 },
-    /// The result is a variable that stands in no input.
+    /// The result is a variable that is no input.
     #[error("line {line}: unbound")]
     Unbound { line: u64 },
     /// The table turns nine zeros into another state.

@@ -19,7 +19,7 @@ pub(crate) enum FieldsLeft<'a> {
 impl<'a> FieldsLeft<'a> {
     ghost use Rattle.ca_rule.specs.inner.TableFields.{fields_left};
 
-    /// The fields of bytes that stand between braces.
+    /// The fields of bytes between braces.
     pub(crate) fn inside(bytes: &'a [u8]) -> FieldsLeft<'a>
         ensures { fields_left result ≡ fields_between bytes.now }
     {
@@ -36,7 +36,7 @@ impl<'a> FieldsLeft<'a> {
         FieldsLeft::Bytes(content)
     }
 
-    /// The first field, and those behind it.
+    /// The first field, and those after it.
     #[tactic(auto, using(crate::proofs::Fields::parts))]
     pub(crate) fn next(&self) -> Option<(&'a [u8], FieldsLeft<'a>)>
         ensures { MatchOption result (fields_left self.now ≡ []) (λ r. fields_left self.now ≡ r.0.now ∷ fields_left r.1) }
@@ -59,7 +59,7 @@ impl<'a> FieldsLeft<'a> {
         }
     }
 
-    /// Whether so many fields are left.
+    /// Whether this many fields are left.
     pub(crate) fn are_as_many_as(&self, count: usize) -> bool
         ensures { result ≡ (length (fields_left self.now) == count) }
     {

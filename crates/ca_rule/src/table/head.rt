@@ -12,7 +12,7 @@ use crate::table::fault::TableFault;
 use crate::table::lines::{begins_table, rule_name};
 use crate::table::said_lines::SaidLines;
 
-/// The name that the text's first line gives, and the lines behind that.
+/// The name that the text's first line gives, and the lines after that.
 fn name_of<'a>(lines: &SaidLines<'a>) -> Result<(&'a [u8], SaidLines<'a>), TableFault>
     requires { left_of lines.now ≡ lines_said (text_of lines.now) }
     ensures named { IfOk result (λ r. IsNamed (text_of lines.now) r.0.now (left_of r.1)) }
@@ -30,7 +30,7 @@ fn name_of<'a>(lines: &SaidLines<'a>) -> Result<(&'a [u8], SaidLines<'a>), Table
     Ok((name, later))
 }
 
-/// The lines behind the first that begins a table.
+/// The lines after the first that begins a table.
 fn behind_table<'a>(lines: &SaidLines<'a>) -> Option<SaidLines<'a>>
     ensures found { MatchOption result (list_any begins_table (left_of lines.now) ≡ false) (λ r. IsBehindTable (left_of lines.now) (left_of r)) }
     ensures text { IfSome result (λ r. text_of r ≡ text_of lines.now) }
@@ -45,7 +45,7 @@ fn behind_table<'a>(lines: &SaidLines<'a>) -> Option<SaidLines<'a>>
     None
 }
 
-/// The name of the text, and the lines behind that which begins its table.
+/// The name of the text, and the lines after that which begins its table.
 pub(crate) fn table_lines(text: &[u8]) -> Result<(&[u8], SaidLines<'_>), TableFault>
     ensures found { IfOk result (λ r. HasTable text.now r.0.now (left_of r.1)) }
     ensures word { IfOk result (λ r. IsWord r.0.now) }

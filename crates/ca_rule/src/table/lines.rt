@@ -7,7 +7,7 @@ ghost use Rattle.ca_rule.specs.TableLines.{content_of, rule_name, begins_section
 
 use ca_plane::bytes::{is_blank, next_word, split_blanks, strip, trim_blanks};
 
-/// How many bytes stand before the first `#`.
+/// How many bytes come before the first `#`.
 fn comment_start(line: &[u8]) -> usize
     ensures { result ≡ prefix_len (λ b. not (b == 35)) line.now }
 {
@@ -37,7 +37,7 @@ pub(crate) fn rule_name(content: &[u8]) -> Option<&[u8]>
     None
 }
 
-/// How many bytes stand before the first blank.
+/// How many bytes come before the first blank.
 fn first_word_length(content: &[u8]) -> usize
     ensures { result ≡ prefix_len (λ b. not (is_blank b)) content.now }
 {
@@ -53,7 +53,7 @@ pub(crate) fn begins_table(content: &[u8]) -> bool
     word == b"@TABLE".as_slice()
 }
 
-/// What stands behind the text with which the bytes begin.
+/// What follows the text with which the bytes begin.
 pub(crate) fn behind<'a>(text: &[u8], bytes: &'a [u8]) -> Option<&'a [u8]>
     ensures { MatchOption result (behind text.now bytes.now ≡ None) (λ r. behind text.now bytes.now ≡ Some r.now) }
 {
@@ -109,14 +109,14 @@ pub(crate) fn are_digits(bytes: &[u8]) -> bool
     all_digits(bytes)
 }
 
-/// Whether the byte may stand in a name.
+/// Whether the byte may be in a name.
 pub(crate) fn is_name_byte(byte: u8) -> bool
     ensures { result ≡ is_name_byte byte }
 {
     !is_blank(byte) && !matches!(byte, b',' | b'{' | b'}' | b'=' | b'#' | b':' | b'@')
 }
 
-/// Whether each byte may stand in a name.
+/// Whether each byte may be in a name.
 fn all_name_bytes(bytes: &[u8]) -> bool
     ensures { result ≡ list_all is_name_byte bytes.now }
 {

@@ -54,7 +54,7 @@ impl<'a> Names<'a> {
         Ok(())
     }
 
-    /// What the field stands for in a table of so many states.
+    /// What the field stands for in a table with this many states.
     fn slot(&self, states: u16, field: &[u8]) -> Result<Slot, StatementFault>
         requires low { states ≤ 256 }
         requires field { is_field field.now ≡ true }
@@ -74,7 +74,7 @@ impl<'a> Names<'a> {
         }
     }
 
-    /// Whether each of the fields stands for something in a table of so many states.
+    /// Whether each of the fields stands for something in a table with this many states.
     fn judge(&self, states: u16, fields: &FieldsLeft<'_>) -> Result<(), StatementFault>
         requires low { states ≤ 256 }
         requires fields { list_all is_field (fields_left fields.now) ≡ true }
@@ -89,7 +89,7 @@ impl<'a> Names<'a> {
         Ok(())
     }
 
-    /// What the fields of a transition stand for in a table of so many states.
+    /// What the fields of a transition stand for in a table with this many states.
     pub(crate) fn transition_slots(
         &self,
         states: u16,
@@ -111,7 +111,7 @@ impl<'a> Names<'a> {
         Ok(slots)
     }
 
-    /// What the fields stand for in a table of so many states. All are judged before anything grows.
+    /// What the fields stand for in a table with this many states. All are judged before anything grows.
     pub(crate) fn slots(
         &self,
         alloc: Global,

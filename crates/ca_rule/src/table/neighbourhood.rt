@@ -16,7 +16,7 @@ pub enum Neighbourhood {
 /// In which orders a transition may take the neighbours (Golly Help, File Formats: rule tables).
 #[derive(Clone, Copy, Debug, PartialEq, Eq)]
 pub enum Symmetry {
-    /// As they stand (written `none`).
+    /// As they are (written `none`).
     Identity,
     /// Turned by quarters (written `rotate4`).
     Rotate4,

@@ -37,7 +37,7 @@ impl Orders {
     }
 }
 
-/// The places of the slots' cells where the ring's cells are taken as they stand.
+/// The places of the slots' cells where the ring's cells are taken as they are.
 pub(crate) fn as_it_stands(neighbourhood: Neighbourhood) -> &'static [u8]
     ensures { result.now ≡ 4 ∷ ring neighbourhood }
 {
@@ -49,7 +49,7 @@ pub(crate) fn as_it_stands(neighbourhood: Neighbourhood) -> &'static [u8]
     }
 }
 
-/// For each order of the symmetry, but for `permute`: the places of the slots' cells among nine, the centre's first.
+/// For each order of the symmetry, except `permute`: the places of the slots' cells among nine, the centre's first.
 /// A symmetry that the neighbourhood doesn't have has none.
 fn placements(neighbourhood: Neighbourhood, symmetry: Symmetry) -> &'static [&'static [u8]]
     ensures { symmetry ≢ Permute → map (λ p. p.now) result.now ≡ map (places neighbourhood) (orders neighbourhood symmetry) }

@@ -44,7 +44,7 @@ impl<'a> SaidLines<'a> {
         }
     }
 
-    /// The first line that says something, and the lines behind it.
+    /// The first line that says something, and the lines after it.
     pub(crate) fn next(&self) -> Option<(SaidLine<'a>, SaidLines<'a>)>
         ensures lines { MatchOption result (left_of self.now ≡ []) (λ r. left_of self.now ≡ line_of r.0 ∷ left_of r.1) }
         ensures text { IfSome result (λ r. text_of r.1 ≡ text_of self.now) }

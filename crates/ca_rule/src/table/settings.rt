@@ -133,7 +133,7 @@ fn are_both(one: Option<&[u8]>, other: Option<&[u8]>) -> bool
     one.is_some() && other.is_some()
 }
 
-/// The values of settings with those of the lines that are settings, and the lines behind these. No setting has more than
+/// The values of settings with those of the lines that are settings, and the lines after these. No setting has more than
 /// one line, so the calls are four at most.
 fn read_values<'a>(
     values: SettingValues<'a>,
@@ -276,7 +276,7 @@ fn symmetry_named(neighbourhood: Neighbourhood, bytes: &[u8]) -> Option<Symmetry
     None
 }
 
-/// The settings of the table, and the lines behind them.
+/// The settings of the table, and the lines after them.
 pub(crate) fn read_settings<'a>(
     lines: &SaidLines<'a>,
 ) -> Result<(TableSettings, SaidLines<'a>), TableFault>

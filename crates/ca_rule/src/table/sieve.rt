@@ -40,7 +40,7 @@ impl Sieve {
     ghost use Rattle.ca_rule.specs.inner.TableSearch.{placements_of};
     ghost use Rattle.ca_rule.specs.inner.TableSieve.{inputs_at, takable, IsSieve, HasIdle, FitNowhere, PassesOver};
 
-    /// The sieve of the first 64 of the transitions of a table with so many states.
+    /// The sieve of the first 64 of the transitions of a table with this many states.
     ///
     /// # Errors
     ///
@@ -66,7 +66,7 @@ impl Sieve {
     }
 
     /// Bits of the first 64 transitions: those that are 0 fit in none of the orders. Under all orders the first that may
-    /// fit is looked at no further where it may fit the ring as it stands.
+    /// fit is looked at no further where it may fit the ring as it is.
     pub(crate) fn passed(&self, orders: Orders, nine: &Nine) -> u64
         requires centred { list_all begins_at_centre (placements_of orders) ≡ true }
         ensures { (variables : List States) (ts : List TransitionValue) → IsSieve variables ts self.now → PassesOver variables nine.now (placements_of orders) ts result }
@@ -114,7 +114,7 @@ impl Sieve {
         bits & self.passed_at(slot + 1, later, nine)
     }
 
-    /// Those that are 0 have a slot behind the centre's, up to this one, that admits none of the cells at the places.
+    /// Those that are 0 have a slot after the centre's, up to this one, that admits none of the cells at the places.
     fn busy(&self, slot: usize, places: &[u8], nine: &Nine) -> u64
         ensures { (variables : List States) (ts : List TransitionValue) → IsSieve variables ts self.now → (k : ℕ) → k < 64 → k < length ts → bit_at result k ≡ 0
             → HasIdle variables nine.now (inputs_at ts k) slot places.now }

@@ -39,7 +39,7 @@ impl Sifted {
     ghost use Rattle.ca_rule.specs.inner.TablePlaces.{begins_at_centre, next_at};
     ghost use Rattle.ca_rule.specs.inner.TableSieve.{Lines};
 
-    /// The transitions of a table with so many states.
+    /// The transitions of a table with this many states.
     ///
     /// # Errors
     ///
@@ -80,7 +80,7 @@ impl Sifted {
     }
 }
 
-/// A sieve of each 64 of the transitions of a table with so many states.
+/// A sieve of each 64 of the transitions of a table with this many states.
 fn sieves_of(
     alloc: Global,
     states: u16,
@@ -99,7 +99,7 @@ fn sieves_of(
     Ok(sieves)
 }
 
-/// The transitions behind the first 64.
+/// The transitions after the first 64.
 fn behind_64(transitions: &[Transition]) -> &[Transition]
     ensures { result.now ≡ drop 64 transitions.now }
 {

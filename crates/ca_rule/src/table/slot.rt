@@ -1,6 +1,6 @@
-//! What stands in the lines of a rule table.
+//! What is in the lines of a rule table.
 
-/// What stands in a slot of a transition.
+/// What is in a slot of a transition.
 #[derive(Clone, Copy, Debug, PartialEq, Eq)]
 pub enum Slot {
     /// One state.

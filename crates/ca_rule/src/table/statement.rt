@@ -35,7 +35,7 @@ pub(crate) fn field_count(neighbourhood: Neighbourhood) -> usize
     }
 }
 
-/// The fields of a transition, where the line is spelled as one of so many slots.
+/// The fields of a transition, where the line is spelled as one of this many slots.
 fn transition_fields(content: &[u8], slots: usize) -> Option<FieldsLeft<'_>>
     ensures { (n : ℕ) → MatchOption result ((fields : List (List ℕ)) → IsTransitionLine (n, content.now) slots fields → ⊥) (λ f. IsTransitionLine (n, content.now) slots (fields_left f)) }
 {
@@ -52,7 +52,7 @@ fn transition_fields(content: &[u8], slots: usize) -> Option<FieldsLeft<'_>>
     Some(fields)
 }
 
-/// What the line states, by its spelling, in a table whose transitions have so many slots.
+/// What the line states, by its spelling, in a table whose transitions have this many slots.
 pub(crate) fn read_statement(content: &[u8], slots: usize) -> Option<Statement<'_>>
     ensures { (n : ℕ) (settings : Settings) (said : Said) → slots ≡ field_count settings → MatchOption result (IsMisspelled settings said (n, content.now)) (IsStatement (n, content.now) slots) }
 {

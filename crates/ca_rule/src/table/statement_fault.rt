@@ -11,7 +11,7 @@ pub(crate) enum StatementFault {
     State,
     /// No earlier variable has the name.
     Name,
-    /// The result is a variable that stands in no input.
+    /// The result is a variable that is no input.
     Unbound,
     /// A growth was refused.
     Memory,
@@ -21,7 +21,7 @@ impl StatementFault {
     ghost use Rattle.std.specs.Prelude.{◌≡◌};
     ghost use Rattle.ca_rule.specs.inner.TableSaying.{fault_at};
 
-    /// The fault of the text, where the statement stands in the line with this number.
+    /// The fault of the text, where the statement is in the line with this number.
     pub(crate) fn at(self, line: u64) -> TableFault
         ensures { result ≡ fault_at line self }
     {

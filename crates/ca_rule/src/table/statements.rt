@@ -45,7 +45,7 @@ impl<'a> Statements<'a> {
         }
     }
 
-    /// The line says one more variable, in a table of so many states.
+    /// The line says one more variable, in a table with this many states.
     fn add_variable(
         &mut self,
         alloc: Global,
@@ -70,7 +70,7 @@ impl<'a> Statements<'a> {
         }
         Ok(())
     }
-    /// The fields say one more transition, in a table of so many states.
+    /// The fields say one more transition, in a table with this many states.
     fn add_transition(
         &mut self,
         alloc: Global,
@@ -133,7 +133,7 @@ impl<'a> Statements<'a> {
     }
 }
 
-/// Whether the result is a number, or a variable that stands among the inputs.
+/// Whether the result is a number, or a variable among the inputs.
 fn is_bound(becomes: Slot, inputs: &[Slot]) -> bool
     ensures { result ≡ is_bound becomes inputs.now }
 {

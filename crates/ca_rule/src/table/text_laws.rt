@@ -15,7 +15,7 @@ pub fn one_table()
 {}
 
 /// Every text is the text of a table that leaves nine zeros 0, or has a fault; the text of a table has no fault but that
-/// the table wakes, and each text has one fault at most. Want of memory is left out: it says nothing about a text.
+/// the table wakes, and each text has one fault at most. Out of memory is left out: it says nothing about a text.
 pub fn table_or_fault()
     ensures none_of_a_table { (bytes : List ℕ) (t : TableRule) (f : TableFault) → IsTable bytes t → IsFaultOf bytes f
         → (f ≡ Memory) ⊎ ((f ≡ Wakes (last_line bytes)) × DoesWake t) }

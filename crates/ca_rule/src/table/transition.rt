@@ -116,7 +116,7 @@ impl Transition {
         self.listed_outcome(variables, later, nine)
     }
 
-    /// The state that the transition gives in the least order of the free places, behind those that are taken, in which
+    /// The state that the transition gives in the least order of the free places, after those that are taken, in which
     /// it fits. The next slot takes one free place after another, from the least on, but of equal cells the first alone;
     /// where the slots don't fit at the places taken so far, no order of the others is tried. Once a place has led to
     /// none, the others are tried only where the slots left aren't too many for the cells that they may take.
@@ -239,8 +239,8 @@ fn fits(variables: &[StateSet], slots: &[Slot], places: &[u8], nine: &Nine) -> b
     each_admits(variables, slots, places, nine) && each_takes_one_cell(slots, places, nine)
 }
 
-/// Whether no variable stands twice among the slots, nor is seen. Each variable is seen by its number's remainder by 64, so
-/// that the answer may be no where two numbers have one remainder.
+/// Whether no variable comes twice among the slots, and none was seen before. A variable is seen by its number's remainder
+/// by 64, so that the answer may be no where two numbers have one remainder.
 fn are_distinct(slots: &[Slot], seen: u64) -> bool
     ensures distinct { result ≡ true → are_distinct slots.now ≡ true }
     ensures apart { result ≡ true → (v : ℕ) → bit_at seen (v % 64) ≡ 1 → list_any (is_variable v) slots.now ≡ false }

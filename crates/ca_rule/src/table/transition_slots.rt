@@ -4,7 +4,7 @@ ghost use Rattle.std.specs.Prelude.{◌≡◌, ◌≤◌, ◌<◌, ◌∷◌, []
 
 use crate::table::slot::Slot;
 
-/// Some of the slots of a transition, and its result behind them.
+/// Some of the slots of a transition, and its result after them.
 #[derive(Clone, Copy)]
 pub(crate) struct TransitionSlots {
     slots: [Slot; 10],

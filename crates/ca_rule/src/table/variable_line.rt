@@ -14,11 +14,11 @@ use ca_plane::bytes::split_blanks;
 #[derive(Clone, Copy)]
 pub(crate) struct VariableLine<'a> {
     pub(crate) name: &'a [u8],
-    /// What stands between the braces.
+    /// What is between the braces.
     pub(crate) inside: &'a [u8],
 }
 
-/// What stands behind `=` and `{`, with blanks before either.
+/// What follows `=` and `{`, with blanks before either.
 fn opened(bytes: &[u8]) -> Option<&[u8]>
     ensures { MatchOption result (opened bytes.now ≡ None) (λ r. opened bytes.now ≡ Some r.now) }
 {
@@ -27,7 +27,7 @@ fn opened(bytes: &[u8]) -> Option<&[u8]>
     behind(b"{", brace)
 }
 
-/// The bytes before a `}` that stands last.
+/// The bytes before a `}` that comes last.
 #[tactic(auto, using(crate::proofs::VariableLines::lasts))]
 fn before_brace(bytes: &[u8]) -> Option<&[u8]>
     ensures { MatchOption result ((r : List ℕ) → bytes.now ≢ r ++ codes "}") (λ r. bytes.now ≡ r.now ++ codes "}") }
@@ -41,21 +41,21 @@ fn before_brace(bytes: &[u8]) -> Option<&[u8]>
     Some(before)
 }
 
-/// What stands in braces behind `=`.
+/// What is in braces after `=`.
 fn braced(bytes: &[u8]) -> Option<&[u8]>
     ensures { MatchOption result ((inside : List ℕ) → IsBraced bytes.now inside → ⊥) (λ r. IsBraced bytes.now r.now) }
 {
     before_brace(opened(bytes)?)
 }
 
-/// How many bytes of a name stand first.
+/// How many bytes of a name come first.
 fn name_length(bytes: &[u8]) -> usize
     ensures { result ≡ prefix_len is_name_byte bytes.now }
 {
     bytes.iter().take_while(|byte| is_name_byte(**byte)).count()
 }
 
-/// The bytes of a name that stand first, and those behind them.
+/// The bytes of a name that come first, and those after them.
 #[tactic(auto, using(ca_plane::proofs::Lengths::fronts))]
 fn split_name(bytes: &[u8]) -> (&[u8], &[u8])
     ensures front { result.0.now ≡ front is_name_byte bytes.now }

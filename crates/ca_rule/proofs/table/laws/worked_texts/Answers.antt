@@ -34,7 +34,7 @@ one_said = record { variables = (codes "a", 1 ∷ 2 ∷ []) ∷ []; transitions 
 abbrev both_said : Said
 both_said = record { variables = (codes "a", 1 ∷ 2 ∷ []) ∷ []; transitions = one_neighbour ∷ [] }
 
--- the lines of the settings, and those behind them
+-- the lines of the settings, and those after them
 abbrev settings_with : List ℕ → List ℕ → List ℕ → List Line
 settings_with states neighbourhood symmetry = (3, states) ∷ (4, neighbourhood) ∷ (5, symmetry) ∷ []
 
