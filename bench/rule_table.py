@@ -135,7 +135,7 @@ class Table:
         return self.variables[field]
 
     def read_variable(self, text, line):
-        """Reads the line of a variable, behind which its name stands for these states."""
+        """Reads the line of a variable, after which its name stands for these states."""
         spelled = VARIABLE.fullmatch(text)
         if not spelled:
             raise Fault("syntax", line)
@@ -170,7 +170,7 @@ def first_word(text):
 
 
 def read_settings(lines, last):
-    """The table that the settings call for, and the lines behind them. The lines are (number, text); `last` is the line at which they end."""
+    """The table that the settings call for, and the lines after them. The lines are (number, text); `last` is the line at which they end."""
     settings = {}
     while lines and (spelled := SETTING.fullmatch(lines[0][1])):
         if spelled[1] in settings:

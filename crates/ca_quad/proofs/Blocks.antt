@@ -12,8 +12,8 @@ use Rattle.ca_quad.specs.inner.Block.{block_cells, IsCell, IsPut, IsRight}
 use Rattle.ca_quad.specs.inner.Filled.{counted}
 
 -- a block of zeros is right where no cell is live
-pub zeros_right : (p : Picture) (at : Spot) (x y : ℕ) → x < 16 → y < 16 → counted p at x y ≡ 0 → IsRight p at (replicate 256 0) x y
-zeros_right p at x y i j z = get_or-replicate 256 (16 * y + x) 0 0 (omega arith) ∙ sym z
+pub zeros_right : (p : Picture) (at : Spot) (x y : ℕ) → x < 32 → y < 32 → counted p at x y ≡ 0 → IsRight p at (replicate 1024 0) x y
+zeros_right p at x y i j z = get_or-replicate 1024 (32 * y + x) 0 0 (omega arith) ∙ sym z
 
 -- a point is one cell of a block at most
 one_x : (at : Spot) (q : Point) (x y a b : ℕ) → IsCell at q x y → IsCell at q a b → x ≡ a
@@ -23,13 +23,13 @@ one_y : (at : Spot) (q : Point) (x y a b : ℕ) → IsCell at q x y → IsCell a
 one_y at q x y a b c d = omega (arith, ints, c.is_y, d.is_y)
 
 -- a state written at the place of the point's cell
-pub put_at : (at : Spot) (q : Point) (state n : ℕ) (old : List ℕ) → length old ≡ 256 → (x : ℕ) × (y : ℕ) × IsCell at q x y × (n ≡ 16 * y + x) → IsPut at q state old (set old n state)
+pub put_at : (at : Spot) (q : Point) (state n : ℕ) (old : List ℕ) → length old ≡ 1024 → (x : ℕ) × (y : ℕ) × IsCell at q x y × (n ≡ 32 * y + x) → IsPut at q state old (set old n state)
 put_at at q state n old long (a, b, is, e) = record {
   here = λ x y c.
-      let f : 16 * y + x ≡ n = omega (arith, one_x at q x y a b c is, one_y at q x y a b c is) in
+      let f : 32 * y + x ≡ n = omega (arith, one_x at q x y a b c is, one_y at q x y a b c is) in
       ap (λ m. get_or (set old n state) m 0) f ∙ get_or-set_same old n state 0 (omega (arith, is.low_x, is.low_y));
   other = λ x y i j apart.
-      get_or-set_other old n (16 * y + x) state 0 (λ f.
+      get_or-set_other old n (32 * y + x) state 0 (λ f.
       let g : x ≡ a = omega (arith, is.low_x) in
       let h : y ≡ b = omega (arith, is.low_x) in
       apart (record { low_x = i; low_y = j; is_x = is.is_x ∙ ap (λ m. at.x +ℤ pos m) (sym g); is_y = is.is_y ∙ ap (λ m. at.y +ℤ pos m) (sym h) }));
@@ -42,6 +42,6 @@ module _ (p : Picture) (sparse : IsSparse p) (at : Spot) (i : ℕ) (low : i < le
       let e = get_or p i d in
       put.here x y c ∙ (sym (cell-listed p sparse i d low) ∙ (ap (λ n. cell p n e.0.y) c.is_x ∙ ap (λ n. cell p (at.x +ℤ pos x) n) c.is_y))
 
-  pub put_keeps : (x y : ℕ) → x < 16 → y < 16 → IsRight p at old x y → IsRight p at new x y
+  pub put_keeps : (x y : ℕ) → x < 32 → y < 32 → IsRight p at old x y → IsRight p at new x y
   put_keeps x y a b h =
       elim (cases_eq (block_cells new x y) (counted p at x y)) [ inl e ↦ e | inr differs ↦ put.other x y a b (λ c. differs (put_right x y c)) ∙ h ]

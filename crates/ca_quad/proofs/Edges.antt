@@ -8,7 +8,7 @@ use Rattle.ca_quad.specs.Squares.{cell_of}
 use Rattle.ca_quad.specs.Trees.{Shows, IsEmpty, from_corner, cell}
 use Rattle.ca_quad.proofs.Cells.{Ends, cell_ends}
 
--- left of a square or behind it
+-- before a square or after it
 abbrev pub IsOff : ℕ → ℤ → Type 0
 IsOff side u = (u <ℤ pos 0) ⊎ (pos side ≤ℤ u)
 

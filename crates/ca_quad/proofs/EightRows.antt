@@ -8,7 +8,7 @@ use Rattle.ca_quad.specs.Squares.{cell_of}
 use Rattle.ca_quad.specs.Trees.{row_cells}
 use Rattle.ca_quad.proofs.Cells.{Ends, cell_ends}
 
--- behind the last cell of a row all bits are 0
+-- after the last cell of a row all bits are 0
 pub row_done : (nodes : List Node) (id x y : ℕ) → 8 ≤ x → (i : ℕ) → bit_at 0 i ≡ cell_of nodes 3 id (x + i) y
 row_done nodes id x y h i = bit_at-zero i ∙ sym (cell_ends nodes 3 id (x + i) y (inl (omega arith)))
 

@@ -19,8 +19,8 @@ module _ (side : ℕ) (w e : ℕ → ℕ → ℕ) (x y : ℕ) where
   in_west : x < side → beside side w e x y ≡ w x y
   in_west h = let f : nat_lt x side ≡ true = grind (arith, nat_tests) in rw f refl
 
-  behind : side ≤ x → beside side w e x y ≡ e (x - side) y
-  behind h = let f : nat_lt x side ≡ false = grind (arith, nat_tests) in rw f refl
+  from_side : side ≤ x → beside side w e x y ≡ e (x - side) y
+  from_side h = let f : nat_lt x side ≡ false = grind (arith, nat_tests) in rw f refl
 
   in_east : beside side w e (x + side) y ≡ e x y
   in_east =
@@ -34,7 +34,7 @@ module _ (side rows : ℕ) (w e : ℕ → ℕ → ℕ) (none : IsEmpty e) where
   west_live x y h =
       elim (below_or_not x side) [
         | inl i ↦ live_as (w x y) (beside side w e x y) (sym (in_west side w e x y i)) h
-        | inr i ↦ absurd (h (behind side w e x y i ∙ none (x - side) y))
+        | inr i ↦ absurd (h (from_side side w e x y i ∙ none (x - side) y))
       ]
 
   west_box : (box : Extent) → IsExtent w side rows box → IsExtent (beside side w e) (side + side) rows box
@@ -52,7 +52,7 @@ module _ (side rows : ℕ) (w e : ℕ → ℕ → ℕ) (none : IsEmpty e) where
 
   pub west_only : (found : Option Extent) → IsExtentOf w side rows found → IsExtentOf (beside side w e) (side + side) rows found
   west_only (Some box) h = west_box box h
-  west_only None h = λ x y. elim (below_or_not x side) [ inl i ↦ in_west side w e x y i ∙ h x y | inr i ↦ behind side w e x y i ∙ none (x - side) y ]
+  west_only None h = λ x y. elim (below_or_not x side) [ inl i ↦ in_west side w e x y i ∙ h x y | inr i ↦ from_side side w e x y i ∙ none (x - side) y ]
 
 -- an eastern square that isn't empty
 module _ (side rows : ℕ) (low : side ≤ 2 ^ 124) (w e : ℕ → ℕ → ℕ) (east box : Extent) (q : IsExtent e side rows east) (right : box.right ≡ min (east.right + side) (2 ^ 128 - 1)) where
@@ -73,7 +73,7 @@ module _ (side rows : ℕ) (low : side ≤ 2 ^ 124) (w e : ℕ → ℕ → ℕ) 
         all = λ x y i. elim (below_or_not x side) [
           | inl j ↦ absurd (i (in_west side w e x y j ∙ none x y))
           | inr j ↦
-              let h = q.all (x - side) y (live_as (e (x - side) y) (beside side w e x y) (sym (behind side w e x y j)) i) in
+              let h = q.all (x - side) y (live_as (e (x - side) y) (beside side w e x y) (sym (from_side side w e x y j)) i) in
               (omega arith, omega arith, omega arith, omega arith)
         ];
         left = (q.left.0, subst (λ x. beside side w e x q.left.0 ≢ 0) (sym left_is) (e_live east.left q.left.0 q.left.1));
@@ -97,7 +97,7 @@ module _ (side rows : ℕ) (low : side ≤ 2 ^ 124) (w e : ℕ → ℕ → ℕ) 
               let h = p.all x y (live_as (w x y) (beside side w e x y) (sym (in_west side w e x y j)) i) in
               (omega arith, omega (arith, right_is), omega arith, omega arith)
           | inr j ↦
-              let h = q.all (x - side) y (live_as (e (x - side) y) (beside side w e x y) (sym (behind side w e x y j)) i) in
+              let h = q.all (x - side) y (live_as (e (x - side) y) (beside side w e x y) (sym (from_side side w e x y j)) i) in
               let l = p.all west.left p.left.0 p.left.1 in
               (omega (arith, p.is_right), omega (arith, right_is), omega arith, omega arith)
         ]

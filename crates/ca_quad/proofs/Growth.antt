@@ -70,7 +70,7 @@ good_stays places old new same (Join k nw ne sw se) h = (
   h.1,
 )
 
--- a good node that isn't there yet may be put behind the others
+-- a good node that isn't there yet may be put after the others
 module _ (nodes : List Node) (node : Node) (sound : IsSound nodes) (good : IsGood nodes (length nodes) node)
     (absent : (place : ℕ) → place < length nodes → node_at nodes place ≡ node → ⊥) where
   first : SameFirst (length nodes) nodes (nodes ++ node ∷ [])
@@ -128,7 +128,7 @@ grows_on old mid new g h = record {
   kept = λ place p. h.kept place (omega arith) ∙ g.kept place p;
 }
 
--- the node is put behind the others, where it isn't there
+-- the node is put after the others, where it isn't there
 pub put_grows : (nodes : List Node) (node : Node) → IsSound nodes → IsGood nodes (length nodes) node → Grows nodes (insert_key node_eq nodes node)
 put_grows nodes node sound good =
     elim (cases_Bool (list_any (node_eq node) nodes)) [

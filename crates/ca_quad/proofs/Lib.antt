@@ -26,3 +26,4 @@ pub mod Rings
 pub mod Shown
 pub mod Middle
 pub mod Trims
+pub mod Copied

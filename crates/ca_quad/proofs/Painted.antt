@@ -78,7 +78,7 @@ module _ (nodes : List Node) where
   live_last [] r x y h = inl h
   live_last (q ∷ rs) r x y h = inr (live_last rs r x y h)
 
-  -- a square behind the others
+  -- a square after the others
   pub added : (square : Placed) (old new : List Placed) → new ≡ old ++ square ∷ [] → IsAdded nodes square old new
   added square old new e = rw e (record {
     live = λ x y h. elim h [ inl l ↦ live_left old (square ∷ []) x y l | inr l ↦ live_last old square x y l ];

@@ -109,3 +109,8 @@ window_all new (Err e) k cells ends h = tt
 pub rows_end : (rows : List ℕ) → length rows ≡ 8 → ((y : ℕ) → slice_index rows y < 256) → Ends 8 (row_cells rows)
 rows_end rows eight low x y (inl h) = bit_at_above (slice_index rows y) 8 x (low y) h
 rows_end rows eight low x y (inr h) = rw (get_or_past rows y 0 (omega arith)) (bit_at-zero x)
+
+-- a window of cells that agree there with others
+pub window_as : {E : Type 0} (new : List Node) (r : Result ℕ E) (k : ℕ) (p q : ℕ → ℕ → ℕ) → ((x y : ℕ) → x < 2 ^ k → y < 2 ^ k → p x y ≡ q x y) → IfOk r (λ id. ShowsFrom new id k p 0 0) → IfOk r (λ id. ShowsFrom new id k q 0 0)
+window_as new (Ok id) k p q same h = record { is_square = h.is_square; has_cells = λ x y i j. h.has_cells x y i j ∙ same (0 + x) (0 + y) (omega arith) (omega arith) }
+window_as new (Err e) k p q same h = tt

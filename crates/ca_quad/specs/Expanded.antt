@@ -23,7 +23,7 @@ pub record IsExpanded (nodes : List Node) (tree : Tree) (picture : Picture) : Ty
   pub shows : (x y : ℤ) → plane.cell picture x y ≡ cell nodes tree x y
   pub few : HasFewCells (cell nodes tree)
 
--- why a tree isn't made a plane; want of memory may come at any time
+-- why a tree isn't made a plane; memory may run out at any time
 abbrev pub IsRefused : List Node → Tree → QuadFault → Type 0
 IsRefused nodes tree Memory = Unit {0}
 IsRefused nodes tree Range = LeavesPlane (cell nodes tree)

@@ -13,7 +13,7 @@ pub record HasParts (nodes : List Node) (places level nw ne sw se : ℕ) : Type 
   pub is_sw : IsAmong nodes places sw (level - 1)
   pub is_se : IsAmong nodes places se (level - 1)
 
--- the node may be kept behind the first places: it isn't named by its cells, and its parts come earlier
+-- the node may be kept after the first places: it isn't named by its cells, and its parts are at those places
 abbrev pub IsGood : List Node → ℕ → Node → Type 0
 IsGood nodes places (Leaf nw ne sw se) = 2 ≤ max (max nw ne) (max sw se)
 IsGood nodes places (Block n) = n < 2 ^ 64
@@ -23,12 +23,12 @@ IsGood nodes places (Join level nw ne sw se) = HasParts nodes places level nw ne
 abbrev pub node_at : List Node → ℕ → Node
 node_at nodes place = slice_index_or nodes place (Leaf 0 0 0 0)
 
--- each node is good, and none stands twice
+-- each node is good, and none is listed twice
 pub record IsSound (nodes : List Node) : Type 0 where
   pub good : (place : ℕ) → place < length nodes → IsGood nodes place (node_at nodes place)
   pub once : (i j : ℕ) → i < length nodes → j < length nodes → node_at nodes i ≡ node_at nodes j → i ≡ j
 
--- the new nodes are the old ones, and more behind them
+-- the new nodes are the old ones, and then more
 pub record Grows (old new : List Node) : Type 0 where
   pub sound : IsSound new
   pub longer : length old ≤ length new

@@ -13,3 +13,4 @@ pub mod Ring
 pub mod Filled
 pub mod Rows
 pub mod Block
+pub mod Copied

@@ -2,7 +2,7 @@
 
 use crate::id::Id;
 
-/// A square that is kept. Its corners and parts stand in the order north-west, north-east, south-west, south-east.
+/// A square that is kept. Its corners and parts are in the order north-west, north-east, south-west, south-east.
 #[derive(Clone, Copy, PartialEq, Eq, Hash, Drop)]
 pub enum Node {
     /// The four cells of a 2 by 2 square, of which one at least has a state above 1.

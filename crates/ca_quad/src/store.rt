@@ -15,6 +15,7 @@ mod extent;
 mod found;
 mod from_plane;
 mod greatest;
+mod import;
 mod leaf8;
 mod make;
 mod numbered;

@@ -1,4 +1,4 @@
-//! Squares and trees whose cells are known.
+//! Squares and trees whose cells are known. A test makes a store and lends it to small functions, so that each proof is short.
 
 ghost use Rattle.std.specs.Prelude.{◌≡◌, ◌≤◌, IsTrue, IfOk};
 ghost use Rattle.ca_quad.specs.Squares.{IsOf};
@@ -10,6 +10,8 @@ mod walks;
 use super::*;
 use crate::named::Named;
 use ca_plane::Memory;
+use std::alloc::Global;
+use std::process::Abort;
 use std::test::*;
 
 // Whether the id is one of this store.
@@ -81,6 +83,50 @@ fn is_empty(store: &Store, id: Id) -> Result<bool, Fail> {
     Ok(store.is_empty(id))
 }
 
+// The two squares are one.
+fn assert_one(rt: &impl Abort, a: Id, b: Id) {
+    assert_eq!(rt; a, b);
+}
+
+// So many squares are kept.
+fn assert_count(rt: &impl Abort, store: &Store, count: usize) {
+    assert_eq!(rt; store.count(), count);
+}
+
+// The square is empty, or it isn't.
+fn assert_empty(rt: &impl Abort, store: &Store, id: Id, empty: bool) -> Result<(), Fail> {
+    assert_eq!(rt; is_empty(store, id)?, empty);
+    Ok(())
+}
+
+// The cell of the tree with this root has this state.
+fn assert_cell(
+    rt: &impl Abort,
+    store: &Store,
+    root: Id,
+    x: i128,
+    y: i128,
+    state: u8,
+) -> Result<(), Fail> {
+    assert_eq!(rt; cell_at(store, root, x, y)?, state);
+    Ok(())
+}
+
+// The four corners of the tree with this root have these states.
+fn assert_corners(
+    rt: &impl Abort,
+    store: &Store,
+    root: Id,
+    far: i128,
+    states: [u8; 4],
+) -> Result<(), Fail> {
+    let [nw, ne, sw, se] = states;
+    assert_cell(rt, store, root, !far, !far, nw)?;
+    assert_cell(rt, store, root, far, !far, ne)?;
+    assert_cell(rt, store, root, !far, far, sw)?;
+    assert_cell(rt, store, root, far, far, se)
+}
+
 #[derive(Clone, Copy, Drop)]
 enum Corner {
     NorthWest,
@@ -114,64 +160,116 @@ fn one_cell(store: &mut Store, corner: Corner, state: u8, level: u8) -> Result<I
     Ok(square)
 }
 
+// The empty square of level 3, made of its parts.
+fn empty_of_parts(store: &mut Store) -> Result<Id, Fail> {
+    let part = empty(store, 2)?;
+    joined(store, part, part, part, part)
+}
+
 #[test]
 fn empty_squares_are_one(rt: HostRuntime) -> Result<(), Fail> {
     let mut store = Store::new(rt.alloc());
-    let part = empty(&mut store, 2)?;
-    let whole = empty(&mut store, 3)?;
-    assert_eq!(rt; joined(&mut store, part, part, part, part)?, whole);
-    assert_eq!(rt; store.from_leaf8(&[0; 8])?, whole);
-    assert!(rt; is_empty(&store, whole)?);
+    empty_squares(&rt, &mut store)
+}
+
+fn empty_squares(rt: &impl Abort, store: &mut Store) -> Result<(), Fail> {
+    let whole = empty(store, 3)?;
+    assert_one(rt, empty_of_parts(store)?, whole);
+    assert_one(rt, store.from_leaf8(&[0; 8])?, whole);
+    assert_empty(rt, store, whole, true)?;
     let dot = store.leaf(0, 0, 0, 1)?;
-    assert!(rt; !is_empty(&store, dot)?);
+    assert_empty(rt, store, dot, false)
+}
+
+// The square of level 2 with a glider in its western and northern part.
+fn glider_of_leaves(store: &mut Store) -> Result<Id, Fail> {
+    let nw = store.leaf(0, 1, 0, 0)?;
+    let ne = store.leaf(0, 0, 1, 0)?;
+    let sw = store.leaf(1, 1, 0, 0)?;
+    let se = store.leaf(1, 0, 0, 0)?;
+    joined(store, nw, ne, sw, se)
+}
+
+// The same at one end of a square of level 3, and a cell at the other.
+fn glider_and_dot(store: &mut Store) -> Result<Id, Fail> {
+    let glider = glider_of_leaves(store)?;
+    let dot = one_cell(store, Corner::SouthEast, 1, 2)?;
+    let rest = empty(store, 2)?;
+    joined(store, glider, rest, rest, dot)
+}
+
+// The row of the tree of level 3 with this root has these cells, a bit each.
+fn assert_row(rt: &impl Abort, store: &Store, root: Id, y: i128, row: u8) -> Result<(), Fail> {
+    'cells: for x in 0..8u8 {
+        assert_cell(rt, store, root, i128::from(x) - 4, y, row >> x & 1)?;
+    }
+    Ok(())
+}
+
+// All rows of the tree have these cells.
+fn assert_rows(rt: &impl Abort, store: &Store, root: Id, rows: [u8; 8]) -> Result<(), Fail> {
+    'rows: for y in 0..8u8 {
+        assert_row(rt, store, root, i128::from(y) - 4, rows[y as usize])?;
+    }
     Ok(())
 }
 
 #[test]
 fn rows_and_leaves_make_one_square(rt: HostRuntime) -> Result<(), Fail> {
     let mut store = Store::new(rt.alloc());
-    let rows = store.from_leaf8(&[2, 4, 7, 0, 0, 0, 0, 128])?;
-    let nw = store.leaf(0, 1, 0, 0)?;
-    let ne = store.leaf(0, 0, 1, 0)?;
-    let sw = store.leaf(1, 1, 0, 0)?;
-    let se = store.leaf(1, 0, 0, 0)?;
-    let glider = joined(&mut store, nw, ne, sw, se)?;
-    let dot = one_cell(&mut store, Corner::SouthEast, 1, 2)?;
-    let rest = empty(&mut store, 2)?;
-    assert_eq!(rt; joined(&mut store, glider, rest, rest, dot)?, rows);
-    'rows: for (y, row) in [(-4, 2), (-3, 4), (-2, 7), (-1, 0), (0, 0), (3, 128), (4, 0)] {
-        'cells: for (x, bit) in [(-4, 1), (-3, 2), (-2, 4), (-1, 8), (0, 16), (3, 128)] {
-            assert_eq!(rt; cell_at(&store, rows, x, y)?, u8::from(row & bit != 0));
-        }
-    }
-    Ok(())
+    rows_and_leaves(&rt, &mut store)
+}
+
+fn rows_and_leaves(rt: &impl Abort, store: &mut Store) -> Result<(), Fail> {
+    let rows = [2, 4, 7, 0, 0, 0, 0, 128];
+    let root = store.from_leaf8(&rows)?;
+    assert_one(rt, glider_and_dot(store)?, root);
+    assert_row(rt, store, root, 4, 0)?;
+    assert_rows(rt, store, root, rows)
+}
+
+// The square of these four, which is made twice and kept once.
+fn joined_twice(
+    rt: &impl Abort,
+    store: &mut Store,
+    nw: Id,
+    ne: Id,
+    sw: Id,
+    se: Id,
+) -> Result<Id, Fail> {
+    let square = joined(store, nw, ne, sw, se)?;
+    let count = store.count();
+    assert_one(rt, joined(store, nw, ne, sw, se)?, square);
+    assert_count(rt, store, count);
+    Ok(square)
+}
+
+// The tree with this root, whose north-western and south-eastern parts have more states than two, has these cells.
+fn assert_mixed(rt: &impl Abort, store: &Store, root: Id, far: i128) -> Result<(), Fail> {
+    assert_corners(rt, store, root, far, [3, 1, 1, 255])?;
+    assert_cell(rt, store, root, 0, 0, 3)?;
+    assert_cell(rt, store, root, -1, 0, 1)
 }
 
 #[test]
 fn two_states_and_more_lie_together_at_every_level(rt: HostRuntime) -> Result<(), Fail> {
     let mut store = Store::new(rt.alloc());
+    let root = two_states_and_more(&rt, &mut store)?;
+    assert_eq!(rt; level_of(&store, root)?, 125);
+    Ok(())
+}
+
+fn two_states_and_more(rt: &impl Abort, store: &mut Store) -> Result<Id, Fail> {
     let mut two = store.leaf(0, 1, 1, 0)?;
     let mut more = store.leaf(3, 0, 0, 255)?;
     let mut far: i128 = 0;
     'levels: for _ in 1..125 {
-        let mixed = joined(&mut store, more, two, two, more)?;
-        let larger = joined(&mut store, two, two, two, two)?;
-        let count = store.count();
-        assert_eq!(rt; joined(&mut store, more, two, two, more)?, mixed);
-        assert_eq!(rt; joined(&mut store, two, two, two, two)?, larger);
-        assert_eq!(rt; store.count(), count);
-        more = mixed;
-        two = larger;
+        more = joined_twice(rt, store, more, two, two, more)?;
+        two = joined_twice(rt, store, two, two, two, two)?;
         far = far << 1 | 1;
-        assert_eq!(rt; cell_at(&store, more, !far, !far)?, 3);
-        assert_eq!(rt; cell_at(&store, more, far, !far)?, 1);
-        assert_eq!(rt; cell_at(&store, more, !far, far)?, 1);
-        assert_eq!(rt; cell_at(&store, more, far, far)?, 255);
-        assert_eq!(rt; cell_at(&store, more, 0, 0)?, 3);
-        assert_eq!(rt; cell_at(&store, more, -1, 0)?, 1);
+        assert_mixed(rt, store, more, far)?;
     }
-    assert_eq!(rt; level_of(&store, more)?, 125);
-    Ok(())
+    Ok(more)
 }
 
 // Four squares of this level with one cell each, joined so that it lies in a corner.
@@ -186,21 +284,21 @@ fn four_corners(store: &mut Store, part: u8) -> Result<Id, Fail> {
 #[test]
 fn a_cell_lies_in_each_corner(rt: HostRuntime) -> Result<(), Fail> {
     let mut store = Store::new(rt.alloc());
-    let levels: [(u8, i128); 2] = [
-        (63, 9223372036854775807),
-        (124, 21267647932558653966460912964485513215),
-    ];
-    'levels: for (part, far) in levels {
-        let whole = four_corners(&mut store, part)?;
-        assert!(rt; !is_empty(&store, whole)?);
-        assert_eq!(rt; cell_at(&store, whole, !far, !far)?, 1);
-        assert_eq!(rt; cell_at(&store, whole, far, !far)?, 2);
-        assert_eq!(rt; cell_at(&store, whole, !far, far)?, 1);
-        assert_eq!(rt; cell_at(&store, whole, far, far)?, 255);
-        assert_eq!(rt; cell_at(&store, whole, 0, 0)?, 0);
-        assert_eq!(rt; cell_at(&store, whole, -1, -1)?, 0);
-    }
-    Ok(())
+    assert_four_corners(&rt, &mut store, 63, 9223372036854775807)?;
+    assert_four_corners(&rt, &mut store, 124, 21267647932558653966460912964485513215)
+}
+
+fn assert_four_corners(
+    rt: &impl Abort,
+    store: &mut Store,
+    part: u8,
+    far: i128,
+) -> Result<(), Fail> {
+    let whole = four_corners(store, part)?;
+    assert_empty(rt, store, whole, false)?;
+    assert_corners(rt, store, whole, far, [1, 2, 1, 255])?;
+    assert_cell(rt, store, whole, 0, 0, 0)?;
+    assert_cell(rt, store, whole, -1, -1, 0)
 }
 
 // A square of a state above 1, another for each number below 2^24.
@@ -213,18 +311,22 @@ fn numbered(store: &mut Store, n: u32) -> Result<Id, Memory> {
     )
 }
 
+// The squares of the numbers below this one.
+fn all_numbered(store: &mut Store, alloc: Global, count: u32) -> Result<Vec<Id>, Memory> {
+    let mut squares = Vec::new(alloc);
+    'numbers: for n in 0..count {
+        squares.push(numbered(store, n)?)?;
+    }
+    Ok(squares)
+}
+
 #[test]
 fn many_squares_are_kept_once(rt: HostRuntime) -> Result<(), Fail> {
     let mut store = Store::new(rt.alloc());
-    let mut squares = Vec::new(rt.alloc());
-    'made: for n in 0u32..100000 {
-        squares.push(numbered(&mut store, n)?)?;
-    }
-    assert_eq!(rt; store.count(), 100000);
-    'again: for n in 0u32..100000 {
-        let square = numbered(&mut store, n)?;
-        assert_eq!(rt; squares.get(n as usize).copied(), Some(square));
-    }
-    assert_eq!(rt; store.count(), 100000);
+    let first = all_numbered(&mut store, rt.alloc(), 100000)?;
+    assert_count(&rt, &store, 100000);
+    let again = all_numbered(&mut store, rt.alloc(), 100000)?;
+    assert_eq!(rt; again.as_slice(), first.as_slice());
+    assert_count(&rt, &store, 100000);
     Ok(())
 }

@@ -12,7 +12,7 @@ abbrev pub ringed : ℕ → (ℕ → ℕ → ℕ) → (ℕ → ℕ → ℕ) → 
 ringed side nw ne sw se =
     together (side + side) (together side none none none nw) (together side none none ne none) (together side none sw none none) (together side se none none none)
 
--- it is before the middle, or behind it
+-- it is before the middle, or after it
 abbrev pub IsOut : ℕ → ℕ → Type 0
 IsOut side n = (n < side) ⊎ (side + side + side ≤ n)
 

@@ -1,4 +1,4 @@
-//! Blocks of 16 by 16 cells, which are read at once.
+//! Blocks of 32 by 32 cells or less, which are read at once.
 
 ghost use Rattle.std.specs.Prelude.{◌≡◌, ℕ, ◌+◌, ◌<◌, ◌≤◌, ◌^◌, pos, neg_ℤ, ◌+ℤ◌, ◌≤ℤ◌, IfOk, MatchOption};
 ghost use Rattle.ca_plane.specs.Sparse.{IsSparse};
@@ -16,30 +16,33 @@ use crate::tree::Spot;
 use ca_plane::{Memory, Point};
 
 impl Store {
-    // The square of level 4 whose corner lies there and which shows the cells, of which the rows hold all that lie there.
+    // The square of this level, at most 5, whose corner lies there and which shows the cells, of which the rows hold all that lie there.
     pub(super) fn fill_block(
         &mut self,
         cells: &[(Point, u8)],
         rows: &[Row],
+        level: u8,
         at: Spot,
     ) -> Result<Id, Memory>
-        requires near { LiesNear 16 at }
+        requires least { 1 ≤ level }
+        requires most { level ≤ 5 }
+        requires near { LiesNear (2 ^ level) at }
         requires sparse { IsSparse cells.now }
         requires rows { AreRows cells.now rows.now }
-        requires cover { Cover cells.now rows.now 16 at }
-        ensures shows { IfOk result (λ id. ShowsFrom self.new id 4 (counted cells.now at) 0 0) }
+        requires cover { Cover cells.now rows.now (2 ^ level) at }
+        ensures shows { IfOk result (λ id. ShowsFrom self.new id level (counted cells.now at) 0 0) }
         ensures grows { Grows self.old self.new }
     {
         let states = states_of(cells, rows, at);
-        self.gather(&states, 4, 0, 0)
+        self.gather(&states, level, 0, 0)
     }
 
     // The square of this level with the cells of a block from a place on.
-    fn gather(&mut self, states: &[u8; 256], level: u8, x: usize, y: usize) -> Result<Id, Memory>
+    fn gather(&mut self, states: &[u8; 1024], level: u8, x: usize, y: usize) -> Result<Id, Memory>
         requires least { 1 ≤ level }
-        requires most { level ≤ 4 }
-        requires x { x + 2 ^ level ≤ 16 }
-        requires y { y + 2 ^ level ≤ 16 }
+        requires most { level ≤ 5 }
+        requires x { x + 2 ^ level ≤ 32 }
+        requires y { y + 2 ^ level ≤ 32 }
         ensures shows { IfOk result (λ id. ShowsFrom self.new id level (block_cells states.now) x y) }
         ensures grows { Grows self.old self.new }
     {
@@ -55,9 +58,9 @@ impl Store {
     }
 
     // The 2 by 2 square with the cells of a block from a place on.
-    fn gather_leaf(&mut self, states: &[u8; 256], x: usize, y: usize) -> Result<Id, Memory>
-        requires x { x ≤ 14 }
-        requires y { y ≤ 14 }
+    fn gather_leaf(&mut self, states: &[u8; 1024], x: usize, y: usize) -> Result<Id, Memory>
+        requires x { x ≤ 30 }
+        requires y { y ≤ 30 }
         ensures shows { IfOk result (λ id. ShowsFrom self.new id 1 (block_cells states.now) x y) }
         ensures grows { Grows self.old self.new }
     {
@@ -71,23 +74,22 @@ impl Store {
 }
 
 // The state of a block's cell.
-fn block_cell(states: &[u8; 256], x: usize, y: usize) -> u8
-    requires x { x ≤ 15 }
-    requires y { y ≤ 15 }
+fn block_cell(states: &[u8; 1024], x: usize, y: usize) -> u8
+    requires x { x ≤ 31 }
+    requires y { y ≤ 31 }
     ensures { result ≡ block_cells states.now x y }
 {
-    states[16 * y + x]
+    states[32 * y + x]
 }
 
-// The states of the block whose corner lies there; the rows hold all cells that lie there.
-fn states_of(cells: &[(Point, u8)], rows: &[Row], at: Spot) -> [u8; 256]
-    requires near { LiesNear 16 at }
+// The states of the block whose corner lies there, as far as the rows hold all cells that lie there.
+fn states_of(cells: &[(Point, u8)], rows: &[Row], at: Spot) -> [u8; 1024]
+    requires near { LiesNear 0 at }
     requires sparse { IsSparse cells.now }
     requires rows { AreRows cells.now rows.now }
-    requires cover { Cover cells.now rows.now 16 at }
-    ensures { (x y : ℕ) → x < 16 → y < 16 → IsRight cells.now at result x y }
+    ensures { (side : ℕ) → side ≤ 32 → Cover cells.now rows.now side at → (x y : ℕ) → x < side → y < side → IsRight cells.now at result x y }
 {
-    let mut states = [0; 256];
+    let mut states = [0; 1024];
     'rows: for &row in rows {
         put_row(&mut states, cells, row, at);
     }
@@ -95,12 +97,12 @@ fn states_of(cells: &[(Point, u8)], rows: &[Row], at: Spot) -> [u8; 256]
 }
 
 // Writes the states of a row's cells, of those that lie in the block.
-fn put_row(states: &mut [u8; 256], cells: &[(Point, u8)], row: Row, at: Spot)
-    requires near { LiesNear 16 at }
+fn put_row(states: &mut [u8; 1024], cells: &[(Point, u8)], row: Row, at: Spot)
+    requires near { LiesNear 0 at }
     requires sparse { IsSparse cells.now }
     requires row { IsRow cells.now row }
     ensures put { (i x y : ℕ) → IsInRow row i → IsCell at (point_at cells.now i) x y → IsRight cells.now at states.new x y }
-    ensures kept { (x y : ℕ) → x < 16 → y < 16 → IsRight cells.now at states.old x y → IsRight cells.now at states.new x y }
+    ensures kept { (x y : ℕ) → x < 32 → y < 32 → IsRight cells.now at states.old x y → IsRight cells.now at states.new x y }
 {
     'places: for place in row.first..row.end {
         let (point, state) = cells[place];
@@ -109,8 +111,8 @@ fn put_row(states: &mut [u8; 256], cells: &[(Point, u8)], row: Row, at: Spot)
 }
 
 // Writes the state of a cell, where it lies in the block.
-fn put_cell(states: &mut [u8; 256], point: Point, state: u8, at: Spot)
-    requires near { LiesNear 16 at }
+fn put_cell(states: &mut [u8; 1024], point: Point, state: u8, at: Spot)
+    requires near { LiesNear 0 at }
     ensures { IsPut at point state states.old states.new }
 {
     if let Some(place) = place_in(point, at) {
@@ -120,25 +122,25 @@ fn put_cell(states: &mut [u8; 256], point: Point, state: u8, at: Spot)
 
 // The place of a point's state in a block, where the point lies there.
 fn place_in(point: Point, at: Spot) -> Option<usize>
-    requires near { LiesNear 16 at }
+    requires near { LiesNear 0 at }
     ensures { TellsPlace at point result }
 {
     let x = way(at.x, point.x)?;
     let y = way(at.y, point.y)?;
-    Some(16 * y + x)
+    Some(32 * y + x)
 }
 
-// How far the coordinate lies behind the first one, where that is less than 16.
+// How far the coordinate is from the first one, where it is not below it and less than 32 above it.
 fn way(first: i128, coordinate: i64) -> Option<usize>
     requires low { neg_ℤ (pos (2 ^ 64)) ≤ℤ first }
-    requires high { (first +ℤ pos 16) ≤ℤ pos (2 ^ 64) }
-    ensures { MatchOption result ((n : ℕ) → n < 16 → coordinate ≡ first +ℤ pos n → ⊥) (λ n. (n < 16) × (coordinate ≡ first +ℤ pos n)) }
+    requires high { (first +ℤ pos 0) ≤ℤ pos (2 ^ 64) }
+    ensures { MatchOption result ((n : ℕ) → n < 32 → coordinate ≡ first +ℤ pos n → ⊥) (λ n. (n < 32) × (coordinate ≡ first +ℤ pos n)) }
 {
     let way = i128::from(coordinate) - first;
     if way < 0 {
         return None;
     }
-    if way >= 16 {
+    if way >= 32 {
         return None;
     }
     Some(way as usize)

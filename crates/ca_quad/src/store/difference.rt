@@ -44,7 +44,7 @@ impl Store {
         Some((left + x, top + y))
     }
 
-    // Two quarters of two squares that stand at one place and aren't the same, and their way from the left and from the top.
+    // Two quarters of two squares that lie at one place and aren't the same, and their way from the left and from the top.
     fn unequal_quarters(&self, a: Id, b: Id) -> Option<(Id, Id, u128, u128)>
         requires a { IsIn self.now a }
         requires b { IsIn self.now b }

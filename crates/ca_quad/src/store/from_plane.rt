@@ -1,6 +1,6 @@
 //! Planes that are made trees.
 
-ghost use Rattle.std.specs.Prelude.{◌≡◌, ℕ, ◌-◌, ◌≤◌, ◌^◌, ℤ, IsTrue, IfOk};
+ghost use Rattle.std.specs.Prelude.{◌≡◌, ℕ, ◌-◌, ◌≤◌, ◌^◌, ℤ, IsTrue, IsFalse, IfOk};
 ghost use Rattle.ca_plane.specs.Plane.{cell as plane_cell};
 ghost use Rattle.ca_plane.specs.Sparse.{IsSparse};
 ghost use Rattle.ca_quad.specs.Sound.{Grows};
@@ -20,8 +20,10 @@ use crate::tree::{Spot, Tree};
 use ca_plane::{Bounds, Memory, Plane, Point};
 use std::alloc::Global;
 
-// A tree of this level is a block.
+// A square of this level is a block, and so is one of the next with this many rows: lone cells would make it dear.
 const LEAST: u8 = 4;
+
+const MANY: usize = 8;
 
 // A tree of this level holds every point of a plane.
 const LARGEST: u8 = 65;
@@ -73,8 +75,8 @@ impl Store {
         if rows.is_empty() {
             return Ok(empty);
         }
-        if level == LEAST {
-            return self.fill_block(cells, rows, at);
+        if is_block(level, rows.len()) {
+            return self.fill_block(cells, rows, level, at);
         }
         let [part, _, _, _] = self.children(empty);
         let corners = part_corners(at, half_side(level));
@@ -85,6 +87,18 @@ impl Store {
         let se = self.fill(alloc, cells, &parts.se, part, level - 1, corners.se)?;
         self.join(nw, ne, sw, se)
     }
+}
+
+// Whether a square of this level with so many rows is read at once.
+fn is_block(level: u8, rows: usize) -> bool
+    requires { 4 ≤ level }
+    ensures small { IsTrue result → level ≤ 5 }
+    ensures large { IsFalse result → 5 ≤ level }
+{
+    if level == LEAST {
+        return true;
+    }
+    level == LEAST + 1 && rows >= MANY
 }
 
 // The least level, from 4 to 65, of trees that hold every live cell of a plane.

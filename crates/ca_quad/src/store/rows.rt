@@ -9,8 +9,11 @@ use crate::tree::Spot;
 use ca_plane::{Memory, Point};
 use std::alloc::Global;
 
-// A column behind every cell of a plane.
-const BEHIND: i128 = 4611686018427387905;
+// A column east of every cell of a plane.
+const BEYOND: i128 = 4611686018427387905;
+
+// So few cells are searched one after the other.
+const FEW: usize = 16;
 
 // Cells of one y, by their places in the list of a plane's cells.
 #[derive(Clone, Copy, Drop)]
@@ -49,12 +52,12 @@ fn row_from(cells: &[(Point, u8)], first: usize) -> Row
     row_of(point, first, end)
 }
 
-// The spot behind the cells of a point's row.
+// The spot after the cells of a point's row.
 fn end_of(point: Point) -> Spot
     ensures { result.y ≡ point.y }
 {
     Spot {
-        x: BEHIND,
+        x: BEYOND,
         y: i128::from(point.y),
     }
 }
@@ -80,16 +83,28 @@ fn search(cells: &[(Point, u8)], first: usize, end: usize, at: Spot) -> usize
     ensures least { first ≤ result }
     ensures most { result ≤ end }
     ensures before { (i : ℕ) → first ≤ i → i < result → ComesBefore (point_at cells.now i) at }
-    ensures behind { (i : ℕ) → result ≤ i → i < end → ComesBefore (point_at cells.now i) at → ⊥ }
+    ensures after { (i : ℕ) → result ≤ i → i < end → ComesBefore (point_at cells.now i) at → ⊥ }
 {
     if first == end {
         return first;
     }
-    let middle = first + (end - first) / 2;
+    let middle = place_between(first, end);
     if comes_before(cells[middle].0, at) {
         return search(cells, middle + 1, end, at);
     }
     search(cells, first, middle, at)
+}
+
+// The place at which a search looks: the first of few, else the middle one.
+fn place_between(first: usize, end: usize) -> usize
+    requires { first < end }
+    ensures least { first ≤ result }
+    ensures most { result < end }
+{
+    if end - first <= FEW {
+        return first;
+    }
+    first + (end - first) / 2
 }
 
 // Whether the point comes before the spot, row by row.

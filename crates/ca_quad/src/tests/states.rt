@@ -1,7 +1,6 @@
 //! How many cells are live, and the greatest state, in trees whose cells are known.
 
 use super::*;
-use std::alloc::Global;
 
 // How many cells of the tree with this root are live.
 fn population(store: &Store, alloc: Global, root: Id) -> Result<u128, Fail> {
@@ -30,46 +29,77 @@ fn joined_in_fours(store: &mut Store, alloc: Global, squares: &[Id]) -> Result<V
     Ok(larger)
 }
 
+// The greatest state of the tree with this root is this one.
+fn assert_greatest(
+    rt: &impl Abort,
+    store: &Store,
+    alloc: Global,
+    root: Id,
+    state: u8,
+) -> Result<(), Fail> {
+    assert_eq!(rt; greatest(store, alloc, root)?, state);
+    Ok(())
+}
+
+// Of two squares with a cell each in this corner, one with state 2 in the place of the other's part, the greatest state is told.
+fn assert_corner(
+    rt: &impl Abort,
+    store: &mut Store,
+    alloc: Global,
+    corner: Corner,
+    level: u8,
+) -> Result<(), Fail> {
+    let one = one_cell(store, corner, 1, level)?;
+    assert_greatest(rt, store, alloc, one, 1)?;
+    let two = one_cell(store, corner, 2, level)?;
+    let both = in_corner(store, corner, two, one)?;
+    assert_greatest(rt, store, alloc, both, 2)
+}
+
+// The same in each corner, and in the empty square.
+fn assert_level(rt: &impl Abort, store: &mut Store, alloc: Global, level: u8) -> Result<(), Fail> {
+    let rest = empty(store, level)?;
+    assert_greatest(rt, store, alloc, rest, 0)?;
+    assert_corner(rt, store, alloc, Corner::NorthWest, level)?;
+    assert_corner(rt, store, alloc, Corner::NorthEast, level)?;
+    assert_corner(rt, store, alloc, Corner::SouthWest, level)?;
+    assert_corner(rt, store, alloc, Corner::SouthEast, level)
+}
+
+// Squares of two states have no state above 1.
+fn assert_two_states(rt: &impl Abort, store: &mut Store, alloc: Global) -> Result<(), Fail> {
+    let dot = store.leaf(0, 0, 1, 0)?;
+    assert_greatest(rt, store, alloc, dot, 1)?;
+    let glider = store.from_leaf8(&[0, 0, 0, 0, 32, 64, 112, 0])?;
+    assert_greatest(rt, store, alloc, glider, 1)
+}
+
 #[test]
 fn the_greatest_state_is_told(rt: HostRuntime) -> Result<(), Fail> {
     let mut store = Store::new(rt.alloc());
-    let dot = store.leaf(0, 0, 1, 0)?;
-    assert_eq!(rt; greatest(&store, rt.alloc(), dot)?, 1);
-    let glider = store.from_leaf8(&[0, 0, 0, 0, 32, 64, 112, 0])?;
-    assert_eq!(rt; greatest(&store, rt.alloc(), glider)?, 1);
+    assert_two_states(&rt, &mut store, rt.alloc())?;
     'levels: for level in [1, 2, 3, 4, 124] {
-        let rest = empty(&mut store, level)?;
-        assert_eq!(rt; greatest(&store, rt.alloc(), rest)?, 0);
-        'corners: for corner in [
-            Corner::NorthWest,
-            Corner::NorthEast,
-            Corner::SouthWest,
-            Corner::SouthEast,
-        ] {
-            let one = one_cell(&mut store, corner, 1, level)?;
-            assert_eq!(rt; greatest(&store, rt.alloc(), one)?, 1);
-            let two = one_cell(&mut store, corner, 2, level)?;
-            let both = in_corner(&mut store, corner, two, one)?;
-            assert_eq!(rt; greatest(&store, rt.alloc(), both)?, 2);
-        }
+        assert_level(&rt, &mut store, rt.alloc(), level)?;
     }
     Ok(())
+}
+
+// The square of level 9 whose leaves are the numbered ones.
+fn many_squares(store: &mut Store, alloc: Global) -> Result<Id, Fail> {
+    let mut squares = all_numbered(store, alloc, 65536)?;
+    'levels: for _ in 1..9 {
+        squares = joined_in_fours(store, alloc, &squares)?;
+    }
+    let Some(root) = squares.first().copied() else {
+        return Err(Fail::new("nothing was made"));
+    };
+    Ok(root)
 }
 
 #[test]
 fn many_squares_are_counted(rt: HostRuntime) -> Result<(), Fail> {
     let mut store = Store::new(rt.alloc());
-    let mut squares = Vec::new(rt.alloc());
-    'leaves: for n in 0u32..65536 {
-        squares.push(numbered(&mut store, n)?)?;
-    }
-    'levels: for _ in 1..9 {
-        squares = joined_in_fours(&mut store, rt.alloc(), &squares)?;
-    }
-    let Some(root) = squares.first().copied() else {
-        return Err(Fail::new("nothing was made"));
-    };
+    let root = many_squares(&mut store, rt.alloc())?;
     assert_eq!(rt; population(&store, rt.alloc(), root)?, 196096);
-    assert_eq!(rt; greatest(&store, rt.alloc(), root)?, 255);
-    Ok(())
+    assert_greatest(&rt, &store, rt.alloc(), root, 255)
 }

@@ -1,6 +1,5 @@
 use Rattle.std.proofs.Common.{◌≡◌, ◌≤◌, length, sym, subst, ◌∙◌, arith}
 use Rattle.std.proofs.lemmas.Bool.{eqb-true}
-use Rattle.std.proofs.lemmas.Bool.Decides.{nat_tests}
 use Rattle.ca_quad.specs.Sound.{IsSound}
 use Rattle.ca_quad.proofs.Covers.{shows_none, holds_nw, holds_ne, holds_sw, holds_se}
 use Rattle.ca_quad.proofs.Filled.{part_none, grows_three, grows_five, near_nw, near_ne, near_sw, near_se, can_join_filled, filled_joined}
@@ -12,7 +11,7 @@ returns-then-is_empty-clause-shows t c = shows_none c.args.self.now c.args.empty
 
 pub fill-requires : goal.fill-requires
 fill-requires t c =
-    let large : 5 ≤ c.args.level = grind (arith, nat_tests, c.requires.least) in
+    let large : 5 ≤ c.args.level = c.is_block.ensures.large c.if-is_block.false in
     let s0 = c.args.self.now in
     let sound : IsSound s0 = subst IsSound c.self.view_is c.self.invariant in
     let four : length c.children.result ≡ 4 = omega (arith, c.children.type_inv) in
@@ -26,7 +25,7 @@ fill-requires t c =
 
 pub fill-requires-2 : goal.fill-requires-2
 fill-requires-2 t c =
-    let large : 5 ≤ c.args.level = grind (arith, nat_tests, c.requires.least) in
+    let large : 5 ≤ c.args.level = c.is_block.ensures.large c.if-is_block.false in
     let s0 = c.args.self.now in
     let sound : IsSound s0 = subst IsSound c.self.view_is c.self.invariant in
     let four : length c.children.result ≡ 4 = omega (arith, c.children.type_inv) in
@@ -40,7 +39,7 @@ fill-requires-2 t c =
 
 pub fill-requires-3 : goal.fill-requires-3
 fill-requires-3 t c =
-    let large : 5 ≤ c.args.level = grind (arith, nat_tests, c.requires.least) in
+    let large : 5 ≤ c.args.level = c.is_block.ensures.large c.if-is_block.false in
     let s0 = c.args.self.now in
     let sound : IsSound s0 = subst IsSound c.self.view_is c.self.invariant in
     let four : length c.children.result ≡ 4 = omega (arith, c.children.type_inv) in
@@ -54,7 +53,7 @@ fill-requires-3 t c =
 
 pub fill-requires-4 : goal.fill-requires-4
 fill-requires-4 t c =
-    let large : 5 ≤ c.args.level = grind (arith, nat_tests, c.requires.least) in
+    let large : 5 ≤ c.args.level = c.is_block.ensures.large c.if-is_block.false in
     let s0 = c.args.self.now in
     let sound : IsSound s0 = subst IsSound c.self.view_is c.self.invariant in
     let four : length c.children.result ≡ 4 = omega (arith, c.children.type_inv) in

@@ -7,4 +7,4 @@ use Rattle.ca_quad.proofs.store.block.put_row.Given as goal
 abbrev pub invariant-places : goal.invariant-places
 invariant-places l =
     ((i x y : ℕ) → l.fn.row.first ≤ i → i < l.place → IsCell l.at (point_at l.cells i) x y → IsRight l.cells l.at l.states x y)
-    × ((x y : ℕ) → x < 16 → y < 16 → IsRight l.cells l.at l.initial.states x y → IsRight l.cells l.at l.states x y)
+    × ((x y : ℕ) → x < 32 → y < 32 → IsRight l.cells l.at l.initial.states x y → IsRight l.cells l.at l.states x y)

@@ -26,16 +26,16 @@ rows-preserved c =
     )
 
 pub returns : goal.returns
-returns c = λ x y i j.
+returns c = λ side small cover x y i j.
     let p = c.args.cells.now in
     let at = c.args.at in
     let rows = c.args.rows.now in
     let (zero, right) = c.rows.invariant in
     elim (cases_eq (counted p at x y) 0) [
-      | inl z ↦ zero x y i j z
+      | inl z ↦ zero x y (omega arith) (omega arith) z
       | inr live ↦
           let (k, low, ex, ey) = place_of p (at.x +ℤ pos x) (at.y +ℤ pos y) live in
-          elim (right k x y (c.requires.cover.held k x y low i j ex ey) (record { low_x = i; low_y = j; is_x = ex; is_y = ey })) [
+          elim (right k x y (cover.held k x y low i j ex ey) (record { low_x = omega arith; low_y = omega arith; is_x = ex; is_y = ey })) [
             | inl r ↦ r
             | inr h ↦ absurd (subst (λ rs. Hold rs k) (drop_all c.rows.row-index rows (omega (arith, c.rows-test.false))) h)
           ]

@@ -7,5 +7,5 @@ use Rattle.ca_quad.proofs.store.block.states_of.Given as goal
 -- the states are right, but for cells of the rows that are still to come
 abbrev pub invariant-rows : goal.invariant-rows
 invariant-rows l =
-    ((x y : ℕ) → x < 16 → y < 16 → counted l.cells l.at x y ≡ 0 → IsRight l.cells l.at l.states x y)
+    ((x y : ℕ) → x < 32 → y < 32 → counted l.cells l.at x y ≡ 0 → IsRight l.cells l.at l.states x y)
     × ((i x y : ℕ) → Hold l.rows i → IsCell l.at (point_at l.cells i) x y → IsRight l.cells l.at l.states x y ⊎ Hold (drop l.row-index l.rows) i)

@@ -1,0 +1,40 @@
+use Rattle.std.proofs.Common.{sym, subst}
+use Rattle.ca_quad.specs.Sound.{IsSound}
+use Rattle.ca_quad.specs.inner.Copied.{IsCopy}
+use Rattle.ca_quad.proofs.Copied.{copies_stay, still_copies, parts_four, parts_copied}
+use Rattle.ca_quad.proofs.Filled.{grows_five}
+use Rattle.ca_quad.proofs.Population.{found_more}
+use Rattle.ca_quad.proofs.store.Store.+copy_of.Goals as goal
+
+pub returns-in-Some-clause-copy : goal.returns-in-Some-clause-copy
+returns-in-Some-clause-copy t c = c.requires.copies c.args.id c.in-Some.copy (sym c.in-Some.ensures)
+
+pub returns-in-Four-clause-copies : goal.returns-in-Four-clause-copies
+returns-in-Four-clause-copies t c = still_copies c.args.from.now c.args.self.now c.leaf.new.self c.leaf.result (subst IsSound c.self.view_is c.self.invariant) c.leaf.ensures.grows c.args.copies.now c.requires.copies
+
+pub join-requires : goal.join-requires
+join-requires t c = (
+  _,
+  parts_four c.args.from.now c.copy_of.new.self c.copy_of-in-Parts.new.self c.copy_of-in-Parts-2.new.self c.copy_of-in-Parts-3.new.self c.copy_of.ensures.grows.sound c.copy_of-in-Parts.ensures.grows c.copy_of-in-Parts-2.ensures.grows c.copy_of-in-Parts-3.ensures.grows
+      c.args.id c.in-Parts.field-0 c.in-Parts.nw c.in-Parts.ne c.in-Parts.sw c.in-Parts.se c.requires.known c.in-Parts.ensures.shows c.in-Parts.ensures.whole
+      c.in_ok-nw-in-Parts.nw c.in_ok-ne-in-Parts.ne c.in_ok-sw-in-Parts.sw c.in_ok-se-in-Parts.se c.in_ok-nw-in-Parts.ensures.copy c.in_ok-ne-in-Parts.ensures.copy c.in_ok-sw-in-Parts.ensures.copy c.in_ok-se-in-Parts.ensures.copy,
+)
+
+pub returns-in_ok-put-in-Parts-clause-copy : goal.returns-in_ok-put-in-Parts-clause-copy
+returns-in_ok-put-in-Parts-clause-copy t c =
+    parts_copied c.args.from.now c.copy_of.new.self c.copy_of-in-Parts.new.self c.copy_of-in-Parts-2.new.self c.copy_of-in-Parts-3.new.self c.copy_of.ensures.grows.sound c.copy_of-in-Parts.ensures.grows c.copy_of-in-Parts-2.ensures.grows c.copy_of-in-Parts-3.ensures.grows
+    c.args.id c.in-Parts.field-0 c.in-Parts.nw c.in-Parts.ne c.in-Parts.sw c.in-Parts.se c.requires.known c.in-Parts.ensures.shows c.in-Parts.ensures.whole
+    c.in_ok-nw-in-Parts.nw c.in_ok-ne-in-Parts.ne c.in_ok-sw-in-Parts.sw c.in_ok-se-in-Parts.se c.in_ok-nw-in-Parts.ensures.copy c.in_ok-ne-in-Parts.ensures.copy c.in_ok-sw-in-Parts.ensures.copy c.in_ok-se-in-Parts.ensures.copy
+    c.join.new.self c.in_ok-copy-in-Parts.copy c.in_ok-copy-in-Parts.ensures.shows
+
+pub returns-in_ok-put-in-Parts-clause-copies : goal.returns-in_ok-put-in-Parts-clause-copies
+returns-in_ok-put-in-Parts-clause-copies t c =
+    let olds = c.copy_of-in-Parts-3.new.copies in
+    found_more (IsCopy c.args.from.now c.join.new.self) olds c.put.new.self c.args.id c.in_ok-copy-in-Parts.copy
+    (copies_stay c.args.from.now c.copy_of-in-Parts-3.new.self c.join.new.self c.copy_of-in-Parts-3.ensures.grows.sound c.join.ensures.grows olds c.in_ok-se-in-Parts.ensures.copies)
+    (returns-in_ok-put-in-Parts-clause-copy t c) c.in_ok-put-in-Parts.ensures
+
+pub returns-in_ok-put-in-Parts-clause-grows : goal.returns-in_ok-put-in-Parts-clause-grows
+returns-in_ok-put-in-Parts-clause-grows t c =
+    grows_five c.args.self.now c.copy_of.new.self c.copy_of-in-Parts.new.self c.copy_of-in-Parts-2.new.self c.copy_of.ensures.grows c.copy_of-in-Parts.ensures.grows c.copy_of-in-Parts-2.ensures.grows
+    c.copy_of-in-Parts-3.new.self c.join.new.self c.copy_of-in-Parts-3.ensures.grows c.join.ensures.grows

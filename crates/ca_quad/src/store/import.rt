@@ -1,0 +1,66 @@
+//! Trees of another store.
+
+ghost use Rattle.std.specs.Prelude.{◌≡◌, ℕ, ℤ, IfOk, OnOk};
+ghost use Rattle.ca_quad.specs.Squares.{level_of};
+ghost use Rattle.ca_quad.specs.Sound.{Grows};
+ghost use Rattle.ca_quad.specs.Trees.{IsIn, IsTree, cell};
+ghost use Rattle.ca_quad.specs.Trimmed.{IsTrimmed};
+ghost use Rattle.ca_quad.specs.inner.Copied.{IsCopy, AreCopies};
+
+use super::Store;
+use super::found::Found;
+use crate::id::Id;
+use crate::square::Square;
+use crate::tree::Tree;
+use ca_plane::Memory;
+
+impl Store {
+    /// The tree of the same level and cells as one of another store.
+    ///
+    /// Each square of the tree is looked at once, however often it lies there, and no other is.
+    ///
+    /// # Errors
+    ///
+    /// Fails where there is no memory for more squares, and may leave more squares in the store than before.
+    pub fn import(&mut self, from: &Store, tree: Tree) -> Result<Tree, Memory>
+        requires tree { IsTree from.now tree }
+        ensures tree { IfOk result (IsTree self.new) }
+        ensures level { IfOk result (λ t. t.level ≡ tree.level) }
+        ensures cells { IfOk result (λ t. (x y : ℤ) → cell self.new t x y ≡ cell from.now tree x y) }
+        ensures trimmed { IsTrimmed from.now tree → IfOk result (IsTrimmed self.new) }
+        ensures grows { Grows self.old self.new }
+    {
+        let alloc = *self.nodes.allocator();
+        let root = self.copy_of(from, tree.root, &mut Found::new(alloc))?;
+        Ok(Tree {
+            root,
+            level: tree.level,
+        })
+    }
+
+    // The square of the same level and cells as one of another store, given those of some of its squares.
+    fn copy_of(&mut self, from: &Store, id: Id, copies: &mut Found<Id>) -> Result<Id, Memory>
+        requires known { IsIn from.now id }
+        requires copies { AreCopies from.now self.old copies.old }
+        ensures copy { IfOk result (IsCopy from.now self.new id) }
+        ensures copies { OnOk result (AreCopies from.now self.new copies.new) }
+        ensures grows { Grows self.old self.new }
+    {
+        let _ = &self.nodes;
+        match from.square(id) {
+            Square::Four(nw, ne, sw, se) => self.leaf(nw, ne, sw, se),
+            Square::Parts(_, nw, ne, sw, se) => {
+                if let Some(copy) = copies.get(id) {
+                    return Ok(copy);
+                }
+                let nw = self.copy_of(from, nw, copies)?;
+                let ne = self.copy_of(from, ne, copies)?;
+                let sw = self.copy_of(from, sw, copies)?;
+                let se = self.copy_of(from, se, copies)?;
+                let copy = self.join(nw, ne, sw, se)?;
+                copies.put(id, copy)?;
+                Ok(copy)
+            }
+        }
+    }
+}
