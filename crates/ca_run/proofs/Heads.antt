@@ -87,7 +87,7 @@ other_from_test p q fails = λ same.
     let there : (int_eq p.y q.y && int_eq p.x q.x) ≡ true = subst (λ (r : Point). (int_eq p.y r.y && int_eq p.x r.x) ≡ true) same passes in
     let no : ⊥ = cc in no
 
--- where nothing is live before a point and the first cell stands elsewhere, the picture shows 0 there
+-- where nothing is live before a point and the first cell is elsewhere, the picture shows 0 there
 pub quiet_from_test : (left p es : Picture) (e : Point × ℕ) (at : Point) → IsSparse left → left ≡ p → left ≡ e ∷ es → NoneBefore p at.x at.y → true ≡ not (int_eq e.0.y at.y && int_eq e.0.x at.x) → 0 ≡ cell p at.x at.y
 quiet_from_test left p es e at sparse view_is split none fails =
     let first = IsFirstPlace-from_head left p es e sparse view_is split in
@@ -126,7 +126,7 @@ IsWithout-first e es sparse =
     taken true s v zero = zero refl
     taken false s v zero = refl
 
--- where the first cell stands at the point, the rest is the picture without it
+-- where the first cell is at the point, the rest is the picture without it
 pub without_from_test : (left p es : Picture) (e : Point × ℕ) (at : Point) → IsSparse left → left ≡ p → left ≡ e ∷ es → false ≡ not (int_eq e.0.y at.y && int_eq e.0.x at.x) → IsWithout p es at
 without_from_test left p es e at sparse view_is split passes =
     rw (sym view_is, split) (subst (IsWithout (e ∷ es) es) (same_from_test e.0 at passes) (IsWithout-first e es (subst IsSparse split sparse)))

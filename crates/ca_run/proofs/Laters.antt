@@ -44,7 +44,7 @@ later_seen next p a b (suc n) x y =
     ap next (around-same (later next (λ u v. p (a +ℤ u) (b +ℤ v)) n) (λ u v. later next p n (a +ℤ u) (b +ℤ v)) x y (λ u v _. later_seen next p a b n u v)
     ∙ around-seen (later next p n) a b x y)
 
--- n generations of the plane that stands after m are m + n generations
+-- n generations of the plane after m are m + n generations
 pub later_again : (next : List ℕ → ℕ) (p : ℤ → ℤ → ℕ) (m n : ℕ) (x y : ℤ) → later next (later next p m) n x y ≡ later next p (m + n) x y
 later_again next p m zero x y =
     let none : m ≡ m + zero = omega arith in

@@ -6,6 +6,7 @@ pub mod Shown
 pub mod Bases
 pub mod Leap
 pub mod Trees
+pub mod Loaded
 pub mod Spreading
 pub mod Vectors
 pub mod Returns

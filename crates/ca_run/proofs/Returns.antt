@@ -45,7 +45,7 @@ after-shifted next p dx dy (suc n) x y =
     ap next (around-same (after next (shifted p dx dy) n) (λ u v. after next p n (u -ℤ dx) (v -ℤ dy)) x y (λ u v _. after-shifted next p dx dy n u v)
     ∙ around-moved (after next p n) dx dy x y)
 
--- the same, told of the place behind the move
+-- the same, of the place after the move
 pub after_moved : (next : List ℕ → ℕ) (p : Picture) (dx dy : ℤ) (n : ℕ) (x y : ℤ) → after next (shifted p dx dy) n (x +ℤ dx) (y +ℤ dy) ≡ after next p n x y
 after_moved next p dx dy n x y =
     let bx : (x +ℤ dx) -ℤ dx ≡ x = omega (arith, ints) in
@@ -54,7 +54,7 @@ after_moved next p dx dy n x y =
 
 -- ---- generations that add up
 
--- n generations of the picture that stands after m are m + n generations
+-- n generations of the picture after m are m + n generations
 pub after_stands : (next : List ℕ → ℕ) (p q : Picture) (m n : ℕ) → IsAfter next p m q → (x y : ℤ) → after next q n x y ≡ after next p (m + n) x y
 after_stands next p q m n stands = after_again next p q m (λ x y. sym (stands x y)) n
 

@@ -18,7 +18,7 @@ use Rattle.ca_plane.proofs.Shifts.{cell-shifted}
 pub live-before : (p q : Picture) (dx dy x y : ℤ) → IsSame q (shifted p dx dy) → cell q x y ≢ 0 → cell p (x -ℤ dx) (y -ℤ dy) ≢ 0
 live-before p q dx dy x y same live = λ z. live (same x y ∙ cell-shifted p dx dy x y ∙ z)
 
--- and each live cell of p is live in q behind the move
+-- and each live cell of p is live in q after the move
 pub live-moved : (p q : Picture) (dx dy x y : ℤ) → IsSame q (shifted p dx dy) → cell p x y ≢ 0 → cell q (x +ℤ dx) (y +ℤ dy) ≢ 0
 live-moved p q dx dy x y same live = λ z.
     let bx : (x +ℤ dx) -ℤ dx ≡ x = omega (arith, ints) in

@@ -42,7 +42,7 @@ ShowsRow-corner p row x y b reach corner near west centre east ahead = record {
     inside_later : (y b v : ℤ) → IsCorner x b → y ≤ℤ (b +ℤ pos 1) → neg_ℤ (pos (2 ^ 62 - 2)) ≤ℤ v → y <ℤ v
     inside_later y b v corner near inside = omega (arith, ints)
 
--- a window that stands in the corner
+-- a window that is in the corner
 pub Shows-corner : (p : Picture) (w : Window) → All (λ e. IsInReach e.0.x e.0.y) p → IsCorner w.place.x w.place.y → (w.north.west ≡ 0) × (w.north.centre ≡ 0) × (w.north.east ≡ 0) × (w.north.ahead ≡ p) → (w.middle.west ≡ 0) × (w.middle.centre ≡ 0) × (w.middle.east ≡ 0) × (w.middle.ahead ≡ p) → (w.south.west ≡ 0) × (w.south.centre ≡ 0) × (w.south.east ≡ 0) × (w.south.ahead ≡ p) → Shows p w
 Shows-corner p w reach corner north middle south = record {
   north = ShowsRow-corner p w.north w.place.x (w.place.y -ℤ pos 1) w.place.y reach corner (omega (arith, ints)) north.0 north.1 north.2 north.3;

@@ -11,7 +11,7 @@ abbrev pub later : (List ℕ → ℕ) → (ℤ → ℤ → ℕ) → ℕ → ℤ 
 later next cells zero x y = cells x y
 later next cells (suc n) x y = next (around (later next cells n) x y)
 
--- the centre of a square after n generations, counted from the centre's own corner: the square stands with its upper left
+-- the centre of a square after n generations, counted from the centre's own corner: the square lies with its upper left
 -- cell at (0, 0), all else is empty, and the centre begins a quarter of the side further in
 abbrev pub centre : (List ℕ → ℕ) → (ℕ → ℕ → ℕ) → ℕ → ℕ → ℕ → ℕ → ℕ
 centre next cells quarter n u v = later next (from_corner cells) n (pos (quarter + u)) (pos (quarter + v))

@@ -1,4 +1,4 @@
--- How far live cells may stand from the origin for a step, and the box that generations can't leave (our own).
+-- How far live cells may lie from the origin for a step, and the box that generations can't leave (our own).
 use Rattle.std.specs.Prelude.{◌≢◌, ℕ, ◌-◌, ◌^◌, ℤ, pos, neg_ℤ, ◌+ℤ◌, ◌-ℤ◌, ◌≤ℤ◌, List}
 use Rattle.ca_plane.specs.declared.point.Bounds.{Bounds}
 use Rattle.ca_plane.specs.Plane.{Picture}
@@ -9,7 +9,7 @@ abbrev pub IsInReach : ℤ → ℤ → Type 0
 IsInReach x y =
     (neg_ℤ (pos (2 ^ 62 - 2)) ≤ℤ x) × (x ≤ℤ pos (2 ^ 62 - 2)) × (neg_ℤ (pos (2 ^ 62 - 2)) ≤ℤ y) × (y ≤ℤ pos (2 ^ 62 - 2))
 
--- after n generations some live cell stands out of reach
+-- after n generations some live cell lies out of reach
 abbrev pub LeavesReach : (List ℕ → ℕ) → Picture → ℕ → Type 0
 LeavesReach next cells n = (x : ℤ) × (y : ℤ) × (after next cells n x y ≢ 0) × (IsInReach x y → ⊥)
 

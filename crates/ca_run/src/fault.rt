@@ -12,7 +12,7 @@ pub enum RunFault {
     /// A growth was refused.
     #[error("out of memory")]
     Memory,
-    /// A live cell stands where its neighbours would leave the plane: outside -(2^62 - 2) to 2^62 - 2.
+    /// A live cell is where its neighbours would leave the plane: outside -(2^62 - 2) to 2^62 - 2.
     #[error("a live cell is too far from the origin for a step")]
     Range,
 }

@@ -20,8 +20,8 @@ const REACH: i64 = (1 << 62) - 2;
 ///
 /// # Errors
 ///
-/// `Range` just where a live cell stands outside -(2^62 - 2) to 2^62 - 2, whatever the memory; else fails where there is no
-/// memory for the plane one generation on.
+/// `Range` exactly where a live cell lies outside -(2^62 - 2) to 2^62 - 2, however much memory there is. Else fails where
+/// there is no memory for the plane one generation on.
 pub fn step<A: Automaton>(alloc: Global, rule: &A, plane: &Plane) -> Result<Plane, RunFault>
     requires { All (λ e. e.1 < A.state_count rule.now) plane.now }
     ensures after { IfOk result (λ p. (x y : ℤ) → cell p x y ≡ after (A.next_of rule.now) plane.now 1 x y) }
@@ -91,8 +91,8 @@ fn next_plane<A: Automaton>(alloc: Global, rule: &A, cells: &[(Point, u8)]) -> R
 ///
 /// # Errors
 ///
-/// `Range` just where before one of the n steps a live cell stands outside -(2^62 - 2) to 2^62 - 2, and the steps before it
-/// had memory; else fails where there is no memory for a plane.
+/// `Range` exactly where a live cell lies outside -(2^62 - 2) to 2^62 - 2 before one of the n steps, and the steps before
+/// it had memory. Else fails where there is no memory for a plane.
 pub fn steps<A: Automaton>(
     alloc: Global,
     rule: &A,

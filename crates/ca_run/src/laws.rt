@@ -30,7 +30,7 @@ pub fn l2<A: Automaton>(rule: &A)
     let _ = rule;
 }
 
-/// Generations add up: n generations of the picture that stands after m generations are m + n generations.
+/// Generations add up: n generations of the picture after m generations are m + n generations.
 #[tactic(auto, using(crate::proofs::Returns::after_stands))]
 pub fn l3<A: Automaton>(rule: &A)
     ensures later { (cells later : Picture) (m n : ℕ) → IsAfter (A.next_of rule.now) cells m later

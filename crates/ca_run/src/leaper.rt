@@ -61,6 +61,7 @@ impl<A: Automaton> Leaper<A> {
     pub fn store(&self) -> &Store
         ensures nodes { result.now ≡ self.now.nodes }
         ensures sound { IsSound self.now.nodes }
+        ensures rule { A.sound self.now.rule }
     {
         let _ = &self.memo;
         &self.store

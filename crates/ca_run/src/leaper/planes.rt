@@ -11,7 +11,7 @@ use ca_plane::{Automaton, Memory, Plane};
 use ca_quad::{Spot, Tree};
 
 impl<A: Automaton> Leaper<A> {
-    /// The tree of the least level that shows the cells of a plane.
+    /// The tree of the least level that shows the cells of a plane. The level is at most 64.
     ///
     /// # Errors
     ///
@@ -20,8 +20,10 @@ impl<A: Automaton> Leaper<A> {
         ensures tree { IfOk result (IsTree self.new.nodes) }
         ensures cells { IfOk result (λ t. (x y : ℤ) → cell self.new.nodes t x y ≡ plane_cell plane.now x y) }
         ensures trimmed { IfOk result (IsTrimmed self.new.nodes) }
+        ensures level { IfOk result (λ t. t.level ≤ 64) }
         ensures goes_on { GoesOn A self.old self.new }
     {
+        let _count = plane.len();
         self.store.from_plane(plane)
     }
 

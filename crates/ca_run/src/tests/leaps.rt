@@ -4,19 +4,32 @@ use super::{Life, plane_of};
 use crate::{Leaper, steps};
 use ca_plane::Plane;
 use ca_quad::Store;
+use std::alloc::{AllocError, Global};
 use std::test::*;
+
+// Places scattered over 400 rows of 700 columns, three of eight, in rising order.
+fn scattered(alloc: Global) -> Result<Vec<(i64, i64)>, AllocError> {
+    let mut places = Vec::new(alloc);
+    let mut mixed = 1u32;
+    'rows: for y in 0..400i64 {
+        'columns: for x in 0..700i64 {
+            mixed = mixed.wrapping_mul(1664525).wrapping_add(1013904223);
+            if mixed >> 29 < 3 {
+                places.push((x, y))?;
+            }
+        }
+    }
+    Ok(places)
+}
 
 // Whether a plane is another one n generations on.
 fn is_after(leaper: &mut Leaper<Life>, from: &Plane, n: u64, wanted: &Plane) -> Result<bool, Fail> {
     let tree = leaper.load_plane(from)?;
-    if tree.level > 64 || n > 1 << 60 {
+    if n > 1 << 60 {
         return Err(Fail::new("that is too far"));
     }
     let later = leaper.advance(tree, n)?;
     let wanted = leaper.load_plane(wanted)?;
-    if wanted.level > 64 {
-        return Err(Fail::new("that is too far"));
-    }
     Ok(leaper.difference(later, wanted)?.is_none())
 }
 
@@ -47,5 +60,15 @@ fn nothing_comes_of_nothing(rt: HostRuntime) -> Result<(), Fail> {
     let empty = plane_of(rt.alloc(), &[])?;
     let mut leaper = Leaper::new(rt.alloc(), Store::new(rt.alloc()), Life);
     assert!(rt; is_after(&mut leaper, &empty, 1 << 60, &empty)?);
+    Ok(())
+}
+
+#[test]
+fn a_hundred_thousand_cells_leap(rt: HostRuntime) -> Result<(), Fail> {
+    let field = plane_of(rt.alloc(), &scattered(rt.alloc())?)?;
+    assert!(rt; field.len() > 100000);
+    let stepped = steps(rt.alloc(), &Life, &field, 24)?;
+    let mut leaper = Leaper::new(rt.alloc(), Store::new(rt.alloc()), Life);
+    assert!(rt; is_after(&mut leaper, &field, 24, &stepped)?);
     Ok(())
 }
