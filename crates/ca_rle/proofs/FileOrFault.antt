@@ -14,7 +14,7 @@ use Rattle.ca_rle.specs.declared.item.Tag.{Tag}
 use Rattle.ca_rle.specs.Items.{InLine, is_letter, is_prefix, prefixed_state, tag_of, IsItem, Items}
 use Rattle.ca_rle.specs.Header.{IsHeader, is_comment, extended_words, Said, Says}
 use Rattle.ca_rle.specs.File.{File, IsLine, ended, IsPreamble, corner_of, generation_of, IsHeaded, IsFile}
-use Rattle.ca_rle.specs.Faults.{behind_white, letter_fault, tag_fault, count_fault, item_fault, HasBadWord, HasBadItem, IsFirstFault}
+use Rattle.ca_rle.specs.Faults.{after_white, letter_fault, tag_fault, count_fault, item_fault, HasBadWord, HasBadItem, IsFirstFault}
 use Rattle.ca_rle.specs.inner.BodyFaults.{HasBadUnit}
 use Rattle.ca_plane.proofs.Fronts.{front_then_rest, every_front}
 use Rattle.ca_rle.proofs.OneHeader.{no_comment}
@@ -28,7 +28,7 @@ letters_length : (letters : List ℕ) (t : Tag) → tag_of letters ≡ Some t �
 letters_length [] t e = absurd cc
 letters_length (b ∷ bs) t e = omega arith
 
--- what stands behind an item is shorter
+-- what stands after an item is shorter
 pub shorter_behind : (bytes front more : List ℕ) (i : Item) → IsItem front i → bytes ≡ front ++ more → length more < length bytes
 shorter_behind bytes front more i (before, digits, between, letters, v, c, w, e, spelled) d =
     let low = letters_length letters i.tag e in
@@ -48,13 +48,13 @@ fault_or_unit bytes (Some f) e = inl (f, e)
 
 with_item : (bytes front more : List ℕ) (i : Item) → IsItem front i → bytes ≡ front ++ more → ItemsOrBad more → ItemsOrBad bytes
 with_item bytes front more i item d (inl (is, (rest, run, end))) = inl (i ∷ is, (rest, (front, more, item, run, d), end))
-with_item bytes front more i item d (inr (f, (is, bad, run, e))) = inr (f, (i ∷ is, bad, (front, more, item, run, d), e))
+with_item bytes front more i item d (inr (f, (bad, (is, run, e)))) = inr (f, (bad, (i ∷ is, (front, more, item, run, d), e)))
 
 items_within : (n : ℕ) (bytes : List ℕ) → length bytes < n → ItemsOrBad bytes
 items_within zero bytes h = absurd (omega arith)
 items_within (suc n) bytes h =
     elim (fault_or_unit bytes (item_fault bytes) refl) [
-      | inl b ↦ inr (b.0, ([], bytes, refl, b.1))
+      | inl b ↦ inr (b.0, (bytes, ([], refl, b.1)))
       | inr u ↦ elim u [
         | inl s ↦ let item = s.2 in with_item bytes item.0 item.1 s.0 item.2 item.4 (items_within n item.1 (let less = shorter_behind bytes item.0 item.1 s.0 item.2 item.4 in omega arith))
         | inr end ↦ inl ([], (bytes, refl, end))
@@ -98,11 +98,11 @@ tag_fault_kind counted (b ∷ bs) =
 
 count_fault_kind : (digits bytes : List ℕ) → none_or_of_item (count_fault digits bytes) ≡ true
 count_fault_kind [] bytes = tag_fault_kind false bytes
-count_fault_kind (d ∷ ds) bytes = cond_both (value (d ∷ ds) == 0) _ _ (λ (o : Option RleFault). none_or_of_item o ≡ true) (λ z. refl) (λ z. tag_fault_kind true (behind_white InLine bytes))
+count_fault_kind (d ∷ ds) bytes = cond_both (value (d ∷ ds) == 0) _ _ (λ (o : Option RleFault). none_or_of_item o ≡ true) (λ z. refl) (λ z. tag_fault_kind true (after_white InLine bytes))
 
 -- the fault of an item is one of these
 pub item_fault_kind : (bytes : List ℕ) (f : RleFault) → item_fault bytes ≡ Some f → is_of_item f ≡ true
-item_fault_kind bytes f e = ap none_or_of_item (sym e) ∙ count_fault_kind (front is_digit (behind_white InLine bytes)) (rest is_digit (behind_white InLine bytes))
+item_fault_kind bytes f e = ap none_or_of_item (sym e) ∙ count_fault_kind (front is_digit (after_white InLine bytes)) (rest is_digit (after_white InLine bytes))
 
 bad_item_first : (bytes : List ℕ) (f : RleFault) → is_of_item f ≡ true → HasBadItem bytes f → IsFirstFault bytes f
 bad_item_first bytes Syntax h b = inr b
@@ -130,7 +130,7 @@ headed_or_fault : (bytes : List ℕ) (said : List Said) (rule : Option (List ℕ
 headed_or_fault bytes said rule body h =
     elim (items_or_bad body) [
       | inl i ↦ inl (record { corner = corner_of said; generation = generation_of said; rule_text = unwrap_or rule default_rule; items = i.0 }, record { said = said; rule = rule; body = body; headed = h; items = i.1; corner = refl; generation = refl; rule_text = refl })
-      | inr b ↦ inr (b.0, first_from_item bytes b.0 (record { said = said; rule = rule; body = body; items = b.1.0; bad = b.1.1; headed = h; good = b.1.2; fault_is = b.1.3 }))
+      | inr b ↦ inr (b.0, first_from_item bytes b.0 (record { said = said; rule = rule; body = body; items = b.1.1.0; bad = b.1.0; headed = h; good = b.1.1.1; fault_is = b.1.1.2 }))
     ]
 
 -- good lines, and then a line of which nothing is said
@@ -148,7 +148,7 @@ header_or_fault bytes lines said line more None s h =
       | inr none ↦ headed_or_fault bytes said None more (record { lines = lines; header = line; preamble = s.preamble; header_is_line = s.line_is; header_is = h; named = inr none; header_ends = s.line_ends; spelled = s.spelled })
     ]
 
--- a line that is no comment is the header, or the header is wanting
+-- a line that is no comment is the header, or the header is missing
 not_comment : (bytes : List ℕ) (lines : List (List ℕ)) (said : List Said) (line more : List ℕ) → Splits bytes lines said line more → is_comment line ≡ false → FileOrFault bytes
 not_comment bytes lines said line more s c =
     elim (header_or_not line s.line_is) [
@@ -193,7 +193,7 @@ ends_by_lf : (bytes more : List ℕ) → rest in_line bytes ≡ more → IsTrue 
 ends_by_lf bytes [] e = refl
 ends_by_lf bytes (b ∷ bs) e = rw (line_ends_by_lf b bytes bs e) refl
 
--- the first line of what stands behind good lines
+-- the first line of what stands after good lines
 first_split : (bytes : List ℕ) (lines : List (List ℕ)) (said : List Said) (left more : List ℕ) → IsPreamble lines said → bytes ≡ flat_map ended lines ++ left → rest in_line left ≡ more → Splits bytes lines said (front in_line left) more
 first_split bytes lines said left more p e r = record {
   preamble = p;

@@ -1,5 +1,5 @@
 -- The lines of a text up to its header, split off one after another.
-use Rattle.std.proofs.Common.{◌≡◌, ℕ, ◌<◌, suc, true, not, List, [], ◌∷◌, ◌++◌, length, inr, refl, sym, ap, ◌∙◌, append_assoc, arith}
+use Rattle.std.proofs.Common.{◌≡◌, ℕ, ◌<◌, suc, true, not, List, [], ◌∷◌, ◌++◌, length, inr, refl, sym, ap, subst, ◌∙◌, append_assoc, arith}
 use Rattle.std.specs.List.{AllZip, flat_map, list_all}
 use Rattle.std.proofs.lemmas.Bool.{both_ways, not-true, not-false, eqb-true}
 use Rattle.std.proofs.lemmas.Grind.{flat_map-append}
@@ -12,6 +12,7 @@ use Rattle.ca_rle.specs.declared.front.lines.Preamble.{Preamble}
 use Rattle.ca_rle.specs.Header.{is_comment, extended_words, Said, Says}
 use Rattle.ca_rle.specs.File.{IsLine, ended}
 use Rattle.ca_rle.specs.Faults.{HasBadWord, HasNoHeader}
+use Rattle.ca_rle.specs.FaultyLine.{HasNoHeaderAt}
 use Rattle.ca_rle.specs.inner.FrontFaults.{IsFrontFault}
 use Rattle.ca_rle.specs.inner.FrontParts.{HasBadWordAmong, IsPreambleOf}
 use Rattle.ca_rle.proofs.OneHeader.{no_comment}
@@ -24,16 +25,16 @@ ends : (behind : List ℕ) → is_end_or (λ b. not (not (is_line_end b))) behin
 ends [] h = refl
 ends (b ∷ bs) h = not-false (is_line_end b) (not-true (not (is_line_end b)) h)
 
--- what stands behind a line is empty or begins with its LF
+-- what stands after a line is empty or begins with its LF
 pub first_line_ends : (bytes behind : List ℕ) → behind ≡ rest (λ b. not (is_line_end b)) bytes → is_end_or is_line_end behind ≡ true
 first_line_ends bytes behind e = ends behind (ap (is_end_or (λ b. not (not (is_line_end b)))) e ∙ rest_ends (λ b. not (is_line_end b)) bytes)
 
--- the bytes are the lines so far, the next line, and what stands behind it
+-- the bytes are the lines so far, the next line, and what stands after it
 pub split_there : (bytes more line behind : List ℕ) (lines : List (List ℕ)) → bytes ≡ flat_map ended lines ++ more → line ≡ front (λ b. not (is_line_end b)) more → behind ≡ rest (λ b. not (is_line_end b)) more
-    → bytes ≡ flat_map ended lines ++ (line ++ behind)
+    → (bytes ≡ flat_map ended lines ++ (line ++ behind)) × (line ++ behind ≡ more)
 split_there bytes more line behind lines e f r =
     let whole : line ++ behind ≡ more = rw (f, r) (front_then_rest (λ b. not (is_line_end b)) more) in
-    e ∙ ap (λ (l : List ℕ). flat_map ended lines ++ l) (sym whole)
+    (e ∙ ap (λ (l : List ℕ). flat_map ended lines ++ l) (sym whole), whole)
 
 -- with the next line among the lines
 pub line_passed : (bytes line behind later : List ℕ) (b : ℕ) (lines : List (List ℕ)) → bytes ≡ flat_map ended lines ++ (line ++ behind) → behind ≡ b ∷ later → is_end_or is_line_end behind ≡ true
@@ -44,12 +45,16 @@ line_passed bytes line behind later b lines e f h =
     let last : line ++ behind ≡ ended line ++ later = ap (λ (l : List ℕ). line ++ l) (f ∙ ap (λ (c : ℕ). c ∷ later) lf) ∙ sym (append_assoc line (10 ∷ []) later) in
     e ∙ ap (λ (l : List ℕ). flat_map ended lines ++ l) last ∙ sym (append_assoc (flat_map ended lines) (ended line) later) ∙ ap (λ (l : List ℕ). l ++ later) (sym passed)
 
--- the bytes behind a line's LF are fewer
+-- the bytes after a line's LF are fewer
 pub fewer_behind : (bytes behind later : List ℕ) (b : ℕ) → behind ≡ rest (λ b. not (is_line_end b)) bytes → behind ≡ b ∷ later → length later < length bytes
 fewer_behind bytes behind later b e f =
     let whole = front_length (λ b. not (is_line_end b)) bytes in
     let long : length (rest (λ b. not (is_line_end b)) bytes) ≡ suc (length later) = ap length (sym e ∙ f) in
     omega arith
+
+-- a fault of the same bytes, at the same place
+pub fault_there : (bytes same rest left : List ℕ) (f : RleFault) → bytes ≡ same → rest ≡ left → IsFrontFault same f rest → IsFrontFault bytes f left
+fault_there bytes same rest left f e r h = subst (λ (l : List ℕ). IsFrontFault bytes f l) r (subst (λ (l : List ℕ). IsFrontFault l f rest) (sym e) h)
 
 module _ (bytes line behind : List ℕ) (lines : List (List ℕ)) (said : List Said) (p : Preamble) (r : IsPreambleOf lines said p) (l : IsLine line) (comment : is_comment line ≡ true)
     (e : is_end_or is_line_end behind ≡ true) (spelled : bytes ≡ flat_map ended lines ++ (line ++ behind)) where
@@ -74,9 +79,10 @@ module _ (bytes line behind : List ℕ) (lines : List (List ℕ)) (said : List S
   }
 
   -- a bad word in the line is the text's fault
-  pub word_fault : (f : RleFault) → HasBadWordAmong (extended_words line) f → IsFrontFault bytes f
-  word_fault Syntax h = bad_word Syntax h
-  word_fault GenTooLarge h = bad_word GenTooLarge h
+  pub word_fault : (f : RleFault) → HasBadWordAmong (extended_words line) f → IsFrontFault bytes f (line ++ behind)
+  unfolding bad_word
+  word_fault Syntax h = (bad_word Syntax h, refl)
+  word_fault GenTooLarge h = (bad_word GenTooLarge h, refl)
   word_fault Header h = absurd h.bad
   word_fault XlifeRule h = absurd h.bad
   word_fault NoEnd h = absurd h.bad
@@ -85,9 +91,8 @@ module _ (bytes line behind : List ℕ) (lines : List (List ℕ)) (said : List S
   word_fault TooManyCells h = absurd h.bad
   word_fault Memory h = absurd h.bad
 
-  -- a comment with good words at the text's end is no header
-  pub no_header_there : (last : List Said) → AllZip Says (extended_words line) last → length behind ≡ 0 → HasNoHeader bytes
-  no_header_there last z none = record {
+  has_no_header : (last : List Said) → AllZip Says (extended_words line) last → length behind ≡ 0 → HasNoHeader bytes
+  has_no_header last z none = record {
     lines = lines;
     said = said;
     line = line;
@@ -99,3 +104,8 @@ module _ (bytes line behind : List ℕ) (lines : List (List ℕ)) (said : List S
     line_ends = e;
     spelled = spelled;
   }
+
+  -- a comment with good words at the text's end is no header
+  pub no_header_there : (last : List Said) → AllZip Says (extended_words line) last → length behind ≡ 0 → HasNoHeaderAt bytes (line ++ behind)
+  unfolding has_no_header
+  no_header_there last z none = (has_no_header last z none, refl)

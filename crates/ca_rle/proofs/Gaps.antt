@@ -1,4 +1,4 @@
--- Row ends and dead cells between runs: where they lead, that they show nothing, and what may stand behind them.
+-- Row ends and dead cells between runs: where they lead, that they show nothing, and what may stand after them.
 use Rattle.std.proofs.Common.{◌≡◌, ◌≢◌, ℕ, zero, suc, ◌+◌, ◌<◌, ℤ, pos, ◌+ℤ◌, false, ◌==◌, List, [], ◌∷◌, ◌++◌, refl, sym, ap, subst, ◌∙◌, append_assoc, arith}
 use Rattle.std.specs.Prelude.{if◌then◌else◌}
 use Rattle.std.proofs.lemmas.Bool.{eqb-true, false_from_ne_true}
@@ -27,7 +27,7 @@ some-suc tag n = rw (nonzero (suc n) (omega arith)) refl
 
 -- ---- gaps that were put
 
--- new is old with a gap behind it
+-- new is old with a gap after it
 abbrev pub PutsGap : ℤ → Point → Point → List Item → List Item → Type 0
 PutsGap left from to old new = (gap : List Item) × IsGap left from to gap × (new ≡ old ++ gap)
 
@@ -50,14 +50,14 @@ gap-over_rows left from to old mid new rows columns below some right ends dead =
 
 -- ---- places
 
--- behind row ends a row begins
+-- after row ends a row begins
 pub place-row : (corner : Point) (is : List Item) (n : ℕ) → place_behind corner (is ++ item_of RowEnd n ∷ []) ≡ record { y = (place_behind corner is).y +ℤ pos n; x = corner.x }
 place-row corner is n =
     let rows : rows_of (is ++ item_of RowEnd n ∷ []) ≡ rows_of is + n = rows_of-push is (item_of RowEnd n) in
     let columns : columns_of (is ++ item_of RowEnd n ∷ []) ≡ 0 = columns_of-push is (item_of RowEnd n) in
     point-same _ _ (omega (arith, ints, rows)) (omega (arith, ints, columns))
 
--- behind cells the row goes on
+-- after cells the row goes on
 pub place-cells : (corner : Point) (is : List Item) (s n : ℕ) → place_behind corner (is ++ item_of (Cell s) n ∷ []) ≡ record { y = (place_behind corner is).y; x = (place_behind corner is).x +ℤ pos n }
 place-cells corner is s n =
     let rows : rows_of (is ++ item_of (Cell s) n ∷ []) ≡ rows_of is + 0 = rows_of-push is (item_of (Cell s) n) in
@@ -138,7 +138,7 @@ cell_no_cell : (s t : ℕ) → s ≢ t → Cell s ≢ Cell t
 cell_no_cell s t apart e =
     let same : s ≡ t = cc in apart same
 
--- a run may stand behind a gap that is one, or behind items that it doesn't join
+-- a run may stand after a gap that is one, or after items that it doesn't join
 before-gap : (is : List Item) (t rows columns : ℕ) → 0 < t → AreBefore is RowEnd → AreBefore is (Cell 0) → (rows ≡ 0 → columns ≡ 0 → AreBefore is (Cell t))
     → AreBefore (is ++ (some_of RowEnd rows ++ some_of (Cell 0) columns)) (Cell t)
 before-gap is t zero zero live row dead here = subst (λ (l : List Item). AreBefore l (Cell t)) (sym (append-nil is)) (here refl refl)
@@ -160,12 +160,12 @@ gap_stays left from to gap leads rows columns =
     let start : (if leads.rows == 0 then from.x else left) ≡ from.x = rw rows refl in
     point-same to from (omega (arith, ints, leads.below)) (omega (arith, ints, leads.right))
 
--- the first run, behind its gap
+-- the first run, after its gap
 pub before-first : (left : ℤ) (from to : Point) (gap : List Item) (t : ℕ) → IsGap left from to gap → 0 < t → AreBefore gap (Cell t)
 before-first left from to gap t leads live =
     subst (λ (l : List Item). AreBefore l (Cell t)) (sym leads.gap_is) (before-gap [] t leads.rows leads.columns live tt tt (λ _ _. tt))
 
--- a later run, behind the run before it and the gap
+-- a later run, after the run before it and the gap
 pub before-next : (left : ℤ) (from to : Point) (is gap : List Item) (s m t : ℕ) → AreBefore is (Cell s) → 0 < s → 0 < m → IsGap left from to gap → 0 < t
     → (to ≡ from → s ≢ t) → AreBefore ((is ++ item_of (Cell s) m ∷ []) ++ gap) (Cell t)
 before-next left from to is gap s m t before some count leads live apart =

@@ -10,9 +10,9 @@ use Rattle.ca_rle.specs.declared.item.Item.{Item}
 use Rattle.ca_rle.specs.declared.item.Tag.{Tag}
 use Rattle.ca_rle.specs.declared.item.Tag.TheVariants.{Cell}
 use Rattle.ca_rle.specs.Items.{InLine, is_letter, is_prefix, prefixed_state, tag_of, Run, IsEnd}
-use Rattle.ca_rle.specs.Faults.{behind_white, letter_fault, tag_fault, count_fault, item_fault}
+use Rattle.ca_rle.specs.Faults.{after_white, letter_fault, tag_fault, count_fault, item_fault}
 use Rattle.ca_plane.proofs.Fronts.{front_then_rest}
-use Rattle.ca_rle.proofs.White.{Stops_above, behind_white_is}
+use Rattle.ca_rle.proofs.White.{Stops_above, after_white_is}
 use Rattle.ca_rle.proofs.ItemAt.{tag_byte, tag_at_is, count_of, item_at}
 use Rattle.ca_rle.proofs.ReadItems.{end_found, run_found}
 
@@ -63,34 +63,34 @@ abbrev pub IsItemOrEnd : List ℕ → Type 0
 IsItemOrEnd bytes = ((i : Item) × (more : List ℕ) × Run bytes (i ∷ []) more) ⊎ IsEnd bytes
 
 -- digits and a tag at the front are an item
-read_tag : (bytes : List ℕ) (n : ℕ) → 0 < n → count_of (front is_digit (behind_white InLine bytes)) ≡ n → BeginsTag (behind_white InLine (rest is_digit (behind_white InLine bytes))) → IsItemOrEnd bytes
+read_tag : (bytes : List ℕ) (n : ℕ) → 0 < n → count_of (front is_digit (after_white InLine bytes)) ≡ n → BeginsTag (after_white InLine (rest is_digit (after_white InLine bytes))) → IsItemOrEnd bytes
 read_tag bytes n h c (letters, more, t, e, spelled) =
     let read : item_at bytes ≡ Some (record { count = n; tag = t }, more) = rw (c, spelled, tag_at_is letters more t e) refl in
     inl (record { count = n; tag = t }, more, run_found bytes more more (record { count = n; tag = t }) [] read h refl)
 
 -- no white space stands before a tag
-at_tag : (bytes : List ℕ) → BeginsTag bytes → behind_white InLine bytes ≡ bytes
+at_tag : (bytes : List ℕ) → BeginsTag bytes → after_white InLine bytes ≡ bytes
 at_tag bytes ([], more, t, e, spelled) = absurd cc
-at_tag bytes (b ∷ bs, more, t, e, spelled) = ap (behind_white InLine) spelled ∙ behind_white_is InLine [] b (bs ++ more) (Stops_above b (tag_byte b bs t e).0) refl ∙ sym spelled
+at_tag bytes (b ∷ bs, more, t, e, spelled) = ap (after_white InLine) spelled ∙ after_white_is InLine [] b (bs ++ more) (Stops_above b (tag_byte b bs t e).0) refl ∙ sym spelled
 
 above_0 : (n : ℕ) → (n == 0) ≡ false → 0 < n
 above_0 n h = grind (arith, nat_tests)
 
--- a unit without a fault, by its digits and what stands behind them
-read_unit : (bytes digits after : List ℕ) → front is_digit (behind_white InLine bytes) ≡ digits → rest is_digit (behind_white InLine bytes) ≡ after → count_fault digits after ≡ None → IsItemOrEnd bytes
+-- a unit without a fault, by its digits and what stands after them
+read_unit : (bytes digits after : List ℕ) → front is_digit (after_white InLine bytes) ≡ digits → rest is_digit (after_white InLine bytes) ≡ after → count_fault digits after ≡ None → IsItemOrEnd bytes
 read_unit bytes [] after d a = λ e.
     elim (good_tag false after e) [
-      | inl end ↦ inr (end_found bytes end.1.0 (sym (front_then_rest is_digit (behind_white InLine bytes)) ∙ ap (λ (l : List ℕ). l ++ rest is_digit (behind_white InLine bytes)) d ∙ a ∙ end.1.1))
-      | inr tag ↦ read_tag bytes 1 (omega arith) (ap count_of d) (subst BeginsTag (sym (at_tag after tag) ∙ ap (behind_white InLine) (sym a)) tag)
+      | inl end ↦ inr (end_found bytes end.1.0 (sym (front_then_rest is_digit (after_white InLine bytes)) ∙ ap (λ (l : List ℕ). l ++ rest is_digit (after_white InLine bytes)) d ∙ a ∙ end.1.1))
+      | inr tag ↦ read_tag bytes 1 (omega arith) (ap count_of d) (subst BeginsTag (sym (at_tag after tag) ∙ ap (after_white InLine) (sym a)) tag)
     ]
 read_unit bytes (c ∷ cs) after d a =
     cond_both (value (c ∷ cs) == 0) _ _ (λ (o : Option RleFault). o ≡ None → IsItemOrEnd bytes)
     (λ none e. absurd (none-some Syntax (sym e)))
-    (λ more e. elim (good_tag true (behind_white InLine after) e) [
+    (λ more e. elim (good_tag true (after_white InLine after) e) [
       | inl end ↦ absurd (true≢false end.0)
-      | inr tag ↦ read_tag bytes (value (c ∷ cs)) (above_0 (value (c ∷ cs)) more) (ap count_of d) (subst BeginsTag (ap (behind_white InLine) (sym a)) tag)
+      | inr tag ↦ read_tag bytes (value (c ∷ cs)) (above_0 (value (c ∷ cs)) more) (ap count_of d) (subst BeginsTag (ap (after_white InLine) (sym a)) tag)
     ])
 
 -- where bytes have no fault, an item stands at their front, or the end of the pattern
 pub good_item_or_end : (bytes : List ℕ) → item_fault bytes ≡ None → ((i : Item) × (more : List ℕ) × Run bytes (i ∷ []) more) ⊎ IsEnd bytes
-good_item_or_end bytes = read_unit bytes (front is_digit (behind_white InLine bytes)) (rest is_digit (behind_white InLine bytes)) refl refl
+good_item_or_end bytes = read_unit bytes (front is_digit (after_white InLine bytes)) (rest is_digit (after_white InLine bytes)) refl refl

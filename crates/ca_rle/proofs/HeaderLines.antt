@@ -20,7 +20,7 @@ no_some : (o : Option (List ℕ)) → ((r : List ℕ) → o ≡ Some r → ⊥) 
 no_some None h = refl
 no_some (Some r) h = absurd (h r refl)
 
--- bytes that don't begin with the text behind their blanks
+-- bytes that don't begin with the text after their blanks
 pub text_missing : (text bytes : List ℕ) → ((r : List ℕ) → rest is_blank bytes ≡ text ++ r → ⊥) → parts_left (Exactly text ∷ []) bytes ≡ None
 text_missing text bytes none = ap (option_and_then (parts_left [])) (no_some (strip text (rest is_blank bytes)) (λ r e. none r (strip_found text (rest is_blank bytes) r e)))
 
@@ -46,11 +46,11 @@ more_there : (behind : List ℕ) → eqb (length behind) 0 ≡ false → has_mor
 more_there [] e = absurd cc
 more_there (b ∷ bs) e = refl
 
--- behind the sizes stands something else
+-- after the sizes stands something else
 pub no_rule_name : (line behind : List ℕ) → parts_left (size_parts []) line ≡ Some behind → eqb (length behind) 0 ≡ false → parts_left rule_parts behind ≡ None → (rule : Option (List ℕ)) → IsHeader line rule → ⊥
 no_rule_name line behind e some n = no_header line (ap has_more e ∙ more_there behind some) (parts_then (size_parts []) rule_parts line behind e ∙ n)
 
--- behind the sizes stands nothing
+-- after the sizes stands nothing
 pub sizes_alone : (line behind : List ℕ) → parts_left (size_parts []) line ≡ Some behind → eqb (length behind) 0 ≡ true → IsHeader line None
 sizes_alone line behind e none = inl (spaced_found (size_parts []) line (e ∙ ap Some (nil_from_length behind (eqb-true (length behind) 0 none))))
 
@@ -83,13 +83,13 @@ module _ (line behind text : List ℕ) (l : IsLine line) (sizes : parts_left (si
   text_is_line : IsLine text
   text_is_line = left_is_line (size_parts rule_parts) line text l all_left
 
-  -- `rule =` with nothing behind it
+  -- `rule =` with nothing after it
   pub rule_missing : eqb (length (front is_word_byte text)) 0 ≡ true → IsHeader line None
   rule_missing none =
       let empty = no_word_byte text (left_is_clear rule_parts behind text named) text_is_line (eqb-true _ _ none) in
       inr (spaced_found (size_parts rule_parts) line (all_left ∙ ap Some empty))
 
-  -- `rule =` with a word behind it
+  -- `rule =` with a word after it
   pub rule_there : eqb (length (front is_word_byte text)) 0 ≡ false → IsHeader line (Some (front is_word_byte text))
   rule_there some =
       let ne = eqb-false (length (front is_word_byte text)) 0 some in

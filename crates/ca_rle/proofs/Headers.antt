@@ -10,7 +10,7 @@ use Rattle.ca_rle.specs.inner.HeaderParts.{strip, left_behind, part_left, parts_
 use Rattle.ca_rle.specs.File.{IsLine}
 use Rattle.ca_plane.proofs.Fronts.{every_wider, every_front, front_append, rest_append, front_then_rest}
 
--- pieces one after another, each behind its blanks
+-- pieces one after another, each after its blanks
 abbrev pub joined : List (List ℕ × List ℕ) → List ℕ → List ℕ
 joined [] last = last
 joined (p ∷ ps) last = p.0 ++ (p.1 ++ joined ps last)
@@ -34,21 +34,21 @@ word_is_line (b ∷ bs) h = every_wider is_word_byte (λ b. not (is_line_end b))
 
 -- ---- parts read from the front
 
--- the first of the parts, or of what stands behind them, begins with no digit
+-- the first of the parts, or of what stands after them, begins with no digit
 abbrev pub opens : List Part → List ℕ → Bool
 opens [] more = is_end_or (λ b. not (is_digit b)) more
 opens (Exactly [] ∷ ps) more = false
 opens (Exactly (c ∷ text) ∷ ps) more = not (is_digit c)
 opens (Number ∷ ps) more = false
 
--- each part ends where its bytes say, and so do the blanks behind the last
+-- each part ends where its bytes say, and so do the blanks after the last
 abbrev pub are_clear : List Part → List ℕ → Bool
 are_clear [] more = is_end_or (λ b. not (is_blank b)) more
 are_clear (Exactly [] ∷ ps) more = false
 are_clear (Exactly (c ∷ text) ∷ ps) more = not (is_blank c) && are_clear ps more
 are_clear (Number ∷ ps) more = opens ps more && are_clear ps more
 
--- behind a text is what follows it
+-- after a text is what follows it
 pub strip_is : (text more : List ℕ) → strip text (text ++ more) ≡ Some more
 strip_is [] more = refl
 strip_is (t ∷ ts) more = rw (eq-eqb t t refl) (strip_is ts more)
@@ -59,7 +59,7 @@ no_digit_blank b h = grind (arith, nat_tests)
 no_blank_digit : (b : ℕ) → is_digit b ≡ true → not (is_blank b) ≡ true
 no_blank_digit b h = grind (arith, nat_tests)
 
--- blanks hide what stands behind them
+-- blanks hide what stands after them
 behind_blanks : (blanks after : List ℕ) → Every is_blank blanks → IsTrue (is_end_or (λ b. not (is_digit b)) after) → IsTrue (is_end_or (λ b. not (is_digit b)) (blanks ++ after))
 behind_blanks [] after b h = h
 behind_blanks (c ∷ cs) after b h = no_digit_blank c (and_parts (is_blank c) (list_all is_blank cs) b).0
@@ -83,7 +83,7 @@ digits_open (c ∷ cs) after d = no_blank_digit c (and_parts (is_digit c) (list_
 part_step : (p : Part) (ps : List Part) (blanks part after : List ℕ) (more : List ℕ) → Every is_blank blanks → IsTrue (is_end_or (λ b. not (is_blank b)) (part ++ after)) → part_left p (part ++ after) ≡ Some after → parts_left ps after ≡ Some more → parts_left (p ∷ ps) (blanks ++ (part ++ after)) ≡ Some more
 part_step p ps blanks part after more b n l h = rw (rest_append is_blank blanks (part ++ after) b n, l) h
 
--- what stands behind spaced parts is left by them
+-- what stands after spaced parts is left by them
 pub parts_left_is : (ps : List Part) (text more : List ℕ) → IsTrue (are_clear ps more) → IsSpaced ps text → parts_left ps (text ++ more) ≡ Some more
 parts_left_is [] text more c s = ap Some (rest_append is_blank text more s c)
 parts_left_is (Exactly [] ∷ ps) text more c s = absurd cc
@@ -102,12 +102,12 @@ pub clear_word : (text ignored : List ℕ) → IsWord text → IsTrue (is_end_or
 clear_word [] ignored w = absurd cc
 clear_word (b ∷ bs) ignored w = (and_parts (not (is_blank b)) (not (is_line_end b)) (and_parts (is_word_byte b) (list_all is_word_byte bs) w).0).0
 
--- nothing is left behind a header without a rule text
+-- nothing is left after a header without a rule text
 pub header_none : (line : List ℕ) → IsHeader line None → (parts_left (size_parts []) line ≡ Some []) ⊎ (parts_left (size_parts rule_parts) line ≡ Some [])
 header_none line (inl s) = inl (rw append-nil at (parts_left_is (size_parts []) line [] refl s))
 header_none line (inr s) = inr (rw append-nil at (parts_left_is (size_parts rule_parts) line [] refl s))
 
--- behind the parts of a header with a rule text stand that and what is ignored
+-- after the parts of a header with a rule text stand that and what is ignored
 pub header_some : (line text : List ℕ) → IsHeader line (Some text) → (ignored : List ℕ) × IsWord text × IsTrue (is_end_or is_blank ignored) × (parts_left (size_parts rule_parts) line ≡ Some (text ++ ignored))
 header_some line text (front, ignored, s, w, i, e) = (ignored, w, i, ap (parts_left (size_parts rule_parts)) e ∙ parts_left_is (size_parts rule_parts) front (text ++ ignored) (clear_word text ignored w) s)
 
@@ -169,6 +169,6 @@ parts_found (p ∷ ps) bytes more e =
 pub spaced_found : (ps : List Part) (line : List ℕ) → parts_left ps line ≡ Some [] → IsSpaced ps line
 spaced_found ps line e = let f = parts_found ps line [] e in subst (λ (l : List ℕ). IsSpaced ps l) (sym (f.2 ∙ append-nil f.0)) f.1
 
--- a word behind the parts is a rule text
+-- a word after the parts is a rule text
 pub header_found : (line text ignored : List ℕ) → parts_left (size_parts rule_parts) line ≡ Some (text ++ ignored) → IsWord text → IsTrue (is_end_or is_blank ignored) → IsHeader line (Some text)
 header_found line text ignored e w i = let f = parts_found (size_parts rule_parts) line (text ++ ignored) e in (f.0, ignored, f.1, w, i, f.2)

@@ -7,9 +7,9 @@ use Rattle.ca_plane.specs.Bytes.{is_digit, is_end_or, front, rest, value, AreDig
 use Rattle.ca_rle.specs.declared.item.Item.{Item}
 use Rattle.ca_rle.specs.declared.item.Tag.{Tag}
 use Rattle.ca_rle.specs.Items.{InLine, IsWhite, is_prefix, tag_of, IsCount, IsItem, IsEnd}
-use Rattle.ca_rle.specs.Faults.{behind_white}
+use Rattle.ca_rle.specs.Faults.{after_white}
 use Rattle.ca_plane.proofs.Fronts.{front_append, rest_append}
-use Rattle.ca_rle.proofs.White.{Stops, Stops_above, behind_white_is, IsWhite-append, no_digit_behind}
+use Rattle.ca_rle.proofs.White.{Stops, Stops_above, after_white_is, IsWhite-append, no_digit_behind}
 
 -- ---- tags
 
@@ -23,7 +23,7 @@ abbrev pub with_rest : Option Tag → List ℕ → Option (Tag × List ℕ)
 with_rest None more = None
 with_rest (Some t) more = Some (t, more)
 
--- the tag at the front, and the bytes behind it
+-- the tag at the front, and the bytes after it
 abbrev pub tag_at : List ℕ → Option (Tag × List ℕ)
 tag_at [] = None
 tag_at (b ∷ []) = with_rest (tag_of (b ∷ [])) []
@@ -53,20 +53,20 @@ abbrev pub counted : ℕ → Option (Tag × List ℕ) → Option (Item × List �
 counted n None = None
 counted n (Some t) = Some (record { count = n; tag = t.0 }, t.1)
 
--- the item at the front, and the bytes behind it; its count may be 0
+-- the item at the front, and the bytes after it; its count may be 0
 abbrev pub item_at : List ℕ → Option (Item × List ℕ)
-item_at bytes = counted (count_of (front is_digit (behind_white InLine bytes))) (tag_at (behind_white InLine (rest is_digit (behind_white InLine bytes))))
+item_at bytes = counted (count_of (front is_digit (after_white InLine bytes))) (tag_at (after_white InLine (rest is_digit (after_white InLine bytes))))
 
--- the bytes of an item, taken apart, and what stands behind them
+-- the bytes of an item, taken apart, and what stands after them
 pub record Parts (bytes : List ℕ) (digits letters more : List ℕ) : Type 0 where
-  pub digits_are : front is_digit (behind_white InLine bytes) ≡ digits
-  pub letters_are : behind_white InLine (rest is_digit (behind_white InLine bytes)) ≡ letters ++ more
-  pub uncounted : digits ≡ [] → rest is_digit (behind_white InLine bytes) ≡ letters ++ more
+  pub digits_are : front is_digit (after_white InLine bytes) ≡ digits
+  pub letters_are : after_white InLine (rest is_digit (after_white InLine bytes)) ≡ letters ++ more
+  pub uncounted : digits ≡ [] → rest is_digit (after_white InLine bytes) ≡ letters ++ more
 
--- behind white space stands the tag
-pub behind_is_tag : (white letters more : List ℕ) (t : Tag) → IsWhite white → tag_of letters ≡ Some t → behind_white InLine (white ++ (letters ++ more)) ≡ letters ++ more
+-- after white space stands the tag
+pub behind_is_tag : (white letters more : List ℕ) (t : Tag) → IsWhite white → tag_of letters ≡ Some t → after_white InLine (white ++ (letters ++ more)) ≡ letters ++ more
 behind_is_tag white [] more t w e = absurd cc
-behind_is_tag white (b ∷ bs) more t w e = behind_white_is InLine white b (bs ++ more) (Stops_above b (tag_byte b bs t e).0) w
+behind_is_tag white (b ∷ bs) more t w e = after_white_is InLine white b (bs ++ more) (Stops_above b (tag_byte b bs t e).0) w
 
 -- a tag begins with no digit
 no_digit_tag : (letters more : List ℕ) (t : Tag) → tag_of letters ≡ Some t → IsTrue (is_end_or (λ b. not (is_digit b)) (letters ++ more))
@@ -79,7 +79,7 @@ digit_stops d ds h = Stops_above d (let p = (and_parts (is_digit d) (list_all is
 pub item_parts : (before digits between letters more : List ℕ) (n : ℕ) (t : Tag) → IsWhite before → IsCount digits n → IsWhite between → tag_of letters ≡ Some t
     → Parts (before ++ (digits ++ (between ++ (letters ++ more)))) digits letters more
 item_parts before [] between letters more n t v c w e =
-    let seen : behind_white InLine (before ++ (between ++ (letters ++ more))) ≡ letters ++ more = ap (behind_white InLine) (sym (append_assoc before between (letters ++ more))) ∙ behind_is_tag (before ++ between) letters more t (IsWhite-append before between v w) e in
+    let seen : after_white InLine (before ++ (between ++ (letters ++ more))) ≡ letters ++ more = ap (after_white InLine) (sym (append_assoc before between (letters ++ more))) ∙ behind_is_tag (before ++ between) letters more t (IsWhite-append before between v w) e in
     let ends = no_digit_tag letters more t e in
     record {
       digits_are = rw seen (front_append is_digit [] (letters ++ more) refl ends);
@@ -87,7 +87,7 @@ item_parts before [] between letters more n t v c w e =
       uncounted = λ _. ap (rest is_digit) seen ∙ rest_append is_digit [] (letters ++ more) refl ends;
     }
 item_parts before (d ∷ ds) between letters more n t v c w e =
-    let seen : behind_white InLine (before ++ (d ∷ ds ++ (between ++ (letters ++ more)))) ≡ d ∷ ds ++ (between ++ (letters ++ more)) = behind_white_is InLine before d (ds ++ (between ++ (letters ++ more))) (digit_stops d ds c.0) v in
+    let seen : after_white InLine (before ++ (d ∷ ds ++ (between ++ (letters ++ more)))) ≡ d ∷ ds ++ (between ++ (letters ++ more)) = after_white_is InLine before d (ds ++ (between ++ (letters ++ more))) (digit_stops d ds c.0) v in
     let ends = no_digit_behind between (letters ++ more) w (no_digit_tag letters more t e) in
     record {
       digits_are = rw seen (front_append is_digit (d ∷ ds) (between ++ (letters ++ more)) c.0 ends);
@@ -102,7 +102,7 @@ count_is (d ∷ ds) n c = sym c.1
 pub regroup : (before digits between letters more : List ℕ) → (before ++ (digits ++ (between ++ letters))) ++ more ≡ before ++ (digits ++ (between ++ (letters ++ more)))
 regroup before digits between letters more = simp append_assoc
 
--- an item is read as itself, whatever stands behind it
+-- an item is read as itself, whatever stands after it
 pub item_at_is : (bytes more : List ℕ) (i : Item) → IsItem bytes i → item_at (bytes ++ more) ≡ Some (i, more)
 item_at_is bytes more i (before, digits, between, letters, v, c, w, e, spelled) =
     let parts = item_parts before digits between letters more i.count i.tag v c w e in
@@ -113,9 +113,9 @@ no_tag_at_end : (ignored : List ℕ) → tag_at (33 ∷ ignored) ≡ None
 no_tag_at_end [] = refl
 no_tag_at_end (b ∷ bs) = refl
 
--- at an end `!` stands behind white space
-pub end_behind : (bytes : List ℕ) → IsEnd bytes → (ignored : List ℕ) × (behind_white InLine bytes ≡ 33 ∷ ignored)
-end_behind bytes (before, ignored, w, spelled) = (ignored, ap (behind_white InLine) spelled ∙ behind_white_is InLine before 33 ignored (record { no_line_end = refl; no_blank = refl; no_hash = refl }) w)
+-- at an end `!` stands after white space
+pub end_behind : (bytes : List ℕ) → IsEnd bytes → (ignored : List ℕ) × (after_white InLine bytes ≡ 33 ∷ ignored)
+end_behind bytes (before, ignored, w, spelled) = (ignored, ap (after_white InLine) spelled ∙ after_white_is InLine before 33 ignored (record { no_line_end = refl; no_blank = refl; no_hash = refl }) w)
 
 -- at an end no item is read
 pub no_item_at_end : (bytes : List ℕ) → IsEnd bytes → item_at bytes ≡ None

@@ -9,7 +9,7 @@ use Rattle.ca_rle.specs.declared.fault.RleFault.TheVariants.{Syntax, Header, Xli
 use Rattle.ca_rle.specs.declared.item.Item.{Item}
 use Rattle.ca_rle.specs.Items.{InLine, is_letter, is_prefix, prefixed_state, tag_of, Items}
 use Rattle.ca_rle.specs.Limits.{IsWithinRange, IsWithinLimits}
-use Rattle.ca_rle.specs.Faults.{behind_white, letter_fault, tag_fault, count_fault, item_fault}
+use Rattle.ca_rle.specs.Faults.{after_white, letter_fault, tag_fault, count_fault, item_fault}
 use Rattle.ca_rle.specs.inner.BodyFaults.{bare_file, HasBadUnit, IsBodyFault}
 use Rattle.ca_rle.specs.inner.Extent.{IsExtentOf, IsExtentInRange}
 use Rattle.ca_rle.proofs.Pushed.{counts_low}
@@ -53,14 +53,14 @@ tag_faults counted (b ∷ bs) =
 
 count_faults : (digits bytes : List ℕ) → OrNone (count_fault digits bytes)
 count_faults [] bytes = tag_faults false bytes
-count_faults (d ∷ ds) bytes = either (value (d ∷ ds) == 0) (Some Syntax) (tag_fault true (behind_white InLine bytes)) tt (tag_faults true (behind_white InLine bytes))
+count_faults (d ∷ ds) bytes = either (value (d ∷ ds) == 0) (Some Syntax) (tag_fault true (after_white InLine bytes)) tt (tag_faults true (after_white InLine bytes))
 
 item_faults : (bytes : List ℕ) → OrNone (item_fault bytes)
-item_faults bytes = count_faults (front is_digit (behind_white InLine bytes)) (rest is_digit (behind_white InLine bytes))
+item_faults bytes = count_faults (front is_digit (after_white InLine bytes)) (rest is_digit (after_white InLine bytes))
 
 -- the fault of a bad item is the body's
 pub body_fault : (body : List ℕ) (corner : Point) (f : RleFault) → HasBadUnit body f → IsBodyFault body corner f
-body_fault body corner f (items, bad, run, fault) = go f (items, bad, run, fault) (subst OrNone fault (item_faults bad))
+body_fault body corner f (bad, (items, run, fault)) = go f (bad, (items, run, fault)) (subst OrNone fault (item_faults bad))
   where
     go : (f : RleFault) → HasBadUnit body f → IsItemFault f → IsBodyFault body corner f
     go Syntax h k = h
@@ -73,9 +73,9 @@ body_fault body corner f (items, bad, run, fault) = go f (items, bad, run, fault
     go TooManyCells h k = absurd k
     go Memory h k = tt
 
--- and it is no want of memory
+-- and it isn't that memory ran out
 pub no_memory : (body : List ℕ) (f : RleFault) → HasBadUnit body f → f ≡ Memory → ⊥
-no_memory body f (items, bad, run, fault) e = subst IsItemFault e (subst OrNone fault (item_faults bad))
+no_memory body f (bad, (items, run, fault)) e = subst IsItemFault e (subst OrNone fault (item_faults bad))
 
 -- ---- the limits
 

@@ -36,7 +36,7 @@ lines_new (l ∷ k ∷ ls) line piece are full short = (are.0, are.1, are.2, lin
 abbrev IsOpen : List (List (List ℕ)) → List (List ℕ) → Type 0
 IsOpen closed last = ((closed ≡ []) × (last ≡ [])) ⊎ ((0 < length last) × AreLines (closed ++ last ∷ []))
 
--- pieces stand behind a text in lines, of which the last isn't ended yet and has so many characters
+-- pieces stand after a text in lines, of which the last isn't ended yet and has so many characters
 pub record IsLaid (start text : List ℕ) (filled : ℕ) (pieces : List (List ℕ)) : Type 0 where
   pub closed : List (List (List ℕ))
   pub open_line : List (List ℕ)

@@ -5,6 +5,7 @@ pub mod NoFault
 pub mod ReadItems
 pub mod Spans
 pub mod Headers
+pub mod ExampleHeaders
 pub mod OneHeader
 pub mod OneFile
 pub mod Runs
@@ -16,6 +17,8 @@ pub mod OneFault
 pub mod GoodItem
 pub mod WordOrFault
 pub mod LineKinds
+pub mod FaultAt
+pub mod FaultLines
 pub mod FileOrFault
 pub mod TidyNumbers
 pub mod TidyBody

@@ -88,7 +88,7 @@ xlife_or_not line =
       | inr h ↦ inr (λ x. true≢false (sym (xlife_is line x) ∙ h))
     ]
 
--- a line of these that is XLife's, with those before and behind it
+-- a line of these that is XLife's, with those before and after it
 pub record HasXlifeLine (lines : List (List ℕ)) : Type 0 where
   pub earlier : List (List ℕ)
   pub xlife : List ℕ

@@ -11,7 +11,7 @@ use Rattle.ca_rle.specs.inner.Extent.{kept_number, live_count, IsOffsetOf, IsExt
 use Rattle.ca_rle.proofs.Units.{IsItemAtFront}
 use Rattle.ca_rle.proofs.Pushed.{rows_of-push, columns_of-push, longest_of-push, right_behind-push, bottom_behind-push, live_cells-push, Run-push}
 
--- where the item behind i begins
+-- where the item after i begins
 pub record IsNextOffset (i : Item) (at next : Offset) : Type 0 where
   pub rows : next.rows ≡ kept_number (at.rows + (if ends_row i.tag then i.count else 0))
   pub columns : next.columns ≡ (if ends_row i.tag then 0 else kept_number (at.columns + i.count))
@@ -32,7 +32,7 @@ kept_none_or_sum : (t : Bool) (a b x y n : ℕ) → n ≡ (if t then 0 else kept
 kept_none_or_sum true a b x y n e f g = omega (arith, e)
 kept_none_or_sum false a b x y n e f g = omega (arith, e, f, g)
 
--- the offset behind one more item
+-- the offset after one more item
 pub offset_more : (items : List Item) (j : Item) (at next : Offset) → IsOffsetOf items at → IsNextOffset (kept j) at next → IsOffsetOf (items ++ j ∷ []) next
 offset_more items j at next o n = record {
   rows = kept_sum (ends_row j.tag) (rows_of items) j.count at.rows (kept_number j.count) next.rows n.rows o.rows refl ∙ ap kept_number (sym (rows_of-push items j));

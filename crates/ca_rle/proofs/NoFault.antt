@@ -9,7 +9,7 @@ use Rattle.ca_rle.specs.declared.item.Item.{Item}
 use Rattle.ca_rle.specs.declared.item.Tag.{Tag}
 use Rattle.ca_rle.specs.declared.item.Tag.TheVariants.{Cell}
 use Rattle.ca_rle.specs.Items.{InLine, is_letter, is_prefix, prefixed_state, tag_of, IsCount, IsItem, Run, IsEnd, Items}
-use Rattle.ca_rle.specs.Faults.{behind_white, letter_fault, tag_fault, count_fault, item_fault}
+use Rattle.ca_rle.specs.Faults.{after_white, letter_fault, tag_fault, count_fault, item_fault}
 use Rattle.ca_rle.proofs.ItemAt.{tag_byte, two_letters, item_parts, end_behind, regroup}
 use Rattle.ca_rle.proofs.OneList.{item_or_end, one_item}
 
@@ -33,11 +33,11 @@ no_tag_fault counted (p ∷ b ∷ []) more t e =
     rw (not_end p (b ∷ []) t e) (none_or (is_some (tag_of (p ∷ []))) (cond (is_prefix p) (letter_fault p (b ∷ more)) (Some Syntax)) (rw (two_letters p b t e) (no_letter_fault p b more t e)))
 no_tag_fault counted (p ∷ b ∷ c ∷ bs) more t e = absurd cc
 
-no_count_fault : (digits letters more after : List ℕ) (n : ℕ) (t : Tag) → IsCount digits n → tag_of letters ≡ Some t → (digits ≡ [] → after ≡ letters ++ more) → behind_white InLine after ≡ letters ++ more → count_fault digits after ≡ None
+no_count_fault : (digits letters more after : List ℕ) (n : ℕ) (t : Tag) → IsCount digits n → tag_of letters ≡ Some t → (digits ≡ [] → after ≡ letters ++ more) → after_white InLine after ≡ letters ++ more → count_fault digits after ≡ None
 no_count_fault [] letters more after n t c e plain h = rw (plain refl) (no_tag_fault false letters more t e)
 no_count_fault (d ∷ ds) letters more after n t c e plain h = rw (ne_eqb (value (d ∷ ds)) 0 (λ s. omega (arith, c.1, c.2)), h) (no_tag_fault true letters more t e)
 
--- an item has no fault, whatever stands behind it
+-- an item has no fault, whatever stands after it
 pub no_item_fault : (bytes more : List ℕ) (i : Item) → IsItem bytes i → item_fault (bytes ++ more) ≡ None
 no_item_fault bytes more i (before, digits, between, letters, v, c, w, e, spelled) =
     let parts = item_parts before digits between letters more i.count i.tag v c w e in
@@ -48,7 +48,7 @@ no_item_fault bytes more i (before, digits, between, letters, v, c, w, e, spelle
 pub no_end_fault : (bytes : List ℕ) → IsEnd bytes → item_fault bytes ≡ None
 no_end_fault bytes end = let e = end_behind bytes end in rw e.1
 
--- behind items of a spelled list stands no bad item
+-- after items of a spelled list stands no bad item
 pub no_bad_item : (bytes bad : List ℕ) (is js : List Item) (f : RleFault) → Items bytes is → Run bytes js bad → item_fault bad ≡ Some f → ⊥
 no_bad_item bytes bad [] [] f (rest, run, end) done e = none-some f (sym (no_end_fault bytes (subst IsEnd (sym run) end)) ∙ ap item_fault done ∙ e)
 no_bad_item bytes bad (i ∷ is) [] f (rest, (front, more, item, later, d), end) done e = none-some f (sym (no_item_fault front more i item) ∙ ap item_fault (sym d ∙ done) ∙ e)

@@ -1,4 +1,4 @@
--- A text is a file or has a fault, not both, and it has one fault at most, want of memory apart.
+-- A text is a file or has a fault, not both, and it has one fault at most, besides running out of memory.
 use Rattle.std.proofs.Common.{◌≡◌, ◌≢◌, ℕ, ◌^◌, inl, inr, true, List, [], ◌∷◌, ◌++◌, length, Option, None, is_some, refl, sym, ap, subst, ◌∙◌, true≢false}
 use Rattle.std.specs.List.{AllByRecursion}
 use Rattle.std.proofs.lemmas.Option.{same_Some}
@@ -28,11 +28,11 @@ pub record HasHeader (bytes : List ℕ) : Type 0 where
   pub place : EndsPreamble bytes lines header body
   pub header_is : IsHeader header rule
 
--- a header behind which items may stand
+-- a header after which items may stand
 pub header_of_headed : (bytes : List ℕ) (said : List Said) (rule : Option (List ℕ)) (body : List ℕ) → IsHeaded bytes said rule body → HasHeader bytes
 header_of_headed bytes said rule body h = record { lines = h.lines; header = h.header; rule = rule; body = body; place = headed_place bytes said rule body h; header_is = h.header_is }
 
--- a header that wants a rule
+-- a header that lacks a rule
 pub header_of_xlife : (bytes : List ℕ) → HasXlifeRule bytes → HasHeader bytes
 header_of_xlife bytes h = record { lines = h.lines; header = h.header; rule = None; body = h.body; place = xlife_place bytes h; header_is = h.header_is }
 
@@ -41,11 +41,11 @@ bad_word_is_comment bytes f p lines line more q =
     let place = one_place bytes p.lines lines p.line line p.more more (bad_word_place bytes f p) q in
     ap is_comment (sym place.1) ∙ p.comment
 
--- a text with a bad word has no header behind its good lines
+-- a text with a bad word has no header after its good lines
 pub bad_word_or_header : (bytes : List ℕ) (f : RleFault) → HasBadWord bytes f → HasHeader bytes → ⊥
 bad_word_or_header bytes f p q = true≢false (sym (bad_word_is_comment bytes f p q.lines q.header q.body q.place) ∙ no_comment q.header q.rule q.header_is)
 
--- a text with a bad word is not one whose header is wanting
+-- a text with a bad word is not one whose header is missing
 pub bad_word_or_no_header : (bytes : List ℕ) (f : RleFault) → HasBadWord bytes f → HasNoHeader bytes → ⊥
 bad_word_or_no_header bytes f p q =
     let comment = bad_word_is_comment bytes f p q.lines q.line q.more (no_header_place bytes q) in
@@ -68,7 +68,7 @@ none_among (l ∷ ls) others line h x = none_among ls others line h.1 x
 no_rule : (o : Option (List ℕ)) → None ≡ o → is_some o ≡ true → ⊥
 no_rule o e h = true≢false (sym h ∙ ap is_some (sym e))
 
--- a header behind which items may stand names its rule, or no line gives XLife's
+-- a header after which items may stand names its rule, or no line gives XLife's
 pub xlife_or_headed : (bytes : List ℕ) (said : List Said) (rule : Option (List ℕ)) (body : List ℕ) → HasXlifeRule bytes → IsHeaded bytes said rule body → ⊥
 xlife_or_headed bytes said rule body p q =
     let place = one_place bytes p.lines q.lines p.header q.header p.body body (xlife_place bytes p) (headed_place bytes said rule body q) in
@@ -77,12 +77,15 @@ xlife_or_headed bytes said rule body p q =
       | inr none ↦ none_among p.earlier p.others p.xlife (subst (λ (ls : List (List ℕ)). AllByRecursion (λ l. IsXlifeLine l → ⊥) ls) (sym place.0 ∙ p.among) none) p.is_xlife
     ]
 
--- a text has one bad item at most
-pub one_bad_unit : (bytes : List ℕ) (f g : RleFault) → HasBadItem bytes f → HasBadItem bytes g → f ≡ g
-one_bad_unit bytes f g p q =
+-- a text has one place at most where a bad item stands
+pub one_bad_place : (bytes : List ℕ) (f g : RleFault) (p : HasBadItem bytes f) (q : HasBadItem bytes g) → p.bad ≡ q.bad
+one_bad_place bytes f g p q =
     let headed = one_headed bytes p.said q.said p.rule q.rule p.body q.body p.headed q.headed in
-    let same = one_bad_item q.body p.bad q.bad p.items q.items f g (subst (λ (l : List ℕ). Run l p.items p.bad) headed.2 p.good) p.fault_is q.good q.fault_is in
-    same_Some f g (sym p.fault_is ∙ ap item_fault same ∙ q.fault_is)
+    one_bad_item q.body p.bad q.bad p.items q.items f g (subst (λ (l : List ℕ). Run l p.items p.bad) headed.2 p.good) p.fault_is q.good q.fault_is
+
+-- and one fault of it
+pub one_bad_unit : (bytes : List ℕ) (f g : RleFault) → HasBadItem bytes f → HasBadItem bytes g → f ≡ g
+one_bad_unit bytes f g p q = same_Some f g (sym p.fault_is ∙ ap item_fault (one_bad_place bytes f g p q) ∙ q.fault_is)
 
 -- ---- the first fault
 
@@ -177,7 +180,7 @@ one_limit_kind bytes f g (TooMany file h many) (Spelling q) = absurd (no_fault_i
 one_limit_kind bytes f g (TooMany file h many) (TooFar far k out) = absurd (far_or_many bytes far file k out h many)
 one_limit_kind bytes f g (TooMany file h many) (TooMany other k m) = refl
 
--- a text has one fault at most, want of memory apart
+-- a text has one fault at most, besides running out of memory
 pub one_fault : (bytes : List ℕ) (f g : RleFault) → f ≢ Memory → g ≢ Memory → IsFaultOf bytes f → IsFaultOf bytes g → f ≡ g
 one_fault bytes f g m n p q = one_limit_kind bytes f g (limit_kind_of bytes f m p) (limit_kind_of bytes g n q)
 
@@ -186,6 +189,6 @@ no_limit_kind bytes file f h w (Spelling p) = no_fault_in_a_file bytes file f h 
 no_limit_kind bytes file f h w (TooFar far k out) = out (subst IsWithinRange (one_file bytes file far h k) w.0)
 no_limit_kind bytes file f h w (TooMany full k many) = below_and_above (2 ^ 24) (length (picture_of file.corner file.items)) (subst HasTooManyCells (one_file bytes full file k h) many).1 w.1
 
--- a file within the limits has no fault, want of memory apart
+-- a file within the limits has no fault, besides running out of memory
 pub no_fault_within_limits : (bytes : List ℕ) (file : File) (f : RleFault) → IsFile bytes file → IsWithinLimits file → f ≢ Memory → IsFaultOf bytes f → ⊥
 no_fault_within_limits bytes file f h w n p = no_limit_kind bytes file f h w (limit_kind_of bytes f n p)

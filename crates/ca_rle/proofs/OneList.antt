@@ -9,7 +9,7 @@ use Rattle.ca_rle.proofs.ItemAt.{item_at, item_at_is, no_item_at_end}
 pub item_or_end : (bytes front more : List ℕ) (i : Item) → IsEnd bytes → IsItem front i → bytes ≡ front ++ more → ⊥
 item_or_end bytes front more i end item e = none-some (i, more) (sym (no_item_at_end bytes end) ∙ ap item_at e ∙ item_at_is front more i item)
 
--- two items at the front of the same bytes are one, and so is what stands behind them
+-- two items at the front of the same bytes are one, and so is what stands after them
 pub one_item : (a b m n : List ℕ) (i j : Item) → IsItem a i → IsItem b j → a ++ m ≡ b ++ n → (i ≡ j) × (m ≡ n)
 one_item a b m n i j p q e = some_pair_parts i j m n (sym (item_at_is a m i p) ∙ ap item_at e ∙ item_at_is b n j q)
 

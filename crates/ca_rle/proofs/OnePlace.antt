@@ -15,11 +15,11 @@ line_stops : (bytes : List ℕ) → IsTrue (is_end_or is_line_end bytes) → IsT
 line_stops [] h = refl
 line_stops (b ∷ bs) h = rw h
 
--- bytes are a line and what stands behind it in one way
+-- bytes are a line and what stands after it in one way
 pub one_line : (a b m n : List ℕ) → IsLine a → IsLine b → IsTrue (is_end_or is_line_end m) → IsTrue (is_end_or is_line_end n) → a ++ m ≡ b ++ n → (a ≡ b) × (m ≡ n)
 one_line a b m n p q h k e = one_split (λ c. not (is_line_end c)) a b m n p q (line_stops m h) (line_stops n k) e
 
--- behind the first line stand its LF and the others
+-- after the first line stand its LF and the others
 pub behind_first_line : (line : List ℕ) (lines : List (List ℕ)) (more : List ℕ) → flat_map ended (line ∷ lines) ++ more ≡ line ++ (10 ∷ (flat_map ended lines ++ more))
 behind_first_line line lines more = simp append_assoc
 
@@ -37,7 +37,7 @@ says_split (w ∷ ws) others (s ∷ ss) (h, hs) = let later = says_split ws othe
 abbrev pub IsGood : List ℕ → Type 0
 IsGood line = (is_comment line ≡ true) × ((said : List Said) × AllZip Says (extended_words line) said)
 
--- behind good lines stands a line that is none of them: it isn't good, or no LF ends it
+-- after good lines stands a line that is none of them: it isn't good, or no LF ends it
 pub record EndsPreamble (bytes : List ℕ) (lines : List (List ℕ)) (line more : List ℕ) : Type 0 where
   pub said : List Said
   pub preamble : IsPreamble lines said
@@ -49,7 +49,7 @@ pub record EndsPreamble (bytes : List ℕ) (lines : List (List ℕ)) (line more 
 first_is_good : (line : List ℕ) (lines : List (List ℕ)) (said : List Said) → IsPreamble (line ∷ lines) said → IsGood line
 first_is_good line lines said p = let s = says_split (extended_words line) (flat_map extended_words lines) said p.words in (p.comments.0, (s.0, s.2))
 
--- the place is the same behind the first line
+-- the place is the same after the first line
 behind_first : (bytes : List ℕ) (first : List ℕ) (lines : List (List ℕ)) (line more later : List ℕ) → EndsPreamble bytes (first ∷ lines) line more → later ≡ flat_map ended lines ++ (line ++ more) → EndsPreamble later lines line more
 behind_first bytes first lines line more later p e =
     let s = says_split (extended_words first) (flat_map extended_words lines) p.said p.preamble.words in
@@ -84,11 +84,11 @@ one_place bytes (l ∷ ls) (k ∷ ks) a b m n p q =
 no_good_header : (line more : List ℕ) (rule : Option (List ℕ)) → IsHeader line rule → IsGood line → more ≡ []
 no_good_header line more rule h good = absurd (true≢false (sym good.0 ∙ no_comment line rule h))
 
--- the place of a header behind which items may stand
+-- the place of a header after which items may stand
 pub headed_place : (bytes : List ℕ) (said : List Said) (rule : Option (List ℕ)) (body : List ℕ) (h : IsHeaded bytes said rule body) → EndsPreamble bytes h.lines h.header body
 headed_place bytes said rule body h = record { said = said; preamble = h.preamble; line_is = h.header_is_line; line_ends = h.header_ends; bad_or_last = no_good_header h.header body rule h.header_is; spelled = h.spelled }
 
--- the place of a header that wants a rule
+-- the place of a header that lacks a rule
 pub xlife_place : (bytes : List ℕ) (h : HasXlifeRule bytes) → EndsPreamble bytes h.lines h.header h.body
 xlife_place bytes h = record { said = h.said; preamble = h.preamble; line_is = h.header_is_line; line_ends = h.header_ends; bad_or_last = no_good_header h.header h.body None h.header_is; spelled = h.spelled }
 
@@ -96,6 +96,6 @@ no_comment_or_last : (line more : List ℕ) → (is_comment line ≡ false) ⊎ 
 no_comment_or_last line more (inl e) good = absurd (true≢false (sym good.0 ∙ e))
 no_comment_or_last line more (inr e) good = e.0
 
--- the place where the header is wanting
+-- the place where the header is missing
 pub no_header_place : (bytes : List ℕ) (h : HasNoHeader bytes) → EndsPreamble bytes h.lines h.line h.more
 no_header_place bytes h = record { said = h.said; preamble = h.preamble; line_is = h.line_is; line_ends = h.line_ends; bad_or_last = no_comment_or_last h.line h.more h.no_comment_or_last; spelled = h.spelled }

@@ -122,7 +122,7 @@ not_in_item left at n (Cell s) x y k (inr here) l row col = omega (arith, ints, 
 not_in_item left at n RowEnd x y k (inl below) l row col = omega (arith, ints)
 not_in_item left at n RowEnd x y k (inr here) l row col = omega (arith, ints, here.0)
 
--- behind the same first item they show the same
+-- after the same first item they show the same
 same_behind : (left : ℤ) (at : Point) (i : Item) (is js : List Item) → 0 < i.count → AreSame at (drawn left at (i ∷ is)) (drawn left at (i ∷ js))
     → AreSame (next left at i) (drawn left (next left at i) is) (drawn left (next left at i) js)
 same_behind left at i is js low same x y ahead =

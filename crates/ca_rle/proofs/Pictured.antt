@@ -27,11 +27,11 @@ use Rattle.ca_rle.proofs.Ranges.{all_parts, run_has_room}
 use Rattle.ca_rle.proofs.Prefixes.{items_left, items_done, item_state_low}
 use Rattle.ca_rle.proofs.Runs.{run_behind, run_clear, run_states, cell-behind-zero}
 
--- a place in reading order at or behind another
+-- a place in reading order at or after another
 abbrev pub IsAhead : Point → ℤ → ℤ → Type 0
 IsAhead at x y = (at.y <ℤ y) ⊎ ((y ≡ at.y) × (at.x ≤ℤ x))
 
--- the place behind an item: further right, or below the corner further down
+-- the place after an item: further right, or below the corner further down
 abbrev place_after : Point → Point → Item → Point
 place_after corner at i = if ends_row i.tag then record { y = at.y +ℤ pos i.count; x = corner.x } else record { y = at.y; x = at.x +ℤ pos i.count }
 
@@ -53,7 +53,7 @@ same_behind : (r p q : Picture) → IsSame p q → IsSame (r ++ p) (r ++ q)
 same_behind [] p q same x y = same x y
 same_behind (e ∷ es) p q same x y = ap (λ s. if int_eq y e.0.y && int_eq x e.0.x then e.1 else s) (same_behind es p q same x y)
 
--- an item's cells may stand before a picture that is clear ahead of them, or behind it
+-- an item's cells may stand before a picture that is clear ahead of them, or after it
 item_behind : (p : Picture) (at : Point) (i : Item) → IsPicture p → ((x y : ℤ) → IsAhead at x y → cell p x y ≡ 0) → IsSame (cells_from at i ++ p) (p ++ cells_from at i)
 item_behind p at i states ahead x y =
     elim (cases_Bool (state_of i.tag == 0)) [
@@ -71,7 +71,7 @@ item_states at i low =
           rw e (run_states (state_of i.tag) at i.count (omega arith) low)
     ]
 
--- behind an item its own cells end
+-- after an item its own cells end
 tag_clear : (corner at : Point) (n : ℕ) (t : Tag) (x y : ℤ) → IsAhead (place_after corner at (record { count = n; tag = t })) x y → cell (cells_from at (record { count = n; tag = t })) x y ≡ 0
 tag_clear corner at n RowEnd x y h = refl
 tag_clear corner at n (Cell s) x y h =
@@ -84,7 +84,7 @@ tag_clear corner at n (Cell s) x y h =
     past (inl below) row = absurd (omega (arith, ints))
     past (inr right) row = right.1
 
--- what is ahead of the place behind an item is ahead of the item
+-- what is ahead of the place after an item is ahead of the item
 tag_ahead : (corner at : Point) (n : ℕ) (t : Tag) (x y : ℤ) → 0 < n → IsAhead (place_after corner at (record { count = n; tag = t })) x y → IsAhead at x y
 tag_ahead corner at n (Cell s) x y some (inl below) = inl below
 tag_ahead corner at n (Cell s) x y some (inr right) = inr (right.0, omega (arith, ints, right.1))

@@ -40,7 +40,7 @@ pub first_is : (bytes : List ℕ) (b : ℕ) → Some b ≡ slice_get bytes 0 →
 first_is [] b e = absurd cc
 first_is (c ∷ cs) b e = (cs, ap (λ (d : ℕ). d ∷ cs) (sym (same_Some b c e)))
 
--- what stands behind the blanks of an XLife line
+-- what stands after the blanks of an XLife line
 pub xlife_behind : (line : List ℕ) → IsXlifeLine line → (blank : ℕ) × (more : List ℕ) × IsTrue (is_blank blank) × (rest is_blank (without_cr line) ≡ codes "#r" ++ blank ∷ more)
 xlife_behind line (blanks, blank, more, b, h, e) = (blank, more, h, ap (rest is_blank) e ∙ rest_append is_blank blanks (codes "#r" ++ blank ∷ more) b refl)
 
@@ -51,7 +51,7 @@ xlife_from line behind blank e f h =
     let blanks = front is_blank (without_cr line) in
     (blanks, blank, first.0, every_front is_blank (without_cr line), h, sym (front_then_rest is_blank (without_cr line)) ∙ ap (λ (l : List ℕ). blanks ++ l) (e ∙ ap (λ (l : List ℕ). codes "#r" ++ l) first.1))
 
--- the byte behind `#r` is the first there
+-- the byte after `#r` is the first there
 pub same_blank : (behind : List ℕ) (byte blank : ℕ) (more : List ℕ) → Some byte ≡ slice_get behind 0 → codes "#r" ++ behind ≡ codes "#r" ++ blank ∷ more → IsTrue (is_blank blank) → is_blank byte ≡ true
 same_blank behind byte blank more f e h =
     let first = first_is behind byte f in
@@ -59,7 +59,7 @@ same_blank behind byte blank more f e h =
     let same : byte ≡ blank = cc in
     rw same h
 
--- behind `#r` is none
+-- after `#r` is none
 pub no_first : (behind : List ℕ) (blank : ℕ) (more : List ℕ) → None ≡ slice_get behind 0 → codes "#r" ++ behind ≡ codes "#r" ++ blank ∷ more → ⊥
 no_first behind blank more f e =
     let whole : behind ≡ blank ∷ more = append_cancel_left (codes "#r") behind (blank ∷ more) e in
@@ -78,11 +78,11 @@ preamble_more lines line said more p l c z =
     words_are : flat_map extended_words (lines ++ line ∷ []) ≡ flat_map extended_words lines ++ extended_words line
     words_are = flat_map-append extended_words lines (line ∷ []) ∙ ap (λ (ws : List (List ℕ)). flat_map extended_words lines ++ ws) (append-nil (extended_words line))
 
--- a line behind one that gives XLife's rule
+-- a line after one that gives XLife's rule
 pub xlife_before : (lines : List (List ℕ)) (line : List ℕ) → HasXlifeLine lines → HasXlifeLine (lines ++ line ∷ [])
 xlife_before lines line (earlier, x, later, h, e) = (earlier, x, later ++ line ∷ [], h, ap (λ (ls : List (List ℕ)). ls ++ line ∷ []) e ∙ append_assoc earlier (x ∷ later) (line ∷ []))
 
--- such a line behind others
+-- such a line after others
 pub xlife_last : (lines : List (List ℕ)) (line : List ℕ) → IsXlifeLine line → HasXlifeLine (lines ++ line ∷ [])
 xlife_last lines line h = (lines, line, [], h, refl)
 

@@ -7,7 +7,7 @@ use Rattle.ca_rle.specs.Items.{tag_of, Run, IsEnd, Items}
 use Rattle.ca_rle.specs.Shown.{state_of}
 use Rattle.ca_rle.proofs.OneList.{item_or_end, one_item, one_list}
 
--- the items behind those that were read spell what is left
+-- the items after those that were read spell what is left
 pub items_left : (bytes rest : List ℕ) (all some : List Item) → Items bytes all → Run bytes some rest → (others : List Item) × Items rest others × (all ≡ some ++ others)
 items_left bytes rest all [] items done = (all, subst (λ b. Items b all) done items, refl)
 items_left bytes rest [] (j ∷ js) (last, run, end) (front, more, item, later, e) = absurd (item_or_end bytes front more j (subst IsEnd (sym run) end) item e)

@@ -1,4 +1,4 @@
--- Items with one more behind them: where they stand in the bytes, their rows, columns and cells, and how far they reach.
+-- Items with one more after them: where they stand in the bytes, their rows, columns and cells, and how far they reach.
 use Rattle.std.proofs.Common.{◌≡◌, ℕ, ◌+◌, ◌-◌, ◌<◌, ◌≤◌, max, Some, Bool, not, cond, List, [], ◌∷◌, ◌++◌, length, reverse, drop, inl, inr, refl, sym, ap, subst, ◌∙◌, append_assoc, length-append, arith}
 use Rattle.std.specs.Prelude.{if◌then◌else◌}
 use Rattle.std.specs.List.{AllByRecursion, sum_by, after_last, suffix_len, prefix_len}
@@ -11,7 +11,7 @@ use Rattle.ca_rle.specs.Items.{tag_of, IsCount, Run}
 use Rattle.ca_rle.specs.Shown.{ends_row, rows_of, columns_of, cells_of, picture_behind}
 use Rattle.ca_rle.specs.inner.Extent.{longest_of, live_count, live_cells, columns_to, rows_to, right_behind, bottom_behind}
 
--- one more element at the end begins anew, or stands behind what was there
+-- one more element at the end begins anew, or stands after what was there
 after_last-push : {X : Type 0} (p : X → Bool) (xs : List X) (y : X) → after_last p (xs ++ y ∷ []) ≡ (if p y then [] else after_last p xs ++ y ∷ [])
 after_last-push {X} p xs y =
     let before = suffix_len (λ x. not (p x)) xs in
@@ -28,11 +28,11 @@ after_last-push {X} p xs y =
           ap (λ n. drop n (xs ++ y ∷ [])) start ∙ drop-append-le (length xs - before) xs (y ∷ []) (omega arith) ∙ rw e refl
     ]
 
--- the row behind one more item
+-- the row after one more item
 pub rows_of-push : (is : List Item) (i : Item) → rows_of (is ++ i ∷ []) ≡ rows_of is + (if ends_row i.tag then i.count else 0)
 rows_of-push is i = sum_by_push (λ i. if ends_row i.tag then i.count else 0) is i
 
--- the column behind one more item
+-- the column after one more item
 pub columns_of-push : (is : List Item) (i : Item) → columns_of (is ++ i ∷ []) ≡ (if ends_row i.tag then 0 else columns_of is + i.count)
 columns_of-push is i =
     let last = after_last-push (λ i. ends_row i.tag) is i in
@@ -45,7 +45,7 @@ columns_of-push is i =
           ap (sum_by (λ i. i.count)) more ∙ sum_by_push (λ i. i.count) (after_last (λ i. ends_row i.tag) is) i ∙ rw e refl
     ]
 
--- the cells of one more item stand behind those of the others
+-- the cells of one more item stand after those of the others
 pub picture_behind-push : (corner : Point) (before is : List Item) (i : Item) → picture_behind corner before (is ++ i ∷ []) ≡ picture_behind corner before is ++ cells_of corner (before ++ is) i
 picture_behind-push corner before [] i = append-nil (cells_of corner before i) ∙ ap (λ b. cells_of corner b i) (sym (append-nil before))
 picture_behind-push corner before (j ∷ js) i =
@@ -53,7 +53,7 @@ picture_behind-push corner before (j ∷ js) i =
     ∙ sym (append_assoc (cells_of corner before j) (picture_behind corner (before ++ j ∷ []) js) (cells_of corner ((before ++ j ∷ []) ++ js) i))
     ∙ ap (λ b. (cells_of corner before j ++ picture_behind corner (before ++ j ∷ []) js) ++ cells_of corner b i) (append_assoc before (j ∷ []) js)
 
--- the cells of two parts stand one behind the other
+-- the cells of two parts stand one after the other
 pub picture_behind-append : (corner : Point) (before is js : List Item) → picture_behind corner before (is ++ js) ≡ picture_behind corner before is ++ picture_behind corner (before ++ is) js
 picture_behind-append corner before [] js = ap (λ b. picture_behind corner b js) (sym (append-nil before))
 picture_behind-append corner before (i ∷ is) js =
@@ -91,7 +91,7 @@ live_cells-push is i = sum_by_push live_count is i
 
 -- ---- in the bytes
 
--- one more item stands behind those of a run
+-- one more item stands after those of a run
 pub Run-push : (bytes : List ℕ) (is : List Item) (i : Item) (middle end : List ℕ) → Run bytes is middle → Run middle (i ∷ []) end → Run bytes (is ++ i ∷ []) end
 Run-push bytes [] i middle end done more = subst (λ b. Run b (i ∷ []) end) (sym done) more
 Run-push bytes (j ∷ js) i middle end (front, later, item, run, e) more = (front, later, item, Run-push later js i middle end run more, e)

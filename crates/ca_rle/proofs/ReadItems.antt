@@ -5,7 +5,7 @@ use Rattle.ca_plane.specs.Bytes.{Every, is_blank, is_line_end, is_digit, front, 
 use Rattle.ca_rle.specs.declared.item.Item.{Item}
 use Rattle.ca_rle.specs.declared.item.Tag.{Tag}
 use Rattle.ca_rle.specs.Items.{Place, AtStart, InLine, InComment, is_white_from, tag_of, is_prefix, IsCount, IsItem, Run, IsEnd, Items}
-use Rattle.ca_rle.specs.Faults.{behind_white}
+use Rattle.ca_rle.specs.Faults.{after_white}
 use Rattle.ca_plane.proofs.Fronts.{front_then_rest, every_front}
 use Rattle.ca_rle.proofs.ItemAt.{with_rest, tag_at, count_of, counted, item_at}
 
@@ -23,8 +23,8 @@ chosen : {A : Type 0} (b : Bool) (x y z : A) → cond b x y ≡ z → ((b ≡ tr
 chosen true x y z e = inl (refl, e)
 chosen false x y z e = inr (refl, e)
 
--- what is not empty behind white space follows white space
-pub behind_follows : (place : Place) (bytes : List ℕ) (c : ℕ) (more : List ℕ) → behind_white place bytes ≡ c ∷ more → BeginsWhite place bytes (c ∷ more)
+-- what is not empty after white space follows white space
+pub behind_follows : (place : Place) (bytes : List ℕ) (c : ℕ) (more : List ℕ) → after_white place bytes ≡ c ∷ more → BeginsWhite place bytes (c ∷ more)
 behind_follows AtStart [] c more e = absurd cc
 behind_follows InLine [] c more e = absurd cc
 behind_follows InComment [] c more e = absurd cc
@@ -78,14 +78,14 @@ counted_some n (Some (t, m)) i more e =
 
 -- ---- items
 
--- an item stands at the front of the bytes, and these behind it
+-- an item stands at the front of the bytes, and these after it
 abbrev pub StandsBefore : Item → List ℕ → List ℕ → Type 0
 StandsBefore i bytes more = (front : List ℕ) × IsItem front i × (bytes ≡ front ++ more)
 
 regroup : (before digits between letters more : List ℕ) → before ++ (digits ++ (between ++ (letters ++ more))) ≡ (before ++ (digits ++ (between ++ letters))) ++ more
 regroup before digits between letters more = simp append_assoc
 
-found_behind : (bytes seen : List ℕ) (i : Item) (more : List ℕ) → behind_white InLine bytes ≡ seen → counted (count_of (front is_digit seen)) (tag_at (behind_white InLine (rest is_digit seen))) ≡ Some (i, more) → 0 < i.count → StandsBefore i bytes more
+found_behind : (bytes seen : List ℕ) (i : Item) (more : List ℕ) → after_white InLine bytes ≡ seen → counted (count_of (front is_digit seen)) (tag_at (after_white InLine (rest is_digit seen))) ≡ Some (i, more) → 0 < i.count → StandsBefore i bytes more
 found_behind bytes [] i more e h pos = absurd cc
 found_behind bytes (c ∷ cs) i more e h pos =
     let outer = behind_follows InLine bytes c cs e in
@@ -101,10 +101,10 @@ found_behind bytes (c ∷ cs) i more e h pos =
 
 -- the item that is read at the front stands there, if its count isn't 0
 pub item_found : (bytes : List ℕ) (i : Item) (more : List ℕ) → item_at bytes ≡ Some (i, more) → 0 < i.count → StandsBefore i bytes more
-item_found bytes i more = found_behind bytes (behind_white InLine bytes) i more refl
+item_found bytes i more = found_behind bytes (after_white InLine bytes) i more refl
 
--- `!` behind white space is an end
-pub end_found : (bytes ignored : List ℕ) → behind_white InLine bytes ≡ 33 ∷ ignored → IsEnd bytes
+-- `!` after white space is an end
+pub end_found : (bytes ignored : List ℕ) → after_white InLine bytes ≡ 33 ∷ ignored → IsEnd bytes
 end_found bytes ignored e = let b = behind_follows InLine bytes 33 ignored e in (b.0, ignored, b.1, b.2)
 
 -- a run is an item and then a run
@@ -128,9 +128,9 @@ one_then others (Some (i, more)) = cond (nat_lt 0 i.count) (prepended i (others 
 -- the items that bytes spell, if they are fewer than n
 abbrev pub items_at : ℕ → List ℕ → Option (List Item)
 items_at zero bytes = None
-items_at (suc n) bytes = cond (ends_here (behind_white InLine bytes)) (Some []) (one_then (items_at n) (item_at bytes))
+items_at (suc n) bytes = cond (ends_here (after_white InLine bytes)) (Some []) (one_then (items_at n) (item_at bytes))
 
-end_here : (bytes seen : List ℕ) → behind_white InLine bytes ≡ seen → ends_here seen ≡ true → IsEnd bytes
+end_here : (bytes seen : List ℕ) → after_white InLine bytes ≡ seen → ends_here seen ≡ true → IsEnd bytes
 end_here bytes [] e h = absurd cc
 end_here bytes (b ∷ bs) e h = end_found bytes bs (e ∙ ap (λ (c : ℕ). c ∷ bs) (eqb-true b 33 h))
 
@@ -152,7 +152,7 @@ one_then_found bytes others (Some (i, more)) is e found h =
 pub items_found : (n : ℕ) (bytes : List ℕ) (is : List Item) → items_at n bytes ≡ Some is → Items bytes is
 items_found zero bytes is e = absurd cc
 items_found (suc n) bytes is e =
-    elim (chosen (ends_here (behind_white InLine bytes)) _ _ _ e) [
-      | inl h ↦ subst (λ (l : List Item). Items bytes l) (same_Some [] is h.1) (bytes, refl, end_here bytes (behind_white InLine bytes) refl h.0)
+    elim (chosen (ends_here (after_white InLine bytes)) _ _ _ e) [
+      | inl h ↦ subst (λ (l : List Item). Items bytes l) (same_Some [] is h.1) (bytes, refl, end_here bytes (after_white InLine bytes) refl h.0)
       | inr h ↦ one_then_found bytes (items_at n) (item_at bytes) is refl (items_found n) h.1
     ]

@@ -24,7 +24,7 @@ use Rattle.ca_rle.proofs.Gaps.{PutsGap, item_of, AreBefore, place-cells, place-g
 
 -- ---- reading order
 
--- the point is at a place in reading order, or behind it
+-- the point is at a place in reading order, or after it
 pub record IsAhead (at point : Point) : Type 0 where
   pub row : at.y ≤ℤ point.y
   pub column : point.y ≡ at.y → at.x ≤ℤ point.x
@@ -40,7 +40,7 @@ orders_ahead Equal Greater a b c d e row column =
 orders_ahead Greater s a b c d e row column =
     let no : ⊥ = cc in absurd no
 
--- a later point is ahead of the place behind an earlier one
+-- a later point is ahead of the place after an earlier one
 less_ahead : (p q at : Point) → point_cmp p q ≡ Less → at.y ≡ p.y → at.x ≡ p.x +ℤ pos 1 → IsAhead at q
 less_ahead p q at less row column =
     let both = orders_ahead (int_cmp p.y q.y) (int_cmp p.x q.x) p.y q.y p.x q.x less (int_ranked p.y q.y _ refl) (int_ranked p.x q.x _ refl) in
@@ -62,7 +62,7 @@ sorted_behind : (xs rest : Picture) → IsStrictlySortedBy point_cmp (map (λ e.
 sorted_behind [] rest sorted = sorted
 sorted_behind (x ∷ xs) rest sorted = sorted_behind xs rest (sorted_tail point_cmp _ _ sorted)
 
--- behind a cell of a sparse picture all others are ahead of the place behind it
+-- after a cell of a sparse picture all others are ahead of the place after it
 pub ahead_behind : (p xs u : Picture) (e : Point × ℕ) (at : Point) → IsSparse p → p ≡ xs ++ e ∷ u → at.y ≡ e.0.y → at.x ≡ e.0.x +ℤ pos 1 → AreAhead at u
 ahead_behind p xs u e at sparse split row column =
     let sorted = sorted_behind xs (e ∷ u) (subst (λ (q : Picture). IsStrictlySortedBy point_cmp (map (λ f. f.0) q)) split sparse.rising) in
@@ -84,7 +84,7 @@ pub record IsReadTo (corner : Point) (items : List Item) (run : Run) (seen : Pic
 run_same : (run next : Run) → run.from ≡ next.from → run.past ≡ next.past → run.state ≡ next.state → run ≡ next
 run_same run next from past state = λ t. record { from = from t; past = past t; state = state t }
 
--- a cell so far behind the first of a run
+-- a cell so far after the first of a run
 run_cell : (e : Point × ℕ) (at : Point) (state n : ℕ) → e.0.y ≡ at.y → e.0.x ≡ at.x +ℤ pos n → e.1 ≡ state → e ≡ (record { y = at.y; x = at.x +ℤ pos n }, state)
 run_cell e at state n row column same =
     let place : e.0 ≡ record { y = at.y; x = at.x +ℤ pos n } = point-same _ _ row column in
@@ -186,14 +186,14 @@ next_run corner items gap run next seen e item behind read tag count row column 
     subst (λ (i : Item). IsReadTo corner ((items ++ i ∷ []) ++ gap) next (seen ++ e ∷ [])) (sym (run_item corner items run seen item read tag count))
     (subst (λ (r : Run). IsReadTo corner (whole ++ gap) r (seen ++ e ∷ [])) (run_same (begun e) next (sym from) (sym past) (sym state)) begins)
 
--- the first run, behind a gap that was put
+-- the first run, after a gap that was put
 pub read-first : (corner : Point) (left : ℤ) (none items : List Item) (run : Run) (e : Point × ℕ) → left ≡ corner.x → none ≡ [] → PutsGap left corner e.0 none items → 0 < e.1
     → run.from ≡ e.0 → run.past ≡ e.0.x +ℤ pos 1 → run.state ≡ e.1 → IsReadTo corner items run (e ∷ [])
 read-first corner left none items run e at empty (gap, leads, put) live from past state =
     subst (λ (l : List Item). IsReadTo corner l run (e ∷ [])) (sym (put ∙ ap (λ (l : List Item). l ++ gap) empty))
     (first_run corner gap run e (subst (λ (x : ℤ). IsGap x corner e.0 gap) at leads) live from past state)
 
--- the next run, behind a gap that was put behind the item of the one before
+-- the next run, after a gap that was put after the item of the one before
 pub read-next : (corner : Point) (left : ℤ) (items mid new : List Item) (run next : Run) (seen : Picture) (e : Point × ℕ) (item : Item) (behind : Point) → IsReadTo corner items run seen
     → item.tag ≡ Cell run.state → run.past ≡ run.from.x +ℤ pos item.count → behind.y ≡ run.from.y → behind.x ≡ run.past → mid ≡ items ++ item ∷ []
     → left ≡ corner.x → PutsGap left behind e.0 mid new → 0 < e.1 → (e.0.y ≡ run.from.y → e.0.x ≡ run.past → e.1 ≢ run.state)
@@ -214,7 +214,7 @@ read-end corner items run seen item read tag count =
 
 -- ---- a `for` over the cells of a plane
 
--- the cells before those that are left are read, and those are ahead of the place behind the run
+-- the cells before those that are left are read, and those are ahead of the place after the run
 pub record IsReadBefore (p : Picture) (corner : Point) (items : List Item) (run : Run) (left : Picture) : Type 0 where
   pub seen : Picture
   pub split : p ≡ seen ++ left

@@ -1,4 +1,4 @@
--- Runs of cells, behind and before other cells of a picture.
+-- Runs of cells, after and before other cells of a picture.
 use Rattle.std.proofs.Common.{◌≡◌, ℕ, zero, suc, ◌+◌, ◌≤◌, ◌≢◌, ℤ, pos, ◌+ℤ◌, ◌≤ℤ◌, Bool, true, false, ◌&&◌, List, [], ◌∷◌, ◌++◌, map, inl, inr, refl, sym, ap, ◌∙◌, append_assoc, zero-add, arith}
 use Rattle.std.specs.Prelude.{if◌then◌else◌}
 use Rattle.std.specs.Ordering.{int_eq}
@@ -24,7 +24,7 @@ either_order true false v w = refl
 either_order false true v w = refl
 either_order false false v w = refl
 
--- a cell of the same state may stand before the cells of a run or behind them
+-- a cell of the same state may stand before the cells of a run or after them
 run_order : (state : ℕ) (at : Point) (ks : List ℕ) (k : ℕ) (q : Picture) → IsSame (run_cell state at k ∷ (map (run_cell state at) ks ++ q)) (map (run_cell state at) ks ++ run_cell state at k ∷ q)
 run_order state at [] k q x y = refl
 run_order state at (j ∷ js) k q x y =
@@ -78,7 +78,7 @@ cell-apart p state at (k ∷ ks) x y clear h =
       | inr t ↦ rw t (cell-apart p state at ks x y clear h)
     ]
 
--- a run at such places may stand before the picture or behind it
+-- a run at such places may stand before the picture or after it
 pub run_behind : (p : Picture) (state : ℕ) (at : Point) (n : ℕ) → IsPicture p → ((k : ℕ) → cell p (at.x +ℤ pos k) at.y ≡ 0) → IsSame (run_of state at n ++ p) (p ++ run_of state at n)
 run_behind p state at n states clear x y =
     elim (cases_eq (cell p x y) 0) [

@@ -1,4 +1,4 @@
--- Items in front of bytes: behind the same items stands the same rest, and a longer run goes on where a shorter one ends.
+-- Items in front of bytes: after the same items stands the same rest, and a longer run goes on where a shorter one ends.
 use Rattle.std.proofs.Common.{◌≡◌, ℕ, ◌⊎◌, inl, inr, List, [], ◌∷◌, ◌++◌, Some, refl, sym, ap, ap₂, subst, ◌∙◌}
 use Rattle.std.proofs.lemmas.Option.{none-some}
 use Rattle.ca_rle.specs.declared.fault.RleFault.{RleFault}
@@ -13,14 +13,14 @@ pub run_then : (bytes middle rest : List ℕ) (is js : List Item) → Run bytes 
 run_then bytes middle rest [] js r s = subst (λ (l : List ℕ). Run l js rest) (sym r) s
 run_then bytes middle rest (i ∷ is) js (front, more, item, later, e) s = (front, more, item, run_then more middle rest is js later s, e)
 
--- behind the first items of a run stand its others
+-- after the first items of a run stand its others
 pub run_behind : (bytes middle rest : List ℕ) (is js : List Item) → Run bytes is middle → Run bytes (is ++ js) rest → Run middle js rest
 run_behind bytes middle rest [] js r s = subst (λ (l : List ℕ). Run l js rest) r s
 run_behind bytes middle rest (i ∷ is) js (a, m, p, r, d) (b, n, q, s, e) =
     let same = one_item a b m n i i p q (sym d ∙ e) in
     run_behind m middle rest is js r (subst (λ (l : List ℕ). Run l (is ++ js) rest) (sym same.1) s)
 
--- behind the same items stands the same rest
+-- after the same items stands the same rest
 pub one_rest : (bytes rest last : List ℕ) (is : List Item) → Run bytes is rest → Run bytes is last → rest ≡ last
 one_rest bytes rest last [] r s = sym r ∙ s
 one_rest bytes rest last (i ∷ is) (a, m, p, r, d) (b, n, q, s, e) =

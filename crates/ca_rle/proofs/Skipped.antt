@@ -6,7 +6,7 @@ use Rattle.std.proofs.lemmas.Bool.Decides.{nat_tests}
 use Rattle.ca_plane.specs.Bytes.{is_blank, is_line_end, is_end_or, rest}
 use Rattle.ca_plane.proofs.Fronts.{rest_ends, front_length}
 use Rattle.ca_rle.specs.Items.{AtStart, InLine, InComment}
-use Rattle.ca_rle.specs.Faults.{behind_white}
+use Rattle.ca_rle.specs.Faults.{after_white}
 
 -- no blank ends a line
 blank_no_end : (b : ℕ) → is_blank b ≡ true → is_line_end b ≡ false
@@ -17,46 +17,46 @@ rest_here : (test : ℕ → Bool) (b : ℕ) (bs : List ℕ) → test b ≡ false
 rest_here test b bs e = rw e refl
 
 -- blanks at a line's start are skipped
-pub start_blanks : (bytes : List ℕ) → behind_white AtStart bytes ≡ behind_white AtStart (rest is_blank bytes)
+pub start_blanks : (bytes : List ℕ) → after_white AtStart bytes ≡ after_white AtStart (rest is_blank bytes)
 start_blanks [] = refl
 start_blanks (b ∷ bs) =
     let more = start_blanks bs in
     elim (cases_Bool (is_blank b)) [
       | inl e ↦ rw (e, blank_no_end b e) more
-      | inr e ↦ ap (behind_white AtStart) (sym (rest_here is_blank b bs e))
+      | inr e ↦ ap (after_white AtStart) (sym (rest_here is_blank b bs e))
     ]
 
 -- and elsewhere in a line
-pub line_blanks : (bytes : List ℕ) → behind_white InLine bytes ≡ behind_white InLine (rest is_blank bytes)
+pub line_blanks : (bytes : List ℕ) → after_white InLine bytes ≡ after_white InLine (rest is_blank bytes)
 line_blanks [] = refl
 line_blanks (b ∷ bs) =
     let more = line_blanks bs in
     elim (cases_Bool (is_blank b)) [
       | inl e ↦ rw (e, blank_no_end b e) more
-      | inr e ↦ ap (behind_white InLine) (sym (rest_here is_blank b bs e))
+      | inr e ↦ ap (after_white InLine) (sym (rest_here is_blank b bs e))
     ]
 
 -- a comment is skipped up to its line's end
-comment_line : (bytes : List ℕ) → behind_white InComment bytes ≡ behind_white InLine (rest (λ b. not (is_line_end b)) bytes)
+comment_line : (bytes : List ℕ) → after_white InComment bytes ≡ after_white InLine (rest (λ b. not (is_line_end b)) bytes)
 comment_line [] = refl
 comment_line (b ∷ bs) =
     let more = comment_line bs in
     elim (cases_Bool (is_line_end b)) [
       | inl e ↦
-          let here : behind_white InComment (b ∷ bs) ≡ behind_white InLine (b ∷ bs) = rw e refl in
-          here ∙ ap (behind_white InLine) (sym (rest_here (λ b. not (is_line_end b)) b bs (ap not e)))
+          let here : after_white InComment (b ∷ bs) ≡ after_white InLine (b ∷ bs) = rw e refl in
+          here ∙ ap (after_white InLine) (sym (rest_here (λ b. not (is_line_end b)) b bs (ap not e)))
       | inr e ↦ rw e more
     ]
 
 -- a line whose first byte is `#` is a comment
-hash_line : (bytes : List ℕ) → starts_with nat_eq bytes (35 ∷ []) ≡ true → behind_white AtStart bytes ≡ behind_white InLine (rest (λ b. not (is_line_end b)) bytes)
+hash_line : (bytes : List ℕ) → starts_with nat_eq bytes (35 ∷ []) ≡ true → after_white AtStart bytes ≡ after_white InLine (rest (λ b. not (is_line_end b)) bytes)
 hash_line [] h = absurd cc
 hash_line (b ∷ bs) h =
     let hash : b ≡ 35 = grind (arith, nat_tests) in
     rw hash (comment_line bs)
 
 -- one whose first byte is no blank and no `#` is read on
-other_line : (bytes : List ℕ) → is_end_or (λ b. not (is_blank b)) bytes ≡ true → starts_with nat_eq bytes (35 ∷ []) ≡ false → behind_white AtStart bytes ≡ behind_white InLine bytes
+other_line : (bytes : List ℕ) → is_end_or (λ b. not (is_blank b)) bytes ≡ true → starts_with nat_eq bytes (35 ∷ []) ≡ false → after_white AtStart bytes ≡ after_white InLine bytes
 other_line [] h k = refl
 other_line (b ∷ bs) h k =
     let blank : is_blank b ≡ false = grind (arith, nat_tests) in
@@ -66,14 +66,14 @@ other_line (b ∷ bs) h k =
       | inr e ↦ rw (e, blank, hash) refl
     ]
 
--- what stands behind a line's blanks is read on, if it is no comment
-pub line_start : (bytes behind : List ℕ) → behind ≡ rest is_blank bytes → starts_with nat_eq behind (35 ∷ []) ≡ false → behind_white AtStart bytes ≡ behind_white InLine behind
+-- what stands after a line's blanks is read on, if it is no comment
+pub line_start : (bytes behind : List ℕ) → behind ≡ rest is_blank bytes → starts_with nat_eq behind (35 ∷ []) ≡ false → after_white AtStart bytes ≡ after_white InLine behind
 line_start bytes behind e h =
-    start_blanks bytes ∙ ap (behind_white AtStart) (sym e) ∙ other_line behind (ap (is_end_or (λ b. not (is_blank b))) e ∙ rest_ends is_blank bytes) h
+    start_blanks bytes ∙ ap (after_white AtStart) (sym e) ∙ other_line behind (ap (is_end_or (λ b. not (is_blank b))) e ∙ rest_ends is_blank bytes) h
 
 -- and a comment is skipped whole
-pub comment_start : (bytes behind end : List ℕ) → behind ≡ rest is_blank bytes → starts_with nat_eq behind (35 ∷ []) ≡ true → end ≡ rest (λ b. not (is_line_end b)) behind → behind_white AtStart bytes ≡ behind_white InLine end
-comment_start bytes behind end e h f = start_blanks bytes ∙ ap (behind_white AtStart) (sym e) ∙ hash_line behind h ∙ ap (behind_white InLine) (sym f)
+pub comment_start : (bytes behind end : List ℕ) → behind ≡ rest is_blank bytes → starts_with nat_eq behind (35 ∷ []) ≡ true → end ≡ rest (λ b. not (is_line_end b)) behind → after_white AtStart bytes ≡ after_white InLine end
+comment_start bytes behind end e h f = start_blanks bytes ∙ ap (after_white AtStart) (sym e) ∙ hash_line behind h ∙ ap (after_white InLine) (sym f)
 
 -- no blank stands where a line ends
 pub no_blank_at_end : (bytes : List ℕ) → is_end_or (λ b. not (is_blank b)) (rest (λ b. not (is_line_end b)) bytes) ≡ true
@@ -87,8 +87,8 @@ no_blank_at_end bytes = at_end (rest (λ b. not (is_line_end b)) bytes) (rest_en
 pub rest_length : (test : ℕ → Bool) (bytes : List ℕ) → length (rest test bytes) ≤ length bytes
 rest_length test bytes = omega (arith, front_length test bytes)
 
--- what begins with no blank and no line end is behind the white space
-pub no_white : (bytes : List ℕ) → is_end_or (λ b. not (is_blank b)) bytes ≡ true → ((more : List ℕ) → bytes ≢ 10 ∷ more) → bytes ≡ behind_white InLine bytes
+-- what begins with no blank and no line end is after the white space
+pub no_white : (bytes : List ℕ) → is_end_or (λ b. not (is_blank b)) bytes ≡ true → ((more : List ℕ) → bytes ≢ 10 ∷ more) → bytes ≡ after_white InLine bytes
 no_white [] h end = refl
 no_white (b ∷ bs) h end =
     elim (cases_Bool (is_line_end b)) [

@@ -139,7 +139,7 @@ begins_not word text none =
 pub says_nothing : (word : List ℕ) → ((r : List ℕ) → word ≡ codes "Pos=" ++ r → ⊥) → ((r : List ℕ) → word ≡ codes "Gen=" ++ r → ⊥) → Says word Nothing
 says_nothing word p g = (begins_not word (codes "Pos=") p, begins_not word (codes "Gen=") g)
 
--- behind `Pos=` stand no two numbers
+-- after `Pos=` stand no two numbers
 pub bad_place : (word numbers : List ℕ) → word ≡ codes "Pos=" ++ numbers → ((x y : ℤ) (a b : List ℕ) → numbers ≡ a ++ 44 ∷ b → IsInteger a x → IsInteger b y → ⊥) → IsBadWord word Syntax
 bad_place word numbers e none =
     inl (
@@ -159,11 +159,11 @@ all_zip_append (w ∷ ws) vs [] b p q = absurd p
 pub leads_none : (start : Start) → Leads [] start start
 leads_none start = ([], tt, λ said h. subst (λ (l : List Said). IsStart l start) (sym (append-nil said)) h)
 
--- words behind words
+-- words after words
 pub leads_more : (ws vs : List (List ℕ)) (a b c : Start) → Leads ws a b → Leads vs b c → Leads (ws ++ vs) a c
 leads_more ws vs a b c (m, z, f) (n, y, g) =
     (m ++ n, all_zip_append ws vs m n z y, λ said h. subst (λ (l : List Said). IsStart l c) (append_assoc said m n) (g (said ++ m) (f said h)))
 
--- a bad word behind good ones
+-- a bad word after good ones
 pub bad_among : (words good : List (List ℕ)) (word : List ℕ) (later : List (List ℕ)) (fault : RleFault) (a b : Start) → words ≡ good ++ word ∷ later → Leads good a b → IsBadWord word fault → HasBadWordAmong words fault
 bad_among words good word later fault a b e l bad = record { good = good; good_said = l.0; word = word; later = later; words_are = e; good_words = l.1; bad = bad }

@@ -10,7 +10,7 @@ use Rattle.ca_rle.specs.Shown.{state_of, run_of, place_behind, cells_of, picture
 use Rattle.ca_rle.specs.Tidy.{AreTidy, HaveStates}
 use Rattle.ca_rle.proofs.Gaps.{nonzero}
 
--- what holds of all holds of those behind
+-- what holds of all holds of those after
 all_behind : {X : Type 0} (P : X → Type 0) (xs ys : List X) → All P (xs ++ ys) → All P ys
 all_behind P [] ys all = all
 all_behind P (x ∷ xs) ys all = all_behind P xs ys (All-tail P x (xs ++ ys) all)

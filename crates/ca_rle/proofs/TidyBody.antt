@@ -88,7 +88,7 @@ pub all_written : (states : ℕ) (is : List Item) → AllByRecursion (λ i. (0 <
 all_written states [] counts have = tt
 all_written states (i ∷ is) (c, cs) (h, hs) = (record { count = count_means i.count c.0 c.1; tag = tag_means states i.tag h.0 h.1 }, all_written states is cs hs)
 
--- an item behind white space
+-- an item after white space
 item_behind : (states : ℕ) (i : Item) (white : List ℕ) → IsWhite white → IsWritten states i → IsItem (white ++ item_text states i) i
 item_behind states i white w h = (white, count_text i.count, [], tag_text states i.tag, w, h.count, refl, h.tag, refl)
 
@@ -125,7 +125,7 @@ line_spells states (t ∷ ts) more later (i ∷ is) white w (h, hs) e others =
     let whole : white ++ (item_text states i ++ ((concat ts ++ 10 ∷ []) ++ later)) ≡ white ++ (((t ++ concat ts) ++ 10 ∷ []) ++ later) = rw first (simp append_assoc) in
     subst (λ l. Items l (i ∷ is)) whole (one_more states i is white _ w h behind)
 
--- lines of whole items spell them, behind white space
+-- lines of whole items spell them, after white space
 pub lines_spell : (states : ℕ) (lines : List (List (List ℕ))) (is : List Item) (white : List ℕ)
     → IsWhite white → AllByRecursion (IsWritten states) is → flat_map (λ line. line) lines ≡ tokens states is → Items (white ++ text_of lines) is
 lines_spell states [] [] white w all e = absurd cc

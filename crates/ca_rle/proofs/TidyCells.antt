@@ -64,7 +64,7 @@ live_behind (e ∷ es) q x y (some, others) live =
 abbrev pub cells_at : Point → Item → Picture
 cells_at at i = if state_of i.tag == 0 then [] else run_of (state_of i.tag) at i.count
 
--- the place behind an item: further right, or at the left end of a row further down
+-- the place after an item: further right, or at the left end of a row further down
 abbrev pub next : ℤ → Point → Item → Point
 next left at i = if ends_row i.tag then record { y = at.y +ℤ pos i.count; x = left } else record { y = at.y; x = at.x +ℤ pos i.count }
 
@@ -107,7 +107,7 @@ item_out at i q x y h =
 abbrev IsBefore : Point → ℤ → ℤ → Type 0
 IsBefore at x y = (y <ℤ at.y) ⊎ ((y ≡ at.y) × (x <ℤ at.x))
 
--- at a place in reading order, or behind it
+-- at a place in reading order, or after it
 abbrev pub IsAhead : Point → ℤ → ℤ → Type 0
 IsAhead at x y = (at.y <ℤ y) ⊎ ((y ≡ at.y) × (at.x ≤ℤ x))
 
@@ -152,7 +152,7 @@ other_state : (s : ℕ) (t : Tag) → Cell s ≢ t → (Cell s ≡ Cell 0 → t 
 other_state s (Cell u) other dead e = other (ap Cell (sym e))
 other_state s RowEnd other dead e = dead (ap Cell (sym e)) refl
 
--- the place behind the cells of the first item has another state
+-- the place after the cells of the first item has another state
 pub behind : (left : ℤ) (at : Point) (n s : ℕ) (is : List Item) (x y : ℤ) → AreTidy (record { count = n; tag = Cell s } ∷ is) → y ≡ at.y → x ≡ at.x +ℤ pos n
     → cell (drawn left at (record { count = n; tag = Cell s } ∷ is)) x y ≢ s
 behind left at n s [] x y tidy row col e =

@@ -35,7 +35,7 @@ pos_word a b = codes "Pos=" ++ (a ++ 44 ∷ b)
 pos_is_word : (a b : List ℕ) → Every is_word_byte a → Every is_word_byte b → IsWord (pos_word a b)
 pos_is_word a b p q = every_append is_word_byte a (44 ∷ b) p q
 
--- what stands behind the corner's word says the generation
+-- what stands after the corner's word says the generation
 record SaysCount (bytes : List ℕ) (count : ℕ) : Type 0 where
   said : List Said
   blank_first : is_end_or is_blank bytes ≡ true

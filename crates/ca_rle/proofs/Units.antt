@@ -1,4 +1,4 @@
--- What stands at the front of bytes, by the digits there and what is found behind them.
+-- What stands at the front of bytes, by the digits there and what is found after them.
 use Rattle.std.proofs.Common.{◌≡◌, ℕ, ◌-◌, ◌<◌, ◌^◌, min, eqb, ne_eqb, eqb-true, Bool, true, false, cond, ◌==◌, List, [], ◌∷◌, ◌++◌, length, Some, None, is_some, refl, sym, ap, ◌∙◌, arith}
 use Rattle.std.proofs.lemmas.Option.{none-some}
 use Rattle.std.proofs.lemmas.List.{nil_from_length}
@@ -9,7 +9,7 @@ use Rattle.ca_rle.specs.declared.fault.RleFault.TheVariants.{Syntax}
 use Rattle.ca_rle.specs.declared.item.Item.{Item}
 use Rattle.ca_rle.specs.declared.item.Tag.{Tag}
 use Rattle.ca_rle.specs.Items.{InLine, is_prefix, tag_of, Run, IsEnd}
-use Rattle.ca_rle.specs.Faults.{behind_white, letter_fault, tag_fault, count_fault, item_fault}
+use Rattle.ca_rle.specs.Faults.{after_white, letter_fault, tag_fault, count_fault, item_fault}
 use Rattle.ca_rle.specs.inner.BodyFaults.{kept}
 use Rattle.ca_rle.specs.inner.ItemParts.{IsSplit}
 use Rattle.ca_rle.proofs.ItemAt.{item_at, count_of, tag_at_is, behind_is_tag}
@@ -25,24 +25,24 @@ IsItemAtFront bytes i more = (j : Item) × Run bytes (j ∷ []) more × (i ≡ k
 pub plain_item : (bytes digits behind letters more : List ℕ) (t : Tag) → IsSplit bytes digits behind → eqb (length digits) 0 ≡ true → tag_of letters ≡ Some t → behind ≡ letters ++ more
     → IsItemAtFront bytes (record { count = 1; tag = t }) more
 plain_item bytes digits behind letters more t s none tag e =
-    let no_digits : front is_digit (behind_white InLine bytes) ≡ [] = sym s.digits_are ∙ nil_from_length digits (eqb-true (length digits) 0 none) in
-    let letters_are : behind_white InLine (rest is_digit (behind_white InLine bytes)) ≡ letters ++ more = ap (behind_white InLine) (sym s.behind_is ∙ e) ∙ behind_is_tag [] letters more t refl tag in
+    let no_digits : front is_digit (after_white InLine bytes) ≡ [] = sym s.digits_are ∙ nil_from_length digits (eqb-true (length digits) 0 none) in
+    let letters_are : after_white InLine (rest is_digit (after_white InLine bytes)) ≡ letters ++ more = ap (after_white InLine) (sym s.behind_is ∙ e) ∙ behind_is_tag [] letters more t refl tag in
     let read : item_at bytes ≡ Some (record { count = 1; tag = t }, more) = rw (no_digits, letters_are, tag_at_is letters more t tag) refl in
     (record { count = 1; tag = t }, run_found bytes more more (record { count = 1; tag = t }) [] read (omega arith) refl, refl)
 
 -- `!` is an end
 pub plain_end : (bytes digits behind ignored : List ℕ) → IsSplit bytes digits behind → eqb (length digits) 0 ≡ true → behind ≡ 33 ∷ ignored → IsEnd bytes
 plain_end bytes digits behind ignored s none e =
-    let no_digits : front is_digit (behind_white InLine bytes) ≡ [] = sym s.digits_are ∙ nil_from_length digits (eqb-true (length digits) 0 none) in
-    end_found bytes ignored (sym (front_then_rest is_digit (behind_white InLine bytes)) ∙ ap (λ l. l ++ rest is_digit (behind_white InLine bytes)) no_digits ∙ sym s.behind_is ∙ e)
+    let no_digits : front is_digit (after_white InLine bytes) ≡ [] = sym s.digits_are ∙ nil_from_length digits (eqb-true (length digits) 0 none) in
+    end_found bytes ignored (sym (front_then_rest is_digit (after_white InLine bytes)) ∙ ap (λ l. l ++ rest is_digit (after_white InLine bytes)) no_digits ∙ sym s.behind_is ∙ e)
 
 -- the tag's fault is the item's
 pub plain_fault : (bytes digits behind : List ℕ) (f : RleFault) → IsSplit bytes digits behind → eqb (length digits) 0 ≡ true → tag_fault false behind ≡ Some f → item_fault bytes ≡ Some f
 plain_fault bytes digits behind f s none e =
-    let no_digits : front is_digit (behind_white InLine bytes) ≡ [] = sym s.digits_are ∙ nil_from_length digits (eqb-true (length digits) 0 none) in
+    let no_digits : front is_digit (after_white InLine bytes) ≡ [] = sym s.digits_are ∙ nil_from_length digits (eqb-true (length digits) 0 none) in
     rw (no_digits, ← s.behind_is) e
 
--- ---- behind digits
+-- ---- after digits
 
 -- the count that digits write
 counts : (digits : List ℕ) → eqb (length digits) 0 ≡ false → count_of digits ≡ value digits
@@ -51,16 +51,16 @@ counts (d ∷ ds) some = refl
 
 -- a tag is an item that counts so often
 pub counted_item : (bytes digits behind letters more : List ℕ) (n : ℕ) (t : Tag) → IsSplit bytes digits behind → eqb (length digits) 0 ≡ false
-    → (0 < value digits) × (n ≡ min (value digits) (2 ^ 64 - 1)) → tag_of letters ≡ Some t → behind_white InLine behind ≡ letters ++ more
+    → (0 < value digits) × (n ≡ min (value digits) (2 ^ 64 - 1)) → tag_of letters ≡ Some t → after_white InLine behind ≡ letters ++ more
     → IsItemAtFront bytes (record { count = n; tag = t }) more
 counted_item bytes digits behind letters more n t s some number tag e =
-    let letters_are : behind_white InLine (rest is_digit (behind_white InLine bytes)) ≡ letters ++ more = ap (behind_white InLine) (sym s.behind_is) ∙ e in
-    let count : count_of (front is_digit (behind_white InLine bytes)) ≡ value digits = ap count_of (sym s.digits_are) ∙ counts digits some in
+    let letters_are : after_white InLine (rest is_digit (after_white InLine bytes)) ≡ letters ++ more = ap (after_white InLine) (sym s.behind_is) ∙ e in
+    let count : count_of (front is_digit (after_white InLine bytes)) ≡ value digits = ap count_of (sym s.digits_are) ∙ counts digits some in
     let read : item_at bytes ≡ Some (record { count = value digits; tag = t }, more) = rw (count, letters_are, tag_at_is letters more t tag) refl in
     (record { count = value digits; tag = t }, run_found bytes more more (record { count = value digits; tag = t }) [] read number.0 refl, ap (λ (m : ℕ). let made : Item = record { count = m; tag = t } in made) number.1)
 
 -- the fault of digits that aren't none
-digits_fault : (digits behind : List ℕ) → eqb (length digits) 0 ≡ false → count_fault digits behind ≡ (cond (value digits == 0) (Some Syntax) (tag_fault true (behind_white InLine behind)))
+digits_fault : (digits behind : List ℕ) → eqb (length digits) 0 ≡ false → count_fault digits behind ≡ (cond (value digits == 0) (Some Syntax) (tag_fault true (after_white InLine behind)))
 digits_fault [] behind some = absurd cc
 digits_fault (d ∷ ds) behind some = refl
 
@@ -71,12 +71,12 @@ fault_is bytes digits behind s = rw (s.digits_are, s.behind_is) refl
 pub zero_fault : (bytes digits behind : List ℕ) → IsSplit bytes digits behind → eqb (length digits) 0 ≡ false → value digits ≡ 0 → item_fault bytes ≡ Some Syntax
 zero_fault bytes digits behind s some none = fault_is bytes digits behind s ∙ digits_fault digits behind some ∙ rw none refl
 
-behind_count : (bytes digits behind : List ℕ) → IsSplit bytes digits behind → eqb (length digits) 0 ≡ false → 0 < value digits → item_fault bytes ≡ tag_fault true (behind_white InLine behind)
+behind_count : (bytes digits behind : List ℕ) → IsSplit bytes digits behind → eqb (length digits) 0 ≡ false → 0 < value digits → item_fault bytes ≡ tag_fault true (after_white InLine behind)
 behind_count bytes digits behind s some number =
     let e : (value digits == 0) ≡ false = ne_eqb (value digits) 0 (λ z. omega (arith, number, z)) in
     fault_is bytes digits behind s ∙ digits_fault digits behind some ∙ rw e refl
 
--- a fault of a tag without a count is its fault behind one too
+-- a fault of a tag without a count is its fault after one too
 counted_fault : (bytes : List ℕ) (f : RleFault) → tag_fault false bytes ≡ Some f → tag_fault true bytes ≡ Some f
 counted_fault [] f e = e
 counted_fault (b ∷ bs) f e = go (b == 33) e
@@ -88,10 +88,10 @@ counted_fault (b ∷ bs) f e = go (b == 33) e
 
 -- the tag's fault is the item's
 pub counted_tag_fault : (bytes digits behind seen : List ℕ) (f : RleFault) → IsSplit bytes digits behind → eqb (length digits) 0 ≡ false → 0 < value digits
-    → seen ≡ behind_white InLine behind → tag_fault false seen ≡ Some f → item_fault bytes ≡ Some f
+    → seen ≡ after_white InLine behind → tag_fault false seen ≡ Some f → item_fault bytes ≡ Some f
 counted_tag_fault bytes digits behind seen f s some number e h = behind_count bytes digits behind s some number ∙ ap (tag_fault true) (sym e) ∙ counted_fault seen f h
 
 -- and `!` takes no count
 pub counted_end : (bytes digits behind seen ignored : List ℕ) → IsSplit bytes digits behind → eqb (length digits) 0 ≡ false → 0 < value digits
-    → seen ≡ behind_white InLine behind → seen ≡ 33 ∷ ignored → item_fault bytes ≡ Some Syntax
+    → seen ≡ after_white InLine behind → seen ≡ 33 ∷ ignored → item_fault bytes ≡ Some Syntax
 counted_end bytes digits behind seen ignored s some number e h = behind_count bytes digits behind s some number ∙ ap (tag_fault true) (sym e ∙ h)

@@ -1,9 +1,9 @@
--- White space among the items: two runs of it are one, and what stands behind it.
+-- White space among the items: two runs of it are one, and what stands after it.
 use Rattle.std.proofs.Common.{◌≡◌, ℕ, ◌<◌, Bool, true, false, cond, not, ◌||◌, ◌==◌, IsTrue, List, [], ◌∷◌, ◌++◌, refl, arith}
 use Rattle.std.proofs.lemmas.Bool.Decides.{nat_tests}
 use Rattle.ca_plane.specs.Bytes.{is_blank, is_line_end, is_digit, is_end_or}
 use Rattle.ca_rle.specs.Items.{Place, AtStart, InLine, InComment, is_white_from, IsWhite}
-use Rattle.ca_rle.specs.Faults.{behind_white}
+use Rattle.ca_rle.specs.Faults.{after_white}
 
 -- a byte that ends white space: no LF, no blank and no `#`
 pub record Stops (b : ℕ) : Type 0 where
@@ -19,14 +19,14 @@ along : {A : Type 0} (test p q : Bool) (x y z : A) → (p ≡ true → x ≡ z) 
 along true p q x y z f g h = f h
 along false p q x y z f g h = g h
 
--- behind white space stands what follows it, where that begins with a byte that ends white space
-pub behind_white_is : (place : Place) (before : List ℕ) (c : ℕ) (more : List ℕ) → Stops c → IsTrue (is_white_from place before) → behind_white place (before ++ c ∷ more) ≡ c ∷ more
-behind_white_is AtStart [] c more s w = rw (s.no_line_end, s.no_blank, s.no_hash)
-behind_white_is InLine [] c more s w = rw (s.no_line_end, s.no_blank)
-behind_white_is InComment [] c more s w = absurd cc
-behind_white_is AtStart (b ∷ bs) c more s w = along (is_line_end b || is_blank b) _ _ _ _ _ (behind_white_is AtStart bs c more s) (along (b == 35) _ _ _ _ _ (behind_white_is InComment bs c more s) (λ h. absurd cc)) w
-behind_white_is InLine (b ∷ bs) c more s w = along (is_line_end b) _ _ _ _ _ (behind_white_is AtStart bs c more s) (along (is_blank b) _ _ _ _ _ (behind_white_is InLine bs c more s) (λ h. absurd cc)) w
-behind_white_is InComment (b ∷ bs) c more s w = along (is_line_end b) _ _ _ _ _ (behind_white_is AtStart bs c more s) (behind_white_is InComment bs c more s) w
+-- after white space stands what follows it, where that begins with a byte that ends white space
+pub after_white_is : (place : Place) (before : List ℕ) (c : ℕ) (more : List ℕ) → Stops c → IsTrue (is_white_from place before) → after_white place (before ++ c ∷ more) ≡ c ∷ more
+after_white_is AtStart [] c more s w = rw (s.no_line_end, s.no_blank, s.no_hash)
+after_white_is InLine [] c more s w = rw (s.no_line_end, s.no_blank)
+after_white_is InComment [] c more s w = absurd cc
+after_white_is AtStart (b ∷ bs) c more s w = along (is_line_end b || is_blank b) _ _ _ _ _ (after_white_is AtStart bs c more s) (along (b == 35) _ _ _ _ _ (after_white_is InComment bs c more s) (λ h. absurd cc)) w
+after_white_is InLine (b ∷ bs) c more s w = along (is_line_end b) _ _ _ _ _ (after_white_is AtStart bs c more s) (along (is_blank b) _ _ _ _ _ (after_white_is InLine bs c more s) (λ h. absurd cc)) w
+after_white_is InComment (b ∷ bs) c more s w = along (is_line_end b) _ _ _ _ _ (after_white_is AtStart bs c more s) (after_white_is InComment bs c more s) w
 
 -- white space in a line is white space at a line's start
 at_start : (v w p q r : Bool) → (q ≡ true → p ≡ true) → cond v p (cond w q false) ≡ true → cond (v || w) p r ≡ true
@@ -54,7 +54,7 @@ IsWhite-append a b v w = white_then InLine a b w v
 first_of_white : (b : ℕ) (p q : Bool) → cond (is_line_end b) p (cond (is_blank b) q false) ≡ true → is_digit b ≡ false
 first_of_white b p q h = grind (arith, nat_tests)
 
--- no digit stands at the front of white space, nor behind it
+-- no digit stands at the front of white space, nor after it
 pub no_digit_behind : (white after : List ℕ) → IsWhite white → IsTrue (is_end_or (λ b. not (is_digit b)) after) → IsTrue (is_end_or (λ b. not (is_digit b)) (white ++ after))
 no_digit_behind [] after w h = h
 no_digit_behind (b ∷ bs) after w h = rw (first_of_white b _ _ w)

@@ -48,19 +48,19 @@ whole_file bytes said rule body place items headed keeps is within =
     (is_file bytes said rule body items headed is, limits_of place said rule items (kept_in_range (corner_of said) place items keeps within.0) within)
 
 -- a fault before the items is the text's
-pub front_fault : (bytes : List ℕ) (f : RleFault) → IsFrontFault bytes f → IsFaultOf bytes f
-front_fault bytes Syntax h = inl h
-front_fault bytes Header h = h
-front_fault bytes XlifeRule h = h
-front_fault bytes GenTooLarge h = h
-front_fault bytes NoEnd h = absurd h
-front_fault bytes BadState h = absurd h
-front_fault bytes Range h = absurd h
-front_fault bytes TooManyCells h = absurd h
-front_fault bytes Memory h = absurd h
+pub front_fault : (bytes : List ℕ) (f : RleFault) (rest : List ℕ) → IsFrontFault bytes f rest → IsFaultOf bytes f
+front_fault bytes Syntax rest h = inl h.0
+front_fault bytes Header rest h = h.0
+front_fault bytes XlifeRule rest h = h.0
+front_fault bytes GenTooLarge rest h = h.0
+front_fault bytes NoEnd rest h = absurd h
+front_fault bytes BadState rest h = absurd h
+front_fault bytes Range rest h = absurd h
+front_fault bytes TooManyCells rest h = absurd h
+front_fault bytes Memory rest h = absurd h
 
 bad_item : (bytes : List ℕ) (said : List Said) (rule : Option (List ℕ)) (body : List ℕ) (f : RleFault) → IsHeaded bytes said rule body → HasBadUnit body f → HasBadItem bytes f
-bad_item bytes said rule body f headed (items, bad, run, fault) = record { said = said; rule = rule; body = body; items = items; bad = bad; headed = headed; good = run; fault_is = fault }
+bad_item bytes said rule body f headed (bad, (items, run, fault)) = record { said = said; rule = rule; body = body; items = items; bad = bad; headed = headed; good = run; fault_is = fault }
 
 out_of_range : (place : Point) (said : List Said) (rule : Option (List ℕ)) (items : List Item) → KeepsCorner (corner_of said) place → IsOutOfRange (bare_file place items) → IsOutOfRange (file_of said rule items)
 out_of_range place said rule items (near, inl same) out w = out (subst (λ c. IsWithinRange (bare_file c items)) (sym same) (bare_of said rule items w))
@@ -86,6 +86,10 @@ body_fault bytes said rule body place GenTooLarge headed keeps h = absurd h
 abbrev error_or : {T E : Type 0} → E → Result T E → E
 error_or other (Ok t) = other
 error_or other (Err e) = e
+
+-- which error it is
+pub fault_is : {T : Type 0} (f e : RleFault) → IsErrOf {T = T} {E = RleFault} (Err f) e → f ≡ e
+fault_is f e h = ap (error_or f) h
 
 -- an error that is handed on is the same error
 pub same_error : {T U E : Type 0} (f e : E) → IsErrOf {T = T} {E = E} (Err f) e → IsErrOf {T = U} {E = E} (Err f) e

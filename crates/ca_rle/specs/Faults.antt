@@ -27,7 +27,7 @@ IsBadWord word Range = ⊥
 IsBadWord word TooManyCells = ⊥
 IsBadWord word Memory = ⊥
 
--- behind good lines and good words stands a bad word
+-- a bad word stands after good lines and good words
 pub record HasBadWord (bytes : List ℕ) (fault : RleFault) : Type 0 where
   pub lines : List (List ℕ)
   pub said : List Said
@@ -46,7 +46,7 @@ pub record HasBadWord (bytes : List ℕ) (fault : RleFault) : Type 0 where
   pub line_ends : IsTrue (is_end_or is_line_end more)
   pub spelled : bytes ≡ flat_map ended lines ++ (line ++ more)
 
--- behind good lines stands a line that is neither a comment nor a header, or the bytes end
+-- a line that is neither a comment nor a header stands after good lines, or the bytes end
 pub record HasNoHeader (bytes : List ℕ) : Type 0 where
   pub lines : List (List ℕ)
   pub said : List Said
@@ -60,7 +60,7 @@ pub record HasNoHeader (bytes : List ℕ) : Type 0 where
   pub line_ends : IsTrue (is_end_or is_line_end more)
   pub spelled : bytes ≡ flat_map ended lines ++ (line ++ more)
 
--- behind good lines, one of which gives XLife's rule, stands a header without a rule
+-- a header without a rule stands after good lines, one of which gives XLife's rule
 pub record HasXlifeRule (bytes : List ℕ) : Type 0 where
   pub lines : List (List ℕ)
   pub said : List Said
@@ -77,20 +77,20 @@ pub record HasXlifeRule (bytes : List ℕ) : Type 0 where
   pub header_ends : IsTrue (is_end_or is_line_end body)
   pub spelled : bytes ≡ flat_map ended lines ++ (header ++ body)
 
--- the bytes behind the white space at the front; none where a comment is cut off by the end
-abbrev pub behind_white : Place → List ℕ → List ℕ
-behind_white AtStart [] = []
-behind_white InLine [] = []
-behind_white InComment [] = []
-behind_white AtStart (b ∷ bs) =
-    if is_line_end b || is_blank b then behind_white AtStart bs
-    else (if b == letter "#" then behind_white InComment bs else b ∷ bs)
-behind_white InLine (b ∷ bs) =
-    if is_line_end b then behind_white AtStart bs
-    else (if is_blank b then behind_white InLine bs else b ∷ bs)
-behind_white InComment (b ∷ bs) = if is_line_end b then behind_white AtStart bs else behind_white InComment bs
+-- the bytes after the white space at the front; none where a comment is cut off by the end
+abbrev pub after_white : Place → List ℕ → List ℕ
+after_white AtStart [] = []
+after_white InLine [] = []
+after_white InComment [] = []
+after_white AtStart (b ∷ bs) =
+    if is_line_end b || is_blank b then after_white AtStart bs
+    else (if b == letter "#" then after_white InComment bs else b ∷ bs)
+after_white InLine (b ∷ bs) =
+    if is_line_end b then after_white AtStart bs
+    else (if is_blank b then after_white InLine bs else b ∷ bs)
+after_white InComment (b ∷ bs) = if is_line_end b then after_white AtStart bs else after_white InComment bs
 
--- the fault of a prefix with what stands behind it: it wants a letter, and the greatest state is 255
+-- the fault of a prefix with what stands after it: a letter has to follow, and the greatest state is 255
 abbrev pub letter_fault : ℕ → List ℕ → Option RleFault
 letter_fault prefix [] = Some NoEnd
 letter_fault prefix (b ∷ bs) = if is_letter b then (if nat_le (prefixed_state prefix b) 255 then None else Some BadState) else Some Syntax
@@ -103,16 +103,16 @@ tag_fault counted (b ∷ bs) =
     else (if is_some (tag_of (b ∷ [])) then None
     else (if is_prefix b then letter_fault b bs else Some Syntax))
 
--- the fault of digits and what stands behind them: a count of 0 is judged before its tag
+-- the fault of digits and what stands after them: a count of 0 is judged before its tag
 abbrev pub count_fault : List ℕ → List ℕ → Option RleFault
 count_fault [] bytes = tag_fault false bytes
-count_fault (d ∷ ds) bytes = if value (d ∷ ds) == 0 then Some Syntax else tag_fault true (behind_white InLine bytes)
+count_fault (d ∷ ds) bytes = if value (d ∷ ds) == 0 then Some Syntax else tag_fault true (after_white InLine bytes)
 
 -- the fault of the item or end at the front, if it has one
 abbrev pub item_fault : List ℕ → Option RleFault
-item_fault bytes = count_fault (front is_digit (behind_white InLine bytes)) (rest is_digit (behind_white InLine bytes))
+item_fault bytes = count_fault (front is_digit (after_white InLine bytes)) (rest is_digit (after_white InLine bytes))
 
--- behind a good header and good items stands a bad item, or the bytes end
+-- a bad item stands after a good header and good items, or the bytes end
 pub record HasBadItem (bytes : List ℕ) (fault : RleFault) : Type 0 where
   pub said : List Said
   pub rule : Option (List ℕ)
@@ -135,7 +135,7 @@ IsFirstFault bytes Range = ⊥
 IsFirstFault bytes TooManyCells = ⊥
 IsFirstFault bytes Memory = ⊥
 
--- the fault of a text: the first in its spelling, else the first limit that it passes; of want of memory nothing is said here
+-- the fault of a text: the first in its spelling, else the first limit that it passes; of running out of memory nothing is said here
 abbrev pub IsFaultOf : List ℕ → RleFault → Type 0
 IsFaultOf bytes Syntax = IsFirstFault bytes Syntax
 IsFaultOf bytes Header = IsFirstFault bytes Header

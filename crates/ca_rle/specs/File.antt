@@ -51,7 +51,7 @@ last_generation count (Nothing ∷ more) = last_generation count more
 abbrev pub generation_of : List Said → ℕ
 generation_of said = last_generation 0 said
 
--- lines that may stand before a header, a header behind them, and what stands behind the header's line
+-- lines that may stand before a header, a header after them, and what stands after the header's line
 pub record IsHeaded (bytes : List ℕ) (said : List Said) (rule : Option (List ℕ)) (body : List ℕ) : Type 0 where
   pub lines : List (List ℕ)
   pub header : List ℕ

@@ -16,7 +16,7 @@ abbrev pub IsPart : Part → List ℕ → Type 0
 IsPart (Exactly text) bytes = bytes ≡ text
 IsPart Number bytes = AreDigits bytes
 
--- the parts one after another, with blanks before each and behind the last
+-- the parts one after another, with blanks before each and after the last
 abbrev pub IsSpaced : List Part → List ℕ → Type 0
 IsSpaced [] bytes = Every is_blank bytes
 IsSpaced (p ∷ ps) bytes = (blanks : List ℕ) × (part : List ℕ) × (more : List ℕ) ×
@@ -32,8 +32,8 @@ size_parts more =
     Exactly (codes "x") ∷ Exactly (codes "=") ∷ Number ∷ Exactly (codes ",")
     ∷ Exactly (codes "y") ∷ Exactly (codes "=") ∷ Number ∷ more
 
--- a header: its size, and a rule text or none. The rule text is a word; what follows a blank behind it is ignored.
--- `rule =` with nothing but blanks behind it gives none.
+-- a header: its size, and a rule text or none. The rule text is a word; what follows a blank after it is ignored.
+-- `rule =` with nothing but blanks after it gives none.
 abbrev pub IsHeader : List ℕ → Option (List ℕ) → Type 0
 IsHeader line None = IsSpaced (size_parts []) line ⊎ IsSpaced (size_parts rule_parts) line
 IsHeader line (Some text) = (front : List ℕ) × (ignored : List ℕ) ×
@@ -43,12 +43,12 @@ IsHeader line (Some text) = (front : List ℕ) × (ignored : List ℕ) ×
 abbrev pub is_comment : List ℕ → Bool
 is_comment line = is_end_or (λ b. b == letter "#") (rest is_blank line)
 
--- the words behind `#CXRLE`, where that is the first word of the line
+-- the words after `#CXRLE`, where that is the first word of the line
 abbrev pub words_behind_cxrle : List (List ℕ) → List (List ℕ)
 words_behind_cxrle [] = []
 words_behind_cxrle (w ∷ ws) = if bytes_eq w (codes "#CXRLE") then ws else []
 
--- the words that a line has behind its `#CXRLE`, and none in any other line
+-- the words that a line has after its `#CXRLE`, and none in any other line
 abbrev pub extended_words : List ℕ → List (List ℕ)
 extended_words line = words_behind_cxrle (words_of line)
 

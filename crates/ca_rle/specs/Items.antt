@@ -28,7 +28,7 @@ tag_of (b ∷ []) =
 tag_of (p ∷ b ∷ []) = if (is_prefix p && is_letter b) && nat_le (prefixed_state p b) 255 then Some (Cell (prefixed_state p b)) else None
 tag_of (p ∷ b ∷ c ∷ bs) = None
 
--- where white space stands: at a line's start or behind blanks there, elsewhere in a line, or in a line whose first byte that is no blank is `#`
+-- where white space stands: at a line's start or after blanks there, elsewhere in a line, or in a line whose first byte that is no blank is `#`
 pub data Place : Type 0 where
   AtStart : Place
   InLine : Place

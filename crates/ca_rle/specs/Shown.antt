@@ -21,7 +21,7 @@ state_of RowEnd = 0
 abbrev pub rows_of : List Item → ℕ
 rows_of items = sum_by (λ i. if ends_row i.tag then i.count else 0) items
 
--- how far right the items lead: the sum of the counts of the cell items behind the last row end
+-- how far right the items lead: the sum of the counts of the cell items after the last row end
 abbrev pub columns_of : List Item → ℕ
 columns_of items = sum_by (λ i. i.count) (after_last (λ i. ends_row i.tag) items)
 
@@ -29,15 +29,15 @@ columns_of items = sum_by (λ i. i.count) (after_last (λ i. ends_row i.tag) ite
 abbrev pub run_of : ℕ → Point → ℕ → Picture
 run_of state at count = map (λ k. (record { y = at.y; x = at.x +ℤ pos k }, state)) (range_with_len 0 count)
 
--- where the item behind these begins
+-- where the item after these begins
 abbrev pub place_behind : Point → List Item → Point
 place_behind corner before = record { y = corner.y +ℤ pos (rows_of before); x = corner.x +ℤ pos (columns_of before) }
 
--- the cells of one item, behind the items before it; dead cells and row ends have none
+-- the cells of one item, after the items before it; dead cells and row ends have none
 abbrev pub cells_of : Point → List Item → Item → Picture
 cells_of corner before item = if state_of item.tag == 0 then [] else run_of (state_of item.tag) (place_behind corner before) item.count
 
--- the cells of items that stand behind others
+-- the cells of items that stand after others
 abbrev pub picture_behind : Point → List Item → List Item → Picture
 picture_behind corner before [] = []
 picture_behind corner before (i ∷ is) = cells_of corner before i ++ picture_behind corner (before ++ i ∷ []) is

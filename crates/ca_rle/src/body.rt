@@ -1,4 +1,4 @@
-//! What stands behind the header of an RLE text: its items, read into a plane.
+//! What stands after the header of an RLE text: its items, read into a plane.
 
 ghost use Rattle.std.specs.Prelude.{List, IfOk, IfErr, IsErrOf};
 ghost use Rattle.ca_plane.specs.Plane.{IsSame, IsPicture};
@@ -32,10 +32,13 @@ pub(crate) fn read_body(alloc: Global, body: &[u8], corner: Point) -> Result<Pla
         × IsSame p (picture_of corner items) × IsPicture (picture_of corner items)) }
     ensures sparse { IfOk result (λ p. IsSparse p) }
     ensures fault { IfErr result (λ f. IsBodyFault body.now corner f) }
-    // Memory is wanted only for a body without a fault.
+    // It runs out of memory only for a body without a fault.
     ensures memory { IsErrOf result RleFault.Memory → (items : List Item) × Items body.now items × IsWithinLimits (bare_file corner items) }
 {
-    let extent = measure(body)?;
+    let extent = match measure(body) {
+        Ok(extent) => extent,
+        Err(faulty) => return Err(faulty.fault),
+    };
     if !extent.is_in_range(corner) {
         return Err(RleFault::Range);
     }

@@ -49,7 +49,7 @@ fn draw_item(plane: &mut Plane, corner: Point, at: Offset, item: Item) -> Result
     set_run(plane, at.point(corner), item.count, state)
 }
 
-/// The item at the front of bytes that were judged to be good, and the bytes behind it, or nothing where the pattern ends.
+/// The item at the front of bytes that were judged to be good, and the bytes after it, or nothing where the pattern ends.
 fn good_item(bytes: &[u8]) -> Option<(Item, &[u8])>
     requires { (f : RleFault) → item_fault bytes.now ≡ Some f → ⊥ }
     ensures { MatchOption result (IsEnd bytes.now) (λ r. (j : Item) × Run bytes.now (j ∷ []) r.1.now × (r.0 ≡ kept j)) }

@@ -4,6 +4,7 @@ ghost use Rattle.std.specs.Prelude.{◌≡◌, ℕ, List, [], ◌∷◌, ◌++�
 ghost use Rattle.ca_rle.specs.declared.item.Tag.TheVariants.{Cell, RowEnd};
 ghost use Rattle.ca_rle.specs.declared.fault.RleFault.TheVariants.{Syntax, Header, XlifeRule, NoEnd, BadState, GenTooLarge};
 ghost use Rattle.ca_rle.specs.Faults.{IsFirstFault};
+ghost use Rattle.ca_rle.specs.FaultyLine.{IsFirstFaultOn};
 ghost use Rattle.ca_rle.specs.Items.{Items};
 ghost use Rattle.ca_rle.specs.File.{IsFile};
 ghost use Rattle.ca_rle.specs.Shown.{picture_of};
@@ -54,4 +55,14 @@ pub fn worked_faults()
     ensures cut_off { IsFirstFault (codes "x = 3, y = 1" ++ (10 ∷ codes "3o")) NoEnd }
     ensures state { IsFirstFault (codes "x = 1, y = 1, rule = Star" ++ (10 ∷ codes "yP!")) BadState }
     ensures generation { IsFirstFault (codes "#CXRLE Gen=9223372036854775808" ++ (10 ∷ codes "x = 1, y = 1" ++ (10 ∷ codes "o!"))) GenTooLarge }
+{}
+
+/// The line on which the first fault of a text stands.
+pub fn worked_lines()
+    ensures item { IsFirstFaultOn (codes "x = 1, y = 1" ++ (10 ∷ codes "2o$" ++ (10 ∷ codes "z!"))) Syntax 3 }
+    ensures white { IsFirstFaultOn (codes "x = 1, y = 1" ++ (10 ∷ codes "# c!" ++ (10 ∷ 10 ∷ codes "2" ++ (10 ∷ codes "z!")))) Syntax 4 }
+    ensures header { IsFirstFaultOn (codes "#C c" ++ (10 ∷ codes "x = 3, y = 3," ++ (10 ∷ codes "3o!"))) Header 2 }
+    ensures cut_off { IsFirstFaultOn (codes "x = 3, y = 1" ++ (10 ∷ codes "3o" ++ (10 ∷ codes "# c" ++ 10 ∷ []))) NoEnd 3 }
+    ensures comments { IsFirstFaultOn (codes "#C c" ++ (10 ∷ codes "#C d" ++ 10 ∷ [])) Header 2 }
+    ensures empty { IsFirstFaultOn [] Header 1 }
 {}

@@ -1,14 +1,15 @@
 //! How far the items of an RLE text reach, which is judged before anything is drawn. Nothing here takes memory.
 
-ghost use Rattle.std.specs.Prelude.{◌≡◌, ◌+◌, ◌≤◌, max, pos, neg_ℤ, ◌+ℤ◌, ◌≤ℤ◌, ◌<ℤ◌, List, [], ◌==◌, IsTrue, ◌↔◌, IfOk, IfErr, if◌then◌else◌};
+ghost use Rattle.std.specs.Prelude.{◌≡◌, ◌+◌, ◌≤◌, max, pos, neg_ℤ, ◌+ℤ◌, ◌≤ℤ◌, ◌<ℤ◌, List, [], ◌∷◌, Some, ◌==◌, IsTrue, ◌↔◌, IfOk, IfErr, MatchOption, MatchResult, if◌then◌else◌};
 ghost use Rattle.ca_rle.specs.declared.item.Item.{Item};
-ghost use Rattle.ca_rle.specs.Items.{Items};
+ghost use Rattle.ca_rle.specs.Items.{Run, IsEnd, Items};
+ghost use Rattle.ca_rle.specs.Faults.{item_fault};
 ghost use Rattle.ca_rle.specs.Shown.{ends_row, state_of};
 ghost use Rattle.ca_plane.specs.Limits.{IsInRange, range};
-ghost use Rattle.ca_rle.specs.inner.BodyFaults.{HasBadUnit};
+ghost use Rattle.ca_rle.specs.inner.BodyFaults.{HasBadUnitAt, kept};
 ghost use Rattle.ca_rle.specs.inner.Extent.{kept_number, live_count, IsOffsetOf, IsExtentOf, IsExtentInRange, point_from};
 
-use crate::fault::RleFault;
+use crate::faulty::Faulty;
 use crate::item::{Item, Tag};
 use crate::unit::next_item;
 use ca_plane::Point;
@@ -37,7 +38,7 @@ impl Offset {
         }
     }
 
-    /// Where the item behind this one begins.
+    /// Where the item after this one begins.
     pub(crate) fn behind(self, item: Item) -> Offset
         ensures rows { result.rows ≡ kept_number (self.rows + (if ends_row item.tag then item.count else 0)) }
         ensures columns { result.columns ≡ (if ends_row item.tag then 0 else kept_number (self.columns + item.count)) }
@@ -129,19 +130,34 @@ fn has_room(coordinate: i64, length: u64) -> bool
     -RANGE_EDGE <= start && start < RANGE_EDGE && end <= RANGE_EDGE
 }
 
+/// The item at the front and the bytes after it, or nothing where the pattern ends there.
+///
+/// # Errors
+///
+/// The fault of that item, with all the bytes.
+fn item_at(bytes: &[u8]) -> Result<Option<(Item, &[u8])>, Faulty<'_>>
+    ensures { MatchResult result (λ o. MatchOption o (IsEnd bytes.now) (λ r. (j : Item) × Run bytes.now (j ∷ []) r.1.now × (r.0 ≡ kept j)))
+        (λ f. (item_fault bytes.now ≡ Some f.fault) × (f.rest.now ≡ bytes.now)) }
+{
+    match next_item(bytes) {
+        Ok(found) => Ok(found),
+        Err(fault) => Err(Faulty { fault, rest: bytes }),
+    }
+}
+
 /// How far the items of a body reach.
 ///
 /// # Errors
 ///
 /// The fault of the first item that has one.
-pub(crate) fn measure(body: &[u8]) -> Result<Extent, RleFault>
+pub(crate) fn measure(body: &[u8]) -> Result<Extent, Faulty<'_>>
     ensures found { IfOk result (λ e. (items : List Item) × Items body.now items × IsExtentOf items e) }
-    ensures fault { IfErr result (λ f. HasBadUnit body.now f) }
+    ensures fault { IfErr result (λ f. HasBadUnitAt body.now f.fault f.rest.now) }
 {
     let mut extent = Extent::none();
     let mut at = Offset::start();
     let mut rest = body;
-    'items: while let Some((item, more)) = next_item(rest)? {
+    'items: while let Some((item, more)) = item_at(rest)? {
         extent = extent.grown(at, item);
         at = at.behind(item);
         rest = more;

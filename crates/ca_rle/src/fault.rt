@@ -11,7 +11,7 @@ pub enum RleFault {
     /// A word of a `#CXRLE` line or an item is misspelled.
     #[error("syntax")]
     Syntax,
-    /// No line is a header, or the line where it should stand is none.
+    /// No line is a header, or the line where it should stand isn't one.
     #[error("no header")]
     Header,
     /// The header names no rule, and an `#r` line gives XLife's.

@@ -17,6 +17,7 @@ ghost use Rattle.ca_rle.specs.inner.FrontParts.{IsPreambleOf, IsFront};
 use self::header::read_header;
 use self::lines::{Preamble, is_comment};
 use crate::fault::RleFault;
+use crate::faulty::Faulty;
 use ca_plane::Point;
 use ca_plane::bytes::split_line;
 
@@ -28,11 +29,11 @@ pub(crate) struct Front<'a> {
     pub(crate) generation: u64,
     /// The header's rule text, where it has one.
     pub(crate) rule: Option<&'a [u8]>,
-    /// What stands behind the header: nothing, or bytes that begin with the LF of its line.
+    /// What stands after the header: nothing, or bytes that begin with the LF of its line.
     pub(crate) body: &'a [u8],
 }
 
-/// Reads the header, which stands in this line behind what the lines before it say.
+/// Reads the header, which stands in this line after what the lines before it say.
 fn front_at<'a>(preamble: Preamble, line: &'a [u8], body: &'a [u8]) -> Result<Front<'a>, RleFault>
     requires line { Every (λ b. not (is_line_end b)) line.now }
     requires header { is_comment line.now ≡ false }
@@ -40,7 +41,7 @@ fn front_at<'a>(preamble: Preamble, line: &'a [u8], body: &'a [u8]) -> Result<Fr
     ensures found { IfOk result (λ f. (lines : List (List ℕ)) (said : List Said) → IsPreambleOf lines said preamble
         → IsFront (flat_map ended lines ++ (line.now ++ body.now)) f) }
     ensures fault { IfErr result (λ f. (lines : List (List ℕ)) (said : List Said) → IsPreambleOf lines said preamble
-        → IsFrontFault (flat_map ended lines ++ (line.now ++ body.now)) f) }
+        → IsFrontFault (flat_map ended lines ++ (line.now ++ body.now)) f (line.now ++ body.now)) }
 {
     let Some(header) = read_header(line) else {
         return Err(RleFault::Header);
@@ -57,21 +58,34 @@ fn front_at<'a>(preamble: Preamble, line: &'a [u8], body: &'a [u8]) -> Result<Fr
 }
 
 /// Reads the lines before the header, and the header.
-pub(crate) fn read_front(bytes: &[u8]) -> Result<Front<'_>, RleFault>
+///
+/// # Errors
+///
+/// The fault of the first bad line, and the bytes from that line on.
+pub(crate) fn read_front(bytes: &[u8]) -> Result<Front<'_>, Faulty<'_>>
     ensures found { IfOk result (λ f. (said : List Said) × (rule : Option (List ℕ)) × IsHeaded bytes.now said rule f.body.now
         × (option_copied f.rule ≡ rule) × KeepsCorner (corner_of said) f.corner × (f.generation ≡ generation_of said)) }
-    ensures fault { IfErr result (λ f. IsFrontFault bytes.now f) }
+    ensures fault { IfErr result (λ f. IsFrontFault bytes.now f.fault f.rest.now) }
 {
     let mut preamble = Preamble::new();
     let mut rest = bytes;
     'lines: loop {
         let (line, behind) = split_line(rest);
         if !is_comment(line) {
-            return front_at(preamble, line, behind);
+            return match front_at(preamble, line, behind) {
+                Ok(front) => Ok(front),
+                Err(fault) => Err(Faulty { fault, rest }),
+            };
         }
-        preamble = preamble.behind_line(line)?;
+        preamble = match preamble.behind_line(line) {
+            Ok(preamble) => preamble,
+            Err(fault) => return Err(Faulty { fault, rest }),
+        };
         let Some((_, later)) = behind.split_first() else {
-            return Err(RleFault::Header);
+            return Err(Faulty {
+                fault: RleFault::Header,
+                rest,
+            });
         };
         rest = later;
     }

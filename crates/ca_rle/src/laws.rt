@@ -1,12 +1,15 @@
 //! Laws of the format: a text has one meaning or one fault.
 
-ghost use Rattle.std.specs.Prelude.{◌≡◌, ◌≢◌, ◌⊎◌, ℕ, List, [], ◌∷◌, None};
+ghost use Rattle.std.specs.Prelude.{◌≡◌, ◌≢◌, ◌⊎◌, ℕ, ◌+◌, ◌<◌, max, List, [], ◌∷◌, ◌++◌, length, None};
+ghost use Rattle.std.specs.List.{flat_map, AllByRecursion};
+ghost use Rattle.ca_plane.specs.Bytes.{lines_of};
 ghost use Rattle.ca_rle.specs.declared.item.Item.{Item};
 ghost use Rattle.ca_rle.specs.declared.fault.RleFault.{RleFault};
 ghost use Rattle.ca_rle.specs.declared.fault.RleFault.TheVariants.{Memory};
 ghost use Rattle.ca_rle.specs.Items.{Items, IsEnd, Run};
 ghost use Rattle.ca_rle.specs.Faults.{item_fault, IsFirstFault, IsFaultOf};
-ghost use Rattle.ca_rle.specs.File.{File, IsFile};
+ghost use Rattle.ca_rle.specs.FaultyLine.{IsFirstFaultOn, IsFaultyLine, line_of};
+ghost use Rattle.ca_rle.specs.File.{File, IsFile, IsLine, ended};
 ghost use Rattle.ca_rle.specs.Limits.{IsWithinLimits};
 
 /// Bytes spell one list of items at most.
@@ -14,7 +17,7 @@ pub fn one_list_of_items()
     ensures { (bytes : List ℕ) (is js : List Item) → Items bytes is → Items bytes js → is ≡ js }
 {}
 
-/// Behind items of a spelled list stands no bad item.
+/// No bad item stands after items of a spelled list.
 pub fn no_fault_in_items()
     ensures { (bytes bad : List ℕ) (is js : List Item) (f : RleFault) → Items bytes is → Run bytes js bad → item_fault bad ≡ Some f → ⊥ }
 {}
@@ -39,7 +42,7 @@ pub fn one_first_fault()
     ensures { (bytes : List ℕ) (f g : RleFault) → IsFirstFault bytes f → IsFirstFault bytes g → f ≡ g }
 {}
 
-/// A text has one fault at most, want of memory apart.
+/// A text has one fault at most, besides running out of memory.
 pub fn one_fault()
     ensures { (bytes : List ℕ) (f g : RleFault) → f ≢ Memory → g ≢ Memory → IsFaultOf bytes f → IsFaultOf bytes g → f ≡ g }
 {}
@@ -49,7 +52,26 @@ pub fn file_or_fault()
     ensures { (bytes : List ℕ) → ((file : File) × IsFile bytes file) ⊎ ((f : RleFault) × IsFirstFault bytes f) }
 {}
 
-/// A text that is a file within the limits has no fault, want of memory apart.
+/// A text that is a file within the limits has no fault, besides running out of memory.
 pub fn no_fault_within_limits()
     ensures { (bytes : List ℕ) (file : File) (f : RleFault) → IsFile bytes file → IsWithinLimits file → f ≢ Memory → IsFaultOf bytes f → ⊥ }
+{}
+
+/// The fault on a faulty line is the text's first, and each first fault stands on a line.
+pub fn line_of_a_fault()
+    ensures fault { (bytes : List ℕ) (f : RleFault) (line : ℕ) → IsFirstFaultOn bytes f line → IsFirstFault bytes f }
+    ensures line { (bytes : List ℕ) (f : RleFault) → IsFirstFault bytes f → (line : ℕ) × IsFirstFaultOn bytes f line }
+{}
+
+/// A text has one faulty line at most.
+pub fn one_faulty_line()
+    ensures { (bytes : List ℕ) (m n : ℕ) → IsFaultyLine bytes m → IsFaultyLine bytes n → m ≡ n }
+{}
+
+/// How lines are counted: what stands after whole lines and the start of another is on that other line, and the end of a text
+/// is on its last line.
+pub fn counted_lines()
+    ensures rest { (lines : List (List ℕ)) (before rest : List ℕ) → AllByRecursion IsLine lines → IsLine before → 0 < length rest
+        → line_of (flat_map ended lines ++ (before ++ rest)) rest ≡ length lines + 1 }
+    ensures end { (text : List ℕ) → line_of text [] ≡ max 1 (length (lines_of text)) }
 {}

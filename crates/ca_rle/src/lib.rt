@@ -6,6 +6,8 @@ mod drawing;
 pub mod examples;
 mod extent;
 mod fault;
+mod fault_line;
+mod faulty;
 mod front;
 mod item;
 pub mod laws;
@@ -16,6 +18,7 @@ mod unit;
 mod write;
 
 pub use fault::RleFault;
+pub use fault_line::faulty_line;
 pub use item::{Item, Tag};
 pub use pattern::Pattern;
 pub use read::read_rle;

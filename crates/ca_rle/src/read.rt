@@ -35,12 +35,12 @@ pub fn read_rle(alloc: Global, bytes: &[u8]) -> Result<Pattern, RleFault>
     ensures rule { IfOk result (λ p. IsWord p.rule_text.items) }
     // A text that is refused has this fault.
     ensures fault { IfErr result (λ f. IsFaultOf bytes.now f) }
-    // Memory is wanted only for a text without a fault.
+    // It runs out of memory only for a text without a fault.
     ensures memory { IsErrOf result RleFault.Memory → (file : File) × IsFile bytes.now file × IsWithinLimits file }
 {
     let front = match read_front(bytes) {
         Ok(front) => front,
-        Err(fault) => return Err(fault),
+        Err(faulty) => return Err(faulty.fault),
     };
     let cells = match read_body(alloc, front.body, front.corner) {
         Ok(cells) => cells,

@@ -4,7 +4,7 @@ ghost use Rattle.std.specs.Prelude.{◌≡◌, ℕ, ◌<◌, ◌≤◌, ◌-◌,
 ghost use Rattle.ca_plane.specs.Bytes.{is_blank, is_digit, is_end_or, Every, value};
 ghost use Rattle.ca_rle.specs.declared.item.Item.{Item};
 ghost use Rattle.ca_rle.specs.Items.{AtStart, InLine, is_letter, is_prefix, prefixed_state, tag_of, Run, IsEnd};
-ghost use Rattle.ca_rle.specs.Faults.{behind_white, letter_fault, tag_fault, item_fault};
+ghost use Rattle.ca_rle.specs.Faults.{after_white, letter_fault, tag_fault, item_fault};
 ghost use Rattle.ca_rle.specs.inner.BodyFaults.{kept};
 ghost use Rattle.ca_rle.specs.inner.ItemParts.{IsSplit};
 
@@ -12,9 +12,9 @@ use crate::fault::RleFault;
 use crate::item::{Item, Tag};
 use ca_plane::bytes::{number, split_blanks, split_digits, split_line, strip};
 
-/// The bytes of a line behind the blanks at its start, or its end where it is a comment.
+/// The bytes of a line after the blanks at its start, or its end where it is a comment.
 fn behind_line_start(bytes: &[u8]) -> &[u8]
-    ensures white { behind_white AtStart bytes.now ≡ behind_white InLine result.now }
+    ensures white { after_white AtStart bytes.now ≡ after_white InLine result.now }
     ensures no_blank { IsTrue (is_end_or (λ b. not (is_blank b)) result.now) }
     ensures shorter { length result.now ≤ length bytes.now }
 {
@@ -26,9 +26,9 @@ fn behind_line_start(bytes: &[u8]) -> &[u8]
     rest
 }
 
-/// The bytes behind the white space at the front.
-fn behind_white(bytes: &[u8]) -> &[u8]
-    ensures { result.now ≡ behind_white InLine bytes.now }
+/// The bytes after the white space at the front.
+pub(crate) fn after_white(bytes: &[u8]) -> &[u8]
+    ensures { result.now ≡ after_white InLine bytes.now }
 {
     let (_, mut rest) = split_blanks(bytes);
     'lines: while let Some(line) = strip(rest, b"\n") {
@@ -37,7 +37,7 @@ fn behind_white(bytes: &[u8]) -> &[u8]
     rest
 }
 
-/// The cell that a prefix and the letter at the front stand for, and the bytes behind it.
+/// The cell that a prefix and the letter at the front stand for, and the bytes after it.
 fn prefixed(prefix: u8, bytes: &[u8]) -> Result<(Tag, &[u8]), RleFault>
     requires { IsTrue (is_prefix prefix) }
     ensures { MatchResult result (λ t. (letter : ℕ) × (tag_of (prefix ∷ letter ∷ []) ≡ Some t.0) × (bytes.now ≡ letter ∷ t.1.now))
@@ -69,7 +69,7 @@ fn one_byte_tag(byte: u8) -> Option<Tag>
     }
 }
 
-/// The tag at the front and the bytes behind it, or nothing for `!`.
+/// The tag at the front and the bytes after it, or nothing for `!`.
 fn next_tag(bytes: &[u8]) -> Result<Option<(Tag, &[u8])>, RleFault>
     ensures { MatchResult result (λ o. MatchOption o ((ignored : List ℕ) × (bytes.now ≡ 33 ∷ ignored))
         (λ t. (letters : List ℕ) × (tag_of letters ≡ Some t.0) × (bytes.now ≡ letters ++ t.1.now)))
@@ -91,11 +91,11 @@ fn next_tag(bytes: &[u8]) -> Result<Option<(Tag, &[u8])>, RleFault>
     Ok(Some((tag, rest)))
 }
 
-/// The digits behind the white space at the front, and the bytes behind them.
+/// The digits after the white space at the front, and the bytes after them.
 fn split_count(bytes: &[u8]) -> (&[u8], &[u8])
     ensures { IsSplit bytes.now result.0.now result.1.now }
 {
-    split_digits(behind_white(bytes))
+    split_digits(after_white(bytes))
 }
 
 /// The count that digits write, or nothing where it is 0. At 2^64 - 1 it stays.
@@ -110,7 +110,7 @@ fn count(digits: &[u8]) -> Option<u64>
     Some(count)
 }
 
-/// The item that stands at the front and the bytes behind it, or nothing where the pattern ends there.
+/// The item that stands at the front and the bytes after it, or nothing where the pattern ends there.
 pub(crate) fn next_item(bytes: &[u8]) -> Result<Option<(Item, &[u8])>, RleFault>
     ensures { MatchResult result (λ o. MatchOption o (IsEnd bytes.now) (λ r. (j : Item) × Run bytes.now (j ∷ []) r.1.now × (r.0 ≡ kept j)))
         (λ f. item_fault bytes.now ≡ Some f) }
@@ -125,7 +125,7 @@ pub(crate) fn next_item(bytes: &[u8]) -> Result<Option<(Item, &[u8])>, RleFault>
     let Some(count) = count(digits) else {
         return Err(RleFault::Syntax);
     };
-    let Some((tag, rest)) = next_tag(behind_white(behind))? else {
+    let Some((tag, rest)) = next_tag(after_white(behind))? else {
         return Err(RleFault::Syntax);
     };
     Ok(Some((Item { count, tag }, rest)))

@@ -23,10 +23,10 @@ mod runs;
 /// The one tidy text of the plane, with its rule text, its generation count, and its rule's number of states.
 ///
 /// The first line is `#CXRLE Pos=X,Y`, the upper left corner of the least box round the live cells, with ` Gen=G`
-/// behind it where the generation isn't 0. The second is `x = W, y = H, rule = R`, the size of that box. For the
+/// after it where the generation isn't 0. The second is `x = W, y = H, rule = R`, the size of that box. For the
 /// empty plane the corner is 0,0 and the size 0 by 0. Then come the items and `!`, in lines of at most 70 characters,
 /// none of which is ended earlier than it has to be: `b` and `o` where there are two states, else `.` and letters; no
-/// count of 1, no dead cells at the end of a row, no row end behind the last row, and no two items side by side that
+/// count of 1, no dead cells at the end of a row, no row end after the last row, and no two items side by side that
 /// could be one. Each line ends with LF.
 ///
 /// The text's list of cells is the plane's own, so the reader takes it where the plane has at most 16777216 live cells, and
@@ -89,7 +89,7 @@ pub fn write_rle_to<W: Write>(
     ensures kept { OnOk result (out.new.failures ≡ out.old.failures) }
     // Without memory the device is as it was.
     ensures memory { IsErrOf result WriteFault.Memory → out.new ≡ out.old }
-    // A write failed behind some first part of the tidy text.
+    // A write failed after some first part of the tidy text.
     ensures front { IsErrOf result WriteFault.Write → (text : List ℕ) × IsTidy text cells.now rule_text.now generation states
         × AppendsPrefix (W.contents out.old.inner) (W.contents out.new.inner) text }
     ensures counted { IsErrOf result WriteFault.Write → Rises out.old.failures out.new.failures }

@@ -1,4 +1,4 @@
--- How an RLE text is read: what stands behind its header, and the corner as the reader keeps it.
+-- How an RLE text is read: what stands after its header, and the corner as the reader keeps it.
 use Rattle.std.specs.Prelude.{◌≡◌, ℕ, ◌^◌, ◌-◌, min, List, [], Some, ◌⊎◌}
 use Rattle.ca_plane.specs.declared.point.Point.{Point}
 use Rattle.ca_plane.specs.Sparse.{IsInPlane}
@@ -23,12 +23,16 @@ KeepsCorner corner place = IsInPlane place × ((place ≡ corner) ⊎ ((IsInRang
 abbrev pub bare_file : Point → List Item → File
 bare_file corner items = record { corner = corner; generation = 0; rule_text = []; items = items }
 
--- behind good items stands an item with this fault, or the bytes end
+-- these bytes stand after good items, and begin with a bad item or end
+abbrev pub HasBadUnitAt : List ℕ → RleFault → List ℕ → Type 0
+HasBadUnitAt body fault bad = (items : List Item) × Run body items bad × (item_fault bad ≡ Some fault)
+
+-- an item with this fault stands after good items, or the bytes end
 abbrev pub HasBadUnit : List ℕ → RleFault → Type 0
-HasBadUnit body fault = (items : List Item) × (bad : List ℕ) × Run body items bad × (item_fault bad ≡ Some fault)
+HasBadUnit body fault = (bad : List ℕ) × HasBadUnitAt body fault bad
 
 -- the fault of a body whose first item begins at the corner: that of its first bad item, else the first limit that it passes;
--- want of memory may come at any time
+-- memory may run out at any time
 abbrev pub IsBodyFault : List ℕ → Point → RleFault → Type 0
 IsBodyFault body corner Syntax = HasBadUnit body Syntax
 IsBodyFault body corner NoEnd = HasBadUnit body NoEnd

@@ -25,7 +25,7 @@ live_count i = if state_of i.tag == 0 then 0 else i.count
 abbrev pub live_cells : List Item → ℕ
 live_cells is = sum_by live_count is
 
--- how many columns from the corner on an item's live cells take, behind the items before it
+-- how many columns from the corner on an item's live cells take, after the items before it
 abbrev pub columns_to : List Item → Item → ℕ
 columns_to before i = if state_of i.tag == 0 then 0 else columns_of before + i.count
 
@@ -33,7 +33,7 @@ columns_to before i = if state_of i.tag == 0 then 0 else columns_of before + i.c
 abbrev pub rows_to : List Item → Item → ℕ
 rows_to before i = if state_of i.tag == 0 then 0 else rows_of before + 1
 
--- the most of these columns, of items that stand behind others
+-- the most of these columns, of items that stand after others
 abbrev pub right_behind : List Item → List Item → ℕ
 right_behind before [] = 0
 right_behind before (i ∷ is) = max (columns_to before i) (right_behind (before ++ i ∷ []) is)
@@ -49,7 +49,7 @@ bottom_behind before (i ∷ is) = max (rows_to before i) (bottom_behind (before 
 abbrev pub kept_number : ℕ → ℕ
 kept_number n = min n (2 ^ 64 - 1)
 
--- where the item behind these begins
+-- where the item after these begins
 pub record IsOffsetOf (items : List Item) (offset : Offset) : Type 0 where
   pub rows : offset.rows ≡ kept_number (rows_of items)
   pub columns : offset.columns ≡ kept_number (columns_of items)

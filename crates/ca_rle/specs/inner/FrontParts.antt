@@ -37,11 +37,11 @@ pub record IsStart (said : List Said) (start : Start) : Type 0 where
   pub corner : KeepsCorner (corner_of said) start.corner
   pub generation : start.generation ≡ generation_of said
 
--- behind what was said, these words lead from one start to another
+-- after what was said, these words lead from one start to another
 abbrev pub Leads : List (List ℕ) → Start → Start → Type 0
 Leads words old new = (more : List Said) × AllZip Says words more × ((said : List Said) → IsStart said old → IsStart (said ++ more) new)
 
--- behind good words stands a bad one
+-- a bad word stands after good ones
 pub record HasBadWordAmong (words : List (List ℕ)) (fault : RleFault) : Type 0 where
   pub good : List (List ℕ)
   pub good_said : List Said

@@ -2,9 +2,9 @@
 use Rattle.std.specs.Prelude.{◌≡◌, ℕ, List}
 use Rattle.ca_plane.specs.Bytes.{is_digit, front, rest}
 use Rattle.ca_rle.specs.Items.{InLine}
-use Rattle.ca_rle.specs.Faults.{behind_white}
+use Rattle.ca_rle.specs.Faults.{after_white}
 
--- the digits behind the white space at the front, and what stands behind them
+-- the digits after the white space at the front, and what stands after them
 pub record IsSplit (bytes digits behind : List ℕ) : Type 0 where
-  pub digits_are : digits ≡ front is_digit (behind_white InLine bytes)
-  pub behind_is : behind ≡ rest is_digit (behind_white InLine bytes)
+  pub digits_are : digits ≡ front is_digit (after_white InLine bytes)
+  pub behind_is : behind ≡ rest is_digit (after_white InLine bytes)

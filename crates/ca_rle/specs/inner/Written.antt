@@ -20,13 +20,13 @@ pub record IsGap (left : ℤ) (from to : Point) (gap : List Item) : Type 0 where
   pub right : to.x ≡ (if rows == 0 then from.x else left) +ℤ pos columns
   pub gap_is : gap ≡ some_of RowEnd rows ++ some_of (Cell 0) columns
 
--- a piece is put behind a text whose last line has so many characters, on a new line where it would pass 70
+-- a piece is put after a text whose last line has so many characters, on a new line where it would pass 70
 abbrev pub IsPlaced : List ℕ → ℕ → List ℕ → List ℕ → ℕ → Type 0
 IsPlaced old filled piece new now_filled =
     ((filled + length piece ≤ 70) × (new ≡ old ++ piece) × (now_filled ≡ filled + length piece))
     ⊎ ((70 < filled + length piece) × (new ≡ old ++ 10 ∷ piece) × (now_filled ≡ length piece))
 
--- new is old with the pieces behind it, in lines of at most 70 characters
+-- new is old with the pieces after it, in lines of at most 70 characters
 pub record PutsLines (old new : List ℕ) (pieces : List (List ℕ)) : Type 0 where
   pub lines : List (List (List ℕ))
   pub whole : flat_map (λ line. line) lines ≡ pieces

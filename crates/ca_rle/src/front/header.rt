@@ -15,7 +15,7 @@ pub(crate) struct Header<'a> {
     pub(crate) rule: Option<&'a [u8]>,
 }
 
-/// The bytes behind the text, blanks on both sides of it left out.
+/// The bytes after the text, blanks on both sides of it left out.
 fn behind_text<'a>(bytes: &'a [u8], text: &[u8]) -> Option<&'a [u8]>
     ensures { MatchOption result (parts_left (Exactly text.now ∷ []) bytes.now ≡ None) (λ r. parts_left (Exactly text.now ∷ []) bytes.now ≡ Some r.now) }
 {
@@ -25,7 +25,7 @@ fn behind_text<'a>(bytes: &'a [u8], text: &[u8]) -> Option<&'a [u8]>
     Some(behind)
 }
 
-/// The bytes behind a number, blanks on both sides of it left out.
+/// The bytes after a number, blanks on both sides of it left out.
 fn behind_number(bytes: &[u8]) -> Option<&[u8]>
     ensures { MatchOption result (parts_left (Number ∷ []) bytes.now ≡ None) (λ r. parts_left (Number ∷ []) bytes.now ≡ Some r.now) }
 {
@@ -38,7 +38,7 @@ fn behind_number(bytes: &[u8]) -> Option<&[u8]>
     Some(behind)
 }
 
-/// The bytes behind a name, `=` and a number.
+/// The bytes after a name, `=` and a number.
 fn behind_size<'a>(bytes: &'a [u8], name: &[u8]) -> Option<&'a [u8]>
     ensures { MatchOption result (parts_left (Exactly name.now ∷ Exactly (codes "=") ∷ Number ∷ []) bytes.now ≡ None)
         (λ r. parts_left (Exactly name.now ∷ Exactly (codes "=") ∷ Number ∷ []) bytes.now ≡ Some r.now) }
@@ -49,7 +49,7 @@ fn behind_size<'a>(bytes: &'a [u8], name: &[u8]) -> Option<&'a [u8]>
     Some(behind)
 }
 
-/// The bytes behind `x`, `=`, a number, `,`, `y`, `=` and a number.
+/// The bytes after `x`, `=`, a number, `,`, `y`, `=` and a number.
 fn behind_sizes(line: &[u8]) -> Option<&[u8]>
     ensures { MatchOption result (parts_left (size_parts []) line.now ≡ None) (λ r. parts_left (size_parts []) line.now ≡ Some r.now) }
 {
@@ -59,7 +59,7 @@ fn behind_sizes(line: &[u8]) -> Option<&[u8]>
     Some(behind)
 }
 
-/// The bytes behind `,`, `rule` and `=`.
+/// The bytes after `,`, `rule` and `=`.
 fn behind_rule_name(bytes: &[u8]) -> Option<&[u8]>
     ensures { MatchOption result (parts_left rule_parts bytes.now ≡ None) (λ r. parts_left rule_parts bytes.now ≡ Some r.now) }
 {

@@ -58,7 +58,7 @@ fn is_xlife_line(line: &[u8]) -> bool
     }
 }
 
-/// The bytes behind `#CXRLE`, where that is the line's first word.
+/// The bytes after `#CXRLE`, where that is the line's first word.
 fn behind_cxrle(line: &[u8]) -> Option<&[u8]>
     requires { Every (λ b. not (is_line_end b)) line.now }
     ensures words { MatchOption result (extended_words line.now ≡ []) (λ w. extended_words line.now ≡ words_of w.now) }
@@ -85,7 +85,7 @@ impl Preamble {
         }
     }
 
-    /// The start where the words of this line stand behind those before.
+    /// The start where the words of this line stand after those before.
     fn start_behind(self, line: &[u8]) -> Result<Start, RleFault>
         requires { Every (λ b. not (is_line_end b)) line.now }
         ensures found { IfOk result (λ t. Leads (extended_words line.now) self.start t) }
@@ -97,7 +97,7 @@ impl Preamble {
         }
     }
 
-    /// What this line says behind those before.
+    /// What this line says after those before.
     pub(crate) fn behind_line(self, line: &[u8]) -> Result<Preamble, RleFault>
         requires line { Every (λ b. not (is_line_end b)) line.now }
         requires comment { is_comment line.now ≡ true }

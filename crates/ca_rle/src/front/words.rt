@@ -54,7 +54,7 @@ fn generation(digits: &[u8]) -> Result<u64, RleFault>
 }
 
 impl Start {
-    /// The start where this word stands behind those before.
+    /// The start where this word stands after those before.
     fn behind_word(self, word: &[u8]) -> Result<Start, RleFault>
         ensures found { IfOk result (λ t. Leads (word.now ∷ []) self t) }
         ensures fault { IfErr result (λ f. IsBadWord word.now f) }
@@ -72,7 +72,7 @@ impl Start {
         Ok(self)
     }
 
-    /// The start where these words stand behind those before.
+    /// The start where these words stand after those before.
     pub(crate) fn behind_words(self, words: &[u8]) -> Result<Start, RleFault>
         requires { Every (λ b. not (is_line_end b)) words.now }
         ensures found { IfOk result (λ t. Leads (words_of words.now) self t) }

@@ -27,7 +27,7 @@ fn push_place(out: &mut Vec<u8>, at: Point) -> Result<(), Memory>
     push_integer(out, at.y)
 }
 
-/// Puts the first line behind the others: the corner, and the generation where it isn't 0.
+/// Puts the first line after the others: the corner, and the generation where it isn't 0.
 pub(super) fn push_corner_line(
     out: &mut Vec<u8>,
     corner: Point,
@@ -41,7 +41,7 @@ pub(super) fn push_corner_line(
     push_text(out, b"\n")
 }
 
-/// Puts the header behind the others: the size and the rule text.
+/// Puts the header after the others: the size and the rule text.
 pub(super) fn push_header_line(
     out: &mut Vec<u8>,
     width: u64,

@@ -12,7 +12,7 @@ use ca_plane::text::{push_number, push_text};
 /// The most characters of a line of items.
 const MOST_CHARACTERS: usize = 70;
 
-/// Puts a state's letters behind the others: 24 states have one letter, and each 24 more a prefix and a letter.
+/// Puts a state's letters after the others: 24 states have one letter, and each 24 more a prefix and a letter.
 fn push_letters(out: &mut Vec<u8>, state: u8) -> Result<(), Memory>
     ensures { OnOk result (Puts out.old.items out.new.items (letters_of state)) }
 {
@@ -90,7 +90,7 @@ fn place_end(out: &mut Vec<u8>, filled: usize) -> Result<usize, Memory>
     wrap(out, start, filled)
 }
 
-/// Puts the items and `!` behind the text, in lines of at most 70 characters, each ended no earlier than it has to be.
+/// Puts the items and `!` after the text, in lines of at most 70 characters, each ended no earlier than it has to be.
 pub(super) fn push_items(out: &mut Vec<u8>, states: u16, items: &[Item]) -> Result<(), Memory>
     ensures { OnOk result (PutsLines out.old.items out.new.items (map (item_text states) items.now ++ codes "!" ∷ [])) }
 {

@@ -14,7 +14,7 @@ use crate::item::{Item, Tag};
 use ca_plane::{Memory, Plane, Point};
 use std::alloc::Global;
 
-/// The run of cells that was met last: where it begins, the x behind it, and the state of its cells.
+/// The run of cells that was met last: where it begins, the x after it, and the state of its cells.
 #[derive(Clone, Copy)]
 struct Run {
     from: Point,
@@ -37,7 +37,7 @@ impl Run {
         }
     }
 
-    /// The place behind the run.
+    /// The place after the run.
     fn behind(self) -> Point
         ensures y { result.y ≡ self.from.y }
         ensures x { result.x ≡ self.past }
@@ -69,7 +69,7 @@ impl Run {
     }
 }
 
-/// Puts so many of a tag behind the items, where they are any.
+/// Puts so many of a tag after the items, and nothing where there are none.
 fn push_some(items: &mut Vec<Item>, tag: Tag, count: u64) -> Result<(), Memory>
     ensures { OnOk result (items.new.items ≡ items.old.items ++ some_of tag count) }
 {
@@ -79,7 +79,7 @@ fn push_some(items: &mut Vec<Item>, tag: Tag, count: u64) -> Result<(), Memory>
     Ok(())
 }
 
-/// Puts what leads from one place to a later one behind the items: row ends, and then dead cells.
+/// Puts what leads from one place to a later one after the items: row ends, and then dead cells.
 fn push_gap(items: &mut Vec<Item>, left: i64, from: Point, to: Point) -> Result<(), Memory>
     requires below { from.y ≤ℤ to.y }
     requires right { to.y ≡ from.y → from.x ≤ℤ to.x }

@@ -1,28 +1,13 @@
-use Rattle.std.proofs.Common.{◌≡◌, ℕ, Bool, true, List, [], ◌++◌, ◌∷◌, Some, None, inl, inr, lit<, lit≤, true≢false, false, IsTrue, ◌==◌, codes, refl, sym, ap, ◌∙◌}
+use Rattle.std.proofs.Common.{◌≡◌, ℕ, Bool, true, List, [], ◌++◌, ◌∷◌, Some, None, inl, inr, lit<, lit≤, true≢false, false, ◌==◌, codes, refl, sym, ap, ◌∙◌}
 use Rattle.ca_rle.specs.Header.{size_parts}
 use Rattle.std.specs.List.{list_any}
 use Rattle.std.proofs.lemmas.Bool.{or_left, or_right}
 use Rattle.std.proofs.lemmas.List.{append_cancel_left}
-use Rattle.ca_plane.specs.Bytes.{is_line_end, is_end_or}
 use Rattle.ca_rle.specs.declared.item.Tag.TheVariants.{Cell}
-use Rattle.ca_rle.specs.File.{IsLine, IsHeaded}
 use Rattle.ca_rle.proofs.ReadItems.{run_found}
-use Rattle.ca_rle.specs.inner.HeaderParts.{parts_left}
 use Rattle.ca_rle.proofs.Headers.{spaced_found, header_found, no_header}
+use Rattle.ca_rle.proofs.ExampleHeaders.{plain_header}
 use Rattle.ca_rle.proofs.examples.worked_faults.Goals as goal
-
--- a header without a rule in the first line
-plain_header : (header body : List ℕ) → IsLine header → parts_left (size_parts []) header ≡ Some [] → IsTrue (is_end_or is_line_end body) → IsHeaded (header ++ body) [] None body
-plain_header header body line h ends = record {
-  lines = [];
-  header = header;
-  preamble = record { each_is_line = tt; comments = tt; words = tt };
-  header_is_line = line;
-  header_is = inl (spaced_found (size_parts []) header h);
-  named = inr tt;
-  header_ends = ends;
-  spelled = refl;
-}
 
 -- a byte among others that passes
 any_behind : (test : ℕ → Bool) (a : List ℕ) (c : ℕ) (b : List ℕ) → test c ≡ true → list_any test (a ++ c ∷ b) ≡ true

@@ -1,8 +1,7 @@
-use Rattle.std.proofs.Common.{ℕ, List, [], ◌∷◌, ◌++◌, sym, subst, ◌∙◌, rules}
-use Rattle.std.proofs.lemmas.Result.{MatchResult-weaker}
+use Rattle.std.proofs.Common.{ℕ, List, [], ◌∷◌, ◌++◌, refl, sym, subst, ◌∙◌}
+use Rattle.ca_rle.specs.declared.fault.RleFault.TheVariants.{Header}
 use Rattle.ca_rle.specs.inner.FrontParts.{IsFront}
-use Rattle.ca_rle.specs.inner.FrontFaults.{IsFrontFault}
-use Rattle.ca_rle.proofs.FrontLines.{first_line_is_line, first_line_ends, split_there, line_passed, fewer_behind, word_fault, no_header_there}
+use Rattle.ca_rle.proofs.FrontLines.{fault_there, first_line_is_line, first_line_ends, split_there, line_passed, fewer_behind, word_fault, no_header_there}
 use Rattle.ca_rle.proofs.front.read_front.Goals as goal
 
 pub front_at-requires-clause-line : goal.front_at-requires-clause-line
@@ -11,36 +10,37 @@ front_at-requires-clause-line c = first_line_is_line c.lines.rest.now _ c.split_
 pub front_at-requires-clause-ends : goal.front_at-requires-clause-ends
 front_at-requires-clause-ends c = first_line_ends c.lines.rest.now _ c.split_line.ensures.rest
 
-pub returns-then-not-is_comment-clause-found : goal.returns-then-not-is_comment-clause-found
-returns-then-not-is_comment-clause-found c =
+pub returns-in-Ok-clause-found : goal.returns-in-Ok-clause-found
+returns-in-Ok-clause-found c =
     let so_far = c.lines.invariant in
     let whole = split_there _ _ _ _ so_far.0 so_far.3 c.split_line.ensures.front c.split_line.ensures.rest in
-    MatchResult-weaker c.front_at.result c.front_at.ensures.found (λ f h. subst (λ (l : List ℕ). IsFront l f) (sym whole) (h so_far.0 so_far.1 so_far.2)) (λ f h. h)
+    subst (λ (l : List ℕ). IsFront l c.in-Ok.front) (sym whole.0) (c.in-Ok.ensures.found so_far.0 so_far.1 so_far.2)
 
-pub returns-then-not-is_comment-clause-fault : goal.returns-then-not-is_comment-clause-fault
-returns-then-not-is_comment-clause-fault c =
+pub returns-in-Err-clause-fault : goal.returns-in-Err-clause-fault
+returns-in-Err-clause-fault c =
     let so_far = c.lines.invariant in
     let whole = split_there _ _ _ _ so_far.0 so_far.3 c.split_line.ensures.front c.split_line.ensures.rest in
-    MatchResult-weaker c.front_at.result c.front_at.ensures.fault (λ f h. h) (λ f h. subst (λ (l : List ℕ). IsFrontFault l f) (sym whole) (h so_far.0 so_far.1 so_far.2))
+    fault_there _ _ _ _ _ whole.0 whole.1 (c.in-Err.ensures.fault so_far.0 so_far.1 so_far.2)
 
 pub behind_line-requires-clause-line : goal.behind_line-requires-clause-line
 behind_line-requires-clause-line c = first_line_is_line c.lines.rest.now _ c.split_line.ensures.front
 
-pub returns-in_err-preamble-clause-fault : goal.returns-in_err-preamble-clause-fault
-returns-in_err-preamble-clause-fault c =
+pub returns-in-Err-behind_line-clause-fault : goal.returns-in-Err-behind_line-clause-fault
+returns-in-Err-behind_line-clause-fault c =
     let so_far = c.lines.invariant in
     let whole = split_there _ _ _ _ so_far.0 so_far.3 c.split_line.ensures.front c.split_line.ensures.rest in
     let fault = word_fault c.args.bytes.now c.split_line.result.0.now c.split_line.result.1.now so_far.0 so_far.1 _ so_far.2 (first_line_is_line c.lines.rest.now _ c.split_line.ensures.front) (sym c.is_comment.ensures ∙ c.if-not-is_comment.false)
-    (first_line_ends c.lines.rest.now _ c.split_line.ensures.rest) whole c.in_err-preamble.field-0.0 c.in_err-preamble.ensures.fault in
-    search (rules, fault)
+    (first_line_ends c.lines.rest.now _ c.split_line.ensures.rest) whole.0 c.in-Err-behind_line.fault c.in-Err-behind_line.ensures.fault in
+    fault_there _ _ _ _ _ refl whole.1 fault
 
 pub returns-in_default-clause-fault : goal.returns-in_default-clause-fault
 returns-in_default-clause-fault c =
     let so_far = c.lines.invariant in
     let whole = split_there _ _ _ _ so_far.0 so_far.3 c.split_line.ensures.front c.split_line.ensures.rest in
-    let words = c.in_ok-preamble.ensures.found in
-    no_header_there _ _ _ so_far.0 so_far.1 _ so_far.2 (first_line_is_line c.lines.rest.now _ c.split_line.ensures.front) (sym c.is_comment.ensures ∙ c.if-not-is_comment.false)
-    (first_line_ends c.lines.rest.now _ c.split_line.ensures.rest) whole words.0 words.1 c.in_default.ensures.cases
+    let words = c.in-Ok-behind_line.ensures.found in
+    let missing = no_header_there _ _ _ so_far.0 so_far.1 _ so_far.2 (first_line_is_line c.lines.rest.now _ c.split_line.ensures.front) (sym c.is_comment.ensures ∙ c.if-not-is_comment.false)
+    (first_line_ends c.lines.rest.now _ c.split_line.ensures.rest) whole.0 words.0 words.1 c.in_default.ensures.cases in
+    fault_there _ _ _ _ Header refl whole.1 missing
 
 pub lines-smaller : goal.lines-smaller
 lines-smaller c = fewer_behind _ _ _ _ c.split_line.ensures.rest c.in-Some.ensures.cases.0
@@ -50,9 +50,9 @@ lines-preserved c =
     let so_far = c.lines.invariant in
     let line = c.split_line.result.0.now in
     let whole = split_there _ _ _ _ so_far.0 so_far.3 c.split_line.ensures.front c.split_line.ensures.rest in
-    let words = c.in_ok-preamble.ensures.found in (
+    let words = c.in-Ok-behind_line.ensures.found in (
       so_far.0 ++ line ∷ [],
       so_far.1 ++ words.0,
       words.2 so_far.0 so_far.1 so_far.2,
-      line_passed _ line _ _ _ so_far.0 whole c.in-Some.ensures.cases.0 (first_line_ends c.lines.rest.now _ c.split_line.ensures.rest),
+      line_passed _ line _ _ _ so_far.0 whole.0 c.in-Some.ensures.cases.0 (first_line_ends c.lines.rest.now _ c.split_line.ensures.rest),
     )

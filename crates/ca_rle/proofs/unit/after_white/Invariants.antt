@@ -1,13 +1,13 @@
 use Rattle.std.proofs.Common.{◌≡◌, not, length, IsTrue}
 use Rattle.ca_plane.specs.Bytes.{is_blank, is_end_or}
 use Rattle.ca_rle.specs.Items.{InLine}
-use Rattle.ca_rle.specs.Faults.{behind_white}
-use Rattle.ca_rle.proofs.unit.behind_white.Given as goal
+use Rattle.ca_rle.specs.Faults.{after_white}
+use Rattle.ca_rle.proofs.unit.after_white.Given as goal
 
 -- white space was skipped, and then blanks
 abbrev pub invariant-lines : goal.invariant-lines
 invariant-lines l = record {
-  white : behind_white InLine l.bytes ≡ behind_white InLine l.rest;
+  white : after_white InLine l.bytes ≡ after_white InLine l.rest;
   no_blank : IsTrue (is_end_or (λ b. not (is_blank b)) l.rest);
 }
 
