@@ -2,7 +2,7 @@
 use Rattle.std.proofs.Common.{◌≡◌, ℕ, ◌+◌, ◌/◌, ◌%◌, ◌<◌, ◌≤◌, ◌^◌, true, List, [], ◌∷◌, ◌++◌, decimal, refl, arith}
 use Rattle.std.proofs.lemmas.Bool.Decides.{nat_tests}
 use Rattle.std.proofs.lemmas.Fmt.{decimal_by_steps}
-use Rattle.ca_plane.specs.Bytes.{is_digit, AreDigits, value}
+use Rattle.ca_plane.specs.Bytes.{is_digit, AreDigits}
 use Rattle.ca_plane.proofs.Numbers.{value-append}
 use Rattle.ca_plane.proofs.Fronts.{every_append}
 use Rattle.ca_macro.specs.File.{IsNumber}

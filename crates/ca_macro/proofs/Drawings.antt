@@ -21,16 +21,16 @@ use Rattle.ca_quad.proofs.Edges.{off_x, off_y}
 use Rattle.ca_macro.specs.Shown.{row_from, rows_from, state_of, joined}
 use Rattle.ca_macro.specs.inner.Leaves.{row_bits, leaf_bits}
 
--- ---- one picture behind another
+-- ---- one picture after another
 
 -- a place that the earlier picture shows as 0 is as in the later
-cell-behind : (p q : Picture) (x y : ℤ) → IsPicture p → cell p x y ≡ 0 → cell (p ++ q) x y ≡ cell q x y
-cell-behind [] q x y states h = refl
-cell-behind (e ∷ es) q x y states h =
+cell-after : (p q : Picture) (x y : ℤ) → IsPicture p → cell p x y ≡ 0 → cell (p ++ q) x y ≡ cell q x y
+cell-after [] q x y states h = refl
+cell-after (e ∷ es) q x y states h =
     let low = (All-head (λ e. (1 ≤ e.1) × (e.1 ≤ 255)) e es states).0 in
     elim (cases_Bool (int_eq y e.0.y && int_eq x e.0.x)) [
       | inl t ↦ absurd (omega (arith, low, (rw t at h)))
-      | inr t ↦ rw t (cell-behind es q x y (All-tail (λ e. (1 ≤ e.1) × (e.1 ≤ 255)) e es states) (rw t at h))
+      | inr t ↦ rw t (cell-after es q x y (All-tail (λ e. (1 ≤ e.1) × (e.1 ≤ 255)) e es states) (rw t at h))
     ]
 
 -- and one that the later shows as 0 as in the earlier
@@ -40,7 +40,7 @@ cell-before (e ∷ es) q x y h = ap (λ s. if int_eq y e.0.y && int_eq x e.0.x t
 
 -- where one of them shows 0, they show the sum
 cell-plus : (p q : Picture) (x y : ℤ) → IsPicture p → (cell p x y ≡ 0) ⊎ (cell q x y ≡ 0) → cell (p ++ q) x y ≡ cell p x y + cell q x y
-cell-plus p q x y states (inl h) = let e = cell-behind p q x y states h in omega arith
+cell-plus p q x y states (inl h) = let e = cell-after p q x y states h in omega arith
 cell-plus p q x y states (inr h) = let e = cell-before p q x y h in omega arith
 
 -- a point that lies elsewhere may be left out
@@ -115,13 +115,13 @@ rows_above : (rows : List (List ℕ)) (v x y : ℤ) → AllByRecursion AreStates
 rows_above [] v x y h e = refl
 rows_above (r ∷ rs) v x y h e =
     let first = row_other r (pos 0) v x y (λ f. omega (arith, ints)) in
-    cell-behind (row_from (pos 0) v r) (rows_from (v +ℤ pos 1) rs) x y (row_states r (pos 0) v h.0) first
+    cell-after (row_from (pos 0) v r) (rows_from (v +ℤ pos 1) rs) x y (row_states r (pos 0) v h.0) first
     ∙ rows_above rs (v +ℤ pos 1) x y h.1 (omega (arith, ints))
 
 rows_left : (rows : List (List ℕ)) (v x y : ℤ) → AllByRecursion AreStates rows → x <ℤ pos 0 → cell (rows_from v rows) x y ≡ 0
 rows_left [] v x y h e = refl
 rows_left (r ∷ rs) v x y h e =
-    cell-behind (row_from (pos 0) v r) (rows_from (v +ℤ pos 1) rs) x y (row_states r (pos 0) v h.0) (row_left r (pos 0) v x y e)
+    cell-after (row_from (pos 0) v r) (rows_from (v +ℤ pos 1) rs) x y (row_states r (pos 0) v h.0) (row_left r (pos 0) v x y e)
     ∙ rows_left rs (v +ℤ pos 1) x y h.1 e
 
 rows_here : (rows : List (List ℕ)) (v y : ℤ) (i j : ℕ) → AllByRecursion AreStates rows → y ≡ v +ℤ pos j → cell (rows_from v rows) (pos i) y ≡ get_or (get_or rows j []) i 0
@@ -131,7 +131,7 @@ rows_here (r ∷ rs) v y i zero h e =
     cell-before (row_from (pos 0) v r) (rows_from (v +ℤ pos 1) rs) (pos i) y (rows_above rs (v +ℤ pos 1) (pos i) y h.1 (omega (arith, ints)))
     ∙ rw here (row_here r (pos 0) v (pos i) i (omega (arith, ints)))
 rows_here (r ∷ rs) v y i (suc j) h e =
-    cell-behind (row_from (pos 0) v r) (rows_from (v +ℤ pos 1) rs) (pos i) y (row_states r (pos 0) v h.0) (row_other r (pos 0) v (pos i) y (λ f. omega (arith, ints)))
+    cell-after (row_from (pos 0) v r) (rows_from (v +ℤ pos 1) rs) (pos i) y (row_states r (pos 0) v h.0) (row_other r (pos 0) v (pos i) y (λ f. omega (arith, ints)))
     ∙ rows_here rs (v +ℤ pos 1) y i j h.1 (omega (arith, ints))
 
 -- the state that rows have at a place

@@ -1,5 +1,5 @@
 -- Every text is a file or has a first fault: each line says something, or is faulty.
-use Rattle.std.proofs.Common.{◌≡◌, ◌≢◌, ℕ, zero, suc, ◌-◌, ◌<◌, ◌≤◌, ◌⊎◌, inl, inr, Bool, true, false, not, ◌||◌, ◌==◌, nat_le, nat_eq, List, [], ◌∷◌, ◌++◌, length, Option, Some, None, refl, sym, ap, subst, ◌∙◌, arith, codes}
+use Rattle.std.proofs.Common.{◌≡◌, ℕ, zero, suc, ◌-◌, ◌<◌, ◌≤◌, ◌⊎◌, inl, inr, Bool, true, false, not, ◌||◌, ◌==◌, nat_le, nat_eq, List, [], ◌∷◌, ◌++◌, length, Option, Some, None, refl, sym, ap, subst, ◌∙◌, arith, codes}
 use Rattle.std.specs.List.{AllByRecursion, list_all, starts_with, flat_map}
 use Rattle.std.specs.Str.{bytes_eq}
 use Rattle.std.proofs.lemmas.Bool.{cases_Bool, and_from, true≢false}
@@ -64,9 +64,9 @@ generation_more : (earlier : List Node) (w d e : List ℕ) (ws : List (List ℕ)
 generation_more earlier w d e ws same =
     inr (Syntax, inl (d ∷ e ∷ ws, ap (λ x. x ∷ d ∷ e ∷ ws) same, λ z. absurd cc, λ digits one are. absurd cc))
 
-behind_hash : (earlier : List Node) (w : List ℕ) (ws : List (List ℕ)) → starts_with nat_eq w (codes "#") ≡ true → starts_with nat_eq w (codes "#FRAME") ≡ false → Judged earlier (w ∷ ws)
-behind_hash earlier w [] hash frame = comment_alone earlier w hash frame
-behind_hash earlier w (v ∷ ws) hash frame =
+after_hash : (earlier : List Node) (w : List ℕ) (ws : List (List ℕ)) → starts_with nat_eq w (codes "#") ≡ true → starts_with nat_eq w (codes "#FRAME") ≡ false → Judged earlier (w ∷ ws)
+after_hash earlier w [] hash frame = comment_alone earlier w hash frame
+after_hash earlier w (v ∷ ws) hash frame =
     elim (cases_Bool (bytes_eq w (codes "#R"))) [
       | inl r ↦ inl (Rule v, (ws, ap (λ x. x ∷ v ∷ ws) (bytes_are w (codes "#R") r)), tt)
       | inr r ↦ elim (cases_Bool (bytes_eq w (codes "#G"))) [
@@ -141,8 +141,8 @@ Named earlier level ns =
     AllByRecursion (Names earlier level) ns
     ⊎ (HasBadPart earlier level ns (λ n. length earlier < n) ⊎ HasBadPart earlier level ns (λ n. (n ≤ length earlier) × (Names earlier level n → ⊥)))
 
-one_behind : (earlier : List Node) (level n : ℕ) (ns : List ℕ) (P : ℕ → Type 0) → Names earlier level n → HasBadPart earlier level ns P → HasBadPart earlier level (n ∷ ns) P
-one_behind earlier level n ns P h bad = record {
+one_after : (earlier : List Node) (level n : ℕ) (ns : List ℕ) (P : ℕ → Type 0) → Names earlier level n → HasBadPart earlier level ns P → HasBadPart earlier level (n ∷ ns) P
+one_after earlier level n ns P h bad = record {
   good = n ∷ bad.good;
   number = bad.number;
   more = bad.more;
@@ -166,8 +166,8 @@ named_or_bad earlier level (n ∷ ns) =
             elim (named_or_bad earlier level ns) [
               | inl all ↦ inl (h, all)
               | inr bad ↦ inr (elim bad [
-                | inl b ↦ inl (one_behind earlier level n ns (λ m. length earlier < m) h b)
-                | inr b ↦ inr (one_behind earlier level n ns (λ m. (m ≤ length earlier) × (Names earlier level m → ⊥)) h b)
+                | inl b ↦ inl (one_after earlier level n ns (λ m. length earlier < m) h b)
+                | inr b ↦ inr (one_after earlier level n ns (λ m. (m ≤ length earlier) × (Names earlier level m → ⊥)) h b)
               ])
             ]
       ]
@@ -216,7 +216,7 @@ line_judged earlier (w ∷ ws) =
     elim (cases_Bool (starts_with nat_eq w (codes "#"))) [
       | inl hash ↦ elim (cases_Bool (starts_with nat_eq w (codes "#FRAME"))) [
         | inl frame ↦ inr (Timeline, (w, ws, refl, frame))
-        | inr frame ↦ behind_hash earlier w ws hash frame
+        | inr frame ↦ after_hash earlier w ws hash frame
       ]
       | inr hash ↦ elim (cases_Bool (is_end_or is_leaf_byte w)) [
         | inl leaf ↦ leaf_judged earlier w ws (leaf_fault 8 8 w) leaf refl
@@ -226,7 +226,7 @@ line_judged earlier (w ∷ ws) =
 
 -- ---- lines
 
--- behind lines that are good stands a faulty one
+-- a faulty line follows good ones
 record HasFaulty (earlier : List Node) (lines : List (List ℕ)) : Type 0 where
   good : List (List ℕ)
   line : List ℕ

@@ -1,6 +1,6 @@
--- One node more behind those that were gathered.
-use Rattle.std.proofs.Common.{◌≡◌, ◌≢◌, ℕ, zero, suc, ◌+◌, ◌-◌, ◌<◌, ◌≤◌, ◌^◌, ◌==◌, ◌⊎◌, inl, inr, Bool, true, false, not, ◌&&◌, ℤ, pos, negsuc, List, [], ◌∷◌, ◌++◌, map, length, Option, Some, None, cond, option_map, slice_index, refl, sym, ap, ap₂, subst, ◌∙◌, arith, append_assoc, append-nil, length-append, true≢false}
-use Rattle.std.specs.List.{AllByRecursion, AllPairs, slice_index_or, slice_get, list_all}
+-- One node more after those that were gathered.
+use Rattle.std.proofs.Common.{◌≡◌, ◌≢◌, ℕ, zero, suc, ◌-◌, ◌<◌, ◌≤◌, ◌==◌, inl, inr, Bool, true, false, not, ℤ, pos, negsuc, List, [], ◌∷◌, ◌++◌, map, length, Some, None, cond, option_map, refl, sym, ap, subst, ◌∙◌, arith, append_assoc, append-nil, length-append}
+use Rattle.std.specs.List.{AllPairs, slice_index_or, slice_get, list_all}
 use Rattle.std.proofs.Math.ListN.{get_or-append}
 use Rattle.std.proofs.Math.Seq.{get_or-append_seam}
 use Rattle.std.proofs.lemmas.Bool.{cases_Bool, and_parts, eqb-true}
@@ -13,21 +13,21 @@ use Rattle.ca_quad.specs.Sound.{IsSound}
 use Rattle.ca_quad.specs.Trees.{from_corner, IsIn, IsEmpty}
 use Rattle.ca_quad.proofs.Cells.{same_cells}
 use Rattle.ca_quad.proofs.Growth.{below_or_not}
-use Rattle.ca_macro.specs.Nodes.{Node, Leaf, Cells, Parts, level_of, Names, StandsBehind}
-use Rattle.ca_macro.specs.Shown.{numbered, row_from, rows_from, state_of, joined, square_of, squares_of}
+use Rattle.ca_macro.specs.Nodes.{Node, Leaf, Cells, Parts, level_of, Names, MayFollow}
+use Rattle.ca_macro.specs.Shown.{numbered, row_from, rows_from, state_of, square_of, squares_of}
 use Rattle.ca_macro.specs.Tidy.{AreInPlace, HasForm, is_empty}
 use Rattle.ca_macro.specs.inner.Written.{number_of, cells_of, IsPictureOf, IsNumberOf, IsNodeOf, IsGathered}
-use Rattle.ca_macro.proofs.Behind.{squares_length, square_stays, square_last, all_append}
+use Rattle.ca_macro.proofs.Following.{square_stays, square_last, all_append}
 
 -- ---- places in lists of nodes
 
-in_place_more : (earlier ns : List Node) (node : Node) → AreInPlace earlier ns → StandsBehind (earlier ++ ns) node → AreInPlace earlier (ns ++ node ∷ [])
-in_place_more earlier [] node h s = (subst (λ l. StandsBehind l node) (append-nil earlier) s, tt)
-in_place_more earlier (n ∷ ns) node h s = (h.0, in_place_more (earlier ++ n ∷ []) ns node h.1 (subst (λ l. StandsBehind l node) (sym (append_assoc earlier (n ∷ []) ns)) s))
+in_place_more : (earlier ns : List Node) (node : Node) → AreInPlace earlier ns → MayFollow (earlier ++ ns) node → AreInPlace earlier (ns ++ node ∷ [])
+in_place_more earlier [] node h s = (subst (λ l. MayFollow l node) (append-nil earlier) s, tt)
+in_place_more earlier (n ∷ ns) node h s = (h.0, in_place_more (earlier ++ n ∷ []) ns node h.1 (subst (λ l. MayFollow l node) (sym (append_assoc earlier (n ∷ []) ns)) s))
 
-in_place_at : (earlier front : List Node) (n : Node) (rest : List Node) → AreInPlace earlier (front ++ n ∷ rest) → StandsBehind (earlier ++ front) n
-in_place_at earlier [] n rest h = subst (λ l. StandsBehind l n) (sym (append-nil earlier)) h.0
-in_place_at earlier (m ∷ front) n rest h = subst (λ l. StandsBehind l n) (append_assoc earlier (m ∷ []) front) (in_place_at (earlier ++ m ∷ []) front n rest h.1)
+in_place_at : (earlier front : List Node) (n : Node) (rest : List Node) → AreInPlace earlier (front ++ n ∷ rest) → MayFollow (earlier ++ front) n
+in_place_at earlier [] n rest h = subst (λ l. MayFollow l n) (sym (append-nil earlier)) h.0
+in_place_at earlier (m ∷ front) n rest h = subst (λ l. MayFollow l n) (append_assoc earlier (m ∷ []) front) (in_place_at (earlier ++ m ∷ []) front n rest h.1)
 
 split_at : (ns : List Node) (i : ℕ) (d : Node) → i < length ns → (front : List Node) × (rest : List Node) × (ns ≡ front ++ slice_index_or ns i d ∷ rest) × (length front ≡ i)
 split_at [] i d h = absurd (omega arith)
@@ -62,7 +62,7 @@ names_level (n ∷ ns) level (suc i) d h = names_level ns level i d h
 
 -- ---- pictures of nodes
 
-square_of_stays : (ns ms : List Node) (node : Node) → StandsBehind ns node → square_of (squares_of (ns ++ ms)) node ≡ square_of (squares_of ns) node
+square_of_stays : (ns ms : List Node) (node : Node) → MayFollow ns node → square_of (squares_of (ns ++ ms)) node ≡ square_of (squares_of ns) node
 square_of_stays ns ms (Leaf rows) h = refl
 square_of_stays ns ms (Cells nw ne sw se) h = refl
 square_of_stays ns ms (Parts level nw ne sw se) h =
@@ -78,7 +78,7 @@ square_at : (ns : List Node) (i : ℕ) (d : Node) → AreInPlace [] ns → i < l
 square_at ns i d h low =
     let s = split_at ns i d low in
     let node = slice_index_or ns i d in
-    let stands : StandsBehind s.0 node = in_place_at [] s.0 node s.1 (subst (AreInPlace []) s.2 h) in
+    let stands : MayFollow s.0 node = in_place_at [] s.0 node s.1 (subst (AreInPlace []) s.2 h) in
     let again : (s.0 ++ node ∷ []) ++ s.1 ≡ ns = append_assoc s.0 (node ∷ []) s.1 ∙ sym s.2 in
     let count = length-append s.0 (node ∷ []) in
     let first : numbered (squares_of ns) (suc (length s.0)) ≡ square_of (squares_of s.0) node =
@@ -154,7 +154,7 @@ last_number kept states ns id node h = record {
   shows = subst (λ p. IsPictureOf p (cells_of kept id)) (sym (square_last ns node)) h.shows;
 }
 
--- ---- a node is put behind the others
+-- ---- a node is put after the others
 
 module _ (kept : List Kept) (sound : IsSound kept) (states : ℕ) (ns : List Node) (old new : List (ℕ × ℕ)) (id : ℕ) (node : Node) (known : IsIn kept id)
     (gathered : IsGathered kept states ns old) (is : IsNodeOf kept states ns id node) (live : IsEmpty (cells_of kept id) → ⊥) (none : number_of old id ≡ None)

@@ -1,4 +1,4 @@
--- The squares that are kept for nodes: they stay, one more is put behind them, and each is found by its number.
+-- The squares that are kept for nodes: they stay, one more is put after them, and each is found by its number.
 use Rattle.std.proofs.Common.{◌≡◌, ℕ, zero, suc, ◌-◌, ◌<◌, ◌≤◌, ◌^◌, ℤ, pos, neg_ℤ, ◌+ℤ◌, ◌-ℤ◌, List, [], ◌∷◌, ◌++◌, map, length, get_or, slice_index, Bool, Option, Some, None, unwrap_or, refl, sym, ap, subst, ◌∙◌, arith}
 use Rattle.std.specs.List.{slice_get, AllByRecursion, last_or}
 use Rattle.std.proofs.lemmas.Int.{ints}
@@ -14,8 +14,8 @@ use Rattle.ca_quad.specs.Trees.{Shows, AreFour, IsTree, row_cells, from_corner, 
 use Rattle.ca_quad.proofs.Cells.{cell_ends, cells_stay, of_stays}
 use Rattle.ca_quad.proofs.Shown.{shows_stays}
 use Rattle.ca_macro.specs.declared.read.squares.Squares.{Squares}
-use Rattle.ca_macro.specs.Nodes.{Node, Leaf, Cells, Parts, level_of, Names, IsLevel, StandsBehind}
-use Rattle.ca_macro.specs.Shown.{state_of, rows_from, joined, numbered, square_of, squares_behind, squares_of, centred, rooted, picture_of}
+use Rattle.ca_macro.specs.Nodes.{Node, Leaf, Cells, Parts, level_of, Names, IsLevel, MayFollow}
+use Rattle.ca_macro.specs.Shown.{state_of, rows_from, joined, numbered, square_of, squares_after, squares_of, centred, rooted, picture_of}
 use Rattle.ca_macro.specs.inner.Leaves.{leaf_bits}
 use Rattle.ca_macro.specs.inner.Numbers.{kept_of}
 use Rattle.ca_macro.specs.inner.Reading.{Draws, AreDrawn, AreEmpties, AreSquares, IsPart}
@@ -52,7 +52,7 @@ squares_stay old new grows nodes squares h = record {
 -- ---- one more
 
 squares_push : (earlier : List Picture) (ns : List Node) (n : Node)
-    → squares_behind earlier (ns ++ n ∷ []) ≡ squares_behind earlier ns ++ square_of (squares_behind earlier ns) n ∷ []
+    → squares_after earlier (ns ++ n ∷ []) ≡ squares_after earlier ns ++ square_of (squares_after earlier ns) n ∷ []
 squares_push earlier [] n = refl
 squares_push earlier (m ∷ ns) n = squares_push (earlier ++ square_of earlier m ∷ []) ns n
 
@@ -71,7 +71,7 @@ one_more store nodes ts n t h e d =
     subst (λ ps. AreDrawn store (nodes ++ n ∷ []) ps (ts ++ t ∷ [])) (sym (squares_push [] nodes n))
     (drawn_push store nodes (squares_of nodes) ts n (square_of (squares_of nodes) n) t h e d)
 
--- what is kept once a square is put behind the others
+-- what is kept once a square is put after the others
 pub with_square : (old new : List Kept) → Grows old new → (nodes : List Node) (squares after : Squares) (n : Node) (t : Tree) → AreSquares old nodes squares
     → after.squares.items ≡ squares.squares.items ++ t ∷ [] → AreEmpties new after.empties.ids.items
     → t.level ≡ level_of n → Draws new t (square_of (squares_of nodes) n) → AreSquares new (nodes ++ n ∷ []) after
@@ -317,7 +317,7 @@ module _ (old new : List Kept) (sound : IsSound old) (grows : Grows old new) (no
         joined_drawn new low a b c d (numbered (squares_of nodes) nw) (numbered (squares_of nodes) ne) (numbered (squares_of nodes) sw) (numbered (squares_of nodes) se)
         (part_at nw a p ea hp) (part_at ne b q eb hq) (part_at sw c r ec hr) (part_at se d s ed hs) after id h
 
-    pub parts_stand : (level : ℕ) → IsLevel level → level - 1 ≡ low → StandsBehind nodes (Parts level nw ne sw se)
+    pub parts_stand : (level : ℕ) → IsLevel level → level - 1 ≡ low → MayFollow nodes (Parts level nw ne sw se)
     parts_stand level is e =
         let at : (n : ℕ) → Names nodes low n → Names nodes (level - 1) n = λ n h. subst (λ l. Names nodes l n) (sym e) h in
         (is, (at nw (part_named old nodes low nw p hp), (at ne (part_named old nodes low ne q hq), (at sw (part_named old nodes low sw r hr), (at se (part_named old nodes low se s hs), tt)))))

@@ -49,12 +49,12 @@ one_less m n = grind (arith, nat_tests)
 one_is_more : (m : ℕ) → nat_le (suc m) 0 ≡ false
 one_is_more m = grind (arith, nat_tests)
 
-room_behind_row : (h w : ℕ) (rs : List (List ℕ)) → has_room (suc h) w ([] ∷ rs) ≡ has_room h 8 rs
-room_behind_row h w rs = rw (no_width w) refl
+room_after_row : (h w : ℕ) (rs : List (List ℕ)) → has_room (suc h) w ([] ∷ rs) ≡ has_room h 8 rs
+room_after_row h w rs = rw (no_width w) refl
 
-room_behind_cell : (h w b : ℕ) (rs : List (List ℕ)) → is_mark b ≡ true → has_room (suc h) (suc w) (with_front b rs) ≡ has_room (suc h) w rs
-room_behind_cell h w b [] m = rw m (rw (one_less 0 w) (rw (no_width w) refl))
-room_behind_cell h w b (r ∷ rs) m = rw m (rw (one_less (length r) w) refl)
+room_after_cell : (h w b : ℕ) (rs : List (List ℕ)) → is_mark b ≡ true → has_room (suc h) (suc w) (with_front b rs) ≡ has_room (suc h) w rs
+room_after_cell h w b [] m = rw m (rw (one_less 0 w) (rw (no_width w) refl))
+room_after_cell h w b (r ∷ rs) m = rw m (rw (one_less (length r) w) refl)
 
 no_room_without_rows : (w b : ℕ) (rs : List (List ℕ)) → has_room zero w (with_front b rs) ≡ false
 no_room_without_rows w b [] = refl
@@ -81,14 +81,14 @@ HaveRoom bs = (h w : ℕ) → leaf_fault h w bs ≡ None → has_room h w (rows_
 cell_none : (b : ℕ) (bs : List ℕ) (h w : ℕ) → HaveRoom bs → (b == 36) ≡ false → is_mark b ≡ true → leaf_fault (suc h) w (b ∷ bs) ≡ None → has_room (suc h) w (rows_of (b ∷ bs)) ≡ true
 cell_none b bs h zero later f m e = absurd (let z = sym (at_full h b bs f m) ∙ e in cc)
 cell_none b bs h (suc w) later f m e =
-    ap (has_room (suc h) (suc w)) (row_grows b bs f) ∙ room_behind_cell h w b (rows_of bs) m ∙ later (suc h) w (sym (at_cell h w b bs f m) ∙ e)
+    ap (has_room (suc h) (suc w)) (row_grows b bs f) ∙ room_after_cell h w b (rows_of bs) m ∙ later (suc h) w (sym (at_cell h w b bs f m) ∙ e)
 
 pub fault_none : (bytes : List ℕ) (h w : ℕ) → leaf_fault h w bytes ≡ None → has_room h w (rows_of bytes) ≡ true
 fault_none [] h w e = refl
 fault_none (b ∷ bs) zero w e = absurd (no_fault_at_end (is_leaf_byte b) LeafSize Syntax e)
 fault_none (b ∷ bs) (suc h) w e =
     elim (cases_Bool (b == 36)) [
-      | inl t ↦ ap (has_room (suc h) w) (row_ends b bs t) ∙ room_behind_row h w (rows_of bs) ∙ fault_none bs h 8 (sym (at_row h w b bs t) ∙ e)
+      | inl t ↦ ap (has_room (suc h) w) (row_ends b bs t) ∙ room_after_row h w (rows_of bs) ∙ fault_none bs h 8 (sym (at_row h w b bs t) ∙ e)
       | inr f ↦ elim (cases_Bool (is_mark b)) [
         | inl m ↦ cell_none b bs h w (fault_none bs) f m e
         | inr o ↦ absurd (let z = sym (at_other h w b bs f o) ∙ e in cc)
@@ -101,7 +101,7 @@ fault_none (b ∷ bs) (suc h) w e =
 abbrev Tells : MacroFault → ℕ → Type 0
 Tells f b = ((f ≡ LeafSize) × (is_leaf_byte b ≡ true)) ⊎ ((f ≡ Syntax) × (is_leaf_byte b ≡ false))
 
--- behind bytes for which there is room stands one for which there isn't
+-- bytes for which there is room are followed by one for which there isn't
 record BadAt (bytes : List ℕ) (h w : ℕ) (f : MacroFault) : Type 0 where
   good : List ℕ
   byte : ℕ
@@ -114,8 +114,8 @@ record BadAt (bytes : List ℕ) (h w : ℕ) (f : MacroFault) : Type 0 where
 here : (b : ℕ) (bs : List ℕ) (h w : ℕ) (f : MacroFault) → has_room h w (rows_of (b ∷ [])) ≡ false → Tells f b → BadAt (b ∷ bs) h w f
 here b bs h w f full tells = record { good = []; byte = b; more = bs; spelled = refl; room = refl; full = full; tells = tells }
 
-behind : (b : ℕ) (bs : List ℕ) (h w i v : ℕ) (f : MacroFault) → ((xs : List ℕ) → has_room h w (rows_of (b ∷ xs)) ≡ has_room i v (rows_of xs)) → BadAt bs i v f → BadAt (b ∷ bs) h w f
-behind b bs h w i v f same bad = record {
+after : (b : ℕ) (bs : List ℕ) (h w i v : ℕ) (f : MacroFault) → ((xs : List ℕ) → has_room h w (rows_of (b ∷ xs)) ≡ has_room i v (rows_of xs)) → BadAt bs i v f → BadAt (b ∷ bs) h w f
+after b bs h w i v f same bad = record {
   good = b ∷ bad.good;
   byte = bad.byte;
   more = bad.more;
@@ -151,7 +151,7 @@ cell_some b bs h zero f later n m e =
     here b bs (suc h) zero f (ap (has_room (suc h) zero) (row_grows b [] n) ∙ no_room_in_row h b [])
     (inl (sym (same_Some LeafSize f (sym (at_full h b bs n m) ∙ e)), mark_is_leaf_byte b m))
 cell_some b bs h (suc w) f later n m e =
-    behind b bs (suc h) (suc w) (suc h) w f (λ xs. ap (has_room (suc h) (suc w)) (row_grows b xs n) ∙ room_behind_cell h w b (rows_of xs) m)
+    after b bs (suc h) (suc w) (suc h) w f (λ xs. ap (has_room (suc h) (suc w)) (row_grows b xs n) ∙ room_after_cell h w b (rows_of xs) m)
     (later (suc h) w f (sym (at_cell h w b bs n m) ∙ e))
 
 fault_some : (bytes : List ℕ) (h w : ℕ) (f : MacroFault) → leaf_fault h w bytes ≡ Some f → BadAt bytes h w f
@@ -159,7 +159,7 @@ fault_some [] h w f e = absurd cc
 fault_some (b ∷ bs) zero w f e = here b bs zero w f (full_without_rows w b) (end_tells b f (is_leaf_byte b) refl e)
 fault_some (b ∷ bs) (suc h) w f e =
     elim (cases_Bool (b == 36)) [
-      | inl t ↦ behind b bs (suc h) w h 8 f (λ xs. ap (has_room (suc h) w) (row_ends b xs t) ∙ room_behind_row h w (rows_of xs)) (fault_some bs h 8 f (sym (at_row h w b bs t) ∙ e))
+      | inl t ↦ after b bs (suc h) w h 8 f (λ xs. ap (has_room (suc h) w) (row_ends b xs t) ∙ room_after_row h w (rows_of xs)) (fault_some bs h 8 f (sym (at_row h w b bs t) ∙ e))
       | inr n ↦ elim (cases_Bool (is_mark b)) [
         | inl m ↦ cell_some b bs h w f (fault_some bs) n m e
         | inr o ↦
@@ -176,7 +176,7 @@ first_room : (b : ℕ) → is_leaf_byte b ≡ true → has_room 8 8 (rows_of (b 
 first_room b t =
     elim (cases_Bool (b == 36)) [
       | inl r ↦ ap (has_room 8 8) (row_ends b [] r)
-      | inr n ↦ ap (has_room 8 8) (row_grows b [] n) ∙ room_behind_cell 7 7 b [] (mark_or_row b t n)
+      | inr n ↦ ap (has_room 8 8) (row_grows b [] n) ∙ room_after_cell 7 7 b [] (mark_or_row b t n)
     ]
 
 -- good bytes stand before the bad one
@@ -260,7 +260,7 @@ no_room_none h w b rs e = true≢false (sym e ∙ no_room_without_rows w b rs)
 cell_room : (b : ℕ) (bs : List ℕ) (h w : ℕ) → HaveNone bs → (b == 36) ≡ false → is_mark b ≡ true → has_room (suc h) w (rows_of (b ∷ bs)) ≡ true → leaf_fault (suc h) w (b ∷ bs) ≡ None
 cell_room b bs h zero later n m e = absurd (true≢false (sym e ∙ (ap (has_room (suc h) zero) (row_grows b bs n) ∙ no_room_in_row h b (rows_of bs))))
 cell_room b bs h (suc w) later n m e =
-    at_cell h w b bs n m ∙ later (suc h) w (sym (ap (has_room (suc h) (suc w)) (row_grows b bs n) ∙ room_behind_cell h w b (rows_of bs) m) ∙ e)
+    at_cell h w b bs n m ∙ later (suc h) w (sym (ap (has_room (suc h) (suc w)) (row_grows b bs n) ∙ room_after_cell h w b (rows_of bs) m) ∙ e)
 
 room_none : (bytes : List ℕ) → HaveNone bytes
 room_none [] h w e = refl
@@ -271,7 +271,7 @@ room_none (b ∷ bs) zero w e =
     ]
 room_none (b ∷ bs) (suc h) w e =
     elim (cases_Bool (b == 36)) [
-      | inl t ↦ at_row h w b bs t ∙ room_none bs h 8 (sym (ap (has_room (suc h) w) (row_ends b bs t) ∙ room_behind_row h w (rows_of bs)) ∙ e)
+      | inl t ↦ at_row h w b bs t ∙ room_none bs h 8 (sym (ap (has_room (suc h) w) (row_ends b bs t) ∙ room_after_row h w (rows_of bs)) ∙ e)
       | inr n ↦ elim (cases_Bool (is_mark b)) [
         | inl m ↦ cell_room b bs h w (room_none bs) n m e
         | inr o ↦ absurd (true≢false (sym e ∙ (ap (has_room (suc h) w) (row_grows b bs n) ∙ no_room_for_other h w b (rows_of bs) o)))
@@ -292,40 +292,40 @@ HaveBad good = (h w byte : ℕ) (more : List ℕ) → has_room h w (rows_of good
 
 bad_cell : (h w b : ℕ) (more : List ℕ) → (b == 36) ≡ false → is_mark b ≡ true → has_room (suc h) w (rows_of (b ∷ [])) ≡ false → leaf_fault (suc h) w (b ∷ more) ≡ byte_fault b
 bad_cell h zero b more n m full = at_full h b more n m ∙ rw (mark_is_leaf_byte b m) refl
-bad_cell h (suc w) b more n m full = absurd (true≢false (sym (ap (has_room (suc h) (suc w)) (row_grows b [] n) ∙ room_behind_cell h w b [] m) ∙ full))
+bad_cell h (suc w) b more n m full = absurd (true≢false (sym (ap (has_room (suc h) (suc w)) (row_grows b [] n) ∙ room_after_cell h w b [] m) ∙ full))
 
 bad_first : (h w byte : ℕ) (more : List ℕ) → has_room h w (rows_of (byte ∷ [])) ≡ false → leaf_fault h w (byte ∷ more) ≡ byte_fault byte
 bad_first zero w byte more full = refl
 bad_first (suc h) w byte more full =
     elim (cases_Bool (byte == 36)) [
-      | inl t ↦ absurd (true≢false (sym (ap (has_room (suc h) w) (row_ends byte [] t) ∙ room_behind_row h w []) ∙ full))
+      | inl t ↦ absurd (true≢false (sym (ap (has_room (suc h) w) (row_ends byte [] t) ∙ room_after_row h w []) ∙ full))
       | inr n ↦ elim (cases_Bool (is_mark byte)) [
         | inl m ↦ bad_cell h w byte more n m full
         | inr o ↦ at_other h w byte more n o ∙ rw (other_is_none byte n o) refl
       ]
     ]
 
-bad_behind_cell : (g : ℕ) (gs : List ℕ) (h w byte : ℕ) (more : List ℕ) → HaveBad gs → (g == 36) ≡ false → is_mark g ≡ true
+bad_after_cell : (g : ℕ) (gs : List ℕ) (h w byte : ℕ) (more : List ℕ) → HaveBad gs → (g == 36) ≡ false → is_mark g ≡ true
     → has_room (suc h) w (rows_of (g ∷ gs)) ≡ true → has_room (suc h) w (rows_of (g ∷ (gs ++ byte ∷ []))) ≡ false → leaf_fault (suc h) w (g ∷ (gs ++ byte ∷ more)) ≡ byte_fault byte
-bad_behind_cell g gs h zero byte more later n m room full = absurd (true≢false (sym room ∙ (ap (has_room (suc h) zero) (row_grows g gs n) ∙ no_room_in_row h g (rows_of gs))))
-bad_behind_cell g gs h (suc w) byte more later n m room full =
-    let same : (xs : List ℕ) → has_room (suc h) (suc w) (rows_of (g ∷ xs)) ≡ has_room (suc h) w (rows_of xs) = λ xs. ap (has_room (suc h) (suc w)) (row_grows g xs n) ∙ room_behind_cell h w g (rows_of xs) m in
+bad_after_cell g gs h zero byte more later n m room full = absurd (true≢false (sym room ∙ (ap (has_room (suc h) zero) (row_grows g gs n) ∙ no_room_in_row h g (rows_of gs))))
+bad_after_cell g gs h (suc w) byte more later n m room full =
+    let same : (xs : List ℕ) → has_room (suc h) (suc w) (rows_of (g ∷ xs)) ≡ has_room (suc h) w (rows_of xs) = λ xs. ap (has_room (suc h) (suc w)) (row_grows g xs n) ∙ room_after_cell h w g (rows_of xs) m in
     at_cell h w g (gs ++ byte ∷ more) n m ∙ later (suc h) w byte more (sym (same gs) ∙ room) (sym (same (gs ++ byte ∷ [])) ∙ full)
 
-bad_behind : (good : List ℕ) → HaveBad good
-bad_behind [] h w byte more room full = bad_first h w byte more full
-bad_behind (g ∷ gs) zero w byte more room full =
+bad_after : (good : List ℕ) → HaveBad good
+bad_after [] h w byte more room full = bad_first h w byte more full
+bad_after (g ∷ gs) zero w byte more room full =
     elim (cases_Bool (g == 36)) [
       | inl t ↦ absurd (true≢false (sym room ∙ ap (has_room zero w) (row_ends g gs t)))
       | inr n ↦ absurd (no_room_none zero w g (rows_of gs) (sym (ap (has_room zero w) (row_grows g gs n)) ∙ room))
     ]
-bad_behind (g ∷ gs) (suc h) w byte more room full =
+bad_after (g ∷ gs) (suc h) w byte more room full =
     elim (cases_Bool (g == 36)) [
       | inl t ↦
-          let same : (xs : List ℕ) → has_room (suc h) w (rows_of (g ∷ xs)) ≡ has_room h 8 (rows_of xs) = λ xs. ap (has_room (suc h) w) (row_ends g xs t) ∙ room_behind_row h w (rows_of xs) in
-          at_row h w g (gs ++ byte ∷ more) t ∙ bad_behind gs h 8 byte more (sym (same gs) ∙ room) (sym (same (gs ++ byte ∷ [])) ∙ full)
+          let same : (xs : List ℕ) → has_room (suc h) w (rows_of (g ∷ xs)) ≡ has_room h 8 (rows_of xs) = λ xs. ap (has_room (suc h) w) (row_ends g xs t) ∙ room_after_row h w (rows_of xs) in
+          at_row h w g (gs ++ byte ∷ more) t ∙ bad_after gs h 8 byte more (sym (same gs) ∙ room) (sym (same (gs ++ byte ∷ [])) ∙ full)
       | inr n ↦ elim (cases_Bool (is_mark g)) [
-        | inl m ↦ bad_behind_cell g gs h w byte more (bad_behind gs) n m room full
+        | inl m ↦ bad_after_cell g gs h w byte more (bad_after gs) n m room full
         | inr o ↦ absurd (true≢false (sym room ∙ (ap (has_room (suc h) w) (row_grows g gs n) ∙ no_room_for_other h w g (rows_of gs) o)))
       ]
     ]
@@ -334,7 +334,7 @@ bad_behind (g ∷ gs) (suc h) w byte more room full =
 pub bad_fault : (bytes : List ℕ) (test : ℕ → Bool) (bad : HasBadByte bytes test) → leaf_fault 8 8 bytes ≡ byte_fault bad.byte
 bad_fault bytes test bad =
     ap (leaf_fault 8 8) bad.spelled
-    ∙ bad_behind bad.good 8 8 bad.byte bad.more (leaf_passes bad.good bad.rows bad.leaf) (full (has_room 8 8 (rows_of (bad.good ++ bad.byte ∷ []))) refl)
+    ∙ bad_after bad.good 8 8 bad.byte bad.more (leaf_passes bad.good bad.rows bad.leaf) (full (has_room 8 8 (rows_of (bad.good ++ bad.byte ∷ []))) refl)
   where
     full : (t : Bool) → has_room 8 8 (rows_of (bad.good ++ bad.byte ∷ [])) ≡ t → has_room 8 8 (rows_of (bad.good ++ bad.byte ∷ [])) ≡ false
     full true e = absurd (bad.ends_leaf (cells_of (bad.good ++ bad.byte ∷ [])) (leaf_found (bad.good ++ bad.byte ∷ []) e))

@@ -11,7 +11,7 @@ pub mod Saying
 pub mod Verdicts
 pub mod OneMeaning
 pub mod FileOrFault
-pub mod Behind
+pub mod Following
 pub mod Orders
 pub mod Pictures
 pub mod Gathering

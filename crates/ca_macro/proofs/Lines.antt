@@ -5,7 +5,7 @@ use Rattle.std.proofs.lemmas.Bool.{cases_Bool, eqb-true}
 use Rattle.std.proofs.lemmas.Grind.{flat_map-append}
 use Rattle.std.proofs.lemmas.List.{take_more, take_all}
 use Rattle.ca_plane.specs.Puts.{Puts}
-use Rattle.ca_macro.specs.Nodes.{Node, mark_of}
+use Rattle.ca_macro.specs.Nodes.{mark_of}
 use Rattle.ca_macro.specs.declared.write.written.Written.{Written}
 use Rattle.ca_macro.specs.Tidy.{node_text}
 use Rattle.ca_macro.specs.inner.Written.{row_of, node_of}

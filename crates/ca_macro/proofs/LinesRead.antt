@@ -1,9 +1,7 @@
 -- A macrocell text read line by line, to its end or to its first fault.
-use Rattle.std.proofs.Common.{◌≡◌, ℕ, List, [], ◌∷◌, ◌++◌, true, Result, IfErr, inl, refl, sym, ap, subst, ◌∙◌}
+use Rattle.std.proofs.Common.{◌≡◌, ◌≢◌, ℕ, ◌+◌, ◌<◌, ◌≤◌, List, [], ◌∷◌, ◌++◌, length, true, refl, sym, ap, subst, ◌∙◌, arith}
 use Rattle.std.specs.List.{flat_map}
-use Rattle.std.specs.Result.{IsErrAnd}
-use Rattle.std.proofs.lemmas.Result.{err_from_is_err_and}
-use Rattle.std.proofs.lemmas.List.{append-nil, append_assoc}
+use Rattle.std.proofs.lemmas.List.{append-nil, append_assoc, length_push}
 use Rattle.ca_plane.specs.Bytes.{lines_of, words_of}
 use Rattle.ca_quad.specs.declared.node.Node.{Node as Kept}
 use Rattle.ca_quad.specs.Sound.{Grows}
@@ -13,8 +11,8 @@ use Rattle.ca_macro.specs.declared.fault.MacroFault.TheVariants.{NotMacro, Timel
 use Rattle.ca_macro.specs.declared.read.reading.Reading.{Reading}
 use Rattle.ca_macro.specs.Nodes.{Node}
 use Rattle.ca_macro.specs.File.{Said, WordsSay, added, IsAllowed, LinesSay, begins_macro, IsFile}
-use Rattle.ca_macro.specs.Faults.{HasLine, AreFaulty, AddNode, IsFaultOf}
-use Rattle.ca_macro.specs.inner.Reading.{HasFault, IsReading, file_of}
+use Rattle.ca_macro.specs.Faults.{HasLine, AreFaulty, AddNode, IsFaultyLine}
+use Rattle.ca_macro.specs.inner.Reading.{HasFault, IsReading, IsFaultOn, file_of}
 
 -- ---- one more line
 
@@ -26,21 +24,21 @@ added-append (s ∷ said) more = ap (λ l. added s ++ l) (added-append said more
 pub added-push : (said : List Said) (s : Said) → flat_map added (said ++ s ∷ []) ≡ flat_map added said ++ added s
 added-push said s = added-append said (s ∷ []) ∙ ap (λ l. flat_map added said ++ l) (append-nil (added s))
 
-allowed_behind : (e f : List Node) (s : Said) → e ≡ f → IsAllowed e s → IsAllowed f s
-allowed_behind e f s same h = subst (λ l. IsAllowed l s) same h
+allowed_after : (e f : List Node) (s : Said) → e ≡ f → IsAllowed e s → IsAllowed f s
+allowed_after e f s same h = subst (λ l. IsAllowed l s) same h
 
 pub LinesSay-push : (earlier : List Node) (lines : List (List ℕ)) (said : List Said) (l : List ℕ) (s : Said) → LinesSay earlier lines said
     → WordsSay (words_of l) s → IsAllowed (earlier ++ flat_map added said) s → LinesSay earlier (lines ++ l ∷ []) (said ++ s ∷ [])
-LinesSay-push earlier [] [] l s h says allowed = (says, allowed_behind (earlier ++ []) earlier s (append-nil earlier) allowed, tt)
+LinesSay-push earlier [] [] l s h says allowed = (says, allowed_after (earlier ++ []) earlier s (append-nil earlier) allowed, tt)
 LinesSay-push earlier [] (t ∷ said) l s h says allowed = absurd h
 LinesSay-push earlier (k ∷ ks) [] l s h says allowed = absurd h
 LinesSay-push earlier (k ∷ ks) (t ∷ said) l s h says allowed =
-    (h.0, h.1, LinesSay-push (earlier ++ added t) ks said l s h.2 says (allowed_behind (earlier ++ (added t ++ flat_map added said)) ((earlier ++ added t) ++ flat_map added said) s (sym (append_assoc earlier (added t) (flat_map added said))) allowed))
+    (h.0, h.1, LinesSay-push (earlier ++ added t) ks said l s h.2 says (allowed_after (earlier ++ (added t ++ flat_map added said)) ((earlier ++ added t) ++ flat_map added said) s (sym (append_assoc earlier (added t) (flat_map added said))) allowed))
 
 -- ---- line by line
 
--- some lines of the text are read into the store, and these bytes are left
-pub record IsBehind (bytes rest : List ℕ) (old store : List Kept) (reading : Reading) : Type 0 where
+-- so many lines of the text are read into the store, and these bytes are left
+pub record AreRead (bytes rest : List ℕ) (count : ℕ) (old store : List Kept) (reading : Reading) : Type 0 where
   pub first : List ℕ
   pub good : List (List ℕ)
   pub said : List Said
@@ -48,76 +46,95 @@ pub record IsBehind (bytes rest : List ℕ) (old store : List Kept) (reading : R
   pub say : LinesSay [] good said
   pub read : IsReading store said reading
   pub grows : Grows old store
+  pub counted : count ≡ length good + 1
+  pub few : count + length rest ≤ length bytes
 
 -- before the first line but the one that names the format
-pub none_read : (bytes line rest : List ℕ) (store : List Kept) (reading : Reading) → lines_of bytes ≡ line ∷ lines_of rest → IsReading store [] reading → Grows store store → IsBehind bytes rest store store reading
-none_read bytes line rest store reading lines read grows = record { first = line; good = []; said = []; lines = lines; say = tt; read = read; grows = grows }
+pub none_read : (bytes line rest : List ℕ) (store : List Kept) (reading : Reading) → lines_of bytes ≡ line ∷ lines_of rest → IsReading store [] reading → Grows store store
+    → length rest < length bytes → AreRead bytes rest 1 store store reading
+none_read bytes line rest store reading lines read grows shorter =
+    record { first = line; good = []; said = []; lines = lines; say = tt; read = read; grows = grows; counted = refl; few = omega arith }
 
-module _ (bytes rest : List ℕ) (old store : List Kept) (reading : Reading) (behind : IsBehind bytes rest old store reading) where
+module _ (bytes rest : List ℕ) (count : ℕ) (old store : List Kept) (reading : Reading) (front : AreRead bytes rest count old store reading) where
   -- one more line
   pub one_read : (line later : List ℕ) (new : List Kept) (after : Reading) → lines_of rest ≡ line ∷ lines_of later → Grows store new
       → ((said : List Said) → IsReading store said reading → (s : Said) × WordsSay (words_of line) s × IsAllowed (flat_map added said) s × IsReading new (said ++ s ∷ []) after)
-      → IsBehind bytes later old new after
-  one_read line later new after next grows says =
-      let s = says behind.said behind.read in
+      → length later < length rest → AreRead bytes later (count + 1) old new after
+  one_read line later new after next grows says shorter =
+      let s = says front.said front.read in
       record {
-        first = behind.first;
-        good = behind.good ++ line ∷ [];
-        said = behind.said ++ s.0 ∷ [];
-        lines = behind.lines ∙ ap (λ l. behind.first ∷ (behind.good ++ l)) next ∙ ap (λ l. behind.first ∷ l) (sym (append_assoc behind.good (line ∷ []) (lines_of later)));
-        say = LinesSay-push [] behind.good behind.said line s.0 behind.say s.1 s.2;
+        first = front.first;
+        good = front.good ++ line ∷ [];
+        said = front.said ++ s.0 ∷ [];
+        lines = front.lines ∙ ap (λ l. front.first ∷ (front.good ++ l)) next ∙ ap (λ l. front.first ∷ l) (sym (append_assoc front.good (line ∷ []) (lines_of later)));
+        say = LinesSay-push [] front.good front.said line s.0 front.say s.1 s.2;
         read = s.3;
-        grows = grows_on old store new behind.grows grows;
+        grows = grows_on old store new front.grows grows;
+        counted = let more = length_push front.good line in let counted = front.counted in omega arith;
+        few = let few = front.few in omega arith;
       }
 
   -- the line that follows, of whose words this holds
-  next_line : (P : List Node → List (List ℕ) → Type 0) (line later : List ℕ) → begins_macro bytes ≡ true → lines_of rest ≡ line ∷ lines_of later
-      → P (flat_map added behind.said) (words_of line) → HasLine bytes P
+  abbrev next_line : (P : List Node → List (List ℕ) → Type 0) (line later : List ℕ) → begins_macro bytes ≡ true → lines_of rest ≡ line ∷ lines_of later
+      → P (flat_map added front.said) (words_of line) → HasLine bytes P
   next_line P line later begins next holds = record {
-    first = behind.first;
-    good = behind.good;
+    first = front.first;
+    good = front.good;
     line = line;
     later = lines_of later;
-    said = behind.said;
+    said = front.said;
     begins = begins;
-    lines_are = behind.lines ∙ ap (λ l. behind.first ∷ (behind.good ++ l)) next;
-    say = behind.say;
+    lines_are = front.lines ∙ ap (λ l. front.first ∷ (front.good ++ l)) next;
+    say = front.say;
     holds = holds;
   }
 
-  -- its fault is that of the text
-  fault_next : (line later : List ℕ) → begins_macro bytes ≡ true → lines_of rest ≡ line ∷ lines_of later → (f : MacroFault) → HasFault f (flat_map added behind.said) (words_of line) → IsFaultOf bytes f
-  fault_next line later begins next NotMacro h = absurd h
-  fault_next line later begins next Timeline h = next_line (AreFaulty Timeline) line later begins next h
-  fault_next line later begins next Syntax h = next_line (AreFaulty Syntax) line later begins next h
-  fault_next line later begins next Forward h = next_line (AreFaulty Forward) line later begins next h
-  fault_next line later begins next Level h = next_line (AreFaulty Level) line later begins next h
-  fault_next line later begins next LeafSize h = next_line (AreFaulty LeafSize) line later begins next h
-  fault_next line later begins next Range h = absurd h
-  fault_next line later begins next GenTooLarge h = next_line (AreFaulty GenTooLarge) line later begins next h
-  fault_next line later begins next Memory h = inl (next_line AddNode line later begins next h)
+  -- it is faulty
+  faulty_next : (f : MacroFault) (line later : List ℕ) → begins_macro bytes ≡ true → lines_of rest ≡ line ∷ lines_of later → AreFaulty f (flat_map added front.said) (words_of line)
+      → (found : HasLine bytes (AreFaulty f)) × (count + 1 ≡ length found.good + 2)
+  faulty_next f line later begins next holds = (next_line (AreFaulty f) line later begins next holds, let same : count + 1 ≡ length front.good + 2 = let counted = front.counted in omega arith in same)
 
-  -- so is the one that `?` passes on
-  pub first_fault : {T : Type 0} (line later : List ℕ) → begins_macro bytes ≡ true → lines_of rest ≡ line ∷ lines_of later → (r : Result T MacroFault) (f : MacroFault) → IsErrAnd r (λ passed. passed ≡ f)
-      → ((said : List Said) → IsReading store said reading → HasFault f (flat_map added said) (words_of line)) → IfErr r (λ g. IsFaultOf bytes g)
-  first_fault line later begins next r f h faults =
-      let p = err_from_is_err_and r h in
-      subst (λ o. IfErr o (λ g. IsFaultOf bytes g)) (sym p.1) (subst (IsFaultOf bytes) (sym p.2) (fault_next line later begins next f (faults behind.said behind.read)))
+  -- its fault is that of the text
+  pub fault_next : (line later : List ℕ) → begins_macro bytes ≡ true → lines_of rest ≡ line ∷ lines_of later
+      → (f : MacroFault) → ((said : List Said) → IsReading store said reading → HasFault f (flat_map added said) (words_of line)) → IsFaultOn bytes f (count + 1)
+  fault_next line later begins next NotMacro h = absurd (h front.said front.read)
+  fault_next line later begins next Timeline h = faulty_next Timeline line later begins next (h front.said front.read)
+  fault_next line later begins next Syntax h = faulty_next Syntax line later begins next (h front.said front.read)
+  fault_next line later begins next Forward h = faulty_next Forward line later begins next (h front.said front.read)
+  fault_next line later begins next Level h = faulty_next Level line later begins next (h front.said front.read)
+  fault_next line later begins next LeafSize h = faulty_next LeafSize line later begins next (h front.said front.read)
+  fault_next line later begins next Range h = absurd (h front.said front.read)
+  fault_next line later begins next GenTooLarge h = faulty_next GenTooLarge line later begins next (h front.said front.read)
+  fault_next line later begins next Memory h = next_line AddNode line later begins next (h front.said front.read)
 
   -- the whole text is read
   pub all_read : begins_macro bytes ≡ true → rest ≡ [] → (said : List Said) × IsFile bytes (file_of said) × IsReading store said reading
   all_read begins none = (
-    behind.said,
+    front.said,
     record {
-      first = behind.first;
-      lines = behind.good;
-      said = behind.said;
+      first = front.first;
+      lines = front.good;
+      said = front.said;
       begins = begins;
-      lines_are = behind.lines ∙ ap (λ l. behind.first ∷ l) (ap (λ r. behind.good ++ lines_of r) none ∙ append-nil behind.good);
-      say = behind.say;
+      lines_are = front.lines ∙ ap (λ l. front.first ∷ l) (ap (λ r. front.good ++ lines_of r) none ∙ append-nil front.good);
+      say = front.say;
       nodes = refl;
       rule_text = refl;
       generation = refl;
     },
-    behind.read,
+    front.read,
   )
+
+-- ---- the line of a fault
+
+-- the faulty line, where there was memory
+pub line_of : (bytes : List ℕ) (f : MacroFault) (n : ℕ) → f ≢ Memory → IsFaultOn bytes f n → IsFaultyLine bytes n
+line_of bytes NotMacro n some h = (NotMacro, h)
+line_of bytes Timeline n some h = (Timeline, h)
+line_of bytes Syntax n some h = (Syntax, h)
+line_of bytes Forward n some h = (Forward, h)
+line_of bytes Level n some h = (Level, h)
+line_of bytes LeafSize n some h = (LeafSize, h)
+line_of bytes Range n some h = (Range, h)
+line_of bytes GenTooLarge n some h = (GenTooLarge, h)
+line_of bytes Memory n some h = absurd (some refl)

@@ -1,5 +1,5 @@
 -- A text is a file in one way at most, or has one first fault at most.
-use Rattle.std.proofs.Common.{◌≡◌, ◌≢◌, ℕ, Bool, true, false, List, [], ◌∷◌, ◌++◌, Result, Ok, Err, ◌⊎◌, inl, inr, refl, sym, ap, subst, ◌∙◌}
+use Rattle.std.proofs.Common.{◌≡◌, ◌≢◌, ℕ, ◌+◌, Bool, true, false, List, [], ◌∷◌, ◌++◌, length, Result, Ok, Err, ◌⊎◌, inl, inr, refl, sym, ap, subst, ◌∙◌, arith}
 use Rattle.std.specs.List.{flat_map}
 use Rattle.std.proofs.lemmas.List.{append-nil, append_assoc}
 use Rattle.ca_plane.specs.Bytes.{lines_of, words_of}
@@ -9,102 +9,116 @@ use Rattle.ca_macro.specs.declared.fault.MacroFault.TheVariants.{NotMacro, Timel
 use Rattle.ca_macro.specs.Nodes.{Node}
 use Rattle.ca_macro.specs.File.{Said, added, LinesSay, last_rule, last_generation, File, begins_macro, IsFile}
 use Rattle.ca_macro.specs.Limits.{IsWithinRange, IsOutOfRange}
-use Rattle.ca_macro.specs.Faults.{HasLine, AreFaulty, IsFirstFault, IsFaultOf}
+use Rattle.ca_macro.specs.Faults.{HasLine, AreFaulty, IsFirstFault, IsFirstFaultOn, IsFaultyLine, IsFaultOf}
 use Rattle.ca_macro.specs.inner.Reading.{file_of}
 use Rattle.ca_macro.proofs.Verdicts.{Verdict, verdict, said_told, fault_told}
 
 -- ---- the verdict on lines
 
+-- what lines say, or a fault and the number of its line
 abbrev Told : Type 0
-Told = Result (List Said) MacroFault
+Told = Result (List Said) (MacroFault × ℕ)
 
 abbrev with_said : Said → Told → Told
 with_said s (Ok said) = Ok (s ∷ said)
 with_said s (Err f) = Err f
 
-abbrev behind_line : List Node → (List Node → Told) → Verdict → Told
-behind_line earlier later (Ok s) = with_said s (later (earlier ++ added s))
-behind_line earlier later (Err f) = Err f
+abbrev after_line : ℕ → List Node → (List Node → Told) → Verdict → Told
+after_line n earlier later (Ok s) = with_said s (later (earlier ++ added s))
+after_line n earlier later (Err f) = Err (f, n)
 
--- what lines say, or the fault of the first faulty one
-abbrev told : List Node → List (List ℕ) → Told
-told earlier [] = Ok []
-told earlier (l ∷ ls) = behind_line earlier (λ e. told e ls) (verdict earlier (words_of l))
+-- what lines say, or the fault of the first faulty one and its number; the first of all has this number
+abbrev told : ℕ → List Node → List (List ℕ) → Told
+told n earlier [] = Ok []
+told n earlier (l ∷ ls) = after_line n earlier (λ e. told (n + 1) e ls) (verdict earlier (words_of l))
 
-lines_told : (earlier : List Node) (lines : List (List ℕ)) (said : List Said) → LinesSay earlier lines said → told earlier lines ≡ Ok said
-lines_told earlier [] [] h = refl
-lines_told earlier [] (s ∷ said) h = absurd h
-lines_told earlier (l ∷ ls) [] h = absurd h
-lines_told earlier (l ∷ ls) (s ∷ said) h = rw (said_told earlier (words_of l) s h.0 h.1, lines_told (earlier ++ added s) ls said h.2) refl
+lines_told : (n : ℕ) (earlier : List Node) (lines : List (List ℕ)) (said : List Said) → LinesSay earlier lines said → told n earlier lines ≡ Ok said
+lines_told n earlier [] [] h = refl
+lines_told n earlier [] (s ∷ said) h = absurd h
+lines_told n earlier (l ∷ ls) [] h = absurd h
+lines_told n earlier (l ∷ ls) (s ∷ said) h = rw (said_told earlier (words_of l) s h.0 h.1, lines_told (n + 1) (earlier ++ added s) ls said h.2) refl
 
-first_told : (earlier : List Node) (good : List (List ℕ)) (said : List Said) (line : List ℕ) (later : List (List ℕ)) (f : MacroFault) → LinesSay earlier good said
-    → AreFaulty f (earlier ++ flat_map added said) (words_of line) → told earlier (good ++ line ∷ later) ≡ Err f
-first_told earlier [] [] line later f h faulty =
-    rw (fault_told earlier (words_of line) f (subst (λ e. AreFaulty f e (words_of line)) (append-nil earlier) faulty)) refl
-first_told earlier [] (s ∷ said) line later f h faulty = absurd h
-first_told earlier (l ∷ ls) [] line later f h faulty = absurd h
-first_told earlier (l ∷ ls) (s ∷ said) line later f h faulty =
+first_told : (n m : ℕ) (earlier : List Node) (good : List (List ℕ)) (said : List Said) (line : List ℕ) (later : List (List ℕ)) (f : MacroFault) → LinesSay earlier good said
+    → AreFaulty f (earlier ++ flat_map added said) (words_of line) → m ≡ length good + n → told n earlier (good ++ line ∷ later) ≡ Err (f, m)
+first_told n m earlier [] [] line later f h faulty e =
+    let same : m ≡ n = omega arith in
+    rw (same, fault_told earlier (words_of line) f (subst (λ e. AreFaulty f e (words_of line)) (append-nil earlier) faulty)) refl
+first_told n m earlier [] (s ∷ said) line later f h faulty e = absurd h
+first_told n m earlier (l ∷ ls) [] line later f h faulty e = absurd h
+first_told n m earlier (l ∷ ls) (s ∷ said) line later f h faulty e =
     rw (
       said_told earlier (words_of l) s h.0 h.1,
-      first_told (earlier ++ added s) ls said line later f h.2 (subst (λ e. AreFaulty f e (words_of line)) (sym (append_assoc earlier (added s) (flat_map added said))) faulty),
+      first_told (n + 1) m (earlier ++ added s) ls said line later f h.2 (subst (λ e. AreFaulty f e (words_of line)) (sym (append_assoc earlier (added s) (flat_map added said))) faulty)
+          (omega arith),
     ) refl
 
 -- ---- the verdict on a text
 
-abbrev behind_first : List (List ℕ) → Told
-behind_first [] = Ok []
-behind_first (l ∷ ls) = told [] ls
+abbrev after_first : List (List ℕ) → Told
+after_first [] = Ok []
+after_first (l ∷ ls) = told 2 [] ls
 
-file_told : (bytes : List ℕ) (file : File) (h : IsFile bytes file) → behind_first (lines_of bytes) ≡ Ok h.said
-file_told bytes file h = ap behind_first h.lines_are ∙ lines_told [] h.lines h.said h.say
-
-line_told : (bytes : List ℕ) (f : MacroFault) → HasLine bytes (AreFaulty f) → behind_first (lines_of bytes) ≡ Err f
-line_told bytes f h = ap behind_first h.lines_are ∙ first_told [] h.good h.said h.line h.later f h.say h.holds
-
--- the text is none, or its first faulty line has this fault
-abbrev TellsFault : List ℕ → MacroFault → Type 0
-TellsFault bytes NotMacro = begins_macro bytes ≡ false
-TellsFault bytes f = (begins_macro bytes ≡ true) × (behind_first (lines_of bytes) ≡ Err f)
-
-fault_of_text : (bytes : List ℕ) (f : MacroFault) → IsFirstFault bytes f → TellsFault bytes f
-fault_of_text bytes NotMacro h = h
-fault_of_text bytes Timeline h = (h.begins, line_told bytes Timeline h)
-fault_of_text bytes Syntax h = (h.begins, line_told bytes Syntax h)
-fault_of_text bytes Forward h = (h.begins, line_told bytes Forward h)
-fault_of_text bytes Level h = (h.begins, line_told bytes Level h)
-fault_of_text bytes LeafSize h = (h.begins, line_told bytes LeafSize h)
-fault_of_text bytes Range h = absurd h
-fault_of_text bytes GenTooLarge h = (h.begins, line_told bytes GenTooLarge h)
-fault_of_text bytes Memory h = absurd h
-
--- the fault that is told of a text, told of its bytes
+-- what is told of lines, told of a text
 abbrev judged : Bool → Told → Told
 judged true t = t
-judged false t = Err NotMacro
+judged false t = Err (NotMacro, 1)
 
-judged_fault : (bytes : List ℕ) (f : MacroFault) → TellsFault bytes f → judged (begins_macro bytes) (behind_first (lines_of bytes)) ≡ Err f
-judged_fault bytes NotMacro h = rw h refl
-judged_fault bytes Timeline h = rw (h.0, h.1) refl
-judged_fault bytes Syntax h = rw (h.0, h.1) refl
-judged_fault bytes Forward h = rw (h.0, h.1) refl
-judged_fault bytes Level h = rw (h.0, h.1) refl
-judged_fault bytes LeafSize h = rw (h.0, h.1) refl
-judged_fault bytes Range h = rw (h.0, h.1) refl
-judged_fault bytes GenTooLarge h = rw (h.0, h.1) refl
-judged_fault bytes Memory h = rw (h.0, h.1) refl
+-- what is told of a text
+abbrev of_text : List ℕ → Told
+of_text bytes = judged (begins_macro bytes) (after_first (lines_of bytes))
 
-judged_file : (bytes : List ℕ) (file : File) (h : IsFile bytes file) → judged (begins_macro bytes) (behind_first (lines_of bytes)) ≡ Ok h.said
-judged_file bytes file h = rw (h.begins, file_told bytes file h) refl
+file_judged : (bytes : List ℕ) (file : File) (h : IsFile bytes file) → of_text bytes ≡ Ok h.said
+file_judged bytes file h = rw (h.begins, h.lines_are, lines_told 2 [] h.lines h.said h.say) refl
+
+line_judged : (bytes : List ℕ) (f : MacroFault) (n : ℕ) (h : HasLine bytes (AreFaulty f)) → n ≡ length h.good + 2 → of_text bytes ≡ Err (f, n)
+line_judged bytes f n h e = rw (h.begins, h.lines_are, first_told 2 n [] h.good h.said h.line h.later f h.say h.holds e) refl
+
+fault_judged : (bytes : List ℕ) (f : MacroFault) (n : ℕ) → IsFirstFaultOn bytes f n → of_text bytes ≡ Err (f, n)
+fault_judged bytes NotMacro n h = rw (h.0, h.1) refl
+fault_judged bytes Timeline n h = line_judged bytes Timeline n h.0 h.1
+fault_judged bytes Syntax n h = line_judged bytes Syntax n h.0 h.1
+fault_judged bytes Forward n h = line_judged bytes Forward n h.0 h.1
+fault_judged bytes Level n h = line_judged bytes Level n h.0 h.1
+fault_judged bytes LeafSize n h = line_judged bytes LeafSize n h.0 h.1
+fault_judged bytes Range n h = absurd h.0.holds
+fault_judged bytes GenTooLarge n h = line_judged bytes GenTooLarge n h.0 h.1
+fault_judged bytes Memory n h = absurd h.0.holds
+
+-- ---- a fault and its line
+
+-- each first fault stands on a line
+pub on_a_line : (bytes : List ℕ) (f : MacroFault) → IsFirstFault bytes f → (n : ℕ) × IsFirstFaultOn bytes f n
+on_a_line bytes NotMacro h = (1, (h, refl))
+on_a_line bytes Timeline h = (length h.good + 2, (h, refl))
+on_a_line bytes Syntax h = (length h.good + 2, (h, refl))
+on_a_line bytes Forward h = (length h.good + 2, (h, refl))
+on_a_line bytes Level h = (length h.good + 2, (h, refl))
+on_a_line bytes LeafSize h = (length h.good + 2, (h, refl))
+on_a_line bytes Range h = absurd h
+on_a_line bytes GenTooLarge h = (length h.good + 2, (h, refl))
+on_a_line bytes Memory h = absurd h
+
+-- what stands on a line is the first fault
+pub is_first : (bytes : List ℕ) (f : MacroFault) (n : ℕ) → IsFirstFaultOn bytes f n → IsFirstFault bytes f
+is_first bytes NotMacro n h = h.0
+is_first bytes Timeline n h = h.0
+is_first bytes Syntax n h = h.0
+is_first bytes Forward n h = h.0
+is_first bytes Level n h = h.0
+is_first bytes LeafSize n h = h.0
+is_first bytes Range n h = absurd h.0.holds
+is_first bytes GenTooLarge n h = h.0
+is_first bytes Memory n h = absurd h.0.holds
 
 -- ---- the laws
 
 same_ok : (t : Told) (a b : List Said) → t ≡ Ok a → t ≡ Ok b → a ≡ b
 same_ok t a b e f = cc
 
-same_err : (t : Told) (a b : MacroFault) → t ≡ Err a → t ≡ Err b → a ≡ b
+same_err : (t : Told) (a b : MacroFault × ℕ) → t ≡ Err a → t ≡ Err b → a ≡ b
 same_err t a b e f = cc
 
-ok_err : (t : Told) (a : List Said) (b : MacroFault) → t ≡ Ok a → t ≡ Err b → ⊥
+ok_err : (t : Told) (a : List Said) (b : MacroFault × ℕ) → t ≡ Ok a → t ≡ Err b → ⊥
 ok_err t a b e f = absurd (let no : ⊥ = cc in no)
 
 abbrev make : List Node → List ℕ → ℕ → File
@@ -117,20 +131,27 @@ file_is : (bytes : List ℕ) (file : File) (h : IsFile bytes file) → file ≡ 
 file_is bytes file h =
     same_file file.nodes (flat_map added h.said) file.rule_text (last_rule default_rule h.said) file.generation (last_generation 0 h.said) h.nodes h.rule_text h.generation
 
--- what is told of a text
-abbrev of_text : List ℕ → Told
-of_text bytes = judged (begins_macro bytes) (behind_first (lines_of bytes))
-
 pub one_file : (bytes : List ℕ) (f g : File) → IsFile bytes f → IsFile bytes g → f ≡ g
 one_file bytes f g h k =
-    let same = same_ok (of_text bytes) h.said k.said (judged_file bytes f h) (judged_file bytes g k) in
+    let same = same_ok (of_text bytes) h.said k.said (file_judged bytes f h) (file_judged bytes g k) in
     file_is bytes f h ∙ (ap file_of same ∙ sym (file_is bytes g k))
 
+one_fault_on : (bytes : List ℕ) (f g : MacroFault) (m n : ℕ) → IsFirstFaultOn bytes f m → IsFirstFaultOn bytes g n → ◌≡◌ {A = MacroFault × ℕ} (f, m) (g, n)
+one_fault_on bytes f g m n h k = same_err (of_text bytes) (f, m) (g, n) (fault_judged bytes f m h) (fault_judged bytes g n k)
+
+pub one_faulty_line : (bytes : List ℕ) (m n : ℕ) → IsFaultyLine bytes m → IsFaultyLine bytes n → m ≡ n
+one_faulty_line bytes m n h k = ap (λ p. p.1) (one_fault_on bytes h.0 k.0 m n h.1 k.1)
+
 pub one_first_fault : (bytes : List ℕ) (f g : MacroFault) → IsFirstFault bytes f → IsFirstFault bytes g → f ≡ g
-one_first_fault bytes f g h k = same_err (of_text bytes) f g (judged_fault bytes f (fault_of_text bytes f h)) (judged_fault bytes g (fault_of_text bytes g k))
+one_first_fault bytes f g h k =
+    let a = on_a_line bytes f h in
+    let b = on_a_line bytes g k in
+    ap (λ p. p.0) (one_fault_on bytes f g a.0 b.0 a.1 b.1)
 
 pub no_fault_in_a_file : (bytes : List ℕ) (file : File) (f : MacroFault) → IsFile bytes file → IsFirstFault bytes f → ⊥
-no_fault_in_a_file bytes file f h k = ok_err (of_text bytes) h.said f (judged_file bytes file h) (judged_fault bytes f (fault_of_text bytes f k))
+no_fault_in_a_file bytes file f h k =
+    let a = on_a_line bytes f k in
+    ok_err (of_text bytes) h.said (f, a.0) (file_judged bytes file h) (fault_judged bytes f a.0 a.1)
 
 -- a fault is the first of the spelling, or it is told of a file
 fault_kind : (bytes : List ℕ) (f : MacroFault) → f ≢ Memory → IsFaultOf bytes f → IsFirstFault bytes f ⊎ ((f ≡ Range) × ((file : File) × IsFile bytes file × IsOutOfRange file))

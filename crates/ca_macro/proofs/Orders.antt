@@ -6,9 +6,9 @@ use Rattle.std.proofs.lemmas.Bool.Decides.{nat_tests}
 use Rattle.std.proofs.lemmas.List.Elements.{filter-append}
 use Rattle.ca_macro.specs.Nodes.{Node, Parts}
 use Rattle.ca_macro.specs.Shown.{numbered}
-use Rattle.ca_macro.specs.Tidy.{parts_of, walks_behind, each_once}
+use Rattle.ca_macro.specs.Tidy.{parts_of, walks_after, each_once}
 use Rattle.ca_macro.specs.inner.Written.{Extends, GoesOn}
-use Rattle.ca_macro.proofs.Behind.{Within, walk_to, walk_stays, walk_last, walks_length, walk_within}
+use Rattle.ca_macro.proofs.Following.{Within, walk_stays, walk_last, walks_length, walk_within}
 
 -- ---- one number more
 
@@ -92,26 +92,26 @@ next_number walked most e =
 
 -- a walk to an old node comes to nothing new
 pub goes_again : (ns : List Node) (n : ℕ) → GoesOn ns ns n
-goes_again ns n = λ walked e. known_walk walked (numbered (walks_behind [] ns) n) (length ns) (walk_within ns n) e
+goes_again ns n = λ walked e. known_walk walked (numbered (walks_after [] ns) n) (length ns) (walk_within ns n) e
 
 more_by_one : (ns : List Node) (node : Node) → length (ns ++ node ∷ []) ≡ length ns + 1
 more_by_one ns node = length-append ns (node ∷ [])
 
--- behind walks to its parts, one to a new node comes to it
-goes_to_node : (ns : List Node) (node : Node) (before walked : List ℕ) → flat_map (numbered (walks_behind [] ns)) (parts_of node) ≡ before → each_once (walked ++ before) ≡ range_with_len 1 (length ns)
-    → each_once (walked ++ numbered (walks_behind [] (ns ++ node ∷ [])) (suc (length ns))) ≡ range_with_len 1 (length (ns ++ node ∷ []))
+-- after walks to its parts, one to a new node comes to it
+goes_to_node : (ns : List Node) (node : Node) (before walked : List ℕ) → flat_map (numbered (walks_after [] ns)) (parts_of node) ≡ before → each_once (walked ++ before) ≡ range_with_len 1 (length ns)
+    → each_once (walked ++ numbered (walks_after [] (ns ++ node ∷ [])) (suc (length ns))) ≡ range_with_len 1 (length (ns ++ node ∷ []))
 goes_to_node ns node before walked e so_far =
-    let last : numbered (walks_behind [] (ns ++ node ∷ [])) (suc (length ns)) ≡ before ++ (length ns + 1) ∷ [] =
+    let last : numbered (walks_after [] (ns ++ node ∷ [])) (suc (length ns)) ≡ before ++ (length ns + 1) ∷ [] =
     walk_last ns node ∙ ap₂ (λ l k. l ++ (k + 1) ∷ []) e (walks_length ns) in
     ap (λ l. each_once (walked ++ l)) last ∙ ap each_once (sym (append_assoc walked before ((length ns + 1) ∷ [])))
     ∙ next_number (walked ++ before) (length ns) so_far ∙ ap (range_with_len 1) (sym (more_by_one ns node))
 
 pub goes_to_leaf : (ns : List Node) (node : Node) → parts_of node ≡ [] → GoesOn ns (ns ++ node ∷ []) (suc (length ns))
 goes_to_leaf ns node none = λ walked e.
-    goes_to_node ns node [] walked (ap (flat_map (numbered (walks_behind [] ns))) none) (ap each_once (append-nil walked) ∙ e)
+    goes_to_node ns node [] walked (ap (flat_map (numbered (walks_after [] ns))) none) (ap each_once (append-nil walked) ∙ e)
 
-stays_on : (old new : List Node) (n : ℕ) → Extends old new → n ≤ length old → numbered (walks_behind [] new) n ≡ numbered (walks_behind [] old) n
-stays_on old new n x h = ap (λ l. numbered (walks_behind [] l) n) x.1 ∙ walk_stays old x.0 n h
+stays_on : (old new : List Node) (n : ℕ) → Extends old new → n ≤ length old → numbered (walks_after [] new) n ≡ numbered (walks_after [] old) n
+stays_on old new n x h = ap (λ l. numbered (walks_after [] l) n) x.1 ∙ walk_stays old x.0 n h
 
 pub extends_on : (old mid new : List Node) → Extends old mid → Extends mid new → Extends old new
 extends_on old mid new x y = (x.0 ++ y.0, y.1 ∙ ap (λ l. l ++ y.0) x.1 ∙ append_assoc old x.0 y.0)
@@ -123,16 +123,16 @@ module _ (level a b c d : ℕ) (s0 s1 s2 s3 s4 : List Node) (x2 : Extends s1 s2)
     (g1 : GoesOn s0 s1 a) (g2 : GoesOn s1 s2 b) (g3 : GoesOn s2 s3 c) (g4 : GoesOn s3 s4 d) where
   pub goes_to_parts : GoesOn s0 (s4 ++ Parts level a b c d ∷ []) (suc (length s4))
   goes_to_parts = λ walked e.
-      let f = numbered (walks_behind [] s4) in
+      let f = numbered (walks_after [] s4) in
       let e1 = g1 walked e in
-      let e2 = g2 (walked ++ numbered (walks_behind [] s1) a) e1 in
-      let e3 = g3 ((walked ++ numbered (walks_behind [] s1) a) ++ numbered (walks_behind [] s2) b) e2 in
-      let e4 = g4 (((walked ++ numbered (walks_behind [] s1) a) ++ numbered (walks_behind [] s2) b) ++ numbered (walks_behind [] s3) c) e3 in
-      let p : numbered (walks_behind [] s1) a ≡ f a = sym (stays_on s1 s4 a (extends_on s1 s2 s4 x2 (extends_on s2 s3 s4 x3 x4)) h1) in
-      let q : numbered (walks_behind [] s2) b ≡ f b = sym (stays_on s2 s4 b (extends_on s2 s3 s4 x3 x4) h2) in
-      let r : numbered (walks_behind [] s3) c ≡ f c = sym (stays_on s3 s4 c x4 h3) in
+      let e2 = g2 (walked ++ numbered (walks_after [] s1) a) e1 in
+      let e3 = g3 ((walked ++ numbered (walks_after [] s1) a) ++ numbered (walks_after [] s2) b) e2 in
+      let e4 = g4 (((walked ++ numbered (walks_after [] s1) a) ++ numbered (walks_after [] s2) b) ++ numbered (walks_after [] s3) c) e3 in
+      let p : numbered (walks_after [] s1) a ≡ f a = sym (stays_on s1 s4 a (extends_on s1 s2 s4 x2 (extends_on s2 s3 s4 x3 x4)) h1) in
+      let q : numbered (walks_after [] s2) b ≡ f b = sym (stays_on s2 s4 b (extends_on s2 s3 s4 x3 x4) h2) in
+      let r : numbered (walks_after [] s3) c ≡ f c = sym (stays_on s3 s4 c x4 h3) in
       let so_far : each_once ((((walked ++ f a) ++ f b) ++ f c) ++ f d) ≡ range_with_len 1 (length s4) =
       subst (λ w. each_once ((((walked ++ f a) ++ f b) ++ w) ++ f d) ≡ range_with_len 1 (length s4)) r
-      (subst (λ w. each_once ((((walked ++ f a) ++ w) ++ numbered (walks_behind [] s3) c) ++ f d) ≡ range_with_len 1 (length s4)) q
-      (subst (λ w. each_once ((((walked ++ w) ++ numbered (walks_behind [] s2) b) ++ numbered (walks_behind [] s3) c) ++ f d) ≡ range_with_len 1 (length s4)) p e4)) in
+      (subst (λ w. each_once ((((walked ++ f a) ++ w) ++ numbered (walks_after [] s3) c) ++ f d) ≡ range_with_len 1 (length s4)) q
+      (subst (λ w. each_once ((((walked ++ w) ++ numbered (walks_after [] s2) b) ++ numbered (walks_after [] s3) c) ++ f d) ≡ range_with_len 1 (length s4)) p e4)) in
       goes_to_node s4 (Parts level a b c d) (f a ++ (f b ++ (f c ++ (f d ++ [])))) walked refl (ap each_once (sym (four_flat f walked a b c d)) ∙ so_far)

@@ -1,5 +1,5 @@
 -- Pictures of squares, cell by cell, beside cells that are counted from a corner.
-use Rattle.std.proofs.Common.{◌≡◌, ◌≢◌, ℕ, zero, suc, ◌+◌, ◌-◌, ◌/◌, ◌%◌, ◌<◌, ◌≤◌, ◌^◌, ◌==◌, ◌⊎◌, inl, inr, Bool, true, false, not, ◌&&◌, ℤ, pos, negsuc, ◌+ℤ◌, ◌-ℤ◌, ◌<ℤ◌, ◌≤ℤ◌, List, [], ◌∷◌, ◌++◌, map, length, slice_index, refl, sym, ap, ap₂, subst, ◌∙◌, arith, if◌then◌else◌}
+use Rattle.std.proofs.Common.{◌≡◌, ◌≢◌, ℕ, zero, suc, ◌+◌, ◌-◌, ◌/◌, ◌%◌, ◌<◌, ◌≤◌, ◌^◌, ◌==◌, inl, inr, true, ◌&&◌, ℤ, pos, negsuc, ◌+ℤ◌, ◌-ℤ◌, ◌<ℤ◌, List, [], ◌∷◌, ◌++◌, map, slice_index, refl, sym, ap, ap₂, ◌∙◌, arith, if◌then◌else◌}
 use Rattle.std.specs.List.{AllByRecursion, slice_index_or}
 use Rattle.std.specs.Int.{bit_at}
 use Rattle.std.specs.Ordering.{int_eq}
@@ -17,9 +17,9 @@ use Rattle.ca_quad.proofs.Growth.{below_or_not}
 use Rattle.ca_quad.proofs.Walks.{in_nw, in_ne, in_sw, in_se}
 use Rattle.ca_macro.specs.Shown.{row_from, rows_from, state_of, joined}
 use Rattle.ca_macro.specs.inner.Written.{row_of, IsPictureOf}
-use Rattle.ca_macro.proofs.Behind.{all_append}
+use Rattle.ca_macro.proofs.Following.{all_append}
 
--- ---- one picture behind another
+-- ---- one picture after another
 
 -- no point of a picture is listed as dead
 abbrev pub NoneDead : Picture → Type 0
@@ -45,7 +45,7 @@ cell-append (e ∷ es) q x y h =
 
 -- ---- rows
 
--- the item at a place of a list; 0 before it and behind it
+-- the item at a place of a list; 0 before it and after it
 abbrev along : List ℕ → ℤ → ℕ
 along ss (pos i) = slice_index ss i
 along ss (negsuc i) = 0

@@ -1,9 +1,8 @@
 -- The root of a tidy text: its level is the least that may be, and its picture that of the plane.
-use Rattle.std.proofs.Common.{◌≡◌, ◌≢◌, ℕ, zero, suc, ◌+◌, ◌-◌, ◌<◌, ◌≤◌, ◌^◌, ◌==◌, ◌⊎◌, inl, inr, true, false, ℤ, pos, negsuc, neg_ℤ, ◌+ℤ◌, ◌-ℤ◌, ◌<ℤ◌, ◌≤ℤ◌, List, [], ◌∷◌, ◌++◌, length, Result, Ok, Err, Option, Some, None, IfOk, option_map, refl, sym, ap, ap₂, subst, ◌∙◌, arith, lit≤, if◌then◌else◌}
-use Rattle.std.specs.List.{AllByRecursion, last_or, slice_get, range_with_len}
+use Rattle.std.proofs.Common.{◌≡◌, ◌≢◌, ℕ, zero, suc, ◌+◌, ◌-◌, ◌<◌, ◌≤◌, ◌^◌, ◌==◌, inl, inr, true, false, ℤ, pos, negsuc, neg_ℤ, ◌+ℤ◌, ◌-ℤ◌, ◌<ℤ◌, ◌≤ℤ◌, List, [], ◌∷◌, length, Result, Ok, Err, Option, Some, None, IfOk, option_map, refl, sym, ap, ap₂, subst, ◌∙◌, arith, lit≤}
+use Rattle.std.specs.List.{last_or, slice_get}
 use Rattle.std.proofs.Math.Nat.{two-pow-succ}
 use Rattle.std.proofs.lemmas.Bool.{cases_Bool, eqb-true}
-use Rattle.std.proofs.lemmas.Bool.Decides.{nat_tests}
 use Rattle.std.proofs.lemmas.Int.{ints}
 use Rattle.std.proofs.lemmas.Option.{same_Some}
 use Rattle.ca_plane.specs.Plane.{Picture}
@@ -20,8 +19,8 @@ use Rattle.ca_quad.proofs.Growth.{below_or_not}
 use Rattle.ca_macro.specs.Nodes.{Node, Cells, Parts, level_of}
 use Rattle.ca_macro.specs.Shown.{numbered, squares_of, centred, rooted, picture_of}
 use Rattle.ca_macro.specs.Pattern.{AreInRange}
-use Rattle.ca_macro.specs.Tidy.{lowest_level, IsInSquare, Fits, IsLeastLevel, walks_behind, each_once}
-use Rattle.ca_macro.specs.inner.Written.{number_of, cells_of, IsPictureOf, IsNumberOf, IsGathered, GoesOn, empty_root, AreTidyNodes}
+use Rattle.ca_macro.specs.Tidy.{lowest_level, Fits, IsLeastLevel, walks_after, each_once}
+use Rattle.ca_macro.specs.inner.Written.{cells_of, IsPictureOf, IsNumberOf, IsGathered, GoesOn, empty_root, AreTidyNodes}
 use Rattle.ca_macro.proofs.Gathering.{corner_zero}
 
 -- ---- where the live cells of a tree are
@@ -49,7 +48,7 @@ tree_fits kept t some = λ x y live.
     let b = h.1 in
     let c = h.2 in
     let d = h.3 in
-    (omega (arith, ints), omega (arith, ints), omega (arith, ints), omega (arith, ints))
+    ((omega (arith, ints), omega (arith, ints)), (omega (arith, ints), omega (arith, ints)))
 
 fits_as : (level : ℕ) (p q : ℤ → ℤ → ℕ) → ((x y : ℤ) → p x y ≡ q x y) → Fits level p → Fits level q
 fits_as level p q same fits = λ x y live. fits x y (λ z. live (sym (same x y) ∙ z))
@@ -69,7 +68,7 @@ module _ (states : ℕ) (cells : ℤ → ℤ → ℕ) (mid new : List Kept) (t :
   trimmed_least : (other : ℕ) → 1 ≤ other → Fits other cells → t.level ≤ other
   trimmed_least other some fits =
       elim (below_or_not other t.level) [
-        | inl h ↦ absurd (trimmed other some h (λ x y live. let f = fits x y (λ z. live (same x y ∙ z)) in ((f.0, f.1), (f.2, f.3))))
+        | inl h ↦ absurd (trimmed other some h (λ x y live. fits x y (λ z. live (same x y ∙ z))))
         | inr h ↦ h
       ]
 
@@ -101,7 +100,7 @@ module _ (states : ℕ) (cells : ℤ → ℤ → ℕ) (mid new : List Kept) (t :
 pub level_in_range : (states level : ℕ) (cells : ℤ → ℤ → ℕ) → AreInRange cells → IsLeastLevel states cells level → level ≤ 61
 level_in_range states level cells range h =
     let low : lowest_level states ≤ 61 = elim (cases_Bool (states == 2)) [ inl e ↦ rw e (lit≤ tt) | inr e ↦ rw e (lit≤ tt) ] in
-    h.least 61 low (λ x y live. range x y live)
+    h.least 61 low (λ x y live. let in_range = range x y live in ((in_range.0, in_range.1), (in_range.2, in_range.3)))
 
 -- ---- the empty plane
 
@@ -187,7 +186,7 @@ module _ (kept : List Kept) (t : Tree) (is_tree : IsTree kept t) (states : ℕ) 
         forms = gathered.forms;
         distinct = gathered.distinct;
         empties = inl gathered.live;
-        order = ap (λ k. each_once (numbered (walks_behind [] ns) k)) (sym last) ∙ goes [] refl;
+        order = ap (λ k. each_once (numbered (walks_after [] ns) k)) (sym last) ∙ goes [] refl;
       }
 
 -- the states of a tree's root are those of its cells

@@ -1,17 +1,16 @@
 -- A tidy text is a file of its cells.
-use Rattle.std.proofs.Common.{◌≡◌, ◌≢◌, ℕ, zero, suc, ◌+◌, ◌-◌, ◌<◌, ◌≤◌, ◌^◌, ◌==◌, ◌&&◌, inl, inr, true, false, List, [], ◌∷◌, ◌++◌, map, length, Option, Some, None, codes, decimal, ℤ, refl, sym, ap, subst, ◌∙◌, arith, append_assoc, append-nil, length-append, if◌then◌else◌}
+use Rattle.std.proofs.Common.{◌≡◌, ◌≢◌, ℕ, ◌+◌, ◌-◌, ◌<◌, ◌≤◌, ◌^◌, ◌==◌, ◌&&◌, inl, inr, true, List, [], ◌∷◌, ◌++◌, map, length, Option, Some, None, codes, decimal, ℤ, refl, sym, ap, ◌∙◌, arith, length-append}
 use Rattle.std.specs.List.{AllByRecursion, flat_map, last_or}
 use Rattle.std.specs.Ordering.{int_eq}
 use Rattle.std.proofs.lemmas.Bool.{cases_Bool, eqb-true}
-use Rattle.std.proofs.lemmas.Grind.{flat_map-append}
 use Rattle.ca_plane.specs.Bytes.{lines_of, IsWord}
-use Rattle.ca_plane.specs.Limits.{default_rule, IsInRange}
+use Rattle.ca_plane.specs.Limits.{IsInRange}
 use Rattle.ca_plane.specs.Plane.{Picture, cell}
 use Rattle.std.proofs.lemmas.List.{length-map}
 use Rattle.ca_plane.proofs.Pictures.{cell-first}
 use Rattle.ca_plane.specs.declared.point.Point.{Point}
-use Rattle.ca_macro.specs.Nodes.{Node, Leaf, Cells, Parts, Names, StandsBehind}
-use Rattle.ca_macro.specs.File.{Said, Nothing, Rule, Generation, Adds, added, LinesSay, last_rule, last_generation, File, begins_macro, IsFile}
+use Rattle.ca_macro.specs.Nodes.{Node, Leaf, Cells, Parts, MayFollow}
+use Rattle.ca_macro.specs.File.{Rule, Generation, Adds, added, LinesSay, last_rule, last_generation, File, begins_macro, IsFile}
 use Rattle.ca_macro.specs.Shown.{rooted, picture_of}
 use Rattle.ca_macro.specs.Limits.{IsWithinRange}
 use Rattle.ca_macro.specs.Pattern.{AreInRange, Holds}
@@ -20,7 +19,6 @@ use Rattle.ca_plane.specs.Puts.{Puts}
 use Rattle.ca_macro.specs.declared.write.written.Written.{Written}
 use Rattle.ca_macro.specs.inner.Written.{node_of, AreTidyNodes}
 use Rattle.ca_macro.proofs.Roots.{least_as}
-use Rattle.ca_macro.proofs.Behind.{all_append}
 use Rattle.ca_macro.proofs.Gathering.{names_low}
 use Rattle.ca_macro.proofs.Pictures.{NoneDead, shifted_live}
 use Rattle.ca_macro.proofs.TidyLines.{IsLine, lines_read, AreSmall, node_said, node_line, rule_said, rule_line, generation_said, generation_line}
@@ -36,10 +34,10 @@ line_some (l ∷ ls) =
     let c = length-append l (10 ∷ []) in
     omega arith
 
-small_behind : (most : ℕ) (earlier : List Node) (n : Node) → most < 2 ^ 64 → length earlier ≤ most → StandsBehind earlier n → AreSmall n
-small_behind most earlier (Leaf rows) h k stands = tt
-small_behind most earlier (Cells nw ne sw se) h k stands = tt
-small_behind most earlier (Parts level nw ne sw se) h k stands =
+small_after : (most : ℕ) (earlier : List Node) (n : Node) → most < 2 ^ 64 → length earlier ≤ most → MayFollow earlier n → AreSmall n
+small_after most earlier (Leaf rows) h k stands = tt
+small_after most earlier (Cells nw ne sw se) h k stands = tt
+small_after most earlier (Parts level nw ne sw se) h k stands =
     let low = names_low earlier (level - 1) in
     let a = low nw stands.1.0 in
     let b = low ne stands.1.1.0 in
@@ -54,13 +52,13 @@ module _ (states most : ℕ) (fits : most < 2 ^ 64) where
   nodes_say earlier [] h place forms = tt
   nodes_say earlier (n ∷ ns) h place forms =
       let count = length-append earlier (n ∷ []) in
-      (node_said states earlier n forms.0 place.0 (small_behind most earlier n fits (omega arith) place.0), place.0, nodes_say (earlier ++ n ∷ []) ns (omega arith) place.1 forms.1)
+      (node_said states earlier n forms.0 place.0 (small_after most earlier n fits (omega arith) place.0), place.0, nodes_say (earlier ++ n ∷ []) ns (omega arith) place.1 forms.1)
 
   nodes_lines : (earlier ns : List Node) → length earlier + length ns ≤ most → AreInPlace earlier ns → AllByRecursion IsLine (map node_text ns)
   nodes_lines earlier [] h place = tt
   nodes_lines earlier (n ∷ ns) h place =
       let count = length-append earlier (n ∷ []) in
-      (node_line earlier n place.0 (small_behind most earlier n fits (omega arith) place.0), nodes_lines (earlier ++ n ∷ []) ns (omega arith) place.1)
+      (node_line earlier n place.0 (small_after most earlier n fits (omega arith) place.0), nodes_lines (earlier ++ n ∷ []) ns (omega arith) place.1)
 
 added_all : (ns : List Node) → flat_map added (map Adds ns) ≡ ns
 added_all [] = refl

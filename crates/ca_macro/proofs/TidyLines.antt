@@ -1,13 +1,13 @@
 -- What the lines of a tidy text say.
-use Rattle.std.proofs.Common.{◌≡◌, ◌≢◌, ℕ, zero, suc, ◌+◌, ◌-◌, ◌<◌, ◌≤◌, ◌^◌, ◌==◌, inl, inr, Bool, true, false, not, ◌&&◌, ◌||◌, List, [], ◌∷◌, ◌++◌, map, length, Some, codes, decimal, refl, sym, ap, ap₂, subst, ◌∙◌, arith, append_assoc, append-nil, length-append, if◌then◌else◌}
-use Rattle.std.specs.List.{AllByRecursion, AllZip, flat_map, list_all, join_with_byte}
-use Rattle.std.proofs.lemmas.Bool.{cases_Bool, and_parts, eqb-true}
+use Rattle.std.proofs.Common.{◌≡◌, ℕ, ◌<◌, ◌^◌, Bool, true, false, not, List, [], ◌∷◌, ◌++◌, map, length, codes, decimal, refl, sym, ap, subst, ◌∙◌, arith, append_assoc, append-nil, length-append}
+use Rattle.std.specs.List.{AllByRecursion, AllZip, flat_map, join_with_byte}
+use Rattle.std.proofs.lemmas.Bool.{and_parts}
 use Rattle.std.proofs.lemmas.Bool.Decides.{nat_tests}
-use Rattle.ca_plane.specs.Bytes.{Every, is_blank, is_line_end, is_digit, is_word_byte, is_end_or, with_front, words_of, lines_of, IsWord, AreDigits}
+use Rattle.ca_plane.specs.Bytes.{Every, is_blank, is_line_end, is_digit, is_word_byte, with_front, words_of, lines_of, IsWord, AreDigits}
 use Rattle.ca_plane.proofs.Fronts.{every_append, every_wider, every_digit, every_word_byte}
 use Rattle.ca_plane.proofs.FirstWords.{word_from}
 use Rattle.ca_plane.proofs.Lines.{lines_ahead, words_ahead, words_next}
-use Rattle.ca_macro.specs.Nodes.{Node, Leaf, Cells, Parts, mark_of, rows_of, IsLeaf, StandsBehind, Names}
+use Rattle.ca_macro.specs.Nodes.{Node, Leaf, Cells, Parts, mark_of, rows_of, MayFollow}
 use Rattle.ca_macro.specs.File.{Adds, Rule, Generation, IsNumber, WordsSay}
 use Rattle.ca_macro.specs.Tidy.{HasForm, numbers_text, node_text}
 use Rattle.ca_macro.proofs.Decimals.{decimal_writes}
@@ -96,7 +96,7 @@ AreSmall (Leaf rows) = Unit {0}
 AreSmall (Cells nw ne sw se) = Unit {0}
 AreSmall (Parts level nw ne sw se) = AllByRecursion (λ n. n < 2 ^ 64) (nw ∷ ne ∷ sw ∷ se ∷ [])
 
-pub node_said : (states : ℕ) (earlier : List Node) (n : Node) → HasForm states n → StandsBehind earlier n → AreSmall n → WordsSay (words_of (node_text n)) (Adds n)
+pub node_said : (states : ℕ) (earlier : List Node) (n : Node) → HasForm states n → MayFollow earlier n → AreSmall n → WordsSay (words_of (node_text n)) (Adds n)
 node_said states earlier (Leaf rows) form stands small =
     let eight : length rows ≡ 8 = form.1 in
     let some = leaf_some rows (omega arith) in
@@ -106,7 +106,7 @@ node_said states earlier (Cells nw ne sw se) form stands small =
     (omega arith, (omega (arith, stands.0), (omega (arith, stands.1.0), (omega (arith, stands.1.1.0), (omega (arith, stands.1.1.1.0), tt)))))
 node_said states earlier (Parts level nw ne sw se) form stands small = numbers_say (level ∷ nw ∷ ne ∷ sw ∷ se ∷ []) (omega (arith, stands.0.1), small)
 
-pub node_line : (earlier : List Node) (n : Node) → StandsBehind earlier n → AreSmall n → IsLine (node_text n)
+pub node_line : (earlier : List Node) (n : Node) → MayFollow earlier n → AreSmall n → IsLine (node_text n)
 node_line earlier (Leaf rows) stands small = word_is_line (leaf_text rows) (leaf_bytes rows)
 node_line earlier (Cells nw ne sw se) stands small =
     numbers_line (1 ∷ nw ∷ ne ∷ sw ∷ se ∷ [])

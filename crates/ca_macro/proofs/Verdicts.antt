@@ -1,4 +1,4 @@
--- A line behind earlier nodes says one thing at most, or has one fault at most: what it is, decided word by word.
+-- A line that follows earlier nodes says one thing at most, or has one fault at most: what it is, decided word by word.
 use Rattle.std.proofs.Common.{◌≡◌, ◌≢◌, ℕ, zero, suc, ◌-◌, ◌<◌, ◌≤◌, ◌⊎◌, inl, inr, Bool, true, false, not, ◌&&◌, ◌||◌, ◌==◌, nat_lt, nat_le, nat_eq, List, [], ◌∷◌, ◌++◌, length, Option, Some, None, Result, Ok, Err, refl, sym, ap, ◌∙◌, arith, codes, if◌then◌else◌, option_map}
 use Rattle.std.specs.Prelude.{slice_get}
 use Rattle.std.specs.List.{AllByRecursion, list_all, starts_with}
@@ -271,9 +271,9 @@ bad_leaf_told : (earlier : List Node) (words : List (List ℕ)) (w : List ℕ) (
 bad_leaf_told earlier words w ws test f spelled bad e =
     ap (verdict earlier) spelled ∙ leaf_told earlier w ws (Some f) (good_starts w bad.good bad.byte bad.more bad.rows bad.some bad.leaf bad.spelled) (bad_fault w test bad ∙ e)
 
-behind_leaf_told : (earlier : List Node) (w : List ℕ) (ws : List (List ℕ)) (rows : List (List Bool)) → IsLeaf w rows → ws ≢ [] → verdict earlier (w ∷ ws) ≡ Err Syntax
-behind_leaf_told earlier w [] rows leaf some = absurd (some refl)
-behind_leaf_told earlier w (v ∷ ws) rows leaf some = let none = leaf_none w rows leaf in leaf_told earlier w (v ∷ ws) None (leaf_starts w none) none
+after_leaf_told : (earlier : List Node) (w : List ℕ) (ws : List (List ℕ)) (rows : List (List Bool)) → IsLeaf w rows → ws ≢ [] → verdict earlier (w ∷ ws) ≡ Err Syntax
+after_leaf_told earlier w [] rows leaf some = absurd (some refl)
+after_leaf_told earlier w (v ∷ ws) rows leaf some = let none = leaf_none w rows leaf in leaf_told earlier w (v ∷ ws) None (leaf_starts w none) none
 
 other_begins : (b : ℕ) → not ((b == letter "#") || is_leaf_byte b) ≡ true → ((b == 35) ≡ false) × (is_leaf_byte b ≡ false)
 other_begins b h = neither (b == 35) (is_leaf_byte b) h
@@ -326,9 +326,9 @@ large_state_told nw ne sw se earlier h =
 pub fault_told : (earlier : List Node) (words : List (List ℕ)) (f : MacroFault) → AreFaulty f earlier words → verdict earlier words ≡ Err f
 fault_told earlier words NotMacro h = absurd h
 fault_told earlier words Timeline (w, ws, spelled, frame) = ap (verdict earlier) spelled ∙ rw (frame_is_hash w frame, frame) refl
-fault_told earlier words Syntax (inl (behind, spelled, some, bad)) = ap (verdict earlier) spelled ∙ generation_bad behind some bad
+fault_told earlier words Syntax (inl (after, spelled, some, bad)) = ap (verdict earlier) spelled ∙ generation_bad after some bad
 fault_told earlier words Syntax (inr (inl (w, ws, spelled, inl bad))) = bad_leaf_told earlier words w ws (λ b. not (is_leaf_byte b)) Syntax spelled bad (other_fault bad.byte bad.passes)
-fault_told earlier words Syntax (inr (inl (w, ws, spelled, inr (leaf, some)))) = ap (verdict earlier) spelled ∙ behind_leaf_told earlier w ws leaf.0 leaf.1 some
+fault_told earlier words Syntax (inr (inl (w, ws, spelled, inr (leaf, some)))) = ap (verdict earlier) spelled ∙ after_leaf_told earlier w ws leaf.0 leaf.1 some
 fault_told earlier words Syntax (inr (inr (inl lack))) = lack_told earlier words lack
 fault_told earlier words Syntax (inr (inr (inr (nw, ne, sw, se, numbers, large)))) = numbers_told earlier words 1 nw ne sw se numbers ∙ large_state_told nw ne sw se earlier large
 fault_told earlier words Forward h = bad_told earlier words (λ level number. length earlier < number) Forward (forward_bad earlier) h

@@ -1,5 +1,5 @@
 -- Means for the worked examples: what tests by computation find.
-use Rattle.std.proofs.Common.{◌≡◌, ◌≢◌, ℕ, zero, suc, ◌+◌, decimal, ◌<◌, arith, length, slice_index_or, Bool, true, false, ◌&&◌, inl, inr, List, [], ◌∷◌, ◌++◌, map, codes, refl, sym, ap, ap₂, subst, ◌∙◌, if◌then◌else◌}
+use Rattle.std.proofs.Common.{◌≡◌, ◌≢◌, ℕ, zero, suc, ◌+◌, decimal, ◌<◌, lit≤, lit<, arith, length, slice_index_or, Bool, true, false, ◌&&◌, inl, inr, List, [], ◌∷◌, ◌++◌, map, codes, refl, sym, ap, ap₂, subst, ◌∙◌, if◌then◌else◌}
 use Rattle.std.specs.List.{AllByRecursion, AllPairs, AllZip, list_all, join_with_byte}
 use Rattle.std.specs.Ordering.{int_eq}
 use Rattle.std.proofs.lemmas.Bool.{and_parts, cases_Bool}
@@ -7,10 +7,12 @@ use Rattle.std.proofs.lemmas.Fmt.{decimal_digit}
 use Rattle.ca_plane.specs.Bytes.{AreDigits, is_digit, value, lines_of, words_of}
 use Rattle.ca_plane.specs.Plane.{Picture, cell}
 use Rattle.ca_plane.proofs.Pictures.{place-from_true}
+use Rattle.ca_quad.specs.Trimmed.{IsWithin}
+use Rattle.ca_macro.specs.declared.fault.MacroFault.TheVariants.{Forward}
 use Rattle.ca_macro.specs.Nodes.{Node, Leaf, rows_of}
 use Rattle.ca_macro.specs.File.{Adds, IsNumber, begins_macro}
-use Rattle.ca_macro.specs.Faults.{HasLine, HasBadByte}
-use Rattle.ca_macro.specs.Tidy.{IsInSquare, Fits, numbers_text}
+use Rattle.ca_macro.specs.Faults.{HasLine, HasBadByte, AreMisspelled, AreFaulty}
+use Rattle.ca_macro.specs.Tidy.{Fits, numbers_text}
 use Rattle.ca_macro.specs.Examples.{text_of}
 use Rattle.ca_macro.specs.inner.Leaves.{is_leaf, is_live}
 use Rattle.ca_macro.proofs.Leaves.{leaf_found, no_leaf}
@@ -37,8 +39,8 @@ numbers_found line h = words_found (words_of line) h
 
 -- ---- faulty lines
 
--- the line behind the first
-pub faulty : (bytes line : List ℕ) (later : List (List ℕ)) (P : List Node → List (List ℕ) → Type 0) → begins_macro bytes ≡ true → lines_of bytes ≡ codes "[M2]" ∷ line ∷ later
+-- the line after the first
+abbrev pub faulty : (bytes line : List ℕ) (later : List (List ℕ)) (P : List Node → List (List ℕ) → Type 0) → begins_macro bytes ≡ true → lines_of bytes ≡ codes "[M2]" ∷ line ∷ later
     → P [] (words_of line) → HasLine bytes P
 faulty bytes line later P begins lines holds = record {
   first = codes "[M2]";
@@ -56,10 +58,10 @@ faulty bytes line later P begins lines holds = record {
 abbrev pub one_cell : Node
 one_cell = Leaf ((true ∷ []) ∷ [])
 
--- the line behind the first and a leaf of one cell
-pub faulty_behind_leaf : (bytes line : List ℕ) (P : List Node → List (List ℕ) → Type 0) → begins_macro bytes ≡ true → lines_of bytes ≡ codes "[M2]" ∷ codes "*$" ∷ line ∷ []
+-- the line after the first and a leaf of one cell
+abbrev pub faulty_after_leaf : (bytes line : List ℕ) (P : List Node → List (List ℕ) → Type 0) → begins_macro bytes ≡ true → lines_of bytes ≡ codes "[M2]" ∷ codes "*$" ∷ line ∷ []
     → P (one_cell ∷ []) (words_of line) → HasLine bytes P
-faulty_behind_leaf bytes line P begins lines holds = record {
+faulty_after_leaf bytes line P begins lines holds = record {
   first = codes "[M2]";
   good = codes "*$" ∷ [];
   line = line;
@@ -70,6 +72,15 @@ faulty_behind_leaf bytes line P begins lines holds = record {
   say = ((codes "*$", refl, leaf_found (codes "*$") refl), tt, tt);
   holds = holds;
 }
+
+-- a line that names itself as a part of its square
+pub own_number : AreFaulty Forward [] (words_of (codes "4 0 0 0 1"))
+own_number =
+    (4, 0, 0, 0, 1, numbers_found (codes "4 0 0 0 1") refl, (lit≤ tt, lit≤ tt), record { good = 0 ∷ 0 ∷ 0 ∷ []; number = 1; more = []; spelled = refl; named = (tt, (tt, (tt, tt))); holds = lit< tt })
+
+-- four numbers
+pub four_numbers : AreMisspelled (words_of (codes "4 0 0 0"))
+four_numbers = inr (inr (inl (refl, λ level nw ne sw se h. h.1.1.1.1)))
 
 -- a byte that ends a leaf
 pub bad_byte : (good : List ℕ) (byte : ℕ) (more : List ℕ) (test : ℕ → Bool) → good ≢ [] → is_leaf good ≡ true → is_leaf (good ++ byte ∷ []) ≡ false → test byte ≡ true
@@ -89,13 +100,13 @@ bad_byte good byte more test some leaf other passes = record {
 -- ---- squares
 
 -- the live cells of a list fit where all its places do
-pub fits_found : (level : ℕ) (p : Picture) → AllByRecursion (λ e. IsInSquare level e.0.x e.0.y) p → Fits level (cell p)
+pub fits_found : (level : ℕ) (p : Picture) → AllByRecursion (λ e. IsWithin level e.0.x × IsWithin level e.0.y) p → Fits level (cell p)
 fits_found level [] h x y live = absurd (live refl)
 fits_found level (e ∷ es) h x y live =
     elim (cases_Bool (int_eq y e.0.y && int_eq x e.0.x)) [
       | inl t ↦
           let place = place-from_true x y e.0 t in
-          subst (λ v. IsInSquare level v y) (sym place.1) (subst (λ v. IsInSquare level e.0.x v) (sym place.0) h.0)
+          (subst (IsWithin level) (sym place.1) h.0.0, subst (IsWithin level) (sym place.0) h.0.1)
       | inr f ↦ fits_found level es h.1 x y (λ z. live (ap (λ b. if b then e.1 else cell es x y) f ∙ z))
     ]
 
@@ -131,7 +142,7 @@ texts_are : (nodes : List (List ℕ)) → AllByRecursion (AllByRecursion (λ n. 
 texts_are [] h = refl
 texts_are (n ∷ ns) h = ap₂ (λ x xs. x ∷ xs) (ap (join_with_byte 32) (digits_are n h.0)) (texts_are ns h.1)
 
--- a text of lines, and lines of such numbers behind them
+-- a text of lines, and lines of such numbers after them
 pub spelled_by : (lines nodes : List (List ℕ)) → AllByRecursion (AllByRecursion (λ n. n < 10)) nodes
     → text_of (lines ++ map digits_text nodes) ≡ text_of (lines ++ map numbers_text nodes)
 spelled_by lines nodes h = ap (λ texts. text_of (lines ++ texts)) (texts_are nodes h)

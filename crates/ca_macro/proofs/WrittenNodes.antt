@@ -1,6 +1,6 @@
 -- The nodes that are written for squares: leaves, and squares of numbered parts.
-use Rattle.std.proofs.Common.{◌≡◌, ◌≢◌, ℕ, zero, suc, ◌+◌, ◌-◌, ◌/◌, ◌%◌, ◌<◌, ◌≤◌, ◌^◌, ◌==◌, inl, inr, Bool, true, false, not, ℤ, pos, negsuc, List, [], ◌∷◌, ◌++◌, map, length, Result, Ok, Err, Option, Some, None, IfOk, OnOk, slice_index, refl, sym, ap, ap₂, subst, ◌∙◌, arith, if◌then◌else◌, length-append}
-use Rattle.std.specs.List.{AllByRecursion, last_or, slice_get}
+use Rattle.std.proofs.Common.{◌≡◌, ◌≢◌, ℕ, zero, suc, ◌+◌, ◌-◌, ◌/◌, ◌%◌, ◌<◌, ◌≤◌, ◌^◌, ◌==◌, inl, inr, Bool, true, false, pos, List, [], ◌∷◌, ◌++◌, map, length, Result, Ok, Err, Option, Some, IfOk, OnOk, slice_index, refl, sym, ap, subst, ◌∙◌, arith, length-append}
+use Rattle.std.specs.List.{AllByRecursion, last_or}
 use Rattle.std.proofs.Math.Nat.{two-pow-succ}
 use Rattle.std.proofs.lemmas.Bool.{cases_Bool, eqb-true}
 use Rattle.std.proofs.lemmas.Bool.Decides.{nat_tests}
@@ -9,15 +9,14 @@ use Rattle.ca_plane.specs.Plane.{Picture}
 use Rattle.ca_quad.specs.declared.node.Node.{Node as Kept}
 use Rattle.ca_quad.specs.Squares as squares
 use Rattle.ca_quad.specs.Squares.{dot, together, IsOf}
-use Rattle.ca_quad.specs.Trees.{IsIn, IsEmpty, AreCorners, AreQuarters, row_cells}
+use Rattle.ca_quad.specs.Trees.{IsIn, IsEmpty, AreQuarters, row_cells}
 use Rattle.ca_quad.proofs.Cells.{Ends, cell_ends, at_nw, at_ne, at_sw, at_se}
 use Rattle.ca_quad.proofs.Growth.{below_or_not}
-use Rattle.ca_macro.specs.Nodes.{Node, Leaf, Cells, Parts, Names, level_of}
-use Rattle.ca_macro.specs.Shown.{numbered, joined, square_of, squares_behind, squares_of, state_of}
-use Rattle.ca_macro.specs.Tidy.{HasForm}
+use Rattle.ca_macro.specs.Nodes.{Node, Leaf, Cells, Parts, Names}
+use Rattle.ca_macro.specs.Shown.{numbered, joined, square_of, squares_after, squares_of, state_of}
 use Rattle.ca_macro.specs.inner.Written.{row_of, cells_of, IsPictureOf, IsNumberOf, IsNodeOf, Extends, GoesOn, leaf_level}
 use Rattle.ca_macro.proofs.Lines.{unequal}
-use Rattle.ca_macro.proofs.Behind.{all_append}
+use Rattle.ca_macro.proofs.Following.{all_append}
 use Rattle.ca_macro.proofs.Pictures.{NoneDead, rows_live, shifted_live, leaf_shows, four_show, joined_show, picture_as}
 use Rattle.ca_macro.proofs.Gathering.{corner_zero, number_goes_on}
 
@@ -39,7 +38,7 @@ square_live earlier a (Parts level nw ne sw se) =
     (all_append _ _ _ (shifted_live (numbered earlier ne) half (pos 0) (live ne))
     (all_append _ _ _ (shifted_live (numbered earlier sw) (pos 0) half (live sw)) (shifted_live (numbered earlier se) half half (live se))))
 
-squares_live : (earlier : List Picture) (ns : List Node) → AllByRecursion NoneDead earlier → AllByRecursion NoneDead (squares_behind earlier ns)
+squares_live : (earlier : List Picture) (ns : List Node) → AllByRecursion NoneDead earlier → AllByRecursion NoneDead (squares_after earlier ns)
 squares_live earlier [] a = a
 squares_live earlier (n ∷ ns) a = squares_live (earlier ++ square_of earlier n ∷ []) ns (all_append NoneDead earlier (square_of earlier n ∷ []) a (square_live earlier a n, tt))
 
@@ -67,13 +66,13 @@ last_live (suc width) bits d h some =
           let n : bits ≢ 0 = λ k. grind (arith, nat_tests) in
           let one : bits % 2 ≡ 1 = omega arith in
           let t : (bits % 2 == 1) ≡ true = rw one refl in
-          rw (some, z, t) (none_behind width)
+          rw (some, z, t) (none_after width)
       | inr e ↦ rw some (last_live width (bits / 2) (Some (bits % 2 == 1)) half e)
     ]
   where
-    none_behind : (width : ℕ) → last_or (Some true) (row_of width 0) ≡ Some true
-    none_behind zero = refl
-    none_behind (suc width) = refl
+    none_after : (width : ℕ) → last_or (Some true) (row_of width 0) ≡ Some true
+    none_after zero = refl
+    none_after (suc width) = refl
 
 ends_live : (bits : ℕ) → bits < 256 → last_or (Some true) (row_of 8 bits) ≡ Some true
 ends_live bits h =
@@ -213,6 +212,67 @@ module _ (kept : List Kept) (id k level : ℕ) (qs : List ℕ) (next : suc k ≡
               (picture_as (square_of (squares_of ns) (Parts level a b c d)) (together (2 ^ k) (part 0) (part 1) (part 2) (part 3)) (cells_of kept id) (λ x y. sym (whole x y))
               (subst (λ l. IsPictureOf (joined (2 ^ l) (numbered (squares_of ns) a) (numbered (squares_of ns) b) (numbered (squares_of ns) c) (numbered (squares_of ns) d)) (together (2 ^ k) (part 0) (part 1) (part 2) (part 3))) e all));
         }
+
+-- a square that is written by its four parts
+pub record HasFitParts (kept : List Kept) (states id level : ℕ) (qs : List ℕ) : Type 0 where
+  pub next : suc (level - 1) ≡ level
+  pub is_level : squares.level_of kept id ≡ level
+  pub from : leaf_level states ≤ level - 1
+  pub most : level ≤ 120
+  pub low : (x y : ℕ) → cells_of kept id x y < states
+  pub quarters : AreQuarters kept id (level - 1) qs
+
+-- it is no leaf
+pub has_fit_parts : (kept : List Kept) (states id level leaf : ℕ) (qs : List ℕ) → IsIn kept id → leaf_level states ≤ squares.level_of kept id → squares.level_of kept id ≤ 120
+    → ((x y : ℕ) → cells_of kept id x y < states) → level ≡ squares.level_of kept id → 1 ≤ level → leaf ≡ leaf_level states → level ≢ leaf
+    → ((k : ℕ) → IsOf kept id (suc k) → AreQuarters kept id k qs) → HasFitParts kept states id level qs
+has_fit_parts kept states id level leaf qs known least most low is_level some is_leaf other quarters =
+    let next : suc (level - 1) ≡ level = omega arith in record {
+      next = next;
+      is_level = sym is_level;
+      from = part_level states (level - 1) level next (omega arith) (λ e. other (e ∙ sym is_leaf));
+      most = omega arith;
+      low = low;
+      quarters = quarters (level - 1) (record { before = known; is_level = sym is_level ∙ sym next });
+    }
+
+-- one of its parts
+pub record IsFitPart (kept : List Kept) (states id part : ℕ) : Type 0 where
+  pub before : IsIn kept part
+  pub lower : suc (squares.level_of kept part) ≡ squares.level_of kept id
+  pub least : leaf_level states ≤ squares.level_of kept part
+  pub most : squares.level_of kept part ≤ 120
+  pub low : (x y : ℕ) → cells_of kept part x y < states
+
+module _ (kept : List Kept) (states id level : ℕ) (qs : List ℕ) (has : HasFitParts kept states id level qs) where
+  fit_part : (i p : ℕ) → IsFit kept states (level - 1) (slice_index qs i) → p ≡ slice_index qs i → IsFitPart kept states id p
+  fit_part i p fit e =
+      let is_level = fit.level in
+      let from = has.from in
+      let most = has.most in
+      let next = has.next in
+      let whole = has.is_level in
+      subst (IsFitPart kept states id) (sym e) (record { before = fit.before; lower = omega arith; least = omega arith; most = omega arith; low = fit.low })
+
+  pub part_nw : (p : ℕ) → p ≡ slice_index qs 0 → IsFitPart kept states id p
+  part_nw p = fit_part 0 p (fit_nw kept id (level - 1) level qs has.next has.is_level has.quarters states has.low)
+
+  pub part_ne : (p : ℕ) → p ≡ slice_index qs 1 → IsFitPart kept states id p
+  part_ne p = fit_part 1 p (fit_ne kept id (level - 1) level qs has.next has.is_level has.quarters states has.low)
+
+  pub part_sw : (p : ℕ) → p ≡ slice_index qs 2 → IsFitPart kept states id p
+  part_sw p = fit_part 2 p (fit_sw kept id (level - 1) level qs has.next has.is_level has.quarters states has.low)
+
+  pub part_se : (p : ℕ) → p ≡ slice_index qs 3 → IsFitPart kept states id p
+  part_se p = fit_part 3 p (fit_se kept id (level - 1) level qs has.next has.is_level has.quarters states has.low)
+
+  -- the node of its parts' numbers
+  pub numbered_node : (ns : List Node) (p0 p1 p2 p3 a b c d : ℕ) → p0 ≡ slice_index qs 0 → p1 ≡ slice_index qs 1 → p2 ≡ slice_index qs 2 → p3 ≡ slice_index qs 3
+      → IsNumberOf kept ns p0 a → IsNumberOf kept ns p1 b → IsNumberOf kept ns p2 c → IsNumberOf kept ns p3 d → IsNodeOf kept states ns id (Parts level a b c d)
+  numbered_node ns p0 p1 p2 p3 a b c d e0 e1 e2 e3 na nb nc nd =
+      parts_node kept id (level - 1) level qs has.next has.is_level has.quarters states ns a b c d
+      (subst (λ p. IsNumberOf kept ns p a) e0 na) (subst (λ p. IsNumberOf kept ns p b) e1 nb) (subst (λ p. IsNumberOf kept ns p c) e2 nc) (subst (λ p. IsNumberOf kept ns p d) e3 nd)
+      (large_level states (level - 1) level has.next has.from) has.most (level_form states (level - 1) level has.next has.from)
 
 pub number_extends : (kept : List Kept) (old new : List Node) (id n : ℕ) → Extends old new → IsNumberOf kept old id n → IsNumberOf kept new id n
 number_extends kept old new id n x h = subst (λ l. IsNumberOf kept l id n) (sym x.1) (number_goes_on kept old x.0 id n h)

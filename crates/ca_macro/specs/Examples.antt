@@ -9,9 +9,9 @@ use Rattle.ca_macro.specs.File.{File}
 abbrev pub text_of : List (List ℕ) → List ℕ
 text_of lines = flat_map (λ line. line ++ 10 ∷ []) lines
 
--- a line behind `[M2]`
-abbrev pub behind_first : List ℕ → List ℕ
-behind_first line = text_of (codes "[M2]" ∷ line ∷ [])
+-- `[M2]`, and a line after it
+abbrev pub after_first : List ℕ → List ℕ
+after_first line = text_of (codes "[M2]" ∷ line ∷ [])
 
 -- a glider
 abbrev pub glider_text : List ℕ

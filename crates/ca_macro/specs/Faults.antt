@@ -1,16 +1,16 @@
 -- What is wrong with a macrocell text: its first faulty line decides (our own order in a line).
-use Rattle.std.specs.Prelude.{◌≡◌, ◌≢◌, ℕ, ◌-◌, ◌<◌, ◌≤◌, List, [], ◌∷◌, ◌++◌, length, Bool, true, false, not, ◌||◌, ◌==◌, codes, ◌⊎◌}
+use Rattle.std.specs.Prelude.{◌≡◌, ◌≢◌, ℕ, ◌+◌, ◌-◌, ◌<◌, ◌≤◌, List, [], ◌∷◌, ◌++◌, length, Bool, true, false, not, ◌||◌, ◌==◌, codes, ◌⊎◌}
 use Rattle.std.specs.Bool.{nat_eq}
 use Rattle.std.specs.List.{AllByRecursion, starts_with, flat_map}
 use Rattle.ca_plane.specs.Bytes.{letter, is_end_or, AreDigits, value, lines_of, words_of}
 use Rattle.ca_macro.specs.declared.fault.MacroFault.{MacroFault}
 use Rattle.ca_macro.specs.declared.fault.MacroFault.TheVariants.{NotMacro, Timeline, Syntax, Forward, Level, LeafSize, Range, GenTooLarge, Memory}
-use Rattle.ca_macro.specs.Nodes.{Node, IsLeaf, Names, IsLevel, StandsBehind}
+use Rattle.ca_macro.specs.Nodes.{Node, IsLeaf, Names, IsLevel, MayFollow}
 use Rattle.ca_macro.specs.File.{Said, Adds, AreNumbers, WordsSay, added, LinesSay, File, begins_macro, IsFile}
 use Rattle.ca_plane.specs.Limits.{generation_limit}
 use Rattle.ca_macro.specs.Limits.{IsOutOfRange}
 
--- behind `[M2]` and good lines stands a line of whose words this holds, after the nodes of the earlier lines
+-- a line after `[M2]` and good lines: this holds of the nodes of the good lines and the words of this line
 pub record HasLine (bytes : List ℕ) (P : List Node → List (List ℕ) → Type 0) : Type 0 where
   pub first : List ℕ
   pub good : List (List ℕ)
@@ -26,12 +26,12 @@ pub record HasLine (bytes : List ℕ) (P : List Node → List (List ℕ) → Typ
 abbrev pub AreTimeline : List (List ℕ) → Type 0
 AreTimeline words = (w : List ℕ) × (ws : List (List ℕ)) × (words ≡ w ∷ ws) × (starts_with nat_eq w (codes "#FRAME") ≡ true)
 
--- behind `#G` stand words, and they aren't one number
+-- words follow `#G`, and they aren't one number
 abbrev pub HaveBadGeneration : List (List ℕ) → Type 0
-HaveBadGeneration words = (behind : List (List ℕ)) × (words ≡ codes "#G" ∷ behind) × (behind ≢ [])
-    × ((digits : List ℕ) → behind ≡ digits ∷ [] → AreDigits digits → ⊥)
+HaveBadGeneration words = (more : List (List ℕ)) × (words ≡ codes "#G" ∷ more) × (more ≢ [])
+    × ((digits : List ℕ) → more ≡ digits ∷ [] → AreDigits digits → ⊥)
 
--- behind `#G` stands one number, which is too large
+-- one number follows `#G`, and it is too large
 abbrev pub HaveLargeGeneration : List (List ℕ) → Type 0
 HaveLargeGeneration words = (digits : List ℕ) × (words ≡ codes "#G" ∷ digits ∷ []) × AreDigits digits × (generation_limit ≤ value digits)
 
@@ -51,11 +51,11 @@ pub record HasBadByte (bytes : List ℕ) (test : ℕ → Bool) : Type 0 where
   pub ends_leaf : (longer : List (List Bool)) → IsLeaf (good ++ byte ∷ []) longer → ⊥
   pub passes : test byte ≡ true
 
--- a ninth cell of a row, or a cell or row behind eight rows
+-- a row has a ninth cell, or a cell or a row follows the eighth row
 abbrev pub HaveLargeLeaf : List (List ℕ) → Type 0
 HaveLargeLeaf words = (w : List ℕ) × (ws : List (List ℕ)) × (words ≡ w ∷ ws) × HasBadByte w is_leaf_byte
 
--- another byte among those of a leaf, or words behind it
+-- there is another byte among those of a leaf, or words follow the leaf
 abbrev pub HaveBadLeaf : List (List ℕ) → Type 0
 HaveBadLeaf words = (w : List ℕ) × (ws : List (List ℕ)) × (words ≡ w ∷ ws)
     × (HasBadByte w (λ b. not (is_leaf_byte b)) ⊎ (((rows : List (List Bool)) × IsLeaf w rows) × (ws ≢ [])))
@@ -78,7 +78,7 @@ HaveLargeState words = (nw : ℕ) × (ne : ℕ) × (sw : ℕ) × (se : ℕ) × A
 abbrev pub AreMisspelled : List (List ℕ) → Type 0
 AreMisspelled words = HaveBadGeneration words ⊎ (HaveBadLeaf words ⊎ (LackNumbers words ⊎ HaveLargeState words))
 
--- of these numbers of nodes, the first that may not name a part of this level is one of which this holds
+-- this holds of the first of these numbers that may not name a part of this level
 pub record HasBadPart (earlier : List Node) (level : ℕ) (numbers : List ℕ) (P : ℕ → Type 0) : Type 0 where
   pub good : List ℕ
   pub number : ℕ
@@ -87,7 +87,7 @@ pub record HasBadPart (earlier : List Node) (level : ℕ) (numbers : List ℕ) (
   pub named : AllByRecursion (Names earlier level) good
   pub holds : P number
 
--- a square of a level from 2 to 120, whose first bad part is one of which this holds
+-- a square of a level from 2 to 120: this holds of its first bad part
 abbrev pub HavePart : List Node → List (List ℕ) → (ℕ → ℕ → Type 0) → Type 0
 HavePart earlier words P = (level : ℕ) × (nw : ℕ) × (ne : ℕ) × (sw : ℕ) × (se : ℕ) × AreNumbers words level nw ne sw se
     × IsLevel level × HasBadPart earlier (level - 1) (nw ∷ ne ∷ sw ∷ se ∷ []) (P (level - 1))
@@ -107,9 +107,9 @@ HaveBadLevel earlier words =
 
 -- the words add a node
 abbrev pub AddNode : List Node → List (List ℕ) → Type 0
-AddNode earlier words = (node : Node) × WordsSay words (Adds node) × StandsBehind earlier node
+AddNode earlier words = (node : Node) × WordsSay words (Adds node) × MayFollow earlier node
 
--- what is wrong with the words of a line behind earlier nodes
+-- what is wrong with the words of a line that follows earlier nodes
 abbrev pub AreFaulty : MacroFault → List Node → List (List ℕ) → Type 0
 AreFaulty NotMacro earlier words = ⊥
 AreFaulty Timeline earlier words = AreTimeline words
@@ -133,8 +133,17 @@ IsFirstFault bytes Range = ⊥
 IsFirstFault bytes GenTooLarge = HasLine bytes (AreFaulty GenTooLarge)
 IsFirstFault bytes Memory = ⊥
 
--- the fault of a text: the first in its spelling, else a live cell that is out of range. Memory may be wanting at a good line that
--- adds a node behind good lines, and at the end of a good text
+-- the first fault in the spelling of a text, and the number of its line. The line that begins with `[M2]` is line 1
+abbrev pub IsFirstFaultOn : List ℕ → MacroFault → (line : ℕ) → Type 0
+IsFirstFaultOn bytes NotMacro n = IsFirstFault bytes NotMacro × (n ≡ 1)
+IsFirstFaultOn bytes fault n = (found : HasLine bytes (AreFaulty fault)) × (n ≡ length found.good + 2)
+
+-- the line of the first fault in the spelling of a text has this number
+abbrev pub IsFaultyLine : List ℕ → ℕ → Type 0
+IsFaultyLine bytes n = (fault : MacroFault) × IsFirstFaultOn bytes fault n
+
+-- the fault of a text: the first in its spelling, else a live cell that is out of range. Memory can run out at a good line that
+-- adds a node after good lines, and at the end of a good text
 abbrev pub IsFaultOf : List ℕ → MacroFault → Type 0
 IsFaultOf bytes NotMacro = IsFirstFault bytes NotMacro
 IsFaultOf bytes Timeline = IsFirstFault bytes Timeline

@@ -5,7 +5,7 @@ use Rattle.std.specs.List.{AllZip, starts_with, flat_map}
 use Rattle.std.specs.Str.{bytes_eq}
 use Rattle.ca_plane.specs.Limits.{generation_limit, default_rule}
 use Rattle.ca_plane.specs.Bytes.{AreDigits, value, lines_of, words_of}
-use Rattle.ca_macro.specs.Nodes.{Node, Leaf, Cells, Parts, IsLeaf, StandsBehind}
+use Rattle.ca_macro.specs.Nodes.{Node, Leaf, Cells, Parts, IsLeaf, MayFollow}
 
 -- what a line says: nothing, the rule text, the generation, or one more node
 pub data Said : Type 0 where
@@ -32,7 +32,7 @@ abbrev pub AreNumbers : List (List ℕ) → (level nw ne sw se : ℕ) → Type 0
 AreNumbers words level nw ne sw se = AllZip IsNumber words (level ∷ nw ∷ ne ∷ sw ∷ se ∷ [])
 
 -- what a line says by its words. `#R` and a word is the rule text; what follows it is ignored. `#G` and a number is the generation.
--- A leaf is one word. The numbers behind a level of 1 are states, and behind another the numbers of nodes.
+-- A leaf is one word. The numbers that follow a level of 1 are states, and those that follow another level are numbers of nodes.
 abbrev pub WordsSay : List (List ℕ) → Said → Type 0
 WordsSay words Nothing = IsTrue (is_comment words)
 WordsSay words (Rule text) = (ignored : List (List ℕ)) × (words ≡ codes "#R" ∷ text ∷ ignored)
@@ -48,14 +48,14 @@ added (Rule text) = []
 added (Generation count) = []
 added (Adds node) = node ∷ []
 
--- a node that is added may stand behind the earlier ones
+-- a node that is added may follow the earlier ones
 abbrev pub IsAllowed : List Node → Said → Type 0
 IsAllowed earlier Nothing = Unit {0}
 IsAllowed earlier (Rule text) = Unit {0}
 IsAllowed earlier (Generation count) = Unit {0}
-IsAllowed earlier (Adds node) = StandsBehind earlier node
+IsAllowed earlier (Adds node) = MayFollow earlier node
 
--- lines that stand behind earlier nodes, and what each of them says
+-- lines that follow earlier nodes, and what each of them says
 abbrev pub LinesSay : List Node → List (List ℕ) → List Said → Type 0
 LinesSay earlier [] [] = Unit {0}
 LinesSay earlier [] (s ∷ said) = ⊥

@@ -8,6 +8,6 @@ use Rattle.ca_macro.specs.Shown.{picture_of}
 abbrev pub IsWithinRange : File → Type 0
 IsWithinRange file = AllByRecursion (λ e. IsInRange e.0) (picture_of file.nodes)
 
--- a live cell isn't
+-- some live cell isn't in range
 abbrev pub IsOutOfRange : File → Type 0
 IsOutOfRange file = IsWithinRange file → ⊥

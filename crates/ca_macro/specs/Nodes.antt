@@ -21,7 +21,7 @@ level_of (Parts level nw ne sw se) = level
 abbrev pub mark_of : Bool → ℕ
 mark_of live = if live then letter "*" else letter "."
 
--- the rows that bytes give: `$` ends a row; behind the last row it may be left out (our own)
+-- the rows that bytes give: `$` ends a row; after the last row it may be left out (our own)
 abbrev pub rows_of : List ℕ → List (List ℕ)
 rows_of [] = []
 rows_of (b ∷ bs) = if b == letter "$" then [] ∷ rows_of bs else with_front b (rows_of bs)
@@ -32,7 +32,7 @@ pub record IsLeaf (bytes : List ℕ) (rows : List (List Bool)) : Type 0 where
   pub height : length rows ≤ 8
   pub width : AllByRecursion (λ row. length row ≤ 8) rows
 
--- a number may name a part of this level behind earlier nodes: 0 is the empty square, and nodes are numbered from 1
+-- a number may name a part of this level after earlier nodes: 0 is the empty square, and nodes are numbered from 1
 abbrev pub Names : List Node → ℕ → ℕ → Type 0
 Names earlier level zero = Unit {0}
 Names earlier level (suc i) = option_map level_of (slice_get earlier i) ≡ Some level
@@ -41,8 +41,8 @@ Names earlier level (suc i) = option_map level_of (slice_get earlier i) ≡ Some
 abbrev pub IsLevel : ℕ → Type 0
 IsLevel level = (2 ≤ level) × (level ≤ 120)
 
--- a node may stand behind earlier ones: states are at most 255, and parts are earlier nodes of one level less
-abbrev pub StandsBehind : List Node → Node → Type 0
-StandsBehind earlier (Leaf rows) = Unit {0}
-StandsBehind earlier (Cells nw ne sw se) = AllByRecursion (λ state. state ≤ 255) (nw ∷ ne ∷ sw ∷ se ∷ [])
-StandsBehind earlier (Parts level nw ne sw se) = IsLevel level × AllByRecursion (Names earlier (level - 1)) (nw ∷ ne ∷ sw ∷ se ∷ [])
+-- a node may follow earlier ones: states are at most 255, and parts are earlier nodes of one level less
+abbrev pub MayFollow : List Node → Node → Type 0
+MayFollow earlier (Leaf rows) = Unit {0}
+MayFollow earlier (Cells nw ne sw se) = AllByRecursion (λ state. state ≤ 255) (nw ∷ ne ∷ sw ∷ se ∷ [])
+MayFollow earlier (Parts level nw ne sw se) = IsLevel level × AllByRecursion (Names earlier (level - 1)) (nw ∷ ne ∷ sw ∷ se ∷ [])

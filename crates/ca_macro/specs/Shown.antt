@@ -1,4 +1,4 @@
--- The picture of a macrocell's nodes (Golly Help, File Formats: Macrocell format; where its centre stands is our own).
+-- The picture of a macrocell's nodes (Golly Help, File Formats: Macrocell format; the place of its centre is our own).
 use Rattle.std.specs.Prelude.{ℕ, zero, suc, ◌-◌, ◌^◌, ℤ, pos, neg_ℤ, ◌+ℤ◌, List, [], ◌∷◌, ◌++◌, map, Bool, ◌==◌, Option, Some, None, get_or, length, if◌then◌else◌}
 use Rattle.std.specs.List.{last_or}
 use Rattle.ca_plane.specs.Plane.{Picture, shifted}
@@ -30,21 +30,21 @@ abbrev pub numbered : {A : Type 0} → List (List A) → ℕ → List A
 numbered lists zero = []
 numbered lists (suc i) = get_or lists i []
 
--- the picture of a node behind nodes of these pictures, its upper left cell at (0, 0)
+-- the picture of a node that follows nodes of these pictures, its upper left cell at (0, 0)
 abbrev pub square_of : List Picture → Node → Picture
 square_of earlier (Leaf rows) = rows_from (pos 0) (map (map state_of) rows)
 square_of earlier (Cells nw ne sw se) = rows_from (pos 0) ((nw ∷ ne ∷ []) ∷ (sw ∷ se ∷ []) ∷ [])
 square_of earlier (Parts level nw ne sw se) =
     joined (2 ^ (level - 1)) (numbered earlier nw) (numbered earlier ne) (numbered earlier sw) (numbered earlier se)
 
--- the pictures of earlier nodes and of those behind them
-abbrev pub squares_behind : List Picture → List Node → List Picture
-squares_behind earlier [] = earlier
-squares_behind earlier (n ∷ ns) = squares_behind (earlier ++ square_of earlier n ∷ []) ns
+-- the pictures of earlier nodes and of those that follow them
+abbrev pub squares_after : List Picture → List Node → List Picture
+squares_after earlier [] = earlier
+squares_after earlier (n ∷ ns) = squares_after (earlier ++ square_of earlier n ∷ []) ns
 
 -- the pictures of all nodes
 abbrev pub squares_of : List Node → List Picture
-squares_of nodes = squares_behind [] nodes
+squares_of nodes = squares_after [] nodes
 
 -- the picture of a square of this level, moved so that the corner between (-1, -1) and (0, 0) is its centre
 abbrev pub centred : ℕ → Picture → Picture

@@ -1,23 +1,19 @@
 -- Tidy texts: the one form in which a plane is written (our own).
-use Rattle.std.specs.Prelude.{◌≡◌, ◌≢◌, ℕ, ◌+◌, ◌-◌, ◌≤◌, ◌^◌, ℤ, pos, neg_ℤ, ◌≤ℤ◌, ◌<ℤ◌, List, [], ◌∷◌, ◌++◌, map, length, filter, Bool, true, false, not, ◌==◌, Some, None, codes, decimal, ◌⊎◌, if◌then◌else◌}
+use Rattle.std.specs.Prelude.{◌≡◌, ◌≢◌, ℕ, ◌+◌, ◌≤◌, ℤ, List, [], ◌∷◌, ◌++◌, map, length, filter, Bool, true, false, not, ◌==◌, Some, None, codes, decimal, ◌⊎◌, if◌then◌else◌}
 use Rattle.std.specs.List.{flat_map, list_all, AllByRecursion, AllPairs, last_or, range_with_len, join_with_byte}
 use Rattle.ca_plane.specs.Bytes.{letter}
 use Rattle.ca_plane.specs.Plane.{cell}
-use Rattle.ca_macro.specs.Nodes.{Node, Leaf, Cells, Parts, level_of, mark_of, StandsBehind}
+use Rattle.ca_quad.specs.Trimmed.{HoldsAll}
+use Rattle.ca_macro.specs.Nodes.{Node, Leaf, Cells, Parts, level_of, mark_of, MayFollow}
 use Rattle.ca_macro.specs.Shown.{numbered, picture_of}
 
 -- the least level of a root
 abbrev pub lowest_level : ℕ → ℕ
 lowest_level states = if states == 2 then 4 else 1
 
--- a place lies in the square of this level round the centre
-abbrev pub IsInSquare : ℕ → (x y : ℤ) → Type 0
-IsInSquare level x y =
-    (neg_ℤ (pos (2 ^ (level - 1))) ≤ℤ x) × (x <ℤ pos (2 ^ (level - 1))) × (neg_ℤ (pos (2 ^ (level - 1))) ≤ℤ y) × (y <ℤ pos (2 ^ (level - 1)))
-
--- each live cell does
+-- each live cell lies in the square of this level round the centre
 abbrev pub Fits : ℕ → (ℤ → ℤ → ℕ) → Type 0
-Fits level cells = (x y : ℤ) → cells x y ≢ 0 → IsInSquare level x y
+Fits level cells = HoldsAll level cells
 
 -- of the levels that a root may have, the least that holds the live cells
 pub record IsLeastLevel (states : ℕ) (cells : ℤ → ℤ → ℕ) (level : ℕ) : Type 0 where
@@ -25,10 +21,10 @@ pub record IsLeastLevel (states : ℕ) (cells : ℤ → ℤ → ℕ) (level : �
   pub fits : Fits level cells
   pub least : (other : ℕ) → lowest_level states ≤ other → Fits other cells → level ≤ other
 
--- each node may stand behind the earlier ones
+-- each node may follow the earlier ones
 abbrev pub AreInPlace : List Node → List Node → Type 0
 AreInPlace earlier [] = Unit {0}
-AreInPlace earlier (n ∷ ns) = StandsBehind earlier n × AreInPlace (earlier ++ n ∷ []) ns
+AreInPlace earlier (n ∷ ns) = MayFollow earlier n × AreInPlace (earlier ++ n ∷ []) ns
 
 -- the form of a node: where there are two states, squares of level 3 are leaves, of eight rows of at most eight cells without dead
 -- cells at their ends, and no lower ones are written; else squares of level 1 are four states
@@ -50,17 +46,17 @@ parts_of (Leaf rows) = []
 parts_of (Cells nw ne sw se) = []
 parts_of (Parts level nw ne sw se) = nw ∷ ne ∷ sw ∷ se ∷ []
 
--- the walks over earlier nodes and over those behind them: a walk over a node comes to all that the walks over its parts come to, one
+-- the walks over earlier nodes and over those that follow them: a walk over a node comes to all that the walks over its parts come to, one
 -- after another, and then to the node itself
-abbrev pub walks_behind : List (List ℕ) → List Node → List (List ℕ)
-walks_behind earlier [] = earlier
-walks_behind earlier (n ∷ ns) = walks_behind (earlier ++ (flat_map (numbered earlier) (parts_of n) ++ (length earlier + 1) ∷ []) ∷ []) ns
+abbrev pub walks_after : List (List ℕ) → List Node → List (List ℕ)
+walks_after earlier [] = earlier
+walks_after earlier (n ∷ ns) = walks_after (earlier ++ (flat_map (numbered earlier) (parts_of n) ++ (length earlier + 1) ∷ []) ∷ []) ns
 
 -- the walk over the root
 abbrev pub walk_of : List Node → List ℕ
-walk_of nodes = numbered (walks_behind [] nodes) (length nodes)
+walk_of nodes = numbered (walks_after [] nodes) (length nodes)
 
--- each once, where it stands first
+-- each number once, where it comes first
 abbrev pub each_once : List ℕ → List ℕ
 each_once [] = []
 each_once (n ∷ ns) = n ∷ filter (λ m. not (m == n)) (each_once ns)
@@ -93,9 +89,9 @@ pub record IsTidy (text : List ℕ) (cells : ℤ → ℤ → ℕ) (rule_text : L
   pub level : IsLeastLevel states cells (level_of root)
   pub in_place : AreInPlace [] nodes
   pub forms : AllByRecursion (HasForm states) nodes
-  -- no node stands twice
+  -- no node is written twice
   pub distinct : AllPairs (λ m n. m ≢ n) nodes
-  -- only an empty root is an empty node, and then it stands alone
+  -- only the root may be an empty node, and then it is the only node
   pub empties : AllByRecursion (λ n. is_empty n ≡ false) nodes ⊎ (nodes ≡ root ∷ [])
   -- the walk over the root comes to the nodes first in the order of their numbers
   pub order : each_once (walk_of nodes) ≡ range_with_len 1 (length nodes)

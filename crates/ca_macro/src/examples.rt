@@ -6,9 +6,9 @@ ghost use Rattle.ca_macro.specs.declared.fault.MacroFault.TheVariants.{NotMacro,
 ghost use Rattle.ca_macro.specs.Nodes.{Parts};
 ghost use Rattle.ca_macro.specs.File.{IsFile};
 ghost use Rattle.ca_macro.specs.Shown.{picture_of};
-ghost use Rattle.ca_macro.specs.Faults.{IsFirstFault};
+ghost use Rattle.ca_macro.specs.Faults.{IsFirstFault, IsFaultyLine};
 ghost use Rattle.ca_macro.specs.Tidy.{IsTidy};
-ghost use Rattle.ca_macro.specs.Examples.{text_of, behind_first, glider_text, glider_file, glider, cut_text, cut_file, cut, cut_numbers_text, golly_text, golly_file, golly_glider, cross_text, cross_file, cross, empty_text, empty_text_of_states, mixed_text, mixed_file, mixed};
+ghost use Rattle.ca_macro.specs.Examples.{text_of, after_first, glider_text, glider_file, glider, cut_text, cut_file, cut, cut_numbers_text, golly_text, golly_file, golly_glider, cross_text, cross_file, cross, empty_text, empty_text_of_states, mixed_text, mixed_file, mixed};
 
 /// What whole texts hold, and the pictures that they show.
 pub fn worked_files()
@@ -18,7 +18,7 @@ pub fn worked_files()
     ensures cross { IsFile cross_text cross_file × (picture_of cross_file.nodes ≡ cross) }
     ensures mixed { IsFile mixed_text mixed_file × (picture_of mixed_file.nodes ≡ mixed) }
     ensures no_node { IsFile (codes "[M2]") (record { nodes = []; rule_text = codes "B3/S23"; generation = 0 }) × (picture_of [] ≡ []) }
-    ensures highest { IsFile (behind_first (codes "120 0 0 0 0")) (record { nodes = Parts 120 0 0 0 0 ∷ []; rule_text = codes "B3/S23"; generation = 0 })
+    ensures highest { IsFile (after_first (codes "120 0 0 0 0")) (record { nodes = Parts 120 0 0 0 0 ∷ []; rule_text = codes "B3/S23"; generation = 0 })
         × (picture_of (Parts 120 0 0 0 0 ∷ []) ≡ []) }
 {}
 
@@ -26,25 +26,36 @@ pub fn worked_files()
 pub fn worked_faults()
     ensures not_macro { IsFirstFault (text_of (codes "x = 0, y = 0" ∷ codes "!" ∷ [])) NotMacro }
     ensures blank_first { IsFirstFault (codes " [M2]") NotMacro }
-    ensures timeline { IsFirstFault (behind_first (codes "#FRAMES 2")) Timeline }
-    ensures own_number { IsFirstFault (behind_first (codes "4 0 0 0 1")) Forward }
-    ensures later_number { IsFirstFault (behind_first (codes "4 0 0 0 2")) Forward }
+    ensures timeline { IsFirstFault (after_first (codes "#FRAMES 2")) Timeline }
+    ensures own_number { IsFirstFault (after_first (codes "4 0 0 0 1")) Forward }
+    ensures later_number { IsFirstFault (after_first (codes "4 0 0 0 2")) Forward }
     ensures gap { IsFirstFault (text_of (codes "[M2]" ∷ codes "*$" ∷ codes "5 0 0 0 1" ∷ [])) Level }
     ensures level_first { IsFirstFault (text_of (codes "[M2]" ∷ codes "*$" ∷ codes "5 0 1 9 0" ∷ [])) Level }
     ensures forward_first { IsFirstFault (text_of (codes "[M2]" ∷ codes "*$" ∷ codes "5 0 9 1 0" ∷ [])) Forward }
-    ensures too_high { IsFirstFault (behind_first (codes "121 0 0 0 0")) Level }
-    ensures no_level { IsFirstFault (behind_first (codes "0 0 0 0 256")) Level }
-    ensures ninth_cell { IsFirstFault (behind_first (codes "*********$")) LeafSize }
-    ensures ninth_cell_first { IsFirstFault (behind_first (codes "*********x")) LeafSize }
-    ensures ninth_row { IsFirstFault (behind_first (codes "$$$$$$$$.")) LeafSize }
-    ensures other_byte_first { IsFirstFault (behind_first (codes "$$$$$$$$x")) Syntax }
-    ensures blank_inside { IsFirstFault (behind_first (codes "*$ *$")) Syntax }
-    ensures state { IsFirstFault (behind_first (codes "1 0 0 0 256")) Syntax }
-    ensures four_numbers { IsFirstFault (behind_first (codes "4 0 0 0")) Syntax }
+    ensures too_high { IsFirstFault (after_first (codes "121 0 0 0 0")) Level }
+    ensures no_level { IsFirstFault (after_first (codes "0 0 0 0 256")) Level }
+    ensures ninth_cell { IsFirstFault (after_first (codes "*********$")) LeafSize }
+    ensures ninth_cell_first { IsFirstFault (after_first (codes "*********x")) LeafSize }
+    ensures ninth_row { IsFirstFault (after_first (codes "$$$$$$$$.")) LeafSize }
+    ensures other_byte_first { IsFirstFault (after_first (codes "$$$$$$$$x")) Syntax }
+    ensures blank_inside { IsFirstFault (after_first (codes "*$ *$")) Syntax }
+    ensures state { IsFirstFault (after_first (codes "1 0 0 0 256")) Syntax }
+    ensures four_numbers { IsFirstFault (after_first (codes "4 0 0 0")) Syntax }
     ensures cut { IsFirstFault cut_numbers_text Syntax }
-    ensures two_generations { IsFirstFault (behind_first (codes "#G 4 5")) Syntax }
-    ensures generation { IsFirstFault (behind_first (codes "#G 9223372036854775808")) GenTooLarge }
+    ensures two_generations { IsFirstFault (after_first (codes "#G 4 5")) Syntax }
+    ensures generation { IsFirstFault (after_first (codes "#G 9223372036854775808")) GenTooLarge }
     ensures first_line { IsFirstFault (text_of (codes "[M2]" ∷ codes "4 0 0 0" ∷ codes "#FRAMES 2" ∷ [])) Syntax }
+{}
+
+/// The faulty lines of texts.
+pub fn worked_faulty_lines()
+    ensures not_macro { IsFaultyLine (text_of (codes "x = 0, y = 0" ∷ codes "!" ∷ [])) 1 }
+    ensures no_text { IsFaultyLine [] 1 }
+    ensures second_line { IsFaultyLine (after_first (codes "4 0 0 0 1")) 2 }
+    ensures blank_lines_count { IsFaultyLine (text_of (codes "[M2]" ∷ [] ∷ [] ∷ codes "4 0 0 0 1" ∷ [])) 4 }
+    ensures comments_count { IsFaultyLine (text_of (codes "[M2]" ∷ codes "# a comment" ∷ codes "#R B3/S23" ∷ codes "4 0 0 0 1" ∷ [])) 4 }
+    ensures first_of_two { IsFaultyLine (text_of (codes "[M2]" ∷ codes "4 0 0 0" ∷ codes "#FRAMES 2" ∷ [])) 2 }
+    ensures cut { IsFaultyLine cut_numbers_text 3 }
 {}
 
 /// The tidy texts of small planes.

@@ -24,7 +24,7 @@ pub enum MacroFault {
     #[error("a bad level")]
     Level,
     /// A leaf has more than eight rows, or more than eight cells in a row.
-    #[error("a leaf beyond 8 by 8 cells")]
+    #[error("a leaf larger than 8 by 8 cells")]
     LeafSize,
     /// A live cell is out of range.
     #[error("out of range")]
@@ -35,6 +35,13 @@ pub enum MacroFault {
     /// A growth was refused.
     #[error("out of memory")]
     Memory,
+}
+
+/// A fault and the number of its line, from 1 on.
+#[derive(Clone, Copy)]
+pub(crate) struct LineFault {
+    pub(crate) fault: MacroFault,
+    pub(crate) line: u64,
 }
 
 impl From<ca_plane::Memory> for MacroFault {

@@ -7,10 +7,12 @@ pub mod laws;
 mod line;
 mod pattern;
 mod read;
+mod spelling;
 pub mod tidy_laws;
 mod write;
 
 pub use fault::MacroFault;
 pub use pattern::MacroPattern;
 pub use read::read_macro;
+pub use spelling::faulty_line;
 pub use write::{write_macro, write_macro_to};

@@ -82,41 +82,41 @@ fn begins_leaf(word: &[u8]) -> bool
     }
 }
 
-/// The leaf that a line is by its first word, behind which no other may stand.
-fn leaf_line<'a>(word: &[u8], behind: &'a [u8]) -> Result<Line<'a>, MacroFault>
+/// The leaf that a line gives by its first word. No other word may follow.
+fn leaf_line<'a>(word: &[u8], rest: &'a [u8]) -> Result<Line<'a>, MacroFault>
     requires some { 0 < length word.now }
     requires begins { is_end_or is_leaf_byte word.now ≡ true }
-    requires line { Every (λ b. not (is_line_end b)) behind.now }
-    ensures read { IfOk result (λ l. Reads (word.now ∷ words_of behind.now) l) }
-    ensures fault { IfErr result (λ f. (earlier : List Node) → AreFaulty f earlier (word.now ∷ words_of behind.now)) }
+    requires line { Every (λ b. not (is_line_end b)) rest.now }
+    ensures read { IfOk result (λ l. Reads (word.now ∷ words_of rest.now) l) }
+    ensures fault { IfErr result (λ f. (earlier : List Node) → AreFaulty f earlier (word.now ∷ words_of rest.now)) }
 {
     let rows = leaf(word)?;
-    match next_word(behind) {
+    match next_word(rest) {
         Some(_) => Err(MacroFault::Syntax),
         None => Ok(Line::Leaf(rows)),
     }
 }
 
-/// What a line says by itself: whether its parts are earlier nodes of the right level is left open.
+/// What a line says by itself. It isn't asked whether its parts are earlier nodes of the right level.
 ///
 /// # Errors
 ///
-/// Answers what is wrong with the line, whatever stands before it: `Timeline`, `Syntax`, `LeafSize`, `GenTooLarge`, and
+/// What is wrong with the line, whatever comes before it: `Timeline`, `Syntax`, `LeafSize`, `GenTooLarge`, and
 /// `Level` for a level of 0 or above 120.
 pub(crate) fn read_line(line: &[u8]) -> Result<Line<'_>, MacroFault>
     requires { Every (λ b. not (is_line_end b)) line.now }
     ensures read { IfOk result (λ l. Reads (words_of line.now) l) }
     ensures fault { IfErr result (λ f. (earlier : List Node) → AreFaulty f earlier (words_of line.now)) }
 {
-    let Some((word, behind)) = next_word(line) else {
+    let Some((word, rest)) = next_word(line) else {
         return Ok(Line::Comment(Comment::Nothing));
     };
     if word.starts_with(b"#") {
-        let said = said_by(word, behind)?;
+        let said = said_by(word, rest)?;
         return Ok(Line::Comment(said));
     }
     if begins_leaf(word) {
-        return leaf_line(word, behind);
+        return leaf_line(word, rest);
     }
     node(line)
 }

@@ -9,14 +9,14 @@ ghost use Rattle.ca_macro.specs.File.{Said, File, IsFile, begins_macro};
 ghost use Rattle.ca_macro.specs.Limits.{IsWithinRange, IsOutOfRange};
 ghost use Rattle.ca_macro.specs.Faults.{IsFaultOf};
 ghost use Rattle.ca_macro.specs.Pattern.{IsPatternOf};
-ghost use Rattle.ca_macro.specs.inner.Reading.{IsReading, file_of};
+ghost use Rattle.ca_macro.specs.inner.Reading.{IsReading, IsFaultOn, file_of};
 
 mod empties;
 mod range;
 mod reading;
 mod squares;
 
-use crate::fault::MacroFault;
+use crate::fault::{LineFault, MacroFault};
 use crate::pattern::MacroPattern;
 use ca_plane::bytes::next_line;
 use ca_plane::text::rule_text;
@@ -25,27 +25,59 @@ use range::trim_in_range;
 use reading::Reading;
 use std::alloc::Global;
 
-/// What the lines behind the first one say, read into the store.
+/// What the lines after the first one say, read into the store.
 fn read_lines<'a>(
     alloc: Global,
     store: &mut Store,
     bytes: &'a [u8],
-) -> Result<Reading<'a>, MacroFault>
+) -> Result<Reading<'a>, LineFault>
     requires { begins_macro bytes.now ≡ true }
     ensures found { IfOk result (λ r. (said : List Said) × IsFile bytes.now (file_of said) × IsReading store.new said r) }
-    ensures fault { IfErr result (λ f. IsFaultOf bytes.now f) }
+    ensures fault { IfErr result (λ f. IsFaultOn bytes.now f.fault f.line) }
     ensures grows { Grows store.old store.new }
 {
     // Says what holds of every store.
     let _ = store.count();
     let mut reading = Reading::new(alloc);
     let (_, mut rest) = next_line(bytes);
+    let mut number = 1;
     'lines: while !rest.is_empty() {
         let (line, later) = next_line(rest);
-        reading.read(store, line)?;
+        number += 1;
+        if let Err(fault) = reading.read(store, line) {
+            return Err(LineFault {
+                fault,
+                line: number,
+            });
+        }
         rest = later;
     }
     Ok(reading)
+}
+
+/// What a text's lines say, read into the store.
+///
+/// # Errors
+///
+/// The first fault of its spelling and the number of its line; and `Memory` where a growth is refused for the node of a good line.
+pub(crate) fn read_text<'a>(
+    alloc: Global,
+    store: &mut Store,
+    bytes: &'a [u8],
+) -> Result<Reading<'a>, LineFault>
+    ensures found { IfOk result (λ r. (said : List Said) × IsFile bytes.now (file_of said) × IsReading store.new said r) }
+    ensures fault { IfErr result (λ f. IsFaultOn bytes.now f.fault f.line) }
+    ensures grows { Grows store.old store.new }
+{
+    // Says what holds of every store.
+    let _ = store.count();
+    if !bytes.starts_with(b"[M2]") {
+        return Err(LineFault {
+            fault: MacroFault::NotMacro,
+            line: 1,
+        });
+    }
+    read_lines(alloc, store, bytes)
 }
 
 /// The pattern of a text whose lines have been read.
@@ -78,13 +110,13 @@ fn pattern_of(
 /// Reads a macrocell text (Golly Help, File Formats; docs/FORMATS.md) into the store: the pattern that it holds, the centre of
 /// its root at the corner between the cells (-1, -1) and (0, 0).
 ///
-/// Each node becomes a square of the store as its line comes, so that the work is in proportion to the text, however many
+/// Each node becomes a square of the store as its line comes, so the work is in proportion to the text, however many
 /// cells it shows.
 ///
 /// # Errors
 ///
 /// The fault of the first faulty line; else `Range` where a live cell isn't from -2^60 to 2^60 - 1 in both directions; and
-/// `Memory` where a growth is refused, at a good line that adds a node behind good lines, or behind the last line of a good
+/// `Memory` where a growth is refused, at a good line that adds a node after good lines, or after the last line of a good
 /// text. After a refusal the store is as before or has more squares.
 pub fn read_macro(
     alloc: Global,
@@ -100,11 +132,8 @@ pub fn read_macro(
     // Every old square stays.
     ensures grows { Grows store.old store.new }
 {
-    // Says what holds of every store.
-    let _ = store.count();
-    if !bytes.starts_with(b"[M2]") {
-        return Err(MacroFault::NotMacro);
+    match read_text(alloc, store, bytes) {
+        Ok(reading) => pattern_of(alloc, store, &reading),
+        Err(found) => Err(found.fault),
     }
-    let reading = read_lines(alloc, store, bytes)?;
-    pattern_of(alloc, store, &reading)
 }

@@ -1,4 +1,4 @@
-//! The writer of macrocell: one tidy text for a tree.
+//! The writer of macrocell: a tidy text for a tree.
 
 ghost use Rattle.std.specs.Prelude.{◌≡◌, ◌<◌, ℤ, ℕ, List, IfOk, OnOk, IsErrOf};
 ghost use Rattle.std.specs.Io.KnownBytes.{Appends};
@@ -23,7 +23,7 @@ mod numbers;
 mod root;
 mod written;
 
-/// The one tidy text of a tree's cells, with their rule text, their generation count, and their rule's number of states.
+/// A tidy text of a tree's cells, with their rule text, their generation count, and their rule's number of states.
 ///
 /// The first line is `[M2] (cafile)`, the second `#R ` and the rule text, and where the generation isn't 0 the third is `#G ` and
 /// the generation. Then comes a line for each square but the empty ones, each square once, its parts before it, so that the
@@ -33,7 +33,7 @@ mod written;
 ///
 /// # Errors
 ///
-/// Fails where there is no memory for the text. The store is then as before or has more squares.
+/// Fails where a growth is refused. The store is then as before or has more squares.
 pub fn write_macro(
     alloc: Global,
     store: &mut Store,
@@ -65,7 +65,7 @@ pub fn write_macro(
 ///
 /// # Errors
 ///
-/// `Memory` where there is no memory for the text: nothing was written. `Write` where a write failed: some first part
+/// `Memory` where a growth is refused: nothing was written. `Write` where a write failed: some first part
 /// of the text was written.
 pub fn write_macro_to<W: Write>(
     alloc: Global,
@@ -87,7 +87,7 @@ pub fn write_macro_to<W: Write>(
     ensures kept { OnOk result (out.new.failures ≡ out.old.failures) }
     // Without memory the device is as it was.
     ensures memory { IsErrOf result WriteFault.Memory → out.new ≡ out.old }
-    // A write failed behind some first part of the tidy text.
+    // A write failed after some first part of the tidy text.
     ensures front { IsErrOf result WriteFault.Write → (text : List ℕ) × IsTidy text (cell store.old tree) rule_text.now generation states
         × AppendsPrefix (W.contents out.old.inner) (W.contents out.new.inner) text }
     ensures counted { IsErrOf result WriteFault.Write → Rises out.old.failures out.new.failures }

@@ -61,6 +61,6 @@ leaf_bits (suc height) (row ∷ rows) = row_bits row ∷ leaf_bits height rows
 abbrev pub cells_of : List ℕ → List (List Bool)
 cells_of bytes = map (map is_live) (rows_of bytes)
 
--- the first row of bytes, and the bytes behind its `$`
+-- the first row of bytes, and the bytes after its `$`
 abbrev pub IsSplit : (bytes row later : List ℕ) → Type 0
 IsSplit bytes row later = (rows_of bytes ≡ row ∷ rows_of later) ⊎ ((bytes ≡ []) × (row ≡ []) × (later ≡ []))

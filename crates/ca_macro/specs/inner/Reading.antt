@@ -15,10 +15,10 @@ use Rattle.ca_macro.specs.declared.fault.MacroFault.TheVariants.{NotMacro, Timel
 use Rattle.ca_macro.specs.declared.line.numbers.Numbers.{Numbers}
 use Rattle.ca_macro.specs.declared.read.reading.Reading.{Reading}
 use Rattle.ca_macro.specs.declared.read.squares.Squares.{Squares}
-use Rattle.ca_macro.specs.Nodes.{Node, Parts, level_of, Names, StandsBehind}
+use Rattle.ca_macro.specs.Nodes.{Node, Parts, level_of, Names, MayFollow}
 use Rattle.ca_macro.specs.File.{Said, File, added, last_rule, last_generation}
 use Rattle.ca_macro.specs.Shown.{numbered, squares_of}
-use Rattle.ca_macro.specs.Faults.{AreFaulty, HasBadPart, AddNode}
+use Rattle.ca_macro.specs.Faults.{HasLine, AreFaulty, HasBadPart, AddNode, IsFirstFaultOn}
 use Rattle.ca_macro.specs.inner.Numbers.{kept_of}
 
 -- the square shows the cells of a picture, counted from its upper left corner
@@ -73,13 +73,18 @@ pub record KeepsParts (kept : Numbers) (nw ne sw se : ℕ) : Type 0 where
 
 -- four numbers can't be a square's parts, or there is no memory for the square
 abbrev pub HaveFault : MacroFault → List Node → (level nw ne sw se : ℕ) → Type 0
-HaveFault Memory nodes level nw ne sw se = StandsBehind nodes (Parts level nw ne sw se)
+HaveFault Memory nodes level nw ne sw se = MayFollow nodes (Parts level nw ne sw se)
 HaveFault f nodes level nw ne sw se = HasBadPart nodes (level - 1) (nw ∷ ne ∷ sw ∷ se ∷ []) (IsBadNumber f nodes (level - 1))
 
--- the fault of a line with these words behind earlier nodes
+-- the fault of a line with these words that follows earlier nodes
 abbrev pub HasFault : MacroFault → List Node → List (List ℕ) → Type 0
 HasFault Memory earlier words = AddNode earlier words
 HasFault f earlier words = AreFaulty f earlier words
+
+-- the first fault of a text, and the number of its line; or there is no memory for the node of a good line
+abbrev pub IsFaultOn : List ℕ → MacroFault → ℕ → Type 0
+IsFaultOn bytes Memory n = HasLine bytes AddNode
+IsFaultOn bytes f n = IsFirstFaultOn bytes f n
 
 -- what is kept once lines have said this
 pub record IsReading (store : List Kept) (said : List Said) (reading : Reading) : Type 0 where

@@ -1,17 +1,17 @@
 -- The nodes that a writer has gathered from a store of squares, and the numbers of their squares.
-use Rattle.std.specs.Prelude.{◌≡◌, ◌≢◌, ℕ, zero, suc, ◌+◌, ◌<◌, ◌≤◌, ◌/◌, ◌%◌, ◌==◌, ℤ, List, [], ◌∷◌, ◌++◌, map, length, Bool, true, false, Option, Some, None, if◌then◌else◌, slice_index, ◌⊎◌}
+use Rattle.std.specs.Prelude.{◌≡◌, ◌≢◌, ℕ, zero, suc, ◌<◌, ◌≤◌, ◌/◌, ◌%◌, ◌==◌, ℤ, List, [], ◌∷◌, ◌++◌, map, length, Bool, false, Option, Some, None, if◌then◌else◌, slice_index, ◌⊎◌}
 use Rattle.std.specs.List.{AllByRecursion, AllPairs, last_or, range_with_len}
 use Rattle.std.specs.Map.{lookup}
 use Rattle.ca_plane.specs.Plane.{Picture, cell}
 use Rattle.ca_quad.specs.declared.node.Node.{Node as Kept}
 use Rattle.ca_quad.specs.Squares as squares
-use Rattle.ca_quad.specs.Trees.{from_corner, IsEmpty}
+use Rattle.ca_quad.specs.Trees.{from_corner}
 use Rattle.ca_macro.specs.declared.write.written.Written.{Written}
 use Rattle.ca_macro.specs.declared.write.written.Written.TheVariants.{Leaf, Cells, Parts}
-use Rattle.ca_macro.specs.Nodes.{Node, level_of, Names, StandsBehind}
+use Rattle.ca_macro.specs.Nodes.{Node, level_of, Names, MayFollow}
 use Rattle.ca_macro.specs.Nodes as nodes
 use Rattle.ca_macro.specs.Shown.{numbered, square_of, squares_of, picture_of}
-use Rattle.ca_macro.specs.Tidy.{IsLeastLevel, AreInPlace, HasForm, is_empty, walks_behind, walk_of, each_once}
+use Rattle.ca_macro.specs.Tidy.{IsLeastLevel, AreInPlace, HasForm, is_empty, walks_after, walk_of, each_once}
 
 -- the number of a square, if it has one
 abbrev pub number_of : List (ℕ × ℕ) → ℕ → Option ℕ
@@ -42,9 +42,9 @@ pub record IsNumberOf (kept : List Kept) (ns : List Node) (id number : ℕ) : Ty
   pub names : Names ns (squares.level_of kept id) number
   pub shows : IsPictureOf (numbered (squares_of ns) number) (cells_of kept id)
 
--- the node may be written for this square behind these nodes
+-- the node may be written for this square after these nodes
 pub record IsNodeOf (kept : List Kept) (states : ℕ) (ns : List Node) (id : ℕ) (node : Node) : Type 0 where
-  pub in_place : StandsBehind ns node
+  pub in_place : MayFollow ns node
   pub form : HasForm states node
   pub level : level_of node ≡ squares.level_of kept id
   pub shows : IsPictureOf (square_of (squares_of ns) node) (cells_of kept id)
@@ -58,14 +58,14 @@ pub record IsGathered (kept : List Kept) (states : ℕ) (ns : List Node) (number
   pub numbered : (id number : ℕ) → number_of numbers id ≡ Some number → (id < squares.kept (length kept)) × IsNumberOf kept ns id number
   pub each : (i : ℕ) → i < length ns → (id : ℕ) × (number_of numbers id ≡ Some (suc i))
 
--- there are more nodes behind the old ones
+-- the new nodes are the old ones, and more after them
 abbrev pub Extends : List Node → List Node → Type 0
 Extends old new = (more : List Node) × (new ≡ old ++ more)
 
 -- where walks so far came first to the old nodes in their order, they come first to the new ones in theirs, after one over this number
 abbrev pub GoesOn : List Node → List Node → ℕ → Type 0
 GoesOn old new number = (walked : List ℕ) → each_once walked ≡ range_with_len 1 (length old)
-    → each_once (walked ++ numbered (walks_behind [] new) number) ≡ range_with_len 1 (length new)
+    → each_once (walked ++ numbered (walks_after [] new) number) ≡ range_with_len 1 (length new)
 
 -- the level of the squares that are written without parts
 abbrev pub leaf_level : ℕ → ℕ

@@ -23,24 +23,24 @@ pub(crate) enum Comment<'a> {
     Generation(u64),
 }
 
-/// What the words behind `#R` say: the first is the rule text.
-fn rule(behind: &[u8]) -> Comment<'_>
-    requires { Every (λ b. not (is_line_end b)) behind.now }
-    ensures { WordsSay (codes "#R" ∷ words_of behind.now) (said_of result) }
+/// What the words after `#R` say: the first is the rule text.
+fn rule(rest: &[u8]) -> Comment<'_>
+    requires { Every (λ b. not (is_line_end b)) rest.now }
+    ensures { WordsSay (codes "#R" ∷ words_of rest.now) (said_of result) }
 {
-    match next_word(behind) {
+    match next_word(rest) {
         Some((text, _)) => Comment::Rule(text),
         None => Comment::Nothing,
     }
 }
 
-/// What the words behind `#G` say: one number is the generation.
-fn generation(behind: &[u8]) -> Result<Comment<'_>, MacroFault>
-    requires { Every (λ b. not (is_line_end b)) behind.now }
-    ensures said { IfOk result (λ s. WordsSay (codes "#G" ∷ words_of behind.now) (said_of s)) }
-    ensures fault { IfErr result (λ f. (earlier : List Node) → AreFaulty f earlier (codes "#G" ∷ words_of behind.now)) }
+/// What the words after `#G` say: one number is the generation.
+fn generation(rest: &[u8]) -> Result<Comment<'_>, MacroFault>
+    requires { Every (λ b. not (is_line_end b)) rest.now }
+    ensures said { IfOk result (λ s. WordsSay (codes "#G" ∷ words_of rest.now) (said_of s)) }
+    ensures fault { IfErr result (λ f. (earlier : List Node) → AreFaulty f earlier (codes "#G" ∷ words_of rest.now)) }
 {
-    let Some((digits, more)) = next_word(behind) else {
+    let Some((digits, more)) = next_word(rest) else {
         return Ok(Comment::Nothing);
     };
     if next_word(more).is_some() {
@@ -55,26 +55,26 @@ fn generation(behind: &[u8]) -> Result<Comment<'_>, MacroFault>
     Ok(Comment::Generation(count))
 }
 
-/// What a line says by its first word, which begins with `#`, and the words behind it.
+/// What a line says by its first word, which begins with `#`, and the words after it.
 ///
 /// # Errors
 ///
-/// `Timeline` where the word begins with `#FRAME`. Behind `#G`: `Syntax` where the words aren't one number, `GenTooLarge`
+/// `Timeline` where the word begins with `#FRAME`. After `#G`: `Syntax` where the words aren't one number, `GenTooLarge`
 /// where that is above 2^63 - 1.
-pub(crate) fn said_by<'a>(word: &[u8], behind: &'a [u8]) -> Result<Comment<'a>, MacroFault>
+pub(crate) fn said_by<'a>(word: &[u8], rest: &'a [u8]) -> Result<Comment<'a>, MacroFault>
     requires comment { starts_with nat_eq word.now (codes "#") ≡ true }
-    requires line { Every (λ b. not (is_line_end b)) behind.now }
-    ensures said { IfOk result (λ s. WordsSay (word.now ∷ words_of behind.now) (said_of s)) }
-    ensures fault { IfErr result (λ f. (earlier : List Node) → AreFaulty f earlier (word.now ∷ words_of behind.now)) }
+    requires line { Every (λ b. not (is_line_end b)) rest.now }
+    ensures said { IfOk result (λ s. WordsSay (word.now ∷ words_of rest.now) (said_of s)) }
+    ensures fault { IfErr result (λ f. (earlier : List Node) → AreFaulty f earlier (word.now ∷ words_of rest.now)) }
 {
     if word.starts_with(b"#FRAME") {
         return Err(MacroFault::Timeline);
     }
     if word == b"#R".as_slice() {
-        return Ok(rule(behind));
+        return Ok(rule(rest));
     }
     if word == b"#G".as_slice() {
-        return generation(behind);
+        return generation(rest);
     }
     Ok(Comment::Nothing)
 }

@@ -1,4 +1,4 @@
-//! The line of a leaf: rows of `.` and `*`, with `$` behind each.
+//! The line of a leaf: rows of `.` and `*`, with `$` after each.
 
 ghost use Rattle.std.specs.Prelude.{◌≡◌, ◌<◌, ◌≤◌, ◌^◌, not, List, Bool, length, map, true, IfOk, IfErr};
 ghost use Rattle.ca_plane.specs.Bytes.{is_end_or};
@@ -24,7 +24,7 @@ fn is_mark(byte: u8) -> bool
 
 /// The fault of bytes that go on where so many rows are left, and so many cells of the first of them. It calls itself at
 /// most once for each cell and row end of a leaf.
-fn fault_behind(bytes: &[u8], height: u8, width: u8) -> Option<MacroFault>
+fn fault_from(bytes: &[u8], height: u8, width: u8) -> Option<MacroFault>
     ensures { result ≡ leaf_fault height width bytes.now }
 {
     let (byte, more) = bytes.split_first()?;
@@ -35,7 +35,7 @@ fn fault_behind(bytes: &[u8], height: u8, width: u8) -> Option<MacroFault>
         return Some(MacroFault::Syntax);
     }
     if *byte == b'$' {
-        return fault_behind(more, height - 1, 8);
+        return fault_from(more, height - 1, 8);
     }
     if !is_mark(*byte) {
         return Some(MacroFault::Syntax);
@@ -43,7 +43,7 @@ fn fault_behind(bytes: &[u8], height: u8, width: u8) -> Option<MacroFault>
     if width == 0 {
         return Some(MacroFault::LeafSize);
     }
-    fault_behind(more, height, width - 1)
+    fault_from(more, height, width - 1)
 }
 
 /// The cells of a row as bits, of which bit 0 is the first cell.
@@ -58,7 +58,7 @@ fn row_bits(cells: &[u8]) -> u8
     u8::from(*first == b'*') + 2 * row_bits(more)
 }
 
-/// The first row of a leaf's bytes, and the bytes behind its `$`.
+/// The first row of a leaf's bytes, and the bytes after its `$`.
 fn split_row(bytes: &[u8]) -> (&[u8], &[u8])
     ensures { IsSplit bytes.now result.0.now result.1.now }
 {
@@ -86,15 +86,15 @@ fn fill(rows: &mut [u8], bytes: &[u8])
 ///
 /// # Errors
 ///
-/// Answers the fault of the first byte with which the bytes are no leaf: `LeafSize` for a ninth cell of a row and for what
-/// stands behind eight rows, `Syntax` for a byte of no leaf.
+/// The fault of the first byte with which the bytes are no leaf: `LeafSize` for a ninth cell of a row, and for a cell or a row
+/// end after eight rows; `Syntax` for a byte that no leaf has.
 pub(crate) fn leaf(bytes: &[u8]) -> Result<[u8; 8], MacroFault>
     requires some { 0 < length bytes.now }
     requires begins { is_end_or is_leaf_byte bytes.now ≡ true }
     ensures found { IfOk result (λ bits. (rows : List (List Bool)) × IsLeaf bytes.now rows × (bits ≡ leaf_bits 8 rows)) }
     ensures fault { IfErr result (λ f. IsLeafFault bytes.now f) }
 {
-    if let Some(fault) = fault_behind(bytes, 8, 8) {
+    if let Some(fault) = fault_from(bytes, 8, 8) {
         return Err(fault);
     }
     let mut rows = [0; 8];

@@ -25,7 +25,7 @@ fn is_in_range(cells: WideBounds) -> bool
 ///
 /// # Errors
 ///
-/// `Range` where a live cell isn't, and `Memory` where there is none to find that out.
+/// `Range` where a live cell isn't, and `Memory` where a growth is refused.
 fn check_range(alloc: Global, store: &Store, tree: Tree) -> Result<(), MacroFault>
     requires { IsTree store.now tree }
     ensures good { OnOk result (AreInRange (cell store.now tree)) }
@@ -44,7 +44,7 @@ fn check_range(alloc: Global, store: &Store, tree: Tree) -> Result<(), MacroFaul
 ///
 /// # Errors
 ///
-/// `Range` where a live cell is out of range, and `Memory` where there is none.
+/// `Range` where a live cell is out of range, and `Memory` where a growth is refused.
 pub(crate) fn trim_in_range(
     alloc: Global,
     store: &mut Store,

@@ -1,4 +1,4 @@
-//! A macrocell text read, a line at a time.
+//! A macrocell text, read a line at a time.
 
 ghost use Rattle.std.specs.Prelude.{◌≡◌, ℕ, List, [], ◌∷◌, ◌++◌, not, OnOk, IfErr};
 ghost use Rattle.std.specs.List.{flat_map};
@@ -47,11 +47,11 @@ impl<'a> Reading<'a> {
         }
     }
 
-    /// The next line of the text.
+    /// Reads the next line of the text.
     ///
     /// # Errors
     ///
-    /// The line's fault; and `Memory` where there is none for the node of a good line.
+    /// The line's fault; and `Memory` where a growth is refused for the node of a good line.
     pub(crate) fn read(&mut self, store: &mut Store, line: &'a [u8]) -> Result<(), MacroFault>
         requires line { Every (λ b. not (is_line_end b)) line.now }
         requires reading { (said : List Said) × IsReading store.old said self.old }

@@ -6,7 +6,7 @@ ghost use Rattle.ca_quad.specs.declared.node.Node.{Node as Kept};
 ghost use Rattle.ca_quad.specs.Sound.{IsSound, Grows};
 ghost use Rattle.ca_quad.specs.Trees.{Shows, IsTree, cell};
 ghost use Rattle.ca_plane.specs.Plane.{cell as plane_cell};
-ghost use Rattle.ca_macro.specs.Nodes.{Node, Leaf, Cells, Parts, IsLevel, StandsBehind};
+ghost use Rattle.ca_macro.specs.Nodes.{Node, Leaf, Cells, Parts, IsLevel, MayFollow};
 ghost use Rattle.ca_macro.specs.Shown.{picture_of};
 ghost use Rattle.ca_macro.specs.Faults.{HasBadPart};
 ghost use Rattle.ca_macro.specs.inner.Leaves.{leaf_bits};
@@ -27,7 +27,7 @@ pub(crate) struct Squares {
     empties: Empties,
 }
 
-/// The four parts of a square, of which None is empty.
+/// The four parts of a square. None is an empty part.
 #[derive(Clone, Copy)]
 struct FourParts {
     nw: Option<Id>,
@@ -51,7 +51,7 @@ impl Squares {
     ///
     /// # Errors
     ///
-    /// `Forward` where the number is no earlier node's, and `Level` where that is of another level.
+    /// `Forward` where no earlier node has the number, and `Level` where the node has another level.
     fn part(&self, level: u8, number: u64) -> Result<Option<Id>, MacroFault>
         ensures part { IfOk result (λ p. (store : List Kept) (nodes : List Node) (n : ℕ) → AreSquares store nodes self.now → number ≡ kept_of n
             → IsPart store nodes level n p) }
@@ -74,7 +74,7 @@ impl Squares {
     ///
     /// # Errors
     ///
-    /// What is wrong with the first that may not be a part.
+    /// The fault of the first number that may not name a part.
     fn parts(&self, level: u8, numbers: Numbers) -> Result<FourParts, MacroFault>
         ensures parts { IfOk result (λ p. (store : List Kept) (nodes : List Node) (nw ne sw se : ℕ) → AreSquares store nodes self.now → KeepsParts numbers nw ne sw se
             → IsPart store nodes level nw p.nw × IsPart store nodes level ne p.ne × IsPart store nodes level sw p.sw × IsPart store nodes level se p.se) }
@@ -88,7 +88,7 @@ impl Squares {
         Ok(FourParts { nw, ne, sw, se })
     }
 
-    /// A node is a leaf of these rows.
+    /// Adds a leaf of these rows.
     pub(crate) fn add_leaf(&mut self, store: &mut Store, rows: &[u8; 8]) -> Result<(), Memory>
         ensures added { OnOk result ((nodes : List Node) (leaf : List (List Bool)) → AreSquares store.old nodes self.old → rows.now ≡ leaf_bits 8 leaf → length leaf ≤ 8
             → AreSquares store.new (nodes ++ Leaf leaf ∷ []) self.new) }
@@ -99,7 +99,7 @@ impl Squares {
         Ok(())
     }
 
-    /// A node is four cells of these states.
+    /// Adds a square of four cells of these states.
     pub(crate) fn add_cells(&mut self, store: &mut Store, states: [u8; 4]) -> Result<(), Memory>
         ensures added { OnOk result ((nodes : List Node) (nw ne sw se : ℕ) → AreSquares store.old nodes self.old → states ≡ nw ∷ ne ∷ sw ∷ se ∷ []
             → AllByRecursion (λ s. s ≤ 255) (nw ∷ ne ∷ sw ∷ se ∷ [])
@@ -112,11 +112,11 @@ impl Squares {
         Ok(())
     }
 
-    /// A node is a square of a level from 2 to 120, given by the numbers of its parts.
+    /// Adds a square of a level from 2 to 120, given by the numbers of its parts.
     ///
     /// # Errors
     ///
-    /// What is wrong with the first number that may not name a part, before any memory is taken.
+    /// The fault of the first number that may not name a part, found before any memory is taken; and `Memory` where a growth is refused.
     pub(crate) fn add_parts(
         &mut self,
         store: &mut Store,
@@ -125,7 +125,7 @@ impl Squares {
         requires level { IsLevel numbers.level }
         requires squares { (nodes : List Node) × (nw : ℕ) × (ne : ℕ) × (sw : ℕ) × (se : ℕ) × AreSquares store.old nodes self.old × KeepsParts numbers nw ne sw se }
         ensures added { OnOk result ((nodes : List Node) (nw ne sw se : ℕ) → AreSquares store.old nodes self.old → KeepsParts numbers nw ne sw se
-            → StandsBehind nodes (Parts numbers.level nw ne sw se) × AreSquares store.new (nodes ++ Parts numbers.level nw ne sw se ∷ []) self.new) }
+            → MayFollow nodes (Parts numbers.level nw ne sw se) × AreSquares store.new (nodes ++ Parts numbers.level nw ne sw se ∷ []) self.new) }
         ensures fault { IfErr result (λ f. (nodes : List Node) (nw ne sw se : ℕ) → AreSquares store.old nodes self.old → KeepsParts numbers nw ne sw se
             → HaveFault f nodes numbers.level nw ne sw se) }
         ensures grows { Grows store.old store.new }

@@ -21,7 +21,7 @@ fn mark(live: bool) -> u8
     b'.'
 }
 
-/// Puts the cells of a row behind the others, and `$`.
+/// Puts the cells of a row after what `out` holds, and `$`.
 fn push_row(out: &mut Vec<u8>, row: u8, width: u8) -> Result<(), Memory>
     ensures { OnOk result (Puts out.old.items out.new.items (map mark_of (row_of width row) ++ codes "$")) }
 {
@@ -111,7 +111,7 @@ fn push_generation(out: &mut Vec<u8>, generation: u64) -> Result<(), Memory>
     push_text(out, b"\n")
 }
 
-/// Puts all lines of a tidy text behind what `out` holds.
+/// Puts all lines of a tidy text after what `out` holds.
 pub(super) fn push_lines(
     out: &mut Vec<u8>,
     rule_text: &[u8],

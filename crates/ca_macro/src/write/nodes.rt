@@ -21,7 +21,7 @@ struct Gathered {
 }
 
 impl Gathered {
-    /// Puts the node of a square behind the others, and gives the square its number.
+    /// Puts the node of a square after the others, and gives the square its number.
     fn push(&mut self, store: &Store, states: u16, id: Id, node: Written) -> Result<u64, Memory>
         requires known { IsIn store.now id }
         requires gathered { IsGathered store.now states (map node_of self.old.nodes.items) self.old.numbers }
@@ -91,7 +91,7 @@ fn part(parts: &[Id; 4], place: usize) -> Id
     parts[place]
 }
 
-/// The number of a square, which is 0 where it is empty. Its node is put behind the others where it isn't there yet.
+/// The number of a square, which is 0 where it is empty. Its node is put after the others where it isn't there yet.
 fn number(store: &Store, states: u16, id: Id, gathered: &mut Gathered) -> Result<u64, Memory>
     requires known { IsIn store.now id }
     requires least { leaf_level states ≤ level_of store.now id }

@@ -5,6 +5,6 @@ use Rattle.ca_macro.specs.Nodes.{mark_of}
 use Rattle.ca_macro.specs.inner.Written.{row_of}
 use Rattle.ca_macro.proofs.write.lines.push_rows.Given as goal
 
--- the first rows stand behind the text
+-- the first rows follow the text
 abbrev pub invariant-rows : goal.invariant-rows
 invariant-rows l = Puts l.fn.out.items l.out.items (flat_map (λ (row : ℕ). map mark_of (row_of 8 row) ++ 36 ∷ []) (take l.row-index l.rows))

@@ -5,58 +5,58 @@ use Rattle.std.proofs.Math.ListN.{get_or-append}
 use Rattle.std.proofs.Math.Seq.{get_or-append_seam}
 use Rattle.ca_plane.specs.Plane.{Picture}
 use Rattle.ca_macro.specs.Nodes.{Node}
-use Rattle.ca_macro.specs.Shown.{numbered, square_of, squares_behind, squares_of}
-use Rattle.ca_macro.specs.Tidy.{parts_of, walks_behind}
+use Rattle.ca_macro.specs.Shown.{numbered, square_of, squares_after, squares_of}
+use Rattle.ca_macro.specs.Tidy.{parts_of, walks_after}
 
 -- ---- lists that are made one after another, each from the earlier ones
 
 module _ {A B : Type 0} (step : List (List A) → B → List A) where
-  abbrev pub behind : List (List A) → List B → List (List A)
-  behind earlier [] = earlier
-  behind earlier (n ∷ ns) = behind (earlier ++ step earlier n ∷ []) ns
+  abbrev pub after : List (List A) → List B → List (List A)
+  after earlier [] = earlier
+  after earlier (n ∷ ns) = after (earlier ++ step earlier n ∷ []) ns
 
-  behind_last : (earlier : List (List A)) (ns : List B) (n : B) → behind earlier (ns ++ n ∷ []) ≡ behind earlier ns ++ step (behind earlier ns) n ∷ []
-  behind_last earlier [] n = refl
-  behind_last earlier (m ∷ ns) n = behind_last (earlier ++ step earlier m ∷ []) ns n
+  after_last : (earlier : List (List A)) (ns : List B) (n : B) → after earlier (ns ++ n ∷ []) ≡ after earlier ns ++ step (after earlier ns) n ∷ []
+  after_last earlier [] n = refl
+  after_last earlier (m ∷ ns) n = after_last (earlier ++ step earlier m ∷ []) ns n
 
-  behind_length : (earlier : List (List A)) (ns : List B) → length (behind earlier ns) ≡ length earlier + length ns
-  behind_length earlier [] = omega arith
-  behind_length earlier (m ∷ ns) =
-      let e = behind_length (earlier ++ step earlier m ∷ []) ns in
+  after_length : (earlier : List (List A)) (ns : List B) → length (after earlier ns) ≡ length earlier + length ns
+  after_length earlier [] = omega arith
+  after_length earlier (m ∷ ns) =
+      let e = after_length (earlier ++ step earlier m ∷ []) ns in
       let f = length-append earlier (step earlier m ∷ []) in
       omega arith
 
-  behind_first : (earlier : List (List A)) (ns : List B) (i : ℕ) → i < length earlier → slice_index_or (behind earlier ns) i [] ≡ slice_index_or earlier i []
-  behind_first earlier [] i h = refl
-  behind_first earlier (m ∷ ns) i h =
+  after_first : (earlier : List (List A)) (ns : List B) (i : ℕ) → i < length earlier → slice_index_or (after earlier ns) i [] ≡ slice_index_or earlier i []
+  after_first earlier [] i h = refl
+  after_first earlier (m ∷ ns) i h =
       let f = length-append earlier (step earlier m ∷ []) in
-      behind_first (earlier ++ step earlier m ∷ []) ns i (omega arith) ∙ get_or-append earlier (step earlier m ∷ []) [] i h
+      after_first (earlier ++ step earlier m ∷ []) ns i (omega arith) ∙ get_or-append earlier (step earlier m ∷ []) [] i h
 
-  behind_both : (earlier : List (List A)) (ns ms : List B) → behind earlier (ns ++ ms) ≡ behind (behind earlier ns) ms
-  behind_both earlier [] ms = refl
-  behind_both earlier (n ∷ ns) ms = behind_both (earlier ++ step earlier n ∷ []) ns ms
+  after_both : (earlier : List (List A)) (ns ms : List B) → after earlier (ns ++ ms) ≡ after (after earlier ns) ms
+  after_both earlier [] ms = refl
+  after_both earlier (n ∷ ns) ms = after_both (earlier ++ step earlier n ∷ []) ns ms
 
   -- what has a number keeps its list
-  number_stays : (ns ms : List B) (n : ℕ) → n ≤ length ns → numbered (behind [] (ns ++ ms)) n ≡ numbered (behind [] ns) n
+  number_stays : (ns ms : List B) (n : ℕ) → n ≤ length ns → numbered (after [] (ns ++ ms)) n ≡ numbered (after [] ns) n
   number_stays ns ms zero h = refl
   number_stays ns ms (suc i) h =
-      let e = behind_length [] ns in
-      ap (λ l. slice_index_or l i []) (behind_both [] ns ms) ∙ behind_first (behind [] ns) ms i (omega arith)
+      let e = after_length [] ns in
+      ap (λ l. slice_index_or l i []) (after_both [] ns ms) ∙ after_first (after [] ns) ms i (omega arith)
 
-  number_last : (ns : List B) (n : B) → numbered (behind [] (ns ++ n ∷ [])) (suc (length ns)) ≡ step (behind [] ns) n
+  number_last : (ns : List B) (n : B) → numbered (after [] (ns ++ n ∷ [])) (suc (length ns)) ≡ step (after [] ns) n
   number_last ns n =
-      let e : length (behind [] ns) ≡ length ns = let f = behind_length [] ns in omega arith in
-      ap (λ l. slice_index_or l (length ns) []) (behind_last [] ns n)
-      ∙ subst (λ k. slice_index_or (behind [] ns ++ step (behind [] ns) n ∷ []) k [] ≡ step (behind [] ns) n) e (get_or-append_seam (behind [] ns) (step (behind [] ns) n) [] [])
+      let e : length (after [] ns) ≡ length ns = let f = after_length [] ns in omega arith in
+      ap (λ l. slice_index_or l (length ns) []) (after_last [] ns n)
+      ∙ subst (λ k. slice_index_or (after [] ns ++ step (after [] ns) n ∷ []) k [] ≡ step (after [] ns) n) e (get_or-append_seam (after [] ns) (step (after [] ns) n) [] [])
 
 -- ---- pictures
 
-squares_are : (earlier : List Picture) (ns : List Node) → squares_behind earlier ns ≡ behind square_of earlier ns
+squares_are : (earlier : List Picture) (ns : List Node) → squares_after earlier ns ≡ after square_of earlier ns
 squares_are earlier [] = refl
 squares_are earlier (n ∷ ns) = squares_are (earlier ++ square_of earlier n ∷ []) ns
 
 pub squares_length : (ns : List Node) → length (squares_of ns) ≡ length ns
-squares_length ns = let e = behind_length square_of [] ns in ap length (squares_are [] ns) ∙ omega arith
+squares_length ns = let e = after_length square_of [] ns in ap length (squares_are [] ns) ∙ omega arith
 
 pub square_stays : (ns ms : List Node) (n : ℕ) → n ≤ length ns → numbered (squares_of (ns ++ ms)) n ≡ numbered (squares_of ns) n
 square_stays ns ms n h =
@@ -71,18 +71,18 @@ square_last ns n =
 abbrev pub walk_to : List (List ℕ) → Node → List ℕ
 walk_to earlier n = flat_map (numbered earlier) (parts_of n) ++ (length earlier + 1) ∷ []
 
-walks_are : (earlier : List (List ℕ)) (ns : List Node) → walks_behind earlier ns ≡ behind walk_to earlier ns
+walks_are : (earlier : List (List ℕ)) (ns : List Node) → walks_after earlier ns ≡ after walk_to earlier ns
 walks_are earlier [] = refl
 walks_are earlier (n ∷ ns) = walks_are (earlier ++ walk_to earlier n ∷ []) ns
 
-pub walks_length : (ns : List Node) → length (walks_behind [] ns) ≡ length ns
-walks_length ns = let e = behind_length walk_to [] ns in ap length (walks_are [] ns) ∙ omega arith
+pub walks_length : (ns : List Node) → length (walks_after [] ns) ≡ length ns
+walks_length ns = let e = after_length walk_to [] ns in ap length (walks_are [] ns) ∙ omega arith
 
-pub walk_stays : (ns ms : List Node) (n : ℕ) → n ≤ length ns → numbered (walks_behind [] (ns ++ ms)) n ≡ numbered (walks_behind [] ns) n
+pub walk_stays : (ns ms : List Node) (n : ℕ) → n ≤ length ns → numbered (walks_after [] (ns ++ ms)) n ≡ numbered (walks_after [] ns) n
 walk_stays ns ms n h =
     ap (λ l. numbered l n) (walks_are [] (ns ++ ms)) ∙ number_stays walk_to ns ms n h ∙ ap (λ l. numbered l n) (sym (walks_are [] ns))
 
-pub walk_last : (ns : List Node) (n : Node) → numbered (walks_behind [] (ns ++ n ∷ [])) (suc (length ns)) ≡ walk_to (walks_behind [] ns) n
+pub walk_last : (ns : List Node) (n : Node) → numbered (walks_after [] (ns ++ n ∷ [])) (suc (length ns)) ≡ walk_to (walks_after [] ns) n
 walk_last ns n =
     ap (λ l. numbered l (suc (length ns))) (walks_are [] (ns ++ n ∷ [])) ∙ number_last walk_to ns n ∙ ap (λ l. walk_to l n) (sym (walks_are [] ns))
 
@@ -114,7 +114,7 @@ flat_within most lists a [] = tt
 flat_within most lists a (n ∷ ns) = all_append _ (numbered lists n) (flat_map (numbered lists) ns) (numbered_within most lists a n) (flat_within most lists a ns)
 
 walks_within : (earlier : List (List ℕ)) (ns : List Node) → AllByRecursion (Within (length earlier)) earlier
-    → AllByRecursion (Within (length (walks_behind earlier ns))) (walks_behind earlier ns)
+    → AllByRecursion (Within (length (walks_after earlier ns))) (walks_after earlier ns)
 walks_within earlier [] a = a
 walks_within earlier (n ∷ ns) a =
     let e : length (earlier ++ walk_to earlier n ∷ []) ≡ length earlier + 1 = length-append earlier (walk_to earlier n ∷ []) in
@@ -125,7 +125,7 @@ walks_within earlier (n ∷ ns) a =
     walks_within (earlier ++ walk_to earlier n ∷ []) ns
     (subst (λ k. AllByRecursion (Within k) (earlier ++ walk_to earlier n ∷ [])) (sym e) (all_append (Within (length earlier + 1)) earlier (walk_to earlier n ∷ []) old (mine, tt)))
 
-pub walk_within : (ns : List Node) (n : ℕ) → Within (length ns) (numbered (walks_behind [] ns) n)
+pub walk_within : (ns : List Node) (n : ℕ) → Within (length ns) (numbered (walks_after [] ns) n)
 walk_within ns n =
-    subst (λ k. Within k (numbered (walks_behind [] ns) n)) (walks_length ns)
-    (numbered_within (length (walks_behind [] ns)) (walks_behind [] ns) (walks_within [] ns tt) n)
+    subst (λ k. Within k (numbered (walks_after [] ns) n)) (walks_length ns)
+    (numbered_within (length (walks_after [] ns)) (walks_after [] ns) (walks_within [] ns tt) n)
