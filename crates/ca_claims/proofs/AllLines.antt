@@ -13,7 +13,7 @@ use Rattle.ca_claims.specs.inner.Reading.{IsReading, SaysNext, HasFault}
 use Rattle.ca_claims.proofs.LinesSaid.{LinesSay-push, length_said}
 
 -- some lines of the text are read, and these bytes are left
-pub record IsBehind (bytes rest : List ℕ) (number : ℕ) (reading : Reading) : Type 0 where
+pub record HasRead (bytes rest : List ℕ) (number : ℕ) (reading : Reading) : Type 0 where
   pub done : List (List ℕ)
   pub said : List (Option Line)
   pub lines : lines_of bytes ≡ done ++ lines_of rest
@@ -22,55 +22,55 @@ pub record IsBehind (bytes rest : List ℕ) (number : ℕ) (reading : Reading) :
   pub counted : number ≡ length done
   pub room : number + length rest ≤ length bytes
 
-module _ (bytes rest : List ℕ) (number : ℕ) (reading : Reading) (behind : IsBehind bytes rest number reading) where
+module _ (bytes rest : List ℕ) (number : ℕ) (reading : Reading) (so_far : HasRead bytes rest number reading) where
   -- each line has said something or nothing
-  number_said : number + 1 ≡ length behind.said + 1
+  number_said : number + 1 ≡ length so_far.said + 1
   number_said =
-      let said = length_said [] behind.done behind.said behind.good in
-      let counted = behind.counted in
+      let said = length_said [] so_far.done so_far.said so_far.good in
+      let counted = so_far.counted in
       omega arith
 
   -- one more line is counted
-  more_counted : (line : List ℕ) → number + 1 ≡ length (behind.done ++ line ∷ [])
-  more_counted line = let counted = behind.counted in omega (arith, length_push behind.done line)
+  more_counted : (line : List ℕ) → number + 1 ≡ length (so_far.done ++ line ∷ [])
+  more_counted line = let counted = so_far.counted in omega (arith, length_push so_far.done line)
 
   -- and the number of lines is at most that of bytes
   more_room : (later : List ℕ) → length later < length rest → number + 1 + length later ≤ length bytes
-  more_room later shorter = let room = behind.room in omega arith
+  more_room later shorter = let room = so_far.room in omega arith
 
   -- one more line
   pub one_read : (line later : List ℕ) (after : Reading) → lines_of rest ≡ line ∷ lines_of later → length later < length rest
       → ((said : List (Option Line)) → IsReading said reading → number + 1 ≡ length said + 1 → (s : Option Line) × SaysNext (spoken said) (words_of line) s × IsReading (said ++ s ∷ []) after)
-      → IsBehind bytes later (number + 1) after
+      → HasRead bytes later (number + 1) after
   one_read line later after next shorter says =
-      let s = says behind.said behind.read number_said in
+      let s = says so_far.said so_far.read number_said in
       record {
-        done = behind.done ++ line ∷ [];
-        said = behind.said ++ s.0 ∷ [];
-        lines = behind.lines ∙ ap (λ l. behind.done ++ l) next ∙ sym (append_assoc behind.done (line ∷ []) (lines_of later));
-        good = LinesSay-push [] behind.done behind.said line s.0 behind.good s.1;
+        done = so_far.done ++ line ∷ [];
+        said = so_far.said ++ s.0 ∷ [];
+        lines = so_far.lines ∙ ap (λ l. so_far.done ++ l) next ∙ sym (append_assoc so_far.done (line ∷ []) (lines_of later));
+        good = LinesSay-push [] so_far.done so_far.said line s.0 so_far.good s.1;
         read = s.2;
         counted = more_counted line;
         room = more_room later shorter;
       }
 
   -- the line that follows, of whose words this holds
-  next_line : (P : List Line → List (List ℕ) → Type 0) (line later : List ℕ) (n : ℕ) → lines_of rest ≡ line ∷ lines_of later → n ≡ number + 1 → P (spoken behind.said) (words_of line) → HasLine bytes n P
+  next_line : (P : List Line → List (List ℕ) → Type 0) (line later : List ℕ) (n : ℕ) → lines_of rest ≡ line ∷ lines_of later → n ≡ number + 1 → P (spoken so_far.said) (words_of line) → HasLine bytes n P
   next_line P line later n next e holds =
-      let counted = behind.counted in
+      let counted = so_far.counted in
       record {
-        before = behind.done;
+        before = so_far.done;
         line = line;
         later = lines_of later;
-        said = behind.said;
-        good = behind.good;
-        among = behind.lines ∙ ap (λ l. behind.done ++ l) next;
+        said = so_far.said;
+        good = so_far.good;
+        among = so_far.lines ∙ ap (λ l. so_far.done ++ l) next;
         number = omega arith;
         holds = holds;
       }
 
   -- its fault is the first of the text
-  fault_next : (line later : List ℕ) → lines_of rest ≡ line ∷ lines_of later → (f : ClaimFault) → HasFault (number + 1) (spoken behind.said) (words_of line) f → IsFirstFault bytes f
+  fault_next : (line later : List ℕ) → lines_of rest ≡ line ∷ lines_of later → (f : ClaimFault) → HasFault (number + 1) (spoken so_far.said) (words_of line) f → IsFirstFault bytes f
   fault_next line later next (Syntax n) h = next_line AreMisspelled line later n next h.0 h.1
   fault_next line later next (Number n) h = next_line HaveBadNumber line later n next h.0 h.1
   fault_next line later next (UnknownName n) h = next_line AskUnknown line later n next h.0 h.1
@@ -82,4 +82,4 @@ module _ (bytes rest : List ℕ) (number : ℕ) (reading : Reading) (behind : Is
       → ((said : List (Option Line)) → IsReading said reading → HasFault (number + 1) (spoken said) (words_of line) f) → IfErr r (λ g. IsFirstFault bytes g)
   first_fault line later next r f h faults =
       let p = err_from_is_err_and r h in
-      subst (λ o. IfErr o (λ g. IsFirstFault bytes g)) (sym p.1) (subst (IsFirstFault bytes) (sym p.2) (fault_next line later next f (faults behind.said behind.read)))
+      subst (λ o. IfErr o (λ g. IsFirstFault bytes g)) (sym p.1) (subst (IsFirstFault bytes) (sym p.2) (fault_next line later next f (faults so_far.said so_far.read)))

@@ -1,12 +1,64 @@
--- One true answer more.
-use Rattle.std.proofs.Common.{◌≡◌, ℕ, ◌+◌, List, [], ◌∷◌, ◌++◌, take, slice_get, Some}
+-- Claims that were judged one after another.
+use Rattle.std.proofs.Common.{◌≡◌, ℕ, ◌+◌, suc, List, [], ◌∷◌, ◌++◌, drop, slice_get, Some, add-one, refl, sym, ap, subst, ◌∙◌}
+use Rattle.std.proofs.Math.Seq.{drop-cons}
+use Rattle.std.proofs.lemmas.List.{append_assoc}
+use Rattle.std.proofs.lemmas.Option.{slice_get_within, get_or_from_slice_get}
+use Rattle.indexmap.proofs.SetLemmas.{AllZip-push}
 use Rattle.ca_claims.specs.declared.verdict.Answer.{Answer}
-use Rattle.ca_claims.specs.Text.{Claim}
+use Rattle.ca_claims.specs.Text.{Claim, Asked}
 use Rattle.ca_claims.specs.Answers.{IsTrueAnswer, AreTrueAnswers}
-use Rattle.ca_claims.proofs.Zipped.{zip_more}
+use Rattle.ca_claims.specs.Judging.{Judging, Judges, JudgesAndNotes}
+use Rattle.ca_claims.specs.Notes.{IsNote}
+use Rattle.ca_claims.specs.declared.note.Note.{Note}
+use Rattle.ca_claims.specs.inner.Kept.{left_from, IsAnswerTo}
 
--- the answers to the first claims, and the answer to the next
-pub answers-more : (files : List (List ℕ × List ℕ)) (rules : List (List ℕ)) (claims : List (ℕ × Claim)) (i : ℕ) (answers : List Answer) (numbered : ℕ × Claim) (answer : Answer)
-    → AreTrueAnswers files rules (take i claims) answers → slice_get claims i ≡ Some numbered → IsTrueAnswer files rules numbered answer
-    → AreTrueAnswers files rules (take (i + 1) claims) (answers ++ answer ∷ [])
-answers-more files rules claims i answers numbered answer = zip_more (IsTrueAnswer files rules) claims answers i numbered answer
+-- some of the claims have true answers, and the others are left
+pub record IsAnswered (files : List (List ℕ × List ℕ)) (rules : List (List ℕ)) (claims : List (ℕ × Claim)) (left : Judging) (answers : List Answer) : Type 0 where
+  pub files_kept : left.files ≡ files
+  pub rules_kept : left.rules ≡ rules
+  pub done : List (ℕ × Claim)
+  pub split : claims ≡ done ++ left.claims
+  pub holds : AreTrueAnswers files rules done answers
+
+-- the elements from one on are that one and those after it
+from_next : {X : Type 0} (xs : List X) (i : ℕ) (x : X) → slice_get xs i ≡ Some x → drop i xs ≡ x ∷ drop (i + 1) xs
+from_next xs i x e = rw add-one (drop-cons xs i x (slice_get_within xs i x e) ∙ ap (λ y. y ∷ drop (suc i) xs) (get_or_from_slice_get xs i x x e))
+
+module _ (files : List (List ℕ × List ℕ)) (asked : Asked) (index : ℕ) (patterns : List (List ℕ × List ℕ)) (named : slice_get asked.patterns index ≡ Some patterns) (answer : Answer) (is : IsAnswerTo files asked index answer) where
+  -- the claim with an index is judged, and those after it are left
+  pub judged : Judges (left_from files asked index) (left_from files asked (index + 1)) answer
+  judged = record {
+    files = refl;
+    rules = refl;
+    claim = is.0;
+    claims = from_next asked.claims index is.0 is.1;
+    its_patterns = patterns;
+    patterns = from_next asked.patterns index patterns named;
+    holds = is.2;
+  }
+
+  -- and a true note is given
+  pub judged_and_noted : (note : Note) → IsNote files asked.rules patterns answer.verdict note → JudgesAndNotes (left_from files asked index) (left_from files asked (index + 1)) answer note
+  judged_and_noted note noted = record {
+    files = refl;
+    rules = refl;
+    claim = is.0;
+    claims = from_next asked.claims index is.0 is.1;
+    its_patterns = patterns;
+    patterns = from_next asked.patterns index patterns named;
+    holds = is.2;
+    noted = noted;
+  }
+
+module _ (files : List (List ℕ × List ℕ)) (rules : List (List ℕ)) (claims : List (ℕ × Claim)) where
+  -- one more is judged
+  pub one_more : (old new : Judging) (answers : List Answer) (answer : Answer) → IsAnswered files rules claims old answers → Judges old new answer → IsAnswered files rules claims new (answers ++ answer ∷ [])
+  one_more old new answers answer before next =
+      let holds : IsTrueAnswer files rules next.claim answer = subst (λ f. IsTrueAnswer f rules next.claim answer) before.files_kept (subst (λ r. IsTrueAnswer old.files r next.claim answer) before.rules_kept next.holds) in
+      record {
+        files_kept = next.files ∙ before.files_kept;
+        rules_kept = next.rules ∙ before.rules_kept;
+        done = before.done ++ next.claim ∷ [];
+        split = before.split ∙ ap (λ l. before.done ++ l) next.claims ∙ sym (append_assoc before.done (next.claim ∷ []) new.claims);
+        holds = AllZip-push (IsTrueAnswer files rules) before.done answers next.claim answer before.holds holds;
+      }

@@ -10,7 +10,6 @@ use Rattle.ca_quad.specs.declared.node.Node.{Node}
 use Rattle.ca_quad.specs.Trees as trees
 use Rattle.ca_rule.specs.TableNext.{TableRule}
 use Rattle.ca_rule.specs.declared.fault.RuleFault.{RuleFault}
-use Rattle.ca_rule.specs.declared.table.fault.TableFault.{TableFault}
 use Rattle.ca_rule.specs.Rule.{RuleValue, states_of, next_of, IsSameRule, IsRuleFault}
 use Rattle.ca_rule.proofs.Rules.{same-refl}
 use Rattle.ca_plane.specs.Limits.{IsInRange}
@@ -29,7 +28,8 @@ use Rattle.ca_claims.specs.Places.{path_at}
 use Rattle.ca_claims.specs.Means.{bytes_at, IsReadable, MayWantMemory}
 use Rattle.ca_claims.specs.Truth.{asks_of}
 use Rattle.ca_claims.specs.inner.Decided.{IsDecided}
-use Rattle.ca_claims.specs.Answers.{IsPatternFault, IsQuietTable, IsTableFault, IsRead, IsTableAt, AreTables, IsRuled, HasLargeState, IsMissing, IsThere, HoldsTable, Reads, HasRule, IsSmall, SomeOf, FirstBad, FirstIs, HaveOtherRules, HasCause, IsGood, AreGood, IsTrueVerdict}
+use Rattle.ca_claims.specs.Answers.{IsPatternFault, IsRead, AreTables, IsRuled, HasLargeState, IsMissing, IsThere, Reads, HasRule, IsSmall, SomeOf, FirstBad, FirstIs, HaveOtherRules, HasCause, IsGood, AreGood, IsTrueVerdict}
+use Rattle.ca_claims.specs.inner.Prepared.{IsShown}
 use Rattle.ca_claims.specs.inner.Patterns.{items, IsEachOnce, IsReadFrom, IsUnread, HasName, rule_of, IsRuledAs, ShowsLarge, ShowsSmall, AreOfOneRule, AreMixed, Disagree, IsShownBy, IsCrowded, AreBoth}
 use Rattle.ca_claims.proofs.Alike.{true-same, reason-same}
 use Rattle.ca_claims.proofs.ClaimKinds.{asks_about, paths_of}
@@ -54,7 +54,7 @@ once_all P each all (inl same) h = subst (AllByRecursion P) same h
 once_all P each all (inr (x, e, d)) h = subst (AllByRecursion P) (sym e) ((subst (AllByRecursion P) d h).0, tt)
 
 -- the bytes of the path at an index are found at that index
-bytes_found : (files : List (List ℕ × List ℕ)) (paths : List (List ℕ)) (found : List (Option (Bor (List ℕ)))) (i : ℕ) (o : Option (Bor (List ℕ)))
+pub bytes_found : (files : List (List ℕ × List ℕ)) (paths : List (List ℕ)) (found : List (Option (Bor (List ℕ)))) (i : ℕ) (o : Option (Bor (List ℕ)))
     → map option_copied found ≡ map (bytes_at files) paths → i < length found → get_or found i None ≡ o → bytes_at files (path_at paths i) ≡ option_copied o
 bytes_found files paths [] i o e within at = let no : ⊥ = omega arith in absurd no
 bytes_found files [] (f ∷ fs) i o e within at = let no : ⊥ = cc in absurd no
@@ -106,32 +106,17 @@ module _ (files : List (List ℕ × List ℕ)) (rules : List (List ℕ)) where
   cause_of_all each all cause (inl same) h = subst (λ l. HasCause files rules l cause) (sym same) h
   cause_of_all each all cause (inr (x, e, d)) h = subst (λ l. HasCause files rules l cause) (sym d) (cause_twice x cause (subst (λ l. HasCause files rules l cause) e h))
 
-  -- a cause that `?` passes on
-  pub passed_on : (claim : Claim) (r : Result Verdict Cause) (cause : Cause)
-      → IsErrAnd r (λ passed. passed ≡ cause) → HasCause files rules (patterns_of claim) cause → MatchResult r (IsTrueVerdict files rules claim) (HasCause files rules (patterns_of claim))
-  passed_on claim r cause h holds =
-      let p = err_from_is_err_and r h in
-      subst (λ o. MatchResult o (IsTrueVerdict files rules claim) (HasCause files rules (patterns_of claim))) (sym p.1) (subst (HasCause files rules (patterns_of claim)) (sym p.2) holds)
+-- a cause that `?` passes on
+pub passed_on : {A : Type 0} (Holds : A → Type 0) (Refuses : Cause → Type 0) (r : Result A Cause) (cause : Cause) → IsErrAnd r (λ passed. passed ≡ cause) → Refuses cause → MatchResult r Holds Refuses
+passed_on Holds Refuses r cause h holds =
+    let p = err_from_is_err_and r h in
+    subst (λ o. MatchResult o Holds Refuses) (sym p.1) (subst Refuses (sym p.2) holds)
 
 -- ---- files that are there
 
 -- the files of paths with these bytes are there
 pub all_there : (files : List (List ℕ × List ℕ)) (paths : List (List ℕ)) (there : List (Bor (List ℕ))) → AllZip (λ path b. bytes_at files path ≡ Some b.now) paths there → AllByRecursion (IsThere files) paths
 all_there files = zip_left (λ path b. bytes_at files path ≡ Some b.now) (IsThere files) (λ path b e. (b.now, e))
-
--- ---- the tables of files that are there
-
-module _ (files : List (List ℕ × List ℕ)) (rules : List (List ℕ)) (there : List (Bor (List ℕ))) (at : AllZip (λ path b. bytes_at files path ≡ Some b.now) rules there) where
-  -- these are the tables of the texts
-  pub are_tables : (tables : List TableRule) → AllZip (λ b t. IsQuietTable b.now t) there tables → AreTables files rules tables
-  are_tables tables = zip_through (λ path b. bytes_at files path ≡ Some b.now) (λ b t. IsQuietTable b.now t) (IsTableAt files) (λ path b t e is. (b.now, e, is)) rules there tables at
-
-  -- or this is the first that is faulty
-  pub first_faulty : (fault : TableFault) → FirstBad (λ b. (table : TableRule) × IsQuietTable b.now table) (λ b. IsTableFault b.now fault) there
-      → FirstBad (HoldsTable files) (λ p. (bytes : List ℕ) × (bytes_at files p ≡ Some bytes) × IsTableFault bytes fault) rules
-  first_faulty fault =
-      zip_first (λ path b. bytes_at files path ≡ Some b.now) (HoldsTable files) (λ p. (bytes : List ℕ) × (bytes_at files p ≡ Some bytes) × IsTableFault bytes fault)
-      (λ b. (table : TableRule) × IsQuietTable b.now table) (λ b. IsTableFault b.now fault) (λ path b e has. (has.0, (b.now, e, has.1))) (λ path b e wrong. (b.now, e, wrong)) rules there at
 
 -- ---- patterns that were read
 
@@ -177,7 +162,7 @@ judged_of_all files tables each all cells other rule (inl same) h = subst (λ l.
 judged_of_all files tables each all cells other rule (inr (x, e, d)) h =
     subst (λ l. AreGood files tables l cells other rule) (sym d) (judged_twice files tables x cells other rule (subst (λ l. AreGood files tables l cells other rule) e h))
 
--- the file of the path is there, and memory may be wanted for it
+-- the file of the path is there, and memory may run out for it
 abbrev WantsMemory : List (List ℕ × List ℕ) → List ℕ → Type 0
 WantsMemory files path = (bytes : List ℕ) × (bytes_at files path ≡ Some bytes) × MayWantMemory bytes
 
@@ -185,7 +170,7 @@ reads_want : (files : List (List ℕ × List ℕ)) (path : List ℕ) → Reads f
 reads_want files path reads = (reads.0, reads.1, wanted reads.0 reads.2)
 
 module _ (files : List (List ℕ × List ℕ)) (rules : List (List ℕ)) (tables : List TableRule) (are : AreTables files rules tables) where
-  -- a file doesn't read, or memory is wanted for it
+  -- a file doesn't read, or memory is needed for it
   pub unread : (paths : List (List ℕ)) (there : List (Bor (List ℕ))) (cause : Cause) → AllZip (λ path b. bytes_at files path ≡ Some b.now) paths there
       → FirstBad (λ b. IsReadable b.now) (λ b. IsUnread b.now cause) there → HasCause files rules paths cause
   unread paths there NoFile at first = absurd (none_bad (λ b. IsReadable b.now) there first)
@@ -209,7 +194,7 @@ module _ (files : List (List ℕ × List ℕ)) (rules : List (List ℕ)) (tables
         (λ path b e reads. (b.now, e, wanted b.now reads)) (λ path b e wants. (b.now, e, wants)) paths there at first,
   )
 
-  -- memory is wanted for patterns that were read
+  -- memory is needed for patterns that were read
   pub read_wanting : (paths : List (List ℕ)) → AllByRecursion (Reads files) paths → FirstIs (Reads files) paths → HasCause files rules paths Memory
   read_wanting [] reads first = absurd first
   read_wanting (p ∷ paths) reads first = (tables, are, there_all (p ∷ paths) reads, reads_want files p first)
@@ -270,7 +255,7 @@ module _ (files : List (List ℕ × List ℕ)) (rules : List (List ℕ)) (tables
           mixed,
         )))
 
-    -- memory is wanted for patterns with rules
+    -- memory is needed for patterns with rules
     wanting : (paths : List (List ℕ)) (patterns : OneOrTwo Ruled) → AllZip At paths (items patterns) → HasCause files rules paths Memory
     wanting [] (One a) ruled = absurd ruled
     wanting [] (Two a b) ruled = absurd ruled
@@ -359,23 +344,13 @@ module _ (files : List (List ℕ × List ℕ)) (rules : List (List ℕ)) (tables
 
     -- ---- verdicts
 
-    -- planes show what the files mean, which has few cells
-    record IsShown (paths : List (List ℕ)) (cells other : Picture) (rule : RuleValue) : Type 0 where
-      shown : Picture
-      other_shown : Picture
-      same : IsSame cells shown
-      other_same : IsSame other other_shown
-      few : HasFewCells (cell shown)
-      other_few : HasFewCells (cell other_shown)
-      good : AreGood files tables paths shown other_shown rule
-
     -- a plane is that of a pattern
     plane_same : (path : List ℕ) (a : Ruled) (at : At path a) (plane cells : Picture) → IsShownBy nodes a plane → cells ≡ plane → IsSame cells (ruled_picture nodes files path tables a at)
     plane_same path a at plane cells shown e = subst (λ l. IsSame l (ruled_picture nodes files path tables a at)) (sym e) (plane_shows nodes files path tables a at plane shown)
 
-    all_shown : (paths : List (List ℕ)) (patterns : OneOrTwo Ruled) (planes : List Picture) (cells other : Picture) (rule : RuleValue) → AllZip At paths (items patterns)
+    pub all_shown : (paths : List (List ℕ)) (patterns : OneOrTwo Ruled) (planes : List Picture) (cells other : Picture) (rule : RuleValue) → AllZip At paths (items patterns)
         → AllByRecursion (ShowsSmall nodes) (items patterns) → AreOfOneRule (items patterns) rule → AllZip (IsShownBy nodes) (items patterns) planes → AreBoth planes cells other
-        → IsShown paths cells other rule
+        → IsShown files rules paths cells other rule
     unfolding agreed
     all_shown [] (One a) planes cells other rule ruled small one made both = absurd ruled
     all_shown (p ∷ q ∷ paths) (One a) planes cells other rule ruled small one made both = absurd ruled.1
@@ -386,9 +361,11 @@ module _ (files : List (List ℕ × List ℕ)) (rules : List (List ℕ)) (tables
       other_shown = ruled_picture nodes files p tables a ruled.0;
       same = plane_same p a ruled.0 u cells made.0 both.0;
       other_same = plane_same p a ruled.0 u other made.0 both.1;
-      few = plane_is_few nodes files p tables a ruled.0 u made.0;
-      other_few = plane_is_few nodes files p tables a ruled.0 u made.0;
-      good = (agreed (p ∷ []) (One a) rule ruled small one).good;
+      judged = (
+        (tables, are, (agreed (p ∷ []) (One a) rule ruled small one).good),
+        plane_is_few nodes files p tables a ruled.0 u made.0,
+        plane_is_few nodes files p tables a ruled.0 u made.0,
+      );
     }
     all_shown [] (Two a b) planes cells other rule ruled small one made both = absurd ruled
     all_shown (p ∷ []) (Two a b) planes cells other rule ruled small one made both = absurd ruled.1
@@ -401,9 +378,11 @@ module _ (files : List (List ℕ × List ℕ)) (rules : List (List ℕ)) (tables
       other_shown = ruled_picture nodes files q tables b ruled.1.0;
       same = plane_same p a ruled.0 u cells made.0 both.0;
       other_same = plane_same q b ruled.1.0 v other made.1.0 both.1;
-      few = plane_is_few nodes files p tables a ruled.0 u made.0;
-      other_few = plane_is_few nodes files q tables b ruled.1.0 v made.1.0;
-      good = (agreed (p ∷ q ∷ []) (Two a b) rule ruled small one).good;
+      judged = (
+        (tables, are, (agreed (p ∷ q ∷ []) (Two a b) rule ruled small one).good),
+        plane_is_few nodes files p tables a ruled.0 u made.0,
+        plane_is_few nodes files q tables b ruled.1.0 v made.1.0,
+      );
     }
 
   -- a claim that is judged may want memory
@@ -429,15 +408,15 @@ module _ (files : List (List ℕ × List ℕ)) (rules : List (List ℕ)) (tables
   decided_true claim cells shown other other_shown rule (Refused cause) same others few other_few good decided =
       subst (HasCause files rules (patterns_of claim)) (sym decided) (memory_wanted (patterns_of claim) shown other_shown rule good)
 
-  pub true_verdict : (nodes : List Node) (at : List (List ℕ)) (claim : ClaimOf ℕ) (paths : List (List ℕ)) (patterns : OneOrTwo Ruled) (planes : List Picture) (cells other : Picture) (rule : RuleValue) (verdict : Verdict)
-      → IsEachOnce paths (patterns_of (about (path_at at) claim)) → AllZip (λ path r. IsRuledAt nodes files path tables r) paths (items patterns)
-      → AllByRecursion (ShowsSmall nodes) (items patterns) → AreOfOneRule (items patterns) rule → AllZip (IsShownBy nodes) (items patterns) planes → AreBoth planes cells other
-      → IsDecided (next_of rule) cells other (asks_of claim) verdict → IsTrueVerdict files rules (about (path_at at) claim) verdict
-  true_verdict nodes at claim paths patterns planes cells other rule verdict once ruled small one made both decided =
-      let all = all_shown nodes paths patterns planes cells other rule ruled small one made both in
-      decided_true (about (path_at at) claim) cells all.shown other all.other_shown rule verdict all.same all.other_same all.few all.other_few
-      (judged_of_all files tables paths (patterns_of (about (path_at at) claim)) all.shown all.other_shown rule once all.good)
-      (subst (λ asks. IsDecided (next_of rule) cells other asks verdict) (sym (asks_about (path_at at) claim)) decided)
+-- so what is decided of planes is true of a claim about paths of which each is given once
+pub true_verdict : (files : List (List ℕ × List ℕ)) (rules at : List (List ℕ)) (claim : ClaimOf ℕ) (paths : List (List ℕ)) (cells other : Picture) (rule : RuleValue) (verdict : Verdict)
+    → IsEachOnce paths (patterns_of (about (path_at at) claim)) → IsShown files rules paths cells other rule → IsDecided (next_of rule) cells other (asks_of claim) verdict
+    → IsTrueVerdict files rules (about (path_at at) claim) verdict
+true_verdict files rules at claim paths cells other rule verdict once all decided =
+    let (tables, are, good) = all.judged.0 in
+    decided_true files rules tables are (about (path_at at) claim) cells all.shown other all.other_shown rule verdict all.same all.other_same all.judged.1 all.judged.2
+    (judged_of_all files tables paths (patterns_of (about (path_at at) claim)) all.shown all.other_shown rule once good)
+    (subst (λ asks. IsDecided (next_of rule) cells other asks verdict) (sym (asks_about (path_at at) claim)) decided)
 
 -- ---- the planes that are judged
 

@@ -54,7 +54,7 @@ no_shift = (omega (arith, ints), omega (arith, ints))
 
 -- a claim with good numbers asks for few generations, and for a live pattern where a return is barred
 pub asks_bounded : (claim : ClaimOf ℕ) → HasGoodNumbers claim → IsBounded (asks_of claim)
-asks_bounded (Still pattern) good = record { few = omega arith; right = no_shift; down = no_shift; live = λ _. refl }
-asks_bounded (Oscillator pattern period) good = record { few = omega (arith, good.1); right = no_shift; down = no_shift; live = λ _. refl }
-asks_bounded (Spaceship pattern period dx dy) good = record { few = omega (arith, good.1); right = good.2; down = good.3; live = λ _. refl }
-asks_bounded (Becomes pattern generations other) good = record { few = good; right = no_shift; down = no_shift; live = λ some. absurd (some refl) }
+asks_bounded (Still pattern) good = record { few = omega arith; right = no_shift; down = no_shift; live = λ _. refl; own = λ _. refl; short = λ _. omega arith }
+asks_bounded (Oscillator pattern period) good = record { few = omega (arith, good.1); right = no_shift; down = no_shift; live = λ _. refl; own = λ _. refl; short = λ _. omega (arith, good.1) }
+asks_bounded (Spaceship pattern period dx dy) good = record { few = omega (arith, good.1); right = good.2; down = good.3; live = λ _. refl; own = λ _. refl; short = λ _. omega (arith, good.1) }
+asks_bounded (Becomes pattern generations other) good = record { few = good; right = no_shift; down = no_shift; live = λ some. absurd (some refl); own = λ some. absurd (some refl); short = λ some. absurd (some refl) }

@@ -126,6 +126,11 @@ found-at f g (x ∷ xs) (z ∷ zs) (suc i) o y e h k =
     let tail : map f xs ≡ map g zs = cc in
     found-at f g xs zs i o y tail h k
 
+-- what isn't some is none
+pub is_nothing : {X : Type 0} (o : Option X) → is_some o ≡ false → o ≡ None
+is_nothing None h = refl
+is_nothing (Some x) h = absurd (false≢true (sym h))
+
 -- a place that is empty has no bytes
 pub copied-none : (o : Option (Bor (List ℕ))) → is_some o ≡ false → option_copied o ≡ None
 copied-none None h = refl

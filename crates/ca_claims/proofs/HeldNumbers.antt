@@ -7,7 +7,7 @@ use Rattle.ca_claims.specs.declared.claims.line.Claim.TheVariants.{Still, Oscill
 use Rattle.ca_claims.specs.Text.{Claim, Claims, WordsSay}
 use Rattle.ca_claims.specs.inner.Reading.{IsHeldShift, IsHeldClaim}
 
--- what stands behind a word that begins equal words
+-- what stands after a word that begins equal words
 behind_word : (w : List ℕ) (vs ws : List (List ℕ)) → w ∷ vs ≡ w ∷ ws → vs ≡ ws
 behind_word w vs ws e = cc
 

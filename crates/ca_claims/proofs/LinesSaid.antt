@@ -63,7 +63,7 @@ claims_from-append n earlier (Some (Load name path) ∷ said) more =
     ∙ ap (λ l. claims_from (n + 1) (earlier ++ line ∷ []) said ++ l) (same_claims _ _ _ _ more (omega arith) (one_before earlier line (spoken said)))
 claims_from-append n earlier (Some (Claims claim) ∷ said) more =
     let line = Claims claim in
-    ap (λ l. (n, about (λ name. unwrap_or (path_of earlier name) []) claim) ∷ l)
+    ap (λ l. (n, about (λ name. (name, unwrap_or (path_of earlier name) [])) claim) ∷ l)
     (claims_from-append (n + 1) (earlier ++ line ∷ []) said more
     ∙ ap (λ l. claims_from (n + 1) (earlier ++ line ∷ []) said ++ l) (same_claims _ _ _ _ more (omega arith) (one_before earlier line (spoken said))))
 

@@ -61,15 +61,15 @@ same_next earlier words None (Some b) h k = absurd (false≢true (sym k.0 ∙ h)
 same_next earlier words (Some a) None h k = absurd (false≢true (sym h.0 ∙ k))
 same_next earlier words (Some a) (Some b) h k = ap Some (same_line words a b h.1 k.1)
 
--- lines that stand behind the first
-behind_first : List Line → Option Line → List Line
-behind_first earlier None = earlier
-behind_first earlier (Some line) = earlier ++ line ∷ []
+-- what is said before the lines that follow the first
+after_first : List Line → Option Line → List Line
+after_first earlier None = earlier
+after_first earlier (Some line) = earlier ++ line ∷ []
 
--- the first line and those behind it
+-- the first line and those after it
 first_says : (earlier : List Line) (l : List ℕ) (ls : List (List ℕ)) (s : Option Line) (said : List (Option Line)) → LinesSay earlier (l ∷ ls) (s ∷ said)
-    → SaysNext earlier (words_of l) s × LinesSay (behind_first earlier s) ls said
-unfolding behind_first
+    → SaysNext earlier (words_of l) s × LinesSay (after_first earlier s) ls said
+unfolding after_first
 first_says earlier l ls None said h = (h.0, h.1)
 first_says earlier l ls (Some line) said h = ((h.0, h.1, h.2), h.3)
 
@@ -84,12 +84,12 @@ same_said earlier (l ∷ ls) (s ∷ ss) (t ∷ ts) h k =
     let a = first_says earlier l ls s ss h in
     let b = first_says earlier l ls t ts k in
     let same : s ≡ t = same_next earlier (words_of l) s t a.0 b.0 in
-    let later : ss ≡ ts = same_said (behind_first earlier t) ls ss ts (subst (λ o. LinesSay (behind_first earlier o) ls ss) same a.1) b.1 in
+    let later : ss ≡ ts = same_said (after_first earlier t) ls ss ts (subst (λ o. LinesSay (after_first earlier o) ls ss) same a.1) b.1 in
     λ i. same i ∷ later i
 
--- what lines say behind the first, and the first's
-spoken_first : (earlier : List Line) (s : Option Line) (said : List (Option Line)) → earlier ++ spoken (s ∷ said) ≡ behind_first earlier s ++ spoken said
-unfolding behind_first
+-- what lines say after the first, and what the first says
+spoken_first : (earlier : List Line) (s : Option Line) (said : List (Option Line)) → earlier ++ spoken (s ∷ said) ≡ after_first earlier s ++ spoken said
+unfolding after_first
 spoken_first earlier None said = refl
 spoken_first earlier (Some line) said = sym (one_before earlier line (spoken said))
 
@@ -135,9 +135,9 @@ same_fault n earlier words f Memory x y h k = absurd (y refl)
 -- the first faulty one of these lines, the first of which has the number n, has this fault
 abbrev FirstAt : ℕ → List Line → List (List ℕ) → ClaimFault → Type 0
 FirstAt n earlier [] f = ⊥
-FirstAt n earlier (l ∷ ls) f = HasFault n earlier (words_of l) f ⊎ ((s : Option Line) × SaysNext earlier (words_of l) s × FirstAt (n + 1) (behind_first earlier s) ls f)
+FirstAt n earlier (l ∷ ls) f = HasFault n earlier (words_of l) f ⊎ ((s : Option Line) × SaysNext earlier (words_of l) s × FirstAt (n + 1) (after_first earlier s) ls f)
 
--- a fault behind good lines is the first
+-- a fault after good lines is the first
 first_at : (n : ℕ) (earlier : List Line) (before : List (List ℕ)) (l : List ℕ) (later : List (List ℕ)) (said : List (Option Line)) (f : ClaimFault) → LinesSay earlier before said
     → HasFault (length before + n) (earlier ++ spoken said) (words_of l) f → FirstAt n earlier (before ++ l ∷ later) f
 first_at n earlier [] l later [] f good h =
@@ -147,7 +147,7 @@ first_at n earlier (k ∷ ks) l later [] f good h = absurd good
 first_at n earlier (k ∷ ks) l later (s ∷ said) f good h =
     let a = first_says earlier k ks s said good in
     let counted : suc (length ks) + n ≡ length ks + (n + 1) = omega arith in
-    inr (s, a.0, first_at (n + 1) (behind_first earlier s) ks l later said f a.1 (subst (λ ls. HasFault (length ks + (n + 1)) ls (words_of l) f) (spoken_first earlier s said) (subst (λ m. HasFault m (earlier ++ spoken (s ∷ said)) (words_of l) f) counted h)))
+    inr (s, a.0, first_at (n + 1) (after_first earlier s) ks l later said f a.1 (subst (λ ls. HasFault (length ks + (n + 1)) ls (words_of l) f) (spoken_first earlier s said) (subst (λ m. HasFault m (earlier ++ spoken (s ∷ said)) (words_of l) f) counted h)))
 
 -- the first fault of a text is that of its lines
 of_lines : (bytes : List ℕ) (f : ClaimFault) → f ≢ Memory → IsFirstFault bytes f → FirstAt 1 [] (lines_of bytes) f
@@ -165,7 +165,7 @@ no_fault n earlier (l ∷ ls) (s ∷ said) f ne good (inl h) = fault_says_none n
 no_fault n earlier (l ∷ ls) (s ∷ said) f ne good (inr h) =
     let a = first_says earlier l ls s said good in
     let same : h.0 ≡ s = same_next earlier (words_of l) h.0 s h.1 a.0 in
-    no_fault (n + 1) (behind_first earlier s) ls said f ne a.1 (subst (λ o. FirstAt (n + 1) (behind_first earlier o) ls f) same h.2)
+    no_fault (n + 1) (after_first earlier s) ls said f ne a.1 (subst (λ o. FirstAt (n + 1) (after_first earlier o) ls f) same h.2)
 
 -- lines have one first fault
 same_first : (n : ℕ) (earlier : List Line) (lines : List (List ℕ)) (f g : ClaimFault) → f ≢ Memory → g ≢ Memory → FirstAt n earlier lines f → FirstAt n earlier lines g → f ≡ g
@@ -175,7 +175,7 @@ same_first n earlier (l ∷ ls) f g x y (inl h) (inr k) = absurd (fault_says_non
 same_first n earlier (l ∷ ls) f g x y (inr h) (inl k) = absurd (fault_says_none n earlier (words_of l) g h.0 y k h.1)
 same_first n earlier (l ∷ ls) f g x y (inr h) (inr k) =
     let same : k.0 ≡ h.0 = same_next earlier (words_of l) k.0 h.0 k.1 h.1 in
-    same_first (n + 1) (behind_first earlier h.0) ls f g x y h.2 (subst (λ o. FirstAt (n + 1) (behind_first earlier o) ls g) same k.2)
+    same_first (n + 1) (after_first earlier h.0) ls f g x y h.2 (subst (λ o. FirstAt (n + 1) (after_first earlier o) ls g) same k.2)
 
 -- a text whose lines say something has no fault
 pub no_first_fault : (bytes : List ℕ) (said : List (Option Line)) (f : ClaimFault) → f ≢ Memory → IsClaimText bytes said → IsFirstFault bytes f → ⊥

@@ -48,9 +48,9 @@ kept_there p x (q ∷ es) e =
       | inr apart ↦ rw apart (ap (λ b. bytes_eq p q || b) later)
     ]
 
--- and is put behind those other than x
-put_behind : (p x : List ℕ) (es : List (List ℕ)) → bytes_eq p x ≡ false → filter (λ q. not (bytes_eq q x)) (with_path es p) ≡ with_path (filter (λ q. not (bytes_eq q x)) es) p
-put_behind p x es e =
+-- and is put after those other than x
+put_after : (p x : List ℕ) (es : List (List ℕ)) → bytes_eq p x ≡ false → filter (λ q. not (bytes_eq q x)) (with_path es p) ≡ with_path (filter (λ q. not (bytes_eq q x)) es) p
+put_after p x es e =
     let stays : filter (λ q. not (bytes_eq q x)) (p ∷ []) ≡ p ∷ [] = rw e refl in
     let same = kept_there p x es e in
     elim (cases_Bool (list_any (bytes_eq p) es)) [
@@ -62,7 +62,7 @@ put_behind p x es e =
 with_first : (p x : List ℕ) (es : List (List ℕ)) → bytes_eq p x ≡ true → with_path (x ∷ es) p ≡ x ∷ es
 with_first p x es e = rw e refl
 
--- any other is put behind the first as behind the others
+-- any other is put after the first, as after the others
 with_other : (p x : List ℕ) (es : List (List ℕ)) → bytes_eq p x ≡ false → with_path (x ∷ es) p ≡ x ∷ with_path es p
 with_other p x es e = elim (cases_Bool (list_any (bytes_eq p) es)) [ inl here ↦ rw (e, here) refl | inr new ↦ rw (e, new) refl ]
 
@@ -73,14 +73,19 @@ each_once-push (x ∷ xs) p =
     let later = ap (λ l. x ∷ filter (λ q. not (bytes_eq q x)) l) (each_once-push xs p) in
     elim (cases_Bool (bytes_eq p x)) [
       | inl e ↦ later ∙ ap (λ l. x ∷ l) (none_left p x (each_once xs) e) ∙ sym (with_first p x (filter (λ q. not (bytes_eq q x)) (each_once xs)) e)
-      | inr e ↦ later ∙ ap (λ l. x ∷ l) (put_behind p x (each_once xs) e) ∙ sym (with_other p x (filter (λ q. not (bytes_eq q x)) (each_once xs)) e)
+      | inr e ↦ later ∙ ap (λ l. x ∷ l) (put_after p x (each_once xs) e) ∙ sym (with_other p x (filter (λ q. not (bytes_eq q x)) (each_once xs)) e)
     ]
 
--- paths keep their places where more come behind them
-stays_before : (paths more : List (List ℕ)) (i : ℕ) → i < length paths → slice_get (paths ++ more) i ≡ slice_get paths i
+-- paths keep their places where more come after them
+pub stays_before : (paths more : List (List ℕ)) (i : ℕ) → i < length paths → slice_get (paths ++ more) i ≡ slice_get paths i
 stays_before [] more i h = absurd (omega arith)
 stays_before (p ∷ ps) more zero h = refl
 stays_before (p ∷ ps) more (suc i) h = stays_before ps more i (omega arith)
+
+-- the last one stands where the others end
+pub stands_last : (texts : List (List ℕ)) (text : List ℕ) → slice_get (texts ++ text ∷ []) (length texts) ≡ Some text
+stands_last [] text = refl
+stands_last (t ∷ ts) text = stands_last ts text
 
 -- the paths keep their places
 pub kept_place : (paths : List (List ℕ)) (path : List ℕ) (i : ℕ) → i < length paths → slice_get (with_path paths path) i ≡ slice_get paths i

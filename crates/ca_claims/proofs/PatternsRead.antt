@@ -28,7 +28,7 @@ use Rattle.ca_claims.proofs.Shown.{small_shown, large_shown, few_shown, many_sho
 
 -- ---- files that read
 
--- memory may be wanted for them
+-- memory may run out for them
 wanted_as : (format : Target) (bytes : List ℕ) → IsReadableAs format bytes → MayWantMemoryAs format bytes
 wanted_as Rle bytes reads = reads
 wanted_as Mc bytes reads = inr (reads.0, reads.1)

@@ -1,21 +1,22 @@
 -- What is kept of the lines so far, after one more line.
-use Rattle.std.proofs.Common.{◌≡◌, ℕ, ◌+◌, ◌<◌, true, false, List, [], ◌∷◌, ◌++◌, map, slice_get, length, All, Option, Some, None, Result, Ok, Err, is_ok, OnOk, unwrap_or, is_some, IsSome, refl, sym, ap, subst, ◌∙◌, inl, inr, arith}
+use Rattle.std.proofs.Common.{◌≡◌, ℕ, ◌+◌, ◌<◌, true, false, List, [], ◌∷◌, ◌++◌, map, slice_get, length, All, ◌≤◌, Option, Some, None, Result, Ok, Err, is_ok, OnOk, unwrap_or, is_some, IsSome, refl, sym, ap, subst, ◌∙◌, inl, inr, arith}
 use Rattle.std.specs.List.{AllByRecursion}
 use Rattle.std.specs.Map.{update}
 use Rattle.std.specs.Option.{option_or}
 use Rattle.std.specs.Str.{bytes_eq}
 use Rattle.std.proofs.lemmas.Bool.{cases_Bool, false≢true}
-use Rattle.std.proofs.lemmas.List.{append-nil, map-append}
+use Rattle.std.proofs.lemmas.List.{append-nil, map-append, length_push}
 use Rattle.std.proofs.lemmas.List.Elements.{All-head, All-tail, All-weaker, All-push}
 use Rattle.std.proofs.lemmas.Option.{slice_get_within}
 use Rattle.std.proofs.lemmas.Slice.Eq.{bytes_eq-Decides}
 use Rattle.ca_claims.specs.declared.claims.line.Claim.{Claim as ClaimOf}
 use Rattle.ca_claims.specs.declared.claims.line.ClaimLine.{ClaimLine}
-use Rattle.ca_claims.specs.Places.{path_at, IsAsked, numbered}
+use Rattle.ca_claims.specs.declared.claims.line.Place.{Place}
+use Rattle.ca_claims.specs.Places.{path_at, named_at, named, IsNamed}
 use Rattle.ca_claims.specs.Text.{Claim, patterns_of, about, HasGoodNumbers, Line, Rule, Load, Claims, path_of, AreLoaded, IsAllowed, spoken, rule_paths, file_paths, each_once, claims_from}
-use Rattle.ca_claims.specs.inner.Reading.{IsKept, StandsAt, AreKnown, at_places, with_path}
+use Rattle.ca_claims.specs.inner.Reading.{IsKept, StandsAt, AreKnown, known_place, at_places, with_path}
 use Rattle.ca_claims.proofs.ClaimKinds.{paths_of, about_same, about_twice, numbers_about}
-use Rattle.ca_claims.proofs.PathLists.{each_once-push, kept_place, no_fewer}
+use Rattle.ca_claims.proofs.PathLists.{each_once-push, stays_before, stands_last, kept_place, no_fewer}
 use Rattle.ca_claims.proofs.LinesSaid.{spoken-append, rule_paths-append, file_paths-append, path_of-append, claims_from-append}
 
 -- what holds of a result that is Ok
@@ -43,48 +44,78 @@ all_map : {X Y : Type 0} (f : X → Y) (P : Y → Type 0) (xs : List X) → AllB
 all_map f P [] h = tt
 all_map f P (x ∷ xs) h = (h.0, all_map f P xs h.1)
 
--- a path keeps its index where a path is put
-path_kept : (paths : List (List ℕ)) (path : List ℕ) (i : ℕ) → i < length paths → path_at (with_path paths path) i ≡ path_at paths i
-path_kept paths path i h = ap (λ o. unwrap_or o []) (kept_place paths path i h)
+-- the texts of a list keep their places in another, which is no shorter
+pub record Grown (old new : List (List ℕ)) : Type 0 where
+  pub no_shorter : length old ≤ length new
+  pub stays : (i : ℕ) → i < length old → slice_get new i ≡ slice_get old i
 
--- and a claim its paths
-claim_kept : (paths : List (List ℕ)) (path : List ℕ) (claim : ClaimOf ℕ) → AllByRecursion (λ i. i < length paths) (patterns_of claim) → about (path_at (with_path paths path)) claim ≡ about (path_at paths) claim
-claim_kept paths path claim within =
-    about_same (path_at (with_path paths path)) (path_at paths) claim
-    (AllByRecursion-weaker (λ i. i < length paths) (λ i. path_at (with_path paths path) i ≡ path_at paths i) (λ i lt. path_kept paths path i lt) (patterns_of claim) within)
+-- in the same list
+pub grown_same : (texts : List (List ℕ)) → Grown texts texts
+grown_same texts = record { no_shorter = omega arith; stays = λ i lt. refl }
 
--- what is asked stays so
-asked_kept : (paths : List (List ℕ)) (path : List ℕ) (claim : ClaimOf ℕ) → IsAsked paths claim → IsAsked (with_path paths path) claim
-asked_kept paths path claim h = record {
-  within = AllByRecursion-weaker (λ i. i < length paths) (λ i. i < length (with_path paths path)) (λ i lt. omega (arith, no_fewer paths path)) (patterns_of claim) h.within;
-  numbers = h.numbers;
-}
+-- where a path is put
+pub grown_path : (paths : List (List ℕ)) (path : List ℕ) → Grown paths (with_path paths path)
+grown_path paths path = record { no_shorter = no_fewer paths path; stays = kept_place paths path }
+
+-- and where a text is pushed
+pub grown_push : (texts : List (List ℕ)) (text : List ℕ) → Grown texts (texts ++ text ∷ [])
+grown_push texts text = record { no_shorter = omega (arith, length_push texts text); stays = stays_before texts (text ∷ []) }
+
+-- a text is found at its index
+text_kept : (old new : List (List ℕ)) → Grown old new → (i : ℕ) → i < length old → path_at new i ≡ path_at old i
+text_kept old new grown i lt = ap (λ o. unwrap_or o []) (grown.stays i lt)
 
 -- rules keep their tables
-rules_kept : (paths : List (List ℕ)) (path : List ℕ) (rules : List ℕ) → All (λ i. i < length paths) rules → map (path_at (with_path paths path)) rules ≡ map (path_at paths) rules
-rules_kept paths path [] h = refl
-rules_kept paths path (i ∷ is) h =
-    let first = path_kept paths path i (All-head (λ k. k < length paths) i is h) in
-    let others = rules_kept paths path is (All-tail (λ k. k < length paths) i is h) in
+rules_kept : (paths more : List (List ℕ)) → Grown paths more → (rules : List ℕ) → All (λ i. i < length paths) rules → map (path_at more) rules ≡ map (path_at paths) rules
+rules_kept paths more grown [] h = refl
+rules_kept paths more grown (i ∷ is) h =
+    let first = text_kept paths more grown i (All-head (λ k. k < length paths) i is h) in
+    let others = rules_kept paths more grown is (All-tail (λ k. k < length paths) i is h) in
     λ j. first j ∷ others j
 
 -- and their places within the paths
-places_kept : (paths : List (List ℕ)) (path : List ℕ) (rules : List ℕ) → All (λ i. i < length paths) rules → All (λ i. i < length (with_path paths path)) rules
-places_kept paths path rules h = All-weaker (λ i. i < length paths) (λ i. i < length (with_path paths path)) (λ i lt. omega (arith, no_fewer paths path)) rules h
+places_kept : (paths more : List (List ℕ)) → Grown paths more → (rules : List ℕ) → All (λ i. i < length paths) rules → All (λ i. i < length more) rules
+places_kept paths more grown rules h = All-weaker (λ i. i < length paths) (λ i. i < length more) (λ i lt. omega (arith, grown.no_shorter)) rules h
 
--- all claims keep theirs
-all_kept : (paths : List (List ℕ)) (path : List ℕ) (claims : List ClaimLine) → All (λ l. IsAsked paths l.claim) claims → map (numbered (with_path paths path)) claims ≡ map (numbered paths) claims
-all_kept paths path [] h = refl
-all_kept paths path (l ∷ ls) h =
-    let asked = All-head (λ k. IsAsked paths k.claim) l ls h in
-    let first = claim_kept paths path l.claim asked.within in
-    let others = all_kept paths path ls (All-tail (λ k. IsAsked paths k.claim) l ls h) in
-    λ i. (l.line, first i) ∷ others i
+module _ (names after paths more : List (List ℕ)) (grown : Grown names after) (longer : Grown paths more) where
+  -- what a place names stays
+  named_kept : (p : Place) → (p.name < length names) × (p.path < length paths) → named_at after more p ≡ named_at names paths p
+  named_kept p within =
+      let name = text_kept names after grown p.name within.0 in
+      let path = text_kept paths more longer p.path within.1 in
+      λ i. (name i, path i)
 
--- and names keep their paths
-name_kept : (paths : List (List ℕ)) (path : List ℕ) (o : Option ℕ) (found : Option (List ℕ)) → StandsAt paths o found → StandsAt (with_path paths path) o found
-name_kept paths path None found h = h
-name_kept paths path (Some i) found h = (h.0, kept_place paths path i (slice_get_within paths i h.0 h.1) ∙ h.1, h.2)
+  -- a claim keeps its names and paths
+  claim_kept : (l : ClaimLine Place) → IsNamed names paths l.claim → named after more l ≡ named names paths l
+  claim_kept l h =
+      let same = about_same (named_at after more) (named_at names paths) l.claim
+      (AllByRecursion-weaker (λ p. (p.name < length names) × (p.path < length paths)) (λ p. named_at after more p ≡ named_at names paths p) named_kept (patterns_of l.claim) h.within) in
+      λ i. (l.line, same i)
+
+  -- which are there
+  named_there : (claim : ClaimOf Place) → IsNamed names paths claim → IsNamed after more claim
+  named_there claim h = record {
+    within = AllByRecursion-weaker (λ p. (p.name < length names) × (p.path < length paths)) (λ p. (p.name < length after) × (p.path < length more))
+        (λ p lt. (omega (arith, lt.0, grown.no_shorter), omega (arith, lt.1, longer.no_shorter))) (patterns_of claim) h.within;
+    numbers = h.numbers;
+  }
+
+  -- so do all claims
+  all_kept : (claims : List (ClaimLine Place)) → All (λ l. IsNamed names paths l.claim) claims → map (named after more) claims ≡ map (named names paths) claims
+  all_kept [] h = refl
+  all_kept (l ∷ ls) h =
+      let first = claim_kept l (All-head (λ k. IsNamed names paths k.claim) l ls h) in
+      let others = all_kept ls (All-tail (λ k. IsNamed names paths k.claim) l ls h) in
+      λ i. first i ∷ others i
+
+  all_there : (claims : List (ClaimLine Place)) → All (λ l. IsNamed names paths l.claim) claims → All (λ l. IsNamed after more l.claim) claims
+  all_there claims h = All-weaker (λ l. IsNamed names paths l.claim) (λ l. IsNamed after more l.claim) (λ l. named_there l.claim) claims h
+
+  -- and each name
+  name_kept : (name : List ℕ) (o : Option Place) (found : Option (List ℕ)) → StandsAt names paths name o found → StandsAt after more name o found
+  name_kept name None found h = h
+  name_kept name (Some p) found h =
+      (h.0, grown.stays p.name (slice_get_within names p.name name h.1) ∙ h.1, longer.stays p.path (slice_get_within paths p.path h.0 h.2) ∙ h.2, h.3)
 
 -- a path is found where it is loaded and wasn't before
 loaded_now : (lines : List Line) (name path q : List ℕ) → path_of lines name ≡ None → bytes_eq name q ≡ true → path_of (lines ++ Load name path ∷ []) q ≡ Some path
@@ -105,9 +136,9 @@ rule_loads_none lines path q = path_of-append lines (Rule path ∷ []) q ∙ opt
 claim_loads_none : (lines : List Line) (claim : Claim) (q : List ℕ) → path_of (lines ++ Claims claim ∷ []) q ≡ path_of lines q
 claim_loads_none lines claim q = path_of-append lines (Claims claim ∷ []) q ∙ option_or_none (path_of lines q)
 
-module _ (said : List (Option Line)) (paths : List (List ℕ)) (rules : List ℕ) (claims : List ClaimLine) (names : List ℕ → Option ℕ) (read : IsKept said paths rules claims names) where
+module _ (said : List (Option Line)) (names paths : List (List ℕ)) (rules : List ℕ) (claims : List (ClaimLine Place)) (places : List ℕ → Option Place) (read : IsKept said names paths rules claims places) where
   -- a line that says nothing
-  pub read_none : IsKept (said ++ None ∷ []) paths rules claims names
+  pub read_none : IsKept (said ++ None ∷ []) names paths rules claims places
   read_none =
       let same : spoken (said ++ None ∷ []) ≡ spoken said = spoken-append said (None ∷ []) ∙ append-nil (spoken said) in
       record {
@@ -116,7 +147,7 @@ module _ (said : List (Option Line)) (paths : List (List ℕ)) (rules : List ℕ
         placed = read.placed;
         asked = read.asked ∙ sym (claims_from-append 1 [] said (None ∷ []) ∙ append-nil (claims_from 1 [] said));
         good = read.good;
-        named = λ q. subst (λ ls. StandsAt paths (names q) (path_of ls q)) (sym same) (read.named q);
+        known = λ q. subst (λ ls. StandsAt names paths q (places q) (path_of ls q)) (sym same) (read.known q);
       }
 
   -- the paths after a line with one more
@@ -125,124 +156,134 @@ module _ (said : List (Option Line)) (paths : List (List ℕ)) (rules : List ℕ
       ap (λ l. with_path l path) read.once ∙ sym (each_once-push (file_paths said) path)
       ∙ ap (λ l. each_once (file_paths said ++ l)) (sym e) ∙ ap each_once (sym (file_paths-append said (Some line ∷ [])))
 
-  -- what was asked before it
-  asked_before : (path : List ℕ) → All (λ l. IsAsked (with_path paths path) l.claim) claims
-  asked_before path = All-weaker (λ l. IsAsked paths l.claim) (λ l. IsAsked (with_path paths path) l.claim) (λ l. asked_kept paths path l.claim) claims read.good
-
   -- a line that says where a rule table is
   pub read_rule : (path : List ℕ) (place : ℕ) → slice_get (with_path paths path) place ≡ Some path
-      → IsKept (said ++ Some (Rule path) ∷ []) (with_path paths path) (rules ++ place ∷ []) claims names
+      → IsKept (said ++ Some (Rule path) ∷ []) names (with_path paths path) (rules ++ place ∷ []) claims places
   read_rule path place at =
       let s : Option Line = Some (Rule path) in
+      let same = grown_same names in
+      let longer = grown_path paths path in
       record {
         once = once_more path (Rule path) refl;
         ruled = map-append (path_at (with_path paths path)) rules (place ∷ [])
-            ∙ ap (λ l. l ++ path_at (with_path paths path) place ∷ []) (rules_kept paths path rules read.placed ∙ read.ruled)
+            ∙ ap (λ l. l ++ path_at (with_path paths path) place ∷ []) (rules_kept paths (with_path paths path) longer rules read.placed ∙ read.ruled)
             ∙ ap (λ p. rule_paths said ++ unwrap_or p [] ∷ []) at
             ∙ sym (rule_paths-append said (s ∷ []));
-        placed = All-push (λ i. i < length (with_path paths path)) rules place (places_kept paths path rules read.placed) (slice_get_within (with_path paths path) place path at);
-        asked = all_kept paths path claims read.good ∙ read.asked ∙ sym (claims_from-append 1 [] said (s ∷ []) ∙ append-nil (claims_from 1 [] said));
-        good = asked_before path;
-        named = λ q. subst (StandsAt (with_path paths path) (names q)) (sym (ap (λ ls. path_of ls q) (spoken-append said (s ∷ [])) ∙ rule_loads_none (spoken said) path q))
-            (name_kept paths path (names q) (path_of (spoken said) q) (read.named q));
+        placed = All-push (λ i. i < length (with_path paths path)) rules place (places_kept paths (with_path paths path) longer rules read.placed) (slice_get_within (with_path paths path) place path at);
+        asked = all_kept names names paths (with_path paths path) same longer claims read.good ∙ read.asked ∙ sym (claims_from-append 1 [] said (s ∷ []) ∙ append-nil (claims_from 1 [] said));
+        good = all_there names names paths (with_path paths path) same longer claims read.good;
+        known = λ q. subst (StandsAt names (with_path paths path) q (places q)) (sym (ap (λ ls. path_of ls q) (spoken-append said (s ∷ [])) ∙ rule_loads_none (spoken said) path q))
+            (name_kept names names paths (with_path paths path) same longer q (places q) (path_of (spoken said) q) (read.known q));
       }
 
   -- the name wasn't loaded
-  pub not_loaded : (name : List ℕ) → names name ≡ None → path_of (spoken said) name ≡ None
-  not_loaded name new = subst (λ o. StandsAt paths o (path_of (spoken said) name)) new (read.named name)
+  pub not_loaded : (name : List ℕ) → places name ≡ None → path_of (spoken said) name ≡ None
+  not_loaded name new = subst (λ o. StandsAt names paths name o (path_of (spoken said) name)) new (read.known name)
 
-  -- where a name's path stands after a line that loads one
-  named_after : (name path : List ℕ) (place : ℕ) → names name ≡ None → slice_get (with_path paths path) place ≡ Some path
-      → (q : List ℕ) → StandsAt (with_path paths path) (update bytes_eq names name (Some place) q) (path_of (spoken (said ++ Some (Load name path) ∷ [])) q)
-  named_after name path place new at q =
-      rw (spoken-append said (Some (Load name path) ∷ []))
-      elim (cases_Bool (bytes_eq name q)) [
-        | inl e ↦ rw e (path, at, loaded_now (spoken said) name path q (not_loaded name new) e)
-        | inr e ↦ rw e (subst (StandsAt (with_path paths path) (names q)) (sym (loaded_else (spoken said) name path q e)) (name_kept paths path (names q) (path_of (spoken said) q) (read.named q)))
-      ]
+  module _ (name path : List ℕ) (at : ℕ) (new : places name ≡ None) (there : slice_get (with_path paths path) at ≡ Some path) where
+    -- the place of a name that is pushed
+    abbrev pub new_place : Place
+    new_place = record { name = length names; path = at }
 
-  -- a line that loads a name from a path
-  pub read_load : (name path : List ℕ) (place : ℕ) (after : List ℕ → Option ℕ) → names name ≡ None → slice_get (with_path paths path) place ≡ Some path
-      → ((q : List ℕ) → after q ≡ update bytes_eq names name (Some place) q)
-      → IsAllowed (spoken said) (Load name path) × IsKept (said ++ Some (Load name path) ∷ []) (with_path paths path) rules claims after
-  read_load name path place after new at updated = (
-    not_loaded name new,
-    record {
-      once = once_more path (Load name path) refl;
-      ruled = rules_kept paths path rules read.placed ∙ read.ruled ∙ sym (rule_paths-append said (Some (Load name path) ∷ []) ∙ append-nil (rule_paths said));
-      placed = places_kept paths path rules read.placed;
-      asked = all_kept paths path claims read.good ∙ read.asked ∙ sym (claims_from-append 1 [] said (Some (Load name path) ∷ []) ∙ append-nil (claims_from 1 [] said));
-      good = asked_before path;
-      named = λ q. subst (λ o. StandsAt (with_path paths path) o (path_of (spoken (said ++ Some (Load name path) ∷ [])) q)) (sym (updated q)) (named_after name path place new at q);
-    },
-  )
+    -- it stands there
+    stands_now : (q : List ℕ) → bytes_eq name q ≡ true → StandsAt (names ++ name ∷ []) (with_path paths path) q (Some new_place) (path_of (spoken said ++ Load name path ∷ []) q)
+    stands_now q e =
+        let same : name ≡ q = (bytes_eq-Decides name q).0 e in
+        (path, stands_last names name ∙ ap Some same, there, loaded_now (spoken said) name path q (not_loaded name new) e)
+
+    -- where a name stands after a line that loads one
+    known_after : (q : List ℕ) → StandsAt (names ++ name ∷ []) (with_path paths path) q (update bytes_eq places name (Some new_place) q) (path_of (spoken (said ++ Some (Load name path) ∷ [])) q)
+    known_after q =
+        rw (spoken-append said (Some (Load name path) ∷ []))
+        elim (cases_Bool (bytes_eq name q)) [
+          | inl e ↦ rw e (stands_now q e)
+          | inr e ↦ rw e (subst (StandsAt (names ++ name ∷ []) (with_path paths path) q (places q)) (sym (loaded_else (spoken said) name path q e))
+              (name_kept names (names ++ name ∷ []) paths (with_path paths path) (grown_push names name) (grown_path paths path) q (places q) (path_of (spoken said) q) (read.known q)))
+        ]
+
+    -- a line that loads a name from a path
+    pub read_load : (after : List ℕ → Option Place) → ((q : List ℕ) → after q ≡ update bytes_eq places name (Some new_place) q)
+        → IsKept (said ++ Some (Load name path) ∷ []) (names ++ name ∷ []) (with_path paths path) rules claims after
+    read_load after updated =
+        let s : Option Line = Some (Load name path) in
+        let grown = grown_push names name in
+        let longer = grown_path paths path in
+        record {
+          once = once_more path (Load name path) refl;
+          ruled = rules_kept paths (with_path paths path) longer rules read.placed ∙ read.ruled ∙ sym (rule_paths-append said (s ∷ []) ∙ append-nil (rule_paths said));
+          placed = places_kept paths (with_path paths path) longer rules read.placed;
+          asked = all_kept names (names ++ name ∷ []) paths (with_path paths path) grown longer claims read.good ∙ read.asked
+              ∙ sym (claims_from-append 1 [] said (s ∷ []) ∙ append-nil (claims_from 1 [] said));
+          good = all_there names (names ++ name ∷ []) paths (with_path paths path) grown longer claims read.good;
+          known = λ q. subst (λ o. StandsAt (names ++ name ∷ []) (with_path paths path) q o (path_of (spoken (said ++ s ∷ [])) q)) (sym (updated q)) (known_after q);
+        }
 
   -- a name that is known is loaded
-  known_loaded : (o : Option ℕ) (found : Option (List ℕ)) → StandsAt paths o found → IsSome o → IsSome found
-  known_loaded None found at known = absurd (false≢true known)
-  known_loaded (Some i) found at known = ap is_some at.2
+  known_loaded : (name : List ℕ) (o : Option Place) (found : Option (List ℕ)) → StandsAt names paths name o found → IsSome o → IsSome found
+  known_loaded name None found at known = absurd (false≢true known)
+  known_loaded name (Some p) found at known = ap is_some at.3
 
   -- and the other way round
-  loaded_known : (o : Option ℕ) (found : Option (List ℕ)) → StandsAt paths o found → IsSome found → IsSome o
-  loaded_known None found at loaded = absurd (false≢true (sym (ap is_some at) ∙ loaded))
-  loaded_known (Some i) found at loaded = refl
+  loaded_known : (name : List ℕ) (o : Option Place) (found : Option (List ℕ)) → StandsAt names paths name o found → IsSome found → IsSome o
+  loaded_known name None found at loaded = absurd (false≢true (sym (ap is_some at) ∙ loaded))
+  loaded_known name (Some p) found at loaded = refl
 
   -- so are all names of a claim
-  pub names_loaded : (claim : Claim) → AreKnown names claim → AreLoaded (spoken said) (patterns_of claim)
-  names_loaded claim = AllByRecursion-weaker (λ n. IsSome (names n)) (λ n. IsSome (path_of (spoken said) n)) (λ n. known_loaded (names n) (path_of (spoken said) n) (read.named n)) (patterns_of claim)
+  pub names_loaded : (claim : Claim) → AreKnown places claim → AreLoaded (spoken said) (patterns_of claim)
+  names_loaded claim = AllByRecursion-weaker (λ n. IsSome (places n)) (λ n. IsSome (path_of (spoken said) n)) (λ n. known_loaded n (places n) (path_of (spoken said) n) (read.known n)) (patterns_of claim)
 
-  pub names_known : (claim : Claim) → AreLoaded (spoken said) (patterns_of claim) → AreKnown names claim
-  names_known claim = AllByRecursion-weaker (λ n. IsSome (path_of (spoken said) n)) (λ n. IsSome (names n)) (λ n. loaded_known (names n) (path_of (spoken said) n) (read.named n)) (patterns_of claim)
+  pub names_known : (claim : Claim) → AreLoaded (spoken said) (patterns_of claim) → AreKnown places claim
+  names_known claim = AllByRecursion-weaker (λ n. IsSome (path_of (spoken said) n)) (λ n. IsSome (places n)) (λ n. loaded_known n (places n) (path_of (spoken said) n) (read.known n)) (patterns_of claim)
 
-  -- a known name's path stands at its place
-  place_path : (o : Option ℕ) (found : Option (List ℕ)) → StandsAt paths o found → IsSome o → path_at paths (unwrap_or o 0) ≡ unwrap_or found []
-  place_path None found at known = absurd (false≢true known)
-  place_path (Some i) found at known = ap (λ p. unwrap_or p []) (at.1 ∙ sym at.2)
+  -- a known name and its path stand at its place
+  place_named : (name : List ℕ) (o : Option Place) (found : Option (List ℕ)) → StandsAt names paths name o found → IsSome o → named_at names paths (known_place o) ≡ (name, unwrap_or found [])
+  place_named name None found at known = absurd (false≢true known)
+  place_named name (Some p) found at known =
+      let here = ap (λ q. unwrap_or q []) at.1 in
+      let loaded = ap (λ q. unwrap_or q []) (at.2 ∙ sym at.3) in
+      λ i. (here i, loaded i)
 
-  at_place : (name : List ℕ) → IsSome (names name) → path_at paths (unwrap_or (names name) 0) ≡ unwrap_or (path_of (spoken said) name) []
-  at_place name = place_path (names name) (path_of (spoken said) name) (read.named name)
+  -- which is within the names and the paths
+  place_within : (name : List ℕ) (o : Option Place) (found : Option (List ℕ)) → StandsAt names paths name o found → IsSome o → ((known_place o).name < length names) × ((known_place o).path < length paths)
+  place_within name None found at known = absurd (false≢true known)
+  place_within name (Some p) found at known = (slice_get_within names p.name name at.1, slice_get_within paths p.path at.0 at.2)
 
-  -- which is within the paths
-  place_within : (o : Option ℕ) (found : Option (List ℕ)) → StandsAt paths o found → IsSome o → unwrap_or o 0 < length paths
-  place_within None found at known = absurd (false≢true known)
-  place_within (Some i) found at known = slice_get_within paths i at.0 at.1
+  -- so a claim at its names' places is about the names, and the paths that are loaded
+  places_named : (claim : Claim) → AreKnown places claim → about (named_at names paths) (at_places places claim) ≡ about (λ name. (name, unwrap_or (path_of (spoken said) name) [])) claim
+  places_named claim known =
+      about_twice (λ name. known_place (places name)) (named_at names paths) claim
+      ∙ about_same (λ name. named_at names paths (known_place (places name))) (λ name. (name, unwrap_or (path_of (spoken said) name) [])) claim
+      (AllByRecursion-weaker (λ n. IsSome (places n)) (λ n. named_at names paths (known_place (places n)) ≡ (n, unwrap_or (path_of (spoken said) n) []))
+      (λ n. place_named n (places n) (path_of (spoken said) n) (read.known n)) (patterns_of claim) known)
 
-  is_within : (name : List ℕ) → IsSome (names name) → unwrap_or (names name) 0 < length paths
-  is_within name = place_within (names name) (path_of (spoken said) name) (read.named name)
-
-  -- so a claim at its names' places is about the paths that are loaded
-  places_paths : (claim : Claim) → AreKnown names claim → about (path_at paths) (at_places names claim) ≡ about (λ name. unwrap_or (path_of (spoken said) name) []) claim
-  places_paths claim known =
-      about_twice (λ name. unwrap_or (names name) 0) (path_at paths) claim
-      ∙ about_same (λ name. path_at paths (unwrap_or (names name) 0)) (λ name. unwrap_or (path_of (spoken said) name) []) claim
-      (AllByRecursion-weaker (λ n. IsSome (names n)) (λ n. path_at paths (unwrap_or (names n) 0) ≡ unwrap_or (path_of (spoken said) n) []) at_place (patterns_of claim) known)
-
-  -- and is asked
-  places_asked : (claim : Claim) → AreKnown names claim → HasGoodNumbers claim → IsAsked paths (at_places names claim)
-  places_asked claim known good = record {
-    within = subst (AllByRecursion (λ i. i < length paths)) (sym (paths_of (λ name. unwrap_or (names name) 0) claim)) (all_map (λ name. unwrap_or (names name) 0) (λ i. i < length paths) (patterns_of claim)
-        (AllByRecursion-weaker (λ n. IsSome (names n)) (λ n. unwrap_or (names n) 0 < length paths) is_within (patterns_of claim) known));
-    numbers = numbers_about (λ name. unwrap_or (names name) 0) claim good;
-  }
+  -- and these are kept
+  places_there : (claim : Claim) → AreKnown places claim → HasGoodNumbers claim → IsNamed names paths (at_places places claim)
+  places_there claim known good =
+      let is_within : Place → Type 0 = λ p. (p.name < length names) × (p.path < length paths) in
+      record {
+        within = subst (AllByRecursion is_within) (sym (paths_of (λ name. known_place (places name)) claim)) (all_map (λ name. known_place (places name)) is_within (patterns_of claim)
+            (AllByRecursion-weaker (λ n. IsSome (places n)) (λ n. is_within (known_place (places n))) (λ n. place_within n (places n) (path_of (spoken said) n) (read.known n)) (patterns_of claim) known));
+        numbers = numbers_about (λ name. known_place (places name)) claim good;
+      }
 
   -- a line that makes a claim
-  pub read_claim : (claim : Claim) (line : ℕ) → AreKnown names claim → HasGoodNumbers claim → line ≡ length said + 1
-      → IsAllowed (spoken said) (Claims claim) × IsKept (said ++ Some (Claims claim) ∷ []) paths rules (claims ++ record { line = line; claim = at_places names claim } ∷ []) names
+  pub read_claim : (claim : Claim) (line : ℕ) → AreKnown places claim → HasGoodNumbers claim → line ≡ length said + 1
+      → IsAllowed (spoken said) (Claims claim) × IsKept (said ++ Some (Claims claim) ∷ []) names paths rules (claims ++ record { line = line; claim = at_places places claim } ∷ []) places
   read_claim claim line known good number =
       let s : Option Line = Some (Claims claim) in
-      let l : ClaimLine = record { line = line; claim = at_places names claim } in
+      let l : ClaimLine Place = record { line = line; claim = at_places places claim } in
       let counted : line ≡ 1 + length said = omega arith in
-      let paths_of = places_paths claim known in (
+      let same = places_named claim known in (
         (good, names_loaded claim known),
         record {
           once = read.once ∙ ap each_once (sym (file_paths-append said (s ∷ []) ∙ append-nil (file_paths said)));
           ruled = read.ruled ∙ sym (rule_paths-append said (s ∷ []) ∙ append-nil (rule_paths said));
           placed = read.placed;
-          asked = map-append (numbered paths) claims (l ∷ [])
-              ∙ ap (λ cs. cs ++ (line, about (path_at paths) (at_places names claim)) ∷ []) read.asked
-              ∙ (λ i. claims_from 1 [] said ++ (counted i, paths_of i) ∷ [])
+          asked = map-append (named names paths) claims (l ∷ [])
+              ∙ ap (λ cs. cs ++ (line, about (named_at names paths) (at_places places claim)) ∷ []) read.asked
+              ∙ (λ i. claims_from 1 [] said ++ (counted i, same i) ∷ [])
               ∙ sym (claims_from-append 1 [] said (s ∷ []));
-          good = All-push (λ k. IsAsked paths k.claim) claims l read.good (places_asked claim known good);
-          named = λ q. subst (StandsAt paths (names q)) (sym (ap (λ ls. path_of ls q) (spoken-append said (s ∷ [])) ∙ claim_loads_none (spoken said) claim q)) (read.named q);
+          good = All-push (λ k. IsNamed names paths k.claim) claims l read.good (places_there claim known good);
+          known = λ q. subst (StandsAt names paths q (places q)) (sym (ap (λ ls. path_of ls q) (spoken-append said (s ∷ [])) ∙ claim_loads_none (spoken said) claim q)) (read.known q);
         },
       )

@@ -387,7 +387,7 @@ module _ (files : List (List ℕ × List ℕ)) (rules paths : List (List ℕ)) w
   same_place TooManyCells TooManyCells m n e h k = refl
   same_place c d m n e h k = let no : ⊥ = omega arith in absurd no
 
-  -- a claim has one cause, want of memory apart
+  -- a claim has one cause, out of memory apart
   pub one_cause : (c d : Cause) → c ≢ Memory → d ≢ Memory → HasCause files rules paths c → HasCause files rules paths d → c ≡ d
   one_cause c d m n h k =
       elim (cases_order (place c) (place d)) [
@@ -396,7 +396,7 @@ module _ (files : List (List ℕ × List ℕ)) (rules paths : List (List ℕ)) w
         | inr (inr e) ↦ absurd (not_past d n k (past_below (suc (place d)) (place c) (omega arith) (past_before c m h)))
       ]
 
-  -- a file that isn't there goes before want of memory
+  -- a file that isn't there goes before out of memory
   pub no_file_or_memory : HasCause files rules paths NoFile → HasCause files rules paths Memory → ⊥
   no_file_or_memory none (tables, are, all, first) = not_past NoFile (λ e. cc) none (all, tables_there files rules tables are)
 
@@ -420,7 +420,7 @@ module _ (files : List (List ℕ × List ℕ)) (rules paths : List (List ℕ)) w
         | inr others ↦ not_both (cell other) (cell o) (λ x y. ap (λ l. cell l x y) one.1) judged.2 others
       ]
 
-  -- a claim is judged or refused for a cause, not both, want of memory apart
+  -- a claim is judged or refused for a cause, not both, out of memory apart
   pub judged_or_cause : (cells other : Picture) (rule : RuleValue) (cause : Cause) → cause ≢ Memory → IsJudged files rules paths cells other rule → HasCause files rules paths cause → ⊥
   judged_or_cause cells other rule cause m judged h =
       let (tables, are, good) = judged.0 in

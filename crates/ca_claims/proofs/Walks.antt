@@ -61,7 +61,7 @@ equal_from_moved p q dx dy one two same = equal_from_IsSame q (shifted p dx dy) 
     })
     same
 
--- ---- the walk: behind the moved cells so far there are some left
+-- ---- the walk: after the moved cells so far there are some left
 
 -- where the second picture is the first one moved, the next that is left is the moved cell
 left-moved : (p q xs t rest : Picture) (e : Point × ℕ) (dx dy : ℤ) → IsSparse p → IsSparse q → p ≡ xs ++ e ∷ rest → q ≡ shifted xs dx dy ++ t → IsSame q (shifted p dx dy) → t ≡ (moved e.0 dx dy, e.1) ∷ shifted rest dx dy

@@ -80,7 +80,7 @@ module _ {X Y : Type 0} (R : X → Y → Type 0) where
   pub zip_more : (xs : List X) (ys : List Y) (i : ℕ) (x : X) (y : Y) → AllZip R (take i xs) ys → slice_get xs i ≡ Some x → R x y → AllZip R (take (i + 1) xs) (ys ++ y ∷ [])
   zip_more xs ys i x y before e here = subst (λ l. AllZip R l (ys ++ y ∷ [])) (sym (take-more xs i x e)) (AllZip-push R (take i xs) ys x y before here)
 
-  -- an element that is bad, behind those that belong to others
+  -- an element that is bad, after those that belong to others
   pub first_behind : (Good Bad : X → Type 0) → ((x : X) (y : Y) → R x y → Good x) → (xs : List X) (ys : List Y) (i : ℕ) (x : X) → AllZip R (take i xs) ys → slice_get xs i ≡ Some x → Bad x → FirstBad Good Bad xs
   first_behind Good Bad f [] ys i x before e bad = absurd (none-some x e)
   first_behind Good Bad f (z ∷ zs) ys zero x before e bad = inl (subst Bad (sym (same_Some z x e)) bad)

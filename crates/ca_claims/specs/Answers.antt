@@ -25,7 +25,7 @@ use Rattle.ca_claims.specs.Text.{Claim, patterns_of}
 use Rattle.ca_claims.specs.Means.{bytes_at, format_of, Means, IsReadable, MayWantMemory}
 use Rattle.ca_claims.specs.Truth.{asks_of, IsTrueClaim, IsReason}
 
--- the fault for which the bytes of a pattern aren't read; want of memory is none of them
+-- the fault for which the bytes of a pattern aren't read; out of memory is none of them
 abbrev pub IsPatternFault : List ℕ → PatternFault → Type 0
 IsPatternFault bytes (pattern_fault.Rle fault) = (format_of bytes ≡ target.Rle) × (fault ≢ rle_fault.Memory) × rle_faults.IsFaultOf bytes fault
 IsPatternFault bytes (pattern_fault.Macro fault) = (format_of bytes ≡ target.Mc) × (fault ≢ macrocell_fault.Memory) × macrocell_faults.IsFaultOf bytes fault
@@ -35,7 +35,7 @@ IsPatternFault bytes pattern_fault.Memory = ⊥
 abbrev pub IsQuietTable : List ℕ → TableRule → Type 0
 IsQuietTable bytes table = IsTable bytes table × (table_next table (replicate 9 0) ≡ 0)
 
--- the fault for which the bytes are the text of no such table; want of memory is none of them
+-- the fault for which the bytes are the text of no such table; out of memory is none of them
 abbrev pub IsTableFault : List ℕ → TableFault → Type 0
 IsTableFault bytes fault = (fault ≢ table_fault.Memory) × table_faults.IsFaultOf bytes fault
 
@@ -130,7 +130,7 @@ AgreeOn files rules paths cells other rule = (tables : List TableRule) × AreTab
 
 -- the first cause of a refusal that holds of a claim about patterns of these paths, in the order of these lines; `rules`
 -- are the paths of the text's rule lines. A table is judged only where all the files are there, and a pattern only where
--- all the tables are good; memory is wanted only where besides it may be wanted for the first of the patterns
+-- all the tables are good; out of memory only where besides the first of the patterns may need memory
 abbrev pub HasCause : List (List ℕ × List ℕ) → List (List ℕ) → List (List ℕ) → Cause → Type 0
 HasCause files rules paths NoFile = SomeOf (IsMissing files) paths ⊎ SomeOf (IsMissing files) rules
 HasCause files rules paths (BadTable fault) = AllByRecursion (IsThere files) paths × AllByRecursion (IsThere files) rules
@@ -148,12 +148,12 @@ HasCause files rules paths TooManyCells = (cells : Picture) × (other : Picture)
 HasCause files rules paths Memory = (tables : List TableRule) × AreTables files rules tables × AllByRecursion (IsThere files) paths
     × FirstIs (λ p. (bytes : List ℕ) × (bytes_at files p ≡ Some bytes) × MayWantMemory bytes) paths
 
--- no cause but want of memory holds: besides no pattern has too many cells
+-- no cause but out of memory holds: besides no pattern has too many cells
 abbrev pub IsJudged : List (List ℕ × List ℕ) → List (List ℕ) → List (List ℕ) → Picture → Picture → RuleValue → Type 0
 IsJudged files rules paths cells other rule = AgreeOn files rules paths cells other rule × HasFewCells (cell cells) × HasFewCells (cell other)
 
 -- a verdict is true: a yes of a claim that is true of the planes that the files mean, a no of one that is false, with the
--- reason, and a refusal with its cause; a yes and a no come only where no cause but want of memory holds
+-- reason, and a refusal with its cause; a yes and a no come only where no cause but out of memory holds
 abbrev pub IsTrueVerdict : List (List ℕ × List ℕ) → List (List ℕ) → Claim → Verdict → Type 0
 IsTrueVerdict files rules claim Yes = (cells : Picture) × (other : Picture) × (rule : RuleValue) × IsJudged files rules (patterns_of claim) cells other rule
     × IsTrueClaim (next_of rule) cells other (asks_of claim)

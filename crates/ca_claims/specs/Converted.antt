@@ -55,7 +55,7 @@ pub record IsSummary (bytes : List ℕ) (tables : List TableRule) (summary : Sum
   pub bounds : MatchOption summary.bounds (IsLive cells → ⊥) (IsLeastBox cells)
 
 -- the first reason for which there is no summary: the bytes aren't read, or their rule text names no rule, or a state is too large.
--- Want of memory may come before any of them, where memory may be wanted for the bytes
+-- Out of memory may come before any of them, where memory may run out for the bytes
 abbrev pub IsSummaryFault : List ℕ → List TableRule → ConvertFault → Type 0
 IsSummaryFault bytes tables (BadPattern fault) = IsPatternFault bytes fault
 IsSummaryFault bytes tables (BadRule fault) = (cells : Picture) × (rule_text : List ℕ) × (generation : ℕ)

@@ -37,9 +37,12 @@ every_asked = record {
   claims =
       (5, Still (codes "block.rle")) ∷ (6, Oscillator (codes "block.rle") 7)
       ∷ (8, Spaceship (codes "glider.rle") 4 (neg_ℤ (pos 1)) (pos 2)) ∷ (9, Becomes (codes "glider.rle") 0 (codes "block.rle")) ∷ [];
+  patterns =
+      ((codes "b", codes "block.rle") ∷ []) ∷ ((codes "c", codes "block.rle") ∷ []) ∷ ((codes "g", codes "glider.rle") ∷ [])
+      ∷ ((codes "g", codes "glider.rle") ∷ (codes "c", codes "block.rle") ∷ []) ∷ [];
 }
 
--- a rule table behind two names of one path
+-- a rule table after two names of one path
 abbrev pub table_text : List ℕ
 table_text = text_of (codes "load a p" ∷ codes "load b p" ∷ codes "rule r" ∷ [])
 
@@ -47,7 +50,7 @@ table_text = text_of (codes "load a p" ∷ codes "load b p" ∷ codes "rule r" �
 abbrev pub table_said : List (Option Line)
 table_said = Some (Load (codes "a") (codes "p")) ∷ Some (Load (codes "b") (codes "p")) ∷ Some (Rule (codes "r")) ∷ []
 
--- rule tables before and behind a name and a claim, one of them on two lines
+-- rule tables before and after a name and a claim, one of them on two lines
 abbrev pub tables_text : List ℕ
 tables_text = text_of (codes "rule r" ∷ codes "load a p" ∷ codes "still a" ∷ codes "rule q" ∷ codes "rule r" ∷ [])
 
@@ -63,9 +66,14 @@ tables_asked = record {
   paths = codes "r" ∷ codes "p" ∷ codes "q" ∷ [];
   rules = codes "r" ∷ codes "q" ∷ codes "r" ∷ [];
   claims = (3, Still (codes "p")) ∷ [];
+  patterns = ((codes "a", codes "p") ∷ []) ∷ [];
 }
 
--- two paths where one is wanted
+-- a name that no claim is about
+abbrev pub spare_said : List (Option Line)
+spare_said = Some (Load (codes "a") (codes "p")) ∷ Some (Load (codes "b") (codes "q")) ∷ Some (Claims (Still (codes "a"))) ∷ []
+
+-- two paths where there may be one
 abbrev pub two_tables_text : List ℕ
 two_tables_text = text_of (codes "rule r" ∷ codes "rule r q" ∷ [])
 
@@ -81,11 +89,11 @@ other_unknown_text = text_of (codes "load a p" ∷ codes "becomes a 1 b" ∷ [])
 abbrev pub taken_text : List ℕ
 taken_text = text_of (codes "load a p" ∷ codes "load a q" ∷ [])
 
--- a keyword that isn't one, behind a line that loads a name
+-- a keyword that isn't one, after a line that loads a name
 abbrev pub misspelled_text : List ℕ
 misspelled_text = text_of (codes "load a p" ∷ codes "gun a" ∷ [])
 
--- a word that is no number where one is wanted
+-- a word that is no number where there must be one
 abbrev pub no_number_text : List ℕ
 no_number_text = text_of (codes "load a p" ∷ codes "oscillator a x" ∷ [])
 

@@ -47,12 +47,12 @@ IsReadableAs Mc bytes = (file : macrocell.File) × macrocell.IsFile bytes file �
 abbrev pub IsReadable : List ℕ → Type 0
 IsReadable bytes = IsReadableAs (format_of bytes) bytes
 
--- memory may be wanted for bytes of this format: an RLE is judged before anything is kept of it, and the squares of a macrocell are
+-- memory may run out for bytes of this format: an RLE is judged before anything is kept of it, and the squares of a macrocell are
 -- kept as their lines come
 abbrev pub MayWantMemoryAs : Target → List ℕ → Type 0
 MayWantMemoryAs Rle bytes = IsReadableAs Rle bytes
 MayWantMemoryAs Mc bytes = macrocell_faults.IsFaultOf bytes macrocell_fault.Memory
 
--- memory may be wanted where these bytes are read
+-- memory may run out where these bytes are read
 abbrev pub MayWantMemory : List ℕ → Type 0
 MayWantMemory bytes = MayWantMemoryAs (format_of bytes) bytes

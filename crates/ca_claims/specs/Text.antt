@@ -1,5 +1,5 @@
 -- Claim texts: which lines say what (our own format; docs/CLAIMS.md).
-use Rattle.std.specs.Prelude.{◌≡◌, ℕ, ◌+◌, ◌-◌, ◌≤◌, ◌^◌, ℤ, pos, neg_ℤ, ◌≤ℤ◌, List, [], ◌∷◌, ◌++◌, Bool, true, false, not, Option, Some, None, IsSome, unwrap_or, codes, filter, if◌then◌else◌}
+use Rattle.std.specs.Prelude.{◌≡◌, ℕ, ◌+◌, ◌-◌, ◌≤◌, ◌^◌, ℤ, pos, neg_ℤ, ◌≤ℤ◌, List, [], ◌∷◌, ◌++◌, map, Bool, true, false, not, Option, Some, None, IsSome, unwrap_or, codes, filter, if◌then◌else◌}
 use Rattle.std.specs.Str.{bytes_eq}
 use Rattle.std.specs.Bool.{nat_eq}
 use Rattle.std.specs.List.{AllByRecursion, starts_with}
@@ -84,13 +84,13 @@ path_of (Claims claim ∷ ls) name = path_of ls name
 abbrev pub AreLoaded : List Line → List (List ℕ) → Type 0
 AreLoaded earlier names = AllByRecursion (λ n. IsSome (path_of earlier n)) names
 
--- a rule table may stand anywhere; a name is loaded once; and a claim has good numbers, and its names are loaded on earlier lines
+-- a rule table may be anywhere; a name is loaded once; and a claim has good numbers, and its names are loaded on earlier lines
 abbrev pub IsAllowed : List Line → Line → Type 0
 IsAllowed earlier (Rule path) = Unit {0}
 IsAllowed earlier (Load name path) = path_of earlier name ≡ None
 IsAllowed earlier (Claims claim) = HasGoodNumbers claim × AreLoaded earlier (patterns_of claim)
 
--- lines that stand behind what earlier ones say, and what each of them says
+-- lines that follow what earlier ones say, and what each of them says
 abbrev pub LinesSay : List Line → List (List ℕ) → List (Option Line) → Type 0
 LinesSay earlier [] [] = Unit {0}
 LinesSay earlier [] (s ∷ said) = ⊥
@@ -125,27 +125,42 @@ file_paths (Some (Rule path) ∷ said) = path ∷ file_paths said
 file_paths (Some (Load name path) ∷ said) = path ∷ file_paths said
 file_paths (Some (Claims claim) ∷ said) = file_paths said
 
--- each once, where it stands first
+-- each once, in the order in which they first appear
 abbrev pub each_once : List (List ℕ) → List (List ℕ)
 each_once [] = []
 each_once (p ∷ ps) = p ∷ filter (λ q. not (bytes_eq q p)) (each_once ps)
 
--- the claims with the numbers of their lines, of which the first is n; each about the paths that earlier lines load
-abbrev pub claims_from : ℕ → List Line → List (Option Line) → List (ℕ × Claim)
+-- the claims with the numbers of their lines, of which the first is n; each about names, with the paths that earlier lines
+-- load them from
+abbrev pub claims_from : ℕ → List Line → List (Option Line) → List (ℕ × ClaimOf (List ℕ × List ℕ))
 claims_from n earlier [] = []
 claims_from n earlier (None ∷ said) = claims_from (n + 1) earlier said
 claims_from n earlier (Some (Rule path) ∷ said) = claims_from (n + 1) (earlier ++ Rule path ∷ []) said
 claims_from n earlier (Some (Load name path) ∷ said) = claims_from (n + 1) (earlier ++ Load name path ∷ []) said
 claims_from n earlier (Some (Claims claim) ∷ said) =
-    (n, about (λ name. unwrap_or (path_of earlier name) []) claim) ∷ claims_from (n + 1) (earlier ++ Claims claim ∷ []) said
+    (n, about (λ name. (name, unwrap_or (path_of earlier name) [])) claim) ∷ claims_from (n + 1) (earlier ++ Claims claim ∷ []) said
 
--- what a claim text asks: the paths of its files, each once; those of the rule tables, one for each of their lines; and its
--- claims with the numbers of their lines
+-- such a claim, about the paths alone
+abbrev pub by_path : ℕ × ClaimOf (List ℕ × List ℕ) → ℕ × Claim
+by_path c = (c.0, about (λ p. p.1) c.1)
+
+-- the names and paths of its patterns
+abbrev pub named_patterns : ℕ × ClaimOf (List ℕ × List ℕ) → List (List ℕ × List ℕ)
+named_patterns c = patterns_of c.1
+
+-- what a claim text asks: the paths of its files, each once; those of the rule tables, one for each of their lines; its claims
+-- with the numbers of their lines; and for each claim the names and paths of its patterns
 pub record Asked : Type 0 where
   pub paths : List (List ℕ)
   pub rules : List (List ℕ)
   pub claims : List (ℕ × Claim)
+  pub patterns : List (List (List ℕ × List ℕ))
 
 -- what the lines of a text ask; lines are counted from 1, skipped ones too
 abbrev pub asked_by : List (Option Line) → Asked
-asked_by said = record { paths = each_once (file_paths said); rules = rule_paths said; claims = claims_from 1 [] said }
+asked_by said = record {
+  paths = each_once (file_paths said);
+  rules = rule_paths said;
+  claims = map by_path (claims_from 1 [] said);
+  patterns = map named_patterns (claims_from 1 [] said);
+}

@@ -5,7 +5,7 @@ use Rattle.ca_claims.specs.declared.fault.ClaimFault.{ClaimFault}
 use Rattle.ca_claims.specs.declared.fault.ClaimFault.TheVariants.{Syntax, Number, UnknownName, NameTaken, Memory}
 use Rattle.ca_claims.specs.Text.{Claim, patterns_of, HasGoodNumbers, Line, Load, Claims, is_skipped, WordsSay, path_of, AreLoaded, IsAllowed, LinesSay, spoken}
 
--- behind good lines stands a line, the n-th of the text, of whose words this holds after what the earlier lines say
+-- good lines are followed by a line, the n-th of the text; this holds of what the good lines say, and of its words
 pub record HasLine (bytes : List ℕ) (n : ℕ) (P : List Line → List (List ℕ) → Type 0) : Type 0 where
   pub before : List (List ℕ)
   pub line : List ℕ
@@ -16,7 +16,7 @@ pub record HasLine (bytes : List ℕ) (n : ℕ) (P : List Line → List (List �
   pub number : n ≡ length before + 1
   pub holds : P (spoken said) (words_of line)
 
--- the words say nothing that a line may say: another keyword, another count of words, or no number where one is wanted
+-- the words say nothing that a line may say: another keyword, another count of words, or no number where there must be one
 abbrev pub AreMisspelled : List Line → List (List ℕ) → Type 0
 AreMisspelled earlier words = (is_skipped words ≡ false) × ((line : Line) → WordsSay words line → ⊥)
 
@@ -38,7 +38,7 @@ LoadTaken earlier words =
 abbrev pub AreAllowed : List Line → List (List ℕ) → Type 0
 AreAllowed earlier words = (is_skipped words ≡ false) × (line : Line) × WordsSay words line × IsAllowed earlier line
 
--- the text's first fault, with the number of its line; memory is wanted at a good line alone, behind good lines
+-- the text's first fault, with the number of its line; a text is out of memory only at a good line after good lines
 abbrev pub IsFirstFault : List ℕ → ClaimFault → Type 0
 IsFirstFault bytes (Syntax n) = HasLine bytes n AreMisspelled
 IsFirstFault bytes (Number n) = HasLine bytes n HaveBadNumber

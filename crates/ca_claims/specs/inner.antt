@@ -1,8 +1,15 @@
 pub mod Cells
 pub mod Decided
+pub mod Found
 pub mod Glance
+pub mod Kept
+pub mod Marks
+pub mod Noted
 pub mod Patterns
+pub mod Prepared
 pub mod Reading
 pub mod Ready
 pub mod Returns
 pub mod Tables
+pub mod Divisors
+pub mod Subjects

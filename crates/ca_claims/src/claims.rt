@@ -1,46 +1,56 @@
 //! Claim texts, and what they ask.
 
-ghost use Rattle.std.specs.Prelude.{◌≡◌, ◌≢◌, ℕ, ◌<◌, Some, map, slice_get, length, All, MatchOption};
-ghost use Rattle.std.specs.List.{IsDistinct};
+ghost use Rattle.std.specs.Prelude.{◌≡◌, ◌≢◌, ℕ, ◌<◌, Some, map, slice_get, length, All, IfOk, MatchOption, IsTrue, ◌↔◌};
+ghost use Rattle.std.specs.List.{AllByRecursion, AllZip, IsDistinct};
 ghost use Rattle.std.specs.Str.{bytes_eq};
-ghost use Rattle.ca_claims.specs.Places.{path_at, numbered, IsAsked};
+ghost use Rattle.ca_claims.specs.Places.{path_at, numbered, named_path, IsAsked};
+ghost use Rattle.ca_claims.specs.inner.Patterns.{items};
+ghost use Rattle.ca_claims.specs.Needed.{IsNeeded};
 
 mod asks;
 mod limits;
 mod line;
+mod marks;
 mod numbers;
 mod paths;
 mod reading;
 mod words;
 
+use crate::verifier::OneOrTwo;
 pub(crate) use asks::{Asks, Barred, Wanted};
-pub(crate) use line::{Claim, ClaimLine};
+use ca_plane::Memory;
+pub(crate) use line::{Claim, ClaimLine, Named, Place};
+use marks::{mark_claims, mark_each};
 use paths::Paths;
 pub use reading::read_claims;
+use std::alloc::Global;
 use std::marker::Model;
 
-/// What a claim text asks: the paths of its files, each once, the rule tables, and its claims.
+/// What a claim text asks: the paths of its files and the names of its patterns, each once, the rule tables, and its claims.
 #[derive(Drop)]
 pub struct Claims {
     paths: Paths,
+    names: Vec<Vec<u8>>,
     rules: Vec<usize>,
-    claims: Vec<ClaimLine>,
+    claims: Vec<ClaimLine<Place>>,
 }
 
 impl Model for Claims {
     ghost use Rattle.std.specs.Prelude.{map, length, ◌<◌, All};
-    ghost use Rattle.ca_claims.specs.Text.{Asked};
-    ghost use Rattle.ca_claims.specs.Places.{path_at, numbered, IsAsked};
+    ghost use Rattle.ca_claims.specs.Text.{Asked, by_path, named_patterns};
+    ghost use Rattle.ca_claims.specs.Places.{path_at, named, IsNamed};
 
     ghost Value = { Asked };
 
     ghost view = { λ c. record {
       paths = c.paths;
       rules = map (path_at c.paths) c.rules.items;
-      claims = map (numbered c.paths) c.claims.items;
+      claims = map by_path (map (named (map (λ name. name.items) c.names.items) c.paths) c.claims.items);
+      patterns = map named_patterns (map (named (map (λ name. name.items) c.names.items) c.paths) c.claims.items);
     } };
 
-    ghost invariant = { λ c. All (λ i. i < length c.paths) c.rules.items × All (λ l. IsAsked c.paths l.claim) c.claims.items };
+    ghost invariant = { λ c. All (λ i. i < length c.paths) c.rules.items
+        × All (λ l. IsNamed (map (λ name. name.items) c.names.items) c.paths l.claim) c.claims.items };
 }
 
 impl Claims {
@@ -60,6 +70,24 @@ impl Claims {
         self.paths.path(index)
     }
 
+    /// For each path, in their order, whether its file is needed: a text without claims needs none; another needs those of its rule lines
+    /// and of its claims' patterns.
+    ///
+    /// # Errors
+    ///
+    /// Fails where there is no memory for the list.
+    pub fn needed(&self, alloc: Global) -> Result<Vec<bool>, Memory>
+        ensures { IfOk result (λ v. AllZip (λ path needed. IsTrue needed ↔ IsNeeded self.now path) self.now.paths v.items) }
+    {
+        let mut needed = vec![in alloc; false; self.path_count()]?;
+        if self.claim_count() == 0 {
+            return Ok(needed);
+        }
+        mark_each(&mut needed, &self.rules);
+        mark_claims(&mut needed, &self.claims);
+        Ok(needed)
+    }
+
     /// The index of the path, where the text names it.
     pub(crate) fn index_of_path(&self, path: &[u8]) -> Option<usize>
         ensures { MatchOption result ((i : ℕ) → slice_get self.now.paths i ≢ Some path.now) (λ i. slice_get self.now.paths i ≡ Some path.now) }
@@ -77,17 +105,48 @@ impl Claims {
 
     /// The number of claims.
     pub(crate) fn claim_count(&self) -> usize
-        ensures { result ≡ length self.now.claims }
+        ensures claims { result ≡ length self.now.claims }
+        ensures patterns { result ≡ length self.now.patterns }
     {
         self.claims.len()
     }
 
-    /// The claim with this index, counted from 0 in the order of the lines.
-    pub(crate) fn claim(&self, index: usize) -> ClaimLine
+    /// The claim with this index, counted from 0 in the order of the lines, about the indices of its paths.
+    pub(crate) fn claim(&self, index: usize) -> ClaimLine<usize>
         requires { index < length self.now.claims }
         ensures claim { slice_get self.now.claims index ≡ Some (numbered self.now.paths result) }
         ensures asked { IsAsked self.now.paths result.claim }
     {
-        self.claims[index]
+        let kept = self.claims[index];
+        ClaimLine {
+            line: kept.line,
+            claim: kept.claim.by_path(),
+        }
+    }
+
+    /// The patterns of the claim with this index, in their order.
+    pub(crate) fn patterns(&self, index: usize) -> OneOrTwo<Named<'_>>
+        requires { index < length self.now.claims }
+        ensures patterns { slice_get self.now.patterns index ≡ Some (map (named_path self.now.paths) (items result)) }
+        ensures within { AllByRecursion (λ p. p.path < length self.now.paths) (items result) }
+    {
+        match self.claims[index].claim.patterns() {
+            OneOrTwo::One(only) => OneOrTwo::One(named(&self.names, only)),
+            OneOrTwo::Two(first, second) => {
+                OneOrTwo::Two(named(&self.names, first), named(&self.names, second))
+            }
+        }
+    }
+}
+
+// The name at a place, and the index of its path.
+fn named(names: &[Vec<u8>], place: Place) -> Named<'_>
+    requires { place.name < length names.now }
+    ensures name { result.name.now ≡ path_at (map (λ n. n.items) names.now) place.name }
+    ensures path { result.path ≡ place.path }
+{
+    Named {
+        name: &names[place.name],
+        path: place.path,
     }
 }

@@ -22,12 +22,12 @@ use ca_rule::{RuleFault, Table};
 use std::alloc::Global;
 use thiserror::Error;
 
-/// Why a pattern isn't converted, or no summary of it is given: the first of these that holds, but that want of memory may
-/// come before any other where memory is wanted for the pattern's file: an RLE that reads, or a macrocell that is spelled
+/// Why a pattern isn't converted, or no summary of it is given: the first of these that holds, but that out of memory may
+/// come before any other where memory is needed for the pattern's file: an RLE that reads, or a macrocell that is spelled
 /// well or has a good node before any fault.
 #[derive(Clone, Copy, Debug, PartialEq, Eq, Error)]
 pub enum ConvertFault {
-    /// The bytes don't read. Their fault is never want of memory here.
+    /// The bytes don't read. Their fault is never out of memory here.
     #[error("{0}")]
     BadPattern(PatternFault),
     /// The rule text names no rule, neither in B/S notation nor among the tables.

@@ -9,6 +9,7 @@ ghost use Rattle.ca_claims.specs.Truth.{whose as whose_cells, claimed, IsTrueCla
 ghost use Rattle.ca_claims.specs.inner.Decided.{IsBounded, IsDecided};
 ghost use Rattle.ca_claims.specs.inner.Returns.{IsDifference};
 
+pub(crate) mod divisors;
 mod moves;
 mod run;
 

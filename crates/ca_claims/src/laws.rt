@@ -3,8 +3,9 @@
 ghost use Rattle.std.specs.Prelude.{◌≡◌, ◌≢◌, ℕ, List, [], ◌∷◌, Option, Some, None, codes};
 ghost use Rattle.ca_claims.specs.Text.{Line, Load, Claims as Claiming, IsClaimText, asked_by};
 ghost use Rattle.ca_claims.specs.declared.claims.line.Claim.TheVariants.{Still as StillOf};
+ghost use Rattle.ca_claims.specs.Needed.{IsNeeded};
 ghost use Rattle.ca_claims.specs.TextFaults.{IsFirstFault};
-ghost use Rattle.ca_claims.specs.Examples.{block_text, every_text, every_said, every_asked, table_text, table_said, tables_text, tables_said, tables_asked, two_tables_text, unknown_text, other_unknown_text, taken_text, misspelled_text, no_number_text, no_shift_text, no_period_text};
+ghost use Rattle.ca_claims.specs.Examples.{block_text, every_text, every_said, every_asked, table_text, table_said, tables_text, tables_said, tables_asked, spare_said, two_tables_text, unknown_text, other_unknown_text, taken_text, misspelled_text, no_number_text, no_shift_text, no_period_text};
 ghost use Rattle.ca_claims.specs.declared.fault.ClaimFault.{ClaimFault};
 ghost use Rattle.ca_claims.specs.declared.fault.ClaimFault.TheVariants as fault;
 
@@ -13,12 +14,12 @@ pub fn one_meaning()
     ensures { (bytes : List ℕ) (s t : List (Option Line)) → IsClaimText bytes s → IsClaimText bytes t → s ≡ t }
 {}
 
-/// A claim text has no fault, want of memory apart.
+/// A claim text has no fault other than out of memory.
 pub fn no_fault_in_claim_text()
     ensures { (bytes : List ℕ) (said : List (Option Line)) (f : ClaimFault) → f ≢ fault.Memory → IsClaimText bytes said → IsFirstFault bytes f → ⊥ }
 {}
 
-/// A text has one first fault at most, want of memory apart.
+/// A text has one first fault at most, apart from out of memory.
 pub fn one_fault()
     ensures { (bytes : List ℕ) (f g : ClaimFault) → f ≢ fault.Memory → g ≢ fault.Memory → IsFirstFault bytes f → IsFirstFault bytes g → f ≡ g }
 {}
@@ -28,16 +29,21 @@ pub fn worked_examples()
     // A comment, a blank line, a name and a claim, which is on line 4 and about the name's path.
     ensures lines { IsClaimText block_text (None ∷ None ∷ Some (Load (codes "b") (codes "block.rle")) ∷ Some (Claiming (StillOf (codes "b"))) ∷ []) }
     ensures asked { asked_by (None ∷ None ∷ Some (Load (codes "b") (codes "block.rle")) ∷ Some (Claiming (StillOf (codes "b"))) ∷ [])
-        ≡ record { paths = codes "block.rle" ∷ []; rules = []; claims = (4, StillOf (codes "block.rle")) ∷ [] } }
+        ≡ record { paths = codes "block.rle" ∷ []; rules = []; claims = (4, StillOf (codes "block.rle")) ∷ []; patterns = ((codes "b", codes "block.rle") ∷ []) ∷ [] } }
     // All claims.
     ensures every_line { IsClaimText every_text every_said }
     ensures every_claim { asked_by every_said ≡ every_asked }
-    // A rule table behind two names of one path.
+    // A rule table after two names of one path.
     ensures table_line { IsClaimText table_text table_said }
-    ensures table_paths { asked_by table_said ≡ record { paths = codes "p" ∷ codes "r" ∷ []; rules = codes "r" ∷ []; claims = [] } }
-    // Rule tables before and behind a name and a claim.
+    ensures table_paths { asked_by table_said ≡ record { paths = codes "p" ∷ codes "r" ∷ []; rules = codes "r" ∷ []; claims = []; patterns = [] } }
+    // Rule tables before and after a name and a claim.
     ensures tables_line { IsClaimText tables_text tables_said }
     ensures tables_paths { asked_by tables_said ≡ tables_asked }
+    // The files that are needed: those of all rule lines, and those that a claim names; none without a claim.
+    ensures rule_needed { IsNeeded tables_asked (codes "q") }
+    ensures claimed_needed { IsNeeded (asked_by spare_said) (codes "p") }
+    ensures spare_unneeded { IsNeeded (asked_by spare_said) (codes "q") → ⊥ }
+    ensures none_needed { (path : List ℕ) → IsNeeded (asked_by table_said) path → ⊥ }
     // No lines.
     ensures empty { IsClaimText [] [] }
     // Each fault, with the number of its line.

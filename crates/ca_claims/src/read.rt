@@ -26,7 +26,7 @@ use std::alloc::Global;
 /// # Errors
 ///
 /// The fault of the file, by its format; and `Memory` where a growth is refused: for an RLE that reads, and for a macrocell
-/// at a good line that adds a node behind good lines, or behind the last line of a good text. After a refusal the store is
+/// at a good line that adds a node after good lines, or after the last line of a good text. After a refusal the store is
 /// as before or has more squares.
 pub fn read_pattern(alloc: Global, store: &mut Store, bytes: &[u8]) -> Result<Loaded, PatternFault>
     // What is read is what the file means, and it passes no limit.
@@ -47,7 +47,7 @@ pub fn read_pattern(alloc: Global, store: &mut Store, bytes: &[u8]) -> Result<Lo
 }
 
 /// The format of a file with these bytes.
-fn format_of(bytes: &[u8]) -> Target
+pub(crate) fn format_of(bytes: &[u8]) -> Target
     ensures { result ≡ format_of bytes.now }
 {
     if bytes.starts_with(b"[M2]") {

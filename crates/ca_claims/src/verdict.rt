@@ -36,25 +36,25 @@ pub enum PatternFault {
     /// The fault of a macrocell text.
     #[error("macrocell: {0}")]
     Macro(MacroFault),
-    /// A growth was refused. No verdict has it: want of memory is a cause of its own.
+    /// A growth was refused. No verdict has it: out of memory is a cause of its own.
     #[error("out of memory")]
     Memory,
 }
 
-/// Why a claim isn't judged: the first of these that holds, but that want of memory may come before any other, where all
-/// files are there, all rule tables are good, and memory is wanted for the first pattern's file: an RLE that reads, or a
-/// macrocell that is spelled well or has a good node before any fault. Of two patterns the claim's first goes before the
-/// other in each of them.
+/// Why a claim isn't judged: the first of these that holds. Out of memory alone may come before any other, where all files
+/// are there, all rule tables are good, and the first pattern's file needs memory: it is an RLE that reads, or a macrocell
+/// that is spelled well or has a good node before any fault. Of two patterns the claim's first goes before the other in each
+/// of them.
 #[derive(Clone, Copy, Debug, PartialEq, Eq, Error)]
 pub enum Cause {
     /// No file with the path of one of the patterns, or of a rule line of the text, was handed in.
     #[error("no file")]
     NoFile,
     /// The file of a rule line is the text of no rule table, or of one that wakes the empty plane; the first such line's.
-    /// Its fault is never want of memory here.
+    /// Its fault is never out of memory here.
     #[error("rule table: {0}")]
     BadTable(TableFault),
-    /// A pattern's file doesn't read. Its fault is never want of memory here.
+    /// A pattern's file doesn't read. Its fault is never out of memory here.
     #[error("{0}")]
     BadPattern(PatternFault),
     /// A pattern's rule text names no rule, neither in B/S notation nor among the tables.

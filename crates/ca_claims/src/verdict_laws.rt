@@ -1,5 +1,5 @@
 //! Laws of verdicts, which no call needs to run: what a true claim of each kind is; a no means that the claim is false, and
-//! it's false for one kind of reason; a file has one meaning; and but for want of memory only one kind of verdict is true
+//! it's false for one kind of reason; a file has one meaning; and, out of memory apart, only one kind of verdict is true
 //! of a claim.
 
 ghost use Rattle.std.specs.Prelude.{◌≡◌, ◌≢◌, ℕ, ◌≤◌, ◌<◌, ◌↔◌, ℤ, List, pos, negsuc};
@@ -45,8 +45,8 @@ pub fn one_meaning_of_a_file()
     ensures { (bytes : List ℕ) (p q : Picture) (t u : List ℕ) (g h : ℕ) → Means bytes p t g → Means bytes q u h → (p ≡ q) × (t ≡ u) × (g ≡ h) }
 {}
 
-/// A yes and a no aren't both true of a claim, nor is one of them and a refusal, nor are refusals for two causes; want of
-/// memory apart. Nor are want of memory and a file that isn't there, or want of memory and a bad table.
+/// A yes and a no aren't both true of a claim, nor is one of them and a refusal, nor are refusals for two causes; out of
+/// memory apart. Nor are out of memory and a file that isn't there, or out of memory and a bad table.
 pub fn one_kind_of_verdict()
     ensures yes_or_no { (files : List (List ℕ × List ℕ)) (rules : List (List ℕ)) (claim : Claim) (why : Why) → IsTrueVerdict files rules claim Yes → IsTrueVerdict files rules claim (No why) → ⊥ }
     ensures yes_or_refused { (files : List (List ℕ × List ℕ)) (rules : List (List ℕ)) (claim : Claim) (cause : Cause) → cause ≢ Memory

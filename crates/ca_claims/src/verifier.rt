@@ -1,12 +1,12 @@
 //! Verdicts on the claims of a text, each on its own.
 
-ghost use Rattle.std.specs.Prelude.{◌≡◌, ℕ, ◌<◌, List, [], ◌∷◌, map, length, get_or, Some, None, IfOk, MatchOption, MatchResult};
-ghost use Rattle.std.specs.List.{AllByRecursion, AllZip};
+ghost use Rattle.std.specs.Prelude.{◌≡◌, ℕ, ◌<◌, List, [], ◌∷◌, map, length, IfOk, MatchResult};
+ghost use Rattle.std.specs.List.{AllByRecursion};
 ghost use Rattle.std.specs.Option.{option_copied};
 ghost use Rattle.ca_claims.specs.Text.{Claim as TextClaim, patterns_of, about, HasGoodNumbers};
 ghost use Rattle.ca_claims.specs.Places.{path_at};
 ghost use Rattle.ca_claims.specs.Means.{contents, bytes_at};
-ghost use Rattle.ca_claims.specs.Answers.{AreTables, SomeOf, HasCause, IsTrueVerdict, AreTrueAnswers};
+ghost use Rattle.ca_claims.specs.Answers.{HasCause, IsTrueVerdict, AreTrueAnswers};
 ghost use Rattle.ca_claims.specs.inner.Patterns.{items, IsEachOnce};
 ghost use Rattle.ca_claims.specs.inner.Tables.{AreRead};
 
@@ -14,63 +14,41 @@ mod agreement;
 mod one_or_two;
 mod patterns;
 mod planes;
+mod prepared;
 mod tables;
 
 use crate::claims::{Claim, Claims};
 use crate::decide::decide;
 use crate::file::File;
+use crate::judge::Judge;
 use crate::verdict::{Answer, Cause, Verdict};
-use agreement::agreed_rule;
 use ca_plane::Memory;
-use ca_quad::Store;
-use ca_rule::Table;
-use one_or_two::OneOrTwo;
-use patterns::{read_each, with_rules};
-use planes::{both, expand_each};
+pub(crate) use one_or_two::OneOrTwo;
+use planes::both;
+pub(crate) use prepared::prepare;
 use std::alloc::Global;
-use tables::Tables;
+pub(crate) use tables::Tables;
 
 /// One answer for each claim, in the order of their lines. Of two files with one path the first counts. The rule tables
 /// are read once for all claims; of two tables with one name that of the first rule line counts.
 ///
 /// # Errors
 ///
-/// Fails where there is no memory for the list of the files, for the rule tables or for the answers. Want of memory in one claim refuses
-/// that claim alone.
+/// Fails where there is no memory for the answers, for the list of the files or for the rule tables. Where there is no memory
+/// to judge a claim, that claim alone is refused.
 pub fn verify(alloc: Global, claims: &Claims, files: &[File<'_>]) -> Result<Vec<Answer>, Memory>
     ensures answers { IfOk result (λ v. AreTrueAnswers (contents files.now) claims.now.rules claims.now.claims v.items) }
 {
-    let found = find_files(alloc, claims, files)?;
-    let tables = Tables::read(alloc, claims.rules(), &found)?;
-    answer_each(alloc, claims, &found, &tables)
-}
-
-// One answer for each claim, where these are the bytes of the files with the paths of the text and what its rule lines'
-// files hold.
-fn answer_each(
-    alloc: Global,
-    claims: &Claims,
-    found: &[Option<&[u8]>],
-    tables: &Tables,
-) -> Result<Vec<Answer>, Memory>
-    requires { length found.now ≡ length claims.now.paths }
-    ensures { (files : List (List ℕ × List ℕ)) → map option_copied found.now ≡ map (bytes_at files) claims.now.paths → AreRead files claims.now.rules tables.now
-        → IfOk result (λ v. AreTrueAnswers files claims.now.rules claims.now.claims v.items) }
-{
     let mut answers = Vec::with_capacity(alloc, claims.claim_count())?;
-    'claims: for index in 0..claims.claim_count() {
-        let asked = claims.claim(index);
-        let verdict = verdict_of(judge(alloc, &asked.claim, found, tables));
-        answers.push(Answer {
-            line: asked.line,
-            verdict,
-        })?;
+    let mut judge = Judge::new(alloc, claims, files)?;
+    'claims: while let Some(answer) = judge.next() {
+        answers.push(answer)?;
     }
     Ok(answers)
 }
 
-// For each path of the claims the bytes of the first file that has it.
-fn find_files<'a>(
+/// For each path of the claims the bytes of the first file that has it.
+pub(crate) fn find_files<'a>(
     alloc: Global,
     claims: &Claims,
     files: &[File<'a>],
@@ -88,8 +66,8 @@ fn find_files<'a>(
     Ok(found)
 }
 
-// The verdict that was reached, or a refusal for the cause for which none was.
-fn verdict_of(judged: Result<Verdict, Cause>) -> Verdict
+/// The verdict that was reached, or a refusal for the cause for which none was.
+pub(crate) fn verdict_of(judged: Result<Verdict, Cause>) -> Verdict
     ensures { (files : List (List ℕ × List ℕ)) (rules : List (List ℕ)) (claim : TextClaim) → MatchResult judged (IsTrueVerdict files rules claim) (HasCause files rules (patterns_of claim))
         → IsTrueVerdict files rules claim result }
 {
@@ -99,9 +77,9 @@ fn verdict_of(judged: Result<Verdict, Cause>) -> Verdict
     }
 }
 
-// The verdict on a claim, where these are the bytes of the files with the paths of the text and what its rule lines' files
-// hold, or the cause for which there is none.
-fn judge(
+/// The verdict on a claim, where these are the bytes of the files with the paths of the text and what its rule lines' files
+/// hold, or the cause for which there is none.
+pub(crate) fn judge(
     alloc: Global,
     claim: &Claim<usize>,
     found: &[Option<&[u8]>],
@@ -109,38 +87,12 @@ fn judge(
 ) -> Result<Verdict, Cause>
     requires within { AllByRecursion (λ i. i < length found.now) (patterns_of claim.now) }
     requires numbers { HasGoodNumbers claim.now }
-    ensures { (files : List (List ℕ × List ℕ)) (paths rules : List (List ℕ)) → map option_copied found.now ≡ map (bytes_at files) paths → AreRead files rules tables.now
+    ensures { (files : List (List ℕ × List ℕ)) (paths rules : List (List ℕ)) → map option_copied found.now ≡ map (bytes_at files) paths → AreRead files paths rules tables.now
         → MatchResult result (IsTrueVerdict files rules (about (path_at paths) claim.now)) (HasCause files rules (patterns_of (about (path_at paths) claim.now))) }
 {
-    let Some(files) = files_at(&places_of(claim), found) else {
-        return Err(Cause::NoFile);
-    };
-    let tables = tables.all()?;
-    judge_by(alloc, claim, &files, tables)
-}
-
-// The verdict on a claim, where these are the bytes of its patterns' files, each once, and the text's tables.
-fn judge_by(
-    alloc: Global,
-    claim: &Claim<usize>,
-    there: &OneOrTwo<&[u8]>,
-    tables: &[Table],
-) -> Result<Verdict, Cause>
-    requires { HasGoodNumbers claim.now }
-    ensures { (files : List (List ℕ × List ℕ)) (paths rules each : List (List ℕ)) → IsEachOnce each (patterns_of (about (path_at paths) claim.now))
-        → AllZip (λ path b. bytes_at files path ≡ Some b.now) each (items there.now) → AreTables files rules tables.now
-        → MatchResult result (IsTrueVerdict files rules (about (path_at paths) claim.now)) (HasCause files rules (patterns_of (about (path_at paths) claim.now))) }
-{
-    let mut store = Store::new(alloc);
-    let patterns = read_each(alloc, &mut store, there)?;
-    let patterns = match with_rules(patterns, tables) {
-        Ok(patterns) => patterns,
-        Err(fault) => return Err(Cause::BadRule(fault)),
-    };
-    let rule = agreed_rule(alloc, &store, &patterns)?;
-    let planes = expand_each(alloc, &store, &patterns)?;
-    let (cells, other) = both(&planes);
-    Ok(decide(alloc, &rule, cells, other, claim.asks()))
+    let prepared = prepare(alloc, &places_of(claim), found, tables)?;
+    let (cells, other) = both(&prepared.planes);
+    Ok(decide(alloc, &prepared.rule, cells, other, claim.asks()))
 }
 
 // The indices of the paths of a claim's patterns, each once.
@@ -163,23 +115,4 @@ fn each_once(first: usize, second: usize) -> OneOrTwo<usize>
         return OneOrTwo::One(first);
     }
     OneOrTwo::Two(first, second)
-}
-
-// The bytes at these indices, where all of them are there.
-fn files_at<'a>(places: &OneOrTwo<usize>, found: &[Option<&'a [u8]>]) -> Option<OneOrTwo<&'a [u8]>>
-    requires { AllByRecursion (λ i. i < length found.now) (items places.now) }
-    ensures { MatchOption result (SomeOf (λ i. get_or found.now i None ≡ None) (items places.now))
-        (λ files. AllZip (λ i b. get_or found.now i None ≡ Some b) (items places.now) (items files)) }
-{
-    match *places {
-        OneOrTwo::One(only) => {
-            let only = found[only]?;
-            Some(OneOrTwo::One(only))
-        }
-        OneOrTwo::Two(first, second) => {
-            let first = found[first]?;
-            let second = found[second]?;
-            Some(OneOrTwo::Two(first, second))
-        }
-    }
 }

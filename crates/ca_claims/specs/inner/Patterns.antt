@@ -34,7 +34,7 @@ pub record IsReadFrom (nodes : List Node) (bytes : List ℕ) (pattern : Loaded) 
   pub loaded : IsLoaded nodes bytes cells pattern
   pub range : AreInRange (cell nodes pattern.tree)
 
--- why the bytes aren't read: their fault, or want of memory where it may be wanted
+-- why the bytes aren't read: their fault, or out of memory where they may need memory
 abbrev pub IsUnread : List ℕ → Cause → Type 0
 IsUnread bytes NoFile = ⊥
 IsUnread bytes (BadTable fault) = ⊥

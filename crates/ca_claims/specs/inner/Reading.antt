@@ -6,16 +6,17 @@ use Rattle.std.specs.List.{list_any, AllByRecursion}
 use Rattle.std.specs.Str.{bytes_eq}
 use Rattle.ca_claims.specs.declared.claims.line.Claim.{Claim as ClaimOf}
 use Rattle.ca_claims.specs.declared.claims.line.ClaimLine.{ClaimLine}
+use Rattle.ca_claims.specs.declared.claims.line.Place.{Place}
 use Rattle.ca_claims.specs.declared.claims.reading.Reading.{Reading}
 use Rattle.ca_claims.specs.declared.claims.words.LineKind.{LineKind}
 use Rattle.ca_claims.specs.declared.claims.words.LineKind.TheVariants.{Skipped, Rule, Load, Claim, OutsideLimits, Misspelled}
 use Rattle.ca_claims.specs.declared.fault.ClaimFault.{ClaimFault}
 use Rattle.ca_claims.specs.declared.fault.ClaimFault.TheVariants.{Syntax, Number, UnknownName, NameTaken, Memory}
-use Rattle.ca_claims.specs.Places.{path_at, numbered, IsAsked}
+use Rattle.ca_claims.specs.Places.{path_at, named, IsNamed}
 use Rattle.ca_claims.specs.Text as text
 use Rattle.ca_claims.specs.TextFaults.{AreMisspelled, HaveBadNumber, AskUnknown, LoadTaken, AreAllowed}
 
--- the paths, with this one behind them where it isn't one of them
+-- the paths, with this one after them where it isn't one of them
 abbrev pub with_path : List (List ℕ) → List ℕ → List (List ℕ)
 with_path paths path = if list_any (bytes_eq path) paths then paths else paths ++ path ∷ []
 
@@ -49,42 +50,47 @@ IsKind words OutsideLimits =
     (text.is_skipped words ≡ false) × (claim : text.Claim) × text.WordsSay words (text.Claims claim) × (text.HasGoodNumbers claim → ⊥)
 IsKind words Misspelled = (text.is_skipped words ≡ false) × ((line : text.Line) → text.WordsSay words line → ⊥)
 
--- the index at which a name's path stands
-abbrev pub place_of : {S : Type 0} → HashMap (Bor (List ℕ)) ℕ S → List ℕ → Option ℕ
+-- the indices of a name and of its path
+abbrev pub place_of : {S : Type 0} → HashMap (Bor (List ℕ)) Place S → List ℕ → Option Place
 place_of names name = get_by (λ n. bytes_eq name n.now) names
 
 -- each of a claim's names is known
-abbrev pub AreKnown : (List ℕ → Option ℕ) → text.Claim → Type 0
-AreKnown names claim = AllByRecursion (λ n. IsSome (names n)) (text.patterns_of claim)
+abbrev pub AreKnown : (List ℕ → Option Place) → text.Claim → Type 0
+AreKnown places claim = AllByRecursion (λ n. IsSome (places n)) (text.patterns_of claim)
 
--- the claim about the paths at the places of its names
-abbrev pub at_places : (List ℕ → Option ℕ) → text.Claim → ClaimOf ℕ
-at_places names claim = text.about (λ name. unwrap_or (names name) 0) claim
+-- the place of a name that is known
+abbrev pub known_place : Option Place → Place
+known_place place = unwrap_or place (record { name = 0; path = 0 })
 
--- a path, where there is one, stands at this index
-abbrev pub StandsAt : List (List ℕ) → Option ℕ → Option (List ℕ) → Type 0
-StandsAt paths None found = found ≡ None
-StandsAt paths (Some i) found = (path : List ℕ) × (slice_get paths i ≡ Some path) × (found ≡ Some path)
+-- the claim about the places of its names
+abbrev pub at_places : (List ℕ → Option Place) → text.Claim → ClaimOf Place
+at_places places claim = text.about (λ name. known_place (places name)) claim
 
--- the paths, the places of the rule tables, the claims and the names that are kept once the lines have said this
-pub record IsKept (said : List (Option text.Line)) (paths : List (List ℕ)) (rules : List ℕ) (claims : List ClaimLine) (names : List ℕ → Option ℕ) : Type 0 where
+-- where the name is loaded from a path, these are their indices
+abbrev pub StandsAt : List (List ℕ) → List (List ℕ) → List ℕ → Option Place → Option (List ℕ) → Type 0
+StandsAt names paths name None found = found ≡ None
+StandsAt names paths name (Some place) found =
+    (path : List ℕ) × (slice_get names place.name ≡ Some name) × (slice_get paths place.path ≡ Some path) × (found ≡ Some path)
+
+-- the names and paths, the places of the rule tables, the claims, and the places of the names, which are kept once the lines have said this
+pub record IsKept (said : List (Option text.Line)) (names paths : List (List ℕ)) (rules : List ℕ) (claims : List (ClaimLine Place)) (places : List ℕ → Option Place) : Type 0 where
   pub once : paths ≡ text.each_once (text.file_paths said)
   pub ruled : map (path_at paths) rules ≡ text.rule_paths said
   pub placed : All (λ i. i < length paths) rules
-  pub asked : map (numbered paths) claims ≡ text.claims_from 1 [] said
-  pub good : All (λ l. IsAsked paths l.claim) claims
-  pub named : (name : List ℕ) → StandsAt paths (names name) (text.path_of (text.spoken said) name)
+  pub asked : map (named names paths) claims ≡ text.claims_from 1 [] said
+  pub good : All (λ l. IsNamed names paths l.claim) claims
+  pub known : (name : List ℕ) → StandsAt names paths name (places name) (text.path_of (text.spoken said) name)
 
 -- what is kept once the lines have said this
 abbrev pub IsReading : List (Option text.Line) → Reading → Type 0
-IsReading said reading = IsKept said reading.paths reading.rules.items reading.claims.items (place_of reading.names)
+IsReading said reading = IsKept said (map (λ name. name.items) reading.names.items) reading.paths reading.rules.items reading.claims.items (place_of reading.places)
 
--- the next line says this, behind what earlier lines say
+-- the next line says this, after what earlier lines say
 abbrev pub SaysNext : List text.Line → List (List ℕ) → Option text.Line → Type 0
 SaysNext earlier words None = text.is_skipped words ≡ true
 SaysNext earlier words (Some line) = (text.is_skipped words ≡ false) × text.WordsSay words line × text.IsAllowed earlier line
 
--- the n-th line has this fault, behind what earlier lines say
+-- the n-th line has this fault, after what earlier lines say
 abbrev pub HasFault : ℕ → List text.Line → List (List ℕ) → ClaimFault → Type 0
 HasFault n earlier words (Syntax line) = (line ≡ n) × AreMisspelled earlier words
 HasFault n earlier words (Number line) = (line ≡ n) × HaveBadNumber earlier words

@@ -5,7 +5,7 @@ ghost use Rattle.ca_claims.specs.Truth.{asks_of};
 
 use super::line::Claim;
 
-/// Whose cells are wanted.
+/// Whose cells the claim wants to see.
 #[derive(Clone, Copy, Debug, PartialEq, Eq)]
 pub(crate) enum Wanted {
     /// The pattern's own.
@@ -30,7 +30,7 @@ pub(crate) enum Barred {
 pub(crate) struct Asks {
     /// Whether the pattern must be live.
     pub(crate) live: bool,
-    /// After how many generations the wanted cells stand.
+    /// After how many generations the plane shows the wanted cells.
     pub(crate) generations: u64,
     /// Whose cells are wanted.
     pub(crate) wanted: Wanted,

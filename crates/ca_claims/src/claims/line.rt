@@ -1,7 +1,13 @@
 //! A claim of a text, with the number of its line.
 
+ghost use Rattle.std.specs.Prelude.{◌≡◌};
+ghost use Rattle.ca_claims.specs.Text.{patterns_of, about};
+ghost use Rattle.ca_claims.specs.inner.Patterns.{items};
+
+use crate::verifier::OneOrTwo;
+
 /// What is claimed of patterns, each of which is given by a `P`: by its name, or by the index of its path among the text's
-/// paths.
+/// paths, or by both.
 #[derive(Clone, Copy, Debug)]
 pub(crate) enum Claim<P> {
     /// The pattern is live, and one generation on it is what it was.
@@ -29,9 +35,72 @@ pub(crate) enum Claim<P> {
     },
 }
 
+/// The index of a pattern's name among the text's names, and that of its path among the paths.
+#[derive(Clone, Copy, Debug)]
+pub(crate) struct Place {
+    pub(crate) name: usize,
+    pub(crate) path: usize,
+}
+
+/// A pattern's name, and the index of its path among the text's paths.
+#[derive(Clone, Copy, Debug)]
+pub(crate) struct Named<'a> {
+    pub(crate) name: &'a [u8],
+    pub(crate) path: usize,
+}
+
+impl Claim<Place> {
+    /// The patterns that the claim is about.
+    pub(crate) fn patterns(&self) -> OneOrTwo<Place>
+        ensures { items result ≡ patterns_of self.now }
+    {
+        match *self {
+            Claim::Still { pattern } => OneOrTwo::One(pattern),
+            Claim::Oscillator { pattern, .. } => OneOrTwo::One(pattern),
+            Claim::Spaceship { pattern, .. } => OneOrTwo::One(pattern),
+            Claim::Becomes { pattern, other, .. } => OneOrTwo::Two(pattern, other),
+        }
+    }
+
+    /// The claim about the paths alone.
+    pub(crate) fn by_path(&self) -> Claim<usize>
+        ensures { result ≡ about (λ p. p.path) self.now }
+    {
+        match *self {
+            Claim::Still { pattern } => Claim::Still {
+                pattern: pattern.path,
+            },
+            Claim::Oscillator { pattern, period } => Claim::Oscillator {
+                pattern: pattern.path,
+                period,
+            },
+            Claim::Spaceship {
+                pattern,
+                period,
+                dx,
+                dy,
+            } => Claim::Spaceship {
+                pattern: pattern.path,
+                period,
+                dx,
+                dy,
+            },
+            Claim::Becomes {
+                pattern,
+                generations,
+                other,
+            } => Claim::Becomes {
+                pattern: pattern.path,
+                generations,
+                other: other.path,
+            },
+        }
+    }
+}
+
 /// A claim, and the number of its line in the text. Lines are counted from 1.
 #[derive(Clone, Copy)]
-pub(crate) struct ClaimLine {
+pub(crate) struct ClaimLine<P> {
     pub(crate) line: u64,
-    pub(crate) claim: Claim<usize>,
+    pub(crate) claim: Claim<P>,
 }

@@ -56,7 +56,7 @@ impl Paths {
         self.set.get_index_of(path)
     }
 
-    /// The index of the path, which is put behind the others where it isn't one of these.
+    /// The index of the path, which is put after the others where it isn't one of these.
     pub(crate) fn put(&mut self, alloc: Global, path: &[u8]) -> Result<usize, AllocError>
         ensures paths { IfOk result (λ _. self.new ≡ with_path self.old path.now) }
         ensures index { IfOk result (λ i. slice_get self.new i ≡ Some path.now) }

@@ -8,21 +8,22 @@ ghost use Rattle.ca_claims.specs.declared.claims.words.LineKind.TheVariants as k
 ghost use Rattle.ca_claims.specs.inner.Reading.{IsKind, IsReading, SaysNext, HasFault, place_of, claim_of, AreKnown, at_places};
 
 use super::Claims;
-use super::line::{Claim, ClaimLine};
+use super::line::{Claim, ClaimLine, Place};
 use super::paths::Paths;
 use super::words::{LineKind, line_kind};
 use crate::ClaimFault;
 use ca_plane::bytes::next_line;
-use std::alloc::Global;
+use std::alloc::{AllocError, Global};
 use std::collections::HashMap;
 
 /// What the lines of a text have said so far.
 #[derive(Drop)]
 struct Reading<'a> {
     paths: Paths,
+    names: Vec<Vec<u8>>,
+    places: HashMap<&'a [u8], Place>,
     rules: Vec<usize>,
-    claims: Vec<ClaimLine>,
-    names: HashMap<&'a [u8], usize>,
+    claims: Vec<ClaimLine<Place>>,
 }
 
 impl<'a> Reading<'a> {
@@ -32,9 +33,10 @@ impl<'a> Reading<'a> {
     {
         Reading {
             paths: Paths::new(alloc),
+            names: Vec::new(alloc),
+            places: HashMap::new(alloc),
             rules: Vec::new(alloc),
             claims: Vec::new(alloc),
-            names: HashMap::new(alloc),
         }
     }
 
@@ -55,9 +57,9 @@ impl<'a> Reading<'a> {
 
     /// Whether a line has loaded the name.
     fn is_loaded(&self, name: &[u8]) -> bool
-        ensures { result ≡ is_some (place_of self.now.names name.now) }
+        ensures { result ≡ is_some (place_of self.now.places name.now) }
     {
-        self.names.contains_key(name)
+        self.places.contains_key(name)
     }
 
     /// The line with this number loads the name from the path.
@@ -77,25 +79,38 @@ impl<'a> Reading<'a> {
         if self.is_loaded(name) {
             return Err(ClaimFault::NameTaken { line });
         }
-        let Ok(place) = self.paths.put(alloc, path) else {
-            return Err(ClaimFault::Memory);
-        };
-        if self.names.insert(name, place).is_err() {
+        if self.keep(alloc, name, path).is_err() {
             return Err(ClaimFault::Memory);
         }
         Ok(())
     }
 
-    /// The index of the path that a line has loaded the name from.
-    fn place(&self, name: &[u8]) -> Option<usize>
-        ensures { result ≡ place_of self.now.names name.now }
+    /// The name, which isn't loaded yet, is kept with its path.
+    fn keep(&mut self, alloc: Global, name: &'a [u8], path: &[u8]) -> Result<(), AllocError>
+        requires { place_of self.now.places name.now ≡ None }
+        ensures { OnOk result ((said : List (Option Line)) → IsReading said self.old
+            → IsReading (said ++ Some (Load name.now path.now) ∷ []) self.new) }
     {
-        self.names.get(name).copied()
+        let kept = Vec::from_slice(alloc, name)?;
+        let place = Place {
+            name: self.names.len(),
+            path: self.paths.put(alloc, path)?,
+        };
+        self.names.push(kept)?;
+        self.places.insert(name, place)?;
+        Ok(())
     }
 
-    /// The claim about the paths that lines have loaded its names from, where each is loaded.
-    fn placed(&self, claim: &Claim<&'a [u8]>) -> Option<Claim<usize>>
-        ensures { MatchOption result (AreKnown (place_of self.now.names) (claim_of claim.now) → ⊥) (λ c. AreKnown (place_of self.now.names) (claim_of claim.now) × (c ≡ at_places (place_of self.now.names) (claim_of claim.now))) }
+    /// The place of a name that a line has loaded.
+    fn place(&self, name: &[u8]) -> Option<Place>
+        ensures { result ≡ place_of self.now.places name.now }
+    {
+        self.places.get(name).copied()
+    }
+
+    /// The claim about the places of its names, where each is loaded.
+    fn placed(&self, claim: &Claim<&'a [u8]>) -> Option<Claim<Place>>
+        ensures { MatchOption result (AreKnown (place_of self.now.places) (claim_of claim.now) → ⊥) (λ c. AreKnown (place_of self.now.places) (claim_of claim.now) × (c ≡ at_places (place_of self.now.places) (claim_of claim.now))) }
     {
         match *claim {
             Claim::Still { pattern } => {
@@ -178,8 +193,8 @@ impl<'a> Reading<'a> {
 ///
 /// # Errors
 ///
-/// The first fault of the text; and `Memory` where there is none for a good line, behind lines that are good as well: a
-/// line's spelling, its numbers and its names are judged without memory.
+/// The first fault of the text; or `Memory`, at a good line that follows good lines alone: a line's spelling, its numbers and
+/// its names are judged without memory.
 pub fn read_claims(alloc: Global, bytes: &[u8]) -> Result<Claims, ClaimFault>
     ensures found { IfOk result (λ c. (said : List (Option Line)) × IsClaimText bytes.now said × (c ≡ asked_by said)) }
     ensures fault { IfErr result (λ f. IsFirstFault bytes.now f) }
@@ -195,6 +210,7 @@ pub fn read_claims(alloc: Global, bytes: &[u8]) -> Result<Claims, ClaimFault>
     }
     Ok(Claims {
         paths: reading.paths,
+        names: reading.names,
         rules: reading.rules,
         claims: reading.claims,
     })

@@ -102,7 +102,7 @@ pub(crate) fn line_kind(line: &[u8]) -> LineKind<'_>
     LineKind::Claim(claim)
 }
 
-/// What a line says whose keyword is `rule`, by the words behind that.
+/// What a line says whose keyword is `rule`, by the words after it.
 fn rule(words: &[u8]) -> LineKind<'_>
     requires { Every (λ b. not (is_line_end b)) words.now }
     ensures { IsKind (codes "rule" ∷ words_of words.now) result }
@@ -113,7 +113,7 @@ fn rule(words: &[u8]) -> LineKind<'_>
     }
 }
 
-/// What a line says whose keyword is `load`, by the words behind that.
+/// What a line says whose keyword is `load`, by the words after it.
 fn load(words: &[u8]) -> LineKind<'_>
     requires { Every (λ b. not (is_line_end b)) words.now }
     ensures { IsKind (codes "load" ∷ words_of words.now) result }
@@ -124,7 +124,7 @@ fn load(words: &[u8]) -> LineKind<'_>
     }
 }
 
-/// The claim that a keyword and the words behind it make.
+/// The claim that a keyword and the words after it make.
 fn claim<'a>(keyword: &[u8], words: &'a [u8]) -> Option<Claim<&'a [u8]>>
     requires { Every (λ b. not (is_line_end b)) words.now }
     ensures { MatchOption result ((c : TextClaim) → WordsSay (keyword.now ∷ words_of words.now) (Claims c) → ⊥) (λ c. MakesClaim (keyword.now ∷ words_of words.now) c) }
@@ -144,7 +144,7 @@ fn claim<'a>(keyword: &[u8], words: &'a [u8]) -> Option<Claim<&'a [u8]>>
     None
 }
 
-/// The claim of a line whose keyword is `still`, by the words behind that.
+/// The claim of a line whose keyword is `still`, by the words after it.
 fn still(words: &[u8]) -> Option<Claim<&[u8]>>
     requires { Every (λ b. not (is_line_end b)) words.now }
     ensures { MatchOption result ((c : TextClaim) → WordsSay (codes "still" ∷ words_of words.now) (Claims c) → ⊥) (λ c. MakesClaim (codes "still" ∷ words_of words.now) c) }
@@ -153,7 +153,7 @@ fn still(words: &[u8]) -> Option<Claim<&[u8]>>
     Some(Claim::Still { pattern: name })
 }
 
-/// The claim of a line whose keyword is `oscillator`, by the words behind that.
+/// The claim of a line whose keyword is `oscillator`, by the words after it.
 fn oscillator(words: &[u8]) -> Option<Claim<&[u8]>>
     requires { Every (λ b. not (is_line_end b)) words.now }
     ensures { MatchOption result ((c : TextClaim) → WordsSay (codes "oscillator" ∷ words_of words.now) (Claims c) → ⊥) (λ c. MakesClaim (codes "oscillator" ∷ words_of words.now) c) }
@@ -166,7 +166,7 @@ fn oscillator(words: &[u8]) -> Option<Claim<&[u8]>>
     })
 }
 
-/// The claim of a line whose keyword is `spaceship`, by the words behind that.
+/// The claim of a line whose keyword is `spaceship`, by the words after it.
 fn spaceship(words: &[u8]) -> Option<Claim<&[u8]>>
     requires { Every (λ b. not (is_line_end b)) words.now }
     ensures { MatchOption result ((c : TextClaim) → WordsSay (codes "spaceship" ∷ words_of words.now) (Claims c) → ⊥) (λ c. MakesClaim (codes "spaceship" ∷ words_of words.now) c) }
@@ -183,7 +183,7 @@ fn spaceship(words: &[u8]) -> Option<Claim<&[u8]>>
     })
 }
 
-/// The claim of a line whose keyword is `becomes`, by the words behind that.
+/// The claim of a line whose keyword is `becomes`, by the words after it.
 fn becomes(words: &[u8]) -> Option<Claim<&[u8]>>
     requires { Every (λ b. not (is_line_end b)) words.now }
     ensures { MatchOption result ((c : TextClaim) → WordsSay (codes "becomes" ∷ words_of words.now) (Claims c) → ⊥) (λ c. MakesClaim (codes "becomes" ∷ words_of words.now) c) }

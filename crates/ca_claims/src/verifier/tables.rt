@@ -7,7 +7,8 @@ ghost use Rattle.ca_rule.specs.TableNext.{TableRule};
 ghost use Rattle.ca_rule.specs.declared.table.fault.TableFault.TheVariants as table_fault;
 ghost use Rattle.ca_claims.specs.Places.{path_at};
 ghost use Rattle.ca_claims.specs.Means.{bytes_at};
-ghost use Rattle.ca_claims.specs.Answers.{IsQuietTable, IsTableFault, IsThere, AreTables, SomeOf, FirstBad, HasCause};
+ghost use Rattle.ca_claims.specs.Answers.{IsThere, AreTables, SomeOf, FirstBad, HasCause};
+ghost use Rattle.ca_claims.specs.inner.Found.{IsFound, IsTableFound, IsFaultFound};
 
 use crate::verdict::Cause;
 use ca_plane::Memory;
@@ -17,12 +18,19 @@ use std::alloc::Global;
 /// What the files of a text's rule lines hold.
 #[derive(Drop)]
 pub(crate) enum Tables {
-    /// One of the files wasn't handed in.
-    Missing,
-    /// All were, and this is the fault of the first that is faulty.
-    Faulty(TableFault),
+    /// The file with the path at this place wasn't handed in.
+    Missing(usize),
+    /// All were, and this is the first that is faulty.
+    Faulty(FaultyTable),
     /// The tables, in the order of the lines.
     Read(Vec<Table>),
+}
+
+/// The place of a path whose file is no good table, and what is wrong with it.
+#[derive(Clone, Copy)]
+pub(crate) struct FaultyTable {
+    pub(crate) place: usize,
+    pub(crate) fault: TableFault,
 }
 
 impl Tables {
@@ -40,65 +48,78 @@ impl Tables {
     ) -> Result<Tables, Memory>
         requires { All (λ i. i < length found.now) places.now }
         ensures { (files : List (List ℕ × List ℕ)) (paths : List (List ℕ)) → map option_copied found.now ≡ map (bytes_at files) paths
-            → IfOk result (AreRead files (map (path_at paths) places.now)) }
+            → IfOk result (AreRead files paths (map (path_at paths) places.now)) }
     {
-        let Some(files) = files_of(alloc, places, found)? else {
-            return Ok(Tables::Missing);
-        };
-        match tables_of(alloc, &files) {
+        if let Some(place) = first_missing(places, found) {
+            return Ok(Tables::Missing(place));
+        }
+        match tables_of(alloc, places, found) {
             Ok(tables) => Ok(Tables::Read(tables)),
-            Err(fault) => match fault {
+            Err(faulty) => match faulty.fault {
                 TableFault::Memory => Err(Memory),
-                _ => Ok(Tables::Faulty(fault)),
+                _ => Ok(Tables::Faulty(faulty)),
             },
         }
     }
 
     /// The tables, or the cause for which no claim is judged without them.
     pub(crate) fn all(&self) -> Result<&[Table], Cause>
-        ensures tables { (files : List (List ℕ × List ℕ)) (rules : List (List ℕ)) → AreRead files rules self.now → IfOk result (λ tables. AreTables files rules tables.now) }
-        ensures cause { (files : List (List ℕ × List ℕ)) (rules paths : List (List ℕ)) → AreRead files rules self.now → AllByRecursion (IsThere files) paths
-            → IfErr result (HasCause files rules paths) }
+        ensures tables { (files : List (List ℕ × List ℕ)) (paths rules : List (List ℕ)) → AreRead files paths rules self.now → IfOk result (λ tables. AreTables files rules tables.now) }
+        ensures cause { (files : List (List ℕ × List ℕ)) (paths rules patterns : List (List ℕ)) → AreRead files paths rules self.now → AllByRecursion (IsThere files) patterns
+            → IfErr result (HasCause files rules patterns) }
     {
         match self {
-            Tables::Missing => Err(Cause::NoFile),
-            Tables::Faulty(fault) => Err(Cause::BadTable(*fault)),
+            Tables::Missing(_) => Err(Cause::NoFile),
+            Tables::Faulty(faulty) => Err(Cause::BadTable(faulty.fault)),
             Tables::Read(tables) => Ok(tables),
         }
     }
 }
 
-/// The bytes at these places, where all of them are there.
-fn files_of<'a>(
-    alloc: Global,
-    places: &[usize],
-    found: &[Option<&'a [u8]>],
-) -> Result<Option<Vec<&'a [u8]>>, Memory>
+/// The first of these places at which no file is found.
+fn first_missing(places: &[usize], found: &[Option<&[u8]>]) -> Option<usize>
     requires { All (λ i. i < length found.now) places.now }
-    ensures { IfOk result (λ all. MatchOption all (SomeOf (λ i. get_or found.now i None ≡ None) places.now)
-        (λ files. AllZip (λ i b. get_or found.now i None ≡ Some b) places.now files.items)) }
+    ensures { MatchOption result (AllByRecursion (IsFound found.now) places.now) (λ place. SomeOf (λ i. (i ≡ place) × (get_or found.now i None ≡ None)) places.now) }
 {
-    let mut files = Vec::with_capacity(alloc, places.len())?;
     'places: for place in places {
-        let Some(bytes) = found[*place] else {
-            return Ok(None);
-        };
-        files.push(bytes)?;
+        if found[*place].is_none() {
+            return Some(*place);
+        }
     }
-    Ok(Some(files))
+    None
 }
 
-/// The tables of these texts, in their order, or the fault of the first that is no text of a table.
-fn tables_of(alloc: Global, files: &[&[u8]]) -> Result<Vec<Table>, TableFault>
-    ensures read { IfOk result (λ tables. AllZip (λ b t. IsQuietTable b.now t) files.now tables.items) }
-    ensures fault { IfErr result (λ fault. fault ≢ table_fault.Memory
-        → FirstBad (λ b. (table : TableRule) × IsQuietTable b.now table) (λ b. IsTableFault b.now fault) files.now) }
+/// The tables of the texts at these places, in their order, or the first that is no text of a table.
+fn tables_of(
+    alloc: Global,
+    places: &[usize],
+    found: &[Option<&[u8]>],
+) -> Result<Vec<Table>, FaultyTable>
+    requires within { All (λ i. i < length found.now) places.now }
+    requires there { AllByRecursion (IsFound found.now) places.now }
+    ensures read { IfOk result (λ tables. AllZip (IsTableFound found.now) places.now tables.items) }
+    ensures fault { IfErr result (λ faulty. faulty.fault ≢ table_fault.Memory
+        → FirstBad (λ i. (table : TableRule) × IsTableFound found.now i table) (IsFaultFound found.now faulty) places.now) }
 {
     let mut tables = Vec::new(alloc);
-    'files: for bytes in files {
-        let table = Table::parse(alloc, bytes)?;
+    'places: for place in places {
+        let Some(bytes) = found[*place] else {
+            unreachable!();
+        };
+        let table = match Table::parse(alloc, bytes) {
+            Ok(table) => table,
+            Err(fault) => {
+                return Err(FaultyTable {
+                    place: *place,
+                    fault,
+                });
+            }
+        };
         if tables.push(table).is_err() {
-            return Err(TableFault::Memory);
+            return Err(FaultyTable {
+                place: *place,
+                fault: TableFault::Memory,
+            });
         }
     }
     Ok(tables)

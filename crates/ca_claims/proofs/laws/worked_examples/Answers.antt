@@ -1,4 +1,4 @@
-use Rattle.std.proofs.Common.{◌≡◌, ℕ, List, [], ◌∷◌, get_or, Some, codes, refl, sym, ap, subst, inl, inr, arith}
+use Rattle.std.proofs.Common.{◌≡◌, ◌≢◌, ℕ, List, [], ◌∷◌, get_or, Some, codes, refl, sym, ap, subst, inl, inr, arith}
 use Rattle.std.specs.Prelude.{pos, neg_ℤ}
 use Rattle.std.specs.Str.{bytes_eq}
 use Rattle.std.proofs.lemmas.Bool.{false≢true}
@@ -52,6 +52,29 @@ returns-clause-every_line c = (
     ),
   ),
 )
+
+-- a list with an element isn't empty
+not_empty : {X : Type 0} (x : X) (xs : List X) → x ∷ xs ≢ []
+not_empty x xs e = cc
+
+-- two paths differ
+p_or_q : codes "p" ≡ codes "q" → ⊥
+p_or_q e = false≢true (sym (ap (λ path. bytes_eq path (codes "p")) e))
+
+pub returns-clause-rule_needed : goal.returns-clause-rule_needed
+returns-clause-rule_needed c = (not_empty _ _, inl (inr (inl refl)))
+
+pub returns-clause-claimed_needed : goal.returns-clause-claimed_needed
+returns-clause-claimed_needed c = (not_empty _ _, inr (inl (inl refl)))
+
+pub returns-clause-spare_unneeded : goal.returns-clause-spare_unneeded
+returns-clause-spare_unneeded c = λ h. elim h.1 [
+  | inl none ↦ none
+  | inr some ↦ elim some [ inl claim ↦ elim claim [ inl same ↦ p_or_q same | inr none ↦ none ] | inr none ↦ none ]
+]
+
+pub returns-clause-none_needed : goal.returns-clause-none_needed
+returns-clause-none_needed c = λ path h. h.0 refl
 
 pub returns-clause-unknown : goal.returns-clause-unknown
 returns-clause-unknown c = record {

@@ -1,4 +1,4 @@
-use Rattle.std.proofs.Common.{[], ◌∷◌, ◌++◌, Some, if◌then◌else◌, sym, ap, subst, ◌∙◌}
+use Rattle.std.proofs.Common.{map, [], ◌∷◌, ◌++◌, Some, if◌then◌else◌, sym, ap, subst, ◌∙◌}
 use Rattle.ca_claims.specs.Text.{Claims}
 use Rattle.ca_claims.specs.inner.Reading.{claim_of, IsKept, place_of}
 use Rattle.ca_claims.proofs.ReadOn.{names_loaded, read_claim}
@@ -9,15 +9,15 @@ returns-clause-claimed c = λ said read number.
     let claim = claim_of c.args.claim.now in
     let old = c.args.self.now in
     let placed = c.in-Some.ensures in
-    let claimed = read_claim said old.paths old.rules.items old.claims.items (place_of old.names) read claim c.args.line placed.0 c.requires number in
+    let claimed = read_claim said (map (λ n. n.items) old.names.items) old.paths old.rules.items old.claims.items (place_of old.places) read claim c.args.line placed.0 c.requires number in
     let items = c.push.ensures.items
     ∙ ap (λ b. if b then old.claims.items ++ record { line = c.args.line; claim = c.in-Some.claim } ∷ [] else old.claims.items) c.if-is_err.ensures.negation
     ∙ ap (λ k. old.claims.items ++ record { line = c.args.line; claim = k } ∷ []) placed.1 in
-    (claimed.0, subst (λ l. IsKept (said ++ Some (Claims claim) ∷ []) old.paths old.rules.items l (place_of old.names)) (sym items) claimed.1)
+    (claimed.0, subst (λ l. IsKept (said ++ Some (Claims claim) ∷ []) (map (λ n. n.items) old.names.items) old.paths old.rules.items l (place_of old.places)) (sym items) claimed.1)
 
--- memory is wanted at a claim about names that are loaded
+-- out of memory at a claim about names that are loaded
 pub returns-then-is_err-clause-fault : goal.returns-then-is_err-clause-fault
 returns-then-is_err-clause-fault c = λ said read words kind.
     let claim = claim_of c.args.claim.now in
     let old = c.args.self.now in
-    (kind.0, Claims claim, kind.1, (kind.2, names_loaded said old.paths old.rules.items old.claims.items (place_of old.names) read claim c.in-Some.ensures.0))
+    (kind.0, Claims claim, kind.1, (kind.2, names_loaded said (map (λ n. n.items) old.names.items) old.paths old.rules.items old.claims.items (place_of old.places) read claim c.in-Some.ensures.0))

@@ -1,0 +1,105 @@
+-- The first return of a pattern, looked for at the proper divisors of a time at which it's back.
+use Rattle.std.proofs.Common.{◌≡◌, ◌≢◌, ℕ, ◌+◌, ◌≤◌, ◌<◌, List, [], ◌∷◌, length, Option, Some, None, MatchOption, inl, inr, refl, sym, subst, ◌∙◌, arith}
+use Rattle.std.specs.Prelude.{ℤ, pos}
+use Rattle.std.specs.Int.{◌∣◌}
+use Rattle.std.proofs.Math.Nat.{dvd_trans}
+use Rattle.ca_plane.specs.Plane.{Picture, cell, shifted}
+use Rattle.ca_plane.specs.Generations.{after, IsAfter}
+use Rattle.ca_quad.specs.declared.node.Node.{Node}
+use Rattle.ca_quad.specs.declared.tree.Tree.{Tree}
+use Rattle.ca_quad.proofs.Growth.{below_or_not}
+use Rattle.ca_claims.specs.declared.verdict.Why.TheVariants.{Earlier}
+use Rattle.ca_claims.specs.declared.claims.asks.Barred.{Barred}
+use Rattle.ca_claims.specs.declared.claims.asks.Barred.TheVariants.{Nothing, InPlace, Anywhere}
+use Rattle.ca_claims.specs.Truth.{IsNotBack, MayReturnBy}
+use Rattle.ca_claims.specs.inner.Divisors.{AreDivisors}
+use Rattle.ca_claims.specs.inner.Returns.{IsNotBackBefore, IsFirstReturn}
+use Rattle.ca_claims.specs.inner.Subjects.{ShowsTree, AreLeft, IsBackBy}
+use Rattle.ca_claims.proofs.Times.{unmoved}
+use Rattle.ca_claims.proofs.Divided.{changed_before, nowhere_before}
+
+-- a pattern that is back at n, and at no proper divisor of n, is back at no time before n
+not_before : (next : List ℕ → ℕ) (p : Picture) (barred : Barred) (n : ℕ) (u v : ℤ) → MayReturnBy barred u v → IsAfter next p n (shifted p u v)
+    → ((d : ℕ) → 1 ≤ d → d < n → d ∣ n → IsNotBack next p barred d) → IsNotBackBefore next p barred n
+not_before next p Nothing n u v may back tested = absurd may
+not_before next p InPlace n u v may back tested = λ k some less. changed_before next p n (λ x y. back x y ∙ unmoved p u v x y may.0 may.1) tested k k (omega arith) some less
+not_before next p Anywhere n u v may back tested = λ k some less. nowhere_before next p n u v back tested k k (omega arith) some less
+
+-- ---- the pattern at one time
+
+-- in its place
+pub back_here : (next : List ℕ → ℕ) (cells : Picture) (barred : Barred) (n : ℕ) (p q : ℤ → ℤ → ℕ) (back : Option (ℤ × ℤ)) → barred ≢ Nothing → barred ≢ Anywhere
+    → ((x y : ℤ) → after next cells n x y ≡ p x y) → ((x y : ℤ) → cell cells x y ≡ q x y)
+    → MatchOption back ((x : ℤ) × (y : ℤ) × (p x y ≢ q x y)) (λ v. (v.0 ≡ pos 0) × (v.1 ≡ pos 0) × ((x y : ℤ) → p x y ≡ q x y))
+    → MatchOption back (IsNotBack next cells barred n) (IsBackBy next cells barred n)
+back_here next cells Nothing n p q back some place ends shows told = absurd (some refl)
+back_here next cells Anywhere n p q back some place ends shows told = absurd (place refl)
+back_here next cells InPlace n p q None some place ends shows told = (told.0, told.1, λ e. told.2 (sym (ends told.0 told.1) ∙ e ∙ shows told.0 told.1))
+back_here next cells InPlace n p q (Some v) some place ends shows told =
+    ((told.0, told.1), λ x y. ends x y ∙ told.2 x y ∙ sym (shows x y) ∙ sym (unmoved cells v.0 v.1 x y told.0 told.1))
+
+-- anywhere
+pub back_there : (next : List ℕ → ℕ) (cells p : Picture) (n : ℕ) (q : ℤ → ℤ → ℕ) (back : Option (ℤ × ℤ)) → ((x y : ℤ) → after next cells n x y ≡ q x y)
+    → ((dx dy x y : ℤ) → cell (shifted cells dx dy) x y ≡ cell (shifted p dx dy) x y)
+    → MatchOption back ((dx dy : ℤ) → ((x y : ℤ) → cell (shifted p dx dy) x y ≡ q x y) → ⊥) (λ v. (x y : ℤ) → cell (shifted p v.0 v.1) x y ≡ q x y)
+    → MatchOption back (IsNotBack next cells Anywhere n) (IsBackBy next cells Anywhere n)
+back_there next cells p n q None ends same told = λ dx dy is. told dx dy (λ x y. sym (same dx dy x y) ∙ sym (is x y) ∙ ends x y)
+back_there next cells p n q (Some v) ends same told = (tt, λ x y. ends x y ∙ sym (told x y) ∙ sym (same v.0 v.1 x y))
+
+-- ---- the divisors of the time
+
+module _ (next : List ℕ → ℕ) (nodes : List Node) (pattern : Tree) (barred : Barred) (n : ℕ) where
+  -- at first all the proper divisors are left
+  pub all_left : (left : List ℕ) → AreDivisors n 1 n left → AreLeft next nodes pattern barred n left
+  all_left left are = record {
+    low = 1;
+    some = omega arith;
+    are = are;
+    before = λ cells shows d some less _. absurd (omega (arith, some, less));
+  }
+
+  -- one fewer is left where the pattern isn't back at the first
+  pub one_fewer : (d : ℕ) (left : List ℕ) → AreLeft next nodes pattern barred n (d ∷ left) → ((cells : Picture) → ShowsTree nodes pattern cells → IsNotBack next cells barred d)
+      → AreLeft next nodes pattern barred n left
+  one_fewer d left h tried = record {
+    low = d + 1;
+    some = omega arith;
+    are = h.are.4;
+    before = λ cells shows e some less divides.
+        elim (below_or_not e d) [
+          | inr high ↦
+              let same : d ≡ e = omega (arith, high, less) in
+              subst (IsNotBack next cells barred) same (tried cells shows)
+          | inl below ↦ elim (below_or_not e h.low) [
+            | inl lower ↦ h.before cells shows e some lower divides
+            | inr from ↦ absurd (h.are.3 e from below divides)
+          ]
+        ];
+  }
+
+  -- where none is left, the pattern is back at no time before n
+  pub none_left : (left : List ℕ) → length left ≡ 0 → AreLeft next nodes pattern barred n left → (cells : Picture) → ShowsTree nodes pattern cells → (u v : ℤ) → MayReturnBy barred u v → IsAfter next cells n (shifted cells u v)
+      → IsNotBackBefore next cells barred n
+  none_left (d ∷ left) none h cells shows u v may back = absurd (omega (arith, none))
+  none_left [] none h cells shows u v may back =
+      not_before next cells barred n u v may back (λ d some less divides.
+      elim (below_or_not d h.low) [
+        | inl lower ↦ h.before cells shows d some lower divides
+        | inr from ↦ absurd (h.are d from less divides)
+      ])
+
+  -- where it's back at the first that is left, that is its first return
+  pub found_first : (d : ℕ) (left : List ℕ) (v : ℤ × ℤ) → AreLeft next nodes pattern barred n (d ∷ left) → (cells : Picture) → ShowsTree nodes pattern cells
+      → IsBackBy next cells barred d v → IsFirstReturn next cells barred n (Earlier d v.0 v.1)
+  found_first d left v h cells shows back = (
+    omega (arith, h.some, h.are.0),
+    h.are.1,
+    back.0,
+    back.1,
+    not_before next cells barred d v.0 v.1 back.0 back.1 (λ e some less divides.
+        let all : e ∣ n = dvd_trans e divides h.are.2 in
+        elim (below_or_not e h.low) [
+          | inl lower ↦ h.before cells shows e some lower all
+          | inr from ↦ absurd (h.are.3 e from less all)
+        ]),
+  )

@@ -1,0 +1,132 @@
+-- Trees as a leaper goes on: what was known of them stays, and what the pictures that they show have after some generations.
+use Rattle.std.proofs.Common.{◌≡◌, ℕ, List, Option, Some, None, Result, Ok, Err, MatchOption, refl, sym, ap, ap₂, subst, ◌∙◌, inl, inr, arith}
+use Rattle.std.specs.Prelude.{ℤ, pos, ◌-ℤ◌, IfOk, IsNone}
+use Rattle.std.proofs.lemmas.Bool.{cases_eq}
+use Rattle.std.proofs.lemmas.Int.{ints}
+use Rattle.ca_plane.specs.Plane.{Picture, shifted}
+use Rattle.ca_plane.specs.Plane as plane
+use Rattle.ca_plane.proofs.Shifts.{cell-shifted}
+use Rattle.ca_plane.specs.Generations.{after}
+use Rattle.ca_quad.specs.declared.node.Node.{Node}
+use Rattle.ca_quad.specs.declared.tree.Tree.{Tree}
+use Rattle.ca_quad.specs.declared.tree.Spot.{Spot}
+use Rattle.ca_quad.specs.Sound.{IsSound, Grows}
+use Rattle.ca_quad.specs.Trees.{IsTree, cell}
+use Rattle.ca_quad.proofs.Cells.{of_stays}
+use Rattle.ca_quad.proofs.Trims.{trees_stay}
+use Rattle.ca_macro.specs.Pattern.{AreInRange}
+use Rattle.ca_run.proofs.Laters.{after_later, later_same}
+use Rattle.ca_claims.specs.declared.claims.asks.Asks.{Asks}
+use Rattle.ca_claims.specs.declared.claims.asks.Wanted.{Wanted}
+use Rattle.ca_claims.specs.declared.claims.asks.Wanted.TheVariants.{Own, Other}
+use Rattle.ca_claims.specs.declared.leap.Subject.{Subject}
+use Rattle.ca_claims.specs.declared.verdict.Why.{Why}
+use Rattle.ca_claims.specs.declared.verdict.Why.TheVariants.{Empty, Differs, Earlier}
+use Rattle.ca_claims.specs.Truth.{whose, claimed}
+use Rattle.ca_claims.specs.inner.Subjects.{ShowsTree, IsPattern, IsNear, IsMovedBy, IsSubject, AreShown, IsEnd, IsUnlike, whose_tree}
+use Rattle.ca_claims.proofs.Times.{unmoved}
+
+-- the tree of a pattern has no live cell outside the square of a plane
+pub near_pattern : (nodes : List Node) (tree : Tree) → IsPattern nodes tree → IsNear nodes tree
+near_pattern nodes tree h = record {
+  is_tree = h.is_tree;
+  low = omega (arith, h.low);
+  near = λ x y out.
+      elim (cases_eq (cell nodes tree x y) 0) [
+        | inl none ↦ none
+        | inr live ↦
+            let here = h.range x y live in
+            absurd (out (omega (arith, ints, here), omega (arith, ints, here), omega (arith, ints, here), omega (arith, ints, here)))
+      ];
+}
+
+-- ---- the store grows
+
+module _ (old new : List Node) (sound : IsSound old) (grows : Grows old new) where
+  pub shows_stays : (tree : Tree) (p : Picture) → IsTree old tree → ShowsTree old tree p → ShowsTree new tree p
+  shows_stays tree p is shows = λ x y. shows x y ∙ sym (trees_stay old new sound grows tree is x y)
+
+  pub near_stays : (tree : Tree) → IsNear old tree → IsNear new tree
+  near_stays tree h = record {
+    is_tree = of_stays old new sound grows tree.root tree.level h.is_tree;
+    low = h.low;
+    near = λ x y out. trees_stay old new sound grows tree h.is_tree x y ∙ h.near x y out;
+  }
+
+  pub pattern_stays : (tree : Tree) → IsPattern old tree → IsPattern new tree
+  pattern_stays tree h = record {
+    is_tree = of_stays old new sound grows tree.root tree.level h.is_tree;
+    low = h.low;
+    range = λ x y live. h.range x y (λ z. live (trees_stay old new sound grows tree h.is_tree x y ∙ z));
+  }
+
+  moved_stays : (asks : Asks) (pattern : Tree) → IsTree old pattern → (cells : Option Picture) → IsMovedBy asks old pattern cells → IsMovedBy asks new pattern cells
+  moved_stays asks pattern is None h = h
+  moved_stays asks pattern is (Some p) h = (h.0, h.1, h.2, shows_stays pattern p is h.3)
+
+  pub subject_stays : (asks : Asks) (subject : Subject) (cells : Option Picture) → IsSubject old asks subject cells → IsSubject new asks subject cells
+  subject_stays asks subject cells h = record {
+    pattern = pattern_stays subject.pattern h.pattern;
+    other = pattern_stays subject.other h.other;
+    moved = moved_stays asks subject.pattern h.pattern.is_tree cells h.moved;
+  }
+
+  pub shown_stays : (subject : Subject) → IsTree old subject.pattern → IsTree old subject.other → (cells other : Picture) → AreShown old subject cells other → AreShown new subject cells other
+  shown_stays subject one two cells other shown = record {
+    one = shows_stays subject.pattern cells one shown.one;
+    two = shows_stays subject.other other two shown.two;
+  }
+
+-- ---- pictures that are shown
+
+-- what follows of an `Ok`
+pub ok_as : {T E : Type 0} (r : Result T E) (P Q : T → Type 0) → ((t : T) → P t → Q t) → IfOk r P → IfOk r Q
+ok_as (Ok t) P Q turn h = turn t h
+ok_as (Err e) P Q turn h = tt
+
+-- a picture of cells in range is in range
+pub range_shown : (nodes : List Node) (tree : Tree) (p : Picture) → ShowsTree nodes tree p → IsPattern nodes tree → AreInRange (plane.cell p)
+range_shown nodes tree p shows h = λ x y live. h.range x y (λ z. live (shows x y ∙ z))
+
+-- two pictures of one tree show the same, also when they are moved
+pub both_shown : (nodes : List Node) (tree : Tree) (p q : Picture) → ShowsTree nodes tree p → ShowsTree nodes tree q → (dx dy x y : ℤ)
+    → plane.cell (shifted p dx dy) x y ≡ plane.cell (shifted q dx dy) x y
+both_shown nodes tree p q one two dx dy x y =
+    cell-shifted p dx dy x y ∙ one (x -ℤ dx) (y -ℤ dy) ∙ sym (two (x -ℤ dx) (y -ℤ dy)) ∙ sym (cell-shifted q dx dy x y)
+
+-- the cells that are wanted, where they are the pattern's own
+pub wanted_moved : (nodes : List Node) (tree : Tree) (asks : Asks) (p cells other : Picture) (q : ℤ → ℤ → ℕ) (dx dy : ℤ) → ShowsTree nodes tree p → ShowsTree nodes tree cells
+    → asks.wanted ≡ Own → dx ≡ asks.dx → dy ≡ asks.dy → ((x y : ℤ) → q x y ≡ plane.cell (shifted p dx dy) x y) → (x y : ℤ) → plane.cell (claimed asks cells other) x y ≡ q x y
+wanted_moved nodes tree asks p cells other q dx dy one two own e f is x y =
+    ap (λ w. plane.cell (shifted (whose w cells other) asks.dx asks.dy) x y) own ∙ both_shown nodes tree cells p two one asks.dx asks.dy x y
+    ∙ ap₂ (λ a b. plane.cell (shifted p a b) x y) (sym e) (sym f) ∙ sym (is x y)
+
+-- the cells that are wanted, where they aren't moved
+pub wanted_unmoved : (nodes : List Node) (asks : Asks) (subject : Subject) (cells other : Picture) → AreShown nodes subject cells other → asks.dx ≡ pos 0 → asks.dy ≡ pos 0
+    → ShowsTree nodes (whose_tree asks.wanted subject) (claimed asks cells other)
+wanted_unmoved nodes asks subject cells other shown right down = λ x y.
+    unmoved (whose asks.wanted cells other) asks.dx asks.dy x y right down ∙ shows asks.wanted x y
+  where
+    shows : (wanted : Wanted) → ShowsTree nodes (whose_tree wanted subject) (whose wanted cells other)
+    shows Own = shown.one
+    shows Other = shown.two
+
+-- the tree some generations on shows what the picture has then
+pub shows_after : (next : List ℕ → ℕ) (old new : List Node) (pattern end : Tree) (n : ℕ) (cells : Picture) → IsEnd next old pattern n new end → ShowsTree old pattern cells
+    → (x y : ℤ) → after next cells n x y ≡ cell new end x y
+shows_after next old new pattern end n cells is shows x y =
+    after_later next cells n x y ∙ later_same next (plane.cell cells) (cell old pattern) n shows x y ∙ sym (is.shows x y)
+
+-- what differs there differs from the claimed cells
+pub unlike_as : (p q r s : ℤ → ℤ → ℕ) (n : ℕ) (why : Option Why) → ((x y : ℤ) → r x y ≡ p x y) → ((x y : ℤ) → s x y ≡ q x y)
+    → MatchOption why ((x y : ℤ) → p x y ≡ q x y) (IsUnlike p q n) → MatchOption why ((x y : ℤ) → r x y ≡ s x y) (IsUnlike r s n)
+unlike_as p q r s n None e f same = λ x y. e x y ∙ same x y ∙ sym (f x y)
+unlike_as p q r s n (Some Empty) e f other = absurd other
+unlike_as p q r s n (Some (Differs x y found claimed generations)) e f other = (other.0, e x y ∙ other.1, f x y ∙ other.2, other.3)
+unlike_as p q r s n (Some (Earlier m dx dy)) e f other = absurd other
+
+-- what is told of a place that was found is told of the trees as they were before
+pub told_as : (p q r s : ℤ → ℤ → ℕ) (n : ℕ) (why : Option Why) (found : Option Spot) → ((x y : ℤ) → r x y ≡ p x y) → ((x y : ℤ) → s x y ≡ q x y)
+    → (IsNone found → (x y : ℤ) → r x y ≡ s x y) → MatchOption why (found ≡ None) (IsUnlike p q n) → MatchOption why ((x y : ℤ) → r x y ≡ s x y) (IsUnlike r s n)
+told_as p q r s n None found e f same none = same (subst IsNone (sym none) refl)
+told_as p q r s n (Some why) found e f same told = unlike_as p q r s n (Some why) e f told

@@ -1,0 +1,32 @@
+-- No live cell outside the square of a plane.
+use Rattle.std.proofs.Common.{◌≡◌, ℕ, ◌≤◌, ◌^◌, List, inl, inr, arith}
+use Rattle.std.specs.Prelude.{ℤ, replicate}
+use Rattle.std.proofs.lemmas.Bool.{cases_eq}
+use Rattle.std.proofs.lemmas.Int.{ints}
+use Rattle.std.proofs.lemmas.List.Elements.{All-contains}
+use Rattle.ca_plane.specs.Plane.{Picture, cell}
+use Rattle.ca_plane.specs.Sparse.{IsInPlane, IsSparse}
+use Rattle.ca_plane.proofs.Pictures.{Contains-cell}
+use Rattle.ca_run.specs.Centre.{later}
+use Rattle.ca_run.proofs.Laters.{later_dead}
+use Rattle.ca_macro.specs.Pattern.{AreInRange}
+
+-- where cells are in range, few generations later
+pub later_outside : (next : List ℕ → ℕ) (p : ℤ → ℤ → ℕ) (n : ℕ) → next (replicate 9 0) ≡ 0 → AreInRange p → n ≤ 2 ^ 60
+    → (x y : ℤ) → (IsInPlane (record { y = y; x = x }) → ⊥) → later next p n x y ≡ 0
+later_outside next p n quiet range few x y out =
+    later_dead next p quiet n x y (λ u v within.
+    elim (cases_eq (p u v) 0) [
+      | inl none ↦ none
+      | inr live ↦
+          let here = range u v live in
+          absurd (out (omega (arith, ints, few, within, here), omega (arith, ints, few, within, here), omega (arith, ints, few, within, here), omega (arith, ints, few, within, here)))
+    ])
+
+-- in a sparse plane
+pub sparse_outside : (p : Picture) → IsSparse p → (x y : ℤ) → (IsInPlane (record { y = y; x = x }) → ⊥) → cell p x y ≡ 0
+sparse_outside p sparse x y out =
+    elim (cases_eq (cell p x y) 0) [
+      | inl none ↦ none
+      | inr live ↦ absurd (out (All-contains (λ e. IsInPlane e.0) p _ sparse.places (Contains-cell p x y live)))
+    ]

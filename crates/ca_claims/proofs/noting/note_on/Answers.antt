@@ -1,0 +1,26 @@
+use Rattle.std.proofs.Common.{map, sym, subst}
+use Rattle.ca_claims.specs.Notes.{IsAbout, IsToldLine, IsNote}
+use Rattle.ca_claims.specs.Places.{named_path}
+use Rattle.ca_claims.specs.inner.Patterns.{items}
+use Rattle.ca_claims.proofs.NotesFound.{path_is, about_named, culprit_has}
+use Rattle.ca_claims.proofs.noting.note_on.Goals as goal
+
+pub returns-in-Some : goal.returns-in-Some
+returns-in-Some c = λ files e read.
+    let paths = c.args.claims.now.paths in
+    let rules = c.args.claims.now.rules in
+    let patterns = items c.args.patterns.now in
+    let pattern = c.in-Some.pattern in
+    let cause = c.in-Refused.cause in
+    let first = c.in-Some.ensures.culprit files paths rules e read in
+    let at = path_is paths pattern.path c.path.result.now c.path.ensures in (
+      cause,
+      c.in-Refused.is,
+      subst (IsAbout files rules (map (named_path paths) patterns) cause pattern.name.now) at (about_named files rules paths cause pattern patterns first),
+      subst (λ path. IsToldLine files path cause c.line_at.result) at (c.line_at.ensures files paths rules e (culprit_has files rules paths cause pattern patterns first)),
+    )
+
+pub returns-in-None : goal.returns-in-None
+returns-in-None c = λ files e read.
+    let patterns = map (named_path c.args.claims.now.paths) (items c.args.patterns.now) in
+    subst (λ v. IsNote files c.args.claims.now.rules patterns v c.rule_file_note.result) (sym c.in-Refused.is) (c.rule_file_note.ensures files patterns read)

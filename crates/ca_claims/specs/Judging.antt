@@ -1,0 +1,40 @@
+-- What is left to be judged.
+use Rattle.std.specs.Prelude.{◌≡◌, ℕ, List, [], ◌∷◌}
+use Rattle.ca_claims.specs.declared.verdict.Answer.{Answer}
+use Rattle.ca_claims.specs.declared.note.Note.{Note}
+use Rattle.ca_claims.specs.Text.{Claim}
+use Rattle.ca_claims.specs.Answers.{IsTrueAnswer}
+use Rattle.ca_claims.specs.Notes.{IsNote}
+
+-- the paths and bytes of the files that were handed in; the paths of the text's rule lines; the claims that are left, with the numbers of their
+-- lines; and for each of these the names and paths of its patterns
+pub record Judging : Type 0 where
+  pub files : List (List ℕ × List ℕ)
+  pub rules : List (List ℕ)
+  pub claims : List (ℕ × Claim)
+  pub patterns : List (List (List ℕ × List ℕ))
+
+-- the first claim left was judged, by a true answer, and the others are left
+pub record Judges (old new : Judging) (answer : Answer) : Type 0 where
+  pub files : new.files ≡ old.files
+  pub rules : new.rules ≡ old.rules
+  pub claim : ℕ × Claim
+  pub claims : old.claims ≡ claim ∷ new.claims
+  pub its_patterns : List (List ℕ × List ℕ)
+  pub patterns : old.patterns ≡ its_patterns ∷ new.patterns
+  pub holds : IsTrueAnswer old.files old.rules claim answer
+
+-- and the note is true of its verdict
+pub record JudgesAndNotes (old new : Judging) (answer : Answer) (note : Note) : Type 0 where
+  pub files : new.files ≡ old.files
+  pub rules : new.rules ≡ old.rules
+  pub claim : ℕ × Claim
+  pub claims : old.claims ≡ claim ∷ new.claims
+  pub its_patterns : List (List ℕ × List ℕ)
+  pub patterns : old.patterns ≡ its_patterns ∷ new.patterns
+  pub holds : IsTrueAnswer old.files old.rules claim answer
+  pub noted : IsNote old.files old.rules its_patterns answer.verdict note
+
+-- no claim is left, and nothing changed
+abbrev pub IsDone : Judging → Judging → Type 0
+IsDone old new = (old.claims ≡ []) × (old.patterns ≡ []) × (new ≡ old)

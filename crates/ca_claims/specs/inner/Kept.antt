@@ -1,0 +1,30 @@
+-- What is kept while the claims of a text are judged.
+use Rattle.std.specs.Prelude.{◌≡◌, ℕ, ◌≤◌, List, map, drop, length, slice_get, Option, Some}
+use Rattle.std.specs.Borrow.{Bor}
+use Rattle.std.specs.Option.{option_copied}
+use Rattle.ca_claims.specs.declared.verifier.tables.Tables.{Tables}
+use Rattle.ca_claims.specs.declared.verdict.Answer.{Answer}
+use Rattle.ca_claims.specs.Text.{Asked, Claim}
+use Rattle.ca_claims.specs.Means.{bytes_at}
+use Rattle.ca_claims.specs.Answers.{IsTrueAnswer}
+use Rattle.ca_claims.specs.Judging.{Judging}
+use Rattle.ca_claims.specs.inner.Tables.{AreRead}
+
+-- for each path of the text the bytes of its file, and the tables of the rule lines; and the claim with this index is the next, or all are judged
+pub record IsKeptOf (files : List (List ℕ × List ℕ)) (asked : Asked) (found : List (Option (Bor (List ℕ)))) (tables : Tables) (index : ℕ) : Type 0 where
+  pub found_at : map option_copied found ≡ map (bytes_at files) asked.paths
+  pub read : AreRead files asked.paths asked.rules tables
+  pub within : index ≤ length asked.claims
+
+-- what is left to be judged of these files and claims, from the claim with this index on
+abbrev pub left_from : List (List ℕ × List ℕ) → Asked → ℕ → Judging
+left_from files asked index = record {
+  files = files;
+  rules = asked.rules;
+  claims = drop index asked.claims;
+  patterns = drop index asked.patterns;
+}
+
+-- the answer to the claim with this index is true
+abbrev pub IsAnswerTo : List (List ℕ × List ℕ) → Asked → ℕ → Answer → Type 0
+IsAnswerTo files asked index answer = (claim : ℕ × Claim) × (slice_get asked.claims index ≡ Some claim) × IsTrueAnswer files asked.rules claim answer

@@ -1,0 +1,98 @@
+-- What a claim is judged on: squares of a leaper's store, and how the verdict follows from them.
+use Rattle.std.specs.Prelude.{◌≡◌, ◌≢◌, ℕ, ◌≤◌, ◌<◌, ℤ, pos, List, Option, Some, None}
+use Rattle.std.specs.Int.{◌∣◌}
+use Rattle.ca_plane.specs.Plane.{Picture, shifted}
+use Rattle.ca_plane.specs.Plane as plane
+use Rattle.ca_plane.specs.Generations.{IsAfter}
+use Rattle.ca_plane.specs.Sparse.{IsInPlane, IsSparse}
+use Rattle.ca_quad.specs.declared.node.Node.{Node}
+use Rattle.ca_quad.specs.declared.tree.Tree.{Tree}
+use Rattle.ca_quad.specs.Trees.{IsTree, cell}
+use Rattle.ca_run.specs.Centre.{later}
+use Rattle.ca_macro.specs.Pattern.{AreInRange}
+use Rattle.ca_claims.specs.declared.claims.asks.Asks.{Asks}
+use Rattle.ca_claims.specs.declared.claims.asks.Barred.{Barred}
+use Rattle.ca_claims.specs.declared.claims.asks.Barred.TheVariants.{Anywhere}
+use Rattle.ca_claims.specs.declared.claims.asks.Wanted.{Wanted}
+use Rattle.ca_claims.specs.declared.claims.asks.Wanted.TheVariants.{Own, Other}
+use Rattle.ca_claims.specs.declared.leap.Subject.{Subject}
+use Rattle.ca_claims.specs.declared.verdict.Why.{Why}
+use Rattle.ca_claims.specs.declared.verdict.Why.TheVariants.{Empty, Differs, Earlier}
+use Rattle.ca_claims.specs.Truth.{MayReturnBy, IsNotBack}
+use Rattle.ca_claims.specs.inner.Divisors.{AreDivisors}
+
+-- a picture shows the cells of a tree
+abbrev pub ShowsTree : List Node → Tree → Picture → Type 0
+ShowsTree nodes tree cells = (x y : ℤ) → plane.cell cells x y ≡ cell nodes tree x y
+
+-- the tree of a pattern: a low one, whose live cells are in range
+pub record IsPattern (nodes : List Node) (tree : Tree) : Type 0 where
+  pub is_tree : IsTree nodes tree
+  pub low : tree.level ≤ 64
+  pub range : AreInRange (cell nodes tree)
+
+-- a tree with no live cell outside the square of a plane
+pub record IsNear (nodes : List Node) (tree : Tree) : Type 0 where
+  pub is_tree : IsTree nodes tree
+  pub low : tree.level ≤ 124
+  pub near : (x y : ℤ) → (IsInPlane (record { y = y; x = x }) → ⊥) → cell nodes tree x y ≡ 0
+
+-- the plane of a claim's pattern, where the claim moves it, and none where it is judged in its place
+abbrev pub IsMovedBy : Asks → List Node → Tree → Option Picture → Type 0
+IsMovedBy asks nodes pattern None = (asks.dx ≡ pos 0) × (asks.dy ≡ pos 0) × (asks.barred ≢ Anywhere)
+IsMovedBy asks nodes pattern (Some cells) = (asks.wanted ≡ Own) × (asks.barred ≡ Anywhere) × IsSparse cells × ShowsTree nodes pattern cells
+
+-- what a claim is judged on, as a store's squares show it
+pub record IsSubject (nodes : List Node) (asks : Asks) (subject : Subject) (plane : Option Picture) : Type 0 where
+  pub pattern : IsPattern nodes subject.pattern
+  pub other : IsPattern nodes subject.other
+  pub moved : IsMovedBy asks nodes subject.pattern plane
+
+-- the pictures show the cells of a claim's trees
+pub record AreShown (nodes : List Node) (subject : Subject) (cells other : Picture) : Type 0 where
+  pub one : ShowsTree nodes subject.pattern cells
+  pub two : ShowsTree nodes subject.other other
+
+-- the tree whose cells are wanted: the pattern's own, or the other's
+abbrev pub whose_tree : Wanted → Subject → Tree
+whose_tree Own subject = subject.pattern
+whose_tree Other subject = subject.other
+
+-- some cell is live
+abbrev pub HasLive : (ℤ → ℤ → ℕ) → Type 0
+HasLive cells = (x : ℤ) × (y : ℤ) × (cells x y ≢ 0)
+
+-- no vector moves the picture onto the tree's cells
+abbrev pub IsNoMove : List Node → Tree → Picture → Type 0
+IsNoMove nodes tree cells = (dx dy : ℤ) → ShowsTree nodes tree (shifted cells dx dy) → ⊥
+
+-- no vector but this one moves the picture onto the tree's cells
+abbrev pub IsOnlyMove : List Node → Tree → Picture → ℤ × ℤ → Type 0
+IsOnlyMove nodes tree cells v = (dx dy : ℤ) → ShowsTree nodes tree (shifted cells dx dy) → (dx ≡ v.0) × (dy ≡ v.1)
+
+-- the tree shows the plane n generations after another tree's
+pub record IsEnd (next : List ℕ → ℕ) (old : List Node) (pattern : Tree) (n : ℕ) (nodes : List Node) (end : Tree) : Type 0 where
+  pub near : IsNear nodes end
+  pub shows : (x y : ℤ) → cell nodes end x y ≡ later next (cell old pattern) n x y
+
+-- the tree shows a picture, moved by (dx, dy)
+pub record IsMoved (cells : Picture) (dx dy : ℤ) (nodes : List Node) (tree : Tree) : Type 0 where
+  pub near : IsNear nodes tree
+  pub shows : (x y : ℤ) → cell nodes tree x y ≡ plane.cell (shifted cells dx dy) x y
+
+-- a cell that one plane has after n generations, and another hasn't
+abbrev pub IsUnlike : (ℤ → ℤ → ℕ) → (ℤ → ℤ → ℕ) → ℕ → Why → Type 0
+IsUnlike end wanted n Empty = ⊥
+IsUnlike end wanted n (Differs x y found claimed generations) = (generations ≡ n) × (end x y ≡ found) × (wanted x y ≡ claimed) × (found ≢ claimed)
+IsUnlike end wanted n (Earlier m dx dy) = ⊥
+
+-- after n generations the pattern is there again, by this vector, which is barred
+abbrev pub IsBackBy : (List ℕ → ℕ) → Picture → Barred → ℕ → ℤ × ℤ → Type 0
+IsBackBy next cells barred n v = MayReturnBy barred v.0 v.1 × IsAfter next cells n (shifted cells v.0 v.1)
+
+-- the divisors of n that are still to be tried: at those below them the pattern isn't back
+pub record AreLeft (next : List ℕ → ℕ) (nodes : List Node) (pattern : Tree) (barred : Barred) (n : ℕ) (left : List ℕ) : Type 0 where
+  pub low : ℕ
+  pub some : 1 ≤ low
+  pub are : AreDivisors n low n left
+  pub before : (cells : Picture) → ShowsTree nodes pattern cells → (d : ℕ) → 1 ≤ d → d < low → d ∣ n → IsNotBack next cells barred d
