@@ -9,7 +9,7 @@ use Rattle.ca_tool.specs.declared.fault.ToolFault.TheVariants.{Input, BadTable, 
 use Rattle.ca_tool.specs.Runs.{ReadsAll, AreKnown, HoldsOfFile, Wrote, IsRunFault}
 use Rattle.ca_tool.specs.inner.Refusals.{TellsConvert}
 
--- the pattern is refused, or memory is wanting for it
+-- the pattern is refused, or memory is out for it
 pub convert_told : (old new rule : Option (List ℕ)) (IsFault : List ℕ → List TableRule → ConvertFault → Type 0) (fault : ConvertFault) (told : ToolFault) → TellsConvert fault told
     → HoldsOfFile old new rule (λ bytes tables. IsFault bytes tables fault) → IsRunFault old new rule IsFault told
 convert_told old new rule IsFault fault (Input f) none of = absurd none

@@ -1,5 +1,5 @@
 -- The bytes that are printed for an answer and for a fault (our own; docs/CLAIMS.md).
-use Rattle.std.specs.Prelude.{ℕ, ℤ, pos, ◌+ℤ◌, ◌-ℤ◌, List, [], ◌∷◌, ◌++◌, Bool, true, false, Option, None, Some, codes, decimal, if◌then◌else◌}
+use Rattle.std.specs.Prelude.{ℕ, ℤ, pos, ◌+ℤ◌, ◌-ℤ◌, List, [], ◌∷◌, ◌++◌, Bool, true, false, Option, None, Some, codes, decimal, nat_eq, if◌then◌else◌}
 use Rattle.std.specs.Fmt.{signed_decimal}
 use Rattle.std.specs.List.{flat_map, list_any}
 use Rattle.ca_plane.specs.declared.point.Bounds.{Bounds}
@@ -22,6 +22,8 @@ use Rattle.ca_claims.specs.declared.verdict.PatternFault.{PatternFault}
 use Rattle.ca_claims.specs.declared.verdict.PatternFault.TheVariants as patterns
 use Rattle.ca_claims.specs.declared.verdict.Cause.{Cause}
 use Rattle.ca_claims.specs.declared.verdict.Cause.TheVariants as causes
+use Rattle.ca_claims.specs.declared.note.Note.{Note}
+use Rattle.ca_claims.specs.declared.note.Note.TheVariants as notes
 use Rattle.ca_claims.specs.declared.target.Target.{Target}
 use Rattle.ca_claims.specs.declared.target.Target.TheVariants.{Rle, Mc}
 use Rattle.ca_claims.specs.declared.conversion.ConvertFault.{ConvertFault}
@@ -33,6 +35,8 @@ use Rattle.ca_tool.specs.declared.fault.InputFault.{InputFault}
 use Rattle.ca_tool.specs.declared.fault.InputFault.TheVariants as inputs
 use Rattle.ca_tool.specs.declared.fault.ToolFault.{ToolFault}
 use Rattle.ca_tool.specs.declared.fault.ToolFault.TheVariants as tools
+use Rattle.ca_tool.specs.declared.telling.Telling.{Telling}
+use Rattle.ca_tool.specs.declared.telling.Told.{Told}
 
 -- an earlier return of a pattern
 abbrev pub return_text : ℕ → ℤ → ℤ → List ℕ
@@ -50,7 +54,20 @@ rule_fault_text rules.Bounded = codes "bounded"
 rule_fault_text rules.Wakes = codes "wakes"
 rule_fault_text rules.Unknown = codes "unknown"
 
--- what is wrong with a rule table, behind some words on its faulty line; want of memory is told alone
+-- the number of the line at which a rule table is faulty, or 0 where memory is out
+abbrev pub table_line : TableFault → ℕ
+table_line (tables.NoRuleLine line) = line
+table_line (tables.NoTable line) = line
+table_line (tables.Syntax line) = line
+table_line (tables.States line) = line
+table_line (tables.Neighborhood line) = line
+table_line (tables.Symmetries line) = line
+table_line (tables.Variable line) = line
+table_line (tables.Unbound line) = line
+table_line (tables.Wakes line) = line
+table_line tables.Memory = 0
+
+-- what is wrong with a rule table, after some words on its faulty line; out of memory is told alone
 abbrev pub table_text : (ℕ → List ℕ) → TableFault → List ℕ
 table_text words (tables.NoRuleLine line) = words line ++ codes " no rule line"
 table_text words (tables.NoTable line) = words line ++ codes " no table"
@@ -94,7 +111,7 @@ macro_fault_text macrocell.Range = codes "bad pattern: macrocell range"
 macro_fault_text macrocell.GenTooLarge = codes "bad pattern: macrocell gen too large"
 macro_fault_text macrocell.Memory = codes "memory"
 
--- want of memory inside another fault is told alone
+-- out of memory inside another fault is told alone
 abbrev pub pattern_fault_text : PatternFault → List ℕ
 pattern_fault_text (patterns.Rle fault) = rle_fault_text fault
 pattern_fault_text (patterns.Macro fault) = macro_fault_text fault
@@ -181,6 +198,70 @@ fault_text (faults.Tool fault) path = tool_fault_text fault path
 abbrev pub complaint : Fault → List ℕ → List ℕ
 complaint fault path = codes "cafile: " ++ (fault_text fault path ++ 10 ∷ [])
 
+-- the same, after the path of the file that was read: for faults of several files
+abbrev pub complaint_of : Fault → List ℕ → List ℕ
+complaint_of fault path = codes "cafile: " ++ (path ++ (codes ": " ++ (fault_text fault path ++ 10 ∷ [])))
+
+-- the word for so many generations
+abbrev pub generations_word : ℕ → List ℕ
+generations_word n = if nat_eq n 1 then codes " generation" else codes " generations"
+
+-- the line about a cell that differs, of the pattern with this name, after a text that stands before each line
+abbrev pub cell_line : List ℕ → List ℕ → Why → List ℕ
+cell_line before name Empty = []
+cell_line before name (Differs x y found claimed gens) =
+    before ++ (codes "  " ++ (name ++ (codes " at " ++ (signed_decimal x ++ (codes "," ++ (signed_decimal y ++ (codes ": " ++ (decimal found
+    ++ (codes " after " ++ (decimal gens ++ (generations_word gens ++ (codes ", claimed " ++ (decimal claimed ++ 10 ∷ [])))))))))))))
+cell_line before name (Earlier m dx dy) = []
+
+-- on which line a file is faulty, where it has such a line
+abbrev pub at_line : Option ℕ → List ℕ
+at_line None = []
+at_line (Some line) = codes ", line " ++ decimal line
+
+-- the line about a file, with the name of what it holds
+abbrev pub file_line : List ℕ → List ℕ → List ℕ → Option ℕ → List ℕ
+file_line before name path line = before ++ (codes "  " ++ (name ++ (codes ": " ++ (path ++ (at_line line ++ 10 ∷ [])))))
+
+-- the faulty line of a rule line's file
+abbrev pub cause_line : Cause → Option ℕ
+cause_line causes.NoFile = None
+cause_line (causes.BadTable fault) = Some (table_line fault)
+cause_line (causes.BadPattern fault) = None
+cause_line (causes.BadRule fault) = None
+cause_line causes.StateTooLarge = None
+cause_line causes.MixedRules = None
+cause_line causes.TooManyCells = None
+cause_line causes.Memory = None
+
+-- the line of a note on a no
+abbrev pub no_note_text : List ℕ → Why → Note → List ℕ
+no_note_text before why notes.Nothing = []
+no_note_text before why (notes.Cell name) = cell_line before name.now why
+no_note_text before why (notes.Pattern name path line) = []
+no_note_text before why (notes.RuleFile path) = []
+
+-- the line of a note on a refusal
+abbrev pub refusal_note_text : List ℕ → Cause → Note → List ℕ
+refusal_note_text before cause notes.Nothing = []
+refusal_note_text before cause (notes.Cell name) = []
+refusal_note_text before cause (notes.Pattern name path line) = file_line before name.now path.now line
+refusal_note_text before cause (notes.RuleFile path) = file_line before (codes "rule file") path.now (cause_line cause)
+
+-- the second line, of a note on a verdict, where there is something to tell
+abbrev pub note_text : List ℕ → Verdict → Note → List ℕ
+note_text before Yes note = []
+note_text before (No why) note = no_note_text before why note
+note_text before (Refused cause) note = refusal_note_text before cause note
+
+-- what is told of a claim: the line of its answer, and where answers are explained the second line
+abbrev pub told_text : Telling → Told → List ℕ
+told_text telling told = (telling.before.now ++ line_of told.answer) ++ (if telling.explained then note_text telling.before.now told.answer.verdict told.note else [])
+
+-- what is told of all claims, in order
+abbrev pub tolds_text : Telling → List Told → List ℕ
+tolds_text telling tolds = flat_map (told_text telling) tolds
+
 -- the name of a format
 abbrev pub format_name : Target → List ℕ
 format_name Rle = codes "rle"
@@ -203,7 +284,7 @@ abbrev pub box_text : Option Bounds → List ℕ
 box_text None = codes "none"
 box_text (Some box) = bounds_text box
 
--- a line of a word and what stands behind it
+-- a line of a word and what comes after it
 abbrev pub word_line : List ℕ → List ℕ → List ℕ
 word_line word text = word ++ (32 ∷ (text ++ 10 ∷ []))
 

@@ -1,7 +1,9 @@
 -- What a run reads and writes.
-use Rattle.std.specs.Prelude.{◌≡◌, ◌≢◌, ℕ, ◌<◌, ◌≤◌, ◌^◌, List, [], ◌∷◌, length, Option, None, Some, ◌⊎◌}
+use Rattle.std.specs.Prelude.{◌≡◌, ◌≢◌, ℕ, ◌<◌, ◌≤◌, ◌^◌, List, [], ◌∷◌, map, length, take, Option, None, Some, ◌⊎◌}
 use Rattle.std.specs.Io.KnownBytes.{Consumes, IsAtEnd}
-use Rattle.ca_claims.specs.Text.{Claim}
+use Rattle.std.specs.List.{AllZip}
+use Rattle.ca_claims.specs.Text.{Claim, Asked}
+use Rattle.ca_claims.specs.Notes.{IsNote}
 use Rattle.ca_rule.specs.TableNext.{TableRule}
 use Rattle.ca_rule.specs.TableFaults as table_faults
 use Rattle.ca_rule.specs.declared.table.fault.TableFault.{TableFault}
@@ -16,7 +18,9 @@ use Rattle.ca_tool.specs.declared.fault.InputFault.{InputFault}
 use Rattle.ca_tool.specs.declared.fault.InputFault.TheVariants as inputs
 use Rattle.ca_tool.specs.declared.fault.ToolFault.{ToolFault}
 use Rattle.ca_tool.specs.declared.fault.ToolFault.TheVariants.{Input, BadTable, Convert, Write, Memory}
-use Rattle.ca_tool.specs.Printed.{lines_of, status_of, summary_text}
+use Rattle.ca_tool.specs.declared.telling.Telling.{Telling}
+use Rattle.ca_tool.specs.declared.telling.Told.{Told}
+use Rattle.ca_tool.specs.Printed.{lines_of, tolds_text, status_of, summary_text}
 
 -- the greatest length of a file: 67108864 bytes
 abbrev pub max_file : ℕ
@@ -40,6 +44,33 @@ TakesAtMost most old new = (bytes : List ℕ) × (length bytes ≤ most) × Cons
 abbrev pub Answered : List (List ℕ × List ℕ) → List (List ℕ) → List (ℕ × Claim) → (List ℕ → Type 0) → (ℕ → Type 0) → Type 0
 Answered files rules claims Written Ends =
     (answers : List Answer) × AreTrueAnswers files rules claims answers × Written (lines_of answers) × Ends (status_of answers)
+
+-- the answers of what is told
+abbrev pub answers_of : List Told → List Answer
+answers_of tolds = map (λ told. told.answer) tolds
+
+-- one note for each answer, in order, each of them true of its verdict and of the claim's patterns
+abbrev pub AreTrueNotes : List (List ℕ × List ℕ) → List (List ℕ) → List (List (List ℕ × List ℕ)) → List Told → Type 0
+AreTrueNotes files rules patterns tolds = AllZip (λ its told. IsNote files rules its told.answer.verdict told.note) patterns tolds
+
+-- claims of a text with rule lines of these paths, about these patterns, were answered, truly and with true notes, and what is told of them was written, or
+-- a first part of it, or nothing
+abbrev pub AreTold : List (List ℕ × List ℕ) → List (List ℕ) → List (ℕ × Claim) → List (List (List ℕ × List ℕ)) → Telling → (List ℕ → Type 0) → (ℕ → Type 0) → Type 0
+AreTold files rules claims patterns telling Written Ends =
+    (tolds : List Told) × AreTrueAnswers files rules claims (answers_of tolds) × AreTrueNotes files rules patterns tolds × Written (tolds_text telling tolds)
+    × Ends (status_of (answers_of tolds))
+
+-- so many of the first claims were told, and of the last of these perhaps a part
+abbrev pub AreToldInPart : List (List ℕ × List ℕ) → List (List ℕ) → List (ℕ × Claim) → List (List (List ℕ × List ℕ)) → Telling → (List ℕ → Type 0) → Type 0
+AreToldInPart files rules claims patterns telling Written = (n : ℕ) × AreTold files rules (take n claims) (take n patterns) telling Written (λ status. Unit {0})
+
+-- all claims of a text were told
+abbrev pub IsTold : List (List ℕ × List ℕ) → Asked → Telling → (List ℕ → Type 0) → (ℕ → Type 0) → Type 0
+IsTold files asked telling Written Ends = AreTold files asked.rules asked.claims asked.patterns telling Written Ends
+
+-- so many of the first claims of a text were told, and of the last of these perhaps a part
+abbrev pub IsToldInPart : List (List ℕ × List ℕ) → Asked → Telling → (List ℕ → Type 0) → Type 0
+IsToldInPart files asked telling Written = AreToldInPart files asked.rules asked.claims asked.patterns telling Written
 
 -- what a file gave that isn't read; of a read that fails the device tells
 abbrev pub IsInputFault : Option (List ℕ) → Option (List ℕ) → InputFault → Type 0
@@ -70,12 +101,12 @@ pub record IsShown (bytes : List ℕ) (tables : List TableRule) (text : List ℕ
 abbrev pub WasRead : Option (List ℕ) → Option (List ℕ) → Type 0
 WasRead old new = (bytes : List ℕ) × ReadsAll old new bytes
 
--- what is wrong with the rule file, or that memory may be wanting for its table
+-- what is wrong with the rule file, or that its table may be out of memory
 abbrev pub IsRuleFileFault : Option (List ℕ) → TableFault → Type 0
 IsRuleFileFault rule fault = (text : List ℕ) × (rule ≡ Some text) × table_faults.IsFaultOf text fault
 
 -- why a run wrote nothing, where IsFault says why bytes under some tables are refused: the file isn't read; or it is, and the rule file is no
--- good table; or it is, and the pattern is refused; or memory is wanting, for the table or for the pattern
+-- good table; or it is, and the pattern is refused; or memory is out, for the table or for the pattern
 abbrev pub IsRunFault : Option (List ℕ) → Option (List ℕ) → Option (List ℕ) → (List ℕ → List TableRule → ConvertFault → Type 0) → ToolFault → Type 0
 IsRunFault old new rule IsFault (Input fault) = IsInputFault old new fault
 IsRunFault old new rule IsFault (BadTable fault) = (fault ≢ table_fault.Memory) × WasRead old new × IsRuleFileFault rule fault

@@ -1,135 +1,124 @@
 //! The line that tells a fault.
 
-ghost use Rattle.std.specs.Prelude.{◌≡◌, ◌++◌, decimal, OnOk, OnErr, IfErr};
-ghost use Rattle.std.specs.List.{flat_map};
+ghost use Rattle.std.specs.Prelude.{◌≡◌, OnOk, OnErr, IfErr};
 ghost use Rattle.std.specs.Io.KnownBytes.{Appends};
 ghost use Rattle.ca_plane.specs.Device.{Rises, AppendsPrefix};
-ghost use Rattle.ca_tool.specs.Printed.{input_fault_text, claim_fault_text, rule_file_text, convert_fault_text, fault_text, complaint};
-ghost use Rattle.ca_tool.specs.inner.Complaint.{table_line, claim_line, fault_line};
+ghost use Rattle.ca_tool.specs.Printed.{input_fault_text, claim_fault_text, rule_file_text, convert_fault_text, fault_text, complaint, complaint_of};
+ghost use Rattle.ca_tool.specs.inner.Pieces.{pieces_text};
 
 use crate::fault::{Fault, InputFault, ToolFault};
-use crate::texts::{pattern_fault_bytes, rule_fault_bytes, table_kind};
+use crate::pieces::{NOTHING, Piece, send_pieces};
+use crate::texts::{pattern_fault_bytes, rule_fault_bytes, table_kind, table_line};
 use ca_claims::{ClaimFault, ConvertFault};
-use ca_plane::{Dev, WriteFault, send};
+use ca_plane::{Dev, WriteFault};
 use ca_rule::TableFault;
-use itoa::Buffer;
 use std::io::Write;
 
-// The number of the line at which a rule table is faulty, or 0.
-fn table_line(fault: TableFault) -> u64
-    ensures { result ≡ table_line fault }
+// A text in three pieces, of which the last two are empty.
+fn alone<'a>(text: &'a [u8]) -> [Piece<'a>; 3]
+    ensures { pieces_text result ≡ text.now }
 {
-    match fault {
-        TableFault::NoRuleLine { line }
-        | TableFault::NoTable { line }
-        | TableFault::Syntax { line }
-        | TableFault::States { line }
-        | TableFault::Neighborhood { line }
-        | TableFault::Symmetries { line }
-        | TableFault::Variable { line }
-        | TableFault::Unbound { line }
-        | TableFault::Wakes { line } => line,
-        TableFault::Memory => 0,
-    }
+    [Piece::Text(text), NOTHING, NOTHING]
 }
 
-// The number of the line at which a claim text is faulty, or 0.
-fn claim_line(fault: ClaimFault) -> u64
-    ensures { result ≡ claim_line fault }
-{
-    match fault {
-        ClaimFault::Syntax { line }
-        | ClaimFault::Number { line }
-        | ClaimFault::UnknownName { line }
-        | ClaimFault::NameTaken { line } => line,
-        ClaimFault::Memory => 0,
-    }
-}
-
-// The number of the line that a fault names, or 0.
-fn fault_line(fault: &Fault) -> u64
-    ensures { result ≡ fault_line fault.now }
-{
-    match *fault {
-        Fault::Claims(fault) => claim_line(fault),
-        Fault::Tool(ToolFault::BadTable(fault)) => table_line(fault),
-        _ => 0,
-    }
-}
-
-// The text of a fault in three pieces, of which the middle one is its path or its number.
-fn fault_pieces<'a>(fault: &Fault, path: &'a [u8], number: &'a [u8]) -> [&'a [u8]; 3]
-    requires { number.now ≡ decimal (fault_line fault.now) }
-    ensures { flat_map (λ p. p.now) result ≡ fault_text fault.now path.now }
+// The text of a fault in three pieces.
+fn fault_pieces<'a>(fault: &Fault, path: &'a [u8]) -> [Piece<'a>; 3]
+    ensures { pieces_text result ≡ fault_text fault.now path.now }
 {
     match *fault {
         Fault::Input(fault) | Fault::Tool(ToolFault::Input(fault)) => input_pieces(fault, path),
-        Fault::Claims(fault) => claim_pieces(fault, number),
-        Fault::Tool(ToolFault::BadTable(fault)) => table_pieces(fault, number),
+        Fault::Claims(fault) => claim_pieces(fault),
+        Fault::Tool(ToolFault::BadTable(fault)) => table_pieces(fault),
         Fault::Tool(ToolFault::Convert(fault)) => convert_pieces(fault),
-        Fault::Tool(ToolFault::Write) => [b"write", b"", b""],
-        Fault::Tool(ToolFault::Memory) => [b"memory", b"", b""],
+        Fault::Tool(ToolFault::Write) => alone(b"write"),
+        Fault::Tool(ToolFault::Memory) => alone(b"memory"),
     }
 }
 
-fn input_pieces<'a>(fault: InputFault, path: &'a [u8]) -> [&'a [u8]; 3]
-    ensures { flat_map (λ p. p.now) result ≡ input_fault_text fault path.now }
+fn input_pieces<'a>(fault: InputFault, path: &'a [u8]) -> [Piece<'a>; 3]
+    ensures { pieces_text result ≡ input_fault_text fault path.now }
 {
     match fault {
-        InputFault::Read => [b"cannot read ", path, b""],
-        InputFault::TooLong => [b"too long ", path, b""],
-        InputFault::Memory => [b"memory", b"", b""],
+        InputFault::Read => [Piece::Text(b"cannot read "), Piece::Text(path), NOTHING],
+        InputFault::TooLong => [Piece::Text(b"too long "), Piece::Text(path), NOTHING],
+        InputFault::Memory => alone(b"memory"),
     }
 }
 
-fn claim_pieces<'a>(fault: ClaimFault, number: &'a [u8]) -> [&'a [u8]; 3]
-    requires { number.now ≡ decimal (claim_line fault) }
-    ensures { flat_map (λ p. p.now) result ≡ claim_fault_text fault }
+fn claim_pieces<'a>(fault: ClaimFault) -> [Piece<'a>; 3]
+    ensures { pieces_text result ≡ claim_fault_text fault }
 {
-    match fault {
-        ClaimFault::Syntax { .. } => [b"claims line ", number, b": syntax"],
-        ClaimFault::Number { .. } => [b"claims line ", number, b": number"],
-        ClaimFault::UnknownName { .. } => [b"claims line ", number, b": unknown name"],
-        ClaimFault::NameTaken { .. } => [b"claims line ", number, b": name taken"],
-        ClaimFault::Memory => [b"memory", b"", b""],
-    }
+    let (line, kind): (u64, &[u8]) = match fault {
+        ClaimFault::Syntax { line } => (line, b": syntax"),
+        ClaimFault::Number { line } => (line, b": number"),
+        ClaimFault::UnknownName { line } => (line, b": unknown name"),
+        ClaimFault::NameTaken { line } => (line, b": name taken"),
+        ClaimFault::Memory => return alone(b"memory"),
+    };
+    [
+        Piece::Text(b"claims line "),
+        Piece::Number(line),
+        Piece::Text(kind),
+    ]
 }
 
-fn table_pieces<'a>(fault: TableFault, number: &'a [u8]) -> [&'a [u8]; 3]
-    requires { number.now ≡ decimal (table_line fault) }
-    ensures { flat_map (λ p. p.now) result ≡ rule_file_text fault }
+fn table_pieces<'a>(fault: TableFault) -> [Piece<'a>; 3]
+    ensures { pieces_text result ≡ rule_file_text fault }
 {
     if let TableFault::Memory = fault {
-        return [b"memory", b"", b""];
+        return alone(b"memory");
     }
-    [b"bad table: line ", number, table_kind(fault)]
+    [
+        Piece::Text(b"bad table: line "),
+        Piece::Number(table_line(fault)),
+        Piece::Text(table_kind(fault)),
+    ]
 }
 
-fn convert_pieces<'a>(fault: ConvertFault) -> [&'a [u8]; 3]
-    ensures { flat_map (λ p. p.now) result ≡ convert_fault_text fault }
+fn convert_pieces<'a>(fault: ConvertFault) -> [Piece<'a>; 3]
+    ensures { pieces_text result ≡ convert_fault_text fault }
 {
     match fault {
-        ConvertFault::BadPattern(fault) => [pattern_fault_bytes(fault), b"", b""],
-        ConvertFault::BadRule(fault) => [b"bad rule: ", rule_fault_bytes(fault), b""],
-        ConvertFault::StateTooLarge => [b"state too large", b"", b""],
-        ConvertFault::TooManyCells => [b"too many cells", b"", b""],
-        ConvertFault::Memory => [b"memory", b"", b""],
+        ConvertFault::BadPattern(fault) => alone(pattern_fault_bytes(fault)),
+        ConvertFault::BadRule(fault) => [
+            Piece::Text(b"bad rule: "),
+            Piece::Text(rule_fault_bytes(fault)),
+            NOTHING,
+        ],
+        ConvertFault::StateTooLarge => alone(b"state too large"),
+        ConvertFault::TooManyCells => alone(b"too many cells"),
+        ConvertFault::Memory => alone(b"memory"),
     }
 }
 
-fn send_pieces<W: Write>(device: &mut Dev<W>, pieces: &[&[u8]]) -> Result<(), WriteFault>
-    ensures all { OnOk result (Appends (W.contents device.old.inner) (W.contents device.new.inner) (flat_map (λ p. p.now) pieces.now)) }
-    ensures kept { OnOk result (device.new.failures ≡ device.old.failures) }
-    ensures fault { IfErr result (λ e. e ≡ WriteFault.Write) }
-    ensures counted { OnErr result (Rises device.old.failures device.new.failures) }
-    ensures front { OnErr result (AppendsPrefix (W.contents device.old.inner) (W.contents device.new.inner) (flat_map (λ p. p.now) pieces.now)) }
+// The line that tells a fault in pieces.
+fn complaint_pieces<'a>(fault: &Fault, path: &'a [u8]) -> [Piece<'a>; 5]
+    ensures { pieces_text result ≡ complaint fault.now path.now }
 {
-    'pieces: for piece in pieces {
-        if let Err(fault) = send(device, piece) {
-            return Err(fault);
-        }
-    }
-    Ok(())
+    let [front, middle, back] = fault_pieces(fault, path);
+    [
+        Piece::Text(b"cafile: "),
+        front,
+        middle,
+        back,
+        Piece::Text(b"\n"),
+    ]
+}
+
+// The line that tells a fault after a path in pieces.
+fn complaint_of_pieces<'a>(fault: &Fault, path: &'a [u8]) -> [Piece<'a>; 7]
+    ensures { pieces_text result ≡ complaint_of fault.now path.now }
+{
+    let [front, middle, back] = fault_pieces(fault, path);
+    [
+        Piece::Text(b"cafile: "),
+        Piece::Text(path),
+        Piece::Text(b": "),
+        front,
+        middle,
+        back,
+        Piece::Text(b"\n"),
+    ]
 }
 
 /// Writes the line that tells the fault, `path` being the file that was read.
@@ -142,8 +131,22 @@ pub fn complain<W: Write>(fault: &Fault, path: &[u8], device: &mut Dev<W>) -> Re
     ensures counted { OnErr result (Rises device.old.failures device.new.failures) }
     ensures front { OnErr result (AppendsPrefix (W.contents device.old.inner) (W.contents device.new.inner) (complaint fault.now path.now)) }
 {
-    let mut buffer = Buffer::new();
-    let number = buffer.format(fault_line(fault)).as_bytes();
-    let [front, middle, back] = fault_pieces(fault, path, number);
-    send_pieces(device, &[b"cafile: ", front, middle, back, b"\n"])
+    send_pieces(device, &complaint_pieces(fault, path))
+}
+
+/// Writes the line that tells the fault, after the path of the file that was read. So the faults of several files are told apart.
+///
+/// It takes no memory. After a failure some first part of the line was written.
+pub fn complain_of<W: Write>(
+    fault: &Fault,
+    path: &[u8],
+    device: &mut Dev<W>,
+) -> Result<(), WriteFault>
+    ensures all { OnOk result (Appends (W.contents device.old.inner) (W.contents device.new.inner) (complaint_of fault.now path.now)) }
+    ensures kept { OnOk result (device.new.failures ≡ device.old.failures) }
+    ensures fault { IfErr result (λ e. e ≡ WriteFault.Write) }
+    ensures counted { OnErr result (Rises device.old.failures device.new.failures) }
+    ensures front { OnErr result (AppendsPrefix (W.contents device.old.inner) (W.contents device.new.inner) (complaint_of fault.now path.now)) }
+{
+    send_pieces(device, &complaint_of_pieces(fault, path))
 }

@@ -18,17 +18,17 @@ pub enum InputFault {
     Memory,
 }
 
-/// Why a run ended without its whole text being written: the first of these that holds, but that want of memory may come
+/// Why a run ended without its whole text being written: the first of these that holds, but that `Memory` may come
 /// before any other. On all but `Write` nothing was written.
 #[derive(Clone, Copy, Debug, PartialEq, Eq, Error)]
 pub enum ToolFault {
     /// The file was not read.
     #[error("{0}")]
     Input(InputFault),
-    /// The rule file holds no table, or one that wakes the empty plane. Its fault is never want of memory here.
+    /// The rule file holds no table, or one that wakes the empty plane. Its fault is never `Memory` here.
     #[error("rule table: {0}")]
     BadTable(TableFault),
-    /// The pattern isn't shown or converted. Its fault is never want of memory here.
+    /// The pattern isn't shown or converted. Its fault is never `Memory` here.
     #[error("{0}")]
     Convert(ConvertFault),
     /// A write failed or took no byte; a first part of the text was written.

@@ -4,18 +4,21 @@
 mod complaint;
 mod fault;
 mod pattern_run;
+mod pieces;
 mod printing;
 mod read;
 mod run;
 mod shown;
+mod telling;
 mod texts;
 
-pub use complaint::complain;
+pub use complaint::{complain, complain_of};
 pub use fault::{Fault, InputFault, ToolFault};
 pub use pattern_run::{convert_run, show_run};
 pub use printing::{lines, status};
 pub use read::{MAX_FILE, read_all};
-pub use run::verify_run;
+pub use run::{verify_run, verify_told};
+pub use telling::Telling;
 
 #[cfg(test)]
 mod tests;

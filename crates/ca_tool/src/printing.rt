@@ -1,93 +1,136 @@
 //! The lines that are printed for answers, and the exit status.
 
-ghost use Rattle.std.specs.Prelude.{◌≡◌, OnOk, IfOk};
-ghost use Rattle.ca_tool.specs.Printed.{return_text, why_text, table_fault_text, cause_text, verdict_text, line_of, lines_of, status_of, is_refusal, is_no};
-ghost use Rattle.ca_plane.specs.Puts.{Puts};
+ghost use Rattle.std.specs.Prelude.{◌≡◌, ◌++◌, List, ◌∷◌, [], IfOk};
 ghost use Rattle.std.specs.List.{list_any};
+ghost use Rattle.ca_claims.specs.declared.verdict.Answer.{Answer as GivenAnswer};
+ghost use Rattle.ca_claims.specs.declared.verdict.Verdict.TheVariants.{No, Refused};
+ghost use Rattle.ca_tool.specs.Printed.{return_text, why_text, table_fault_text, cause_text, verdict_text, line_of, lines_of, status_of, is_refusal, is_no};
+ghost use Rattle.ca_tool.specs.inner.Pieces.{pieces_text};
 
+use crate::pieces::{NOTHING, Piece, push_pieces};
 use crate::texts::{pattern_fault_bytes, rule_fault_bytes, table_kind};
 use ca_claims::{Answer, Cause, Verdict, Why};
 use ca_plane::Memory;
-use ca_plane::text::{push_integer, push_number, push_text};
 use ca_rule::TableFault;
 use std::alloc::Global;
 
-fn push_return(out: &mut Vec<u8>, generations: u64, dx: i64, dy: i64) -> Result<(), Memory>
-    ensures { OnOk result (Puts out.old.items out.new.items (return_text generations dx dy)) }
+// A text in two pieces, of which the second is empty.
+fn alone<'a>(text: &'a [u8]) -> [Piece<'a>; 2]
+    ensures { pieces_text result ≡ text.now }
 {
-    push_text(out, b"the same after ")?;
-    push_number(out, generations)?;
-    push_text(out, b", shifted by ")?;
-    push_integer(out, dx)?;
-    push_text(out, b",")?;
-    push_integer(out, dy)
+    [Piece::Text(text), NOTHING]
 }
 
-fn push_why(out: &mut Vec<u8>, why: &Why) -> Result<(), Memory>
-    ensures { OnOk result (Puts out.old.items out.new.items (why_text why.now)) }
+fn return_pieces<'a>(generations: u64, dx: i64, dy: i64) -> [Piece<'a>; 6]
+    ensures { pieces_text result ≡ return_text generations dx dy }
 {
+    [
+        Piece::Text(b"the same after "),
+        Piece::Number(generations),
+        Piece::Text(b", shifted by "),
+        Piece::Integer(dx),
+        Piece::Text(b","),
+        Piece::Integer(dy),
+    ]
+}
+
+fn why_pieces<'a>(why: Why) -> [Piece<'a>; 6]
+    ensures { pieces_text result ≡ why_text why }
+{
+    let mut pieces = [NOTHING; 6];
     match why {
-        Why::Empty => push_text(out, b"empty"),
+        Why::Empty => pieces[0] = Piece::Text(b"empty"),
         Why::Differs { gens, .. } => {
-            push_text(out, b"cells differ after ")?;
-            push_number(out, *gens)
+            pieces[0] = Piece::Text(b"cells differ after ");
+            pieces[1] = Piece::Number(gens);
         }
-        Why::Earlier { m, dx, dy } => push_return(out, *m, *dx, *dy),
+        Why::Earlier { m, dx, dy } => return return_pieces(m, dx, dy),
     }
+    pieces
 }
 
-fn push_table_fault(out: &mut Vec<u8>, fault: TableFault) -> Result<(), Memory>
-    ensures { OnOk result (Puts out.old.items out.new.items (table_fault_text fault)) }
+fn table_fault_pieces<'a>(fault: TableFault) -> [Piece<'a>; 2]
+    ensures { pieces_text result ≡ table_fault_text fault }
 {
     if let TableFault::Memory = fault {
-        return push_text(out, b"memory");
+        return alone(b"memory");
     }
-    push_text(out, b"bad table:")?;
-    push_text(out, table_kind(fault))
+    [Piece::Text(b"bad table:"), Piece::Text(table_kind(fault))]
 }
 
-fn push_cause(out: &mut Vec<u8>, cause: &Cause) -> Result<(), Memory>
-    ensures { OnOk result (Puts out.old.items out.new.items (cause_text cause.now)) }
+fn cause_pieces<'a>(cause: Cause) -> [Piece<'a>; 2]
+    ensures { pieces_text result ≡ cause_text cause }
 {
     match cause {
-        Cause::NoFile => push_text(out, b"no file"),
-        Cause::BadTable(fault) => push_table_fault(out, *fault),
-        Cause::BadPattern(fault) => push_text(out, pattern_fault_bytes(*fault)),
-        Cause::BadRule(fault) => {
-            push_text(out, b"bad rule: ")?;
-            push_text(out, rule_fault_bytes(*fault))
-        }
-        Cause::StateTooLarge => push_text(out, b"state too large"),
-        Cause::MixedRules => push_text(out, b"mixed rules"),
-        Cause::TooManyCells => push_text(out, b"too many cells"),
-        Cause::Memory => push_text(out, b"memory"),
+        Cause::NoFile => alone(b"no file"),
+        Cause::BadTable(fault) => table_fault_pieces(fault),
+        Cause::BadPattern(fault) => alone(pattern_fault_bytes(fault)),
+        Cause::BadRule(fault) => [
+            Piece::Text(b"bad rule: "),
+            Piece::Text(rule_fault_bytes(fault)),
+        ],
+        Cause::StateTooLarge => alone(b"state too large"),
+        Cause::MixedRules => alone(b"mixed rules"),
+        Cause::TooManyCells => alone(b"too many cells"),
+        Cause::Memory => alone(b"memory"),
     }
 }
 
-fn push_verdict(out: &mut Vec<u8>, verdict: &Verdict) -> Result<(), Memory>
-    ensures { OnOk result (Puts out.old.items out.new.items (verdict_text verdict.now)) }
+fn refusal_pieces<'a>(cause: Cause) -> [Piece<'a>; 7]
+    ensures { pieces_text result ≡ verdict_text (Refused cause) }
+{
+    let [first, second] = cause_pieces(cause);
+    [
+        Piece::Text(b"refused, "),
+        first,
+        second,
+        NOTHING,
+        NOTHING,
+        NOTHING,
+        NOTHING,
+    ]
+}
+
+fn no_pieces<'a>(why: Why) -> [Piece<'a>; 7]
+    ensures { pieces_text result ≡ verdict_text (No why) }
+{
+    let [a, b, c, d, e, f] = why_pieces(why);
+    [Piece::Text(b"no, "), a, b, c, d, e, f]
+}
+
+fn verdict_pieces<'a>(verdict: Verdict) -> [Piece<'a>; 7]
+    ensures { pieces_text result ≡ verdict_text verdict }
 {
     match verdict {
-        Verdict::Yes => push_text(out, b"yes"),
-        Verdict::No(why) => {
-            push_text(out, b"no, ")?;
-            push_why(out, why)
+        Verdict::Yes => {
+            let mut pieces = [NOTHING; 7];
+            pieces[0] = Piece::Text(b"yes");
+            pieces
         }
-        Verdict::Refused(cause) => {
-            push_text(out, b"refused, ")?;
-            push_cause(out, cause)
-        }
+        Verdict::No(why) => no_pieces(why),
+        Verdict::Refused(cause) => refusal_pieces(cause),
     }
 }
 
-fn push_line(out: &mut Vec<u8>, answer: &Answer) -> Result<(), Memory>
-    ensures { OnOk result (Puts out.old.items out.new.items (line_of answer.now)) }
+/// The line of an answer in pieces, after a text that stands before it.
+pub(crate) fn answer_pieces<'a>(before: &'a [u8], answer: &Answer) -> [Piece<'a>; 12]
+    ensures { pieces_text result ≡ before.now ++ line_of answer.now }
 {
-    push_text(out, b"line ")?;
-    push_number(out, answer.line)?;
-    push_text(out, b": ")?;
-    push_verdict(out, &answer.verdict)?;
-    push_text(out, b"\n")
+    let [a, b, c, d, e, f, g] = verdict_pieces(answer.verdict);
+    [
+        Piece::Text(before),
+        Piece::Text(b"line "),
+        Piece::Number(answer.line),
+        Piece::Text(b": "),
+        a,
+        b,
+        c,
+        d,
+        e,
+        f,
+        g,
+        Piece::Text(b"\n"),
+    ]
 }
 
 /// The lines that are printed for the answers: one for each, in order.
@@ -96,7 +139,7 @@ pub fn lines(alloc: Global, answers: &[Answer]) -> Result<Vec<u8>, Memory>
 {
     let mut text = Vec::new(alloc);
     'answers: for answer in answers {
-        push_line(&mut text, answer)?;
+        push_pieces(&mut text, &answer_pieces(b"", answer))?;
     }
     Ok(text)
 }
@@ -133,4 +176,11 @@ pub fn status(answers: &[Answer]) -> u8
         return 2;
     }
     if has_no(answers) { 1 } else { 0 }
+}
+
+/// The exit status of some answers and one more, `code` being that of the others.
+pub(crate) fn worse(code: u8, answer: Answer) -> u8
+    ensures { (answers : List GivenAnswer) → code ≡ status_of answers → result ≡ status_of (answers ++ answer ∷ []) }
+{
+    code.max(status(&[answer]))
 }

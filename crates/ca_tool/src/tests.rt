@@ -2,6 +2,7 @@
 //! command asks for. The rest is shown over the built program, by examples/ and tests/.
 
 mod asked;
+mod callers;
 mod complaints;
 mod devices;
 mod macrocells;

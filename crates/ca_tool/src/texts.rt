@@ -2,8 +2,7 @@
 
 ghost use Rattle.std.specs.Prelude.{◌≡◌, ◌≢◌, ℕ, List, ◌++◌};
 ghost use Rattle.ca_rule.specs.declared.table.fault.TableFault.TheVariants as table_fault;
-ghost use Rattle.ca_tool.specs.Printed.{table_text, rule_fault_text, rle_fault_text, macro_fault_text, pattern_fault_text};
-ghost use Rattle.ca_tool.specs.inner.Complaint.{table_line};
+ghost use Rattle.ca_tool.specs.Printed.{table_text, table_line, rule_fault_text, rle_fault_text, macro_fault_text, pattern_fault_text};
 
 use ca_claims::PatternFault;
 use ca_macro::MacroFault;
@@ -21,7 +20,25 @@ pub(crate) fn rule_fault_bytes<'a>(fault: RuleFault) -> &'a [u8]
     }
 }
 
-/// What is wrong with a rule table, behind a space, where it isn't that memory is wanting.
+/// The number of the line at which a rule table is faulty, or 0 where memory is out.
+pub(crate) fn table_line(fault: TableFault) -> u64
+    ensures { result ≡ table_line fault }
+{
+    match fault {
+        TableFault::NoRuleLine { line }
+        | TableFault::NoTable { line }
+        | TableFault::Syntax { line }
+        | TableFault::States { line }
+        | TableFault::Neighborhood { line }
+        | TableFault::Symmetries { line }
+        | TableFault::Variable { line }
+        | TableFault::Unbound { line }
+        | TableFault::Wakes { line } => line,
+        TableFault::Memory => 0,
+    }
+}
+
+/// What is wrong with a rule table, after a space, where it isn't that memory is out.
 pub(crate) fn table_kind<'a>(fault: TableFault) -> &'a [u8]
     ensures { (words : ℕ → List ℕ) → fault ≢ table_fault.Memory → table_text words fault ≡ words (table_line fault) ++ result.now }
 {

@@ -8,7 +8,7 @@ use Rattle.ca_tool.specs.declared.fault.ToolFault.{ToolFault}
 use Rattle.ca_tool.specs.declared.fault.ToolFault.TheVariants.{Input, BadTable, Convert, Write, Memory}
 use Rattle.ca_tool.specs.Runs.{WasRead, IsInputFault, IsRuleFileFault}
 
--- a table's fault, or want of memory alone
+-- a table's fault, or out of memory alone
 abbrev pub TellsTable : TableFault → ToolFault → Type 0
 TellsTable fault (Input told) = ⊥
 TellsTable fault (BadTable told) = (fault ≢ table_fault.Memory) × (told ≡ fault)
@@ -16,7 +16,7 @@ TellsTable fault (Convert told) = ⊥
 TellsTable fault Write = ⊥
 TellsTable fault Memory = fault ≡ table_fault.Memory
 
--- a pattern's fault, or want of memory alone
+-- a pattern's fault, or out of memory alone
 abbrev pub TellsConvert : ConvertFault → ToolFault → Type 0
 TellsConvert fault (Input told) = ⊥
 TellsConvert fault (BadTable told) = ⊥
@@ -24,7 +24,7 @@ TellsConvert fault (Convert told) = (fault ≢ convert_fault.Memory) × (told �
 TellsConvert fault Write = ⊥
 TellsConvert fault Memory = fault ≡ convert_fault.Memory
 
--- why the file isn't read, or its rule file no good table, or that memory is wanting for that table
+-- why the file isn't read, or its rule file no good table, or that memory is out for that table
 abbrev pub IsReadingFault : Option (List ℕ) → Option (List ℕ) → Option (List ℕ) → ToolFault → Type 0
 IsReadingFault old new rule (Input fault) = IsInputFault old new fault
 IsReadingFault old new rule (BadTable fault) = (fault ≢ table_fault.Memory) × WasRead old new × IsRuleFileFault rule fault

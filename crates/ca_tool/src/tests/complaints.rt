@@ -1,7 +1,7 @@
 //! Lines of faults that the program isn't made to meet, and lines that are written in part.
 
 use super::devices::{Narrow, Refusal};
-use crate::{Fault, InputFault, ToolFault, complain};
+use crate::{Fault, InputFault, ToolFault, complain, complain_of};
 use ca_claims::{ClaimFault, ConvertFault, PatternFault};
 use ca_macro::MacroFault;
 use ca_plane::{Dev, WriteFault};
@@ -45,6 +45,20 @@ fn a_line_for_each_fault(rt: HostRuntime) -> Result<(), Fail> {
         assert_eq!(rt; device.inner().as_slice(), line.as_bytes());
         assert_eq!(rt; device.failures(), 0);
     }
+    Ok(())
+}
+
+#[test]
+fn a_line_with_the_path(rt: HostRuntime) -> Result<(), Fail> {
+    let mut device = Dev::new(Vec::new(rt.alloc()));
+    complain_of(
+        &Fault::Claims(ClaimFault::Number { line: 7 }),
+        b"a.claims",
+        &mut device,
+    )?;
+    complain_of(&Fault::Tool(ToolFault::Write), b"", &mut device)?;
+    let lines = b"cafile: a.claims: claims line 7: number\ncafile: : write\n".as_slice();
+    assert_eq!(rt; device.inner().as_slice(), lines);
     Ok(())
 }
 

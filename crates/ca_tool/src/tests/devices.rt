@@ -16,7 +16,7 @@ pub(super) enum Refusal {
 
 /// Holds what it takes, which is at most `step` bytes at a time, and refuses one write, once it has `room` bytes.
 ///
-/// It takes bytes again behind that write, so a write that is tried again shows.
+/// It takes bytes again after that write, so a write that is tried again shows.
 #[derive(Drop)]
 pub(super) struct Narrow {
     pub(super) taken: Vec<u8>,

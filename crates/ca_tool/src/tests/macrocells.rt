@@ -8,7 +8,7 @@ use ca_claims::{PatternFault, Target, read_pattern};
 use ca_macro::{MacroFault, read_macro, write_macro_to};
 use ca_plane::{Dev, Memory, WriteFault};
 use ca_quad::{Store, Tree};
-use ca_rle::RleFault;
+use ca_rle::{RleFault, read_rle};
 use std::alloc::Global;
 use std::io::Write;
 use std::test::*;
@@ -23,20 +23,20 @@ fn has_two_states(store: &Store, alloc: Global, tree: Tree) -> Result<bool, Memo
     Ok(store.greatest_state(alloc, tree)? < 2)
 }
 
-// Writes the pattern of a text, which has two states, as macrocell.
+// Reads the pattern of a text, which has two states, and writes it as macrocell.
 fn write_again<W: Write>(
     alloc: Global,
+    store: &mut Store,
     text: &[u8],
     out: &mut Dev<W>,
 ) -> Result<Result<(), WriteFault>, Fail> {
-    let mut store = Store::new(alloc);
-    let loaded = read_pattern(alloc, &mut store, text)?;
-    if !has_two_states(&store, alloc, loaded.tree)? {
+    let loaded = read_pattern(alloc, store, text)?;
+    if !has_two_states(store, alloc, loaded.tree)? {
         return Err(Fail::new("a state is too large"));
     }
     Ok(write_macro_to(
         alloc,
-        &mut store,
+        store,
         loaded.tree,
         &loaded.rule_text,
         loaded.generation,
@@ -49,7 +49,8 @@ fn write_again<W: Write>(
 fn macrocell_texts_in_pieces(rt: HostRuntime) -> Result<(), Fail> {
     'rooms: for room in 0..=GLIDER.len() {
         let mut device = Narrow::device(rt.alloc(), 3, room, Refusal::Fails);
-        let result = write_again(rt.alloc(), GLIDER, &mut device)?;
+        let mut store = Store::new(rt.alloc());
+        let result = write_again(rt.alloc(), &mut store, GLIDER, &mut device)?;
         assert_eq!(rt; device.inner().taken.as_slice(), &GLIDER[..room]);
         if room == GLIDER.len() {
             assert_eq!(rt; result, Ok(()));
@@ -59,6 +60,40 @@ fn macrocell_texts_in_pieces(rt: HostRuntime) -> Result<(), Fail> {
             assert_eq!(rt; device.failures(), 1);
         }
     }
+    Ok(())
+}
+
+// An RLE text of 400 rows of 300 cells each, about every second of them live.
+fn soup(alloc: Global) -> Result<Vec<u8>, Memory> {
+    let mut text = Vec::new(alloc);
+    text.extend_from_slice(b"x = 300, y = 400, rule = B3/S23\n")?;
+    let mut seed: u64 = 1;
+    'cells: for number in 1..=120_000u32 {
+        seed = seed
+            .wrapping_mul(6_364_136_223_846_793_005)
+            .wrapping_add(1_442_695_040_888_963_407);
+        text.push(if seed < 1 << 63 { b'b' } else { b'o' })?;
+        if number % 300 == 0 {
+            text.push(b'$')?;
+        }
+    }
+    text.push(b'!')?;
+    Ok(text)
+}
+
+#[test]
+fn a_soup_is_written_and_read_again(rt: HostRuntime) -> Result<(), Fail> {
+    let text = soup(rt.alloc())?;
+    assert!(rt; read_rle(rt.alloc(), &text)?.cells.len() > 10_000);
+    let mut store = Store::new(rt.alloc());
+    let soup = read_pattern(rt.alloc(), &mut store, &text)?;
+    let mut device = Dev::new(Vec::new(rt.alloc()));
+    assert_eq!(rt;
+        write_again(rt.alloc(), &mut store, &text, &mut device)?,
+        Ok(())
+    );
+    let again = read_macro(rt.alloc(), &mut store, device.inner())?;
+    assert_eq!(rt; again.tree, soup.tree);
     Ok(())
 }
 

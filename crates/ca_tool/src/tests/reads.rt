@@ -46,11 +46,11 @@ fn stops_where_a_read_fails(rt: HostRuntime) -> Result<(), Fail> {
     let mut at_the_end = Faulty::device(b"2o$2o!".as_slice(), 2);
     assert!(rt; matches!(read_all(rt.alloc(), &mut at_the_end), Err(InputFault::Read)));
     assert_eq!(rt; at_the_end.failures(), 1);
-    let mut behind = Faulty::device(b"2o$2o!".as_slice(), 3);
+    let mut later = Faulty::device(b"2o$2o!".as_slice(), 3);
     assert_eq!(rt;
-        read_all(rt.alloc(), &mut behind)?.as_slice(),
+        read_all(rt.alloc(), &mut later)?.as_slice(),
         b"2o$2o!".as_slice()
     );
-    assert_eq!(rt; behind.failures(), 0);
+    assert_eq!(rt; later.failures(), 0);
     Ok(())
 }

@@ -1,6 +1,6 @@
 use Rattle.std.proofs.Common.{rules, w64}
 use Rattle.std.proofs.lemmas.Int.{to_z-of_z}
-use Rattle.ca_tool.proofs.Behind.{puts_then}
+use Rattle.ca_tool.proofs.After.{puts_then}
 use Rattle.ca_tool.proofs.shown.push_sides.Goals as goal
 
 pub returns : goal.returns

@@ -1,0 +1,14 @@
+use Rattle.std.proofs.Common.{◌≡◌, length}
+use Rattle.std.specs.Io.KnownBytes.{Appends}
+use Rattle.ca_tool.specs.inner.Judged.{Tells}
+use Rattle.ca_tool.proofs.run.tell_all.Given as goal
+
+-- the claims so far were judged and told, no write failed, and the code is their status
+abbrev pub invariant-claims : goal.invariant-claims
+invariant-claims g l = record {
+  told : Tells l.fn.judge l.judge l.telling (Appends (g.W.Write.contents l.fn.device.inner) (g.W.Write.contents l.device.inner)) (λ s. l.code ≡ s);
+  kept : l.device.failures ≡ l.fn.device.failures;
+}
+
+abbrev pub decreases-claims : goal.decreases-claims
+decreases-claims g l = length l.judge.claims

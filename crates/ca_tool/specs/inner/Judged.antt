@@ -1,0 +1,34 @@
+-- What a loop over claims judged and told.
+use Rattle.std.specs.Prelude.{◌≡◌, ℕ, List, [], ◌++◌}
+use Rattle.ca_claims.specs.Text.{Claim}
+use Rattle.ca_claims.specs.Judging.{Judging}
+use Rattle.ca_claims.specs.Answers.{AreTrueAnswers}
+use Rattle.ca_tool.specs.declared.telling.Telling.{Telling}
+use Rattle.ca_tool.specs.declared.telling.Told.{Told}
+use Rattle.ca_tool.specs.Printed.{tolds_text, status_of}
+use Rattle.ca_tool.specs.Runs.{answers_of, AreTrueNotes}
+
+-- the first claims left were judged, by true answers with true notes, and the others are left
+pub record WereJudged (old new : Judging) (tolds : List Told) : Type 0 where
+  pub files : new.files ≡ old.files
+  pub rules : new.rules ≡ old.rules
+  pub judged : List (ℕ × Claim)
+  pub claims : old.claims ≡ judged ++ new.claims
+  pub theirs : List (List (List ℕ × List ℕ))
+  pub patterns : old.patterns ≡ theirs ++ new.patterns
+  pub answers : AreTrueAnswers old.files old.rules judged (answers_of tolds)
+  pub notes : AreTrueNotes old.files old.rules theirs tolds
+
+-- no claim is left
+pub record NoneLeft (judging : Judging) : Type 0 where
+  pub claims : judging.claims ≡ []
+  pub patterns : judging.patterns ≡ []
+
+-- claims were judged, and what is told of them was written, or a first part of it
+abbrev pub Tells : Judging → Judging → Telling → (List ℕ → Type 0) → (ℕ → Type 0) → Type 0
+Tells old new telling Written Ends =
+    (tolds : List Told) × WereJudged old new tolds × Written (tolds_text telling tolds) × Ends (status_of (answers_of tolds))
+
+-- all that was left was judged
+abbrev pub WereAllJudged : Judging → Judging → Type 0
+WereAllJudged old new = (tolds : List Told) × WereJudged old new tolds × NoneLeft new

@@ -1,0 +1,65 @@
+//! Texts in pieces, which are sent or pushed one after another. The pieces themselves take no memory.
+
+ghost use Rattle.std.specs.Prelude.{◌≡◌, OnOk, OnErr, IfErr};
+ghost use Rattle.std.specs.Io.KnownBytes.{Appends};
+ghost use Rattle.ca_plane.specs.Device.{Rises, AppendsPrefix};
+ghost use Rattle.ca_plane.specs.Puts.{Puts};
+ghost use Rattle.ca_tool.specs.inner.Pieces.{piece_text, pieces_text};
+
+use ca_plane::text::push_text;
+use ca_plane::{Dev, Memory, WriteFault, send};
+use itoa::Buffer;
+use std::io::Write;
+
+/// A piece of a text: bytes, or a number in decimal digits.
+#[derive(Clone, Copy, Debug)]
+pub(crate) enum Piece<'a> {
+    Text(&'a [u8]),
+    Number(u64),
+    Integer(i64),
+}
+
+/// No bytes.
+pub(crate) const NOTHING: Piece<'static> = Piece::Text(b"");
+
+// The bytes of a piece; those of a number are kept in the buffer.
+fn piece_bytes<'a>(piece: Piece<'a>, buffer: &'a mut Buffer) -> &'a [u8]
+    ensures { result.now ≡ piece_text piece.entry }
+{
+    match piece {
+        Piece::Text(text) => text,
+        Piece::Number(number) => buffer.format(number).as_bytes(),
+        Piece::Integer(number) => buffer.format(number).as_bytes(),
+    }
+}
+
+/// Puts all the pieces after what `out` holds.
+pub(crate) fn push_pieces(out: &mut Vec<u8>, pieces: &[Piece<'_>]) -> Result<(), Memory>
+    ensures { OnOk result (Puts out.old.items out.new.items (pieces_text pieces.now)) }
+{
+    'pieces: for piece in pieces {
+        let mut buffer = Buffer::new();
+        push_text(out, piece_bytes(*piece, &mut buffer))?;
+    }
+    Ok(())
+}
+
+/// Writes all the pieces. After a failure some first part of them was written.
+pub(crate) fn send_pieces<W: Write>(
+    device: &mut Dev<W>,
+    pieces: &[Piece<'_>],
+) -> Result<(), WriteFault>
+    ensures all { OnOk result (Appends (W.contents device.old.inner) (W.contents device.new.inner) (pieces_text pieces.now)) }
+    ensures kept { OnOk result (device.new.failures ≡ device.old.failures) }
+    ensures fault { IfErr result (λ e. e ≡ WriteFault.Write) }
+    ensures counted { OnErr result (Rises device.old.failures device.new.failures) }
+    ensures front { OnErr result (AppendsPrefix (W.contents device.old.inner) (W.contents device.new.inner) (pieces_text pieces.now)) }
+{
+    'pieces: for piece in pieces {
+        let mut buffer = Buffer::new();
+        if let Err(fault) = send(device, piece_bytes(*piece, &mut buffer)) {
+            return Err(fault);
+        }
+    }
+    Ok(())
+}

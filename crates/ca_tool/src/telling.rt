@@ -1,0 +1,164 @@
+//! What is told of a claim: the line of its answer, and a second line that explains it.
+
+ghost use Rattle.std.specs.Prelude.{◌≡◌, OnOk, OnErr, IfErr, codes, if◌then◌else◌, []};
+ghost use Rattle.std.specs.Io.KnownBytes.{Appends};
+ghost use Rattle.ca_plane.specs.Device.{Rises, AppendsPrefix};
+ghost use Rattle.ca_tool.specs.Printed.{generations_word, cell_line, at_line, file_line, cause_line, note_text, told_text};
+ghost use Rattle.ca_tool.specs.inner.Pieces.{pieces_text};
+
+use crate::pieces::{NOTHING, Piece, send_pieces};
+use crate::printing::answer_pieces;
+use crate::texts::table_line;
+use ca_claims::{Answer, Cause, Note, Verdict, Why};
+use ca_plane::{Dev, WriteFault};
+use std::io::Write;
+
+/// How the answers of a text are told.
+#[derive(Clone, Copy, Debug)]
+pub struct Telling<'a> {
+    /// What stands before each line.
+    pub before: &'a [u8],
+    /// Whether an answer that isn't a yes gets a second line, where there is more to tell.
+    pub explained: bool,
+}
+
+/// An answer, and the note on it.
+#[derive(Clone, Copy, Debug)]
+pub(crate) struct Told<'a> {
+    pub(crate) answer: Answer,
+    pub(crate) note: Note<'a>,
+}
+
+fn generations_word<'a>(generations: u64) -> &'a [u8]
+    ensures { result.now ≡ generations_word generations }
+{
+    if generations == 1 {
+        return b" generation";
+    }
+    b" generations"
+}
+
+// The line about a cell that differs, with the name of the pattern.
+fn cell_pieces<'a>(before: &'a [u8], name: &'a [u8], why: Why) -> [Piece<'a>; 15]
+    ensures { pieces_text result ≡ cell_line before.now name.now why }
+{
+    let Why::Differs {
+        x,
+        y,
+        found,
+        claimed,
+        gens,
+    } = why
+    else {
+        return [NOTHING; 15];
+    };
+    [
+        Piece::Text(before),
+        Piece::Text(b"  "),
+        Piece::Text(name),
+        Piece::Text(b" at "),
+        Piece::Integer(x),
+        Piece::Text(b","),
+        Piece::Integer(y),
+        Piece::Text(b": "),
+        Piece::Number(u64::from(found)),
+        Piece::Text(b" after "),
+        Piece::Number(gens),
+        Piece::Text(generations_word(gens)),
+        Piece::Text(b", claimed "),
+        Piece::Number(u64::from(claimed)),
+        Piece::Text(b"\n"),
+    ]
+}
+
+fn at_pieces<'a>(line: Option<u64>) -> [Piece<'a>; 2]
+    ensures { pieces_text result ≡ at_line line }
+{
+    match line {
+        Some(line) => [Piece::Text(b", line "), Piece::Number(line)],
+        None => [NOTHING; 2],
+    }
+}
+
+// The line about a file, with the name of what it holds.
+fn file_pieces<'a>(
+    before: &'a [u8],
+    name: &'a [u8],
+    path: &'a [u8],
+    line: Option<u64>,
+) -> [Piece<'a>; 15]
+    ensures { pieces_text result ≡ file_line before.now name.now path.now line }
+{
+    let [at, number] = at_pieces(line);
+    [
+        Piece::Text(before),
+        Piece::Text(b"  "),
+        Piece::Text(name),
+        Piece::Text(b": "),
+        Piece::Text(path),
+        at,
+        number,
+        Piece::Text(b"\n"),
+        NOTHING,
+        NOTHING,
+        NOTHING,
+        NOTHING,
+        NOTHING,
+        NOTHING,
+        NOTHING,
+    ]
+}
+
+// The faulty line of a rule line's file.
+fn cause_line(cause: Cause) -> Option<u64>
+    ensures { result ≡ cause_line cause }
+{
+    match cause {
+        Cause::BadTable(fault) => Some(table_line(fault)),
+        _ => None,
+    }
+}
+
+// The line of a note on a verdict, where there is something to tell.
+fn note_pieces<'a>(before: &'a [u8], verdict: Verdict, note: Note<'a>) -> [Piece<'a>; 15]
+    ensures { pieces_text result ≡ note_text before.now verdict note.entry }
+{
+    match (verdict, note) {
+        (Verdict::No(why), Note::Cell { name }) => cell_pieces(before, name, why),
+        (Verdict::Refused(_), Note::Pattern { name, path, line }) => {
+            file_pieces(before, name, path, line)
+        }
+        (Verdict::Refused(cause), Note::RuleFile { path }) => {
+            file_pieces(before, b"rule file", path, cause_line(cause))
+        }
+        _ => [NOTHING; 15],
+    }
+}
+
+// The second line, where one is told.
+fn second_pieces<'a>(telling: &Telling<'a>, told: &Told<'a>) -> [Piece<'a>; 15]
+    ensures { pieces_text result ≡ (if telling.now.explained then note_text telling.now.before.now told.now.answer.verdict told.now.note else []) }
+{
+    if !telling.explained {
+        return [NOTHING; 15];
+    }
+    note_pieces(telling.before, told.answer.verdict, told.note)
+}
+
+/// Writes what is told of a claim. After a failure some first part of it was written.
+pub(crate) fn send_told<W: Write>(
+    device: &mut Dev<W>,
+    telling: &Telling<'_>,
+    told: &Told<'_>,
+) -> Result<(), WriteFault>
+    ensures all { OnOk result (Appends (W.contents device.old.inner) (W.contents device.new.inner) (told_text telling.now told.now)) }
+    ensures kept { OnOk result (device.new.failures ≡ device.old.failures) }
+    ensures fault { IfErr result (λ e. e ≡ WriteFault.Write) }
+    ensures counted { OnErr result (Rises device.old.failures device.new.failures) }
+    ensures front { OnErr result (AppendsPrefix (W.contents device.old.inner) (W.contents device.new.inner) (told_text telling.now told.now)) }
+{
+    if let Err(fault) = send_pieces(device, &answer_pieces(telling.before, &told.answer)) {
+        return Err(fault);
+    }
+    send_pieces(device, &second_pieces(telling, told))
+}
