@@ -25,7 +25,7 @@ NORTH_WEST, NORTH_EAST, SOUTH_EAST = chain("*$", "{} 0 0 0", 60), chain(".......
 # All cells of a square of level 61, which is node 59.
 FULL = chain("********$" * 8, "{0} {0} {0} {0}", 61)
 
-# By the fault: what stands behind a line [M2].
+# By the fault: what follows a line [M2].
 FAULTS = {
     "timeline": (
         "#FRAMES 2 0 1", "#FRAMES 2", "#FRAME", "#FRAMEx", " \t#FRAMES 2", "#FRAME\r", "*$\n#FRAMES 2", "#FRAMES 2\n4 0 0 0", "#FRAMES 2\n#G x",
@@ -195,7 +195,7 @@ def cut_glider(length):
         return fault("bad rule: unknown")
     rule = {21: "B3/S", 22: "B3/S2"}.get(length, "B3/S23")
     count = next(count for least, count in ((34, 5), (33, 4), (32, 3), (30, 2), (26, 1), (0, 0)) if length >= least)
-    # a leaf without the line behind it is a root by itself
+    # a leaf without the line after it is a root by itself
     corner = (0, 0) if length >= 50 else (-4, -4)
     box = {0: "none", 1: "1 0 1 1", 2: "1 0 2 2", 3: "0 0 3 3", 4: "0 0 3 3", 5: "0 0 3 3"}[count]
     if count:
@@ -373,7 +373,7 @@ def try_random_planes(tally, folder):
 
 
 def mutilated(chance, text):
-    """The text with a small change or two behind its first line."""
+    """The text with a small change or two after its first line."""
     for _ in range(chance.randint(1, 2)):
         numbers = list(re.compile("[0-9]+").finditer(text, text.index("\n")))
         if numbers and chance.random() < 0.5:

@@ -21,10 +21,10 @@ MAX_FILE = 67108864
 EDGE = 1152921504606846976
 
 
-def chain(first, parts, to, behind="[M2]\n"):
+def chain(first, parts, to, after="[M2]\n"):
     """A text of a node, given by its line and level, and of one for each level above: `parts` gives the parts, by the number of the node before."""
     line, level = first
-    return behind + "\n".join([line, *(f"{up} {parts.format(up - level)}" for up in range(level + 1, to + 1))]) + "\n"
+    return after + "\n".join([line, *(f"{up} {parts.format(up - level)}" for up in range(level + 1, to + 1))]) + "\n"
 
 
 CELL, FULL, TWO_BY_TWO = ("*$", 3), ("********$" * 8, 3), ("1 1 1 1 1", 1)
@@ -83,12 +83,12 @@ SHOWN = (
     ("one state of 2 among 2^122 cells", deep_two, fault("state too large")),
     ("a node number of 40 digits", lambda: "[M2]\n*$\n4 0 0 0 " + "9" * 40, bad("forward")),
     ("a node number of a million digits", lambda: "[M2]\n*$\n4 0 0 0 1" + "0" * 1000000, bad("forward")),
-    ("a node number behind a million zeros", lambda: "[M2]\n*$\n4 0 0 0 " + "0" * 1000000 + "1", figures(0, 1, "0 0 1 1")),
+    ("a node number after a million zeros", lambda: "[M2]\n*$\n4 0 0 0 " + "0" * 1000000 + "1", figures(0, 1, "0 0 1 1")),
     ("a level of a million digits", lambda: "[M2]\n" + "4" * 1000000 + " 0 0 0 0", bad("level")),
-    ("a level behind a million zeros", lambda: "[M2]\n*$\n" + "0" * 1000000 + "4 0 0 0 1", figures(0, 1, "0 0 1 1")),
+    ("a level after a million zeros", lambda: "[M2]\n*$\n" + "0" * 1000000 + "4 0 0 0 1", figures(0, 1, "0 0 1 1")),
     ("a state of a million digits", lambda: "[M2]\n1 0 0 0 " + "1" * 1000000, bad("syntax")),
     ("a generation of a million digits", lambda: "[M2]\n*$\n#G " + "1" * 1000000, bad("gen too large")),
-    ("a generation behind a million zeros", lambda: "[M2]\n*$\n#G " + "0" * 1000000 + "7", figures(7, 1, "-4 -4 1 1")),
+    ("a generation after a million zeros", lambda: "[M2]\n*$\n#G " + "0" * 1000000 + "7", figures(7, 1, "-4 -4 1 1")),
     ("a million numbers in a line", lambda: "[M2]\n*$\n" + "1 " * 1000000, bad("syntax")),
     ("a leaf of a million cells", lambda: "[M2]\n" + "*" * 1000000, bad("leaf size")),
     ("a leaf of a million rows", lambda: "[M2]\n" + "$" * 1000000, bad("leaf size")),
@@ -101,7 +101,7 @@ SHOWN = (
     ("a rule of a million digits", lambda: "[M2]\n*$\n#R B" + "3" * 1000000 + "/S23", ONE_LEAF),
     ("a rule of a million bytes", lambda: "[M2]\n*$\n#R " + "L" * 1000000, fault("bad rule: unknown")),
     ("a first line of 67108800 bytes", lambda: "[M2]" + "*" * 67108796 + "\n*$\n", ONE_LEAF),
-    ("a fault behind a million nodes", lambda: "[M2]\n" + "*$\n" * 1000000 + "4 1 1 1 1000001\n", bad("forward")),
+    ("a fault after a million nodes", lambda: "[M2]\n" + "*$\n" * 1000000 + "4 1 1 1 1000001\n", bad("forward")),
     ("the last of a million nodes", lambda: "[M2]\n" + "*$\n" * 1000000 + "4 0 0 0 1000000\n", figures(0, 1, "0 0 1 1")),
     ("a node number and 2^32 or 2^64 more", lambda: "[M2]\n" + "*$\n" * 70000 + "4 0 0 0 65536\n4 0 0 0 18446744073709551617\n", bad("forward")),
 )
@@ -202,7 +202,7 @@ def try_rows(texts):
 
 def distinct_leaves(count, level):
     """The nodes of a square of this level, of which the first leaves, from nw to se, are all different: leaf i has a cell at the beginning of each of its
-    first four rows, and i's bits behind them, five a row."""
+    first four rows, and i's bits after them, five a row."""
     rows = ["*" + "".join(".*"[bits >> at & 1] for at in range(5)).rstrip(".") + "$" for bits in range(32)]
     lines = []
 

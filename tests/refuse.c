@@ -1,5 +1,5 @@
 /* An allocator that refuses, to be loaded before the C library's own: the allocation whose number stands in the environment as REFUSE, and with
-   REFUSE_ON those behind it too. They are counted from 1. What was refused is told by a byte written to the descriptor REFUSE_TELL. Where
+   REFUSE_ON those after it too. They are counted from 1. What was refused is told by a byte written to the descriptor REFUSE_TELL. Where
    REFUSE isn't set, or is 0, none is. It takes no header, so that a compiler alone can build it. */
 
 typedef __SIZE_TYPE__ size;

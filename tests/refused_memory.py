@@ -1,25 +1,27 @@
 #!/usr/bin/env -S python3 -B
-"""Memory that is refused to the built program: it answers want of memory, for one claim or for the run, and never another thing.
+"""Memory that is refused to the built program: it answers out of memory, for one claim, one text or the run, and never another thing.
 
 Each allocation of a run is refused in turn, by tests/refuse.c, which is loaded before the C library's own allocator, until a run meets no refusal.
 Of each run either nothing changed, or it ended with `cafile: memory` and printed nothing, or one line became `refused, memory`. Besides:
 
 - each claim whose pattern reads is refused by some run: so one that lacks memory doesn't end the whole run;
 - a claim whose file, or a rule file, is missing, or whose rule file or RLE doesn't read, is refused for that in every run;
-- claims are refused in their order, and a run ends whole between two of them only where the list of the answers grows.
+- claims are refused in their order, and no run ends whole once a claim was judged.
 
-A run of `show` or `convert` prints all that it prints with ample memory, or nothing and `cafile: memory`.
+Of an explained run one claim may also be without its note, or its note without the faulty line. Of a run over several texts one text may be told as out of
+memory and have no lines. A run of `show` or `convert` prints all that it prints with ample memory, or nothing and `cafile: memory`.
 
 Of runs with many allocations some are tried. At the end memory is refused by the system itself, to a pattern that is too large for it, and the claims round it are answered.
 """
 import itertools
 import os
+import re
 import resource
 import shutil
 import subprocess
 import tempfile
 
-from lib.program import ROOT, Tally, example, example_words, fault, lines_outcome, run
+from lib.program import ROOT, Outcome, Tally, example, example_words, fault, lines_outcome, run
 from sizes import long_text
 
 # Claim texts of examples/, and how many allocations are passed over between two that are refused.
@@ -30,6 +32,14 @@ EXAMPLES = {"block": 1, "glider": 1, "several": 1, "bad_patterns": 1, "rules": 1
 WORDS = {"show_rle": 1, "show_macrocell": 1, "show_table": 1, "show_no_table": 1, "show_bad_table": 1, "show_timeline": 1, "show_full_square": 7,
          "convert_to_macrocell": 1, "convert_to_rle": 1, "convert_both_leaves": 1, "convert_table_to_macrocell": 1, "convert_table_to_rle": 1,
          "convert_empty_to_macrocell": 1, "convert_too_many_cells": 7, "convert_full_square": 7, "convert_gun_to_macrocell": 3}
+
+# Examples of `verify` with notes, each of one text, and runs over several texts, each with the examples that its texts give by themselves.
+EXPLAINED = {"explain_several": 1, "explain_bad_patterns": 1, "explain_bad_macrocells": 3, "explain_bad_table": 1, "explain_no_rule_file": 1, "explain_causes": 1}
+SEVERAL = (
+    (("verify",), {"block": "block", "several": "several"}),
+    (("verify",), {"no_claims": "no_claims", "states": "states", "block": "block"}),
+    (("verify", "--explain"), {"several": "explain_several", "bad_table": "explain_bad_table"}),
+)
 
 NO_MEMORY = fault("memory")
 
@@ -59,7 +69,7 @@ class Refusing:
         self.library, self.told = library, told
 
     def run(self, words, number, goes_on=False):
-        """The outcome of a run whose allocation of this number is refused, those behind it too where it goes on; None where it has no such one."""
+        """The outcome of a run whose allocation of this number is refused, those after it too where it goes on; None where it has no such one."""
         before = os.fstat(self.told).st_size
         environment = {"LD_PRELOAD": self.library, "REFUSE": str(number), "REFUSE_TELL": str(self.told), **({"REFUSE_ON": "1"} if goes_on else {})}
         outcome = run(words, env=environment, pass_fds=(self.told,))
@@ -106,17 +116,17 @@ def judged(ample, outcomes, each_number):
         elif at is not None:
             ends_between, ends = ends_between + (ends if refused else 0), 0
             if refused and at < refused[-1]:
-                complaints.append(f"allocation {number}: {outcome.printed!r} comes behind a later claim")
+                complaints.append(f"allocation {number}: {outcome.printed!r} comes after a later claim")
             refused.append(at)
         elif outcome != ample:
             complaints.append(f"allocation {number}: {outcome}")
     lines = ample.printed.splitlines()
     for at, line in enumerate(lines):
         if needs_no_memory(line) and at in refused:
-            complaints.append(f"{line!r}: refused for want of memory")
+            complaints.append(f"{line!r}: refused for lack of memory")
         if each_number and not needs_no_memory(line) and at not in refused:
-            complaints.append(f"{line!r}: never refused for want of memory")
-    if ends_between > (len(lines).bit_length() if each_number else 1):
+            complaints.append(f"{line!r}: never refused for lack of memory")
+    if ends_between:
         complaints.append(f"{ends_between} runs ended whole between two claims")
     whole = sum(outcome == NO_MEMORY for outcome in outcomes.values())
     return complaints, f"{len(outcomes)} allocations refused: {whole} times cafile: memory, {len(refused)} times one line"
@@ -130,8 +140,73 @@ def try_examples(tally, refusing):
         tally.tell(f"refused memory, examples/{name}.claims: {told}", complaints if outcomes else ["no allocation was refused"])
 
 
+def answers_in(printed):
+    """The lines of the verdicts in what an explained run of one text prints, each with the line of its note, where it has one."""
+    answers = []
+    for line in printed.splitlines(keepends=True):
+        if line.startswith(b"  "):
+            answers[-1] = (answers[-1][0], line)
+        else:
+            answers.append((line, b""))
+    return answers
+
+
+def lesser(answer):
+    """What may be told in place of an answer where memory is refused: that, the line without its note, and a note without its faulty line."""
+    line, note = answer
+    return {(line.split(b":")[0] + b": refused, memory\n", b""), (line, b""), (line, re.sub(rb", line [0-9]+\n$", b"\n", note))}
+
+
+def outcome_of(texts, complaint=b""):
+    """What a run over these texts prints, given by what stands before their lines and their answers."""
+    printed = b"".join(before + line + (note and before + note) for before, answers in texts for line, note in answers)
+    status = 2 if complaint or b": refused, " in printed else int(b": no, " in printed)
+    return Outcome(printed, complaint, status)
+
+
+def allowed(texts):
+    """All that a run may come to where one allocation is refused: of one text, or of several, each with its path before its lines."""
+    outcomes = {outcome_of(texts), NO_MEMORY}
+    for at, (before, answers) in enumerate(texts):
+        others = (texts[:at], texts[at + 1:])
+        if before:
+            outcomes.add(outcome_of([*others[0], *others[1]], b"cafile: " + before + b"memory\n"))
+        for place, answer in enumerate(answers):
+            for instead in lesser(answer):
+                outcomes.add(outcome_of([*others[0], (before, [*answers[:place], instead, *answers[place + 1:]]), *others[1]]))
+    return outcomes
+
+
+def tell_sweep(tally, name, texts, outcomes):
+    """Tells whether each outcome of a sweep is allowed, and some run met a refusal of each kind."""
+    may_be, refused = allowed(texts), sum(b": refused, memory\n" in it.printed for it in outcomes.values())
+    complaints = [f"allocation {number}: {it}" for number, it in outcomes.items() if it not in may_be]
+    if NO_MEMORY not in outcomes.values():
+        complaints.append("no run met out of memory")
+    tally.tell(f"refused memory, {name}: {len(outcomes)} allocations refused, {refused} times one claim", complaints)
+
+
+def try_explained(tally, refusing):
+    """Each allocation of some explained runs in turn: a claim is refused, or its note is less or isn't there."""
+    for name, step in EXPLAINED.items():
+        outcomes = refusing.sweep(example_words(f"{name}.words"), itertools.count(1, step))
+        tell_sweep(tally, f"examples/{name}.words", [(b"", answers_in(example(name).printed))], outcomes)
+
+
+def try_several(tally, refusing):
+    """Each allocation of some runs over several texts in turn: one text is out of memory, or one claim."""
+    for words, names in SEVERAL:
+        paths = [f"examples/{name}.claims" for name in names]
+        texts = [(f"{path}: ".encode(), answers_in(example(alone).printed)) for path, alone in zip(paths, names.values())]
+        outcomes = refusing.sweep([*words, *paths], itertools.count(1))
+        tell_sweep(tally, " ".join([*words, *names]), texts, outcomes)
+        ended = {it.complaint for it in outcomes.values()}
+        unmet = [path for path in paths if f"cafile: {path}: memory\n".encode() not in ended]
+        tally.tell(f"each text is out of memory in some run, {' '.join(names)}", unmet)
+
+
 def wrong_ones(ample, outcomes):
-    """The outcomes that are neither the ample one nor want of memory with nothing printed."""
+    """The outcomes that are neither the ample one nor out of memory with nothing printed."""
     return [f"allocation {number}: {it}" for number, it in outcomes.items() if it not in (ample, NO_MEMORY)]
 
 
@@ -140,7 +215,7 @@ def try_words(tally, refusing):
     for name, step in WORDS.items():
         words, ample = example_words(f"{name}.words"), example(name)
         outcomes = refusing.sweep(words, itertools.count(1, step))
-        complaints = wrong_ones(ample, outcomes) or ([] if NO_MEMORY in outcomes.values() else ["no run met want of memory"])
+        complaints = wrong_ones(ample, outcomes) or ([] if NO_MEMORY in outcomes.values() else ["no run met out of memory"])
         tally.tell(f"refused memory, examples/{name}.words: {len(outcomes)} allocations refused", complaints)
 
 
@@ -159,13 +234,34 @@ def try_large(tally, refusing, folder):
         tally.tell(f"refused memory, {name}: {told}", complaints if outcomes else ["no allocation was refused"])
 
 
+def consists_of(texts, outcome):
+    """Whether each text is told as out of memory, or each of its answers is its own or what may be told in its place."""
+    lost = [before for before, _ in texts if b"cafile: " + before + b"memory\n" in outcome.complaint]
+    rest = outcome.printed
+    for before, answers in texts:
+        for answer in answers if before not in lost else []:
+            may_be = {before + line + (note and before + note) for line, note in {answer, *lesser(answer)}}
+            fits = [it for it in may_be if rest.startswith(it)]
+            if not fits:
+                return False
+            rest = rest[len(max(fits, key=len)):]
+    told = b"".join(b"cafile: " + before + b"memory\n" for before in lost)
+    status = 2 if told or b": refused, " in outcome.printed else int(b": no, " in outcome.printed)
+    return not rest and (outcome.complaint, outcome.status) == (told, status)
+
+
 def try_for_good(tally, refusing):
-    """All allocations from one on: the complaint itself takes none."""
-    for words in (["verify", "examples/several.claims"], ["verify", "examples/syntax.claims"], ["verify", "examples/lost"], ["--help"], ["verify"],
+    """All allocations from one on: the complaint itself takes none, and the claims that were judged before are told."""
+    for words in (["verify", "examples/syntax.claims"], ["verify", "examples/lost"], ["--help"], ["verify"],
                   ["show", "examples/macrocell/glider.mc"], ["convert", "examples/glider.rle", "--to", "mc"], ["show", "examples/lost"]):
         ample, outcomes = run(words), refusing.sweep(words, itertools.count(1), goes_on=True)
         wrong = wrong_ones(ample, outcomes)
         tally.tell(f"memory refused for good, {' '.join(words)}: {len(outcomes)} runs", wrong if outcomes else ["no allocation was refused"])
+    for words, names in ((("verify",), {"several": "several"}), (("verify", "--explain"), {"several": "explain_several"}), *SEVERAL):
+        texts = [(f"examples/{name}.claims: ".encode() if len(names) > 1 else b"", answers_in(example(alone).printed)) for name, alone in names.items()]
+        outcomes = refusing.sweep([*words, *(f"examples/{name}.claims" for name in names)], itertools.count(1), goes_on=True)
+        wrong = [f"allocation {number}: {it}" for number, it in outcomes.items() if it != NO_MEMORY and not consists_of(texts, it)]
+        tally.tell(f"memory refused for good, {' '.join([*words, *names])}: {len(outcomes)} runs", wrong if outcomes else ["no allocation was refused"])
 
 
 def try_a_limit(tally, folder):
@@ -193,6 +289,8 @@ def main():
         else:
             refusing = Refusing(library, told.fileno())
             try_examples(tally, refusing)
+            try_explained(tally, refusing)
+            try_several(tally, refusing)
             try_words(tally, refusing)
             try_large(tally, refusing, folder)
             try_for_good(tally, refusing)

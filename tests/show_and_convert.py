@@ -120,7 +120,7 @@ def try_good(files):
 
 
 def try_tables(files):
-    """Faulty rule files go before every fault of a pattern, and behind a file that can't be read."""
+    """Faulty rule files go before every fault of a pattern, and after a file that can't be read."""
     missing = os.path.join(files.folder, "missing")
     patterns = [files.path("block", "x = 2, y = 2\n2o$2o!\n"), files.path("empty", ""), files.path("no_end", PATTERNS["no_end"][0])]
     patterns.append(files.path("forward", PATTERNS["first_fault"][0]))

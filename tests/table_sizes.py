@@ -20,7 +20,7 @@ SPREAD_DOT = "#CXRLE Pos=-1,-1\nx = 3, y = 3, rule = Wide\n.B$3B$.B!\n"
 
 
 def table(lines, states=256, neighbourhood="vonNeumann", symmetry="rotate4", name="Wide"):
-    """A rule file with these lines behind its settings."""
+    """A rule file with these lines after its settings."""
     return "\n".join([f"@RULE {name}", "@TABLE", f"n_states:{states}", f"neighborhood:{neighbourhood}", f"symmetries:{symmetry}", *lines]) + "\n"
 
 
@@ -42,7 +42,7 @@ def one_name_again(count):
 
 
 def sets_of_every_state(count):
-    """Variables of all 256 states, and a transition behind them."""
+    """Variables of all 256 states, and a transition after them."""
     for at in range(count):
         yield f"var long_name_of_a_variable_{at}={{{EVERY_STATE}}}"
     yield f"var a={{{','.join(str(state) for state in range(1, 256))}}}"
@@ -80,7 +80,7 @@ FILES = (
     ("a transition of two million fields", lambda: table(["0," * 2000000 + "0"]), DOT, DOT, "refused, bad table: syntax"),
     ("a line of ten million bytes", lambda: table(["0" * 10000000]), DOT, DOT, "refused, bad table: syntax"),
     ("ten million brackets", lambda: table(["var a=" + "{" * 10000000]), DOT, DOT, "refused, bad table: syntax"),
-    ("an unknown name behind 600000 variables", lambda: table([*naming_each_other(600000), "0,b,0,0,0,1"], 3), DOT, DOT,
+    ("an unknown name after 600000 variables", lambda: table([*naming_each_other(600000), "0,b,0,0,0,1"], 3), DOT, DOT,
      "refused, bad table: variable"),
     ("a file of 67108864 bytes", lambda: table(["var a={1,2}", "0,a,0,0,0,a"]).ljust(MAX_FILE), DOT, SPREAD_DOT, GOOD),
     ("a file of 67108865 bytes", lambda: table(["var a={1,2}", "0,a,0,0,0,a"]).ljust(MAX_FILE + 1), DOT, SPREAD_DOT, "refused, no file"),

@@ -115,7 +115,7 @@ CHANGED = {
         ("symmetries:none\nsymmetries:none", "6 syntax"),
         # a table's states, neighbourhood and symmetry are judged in this order
         ("symmetries:x\nn_states:3", "6 syntax"),
-        # behind a variable it comes too late
+        # after a variable it comes too late
         ("var b={1}\nsymmetries:rotate4", "5 symmetries"),
         ("symmetries:rotate4\nvar b={1}\nn_states:3", "7 syntax"),
         ("symmetries:rotate4\nvar b={1}\nneighborhood:vonNeumann", "7 syntax"),
@@ -348,7 +348,7 @@ SAME = {
         # lines keep the states that a name had when they were read
         "0,a,0,0,0,a\nvar a={1}",
         "var b={a}\nvar a={0}\n0,b,0,0,0,b",
-        # what stands behind the table
+        # what follows the table
         "0,a,0,0,0,a\n@TABLE\nn_states:1\n0,0,0,0,0,1",
         "0,a,0,0,0,a\n@RULE Other\n@TABLE\nvar",
         "0,a,0,0,0,a\n@TREE\nnum_states=0\nvar",
@@ -442,7 +442,7 @@ class Texts:
         return path
 
     def line(self, text, verdict=None):
-        """Puts a line behind the claim text, with the verdict where it is a claim."""
+        """Adds a line to the claim text, with the verdict where it is a claim."""
         self.lines.append(text)
         if verdict:
             self.verdicts.append((len(self.lines), verdict))
@@ -537,7 +537,7 @@ def try_rule_lines(tally, folder):
     for what, files, verdict in (
         ("two faulty files", (no_table, no_rule_line), "refused, bad table: no table"),
         ("two faulty files, the other way about", (no_rule_line, no_table), "refused, bad table: no rule line"),
-        ("a faulty file behind a good one", (good, no_table), "refused, bad table: no table"),
+        ("a faulty file after a good one", (good, no_table), "refused, bad table: no table"),
         ("a faulty file of a name that is taken", (good, changed(7, "000001")), "refused, bad table: wakes"),
         ("two tables of one name", (good, changed(7, "")), "yes"),
         ("two tables of one name, the other way about", (changed(7, ""), good), "no, cells differ after 1"),

@@ -82,7 +82,7 @@ CLAIM_TEXTS = {
     ),
 }
 
-# Bodies behind a usual header, and their live cells.
+# Bodies after a usual header, and their live cells.
 BODIES = (
     ("2o$2o!", [(0, 0), (1, 0), (0, 1), (1, 1)]),
     ("bo$2bo$3o!\n", [(1, 0), (2, 1), (0, 2), (1, 2), (2, 2)]),
@@ -122,7 +122,7 @@ FILES = (
     (f"#CXRLE Pos=-{EDGE},-{EDGE}\n{HEADER}{EDGE}${EDGE}bo!", [(0, 0)]),
 )
 
-# Bodies behind a usual header, and what is wrong with them.
+# Bodies after a usual header, and what is wrong with them.
 BAD_BODIES = (
     ("3o", "no end"), ("3", "no end"), ("p", "no end"), ("op", "no end"), ("# o!", "no end"), ("o\n# o!", "no end"), ("2o$2o", "no end"),
     ("0", "syntax"), ("0!", "syntax"), ("0b!", "syntax"), ("00b!", "syntax"), ("0o!", "syntax"), ("2!", "syntax"), ("3!", "syntax"), ("z!", "syntax"),

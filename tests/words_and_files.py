@@ -1,24 +1,49 @@
 #!/usr/bin/env -S python3 -B
 """The words that the program is started with, and files that aren't there, can't be read, or are as long as a file may be."""
 import os
+import re
 import subprocess
 import tempfile
 
-from lib.program import Outcome, Tally, fault, lines_outcome, run
+from lib.program import PROGRAM, ROOT, Folder, Outcome, Tally, fault, lines_outcome, run
 
 MAX_FILE = 67108864
 
 
-def try_words(tally):
-    """Help and version come on standard output with status 0, and words that ask for nothing are told on standard error with status 2."""
-    for words, text in ((["--help"], b"verify"), (["--help"], b"show"), (["--help"], b"convert"), (["verify", "--help"], b"CLAIMS"),
-                        (["help", "verify"], b"CLAIMS"), (["show", "--help"], b"--rule"), (["convert", "--help"], b"--to"), (["--version"], b"cafile ")):
+# What the help of each command tells.
+HELP = {
+    "show": ("--rule", "format macrocell", "rule B3/S23", "gen 4", "cells 5", "box 1 2 3 3", "- is standard input", "The status is 0, or 2"),
+    "convert": ("--to", "--rule", "rle, mc", "- is standard input", "The status is 0, or 2"),
+    "verify": ("CLAIMS", "--explain", "rule PATH", "load NAME PATH", "still NAME", "oscillator NAME P", "spaceship NAME P DX DY", "becomes NAME N NAME2",
+               "relative to the working directory", "hold no blanks", "- is standard input", "The status is 0", "1 where", "2 where"),
+}
+
+
+def try_help(tally):
+    """Help and version come on standard output with status 0. What the help shows is so: its commands, and its claims."""
+    helps = {name: run([name, "--help"]) for name in HELP}
+    for words, texts in ((["--help"], HELP), (["-h"], HELP), (["--version"], ("cafile ",)), *(([name, "--help"], texts) for name, texts in HELP.items()),
+                         *((["help", name], texts) for name, texts in HELP.items())):
         outcome = run(words)
-        well = text in outcome.printed and (outcome.complaint, outcome.status) == (b"", 0)
-        tally.tell(" ".join(words), [] if well else [str(outcome)])
+        lacks = [text for text in texts if text.encode() not in outcome.printed]
+        tally.tell(" ".join(words), lacks or ([] if (outcome.complaint, outcome.status) == (b"", 0) else [str(outcome)]))
+    for text in [run(["--help"]).printed, *(it.printed for it in helps.values())]:
+        for line in re.findall(r"^  (?:cat .* \| )?cafile .*$", text.decode(), re.M):
+            ran = subprocess.run(["sh", "-c", line.replace("cafile ", '"$0" '), PROGRAM], cwd=ROOT, capture_output=True, timeout=300, check=False)
+            wanted = 2 if "several" in line else 1 if "pulsar" in line else 0
+            tally.tell(f"in the help: {line.strip()}", [] if ran.stdout and not ran.stderr and ran.returncode == wanted else [str(ran)])
+    claims = re.findall(r"^      (\w.*)$", helps["verify"].printed.decode(), re.M)
+    loads = [f"load {name} examples/{name}.rle" for name in ("block", "pulsar", "blinker", "blinker_1")]
+    tally.expect(f"in the help: {claims}", run(["verify", "-"], input="\n".join([*loads, *claims]).encode()), lines_outcome([(at, "yes") for at in (7, 8, 9, 10)]))
+
+
+def try_words(tally):
+    """Words that ask for nothing are told on standard error with status 2."""
     block = "examples/block.rle"
     for words in (
-        [], ["verify"], ["check", "examples/block.claims"], ["verify", "examples/block.claims", "more"], ["verify", "--fast", "examples/block.claims"],
+        [], ["verify"], ["check", "examples/block.claims"], ["verify", "--fast", "examples/block.claims"], ["verify", "--explain"],
+        ["verify", "--explain", "--explain", "examples/block.claims"], ["verify", "--explain=yes", "examples/block.claims"], ["verify", "-e", "examples/block.claims"],
+        ["show", "-", "-"], ["show", "--explain", block], ["convert", "--explain", block, "--to", "rle"], ["verify", "examples/block.claims", "--to", "rle"],
         ["show"], ["show", block, block], ["show", block, "--rule"], ["show", block, "--to", "rle"], ["show", block, "--fast"], ["Show", block],
         ["show", "--rule", block], ["show", block, "--rule", block, "--rule", block], ["verify", "examples/block.claims", "--rule", block],
         ["convert"], ["convert", block], ["convert", "--to", "rle"], ["convert", block, "--to"], ["convert", block, "--to", "life"],
@@ -30,20 +55,6 @@ def try_words(tally):
         tally.tell(f"faulty words: {' '.join(words)}", [] if well else [str(outcome)])
     for words in (["verify", b"\xff.claims"], ["show", b"\xff.rle"], ["show", block, "--rule", b"\xff"], ["convert", block, "--to", b"\xff"]):
         tally.expect(f"words that aren't UTF-8, {words[0]}", run(words), fault("usage"))
-
-
-class Files:
-    """Files in a folder of their own."""
-
-    def __init__(self, folder):
-        self.folder = folder
-
-    def path(self, name, content):
-        """Writes a file, and gives its path."""
-        path = os.path.join(self.folder, name)
-        with open(path, "wb") as file:
-            file.write(content)
-        return path
 
 
 def try_claim_texts(tally, files):
@@ -99,9 +110,10 @@ def try_patterns(tally, files):
 
 def main():
     tally = Tally()
+    try_help(tally)
     try_words(tally)
     with tempfile.TemporaryDirectory() as folder:
-        files = Files(folder)
+        files = Folder(folder)
         try_claim_texts(tally, files)
         try_pieces(tally, files)
         try_patterns(tally, files)

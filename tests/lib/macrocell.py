@@ -239,6 +239,17 @@ def read(text):
     return Pattern(tree, reader.rule, reader.generation)
 
 
+def faulty_line(text):
+    """The number of the first faulty line of a text that begins with [M2], counted from 1; None where each line reads."""
+    reader = Reader()
+    for at, line in enumerate(text.split(b"\n")[1:], 2):
+        try:
+            reader.line(line.strip(BLANKS))
+        except Fault:
+            return at
+    return None
+
+
 def leaf_text(squares, square):
     """A square of level 3 as a leaf, without dead cells at the ends of rows."""
     cells = Tree(squares, square, 3).cells()

@@ -53,6 +53,11 @@ def example_words(file):
     return contents(path).decode().split("\n")[:-1] if file.endswith(".words") else ["verify", f"examples/{file}"]
 
 
+def example_run(file):
+    """The outcome of an example, with the bytes of NAME.stdin, none where it isn't there, on standard input."""
+    return run(example_words(file), input=contents(os.path.join(EXAMPLES, f"{os.path.splitext(file)[0]}.stdin")))
+
+
 def example(name):
     """What an example has to come to, by the files beside it."""
     path = os.path.join(EXAMPLES, name)
@@ -61,9 +66,29 @@ def example(name):
 
 def run(words, **how):
     """Runs the program at the root of the repository. A run that doesn't end in five minutes fails the test."""
-    ran = subprocess.run([PROGRAM, *words], cwd=ROOT, timeout=300, check=False,
-                         **{"stdin": subprocess.DEVNULL, "stdout": subprocess.PIPE, "stderr": subprocess.PIPE, **how})
+    if "input" not in how:
+        how = {"stdin": subprocess.DEVNULL, **how}
+    how = {"cwd": ROOT, "timeout": 300, "stdout": subprocess.PIPE, "stderr": subprocess.PIPE, **how}
+    try:
+        ran = subprocess.run([PROGRAM, *words], check=False, **how)
+    except subprocess.TimeoutExpired as late:
+        return Outcome(late.stdout or b"", b"(no end after %d seconds)" % how["timeout"], -1)
     return Outcome(ran.stdout or b"", ran.stderr or b"", ran.returncode)
+
+
+class Folder:
+    """Files in a folder of their own."""
+
+    def __init__(self, folder):
+        self.folder = folder
+
+    def path(self, name, content=None):
+        """The path of a file, which is written where its content is given."""
+        path = os.path.join(self.folder, name)
+        if content is not None:
+            with open(path, "wb") as file:
+                file.write(content if isinstance(content, bytes) else content.encode())
+        return path
 
 
 class Tally:

@@ -1,12 +1,13 @@
 //! Files that are read whole.
 
+use crate::streams::Source;
 use ca_claims::{Claims, File};
 use ca_plane::{Dev, Memory};
 use ca_tool::{InputFault, read_all};
 use std::alloc::Global;
 use std::fs;
 use std::io::ErrorKind;
-use std::rt::Files;
+use std::rt::{Files, Stdin};
 
 /// A file that a claim text names, and that could be read.
 #[derive(Drop)]
@@ -15,45 +16,69 @@ pub struct Loaded {
     bytes: Vec<u8>,
 }
 
-/// The file of a path. One that can't be opened can't be read.
-pub fn open_file<R: Files>(rt: &R, path: &str) -> Result<Dev<R::File>, InputFault> {
+/// The file of a path, or standard input where the path is `-`. A file that can't be opened can't be read.
+pub fn open_source<R: Files>(
+    rt: &R,
+    path: &str,
+    input: Stdin,
+) -> Result<Dev<Source<R::File>>, InputFault> {
+    if path == "-" {
+        return Ok(Dev::new(Source::Input(input)));
+    }
+    let file = open(rt, path)?;
+    Ok(Dev::new(Source::File(file)))
+}
+
+/// All bytes of a file, or of standard input where the path is `-`.
+pub fn read_source<R: Files + AllocGlobal>(
+    rt: &R,
+    path: &str,
+    input: Stdin,
+) -> Result<Vec<u8>, InputFault> {
+    let mut source = open_source(rt, path, input)?;
+    read_all(rt.alloc(), &mut source)
+}
+
+/// All bytes of a file.
+pub fn read_file<R: Files + AllocGlobal>(rt: &R, path: &str) -> Result<Vec<u8>, InputFault> {
+    let mut file = Dev::new(open(rt, path)?);
+    read_all(rt.alloc(), &mut file)
+}
+
+fn open<R: Files>(rt: &R, path: &str) -> Result<R::File, InputFault> {
     match fs::open(rt, path) {
-        Ok(file) => Ok(Dev::new(file)),
+        Ok(file) => Ok(file),
         Err(error) if error.kind() == ErrorKind::OutOfMemory => Err(InputFault::Memory),
         Err(_) => Err(InputFault::Read),
     }
 }
 
-/// All bytes of a file.
-pub fn read_file<R: Files + AllocGlobal>(rt: &R, path: &str) -> Result<Vec<u8>, InputFault> {
-    let mut file = open_file(rt, path)?;
-    read_all(rt.alloc(), &mut file)
+/// The files that a claim text needs and that can be read, in the order of its paths. No other file is opened.
+pub fn load_needed<R: Files + AllocGlobal>(rt: &R, claims: &Claims) -> Result<Vec<Loaded>, Memory> {
+    let needed = claims.needed(rt.alloc())?;
+    let mut all = Vec::new(rt.alloc());
+    for index in 0..claims.path_count() {
+        if needed.get(index) == Some(&true) {
+            load(rt, claims.path(index), &mut all)?;
+        }
+    }
+    Ok(all)
 }
 
-/// The file of a path, or none where the path is no text, or the file can't be read or is too long.
-fn load<R: Files + AllocGlobal>(rt: &R, path: &[u8]) -> Result<Option<Loaded>, Memory> {
+// Adds the file of a path, if the path is UTF-8, and the file can be read and isn't too long.
+fn load<R: Files + AllocGlobal>(rt: &R, path: &[u8], all: &mut Vec<Loaded>) -> Result<(), Memory> {
     let Ok(text) = str::from_utf8(path) else {
-        return Ok(None);
+        return Ok(());
     };
     match read_file(rt, text) {
         Ok(bytes) => {
             let path = Vec::from_slice(rt.alloc(), path)?;
-            Ok(Some(Loaded { path, bytes }))
+            all.push(Loaded { path, bytes })?;
+            Ok(())
         }
         Err(InputFault::Memory) => Err(Memory),
-        Err(InputFault::Read | InputFault::TooLong) => Ok(None),
+        Err(InputFault::Read | InputFault::TooLong) => Ok(()),
     }
-}
-
-/// The files of a claim text's paths that can be read, in the order of the paths.
-pub fn load_all<R: Files + AllocGlobal>(rt: &R, claims: &Claims) -> Result<Vec<Loaded>, Memory> {
-    let mut all = Vec::new(rt.alloc());
-    for index in 0..claims.path_count() {
-        if let Some(loaded) = load(rt, claims.path(index))? {
-            all.push(loaded)?;
-        }
-    }
-    Ok(all)
 }
 
 /// The files as `verify` takes them.

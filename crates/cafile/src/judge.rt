@@ -1,40 +1,91 @@
 //! The command `verify`.
 
-use crate::files::{load_all, read_file, views};
-use ca_claims::read_claims;
-use ca_plane::Dev;
-use ca_tool::{Fault, InputFault, complain, verify_run};
-use std::io::Write;
-use std::rt::Files;
+use crate::FAULT;
+use crate::files::{load_needed, read_source, views};
+use crate::streams::Streams;
+use ca_claims::{Claims, read_claims};
+use ca_plane::{Dev, Memory};
+use ca_tool::{Fault, InputFault, Telling, ToolFault, complain, complain_of, verify_told};
+use std::alloc::Global;
+use std::rt::{Files, Stdin, Stdout};
 
-/// Reads the claim text of a path and the files that it names, judges its claims, and answers the exit status.
-pub fn verify_file<R: Files + AllocGlobal, W: Write, E: Write>(
+/// Judges the claim texts of these paths, one after another, and answers the greatest of their exit statuses.
+///
+/// A text that can't be read or has a fault is told on standard error, and the others are judged still. Nothing more is judged after a failed write.
+pub fn verify_files<R: Files + AllocGlobal>(
     rt: &R,
-    path: &str,
-    output: &mut Dev<W>,
-    errors: &mut Dev<E>,
+    paths: &[String],
+    explained: bool,
+    streams: &mut Streams,
 ) -> u8 {
-    match verified(rt, path, output) {
-        Ok(status) => status,
-        Err(fault) => {
-            let _ = complain(&fault, path.as_bytes(), errors);
-            crate::FAULT
+    let are_named = paths.len() > 1;
+    let mut greatest = 0;
+    'paths: for path in paths {
+        let path = path.as_str();
+        match verify_text(rt, path, are_named, explained, streams) {
+            Ok(status) => greatest = greatest.max(status),
+            Err(Fault::Tool(ToolFault::Write)) => {
+                let _ = complain(&Fault::Tool(ToolFault::Write), b"", &mut streams.errors);
+                return FAULT;
+            }
+            Err(fault) => {
+                tell(&fault, path, are_named, streams);
+                greatest = FAULT;
+            }
         }
     }
+    greatest
 }
 
-fn verified<R: Files + AllocGlobal, W: Write>(
+fn tell(fault: &Fault, path: &str, is_named: bool, streams: &mut Streams) {
+    let _ = if is_named {
+        complain_of(fault, path.as_bytes(), &mut streams.errors)
+    } else {
+        complain(fault, path.as_bytes(), &mut streams.errors)
+    };
+}
+
+// Judges one claim text. Where it is named, its path stands before each line.
+fn verify_text<R: Files + AllocGlobal>(
     rt: &R,
     path: &str,
-    output: &mut Dev<W>,
+    is_named: bool,
+    explained: bool,
+    streams: &mut Streams,
 ) -> Result<u8, Fault> {
-    let text = read_file(rt, path).map_err(Fault::Input)?;
+    let text = read_source(rt, path, streams.input).map_err(Fault::Input)?;
     let claims = read_claims(rt.alloc(), &text).map_err(Fault::Claims)?;
-    let Ok(loaded) = load_all(rt, &claims) else {
+    let Ok(before) = before_lines(rt.alloc(), path, is_named) else {
+        return Err(Fault::Input(InputFault::Memory));
+    };
+    let telling = Telling {
+        before: &before,
+        explained,
+    };
+    judge(rt, &claims, &telling, &mut streams.output)
+}
+
+fn before_lines(alloc: Global, path: &str, is_named: bool) -> Result<Vec<u8>, Memory> {
+    let mut before = Vec::new(alloc);
+    if is_named {
+        before.extend_from_slice(path.as_bytes())?;
+        before.extend_from_slice(b": ")?;
+    }
+    Ok(before)
+}
+
+// Reads the files that the claims need, and judges the claims.
+fn judge<R: Files + AllocGlobal>(
+    rt: &R,
+    claims: &Claims,
+    telling: &Telling<'_>,
+    output: &mut Dev<Stdout>,
+) -> Result<u8, Fault> {
+    let Ok(loaded) = load_needed(rt, claims) else {
         return Err(Fault::Input(InputFault::Memory));
     };
     let Ok(files) = views(rt.alloc(), &loaded) else {
         return Err(Fault::Input(InputFault::Memory));
     };
-    verify_run(rt.alloc(), &claims, &files, output).map_err(Fault::Tool)
+    verify_told(rt.alloc(), claims, &files, telling, output).map_err(Fault::Tool)
 }

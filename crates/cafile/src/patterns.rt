@@ -1,55 +1,59 @@
 //! The commands `show` and `convert`.
 
 use crate::FAULT;
-use crate::files::{open_file, read_file};
+use crate::files::{open_source, read_file};
+use crate::streams::{Source, Streams};
 use ca_claims::Target;
 use ca_plane::Dev;
 use ca_tool::{Fault, InputFault, ToolFault, complain, convert_run, show_run};
-use std::io::Write;
-use std::rt::Files;
+use std::rt::{Files, Stderr};
 
 /// Tells what the pattern file of a path holds, and answers the exit status.
-pub fn show_file<R: Files + AllocGlobal, W: Write, E: Write>(
+pub fn show_file<R: Files + AllocGlobal>(
     rt: &R,
     path: &str,
     rule: Option<&str>,
-    output: &mut Dev<W>,
-    errors: &mut Dev<E>,
+    streams: &mut Streams,
 ) -> u8 {
-    let Some((mut file, rule)) = open(rt, path, rule, errors) else {
+    let Some((mut file, rule)) = open(rt, path, rule, streams) else {
         return FAULT;
     };
-    let run = show_run(rt.alloc(), &mut file, bytes_of(&rule), output);
-    ended(run, path, errors)
+    let run = show_run(rt.alloc(), &mut file, bytes_of(&rule), &mut streams.output);
+    ended(run, path, &mut streams.errors)
 }
 
 /// Writes the pattern file of a path in the target's format, and answers the exit status.
-pub fn convert_file<R: Files + AllocGlobal, W: Write, E: Write>(
+pub fn convert_file<R: Files + AllocGlobal>(
     rt: &R,
     path: &str,
     target: Target,
     rule: Option<&str>,
-    output: &mut Dev<W>,
-    errors: &mut Dev<E>,
+    streams: &mut Streams,
 ) -> u8 {
-    let Some((mut file, rule)) = open(rt, path, rule, errors) else {
+    let Some((mut file, rule)) = open(rt, path, rule, streams) else {
         return FAULT;
     };
-    let run = convert_run(rt.alloc(), &mut file, target, bytes_of(&rule), output);
-    ended(run, path, errors)
+    let run = convert_run(
+        rt.alloc(),
+        &mut file,
+        target,
+        bytes_of(&rule),
+        &mut streams.output,
+    );
+    ended(run, path, &mut streams.errors)
 }
 
 // Opens the pattern file and reads the rule file, if one is named. Where one of them fails, it tells which, and gives nothing.
-fn open<R: Files + AllocGlobal, E: Write>(
+fn open<R: Files + AllocGlobal>(
     rt: &R,
     path: &str,
     rule: Option<&str>,
-    errors: &mut Dev<E>,
-) -> Option<(Dev<R::File>, Option<Vec<u8>>)> {
-    let file = match open_file(rt, path) {
+    streams: &mut Streams,
+) -> Option<(Dev<Source<R::File>>, Option<Vec<u8>>)> {
+    let file = match open_source(rt, path, streams.input) {
         Ok(file) => file,
         Err(fault) => {
-            tell(fault, path, errors);
+            tell(fault, path, &mut streams.errors);
             return None;
         }
     };
@@ -59,13 +63,13 @@ fn open<R: Files + AllocGlobal, E: Write>(
     match read_file(rt, rule_path) {
         Ok(bytes) => Some((file, Some(bytes))),
         Err(fault) => {
-            tell(fault, rule_path, errors);
+            tell(fault, rule_path, &mut streams.errors);
             None
         }
     }
 }
 
-fn tell<E: Write>(fault: InputFault, path: &str, errors: &mut Dev<E>) {
+fn tell(fault: InputFault, path: &str, errors: &mut Dev<Stderr>) {
     let _ = complain(&Fault::Input(fault), path.as_bytes(), errors);
 }
 
@@ -77,7 +81,7 @@ fn bytes_of(file: &Option<Vec<u8>>) -> Option<&[u8]> {
 }
 
 // The exit status of a run, whose fault is told.
-fn ended<E: Write>(run: Result<u8, ToolFault>, path: &str, errors: &mut Dev<E>) -> u8 {
+fn ended(run: Result<u8, ToolFault>, path: &str, errors: &mut Dev<Stderr>) -> u8 {
     match run {
         Ok(status) => status,
         Err(fault) => {

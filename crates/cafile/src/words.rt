@@ -1,22 +1,12 @@
 //! The words that the program is started with.
 
+use crate::texts;
 use ca_claims::Target;
 use clap::error::ErrorKind;
-use clap::{Arg, ArgMatches, Command, Error};
+use clap::{Arg, ArgAction, ArgMatches, Command, Error};
 use std::alloc::{AllocError, Global};
 use std::rt::Env;
 use std::{env, io};
-
-const EXAMPLES: &str = "Examples:
-  cafile show examples/glider.rle
-  cafile convert examples/glider.rle --to mc
-  cafile verify examples/block.claims";
-
-const SHOW_EXAMPLE: &str = "Example: cafile show examples/glider.rle";
-
-const CONVERT_EXAMPLE: &str = "Example: cafile convert examples/glider.rle --to mc";
-
-const VERIFY_EXAMPLE: &str = "Example: cafile verify examples/block.claims";
 
 /// What the words ask for.
 #[derive(Drop)]
@@ -32,9 +22,10 @@ pub enum Request {
         target: Target,
         rule: Option<String>,
     },
-    /// A verdict for each claim of the text at this path.
+    /// A verdict for each claim of the texts at these paths, and what more there is to tell of it where that is asked for.
     Verify {
-        path: String,
+        paths: Vec<String>,
+        explained: bool,
     },
     /// This text, the help or the version.
     Help {
@@ -53,7 +44,7 @@ pub enum WordsFault {
     Memory,
 }
 
-/// What the words behind the program's name ask for.
+/// What the words after the program's name ask for.
 pub fn read_words<R: Env + AllocGlobal>(rt: &R) -> Result<Request, WordsFault> {
     let words = given(rt)?;
     let Ok(command) = command(rt.alloc()) else {
@@ -83,7 +74,7 @@ fn command<'a>(alloc: Global) -> Result<Command<'a>, AllocError> {
         .about(
             "Reads and writes Golly's pattern files, and gives proved verdicts on claims about them",
         )
-        .after_help(EXAMPLES)
+        .after_help(texts::EXAMPLES)
         .subcommand_required(true)
         .subcommand(show_command(alloc)?)?
         .subcommand(convert_command(alloc)?)?
@@ -95,7 +86,7 @@ fn show_command<'a>(alloc: Global) -> Result<Command<'a>, AllocError> {
         .about(
             "Prints the format, the rule, the generation, the number of live cells and their box",
         )
-        .after_help(SHOW_EXAMPLE)
+        .after_help(texts::SHOW)
         .arg(file_word(alloc))?
         .arg(rule_word(alloc))
 }
@@ -109,7 +100,7 @@ fn convert_command<'a>(alloc: Global) -> Result<Command<'a>, AllocError> {
         .help("The format to write: extended RLE or macrocell");
     Command::new(alloc, "convert")
         .about("Writes the pattern of a file in a format to standard output")
-        .after_help(CONVERT_EXAMPLE)
+        .after_help(texts::CONVERT)
         .arg(file_word(alloc))?
         .arg(target)?
         .arg(rule_word(alloc))
@@ -118,23 +109,31 @@ fn convert_command<'a>(alloc: Global) -> Result<Command<'a>, AllocError> {
 fn verify_command<'a>(alloc: Global) -> Result<Command<'a>, AllocError> {
     let claims = Arg::new(alloc, "CLAIMS")
         .required(true)
-        .help("The path of the claim text");
+        .num_args(1..)
+        .action(ArgAction::Append)
+        .help("The paths of claim texts; - is standard input");
+    let explain = Arg::new(alloc, "explain")
+        .long("explain")
+        .action(ArgAction::SetTrue)
+        .help("Tell also which cell, pattern, file or line a no or a refusal is about");
     Command::new(alloc, "verify")
         .about("Prints a verdict for each claim of a text: yes, no or refused")
-        .after_help(VERIFY_EXAMPLE)
-        .arg(claims)
+        .after_help(texts::VERIFY)
+        .arg(claims)?
+        .arg(explain)
 }
 
 fn file_word<'a>(alloc: Global) -> Arg<'a> {
-    Arg::new(alloc, "FILE")
-        .required(true)
-        .help("The path of the pattern file")
+    Arg::new(alloc, "FILE").required(true).help(
+        "The path of the pattern file, RLE or macrocell; - is standard input",
+    )
 }
 
 fn rule_word<'a>(alloc: Global) -> Arg<'a> {
-    Arg::new(alloc, "rule").long("rule").value_name("FILE").help(
-        "The path of a rule file, whose table the pattern's rule may name",
-    )
+    Arg::new(alloc, "rule")
+        .long("rule")
+        .value_name("RULEFILE")
+        .help("The path of the rule file with the table that the pattern's rule names")
 }
 
 // The command and its words are required, so that clap finds them wherever it finds no fault.
@@ -151,17 +150,35 @@ fn asked(alloc: Global, matches: &ArgMatches<'_>) -> Result<Request, WordsFault>
         return Ok(Request::Convert { path, target, rule });
     }
     if let Some(words) = matches.subcommand_matches("verify") {
-        let path = word_of(alloc, words, "CLAIMS")?;
-        return Ok(Request::Verify { path });
+        let paths = words_of(alloc, words, "CLAIMS")?;
+        let explained = words.get_flag("explain");
+        return Ok(Request::Verify { paths, explained });
     }
     Err(WordsFault::Usage)
 }
 
 fn word_of(alloc: Global, words: &ArgMatches<'_>, name: &str) -> Result<String, WordsFault> {
-    let Some(text) = words.get_str(name) else {
+    let Some(word) = words.get_str(name) else {
         return Err(WordsFault::Usage);
     };
-    let Ok(text) = String::from_str(alloc, text) else {
+    kept(alloc, word)
+}
+
+fn words_of(alloc: Global, words: &ArgMatches<'_>, name: &str) -> Result<Vec<String>, WordsFault> {
+    let Some(given) = words.get_strs(name) else {
+        return Err(WordsFault::Usage);
+    };
+    let mut all = Vec::new(alloc);
+    'given: for word in given {
+        if all.push(kept(alloc, word)?).is_err() {
+            return Err(WordsFault::Memory);
+        }
+    }
+    Ok(all)
+}
+
+fn kept(alloc: Global, word: &str) -> Result<String, WordsFault> {
+    let Ok(text) = String::from_str(alloc, word) else {
         return Err(WordsFault::Memory);
     };
     Ok(text)

@@ -1,0 +1,49 @@
+#!/usr/bin/env -S python3 -B
+"""What the pages show: README.md the files and outputs that it quotes, and each crate's README.md the lines of a test."""
+import os
+import re
+
+from lib.program import ROOT, Tally, contents, run
+
+# A paragraph, and the block of text that follows it.
+QUOTED = re.compile(r"^([^\n]+)\n\n```(\w*)\n(.*?)^```$", re.MULTILINE | re.DOTALL)
+
+
+def page(*names):
+    return contents(os.path.join(ROOT, *names)).decode()
+
+
+def try_output(tally, said, block):
+    """The first command that the paragraph names prints the block, or begins with it; or the file that it names holds the block."""
+    command = re.search(r"`\./cafile ([^`]*)`", said)
+    if command:
+        tally.tell(f"./cafile {command[1]}", [] if run(command[1].split()).printed.startswith(block.encode()) else [f"doesn't print {block!r}"])
+        return
+    file = re.search(r"`(examples/[^`]*)`", said)[1]
+    tally.tell(f"README.md: {file}", [] if page(file) == block else ["is another text"])
+
+
+def try_caller(tally, crate):
+    """The lines of a crate's page stand side by side in the file that the page names after them."""
+    text = page("crates", crate, "README.md")
+    lines = re.search(r"^```rust\n(.*?)^```\n\nThis is from `([^`]*)`", text, re.MULTILINE | re.DOTALL)
+    if not lines:
+        tally.tell(f"{crate}/README.md", ["has no caller"])
+        return
+    source = re.sub(r"^    ", "", page("crates", crate, lines[2]), flags=re.MULTILINE)
+    tally.tell(f"{crate}/README.md", [] if lines[1] in source else [f"isn't in {lines[2]}"])
+
+
+def main():
+    tally = Tally()
+    for said, kind, block in QUOTED.findall(page("README.md")):
+        if not kind:
+            try_output(tally, said, block)
+    for crate in sorted(os.listdir(os.path.join(ROOT, "crates"))):
+        if os.path.exists(os.path.join(ROOT, "crates", crate, "README.md")):
+            try_caller(tally, crate)
+    tally.finish()
+
+
+if __name__ == "__main__":
+    main()
