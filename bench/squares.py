@@ -23,8 +23,12 @@ def build(folder):
         (shutil.copytree if os.path.isdir(name) else shutil.copy)(name, os.path.join(folder, name))
     crate = os.path.join(folder, "crates", "squares")
     os.makedirs(os.path.join(crate, "src"))
-    shutil.copy("bench/squares/main.rt", os.path.join(crate, "src"))
+    # the files end in .txt here, since the tests take a source for a crate's
+    shutil.copy("bench/squares/main.rt.txt", os.path.join(crate, "src", "main.rt"))
     shutil.copytree("bench/squares/proofs", os.path.join(crate, "proofs"))
+    for place, _, names in os.walk(os.path.join(crate, "proofs")):
+        for name in names:
+            os.rename(os.path.join(place, name), os.path.join(place, name.removesuffix(".txt")))
     with open(os.path.join(folder, "crates.txt"), "a", encoding="ascii") as file:
         file.write("squares: ca_plane ca_quad anyhow\n")
     subprocess.run(["rt", "run"], cwd=crate, check=True, stdout=subprocess.DEVNULL)
