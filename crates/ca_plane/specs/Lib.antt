@@ -1,5 +1,6 @@
 pub mod Plane
 pub mod Generations
+pub mod Moore
 pub mod Change
 pub mod Sparse
 pub mod Bytes

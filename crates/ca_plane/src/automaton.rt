@@ -1,7 +1,8 @@
 //! What every rule of a cellular automaton answers.
 
-ghost use Rattle.std.specs.Prelude.{◌≡◌, ℕ, ◌<◌, ◌≤◌, List, length, replicate};
+ghost use Rattle.std.specs.Prelude.{◌≡◌, ℕ, ◌<◌, ◌≤◌, List, length, replicate, IfSome};
 ghost use Rattle.std.specs.List.{All};
+ghost use Rattle.ca_plane.specs.Moore.{IsMoore};
 
 use crate::point::Nine;
 
@@ -24,6 +25,15 @@ pub trait Automaton {
     /// The state that a cell has one generation on, from the states of the nine cells round it.
     fn next(&self, nine: &Nine) -> u8
         ensures { result ≡ next_of self.now nine.now };
+
+    /// The masks of a rule of two states that goes by the number of live cells among the eight round a cell: a dead cell
+    /// with n of them is born where bit n of the first is 1, a live one survives where bit n of the second is 1. What
+    /// makes many cells at once asks for them. A rule that has none, or does not tell them, answers `None`.
+    fn masks(&self) -> Option<(u16, u16)>
+        ensures { IfSome result (λ masks. IsMoore (state_count self.now) (next_of self.now) masks.0 masks.1) }
+    {
+        None
+    }
 
     // states below the count lead to states below it
     ghost closed: { (r : Self) (nine : List ℕ) → sound r → length nine ≡ 9 → All (λ s. s < state_count r) nine → next_of r nine < state_count r };

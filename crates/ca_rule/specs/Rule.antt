@@ -4,6 +4,7 @@ use Rattle.std.specs.Prelude.{◌≡◌, ℕ, List, false, Option, Some, None, f
 use Rattle.std.specs.Str.{bytes_eq}
 use Rattle.ca_rule.specs.Counts.{is_count}
 use Rattle.ca_rule.specs.Next as bs
+use Rattle.ca_rule.specs.Masks as bs_masks
 use Rattle.ca_rule.specs.Spelling as bs_text
 use Rattle.ca_rule.specs.TableNext.{TableRule, IsSound, table_next}
 use Rattle.ca_rule.specs.declared.bs_rule.BsRule.{BsRule}
@@ -31,6 +32,11 @@ states_of (Tab table) = table.states
 abbrev pub next_of : RuleValue → List ℕ → ℕ
 next_of (Bs rule) nine = bs.next_of rule.hood rule.birth rule.survival nine
 next_of (Tab table) nine = table_next table nine
+
+-- its masks: those of a B/S rule that counts all eight neighbours
+abbrev pub masks_of : RuleValue → Option (ℕ × ℕ)
+masks_of (Bs rule) = bs_masks.masks_of rule.hood rule.birth rule.survival
+masks_of (Tab table) = None
 
 -- states lead to states, and the empty plane stays empty: a B/S rule gives no birth at a count of 0
 abbrev pub IsSoundRule : RuleValue → Type 0

@@ -1,7 +1,8 @@
 //! Rules in B/S notation.
 
-ghost use Rattle.std.specs.Prelude.{◌≡◌, ◌↔◌, false, IsTrue, IfOk, IfErr};
+ghost use Rattle.std.specs.Prelude.{◌≡◌, ◌↔◌, false, IsTrue, IfOk, IfErr, IfSome};
 ghost use Rattle.ca_plane.specs.Bytes.{IsWord};
+ghost use Rattle.ca_plane.specs.Moore.{IsMoore};
 ghost use Rattle.ca_rule.specs.Counts.{is_count, FitsHood};
 ghost use Rattle.ca_rule.specs.Next.{neighbour_count};
 ghost use Rattle.std.proofs.Common.{arith, rules};
@@ -84,6 +85,7 @@ impl BsRule {
 }
 
 impl Automaton for BsRule {
+    ghost use Rattle.ca_rule.specs.Masks.{masks_of};
     ghost use Rattle.ca_rule.specs.Next.{next_of};
 
     ghost state_count = { λ _. 2 };
@@ -104,6 +106,17 @@ impl Automaton for BsRule {
             _ => false,
         };
         u8::from(lives)
+    }
+
+    /// The masks of its birth and survival counts, where it counts all eight neighbours; else `None`.
+    fn masks(&self) -> Option<(u16, u16)>
+        ensures moore { IfSome result (λ masks. IsMoore 2 (next_of self.now.hood self.now.birth self.now.survival) masks.0 masks.1) }
+        ensures masks { result ≡ masks_of self.now.hood self.now.birth self.now.survival }
+    {
+        match self.hood {
+            Hood::Moore => Some((self.birth.mask(), self.survival.mask())),
+            Hood::VonNeumann | Hood::Hex => None,
+        }
     }
 
     ghost closed = { λ rule nine _ _ _. Prim.grind (arith, nat_tests) };

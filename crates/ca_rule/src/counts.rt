@@ -1,6 +1,6 @@
 //! Sets of counts of live neighbours.
 
-ghost use Rattle.std.specs.Prelude.{◌≡◌, ◌++◌, ℕ, false, length, OnOk};
+ghost use Rattle.std.specs.Prelude.{◌≡◌, ◌+◌, ◌*◌, ◌^◌, ◌<◌, ◌++◌, ℕ, false, length, OnOk, if◌then◌else◌};
 
 use ca_plane::Memory;
 
@@ -12,6 +12,7 @@ pub struct Counts {
 
 impl Counts {
     ghost use Rattle.ca_rule.specs.Counts.{is_count, counts_of};
+    ghost use Rattle.ca_rule.specs.Masks.{mask_of};
     ghost use Rattle.ca_rule.specs.Spelling.{digits_of};
 
     /// No count at all.
@@ -26,6 +27,16 @@ impl Counts {
         ensures { result ≡ is_count self count }
     {
         self.holds.get(count).copied().unwrap_or(false)
+    }
+
+    /// These counts as a mask: bit n is 1 where n is one of them.
+    pub fn mask(self) -> u16
+        ensures { result ≡ mask_of self.holds }
+    {
+        let [a, b, c, d, e, f, g, h, i] = self.holds;
+        let high = with_lowest(f, with_lowest(g, with_lowest(h, u16::from(i))));
+        let middle = with_lowest(d, with_lowest(e, high));
+        with_lowest(a, with_lowest(b, with_lowest(c, middle)))
     }
 
     /// How many numbers may be counts.
@@ -66,4 +77,13 @@ impl Counts {
         }
         Ok(())
     }
+}
+
+// The mask whose lowest bit tells whether this holds, and whose other bits are those of `more`.
+fn with_lowest(held: bool, more: u16) -> u16
+    requires { more < 2 ^ 15 }
+    ensures mask { result ≡ (if held then 1 else 0) + 2 * more }
+    ensures bound { (n : ℕ) → more < n → result < 2 * n }
+{
+    u16::from(held) + 2 * more
 }

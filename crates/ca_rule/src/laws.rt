@@ -1,8 +1,10 @@
 //! What holds of rule texts, of printed rules and of next cells, said of the definitions alone. These functions are
 //! of no use to a program: each has a law for its contract.
 
-ghost use Rattle.std.specs.Prelude.{◌≡◌, ◌↔◌, ℕ, List, [], ◌∷◌, true, false, codes};
+ghost use Rattle.std.specs.Prelude.{◌≡◌, ◌↔◌, ℕ, List, [], ◌∷◌, true, false, codes, Some, None};
+ghost use Rattle.ca_plane.specs.Moore.{moore_next};
 ghost use Rattle.ca_rule.specs.Counts.{is_count, counts_of};
+ghost use Rattle.ca_rule.specs.Masks.{masks_of};
 ghost use Rattle.ca_rule.specs.Next.{next_of};
 ghost use Rattle.ca_rule.specs.Spelling.{Spells, Names, IsFaultOf, printed};
 ghost use Rattle.ca_rule.specs.declared.bs_rule.BsRule.{BsRule};
@@ -63,6 +65,17 @@ pub fn worked_next_cells()
     ensures north_is_among_four { next_of VonNeumann (counts_of (codes "1")) (counts_of []) (0 ∷ 1 ∷ 0 ∷ 0 ∷ 0 ∷ 0 ∷ 0 ∷ 0 ∷ 0 ∷ []) ≡ 1 }
     ensures north_east_is_not_among_six { next_of Hex (counts_of (codes "1")) (counts_of []) (0 ∷ 0 ∷ 1 ∷ 0 ∷ 0 ∷ 0 ∷ 0 ∷ 0 ∷ 0 ∷ []) ≡ 0 }
     ensures north_west_is_among_six { next_of Hex (counts_of (codes "1")) (counts_of []) (1 ∷ 0 ∷ 0 ∷ 0 ∷ 0 ∷ 0 ∷ 0 ∷ 0 ∷ 0 ∷ []) ≡ 1 }
+{}
+
+/// Some masks.
+pub fn worked_masks()
+    ensures life_has_masks { masks_of Moore (counts_of (codes "3")) (counts_of (codes "23")) ≡ Some (8, 12) }
+    ensures no_birth_sets_no_bit { masks_of Moore (counts_of []) (counts_of (codes "8")) ≡ Some (0, 256) }
+    ensures four_neighbours_have_none { masks_of VonNeumann (counts_of (codes "1")) (counts_of []) ≡ None }
+    ensures six_neighbours_have_none { masks_of Hex (counts_of (codes "6")) (counts_of (codes "6")) ≡ None }
+    ensures life_goes_by_its_masks { moore_next 8 12 (0 ∷ 0 ∷ 0 ∷ 1 ∷ 1 ∷ 1 ∷ 0 ∷ 0 ∷ 0 ∷ []) ≡ 1 }
+    ensures dead_cells_are_born_on_three { moore_next 8 12 (0 ∷ 0 ∷ 0 ∷ 0 ∷ 0 ∷ 0 ∷ 1 ∷ 1 ∷ 1 ∷ []) ≡ 1 }
+    ensures dead_cells_are_not_born_on_two { moore_next 8 12 (0 ∷ 0 ∷ 0 ∷ 1 ∷ 0 ∷ 1 ∷ 0 ∷ 0 ∷ 0 ∷ []) ≡ 0 }
 {}
 
 /// The printed form of a rule names that rule.

@@ -1,7 +1,8 @@
 //! Rules of every kind, and the rule that a text names.
 
-ghost use Rattle.std.specs.Prelude.{◌≡◌, ◌↔◌, None, Some, IsTrue, IfOk, IfErr, MatchOption};
+ghost use Rattle.std.specs.Prelude.{◌≡◌, ◌↔◌, None, Some, IsTrue, IfOk, IfErr, MatchOption, IfSome};
 ghost use Rattle.ca_plane.specs.Bytes.{IsWord};
+ghost use Rattle.ca_plane.specs.Moore.{IsMoore};
 ghost use Rattle.ca_rule.specs.Rule.{rule_value, first_named, NamesRule, IsRuleFault, printed_form, IsSameRule};
 
 use crate::bs_rule::BsRule;
@@ -93,7 +94,7 @@ impl Rule<'_> {
 impl Automaton for Rule<'_> {
     ghost use Rattle.std.proofs.Common.{arith, rules};
     ghost use Rattle.std.proofs.lemmas.Bool.Decides.{nat_tests};
-    ghost use Rattle.ca_rule.specs.Rule.{rule_value, states_of, next_of, IsSoundRule};
+    ghost use Rattle.ca_rule.specs.Rule.{rule_value, states_of, next_of, masks_of, IsSoundRule};
     ghost use Rattle.ca_rule.specs.declared.rule.Rule.TheVariants.{Bs, Tab};
 
     ghost state_count = { λ rule. states_of (rule_value rule) };
@@ -113,6 +114,17 @@ impl Automaton for Rule<'_> {
         match *self {
             Rule::Bs(bs) => bs.next(nine),
             Rule::Tab(table) => table.next(nine),
+        }
+    }
+
+    /// The masks of a B/S rule that counts all eight neighbours; else `None`.
+    fn masks(&self) -> Option<(u16, u16)>
+        ensures moore { IfSome result (λ masks. IsMoore (states_of (rule_value self.now)) (next_of (rule_value self.now)) masks.0 masks.1) }
+        ensures masks { result ≡ masks_of (rule_value self.now) }
+    {
+        match *self {
+            Rule::Bs(bs) => bs.masks(),
+            Rule::Tab(table) => table.masks(),
         }
     }
 

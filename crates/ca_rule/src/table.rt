@@ -152,6 +152,7 @@ impl Table {
 }
 
 impl Automaton for Table {
+    ghost use Rattle.std.specs.Prelude.{◌≡◌, None};
     ghost use Rattle.ca_rule.specs.TableNext.{IsSound, table_next};
 
     ghost state_count = { λ table. table.states };
@@ -167,6 +168,13 @@ impl Automaton for Table {
     fn next(&self, nine: &Nine) -> u8 {
         let orders = Orders::of(self.neighbourhood, self.symmetry);
         self.sifted.next(orders, nine)
+    }
+
+    /// None: whether a table goes by the number of live neighbours isn't looked for.
+    fn masks(&self) -> Option<(u16, u16)>
+        ensures { result ≡ None }
+    {
+        None
     }
 
     ghost closed = { λ table nine sound. sound.closed nine };
