@@ -1,6 +1,6 @@
 #!/usr/bin/env python3
 """Times squares apart from the program: planes that become trees and trees that become planes, how many cells are live and their box, joins of squares
-that are known, and how many bytes a square takes.
+that are known, words that become squares and are read again, and how many bytes a square takes.
 
 Run it at the root of the repository: python3 bench/squares.py
 It proves and builds bench/squares in a temporary copy of the repository, as one more crate, and prints a line for each figure: the best of five runs.
@@ -15,6 +15,8 @@ SOUPS = ((1000, 1000), (4000, 5818))
 TOWERS = (190000, 262144, 400000)
 # sixty-one times 16384 leaves, and ten joins over each
 JOINS = 61 * 16384 * 10
+# 16384 words, 610 times
+WORDS = 610 * 16384
 
 
 def build(folder):
@@ -67,6 +69,9 @@ def main():
         known = best(program)
         print(f"full square of level 61: population {known['population']} µs, bounds {known['bounds']} µs")
         print(f"joins of known squares: {JOINS / known['joins']:.1f} million a second")
+        if known["given"] != "true":
+            sys.exit("the word of a square is another")
+        print(f"words of known squares: {WORDS / known['make']:.0f} million a second become squares, {WORDS / (known['make-and-read'] - known['make']):.0f} are read")
         for count in TOWERS:
             figures, peak = run(program, count)
             nodes = int(figures["nodes"])

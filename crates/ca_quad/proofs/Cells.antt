@@ -156,7 +156,7 @@ same_four a b c d e f g h same =
     cc
 
 -- no square is of level 0
-no_level : (nodes : List Node) (places : ℕ) (s : Square) → level s ≡ 0 → IsWhole nodes places s → ⊥
+pub no_level : (nodes : List Node) (places : ℕ) (s : Square) → level s ≡ 0 → IsWhole nodes places s → ⊥
 no_level nodes places (Four nw ne sw se) e w = omega arith
 no_level nodes places (Parts k nw ne sw se) e w = omega arith
 

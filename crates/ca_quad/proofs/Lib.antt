@@ -27,3 +27,6 @@ pub mod Shown
 pub mod Middle
 pub mod Trims
 pub mod Copied
+pub mod Bits
+pub mod Words
+pub mod MoreStates

@@ -1,5 +1,5 @@
 -- What a number tells of its square: how many cells are live, and the greatest state.
-use Rattle.std.proofs.Common.{◌≡◌, ◌≢◌, ℕ, ◌+◌, ◌*◌, ◌<◌, ◌≤◌, ◌^◌, inl, inr, false, max, ◌==◌, List, length, refl, sym, ap, subst, ◌∙◌, arith}
+use Rattle.std.proofs.Common.{◌≡◌, ◌≢◌, ℕ, ◌+◌, ◌-◌, ◌*◌, ◌<◌, ◌≤◌, ◌^◌, inl, inr, false, max, ◌==◌, List, length, refl, sym, ap, subst, ◌∙◌, arith}
 use Rattle.std.specs.Prelude.{count_ones}
 use Rattle.std.specs.Int.Count.{ones-ones}
 use Rattle.std.proofs.lemmas.Bool.{cases_eq}
@@ -34,7 +34,7 @@ digits65536 n low = record { first = omega arith; second = omega arith; third = 
 -- what holds of the squares of four cells, and of each square whose parts it holds of, holds of every square that has a number
 module _ (nodes : List Node) (sound : IsSound nodes) (Is : ℕ → ℕ → Type 0) (of_cells : (id n : ℕ) → n < 16 → square_of nodes id ≡ shown nodes (Cells2 n) → Is id n)
     (of_parts : (id m nw ne sw se : ℕ) → Parts m nw ne sw se ≡ square_of nodes id → HasParts nodes (length nodes) m nw ne sw se
-    → (k n a b c d : ℕ) → AreDigits k n a b c d → n < 2 ^ 64 → Is nw a → Is ne b → Is sw c → Is se d → Is id n) where
+    → (k n a b c d : ℕ) → k ≡ 4 ^ (m - 1) → AreDigits k n a b c d → n < 2 ^ 64 → Is nw a → Is ne b → Is sw c → Is se d → Is id n) where
   of_cells2 : (n : ℕ) → n < 16 → Is (cells2 n) n
   of_cells2 n low = of_cells (cells2 n) n low (ap (shown nodes) (named_cells2 n low))
 
@@ -45,7 +45,7 @@ module _ (nodes : List Node) (sound : IsSound nodes) (Is : ℕ → ℕ → Type 
   of_sixteen id n known low e =
       of_parts id 2 (cells2 (digit 16 n 0)) (cells2 (digit 16 n 1)) (cells2 (digit 16 n 2)) (cells2 (digit 16 n 3)) (sym e)
       (whole_parts id 2 (cells2 (digit 16 n 0)) (cells2 (digit 16 n 1)) (cells2 (digit 16 n 2)) (cells2 (digit 16 n 3)) known e)
-      4 n (digit 16 n 0) (digit 16 n 1) (digit 16 n 2) (digit 16 n 3) (digits16 n low) (omega arith)
+      4 n (digit 16 n 0) (digit 16 n 1) (digit 16 n 2) (digit 16 n 3) refl (digits16 n low) (omega arith)
       (of_cells2 (digit 16 n 0) (omega arith)) (of_cells2 (digit 16 n 1) (omega arith)) (of_cells2 (digit 16 n 2) (omega arith)) (of_cells2 (digit 16 n 3) (omega arith))
 
   of_cells4 : (n : ℕ) → n < 65536 → Is (cells4 n) n
@@ -55,7 +55,7 @@ module _ (nodes : List Node) (sound : IsSound nodes) (Is : ℕ → ℕ → Type 
   of_sixty_four id n known low e =
       of_parts id 3 (cells4 (digit 65536 n 0)) (cells4 (digit 65536 n 1)) (cells4 (digit 65536 n 2)) (cells4 (digit 65536 n 3)) (sym e)
       (whole_parts id 3 (cells4 (digit 65536 n 0)) (cells4 (digit 65536 n 1)) (cells4 (digit 65536 n 2)) (cells4 (digit 65536 n 3)) known e)
-      16 n (digit 65536 n 0) (digit 65536 n 1) (digit 65536 n 2) (digit 65536 n 3) (digits65536 n low) low
+      16 n (digit 65536 n 0) (digit 65536 n 1) (digit 65536 n 2) (digit 65536 n 3) refl (digits65536 n low) low
       (of_cells4 (digit 65536 n 0) (omega arith)) (of_cells4 (digit 65536 n 1) (omega arith)) (of_cells4 (digit 65536 n 2) (omega arith)) (of_cells4 (digit 65536 n 3) (omega arith))
 
   pub of_number : (id n : ℕ) → IsIn nodes id → IsNumberOf nodes id n → Is id n
@@ -98,7 +98,7 @@ count_cells nodes id n low e k h =
 pub count_of_number : (nodes : List Node) → IsSound nodes → (id n : ℕ) → IsIn nodes id → IsNumberOf nodes id n → IsCountOf nodes id (count_ones n)
 count_of_number nodes sound =
     of_number nodes sound (λ id n. IsCountOf nodes id (count_ones n)) (count_cells nodes)
-    (λ id m nw ne sw se e whole k n a b c d digits low p q r s.
+    (λ id m nw ne sw se e whole k n a b c d size digits low p q r s.
     count_in_parts nodes id m nw ne sw se e whole (count_ones a) (count_ones b) (count_ones c) (count_ones d) (count_ones n) p q r s
     (omega (arith, ones_four k n a b c d digits, ones-le 64 n low)))
 
@@ -154,5 +154,5 @@ greatest_cells nodes id n low e =
 pub greatest_of_number : (nodes : List Node) → IsSound nodes → (id n : ℕ) → IsIn nodes id → IsNumberOf nodes id n → IsGreatestOf nodes id (live n)
 greatest_of_number nodes sound =
     of_number nodes sound (λ id n. IsGreatestOf nodes id (live n)) (greatest_cells nodes)
-    (λ id m nw ne sw se e whole k n a b c d digits low p q r s.
+    (λ id m nw ne sw se e whole k n a b c d size digits low p q r s.
     greatest_parts nodes id m nw ne sw se e whole (live a) (live b) (live c) (live d) (live n) p q r s (live_four k n a b c d digits))

@@ -33,7 +33,7 @@ module _ (nodes : List Node) (id k : ℕ) (h : IsOf nodes id (suc k)) (m nw ne s
   pub quarter_nw : ShowsFrom nodes nw k (cell_of nodes (suc k) id) 0 0
   quarter_nw = record {
     is_square = subst (IsOf nodes nw) one_lower w.is_nw;
-    has_cells = λ x y i j. rw (zero-add, zero-add) (sym (parts_cells x y ∙ at_nw (2 ^ k) (cell_of nodes k nw) (cell_of nodes k ne) (cell_of nodes k sw) (cell_of nodes k se) x y i j));
+    has_cells = λ x y i j. rw (zero-add x, zero-add y) (sym (parts_cells x y ∙ at_nw (2 ^ k) (cell_of nodes k nw) (cell_of nodes k ne) (cell_of nodes k sw) (cell_of nodes k se) x y i j));
   }
 
   pub quarter_ne : ShowsFrom nodes ne k (cell_of nodes (suc k) id) (2 ^ k) 0

@@ -1,15 +1,15 @@
 -- Squares that show parts of larger cells.
-use Rattle.std.proofs.Common.{◌≡◌, ℕ, zero, suc, slice_index, add-zero, zero-add, ◌+◌, ◌-◌, ◌<◌, ◌≤◌, ◌^◌, inl, inr, Result, Ok, Err, IfOk, List, length, sym, ap, ◌∙◌, arith}
+use Rattle.std.proofs.Common.{◌≡◌, ℕ, suc, slice_index, ◌+◌, ◌-◌, ◌<◌, ◌≤◌, ◌^◌, inl, inr, Result, Ok, Err, IfOk, List, length, ap, ◌∙◌, arith}
 use Rattle.std.proofs.Math.Nat.{two-pow-succ}
 use Rattle.std.proofs.lemmas.List.{get_or_past}
 use Rattle.std.proofs.lemmas.Nat.Bits.{bit_at_above, bit_at-zero}
 use Rattle.ca_quad.specs.declared.node.Node.{Node}
-use Rattle.ca_quad.specs.Squares.{cell_of, dot, together}
+use Rattle.ca_quad.specs.Squares.{cell_of, together}
 use Rattle.ca_quad.specs.Sound.{IsSound, Grows}
 use Rattle.ca_quad.specs.Trees.{Shows, AreFour, row_cells}
 use Rattle.ca_quad.specs.inner.Window.{ShowsFrom}
 use Rattle.ca_quad.proofs.Growth.{below_or_not, grows_on}
-use Rattle.ca_quad.proofs.Cells.{Ends, cell_ends, cells_stay, of_stays}
+use Rattle.ca_quad.proofs.Cells.{Ends, cells_stay, of_stays}
 use Rattle.ca_quad.proofs.Walks.{in_nw, in_ne, in_sw, in_se}
 
 -- a square goes on to show them
@@ -70,40 +70,6 @@ module _ (nodes : List Node) (k : ℕ) (cells : ℕ → ℕ → ℕ) (left top n
       → IfOk r (λ id. ShowsFrom new id (suc k) cells left top)
   window_joined new (Ok id) h = record { is_square = h.is_square; has_cells = λ x y i j. h.has_cells x y ∙ together_shows x y i j }
   window_joined new (Err e) h = tt
-
--- four dots show four cells
-dots_window : (cells : ℕ → ℕ → ℕ) (left top a b c d : ℕ) → a ≡ cells left top → b ≡ cells (left + 1) top → c ≡ cells left (top + 1) → d ≡ cells (left + 1) (top + 1)
-    → (x y : ℕ) → x < 2 → y < 2 → together 1 (dot a) (dot b) (dot c) (dot d) x y ≡ cells (left + x) (top + y)
-dots_window cells left top a b c d e f g h zero zero i j = simp add-zero e
-dots_window cells left top a b c d e f g h (suc zero) zero i j = rw add-zero f
-dots_window cells left top a b c d e f g h zero (suc zero) i j = rw add-zero g
-dots_window cells left top a b c d e f g h (suc zero) (suc zero) i j = h
-dots_window cells left top a b c d e f g h (suc (suc x)) y i j = absurd (omega arith)
-dots_window cells left top a b c d e f g h zero (suc (suc y)) i j = absurd (omega arith)
-dots_window cells left top a b c d e f g h (suc zero) (suc (suc y)) i j = absurd (omega arith)
-
-pub dots_ok : {E : Type 0} (new : List Node) (r : Result ℕ E) (cells : ℕ → ℕ → ℕ) (left top a b c d : ℕ) → a ≡ cells left top → b ≡ cells (left + 1) top → c ≡ cells left (top + 1) → d ≡ cells (left + 1) (top + 1)
-    → IfOk r (λ id. Shows new id 1 (together 1 (dot a) (dot b) (dot c) (dot d))) → IfOk r (λ id. ShowsFrom new id 1 cells left top)
-dots_ok new (Ok id) cells left top a b c d e f g h s = record {
-  is_square = s.is_square;
-  has_cells = λ x y i j. s.has_cells x y ∙ dots_window cells left top a b c d e f g h x y i j;
-}
-dots_ok new (Err e) cells left top a b c d f g h i s = tt
-
--- a window from the corner on is all, where the cells end
-pub window_all : {E : Type 0} (new : List Node) (r : Result ℕ E) (k : ℕ) (cells : ℕ → ℕ → ℕ) → Ends (2 ^ k) cells → IfOk r (λ id. ShowsFrom new id k cells 0 0) → IfOk r (λ id. Shows new id k cells)
-window_all new (Ok id) k cells ends h = record {
-  is_square = h.is_square;
-  has_cells = λ x y.
-      elim (below_or_not x (2 ^ k)) [
-        | inl p ↦ elim (below_or_not y (2 ^ k)) [
-          | inl q ↦ simp zero-add at (h.has_cells x y p q)
-          | inr q ↦ cell_ends new k id x y (inr q) ∙ sym (ends x y (inr q))
-        ]
-        | inr p ↦ cell_ends new k id x y (inl p) ∙ sym (ends x y (inl p))
-      ];
-}
-window_all new (Err e) k cells ends h = tt
 
 -- eight rows of eight cells end
 pub rows_end : (rows : List ℕ) → length rows ≡ 8 → ((y : ℕ) → slice_index rows y < 256) → Ends 8 (row_cells rows)

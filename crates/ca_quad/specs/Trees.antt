@@ -1,5 +1,5 @@
 -- What calls give: squares with stated cells, and the cells of trees on the unbounded plane.
-use Rattle.std.specs.Prelude.{◌≡◌, ℕ, suc, ◌-◌, ◌^◌, ◌<◌, ◌≤◌, ℤ, pos, ◌+ℤ◌, List, [], ◌∷◌, length, slice_index}
+use Rattle.std.specs.Prelude.{◌≡◌, ℕ, suc, ◌+◌, ◌-◌, ◌*◌, ◌^◌, ◌<◌, ◌≤◌, nat_lt, if◌then◌else◌, ℤ, pos, ◌+ℤ◌, List, [], ◌∷◌, length, slice_index}
 use Rattle.std.specs.Int.{bit_at}
 use Rattle.ca_quad.specs.declared.node.Node.{Node}
 use Rattle.ca_quad.specs.declared.square.Square.{Square}
@@ -41,6 +41,14 @@ pub record Stays (old new : List Node) (id level : ℕ) : Type 0 where
 -- the cells of rows from the top, a bit each, the lowest in the west
 abbrev pub row_cells : List ℕ → ℕ → ℕ → ℕ
 row_cells rows x y = bit_at (slice_index rows y) x
+
+-- the cells of a word: 8 rows of 8 bits, of which the bit 8 * y + x is the cell at (x, y)
+abbrev pub word_cells : ℕ → ℕ → ℕ → ℕ
+word_cells word x y = if nat_lt x 8 then bit_at word (8 * y + x) else 0
+
+-- some cell has a state above 1
+abbrev pub HasMoreStates : (ℕ → ℕ → ℕ) → Type 0
+HasMoreStates cells = (x : ℕ) × (y : ℕ) × (2 ≤ cells x y)
 
 -- these four cells make the square
 pub record AreCorners (nodes : List Node) (id : ℕ) (cells : List ℕ) : Type 0 where

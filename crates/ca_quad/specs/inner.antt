@@ -14,3 +14,4 @@ pub mod Filled
 pub mod Rows
 pub mod Block
 pub mod Copied
+pub mod Bits

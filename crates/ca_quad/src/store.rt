@@ -7,6 +7,7 @@ ghost use Rattle.ca_quad.specs.Sound.{IsSound, IsGood, Grows};
 ghost use Rattle.ca_quad.specs.Trees.{IsIn};
 ghost use Rattle.ca_quad.specs.inner.Whole.{IsWhole};
 
+mod bits;
 mod block;
 mod bounds;
 mod difference;
@@ -24,6 +25,7 @@ mod read;
 mod resize;
 mod rows;
 mod to_plane;
+mod word;
 
 use crate::id::Id;
 use crate::named::Named;

@@ -228,6 +228,30 @@ fn rows_and_leaves(rt: &impl Abort, store: &mut Store) -> Result<(), Fail> {
     assert_rows(rt, store, root, rows)
 }
 
+// The square, which is of level 3, has this word.
+fn assert_word(rt: &impl Abort, store: &Store, id: Id, word: Option<u64>) -> Result<(), Fail> {
+    if level_of(store, id)? != 3 {
+        return Err(Fail::new("the square isn't of level 3"));
+    }
+    assert_eq!(rt; store.word(id), word);
+    Ok(())
+}
+
+#[test]
+fn words_and_leaves_make_one_square(rt: HostRuntime) -> Result<(), Fail> {
+    let mut store = Store::new(rt.alloc());
+    words_and_leaves(&rt, &mut store)
+}
+
+fn words_and_leaves(rt: &impl Abort, store: &mut Store) -> Result<(), Fail> {
+    let word = 0x8000000000070402;
+    let root = store.from_word(word)?;
+    assert_one(rt, glider_and_dot(store)?, root);
+    assert_word(rt, store, root, Some(word))?;
+    let two = one_cell(store, Corner::SouthEast, 2, 3)?;
+    assert_word(rt, store, two, None)
+}
+
 // The square of these four, which is made twice and kept once.
 fn joined_twice(
     rt: &impl Abort,

@@ -3,8 +3,7 @@
 ghost use Rattle.std.specs.Prelude.{◌≡◌, ℕ, suc, ◌+◌, ◌≤◌, ◌^◌, length, IfOk, OnErr};
 ghost use Rattle.ca_quad.specs.Squares.{dot, together, cell_of, IsOf};
 ghost use Rattle.ca_quad.specs.Sound.{Grows};
-ghost use Rattle.ca_quad.specs.Trees.{Shows, AreFour, row_cells};
-ghost use Rattle.ca_quad.specs.inner.Window.{ShowsFrom};
+ghost use Rattle.ca_quad.specs.Trees.{Shows, AreFour};
 
 use super::Store;
 use crate::id::Id;
@@ -72,61 +71,4 @@ impl Store {
         let part = self.empty(level - 1)?;
         self.join(part, part, part, part)
     }
-
-    /// The square of level 3 with these eight rows, from the top. Bit 0 of a row is its western-most cell.
-    ///
-    /// # Errors
-    ///
-    /// Fails where there is no memory for more squares, and may leave more squares in the store than before.
-    pub fn from_leaf8(&mut self, rows: &[u8; 8]) -> Result<Id, Memory>
-        ensures shows { IfOk result (λ id. Shows self.new id 3 (row_cells rows.now)) }
-        ensures grows { Grows self.old self.new }
-        ensures count { length self.new ≤ length self.old + 21 }
-    {
-        let nw = self.four_rows(rows, 0, 0)?;
-        let ne = self.four_rows(rows, 4, 0)?;
-        let sw = self.four_rows(rows, 0, 4)?;
-        let se = self.four_rows(rows, 4, 4)?;
-        self.join(nw, ne, sw, se)
-    }
-
-    // The 4 by 4 square of these rows' cells from a place on.
-    fn four_rows(&mut self, rows: &[u8; 8], x: u8, y: usize) -> Result<Id, Memory>
-        requires x { x ≤ 4 }
-        requires y { y ≤ 4 }
-        ensures shows { IfOk result (λ id. ShowsFrom self.new id 2 (row_cells rows.now) x y) }
-        ensures grows { Grows self.old self.new }
-        ensures count { length self.new ≤ length self.old + 5 }
-    {
-        let nw = self.two_rows(rows, x, y)?;
-        let ne = self.two_rows(rows, x + 2, y)?;
-        let sw = self.two_rows(rows, x, y + 2)?;
-        let se = self.two_rows(rows, x + 2, y + 2)?;
-        self.join(nw, ne, sw, se)
-    }
-
-    // The 2 by 2 square of these rows' cells from a place on.
-    fn two_rows(&mut self, rows: &[u8; 8], x: u8, y: usize) -> Result<Id, Memory>
-        requires x { x ≤ 6 }
-        requires y { y ≤ 6 }
-        ensures shows { IfOk result (λ id. ShowsFrom self.new id 1 (row_cells rows.now) x y) }
-        ensures grows { Grows self.old self.new }
-        ensures count { length self.new ≤ length self.old + 1 }
-    {
-        self.leaf(
-            row_cell(rows, x, y),
-            row_cell(rows, x + 1, y),
-            row_cell(rows, x, y + 1),
-            row_cell(rows, x + 1, y + 1),
-        )
-    }
-}
-
-// A cell of eight rows.
-fn row_cell(rows: &[u8; 8], x: u8, y: usize) -> u8
-    requires x { x ≤ 7 }
-    requires y { y ≤ 7 }
-    ensures { result ≡ row_cells rows.now x y }
-{
-    rows[y] >> x & 1
 }

@@ -1,10 +1,10 @@
 //! Squares of two states whose cells are the binary digits of one number.
 
-ghost use Rattle.std.specs.Prelude.{◌≡◌, IfSome};
+ghost use Rattle.std.specs.Prelude.{◌≡◌, ◌≢◌, ℕ, MatchOption};
 ghost use Rattle.ca_quad.specs.declared.node.Node.TheVariants.{Block};
 ghost use Rattle.ca_quad.specs.Sound.{IsSound};
 ghost use Rattle.ca_quad.specs.Trees.{IsIn};
-ghost use Rattle.ca_quad.specs.inner.Numbered.{IsNumberOf};
+ghost use Rattle.ca_quad.specs.inner.Numbered.{IsNumberOf, IsKeptOtherwise};
 
 use super::Store;
 use crate::id::Id;
@@ -15,7 +15,7 @@ impl Store {
     // The number of a square's cells, where it has two states and at most 8 by 8 cells.
     pub(super) fn number(&self, id: Id) -> Option<u64>
         requires { IsIn self.now id }
-        ensures number { IfSome result (IsNumberOf self.now id) }
+        ensures number { MatchOption result (IsKeptOtherwise self.now id) (IsNumberOf self.now id) }
         ensures sound { IsSound self.now }
     {
         match id.named() {
@@ -28,7 +28,7 @@ impl Store {
 
 // The number of a node that is a block.
 fn block_number(node: Node) -> Option<u64>
-    ensures { IfSome result (λ n. node ≡ Block n) }
+    ensures { MatchOption result ((n : ℕ) → node ≢ Block n) (λ n. node ≡ Block n) }
 {
     match node {
         Node::Leaf(_, _, _, _) => None,
