@@ -29,7 +29,7 @@ pub later_same : (next : List ℕ → ℕ) (p q : ℤ → ℤ → ℕ) (n : ℕ)
 later_same next p q n same x y = later_near next p q n x y (λ u v _. same u v)
 
 -- the nine cells round a place of a plane that is seen from (a, b)
-around-seen : (f : ℤ → ℤ → ℕ) (a b x y : ℤ) → around (λ u v. f (a +ℤ u) (b +ℤ v)) x y ≡ around f (a +ℤ x) (b +ℤ y)
+pub around-seen : (f : ℤ → ℤ → ℕ) (a b x y : ℤ) → around (λ u v. f (a +ℤ u) (b +ℤ v)) x y ≡ around f (a +ℤ x) (b +ℤ y)
 around-seen f a b x y =
     let west : a +ℤ (x -ℤ pos 1) ≡ (a +ℤ x) -ℤ pos 1 = omega (arith, ints) in
     let east : a +ℤ (x +ℤ pos 1) ≡ (a +ℤ x) +ℤ pos 1 = omega (arith, ints) in

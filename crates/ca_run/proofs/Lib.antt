@@ -2,6 +2,9 @@ pub mod Rounds
 pub mod Later
 pub mod Laters
 pub mod Looks
+pub mod Tiles
+pub mod Words
+pub mod Lanes
 pub mod Shown
 pub mod Bases
 pub mod Leap
@@ -15,3 +18,6 @@ pub mod Heads
 pub mod Windows
 pub mod Written
 pub mod Reached
+pub mod BitRows
+pub mod Told
+pub mod TileCells

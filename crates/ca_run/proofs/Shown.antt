@@ -1,5 +1,5 @@
 -- Squares that show a plane: they go on to do so, and so do their parts, joins and centres.
-use Rattle.std.proofs.Common.{◌≡◌, ℕ, suc, ◌+◌, ◌<◌, ◌≤◌, ◌^◌, Option, Some, None, Result, Ok, Err, IfOk, IfSome, List, length, get_or, slice_index, refl, sym, ap, ap₂, subst, ◌∙◌, arith}
+use Rattle.std.proofs.Common.{◌≡◌, ℕ, ◌⊎◌, inl, inr, suc, ◌+◌, ◌<◌, ◌≤◌, ◌^◌, Option, Some, None, Result, Ok, Err, IfOk, IfSome, List, length, get_or, slice_index, refl, sym, ap, ap₂, subst, ◌∙◌, arith}
 use Rattle.std.specs.Prelude.{ℤ, pos, ◌+ℤ◌}
 use Rattle.std.proofs.lemmas.Int.{ints}
 use Rattle.std.proofs.lemmas.List.{get_or_default}
@@ -16,6 +16,7 @@ use Rattle.ca_run.specs.Centre.{later, centre, IsCentre}
 use Rattle.ca_run.specs.Leaping.{Leaping, GoesOn}
 use Rattle.ca_run.specs.inner.Shown.{Looks, ShowsAt, FourShow, ThreeShow, TwoShow, AreThree, side}
 use Rattle.ca_run.specs.inner.Memo.{remembered, AreCentres, IsLeaper}
+use Rattle.ca_run.specs.inner.Recent.{Keeps, KeepsCentres}
 use Rattle.ca_run.proofs.Laters.{later_again}
 use Rattle.ca_run.proofs.Looks.{looks_from, looks_together, looks_nw, looks_ne, looks_sw, looks_se, looks_centre}
 
@@ -66,9 +67,21 @@ module _ (old new : List Node) (sound : IsSound old) (grows : Grows old new) whe
       let there = h id j half e in
       (there.0, centre_stays next id there.0 j half there.1)
 
+  pub kept_centres_stay : (next : List ℕ → ℕ) (slots : List (Option (ℕ × ℕ × ℕ))) → KeepsCentres next old slots → KeepsCentres next new slots
+  kept_centres_stay next slots h id j half e =
+      let there = h id j half e in
+      (there.0, centre_stays next id there.0 j half there.1)
+
   -- a leaper stays one as its store grows
-  pub leaper_stays : (next : List ℕ → ℕ) (S : Type 0) (results : List ((ℕ × ℕ) × ℕ)) → IsLeaper next S old results → IsLeaper next S new results
-  leaper_stays next S results h = record { rule = h.rule; squares = grows.sound; centres = centres_stay next results h.centres }
+  pub leaper_stays : (next : List ℕ → ℕ) (S : Type 0) (results : List ((ℕ × ℕ) × ℕ)) (slots : List (Option (ℕ × ℕ × ℕ))) (masks : Option (ℕ × ℕ))
+      → IsLeaper next S old results slots masks → IsLeaper next S new results slots masks
+  leaper_stays next S results slots masks h = record {
+    rule = h.rule;
+    squares = grows.sound;
+    centres = centres_stay next results h.centres;
+    recent = kept_centres_stay next slots h.recent;
+    by_masks = h.by_masks;
+  }
 
 -- the same from a place by another name
 pub at_from : (nodes : List Node) (id level : ℕ) (p : ℤ → ℤ → ℕ) (a b c d : ℤ) → a ≡ c → b ≡ d → ShowsAt nodes id level p a b → ShowsAt nodes id level p c d
@@ -163,14 +176,35 @@ is_centre_at next old new sound grows id k j m n half square few sum shows = rec
 
 -- ---- what is remembered
 
+-- a centre of a square of some level is that of its level
+centre_of : (next : List ℕ → ℕ) (nodes : List Node) (id k j half : ℕ) → ((l : ℕ) × IsCentre next nodes id l j half) → IsOf nodes id (suc (suc k)) → IsCentre next nodes id k j half
+centre_of next nodes id k j half there square =
+    let same : there.0 ≡ k = omega (arith, there.1.is_square.is_level, square.is_level) in
+    subst (λ l. IsCentre next nodes id l j half) same there.1
+
 -- what is remembered for a square is its centre
 pub recalled : (next : List ℕ → ℕ) (nodes : List Node) (results : List ((ℕ × ℕ) × ℕ)) (id k j : ℕ) (found : Option ℕ) → AreCentres next nodes results → IsOf nodes id (suc (suc k))
     → found ≡ remembered results id j → IfSome found (IsCentre next nodes id k j)
 recalled next nodes results id k j None all square e = tt
-recalled next nodes results id k j (Some half) all square e =
-    let there = all id j half (sym e) in
-    let same : there.0 ≡ k = omega (arith, there.1.is_square.is_level, square.is_level) in
-    subst (λ l. IsCentre next nodes id l j half) same there.1
+recalled next nodes results id k j (Some half) all square e = centre_of next nodes id k j half (all id j half (sym e)) square
+
+-- and so is what a slot has for it
+pub kept_recalled : (next : List ℕ → ℕ) (nodes : List Node) (slots : List (Option (ℕ × ℕ × ℕ))) (id k j : ℕ) (found : Option ℕ) → KeepsCentres next nodes slots → IsOf nodes id (suc (suc k))
+    → IfSome found (Keeps slots id j) → IfSome found (IsCentre next nodes id k j)
+kept_recalled next nodes slots id k j None all square e = tt
+kept_recalled next nodes slots id k j (Some half) all square e = centre_of next nodes id k j half (all id j half e) square
+
+-- after a write, what a slot has is still the centre of its square
+pub kept_more : (next : List ℕ → ℕ) (nodes : List Node) (old new : List (Option (ℕ × ℕ × ℕ))) (id k j half : ℕ) → KeepsCentres next nodes old → IsCentre next nodes id k j half
+    → ((other time centre : ℕ) → Keeps new other time centre → Keeps old other time centre ⊎ ((other ≡ id) × (time ≡ j) × (centre ≡ half))) → KeepsCentres next nodes new
+kept_more next nodes old new id k j half all this more other time centre h = elim (more other time centre h) [
+  | inl e ↦ all other time centre e
+  | inr same ↦ (
+    k,
+    subst (λ x. IsCentre next nodes other k time x) (sym same.2)
+        (subst (λ x. IsCentre next nodes other k x half) (sym same.1) (subst (λ x. IsCentre next nodes x k j half) (sym same.0) this)),
+  )
+]
 
 -- ---- parts
 

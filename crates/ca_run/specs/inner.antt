@@ -5,4 +5,7 @@ pub mod Window
 pub mod Reached
 pub mod Written
 pub mod Shown
+pub mod Words
+pub mod Recent
 pub mod Memo
+pub mod Tiles

@@ -12,14 +12,21 @@ ghost use Rattle.ca_run.specs.inner.Shown.{ShowsAt, FourShow};
 mod advance;
 mod base;
 mod centres;
+mod lanes;
 mod memo;
 mod parts;
 mod planes;
+mod recent;
+mod squares;
+mod tile;
 mod trio;
+mod wide;
+mod words;
 
 use ca_plane::{Automaton, Memory};
 use ca_quad::{Id, Store};
 use memo::Memo;
+use recent::Recent;
 use std::alloc::Global;
 use std::marker::Model;
 
@@ -28,7 +35,9 @@ use std::marker::Model;
 pub struct Leaper<A: Automaton> {
     store: Store,
     rule: A,
+    masks: Option<(u16, u16)>,
     memo: Memo,
+    recent: Recent,
 }
 
 impl<A: Automaton> Model for Leaper<A> {
@@ -39,7 +48,7 @@ impl<A: Automaton> Model for Leaper<A> {
 
     ghost view = { λ l. record { rule = l.rule; nodes = l.store } };
 
-    ghost invariant = { λ l. IsLeaper (A.next_of l.rule) (A.sound l.rule) l.store l.memo };
+    ghost invariant = { λ l. IsLeaper (A.next_of l.rule) (A.sound l.rule) l.store l.memo l.recent l.masks };
 }
 
 impl<A: Automaton> Leaper<A> {
@@ -50,10 +59,13 @@ impl<A: Automaton> Leaper<A> {
     {
         let _states = rule.states();
         let _squares = store.count();
+        let masks = rule.masks();
         Leaper {
             store,
             rule,
+            masks,
             memo: Memo::new(alloc),
+            recent: Recent::new(alloc),
         }
     }
 
@@ -72,6 +84,9 @@ impl<A: Automaton> Leaper<A> {
         requires { IsOf self.now.nodes id (suc (suc grain)) }
         ensures { IfSome result (IsCentre (A.next_of self.now.rule) self.now.nodes id grain j) }
     {
+        if self.is_cheap(grain) {
+            return self.recent.get(id, j);
+        }
         self.memo.get(id, j)
     }
 
@@ -80,8 +95,16 @@ impl<A: Automaton> Leaper<A> {
         requires { IsCentre (A.next_of self.old.rule) self.old.nodes id grain j half }
         ensures { self.new ≡ self.old }
     {
-        let _ = grain;
+        if self.is_cheap(grain) {
+            self.recent.put(id, j, half);
+            return Ok(());
+        }
         self.memo.put(id, j, half)
+    }
+
+    // Whether the centre of a square is worked out on words, which costs little.
+    fn is_cheap(&self, grain: u8) -> bool {
+        grain == 3 && self.masks.is_some()
     }
 
     // The 2 by 2 square of these cells.

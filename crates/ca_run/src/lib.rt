@@ -1,17 +1,21 @@
-//! Generations of a plane under a rule, step by step, and laws of the plane after n generations.
+//! Generations of a plane under a rule, by steps and by leaps, and laws of the plane after n generations.
 #![tactic(auto)]
 
 mod fault;
 mod generations;
+mod kernel;
 pub mod laws;
 mod leaper;
 mod points;
 mod row;
+mod watch;
 mod window;
 
 pub use fault::{LeapFault, RunFault};
 pub use generations::{step, steps};
+pub use kernel::kernel16;
 pub use leaper::Leaper;
+pub use watch::{Unwatched, Watch};
 
 #[cfg(test)]
 mod tests;

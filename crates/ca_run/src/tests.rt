@@ -7,6 +7,7 @@ ghost use Rattle.std.proofs.Common.{rules, arith};
 ghost use Rattle.std.proofs.lemmas.Bool.Decides.{nat_tests};
 
 mod leaps;
+mod tiles;
 
 use super::*;
 use ca_plane::{Automaton, Nine, Plane, Point};

@@ -8,6 +8,7 @@ ghost use Rattle.ca_run.specs.Leaping.{GoesOn};
 
 use super::Leaper;
 use crate::fault::LeapFault;
+use crate::watch::{Unwatched, Watch};
 use ca_plane::{Automaton, Memory};
 use ca_quad::Tree;
 
@@ -31,6 +32,29 @@ impl<A: Automaton> Leaper<A> {
         ensures none { n ≡ 0 → result ≡ Ok tree }
         ensures goes_on { GoesOn A self.old self.new }
     {
+        self.advance_watched(tree, n, &mut Unwatched)
+    }
+
+    /// The same, while someone watches: who is told at each power of two how many generations are reached.
+    ///
+    /// # Errors
+    ///
+    /// As for `advance`.
+    pub fn advance_watched<W: Watch>(
+        &mut self,
+        tree: Tree,
+        n: u64,
+        watch: &mut W,
+    ) -> Result<Tree, LeapFault>
+        requires tree { IsTree self.old.nodes tree }
+        requires level { tree.level ≤ 64 }
+        requires time { n ≤ 2 ^ 60 }
+        ensures tree { IfOk result (IsTree self.new.nodes) }
+        ensures level { IfOk result (λ t. t.level ≤ 124) }
+        ensures cells { IfOk result (λ t. (x y : ℤ) → cell self.new.nodes t x y ≡ later (A.next_of self.old.rule) (cell self.old.nodes tree) n x y) }
+        ensures none { n ≡ 0 → result ≡ Ok tree }
+        ensures goes_on { GoesOn A self.old self.new }
+    {
         let _ = &self.store;
         if n == MOST {
             return Ok(self.leap(tree, 60)?);
@@ -39,6 +63,7 @@ impl<A: Automaton> Leaper<A> {
         'digits: for j in 0..60 {
             if (n >> j) % 2 == 1 {
                 now = self.leap(now, j)?;
+                watch.reached(n % (2 << j));
             }
         }
         Ok(now)

@@ -24,6 +24,9 @@ impl<A: Automaton> Leaper<A> {
         ensures goes_on { GoesOn A self.old self.new }
     {
         let _ = &self.store;
+        if let Some(word) = self.tile_centre(id, grain, j) {
+            return self.from_word(word);
+        }
         if let Some(half) = self.recall(id, grain, j) {
             return Ok(half);
         }
@@ -61,6 +64,9 @@ impl<A: Automaton> Leaper<A> {
         let _ = &self.store;
         if grain == 0 {
             return self.next_four(id);
+        }
+        if let Some(words) = self.wide_centre(id, grain, j) {
+            return self.from_words(words);
         }
         if j == grain {
             return self.by_nine(id, grain - 1, Some(j - 1), j - 1);

@@ -1,19 +1,45 @@
 use Rattle.std.proofs.Common.{rules, ◌≡◌, suc, ◌+◌, ◌-◌, ◌≤◌, ◌^◌, IfOk, refl, sym, ap, subst, ◌∙◌, arith}
-use Rattle.std.specs.Prelude.{◌+ℤ◌}
+use Rattle.std.specs.Prelude.{pos, ◌+ℤ◌}
 use Rattle.std.proofs.lemmas.Bool.Decides.{nat_tests}
 use Rattle.std.proofs.Math.Nat.{two-pow-succ}
-use Rattle.ca_quad.specs.Squares.{IsOf}
+use Rattle.ca_quad.specs.Squares.{IsOf, cell_of}
 use Rattle.ca_quad.specs.Sound.{IsSound}
+use Rattle.ca_quad.specs.Trees.{from_corner}
 use Rattle.ca_quad.proofs.Growth.{grows_on}
 use Rattle.ca_quad.proofs.Cells.{of_stays}
 use Rattle.ca_run.specs.Centre.{later, IsCentre}
 use Rattle.ca_run.specs.inner.Shown.{ShowsAt, FourShow, AreThree, side, generations}
-use Rattle.ca_run.proofs.Shown.{goes_on_again, at_stays, three_stay, three_are}
+use Rattle.ca_run.proofs.Shown.{at_corner, goes_on_again, at_stays, three_stay, three_are}
+use Rattle.ca_run.proofs.Lanes.{made_centre}
 use Rattle.ca_run.proofs.Leap.{goes_on_same, centre_ok, nine_centre, west_four, east_four, pair_at, trio_at, nine_at, four_at}
 use Rattle.ca_run.proofs.leaper.Leaper.+leap.Goals as goal
 
-pub centre-returns-in-Some-clause-goes_on : goal.centre-returns-in-Some-clause-goes_on
-centre-returns-in-Some-clause-goes_on g t c = goes_on_same _ c.args.self.now (subst (λ l. IsSound l.nodes) c.self.view_is c.self.invariant.squares)
+pub centre-returns-in-Some-clause-centre : goal.centre-returns-in-Some-clause-centre
+centre-returns-in-Some-clause-centre g t c =
+    let k = c.args.grain in
+    let s0 = c.args.self.now.nodes in
+    let new = c.from_word.new.self.nodes in
+    let next = g.A.Automaton.next_of c.args.self.now.rule in
+    let q = later next (from_corner (cell_of s0 (suc (suc k)) c.args.id)) (2 ^ c.args.j) in
+    let sound = subst (λ l. IsSound l.nodes) c.self.view_is c.self.invariant.squares in
+    let word = c.in-Some.ensures.shows _ _ _ (at_corner s0 c.args.id (suc (suc k)) c.requires.square) in
+    made_centre next s0 new sound c.from_word.ensures.goes_on.grows c.from_word.result c.args.id k c.args.j c.requires.square c.requires.time
+    (subst (λ l. IfOk c.from_word.result (λ half. ShowsAt new half (suc l) q (pos 0 +ℤ side k) (pos 0 +ℤ side k))) (sym c.in-Some.ensures.grain) (c.from_word.ensures.shows q _ _ word))
+
+pub new_centre-returns-in-Some-clause-centre : goal.new_centre-returns-in-Some-clause-centre
+new_centre-returns-in-Some-clause-centre g t c =
+    let k = c.args.grain in
+    let s0 = c.args.self.now.nodes in
+    let new = c.from_words.new.self.nodes in
+    let next = g.A.Automaton.next_of c.args.self.now.rule in
+    let q = later next (from_corner (cell_of s0 (suc (suc k)) c.args.id)) (2 ^ c.args.j) in
+    let sound = subst (λ l. IsSound l.nodes) c.self.view_is c.self.invariant.squares in
+    let words = c.in-Some.ensures.shows _ _ _ (at_corner s0 c.args.id (suc (suc k)) c.requires.square) in
+    made_centre next s0 new sound c.from_words.ensures.goes_on.grows c.from_words.result c.args.id k c.args.j c.requires.square c.requires.time
+    (subst (λ l. IfOk c.from_words.result (λ half. ShowsAt new half (suc l) q (pos 0 +ℤ side k) (pos 0 +ℤ side k))) (sym c.in-Some.ensures.grain) (c.from_words.ensures.shows q _ _ words))
+
+pub centre-returns-in-Some-recall-clause-goes_on : goal.centre-returns-in-Some-recall-clause-goes_on
+centre-returns-in-Some-recall-clause-goes_on g t c = goes_on_same _ c.args.self.now (subst (λ l. IsSound l.nodes) c.self.view_is c.self.invariant.squares)
 
 pub centre-returns-in-Some-empty_centre-clause-goes_on : goal.centre-returns-in-Some-empty_centre-clause-goes_on
 centre-returns-in-Some-empty_centre-clause-goes_on g t c = goes_on_same _ c.args.self.now (subst (λ l. IsSound l.nodes) c.self.view_is c.self.invariant.squares)

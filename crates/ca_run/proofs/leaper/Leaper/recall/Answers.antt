@@ -1,11 +1,17 @@
 use Rattle.std.proofs.Common.{suc, sym, subst, IfSome}
 use Rattle.ca_quad.specs.Squares.{IsOf}
 use Rattle.ca_run.specs.Centre.{IsCentre}
-use Rattle.ca_run.proofs.Shown.{recalled}
+use Rattle.ca_run.proofs.Shown.{recalled, kept_recalled}
 use Rattle.ca_run.proofs.leaper.Leaper.recall.Goals as goal
+
+pub returns-then-is_cheap : goal.returns-then-is_cheap
+returns-then-is_cheap g c =
+    subst (λ l. IfSome c.get.result (IsCentre (g.A.Automaton.next_of l.rule) l.nodes c.args.id c.args.grain c.args.j)) c.self.view_is
+    (kept_recalled (g.A.Automaton.next_of c.self.inside.rule) c.self.inside.store c.self.inside.recent c.args.id c.args.grain c.args.j c.get.result c.self.invariant.recent
+    (subst (λ l. IsOf l.nodes c.args.id (suc (suc c.args.grain))) (sym c.self.view_is) c.requires) c.get.ensures)
 
 pub returns : goal.returns
 returns g c =
-    subst (λ l. IfSome c.get.result (IsCentre (g.A.Automaton.next_of l.rule) l.nodes c.args.id c.args.grain c.args.j)) c.self.view_is
-    (recalled (g.A.Automaton.next_of c.self.inside.rule) c.self.inside.store c.self.inside.memo c.args.id c.args.grain c.args.j c.get.result c.self.invariant.centres
-    (subst (λ l. IsOf l.nodes c.args.id (suc (suc c.args.grain))) (sym c.self.view_is) c.requires) c.get.ensures)
+    subst (λ l. IfSome c.get-2.result (IsCentre (g.A.Automaton.next_of l.rule) l.nodes c.args.id c.args.grain c.args.j)) c.self.view_is
+    (recalled (g.A.Automaton.next_of c.self.inside.rule) c.self.inside.store c.self.inside.memo c.args.id c.args.grain c.args.j c.get-2.result c.self.invariant.centres
+    (subst (λ l. IsOf l.nodes c.args.id (suc (suc c.args.grain))) (sym c.self.view_is) c.requires) c.get-2.ensures)

@@ -6,8 +6,8 @@ use Rattle.ca_quad.specs.Trees.{cell}
 use Rattle.ca_run.specs.Centre.{later}
 use Rattle.ca_run.proofs.Shown.{goes_on_again}
 use Rattle.ca_run.proofs.Trees.{one_digit, no_digit}
-use Rattle.ca_run.proofs.leaper.Leaper.advance.Goals as goal
-use Rattle.ca_run.proofs.leaper.Leaper.advance.Goals.{then-n-j-eq1+in_ok-now, else-n-j-eq1}
+use Rattle.ca_run.proofs.leaper.Leaper.advance_watched.Goals as goal
+use Rattle.ca_run.proofs.leaper.Leaper.advance_watched.Goals.{then-n-j-eq1+in_ok-now, else-n-j-eq1}
 
 pub returns-then-n-eq-MOST-clause-cells : goal.returns-then-n-eq-MOST-clause-cells
 returns-then-n-eq-MOST-clause-cells g c = λ x y.

@@ -1,0 +1,246 @@
+-- Tiles and words: the bits of rows and bytes.
+use Rattle.std.proofs.Common.{◌≡◌, ℕ, zero, suc, ◌+◌, ◌-◌, ◌*◌, ◌/◌, ◌%◌, ◌<◌, ◌≤◌, ◌^◌, inl, inr, List, [], ◌∷◌, map, get_or, length, refl, sym, ap, ap₂, subst, ◌∙◌, arith}
+use Rattle.std.specs.Prelude.{ℤ, pos, negsuc, ◌+ℤ◌, ◌-ℤ◌, slice_index, nat_lt, if◌then◌else◌, bit_or, replicate}
+use Rattle.std.specs.Int.{bit_at, w64, to_le_bytes, from_le_bytes}
+use Rattle.std.specs.List.{All, range_with_len}
+use Rattle.std.proofs.lemmas.Int.{ints}
+use Rattle.std.proofs.lemmas.Bool.Decides.{nat_tests}
+use Rattle.std.proofs.lemmas.Bool.{cond_below, cond_above}
+use Rattle.std.proofs.Math.Nat.{pow-suc}
+use Rattle.std.proofs.lemmas.Grind.{or_before_shift}
+use Rattle.std.proofs.lemmas.Nat.{pow-add, shr-shr, div-add-mod', mod_below, le_bytes_8}
+use Rattle.std.proofs.lemmas.Nat.Bits.{bit_at-lt, bit_at_cat_low, bit_at_cat_high}
+use Rattle.std.proofs.lemmas.List.FromFn.{get_or-map-range_with_len, length-map-range_with_len}
+use Rattle.std.proofs.lemmas.List.{get_or_past, get_or-replicate}
+use Rattle.std.proofs.lemmas.Simd.{length-zip2, get_or-zip2, get_or_narrower}
+use Rattle.std.specs.Simd.Lanes.{zip2, digits_l, number_l}
+use Rattle.std.proofs.lemmas.List.Elements.{All-from_recursion}
+use Rattle.ca_plane.specs.Generations.{around}
+use Rattle.ca_plane.specs.Moore.{moore_next}
+use Rattle.ca_quad.specs.Squares.{together}
+use Rattle.ca_quad.specs.Trees.{row_cells, word_cells}
+use Rattle.ca_quad.proofs.Growth.{below_or_not}
+use Rattle.ca_quad.proofs.Walks.{in_nw, in_ne, in_sw, in_se}
+use Rattle.ca_run.specs.declared.leaper.words.Words.{Words}
+use Rattle.ca_run.specs.Centre.{later}
+use Rattle.ca_run.specs.Lanes.{tile_cell, IsWithinEdge}
+use Rattle.ca_run.specs.inner.Shown.{Looks}
+use Rattle.ca_run.specs.inner.Words.{WordShows, WordsShow, TileShows, GoesBy, byte_of, bytes_at, inner_byte}
+use Rattle.ca_run.proofs.Rounds.{IsRound, around-same}
+use Rattle.ca_run.proofs.Laters.{around-seen}
+use Rattle.ca_run.proofs.Looks.{looks_together}
+
+-- ---- bits
+
+-- the bits of a number that is shifted down are those further up
+bit_shifted : (n k i : ℕ) → bit_at (n / 2 ^ k) i ≡ bit_at n (k + i)
+bit_shifted n k i = ap (λ m. m % 2) (shr-shr n k i)
+
+-- the low bits of a number
+bit_low : (n k i : ℕ) → i < k → bit_at (n % 2 ^ k) i ≡ bit_at n i
+bit_low n k i h = sym (ap (λ m. bit_at m i) (sym (div-add-mod' n (2 ^ k))) ∙ bit_at_cat_low (n / 2 ^ k) k (n % 2 ^ k) i h)
+
+-- the bits of a word's byte are cells of one row
+byte_bit : (word y x : ℕ) → x < 8 → bit_at (byte_of word y) x ≡ word_cells word x y
+byte_bit word y x h = bit_low (word / 2 ^ (8 * y)) 8 x h ∙ bit_shifted word (8 * y) x ∙ cond_below x 8 (bit_at word (8 * y + x)) 0 h
+
+-- ---- the bytes of words
+
+-- a power of a byte's size
+power_256 : (y : ℕ) → 256 ^ y ≡ 2 ^ (8 * y)
+power_256 zero = refl
+power_256 (suc y) =
+    let e : 8 * y + 8 ≡ 8 * suc y = omega arith in
+    pow-suc 256 y ∙ ap (λ n. n * 256) (power_256 y) ∙ sym (pow-add 2 (8 * y) 8) ∙ ap (λ n. 2 ^ n) e
+
+-- the bytes of two words, one after the other
+pub bytes_of_two : (north south : ℕ) → north < 2 ^ 64 → south < 2 ^ 64 → (y : ℕ) → y < 16 → slice_index (digits_l 256 16 (number_l (2 ^ 64) (north ∷ south ∷ []))) y ≡ bytes_at north south y
+bytes_of_two north south h k y i =
+    let words = north ∷ south ∷ [] in
+    let narrow = λ (j : ℕ) (z : ℕ) (l : z < 8) (m : 8 * j + z < 16). get_or_narrower (2 ^ 64) 8 256 16 words j z refl (h, (k, tt)) l m in
+    elim (below_or_not y 8) [
+      | inl l ↦
+          let e : y ≡ 8 * 0 + y = omega arith in
+          ap (λ n. slice_index (digits_l 256 16 (number_l (2 ^ 64) words)) n) e ∙ narrow 0 y l (omega arith) ∙ ap (λ n. north / n % 256) (power_256 y)
+          ∙ cond_below y 8 (byte_of north y) (byte_of south (y - 8)) l
+      | inr l ↦
+          let e : y ≡ 8 * 1 + (y - 8) = omega arith in
+          ap (λ n. slice_index (digits_l 256 16 (number_l (2 ^ 64) words)) n) e ∙ narrow 1 (y - 8) (omega arith) (omega arith) ∙ ap (λ n. south / n % 256) (power_256 (y - 8))
+          ∙ cond_above y 8 (byte_of north y) (byte_of south (y - 8)) (byte_of south (y - 8)) l refl
+    ]
+
+-- ---- tiles
+
+-- rows that are joined of bytes in the west and in the east
+pub joined_rows : (f g : ℕ → ℕ → ℕ) → ((a b : ℕ) → f a b ≡ bit_or a b) → ((a : ℕ) → g a 8 ≡ a * 256 % 65536) → (west east : List ℕ) → length west ≡ 16 → length east ≡ 16
+    → (y : ℕ) → y < 16 → slice_index west y < 256 → slice_index east y < 256
+    → slice_index (zip2 f west (zip2 g east (replicate 16 8))) y ≡ slice_index east y * 256 + slice_index west y
+joined_rows f g is_or is_up west east l m y i h k =
+    let shifted = zip2 g east (replicate 16 8) in
+    let long : length shifted ≡ 16 = length-zip2 g east (replicate 16 8) m ∙ m in
+    let up : slice_index shifted y ≡ slice_index east y * 256 % 65536 =
+    get_or-zip2 g east (replicate 16 8) y 0 0 0 (omega arith) i ∙ ap (g (slice_index east y)) (get_or-replicate 16 y 8 0 i) ∙ is_up (slice_index east y) in
+    get_or-zip2 f west shifted y 0 0 0 (omega arith) (omega arith) ∙ ap (f (slice_index west y)) up ∙ is_or (slice_index west y) (slice_index east y * 256 % 65536)
+    ∙ or_before_shift (slice_index west y) (slice_index east y) 256 65536 refl h (omega arith)
+
+-- the rows of four words
+abbrev IsRowsOf : Words → List ℕ → Type 0
+IsRowsOf words rows = (y : ℕ) → y < 16 → slice_index rows y ≡ bytes_at words.ne words.se y * 256 + bytes_at words.nw words.sw y
+
+-- a bit of a row that is joined of two bytes
+bit_west : (e w x : ℕ) → x < 8 → bit_at (e * 256 + w) x ≡ bit_at w x
+bit_west e w x h = bit_at_cat_low e 8 w x h
+
+bit_east : (e w x : ℕ) → w < 256 → 8 ≤ x → bit_at (e * 256 + w) x ≡ bit_at e (x - 8)
+bit_east e w x low h = bit_at_cat_high e 8 w x low h
+
+byte_low : (word y : ℕ) → byte_of word y < 256
+byte_low word y = mod_below (word / 2 ^ (8 * y)) 256 (omega arith)
+
+-- the rows of four words show their cells
+rows_cells : (words : Words) (rows : List ℕ) → IsRowsOf words rows → (x y : ℕ) → x < 16 → y < 16
+    → row_cells rows x y ≡ together 8 (word_cells words.nw) (word_cells words.ne) (word_cells words.sw) (word_cells words.se) x y
+rows_cells words rows is x y i j =
+    let nw = word_cells words.nw in
+    let ne = word_cells words.ne in
+    let sw = word_cells words.sw in
+    let se = word_cells words.se in
+    elim (below_or_not y 8) [
+      | inl m ↦
+          let w = byte_of words.nw y in
+          let e = byte_of words.ne y in
+          let row : slice_index rows y ≡ e * 256 + w = is y j ∙ ap₂ (λ a b. a * 256 + b) (sym (cond_below y 8 e (byte_of words.se (y - 8)) m)) (sym (cond_below y 8 w (byte_of words.sw (y - 8)) m)) in
+          ap (λ n. bit_at n x) row
+          ∙ elim (below_or_not x 8) [
+            | inl l ↦ bit_west e w x l ∙ byte_bit words.nw y x l ∙ sym (in_nw 8 nw ne sw se x y l m)
+            | inr l ↦ bit_east e w x (byte_low words.nw y) l ∙ byte_bit words.ne y (x - 8) (omega arith) ∙ sym (in_ne 8 nw ne sw se x y l m)
+          ]
+      | inr m ↦
+          let w = byte_of words.sw (y - 8) in
+          let e = byte_of words.se (y - 8) in
+          let row : slice_index rows y ≡ e * 256 + w =
+          is y j ∙ ap₂ (λ a b. a * 256 + b) (sym (cond_above y 8 (byte_of words.ne y) e e m refl)) (sym (cond_above y 8 (byte_of words.nw y) w w m refl)) in
+          ap (λ n. bit_at n x) row
+          ∙ elim (below_or_not x 8) [
+            | inl l ↦ bit_west e w x l ∙ byte_bit words.sw (y - 8) x l ∙ sym (in_sw 8 nw ne sw se x y l m)
+            | inr l ↦ bit_east e w x (byte_low words.sw (y - 8)) l ∙ byte_bit words.se (y - 8) (x - 8) (omega arith) ∙ sym (in_se 8 nw ne sw se x y l m)
+          ]
+    ]
+
+-- so they show the plane that the words show
+tile_shows : (words : Words) (rows : List ℕ) → IsRowsOf words rows → (p : ℤ → ℤ → ℕ) (a b : ℤ) → WordsShow words p a b → TileShows rows 0 p a b
+tile_shows words rows is p a b shows = record {
+  looks = λ x y _ i _ j.
+      rows_cells words rows is x y (omega arith) (omega arith)
+      ∙ looks_together 8 (word_cells words.nw) (word_cells words.ne) (word_cells words.sw) (word_cells words.se) p a b
+      shows.at_nw.looks shows.at_ne.looks shows.at_sw.looks shows.at_se.looks x y (omega arith) (omega arith);
+}
+
+bytes_low : (north south y : ℕ) → bytes_at north south y < 256
+bytes_low north south y = elim (below_or_not y 8) [
+  | inl l ↦ subst (λ n. n < 256) (cond_below y 8 (byte_of north y) (byte_of south (y - 8)) l) (byte_low north y)
+  | inr l ↦ subst (λ n. n < 256) (cond_above y 8 (byte_of north y) (byte_of south (y - 8)) (byte_of south (y - 8)) l refl) (byte_low south (y - 8))
+]
+
+-- and so does what is joined of their bytes
+pub joined_shows : (f g : ℕ → ℕ → ℕ) → ((a b : ℕ) → f a b ≡ bit_or a b) → ((a : ℕ) → g a 8 ≡ a * 256 % 65536) → (words : Words) (west east : List ℕ) → length west ≡ 16 → length east ≡ 16
+    → ((y : ℕ) → y < 16 → slice_index west y ≡ bytes_at words.nw words.sw y) → ((y : ℕ) → y < 16 → slice_index east y ≡ bytes_at words.ne words.se y)
+    → (p : ℤ → ℤ → ℕ) (a b : ℤ) → WordsShow words p a b → TileShows (zip2 f west (zip2 g east (replicate 16 8))) 0 p a b
+joined_shows f g is_or is_up words west east l m are_west are_east = tile_shows words (zip2 f west (zip2 g east (replicate 16 8))) (λ y i.
+    let h : slice_index west y < 256 = omega (arith, are_west y i, bytes_low words.nw words.sw y) in
+    let k : slice_index east y < 256 = omega (arith, are_east y i, bytes_low words.ne words.se y) in
+    joined_rows f g is_or is_up west east l m y i h k ∙ ap₂ (λ a b. a * 256 + b) (are_east y i) (are_west y i))
+
+-- ---- the middle of a tile
+
+-- the bytes in the middle are bytes
+inner_low : (rows : List ℕ) (i : ℕ) → get_or (map (inner_byte rows) (range_with_len 0 8)) i 0 < 256
+inner_low rows i =
+    elim (below_or_not i 8) [
+      | inl l ↦
+          let e = get_or-map-range_with_len (inner_byte rows) 0 8 i i 0 l (omega arith) in
+          let f : inner_byte rows i < 256 = mod_below (slice_index rows (4 + i) / 16) 256 (omega arith) in
+          omega (arith, e, f)
+      | inr l ↦
+          let e = get_or_past (map (inner_byte rows) (range_with_len 0 8)) i 0 (omega (arith, length-map-range_with_len (inner_byte rows) 0 8)) in
+          omega (arith, e)
+    ]
+
+-- the bytes of a word that is made of eight
+word_bytes : (word : ℕ) → to_le_bytes w64 word ≡ map (byte_of word) (range_with_len 0 8)
+word_bytes word =
+    let e : word % 256 ≡ byte_of word 0 = omega arith in
+    cc
+
+-- a word that is made of the bytes in the middle of a tile shows the cells there
+middle_byte : (rows bytes : List ℕ) (word y : ℕ) → bytes ≡ map (inner_byte rows) (range_with_len 0 8) → word ≡ from_le_bytes w64 bytes → y < 8 → byte_of word y ≡ inner_byte rows y
+middle_byte rows bytes word y e f j =
+    let inner = map (inner_byte rows) (range_with_len 0 8) in
+    let g : to_le_bytes w64 word ≡ inner = le_bytes_8 inner word refl (inner_low rows) (f ∙ ap (from_le_bytes w64) e) in
+    sym (get_or-map-range_with_len (byte_of word) 0 8 y y 0 j (omega arith)) ∙ ap (λ l. get_or l y 0) (sym (word_bytes word) ∙ g)
+    ∙ get_or-map-range_with_len (inner_byte rows) 0 8 y y 0 j (omega arith)
+
+middle_cells : (rows bytes : List ℕ) (word : ℕ) → bytes ≡ map (inner_byte rows) (range_with_len 0 8) → word ≡ from_le_bytes w64 bytes → (x y : ℕ) → x < 8 → y < 8
+    → word_cells word x y ≡ row_cells rows (4 + x) (4 + y)
+middle_cells rows bytes word e f x y i j =
+    let row = slice_index rows (4 + y) in
+    sym (byte_bit word y x i) ∙ ap (λ n. bit_at n x) (middle_byte rows bytes word y e f j) ∙ bit_low (row / 16) 8 x i ∙ bit_shifted row 4 x
+
+pub middle_shows : (rows bytes : List ℕ) (word : ℕ) → bytes ≡ map (inner_byte rows) (range_with_len 0 8) → word ≡ from_le_bytes w64 bytes → (p : ℤ → ℤ → ℕ) (a b : ℤ) → TileShows rows 4 p a b
+    → WordShows word p (a +ℤ pos 4) (b +ℤ pos 4)
+middle_shows rows bytes word e f p a b shows = record {
+  looks = λ x y i j.
+      let u : a +ℤ pos (4 + x) ≡ (a +ℤ pos 4) +ℤ pos x = omega (arith, ints) in
+      let v : b +ℤ pos (4 + y) ≡ (b +ℤ pos 4) +ℤ pos y = omega (arith, ints) in
+      middle_cells rows bytes word e f x y i j ∙ shows.looks (4 + x) (4 + y) (omega arith) (omega arith) (omega arith) (omega arith) ∙ ap₂ p u v;
+}
+
+-- ---- generations
+
+-- a cell of a tile is 0 or 1
+tile_bit : (rows : List ℕ) (x y : ℤ) → tile_cell rows x y < 2
+tile_bit rows (pos x) (pos y) = bit_at-lt (slice_index rows y) x
+tile_bit rows (pos x) (negsuc y) = omega arith
+tile_bit rows (negsuc x) y = omega arith
+
+around_bits : (rows : List ℕ) (x y : ℤ) → All (λ s. s < 2) (around (tile_cell rows) x y)
+around_bits rows x y = All-from_recursion (λ s. s < 2) (around (tile_cell rows) x y) (
+  tile_bit rows (x -ℤ pos 1) (y -ℤ pos 1),
+  (
+    tile_bit rows x (y -ℤ pos 1),
+    (
+      tile_bit rows (x +ℤ pos 1) (y -ℤ pos 1),
+      (
+        tile_bit rows (x -ℤ pos 1) y,
+        (
+          tile_bit rows x y,
+          (
+            tile_bit rows (x +ℤ pos 1) y,
+            (tile_bit rows (x -ℤ pos 1) (y +ℤ pos 1), (tile_bit rows x (y +ℤ pos 1), (tile_bit rows (x +ℤ pos 1) (y +ℤ pos 1), tt))),
+          ),
+        ),
+      ),
+    ),
+  ),
+)
+
+-- what shows a plane in the middle shows it there where the margin is wider
+pub tile_less : (rows : List ℕ) (m n : ℕ) (p : ℤ → ℤ → ℕ) (a b : ℤ) → m ≤ n → TileShows rows m p a b → TileShows rows n p a b
+tile_less rows m n p a b few shows = record { looks = λ x y i j k l. shows.looks x y (omega arith) (omega arith) (omega arith) (omega arith) }
+
+-- a generation of the tile is one of the plane, but for one more row and column at each side
+module _ (next : List ℕ → ℕ) (masks : ℕ × ℕ) (goes_by : GoesBy next masks) (old new : List ℕ)
+    (made : (x y : ℤ) → IsWithinEdge x y → tile_cell new x y ≡ moore_next masks.0 masks.1 (around (tile_cell old) x y)) where
+  pub tile_goes_on : (m : ℕ) (p : ℤ → ℤ → ℕ) (a b : ℤ) → TileShows old m (later next p m) a b → TileShows new (suc m) (later next p (suc m)) a b
+  tile_goes_on m p a b shows = record {
+    looks = λ x y i j k l.
+        made (pos x) (pos y) (omega (arith, ints), omega (arith, ints), omega (arith, ints), omega (arith, ints))
+        ∙ sym (goes_by.is_moore.goes_by (around (tile_cell old) (pos x) (pos y)) refl (around_bits old (pos x) (pos y)))
+        ∙ ap next (around-same (tile_cell old) (λ u v. later next p m (a +ℤ u) (b +ℤ v)) (pos x) (pos y) (λ u v round. inside x y i j k l u v round)
+        ∙ around-seen (later next p m) a b (pos x) (pos y));
+  }
+    where
+      inside : (x y : ℕ) → suc m ≤ x → x + suc m < 16 → suc m ≤ y → y + suc m < 16 → (u v : ℤ) → IsRound (pos x) (pos y) u v → tile_cell old u v ≡ later next p m (a +ℤ u) (b +ℤ v)
+      inside x y i j k l (pos u) (pos v) round = shows.looks u v (omega (arith, ints, round)) (omega (arith, ints, round)) (omega (arith, ints, round)) (omega (arith, ints, round))
+      inside x y i j k l (pos u) (negsuc v) round = absurd (omega (arith, ints, round))
+      inside x y i j k l (negsuc u) v round = absurd (omega (arith, ints, round))

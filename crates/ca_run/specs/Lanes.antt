@@ -1,0 +1,12 @@
+-- Tiles: squares of 16 by 16 cells of two states, a number for each row from the top. Bit x of a row is its cell at x.
+use Rattle.std.specs.Prelude.{ℕ, ℤ, pos, List}
+use Rattle.ca_plane.specs.Box.{IsInBox}
+use Rattle.ca_quad.specs.Trees.{row_cells, from_corner}
+
+-- the state at (x, y) of a tile with its upper left cell at (0, 0); 0 above it and to the left of it
+abbrev pub tile_cell : List ℕ → ℤ → ℤ → ℕ
+tile_cell rows = from_corner (row_cells rows)
+
+-- (x, y) is in the tile, and not on its edge
+abbrev pub IsWithinEdge : ℤ → ℤ → Type 0
+IsWithinEdge x y = IsInBox (record { x0 = pos 1; y0 = pos 1; x1 = pos 14; y1 = pos 14 }) x y

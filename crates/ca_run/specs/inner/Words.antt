@@ -1,0 +1,67 @@
+-- Words and tiles that show a plane from some place on (our own). A word holds 8 by 8 cells of two states, a tile 16 by 16: sixteen rows
+-- from the top, of which bit 0 is the western-most cell.
+use Rattle.std.specs.Prelude.{◌≡◌, ℕ, ◌+◌, ◌-◌, ◌*◌, ◌/◌, ◌%◌, ◌^◌, ◌<◌, ◌≤◌, ℤ, pos, ◌+ℤ◌, List}
+use Rattle.std.specs.Prelude.{nat_lt, if◌then◌else◌, slice_index}
+use Rattle.ca_plane.specs.Moore.{IsMoore}
+use Rattle.ca_quad.specs.Trees.{row_cells, word_cells}
+use Rattle.ca_run.specs.declared.leaper.words.Words.{Words}
+use Rattle.ca_run.specs.declared.leaper.wide.ThreeWords.{ThreeWords}
+use Rattle.ca_run.specs.declared.leaper.wide.NineWords.{NineWords}
+use Rattle.ca_run.specs.declared.leaper.wide.Wide.{Wide}
+use Rattle.ca_run.specs.inner.Shown.{Looks}
+
+-- the word shows the plane from (a, b) on
+pub record WordShows (word : ℕ) (p : ℤ → ℤ → ℕ) (a b : ℤ) : Type 0 where
+  pub looks : Looks 8 (word_cells word) p a b
+
+-- four words show the plane: together they show it from (a, b) on
+pub record WordsShow (words : Words) (p : ℤ → ℤ → ℕ) (a b : ℤ) : Type 0 where
+  pub at_nw : WordShows words.nw p a b
+  pub at_ne : WordShows words.ne p (a +ℤ pos 8) b
+  pub at_sw : WordShows words.sw p a (b +ℤ pos 8)
+  pub at_se : WordShows words.se p (a +ℤ pos 8) (b +ℤ pos 8)
+
+-- two words side by side show the plane from (a, b) on
+pub record TwoWordsShow (two : ℕ × ℕ) (p : ℤ → ℤ → ℕ) (a b : ℤ) : Type 0 where
+  pub at_west : WordShows two.0 p a b
+  pub at_east : WordShows two.1 p (a +ℤ pos 8) b
+
+-- and so do three
+pub record ThreeWordsShow (three : ThreeWords) (p : ℤ → ℤ → ℕ) (a b : ℤ) : Type 0 where
+  pub at_west : WordShows three.west p a b
+  pub at_middle : WordShows three.middle p (a +ℤ pos 8) b
+  pub at_east : WordShows three.east p (a +ℤ pos 8 +ℤ pos 8) b
+
+-- nine words show the plane: together they show it from (a, b) on
+pub record NineWordsShow (nine : NineWords) (p : ℤ → ℤ → ℕ) (a b : ℤ) : Type 0 where
+  pub at_north : ThreeWordsShow nine.north p a b
+  pub at_middle : ThreeWordsShow nine.middle p a (b +ℤ pos 8)
+  pub at_south : ThreeWordsShow nine.south p a (b +ℤ pos 8 +ℤ pos 8)
+
+-- the four quarters of a square of 32 by 32 cells show the plane: together they show it from (a, b) on
+pub record WideShows (wide : Wide) (p : ℤ → ℤ → ℕ) (a b : ℤ) : Type 0 where
+  pub at_nw : WordsShow wide.nw p a b
+  pub at_ne : WordsShow wide.ne p (a +ℤ pos 16) b
+  pub at_sw : WordsShow wide.sw p a (b +ℤ pos 16)
+  pub at_se : WordsShow wide.se p (a +ℤ pos 16) (b +ℤ pos 16)
+
+-- the tile shows the plane from (a, b) on, but for so many rows and columns at each of its sides
+pub record TileShows (rows : List ℕ) (margin : ℕ) (p : ℤ → ℤ → ℕ) (a b : ℤ) : Type 0 where
+  pub looks : (x y : ℕ) → margin ≤ x → x + margin < 16 → margin ≤ y → y + margin < 16 → row_cells rows x y ≡ p (a +ℤ pos x) (b +ℤ pos y)
+
+-- the rule has two states, and goes by the masks
+pub record GoesBy (next : List ℕ → ℕ) (masks : ℕ × ℕ) : Type 0 where
+  pub states : ℕ
+  pub is_moore : IsMoore states next masks.0 masks.1
+
+-- the byte of a word at a place, the lowest at place 0: a row of its cells
+abbrev pub byte_of : ℕ → ℕ → ℕ
+byte_of word place = word / 2 ^ (8 * place) % 256
+
+-- the bytes of two words, the lowest first
+abbrev pub bytes_at : ℕ → ℕ → ℕ → ℕ
+bytes_at north south place = if nat_lt place 8 then byte_of north place else byte_of south (place - 8)
+
+-- the eight cells in the middle of a tile's row
+abbrev pub inner_byte : List ℕ → ℕ → ℕ
+inner_byte rows y = slice_index rows (4 + y) / 16 % 256

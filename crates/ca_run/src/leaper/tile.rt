@@ -1,0 +1,66 @@
+//! Squares of 16 by 16 cells of two states, row by row.
+
+ghost use Rattle.std.specs.Prelude.{◌≡◌, ℕ, ◌/◌, ◌%◌, ◌<◌, ℤ, pos, ◌+ℤ◌, List, length, slice_index};
+ghost use Rattle.ca_run.specs.Centre.{later};
+ghost use Rattle.ca_run.specs.inner.Words.{WordShows, WordsShow, TileShows, GoesBy, bytes_at};
+
+use super::words::Words;
+use crate::kernel::{Bits, next_tile};
+use std::simd::prelude::*;
+
+// The tile of a square.
+#[inline(always)]
+pub(super) fn tile_of(words: &Words) -> Bits
+    ensures { (p : ℤ → ℤ → ℕ) (a b : ℤ) → WordsShow words.now p a b → TileShows result.rows 0 p a b }
+{
+    let west = bytes_of(words.nw, words.sw);
+    let east = bytes_of(words.ne, words.se);
+    Bits {
+        rows: west | east << u16x16::splat(8),
+    }
+}
+
+// The bytes of two words, the lowest first.
+#[inline(always)]
+fn bytes_of(north: u64, south: u64) -> u16x16
+    ensures length { length result ≡ 16 }
+    ensures bytes { (y : ℕ) → y < 16 → slice_index result y ≡ bytes_at north south y }
+{
+    u64x2::from_array([north, south]).to_le_bytes().cast()
+}
+
+// The tile so many generations on, as far from its edge as they reach. The rule goes by these masks.
+#[inline(always)]
+pub(super) fn later_tile(tile: Bits, masks: (u16, u16), n: u8) -> Bits
+    ensures { (next : List ℕ → ℕ) (p : ℤ → ℤ → ℕ) (a b : ℤ) → GoesBy next masks → TileShows tile.rows 0 p a b → TileShows result.rows n (later next p n) a b }
+{
+    let (birth, survive) = masks;
+    let mut now = tile;
+    'generations: for _ in 0..n {
+        now = next_tile(now, birth, survive);
+    }
+    now
+}
+
+// The 8 by 8 cells in the middle of a tile.
+pub(super) fn middle(rows: &[u16; 16]) -> u64
+    ensures { (p : ℤ → ℤ → ℕ) (a b : ℤ) → TileShows rows.now 4 p a b → WordShows result p (a +ℤ pos 4) (b +ℤ pos 4) }
+{
+    u64::from_le_bytes([
+        inner_byte(rows[4]),
+        inner_byte(rows[5]),
+        inner_byte(rows[6]),
+        inner_byte(rows[7]),
+        inner_byte(rows[8]),
+        inner_byte(rows[9]),
+        inner_byte(rows[10]),
+        inner_byte(rows[11]),
+    ])
+}
+
+// The eight cells in the middle of a row.
+fn inner_byte(row: u16) -> u8
+    ensures { result ≡ row / 16 % 256 }
+{
+    (row / 16 % 256) as u8
+}
