@@ -173,8 +173,9 @@ def try_patterns(texts):
     for claim in ("still large", "becomes large 1 block", "becomes block 1 large", "becomes large 1 high", "becomes high 1 large", "becomes large 1 full",
                   "becomes full 1 large", "becomes large 0 large"):
         refused(claim, "state too large", "large")
-    for claim in ("still full", "oscillator full 2", "becomes full 1 block", "becomes block 1 full", "becomes full 0 full"):
+    for claim in ("spaceship full 1 1 0", "spaceship full 4294967295 0 -1"):
         refused(claim, "too many cells", "full")
+    text.claim("becomes full 0 full", "yes")
     # these say all
     text.claim("becomes block 0 high", "refused, mixed rules")
     text.claim("becomes high 0 full", "refused, mixed rules")

@@ -196,8 +196,8 @@ def try_rows(texts):
     texts.shown("a cell more", more, figures(0, count + 1, f"0 -{count} {count} {count + 1}"))
     texts.converted("a cell more", more, "rle", TOO_MANY)
     loads = f"load more {texts.path('more.mc', more)}\nload block examples/block.rle\n"
-    texts.expect("a cell more", ["verify", texts.path("text.claims", loads + "becomes block 0 more\nstill block\n")],
-                 lines_outcome([(3, "refused, too many cells"), (4, "yes")]))
+    texts.expect("a cell more", ["verify", texts.path("text.claims", loads + "spaceship more 1 1 0\nbecomes block 0 more\nstill block\n")],
+                 lines_outcome([(3, "refused, too many cells"), (4, "no, cells differ after 0"), (5, "yes")]))
 
 
 def distinct_leaves(count, level):

@@ -4,7 +4,9 @@
 Each allocation of a run is refused in turn, by tests/refuse.c, which is loaded before the C library's own allocator, until a run meets no refusal.
 Of each run either nothing changed, or it ended with `cafile: memory` and printed nothing, or one line became `refused, memory`. Besides:
 
-- each claim whose pattern reads is refused by some run: so one that lacks memory doesn't end the whole run;
+- each claim whose pattern reads is refused by some run, or by one that is refused all memory from an allocation on, where those before it are answered: so
+  one that lacks memory doesn't end the whole run;
+- once a claim's patterns were read and are kept, one refusal refuses no claim: it's judged again, and nothing is kept;
 - a claim whose file, or a rule file, is missing, or whose rule file or RLE doesn't read, is refused for that in every run;
 - claims are refused in their order, and no run ends whole once a claim was judged.
 
@@ -106,8 +108,22 @@ def needs_no_memory(line):
     return any(b": refused, " + cause in line for cause in (b"no file", b"bad table", b"bad pattern: rle"))
 
 
-def judged(ample, outcomes, each_number):
-    """What is wrong with the outcomes of a sweep over a claim text, and what came of them."""
+def is_not_read(line):
+    """Whether a claim's ample answer says that a file is missing or doesn't read."""
+    return any(b": refused, " + cause in line for cause in (b"no file", b"bad table", b"bad pattern"))
+
+
+def first_refused(ample, outcome):
+    """The place of the first line that isn't as with ample memory, where it became `refused, memory`; else None."""
+    for at, (one, other) in enumerate(zip(ample.printed.splitlines(), outcome.printed.splitlines())):
+        if one != other:
+            return at if other == one.split(b":")[0] + b": refused, memory" else None
+    return None
+
+
+def judged(ample, outcomes, for_good=None):
+    """What is wrong with the outcomes of a sweep over a claim text, and what came of them. Where those of one that goes on are given, they tell whether each
+    claim can be refused."""
     complaints, refused, ends, ends_between = [], [], 0, 0
     for number, outcome in outcomes.items():
         at = changed_line(ample, outcome)
@@ -121,10 +137,12 @@ def judged(ample, outcomes, each_number):
         elif outcome != ample:
             complaints.append(f"allocation {number}: {outcome}")
     lines = ample.printed.splitlines()
+    kept = next((at for at, line in enumerate(lines) if not is_not_read(line)), len(lines))
+    may_be = None if for_good is None else {*refused, *(first_refused(ample, it) for it in for_good.values())}
     for at, line in enumerate(lines):
-        if needs_no_memory(line) and at in refused:
+        if (needs_no_memory(line) or at > kept) and at in refused:
             complaints.append(f"{line!r}: refused for lack of memory")
-        if each_number and not needs_no_memory(line) and at not in refused:
+        if may_be is not None and not needs_no_memory(line) and at not in may_be:
             complaints.append(f"{line!r}: never refused for lack of memory")
     if ends_between:
         complaints.append(f"{ends_between} runs ended whole between two claims")
@@ -135,8 +153,10 @@ def judged(ample, outcomes, each_number):
 def try_examples(tally, refusing):
     """Each allocation of some examples in turn."""
     for name, step in EXAMPLES.items():
-        outcomes = refusing.sweep(["verify", f"examples/{name}.claims"], itertools.count(1, step))
-        complaints, told = judged(example(name), outcomes, step == 1)
+        words = ["verify", f"examples/{name}.claims"]
+        outcomes = refusing.sweep(words, itertools.count(1, step))
+        for_good = refusing.sweep(words, itertools.count(1), goes_on=True) if step == 1 else None
+        complaints, told = judged(example(name), outcomes, for_good)
         tally.tell(f"refused memory, examples/{name}.claims: {told}", complaints if outcomes else ["no allocation was refused"])
 
 
@@ -230,7 +250,7 @@ def try_large(tally, refusing, folder):
         with open(path, "w", encoding="ascii") as file:
             file.write("\n".join(lines) + "\n")
         outcomes = refusing.sweep(["verify", path], by_eighths())
-        complaints, told = judged(lines_outcome(verdicts), outcomes, False)
+        complaints, told = judged(lines_outcome(verdicts), outcomes)
         tally.tell(f"refused memory, {name}: {told}", complaints if outcomes else ["no allocation was refused"])
 
 

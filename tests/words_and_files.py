@@ -14,7 +14,7 @@ MAX_FILE = 67108864
 HELP = {
     "show": ("--rule", "format macrocell", "rule B3/S23", "gen 4", "cells 5", "box 1 2 3 3", "- is standard input", "The status is 0, or 2"),
     "convert": ("--to", "--rule", "rle, mc", "- is standard input", "The status is 0, or 2"),
-    "verify": ("CLAIMS", "--explain", "rule PATH", "load NAME PATH", "still NAME", "oscillator NAME P", "spaceship NAME P DX DY", "becomes NAME N NAME2",
+    "verify": ("CLAIMS", "--explain", "--progress", "rule PATH", "load NAME PATH", "still NAME", "oscillator NAME P", "spaceship NAME P DX DY", "becomes NAME N NAME2",
                "relative to the working directory", "hold no blanks", "- is standard input", "The status is 0", "1 where", "2 where"),
 }
 
@@ -41,7 +41,7 @@ def try_words(tally):
     """Words that ask for nothing are told on standard error with status 2."""
     block = "examples/block.rle"
     for words in (
-        [], ["verify"], ["check", "examples/block.claims"], ["verify", "--fast", "examples/block.claims"], ["verify", "--explain"],
+        [], ["verify"], ["check", "examples/block.claims"], ["verify", "--fast", "examples/block.claims"], ["verify", "--explain"], ["verify", "--progress"],
         ["verify", "--explain", "--explain", "examples/block.claims"], ["verify", "--explain=yes", "examples/block.claims"], ["verify", "-e", "examples/block.claims"],
         ["show", "-", "-"], ["show", "--explain", block], ["convert", "--explain", block, "--to", "rle"], ["verify", "examples/block.claims", "--to", "rle"],
         ["show"], ["show", block, block], ["show", block, "--rule"], ["show", block, "--to", "rle"], ["show", block, "--fast"], ["Show", block],

@@ -39,16 +39,8 @@ module _ (files : List (List ℕ × List ℕ)) (asked : Asked) (index : ℕ) (pa
 
   -- and a true note is given
   pub judged_and_noted : (note : Note) → IsNote files asked.rules patterns answer.verdict note → JudgesAndNotes (left_from files asked index) (left_from files asked (index + 1)) answer note
-  judged_and_noted note noted = record {
-    files = refl;
-    rules = refl;
-    claim = is.0;
-    claims = from_next asked.claims index is.0 is.1;
-    its_patterns = patterns;
-    patterns = from_next asked.patterns index patterns named;
-    holds = is.2;
-    noted = noted;
-  }
+  unfolding judged
+  judged_and_noted note noted = record { judges = judged; noted = noted }
 
 module _ (files : List (List ℕ × List ℕ)) (rules : List (List ℕ)) (claims : List (ℕ × Claim)) where
   -- one more is judged

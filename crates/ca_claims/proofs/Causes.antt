@@ -1,39 +1,49 @@
 -- Why a claim isn't judged, and its verdict where it is, from the patterns of its files.
-use Rattle.std.proofs.Common.{◌≡◌, ℕ, zero, suc, ◌<◌, List, [], ◌∷◌, map, length, get_or, Bor, Option, Some, None, Result, refl, sym, ap, subst, ◌∙◌, inl, inr, ◌⊎◌, arith}
+use Rattle.std.proofs.Common.{◌≡◌, ℕ, zero, suc, ◌≤◌, ◌<◌, List, [], ◌∷◌, map, length, get_or, Bor, Bool, Option, Some, None, Result, refl, sym, ap, subst, ◌∙◌, inl, inr, ◌⊎◌, arith}
+use Rattle.std.specs.Prelude.{◌≢◌, pos, IsTrue, IsFalse, ◌↔◌, MatchOption}
+use Rattle.std.proofs.lemmas.Bool.{true≢false}
 use Rattle.std.specs.List.{All, AllByRecursion, AllZip}
 use Rattle.std.specs.Option.{option_copied}
 use Rattle.std.specs.Result.{MatchResult, IsErrAnd}
 use Rattle.std.proofs.lemmas.Result.{err_from_is_err_and}
-use Rattle.ca_plane.specs.Plane.{Picture, IsSame, cell}
+use Rattle.ca_plane.specs.Plane.{Picture, cell}
 use Rattle.ca_plane.specs.Population.{HasFewCells, HasTooManyCells}
 use Rattle.ca_quad.specs.declared.node.Node.{Node}
+use Rattle.ca_quad.specs.declared.tree.Tree.{Tree}
 use Rattle.ca_quad.specs.Trees as trees
 use Rattle.ca_rule.specs.TableNext.{TableRule}
 use Rattle.ca_rule.specs.declared.fault.RuleFault.{RuleFault}
-use Rattle.ca_rule.specs.Rule.{RuleValue, states_of, next_of, IsSameRule, IsRuleFault}
+use Rattle.ca_rule.specs.Rule.{RuleValue, rule_value, next_of, IsSameRule, IsRuleFault}
 use Rattle.ca_rule.proofs.Rules.{same-refl}
-use Rattle.ca_plane.specs.Limits.{IsInRange}
 use Rattle.ca_macro.specs.Pattern.{AreInRange}
 use Rattle.ca_claims.specs.declared.pattern.Loaded.{Loaded}
+use Rattle.ca_plane.specs.Sparse.{IsSparse}
 use Rattle.ca_claims.specs.declared.claims.line.Claim.{Claim as ClaimOf}
+use Rattle.ca_claims.specs.declared.claims.asks.Asks.{Asks}
+use Rattle.ca_claims.specs.declared.claims.asks.Barred.TheVariants.{Nothing, Anywhere}
 use Rattle.ca_claims.specs.declared.verdict.Cause.{Cause}
 use Rattle.ca_claims.specs.declared.verdict.Cause.TheVariants.{NoFile, BadTable, BadPattern, BadRule, StateTooLarge, MixedRules, TooManyCells, Memory}
 use Rattle.ca_claims.specs.declared.verdict.Verdict.{Verdict}
 use Rattle.ca_claims.specs.declared.verdict.Verdict.TheVariants.{Yes, No, Refused}
 use Rattle.ca_claims.specs.declared.verifier.one_or_two.OneOrTwo.{OneOrTwo}
 use Rattle.ca_claims.specs.declared.verifier.one_or_two.OneOrTwo.TheVariants.{One, Two}
+use Rattle.ca_claims.specs.declared.verifier.prepared.Prepared.{Prepared}
+use Rattle.ca_claims.specs.declared.decide.Subject.{Subject}
 use Rattle.ca_claims.specs.declared.ruled.Ruled.{Ruled}
-use Rattle.ca_claims.specs.Text.{Claim, patterns_of, about}
+use Rattle.ca_claims.specs.Text.{Claim, patterns_of, about, HasGoodNumbers}
 use Rattle.ca_claims.specs.Places.{path_at}
 use Rattle.ca_claims.specs.Means.{bytes_at, IsReadable, MayWantMemory}
 use Rattle.ca_claims.specs.Truth.{asks_of}
-use Rattle.ca_claims.specs.inner.Decided.{IsDecided}
-use Rattle.ca_claims.specs.Answers.{IsPatternFault, IsRead, AreTables, IsRuled, HasLargeState, IsMissing, IsThere, Reads, HasRule, IsSmall, SomeOf, FirstBad, FirstIs, HaveOtherRules, HasCause, IsGood, AreGood, IsTrueVerdict}
-use Rattle.ca_claims.specs.inner.Prepared.{IsShown}
-use Rattle.ca_claims.specs.inner.Patterns.{items, IsEachOnce, IsReadFrom, IsUnread, HasName, rule_of, IsRuledAs, ShowsLarge, ShowsSmall, AreOfOneRule, AreMixed, Disagree, IsShownBy, IsCrowded, AreBoth}
-use Rattle.ca_claims.proofs.Alike.{true-same, reason-same}
-use Rattle.ca_claims.proofs.ClaimKinds.{asks_about, paths_of}
-use Rattle.ca_claims.proofs.PatternsRead.{IsReadAt, IsRuledAt, listed_in_range, listed_small, path_has_fault, path_has_rule, path_reads, plane_is_few, plane_shows, ruled_at, ruled_has_rule, ruled_is_good, ruled_is_large, ruled_is_many, ruled_is_small, ruled_picture, ruled_reads, wanted}
+use Rattle.ca_claims.specs.inner.Decided.{IsBounded, IsDecided}
+use Rattle.ca_claims.specs.Answers.{IsPatternFault, IsRead, AreTables, IsRuled, HasLargeState, IsMissing, IsThere, Reads, HasRule, IsSmall, SomeOf, FirstBad, FirstIs, HaveOtherRules, HasCause, IsGood, AreGood, IsCounted, IsJudged, IsTrueVerdict}
+use Rattle.ca_claims.specs.inner.Cells.{IsPlaneOf}
+use Rattle.ca_claims.specs.inner.Subjects.{ShowsTree, IsPattern, AreShown, IsMovedBy, IsSubject}
+use Rattle.ca_claims.specs.inner.Prepared.{IsPrepared, IsFit}
+use Rattle.ca_claims.specs.inner.Patterns.{items, IsEachOnce, IsReadFrom, IsUnread, HasName, rule_of, IsRuledAs, ShowsLarge, ShowsSmall, AreOfOneRule, AreMixed, Disagree, AreBoth}
+use Rattle.ca_claims.proofs.ClaimKinds.{asks_about, asks_bounded, asks_moved, paths_of}
+use Rattle.ca_claims.proofs.PatternsRead.{IsReadAt, IsRuledAt, path_has_fault, path_has_rule, path_reads, ruled_at, ruled_has_rule, ruled_is_good, ruled_is_large, ruled_is_many, ruled_is_small, ruled_picture, ruled_reads, tree_shows, wanted}
+use Rattle.ca_claims.proofs.Shown.{few_shown}
+use Rattle.ca_claims.proofs.Told.{level_is_low}
 use Rattle.ca_claims.proofs.Zipped.{zip_left, zip_beside, zip_some, zip_first, zip_front, zip_through, none_bad}
 
 -- ---- the paths of a claim's patterns
@@ -140,7 +150,7 @@ right_all R Q f [] (y ∷ ys) all = absurd all
 right_all R Q f (x ∷ xs) [] all = absurd all
 right_all R Q f (x ∷ xs) (y ∷ ys) all = (f x y all.0, right_all R Q f xs ys all.1)
 
--- the trees of patterns that were read are in the store, and in range
+-- the trees of patterns that were read are in the store
 module _ (nodes : List Node) (there : List (Bor (List ℕ))) (tables : List TableRule) (patterns : List Loaded) (ruled : List Ruled) (read : AllZip (λ b p. IsReadFrom nodes b.now p) there patterns)
     (named : AllZip (IsRuledAs tables) patterns ruled) where
   read_ruled : AllZip (λ b r. IsReadFrom nodes b.now r.pattern) there ruled
@@ -151,8 +161,20 @@ module _ (nodes : List Node) (there : List (Bor (List ℕ))) (tables : List Tabl
   pub are_trees : AllByRecursion (λ r. trees.IsTree nodes r.pattern.tree) ruled
   are_trees = right_all (λ b r. IsReadFrom nodes b.now r.pattern) (λ r. trees.IsTree nodes r.pattern.tree) (λ b r is. is.loaded.tree) there ruled read_ruled
 
-  pub are_in_range : AllByRecursion (λ r. AreInRange (trees.cell nodes r.pattern.tree)) ruled
-  are_in_range = right_all (λ b r. IsReadFrom nodes b.now r.pattern) (λ r. AreInRange (trees.cell nodes r.pattern.tree)) (λ b r is. is.range) there ruled read_ruled
+  -- low ones, whose live cells are in range
+  pub are_patterns : AllByRecursion (λ r. IsPattern nodes r.pattern.tree) ruled
+  are_patterns = right_all (λ b r. IsReadFrom nodes b.now r.pattern) (λ r. IsPattern nodes r.pattern.tree) (λ b r is. record {
+    is_tree = is.loaded.tree;
+    low = let low = level_is_low nodes r.pattern.tree is.loaded.trimmed is.range in omega (arith, low);
+    range = is.range;
+  }) there ruled read_ruled
+
+-- so are those that a claim is judged on
+pub both_are_patterns : (nodes : List Node) (patterns : List Ruled) (subject : Subject) → AllByRecursion (λ r. IsPattern nodes r.pattern.tree) patterns → AreBoth patterns subject
+    → IsPattern nodes subject.pattern × IsPattern nodes subject.other
+both_are_patterns nodes [] subject all both = absurd both
+both_are_patterns nodes (a ∷ []) subject all both = (subst (IsPattern nodes) (sym both.0) all.0, subst (IsPattern nodes) (sym both.1) all.0)
+both_are_patterns nodes (a ∷ b ∷ patterns) subject all both = (subst (IsPattern nodes) (sym both.0) all.0, subst (IsPattern nodes) (sym both.1) all.1.0)
 
 -- ---- causes and verdicts, where the tables are good
 
@@ -307,83 +329,70 @@ module _ (files : List (List ℕ × List ℕ)) (rules : List (List ℕ)) (tables
       );
     }
 
-    -- where a plane would have too many cells, so has a picture
-    too_many : (paths : List (List ℕ)) (patterns : OneOrTwo Ruled) (rule : RuleValue) (ruled : AllZip At paths (items patterns))
-        (small : AllByRecursion (ShowsSmall nodes) (items patterns)) (one : AreOfOneRule (items patterns) rule) → SomeOf (IsCrowded nodes TooManyCells) (items patterns)
-        → HasTooManyCells (cell (agreed paths patterns rule ruled small one).shown) ⊎ HasTooManyCells (cell (agreed paths patterns rule ruled small one).other_shown)
+    -- where the tree of a claim's pattern has too many cells, so has a picture
+    too_many : (paths : List (List ℕ)) (patterns : OneOrTwo Ruled) (subject : Subject) (rule : RuleValue) (ruled : AllZip At paths (items patterns))
+        (small : AllByRecursion (ShowsSmall nodes) (items patterns)) (one : AreOfOneRule (items patterns) rule) → AreBoth (items patterns) subject
+        → HasTooManyCells (trees.cell nodes subject.pattern) → HasTooManyCells (cell (agreed paths patterns rule ruled small one).shown)
     unfolding agreed
-    too_many [] (One a) rule ruled small one some = absurd ruled
-    too_many (p ∷ q ∷ paths) (One a) rule ruled small one some = absurd ruled.1
-    too_many (p ∷ []) (One a) rule ruled small one (inl many) = inl (ruled_is_many nodes files p tables a ruled.0 many)
-    too_many (p ∷ []) (One a) rule ruled small one (inr none) = absurd none
-    too_many [] (Two a b) rule ruled small one some = absurd ruled
-    too_many (p ∷ []) (Two a b) rule ruled small one some = absurd ruled.1
-    too_many (p ∷ q ∷ o ∷ paths) (Two a b) rule ruled small one some = absurd ruled.1.1
-    too_many (p ∷ q ∷ []) (Two a b) rule ruled small one (inl many) = inl (ruled_is_many nodes files p tables a ruled.0 many)
-    too_many (p ∷ q ∷ []) (Two a b) rule ruled small one (inr (inl many)) = inr (ruled_is_many nodes files q tables b ruled.1.0 many)
-    too_many (p ∷ q ∷ []) (Two a b) rule ruled small one (inr (inr none)) = absurd none
+    too_many [] (One a) subject rule ruled small one both many = absurd ruled
+    too_many (p ∷ q ∷ paths) (One a) subject rule ruled small one both many = absurd ruled.1
+    too_many (p ∷ []) (One a) subject rule ruled small one both many =
+        ruled_is_many nodes files p tables a ruled.0 (subst (λ t. HasTooManyCells (trees.cell nodes t)) both.0 many)
+    too_many [] (Two a b) subject rule ruled small one both many = absurd ruled
+    too_many (p ∷ []) (Two a b) subject rule ruled small one both many = absurd ruled.1
+    too_many (p ∷ q ∷ o ∷ paths) (Two a b) subject rule ruled small one both many = absurd ruled.1.1
+    too_many (p ∷ q ∷ []) (Two a b) subject rule ruled small one both many =
+        ruled_is_many nodes files p tables a ruled.0 (subst (λ t. HasTooManyCells (trees.cell nodes t)) both.0 many)
 
-    no_crowd : (patterns : List Ruled) → SomeOf (λ a. ⊥) patterns → ⊥
-    no_crowd [] some = some
-    no_crowd (a ∷ patterns) (inl here) = here
-    no_crowd (a ∷ patterns) (inr later) = no_crowd patterns later
-
-    -- so why one of the patterns isn't made a plane is a cause
-    pub crowded : (paths : List (List ℕ)) (patterns : OneOrTwo Ruled) (rule : RuleValue) (cause : Cause) → AllZip At paths (items patterns) → AllByRecursion (ShowsSmall nodes) (items patterns)
-        → AreOfOneRule (items patterns) rule → SomeOf (IsCrowded nodes cause) (items patterns) → HasCause files rules paths cause
-    crowded paths patterns rule NoFile ruled small one some = absurd (no_crowd (items patterns) some)
-    crowded paths patterns rule (BadTable fault) ruled small one some = absurd (no_crowd (items patterns) some)
-    crowded paths patterns rule (BadPattern fault) ruled small one some = absurd (no_crowd (items patterns) some)
-    crowded paths patterns rule (BadRule fault) ruled small one some = absurd (no_crowd (items patterns) some)
-    crowded paths patterns rule StateTooLarge ruled small one some = absurd (no_crowd (items patterns) some)
-    crowded paths patterns rule MixedRules ruled small one some = absurd (no_crowd (items patterns) some)
-    crowded paths patterns rule TooManyCells ruled small one some =
+    -- so why a tree isn't made a plane is a cause
+    pub crowded : (paths : List (List ℕ)) (patterns : OneOrTwo Ruled) (subject : Subject) (rule : RuleValue) (counted : Bool) (cause : Cause) → AllZip At paths (items patterns)
+        → AllByRecursion (ShowsSmall nodes) (items patterns) → AreOfOneRule (items patterns) rule → AreBoth (items patterns) subject
+        → (cause ≡ Memory) ⊎ ((cause ≡ TooManyCells) × IsTrue counted × HasTooManyCells (trees.cell nodes subject.pattern)) → HasCause files rules paths cause
+    crowded paths patterns subject rule counted cause ruled small one both (inl memory) = subst (HasCause files rules paths) (sym memory) (wanting paths patterns ruled)
+    crowded paths patterns subject rule counted cause ruled small one both (inr (many, some, crowd)) =
         let all = agreed paths patterns rule ruled small one in
-        (all.shown, all.other_shown, rule, (tables, are, all.good), too_many paths patterns rule ruled small one some)
-    crowded paths patterns rule Memory ruled small one some = wanting paths patterns ruled
+        subst (HasCause files rules paths) (sym many) (all.shown, all.other_shown, rule, (tables, are, all.good), too_many paths patterns subject rule ruled small one both crowd)
 
-    -- ---- verdicts
+    -- ---- what is judged
 
-    -- a plane is that of a pattern
-    plane_same : (path : List ℕ) (a : Ruled) (at : At path a) (plane cells : Picture) → IsShownBy nodes a plane → cells ≡ plane → IsSame cells (ruled_picture nodes files path tables a at)
-    plane_same path a at plane cells shown e = subst (λ l. IsSame l (ruled_picture nodes files path tables a at)) (sym e) (plane_shows nodes files path tables a at plane shown)
+    -- the tree of a pattern shows its file's picture
+    tree_shown : (path : List ℕ) (a : Ruled) (at : At path a) (tree : Tree) → tree ≡ a.pattern.tree → ShowsTree nodes tree (ruled_picture nodes files path tables a at)
+    tree_shown path a at tree e = subst (λ t. ShowsTree nodes t (ruled_picture nodes files path tables a at)) (sym e) (λ x y. sym (tree_shows nodes files path tables a at x y))
 
-    pub all_shown : (paths : List (List ℕ)) (patterns : OneOrTwo Ruled) (planes : List Picture) (cells other : Picture) (rule : RuleValue) → AllZip At paths (items patterns)
-        → AllByRecursion (ShowsSmall nodes) (items patterns) → AreOfOneRule (items patterns) rule → AllZip (IsShownBy nodes) (items patterns) planes → AreBoth planes cells other
-        → IsShown files rules paths cells other rule
+    -- the trees show the pictures on which the patterns agree
+    all_shown : (paths : List (List ℕ)) (patterns : OneOrTwo Ruled) (subject : Subject) (rule : RuleValue) (ruled : AllZip At paths (items patterns))
+        (small : AllByRecursion (ShowsSmall nodes) (items patterns)) (one : AreOfOneRule (items patterns) rule) → AreBoth (items patterns) subject
+        → AreShown nodes subject (agreed paths patterns rule ruled small one).shown (agreed paths patterns rule ruled small one).other_shown
     unfolding agreed
-    all_shown [] (One a) planes cells other rule ruled small one made both = absurd ruled
-    all_shown (p ∷ q ∷ paths) (One a) planes cells other rule ruled small one made both = absurd ruled.1
-    all_shown (p ∷ []) (One a) [] cells other rule ruled small one made both = absurd made
-    all_shown (p ∷ []) (One a) (u ∷ v ∷ planes) cells other rule ruled small one made both = absurd made.1
-    all_shown (p ∷ []) (One a) (u ∷ []) cells other rule ruled small one made both = record {
-      shown = ruled_picture nodes files p tables a ruled.0;
-      other_shown = ruled_picture nodes files p tables a ruled.0;
-      same = plane_same p a ruled.0 u cells made.0 both.0;
-      other_same = plane_same p a ruled.0 u other made.0 both.1;
-      judged = (
-        (tables, are, (agreed (p ∷ []) (One a) rule ruled small one).good),
-        plane_is_few nodes files p tables a ruled.0 u made.0,
-        plane_is_few nodes files p tables a ruled.0 u made.0,
-      );
-    }
-    all_shown [] (Two a b) planes cells other rule ruled small one made both = absurd ruled
-    all_shown (p ∷ []) (Two a b) planes cells other rule ruled small one made both = absurd ruled.1
-    all_shown (p ∷ q ∷ o ∷ paths) (Two a b) planes cells other rule ruled small one made both = absurd ruled.1.1
-    all_shown (p ∷ q ∷ []) (Two a b) [] cells other rule ruled small one made both = absurd made
-    all_shown (p ∷ q ∷ []) (Two a b) (u ∷ []) cells other rule ruled small one made both = absurd made.1
-    all_shown (p ∷ q ∷ []) (Two a b) (u ∷ v ∷ w ∷ planes) cells other rule ruled small one made both = absurd made.1.1
-    all_shown (p ∷ q ∷ []) (Two a b) (u ∷ v ∷ []) cells other rule ruled small one made both = record {
-      shown = ruled_picture nodes files p tables a ruled.0;
-      other_shown = ruled_picture nodes files q tables b ruled.1.0;
-      same = plane_same p a ruled.0 u cells made.0 both.0;
-      other_same = plane_same q b ruled.1.0 v other made.1.0 both.1;
-      judged = (
-        (tables, are, (agreed (p ∷ q ∷ []) (Two a b) rule ruled small one).good),
-        plane_is_few nodes files p tables a ruled.0 u made.0,
-        plane_is_few nodes files q tables b ruled.1.0 v made.1.0,
-      );
-    }
+    all_shown [] (One a) subject rule ruled small one both = absurd ruled
+    all_shown (p ∷ q ∷ paths) (One a) subject rule ruled small one both = absurd ruled.1
+    all_shown (p ∷ []) (One a) subject rule ruled small one both = record { one = tree_shown p a ruled.0 subject.pattern both.0; two = tree_shown p a ruled.0 subject.other both.1 }
+    all_shown [] (Two a b) subject rule ruled small one both = absurd ruled
+    all_shown (p ∷ []) (Two a b) subject rule ruled small one both = absurd ruled.1
+    all_shown (p ∷ q ∷ o ∷ paths) (Two a b) subject rule ruled small one both = absurd ruled.1.1
+    all_shown (p ∷ q ∷ []) (Two a b) subject rule ruled small one both = record { one = tree_shown p a ruled.0 subject.pattern both.0; two = tree_shown q b ruled.1.0 subject.other both.1 }
+
+    -- and not too many cells where they are counted
+    shown_few : (subject : Subject) (counted : Bool) (plane : Option Picture) (cells : Picture) → ShowsTree nodes subject.pattern cells
+        → MatchOption plane (IsFalse counted) (λ p. IsTrue counted × IsPlaneOf nodes subject.pattern p) → IsTrue counted → HasFewCells (cell cells)
+    shown_few subject counted None cells shows made some = absurd (true≢false (sym some ∙ made))
+    shown_few subject counted (Some p) cells shows made some =
+        few_shown (trees.cell nodes subject.pattern) (cell cells) (λ x y. sym (shows x y)) made.1.few
+
+    -- so a leaper over them is prepared
+    pub all_prepared : (paths : List (List ℕ)) (patterns : OneOrTwo Ruled) (counted : Bool) (prepared : Prepared) → nodes ≡ prepared.leaper.nodes → (rule : RuleValue) → rule ≡ rule_value prepared.leaper.rule
+        → AllZip At paths (items patterns) → AllByRecursion (ShowsSmall nodes) (items patterns) → AreOfOneRule (items patterns) rule → AreBoth (items patterns) prepared.subject
+        → MatchOption prepared.plane (IsFalse counted) (λ p. IsTrue counted × IsPlaneOf nodes prepared.subject.pattern p) → IsPrepared files rules paths counted prepared
+    all_prepared paths patterns counted prepared same rule under ruled small one both made =
+        let all = agreed paths patterns rule ruled small one in
+        let shown = all_shown paths patterns prepared.subject rule ruled small one both in
+        record {
+          cells = all.shown;
+          other = all.other_shown;
+          shown = subst (λ n. AreShown n prepared.subject all.shown all.other_shown) same shown;
+          agree = (tables, are, subst (AreGood files tables paths all.shown all.other_shown) under all.good);
+          few = shown_few prepared.subject counted prepared.plane all.shown shown.one made;
+        }
 
   -- a claim that is judged may want memory
   good_reads : (path : List ℕ) (cells : Picture) (rule : RuleValue) → IsGood files tables path cells rule → Reads files path
@@ -397,55 +406,67 @@ module _ (files : List (List ℕ × List ℕ)) (rules : List (List ℕ)) (tables
       read_wanting (p ∷ q ∷ []) (reads, (good_reads q other judged.1 judged.2, tt)) reads
   memory_wanted (p ∷ q ∷ r ∷ paths) cells other rule judged = absurd judged
 
-  -- what is decided of cells is true of the pictures that show the same
-  decided_true : (claim : Claim) (cells shown other other_shown : Picture) (rule : RuleValue) (verdict : Verdict)
-      → IsSame cells shown → IsSame other other_shown → HasFewCells (cell shown) → HasFewCells (cell other_shown) → AreGood files tables (patterns_of claim) shown other_shown rule
-      → IsDecided (next_of rule) cells other (asks_of claim) verdict → IsTrueVerdict files rules claim verdict
-  decided_true claim cells shown other other_shown rule Yes same others few other_few good decided =
-      (shown, other_shown, rule, ((tables, are, good), few, other_few), true-same (next_of rule) cells shown same other other_shown others (asks_of claim) decided)
-  decided_true claim cells shown other other_shown rule (No why) same others few other_few good decided =
-      (shown, other_shown, rule, ((tables, are, good), few, other_few), reason-same (next_of rule) cells shown same other other_shown others (asks_of claim) why decided)
-  decided_true claim cells shown other other_shown rule (Refused cause) same others few other_few good decided =
-      subst (HasCause files rules (patterns_of claim)) (sym decided) (memory_wanted (patterns_of claim) shown other_shown rule good)
+-- what is decided of pictures on which a claim's patterns agree is a true verdict
+decided_true : (files : List (List ℕ × List ℕ)) (rules : List (List ℕ)) (claim : Claim) (cells other : Picture) (rule : RuleValue) (verdict : Verdict)
+    → IsJudged files rules claim cells other rule → IsDecided (next_of rule) cells other (asks_of claim) verdict → IsTrueVerdict files rules claim verdict
+decided_true files rules claim cells other rule Yes judged decided = (cells, other, rule, judged, decided)
+decided_true files rules claim cells other rule (No why) judged decided = (cells, other, rule, judged, decided)
+decided_true files rules claim cells other rule (Refused cause) judged decided =
+    let (tables, are, good) = judged.0 in (
+      subst (HasCause files rules (patterns_of claim)) (sym decided) (memory_wanted files rules tables are (patterns_of claim) cells other rule good),
+      λ many. absurd (memory_isn't_many (sym decided ∙ many)),
+    )
+  where
+    memory_isn't_many : Memory ≡ TooManyCells → ⊥
+    memory_isn't_many e = cc
 
--- so what is decided of planes is true of a claim about paths of which each is given once
-pub true_verdict : (files : List (List ℕ × List ℕ)) (rules at : List (List ℕ)) (claim : ClaimOf ℕ) (paths : List (List ℕ)) (cells other : Picture) (rule : RuleValue) (verdict : Verdict)
-    → IsEachOnce paths (patterns_of (about (path_at at) claim)) → IsShown files rules paths cells other rule → IsDecided (next_of rule) cells other (asks_of claim) verdict
-    → IsTrueVerdict files rules (about (path_at at) claim) verdict
-true_verdict files rules at claim paths cells other rule verdict once all decided =
-    let (tables, are, good) = all.judged.0 in
-    decided_true files rules tables are (about (path_at at) claim) cells all.shown other all.other_shown rule verdict all.same all.other_same all.judged.1 all.judged.2
-    (judged_of_all files tables paths (patterns_of (about (path_at at) claim)) all.shown all.other_shown rule once good)
-    (subst (λ asks. IsDecided (next_of rule) cells other asks verdict) (sym (asks_about (path_at at) claim)) decided)
+-- so it is one of a claim about paths of which each is given once
+pub true_verdict : (files : List (List ℕ × List ℕ)) (rules at : List (List ℕ)) (claim : ClaimOf ℕ) (paths : List (List ℕ)) (counted : Bool) (prepared : Prepared) (verdict : Verdict)
+    → IsEachOnce paths (patterns_of (about (path_at at) claim)) → (IsCounted (asks_of claim) → IsTrue counted) → (is : IsPrepared files rules paths counted prepared)
+    → IsDecided (next_of (rule_value prepared.leaper.rule)) is.cells is.other (asks_of claim) verdict → IsTrueVerdict files rules (about (path_at at) claim) verdict
+true_verdict files rules at claim paths counted prepared verdict once counts is decided =
+    let rule = rule_value prepared.leaper.rule in
+    let (tables, are, good) = is.agree in
+    let asks = asks_about (path_at at) claim in
+    decided_true files rules (about (path_at at) claim) is.cells is.other rule verdict
+    ((tables, are, judged_of_all files tables paths (patterns_of (about (path_at at) claim)) is.cells is.other rule once good), λ counted. is.few (counts (subst IsCounted asks counted)))
+    (subst (λ a. IsDecided (next_of rule) is.cells is.other a verdict) (sym asks) decided)
 
--- ---- the planes that are judged
+-- ---- what is judged is fit for it
 
-module _ (nodes : List Node) where
-  -- the states of the first are small
-  first_small : (a : Ruled) (plane cells : Picture) (rule : RuleValue) → IsShownBy nodes a plane → ShowsSmall nodes a → rule ≡ rule_of a → cells ≡ plane → All (λ e. e.1 < states_of rule) cells
-  first_small a plane cells rule shown small of_rule of_cells =
-      subst (λ r. All (λ e. e.1 < states_of r) cells) (sym of_rule) (subst (All (λ e. e.1 < states_of (rule_of a))) (sym of_cells) (listed_small nodes a plane shown small))
+module _ (nodes : List Node) (counted : Bool) where
+  -- a plane of a pattern's cells is sparse and shows them
+  plane_fit : (tree : Tree) (plane : Option Picture) → MatchOption plane (IsFalse counted) (λ p. IsTrue counted × IsPlaneOf nodes tree p)
+      → MatchOption plane (IsFalse counted) (λ p. IsTrue counted × IsSparse p × ShowsTree nodes tree p)
+  plane_fit tree None made = made
+  plane_fit tree (Some p) made = (made.0, made.1.sparse, made.1.shows)
 
-  -- so those of a claim's pattern are
-  pub planes_small : (patterns : OneOrTwo Ruled) (planes : List Picture) (cells other : Picture) (rule : RuleValue) → AllZip (IsShownBy nodes) (items patterns) planes
-      → AllByRecursion (ShowsSmall nodes) (items patterns) → AreOfOneRule (items patterns) rule → AreBoth planes cells other → All (λ e. e.1 < states_of rule) cells
-  planes_small (One a) [] cells other rule made small one both = absurd both
-  planes_small (One a) (u ∷ []) cells other rule made small one both = first_small a u cells rule made.0 small.0 one both.0
-  planes_small (One a) (u ∷ v ∷ planes) cells other rule made small one both = absurd made.1
-  planes_small (Two a b) [] cells other rule made small one both = absurd both
-  planes_small (Two a b) (u ∷ []) cells other rule made small one both = absurd made.1
-  planes_small (Two a b) (u ∷ v ∷ planes) cells other rule made small one both = first_small a u cells rule made.0 small.0 one.0 both.0
+  pub all_fit : (patterns : List Ruled) (prepared : Prepared) → nodes ≡ prepared.leaper.nodes → AllByRecursion (λ r. IsPattern nodes r.pattern.tree) patterns → AreBoth patterns prepared.subject
+      → MatchOption prepared.plane (IsFalse counted) (λ p. IsTrue counted × IsPlaneOf nodes prepared.subject.pattern p) → IsFit counted prepared
+  all_fit patterns prepared same all both made =
+      let each = both_are_patterns nodes patterns prepared.subject all both in
+      record {
+        pattern = subst (λ n. IsPattern n prepared.subject.pattern) same each.0;
+        other = subst (λ n. IsPattern n prepared.subject.other) same each.1;
+        plane = subst (λ n. MatchOption prepared.plane (IsFalse counted) (λ p. IsTrue counted × IsSparse p × ShowsTree n prepared.subject.pattern p)) same (plane_fit prepared.subject.pattern prepared.plane made);
+      }
 
-  -- and their cells in range
-  pub planes_in_range : (patterns : List Ruled) (planes : List Picture) (cells other : Picture) → AllZip (IsShownBy nodes) patterns planes
-      → AllByRecursion (λ r. AreInRange (trees.cell nodes r.pattern.tree)) patterns → AreBoth planes cells other → All (λ e. IsInRange e.0) cells × All (λ e. IsInRange e.0) other
-  planes_in_range patterns [] cells other made range both = absurd both
-  planes_in_range [] (u ∷ planes) cells other made range both = absurd made
-  planes_in_range (a ∷ patterns) (u ∷ []) cells other made range both =
-      let all = listed_in_range nodes a u made.0 range.0 in
-      (subst (All (λ e. IsInRange e.0)) (sym both.0) all, subst (All (λ e. IsInRange e.0)) (sym both.1) all)
-  planes_in_range (a ∷ []) (u ∷ v ∷ planes) cells other made range both = absurd made.1
-  planes_in_range (a ∷ b ∷ patterns) (u ∷ v ∷ planes) cells other made range both = (
-    subst (All (λ e. IsInRange e.0)) (sym both.0) (listed_in_range nodes a u made.0 range.0),
-    subst (All (λ e. IsInRange e.0)) (sym both.1) (listed_in_range nodes b v made.1.0 range.1.0),
-  )
+-- so is its subject for a claim
+pub is_subject : (claim : ClaimOf ℕ) (asks : Asks) (counted : Bool) (prepared : Prepared) → asks ≡ asks_of claim → HasGoodNumbers claim → (IsTrue counted ↔ IsCounted asks) → IsFit counted prepared
+    → IsSubject prepared.leaper.nodes asks prepared.subject prepared.plane
+is_subject claim asks counted prepared same good counts fit = record { pattern = fit.pattern; other = fit.other; moved = moved prepared.plane fit.plane }
+  where
+    nothing_or_anywhere : Nothing ≡ Anywhere → ⊥
+    nothing_or_anywhere e = cc
+
+    uncounted : IsFalse counted → asks.barred ≢ Anywhere
+    uncounted never anywhere = true≢false (sym (counts.1 anywhere) ∙ never)
+
+    moved : (plane : Option Picture) → MatchOption plane (IsFalse counted) (λ p. IsTrue counted × IsSparse p × ShowsTree prepared.leaper.nodes prepared.subject.pattern p)
+        → IsMovedBy asks prepared.leaper.nodes prepared.subject.pattern plane
+    moved None made =
+        let unmoved = asks_moved claim (subst (λ a. a.barred ≢ Anywhere) same (uncounted made)) in
+        (subst (λ a. a.dx ≡ pos 0) (sym same) unmoved.0, subst (λ a. a.dy ≡ pos 0) (sym same) unmoved.1, uncounted made)
+    moved (Some p) made =
+        let anywhere = counts.0 made.0 in
+        ((subst IsBounded (sym same) (asks_bounded claim good)).own (λ none. nothing_or_anywhere (sym none ∙ anywhere)), anywhere, made.1, made.2)

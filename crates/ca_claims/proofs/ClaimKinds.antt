@@ -1,10 +1,11 @@
 -- What holds of each kind of claim: a further kind adds its case here.
-use Rattle.std.proofs.Common.{◌≡◌, ℕ, map, refl, ap, arith}
+use Rattle.std.proofs.Common.{◌≡◌, ◌≢◌, ℕ, map, refl, ap, arith}
 use Rattle.std.specs.Prelude.{pos}
 use Rattle.std.specs.List.{AllByRecursion}
 use Rattle.std.proofs.lemmas.Int.{ints}
 use Rattle.ca_claims.specs.declared.claims.line.Claim.{Claim as ClaimOf}
 use Rattle.ca_claims.specs.declared.claims.line.Claim.TheVariants.{Still, Oscillator, Spaceship, Becomes}
+use Rattle.ca_claims.specs.declared.claims.asks.Barred.TheVariants.{Anywhere}
 use Rattle.ca_claims.specs.Text.{patterns_of, about, IsShift, HasGoodNumbers}
 use Rattle.ca_claims.specs.Truth.{asks_of}
 use Rattle.ca_claims.specs.inner.Decided.{IsBounded}
@@ -51,6 +52,13 @@ asks_about f (Becomes pattern generations other) = refl
 -- (0, 0) is a shift
 no_shift : IsShift (pos 0)
 no_shift = (omega (arith, ints), omega (arith, ints))
+
+-- only a spaceship is moved
+pub asks_moved : (claim : ClaimOf ℕ) → (asks_of claim).barred ≢ Anywhere → ((asks_of claim).dx ≡ pos 0) × ((asks_of claim).dy ≡ pos 0)
+asks_moved (Still pattern) unmoved = (refl, refl)
+asks_moved (Oscillator pattern period) unmoved = (refl, refl)
+asks_moved (Spaceship pattern period dx dy) unmoved = absurd (unmoved refl)
+asks_moved (Becomes pattern generations other) unmoved = (refl, refl)
 
 -- a claim with good numbers asks for few generations, and for a live pattern where a return is barred
 pub asks_bounded : (claim : ClaimOf ℕ) → HasGoodNumbers claim → IsBounded (asks_of claim)

@@ -19,7 +19,7 @@ use Rattle.ca_run.proofs.Laters.{after_later, later_same}
 use Rattle.ca_claims.specs.declared.claims.asks.Asks.{Asks}
 use Rattle.ca_claims.specs.declared.claims.asks.Wanted.{Wanted}
 use Rattle.ca_claims.specs.declared.claims.asks.Wanted.TheVariants.{Own, Other}
-use Rattle.ca_claims.specs.declared.leap.Subject.{Subject}
+use Rattle.ca_claims.specs.declared.decide.Subject.{Subject}
 use Rattle.ca_claims.specs.declared.verdict.Why.{Why}
 use Rattle.ca_claims.specs.declared.verdict.Why.TheVariants.{Empty, Differs, Earlier}
 use Rattle.ca_claims.specs.Truth.{whose, claimed}

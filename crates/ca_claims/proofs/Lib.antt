@@ -1,10 +1,7 @@
-pub mod Walks
-pub mod Ranges
 pub mod Times
 pub mod ClaimKinds
 pub mod PathLists
 pub mod HeldNumbers
-pub mod Alike
 pub mod Zipped
 pub mod Shown
 pub mod PatternsRead

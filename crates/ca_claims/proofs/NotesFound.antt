@@ -3,11 +3,9 @@ use Rattle.std.proofs.Common.{◌≡◌, ◌≢◌, ℕ, ◌<◌, List, [], ◌�
 use Rattle.std.specs.Option.{option_copied}
 use Rattle.std.proofs.lemmas.Bool.{true≢false}
 use Rattle.std.proofs.lemmas.Option.{none-some}
-use Rattle.ca_plane.specs.Plane.{Picture}
 use Rattle.ca_rule.specs.Rule.{rule_value}
 use Rattle.ca_claims.specs.contracts.verdict.CausePartialEq.TheImpl as cause_eq
 use Rattle.ca_claims.specs.declared.claims.line.Named.{Named}
-use Rattle.ca_claims.specs.declared.verifier.one_or_two.OneOrTwo.TheVariants.{One, Two}
 use Rattle.ca_claims.specs.declared.verifier.prepared.Prepared.{Prepared}
 use Rattle.ca_claims.specs.declared.verdict.Cause.{Cause}
 use Rattle.ca_claims.specs.declared.verdict.Cause.TheVariants.{NoFile, BadTable, BadPattern, BadRule, StateTooLarge, MixedRules, TooManyCells, Memory}
@@ -17,23 +15,17 @@ use Rattle.ca_claims.specs.Answers.{IsMissing, HasCause, FirstBad}
 use Rattle.ca_claims.specs.Notes.{IsCauseOf}
 use Rattle.ca_claims.specs.Places.{named_path}
 use Rattle.ca_claims.specs.inner.Noted.{Tells}
-use Rattle.ca_claims.specs.inner.Patterns.{items, AreBoth}
 use Rattle.ca_claims.specs.inner.Prepared.{IsPrepared}
 use Rattle.ca_claims.proofs.Causes.{bytes_found}
 use Rattle.ca_claims.proofs.SameCause.{same_cause, same_cause-self}
-use Rattle.ca_claims.proofs.Verdicts.{one_cause, judged_or_cause}
+use Rattle.ca_claims.proofs.Verdicts.{one_cause, agreed_or_cause}
 
--- where one of a claim's patterns was prepared, it is judged, so no cause refuses it
-pub none_refuses : (files : List (List ℕ × List ℕ)) (rules paths : List (List ℕ)) (prepared : Prepared) → IsPrepared files rules paths prepared
-    → (cause : Cause) → cause ≢ Memory → HasCause files rules paths cause → ⊥
-none_refuses files rules paths prepared is cause m h = by (prepared.planes) refl
-  where
-    refuse : (cells other : Picture) → AreBoth (items prepared.planes) cells other → ⊥
-    refuse cells other both = let all = is cells other both in judged_or_cause files rules paths all.shown all.other_shown (rule_value prepared.rule) cause m all.judged h
-
-    by : (planes : _) → prepared.planes ≡ planes → ⊥
-    by (One u) e = refuse u u (subst (λ p. AreBoth (items p) u u) (sym e) (refl, refl))
-    by (Two u v) e = refuse u v (subst (λ p. AreBoth (items p) u v) (sym e) (refl, refl))
+-- where a pattern is prepared, no cause refuses it; too many cells were counted where they are the cause
+pub none_refuses : (files : List (List ℕ × List ℕ)) (rules paths : List (List ℕ)) (counted : Bool) (prepared : Prepared) → IsPrepared files rules paths counted prepared
+    → (cause : Cause) → cause ≢ Memory → counted ≡ (cause_eq.eq-value).it cause TooManyCells → HasCause files rules paths cause → ⊥
+none_refuses files rules paths counted prepared is cause m test =
+    agreed_or_cause files rules paths is.cells is.other (rule_value prepared.leaper.rule) cause m is.agree
+    (λ e. is.few (test ∙ subst (λ k. (cause_eq.eq-value).it k TooManyCells ≡ true) (sym e) (same_cause-self TooManyCells)))
 
 -- whether a cause is another that holds
 pub told_same : (files : List (List ℕ × List ℕ)) (rules paths : List (List ℕ)) (own cause : Cause) → own ≢ Memory → cause ≢ Memory → HasCause files rules paths own

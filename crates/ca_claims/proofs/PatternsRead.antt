@@ -4,7 +4,7 @@ use Rattle.std.specs.Prelude.{ℤ}
 use Rattle.std.specs.List.{All}
 use Rattle.ca_plane.specs.declared.point.Point.{Point}
 use Rattle.ca_plane.specs.Plane.{Picture, cell}
-use Rattle.ca_plane.specs.Population.{HasFewCells, HasTooManyCells}
+use Rattle.ca_plane.specs.Population.{HasTooManyCells}
 use Rattle.ca_plane.specs.Limits.{IsInRange}
 use Rattle.ca_plane.proofs.Pictures.{cell-listed}
 use Rattle.ca_quad.specs.declared.node.Node.{Node}
@@ -23,8 +23,9 @@ use Rattle.ca_claims.specs.declared.target.Target.TheVariants.{Rle, Mc}
 use Rattle.ca_claims.specs.declared.ruled.Ruled.{Ruled}
 use Rattle.ca_claims.specs.Means.{bytes_at, format_of, IsReadableAs, IsReadable, MayWantMemoryAs, MayWantMemory}
 use Rattle.ca_claims.specs.Answers.{IsRead, IsRuled, HasLargeState, HasSmallStates, Reads, HasRule, IsSmall, IsGood}
-use Rattle.ca_claims.specs.inner.Patterns.{IsReadFrom, HasName, rule_of, IsRuledAs, ShowsLarge, ShowsSmall, IsShownBy}
-use Rattle.ca_claims.proofs.Shown.{small_shown, large_shown, few_shown, many_shown}
+use Rattle.ca_claims.specs.inner.Cells.{IsPlaneOf}
+use Rattle.ca_claims.specs.inner.Patterns.{IsReadFrom, HasName, rule_of, IsRuledAs, ShowsLarge, ShowsSmall}
+use Rattle.ca_claims.proofs.Shown.{small_shown, large_shown, many_shown}
 
 -- ---- files that read
 
@@ -114,7 +115,7 @@ module _ (nodes : List Node) (files : List (List ℕ × List ℕ)) (path : List 
       ruled_picture = at.read_at.read.cells
 
       -- which the tree shows
-      tree_shows : (x y : ℤ) → trees.cell nodes ruled.pattern.tree x y ≡ cell ruled_picture x y
+      pub tree_shows : (x y : ℤ) → trees.cell nodes ruled.pattern.tree x y ≡ cell ruled_picture x y
       tree_shows = at.read_at.read.loaded.shows
 
       pub ruled_reads : IsRuled files tables path ruled_picture (rule_of ruled)
@@ -139,22 +140,14 @@ module _ (nodes : List Node) (files : List (List ℕ × List ℕ)) (path : List 
       pub ruled_is_many : HasTooManyCells (trees.cell nodes ruled.pattern.tree) → HasTooManyCells (cell ruled_picture)
       ruled_is_many = many_shown (trees.cell nodes ruled.pattern.tree) (cell ruled_picture) tree_shows
 
-      -- ---- its plane
-      module _ (plane : Picture) (shown : IsShownBy nodes ruled plane) where
-        pub plane_is_few : HasFewCells (cell ruled_picture)
-        plane_is_few = few_shown (trees.cell nodes ruled.pattern.tree) (cell ruled_picture) tree_shows shown.few
-
-        pub plane_shows : (x y : ℤ) → cell plane x y ≡ cell ruled_picture x y
-        plane_shows x y = shown.shows x y ∙ tree_shows x y
-
 -- each listed state of a plane is small where the tree's are
-pub listed_small : (nodes : List Node) (ruled : Ruled) (plane : Picture) → IsShownBy nodes ruled plane → ShowsSmall nodes ruled → All (λ e. e.1 < states_of (rule_of ruled)) plane
+pub listed_small : (nodes : List Node) (ruled : Ruled) (plane : Picture) → IsPlaneOf nodes ruled.pattern.tree plane → ShowsSmall nodes ruled → All (λ e. e.1 < states_of (rule_of ruled)) plane
 listed_small nodes ruled plane shown small = λ k d l.
     let at : Point = (get_or plane k d).0 in
     subst (λ s. s < states_of (rule_of ruled)) (sym (shown.shows at.x at.y) ∙ cell-listed plane shown.sparse k d l) (small at.x at.y)
 
 -- and each listed cell is in range
-pub listed_in_range : (nodes : List Node) (ruled : Ruled) (plane : Picture) → IsShownBy nodes ruled plane → AreInRange (trees.cell nodes ruled.pattern.tree) → All (λ e. IsInRange e.0) plane
+pub listed_in_range : (nodes : List Node) (ruled : Ruled) (plane : Picture) → IsPlaneOf nodes ruled.pattern.tree plane → AreInRange (trees.cell nodes ruled.pattern.tree) → All (λ e. IsInRange e.0) plane
 listed_in_range nodes ruled plane shown range = λ k d l.
     let at : Point = (get_or plane k d).0 in
     let low : 1 ≤ (get_or plane k d).1 = (shown.sparse.states k d l).0 in

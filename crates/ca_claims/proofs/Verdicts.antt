@@ -17,7 +17,7 @@ use Rattle.ca_rle.proofs.OneFile as rle_file
 use Rattle.ca_rle.proofs.OneFault as rle_fault
 use Rattle.ca_macro.specs.Shown as macrocell_shown
 use Rattle.ca_macro.proofs.OneMeaning as macrocell
-use Rattle.ca_plane.specs.Population.{HasTooManyCells}
+use Rattle.ca_plane.specs.Population.{HasFewCells}
 use Rattle.ca_plane.proofs.Populations.{not_both}
 use Rattle.ca_claims.proofs.Times.{unmoved}
 use Rattle.ca_claims.specs.declared.verdict.Why.{Why}
@@ -32,8 +32,9 @@ use Rattle.ca_claims.specs.declared.claims.asks.Barred.TheVariants.{Nothing, InP
 use Rattle.ca_claims.specs.declared.target.Target.{Target}
 use Rattle.ca_claims.specs.declared.target.Target.TheVariants as target
 use Rattle.ca_claims.specs.Means.{format_of, MeansAs, Means, IsReadableAs, IsReadable, bytes_at}
+use Rattle.ca_claims.specs.Text.{Claim, patterns_of}
 use Rattle.ca_claims.specs.Truth.{IsNotBack, MayReturnBy, IsTrueClaim, IsReason}
-use Rattle.ca_claims.specs.Answers.{IsPatternFault, IsQuietTable, IsTableFault, IsRead, IsTableAt, AreTables, IsRuled, IsMissing, IsThere, HoldsTable, Reads, HasRule, IsSmall, HasLargeState, SomeOf, FirstBad, HaveOtherRules, AgreeOn, HasCause, IsGood, AreGood, IsJudged}
+use Rattle.ca_claims.specs.Answers.{IsPatternFault, IsQuietTable, IsTableFault, IsRead, IsTableAt, AreTables, IsRuled, IsMissing, IsThere, HoldsTable, Reads, HasRule, IsSmall, HasLargeState, SomeOf, FirstBad, HaveOtherRules, AgreeOn, HasCause, IsCauseFor, IsGood, AreGood, IsJudged}
 use Rattle.ca_claims.proofs.Zipped.{zip_left}
 
 -- the file of the path has this fault as the text of a table
@@ -296,11 +297,7 @@ OfTables files rules Holds = (tables : List TableRule) × AreTables files rules 
 of_these : (files : List (List ℕ × List ℕ)) (rules : List (List ℕ)) (Holds : List TableRule → Type 0) (tables : List TableRule) → AreTables files rules tables → OfTables files rules Holds → Holds tables
 of_these files rules Holds tables are (others, there, h) = subst Holds (one_tables files rules others tables there are) h
 
--- patterns that agree have few cells
-abbrev AreFew : List (List ℕ × List ℕ) → List (List ℕ) → List (List ℕ) → Type 0
-AreFew files rules paths = (cells other : Picture) (rule : RuleValue) → AgreeOn files rules paths cells other rule → HasTooManyCells (cell cells) ⊎ HasTooManyCells (cell other) → ⊥
-
--- none of the first n causes holds
+-- none of the first n causes holds, up to the one that counts cells
 abbrev IsPast : List (List ℕ × List ℕ) → List (List ℕ) → List (List ℕ) → ℕ → Type 0
 IsPast files rules paths zero = Unit {0}
 IsPast files rules paths (suc zero) = AllByRecursion (IsThere files) paths × AllByRecursion (IsThere files) rules
@@ -308,11 +305,8 @@ IsPast files rules paths (suc (suc zero)) = OfTables files rules (λ tables. All
 IsPast files rules paths (suc (suc (suc zero))) = OfTables files rules (λ tables. AllByRecursion (Reads files) paths)
 IsPast files rules paths (suc (suc (suc (suc zero)))) = OfTables files rules (λ tables. AllByRecursion (HasRule files tables) paths)
 IsPast files rules paths (suc (suc (suc (suc (suc zero))))) = OfTables files rules (λ tables. AllByRecursion (IsSmall files tables) paths)
-IsPast files rules paths (suc (suc (suc (suc (suc (suc zero)))))) =
+IsPast files rules paths (suc (suc (suc (suc (suc (suc n)))))) =
     OfTables files rules (λ tables. AllByRecursion (IsSmall files tables) paths × (SomeOf (λ p. SomeOf (HaveOtherRules files tables p) paths) paths → ⊥))
-IsPast files rules paths (suc (suc (suc (suc (suc (suc (suc n))))))) =
-    OfTables files rules (λ tables. AllByRecursion (IsSmall files tables) paths × (SomeOf (λ p. SomeOf (HaveOtherRules files tables p) paths) paths → ⊥))
-    × AreFew files rules paths
 
 module _ (files : List (List ℕ × List ℕ)) (rules paths : List (List ℕ)) where
   -- nor one fewer
@@ -323,8 +317,7 @@ module _ (files : List (List ℕ × List ℕ)) (rules paths : List (List ℕ)) w
   past_one_fewer (suc (suc (suc zero))) (tables, are, h) = (tables, are, all_weaker (HasRule files tables) (Reads files) (λ p r. (r.2.1.bytes, r.2.1.at_path, r.2.1.readable)) paths h)
   past_one_fewer (suc (suc (suc (suc zero)))) (tables, are, h) = (tables, are, all_weaker (IsSmall files tables) (HasRule files tables) (λ p r. (r.0, r.1, r.2)) paths h)
   past_one_fewer (suc (suc (suc (suc (suc zero))))) (tables, are, h) = (tables, are, h.0)
-  past_one_fewer (suc (suc (suc (suc (suc (suc zero)))))) h = h.0
-  past_one_fewer (suc (suc (suc (suc (suc (suc (suc n))))))) h = h
+  past_one_fewer (suc (suc (suc (suc (suc (suc n)))))) h = h
 
   -- nor any fewer
   past_fewer : (n m : ℕ) → IsPast files rules paths (m + n) → IsPast files rules paths n
@@ -352,8 +345,8 @@ module _ (files : List (List ℕ × List ℕ)) (rules paths : List (List ℕ)) w
   tables_or_fault fault tables are first =
       all_or_first (HoldsTable files) (IsBadTable files fault) (λ p. table_or_fault files p fault) rules (zip_left (IsTableAt files) (HoldsTable files) (λ path table at. (table, at)) rules tables are) first
 
-  -- a cause isn't past itself
-  not_past : (cause : Cause) → cause ≢ Memory → HasCause files rules paths cause → IsPast files rules paths (suc (place cause)) → ⊥
+  -- a cause before the one that counts cells isn't past itself
+  not_past : (cause : Cause) → suc (place cause) ≤ 6 → HasCause files rules paths cause → IsPast files rules paths (suc (place cause)) → ⊥
   not_past NoFile m (inl none) past = all_or_some (IsThere files) (IsMissing files) (there_or_none files) paths past.0 none
   not_past NoFile m (inr none) past = all_or_some (IsThere files) (IsMissing files) (there_or_none files) rules past.1 none
   not_past (BadTable fault) m h (tables, are, past) = tables_or_fault fault tables are h.2
@@ -365,8 +358,8 @@ module _ (files : List (List ℕ × List ℕ)) (rules paths : List (List ℕ)) w
       all_or_some (IsSmall files tables) (IsLarge files tables) (λ p. small_or_large files p tables) paths (of_these files rules (λ t. AllByRecursion (IsSmall files t) paths) tables are past) some
   not_past MixedRules m (tables, are, all, some) past =
       (of_these files rules (λ t. AllByRecursion (IsSmall files t) paths × (SomeOf (λ p. SomeOf (HaveOtherRules files t p) paths) paths → ⊥)) tables are past).1 some
-  not_past TooManyCells m (cells, other, rule, agree, some) past = past.1 cells other rule agree some
-  not_past Memory m h past = m refl
+  not_past TooManyCells m h past = let no : ⊥ = omega arith in no
+  not_past Memory m h past = let no : ⊥ = omega arith in no
 
   -- causes at one place are one
   same_place : (c d : Cause) → c ≢ Memory → d ≢ Memory → place c ≡ place d → HasCause files rules paths c → HasCause files rules paths d → c ≡ d
@@ -392,13 +385,13 @@ module _ (files : List (List ℕ × List ℕ)) (rules paths : List (List ℕ)) w
   one_cause c d m n h k =
       elim (cases_order (place c) (place d)) [
         | inl e ↦ same_place c d m n e h k
-        | inr (inl e) ↦ absurd (not_past c m h (past_below (suc (place c)) (place d) (omega arith) (past_before d n k)))
-        | inr (inr e) ↦ absurd (not_past d n k (past_below (suc (place d)) (place c) (omega arith) (past_before c m h)))
+        | inr (inl e) ↦ absurd (not_past c (omega (arith, place_within d n)) h (past_below (suc (place c)) (place d) (omega arith) (past_before d n k)))
+        | inr (inr e) ↦ absurd (not_past d (omega (arith, place_within c m)) k (past_below (suc (place d)) (place c) (omega arith) (past_before c m h)))
       ]
 
   -- a file that isn't there goes before out of memory
   pub no_file_or_memory : HasCause files rules paths NoFile → HasCause files rules paths Memory → ⊥
-  no_file_or_memory none (tables, are, all, first) = not_past NoFile (λ e. cc) none (all, tables_there files rules tables are)
+  no_file_or_memory none (tables, are, all, first) = not_past NoFile (omega arith) none (all, tables_there files rules tables are)
 
   -- and so does a bad table
   pub bad_table_or_memory : (fault : TableFault) → HasCause files rules paths (BadTable fault) → HasCause files rules paths Memory → ⊥
@@ -411,31 +404,35 @@ module _ (files : List (List ℕ × List ℕ)) (rules paths : List (List ℕ)) w
   one_agreed : (p q o v : Picture) (r s : RuleValue) → AgreeOn files rules paths p o r → AgreeOn files rules paths q v s → (p ≡ q) × (o ≡ v) × (r ≡ s)
   one_agreed p q o v r s (tables, are, good) b = one_good files tables paths p q o v r s good (of_these files rules (λ t. AreGood files t paths q v s) tables are b)
 
-  -- where few cells are judged, the patterns have few in any way
-  judged_few : (cells other : Picture) (rule : RuleValue) → IsJudged files rules paths cells other rule → AreFew files rules paths
-  judged_few cells other rule judged = λ p o r agree many.
-      let one = one_agreed cells p other o rule r judged.0 agree in
-      elim many [
-        | inl own ↦ not_both (cell cells) (cell p) (λ x y. ap (λ l. cell l x y) one.0) judged.1 own
-        | inr others ↦ not_both (cell other) (cell o) (λ x y. ap (λ l. cell l x y) one.1) judged.2 others
-      ]
+  -- where they agree, no cause holds before the one that counts cells
+  agreed_or_early : (cells other : Picture) (rule : RuleValue) (cause : Cause) → suc (place cause) ≤ 6 → AgreeOn files rules paths cells other rule → HasCause files rules paths cause → ⊥
+  agreed_or_early cells other rule cause early (tables, are, good) h =
+      not_past files rules paths cause early h (past_below files rules paths (suc (place cause)) 6 early (tables, are, none_mixed files tables paths cells other rule good))
 
+  -- nor that one, where the cells aren't too many
+  pub agreed_or_cause : (cells other : Picture) (rule : RuleValue) (cause : Cause) → cause ≢ Memory → AgreeOn files rules paths cells other rule
+      → (cause ≡ TooManyCells → HasFewCells (cell cells)) → HasCause files rules paths cause → ⊥
+  agreed_or_cause cells other rule NoFile m agree few h = agreed_or_early cells other rule NoFile (omega arith) agree h
+  agreed_or_cause cells other rule (BadTable fault) m agree few h = agreed_or_early cells other rule (BadTable fault) (omega arith) agree h
+  agreed_or_cause cells other rule (BadPattern fault) m agree few h = agreed_or_early cells other rule (BadPattern fault) (omega arith) agree h
+  agreed_or_cause cells other rule (BadRule fault) m agree few h = agreed_or_early cells other rule (BadRule fault) (omega arith) agree h
+  agreed_or_cause cells other rule StateTooLarge m agree few h = agreed_or_early cells other rule StateTooLarge (omega arith) agree h
+  agreed_or_cause cells other rule MixedRules m agree few h = agreed_or_early cells other rule MixedRules (omega arith) agree h
+  agreed_or_cause cells other rule TooManyCells m agree few (p, o, r, same, many) =
+      let one = one_agreed cells p other o rule r agree same in
+      not_both (cell cells) (cell p) (λ x y. ap (λ l. cell l x y) one.0) (few refl) many
+  agreed_or_cause cells other rule Memory m agree few h = m refl
+
+module _ (files : List (List ℕ × List ℕ)) (rules : List (List ℕ)) (claim : Claim) where
   -- a claim is judged or refused for a cause, not both, out of memory apart
-  pub judged_or_cause : (cells other : Picture) (rule : RuleValue) (cause : Cause) → cause ≢ Memory → IsJudged files rules paths cells other rule → HasCause files rules paths cause → ⊥
-  judged_or_cause cells other rule cause m judged h =
-      let (tables, are, good) = judged.0 in
-      not_past files rules paths cause m h
-      (past_below files rules paths (suc (place cause)) 7 (place_within cause m) ((tables, are, none_mixed files tables paths cells other rule good), judged_few cells other rule judged))
-
-  -- a claim is judged in one way
-  one_judged : (p q o v : Picture) (r s : RuleValue) → IsJudged files rules paths p o r → IsJudged files rules paths q v s → (p ≡ q) × (o ≡ v) × (r ≡ s)
-  one_judged p q o v r s a b = one_agreed p q o v r s a.0 b.0
+  pub judged_or_cause : (cells other : Picture) (rule : RuleValue) (cause : Cause) → cause ≢ Memory → IsJudged files rules claim cells other rule → IsCauseFor files rules claim cause → ⊥
+  judged_or_cause cells other rule cause m judged h = agreed_or_cause files rules (patterns_of claim) cells other rule cause m judged.0 (λ e. judged.1 (h.1 e)) h.0
 
   -- a claim that is judged is true or false, not both
-  pub yes_or_no : (asks : Asks) (why : Why) (p q o v : Picture) (r s : RuleValue) → IsJudged files rules paths p o r → IsJudged files rules paths q v s
+  pub yes_or_no : (asks : Asks) (why : Why) (p q o v : Picture) (r s : RuleValue) → IsJudged files rules claim p o r → IsJudged files rules claim q v s
       → IsTrueClaim (next_of r) p o asks → IsReason (next_of s) q v asks why → ⊥
   yes_or_no asks why p q o v r s a b true reason =
-      let one = one_judged p q o v r s a b in
+      let one = one_agreed files rules (patterns_of claim) p q o v r s a.0 b.0 in
       let by_rule = subst (λ u. IsTrueClaim (next_of u) p o asks) one.2 true in
       let by_cells = subst (λ c. IsTrueClaim (next_of s) c o asks) one.0 by_rule in
       false_from_reason (next_of s) q v asks why reason (subst (λ c. IsTrueClaim (next_of s) q c asks) one.1 by_cells)

@@ -21,6 +21,8 @@ use Rattle.ca_claims.specs.declared.verdict.PatternFault.{PatternFault}
 use Rattle.ca_claims.specs.declared.verdict.PatternFault.TheVariants as pattern_fault
 use Rattle.ca_claims.specs.declared.verdict.Cause.{Cause}
 use Rattle.ca_claims.specs.declared.verdict.Cause.TheVariants.{NoFile, BadTable, BadPattern, BadRule, StateTooLarge, MixedRules, TooManyCells, Memory}
+use Rattle.ca_claims.specs.declared.claims.asks.Asks.{Asks}
+use Rattle.ca_claims.specs.declared.claims.asks.Barred.TheVariants.{Anywhere}
 use Rattle.ca_claims.specs.Text.{Claim, patterns_of}
 use Rattle.ca_claims.specs.Means.{bytes_at, format_of, Means, IsReadable, MayWantMemory}
 use Rattle.ca_claims.specs.Truth.{asks_of, IsTrueClaim, IsReason}
@@ -144,22 +146,30 @@ HasCause files rules paths StateTooLarge = (tables : List TableRule) × AreTable
 HasCause files rules paths MixedRules = (tables : List TableRule) × AreTables files rules tables × AllByRecursion (IsSmall files tables) paths
     × SomeOf (λ p. SomeOf (HaveOtherRules files tables p) paths) paths
 HasCause files rules paths TooManyCells = (cells : Picture) × (other : Picture) × (rule : RuleValue) × AgreeOn files rules paths cells other rule
-    × (HasTooManyCells (cell cells) ⊎ HasTooManyCells (cell other))
+    × HasTooManyCells (cell cells)
 HasCause files rules paths Memory = (tables : List TableRule) × AreTables files rules tables × AllByRecursion (IsThere files) paths
     × FirstIs (λ p. (bytes : List ℕ) × (bytes_at files p ≡ Some bytes) × MayWantMemory bytes) paths
 
--- no cause but out of memory holds: besides no pattern has too many cells
-abbrev pub IsJudged : List (List ℕ × List ℕ) → List (List ℕ) → List (List ℕ) → Picture → Picture → RuleValue → Type 0
-IsJudged files rules paths cells other rule = AgreeOn files rules paths cells other rule × HasFewCells (cell cells) × HasFewCells (cell other)
+-- cells are counted only of a pattern that may be back anywhere, that of a spaceship
+abbrev pub IsCounted : Asks → Type 0
+IsCounted asks = asks.barred ≡ Anywhere
+
+-- the cause is that of a claim that asks this: it holds of the claim's patterns, and too many cells only where they are counted
+abbrev pub IsCauseFor : List (List ℕ × List ℕ) → List (List ℕ) → Claim → Cause → Type 0
+IsCauseFor files rules claim cause = HasCause files rules (patterns_of claim) cause × (cause ≡ TooManyCells → IsCounted (asks_of claim))
+
+-- no cause but out of memory is that of the claim: besides its pattern hasn't too many cells, where they are counted
+abbrev pub IsJudged : List (List ℕ × List ℕ) → List (List ℕ) → Claim → Picture → Picture → RuleValue → Type 0
+IsJudged files rules claim cells other rule = AgreeOn files rules (patterns_of claim) cells other rule × (IsCounted (asks_of claim) → HasFewCells (cell cells))
 
 -- a verdict is true: a yes of a claim that is true of the planes that the files mean, a no of one that is false, with the
 -- reason, and a refusal with its cause; a yes and a no come only where no cause but out of memory holds
 abbrev pub IsTrueVerdict : List (List ℕ × List ℕ) → List (List ℕ) → Claim → Verdict → Type 0
-IsTrueVerdict files rules claim Yes = (cells : Picture) × (other : Picture) × (rule : RuleValue) × IsJudged files rules (patterns_of claim) cells other rule
+IsTrueVerdict files rules claim Yes = (cells : Picture) × (other : Picture) × (rule : RuleValue) × IsJudged files rules claim cells other rule
     × IsTrueClaim (next_of rule) cells other (asks_of claim)
-IsTrueVerdict files rules claim (No why) = (cells : Picture) × (other : Picture) × (rule : RuleValue) × IsJudged files rules (patterns_of claim) cells other rule
+IsTrueVerdict files rules claim (No why) = (cells : Picture) × (other : Picture) × (rule : RuleValue) × IsJudged files rules claim cells other rule
     × IsReason (next_of rule) cells other (asks_of claim) why
-IsTrueVerdict files rules claim (Refused cause) = HasCause files rules (patterns_of claim) cause
+IsTrueVerdict files rules claim (Refused cause) = IsCauseFor files rules claim cause
 
 -- the answer has the number of the claim's line, and a true verdict
 abbrev pub IsTrueAnswer : List (List ℕ × List ℕ) → List (List ℕ) → ℕ × Claim → Answer → Type 0

@@ -26,14 +26,8 @@ pub record Judges (old new : Judging) (answer : Answer) : Type 0 where
 
 -- and the note is true of its verdict
 pub record JudgesAndNotes (old new : Judging) (answer : Answer) (note : Note) : Type 0 where
-  pub files : new.files ≡ old.files
-  pub rules : new.rules ≡ old.rules
-  pub claim : ℕ × Claim
-  pub claims : old.claims ≡ claim ∷ new.claims
-  pub its_patterns : List (List ℕ × List ℕ)
-  pub patterns : old.patterns ≡ its_patterns ∷ new.patterns
-  pub holds : IsTrueAnswer old.files old.rules claim answer
-  pub noted : IsNote old.files old.rules its_patterns answer.verdict note
+  pub judges : Judges old new answer
+  pub noted : IsNote old.files old.rules judges.its_patterns answer.verdict note
 
 -- no claim is left, and nothing changed
 abbrev pub IsDone : Judging → Judging → Type 0

@@ -73,3 +73,8 @@ IsNote files rules patterns verdict (Cell name) = (x : ℤ) × (y : ℤ) × (fou
 IsNote files rules patterns verdict (Pattern name path line) = (cause : Cause) × (verdict ≡ Refused cause)
     × IsAbout files rules patterns cause name.now path.now × IsToldLine files path.now cause line
 IsNote files rules patterns verdict (RuleFile path) = (cause : Cause) × (verdict ≡ Refused cause) × IsOfRuleFile files rules cause path.now
+
+-- where cells differ, something is noted; elsewhere there may be no memory to find it, or no more to tell
+abbrev pub IsGiven : Verdict → Note → Type 0
+IsGiven (No (Differs x y found wanted generations)) Nothing = ⊥
+IsGiven verdict note = Unit {0}

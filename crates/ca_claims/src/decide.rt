@@ -1,40 +1,53 @@
-//! Whether a claim is true of planes that are at hand, by steps of one generation.
+//! Whether a claim is true of patterns that stand in a leaper's store, by leaps.
 
-ghost use Rattle.std.specs.Prelude.{◌≡◌, ◌<◌, pos, IfOk, IsTrue, ◌↔◌, MatchOption};
-ghost use Rattle.std.specs.List.{All};
-ghost use Rattle.ca_plane.specs.Plane.{IsSame, shifted};
-ghost use Rattle.ca_plane.specs.Limits.{IsInRange};
-ghost use Rattle.ca_claims.specs.Text.{IsShift};
-ghost use Rattle.ca_claims.specs.Truth.{whose as whose_cells, claimed, IsTrueClaim, IsReason};
+ghost use Rattle.std.specs.Prelude.{◌≡◌, ◌≢◌, ◌≤◌, ◌^◌, ℤ, None, IfOk, IfSome, IsTrue, IsFalse, MatchOption};
+ghost use Rattle.std.specs.Option.{option_copied};
+ghost use Rattle.ca_plane.specs.Plane.{Picture, cell as plane_cell};
+ghost use Rattle.ca_plane.specs.Generations.{after, IsAfter};
+ghost use Rattle.ca_plane.specs.Box.{LeavesPlane};
+ghost use Rattle.ca_quad.specs.Boxes.{IsDead};
+ghost use Rattle.ca_quad.specs.Trees.{cell};
+ghost use Rattle.ca_run.specs.Leaping.{GoesOn};
+ghost use Rattle.ca_claims.specs.Truth.{claimed, IsTrueClaim, IsReason};
 ghost use Rattle.ca_claims.specs.inner.Decided.{IsBounded, IsDecided};
-ghost use Rattle.ca_claims.specs.inner.Returns.{IsDifference};
+ghost use Rattle.ca_claims.specs.inner.Subjects.{ShowsTree, IsPattern, IsNear, IsSubject, AreShown, HasLive, IsEnd, IsMoved, IsUnlike, whose_tree};
 
-pub(crate) mod divisors;
-mod moves;
-mod run;
+mod divisors;
+mod returns;
 
-use crate::claims::{Asks, Wanted};
+use crate::claims::{Asks, Barred, Wanted};
+use crate::observer::Observer;
 use crate::verdict::{Cause, Verdict, Why};
 use ca_plane::{Automaton, Memory, MoveFault, Plane};
-use run::run;
+use ca_quad::{Spot, Store, Tree};
+use ca_run::{LeapFault, Leaper};
+use returns::first_return;
 use std::alloc::Global;
 
-/// Whether a claim that asks this is true of the cells under the rule. `other` is the plane of the other pattern that a
-/// claim may name.
-pub(crate) fn decide<A: Automaton>(
+/// The trees that a claim is judged on.
+#[derive(Drop)]
+pub(crate) struct Subject {
+    /// That of the claim's pattern.
+    pub(crate) pattern: Tree,
+    /// That of the other pattern that a claim may name; else the same one.
+    pub(crate) other: Tree,
+}
+
+/// Whether a claim that asks this is true of the patterns under the leaper's rule. The plane is that of the claim's pattern, where
+/// the claim moves it.
+pub(crate) fn decide<A: Automaton, O: Observer>(
     alloc: Global,
-    rule: &A,
-    cells: &Plane,
-    other: &Plane,
+    leaper: &mut Leaper<A>,
+    subject: &Subject,
+    plane: Option<&Plane>,
     asks: Asks,
+    observer: &mut O,
 ) -> Verdict
-    requires states { All (λ e. e.1 < A.state_count rule.now) cells.now }
-    requires range { All (λ e. IsInRange e.0) cells.now }
-    requires other_range { All (λ e. IsInRange e.0) other.now }
+    requires subject { IsSubject leaper.old.nodes asks subject.now (option_copied plane) }
     requires bounded { IsBounded asks }
-    ensures { IsDecided (A.next_of rule.now) cells.now other.now asks result }
+    ensures { (cells other : Picture) → AreShown leaper.old.nodes subject.now cells other → IsDecided (A.next_of leaper.old.rule) cells other asks result }
 {
-    match why_not(alloc, rule, cells, other, asks) {
+    match why_not(alloc, leaper, subject, plane, asks, observer) {
         Ok(None) => Verdict::Yes,
         Ok(Some(why)) => Verdict::No(why),
         Err(Memory) => Verdict::Refused(Cause::Memory),
@@ -42,99 +55,221 @@ pub(crate) fn decide<A: Automaton>(
 }
 
 // Why the claim is false, if it is.
-fn why_not<A: Automaton>(
+fn why_not<A: Automaton, O: Observer>(
     alloc: Global,
-    rule: &A,
-    cells: &Plane,
-    other: &Plane,
+    leaper: &mut Leaper<A>,
+    subject: &Subject,
+    plane: Option<&Plane>,
     asks: Asks,
+    observer: &mut O,
 ) -> Result<Option<Why>, Memory>
-    requires states { All (λ e. e.1 < A.state_count rule.now) cells.now }
-    requires range { All (λ e. IsInRange e.0) cells.now }
-    requires other_range { All (λ e. IsInRange e.0) other.now }
+    requires subject { IsSubject leaper.old.nodes asks subject.now (option_copied plane) }
     requires bounded { IsBounded asks }
-    ensures { IfOk result (λ why. MatchOption why
-        (IsTrueClaim (A.next_of rule.now) cells.now other.now asks)
-        (IsReason (A.next_of rule.now) cells.now other.now asks)) }
+    ensures { (cells other : Picture) → AreShown leaper.old.nodes subject.now cells other → IfOk result (λ why. MatchOption why
+        (IsTrueClaim (A.next_of leaper.old.rule) cells other asks)
+        (IsReason (A.next_of leaper.old.rule) cells other asks)) }
 {
-    if asks.live && cells.is_empty() {
+    if is_wrongly_dead(leaper.store(), &subject.pattern, asks) {
         return Ok(Some(Why::Empty));
     }
-    if asks.generations == 0 {
-        return unlike_claimed(alloc, cells, cells, other, asks);
+    if let Some(why) = unlike_claimed(alloc, leaper, subject, plane, asks, observer)? {
+        return Ok(Some(why));
     }
-    let (end, earlier) = run(alloc, rule, cells, asks)?;
-    let unlike = unlike_claimed(alloc, &end, cells, other, asks)?;
-    Ok(unlike.or(earlier))
+    match asks.barred {
+        Barred::Nothing => Ok(None),
+        _ => first_return(alloc, leaper, subject, plane, asks, observer),
+    }
 }
 
-// Where the plane after the claim's generations isn't the claimed one, if it isn't.
-fn unlike_claimed(
+// Whether no cell of a pattern's tree is live, and one must be.
+fn is_wrongly_dead(store: &Store, pattern: &Tree, asks: Asks) -> bool
+    requires { IsPattern store.now pattern.now }
+    ensures dead { IsTrue result → IsTrue asks.live × IsDead (cell store.now pattern.now) }
+    ensures live { IsFalse result → IsTrue asks.live → HasLive (cell store.now pattern.now) }
+{
+    asks.live && is_dead(store, pattern)
+}
+
+// Whether no cell of a pattern's tree is live.
+fn is_dead(store: &Store, pattern: &Tree) -> bool
+    requires { IsPattern store.now pattern.now }
+    ensures dead { IsTrue result → IsDead (cell store.now pattern.now) }
+    ensures live { IsFalse result → HasLive (cell store.now pattern.now) }
+{
+    store.is_empty(pattern.root)
+}
+
+// Where the cells after the claim's generations aren't the claimed ones, if they aren't.
+fn unlike_claimed<A: Automaton, O: Observer>(
     alloc: Global,
-    end: &Plane,
-    cells: &Plane,
-    other: &Plane,
+    leaper: &mut Leaper<A>,
+    subject: &Subject,
+    plane: Option<&Plane>,
     asks: Asks,
+    observer: &mut O,
 ) -> Result<Option<Why>, Memory>
-    requires range { All (λ e. IsInRange e.0) cells.now }
-    requires other_range { All (λ e. IsInRange e.0) other.now }
+    requires subject { IsSubject leaper.old.nodes asks subject.now (option_copied plane) }
     requires bounded { IsBounded asks }
-    ensures { IfOk result (λ why. MatchOption why
-        (IsSame end.now (claimed asks cells.now other.now))
-        (IsDifference end.now (claimed asks cells.now other.now) asks.generations)) }
+    ensures unlike { (cells other : Picture) → AreShown leaper.old.nodes subject.now cells other → IfOk result (λ why. MatchOption why
+        (IsAfter (A.next_of leaper.old.rule) cells asks.generations (claimed asks cells other))
+        (IsUnlike (after (A.next_of leaper.old.rule) cells asks.generations) (plane_cell (claimed asks cells other)) asks.generations)) }
+    ensures goes_on { GoesOn A leaper.old leaper.new }
 {
-    let wanted = whose(asks.wanted, cells, other);
-    if is_in_place(asks.dx, asks.dy) {
-        return Ok(unlike(end, wanted, asks.generations));
-    }
-    let wanted = moved(alloc, wanted, asks.dx, asks.dy)?;
-    Ok(unlike(end, &wanted, asks.generations))
+    // Says what holds of every leaper.
+    let _ = leaper.store();
+    let end = end_after(leaper, copy(&subject.pattern), asks.generations, observer)?;
+    let wanted = wanted_tree(alloc, leaper, subject, plane, asks)?;
+    unlike(leaper, end, wanted, asks.generations)
 }
 
-// Whether a vector is (0, 0).
-fn is_in_place(dx: i64, dy: i64) -> bool
-    ensures { IsTrue result ↔ ((dx ≡ pos 0) × (dy ≡ pos 0)) }
+// The tree of the claimed cells.
+fn wanted_tree<A: Automaton>(
+    alloc: Global,
+    leaper: &mut Leaper<A>,
+    subject: &Subject,
+    plane: Option<&Plane>,
+    asks: Asks,
+) -> Result<Tree, Memory>
+    requires subject { IsSubject leaper.old.nodes asks subject.now (option_copied plane) }
+    requires bounded { IsBounded asks }
+    ensures near { IfOk result (IsNear leaper.new.nodes) }
+    ensures shows { (cells other : Picture) → AreShown leaper.old.nodes subject.now cells other
+        → IfOk result (λ tree. ShowsTree leaper.new.nodes tree (claimed asks cells other)) }
+    ensures goes_on { GoesOn A leaper.old leaper.new }
 {
-    dx == 0 && dy == 0
+    // Says what holds of every leaper.
+    let _ = leaper.store();
+    let Some(plane) = plane else {
+        return Ok(whose(asks.wanted, subject));
+    };
+    let Some(moved) = moved_tree(alloc, leaper, plane, asks.dx, asks.dy)? else {
+        unreachable!();
+    };
+    Ok(moved)
 }
 
-// The cells that are wanted.
-fn whose<'a>(wanted: Wanted, cells: &'a Plane, other: &'a Plane) -> &'a Plane
-    requires range { All (λ e. IsInRange e.0) cells.now }
-    requires other_range { All (λ e. IsInRange e.0) other.now }
-    ensures cells { result.now ≡ whose_cells wanted cells.now other.now }
-    ensures range { All (λ e. IsInRange e.0) result.now }
+// The tree whose cells are wanted.
+fn whose(wanted: Wanted, subject: &Subject) -> Tree
+    ensures { result ≡ whose_tree wanted subject.now }
 {
     match wanted {
-        Wanted::Own => cells,
-        Wanted::Other => other,
+        Wanted::Own => copy(&subject.pattern),
+        Wanted::Other => copy(&subject.other),
     }
 }
 
-// The cells moved by a claimed shift.
-fn moved(alloc: Global, cells: &Plane, dx: i64, dy: i64) -> Result<Plane, Memory>
-    requires range { All (λ e. IsInRange e.0) cells.now }
-    requires dx { IsShift dx }
-    requires dy { IsShift dy }
-    ensures { IfOk result (λ p. IsSame p (shifted cells.now dx dy)) }
+// The same tree.
+fn copy(tree: &Tree) -> Tree
+    ensures { result ≡ tree.now }
 {
-    match cells.translated(alloc, dx, dy) {
-        Ok(moved) => Ok(moved),
-        Err(MoveFault::Memory) => Err(Memory),
-        Err(MoveFault::Range) => unreachable!(),
+    Tree {
+        root: tree.root,
+        level: tree.level,
     }
 }
 
-// Where the plane after the generations isn't the wanted one, if it isn't.
-fn unlike(end: &Plane, wanted: &Plane, gens: u64) -> Option<Why>
-    ensures { MatchOption result (IsSame end.now wanted.now) (IsDifference end.now wanted.now gens) }
+// The tree some generations on.
+pub(crate) fn end_after<A: Automaton, O: Observer>(
+    leaper: &mut Leaper<A>,
+    pattern: Tree,
+    generations: u64,
+    observer: &mut O,
+) -> Result<Tree, Memory>
+    requires pattern { IsPattern leaper.old.nodes pattern }
+    requires few { generations ≤ 2 ^ 60 }
+    ensures end { IfOk result (IsEnd (A.next_of leaper.old.rule) leaper.old.nodes pattern generations leaper.new.nodes) }
+    ensures goes_on { GoesOn A leaper.old leaper.new }
 {
-    let at = end.difference(wanted)?;
-    Some(Why::Differs {
-        x: at.x,
-        y: at.y,
-        found: end.get(at),
-        claimed: wanted.get(at),
+    // Says what holds of every leaper.
+    let _ = leaper.store();
+    observer.goes_to(generations);
+    match leaper.advance_watched(pattern, generations, observer) {
+        Ok(end) => Ok(end),
+        Err(LeapFault::Memory) => Err(Memory),
+    }
+}
+
+// Where one tree isn't as another one, if it isn't.
+fn unlike<A: Automaton>(
+    leaper: &mut Leaper<A>,
+    end: Tree,
+    wanted: Tree,
+    gens: u64,
+) -> Result<Option<Why>, Memory>
+    requires end { IsNear leaper.old.nodes end }
+    requires wanted { IsNear leaper.old.nodes wanted }
+    ensures unlike { IfOk result (λ why. MatchOption why
+        ((x y : ℤ) → cell leaper.old.nodes end x y ≡ cell leaper.old.nodes wanted x y)
+        (IsUnlike (cell leaper.old.nodes end) (cell leaper.old.nodes wanted) gens)) }
+    ensures goes_on { GoesOn A leaper.old leaper.new }
+{
+    // Says what holds of every leaper.
+    let _ = leaper.store();
+    let first = Tree {
+        root: end.root,
+        level: end.level,
+    };
+    let second = Tree {
+        root: wanted.root,
+        level: wanted.level,
+    };
+    let found = leaper.difference(first, second)?;
+    Ok(told_of(leaper.store(), end, wanted, found, gens))
+}
+
+// What is told of a place where two trees differ.
+fn told_of(store: &Store, end: Tree, wanted: Tree, found: Option<Spot>, gens: u64) -> Option<Why>
+    requires end { IsNear store.now end }
+    requires wanted { IsNear store.now wanted }
+    requires other { IfSome found (λ at. cell store.now end at.x at.y ≢ cell store.now wanted at.x at.y) }
+    ensures { MatchOption result (found ≡ None) (IsUnlike (cell store.now end) (cell store.now wanted) gens) }
+{
+    let at = found?;
+    Some(unlike_at(store, end, wanted, at, gens))
+}
+
+// The cells of two trees at a place where they differ.
+fn unlike_at(store: &Store, end: Tree, wanted: Tree, at: Spot, gens: u64) -> Why
+    requires end { IsNear store.now end }
+    requires wanted { IsNear store.now wanted }
+    requires other { cell store.now end at.x at.y ≢ cell store.now wanted at.x at.y }
+    ensures { IsUnlike (cell store.now end) (cell store.now wanted) gens result }
+{
+    let found = store.cell(end, at);
+    let claimed = store.cell(wanted, at);
+    let Ok(x) = i64::try_from(at.x) else {
+        unreachable!();
+    };
+    let Ok(y) = i64::try_from(at.y) else {
+        unreachable!();
+    };
+    Why::Differs {
+        x,
+        y,
+        found,
+        claimed,
         gens,
-    })
+    }
+}
+
+// The tree of a moved plane. None where a live cell would leave the square of a plane.
+pub(crate) fn moved_tree<A: Automaton>(
+    alloc: Global,
+    leaper: &mut Leaper<A>,
+    plane: &Plane,
+    dx: i64,
+    dy: i64,
+) -> Result<Option<Tree>, Memory>
+    ensures moved { IfOk result (λ tree. MatchOption tree (LeavesPlane plane.now dx dy) (IsMoved plane.now dx dy leaper.new.nodes)) }
+    ensures goes_on { GoesOn A leaper.old leaper.new }
+{
+    // Says what holds of every leaper.
+    let _ = leaper.store();
+    let moved = match plane.translated(alloc, dx, dy) {
+        Ok(moved) => moved,
+        Err(MoveFault::Memory) => return Err(Memory),
+        Err(MoveFault::Range) => return Ok(None),
+    };
+    let tree = leaper.load_plane(&moved)?;
+    Ok(Some(tree))
 }

@@ -1,9 +1,10 @@
 //! The claims of a text, judged one after another.
 
-ghost use Rattle.std.specs.Prelude.{◌≡◌, ℕ, ◌<◌, List, map, length, IfOk, MatchOption};
+ghost use Rattle.std.specs.Prelude.{◌≡◌, ℕ, ◌<◌, List, map, length, IfOk, IfSome, MatchOption};
 ghost use Rattle.std.specs.Option.{option_copied};
 ghost use Rattle.ca_claims.specs.Means.{contents, bytes_at};
 ghost use Rattle.ca_claims.specs.Judging.{Judges, JudgesAndNotes, IsDone};
+ghost use Rattle.ca_claims.specs.Notes.{IsGiven};
 ghost use Rattle.ca_claims.specs.inner.Kept.{IsAnswerTo};
 ghost use Rattle.ca_claims.specs.inner.Tables.{AreRead};
 
@@ -11,14 +12,16 @@ use crate::claims::Claims;
 use crate::file::File;
 use crate::note::Note;
 use crate::noting::note_on;
+use crate::observer::Observer;
 use crate::verdict::Answer;
-use crate::verifier::{Tables, find_files, judge, verdict_of};
+use crate::verifier::{Library, Tables, find_files, verdict_on};
 use ca_plane::Memory;
+use ca_run::Unwatched;
 use std::alloc::Global;
 use std::marker::Model;
 
-/// The claims of a text that are left, the files that were handed in, and what is kept of them: the bytes of each path, and
-/// the rule tables.
+/// The claims of a text that are left, the files that were handed in, and what is kept of them: the bytes of each path, the
+/// rule tables, and the patterns that were last read.
 #[derive(Drop)]
 pub struct Judge<'a> {
     alloc: Global,
@@ -26,6 +29,7 @@ pub struct Judge<'a> {
     claims: &'a Claims,
     found: Vec<Option<&'a [u8]>>,
     tables: Tables,
+    library: Library<'a>,
     index: usize,
 }
 
@@ -68,6 +72,7 @@ impl<'a> Judge<'a> {
             claims,
             found,
             tables,
+            library: library_for(alloc, claims),
             index: 0,
         })
     }
@@ -76,37 +81,61 @@ impl<'a> Judge<'a> {
     pub fn next(&mut self) -> Option<Answer>
         ensures { MatchOption result (IsDone self.old self.new) (Judges self.old self.new) }
     {
-        if self.index == self.claims.claim_count() {
-            return None;
-        }
-        let answer = answer_to(
-            self.alloc,
-            self.claims,
-            self.index,
-            &self.found,
-            &self.tables,
-        );
-        self.index += 1;
-        Some(answer)
+        self.next_watched(&mut Unwatched)
     }
 
-    /// The same, with a note on the answer.
-    pub fn next_noted(&mut self) -> Option<(Answer, Note<'a>)>
-        ensures { MatchOption result (IsDone self.old self.new) (λ noted. JudgesAndNotes self.old self.new noted.0 noted.1) }
+    /// The same, while someone watches.
+    pub fn next_watched<O: Observer>(&mut self, observer: &mut O) -> Option<Answer>
+        ensures { MatchOption result (IsDone self.old self.new) (Judges self.old self.new) }
     {
         if self.index == self.claims.claim_count() {
             return None;
         }
         let answer = answer_to(
             self.alloc,
+            &mut self.library,
             self.claims,
             self.index,
             &self.found,
             &self.tables,
+            observer,
+        );
+        self.index += 1;
+        Some(answer)
+    }
+
+    /// The answer to the next claim, with a note on it.
+    pub fn next_noted(&mut self) -> Option<(Answer, Note<'a>)>
+        ensures noted { MatchOption result (IsDone self.old self.new) (λ noted. JudgesAndNotes self.old self.new noted.0 noted.1) }
+        ensures given { IfSome result (λ noted. IsGiven noted.0.verdict noted.1) }
+    {
+        self.next_noted_watched(&mut Unwatched)
+    }
+
+    /// The same, while someone watches.
+    pub fn next_noted_watched<O: Observer>(
+        &mut self,
+        observer: &mut O,
+    ) -> Option<(Answer, Note<'a>)>
+        ensures noted { MatchOption result (IsDone self.old self.new) (λ noted. JudgesAndNotes self.old self.new noted.0 noted.1) }
+        ensures given { IfSome result (λ noted. IsGiven noted.0.verdict noted.1) }
+    {
+        if self.index == self.claims.claim_count() {
+            return None;
+        }
+        let answer = answer_to(
+            self.alloc,
+            &mut self.library,
+            self.claims,
+            self.index,
+            &self.found,
+            &self.tables,
+            observer,
         );
         let patterns = self.claims.patterns(self.index);
         let note = note_on(
             self.alloc,
+            &mut self.library,
             self.claims,
             &patterns,
             &self.found,
@@ -118,14 +147,24 @@ impl<'a> Judge<'a> {
     }
 }
 
+/// A library for the claims of a text. For one claim alone nothing is kept.
+fn library_for<'a>(alloc: Global, claims: &Claims) -> Library<'a> {
+    if claims.claim_count() == 1 {
+        return Library::closed(alloc);
+    }
+    Library::new(alloc)
+}
+
 /// The answer to the claim with this index, where these are the bytes of the files with the paths of the text and what its
 /// rule lines' files hold.
-fn answer_to(
+fn answer_to<'a, O: Observer>(
     alloc: Global,
+    library: &mut Library<'a>,
     claims: &Claims,
     index: usize,
-    found: &[Option<&[u8]>],
+    found: &[Option<&'a [u8]>],
     tables: &Tables,
+    observer: &mut O,
 ) -> Answer
     requires index { index < length claims.now.claims }
     requires found { length found.now ≡ length claims.now.paths }
@@ -133,7 +172,9 @@ fn answer_to(
         → IsAnswerTo files claims.now index result }
 {
     let asked = claims.claim(index);
-    let verdict = verdict_of(judge(alloc, &asked.claim, found, tables));
+    observer.begins(asked.line);
+    let verdict = verdict_on(alloc, library, &asked.claim, found, tables, observer);
+    observer.ends();
     Answer {
         line: asked.line,
         verdict,

@@ -8,7 +8,7 @@ ghost use Rattle.ca_claims.specs.declared.verdict.Verdict.TheVariants.{Refused};
 ghost use Rattle.ca_claims.specs.Places.{path_at, named_path};
 ghost use Rattle.ca_claims.specs.Means.{bytes_at, format_of};
 ghost use Rattle.ca_claims.specs.Answers.{HasCause, FirstIs};
-ghost use Rattle.ca_claims.specs.Notes.{IsCauseOf, IsLineAs, IsToldLine, IsNote};
+ghost use Rattle.ca_claims.specs.Notes.{IsCauseOf, IsLineAs, IsToldLine, IsNote, IsGiven};
 ghost use Rattle.ca_claims.specs.inner.Noted.{Tells, IsCulprit, IsPlaced};
 ghost use Rattle.ca_claims.specs.inner.Patterns.{items};
 ghost use Rattle.ca_claims.specs.inner.Tables.{AreRead};
@@ -18,24 +18,26 @@ use crate::note::Note;
 use crate::read::format_of;
 use crate::target::Target;
 use crate::verdict::{Cause, Verdict, Why};
-use crate::verifier::{OneOrTwo, Tables, prepare};
+use crate::verifier::{Library, OneOrTwo, Tables, prepare};
 use std::alloc::Global;
 
 /// A note on the verdict on a claim about these patterns, where these are the bytes of the files with the paths of the text
 /// and what its rule lines' files hold.
-pub(crate) fn note_on<'a>(
+pub(crate) fn note_on<'a, 'f>(
     alloc: Global,
+    library: &mut Library<'f>,
     claims: &'a Claims,
     patterns: &OneOrTwo<Named<'a>>,
-    found: &[Option<&[u8]>],
+    found: &[Option<&'f [u8]>],
     tables: &Tables,
     verdict: &Verdict,
 ) -> Note<'a>
     requires within { AllByRecursion (λ n. n.path < length claims.now.paths) (items patterns.now) }
     requires found { length found.now ≡ length claims.now.paths }
     requires placed { IsPlaced (length claims.now.paths) tables.now }
-    ensures { (files : List (List ℕ × List ℕ)) → map option_copied found.now ≡ map (bytes_at files) claims.now.paths → AreRead files claims.now.paths claims.now.rules tables.now
+    ensures note { (files : List (List ℕ × List ℕ)) → map option_copied found.now ≡ map (bytes_at files) claims.now.paths → AreRead files claims.now.paths claims.now.rules tables.now
         → IsNote files claims.now.rules (map (named_path claims.now.paths) (items patterns.now)) verdict.now result }
+    ensures given { IsGiven verdict.now result }
 {
     match verdict {
         Verdict::Yes => Note::Nothing,
@@ -43,7 +45,7 @@ pub(crate) fn note_on<'a>(
             name: first_name(patterns),
         },
         Verdict::No(_) => Note::Nothing,
-        Verdict::Refused(cause) => match culprit(alloc, patterns, found, tables, cause) {
+        Verdict::Refused(cause) => match culprit(alloc, library, patterns, found, tables, cause) {
             Some(pattern) => Note::Pattern {
                 name: pattern.name,
                 path: claims.path(pattern.path),
@@ -65,10 +67,11 @@ fn first_name<'a>(patterns: &OneOrTwo<Named<'a>>) -> &'a [u8]
 }
 
 /// The first of a claim's patterns of which this is the cause. None also where there is no memory to find it.
-fn culprit<'a>(
+fn culprit<'a, 'f>(
     alloc: Global,
+    library: &mut Library<'f>,
     patterns: &OneOrTwo<Named<'a>>,
-    found: &[Option<&[u8]>],
+    found: &[Option<&'f [u8]>],
     tables: &Tables,
     cause: &Cause,
 ) -> Option<Named<'a>>
@@ -79,16 +82,16 @@ fn culprit<'a>(
 {
     match *patterns {
         OneOrTwo::One(only) => {
-            if is_cause_of(alloc, only.path, found, tables, cause)? {
+            if is_cause_of(alloc, library, only.path, found, tables, cause)? {
                 return Some(only);
             }
             None
         }
         OneOrTwo::Two(first, second) => {
-            if is_cause_of(alloc, first.path, found, tables, cause)? {
+            if is_cause_of(alloc, library, first.path, found, tables, cause)? {
                 return Some(first);
             }
-            if is_cause_of(alloc, second.path, found, tables, cause)? {
+            if is_cause_of(alloc, library, second.path, found, tables, cause)? {
                 return Some(second);
             }
             None
@@ -97,10 +100,11 @@ fn culprit<'a>(
 }
 
 /// Whether a refusal's cause is that of the pattern at this place. None where there is no memory to find out.
-fn is_cause_of(
+fn is_cause_of<'f>(
     alloc: Global,
+    library: &mut Library<'f>,
     place: usize,
-    found: &[Option<&[u8]>],
+    found: &[Option<&'f [u8]>],
     tables: &Tables,
     cause: &Cause,
 ) -> Option<bool>
@@ -113,15 +117,16 @@ fn is_cause_of(
         Cause::BadTable(_) => Some(false),
         Cause::MixedRules => Some(false),
         Cause::Memory => Some(false),
-        _ => refuses_alone(alloc, place, found, tables, cause),
+        _ => refuses_alone(alloc, library, place, found, tables, cause),
     }
 }
 
 /// Whether a claim about the pattern at this place alone is refused for the cause. None where there is no memory to find out.
-fn refuses_alone(
+fn refuses_alone<'f>(
     alloc: Global,
+    library: &mut Library<'f>,
     place: usize,
-    found: &[Option<&[u8]>],
+    found: &[Option<&'f [u8]>],
     tables: &Tables,
     cause: &Cause,
 ) -> Option<bool>
@@ -129,7 +134,15 @@ fn refuses_alone(
     ensures { (files : List (List ℕ × List ℕ)) (paths rules : List (List ℕ)) → map option_copied found.now ≡ map (bytes_at files) paths → AreRead files paths rules tables.now
         → cause.now ≢ causes.Memory → Tells (HasCause files rules (path_at paths place ∷ []) cause.now) result }
 {
-    let Err(own) = prepare(alloc, &OneOrTwo::One(place), found, tables) else {
+    let counted = *cause == Cause::TooManyCells;
+    let Err(own) = prepare(
+        alloc,
+        library,
+        &OneOrTwo::One(place),
+        counted,
+        found,
+        tables,
+    ) else {
         return Some(false);
     };
     if own == Cause::Memory {

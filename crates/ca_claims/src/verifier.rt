@@ -6,25 +6,33 @@ ghost use Rattle.std.specs.Option.{option_copied};
 ghost use Rattle.ca_claims.specs.Text.{Claim as TextClaim, patterns_of, about, HasGoodNumbers};
 ghost use Rattle.ca_claims.specs.Places.{path_at};
 ghost use Rattle.ca_claims.specs.Means.{contents, bytes_at};
-ghost use Rattle.ca_claims.specs.Answers.{HasCause, IsTrueVerdict, AreTrueAnswers};
+ghost use Rattle.ca_claims.specs.Answers.{IsCauseFor, IsTrueVerdict, AreTrueAnswers};
+ghost use Rattle.ca_plane.specs.Plane.{Picture};
+ghost use Rattle.ca_rule.specs.Rule.{rule_value, next_of};
+ghost use Rattle.ca_claims.specs.inner.Decided.{IsBounded, IsDecided};
+ghost use Rattle.ca_claims.specs.inner.Subjects.{IsSubject, AreShown};
 ghost use Rattle.ca_claims.specs.inner.Patterns.{items, IsEachOnce};
 ghost use Rattle.ca_claims.specs.inner.Tables.{AreRead};
 
 mod agreement;
+mod library;
 mod one_or_two;
 mod patterns;
 mod planes;
 mod prepared;
 mod tables;
 
-use crate::claims::{Claim, Claims};
+use crate::claims::{Asks, Claim, Claims};
 use crate::decide::decide;
 use crate::file::File;
 use crate::judge::Judge;
+use crate::observer::Observer;
 use crate::verdict::{Answer, Cause, Verdict};
 use ca_plane::Memory;
+pub(crate) use library::Library;
 pub(crate) use one_or_two::OneOrTwo;
-use planes::both;
+use planes::counts_cells;
+use prepared::Prepared;
 pub(crate) use prepared::prepare;
 use std::alloc::Global;
 pub(crate) use tables::Tables;
@@ -66,9 +74,44 @@ pub(crate) fn find_files<'a>(
     Ok(found)
 }
 
+/// The verdict on a claim, where these are the bytes of the files with the paths of the text and what its rule lines' files
+/// hold. Where there is no memory to judge it beside what the library keeps, that is let go.
+pub(crate) fn verdict_on<'a, O: Observer>(
+    alloc: Global,
+    library: &mut Library<'a>,
+    claim: &Claim<usize>,
+    found: &[Option<&'a [u8]>],
+    tables: &Tables,
+    observer: &mut O,
+) -> Verdict
+    requires within { AllByRecursion (λ i. i < length found.now) (patterns_of claim.now) }
+    requires numbers { HasGoodNumbers claim.now }
+    ensures { (files : List (List ℕ × List ℕ)) (paths rules : List (List ℕ)) → map option_copied found.now ≡ map (bytes_at files) paths → AreRead files paths rules tables.now
+        → IsTrueVerdict files rules (about (path_at paths) claim.now) result }
+{
+    let verdict = verdict_of(judge(alloc, library, claim, found, tables, observer));
+    if library.is_empty() || !wants_memory(&verdict) {
+        return verdict;
+    }
+    library.clear();
+    verdict_of(judge(
+        alloc,
+        &mut Library::closed(alloc),
+        claim,
+        found,
+        tables,
+        observer,
+    ))
+}
+
+/// Whether a verdict is that there is no memory.
+fn wants_memory(verdict: &Verdict) -> bool {
+    matches!(verdict, Verdict::Refused(Cause::Memory))
+}
+
 /// The verdict that was reached, or a refusal for the cause for which none was.
-pub(crate) fn verdict_of(judged: Result<Verdict, Cause>) -> Verdict
-    ensures { (files : List (List ℕ × List ℕ)) (rules : List (List ℕ)) (claim : TextClaim) → MatchResult judged (IsTrueVerdict files rules claim) (HasCause files rules (patterns_of claim))
+fn verdict_of(judged: Result<Verdict, Cause>) -> Verdict
+    ensures { (files : List (List ℕ × List ℕ)) (rules : List (List ℕ)) (claim : TextClaim) → MatchResult judged (IsTrueVerdict files rules claim) (IsCauseFor files rules claim)
         → IsTrueVerdict files rules claim result }
 {
     match judged {
@@ -79,20 +122,51 @@ pub(crate) fn verdict_of(judged: Result<Verdict, Cause>) -> Verdict
 
 /// The verdict on a claim, where these are the bytes of the files with the paths of the text and what its rule lines' files
 /// hold, or the cause for which there is none.
-pub(crate) fn judge(
+fn judge<'a, O: Observer>(
     alloc: Global,
+    library: &mut Library<'a>,
     claim: &Claim<usize>,
-    found: &[Option<&[u8]>],
+    found: &[Option<&'a [u8]>],
     tables: &Tables,
+    observer: &mut O,
 ) -> Result<Verdict, Cause>
     requires within { AllByRecursion (λ i. i < length found.now) (patterns_of claim.now) }
     requires numbers { HasGoodNumbers claim.now }
     ensures { (files : List (List ℕ × List ℕ)) (paths rules : List (List ℕ)) → map option_copied found.now ≡ map (bytes_at files) paths → AreRead files paths rules tables.now
-        → MatchResult result (IsTrueVerdict files rules (about (path_at paths) claim.now)) (HasCause files rules (patterns_of (about (path_at paths) claim.now))) }
+        → MatchResult result (IsTrueVerdict files rules (about (path_at paths) claim.now)) (IsCauseFor files rules (about (path_at paths) claim.now)) }
 {
-    let prepared = prepare(alloc, &places_of(claim), found, tables)?;
-    let (cells, other) = both(&prepared.planes);
-    Ok(decide(alloc, &prepared.rule, cells, other, claim.asks()))
+    let asks = claim.asks();
+    let prepared = prepare(
+        alloc,
+        library,
+        &places_of(claim),
+        counts_cells(asks),
+        found,
+        tables,
+    )?;
+    Ok(decide_on(alloc, prepared, asks, observer))
+}
+
+// The verdict on a claim that asks this, on what was prepared for it.
+fn decide_on<O: Observer>(
+    alloc: Global,
+    prepared: Prepared<'_>,
+    asks: Asks,
+    observer: &mut O,
+) -> Verdict
+    requires subject { IsSubject prepared.leaper.nodes asks prepared.subject prepared.plane }
+    requires bounded { IsBounded asks }
+    ensures { (cells other : Picture) → AreShown prepared.entry.leaper.nodes prepared.entry.subject cells other → IsDecided (next_of (rule_value prepared.entry.leaper.rule)) cells other asks result }
+{
+    let mut leaper = prepared.leaper;
+    decide(
+        alloc,
+        &mut leaper,
+        &prepared.subject,
+        prepared.plane.as_ref(),
+        asks,
+        observer,
+    )
 }
 
 // The indices of the paths of a claim's patterns, each once.

@@ -1,9 +1,9 @@
 -- What a run reads and writes.
-use Rattle.std.specs.Prelude.{◌≡◌, ◌≢◌, ℕ, ◌<◌, ◌≤◌, ◌^◌, List, [], ◌∷◌, map, length, take, Option, None, Some, ◌⊎◌}
+use Rattle.std.specs.Prelude.{◌≡◌, ◌≢◌, ℕ, ◌<◌, ◌≤◌, ◌^◌, List, [], ◌∷◌, map, length, take, Option, None, Some, ◌⊎◌, IsTrue}
 use Rattle.std.specs.Io.KnownBytes.{Consumes, IsAtEnd}
-use Rattle.std.specs.List.{AllZip}
+use Rattle.std.specs.List.{AllZip, AllByRecursion}
 use Rattle.ca_claims.specs.Text.{Claim, Asked}
-use Rattle.ca_claims.specs.Notes.{IsNote}
+use Rattle.ca_claims.specs.Notes.{IsNote, IsGiven}
 use Rattle.ca_rule.specs.TableNext.{TableRule}
 use Rattle.ca_rule.specs.TableFaults as table_faults
 use Rattle.ca_rule.specs.declared.table.fault.TableFault.{TableFault}
@@ -53,11 +53,15 @@ answers_of tolds = map (λ told. told.answer) tolds
 abbrev pub AreTrueNotes : List (List ℕ × List ℕ) → List (List ℕ) → List (List (List ℕ × List ℕ)) → List Told → Type 0
 AreTrueNotes files rules patterns tolds = AllZip (λ its told. IsNote files rules its told.answer.verdict told.note) patterns tolds
 
+-- where answers are explained, something is noted of each in which cells differ
+abbrev pub AreGiven : Telling → List Told → Type 0
+AreGiven telling tolds = IsTrue telling.explained → AllByRecursion (λ told. IsGiven told.answer.verdict told.note) tolds
+
 -- claims of a text with rule lines of these paths, about these patterns, were answered, truly and with true notes, and what is told of them was written, or
 -- a first part of it, or nothing
 abbrev pub AreTold : List (List ℕ × List ℕ) → List (List ℕ) → List (ℕ × Claim) → List (List (List ℕ × List ℕ)) → Telling → (List ℕ → Type 0) → (ℕ → Type 0) → Type 0
 AreTold files rules claims patterns telling Written Ends =
-    (tolds : List Told) × AreTrueAnswers files rules claims (answers_of tolds) × AreTrueNotes files rules patterns tolds × Written (tolds_text telling tolds)
+    (tolds : List Told) × AreTrueAnswers files rules claims (answers_of tolds) × AreTrueNotes files rules patterns tolds × AreGiven telling tolds × Written (tolds_text telling tolds)
     × Ends (status_of (answers_of tolds))
 
 -- so many of the first claims were told, and of the last of these perhaps a part

@@ -17,7 +17,7 @@ pub use fault::{Fault, InputFault, ToolFault};
 pub use pattern_run::{convert_run, show_run};
 pub use printing::{lines, status};
 pub use read::{MAX_FILE, read_all};
-pub use run::{verify_run, verify_told};
+pub use run::{verify_run, verify_told, verify_watched};
 pub use telling::Telling;
 
 #[cfg(test)]

@@ -2,27 +2,32 @@
 
 use crate::FAULT;
 use crate::files::{load_needed, read_source, views};
+use crate::progress::Progress;
 use crate::streams::Streams;
+use crate::words::Extras;
 use ca_claims::{Claims, read_claims};
-use ca_plane::{Dev, Memory};
-use ca_tool::{Fault, InputFault, Telling, ToolFault, complain, complain_of, verify_told};
+use ca_plane::Memory;
+use ca_tool::{
+    Fault, InputFault, Telling, ToolFault, complain, complain_of, verify_told, verify_watched,
+};
 use std::alloc::Global;
-use std::rt::{Files, Stdin, Stdout};
+use std::io::IsTerminal;
+use std::rt::{Clock, Files};
 
 /// Judges the claim texts of these paths, one after another, and answers the greatest of their exit statuses.
 ///
 /// A text that can't be read or has a fault is told on standard error, and the others are judged still. Nothing more is judged after a failed write.
-pub fn verify_files<R: Files + AllocGlobal>(
+pub fn verify_files<R: Files + Clock + AllocGlobal>(
     rt: &R,
     paths: &[String],
-    explained: bool,
+    extras: Extras,
     streams: &mut Streams,
 ) -> u8 {
     let are_named = paths.len() > 1;
     let mut greatest = 0;
     'paths: for path in paths {
         let path = path.as_str();
-        match verify_text(rt, path, are_named, explained, streams) {
+        match verify_text(rt, path, are_named, extras, streams) {
             Ok(status) => greatest = greatest.max(status),
             Err(Fault::Tool(ToolFault::Write)) => {
                 let _ = complain(&Fault::Tool(ToolFault::Write), b"", &mut streams.errors);
@@ -46,11 +51,11 @@ fn tell(fault: &Fault, path: &str, is_named: bool, streams: &mut Streams) {
 }
 
 // Judges one claim text. Where it is named, its path stands before each line.
-fn verify_text<R: Files + AllocGlobal>(
+fn verify_text<R: Files + Clock + AllocGlobal>(
     rt: &R,
     path: &str,
     is_named: bool,
-    explained: bool,
+    extras: Extras,
     streams: &mut Streams,
 ) -> Result<u8, Fault> {
     let text = read_source(rt, path, streams.input).map_err(Fault::Input)?;
@@ -60,9 +65,9 @@ fn verify_text<R: Files + AllocGlobal>(
     };
     let telling = Telling {
         before: &before,
-        explained,
+        explained: extras.explained,
     };
-    judge(rt, &claims, &telling, &mut streams.output)
+    judge(rt, &claims, &telling, extras.progress, streams)
 }
 
 fn before_lines(alloc: Global, path: &str, is_named: bool) -> Result<Vec<u8>, Memory> {
@@ -75,11 +80,12 @@ fn before_lines(alloc: Global, path: &str, is_named: bool) -> Result<Vec<u8>, Me
 }
 
 // Reads the files that the claims need, and judges the claims.
-fn judge<R: Files + AllocGlobal>(
+fn judge<R: Files + Clock + AllocGlobal>(
     rt: &R,
     claims: &Claims,
     telling: &Telling<'_>,
-    output: &mut Dev<Stdout>,
+    progress: bool,
+    streams: &mut Streams,
 ) -> Result<u8, Fault> {
     let Ok(loaded) = load_needed(rt, claims) else {
         return Err(Fault::Input(InputFault::Memory));
@@ -87,5 +93,13 @@ fn judge<R: Files + AllocGlobal>(
     let Ok(files) = views(rt.alloc(), &loaded) else {
         return Err(Fault::Input(InputFault::Memory));
     };
-    verify_told(rt.alloc(), claims, &files, telling, output).map_err(Fault::Tool)
+    let is_watched = progress || streams.errors.inner().is_terminal();
+    let output = &mut streams.output;
+    let result = if is_watched {
+        let mut shown = Progress::new(rt, &mut streams.errors, telling.before);
+        verify_watched(rt.alloc(), claims, &files, telling, output, &mut shown)
+    } else {
+        verify_told(rt.alloc(), claims, &files, telling, output)
+    };
+    result.map_err(Fault::Tool)
 }

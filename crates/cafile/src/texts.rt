@@ -61,10 +61,15 @@ reason. Where several texts are given, the text's path stands before that.
 --explain adds a line after a no or a refusal that has more to tell: the pattern's name with a cell that
 differs, or with its file and the line of the fault; or the rule file.
 
+On a terminal, a line on standard error shows how far a claim is that takes over a second, as
+`line 3: 904 of 5000 generations`. It is wiped before the verdict's line is printed. --progress shows it also
+where standard error is no terminal.
+
 The status is 0 where every verdict is yes, 1 where some are no, and 2 where some are refused or there is a
 fault. A text that can't be read or is faulty is told on standard error, and the others are judged.
 
 Examples:
   cafile verify examples/block.claims examples/pulsar.claims
   cafile verify --explain examples/several.claims
+  cafile verify --progress examples/published.claims
   cat examples/block.claims | cafile verify -";

@@ -22,15 +22,24 @@ pub enum Request {
         target: Target,
         rule: Option<String>,
     },
-    /// A verdict for each claim of the texts at these paths, and what more there is to tell of it where that is asked for.
+    /// A verdict for each claim of the texts at these paths, and what more is asked for.
     Verify {
         paths: Vec<String>,
-        explained: bool,
+        extras: Extras,
     },
     /// This text, the help or the version.
     Help {
         text: String,
     },
+}
+
+/// What a run of `verify` is asked for besides verdicts.
+#[derive(Clone, Copy)]
+pub struct Extras {
+    /// What more there is to tell of each answer.
+    pub explained: bool,
+    /// How far a long claim is.
+    pub progress: bool,
 }
 
 /// Why the words ask for nothing.
@@ -116,11 +125,16 @@ fn verify_command<'a>(alloc: Global) -> Result<Command<'a>, AllocError> {
         .long("explain")
         .action(ArgAction::SetTrue)
         .help("Tell also which cell, pattern, file or line a no or a refusal is about");
+    let progress = Arg::new(alloc, "progress")
+        .long("progress")
+        .action(ArgAction::SetTrue)
+        .help("Show how far a long claim is, also where standard error is no terminal");
     Command::new(alloc, "verify")
         .about("Prints a verdict for each claim of a text: yes, no or refused")
         .after_help(texts::VERIFY)
         .arg(claims)?
-        .arg(explain)
+        .arg(explain)?
+        .arg(progress)
 }
 
 fn file_word<'a>(alloc: Global) -> Arg<'a> {
@@ -151,8 +165,11 @@ fn asked(alloc: Global, matches: &ArgMatches<'_>) -> Result<Request, WordsFault>
     }
     if let Some(words) = matches.subcommand_matches("verify") {
         let paths = words_of(alloc, words, "CLAIMS")?;
-        let explained = words.get_flag("explain");
-        return Ok(Request::Verify { paths, explained });
+        let extras = Extras {
+            explained: words.get_flag("explain"),
+            progress: words.get_flag("progress"),
+        };
+        return Ok(Request::Verify { paths, extras });
     }
     Err(WordsFault::Usage)
 }

@@ -4,8 +4,8 @@ use Rattle.std.specs.List.{AllByRecursion}
 use Rattle.ca_claims.specs.declared.verifier.one_or_two.OneOrTwo.{OneOrTwo}
 use Rattle.ca_claims.specs.declared.verifier.one_or_two.OneOrTwo.TheVariants.{One, Two}
 use Rattle.ca_claims.specs.declared.ruled.Ruled.{Ruled}
+use Rattle.ca_claims.specs.declared.decide.Subject.{Subject}
 use Rattle.ca_plane.specs.Plane.{Picture}
-use Rattle.ca_plane.specs.Population.{HasTooManyCells}
 use Rattle.ca_quad.specs.declared.node.Node.{Node}
 use Rattle.ca_quad.specs.Trees.{cell}
 use Rattle.ca_rule.specs.TableNext.{TableRule}
@@ -17,7 +17,6 @@ use Rattle.ca_claims.specs.declared.verdict.Cause.TheVariants.{NoFile, BadTable,
 use Rattle.ca_claims.specs.Means.{MayWantMemory}
 use Rattle.ca_claims.specs.Answers.{IsPatternFault, HasLargeState, HasSmallStates, SomeOf}
 use Rattle.ca_claims.specs.Loaded.{IsLoaded}
-use Rattle.ca_claims.specs.inner.Cells.{IsPlaneOf}
 
 -- one or two, as a list
 abbrev pub items : {T : Type 0} → OneOrTwo T → List T
@@ -88,23 +87,8 @@ Disagree nodes patterns MixedRules = AllByRecursion (ShowsSmall nodes) patterns 
 Disagree nodes patterns TooManyCells = ⊥
 Disagree nodes patterns Memory = Unit {0}
 
--- a plane shows the pattern's cells
-abbrev pub IsShownBy : List Node → Ruled → Picture → Type 0
-IsShownBy nodes ruled plane = IsPlaneOf nodes ruled.pattern.tree plane
-
--- why a pattern isn't made a plane
-abbrev pub IsCrowded : List Node → Cause → Ruled → Type 0
-IsCrowded nodes NoFile ruled = ⊥
-IsCrowded nodes (BadTable fault) ruled = ⊥
-IsCrowded nodes (BadPattern fault) ruled = ⊥
-IsCrowded nodes (BadRule fault) ruled = ⊥
-IsCrowded nodes StateTooLarge ruled = ⊥
-IsCrowded nodes MixedRules ruled = ⊥
-IsCrowded nodes TooManyCells ruled = HasTooManyCells (cell nodes ruled.pattern.tree)
-IsCrowded nodes Memory ruled = Unit {0}
-
--- the plane of the claim's pattern, and that of the other, which is the same where there is one
-abbrev pub AreBoth : List Picture → Picture → Picture → Type 0
-AreBoth [] cells other = ⊥
-AreBoth (p ∷ []) cells other = (cells ≡ p) × (other ≡ p)
-AreBoth (p ∷ q ∷ planes) cells other = (cells ≡ p) × (other ≡ q)
+-- the trees of the claim's pattern and of the other, which is the same where there is one
+abbrev pub AreBoth : List Ruled → Subject → Type 0
+AreBoth [] subject = ⊥
+AreBoth (a ∷ []) subject = (subject.pattern ≡ a.pattern.tree) × (subject.other ≡ a.pattern.tree)
+AreBoth (a ∷ b ∷ patterns) subject = (subject.pattern ≡ a.pattern.tree) × (subject.other ≡ b.pattern.tree)

@@ -1,29 +1,29 @@
--- Planes that are ready to be judged.
-use Rattle.std.specs.Prelude.{ℕ, ◌<◌, List, All}
-use Rattle.ca_plane.specs.Plane.{Picture, IsSame}
-use Rattle.ca_plane.specs.Limits.{IsInRange}
-use Rattle.ca_rule.specs.Rule.{RuleValue, rule_value, states_of}
+-- What a claim is judged on, once its patterns are read.
+use Rattle.std.specs.Prelude.{◌≡◌, ℕ, List, Bool, IsTrue, IsFalse, MatchOption}
+use Rattle.ca_plane.specs.Plane.{Picture, cell}
+use Rattle.ca_plane.specs.Population.{HasFewCells}
+use Rattle.ca_plane.specs.Sparse.{IsSparse}
+use Rattle.ca_rule.specs.Rule.{rule_value}
+use Rattle.ca_claims.specs.declared.verdict.Cause.{Cause}
+use Rattle.ca_claims.specs.declared.verdict.Cause.TheVariants.{TooManyCells}
 use Rattle.ca_claims.specs.declared.verifier.prepared.Prepared.{Prepared}
-use Rattle.ca_claims.specs.Answers.{IsJudged}
-use Rattle.ca_claims.specs.inner.Patterns.{items, AreBoth}
+use Rattle.ca_claims.specs.Answers.{AgreeOn}
+use Rattle.ca_claims.specs.inner.Subjects.{ShowsTree, IsPattern, AreShown}
 
--- planes show the cells of patterns with these paths, by which a claim is judged
-pub record IsShown (files : List (List ℕ × List ℕ)) (rules paths : List (List ℕ)) (cells other : Picture) (rule : RuleValue) : Type 0 where
-  pub shown : Picture
-  pub other_shown : Picture
-  pub same : IsSame cells shown
-  pub other_same : IsSame other other_shown
-  pub judged : IsJudged files rules paths shown other_shown rule
+-- the trees show what the files of these paths mean, under one rule, and not too many cells where they are counted
+pub record IsPrepared (files : List (List ℕ × List ℕ)) (rules paths : List (List ℕ)) (counted : Bool) (prepared : Prepared) : Type 0 where
+  pub cells : Picture
+  pub other : Picture
+  pub shown : AreShown prepared.leaper.nodes prepared.subject cells other
+  pub agree : AgreeOn files rules paths cells other (rule_value prepared.leaper.rule)
+  pub few : IsTrue counted → HasFewCells (cell cells)
 
--- the planes of the claim's pattern and of the other one do
-abbrev pub IsPrepared : List (List ℕ × List ℕ) → List (List ℕ) → List (List ℕ) → Prepared → Type 0
-IsPrepared files rules paths prepared = (cells other : Picture) → AreBoth (items prepared.planes) cells other → IsShown files rules paths cells other (rule_value prepared.rule)
+-- too many cells are the cause only where cells are counted
+abbrev pub MayBe : Bool → Cause → Type 0
+MayBe counted cause = cause ≡ TooManyCells → IsTrue counted
 
--- their cells are in range, and the states of the claim's pattern are below the number of the rule's states
-pub record IsFit (cells other : Picture) (rule : RuleValue) : Type 0 where
-  pub states : All (λ e. e.1 < states_of rule) cells
-  pub range : All (λ e. IsInRange e.0) cells
-  pub other_range : All (λ e. IsInRange e.0) other
-
-abbrev pub AreFit : Prepared → Type 0
-AreFit prepared = (cells other : Picture) → AreBoth (items prepared.planes) cells other → IsFit cells other (rule_value prepared.rule)
+-- the trees are low ones in range, and there is a plane of the pattern's where its cells are counted
+pub record IsFit (counted : Bool) (prepared : Prepared) : Type 0 where
+  pub pattern : IsPattern prepared.leaper.nodes prepared.subject.pattern
+  pub other : IsPattern prepared.leaper.nodes prepared.subject.other
+  pub plane : MatchOption prepared.plane (IsFalse counted) (λ p. IsTrue counted × IsSparse p × ShowsTree prepared.leaper.nodes prepared.subject.pattern p)

@@ -15,7 +15,7 @@ use Rattle.ca_claims.specs.declared.claims.asks.Barred.{Barred}
 use Rattle.ca_claims.specs.declared.claims.asks.Barred.TheVariants.{Anywhere}
 use Rattle.ca_claims.specs.declared.claims.asks.Wanted.{Wanted}
 use Rattle.ca_claims.specs.declared.claims.asks.Wanted.TheVariants.{Own, Other}
-use Rattle.ca_claims.specs.declared.leap.Subject.{Subject}
+use Rattle.ca_claims.specs.declared.decide.Subject.{Subject}
 use Rattle.ca_claims.specs.declared.verdict.Why.{Why}
 use Rattle.ca_claims.specs.declared.verdict.Why.TheVariants.{Empty, Differs, Earlier}
 use Rattle.ca_claims.specs.Truth.{MayReturnBy, IsNotBack}

@@ -1,53 +1,42 @@
 //! The patterns of a claim's files, and the rules of their texts.
 
-ghost use Rattle.std.specs.Prelude.{IfOk, IfErr, MatchResult};
+ghost use Rattle.std.specs.Prelude.{IfOk, IfErr};
 ghost use Rattle.std.specs.List.{AllZip};
-ghost use Rattle.ca_quad.specs.Sound.{Grows};
 ghost use Rattle.ca_rule.specs.Rule.{IsRuleFault};
 ghost use Rattle.ca_claims.specs.Means.{IsReadable};
 ghost use Rattle.ca_claims.specs.Answers.{FirstBad};
 ghost use Rattle.ca_claims.specs.inner.Patterns.{items, IsReadFrom, IsUnread, HasName, IsRuledAs};
 
+use super::library::Library;
 use super::one_or_two::OneOrTwo;
 use crate::pattern::Loaded;
-use crate::read::read_pattern;
 use crate::ruled::{Ruled, with_rule};
-use crate::verdict::{Cause, PatternFault};
+use crate::verdict::Cause;
 use ca_quad::Store;
 use ca_rule::{RuleFault, Table};
 use std::alloc::Global;
 
-/// The patterns of files with these bytes, read into the store, or the first cause for which one of them isn't read.
-pub(crate) fn read_each(
+/// The patterns of files with these bytes, put into the store by the library, or the first cause for which one of them
+/// isn't read.
+pub(crate) fn read_each<'a>(
     alloc: Global,
+    library: &mut Library<'a>,
     store: &mut Store,
-    files: &OneOrTwo<&[u8]>,
+    files: &OneOrTwo<&'a [u8]>,
 ) -> Result<OneOrTwo<Loaded>, Cause>
     ensures read { IfOk result (λ patterns. AllZip (λ b p. IsReadFrom store.new b.now p) (items files.now) (items patterns)) }
     ensures unread { IfErr result (λ cause. FirstBad (λ b. IsReadable b.now) (λ b. IsUnread b.now cause) (items files.now)) }
 {
     match *files {
         OneOrTwo::One(only) => {
-            let only = read(alloc, store, only)?;
+            let only = library.pattern(alloc, store, only)?;
             Ok(OneOrTwo::One(only))
         }
         OneOrTwo::Two(first, second) => {
-            let first = read(alloc, store, first)?;
-            let second = read(alloc, store, second)?;
+            let first = library.pattern(alloc, store, first)?;
+            let second = library.pattern(alloc, store, second)?;
             Ok(OneOrTwo::Two(first, second))
         }
-    }
-}
-
-/// The pattern of a file's bytes, or the cause for which they aren't read.
-fn read(alloc: Global, store: &mut Store, bytes: &[u8]) -> Result<Loaded, Cause>
-    ensures read { MatchResult result (IsReadFrom store.new bytes.now) (IsUnread bytes.now) }
-    ensures grows { Grows store.old store.new }
-{
-    match read_pattern(alloc, store, bytes) {
-        Ok(pattern) => Ok(pattern),
-        Err(PatternFault::Memory) => Err(Cause::Memory),
-        Err(fault) => Err(Cause::BadPattern(fault)),
     }
 }
 

@@ -1,63 +1,65 @@
-//! The planes of a claim's patterns.
+//! What a claim is judged on: the trees of its patterns, and the plane of one whose cells are counted.
 
-ghost use Rattle.std.specs.Prelude.{IfOk, IfErr, MatchResult};
-ghost use Rattle.std.specs.List.{AllByRecursion, AllZip};
+ghost use Rattle.std.specs.Prelude.{◌≡◌, ◌⊎◌, IfOk, IfErr, IsTrue, IsFalse, ◌↔◌, MatchOption};
+ghost use Rattle.ca_plane.specs.Population.{HasTooManyCells};
 ghost use Rattle.ca_quad.specs.Trees.{IsTree, cell};
 ghost use Rattle.ca_macro.specs.Pattern.{AreInRange};
-ghost use Rattle.ca_claims.specs.Answers.{SomeOf};
-ghost use Rattle.ca_claims.specs.inner.Patterns.{items, IsShownBy, IsCrowded, AreBoth};
+ghost use Rattle.ca_claims.specs.declared.verdict.Cause.TheVariants as causes;
+ghost use Rattle.ca_claims.specs.Answers.{IsCounted};
+ghost use Rattle.ca_claims.specs.inner.Cells.{IsPlaneOf};
+ghost use Rattle.ca_claims.specs.inner.Patterns.{items, AreBoth};
 
 use super::one_or_two::OneOrTwo;
 use crate::cells::plane_of;
+use crate::claims::{Asks, Barred};
+use crate::decide::Subject;
 use crate::ruled::Ruled;
 use crate::verdict::Cause;
 use ca_plane::Plane;
-use ca_quad::Store;
+use ca_quad::{Store, Tree};
 use std::alloc::Global;
 
-/// The planes of the patterns, where none has too many cells.
-pub(crate) fn expand_each(
-    alloc: Global,
-    store: &Store,
-    patterns: &OneOrTwo<Ruled<'_>>,
-) -> Result<OneOrTwo<Plane>, Cause>
-    requires trees { AllByRecursion (λ r. IsTree store.now r.pattern.tree) (items patterns.now) }
-    requires range { AllByRecursion (λ r. AreInRange (cell store.now r.pattern.tree)) (items patterns.now) }
-    ensures planes { IfOk result (λ planes. AllZip (IsShownBy store.now) (items patterns.now) (items planes)) }
-    ensures cause { IfErr result (λ cause. SomeOf (IsCrowded store.now cause) (items patterns.now)) }
+/// The trees of a claim's pattern and of the other one, which is the same where there is one.
+pub(crate) fn subject_of(patterns: &OneOrTwo<Ruled<'_>>) -> Subject
+    ensures { AreBoth (items patterns.now) result }
 {
     match patterns {
-        OneOrTwo::One(only) => {
-            let only = expand(alloc, store, only)?;
-            Ok(OneOrTwo::One(only))
-        }
-        OneOrTwo::Two(first, second) => {
-            let first = expand(alloc, store, first)?;
-            let second = expand(alloc, store, second)?;
-            Ok(OneOrTwo::Two(first, second))
-        }
+        OneOrTwo::One(only) => Subject {
+            pattern: only.pattern.tree,
+            other: only.pattern.tree,
+        },
+        OneOrTwo::Two(first, second) => Subject {
+            pattern: first.pattern.tree,
+            other: second.pattern.tree,
+        },
     }
 }
 
-/// The plane of a pattern, where it hasn't too many cells.
-fn expand(alloc: Global, store: &Store, ruled: &Ruled<'_>) -> Result<Plane, Cause>
-    requires tree { IsTree store.now ruled.now.pattern.tree }
-    requires range { AreInRange (cell store.now ruled.now.pattern.tree) }
-    ensures { MatchResult result (IsShownBy store.now ruled.now) (λ cause. IsCrowded store.now cause ruled.now) }
+/// Whether the cells of the claim's pattern are counted: those of one that may be back anywhere, since it's moved cell by cell.
+pub(crate) fn counts_cells(asks: Asks) -> bool
+    ensures { IsTrue result ↔ IsCounted asks }
 {
-    match plane_of(alloc, store, ruled.pattern.tree) {
-        Ok(Some(cells)) => Ok(cells),
+    asks.barred == Barred::Anywhere
+}
+
+/// The plane of a tree whose cells are counted, where it hasn't too many.
+pub(crate) fn counted_plane(
+    alloc: Global,
+    store: &Store,
+    tree: Tree,
+    counted: bool,
+) -> Result<Option<Plane>, Cause>
+    requires tree { IsTree store.now tree }
+    requires range { AreInRange (cell store.now tree) }
+    ensures plane { IfOk result (λ plane. MatchOption plane (IsFalse counted) (λ p. IsTrue counted × IsPlaneOf store.now tree p)) }
+    ensures cause { IfErr result (λ cause. (cause ≡ causes.Memory) ⊎ ((cause ≡ causes.TooManyCells) × IsTrue counted × HasTooManyCells (cell store.now tree))) }
+{
+    if !counted {
+        return Ok(None);
+    }
+    match plane_of(alloc, store, tree) {
+        Ok(Some(plane)) => Ok(Some(plane)),
         Ok(None) => Err(Cause::TooManyCells),
         Err(_) => Err(Cause::Memory),
-    }
-}
-
-/// The planes of a claim's pattern and of the other one, which is the same where there is one.
-pub(crate) fn both(planes: &OneOrTwo<Plane>) -> (&Plane, &Plane)
-    ensures { AreBoth (items planes.now) result.0.now result.1.now }
-{
-    match planes {
-        OneOrTwo::One(only) => (only, only),
-        OneOrTwo::Two(first, second) => (first, second),
     }
 }

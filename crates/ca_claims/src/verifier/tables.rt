@@ -5,6 +5,7 @@ ghost use Rattle.std.specs.List.{AllByRecursion, AllZip};
 ghost use Rattle.std.specs.Option.{option_copied};
 ghost use Rattle.ca_rule.specs.TableNext.{TableRule};
 ghost use Rattle.ca_rule.specs.declared.table.fault.TableFault.TheVariants as table_fault;
+ghost use Rattle.ca_claims.specs.declared.verdict.Cause.TheVariants as causes;
 ghost use Rattle.ca_claims.specs.Places.{path_at};
 ghost use Rattle.ca_claims.specs.Means.{bytes_at};
 ghost use Rattle.ca_claims.specs.Answers.{IsThere, AreTables, SomeOf, FirstBad, HasCause};
@@ -67,6 +68,7 @@ impl Tables {
         ensures tables { (files : List (List ℕ × List ℕ)) (paths rules : List (List ℕ)) → AreRead files paths rules self.now → IfOk result (λ tables. AreTables files rules tables.now) }
         ensures cause { (files : List (List ℕ × List ℕ)) (paths rules patterns : List (List ℕ)) → AreRead files paths rules self.now → AllByRecursion (IsThere files) patterns
             → IfErr result (HasCause files rules patterns) }
+        ensures kind { IfErr result (λ cause. cause ≢ causes.TooManyCells) }
     {
         match self {
             Tables::Missing(_) => Err(Cause::NoFile),

@@ -6,7 +6,7 @@ use Rattle.ca_claims.specs.Answers.{AreTrueAnswers}
 use Rattle.ca_tool.specs.declared.telling.Telling.{Telling}
 use Rattle.ca_tool.specs.declared.telling.Told.{Told}
 use Rattle.ca_tool.specs.Printed.{tolds_text, status_of}
-use Rattle.ca_tool.specs.Runs.{answers_of, AreTrueNotes}
+use Rattle.ca_tool.specs.Runs.{answers_of, AreTrueNotes, AreGiven}
 
 -- the first claims left were judged, by true answers with true notes, and the others are left
 pub record WereJudged (old new : Judging) (tolds : List Told) : Type 0 where
@@ -27,7 +27,7 @@ pub record NoneLeft (judging : Judging) : Type 0 where
 -- claims were judged, and what is told of them was written, or a first part of it
 abbrev pub Tells : Judging → Judging → Telling → (List ℕ → Type 0) → (ℕ → Type 0) → Type 0
 Tells old new telling Written Ends =
-    (tolds : List Told) × WereJudged old new tolds × Written (tolds_text telling tolds) × Ends (status_of (answers_of tolds))
+    (tolds : List Told) × WereJudged old new tolds × AreGiven telling tolds × Written (tolds_text telling tolds) × Ends (status_of (answers_of tolds))
 
 -- all that was left was judged
 abbrev pub WereAllJudged : Judging → Judging → Type 0

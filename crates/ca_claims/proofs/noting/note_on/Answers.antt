@@ -5,8 +5,8 @@ use Rattle.ca_claims.specs.inner.Patterns.{items}
 use Rattle.ca_claims.proofs.NotesFound.{path_is, about_named, culprit_has}
 use Rattle.ca_claims.proofs.noting.note_on.Goals as goal
 
-pub returns-in-Some : goal.returns-in-Some
-returns-in-Some c = λ files e read.
+pub returns-in-Some-clause-note : goal.returns-in-Some-clause-note
+returns-in-Some-clause-note c = λ files e read.
     let paths = c.args.claims.now.paths in
     let rules = c.args.claims.now.rules in
     let patterns = items c.args.patterns.now in
@@ -20,7 +20,7 @@ returns-in-Some c = λ files e read.
       subst (λ path. IsToldLine files path cause c.line_at.result) at (c.line_at.ensures files paths rules e (culprit_has files rules paths cause pattern patterns first)),
     )
 
-pub returns-in-None : goal.returns-in-None
-returns-in-None c = λ files e read.
+pub returns-in-None-clause-note : goal.returns-in-None-clause-note
+returns-in-None-clause-note c = λ files e read.
     let patterns = map (named_path c.args.claims.now.paths) (items c.args.patterns.now) in
     subst (λ v. IsNote files c.args.claims.now.rules patterns v c.rule_file_note.result) (sym c.in-Refused.is) (c.rule_file_note.ensures files patterns read)

@@ -4,7 +4,7 @@ use Rattle.ca_claims.proofs.NotesFound.{none_refuses, told_same, not_memory}
 use Rattle.ca_claims.proofs.noting.refuses_alone.Goals as goal
 
 pub returns-in_default : goal.returns-in_default
-returns-in_default c = λ files paths rules e read m h. none_refuses files rules (path_at paths c.args.place ∷ []) c.in_default.field-0 (c.in_default.ensures.prepared files paths rules e read) c.args.cause.now m h
+returns-in_default c = λ files paths rules e read m h. none_refuses files rules (path_at paths c.args.place ∷ []) c.eq-counted.result c.in_default.field-0 (c.in_default.ensures.prepared files paths rules e read) c.args.cause.now m c.eq-counted.ensures h
 
 pub returns : goal.returns
 returns c = λ files paths rules e read m.

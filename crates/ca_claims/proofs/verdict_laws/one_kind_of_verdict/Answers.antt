@@ -4,19 +4,19 @@ use Rattle.ca_claims.proofs.Verdicts.{yes_or_no, judged_or_cause, one_cause, no_
 use Rattle.ca_claims.proofs.verdict_laws.one_kind_of_verdict.Goals as goal
 
 pub returns-clause-yes_or_no : goal.returns-clause-yes_or_no
-returns-clause-yes_or_no c = λ files rules claim why y n. yes_or_no files rules (patterns_of claim) (asks_of claim) why y.0 n.0 y.1 n.1 y.2 n.2 y.3 n.3 y.4 n.4
+returns-clause-yes_or_no c = λ files rules claim why y n. yes_or_no files rules claim (asks_of claim) why y.0 n.0 y.1 n.1 y.2 n.2 y.3 n.3 y.4 n.4
 
 pub returns-clause-yes_or_refused : goal.returns-clause-yes_or_refused
-returns-clause-yes_or_refused c = λ files rules claim cause no y r. judged_or_cause files rules (patterns_of claim) y.0 y.1 y.2 cause no y.3 r
+returns-clause-yes_or_refused c = λ files rules claim cause no y r. judged_or_cause files rules claim y.0 y.1 y.2 cause no y.3 r
 
 pub returns-clause-no_or_refused : goal.returns-clause-no_or_refused
-returns-clause-no_or_refused c = λ files rules claim why cause no n r. judged_or_cause files rules (patterns_of claim) n.0 n.1 n.2 cause no n.3 r
+returns-clause-no_or_refused c = λ files rules claim why cause no n r. judged_or_cause files rules claim n.0 n.1 n.2 cause no n.3 r
 
 pub returns-clause-one_cause : goal.returns-clause-one_cause
-returns-clause-one_cause c = λ files rules claim. one_cause files rules (patterns_of claim)
+returns-clause-one_cause c = λ files rules claim one two m n h k. one_cause files rules (patterns_of claim) one two m n h.0 k.0
 
 pub returns-clause-no_file_or_memory : goal.returns-clause-no_file_or_memory
-returns-clause-no_file_or_memory c = λ files rules claim. no_file_or_memory files rules (patterns_of claim)
+returns-clause-no_file_or_memory c = λ files rules claim h k. no_file_or_memory files rules (patterns_of claim) h.0 k.0
 
 pub returns-clause-bad_table_or_memory : goal.returns-clause-bad_table_or_memory
-returns-clause-bad_table_or_memory c = λ files rules claim. bad_table_or_memory files rules (patterns_of claim)
+returns-clause-bad_table_or_memory c = λ files rules claim fault h k. bad_table_or_memory files rules (patterns_of claim) fault h.0 k.0

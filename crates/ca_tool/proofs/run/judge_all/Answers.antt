@@ -9,4 +9,4 @@ claims-init c = ([], judged_none _)
 pub claims-preserved : goal.claims-preserved
 claims-preserved c =
     let so_far = c.claims.invariant in
-    (so_far.0 ++ _ ∷ [], judged_then _ _ _ so_far.0 _ so_far.1 (judged_one _ _ _ c.in-Some.ensures))
+    (so_far.0 ++ _ ∷ [], judged_then _ _ _ so_far.0 _ so_far.1 (judged_one _ _ _ c.in-Some.ensures.judged))

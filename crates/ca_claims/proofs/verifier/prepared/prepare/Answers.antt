@@ -1,4 +1,5 @@
-use Rattle.std.proofs.Common.{map, inl}
+use Rattle.std.proofs.Common.{map, inl, sym, ◌∙◌}
+use Rattle.std.proofs.lemmas.Result.{err_from_is_err_and}
 use Rattle.ca_claims.specs.Places.{path_at}
 use Rattle.ca_claims.specs.Answers.{HasCause}
 use Rattle.ca_claims.specs.inner.Patterns.{items}
@@ -15,7 +16,7 @@ returns-in_err-tables-clause-prepared c = λ files paths rules e read.
     let each = map (path_at paths) (items c.args.places.now) in
     let there = found_there files paths c.args.found.now e (items c.args.places.now) (items c.in-Some.files) c.requires c.in-Some.ensures in
     let cause = c.in_err-tables.field-0.0 in
-    passed_on (IsPrepared files rules each) (HasCause files rules each) c.from_residual.result cause c.from_residual.ensures.1
+    passed_on (IsPrepared files rules each c.args.counted) (HasCause files rules each) c.from_residual.result cause c.from_residual.ensures.1
     (c.in_err-tables.ensures.cause files paths rules each read (all_there files each (items c.in-Some.files) there))
 
 pub returns-clause-prepared : goal.returns-clause-prepared

@@ -1,0 +1,167 @@
+//! When a pattern is there again before a claim's generations are over.
+
+ghost use Rattle.std.specs.Prelude.{◌≡◌, ◌≢◌, ◌≤◌, ◌^◌, ℤ, pos, neg_ℤ, ◌-ℤ◌, ◌≤ℤ◌, IfOk, MatchOption};
+ghost use Rattle.std.specs.Option.{option_copied};
+ghost use Rattle.ca_plane.specs.Plane.{Picture, cell as plane_cell, shifted, IsLive};
+ghost use Rattle.ca_plane.specs.Generations.{IsAfter};
+ghost use Rattle.ca_quad.specs.Trees.{cell};
+ghost use Rattle.ca_run.specs.Leaping.{GoesOn};
+ghost use Rattle.ca_macro.specs.Pattern.{AreInRange};
+ghost use Rattle.ca_claims.specs.declared.claims.asks.Barred.TheVariants.{Nothing};
+ghost use Rattle.ca_claims.specs.Truth.{MayReturnBy, IsNotBack};
+ghost use Rattle.ca_claims.specs.inner.Decided.{IsBounded};
+ghost use Rattle.ca_claims.specs.inner.Returns.{IsNotBackBefore, IsFirstReturn};
+ghost use Rattle.ca_claims.specs.inner.Subjects.{ShowsTree, IsNear, IsSubject, HasLive, IsNoMove, IsOnlyMove, IsBackBy};
+
+use super::divisors::proper_divisors;
+use super::{Subject, copy, end_after, moved_tree};
+use crate::claims::Asks;
+use crate::observer::Observer;
+use crate::verdict::Why;
+use ca_plane::{Automaton, Memory, Plane};
+use ca_quad::{Store, Tree};
+use ca_run::Leaper;
+use std::alloc::Global;
+
+/// The first return of the pattern before the claim's generations are over. Where the pattern is back then, moved by a vector
+/// that is barred, it is back for the first time at a divisor of their number.
+pub(super) fn first_return<A: Automaton, O: Observer>(
+    alloc: Global,
+    leaper: &mut Leaper<A>,
+    subject: &Subject,
+    plane: Option<&Plane>,
+    asks: Asks,
+    observer: &mut O,
+) -> Result<Option<Why>, Memory>
+    requires subject { IsSubject leaper.old.nodes asks subject.now (option_copied plane) }
+    requires bounded { IsBounded asks }
+    requires barred { asks.barred ≢ Nothing }
+    requires live { HasLive (cell leaper.old.nodes subject.now.pattern) }
+    ensures { (cells : Picture) → ShowsTree leaper.old.nodes subject.now.pattern cells → (u v : ℤ) → MayReturnBy asks.barred u v
+        → IsAfter (A.next_of leaper.old.rule) cells asks.generations (shifted cells u v) → IfOk result (λ why. MatchOption why
+        (IsNotBackBefore (A.next_of leaper.old.rule) cells asks.barred asks.generations)
+        (IsFirstReturn (A.next_of leaper.old.rule) cells asks.barred asks.generations)) }
+{
+    // Says what holds of every leaper.
+    let _ = leaper.store();
+    let divisors = proper_divisors(alloc, asks.generations)?;
+    let mut rest = divisors.as_slice();
+    'divisors: while let Some((first, later)) = rest.split_first() {
+        let m = *first;
+        if let Some((dx, dy)) = back_at(alloc, leaper, subject, plane, asks, m, observer)? {
+            return Ok(Some(Why::Earlier { m, dx, dy }));
+        }
+        rest = later;
+    }
+    Ok(None)
+}
+
+// The vector by which the pattern is there again after m generations, if it is and that is barred.
+fn back_at<A: Automaton, O: Observer>(
+    alloc: Global,
+    leaper: &mut Leaper<A>,
+    subject: &Subject,
+    plane: Option<&Plane>,
+    asks: Asks,
+    m: u64,
+    observer: &mut O,
+) -> Result<Option<(i64, i64)>, Memory>
+    requires subject { IsSubject leaper.old.nodes asks subject.now (option_copied plane) }
+    requires barred { asks.barred ≢ Nothing }
+    requires live { HasLive (cell leaper.old.nodes subject.now.pattern) }
+    requires few { m ≤ 2 ^ 60 }
+    ensures back { (cells : Picture) → ShowsTree leaper.old.nodes subject.now.pattern cells → IfOk result (λ back. MatchOption back
+        (IsNotBack (A.next_of leaper.old.rule) cells asks.barred m)
+        (IsBackBy (A.next_of leaper.old.rule) cells asks.barred m)) }
+    ensures goes_on { GoesOn A leaper.old leaper.new }
+{
+    // Says what holds of every leaper.
+    let _ = leaper.store();
+    let end = end_after(leaper, copy(&subject.pattern), m, observer)?;
+    let _ = asks;
+    match plane {
+        None => back_in_place(leaper, end, copy(&subject.pattern)),
+        Some(plane) => back_anywhere(alloc, leaper, end, plane),
+    }
+}
+
+// (0, 0), where a tree shows the cells of another.
+fn back_in_place<A: Automaton>(
+    leaper: &mut Leaper<A>,
+    end: Tree,
+    pattern: Tree,
+) -> Result<Option<(i64, i64)>, Memory>
+    requires end { IsNear leaper.old.nodes end }
+    requires pattern { IsNear leaper.old.nodes pattern }
+    ensures back { IfOk result (λ back. MatchOption back
+        ((x : ℤ) × (y : ℤ) × (cell leaper.old.nodes end x y ≢ cell leaper.old.nodes pattern x y))
+        (λ v. (v.0 ≡ pos 0) × (v.1 ≡ pos 0) × ((x y : ℤ) → cell leaper.old.nodes end x y ≡ cell leaper.old.nodes pattern x y))) }
+    ensures goes_on { GoesOn A leaper.old leaper.new }
+{
+    match leaper.difference(end, pattern)? {
+        None => Ok(Some((0, 0))),
+        Some(_) => Ok(None),
+    }
+}
+
+// The vector by which a tree shows a plane's cells moved, if there is one.
+fn back_anywhere<A: Automaton>(
+    alloc: Global,
+    leaper: &mut Leaper<A>,
+    end: Tree,
+    plane: &Plane,
+) -> Result<Option<(i64, i64)>, Memory>
+    requires end { IsNear leaper.old.nodes end }
+    requires range { AreInRange (plane_cell plane.now) }
+    requires live { IsLive plane.now }
+    ensures back { IfOk result (λ back. MatchOption back (IsNoMove leaper.old.nodes end plane.now)
+        (λ v. ShowsTree leaper.old.nodes end (shifted plane.now v.0 v.1))) }
+    ensures goes_on { GoesOn A leaper.old leaper.new }
+{
+    let Some((dx, dy)) = corner_vector(alloc, leaper.store(), copy(&end), plane)? else {
+        return Ok(None);
+    };
+    let Some(moved) = moved_tree(alloc, leaper, plane, dx, dy)? else {
+        return Ok(None);
+    };
+    match leaper.difference(end, moved)? {
+        None => Ok(Some((dx, dy))),
+        Some(_) => Ok(None),
+    }
+}
+
+// The vector from the corner of a plane's least box to that of a tree's, where the tree isn't empty: no other can move the plane
+// onto the tree.
+fn corner_vector(
+    alloc: Global,
+    store: &Store,
+    end: Tree,
+    plane: &Plane,
+) -> Result<Option<(i64, i64)>, Memory>
+    requires end { IsNear store.now end }
+    requires range { AreInRange (plane_cell plane.now) }
+    requires live { IsLive plane.now }
+    ensures { IfOk result (λ vector. MatchOption vector (IsNoMove store.now end plane.now) (IsOnlyMove store.now end plane.now)) }
+{
+    let Some(from) = plane.bounds() else {
+        unreachable!();
+    };
+    let Some(to) = store.bounds(alloc, end)? else {
+        return Ok(None);
+    };
+    Ok(Some((way(from.x0, to.x0), way(from.y0, to.y0))))
+}
+
+// The way from one coordinate to another.
+fn way(from: i64, to: i128) -> i64
+    requires from_low { neg_ℤ (pos (2 ^ 60)) ≤ℤ from }
+    requires from_high { from ≤ℤ pos (2 ^ 60) }
+    requires to_low { neg_ℤ (pos (2 ^ 62)) ≤ℤ to }
+    requires to_high { to ≤ℤ pos (2 ^ 62) }
+    ensures { result ≡ to -ℤ from }
+{
+    let Ok(way) = i64::try_from(to - i128::from(from)) else {
+        unreachable!();
+    };
+    way
+}

@@ -1,0 +1,28 @@
+//! Those who watch how claims are judged.
+
+use ca_run::{Unwatched, Watch};
+
+/// Is told how far the judging of a claim is, while it lasts; also, as a `Watch`, how many generations a run has reached.
+pub trait Observer: Watch {
+    /// The claim on this line is judged next.
+    fn begins(&mut self, line: u64);
+
+    /// The cells of its pattern are looked for after so many generations: those of the claim, or an earlier time at which the
+    /// pattern may be back.
+    fn goes_to(&mut self, generations: u64);
+
+    /// The claim is judged.
+    fn ends(&mut self);
+}
+
+impl Observer for Unwatched {
+    fn begins(&mut self, line: u64) {
+        let _ = line;
+    }
+
+    fn goes_to(&mut self, generations: u64) {
+        let _ = generations;
+    }
+
+    fn ends(&mut self) {}
+}

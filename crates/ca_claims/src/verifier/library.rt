@@ -1,0 +1,181 @@
+//! The patterns that were last read, for later claims on the same files.
+
+ghost use Rattle.std.specs.Prelude.{◌≡◌, ◌↔◌, true, false, [], Some, IsTrue, IfSome, MatchResult, slice_get};
+ghost use Rattle.ca_quad.specs.Sound.{Grows};
+ghost use Rattle.ca_claims.specs.inner.Patterns.{IsReadFrom, IsUnread};
+
+use crate::pattern::Loaded;
+use crate::read::read_pattern;
+use crate::verdict::{Cause, PatternFault};
+use ca_quad::Store;
+use std::alloc::Global;
+use std::marker::Model;
+
+/// How many patterns are kept: a claim is about one or two.
+const ROOM: usize = 2;
+
+/// The patterns that were last read, the latest at the end. A closed library keeps none.
+#[derive(Drop)]
+pub(crate) struct Library<'a> {
+    is_open: bool,
+    kept: Vec<Kept<'a>>,
+}
+
+/// The bytes of a file, and the pattern that was read from them, in a store of its own.
+#[derive(Drop)]
+struct Kept<'a> {
+    bytes: &'a [u8],
+    store: Store,
+    pattern: Loaded,
+}
+
+impl<'a> Model for Kept<'a> {
+    ghost use Rattle.std.specs.Prelude.{ℕ, List};
+    ghost use Rattle.ca_claims.specs.inner.Patterns.{IsReadFrom};
+
+    ghost Value = { List ℕ };
+
+    ghost view = { λ k. k.bytes.now };
+
+    ghost invariant = { λ k. IsReadFrom k.store k.bytes.now k.pattern };
+}
+
+impl<'a> Library<'a> {
+    /// A library that keeps what is read, and has nothing yet.
+    pub(crate) fn new(alloc: Global) -> Library<'a>
+        ensures open { result.is_open ≡ true }
+        ensures kept { result.kept.items ≡ [] }
+    {
+        Library {
+            is_open: true,
+            kept: Vec::new(alloc),
+        }
+    }
+
+    /// A library that keeps nothing: for a claim that has no memory beside what is kept.
+    pub(crate) fn closed(alloc: Global) -> Library<'a>
+        ensures open { result.is_open ≡ false }
+        ensures kept { result.kept.items ≡ [] }
+    {
+        Library {
+            is_open: false,
+            kept: Vec::new(alloc),
+        }
+    }
+
+    /// Whether no pattern is kept.
+    pub(crate) fn is_empty(&self) -> bool
+        ensures { IsTrue result ↔ (self.now.kept.items ≡ []) }
+    {
+        self.kept.is_empty()
+    }
+
+    /// Lets all patterns go.
+    pub(crate) fn clear(&mut self)
+        ensures open { self.new.is_open ≡ self.old.is_open }
+        ensures kept { self.new.kept.items ≡ [] }
+    {
+        self.kept.clear();
+    }
+
+    /// The pattern of a file's bytes, put into the store: the one that is kept where a kept file has the same bytes, and else
+    /// the one that is read. Or the cause for which there is none.
+    pub(crate) fn pattern(
+        &mut self,
+        alloc: Global,
+        store: &mut Store,
+        bytes: &'a [u8],
+    ) -> Result<Loaded, Cause>
+        ensures read { MatchResult result (IsReadFrom store.new bytes.now) (IsUnread bytes.now) }
+        ensures grows { Grows store.old store.new }
+    {
+        let _ = store.count();
+        if !self.is_open {
+            return read(alloc, store, bytes);
+        }
+        let kept = self.take(alloc, bytes)?;
+        let pattern = kept.copy_into(store);
+        // Where there is no memory to keep it, it goes.
+        let _ = self.kept.push(kept);
+        pattern
+    }
+
+    /// The pattern of a file's bytes: taken out where it is kept, and else read. For a new one the longest unused one goes first,
+    /// so that there are never more than are kept.
+    fn take(&mut self, alloc: Global, bytes: &'a [u8]) -> Result<Kept<'a>, Cause>
+        ensures { MatchResult result (λ kept. kept ≡ bytes.now) (IsUnread bytes.now) }
+    {
+        if let Some(place) = self.place_of(bytes) {
+            return Ok(self.kept.remove(place));
+        }
+        if self.kept.len() == ROOM {
+            let _ = self.kept.remove(0);
+        }
+        Kept::read(alloc, bytes)
+    }
+
+    /// Where the pattern of a file with these bytes is kept.
+    fn place_of(&self, bytes: &[u8]) -> Option<usize>
+        ensures { IfSome result (λ place. slice_get self.now.kept.items place ≡ Some bytes.now) }
+    {
+        'places: for (place, kept) in self.kept.iter().enumerate() {
+            if kept.is_of(bytes) {
+                return Some(place);
+            }
+        }
+        None
+    }
+}
+
+impl<'a> Kept<'a> {
+    /// Whether the file has these bytes.
+    fn is_of(&self, bytes: &[u8]) -> bool
+        ensures { IsTrue result ↔ (self.now ≡ bytes.now) }
+    {
+        self.bytes == bytes
+    }
+
+    /// The pattern of a file's bytes, or the cause for which they aren't read.
+    fn read(alloc: Global, bytes: &'a [u8]) -> Result<Kept<'a>, Cause>
+        ensures { MatchResult result (λ kept. kept ≡ bytes.now) (IsUnread bytes.now) }
+    {
+        let mut store = Store::new(alloc);
+        let pattern = read(alloc, &mut store, bytes)?;
+        Ok(Kept {
+            bytes,
+            store,
+            pattern,
+        })
+    }
+
+    /// The pattern in another store.
+    fn copy_into(&self, store: &mut Store) -> Result<Loaded, Cause>
+        ensures read { MatchResult result (IsReadFrom store.new self.now) (IsUnread self.now) }
+        ensures grows { Grows store.old store.new }
+    {
+        let Ok(tree) = store.import(&self.store, self.pattern.tree) else {
+            return Err(Cause::Memory);
+        };
+        let Ok(rule_text) = self.pattern.rule_text.clone() else {
+            return Err(Cause::Memory);
+        };
+        Ok(Loaded {
+            kind: self.pattern.kind,
+            tree,
+            rule_text,
+            generation: self.pattern.generation,
+        })
+    }
+}
+
+/// The pattern of a file's bytes, or the cause for which they aren't read.
+fn read(alloc: Global, store: &mut Store, bytes: &[u8]) -> Result<Loaded, Cause>
+    ensures read { MatchResult result (IsReadFrom store.new bytes.now) (IsUnread bytes.now) }
+    ensures grows { Grows store.old store.new }
+{
+    match read_pattern(alloc, store, bytes) {
+        Ok(pattern) => Ok(pattern),
+        Err(PatternFault::Memory) => Err(Cause::Memory),
+        Err(fault) => Err(Cause::BadPattern(fault)),
+    }
+}
