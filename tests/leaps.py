@@ -1,0 +1,307 @@
+#!/usr/bin/env -S python3 -B
+"""Claims of many generations, and of more cells than memory holds: each run has to end within some seconds.
+
+What the patterns of leaps/ become was computed by Golly (leaps/README.md says how). The other verdicts are known from what the patterns are made of.
+"""
+import itertools
+import os
+import random
+import resource
+import tempfile
+import time
+
+from lib import macrocell
+from lib.claim_text import ClaimText, outcome
+from lib.program import ROOT, Folder, Tally, contents, run
+
+# The seconds within which each run has to end.
+BOUND = 20
+
+# The bytes of address space that a run has which is to want memory.
+SPACE = 100_000_000
+
+LEAPS, TABLES = "tests/leaps", "examples/tables"
+
+# The most generations of `becomes`, and the longest period. Cells of files lie from -FAR to FAR - 1.
+FAR, LONGEST = 1 << 60, (1 << 32) - 1
+
+# Patterns, each with its rule file if it has one, and the generations after which Golly was asked for it.
+AFTER = (
+    ("r_pentomino", "examples/r_pentomino.rle", None, 1 << 20),
+    ("acorn", f"{LEAPS}/acorn.rle", None, 1 << 13),
+    ("switch_engine", f"{LEAPS}/switch_engine.rle", None, 1 << 17),
+    ("gun", "examples/gun.rle", None, 1 << 20),
+    ("replicator", f"{LEAPS}/replicator.rle", None, 1000000),
+    ("copies", f"{LEAPS}/copies.rle", None, 524329),
+    ("hexagonal", f"{LEAPS}/hexagonal.rle", None, 1000000),
+    ("von_neumann", f"{LEAPS}/von_neumann.rle", None, 1 << 10),
+    ("von_neumann_copies", f"{LEAPS}/von_neumann_copies.rle", None, 1000000),
+    ("wires", f"{LEAPS}/wires.rle", f"{TABLES}/wireworld.rule", 1 << 20),
+    ("langtons_loop", f"{TABLES}/langtons_loop.rle", f"{TABLES}/langtons_loop.rule", 1 << 10),
+    ("rule_110", f"{LEAPS}/rule_110.rle", f"{LEAPS}/rule_110.rule", 1 << 11),
+)
+
+# Patterns that come back, each with its period and the vector by which it is moved meanwhile.
+RETURNS = (
+    ("examples/glider.rle", 4, 1, 1),
+    ("examples/lwss.rle", 4, -2, 0),
+    ("examples/copperhead.rle", 10, 0, -1),
+    ("examples/period_162_ship.rle", 162, 0, -10),
+    ("examples/blinker.rle", 2, 0, 0),
+    ("examples/pentadecathlon.rle", 15, 0, 0),
+    ("examples/queen_bee_shuttle.rle", 30, 0, 0),
+    ("examples/period_840.rle", 840, 0, 0),
+)
+
+# Squares of 8 by 8 cells, repeated over a square of any level.
+BLOCKS = "**..**..$**..**..$$$**..**..$**..**..$"
+BLINKERS, UPRIGHT = "$$$..***$", "$$...*$...*$...*$"
+FULL = "********$" * 8
+
+
+def tiled(leaf, level):
+    """A macrocell of a square of this level, made of one square of 8 by 8 cells."""
+    return "\n".join(["[M2]", leaf, *(f"{up} {up - 3} {up - 3} {up - 3} {up - 3}" for up in range(4, level + 1)), ""])
+
+
+def a_live_cell(tree, chance):
+    """The place and state of a live cell of a tree, one among all of them."""
+    square, level = tree.root, tree.level
+    x = y = -(1 << (level - 1))
+    while level:
+        level -= 1
+        at = chance.choice([at for at, part in enumerate(tree.squares.parts[square]) if part])
+        square = tree.squares.parts[square][at]
+        x, y = x + (at % 2 << level), y + (at // 2 << level)
+    return (x, y), square
+
+
+def with_state(tree, place, state):
+    """The tree with another state at a place of its square."""
+    x, y = (number + (1 << (tree.level - 1)) for number in place)
+
+    def changed(square, level):
+        if not level:
+            return state
+        parts = list(tree.squares.parts[square])
+        at = (x >> (level - 1) & 1) + 2 * (y >> (level - 1) & 1)
+        parts[at] = changed(parts[at], level - 1)
+        return tree.squares.join(level, parts)
+
+    return macrocell.Tree(tree.squares, changed(tree.root, tree.level), tree.level)
+
+
+def without_a_cell(text, chance):
+    """A macrocell without one of its live cells, the place of that cell, and its state."""
+    pattern = macrocell.read(text)
+    place, state = a_live_cell(pattern.tree, chance)
+    left = macrocell.Pattern(with_state(pattern.tree, place, 0), pattern.rule, pattern.generation)
+    return macrocell.tidy(left, max(2, 1 + pattern.tree.highest_state())), place, state
+
+
+def generations(count):
+    """A number of generations in words."""
+    return f"{count} generation{'s' * (count != 1)}"
+
+
+class Claims:
+    """Claim texts in a folder of their own, and runs over them that have to end in time."""
+
+    def __init__(self, tally, folder):
+        self.tally, self.files = tally, Folder(folder)
+
+    def text(self):
+        """A new claim text."""
+        return ClaimText(self.files)
+
+    def judge(self, name, text, explained=False, **how):
+        """Expects the verdicts of a text, and its notes where they are explained."""
+        words = ["verify", *["--explain"] * explained, text.write()]
+        begin = time.monotonic()
+        came = run(words, **how)
+        seconds = time.monotonic() - begin
+        wanted = outcome(text.answers, explained)
+        complaints = [] if came == wanted else [f"wanted: {wanted}", f"got:    {came}"]
+        if seconds > BOUND:
+            complaints.append(f"it took {seconds:.1f} s")
+        self.tally.tell(f"{name}: {seconds:.1f} s", complaints)
+
+
+def try_after(claims, name, before, rule, count):
+    """A pattern is what Golly made of it, and not where one cell is another."""
+    after = f"{LEAPS}/{name}_after.mc"
+    changed, (x, y), state = without_a_cell(contents(os.path.join(ROOT, after)), random.Random(name))
+    for other, verdict in (("after", "yes"), ("changed", f"no, cells differ after {count}")):
+        text = claims.text()
+        if rule:
+            text.rule_path(rule)
+        text.load_path("before", before)
+        if other == "after":
+            text.load_path(other, after)
+        else:
+            text.load(other, changed)
+        note = f"before at {x},{y}: {state} after {generations(count)}, claimed 0" if other == "changed" else ""
+        text.claim(f"becomes before {count} {other}", verdict, note)
+        claims.judge(f"{name} after {count}, {other}", text, explained=True)
+
+
+def claim_of(name, period, times, dx, dy):
+    """The claim that a pattern is back after its period, so many times over."""
+    if dx or dy:
+        return f"spaceship {name} {period * times} {dx * times} {dy * times}"
+    return f"oscillator {name} {period * times}"
+
+
+def try_returns(claims, path, period, dx, dy):
+    """Multiples of a period, up to the longest, forty claims about one file."""
+    text = claims.text()
+    text.load_path("p", path)
+    again = f"no, the same after {period}, shifted by {dx},{dy}"
+    most = LONGEST // period
+    text.claim(claim_of("p", period, 1, dx, dy), "yes")
+    chance = random.Random(period)
+    for times in (2, 3, 4, 1 << (most.bit_length() - 1), most, *(chance.randrange(5, most) for _ in range(14))):
+        text.claim(claim_of("p", period, times, dx, dy), again)
+        other = f"spaceship p {period * times} {dx * times + 1} {dy * times}" if (dx, dy) != (0, 0) else f"oscillator p {period * times - 1}"
+        text.claim(other, f"no, cells differ after {period * times - (not dx and not dy)}")
+    text.claim("becomes p 0 p", "yes")
+    claims.judge(f"{path}, {len(text.answers)} claims", text)
+
+
+def glider_at(x, y):
+    """A glider with this corner."""
+    return f"#CXRLE Pos={x},{y}\nx = 3, y = 3, rule = B3/S23\nbo$2bo$3o!\n"
+
+
+def try_far_gliders(claims):
+    """A glider after every power of four generations and more, and beyond the places that files have."""
+    text = claims.text()
+    text.load_path("glider", "examples/glider.rle")
+    for power in range(2, 61, 2):
+        count = 1 << power
+        text.load(f"g{power}", glider_at(count >> 2, count >> 2))
+        text.load(f"h{power}", glider_at((count >> 2) - 1, count >> 2))
+        text.claim(f"becomes glider {count} g{power}", "yes")
+        text.claim(f"becomes glider {count} h{power}", f"no, cells differ after {count}")
+        text.claim(f"becomes glider {count - 4} g{power}", f"no, cells differ after {count - 4}")
+    claims.judge("gliders from 4 generations to 2^60", text)
+    text = claims.text()
+    text.load_path("edge", "examples/edge/south_east_glider.rle")
+    text.load_path("glider", "examples/glider.rle")
+    text.load_path("empty", "examples/empty.rle")
+    for other in ("edge", "glider", "empty"):
+        text.claim(f"becomes edge {FAR} {other}", f"no, cells differ after {FAR}")
+    text.claim(f"spaceship edge {LONGEST - 3} {LONGEST // 4} {LONGEST // 4}", "no, the same after 4, shifted by 1,1")
+    text.claim(f"becomes empty {FAR} empty", "yes")
+    text.claim(f"becomes empty {FAR} glider", f"no, cells differ after {FAR}")
+    claims.judge("a glider that leaves the places of files", text)
+
+
+def try_squares(claims):
+    """Squares of more cells than memory holds: still lifes, oscillators, and planes that are others."""
+    for level in (25, 40, 61):
+        text = claims.text()
+        for name, leaf in (("blocks", BLOCKS), ("lying", BLINKERS), ("upright", UPRIGHT), ("full", FULL)):
+            text.load(name, tiled(leaf, level))
+        text.claim("still blocks", "yes")
+        text.claim("oscillator blocks 4294967295", "no, the same after 1, shifted by 0,0")
+        text.claim(f"becomes blocks {FAR} blocks", "yes")
+        text.claim("oscillator lying 2", "yes")
+        text.claim(f"oscillator upright {LONGEST - 1}", "no, the same after 2, shifted by 0,0")
+        text.claim(f"oscillator upright {LONGEST}", f"no, cells differ after {LONGEST}")
+        text.claim(f"becomes lying {FAR} lying", "yes")
+        text.claim(f"becomes lying {FAR - 1} upright", "yes")
+        text.claim(f"becomes lying {FAR} upright", f"no, cells differ after {FAR}")
+        text.claim("becomes full 0 full", "yes")
+        text.claim("becomes full 0 blocks", "no, cells differ after 0")
+        text.claim("still full", "no, cells differ after 1")
+        text.claim("oscillator full 7", "no, cells differ after 7")
+        for name in ("blocks", "lying", "full"):
+            text.claim(f"spaceship {name} 4 1 1", "refused, too many cells")
+        claims.judge(f"squares of level {level}", text)
+
+
+def try_one_cell(claims):
+    """One cell of a square of level 61 is another: it is found wherever it is, after any number of generations."""
+    chance = random.Random(61)
+    for leaf, name in ((BLOCKS, "blocks"), (FULL, "full")):
+        changed, (x, y), state = without_a_cell(tiled(leaf, 61).encode(), chance)
+        text = claims.text()
+        text.load("whole", tiled(leaf, 61))
+        text.load("changed", changed)
+        text.claim("becomes whole 0 changed", "no, cells differ after 0", f"whole at {x},{y}: {state} after 0 generations, claimed 0")
+        text.claim("becomes changed 0 whole", "no, cells differ after 0", f"changed at {x},{y}: 0 after 0 generations, claimed {state}")
+        if name == "blocks":
+            count = 1000000
+            # a block without a cell is whole again after one generation
+            text.claim(f"becomes changed {count} whole", "yes")
+            text.claim("still changed", "no, cells differ after 1", f"changed at {x},{y}: 1 after 1 generation, claimed 0")
+            note = f"changed at {x},{y}: 1 after {generations(count)}, claimed 0"
+            text.claim(f"becomes changed {count} changed", f"no, cells differ after {count}", note)
+        claims.judge(f"a cell of {name} at {x},{y}", text, explained=True)
+
+
+def try_most_cells(claims):
+    """A spaceship claim takes 16777216 live cells, and no more."""
+    nodes = ["********$", *(f"{up} {up - 3} {up - 3} 0 0" for up in range(4, 25))]
+    row = ["[M2]", *nodes, "25 0 0 0 22", ""]
+    more = ["[M2]", *nodes, "*$", *(f"{up} {up + 19} 0 0 0" for up in range(4, 25)), "25 0 44 0 22", ""]
+    text = claims.text()
+    text.load("row", "\n".join(row))
+    text.load("more", "\n".join(more))
+    text.claim("spaceship row 1 1 0", "no, cells differ after 1")
+    text.claim("spaceship more 1 1 0", "refused, too many cells")
+    for name in ("row", "more"):
+        text.claim(f"still {name}", "no, cells differ after 1")
+        text.claim(f"oscillator {name} 1000", "no, cells differ after 1000")
+        text.claim(f"becomes {name} 0 {name}", "yes")
+    text.claim("becomes row 0 more", "no, cells differ after 0")
+    claims.judge("rows of 16777216 cells and of one more", text)
+
+
+def try_slides(claims):
+    """Cells that move one place each generation, as far as they can: under a table whose cells take the state of the cell to the west."""
+    slide = "@RULE Slide\n@TABLE\nn_states:3\nneighborhood:oneDimensional\nsymmetries:none\n" + "".join(
+        f"{cell},{west},{east},{west}\n" for cell, west, east in itertools.product(range(3), repeat=3))
+    text = claims.text()
+    text.rule(slide)
+    for name, x in (("west", -FAR), ("middle", 0), ("other", 1), ("east", FAR - 1)):
+        text.load(name, f"#CXRLE Pos={x},-7\nx = 1, y = 1, rule = Slide\nB!\n")
+    text.claim(f"becomes west {FAR} middle", "yes")
+    text.claim(f"becomes west {FAR} other", f"no, cells differ after {FAR}")
+    text.claim(f"becomes west {FAR - 1} middle", f"no, cells differ after {FAR - 1}")
+    text.claim(f"becomes other {FAR - 2} east", "yes")
+    text.claim(f"becomes east {FAR} east", f"no, cells differ after {FAR}")
+    text.claim("spaceship east 1 1 0", "yes")
+    text.claim(f"spaceship west {LONGEST} {LONGEST} 0", "no, the same after 1, shifted by 1,0")
+    claims.judge("cells that slide as far as they can", text)
+
+
+def try_want_of_memory(claims):
+    """A plane that grows without order, of which no memory holds the generations: its claim is refused alone."""
+    chance = random.Random(2)
+    rows = ["".join(chance.choice("bbo") for _ in range(60)) for _ in range(60)]
+    text = claims.text()
+    text.load("soup", f"x = 60, y = 60, rule = B2/S\n{'$'.join(rows)}!\n")
+    text.load_path("block", "examples/block.rle")
+    for claim, verdict in (("still block", "yes"), (f"becomes soup {FAR} soup", "refused, memory"), (f"becomes block {FAR} block", "yes"),
+                           (f"oscillator soup {LONGEST}", "refused, memory"), (f"spaceship soup {LONGEST} 1 1", "refused, memory"), ("still block", "yes")):
+        text.claim(claim, verdict)
+    claims.judge("want of memory", text, preexec_fn=lambda: resource.setrlimit(resource.RLIMIT_AS, (SPACE, SPACE)))
+
+
+def main():
+    tally = Tally()
+    with tempfile.TemporaryDirectory() as folder:
+        claims = Claims(tally, folder)
+        for it in AFTER:
+            try_after(claims, *it)
+        for it in RETURNS:
+            try_returns(claims, *it)
+        for it in (try_far_gliders, try_squares, try_one_cell, try_most_cells, try_slides, try_want_of_memory):
+            it(claims)
+    tally.finish()
+
+
+if __name__ == "__main__":
+    main()
