@@ -277,6 +277,51 @@ def try_slides(claims):
     claims.judge("cells that slide as far as they can", text)
 
 
+EIGHT = [(x, y) for x in (-1, 0, 1) for y in (-1, 0, 1) if (x, y) != (0, 0)]
+
+# The places of the neighbours of a cell, of which a cell under a rule of odd counts takes the parity; the side of a soup, and generations: few
+# beside it and many, with masks for the kernel and without.
+PARITIES = (
+    ("B1357/S1357", EIGHT, 500, 511),
+    ("B1357/S1357", EIGHT, 60, 1023),
+    ("B13/S13V", [(0, -1), (-1, 0), (1, 0), (0, 1)], 160, 255),
+)
+
+
+def parity_after(rows, places, generations):
+    """The rows of a plane under a rule of odd counts, each a number whose bit x is the cell at x: after 2^j generations a cell is the parity of those 2^j
+    places away. The planes lie `generations` cells from the edge."""
+    for j in range(generations.bit_length()):
+        if not generations >> j & 1:
+            continue
+        after = [0] * len(rows)
+        for x, y in places:
+            for row, cells in enumerate(rows):
+                if cells:
+                    after[row + (y << j)] ^= cells << (x << j) if x >= 0 else cells >> (-x << j)
+        rows = after
+    return rows
+
+
+def parity_file(rule, corner, rows):
+    """The file of such rows, whose upper left place is at the corner."""
+    lines = ("".join("bo"[int(bit)] for bit in reversed(f"{row:b}")) for row in rows)
+    return f"#CXRLE Pos={corner},{corner}\nx = 1, y = 1, rule = {rule}\n{'$'.join(lines)}!\n"
+
+
+def try_many_squares(claims):
+    """Planes without order, of some hundred thousand squares and more: what becomes of them is known, since each generation is a sum."""
+    for rule, places, side, generations in PARITIES:
+        chance = random.Random(side)
+        rows = [0] * generations + [chance.getrandbits(side) << generations for _ in range(side)] + [0] * generations
+        text = claims.text()
+        text.load("soup", parity_file(rule, -generations, rows))
+        text.load("later", parity_file(rule, -generations, parity_after(rows, places, generations)))
+        text.claim(f"becomes soup {generations} later", "yes")
+        text.claim(f"becomes soup {generations - 1} later", f"no, cells differ after {generations - 1}")
+        claims.judge(f"{side} by {side} cells without order, {rule}", text)
+
+
 def try_want_of_memory(claims):
     """A plane that grows without order, of which no memory holds the generations: its claim is refused alone."""
     chance = random.Random(2)
@@ -298,7 +343,7 @@ def main():
             try_after(claims, *it)
         for it in RETURNS:
             try_returns(claims, *it)
-        for it in (try_far_gliders, try_squares, try_one_cell, try_most_cells, try_slides, try_want_of_memory):
+        for it in (try_far_gliders, try_squares, try_one_cell, try_most_cells, try_slides, try_many_squares, try_want_of_memory):
             it(claims)
     tally.finish()
 
