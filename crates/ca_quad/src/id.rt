@@ -11,7 +11,7 @@ use std::marker::Model;
 #[derive(Clone, Copy, Debug, PartialEq, Eq, Hash, Drop)]
 pub struct Id {
     // Below 16 a 2 by 2 square of two states, below 65552 a 4 by 4 one, and else a place in the store.
-    number: u64,
+    number: u32,
 }
 
 impl Model for Id {
@@ -31,7 +31,7 @@ impl Id {
         ensures { result ≡ cells2 cells }
     {
         Id {
-            number: cells as u64,
+            number: cells as u32,
         }
     }
 
@@ -40,17 +40,17 @@ impl Id {
         ensures { result ≡ cells4 cells }
     {
         Id {
-            number: 16 + cells as u64,
+            number: 16 + cells as u32,
         }
     }
 
     // The square that is kept at this place.
     pub(crate) fn kept(place: usize) -> Id
-        requires { place < 2 ^ 63 }
+        requires { place ≤ 2 ^ 31 }
         ensures { result ≡ kept place }
     {
         Id {
-            number: 65552 + place as u64,
+            number: 65552 + place as u32,
         }
     }
 
@@ -87,10 +87,10 @@ impl Id {
             return None;
         }
         Some(
-            (nw.number - 16)
-                + 65536 * (ne.number - 16)
-                + 4294967296 * (sw.number - 16)
-                + 281474976710656 * (se.number - 16),
+            (nw.number - 16) as u64
+                + 65536 * (ne.number - 16) as u64
+                + 4294967296 * (sw.number - 16) as u64
+                + 281474976710656 * (se.number - 16) as u64,
         )
     }
 

@@ -8,5 +8,5 @@ pub(crate) enum Named {
     // A 4 by 4 square: its parts are digits of base 16, the north-western lowest.
     Cells4(u16),
     // The square at this place of the store.
-    Kept(u64),
+    Kept(u32),
 }

@@ -36,6 +36,9 @@ use indexmap::IndexSet;
 use std::alloc::Global;
 use std::marker::Model;
 
+// More squares than these are never kept, so that an id has room for any place. They would take some 100 gigabytes.
+const MOST: usize = 1 << 31;
+
 /// Squares of cells, each kept once. An id names one as long as the store lasts.
 #[derive(Drop)]
 pub struct Store {
@@ -81,9 +84,10 @@ impl Store {
         ensures count { length self.new ≤ length self.old + 1 }
         ensures err { OnErr result (self.new ≡ self.old) }
     {
+        if self.nodes.len() >= MOST {
+            return Err(Memory);
+        }
         let (place, _) = self.nodes.insert_full(node)?;
-        // A table has fewer than 2^63 entries, so an id has room for any place.
-        let _ = self.nodes.len();
         Ok(Id::kept(place))
     }
 

@@ -21,7 +21,7 @@ fn is_known(store: &Store, id: Id) -> bool
     match id.named() {
         Named::Cells2(_) => true,
         Named::Cells4(_) => true,
-        Named::Kept(place) => place < store.count() as u64,
+        Named::Kept(place) => (place as usize) < store.count(),
     }
 }
 
