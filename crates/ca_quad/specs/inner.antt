@@ -5,6 +5,7 @@ pub mod Window
 pub mod Population
 pub mod Found
 pub mod Greatest
+pub mod Hashed
 pub mod Numbered
 pub mod Extent
 pub mod Drawn

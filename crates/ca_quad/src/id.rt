@@ -2,7 +2,7 @@
 
 ghost use Rattle.std.specs.Prelude.{◌≡◌, ◌+◌, ◌<◌, ◌≤◌, ◌^◌, ◌⊎◌, max, min, MatchOption, IsTrue, ◌↔◌};
 ghost use Rattle.ca_quad.specs.Squares.{named, cells2, cells4, kept};
-ghost use Rattle.ca_quad.specs.inner.Named.{AreCells2, AreCells4};
+ghost use Rattle.ca_quad.specs.inner.Named.{AreCells2, AreCells4, four_numbers};
 
 use crate::named::Named;
 use std::marker::Model;
@@ -25,6 +25,24 @@ impl Model for Id {
 }
 
 impl Id {
+    /// The number of the name: one of a square that came later to its store is larger.
+    pub fn number(self) -> usize
+        ensures value { result ≡ self }
+        ensures most { result < 2 ^ 32 }
+    {
+        self.number as usize
+    }
+
+    // The numbers of four squares, one after the other, the north-western lowest.
+    pub(crate) fn four_numbers(nw: Id, ne: Id, sw: Id, se: Id) -> u128
+        ensures { result ≡ four_numbers nw ne sw se }
+    {
+        nw.number as u128
+            + 4294967296 * ne.number as u128
+            + 18446744073709551616 * sw.number as u128
+            + 79228162514264337593543950336 * se.number as u128
+    }
+
     // The 2 by 2 square of these cells.
     pub(crate) fn cells2(cells: u8) -> Id
         requires { cells < 16 }
