@@ -16,6 +16,7 @@ use Rattle.ca_run.specs.Centre.{later, centre, IsCentre}
 use Rattle.ca_run.specs.Leaping.{Leaping, GoesOn}
 use Rattle.ca_run.specs.inner.Shown.{Looks, ShowsAt, FourShow, ThreeShow, TwoShow, AreThree, side}
 use Rattle.ca_run.specs.inner.Memo.{remembered, AreCentres, IsLeaper}
+use Rattle.ca_run.specs.inner.Farthest.{Has, AreFarthest}
 use Rattle.ca_run.specs.inner.Recent.{Keeps, KeepsCentres}
 use Rattle.ca_run.proofs.Laters.{later_again}
 use Rattle.ca_run.proofs.Looks.{looks_from, looks_together, looks_nw, looks_ne, looks_sw, looks_se, looks_centre}
@@ -72,14 +73,20 @@ module _ (old new : List Node) (sound : IsSound old) (grows : Grows old new) whe
       let there = h id j half e in
       (there.0, centre_stays next id there.0 j half there.1)
 
+  pub farthest_stay : (next : List ℕ → ℕ) (halves : List (Option ℕ)) → AreFarthest next old halves → AreFarthest next new halves
+  farthest_stay next halves h id half e =
+      let there = h id half e in
+      (there.0, centre_stays next id there.0 there.0 half there.1)
+
   -- a leaper stays one as its store grows
-  pub leaper_stays : (next : List ℕ → ℕ) (S : Type 0) (results : List ((ℕ × ℕ) × ℕ)) (slots : List (Option (ℕ × ℕ × ℕ))) (masks : Option (ℕ × ℕ))
-      → IsLeaper next S old results slots masks → IsLeaper next S new results slots masks
-  leaper_stays next S results slots masks h = record {
+  pub leaper_stays : (next : List ℕ → ℕ) (S : Type 0) (results : List ((ℕ × ℕ) × ℕ)) (slots : List (Option (ℕ × ℕ × ℕ))) (halves : List (Option ℕ)) (masks : Option (ℕ × ℕ))
+      → IsLeaper next S old results slots halves masks → IsLeaper next S new results slots halves masks
+  leaper_stays next S results slots halves masks h = record {
     rule = h.rule;
     squares = grows.sound;
     centres = centres_stay next results h.centres;
     recent = kept_centres_stay next slots h.recent;
+    farthest = farthest_stay next halves h.farthest;
     by_masks = h.by_masks;
   }
 
@@ -203,6 +210,27 @@ kept_more next nodes old new id k j half all this more other time centre h = eli
     k,
     subst (λ x. IsCentre next nodes other k time x) (sym same.2)
         (subst (λ x. IsCentre next nodes other k x half) (sym same.1) (subst (λ x. IsCentre next nodes x k j half) (sym same.0) this)),
+  )
+]
+
+-- what the slot of a square has is its centre
+pub farthest_recalled : (next : List ℕ → ℕ) (nodes : List Node) (halves : List (Option ℕ)) (id k j : ℕ) (found : Option ℕ) → j ≡ k → AreFarthest next nodes halves → IsOf nodes id (suc (suc k))
+    → IfSome found (Has halves id) → IfSome found (IsCentre next nodes id k j)
+farthest_recalled next nodes halves id k j None time all square e = tt
+farthest_recalled next nodes halves id k j (Some half) time all square e =
+    let there = all id half e in
+    let same : there.0 ≡ k = omega (arith, there.1.is_square.is_level, square.is_level) in
+    subst (λ t. IsCentre next nodes id k t half) (sym time) (subst (λ l. IsCentre next nodes id l l half) same there.1)
+
+-- and so after a write
+pub farthest_more : (next : List ℕ → ℕ) (nodes : List Node) (old new : List (Option ℕ)) (id k j half : ℕ) → j ≡ k → AreFarthest next nodes old → IsCentre next nodes id k j half
+    → ((other centre : ℕ) → Has new other centre → Has old other centre ⊎ ((other ≡ id) × (centre ≡ half))) → AreFarthest next nodes new
+farthest_more next nodes old new id k j half time all this more other centre h = elim (more other centre h) [
+  | inl e ↦ all other centre e
+  | inr same ↦ (
+    k,
+    subst (λ t. IsCentre next nodes other k t centre) time
+        (subst (λ x. IsCentre next nodes other k j x) (sym same.1) (subst (λ x. IsCentre next nodes x k j half) (sym same.0) this)),
   )
 ]
 

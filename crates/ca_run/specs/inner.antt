@@ -7,5 +7,6 @@ pub mod Written
 pub mod Shown
 pub mod Words
 pub mod Recent
+pub mod Farthest
 pub mod Memo
 pub mod Tiles

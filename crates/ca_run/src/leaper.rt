@@ -12,6 +12,7 @@ ghost use Rattle.ca_run.specs.inner.Shown.{ShowsAt, FourShow};
 mod advance;
 mod base;
 mod centres;
+mod farthest;
 mod lanes;
 mod memo;
 mod parts;
@@ -25,6 +26,7 @@ mod words;
 
 use ca_plane::{Automaton, Memory};
 use ca_quad::{Id, Store};
+use farthest::Farthest;
 use memo::Memo;
 use recent::Recent;
 use std::alloc::Global;
@@ -38,6 +40,7 @@ pub struct Leaper<A: Automaton> {
     masks: Option<(u16, u16)>,
     memo: Memo,
     recent: Recent,
+    farthest: Farthest,
 }
 
 impl<A: Automaton> Model for Leaper<A> {
@@ -48,7 +51,7 @@ impl<A: Automaton> Model for Leaper<A> {
 
     ghost view = { λ l. record { rule = l.rule; nodes = l.store } };
 
-    ghost invariant = { λ l. IsLeaper (A.next_of l.rule) (A.sound l.rule) l.store l.memo l.recent l.masks };
+    ghost invariant = { λ l. IsLeaper (A.next_of l.rule) (A.sound l.rule) l.store l.memo l.recent l.farthest l.masks };
 }
 
 impl<A: Automaton> Leaper<A> {
@@ -66,6 +69,7 @@ impl<A: Automaton> Leaper<A> {
             masks,
             memo: Memo::new(alloc),
             recent: Recent::new(alloc),
+            farthest: Farthest::new(alloc),
         }
     }
 
@@ -84,6 +88,9 @@ impl<A: Automaton> Leaper<A> {
         requires { IsOf self.now.nodes id (suc (suc grain)) }
         ensures { IfSome result (IsCentre (A.next_of self.now.rule) self.now.nodes id grain j) }
     {
+        if j == grain {
+            return self.farthest.get(id);
+        }
         if self.is_cheap(grain) {
             return self.recent.get(id, j);
         }
@@ -95,6 +102,9 @@ impl<A: Automaton> Leaper<A> {
         requires { IsCentre (A.next_of self.old.rule) self.old.nodes id grain j half }
         ensures { self.new ≡ self.old }
     {
+        if j == grain {
+            return self.farthest.put(id, half);
+        }
         if self.is_cheap(grain) {
             self.recent.put(id, j, half);
             return Ok(());

@@ -4,6 +4,7 @@ use Rattle.std.specs.Map.{lookup}
 use Rattle.ca_quad.specs.declared.node.Node.{Node}
 use Rattle.ca_quad.specs.Sound.{IsSound}
 use Rattle.ca_run.specs.Centre.{IsCentre}
+use Rattle.ca_run.specs.inner.Farthest.{AreFarthest}
 use Rattle.ca_run.specs.inner.Recent.{KeepsCentres}
 use Rattle.ca_run.specs.inner.Words.{GoesBy}
 
@@ -16,9 +17,10 @@ abbrev pub AreCentres : (List ℕ → ℕ) → List Node → List ((ℕ × ℕ) 
 AreCentres next nodes results = (id j half : ℕ) → remembered results id j ≡ Some half → (k : ℕ) × IsCentre next nodes id k j half
 
 -- the rule and the squares are sound, what is remembered are centres, and the rule goes by the masks, if there are some
-pub record IsLeaper (next : List ℕ → ℕ) (RuleIsSound : Type 0) (nodes : List Node) (results : List ((ℕ × ℕ) × ℕ)) (slots : List (Option (ℕ × ℕ × ℕ))) (masks : Option (ℕ × ℕ)) : Type 0 where
+pub record IsLeaper (next : List ℕ → ℕ) (RuleIsSound : Type 0) (nodes : List Node) (results : List ((ℕ × ℕ) × ℕ)) (slots : List (Option (ℕ × ℕ × ℕ))) (halves : List (Option ℕ)) (masks : Option (ℕ × ℕ)) : Type 0 where
   pub rule : RuleIsSound
   pub squares : IsSound nodes
   pub centres : AreCentres next nodes results
   pub recent : KeepsCentres next nodes slots
+  pub farthest : AreFarthest next nodes halves
   pub by_masks : IfSome masks (GoesBy next)
