@@ -1,6 +1,6 @@
 //! The names of squares.
 
-ghost use Rattle.std.specs.Prelude.{◌≡◌, ◌+◌, ◌<◌, ◌≤◌, ◌^◌, ◌⊎◌, max, min, MatchOption, IsTrue, ◌↔◌};
+ghost use Rattle.std.specs.Prelude.{◌≡◌, ◌+◌, ◌<◌, ◌≤◌, ◌*◌, ◌^◌, ◌⊎◌, max, min, MatchOption, IsTrue, ◌↔◌};
 ghost use Rattle.ca_quad.specs.Squares.{named, cells2, cells4, kept};
 ghost use Rattle.ca_quad.specs.inner.Named.{AreCells2, AreCells4, four_numbers};
 
@@ -64,7 +64,7 @@ impl Id {
 
     // The square that is kept at this place.
     pub(crate) fn kept(place: usize) -> Id
-        requires { place ≤ 2 ^ 31 }
+        requires { place ≤ 9 * 2 ^ 28 }
         ensures { result ≡ kept place }
     {
         Id {

@@ -36,8 +36,8 @@ use indexmap::IndexSet;
 use std::alloc::Global;
 use std::marker::Model;
 
-// More squares than these are never kept, so that an id has room for any place. They would take some 100 gigabytes.
-const MOST: usize = 1 << 31;
+// The table has room for these at most, some 100 gigabytes of squares, and an id for any place among them.
+const MOST: usize = 9 << 28;
 
 /// Squares of cells, each kept once. An id names one as long as the store lasts.
 #[derive(Drop)]
