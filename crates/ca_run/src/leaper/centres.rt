@@ -30,9 +30,6 @@ impl<A: Automaton> Leaper<A> {
         if let Some(half) = self.recall(id, grain, j) {
             return Ok(half);
         }
-        if let Some(half) = self.empty_centre(id, grain, j) {
-            return Ok(half);
-        }
         let half = self.new_centre(id, grain, j)?;
         self.remember(id, grain, j, half)?;
         Ok(half)
@@ -62,6 +59,9 @@ impl<A: Automaton> Leaper<A> {
         ensures goes_on { GoesOn A self.old self.new }
     {
         let _ = &self.store;
+        if let Some(half) = self.empty_centre(id, grain, j) {
+            return Ok(half);
+        }
         if grain == 0 {
             return self.next_four(id);
         }

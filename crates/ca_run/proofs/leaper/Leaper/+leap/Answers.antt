@@ -26,23 +26,23 @@ centre-returns-in-Some-clause-centre g t c =
     made_centre next s0 new sound c.from_word.ensures.goes_on.grows c.from_word.result c.args.id k c.args.j c.requires.square c.requires.time
     (subst (λ l. IfOk c.from_word.result (λ half. ShowsAt new half (suc l) q (pos 0 +ℤ side k) (pos 0 +ℤ side k))) (sym c.in-Some.ensures.grain) (c.from_word.ensures.shows q _ _ word))
 
-pub new_centre-returns-in-Some-clause-centre : goal.new_centre-returns-in-Some-clause-centre
-new_centre-returns-in-Some-clause-centre g t c =
+pub new_centre-returns-in-Some-wide_centre-clause-centre : goal.new_centre-returns-in-Some-wide_centre-clause-centre
+new_centre-returns-in-Some-wide_centre-clause-centre g t c =
     let k = c.args.grain in
     let s0 = c.args.self.now.nodes in
     let new = c.from_words.new.self.nodes in
     let next = g.A.Automaton.next_of c.args.self.now.rule in
     let q = later next (from_corner (cell_of s0 (suc (suc k)) c.args.id)) (2 ^ c.args.j) in
     let sound = subst (λ l. IsSound l.nodes) c.self.view_is c.self.invariant.squares in
-    let words = c.in-Some.ensures.shows _ _ _ (at_corner s0 c.args.id (suc (suc k)) c.requires.square) in
+    let words = c.in-Some-wide_centre.ensures.shows _ _ _ (at_corner s0 c.args.id (suc (suc k)) c.requires.square) in
     made_centre next s0 new sound c.from_words.ensures.goes_on.grows c.from_words.result c.args.id k c.args.j c.requires.square c.requires.time
-    (subst (λ l. IfOk c.from_words.result (λ half. ShowsAt new half (suc l) q (pos 0 +ℤ side k) (pos 0 +ℤ side k))) (sym c.in-Some.ensures.grain) (c.from_words.ensures.shows q _ _ words))
+    (subst (λ l. IfOk c.from_words.result (λ half. ShowsAt new half (suc l) q (pos 0 +ℤ side k) (pos 0 +ℤ side k))) (sym c.in-Some-wide_centre.ensures.grain) (c.from_words.ensures.shows q _ _ words))
 
 pub centre-returns-in-Some-recall-clause-goes_on : goal.centre-returns-in-Some-recall-clause-goes_on
 centre-returns-in-Some-recall-clause-goes_on g t c = goes_on_same _ c.args.self.now (subst (λ l. IsSound l.nodes) c.self.view_is c.self.invariant.squares)
 
-pub centre-returns-in-Some-empty_centre-clause-goes_on : goal.centre-returns-in-Some-empty_centre-clause-goes_on
-centre-returns-in-Some-empty_centre-clause-goes_on g t c = goes_on_same _ c.args.self.now (subst (λ l. IsSound l.nodes) c.self.view_is c.self.invariant.squares)
+pub new_centre-returns-in-Some-clause-goes_on : goal.new_centre-returns-in-Some-clause-goes_on
+new_centre-returns-in-Some-clause-goes_on g t c = goes_on_same _ c.args.self.now (subst (λ l. IsSound l.nodes) c.self.view_is c.self.invariant.squares)
 
 pub first_centre-returns-in-Some-clause-shows : goal.first_centre-returns-in-Some-clause-shows
 first_centre-returns-in-Some-clause-shows g t c = λ next p a b e shows.
