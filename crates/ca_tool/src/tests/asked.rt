@@ -1,5 +1,6 @@
 //! The paths that a claim text asks for.
 
+use super::devices::expect_bytes;
 use ca_claims::read_claims;
 use std::test::*;
 
@@ -7,8 +8,8 @@ use std::test::*;
 fn each_path_once(rt: HostRuntime) -> Result<(), Fail> {
     let claims = read_claims(rt.alloc(), b"load a p\nload b p\nload c r\n")?;
     assert_eq!(rt; claims.path_count(), 2);
-    assert_eq!(rt; claims.path(0), b"p".as_slice());
-    assert_eq!(rt; claims.path(1), b"r".as_slice());
+    expect_bytes(&rt, claims.path(0), b"p");
+    expect_bytes(&rt, claims.path(1), b"r");
     Ok(())
 }
 

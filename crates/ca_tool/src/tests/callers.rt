@@ -1,5 +1,6 @@
 //! The callers that the libraries' pages show.
 
+use super::devices::{expect_bytes, expect_end};
 use crate::verify_run;
 use ca_claims::{File, Target, Verdict, convert, read_claims, verify};
 use ca_macro::read_macro;
@@ -13,7 +14,7 @@ use std::test::*;
 fn a_rule_gives_the_next_cell(rt: HostRuntime) -> Result<(), Fail> {
     let life = resolve(b"23/3", &[]).ok().ok_or("the text names a rule")?;
     assert_eq!(rt; life.next(&[0, 0, 0, 1, 1, 1, 0, 0, 0]), 1);
-    assert_eq!(rt; life.text(rt.alloc())?.as_slice(), b"B3/S23".as_slice());
+    expect_bytes(&rt, &life.text(rt.alloc())?, b"B3/S23");
     Ok(())
 }
 
@@ -21,7 +22,7 @@ fn a_rule_gives_the_next_cell(rt: HostRuntime) -> Result<(), Fail> {
 fn an_rle_is_read(rt: HostRuntime) -> Result<(), Fail> {
     let glider = read_rle(rt.alloc(), b"x = 3, y = 3\nbo$2bo$3o!")?;
     assert_eq!(rt; glider.cells.len(), 5);
-    assert_eq!(rt; glider.rule_text.as_slice(), b"B3/S23".as_slice());
+    expect_bytes(&rt, &glider.rule_text, b"B3/S23");
     Ok(())
 }
 
@@ -64,7 +65,7 @@ fn claims_are_judged(rt: HostRuntime) -> Result<(), Fail> {
 fn a_file_is_converted(rt: HostRuntime) -> Result<(), Fail> {
     let text = convert(rt.alloc(), b"x = 3, y = 3\nbo$2bo$3o!", Target::Mc, &[])?;
     let tidy = b"[M2] (cafile)\n#R B3/S23\n.*$..*$***$$$$$$\n4 0 0 0 1\n";
-    assert_eq!(rt; text.as_slice(), tidy.as_slice());
+    expect_bytes(&rt, &text, tidy);
     Ok(())
 }
 
@@ -72,10 +73,8 @@ fn a_file_is_converted(rt: HostRuntime) -> Result<(), Fail> {
 fn lines_are_written(rt: HostRuntime) -> Result<(), Fail> {
     let claims = read_claims(rt.alloc(), b"load b block.rle\nstill b\n")?;
     let mut out = Dev::new(Vec::new(rt.alloc()));
-    assert_eq!(rt; verify_run(rt.alloc(), &claims, &[], &mut out), Ok(2));
-    assert_eq!(rt;
-        out.inner().as_slice(),
-        b"line 2: refused, no file\n".as_slice()
-    );
+    let end = verify_run(rt.alloc(), &claims, &[], &mut out);
+    expect_end(&rt, end, Ok(2));
+    expect_bytes(&rt, out.inner(), b"line 2: refused, no file\n");
     Ok(())
 }

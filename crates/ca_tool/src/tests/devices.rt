@@ -2,10 +2,40 @@
 
 ghost use Rattle.std.specs.Prelude.{Some};
 
+use crate::ToolFault;
 use ca_plane::Dev;
 use std::alloc::Global;
 use std::io;
 use std::io::{Error, ErrorKind, Read, Write};
+use std::process::Abort;
+use std::test::*;
+
+// Each assertion is a call, so that a test's own proof is short.
+
+/// The bytes are these.
+pub(super) fn expect_bytes(rt: &impl Abort, found: &[u8], bytes: &[u8]) {
+    assert_eq!(rt; found, bytes);
+}
+
+/// Just so many calls of a device failed.
+pub(super) fn expect_failures(rt: &impl Abort, found: u64, failures: u64) {
+    assert_eq!(rt; found, failures);
+}
+
+/// A run ends so.
+pub(super) fn expect_end(
+    rt: &impl Abort,
+    found: Result<u8, ToolFault>,
+    end: Result<u8, ToolFault>,
+) {
+    assert_eq!(rt; found, end);
+}
+
+/// The device took these bytes alone, and so many of its writes failed.
+pub(super) fn expect_taken(rt: &impl Abort, device: &Dev<Narrow>, bytes: &[u8], failures: u64) {
+    expect_bytes(rt, &device.inner().taken, bytes);
+    expect_failures(rt, device.failures(), failures);
+}
 
 /// How a write takes nothing.
 #[derive(Clone, Copy, Debug, PartialEq, Eq)]

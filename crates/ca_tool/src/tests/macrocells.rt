@@ -3,7 +3,7 @@
 ghost use Rattle.std.specs.Prelude.{◌≡◌, ◌<◌, ℤ, IfOk, IsTrue};
 ghost use Rattle.ca_quad.specs.Trees.{IsTree, cell};
 
-use super::devices::{Narrow, Refusal};
+use super::devices::{Narrow, Refusal, expect_bytes, expect_taken};
 use ca_claims::{PatternFault, Target, read_pattern};
 use ca_macro::{MacroFault, read_macro, write_macro_to};
 use ca_plane::{Dev, Memory, WriteFault};
@@ -11,6 +11,7 @@ use ca_quad::{Store, Tree};
 use ca_rle::{RleFault, read_rle};
 use std::alloc::Global;
 use std::io::Write;
+use std::process::Abort;
 use std::test::*;
 
 const GLIDER: &[u8] = b"[M2] (cafile)\n#R B3/S23\n.*$..*$***$$$$$$\n4 0 0 0 1\n";
@@ -45,20 +46,33 @@ fn write_again<W: Write>(
     ))
 }
 
+// How a text is written, the whole of it or a first part.
+fn end_of(whole: bool) -> Result<(), WriteFault> {
+    if whole {
+        return Ok(());
+    }
+    Err(WriteFault::Write)
+}
+
+// The glider's macrocell text is written up to here.
+fn expect_written(
+    rt: &(impl Abort + AllocGlobal),
+    store: &mut Store,
+    front: &[u8],
+) -> Result<(), Fail> {
+    let whole = front.len() == GLIDER.len();
+    let mut device = Narrow::device(rt.alloc(), 3, front.len(), Refusal::Fails);
+    let end = write_again(rt.alloc(), store, GLIDER, &mut device)?;
+    assert_eq!(rt; end, end_of(whole));
+    expect_taken(rt, &device, front, u64::from(!whole));
+    Ok(())
+}
+
 #[test]
 fn macrocell_texts_in_pieces(rt: HostRuntime) -> Result<(), Fail> {
     'rooms: for room in 0..=GLIDER.len() {
-        let mut device = Narrow::device(rt.alloc(), 3, room, Refusal::Fails);
         let mut store = Store::new(rt.alloc());
-        let result = write_again(rt.alloc(), &mut store, GLIDER, &mut device)?;
-        assert_eq!(rt; device.inner().taken.as_slice(), &GLIDER[..room]);
-        if room == GLIDER.len() {
-            assert_eq!(rt; result, Ok(()));
-            assert_eq!(rt; device.failures(), 0);
-        } else {
-            assert_eq!(rt; result, Err(WriteFault::Write));
-            assert_eq!(rt; device.failures(), 1);
-        }
+        expect_written(&rt, &mut store, &GLIDER[..room])?;
     }
     Ok(())
 }
@@ -81,19 +95,42 @@ fn soup(alloc: Global) -> Result<Vec<u8>, Memory> {
     Ok(text)
 }
 
+// The text has more than 10000 live cells.
+fn expect_many_cells(rt: &(impl Abort + AllocGlobal), text: &[u8]) -> Result<(), Fail> {
+    assert!(rt; read_rle(rt.alloc(), text)?.cells.len() > 10_000);
+    Ok(())
+}
+
+// The tree of a text's pattern.
+fn tree_of(alloc: Global, store: &mut Store, text: &[u8]) -> Result<Tree, Fail> {
+    Ok(read_pattern(alloc, store, text)?.tree)
+}
+
+// The tree of a text's pattern that is written and read again.
+fn tree_again(
+    rt: &(impl Abort + AllocGlobal),
+    store: &mut Store,
+    text: &[u8],
+) -> Result<Tree, Fail> {
+    let mut device = Dev::new(Vec::new(rt.alloc()));
+    let end = write_again(rt.alloc(), store, text, &mut device)?;
+    assert_eq!(rt; end, Ok(()));
+    Ok(read_macro(rt.alloc(), store, device.inner())?.tree)
+}
+
+// The two trees are one.
+fn expect_one(rt: &impl Abort, tree: Tree, other: Tree) {
+    assert_eq!(rt; tree, other);
+}
+
 #[test]
 fn a_soup_is_written_and_read_again(rt: HostRuntime) -> Result<(), Fail> {
     let text = soup(rt.alloc())?;
-    assert!(rt; read_rle(rt.alloc(), &text)?.cells.len() > 10_000);
+    expect_many_cells(&rt, &text)?;
     let mut store = Store::new(rt.alloc());
-    let soup = read_pattern(rt.alloc(), &mut store, &text)?;
-    let mut device = Dev::new(Vec::new(rt.alloc()));
-    assert_eq!(rt;
-        write_again(rt.alloc(), &mut store, &text, &mut device)?,
-        Ok(())
-    );
-    let again = read_macro(rt.alloc(), &mut store, device.inner())?;
-    assert_eq!(rt; again.tree, soup.tree);
+    let tree = tree_of(rt.alloc(), &mut store, &text)?;
+    let again = tree_again(&rt, &mut store, &text)?;
+    expect_one(&rt, again, tree);
     Ok(())
 }
 
@@ -111,16 +148,26 @@ fn texts_of_another_format(rt: HostRuntime) {
     );
 }
 
+// The tree of a text's pattern, whose format and rule text are these.
+fn expect_pattern(
+    rt: &(impl Abort + AllocGlobal),
+    store: &mut Store,
+    text: &[u8],
+    kind: Target,
+    rule_text: &[u8],
+) -> Result<Tree, Fail> {
+    let pattern = read_pattern(rt.alloc(), store, text)?;
+    assert_eq!(rt; pattern.kind, kind);
+    expect_bytes(rt, &pattern.rule_text, rule_text);
+    Ok(pattern.tree)
+}
+
 #[test]
 fn patterns_in_one_store(rt: HostRuntime) -> Result<(), Fail> {
     let mut store = Store::new(rt.alloc());
     let text = b"x = 3, y = 3, rule = 23/3\nbo$2bo$3o!";
-    let written = read_pattern(rt.alloc(), &mut store, text)?;
-    let shared = read_pattern(rt.alloc(), &mut store, GLIDER)?;
-    assert_eq!(rt; written.kind, Target::Rle);
-    assert_eq!(rt; shared.kind, Target::Mc);
-    assert_eq!(rt; written.tree, shared.tree);
-    assert_eq!(rt; written.rule_text.as_slice(), b"23/3".as_slice());
-    assert_eq!(rt; shared.rule_text.as_slice(), b"B3/S23".as_slice());
+    let written = expect_pattern(&rt, &mut store, text, Target::Rle, b"23/3")?;
+    let shared = expect_pattern(&rt, &mut store, GLIDER, Target::Mc, b"B3/S23")?;
+    expect_one(&rt, written, shared);
     Ok(())
 }

@@ -1,12 +1,15 @@
 //! Runs of `show` and `convert` over devices that read and write in pieces, and over ones that fail in mid-stream.
 
-use super::devices::{Faulty, Narrow, Refusal};
+use super::devices::{
+    Faulty, Narrow, Refusal, expect_bytes, expect_end, expect_failures, expect_taken,
+};
 use crate::{InputFault, ToolFault, convert_run, show_run};
 use ca_claims::{ConvertFault, PatternFault, Target};
 use ca_plane::Dev;
 use ca_rle::RleFault;
 use ca_rule::TableFault;
 use std::io::Read;
+use std::process::Abort;
 use std::test::*;
 
 const GLIDER: &[u8] = b"x = 3, y = 3, rule = B3/S23\nbo$2bo$3o!\n";
@@ -39,50 +42,128 @@ var a={1,2}
 0,a,0,0,0,a
 ";
 
+// How a run ends whose whole text is written, or a first part of it.
+fn end_of(whole: bool) -> Result<u8, ToolFault> {
+    if whole {
+        return Ok(0);
+    }
+    Err(ToolFault::Write)
+}
+
+// What is shown of the glider is written up to here.
+fn expect_shown(rt: &(impl Abort + AllocGlobal), refusal: Refusal, front: &[u8]) {
+    let whole = front.len() == SHOWN.len();
+    let (first, second) = GLIDER.split_at(7);
+    let mut input = Dev::new(first.chain(second));
+    let mut output = Narrow::device(rt.alloc(), 3, front.len(), refusal);
+    let end = show_run(rt.alloc(), &mut input, None, &mut output);
+    expect_end(rt, end, end_of(whole));
+    expect_taken(rt, &output, front, u64::from(!whole));
+    expect_failures(rt, input.failures(), 0);
+}
+
 #[test]
 fn shows_in_pieces(rt: HostRuntime) {
-    let alloc = rt.alloc();
     for refusal in [Refusal::Fails, Refusal::TakesNone] {
         for room in 0..=SHOWN.len() {
-            let (front, back) = GLIDER.split_at(7);
-            let mut input = Dev::new(front.chain(back));
-            let mut output = Narrow::device(alloc, 3, room, refusal);
-            let whole = room == SHOWN.len();
-            let wanted = if whole { Ok(0) } else { Err(ToolFault::Write) };
-            assert_eq!(rt; show_run(alloc, &mut input, None, &mut output), wanted);
-            assert_eq!(rt; output.inner().taken.as_slice(), &SHOWN[..room]);
-            assert_eq!(rt; output.failures(), u64::from(!whole));
-            assert_eq!(rt; input.failures(), 0);
+            expect_shown(&rt, refusal, &SHOWN[..room]);
         }
+    }
+}
+
+// A file, under a rule file's table, is converted to a text, of which this first part is written.
+fn expect_converted(
+    rt: &(impl Abort + AllocGlobal),
+    file: &[u8],
+    table: Option<&[u8]>,
+    target: Target,
+    text: &[u8],
+    front: &[u8],
+) {
+    let whole = front.len() == text.len();
+    let mut input = Faulty::device(file, 3);
+    let mut output = Narrow::device(rt.alloc(), 5, front.len(), Refusal::Fails);
+    let end = convert_run(rt.alloc(), &mut input, target, table, &mut output);
+    expect_end(rt, end, end_of(whole));
+    expect_taken(rt, &output, front, u64::from(!whole));
+}
+
+// A file is converted to a text, and that is written in pieces, the whole of it or some first part.
+fn expect_conversion(
+    rt: &(impl Abort + AllocGlobal),
+    file: &[u8],
+    table: Option<&[u8]>,
+    target: Target,
+    text: &[u8],
+) {
+    for room in [0, 1, 13, 14, text.len().saturating_sub(1), text.len()] {
+        let (front, _) = text.split_at(room.min(text.len()));
+        expect_converted(rt, file, table, target, text, front);
     }
 }
 
 #[test]
 fn converts_in_pieces(rt: HostRuntime) {
-    let alloc = rt.alloc();
-    for (file, table, target, text) in [
-        (GLIDER, None, Target::Mc, MACROCELL),
-        (SPREAD_CROSS, Some(SPREAD), Target::Mc, SPREAD_MACROCELL),
-        (SPREAD_MACROCELL, Some(SPREAD), Target::Rle, SPREAD_CROSS),
-    ] {
-        for room in [0, 1, 13, 14, text.len() - 1, text.len()] {
-            let mut input = Faulty::device(file, 3);
-            let mut output = Narrow::device(alloc, 5, room, Refusal::Fails);
-            let whole = room == text.len();
-            let wanted = if whole { Ok(0) } else { Err(ToolFault::Write) };
-            let result = convert_run(alloc, &mut input, target, table, &mut output);
-            assert_eq!(rt; result, wanted);
-            assert!(rt; text.starts_with(&output.inner().taken));
-            assert_eq!(rt; output.inner().taken.len(), room);
-            assert_eq!(rt; output.failures(), u64::from(!whole));
-        }
-    }
+    expect_conversion(&rt, GLIDER, None, Target::Mc, MACROCELL);
+    expect_conversion(
+        &rt,
+        SPREAD_CROSS,
+        Some(SPREAD),
+        Target::Mc,
+        SPREAD_MACROCELL,
+    );
+    expect_conversion(
+        &rt,
+        SPREAD_MACROCELL,
+        Some(SPREAD),
+        Target::Rle,
+        SPREAD_CROSS,
+    );
+}
+
+// Nothing is shown of a file of which a read may fail, for this fault.
+fn expect_unshown(
+    rt: &(impl Abort + AllocGlobal),
+    file: &[u8],
+    fails_at: u64,
+    table: &[u8],
+    fault: ToolFault,
+) {
+    let mut input = Faulty::device(file, fails_at);
+    let mut output = Dev::new(Vec::new(rt.alloc()));
+    let end = show_run(rt.alloc(), &mut input, Some(table), &mut output);
+    expect_end(rt, end, Err(fault));
+    expect_failures(rt, input.failures(), u64::from(fails_at < 3));
+    expect_bytes(rt, output.inner(), b"");
+    expect_failures(rt, output.failures(), 0);
+}
+
+// And it isn't converted.
+fn expect_unconverted(
+    rt: &(impl Abort + AllocGlobal),
+    file: &[u8],
+    fails_at: u64,
+    table: &[u8],
+    fault: ToolFault,
+) {
+    let mut input = Faulty::device(file, fails_at);
+    let mut output = Dev::new(Vec::new(rt.alloc()));
+    let end = convert_run(
+        rt.alloc(),
+        &mut input,
+        Target::Rle,
+        Some(table),
+        &mut output,
+    );
+    expect_end(rt, end, Err(fault));
+    expect_failures(rt, input.failures(), u64::from(fails_at < 3));
+    expect_bytes(rt, output.inner(), b"");
+    expect_failures(rt, output.failures(), 0);
 }
 
 // The first fault in the order of reading, the table and the pattern is told, and nothing is written.
 #[test]
 fn faults_in_order(rt: HostRuntime) {
-    let alloc = rt.alloc();
     let no_table = ToolFault::BadTable(TableFault::NoTable { line: 7 });
     let no_end = PatternFault::Rle(RleFault::NoEnd);
     let unread = ToolFault::Convert(ConvertFault::BadPattern(no_end));
@@ -94,17 +175,7 @@ fn faults_in_order(rt: HostRuntime) {
         (GLIDER, 3, NO_TABLE, no_table),
         (cut, 3, SPREAD, unread),
     ] {
-        let failures = u64::from(fails_at < 3);
-        let mut output = Dev::new(Vec::new(alloc));
-        let mut input = Faulty::device(file, fails_at);
-        let shown = show_run(alloc, &mut input, Some(table), &mut output);
-        assert_eq!(rt; shown, Err(fault));
-        assert_eq!(rt; input.failures(), failures);
-        let mut input = Faulty::device(file, fails_at);
-        let result = convert_run(alloc, &mut input, Target::Rle, Some(table), &mut output);
-        assert_eq!(rt; result, Err(fault));
-        assert_eq!(rt; input.failures(), failures);
-        assert!(rt; output.inner().is_empty());
-        assert_eq!(rt; output.failures(), 0);
+        expect_unshown(&rt, file, fails_at, table, fault);
+        expect_unconverted(&rt, file, fails_at, table, fault);
     }
 }

@@ -1,5 +1,6 @@
 //! What a pattern's text says and no verdict shows: states above 1, the rule text as it stands, and the generation.
 
+use super::devices::expect_bytes;
 use ca_plane::Point;
 use ca_rle::{Pattern, read_rle};
 use std::process::Abort;
@@ -58,7 +59,7 @@ fn rule_texts(rt: HostRuntime) -> Result<(), Fail> {
     ];
     for (text, rule) in table {
         let pattern = read_rle(rt.alloc(), text)?;
-        assert_eq!(rt; pattern.rule_text.as_slice(), rule);
+        expect_bytes(&rt, &pattern.rule_text, rule);
     }
     Ok(())
 }

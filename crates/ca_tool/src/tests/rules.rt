@@ -1,5 +1,6 @@
 //! Rules through their public calls: what no claim asks of them.
 
+use super::devices::expect_bytes;
 use ca_plane::{Automaton, Nine};
 use ca_rule::{BsRule, Counts, RuleFault, Table, resolve};
 use std::process::Abort;
@@ -75,7 +76,7 @@ const PRINTED: [&[u8]; 30] = [
 fn printed_rules(rt: HostRuntime) -> Result<(), Fail> {
     for printed in PRINTED {
         let rule = resolve(printed, &[]).ok().ok_or("the text names a rule")?;
-        assert_eq!(rt; rule.text(rt.alloc())?.as_slice(), printed);
+        expect_bytes(&rt, &rule.text(rt.alloc())?, printed);
     }
     Ok(())
 }
@@ -94,7 +95,7 @@ fn a_table_prints_its_name(rt: HostRuntime) -> Result<(), Fail> {
     let rule = resolve(name, &tables)
         .ok()
         .ok_or("the text names the table")?;
-    assert_eq!(rt; rule.text(rt.alloc())?.as_slice(), name.as_slice());
+    expect_bytes(&rt, &rule.text(rt.alloc())?, name);
     Ok(())
 }
 

@@ -1,9 +1,12 @@
 //! Runs that write their lines in pieces, or a first part of them.
 
-use super::devices::{Counter, Narrow, Refusal};
+use super::devices::{
+    Counter, Narrow, Refusal, expect_bytes, expect_end, expect_failures, expect_taken,
+};
 use crate::{Telling, ToolFault, verify_run, verify_told};
-use ca_claims::{File, read_claims};
+use ca_claims::{Claims, File, read_claims};
 use ca_plane::Dev;
+use std::process::Abort;
 use std::test::*;
 
 const FILES: [File<'static>; 1] = [File {
@@ -22,20 +25,36 @@ line 4: refused, no file
 line 5: yes
 ";
 
+// A device that takes a byte at a time takes all lines.
+fn expect_lines(rt: &(impl Abort + AllocGlobal), claims: &Claims) {
+    let mut device = Narrow::device(rt.alloc(), 1, LINES.len(), Refusal::Fails);
+    let end = verify_run(rt.alloc(), claims, &FILES, &mut device);
+    expect_end(rt, end, Ok(2));
+    expect_taken(rt, &device, LINES, 0);
+}
+
+// One that doesn't tell its bytes takes as many.
+fn expect_count(rt: &(impl Abort + AllocGlobal), claims: &Claims) {
+    let mut counter = Dev::new(Counter { taken: 0 });
+    let end = verify_run(rt.alloc(), claims, &FILES, &mut counter);
+    expect_end(rt, end, Ok(2));
+    assert_eq!(rt; counter.inner().taken, LINES.len() as u64);
+}
+
 #[test]
 fn lines_in_pieces(rt: HostRuntime) -> Result<(), Fail> {
     let claims = read_claims(rt.alloc(), CLAIMS)?;
-    let mut device = Narrow::device(rt.alloc(), 1, LINES.len(), Refusal::Fails);
-    assert_eq!(rt; verify_run(rt.alloc(), &claims, &FILES, &mut device), Ok(2));
-    assert_eq!(rt; device.inner().taken.as_slice(), LINES);
-    assert_eq!(rt; device.failures(), 0);
-    let mut counter = Dev::new(Counter { taken: 0 });
-    assert_eq!(rt;
-        verify_run(rt.alloc(), &claims, &FILES, &mut counter),
-        Ok(2)
-    );
-    assert_eq!(rt; counter.inner().taken, LINES.len() as u64);
+    expect_lines(&rt, &claims);
+    expect_count(&rt, &claims);
     Ok(())
+}
+
+// A first part of the lines is taken, and then a write is refused.
+fn expect_front(rt: &(impl Abort + AllocGlobal), claims: &Claims, refusal: Refusal, front: &[u8]) {
+    let mut device = Narrow::device(rt.alloc(), 7, front.len(), refusal);
+    let end = verify_run(rt.alloc(), claims, &FILES, &mut device);
+    expect_end(rt, end, Err(ToolFault::Write));
+    expect_taken(rt, &device, front, 1);
 }
 
 #[test]
@@ -43,11 +62,7 @@ fn a_first_part_of_the_lines(rt: HostRuntime) -> Result<(), Fail> {
     let claims = read_claims(rt.alloc(), CLAIMS)?;
     for refusal in [Refusal::Fails, Refusal::TakesNone] {
         for room in 0..LINES.len() {
-            let mut device = Narrow::device(rt.alloc(), 7, room, refusal);
-            let result = verify_run(rt.alloc(), &claims, &FILES, &mut device);
-            assert_eq!(rt; result, Err(ToolFault::Write));
-            assert_eq!(rt; device.inner().taken.as_slice(), &LINES[..room]);
-            assert_eq!(rt; device.failures(), 1);
+            expect_front(&rt, &claims, refusal, &LINES[..room]);
         }
     }
     Ok(())
@@ -110,32 +125,37 @@ const TELLING: Telling<'static> = Telling {
     explained: true,
 };
 
+// Of the claims of this text these lines are told.
+fn expect_told(rt: &(impl Abort + AllocGlobal), text: &[u8], lines: &[u8]) -> Result<(), Fail> {
+    let claims = read_claims(rt.alloc(), text)?;
+    let mut device = Dev::new(Vec::new(rt.alloc()));
+    let end = verify_told(rt.alloc(), &claims, &OTHERS, &TELLING, &mut device);
+    expect_end(rt, end, Ok(2));
+    expect_bytes(rt, device.inner(), lines);
+    expect_failures(rt, device.failures(), 0);
+    Ok(())
+}
+
 #[test]
 fn second_lines(rt: HostRuntime) -> Result<(), Fail> {
-    for (text, lines) in [
-        (NAMED, NAMED_LINES),
-        (NO_RULE, NO_RULE_LINES),
-        (BAD_RULE, BAD_RULE_LINES),
-    ] {
-        let claims = read_claims(rt.alloc(), text)?;
-        let mut device = Dev::new(Vec::new(rt.alloc()));
-        let status = verify_told(rt.alloc(), &claims, &OTHERS, &TELLING, &mut device);
-        assert_eq!(rt; status, Ok(2));
-        assert_eq!(rt; device.inner().as_slice(), lines);
-        assert_eq!(rt; device.failures(), 0);
-    }
-    Ok(())
+    expect_told(&rt, NAMED, NAMED_LINES)?;
+    expect_told(&rt, NO_RULE, NO_RULE_LINES)?;
+    expect_told(&rt, BAD_RULE, BAD_RULE_LINES)
+}
+
+// A first part of what is told is taken, and then a write fails.
+fn expect_told_front(rt: &(impl Abort + AllocGlobal), claims: &Claims, front: &[u8]) {
+    let mut device = Narrow::device(rt.alloc(), 7, front.len(), Refusal::Fails);
+    let end = verify_told(rt.alloc(), claims, &OTHERS, &TELLING, &mut device);
+    expect_end(rt, end, Err(ToolFault::Write));
+    expect_taken(rt, &device, front, 1);
 }
 
 #[test]
 fn a_first_part_of_second_lines(rt: HostRuntime) -> Result<(), Fail> {
     let claims = read_claims(rt.alloc(), NAMED)?;
     for room in 0..NAMED_LINES.len() {
-        let mut device = Narrow::device(rt.alloc(), 7, room, Refusal::Fails);
-        let result = verify_told(rt.alloc(), &claims, &OTHERS, &TELLING, &mut device);
-        assert_eq!(rt; result, Err(ToolFault::Write));
-        assert_eq!(rt; device.inner().taken.as_slice(), &NAMED_LINES[..room]);
-        assert_eq!(rt; device.failures(), 1);
+        expect_told_front(&rt, &claims, &NAMED_LINES[..room]);
     }
     Ok(())
 }

@@ -6,7 +6,7 @@ ghost use Rattle.ca_plane.specs.Limits.{IsInRange, generation_limit};
 ghost use Rattle.ca_plane.specs.Bytes.{IsWord};
 ghost use Rattle.ca_plane.specs.Sparse.{IsInPlane};
 
-use super::devices::{Narrow, Refusal};
+use super::devices::{Narrow, Refusal, expect_bytes, expect_failures, expect_taken};
 use ca_plane::{Dev, Memory, Plane, Point, WriteFault};
 use ca_rle::{read_rle, write_rle, write_rle_to};
 use std::alloc::Global;
@@ -64,7 +64,7 @@ fn expect_text(
 {
     assert!(rt; fits(plane, states));
     let written = write_rle(rt.alloc(), plane, rule_text, generation, states)?;
-    assert_eq!(rt; written.as_slice(), text);
+    expect_bytes(rt, &written, text);
     Ok(())
 }
 
@@ -188,21 +188,29 @@ fn a_hundred_thousand_cells(rt: HostRuntime) -> Result<(), Fail> {
     Ok(())
 }
 
+// How a text is written, the whole of it or a first part.
+fn end_of(whole: bool) -> Result<(), WriteFault> {
+    if whole {
+        return Ok(());
+    }
+    Err(WriteFault::Write)
+}
+
+// The glider's text is written up to here.
+fn expect_written(rt: &(impl Abort + AllocGlobal), plane: &Plane, front: &[u8]) {
+    assert!(rt; fits(plane, 2));
+    let whole = front.len() == GLIDER_TEXT.len();
+    let mut device = Narrow::device(rt.alloc(), 3, front.len(), Refusal::Fails);
+    let end = write_rle_to(rt.alloc(), plane, b"B3/S23", 0, 2, &mut device);
+    assert_eq!(rt; end, end_of(whole));
+    expect_taken(rt, &device, front, u64::from(!whole));
+}
+
 #[test]
 fn texts_in_pieces(rt: HostRuntime) -> Result<(), Fail> {
     let plane = plane_of(rt.alloc(), &GLIDER)?;
-    assert!(rt; fits(&plane, 2));
     'rooms: for room in 0..=GLIDER_TEXT.len() {
-        let mut device = Narrow::device(rt.alloc(), 3, room, Refusal::Fails);
-        let result = write_rle_to(rt.alloc(), &plane, b"B3/S23", 0, 2, &mut device);
-        assert_eq!(rt; device.inner().taken.as_slice(), &GLIDER_TEXT[..room]);
-        if room == GLIDER_TEXT.len() {
-            assert_eq!(rt; result, Ok(()));
-            assert_eq!(rt; device.failures(), 0);
-        } else {
-            assert_eq!(rt; result, Err(WriteFault::Write));
-            assert_eq!(rt; device.failures(), 1);
-        }
+        expect_written(&rt, &plane, &GLIDER_TEXT[..room]);
     }
     Ok(())
 }
@@ -219,11 +227,11 @@ fn writes_or_memory(rt: HostRuntime) {
     assert!(rt; fits(&plane, 2));
     let mut device = Dev::new(page);
     match write_rle_to(rt.alloc(), &plane, b"B3/S23", 0, 2, &mut device) {
-        Ok(()) => assert_eq!(rt; device.inner().as_slice(), GLIDER_TEXT),
+        Ok(()) => expect_bytes(&rt, device.inner(), GLIDER_TEXT),
         Err(fault) => {
             assert_eq!(rt; fault, WriteFault::Memory);
-            assert!(rt; device.inner().is_empty());
+            expect_bytes(&rt, device.inner(), b"");
         }
     }
-    assert_eq!(rt; device.failures(), 0);
+    expect_failures(&rt, device.failures(), 0);
 }
