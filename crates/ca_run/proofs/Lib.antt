@@ -4,6 +4,7 @@ pub mod Laters
 pub mod Looks
 pub mod Tiles
 pub mod Words
+pub mod LineWords
 pub mod Lanes
 pub mod Shown
 pub mod Bases
@@ -14,6 +15,7 @@ pub mod Spreading
 pub mod Vectors
 pub mod Returns
 pub mod Reading
+pub mod ReadWords
 pub mod Heads
 pub mod Windows
 pub mod Written
@@ -21,3 +23,4 @@ pub mod Reached
 pub mod BitRows
 pub mod Told
 pub mod TileCells
+pub mod Grids

@@ -1,10 +1,9 @@
 -- Tiles and words: the bits of rows and bytes.
 use Rattle.std.proofs.Common.{◌≡◌, ℕ, zero, suc, ◌+◌, ◌-◌, ◌*◌, ◌/◌, ◌%◌, ◌<◌, ◌≤◌, ◌^◌, inl, inr, List, [], ◌∷◌, map, get_or, length, refl, sym, ap, ap₂, subst, ◌∙◌, arith}
-use Rattle.std.specs.Prelude.{ℤ, pos, negsuc, ◌+ℤ◌, ◌-ℤ◌, slice_index, nat_lt, if◌then◌else◌, bit_or, replicate}
+use Rattle.std.specs.Prelude.{ℤ, pos, negsuc, ◌+ℤ◌, ◌-ℤ◌, slice_index, bit_or, replicate}
 use Rattle.std.specs.Int.{bit_at, w64, to_le_bytes, from_le_bytes}
 use Rattle.std.specs.List.{All, range_with_len}
 use Rattle.std.proofs.lemmas.Int.{ints}
-use Rattle.std.proofs.lemmas.Bool.Decides.{nat_tests}
 use Rattle.std.proofs.lemmas.Bool.{cond_below, cond_above}
 use Rattle.std.proofs.Math.Nat.{pow-suc}
 use Rattle.std.proofs.lemmas.Grind.{or_before_shift}
@@ -24,7 +23,6 @@ use Rattle.ca_quad.proofs.Walks.{in_nw, in_ne, in_sw, in_se}
 use Rattle.ca_run.specs.declared.leaper.words.Words.{Words}
 use Rattle.ca_run.specs.Centre.{later}
 use Rattle.ca_run.specs.Lanes.{tile_cell, IsWithinEdge}
-use Rattle.ca_run.specs.inner.Shown.{Looks}
 use Rattle.ca_run.specs.inner.Words.{WordShows, WordsShow, TileShows, GoesBy, byte_of, bytes_at, inner_byte}
 use Rattle.ca_run.proofs.Rounds.{IsRound, around-same}
 use Rattle.ca_run.proofs.Laters.{around-seen}

@@ -1,6 +1,6 @@
 -- Trees that leap: what they show, and where all stays empty.
-use Rattle.std.proofs.Common.{◌≡◌, ℕ, suc, ◌+◌, ◌-◌, ◌*◌, ◌/◌, ◌%◌, ◌≤◌, ◌^◌, ◌⊎◌, inl, inr, Option, Some, None, IfSome, List, refl, sym, ap, ap₂, subst, ◌∙◌, arith}
-use Rattle.std.specs.Prelude.{ℤ, pos, negsuc, neg_ℤ, ◌+ℤ◌, ◌<ℤ◌, ◌≤ℤ◌, replicate}
+use Rattle.std.proofs.Common.{◌≡◌, ℕ, suc, ◌+◌, ◌-◌, ◌*◌, ◌/◌, ◌%◌, ◌≤◌, ◌^◌, inl, inr, Option, Some, None, IfSome, List, refl, sym, ap, ap₂, subst, ◌∙◌, arith}
+use Rattle.std.specs.Prelude.{ℤ, pos, negsuc, neg_ℤ, ◌+ℤ◌, ◌≤ℤ◌, replicate}
 use Rattle.std.proofs.lemmas.Int.{ints}
 use Rattle.std.proofs.Math.Nat.{two-pow-succ}
 use Rattle.std.proofs.Math.Pow.{pow_mono}
@@ -15,16 +15,9 @@ use Rattle.ca_quad.proofs.Cells.{cell_ends, cells_stay}
 use Rattle.ca_quad.proofs.Edges.{outside_x, outside_y}
 use Rattle.ca_run.specs.Centre.{later, IsCentre}
 use Rattle.ca_run.specs.inner.Shown.{ShowsAt, side}
+use Rattle.ca_run.specs.inner.Grid.{IsBeyond, DiesBeyond}
 use Rattle.ca_run.proofs.Laters.{later_same, later_dead, later_again}
 use Rattle.ca_run.proofs.Shown.{at_from, centre_at}
-
--- beyond a way from 0, to the left or to the right
-abbrev pub IsBeyond : ℕ → ℤ → Type 0
-IsBeyond way x = (x <ℤ neg_ℤ (pos way)) ⊎ (pos way ≤ℤ x)
-
--- every cell beyond a way from the origin is 0
-abbrev pub DiesBeyond : ℕ → (ℤ → ℤ → ℕ) → Type 0
-DiesBeyond way p = (x y : ℤ) → IsBeyond way x ⊎ IsBeyond way y → p x y ≡ 0
 
 -- a tree is empty beyond half its side
 pub tree_dies : (nodes : List Node) (tree : Tree) → 1 ≤ tree.level → DiesBeyond (2 ^ (tree.level - 1)) (cell nodes tree)

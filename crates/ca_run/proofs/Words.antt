@@ -10,11 +10,11 @@ use Rattle.ca_run.specs.inner.Words.{WordShows, WordsShow, TwoWordsShow, ThreeWo
 use Rattle.ca_run.proofs.Looks.{looks_from}
 
 -- the same from a place by another name
-word_from : (word : ℕ) (p : ℤ → ℤ → ℕ) (a b c d : ℤ) → a ≡ c → b ≡ d → WordShows word p a b → WordShows word p c d
+pub word_from : (word : ℕ) (p : ℤ → ℤ → ℕ) (a b c d : ℤ) → a ≡ c → b ≡ d → WordShows word p a b → WordShows word p c d
 word_from word p a b c d e f h = record { looks = looks_from 8 (word_cells word) p a b c d e f h.looks }
 
 -- the same of a plane with the same cells
-word_of_same : (word : ℕ) (p q : ℤ → ℤ → ℕ) (a b : ℤ) → ((x y : ℤ) → p x y ≡ q x y) → WordShows word p a b → WordShows word q a b
+pub word_of_same : (word : ℕ) (p q : ℤ → ℤ → ℕ) (a b : ℤ) → ((x y : ℤ) → p x y ≡ q x y) → WordShows word p a b → WordShows word q a b
 word_of_same word p q a b same h = record { looks = λ x y i j. h.looks x y i j ∙ same (a +ℤ pos x) (b +ℤ pos y) }
 
 pub words_of_same : (words : Words) (p q : ℤ → ℤ → ℕ) (a b : ℤ) → ((x y : ℤ) → p x y ≡ q x y) → WordsShow words p a b → WordsShow words q a b

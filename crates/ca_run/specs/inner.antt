@@ -6,6 +6,7 @@ pub mod Reached
 pub mod Written
 pub mod Shown
 pub mod Words
+pub mod Grid
 pub mod Recent
 pub mod Farthest
 pub mod Memo

@@ -56,6 +56,24 @@ impl<A: Automaton> Leaper<A> {
         ensures goes_on { GoesOn A self.old self.new }
     {
         let _ = &self.store;
+        if let Some(later) = self.stepped(tree, n, watch)? {
+            return Ok(later);
+        }
+        Ok(self.by_leaps(tree, n, watch)?)
+    }
+
+    // The tree n generations on, by a leap for each binary digit.
+    fn by_leaps<W: Watch>(&mut self, tree: Tree, n: u64, watch: &mut W) -> Result<Tree, LeapFault>
+        requires tree { IsTree self.old.nodes tree }
+        requires level { tree.level ≤ 64 }
+        requires time { n ≤ 2 ^ 60 }
+        ensures tree { IfOk result (IsTree self.new.nodes) }
+        ensures level { IfOk result (λ t. t.level ≤ 124) }
+        ensures cells { IfOk result (λ t. (x y : ℤ) → cell self.new.nodes t x y ≡ later (A.next_of self.old.rule) (cell self.old.nodes tree) n x y) }
+        ensures none { n ≡ 0 → result ≡ Ok tree }
+        ensures goes_on { GoesOn A self.old self.new }
+    {
+        let _ = &self.store;
         if n == MOST {
             return Ok(self.leap(tree, 60)?);
         }

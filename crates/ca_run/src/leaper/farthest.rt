@@ -33,6 +33,11 @@ impl Farthest {
         }
     }
 
+    /// Whether nothing was remembered yet.
+    pub(crate) fn is_empty(&self) -> bool {
+        self.slots.is_empty()
+    }
+
     /// What is remembered for a square.
     pub(crate) fn get(&self, id: Id) -> Option<Id>
         ensures { IfSome result (Has self.now id) }

@@ -41,6 +41,11 @@ impl Recent {
         }
     }
 
+    /// Where its memory comes from.
+    pub(crate) fn allocator(&self) -> Global {
+        *self.slots.allocator()
+    }
+
     /// What is remembered for a square.
     pub(crate) fn get(&self, id: Id, j: u8) -> Option<Id>
         ensures { IfSome result (Keeps self.now id j) }

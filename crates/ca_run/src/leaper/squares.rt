@@ -14,7 +14,7 @@ use ca_quad::Id;
 
 impl<A: Automaton> Leaper<A> {
     // The word of a square of 8 by 8 cells, where it has no state above 1.
-    fn word(&self, id: Id) -> Option<u64>
+    pub(super) fn word(&self, id: Id) -> Option<u64>
         requires { IsOf self.now.nodes id 3 }
         ensures { (p : ℤ → ℤ → ℕ) (a b : ℤ) → ShowsAt self.now.nodes id 3 p a b → IfSome result (λ word. WordShows word p a b) }
     {

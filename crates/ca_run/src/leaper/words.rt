@@ -1,13 +1,14 @@
 //! Squares of two states as words of 64 bits.
 
-ghost use Rattle.std.specs.Prelude.{ℕ, ◌≤◌, ℤ, pos, ◌+ℤ◌, List};
+ghost use Rattle.std.specs.Prelude.{◌≡◌, ◌↔◌, true, ℕ, ◌≤◌, ℤ, pos, ◌+ℤ◌, List};
 ghost use Rattle.ca_run.specs.Centre.{later};
+ghost use Rattle.ca_run.specs.inner.Grid.{HasNone};
 ghost use Rattle.ca_run.specs.inner.Words.{WordShows, WordsShow, GoesBy};
 
 use super::tile::{later_tile, middle, tile_of};
 
 /// The four quarters of a square of 16 by 16 cells: bit `8 * y + x` of each is its cell at (x, y).
-#[derive(Clone, Copy, Drop)]
+#[derive(Clone, Copy, Drop, PartialEq, Eq)]
 pub(crate) struct Words {
     pub nw: u64,
     pub ne: u64,
@@ -16,6 +17,14 @@ pub(crate) struct Words {
 }
 
 impl Words {
+    // Whether no cell is live.
+    #[inline(always)]
+    pub(super) fn is_empty(&self) -> bool
+        ensures { result ≡ true ↔ HasNone self.now }
+    {
+        self.nw == 0 && self.ne == 0 && self.sw == 0 && self.se == 0
+    }
+
     // The 8 by 8 cells in the middle, so many generations on, at most 4. The rule goes by these masks.
     pub(super) fn centre(&self, masks: (u16, u16), n: u8) -> u64
         requires { n ≤ 4 }

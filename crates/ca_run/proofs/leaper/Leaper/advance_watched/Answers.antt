@@ -1,53 +1,20 @@
-use Rattle.std.proofs.Common.{◌≡◌, ◌+◌, ◌/◌, ◌%◌, ◌^◌, sym, ap, subst, ◌∙◌, arith}
+use Rattle.std.proofs.Common.{◌≡◌, subst, ◌∙◌}
 use Rattle.std.specs.Prelude.{ℤ}
-use Rattle.std.proofs.lemmas.Bool.Decides.{nat_tests}
-use Rattle.std.proofs.lemmas.Nat.Bits.{bit_at-zero}
 use Rattle.ca_quad.specs.Trees.{cell}
+use Rattle.ca_quad.specs.Sound.{IsSound}
 use Rattle.ca_run.specs.Centre.{later}
-use Rattle.ca_run.proofs.Shown.{goes_on_again}
-use Rattle.ca_run.proofs.Trees.{one_digit, no_digit}
+use Rattle.ca_run.proofs.Laters.{later_same}
+use Rattle.ca_run.proofs.Trees.{tree_stays}
 use Rattle.ca_run.proofs.leaper.Leaper.advance_watched.Goals as goal
-use Rattle.ca_run.proofs.leaper.Leaper.advance_watched.Goals.{then-n-j-eq1+in_ok-now, else-n-j-eq1}
 
-pub returns-then-n-eq-MOST-clause-cells : goal.returns-then-n-eq-MOST-clause-cells
-returns-then-n-eq-MOST-clause-cells g c = λ x y.
-    let e : c.args.n ≡ 2 ^ 60 = grind (arith, nat_tests) in
-    c.in_ok-leap.ensures.cells x y ∙ ap (λ m. later (g.A.Automaton.next_of c.args.self.now.rule) (cell c.args.self.now.nodes c.args.tree) m x y) (sym e)
-
-pub digits-preserved : goal.digits-preserved
-digits-preserved g c =
-    let next = g.A.Automaton.next_of c.args.self.now.rule in
+pub returns-clause-cells : goal.returns-clause-cells
+returns-clause-cells g c = λ x y.
     let s0 = c.args.self.now.nodes in
-    let s1 = c.digits.self.nodes in
-    let n = c.args.n in
-    let j = c.digits.j in
-    let inv = c.digits.invariant in
-    let one : 1 + j ≡ j + 1 = omega arith in
-    elim c.if-n-j-eq1.branch [
-      | then-n-j-eq1+in_ok-now w ↦
-          let s2 = w.leap-then-n-j-eq1.new.self.nodes in
-          let more = w.in_ok-now.now in
-          let digit : n / 2 ^ j % 2 ≡ 1 = grind (arith, nat_tests, w.if-n-j-eq1.true) in
-          let leapt = subst (λ r. (x y : ℤ) → cell s2 more x y ≡ later (g.A.Automaton.next_of r) (cell s1 c.digits.now) (2 ^ j) x y) inv.goes_on.rule w.in_ok-now.ensures.cells in
-          rw (w.self-is, w.now-is)
-          (record {
-            tree = w.in_ok-now.ensures.tree;
-            level = omega (arith, w.in_ok-now.ensures.level, inv.level);
-            cells = λ x y. one_digit next s0 s1 s2 c.args.tree c.digits.now more n j digit inv.cells leapt x y ∙ ap (λ m. later next (cell s0 c.args.tree) (n % 2 ^ m) x y) one;
-            none = λ z.
-                let a : 0 / 2 ^ j % 2 ≡ 1 = subst (λ m. m / 2 ^ j % 2 ≡ 1) z digit in
-                let b : 0 / 2 ^ j % 2 ≡ 0 = bit_at-zero j in
-                absurd (omega (arith, a, b));
-            goes_on = goes_on_again _ c.args.self.now c.digits.self w.leap-then-n-j-eq1.new.self inv.goes_on w.in_ok-now.ensures.goes_on;
-          })
-      | else-n-j-eq1 w ↦
-          let digit : n / 2 ^ j % 2 ≡ 0 = grind (arith, nat_tests, w.if-n-j-eq1.false) in
-          rw (w.self-is, w.now-is)
-          (record {
-            tree = inv.tree;
-            level = omega (arith, inv.level);
-            cells = λ x y. inv.cells x y ∙ ap (λ m. later next (cell s0 c.args.tree) m x y) (no_digit n j digit ∙ ap (λ m. n % 2 ^ m) one);
-            none = inv.none;
-            goes_on = inv.goes_on;
-          })
-    ]
+    let s1 = c.stepped.new.self.nodes in
+    let s2 = c.by_leaps.new.self.nodes in
+    let tree = c.args.tree in
+    let next = g.A.Automaton.next_of c.args.self.now.rule in
+    let on = c.in_ok-later.ensures.goes_on in
+    let sound = subst (λ l. IsSound l.nodes) c.self.view_is c.self.invariant.squares in
+    let leapt = subst (λ r. (x y : ℤ) → cell s2 c.in_ok-by_leaps.field-0 x y ≡ later (g.A.Automaton.next_of r) (cell s1 tree) c.args.n x y) on.rule c.in_ok-by_leaps.ensures.cells in
+    leapt x y ∙ later_same next (cell s1 tree) (cell s0 tree) c.args.n (tree_stays s0 s1 sound on.grows tree c.requires.tree) x y

@@ -1,0 +1,164 @@
+//! Planes that are stepped word by word: those of few generations beside their size, of squares that hardly repeat.
+
+ghost use Rattle.std.specs.Prelude.{◌≡◌, ℕ, ◌+◌, ◌*◌, ◌/◌, ◌%◌, ◌≤◌, ◌<◌, ◌^◌, ℤ, pos, neg_ℤ, ◌+ℤ◌, ◌-ℤ◌, ◌≤ℤ◌, ◌-◌, List, true, Ok, None, replicate, IfOk, IfSome};
+ghost use Rattle.ca_quad.specs.Trees.{IsTree, cell};
+ghost use Rattle.ca_run.specs.Centre.{later};
+ghost use Rattle.ca_run.specs.Leaping.{GoesOn};
+ghost use Rattle.ca_run.specs.inner.Words.{GoesBy};
+ghost use Rattle.ca_run.specs.inner.Grid.{GridShows, IsAsNarrow, corner, DiesBeyond};
+
+use super::Leaper;
+use super::grid::{Grid, Place};
+use crate::watch::Watch;
+use ca_plane::{Automaton, Memory};
+use ca_quad::Tree;
+use std::alloc::Global;
+
+// The fewest generations for which it pays to read all words.
+const FEWEST: u64 = 32;
+
+// The levels of the squares that are read.
+const LEAST: u8 = 6;
+
+const GREATEST: u8 = 16;
+
+impl<A: Automaton> Leaper<A> {
+    // The tree n generations on, where to step all its words likely takes less time than to leap.
+    pub(super) fn stepped<W: Watch>(
+        &mut self,
+        tree: Tree,
+        n: u64,
+        watch: &mut W,
+    ) -> Result<Option<Tree>, Memory>
+        requires { IsTree self.old.nodes tree }
+        ensures tree { IfOk result (λ found. IfSome found (IsTree self.new.nodes)) }
+        ensures level { IfOk result (λ found. IfSome found (λ t. t.level ≤ 124)) }
+        ensures cells { IfOk result (λ found. IfSome found (λ t. (x y : ℤ) → cell self.new.nodes t x y ≡ later (A.next_of self.old.rule) (cell self.old.nodes tree) n x y)) }
+        ensures none { n ≡ 0 → result ≡ Ok None }
+        ensures goes_on { GoesOn A self.old self.new }
+    {
+        let _ = &self.store;
+        let Some(masks) = self.masks else {
+            return Ok(None);
+        };
+        if !self.is_dense(tree, n) {
+            return Ok(None);
+        }
+        let alloc = self.recent.allocator();
+        match self.grid(alloc, tree.root, tree.level - 3)? {
+            None => Ok(None),
+            Some(grid) => {
+                let later = grid.later(alloc, masks, n, watch)?;
+                Ok(Some(self.centred(&later, tree.level, n)?))
+            }
+        }
+    }
+
+    // Whether to step all words likely takes less time than to leap: the generations are few beside the side of the tree,
+    // nothing was leapt over yet, and its squares hardly repeat.
+    fn is_dense(&self, tree: Tree, n: u64) -> bool
+        ensures least { result ≡ true → 6 ≤ tree.level }
+        ensures greatest { result ≡ true → tree.level ≤ 16 }
+        ensures time { result ≡ true → n ≤ 2 ^ (tree.level + 2) }
+        ensures some { result ≡ true → 32 ≤ n }
+    {
+        if tree.level < LEAST || tree.level > GREATEST || n < FEWEST || !self.farthest.is_empty() {
+            return false;
+        }
+        let words = 1 << (2 * (tree.level - 3));
+        n <= 4 << tree.level && self.store.count() >= words / 4
+    }
+
+    // The tree of a grid that came of one of this level in n generations.
+    fn centred(&mut self, grid: &Grid, level: u8, n: u64) -> Result<Tree, Memory>
+        requires least { 6 ≤ level }
+        requires greatest { level ≤ 16 }
+        requires time { n ≤ 2 ^ (level + 2) }
+        ensures tree { IfOk result (IsTree self.new.nodes) }
+        ensures level { IfOk result (λ t. t.level ≤ 124) }
+        ensures cells { (p : ℤ → ℤ → ℕ) → GridShows grid.now p (corner level n) (corner level n) → DiesBeyond (2 ^ (level + 3)) p
+            → IfOk result (λ t. (x y : ℤ) → cell self.new.nodes t x y ≡ p x y) }
+        ensures goes_on { GoesOn A self.old self.new }
+    {
+        let place = place_of_corner(level, n);
+        let root = self.from_grid(grid, level + 1, Place { i: place, j: place })?;
+        Ok(Tree {
+            root,
+            level: level + 4,
+        })
+    }
+}
+
+// Where the corner of a tree of four levels more lies among the words of a grid that came of one of this level in n
+// generations.
+fn place_of_corner(level: u8, n: u64) -> i64
+    requires least { 6 ≤ level }
+    requires greatest { level ≤ 16 }
+    requires time { n ≤ 2 ^ (level + 2) }
+    ensures value { result ≡ (pos (2 ^ (level - 4)) +ℤ pos (n / 8 + 1)) -ℤ pos (2 ^ level) }
+    ensures least { neg_ℤ (pos (2 ^ 40)) ≤ℤ result }
+    ensures greatest { result ≤ℤ pos (2 ^ 40 - 2 ^ (level + 1)) }
+{
+    behind(n / 8 + 1 + (1 << (level - 4)), 1 << level)
+}
+
+// How far one number lies beyond another.
+fn behind(far: u64, near: u64) -> i64
+    requires far { far ≤ 2 ^ 62 }
+    requires near { near ≤ 2 ^ 62 }
+    ensures { result ≡ pos far -ℤ pos near }
+{
+    far as i64 - near as i64
+}
+
+impl Grid {
+    // The rows so many generations on, and how many words further to the north and to the west they begin.
+    fn later<W: Watch>(
+        self,
+        alloc: Global,
+        masks: (u16, u16),
+        n: u64,
+        watch: &mut W,
+    ) -> Result<Grid, Memory>
+        requires narrow { IsAsNarrow (2 ^ 40) self }
+        requires time { n ≤ 2 ^ 40 }
+        ensures { (next : List ℕ → ℕ) (p : ℤ → ℤ → ℕ) (a b : ℤ) → GoesBy next masks → next (replicate 9 0) ≡ 0 → GridShows self p a b
+            → IfOk result (λ grid. GridShows grid (later next p n) (a -ℤ pos (8 * (n / 8 + 1))) (b -ℤ pos (8 * (n / 8 + 1)))) }
+    {
+        let none = Grid::empty(alloc);
+        let fours = n / 4;
+        let grid = self.by_fours(alloc, masks, fours, watch)?;
+        let grid = grid.next(alloc, &none, &none, masks, (n % 4) as u8)?;
+        if fours % 2 == 1 {
+            return Ok(grid);
+        }
+        grid.next(alloc, &none, &none, masks, 0)
+    }
+
+    // The rows so many times four generations on: as many times they begin four cells further to the north and to the west.
+    fn by_fours<W: Watch>(
+        self,
+        alloc: Global,
+        masks: (u16, u16),
+        fours: u64,
+        watch: &mut W,
+    ) -> Result<Grid, Memory>
+        requires narrow { IsAsNarrow (2 ^ 40) self }
+        requires time { fours ≤ 2 ^ 40 }
+        ensures narrow { IfOk result (IsAsNarrow (2 ^ 40 + fours)) }
+        ensures shows { (next : List ℕ → ℕ) (p : ℤ → ℤ → ℕ) (a b : ℤ) → GoesBy next masks → next (replicate 9 0) ≡ 0 → GridShows self p a b
+            → IfOk result (λ grid. GridShows grid (later next p (4 * fours)) (a -ℤ pos (4 * fours)) (b -ℤ pos (4 * fours))) }
+    {
+        let mut before = Grid::empty(alloc);
+        let mut after = Grid::empty(alloc);
+        let mut now = self;
+        'steps: for step in 0..fours {
+            let next = now.next(alloc, &before, &after, masks, 4)?;
+            before = after;
+            after = now;
+            now = next;
+            watch.reached(4 * (step + 1));
+        }
+        Ok(now)
+    }
+}
