@@ -279,12 +279,14 @@ def try_slides(claims):
 
 EIGHT = [(x, y) for x in (-1, 0, 1) for y in (-1, 0, 1) if (x, y) != (0, 0)]
 
-# The places of the neighbours of a cell, of which a cell under a rule of odd counts takes the parity; the side of a soup, and generations: few
-# beside it and many, with masks for the kernel and without.
+# The places of the neighbours of a cell, of which a cell under a rule of odd counts takes the parity; the side of a soup, generations, few
+# beside it and many, and how far west and north of the origin the soup begins. The last rule has no masks for the kernel.
 PARITIES = (
-    ("B1357/S1357", EIGHT, 500, 511),
-    ("B1357/S1357", EIGHT, 60, 1023),
-    ("B13/S13V", [(0, -1), (-1, 0), (1, 0), (0, 1)], 160, 255),
+    ("B1357/S1357", EIGHT, 500, 511, 0),
+    ("B1357/S1357", EIGHT, 300, 65, 0),
+    ("B1357/S1357", EIGHT, 301, 130, 147),
+    ("B1357/S1357", EIGHT, 60, 1023, 0),
+    ("B13/S13V", [(0, -1), (-1, 0), (1, 0), (0, 1)], 160, 255, 0),
 )
 
 
@@ -311,12 +313,12 @@ def parity_file(rule, corner, rows):
 
 def try_many_squares(claims):
     """Planes without order, of some hundred thousand squares and more: what becomes of them is known, since each generation is a sum."""
-    for rule, places, side, generations in PARITIES:
+    for rule, places, side, generations, before in PARITIES:
         chance = random.Random(side)
         rows = [0] * generations + [chance.getrandbits(side) << generations for _ in range(side)] + [0] * generations
         text = claims.text()
-        text.load("soup", parity_file(rule, -generations, rows))
-        text.load("later", parity_file(rule, -generations, parity_after(rows, places, generations)))
+        text.load("soup", parity_file(rule, -generations - before, rows))
+        text.load("later", parity_file(rule, -generations - before, parity_after(rows, places, generations)))
         text.claim(f"becomes soup {generations} later", "yes")
         text.claim(f"becomes soup {generations - 1} later", f"no, cells differ after {generations - 1}")
         claims.judge(f"{side} by {side} cells without order, {rule}", text)

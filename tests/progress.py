@@ -14,7 +14,9 @@ from lib.program import PROGRAM, ROOT, Folder, Tally, run
 
 # How long the claim has to take, in seconds, on however fast a machine: larger squares are tried until one does.
 SECONDS = 2.5
-GENERATIONS = 8191
+
+# So many that the squares are leapt over, and so few that a dense plane is stepped.
+MANY, FEW = 65535, 4003
 
 WIPE = b"\r\x1b[K"
 
@@ -22,6 +24,11 @@ WIPE = b"\r\x1b[K"
 def soup(chance, side):
     """A random square of cells."""
     return {(x, y): 1 for x in range(side) for y in range(side) if chance.random() < 0.375}
+
+
+def soup_round_origin(chance, side):
+    """The same with the origin in its middle."""
+    return {(x - side // 2, y - side // 2): 1 for x, y in soup(chance, side)}
 
 
 def blinkers(chance, side):
@@ -46,20 +53,24 @@ def long_claim(files, cells_of, side, claim):
         side += side // 2
 
 
-def faults_of(shown, before):
-    """What is wrong with what was shown of the long claim. The numbers of generations rise, each by one binary digit of the whole, and the line ends wiped."""
+def faults_of(shown, before, generations=MANY):
+    """What is wrong with what was shown of the long claim. The numbers of generations rise, by one binary digit of the whole each, or where a plane is stepped
+    by some fours, and the line ends wiped."""
     lines = shown.split(WIPE)
     if lines[0] or lines[-1] or len(lines) < 3:
         return [f"shown {shown!r}"]
     numbers = []
     for line in lines[1:-1]:
-        told = re.fullmatch(re.escape(before) + rb"line 4: (\d+) of %d generations" % GENERATIONS, line)
+        told = re.fullmatch(re.escape(before) + rb"line 4: (\d+) of %d generations" % generations, line)
         if not told:
             return [f"shown {line!r}"]
         numbers.append(int(told[1]))
-    digits = [(2 << it) - 1 for it in range(GENERATIONS.bit_length())]
-    rise = numbers == sorted(set(numbers)) and numbers[-1] == GENERATIONS and all(it in (0, *digits) for it in numbers)
-    return [] if rise else [f"shown {numbers}"]
+    if generations == MANY:
+        digits = [(2 << it) - 1 for it in range(generations.bit_length())]
+        well = numbers[-1] == generations and all(it in (0, *digits) for it in numbers)
+    else:
+        well = generations - 1000 < numbers[-1] <= generations and all(it % 4 == 0 or it == generations for it in numbers)
+    return [] if well and numbers == sorted(set(numbers)) else [f"shown {numbers}"]
 
 
 def try_long(tally, path, silent):
@@ -72,6 +83,14 @@ def try_long(tally, path, silent):
     got, wanted = run([*several, "--progress"]), run(several)
     tally.tell("the line of a long claim, several texts", faults_of(got.complaint, f"{path}: ".encode()))
     tally.tell("what a long run prints, several texts", [] if (got.printed, got.status) == (wanted.printed, wanted.status) else [str(got)])
+
+
+def try_dense(tally, files):
+    """A dense plane of few generations, which is stepped, by some generations at a time."""
+    path, silent = long_claim(files, soup_round_origin, 1100, f"becomes long {FEW} block")
+    got = run(["verify", "--progress", path])
+    tally.tell("the line of a dense plane", faults_of(got.complaint, b"", FEW))
+    tally.tell("what a run on a dense plane prints", [] if (got.printed, got.status) == (silent.printed, silent.status) else [str(got)])
 
 
 def try_times(tally, files):
@@ -134,11 +153,12 @@ def main():
     tally = Tally()
     with tempfile.TemporaryDirectory() as folder:
         files = Folder(folder)
-        path, silent = long_claim(files, soup, 300, f"becomes long {GENERATIONS} block")
+        path, silent = long_claim(files, soup, 300, f"becomes long {MANY} block")
         try_long(tally, path, silent)
         try_order(tally, path)
         try_closed(tally, path, silent)
         try_terminal(tally, path, silent)
+        try_dense(tally, files)
         try_times(tally, files)
     try_quick(tally)
     tally.finish()
