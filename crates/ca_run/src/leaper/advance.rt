@@ -35,7 +35,8 @@ impl<A: Automaton> Leaper<A> {
         self.advance_watched(tree, n, &mut Unwatched)
     }
 
-    /// The same, while someone watches: who is told at each power of two how many generations are reached.
+    /// The same, while someone watches: who is told how many generations are reached after each leap, or where the plane
+    /// is stepped after each four.
     ///
     /// # Errors
     ///

@@ -112,7 +112,7 @@ fn behind(far: u64, near: u64) -> i64
 }
 
 impl Grid {
-    // The rows so many generations on, and how many words further to the north and to the west they begin.
+    // The rows so many generations on: they begin n / 8 + 1 words further to the north and to the west.
     fn later<W: Watch>(
         self,
         alloc: Global,
