@@ -1,7 +1,7 @@
 -- Texts sent piece by piece: for callers that send several.
-use Rattle.std.proofs.Common.{◌≡◌, ℕ, ◌-◌, Option, List, [], ◌++◌, refl, sym, ap, ◌∙◌, append_assoc, length, take, drop, take-append-drop}
-use Rattle.std.proofs.lemmas.List.{append-nil, take_rest}
-use Rattle.std.proofs.KnownBytes.{Appends-nil, Appends-trans}
+use Rattle.std.proofs.Common.{◌≡◌, ℕ, ◌-◌, Option, List, ◌++◌, sym, ap, ◌∙◌, arith, append_assoc, length, length-append, take, drop, take-append-drop}
+use Rattle.std.proofs.lemmas.List.{take_rest}
+use Rattle.std.proofs.KnownBytes.{Appends-trans}
 use Rattle.std.specs.Io.KnownBytes.{Appends}
 use Rattle.ca_plane.specs.Device.{AppendsPrefix}
 
@@ -9,22 +9,15 @@ use Rattle.ca_plane.specs.Device.{AppendsPrefix}
 pub sent_both : (old mid new : Option (List ℕ)) (xs ys : List ℕ) → Appends old mid xs → Appends mid new ys → Appends old new (xs ++ ys)
 sent_both old mid new xs ys first second = Appends-trans old mid new xs ys first second
 
--- nothing sent yet is a prefix
-pub prefix_none : (old : Option (List ℕ)) (xs : List ℕ) → AppendsPrefix old old xs
-prefix_none old xs = ([], xs, refl, Appends-nil old)
-
--- all sent is a prefix
-pub prefix_whole : (old new : Option (List ℕ)) (xs : List ℕ) → Appends old new xs → AppendsPrefix old new xs
-prefix_whole old new xs sent = (xs, [], sym (append-nil xs), sent)
-
 -- a prefix of the first piece is a prefix of both
 pub prefix_of_first : (old new : Option (List ℕ)) (xs ys : List ℕ) → AppendsPrefix old new xs → AppendsPrefix old new (xs ++ ys)
-prefix_of_first old new xs ys (sent, unsent, split, appends) = (sent, unsent ++ ys, ap (λ l. l ++ ys) split ∙ append_assoc sent unsent ys, appends)
+prefix_of_first old new xs ys (sent, unsent, split, some, appends) =
+    (sent, unsent ++ ys, ap (λ l. l ++ ys) split ∙ append_assoc sent unsent ys, omega (arith, some, length-append unsent ys), appends)
 
 -- the first piece and a prefix of the second are a prefix of both
 pub prefix_of_second : (old mid new : Option (List ℕ)) (xs ys : List ℕ) → Appends old mid xs → AppendsPrefix mid new ys → AppendsPrefix old new (xs ++ ys)
-prefix_of_second old mid new xs ys first (sent, unsent, split, appends) =
-    (xs ++ sent, unsent, ap (λ l. xs ++ l) split ∙ sym (append_assoc xs sent unsent), Appends-trans old mid new xs sent first appends)
+prefix_of_second old mid new xs ys first (sent, unsent, split, some, appends) =
+    (xs ++ sent, unsent, ap (λ l. xs ++ l) split ∙ sym (append_assoc xs sent unsent), some, Appends-trans old mid new xs sent first appends)
 
 -- what is sent and what isn't yet, after n more bytes were taken
 pub sent_more : (all sent unsent : List ℕ) (n : ℕ) → all ≡ sent ++ unsent → all ≡ (sent ++ take n unsent) ++ take (length unsent - n) (drop n unsent)

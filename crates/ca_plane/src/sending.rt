@@ -10,7 +10,8 @@ use std::io::Write;
 
 /// Writes all of the bytes.
 ///
-/// It takes no memory. After a failure nothing is tried again, and some first part of the bytes was written.
+/// It takes no memory. It ends with the last byte, and writes no empty rest after it. After a failure nothing is tried
+/// again, and some first part of the bytes was written, but not all.
 pub fn send<W: Write>(device: &mut Dev<W>, bytes: &[u8]) -> Result<(), WriteFault>
     ensures all { OnOk result (Appends (W.contents device.old.inner) (W.contents device.new.inner) bytes.now) }
     ensures kept { OnOk result (device.new.failures ≡ device.old.failures) }
