@@ -37,8 +37,9 @@ cells-preserved c =
 
 pub returns-clause-same : goal.returns-clause-same
 returns-clause-same c =
+    let stable =
+    c.sort_by.ensures.stable (λ (a : Point × ℕ) (b : Point × ℕ). is_lt (point_cmp b.0 a.0)) (IsStrictWeakOrder-flip _ (ranks_by point_cmp_total (λ (e : Point × ℕ). e.0)))
+    (answers_always _ _ _ (λ f a r g called. search rules)) in
     let (t, split, same) = c.cells.invariant.taken in
     let all = emptied _ c.cells.falling.items t split (sym c.cells.falling.ok.0 ∙ c.in_default.ensures.cases.0) in
-    let order = IsStrictWeakOrder-flip _ (ranks_by point_cmp_total (λ (e : Point × ℕ). e.0)) in
-    let stable = c.sort_by.ensures.stable (λ (a : Point × ℕ) (b : Point × ℕ). is_lt (point_cmp b.0 a.0)) order (answers_always _ _ _ (λ f a r g called. search rules)) in
     λ x y. same x y ∙ ap (λ (p : Picture). cell p x y) (sym all) ∙ sym (IsSame-stable c.args.cells.items _ stable x y)

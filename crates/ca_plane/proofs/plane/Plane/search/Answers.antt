@@ -12,11 +12,11 @@ returns-then-ends_before-clause-absent c =
 pub returns-clause-found : goal.returns-clause-found
 returns-clause-found c =
     let facts = c.binary_search_by_key.ensures in
-    let by_point = facts.position (λ (e : Point × ℕ). e.0) (answers_always _ _ _ (λ f a r g called. search rules)) in
+    let by_point = facts.position (λ (e : Point × ℕ). e.0) (search (rules, answers_always)) in
     rw (← c.self.view_is, ← c.deref.ensures.value) (searched _ (rw c.deref.ensures.value c.self.invariant) c.args.at _ facts.bound by_point).found
 
 pub returns-clause-absent : goal.returns-clause-absent
 returns-clause-absent c =
     let facts = c.binary_search_by_key.ensures in
-    let by_point = facts.position (λ (e : Point × ℕ). e.0) (answers_always _ _ _ (λ f a r g called. search rules)) in
+    let by_point = facts.position (λ (e : Point × ℕ). e.0) (search (rules, answers_always)) in
     rw (← c.self.view_is, ← c.deref.ensures.value) (searched _ (rw c.deref.ensures.value c.self.invariant) c.args.at _ facts.bound by_point).absent
