@@ -205,12 +205,18 @@ read-next corner left items mid new run next seen e item behind read tag count r
     (λ same z. apart (ap (λ (p : Point). p.y) same ∙ row) (ap (λ (p : Point). p.x) same ∙ column) (sym z)) from past state)
 
 -- the last run
-pub read-end : (corner : Point) (items : List Item) (run : Run) (seen : Picture) (item : Item) → IsReadTo corner items run seen
+read-end : (corner : Point) (items : List Item) (run : Run) (seen : Picture) (item : Item) → IsReadTo corner items run seen
     → item.tag ≡ Cell run.state → run.past ≡ run.from.x +ℤ pos item.count
     → AreTidy (items ++ item ∷ []) × (picture_of corner (items ++ item ∷ []) ≡ seen)
 read-end corner items run seen item read tag count =
     subst (λ (i : Item). AreTidy (items ++ i ∷ []) × (picture_of corner (items ++ i ∷ []) ≡ seen)) (sym (run_item corner items run seen item read tag count))
     (tidy-end items run.state read.count read.before read.live read.some, run_shown corner items run seen read)
+
+-- a list that is those and the last run's item
+pub read-last : (corner : Point) (items all : List Item) (run : Run) (seen : Picture) (item : Item) → IsReadTo corner items run seen
+    → item.tag ≡ Cell run.state → run.past ≡ run.from.x +ℤ pos item.count → all ≡ items ++ item ∷ [] → AreTidy all × (picture_of corner all ≡ seen)
+read-last corner items all run seen item read tag count whole =
+    subst (λ (is : List Item). AreTidy is × (picture_of corner is ≡ seen)) (sym whole) (read-end corner items run seen item read tag count)
 
 -- ---- a `for` over the cells of a plane
 

@@ -90,6 +90,11 @@ module _ (variables : List States) (nine : List ℕ) (t : Transition) (taken : L
   least_outcome-unfit [] = refl
   least_outcome-unfit (g ∷ gs) = rw (unfit g) (least_outcome-unfit gs)
 
+-- where a test says that they don't fit
+pub test-unfit : (variables : List States) (nine : List ℕ) (t : Transition) (taken : List ℕ) → false ≡ fits variables (taken_at nine t taken)
+    → (gs : List (List ℕ)) → outcome_at variables nine t (map (λ g. taken ++ g) gs) ≡ None
+test-unfit variables nine t taken none = least_outcome-unfit variables nine t taken (sym none)
+
 -- a list has as many picks as elements
 pub length-picks : (xs : List ℕ) → length (picks xs) ≡ length xs
 length-picks [] = refl

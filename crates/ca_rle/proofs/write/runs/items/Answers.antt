@@ -2,9 +2,7 @@ use Rattle.std.proofs.Common.{◌≡◌, ℕ, pos, ◌+ℤ◌, w64, to_z, of_z, 
 use Rattle.std.proofs.lemmas.Int.{ints}
 use Rattle.ca_plane.specs.declared.point.Point.{Point}
 use Rattle.ca_plane.specs.Plane.{Picture}
-use Rattle.ca_rle.specs.Shown.{picture_of}
-use Rattle.ca_rle.specs.Tidy.{AreTidy, HaveStates}
-use Rattle.ca_rle.proofs.RunByRun.{IsReadBefore, next-first, next-turn, read-first, read-more, read-next, read-end, before-first_run, before-turn, before-end}
+use Rattle.ca_rle.proofs.RunByRun.{IsReadBefore, next-first, next-turn, read-first, read-more, read-next, read-last, before-first_run, before-turn, before-end}
 use Rattle.ca_rle.proofs.StatesOf.{have_states}
 use Rattle.ca_rle.proofs.write.runs.items.Goals as goal
 
@@ -69,15 +67,13 @@ cells-preserved c =
 pub returns-clause-tidy : goal.returns-clause-tidy
 returns-clause-tidy c =
     let read = before-end c.args.cells.now _ _ c.args.corner _ _ _ c.cells.invariant c.in-None.is c.next-in-cells.ensures.steps in
-    subst AreTidy (sym c.in_ok-push-2.ensures.items) (read-end c.args.corner _ _ _ c.item-2.result read c.item-2.ensures.tag c.item-2.ensures.count).0
+    (read-last c.args.corner c.cells.items.items c.push-2.new.self.items c.cells.run c.args.cells.now c.item-2.result read c.item-2.ensures.tag c.item-2.ensures.count c.in_ok-push-2.ensures.items).0
 
 pub returns-clause-shown : goal.returns-clause-shown
 returns-clause-shown c =
     let read = before-end c.args.cells.now _ _ c.args.corner _ _ _ c.cells.invariant c.in-None.is c.next-in-cells.ensures.steps in
-    ap (picture_of c.args.corner) c.in_ok-push-2.ensures.items ∙ (read-end c.args.corner _ _ _ c.item-2.result read c.item-2.ensures.tag c.item-2.ensures.count).1
+    (read-last c.args.corner c.cells.items.items c.push-2.new.self.items c.cells.run c.args.cells.now c.item-2.result read c.item-2.ensures.tag c.item-2.ensures.count c.in_ok-push-2.ensures.items).1
 
 pub returns-clause-states : goal.returns-clause-states
 returns-clause-states c = λ n below.
-    let read = before-end c.args.cells.now _ _ c.args.corner _ _ _ c.cells.invariant c.in-None.is c.next-in-cells.ensures.steps in
-    let end = read-end c.args.corner _ _ _ c.item-2.result read c.item-2.ensures.tag c.item-2.ensures.count in
-    subst (HaveStates n) (sym c.in_ok-push-2.ensures.items) (have_states n c.args.corner c.args.cells.now _ end.0 end.1 c.cells-left.ensures.sparse.states below)
+    have_states n c.args.corner c.args.cells.now _ (returns-clause-tidy c) (returns-clause-shown c) c.cells-left.ensures.sparse.states below

@@ -4,7 +4,7 @@ use Rattle.std.proofs.lemmas.Bool.Decides.{nat_tests}
 use Rattle.ca_rule.specs.TableOrders.{picks, every_order}
 use Rattle.ca_rule.specs.inner.TableSearch.{picked_outcome}
 use Rattle.ca_rule.specs.inner.TableChoice.{taken_of, free_of}
-use Rattle.ca_rule.proofs.Searched.{least_outcome-unfit, all-picks, one-pick, no-pick}
+use Rattle.ca_rule.proofs.Searched.{test-unfit, all-picks, one-pick, no-pick}
 use Rattle.ca_rule.proofs.Repeated.{repeated, led_to_none, none_here}
 use Rattle.ca_rule.proofs.table.transition.Transition.+least_outcome.Goals as goal
 
@@ -32,7 +32,7 @@ pub places-preserved-then-not-fits_at : goal.places-preserved-then-not-fits_at
 places-preserved-then-not-fits_at t c =
     let count : length (free_of c.args.choice) ≡ suc (c.free_count-count.result - 1) = first_of (omega arith, grind (arith, nat_tests)) in
     let here : c.places.at < length (free_of c.args.choice) = first_of (omega arith, grind (arith, nat_tests)) in
-    let unfit = least_outcome-unfit c.args.variables.now c.args.nine.now c.args.self.now (taken_of c.with-next.result) (sym c.if-not-fits_at.ensures)
+    let unfit = test-unfit c.args.variables.now c.args.nine.now c.args.self.now (taken_of c.with-next.result) c.if-not-fits_at.ensures
     (every_order (length (free_of c.with-next.result)) (free_of c.with-next.result)) in
     let none = led_to_none c.args.variables.now c.args.nine.now c.args.self.now (taken_of c.args.choice) (free_of c.args.choice) (c.free_count-count.result - 1) c.places.at
     (taken_of c.with-next.result) (free_of c.with-next.result) count here c.with-next.ensures.taken c.with-next.ensures.free unfit in
