@@ -25,11 +25,11 @@ in_place_more : (earlier ns : List Node) (node : Node) → AreInPlace earlier ns
 in_place_more earlier [] node h s = (subst (λ l. MayFollow l node) (append-nil earlier) s, tt)
 in_place_more earlier (n ∷ ns) node h s = (h.0, in_place_more (earlier ++ n ∷ []) ns node h.1 (subst (λ l. MayFollow l node) (sym (append_assoc earlier (n ∷ []) ns)) s))
 
-in_place_at : (earlier front : List Node) (n : Node) (rest : List Node) → AreInPlace earlier (front ++ n ∷ rest) → MayFollow (earlier ++ front) n
+pub in_place_at : (earlier front : List Node) (n : Node) (rest : List Node) → AreInPlace earlier (front ++ n ∷ rest) → MayFollow (earlier ++ front) n
 in_place_at earlier [] n rest h = subst (λ l. MayFollow l n) (sym (append-nil earlier)) h.0
 in_place_at earlier (m ∷ front) n rest h = subst (λ l. MayFollow l n) (append_assoc earlier (m ∷ []) front) (in_place_at (earlier ++ m ∷ []) front n rest h.1)
 
-split_at : (ns : List Node) (i : ℕ) (d : Node) → i < length ns → (front : List Node) × (rest : List Node) × (ns ≡ front ++ slice_index_or ns i d ∷ rest) × (length front ≡ i)
+pub split_at : (ns : List Node) (i : ℕ) (d : Node) → i < length ns → (front : List Node) × (rest : List Node) × (ns ≡ front ++ slice_index_or ns i d ∷ rest) × (length front ≡ i)
 split_at [] i d h = absurd (omega arith)
 split_at (n ∷ ns) zero d h = ([], ns, refl, refl)
 split_at (n ∷ ns) (suc i) d h =
@@ -55,7 +55,7 @@ get_last : (ns : List Node) (n : Node) → slice_get (ns ++ n ∷ []) (length ns
 get_last [] n = refl
 get_last (m ∷ ns) n = get_last ns n
 
-names_level : (ns : List Node) (level i : ℕ) (d : Node) → option_map level_of (slice_get ns i) ≡ Some level → level_of (slice_index_or ns i d) ≡ level
+pub names_level : (ns : List Node) (level i : ℕ) (d : Node) → option_map level_of (slice_get ns i) ≡ Some level → level_of (slice_index_or ns i d) ≡ level
 names_level [] level i d h = absurd cc
 names_level (n ∷ ns) level zero d h = same_Some (level_of n) level h
 names_level (n ∷ ns) level (suc i) d h = names_level ns level i d h
@@ -74,7 +74,7 @@ square_of_stays ns ms (Parts level nw ne sw se) h =
     rw (a, b, c, d) refl
 
 -- what has a number shows what its node shows
-square_at : (ns : List Node) (i : ℕ) (d : Node) → AreInPlace [] ns → i < length ns → numbered (squares_of ns) (suc i) ≡ square_of (squares_of ns) (slice_index_or ns i d)
+pub square_at : (ns : List Node) (i : ℕ) (d : Node) → AreInPlace [] ns → i < length ns → numbered (squares_of ns) (suc i) ≡ square_of (squares_of ns) (slice_index_or ns i d)
 square_at ns i d h low =
     let s = split_at ns i d low in
     let node = slice_index_or ns i d in
@@ -112,7 +112,7 @@ dead_rows (row ∷ rows) y h =
     let p = and_parts (list_all not row) (list_all (list_all not) rows) h in
     rw (dead_row row (pos 0) y p.0) (dead_rows rows _ p.1)
 
-four_dead : (a b c d : ℕ) → list_all (λ n. n == 0) (a ∷ b ∷ c ∷ d ∷ []) ≡ true → (a ≡ 0) × (b ≡ 0) × (c ≡ 0) × (d ≡ 0)
+pub four_dead : (a b c d : ℕ) → list_all (λ n. n == 0) (a ∷ b ∷ c ∷ d ∷ []) ≡ true → (a ≡ 0) × (b ≡ 0) × (c ≡ 0) × (d ≡ 0)
 four_dead a b c d h =
     let p = and_parts (a == 0) _ h in
     let q = and_parts (b == 0) _ p.1 in

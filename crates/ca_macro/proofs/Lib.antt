@@ -21,3 +21,5 @@ pub mod Roots
 pub mod Decimals
 pub mod TidyLines
 pub mod TidyFiles
+pub mod NodeCells
+pub mod OneTidy

@@ -191,7 +191,7 @@ leaf_shows bytes cells low same =
 
 -- ---- four cells
 
-four_end : (nw ne sw se : ℕ) → Ends (1 + 1) (together 1 (dot nw) (dot ne) (dot sw) (dot se))
+pub four_end : (nw ne sw se : ℕ) → Ends (1 + 1) (together 1 (dot nw) (dot ne) (dot sw) (dot se))
 four_end nw ne sw se =
     let one : 1 ≤ 1 = omega arith in
     together_ends 1 (dot nw) (dot ne) (dot sw) (dot se) (dot_ends nw 1 one) (dot_ends ne 1 one) (dot_ends sw 1 one) (dot_ends se 1 one)

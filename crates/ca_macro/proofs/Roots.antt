@@ -150,7 +150,7 @@ empty_tree_nodes kept t states h = empty_nodes (cell kept t) (λ x y. sym (corne
 
 -- ---- the picture of the last node
 
-last_node : (ns : List Node) (i : ℕ) (d : Option Node) → length ns ≡ suc i → (root : Node) × (last_or d ns ≡ Some root) × (slice_get ns i ≡ Some root)
+pub last_node : (ns : List Node) (i : ℕ) (d : Option Node) → length ns ≡ suc i → (root : Node) × (last_or d ns ≡ Some root) × (slice_get ns i ≡ Some root)
 last_node [] i d h = absurd (omega arith)
 last_node (n ∷ []) zero d h = (n, refl, refl)
 last_node (n ∷ []) (suc i) d h = absurd (omega arith)

@@ -1,6 +1,6 @@
-//! Laws of tidy texts: what a tidy text says.
+//! Laws of tidy texts: what a tidy text says, and that a plane has one at most.
 
-ghost use Rattle.std.specs.Prelude.{ℕ, ◌<◌, ◌^◌, ℤ, List, length};
+ghost use Rattle.std.specs.Prelude.{◌≡◌, ℕ, ◌<◌, ◌^◌, ℤ, List, length};
 ghost use Rattle.ca_plane.specs.Bytes.{IsWord};
 ghost use Rattle.ca_plane.specs.Limits.{generation_limit};
 ghost use Rattle.ca_macro.specs.File.{File, IsFile};
@@ -18,4 +18,10 @@ pub fn tidy_means()
     ensures range { (text : List ℕ) (cells : ℤ → ℤ → ℕ) (rule_text : List ℕ) (generation states : ℕ) → IsTidy text cells rule_text generation states
         → IsWord rule_text → generation < generation_limit → length text < 2 ^ 64 → AreInRange cells
         → (file : File) × IsFile text file × IsWithinRange file × Holds file cells rule_text generation }
+{}
+
+/// A plane, given by its cells at every x and y, with its rule text, generation and number of states, has one tidy text at most.
+pub fn one_tidy_text()
+    ensures { (t u : List ℕ) (cells : ℤ → ℤ → ℕ) (rule_text : List ℕ) (generation states : ℕ) → IsTidy t cells rule_text generation states
+        → IsTidy u cells rule_text generation states → t ≡ u }
 {}

@@ -66,7 +66,7 @@ pub fn write_macro(
 /// # Errors
 ///
 /// `Memory` where a growth is refused: nothing was written. `Write` where a write failed: some first part
-/// of the text was written.
+/// of the text was written, but not all.
 pub fn write_macro_to<W: Write>(
     alloc: Global,
     store: &mut Store,
@@ -84,10 +84,13 @@ pub fn write_macro_to<W: Write>(
     // The tidy text is written whole, and no failure is counted.
     ensures all { OnOk result ((text : List ℕ) × IsTidy text (cell store.old tree) rule_text.now generation states
         × Appends (W.contents out.old.inner) (W.contents out.new.inner) text) }
+    // What is written means the cells, the rule text and the generation, and the reader takes it.
+    ensures means { OnOk result ((text : List ℕ) × Appends (W.contents out.old.inner) (W.contents out.new.inner) text
+        × ((file : File) × IsFile text file × IsWithinRange file × Holds file (cell store.old tree) rule_text.now generation)) }
     ensures kept { OnOk result (out.new.failures ≡ out.old.failures) }
     // Without memory the device is as it was.
     ensures memory { IsErrOf result WriteFault.Memory → out.new ≡ out.old }
-    // A write failed after some first part of the tidy text.
+    // A write failed after some first part of the tidy text, which isn't the whole.
     ensures front { IsErrOf result WriteFault.Write → (text : List ℕ) × IsTidy text (cell store.old tree) rule_text.now generation states
         × AppendsPrefix (W.contents out.old.inner) (W.contents out.new.inner) text }
     ensures counted { IsErrOf result WriteFault.Write → Rises out.old.failures out.new.failures }

@@ -67,7 +67,7 @@ pub fn write_rle(
 /// # Errors
 ///
 /// `Memory` where there is no memory for the text: nothing was written. `Write` where a write failed: some first part
-/// of the text was written.
+/// of the text was written, but not all.
 pub fn write_rle_to<W: Write>(
     alloc: Global,
     cells: &Plane,
@@ -89,7 +89,7 @@ pub fn write_rle_to<W: Write>(
     ensures kept { OnOk result (out.new.failures ≡ out.old.failures) }
     // Without memory the device is as it was.
     ensures memory { IsErrOf result WriteFault.Memory → out.new ≡ out.old }
-    // A write failed after some first part of the tidy text.
+    // A write failed after some first part of the tidy text, which isn't the whole.
     ensures front { IsErrOf result WriteFault.Write → (text : List ℕ) × IsTidy text cells.now rule_text.now generation states
         × AppendsPrefix (W.contents out.old.inner) (W.contents out.new.inner) text }
     ensures counted { IsErrOf result WriteFault.Write → Rises out.old.failures out.new.failures }
