@@ -21,7 +21,7 @@ const LONGEST: u64 = 1 << 62;
 const RANGE_EDGE: i128 = 1 << 60;
 
 /// Where an item begins: so many rows below the corner, and so many columns right of it. At 2^64 - 1 each of them stays.
-#[derive(Clone, Copy, Debug)]
+#[derive(Clone, Copy)]
 pub(crate) struct Offset {
     pub(crate) rows: u64,
     pub(crate) columns: u64,
@@ -69,7 +69,7 @@ impl Offset {
 }
 
 /// How far items reach. At 2^64 - 1 each number stays.
-#[derive(Clone, Copy, Debug)]
+#[derive(Clone, Copy)]
 pub(crate) struct Extent {
     /// The greatest count.
     pub(crate) longest: u64,

@@ -10,7 +10,7 @@ ghost use Rattle.ca_rule.specs.inner.TableStored.{IsPartsFault};
 use crate::table::fault::TableFault;
 
 /// Why parts make no rule table.
-#[derive(Clone, Copy, Debug)]
+#[derive(Clone, Copy)]
 pub(crate) enum PartsFault {
     /// Nine zeros would turn into another state.
     Wakes,

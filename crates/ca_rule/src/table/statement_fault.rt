@@ -3,7 +3,7 @@
 use crate::table::fault::TableFault;
 
 /// What is wrong with a statement.
-#[derive(Clone, Copy, Debug)]
+#[derive(Clone, Copy)]
 pub(crate) enum StatementFault {
     /// The line is spelled neither as a variable's nor as a transition.
     Syntax,
