@@ -7,7 +7,8 @@ use Rattle.ca_quad.specs.Sound.{IsSound, Grows, HasParts}
 use Rattle.ca_quad.specs.declared.tree.Tree.{Tree}
 use Rattle.ca_quad.specs.Trees.{IsIn, Shows, AreFour, IsTree, from_corner, cell}
 use Rattle.ca_quad.specs.Trimmed.{IsTrimmed}
-use Rattle.ca_quad.specs.inner.Copied.{IsCopy, AreCopies}
+use Rattle.ca_quad.specs.Added.{IsCopy}
+use Rattle.ca_quad.specs.inner.Copied.{AreCopies}
 use Rattle.ca_quad.proofs.Shown.{shows_stays, shows_as, four_show_together, shown_together}
 use Rattle.ca_quad.proofs.Walks.{parts_show}
 

@@ -7,7 +7,7 @@ use Rattle.std.proofs.Math.Seq.{get_or-append_seam}
 use Rattle.std.specs.List.{list_any}
 use Rattle.std.proofs.lemmas.List.Folds.{list_any_at}
 use Rattle.std.specs.List.{slice_get}
-use Rattle.std.proofs.lemmas.Option.{get_or_from_slice_get}
+use Rattle.std.proofs.lemmas.Option.{get_or_from_slice_get, slice_get_within}
 use Rattle.indexmap.specs.IndexSet.{insert_key}
 use Rattle.ca_quad.specs.declared.named.Named.{Named}
 use Rattle.ca_quad.specs.declared.named.Named.TheVariants.{Cells2, Cells4, Kept}
@@ -15,7 +15,7 @@ use Rattle.ca_quad.specs.declared.node.Node.{Node}
 use Rattle.ca_quad.specs.declared.node.Node.TheVariants.{Leaf, Block, Join}
 use Rattle.ca_quad.specs.Squares.{named, kept, seen, shown, square_of, level, IsAmong}
 use Rattle.ca_quad.proofs.Nodes.{node_eq, node_eq-self, node_eq-same}
-use Rattle.ca_quad.specs.Sound.{IsGood, node_at, IsSound, Grows}
+use Rattle.ca_quad.specs.Sound.{IsGood, node_at, IsSound, Grows, AddsOnly}
 
 pub below_or_not : (a b : ℕ) → (a < b) ⊎ (b ≤ a)
 below_or_not a b = elim (leb_tells b a) [ inl e ↦ inr e.1 | inr e ↦ inl e.1 ]
@@ -117,6 +117,12 @@ module _ (nodes : List Node) (node : Node) (sound : IsSound nodes) (good : IsGoo
     kept = first;
   }
 
+  -- and then it is the only one that is added
+  pub adds_last : (at : ℕ) → at < length (nodes ++ node ∷ []) → node_at (nodes ++ node ∷ []) at ≡ node → AddsOnly nodes (nodes ++ node ∷ []) (kept at)
+  adds_last at h e place low high =
+      let here : place ≡ length nodes = omega (arith, longer) in
+      ap kept (once_at at place h high (e ∙ sym (ap (node_at (nodes ++ node ∷ [])) here ∙ last)))
+
 -- as it is
 pub grows_same : (nodes : List Node) → IsSound nodes → Grows nodes nodes
 grows_same nodes sound = record { sound = sound; longer = omega arith; kept = λ place h. refl }
@@ -134,6 +140,19 @@ put_grows nodes node sound good =
     elim (cases_Bool (list_any (node_eq node) nodes)) [
       | inl e ↦ rw e (grows_same nodes sound)
       | inr e ↦ rw e (grows_by nodes node sound good (λ place h f. true≢false (sym (list_any_at (node_eq node) nodes place (Leaf 0 0 0 0) h (rw f (node_eq-self node))) ∙ e)))
+    ]
+
+-- no other is put there
+pub put_adds : (nodes : List Node) (node found : Node) (at : ℕ) → IsSound nodes → IsGood nodes (length nodes) node
+    → slice_get (insert_key node_eq nodes node) at ≡ Some found → node_eq node found ≡ true → AddsOnly nodes (insert_key node_eq nodes node) (kept at)
+put_adds nodes node found at sound good stored same =
+    elim (cases_Bool (list_any (node_eq node) nodes)) [
+      | inl e ↦ rw e (λ place low high. absurd (omega arith))
+      | inr e ↦
+          let is : slice_get (nodes ++ node ∷ []) at ≡ Some found = rw e at stored in
+          rw e
+          (adds_last nodes node sound good (λ place h f. true≢false (sym (list_any_at (node_eq node) nodes place (Leaf 0 0 0 0) h (rw f (node_eq-self node))) ∙ e))
+          at (slice_get_within (nodes ++ node ∷ []) at found is) (get_or_from_slice_get (nodes ++ node ∷ []) at found (Leaf 0 0 0 0) is ∙ sym (node_eq-same node found same)))
     ]
 
 pub named_kept : (place : ℕ) → named (kept place) ≡ Kept place

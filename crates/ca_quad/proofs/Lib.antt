@@ -27,6 +27,7 @@ pub mod Shown
 pub mod Middle
 pub mod Trims
 pub mod Copied
+pub mod Added
 pub mod Bits
 pub mod Words
 pub mod MoreStates

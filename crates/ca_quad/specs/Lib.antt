@@ -4,4 +4,5 @@ pub mod Trees
 pub mod Boxes
 pub mod Expanded
 pub mod Trimmed
+pub mod Added
 pub mod inner

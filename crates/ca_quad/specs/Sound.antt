@@ -33,3 +33,7 @@ pub record Grows (old new : List Node) : Type 0 where
   pub sound : IsSound new
   pub longer : length old ≤ length new
   pub kept : (place : ℕ) → place < length old → node_at new place ≡ node_at old place
+
+-- no other square is added than the one with this id
+abbrev pub AddsOnly : List Node → List Node → ℕ → Type 0
+AddsOnly old new id = (place : ℕ) → length old ≤ place → place < length new → id ≡ kept place

@@ -3,7 +3,7 @@
 ghost use Rattle.std.specs.Prelude.{◌≡◌, ◌+◌, ◌≤◌, ◌<◌, [], length, IfOk, OnErr};
 ghost use Rattle.ca_quad.specs.declared.node.Node.TheVariants.{Block};
 ghost use Rattle.ca_quad.specs.Squares.{seen, shown_cells4, square_of};
-ghost use Rattle.ca_quad.specs.Sound.{IsSound, IsGood, Grows};
+ghost use Rattle.ca_quad.specs.Sound.{IsSound, IsGood, Grows, AddsOnly};
 ghost use Rattle.ca_quad.specs.Trees.{IsIn};
 ghost use Rattle.ca_quad.specs.inner.Whole.{IsWhole};
 
@@ -81,6 +81,7 @@ impl Store {
         ensures known { IfOk result (IsIn self.new) }
         ensures shows { IfOk result (λ id. square_of self.new id ≡ seen node) }
         ensures grows { Grows self.old self.new }
+        ensures added { IfOk result (AddsOnly self.old self.new) }
         ensures count { length self.new ≤ length self.old + 1 }
         ensures err { OnErr result (self.new ≡ self.old) }
     {

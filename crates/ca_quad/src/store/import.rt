@@ -5,7 +5,8 @@ ghost use Rattle.ca_quad.specs.Squares.{level_of};
 ghost use Rattle.ca_quad.specs.Sound.{Grows};
 ghost use Rattle.ca_quad.specs.Trees.{IsIn, IsTree, cell};
 ghost use Rattle.ca_quad.specs.Trimmed.{IsTrimmed};
-ghost use Rattle.ca_quad.specs.inner.Copied.{IsCopy, AreCopies};
+ghost use Rattle.ca_quad.specs.Added.{IsCopy, AddsCopies};
+ghost use Rattle.ca_quad.specs.inner.Copied.{AreCopies};
 
 use super::Store;
 use super::found::Found;
@@ -21,13 +22,15 @@ impl Store {
     ///
     /// # Errors
     ///
-    /// Fails where there is no memory for more squares, and may leave more squares in the store than before.
+    /// Fails where there is no memory for more squares, and may leave more squares in the store than before: copies of
+    /// squares of the tree, as on success.
     pub fn import(&mut self, from: &Store, tree: Tree) -> Result<Tree, Memory>
         requires tree { IsTree from.now tree }
         ensures tree { IfOk result (IsTree self.new) }
         ensures level { IfOk result (λ t. t.level ≡ tree.level) }
         ensures cells { IfOk result (λ t. (x y : ℤ) → cell self.new t x y ≡ cell from.now tree x y) }
         ensures trimmed { IsTrimmed from.now tree → IfOk result (IsTrimmed self.new) }
+        ensures added { AddsCopies from.now tree.root self.old self.new }
         ensures grows { Grows self.old self.new }
     {
         let alloc = *self.nodes.allocator();
@@ -44,6 +47,7 @@ impl Store {
         requires copies { AreCopies from.now self.old copies.old }
         ensures copy { IfOk result (IsCopy from.now self.new id) }
         ensures copies { OnOk result (AreCopies from.now self.new copies.new) }
+        ensures added { AddsCopies from.now id self.old self.new }
         ensures grows { Grows self.old self.new }
     {
         let _ = &self.nodes;

@@ -1,8 +1,8 @@
 //! Squares of 8 by 8 cells of two states, as eight rows.
 
-ghost use Rattle.std.specs.Prelude.{◌≡◌, ℕ, ◌+◌, ◌<◌, ◌≤◌, length, IfOk};
+ghost use Rattle.std.specs.Prelude.{◌≡◌, ℕ, ◌+◌, ◌<◌, ◌≤◌, length, IfOk, OnErr};
 ghost use Rattle.ca_quad.specs.Squares.{level_of, cell_of};
-ghost use Rattle.ca_quad.specs.Sound.{Grows};
+ghost use Rattle.ca_quad.specs.Sound.{Grows, AddsOnly};
 ghost use Rattle.ca_quad.specs.Trees.{IsIn, Shows, row_cells};
 
 use super::Store;
@@ -27,11 +27,13 @@ impl Store {
     ///
     /// # Errors
     ///
-    /// Fails where there is no memory for more squares, and may leave more squares in the store than before.
+    /// Fails where there is no memory for one more square, and then leaves the store as it was.
     pub fn from_leaf8(&mut self, rows: &[u8; 8]) -> Result<Id, Memory>
         ensures shows { IfOk result (λ id. Shows self.new id 3 (row_cells rows.now)) }
         ensures grows { Grows self.old self.new }
-        ensures count { length self.new ≤ length self.old + 21 }
+        ensures added { IfOk result (AddsOnly self.old self.new) }
+        ensures count { length self.new ≤ length self.old + 1 }
+        ensures err { OnErr result (self.new ≡ self.old) }
     {
         self.from_word(u64::from_le_bytes(*rows))
     }

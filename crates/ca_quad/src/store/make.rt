@@ -2,7 +2,7 @@
 
 ghost use Rattle.std.specs.Prelude.{◌≡◌, ℕ, suc, ◌+◌, ◌≤◌, ◌^◌, length, IfOk, OnErr};
 ghost use Rattle.ca_quad.specs.Squares.{dot, together, cell_of, IsOf};
-ghost use Rattle.ca_quad.specs.Sound.{Grows};
+ghost use Rattle.ca_quad.specs.Sound.{Grows, AddsOnly};
 ghost use Rattle.ca_quad.specs.Trees.{Shows, AreFour};
 
 use super::Store;
@@ -19,6 +19,7 @@ impl Store {
     pub fn leaf(&mut self, nw: u8, ne: u8, sw: u8, se: u8) -> Result<Id, Memory>
         ensures shows { IfOk result (λ id. Shows self.new id 1 (together 1 (dot nw) (dot ne) (dot sw) (dot se))) }
         ensures grows { Grows self.old self.new }
+        ensures added { IfOk result (AddsOnly self.old self.new) }
         ensures count { length self.new ≤ length self.old + 1 }
         ensures err { OnErr result (self.new ≡ self.old) }
     {
@@ -39,6 +40,7 @@ impl Store {
         ensures shows { (level : ℕ) → IsOf self.old nw level → IfOk result (λ id. Shows self.new id (suc level)
             (together (2 ^ level) (cell_of self.old level nw) (cell_of self.old level ne) (cell_of self.old level sw) (cell_of self.old level se))) }
         ensures grows { Grows self.old self.new }
+        ensures added { IfOk result (AddsOnly self.old self.new) }
         ensures count { length self.new ≤ length self.old + 1 }
         ensures err { OnErr result (self.new ≡ self.old) }
     {

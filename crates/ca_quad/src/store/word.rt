@@ -2,7 +2,7 @@
 
 ghost use Rattle.std.specs.Prelude.{◌≡◌, ℕ, ◌+◌, ◌≤◌, length, IfOk, OnErr, MatchOption};
 ghost use Rattle.ca_quad.specs.Squares.{level_of, cell_of};
-ghost use Rattle.ca_quad.specs.Sound.{Grows};
+ghost use Rattle.ca_quad.specs.Sound.{Grows, AddsOnly};
 ghost use Rattle.ca_quad.specs.Trees.{IsIn, Shows, word_cells, HasMoreStates};
 
 use super::Store;
@@ -31,6 +31,7 @@ impl Store {
     pub fn from_word(&mut self, word: u64) -> Result<Id, Memory>
         ensures shows { IfOk result (λ id. Shows self.new id 3 (word_cells word)) }
         ensures grows { Grows self.old self.new }
+        ensures added { IfOk result (AddsOnly self.old self.new) }
         ensures count { length self.new ≤ length self.old + 1 }
         ensures err { OnErr result (self.new ≡ self.old) }
     {

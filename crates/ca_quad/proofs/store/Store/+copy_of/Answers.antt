@@ -1,7 +1,8 @@
-use Rattle.std.proofs.Common.{sym, subst}
+use Rattle.std.proofs.Common.{inl, refl, rules, sym, subst}
 use Rattle.ca_quad.specs.Sound.{IsSound}
-use Rattle.ca_quad.specs.inner.Copied.{IsCopy}
+use Rattle.ca_quad.specs.Added.{IsPartOf, IsCopy}
 use Rattle.ca_quad.proofs.Copied.{copies_stay, still_copies, parts_four, parts_copied}
+use Rattle.ca_quad.proofs.Added.{none_added, added_on, added_in_part, ok_added, one_added, added_two, added_three, added_four}
 use Rattle.ca_quad.proofs.Filled.{grows_five}
 use Rattle.ca_quad.proofs.Population.{found_more}
 use Rattle.ca_quad.proofs.store.Store.+copy_of.Goals as goal
@@ -36,5 +37,67 @@ returns-in_ok-put-in-Parts-clause-copies t c =
 
 pub returns-in_ok-put-in-Parts-clause-grows : goal.returns-in_ok-put-in-Parts-clause-grows
 returns-in_ok-put-in-Parts-clause-grows t c =
+    grows_five c.args.self.now c.copy_of.new.self c.copy_of-in-Parts.new.self c.copy_of-in-Parts-2.new.self c.copy_of.ensures.grows c.copy_of-in-Parts.ensures.grows c.copy_of-in-Parts-2.ensures.grows
+    c.copy_of-in-Parts-3.new.self c.join.new.self c.copy_of-in-Parts-3.ensures.grows c.join.ensures.grows
+
+pub returns-in-Four-clause-copy : goal.returns-in-Four-clause-copy
+returns-in-Four-clause-copy t c = search rules
+
+pub returns-in-Four-clause-added : goal.returns-in-Four-clause-added
+returns-in-Four-clause-added t c =
+    one_added c.args.from.now c.args.id c.args.self.now c.leaf.new.self c.leaf.result c.leaf.ensures.added (returns-in-Four-clause-copy t c) c.leaf.ensures.err
+
+pub returns-in_err-nw-in-Parts-clause-added : goal.returns-in_err-nw-in-Parts-clause-added
+returns-in_err-nw-in-Parts-clause-added t c =
+    added_in_part c.args.from.now c.args.id c.in-Parts.nw c.args.self.now c.copy_of.new.self (subst (λ s. IsPartOf s c.in-Parts.nw) c.in-Parts.ensures.shows (inl refl)) c.copy_of.ensures.added
+
+pub returns-in_err-ne-in-Parts-clause-added : goal.returns-in_err-ne-in-Parts-clause-added
+returns-in_err-ne-in-Parts-clause-added t c =
+    added_two c.args.from.now c.args.id c.in-Parts.field-0 c.in-Parts.nw c.in-Parts.ne c.in-Parts.sw c.in-Parts.se c.in-Parts.ensures.shows
+    c.args.self.now c.copy_of.new.self c.copy_of-in-Parts.new.self c.copy_of.ensures.grows c.copy_of-in-Parts.ensures.grows c.copy_of.ensures.added c.copy_of-in-Parts.ensures.added
+
+pub returns-in_err-sw-in-Parts-clause-added : goal.returns-in_err-sw-in-Parts-clause-added
+returns-in_err-sw-in-Parts-clause-added t c =
+    added_three c.args.from.now c.args.id c.in-Parts.field-0 c.in-Parts.nw c.in-Parts.ne c.in-Parts.sw c.in-Parts.se c.in-Parts.ensures.shows
+    c.args.self.now c.copy_of.new.self c.copy_of-in-Parts.new.self c.copy_of.ensures.grows c.copy_of-in-Parts.ensures.grows c.copy_of.ensures.added c.copy_of-in-Parts.ensures.added
+    c.copy_of-in-Parts-2.new.self c.copy_of-in-Parts-2.ensures.grows c.copy_of-in-Parts-2.ensures.added
+
+pub returns-in_err-se-in-Parts-clause-added : goal.returns-in_err-se-in-Parts-clause-added
+returns-in_err-se-in-Parts-clause-added t c =
+    added_four c.args.from.now c.args.id c.in-Parts.field-0 c.in-Parts.nw c.in-Parts.ne c.in-Parts.sw c.in-Parts.se c.in-Parts.ensures.shows
+    c.args.self.now c.copy_of.new.self c.copy_of-in-Parts.new.self c.copy_of.ensures.grows c.copy_of-in-Parts.ensures.grows c.copy_of.ensures.added c.copy_of-in-Parts.ensures.added
+    c.copy_of-in-Parts-2.new.self c.copy_of-in-Parts-3.new.self c.copy_of-in-Parts-2.ensures.grows c.copy_of-in-Parts-3.ensures.grows c.copy_of-in-Parts-2.ensures.added c.copy_of-in-Parts-3.ensures.added
+
+pub returns-in_err-copy-in-Parts-clause-added : goal.returns-in_err-copy-in-Parts-clause-added
+returns-in_err-copy-in-Parts-clause-added t c =
+    added_on c.args.from.now c.args.id c.args.self.now c.copy_of-in-Parts-3.new.self c.join.new.self c.copy_of-in-Parts-3.ensures.grows.sound c.join.ensures.grows
+    (added_four c.args.from.now c.args.id c.in-Parts.field-0 c.in-Parts.nw c.in-Parts.ne c.in-Parts.sw c.in-Parts.se c.in-Parts.ensures.shows
+    c.args.self.now c.copy_of.new.self c.copy_of-in-Parts.new.self c.copy_of.ensures.grows c.copy_of-in-Parts.ensures.grows c.copy_of.ensures.added c.copy_of-in-Parts.ensures.added
+    c.copy_of-in-Parts-2.new.self c.copy_of-in-Parts-3.new.self c.copy_of-in-Parts-2.ensures.grows c.copy_of-in-Parts-3.ensures.grows c.copy_of-in-Parts-2.ensures.added c.copy_of-in-Parts-3.ensures.added)
+    (none_added c.args.from.now c.args.id c.copy_of-in-Parts-3.new.self c.join.new.self c.in_err-copy-in-Parts.ensures.err)
+
+pub returns-in_err-put-in-Parts-clause-added : goal.returns-in_err-put-in-Parts-clause-added
+returns-in_err-put-in-Parts-clause-added t c =
+    added_on c.args.from.now c.args.id c.args.self.now c.copy_of-in-Parts-3.new.self c.join.new.self c.copy_of-in-Parts-3.ensures.grows.sound c.join.ensures.grows
+    (added_four c.args.from.now c.args.id c.in-Parts.field-0 c.in-Parts.nw c.in-Parts.ne c.in-Parts.sw c.in-Parts.se c.in-Parts.ensures.shows
+    c.args.self.now c.copy_of.new.self c.copy_of-in-Parts.new.self c.copy_of.ensures.grows c.copy_of-in-Parts.ensures.grows c.copy_of.ensures.added c.copy_of-in-Parts.ensures.added
+    c.copy_of-in-Parts-2.new.self c.copy_of-in-Parts-3.new.self c.copy_of-in-Parts-2.ensures.grows c.copy_of-in-Parts-3.ensures.grows c.copy_of-in-Parts-2.ensures.added c.copy_of-in-Parts-3.ensures.added)
+    (ok_added c.args.from.now c.args.id c.copy_of-in-Parts-3.new.self c.join.new.self c.in_ok-copy-in-Parts.copy c.in_ok-copy-in-Parts.ensures.added
+    (parts_copied c.args.from.now c.copy_of.new.self c.copy_of-in-Parts.new.self c.copy_of-in-Parts-2.new.self c.copy_of-in-Parts-3.new.self c.copy_of.ensures.grows.sound c.copy_of-in-Parts.ensures.grows c.copy_of-in-Parts-2.ensures.grows c.copy_of-in-Parts-3.ensures.grows
+    c.args.id c.in-Parts.field-0 c.in-Parts.nw c.in-Parts.ne c.in-Parts.sw c.in-Parts.se c.requires.known c.in-Parts.ensures.shows c.in-Parts.ensures.whole
+    c.in_ok-nw-in-Parts.nw c.in_ok-ne-in-Parts.ne c.in_ok-sw-in-Parts.sw c.in_ok-se-in-Parts.se c.in_ok-nw-in-Parts.ensures.copy c.in_ok-ne-in-Parts.ensures.copy c.in_ok-sw-in-Parts.ensures.copy c.in_ok-se-in-Parts.ensures.copy
+    c.join.new.self c.in_ok-copy-in-Parts.copy c.in_ok-copy-in-Parts.ensures.shows))
+
+pub returns-in_ok-put-in-Parts-clause-added : goal.returns-in_ok-put-in-Parts-clause-added
+returns-in_ok-put-in-Parts-clause-added t c =
+    added_on c.args.from.now c.args.id c.args.self.now c.copy_of-in-Parts-3.new.self c.join.new.self c.copy_of-in-Parts-3.ensures.grows.sound c.join.ensures.grows
+    (added_four c.args.from.now c.args.id c.in-Parts.field-0 c.in-Parts.nw c.in-Parts.ne c.in-Parts.sw c.in-Parts.se c.in-Parts.ensures.shows
+    c.args.self.now c.copy_of.new.self c.copy_of-in-Parts.new.self c.copy_of.ensures.grows c.copy_of-in-Parts.ensures.grows c.copy_of.ensures.added c.copy_of-in-Parts.ensures.added
+    c.copy_of-in-Parts-2.new.self c.copy_of-in-Parts-3.new.self c.copy_of-in-Parts-2.ensures.grows c.copy_of-in-Parts-3.ensures.grows c.copy_of-in-Parts-2.ensures.added c.copy_of-in-Parts-3.ensures.added)
+    (ok_added c.args.from.now c.args.id c.copy_of-in-Parts-3.new.self c.join.new.self c.in_ok-copy-in-Parts.copy c.in_ok-copy-in-Parts.ensures.added
+    (returns-in_ok-put-in-Parts-clause-copy t c))
+
+pub returns-in_err-put-in-Parts-clause-grows : goal.returns-in_err-put-in-Parts-clause-grows
+returns-in_err-put-in-Parts-clause-grows t c =
     grows_five c.args.self.now c.copy_of.new.self c.copy_of-in-Parts.new.self c.copy_of-in-Parts-2.new.self c.copy_of.ensures.grows c.copy_of-in-Parts.ensures.grows c.copy_of-in-Parts-2.ensures.grows
     c.copy_of-in-Parts-3.new.self c.join.new.self c.copy_of-in-Parts-3.ensures.grows c.join.ensures.grows
