@@ -9,7 +9,8 @@ use Rattle.ca_quad.specs.declared.tree.Tree.{Tree}
 use Rattle.ca_quad.specs.Trees.{cell}
 use Rattle.ca_run.specs.Centre.{later}
 use Rattle.ca_run.specs.inner.Shown.{ShowsAt}
-use Rattle.ca_run.specs.inner.Words.{WordsShow, GoesBy}
+use Rattle.ca_run.specs.inner.Words.{WordsShow}
+use Rattle.ca_run.specs.Masks.{GoesBy}
 use Rattle.ca_run.specs.inner.Grid.{word_in, row_in, round_corner, Follows, Keeps, GridShows, EndsAt, DiesBeyond, corner, eight}
 use Rattle.ca_run.proofs.Words.{word_from, word_of_same}
 use Rattle.ca_run.proofs.Laters.{later_again}

@@ -7,7 +7,8 @@ use Rattle.ca_quad.specs.Sound.{IsSound, Grows}
 use Rattle.ca_quad.specs.Trees.{from_corner, word_cells, HasMoreStates}
 use Rattle.ca_run.specs.Centre.{later, IsCentre}
 use Rattle.ca_run.specs.inner.Shown.{ShowsAt, side}
-use Rattle.ca_run.specs.inner.Words.{WordShows, GoesBy}
+use Rattle.ca_run.specs.inner.Words.{WordShows}
+use Rattle.ca_run.specs.Masks.{GoesBy}
 use Rattle.ca_run.proofs.Shown.{is_centre_at}
 
 -- the word of a square that shows a plane shows it

@@ -15,9 +15,9 @@ use Rattle.ca_run.specs.declared.leaper.trio.Trio.{Trio}
 use Rattle.ca_run.specs.Centre.{later, centre, IsCentre}
 use Rattle.ca_run.specs.Leaping.{Leaping, GoesOn}
 use Rattle.ca_run.specs.inner.Shown.{Looks, ShowsAt, FourShow, ThreeShow, TwoShow, AreThree, side}
-use Rattle.ca_run.specs.inner.Memo.{remembered, AreCentres, IsLeaper}
-use Rattle.ca_run.specs.inner.Farthest.{Has, AreFarthest}
-use Rattle.ca_run.specs.inner.Recent.{Keeps, KeepsCentres}
+use Rattle.ca_run.specs.Memo.{remembered, AreCentres, IsLeaper}
+use Rattle.ca_run.specs.Farthest.{Has, AreFarthest}
+use Rattle.ca_run.specs.Recent.{Keeps, KeepsCentres}
 use Rattle.ca_run.proofs.Laters.{later_again}
 use Rattle.ca_run.proofs.Looks.{looks_from, looks_together, looks_nw, looks_ne, looks_sw, looks_se, looks_centre}
 

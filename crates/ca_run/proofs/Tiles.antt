@@ -23,7 +23,8 @@ use Rattle.ca_quad.proofs.Walks.{in_nw, in_ne, in_sw, in_se}
 use Rattle.ca_run.specs.declared.leaper.words.Words.{Words}
 use Rattle.ca_run.specs.Centre.{later}
 use Rattle.ca_run.specs.Lanes.{tile_cell, IsWithinEdge}
-use Rattle.ca_run.specs.inner.Words.{WordShows, WordsShow, TileShows, GoesBy, byte_of, bytes_at, inner_byte}
+use Rattle.ca_run.specs.inner.Words.{WordShows, WordsShow, TileShows, byte_of, bytes_at, inner_byte}
+use Rattle.ca_run.specs.Masks.{GoesBy}
 use Rattle.ca_run.proofs.Rounds.{IsRound, around-same}
 use Rattle.ca_run.proofs.Laters.{around-seen}
 use Rattle.ca_run.proofs.Looks.{looks_together}

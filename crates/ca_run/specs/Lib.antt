@@ -3,4 +3,8 @@ pub mod Later
 pub mod Centre
 pub mod Leaping
 pub mod Lanes
+pub mod Masks
+pub mod Farthest
+pub mod Recent
+pub mod Memo
 pub mod inner

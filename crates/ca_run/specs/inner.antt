@@ -7,7 +7,4 @@ pub mod Written
 pub mod Shown
 pub mod Words
 pub mod Grid
-pub mod Recent
-pub mod Farthest
-pub mod Memo
 pub mod Tiles

@@ -49,7 +49,7 @@ pub struct Leaper<A: Automaton> {
 
 impl<A: Automaton> Model for Leaper<A> {
     ghost use Rattle.ca_run.specs.Leaping.{Leaping};
-    ghost use Rattle.ca_run.specs.inner.Memo.{IsLeaper};
+    ghost use Rattle.ca_run.specs.Memo.{IsLeaper};
 
     ghost Value = { Leaping A };
 

@@ -4,7 +4,8 @@ use Rattle.std.specs.Prelude.{◌≡◌, ℕ, ◌+◌, ◌-◌, ◌*◌, ◌/◌
 use Rattle.ca_run.specs.Centre.{later}
 use Rattle.ca_run.specs.declared.leaper.words.Words.{Words}
 use Rattle.ca_run.specs.declared.leaper.grid.Place.{Place}
-use Rattle.ca_run.specs.inner.Words.{WordShows, WordsShow, GoesBy}
+use Rattle.ca_run.specs.inner.Words.{WordShows, WordsShow}
+use Rattle.ca_run.specs.Masks.{GoesBy}
 
 -- the word at a place of a row
 abbrev pub word_in : List ℕ → ℤ → ℕ

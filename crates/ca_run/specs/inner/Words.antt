@@ -2,7 +2,6 @@
 -- from the top, of which bit 0 is the western-most cell.
 use Rattle.std.specs.Prelude.{◌≡◌, ℕ, ◌+◌, ◌-◌, ◌*◌, ◌/◌, ◌%◌, ◌^◌, ◌<◌, ◌≤◌, ℤ, pos, ◌+ℤ◌, List}
 use Rattle.std.specs.Prelude.{nat_lt, if◌then◌else◌, slice_index}
-use Rattle.ca_plane.specs.Moore.{IsMoore}
 use Rattle.ca_quad.specs.Trees.{row_cells, word_cells}
 use Rattle.ca_run.specs.declared.leaper.words.Words.{Words}
 use Rattle.ca_run.specs.declared.leaper.wide.ThreeWords.{ThreeWords}
@@ -48,11 +47,6 @@ pub record WideShows (wide : Wide) (p : ℤ → ℤ → ℕ) (a b : ℤ) : Type 
 -- the tile shows the plane from (a, b) on, but for so many rows and columns at each of its sides
 pub record TileShows (rows : List ℕ) (margin : ℕ) (p : ℤ → ℤ → ℕ) (a b : ℤ) : Type 0 where
   pub looks : (x y : ℕ) → margin ≤ x → x + margin < 16 → margin ≤ y → y + margin < 16 → row_cells rows x y ≡ p (a +ℤ pos x) (b +ℤ pos y)
-
--- the rule has two states, and goes by the masks
-pub record GoesBy (next : List ℕ → ℕ) (masks : ℕ × ℕ) : Type 0 where
-  pub states : ℕ
-  pub is_moore : IsMoore states next masks.0 masks.1
 
 -- the byte of a word at a place, the lowest at place 0: a row of its cells
 abbrev pub byte_of : ℕ → ℕ → ℕ

@@ -4,7 +4,7 @@ ghost use Rattle.std.specs.Prelude.{◌≡◌, ℕ, ◌+◌, ◌*◌, ◌/◌, �
 ghost use Rattle.ca_quad.specs.Trees.{IsTree, cell};
 ghost use Rattle.ca_run.specs.Centre.{later};
 ghost use Rattle.ca_run.specs.Leaping.{GoesOn};
-ghost use Rattle.ca_run.specs.inner.Words.{GoesBy};
+ghost use Rattle.ca_run.specs.Masks.{GoesBy};
 ghost use Rattle.ca_run.specs.inner.Grid.{GridShows, IsAsNarrow, corner, DiesBeyond};
 
 use super::Leaper;

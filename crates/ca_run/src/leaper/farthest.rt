@@ -1,7 +1,7 @@
 //! The results that are asked for most: they are found without a search.
 
 ghost use Rattle.std.specs.Prelude.{◌≡◌, ◌⊎◌, ◌<◌, ◌^◌, ℕ, [], length, IfSome, OnOk};
-ghost use Rattle.ca_run.specs.inner.Farthest.{Has};
+ghost use Rattle.ca_run.specs.Farthest.{Has};
 
 use ca_plane::Memory;
 use ca_quad::Id;

@@ -1,7 +1,7 @@
 //! The results that a leaper remembers.
 
 ghost use Rattle.std.specs.Prelude.{◌≡◌, ℕ, ◌==◌, ◌&&◌, None, Some, cond, OnOk, OnErr};
-ghost use Rattle.ca_run.specs.inner.Memo.{remembered};
+ghost use Rattle.ca_run.specs.Memo.{remembered};
 
 use ca_plane::Memory;
 use ca_quad::Id;

@@ -1,7 +1,7 @@
 //! Results that cost little: a table of bounded size remembers them, and may drop any.
 
 ghost use Rattle.std.specs.Prelude.{◌≡◌, ℕ, ◌⊎◌, ◌<◌, [], length, IfSome};
-ghost use Rattle.ca_run.specs.inner.Recent.{Keeps};
+ghost use Rattle.ca_run.specs.Recent.{Keeps};
 
 use ca_quad::Id;
 use std::alloc::Global;

@@ -2,7 +2,8 @@
 
 ghost use Rattle.std.specs.Prelude.{◌≡◌, ℕ, ◌/◌, ◌%◌, ◌<◌, ℤ, pos, ◌+ℤ◌, List, length, slice_index};
 ghost use Rattle.ca_run.specs.Centre.{later};
-ghost use Rattle.ca_run.specs.inner.Words.{WordShows, WordsShow, TileShows, GoesBy, bytes_at};
+ghost use Rattle.ca_run.specs.inner.Words.{WordShows, WordsShow, TileShows, bytes_at};
+ghost use Rattle.ca_run.specs.Masks.{GoesBy};
 
 use super::words::Words;
 use crate::kernel::{Bits, next_tile};

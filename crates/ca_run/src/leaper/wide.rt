@@ -2,7 +2,8 @@
 
 ghost use Rattle.std.specs.Prelude.{ℕ, ◌+◌, ◌≤◌, ℤ, pos, ◌+ℤ◌, List};
 ghost use Rattle.ca_run.specs.Centre.{later};
-ghost use Rattle.ca_run.specs.inner.Words.{WordsShow, TwoWordsShow, ThreeWordsShow, NineWordsShow, WideShows, GoesBy};
+ghost use Rattle.ca_run.specs.inner.Words.{WordsShow, TwoWordsShow, ThreeWordsShow, NineWordsShow, WideShows};
+ghost use Rattle.ca_run.specs.Masks.{GoesBy};
 
 use super::words::Words;
 

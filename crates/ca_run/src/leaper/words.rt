@@ -3,7 +3,8 @@
 ghost use Rattle.std.specs.Prelude.{◌≡◌, ◌↔◌, true, ℕ, ◌≤◌, ℤ, pos, ◌+ℤ◌, List};
 ghost use Rattle.ca_run.specs.Centre.{later};
 ghost use Rattle.ca_run.specs.inner.Grid.{HasNone};
-ghost use Rattle.ca_run.specs.inner.Words.{WordShows, WordsShow, GoesBy};
+ghost use Rattle.ca_run.specs.inner.Words.{WordShows, WordsShow};
+ghost use Rattle.ca_run.specs.Masks.{GoesBy};
 
 use super::tile::{later_tile, middle, tile_of};
 

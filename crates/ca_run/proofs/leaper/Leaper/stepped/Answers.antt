@@ -3,7 +3,7 @@ use Rattle.std.specs.Prelude.{pos, neg_ℤ, replicate}
 use Rattle.std.proofs.Math.Nat.{two-pow-succ}
 use Rattle.ca_quad.specs.Trees.{cell}
 use Rattle.ca_run.specs.inner.Shown.{ShowsAt}
-use Rattle.ca_run.specs.inner.Words.{GoesBy}
+use Rattle.ca_run.specs.Masks.{GoesBy}
 use Rattle.ca_run.specs.Centre.{later}
 use Rattle.ca_run.specs.inner.Grid.{GridShows}
 use Rattle.ca_run.proofs.Lanes.{goes_by_masks}

@@ -3,7 +3,8 @@ use Rattle.std.specs.Prelude.{◌+ℤ◌, pos}
 use Rattle.std.proofs.lemmas.Bool.Decides.{nat_tests}
 use Rattle.ca_run.specs.Centre.{later}
 use Rattle.ca_run.specs.inner.Shown.{ShowsAt, side}
-use Rattle.ca_run.specs.inner.Words.{WordsShow, GoesBy}
+use Rattle.ca_run.specs.inner.Words.{WordsShow}
+use Rattle.ca_run.specs.Masks.{GoesBy}
 use Rattle.ca_run.proofs.Lanes.{goes_by_masks}
 use Rattle.ca_run.proofs.leaper.Leaper.wide_centre.Goals as goal
 

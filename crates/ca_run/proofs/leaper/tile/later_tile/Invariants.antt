@@ -1,7 +1,8 @@
 use Rattle.std.proofs.Common.{ℕ, List}
 use Rattle.std.specs.Prelude.{ℤ}
 use Rattle.ca_run.specs.Centre.{later}
-use Rattle.ca_run.specs.inner.Words.{TileShows, GoesBy}
+use Rattle.ca_run.specs.inner.Words.{TileShows}
+use Rattle.ca_run.specs.Masks.{GoesBy}
 use Rattle.ca_run.proofs.leaper.tile.later_tile.Given as goal
 
 -- as many generations on as were counted

@@ -1,7 +1,7 @@
 use Rattle.std.proofs.Common.{◌≡◌, ℕ, ◌+◌, ◌*◌, ◌^◌, List}
 use Rattle.std.specs.Prelude.{ℤ, pos, ◌-ℤ◌, replicate}
 use Rattle.ca_run.specs.Centre.{later}
-use Rattle.ca_run.specs.inner.Words.{GoesBy}
+use Rattle.ca_run.specs.Masks.{GoesBy}
 use Rattle.ca_run.specs.inner.Grid.{GridShows, IsAsNarrow, Keeps}
 use Rattle.ca_run.proofs.leaper.grid.Grid.by_fours.Given as goal
 

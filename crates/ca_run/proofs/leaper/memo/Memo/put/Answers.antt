@@ -1,5 +1,5 @@
 use Rattle.std.proofs.Common.{◌≡◌, ◌==◌, ◌&&◌, Some, cond, subst}
-use Rattle.ca_run.specs.inner.Memo.{remembered}
+use Rattle.ca_run.specs.Memo.{remembered}
 use Rattle.ca_run.proofs.leaper.memo.Memo.put.Goals as goal
 
 pub returns-clause-ok : goal.returns-clause-ok

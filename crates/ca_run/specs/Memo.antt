@@ -4,9 +4,9 @@ use Rattle.std.specs.Map.{lookup}
 use Rattle.ca_quad.specs.declared.node.Node.{Node}
 use Rattle.ca_quad.specs.Sound.{IsSound}
 use Rattle.ca_run.specs.Centre.{IsCentre}
-use Rattle.ca_run.specs.inner.Farthest.{AreFarthest}
-use Rattle.ca_run.specs.inner.Recent.{KeepsCentres}
-use Rattle.ca_run.specs.inner.Words.{GoesBy}
+use Rattle.ca_run.specs.Farthest.{AreFarthest}
+use Rattle.ca_run.specs.Recent.{KeepsCentres}
+use Rattle.ca_run.specs.Masks.{GoesBy}
 
 -- what is remembered for a square after 2 ^ j generations, if anything
 abbrev pub remembered : List ((ℕ × ℕ) × ℕ) → ℕ → ℕ → Option ℕ
