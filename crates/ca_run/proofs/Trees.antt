@@ -1,8 +1,8 @@
 -- Trees that leap: what they show, and where all stays empty.
-use Rattle.std.proofs.Common.{◌≡◌, ℕ, suc, ◌+◌, ◌-◌, ◌*◌, ◌/◌, ◌%◌, ◌≤◌, ◌^◌, inl, inr, Option, Some, None, IfSome, List, refl, sym, ap, ap₂, subst, ◌∙◌, arith}
+use Rattle.std.proofs.Common.{◌≡◌, ℕ, suc, ◌+◌, ◌-◌, ◌*◌, ◌/◌, ◌%◌, ◌<◌, ◌≤◌, ◌^◌, inl, inr, Option, Some, None, IfSome, List, refl, sym, ap, ap₂, subst, ◌∙◌, arith}
 use Rattle.std.specs.Prelude.{ℤ, pos, negsuc, neg_ℤ, ◌+ℤ◌, ◌≤ℤ◌, replicate}
 use Rattle.std.proofs.lemmas.Int.{ints}
-use Rattle.std.proofs.Math.Nat.{two-pow-succ}
+use Rattle.std.proofs.Math.Nat.{two-pow-succ, pow-le-pow_right}
 use Rattle.std.proofs.Math.Pow.{pow_mono}
 use Rattle.std.proofs.lemmas.Nat.{mod-pow-add}
 use Rattle.ca_quad.specs.declared.node.Node.{Node}
@@ -123,6 +123,14 @@ no_digit n j digit = sym (mod-pow-add n 1 j ∙ (ap (λ d. d * 2 ^ j + n % 2 ^ j
 pub tree_stays : (old new : List Node) → IsSound old → Grows old new → (tree : Tree) → IsTree old tree → (x y : ℤ) → cell new tree x y ≡ cell old tree x y
 tree_stays old new sound grows tree h x y =
     ap (λ f. from_corner f (x +ℤ pos (2 ^ (tree.level - 1))) (y +ℤ pos (2 ^ (tree.level - 1)))) (cells_stay old new sound grows tree.level tree.root h)
+
+-- a shifted two is a power of two, where no bit is lost
+pub shifted_two : (j : ℕ) → j < 60 → 2 * 2 ^ j % 18446744073709551616 ≡ 2 ^ (1 + j)
+shifted_two j h =
+    let low : 2 ^ j ≤ 2 ^ 60 = pow-le-pow_right {n = 2} (omega arith) {i = j} {j = 60} (omega arith) in
+    let one : 1 + j ≡ suc j = omega arith in
+    let power : 2 ^ (1 + j) ≡ 2 ^ j + 2 ^ j = ap (λ m. 2 ^ m) one ∙ two-pow-succ j in
+    omega (arith, low, power)
 
 -- what holds of a place holds in other words
 pub some_as : {X : Type 0} (r : Option X) (P Q : X → Type 0) → ((x : X) → P x → Q x) → IfSome r P → IfSome r Q

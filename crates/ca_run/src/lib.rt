@@ -14,7 +14,7 @@ mod window;
 pub use fault::{LeapFault, RunFault};
 pub use generations::{step, steps};
 pub use kernel::kernel16;
-pub use leaper::Leaper;
+pub use leaper::{Leaper, Milestone};
 pub use watch::{Unwatched, Watch};
 
 #[cfg(test)]

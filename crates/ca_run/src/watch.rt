@@ -1,9 +1,11 @@
 //! Those who watch a long run.
 
+use crate::leaper::Milestone;
+
 /// Is told how far a run of generations is, while it lasts.
 pub trait Watch {
-    /// So many of the generations that were asked for are reached.
-    fn reached(&mut self, generations: u64);
+    /// The run has reached this many of the generations that were asked for.
+    fn reached(&mut self, run: Milestone);
 }
 
 /// Watches nothing.
@@ -11,7 +13,7 @@ pub trait Watch {
 pub struct Unwatched;
 
 impl Watch for Unwatched {
-    fn reached(&mut self, generations: u64) {
-        let _ = generations;
+    fn reached(&mut self, run: Milestone) {
+        let _ = run;
     }
 }

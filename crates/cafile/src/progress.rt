@@ -3,7 +3,7 @@
 use ca_claims::Observer;
 use ca_plane::text::{push_number, push_text};
 use ca_plane::{Dev, Memory, send};
-use ca_run::Watch;
+use ca_run::{Milestone, Watch};
 use std::rt::{Clock, Stderr};
 use std::time::Instant;
 
@@ -81,8 +81,8 @@ fn generations_word<'a>(generations: u64) -> &'a [u8] {
 }
 
 impl<R: Clock + AllocGlobal> Watch for Progress<'_, R> {
-    fn reached(&mut self, generations: u64) {
-        self.show(generations);
+    fn reached(&mut self, run: Milestone) {
+        self.show(run.generations());
     }
 }
 

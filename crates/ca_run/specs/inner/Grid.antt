@@ -70,6 +70,16 @@ pub record IsNear (words : ℕ) (at : Place) : Type 0 where
 pub record GridShows (rows : List (List ℕ)) (p : ℤ → ℤ → ℕ) (a b : ℤ) : Type 0 where
   pub words : (i j : ℤ) → WordShows (word_in (row_in rows j) i) p (a +ℤ eight i) (b +ℤ eight j)
 
+-- the rows show the whole plane, wherever they begin
+abbrev pub IsShown : List (List ℕ) → (ℤ → ℤ → ℕ) → Type 0
+IsShown rows p = (a : ℤ) × (b : ℤ) × GridShows rows p a b
+
+-- the rows show a plane whose rule goes by the masks
+pub record Begins (next : List ℕ → ℕ) (masks : ℕ × ℕ) (rows : List (List ℕ)) (p : ℤ → ℤ → ℕ) : Type 0 where
+  pub by_masks : GoesBy next masks
+  pub quiet : next (replicate 9 0) ≡ 0
+  pub shows : IsShown rows p
+
 -- a row shows its part of the plane: its first word from (a, b) on
 abbrev pub LineShows : List ℕ → (ℤ → ℤ → ℕ) → ℤ → ℤ → Type 0
 LineShows line p a b = (i : ℤ) → WordShows (word_in line i) p (a +ℤ eight i) b

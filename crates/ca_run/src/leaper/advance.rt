@@ -6,7 +6,7 @@ ghost use Rattle.ca_quad.specs.Trees.{IsTree, cell};
 ghost use Rattle.ca_run.specs.Centre.{later};
 ghost use Rattle.ca_run.specs.Leaping.{GoesOn};
 
-use super::Leaper;
+use super::{Leaper, Milestone};
 use crate::fault::LeapFault;
 use crate::watch::{Unwatched, Watch};
 use ca_plane::{Automaton, Memory};
@@ -82,7 +82,7 @@ impl<A: Automaton> Leaper<A> {
         'digits: for j in 0..60 {
             if (n >> j) % 2 == 1 {
                 now = self.leap(now, j)?;
-                watch.reached(n % (2 << j));
+                watch.reached(Milestone::by_tree(self, &tree, &now, n % (2 << j)));
             }
         }
         Ok(now)

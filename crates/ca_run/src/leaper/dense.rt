@@ -5,10 +5,10 @@ ghost use Rattle.ca_quad.specs.Trees.{IsTree, cell};
 ghost use Rattle.ca_run.specs.Centre.{later};
 ghost use Rattle.ca_run.specs.Leaping.{GoesOn};
 ghost use Rattle.ca_run.specs.Masks.{GoesBy};
-ghost use Rattle.ca_run.specs.inner.Grid.{GridShows, IsAsNarrow, corner, DiesBeyond};
+ghost use Rattle.ca_run.specs.inner.Grid.{GridShows, Begins, IsAsNarrow, corner, DiesBeyond};
 
-use super::Leaper;
 use super::grid::{Grid, Place};
+use super::{Leaper, Milestone};
 use crate::watch::Watch;
 use ca_plane::{Automaton, Memory};
 use ca_quad::Tree;
@@ -48,7 +48,7 @@ impl<A: Automaton> Leaper<A> {
         match self.grid(alloc, tree.root, tree.level - 3)? {
             None => Ok(None),
             Some(grid) => {
-                let later = grid.later(alloc, masks, n, watch)?;
+                let later = grid.later(alloc, masks, n, self, &tree, watch)?;
                 Ok(Some(self.centred(&later, tree.level, n)?))
             }
         }
@@ -112,14 +112,18 @@ fn behind(far: u64, near: u64) -> i64
 }
 
 impl Grid {
-    // The rows so many generations on: they begin n / 8 + 1 words further to the north and to the west.
-    fn later<W: Watch>(
+    // The rows n generations on: they begin n / 8 + 1 words further to the north and to the west. The run began with a tree
+    // that they show.
+    fn later<A: Automaton, W: Watch>(
         self,
         alloc: Global,
         masks: (u16, u16),
         n: u64,
+        leaper: &Leaper<A>,
+        first: &Tree,
         watch: &mut W,
     ) -> Result<Grid, Memory>
+        requires begins { Begins (A.next_of leaper.now.rule) masks self (cell leaper.now.nodes first.now) }
         requires narrow { IsAsNarrow (2 ^ 40) self }
         requires time { n ≤ 2 ^ 40 }
         ensures { (next : List ℕ → ℕ) (p : ℤ → ℤ → ℕ) (a b : ℤ) → GoesBy next masks → next (replicate 9 0) ≡ 0 → GridShows self p a b
@@ -127,7 +131,7 @@ impl Grid {
     {
         let none = Grid::empty(alloc);
         let fours = n / 4;
-        let grid = self.by_fours(alloc, masks, fours, watch)?;
+        let grid = self.by_fours(alloc, masks, fours, leaper, first, watch)?;
         let grid = grid.next(alloc, &none, &none, masks, (n % 4) as u8)?;
         if fours % 2 == 1 {
             return Ok(grid);
@@ -136,13 +140,16 @@ impl Grid {
     }
 
     // The rows so many times four generations on: as many times they begin four cells further to the north and to the west.
-    fn by_fours<W: Watch>(
+    fn by_fours<A: Automaton, W: Watch>(
         self,
         alloc: Global,
         masks: (u16, u16),
         fours: u64,
+        leaper: &Leaper<A>,
+        first: &Tree,
         watch: &mut W,
     ) -> Result<Grid, Memory>
+        requires begins { Begins (A.next_of leaper.now.rule) masks self (cell leaper.now.nodes first.now) }
         requires narrow { IsAsNarrow (2 ^ 40) self }
         requires time { fours ≤ 2 ^ 40 }
         ensures narrow { IfOk result (IsAsNarrow (2 ^ 40 + fours)) }
@@ -157,7 +164,7 @@ impl Grid {
             before = after;
             after = now;
             now = next;
-            watch.reached(4 * (step + 1));
+            watch.reached(Milestone::by_grid(leaper, first, &now, 4 * (step + 1)));
         }
         Ok(now)
     }

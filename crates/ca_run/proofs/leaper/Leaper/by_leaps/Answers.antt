@@ -2,10 +2,12 @@ use Rattle.std.proofs.Common.{◌≡◌, ◌+◌, ◌/◌, ◌%◌, ◌^◌, sym
 use Rattle.std.specs.Prelude.{ℤ}
 use Rattle.std.proofs.lemmas.Bool.Decides.{nat_tests}
 use Rattle.std.proofs.lemmas.Nat.Bits.{bit_at-zero}
+use Rattle.ca_quad.specs.Sound.{IsSound}
 use Rattle.ca_quad.specs.Trees.{cell}
 use Rattle.ca_run.specs.Centre.{later}
 use Rattle.ca_run.proofs.Shown.{goes_on_again}
-use Rattle.ca_run.proofs.Trees.{one_digit, no_digit}
+use Rattle.ca_run.proofs.Laters.{later_same}
+use Rattle.ca_run.proofs.Trees.{tree_stays, one_digit, no_digit, shifted_two}
 use Rattle.ca_run.proofs.leaper.Leaper.by_leaps.Goals as goal
 use Rattle.ca_run.proofs.leaper.Leaper.by_leaps.Goals.{then-n-j-eq1+in_ok-now, else-n-j-eq1}
 
@@ -51,3 +53,23 @@ digits-preserved g c =
             goes_on = inv.goes_on;
           })
     ]
+
+pub by_tree-requires : goal.by_tree-requires
+by_tree-requires g c = λ x y.
+    let next = g.A.Automaton.next_of in
+    let rule = next c.args.self.now.rule in
+    let s0 = c.args.self.now.nodes in
+    let s2 = c.leap-then-n-j-eq1.new.self.nodes in
+    let tree = c.args.tree in
+    let more = c.in_ok-now.now in
+    let n = c.args.n in
+    let j = c.digits.j in
+    let inv = c.digits.invariant in
+    let digit : n / 2 ^ j % 2 ≡ 1 = grind (arith, nat_tests, c.if-n-j-eq1.true) in
+    let leapt = subst (λ r. (x y : ℤ) → cell s2 more x y ≡ later (next r) (cell c.digits.self.nodes c.digits.now) (2 ^ j) x y) inv.goes_on.rule c.in_ok-now.ensures.cells in
+    let on = goes_on_again _ c.args.self.now c.digits.self c.leap-then-n-j-eq1.new.self inv.goes_on c.in_ok-now.ensures.goes_on in
+    let sound = subst (λ l. IsSound l.nodes) c.self.view_is c.self.invariant.squares in
+    let reached = one_digit rule s0 c.digits.self.nodes s2 tree c.digits.now more n j digit inv.cells leapt x y in
+    let same = later_same rule (cell s0 tree) (cell s2 tree) (n % 2 ^ (1 + j)) (λ u v. sym (tree_stays s0 s2 sound on.grows tree c.requires.tree u v)) x y in
+    let here = subst (λ r. cell s2 more x y ≡ later (next r) (cell s2 tree) (n % 2 ^ (1 + j)) x y) (sym on.rule) (reached ∙ same) in
+    subst (λ m. cell s2 more x y ≡ later (next c.leap-then-n-j-eq1.new.self.rule) (cell s2 tree) (n % m) x y) (sym (shifted_two j (omega arith))) here

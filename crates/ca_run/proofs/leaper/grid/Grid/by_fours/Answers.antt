@@ -1,7 +1,8 @@
-use Rattle.std.proofs.Common.{◌≡◌, ◌*◌, refl, sym, subst, arith}
+use Rattle.std.proofs.Common.{◌≡◌, ◌+◌, ◌*◌, refl, sym, subst, arith}
 use Rattle.std.specs.Prelude.{pos, ◌-ℤ◌}
 use Rattle.std.proofs.lemmas.Int.{ints}
 use Rattle.std.proofs.lemmas.Bool.Decides.{nat_tests}
+use Rattle.ca_quad.specs.Trees.{cell}
 use Rattle.ca_run.specs.Centre.{later}
 use Rattle.ca_run.specs.inner.Grid.{GridShows, Keeps}
 use Rattle.ca_run.proofs.Grids.{none_keeps, follows_keeps, grid_again, grid_as}
@@ -32,3 +33,17 @@ pub returns-clause-shows : goal.returns-clause-shows
 returns-clause-shows g c = λ next p a b goes_by quiet shows.
     let all : c.steps.step ≡ c.args.fours = grind (arith, nat_tests) in
     subst (λ m. GridShows c.steps.now (later next p (4 * m)) (a -ℤ pos (4 * m)) (b -ℤ pos (4 * m))) all (c.steps.invariant.shows next p a b goes_by quiet shows)
+
+pub by_grid-requires : goal.by_grid-requires
+by_grid-requires g c =
+    let run = c.requires.begins in
+    let next = g.A.Automaton.next_of c.args.leaper.now.rule in
+    let p = cell c.args.leaper.now.nodes c.args.first.now in
+    let shown = run.shows in
+    let far = 4 * c.steps.step in
+    let more = 4 * (c.steps.step + 1) in (
+      shown.0 -ℤ pos more,
+      shown.1 -ℤ pos more,
+      grid_again next c.args.masks far 4 more c.steps.now c.in_ok-next.next p shown.0 shown.1 far more run.by_masks run.quiet (omega arith) (omega arith)
+          (c.steps.invariant.shows next p shown.0 shown.1 run.by_masks run.quiet shown.2) c.in_ok-next.ensures.follows,
+    )

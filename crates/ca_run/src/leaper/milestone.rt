@@ -1,0 +1,70 @@
+//! How far a run of generations has come.
+
+ghost use Rattle.std.specs.Prelude.{◌≡◌, ℤ};
+ghost use Rattle.ca_quad.specs.Trees.{cell};
+ghost use Rattle.ca_run.specs.Centre.{later};
+ghost use Rattle.ca_run.specs.inner.Grid.{IsShown};
+
+use super::Leaper;
+use super::grid::Grid;
+use ca_plane::Automaton;
+use ca_quad::Tree;
+use std::marker::Model;
+
+/// A number of generations that a run has reached. Only a run makes one, and only of a plane that it holds: the plane
+/// after that many generations of the tree with which the run began.
+#[derive(Clone, Copy)]
+pub struct Milestone {
+    generations: u64,
+}
+
+impl Model for Milestone {
+    ghost use Rattle.std.specs.Prelude.{ℕ};
+
+    ghost Value = { ℕ };
+
+    ghost view = { λ r. r.generations };
+
+    ghost inverse = { λ n. record { generations = n } };
+}
+
+impl Milestone {
+    /// The number of generations.
+    pub fn generations(self) -> u64
+        ensures { result ≡ self }
+    {
+        self.generations
+    }
+
+    // What a run has reached that began with one tree and holds the other.
+    pub(super) fn by_tree<A: Automaton>(
+        leaper: &Leaper<A>,
+        first: &Tree,
+        held: &Tree,
+        generations: u64,
+    ) -> Milestone
+        requires { (x y : ℤ) → cell leaper.now.nodes held.now x y ≡ later (A.next_of leaper.now.rule) (cell leaper.now.nodes first.now) generations x y }
+        ensures { result ≡ generations }
+    {
+        let _ = leaper;
+        let _ = first;
+        let _ = held;
+        Milestone { generations }
+    }
+
+    // What a run has reached that began with a tree and holds a grid.
+    pub(super) fn by_grid<A: Automaton>(
+        leaper: &Leaper<A>,
+        first: &Tree,
+        held: &Grid,
+        generations: u64,
+    ) -> Milestone
+        requires { IsShown held.now (later (A.next_of leaper.now.rule) (cell leaper.now.nodes first.now) generations) }
+        ensures { result ≡ generations }
+    {
+        let _ = leaper;
+        let _ = first;
+        let _ = held;
+        Milestone { generations }
+    }
+}
