@@ -6,7 +6,7 @@ ghost use Rattle.ca_claims.specs.Truth.{asks_of};
 use super::line::Claim;
 
 /// Whose cells the claim wants to see.
-#[derive(Clone, Copy, Debug, PartialEq, Eq)]
+#[derive(Clone, Copy)]
 pub(crate) enum Wanted {
     /// The pattern's own.
     Own,
@@ -15,7 +15,7 @@ pub(crate) enum Wanted {
 }
 
 /// What no earlier time may show.
-#[derive(Clone, Copy, Debug, PartialEq, Eq)]
+#[derive(Clone, Copy, PartialEq, Eq)]
 pub(crate) enum Barred {
     /// All may be shown.
     Nothing,
@@ -26,7 +26,7 @@ pub(crate) enum Barred {
 }
 
 /// What a claim asks.
-#[derive(Clone, Copy, Debug, PartialEq, Eq)]
+#[derive(Clone, Copy)]
 pub(crate) struct Asks {
     /// Whether the pattern must be live.
     pub(crate) live: bool,

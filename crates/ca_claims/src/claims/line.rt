@@ -8,7 +8,7 @@ use crate::verifier::OneOrTwo;
 
 /// What is claimed of patterns, each of which is given by a `P`: by its name, or by the index of its path among the text's
 /// paths, or by both.
-#[derive(Clone, Copy, Debug)]
+#[derive(Clone, Copy)]
 pub(crate) enum Claim<P> {
     /// The pattern is live, and one generation on it is what it was.
     Still {
@@ -36,14 +36,14 @@ pub(crate) enum Claim<P> {
 }
 
 /// The index of a pattern's name among the text's names, and that of its path among the paths.
-#[derive(Clone, Copy, Debug)]
+#[derive(Clone, Copy)]
 pub(crate) struct Place {
     pub(crate) name: usize,
     pub(crate) path: usize,
 }
 
 /// A pattern's name, and the index of its path among the text's paths.
-#[derive(Clone, Copy, Debug)]
+#[derive(Clone, Copy)]
 pub(crate) struct Named<'a> {
     pub(crate) name: &'a [u8],
     pub(crate) path: usize,

@@ -52,7 +52,7 @@ fn four_words(bytes: &[u8]) -> Option<(&[u8], &[u8], &[u8], &[u8])>
 }
 
 /// What a line says, by its words alone.
-#[derive(Clone, Copy, Debug)]
+#[derive(Clone, Copy)]
 pub(crate) enum LineKind<'a> {
     /// No words, or a first word that begins with `#`.
     Skipped,

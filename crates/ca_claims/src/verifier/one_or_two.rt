@@ -1,7 +1,7 @@
 //! What stands for each of a claim's patterns.
 
 /// One or two, in their order: a claim is about one pattern, or about two.
-#[derive(Debug, Drop)]
+#[derive(Drop)]
 pub(crate) enum OneOrTwo<T> {
     One(T),
     Two(T, T),
