@@ -1,5 +1,5 @@
 -- Claims that were judged one after another.
-use Rattle.std.proofs.Common.{◌≡◌, ℕ, ◌+◌, suc, List, [], ◌∷◌, ◌++◌, drop, slice_get, Some, add-one, refl, sym, ap, subst, ◌∙◌}
+use Rattle.std.proofs.Common.{◌≡◌, ◌≢◌, ℕ, ◌+◌, suc, length, arith, List, [], ◌∷◌, ◌++◌, drop, slice_get, Some, Result, Ok, Err, OnErr, add-one, refl, sym, ap, subst, ◌∙◌}
 use Rattle.std.proofs.Math.Seq.{drop-cons}
 use Rattle.std.proofs.lemmas.List.{append_assoc}
 use Rattle.std.proofs.lemmas.Option.{slice_get_within, get_or_from_slice_get}
@@ -23,6 +23,22 @@ pub record IsAnswered (files : List (List ℕ × List ℕ)) (rules : List (List 
 -- the elements from one on are that one and those after it
 from_next : {X : Type 0} (xs : List X) (i : ℕ) (x : X) → slice_get xs i ≡ Some x → drop i xs ≡ x ∷ drop (i + 1) xs
 from_next xs i x e = rw add-one (drop-cons xs i x (slice_get_within xs i x e) ∙ ap (λ y. y ∷ drop (suc i) xs) (get_or_from_slice_get xs i x x e))
+
+-- what holds holds on an error
+pub on_error : {X Y : Type 0} (r : Result X Y) (P : Type 0) → P → OnErr r P
+on_error (Ok x) P holds = tt
+on_error (Err y) P holds = holds
+
+-- a list with an element isn't empty
+not_empty : {X : Type 0} (xs ys : List X) (y : X) → xs ++ y ∷ ys ≡ [] → ⊥
+not_empty [] ys y e = let none : suc (length ys) ≡ 0 = ap length e in omega (arith, none)
+not_empty (x ∷ xs) ys y e = let none : suc (length (xs ++ y ∷ ys)) ≡ 0 = ap length e in omega (arith, none)
+
+-- where one more is judged, there are claims
+pub some_claims : (files : List (List ℕ × List ℕ)) (rules : List (List ℕ)) (claims : List (ℕ × Claim)) (old new : Judging) (answers : List Answer) (answer : Answer)
+    → IsAnswered files rules claims old answers → Judges old new answer → claims ≢ []
+some_claims files rules claims old new answers answer before next none =
+    not_empty before.done new.claims next.claim (ap (λ l. before.done ++ l) (sym next.claims) ∙ sym before.split ∙ none)
 
 module _ (files : List (List ℕ × List ℕ)) (asked : Asked) (index : ℕ) (patterns : List (List ℕ × List ℕ)) (named : slice_get asked.patterns index ≡ Some patterns) (answer : Answer) (is : IsAnswerTo files asked index answer) where
   -- the claim with an index is judged, and those after it are left

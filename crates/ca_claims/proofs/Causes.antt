@@ -1,8 +1,8 @@
 -- Why a claim isn't judged, and its verdict where it is, from the patterns of its files.
-use Rattle.std.proofs.Common.{◌≡◌, ℕ, zero, suc, ◌≤◌, ◌<◌, List, [], ◌∷◌, map, length, get_or, Bor, Bool, Option, Some, None, Result, refl, sym, ap, subst, ◌∙◌, inl, inr, ◌⊎◌, arith}
+use Rattle.std.proofs.Common.{◌≡◌, ℕ, zero, suc, ◌<◌, List, [], ◌∷◌, map, length, get_or, Bor, Bool, Option, Some, None, Result, refl, sym, ap, subst, ◌∙◌, inl, inr, ◌⊎◌, arith}
 use Rattle.std.specs.Prelude.{◌≢◌, pos, IsTrue, IsFalse, ◌↔◌, MatchOption}
 use Rattle.std.proofs.lemmas.Bool.{true≢false}
-use Rattle.std.specs.List.{All, AllByRecursion, AllZip}
+use Rattle.std.specs.List.{AllByRecursion, AllZip}
 use Rattle.std.specs.Option.{option_copied}
 use Rattle.std.specs.Result.{MatchResult, IsErrAnd}
 use Rattle.std.proofs.lemmas.Result.{err_from_is_err_and}
@@ -15,7 +15,6 @@ use Rattle.ca_rule.specs.TableNext.{TableRule}
 use Rattle.ca_rule.specs.declared.fault.RuleFault.{RuleFault}
 use Rattle.ca_rule.specs.Rule.{RuleValue, rule_value, next_of, IsSameRule, IsRuleFault}
 use Rattle.ca_rule.proofs.Rules.{same-refl}
-use Rattle.ca_macro.specs.Pattern.{AreInRange}
 use Rattle.ca_claims.specs.declared.pattern.Loaded.{Loaded}
 use Rattle.ca_plane.specs.Sparse.{IsSparse}
 use Rattle.ca_claims.specs.declared.claims.line.Claim.{Claim as ClaimOf}

@@ -1,12 +1,12 @@
 -- The claims that are kept, about the places of names and paths, and what they stand for.
 use Rattle.std.proofs.Common.{◌≡◌, ℕ, ◌<◌, List, map, length, get_or, option_map, slice_get, Some, sym, ap, subst, ◌∙◌}
 use Rattle.std.proofs.lemmas.List.{length-map}
-use Rattle.std.proofs.lemmas.Option.{slice_get-map, slice_get_read}
+use Rattle.std.proofs.lemmas.Option.{same_Some, slice_get-map, slice_get_read}
 use Rattle.ca_claims.specs.declared.claims.line.Claim.{Claim as ClaimOf}
 use Rattle.ca_claims.specs.declared.claims.line.ClaimLine.{ClaimLine}
 use Rattle.ca_claims.specs.declared.claims.line.Place.{Place}
 use Rattle.ca_claims.specs.declared.claims.line.Named.{Named}
-use Rattle.ca_claims.specs.Text.{patterns_of, about, by_path, named_patterns}
+use Rattle.ca_claims.specs.Text.{Claim, patterns_of, about, by_path, named_patterns}
 use Rattle.ca_claims.specs.Places.{path_at, numbered, named_at, named, named_path}
 use Rattle.ca_claims.proofs.ClaimKinds.{paths_of, about_twice}
 
@@ -39,6 +39,14 @@ module _ (names paths : List (List ℕ)) (claims : List (ClaimLine Place)) where
   patterns_at i l places within at same =
       let inside = subst (λ n. i < n) (as_many by_path ∙ sym (as_many named_patterns)) within in
       stands_for named_patterns i l inside at ∙ ap Some (paths_of (named_at names paths) l.claim ∙ ap (map (named_at names paths)) (sym same))
+
+  -- its patterns are at these places
+  pub patterns_claimed : (i : ℕ) (l : ClaimLine Place) (places : List Place) → i < length (map by_path (map (named names paths) claims)) → l ≡ get_or claims i l → places ≡ patterns_of l.claim
+      → (claim : ℕ × Claim) → slice_get (map by_path (map (named names paths) claims)) i ≡ Some claim → patterns_of claim.1 ≡ map (λ p. path_at paths p.path) places
+  patterns_claimed i l places within at same claim is =
+      let one = same_Some claim (by_path (named names paths l)) (sym is ∙ stands_for by_path i l within at) in
+      ap (λ c. patterns_of c.1) one ∙ ap patterns_of (about_twice (named_at names paths) (λ p. p.1) l.claim) ∙ paths_of (λ p. path_at paths p.path) l.claim
+      ∙ ap (map (λ p. path_at paths p.path)) (sym same)
 
 -- a name that was looked up, and its path
 pub looked_up : (names paths : List (List ℕ)) (place : Place) (n : Named) → n.name.now ≡ path_at names place.name → n.path ≡ place.path → named_at names paths place ≡ named_path paths n

@@ -22,6 +22,7 @@ pub mod Verdicts
 pub mod OneReason
 pub mod SameCause
 pub mod NotesFound
+pub mod NotesGiven
 pub mod Searches
 pub mod Divided
 pub mod DivisorLists

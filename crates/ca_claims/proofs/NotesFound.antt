@@ -35,9 +35,9 @@ told_same files rules paths own cause m n h false e = λ k.
     let same = one_cause files rules paths own cause m n h k in
     true≢false (sym (same_cause-self cause) ∙ subst (λ o. (cause_eq.eq-value).it o cause ≡ false) same (sym e))
 
--- a cause that isn't memory's test
-pub not_memory : (own : Cause) → false ≡ (cause_eq.eq-value).it own Memory → own ≢ Memory
-not_memory own e same = true≢false (sym (same_cause-self Memory) ∙ subst (λ o. (cause_eq.eq-value).it o Memory ≡ false) same (sym e))
+-- a cause that fails the test for another
+pub other_cause : (own other : Cause) → false ≡ (cause_eq.eq-value).it own other → own ≢ other
+other_cause own other e same = true≢false (sym (same_cause-self other) ∙ subst (λ o. (cause_eq.eq-value).it o other ≡ false) same (sym e))
 
 module _ (files : List (List ℕ × List ℕ)) (rules : List (List ℕ)) (path : List ℕ) where
   -- of the other causes a pattern's is that of a claim about it alone

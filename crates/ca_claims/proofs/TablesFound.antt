@@ -16,12 +16,6 @@ use Rattle.ca_claims.specs.declared.verifier.tables.Tables.TheVariants.{Missing,
 use Rattle.ca_claims.proofs.Causes.{bytes_found}
 use Rattle.ca_claims.proofs.FoundFiles.{found-length}
 
--- some element of which less is said
-pub some_weaker : {X : Type 0} (P Q : X → Type 0) → ((x : X) → P x → Q x) → (xs : List X) → SomeOf P xs → SomeOf Q xs
-some_weaker P Q f [] some = some
-some_weaker P Q f (x ∷ xs) (inl here) = inl (f x here)
-some_weaker P Q f (x ∷ xs) (inr later) = inr (some_weaker P Q f xs later)
-
 -- a first bad element of which less is said
 pub first_weaker : {X : Type 0} (Good P Q : X → Type 0) → ((x : X) → P x → Q x) → (xs : List X) → FirstBad Good P xs → FirstBad Good Q xs
 first_weaker Good P Q f [] first = first
@@ -50,18 +44,20 @@ module _ (files : List (List ℕ × List ℕ)) (paths : List (List ℕ)) (found 
   found_all [] within there = tt
   found_all (i ∷ is) within there = ((there.0.0.now, bytes_found files paths found i (Some there.0.0) same within.0 there.0.1), found_all is within.1 there.1)
 
-  -- the file at a place that is empty is missing
-  empty_at : (places : List ℕ) → AllByRecursion (λ i. i < length found) places → (place : ℕ) → SomeOf (λ i. (i ≡ place) × (get_or found i None ≡ None)) places
-      → SomeOf (λ p. (p ≡ path_at paths place) × IsMissing files p) (map (path_at paths) places)
+  -- the file at the first place that is empty is the first that is missing
+  empty_at : (places : List ℕ) → AllByRecursion (λ i. i < length found) places → (place : ℕ) → FirstBad (IsFound found) (λ i. (i ≡ place) × (get_or found i None ≡ None)) places
+      → FirstBad (IsThere files) (λ p. (p ≡ path_at paths place) × IsMissing files p) (map (path_at paths) places)
   empty_at [] within place some = some
   empty_at (i ∷ is) within place (inl here) = inl (ap (path_at paths) here.0, bytes_found files paths found i None same within.0 here.1)
-  empty_at (i ∷ is) within place (inr later) = inr (empty_at is within.1 place later)
+  empty_at (i ∷ is) within place (inr later) =
+      inr ((later.0.0.now, bytes_found files paths found i (Some later.0.0) same within.0 later.0.1), empty_at is within.1 place later.1)
 
-  pub missing_at : (places : List ℕ) → AllByRecursion (λ i. i < length found) places → (place : ℕ) → SomeOf (λ i. (i ≡ place) × (get_or found i None ≡ None)) places
-      → (place < length paths) × SomeOf (λ p. (p ≡ path_at paths place) × IsMissing files p) (map (path_at paths) places)
-  missing_at places within place some = (
-    within_paths place (holds_of_some (λ i. i < length found) (λ i. (i ≡ place) × (get_or found i None ≡ None)) place (λ i h. h.0) places within some),
-    empty_at places within place some,
+  pub missing_at : (places : List ℕ) → AllByRecursion (λ i. i < length found) places → (place : ℕ) → FirstBad (IsFound found) (λ i. (i ≡ place) × (get_or found i None ≡ None)) places
+      → (place < length paths) × FirstBad (IsThere files) (λ p. (p ≡ path_at paths place) × IsMissing files p) (map (path_at paths) places)
+  missing_at places within place first = (
+    within_paths place (holds_of_some (λ i. i < length found) (λ i. (i ≡ place) × (get_or found i None ≡ None)) place (λ i h. h.0) places within
+        (some_first (IsFound found) (λ i. (i ≡ place) × (get_or found i None ≡ None)) places first)),
+    empty_at places within place first,
   )
 
   -- the tables that are found are those of the paths
@@ -95,8 +91,9 @@ module _ (files : List (List ℕ × List ℕ)) (paths : List (List ℕ)) (found 
 
 module _ (files : List (List ℕ × List ℕ)) (paths rules patterns : List (List ℕ)) where
   -- where a rule line's file is missing, no claim is judged
-  pub refused_missing : (place : ℕ) → SomeOf (λ p. (p ≡ path_at paths place) × IsMissing files p) rules → HasCause files rules patterns NoFile
-  refused_missing place some = inr (some_weaker (λ p. (p ≡ path_at paths place) × IsMissing files p) (IsMissing files) (λ p h. h.1) rules some)
+  pub refused_missing : (place : ℕ) → FirstBad (IsThere files) (λ p. (p ≡ path_at paths place) × IsMissing files p) rules → HasCause files rules patterns NoFile
+  refused_missing place first =
+      inr (some_first (IsThere files) (IsMissing files) rules (first_weaker (IsThere files) (λ p. (p ≡ path_at paths place) × IsMissing files p) (IsMissing files) (λ p h. h.1) rules first))
 
   -- nor where one is faulty
   pub refused_faulty : (faulty : FaultyTable) → AllByRecursion (IsThere files) patterns → AllByRecursion (IsThere files) rules

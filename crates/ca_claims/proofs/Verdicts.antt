@@ -1,5 +1,5 @@
 -- A file has one meaning, and a claim one kind of true verdict.
-use Rattle.std.proofs.Common.{◌≡◌, ◌≢◌, ℕ, zero, suc, ◌+◌, ◌-◌, ◌≤◌, ◌<◌, List, [], ◌∷◌, Some, refl, sym, ap, subst, ◌∙◌, inl, inr, ◌⊎◌, arith}
+use Rattle.std.proofs.Common.{◌≡◌, ◌≢◌, ℕ, zero, suc, ◌+◌, ◌-◌, ◌≤◌, ◌<◌, List, [], ◌∷◌, Some, refl, sym, ap, subst, ◌∙◌, inl, inr, arith}
 use Rattle.std.specs.Prelude.{ℤ}
 use Rattle.std.specs.List.{AllByRecursion}
 use Rattle.std.proofs.lemmas.Bool.{cases_order}
@@ -38,7 +38,7 @@ use Rattle.ca_claims.specs.Answers.{IsPatternFault, IsQuietTable, IsTableFault, 
 use Rattle.ca_claims.proofs.Zipped.{zip_left}
 
 -- the file of the path has this fault as the text of a table
-abbrev IsBadTable : List (List ℕ × List ℕ) → TableFault → List ℕ → Type 0
+abbrev pub IsBadTable : List (List ℕ × List ℕ) → TableFault → List ℕ → Type 0
 IsBadTable files fault path = (bytes : List ℕ) × (bytes_at files path ≡ Some bytes) × IsTableFault bytes fault
 
 -- as that of a pattern
@@ -100,7 +100,7 @@ rle_or_macro : (bytes : List ℕ) → format_of bytes ≡ target.Rle → format_
 rle_or_macro bytes a b = let e : target.Rle ≡ target.Mc = sym a ∙ b in cc
 
 -- bytes have one fault
-one_fault_of : (bytes : List ℕ) (f g : PatternFault) → IsPatternFault bytes f → IsPatternFault bytes g → f ≡ g
+pub one_fault_of : (bytes : List ℕ) (f g : PatternFault) → IsPatternFault bytes f → IsPatternFault bytes g → f ≡ g
 one_fault_of bytes (pattern_fault.Rle f) (pattern_fault.Rle g) a b = ap pattern_fault.Rle (rle_fault.one_fault bytes f g a.1 b.1 a.2 b.2)
 one_fault_of bytes (pattern_fault.Macro f) (pattern_fault.Macro g) a b = ap pattern_fault.Macro (macrocell.one_fault bytes f g a.1 b.1 a.2 b.2)
 one_fault_of bytes (pattern_fault.Rle f) (pattern_fault.Macro g) a b = absurd (rle_or_macro bytes a.0 b.0)
@@ -119,7 +119,7 @@ module _ (files : List (List ℕ × List ℕ)) (path : List ℕ) where
 
   -- ---- a path is good or bad, not both
 
-  there_or_none : IsThere files path → IsMissing files path → ⊥
+  pub there_or_none : IsThere files path → IsMissing files path → ⊥
   there_or_none a none = none-some a.0 (sym none ∙ a.1)
 
   -- the file of a path is one table
@@ -128,13 +128,13 @@ module _ (files : List (List ℕ × List ℕ)) (path : List ℕ) where
       let same : bytes ≡ others = same_Some bytes others (sym at ∙ there) in
       one_table others t u (subst (λ l. IsQuietTable l t) same a).0 b.0
 
-  table_or_fault : (fault : TableFault) → HoldsTable files path → IsBadTable files fault path → ⊥
+  pub table_or_fault : (fault : TableFault) → HoldsTable files path → IsBadTable files fault path → ⊥
   table_or_fault fault (t, (bytes, at, a)) (others, there, wrong) =
       let same : bytes ≡ others = same_Some bytes others (sym at ∙ there) in
       let quiet = subst (λ l. IsQuietTable l t) same a in
       elim (none_of_a_table others t fault quiet.0 wrong.1) [ inl memory ↦ wrong.0 memory | inr wakes ↦ wakes.1 quiet.1 ]
 
-  one_bad_table : (f g : TableFault) → IsBadTable files f path → IsBadTable files g path → f ≡ g
+  pub one_bad_table : (f g : TableFault) → IsBadTable files f path → IsBadTable files g path → f ≡ g
   one_bad_table f g (bytes, at, wrong) (others, there, bad) =
       let same : bytes ≡ others = same_Some bytes others (sym at ∙ there) in
       let wrong_too = subst (λ l. IsTableFault l f) same wrong in
@@ -186,7 +186,7 @@ one_tables files (r ∷ rs) (t ∷ ts) (u ∷ us) a b =
     cc
 
 -- all of which are there
-tables_there : (files : List (List ℕ × List ℕ)) (rules : List (List ℕ)) (tables : List TableRule) → AreTables files rules tables → AllByRecursion (IsThere files) rules
+pub tables_there : (files : List (List ℕ × List ℕ)) (rules : List (List ℕ)) (tables : List TableRule) → AreTables files rules tables → AllByRecursion (IsThere files) rules
 tables_there files = zip_left (IsTableAt files) (IsThere files) (λ path table at. (at.0, at.1))
 
 -- ---- lists of paths
@@ -196,7 +196,7 @@ all_weaker P Q h [] all = tt
 all_weaker P Q h (p ∷ ps) all = (h p all.0, all_weaker P Q h ps all.1)
 
 -- where all are good, none is bad
-all_or_some : (Good Bad : List ℕ → Type 0) → ((p : List ℕ) → Good p → Bad p → ⊥) → (ps : List (List ℕ)) → AllByRecursion Good ps → SomeOf Bad ps → ⊥
+pub all_or_some : (Good Bad : List ℕ → Type 0) → ((p : List ℕ) → Good p → Bad p → ⊥) → (ps : List (List ℕ)) → AllByRecursion Good ps → SomeOf Bad ps → ⊥
 all_or_some Good Bad h [] all some = some
 all_or_some Good Bad h (p ∷ ps) all (inl bad) = h p all.0 bad
 all_or_some Good Bad h (p ∷ ps) all (inr bad) = all_or_some Good Bad h ps all.1 bad
@@ -207,7 +207,7 @@ all_or_first Good Bad h (p ∷ ps) all (inl bad) = h p all.0 bad
 all_or_first Good Bad h (p ∷ ps) all (inr bad) = all_or_first Good Bad h ps all.1 bad.1
 
 -- the first bad one is bad in one way
-one_first : (Good Bad Worse : List ℕ → Type 0) (Same : Type 0) → ((p : List ℕ) → Good p → Bad p → ⊥) → ((p : List ℕ) → Good p → Worse p → ⊥) → ((p : List ℕ) → Bad p → Worse p → Same)
+pub one_first : (Good Bad Worse : List ℕ → Type 0) (Same : Type 0) → ((p : List ℕ) → Good p → Bad p → ⊥) → ((p : List ℕ) → Good p → Worse p → ⊥) → ((p : List ℕ) → Bad p → Worse p → Same)
     → (ps : List (List ℕ)) → FirstBad Good Bad ps → FirstBad Good Worse ps → Same
 one_first Good Bad Worse Same h k same [] a b = absurd a
 one_first Good Bad Worse Same h k same (p ∷ ps) (inl a) (inl b) = same p a b
@@ -341,7 +341,7 @@ module _ (files : List (List ℕ × List ℕ)) (rules paths : List (List ℕ)) w
   past_before Memory m h = absurd (m refl)
 
   -- all tables are good or one is bad, not both
-  tables_or_fault : (fault : TableFault) (tables : List TableRule) → AreTables files rules tables → FirstBad (HoldsTable files) (IsBadTable files fault) rules → ⊥
+  pub tables_or_fault : (fault : TableFault) (tables : List TableRule) → AreTables files rules tables → FirstBad (HoldsTable files) (IsBadTable files fault) rules → ⊥
   tables_or_fault fault tables are first =
       all_or_first (HoldsTable files) (IsBadTable files fault) (λ p. table_or_fault files p fault) rules (zip_left (IsTableAt files) (HoldsTable files) (λ path table at. (table, at)) rules tables are) first
 

@@ -87,8 +87,8 @@ module _ {X Y : Type 0} (R : X → Y → Type 0) where
   first_behind Good Bad f (z ∷ zs) [] (suc i) x before e bad = absurd before
   first_behind Good Bad f (z ∷ zs) (y ∷ ys) (suc i) x before e bad = inr (f z y before.0, first_behind Good Bad f zs ys i x before.1 e bad)
 
--- some element is one of which this holds
-pub some_at : {X : Type 0} (Holds : X → Type 0) (xs : List X) (i : ℕ) (x : X) → slice_get xs i ≡ Some x → Holds x → SomeOf Holds xs
-some_at Holds [] i x e h = absurd (none-some x e)
-some_at Holds (z ∷ zs) zero x e h = inl (subst Holds (sym (same_Some z x e)) h)
-some_at Holds (z ∷ zs) (suc i) x e h = inr (some_at Holds zs i x e h)
+-- an element that is bad, after good ones
+pub first_after : {X : Type 0} (Good Bad : X → Type 0) (xs : List X) (i : ℕ) (x : X) → AllByRecursion Good (take i xs) → slice_get xs i ≡ Some x → Bad x → FirstBad Good Bad xs
+first_after Good Bad [] i x before e bad = absurd (none-some x e)
+first_after Good Bad (z ∷ zs) zero x before e bad = inl (subst Bad (sym (same_Some z x e)) bad)
+first_after Good Bad (z ∷ zs) (suc i) x before e bad = inr (before.0, first_after Good Bad zs i x before.1 e bad)

@@ -1,5 +1,5 @@
 -- What a note on a verdict says of the claim's patterns and of the files that were handed in.
-use Rattle.std.specs.Prelude.{◌≡◌, ℕ, ℤ, List, [], ◌∷◌, Option, Some, None, ◌⊎◌}
+use Rattle.std.specs.Prelude.{◌≡◌, ◌≢◌, ℕ, ℤ, List, [], ◌∷◌, Option, Some, None, ◌⊎◌}
 use Rattle.ca_rle.specs.Faults as rle
 use Rattle.ca_rle.specs.FaultyLine.{IsFaultyLine as IsFaultyLineOfRle}
 use Rattle.ca_rle.specs.declared.fault.RleFault.{RleFault}
@@ -10,12 +10,12 @@ use Rattle.ca_claims.specs.declared.note.Note.TheVariants.{Nothing, Cell, Patter
 use Rattle.ca_claims.specs.declared.target.Target.{Target}
 use Rattle.ca_claims.specs.declared.target.Target.TheVariants.{Rle, Mc}
 use Rattle.ca_claims.specs.declared.verdict.Verdict.{Verdict}
-use Rattle.ca_claims.specs.declared.verdict.Verdict.TheVariants.{No, Refused}
-use Rattle.ca_claims.specs.declared.verdict.Why.TheVariants.{Differs}
+use Rattle.ca_claims.specs.declared.verdict.Verdict.TheVariants.{Yes, No, Refused}
+use Rattle.ca_claims.specs.declared.verdict.Why.TheVariants.{Empty, Differs, Earlier}
 use Rattle.ca_claims.specs.declared.verdict.Cause.{Cause}
 use Rattle.ca_claims.specs.declared.verdict.Cause.TheVariants.{NoFile, BadTable, BadPattern, BadRule, StateTooLarge, MixedRules, TooManyCells, Memory}
 use Rattle.ca_claims.specs.Means.{bytes_at, format_of}
-use Rattle.ca_claims.specs.Answers.{IsTableFault, IsMissing, HoldsTable, HasCause, SomeOf, FirstBad, FirstIs}
+use Rattle.ca_claims.specs.Answers.{IsTableFault, IsMissing, IsThere, HoldsTable, HasCause, FirstBad, FirstIs}
 
 -- the cause of a refusal is that of the pattern with this path: no file has the path, or the cause holds of a claim about this pattern
 -- alone; `rules` are the paths of the text's rule lines
@@ -53,9 +53,10 @@ IsToldLine files path MixedRules line = line ≡ None
 IsToldLine files path TooManyCells line = line ≡ None
 IsToldLine files path Memory line = line ≡ None
 
--- the cause of a refusal is that of a rule line's file, which has this path: no file has it, or it is the first that is no good table
+-- the cause of a refusal is that of a rule line's file, which has this path: it is the first that is missing, or the first that is no
+-- good table
 abbrev pub IsOfRuleFile : List (List ℕ × List ℕ) → List (List ℕ) → Cause → List ℕ → Type 0
-IsOfRuleFile files rules NoFile path = SomeOf (λ r. (r ≡ path) × IsMissing files r) rules
+IsOfRuleFile files rules NoFile path = FirstBad (IsThere files) (λ r. (r ≡ path) × IsMissing files r) rules
 IsOfRuleFile files rules (BadTable fault) path =
     FirstBad (HoldsTable files) (λ r. (r ≡ path) × (bytes : List ℕ) × (bytes_at files r ≡ Some bytes) × IsTableFault bytes fault) rules
 IsOfRuleFile files rules (BadPattern fault) path = ⊥
@@ -74,7 +75,22 @@ IsNote files rules patterns verdict (Pattern name path line) = (cause : Cause) �
     × IsAbout files rules patterns cause name.now path.now × IsToldLine files path.now cause line
 IsNote files rules patterns verdict (RuleFile path) = (cause : Cause) × (verdict ≡ Refused cause) × IsOfRuleFile files rules cause path.now
 
--- where cells differ, something is noted; elsewhere there may be no memory to find it, or no more to tell
+-- on these verdicts a note is always given: cells that differ, a file that is missing, and a rule file that is bad. On the others there may
+-- be no memory to find one, or no more to say
+abbrev pub HasNote : Verdict → Type 0
+HasNote Yes = ⊥
+HasNote (No Empty) = ⊥
+HasNote (No (Differs x y found wanted generations)) = Unit {0}
+HasNote (No (Earlier m dx dy)) = ⊥
+HasNote (Refused NoFile) = Unit {0}
+HasNote (Refused (BadTable fault)) = Unit {0}
+HasNote (Refused (BadPattern fault)) = ⊥
+HasNote (Refused (BadRule fault)) = ⊥
+HasNote (Refused StateTooLarge) = ⊥
+HasNote (Refused MixedRules) = ⊥
+HasNote (Refused TooManyCells) = ⊥
+HasNote (Refused Memory) = ⊥
+
+-- where the verdict has a note, it is given
 abbrev pub IsGiven : Verdict → Note → Type 0
-IsGiven (No (Differs x y found wanted generations)) Nothing = ⊥
-IsGiven verdict note = Unit {0}
+IsGiven verdict note = HasNote verdict → note ≢ Nothing

@@ -1,11 +1,12 @@
 //! Claim texts, and what they ask.
 
-ghost use Rattle.std.specs.Prelude.{◌≡◌, ◌≢◌, ℕ, ◌<◌, Some, map, slice_get, length, All, IfOk, MatchOption, IsTrue, ◌↔◌};
+ghost use Rattle.std.specs.Prelude.{◌≡◌, ◌≢◌, ℕ, ◌<◌, [], Some, map, slice_get, length, All, IfOk, MatchOption, OnErr, IsTrue, ◌↔◌};
 ghost use Rattle.std.specs.List.{AllByRecursion, AllZip, IsDistinct};
 ghost use Rattle.std.specs.Str.{bytes_eq};
 ghost use Rattle.ca_claims.specs.Places.{path_at, numbered, named_path, IsAsked};
 ghost use Rattle.ca_claims.specs.inner.Patterns.{items};
 ghost use Rattle.ca_claims.specs.Needed.{IsNeeded};
+ghost use Rattle.ca_claims.specs.Text.{Claim as TextClaim, patterns_of};
 
 mod asks;
 mod limits;
@@ -75,11 +76,16 @@ impl Claims {
     ///
     /// # Errors
     ///
-    /// Fails where there is no memory for the list.
+    /// Fails where there is no memory for the list, of a text that names a path.
     pub fn needed(&self, alloc: Global) -> Result<Vec<bool>, Memory>
-        ensures { IfOk result (λ v. AllZip (λ path needed. IsTrue needed ↔ IsNeeded self.now path) self.now.paths v.items) }
+        ensures needed { IfOk result (λ v. AllZip (λ path needed. IsTrue needed ↔ IsNeeded self.now path) self.now.paths v.items) }
+        ensures memory { OnErr result (self.now.paths ≢ []) }
     {
-        let mut needed = vec![in alloc; false; self.path_count()]?;
+        let count = self.path_count();
+        if count == 0 {
+            return Ok(Vec::new(alloc));
+        }
+        let mut needed = vec![in alloc; false; count]?;
         if self.claim_count() == 0 {
             return Ok(needed);
         }
@@ -129,6 +135,7 @@ impl Claims {
         requires { index < length self.now.claims }
         ensures patterns { slice_get self.now.patterns index ≡ Some (map (named_path self.now.paths) (items result)) }
         ensures within { AllByRecursion (λ p. p.path < length self.now.paths) (items result) }
+        ensures claim { (claim : ℕ × TextClaim) → slice_get self.now.claims index ≡ Some claim → patterns_of claim.1 ≡ map (λ p. path_at self.now.paths p.path) (items result) }
     {
         match self.claims[index].claim.patterns() {
             OneOrTwo::One(only) => OneOrTwo::One(named(&self.names, only)),

@@ -1,11 +1,11 @@
 //! The claims of a text, judged one after another.
 
-ghost use Rattle.std.specs.Prelude.{◌≡◌, ℕ, ◌<◌, List, map, length, IfOk, IfSome, MatchOption};
+ghost use Rattle.std.specs.Prelude.{◌≡◌, ◌≢◌, ℕ, ◌<◌, List, [], map, length, IfOk, IfSome, OnErr, MatchOption};
 ghost use Rattle.std.specs.Option.{option_copied};
 ghost use Rattle.ca_claims.specs.Means.{contents, bytes_at};
 ghost use Rattle.ca_claims.specs.Judging.{Judges, JudgesAndNotes, IsDone};
 ghost use Rattle.ca_claims.specs.Notes.{IsGiven};
-ghost use Rattle.ca_claims.specs.inner.Kept.{IsAnswerTo};
+ghost use Rattle.ca_claims.specs.inner.Kept.{AreFound, IsAnswerTo};
 ghost use Rattle.ca_claims.specs.inner.Tables.{AreRead};
 
 use crate::claims::Claims;
@@ -51,21 +51,21 @@ impl<'a> Judge<'a> {
     ///
     /// # Errors
     ///
-    /// Fails where there is no memory for the list of the files or for the rule tables.
+    /// Fails where there is no memory for the list of the files or for the rule tables of a text that makes a claim.
     pub fn new(
         alloc: Global,
         claims: &'a Claims,
         files: &'a [File<'a>],
     ) -> Result<Judge<'a>, Memory>
-        ensures { IfOk result (λ j. j ≡ record {
+        ensures judging { IfOk result (λ j. j ≡ record {
           files = contents files.now;
           rules = claims.now.rules;
           claims = claims.now.claims;
           patterns = claims.now.patterns;
         }) }
+        ensures memory { OnErr result (claims.now.claims ≢ []) }
     {
-        let found = find_files(alloc, claims, files)?;
-        let tables = Tables::read(alloc, claims.rules(), &found)?;
+        let Needed { found, tables } = look_up(alloc, claims, files)?;
         Ok(Judge {
             alloc,
             files,
@@ -145,6 +145,29 @@ impl<'a> Judge<'a> {
         self.index += 1;
         Some((answer, note))
     }
+}
+
+/// The bytes of each path of a text, and its rule tables: what its claims need.
+#[derive(Drop)]
+struct Needed<'a> {
+    found: Vec<Option<&'a [u8]>>,
+    tables: Tables,
+}
+
+/// What the claims of a text need of these files. A text without claims needs nothing.
+fn look_up<'a>(alloc: Global, claims: &Claims, files: &[File<'a>]) -> Result<Needed<'a>, Memory>
+    ensures found { IfOk result (λ n. claims.now.claims ≢ [] → AreFound (contents files.now) claims.now n.found.items n.tables) }
+    ensures memory { OnErr result (claims.now.claims ≢ []) }
+{
+    if claims.claim_count() == 0 {
+        return Ok(Needed {
+            found: Vec::new(alloc),
+            tables: Tables::Read(Vec::new(alloc)),
+        });
+    }
+    let found = find_files(alloc, claims, files)?;
+    let tables = Tables::read(alloc, claims.rules(), &found)?;
+    Ok(Needed { found, tables })
 }
 
 /// A library for the claims of a text. For one claim alone nothing is kept.

@@ -3,7 +3,8 @@
 /// What a verdict doesn't say itself: which pattern or file it is about, and where that file is faulty. Lines are counted from 1.
 #[derive(Clone, Copy, Debug)]
 pub enum Note<'a> {
-    /// The verdict says all, or there was no memory to look further.
+    /// The verdict says all, or there was no memory to look further. No verdict that cells differ, that a file is missing or
+    /// that a rule file is bad has it.
     Nothing,
     /// Cells differ, of the claim's first pattern, which has this name.
     Cell {
@@ -17,8 +18,8 @@ pub enum Note<'a> {
         path: &'a [u8],
         line: Option<u64>,
     },
-    /// The claim is refused for the file of a rule line, which is at this path: no file has the path, or it is the first that
-    /// is no good table.
+    /// The claim is refused for the file of a rule line, which is at this path: it is the first that is missing, or the first
+    /// that is no good table.
     RuleFile {
         path: &'a [u8],
     },

@@ -1,13 +1,14 @@
 //! Notes on verdicts, which are found by looking again.
 
-ghost use Rattle.std.specs.Prelude.{◌≡◌, ◌≢◌, ℕ, ◌<◌, List, [], ◌∷◌, map, length, MatchOption};
+ghost use Rattle.std.specs.Prelude.{◌≡◌, ◌≢◌, ℕ, ◌<◌, List, [], ◌∷◌, map, length, IsSome, MatchOption};
 ghost use Rattle.std.specs.List.{AllByRecursion};
 ghost use Rattle.std.specs.Option.{option_copied};
 ghost use Rattle.ca_claims.specs.declared.verdict.Cause.TheVariants as causes;
 ghost use Rattle.ca_claims.specs.declared.verdict.Verdict.TheVariants.{Refused};
 ghost use Rattle.ca_claims.specs.Places.{path_at, named_path};
 ghost use Rattle.ca_claims.specs.Means.{bytes_at, format_of};
-ghost use Rattle.ca_claims.specs.Answers.{HasCause, FirstIs};
+ghost use Rattle.ca_claims.specs.Text.{Claim as TextClaim, patterns_of};
+ghost use Rattle.ca_claims.specs.Answers.{IsThere, HasCause, IsTrueVerdict, FirstIs};
 ghost use Rattle.ca_claims.specs.Notes.{IsCauseOf, IsLineAs, IsToldLine, IsNote, IsGiven};
 ghost use Rattle.ca_claims.specs.inner.Noted.{Tells, IsCulprit, IsPlaced};
 ghost use Rattle.ca_claims.specs.inner.Patterns.{items};
@@ -37,7 +38,9 @@ pub(crate) fn note_on<'a, 'f>(
     requires placed { IsPlaced (length claims.now.paths) tables.now }
     ensures note { (files : List (List ℕ × List ℕ)) → map option_copied found.now ≡ map (bytes_at files) claims.now.paths → AreRead files claims.now.paths claims.now.rules tables.now
         → IsNote files claims.now.rules (map (named_path claims.now.paths) (items patterns.now)) verdict.now result }
-    ensures given { IsGiven verdict.now result }
+    ensures given { (files : List (List ℕ × List ℕ)) → map option_copied found.now ≡ map (bytes_at files) claims.now.paths → AreRead files claims.now.paths claims.now.rules tables.now
+        → (claim : TextClaim) → patterns_of claim ≡ map (λ n. path_at claims.now.paths n.path) (items patterns.now) → IsTrueVerdict files claims.now.rules claim verdict.now
+        → IsGiven verdict.now result }
 {
     match verdict {
         Verdict::Yes => Note::Nothing,
@@ -109,8 +112,9 @@ fn is_cause_of<'f>(
     cause: &Cause,
 ) -> Option<bool>
     requires { place < length found.now }
-    ensures { (files : List (List ℕ × List ℕ)) (paths rules : List (List ℕ)) → map option_copied found.now ≡ map (bytes_at files) paths → AreRead files paths rules tables.now
+    ensures cause { (files : List (List ℕ × List ℕ)) (paths rules : List (List ℕ)) → map option_copied found.now ≡ map (bytes_at files) paths → AreRead files paths rules tables.now
         → Tells (IsCauseOf files rules (path_at paths place) cause.now) result }
+    ensures known { cause.now ≡ causes.NoFile → IsSome result }
 {
     match cause {
         Cause::NoFile => Some(found[place].is_none()),
@@ -180,8 +184,10 @@ fn line_of(alloc: Global, bytes: &[u8]) -> Option<u64>
 /// A note on a refusal that is about no pattern.
 fn rule_file_note<'a>(claims: &'a Claims, tables: &Tables, cause: &Cause) -> Note<'a>
     requires { IsPlaced (length claims.now.paths) tables.now }
-    ensures { (files : List (List ℕ × List ℕ)) (patterns : List (List ℕ × List ℕ)) → AreRead files claims.now.paths claims.now.rules tables.now
+    ensures note { (files : List (List ℕ × List ℕ)) (patterns : List (List ℕ × List ℕ)) → AreRead files claims.now.paths claims.now.rules tables.now
         → IsNote files claims.now.rules patterns (Refused cause.now) result }
+    ensures given { (files : List (List ℕ × List ℕ)) (patterns : List (List ℕ)) → AreRead files claims.now.paths claims.now.rules tables.now
+        → (cause.now ≡ causes.NoFile → AllByRecursion (IsThere files) patterns) → HasCause files claims.now.rules patterns cause.now → IsGiven (Refused cause.now) result }
 {
     match tables {
         Tables::Missing(place) => {

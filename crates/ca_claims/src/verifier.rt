@@ -1,6 +1,6 @@
 //! Verdicts on the claims of a text, each on its own.
 
-ghost use Rattle.std.specs.Prelude.{◌≡◌, ℕ, ◌<◌, List, [], ◌∷◌, map, length, IfOk, MatchResult};
+ghost use Rattle.std.specs.Prelude.{◌≡◌, ◌≢◌, ℕ, ◌<◌, List, [], ◌∷◌, map, length, IfOk, OnErr, MatchResult};
 ghost use Rattle.std.specs.List.{AllByRecursion};
 ghost use Rattle.std.specs.Option.{option_copied};
 ghost use Rattle.ca_claims.specs.Text.{Claim as TextClaim, patterns_of, about, HasGoodNumbers};
@@ -42,10 +42,11 @@ pub(crate) use tables::Tables;
 ///
 /// # Errors
 ///
-/// Fails where there is no memory for the answers, for the list of the files or for the rule tables. Where there is no memory
-/// to judge a claim, that claim alone is refused.
+/// Fails where there is no memory for the answers, for the list of the files or for the rule tables of a text that makes a
+/// claim. Where there is no memory to judge a claim, that claim alone is refused.
 pub fn verify(alloc: Global, claims: &Claims, files: &[File<'_>]) -> Result<Vec<Answer>, Memory>
     ensures answers { IfOk result (λ v. AreTrueAnswers (contents files.now) claims.now.rules claims.now.claims v.items) }
+    ensures memory { OnErr result (claims.now.claims ≢ []) }
 {
     let mut answers = Vec::with_capacity(alloc, claims.claim_count())?;
     let mut judge = Judge::new(alloc, claims, files)?;

@@ -1,5 +1,5 @@
 -- What is kept while the claims of a text are judged.
-use Rattle.std.specs.Prelude.{◌≡◌, ℕ, ◌≤◌, List, map, drop, length, slice_get, Option, Some}
+use Rattle.std.specs.Prelude.{◌≡◌, ◌≢◌, ℕ, ◌≤◌, List, [], map, drop, length, slice_get, Option, Some}
 use Rattle.std.specs.Borrow.{Bor}
 use Rattle.std.specs.Option.{option_copied}
 use Rattle.ca_claims.specs.declared.verifier.tables.Tables.{Tables}
@@ -10,10 +10,14 @@ use Rattle.ca_claims.specs.Answers.{IsTrueAnswer}
 use Rattle.ca_claims.specs.Judging.{Judging}
 use Rattle.ca_claims.specs.inner.Tables.{AreRead}
 
--- for each path of the text the bytes of its file, and the tables of the rule lines; and the claim with this index is the next, or all are judged
-pub record IsKeptOf (files : List (List ℕ × List ℕ)) (asked : Asked) (found : List (Option (Bor (List ℕ)))) (tables : Tables) (index : ℕ) : Type 0 where
+-- for each path of the text the bytes of its file, and the tables of the rule lines
+pub record AreFound (files : List (List ℕ × List ℕ)) (asked : Asked) (found : List (Option (Bor (List ℕ)))) (tables : Tables) : Type 0 where
   pub found_at : map option_copied found ≡ map (bytes_at files) asked.paths
   pub read : AreRead files asked.paths asked.rules tables
+
+-- these are kept, if the text makes a claim; and the claim with this index is the next, or all are judged
+pub record IsKeptOf (files : List (List ℕ × List ℕ)) (asked : Asked) (found : List (Option (Bor (List ℕ)))) (tables : Tables) (index : ℕ) : Type 0 where
+  pub kept : asked.claims ≢ [] → AreFound files asked found tables
   pub within : index ≤ length asked.claims
 
 -- what is left to be judged of these files and claims, from the claim with this index on

@@ -6,15 +6,15 @@ use Rattle.ca_claims.specs.declared.verifier.tables.Tables.{Tables}
 use Rattle.ca_claims.specs.declared.verifier.tables.Tables.TheVariants.{Missing, Faulty, Read}
 use Rattle.ca_claims.specs.Places.{path_at}
 use Rattle.ca_claims.specs.Means.{bytes_at}
-use Rattle.ca_claims.specs.Answers.{IsTableFault, IsMissing, IsThere, HoldsTable, AreTables, SomeOf, FirstBad}
+use Rattle.ca_claims.specs.Answers.{IsTableFault, IsMissing, IsThere, HoldsTable, AreTables, FirstBad}
 
 -- this path is the first whose file is no good table, which has this fault
 abbrev pub IsFaultyAt : List (List ℕ × List ℕ) → List (List ℕ) → FaultyTable → List ℕ → Type 0
 IsFaultyAt files paths faulty path = (path ≡ path_at paths faulty.place) × (bytes : List ℕ) × (bytes_at files path ≡ Some bytes) × IsTableFault bytes faulty.fault
 
--- what was found at the paths of the rule lines: the file of one is missing; or all are there, and one is the first that is
+-- what was found at the paths of the rule lines: one is the first whose file is missing; or all are there, and one is the first that is
 -- faulty; or they are these tables. A path is given by its place among all paths of the text
 abbrev pub AreRead : List (List ℕ × List ℕ) → List (List ℕ) → List (List ℕ) → Tables → Type 0
-AreRead files paths rules (Missing place) = (place < length paths) × SomeOf (λ p. (p ≡ path_at paths place) × IsMissing files p) rules
+AreRead files paths rules (Missing place) = (place < length paths) × FirstBad (IsThere files) (λ p. (p ≡ path_at paths place) × IsMissing files p) rules
 AreRead files paths rules (Faulty faulty) = (faulty.place < length paths) × AllByRecursion (IsThere files) rules × FirstBad (HoldsTable files) (IsFaultyAt files paths faulty) rules
 AreRead files paths rules (Read tables) = AreTables files rules tables.items

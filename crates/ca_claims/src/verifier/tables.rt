@@ -8,7 +8,7 @@ ghost use Rattle.ca_rule.specs.declared.table.fault.TableFault.TheVariants as ta
 ghost use Rattle.ca_claims.specs.declared.verdict.Cause.TheVariants as causes;
 ghost use Rattle.ca_claims.specs.Places.{path_at};
 ghost use Rattle.ca_claims.specs.Means.{bytes_at};
-ghost use Rattle.ca_claims.specs.Answers.{IsThere, AreTables, SomeOf, FirstBad, HasCause};
+ghost use Rattle.ca_claims.specs.Answers.{IsThere, AreTables, FirstBad, HasCause};
 ghost use Rattle.ca_claims.specs.inner.Found.{IsFound, IsTableFound, IsFaultFound};
 
 use crate::verdict::Cause;
@@ -19,7 +19,7 @@ use std::alloc::Global;
 /// What the files of a text's rule lines hold.
 #[derive(Drop)]
 pub(crate) enum Tables {
-    /// The file with the path at this place wasn't handed in.
+    /// The file with the path at this place is the first that wasn't handed in.
     Missing(usize),
     /// All were, and this is the first that is faulty.
     Faulty(FaultyTable),
@@ -81,7 +81,7 @@ impl Tables {
 /// The first of these places at which no file is found.
 fn first_missing(places: &[usize], found: &[Option<&[u8]>]) -> Option<usize>
     requires { All (λ i. i < length found.now) places.now }
-    ensures { MatchOption result (AllByRecursion (IsFound found.now) places.now) (λ place. SomeOf (λ i. (i ≡ place) × (get_or found.now i None ≡ None)) places.now) }
+    ensures { MatchOption result (AllByRecursion (IsFound found.now) places.now) (λ place. FirstBad (IsFound found.now) (λ i. (i ≡ place) × (get_or found.now i None ≡ None)) places.now) }
 {
     'places: for place in places {
         if found[*place].is_none() {

@@ -1,6 +1,7 @@
-use Rattle.std.proofs.Common.{◌≡◌, ◌<◌, ℕ, List, [], ◌∷◌, map, Some, length, slice_get, ap, subst, ◌∙◌}
+use Rattle.std.proofs.Common.{◌≡◌, ◌<◌, ℕ, List, [], ◌∷◌, map, Some, length, slice_get, sym, ap, subst, ◌∙◌}
+use Rattle.ca_claims.specs.Text.{Claim, patterns_of}
 use Rattle.ca_claims.specs.Places.{path_at, named_path}
-use Rattle.ca_claims.proofs.ClaimsKept.{patterns_at, looked_up}
+use Rattle.ca_claims.proofs.ClaimsKept.{patterns_at, patterns_claimed, looked_up}
 use Rattle.ca_claims.proofs.claims.Claims.patterns.Goals as goal
 
 pub returns-in-One-clause-patterns : goal.returns-in-One-clause-patterns
@@ -25,3 +26,24 @@ returns-in-Two-clause-patterns c =
     let other = looked_up names kept.paths second c.named-in-Two-2.result two c.named-in-Two-2.ensures.path in
     subst (λ a. c.args.index < length a.claims → slice_get a.patterns c.args.index ≡ Some (named_path a.paths c.named-in-Two.result ∷ named_path a.paths c.named-in-Two-2.result ∷ [])) c.self.view_is
     (λ within. patterns_at names kept.paths kept.claims.items c.args.index c.index.result.now (first ∷ second ∷ []) within c.index.ensures c.in-Two.ensures ∙ (λ i. Some (found i ∷ other i ∷ []))) c.requires
+
+pub returns-in-One-clause-claim : goal.returns-in-One-clause-claim
+returns-in-One-clause-claim c =
+    let kept = c.self.inside in
+    let names : List (List ℕ) = map (λ n. n.items) kept.names.items in
+    let only = c.in-One.only in
+    subst (λ a. c.args.index < length a.claims → (claim : ℕ × Claim) → slice_get a.claims c.args.index ≡ Some claim → patterns_of claim.1 ≡ path_at a.paths c.named.result.path ∷ []) c.self.view_is
+    (λ within claim is. patterns_claimed names kept.paths kept.claims.items c.args.index c.index.result.now (only ∷ []) within c.index.ensures c.in-One.ensures claim is
+    ∙ ap (λ k. path_at kept.paths k ∷ []) (sym c.named.ensures.path)) c.requires
+
+pub returns-in-Two-clause-claim : goal.returns-in-Two-clause-claim
+returns-in-Two-clause-claim c =
+    let kept = c.self.inside in
+    let names : List (List ℕ) = map (λ n. n.items) kept.names.items in
+    let first = c.in-Two.first in
+    let second = c.in-Two.second in
+    let one = c.named-in-Two.ensures.path in
+    let two = c.named-in-Two-2.ensures.path in
+    subst (λ a. c.args.index < length a.claims → (claim : ℕ × Claim) → slice_get a.claims c.args.index ≡ Some claim → patterns_of claim.1 ≡ path_at a.paths c.named-in-Two.result.path ∷ path_at a.paths c.named-in-Two-2.result.path ∷ []) c.self.view_is
+    (λ within claim is. patterns_claimed names kept.paths kept.claims.items c.args.index c.index.result.now (first ∷ second ∷ []) within c.index.ensures c.in-Two.ensures claim is
+    ∙ (λ i. path_at kept.paths (sym one i) ∷ path_at kept.paths (sym two i) ∷ [])) c.requires

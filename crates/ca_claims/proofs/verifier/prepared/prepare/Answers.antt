@@ -1,5 +1,4 @@
-use Rattle.std.proofs.Common.{map, inl, sym, ◌∙◌}
-use Rattle.std.proofs.lemmas.Result.{err_from_is_err_and}
+use Rattle.std.proofs.Common.{map, inl}
 use Rattle.ca_claims.specs.Places.{path_at}
 use Rattle.ca_claims.specs.Answers.{HasCause}
 use Rattle.ca_claims.specs.inner.Patterns.{items}
