@@ -20,6 +20,8 @@ pub mod AllLines
 pub mod OneMeaning
 pub mod Verdicts
 pub mod OneReason
+pub mod FewListed
+pub mod OneConversion
 pub mod SameCause
 pub mod NotesFound
 pub mod NotesGiven

@@ -54,6 +54,14 @@ pub record IsSummary (bytes : List ℕ) (tables : List TableRule) (summary : Sum
   pub population : HasPopulation (cell cells) summary.cells
   pub bounds : MatchOption summary.bounds (IsLive cells → ⊥) (IsLeastBox cells)
 
+-- two summaries say the same
+pub record IsSameSummary (one two : Summary) : Type 0 where
+  pub kind : one.kind ≡ two.kind
+  pub rule_text : one.rule_text.items ≡ two.rule_text.items
+  pub generation : one.generation ≡ two.generation
+  pub cells : one.cells ≡ two.cells
+  pub bounds : one.bounds ≡ two.bounds
+
 -- the first reason for which there is no summary: the bytes aren't read, or their rule text names no rule, or a state is too large.
 -- Out of memory may come before any of them, where memory may run out for the bytes
 abbrev pub IsSummaryFault : List ℕ → List TableRule → ConvertFault → Type 0

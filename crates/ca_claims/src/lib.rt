@@ -4,6 +4,7 @@
 mod cells;
 mod claims;
 mod conversion;
+pub mod conversion_laws;
 mod decide;
 mod fault;
 mod file;
