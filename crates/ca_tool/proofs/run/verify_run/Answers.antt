@@ -9,7 +9,7 @@ use Rattle.ca_tool.proofs.run.verify_run.Goals as goal
 pub returns-clause-answered : goal.returns-clause-answered
 returns-clause-answered g c =
     subst (λ (j : Judging). IfOk c.answer_all.result (λ code. Answered j.files j.rules j.claims (Appends (g.W.Write.contents c.args.device.now.inner) (g.W.Write.contents c.answer_all.new.device.inner)) (λ s. code ≡ s)))
-    c.in-Ok.ensures c.answer_all.ensures.answered
+    c.in-Ok.ensures.judging c.answer_all.ensures.answered
 
 pub returns-clause-fault : goal.returns-clause-fault
 returns-clause-fault g c = IfErr-weaker c.answer_all.result _ _ (λ fault is. inl is) c.answer_all.ensures.fault
