@@ -36,7 +36,11 @@ pub record ReadsAll (old new : Option (List ℕ)) (bytes : List ℕ) : Type 0 wh
 abbrev pub GivesTooMany : Option (List ℕ) → Option (List ℕ) → Type 0
 GivesTooMany old new = (bytes : List ℕ) × (max_file < length bytes) × Consumes old new bytes
 
--- no more bytes were taken than so many
+-- some bytes came, and no more than a file may have
+abbrev pub GivesSome : Option (List ℕ) → Option (List ℕ) → Type 0
+GivesSome old new = (bytes : List ℕ) × (0 < length bytes) × (length bytes ≤ max_file) × Consumes old new bytes
+
+-- at most this number of bytes was taken
 abbrev pub TakesAtMost : ℕ → Option (List ℕ) → Option (List ℕ) → Type 0
 TakesAtMost most old new = (bytes : List ℕ) × (length bytes ≤ most) × Consumes old new bytes
 
@@ -80,7 +84,7 @@ IsToldInPart files asked telling Written = AreToldInPart files asked.rules asked
 abbrev pub IsInputFault : Option (List ℕ) → Option (List ℕ) → InputFault → Type 0
 IsInputFault old new inputs.Read = Unit {0}
 IsInputFault old new inputs.TooLong = GivesTooMany old new
-IsInputFault old new inputs.Memory = TakesAtMost max_file old new
+IsInputFault old new inputs.Memory = GivesSome old new
 
 -- the tables that a run knows: that of the rule file, or none without one
 abbrev pub AreKnown : Option (List ℕ) → List TableRule → Type 0

@@ -34,7 +34,7 @@ pub fn show_run<R: Read, W: Write>(
         (Wrote IsShown (Appends (W.contents output.old.inner) (W.contents output.new.inner)))) }
     ensures kept { IfOk result (λ status. output.new.failures ≡ output.old.failures) }
 
-    // A write failed, after a first part of such lines.
+    // A write failed, after a first part of such lines, but not all of them.
     ensures front { IsErrOf result ToolFault.Write → HoldsOfFile (R.remaining input.old.inner) (R.remaining input.new.inner) (option_copied table.entry)
         (Wrote IsShown (AppendsPrefix (W.contents output.old.inner) (W.contents output.new.inner))) }
     ensures counted { IsErrOf result ToolFault.Write → Rises output.old.failures output.new.failures }
@@ -44,7 +44,7 @@ pub fn show_run<R: Read, W: Write>(
     ensures nothing { IfErr result (λ f. f ≢ ToolFault.Write → output.new ≡ output.old) }
 
     // A failed read is counted, and nothing else is.
-    ensures bounded { TakesAtMost (max_file + 8192) (R.remaining input.old.inner) (R.remaining input.new.inner) }
+    ensures bounded { TakesAtMost (max_file + 1) (R.remaining input.old.inner) (R.remaining input.new.inner) }
     ensures failed { IsErrOf result (ToolFault.Input inputs.Read) → Rises input.old.failures input.new.failures }
     ensures unfailed { result ≢ Err (ToolFault.Input inputs.Read) → input.new.failures ≡ input.old.failures }
 {
@@ -73,7 +73,7 @@ pub fn convert_run<R: Read, W: Write>(
         (Wrote (λ bytes tables text. IsConverted bytes tables target text) (Appends (W.contents output.old.inner) (W.contents output.new.inner)))) }
     ensures kept { IfOk result (λ status. output.new.failures ≡ output.old.failures) }
 
-    // A write failed, after a first part of it.
+    // A write failed, after a first part of it, but not all.
     ensures front { IsErrOf result ToolFault.Write → HoldsOfFile (R.remaining input.old.inner) (R.remaining input.new.inner) (option_copied table.entry)
         (Wrote (λ bytes tables text. IsConverted bytes tables target text) (AppendsPrefix (W.contents output.old.inner) (W.contents output.new.inner))) }
     ensures counted { IsErrOf result ToolFault.Write → Rises output.old.failures output.new.failures }
@@ -84,7 +84,7 @@ pub fn convert_run<R: Read, W: Write>(
     ensures nothing { IfErr result (λ f. f ≢ ToolFault.Write → output.new ≡ output.old) }
 
     // A failed read is counted, and nothing else is.
-    ensures bounded { TakesAtMost (max_file + 8192) (R.remaining input.old.inner) (R.remaining input.new.inner) }
+    ensures bounded { TakesAtMost (max_file + 1) (R.remaining input.old.inner) (R.remaining input.new.inner) }
     ensures failed { IsErrOf result (ToolFault.Input inputs.Read) → Rises input.old.failures input.new.failures }
     ensures unfailed { result ≢ Err (ToolFault.Input inputs.Read) → input.new.failures ≡ input.old.failures }
 {
@@ -105,7 +105,7 @@ fn read_and_parse<R: Read>(
     ensures read { IfOk result (λ r. ReadsAll (R.remaining input.old.inner) (R.remaining input.new.inner) r.0.items) }
     ensures known { IfOk result (λ r. AreKnown (option_copied rule.entry) (option_to_list r.1)) }
     ensures fault { IfErr result (IsReadingFault (R.remaining input.old.inner) (R.remaining input.new.inner) (option_copied rule.entry)) }
-    ensures bounded { TakesAtMost (max_file + 8192) (R.remaining input.old.inner) (R.remaining input.new.inner) }
+    ensures bounded { TakesAtMost (max_file + 1) (R.remaining input.old.inner) (R.remaining input.new.inner) }
     ensures failed { IsErrOf result (ToolFault.Input inputs.Read) → Rises input.old.failures input.new.failures }
     ensures unfailed { result ≢ Err (ToolFault.Input inputs.Read) → input.new.failures ≡ input.old.failures }
 {

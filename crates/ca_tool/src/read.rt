@@ -2,7 +2,7 @@
 
 ghost use Rattle.std.specs.Prelude.{◌≡◌, ◌≢◌, ◌+◌, Err, IfOk, IsErrOf};
 ghost use Rattle.ca_plane.specs.Device.{Rises};
-ghost use Rattle.ca_tool.specs.Runs.{ReadsAll, GivesTooMany, TakesAtMost, max_file};
+ghost use Rattle.ca_tool.specs.Runs.{ReadsAll, GivesTooMany, GivesSome, TakesAtMost, max_file};
 
 use crate::fault::InputFault;
 use ca_plane::Dev;
@@ -16,30 +16,32 @@ const PIECE: usize = 8192;
 
 /// All bytes that the reader gives up to its end. A read that fails ends the call, and nothing is tried again.
 ///
-/// Each read but the last gives a byte or more, and the call ends once more bytes came than a file may have; it then
-/// took at most 8192 bytes more than that. Their number is judged before room is made for them, so that memory runs out
-/// only over bytes that a file may have.
+/// Each read but the last gives a byte or more, and the call ends once more bytes came than a file may have. The last
+/// read asks for one byte more than a file may still have, so at most one byte too many is taken. Their number is judged
+/// before room is made for them, so that memory runs out only over bytes that a file may have.
 pub fn read_all<R: Read>(alloc: Global, device: &mut Dev<R>) -> Result<Vec<u8>, InputFault>
     ensures found { IfOk result (λ v. ReadsAll (R.remaining device.old.inner) (R.remaining device.new.inner) v.items) }
     ensures too_long { IsErrOf result InputFault.TooLong → GivesTooMany (R.remaining device.old.inner) (R.remaining device.new.inner) }
-    ensures memory { IsErrOf result InputFault.Memory → TakesAtMost max_file (R.remaining device.old.inner) (R.remaining device.new.inner) }
-    ensures bounded { TakesAtMost (max_file + 8192) (R.remaining device.old.inner) (R.remaining device.new.inner) }
+    ensures memory { IsErrOf result InputFault.Memory → GivesSome (R.remaining device.old.inner) (R.remaining device.new.inner) }
+    ensures bounded { TakesAtMost (max_file + 1) (R.remaining device.old.inner) (R.remaining device.new.inner) }
     ensures failed { IsErrOf result InputFault.Read → Rises device.old.failures device.new.failures }
     ensures kept { result ≢ Err InputFault.Read → device.new.failures ≡ device.old.failures }
 {
     let mut bytes = Vec::new(alloc);
     let mut buffer = [0u8; PIECE];
     'reads: loop {
-        let Ok(count) = device.read(&mut buffer) else {
+        let room = MAX_FILE - bytes.len();
+        let piece = &mut buffer[..PIECE.min(room + 1)];
+        let Ok(count) = device.read(piece) else {
             return Err(InputFault::Read);
         };
         if count == 0 {
             return Ok(bytes);
         }
-        if count > MAX_FILE - bytes.len() {
+        if count > room {
             return Err(InputFault::TooLong);
         }
-        if bytes.extend_from_slice(&buffer[..count]).is_err() {
+        if bytes.extend_from_slice(&piece[..count]).is_err() {
             return Err(InputFault::Memory);
         }
     }

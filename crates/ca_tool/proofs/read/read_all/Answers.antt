@@ -1,23 +1,23 @@
 use Rattle.std.proofs.Common.{rules, ◌<◌, ◌≤◌, ◌+◌}
 use Rattle.std.proofs.lemmas.List.{length-take}
 use Rattle.ca_tool.specs.Runs.{max_file}
-use Rattle.ca_tool.proofs.Taken.{with_piece}
+use Rattle.ca_tool.proofs.Taken.{with_piece, with_some}
 use Rattle.ca_tool.proofs.read.read_all.Goals as goal
 
--- the last piece passes the limit, by a piece at most
-pub returns-then-count-len-clause-too_long : goal.returns-then-count-len-clause-too_long
-returns-then-count-len-clause-too_long g c is =
+-- the last piece passes the limit, by one byte at most
+pub returns-then-count-room-clause-too_long : goal.returns-then-count-room-clause-too_long
+returns-then-count-room-clause-too_long g c is =
     with_piece _ _ _ _ _ (λ n. max_file < n) c.reads.invariant.given c.in-Ok.ensures.bytes.0 (search (rules, length-take))
 
-pub returns-then-count-len-clause-bounded : goal.returns-then-count-len-clause-bounded
-returns-then-count-len-clause-bounded g c =
-    with_piece _ _ _ _ _ (λ n. n ≤ max_file + 8192) c.reads.invariant.given c.in-Ok.ensures.bytes.0 (search (rules, length-take))
+pub returns-then-count-room-clause-bounded : goal.returns-then-count-room-clause-bounded
+returns-then-count-room-clause-bounded g c =
+    with_piece _ _ _ _ _ (λ n. n ≤ max_file + 1) c.reads.invariant.given c.in-Ok.ensures.bytes.0 (search (rules, length-take))
 
--- the last piece, for which no room was made, stays within the limit
+-- the last piece, for which no room was made, has a byte or more, and stays within the limit
 pub returns-then-is_err-clause-memory : goal.returns-then-is_err-clause-memory
 returns-then-is_err-clause-memory g c is =
-    with_piece _ _ _ _ _ (λ n. n ≤ max_file) c.reads.invariant.given c.in-Ok.ensures.bytes.0 (search (rules, length-take))
+    with_some _ _ _ _ _ c.reads.invariant.given c.in-Ok.ensures.bytes.0 (search (rules, length-take)) (search (rules, length-take))
 
 pub returns-then-is_err-clause-bounded : goal.returns-then-is_err-clause-bounded
 returns-then-is_err-clause-bounded g c =
-    with_piece _ _ _ _ _ (λ n. n ≤ max_file + 8192) c.reads.invariant.given c.in-Ok.ensures.bytes.0 (search (rules, length-take))
+    with_piece _ _ _ _ _ (λ n. n ≤ max_file + 1) c.reads.invariant.given c.in-Ok.ensures.bytes.0 (search (rules, length-take))
