@@ -1,6 +1,6 @@
 //! The lines that are printed for answers, and the exit status.
 
-ghost use Rattle.std.specs.Prelude.{◌≡◌, ◌++◌, List, ◌∷◌, [], IfOk};
+ghost use Rattle.std.specs.Prelude.{◌≡◌, ◌≢◌, ◌++◌, List, ◌∷◌, [], IfOk, OnErr};
 ghost use Rattle.std.specs.List.{list_any};
 ghost use Rattle.ca_claims.specs.declared.verdict.Answer.{Answer as GivenAnswer};
 ghost use Rattle.ca_claims.specs.declared.verdict.Verdict.TheVariants.{No, Refused};
@@ -134,8 +134,13 @@ pub(crate) fn answer_pieces<'a>(before: &'a [u8], answer: &Answer) -> [Piece<'a>
 }
 
 /// The lines that are printed for the answers: one for each, in order.
+///
+/// # Errors
+///
+/// Fails where there is no memory for the lines. Without answers it needs none.
 pub fn lines(alloc: Global, answers: &[Answer]) -> Result<Vec<u8>, Memory>
-    ensures { IfOk result (λ text. text.items ≡ lines_of answers.now) }
+    ensures lines { IfOk result (λ text. text.items ≡ lines_of answers.now) }
+    ensures memory { OnErr result (answers.now ≢ []) }
 {
     let mut text = Vec::new(alloc);
     'answers: for answer in answers {
