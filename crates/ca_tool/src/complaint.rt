@@ -123,7 +123,7 @@ fn complaint_of_pieces<'a>(fault: &Fault, path: &'a [u8]) -> [Piece<'a>; 7]
 
 /// Writes the line that tells the fault, `path` being the file that was read.
 ///
-/// It takes no memory. After a failure some first part of the line was written.
+/// It takes no memory. After a failure some first part of the line was written, but not all of it.
 pub fn complain<W: Write>(fault: &Fault, path: &[u8], device: &mut Dev<W>) -> Result<(), WriteFault>
     ensures all { OnOk result (Appends (W.contents device.old.inner) (W.contents device.new.inner) (complaint fault.now path.now)) }
     ensures kept { OnOk result (device.new.failures ≡ device.old.failures) }
@@ -136,7 +136,7 @@ pub fn complain<W: Write>(fault: &Fault, path: &[u8], device: &mut Dev<W>) -> Re
 
 /// Writes the line that tells the fault, after the path of the file that was read. So the faults of several files are told apart.
 ///
-/// It takes no memory. After a failure some first part of the line was written.
+/// It takes no memory. After a failure some first part of the line was written, but not all of it.
 pub fn complain_of<W: Write>(
     fault: &Fault,
     path: &[u8],

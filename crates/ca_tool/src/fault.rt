@@ -31,7 +31,7 @@ pub enum ToolFault {
     /// The pattern isn't shown or converted. Its fault is never `Memory` here.
     #[error("{0}")]
     Convert(ConvertFault),
-    /// A write failed or took no byte; a first part of the text was written.
+    /// A write failed or took no byte; a first part of the text was written, but not all of it.
     #[error("writing failed")]
     Write,
     /// A growth was refused.

@@ -43,7 +43,7 @@ pub fn verify_run<W: Write>(
     // It fails for a write or out of memory alone.
     ensures fault { IfErr result (λ f. (f ≡ ToolFault.Write) ⊎ (f ≡ ToolFault.Memory)) }
 
-    // A write failed, after a first part of the lines of true answers.
+    // A write failed, after a first part of the lines of true answers, but not all of them.
     ensures front { IsErrOf result ToolFault.Write → Answered (contents files.now) claims.now.rules claims.now.claims
         (AppendsPrefix (W.contents device.old.inner) (W.contents device.new.inner)) (λ s. Unit {0}) }
     ensures counted { IsErrOf result ToolFault.Write → Rises device.old.failures device.new.failures }
@@ -77,7 +77,7 @@ pub fn verify_told<W: Write>(
     // It fails for a write or out of memory alone.
     ensures fault { IfErr result (λ f. (f ≡ ToolFault.Write) ⊎ (f ≡ ToolFault.Memory)) }
 
-    // A write failed, after a first part of what is told of the first claims.
+    // A write failed, after a first part of what is told of the first claims, but not all of it.
     ensures front { IsErrOf result ToolFault.Write → IsToldInPart (contents files.now) claims.now telling.now
         (AppendsPrefix (W.contents device.old.inner) (W.contents device.new.inner)) }
     ensures counted { IsErrOf result ToolFault.Write → Rises device.old.failures device.new.failures }
@@ -105,7 +105,7 @@ pub fn verify_watched<W: Write, O: Observer>(
     // It fails for a write or out of memory alone.
     ensures fault { IfErr result (λ f. (f ≡ ToolFault.Write) ⊎ (f ≡ ToolFault.Memory)) }
 
-    // A write failed, after a first part of what is told of the first claims.
+    // A write failed, after a first part of what is told of the first claims, but not all of it.
     ensures front { IsErrOf result ToolFault.Write → IsToldInPart (contents files.now) claims.now telling.now
         (AppendsPrefix (W.contents device.old.inner) (W.contents device.new.inner)) }
     ensures counted { IsErrOf result ToolFault.Write → Rises device.old.failures device.new.failures }
