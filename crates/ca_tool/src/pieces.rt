@@ -12,7 +12,7 @@ use itoa::Buffer;
 use std::io::Write;
 
 /// A piece of a text: bytes, or a number in decimal digits.
-#[derive(Clone, Copy, Debug)]
+#[derive(Clone, Copy)]
 pub(crate) enum Piece<'a> {
     Text(&'a [u8]),
     Number(u64),
@@ -44,7 +44,7 @@ pub(crate) fn push_pieces(out: &mut Vec<u8>, pieces: &[Piece<'_>]) -> Result<(),
     Ok(())
 }
 
-/// Writes all the pieces. After a failure some first part of them was written.
+/// Writes all the pieces. After a failure some first part of them was written, but not all of them.
 pub(crate) fn send_pieces<W: Write>(
     device: &mut Dev<W>,
     pieces: &[Piece<'_>],

@@ -23,7 +23,7 @@ pub struct Telling<'a> {
 }
 
 /// An answer, and the note on it.
-#[derive(Clone, Copy, Debug)]
+#[derive(Clone, Copy)]
 pub(crate) struct Told<'a> {
     pub(crate) answer: Answer,
     pub(crate) note: Note<'a>,
@@ -145,7 +145,7 @@ fn second_pieces<'a>(telling: &Telling<'a>, told: &Told<'a>) -> [Piece<'a>; 15]
     note_pieces(telling.before, told.answer.verdict, told.note)
 }
 
-/// Writes what is told of a claim. After a failure some first part of it was written.
+/// Writes what is told of a claim. After a failure some first part of it was written, but not all of it.
 pub(crate) fn send_told<W: Write>(
     device: &mut Dev<W>,
     telling: &Telling<'_>,
