@@ -1,5 +1,7 @@
 //! Files that are read whole.
 
+ghost use Rattle.std.specs.Prelude.{◌≡◌, ◌≢◌, [], map, IfOk, OnErr};
+
 use crate::streams::Source;
 use ca_claims::{Claims, File};
 use ca_plane::{Dev, Memory};
@@ -81,10 +83,14 @@ fn load<R: Files + AllocGlobal>(rt: &R, path: &[u8], all: &mut Vec<Loaded>) -> R
     }
 }
 
-/// The files as `verify` takes them.
-pub fn views<'a>(alloc: Global, loaded: &'a [Loaded]) -> Result<Vec<File<'a>>, Memory> {
+/// The files as `verify` takes them. It takes memory only where there are some.
+pub fn views<'a>(alloc: Global, loaded: &'a [Loaded]) -> Result<Vec<File<'a>>, Memory>
+    ensures paths { IfOk result (λ views. map (λ f. f.path.now) views.items ≡ map (λ f. f.path.items) loaded.now) }
+    ensures bytes { IfOk result (λ views. map (λ f. f.bytes.now) views.items ≡ map (λ f. f.bytes.items) loaded.now) }
+    ensures memory { OnErr result (loaded.now ≢ []) }
+{
     let mut views = Vec::new(alloc);
-    for file in loaded {
+    'files: for file in loaded {
         views.push(File {
             path: file.path.as_slice(),
             bytes: file.bytes.as_slice(),

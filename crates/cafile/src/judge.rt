@@ -1,5 +1,7 @@
 //! The command `verify`.
 
+ghost use Rattle.std.specs.Prelude.{◌≡◌, ◌++◌, [], codes, IfOk, OnErr, IsTrue, if◌then◌else◌};
+
 use crate::FAULT;
 use crate::files::{load_needed, read_source, views};
 use crate::progress::Progress;
@@ -70,7 +72,11 @@ fn verify_text<R: Files + Clock + AllocGlobal>(
     judge(rt, &claims, &telling, extras.progress, streams)
 }
 
-fn before_lines(alloc: Global, path: &str, is_named: bool) -> Result<Vec<u8>, Memory> {
+// What stands before each line: the path of the text, where it is named.
+fn before_lines(alloc: Global, path: &str, is_named: bool) -> Result<Vec<u8>, Memory>
+    ensures text { IfOk result (λ text. text.items ≡ (if is_named then path.now ++ codes ": " else [])) }
+    ensures memory { OnErr result (IsTrue is_named) }
+{
     let mut before = Vec::new(alloc);
     if is_named {
         before.extend_from_slice(path.as_bytes())?;

@@ -78,16 +78,24 @@ fn given<R: Env + AllocGlobal>(rt: &R) -> Result<Vec<String>, WordsFault> {
 }
 
 fn command<'a>(alloc: Global) -> Result<Command<'a>, AllocError> {
-    Command::new(alloc, "cafile")
+    let program = Command::new(alloc, "cafile")
         .version("0.1.0")
         .about(
             "Reads and writes Golly's pattern files, and gives proved verdicts on claims about them",
         )
         .after_help(texts::EXAMPLES)
-        .subcommand_required(true)
-        .subcommand(show_command(alloc)?)?
-        .subcommand(convert_command(alloc)?)?
-        .subcommand(verify_command(alloc)?)
+        .subcommand_required(true);
+    let program = with_command(program, show_command(alloc))?;
+    let program = with_command(program, convert_command(alloc))?;
+    with_command(program, verify_command(alloc))
+}
+
+// Adds a command of the program, where there was memory to make it.
+fn with_command<'a>(
+    program: Command<'a>,
+    command: Result<Command<'a>, AllocError>,
+) -> Result<Command<'a>, AllocError> {
+    program.subcommand(command?)
 }
 
 fn show_command<'a>(alloc: Global) -> Result<Command<'a>, AllocError> {
@@ -101,40 +109,21 @@ fn show_command<'a>(alloc: Global) -> Result<Command<'a>, AllocError> {
 }
 
 fn convert_command<'a>(alloc: Global) -> Result<Command<'a>, AllocError> {
-    let target = Arg::new(alloc, "to")
-        .long("to")
-        .value_name("FORMAT")
-        .required(true)
-        .value_parser(["rle", "mc"].as_slice())
-        .help("The format to write: extended RLE or macrocell");
     Command::new(alloc, "convert")
         .about("Writes the pattern of a file in a format to standard output")
         .after_help(texts::CONVERT)
         .arg(file_word(alloc))?
-        .arg(target)?
+        .arg(target_word(alloc))?
         .arg(rule_word(alloc))
 }
 
 fn verify_command<'a>(alloc: Global) -> Result<Command<'a>, AllocError> {
-    let claims = Arg::new(alloc, "CLAIMS")
-        .required(true)
-        .num_args(1..)
-        .action(ArgAction::Append)
-        .help("The paths of claim texts; - is standard input");
-    let explain = Arg::new(alloc, "explain")
-        .long("explain")
-        .action(ArgAction::SetTrue)
-        .help("Tell also which cell, pattern, file or line a no or a refusal is about");
-    let progress = Arg::new(alloc, "progress")
-        .long("progress")
-        .action(ArgAction::SetTrue)
-        .help("Show how far a long claim is, also where standard error is no terminal");
     Command::new(alloc, "verify")
         .about("Prints a verdict for each claim of a text: yes, no or refused")
         .after_help(texts::VERIFY)
-        .arg(claims)?
-        .arg(explain)?
-        .arg(progress)
+        .arg(claims_word(alloc))?
+        .arg(explain_word(alloc))?
+        .arg(progress_word(alloc))
 }
 
 fn file_word<'a>(alloc: Global) -> Arg<'a> {
@@ -148,6 +137,37 @@ fn rule_word<'a>(alloc: Global) -> Arg<'a> {
         .long("rule")
         .value_name("RULEFILE")
         .help("The path of the rule file with the table that the pattern's rule names")
+}
+
+fn target_word<'a>(alloc: Global) -> Arg<'a> {
+    Arg::new(alloc, "to")
+        .long("to")
+        .value_name("FORMAT")
+        .required(true)
+        .value_parser(["rle", "mc"].as_slice())
+        .help("The format to write: extended RLE or macrocell")
+}
+
+fn claims_word<'a>(alloc: Global) -> Arg<'a> {
+    Arg::new(alloc, "CLAIMS")
+        .required(true)
+        .num_args(1..)
+        .action(ArgAction::Append)
+        .help("The paths of claim texts; - is standard input")
+}
+
+fn explain_word<'a>(alloc: Global) -> Arg<'a> {
+    Arg::new(alloc, "explain")
+        .long("explain")
+        .action(ArgAction::SetTrue)
+        .help("Tell also which cell, pattern, file or line a no or a refusal is about")
+}
+
+fn progress_word<'a>(alloc: Global) -> Arg<'a> {
+    Arg::new(alloc, "progress")
+        .long("progress")
+        .action(ArgAction::SetTrue)
+        .help("Show how far a long claim is, also where standard error is no terminal")
 }
 
 // The command and its words are required, so that clap finds them wherever it finds no fault.
