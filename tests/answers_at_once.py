@@ -12,8 +12,8 @@ from lib.program import PROGRAM, ROOT, Folder, Tally, run
 
 BLOCK = "load block examples/block.rle\n"
 
-# How long the first lines may take, in seconds. They take a small part of one.
-SECONDS = 60
+# How long the first lines are waited for, in seconds. They take a small part of one.
+SECONDS = 600
 
 
 def first_lines(words, count):
@@ -64,7 +64,7 @@ def try_head(tally, files):
     for words, line in ((["verify", long], b"line 2: yes\n"), (["verify", "--explain", long], b"line 2: yes\n"),
                         (["verify", long, "examples/block.claims"], f"{long}: line 2: yes\n".encode())):
         with subprocess.Popen([PROGRAM, *words], cwd=ROOT, stdin=subprocess.DEVNULL, stdout=subprocess.PIPE, stderr=subprocess.PIPE) as program:
-            head = subprocess.run(["head", "-n", "1"], stdin=program.stdout, stdout=subprocess.PIPE, timeout=300, check=False)
+            head = subprocess.run(["head", "-n", "1"], stdin=program.stdout, stdout=subprocess.PIPE, timeout=SECONDS, check=False)
             program.stdout.close()
             complaint = program.stderr.read()
         got, wanted = (head.stdout, complaint, program.returncode), (line, b"cafile: write\n", 2)

@@ -4,7 +4,7 @@ lost in silence."""
 import os
 import subprocess
 
-from lib.program import PROGRAM, Outcome, ROOT, Tally, fault, run
+from lib.program import MOST_WAITING, PROGRAM, ROOT, Outcome, Tally, fault, run
 
 VERIFY = ["verify", "examples/block.claims"]
 SHOW = ["show", "examples/macrocell/glider.mc"]
@@ -18,7 +18,7 @@ def without(descriptor, words):
     """The outcome of a run that is started with this descriptor closed."""
     script = f'exec "$0" "$@" {descriptor}>&-'
     ran = subprocess.run(["sh", "-c", script, PROGRAM, *words], stdin=subprocess.DEVNULL, stdout=subprocess.PIPE, stderr=subprocess.PIPE, cwd=ROOT,
-                         timeout=300, check=False)
+                         timeout=MOST_WAITING, check=False)
     return Outcome(ran.stdout, ran.stderr, ran.returncode)
 
 

@@ -1,5 +1,6 @@
 #!/usr/bin/env -S python3 -B
-"""Claims of many generations, and of more cells than memory holds: each run has to end within some seconds.
+"""Claims of many generations, of planes that are stepped, and of more cells than memory holds: each run has to end within some seconds of a processor,
+bounded beside those of known work.
 
 What the patterns of leaps/ become was computed by Golly (leaps/README.md says how). The other verdicts are known from what the patterns are made of.
 """
@@ -8,17 +9,18 @@ import os
 import random
 import resource
 import tempfile
-import time
 
 from lib import macrocell
 from lib.claim_text import ClaimText, outcome
-from lib.program import ROOT, Folder, Tally, contents, run
+from lib.planes import distinct_squares
+from lib.program import ROOT, Folder, Tally, contents
+from lib.work import excess, timed
 
-# The seconds within which each run has to end.
-BOUND = 20
+# How many times the known work a run may take.
+BOUND = 400
 
 # The bytes of address space that a run has which is to want memory.
-SPACE = 100_000_000
+SPACE = 50_000_000
 
 LEAPS, TABLES = "tests/leaps", "examples/tables"
 
@@ -105,7 +107,7 @@ def generations(count):
 
 
 class Claims:
-    """Claim texts in a folder of their own, and runs over them that have to end in time."""
+    """Claim texts in a folder of their own, and runs over them that have to end within their bounds."""
 
     def __init__(self, tally, folder):
         self.tally, self.files = tally, Folder(folder)
@@ -114,17 +116,14 @@ class Claims:
         """A new claim text."""
         return ClaimText(self.files)
 
-    def judge(self, name, text, explained=False, **how):
-        """Expects the verdicts of a text, and its notes where they are explained."""
-        words = ["verify", *["--explain"] * explained, text.write()]
-        begin = time.monotonic()
-        came = run(words, **how)
-        seconds = time.monotonic() - begin
+    def judge(self, name, text, explained=False, most=BOUND, **how):
+        """Expects the verdicts of a text, and its notes where they are explained, within so many times the known work. It answers the seconds of a processor
+        that were taken."""
+        came, seconds = timed(["verify", *["--explain"] * explained, text.write()], **how)
         wanted = outcome(text.answers, explained)
         complaints = [] if came == wanted else [f"wanted: {wanted}", f"got:    {came}"]
-        if seconds > BOUND:
-            complaints.append(f"it took {seconds:.1f} s")
-        self.tally.tell(f"{name}: {seconds:.1f} s", complaints)
+        self.tally.tell(f"{name}: {seconds:.2f} s", complaints + excess(seconds, most))
+        return seconds
 
 
 def try_after(claims, name, before, rule, count):
@@ -324,6 +323,80 @@ def try_many_squares(claims):
         claims.judge(f"{side} by {side} cells without order, {rule}", text)
 
 
+# Planes whose squares of 16 by 16 cells are all different: how many leaves each part of these may be. Their levels are 8 to 12: a dense plane is stepped for
+# as many generations as four times its side. One of level 14 has more than a million squares, and some millions of cells.
+DENSE = ((4, 4, 4, 4), (8, 8, 4, 4), (8, 8, 8, 8), (16, 16, 8, 8), (16, 16, 16, 16))
+LARGE = (32, 32, 32, 32)
+
+
+def try_stepped(claims):
+    """Large planes that are stepped, of which it is known what becomes: all cells die, or all stay."""
+    for counts in DENSE:
+        content, level = distinct_squares(counts, "B/S")
+        text, longest = claims.text(), 4 << level
+        text.load("plane", content)
+        text.load("nothing", "x = 1, y = 1, rule = B/S\n!")
+        for count in (1, 32, longest - 1, longest, longest + 1):
+            text.claim(f"becomes plane {count} nothing", "yes")
+        claims.judge(f"cells that die, level {level}", text)
+    for counts in DENSE[:3]:
+        content, level = distinct_squares(counts, "B/S012345678")
+        text, longest = claims.text(), 4 << level
+        text.load("plane", content)
+        text.claim(f"becomes plane {longest} plane", "yes")
+        text.claim(f"oscillator plane {longest - 1}", "no, the same after 1, shifted by 0,0")
+        claims.judge(f"cells that stay, level {level}", text)
+
+
+def to_and_fro(rule):
+    """A square of blinkers in either phase and gaps."""
+    chance, side = random.Random(5), 1100
+    rows = [[0] * side for _ in range(side)]
+    for x in range(0, side, 5):
+        for y in range(0, side, 5):
+            for dx, dy in chance.choice((((0, 1), (1, 1), (2, 1)), ((1, 0), (1, 1), (1, 2)), ())):
+                rows[y + dy][x + dx] = 1
+    return f"x = 1, y = 1, rule = {rule}\n{'$'.join(''.join('bo'[cell] for cell in row) for row in rows)}!\n"
+
+
+def without_order(rule):
+    """A square of the same side without order."""
+    chance, side = random.Random(6), 1100
+    return f"x = 1, y = 1, rule = {rule}\n{'$'.join(''.join(chance.choices('bo', k=side)) for _ in range(side))}!\n"
+
+
+def try_a_million_squares(claims):
+    """A plane of more than a million squares that are all different."""
+    content, _ = distinct_squares(LARGE, "B/S")
+    text = claims.text()
+    text.load("plane", content)
+    text.load("nothing", "x = 1, y = 1, rule = B/S\n!")
+    text.claim("becomes plane 32 nothing", "yes")
+    claims.judge("a plane of 1398132 squares", text)
+
+
+def try_dense_beside_sparse(claims):
+    """Far gliders are leapt over, however few the generations are beside the side of their square: stepped word by word they take a thousand times as long."""
+    text = claims.text()
+    for name, dx in (("before", -20000), ("after", -10000)):
+        text.load(name, f"#CXRLE Pos={dx},{dx}\nx = 1, y = 1, rule = B3/S23\nbo39998bo$2bo39998bo$3o39996b3o!\n")
+    text.claim("becomes before 40000 after", "yes")
+    text.claim("becomes before 39999 after", "no, cells differ after 39999")
+    claims.judge("two far gliders", text, most=5)
+
+
+def try_settled(claims):
+    """A dense plane that changes no more but to and fro takes a small part of the time of one that goes on changing."""
+    seconds = {}
+    for name, rule, cells_of in (("to and fro", "B3/S23", to_and_fro), ("without end", "B1357/S1357", without_order)):
+        text = claims.text()
+        text.load("plane", cells_of(rule))
+        text.load("nothing", f"x = 1, y = 1, rule = {rule}\n!")
+        text.claim("becomes plane 240 nothing", "no, cells differ after 240")
+        seconds[name] = claims.judge(f"a dense plane, {name}", text)
+    claims.tally.tell("settled beside changing", [] if seconds["to and fro"] < 0.2 * seconds["without end"] else [str(seconds)])
+
+
 def try_want_of_memory(claims):
     """A plane that grows without order, of which no memory holds the generations: its claim is refused alone."""
     chance = random.Random(2)
@@ -345,7 +418,8 @@ def main():
             try_after(claims, *it)
         for it in RETURNS:
             try_returns(claims, *it)
-        for it in (try_far_gliders, try_squares, try_one_cell, try_most_cells, try_slides, try_many_squares, try_want_of_memory):
+        for it in (try_far_gliders, try_squares, try_one_cell, try_most_cells, try_slides, try_many_squares, try_stepped, try_a_million_squares,
+                   try_dense_beside_sparse, try_settled, try_want_of_memory):
             it(claims)
     tally.finish()
 

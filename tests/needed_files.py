@@ -3,6 +3,7 @@
 that nobody writes, and can neither fail a run nor fill its memory."""
 import os
 import resource
+import subprocess
 import tempfile
 
 from lib.claim_text import ClaimText, outcome
@@ -12,8 +13,8 @@ BLOCK = "x = 2, y = 2, rule = B3/S23\n2o$2o!\n"
 TABLE = "@RULE Spread\n@TABLE\nn_states:3\nneighborhood:vonNeumann\nsymmetries:rotate4\nvar a={1,2}\n0,a,0,0,0,a\n"
 MAX_FILE = 67108864
 
-# A run that opens a pipe that nobody writes would wait for ever; one that doesn't takes far less than these seconds.
-SECONDS = 20
+# Waits for each reader of a pipe, and notes that there was one. So a run that opens the pipe finds it empty, and doesn't wait for ever.
+WRITER = 'while : > "$0"; do echo opened >> "$1"; done'
 
 # Under this limit of a run's address space, in bytes, a file of 67108864 bytes can't be read.
 LIMIT = 50_000_000
@@ -46,7 +47,7 @@ class Files:
         """Runs the program over the text, with notes and without."""
         path = text.write()
         for words in (["verify", path], ["verify", "--explain", path]):
-            tally.expect(f"{name}{', explained' * (len(words) - 2)}", run(words, timeout=SECONDS, **how), outcome(text.answers, len(words) > 2))
+            tally.expect(f"{name}{', explained' * (len(words) - 2)}", run(words, **how), outcome(text.answers, len(words) > 2))
 
 
 def try_unneeded(tally, files):
@@ -123,15 +124,18 @@ def try_several(tally, files):
         text.claim(f"still {'a' if other == 'a' else 'c'}", "yes")
         paths.append(text.write())
     wanted = Outcome("".join(f"{path}: line 3: yes\n" for path in paths).encode(), b"", 0)
-    tally.expect("several texts", run(["verify", *paths], timeout=SECONDS), wanted)
+    tally.expect("several texts", run(["verify", *paths]), wanted)
 
 
 def main():
     tally = Tally()
     with tempfile.TemporaryDirectory() as folder:
-        files = Files(folder)
-        for it in (try_unneeded, try_no_claims, try_needed, try_rule_files, try_several):
-            it(tally, files)
+        files, note = Files(folder), os.path.join(folder, "note")
+        with subprocess.Popen(["sh", "-c", WRITER, files.paths["pipe"], note]) as writer:
+            for it in (try_unneeded, try_no_claims, try_needed, try_rule_files, try_several):
+                it(tally, files)
+            writer.kill()
+        tally.tell("no run opens the pipe", ["it was opened"] if os.path.exists(note) else [])
     tally.finish()
 
 

@@ -4,7 +4,7 @@ import os
 import subprocess
 import tempfile
 
-from lib.program import PROGRAM, ROOT, Folder, Outcome, Tally, ample, contents, fault, lines_outcome, run
+from lib.program import MOST_WAITING, PROGRAM, ROOT, Folder, Outcome, Tally, ample, contents, fault, lines_outcome, run
 
 SHOW, TO_RLE, TO_MC = ["show", "-"], ["convert", "-", "--to", "rle"], ["convert", "-", "--to", "mc"]
 RULE = "examples/tables/spread.rule"
@@ -18,7 +18,7 @@ def claims(text):
 
 def closed(words):
     """The outcome of a run whose standard input is closed."""
-    ran = subprocess.run(["sh", "-c", 'exec "$0" "$@" <&-', PROGRAM, *words], stdout=subprocess.PIPE, stderr=subprocess.PIPE, cwd=ROOT, timeout=300, check=False)
+    ran = subprocess.run(["sh", "-c", 'exec "$0" "$@" <&-', PROGRAM, *words], stdout=subprocess.PIPE, stderr=subprocess.PIPE, cwd=ROOT, timeout=MOST_WAITING, check=False)
     return Outcome(ran.stdout, ran.stderr, ran.returncode)
 
 

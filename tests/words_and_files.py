@@ -5,7 +5,7 @@ import re
 import subprocess
 import tempfile
 
-from lib.program import PROGRAM, ROOT, Folder, Outcome, Tally, fault, lines_outcome, run
+from lib.program import MOST_WAITING, PROGRAM, ROOT, Folder, Outcome, Tally, fault, lines_outcome, run
 
 MAX_FILE = 67108864
 
@@ -29,7 +29,7 @@ def try_help(tally):
         tally.tell(" ".join(words), lacks or ([] if (outcome.complaint, outcome.status) == (b"", 0) else [str(outcome)]))
     for text in [run(["--help"]).printed, *(it.printed for it in helps.values())]:
         for line in re.findall(r"^  (?:cat .* \| )?cafile .*$", text.decode(), re.M):
-            ran = subprocess.run(["sh", "-c", line.replace("cafile ", '"$0" '), PROGRAM], cwd=ROOT, capture_output=True, timeout=300, check=False)
+            ran = subprocess.run(["sh", "-c", line.replace("cafile ", '"$0" '), PROGRAM], cwd=ROOT, capture_output=True, timeout=MOST_WAITING, check=False)
             wanted = 2 if "several" in line else 1 if "pulsar" in line else 0
             tally.tell(f"in the help: {line.strip()}", [] if ran.stdout and not ran.stderr and ran.returncode == wanted else [str(ran)])
     claims = re.findall(r"^      (\w.*)$", helps["verify"].printed.decode(), re.M)

@@ -1,5 +1,6 @@
 """The built program, run from a test, and a count of what passed."""
 import os
+import resource
 import subprocess
 import sys
 from dataclasses import dataclass
@@ -7,6 +8,12 @@ from dataclasses import dataclass
 ROOT = os.path.dirname(os.path.dirname(os.path.dirname(os.path.abspath(__file__))))
 EXAMPLES = os.path.join(ROOT, "examples")
 PROGRAM = os.environ.get("CAFILE", os.path.join(ROOT, "crates", "cafile", "out", "cafile"))
+
+# A run that takes so many seconds of a processor is ended by the system, and one that doesn't end in so many by the clock, though it waits, is ended here.
+MOST_SECONDS, MOST_WAITING = 200, 3000
+
+MOST_ALLOWED = resource.getrlimit(resource.RLIMIT_CPU)[1]
+resource.setrlimit(resource.RLIMIT_CPU, (MOST_SECONDS if MOST_ALLOWED == resource.RLIM_INFINITY else min(MOST_SECONDS, MOST_ALLOWED), MOST_ALLOWED))
 
 
 @dataclass(frozen=True)
@@ -65,10 +72,10 @@ def example(name):
 
 
 def run(words, **how):
-    """Runs the program at the root of the repository. A run that doesn't end in five minutes fails the test."""
+    """Runs the program at the root of the repository. A run that doesn't end fails the test."""
     if "input" not in how:
         how = {"stdin": subprocess.DEVNULL, **how}
-    how = {"cwd": ROOT, "timeout": 300, "stdout": subprocess.PIPE, "stderr": subprocess.PIPE, **how}
+    how = {"cwd": ROOT, "timeout": MOST_WAITING, "stdout": subprocess.PIPE, "stderr": subprocess.PIPE, **how}
     try:
         ran = subprocess.run([PROGRAM, *words], check=False, **how)
     except subprocess.TimeoutExpired as late:
