@@ -214,6 +214,9 @@ def try_rule_files(texts):
         text.claim("becomes block 0 no_end", "refused, no file", b"rule file: " + path)
         text.rule("")
         text.rule_path(path)
+        # of several that are missing the first is told
+        for other in ("another.rule", "a_third.rule", "another.rule"):
+            text.rule_path(texts.files.path(other))
         texts.judge(f"refused for a rule file, {name}", text)
     for name, (content, told) in TABLES.items():
         line, kind = re.fullmatch(r"line (\d+) (.*)", told).groups()

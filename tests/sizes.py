@@ -1,12 +1,15 @@
 #!/usr/bin/env -S python3 -B
-"""Claim texts and patterns far larger than those of examples/: no limit is hidden between a few lines and thousands, or a few cells and 100000.
+"""Claim texts and patterns far larger than those of examples/: no limit is hidden between a few lines and 100000, a few files and as many, or a few cells and
+some millions.
 
 The texts and patterns are made here, of blocks, blinkers and gliders, so that their verdicts are known.
 """
+import itertools
 import os
 import tempfile
 
-from lib.program import Tally, fault, lines_outcome, run
+from lib.claim_text import ClaimText, outcome
+from lib.program import Folder, Tally, fault, lines_outcome, run
 
 BLOCK, BLINKER, EMPTY = "examples/block.rle", "examples/blinker.rle", "examples/empty.rle"
 
@@ -21,8 +24,22 @@ CLAIMS = (
     ("still lost", "refused, no file"),
 )
 
-# The lines of a long claim text, and of one beyond 2 ^ 16 claims.
-LINES, MANY_LINES = 6000, 100000
+# The lines of a long claim text, and of one beyond 100000 lines.
+LINES, MANY_LINES = 6000, 110000
+
+# Patterns, and claims about them, each with its verdict and note: all kinds of both.
+PATTERNS = {"dot": "x = 1, y = 1\no!", "high": "x = 2, y = 2, rule = B36/S23\n2o$2o!", "state": "x = 1, y = 1\nB!", "bad": "x = 1, y = 1\nz!",
+            "life": "x = 1, y = 1, rule = Life\no!", "full": "\n".join(["[M2]", "1 1 1 1 1", *(f"{up} {up - 1} {up - 1} {up - 1} {up - 1}" for up in range(2, 40)), ""]),
+            "nothing": "x = 1, y = 1\n!", "lost": None}
+KINDS = (
+    ("still block", "yes", None), ("still dot", "no, cells differ after 1", "dot at 0,0: 0 after 1 generation, claimed 1"),
+    ("becomes nothing 7 dot", "no, cells differ after 7", "nothing at 0,0: 0 after 7 generations, claimed 1"), ("oscillator blinker 2", "yes", None),
+    ("oscillator block 2", "no, the same after 1, shifted by 0,0", None), ("spaceship nothing 4 1 1", "no, empty", None),
+    ("still lost", "refused, no file", "lost: {lost}"), ("becomes block 1 lost", "refused, no file", "lost: {lost}"),
+    ("still bad", "refused, bad pattern: rle syntax", "bad: {bad}, line 2"), ("becomes block 0 life", "refused, bad rule: unknown", "life: {life}"),
+    ("still state", "refused, state too large", "state: {state}"), ("becomes block 0 high", "refused, mixed rules", None),
+    ("spaceship full 1 1 0", "refused, too many cells", "full: {full}"),
+)
 
 
 def long_text(count=LINES):
@@ -44,6 +61,19 @@ class Texts:
     def __init__(self, tally, folder):
         self.tally, self.folder = tally, folder
 
+    def text(self):
+        """A new claim text, which loads a block and a blinker, and whose files stand in a folder of their own."""
+        text = ClaimText(Folder(tempfile.mkdtemp(dir=self.folder)))
+        text.load_path("block", BLOCK)
+        text.load_path("blinker", BLINKER)
+        return text
+
+    def judge(self, name, text):
+        """Runs the program over a claim text, with notes, and without."""
+        path = text.write()
+        for words in (["verify", "--explain", path], ["verify", path]):
+            self.tally.expect(f"{name}: {len(text.lines)} lines{', explained' * (len(words) - 2)}", run(words), outcome(text.answers, len(words) > 2))
+
     def path(self, name, text):
         """Writes a file, and gives its path."""
         path = os.path.join(self.folder, name)
@@ -59,8 +89,6 @@ class Texts:
 
 def try_long_texts(texts):
     """Thousands of lines, and a fault of each kind in a late one."""
-    lines, verdicts = long_text(MANY_LINES)
-    texts.expect("a longer claim text", lines, lines_outcome(verdicts))
     lines, verdicts = long_text()
     texts.expect("a long claim text", lines, lines_outcome(verdicts))
     for late in (len(lines) - 700, len(lines)):
@@ -93,6 +121,68 @@ def try_many_files(texts):
     texts.expect("names of as many paths", lines + claims, lines_outcome(answers))
     lines.append("load n1500 elsewhere.rle")
     texts.expect("names, one of them taken", lines, fault(f"claims line {count + 1}: name taken"))
+
+
+def try_kinds(texts):
+    """Each kind of a verdict and of a note, on all lines up to more than 100000, and in a text of more than 1000 paths."""
+    for paths in (0, 3000):
+        text = texts.text()
+        for at in range(paths):
+            text.load_path(f"p{at}", f"{'./' * (at % 50)}{'/' * (at // 50)}{texts.folder}/nowhere")
+        files = {name: (text.load(name, content) if content else text.load_path(name, f"{texts.folder}/lost")).decode() for name, content in PATTERNS.items()}
+        for claim, verdict, note in itertools.cycle(KINDS):
+            text.claim(claim, verdict, note.format(**files) if note else "")
+            if len(text.lines) >= (2 * paths or MANY_LINES):
+                break
+        texts.judge(f"each kind, {paths} paths more", text)
+
+
+def try_rule_files(texts):
+    """A rule file that is missing or faulty, in a text of more than 1000 paths and on lines beyond 100000."""
+    good = "@RULE S\n@TABLE\nn_states:3\nneighborhood:oneDimensional\nsymmetries:none\n"
+    for verdict, content, line in (("refused, no file", None, ""), ("refused, bad table: syntax", good + "var\n", ", line 6")):
+        text = texts.text()
+        text.rule(good)
+        path = (text.rule(content) if content else text.rule_path(f"{texts.folder}/lost")).decode()
+        for at, it in enumerate(spelled(BLOCK, 2000)):
+            text.load_path(f"p{at}", it)
+        for before in (0, 98000):
+            text.lines += [b""] * before
+            for at in range(2000):
+                text.claim(f"becomes p{at} {at} block", verdict, f"rule file: {path}{line}")
+        texts.judge(verdict, text)
+
+
+def spelled(path, count):
+    """So many spellings of a path of the file system."""
+    return ("".join(parts) + path for parts in itertools.islice(itertools.product(("./", ".//"), repeat=17), count))
+
+
+def try_more_files(texts):
+    """100000 files, each of which some claim needs."""
+    text = texts.text()
+    for at, path in enumerate(spelled(BLOCK, 100000)):
+        text.load_path(f"n{at}", path)
+    for at in range(0, 100000, 2):
+        text.claim(f"becomes n{at} 0 n{at + 1}", "yes")
+    path = text.write()
+    texts.tally.expect("100000 files", run(["verify", path]), outcome(text.answers, False))
+
+
+def try_periods(texts):
+    """Every number of generations from 0 to 1500, in claims of each kind that has one."""
+    text = texts.text()
+    text.load_path("glider", "examples/glider.rle")
+    for count in range(1501):
+        text.claim(f"becomes blinker {count} blinker", f"no, cells differ after {count}" if count % 2 else "yes")
+        if count > 1:
+            back = "yes" if count == 2 else "no, the same after 2, shifted by 0,0"
+            text.claim(f"oscillator blinker {count}", f"no, cells differ after {count}" if count % 2 else back)
+        if count > 0:
+            there = "yes" if count == 4 else f"no, the same after {4}, shifted by 1,1"
+            text.claim(f"spaceship glider {count} {count // 4 or 1} {count // 4 or 1}", there if count % 4 == 0 else f"no, cells differ after {count}")
+    path = text.write()
+    texts.tally.expect("numbers of generations", run(["verify", path]), outcome(text.answers, False))
 
 
 def try_many_cells(texts):
@@ -138,11 +228,8 @@ def main():
     tally = Tally()
     with tempfile.TemporaryDirectory() as folder:
         texts = Texts(tally, folder)
-        try_long_texts(texts)
-        try_many_files(texts)
-        try_many_cells(texts)
-        try_ships(texts)
-        try_the_most_cells(texts)
+        for it in (try_long_texts, try_kinds, try_rule_files, try_many_files, try_more_files, try_periods, try_many_cells, try_ships, try_the_most_cells):
+            it(texts)
     tally.finish()
 
 
