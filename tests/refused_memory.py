@@ -19,16 +19,15 @@ import itertools
 import os
 import re
 import resource
-import shutil
-import subprocess
-import tempfile
 
-from lib.program import ROOT, Outcome, Tally, example, example_words, fault, lines_outcome, run
-from sizes import long_text
+from lib.program import Outcome, Tally, example, example_words, fault, lines_outcome, run
+from lib.refusing import refusing_program
+from sizes import BLOCK, long_text, spelled
 
 # Claim texts of examples/, and how many allocations are passed over between two that are refused.
 EXAMPLES = {"block": 1, "glider": 1, "several": 1, "bad_patterns": 1, "rules": 1, "mixed_rules": 1, "states": 1, "pulsar": 1, "number": 1, "syntax": 1,
-            "unknown_name": 1, "table_causes": 1, "bad_table": 1, "slide": 1, "tables": 5, "r_pentomino": 11, "macrocells": 11, "bad_macrocells": 5}
+            "unknown_name": 1, "table_causes": 1, "bad_table": 1, "slide": 1, "tables": 5, "r_pentomino": 11, "soup": 11, "macrocells": 11,
+            "bad_macrocells": 5}
 
 # Examples of `show` and `convert`, in both formats, with a rule file and without, and with a fault.
 WORDS = {"show_rle": 1, "show_macrocell": 1, "show_table": 1, "show_no_table": 1, "show_bad_table": 1, "show_timeline": 1, "show_full_square": 7,
@@ -48,44 +47,6 @@ NO_MEMORY = fault("memory")
 # A block and a row of 16777216 cells are read under this limit of a run's address space, in bytes. The block takes less than 5 million bytes, and the row
 # more than 400 million, at 24 bytes a cell: the limit stands about half-way between the two in their ratio.
 LIMIT = 50_000_000
-
-
-def build(folder):
-    """Compiles the refusing allocator by the kit's compiler and linker, or by those on the path, and gives its path; None where none are there."""
-    kit = os.path.dirname(os.path.dirname(os.path.realpath(shutil.which("rt") or "")))
-    made = os.path.join(folder, "refuse.so")
-    for compiler in ([os.path.join(kit, "toolchain", "bin", "clang"), "-fuse-ld=lld"], ["clang"], ["cc"]):
-        words = [*compiler, "-shared", "-fPIC", "-O1", "-nostdlib", "-o", made, os.path.join(ROOT, "tests", "refuse.c")]
-        try:
-            if subprocess.run(words, stdout=subprocess.DEVNULL, stderr=subprocess.DEVNULL, check=False).returncode == 0:
-                return made
-        except OSError:
-            pass
-    return None
-
-
-class Refusing:
-    """Runs of the program over the refusing allocator."""
-
-    def __init__(self, library, told):
-        self.library, self.told = library, told
-
-    def run(self, words, number, goes_on=False):
-        """The outcome of a run whose allocation of this number is refused, those after it too where it goes on; None where it has no such one."""
-        before = os.fstat(self.told).st_size
-        environment = {"LD_PRELOAD": self.library, "REFUSE": str(number), "REFUSE_TELL": str(self.told), **({"REFUSE_ON": "1"} if goes_on else {})}
-        outcome = run(words, env=environment, pass_fds=(self.told,))
-        return outcome if os.fstat(self.told).st_size > before else None
-
-    def sweep(self, words, numbers, goes_on=False):
-        """The outcomes of runs whose allocations with these numbers are refused, until one isn't met, by the number."""
-        outcomes = {}
-        for number in numbers:
-            outcome = self.run(words, number, goes_on)
-            if outcome is None:
-                break
-            outcomes[number] = outcome
-        return outcomes
 
 
 def by_eighths():
@@ -240,10 +201,12 @@ def try_words(tally, refusing):
 
 
 def try_large(tally, refusing, folder):
-    """Some of the allocations of a long claim text and of a long run."""
+    """Some of the allocations of a long claim text, of one with many paths, and of a long run."""
     r_pentomino = ["load r examples/r_pentomino.rle", "load s examples/r_pentomino_1103.rle", "becomes r 1103 s", "becomes r 1102 s", "becomes s 0 s"]
     for name, (lines, verdicts) in {
         "a long claim text": long_text(),
+        "200 paths": ([*(f"load n{at} {path}" for at, path in enumerate(spelled(BLOCK, 200))), *(f"still n{at}" for at in range(200))],
+                      [(201 + at, "yes") for at in range(200)]),
         "1103 generations": (r_pentomino, [(3, "yes"), (4, "no, cells differ after 1102"), (5, "yes")]),
     }.items():
         path = os.path.join(folder, "large.claims")
@@ -302,18 +265,11 @@ def try_a_limit(tally, folder):
 
 def main():
     tally = Tally()
-    with tempfile.TemporaryDirectory() as folder, tempfile.TemporaryFile() as told:
-        library = build(folder)
-        if library is None:
-            tally.tell("refused memory", ["no C compiler was found: neither the kit's nor clang or cc on the path"])
-        else:
-            refusing = Refusing(library, told.fileno())
-            try_examples(tally, refusing)
-            try_explained(tally, refusing)
-            try_several(tally, refusing)
-            try_words(tally, refusing)
+    with refusing_program(tally, "refused memory") as (folder, refusing):
+        if refusing:
+            for it in (try_examples, try_explained, try_several, try_words, try_for_good):
+                it(tally, refusing)
             try_large(tally, refusing, folder)
-            try_for_good(tally, refusing)
         try_a_limit(tally, folder)
     tally.finish()
 

@@ -1,0 +1,181 @@
+#!/usr/bin/env -S python3 -B
+"""Reads and writes that fail in mid-stream, or go on by a byte at a time, by tests/refuse.c: all that comes of each is known.
+
+- By a byte at a time, read or written, a run comes to what it does otherwise.
+- Where the kth byte of standard output can't be written, the first k - 1 are there and no other, though later writes would go well: nothing is tried
+  again. `cafile: write` is told, and the status is 2. That a write takes no byte is a failure too.
+- Where the kth byte of standard error can't be written, the status is the same, and so is all that comes before that line and after it.
+- Where the kth byte of a file can't be read, that file is told as one that can't be read, or refuses the claims that need it; the others are judged.
+"""
+import os
+
+from lib.program import Folder, Outcome, Tally, ample, fault, run
+from lib.refusing import refusing_program
+
+RULE = "@RULE S\n@TABLE\nn_states:3\nneighborhood:oneDimensional\nsymmetries:none\n"
+DOT, ROW = "x = 1, y = 1\no!", "x = 1, y = 1\n3o!"
+MACROCELL = "[M2]\n*$\n4 0 0 0 1\n"
+
+# The bytes of a usual read.
+PIECE = 8192
+
+
+def claim_text(files):
+    """A claim text about two patterns, its path and its files' paths."""
+    dot, row = files.path("dot.rle", DOT), files.path("row.rle", ROW)
+    text = f"load dot {dot}\nload row {row}\nstill dot\noscillator row 2\nbecomes row 0 dot\n"
+    return files.path("text.claims", text), (dot, row)
+
+
+def all_words(files):
+    """The words of runs of each kind."""
+    text, (dot, _) = claim_text(files)
+    lost = files.path("lost.claims", "load lost nowhere.rle\nstill lost\n")
+    rule, state = files.path("s.rule", RULE), files.path("state.rle", "x = 1, y = 1, rule = S\nB!")
+    macrocell = files.path("dot.mc", MACROCELL)
+    return (
+        ["verify", text], ["verify", "--explain", text], ["verify", "--explain", text, lost], ["show", dot], ["show", macrocell],
+        ["show", state, "--rule", rule], ["convert", dot, "--to", "mc"], ["convert", macrocell, "--to", "rle"], ["--version"], ["verify", "--help"],
+    )
+
+
+def named(words):
+    """What a run is called, without its folder."""
+    return " ".join(os.path.basename(word) for word in words)
+
+
+def try_bytes(tally, refusing, files):
+    """Reads and writes of a byte at a time."""
+    for words in (*all_words(files), ["show", "nowhere"], ["verify"], ["verify", files.path("bad.claims", "gun\n")]):
+        wanted = run(words)
+        for faults in ({"READ_MOST": 1}, {"READ_MOST": 7}, {"WRITE_MOST": 1}, {"WRITE_MOST": 5, "READ_MOST": 3}, {"WRITE_MOST": 1, "WRITE_TO": 2}):
+            got, _ = refusing.run(words, faults)
+            tally.expect(f"{named(words)}, {faults}", got, wanted)
+
+
+def try_output(tally, refusing, files):
+    """Each byte of standard output in turn can't be written."""
+    for words in all_words(files):
+        wanted, whole = run(words).printed, len(run(words).printed)
+        numbers = range(1, whole + 2) if whole < 200 else [*range(1, 20), *range(20, whole, whole // 20), whole, whole + 1]
+        for name in ("WRITE_FAILS", "WRITE_TAKES_NONE"):
+            complaints = []
+            for number in numbers:
+                got, is_met = refusing.run(words, {name: number, "WRITE_MOST": 1})
+                if is_met != (number <= whole):
+                    complaints.append(f"byte {number} of {whole}: met: {is_met}")
+                elif is_met and got != Outcome(wanted[:number - 1], b"cafile: write\n", 2):
+                    complaints.append(f"byte {number} of {whole}: {got}")
+            tally.tell(f"{named(words)}, {name}: {whole} bytes", complaints)
+
+
+def try_errors(tally, refusing, files):
+    """Each byte of standard error in turn can't be written: the other lines and the status are the same."""
+    text, _ = claim_text(files)
+    bad, worse = files.path("bad.claims", "gun\n"), files.path("worse.claims", "still a\n")
+    rule, z = files.path("r.rule", "@RULE R\n@TABLE\nn_states:1\n"), files.path("z.rle", "x = 1, y = 1\nz!")
+    for words in (["show", "nowhere"], ["convert", z, "--to", "mc"], ["show", z, "--rule", rule], ["verify", bad], ["verify", bad, text, worse], ["verfy"]):
+        ample_run, complaints, at = run(words), [], 0
+        for line in ample_run.complaint.splitlines(keepends=True) if words != ["verfy"] else [ample_run.complaint]:
+            for number in range(1, len(line) + 1):
+                got, is_met = refusing.run(words, {"WRITE_FAILS": at + number, "WRITE_MOST": 1, "WRITE_TO": 2})
+                told = ample_run.complaint[:at + number - 1] + ample_run.complaint[at + len(line):]
+                if not is_met or got != Outcome(ample_run.printed, told, ample_run.status):
+                    complaints.append(f"byte {at + number}, met: {is_met}: {got}, wanted {told!r}")
+            at += len(line)
+        tally.tell(f"standard error, {named(words)}: {at} bytes", complaints)
+
+
+def expect_reads(tally, refusing, words, wanted, **how):
+    """Each byte in turn, and then each end of a file, can't be read: `wanted` has for each file the number of its bytes and what comes of that."""
+    complaints, at = [], 0
+    for size, outcome in wanted:
+        for number in range(at + 1, at + size + 2):
+            got, is_met = refusing.run(words, {"READ_FAILS": number, "READ_MOST": 1}, **how)
+            if not is_met or got != outcome:
+                complaints.append(f"read {number}, met: {is_met}: {got}, wanted {outcome}")
+        at += size + 1
+    got, is_met = refusing.run(words, {"READ_FAILS": at + 1, "READ_MOST": 1}, **how)
+    if is_met or got != run(words, **how):
+        complaints.append(f"after {at} reads, met: {is_met}: {got}")
+    tally.tell(f"reads, {named(words)}: {at}", complaints)
+
+
+def refused(printed, lines, notes=()):
+    """What a run prints whose claims on these lines are refused for a file that isn't there, each with its note."""
+    got = printed.splitlines()
+    for line in lines:
+        got = [b"line %d: refused, no file" % line if it.startswith(b"line %d:" % line) else it for it in got]
+    return Outcome(b"".join(it + b"\n" for it in got), b"", 2)
+
+
+def try_reads(tally, refusing, files):
+    """Each byte of each file in turn can't be read."""
+    text, (dot, row) = claim_text(files)
+    size, plain = os.path.getsize(text), run(["verify", text]).printed
+    expect_reads(tally, refusing, ["verify", text], (
+        (size, fault(f"cannot read {text}")), (len(DOT), refused(plain, (3, 5))), (len(ROW), refused(plain, (4, 5)))))
+    no_dot = b"line 3: refused, no file\n  dot: %s\nline 4: yes\nline 5: refused, no file\n  dot: %s\n" % (dot.encode(), dot.encode())
+    no_row = b"line 4: refused, no file\n  row: %s\nline 5: refused, no file\n  row: %s\n" % (row.encode(), row.encode())
+    whole = run(["verify", "--explain", text]).printed
+    before = whole.partition(b"line 4")[0]
+    expect_reads(tally, refusing, ["verify", "--explain", text], (
+        (size, fault(f"cannot read {text}")), (len(DOT), Outcome(no_dot, b"", 2)), (len(ROW), Outcome(before + no_row, b"", 2))))
+    rule, state = files.path("s.rule", RULE), files.path("state.rle", "x = 1, y = 1, rule = S\nB!")
+    for words in (["show", state, "--rule", rule], ["convert", state, "--rule", rule, "--to", "mc"]):
+        expect_reads(tally, refusing, words, ((len(RULE), fault(f"cannot read {rule}")), (os.path.getsize(state), fault(f"cannot read {state}"))))
+    macrocell = files.path("dot.mc", MACROCELL)
+    for words in (["show", macrocell], ["convert", macrocell, "--to", "rle"], ["show", dot]):
+        expect_reads(tally, refusing, words, ((os.path.getsize(words[1]), fault(f"cannot read {words[1]}")),))
+
+
+def try_several(tally, refusing, files):
+    """A text that can't be read to its end is told, and the others are judged; so with a rule file, and with standard input."""
+    dot, rule = files.path("dot.rle", DOT), files.path("s.rule", RULE)
+    one, other = f"load dot {dot}\nstill dot\n", f"rule {rule}\nload dot {dot}\nbecomes dot 0 dot\n"
+    first, second = files.path("one.claims", one), files.path("other.claims", other)
+    no, yes = f"{first}: line 2: no, cells differ after 1\n", f"{second}: line 3: yes\n"
+    gone = ": refused, no file\n"
+    expect_reads(tally, refusing, ["verify", first, second], (
+        (len(one), Outcome(yes.encode(), f"cafile: {first}: cannot read {first}\n".encode(), 2)),
+        (len(DOT), Outcome(f"{first}: line 2{gone}{yes}".encode(), b"", 2)),
+        (len(other), Outcome(no.encode(), f"cafile: {second}: cannot read {second}\n".encode(), 2)),
+        (len(RULE), Outcome(f"{no}{second}: line 3{gone}".encode(), b"", 2)), (len(DOT), Outcome(f"{no}{second}: line 3{gone}".encode(), b"", 2))))
+    expect_reads(tally, refusing, ["show", "-"], ((len(DOT), fault("cannot read -")),), input=DOT.encode())
+    expect_reads(tally, refusing, ["verify", "-"], (
+        (len(one), fault("cannot read -")), (len(DOT), Outcome(f"line 2{gone}".encode(), b"", 2))), input=one.encode())
+
+
+def try_long(tally, refusing, files):
+    """Files and outputs of several pieces."""
+    comment = "#C " + "c" * (3 * PIECE) + "\n"
+    path = files.path("long.rle", comment + DOT)
+    for words in (["show", path], ["convert", path, "--to", "mc"]):
+        wanted = run(words)
+        for most in (PIECE - 1, 4096, 1000):
+            got, _ = refusing.run(words, {"READ_MOST": most})
+            tally.expect(f"{words[0]} a long file by {most} bytes", got, wanted)
+        outcomes = refusing.until_unmet(words, "READ_FAILS", range(1, 100))
+        tally.tell(f"{words[0]} a long file, {len(outcomes)} reads",
+                   [f"read {number}: {it}" for number, it in outcomes.items() if it != fault(f"cannot read {path}")] or ([] if len(outcomes) > 1 else ["wanted some"]))
+    text = files.path("many.claims", "load block examples/block.rle\n" + "still block\n" * 3000)
+    printed = b"".join(b"line %d: yes\n" % line for line in range(2, 3002))
+    got, _ = refusing.run(["verify", text], {"WRITE_MOST": 3})
+    tally.expect("3000 lines by three bytes", got, ample(printed))
+    for byte in (10, 20000, len(printed)):
+        got, is_met = refusing.run(["verify", text], {"WRITE_FAILS": byte, "WRITE_MOST": 1})
+        tally.tell(f"3000 lines, byte {byte}", [] if is_met and got == Outcome(printed[:byte - 1], b"cafile: write\n", 2) else [str(got)])
+
+
+def main():
+    tally = Tally()
+    with refusing_program(tally, "failing devices") as (folder, refusing):
+        for it in (try_bytes, try_output, try_errors, try_reads, try_several, try_long) if refusing else ():
+            inner = os.path.join(folder, it.__name__)
+            os.mkdir(inner)
+            it(tally, refusing, Folder(inner))
+    tally.finish()
+
+
+if __name__ == "__main__":
+    main()
