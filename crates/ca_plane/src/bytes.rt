@@ -186,6 +186,3 @@ pub fn integer(bytes: &[u8]) -> Option<i64>
         None => Some(0i64.saturating_add_unsigned(whole_number(bytes)?)),
     }
 }
-
-#[cfg(test)]
-mod tests;

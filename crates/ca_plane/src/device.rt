@@ -101,6 +101,3 @@ impl<W: Write> Dev<W> {
         Ok(count)
     }
 }
-
-#[cfg(test)]
-mod tests;

@@ -4,8 +4,6 @@
 mod automaton;
 pub mod bytes;
 mod device;
-#[cfg(test)]
-mod faulty;
 mod memory;
 mod plane;
 mod point;

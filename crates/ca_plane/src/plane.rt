@@ -225,6 +225,3 @@ impl<'a> Iterator for Cells<'a> {
         self.cells.next().copied()
     }
 }
-
-#[cfg(test)]
-mod tests;

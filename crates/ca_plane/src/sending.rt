@@ -29,6 +29,3 @@ pub fn send<W: Write>(device: &mut Dev<W>, bytes: &[u8]) -> Result<(), WriteFaul
     }
     Ok(())
 }
-
-#[cfg(test)]
-mod tests;

@@ -14,6 +14,3 @@ pub use fault::QuadFault;
 pub use id::Id;
 pub use store::Store;
 pub use tree::{Spot, Tree, WideBounds};
-
-#[cfg(test)]
-mod tests;

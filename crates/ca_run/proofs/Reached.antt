@@ -5,7 +5,6 @@ use Rattle.std.specs.List.{All, AllByRecursion}
 use Rattle.std.proofs.lemmas.List.Elements.{All-contains, All-cons, All-nil}
 use Rattle.ca_plane.specs.declared.point.Point.{Point}
 use Rattle.ca_plane.specs.Plane.{Picture, cell}
-use Rattle.ca_plane.specs.Change.{Sets}
 use Rattle.ca_plane.specs.Generations.{around, after}
 use Rattle.ca_plane.specs.Sparse.{IsSparse}
 use Rattle.ca_plane.proofs.Pictures.{IsListed, Contains-cell, cell-listed, cell-All}
@@ -65,13 +64,3 @@ within_one_more P n before now m less = below_more P n before now m less
 -- nor does the first
 pub within_first : (P : ℕ → Type 0) → P 0 → (m : ℕ) → m < 1 → P m
 within_first P now m less = let zero_only : 0 ≡ m = omega arith in subst P zero_only now
-
--- ---- states below a bound
-
--- a state below n is written, so all states stay below n
-pub below_Sets : (p q : Picture) (at : Point) (s n : ℕ) → Sets p q at s → s < n → ((x y : ℤ) → cell p x y < n) → (x y : ℤ) → cell q x y < n
-below_Sets p q at s n sets low below x y = subst (λ t. t < n) (sym (sets x y)) (chosen _ (cell p x y) (below x y))
-  where
-    chosen : (b : Bool) (v : ℕ) → v < n → (if b then s else v) < n
-    chosen true v less = low
-    chosen false v less = less

@@ -16,6 +16,3 @@ pub use generations::{step, steps};
 pub use kernel::kernel16;
 pub use leaper::{Leaper, Milestone};
 pub use watch::{Unwatched, Watch};
-
-#[cfg(test)]
-mod tests;

@@ -1,6 +1,6 @@
 use Rattle.std.specs.List.{All}
 use Rattle.ca_plane.specs.Sparse.{IsInPlane}
-use Rattle.ca_plane.proofs.plane.tests.gathered.Given as goal
+use Rattle.ca_run_tests.proofs.planes.gathered.Given as goal
 
 -- the cells so far are in the square of a plane
 abbrev pub invariant-cells : goal.invariant-cells
