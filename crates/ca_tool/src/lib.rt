@@ -19,6 +19,3 @@ pub use printing::{lines, status};
 pub use read::{MAX_FILE, read_all};
 pub use run::{verify_run, verify_told, verify_watched};
 pub use telling::Telling;
-
-#[cfg(test)]
-mod tests;

@@ -1,0 +1,175 @@
+//! The callers that the libraries' pages show, and what a text says and no verdict shows.
+
+use crate::devices::expect;
+use ca_claims::{Answer, ClaimFault, File, Verdict, Why, read_claims, verify};
+use ca_macro::{MacroFault, read_macro};
+use ca_plane::{Automaton, Dev};
+use ca_quad::{Spot, Store};
+use ca_rle::{RleFault, read_rle};
+use ca_rule::resolve;
+use ca_tool::verify_run;
+use std::alloc::Global;
+use std::test::*;
+
+/// What becomes of a cell that is alone with two others in a row.
+fn next_cell() -> Option<u8> {
+    let life = resolve(b"23/3", &[]).ok()?;
+    Some(life.next(&[0, 0, 0, 1, 1, 1, 0, 0, 0]))
+}
+
+#[test]
+fn a_rule_gives_the_next_cell(rt: HostRuntime) {
+    expect(&rt, next_cell() == Some(1), "the next cell");
+}
+
+/// RLE texts, the rule text of each as it stands, and its generation.
+const SAID: &[(&[u8], &[u8], u64)] = &[
+    (b"x = 1, y = 1\no!", b"B3/S23", 0),
+    (b"x=0,y=0,rule=23/3\no!", b"23/3", 0),
+    (b"x = 1, y = 1, rule =\no!", b"B3/S23", 0),
+    (b"x = 1, y = 1, rule = B3 / S23\no!", b"B3", 0),
+    (b"x = 1, y = 1, rule = B3/S23, more\no!", b"B3/S23,", 0),
+    (b"x = 1, y = 1, rule = B3/S23, more\r\no!", b"B3/S23,", 0),
+    (b"x = 1, y = 1, rule = \t\no!", b"B3/S23", 0),
+    (b"#r 23/3\nx = 1, y = 1, rule = Life\no!", b"Life", 0),
+    (
+        b"#r 23/3\nx = 1, y = 1, rule = B3 / S23, more\r\no!",
+        b"B3",
+        0,
+    ),
+    (b"#CXRLE pos=1 Pos Gen:3\nx = 1, y = 1\no!", b"B3/S23", 0),
+    (
+        b"#N R-pentomino\r\n#C a comment\r\n#CXRLE Pos=-1,-1 Gen=7\r\nx = 3, y = 3\r\nb2o$2o$bo!\r\n",
+        b"B3/S23",
+        7,
+    ),
+    (
+        b"#CXRLE Pos=1,2 Gen=5 Pos=-3,-0\n  #CXRLE Gen=9223372036854775807\r\nx = 1, y = 1\n!",
+        b"B3/S23",
+        9223372036854775807,
+    ),
+    (
+        b"#CXRLE Gen=0000000000000000000000000000001\nx = 9999999999999999999999999999999999999999, y = 1\n!",
+        b"B3/S23",
+        1,
+    ),
+    (b"#CXRLE Gen=5 Gen=0\nx = 1, y = 1\no!", b"B3/S23", 0),
+];
+
+fn says(alloc: Global, text: &[u8], rule: &[u8], generation: u64) -> Result<bool, RleFault> {
+    let pattern = read_rle(alloc, text)?;
+    Ok(pattern.rule_text.as_slice() == rule && pattern.generation == generation)
+}
+
+#[test]
+fn an_rle_says_its_rule_and_generation(rt: HostRuntime) {
+    'texts: for &(text, rule, generation) in SAID {
+        let holds = says(rt.alloc(), text, rule, generation) == Ok(true);
+        expect(&rt, holds, "a rule text and a generation");
+    }
+}
+
+/// The state of a cell of a macrocell text, and its generation.
+fn macro_cell(alloc: Global, store: &mut Store, text: &[u8]) -> Result<(u8, u64), MacroFault> {
+    let glider = read_macro(alloc, store, text)?;
+    Ok((
+        store.cell(glider.tree, Spot { x: 1, y: 0 }),
+        glider.generation,
+    ))
+}
+
+#[test]
+fn a_macrocell_is_read(rt: HostRuntime) {
+    let mut store = Store::new(rt.alloc());
+    let found = macro_cell(
+        rt.alloc(),
+        &mut store,
+        b"[M2]\n#G 4\n.*$..*$***\n4 0 0 0 1\n",
+    );
+    expect(&rt, found == Ok((1, 4)), "a macrocell");
+    let found = macro_cell(rt.alloc(), &mut store, b"x = 0, y = 0");
+    expect(&rt, found == Err(MacroFault::NotMacro), "no macrocell");
+}
+
+const BLOCK: &[u8] = b"x = 2, y = 2, rule = B3/S23\n2o$2o!\n";
+
+const EMPTY: &[u8] = b"x = 0, y = 0, rule = B3/S23\n!";
+
+/// Files of which some have one path.
+const FILES: &[File<'static>] = &[
+    File {
+        path: b"other.rle",
+        bytes: EMPTY,
+    },
+    File {
+        path: b"block.rle",
+        bytes: BLOCK,
+    },
+    File {
+        path: b"empty.rle",
+        bytes: EMPTY,
+    },
+    File {
+        path: b"block.rle",
+        bytes: b"no pattern",
+    },
+    File {
+        path: b"empty.rle",
+        bytes: BLOCK,
+    },
+];
+
+const ANSWERS: &[Answer] = &[
+    Answer {
+        line: 3,
+        verdict: Verdict::Yes,
+    },
+    Answer {
+        line: 4,
+        verdict: Verdict::No(Why::Empty),
+    },
+];
+
+/// Whether the answers are these.
+fn are_answers(alloc: Global, text: &[u8], wanted: &[Answer]) -> Result<bool, ClaimFault> {
+    let claims = read_claims(alloc, text)?;
+    let Ok(answers) = verify(alloc, &claims, FILES) else {
+        return Ok(false);
+    };
+    Ok(answers.as_slice() == wanted)
+}
+
+#[test]
+fn the_first_file_of_a_path_counts(rt: HostRuntime) {
+    let text = b"load e empty.rle\nload b block.rle\nstill b\nstill e\n";
+    let found = are_answers(rt.alloc(), text, ANSWERS);
+    expect(&rt, found == Ok(true), "the first file of a path");
+}
+
+/// Whether a claim about a file that isn't handed in is refused.
+fn is_refused(alloc: Global) -> Result<bool, ClaimFault> {
+    let claims = read_claims(alloc, b"load b block.rle\nstill b\n")?;
+    let mut out = Dev::new(Vec::new(alloc));
+    let end = verify_run(alloc, &claims, &[], &mut out);
+    Ok(end == Ok(2) && out.inner().as_slice() == b"line 2: refused, no file\n".as_slice())
+}
+
+/// Whether the text asks for two paths, each once.
+fn has_two_paths(alloc: Global) -> Result<bool, ClaimFault> {
+    let claims = read_claims(alloc, b"load a p\nload b p\nload c r\n")?;
+    if claims.path_count() != 2 {
+        return Ok(false);
+    }
+    Ok(claims.path(0) == b"p".as_slice() && claims.path(1) == b"r".as_slice())
+}
+
+fn has_no_paths(alloc: Global) -> Result<bool, ClaimFault> {
+    Ok(read_claims(alloc, b"")?.path_count() == 0)
+}
+
+#[test]
+fn claims_and_their_paths(rt: HostRuntime) {
+    expect(&rt, is_refused(rt.alloc()) == Ok(true), "no file");
+    expect(&rt, has_two_paths(rt.alloc()) == Ok(true), "two paths");
+    expect(&rt, has_no_paths(rt.alloc()) == Ok(true), "no paths");
+}

@@ -1,0 +1,232 @@
+//! Lines of answers and faults that no text causes, and causes and faults in the words of their crates.
+
+use crate::devices::expect;
+use ca_claims::{Answer, Cause, ClaimFault, ConvertFault, PatternFault, Verdict, Why};
+use ca_macro::MacroFault;
+use ca_plane::Dev;
+use ca_rle::RleFault;
+use ca_rule::{RuleFault, TableFault};
+use ca_tool::{Fault, InputFault, ToolFault, complain, lines};
+use std::alloc::{AllocError, Global};
+use std::test::*;
+
+const ANSWERS: &[Answer] = &[
+    Answer {
+        line: 0,
+        verdict: Verdict::Yes,
+    },
+    Answer {
+        line: u64::MAX,
+        verdict: Verdict::No(Why::Differs {
+            x: -1,
+            y: i64::MIN,
+            found: 255,
+            claimed: 0,
+            gens: 4_294_967_295,
+        }),
+    },
+    Answer {
+        line: 13,
+        verdict: Verdict::No(Why::Earlier {
+            m: 4_294_967_294,
+            dx: i64::MIN,
+            dy: -1,
+        }),
+    },
+    Answer {
+        line: 14,
+        verdict: Verdict::Refused(Cause::BadPattern(PatternFault::Rle(RleFault::Memory))),
+    },
+    Answer {
+        line: 15,
+        verdict: Verdict::Refused(Cause::BadPattern(PatternFault::Memory)),
+    },
+    Answer {
+        line: 16,
+        verdict: Verdict::Refused(Cause::BadPattern(PatternFault::Macro(MacroFault::Memory))),
+    },
+    Answer {
+        line: 17,
+        verdict: Verdict::Refused(Cause::BadTable(TableFault::Memory)),
+    },
+];
+
+const LINES: &[u8] = b"line 0: yes
+line 18446744073709551615: no, cells differ after 4294967295
+line 13: no, the same after 4294967294, shifted by -9223372036854775808,-1
+line 14: refused, memory
+line 15: refused, memory
+line 16: refused, memory
+line 17: refused, memory
+";
+
+#[test]
+fn a_line_for_each_answer(rt: HostRuntime) -> Result<(), Fail> {
+    let text = lines(rt.alloc(), ANSWERS)?;
+    expect(&rt, text.as_slice() == LINES, "lines");
+    Ok(())
+}
+
+/// Faults, and the line that is written for each.
+const COMPLAINTS: &[(Fault, &str)] = &[
+    (Fault::Input(InputFault::Memory), "cafile: memory\n"),
+    (Fault::Claims(ClaimFault::Memory), "cafile: memory\n"),
+    (Fault::Tool(ToolFault::Memory), "cafile: memory\n"),
+    (
+        Fault::Tool(ToolFault::Input(InputFault::TooLong)),
+        "cafile: too long p\n",
+    ),
+    (
+        Fault::Tool(ToolFault::BadTable(TableFault::Memory)),
+        "cafile: memory\n",
+    ),
+    (
+        Fault::Tool(ToolFault::BadTable(TableFault::Wakes { line: u64::MAX })),
+        "cafile: bad table: line 18446744073709551615 wakes\n",
+    ),
+    (
+        Fault::Tool(ToolFault::Convert(ConvertFault::Memory)),
+        "cafile: memory\n",
+    ),
+    (
+        Fault::Tool(ToolFault::Convert(ConvertFault::BadPattern(PatternFault::Macro(
+            MacroFault::Memory,
+        )))),
+        "cafile: memory\n",
+    ),
+    (
+        Fault::Tool(ToolFault::Convert(ConvertFault::BadPattern(PatternFault::Macro(
+            MacroFault::LeafSize,
+        )))),
+        "cafile: bad pattern: macrocell leaf size\n",
+    ),
+    (
+        Fault::Claims(ClaimFault::NameTaken { line: u64::MAX }),
+        "cafile: claims line 18446744073709551615: name taken\n",
+    ),
+];
+
+fn complains(alloc: Global, fault: &Fault, line: &str) -> bool {
+    let mut device = Dev::new(Vec::new(alloc));
+    complain(fault, b"p", &mut device).is_ok() && device.inner().as_slice() == line.as_bytes()
+}
+
+#[test]
+fn a_line_for_each_fault(rt: HostRuntime) {
+    'faults: for (fault, line) in COMPLAINTS {
+        expect(&rt, complains(rt.alloc(), fault, line), "a line");
+    }
+}
+
+/// Faults in the words of their crates.
+const FAULTS: &[(Fault, &str)] = &[
+    (Fault::Input(InputFault::Read), "reading failed"),
+    (Fault::Input(InputFault::TooLong), "too long"),
+    (Fault::Input(InputFault::Memory), "out of memory"),
+    (
+        Fault::Claims(ClaimFault::Syntax { line: 7 }),
+        "line 7: syntax",
+    ),
+    (
+        Fault::Tool(ToolFault::Input(InputFault::TooLong)),
+        "too long",
+    ),
+    (
+        Fault::Tool(ToolFault::BadTable(TableFault::States { line: 3 })),
+        "rule table: line 3: states",
+    ),
+    (
+        Fault::Tool(ToolFault::Convert(ConvertFault::BadPattern(PatternFault::Macro(
+            MacroFault::Timeline,
+        )))),
+        "macrocell: a timeline",
+    ),
+    (Fault::Tool(ToolFault::Write), "writing failed"),
+    (Fault::Tool(ToolFault::Memory), "out of memory"),
+];
+
+fn is_fault(alloc: Global, fault: &Fault, text: &str) -> Result<bool, AllocError> {
+    Ok(format!(in alloc; "{fault}")?.as_str() == text)
+}
+
+/// Causes in the words of their crates.
+const CAUSES: &[(Cause, &str)] = &[
+    (Cause::NoFile, "no file"),
+    (
+        Cause::BadTable(TableFault::Syntax { line: 7 }),
+        "rule table: line 7: syntax",
+    ),
+    (
+        Cause::BadTable(TableFault::Memory),
+        "rule table: out of memory",
+    ),
+    (
+        Cause::BadPattern(PatternFault::Rle(RleFault::Syntax)),
+        "rle: syntax",
+    ),
+    (
+        Cause::BadPattern(PatternFault::Rle(RleFault::Header)),
+        "rle: no header",
+    ),
+    (
+        Cause::BadPattern(PatternFault::Rle(RleFault::XlifeRule)),
+        "rle: a rule in XLife's way",
+    ),
+    (
+        Cause::BadPattern(PatternFault::Rle(RleFault::NoEnd)),
+        "rle: no end",
+    ),
+    (
+        Cause::BadPattern(PatternFault::Rle(RleFault::BadState)),
+        "rle: a state above 255",
+    ),
+    (
+        Cause::BadPattern(PatternFault::Rle(RleFault::Range)),
+        "rle: out of range",
+    ),
+    (
+        Cause::BadPattern(PatternFault::Rle(RleFault::TooManyCells)),
+        "rle: too many cells",
+    ),
+    (
+        Cause::BadPattern(PatternFault::Rle(RleFault::GenTooLarge)),
+        "rle: the generation is too large",
+    ),
+    (
+        Cause::BadPattern(PatternFault::Rle(RleFault::Memory)),
+        "rle: out of memory",
+    ),
+    (
+        Cause::BadPattern(PatternFault::Macro(MacroFault::Level)),
+        "macrocell: a bad level",
+    ),
+    (Cause::BadPattern(PatternFault::Memory), "out of memory"),
+    (
+        Cause::BadRule(RuleFault::Bounded),
+        "a rule on a bounded grid",
+    ),
+    (
+        Cause::BadRule(RuleFault::Wakes),
+        "a rule that wakes the empty plane",
+    ),
+    (Cause::BadRule(RuleFault::Unknown), "an unknown rule"),
+    (Cause::StateTooLarge, "state too large"),
+    (Cause::MixedRules, "mixed rules"),
+    (Cause::TooManyCells, "too many cells"),
+    (Cause::Memory, "out of memory"),
+];
+
+fn is_cause(alloc: Global, cause: &Cause, text: &str) -> Result<bool, AllocError> {
+    Ok(format!(in alloc; "{cause}")?.as_str() == text)
+}
+
+#[test]
+fn faults_and_causes_tell_why(rt: HostRuntime) -> Result<(), Fail> {
+    'faults: for (fault, text) in FAULTS {
+        expect(&rt, is_fault(rt.alloc(), fault, text)?, "a fault");
+    }
+    'causes: for (cause, text) in CAUSES {
+        expect(&rt, is_cause(rt.alloc(), cause, text)?, "a cause");
+    }
+    Ok(())
+}
