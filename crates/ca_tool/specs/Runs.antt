@@ -57,7 +57,7 @@ answers_of tolds = map (λ told. told.answer) tolds
 abbrev pub AreTrueNotes : List (List ℕ × List ℕ) → List (List ℕ) → List (List (List ℕ × List ℕ)) → List Told → Type 0
 AreTrueNotes files rules patterns tolds = AllZip (λ its told. IsNote files rules its told.answer.verdict told.note) patterns tolds
 
--- where answers are explained, something is noted of each in which cells differ
+-- where answers are explained, each verdict that has a note is given with it
 abbrev pub AreGiven : Telling → List Told → Type 0
 AreGiven telling tolds = IsTrue telling.explained → AllByRecursion (λ told. IsGiven told.answer.verdict told.note) tolds
 

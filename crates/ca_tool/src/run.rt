@@ -1,6 +1,6 @@
 //! Runs of `verify`: claims in, the lines of their answers out, each before the next claim is judged.
 
-ghost use Rattle.std.specs.Prelude.{◌≡◌, ◌⊎◌, IfOk, IfErr, OnOk, OnErr, IsErrOf, MatchOption, IsTrue, IfSome};
+ghost use Rattle.std.specs.Prelude.{◌≡◌, ◌≢◌, ◌⊎◌, [], IfOk, IfErr, OnOk, OnErr, IsErrOf, MatchOption, IsTrue, IfSome};
 ghost use Rattle.std.specs.Io.KnownBytes.{Appends};
 ghost use Rattle.ca_plane.specs.Device.{Rises, AppendsPrefix};
 ghost use Rattle.ca_claims.specs.Means.{contents};
@@ -27,8 +27,8 @@ const PLAIN: Telling<'static> = Telling {
 /// Judges each claim, writes its line before the next is judged, in order, and answers the exit status: 2 where a claim is
 /// refused, else 1 where one is false, else 0.
 ///
-/// Where memory is refused to the list of the files or to the rule tables, nothing is written. After a failed write the
-/// other claims are judged all the same, and nothing more is written.
+/// Where memory is refused to the list of the files or to the rule tables, nothing is written. A text without
+/// claims needs neither. After a failed write the other claims are judged all the same, and nothing more is written.
 pub fn verify_run<W: Write>(
     alloc: Global,
     claims: &Claims,
@@ -48,7 +48,8 @@ pub fn verify_run<W: Write>(
         (AppendsPrefix (W.contents device.old.inner) (W.contents device.new.inner)) (λ s. Unit {0}) }
     ensures counted { IsErrOf result ToolFault.Write → Rises device.old.failures device.new.failures }
 
-    // Memory was refused, and nothing was written.
+    // Memory was refused for a text that makes a claim, and nothing was written.
+    ensures memory { IsErrOf result ToolFault.Memory → claims.now.claims ≢ [] }
     ensures nothing { IsErrOf result ToolFault.Memory → device.new ≡ device.old }
 {
     let Ok(mut judge) = Judge::new(alloc, claims, files) else {
@@ -60,8 +61,8 @@ pub fn verify_run<W: Write>(
 /// Judges each claim, writes what is told of it before the next is judged, in order, and answers the exit status: 2 where a
 /// claim is refused, else 1 where one is false, else 0.
 ///
-/// Where memory is refused to the list of the files or to the rule tables, nothing is written. After a failed write no
-/// other claim is judged.
+/// Where memory is refused to the list of the files or to the rule tables, nothing is written. A text without
+/// claims needs neither. After a failed write no other claim is judged.
 pub fn verify_told<W: Write>(
     alloc: Global,
     claims: &Claims,
@@ -82,7 +83,8 @@ pub fn verify_told<W: Write>(
         (AppendsPrefix (W.contents device.old.inner) (W.contents device.new.inner)) }
     ensures counted { IsErrOf result ToolFault.Write → Rises device.old.failures device.new.failures }
 
-    // Memory was refused, and nothing was written.
+    // Memory was refused for a text that makes a claim, and nothing was written.
+    ensures memory { IsErrOf result ToolFault.Memory → claims.now.claims ≢ [] }
     ensures nothing { IsErrOf result ToolFault.Memory → device.new ≡ device.old }
 {
     verify_watched(alloc, claims, files, telling, device, &mut Unwatched)
@@ -110,7 +112,8 @@ pub fn verify_watched<W: Write, O: Observer>(
         (AppendsPrefix (W.contents device.old.inner) (W.contents device.new.inner)) }
     ensures counted { IsErrOf result ToolFault.Write → Rises device.old.failures device.new.failures }
 
-    // Memory was refused, and nothing was written.
+    // Memory was refused for a text that makes a claim, and nothing was written.
+    ensures memory { IsErrOf result ToolFault.Memory → claims.now.claims ≢ [] }
     ensures nothing { IsErrOf result ToolFault.Memory → device.new ≡ device.old }
 {
     let Ok(mut judge) = Judge::new(alloc, claims, files) else {
