@@ -55,8 +55,11 @@ fn open<R: Files>(rt: &R, path: &str) -> Result<R::File, InputFault> {
     }
 }
 
-/// The files that a claim text needs and that can be read, in the order of its paths. No other file is opened.
-pub fn load_needed<R: Files + AllocGlobal>(rt: &R, claims: &Claims) -> Result<Vec<Loaded>, Memory> {
+/// The files that a claim text needs and that can be read, in the order of its paths. No other file is opened. Fails where
+/// there is no memory for them, of a text that names a path.
+pub fn load_needed<R: Files + AllocGlobal>(rt: &R, claims: &Claims) -> Result<Vec<Loaded>, Memory>
+    ensures { OnErr result (claims.now.paths ≢ []) }
+{
     let needed = claims.needed(rt.alloc())?;
     let mut all = Vec::new(rt.alloc());
     for index in 0..claims.path_count() {
