@@ -12,9 +12,9 @@ use Rattle.ca_claims.specs.declared.claims.asks.Barred.TheVariants.{Nothing, InP
 use Rattle.ca_claims.specs.declared.verdict.Why.{Why}
 use Rattle.ca_claims.specs.declared.verdict.Why.TheVariants.{Empty, Differs, Earlier}
 
--- what each kind of claim asks: whether the pattern must be live; after how many generations which cells are wanted, the
--- pattern's own or the other's, moved by (dx, dy); and what no time from 1 on before that may show: nothing is barred, or the pattern
--- in its place, or the pattern anywhere
+-- what each kind of claim asks: whether the pattern must be live; after how many generations which cells are wanted,
+-- the pattern's own or the other's, moved by (dx, dy); and what no earlier time, starting at 1, may show: nothing is
+-- barred, or the pattern in its place, or the pattern anywhere
 abbrev pub asks_of : {P : Type 0} → ClaimOf P → Asks
 asks_of (Still pattern) = record { live = true; generations = 1; wanted = Own; dx = pos 0; dy = pos 0; barred = Nothing }
 asks_of (Oscillator pattern period) = record { live = true; generations = period; wanted = Own; dx = pos 0; dy = pos 0; barred = InPlace }
@@ -45,7 +45,7 @@ IsNotBack next cells InPlace n = IsChanged next cells n
 IsNotBack next cells Anywhere n = IsNowhere next cells n
 
 -- a claim that asks this is true: the pattern is live where it must be, the claimed cells stand after the claimed generations,
--- and no time from 1 on before that shows what is barred
+-- and no earlier time, starting at 1, shows what is barred
 pub record IsTrueClaim (next : List ℕ → ℕ) (cells other : Picture) (asks : Asks) : Type 0 where
   pub live : IsTrue asks.live → IsLive cells
   pub stands : IsAfter next cells asks.generations (claimed asks cells other)

@@ -217,7 +217,7 @@ fn unlike<A: Automaton>(
     Ok(told_of(leaper.store(), end, wanted, found, gens))
 }
 
-// What is told of a place where two trees differ.
+// What is reported of a place where two trees differ.
 fn told_of(store: &Store, end: Tree, wanted: Tree, found: Option<Spot>, gens: u64) -> Option<Why>
     requires end { IsNear store.now end }
     requires wanted { IsNear store.now wanted }

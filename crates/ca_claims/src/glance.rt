@@ -1,4 +1,4 @@
-//! What is told of a pattern file at a glance.
+//! What a pattern file shows at a glance.
 
 ghost use Rattle.std.specs.Prelude.{◌≡◌, ℤ, ◌≤ℤ◌, pos, negsuc, IfOk, IfErr, MatchOption};
 ghost use Rattle.ca_plane.specs.Bytes.{IsWord};

@@ -18,8 +18,8 @@ pub enum Note<'a> {
         path: &'a [u8],
         line: Option<u64>,
     },
-    /// The claim is refused for the file of a rule line, which is at this path: it is the first that is missing, or the first
-    /// that is no good table.
+    /// The claim is refused for the file of a rule line, which is at this path. It is the first that is missing, or the
+    /// first that is no good table.
     RuleFile {
         path: &'a [u8],
     },

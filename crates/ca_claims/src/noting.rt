@@ -155,7 +155,7 @@ fn refuses_alone<'f>(
     Some(own == *cause)
 }
 
-/// The line that is told of the pattern at this place, of which this is the cause.
+/// The line that is shown for the pattern at this place, which is refused for this cause.
 fn line_at(alloc: Global, found: &[Option<&[u8]>], place: usize, cause: &Cause) -> Option<u64>
     requires { place < length found.now }
     ensures { (files : List (List ℕ × List ℕ)) (paths rules : List (List ℕ)) → map option_copied found.now ≡ map (bytes_at files) paths

@@ -2,7 +2,8 @@
 
 use ca_run::{Unwatched, Watch};
 
-/// Is told how far the judging of a claim is, while it lasts; also, as a `Watch`, how many generations a run has reached.
+/// Sees how far the judging of a claim is, while it lasts. As a `Watch`, it also sees how many generations a run has
+/// reached.
 pub trait Observer: Watch {
     /// The claim on this line is judged next.
     fn begins(&mut self, line: u64);

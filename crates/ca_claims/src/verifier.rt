@@ -42,8 +42,8 @@ pub(crate) use tables::Tables;
 ///
 /// # Errors
 ///
-/// Fails where there is no memory for the answers, for the list of the files or for the rule tables of a text that makes a
-/// claim. Where there is no memory to judge a claim, that claim alone is refused.
+/// Fails where there is no memory for the answers, the list of the files or the rule tables. A text without claims
+/// needs none of these. Where there is no memory to judge a claim, that claim alone is refused.
 pub fn verify(alloc: Global, claims: &Claims, files: &[File<'_>]) -> Result<Vec<Answer>, Memory>
     ensures answers { IfOk result (λ v. AreTrueAnswers (contents files.now) claims.now.rules claims.now.claims v.items) }
     ensures memory { OnErr result (claims.now.claims ≢ []) }

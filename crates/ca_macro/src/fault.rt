@@ -37,7 +37,7 @@ pub enum MacroFault {
     Memory,
 }
 
-/// A fault and the number of its line, from 1 on.
+/// A fault and the number of its line, counted from 1.
 #[derive(Clone, Copy)]
 pub(crate) struct LineFault {
     pub(crate) fault: MacroFault,

@@ -10,8 +10,8 @@ use ca_plane::Memory;
 use ca_quad::Store;
 use std::alloc::Global;
 
-/// The number, from 1 on, of a text's first faulty line. None where the spelling has no fault: a live cell that is out of range
-/// makes no line faulty.
+/// The number, counted from 1, of a text's first faulty line. None where the spelling has no fault: a live cell that is
+/// out of range makes no line faulty.
 ///
 /// The text is read into a store of its own, so time and memory are in proportion to the text.
 ///

@@ -20,7 +20,8 @@ pub fn tidy_means()
         → (file : File) × IsFile text file × IsWithinRange file × Holds file cells rule_text generation }
 {}
 
-/// A plane, given by its cells at every x and y, with its rule text, generation and number of states, has one tidy text at most.
+/// A plane, with its rule text, generation and number of states, has one tidy text at most. The plane is given by its
+/// cells at every x and y.
 pub fn one_tidy_text()
     ensures { (t u : List ℕ) (cells : ℤ → ℤ → ℕ) (rule_text : List ℕ) (generation states : ℕ) → IsTidy t cells rule_text generation states
         → IsTidy u cells rule_text generation states → t ≡ u }

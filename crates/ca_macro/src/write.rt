@@ -27,9 +27,9 @@ mod written;
 ///
 /// The first line is `[M2] (cafile)`, the second `#R ` and the rule text, and where the generation isn't 0 the third is `#G ` and
 /// the generation. Then comes a line for each square but the empty ones, each square once, its parts before it, so that the
-/// root is last: of two states the 8 by 8 squares as leaves, of more the 2 by 2 ones as four states. The root has the least
-/// level that holds every live cell, at least 4 where there are two states, and else at least 1. The empty plane is
-/// `4 0 0 0 0` or `1 0 0 0 0`. Each line ends with LF.
+/// root is last: of two states the 8 by 8 squares as leaves, of more the 2 by 2 ones as four states. The root has the
+/// smallest level that holds every live cell, at least 4 where there are two states, and else at least 1. The empty
+/// plane is `4 0 0 0 0` or `1 0 0 0 0`. Each line ends with LF.
 ///
 /// # Errors
 ///

@@ -25,8 +25,8 @@ impl Model for Id {
 }
 
 impl Id {
-    /// The number of the name. Of two squares that are kept as nodes, the one that was added later has the larger number;
-    /// a small square of two states is named by its cells, and its number is below theirs whenever it was made.
+    /// The number of the name. Of two squares that are kept as nodes, the one that was added later has the larger
+    /// number. A small square of two states is named by its cells. Its number is below theirs, whenever it was made.
     pub fn number(self) -> usize
         ensures value { result ≡ self }
         ensures most { result < 2 ^ 32 }

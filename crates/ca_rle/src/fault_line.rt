@@ -23,7 +23,8 @@ fn from_fault(bytes: &[u8]) -> Option<&[u8]>
     }
 }
 
-/// The number, from 1 on, of the line on which the rest of a text begins. The end of a text stands on the line of its last byte.
+/// The number, counted from 1, of the line on which the rest of a text begins. The end of a text stands on the line of
+/// its last byte.
 fn line_of(text: &[u8], rest: &[u8]) -> u64
     ensures { result ≡ line_of text.now rest.now }
 {
@@ -31,8 +32,8 @@ fn line_of(text: &[u8], rest: &[u8]) -> u64
     1 + before.iter().filter(|byte| **byte == b'\n').count() as u64
 }
 
-/// The number, from 1 on, of the line on which the first fault in a text's spelling stands, and nothing where its spelling has
-/// none: a text that is only out of range, or has only too many live cells, has no faulty line.
+/// The number, counted from 1, of the line on which the first fault in a text's spelling stands. None where the
+/// spelling has no fault: a text that is only out of range, or has only too many live cells, has no faulty line.
 ///
 /// A bad word of a `#CXRLE` line, a bad header and a header without a rule stand on their own line. A bad item, also one that is
 /// cut off, stands on the line of its first byte, after the white space before it. Where the text ends and the header or the `!`

@@ -22,7 +22,7 @@ mod runs;
 
 /// The one tidy text of the plane, with its rule text, its generation count, and its rule's number of states.
 ///
-/// The first line is `#CXRLE Pos=X,Y`, the upper left corner of the least box round the live cells, with ` Gen=G`
+/// The first line is `#CXRLE Pos=X,Y`, the upper left corner of the smallest box round the live cells, with ` Gen=G`
 /// after it where the generation isn't 0. The second is `x = W, y = H, rule = R`, the size of that box. For the
 /// empty plane the corner is 0,0 and the size 0 by 0. Then come the items and `!`, in lines of at most 70 characters,
 /// none of which is ended earlier than it has to be: `b` and `o` where there are two states, else `.` and letters; no

@@ -2,7 +2,7 @@
 
 use crate::leaper::Milestone;
 
-/// Is told how far a run of generations is, while it lasts.
+/// Sees how far a run of generations is, while it lasts.
 pub trait Watch {
     /// The run has reached this many of the generations that were asked for.
     fn reached(&mut self, run: Milestone);

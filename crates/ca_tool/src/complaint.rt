@@ -134,7 +134,8 @@ pub fn complain<W: Write>(fault: &Fault, path: &[u8], device: &mut Dev<W>) -> Re
     send_pieces(device, &complaint_pieces(fault, path))
 }
 
-/// Writes the line that tells the fault, after the path of the file that was read. So the faults of several files are told apart.
+/// Writes the line that tells the fault, after the path of the file that was read. So the line shows which of several
+/// files has the fault.
 ///
 /// It takes no memory. After a failure some first part of the line was written, but not all of it.
 pub fn complain_of<W: Write>(

@@ -58,8 +58,8 @@ pub fn verify_run<W: Write>(
     answer_all(&mut judge, device)
 }
 
-/// Judges each claim, writes what is told of it before the next is judged, in order, and answers the exit status: 2 where a
-/// claim is refused, else 1 where one is false, else 0.
+/// Judges each claim, in order, and writes the lines for it before the next is judged. It answers the exit status: 2
+/// where a claim is refused, else 1 where one is false, else 0.
 ///
 /// Where memory is refused to the list of the files or to the rule tables, nothing is written. A text without
 /// claims needs neither. After a failed write no other claim is judged.
@@ -70,7 +70,7 @@ pub fn verify_told<W: Write>(
     telling: &Telling<'_>,
     device: &mut Dev<W>,
 ) -> Result<u8, ToolFault>
-    // The answers and the notes are true, all that is told of them is written, and the status is theirs.
+    // The answers and the notes are true, all the lines for them are written, and the status is theirs.
     ensures told { IfOk result (λ code. IsTold (contents files.now) claims.now telling.now
         (Appends (W.contents device.old.inner) (W.contents device.new.inner)) (λ s. code ≡ s)) }
     ensures kept { OnOk result (device.new.failures ≡ device.old.failures) }
@@ -78,7 +78,7 @@ pub fn verify_told<W: Write>(
     // It fails for a write or out of memory alone.
     ensures fault { IfErr result (λ f. (f ≡ ToolFault.Write) ⊎ (f ≡ ToolFault.Memory)) }
 
-    // A write failed, after a first part of what is told of the first claims, but not all of it.
+    // A write failed, after a first part of the lines for the first claims, but not all of them.
     ensures front { IsErrOf result ToolFault.Write → IsToldInPart (contents files.now) claims.now telling.now
         (AppendsPrefix (W.contents device.old.inner) (W.contents device.new.inner)) }
     ensures counted { IsErrOf result ToolFault.Write → Rises device.old.failures device.new.failures }
@@ -91,6 +91,9 @@ pub fn verify_told<W: Write>(
 }
 
 /// The same, while someone watches.
+///
+/// Where memory is refused to the list of the files or to the rule tables, nothing is written. A text without
+/// claims needs neither.
 pub fn verify_watched<W: Write, O: Observer>(
     alloc: Global,
     claims: &Claims,
@@ -99,7 +102,7 @@ pub fn verify_watched<W: Write, O: Observer>(
     device: &mut Dev<W>,
     observer: &mut O,
 ) -> Result<u8, ToolFault>
-    // The answers and the notes are true, all that is told of them is written, and the status is theirs.
+    // The answers and the notes are true, all the lines for them are written, and the status is theirs.
     ensures told { IfOk result (λ code. IsTold (contents files.now) claims.now telling.now
         (Appends (W.contents device.old.inner) (W.contents device.new.inner)) (λ s. code ≡ s)) }
     ensures kept { OnOk result (device.new.failures ≡ device.old.failures) }
@@ -107,7 +110,7 @@ pub fn verify_watched<W: Write, O: Observer>(
     // It fails for a write or out of memory alone.
     ensures fault { IfErr result (λ f. (f ≡ ToolFault.Write) ⊎ (f ≡ ToolFault.Memory)) }
 
-    // A write failed, after a first part of what is told of the first claims, but not all of it.
+    // A write failed, after a first part of the lines for the first claims, but not all of them.
     ensures front { IsErrOf result ToolFault.Write → IsToldInPart (contents files.now) claims.now telling.now
         (AppendsPrefix (W.contents device.old.inner) (W.contents device.new.inner)) }
     ensures counted { IsErrOf result ToolFault.Write → Rises device.old.failures device.new.failures }
@@ -141,7 +144,7 @@ fn answer_all<W: Write>(judge: &mut Judge<'_>, device: &mut Dev<W>) -> Result<u8
     }
 }
 
-// Judges the claims that are left, and writes what is told of each, up to a write that fails.
+// Judges the claims that are left, and writes the lines for each, up to a write that fails.
 fn tell_all<W: Write, O: Observer>(
     judge: &mut Judge<'_>,
     telling: &Telling<'_>,

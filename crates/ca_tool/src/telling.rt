@@ -1,4 +1,4 @@
-//! What is told of a claim: the line of its answer, and a second line that explains it.
+//! What is printed for a claim: the line of its answer, and a second line that explains it.
 
 ghost use Rattle.std.specs.Prelude.{◌≡◌, OnOk, OnErr, IfErr, codes, if◌then◌else◌, []};
 ghost use Rattle.std.specs.Io.KnownBytes.{Appends};
@@ -13,7 +13,7 @@ use ca_claims::{Answer, Cause, Note, Verdict, Why};
 use ca_plane::{Dev, WriteFault};
 use std::io::Write;
 
-/// How the answers of a text are told.
+/// How the answers of a text are printed.
 #[derive(Clone, Copy, Debug)]
 pub struct Telling<'a> {
     /// What stands before each line.
@@ -135,7 +135,7 @@ fn note_pieces<'a>(before: &'a [u8], verdict: Verdict, note: Note<'a>) -> [Piece
     }
 }
 
-// The second line, where one is told.
+// The second line, where one is printed.
 fn second_pieces<'a>(telling: &Telling<'a>, told: &Told<'a>) -> [Piece<'a>; 15]
     ensures { pieces_text result ≡ (if telling.now.explained then note_text telling.now.before.now told.now.answer.verdict told.now.note else []) }
 {
@@ -145,7 +145,7 @@ fn second_pieces<'a>(telling: &Telling<'a>, told: &Told<'a>) -> [Piece<'a>; 15]
     note_pieces(telling.before, told.answer.verdict, told.note)
 }
 
-/// Writes what is told of a claim. After a failure some first part of it was written, but not all of it.
+/// Writes the lines for a claim. After a failure some first part of them was written, but not all of them.
 pub(crate) fn send_told<W: Write>(
     device: &mut Dev<W>,
     telling: &Telling<'_>,

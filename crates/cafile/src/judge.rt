@@ -18,7 +18,8 @@ use std::rt::{Clock, Files};
 
 /// Judges the claim texts of these paths, one after another, and answers the greatest of their exit statuses.
 ///
-/// A text that can't be read or has a fault is told on standard error, and the others are judged still. Nothing more is judged after a failed write.
+/// A text that can't be read or has a fault is reported on standard error, and the others are still judged. Nothing
+/// more is judged after a failed write.
 pub fn verify_files<R: Files + Clock + AllocGlobal>(
     rt: &R,
     paths: &[String],

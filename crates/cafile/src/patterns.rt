@@ -80,7 +80,7 @@ fn bytes_of(file: &Option<Vec<u8>>) -> Option<&[u8]> {
     }
 }
 
-// The exit status of a run, whose fault is told.
+// The exit status of a run, whose fault is printed.
 fn ended(run: Result<u8, ToolFault>, path: &str, errors: &mut Dev<Stderr>) -> u8 {
     match run {
         Ok(status) => status,

@@ -38,7 +38,7 @@ pub(crate) struct Asks {
     pub(crate) dx: i64,
     /// How far down they are moved.
     pub(crate) dy: i64,
-    /// What no time from 1 on before that may show.
+    /// What no earlier time, starting at 1, may show.
     pub(crate) barred: Barred,
 }
 

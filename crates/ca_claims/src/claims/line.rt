@@ -14,13 +14,13 @@ pub(crate) enum Claim<P> {
     Still {
         pattern: P,
     },
-    /// The pattern is live, it is back after the period, and at no time from 1 on before that.
+    /// The pattern is live and is back after the period. At no earlier time, starting at 1, is it back.
     Oscillator {
         pattern: P,
         period: u64,
     },
-    /// The pattern is live, after the period it is moved by the shift, and at no time from 1 on before that is it back,
-    /// however moved.
+    /// The pattern is live, and after the period it is moved by the shift. At no earlier time, starting at 1, is it
+    /// back, however moved.
     Spaceship {
         pattern: P,
         period: u64,

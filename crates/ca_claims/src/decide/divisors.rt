@@ -6,7 +6,7 @@ ghost use Rattle.ca_claims.specs.inner.Divisors.{AreDivisors};
 use ca_plane::Memory;
 use std::alloc::Global;
 
-/// The numbers from 1 on and below n that divide n, which is less than 2^32, in rising order.
+/// The numbers, starting at 1, that are below n and divide n, in rising order. Here n is less than 2^32.
 pub(crate) fn proper_divisors(alloc: Global, n: u64) -> Result<Vec<u64>, Memory>
     requires { n < 2 ^ 32 }
     ensures { IfOk result (λ divisors. AreDivisors n 1 n divisors.items) }
@@ -18,7 +18,7 @@ pub(crate) fn proper_divisors(alloc: Global, n: u64) -> Result<Vec<u64>, Memory>
     with_large(small, n, low)
 }
 
-// The divisors whose squares are n at most, and the least number with a larger square.
+// The divisors whose squares are n at most, and the smallest number with a larger square.
 fn small_divisors(alloc: Global, n: u64) -> Result<(Vec<u64>, u64), Memory>
     requires some { 2 ≤ n }
     requires few { n < 2 ^ 32 }

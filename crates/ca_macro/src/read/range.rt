@@ -40,7 +40,7 @@ fn check_range(alloc: Global, store: &Store, tree: Tree) -> Result<(), MacroFaul
     Ok(())
 }
 
-/// The tree of the least level with the same cells, where they are in range.
+/// The tree of the smallest level with the same cells, where they are in range.
 ///
 /// # Errors
 ///

@@ -36,7 +36,7 @@ fn padded(store: &mut Store, tree: Tree, least: u8) -> Result<Tree, Memory>
     padded(store, larger, least)
 }
 
-/// The tree of the least level that the root of a tidy text may have.
+/// The tree of the smallest level that the root of a tidy text may have.
 pub(super) fn root_of(store: &mut Store, tree: Tree, states: u16) -> Result<Tree, Memory>
     requires tree { IsTree store.old tree }
     ensures tree { IfOk result (IsTree store.new) }

@@ -29,7 +29,7 @@ const MANY: usize = 8;
 const LARGEST: u8 = 65;
 
 impl Store {
-    /// The tree of the least level, at least 1, that shows the cells of a plane.
+    /// The tree of the smallest level, at least 1, that shows the cells of a plane.
     ///
     /// # Errors
     ///

@@ -81,7 +81,7 @@ impl Store {
         self.join(a, b, c, d)
     }
 
-    /// The tree of the least level, at least 1, that holds every live cell of a tree.
+    /// The tree of the smallest level, at least 1, that holds every live cell of a tree.
     ///
     /// # Errors
     ///

@@ -7,7 +7,7 @@ ghost use Rattle.ca_rle.specs.Tidy.{IsFrame};
 
 use ca_plane::{Plane, Point};
 
-/// The upper left corner of the least box round the live cells, and the box's size.
+/// The upper left corner of the smallest box round the live cells, and the box's size.
 #[derive(Clone, Copy)]
 pub(super) struct Frame {
     pub(super) corner: Point,

@@ -116,8 +116,8 @@ impl Transition {
         self.listed_outcome(variables, later, nine)
     }
 
-    /// The state that the transition gives in the least order of the free places, after those that are taken, in which
-    /// it fits. The next slot takes one free place after another, from the least on, but of equal cells the first alone;
+    /// The state that the transition gives in the first order of the free places, after those that are taken, in which
+    /// it fits. The next slot takes the free places one after another, in order, but of equal cells the first alone;
     /// where the slots don't fit at the places taken so far, no order of the others is tried. Once a place has led to
     /// none, the others are tried only where the slots left aren't too many for the cells that they may take.
     fn least_outcome(&self, variables: &[StateSet], choice: Choice, nine: &Nine) -> Option<u8>

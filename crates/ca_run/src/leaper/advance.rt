@@ -35,8 +35,8 @@ impl<A: Automaton> Leaper<A> {
         self.advance_watched(tree, n, &mut Unwatched)
     }
 
-    /// The same, while someone watches: who is told how many generations are reached after each leap, or where the plane
-    /// is stepped after each four.
+    /// The same, while someone watches, who sees after most leaps how many generations are reached. Where n is 2^60,
+    /// there is one leap, and nothing is seen after it. Where the plane is stepped, it is after each four generations.
     ///
     /// # Errors
     ///

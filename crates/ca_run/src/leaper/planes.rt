@@ -11,7 +11,7 @@ use ca_plane::{Automaton, Memory, Plane};
 use ca_quad::{Spot, Tree};
 
 impl<A: Automaton> Leaper<A> {
-    /// The tree of the least level that shows the cells of a plane. The level is at most 64.
+    /// The tree of the smallest level that shows the cells of a plane. The level is at most 64.
     ///
     /// # Errors
     ///
