@@ -20,6 +20,18 @@ MACROCELL = "[M2]\n*$\n4 0 0 0 1\n"
 PIECE = 8192
 
 
+# What the claim text prints, without notes and with them. Which of the two cells that differ the last note names is open; this is the program's choice.
+PLAIN = b"line 3: no, cells differ after 1\nline 4: yes\nline 5: no, cells differ after 0\n"
+EXPLAINED = (b"line 3: no, cells differ after 1\n  dot at 0,0: 0 after 1 generation, claimed 1\nline 4: yes\n"
+             b"line 5: no, cells differ after 0\n  row at 1,0: 1 after 0 generations, claimed 0\n")
+
+# What comes of the dot and of the cell under a table.
+SHOWN, SHOWN_MACROCELL, SHOWN_TABLE = (
+    ample(b"format %s\nrule %s\ngen 0\ncells 1\nbox 0 0 1 1\n" % it) for it in ((b"rle", b"B3/S23"), (b"macrocell", b"B3/S23"), (b"rle", b"S")))
+AS_MACROCELL, AS_RLE = ample(b"[M2] (cafile)\n#R B3/S23\n*$$$$$$$$\n4 0 0 0 1\n"), ample(b"#CXRLE Pos=0,0\nx = 1, y = 1, rule = B3/S23\no!\n")
+TABLE_AS_MACROCELL = ample(b"[M2] (cafile)\n#R S\n1 0 0 0 2\n")
+
+
 def claim_text(files):
     """A claim text about two patterns, its path and its files' paths."""
     dot, row = files.path("dot.rle", DOT), files.path("row.rle", ROW)
@@ -27,15 +39,37 @@ def claim_text(files):
     return files.path("text.claims", text), (dot, row)
 
 
-def all_words(files):
-    """The words of runs of each kind."""
+def after_path(path, lines):
+    """These lines, each with the path of its text before it, as where several are named."""
+    return b"".join(path.encode() + b": " + line for line in lines.splitlines(keepends=True))
+
+
+def printing_runs(files):
+    """The words of runs of each kind that print something, each with what comes of it. Of the version and the help the text is the program's own."""
     text, (dot, _) = claim_text(files)
     lost = files.path("lost.claims", "load lost nowhere.rle\nstill lost\n")
     rule, state = files.path("s.rule", RULE), files.path("state.rle", "x = 1, y = 1, rule = S\nB!")
     macrocell = files.path("dot.mc", MACROCELL)
+    both = after_path(text, EXPLAINED) + after_path(lost, b"line 2: refused, no file\n  lost: nowhere.rle\n")
     return (
-        ["verify", text], ["verify", "--explain", text], ["verify", "--explain", text, lost], ["show", dot], ["show", macrocell],
-        ["show", state, "--rule", rule], ["convert", dot, "--to", "mc"], ["convert", macrocell, "--to", "rle"], ["--version"], ["verify", "--help"],
+        (["verify", text], Outcome(PLAIN, b"", 1)), (["verify", "--explain", text], Outcome(EXPLAINED, b"", 1)),
+        (["verify", "--explain", text, lost], Outcome(both, b"", 2)), (["show", dot], SHOWN), (["show", macrocell], SHOWN_MACROCELL),
+        (["show", state, "--rule", rule], SHOWN_TABLE), (["convert", dot, "--to", "mc"], AS_MACROCELL), (["convert", macrocell, "--to", "rle"], AS_RLE),
+        *((words, ample(run(words).printed)) for words in (["--version"], ["verify", "--help"])),
+    )
+
+
+def complaining_runs(files):
+    """The words of runs that complain of something, each with what comes of it. Of words that the program doesn't know the complaint is its library's."""
+    text, _ = claim_text(files)
+    bad, worse = files.path("bad.claims", "gun\n"), files.path("worse.claims", "still a\n")
+    rule, z = files.path("r.rule", "@RULE R\n@TABLE\nn_states:1\n"), files.path("z.rle", "x = 1, y = 1\nz!")
+    several = f"cafile: {bad}: claims line 1: syntax\ncafile: {worse}: claims line 1: unknown name\n"
+    return (
+        (["show", "nowhere"], fault("cannot read nowhere")), (["convert", z, "--to", "mc"], fault("bad pattern: rle syntax")),
+        (["show", z, "--rule", rule], fault("bad table: line 3 states")), (["verify", bad], fault("claims line 1: syntax")),
+        (["verify", bad, text, worse], Outcome(after_path(text, PLAIN), several.encode(), 2)),
+        *((words, Outcome(b"", run(words).complaint, 2)) for words in (["verfy"], ["verify"])),
     )
 
 
@@ -45,9 +79,9 @@ def named(words):
 
 
 def try_bytes(tally, refusing, files):
-    """Reads and writes of a byte at a time."""
-    for words in (*all_words(files), ["show", "nowhere"], ["verify"], ["verify", files.path("bad.claims", "gun\n")]):
-        wanted = run(words)
+    """Each run as it is, and with reads and writes of a byte at a time."""
+    for words, wanted in (*printing_runs(files), *complaining_runs(files)):
+        tally.expect(named(words), run(words), wanted)
         for faults in ({"READ_MOST": 1}, {"READ_MOST": 7}, {"WRITE_MOST": 1}, {"WRITE_MOST": 5, "READ_MOST": 3}, {"WRITE_MOST": 1, "WRITE_TO": 2}):
             got, _ = refusing.run(words, faults)
             tally.expect(f"{named(words)}, {faults}", got, wanted)
@@ -55,39 +89,37 @@ def try_bytes(tally, refusing, files):
 
 def try_output(tally, refusing, files):
     """Each byte of standard output in turn can't be written."""
-    for words in all_words(files):
-        wanted, whole = run(words).printed, len(run(words).printed)
+    for words, outcome in printing_runs(files):
+        wanted, whole = outcome.printed, len(outcome.printed)
         numbers = range(1, whole + 2) if whole < 200 else [*range(1, 20), *range(20, whole, whole // 20), whole, whole + 1]
         for name in ("WRITE_FAILS", "WRITE_TAKES_NONE"):
-            complaints = []
+            complaints = [] if whole else ["nothing was printed"]
             for number in numbers:
                 got, is_met = refusing.run(words, {name: number, "WRITE_MOST": 1})
                 if is_met != (number <= whole):
                     complaints.append(f"byte {number} of {whole}: met: {is_met}")
-                elif is_met and got != Outcome(wanted[:number - 1], b"cafile: write\n", 2):
+                elif got != (Outcome(wanted[:number - 1], b"cafile: write\n", 2) if is_met else outcome):
                     complaints.append(f"byte {number} of {whole}: {got}")
             tally.tell(f"{named(words)}, {name}: {whole} bytes", complaints)
 
 
 def try_errors(tally, refusing, files):
-    """Each byte of standard error in turn can't be written: the other lines and the status are the same."""
-    text, _ = claim_text(files)
-    bad, worse = files.path("bad.claims", "gun\n"), files.path("worse.claims", "still a\n")
-    rule, z = files.path("r.rule", "@RULE R\n@TABLE\nn_states:1\n"), files.path("z.rle", "x = 1, y = 1\nz!")
-    for words in (["show", "nowhere"], ["convert", z, "--to", "mc"], ["show", z, "--rule", rule], ["verify", bad], ["verify", bad, text, worse], ["verfy"]):
-        ample_run, complaints, at = run(words), [], 0
-        for line in ample_run.complaint.splitlines(keepends=True) if words != ["verfy"] else [ample_run.complaint]:
+    """Each byte of standard error in turn can't be written: the other lines and the status are the same. The library's lines are written as one."""
+    for words, whole in complaining_runs(files):
+        complaints, at = [] if whole.complaint else ["there was no complaint"], 0
+        for line in whole.complaint.splitlines(keepends=True) if whole.complaint.startswith(b"cafile: ") else [whole.complaint]:
             for number in range(1, len(line) + 1):
                 got, is_met = refusing.run(words, {"WRITE_FAILS": at + number, "WRITE_MOST": 1, "WRITE_TO": 2})
-                told = ample_run.complaint[:at + number - 1] + ample_run.complaint[at + len(line):]
-                if not is_met or got != Outcome(ample_run.printed, told, ample_run.status):
+                told = whole.complaint[:at + number - 1] + whole.complaint[at + len(line):]
+                if not is_met or got != Outcome(whole.printed, told, whole.status):
                     complaints.append(f"byte {at + number}, met: {is_met}: {got}, wanted {told!r}")
             at += len(line)
         tally.tell(f"standard error, {named(words)}: {at} bytes", complaints)
 
 
-def expect_reads(tally, refusing, words, wanted, **how):
-    """Each byte in turn, and then each end of a file, can't be read: `wanted` has for each file the number of its bytes and what comes of that."""
+def expect_reads(tally, refusing, words, whole, wanted, **how):
+    """Each byte in turn, and then each end of a file, can't be read: `wanted` has for each file the number of its bytes and what comes of that, and `whole`
+    is what comes of the run where all is read."""
     complaints, at = [], 0
     for size, outcome in wanted:
         for number in range(at + 1, at + size + 2):
@@ -96,13 +128,13 @@ def expect_reads(tally, refusing, words, wanted, **how):
                 complaints.append(f"read {number}, met: {is_met}: {got}, wanted {outcome}")
         at += size + 1
     got, is_met = refusing.run(words, {"READ_FAILS": at + 1, "READ_MOST": 1}, **how)
-    if is_met or got != run(words, **how):
-        complaints.append(f"after {at} reads, met: {is_met}: {got}")
+    if is_met or got != whole:
+        complaints.append(f"after {at} reads, met: {is_met}: {got}, wanted {whole}")
     tally.tell(f"reads, {named(words)}: {at}", complaints)
 
 
-def refused(printed, lines, notes=()):
-    """What a run prints whose claims on these lines are refused for a file that isn't there, each with its note."""
+def refused(printed, lines):
+    """The outcome of a run that prints this, but for its claims on these lines, which are refused for a file that isn't there."""
     got = printed.splitlines()
     for line in lines:
         got = [b"line %d: refused, no file" % line if it.startswith(b"line %d:" % line) else it for it in got]
@@ -112,21 +144,20 @@ def refused(printed, lines, notes=()):
 def try_reads(tally, refusing, files):
     """Each byte of each file in turn can't be read."""
     text, (dot, row) = claim_text(files)
-    size, plain = os.path.getsize(text), run(["verify", text]).printed
-    expect_reads(tally, refusing, ["verify", text], (
-        (size, fault(f"cannot read {text}")), (len(DOT), refused(plain, (3, 5))), (len(ROW), refused(plain, (4, 5)))))
+    size = os.path.getsize(text)
+    expect_reads(tally, refusing, ["verify", text], Outcome(PLAIN, b"", 1), (
+        (size, fault(f"cannot read {text}")), (len(DOT), refused(PLAIN, (3, 5))), (len(ROW), refused(PLAIN, (4, 5)))))
     no_dot = b"line 3: refused, no file\n  dot: %s\nline 4: yes\nline 5: refused, no file\n  dot: %s\n" % (dot.encode(), dot.encode())
     no_row = b"line 4: refused, no file\n  row: %s\nline 5: refused, no file\n  row: %s\n" % (row.encode(), row.encode())
-    whole = run(["verify", "--explain", text]).printed
-    before = whole.partition(b"line 4")[0]
-    expect_reads(tally, refusing, ["verify", "--explain", text], (
+    before = EXPLAINED.partition(b"line 4")[0]
+    expect_reads(tally, refusing, ["verify", "--explain", text], Outcome(EXPLAINED, b"", 1), (
         (size, fault(f"cannot read {text}")), (len(DOT), Outcome(no_dot, b"", 2)), (len(ROW), Outcome(before + no_row, b"", 2))))
     rule, state = files.path("s.rule", RULE), files.path("state.rle", "x = 1, y = 1, rule = S\nB!")
-    for words in (["show", state, "--rule", rule], ["convert", state, "--rule", rule, "--to", "mc"]):
-        expect_reads(tally, refusing, words, ((len(RULE), fault(f"cannot read {rule}")), (os.path.getsize(state), fault(f"cannot read {state}"))))
+    for words, whole in ((["show", state, "--rule", rule], SHOWN_TABLE), (["convert", state, "--rule", rule, "--to", "mc"], TABLE_AS_MACROCELL)):
+        expect_reads(tally, refusing, words, whole, ((len(RULE), fault(f"cannot read {rule}")), (os.path.getsize(state), fault(f"cannot read {state}"))))
     macrocell = files.path("dot.mc", MACROCELL)
-    for words in (["show", macrocell], ["convert", macrocell, "--to", "rle"], ["show", dot]):
-        expect_reads(tally, refusing, words, ((os.path.getsize(words[1]), fault(f"cannot read {words[1]}")),))
+    for words, whole in ((["show", macrocell], SHOWN_MACROCELL), (["convert", macrocell, "--to", "rle"], AS_RLE), (["show", dot], SHOWN)):
+        expect_reads(tally, refusing, words, whole, ((os.path.getsize(words[1]), fault(f"cannot read {words[1]}")),))
 
 
 def try_several(tally, refusing, files):
@@ -136,13 +167,13 @@ def try_several(tally, refusing, files):
     first, second = files.path("one.claims", one), files.path("other.claims", other)
     no, yes = f"{first}: line 2: no, cells differ after 1\n", f"{second}: line 3: yes\n"
     gone = ": refused, no file\n"
-    expect_reads(tally, refusing, ["verify", first, second], (
+    expect_reads(tally, refusing, ["verify", first, second], Outcome((no + yes).encode(), b"", 1), (
         (len(one), Outcome(yes.encode(), f"cafile: {first}: cannot read {first}\n".encode(), 2)),
         (len(DOT), Outcome(f"{first}: line 2{gone}{yes}".encode(), b"", 2)),
         (len(other), Outcome(no.encode(), f"cafile: {second}: cannot read {second}\n".encode(), 2)),
         (len(RULE), Outcome(f"{no}{second}: line 3{gone}".encode(), b"", 2)), (len(DOT), Outcome(f"{no}{second}: line 3{gone}".encode(), b"", 2))))
-    expect_reads(tally, refusing, ["show", "-"], ((len(DOT), fault("cannot read -")),), input=DOT.encode())
-    expect_reads(tally, refusing, ["verify", "-"], (
+    expect_reads(tally, refusing, ["show", "-"], SHOWN, ((len(DOT), fault("cannot read -")),), input=DOT.encode())
+    expect_reads(tally, refusing, ["verify", "-"], Outcome(b"line 2: no, cells differ after 1\n", b"", 1), (
         (len(one), fault("cannot read -")), (len(DOT), Outcome(f"line 2{gone}".encode(), b"", 2))), input=one.encode())
 
 
@@ -150,8 +181,7 @@ def try_long(tally, refusing, files):
     """Files and outputs of several pieces."""
     comment = "#C " + "c" * (3 * PIECE) + "\n"
     path = files.path("long.rle", comment + DOT)
-    for words in (["show", path], ["convert", path, "--to", "mc"]):
-        wanted = run(words)
+    for words, wanted in ((["show", path], SHOWN), (["convert", path, "--to", "mc"], AS_MACROCELL)):
         for most in (PIECE - 1, 4096, 1000):
             got, _ = refusing.run(words, {"READ_MOST": most})
             tally.expect(f"{words[0]} a long file by {most} bytes", got, wanted)

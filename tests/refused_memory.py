@@ -10,7 +10,8 @@ Of each run either nothing changed, or it ended with `cafile: memory` and printe
 - a claim whose file, or a rule file, is missing, or whose rule file or RLE doesn't read, is refused for that in every run;
 - claims are refused in their order, and no run ends whole once a claim was judged.
 
-Of an explained run one claim may also be without its note, or its note without the faulty line. Of a run over several texts one text may be told as out of
+Of an explained run one claim may also be without its note, or a macrocell's note without the faulty line; but where cells differ, a file is missing or a
+rule file is bad, the note is always given. Of a run over several texts one text may be told as out of
 memory and have no lines. A run of `show` or `convert` prints all that it prints with ample memory, or nothing and `cafile: memory`.
 
 Of runs with many allocations some are tried. At the end memory is refused by the system itself, to a pattern that is too large for it, and the claims round it are answered.
@@ -43,6 +44,10 @@ SEVERAL = (
 )
 
 NO_MEMORY = fault("memory")
+
+# The lines after which a note is always given where it is asked for, and those whose note may lack its faulty line.
+ALWAYS_NOTED = re.compile(rb"line [0-9]+: (no, cells differ|refused, no file|refused, bad table: )")
+MAY_LACK_LINE = re.compile(rb"line [0-9]+: refused, bad pattern: macrocell ")
 
 # A block and a row of 16777216 cells are read under this limit of a run's address space, in bytes. The block takes less than 5 million bytes, and the row
 # more than 400 million, at 24 bytes a cell: the limit stands about half-way between the two in their ratio.
@@ -133,9 +138,15 @@ def answers_in(printed):
 
 
 def lesser(answer):
-    """What may be told in place of an answer where memory is refused: that, the line without its note, and a note without its faulty line."""
+    """What may be told in place of an answer where memory is refused: that, and unless the note is promised the line without it, or the note without its
+    faulty line."""
     line, note = answer
-    return {(line.split(b":")[0] + b": refused, memory\n", b""), (line, b""), (line, re.sub(rb", line [0-9]+\n$", b"\n", note))}
+    told = {(line.split(b":")[0] + b": refused, memory\n", b"")}
+    if not ALWAYS_NOTED.match(line):
+        told.add((line, b""))
+    if MAY_LACK_LINE.match(line):
+        told.add((line, re.sub(rb", line [0-9]+\n$", b"\n", note)))
+    return told
 
 
 def outcome_of(texts, complaint=b""):
@@ -168,7 +179,7 @@ def tell_sweep(tally, name, texts, outcomes):
 
 
 def try_explained(tally, refusing):
-    """Each allocation of some explained runs in turn: a claim is refused, or its note is less or isn't there."""
+    """Each allocation of some explained runs in turn: a claim is refused, or its note is less or isn't there where it isn't promised."""
     for name, step in EXPLAINED.items():
         outcomes = refusing.sweep(example_words(f"{name}.words"), itertools.count(1, step))
         tell_sweep(tally, f"examples/{name}.words", [(b"", answers_in(example(name).printed))], outcomes)
