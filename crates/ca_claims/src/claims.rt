@@ -110,7 +110,7 @@ impl Claims {
     }
 
     /// The number of claims.
-    pub(crate) fn claim_count(&self) -> usize
+    pub fn claim_count(&self) -> usize
         ensures claims { result ≡ length self.now.claims }
         ensures patterns { result ≡ length self.now.patterns }
     {

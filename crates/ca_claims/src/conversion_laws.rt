@@ -1,4 +1,5 @@
-//! Laws of conversions and summaries, which no call needs to run: out of memory apart, each has one answer at most.
+//! Laws of conversions and summaries, which no call needs to run: out of memory apart, a file has one summary at most, and
+//! one cause for which it is refused.
 
 ghost use Rattle.std.specs.Prelude.{◌≡◌, ◌≢◌, ℕ, List};
 ghost use Rattle.ca_rule.specs.TableNext.{TableRule};

@@ -11,6 +11,8 @@ mod devices;
 #[cfg(test)]
 mod failed_reads;
 #[cfg(test)]
+mod many;
+#[cfg(test)]
 mod rules;
 #[cfg(test)]
 mod told;

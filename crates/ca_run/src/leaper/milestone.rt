@@ -11,8 +11,8 @@ use ca_plane::Automaton;
 use ca_quad::Tree;
 use std::marker::Model;
 
-/// A number of generations that a run has reached. Only a run makes one, and only of a plane that it holds: the plane
-/// after that many generations of the tree with which the run began.
+/// A number of generations that a run reports. It is made in this module's crate alone, with a tree or rows that show the
+/// plane of some tree after that many generations. That this is the tree with which the run began is tested.
 #[derive(Clone, Copy)]
 pub struct Milestone {
     generations: u64,
@@ -36,7 +36,7 @@ impl Milestone {
         self.generations
     }
 
-    // What a run has reached that began with one tree and holds the other.
+    // What a run has reached that began with the first tree and holds the other.
     pub(super) fn by_tree<A: Automaton>(
         leaper: &Leaper<A>,
         first: &Tree,
