@@ -41,6 +41,10 @@ module _ (next : List ℕ → ℕ) (p : Picture) where
             differ_before k (q * k) x y (λ e. other (ap (λ n. after next p n x y) sum ∙ e ∙ same))
       ]
 
+  -- where a pattern is back after n = m + k generations, a cell that k generations change isn't after m + k what it is after k
+  unlike_rest : (n m k : ℕ) → IsAfter next p n p → n ≡ m + k → (x y : ℤ) → after next p k x y ≢ cell p x y → after next p (m + k) x y ≢ after next p k x y
+  unlike_rest n m k back sum x y other = λ e. other (sym e ∙ ap (λ t. after next p t x y) (sym sum) ∙ back x y)
+
   -- in its place: a pattern that is back after n generations, and at no proper divisor of n, has changed at each time before n
   pub changed_before : (n : ℕ) → IsAfter next p n p → ((d : ℕ) → 1 ≤ d → d < n → d ∣ n → IsChanged next p d) → (limit k : ℕ) → k ≤ limit → 1 ≤ k → k < n → IsChanged next p k
   changed_before n back tested zero k within some less = absurd (omega (arith, within, some))
@@ -50,7 +54,7 @@ module _ (next : List ℕ → ℕ) (p : Picture) where
         | inl none ↦ tested k some less (dvd_of_mod-eq-zero k none)
         | inr rest ↦
             let at = changed_before n back tested limit (n % k) (omega (arith, parts.1, within)) (omega (arith, rest)) (omega (arith, parts.1, less)) in
-            let found = differ_before ((n / k) * k) (n % k) at.0 at.1 (λ e. at.2 (sym e ∙ ap (λ m. after next p m at.0 at.1) (sym parts.0) ∙ back at.0 at.1)) in
+            let found = differ_before ((n / k) * k) (n % k) at.0 at.1 (unlike_rest n ((n / k) * k) (n % k) back parts.0 at.0 at.1 at.2) in
             changed_once (n / k) k found.0 found.1 found.2
       ]
 

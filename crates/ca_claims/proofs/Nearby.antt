@@ -1,5 +1,5 @@
 -- No live cell outside the square of a plane.
-use Rattle.std.proofs.Common.{◌≡◌, ℕ, ◌≤◌, ◌^◌, List, inl, inr, arith}
+use Rattle.std.proofs.Common.{◌≡◌, ℕ, ◌≤◌, ◌^◌, List, ◌∙◌, inl, inr, arith}
 use Rattle.std.specs.Prelude.{ℤ, replicate}
 use Rattle.std.proofs.lemmas.Bool.{cases_eq}
 use Rattle.std.proofs.lemmas.Int.{ints}
@@ -22,6 +22,11 @@ later_outside next p n quiet range few x y out =
           let here = range u v live in
           absurd (out (omega (arith, ints, few, within, here), omega (arith, ints, few, within, here), omega (arith, ints, few, within, here), omega (arith, ints, few, within, here)))
     ])
+
+-- in a plane that shows what they show few generations later
+pub end_outside : (next : List ℕ → ℕ) (p q : ℤ → ℤ → ℕ) (n : ℕ) → ((x y : ℤ) → q x y ≡ later next p n x y) → next (replicate 9 0) ≡ 0 → AreInRange p → n ≤ 2 ^ 60
+    → (x y : ℤ) → (IsInPlane (record { y = y; x = x }) → ⊥) → q x y ≡ 0
+end_outside next p q n shows quiet range few x y out = shows x y ∙ later_outside next p n quiet range few x y out
 
 -- in a sparse plane
 pub sparse_outside : (p : Picture) → IsSparse p → (x y : ℤ) → (IsInPlane (record { y = y; x = x }) → ⊥) → cell p x y ≡ 0

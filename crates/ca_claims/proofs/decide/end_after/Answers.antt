@@ -1,5 +1,4 @@
-use Rattle.ca_claims.proofs.Nearby.{later_outside}
-use Rattle.std.proofs.Common.{◌∙◌}
+use Rattle.ca_claims.proofs.Nearby.{end_outside}
 use Rattle.ca_quad.specs.Trees.{cell}
 use Rattle.ca_claims.proofs.decide.end_after.Goals as goal
 
@@ -12,7 +11,7 @@ returns-in-Ok-clause-end g c =
       near = record {
         is_tree = end.tree;
         low = end.level;
-        near = λ x y out. end.cells x y ∙ later_outside next (cell c.args.leaper.now.nodes c.args.pattern) c.args.generations quiet c.requires.pattern.range c.requires.few x y out;
+        near = end_outside next (cell c.args.leaper.now.nodes c.args.pattern) (cell c.advance_watched.new.self.nodes c.in-Ok.end) c.args.generations end.cells quiet c.requires.pattern.range c.requires.few;
       };
       shows = end.cells;
     }
