@@ -7,7 +7,7 @@ use Rattle.ca_quad.proofs.Growth.{grows_on}
 use Rattle.ca_quad.proofs.Cells.{of_stays}
 use Rattle.ca_run.specs.inner.Shown.{ShowsAt, FourShow, side}
 use Rattle.ca_run.specs.inner.Words.{WordShows}
-use Rattle.ca_run.specs.inner.Grid.{eight}
+use Rattle.ca_run.specs.inner.Grid.{word_in, row_in, eight}
 use Rattle.ca_run.proofs.Shown.{goes_on_again, at_stays, at_from}
 use Rattle.ca_run.proofs.ReadWords.{near_at, near_as, none_shows, side_words}
 use Rattle.ca_run.proofs.leaper.Leaper.+from_grid.Goals as goal
@@ -15,10 +15,16 @@ use Rattle.ca_run.proofs.leaper.Leaper.+from_grid.Goals as goal
 up : (k : ℕ) → k + 3 ≡ suc (suc (suc k))
 up k = omega arith
 
+-- two words that are the same show the same
+as_word : (word same : ℕ) (p : ℤ → ℤ → ℕ) (a b : ℤ) → word ≡ same → WordShows same p a b → WordShows word p a b
+as_word word same p a b e shows = subst (λ w. WordShows w p a b) (sym e) shows
+
 pub from_grid-returns-then-grain-eq0-clause-shows : goal.from_grid-returns-then-grain-eq0-clause-shows
 from_grid-returns-then-grain-eq0-clause-shows g t c = λ p a b shows.
     let none : 0 ≡ c.args.grain = omega (arith, c.if-grain-eq0.true) in
-    let word = subst (λ w. WordShows w p (a +ℤ eight c.args.at.i) (b +ℤ eight c.args.at.j)) (sym c.word.ensures) (shows.words c.args.at.i c.args.at.j) in
+    let i = c.args.at.i in
+    let j = c.args.at.j in
+    let word = as_word c.word.result (word_in (row_in c.args.grid.now j) i) p (a +ℤ eight i) (b +ℤ eight j) c.word.ensures (shows.words i j) in
     subst (λ k. IfOk c.from_word.result (λ id. ShowsAt c.from_word.new.self.nodes id (suc (suc (suc k))) p (a +ℤ eight c.args.at.i) (b +ℤ eight c.args.at.j))) none (c.from_word.ensures.shows p _ _ word)
 
 pub from_grid-returns-then-is_empty_between-clause-shows : goal.from_grid-returns-then-is_empty_between-clause-shows

@@ -1,4 +1,4 @@
-use Rattle.std.proofs.Common.{◌≡◌, ◌+◌, ◌/◌, ◌%◌, ◌^◌, sym, ap, subst, ◌∙◌, arith}
+use Rattle.std.proofs.Common.{◌≡◌, ℕ, ◌+◌, ◌/◌, ◌%◌, ◌^◌, sym, ap, subst, ◌∙◌, arith}
 use Rattle.std.specs.Prelude.{ℤ}
 use Rattle.std.proofs.lemmas.Bool.Decides.{nat_tests}
 use Rattle.std.proofs.lemmas.Nat.Bits.{bit_at-zero}
@@ -11,10 +11,14 @@ use Rattle.ca_run.proofs.Trees.{tree_stays, one_digit, no_digit, shifted_two}
 use Rattle.ca_run.proofs.leaper.Leaper.by_leaps.Goals as goal
 use Rattle.ca_run.proofs.leaper.Leaper.by_leaps.Goals.{then-n-j-eq1+in_ok-now, else-n-j-eq1}
 
+-- where a cell is what it is to be after m generations, it is what it is to be after n, if the two numbers are the same
+same_time : (now : ℕ) (at : ℕ → ℕ) (m n : ℕ) → m ≡ n → now ≡ at m → now ≡ at n
+same_time now at m n e shows = shows ∙ ap at e
+
 pub returns-then-n-eq-MOST-clause-cells : goal.returns-then-n-eq-MOST-clause-cells
 returns-then-n-eq-MOST-clause-cells g c = λ x y.
     let e : c.args.n ≡ 2 ^ 60 = grind (arith, nat_tests) in
-    c.in_ok-leap.ensures.cells x y ∙ ap (λ m. later (g.A.Automaton.next_of c.args.self.now.rule) (cell c.args.self.now.nodes c.args.tree) m x y) (sym e)
+    same_time _ (λ m. later (g.A.Automaton.next_of c.args.self.now.rule) (cell c.args.self.now.nodes c.args.tree) m x y) (2 ^ 60) c.args.n (sym e) (c.in_ok-leap.ensures.cells x y)
 
 pub digits-preserved : goal.digits-preserved
 digits-preserved g c =
@@ -35,7 +39,8 @@ digits-preserved g c =
           (record {
             tree = w.in_ok-now.ensures.tree;
             level = omega (arith, w.in_ok-now.ensures.level, inv.level);
-            cells = λ x y. one_digit next s0 s1 s2 c.args.tree c.digits.now more n j digit inv.cells leapt x y ∙ ap (λ m. later next (cell s0 c.args.tree) (n % 2 ^ m) x y) one;
+            cells = λ x y. same_time (cell s2 more x y) (λ m. later next (cell s0 c.args.tree) (n % 2 ^ m) x y) (1 + j) (j + 1) one
+                (one_digit next s0 s1 s2 c.args.tree c.digits.now more n j digit inv.cells leapt x y);
             none = λ z.
                 let a : 0 / 2 ^ j % 2 ≡ 1 = subst (λ m. m / 2 ^ j % 2 ≡ 1) z digit in
                 let b : 0 / 2 ^ j % 2 ≡ 0 = bit_at-zero j in
@@ -48,7 +53,7 @@ digits-preserved g c =
           (record {
             tree = inv.tree;
             level = omega (arith, inv.level);
-            cells = λ x y. inv.cells x y ∙ ap (λ m. later next (cell s0 c.args.tree) m x y) (no_digit n j digit ∙ ap (λ m. n % 2 ^ m) one);
+            cells = λ x y. same_time (cell s1 c.digits.now x y) (λ m. later next (cell s0 c.args.tree) m x y) (n % 2 ^ j) (n % 2 ^ (j + 1)) (no_digit n j digit ∙ ap (λ m. n % 2 ^ m) one) (inv.cells x y);
             none = inv.none;
             goes_on = inv.goes_on;
           })
