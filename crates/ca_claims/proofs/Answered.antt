@@ -8,7 +8,6 @@ use Rattle.ca_claims.specs.declared.verdict.Answer.{Answer}
 use Rattle.ca_claims.specs.Text.{Claim, Asked}
 use Rattle.ca_claims.specs.Answers.{IsTrueAnswer, AreTrueAnswers}
 use Rattle.ca_claims.specs.Judging.{Judging, Judges, JudgesAndNotes}
-use Rattle.ca_claims.specs.Notes.{IsNote}
 use Rattle.ca_claims.specs.declared.note.Note.{Note}
 use Rattle.ca_claims.specs.inner.Kept.{left_from, IsAnswerTo}
 
@@ -40,23 +39,21 @@ pub some_claims : (files : List (List ℕ × List ℕ)) (rules : List (List ℕ)
 some_claims files rules claims old new answers answer before next none =
     not_empty before.done new.claims next.claim (ap (λ l. before.done ++ l) (sym next.claims) ∙ sym before.split ∙ none)
 
-module _ (files : List (List ℕ × List ℕ)) (asked : Asked) (index : ℕ) (patterns : List (List ℕ × List ℕ)) (named : slice_get asked.patterns index ≡ Some patterns) (answer : Answer) (is : IsAnswerTo files asked index answer) where
-  -- the claim with an index is judged, and those after it are left
-  pub judged : Judges (left_from files asked index) (left_from files asked (index + 1)) answer
-  judged = record {
+-- the claim with an index is judged, with a true note, and those after it are left
+pub judged_and_noted : (files : List (List ℕ × List ℕ)) (asked : Asked) (index : ℕ) (answer : Answer) (note : Note) → IsAnswerTo files asked index answer note
+    → JudgesAndNotes (left_from files asked index) (left_from files asked (index + 1)) answer note
+judged_and_noted files asked index answer note is = record {
+  judges = record {
     files = refl;
     rules = refl;
-    claim = is.0;
-    claims = from_next asked.claims index is.0 is.1;
-    its_patterns = patterns;
-    patterns = from_next asked.patterns index patterns named;
-    holds = is.2;
-  }
-
-  -- and a true note is given
-  pub judged_and_noted : (note : Note) → IsNote files asked.rules patterns answer.verdict note → JudgesAndNotes (left_from files asked index) (left_from files asked (index + 1)) answer note
-  unfolding judged
-  judged_and_noted note noted = record { judges = judged; noted = noted }
+    claim = is.claim;
+    claims = from_next asked.claims index is.claim is.at;
+    its_patterns = is.patterns;
+    patterns = from_next asked.patterns index is.patterns is.named;
+    holds = is.holds;
+  };
+  noted = is.noted;
+}
 
 module _ (files : List (List ℕ × List ℕ)) (rules : List (List ℕ)) (claims : List (ℕ × Claim)) where
   -- one more is judged

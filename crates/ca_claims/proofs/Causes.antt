@@ -1,5 +1,5 @@
 -- Why a claim isn't judged, and its verdict where it is, from the patterns of its files.
-use Rattle.std.proofs.Common.{◌≡◌, ℕ, zero, suc, ◌<◌, List, [], ◌∷◌, map, length, get_or, Bor, Bool, Option, Some, None, Result, refl, sym, ap, subst, ◌∙◌, inl, inr, ◌⊎◌, arith}
+use Rattle.std.proofs.Common.{◌≡◌, ℕ, zero, suc, ◌<◌, List, [], ◌∷◌, map, length, get_or, Bor, Bool, Option, Some, None, Result, refl, sym, ap, subst, ◌∙◌, inl, inr, arith}
 use Rattle.std.specs.Prelude.{◌≢◌, pos, IsTrue, IsFalse, ◌↔◌, MatchOption}
 use Rattle.std.proofs.lemmas.Bool.{true≢false}
 use Rattle.std.specs.List.{AllByRecursion, AllZip}
@@ -27,23 +27,36 @@ use Rattle.ca_claims.specs.declared.verdict.Verdict.TheVariants.{Yes, No, Refuse
 use Rattle.ca_claims.specs.declared.verifier.one_or_two.OneOrTwo.{OneOrTwo}
 use Rattle.ca_claims.specs.declared.verifier.one_or_two.OneOrTwo.TheVariants.{One, Two}
 use Rattle.ca_claims.specs.declared.verifier.prepared.Prepared.{Prepared}
+use Rattle.ca_claims.specs.declared.verifier.agreement.Disagreement.{Disagreement}
+use Rattle.ca_claims.specs.declared.verifier.agreement.Disagreement.TheVariants.{Large, Mixed}
+use Rattle.ca_claims.specs.declared.verifier.agreement.Disagreement.TheVariants as disagreement
+use Rattle.ca_claims.specs.declared.verdict.PatternFault.{PatternFault}
+use Rattle.ca_claims.specs.declared.verdict.PatternFault.TheVariants as pattern_fault
+use Rattle.ca_claims.specs.declared.refusal.About.TheVariants as about
+use Rattle.ca_claims.specs.declared.refusal.Part.{Part}
+use Rattle.ca_claims.specs.declared.refusal.Part.TheVariants.{First, Second}
+use Rattle.ca_claims.specs.declared.refusal.Refusal.{Refusal}
 use Rattle.ca_claims.specs.declared.decide.Subject.{Subject}
 use Rattle.ca_claims.specs.declared.ruled.Ruled.{Ruled}
 use Rattle.ca_claims.specs.Text.{Claim, patterns_of, about, HasGoodNumbers}
 use Rattle.ca_claims.specs.Places.{path_at}
-use Rattle.ca_claims.specs.Means.{bytes_at, IsReadable, MayWantMemory}
+use Rattle.ca_claims.specs.Means.{bytes_at, format_of, IsReadable, MayWantMemory}
+use Rattle.ca_claims.specs.Notes.{IsLineAs, IsBadPatternOn}
 use Rattle.ca_claims.specs.Truth.{asks_of}
 use Rattle.ca_claims.specs.inner.Decided.{IsBounded, IsDecided}
-use Rattle.ca_claims.specs.Answers.{IsPatternFault, IsRead, AreTables, IsRuled, HasLargeState, IsMissing, IsThere, Reads, HasRule, IsSmall, SomeOf, FirstBad, FirstIs, HaveOtherRules, HasCause, IsGood, AreGood, IsCounted, IsJudged, IsTrueVerdict}
+use Rattle.ca_claims.specs.Answers.{IsPatternFault, AreTables, IsMissing, IsThere, Reads, HasRule, IsSmall, SomeOf, FirstIs, HaveOtherRules, HasCause, IsGood, AreGood, IsCounted, IsJudged, IsTrueVerdict, IsBadPattern, IsUnnamed, IsLarge, IsCrowded, WantsMemory}
 use Rattle.ca_claims.specs.inner.Cells.{IsPlaneOf}
 use Rattle.ca_claims.specs.inner.Subjects.{ShowsTree, IsPattern, AreShown, IsMovedBy, IsSubject}
-use Rattle.ca_claims.specs.inner.Prepared.{IsPrepared, IsFit}
-use Rattle.ca_claims.specs.inner.Patterns.{items, IsEachOnce, IsReadFrom, IsUnread, HasName, rule_of, IsRuledAs, ShowsLarge, ShowsSmall, AreOfOneRule, AreMixed, Disagree, AreBoth}
+use Rattle.ca_claims.specs.inner.Prepared.{IsPrepared, IsFit, IsPlaneRefused, refusal_for, disagreement_refusal}
+use Rattle.ca_claims.specs.inner.Found.{IsFound}
+use Rattle.ca_claims.specs.inner.Refusals.{IsRefusal, IsOnVerdict, IsJudgedOn}
+use Rattle.ca_claims.specs.inner.Patterns.{items, IsEachOnce, FirstBadAt, IsReadFrom, IsUnreadFor, HasName, rule_of, IsRuledAs, ShowsLarge, ShowsSmall, AreOfOneRule, AreMixed, Disagree, AreBoth}
 use Rattle.ca_claims.proofs.ClaimKinds.{asks_about, asks_bounded, asks_moved, paths_of}
 use Rattle.ca_claims.proofs.PatternsRead.{IsReadAt, IsRuledAt, path_has_fault, path_has_rule, path_reads, ruled_at, ruled_has_rule, ruled_is_good, ruled_is_large, ruled_is_many, ruled_is_small, ruled_picture, ruled_reads, tree_shows, wanted}
 use Rattle.ca_claims.proofs.Shown.{few_shown}
 use Rattle.ca_claims.proofs.Told.{level_is_low}
-use Rattle.ca_claims.proofs.Zipped.{zip_left, zip_beside, zip_some, zip_first, zip_front, zip_through, none_bad}
+use Rattle.ca_claims.proofs.Parts.{first_part, zip_part}
+use Rattle.ca_claims.proofs.Zipped.{some_first, zip_left, zip_beside, zip_first, zip_front, zip_through}
 
 -- ---- the paths of a claim's patterns
 
@@ -82,10 +95,20 @@ module _ (files : List (List ℕ × List ℕ)) (paths : List (List ℕ)) (found 
   found_there (i ∷ is) (b ∷ bs) within at = (bytes_found files paths found i (Some b) same within.0 at.0, found_there is bs within.1 at.1)
 
   -- and where one is missing, no file has its path
-  pub found_missing : (places : List ℕ) → AllByRecursion (λ i. i < length found) places → SomeOf (λ i. get_or found i None ≡ None) places → SomeOf (IsMissing files) (map (path_at paths) places)
-  found_missing [] within some = some
-  found_missing (i ∷ is) within (inl here) = inl (bytes_found files paths found i None same within.0 here)
-  found_missing (i ∷ is) within (inr later) = inr (found_missing is within.1 later)
+  pub found_missing : (rules : List (List ℕ)) (part : Part) (places : List ℕ) → AllByRecursion (λ i. i < length found) places
+      → FirstBadAt part places (IsFound found) (λ i. get_or found i None ≡ None) → IsRefusal files paths rules (map (path_at paths) places) (record { cause = NoFile; about = about.Pattern part None })
+  found_missing rules part places within bad =
+      let at = missing part places within bad in
+      record { holds = inl (some_first (IsThere files) (IsMissing files) (map (path_at paths) places) (first_part (IsThere files) (IsMissing files) part (map (path_at paths) places) at)); on = (refl, at) }
+    where
+      missing : (p : Part) (is : List ℕ) → AllByRecursion (λ i. i < length found) is → FirstBadAt p is (IsFound found) (λ i. get_or found i None ≡ None)
+          → FirstBadAt p (map (path_at paths) is) (IsThere files) (IsMissing files)
+      missing First [] all none = absurd none
+      missing First (i ∷ is) all none = bytes_found files paths found i None same all.0 none
+      missing Second [] all none = absurd none
+      missing Second (i ∷ []) all none = absurd none
+      missing Second (i ∷ k ∷ is) all none =
+          ((none.0.0.now, bytes_found files paths found i (Some none.0.0) same all.0 none.0.1), bytes_found files paths found k None same all.1.0 none.1)
 
 -- ---- what is said of each path is said of all
 
@@ -115,9 +138,9 @@ module _ (files : List (List ℕ × List ℕ)) (rules : List (List ℕ)) where
   cause_of_all each all cause (inl same) h = subst (λ l. HasCause files rules l cause) (sym same) h
   cause_of_all each all cause (inr (x, e, d)) h = subst (λ l. HasCause files rules l cause) (sym d) (cause_twice x cause (subst (λ l. HasCause files rules l cause) e h))
 
--- a cause that `?` passes on
-pub passed_on : {A : Type 0} (Holds : A → Type 0) (Refuses : Cause → Type 0) (r : Result A Cause) (cause : Cause) → IsErrAnd r (λ passed. passed ≡ cause) → Refuses cause → MatchResult r Holds Refuses
-passed_on Holds Refuses r cause h holds =
+-- what `?` passes on
+pub passed_on : {A E : Type 0} (Holds : A → Type 0) (Refuses : E → Type 0) (r : Result A E) (e : E) → IsErrAnd r (λ passed. passed ≡ e) → Refuses e → MatchResult r Holds Refuses
+passed_on Holds Refuses r e h holds =
     let p = err_from_is_err_and r h in
     subst (λ o. MatchResult o Holds Refuses) (sym p.1) (subst Refuses (sym p.2) holds)
 
@@ -183,37 +206,42 @@ judged_of_all files tables each all cells other rule (inl same) h = subst (λ l.
 judged_of_all files tables each all cells other rule (inr (x, e, d)) h =
     subst (λ l. AreGood files tables l cells other rule) (sym d) (judged_twice files tables x cells other rule (subst (λ l. AreGood files tables l cells other rule) e h))
 
--- the file of the path is there, and memory may run out for it
-abbrev WantsMemory : List (List ℕ × List ℕ) → List ℕ → Type 0
-WantsMemory files path = (bytes : List ℕ) × (bytes_at files path ≡ Some bytes) × MayWantMemory bytes
-
 reads_want : (files : List (List ℕ × List ℕ)) (path : List ℕ) → Reads files path → WantsMemory files path
 reads_want files path reads = (reads.0, reads.1, wanted reads.0 reads.2)
 
-module _ (files : List (List ℕ × List ℕ)) (rules : List (List ℕ)) (tables : List TableRule) (are : AreTables files rules tables) where
-  -- a file doesn't read, or memory is needed for it
-  pub unread : (paths : List (List ℕ)) (there : List (Bor (List ℕ))) (cause : Cause) → AllZip (λ path b. bytes_at files path ≡ Some b.now) paths there
-      → FirstBad (λ b. IsReadable b.now) (λ b. IsUnread b.now cause) there → HasCause files rules paths cause
-  unread paths there NoFile at first = absurd (none_bad (λ b. IsReadable b.now) there first)
-  unread paths there (BadTable fault) at first = absurd (none_bad (λ b. IsReadable b.now) there first)
-  unread paths there (BadPattern fault) at first = (
-    tables,
-    are,
-    all_there files paths there at,
-    zip_first (λ path b. bytes_at files path ≡ Some b.now) (Reads files) (λ path. (bytes : List ℕ) × (bytes_at files path ≡ Some bytes) × IsPatternFault bytes fault)
-        (λ b. IsReadable b.now) (λ b. IsPatternFault b.now fault) (λ path b e reads. (b.now, e, reads)) (λ path b e wrong. (b.now, e, wrong)) paths there at first,
-  )
-  unread paths there (BadRule fault) at first = absurd (none_bad (λ b. IsReadable b.now) there first)
-  unread paths there StateTooLarge at first = absurd (none_bad (λ b. IsReadable b.now) there first)
-  unread paths there MixedRules at first = absurd (none_bad (λ b. IsReadable b.now) there first)
-  unread paths there TooManyCells at first = absurd (none_bad (λ b. IsReadable b.now) there first)
-  unread paths there Memory at first = (
-    tables,
-    are,
-    all_there files paths there at,
-    zip_front (λ path b. bytes_at files path ≡ Some b.now) (WantsMemory files) (λ b. IsReadable b.now) (λ b. MayWantMemory b.now)
-        (λ path b e reads. (b.now, e, wanted b.now reads)) (λ path b e wants. (b.now, e, wants)) paths there at first,
-  )
+module _ (files : List (List ℕ × List ℕ)) (every rules : List (List ℕ)) (tables : List TableRule) (are : AreTables files rules tables) where
+  module _ (each : List (List ℕ)) (there : List (Bor (List ℕ))) (at : AllZip (λ path b. bytes_at files path ≡ Some b.now) each there) (part : Part) where
+    -- a file doesn't read
+    unreadable : (fault : PatternFault) (line : Option ℕ) → FirstBadAt part there (λ b. IsReadable b.now) (λ b. IsPatternFault b.now fault × IsLineAs (format_of b.now) b.now line)
+        → IsRefusal files every rules each (record { cause = BadPattern fault; about = about.Pattern part line })
+    unreadable fault line bad = record {
+      holds = (
+        tables,
+        are,
+        all_there files each there at,
+        zip_first (λ path b. bytes_at files path ≡ Some b.now) (Reads files) (IsBadPattern files fault) (λ b. IsReadable b.now) (λ b. IsPatternFault b.now fault × IsLineAs (format_of b.now) b.now line)
+            (λ path b e reads. (b.now, e, reads)) (λ path b e wrong. (b.now, e, wrong.0)) each there at
+            (first_part (λ b. IsReadable b.now) (λ b. IsPatternFault b.now fault × IsLineAs (format_of b.now) b.now line) part there bad),
+      );
+      on = zip_part (λ path b. bytes_at files path ≡ Some b.now) (Reads files) (IsBadPatternOn files fault line)
+          (λ b. IsReadable b.now) (λ b. IsPatternFault b.now fault × IsLineAs (format_of b.now) b.now line)
+          (λ path b e reads. (b.now, e, reads)) (λ path b e wrong. (b.now, e, wrong.0, wrong.1)) part each there at bad;
+    }
+
+    -- or memory is needed for it
+    pub unread_for : (fault : PatternFault) (line : Option ℕ) → FirstBadAt part there (λ b. IsReadable b.now) (λ b. IsUnreadFor b.now fault line) → IsRefusal files every rules each (refusal_for part fault line)
+    unread_for (pattern_fault.Rle f) line bad = unreadable (pattern_fault.Rle f) line bad
+    unread_for (pattern_fault.Macro f) line bad = unreadable (pattern_fault.Macro f) line bad
+    unread_for pattern_fault.Memory line bad = record {
+      holds = (
+        tables,
+        are,
+        all_there files each there at,
+        zip_front (λ path b. bytes_at files path ≡ Some b.now) (WantsMemory files) (λ b. IsReadable b.now) (λ b. MayWantMemory b.now)
+            (λ path b e reads. (b.now, e, wanted b.now reads)) (λ path b e wants. (b.now, e, wants)) each there at (first_part (λ b. IsReadable b.now) (λ b. MayWantMemory b.now) part there bad),
+      );
+      on = inr refl;
+    }
 
   -- memory is needed for patterns that were read
   pub read_wanting : (paths : List (List ℕ)) → AllByRecursion (Reads files) paths → FirstIs (Reads files) paths → HasCause files rules paths Memory
@@ -226,15 +254,16 @@ module _ (files : List (List ℕ × List ℕ)) (rules : List (List ℕ)) (tables
 
   module _ (nodes : List Node) where
     -- a rule text names no rule
-    pub unnamed : (paths : List (List ℕ)) (patterns : List Loaded) (fault : RuleFault) → AllZip (IsReadAt nodes files) paths patterns
-        → FirstBad (HasName tables) (λ p. IsRuleFault p.rule_text.items tables fault) patterns → HasCause files rules paths (BadRule fault)
-    unnamed paths patterns fault read first = (
-      tables,
-      are,
-      zip_left (IsReadAt nodes files) (Reads files) (path_reads nodes files) paths patterns read,
-      zip_first (IsReadAt nodes files) (HasRule files tables) (λ path. (cells : Picture) × (text : List ℕ) × IsRead files path cells text × IsRuleFault text tables fault)
-          (HasName tables) (λ p. IsRuleFault p.rule_text.items tables fault) (λ path p at. path_has_rule nodes files path p at tables) (λ path p at. path_has_fault nodes files path p at tables fault) paths patterns read first,
-    )
+    pub unnamed : (each : List (List ℕ)) (patterns : List Loaded) (part : Part) (fault : RuleFault) → AllZip (IsReadAt nodes files) each patterns
+        → FirstBadAt part patterns (HasName tables) (λ p. IsRuleFault p.rule_text.items tables fault)
+        → IsRefusal files every rules each (record { cause = BadRule fault; about = about.Pattern part None })
+    unnamed each patterns part fault read bad =
+        let at = zip_part (IsReadAt nodes files) (HasRule files tables) (IsUnnamed files tables fault) (HasName tables) (λ p. IsRuleFault p.rule_text.items tables fault)
+        (λ path p at. path_has_rule nodes files path p at tables) (λ path p at. path_has_fault nodes files path p at tables fault) part each patterns read bad in
+        record {
+          holds = (tables, are, zip_left (IsReadAt nodes files) (Reads files) (path_reads nodes files) each patterns read, first_part (HasRule files tables) (IsUnnamed files tables fault) part each at);
+          on = (refl, tables, are, at);
+        }
 
     -- the pattern is that of the file with a path, with its rule
     abbrev At : List ℕ → Ruled → Type 0
@@ -242,14 +271,20 @@ module _ (files : List (List ℕ × List ℕ)) (rules : List (List ℕ)) (tables
 
     module _ (paths : List (List ℕ)) (patterns : List Ruled) (ruled : AllZip At paths patterns) where
       -- a state is too large
-      too_large : SomeOf (ShowsLarge nodes) patterns → HasCause files rules paths StateTooLarge
-      too_large some = (
-        tables,
-        are,
-        zip_left At (HasRule files tables) (λ path r at. ruled_has_rule nodes files path tables r at) paths patterns ruled,
-        zip_some At (λ path. (cells : Picture) × (rule : RuleValue) × IsRuled files tables path cells rule × HasLargeState rule (cell cells))
-            (ShowsLarge nodes) (λ path r at. ruled_is_large nodes files path tables r at) paths patterns ruled some,
-      )
+      too_large : (part : Part) → FirstBadAt part patterns (ShowsSmall nodes) (ShowsLarge nodes)
+          → IsRefusal files every rules paths (record { cause = StateTooLarge; about = about.Pattern part None })
+      too_large part bad =
+          let at = zip_part At (IsSmall files tables) (IsLarge files tables) (ShowsSmall nodes) (ShowsLarge nodes) (λ path r is. ruled_is_small nodes files path tables r is)
+          (λ path r is. ruled_is_large nodes files path tables r is) part paths patterns ruled bad in
+          record {
+            holds = (
+              tables,
+              are,
+              zip_left At (HasRule files tables) (λ path r is. ruled_has_rule nodes files path tables r is) paths patterns ruled,
+              some_first (IsSmall files tables) (IsLarge files tables) paths (first_part (IsSmall files tables) (IsLarge files tables) part paths at),
+            );
+            on = (refl, tables, are, at);
+          }
 
       all_small : AllByRecursion (ShowsSmall nodes) patterns → AllByRecursion (IsSmall files tables) paths
       all_small small =
@@ -284,15 +319,12 @@ module _ (files : List (List ℕ × List ℕ)) (rules : List (List ℕ)) (tables
     wanting (p ∷ paths) (Two a b) ruled = let reads = all_read (p ∷ paths) (a ∷ b ∷ []) ruled in read_wanting (p ∷ paths) reads reads.0
 
     -- the patterns have no one rule under which their states are small
-    pub disagreed : (paths : List (List ℕ)) (patterns : OneOrTwo Ruled) (cause : Cause) → AllZip At paths (items patterns) → Disagree nodes (items patterns) cause → HasCause files rules paths cause
-    disagreed paths patterns NoFile ruled h = absurd h
-    disagreed paths patterns (BadTable fault) ruled h = absurd h
-    disagreed paths patterns (BadPattern fault) ruled h = absurd h
-    disagreed paths patterns (BadRule fault) ruled h = absurd h
-    disagreed paths patterns StateTooLarge ruled h = too_large paths (items patterns) ruled h
-    disagreed paths patterns MixedRules ruled h = (tables, are, all_small paths (items patterns) ruled h.0, other_rules paths (items patterns) ruled h.1)
-    disagreed paths patterns TooManyCells ruled h = absurd h
-    disagreed paths patterns Memory ruled h = wanting paths patterns ruled
+    pub disagreed : (paths : List (List ℕ)) (patterns : OneOrTwo Ruled) (why : Disagreement) → AllZip At paths (items patterns) → Disagree nodes (items patterns) why
+        → IsRefusal files every rules paths (disagreement_refusal why)
+    disagreed paths patterns (Large part) ruled h = too_large paths (items patterns) ruled part h
+    disagreed paths patterns Mixed ruled h =
+        record { holds = (tables, are, all_small paths (items patterns) ruled h.0, other_rules paths (items patterns) ruled h.1); on = inl refl }
+    disagreed paths patterns disagreement.Memory ruled h = record { holds = wanting paths patterns ruled; on = inr refl }
 
     -- ---- the pictures that the files mean
 
@@ -343,14 +375,27 @@ module _ (files : List (List ℕ × List ℕ)) (rules : List (List ℕ)) (tables
     too_many (p ∷ q ∷ []) (Two a b) subject rule ruled small one both many =
         ruled_is_many nodes files p tables a ruled.0 (subst (λ t. HasTooManyCells (trees.cell nodes t)) both.0 many)
 
-    -- so why a tree isn't made a plane is a cause
-    pub crowded : (paths : List (List ℕ)) (patterns : OneOrTwo Ruled) (subject : Subject) (rule : RuleValue) (counted : Bool) (cause : Cause) → AllZip At paths (items patterns)
+    -- the first of good patterns has too many cells
+    first_crowded : (paths : List (List ℕ)) (cells other : Picture) (rule : RuleValue) → AreGood files tables paths cells other rule → HasTooManyCells (cell cells)
+        → FirstBadAt First paths (λ p. ⊥) (IsCrowded files tables)
+    first_crowded [] cells other rule good many = absurd good
+    first_crowded (p ∷ []) cells other rule good many = (cells, rule, good.0, many)
+    first_crowded (p ∷ q ∷ []) cells other rule good many = (cells, rule, good.0, many)
+    first_crowded (p ∷ q ∷ o ∷ paths) cells other rule good many = absurd good
+
+    -- so is why a tree isn't made a plane
+    pub crowded : (paths : List (List ℕ)) (patterns : OneOrTwo Ruled) (subject : Subject) (rule : RuleValue) (counted : Bool) (refusal : Refusal) → AllZip At paths (items patterns)
         → AllByRecursion (ShowsSmall nodes) (items patterns) → AreOfOneRule (items patterns) rule → AreBoth (items patterns) subject
-        → (cause ≡ Memory) ⊎ ((cause ≡ TooManyCells) × IsTrue counted × HasTooManyCells (trees.cell nodes subject.pattern)) → HasCause files rules paths cause
-    crowded paths patterns subject rule counted cause ruled small one both (inl memory) = subst (HasCause files rules paths) (sym memory) (wanting paths patterns ruled)
-    crowded paths patterns subject rule counted cause ruled small one both (inr (many, some, crowd)) =
+        → IsPlaneRefused nodes subject.pattern counted refusal → IsRefusal files every rules paths refusal
+    crowded paths patterns subject rule counted refusal ruled small one both (inl memory) =
+        subst (IsRefusal files every rules paths) (sym memory) (record { holds = wanting paths patterns ruled; on = inr refl })
+    crowded paths patterns subject rule counted refusal ruled small one both (inr (many, some, crowd)) =
         let all = agreed paths patterns rule ruled small one in
-        subst (HasCause files rules paths) (sym many) (all.shown, all.other_shown, rule, (tables, are, all.good), too_many paths patterns subject rule ruled small one both crowd)
+        let cells = too_many paths patterns subject rule ruled small one both crowd in
+        subst (IsRefusal files every rules paths) (sym many) (record {
+          holds = (all.shown, all.other_shown, rule, (tables, are, all.good), cells);
+          on = (refl, tables, are, first_crowded paths all.shown all.other_shown rule all.good cells);
+        })
 
     -- ---- what is judged
 
@@ -412,24 +457,35 @@ decided_true files rules claim cells other rule Yes judged decided = (cells, oth
 decided_true files rules claim cells other rule (No why) judged decided = (cells, other, rule, judged, decided)
 decided_true files rules claim cells other rule (Refused cause) judged decided =
     let (tables, are, good) = judged.0 in (
-      subst (HasCause files rules (patterns_of claim)) (sym decided) (memory_wanted files rules tables are (patterns_of claim) cells other rule good),
+      subst (HasCause files rules (patterns_of claim)) (sym decided) (memory_wanted files rules rules tables are (patterns_of claim) cells other rule good),
       λ many. absurd (memory_isn't_many (sym decided ∙ many)),
     )
   where
     memory_isn't_many : Memory ≡ TooManyCells → ⊥
     memory_isn't_many e = cc
 
+-- where there is no memory to decide, that is about the claim
+decided_on : (files : List (List ℕ × List ℕ)) (paths rules patterns : List (List ℕ)) (next : List ℕ → ℕ) (cells other : Picture) (asks : Asks) (verdict : Verdict)
+    → IsDecided next cells other asks verdict → IsOnVerdict files paths rules patterns verdict about.Claim
+decided_on files paths rules patterns next cells other asks Yes decided = tt
+decided_on files paths rules patterns next cells other asks (No why) decided = tt
+decided_on files paths rules patterns next cells other asks (Refused cause) decided = inr decided
+
 -- so it is one of a claim about paths of which each is given once
 pub true_verdict : (files : List (List ℕ × List ℕ)) (rules at : List (List ℕ)) (claim : ClaimOf ℕ) (paths : List (List ℕ)) (counted : Bool) (prepared : Prepared) (verdict : Verdict)
     → IsEachOnce paths (patterns_of (about (path_at at) claim)) → (IsCounted (asks_of claim) → IsTrue counted) → (is : IsPrepared files rules paths counted prepared)
-    → IsDecided (next_of (rule_value prepared.leaper.rule)) is.cells is.other (asks_of claim) verdict → IsTrueVerdict files rules (about (path_at at) claim) verdict
+    → IsDecided (next_of (rule_value prepared.leaper.rule)) is.cells is.other (asks_of claim) verdict → IsJudgedOn files at rules (about (path_at at) claim) verdict about.Claim
 true_verdict files rules at claim paths counted prepared verdict once counts is decided =
     let rule = rule_value prepared.leaper.rule in
     let (tables, are, good) = is.agree in
     let asks = asks_about (path_at at) claim in
-    decided_true files rules (about (path_at at) claim) is.cells is.other rule verdict
-    ((tables, are, judged_of_all files tables paths (patterns_of (about (path_at at) claim)) is.cells is.other rule once good), λ counted. is.few (counts (subst IsCounted asks counted)))
-    (subst (λ a. IsDecided (next_of rule) is.cells is.other a verdict) (sym asks) decided)
+    record {
+      holds =
+          decided_true files rules (about (path_at at) claim) is.cells is.other rule verdict
+          ((tables, are, judged_of_all files tables paths (patterns_of (about (path_at at) claim)) is.cells is.other rule once good), λ counted. is.few (counts (subst IsCounted asks counted)))
+          (subst (λ a. IsDecided (next_of rule) is.cells is.other a verdict) (sym asks) decided);
+      on = decided_on files at rules (patterns_of (about (path_at at) claim)) (next_of rule) is.cells is.other (asks_of claim) verdict decided;
+    }
 
 -- ---- what is judged is fit for it
 

@@ -5,6 +5,7 @@ pub mod HeldNumbers
 pub mod Zipped
 pub mod Shown
 pub mod PatternsRead
+pub mod Parts
 pub mod Causes
 pub mod TablesFound
 pub mod FilesRead
@@ -22,9 +23,6 @@ pub mod Verdicts
 pub mod OneReason
 pub mod FewListed
 pub mod OneConversion
-pub mod SameCause
-pub mod NotesFound
-pub mod NotesGiven
 pub mod Searches
 pub mod Divided
 pub mod DivisorLists

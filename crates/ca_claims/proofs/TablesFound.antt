@@ -7,26 +7,14 @@ use Rattle.ca_claims.specs.declared.verifier.tables.FaultyTable.{FaultyTable}
 use Rattle.ca_claims.specs.declared.verdict.Cause.TheVariants.{NoFile, BadTable}
 use Rattle.ca_claims.specs.Places.{path_at}
 use Rattle.ca_claims.specs.Means.{bytes_at}
-use Rattle.ca_claims.specs.Answers.{IsTableFault, IsMissing, IsThere, HoldsTable, AreTables, SomeOf, FirstBad, HasCause}
+use Rattle.ca_claims.specs.Answers.{IsMissing, IsThere, HoldsTable, AreTables, IsBadTable, SomeOf, FirstBad}
 use Rattle.ca_claims.specs.inner.Found.{IsFound, IsTableFound, IsFaultFound}
-use Rattle.ca_claims.specs.inner.Noted.{IsPlaced}
-use Rattle.ca_claims.specs.inner.Tables.{IsFaultyAt, AreRead}
-use Rattle.ca_claims.specs.declared.verifier.tables.Tables.{Tables}
-use Rattle.ca_claims.specs.declared.verifier.tables.Tables.TheVariants.{Missing, Faulty, Read}
+use Rattle.ca_claims.specs.inner.Tables.{IsFaultyAt}
+use Rattle.ca_claims.specs.declared.refusal.About.TheVariants as about
+use Rattle.ca_claims.specs.inner.Refusals.{IsRefusal}
 use Rattle.ca_claims.proofs.Causes.{bytes_found}
+use Rattle.ca_claims.proofs.Zipped.{first_weaker, some_first}
 use Rattle.ca_claims.proofs.FoundFiles.{found-length}
-
--- a first bad element of which less is said
-pub first_weaker : {X : Type 0} (Good P Q : X → Type 0) → ((x : X) → P x → Q x) → (xs : List X) → FirstBad Good P xs → FirstBad Good Q xs
-first_weaker Good P Q f [] first = first
-first_weaker Good P Q f (x ∷ xs) (inl here) = inl (f x here)
-first_weaker Good P Q f (x ∷ xs) (inr later) = inr (later.0, first_weaker Good P Q f xs later.1)
-
--- a first bad element is one of which this is said
-pub some_first : {X : Type 0} (Good P : X → Type 0) → (xs : List X) → FirstBad Good P xs → SomeOf P xs
-some_first Good P [] first = first
-some_first Good P (x ∷ xs) (inl here) = inl here
-some_first Good P (x ∷ xs) (inr later) = inr (some_first Good P xs later.1)
 
 -- what holds of all holds of one of them
 pub holds_of_some : {X : Type 0} (P Q : X → Type 0) (x : X) → ((y : X) → Q y → y ≡ x) → (xs : List X) → AllByRecursion P xs → SomeOf Q xs → P x
@@ -74,7 +62,7 @@ module _ (files : List (List ℕ × List ℕ)) (paths : List (List ℕ)) (found 
       → FirstBad (λ i. (table : TableRule) × IsTableFound found i table) (IsFaultFound found faulty) places → FirstBad (HoldsTable files) (IsFaultyAt files paths faulty) (map (path_at paths) places)
   first_at [] within faulty first = first
   first_at (i ∷ is) within faulty (inl here) =
-      inl (ap (path_at paths) here.0, here.1.now, bytes_found files paths found i (Some here.1) same within.0 here.2, here.3)
+      inl (ap (path_at paths) here.0, (here.1.now, bytes_found files paths found i (Some here.1) same within.0 here.2, here.3))
   first_at (i ∷ is) within faulty (inr later) =
       let held = later.0 in
       inr ((held.0, (held.1.0.now, bytes_found files paths found i (Some held.1.0) same within.0 held.1.1, held.1.2)), first_at is within.1 faulty later.1)
@@ -91,18 +79,17 @@ module _ (files : List (List ℕ × List ℕ)) (paths : List (List ℕ)) (found 
 
 module _ (files : List (List ℕ × List ℕ)) (paths rules patterns : List (List ℕ)) where
   -- where a rule line's file is missing, no claim is judged
-  pub refused_missing : (place : ℕ) → FirstBad (IsThere files) (λ p. (p ≡ path_at paths place) × IsMissing files p) rules → HasCause files rules patterns NoFile
-  refused_missing place first =
-      inr (some_first (IsThere files) (IsMissing files) rules (first_weaker (IsThere files) (λ p. (p ≡ path_at paths place) × IsMissing files p) (IsMissing files) (λ p h. h.1) rules first))
+  pub refused_missing : (place : ℕ) → place < length paths → FirstBad (IsThere files) (λ p. (p ≡ path_at paths place) × IsMissing files p) rules
+      → IsRefusal files paths rules patterns (record { cause = NoFile; about = about.RuleFile place })
+  refused_missing place within first = record {
+    holds = inr (some_first (IsThere files) (IsMissing files) rules (first_weaker (IsThere files) (λ p. (p ≡ path_at paths place) × IsMissing files p) (IsMissing files) (λ p h. h.1) rules first));
+    on = (within, first);
+  }
 
   -- nor where one is faulty
-  pub refused_faulty : (faulty : FaultyTable) → AllByRecursion (IsThere files) patterns → AllByRecursion (IsThere files) rules
-      → FirstBad (HoldsTable files) (IsFaultyAt files paths faulty) rules → HasCause files rules patterns (BadTable faulty.fault)
-  refused_faulty faulty there all first =
-      (there, all, first_weaker (HoldsTable files) (IsFaultyAt files paths faulty) (λ p. (bytes : List ℕ) × (bytes_at files p ≡ Some bytes) × IsTableFault bytes faulty.fault) (λ p h. (h.1, h.2, h.3)) rules first)
-
--- the place that is kept of tables is that of a path
-pub are_placed : (files : List (List ℕ × List ℕ)) (paths rules : List (List ℕ)) (tables : Tables) → AreRead files paths rules tables → IsPlaced (length paths) tables
-are_placed files paths rules (Missing place) read = read.0
-are_placed files paths rules (Faulty faulty) read = read.0
-are_placed files paths rules (Read tables) read = tt
+  pub refused_faulty : (faulty : FaultyTable) → faulty.place < length paths → AllByRecursion (IsThere files) patterns → AllByRecursion (IsThere files) rules
+      → FirstBad (HoldsTable files) (IsFaultyAt files paths faulty) rules → IsRefusal files paths rules patterns (record { cause = BadTable faulty.fault; about = about.RuleFile faulty.place })
+  refused_faulty faulty within there all first = record {
+    holds = (there, all, first_weaker (HoldsTable files) (IsFaultyAt files paths faulty) (IsBadTable files faulty.fault) (λ p h. h.1) rules first);
+    on = (within, first);
+  }

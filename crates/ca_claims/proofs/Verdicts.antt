@@ -1,5 +1,5 @@
 -- A file has one meaning, and a claim one kind of true verdict.
-use Rattle.std.proofs.Common.{◌≡◌, ◌≢◌, ℕ, zero, suc, ◌+◌, ◌-◌, ◌≤◌, ◌<◌, List, [], ◌∷◌, Some, refl, sym, ap, subst, ◌∙◌, inl, inr, arith}
+use Rattle.std.proofs.Common.{◌≡◌, ◌≢◌, ℕ, zero, suc, ◌+◌, ◌-◌, ◌≤◌, ◌<◌, List, [], ◌∷◌, refl, sym, ap, subst, ◌∙◌, inl, inr, arith}
 use Rattle.std.specs.Prelude.{ℤ}
 use Rattle.std.specs.List.{AllByRecursion}
 use Rattle.std.proofs.lemmas.Bool.{cases_order}
@@ -31,27 +31,11 @@ use Rattle.ca_claims.specs.declared.claims.asks.Barred.{Barred}
 use Rattle.ca_claims.specs.declared.claims.asks.Barred.TheVariants.{Nothing, InPlace, Anywhere}
 use Rattle.ca_claims.specs.declared.target.Target.{Target}
 use Rattle.ca_claims.specs.declared.target.Target.TheVariants as target
-use Rattle.ca_claims.specs.Means.{format_of, MeansAs, Means, IsReadableAs, IsReadable, bytes_at}
+use Rattle.ca_claims.specs.Means.{format_of, MeansAs, Means, IsReadableAs, IsReadable}
 use Rattle.ca_claims.specs.Text.{Claim, patterns_of}
 use Rattle.ca_claims.specs.Truth.{IsNotBack, MayReturnBy, IsTrueClaim, IsReason}
-use Rattle.ca_claims.specs.Answers.{IsPatternFault, IsQuietTable, IsTableFault, IsRead, IsTableAt, AreTables, IsRuled, IsMissing, IsThere, HoldsTable, Reads, HasRule, IsSmall, HasLargeState, SomeOf, FirstBad, HaveOtherRules, AgreeOn, HasCause, IsCauseFor, IsGood, AreGood, IsJudged}
+use Rattle.ca_claims.specs.Answers.{IsPatternFault, IsQuietTable, IsTableFault, IsRead, IsTableAt, AreTables, IsRuled, IsMissing, IsThere, HoldsTable, Reads, HasRule, IsSmall, SomeOf, FirstBad, HaveOtherRules, AgreeOn, HasCause, IsCauseFor, IsGood, AreGood, IsJudged, IsBadTable, IsBadPattern, IsUnnamed, IsLarge}
 use Rattle.ca_claims.proofs.Zipped.{zip_left}
-
--- the file of the path has this fault as the text of a table
-abbrev pub IsBadTable : List (List ℕ × List ℕ) → TableFault → List ℕ → Type 0
-IsBadTable files fault path = (bytes : List ℕ) × (bytes_at files path ≡ Some bytes) × IsTableFault bytes fault
-
--- as that of a pattern
-abbrev IsBad : List (List ℕ × List ℕ) → PatternFault → List ℕ → Type 0
-IsBad files fault path = (bytes : List ℕ) × (bytes_at files path ≡ Some bytes) × IsPatternFault bytes fault
-
--- its rule text has this fault
-abbrev IsUnnamed : List (List ℕ × List ℕ) → List TableRule → RuleFault → List ℕ → Type 0
-IsUnnamed files tables fault path = (cells : Picture) × (text : List ℕ) × IsRead files path cells text × IsRuleFault text tables fault
-
--- some state of the pattern is too large for its rule
-abbrev IsLarge : List (List ℕ × List ℕ) → List TableRule → List ℕ → Type 0
-IsLarge files tables path = (cells : Picture) × (rule : RuleValue) × IsRuled files tables path cells rule × HasLargeState rule (cell cells)
 
 -- ---- a claim is true or there is a reason against it, not both
 
@@ -140,12 +124,12 @@ module _ (files : List (List ℕ × List ℕ)) (path : List ℕ) where
       let wrong_too = subst (λ l. IsTableFault l f) same wrong in
       one_table_fault others f g wrong_too.0 bad.0 wrong_too.1 bad.1
 
-  reads_or_fault : (fault : PatternFault) → Reads files path → IsBad files fault path → ⊥
+  reads_or_fault : (fault : PatternFault) → Reads files path → IsBadPattern files fault path → ⊥
   reads_or_fault fault a (bytes, at, wrong) =
       let same : bytes ≡ a.0 = same_Some bytes a.0 (sym at ∙ a.1) in
       reads_without_fault a.0 fault a.2 (subst (λ l. IsPatternFault l fault) same wrong)
 
-  one_pattern_fault : (f g : PatternFault) → IsBad files f path → IsBad files g path → f ≡ g
+  one_pattern_fault : (f g : PatternFault) → IsBadPattern files f path → IsBadPattern files g path → f ≡ g
   one_pattern_fault f g (bytes, at, wrong) (others, there, bad) =
       let same : bytes ≡ others = same_Some bytes others (sym at ∙ there) in
       one_fault_of others f g (subst (λ l. IsPatternFault l f) same wrong) bad
@@ -350,7 +334,7 @@ module _ (files : List (List ℕ × List ℕ)) (rules paths : List (List ℕ)) w
   not_past NoFile m (inl none) past = all_or_some (IsThere files) (IsMissing files) (there_or_none files) paths past.0 none
   not_past NoFile m (inr none) past = all_or_some (IsThere files) (IsMissing files) (there_or_none files) rules past.1 none
   not_past (BadTable fault) m h (tables, are, past) = tables_or_fault fault tables are h.2
-  not_past (BadPattern fault) m (tables, are, all, first) (others, there, past) = all_or_first (Reads files) (IsBad files fault) (λ p. reads_or_fault files p fault) paths past first
+  not_past (BadPattern fault) m (tables, are, all, first) (others, there, past) = all_or_first (Reads files) (IsBadPattern files fault) (λ p. reads_or_fault files p fault) paths past first
   not_past (BadRule fault) m (tables, are, all, first) past =
       all_or_first (HasRule files tables) (IsUnnamed files tables fault) (λ p. named_or_fault files p tables fault) paths
       (of_these files rules (λ t. AllByRecursion (HasRule files t) paths) tables are past) first
@@ -369,7 +353,7 @@ module _ (files : List (List ℕ × List ℕ)) (rules paths : List (List ℕ)) w
   same_place (BadTable f) (BadTable g) m n e h k =
       ap BadTable (one_first (HoldsTable files) (IsBadTable files f) (IsBadTable files g) (f ≡ g) (λ p. table_or_fault files p f) (λ p. table_or_fault files p g) (λ p. one_bad_table files p f g) rules h.2 k.2)
   same_place (BadPattern f) (BadPattern g) m n e (tables, are, all, first) (others, there, each, other) =
-      ap BadPattern (one_first (Reads files) (IsBad files f) (IsBad files g) (f ≡ g) (λ p. reads_or_fault files p f) (λ p. reads_or_fault files p g) (λ p. one_pattern_fault files p f g) paths first other)
+      ap BadPattern (one_first (Reads files) (IsBadPattern files f) (IsBadPattern files g) (f ≡ g) (λ p. reads_or_fault files p f) (λ p. reads_or_fault files p g) (λ p. one_pattern_fault files p f g) paths first other)
   same_place (BadRule f) (BadRule g) m n e (tables, are, all, first) (others, there, each, other) =
       let same = one_tables files rules others tables there are in
       let too = subst (λ t. FirstBad (HasRule files t) (IsUnnamed files t g) paths) same other in

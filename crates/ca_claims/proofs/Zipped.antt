@@ -47,11 +47,17 @@ module _ {X Y : Type 0} (R : X → Y → Type 0) where
   zip_front Holds Right Wrong f g (x ∷ xs) (y ∷ ys) all (inl here) = g x y all.0 here
   zip_front Holds Right Wrong f g (x ∷ xs) (y ∷ ys) all (inr later) = f x y all.0 later.0
 
--- where none can be bad, none is the first
-pub none_bad : {X : Type 0} (Good : X → Type 0) (xs : List X) → FirstBad Good (λ x. ⊥) xs → ⊥
-none_bad Good [] first = first
-none_bad Good (x ∷ xs) (inl here) = here
-none_bad Good (x ∷ xs) (inr later) = none_bad Good xs later.1
+-- a first bad element of which less is said
+pub first_weaker : {X : Type 0} (Good P Q : X → Type 0) → ((x : X) → P x → Q x) → (xs : List X) → FirstBad Good P xs → FirstBad Good Q xs
+first_weaker Good P Q f [] first = first
+first_weaker Good P Q f (x ∷ xs) (inl here) = inl (f x here)
+first_weaker Good P Q f (x ∷ xs) (inr later) = inr (later.0, first_weaker Good P Q f xs later.1)
+
+-- a first bad element is one of which this is said
+pub some_first : {X : Type 0} (Good P : X → Type 0) → (xs : List X) → FirstBad Good P xs → SomeOf P xs
+some_first Good P [] first = first
+some_first Good P (x ∷ xs) (inl here) = inl here
+some_first Good P (x ∷ xs) (inr later) = inr (some_first Good P xs later.1)
 
 -- what belongs together by way of a third list
 pub zip_through : {X Y Z : Type 0} (R : X → Y → Type 0) (S : Y → Z → Type 0) (T : X → Z → Type 0) → ((x : X) (y : Y) (z : Z) → R x y → S y z → T x z)

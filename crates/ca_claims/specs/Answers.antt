@@ -6,6 +6,7 @@ use Rattle.ca_plane.specs.Population.{HasFewCells, HasTooManyCells}
 use Rattle.ca_rule.specs.TableNext.{TableRule, table_next}
 use Rattle.ca_rule.specs.TableText.{IsTable}
 use Rattle.ca_rule.specs.TableFaults as table_faults
+use Rattle.ca_rule.specs.declared.fault.RuleFault.{RuleFault}
 use Rattle.ca_rule.specs.declared.table.fault.TableFault.{TableFault}
 use Rattle.ca_rule.specs.declared.table.fault.TableFault.TheVariants as table_fault
 use Rattle.ca_rule.specs.Rule.{RuleValue, states_of, next_of, IsSameRule, NamesRule, IsRuleFault}
@@ -108,6 +109,26 @@ abbrev pub FirstIs : {X : Type 0} → (X → Type 0) → List X → Type 0
 FirstIs Holds [] = ⊥
 FirstIs Holds (x ∷ xs) = Holds x
 
+-- the file of the path is there, and has this fault as the text of a table
+abbrev pub IsBadTable : List (List ℕ × List ℕ) → TableFault → List ℕ → Type 0
+IsBadTable files fault path = (bytes : List ℕ) × (bytes_at files path ≡ Some bytes) × IsTableFault bytes fault
+
+-- as that of a pattern
+abbrev pub IsBadPattern : List (List ℕ × List ℕ) → PatternFault → List ℕ → Type 0
+IsBadPattern files fault path = (bytes : List ℕ) × (bytes_at files path ≡ Some bytes) × IsPatternFault bytes fault
+
+-- it is there and is read, and its rule text has this fault
+abbrev pub IsUnnamed : List (List ℕ × List ℕ) → List TableRule → RuleFault → List ℕ → Type 0
+IsUnnamed files tables fault path = (cells : Picture) × (text : List ℕ) × IsRead files path cells text × IsRuleFault text tables fault
+
+-- it has a rule, and some state that is too large for it
+abbrev pub IsLarge : List (List ℕ × List ℕ) → List TableRule → List ℕ → Type 0
+IsLarge files tables path = (cells : Picture) × (rule : RuleValue) × IsRuled files tables path cells rule × HasLargeState rule (cell cells)
+
+-- it is there, and memory may run out for it
+abbrev pub WantsMemory : List (List ℕ × List ℕ) → List ℕ → Type 0
+WantsMemory files path = (bytes : List ℕ) × (bytes_at files path ≡ Some bytes) × MayWantMemory bytes
+
 -- the patterns of two paths have different rules
 abbrev pub HaveOtherRules : List (List ℕ × List ℕ) → List TableRule → List ℕ → List ℕ → Type 0
 HaveOtherRules files tables path other = (cells : Picture) × (rule : RuleValue) × (other_cells : Picture) × (other_rule : RuleValue)
@@ -117,6 +138,10 @@ HaveOtherRules files tables path other = (cells : Picture) × (rule : RuleValue)
 pub record IsGood (files : List (List ℕ × List ℕ)) (tables : List TableRule) (path : List ℕ) (cells : Picture) (rule : RuleValue) : Type 0 where
   pub ruled : IsRuled files tables path cells rule
   pub small : HasSmallStates rule (cell cells)
+
+-- and it has too many cells
+abbrev pub IsCrowded : List (List ℕ × List ℕ) → List TableRule → List ℕ → Type 0
+IsCrowded files tables path = (cells : Picture) × (rule : RuleValue) × IsGood files tables path cells rule × HasTooManyCells (cell cells)
 
 -- the patterns of a claim's paths mean these cells under this rule; where there is one pattern, it is the other too
 abbrev pub AreGood : List (List ℕ × List ℕ) → List TableRule → List (List ℕ) → Picture → Picture → RuleValue → Type 0
@@ -136,19 +161,19 @@ AgreeOn files rules paths cells other rule = (tables : List TableRule) × AreTab
 abbrev pub HasCause : List (List ℕ × List ℕ) → List (List ℕ) → List (List ℕ) → Cause → Type 0
 HasCause files rules paths NoFile = SomeOf (IsMissing files) paths ⊎ SomeOf (IsMissing files) rules
 HasCause files rules paths (BadTable fault) = AllByRecursion (IsThere files) paths × AllByRecursion (IsThere files) rules
-    × FirstBad (HoldsTable files) (λ p. (bytes : List ℕ) × (bytes_at files p ≡ Some bytes) × IsTableFault bytes fault) rules
+    × FirstBad (HoldsTable files) (IsBadTable files fault) rules
 HasCause files rules paths (BadPattern fault) = (tables : List TableRule) × AreTables files rules tables × AllByRecursion (IsThere files) paths
-    × FirstBad (Reads files) (λ p. (bytes : List ℕ) × (bytes_at files p ≡ Some bytes) × IsPatternFault bytes fault) paths
+    × FirstBad (Reads files) (IsBadPattern files fault) paths
 HasCause files rules paths (BadRule fault) = (tables : List TableRule) × AreTables files rules tables × AllByRecursion (Reads files) paths
-    × FirstBad (HasRule files tables) (λ p. (cells : Picture) × (text : List ℕ) × IsRead files p cells text × IsRuleFault text tables fault) paths
+    × FirstBad (HasRule files tables) (IsUnnamed files tables fault) paths
 HasCause files rules paths StateTooLarge = (tables : List TableRule) × AreTables files rules tables × AllByRecursion (HasRule files tables) paths
-    × SomeOf (λ p. (cells : Picture) × (rule : RuleValue) × IsRuled files tables p cells rule × HasLargeState rule (cell cells)) paths
+    × SomeOf (IsLarge files tables) paths
 HasCause files rules paths MixedRules = (tables : List TableRule) × AreTables files rules tables × AllByRecursion (IsSmall files tables) paths
     × SomeOf (λ p. SomeOf (HaveOtherRules files tables p) paths) paths
 HasCause files rules paths TooManyCells = (cells : Picture) × (other : Picture) × (rule : RuleValue) × AgreeOn files rules paths cells other rule
     × HasTooManyCells (cell cells)
 HasCause files rules paths Memory = (tables : List TableRule) × AreTables files rules tables × AllByRecursion (IsThere files) paths
-    × FirstIs (λ p. (bytes : List ℕ) × (bytes_at files p ≡ Some bytes) × MayWantMemory bytes) paths
+    × FirstIs (WantsMemory files) paths
 
 -- cells are counted only of a pattern that may be back anywhere, that of a spaceship
 abbrev pub IsCounted : Asks → Type 0

@@ -4,11 +4,11 @@ pub mod Found
 pub mod Glance
 pub mod Kept
 pub mod Marks
-pub mod Noted
 pub mod Patterns
 pub mod Prepared
 pub mod Reading
 pub mod Ready
+pub mod Refusals
 pub mod Returns
 pub mod Tables
 pub mod Divisors

@@ -1,6 +1,6 @@
 //! Claim texts, and what they ask.
 
-ghost use Rattle.std.specs.Prelude.{◌≡◌, ◌≢◌, ℕ, ◌<◌, [], Some, map, slice_get, length, All, IfOk, MatchOption, OnErr, IsTrue, ◌↔◌};
+ghost use Rattle.std.specs.Prelude.{◌≡◌, ◌≢◌, ℕ, ◌<◌, [], Some, None, map, slice_get, length, All, IfOk, MatchOption, OnErr, IsTrue, ◌↔◌};
 ghost use Rattle.std.specs.List.{AllByRecursion, AllZip, IsDistinct};
 ghost use Rattle.std.specs.Str.{bytes_eq};
 ghost use Rattle.ca_claims.specs.Places.{path_at, numbered, named_path, IsAsked};
@@ -69,6 +69,16 @@ impl Claims {
         ensures { slice_get self.now.paths index ≡ Some result.now }
     {
         self.paths.path(index)
+    }
+
+    /// The path with this index, where there are so many.
+    pub(crate) fn path_at(&self, index: usize) -> Option<&[u8]>
+        ensures { MatchOption result (slice_get self.now.paths index ≡ None) (λ path. slice_get self.now.paths index ≡ Some path.now) }
+    {
+        if index < self.path_count() {
+            return Some(self.path(index));
+        }
+        None
     }
 
     /// For each path, in their order, whether its file is needed: a text without claims needs none; another needs those of its rule lines

@@ -88,19 +88,7 @@ impl<'a> Judge<'a> {
     pub fn next_watched<O: Observer>(&mut self, observer: &mut O) -> Option<Answer>
         ensures { MatchOption result (IsDone self.old self.new) (Judges self.old self.new) }
     {
-        if self.index == self.claims.claim_count() {
-            return None;
-        }
-        let answer = answer_to(
-            self.alloc,
-            &mut self.library,
-            self.claims,
-            self.index,
-            &self.found,
-            &self.tables,
-            observer,
-        );
-        self.index += 1;
+        let (answer, _) = self.next_noted_watched(observer)?;
         Some(answer)
     }
 
@@ -123,7 +111,7 @@ impl<'a> Judge<'a> {
         if self.index == self.claims.claim_count() {
             return None;
         }
-        let answer = answer_to(
+        let noted = answer_to(
             self.alloc,
             &mut self.library,
             self.claims,
@@ -132,18 +120,8 @@ impl<'a> Judge<'a> {
             &self.tables,
             observer,
         );
-        let patterns = self.claims.patterns(self.index);
-        let note = note_on(
-            self.alloc,
-            &mut self.library,
-            self.claims,
-            &patterns,
-            &self.found,
-            &self.tables,
-            &answer.verdict,
-        );
         self.index += 1;
-        Some((answer, note))
+        Some(noted)
     }
 }
 
@@ -178,28 +156,31 @@ fn library_for<'a>(alloc: Global, claims: &Claims) -> Library<'a> {
     Library::new(alloc)
 }
 
-/// The answer to the claim with this index, where these are the bytes of the files with the paths of the text and what its
-/// rule lines' files hold.
-fn answer_to<'a, O: Observer>(
+/// The answer to the claim with this index, and a note on it, where these are the bytes of the files with the paths of the text
+/// and what its rule lines' files hold.
+fn answer_to<'a, 'f, O: Observer>(
     alloc: Global,
-    library: &mut Library<'a>,
-    claims: &Claims,
+    library: &mut Library<'f>,
+    claims: &'a Claims,
     index: usize,
-    found: &[Option<&'a [u8]>],
+    found: &[Option<&'f [u8]>],
     tables: &Tables,
     observer: &mut O,
-) -> Answer
+) -> (Answer, Note<'a>)
     requires index { index < length claims.now.claims }
     requires found { length found.now ≡ length claims.now.paths }
-    ensures { (files : List (List ℕ × List ℕ)) → map option_copied found.now ≡ map (bytes_at files) claims.now.paths → AreRead files claims.now.paths claims.now.rules tables.now
-        → IsAnswerTo files claims.now index result }
+    ensures answer { (files : List (List ℕ × List ℕ)) → map option_copied found.now ≡ map (bytes_at files) claims.now.paths
+        → AreRead files claims.now.paths claims.now.rules tables.now → IsAnswerTo files claims.now index result.0 result.1 }
+    ensures given { (files : List (List ℕ × List ℕ)) → map option_copied found.now ≡ map (bytes_at files) claims.now.paths
+        → AreRead files claims.now.paths claims.now.rules tables.now → IsGiven result.0.verdict result.1 }
 {
     let asked = claims.claim(index);
     observer.begins(asked.line);
-    let verdict = verdict_on(alloc, library, &asked.claim, found, tables, observer);
+    let judged = verdict_on(alloc, library, &asked.claim, found, tables, observer);
     observer.ends();
-    Answer {
+    let answer = Answer {
         line: asked.line,
-        verdict,
-    }
+        verdict: judged.verdict,
+    };
+    (answer, note_on(claims, &claims.patterns(index), judged))
 }

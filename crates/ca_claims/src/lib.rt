@@ -16,6 +16,7 @@ mod noting;
 mod observer;
 mod pattern;
 mod read;
+mod refusal;
 mod ruled;
 mod target;
 mod verdict;

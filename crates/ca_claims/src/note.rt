@@ -3,16 +3,15 @@
 /// What a verdict doesn't say itself: which pattern or file it is about, and where that file is faulty. Lines are counted from 1.
 #[derive(Clone, Copy, Debug)]
 pub enum Note<'a> {
-    /// The verdict says all, or there was no memory to look further. No verdict that cells differ, that a file is missing or
-    /// that a rule file is bad has it.
+    /// The verdict says all: a yes, a no but for cells that differ, and a refusal for different rules or for want of memory.
     Nothing,
     /// Cells differ, of the claim's first pattern, which has this name.
     Cell {
         name: &'a [u8],
     },
-    /// The claim is refused for the pattern with this name, whose file is at this path: no file has the path, or a claim about
-    /// this pattern alone would be refused for the same cause. Where the file doesn't read, the line is that of the first
-    /// fault in its spelling, if it has one and there was memory to find it.
+    /// The claim is refused for the pattern with this name, whose file is at this path. It is the first of the claim's patterns
+    /// of which the cause holds. Where the file doesn't read, the line is that of the first fault in its spelling, if it has one
+    /// and there was memory to find it.
     Pattern {
         name: &'a [u8],
         path: &'a [u8],

@@ -12,6 +12,8 @@ ghost use Rattle.ca_claims.specs.declared.verdict.PatternFault.TheVariants as pa
 ghost use Rattle.ca_claims.specs.Means.{format_of, MayWantMemory};
 ghost use Rattle.ca_claims.specs.Answers.{IsPatternFault};
 ghost use Rattle.ca_claims.specs.Loaded.{IsLoaded};
+ghost use Rattle.ca_claims.specs.Notes.{IsLineAs};
+ghost use Rattle.ca_claims.specs.inner.Patterns.{IsUnread};
 
 use crate::pattern::Loaded;
 use crate::target::Target;
@@ -43,6 +45,51 @@ pub fn read_pattern(alloc: Global, store: &mut Store, bytes: &[u8]) -> Result<Lo
     match format_of(bytes) {
         Target::Rle => load_rle(alloc, store, bytes),
         Target::Mc => load_macro(alloc, store, bytes),
+    }
+}
+
+/// Why a pattern file isn't read, and the line on which the fault stands, where it stands on one.
+#[derive(Clone, Copy)]
+pub(crate) struct BadPattern {
+    pub(crate) fault: PatternFault,
+    pub(crate) line: Option<u64>,
+}
+
+/// Reads a pattern file into the store, as `read_pattern` does. A fault comes with its line.
+pub(crate) fn read_with_line(
+    alloc: Global,
+    store: &mut Store,
+    bytes: &[u8],
+) -> Result<Loaded, BadPattern>
+    ensures read { IfOk result (λ p. (cells : Picture) × IsLoaded store.new bytes.now cells p) }
+    ensures range { IfOk result (λ p. AreInRange (cell store.new p.tree)) }
+    ensures unread { IfErr result (IsUnread bytes.now) }
+    ensures grows { Grows store.old store.new }
+{
+    match read_pattern(alloc, store, bytes) {
+        Ok(pattern) => Ok(pattern),
+        Err(PatternFault::Memory) => Err(BadPattern {
+            fault: PatternFault::Memory,
+            line: None,
+        }),
+        Err(fault) => Err(BadPattern {
+            fault,
+            line: line_of(alloc, bytes),
+        }),
+    }
+}
+
+/// The number of the line of the first fault in a file's spelling. None where it has no fault, or there is no memory to find
+/// it.
+fn line_of(alloc: Global, bytes: &[u8]) -> Option<u64>
+    ensures { IsLineAs (format_of bytes.now) bytes.now result }
+{
+    match format_of(bytes) {
+        Target::Rle => ca_rle::faulty_line(bytes),
+        Target::Mc => match ca_macro::faulty_line(alloc, bytes) {
+            Ok(line) => line,
+            Err(_) => None,
+        },
     }
 }
 

@@ -6,12 +6,15 @@ ghost use Rattle.std.specs.Option.{option_copied};
 ghost use Rattle.ca_claims.specs.Text.{Claim as TextClaim, patterns_of, about, HasGoodNumbers};
 ghost use Rattle.ca_claims.specs.Places.{path_at};
 ghost use Rattle.ca_claims.specs.Means.{contents, bytes_at};
-ghost use Rattle.ca_claims.specs.Answers.{IsCauseFor, IsTrueVerdict, AreTrueAnswers};
+ghost use Rattle.ca_claims.specs.declared.refusal.About.TheVariants as abouts;
+ghost use Rattle.ca_claims.specs.declared.verdict.Verdict.TheVariants.{Refused};
+ghost use Rattle.ca_claims.specs.Answers.{AreTrueAnswers};
 ghost use Rattle.ca_plane.specs.Plane.{Picture};
 ghost use Rattle.ca_rule.specs.Rule.{rule_value, next_of};
 ghost use Rattle.ca_claims.specs.inner.Decided.{IsBounded, IsDecided};
 ghost use Rattle.ca_claims.specs.inner.Subjects.{IsSubject, AreShown};
 ghost use Rattle.ca_claims.specs.inner.Patterns.{items, IsEachOnce};
+ghost use Rattle.ca_claims.specs.inner.Refusals.{IsJudgedOn};
 ghost use Rattle.ca_claims.specs.inner.Tables.{AreRead};
 
 mod agreement;
@@ -27,13 +30,13 @@ use crate::decide::decide;
 use crate::file::File;
 use crate::judge::Judge;
 use crate::observer::Observer;
+use crate::refusal::{About, Judged, Refusal};
 use crate::verdict::{Answer, Cause, Verdict};
 use ca_plane::Memory;
 pub(crate) use library::Library;
 pub(crate) use one_or_two::OneOrTwo;
 use planes::counts_cells;
-use prepared::Prepared;
-pub(crate) use prepared::prepare;
+use prepared::{Prepared, prepare};
 use std::alloc::Global;
 pub(crate) use tables::Tables;
 
@@ -84,18 +87,18 @@ pub(crate) fn verdict_on<'a, O: Observer>(
     found: &[Option<&'a [u8]>],
     tables: &Tables,
     observer: &mut O,
-) -> Verdict
+) -> Judged
     requires within { AllByRecursion (λ i. i < length found.now) (patterns_of claim.now) }
     requires numbers { HasGoodNumbers claim.now }
     ensures { (files : List (List ℕ × List ℕ)) (paths rules : List (List ℕ)) → map option_copied found.now ≡ map (bytes_at files) paths → AreRead files paths rules tables.now
-        → IsTrueVerdict files rules (about (path_at paths) claim.now) result }
+        → IsJudgedOn files paths rules (about (path_at paths) claim.now) result.verdict result.about }
 {
-    let verdict = verdict_of(judge(alloc, library, claim, found, tables, observer));
-    if library.is_empty() || !wants_memory(&verdict) {
-        return verdict;
+    let judged = as_judged(judge(alloc, library, claim, found, tables, observer));
+    if library.is_empty() || !wants_memory(&judged.verdict) {
+        return judged;
     }
     library.clear();
-    verdict_of(judge(
+    as_judged(judge(
         alloc,
         &mut Library::closed(alloc),
         claim,
@@ -110,19 +113,26 @@ fn wants_memory(verdict: &Verdict) -> bool {
     matches!(verdict, Verdict::Refused(Cause::Memory))
 }
 
-/// The verdict that was reached, or a refusal for the cause for which none was.
-fn verdict_of(judged: Result<Verdict, Cause>) -> Verdict
-    ensures { (files : List (List ℕ × List ℕ)) (rules : List (List ℕ)) (claim : TextClaim) → MatchResult judged (IsTrueVerdict files rules claim) (IsCauseFor files rules claim)
-        → IsTrueVerdict files rules claim result }
+/// The verdict that was reached, or the refusal.
+fn as_judged(judged: Result<Verdict, Refusal>) -> Judged
+    ensures { (files : List (List ℕ × List ℕ)) (paths rules : List (List ℕ)) (claim : TextClaim)
+        → MatchResult judged (λ verdict. IsJudgedOn files paths rules claim verdict abouts.Claim) (λ r. IsJudgedOn files paths rules claim (Refused r.cause) r.about)
+        → IsJudgedOn files paths rules claim result.verdict result.about }
 {
     match judged {
-        Ok(verdict) => verdict,
-        Err(cause) => Verdict::Refused(cause),
+        Ok(verdict) => Judged {
+            verdict,
+            about: About::Claim,
+        },
+        Err(refusal) => Judged {
+            verdict: Verdict::Refused(refusal.cause),
+            about: refusal.about,
+        },
     }
 }
 
 /// The verdict on a claim, where these are the bytes of the files with the paths of the text and what its rule lines' files
-/// hold, or the cause for which there is none.
+/// hold, or why there is none.
 fn judge<'a, O: Observer>(
     alloc: Global,
     library: &mut Library<'a>,
@@ -130,11 +140,12 @@ fn judge<'a, O: Observer>(
     found: &[Option<&'a [u8]>],
     tables: &Tables,
     observer: &mut O,
-) -> Result<Verdict, Cause>
+) -> Result<Verdict, Refusal>
     requires within { AllByRecursion (λ i. i < length found.now) (patterns_of claim.now) }
     requires numbers { HasGoodNumbers claim.now }
     ensures { (files : List (List ℕ × List ℕ)) (paths rules : List (List ℕ)) → map option_copied found.now ≡ map (bytes_at files) paths → AreRead files paths rules tables.now
-        → MatchResult result (IsTrueVerdict files rules (about (path_at paths) claim.now)) (IsCauseFor files rules (about (path_at paths) claim.now)) }
+        → MatchResult result (λ verdict. IsJudgedOn files paths rules (about (path_at paths) claim.now) verdict abouts.Claim)
+        (λ r. IsJudgedOn files paths rules (about (path_at paths) claim.now) (Refused r.cause) r.about) }
 {
     let asks = claim.asks();
     let prepared = prepare(

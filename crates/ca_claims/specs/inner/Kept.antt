@@ -8,6 +8,8 @@ use Rattle.ca_claims.specs.Text.{Asked, Claim}
 use Rattle.ca_claims.specs.Means.{bytes_at}
 use Rattle.ca_claims.specs.Answers.{IsTrueAnswer}
 use Rattle.ca_claims.specs.Judging.{Judging}
+use Rattle.ca_claims.specs.Notes.{IsNote}
+use Rattle.ca_claims.specs.declared.note.Note.{Note}
 use Rattle.ca_claims.specs.inner.Tables.{AreRead}
 
 -- for each path of the text the bytes of its file, and the tables of the rule lines
@@ -29,6 +31,11 @@ left_from files asked index = record {
   patterns = drop index asked.patterns;
 }
 
--- the answer to the claim with this index is true
-abbrev pub IsAnswerTo : List (List ℕ × List ℕ) → Asked → ℕ → Answer → Type 0
-IsAnswerTo files asked index answer = (claim : ℕ × Claim) × (slice_get asked.claims index ≡ Some claim) × IsTrueAnswer files asked.rules claim answer
+-- the answer to the claim with this index is true, and so is the note on it
+pub record IsAnswerTo (files : List (List ℕ × List ℕ)) (asked : Asked) (index : ℕ) (answer : Answer) (note : Note) : Type 0 where
+  pub claim : ℕ × Claim
+  pub at : slice_get asked.claims index ≡ Some claim
+  pub holds : IsTrueAnswer files asked.rules claim answer
+  pub patterns : List (List ℕ × List ℕ)
+  pub named : slice_get asked.patterns index ≡ Some patterns
+  pub noted : IsNote files asked.rules patterns answer.verdict note

@@ -1,5 +1,5 @@
 -- A pattern that was read for a claim, and why one isn't.
-use Rattle.std.specs.Prelude.{◌≡◌, ℕ, List, [], ◌∷◌, ◌⊎◌}
+use Rattle.std.specs.Prelude.{◌≡◌, ℕ, List, [], ◌∷◌, Option, ◌⊎◌}
 use Rattle.std.specs.List.{AllByRecursion}
 use Rattle.ca_claims.specs.declared.verifier.one_or_two.OneOrTwo.{OneOrTwo}
 use Rattle.ca_claims.specs.declared.verifier.one_or_two.OneOrTwo.TheVariants.{One, Two}
@@ -12,10 +12,17 @@ use Rattle.ca_rule.specs.TableNext.{TableRule}
 use Rattle.ca_rule.specs.Rule.{RuleValue, rule_value, IsSameRule, NamesRule}
 use Rattle.ca_macro.specs.Pattern.{AreInRange}
 use Rattle.ca_claims.specs.declared.pattern.Loaded.{Loaded}
-use Rattle.ca_claims.specs.declared.verdict.Cause.{Cause}
-use Rattle.ca_claims.specs.declared.verdict.Cause.TheVariants.{NoFile, BadTable, BadPattern, BadRule, StateTooLarge, MixedRules, TooManyCells, Memory}
-use Rattle.ca_claims.specs.Means.{MayWantMemory}
-use Rattle.ca_claims.specs.Answers.{IsPatternFault, HasLargeState, HasSmallStates, SomeOf}
+use Rattle.ca_claims.specs.declared.read.BadPattern.{BadPattern}
+use Rattle.ca_claims.specs.declared.refusal.Part.{Part}
+use Rattle.ca_claims.specs.declared.refusal.Part.TheVariants.{First, Second}
+use Rattle.ca_claims.specs.declared.verdict.PatternFault.{PatternFault}
+use Rattle.ca_claims.specs.declared.verdict.PatternFault.TheVariants.{Rle, Macro, Memory}
+use Rattle.ca_claims.specs.declared.verifier.agreement.Disagreement.{Disagreement}
+use Rattle.ca_claims.specs.declared.verifier.agreement.Disagreement.TheVariants.{Large, Mixed}
+use Rattle.ca_claims.specs.declared.verifier.agreement.Disagreement.TheVariants as disagreement
+use Rattle.ca_claims.specs.Means.{format_of, MayWantMemory}
+use Rattle.ca_claims.specs.Answers.{IsPatternFault, HasLargeState, HasSmallStates}
+use Rattle.ca_claims.specs.Notes.{IsLineAs}
 use Rattle.ca_claims.specs.Loaded.{IsLoaded}
 
 -- one or two, as a list
@@ -33,16 +40,30 @@ pub record IsReadFrom (nodes : List Node) (bytes : List ℕ) (pattern : Loaded) 
   pub loaded : IsLoaded nodes bytes cells pattern
   pub range : AreInRange (cell nodes pattern.tree)
 
--- why the bytes aren't read: their fault, or out of memory where they may need memory
-abbrev pub IsUnread : List ℕ → Cause → Type 0
-IsUnread bytes NoFile = ⊥
-IsUnread bytes (BadTable fault) = ⊥
-IsUnread bytes (BadPattern fault) = IsPatternFault bytes fault
-IsUnread bytes (BadRule fault) = ⊥
-IsUnread bytes StateTooLarge = ⊥
-IsUnread bytes MixedRules = ⊥
-IsUnread bytes TooManyCells = ⊥
-IsUnread bytes Memory = MayWantMemory bytes
+-- why the bytes aren't read, and on which line: their fault, or out of memory where they may need memory
+abbrev pub IsUnreadFor : List ℕ → PatternFault → Option ℕ → Type 0
+IsUnreadFor bytes (Rle fault) line = IsPatternFault bytes (Rle fault) × IsLineAs (format_of bytes) bytes line
+IsUnreadFor bytes (Macro fault) line = IsPatternFault bytes (Macro fault) × IsLineAs (format_of bytes) bytes line
+IsUnreadFor bytes Memory line = MayWantMemory bytes
+
+abbrev pub IsUnread : List ℕ → BadPattern → Type 0
+IsUnread bytes bad = IsUnreadFor bytes bad.fault bad.line
+
+-- of one or two, this one is bad, and one before it is good
+abbrev pub FirstBadAt : {X : Type 0} → Part → List X → (Good Bad : X → Type 0) → Type 0
+FirstBadAt First [] Good Bad = ⊥
+FirstBadAt First (x ∷ xs) Good Bad = Bad x
+FirstBadAt Second [] Good Bad = ⊥
+FirstBadAt Second (x ∷ []) Good Bad = ⊥
+FirstBadAt Second (x ∷ y ∷ ys) Good Bad = Good x × Bad y
+
+-- of one or two, this is the one; the only one, where there is one
+abbrev pub IsPart : {X : Type 0} → Part → List X → X → Type 0
+IsPart First [] x = ⊥
+IsPart First (y ∷ ys) x = x ≡ y
+IsPart Second [] x = ⊥
+IsPart Second (y ∷ []) x = x ≡ y
+IsPart Second (y ∷ z ∷ zs) x = x ≡ z
 
 -- the pattern's rule text names a rule among the tables
 abbrev pub HasName : List TableRule → Loaded → Type 0
@@ -77,15 +98,10 @@ abbrev pub ShowsSmall : List Node → Ruled → Type 0
 ShowsSmall nodes ruled = HasSmallStates (rule_of ruled) (cell nodes ruled.pattern.tree)
 
 -- why patterns have no one rule under which their states are small
-abbrev pub Disagree : List Node → List Ruled → Cause → Type 0
-Disagree nodes patterns NoFile = ⊥
-Disagree nodes patterns (BadTable fault) = ⊥
-Disagree nodes patterns (BadPattern fault) = ⊥
-Disagree nodes patterns (BadRule fault) = ⊥
-Disagree nodes patterns StateTooLarge = SomeOf (ShowsLarge nodes) patterns
-Disagree nodes patterns MixedRules = AllByRecursion (ShowsSmall nodes) patterns × AreMixed patterns
-Disagree nodes patterns TooManyCells = ⊥
-Disagree nodes patterns Memory = Unit {0}
+abbrev pub Disagree : List Node → List Ruled → Disagreement → Type 0
+Disagree nodes patterns (Large part) = FirstBadAt part patterns (ShowsSmall nodes) (ShowsLarge nodes)
+Disagree nodes patterns Mixed = AllByRecursion (ShowsSmall nodes) patterns × AreMixed patterns
+Disagree nodes patterns disagreement.Memory = Unit {0}
 
 -- the trees of the claim's pattern and of the other, which is the same where there is one
 abbrev pub AreBoth : List Ruled → Subject → Type 0

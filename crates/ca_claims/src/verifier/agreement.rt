@@ -1,63 +1,80 @@
 //! The one rule of a claim's patterns, under which their states are small.
 
-ghost use Rattle.std.specs.Prelude.{IsTrue, IsFalse, IfOk, IfErr, MatchOption};
+ghost use Rattle.std.specs.Prelude.{IfOk, IfErr, MatchOption};
 ghost use Rattle.std.specs.List.{AllByRecursion};
 ghost use Rattle.ca_quad.specs.Trees.{IsTree};
 ghost use Rattle.ca_rule.specs.Rule.{rule_value};
-ghost use Rattle.ca_claims.specs.Answers.{SomeOf};
-ghost use Rattle.ca_claims.specs.inner.Patterns.{items, ShowsLarge, ShowsSmall, AreOfOneRule, AreMixed, Disagree};
+ghost use Rattle.ca_claims.specs.inner.Patterns.{items, FirstBadAt, ShowsLarge, ShowsSmall, AreOfOneRule, AreMixed, Disagree};
 
 use super::one_or_two::OneOrTwo;
 use crate::cells::has_large_state;
+use crate::refusal::Part;
 use crate::ruled::Ruled;
-use crate::verdict::Cause;
 use ca_plane::Memory;
 use ca_quad::Store;
 use ca_rule::Rule;
 use std::alloc::Global;
+
+/// Why patterns have no one rule under which their states are small.
+#[derive(Clone, Copy)]
+pub(crate) enum Disagreement {
+    /// This is the first that has a state which its rule doesn't have.
+    Large(Part),
+    /// Their rules differ.
+    Mixed,
+    /// A growth was refused.
+    Memory,
+}
 
 /// The rule of the patterns, where each of their states is small and their rules are the same.
 pub(crate) fn agreed_rule<'t>(
     alloc: Global,
     store: &Store,
     patterns: &OneOrTwo<Ruled<'t>>,
-) -> Result<Rule<'t>, Cause>
+) -> Result<Rule<'t>, Disagreement>
     requires { AllByRecursion (λ r. IsTree store.now r.pattern.tree) (items patterns.now) }
     ensures small { IfOk result (λ rule. AllByRecursion (ShowsSmall store.now) (items patterns.now)) }
     ensures rule { IfOk result (λ rule. AreOfOneRule (items patterns.now) (rule_value rule)) }
-    ensures cause { IfErr result (Disagree store.now (items patterns.now)) }
+    ensures disagreement { IfErr result (Disagree store.now (items patterns.now)) }
 {
-    let Ok(large) = have_large_states(alloc, store, patterns) else {
-        return Err(Cause::Memory);
+    let Ok(large) = large_part(alloc, store, patterns) else {
+        return Err(Disagreement::Memory);
     };
-    if large {
-        return Err(Cause::StateTooLarge);
+    if let Some(part) = large {
+        return Err(Disagreement::Large(part));
     }
     match one_rule(patterns) {
         Some(rule) => Ok(rule),
-        None => Err(Cause::MixedRules),
+        None => Err(Disagreement::Mixed),
     }
 }
 
-/// Whether one of the patterns has a cell with a state that its rule doesn't have.
-fn have_large_states(
+/// The first of the patterns that has a cell with a state which its rule doesn't have.
+fn large_part(
     alloc: Global,
     store: &Store,
     patterns: &OneOrTwo<Ruled<'_>>,
-) -> Result<bool, Memory>
+) -> Result<Option<Part>, Memory>
     requires { AllByRecursion (λ r. IsTree store.now r.pattern.tree) (items patterns.now) }
-    ensures large { IfOk result (λ large. IsTrue large → SomeOf (ShowsLarge store.now) (items patterns.now)) }
-    ensures small { IfOk result (λ large. IsFalse large → AllByRecursion (ShowsSmall store.now) (items patterns.now)) }
+    ensures { IfOk result (λ large. MatchOption large (AllByRecursion (ShowsSmall store.now) (items patterns.now))
+        (λ part. FirstBadAt part (items patterns.now) (ShowsSmall store.now) (ShowsLarge store.now))) }
 {
     match patterns {
-        OneOrTwo::One(only) => has_large_state(alloc, store, only.pattern.tree, &only.rule),
+        OneOrTwo::One(only) => {
+            if has_large_state(alloc, store, only.pattern.tree, &only.rule)? {
+                return Ok(Some(Part::First));
+            }
+        }
         OneOrTwo::Two(first, second) => {
             if has_large_state(alloc, store, first.pattern.tree, &first.rule)? {
-                return Ok(true);
+                return Ok(Some(Part::First));
             }
-            has_large_state(alloc, store, second.pattern.tree, &second.rule)
+            if has_large_state(alloc, store, second.pattern.tree, &second.rule)? {
+                return Ok(Some(Part::Second));
+            }
         }
     }
+    Ok(None)
 }
 
 /// The rule of the patterns, or that of the first where the second's is the same.

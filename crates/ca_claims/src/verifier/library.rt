@@ -5,11 +5,17 @@ ghost use Rattle.ca_quad.specs.Sound.{Grows};
 ghost use Rattle.ca_claims.specs.inner.Patterns.{IsReadFrom, IsUnread};
 
 use crate::pattern::Loaded;
-use crate::read::read_pattern;
-use crate::verdict::{Cause, PatternFault};
+use crate::read::{BadPattern, read_with_line};
+use crate::verdict::PatternFault;
 use ca_quad::Store;
 use std::alloc::Global;
 use std::marker::Model;
+
+/// No memory for a pattern that was read.
+const OUT_OF_MEMORY: BadPattern = BadPattern {
+    fault: PatternFault::Memory,
+    line: None,
+};
 
 /// How many patterns are kept: a claim is about one or two.
 const ROOM: usize = 2;
@@ -79,19 +85,19 @@ impl<'a> Library<'a> {
     }
 
     /// The pattern of a file's bytes, put into the store: the one that is kept where a kept file has the same bytes, and else
-    /// the one that is read. Or the cause for which there is none.
+    /// the one that is read. Or what is wrong with them.
     pub(crate) fn pattern(
         &mut self,
         alloc: Global,
         store: &mut Store,
         bytes: &'a [u8],
-    ) -> Result<Loaded, Cause>
+    ) -> Result<Loaded, BadPattern>
         ensures read { MatchResult result (IsReadFrom store.new bytes.now) (IsUnread bytes.now) }
         ensures grows { Grows store.old store.new }
     {
         let _ = store.count();
         if !self.is_open {
-            return read(alloc, store, bytes);
+            return read_with_line(alloc, store, bytes);
         }
         let kept = self.take(alloc, bytes)?;
         let pattern = kept.copy_into(store);
@@ -102,7 +108,7 @@ impl<'a> Library<'a> {
 
     /// The pattern of a file's bytes: taken out where it is kept, and else read. For a new one the longest unused one goes first,
     /// so that there are never more than are kept.
-    fn take(&mut self, alloc: Global, bytes: &'a [u8]) -> Result<Kept<'a>, Cause>
+    fn take(&mut self, alloc: Global, bytes: &'a [u8]) -> Result<Kept<'a>, BadPattern>
         ensures { MatchResult result (λ kept. kept ≡ bytes.now) (IsUnread bytes.now) }
     {
         if let Some(place) = self.place_of(bytes) {
@@ -135,12 +141,12 @@ impl<'a> Kept<'a> {
         self.bytes == bytes
     }
 
-    /// The pattern of a file's bytes, or the cause for which they aren't read.
-    fn read(alloc: Global, bytes: &'a [u8]) -> Result<Kept<'a>, Cause>
+    /// The pattern of a file's bytes, or what is wrong with them.
+    fn read(alloc: Global, bytes: &'a [u8]) -> Result<Kept<'a>, BadPattern>
         ensures { MatchResult result (λ kept. kept ≡ bytes.now) (IsUnread bytes.now) }
     {
         let mut store = Store::new(alloc);
-        let pattern = read(alloc, &mut store, bytes)?;
+        let pattern = read_with_line(alloc, &mut store, bytes)?;
         Ok(Kept {
             bytes,
             store,
@@ -149,15 +155,15 @@ impl<'a> Kept<'a> {
     }
 
     /// The pattern in another store.
-    fn copy_into(&self, store: &mut Store) -> Result<Loaded, Cause>
+    fn copy_into(&self, store: &mut Store) -> Result<Loaded, BadPattern>
         ensures read { MatchResult result (IsReadFrom store.new self.now) (IsUnread self.now) }
         ensures grows { Grows store.old store.new }
     {
         let Ok(tree) = store.import(&self.store, self.pattern.tree) else {
-            return Err(Cause::Memory);
+            return Err(OUT_OF_MEMORY);
         };
         let Ok(rule_text) = self.pattern.rule_text.clone() else {
-            return Err(Cause::Memory);
+            return Err(OUT_OF_MEMORY);
         };
         Ok(Loaded {
             kind: self.pattern.kind,
@@ -165,17 +171,5 @@ impl<'a> Kept<'a> {
             rule_text,
             generation: self.pattern.generation,
         })
-    }
-}
-
-/// The pattern of a file's bytes, or the cause for which they aren't read.
-fn read(alloc: Global, store: &mut Store, bytes: &[u8]) -> Result<Loaded, Cause>
-    ensures read { MatchResult result (IsReadFrom store.new bytes.now) (IsUnread bytes.now) }
-    ensures grows { Grows store.old store.new }
-{
-    match read_pattern(alloc, store, bytes) {
-        Ok(pattern) => Ok(pattern),
-        Err(PatternFault::Memory) => Err(Cause::Memory),
-        Err(fault) => Err(Cause::BadPattern(fault)),
     }
 }

@@ -1,23 +1,38 @@
 //! What a claim is judged on: the trees of its patterns, and the plane of one whose cells are counted.
 
-ghost use Rattle.std.specs.Prelude.{◌≡◌, ◌⊎◌, IfOk, IfErr, IsTrue, IsFalse, ◌↔◌, MatchOption};
-ghost use Rattle.ca_plane.specs.Population.{HasTooManyCells};
+ghost use Rattle.std.specs.Prelude.{IfOk, IfErr, IsTrue, IsFalse, ◌↔◌, MatchOption};
 ghost use Rattle.ca_quad.specs.Trees.{IsTree, cell};
 ghost use Rattle.ca_macro.specs.Pattern.{AreInRange};
-ghost use Rattle.ca_claims.specs.declared.verdict.Cause.TheVariants as causes;
 ghost use Rattle.ca_claims.specs.Answers.{IsCounted};
 ghost use Rattle.ca_claims.specs.inner.Cells.{IsPlaneOf};
 ghost use Rattle.ca_claims.specs.inner.Patterns.{items, AreBoth};
+ghost use Rattle.ca_claims.specs.inner.Prepared.{IsPlaneRefused};
 
 use super::one_or_two::OneOrTwo;
 use crate::cells::plane_of;
 use crate::claims::{Asks, Barred};
 use crate::decide::Subject;
+use crate::refusal::{About, Part, Refusal};
 use crate::ruled::Ruled;
 use crate::verdict::Cause;
 use ca_plane::Plane;
 use ca_quad::{Store, Tree};
 use std::alloc::Global;
+
+/// The claim's first pattern has too many cells.
+const TOO_MANY_CELLS: Refusal = Refusal {
+    cause: Cause::TooManyCells,
+    about: About::Pattern {
+        part: Part::First,
+        line: None,
+    },
+};
+
+/// No memory for a claim.
+pub(crate) const OUT_OF_MEMORY: Refusal = Refusal {
+    cause: Cause::Memory,
+    about: About::Claim,
+};
 
 /// The trees of a claim's pattern and of the other one, which is the same where there is one.
 pub(crate) fn subject_of(patterns: &OneOrTwo<Ruled<'_>>) -> Subject
@@ -48,18 +63,18 @@ pub(crate) fn counted_plane(
     store: &Store,
     tree: Tree,
     counted: bool,
-) -> Result<Option<Plane>, Cause>
+) -> Result<Option<Plane>, Refusal>
     requires tree { IsTree store.now tree }
     requires range { AreInRange (cell store.now tree) }
     ensures plane { IfOk result (λ plane. MatchOption plane (IsFalse counted) (λ p. IsTrue counted × IsPlaneOf store.now tree p)) }
-    ensures cause { IfErr result (λ cause. (cause ≡ causes.Memory) ⊎ ((cause ≡ causes.TooManyCells) × IsTrue counted × HasTooManyCells (cell store.now tree))) }
+    ensures refusal { IfErr result (IsPlaneRefused store.now tree counted) }
 {
     if !counted {
         return Ok(None);
     }
     match plane_of(alloc, store, tree) {
         Ok(Some(plane)) => Ok(Some(plane)),
-        Ok(None) => Err(Cause::TooManyCells),
-        Err(_) => Err(Cause::Memory),
+        Ok(None) => Err(TOO_MANY_CELLS),
+        Err(_) => Err(OUT_OF_MEMORY),
     }
 }

@@ -1,23 +1,27 @@
 //! What a claim is judged on, or why it isn't judged.
 
-ghost use Rattle.std.specs.Prelude.{◌≡◌, ℕ, ◌<◌, List, map, length, get_or, Some, None, IfOk, IfErr, MatchOption, MatchResult};
+ghost use Rattle.std.specs.Prelude.{◌≡◌, ℕ, ◌<◌, List, map, length, get_or, Some, None, IfOk, IfErr, MatchResult};
 ghost use Rattle.std.specs.List.{AllByRecursion, AllZip};
 ghost use Rattle.std.specs.Option.{option_copied};
 ghost use Rattle.ca_claims.specs.Places.{path_at};
 ghost use Rattle.ca_claims.specs.Means.{bytes_at};
-ghost use Rattle.ca_claims.specs.Answers.{AreTables, SomeOf, HasCause};
-ghost use Rattle.ca_claims.specs.inner.Patterns.{items};
-ghost use Rattle.ca_claims.specs.inner.Prepared.{IsPrepared, MayBe, IsFit};
+ghost use Rattle.ca_claims.specs.Answers.{AreTables};
+ghost use Rattle.ca_claims.specs.declared.refusal.About.TheVariants as abouts;
+ghost use Rattle.ca_claims.specs.inner.Found.{IsFound};
+ghost use Rattle.ca_claims.specs.inner.Patterns.{items, FirstBadAt};
+ghost use Rattle.ca_claims.specs.inner.Prepared.{IsPrepared, MayBe, IsFit, reading_refusal, disagreement_refusal};
+ghost use Rattle.ca_claims.specs.inner.Refusals.{IsRefusal};
 ghost use Rattle.ca_claims.specs.inner.Tables.{AreRead};
 
-use super::agreement::agreed_rule;
+use super::agreement::{Disagreement, agreed_rule};
 use super::library::Library;
 use super::one_or_two::OneOrTwo;
-use super::patterns::{read_each, with_rules};
-use super::planes::{counted_plane, subject_of};
+use super::patterns::{Unread, read_each, with_rules};
+use super::planes::{OUT_OF_MEMORY, counted_plane, subject_of};
 use super::tables::Tables;
 use crate::decide::Subject;
-use crate::verdict::Cause;
+use crate::refusal::{About, Part, Refusal};
+use crate::verdict::{Cause, PatternFault};
 use ca_plane::Plane;
 use ca_quad::Store;
 use ca_rule::{Rule, Table};
@@ -33,7 +37,7 @@ pub(crate) struct Prepared<'t> {
     pub(crate) plane: Option<Plane>,
 }
 
-/// What a claim about the patterns at these places is judged on, or the cause for which it isn't judged. `counted` tells
+/// What a claim about the patterns at these places is judged on, or why it isn't judged. `counted` tells
 /// whether the cells of its pattern are.
 pub(crate) fn prepare<'a, 't>(
     alloc: Global,
@@ -42,41 +46,48 @@ pub(crate) fn prepare<'a, 't>(
     counted: bool,
     found: &[Option<&'a [u8]>],
     tables: &'t Tables,
-) -> Result<Prepared<'t>, Cause>
+) -> Result<Prepared<'t>, Refusal>
     requires { AllByRecursion (λ i. i < length found.now) (items places.now) }
     ensures prepared { (files : List (List ℕ × List ℕ)) (paths rules : List (List ℕ)) → map option_copied found.now ≡ map (bytes_at files) paths → AreRead files paths rules tables.now
-        → MatchResult result (IsPrepared files rules (map (path_at paths) (items places.now)) counted) (HasCause files rules (map (path_at paths) (items places.now))) }
-    ensures counted { IfErr result (MayBe counted) }
+        → MatchResult result (IsPrepared files rules (map (path_at paths) (items places.now)) counted) (IsRefusal files paths rules (map (path_at paths) (items places.now))) }
+    ensures counted { IfErr result (λ r. MayBe counted r.cause) }
     ensures fit { IfOk result (IsFit counted) }
 {
-    let Some(files) = files_at(places, found) else {
-        return Err(Cause::NoFile);
+    let files = match files_at(places, found) {
+        Ok(files) => files,
+        Err(part) => return Err(of_pattern(Cause::NoFile, part, None)),
     };
     let tables = tables.all()?;
     prepare_by(alloc, library, &files, counted, tables)
 }
 
-/// What a claim about the patterns whose files have these bytes is judged on, or the cause for which it isn't judged under the
-/// text's tables.
+/// What a claim about the patterns whose files have these bytes is judged on, or why it isn't judged under the text's
+/// tables.
 fn prepare_by<'a, 't>(
     alloc: Global,
     library: &mut Library<'a>,
     there: &OneOrTwo<&'a [u8]>,
     counted: bool,
     tables: &'t [Table],
-) -> Result<Prepared<'t>, Cause>
-    ensures prepared { (files : List (List ℕ × List ℕ)) (rules each : List (List ℕ)) → AllZip (λ path b. bytes_at files path ≡ Some b.now) each (items there.now)
-        → AreTables files rules tables.now → MatchResult result (IsPrepared files rules each counted) (HasCause files rules each) }
-    ensures counted { IfErr result (MayBe counted) }
+) -> Result<Prepared<'t>, Refusal>
+    ensures prepared { (files : List (List ℕ × List ℕ)) (paths rules each : List (List ℕ)) → AllZip (λ path b. bytes_at files path ≡ Some b.now) each (items there.now)
+        → AreTables files rules tables.now → MatchResult result (IsPrepared files rules each counted) (IsRefusal files paths rules each) }
+    ensures counted { IfErr result (λ r. MayBe counted r.cause) }
     ensures fit { IfOk result (IsFit counted) }
 {
     let mut store = Store::new(alloc);
-    let patterns = read_each(alloc, library, &mut store, there)?;
+    let patterns = match read_each(alloc, library, &mut store, there) {
+        Ok(patterns) => patterns,
+        Err(unread) => return Err(reading_refusal(unread)),
+    };
     let patterns = match with_rules(patterns, tables) {
         Ok(patterns) => patterns,
-        Err(fault) => return Err(Cause::BadRule(fault)),
+        Err(unnamed) => return Err(of_pattern(Cause::BadRule(unnamed.fault), unnamed.part, None)),
     };
-    let rule = agreed_rule(alloc, &store, &patterns)?;
+    let rule = match agreed_rule(alloc, &store, &patterns) {
+        Ok(rule) => rule,
+        Err(disagreement) => return Err(disagreement_refusal(disagreement)),
+    };
     let subject = subject_of(&patterns);
     let plane = counted_plane(alloc, &store, subject.pattern, counted)?;
     Ok(Prepared {
@@ -86,21 +97,58 @@ fn prepare_by<'a, 't>(
     })
 }
 
-/// The bytes at these indices, where all of them are there.
-fn files_at<'a>(places: &OneOrTwo<usize>, found: &[Option<&'a [u8]>]) -> Option<OneOrTwo<&'a [u8]>>
+/// A refusal for one of the claim's patterns.
+fn of_pattern(cause: Cause, part: Part, line: Option<u64>) -> Refusal
+    ensures { result ≡ record { cause = cause; about = abouts.Pattern part line } }
+{
+    Refusal {
+        cause,
+        about: About::Pattern { part, line },
+    }
+}
+
+/// The refusal of a claim with a pattern that isn't read.
+fn reading_refusal(unread: Unread) -> Refusal
+    ensures { result ≡ reading_refusal unread }
+{
+    match unread.bad.fault {
+        PatternFault::Memory => OUT_OF_MEMORY,
+        fault => of_pattern(Cause::BadPattern(fault), unread.part, unread.bad.line),
+    }
+}
+
+/// The refusal of a claim whose patterns have no one rule under which their states are small.
+fn disagreement_refusal(disagreement: Disagreement) -> Refusal
+    ensures { result ≡ disagreement_refusal disagreement }
+{
+    match disagreement {
+        Disagreement::Large(part) => of_pattern(Cause::StateTooLarge, part, None),
+        Disagreement::Mixed => Refusal {
+            cause: Cause::MixedRules,
+            about: About::Claim,
+        },
+        Disagreement::Memory => OUT_OF_MEMORY,
+    }
+}
+
+/// The bytes at these indices, or the first of the two at which there are none.
+fn files_at<'a>(
+    places: &OneOrTwo<usize>,
+    found: &[Option<&'a [u8]>],
+) -> Result<OneOrTwo<&'a [u8]>, Part>
     requires { AllByRecursion (λ i. i < length found.now) (items places.now) }
-    ensures { MatchOption result (SomeOf (λ i. get_or found.now i None ≡ None) (items places.now))
-        (λ files. AllZip (λ i b. get_or found.now i None ≡ Some b) (items places.now) (items files)) }
+    ensures { MatchResult result (λ files. AllZip (λ i b. get_or found.now i None ≡ Some b) (items places.now) (items files))
+        (λ part. FirstBadAt part (items places.now) (IsFound found.now) (λ i. get_or found.now i None ≡ None)) }
 {
     match *places {
-        OneOrTwo::One(only) => {
-            let only = found[only]?;
-            Some(OneOrTwo::One(only))
-        }
-        OneOrTwo::Two(first, second) => {
-            let first = found[first]?;
-            let second = found[second]?;
-            Some(OneOrTwo::Two(first, second))
-        }
+        OneOrTwo::One(only) => match found[only] {
+            Some(only) => Ok(OneOrTwo::One(only)),
+            None => Err(Part::First),
+        },
+        OneOrTwo::Two(first, second) => match (found[first], found[second]) {
+            (Some(first), Some(second)) => Ok(OneOrTwo::Two(first, second)),
+            (None, _) => Err(Part::First),
+            (Some(_), None) => Err(Part::Second),
+        },
     }
 }

@@ -8,9 +8,11 @@ ghost use Rattle.ca_rule.specs.declared.table.fault.TableFault.TheVariants as ta
 ghost use Rattle.ca_claims.specs.declared.verdict.Cause.TheVariants as causes;
 ghost use Rattle.ca_claims.specs.Places.{path_at};
 ghost use Rattle.ca_claims.specs.Means.{bytes_at};
-ghost use Rattle.ca_claims.specs.Answers.{IsThere, AreTables, FirstBad, HasCause};
+ghost use Rattle.ca_claims.specs.Answers.{IsThere, AreTables, FirstBad};
 ghost use Rattle.ca_claims.specs.inner.Found.{IsFound, IsTableFound, IsFaultFound};
+ghost use Rattle.ca_claims.specs.inner.Refusals.{IsRefusal};
 
+use crate::refusal::{About, Refusal};
 use crate::verdict::Cause;
 use ca_plane::Memory;
 use ca_rule::{Table, TableFault};
@@ -63,16 +65,22 @@ impl Tables {
         }
     }
 
-    /// The tables, or the cause for which no claim is judged without them.
-    pub(crate) fn all(&self) -> Result<&[Table], Cause>
+    /// The tables, or why no claim is judged without them.
+    pub(crate) fn all(&self) -> Result<&[Table], Refusal>
         ensures tables { (files : List (List ℕ × List ℕ)) (paths rules : List (List ℕ)) → AreRead files paths rules self.now → IfOk result (λ tables. AreTables files rules tables.now) }
-        ensures cause { (files : List (List ℕ × List ℕ)) (paths rules patterns : List (List ℕ)) → AreRead files paths rules self.now → AllByRecursion (IsThere files) patterns
-            → IfErr result (HasCause files rules patterns) }
-        ensures kind { IfErr result (λ cause. cause ≢ causes.TooManyCells) }
+        ensures refusal { (files : List (List ℕ × List ℕ)) (paths rules patterns : List (List ℕ)) → AreRead files paths rules self.now → AllByRecursion (IsThere files) patterns
+            → IfErr result (IsRefusal files paths rules patterns) }
+        ensures kind { IfErr result (λ r. r.cause ≢ causes.TooManyCells) }
     {
         match self {
-            Tables::Missing(_) => Err(Cause::NoFile),
-            Tables::Faulty(faulty) => Err(Cause::BadTable(faulty.fault)),
+            Tables::Missing(place) => Err(Refusal {
+                cause: Cause::NoFile,
+                about: About::RuleFile(*place),
+            }),
+            Tables::Faulty(faulty) => Err(Refusal {
+                cause: Cause::BadTable(faulty.fault),
+                about: About::RuleFile(faulty.place),
+            }),
             Tables::Read(tables) => Ok(tables),
         }
     }

@@ -1,18 +1,38 @@
-use Rattle.std.proofs.Common.{◌<◌, refl, sym, subst}
+use Rattle.std.proofs.Common.{◌<◌, map, refl, sym, subst}
 use Rattle.std.specs.List.{AllByRecursion}
 use Rattle.ca_claims.specs.Text.{patterns_of, about}
-use Rattle.ca_claims.specs.Places.{path_at}
+use Rattle.ca_claims.specs.Places.{path_at, named_path}
+use Rattle.ca_claims.specs.inner.Patterns.{items}
+use Rattle.ca_claims.specs.inner.Refusals.{IsOnVerdict}
 use Rattle.ca_claims.proofs.judge.answer_to.Goals as goal
 
-pub verdict_on-verdict-requires : goal.verdict_on-verdict-requires
-verdict_on-verdict-requires g c = record {
+pub verdict_on-judged-requires : goal.verdict_on-judged-requires
+verdict_on-judged-requires g c = record {
   within = subst (λ n. AllByRecursion (λ i. i < n) (patterns_of c.claim-asked.result.claim)) (sym c.requires.found) c.claim-asked.ensures.asked.within;
   numbers = c.claim-asked.ensures.asked.numbers;
 }
 
-pub returns : goal.returns
-returns g c = λ files e read.
+pub returns-clause-answer : goal.returns-clause-answer
+returns-clause-answer g c = λ files e read.
     let paths = c.args.claims.now.paths in
     let rules = c.args.claims.now.rules in
     let claim = about (path_at paths) c.claim-asked.result.claim in
-    ((c.claim-asked.result.line, claim), c.claim-asked.ensures.claim, (refl, c.verdict_on-verdict.ensures files paths rules e read))
+    let judged = c.verdict_on-judged.ensures files paths rules e read in
+    let same = c.patterns.ensures.claim (c.claim-asked.result.line, claim) c.claim-asked.ensures.claim in
+    record {
+      claim = (c.claim-asked.result.line, claim);
+      at = c.claim-asked.ensures.claim;
+      holds = (refl, judged.holds);
+      patterns = map (named_path paths) (items c.patterns.result);
+      named = c.patterns.ensures.patterns;
+      noted = c.note_on.ensures.note files (subst (λ ps. IsOnVerdict files paths rules ps c.verdict_on-judged.result.verdict c.verdict_on-judged.result.about) same judged.on);
+    }
+
+pub returns-clause-given : goal.returns-clause-given
+returns-clause-given g c = λ files e read.
+    let paths = c.args.claims.now.paths in
+    let rules = c.args.claims.now.rules in
+    let claim = about (path_at paths) c.claim-asked.result.claim in
+    let judged = c.verdict_on-judged.ensures files paths rules e read in
+    let same = c.patterns.ensures.claim (c.claim-asked.result.line, claim) c.claim-asked.ensures.claim in
+    c.note_on.ensures.given files (subst (λ ps. IsOnVerdict files paths rules ps c.verdict_on-judged.result.verdict c.verdict_on-judged.result.about) same judged.on)

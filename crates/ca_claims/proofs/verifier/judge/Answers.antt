@@ -2,11 +2,15 @@ use Rattle.std.proofs.Common.{◌<◌, length, map, subst, sym, ◌∙◌}
 use Rattle.ca_rule.specs.Rule.{rule_value, next_of}
 use Rattle.ca_claims.specs.Text.{patterns_of, about}
 use Rattle.ca_claims.specs.Places.{path_at}
-use Rattle.ca_claims.specs.Answers.{IsTrueVerdict, IsCounted, IsCauseFor}
+use Rattle.ca_claims.specs.declared.refusal.About.TheVariants.{Claim}
+use Rattle.ca_claims.specs.declared.verdict.Verdict.TheVariants.{Refused}
+use Rattle.ca_claims.specs.Answers.{IsCounted}
+use Rattle.ca_claims.specs.inner.Refusals.{IsJudgedOn}
 use Rattle.ca_claims.specs.inner.Patterns.{items}
 use Rattle.ca_claims.specs.inner.Decided.{IsBounded, IsDecided}
 use Rattle.ca_claims.proofs.ClaimKinds.{asks_about, asks_bounded}
 use Rattle.ca_claims.proofs.Causes.{once_paths, once_all, cause_of_all, passed_on, is_subject, true_verdict}
+use Rattle.ca_claims.proofs.Parts.{on_all}
 use Rattle.ca_claims.proofs.verifier.judge.Goals as goal
 
 pub prepare-requires : goal.prepare-requires
@@ -17,10 +21,14 @@ returns-in_err-prepared g c = λ files paths rules e read.
     let claim = about (path_at paths) c.args.claim.now in
     let each = map (path_at paths) (items c.places_of.result) in
     let once = once_paths paths c.args.claim.now (items c.places_of.result) c.places_of.ensures in
-    let cause = c.in_err-prepared.field-0.0 in
+    let refusal = c.in_err-prepared.field-0.0 in
+    let refused = c.in_err-prepared.ensures.prepared files paths rules e read in
     let same = c.asks-asks.ensures ∙ sym (asks_about (path_at paths) c.args.claim.now) in
-    passed_on (IsTrueVerdict files rules claim) (IsCauseFor files rules claim) c.from_residual.result cause c.from_residual.ensures.1
-    (cause_of_all files rules each (patterns_of claim) cause once (c.in_err-prepared.ensures.prepared files paths rules e read), λ many. subst IsCounted same (c.counts_cells.ensures.0 (c.in_err-prepared.ensures.counted many)))
+    passed_on (λ verdict. IsJudgedOn files paths rules claim verdict Claim) (λ r. IsJudgedOn files paths rules claim (Refused r.cause) r.about) c.from_residual.result refusal c.from_residual.ensures.1
+    (record {
+      holds = (cause_of_all files rules each (patterns_of claim) refusal.cause once refused.holds, λ many. subst IsCounted same (c.counts_cells.ensures.0 (c.in_err-prepared.ensures.counted many)));
+      on = on_all files rules paths each (patterns_of claim) once refusal.cause refusal.about refused.on;
+    })
 
 pub decide_on-requires : goal.decide_on-requires
 decide_on-requires g c = record {

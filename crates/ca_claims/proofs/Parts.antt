@@ -1,0 +1,83 @@
+-- One of a claim's one or two patterns, which is bad, after one that is good.
+use Rattle.std.proofs.Common.{ℕ, List, [], ◌∷◌, map, Option, inl, inr, ap, sym, subst}
+use Rattle.std.specs.List.{AllZip}
+use Rattle.ca_claims.specs.declared.claims.line.Named.{Named}
+use Rattle.ca_claims.specs.declared.refusal.About.{About}
+use Rattle.ca_claims.specs.declared.refusal.About.TheVariants as about
+use Rattle.ca_claims.specs.declared.refusal.Part.{Part}
+use Rattle.ca_claims.specs.declared.refusal.Part.TheVariants.{First, Second}
+use Rattle.ca_claims.specs.declared.verdict.Cause.{Cause}
+use Rattle.ca_claims.specs.declared.verdict.Cause.TheVariants.{NoFile, BadTable, BadPattern, BadRule, StateTooLarge, MixedRules, TooManyCells, Memory}
+use Rattle.ca_claims.specs.Places.{path_at, named_path}
+use Rattle.ca_claims.specs.Answers.{FirstBad}
+use Rattle.ca_claims.specs.Notes.{IsOfPattern, IsFirstBad}
+use Rattle.ca_claims.specs.inner.Patterns.{IsEachOnce, FirstBadAt, IsPart}
+use Rattle.ca_claims.specs.inner.Refusals.{IsOn}
+
+-- the first bad one
+pub first_part : {X : Type 0} (Good Bad : X → Type 0) (part : Part) (xs : List X) → FirstBadAt part xs Good Bad → FirstBad Good Bad xs
+first_part Good Bad First [] bad = absurd bad
+first_part Good Bad First (x ∷ xs) bad = inl bad
+first_part Good Bad Second [] bad = absurd bad
+first_part Good Bad Second (x ∷ []) bad = absurd bad
+first_part Good Bad Second (x ∷ y ∷ ys) bad = inr (bad.0, inl bad.1)
+
+-- it is bad of what belongs to it
+pub zip_part : {X Y : Type 0} (R : X → Y → Type 0) (Good Bad : X → Type 0) (Right Wrong : Y → Type 0) → ((x : X) (y : Y) → R x y → Right y → Good x)
+    → ((x : X) (y : Y) → R x y → Wrong y → Bad x) → (part : Part) (xs : List X) (ys : List Y) → AllZip R xs ys → FirstBadAt part ys Right Wrong → FirstBadAt part xs Good Bad
+zip_part R Good Bad Right Wrong f g First [] [] all bad = absurd bad
+zip_part R Good Bad Right Wrong f g First [] (y ∷ ys) all bad = absurd all
+zip_part R Good Bad Right Wrong f g First (x ∷ xs) [] all bad = absurd all
+zip_part R Good Bad Right Wrong f g First (x ∷ xs) (y ∷ ys) all bad = g x y all.0 bad
+zip_part R Good Bad Right Wrong f g Second [] [] all bad = absurd bad
+zip_part R Good Bad Right Wrong f g Second [] (y ∷ ys) all bad = absurd all
+zip_part R Good Bad Right Wrong f g Second (x ∷ xs) [] all bad = absurd all
+zip_part R Good Bad Right Wrong f g Second (x ∷ xs) (y ∷ []) all bad = absurd bad
+zip_part R Good Bad Right Wrong f g Second (x ∷ []) (y ∷ z ∷ zs) all bad = absurd all.1
+zip_part R Good Bad Right Wrong f g Second (x ∷ w ∷ ws) (y ∷ z ∷ zs) all bad = (f x y all.0 bad.0, g w z all.1.0 bad.1)
+
+-- of patterns of which two may be one
+once_part : {X : Type 0} (Good Bad : X → Type 0) (part : Part) (each all : List X) → IsEachOnce each all → FirstBadAt part each Good Bad → FirstBadAt part all Good Bad
+once_part {X} Good Bad part each all (inl same) bad = subst (λ (l : List X). FirstBadAt part l Good Bad) (sym same) bad
+once_part {X} Good Bad part each all (inr (x, e, d)) bad =
+    subst (λ (l : List X). FirstBadAt part l Good Bad) (sym d) (twice part (subst (λ (l : List X). FirstBadAt part l Good Bad) e bad))
+  where
+    twice : (p : Part) → FirstBadAt p (x ∷ []) Good Bad → FirstBadAt p (x ∷ x ∷ []) Good Bad
+    twice First b = b
+    twice Second b = absurd b
+
+-- by its name and path
+named_part : (paths : List (List ℕ)) (Good Bad : List ℕ → Type 0) (part : Part) (patterns : List Named) (pattern : Named) → IsPart part patterns pattern
+    → FirstBadAt part (map (λ n. path_at paths n.path) patterns) Good Bad → IsFirstBad (map (named_path paths) patterns) pattern.name.now (path_at paths pattern.path) Good Bad
+named_part paths Good Bad First [] pattern is bad = absurd bad
+named_part paths Good Bad First (n ∷ ns) pattern is bad = inl (ap (named_path paths) (sym is), bad)
+named_part paths Good Bad Second [] pattern is bad = absurd bad
+named_part paths Good Bad Second (n ∷ []) pattern is bad = absurd bad
+named_part paths Good Bad Second (n ∷ m ∷ ns) pattern is bad = inr (bad.0, inl (ap (named_path paths) (sym is), bad.1))
+
+module _ (files : List (List ℕ × List ℕ)) (rules : List (List ℕ)) where
+  -- what is said of a pattern is said of it in other words
+  of_pattern : (F H : (Good Bad : List ℕ → Type 0) → Type 0) → ((Good Bad : List ℕ → Type 0) → F Good Bad → H Good Bad) → (cause : Cause) (line : Option ℕ)
+      → IsOfPattern files rules cause F line → IsOfPattern files rules cause H line
+  of_pattern F H f NoFile line is = (is.0, f _ _ is.1)
+  of_pattern F H f (BadTable fault) line is = absurd is
+  of_pattern F H f (BadPattern fault) line is = f _ _ is
+  of_pattern F H f (BadRule fault) line is = (is.0, is.1, is.2, f _ _ is.3)
+  of_pattern F H f StateTooLarge line is = (is.0, is.1, is.2, f _ _ is.3)
+  of_pattern F H f MixedRules line is = absurd is
+  of_pattern F H f TooManyCells line is = (is.0, is.1, is.2, f _ _ is.3)
+  of_pattern F H f Memory line is = absurd is
+
+  -- so it is told by its name and path
+  pub told_part : (paths : List (List ℕ)) (part : Part) (patterns : List Named) (pattern : Named) → IsPart part patterns pattern → (cause : Cause) (line : Option ℕ)
+      → IsOfPattern files rules cause (FirstBadAt part (map (λ n. path_at paths n.path) patterns)) line
+      → IsOfPattern files rules cause (IsFirstBad (map (named_path paths) patterns) pattern.name.now (path_at paths pattern.path)) line
+  told_part paths part patterns pattern is = of_pattern (FirstBadAt part (map (λ n. path_at paths n.path) patterns)) (IsFirstBad (map (named_path paths) patterns) pattern.name.now (path_at paths pattern.path))
+      (λ Good Bad bad. named_part paths Good Bad part patterns pattern is bad)
+
+  -- and a cause is about the same of patterns of which two may be one
+  pub on_all : (paths each all : List (List ℕ)) → IsEachOnce each all → (cause : Cause) (on : About) → IsOn files paths rules each cause on → IsOn files paths rules all cause on
+  on_all paths each all once cause about.Claim is = is
+  on_all paths each all once cause (about.Pattern part line) is =
+      of_pattern (FirstBadAt part each) (FirstBadAt part all) (λ Good Bad bad. once_part Good Bad part each all once bad) cause line is
+  on_all paths each all once cause (about.RuleFile place) is = is

@@ -1,0 +1,37 @@
+-- What the cause of a refusal is about.
+use Rattle.std.specs.Prelude.{◌≡◌, ℕ, ◌<◌, List, length, ◌⊎◌}
+use Rattle.ca_claims.specs.declared.refusal.About.{About}
+use Rattle.ca_claims.specs.declared.refusal.About.TheVariants as about
+use Rattle.ca_claims.specs.declared.refusal.Refusal.{Refusal}
+use Rattle.ca_claims.specs.declared.verdict.Cause.{Cause}
+use Rattle.ca_claims.specs.declared.verdict.Cause.TheVariants.{MixedRules, Memory}
+use Rattle.ca_claims.specs.declared.verdict.Verdict.{Verdict}
+use Rattle.ca_claims.specs.declared.verdict.Verdict.TheVariants.{Yes, No, Refused}
+use Rattle.ca_claims.specs.Text.{Claim, patterns_of}
+use Rattle.ca_claims.specs.Places.{path_at}
+use Rattle.ca_claims.specs.Answers.{HasCause, IsTrueVerdict}
+use Rattle.ca_claims.specs.Notes.{IsOfPattern, IsOfRuleFile}
+use Rattle.ca_claims.specs.inner.Patterns.{FirstBadAt}
+
+-- the cause of a refusal is about this; `paths` are all paths of the text, `rules` those of its rule lines, and `patterns` those of the
+-- claim's patterns
+abbrev pub IsOn : List (List ℕ × List ℕ) → (paths rules patterns : List (List ℕ)) → Cause → About → Type 0
+IsOn files paths rules patterns cause about.Claim = (cause ≡ MixedRules) ⊎ (cause ≡ Memory)
+IsOn files paths rules patterns cause (about.Pattern part line) = IsOfPattern files rules cause (FirstBadAt part patterns) line
+IsOn files paths rules patterns cause (about.RuleFile place) = (place < length paths) × IsOfRuleFile files rules cause (path_at paths place)
+
+-- a claim about these patterns is refused for this cause, which is about this
+pub record IsRefusal (files : List (List ℕ × List ℕ)) (paths rules patterns : List (List ℕ)) (refusal : Refusal) : Type 0 where
+  pub holds : HasCause files rules patterns refusal.cause
+  pub on : IsOn files paths rules patterns refusal.cause refusal.about
+
+-- the cause of a verdict is about this, where it is a refusal
+abbrev pub IsOnVerdict : List (List ℕ × List ℕ) → (paths rules patterns : List (List ℕ)) → Verdict → About → Type 0
+IsOnVerdict files paths rules patterns Yes about = Unit {0}
+IsOnVerdict files paths rules patterns (No why) about = Unit {0}
+IsOnVerdict files paths rules patterns (Refused cause) about = IsOn files paths rules patterns cause about
+
+-- the verdict is true, and its cause is about this
+pub record IsJudgedOn (files : List (List ℕ × List ℕ)) (paths rules : List (List ℕ)) (claim : Claim) (verdict : Verdict) (about : About) : Type 0 where
+  pub holds : IsTrueVerdict files rules claim verdict
+  pub on : IsOnVerdict files paths rules (patterns_of claim) verdict about

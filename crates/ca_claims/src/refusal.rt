@@ -1,0 +1,35 @@
+//! Why a claim isn't judged, and what the cause is about.
+
+use crate::verdict::{Cause, Verdict};
+
+/// Why a claim isn't judged, and what the cause is about.
+#[derive(Clone, Copy)]
+pub(crate) struct Refusal {
+    pub(crate) cause: Cause,
+    pub(crate) about: About,
+}
+
+/// What the cause of a refusal is about.
+#[derive(Clone, Copy)]
+pub(crate) enum About {
+    /// The claim as a whole: its patterns' rules differ, or memory is out.
+    Claim,
+    /// One of its patterns. Where the cause is a fault that stands on a line of the file, this is the line.
+    Pattern { part: Part, line: Option<u64> },
+    /// The file of a rule line, whose path has this index among the text's paths.
+    RuleFile(usize),
+}
+
+/// Which of a claim's patterns.
+#[derive(Clone, Copy)]
+pub(crate) enum Part {
+    First,
+    Second,
+}
+
+/// A verdict, and what its cause is about where it is a refusal.
+#[derive(Clone, Copy)]
+pub(crate) struct Judged {
+    pub(crate) verdict: Verdict,
+    pub(crate) about: About,
+}
