@@ -1,5 +1,6 @@
 -- The line on which a first fault stands.
-use Rattle.std.proofs.Common.{◌≡◌, ℕ, ◌+◌, ◌-◌, ◌<◌, max, cond, Bool, true, false, not, List, [], ◌∷◌, ◌++◌, length, take, inl, inr, refl, sym, ap, subst, ◌∙◌, append_assoc, arith}
+use Rattle.std.proofs.Common.{◌≡◌, ◌≢◌, ℕ, ◌+◌, ◌-◌, ◌<◌, max, cond, Bool, true, false, not, List, [], ◌∷◌, ◌++◌, length, take, Option, Some, None, inl, inr, refl, sym, ap, subst, ◌∙◌, append_assoc, arith}
+use Rattle.std.specs.Prelude.{MatchOption}
 use Rattle.std.specs.List.{count_by, flat_map, AllByRecursion, list_all}
 use Rattle.std.proofs.lemmas.Bool.{and_parts, not-true}
 use Rattle.std.proofs.lemmas.List.{length-append}
@@ -10,11 +11,11 @@ use Rattle.ca_rle.specs.declared.fault.RleFault.{RleFault}
 use Rattle.ca_rle.specs.declared.fault.RleFault.TheVariants.{Syntax, Header, XlifeRule, NoEnd, BadState, GenTooLarge, Range, TooManyCells, Memory}
 use Rattle.ca_rle.specs.Items.{InLine}
 use Rattle.ca_rle.specs.File.{IsLine, ended}
-use Rattle.ca_rle.specs.Faults.{after_white, HasBadWord, HasBadItem, IsFirstFault}
-use Rattle.ca_rle.specs.FaultyLine.{HasBadWordAt, HasBadItemAt, IsFirstFaultAt, IsFirstFaultOn, IsFaultyLine, line_of}
+use Rattle.ca_rle.specs.Faults.{after_white, HasBadWord, HasBadItem, IsFirstFault, IsFaultOf}
+use Rattle.ca_rle.specs.FaultyLine.{HasBadWordAt, HasBadItemAt, IsFirstFaultAt, IsFirstFaultOn, IsFaultyLine, IsFaultOn, line_of}
 use Rattle.ca_rle.proofs.OnePlace.{EndsPreamble, one_place, xlife_place, no_header_place}
 use Rattle.ca_rle.proofs.BadWord.{bad_word_place}
-use Rattle.ca_rle.proofs.OneFault.{bad_word_or_header, header_of_headed, one_bad_place, one_first_fault}
+use Rattle.ca_rle.proofs.OneFault.{bad_word_or_header, header_of_headed, one_bad_place, one_first_fault, one_fault}
 
 -- ---- the fault of a line
 
@@ -49,6 +50,26 @@ rest_of bytes Memory p = absurd p
 -- and it stands on a line
 pub line_of_fault : (bytes : List ℕ) (f : RleFault) → IsFirstFault bytes f → (line : ℕ) × IsFirstFaultOn bytes f line
 line_of_fault bytes f p = let at = rest_of bytes f p in (line_of bytes at.0, (at.0, at.1, refl))
+
+of_first : (bytes : List ℕ) (f : RleFault) → IsFirstFault bytes f → IsFaultOf bytes f
+of_first bytes Range p = absurd p
+of_first bytes TooManyCells p = absurd p
+of_first bytes Memory p = absurd p
+of_first bytes f p = p
+
+no_memory : (bytes : List ℕ) (f : RleFault) → IsFirstFault bytes f → f ≢ Memory
+no_memory bytes f p e = subst (IsFirstFault bytes) e p
+
+-- a first fault at a place is the text's, on the line of that place, and it isn't that memory ran out
+pub on_line : (bytes : List ℕ) (f : RleFault) (rest : List ℕ) (line : ℕ) → IsFirstFaultAt bytes f rest → line ≡ line_of bytes rest → IsFaultOn bytes f (Some line) × (f ≢ Memory)
+on_line bytes f rest line p e =
+    let first = fault_at bytes f rest p in
+    ((of_first bytes f first, (rest, p, e)), no_memory bytes f first)
+
+-- what the line of a text's fault says of faulty lines
+pub line_or_none : (bytes : List ℕ) (f : RleFault) (line : Option ℕ) → f ≢ Memory → IsFaultOn bytes f line → MatchOption line ((g : RleFault) → IsFirstFault bytes g → ⊥) (IsFaultyLine bytes)
+line_or_none bytes f None n h = λ g p. h.1 (subst (IsFirstFault bytes) (one_fault bytes g f (no_memory bytes g p) n (of_first bytes g p) h.0) p)
+line_or_none bytes f (Some line) n h = (f, h.1)
 
 -- ---- one line
 

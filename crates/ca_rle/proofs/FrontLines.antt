@@ -1,5 +1,5 @@
 -- The lines of a text up to its header, split off one after another.
-use Rattle.std.proofs.Common.{◌≡◌, ℕ, ◌<◌, suc, true, not, List, [], ◌∷◌, ◌++◌, length, inr, refl, sym, ap, subst, ◌∙◌, append_assoc, arith}
+use Rattle.std.proofs.Common.{◌≡◌, ℕ, ◌<◌, suc, true, not, List, [], ◌∷◌, ◌++◌, length, inl, inr, refl, sym, ap, subst, ◌∙◌, append_assoc, arith}
 use Rattle.std.specs.List.{AllZip, flat_map, list_all}
 use Rattle.std.proofs.lemmas.Bool.{both_ways, not-true, not-false, eqb-true}
 use Rattle.std.proofs.lemmas.Grind.{flat_map-append}
@@ -7,13 +7,12 @@ use Rattle.std.proofs.lemmas.List.{append-nil, nil_from_length}
 use Rattle.ca_plane.specs.Bytes.{is_line_end, is_end_or, front, rest}
 use Rattle.ca_plane.proofs.Fronts.{front_then_rest, every_front, rest_ends, front_length}
 use Rattle.ca_rle.specs.declared.fault.RleFault.{RleFault}
-use Rattle.ca_rle.specs.declared.fault.RleFault.TheVariants.{Syntax, Header, XlifeRule, NoEnd, BadState, GenTooLarge, Range, TooManyCells, Memory}
+use Rattle.ca_rle.specs.declared.fault.RleFault.TheVariants.{Syntax, GenTooLarge}
 use Rattle.ca_rle.specs.declared.front.lines.Preamble.{Preamble}
 use Rattle.ca_rle.specs.Header.{is_comment, extended_words, Said, Says}
 use Rattle.ca_rle.specs.File.{IsLine, ended}
 use Rattle.ca_rle.specs.Faults.{HasBadWord, HasNoHeader}
-use Rattle.ca_rle.specs.FaultyLine.{HasNoHeaderAt}
-use Rattle.ca_rle.specs.inner.FrontFaults.{IsFrontFault}
+use Rattle.ca_rle.specs.FaultyLine.{HasNoHeaderAt, IsFirstFaultAt}
 use Rattle.ca_rle.specs.inner.FrontParts.{HasBadWordAmong, IsPreambleOf}
 use Rattle.ca_rle.proofs.OneHeader.{no_comment}
 
@@ -53,8 +52,8 @@ fewer_behind bytes behind later b e f =
     omega arith
 
 -- a fault of the same bytes, at the same place
-pub fault_there : (bytes same rest left : List ℕ) (f : RleFault) → bytes ≡ same → rest ≡ left → IsFrontFault same f rest → IsFrontFault bytes f left
-fault_there bytes same rest left f e r h = subst (λ (l : List ℕ). IsFrontFault bytes f l) r (subst (λ (l : List ℕ). IsFrontFault l f rest) (sym e) h)
+pub fault_there : (bytes same rest left : List ℕ) (f : RleFault) → bytes ≡ same → rest ≡ left → IsFirstFaultAt same f rest → IsFirstFaultAt bytes f left
+fault_there bytes same rest left f e r h = subst (λ (l : List ℕ). IsFirstFaultAt bytes f l) r (subst (λ (l : List ℕ). IsFirstFaultAt l f rest) (sym e) h)
 
 module _ (bytes line behind : List ℕ) (lines : List (List ℕ)) (said : List Said) (p : Preamble) (r : IsPreambleOf lines said p) (l : IsLine line) (comment : is_comment line ≡ true)
     (e : is_end_or is_line_end behind ≡ true) (spelled : bytes ≡ flat_map ended lines ++ (line ++ behind)) where
@@ -79,17 +78,11 @@ module _ (bytes line behind : List ℕ) (lines : List (List ℕ)) (said : List S
   }
 
   -- a bad word in the line is the text's fault
-  pub word_fault : (f : RleFault) → HasBadWordAmong (extended_words line) f → IsFrontFault bytes f (line ++ behind)
+  pub word_fault : (f : RleFault) → HasBadWordAmong (extended_words line) f → IsFirstFaultAt bytes f (line ++ behind)
   unfolding bad_word
-  word_fault Syntax h = (bad_word Syntax h, refl)
+  word_fault Syntax h = inl (bad_word Syntax h, refl)
   word_fault GenTooLarge h = (bad_word GenTooLarge h, refl)
-  word_fault Header h = absurd h.bad
-  word_fault XlifeRule h = absurd h.bad
-  word_fault NoEnd h = absurd h.bad
-  word_fault BadState h = absurd h.bad
-  word_fault Range h = absurd h.bad
-  word_fault TooManyCells h = absurd h.bad
-  word_fault Memory h = absurd h.bad
+  word_fault f h = absurd h.bad
 
   has_no_header : (last : List Said) → AllZip Says (extended_words line) last → length behind ≡ 0 → HasNoHeader bytes
   has_no_header last z none = record {

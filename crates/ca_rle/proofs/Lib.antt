@@ -39,7 +39,6 @@ pub mod StartWords
 pub mod Preambles
 pub mod HeaderLines
 pub mod FrontLines
-pub mod Whole
 pub mod Frames
 pub mod Gaps
 pub mod RunByRun

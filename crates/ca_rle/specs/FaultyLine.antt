@@ -1,12 +1,12 @@
 -- Where the first fault of an RLE text stands (our own): a bad word and a bad header at the start of their line, a bad item at
 -- its first byte after the white space before it, and what is missing at the end of the text.
-use Rattle.std.specs.Prelude.{◌≡◌, ℕ, ◌+◌, ◌-◌, max, List, length, take, ◌++◌, ◌⊎◌}
+use Rattle.std.specs.Prelude.{◌≡◌, ℕ, ◌+◌, ◌-◌, max, List, length, take, ◌++◌, Option, MatchOption, ◌⊎◌}
 use Rattle.std.specs.List.{count_by}
 use Rattle.ca_plane.specs.Bytes.{is_line_end}
 use Rattle.ca_rle.specs.declared.fault.RleFault.{RleFault}
 use Rattle.ca_rle.specs.declared.fault.RleFault.TheVariants.{Syntax, Header, XlifeRule, NoEnd, BadState, GenTooLarge, Range, TooManyCells, Memory}
 use Rattle.ca_rle.specs.Items.{InLine}
-use Rattle.ca_rle.specs.Faults.{after_white, HasBadWord, HasNoHeader, HasXlifeRule, HasBadItem}
+use Rattle.ca_rle.specs.Faults.{after_white, HasBadWord, HasNoHeader, HasXlifeRule, HasBadItem, IsFirstFault, IsFaultOf}
 
 -- the line of the bad word and what stands after it
 abbrev pub HasBadWordAt : List ℕ → RleFault → List ℕ → Type 0
@@ -48,3 +48,7 @@ IsFirstFaultOn bytes fault line = (rest : List ℕ) × IsFirstFaultAt bytes faul
 -- the number of the line on which the first fault in the spelling of a text stands
 abbrev pub IsFaultyLine : List ℕ → ℕ → Type 0
 IsFaultyLine bytes line = (fault : RleFault) × IsFirstFaultOn bytes fault line
+
+-- the fault of a text, and the number of the line on which it stands: none for a fault that isn't in the spelling
+abbrev pub IsFaultOn : List ℕ → RleFault → Option ℕ → Type 0
+IsFaultOn bytes fault line = IsFaultOf bytes fault × MatchOption line (IsFirstFault bytes fault → ⊥) (IsFirstFaultOn bytes fault)

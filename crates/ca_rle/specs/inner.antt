@@ -1,6 +1,5 @@
 -- Definitions that private contracts alone cite: how a text is read and written, part by part. No public contract rests on them.
 pub mod Extent
-pub mod FrontFaults
 pub mod FrontParts
 pub mod HeaderParts
 pub mod BodyFaults

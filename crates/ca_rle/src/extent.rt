@@ -1,9 +1,9 @@
 //! How far the items of an RLE text reach, which is judged before anything is drawn. Nothing here takes memory.
 
-ghost use Rattle.std.specs.Prelude.{◌≡◌, ◌+◌, ◌≤◌, max, pos, neg_ℤ, ◌+ℤ◌, ◌≤ℤ◌, ◌<ℤ◌, List, [], ◌∷◌, Some, ◌==◌, IsTrue, ◌↔◌, IfOk, IfErr, MatchOption, MatchResult, if◌then◌else◌};
+ghost use Rattle.std.specs.Prelude.{◌≡◌, ℕ, ◌+◌, ◌≤◌, max, pos, neg_ℤ, ◌+ℤ◌, ◌≤ℤ◌, ◌<ℤ◌, List, [], ◌∷◌, Some, ◌==◌, IsTrue, ◌↔◌, IfOk, IfErr, MatchOption, MatchResult, if◌then◌else◌};
 ghost use Rattle.ca_rle.specs.declared.item.Item.{Item};
-ghost use Rattle.ca_rle.specs.Items.{Run, IsEnd, Items};
-ghost use Rattle.ca_rle.specs.Faults.{item_fault};
+ghost use Rattle.ca_rle.specs.Items.{InLine, Run, IsEnd, Items};
+ghost use Rattle.ca_rle.specs.Faults.{after_white, item_fault};
 ghost use Rattle.ca_rle.specs.Shown.{ends_row, state_of};
 ghost use Rattle.ca_plane.specs.Limits.{IsInRange, range};
 ghost use Rattle.ca_rle.specs.inner.BodyFaults.{HasBadUnitAt, kept};
@@ -11,7 +11,7 @@ ghost use Rattle.ca_rle.specs.inner.Extent.{kept_number, live_count, IsOffsetOf,
 
 use crate::faulty::Faulty;
 use crate::item::{Item, Tag};
-use crate::unit::next_item;
+use crate::unit::{after_white, next_item};
 use ca_plane::Point;
 
 /// The greatest count of an item that is in range.
@@ -134,14 +134,17 @@ fn has_room(coordinate: i64, length: u64) -> bool
 ///
 /// # Errors
 ///
-/// The fault of that item, with all the bytes.
+/// The fault of that item, with the bytes after the white space before it.
 fn item_at(bytes: &[u8]) -> Result<Option<(Item, &[u8])>, Faulty<'_>>
     ensures { MatchResult result (λ o. MatchOption o (IsEnd bytes.now) (λ r. (j : Item) × Run bytes.now (j ∷ []) r.1.now × (r.0 ≡ kept j)))
-        (λ f. (item_fault bytes.now ≡ Some f.fault) × (f.rest.now ≡ bytes.now)) }
+        (λ f. (item_fault bytes.now ≡ Some f.fault) × (f.rest.now ≡ after_white InLine bytes.now)) }
 {
     match next_item(bytes) {
         Ok(found) => Ok(found),
-        Err(fault) => Err(Faulty { fault, rest: bytes }),
+        Err(fault) => Err(Faulty {
+            fault,
+            rest: after_white(bytes),
+        }),
     }
 }
 
@@ -152,7 +155,7 @@ fn item_at(bytes: &[u8]) -> Result<Option<(Item, &[u8])>, Faulty<'_>>
 /// The fault of the first item that has one.
 pub(crate) fn measure(body: &[u8]) -> Result<Extent, Faulty<'_>>
     ensures found { IfOk result (λ e. (items : List Item) × Items body.now items × IsExtentOf items e) }
-    ensures fault { IfErr result (λ f. HasBadUnitAt body.now f.fault f.rest.now) }
+    ensures fault { IfErr result (λ f. (bad : List ℕ) × HasBadUnitAt body.now f.fault bad × (f.rest.now ≡ after_white InLine bad)) }
 {
     let mut extent = Extent::none();
     let mut at = Offset::start();

@@ -1,6 +1,6 @@
 //! What is wrong with an RLE text.
 
-ghost use Rattle.std.specs.Prelude.{◌≡◌};
+ghost use Rattle.std.specs.Prelude.{◌≡◌, None};
 ghost use Rattle.ca_rle.specs.declared.fault.RleFault.TheVariants.{Memory};
 
 use thiserror::Error;
@@ -37,10 +37,21 @@ pub enum RleFault {
     Memory,
 }
 
-impl From<ca_plane::Memory> for RleFault {
-    ghost from_gives = { λ _ f. f ≡ Memory };
+/// A fault, and the number of the line on which it stands, counted from 1: none for a limit that is passed, and for want
+/// of memory.
+#[derive(Clone, Copy, Debug, PartialEq, Eq)]
+pub struct LineFault {
+    pub fault: RleFault,
+    pub line: Option<u64>,
+}
 
-    fn from(_refused: ca_plane::Memory) -> RleFault {
-        RleFault::Memory
+impl From<ca_plane::Memory> for LineFault {
+    ghost from_gives = { λ _ f. (f.fault ≡ Memory) × (f.line ≡ None) };
+
+    fn from(_refused: ca_plane::Memory) -> LineFault {
+        LineFault {
+            fault: RleFault::Memory,
+            line: None,
+        }
     }
 }

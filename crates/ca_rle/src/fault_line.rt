@@ -1,35 +1,52 @@
-//! The line of a text on which its first fault stands.
+//! A text judged before anything is drawn, and the line on which its first fault stands. Nothing here takes memory.
 
-ghost use Rattle.std.specs.Prelude.{◌≡◌, MatchOption};
+ghost use Rattle.std.specs.Prelude.{◌≢◌, MatchOption, IfOk, IfErr};
 ghost use Rattle.ca_rle.specs.declared.fault.RleFault.{RleFault};
+ghost use Rattle.ca_rle.specs.declared.fault.RleFault.TheVariants.{Memory};
+ghost use Rattle.ca_rle.specs.File.{File};
 ghost use Rattle.ca_rle.specs.Faults.{IsFirstFault};
-ghost use Rattle.ca_rle.specs.FaultyLine.{IsFirstFaultAt, IsFaultyLine, line_of};
+ghost use Rattle.ca_rle.specs.FaultyLine.{IsFaultOn, IsFaultyLine};
+ghost use Rattle.ca_rle.specs.inner.FrontParts.{IsFrontOf};
 
 use crate::extent::measure;
-use crate::front::read_front;
-use crate::unit::after_white;
+use crate::fault::{LineFault, RleFault};
+use crate::front::{Front, read_front};
 
-/// The bytes from the first faulty line or item on, or nothing where there is none.
-fn from_fault(bytes: &[u8]) -> Option<&[u8]>
-    ensures { MatchOption result ((f : RleFault) → IsFirstFault bytes.now f → ⊥) (λ r. (f : RleFault) × IsFirstFaultAt bytes.now f r.now) }
+/// The most live cells of a text.
+const MOST_CELLS: u64 = 1 << 24;
+
+/// What stands before the items of a text without a fault.
+///
+/// # Errors
+///
+/// The first fault of the text's spelling; else `Range` where a count, the corner or a live cell is out of range; else
+/// `TooManyCells`.
+pub(crate) fn good_front(bytes: &[u8]) -> Result<Front<'_>, LineFault>
+    ensures found { IfOk result (λ f. (file : File) × IsFrontOf bytes.now file f) }
+    ensures fault { IfErr result (λ f. IsFaultOn bytes.now f.fault f.line) }
+    ensures no_memory { IfErr result (λ f. f.fault ≢ Memory) }
 {
     let front = match read_front(bytes) {
         Ok(front) => front,
-        Err(faulty) => return Some(faulty.rest),
+        Err(faulty) => return Err(faulty.in_text(bytes)),
     };
-    match measure(front.body) {
-        Ok(_) => None,
-        Err(faulty) => Some(after_white(faulty.rest)),
+    let extent = match measure(front.body) {
+        Ok(extent) => extent,
+        Err(faulty) => return Err(faulty.in_text(bytes)),
+    };
+    if !extent.is_in_range(front.corner) {
+        return Err(LineFault {
+            fault: RleFault::Range,
+            line: None,
+        });
     }
-}
-
-/// The number, counted from 1, of the line on which the rest of a text begins. The end of a text stands on the line of
-/// its last byte.
-fn line_of(text: &[u8], rest: &[u8]) -> u64
-    ensures { result ≡ line_of text.now rest.now }
-{
-    let (before, _) = text.split_at(text.len().saturating_sub(rest.len().max(1)));
-    1 + before.iter().filter(|byte| **byte == b'\n').count() as u64
+    if extent.cells > MOST_CELLS {
+        return Err(LineFault {
+            fault: RleFault::TooManyCells,
+            line: None,
+        });
+    }
+    Ok(front)
 }
 
 /// The number, counted from 1, of the line on which the first fault in a text's spelling stands. None where the
@@ -43,6 +60,8 @@ fn line_of(text: &[u8], rest: &[u8]) -> u64
 pub fn faulty_line(bytes: &[u8]) -> Option<u64>
     ensures { MatchOption result ((f : RleFault) → IsFirstFault bytes.now f → ⊥) (IsFaultyLine bytes.now) }
 {
-    let rest = from_fault(bytes)?;
-    Some(line_of(bytes, rest))
+    match good_front(bytes) {
+        Ok(_) => None,
+        Err(found) => found.line,
+    }
 }

@@ -11,7 +11,7 @@ ghost use Rattle.ca_plane.specs.Bytes.{Every, is_line_end, is_end_or};
 ghost use Rattle.ca_rle.specs.Header.{Said, is_comment};
 ghost use Rattle.ca_rle.specs.File.{IsHeaded, ended, corner_of, generation_of};
 ghost use Rattle.ca_rle.specs.inner.BodyFaults.{KeepsCorner};
-ghost use Rattle.ca_rle.specs.inner.FrontFaults.{IsFrontFault};
+ghost use Rattle.ca_rle.specs.FaultyLine.{IsFirstFaultAt};
 ghost use Rattle.ca_rle.specs.inner.FrontParts.{IsPreambleOf, IsFront};
 
 use self::header::read_header;
@@ -41,7 +41,7 @@ fn front_at<'a>(preamble: Preamble, line: &'a [u8], body: &'a [u8]) -> Result<Fr
     ensures found { IfOk result (λ f. (lines : List (List ℕ)) (said : List Said) → IsPreambleOf lines said preamble
         → IsFront (flat_map ended lines ++ (line.now ++ body.now)) f) }
     ensures fault { IfErr result (λ f. (lines : List (List ℕ)) (said : List Said) → IsPreambleOf lines said preamble
-        → IsFrontFault (flat_map ended lines ++ (line.now ++ body.now)) f (line.now ++ body.now)) }
+        → IsFirstFaultAt (flat_map ended lines ++ (line.now ++ body.now)) f (line.now ++ body.now)) }
 {
     let Some(header) = read_header(line) else {
         return Err(RleFault::Header);
@@ -65,7 +65,7 @@ fn front_at<'a>(preamble: Preamble, line: &'a [u8], body: &'a [u8]) -> Result<Fr
 pub(crate) fn read_front(bytes: &[u8]) -> Result<Front<'_>, Faulty<'_>>
     ensures found { IfOk result (λ f. (said : List Said) × (rule : Option (List ℕ)) × IsHeaded bytes.now said rule f.body.now
         × (option_copied f.rule ≡ rule) × KeepsCorner (corner_of said) f.corner × (f.generation ≡ generation_of said)) }
-    ensures fault { IfErr result (λ f. IsFrontFault bytes.now f.fault f.rest.now) }
+    ensures fault { IfErr result (λ f. IsFirstFaultAt bytes.now f.fault f.rest.now) }
 {
     let mut preamble = Preamble::new();
     let mut rest = bytes;

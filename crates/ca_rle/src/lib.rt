@@ -1,7 +1,6 @@
 //! Extended RLE, the format of single patterns: its items, its files, its faults, its reader and its writer.
 #![tactic(auto)]
 
-mod body;
 mod drawing;
 pub mod examples;
 mod extent;
@@ -17,9 +16,9 @@ pub mod tidy_laws;
 mod unit;
 mod write;
 
-pub use fault::RleFault;
+pub use fault::{LineFault, RleFault};
 pub use fault_line::faulty_line;
 pub use item::{Item, Tag};
 pub use pattern::Pattern;
-pub use read::read_rle;
+pub use read::{read_rle, read_rle_with_line};
 pub use write::{write_rle, write_rle_to};

@@ -1,17 +1,19 @@
 //! The reader of extended RLE.
 
-ghost use Rattle.std.specs.Prelude.{◌<◌, IfOk, IfErr, IsErrOf};
+ghost use Rattle.std.specs.Prelude.{◌≡◌, ◌<◌, IfOk, IfErr, IsErrOf};
 ghost use Rattle.ca_plane.specs.Bytes.{IsWord};
 ghost use Rattle.ca_plane.specs.Sparse.{IsSparse};
 ghost use Rattle.ca_plane.specs.Limits.{generation_limit};
 ghost use Rattle.ca_rle.specs.File.{File, IsFile};
 ghost use Rattle.ca_rle.specs.Limits.{IsWithinLimits};
+ghost use Rattle.ca_rle.specs.declared.fault.RleFault.TheVariants.{Memory};
 ghost use Rattle.ca_rle.specs.Faults.{IsFaultOf};
+ghost use Rattle.ca_rle.specs.FaultyLine.{IsFaultOn};
 ghost use Rattle.ca_rle.specs.Pattern.{IsPatternOf};
 
-use crate::body::read_body;
-use crate::fault::RleFault;
-use crate::front::read_front;
+use crate::drawing::draw;
+use crate::fault::{LineFault, RleFault};
+use crate::fault_line::good_front;
 use crate::pattern::Pattern;
 use ca_plane::text::rule_text;
 use std::alloc::Global;
@@ -24,9 +26,40 @@ use std::alloc::Global;
 ///
 /// # Errors
 ///
-/// The first fault of the text's spelling; else `Range` where a count is above 2^62, or the corner or a live cell isn't from
+/// The first fault of the text's spelling and its line; else `Range` where a count is above 2^62, or the corner or a live cell isn't from
 /// -2^60 to 2^60 - 1 in both directions; else `TooManyCells` where more than 16777216 cells are live; and `Memory` where
 /// there is no memory for the pattern of a text without these faults.
+pub fn read_rle_with_line(alloc: Global, bytes: &[u8]) -> Result<Pattern, LineFault>
+    // What is read is what the text holds, and it passes no limit.
+    ensures found { IfOk result (λ p. (file : File) × IsFile bytes.now file × IsWithinLimits file × IsPatternOf file p) }
+    ensures sparse { IfOk result (λ p. IsSparse p.cells) }
+    ensures generation { IfOk result (λ p. p.generation < generation_limit) }
+    ensures rule { IfOk result (λ p. IsWord p.rule_text.items) }
+    // A text that is refused has this fault, on this line.
+    ensures fault { IfErr result (λ f. IsFaultOn bytes.now f.fault f.line) }
+    // It runs out of memory only for a text without a fault.
+    ensures memory { IfErr result (λ f. f.fault ≡ Memory → (file : File) × IsFile bytes.now file × IsWithinLimits file) }
+{
+    let front = good_front(bytes)?;
+    let cells = draw(alloc, front.body, front.corner)?;
+    let Ok(rule_text) = rule_text(alloc, front.rule) else {
+        return Err(LineFault {
+            fault: RleFault::Memory,
+            line: None,
+        });
+    };
+    Ok(Pattern {
+        cells,
+        rule_text,
+        generation: front.generation,
+    })
+}
+
+/// Reads an extended RLE text as `read_rle_with_line` does, where the line of a fault isn't wanted.
+///
+/// # Errors
+///
+/// Those of `read_rle_with_line`.
 pub fn read_rle(alloc: Global, bytes: &[u8]) -> Result<Pattern, RleFault>
     // What is read is what the text holds, and it passes no limit.
     ensures found { IfOk result (λ p. (file : File) × IsFile bytes.now file × IsWithinLimits file × IsPatternOf file p) }
@@ -38,21 +71,8 @@ pub fn read_rle(alloc: Global, bytes: &[u8]) -> Result<Pattern, RleFault>
     // It runs out of memory only for a text without a fault.
     ensures memory { IsErrOf result RleFault.Memory → (file : File) × IsFile bytes.now file × IsWithinLimits file }
 {
-    let front = match read_front(bytes) {
-        Ok(front) => front,
-        Err(faulty) => return Err(faulty.fault),
-    };
-    let cells = match read_body(alloc, front.body, front.corner) {
-        Ok(cells) => cells,
-        Err(fault) => return Err(fault),
-    };
-    let rule_text = match rule_text(alloc, front.rule) {
-        Ok(rule_text) => rule_text,
-        Err(_) => return Err(RleFault::Memory),
-    };
-    Ok(Pattern {
-        cells,
-        rule_text,
-        generation: front.generation,
-    })
+    match read_rle_with_line(alloc, bytes) {
+        Ok(pattern) => Ok(pattern),
+        Err(found) => Err(found.fault),
+    }
 }

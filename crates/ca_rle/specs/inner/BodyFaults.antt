@@ -3,11 +3,9 @@ use Rattle.std.specs.Prelude.{◌≡◌, ℕ, ◌^◌, ◌-◌, min, List, [], S
 use Rattle.ca_plane.specs.declared.point.Point.{Point}
 use Rattle.ca_plane.specs.Sparse.{IsInPlane}
 use Rattle.ca_rle.specs.declared.fault.RleFault.{RleFault}
-use Rattle.ca_rle.specs.declared.fault.RleFault.TheVariants.{Syntax, Header, XlifeRule, NoEnd, BadState, GenTooLarge, Range, TooManyCells, Memory}
 use Rattle.ca_rle.specs.declared.item.Item.{Item}
-use Rattle.ca_rle.specs.Items.{Run, Items}
+use Rattle.ca_rle.specs.Items.{Run}
 use Rattle.ca_rle.specs.File.{File}
-use Rattle.ca_rle.specs.Limits.{IsOutOfRange, HasTooManyCells}
 use Rattle.ca_plane.specs.Limits.{IsInRange}
 use Rattle.ca_rle.specs.Faults.{item_fault}
 
@@ -30,16 +28,3 @@ HasBadUnitAt body fault bad = (items : List Item) × Run body items bad × (item
 -- an item with this fault stands after good items, or the bytes end
 abbrev pub HasBadUnit : List ℕ → RleFault → Type 0
 HasBadUnit body fault = (bad : List ℕ) × HasBadUnitAt body fault bad
-
--- the fault of a body whose first item begins at the corner: that of its first bad item, else the first limit that it passes;
--- memory may run out at any time
-abbrev pub IsBodyFault : List ℕ → Point → RleFault → Type 0
-IsBodyFault body corner Syntax = HasBadUnit body Syntax
-IsBodyFault body corner NoEnd = HasBadUnit body NoEnd
-IsBodyFault body corner BadState = HasBadUnit body BadState
-IsBodyFault body corner Range = (items : List Item) × Items body items × IsOutOfRange (bare_file corner items)
-IsBodyFault body corner TooManyCells = (items : List Item) × Items body items × HasTooManyCells (bare_file corner items)
-IsBodyFault body corner Memory = Unit {0}
-IsBodyFault body corner Header = ⊥
-IsBodyFault body corner XlifeRule = ⊥
-IsBodyFault body corner GenTooLarge = ⊥

@@ -1,5 +1,5 @@
 -- How what stands before the items of an RLE text is read: numbers, words and lines, one after another.
-use Rattle.std.specs.Prelude.{◌≡◌, ℕ, ℤ, ◌^◌, ◌≤ℤ◌, ◌<ℤ◌, pos, neg_ℤ, List, ◌∷◌, ◌++◌, true, false, Option, ◌⊎◌}
+use Rattle.std.specs.Prelude.{◌≡◌, ℕ, ℤ, ◌^◌, ◌≤ℤ◌, ◌<ℤ◌, pos, neg_ℤ, List, ◌∷◌, ◌++◌, true, false, Option, unwrap_or, ◌⊎◌}
 use Rattle.std.specs.Option.{option_copied}
 use Rattle.std.specs.List.{AllZip, AllByRecursion}
 use Rattle.ca_plane.specs.declared.point.Point.{Point}
@@ -9,8 +9,10 @@ use Rattle.ca_rle.specs.declared.front.words.Start.{Start}
 use Rattle.ca_rle.specs.declared.front.lines.Preamble.{Preamble}
 use Rattle.ca_rle.specs.declared.front.Front.{Front}
 use Rattle.ca_rle.specs.Header.{Said, Says, IsXlifeLine}
-use Rattle.ca_rle.specs.File.{IsPreamble, IsHeaded, corner_of, generation_of}
-use Rattle.ca_plane.specs.Limits.{range}
+use Rattle.ca_rle.specs.File.{File, IsFile, IsPreamble, IsHeaded, corner_of, generation_of}
+use Rattle.ca_rle.specs.Items.{Items}
+use Rattle.ca_rle.specs.Limits.{IsWithinLimits}
+use Rattle.ca_plane.specs.Limits.{range, default_rule}
 use Rattle.ca_rle.specs.Faults.{IsBadWord}
 use Rattle.ca_rle.specs.inner.BodyFaults.{KeepsCorner}
 
@@ -66,3 +68,12 @@ pub record IsPreambleOf (lines : List (List ℕ)) (said : List Said) (preamble :
 abbrev pub IsFront : List ℕ → Front → Type 0
 IsFront bytes front = (said : List Said) × (rule : Option (List ℕ)) × IsHeaded bytes said rule front.body.now
     × (option_copied front.rule ≡ rule) × KeepsCorner (corner_of said) front.corner × (front.generation ≡ generation_of said)
+
+-- a text holds this file, which passes no limit, and this is its front
+pub record IsFrontOf (bytes : List ℕ) (file : File) (front : Front) : Type 0 where
+  pub is_file : IsFile bytes file
+  pub within : IsWithinLimits file
+  pub items : Items front.body.now file.items
+  pub corner : front.corner ≡ file.corner
+  pub rule_text : unwrap_or (option_copied front.rule) default_rule ≡ file.rule_text
+  pub generation : front.generation ≡ file.generation
