@@ -1,5 +1,5 @@
 -- A macrocell text read line by line, to its end or to its first fault.
-use Rattle.std.proofs.Common.{◌≡◌, ◌≢◌, ℕ, ◌+◌, ◌<◌, ◌≤◌, List, [], ◌∷◌, ◌++◌, length, true, refl, sym, ap, subst, ◌∙◌, arith}
+use Rattle.std.proofs.Common.{◌≡◌, ℕ, ◌+◌, ◌<◌, ◌≤◌, List, [], ◌∷◌, ◌++◌, length, true, refl, sym, ap, subst, ◌∙◌, arith}
 use Rattle.std.specs.List.{flat_map}
 use Rattle.std.proofs.lemmas.List.{append-nil, append_assoc, length_push}
 use Rattle.ca_plane.specs.Bytes.{lines_of, words_of}
@@ -7,12 +7,12 @@ use Rattle.ca_quad.specs.declared.node.Node.{Node as Kept}
 use Rattle.ca_quad.specs.Sound.{Grows}
 use Rattle.ca_quad.proofs.Growth.{grows_on}
 use Rattle.ca_macro.specs.declared.fault.MacroFault.{MacroFault}
-use Rattle.ca_macro.specs.declared.fault.MacroFault.TheVariants.{NotMacro, Timeline, Syntax, Forward, Level, LeafSize, Range, GenTooLarge, Memory}
+use Rattle.ca_macro.specs.declared.fault.MacroFault.TheVariants.{NotMacro, Memory}
 use Rattle.ca_macro.specs.declared.read.reading.Reading.{Reading}
 use Rattle.ca_macro.specs.Nodes.{Node}
 use Rattle.ca_macro.specs.File.{Said, WordsSay, added, IsAllowed, LinesSay, begins_macro, IsFile}
-use Rattle.ca_macro.specs.Faults.{HasLine, AreFaulty, AddNode, IsFaultyLine}
-use Rattle.ca_macro.specs.inner.Reading.{HasFault, IsReading, IsFaultOn, file_of}
+use Rattle.ca_macro.specs.Faults.{HasLine, AreFaulty, AddNode}
+use Rattle.ca_macro.specs.inner.Reading.{HasFault, HasFaultOn, IsReading, file_of}
 
 -- ---- one more line
 
@@ -96,16 +96,10 @@ module _ (bytes rest : List ℕ) (count : ℕ) (old store : List Kept) (reading 
 
   -- its fault is that of the text
   pub fault_next : (line later : List ℕ) → begins_macro bytes ≡ true → lines_of rest ≡ line ∷ lines_of later
-      → (f : MacroFault) → ((said : List Said) → IsReading store said reading → HasFault f (flat_map added said) (words_of line)) → IsFaultOn bytes f (count + 1)
+      → (f : MacroFault) → ((said : List Said) → IsReading store said reading → HasFault f (flat_map added said) (words_of line)) → HasFaultOn bytes f (count + 1)
   fault_next line later begins next NotMacro h = absurd (h front.said front.read)
-  fault_next line later begins next Timeline h = faulty_next Timeline line later begins next (h front.said front.read)
-  fault_next line later begins next Syntax h = faulty_next Syntax line later begins next (h front.said front.read)
-  fault_next line later begins next Forward h = faulty_next Forward line later begins next (h front.said front.read)
-  fault_next line later begins next Level h = faulty_next Level line later begins next (h front.said front.read)
-  fault_next line later begins next LeafSize h = faulty_next LeafSize line later begins next (h front.said front.read)
-  fault_next line later begins next Range h = absurd (h front.said front.read)
-  fault_next line later begins next GenTooLarge h = faulty_next GenTooLarge line later begins next (h front.said front.read)
   fault_next line later begins next Memory h = next_line AddNode line later begins next (h front.said front.read)
+  fault_next line later begins next f h = faulty_next f line later begins next (h front.said front.read)
 
   -- the whole text is read
   pub all_read : begins_macro bytes ≡ true → rest ≡ [] → (said : List Said) × IsFile bytes (file_of said) × IsReading store said reading
@@ -124,17 +118,3 @@ module _ (bytes rest : List ℕ) (count : ℕ) (old store : List Kept) (reading 
     },
     front.read,
   )
-
--- ---- the line of a fault
-
--- the faulty line, where there was memory
-pub line_of : (bytes : List ℕ) (f : MacroFault) (n : ℕ) → f ≢ Memory → IsFaultOn bytes f n → IsFaultyLine bytes n
-line_of bytes NotMacro n some h = (NotMacro, h)
-line_of bytes Timeline n some h = (Timeline, h)
-line_of bytes Syntax n some h = (Syntax, h)
-line_of bytes Forward n some h = (Forward, h)
-line_of bytes Level n some h = (Level, h)
-line_of bytes LeafSize n some h = (LeafSize, h)
-line_of bytes Range n some h = (Range, h)
-line_of bytes GenTooLarge n some h = (GenTooLarge, h)
-line_of bytes Memory n some h = absurd (some refl)

@@ -1,5 +1,5 @@
 -- A text is a file in one way at most, or has one first fault at most.
-use Rattle.std.proofs.Common.{◌≡◌, ◌≢◌, ℕ, ◌+◌, Bool, true, false, List, [], ◌∷◌, ◌++◌, length, Result, Ok, Err, ◌⊎◌, inl, inr, refl, sym, ap, subst, ◌∙◌, arith}
+use Rattle.std.proofs.Common.{◌≡◌, ◌≢◌, ℕ, ◌+◌, Bool, true, false, List, [], ◌∷◌, ◌++◌, length, Option, Some, None, Result, Ok, Err, ◌⊎◌, inl, inr, refl, sym, ap, subst, ◌∙◌, arith}
 use Rattle.std.specs.List.{flat_map}
 use Rattle.std.proofs.lemmas.List.{append-nil, append_assoc}
 use Rattle.ca_plane.specs.Bytes.{lines_of, words_of}
@@ -9,8 +9,8 @@ use Rattle.ca_macro.specs.declared.fault.MacroFault.TheVariants.{NotMacro, Timel
 use Rattle.ca_macro.specs.Nodes.{Node}
 use Rattle.ca_macro.specs.File.{Said, added, LinesSay, last_rule, last_generation, File, begins_macro, IsFile}
 use Rattle.ca_macro.specs.Limits.{IsWithinRange, IsOutOfRange}
-use Rattle.ca_macro.specs.Faults.{HasLine, AreFaulty, IsFirstFault, IsFirstFaultOn, IsFaultyLine, IsFaultOf}
-use Rattle.ca_macro.specs.inner.Reading.{file_of}
+use Rattle.ca_macro.specs.Faults.{HasLine, AreFaulty, IsFirstFault, IsFirstFaultOn, IsFaultyLine, IsFaultOf, IsFaultOn}
+use Rattle.ca_macro.specs.inner.Reading.{HasFaultOn, IsReadingFault, file_of}
 use Rattle.ca_macro.proofs.Verdicts.{Verdict, verdict, said_told, fault_told}
 
 -- ---- the verdict on lines
@@ -109,6 +109,27 @@ is_first bytes LeafSize n h = h.0
 is_first bytes Range n h = absurd h.0.holds
 is_first bytes GenTooLarge n h = h.0
 is_first bytes Memory n h = absurd h.0.holds
+
+-- a first fault is the text's fault
+fault_on : (bytes : List ℕ) (f : MacroFault) → IsFirstFault bytes f → IsFaultOf bytes f
+fault_on bytes Range h = absurd h
+fault_on bytes Memory h = absurd h
+fault_on bytes f h = h
+
+-- what is met at a line is the text's fault
+pub reading_fault : (bytes : List ℕ) (f : MacroFault) (line : Option ℕ) → IsReadingFault bytes f line → IsFaultOn bytes f line
+reading_fault bytes f None h = subst (λ g. IsFaultOn bytes g None) (sym h.0) (inl h.1, λ p. p)
+reading_fault bytes f (Some n) h = (fault_on bytes f (is_first bytes f n h), h)
+
+-- at a line no fault but Memory has no line
+pub not_memory : (bytes : List ℕ) (f : MacroFault) (n : ℕ) → f ≢ Memory → HasFaultOn bytes f n → IsFirstFaultOn bytes f n
+not_memory bytes Memory n other h = absurd (other refl)
+not_memory bytes f n other h = h
+
+-- a text that is a file, but is refused
+pub refused : (bytes : List ℕ) (said : List Said) (f : MacroFault) → IsFile bytes (file_of said) → (f ≡ Memory) ⊎ ((f ≡ Range) × IsOutOfRange (file_of said)) → IsFaultOn bytes f None
+refused bytes said f is (inl memory) = subst (λ g. IsFaultOn bytes g None) (sym memory) (inr (file_of said, is), λ p. p)
+refused bytes said f is (inr (range, out)) = subst (λ g. IsFaultOn bytes g None) (sym range) ((file_of said, is, out), λ p. p)
 
 -- ---- the laws
 

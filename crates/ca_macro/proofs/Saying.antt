@@ -24,7 +24,7 @@ use Rattle.ca_macro.proofs.LinesRead.{added-push}
 
 -- ---- a fault that `?` passes on
 
-pub passed_on : {T : Type 0} (r : Result T MacroFault) (f : MacroFault) (P : MacroFault → Type 0) → IsErrAnd r (λ g. g ≡ f) → P f → IfErr r P
+pub passed_on : {T E : Type 0} (r : Result T E) (f : E) (P : E → Type 0) → IsErrAnd r (λ g. g ≡ f) → P f → IfErr r P
 passed_on r f P h holds =
     let p = err_from_is_err_and r h in
     subst (λ o. IfErr o P) (sym p.1) (subst P (sym p.2) holds)

@@ -1,5 +1,5 @@
 -- What is wrong with a macrocell text: its first faulty line decides (our own order in a line).
-use Rattle.std.specs.Prelude.{◌≡◌, ◌≢◌, ℕ, ◌+◌, ◌-◌, ◌<◌, ◌≤◌, List, [], ◌∷◌, ◌++◌, length, Bool, true, false, not, ◌||◌, ◌==◌, codes, ◌⊎◌}
+use Rattle.std.specs.Prelude.{◌≡◌, ◌≢◌, ℕ, ◌+◌, ◌-◌, ◌<◌, ◌≤◌, List, [], ◌∷◌, ◌++◌, length, Bool, true, false, not, ◌||◌, ◌==◌, codes, Option, MatchOption, ◌⊎◌}
 use Rattle.std.specs.Bool.{nat_eq}
 use Rattle.std.specs.List.{AllByRecursion, starts_with, flat_map}
 use Rattle.ca_plane.specs.Bytes.{letter, is_end_or, AreDigits, value, lines_of, words_of}
@@ -154,3 +154,7 @@ IsFaultOf bytes LeafSize = IsFirstFault bytes LeafSize
 IsFaultOf bytes GenTooLarge = IsFirstFault bytes GenTooLarge
 IsFaultOf bytes Range = (file : File) × IsFile bytes file × IsOutOfRange file
 IsFaultOf bytes Memory = HasLine bytes AddNode ⊎ ((file : File) × IsFile bytes file)
+
+-- the fault of a text, and the number of the line on which it stands: none for a fault that isn't in the spelling
+abbrev pub IsFaultOn : List ℕ → MacroFault → Option ℕ → Type 0
+IsFaultOn bytes fault line = IsFaultOf bytes fault × MatchOption line (IsFirstFault bytes fault → ⊥) (IsFirstFaultOn bytes fault)

@@ -1,7 +1,8 @@
 //! What is wrong with a macrocell text.
 
-ghost use Rattle.std.specs.Prelude.{◌≡◌};
+ghost use Rattle.std.specs.Prelude.{◌≡◌, ℕ, List};
 ghost use Rattle.ca_macro.specs.declared.fault.MacroFault.TheVariants.{Memory};
+ghost use Rattle.ca_macro.specs.inner.Reading.{HasFaultOn, IsReadingFault};
 
 use thiserror::Error;
 
@@ -37,11 +38,25 @@ pub enum MacroFault {
     Memory,
 }
 
-/// A fault and the number of its line, counted from 1.
-#[derive(Clone, Copy)]
-pub(crate) struct LineFault {
-    pub(crate) fault: MacroFault,
-    pub(crate) line: u64,
+/// A fault, and the number of the line on which it stands, counted from 1: none for a live cell that is out of range, and
+/// for want of memory.
+#[derive(Clone, Copy, Debug, PartialEq, Eq)]
+pub struct LineFault {
+    pub fault: MacroFault,
+    pub line: Option<u64>,
+}
+
+impl LineFault {
+    /// What was met at the line with this number.
+    pub(crate) fn at_line(fault: MacroFault, number: u64) -> LineFault
+        ensures { (bytes : List ℕ) → HasFaultOn bytes fault number → IsReadingFault bytes result.fault result.line }
+    {
+        let line = match fault {
+            MacroFault::Memory => None,
+            _ => Some(number),
+        };
+        LineFault { fault, line }
+    }
 }
 
 impl From<ca_plane::Memory> for MacroFault {

@@ -11,8 +11,8 @@ mod spelling;
 pub mod tidy_laws;
 mod write;
 
-pub use fault::MacroFault;
+pub use fault::{LineFault, MacroFault};
 pub use pattern::MacroPattern;
-pub use read::read_macro;
+pub use read::{read_macro, read_macro_with_line};
 pub use spelling::faulty_line;
 pub use write::{write_macro, write_macro_to};

@@ -7,9 +7,9 @@ ghost use Rattle.ca_quad.specs.Sound.{IsSound, Grows};
 ghost use Rattle.ca_macro.specs.declared.fault.MacroFault.TheVariants.{Range, Memory};
 ghost use Rattle.ca_macro.specs.File.{Said, File, IsFile, begins_macro};
 ghost use Rattle.ca_macro.specs.Limits.{IsWithinRange, IsOutOfRange};
-ghost use Rattle.ca_macro.specs.Faults.{IsFaultOf};
+ghost use Rattle.ca_macro.specs.Faults.{IsFaultOf, IsFaultOn};
 ghost use Rattle.ca_macro.specs.Pattern.{IsPatternOf};
-ghost use Rattle.ca_macro.specs.inner.Reading.{IsReading, IsFaultOn, file_of};
+ghost use Rattle.ca_macro.specs.inner.Reading.{IsReading, IsReadingFault, file_of};
 
 mod empties;
 mod range;
@@ -33,7 +33,7 @@ fn read_lines<'a>(
 ) -> Result<Reading<'a>, LineFault>
     requires { begins_macro bytes.now ≡ true }
     ensures found { IfOk result (λ r. (said : List Said) × IsFile bytes.now (file_of said) × IsReading store.new said r) }
-    ensures fault { IfErr result (λ f. IsFaultOn bytes.now f.fault f.line) }
+    ensures fault { IfErr result (λ f. IsReadingFault bytes.now f.fault f.line) }
     ensures grows { Grows store.old store.new }
 {
     // Says what holds of every store.
@@ -45,10 +45,7 @@ fn read_lines<'a>(
         let (line, later) = next_line(rest);
         number += 1;
         if let Err(fault) = reading.read(store, line) {
-            return Err(LineFault {
-                fault,
-                line: number,
-            });
+            return Err(LineFault::at_line(fault, number));
         }
         rest = later;
     }
@@ -59,14 +56,14 @@ fn read_lines<'a>(
 ///
 /// # Errors
 ///
-/// The first fault of its spelling and the number of its line; and `Memory` where a growth is refused for the node of a good line.
+/// The first fault of its spelling, and its line; and `Memory` where a growth is refused for the node of a good line.
 pub(crate) fn read_text<'a>(
     alloc: Global,
     store: &mut Store,
     bytes: &'a [u8],
 ) -> Result<Reading<'a>, LineFault>
     ensures found { IfOk result (λ r. (said : List Said) × IsFile bytes.now (file_of said) × IsReading store.new said r) }
-    ensures fault { IfErr result (λ f. IsFaultOn bytes.now f.fault f.line) }
+    ensures fault { IfErr result (λ f. IsReadingFault bytes.now f.fault f.line) }
     ensures grows { Grows store.old store.new }
 {
     // Says what holds of every store.
@@ -74,7 +71,7 @@ pub(crate) fn read_text<'a>(
     if !bytes.starts_with(b"[M2]") {
         return Err(LineFault {
             fault: MacroFault::NotMacro,
-            line: 1,
+            line: Some(1),
         });
     }
     read_lines(alloc, store, bytes)
@@ -115,9 +112,35 @@ fn pattern_of(
 ///
 /// # Errors
 ///
-/// The fault of the first faulty line; else `Range` where a live cell isn't from -2^60 to 2^60 - 1 in both directions; and
+/// The fault of the first faulty line, and that line; else `Range` where a live cell isn't from -2^60 to 2^60 - 1 in both directions; and
 /// `Memory` where a growth is refused, at a good line that adds a node after good lines, or after the last line of a good
 /// text. After a refusal the store is as before or has more squares.
+pub fn read_macro_with_line(
+    alloc: Global,
+    store: &mut Store,
+    bytes: &[u8],
+) -> Result<MacroPattern, LineFault>
+    // What is read is what the text holds, and each live cell is in range.
+    ensures found { IfOk result (λ p. (file : File) × IsFile bytes.now file × IsWithinRange file × IsPatternOf store.new file p) }
+    ensures generation { IfOk result (λ p. p.generation < generation_limit) }
+    ensures rule { IfOk result (λ p. IsWord p.rule_text.items) }
+    // A text that is refused has this fault, on this line.
+    ensures fault { IfErr result (λ f. IsFaultOn bytes.now f.fault f.line) }
+    // Every old square stays.
+    ensures grows { Grows store.old store.new }
+{
+    let reading = read_text(alloc, store, bytes)?;
+    match pattern_of(alloc, store, &reading) {
+        Ok(pattern) => Ok(pattern),
+        Err(fault) => Err(LineFault { fault, line: None }),
+    }
+}
+
+/// Reads a macrocell text as `read_macro_with_line` does, where the line of a fault isn't wanted.
+///
+/// # Errors
+///
+/// Those of `read_macro_with_line`.
 pub fn read_macro(
     alloc: Global,
     store: &mut Store,
@@ -132,8 +155,8 @@ pub fn read_macro(
     // Every old square stays.
     ensures grows { Grows store.old store.new }
 {
-    match read_text(alloc, store, bytes) {
-        Ok(reading) => pattern_of(alloc, store, &reading),
+    match read_macro_with_line(alloc, store, bytes) {
+        Ok(pattern) => Ok(pattern),
         Err(found) => Err(found.fault),
     }
 }

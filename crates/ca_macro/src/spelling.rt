@@ -4,7 +4,6 @@ ghost use Rattle.std.specs.Prelude.{IfOk, IfErr, MatchOption};
 ghost use Rattle.ca_macro.specs.declared.fault.MacroFault.{MacroFault};
 ghost use Rattle.ca_macro.specs.Faults.{HasLine, AddNode, IsFirstFault, IsFaultyLine};
 
-use crate::fault::MacroFault;
 use crate::read::read_text;
 use ca_plane::Memory;
 use ca_quad::Store;
@@ -26,8 +25,8 @@ pub fn faulty_line(alloc: Global, bytes: &[u8]) -> Result<Option<u64>, Memory>
     let Err(found) = read_text(alloc, &mut store, bytes) else {
         return Ok(None);
     };
-    if found.fault == MacroFault::Memory {
-        return Err(Memory);
+    match found.line {
+        Some(line) => Ok(Some(line)),
+        None => Err(Memory),
     }
-    Ok(Some(found.line))
 }

@@ -1,5 +1,5 @@
 -- How a macrocell text is read into a store of squares, a line at a time.
-use Rattle.std.specs.Prelude.{◌≡◌, ℕ, suc, ◌-◌, ◌<◌, ◌≤◌, ℤ, List, [], ◌∷◌, length, slice_index, Option, None, Some, IfSome, unwrap_or}
+use Rattle.std.specs.Prelude.{◌≡◌, ℕ, suc, ◌-◌, ◌<◌, ◌≤◌, ℤ, List, [], ◌∷◌, length, slice_index, Option, None, Some, IfSome, MatchOption, unwrap_or}
 use Rattle.std.specs.List.{flat_map}
 use Rattle.std.specs.Option.{option_copied}
 use Rattle.ca_plane.specs.Bytes.{IsWord}
@@ -81,10 +81,14 @@ abbrev pub HasFault : MacroFault → List Node → List (List ℕ) → Type 0
 HasFault Memory earlier words = AddNode earlier words
 HasFault f earlier words = AreFaulty f earlier words
 
--- the first fault of a text, and the number of its line; or there is no memory for the node of a good line
-abbrev pub IsFaultOn : List ℕ → MacroFault → ℕ → Type 0
-IsFaultOn bytes Memory n = HasLine bytes AddNode
-IsFaultOn bytes f n = IsFirstFaultOn bytes f n
+-- the line with this number has the first fault of a text; or there is no memory for the node of a good line
+abbrev pub HasFaultOn : List ℕ → MacroFault → ℕ → Type 0
+HasFaultOn bytes Memory n = HasLine bytes AddNode
+HasFaultOn bytes f n = IsFirstFaultOn bytes f n
+
+-- the first fault of a text and its line; or, without a line, there is no memory for the node of a good line
+abbrev pub IsReadingFault : List ℕ → MacroFault → Option ℕ → Type 0
+IsReadingFault bytes fault line = MatchOption line ((fault ≡ Memory) × HasLine bytes AddNode) (IsFirstFaultOn bytes fault)
 
 -- what is kept once lines have said this
 pub record IsReading (store : List Kept) (said : List Said) (reading : Reading) : Type 0 where

@@ -15,5 +15,6 @@ lines-preserved c =
 
 pub returns-in-Err-clause-fault : goal.returns-in-Err-clause-fault
 returns-in-Err-clause-fault c =
-    fault_next c.args.bytes.now c.lines.rest.now c.lines.number c.args.store.now c.lines.store c.lines.reading c.lines.invariant c.next_line-in-lines.result.0.now c.next_line-in-lines.result.1.now
-    c.requires c.next_line-in-lines.ensures.lines c.in-Err.fault c.in-Err.ensures.fault
+    c.at_line.ensures c.args.bytes.now
+    (fault_next c.args.bytes.now c.lines.rest.now c.lines.number c.args.store.now c.lines.store c.lines.reading c.lines.invariant c.next_line-in-lines.result.0.now c.next_line-in-lines.result.1.now
+    c.requires c.next_line-in-lines.ensures.lines c.in-Err.fault c.in-Err.ensures.fault)
