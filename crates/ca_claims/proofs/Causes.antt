@@ -40,11 +40,11 @@ use Rattle.ca_claims.specs.declared.decide.Subject.{Subject}
 use Rattle.ca_claims.specs.declared.ruled.Ruled.{Ruled}
 use Rattle.ca_claims.specs.Text.{Claim, patterns_of, about, HasGoodNumbers}
 use Rattle.ca_claims.specs.Places.{path_at}
-use Rattle.ca_claims.specs.Means.{bytes_at, format_of, IsReadable, MayWantMemory}
-use Rattle.ca_claims.specs.Notes.{IsLineAs, IsBadPatternOn}
+use Rattle.ca_claims.specs.Means.{bytes_at, IsReadable, MayWantMemory}
+use Rattle.ca_claims.specs.Notes.{IsPatternFaultOn, IsBadPatternOn}
 use Rattle.ca_claims.specs.Truth.{asks_of}
 use Rattle.ca_claims.specs.inner.Decided.{IsBounded, IsDecided}
-use Rattle.ca_claims.specs.Answers.{IsPatternFault, AreTables, IsMissing, IsThere, Reads, HasRule, IsSmall, SomeOf, FirstIs, HaveOtherRules, HasCause, IsGood, AreGood, IsCounted, IsJudged, IsTrueVerdict, IsBadPattern, IsUnnamed, IsLarge, IsCrowded, WantsMemory}
+use Rattle.ca_claims.specs.Answers.{AreTables, IsMissing, IsThere, Reads, HasRule, IsSmall, SomeOf, FirstIs, HaveOtherRules, HasCause, IsGood, AreGood, IsCounted, IsJudged, IsTrueVerdict, IsBadPattern, IsUnnamed, IsLarge, IsCrowded, WantsMemory}
 use Rattle.ca_claims.specs.inner.Cells.{IsPlaneOf}
 use Rattle.ca_claims.specs.inner.Subjects.{ShowsTree, IsPattern, AreShown, IsMovedBy, IsSubject}
 use Rattle.ca_claims.specs.inner.Prepared.{IsPrepared, IsFit, IsPlaneRefused, refusal_for, disagreement_refusal}
@@ -52,7 +52,7 @@ use Rattle.ca_claims.specs.inner.Found.{IsFound}
 use Rattle.ca_claims.specs.inner.Refusals.{IsRefusal, IsOnVerdict, IsJudgedOn}
 use Rattle.ca_claims.specs.inner.Patterns.{items, IsEachOnce, FirstBadAt, IsReadFrom, IsUnreadFor, HasName, rule_of, IsRuledAs, ShowsLarge, ShowsSmall, AreOfOneRule, AreMixed, Disagree, AreBoth}
 use Rattle.ca_claims.proofs.ClaimKinds.{asks_about, asks_bounded, asks_moved, paths_of}
-use Rattle.ca_claims.proofs.PatternsRead.{IsReadAt, IsRuledAt, path_has_fault, path_has_rule, path_reads, ruled_at, ruled_has_rule, ruled_is_good, ruled_is_large, ruled_is_many, ruled_is_small, ruled_picture, ruled_reads, tree_shows, wanted}
+use Rattle.ca_claims.proofs.PatternsRead.{fault_on, IsReadAt, IsRuledAt, path_has_fault, path_has_rule, path_reads, ruled_at, ruled_has_rule, ruled_is_good, ruled_is_large, ruled_is_many, ruled_is_small, ruled_picture, ruled_reads, tree_shows, wanted}
 use Rattle.ca_claims.proofs.Shown.{few_shown}
 use Rattle.ca_claims.proofs.Told.{level_is_low}
 use Rattle.ca_claims.proofs.Parts.{first_part, zip_part}
@@ -212,20 +212,20 @@ reads_want files path reads = (reads.0, reads.1, wanted reads.0 reads.2)
 module _ (files : List (List ℕ × List ℕ)) (every rules : List (List ℕ)) (tables : List TableRule) (are : AreTables files rules tables) where
   module _ (each : List (List ℕ)) (there : List (Bor (List ℕ))) (at : AllZip (λ path b. bytes_at files path ≡ Some b.now) each there) (part : Part) where
     -- a file doesn't read
-    unreadable : (fault : PatternFault) (line : Option ℕ) → FirstBadAt part there (λ b. IsReadable b.now) (λ b. IsPatternFault b.now fault × IsLineAs (format_of b.now) b.now line)
+    unreadable : (fault : PatternFault) (line : Option ℕ) → FirstBadAt part there (λ b. IsReadable b.now) (λ b. IsPatternFaultOn b.now fault line)
         → IsRefusal files every rules each (record { cause = BadPattern fault; about = about.Pattern part line })
     unreadable fault line bad = record {
       holds = (
         tables,
         are,
         all_there files each there at,
-        zip_first (λ path b. bytes_at files path ≡ Some b.now) (Reads files) (IsBadPattern files fault) (λ b. IsReadable b.now) (λ b. IsPatternFault b.now fault × IsLineAs (format_of b.now) b.now line)
-            (λ path b e reads. (b.now, e, reads)) (λ path b e wrong. (b.now, e, wrong.0)) each there at
-            (first_part (λ b. IsReadable b.now) (λ b. IsPatternFault b.now fault × IsLineAs (format_of b.now) b.now line) part there bad),
+        zip_first (λ path b. bytes_at files path ≡ Some b.now) (Reads files) (IsBadPattern files fault) (λ b. IsReadable b.now) (λ b. IsPatternFaultOn b.now fault line)
+            (λ path b e reads. (b.now, e, reads)) (λ path b e wrong. (b.now, e, fault_on b.now fault line wrong)) each there at
+            (first_part (λ b. IsReadable b.now) (λ b. IsPatternFaultOn b.now fault line) part there bad),
       );
       on = zip_part (λ path b. bytes_at files path ≡ Some b.now) (Reads files) (IsBadPatternOn files fault line)
-          (λ b. IsReadable b.now) (λ b. IsPatternFault b.now fault × IsLineAs (format_of b.now) b.now line)
-          (λ path b e reads. (b.now, e, reads)) (λ path b e wrong. (b.now, e, wrong.0, wrong.1)) part each there at bad;
+          (λ b. IsReadable b.now) (λ b. IsPatternFaultOn b.now fault line)
+          (λ path b e reads. (b.now, e, reads)) (λ path b e wrong. (b.now, e, wrong)) part each there at bad;
     }
 
     -- or memory is needed for it

@@ -1,5 +1,5 @@
 -- The patterns of files that were read into a store, and what they say of the files' paths.
-use Rattle.std.proofs.Common.{◌≡◌, ℕ, ◌≤◌, ◌<◌, List, get_or, Some, inr, sym, subst, ◌∙◌, arith}
+use Rattle.std.proofs.Common.{◌≡◌, ◌≢◌, ℕ, ◌≤◌, ◌<◌, List, get_or, Option, Some, inr, refl, sym, subst, ◌∙◌, arith}
 use Rattle.std.specs.Prelude.{ℤ}
 use Rattle.std.specs.List.{All}
 use Rattle.ca_plane.specs.declared.point.Point.{Point}
@@ -22,9 +22,12 @@ use Rattle.ca_claims.specs.declared.target.Target.{Target}
 use Rattle.ca_claims.specs.declared.target.Target.TheVariants.{Rle, Mc}
 use Rattle.ca_claims.specs.declared.ruled.Ruled.{Ruled}
 use Rattle.ca_claims.specs.Means.{bytes_at, format_of, IsReadableAs, IsReadable, MayWantMemoryAs, MayWantMemory}
-use Rattle.ca_claims.specs.Answers.{IsRead, IsRuled, HasLargeState, HasSmallStates, Reads, HasRule, IsSmall, IsGood}
+use Rattle.ca_claims.specs.declared.verdict.PatternFault.{PatternFault}
+use Rattle.ca_claims.specs.declared.verdict.PatternFault.TheVariants as pattern_fault
+use Rattle.ca_claims.specs.Notes.{IsPatternFaultOn}
+use Rattle.ca_claims.specs.Answers.{IsPatternFault, IsRead, IsRuled, HasLargeState, HasSmallStates, Reads, HasRule, IsSmall, IsGood}
 use Rattle.ca_claims.specs.inner.Cells.{IsPlaneOf}
-use Rattle.ca_claims.specs.inner.Patterns.{IsReadFrom, HasName, rule_of, IsRuledAs, ShowsLarge, ShowsSmall}
+use Rattle.ca_claims.specs.inner.Patterns.{IsReadFrom, IsUnreadFor, HasName, rule_of, IsRuledAs, ShowsLarge, ShowsSmall}
 use Rattle.ca_claims.proofs.Shown.{small_shown, large_shown, many_shown}
 
 -- ---- files that read
@@ -36,6 +39,20 @@ wanted_as Mc bytes reads = inr (reads.0, reads.1)
 
 pub wanted : (bytes : List ℕ) → IsReadable bytes → MayWantMemory bytes
 wanted bytes reads = wanted_as (format_of bytes) bytes reads
+
+-- ---- files that don't
+
+-- a fault on a line is a fault
+pub fault_on : (bytes : List ℕ) (fault : PatternFault) (line : Option ℕ) → IsPatternFaultOn bytes fault line → IsPatternFault bytes fault
+fault_on bytes (pattern_fault.Rle fault) line on = (on.0, on.1, on.2.0)
+fault_on bytes (pattern_fault.Macro fault) line on = (on.0, on.1, on.2.0)
+fault_on bytes pattern_fault.Memory line on = on
+
+-- so what isn't read for another reason than memory has this fault, and else memory may run out for it
+pub unread_fault : (bytes : List ℕ) (fault : PatternFault) (line : Option ℕ) → IsUnreadFor bytes fault line → fault ≢ pattern_fault.Memory → IsPatternFault bytes fault
+unread_fault bytes (pattern_fault.Rle fault) line un m = fault_on bytes (pattern_fault.Rle fault) line un
+unread_fault bytes (pattern_fault.Macro fault) line un m = fault_on bytes (pattern_fault.Macro fault) line un
+unread_fault bytes pattern_fault.Memory line un m = absurd (m refl)
 
 -- ---- patterns of a store that grows
 
@@ -61,6 +78,8 @@ module _ (old new : List Node) (grows : Grows old new) (sound : IsSound old) whe
           means = loaded.means;
         };
         range = λ x y live. read.range x y (λ e. live (stays x y ∙ e));
+        generation = read.generation;
+        word = read.word;
       }
 
 -- ---- a pattern that was read

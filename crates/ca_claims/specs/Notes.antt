@@ -1,36 +1,32 @@
 -- What a note on a verdict says of the claim's patterns and of the files that were handed in.
-use Rattle.std.specs.Prelude.{◌≡◌, ◌≢◌, ℕ, ℤ, List, Option, Some, None, ◌⊎◌}
-use Rattle.ca_rle.specs.Faults as rle
-use Rattle.ca_rle.specs.FaultyLine.{IsFaultyLine as IsFaultyLineOfRle}
-use Rattle.ca_rle.specs.declared.fault.RleFault.{RleFault}
+use Rattle.std.specs.Prelude.{◌≡◌, ◌≢◌, ℕ, ℤ, List, Option, Some, None}
+use Rattle.ca_rle.specs.FaultyLine as rle
+use Rattle.ca_rle.specs.declared.fault.RleFault.TheVariants as rle_fault
 use Rattle.ca_macro.specs.Faults as macrocell
-use Rattle.ca_macro.specs.declared.fault.MacroFault.{MacroFault}
+use Rattle.ca_macro.specs.declared.fault.MacroFault.TheVariants as macrocell_fault
 use Rattle.ca_rule.specs.TableNext.{TableRule}
 use Rattle.ca_claims.specs.declared.note.Note.{Note}
 use Rattle.ca_claims.specs.declared.note.Note.TheVariants.{Nothing, Cell, Pattern, RuleFile}
-use Rattle.ca_claims.specs.declared.target.Target.{Target}
 use Rattle.ca_claims.specs.declared.target.Target.TheVariants.{Rle, Mc}
 use Rattle.ca_claims.specs.declared.verdict.Verdict.{Verdict}
 use Rattle.ca_claims.specs.declared.verdict.Verdict.TheVariants.{Yes, No, Refused}
 use Rattle.ca_claims.specs.declared.verdict.Why.TheVariants.{Empty, Differs, Earlier}
 use Rattle.ca_claims.specs.declared.verdict.PatternFault.{PatternFault}
+use Rattle.ca_claims.specs.declared.verdict.PatternFault.TheVariants as pattern_fault
 use Rattle.ca_claims.specs.declared.verdict.Cause.{Cause}
 use Rattle.ca_claims.specs.declared.verdict.Cause.TheVariants.{NoFile, BadTable, BadPattern, BadRule, StateTooLarge, MixedRules, TooManyCells, Memory}
 use Rattle.ca_claims.specs.Means.{bytes_at, format_of}
-use Rattle.ca_claims.specs.Answers.{IsPatternFault, AreTables, IsMissing, IsThere, HoldsTable, Reads, HasRule, IsSmall, IsBadTable, IsUnnamed, IsLarge, IsCrowded, FirstBad, FirstIs}
+use Rattle.ca_claims.specs.Answers.{AreTables, IsMissing, IsThere, HoldsTable, Reads, HasRule, IsSmall, IsBadTable, IsUnnamed, IsLarge, IsCrowded, FirstBad, FirstIs}
 
--- the line of the first fault in the spelling of bytes of this format. None where it has no fault; and where a macrocell
--- adds a node, since there may be no memory then to find the line
-abbrev pub IsLineAs : Target → List ℕ → Option ℕ → Type 0
-IsLineAs Rle bytes None = (f : RleFault) → rle.IsFirstFault bytes f → ⊥
-IsLineAs Rle bytes (Some n) = IsFaultyLineOfRle bytes n
-IsLineAs Mc bytes None = ((f : MacroFault) → macrocell.IsFirstFault bytes f → ⊥) ⊎ macrocell.HasLine bytes macrocell.AddNode
-IsLineAs Mc bytes (Some n) = macrocell.IsFaultyLine bytes n
+-- the fault for which the bytes of a pattern aren't read, and the line on which it stands: none for one that isn't in the spelling
+abbrev pub IsPatternFaultOn : List ℕ → PatternFault → Option ℕ → Type 0
+IsPatternFaultOn bytes (pattern_fault.Rle fault) line = (format_of bytes ≡ Rle) × (fault ≢ rle_fault.Memory) × rle.IsFaultOn bytes fault line
+IsPatternFaultOn bytes (pattern_fault.Macro fault) line = (format_of bytes ≡ Mc) × (fault ≢ macrocell_fault.Memory) × macrocell.IsFaultOn bytes fault line
+IsPatternFaultOn bytes pattern_fault.Memory line = ⊥
 
--- the file of the path has this fault as that of a pattern, and it stands on this line
+-- the file of the path is there, and has this fault as that of a pattern, on this line
 abbrev pub IsBadPatternOn : List (List ℕ × List ℕ) → PatternFault → Option ℕ → List ℕ → Type 0
-IsBadPatternOn files fault line path =
-    (bytes : List ℕ) × (bytes_at files path ≡ Some bytes) × IsPatternFault bytes fault × IsLineAs (format_of bytes) bytes line
+IsBadPatternOn files fault line path = (bytes : List ℕ) × (bytes_at files path ≡ Some bytes) × IsPatternFaultOn bytes fault line
 
 -- the cause of a refusal is what is wrong with one of the claim's patterns: what `First` tells of it, by what is good of the paths before it
 -- and what is bad of its own. Only a file that isn't read has a line; `rules` are the paths of the text's rule lines

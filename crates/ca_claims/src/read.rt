@@ -1,6 +1,6 @@
 //! Pattern files of both formats, read into a store of squares.
 
-ghost use Rattle.std.specs.Prelude.{◌≡◌, ◌≢◌, ◌<◌, IfOk, IfErr, IsErrOf};
+ghost use Rattle.std.specs.Prelude.{◌≡◌, ◌≢◌, ◌<◌, IfOk, IfErr, IsErrOf, MatchResult};
 ghost use Rattle.ca_plane.specs.Plane.{Picture};
 ghost use Rattle.ca_plane.specs.Bytes.{IsWord};
 ghost use Rattle.ca_plane.specs.Limits.{generation_limit};
@@ -12,15 +12,14 @@ ghost use Rattle.ca_claims.specs.declared.verdict.PatternFault.TheVariants as pa
 ghost use Rattle.ca_claims.specs.Means.{format_of, MayWantMemory};
 ghost use Rattle.ca_claims.specs.Answers.{IsPatternFault};
 ghost use Rattle.ca_claims.specs.Loaded.{IsLoaded};
-ghost use Rattle.ca_claims.specs.Notes.{IsLineAs};
-ghost use Rattle.ca_claims.specs.inner.Patterns.{IsUnread};
+ghost use Rattle.ca_claims.specs.inner.Patterns.{IsReadFrom, IsUnread};
 
 use crate::pattern::Loaded;
 use crate::target::Target;
 use crate::verdict::PatternFault;
-use ca_macro::{MacroFault, read_macro};
+use ca_macro::{LineFault as MacroLineFault, MacroFault, read_macro_with_line};
 use ca_quad::Store;
-use ca_rle::{Pattern, RleFault, read_rle};
+use ca_rle::{LineFault as RleLineFault, Pattern, RleFault, read_rle_with_line};
 use std::alloc::Global;
 
 /// Reads a pattern file into the store: bytes that begin with `[M2]` as macrocell, and all others as RLE.
@@ -42,9 +41,9 @@ pub fn read_pattern(alloc: Global, store: &mut Store, bytes: &[u8]) -> Result<Lo
     // Every old square stays.
     ensures grows { Grows store.old store.new }
 {
-    match format_of(bytes) {
-        Target::Rle => load_rle(alloc, store, bytes),
-        Target::Mc => load_macro(alloc, store, bytes),
+    match read_with_line(alloc, store, bytes) {
+        Ok(pattern) => Ok(pattern),
+        Err(bad) => Err(bad.fault),
     }
 }
 
@@ -55,41 +54,24 @@ pub(crate) struct BadPattern {
     pub(crate) line: Option<u64>,
 }
 
+/// No memory to read a pattern file.
+pub(crate) const OUT_OF_MEMORY: BadPattern = BadPattern {
+    fault: PatternFault::Memory,
+    line: None,
+};
+
 /// Reads a pattern file into the store, as `read_pattern` does. A fault comes with its line.
 pub(crate) fn read_with_line(
     alloc: Global,
     store: &mut Store,
     bytes: &[u8],
 ) -> Result<Loaded, BadPattern>
-    ensures read { IfOk result (λ p. (cells : Picture) × IsLoaded store.new bytes.now cells p) }
-    ensures range { IfOk result (λ p. AreInRange (cell store.new p.tree)) }
-    ensures unread { IfErr result (IsUnread bytes.now) }
+    ensures read { MatchResult result (IsReadFrom store.new bytes.now) (IsUnread bytes.now) }
     ensures grows { Grows store.old store.new }
 {
-    match read_pattern(alloc, store, bytes) {
-        Ok(pattern) => Ok(pattern),
-        Err(PatternFault::Memory) => Err(BadPattern {
-            fault: PatternFault::Memory,
-            line: None,
-        }),
-        Err(fault) => Err(BadPattern {
-            fault,
-            line: line_of(alloc, bytes),
-        }),
-    }
-}
-
-/// The number of the line of the first fault in a file's spelling. None where it has no fault, or there is no memory to find
-/// it.
-fn line_of(alloc: Global, bytes: &[u8]) -> Option<u64>
-    ensures { IsLineAs (format_of bytes.now) bytes.now result }
-{
     match format_of(bytes) {
-        Target::Rle => ca_rle::faulty_line(bytes),
-        Target::Mc => match ca_macro::faulty_line(alloc, bytes) {
-            Ok(line) => line,
-            Err(_) => None,
-        },
+        Target::Rle => load_rle(alloc, store, bytes),
+        Target::Mc => load_macro(alloc, store, bytes),
     }
 }
 
@@ -104,24 +86,29 @@ pub(crate) fn format_of(bytes: &[u8]) -> Target
 }
 
 /// Reads an RLE file into the store.
-fn load_rle(alloc: Global, store: &mut Store, bytes: &[u8]) -> Result<Loaded, PatternFault>
+fn load_rle(alloc: Global, store: &mut Store, bytes: &[u8]) -> Result<Loaded, BadPattern>
     requires { format_of bytes.now ≡ Rle }
-    ensures read { IfOk result (λ p. (cells : Picture) × IsLoaded store.new bytes.now cells p) }
-    ensures range { IfOk result (λ p. AreInRange (cell store.new p.tree)) }
-    ensures generation { IfOk result (λ p. p.generation < generation_limit) }
-    ensures rule { IfOk result (λ p. IsWord p.rule_text.items) }
-    ensures fault { IfErr result (λ f. f ≢ pattern_fault.Memory → IsPatternFault bytes.now f) }
-    ensures memory { IsErrOf result PatternFault.Memory → MayWantMemory bytes.now }
+    ensures read { MatchResult result (IsReadFrom store.new bytes.now) (IsUnread bytes.now) }
     ensures grows { Grows store.old store.new }
 {
     let _ = store.count();
-    let pattern = match read_rle(alloc, bytes) {
+    let pattern = match read_rle_with_line(alloc, bytes) {
         Ok(pattern) => pattern,
-        Err(RleFault::Memory) => return Err(PatternFault::Memory),
-        Err(fault) => return Err(PatternFault::Rle(fault)),
+        Err(
+            RleLineFault {
+                fault: RleFault::Memory,
+                ..
+            },
+        ) => return Err(OUT_OF_MEMORY),
+        Err(RleLineFault { fault, line }) => {
+            return Err(BadPattern {
+                fault: PatternFault::Rle(fault),
+                line,
+            });
+        }
     };
     let Ok(tree) = store.from_plane(&pattern.cells) else {
-        return Err(PatternFault::Memory);
+        return Err(OUT_OF_MEMORY);
     };
     let Pattern {
         rule_text,
@@ -137,24 +124,27 @@ fn load_rle(alloc: Global, store: &mut Store, bytes: &[u8]) -> Result<Loaded, Pa
 }
 
 /// Reads a macrocell file into the store.
-fn load_macro(alloc: Global, store: &mut Store, bytes: &[u8]) -> Result<Loaded, PatternFault>
+fn load_macro(alloc: Global, store: &mut Store, bytes: &[u8]) -> Result<Loaded, BadPattern>
     requires { format_of bytes.now ≡ Mc }
-    ensures read { IfOk result (λ p. (cells : Picture) × IsLoaded store.new bytes.now cells p) }
-    ensures range { IfOk result (λ p. AreInRange (cell store.new p.tree)) }
-    ensures generation { IfOk result (λ p. p.generation < generation_limit) }
-    ensures rule { IfOk result (λ p. IsWord p.rule_text.items) }
-    ensures fault { IfErr result (λ f. f ≢ pattern_fault.Memory → IsPatternFault bytes.now f) }
-    ensures memory { IsErrOf result PatternFault.Memory → MayWantMemory bytes.now }
+    ensures read { MatchResult result (IsReadFrom store.new bytes.now) (IsUnread bytes.now) }
     ensures grows { Grows store.old store.new }
 {
-    match read_macro(alloc, store, bytes) {
+    match read_macro_with_line(alloc, store, bytes) {
         Ok(pattern) => Ok(Loaded {
             kind: Target::Mc,
             tree: pattern.tree,
             rule_text: pattern.rule_text,
             generation: pattern.generation,
         }),
-        Err(MacroFault::Memory) => Err(PatternFault::Memory),
-        Err(fault) => Err(PatternFault::Macro(fault)),
+        Err(
+            MacroLineFault {
+                fault: MacroFault::Memory,
+                ..
+            },
+        ) => Err(OUT_OF_MEMORY),
+        Err(MacroLineFault { fault, line }) => Err(BadPattern {
+            fault: PatternFault::Macro(fault),
+            line,
+        }),
     }
 }

@@ -1,11 +1,13 @@
 -- A pattern that was read for a claim, and why one isn't.
-use Rattle.std.specs.Prelude.{◌≡◌, ℕ, List, [], ◌∷◌, Option, ◌⊎◌}
+use Rattle.std.specs.Prelude.{◌≡◌, ℕ, ◌<◌, List, [], ◌∷◌, Option, ◌⊎◌}
 use Rattle.std.specs.List.{AllByRecursion}
 use Rattle.ca_claims.specs.declared.verifier.one_or_two.OneOrTwo.{OneOrTwo}
 use Rattle.ca_claims.specs.declared.verifier.one_or_two.OneOrTwo.TheVariants.{One, Two}
 use Rattle.ca_claims.specs.declared.ruled.Ruled.{Ruled}
 use Rattle.ca_claims.specs.declared.decide.Subject.{Subject}
 use Rattle.ca_plane.specs.Plane.{Picture}
+use Rattle.ca_plane.specs.Bytes.{IsWord}
+use Rattle.ca_plane.specs.Limits.{generation_limit}
 use Rattle.ca_quad.specs.declared.node.Node.{Node}
 use Rattle.ca_quad.specs.Trees.{cell}
 use Rattle.ca_rule.specs.TableNext.{TableRule}
@@ -20,9 +22,9 @@ use Rattle.ca_claims.specs.declared.verdict.PatternFault.TheVariants.{Rle, Macro
 use Rattle.ca_claims.specs.declared.verifier.agreement.Disagreement.{Disagreement}
 use Rattle.ca_claims.specs.declared.verifier.agreement.Disagreement.TheVariants.{Large, Mixed}
 use Rattle.ca_claims.specs.declared.verifier.agreement.Disagreement.TheVariants as disagreement
-use Rattle.ca_claims.specs.Means.{format_of, MayWantMemory}
-use Rattle.ca_claims.specs.Answers.{IsPatternFault, HasLargeState, HasSmallStates}
-use Rattle.ca_claims.specs.Notes.{IsLineAs}
+use Rattle.ca_claims.specs.Means.{MayWantMemory}
+use Rattle.ca_claims.specs.Answers.{HasLargeState, HasSmallStates}
+use Rattle.ca_claims.specs.Notes.{IsPatternFaultOn}
 use Rattle.ca_claims.specs.Loaded.{IsLoaded}
 
 -- one or two, as a list
@@ -34,16 +36,19 @@ items (Two first second) = first ∷ second ∷ []
 abbrev pub IsEachOnce : {X : Type 0} → List X → List X → Type 0
 IsEachOnce {X} each all = (all ≡ each) ⊎ ((x : X) × (each ≡ x ∷ []) × (all ≡ x ∷ x ∷ []))
 
--- the bytes are a file that reads, and this is its pattern in the store of these nodes, whose live cells are in range
+-- the bytes are a file that reads, and this is its pattern in the store of these nodes, whose live cells are in
+-- range; its generation is below the limit, and its rule text is a word
 pub record IsReadFrom (nodes : List Node) (bytes : List ℕ) (pattern : Loaded) : Type 0 where
   pub cells : Picture
   pub loaded : IsLoaded nodes bytes cells pattern
   pub range : AreInRange (cell nodes pattern.tree)
+  pub generation : pattern.generation < generation_limit
+  pub word : IsWord pattern.rule_text.items
 
 -- why the bytes aren't read, and on which line: their fault, or out of memory where they may need memory
 abbrev pub IsUnreadFor : List ℕ → PatternFault → Option ℕ → Type 0
-IsUnreadFor bytes (Rle fault) line = IsPatternFault bytes (Rle fault) × IsLineAs (format_of bytes) bytes line
-IsUnreadFor bytes (Macro fault) line = IsPatternFault bytes (Macro fault) × IsLineAs (format_of bytes) bytes line
+IsUnreadFor bytes (Rle fault) line = IsPatternFaultOn bytes (Rle fault) line
+IsUnreadFor bytes (Macro fault) line = IsPatternFaultOn bytes (Macro fault) line
 IsUnreadFor bytes Memory line = MayWantMemory bytes
 
 abbrev pub IsUnread : List ℕ → BadPattern → Type 0

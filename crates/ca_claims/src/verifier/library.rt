@@ -5,17 +5,10 @@ ghost use Rattle.ca_quad.specs.Sound.{Grows};
 ghost use Rattle.ca_claims.specs.inner.Patterns.{IsReadFrom, IsUnread};
 
 use crate::pattern::Loaded;
-use crate::read::{BadPattern, read_with_line};
-use crate::verdict::PatternFault;
+use crate::read::{BadPattern, OUT_OF_MEMORY, read_with_line};
 use ca_quad::Store;
 use std::alloc::Global;
 use std::marker::Model;
-
-/// No memory for a pattern that was read.
-const OUT_OF_MEMORY: BadPattern = BadPattern {
-    fault: PatternFault::Memory,
-    line: None,
-};
 
 /// How many patterns are kept: a claim is about one or two.
 const ROOM: usize = 2;

@@ -9,9 +9,10 @@ pub returns-in-Ok-clause-read : goal.returns-in-Ok-clause-read
 returns-in-Ok-clause-read c =
     let found = c.in-Ok.ensures.found in
     let file = found.0 in
-    let cells = picture_of file.nodes in (
-      cells,
-      record {
+    let cells = picture_of file.nodes in
+    record {
+      cells = cells;
+      loaded = record {
         kind = sym c.requires;
         tree = found.3.tree;
         trimmed = found.3.trimmed;
@@ -20,10 +21,8 @@ returns-in-Ok-clause-read c =
         means =
             in_format (λ t. MeansAs t c.args.bytes.now cells c.in-Ok.pattern.rule_text.items c.in-Ok.pattern.generation) c.args.bytes.now Mc c.requires
             (file, found.1, refl, found.3.rule_text, found.3.generation);
-      },
-    )
-
-pub returns-in-Ok-clause-range : goal.returns-in-Ok-clause-range
-returns-in-Ok-clause-range c =
-    let found = c.in-Ok.ensures.found in
-    shown_in_range _ (picture_of found.0.nodes) found.3.cells found.2
+      };
+      range = shown_in_range _ cells found.3.cells found.2;
+      generation = c.in-Ok.ensures.generation;
+      word = c.in-Ok.ensures.rule;
+    }

@@ -9,9 +9,10 @@ pub returns-clause-read : goal.returns-clause-read
 returns-clause-read c =
     let found = c.in-Ok.ensures.found in
     let file = found.0 in
-    let cells = picture_of file.corner file.items in (
-      cells,
-      record {
+    let cells = picture_of file.corner file.items in
+    record {
+      cells = cells;
+      loaded = record {
         kind = sym c.requires;
         tree = c.in-Ok-from_plane.ensures.tree;
         trimmed = c.in-Ok-from_plane.ensures.trimmed;
@@ -20,10 +21,8 @@ returns-clause-read c =
         means =
             in_format (λ t. MeansAs t c.args.bytes.now cells c.in-Ok.pattern.rule_text.items c.in-Ok.pattern.generation) c.args.bytes.now Rle c.requires
             (file, found.1, refl, found.3.rule_text, found.3.generation);
-      },
-    )
-
-pub returns-clause-range : goal.returns-clause-range
-returns-clause-range c =
-    let found = c.in-Ok.ensures.found in
-    shown_in_range _ (picture_of found.0.corner found.0.items) (λ x y. c.in-Ok-from_plane.ensures.cells x y ∙ found.3.cells x y) found.2.0.cells
+      };
+      range = shown_in_range _ cells (λ x y. c.in-Ok-from_plane.ensures.cells x y ∙ found.3.cells x y) found.2.0.cells;
+      generation = c.in-Ok.ensures.generation;
+      word = c.in-Ok.ensures.rule;
+    }
