@@ -18,6 +18,7 @@ use Rattle.ca_rule.proofs.Rules.{same-refl}
 use Rattle.ca_claims.specs.declared.pattern.Loaded.{Loaded}
 use Rattle.ca_plane.specs.Sparse.{IsSparse}
 use Rattle.ca_claims.specs.declared.claims.line.Claim.{Claim as ClaimOf}
+use Rattle.ca_claims.specs.declared.claims.line.Kind.{Kind}
 use Rattle.ca_claims.specs.declared.claims.asks.Asks.{Asks}
 use Rattle.ca_claims.specs.declared.claims.asks.Barred.TheVariants.{Nothing, Anywhere}
 use Rattle.ca_claims.specs.declared.verdict.Cause.{Cause}
@@ -51,7 +52,7 @@ use Rattle.ca_claims.specs.inner.Prepared.{IsPrepared, IsFit, IsPlaneRefused, re
 use Rattle.ca_claims.specs.inner.Found.{IsFound}
 use Rattle.ca_claims.specs.inner.Refusals.{IsRefusal, IsOnVerdict, IsJudgedOn}
 use Rattle.ca_claims.specs.inner.Patterns.{items, IsEachOnce, FirstBadAt, IsReadFrom, IsUnreadFor, HasName, rule_of, IsRuledAs, ShowsLarge, ShowsSmall, AreOfOneRule, AreMixed, Disagree, AreBoth}
-use Rattle.ca_claims.proofs.ClaimKinds.{asks_about, asks_bounded, asks_moved, paths_of}
+use Rattle.ca_claims.proofs.ClaimKinds.{asks_bounded, asks_moved, paths_of}
 use Rattle.ca_claims.proofs.PatternsRead.{fault_on, IsReadAt, IsRuledAt, path_has_fault, path_has_rule, path_reads, ruled_at, ruled_has_rule, ruled_is_good, ruled_is_large, ruled_is_many, ruled_is_small, ruled_picture, ruled_reads, tree_shows, wanted}
 use Rattle.ca_claims.proofs.Shown.{few_shown}
 use Rattle.ca_claims.proofs.Told.{level_is_low}
@@ -452,7 +453,7 @@ module _ (files : List (List ℕ × List ℕ)) (every rules : List (List ℕ)) (
 
 -- what is decided of pictures on which a claim's patterns agree is a true verdict
 decided_true : (files : List (List ℕ × List ℕ)) (rules : List (List ℕ)) (claim : Claim) (cells other : Picture) (rule : RuleValue) (verdict : Verdict)
-    → IsJudged files rules claim cells other rule → IsDecided (next_of rule) cells other (asks_of claim) verdict → IsTrueVerdict files rules claim verdict
+    → IsJudged files rules claim cells other rule → IsDecided (next_of rule) cells other (asks_of claim.kind) verdict → IsTrueVerdict files rules claim verdict
 decided_true files rules claim cells other rule Yes judged decided = (cells, other, rule, judged, decided)
 decided_true files rules claim cells other rule (No why) judged decided = (cells, other, rule, judged, decided)
 decided_true files rules claim cells other rule (Refused cause) judged decided =
@@ -473,18 +474,17 @@ decided_on files paths rules patterns next cells other asks (Refused cause) deci
 
 -- so it is one of a claim about paths of which each is given once
 pub true_verdict : (files : List (List ℕ × List ℕ)) (rules at : List (List ℕ)) (claim : ClaimOf ℕ) (paths : List (List ℕ)) (counted : Bool) (prepared : Prepared) (verdict : Verdict)
-    → IsEachOnce paths (patterns_of (about (path_at at) claim)) → (IsCounted (asks_of claim) → IsTrue counted) → (is : IsPrepared files rules paths counted prepared)
-    → IsDecided (next_of (rule_value prepared.leaper.rule)) is.cells is.other (asks_of claim) verdict → IsJudgedOn files at rules (about (path_at at) claim) verdict about.Claim
+    → IsEachOnce paths (patterns_of (about (path_at at) claim)) → (IsCounted (asks_of claim.kind) → IsTrue counted) → (is : IsPrepared files rules paths counted prepared)
+    → IsDecided (next_of (rule_value prepared.leaper.rule)) is.cells is.other (asks_of claim.kind) verdict → IsJudgedOn files at rules (about (path_at at) claim) verdict about.Claim
 true_verdict files rules at claim paths counted prepared verdict once counts is decided =
     let rule = rule_value prepared.leaper.rule in
     let (tables, are, good) = is.agree in
-    let asks = asks_about (path_at at) claim in
     record {
       holds =
           decided_true files rules (about (path_at at) claim) is.cells is.other rule verdict
-          ((tables, are, judged_of_all files tables paths (patterns_of (about (path_at at) claim)) is.cells is.other rule once good), λ counted. is.few (counts (subst IsCounted asks counted)))
-          (subst (λ a. IsDecided (next_of rule) is.cells is.other a verdict) (sym asks) decided);
-      on = decided_on files at rules (patterns_of (about (path_at at) claim)) (next_of rule) is.cells is.other (asks_of claim) verdict decided;
+          ((tables, are, judged_of_all files tables paths (patterns_of (about (path_at at) claim)) is.cells is.other rule once good), λ counted. is.few (counts counted))
+          decided;
+      on = decided_on files at rules (patterns_of (about (path_at at) claim)) (next_of rule) is.cells is.other (asks_of claim.kind) verdict decided;
     }
 
 -- ---- what is judged is fit for it
@@ -507,9 +507,9 @@ module _ (nodes : List Node) (counted : Bool) where
       }
 
 -- so is its subject for a claim
-pub is_subject : (claim : ClaimOf ℕ) (asks : Asks) (counted : Bool) (prepared : Prepared) → asks ≡ asks_of claim → HasGoodNumbers claim → (IsTrue counted ↔ IsCounted asks) → IsFit counted prepared
+pub is_subject : (kind : Kind) (asks : Asks) (counted : Bool) (prepared : Prepared) → asks ≡ asks_of kind → HasGoodNumbers kind → (IsTrue counted ↔ IsCounted asks) → IsFit counted prepared
     → IsSubject prepared.leaper.nodes asks prepared.subject prepared.plane
-is_subject claim asks counted prepared same good counts fit = record { pattern = fit.pattern; other = fit.other; moved = moved prepared.plane fit.plane }
+is_subject kind asks counted prepared same good counts fit = record { pattern = fit.pattern; other = fit.other; moved = moved prepared.plane fit.plane }
   where
     nothing_or_anywhere : Nothing ≡ Anywhere → ⊥
     nothing_or_anywhere e = cc
@@ -520,8 +520,8 @@ is_subject claim asks counted prepared same good counts fit = record { pattern =
     moved : (plane : Option Picture) → MatchOption plane (IsFalse counted) (λ p. IsTrue counted × IsSparse p × ShowsTree prepared.leaper.nodes prepared.subject.pattern p)
         → IsMovedBy asks prepared.leaper.nodes prepared.subject.pattern plane
     moved None made =
-        let unmoved = asks_moved claim (subst (λ a. a.barred ≢ Anywhere) same (uncounted made)) in
+        let unmoved = asks_moved kind (subst (λ a. a.barred ≢ Anywhere) same (uncounted made)) in
         (subst (λ a. a.dx ≡ pos 0) (sym same) unmoved.0, subst (λ a. a.dy ≡ pos 0) (sym same) unmoved.1, uncounted made)
     moved (Some p) made =
         let anywhere = counts.0 made.0 in
-        ((subst IsBounded (sym same) (asks_bounded claim good)).own (λ none. nothing_or_anywhere (sym none ∙ anywhere)), anywhere, made.1, made.2)
+        ((subst IsBounded (sym same) (asks_bounded kind good)).own (λ none. nothing_or_anywhere (sym none ∙ anywhere)), anywhere, made.1, made.2)

@@ -1,49 +1,50 @@
 -- The words of a spaceship's claim, and how claims are held with numbers of 64 bits.
-use Rattle.std.proofs.Common.{◌≡◌, ℕ, ◌-◌, ◌^◌, ◌<◌, min, List, [], ◌∷◌, codes, refl, sym, ap, subst, ◌∙◌, arith, w64, to_z, of_z}
+use Rattle.std.proofs.Common.{◌≡◌, ℕ, Option, ◌-◌, ◌^◌, ◌<◌, min, List, [], ◌∷◌, codes, refl, sym, ap, subst, ◌∙◌, arith, w64, to_z, of_z}
 use Rattle.std.specs.Prelude.{ℤ, FitsSigned}
 use Rattle.std.proofs.lemmas.Int.{ints, to_z-of_z}
 use Rattle.ca_plane.specs.Bytes.{IsInteger}
-use Rattle.ca_claims.specs.declared.claims.line.Claim.TheVariants.{Still, Oscillator, Spaceship, Becomes}
-use Rattle.ca_claims.specs.Text.{Claim, Claims, WordsSay}
-use Rattle.ca_claims.specs.inner.Reading.{IsHeldShift, IsHeldClaim}
+use Rattle.ca_claims.specs.declared.claims.line.Kind.{Kind}
+use Rattle.ca_claims.specs.declared.claims.line.Kind.TheVariants.{Still, Oscillator, Spaceship, Becomes}
+use Rattle.ca_claims.specs.Text.{Claim, Claims, WordsSay, WordsClaim}
+use Rattle.ca_claims.specs.inner.Reading.{IsHeldShift, IsHeldKind}
 
 -- what stands after a word that begins equal words
 behind_word : (w : List ℕ) (vs ws : List (List ℕ)) → w ∷ vs ≡ w ∷ ws → vs ≡ ws
 behind_word w vs ws e = cc
 
 -- words of a spaceship's claim have integers where its shift stands
-shift_words : (words : List (List ℕ)) (name p x y : List ℕ) → words ≡ name ∷ p ∷ x ∷ y ∷ [] → (claim : Claim) → WordsSay (codes "spaceship" ∷ words) (Claims claim)
+shift_words : (words : List (List ℕ)) (name p x y : List ℕ) → words ≡ name ∷ p ∷ x ∷ y ∷ [] → (n : List ℕ) (other : Option (List ℕ)) (kind : Kind) → WordsClaim (codes "spaceship" ∷ words) n other kind
     → (dx : ℤ) × (dy : ℤ) × IsInteger x dx × IsInteger y dy
-shift_words words name p x y e (Still n) h = cc
-shift_words words name p x y e (Oscillator n v) h = cc
-shift_words words name p x y e (Spaceship n v dx dy) h =
+shift_words words name p x y e n other Still h = let same = h.0 in cc
+shift_words words name p x y e n other (Oscillator v) h = let same = h.1 in cc
+shift_words words name p x y e n other (Spaceship v dx dy) h =
     let same = sym (behind_word (codes "spaceship") words (n ∷ h.0 ∷ h.1 ∷ h.2 ∷ []) h.3) ∙ e in
     let across : h.1 ≡ x = cc in
     let down : h.2 ≡ y = cc in
     (dx, dy, subst (λ l. IsInteger l dx) across h.6, subst (λ l. IsInteger l dy) down h.7)
-shift_words words name p x y e (Becomes n v o) h = cc
+shift_words words name p x y e n other (Becomes v) h = let same = h.2 in cc
 
 -- so words without them make none
 pub no_right : (words : List (List ℕ)) (name p x y : List ℕ) → words ≡ name ∷ p ∷ x ∷ y ∷ [] → ((n : ℤ) → IsInteger x n → ⊥)
     → (claim : Claim) → WordsSay (codes "spaceship" ∷ words) (Claims claim) → ⊥
-no_right words name p x y e none claim h = let s = shift_words words name p x y e claim h in none s.0 s.2
+no_right words name p x y e none claim h = let s = shift_words words name p x y e claim.pattern claim.other claim.kind h in none s.0 s.2
 
 pub no_down : (words : List (List ℕ)) (name p x y : List ℕ) → words ≡ name ∷ p ∷ x ∷ y ∷ [] → ((n : ℤ) → IsInteger y n → ⊥)
     → (claim : Claim) → WordsSay (codes "spaceship" ∷ words) (Claims claim) → ⊥
-no_down words name p x y e none claim h = let s = shift_words words name p x y e claim h in none s.1 s.3
+no_down words name p x y e none claim h = let s = shift_words words name p x y e claim.pattern claim.other claim.kind h in none s.1 s.3
 
 -- a number below 2^61 is held as itself
 held_number : (n held : ℕ) → held ≡ min n (2 ^ 64 - 1) → (n < 2 ^ 61 → n ≡ held) × (held < 2 ^ 61 → n ≡ held)
 held_number n held e = (λ h. omega arith, λ h. omega arith)
 
--- a claim is held as itself
-pub held_same : (claim : Claim) → IsHeldClaim claim claim
-held_same claim = record { exact = λ h. refl; sound = λ h. refl }
+-- a kind without numbers is held as itself
+pub held_same : (kind : Kind) → IsHeldKind kind kind
+held_same kind = record { exact = λ h. refl; sound = λ h. refl }
 
-pub held_oscillator : (name : List ℕ) (n held : ℕ) → held ≡ min n (2 ^ 64 - 1) → IsHeldClaim (Oscillator name n) (Oscillator name held)
-held_oscillator name n held e = record {
-  exact = λ good. ap (Oscillator name) ((held_number n held e).0 (omega arith));
-  sound = λ good. ap (Oscillator name) ((held_number n held e).1 (omega arith));
+pub held_oscillator : (n held : ℕ) → held ≡ min n (2 ^ 64 - 1) → IsHeldKind (Oscillator n) (Oscillator held)
+held_oscillator n held e = record {
+  exact = λ good. ap Oscillator ((held_number n held e).0 (omega arith));
+  sound = λ good. ap Oscillator ((held_number n held e).1 (omega arith));
 }
 
 -- what is held reads so as an `i64`
@@ -55,18 +56,18 @@ as_read n held h =
     to_z-of_z w64 held fits
 
 -- two spaceships with the same numbers
-same_spaceship : (name : List ℕ) (n m : ℕ) (dx dy x y : ℤ) → n ≡ m → dx ≡ x → dy ≡ y → Spaceship name n dx dy ≡ Spaceship name m x y
-same_spaceship name n m dx dy x y e f g = λ i. Spaceship name (e i) (f i) (g i)
+same_spaceship : (n m : ℕ) (dx dy x y : ℤ) → n ≡ m → dx ≡ x → dy ≡ y → Spaceship n dx dy ≡ Spaceship m x y
+same_spaceship n m dx dy x y e f g = λ i. Spaceship (e i) (f i) (g i)
 
-pub held_spaceship : (name : List ℕ) (n held : ℕ) (dx dy x y : ℤ) → held ≡ min n (2 ^ 64 - 1) → IsHeldShift dx x → IsHeldShift dy y
-    → IsHeldClaim (Spaceship name n dx dy) (Spaceship name held (to_z w64 (of_z w64 x)) (to_z w64 (of_z w64 y)))
-held_spaceship name n held dx dy x y e f g = rw (as_read dx x f, as_read dy y g) record {
-  exact = λ good. same_spaceship name n held dx dy x y ((held_number n held e).0 (omega arith)) (f.exact good.2) (g.exact good.3);
-  sound = λ good. same_spaceship name n held dx dy x y ((held_number n held e).1 (omega arith)) (f.sound good.2) (g.sound good.3);
+pub held_spaceship : (n held : ℕ) (dx dy x y : ℤ) → held ≡ min n (2 ^ 64 - 1) → IsHeldShift dx x → IsHeldShift dy y
+    → IsHeldKind (Spaceship n dx dy) (Spaceship held (to_z w64 (of_z w64 x)) (to_z w64 (of_z w64 y)))
+held_spaceship n held dx dy x y e f g = rw (as_read dx x f, as_read dy y g) record {
+  exact = λ good. same_spaceship n held dx dy x y ((held_number n held e).0 (omega arith)) (f.exact good.2) (g.exact good.3);
+  sound = λ good. same_spaceship n held dx dy x y ((held_number n held e).1 (omega arith)) (f.sound good.2) (g.sound good.3);
 }
 
-pub held_becomes : (name other : List ℕ) (n held : ℕ) → held ≡ min n (2 ^ 64 - 1) → IsHeldClaim (Becomes name n other) (Becomes name held other)
-held_becomes name other n held e = record {
-  exact = λ good. ap (λ k. Becomes name k other) ((held_number n held e).0 (omega arith));
-  sound = λ good. ap (λ k. Becomes name k other) ((held_number n held e).1 (omega arith));
+pub held_becomes : (n held : ℕ) → held ≡ min n (2 ^ 64 - 1) → IsHeldKind (Becomes n) (Becomes held)
+held_becomes n held e = record {
+  exact = λ good. ap Becomes ((held_number n held e).0 (omega arith));
+  sound = λ good. ap Becomes ((held_number n held e).1 (omega arith));
 }

@@ -2,45 +2,72 @@
 use Rattle.std.proofs.Common.{◌≡◌, ◌≢◌, ℕ, suc, ◌+◌, List, [], ◌∷◌, ◌++◌, length, Option, Some, None, is_some, ◌⊎◌, inl, inr, refl, sym, ap, subst, ◌∙◌, arith}
 use Rattle.std.proofs.lemmas.Bool.{false≢true}
 use Rattle.std.proofs.lemmas.List.{append-nil}
-use Rattle.ca_plane.specs.Bytes.{IsInteger, lines_of, words_of}
+use Rattle.ca_plane.specs.Bytes.{IsInteger, lines_of, words_of, value}
 use Rattle.ca_rle.proofs.OneHeader.{one_integer}
 use Rattle.ca_claims.specs.declared.fault.ClaimFault.{ClaimFault}
 use Rattle.ca_claims.specs.declared.fault.ClaimFault.TheVariants.{Syntax, Number, UnknownName, NameTaken, Memory}
-use Rattle.ca_claims.specs.declared.claims.line.Claim.TheVariants.{Still, Oscillator, Spaceship, Becomes}
-use Rattle.ca_claims.specs.Text.{Claim, Line, Rule, Load, Claims, WordsSay, HasGoodNumbers, IsAllowed, LinesSay, IsClaimText, spoken}
+use Rattle.ca_claims.specs.declared.claims.line.Kind.{Kind}
+use Rattle.ca_claims.specs.declared.claims.line.Kind.TheVariants.{Still, Oscillator, Spaceship, Becomes}
+use Rattle.ca_claims.specs.Text.{Claim, Line, Rule, Load, Claims, WordsClaim, WordsSay, HasGoodNumbers, IsAllowed, LinesSay, IsClaimText, spoken}
 use Rattle.ca_claims.specs.TextFaults.{IsFirstFault}
 use Rattle.ca_claims.specs.inner.Reading.{SaysNext, HasFault}
 use Rattle.ca_claims.proofs.LinesSaid.{one_before}
 
--- words make one claim
-same_claim : (words : List (List ℕ)) (a b : Claim) → WordsSay words (Claims a) → WordsSay words (Claims b) → a ≡ b
-same_claim words (Still n) (Still m) h k = cc
-same_claim words (Oscillator n v) (Oscillator m w) h k = cc
-same_claim words (Spaceship n v dx dy) (Spaceship m w x y) h k =
+-- words make a claim of one kind, about the same patterns
+same_words : (words : List (List ℕ)) (n m : List ℕ) (o p : Option (List ℕ)) (a b : Kind) → WordsClaim words n o a → WordsClaim words m p b → (n ≡ m) × (o ≡ p) × (a ≡ b)
+same_words words n m o p Still Still h k =
+    let same = sym h.0 ∙ k.0 in
+    (cc, h.1 ∙ sym k.1, refl)
+same_words words n m o p (Oscillator v) (Oscillator w) h k =
+    let same = sym h.1 ∙ k.1 in
+    let number : h.0 ≡ k.0 = cc in
+    (cc, h.4 ∙ sym k.4, ap Oscillator (h.3 ∙ ap value number ∙ sym k.3))
+same_words words n m o p (Spaceship v dx dy) (Spaceship w x y) h k =
+    let same = sym h.3 ∙ k.3 in
+    let number : h.0 ≡ k.0 = cc in
     let across : h.1 ≡ k.1 = cc in
     let down : h.2 ≡ k.2 = cc in
+    let period = h.5 ∙ ap value number ∙ sym k.5 in
     let right = one_integer k.1 dx x (subst (λ l. IsInteger l dx) across h.6) k.6 in
     let below = one_integer k.2 dy y (subst (λ l. IsInteger l dy) down h.7) k.7 in
-    cc
-same_claim words (Becomes n v p) (Becomes m w q) h k = cc
-same_claim words (Still n) b h k = cc
-same_claim words (Oscillator n v) b h k = cc
-same_claim words (Spaceship n v dx dy) b h k = cc
-same_claim words (Becomes n v p) b h k = cc
+    (cc, h.8 ∙ sym k.8, λ i. Spaceship (period i) (right i) (below i))
+same_words words n m o p (Becomes v) (Becomes w) h k =
+    let same = sym h.2 ∙ k.2 in
+    let number : h.0 ≡ k.0 = cc in
+    let second : h.1 ≡ k.1 = cc in
+    (cc, h.5 ∙ ap Some second ∙ sym k.5, ap Becomes (h.4 ∙ ap value number ∙ sym k.4))
+same_words words n m o p Still b h k = cc
+same_words words n m o p (Oscillator v) b h k = cc
+same_words words n m o p (Spaceship v dx dy) b h k = cc
+same_words words n m o p (Becomes v) b h k = cc
+
+same_claim : (words : List (List ℕ)) (a b : Claim) → WordsSay words (Claims a) → WordsSay words (Claims b) → a ≡ b
+same_claim words a b h k =
+    let same = same_words words a.pattern b.pattern a.other b.other a.kind b.kind h k in
+    let pattern = same.0 in
+    let other = same.1 in
+    let kind = same.2 in
+    λ i. record { pattern = pattern i; other = other i; kind = kind i }
 
 -- and no name is loaded by words that make a claim
 load_or_claim : (words : List (List ℕ)) (name path : List ℕ) (claim : Claim) → WordsSay words (Load name path) → WordsSay words (Claims claim) → ⊥
-load_or_claim words name path (Still n) h k = cc
-load_or_claim words name path (Oscillator n v) h k = cc
-load_or_claim words name path (Spaceship n v dx dy) h k = cc
-load_or_claim words name path (Becomes n v p) h k = cc
+load_or_claim words name path claim h k = none claim.pattern claim.other claim.kind k
+  where
+    none : (n : List ℕ) (o : Option (List ℕ)) (kind : Kind) → WordsClaim words n o kind → ⊥
+    none n o Still w = let same = w.0 in cc
+    none n o (Oscillator v) w = let same = w.1 in cc
+    none n o (Spaceship v dx dy) w = let same = w.3 in cc
+    none n o (Becomes v) w = let same = w.2 in cc
 
 -- nor is a table
 rule_or_claim : (words : List (List ℕ)) (path : List ℕ) (claim : Claim) → WordsSay words (Rule path) → WordsSay words (Claims claim) → ⊥
-rule_or_claim words path (Still n) h k = cc
-rule_or_claim words path (Oscillator n v) h k = cc
-rule_or_claim words path (Spaceship n v dx dy) h k = cc
-rule_or_claim words path (Becomes n v p) h k = cc
+rule_or_claim words path claim h k = none claim.pattern claim.other claim.kind k
+  where
+    none : (n : List ℕ) (o : Option (List ℕ)) (kind : Kind) → WordsClaim words n o kind → ⊥
+    none n o Still w = let same = w.0 in cc
+    none n o (Oscillator v) w = let same = w.1 in cc
+    none n o (Spaceship v dx dy) w = let same = w.3 in cc
+    none n o (Becomes v) w = let same = w.2 in cc
 
 -- words say one thing
 pub same_line : (words : List (List ℕ)) (a b : Line) → WordsSay words a → WordsSay words b → a ≡ b
@@ -119,10 +146,10 @@ same_fault n earlier words (Syntax a) (UnknownName b) x y h k = absurd (h.1.1 (C
 same_fault n earlier words (Syntax a) (NameTaken b) x y h k = absurd (h.1.1 (Load k.1.1 k.1.2) k.1.3)
 same_fault n earlier words (Number a) (Syntax b) x y h k = absurd (k.1.1 (Claims h.1.1) h.1.2)
 same_fault n earlier words (Number a) (Number b) x y h k = ap Number (h.0 ∙ sym k.0)
-same_fault n earlier words (Number a) (UnknownName b) x y h k = absurd (h.1.3 (subst HasGoodNumbers (same_claim words k.1.1 h.1.1 k.1.2 h.1.2) k.1.3))
+same_fault n earlier words (Number a) (UnknownName b) x y h k = absurd (h.1.3 (subst (λ c. HasGoodNumbers c.kind) (same_claim words k.1.1 h.1.1 k.1.2 h.1.2) k.1.3))
 same_fault n earlier words (Number a) (NameTaken b) x y h k = absurd (load_or_claim words k.1.1 k.1.2 h.1.1 k.1.3 h.1.2)
 same_fault n earlier words (UnknownName a) (Syntax b) x y h k = absurd (k.1.1 (Claims h.1.1) h.1.2)
-same_fault n earlier words (UnknownName a) (Number b) x y h k = absurd (k.1.3 (subst HasGoodNumbers (same_claim words h.1.1 k.1.1 h.1.2 k.1.2) h.1.3))
+same_fault n earlier words (UnknownName a) (Number b) x y h k = absurd (k.1.3 (subst (λ c. HasGoodNumbers c.kind) (same_claim words h.1.1 k.1.1 h.1.2 k.1.2) h.1.3))
 same_fault n earlier words (UnknownName a) (UnknownName b) x y h k = ap UnknownName (h.0 ∙ sym k.0)
 same_fault n earlier words (UnknownName a) (NameTaken b) x y h k = absurd (load_or_claim words k.1.1 k.1.2 h.1.1 k.1.3 h.1.2)
 same_fault n earlier words (NameTaken a) (Syntax b) x y h k = absurd (k.1.1 (Load h.1.1 h.1.2) h.1.3)

@@ -15,7 +15,7 @@ use Rattle.ca_claims.specs.declared.claims.line.Place.{Place}
 use Rattle.ca_claims.specs.Places.{path_at, named_at, named, IsNamed}
 use Rattle.ca_claims.specs.Text.{Claim, patterns_of, about, HasGoodNumbers, Line, Rule, Load, Claims, path_of, AreLoaded, IsAllowed, spoken, rule_paths, file_paths, each_once, claims_from}
 use Rattle.ca_claims.specs.inner.Reading.{IsKept, StandsAt, AreKnown, known_place, at_places, with_path}
-use Rattle.ca_claims.proofs.ClaimKinds.{paths_of, about_same, about_twice, numbers_about}
+use Rattle.ca_claims.proofs.ClaimKinds.{paths_of, about_same, about_twice}
 use Rattle.ca_claims.proofs.PathLists.{each_once-push, stays_before, stands_last, kept_place, no_fewer}
 use Rattle.ca_claims.proofs.LinesSaid.{spoken-append, rule_paths-append, file_paths-append, path_of-append, claims_from-append}
 
@@ -257,17 +257,17 @@ module _ (said : List (Option Line)) (names paths : List (List ℕ)) (rules : Li
       (λ n. place_named n (places n) (path_of (spoken said) n) (read.known n)) (patterns_of claim) known)
 
   -- and these are kept
-  places_there : (claim : Claim) → AreKnown places claim → HasGoodNumbers claim → IsNamed names paths (at_places places claim)
+  places_there : (claim : Claim) → AreKnown places claim → HasGoodNumbers claim.kind → IsNamed names paths (at_places places claim)
   places_there claim known good =
       let is_within : Place → Type 0 = λ p. (p.name < length names) × (p.path < length paths) in
       record {
         within = subst (AllByRecursion is_within) (sym (paths_of (λ name. known_place (places name)) claim)) (all_map (λ name. known_place (places name)) is_within (patterns_of claim)
             (AllByRecursion-weaker (λ n. IsSome (places n)) (λ n. is_within (known_place (places n))) (λ n. place_within n (places n) (path_of (spoken said) n) (read.known n)) (patterns_of claim) known));
-        numbers = numbers_about (λ name. known_place (places name)) claim good;
+        numbers = good;
       }
 
   -- a line that makes a claim
-  pub read_claim : (claim : Claim) (line : ℕ) → AreKnown places claim → HasGoodNumbers claim → line ≡ length said + 1
+  pub read_claim : (claim : Claim) (line : ℕ) → AreKnown places claim → HasGoodNumbers claim.kind → line ≡ length said + 1
       → IsAllowed (spoken said) (Claims claim) × IsKept (said ++ Some (Claims claim) ∷ []) names paths rules (claims ++ record { line = line; claim = at_places places claim } ∷ []) places
   read_claim claim line known good number =
       let s : Option Line = Some (Claims claim) in

@@ -181,19 +181,19 @@ IsCounted asks = asks.barred ≡ Anywhere
 
 -- the cause is that of a claim that asks this: it holds of the claim's patterns, and too many cells only where they are counted
 abbrev pub IsCauseFor : List (List ℕ × List ℕ) → List (List ℕ) → Claim → Cause → Type 0
-IsCauseFor files rules claim cause = HasCause files rules (patterns_of claim) cause × (cause ≡ TooManyCells → IsCounted (asks_of claim))
+IsCauseFor files rules claim cause = HasCause files rules (patterns_of claim) cause × (cause ≡ TooManyCells → IsCounted (asks_of claim.kind))
 
 -- no cause but out of memory is that of the claim: besides its pattern hasn't too many cells, where they are counted
 abbrev pub IsJudged : List (List ℕ × List ℕ) → List (List ℕ) → Claim → Picture → Picture → RuleValue → Type 0
-IsJudged files rules claim cells other rule = AgreeOn files rules (patterns_of claim) cells other rule × (IsCounted (asks_of claim) → HasFewCells (cell cells))
+IsJudged files rules claim cells other rule = AgreeOn files rules (patterns_of claim) cells other rule × (IsCounted (asks_of claim.kind) → HasFewCells (cell cells))
 
 -- a verdict is true: a yes of a claim that is true of the planes that the files mean, a no of one that is false, with the
 -- reason, and a refusal with its cause; a yes and a no come only where no cause but out of memory holds
 abbrev pub IsTrueVerdict : List (List ℕ × List ℕ) → List (List ℕ) → Claim → Verdict → Type 0
 IsTrueVerdict files rules claim Yes = (cells : Picture) × (other : Picture) × (rule : RuleValue) × IsJudged files rules claim cells other rule
-    × IsTrueClaim (next_of rule) cells other (asks_of claim)
+    × IsTrueClaim (next_of rule) cells other (asks_of claim.kind)
 IsTrueVerdict files rules claim (No why) = (cells : Picture) × (other : Picture) × (rule : RuleValue) × IsJudged files rules claim cells other rule
-    × IsReason (next_of rule) cells other (asks_of claim) why
+    × IsReason (next_of rule) cells other (asks_of claim.kind) why
 IsTrueVerdict files rules claim (Refused cause) = IsCauseFor files rules claim cause
 
 -- the answer has the number of the claim's line, and a true verdict

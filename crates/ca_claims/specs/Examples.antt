@@ -4,8 +4,21 @@ use Rattle.ca_plane.specs.Plane.{Picture}
 use Rattle.ca_rule.specs.Counts.{counts_of}
 use Rattle.ca_rule.specs.Next.{next_of}
 use Rattle.ca_rule.specs.declared.hood.Hood.TheVariants.{Moore}
-use Rattle.ca_claims.specs.declared.claims.line.Claim.TheVariants.{Still, Oscillator, Spaceship, Becomes}
-use Rattle.ca_claims.specs.Text.{Line, Rule, Load, Claims, Asked}
+use Rattle.ca_claims.specs.declared.claims.line.Kind.{Kind}
+use Rattle.ca_claims.specs.declared.claims.line.Kind.TheVariants.{Still, Oscillator, Spaceship, Becomes}
+use Rattle.ca_claims.specs.Text.{Claim, Line, Rule, Load, Claims, Asked}
+
+-- a claim about one pattern
+abbrev pub of_one : List ℕ → Kind → Claim
+of_one pattern kind = record { pattern = pattern; other = None; kind = kind }
+
+-- that it is a still life
+abbrev pub still_of : List ℕ → Claim
+still_of pattern = of_one pattern Still
+
+-- that one pattern becomes another
+abbrev pub becomes_of : List ℕ → ℕ → List ℕ → Claim
+becomes_of pattern generations other = record { pattern = pattern; other = Some other; kind = Becomes generations }
 
 -- lines, each ended by LF
 abbrev pub text_of : List (List ℕ) → List ℕ
@@ -26,8 +39,8 @@ every_text = text_of (
 abbrev pub every_said : List (Option Line)
 every_said =
     Some (Load (codes "b") (codes "block.rle")) ∷ None ∷ Some (Load (codes "g") (codes "glider.rle")) ∷ Some (Load (codes "c") (codes "block.rle"))
-    ∷ Some (Claims (Still (codes "b"))) ∷ Some (Claims (Oscillator (codes "c") 7)) ∷ None
-    ∷ Some (Claims (Spaceship (codes "g") 4 (neg_ℤ (pos 1)) (pos 2))) ∷ Some (Claims (Becomes (codes "g") 0 (codes "c"))) ∷ []
+    ∷ Some (Claims (still_of (codes "b"))) ∷ Some (Claims (of_one (codes "c") (Oscillator 7))) ∷ None
+    ∷ Some (Claims (of_one (codes "g") (Spaceship 4 (neg_ℤ (pos 1)) (pos 2)))) ∷ Some (Claims (becomes_of (codes "g") 0 (codes "c"))) ∷ []
 
 -- what it asks: each path once, in the order of the lines, and each claim with the number of its line
 abbrev pub every_asked : Asked
@@ -35,8 +48,8 @@ every_asked = record {
   paths = codes "block.rle" ∷ codes "glider.rle" ∷ [];
   rules = [];
   claims =
-      (5, Still (codes "block.rle")) ∷ (6, Oscillator (codes "block.rle") 7)
-      ∷ (8, Spaceship (codes "glider.rle") 4 (neg_ℤ (pos 1)) (pos 2)) ∷ (9, Becomes (codes "glider.rle") 0 (codes "block.rle")) ∷ [];
+      (5, still_of (codes "block.rle")) ∷ (6, of_one (codes "block.rle") (Oscillator 7))
+      ∷ (8, of_one (codes "glider.rle") (Spaceship 4 (neg_ℤ (pos 1)) (pos 2))) ∷ (9, becomes_of (codes "glider.rle") 0 (codes "block.rle")) ∷ [];
   patterns =
       ((codes "b", codes "block.rle") ∷ []) ∷ ((codes "c", codes "block.rle") ∷ []) ∷ ((codes "g", codes "glider.rle") ∷ [])
       ∷ ((codes "g", codes "glider.rle") ∷ (codes "c", codes "block.rle") ∷ []) ∷ [];
@@ -57,7 +70,7 @@ tables_text = text_of (codes "rule r" ∷ codes "load a p" ∷ codes "still a" �
 -- what its lines say
 abbrev pub tables_said : List (Option Line)
 tables_said =
-    Some (Rule (codes "r")) ∷ Some (Load (codes "a") (codes "p")) ∷ Some (Claims (Still (codes "a")))
+    Some (Rule (codes "r")) ∷ Some (Load (codes "a") (codes "p")) ∷ Some (Claims (still_of (codes "a")))
     ∷ Some (Rule (codes "q")) ∷ Some (Rule (codes "r")) ∷ []
 
 -- what it asks: the path on two lines is one of the files, and two of the rule tables
@@ -65,13 +78,13 @@ abbrev pub tables_asked : Asked
 tables_asked = record {
   paths = codes "r" ∷ codes "p" ∷ codes "q" ∷ [];
   rules = codes "r" ∷ codes "q" ∷ codes "r" ∷ [];
-  claims = (3, Still (codes "p")) ∷ [];
+  claims = (3, still_of (codes "p")) ∷ [];
   patterns = ((codes "a", codes "p") ∷ []) ∷ [];
 }
 
 -- a name that no claim is about
 abbrev pub spare_said : List (Option Line)
-spare_said = Some (Load (codes "a") (codes "p")) ∷ Some (Load (codes "b") (codes "q")) ∷ Some (Claims (Still (codes "a"))) ∷ []
+spare_said = Some (Load (codes "a") (codes "p")) ∷ Some (Load (codes "b") (codes "q")) ∷ Some (Claims (still_of (codes "a"))) ∷ []
 
 -- two paths where there may be one
 abbrev pub two_tables_text : List ℕ

@@ -14,7 +14,7 @@ path_at paths index = unwrap_or (slice_get paths index) []
 -- the claim's patterns have paths among these, and its numbers are good
 pub record IsAsked (paths : List (List ℕ)) (claim : ClaimOf ℕ) : Type 0 where
   pub within : AllByRecursion (λ i. i < length paths) (patterns_of claim)
-  pub numbers : HasGoodNumbers claim
+  pub numbers : HasGoodNumbers claim.kind
 
 -- the claim about the paths at its indices, with the number of its line
 abbrev pub numbered : List (List ℕ) → ClaimLine ℕ → ℕ × Claim
@@ -35,4 +35,4 @@ named names paths l = (l.line, about (named_at names paths) l.claim)
 -- the claim's patterns have names and paths among these, and its numbers are good
 pub record IsNamed (names paths : List (List ℕ)) (claim : ClaimOf Place) : Type 0 where
   pub within : AllByRecursion (λ p. (p.name < length names) × (p.path < length paths)) (patterns_of claim)
-  pub numbers : HasGoodNumbers claim
+  pub numbers : HasGoodNumbers claim.kind

@@ -1,10 +1,12 @@
 -- Claim texts: which lines say what (our own format; docs/CLAIMS.md).
-use Rattle.std.specs.Prelude.{◌≡◌, ℕ, ◌+◌, ◌-◌, ◌≤◌, ◌^◌, ℤ, pos, neg_ℤ, ◌≤ℤ◌, List, [], ◌∷◌, ◌++◌, map, Bool, true, false, not, Option, Some, None, IsSome, unwrap_or, codes, filter, if◌then◌else◌}
+use Rattle.std.specs.Prelude.{◌≡◌, ℕ, ◌+◌, ◌-◌, ◌≤◌, ◌^◌, ℤ, pos, neg_ℤ, ◌≤ℤ◌, List, [], ◌∷◌, ◌++◌, map, Bool, true, false, not, Option, Some, None, IsSome, unwrap_or, option_map, codes, filter, if◌then◌else◌}
 use Rattle.std.specs.Str.{bytes_eq}
 use Rattle.std.specs.Bool.{nat_eq}
 use Rattle.std.specs.List.{AllByRecursion, starts_with}
+use Rattle.std.specs.Option.{option_to_list}
 use Rattle.ca_claims.specs.declared.claims.line.Claim.{Claim as ClaimOf}
-use Rattle.ca_claims.specs.declared.claims.line.Claim.TheVariants.{Still, Oscillator, Spaceship, Becomes}
+use Rattle.ca_claims.specs.declared.claims.line.Kind.{Kind}
+use Rattle.ca_claims.specs.declared.claims.line.Kind.TheVariants.{Still, Oscillator, Spaceship, Becomes}
 use Rattle.ca_plane.specs.Bytes.{lines_of, words_of, AreDigits, IsInteger, value}
 
 -- a claim about patterns, which are given by their names in a text, and by the paths of their files once names are resolved
@@ -13,17 +15,11 @@ Claim = ClaimOf (List ℕ)
 
 -- the patterns that a claim is about
 abbrev pub patterns_of : {P : Type 0} → ClaimOf P → List P
-patterns_of (Still pattern) = pattern ∷ []
-patterns_of (Oscillator pattern period) = pattern ∷ []
-patterns_of (Spaceship pattern period dx dy) = pattern ∷ []
-patterns_of (Becomes pattern generations other) = pattern ∷ other ∷ []
+patterns_of claim = claim.pattern ∷ option_to_list claim.other
 
 -- the same claim, with f of what gives each pattern
 abbrev pub about : {P Q : Type 0} → (P → Q) → ClaimOf P → ClaimOf Q
-about f (Still pattern) = Still (f pattern)
-about f (Oscillator pattern period) = Oscillator (f pattern) period
-about f (Spaceship pattern period dx dy) = Spaceship (f pattern) period dx dy
-about f (Becomes pattern generations other) = Becomes (f pattern) generations (f other)
+about f claim = record { pattern = f claim.pattern; other = option_map f claim.other; kind = claim.kind }
 
 -- the greatest shift in one direction
 abbrev pub greatest_shift : ℕ
@@ -41,13 +37,13 @@ longest_period = 2 ^ 32 - 1
 abbrev pub IsShift : ℤ → Type 0
 IsShift d = (neg_ℤ (pos greatest_shift) ≤ℤ d) × (d ≤ℤ pos greatest_shift)
 
--- the numbers of a claim are within their limits: a period is at most the longest, an oscillator's at least 2 and a spaceship's
+-- the numbers of a kind of claim are within their limits: a period is at most the longest, an oscillator's at least 2 and a spaceship's
 -- at least 1; a spaceship is shifted, by no more than the greatest shift to either side; generations are no more than the most generations
-abbrev pub HasGoodNumbers : {P : Type 0} → ClaimOf P → Type 0
-HasGoodNumbers (Still pattern) = Unit {0}
-HasGoodNumbers (Oscillator pattern period) = (2 ≤ period) × (period ≤ longest_period)
-HasGoodNumbers (Spaceship pattern period dx dy) = (1 ≤ period) × (period ≤ longest_period) × IsShift dx × IsShift dy × ((dx ≡ pos 0) → (dy ≡ pos 0) → ⊥)
-HasGoodNumbers (Becomes pattern generations other) = generations ≤ most_generations
+abbrev pub HasGoodNumbers : Kind → Type 0
+HasGoodNumbers Still = Unit {0}
+HasGoodNumbers (Oscillator period) = (2 ≤ period) × (period ≤ longest_period)
+HasGoodNumbers (Spaceship period dx dy) = (1 ≤ period) × (period ≤ longest_period) × IsShift dx × IsShift dy × ((dx ≡ pos 0) → (dy ≡ pos 0) → ⊥)
+HasGoodNumbers (Becomes generations) = generations ≤ most_generations
 
 -- what a line says: that a rule table is at a path, that a name is loaded from a path, or a claim
 pub data Line : Type 0 where
@@ -60,18 +56,22 @@ abbrev pub is_skipped : List (List ℕ) → Bool
 is_skipped [] = true
 is_skipped (w ∷ ws) = starts_with nat_eq w (codes "#")
 
--- what a line says by its words: `rule PATH`, `load NAME PATH`, `still NAME`, `oscillator NAME P`, `spaceship NAME P DX DY`, or
--- `becomes NAME N NAME`
+-- the words of a claim of this kind, about the pattern of a name and, if it is about two, of another: `still NAME`,
+-- `oscillator NAME P`, `spaceship NAME P DX DY`, or `becomes NAME N NAME`
+abbrev pub WordsClaim : List (List ℕ) → (name : List ℕ) (other : Option (List ℕ)) → Kind → Type 0
+WordsClaim words name other Still = (words ≡ codes "still" ∷ name ∷ []) × (other ≡ None)
+WordsClaim words name other (Oscillator period) = (p : List ℕ) ×
+    (words ≡ codes "oscillator" ∷ name ∷ p ∷ []) × AreDigits p × (period ≡ value p) × (other ≡ None)
+WordsClaim words name other (Spaceship period dx dy) = (p : List ℕ) × (x : List ℕ) × (y : List ℕ) ×
+    (words ≡ codes "spaceship" ∷ name ∷ p ∷ x ∷ y ∷ []) × AreDigits p × (period ≡ value p) × IsInteger x dx × IsInteger y dy × (other ≡ None)
+WordsClaim words name other (Becomes generations) = (n : List ℕ) × (second : List ℕ) ×
+    (words ≡ codes "becomes" ∷ name ∷ n ∷ second ∷ []) × AreDigits n × (generations ≡ value n) × (other ≡ Some second)
+
+-- what a line says by its words: `rule PATH`, `load NAME PATH`, or a claim
 abbrev pub WordsSay : List (List ℕ) → Line → Type 0
 WordsSay words (Rule path) = words ≡ codes "rule" ∷ path ∷ []
 WordsSay words (Load name path) = words ≡ codes "load" ∷ name ∷ path ∷ []
-WordsSay words (Claims (Still name)) = words ≡ codes "still" ∷ name ∷ []
-WordsSay words (Claims (Oscillator name period)) = (p : List ℕ) ×
-    (words ≡ codes "oscillator" ∷ name ∷ p ∷ []) × AreDigits p × (period ≡ value p)
-WordsSay words (Claims (Spaceship name period dx dy)) = (p : List ℕ) × (x : List ℕ) × (y : List ℕ) ×
-    (words ≡ codes "spaceship" ∷ name ∷ p ∷ x ∷ y ∷ []) × AreDigits p × (period ≡ value p) × IsInteger x dx × IsInteger y dy
-WordsSay words (Claims (Becomes name generations other)) = (n : List ℕ) ×
-    (words ≡ codes "becomes" ∷ name ∷ n ∷ other ∷ []) × AreDigits n × (generations ≡ value n)
+WordsSay words (Claims claim) = WordsClaim words claim.pattern claim.other claim.kind
 
 -- the path that a name is loaded from
 abbrev pub path_of : List Line → List ℕ → Option (List ℕ)
@@ -88,7 +88,7 @@ AreLoaded earlier names = AllByRecursion (λ n. IsSome (path_of earlier n)) name
 abbrev pub IsAllowed : List Line → Line → Type 0
 IsAllowed earlier (Rule path) = Unit {0}
 IsAllowed earlier (Load name path) = path_of earlier name ≡ None
-IsAllowed earlier (Claims claim) = HasGoodNumbers claim × AreLoaded earlier (patterns_of claim)
+IsAllowed earlier (Claims claim) = HasGoodNumbers claim.kind × AreLoaded earlier (patterns_of claim)
 
 -- lines that follow what earlier ones say, and what each of them says
 abbrev pub LinesSay : List Line → List (List ℕ) → List (Option Line) → Type 0

@@ -22,12 +22,12 @@ AreMisspelled earlier words = (is_skipped words ≡ false) × ((line : Line) →
 
 -- a claim with a number outside its limits
 abbrev pub HaveBadNumber : List Line → List (List ℕ) → Type 0
-HaveBadNumber earlier words = (is_skipped words ≡ false) × (claim : Claim) × WordsSay words (Claims claim) × (HasGoodNumbers claim → ⊥)
+HaveBadNumber earlier words = (is_skipped words ≡ false) × (claim : Claim) × WordsSay words (Claims claim) × (HasGoodNumbers claim.kind → ⊥)
 
 -- a claim with good numbers, about a name that no earlier line loads
 abbrev pub AskUnknown : List Line → List (List ℕ) → Type 0
 AskUnknown earlier words =
-    (is_skipped words ≡ false) × (claim : Claim) × WordsSay words (Claims claim) × HasGoodNumbers claim × (AreLoaded earlier (patterns_of claim) → ⊥)
+    (is_skipped words ≡ false) × (claim : Claim) × WordsSay words (Claims claim) × HasGoodNumbers claim.kind × (AreLoaded earlier (patterns_of claim) → ⊥)
 
 -- a name that an earlier line loads is loaded again
 abbrev pub LoadTaken : List Line → List (List ℕ) → Type 0

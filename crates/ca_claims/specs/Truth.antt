@@ -2,8 +2,8 @@
 use Rattle.std.specs.Prelude.{◌≡◌, ◌≢◌, ℕ, ◌≤◌, ◌<◌, ℤ, pos, List, true, false, IsTrue}
 use Rattle.ca_plane.specs.Plane.{Picture, cell, shifted, IsLive}
 use Rattle.ca_plane.specs.Generations.{after, IsAfter}
-use Rattle.ca_claims.specs.declared.claims.line.Claim.{Claim as ClaimOf}
-use Rattle.ca_claims.specs.declared.claims.line.Claim.TheVariants.{Still, Oscillator, Spaceship, Becomes}
+use Rattle.ca_claims.specs.declared.claims.line.Kind.{Kind}
+use Rattle.ca_claims.specs.declared.claims.line.Kind.TheVariants.{Still, Oscillator, Spaceship, Becomes}
 use Rattle.ca_claims.specs.declared.claims.asks.Asks.{Asks}
 use Rattle.ca_claims.specs.declared.claims.asks.Wanted.{Wanted}
 use Rattle.ca_claims.specs.declared.claims.asks.Wanted.TheVariants.{Own, Other}
@@ -15,11 +15,11 @@ use Rattle.ca_claims.specs.declared.verdict.Why.TheVariants.{Empty, Differs, Ear
 -- what each kind of claim asks: whether the pattern must be live; after how many generations which cells are wanted,
 -- the pattern's own or the other's, moved by (dx, dy); and what no earlier time, starting at 1, may show: nothing is
 -- barred, or the pattern in its place, or the pattern anywhere
-abbrev pub asks_of : {P : Type 0} → ClaimOf P → Asks
-asks_of (Still pattern) = record { live = true; generations = 1; wanted = Own; dx = pos 0; dy = pos 0; barred = Nothing }
-asks_of (Oscillator pattern period) = record { live = true; generations = period; wanted = Own; dx = pos 0; dy = pos 0; barred = InPlace }
-asks_of (Spaceship pattern period dx dy) = record { live = true; generations = period; wanted = Own; dx = dx; dy = dy; barred = Anywhere }
-asks_of (Becomes pattern generations other) = record { live = false; generations = generations; wanted = Other; dx = pos 0; dy = pos 0; barred = Nothing }
+abbrev pub asks_of : Kind → Asks
+asks_of Still = record { live = true; generations = 1; wanted = Own; dx = pos 0; dy = pos 0; barred = Nothing }
+asks_of (Oscillator period) = record { live = true; generations = period; wanted = Own; dx = pos 0; dy = pos 0; barred = InPlace }
+asks_of (Spaceship period dx dy) = record { live = true; generations = period; wanted = Own; dx = dx; dy = dy; barred = Anywhere }
+asks_of (Becomes generations) = record { live = false; generations = generations; wanted = Other; dx = pos 0; dy = pos 0; barred = Nothing }
 
 -- the cells that are wanted: the pattern's own, or the other's
 abbrev pub whose : Wanted → Picture → Picture → Picture

@@ -2,10 +2,9 @@
 
 ghost use Rattle.std.specs.Prelude.{◌≡◌, ◌≢◌, ℕ, List, [], ◌∷◌, Option, Some, None, codes};
 ghost use Rattle.ca_claims.specs.Text.{Line, Load, Claims as Claiming, IsClaimText, asked_by};
-ghost use Rattle.ca_claims.specs.declared.claims.line.Claim.TheVariants.{Still as StillOf};
 ghost use Rattle.ca_claims.specs.Needed.{IsNeeded};
 ghost use Rattle.ca_claims.specs.TextFaults.{IsFirstFault};
-ghost use Rattle.ca_claims.specs.Examples.{block_text, every_text, every_said, every_asked, table_text, table_said, tables_text, tables_said, tables_asked, spare_said, two_tables_text, unknown_text, other_unknown_text, taken_text, misspelled_text, no_number_text, no_shift_text, no_period_text};
+ghost use Rattle.ca_claims.specs.Examples.{still_of, block_text, every_text, every_said, every_asked, table_text, table_said, tables_text, tables_said, tables_asked, spare_said, two_tables_text, unknown_text, other_unknown_text, taken_text, misspelled_text, no_number_text, no_shift_text, no_period_text};
 ghost use Rattle.ca_claims.specs.declared.fault.ClaimFault.{ClaimFault};
 ghost use Rattle.ca_claims.specs.declared.fault.ClaimFault.TheVariants as fault;
 
@@ -27,9 +26,9 @@ pub fn one_fault()
 /// What the definitions say of small texts.
 pub fn worked_examples()
     // A comment, a blank line, a name and a claim, which is on line 4 and about the name's path.
-    ensures lines { IsClaimText block_text (None ∷ None ∷ Some (Load (codes "b") (codes "block.rle")) ∷ Some (Claiming (StillOf (codes "b"))) ∷ []) }
-    ensures asked { asked_by (None ∷ None ∷ Some (Load (codes "b") (codes "block.rle")) ∷ Some (Claiming (StillOf (codes "b"))) ∷ [])
-        ≡ record { paths = codes "block.rle" ∷ []; rules = []; claims = (4, StillOf (codes "block.rle")) ∷ []; patterns = ((codes "b", codes "block.rle") ∷ []) ∷ [] } }
+    ensures lines { IsClaimText block_text (None ∷ None ∷ Some (Load (codes "b") (codes "block.rle")) ∷ Some (Claiming (still_of (codes "b"))) ∷ []) }
+    ensures asked { asked_by (None ∷ None ∷ Some (Load (codes "b") (codes "block.rle")) ∷ Some (Claiming (still_of (codes "b"))) ∷ [])
+        ≡ record { paths = codes "block.rle" ∷ []; rules = []; claims = (4, still_of (codes "block.rle")) ∷ []; patterns = ((codes "b", codes "block.rle") ∷ []) ∷ [] } }
     // All claims.
     ensures every_line { IsClaimText every_text every_said }
     ensures every_claim { asked_by every_said ≡ every_asked }

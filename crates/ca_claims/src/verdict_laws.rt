@@ -5,7 +5,8 @@
 ghost use Rattle.std.specs.Prelude.{◌≡◌, ◌≢◌, ℕ, ◌≤◌, ◌<◌, ◌↔◌, ℤ, List, pos, negsuc};
 ghost use Rattle.ca_plane.specs.Plane.{Picture, shifted, IsLive};
 ghost use Rattle.ca_plane.specs.Generations.{after, IsAfter};
-ghost use Rattle.ca_claims.specs.declared.claims.line.Claim.TheVariants.{Still, Oscillator, Spaceship, Becomes};
+ghost use Rattle.ca_claims.specs.declared.claims.line.Kind.{Kind};
+ghost use Rattle.ca_claims.specs.declared.claims.line.Kind.TheVariants.{Still, Oscillator, Spaceship, Becomes};
 ghost use Rattle.ca_claims.specs.Text.{Claim};
 ghost use Rattle.ca_claims.specs.Means.{Means};
 ghost use Rattle.ca_claims.specs.Truth.{asks_of, IsChanged, IsNowhere, IsTrueClaim, IsReason, IsSameReason};
@@ -19,25 +20,25 @@ ghost use Rattle.ca_rule.specs.declared.table.fault.TableFault.{TableFault};
 
 /// What it means that a claim of each kind is true.
 pub fn true_claims()
-    ensures still { (next : List ℕ → ℕ) (cells other : Picture) (pattern : List ℕ) → IsTrueClaim next cells other (asks_of (Still pattern)) ↔ (IsLive cells × IsAfter next cells 1 cells) }
-    ensures oscillator { (next : List ℕ → ℕ) (cells other : Picture) (pattern : List ℕ) (period : ℕ) → IsTrueClaim next cells other (asks_of (Oscillator pattern period))
+    ensures still { (next : List ℕ → ℕ) (cells other : Picture) → IsTrueClaim next cells other (asks_of Still) ↔ (IsLive cells × IsAfter next cells 1 cells) }
+    ensures oscillator { (next : List ℕ → ℕ) (cells other : Picture) (period : ℕ) → IsTrueClaim next cells other (asks_of (Oscillator period))
         ↔ (IsLive cells × IsAfter next cells period cells × ((m : ℕ) → 1 ≤ m → m < period → IsChanged next cells m)) }
-    ensures spaceship { (next : List ℕ → ℕ) (cells other : Picture) (pattern : List ℕ) (period : ℕ) (dx dy : ℤ) → IsTrueClaim next cells other (asks_of (Spaceship pattern period dx dy))
+    ensures spaceship { (next : List ℕ → ℕ) (cells other : Picture) (period : ℕ) (dx dy : ℤ) → IsTrueClaim next cells other (asks_of (Spaceship period dx dy))
         ↔ (IsLive cells × IsAfter next cells period (shifted cells dx dy) × ((m : ℕ) → 1 ≤ m → m < period → IsNowhere next cells m)) }
-    ensures becomes { (next : List ℕ → ℕ) (cells other : Picture) (pattern : List ℕ) (generations : ℕ) (other_pattern : List ℕ)
-        → IsTrueClaim next cells other (asks_of (Becomes pattern generations other_pattern)) ↔ IsAfter next cells generations other }
+    ensures becomes { (next : List ℕ → ℕ) (cells other : Picture) (generations : ℕ)
+        → IsTrueClaim next cells other (asks_of (Becomes generations)) ↔ IsAfter next cells generations other }
 {}
 
 /// Where there is a reason against a claim, the claim isn't true.
 pub fn no_is_false()
-    ensures { (next : List ℕ → ℕ) (cells other : Picture) (claim : Claim) (why : Why) → IsReason next cells other (asks_of claim) why → IsTrueClaim next cells other (asks_of claim) → ⊥ }
+    ensures { (next : List ℕ → ℕ) (cells other : Picture) (kind : Kind) (why : Why) → IsReason next cells other (asks_of kind) why → IsTrueClaim next cells other (asks_of kind) → ⊥ }
 {}
 
 /// A claim is false for one kind of reason at most: two reasons are both want of live cells, or both cells that differ after
 /// the claimed generations (which cells is open), or the same earlier return.
 pub fn one_reason()
-    ensures { (next : List ℕ → ℕ) (cells other : Picture) (claim : Claim) (one two : Why) → IsReason next cells other (asks_of claim) one
-        → IsReason next cells other (asks_of claim) two → IsSameReason one two }
+    ensures { (next : List ℕ → ℕ) (cells other : Picture) (kind : Kind) (one two : Why) → IsReason next cells other (asks_of kind) one
+        → IsReason next cells other (asks_of kind) two → IsSameReason one two }
 {}
 
 /// The bytes of a file mean one picture, one rule text and one generation at most.

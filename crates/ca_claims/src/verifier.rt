@@ -89,7 +89,7 @@ pub(crate) fn verdict_on<'a, O: Observer>(
     observer: &mut O,
 ) -> Judged
     requires within { AllByRecursion (λ i. i < length found.now) (patterns_of claim.now) }
-    requires numbers { HasGoodNumbers claim.now }
+    requires numbers { HasGoodNumbers claim.now.kind }
     ensures { (files : List (List ℕ × List ℕ)) (paths rules : List (List ℕ)) → map option_copied found.now ≡ map (bytes_at files) paths → AreRead files paths rules tables.now
         → IsJudgedOn files paths rules (about (path_at paths) claim.now) result.verdict result.about }
 {
@@ -142,12 +142,12 @@ fn judge<'a, O: Observer>(
     observer: &mut O,
 ) -> Result<Verdict, Refusal>
     requires within { AllByRecursion (λ i. i < length found.now) (patterns_of claim.now) }
-    requires numbers { HasGoodNumbers claim.now }
+    requires numbers { HasGoodNumbers claim.now.kind }
     ensures { (files : List (List ℕ × List ℕ)) (paths rules : List (List ℕ)) → map option_copied found.now ≡ map (bytes_at files) paths → AreRead files paths rules tables.now
         → MatchResult result (λ verdict. IsJudgedOn files paths rules (about (path_at paths) claim.now) verdict abouts.Claim)
         (λ r. IsJudgedOn files paths rules (about (path_at paths) claim.now) (Refused r.cause) r.about) }
 {
-    let asks = claim.asks();
+    let asks = claim.kind.asks();
     let prepared = prepare(
         alloc,
         library,
@@ -185,11 +185,9 @@ fn decide_on<O: Observer>(
 fn places_of(claim: &Claim<usize>) -> OneOrTwo<usize>
     ensures { IsEachOnce (items result) (patterns_of claim.now) }
 {
-    match *claim {
-        Claim::Still { pattern } => OneOrTwo::One(pattern),
-        Claim::Oscillator { pattern, .. } => OneOrTwo::One(pattern),
-        Claim::Spaceship { pattern, .. } => OneOrTwo::One(pattern),
-        Claim::Becomes { pattern, other, .. } => each_once(pattern, other),
+    match claim.other {
+        None => OneOrTwo::One(claim.pattern),
+        Some(other) => each_once(claim.pattern, other),
     }
 }
 

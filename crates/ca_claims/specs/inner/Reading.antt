@@ -6,6 +6,7 @@ use Rattle.std.specs.List.{list_any, AllByRecursion}
 use Rattle.std.specs.Str.{bytes_eq}
 use Rattle.ca_claims.specs.declared.claims.line.Claim.{Claim as ClaimOf}
 use Rattle.ca_claims.specs.declared.claims.line.ClaimLine.{ClaimLine}
+use Rattle.ca_claims.specs.declared.claims.line.Kind.{Kind}
 use Rattle.ca_claims.specs.declared.claims.line.Place.{Place}
 use Rattle.ca_claims.specs.declared.claims.reading.Reading.{Reading}
 use Rattle.ca_claims.specs.declared.claims.words.LineKind.{LineKind}
@@ -31,23 +32,23 @@ pub record IsHeldShift (n held : ℤ) : Type 0 where
   pub least : neg_ℤ (pos (2 ^ 63)) ≤ℤ held
   pub greatest : held <ℤ pos (2 ^ 63)
 
--- a claim is held with numbers of 64 bits: as itself where either of them has good numbers
-pub record IsHeldClaim (claim held : text.Claim) : Type 0 where
-  pub exact : text.HasGoodNumbers claim → claim ≡ held
-  pub sound : text.HasGoodNumbers held → claim ≡ held
+-- a kind of claim is held with numbers of 64 bits: as itself where either of them has good numbers
+pub record IsHeldKind (kind held : Kind) : Type 0 where
+  pub exact : text.HasGoodNumbers kind → kind ≡ held
+  pub sound : text.HasGoodNumbers held → kind ≡ held
 
 -- the words make a claim, which is held so
 abbrev pub MakesClaim : List (List ℕ) → ClaimOf (Bor (List ℕ)) → Type 0
-MakesClaim words held = (claim : text.Claim) × text.WordsSay words (text.Claims claim) × IsHeldClaim claim (claim_of held)
+MakesClaim words held = (kind : Kind) × text.WordsClaim words (claim_of held).pattern (claim_of held).other kind × IsHeldKind kind held.kind
 
 -- the kind of a line with these words
 abbrev pub IsKind : List (List ℕ) → LineKind → Type 0
 IsKind words Skipped = text.is_skipped words ≡ true
 IsKind words (Rule path) = (text.is_skipped words ≡ false) × text.WordsSay words (text.Rule path.now)
 IsKind words (Load name path) = (text.is_skipped words ≡ false) × text.WordsSay words (text.Load name.now path.now)
-IsKind words (Claim held) = (text.is_skipped words ≡ false) × text.WordsSay words (text.Claims (claim_of held)) × text.HasGoodNumbers (claim_of held)
+IsKind words (Claim held) = (text.is_skipped words ≡ false) × text.WordsSay words (text.Claims (claim_of held)) × text.HasGoodNumbers held.kind
 IsKind words OutsideLimits =
-    (text.is_skipped words ≡ false) × (claim : text.Claim) × text.WordsSay words (text.Claims claim) × (text.HasGoodNumbers claim → ⊥)
+    (text.is_skipped words ≡ false) × (claim : text.Claim) × text.WordsSay words (text.Claims claim) × (text.HasGoodNumbers claim.kind → ⊥)
 IsKind words Misspelled = (text.is_skipped words ≡ false) × ((line : text.Line) → text.WordsSay words line → ⊥)
 
 -- the indices of a name and of its path

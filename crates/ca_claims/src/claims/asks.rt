@@ -3,7 +3,7 @@
 ghost use Rattle.std.specs.Prelude.{◌≡◌};
 ghost use Rattle.ca_claims.specs.Truth.{asks_of};
 
-use super::line::Claim;
+use super::line::Kind;
 
 /// Whose cells the claim wants to see.
 #[derive(Clone, Copy)]
@@ -42,10 +42,10 @@ pub(crate) struct Asks {
     pub(crate) barred: Barred,
 }
 
-impl<P> Claim<P> {
-    /// What the claim asks.
-    pub(crate) fn asks(&self) -> Asks
-        ensures { result ≡ asks_of self.now }
+impl Kind {
+    /// What a claim of this kind asks.
+    pub(crate) fn asks(self) -> Asks
+        ensures { result ≡ asks_of self }
     {
         let still = Asks {
             live: true,
@@ -55,21 +55,21 @@ impl<P> Claim<P> {
             dy: 0,
             barred: Barred::Nothing,
         };
-        match *self {
-            Claim::Still { .. } => still,
-            Claim::Oscillator { period, .. } => Asks {
+        match self {
+            Kind::Still => still,
+            Kind::Oscillator { period } => Asks {
                 generations: period,
                 barred: Barred::InPlace,
                 ..still
             },
-            Claim::Spaceship { period, dx, dy, .. } => Asks {
+            Kind::Spaceship { period, dx, dy } => Asks {
                 generations: period,
                 dx,
                 dy,
                 barred: Barred::Anywhere,
                 ..still
             },
-            Claim::Becomes { generations, .. } => Asks {
+            Kind::Becomes { generations } => Asks {
                 live: false,
                 generations,
                 wanted: Wanted::Other,

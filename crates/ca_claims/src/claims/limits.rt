@@ -3,7 +3,7 @@
 ghost use Rattle.std.specs.Prelude.{◌≡◌, ◌≤◌, ◌<◌, pos, IsTrue, ◌↔◌};
 ghost use Rattle.ca_claims.specs.Text.{longest_period, HasGoodNumbers, IsShift};
 
-use super::line::Claim;
+use super::line::Kind;
 
 // The longest period.
 const LONGEST_PERIOD: u64 = (1 << 32) - 1;
@@ -12,16 +12,16 @@ const MOST_GENERATIONS: u64 = 1 << 60;
 // The greatest shift in one direction.
 const GREATEST_SHIFT: i64 = 1 << 60;
 
-impl<P> Claim<P> {
-    /// Whether the claim's numbers are within their limits.
-    pub(crate) fn has_good_numbers(&self) -> bool
-        ensures { IsTrue result ↔ HasGoodNumbers self.now }
+impl Kind {
+    /// Whether the numbers of a claim of this kind are within their limits.
+    pub(crate) fn has_good_numbers(self) -> bool
+        ensures { IsTrue result ↔ HasGoodNumbers self }
     {
-        match *self {
-            Claim::Still { .. } => true,
-            Claim::Oscillator { period, .. } => is_period(2, period),
-            Claim::Spaceship { period, dx, dy, .. } => is_period(1, period) && is_move(dx, dy),
-            Claim::Becomes { generations, .. } => generations <= MOST_GENERATIONS,
+        match self {
+            Kind::Still => true,
+            Kind::Oscillator { period } => is_period(2, period),
+            Kind::Spaceship { period, dx, dy } => is_period(1, period) && is_move(dx, dy),
+            Kind::Becomes { generations } => generations <= MOST_GENERATIONS,
         }
     }
 }

@@ -9,30 +9,25 @@ use crate::verifier::OneOrTwo;
 /// What is claimed of patterns, each of which is given by a `P`: by its name, or by the index of its path among the text's
 /// paths, or by both.
 #[derive(Clone, Copy)]
-pub(crate) enum Claim<P> {
+pub(crate) struct Claim<P> {
+    pub(crate) pattern: P,
+    /// The second pattern that the claim names, if it names two.
+    pub(crate) other: Option<P>,
+    pub(crate) kind: Kind,
+}
+
+/// What is claimed, the patterns apart.
+#[derive(Clone, Copy)]
+pub(crate) enum Kind {
     /// The pattern is live, and one generation on it is what it was.
-    Still {
-        pattern: P,
-    },
+    Still,
     /// The pattern is live and is back after the period. At no earlier time, starting at 1, is it back.
-    Oscillator {
-        pattern: P,
-        period: u64,
-    },
+    Oscillator { period: u64 },
     /// The pattern is live, and after the period it is moved by the shift. At no earlier time, starting at 1, is it
     /// back, however moved.
-    Spaceship {
-        pattern: P,
-        period: u64,
-        dx: i64,
-        dy: i64,
-    },
+    Spaceship { period: u64, dx: i64, dy: i64 },
     /// After the generations the pattern's plane is that of the other pattern, cell for cell.
-    Becomes {
-        pattern: P,
-        generations: u64,
-        other: P,
-    },
+    Becomes { generations: u64 },
 }
 
 /// The index of a pattern's name among the text's names, and that of its path among the paths.
@@ -49,51 +44,31 @@ pub(crate) struct Named<'a> {
     pub(crate) path: usize,
 }
 
-impl Claim<Place> {
+impl<P: Copy> Claim<P> {
     /// The patterns that the claim is about.
-    pub(crate) fn patterns(&self) -> OneOrTwo<Place>
+    pub(crate) fn patterns(&self) -> OneOrTwo<P>
         ensures { items result ≡ patterns_of self.now }
     {
-        match *self {
-            Claim::Still { pattern } => OneOrTwo::One(pattern),
-            Claim::Oscillator { pattern, .. } => OneOrTwo::One(pattern),
-            Claim::Spaceship { pattern, .. } => OneOrTwo::One(pattern),
-            Claim::Becomes { pattern, other, .. } => OneOrTwo::Two(pattern, other),
+        match self.other {
+            None => OneOrTwo::One(self.pattern),
+            Some(other) => OneOrTwo::Two(self.pattern, other),
         }
     }
+}
 
+impl Claim<Place> {
     /// The claim about the paths alone.
     pub(crate) fn by_path(&self) -> Claim<usize>
         ensures { result ≡ about (λ p. p.path) self.now }
     {
-        match *self {
-            Claim::Still { pattern } => Claim::Still {
-                pattern: pattern.path,
-            },
-            Claim::Oscillator { pattern, period } => Claim::Oscillator {
-                pattern: pattern.path,
-                period,
-            },
-            Claim::Spaceship {
-                pattern,
-                period,
-                dx,
-                dy,
-            } => Claim::Spaceship {
-                pattern: pattern.path,
-                period,
-                dx,
-                dy,
-            },
-            Claim::Becomes {
-                pattern,
-                generations,
-                other,
-            } => Claim::Becomes {
-                pattern: pattern.path,
-                generations,
-                other: other.path,
-            },
+        let other = match self.other {
+            None => None,
+            Some(other) => Some(other.path),
+        };
+        Claim {
+            pattern: self.pattern.path,
+            other,
+            kind: self.kind,
         }
     }
 }

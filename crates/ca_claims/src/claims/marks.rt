@@ -32,13 +32,8 @@ fn mark_patterns(marks: &mut [bool], claim: &Claim<Place>)
     requires { AllByRecursion (λ p. p.path < length marks.old) (patterns_of claim.now) }
     ensures { marks.new ≡ marked marks.old (map (λ p. p.path) (patterns_of claim.now)) }
 {
-    match *claim {
-        Claim::Still { pattern } => marks[pattern.path] = true,
-        Claim::Oscillator { pattern, .. } => marks[pattern.path] = true,
-        Claim::Spaceship { pattern, .. } => marks[pattern.path] = true,
-        Claim::Becomes { pattern, other, .. } => {
-            marks[pattern.path] = true;
-            marks[other.path] = true;
-        }
+    marks[claim.pattern.path] = true;
+    if let Some(other) = claim.other {
+        marks[other.path] = true;
     }
 }

@@ -112,48 +112,21 @@ impl<'a> Reading<'a> {
     fn placed(&self, claim: &Claim<&'a [u8]>) -> Option<Claim<Place>>
         ensures { MatchOption result (AreKnown (place_of self.now.places) (claim_of claim.now) → ⊥) (λ c. AreKnown (place_of self.now.places) (claim_of claim.now) × (c ≡ at_places (place_of self.now.places) (claim_of claim.now))) }
     {
-        match *claim {
-            Claim::Still { pattern } => {
-                let pattern = self.place(pattern)?;
-                Some(Claim::Still { pattern })
-            }
-            Claim::Oscillator { pattern, period } => {
-                let pattern = self.place(pattern)?;
-                Some(Claim::Oscillator { pattern, period })
-            }
-            Claim::Spaceship {
-                pattern,
-                period,
-                dx,
-                dy,
-            } => {
-                let pattern = self.place(pattern)?;
-                Some(Claim::Spaceship {
-                    pattern,
-                    period,
-                    dx,
-                    dy,
-                })
-            }
-            Claim::Becomes {
-                pattern,
-                generations,
-                other,
-            } => {
-                let pattern = self.place(pattern)?;
-                let other = self.place(other)?;
-                Some(Claim::Becomes {
-                    pattern,
-                    generations,
-                    other,
-                })
-            }
-        }
+        let pattern = self.place(claim.pattern)?;
+        let other = match claim.other {
+            None => None,
+            Some(other) => Some(self.place(other)?),
+        };
+        Some(Claim {
+            pattern,
+            other,
+            kind: claim.kind,
+        })
     }
 
     /// The line with this number makes the claim.
     fn claim(&mut self, line: u64, claim: &Claim<&'a [u8]>) -> Result<(), ClaimFault>
-        requires { HasGoodNumbers (claim_of claim.now) }
+        requires { HasGoodNumbers claim.now.kind }
         ensures claimed { OnOk result ((said : List (Option Line)) → IsReading said self.old → line ≡ length said + 1
             → IsAllowed (spoken said) (Claiming (claim_of claim.now))
             × IsReading (said ++ Some (Claiming (claim_of claim.now)) ∷ []) self.new) }

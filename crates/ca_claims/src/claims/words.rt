@@ -5,7 +5,7 @@ ghost use Rattle.ca_plane.specs.Bytes.{Every, is_line_end, words_of};
 ghost use Rattle.ca_claims.specs.Text.{Claim as TextClaim, Claims, WordsSay, is_skipped};
 ghost use Rattle.ca_claims.specs.inner.Reading.{IsKind, MakesClaim};
 
-use super::line::Claim;
+use super::line::{Claim, Kind};
 use super::numbers::integer_of;
 use ca_plane::bytes::{next_word, whole_number};
 
@@ -96,7 +96,7 @@ pub(crate) fn line_kind(line: &[u8]) -> LineKind<'_>
     let Some(claim) = claim(keyword, rest) else {
         return LineKind::Misspelled;
     };
-    if !claim.has_good_numbers() {
+    if !claim.kind.has_good_numbers() {
         return LineKind::OutsideLimits;
     }
     LineKind::Claim(claim)
@@ -150,7 +150,11 @@ fn still(words: &[u8]) -> Option<Claim<&[u8]>>
     ensures { MatchOption result ((c : TextClaim) → WordsSay (codes "still" ∷ words_of words.now) (Claims c) → ⊥) (λ c. MakesClaim (codes "still" ∷ words_of words.now) c) }
 {
     let name = one_word(words)?;
-    Some(Claim::Still { pattern: name })
+    Some(Claim {
+        pattern: name,
+        other: None,
+        kind: Kind::Still,
+    })
 }
 
 /// The claim of a line whose keyword is `oscillator`, by the words after it.
@@ -160,9 +164,10 @@ fn oscillator(words: &[u8]) -> Option<Claim<&[u8]>>
 {
     let (name, period) = two_words(words)?;
     let period = whole_number(period)?;
-    Some(Claim::Oscillator {
+    Some(Claim {
         pattern: name,
-        period,
+        other: None,
+        kind: Kind::Oscillator { period },
     })
 }
 
@@ -175,11 +180,10 @@ fn spaceship(words: &[u8]) -> Option<Claim<&[u8]>>
     let period = whole_number(period)?;
     let dx = integer_of(dx)?;
     let dy = integer_of(dy)?;
-    Some(Claim::Spaceship {
+    Some(Claim {
         pattern: name,
-        period,
-        dx,
-        dy,
+        other: None,
+        kind: Kind::Spaceship { period, dx, dy },
     })
 }
 
@@ -190,9 +194,9 @@ fn becomes(words: &[u8]) -> Option<Claim<&[u8]>>
 {
     let (name, generations, other) = three_words(words)?;
     let generations = whole_number(generations)?;
-    Some(Claim::Becomes {
+    Some(Claim {
         pattern: name,
-        generations,
-        other,
+        other: Some(other),
+        kind: Kind::Becomes { generations },
     })
 }

@@ -1,26 +1,28 @@
-use Rattle.std.proofs.Common.{◌≡◌, ◌≢◌, ℕ, List, [], ◌∷◌, get_or, Some, codes, refl, sym, ap, subst, inl, inr, arith}
+use Rattle.std.proofs.Common.{◌≡◌, ◌≢◌, ℕ, List, [], ◌∷◌, get_or, Option, Some, codes, refl, sym, ap, subst, inl, inr, arith}
 use Rattle.std.specs.Prelude.{pos, neg_ℤ}
 use Rattle.std.specs.Str.{bytes_eq}
 use Rattle.std.proofs.lemmas.Bool.{false≢true}
 use Rattle.std.proofs.lemmas.Int.{ints}
 use Rattle.ca_plane.specs.Bytes.{AreDigits}
-use Rattle.ca_claims.specs.declared.claims.line.Claim.TheVariants.{Still, Oscillator, Spaceship, Becomes}
-use Rattle.ca_claims.specs.Text.{Line, Rule, Load, Claims, WordsSay, HasGoodNumbers}
+use Rattle.ca_claims.specs.declared.claims.line.Kind.{Kind}
+use Rattle.ca_claims.specs.declared.claims.line.Kind.TheVariants.{Still, Oscillator, Spaceship, Becomes}
+use Rattle.ca_claims.specs.Examples.{of_one, still_of, becomes_of}
+use Rattle.ca_claims.specs.Text.{Line, Rule, Load, Claims, WordsClaim, WordsSay, HasGoodNumbers}
 use Rattle.ca_claims.proofs.laws.worked_examples.Goals as goal
 
 -- one cell to the left and two down, in four generations
-shift_good : (pattern : List ℕ) → HasGoodNumbers (Spaceship pattern 4 (neg_ℤ (pos 1)) (pos 2))
-shift_good pattern = (omega arith, omega arith, (omega (arith, ints), omega (arith, ints)), (omega (arith, ints), omega (arith, ints)), λ e f. omega (arith, ints))
+shift_good : HasGoodNumbers (Spaceship 4 (neg_ℤ (pos 1)) (pos 2))
+shift_good = (omega arith, omega arith, (omega (arith, ints), omega (arith, ints)), (omega (arith, ints), omega (arith, ints)), λ e f. omega (arith, ints))
 
 -- what the words of three claims say
-says_oscillator : WordsSay (codes "oscillator" ∷ codes "c" ∷ codes "007" ∷ []) (Claims (Oscillator (codes "c") 7))
-says_oscillator = (codes "007", refl, refl, refl)
+says_oscillator : WordsSay (codes "oscillator" ∷ codes "c" ∷ codes "007" ∷ []) (Claims (of_one (codes "c") (Oscillator 7)))
+says_oscillator = (codes "007", refl, refl, refl, refl)
 
-says_spaceship : WordsSay (codes "spaceship" ∷ codes "g" ∷ codes "4" ∷ codes "-1" ∷ codes "2" ∷ []) (Claims (Spaceship (codes "g") 4 (neg_ℤ (pos 1)) (pos 2)))
-says_spaceship = (codes "4", codes "-1", codes "2", refl, refl, refl, inr (codes "1", refl, refl, refl), inl (refl, refl))
+says_spaceship : WordsSay (codes "spaceship" ∷ codes "g" ∷ codes "4" ∷ codes "-1" ∷ codes "2" ∷ []) (Claims (of_one (codes "g") (Spaceship 4 (neg_ℤ (pos 1)) (pos 2))))
+says_spaceship = (codes "4", codes "-1", codes "2", refl, refl, refl, inr (codes "1", refl, refl, refl), inl (refl, refl), refl)
 
-says_becomes : WordsSay (codes "becomes" ∷ codes "g" ∷ codes "0" ∷ codes "c" ∷ []) (Claims (Becomes (codes "g") 0 (codes "c")))
-says_becomes = (codes "0", refl, refl, refl)
+says_becomes : WordsSay (codes "becomes" ∷ codes "g" ∷ codes "0" ∷ codes "c" ∷ []) (Claims (becomes_of (codes "g") 0 (codes "c")))
+says_becomes = (codes "0", codes "c", refl, refl, refl, refl)
 
 pub returns-clause-every_line : goal.returns-clause-every_line
 returns-clause-every_line c = (
@@ -39,13 +41,13 @@ returns-clause-every_line c = (
         refl,
         (
           refl,
-          refl,
+          (refl, refl),
           (tt, (refl, tt)),
           (
             refl,
             says_oscillator,
             ((omega arith, omega arith), (refl, tt)),
-            (refl, (refl, says_spaceship, (shift_good (codes "g"), (refl, tt)), (refl, says_becomes, (omega arith, (refl, (refl, tt))), tt))),
+            (refl, (refl, says_spaceship, (shift_good, (refl, tt)), (refl, says_becomes, (omega arith, (refl, (refl, tt))), tt))),
           ),
         ),
       ),
@@ -85,7 +87,7 @@ returns-clause-unknown c = record {
   good = tt;
   among = refl;
   number = refl;
-  holds = (refl, Still (codes "q"), refl, tt, λ h. false≢true h.0);
+  holds = (refl, still_of (codes "q"), (refl, refl), tt, λ h. false≢true h.0);
 }
 
 pub returns-clause-taken : goal.returns-clause-taken
@@ -109,17 +111,20 @@ returns-clause-other_unknown c = record {
   good = (refl, refl, refl, tt);
   among = refl;
   number = refl;
-  holds = (refl, Becomes (codes "a") 1 (codes "b"), (codes "1", refl, refl, refl), omega arith, λ h. false≢true h.1.0);
+  holds = (refl, becomes_of (codes "a") 1 (codes "b"), (codes "1", codes "b", refl, refl, refl, refl), omega arith, λ h. false≢true h.1.0);
 }
 
 -- `rule r q` says nothing
 two_say_nothing : (line : Line) → WordsSay (codes "rule" ∷ codes "r" ∷ codes "q" ∷ []) line → ⊥
 two_say_nothing (Rule path) h = cc
 two_say_nothing (Load name path) h = false≢true (sym (ap (λ words. bytes_eq (get_or words 0 []) (codes "rule")) h))
-two_say_nothing (Claims (Still name)) h = cc
-two_say_nothing (Claims (Oscillator name period)) h = cc
-two_say_nothing (Claims (Spaceship name period dx dy)) h = cc
-two_say_nothing (Claims (Becomes name generations other)) h = cc
+two_say_nothing (Claims claim) h = none claim.pattern claim.other claim.kind h
+  where
+    none : (n : List ℕ) (o : Option (List ℕ)) (kind : Kind) → WordsClaim (codes "rule" ∷ codes "r" ∷ codes "q" ∷ []) n o kind → ⊥
+    none n o Still w = let same = w.0 in cc
+    none n o (Oscillator v) w = let same = w.1 in cc
+    none n o (Spaceship v dx dy) w = let same = w.3 in cc
+    none n o (Becomes v) w = let same = w.2 in cc
 
 pub returns-clause-two_tables : goal.returns-clause-two_tables
 returns-clause-two_tables c = record {
@@ -137,10 +142,13 @@ returns-clause-two_tables c = record {
 says_nothing : (line : Line) → WordsSay (codes "gun" ∷ codes "a" ∷ []) line → ⊥
 says_nothing (Rule path) h = cc
 says_nothing (Load name path) h = cc
-says_nothing (Claims (Still name)) h = cc
-says_nothing (Claims (Oscillator name period)) h = cc
-says_nothing (Claims (Spaceship name period dx dy)) h = cc
-says_nothing (Claims (Becomes name generations other)) h = cc
+says_nothing (Claims claim) h = none claim.pattern claim.other claim.kind h
+  where
+    none : (n : List ℕ) (o : Option (List ℕ)) (kind : Kind) → WordsClaim (codes "gun" ∷ codes "a" ∷ []) n o kind → ⊥
+    none n o Still w = let same = w.0 in cc
+    none n o (Oscillator v) w = let same = w.1 in cc
+    none n o (Spaceship v dx dy) w = let same = w.3 in cc
+    none n o (Becomes v) w = let same = w.2 in cc
 
 pub returns-clause-misspelled : goal.returns-clause-misspelled
 returns-clause-misspelled c = record {
@@ -162,10 +170,13 @@ period_word keyword name word n p e = cc
 letter_says_nothing : (line : Line) → WordsSay (codes "oscillator" ∷ codes "a" ∷ codes "x" ∷ []) line → ⊥
 letter_says_nothing (Rule path) h = cc
 letter_says_nothing (Load name path) h = cc
-letter_says_nothing (Claims (Still name)) h = cc
-letter_says_nothing (Claims (Oscillator name period)) h = false≢true (subst AreDigits (period_word (codes "oscillator") (codes "a") (codes "x") name h.0 h.1) h.2)
-letter_says_nothing (Claims (Spaceship name period dx dy)) h = cc
-letter_says_nothing (Claims (Becomes name generations other)) h = cc
+letter_says_nothing (Claims claim) h = none claim.pattern claim.other claim.kind h
+  where
+    none : (n : List ℕ) (o : Option (List ℕ)) (kind : Kind) → WordsClaim (codes "oscillator" ∷ codes "a" ∷ codes "x" ∷ []) n o kind → ⊥
+    none n o Still w = let same = w.0 in cc
+    none n o (Oscillator v) w = false≢true (subst AreDigits (period_word (codes "oscillator") (codes "a") (codes "x") n w.0 w.1) w.2)
+    none n o (Spaceship v dx dy) w = let same = w.3 in cc
+    none n o (Becomes v) w = let same = w.2 in cc
 
 pub returns-clause-no_number : goal.returns-clause-no_number
 returns-clause-no_number c = record {
@@ -190,8 +201,8 @@ returns-clause-no_shift c = record {
   number = refl;
   holds = (
     refl,
-    Spaceship (codes "a") 4 (pos 0) (pos 0),
-    (codes "4", codes "0", codes "0", refl, refl, refl, inl (refl, refl), inl (refl, refl)),
+    of_one (codes "a") (Spaceship 4 (pos 0) (pos 0)),
+    (codes "4", codes "0", codes "0", refl, refl, refl, inl (refl, refl), inl (refl, refl), refl),
     λ h. h.4 refl refl,
   );
 }
@@ -205,5 +216,5 @@ returns-clause-no_period c = record {
   good = tt;
   among = refl;
   number = refl;
-  holds = (refl, Oscillator (codes "b") 1, (codes "1", refl, refl, refl), λ h. omega arith);
+  holds = (refl, of_one (codes "b") (Oscillator 1), (codes "1", refl, refl, refl, refl), λ h. omega arith);
 }

@@ -4,7 +4,7 @@ use Rattle.ca_claims.proofs.Verdicts.{yes_or_no, judged_or_cause, one_cause, no_
 use Rattle.ca_claims.proofs.verdict_laws.one_kind_of_verdict.Goals as goal
 
 pub returns-clause-yes_or_no : goal.returns-clause-yes_or_no
-returns-clause-yes_or_no c = λ files rules claim why y n. yes_or_no files rules claim (asks_of claim) why y.0 n.0 y.1 n.1 y.2 n.2 y.3 n.3 y.4 n.4
+returns-clause-yes_or_no c = λ files rules claim why y n. yes_or_no files rules claim (asks_of claim.kind) why y.0 n.0 y.1 n.1 y.2 n.2 y.3 n.3 y.4 n.4
 
 pub returns-clause-yes_or_refused : goal.returns-clause-yes_or_refused
 returns-clause-yes_or_refused c = λ files rules claim cause no y r. judged_or_cause files rules claim y.0 y.1 y.2 cause no y.3 r

@@ -14,25 +14,25 @@ moved_by_none : (next : List ℕ → ℕ) (cells wanted : Picture) (n : ℕ) →
 moved_by_none next cells wanted n stands = λ x y. stands x y ∙ sym (cell_shifted_0 wanted x y)
 
 pub returns-clause-still : goal.returns-clause-still
-returns-clause-still c = λ next cells other pattern. (
+returns-clause-still c = λ next cells other. (
   λ true. (true.live refl, in_place next cells cells 1 true.stands),
   λ h. record { live = λ _. h.0; stands = moved_by_none next cells cells 1 h.1; least = λ m low high. tt },
 )
 
 pub returns-clause-oscillator : goal.returns-clause-oscillator
-returns-clause-oscillator c = λ next cells other pattern period. (
+returns-clause-oscillator c = λ next cells other period. (
   λ true. (true.live refl, in_place next cells cells period true.stands, true.least),
   λ h. record { live = λ _. h.0; stands = moved_by_none next cells cells period h.1; least = h.2 },
 )
 
 pub returns-clause-spaceship : goal.returns-clause-spaceship
-returns-clause-spaceship c = λ next cells other pattern period dx dy. (
+returns-clause-spaceship c = λ next cells other period dx dy. (
   λ true. (true.live refl, true.stands, true.least),
   λ h. record { live = λ _. h.0; stands = h.1; least = h.2 },
 )
 
 pub returns-clause-becomes : goal.returns-clause-becomes
-returns-clause-becomes c = λ next cells other pattern generations other_pattern. (
+returns-clause-becomes c = λ next cells other generations. (
   λ true. in_place next cells other generations true.stands,
   λ h. record { live = λ no. cc; stands = moved_by_none next cells other generations h; least = λ m low high. tt },
 )

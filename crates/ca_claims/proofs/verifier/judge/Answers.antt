@@ -1,4 +1,4 @@
-use Rattle.std.proofs.Common.{◌<◌, length, map, subst, sym, ◌∙◌}
+use Rattle.std.proofs.Common.{◌<◌, length, map, subst, sym}
 use Rattle.ca_rule.specs.Rule.{rule_value, next_of}
 use Rattle.ca_claims.specs.Text.{patterns_of, about}
 use Rattle.ca_claims.specs.Places.{path_at}
@@ -8,7 +8,7 @@ use Rattle.ca_claims.specs.Answers.{IsCounted}
 use Rattle.ca_claims.specs.inner.Refusals.{IsJudgedOn}
 use Rattle.ca_claims.specs.inner.Patterns.{items}
 use Rattle.ca_claims.specs.inner.Decided.{IsBounded, IsDecided}
-use Rattle.ca_claims.proofs.ClaimKinds.{asks_about, asks_bounded}
+use Rattle.ca_claims.proofs.ClaimKinds.{asks_bounded}
 use Rattle.ca_claims.proofs.Causes.{once_paths, once_all, cause_of_all, passed_on, is_subject, true_verdict}
 use Rattle.ca_claims.proofs.Parts.{on_all}
 use Rattle.ca_claims.proofs.verifier.judge.Goals as goal
@@ -23,17 +23,16 @@ returns-in_err-prepared g c = λ files paths rules e read.
     let once = once_paths paths c.args.claim.now (items c.places_of.result) c.places_of.ensures in
     let refusal = c.in_err-prepared.field-0.0 in
     let refused = c.in_err-prepared.ensures.prepared files paths rules e read in
-    let same = c.asks-asks.ensures ∙ sym (asks_about (path_at paths) c.args.claim.now) in
     passed_on (λ verdict. IsJudgedOn files paths rules claim verdict Claim) (λ r. IsJudgedOn files paths rules claim (Refused r.cause) r.about) c.from_residual.result refusal c.from_residual.ensures.1
     (record {
-      holds = (cause_of_all files rules each (patterns_of claim) refusal.cause once refused.holds, λ many. subst IsCounted same (c.counts_cells.ensures.0 (c.in_err-prepared.ensures.counted many)));
+      holds = (cause_of_all files rules each (patterns_of claim) refusal.cause once refused.holds, λ many. subst IsCounted c.asks-asks.ensures (c.counts_cells.ensures.0 (c.in_err-prepared.ensures.counted many)));
       on = on_all files rules paths each (patterns_of claim) once refusal.cause refusal.about refused.on;
     })
 
 pub decide_on-requires : goal.decide_on-requires
 decide_on-requires g c = record {
-  subject = is_subject c.args.claim.now c.asks-asks.result c.counts_cells.result c.in_ok-prepared.prepared c.asks-asks.ensures c.requires.numbers c.counts_cells.ensures c.in_ok-prepared.ensures.fit;
-  bounded = subst IsBounded (sym c.asks-asks.ensures) (asks_bounded c.args.claim.now c.requires.numbers);
+  subject = is_subject c.args.claim.now.kind c.asks-asks.result c.counts_cells.result c.in_ok-prepared.prepared c.asks-asks.ensures c.requires.numbers c.counts_cells.ensures c.in_ok-prepared.ensures.fit;
+  bounded = subst IsBounded (sym c.asks-asks.ensures) (asks_bounded c.args.claim.now.kind c.requires.numbers);
 }
 
 pub returns : goal.returns

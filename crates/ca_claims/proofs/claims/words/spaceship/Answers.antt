@@ -1,6 +1,6 @@
 use Rattle.std.proofs.Common.{◌∷◌, codes, refl, ap}
 use Rattle.ca_plane.specs.Bytes.{words_of, value}
-use Rattle.ca_claims.specs.declared.claims.line.Claim.TheVariants.{Spaceship}
+use Rattle.ca_claims.specs.declared.claims.line.Kind.TheVariants.{Spaceship}
 use Rattle.ca_claims.proofs.HeldNumbers.{no_right, no_down, held_spaceship}
 use Rattle.ca_claims.proofs.claims.words.spaceship.Goals as goal
 
@@ -21,7 +21,7 @@ returns c =
     let number = c.in_ok-period.ensures in
     let right = c.in_ok-dx.ensures in
     let down = c.in_ok-dy.ensures in (
-      Spaceship name.name.now (value p) right.0 down.0,
-      (p, name.dx.now, name.dy.now, ap (λ ws. codes "spaceship" ∷ ws) name.ensures, number.0, refl, right.1, down.1),
-      held_spaceship name.name.now (value p) c.in_ok-period.period right.0 down.0 c.in_ok-dx.dx c.in_ok-dy.dy number.1 right.2 down.2,
+      Spaceship (value p) right.0 down.0,
+      (p, name.dx.now, name.dy.now, ap (λ ws. codes "spaceship" ∷ ws) name.ensures, number.0, refl, right.1, down.1, refl),
+      held_spaceship (value p) c.in_ok-period.period right.0 down.0 c.in_ok-dx.dx c.in_ok-dy.dy number.1 right.2 down.2,
     )

@@ -1,7 +1,7 @@
-use Rattle.std.proofs.Common.{map, [], ◌∷◌, ◌++◌, Some, if◌then◌else◌, sym, ap, subst, ◌∙◌}
+use Rattle.std.proofs.Common.{map, [], ◌∷◌, ◌++◌, Some, if◌then◌else◌, refl, sym, ap, subst, ◌∙◌}
 use Rattle.ca_claims.specs.Text.{Claims}
 use Rattle.ca_claims.specs.inner.Reading.{claim_of, IsKept, place_of}
-use Rattle.ca_claims.proofs.ReadOn.{names_loaded, read_claim}
+use Rattle.ca_claims.proofs.ReadOn.{names_loaded, names_known, read_claim}
 use Rattle.ca_claims.proofs.claims.reading.Reading.claim.Goals as goal
 
 pub returns-clause-claimed : goal.returns-clause-claimed
@@ -21,3 +21,11 @@ returns-then-is_err-clause-fault c = λ said read words kind.
     let claim = claim_of c.args.claim.now in
     let old = c.args.self.now in
     (kind.0, Claims claim, kind.1, (kind.2, names_loaded said (map (λ n. n.items) old.names.items) old.paths old.rules.items old.claims.items (place_of old.places) read claim c.in-Some.ensures.0))
+
+-- a claim about a name that isn't loaded
+pub returns-in_default-clause-fault : goal.returns-in_default-clause-fault
+returns-in_default-clause-fault c = λ said read words kind.
+    let claim = claim_of c.args.claim.now in
+    let old = c.args.self.now in
+    let known = names_known said (map (λ n. n.items) old.names.items) old.paths old.rules.items old.claims.items (place_of old.places) read claim in
+    (refl, (kind.0, claim, kind.1, kind.2, λ loaded. c.in_default.ensures (known loaded)))
