@@ -80,15 +80,9 @@ after_hash earlier w (v ∷ ws) hash frame =
     generation (x ∷ xs) e = generation_more earlier w v x xs e
 
 bad_leaf : (earlier : List Node) (w : List ℕ) (ws : List (List ℕ)) (f : MacroFault) → IsLeafFault w f → Judged earlier (w ∷ ws)
-bad_leaf earlier w ws NotMacro h = absurd h
-bad_leaf earlier w ws Timeline h = absurd h
 bad_leaf earlier w ws Syntax h = inr (Syntax, inr (inl (w, ws, refl, inl h)))
-bad_leaf earlier w ws Forward h = absurd h
-bad_leaf earlier w ws Level h = absurd h
 bad_leaf earlier w ws LeafSize h = inr (LeafSize, (w, ws, refl, h))
-bad_leaf earlier w ws Range h = absurd h
-bad_leaf earlier w ws GenTooLarge h = absurd h
-bad_leaf earlier w ws Memory h = absurd h
+bad_leaf earlier w ws f h = absurd h
 
 leaf_judged : (earlier : List Node) (w : List ℕ) (ws : List (List ℕ)) (o : Option MacroFault) → is_end_or is_leaf_byte w ≡ true → leaf_fault 8 8 w ≡ o → Judged earlier (w ∷ ws)
 leaf_judged earlier w ws (Some f) begins e = bad_leaf earlier w ws f (fault_found w f begins e)
@@ -296,14 +290,9 @@ has_line bytes first lines begins are bad = record {
 
 first_fault : (bytes : List ℕ) (f : MacroFault) → HasLine bytes (AreFaulty f) → IsFirstFault bytes f
 first_fault bytes NotMacro h = absurd h.holds
-first_fault bytes Timeline h = h
-first_fault bytes Syntax h = h
-first_fault bytes Forward h = h
-first_fault bytes Level h = h
-first_fault bytes LeafSize h = h
 first_fault bytes Range h = absurd h.holds
-first_fault bytes GenTooLarge h = h
 first_fault bytes Memory h = absurd h.holds
+first_fault bytes f h = h
 
 -- a text is a file or has a first fault
 abbrev IsJudged : List ℕ → Type 0

@@ -5,7 +5,7 @@ use Rattle.std.proofs.lemmas.List.{append-nil, append_assoc}
 use Rattle.ca_plane.specs.Bytes.{lines_of, words_of}
 use Rattle.ca_plane.specs.Limits.{default_rule}
 use Rattle.ca_macro.specs.declared.fault.MacroFault.{MacroFault}
-use Rattle.ca_macro.specs.declared.fault.MacroFault.TheVariants.{NotMacro, Timeline, Syntax, Forward, Level, LeafSize, Range, GenTooLarge, Memory}
+use Rattle.ca_macro.specs.declared.fault.MacroFault.TheVariants.{NotMacro, Range, Memory}
 use Rattle.ca_macro.specs.Nodes.{Node}
 use Rattle.ca_macro.specs.File.{Said, added, LinesSay, last_rule, last_generation, File, begins_macro, IsFile}
 use Rattle.ca_macro.specs.Limits.{IsWithinRange, IsOutOfRange}
@@ -75,40 +75,22 @@ line_judged bytes f n h e = rw (h.begins, h.lines_are, first_told 2 n [] h.good 
 
 fault_judged : (bytes : List ℕ) (f : MacroFault) (n : ℕ) → IsFirstFaultOn bytes f n → of_text bytes ≡ Err (f, n)
 fault_judged bytes NotMacro n h = rw (h.0, h.1) refl
-fault_judged bytes Timeline n h = line_judged bytes Timeline n h.0 h.1
-fault_judged bytes Syntax n h = line_judged bytes Syntax n h.0 h.1
-fault_judged bytes Forward n h = line_judged bytes Forward n h.0 h.1
-fault_judged bytes Level n h = line_judged bytes Level n h.0 h.1
-fault_judged bytes LeafSize n h = line_judged bytes LeafSize n h.0 h.1
-fault_judged bytes Range n h = absurd h.0.holds
-fault_judged bytes GenTooLarge n h = line_judged bytes GenTooLarge n h.0 h.1
-fault_judged bytes Memory n h = absurd h.0.holds
+fault_judged bytes f n h = line_judged bytes f n h.0 h.1
 
 -- ---- a fault and its line
 
 -- each first fault stands on a line
 pub on_a_line : (bytes : List ℕ) (f : MacroFault) → IsFirstFault bytes f → (n : ℕ) × IsFirstFaultOn bytes f n
 on_a_line bytes NotMacro h = (1, (h, refl))
-on_a_line bytes Timeline h = (length h.good + 2, (h, refl))
-on_a_line bytes Syntax h = (length h.good + 2, (h, refl))
-on_a_line bytes Forward h = (length h.good + 2, (h, refl))
-on_a_line bytes Level h = (length h.good + 2, (h, refl))
-on_a_line bytes LeafSize h = (length h.good + 2, (h, refl))
 on_a_line bytes Range h = absurd h
-on_a_line bytes GenTooLarge h = (length h.good + 2, (h, refl))
 on_a_line bytes Memory h = absurd h
+on_a_line bytes f h = (length h.good + 2, (h, refl))
 
 -- what stands on a line is the first fault
 pub is_first : (bytes : List ℕ) (f : MacroFault) (n : ℕ) → IsFirstFaultOn bytes f n → IsFirstFault bytes f
-is_first bytes NotMacro n h = h.0
-is_first bytes Timeline n h = h.0
-is_first bytes Syntax n h = h.0
-is_first bytes Forward n h = h.0
-is_first bytes Level n h = h.0
-is_first bytes LeafSize n h = h.0
 is_first bytes Range n h = absurd h.0.holds
-is_first bytes GenTooLarge n h = h.0
 is_first bytes Memory n h = absurd h.0.holds
+is_first bytes f n h = h.0
 
 -- a first fault is the text's fault
 fault_on : (bytes : List ℕ) (f : MacroFault) → IsFirstFault bytes f → IsFaultOf bytes f
@@ -176,15 +158,9 @@ no_fault_in_a_file bytes file f h k =
 
 -- a fault is the first of the spelling, or it is told of a file
 fault_kind : (bytes : List ℕ) (f : MacroFault) → f ≢ Memory → IsFaultOf bytes f → IsFirstFault bytes f ⊎ ((f ≡ Range) × ((file : File) × IsFile bytes file × IsOutOfRange file))
-fault_kind bytes NotMacro other h = inl h
-fault_kind bytes Timeline other h = inl h
-fault_kind bytes Syntax other h = inl h
-fault_kind bytes Forward other h = inl h
-fault_kind bytes Level other h = inl h
-fault_kind bytes LeafSize other h = inl h
 fault_kind bytes Range other h = inr (refl, h)
-fault_kind bytes GenTooLarge other h = inl h
 fault_kind bytes Memory other h = absurd (other refl)
+fault_kind bytes f other h = inl h
 
 pub one_fault : (bytes : List ℕ) (f g : MacroFault) → f ≢ Memory → g ≢ Memory → IsFaultOf bytes f → IsFaultOf bytes g → f ≡ g
 one_fault bytes f g m n h k =

@@ -10,7 +10,7 @@ use Rattle.ca_plane.specs.Bytes.{is_blank, is_line_end, is_word_byte, is_end_or,
 use Rattle.ca_plane.specs.Limits.{generation_limit}
 use Rattle.ca_quad.specs.declared.node.Node.{Node as Kept}
 use Rattle.ca_macro.specs.declared.fault.MacroFault.{MacroFault}
-use Rattle.ca_macro.specs.declared.fault.MacroFault.TheVariants.{NotMacro, Timeline, Syntax, Forward, Level, LeafSize, Range, GenTooLarge, Memory}
+use Rattle.ca_macro.specs.declared.fault.MacroFault.TheVariants.{Forward, Level, Memory}
 use Rattle.ca_macro.specs.declared.line.comment.Comment.{Comment}
 use Rattle.ca_macro.specs.declared.line.comment.Comment.TheVariants as comment
 use Rattle.ca_macro.specs.declared.read.reading.Reading.{Reading}
@@ -149,40 +149,21 @@ node_said old new said reading after node h squares = record {
 
 -- a line that is faulty by itself
 pub faulty_line : (f : MacroFault) (earlier : List Node) (words : List (List ℕ)) → AreFaulty f earlier words → HasFault f earlier words
-faulty_line NotMacro earlier words h = absurd h
-faulty_line Timeline earlier words h = h
-faulty_line Syntax earlier words h = h
-faulty_line Forward earlier words h = h
-faulty_line Level earlier words h = h
-faulty_line LeafSize earlier words h = h
-faulty_line Range earlier words h = absurd h
-faulty_line GenTooLarge earlier words h = h
 faulty_line Memory earlier words h = absurd h
+faulty_line f earlier words h = h
 
 -- parts of which one is bad
 pub bad_parts : (f : MacroFault) (nodes : List Node) (level nw ne sw se : ℕ) → HasBadPart nodes (level - 1) (nw ∷ ne ∷ sw ∷ se ∷ []) (IsBadNumber f nodes (level - 1)) → HaveFault f nodes level nw ne sw se
-bad_parts NotMacro nodes level nw ne sw se h = h
-bad_parts Timeline nodes level nw ne sw se h = h
-bad_parts Syntax nodes level nw ne sw se h = h
-bad_parts Forward nodes level nw ne sw se h = h
-bad_parts Level nodes level nw ne sw se h = h
-bad_parts LeafSize nodes level nw ne sw se h = h
-bad_parts Range nodes level nw ne sw se h = h
-bad_parts GenTooLarge nodes level nw ne sw se h = h
 bad_parts Memory nodes level nw ne sw se h = absurd h.holds
+bad_parts f nodes level nw ne sw se h = h
 
 -- the fault of a line that gives a square by its parts
 pub parts_fault : (f : MacroFault) (earlier : List Node) (words : List (List ℕ)) (level nw ne sw se : ℕ) → WordsSay words (Adds (Parts level nw ne sw se)) → IsLevel level
     → HaveFault f earlier level nw ne sw se → HasFault f earlier words
-parts_fault NotMacro earlier words level nw ne sw se says l h = absurd h.holds
-parts_fault Timeline earlier words level nw ne sw se says l h = absurd h.holds
-parts_fault Syntax earlier words level nw ne sw se says l h = absurd h.holds
 parts_fault Forward earlier words level nw ne sw se says l h = (level, nw, ne, sw, se, says, l, record { good = h.good; number = h.number; more = h.more; spelled = h.spelled; named = h.named; holds = h.holds })
 parts_fault Level earlier words level nw ne sw se says l h = inr (level, nw, ne, sw, se, says, l, record { good = h.good; number = h.number; more = h.more; spelled = h.spelled; named = h.named; holds = h.holds })
-parts_fault LeafSize earlier words level nw ne sw se says l h = absurd h.holds
-parts_fault Range earlier words level nw ne sw se says l h = absurd h.holds
-parts_fault GenTooLarge earlier words level nw ne sw se says l h = absurd h.holds
 parts_fault Memory earlier words level nw ne sw se says l h = (Parts level nw ne sw se, says, h)
+parts_fault f earlier words level nw ne sw se says l h = absurd h.holds
 
 pub parts_err : {T : Type 0} (r : Result T MacroFault) (P Q : MacroFault → Type 0) → ((f : MacroFault) → P f → Q f) → IfErr r P → IfErr r Q
 parts_err (Ok t) P Q also h = tt

@@ -124,14 +124,9 @@ AreFaulty Memory earlier words = ⊥
 -- the first fault in the spelling of a text
 abbrev pub IsFirstFault : List ℕ → MacroFault → Type 0
 IsFirstFault bytes NotMacro = begins_macro bytes ≡ false
-IsFirstFault bytes Timeline = HasLine bytes (AreFaulty Timeline)
-IsFirstFault bytes Syntax = HasLine bytes (AreFaulty Syntax)
-IsFirstFault bytes Forward = HasLine bytes (AreFaulty Forward)
-IsFirstFault bytes Level = HasLine bytes (AreFaulty Level)
-IsFirstFault bytes LeafSize = HasLine bytes (AreFaulty LeafSize)
 IsFirstFault bytes Range = ⊥
-IsFirstFault bytes GenTooLarge = HasLine bytes (AreFaulty GenTooLarge)
 IsFirstFault bytes Memory = ⊥
+IsFirstFault bytes fault = HasLine bytes (AreFaulty fault)
 
 -- the first fault in the spelling of a text, and the number of its line. The line that begins with `[M2]` is line 1
 abbrev pub IsFirstFaultOn : List ℕ → MacroFault → (line : ℕ) → Type 0
@@ -145,15 +140,9 @@ IsFaultyLine bytes n = (fault : MacroFault) × IsFirstFaultOn bytes fault n
 -- the fault of a text: the first in its spelling, else a live cell that is out of range. Memory can run out at a good line that
 -- adds a node after good lines, and at the end of a good text
 abbrev pub IsFaultOf : List ℕ → MacroFault → Type 0
-IsFaultOf bytes NotMacro = IsFirstFault bytes NotMacro
-IsFaultOf bytes Timeline = IsFirstFault bytes Timeline
-IsFaultOf bytes Syntax = IsFirstFault bytes Syntax
-IsFaultOf bytes Forward = IsFirstFault bytes Forward
-IsFaultOf bytes Level = IsFirstFault bytes Level
-IsFaultOf bytes LeafSize = IsFirstFault bytes LeafSize
-IsFaultOf bytes GenTooLarge = IsFirstFault bytes GenTooLarge
 IsFaultOf bytes Range = (file : File) × IsFile bytes file × IsOutOfRange file
 IsFaultOf bytes Memory = HasLine bytes AddNode ⊎ ((file : File) × IsFile bytes file)
+IsFaultOf bytes fault = IsFirstFault bytes fault
 
 -- the fault of a text, and the number of the line on which it stands: none for a fault that isn't in the spelling
 abbrev pub IsFaultOn : List ℕ → MacroFault → Option ℕ → Type 0

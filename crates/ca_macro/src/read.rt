@@ -112,9 +112,9 @@ fn pattern_of(
 ///
 /// # Errors
 ///
-/// The fault of the first faulty line, and that line; else `Range` where a live cell isn't from -2^60 to 2^60 - 1 in both directions; and
-/// `Memory` where a growth is refused, at a good line that adds a node after good lines, or after the last line of a good
-/// text. After a refusal the store is as before or has more squares.
+/// The fault of the first faulty line, and that line; else `Range` where a live cell isn't from -2^60 to 2^60 - 1 in both
+/// directions; and `Memory` where a growth is refused, at a good line that adds a node after good lines, or after the last
+/// line of a good text. After a refusal the store is as before or has more squares.
 pub fn read_macro_with_line(
     alloc: Global,
     store: &mut Store,

@@ -20,32 +20,24 @@ use Rattle.ca_rle.proofs.OneFault.{bad_word_or_header, header_of_headed, one_bad
 -- ---- the fault of a line
 
 fault_at : (bytes : List ℕ) (f : RleFault) (rest : List ℕ) → IsFirstFaultAt bytes f rest → IsFirstFault bytes f
-fault_at bytes Header rest p = p.0
-fault_at bytes XlifeRule rest p = p.0
-fault_at bytes GenTooLarge rest p = p.0
 fault_at bytes Syntax rest (inl p) = inl p.0
 fault_at bytes Syntax rest (inr p) = inr p.0
-fault_at bytes NoEnd rest p = p.0
-fault_at bytes BadState rest p = p.0
 fault_at bytes Range rest p = p
 fault_at bytes TooManyCells rest p = p
 fault_at bytes Memory rest p = p
+fault_at bytes f rest p = p.0
 
 -- what stands on a line is the first fault
 pub fault_of_line : (bytes : List ℕ) (f : RleFault) (line : ℕ) → IsFirstFaultOn bytes f line → IsFirstFault bytes f
 fault_of_line bytes f line p = fault_at bytes f p.0 p.1
 
 rest_of : (bytes : List ℕ) (f : RleFault) → IsFirstFault bytes f → (rest : List ℕ) × IsFirstFaultAt bytes f rest
-rest_of bytes Header p = (_, (p, refl))
-rest_of bytes XlifeRule p = (_, (p, refl))
-rest_of bytes GenTooLarge p = (_, (p, refl))
 rest_of bytes Syntax (inl p) = (_, inl (p, refl))
 rest_of bytes Syntax (inr p) = (_, inr (p, refl))
-rest_of bytes NoEnd p = (_, (p, refl))
-rest_of bytes BadState p = (_, (p, refl))
 rest_of bytes Range p = absurd p
 rest_of bytes TooManyCells p = absurd p
 rest_of bytes Memory p = absurd p
+rest_of bytes f p = (_, (p, refl))
 
 -- and it stands on a line
 pub line_of_fault : (bytes : List ℕ) (f : RleFault) → IsFirstFault bytes f → (line : ℕ) × IsFirstFaultOn bytes f line
@@ -95,9 +87,7 @@ same_rest bytes Syntax r s (inr p) (inl q) = absurd (word_or_item bytes q.0 p.0)
 same_rest bytes Syntax r s (inr p) (inr q) = same_item bytes Syntax r s p q
 same_rest bytes NoEnd r s p q = same_item bytes NoEnd r s p q
 same_rest bytes BadState r s p q = same_item bytes BadState r s p q
-same_rest bytes Range r s p q = absurd p
-same_rest bytes TooManyCells r s p q = absurd p
-same_rest bytes Memory r s p q = absurd p
+same_rest bytes f r s p q = absurd p
 
 same_line : (bytes : List ℕ) (f : RleFault) (m n : ℕ) → IsFirstFaultOn bytes f m → IsFirstFaultOn bytes f n → m ≡ n
 same_line bytes f m n p q = p.2 ∙ ap (line_of bytes) (same_rest bytes f p.0 q.0 p.1 q.1) ∙ sym q.2

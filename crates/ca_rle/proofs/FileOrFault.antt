@@ -8,7 +8,7 @@ use Rattle.ca_plane.specs.Limits.{default_rule}
 use Rattle.ca_plane.specs.Bytes.{is_digit, is_line_end, is_end_or, front, rest, value}
 use Rattle.ca_plane.proofs.Lines.{line_ends_by_lf}
 use Rattle.ca_rle.specs.declared.fault.RleFault.{RleFault}
-use Rattle.ca_rle.specs.declared.fault.RleFault.TheVariants.{Syntax, Header, XlifeRule, NoEnd, BadState, GenTooLarge, Range, TooManyCells, Memory}
+use Rattle.ca_rle.specs.declared.fault.RleFault.TheVariants.{Syntax, Header, XlifeRule, NoEnd, BadState, GenTooLarge}
 use Rattle.ca_rle.specs.declared.item.Item.{Item}
 use Rattle.ca_rle.specs.declared.item.Tag.{Tag}
 use Rattle.ca_rle.specs.Items.{InLine, is_letter, is_prefix, prefixed_state, tag_of, IsItem, Items}
@@ -72,12 +72,7 @@ abbrev pub is_of_item : RleFault → Bool
 is_of_item Syntax = true
 is_of_item NoEnd = true
 is_of_item BadState = true
-is_of_item Header = false
-is_of_item XlifeRule = false
-is_of_item GenTooLarge = false
-is_of_item Range = false
-is_of_item TooManyCells = false
-is_of_item Memory = false
+is_of_item fault = false
 
 abbrev none_or_of_item : Option RleFault → Bool
 none_or_of_item None = true

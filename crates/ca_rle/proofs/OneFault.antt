@@ -105,9 +105,7 @@ kind_of bytes Syntax (inl p) = BadWord p
 kind_of bytes Syntax (inr p) = BadItem p
 kind_of bytes NoEnd p = BadItem p
 kind_of bytes BadState p = BadItem p
-kind_of bytes Range p = absurd p
-kind_of bytes TooManyCells p = absurd p
-kind_of bytes Memory p = absurd p
+kind_of bytes f p = absurd p
 
 header_of_bad_item : (bytes : List ℕ) (f : RleFault) → HasBadItem bytes f → HasHeader bytes
 header_of_bad_item bytes f p = header_of_headed bytes p.said p.rule p.body p.headed
@@ -156,15 +154,10 @@ pub data LimitKind (bytes : List ℕ) : RleFault → Type 0 where
 
 -- what a fault is of
 pub limit_kind_of : (bytes : List ℕ) (f : RleFault) → f ≢ Memory → IsFaultOf bytes f → LimitKind bytes f
-limit_kind_of bytes Syntax n p = Spelling p
-limit_kind_of bytes Header n p = Spelling p
-limit_kind_of bytes XlifeRule n p = Spelling p
-limit_kind_of bytes NoEnd n p = Spelling p
-limit_kind_of bytes BadState n p = Spelling p
-limit_kind_of bytes GenTooLarge n p = Spelling p
 limit_kind_of bytes Range n (file, h, out) = TooFar file h out
 limit_kind_of bytes TooManyCells n (file, h, many) = TooMany file h many
 limit_kind_of bytes Memory n p = absurd (n refl)
+limit_kind_of bytes f n p = Spelling p
 
 far_or_many : (bytes : List ℕ) (far many : File) → IsFile bytes far → IsOutOfRange far → IsFile bytes many → HasTooManyCells many → ⊥
 far_or_many bytes far many h out k m = out (subst IsWithinRange (one_file bytes many far k h) m.0)

@@ -19,13 +19,7 @@ IsBadWord word Syntax =
     ((starts_with nat_eq word (codes "Pos=") ≡ true) × ((x y : ℤ) → Says word (Corner x y) → ⊥))
     ⊎ ((starts_with nat_eq word (codes "Gen=") ≡ true) × ((digits : List ℕ) → word ≡ codes "Gen=" ++ digits → AreDigits digits → ⊥))
 IsBadWord word GenTooLarge = (digits : List ℕ) × (word ≡ codes "Gen=" ++ digits) × AreDigits digits × (generation_limit ≤ value digits)
-IsBadWord word Header = ⊥
-IsBadWord word XlifeRule = ⊥
-IsBadWord word NoEnd = ⊥
-IsBadWord word BadState = ⊥
-IsBadWord word Range = ⊥
-IsBadWord word TooManyCells = ⊥
-IsBadWord word Memory = ⊥
+IsBadWord word fault = ⊥
 
 -- a bad word stands after good lines and good words
 pub record HasBadWord (bytes : List ℕ) (fault : RleFault) : Type 0 where
@@ -131,18 +125,11 @@ IsFirstFault bytes GenTooLarge = HasBadWord bytes GenTooLarge
 IsFirstFault bytes Syntax = HasBadWord bytes Syntax ⊎ HasBadItem bytes Syntax
 IsFirstFault bytes NoEnd = HasBadItem bytes NoEnd
 IsFirstFault bytes BadState = HasBadItem bytes BadState
-IsFirstFault bytes Range = ⊥
-IsFirstFault bytes TooManyCells = ⊥
-IsFirstFault bytes Memory = ⊥
+IsFirstFault bytes fault = ⊥
 
 -- the fault of a text: the first in its spelling, else the first limit that it passes; of running out of memory nothing is said here
 abbrev pub IsFaultOf : List ℕ → RleFault → Type 0
-IsFaultOf bytes Syntax = IsFirstFault bytes Syntax
-IsFaultOf bytes Header = IsFirstFault bytes Header
-IsFaultOf bytes XlifeRule = IsFirstFault bytes XlifeRule
-IsFaultOf bytes NoEnd = IsFirstFault bytes NoEnd
-IsFaultOf bytes BadState = IsFirstFault bytes BadState
-IsFaultOf bytes GenTooLarge = IsFirstFault bytes GenTooLarge
 IsFaultOf bytes Range = (file : File) × IsFile bytes file × IsOutOfRange file
 IsFaultOf bytes TooManyCells = (file : File) × IsFile bytes file × HasTooManyCells file
 IsFaultOf bytes Memory = Unit {0}
+IsFaultOf bytes fault = IsFirstFault bytes fault

@@ -4,7 +4,7 @@ use Rattle.std.specs.Prelude.{◌≡◌, ℕ, ◌+◌, ◌-◌, max, List, lengt
 use Rattle.std.specs.List.{count_by}
 use Rattle.ca_plane.specs.Bytes.{is_line_end}
 use Rattle.ca_rle.specs.declared.fault.RleFault.{RleFault}
-use Rattle.ca_rle.specs.declared.fault.RleFault.TheVariants.{Syntax, Header, XlifeRule, NoEnd, BadState, GenTooLarge, Range, TooManyCells, Memory}
+use Rattle.ca_rle.specs.declared.fault.RleFault.TheVariants.{Syntax, Header, XlifeRule, NoEnd, BadState, GenTooLarge}
 use Rattle.ca_rle.specs.Items.{InLine}
 use Rattle.ca_rle.specs.Faults.{after_white, HasBadWord, HasNoHeader, HasXlifeRule, HasBadItem, IsFirstFault, IsFaultOf}
 
@@ -32,9 +32,7 @@ IsFirstFaultAt bytes GenTooLarge rest = HasBadWordAt bytes GenTooLarge rest
 IsFirstFaultAt bytes Syntax rest = HasBadWordAt bytes Syntax rest ⊎ HasBadItemAt bytes Syntax rest
 IsFirstFaultAt bytes NoEnd rest = HasBadItemAt bytes NoEnd rest
 IsFirstFaultAt bytes BadState rest = HasBadItemAt bytes BadState rest
-IsFirstFaultAt bytes Range rest = ⊥
-IsFirstFaultAt bytes TooManyCells rest = ⊥
-IsFirstFaultAt bytes Memory rest = ⊥
+IsFirstFaultAt bytes fault rest = ⊥
 
 -- the number, from 1 on, of the line on which the rest of a text begins: one more than the LFs before it.
 -- The end of a text stands on the line of the text's last byte, and the empty text has line 1.

@@ -3,7 +3,7 @@ use Rattle.std.specs.Prelude.{◌≡◌, ◌⊎◌, ℕ, zero, suc, ◌+◌, ◌
 use Rattle.std.specs.List.{list_all}
 use Rattle.ca_plane.specs.Bytes.{letter}
 use Rattle.ca_macro.specs.declared.fault.MacroFault.{MacroFault}
-use Rattle.ca_macro.specs.declared.fault.MacroFault.TheVariants.{NotMacro, Timeline, Syntax, Forward, Level, LeafSize, Range, GenTooLarge, Memory}
+use Rattle.ca_macro.specs.declared.fault.MacroFault.TheVariants.{Syntax, LeafSize}
 use Rattle.ca_macro.specs.Nodes.{rows_of}
 use Rattle.ca_macro.specs.Faults.{is_leaf_byte, HasBadByte}
 
@@ -36,15 +36,9 @@ leaf_fault height width (b ∷ bs) =
 
 -- what is wrong with the line of a leaf
 abbrev pub IsLeafFault : List ℕ → MacroFault → Type 0
-IsLeafFault bytes NotMacro = ⊥
-IsLeafFault bytes Timeline = ⊥
 IsLeafFault bytes Syntax = HasBadByte bytes (λ b. not (is_leaf_byte b))
-IsLeafFault bytes Forward = ⊥
-IsLeafFault bytes Level = ⊥
 IsLeafFault bytes LeafSize = HasBadByte bytes is_leaf_byte
-IsLeafFault bytes Range = ⊥
-IsLeafFault bytes GenTooLarge = ⊥
-IsLeafFault bytes Memory = ⊥
+IsLeafFault bytes fault = ⊥
 
 -- a row's cells as the bits of a number, of which bit 0 is the first cell
 abbrev pub row_bits : List Bool → ℕ

@@ -11,7 +11,7 @@ use Rattle.ca_quad.specs.Squares.{cell_of}
 use Rattle.ca_quad.specs.Sound.{IsSound}
 use Rattle.ca_quad.specs.Trees.{Shows, IsTree, from_corner}
 use Rattle.ca_macro.specs.declared.fault.MacroFault.{MacroFault}
-use Rattle.ca_macro.specs.declared.fault.MacroFault.TheVariants.{NotMacro, Timeline, Syntax, Forward, Level, LeafSize, Range, GenTooLarge, Memory}
+use Rattle.ca_macro.specs.declared.fault.MacroFault.TheVariants.{Forward, Level, Memory}
 use Rattle.ca_macro.specs.declared.line.numbers.Numbers.{Numbers}
 use Rattle.ca_macro.specs.declared.read.reading.Reading.{Reading}
 use Rattle.ca_macro.specs.declared.read.squares.Squares.{Squares}
@@ -54,15 +54,9 @@ IsPart store nodes level number (Some id) =
 
 -- a number may not name a part of this level, and this is why
 abbrev pub IsBadNumber : MacroFault → List Node → (level number : ℕ) → Type 0
-IsBadNumber NotMacro nodes level number = ⊥
-IsBadNumber Timeline nodes level number = ⊥
-IsBadNumber Syntax nodes level number = ⊥
 IsBadNumber Forward nodes level number = length nodes < number
 IsBadNumber Level nodes level number = (number ≤ length nodes) × (Names nodes level number → ⊥)
-IsBadNumber LeafSize nodes level number = ⊥
-IsBadNumber Range nodes level number = ⊥
-IsBadNumber GenTooLarge nodes level number = ⊥
-IsBadNumber Memory nodes level number = ⊥
+IsBadNumber fault nodes level number = ⊥
 
 -- of these numbers this is kept
 pub record KeepsParts (kept : Numbers) (nw ne sw se : ℕ) : Type 0 where
