@@ -55,9 +55,6 @@ squares_are : (earlier : List Picture) (ns : List Node) → squares_after earlie
 squares_are earlier [] = refl
 squares_are earlier (n ∷ ns) = squares_are (earlier ++ square_of earlier n ∷ []) ns
 
-pub squares_length : (ns : List Node) → length (squares_of ns) ≡ length ns
-squares_length ns = let e = after_length square_of [] ns in ap length (squares_are [] ns) ∙ omega arith
-
 pub square_stays : (ns ms : List Node) (n : ℕ) → n ≤ length ns → numbered (squares_of (ns ++ ms)) n ≡ numbered (squares_of ns) n
 square_stays ns ms n h =
     ap (λ l. numbered l n) (squares_are [] (ns ++ ms)) ∙ number_stays square_of ns ms n h ∙ ap (λ l. numbered l n) (sym (squares_are [] ns))

@@ -14,7 +14,7 @@ use Rattle.ca_quad.specs.Trees.{Shows, AreFour, IsTree, row_cells, from_corner, 
 use Rattle.ca_quad.proofs.Cells.{cell_ends, cells_stay, of_stays}
 use Rattle.ca_quad.proofs.Shown.{shows_stays}
 use Rattle.ca_macro.specs.declared.read.squares.Squares.{Squares}
-use Rattle.ca_macro.specs.Nodes.{Node, Leaf, Cells, Parts, level_of, Names, IsLevel, MayFollow}
+use Rattle.ca_macro.specs.Nodes.{Node, Leaf, Cells, level_of, Names}
 use Rattle.ca_macro.specs.Shown.{state_of, rows_from, joined, numbered, square_of, squares_after, squares_of, centred, rooted, picture_of}
 use Rattle.ca_macro.specs.inner.Leaves.{leaf_bits}
 use Rattle.ca_macro.specs.inner.Numbers.{kept_of}
@@ -41,13 +41,6 @@ drawn_stay old new sound grows (n ∷ ns) (p ∷ ps) (t ∷ ts) h =
 
 pub empties_stay : (old new : List Kept) → IsSound old → Grows old new → (ids : List ℕ) → AreEmpties old ids → AreEmpties new ids
 empties_stay old new sound grows ids h i low = shows_stays old new sound grows (slice_index ids i) (suc i) (λ x y. 0) (h i low)
-
-pub squares_stay : (old new : List Kept) → Grows old new → (nodes : List Node) (squares : Squares) → AreSquares old nodes squares → AreSquares new nodes squares
-squares_stay old new grows nodes squares h = record {
-  sound = grows.sound;
-  drawn = drawn_stay old new h.sound grows nodes (squares_of nodes) squares.squares.items h.drawn;
-  empties = empties_stay old new h.sound grows squares.empties.ids.items h.empties;
-}
 
 -- ---- one more
 
@@ -238,9 +231,6 @@ record IsRoot (store : List Kept) (ns : List Node) (ps : List Picture) (t : Tree
   level : t.level ≡ level_of node
   draws : Draws store t (numbered ps (length ns))
 
-last_of_more : {A : Type 0} (a b : Option A) (x : A) (xs : List A) → last_or a (x ∷ xs) ≡ last_or b (x ∷ xs)
-last_of_more a b x xs = refl
-
 root_at : (store : List Kept) (ns : List Node) (ps : List Picture) (ts : List Tree) (t : Tree) → AreDrawn store ns ps ts → slice_get ts (length ts - 1) ≡ Some t → IsRoot store ns ps t
 root_at store [] [] [] t h e = absurd (let low = slice_get_within [] 0 t e in omega arith)
 root_at store [] [] (u ∷ ts) t h e = absurd h
@@ -316,8 +306,3 @@ module _ (old new : List Kept) (sound : IsSound old) (grows : Grows old new) (no
     parts_joined after id h =
         joined_drawn new low a b c d (numbered (squares_of nodes) nw) (numbered (squares_of nodes) ne) (numbered (squares_of nodes) sw) (numbered (squares_of nodes) se)
         (part_at nw a p ea hp) (part_at ne b q eb hq) (part_at sw c r ec hr) (part_at se d s ed hs) after id h
-
-    pub parts_stand : (level : ℕ) → IsLevel level → level - 1 ≡ low → MayFollow nodes (Parts level nw ne sw se)
-    parts_stand level is e =
-        let at : (n : ℕ) → Names nodes low n → Names nodes (level - 1) n = λ n h. subst (λ l. Names nodes l n) (sym e) h in
-        (is, (at nw (part_named old nodes low nw p hp), (at ne (part_named old nodes low ne q hq), (at sw (part_named old nodes low sw r hr), (at se (part_named old nodes low se s hs), tt)))))

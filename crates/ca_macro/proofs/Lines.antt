@@ -1,9 +1,9 @@
 -- The lines of a tidy text, as they are put.
-use Rattle.std.proofs.Common.{◌≡◌, ℕ, zero, suc, ◌+◌, ◌-◌, ◌/◌, ◌%◌, ◌<◌, ◌≤◌, ◌==◌, false, inl, inr, List, [], ◌∷◌, ◌++◌, map, take, get_or, length, codes, refl, sym, ap, subst, ◌∙◌, append_assoc, append-nil, arith}
+use Rattle.std.proofs.Common.{◌≡◌, ℕ, zero, suc, ◌-◌, ◌/◌, ◌%◌, ◌≤◌, ◌==◌, false, inl, inr, List, [], ◌∷◌, ◌++◌, map, take, length, codes, refl, sym, ap, subst, ◌∙◌, append_assoc, arith}
 use Rattle.std.specs.List.{flat_map}
 use Rattle.std.proofs.lemmas.Bool.{cases_Bool, eqb-true}
 use Rattle.std.proofs.lemmas.Grind.{flat_map-append}
-use Rattle.std.proofs.lemmas.List.{take_more, take_all}
+use Rattle.std.proofs.lemmas.List.{take_all}
 use Rattle.ca_plane.specs.Puts.{Puts}
 use Rattle.ca_macro.specs.Nodes.{mark_of}
 use Rattle.ca_macro.specs.declared.write.written.Written.{Written}
@@ -12,14 +12,6 @@ use Rattle.ca_macro.specs.inner.Written.{row_of, node_of}
 
 pub puts_on : (a b c t u : List ℕ) → Puts a b t → Puts b c u → Puts a c (t ++ u)
 puts_on a b c t u p q = record { whole = q.whole ∙ ap (λ l. l ++ u) p.whole ∙ append_assoc a t u }
-
--- one item more
-pub puts_item : {A : Type 0} (f : A → List ℕ) (xs : List A) (i : ℕ) (d : A) (start text new : List ℕ) → i < length xs → Puts start text (flat_map f (take i xs)) → Puts text new (f (get_or xs i d))
-    → Puts start new (flat_map f (take (i + 1) xs))
-puts_item f xs i d start text new h p q =
-    let e : flat_map f (take (i + 1) xs) ≡ flat_map f (take i xs) ++ f (get_or xs i d) =
-    ap (flat_map f) (take_more xs i d h) ∙ flat_map-append f (take i xs) (get_or xs i d ∷ []) ∙ ap (λ l. flat_map f (take i xs) ++ l) (append-nil (f (get_or xs i d))) in
-    subst (Puts start new) (sym e) (puts_on start text new (flat_map f (take i xs)) (f (get_or xs i d)) p q)
 
 -- and all of them
 pub puts_all : {A : Type 0} (f : A → List ℕ) (xs : List A) (i : ℕ) (start text : List ℕ) → length xs ≤ i → Puts start text (flat_map f (take i xs)) → Puts start text (flat_map f xs)

@@ -10,9 +10,9 @@ use Rattle.ca_macro.specs.declared.fault.MacroFault.{MacroFault}
 use Rattle.ca_macro.specs.declared.fault.MacroFault.TheVariants.{NotMacro, Memory}
 use Rattle.ca_macro.specs.declared.read.reading.Reading.{Reading}
 use Rattle.ca_macro.specs.Nodes.{Node}
-use Rattle.ca_macro.specs.File.{Said, WordsSay, added, IsAllowed, LinesSay, begins_macro, IsFile}
+use Rattle.ca_macro.specs.File.{Said, WordsSay, added, IsAllowed, LinesSay, begins_macro}
 use Rattle.ca_macro.specs.Faults.{HasLine, AreFaulty, AddNode}
-use Rattle.ca_macro.specs.inner.Reading.{HasFault, HasFaultOn, IsReading, file_of}
+use Rattle.ca_macro.specs.inner.Reading.{HasFault, HasFaultOn, IsReading}
 
 -- ---- one more line
 
@@ -100,21 +100,3 @@ module _ (bytes rest : List ℕ) (count : ℕ) (old store : List Kept) (reading 
   fault_next line later begins next NotMacro h = absurd (h front.said front.read)
   fault_next line later begins next Memory h = next_line AddNode line later begins next (h front.said front.read)
   fault_next line later begins next f h = faulty_next f line later begins next (h front.said front.read)
-
-  -- the whole text is read
-  pub all_read : begins_macro bytes ≡ true → rest ≡ [] → (said : List Said) × IsFile bytes (file_of said) × IsReading store said reading
-  all_read begins none = (
-    front.said,
-    record {
-      first = front.first;
-      lines = front.good;
-      said = front.said;
-      begins = begins;
-      lines_are = front.lines ∙ ap (λ l. front.first ∷ l) (ap (λ r. front.good ++ lines_of r) none ∙ append-nil front.good);
-      say = front.say;
-      nodes = refl;
-      rule_text = refl;
-      generation = refl;
-    },
-    front.read,
-  )

@@ -1,10 +1,9 @@
 -- How long the texts of items are.
-use Rattle.std.proofs.Common.{ℕ, ◌<◌, ◌≤◌, ◌^◌, Bool, true, false, cond, ◌==◌, nat_le, List, [], length, decimal, codes, length-append, arith}
+use Rattle.std.proofs.Common.{ℕ, ◌<◌, ◌≤◌, ◌^◌, Bool, true, false, cond, ◌==◌, nat_le, List, [], length, decimal, codes, arith}
 use Rattle.std.proofs.lemmas.Fmt.{length-decimal-le}
-use Rattle.ca_rle.specs.declared.item.Item.{Item}
 use Rattle.ca_rle.specs.declared.item.Tag.{Tag}
 use Rattle.ca_rle.specs.declared.item.Tag.TheVariants.{Cell, RowEnd}
-use Rattle.ca_rle.specs.Tidy.{letters_of, tag_text, count_text, item_text}
+use Rattle.ca_rle.specs.Tidy.{letters_of, tag_text, count_text}
 
 -- a choice of two texts is as short as both
 choice-le : (b : Bool) (xs ys : List ℕ) (n : ℕ) → length xs ≤ n → length ys ≤ n → length (cond b xs ys) ≤ n
@@ -19,7 +18,3 @@ tag-le states RowEnd = omega arith
 tag-le states (Cell state) =
     choice-le (states == 2) _ (letters_of state) 2 (choice-le (state == 0) (codes "b") (codes "o") 2 (omega arith) (omega arith))
     (choice-le (state == 0) (codes ".") _ 2 (omega arith) (choice-le (nat_le state 24) _ _ 2 (omega arith) (omega arith)))
-
-pub item-le : (states : ℕ) (item : Item) → length (count_text item.count) ≤ 20 → length (item_text states item) ≤ 70
-item-le states item count =
-    omega (arith, tag-le states item.tag, length-append (count_text item.count) (tag_text states item.tag))

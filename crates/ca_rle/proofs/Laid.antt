@@ -1,5 +1,5 @@
 -- Pieces laid out in lines of at most 70 characters, one after another.
-use Rattle.std.proofs.Common.{◌≡◌, ℕ, ◌+◌, ◌<◌, ◌≤◌, List, [], ◌∷◌, ◌++◌, length, ◌⊎◌, inl, inr, refl, sym, ap, subst, ◌∙◌, append_assoc, length-append, arith}
+use Rattle.std.proofs.Common.{◌≡◌, ℕ, ◌+◌, ◌<◌, ◌≤◌, List, [], ◌∷◌, ◌++◌, length, ◌⊎◌, inl, inr, sym, ap, subst, ◌∙◌, append_assoc, length-append, arith}
 use Rattle.std.specs.List.{flat_map, concat}
 use Rattle.std.proofs.lemmas.List.{append-nil}
 use Rattle.std.proofs.lemmas.List.Concat.{flat_map-append}
@@ -45,17 +45,6 @@ pub record IsLaid (start text : List ℕ) (filled : ℕ) (pieces : List (List �
   pub filled_is : filled ≡ length (concat open_line)
   pub short : filled ≤ 70
   pub spelled : text ≡ start ++ (flat_map (λ line. ended (concat line)) closed ++ concat open_line)
-
-pub laid_none : (start : List ℕ) → IsLaid start start 0 []
-laid_none start = record {
-  closed = [];
-  open_line = [];
-  lines_are = inl (refl, refl);
-  whole = refl;
-  filled_is = refl;
-  short = omega arith;
-  spelled = sym (append-nil start);
-}
 
 -- the last line with a piece that has room in it
 open_more : (closed : List (List (List ℕ))) (last : List (List ℕ)) (piece : List ℕ) → IsOpen closed last → length (concat last) + length piece ≤ 70

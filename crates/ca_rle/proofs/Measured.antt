@@ -39,9 +39,6 @@ offset_more items j at next o n = record {
   columns = kept_none_or_sum (ends_row j.tag) (columns_of items) j.count at.columns (kept_number j.count) next.columns n.columns o.columns refl ∙ ap kept_number (sym (columns_of-push items j));
 }
 
-kept_max : (a b m n : ℕ) → n ≡ max (kept_number a) (kept_number b) → m ≡ max a b → n ≡ kept_number m
-kept_max a b m n e f = omega (arith, e, f)
-
 kept_if : (t : Bool) (a b x y : ℕ) → x ≡ kept_number a → y ≡ kept_number b → (if t then 0 else kept_number (x + y)) ≡ kept_number (if t then 0 else a + b)
 kept_if true a b x y f g = refl
 kept_if false a b x y f g = omega (arith, f, g)

@@ -150,16 +150,6 @@ pub record IsDrawn (corner : Point) (bytes behind : List ℕ) (at : Offset) (pla
   pub states : IsPicture (picture_of corner items)
   pub ahead : (x y : ℤ) → IsAhead (place_behind corner items) x y → cell (picture_of corner items) x y ≡ 0
 
--- at first there are none
-pub drawn_none : (corner : Point) (bytes : List ℕ) (at : Offset) (plane : Picture) → IsOffsetOf [] at → plane ≡ [] → IsDrawn corner bytes bytes at plane []
-drawn_none corner bytes at plane offset empty = record {
-  run = refl;
-  offset = offset;
-  cells = λ x y. ap (λ p. cell p x y) empty;
-  states = All-nil (λ e. (1 ≤ e.1) × (e.1 ≤ 255));
-  ahead = λ x y h. refl;
-}
-
 -- one more item
 pub drawn_more : (corner : Point) (bytes rest more : List ℕ) (at next : Offset) (plane new : Picture) (items : List Item) (i : Item) → IsDrawn corner bytes rest at plane items → (item : IsItemAtFront rest i more)
     → IsNext corner items at i item.0 → IsNextOffset i at next → IsSame new (cells_from (point_from corner at) i ++ plane) → IsDrawn corner bytes more next new (items ++ item.0 ∷ [])

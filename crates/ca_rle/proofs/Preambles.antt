@@ -1,7 +1,7 @@
 -- The lines before a header, one after another.
 use Rattle.std.proofs.Common.{◌≡◌, ℕ, Bool, true, false, ◌==◌, List, [], ◌∷◌, ◌++◌, Some, None, slice_get, refl, sym, ap, subst, ◌∙◌, append_assoc, codes, IsTrue}
 use Rattle.std.specs.List.{AllZip, flat_map}
-use Rattle.std.proofs.lemmas.Bool.{both_ways, ne_eqb}
+use Rattle.std.proofs.lemmas.Bool.{ne_eqb}
 use Rattle.std.proofs.lemmas.Grind.{flat_map-append}
 use Rattle.std.proofs.lemmas.List.{append-nil, append_cancel_left}
 use Rattle.std.proofs.lemmas.Option.{same_Some, none-some}
@@ -85,10 +85,6 @@ xlife_before lines line (earlier, x, later, h, e) = (earlier, x, later ++ line �
 -- such a line after others
 pub xlife_last : (lines : List (List ℕ)) (line : List ℕ) → IsXlifeLine line → HasXlifeLine (lines ++ line ∷ [])
 xlife_last lines line h = (lines, line, [], h, refl)
-
--- nothing was said before the first line
-pub read_none : (p : Preamble) → IsStart [] p.start → p.has_xlife_rule ≡ false → IsPreambleOf [] [] p
-read_none p s x = record { good = record { each_is_line = tt; comments = tt; words = tt }; start = s; xlife = λ t. absurd (both_ways _ x t); no_xlife = λ f. tt }
 
 -- what lines say with one more
 pub read_more : (lines : List (List ℕ)) (line : List ℕ) (said more : List Said) (p : Preamble) (s : Start) (x : Bool)

@@ -101,12 +101,6 @@ tag_length : (letters : List ℕ) (i : Item) → tag_of letters ≡ Some i.tag �
 tag_length [] i e = absurd cc
 tag_length (b ∷ bs) i e = omega arith
 
--- so an item takes at least a byte
-pub item_shorter : (bytes : List ℕ) (i : Item) (more : List ℕ) → Run bytes (i ∷ []) more → length more < length bytes
-item_shorter bytes i more (front, later, (before, digits, between, letters, v, c, w, e, spelled), same, whole) =
-    let some = tag_length letters i e in
-    omega (arith, ap length whole, ap length same, ap length spelled, length-append front later, length-append before (digits ++ (between ++ letters)), length-append digits (between ++ letters), length-append between letters, some)
-
 -- its count is not 0
 count_low : (digits : List ℕ) (n : ℕ) → IsCount digits n → 0 < n
 count_low [] n h = omega (arith, h)

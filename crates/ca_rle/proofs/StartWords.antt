@@ -12,13 +12,12 @@ use Rattle.std.proofs.lemmas.Slice.Eq.{starts_is}
 use Rattle.ca_plane.specs.declared.point.Point.{Point}
 use Rattle.ca_plane.specs.Bytes.{front, rest, IsInteger, nearest_i64}
 use Rattle.ca_rle.specs.declared.front.words.Start.{Start}
-use Rattle.ca_rle.specs.declared.fault.RleFault.{RleFault}
 use Rattle.ca_rle.specs.declared.fault.RleFault.TheVariants.{Syntax}
 use Rattle.ca_rle.specs.Header.{Said, Corner, Generation, Nothing, Says}
 use Rattle.ca_rle.specs.File.{last_corner, last_generation}
 use Rattle.ca_rle.specs.Faults.{IsBadWord}
 use Rattle.ca_rle.specs.inner.BodyFaults.{KeepsCorner}
-use Rattle.ca_rle.specs.inner.FrontParts.{KeepsNumber, Writes, WritesPair, IsStart, Leads, HasBadWordAmong}
+use Rattle.ca_rle.specs.inner.FrontParts.{KeepsNumber, Writes, WritesPair, IsStart, Leads}
 use Rattle.ca_plane.proofs.Fronts.{front_append, rest_append, front_then_rest}
 use Rattle.ca_rle.proofs.OneHeader.{integer_has_no_comma}
 
@@ -163,7 +162,3 @@ leads_none start = ([], tt, λ said h. subst (λ (l : List Said). IsStart l star
 pub leads_more : (ws vs : List (List ℕ)) (a b c : Start) → Leads ws a b → Leads vs b c → Leads (ws ++ vs) a c
 leads_more ws vs a b c (m, z, f) (n, y, g) =
     (m ++ n, all_zip_append ws vs m n z y, λ said h. subst (λ (l : List Said). IsStart l c) (append_assoc said m n) (g (said ++ m) (f said h)))
-
--- a bad word after good ones
-pub bad_among : (words good : List (List ℕ)) (word : List ℕ) (later : List (List ℕ)) (fault : RleFault) (a b : Start) → words ≡ good ++ word ∷ later → Leads good a b → IsBadWord word fault → HasBadWordAmong words fault
-bad_among words good word later fault a b e l bad = record { good = good; good_said = l.0; word = word; later = later; words_are = e; good_words = l.1; bad = bad }

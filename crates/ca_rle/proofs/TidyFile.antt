@@ -1,11 +1,9 @@
 -- A tidy text is an RLE file of its plane.
 use Rattle.std.proofs.Common.{◌≡◌, ◌≢◌, ℕ, ◌+◌, ◌<◌, ◌≤◌, ◌^◌, inl, List, [], ◌∷◌, ◌++◌, Some, ℤ, refl, sym, subst, ◌∙◌, append_assoc, append-nil, arith}
 use Rattle.std.specs.List.{AllZip, AllByRecursion}
-use Rattle.std.proofs.lemmas.List.Elements.{All-contains}
 use Rattle.ca_plane.specs.Bytes.{IsWord}
 use Rattle.ca_plane.specs.Plane.{Picture, cell, IsSame}
-use Rattle.ca_plane.specs.Sparse.{IsInPlane, IsSparse}
-use Rattle.ca_plane.proofs.Pictures.{Contains-cell}
+use Rattle.ca_plane.specs.Sparse.{IsInPlane}
 use Rattle.ca_rle.specs.declared.item.Item.{Item}
 use Rattle.ca_rle.specs.Header.{extended_words, Says}
 use Rattle.ca_rle.specs.File.{File, ended, IsFile}
@@ -63,10 +61,6 @@ tidy_is_file far text cells rule_text generation states t small near word low =
 -- the cells of a plane are near enough
 near_in_plane : (cells : Picture) → ((x y : ℤ) → cell cells x y ≢ 0 → IsInPlane (record { y = y; x = x })) → AreNear (2 ^ 62) cells
 near_in_plane cells within x y live = let h = within x y live in ((h.0, h.1), (h.2, h.3))
-
--- the live cells of a kept plane are where a plane keeps cells
-pub live_in_plane : (p : Picture) → IsSparse p → (x y : ℤ) → cell p x y ≢ 0 → IsInPlane (record { y = y; x = x })
-live_in_plane p sparse x y live = All-contains (λ e. IsInPlane e.0) p _ sparse.places (Contains-cell p x y live)
 
 pub file_of_tidy : (text : List ℕ) (cells : Picture) (rule_text : List ℕ) (generation states : ℕ) (t : IsTidy text cells rule_text generation states)
     → IsWord rule_text → generation < 2 ^ 63 → ((x y : ℤ) → cell cells x y ≢ 0 → IsInPlane (record { y = y; x = x })) → IsFile text (tidy_file text cells rule_text generation states t)
