@@ -1,11 +1,12 @@
 -- Texts in pieces.
-use Rattle.std.proofs.Common.{◌≡◌, ℕ, zero, suc, ◌+◌, ◌<◌, List, ◌++◌, length, get_or, take, drop, Option, Result, Ok, Err, OnErr, arith, subst, sym, ap, ◌∙◌, append_assoc, take-append-drop, drop-cons}
+use Rattle.std.proofs.Common.{◌≡◌, ℕ, zero, suc, ◌+◌, ◌<◌, List, ◌++◌, length, get_or, take, drop, Option, Result, Ok, Err, arith, subst, sym, ap, ◌∙◌, append_assoc, take-append-drop, drop-cons}
 use Rattle.std.specs.List.{flat_map}
 use Rattle.std.specs.Io.KnownBytes.{Appends}
 use Rattle.std.proofs.lemmas.List.{drop_all}
 use Rattle.std.proofs.lemmas.List.Concat.{flat_map-append}
-use Rattle.ca_plane.specs.Device.{AppendsPrefix}
-use Rattle.ca_plane.proofs.Sends.{prefix_of_first, prefix_of_second}
+use Rattle.ca_plane.specs.Device.{Counted, Rises, AppendsPrefix}
+use Rattle.ca_plane.proofs.Sends.{sent_both, prefix_of_first, prefix_of_second}
+use Rattle.ca_tool.specs.Writing.{Sends}
 
 -- the pieces before one, that piece, and those after it
 pub flat_map_around : {X : Type 0} (f : X → List ℕ) (xs : List X) (i : ℕ) (d : X) → i < length xs → flat_map f xs ≡ flat_map f (take i xs) ++ (f (get_or xs i d) ++ flat_map f (drop (suc i) xs))
@@ -36,9 +37,21 @@ module _ {X : Type 0} (f : X → List ℕ) where
 pub prefix_front : (old new : Option (List ℕ)) (these first second : List ℕ) → these ≡ first → AppendsPrefix old new these → AppendsPrefix old new (first ++ second)
 prefix_front old new these first second same front = prefix_of_first old new first second (subst (AppendsPrefix old new) same front)
 
--- a first text was sent, and where a call fails, the second in part
-pub prefix_later : {T E : Type 0} (r : Result T E) (old mid new : Option (List ℕ)) (these those first second : List ℕ) → these ≡ first → those ≡ second → Appends old mid these
-    → OnErr r (AppendsPrefix mid new those) → OnErr r (AppendsPrefix old new (first ++ second))
-prefix_later (Ok t) old mid new these those first second one two sent front = front
-prefix_later (Err e) old mid new these those first second one two sent front =
-    prefix_of_second old mid new first second (subst (Appends old mid) one sent) (subst (AppendsPrefix mid new) two front)
+-- a first text was sent, and then a second one, or a part of it
+pub sends_later : {W T E : Type 0} (contents : W → Option (List ℕ)) (old mid new : Counted W) (these those first second : List ℕ) (failure : E) (r : Result T E) → these ≡ first → those ≡ second
+    → Appends (contents old.inner) (contents mid.inner) these → mid.failures ≡ old.failures → Sends contents mid new those failure r → Sends contents old new (first ++ second) failure r
+sends_later contents old mid new these those first second failure (Ok t) one two sent kept sends = record {
+  all = sent_both (contents old.inner) (contents mid.inner) (contents new.inner) first second (subst (Appends (contents old.inner) (contents mid.inner)) one sent) (subst (Appends (contents mid.inner) (contents new.inner)) two sends.all);
+  kept = sends.kept ∙ kept;
+  fault = tt;
+  counted = tt;
+  front = tt;
+}
+sends_later contents old mid new these those first second failure (Err e) one two sent kept sends = record {
+  all = tt;
+  kept = tt;
+  fault = sends.fault;
+  counted = subst (λ n. Rises n new.failures) kept sends.counted;
+  front = prefix_of_second (contents old.inner) (contents mid.inner) (contents new.inner) first second (subst (Appends (contents old.inner) (contents mid.inner)) one sent)
+      (subst (AppendsPrefix (contents mid.inner) (contents new.inner)) two sends.front);
+}

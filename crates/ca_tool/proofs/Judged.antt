@@ -7,17 +7,15 @@ use Rattle.std.proofs.lemmas.List.{append-nil, map-append, length-map}
 use Rattle.std.proofs.lemmas.List.Concat.{flat_map-append}
 use Rattle.std.proofs.lemmas.Slice.Zip.{AllZip-long}
 use Rattle.ca_plane.specs.Device.{AppendsPrefix}
-use Rattle.ca_plane.proofs.Sends.{sent_both, prefix_of_first, prefix_of_second}
-use Rattle.ca_claims.specs.Text.{Claim}
+use Rattle.ca_plane.proofs.Sends.{prefix_of_first, prefix_of_second}
 use Rattle.ca_claims.specs.Answers.{IsTrueAnswer, AreTrueAnswers}
 use Rattle.ca_claims.specs.Notes.{IsNote, IsGiven}
 use Rattle.ca_claims.specs.Judging.{Judging, JudgesAndNotes}
-use Rattle.ca_claims.specs.declared.verdict.Answer.{Answer}
 use Rattle.ca_tool.specs.declared.telling.Telling.{Telling}
 use Rattle.ca_tool.specs.declared.telling.Told.{Told}
 use Rattle.ca_tool.specs.Printed.{line_of, lines_of, note_text, told_text, tolds_text, status_of}
-use Rattle.ca_tool.specs.Runs.{Answered, answers_of, AreTrueNotes, AreGiven, AreTold, AreToldInPart}
-use Rattle.ca_tool.specs.inner.Judged.{WereJudged, NoneLeft, Tells, WereAllJudged}
+use Rattle.ca_tool.specs.Runs.{answers_of, AreTrueNotes, AreGiven, AreAnswered, AreTold, AreToldInPart}
+use Rattle.ca_tool.specs.inner.Judged.{WereJudged, NoneLeft, Tells, TellsInPart, WereAllJudged}
 
 -- pairs, and then other pairs
 zip_append : {X Y : Type 0} (R : X → Y → Type 0) (xs : List X) (ys : List Y) (zs : List X) (ws : List Y) → AllZip R xs ys → AllZip R zs ws → AllZip R (xs ++ zs) (ys ++ ws)
@@ -73,28 +71,26 @@ given_more : (telling : Telling) (tolds : List Told) (told : Told) → AreGiven 
 given_more telling [] told all one explained = (one explained, tt)
 given_more telling (t ∷ tolds) told all one explained = ((all explained).0, given_more telling tolds told (λ e. (all e).1) one explained)
 
-module _ (old mid new : Judging) (telling : Telling) (before between after : Option (List ℕ)) (told : Told) (given : IsTrue telling.explained → IsGiven told.answer.verdict told.note) where
-  -- one claim more was judged and told
-  pub tells_more : (code next : ℕ) → Tells old mid telling (Appends before between) (λ s. code ≡ s) → JudgesAndNotes mid new told.answer told.note → Appends between after (told_text telling told)
-      → ((answers : List Answer) → code ≡ status_of answers → next ≡ status_of (answers ++ told.answer ∷ [])) → Tells old new telling (Appends before after) (λ s. next ≡ s)
-  tells_more code next (tolds, judged, all, sent, so_far) one more worse = (
-    tolds ++ told ∷ [],
-    judged_then old mid new tolds (told ∷ []) judged (judged_one mid new told one),
-    given_more telling tolds told all given,
-    subst (Appends before after) (sym (told_more telling tolds told)) (sent_both before between after (tolds_text telling tolds) (told_text telling told) sent more),
-    worse (answers_of tolds) so_far ∙ ap status_of (sym (map-append (λ (t : Told). t.answer) tolds (told ∷ []))),
-  )
+-- one claim more was judged and told
+pub tells_more : (old mid new : Judging) (telling : Telling) (told : Told) (text : List ℕ) (code next : ℕ) → (IsTrue telling.explained → IsGiven told.answer.verdict told.note) → (so_far : Tells old mid telling text code)
+    → JudgesAndNotes mid new told.answer told.note → next ≡ status_of (answers_of so_far.tolds ++ told.answer ∷ []) → Tells old new telling (text ++ told_text telling told) next
+tells_more old mid new telling told text code next given so_far one worse = record {
+  tolds = so_far.tolds ++ told ∷ [];
+  judged = judged_then old mid new so_far.tolds (told ∷ []) so_far.judged (judged_one mid new told one);
+  given = given_more telling so_far.tolds told so_far.given given;
+  lines = ap (λ l. l ++ told_text telling told) so_far.lines ∙ sym (told_more telling so_far.tolds told);
+  status = worse ∙ ap status_of (sym (map-append (λ (t : Told). t.answer) so_far.tolds (told ∷ [])));
+}
 
-  -- one more was judged and told in part
-  pub tells_part : (Ends : ℕ → Type 0) → Tells old mid telling (Appends before between) Ends → JudgesAndNotes mid new told.answer told.note → AppendsPrefix between after (told_text telling told)
-      → Tells old new telling (AppendsPrefix before after) (λ s. Unit {0})
-  tells_part Ends (tolds, judged, all, sent, so_far) one part = (
-    tolds ++ told ∷ [],
-    judged_then old mid new tolds (told ∷ []) judged (judged_one mid new told one),
-    given_more telling tolds told all given,
-    subst (AppendsPrefix before after) (sym (told_more telling tolds told)) (prefix_of_second before between after (tolds_text telling tolds) (told_text telling told) sent part),
-    tt,
-  )
+-- some claims were told, and one more in part
+pub told_in_part : (old mid new : Judging) (telling : Telling) (told : Told) (before between after : Option (List ℕ)) (code : ℕ) → (IsTrue telling.explained → IsGiven told.answer.verdict told.note)
+    → (text : List ℕ) × Tells old mid telling text code × Appends before between text → JudgesAndNotes mid new told.answer told.note → AppendsPrefix between after (told_text telling told)
+    → (text : List ℕ) × TellsInPart old new telling text × AppendsPrefix before after text
+told_in_part old mid new telling told before between after code given (text, so_far, sent) one part = (
+  text ++ told_text telling told,
+  (_, tells_more old mid new telling told text code _ given so_far one refl),
+  prefix_of_second before between after text (told_text telling told) sent part,
+)
 
 -- where none is left, all were judged
 all_judged : (old new : Judging) (tolds : List Told) → WereJudged old new tolds → NoneLeft new → AreTrueAnswers old.files old.rules old.claims (answers_of tolds) × AreTrueNotes old.files old.rules old.patterns tolds
@@ -104,28 +100,30 @@ all_judged old new tolds judged none = (
 )
 
 -- and so all were told
-pub told_all : (old new : Judging) (telling : Telling) (Written : List ℕ → Type 0) (Ends : ℕ → Type 0) → Tells old new telling Written Ends → NoneLeft new
-    → AreTold old.files old.rules old.claims old.patterns telling Written Ends
-told_all old new telling Written Ends (tolds, judged, given, sent, so_far) none =
-    let all = all_judged old new tolds judged none in
-    (tolds, all.0, all.1, given, sent, so_far)
+pub told_all : (old new : Judging) (telling : Telling) (text : List ℕ) (code : ℕ) → Tells old new telling text code → NoneLeft new → AreTold old telling text code
+told_all old new telling text code tells none =
+    let all = all_judged old new tells.tolds tells.judged none in
+    record { tolds = tells.tolds; holds = all.0; noted = all.1; given = tells.given; lines = tells.lines; status = tells.status }
 
 -- those that were told are the first ones
-pub told_part : (old new : Judging) (telling : Telling) (Written : List ℕ → Type 0) (Ends : ℕ → Type 0) → Tells old new telling Written Ends
-    → AreToldInPart old.files old.rules old.claims old.patterns telling Written
-told_part old new telling Written Ends (tolds, judged, given, sent, so_far) =
+pub told_first : (old new : Judging) (telling : Telling) (text : List ℕ) → TellsInPart old new telling text → AreToldInPart old telling text
+told_first old new telling text (code, tells) =
+    let tolds = tells.tolds in
+    let judged = tells.judged in
     let answers : length tolds ≡ length judged.judged = sym (length-map tolds (λ (t : Told). t.answer)) ∙ AllZip-long (IsTrueAnswer old.files old.rules) judged.judged (answers_of tolds) judged.answers in
-    let notes : length tolds ≡ length judged.theirs = AllZip-long (λ its (t : Told). IsNote old.files old.rules its t.answer.verdict t.note) judged.theirs tolds judged.notes in (
-      length tolds,
-      (
-        tolds,
-        subst (λ cs. AreTrueAnswers old.files old.rules cs (answers_of tolds)) (sym (ap (take (length tolds)) judged.claims ∙ front judged.judged new.claims (length tolds) answers)) judged.answers,
-        subst (λ ps. AreTrueNotes old.files old.rules ps tolds) (sym (ap (take (length tolds)) judged.patterns ∙ front judged.theirs new.patterns (length tolds) notes)) judged.notes,
-        given,
-        sent,
-        tt,
-      ),
-    )
+    let notes : length tolds ≡ length judged.theirs = AllZip-long (λ its (t : Told). IsNote old.files old.rules its t.answer.verdict t.note) judged.theirs tolds judged.notes in
+    record {
+      count = length tolds;
+      code = code;
+      told = record {
+        tolds = tolds;
+        holds = subst (λ cs. AreTrueAnswers old.files old.rules cs (answers_of tolds)) (sym (ap (take (length tolds)) judged.claims ∙ front judged.judged new.claims (length tolds) answers)) judged.answers;
+        noted = subst (λ ps. AreTrueNotes old.files old.rules ps tolds) (sym (ap (take (length tolds)) judged.patterns ∙ front judged.theirs new.patterns (length tolds) notes)) judged.notes;
+        given = tells.given;
+        lines = tells.lines;
+        status = tells.status;
+      };
+    }
 
 -- with nothing before and nothing explained, what is told is the lines of the answers
 plain_text : (telling : Telling) (tolds : List Told) → telling.before.now ≡ [] → telling.explained ≡ false → tolds_text telling tolds ≡ lines_of (answers_of tolds)
@@ -138,15 +136,16 @@ plain_text telling (told ∷ tolds) none off =
     ∙ ap (λ l. line_of told.answer ++ l) (plain_text telling tolds none off)
 
 -- and the claims were answered
-pub answered_plain : (files : List (List ℕ × List ℕ)) (rules : List (List ℕ)) (claims : List (ℕ × Claim)) (patterns : List (List (List ℕ × List ℕ))) (telling : Telling) (Written : List ℕ → Type 0) (Ends : ℕ → Type 0)
-    → telling.before.now ≡ [] → telling.explained ≡ false → AreTold files rules claims patterns telling Written Ends → Answered files rules claims Written Ends
-answered_plain files rules claims patterns telling Written Ends none off (tolds, answers, notes, given, sent, so_far) =
-    (answers_of tolds, answers, subst Written (plain_text telling tolds none off) sent, so_far)
+pub answered_plain : (judging : Judging) (telling : Telling) (text : List ℕ) (code : ℕ) → telling.before.now ≡ [] → telling.explained ≡ false → AreTold judging telling text code → AreAnswered judging text code
+answered_plain judging telling text code none off told = record { answers = answers_of told.tolds; holds = told.holds; lines = told.lines ∙ plain_text telling told.tolds none off; status = told.status }
 
 -- so they were where all were judged, and what is told of the first of them was written in part
-pub answered_part : (old mid new : Judging) (telling : Telling) (before after : Option (List ℕ)) (Ends : ℕ → Type 0) → telling.before.now ≡ [] → telling.explained ≡ false
-    → Tells old mid telling (AppendsPrefix before after) Ends → WereAllJudged mid new → Answered old.files old.rules old.claims (AppendsPrefix before after) (λ s. Unit {0})
-answered_part old mid new telling before after Ends none off (tolds, judged, given, sent, so_far) (others, later, left) =
-    let all = all_judged old new (tolds ++ others) (judged_then old mid new tolds others judged later) left in
-    let more = subst (AppendsPrefix before after) (sym (flat_map-append (told_text telling) tolds others)) (prefix_of_first before after (tolds_text telling tolds) (tolds_text telling others) sent) in
-    (answers_of (tolds ++ others), all.0, subst (AppendsPrefix before after) (plain_text telling (tolds ++ others) none off) more, tt)
+pub answered_part : (old mid new : Judging) (telling : Telling) (before after : Option (List ℕ)) → telling.before.now ≡ [] → telling.explained ≡ false
+    → (text : List ℕ) × TellsInPart old mid telling text × AppendsPrefix before after text → WereAllJudged mid new
+    → (text : List ℕ) × ((code : ℕ) × AreAnswered old text code) × AppendsPrefix before after text
+answered_part old mid new telling before after none off (text, (code, tells), sent) (others, later, left) =
+    let tolds = tells.tolds ++ others in
+    let all = all_judged old new tolds (judged_then old mid new tells.tolds others tells.judged later) left in
+    let lines : tolds_text telling tells.tolds ++ tolds_text telling others ≡ lines_of (answers_of tolds) = sym (flat_map-append (told_text telling) tells.tolds others) ∙ plain_text telling tolds none off in
+    let more = prefix_of_first before after (tolds_text telling tells.tolds) (tolds_text telling others) (subst (AppendsPrefix before after) tells.lines sent) in
+    (lines_of (answers_of tolds), (_, record { answers = answers_of tolds; holds = all.0; lines = refl; status = refl }), subst (AppendsPrefix before after) lines more)

@@ -1,12 +1,15 @@
 -- What runs over pattern files write and answer.
-use Rattle.std.proofs.Common.{◌≡◌, ◌≢◌, ℕ, List, Option, inr, subst, sym}
-use Rattle.std.specs.Prelude.{Result, Ok, Err, OnOk, IfOk}
+use Rattle.std.proofs.Common.{◌≡◌, ◌≢◌, ℕ, List, Option, Result, Ok, Err, inr, refl, subst, sym}
+use Rattle.std.specs.Prelude.{IfOk, IsErrOf}
+use Rattle.std.specs.Io.KnownBytes.{Appends}
+use Rattle.ca_plane.specs.Device.{Counted, AppendsPrefix}
 use Rattle.ca_rule.specs.TableNext.{TableRule}
 use Rattle.ca_claims.specs.declared.conversion.ConvertFault.{ConvertFault}
 use Rattle.ca_claims.specs.declared.conversion.ConvertFault.TheVariants as convert_fault
 use Rattle.ca_tool.specs.declared.fault.ToolFault.{ToolFault}
 use Rattle.ca_tool.specs.declared.fault.ToolFault.TheVariants.{Input, BadTable, Convert, Write, Memory}
-use Rattle.ca_tool.specs.Runs.{ReadsAll, AreKnown, HoldsOfFile, Wrote, IsRunFault}
+use Rattle.ca_tool.specs.Runs.{ReadsAll, AreKnown, HoldsOfFile, IsRunFault}
+use Rattle.ca_tool.specs.Writing.{Sends, WritesOneOf}
 use Rattle.ca_tool.specs.inner.Refusals.{TellsConvert}
 
 -- the pattern is refused, or memory is out for it
@@ -22,12 +25,48 @@ convert_told old new rule IsFault fault Memory same of = inr (subst (λ g. Holds
 pub of_file : (old new rule : Option (List ℕ)) (Holds : List ℕ → List TableRule → Type 0) (bytes these : List ℕ) (all tables : List TableRule) → ReadsAll old new bytes → AreKnown rule all
     → these ≡ bytes → tables ≡ all → Holds these tables → HoldsOfFile old new rule Holds
 of_file old new rule Holds bytes these all tables read known same equal holds =
-    (bytes, all, read, known, subst (λ b. Holds b all) same (subst (λ t. Holds these t) equal holds))
+    record { bytes = bytes; tables = all; read = read; known = known; holds = subst (λ b. Holds b all) same (subst (λ t. Holds these t) equal holds) }
 
--- and that a text that holds of them was written
-pub wrote : (r : Result ℕ ToolFault) (old new rule : Option (List ℕ)) (IsText : List ℕ → List TableRule → List ℕ → Type 0) (Written : List ℕ → Type 0) (bytes these : List ℕ) (all tables : List TableRule)
-    (text sent : List ℕ) → ReadsAll old new bytes → AreKnown rule all → these ≡ bytes → tables ≡ all → IsText these tables text → sent ≡ text → OnOk r (Written sent)
-    → IfOk r (λ status. HoldsOfFile old new rule (Wrote IsText Written))
-wrote (Ok status) old new rule IsText Written bytes these all tables text sent read known same equal is send written =
-    of_file old new rule (Wrote IsText Written) bytes these all tables read known same equal (text, is, subst Written send written)
-wrote (Err fault) old new rule IsText Written bytes these all tables text sent read known same equal is send written = written
+-- that isn't a failed write
+never_write : (fault : ConvertFault) (told : ToolFault) → TellsConvert fault told → IsErrOf {T = ℕ} (Err told) Write → ⊥
+never_write fault (Input f) tells is = tells
+never_write fault (BadTable f) tells is = tells
+never_write fault (Convert f) tells is = cc
+never_write fault Write tells is = tells
+never_write fault Memory tells is = cc
+
+-- where the pattern is refused, nothing is written
+pub nothing_written : {W : Type 0} (contents : W → Option (List ℕ)) (output : Counted W) (IsText : List ℕ → ℕ → Type 0) (IsBegun : List ℕ → Type 0) (old new rule : Option (List ℕ))
+    (IsFault : List ℕ → List TableRule → ConvertFault → Type 0) (fault : ConvertFault) (told : ToolFault) → TellsConvert fault told → HoldsOfFile old new rule (λ bytes tables. IsFault bytes tables fault)
+    → WritesOneOf contents output output IsText IsBegun (IsRunFault old new rule IsFault) (Err told)
+nothing_written contents output IsText IsBegun old new rule IsFault fault told tells of = record {
+  whole = tt;
+  kept = tt;
+  front = λ is. absurd (never_write fault told tells is);
+  counted = λ is. absurd (never_write fault told tells is);
+  fault = λ other. convert_told old new rule IsFault fault told tells of;
+  nothing = λ other. refl;
+}
+
+-- a text of the file was written, or a part of it
+pub text_written : {W : Type 0} (contents : W → Option (List ℕ)) (output written : Counted W) (old new rule : Option (List ℕ)) (IsText : List ℕ → List TableRule → List ℕ → Type 0)
+    (IsFault : List ℕ → List TableRule → ConvertFault → Type 0) (text sent : List ℕ) (result : Result ℕ ToolFault) → HoldsOfFile old new rule (λ bytes tables. IsText bytes tables text) → sent ≡ text
+    → IfOk result (λ status. status ≡ 0) → Sends contents output written sent Write result
+    → WritesOneOf contents output written (λ text status. (status ≡ 0) × HoldsOfFile old new rule (λ bytes tables. IsText bytes tables text)) (λ text. HoldsOfFile old new rule (λ bytes tables. IsText bytes tables text))
+    (IsRunFault old new rule IsFault) result
+text_written contents output written old new rule IsText IsFault text sent (Ok status) of same zero sends = record {
+  whole = (text, (zero, of), subst (Appends (contents output.inner) (contents written.inner)) same sends.all);
+  kept = sends.kept;
+  front = λ is. cc;
+  counted = λ is. cc;
+  fault = tt;
+  nothing = tt;
+}
+text_written contents output written old new rule IsText IsFault text sent (Err fault) of same zero sends = record {
+  whole = tt;
+  kept = tt;
+  front = λ is. (text, of, subst (AppendsPrefix (contents output.inner) (contents written.inner)) same sends.front);
+  counted = λ is. sends.counted;
+  fault = λ other. absurd (other sends.fault);
+  nothing = λ other. absurd (other sends.fault);
+}

@@ -1,8 +1,10 @@
 -- What a run reads and writes.
-use Rattle.std.specs.Prelude.{◌≡◌, ◌≢◌, ℕ, ◌<◌, ◌≤◌, ◌^◌, List, [], ◌∷◌, map, length, take, Option, None, Some, ◌⊎◌, IsTrue}
+use Rattle.std.specs.Prelude.{◌≡◌, ◌≢◌, ℕ, ◌+◌, ◌<◌, ◌≤◌, ◌^◌, List, [], ◌∷◌, map, length, take, Option, None, Some, Result, Err, ◌⊎◌, IsTrue, IsErrOf}
 use Rattle.std.specs.Io.KnownBytes.{Consumes, IsAtEnd}
 use Rattle.std.specs.List.{AllZip, AllByRecursion}
-use Rattle.ca_claims.specs.Text.{Claim, Asked}
+use Rattle.ca_plane.specs.Device.{Counted, Rises}
+use Rattle.ca_claims.specs.Text.{Asked}
+use Rattle.ca_claims.specs.Judging.{Judging}
 use Rattle.ca_claims.specs.Notes.{IsNote, IsGiven}
 use Rattle.ca_rule.specs.TableNext.{TableRule}
 use Rattle.ca_rule.specs.TableFaults as table_faults
@@ -21,6 +23,7 @@ use Rattle.ca_tool.specs.declared.fault.ToolFault.TheVariants.{Input, BadTable, 
 use Rattle.ca_tool.specs.declared.telling.Telling.{Telling}
 use Rattle.ca_tool.specs.declared.telling.Told.{Told}
 use Rattle.ca_tool.specs.Printed.{lines_of, tolds_text, status_of, summary_text}
+use Rattle.ca_tool.specs.Writing.{WritesOneOf}
 
 -- the greatest length of a file: 67108864 bytes
 abbrev pub max_file : ℕ
@@ -44,10 +47,26 @@ GivesSome old new = (bytes : List ℕ) × (0 < length bytes) × (length bytes �
 abbrev pub TakesAtMost : ℕ → Option (List ℕ) → Option (List ℕ) → Type 0
 TakesAtMost most old new = (bytes : List ℕ) × (length bytes ≤ most) × Consumes old new bytes
 
--- claims of a text with rule lines of these paths were answered, truly, and the lines of the answers were written, or a first part of them, or none
-abbrev pub Answered : List (List ℕ × List ℕ) → List (List ℕ) → List (ℕ × Claim) → (List ℕ → Type 0) → (ℕ → Type 0) → Type 0
-Answered files rules claims Written Ends =
-    (answers : List Answer) × AreTrueAnswers files rules claims answers × Written (lines_of answers) × Ends (status_of answers)
+-- at most a byte more than a file may have was taken; a failed read is counted, and nothing else is
+pub record TakesFile {R T E : Type 0} (remaining : R → Option (List ℕ)) (old new : Counted R) (failure : E) (result : Result T E) : Type 0 where
+  pub bounded : TakesAtMost (max_file + 1) (remaining old.inner) (remaining new.inner)
+  pub failed : IsErrOf result failure → Rises old.failures new.failures
+  pub kept : result ≢ Err failure → new.failures ≡ old.failures
+
+-- all claims of a text, over these files
+abbrev pub all_claims : List (List ℕ × List ℕ) → Asked → Judging
+all_claims files asked = record { files = files; rules = asked.rules; claims = asked.claims; patterns = asked.patterns }
+
+-- the first n of some claims
+abbrev pub first_claims : ℕ → Judging → Judging
+first_claims n judging = record { files = judging.files; rules = judging.rules; claims = take n judging.claims; patterns = take n judging.patterns }
+
+-- the text is the lines of true answers to these claims, and the code is the exit status of the answers
+pub record AreAnswered (judging : Judging) (text : List ℕ) (code : ℕ) : Type 0 where
+  pub answers : List Answer
+  pub holds : AreTrueAnswers judging.files judging.rules judging.claims answers
+  pub lines : text ≡ lines_of answers
+  pub status : code ≡ status_of answers
 
 -- the answers of what is told
 abbrev pub answers_of : List Told → List Answer
@@ -61,24 +80,36 @@ AreTrueNotes files rules patterns tolds = AllZip (λ its told. IsNote files rule
 abbrev pub AreGiven : Telling → List Told → Type 0
 AreGiven telling tolds = IsTrue telling.explained → AllByRecursion (λ told. IsGiven told.answer.verdict told.note) tolds
 
--- claims of a text with rule lines of these paths, about these patterns, were answered, truly and with true notes, and what is told of them was written, or
--- a first part of it, or nothing
-abbrev pub AreTold : List (List ℕ × List ℕ) → List (List ℕ) → List (ℕ × Claim) → List (List (List ℕ × List ℕ)) → Telling → (List ℕ → Type 0) → (ℕ → Type 0) → Type 0
-AreTold files rules claims patterns telling Written Ends =
-    (tolds : List Told) × AreTrueAnswers files rules claims (answers_of tolds) × AreTrueNotes files rules patterns tolds × AreGiven telling tolds × Written (tolds_text telling tolds)
-    × Ends (status_of (answers_of tolds))
+-- the text is what is told of true answers to these claims and of true notes on them, and the code is the exit status of the answers
+pub record AreTold (judging : Judging) (telling : Telling) (text : List ℕ) (code : ℕ) : Type 0 where
+  pub tolds : List Told
+  pub holds : AreTrueAnswers judging.files judging.rules judging.claims (answers_of tolds)
+  pub noted : AreTrueNotes judging.files judging.rules judging.patterns tolds
+  pub given : AreGiven telling tolds
+  pub lines : text ≡ tolds_text telling tolds
+  pub status : code ≡ status_of (answers_of tolds)
 
--- so many of the first claims were told, and of the last of these perhaps a part
-abbrev pub AreToldInPart : List (List ℕ × List ℕ) → List (List ℕ) → List (ℕ × Claim) → List (List (List ℕ × List ℕ)) → Telling → (List ℕ → Type 0) → Type 0
-AreToldInPart files rules claims patterns telling Written = (n : ℕ) × AreTold files rules (take n claims) (take n patterns) telling Written (λ status. Unit {0})
+-- the text is what is told of so many of the first claims
+pub record AreToldInPart (judging : Judging) (telling : Telling) (text : List ℕ) : Type 0 where
+  pub count : ℕ
+  pub code : ℕ
+  pub told : AreTold (first_claims count judging) telling text code
 
--- all claims of a text were told
-abbrev pub IsTold : List (List ℕ × List ℕ) → Asked → Telling → (List ℕ → Type 0) → (ℕ → Type 0) → Type 0
-IsTold files asked telling Written Ends = AreTold files asked.rules asked.claims asked.patterns telling Written Ends
+-- memory was refused for a text that makes a claim
+pub record NeedsMemory (judging : Judging) (fault : ToolFault) : Type 0 where
+  pub refused : fault ≡ Memory
+  pub some : judging.claims ≢ []
 
--- so many of the first claims of a text were told, and of the last of these perhaps a part
-abbrev pub IsToldInPart : List (List ℕ × List ℕ) → Asked → Telling → (List ℕ → Type 0) → Type 0
-IsToldInPart files asked telling Written = AreToldInPart files asked.rules asked.claims asked.patterns telling Written
+-- all that is told of these claims is written, with their status; or a first part of what is told of the first claims, and then a write fails; or
+-- nothing, and memory was refused for a text that makes a claim
+abbrev pub TellsAll : {W : Type 0} → (W → Option (List ℕ)) → Counted W → Counted W → Judging → Telling → Result ℕ ToolFault → Type 0
+TellsAll contents old new judging telling result =
+    WritesOneOf contents old new (AreTold judging telling) (AreToldInPart judging telling) (NeedsMemory judging) result
+
+-- the same of the lines of the answers alone, but that the part is one of the lines of all claims
+abbrev pub AnswersAll : {W : Type 0} → (W → Option (List ℕ)) → Counted W → Counted W → Judging → Result ℕ ToolFault → Type 0
+AnswersAll contents old new judging result =
+    WritesOneOf contents old new (AreAnswered judging) (λ text. (code : ℕ) × AreAnswered judging text code) (NeedsMemory judging) result
 
 -- what a file gave that isn't read; of a read that fails the device tells
 abbrev pub IsInputFault : Option (List ℕ) → Option (List ℕ) → InputFault → Type 0
@@ -92,12 +123,12 @@ AreKnown None tables = tables ≡ []
 AreKnown (Some rule) tables = (table : TableRule) × IsQuietTable rule table × (tables ≡ table ∷ [])
 
 -- the file was read whole, the rule file is a table, and this holds of the file's bytes and the tables
-abbrev pub HoldsOfFile : Option (List ℕ) → Option (List ℕ) → Option (List ℕ) → (List ℕ → List TableRule → Type 0) → Type 0
-HoldsOfFile old new rule Holds = (bytes : List ℕ) × (tables : List TableRule) × ReadsAll old new bytes × AreKnown rule tables × Holds bytes tables
-
--- a text that is of the file was written, or a first part of it
-abbrev pub Wrote : (List ℕ → List TableRule → List ℕ → Type 0) → (List ℕ → Type 0) → List ℕ → List TableRule → Type 0
-Wrote IsText Written bytes tables = (text : List ℕ) × IsText bytes tables text × Written text
+pub record HoldsOfFile (old new rule : Option (List ℕ)) (Holds : List ℕ → List TableRule → Type 0) : Type 0 where
+  pub bytes : List ℕ
+  pub tables : List TableRule
+  pub read : ReadsAll old new bytes
+  pub known : AreKnown rule tables
+  pub holds : Holds bytes tables
 
 -- the text is the five lines of a summary that is true of the bytes
 pub record IsShown (bytes : List ℕ) (tables : List TableRule) (text : List ℕ) : Type 0 where
@@ -122,3 +153,14 @@ IsRunFault old new rule IsFault (Convert fault) = (fault ≢ convert_fault.Memor
 IsRunFault old new rule IsFault Write = ⊥
 IsRunFault old new rule IsFault Memory = (WasRead old new × IsRuleFileFault rule table_fault.Memory)
     ⊎ HoldsOfFile old new rule (λ bytes tables. IsFault bytes tables convert_fault.Memory)
+
+-- a file's bytes and its rule file, if there is one, are read, at most a byte more than a file may have; and a text that is of both is written with
+-- the status 0, or a first part of it, or nothing for a fault of theirs
+pub record RunsOver {R W : Type 0} (remaining : R → Option (List ℕ)) (contents : W → Option (List ℕ)) (input read : Counted R) (rule : Option (List ℕ))
+    (output written : Counted W) (IsText : List ℕ → List TableRule → List ℕ → Type 0) (IsFault : List ℕ → List TableRule → ConvertFault → Type 0)
+    (result : Result ℕ ToolFault) : Type 0 where
+  pub reads : TakesFile remaining input read (Input inputs.Read) result
+  pub writes : WritesOneOf contents output written
+      (λ text status. (status ≡ 0) × HoldsOfFile (remaining input.inner) (remaining read.inner) rule (λ bytes tables. IsText bytes tables text))
+      (λ text. HoldsOfFile (remaining input.inner) (remaining read.inner) rule (λ bytes tables. IsText bytes tables text))
+      (IsRunFault (remaining input.inner) (remaining read.inner) rule IsFault) result

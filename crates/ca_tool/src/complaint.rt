@@ -1,9 +1,8 @@
 //! The line that tells a fault.
 
-ghost use Rattle.std.specs.Prelude.{◌≡◌, OnOk, OnErr, IfErr};
-ghost use Rattle.std.specs.Io.KnownBytes.{Appends};
-ghost use Rattle.ca_plane.specs.Device.{Rises, AppendsPrefix};
+ghost use Rattle.std.specs.Prelude.{◌≡◌};
 ghost use Rattle.ca_tool.specs.Printed.{input_fault_text, claim_fault_text, rule_file_text, convert_fault_text, fault_text, complaint, complaint_of};
+ghost use Rattle.ca_tool.specs.Writing.{Sends};
 ghost use Rattle.ca_tool.specs.inner.Pieces.{pieces_text};
 
 use crate::fault::{Fault, InputFault, ToolFault};
@@ -125,11 +124,8 @@ fn complaint_of_pieces<'a>(fault: &Fault, path: &'a [u8]) -> [Piece<'a>; 7]
 ///
 /// It takes no memory. After a failure some first part of the line was written, but not all of it.
 pub fn complain<W: Write>(fault: &Fault, path: &[u8], device: &mut Dev<W>) -> Result<(), WriteFault>
-    ensures all { OnOk result (Appends (W.contents device.old.inner) (W.contents device.new.inner) (complaint fault.now path.now)) }
-    ensures kept { OnOk result (device.new.failures ≡ device.old.failures) }
-    ensures fault { IfErr result (λ e. e ≡ WriteFault.Write) }
-    ensures counted { OnErr result (Rises device.old.failures device.new.failures) }
-    ensures front { OnErr result (AppendsPrefix (W.contents device.old.inner) (W.contents device.new.inner) (complaint fault.now path.now)) }
+    ensures sends { Sends W.contents device.old device.new
+        (complaint fault.now path.now) WriteFault.Write result }
 {
     send_pieces(device, &complaint_pieces(fault, path))
 }
@@ -143,11 +139,8 @@ pub fn complain_of<W: Write>(
     path: &[u8],
     device: &mut Dev<W>,
 ) -> Result<(), WriteFault>
-    ensures all { OnOk result (Appends (W.contents device.old.inner) (W.contents device.new.inner) (complaint_of fault.now path.now)) }
-    ensures kept { OnOk result (device.new.failures ≡ device.old.failures) }
-    ensures fault { IfErr result (λ e. e ≡ WriteFault.Write) }
-    ensures counted { OnErr result (Rises device.old.failures device.new.failures) }
-    ensures front { OnErr result (AppendsPrefix (W.contents device.old.inner) (W.contents device.new.inner) (complaint_of fault.now path.now)) }
+    ensures sends { Sends W.contents device.old device.new
+        (complaint_of fault.now path.now) WriteFault.Write result }
 {
     send_pieces(device, &complaint_of_pieces(fault, path))
 }

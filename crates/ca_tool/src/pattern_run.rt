@@ -1,12 +1,11 @@
 //! Runs of `show` and of `convert`: a pattern file in, what is shown of it or another pattern file out.
 
-ghost use Rattle.std.specs.Prelude.{◌≡◌, ◌≢◌, ◌+◌, Err, IfOk, IfErr, OnOk, OnErr, IsErrOf};
+ghost use Rattle.std.specs.Prelude.{◌≡◌, IfOk, IfErr};
 ghost use Rattle.std.specs.Option.{option_copied, option_to_list};
-ghost use Rattle.std.specs.Io.KnownBytes.{Appends};
-ghost use Rattle.ca_plane.specs.Device.{Rises, AppendsPrefix};
 ghost use Rattle.ca_claims.specs.Converted.{IsConverted, IsSummaryFault, IsConvertFault};
 ghost use Rattle.ca_tool.specs.declared.fault.InputFault.TheVariants as inputs;
-ghost use Rattle.ca_tool.specs.Runs.{max_file, ReadsAll, TakesAtMost, AreKnown, HoldsOfFile, Wrote, IsShown, IsRuleFileFault, IsRunFault};
+ghost use Rattle.ca_tool.specs.Writing.{Sends};
+ghost use Rattle.ca_tool.specs.Runs.{ReadsAll, TakesFile, AreKnown, IsShown, IsRuleFileFault, RunsOver};
 ghost use Rattle.ca_tool.specs.inner.Refusals.{TellsTable, TellsConvert, IsReadingFault};
 
 use crate::fault::ToolFault;
@@ -28,25 +27,9 @@ pub fn show_run<R: Read, W: Write>(
     table: Option<&[u8]>,
     output: &mut Dev<W>,
 ) -> Result<u8, ToolFault>
-    // The file was read, and the lines of a true summary of it were written.
-    ensures status { IfOk result (λ status. status ≡ 0) }
-    ensures shown { IfOk result (λ status. HoldsOfFile (R.remaining input.old.inner) (R.remaining input.new.inner) (option_copied table.entry)
-        (Wrote IsShown (Appends (W.contents output.old.inner) (W.contents output.new.inner)))) }
-    ensures kept { IfOk result (λ status. output.new.failures ≡ output.old.failures) }
-
-    // A write failed, after a first part of such lines, but not all of them.
-    ensures front { IsErrOf result ToolFault.Write → HoldsOfFile (R.remaining input.old.inner) (R.remaining input.new.inner) (option_copied table.entry)
-        (Wrote IsShown (AppendsPrefix (W.contents output.old.inner) (W.contents output.new.inner))) }
-    ensures counted { IsErrOf result ToolFault.Write → Rises output.old.failures output.new.failures }
-
-    // Another fault holds of the file and of the rule file, and nothing was written.
-    ensures fault { IfErr result (λ f. f ≢ ToolFault.Write → IsRunFault (R.remaining input.old.inner) (R.remaining input.new.inner) (option_copied table.entry) IsSummaryFault f) }
-    ensures nothing { IfErr result (λ f. f ≢ ToolFault.Write → output.new ≡ output.old) }
-
-    // A failed read is counted, and nothing else is.
-    ensures bounded { TakesAtMost (max_file + 1) (R.remaining input.old.inner) (R.remaining input.new.inner) }
-    ensures failed { IsErrOf result (ToolFault.Input inputs.Read) → Rises input.old.failures input.new.failures }
-    ensures unfailed { result ≢ Err (ToolFault.Input inputs.Read) → input.new.failures ≡ input.old.failures }
+    // The lines of a true summary are written, or a first part of them and then a write fails, or none for another fault.
+    ensures runs { RunsOver R.remaining W.contents input.old input.new (option_copied table.entry)
+        output.old output.new IsShown IsSummaryFault result }
 {
     let (bytes, table) = read_and_parse(alloc, input, table)?;
     let text = match shown(alloc, &bytes, tables_of(&table)) {
@@ -67,26 +50,10 @@ pub fn convert_run<R: Read, W: Write>(
     table: Option<&[u8]>,
     output: &mut Dev<W>,
 ) -> Result<u8, ToolFault>
-    // The file was read, and what it is converted to was written.
-    ensures status { IfOk result (λ status. status ≡ 0) }
-    ensures converted { IfOk result (λ status. HoldsOfFile (R.remaining input.old.inner) (R.remaining input.new.inner) (option_copied table.entry)
-        (Wrote (λ bytes tables text. IsConverted bytes tables target text) (Appends (W.contents output.old.inner) (W.contents output.new.inner)))) }
-    ensures kept { IfOk result (λ status. output.new.failures ≡ output.old.failures) }
-
-    // A write failed, after a first part of it, but not all.
-    ensures front { IsErrOf result ToolFault.Write → HoldsOfFile (R.remaining input.old.inner) (R.remaining input.new.inner) (option_copied table.entry)
-        (Wrote (λ bytes tables text. IsConverted bytes tables target text) (AppendsPrefix (W.contents output.old.inner) (W.contents output.new.inner))) }
-    ensures counted { IsErrOf result ToolFault.Write → Rises output.old.failures output.new.failures }
-
-    // Another fault holds of the file and of the rule file, and nothing was written.
-    ensures fault { IfErr result (λ f. f ≢ ToolFault.Write → IsRunFault (R.remaining input.old.inner) (R.remaining input.new.inner) (option_copied table.entry)
-        (λ bytes tables fault. IsConvertFault bytes tables target fault) f) }
-    ensures nothing { IfErr result (λ f. f ≢ ToolFault.Write → output.new ≡ output.old) }
-
-    // A failed read is counted, and nothing else is.
-    ensures bounded { TakesAtMost (max_file + 1) (R.remaining input.old.inner) (R.remaining input.new.inner) }
-    ensures failed { IsErrOf result (ToolFault.Input inputs.Read) → Rises input.old.failures input.new.failures }
-    ensures unfailed { result ≢ Err (ToolFault.Input inputs.Read) → input.new.failures ≡ input.old.failures }
+    // What it is converted to is written, or a first part of that and then a write fails, or nothing for another fault.
+    ensures runs { RunsOver R.remaining W.contents input.old input.new (option_copied table.entry)
+        output.old output.new (λ bytes tables text. IsConverted bytes tables target text)
+        (λ bytes tables fault. IsConvertFault bytes tables target fault) result }
 {
     let (bytes, table) = read_and_parse(alloc, input, table)?;
     let text = match convert(alloc, &bytes, target, tables_of(&table)) {
@@ -105,9 +72,7 @@ fn read_and_parse<R: Read>(
     ensures read { IfOk result (λ r. ReadsAll (R.remaining input.old.inner) (R.remaining input.new.inner) r.0.items) }
     ensures known { IfOk result (λ r. AreKnown (option_copied rule.entry) (option_to_list r.1)) }
     ensures fault { IfErr result (IsReadingFault (R.remaining input.old.inner) (R.remaining input.new.inner) (option_copied rule.entry)) }
-    ensures bounded { TakesAtMost (max_file + 1) (R.remaining input.old.inner) (R.remaining input.new.inner) }
-    ensures failed { IsErrOf result (ToolFault.Input inputs.Read) → Rises input.old.failures input.new.failures }
-    ensures unfailed { result ≢ Err (ToolFault.Input inputs.Read) → input.new.failures ≡ input.old.failures }
+    ensures takes { TakesFile R.remaining input.old input.new (ToolFault.Input inputs.Read) result }
 {
     let bytes = match read_all(alloc, input) {
         Ok(bytes) => bytes,
@@ -172,11 +137,7 @@ fn shown(alloc: Global, bytes: &[u8], tables: &[Table]) -> Result<Vec<u8>, Conve
 // Writes the whole text, and answers the exit status.
 fn write<W: Write>(output: &mut Dev<W>, text: &[u8]) -> Result<u8, ToolFault>
     ensures status { IfOk result (λ status. status ≡ 0) }
-    ensures all { OnOk result (Appends (W.contents output.old.inner) (W.contents output.new.inner) text.now) }
-    ensures kept { OnOk result (output.new.failures ≡ output.old.failures) }
-    ensures fault { IfErr result (λ f. f ≡ ToolFault.Write) }
-    ensures counted { OnErr result (Rises output.old.failures output.new.failures) }
-    ensures front { OnErr result (AppendsPrefix (W.contents output.old.inner) (W.contents output.new.inner) text.now) }
+    ensures sends { Sends W.contents output.old output.new text.now ToolFault.Write result }
 {
     if send(output, text).is_err() {
         return Err(ToolFault::Write);

@@ -1,9 +1,8 @@
 //! Texts in pieces, which are sent or pushed one after another. The pieces themselves take no memory.
 
-ghost use Rattle.std.specs.Prelude.{◌≡◌, OnOk, OnErr, IfErr};
-ghost use Rattle.std.specs.Io.KnownBytes.{Appends};
-ghost use Rattle.ca_plane.specs.Device.{Rises, AppendsPrefix};
+ghost use Rattle.std.specs.Prelude.{◌≡◌, OnOk};
 ghost use Rattle.ca_plane.specs.Puts.{Puts};
+ghost use Rattle.ca_tool.specs.Writing.{Sends};
 ghost use Rattle.ca_tool.specs.inner.Pieces.{piece_text, pieces_text};
 
 use ca_plane::text::push_text;
@@ -49,11 +48,7 @@ pub(crate) fn send_pieces<W: Write>(
     device: &mut Dev<W>,
     pieces: &[Piece<'_>],
 ) -> Result<(), WriteFault>
-    ensures all { OnOk result (Appends (W.contents device.old.inner) (W.contents device.new.inner) (pieces_text pieces.now)) }
-    ensures kept { OnOk result (device.new.failures ≡ device.old.failures) }
-    ensures fault { IfErr result (λ e. e ≡ WriteFault.Write) }
-    ensures counted { OnErr result (Rises device.old.failures device.new.failures) }
-    ensures front { OnErr result (AppendsPrefix (W.contents device.old.inner) (W.contents device.new.inner) (pieces_text pieces.now)) }
+    ensures { Sends W.contents device.old device.new (pieces_text pieces.now) WriteFault.Write result }
 {
     'pieces: for piece in pieces {
         let mut buffer = Buffer::new();

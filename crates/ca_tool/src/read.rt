@@ -1,8 +1,7 @@
 //! Reading a whole file.
 
-ghost use Rattle.std.specs.Prelude.{◌≡◌, ◌≢◌, ◌+◌, Err, IfOk, IsErrOf};
-ghost use Rattle.ca_plane.specs.Device.{Rises};
-ghost use Rattle.ca_tool.specs.Runs.{ReadsAll, GivesTooMany, GivesSome, TakesAtMost, max_file};
+ghost use Rattle.std.specs.Prelude.{IfOk, IsErrOf};
+ghost use Rattle.ca_tool.specs.Runs.{ReadsAll, GivesTooMany, GivesSome, TakesFile};
 
 use crate::fault::InputFault;
 use ca_plane::Dev;
@@ -23,9 +22,8 @@ pub fn read_all<R: Read>(alloc: Global, device: &mut Dev<R>) -> Result<Vec<u8>, 
     ensures found { IfOk result (λ v. ReadsAll (R.remaining device.old.inner) (R.remaining device.new.inner) v.items) }
     ensures too_long { IsErrOf result InputFault.TooLong → GivesTooMany (R.remaining device.old.inner) (R.remaining device.new.inner) }
     ensures memory { IsErrOf result InputFault.Memory → GivesSome (R.remaining device.old.inner) (R.remaining device.new.inner) }
-    ensures bounded { TakesAtMost (max_file + 1) (R.remaining device.old.inner) (R.remaining device.new.inner) }
-    ensures failed { IsErrOf result InputFault.Read → Rises device.old.failures device.new.failures }
-    ensures kept { result ≢ Err InputFault.Read → device.new.failures ≡ device.old.failures }
+    // A failed read is counted, and nothing else is.
+    ensures takes { TakesFile R.remaining device.old device.new InputFault.Read result }
 {
     let mut bytes = Vec::new(alloc);
     let mut buffer = [0u8; PIECE];

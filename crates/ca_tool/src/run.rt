@@ -1,13 +1,12 @@
 //! Runs of `verify`: claims in, the lines of their answers out, each before the next claim is judged.
 
-ghost use Rattle.std.specs.Prelude.{◌≡◌, ◌≢◌, ◌⊎◌, [], IfOk, IfErr, OnOk, OnErr, IsErrOf, MatchOption, IsTrue, IfSome};
-ghost use Rattle.std.specs.Io.KnownBytes.{Appends};
-ghost use Rattle.ca_plane.specs.Device.{Rises, AppendsPrefix};
+ghost use Rattle.std.specs.Prelude.{IsTrue, IfSome, MatchOption};
 ghost use Rattle.ca_claims.specs.Means.{contents};
 ghost use Rattle.ca_claims.specs.Judging.{JudgesAndNotes, IsDone};
 ghost use Rattle.ca_claims.specs.Notes.{IsGiven};
-ghost use Rattle.ca_tool.specs.Runs.{Answered, AreTold, AreToldInPart, IsTold, IsToldInPart};
-ghost use Rattle.ca_tool.specs.inner.Judged.{Tells, WereAllJudged};
+ghost use Rattle.ca_tool.specs.Writing.{WritesOneOf};
+ghost use Rattle.ca_tool.specs.Runs.{all_claims, AreTold, NeedsMemory, TellsAll, AnswersAll};
+ghost use Rattle.ca_tool.specs.inner.Judged.{TellsInPart, WereAllJudged};
 
 use crate::fault::ToolFault;
 use crate::printing::worse;
@@ -35,22 +34,9 @@ pub fn verify_run<W: Write>(
     files: &[File<'_>],
     device: &mut Dev<W>,
 ) -> Result<u8, ToolFault>
-    // The answers are true, all their lines are written, and the status is theirs.
-    ensures answered { IfOk result (λ code. Answered (contents files.now) claims.now.rules claims.now.claims
-        (Appends (W.contents device.old.inner) (W.contents device.new.inner)) (λ s. code ≡ s)) }
-    ensures kept { OnOk result (device.new.failures ≡ device.old.failures) }
-
-    // It fails for a write or out of memory alone.
-    ensures fault { IfErr result (λ f. (f ≡ ToolFault.Write) ⊎ (f ≡ ToolFault.Memory)) }
-
-    // A write failed, after a first part of the lines of true answers, but not all of them.
-    ensures front { IsErrOf result ToolFault.Write → Answered (contents files.now) claims.now.rules claims.now.claims
-        (AppendsPrefix (W.contents device.old.inner) (W.contents device.new.inner)) (λ s. Unit {0}) }
-    ensures counted { IsErrOf result ToolFault.Write → Rises device.old.failures device.new.failures }
-
-    // Memory was refused for a text that makes a claim, and nothing was written.
-    ensures memory { IsErrOf result ToolFault.Memory → claims.now.claims ≢ [] }
-    ensures nothing { IsErrOf result ToolFault.Memory → device.new ≡ device.old }
+    // All lines are written, or a first part of them and then a write fails, or none for want of memory.
+    ensures answers { AnswersAll W.contents device.old device.new
+        (all_claims (contents files.now) claims.now) result }
 {
     let Ok(mut judge) = Judge::new(alloc, claims, files) else {
         return Err(ToolFault::Memory);
@@ -70,22 +56,9 @@ pub fn verify_told<W: Write>(
     telling: &Telling<'_>,
     device: &mut Dev<W>,
 ) -> Result<u8, ToolFault>
-    // The answers and the notes are true, all the lines for them are written, and the status is theirs.
-    ensures told { IfOk result (λ code. IsTold (contents files.now) claims.now telling.now
-        (Appends (W.contents device.old.inner) (W.contents device.new.inner)) (λ s. code ≡ s)) }
-    ensures kept { OnOk result (device.new.failures ≡ device.old.failures) }
-
-    // It fails for a write or out of memory alone.
-    ensures fault { IfErr result (λ f. (f ≡ ToolFault.Write) ⊎ (f ≡ ToolFault.Memory)) }
-
-    // A write failed, after a first part of the lines for the first claims, but not all of them.
-    ensures front { IsErrOf result ToolFault.Write → IsToldInPart (contents files.now) claims.now telling.now
-        (AppendsPrefix (W.contents device.old.inner) (W.contents device.new.inner)) }
-    ensures counted { IsErrOf result ToolFault.Write → Rises device.old.failures device.new.failures }
-
-    // Memory was refused for a text that makes a claim, and nothing was written.
-    ensures memory { IsErrOf result ToolFault.Memory → claims.now.claims ≢ [] }
-    ensures nothing { IsErrOf result ToolFault.Memory → device.new ≡ device.old }
+    // All is told, or a first part of it and then a write fails, or nothing for want of memory.
+    ensures tells { TellsAll W.contents device.old device.new
+        (all_claims (contents files.now) claims.now) telling.now result }
 {
     verify_watched(alloc, claims, files, telling, device, &mut Unwatched)
 }
@@ -102,22 +75,9 @@ pub fn verify_watched<W: Write, O: Observer>(
     device: &mut Dev<W>,
     observer: &mut O,
 ) -> Result<u8, ToolFault>
-    // The answers and the notes are true, all the lines for them are written, and the status is theirs.
-    ensures told { IfOk result (λ code. IsTold (contents files.now) claims.now telling.now
-        (Appends (W.contents device.old.inner) (W.contents device.new.inner)) (λ s. code ≡ s)) }
-    ensures kept { OnOk result (device.new.failures ≡ device.old.failures) }
-
-    // It fails for a write or out of memory alone.
-    ensures fault { IfErr result (λ f. (f ≡ ToolFault.Write) ⊎ (f ≡ ToolFault.Memory)) }
-
-    // A write failed, after a first part of the lines for the first claims, but not all of them.
-    ensures front { IsErrOf result ToolFault.Write → IsToldInPart (contents files.now) claims.now telling.now
-        (AppendsPrefix (W.contents device.old.inner) (W.contents device.new.inner)) }
-    ensures counted { IsErrOf result ToolFault.Write → Rises device.old.failures device.new.failures }
-
-    // Memory was refused for a text that makes a claim, and nothing was written.
-    ensures memory { IsErrOf result ToolFault.Memory → claims.now.claims ≢ [] }
-    ensures nothing { IsErrOf result ToolFault.Memory → device.new ≡ device.old }
+    // All is told, or a first part of it and then a write fails, or nothing for want of memory.
+    ensures tells { TellsAll W.contents device.old device.new
+        (all_claims (contents files.now) claims.now) telling.now result }
 {
     let Ok(mut judge) = Judge::new(alloc, claims, files) else {
         return Err(ToolFault::Memory);
@@ -127,13 +87,7 @@ pub fn verify_watched<W: Write, O: Observer>(
 
 // Judges all claims that are left, and writes the lines of their answers, as long as no write fails.
 fn answer_all<W: Write>(judge: &mut Judge<'_>, device: &mut Dev<W>) -> Result<u8, ToolFault>
-    ensures answered { IfOk result (λ code. Answered judge.old.files judge.old.rules judge.old.claims
-        (Appends (W.contents device.old.inner) (W.contents device.new.inner)) (λ s. code ≡ s)) }
-    ensures kept { OnOk result (device.new.failures ≡ device.old.failures) }
-    ensures fault { IfErr result (λ f. f ≡ ToolFault.Write) }
-    ensures front { OnErr result (Answered judge.old.files judge.old.rules judge.old.claims
-        (AppendsPrefix (W.contents device.old.inner) (W.contents device.new.inner)) (λ s. Unit {0})) }
-    ensures counted { OnErr result (Rises device.old.failures device.new.failures) }
+    ensures { AnswersAll W.contents device.old device.new judge.old result }
 {
     match tell_all(judge, &PLAIN, device, &mut Unwatched) {
         Ok(code) => Ok(code),
@@ -151,15 +105,8 @@ fn tell_all<W: Write, O: Observer>(
     device: &mut Dev<W>,
     observer: &mut O,
 ) -> Result<u8, ToolFault>
-    ensures told { IfOk result (λ code. AreTold judge.old.files judge.old.rules judge.old.claims judge.old.patterns telling.now
-        (Appends (W.contents device.old.inner) (W.contents device.new.inner)) (λ s. code ≡ s)) }
-    ensures kept { OnOk result (device.new.failures ≡ device.old.failures) }
-    ensures fault { IfErr result (λ f. f ≡ ToolFault.Write) }
-    ensures front { OnErr result (Tells judge.old judge.new telling.now
-        (AppendsPrefix (W.contents device.old.inner) (W.contents device.new.inner)) (λ s. Unit {0})) }
-    ensures part { OnErr result (AreToldInPart judge.old.files judge.old.rules judge.old.claims judge.old.patterns telling.now
-        (AppendsPrefix (W.contents device.old.inner) (W.contents device.new.inner))) }
-    ensures counted { OnErr result (Rises device.old.failures device.new.failures) }
+    ensures { WritesOneOf W.contents device.old device.new
+        (AreTold judge.old telling.now) (TellsInPart judge.old judge.new telling.now) (NeedsMemory judge.old) result }
 {
     let mut code = 0;
     'claims: while let Some(told) = next_told(judge, telling.explained, observer) {

@@ -1,9 +1,8 @@
 //! What is printed for a claim: the line of its answer, and a second line that explains it.
 
-ghost use Rattle.std.specs.Prelude.{◌≡◌, OnOk, OnErr, IfErr, codes, if◌then◌else◌, []};
-ghost use Rattle.std.specs.Io.KnownBytes.{Appends};
-ghost use Rattle.ca_plane.specs.Device.{Rises, AppendsPrefix};
+ghost use Rattle.std.specs.Prelude.{◌≡◌, codes, if◌then◌else◌, []};
 ghost use Rattle.ca_tool.specs.Printed.{generations_word, cell_line, at_line, file_line, cause_line, note_text, told_text};
+ghost use Rattle.ca_tool.specs.Writing.{Sends};
 ghost use Rattle.ca_tool.specs.inner.Pieces.{pieces_text};
 
 use crate::pieces::{NOTHING, Piece, send_pieces};
@@ -151,11 +150,8 @@ pub(crate) fn send_told<W: Write>(
     telling: &Telling<'_>,
     told: &Told<'_>,
 ) -> Result<(), WriteFault>
-    ensures all { OnOk result (Appends (W.contents device.old.inner) (W.contents device.new.inner) (told_text telling.now told.now)) }
-    ensures kept { OnOk result (device.new.failures ≡ device.old.failures) }
-    ensures fault { IfErr result (λ e. e ≡ WriteFault.Write) }
-    ensures counted { OnErr result (Rises device.old.failures device.new.failures) }
-    ensures front { OnErr result (AppendsPrefix (W.contents device.old.inner) (W.contents device.new.inner) (told_text telling.now told.now)) }
+    ensures { Sends W.contents device.old device.new
+        (told_text telling.now told.now) WriteFault.Write result }
 {
     if let Err(fault) = send_pieces(device, &answer_pieces(telling.before, &told.answer)) {
         return Err(fault);

@@ -24,10 +24,17 @@ pub record NoneLeft (judging : Judging) : Type 0 where
   pub claims : judging.claims ≡ []
   pub patterns : judging.patterns ≡ []
 
--- claims were judged, and what is told of them was written, or a first part of it
-abbrev pub Tells : Judging → Judging → Telling → (List ℕ → Type 0) → (ℕ → Type 0) → Type 0
-Tells old new telling Written Ends =
-    (tolds : List Told) × WereJudged old new tolds × AreGiven telling tolds × Written (tolds_text telling tolds) × Ends (status_of (answers_of tolds))
+-- claims were judged, the text is what is told of them, and the code is the exit status of their answers
+pub record Tells (old new : Judging) (telling : Telling) (text : List ℕ) (code : ℕ) : Type 0 where
+  pub tolds : List Told
+  pub judged : WereJudged old new tolds
+  pub given : AreGiven telling tolds
+  pub lines : text ≡ tolds_text telling tolds
+  pub status : code ≡ status_of (answers_of tolds)
+
+-- the same with some exit status
+abbrev pub TellsInPart : Judging → Judging → Telling → List ℕ → Type 0
+TellsInPart old new telling text = (code : ℕ) × Tells old new telling text code
 
 -- all that was left was judged
 abbrev pub WereAllJudged : Judging → Judging → Type 0

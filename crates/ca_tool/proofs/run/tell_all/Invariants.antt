@@ -1,4 +1,4 @@
-use Rattle.std.proofs.Common.{◌≡◌, length}
+use Rattle.std.proofs.Common.{◌≡◌, ℕ, List, length}
 use Rattle.std.specs.Io.KnownBytes.{Appends}
 use Rattle.ca_tool.specs.inner.Judged.{Tells}
 use Rattle.ca_tool.proofs.run.tell_all.Given as goal
@@ -6,7 +6,7 @@ use Rattle.ca_tool.proofs.run.tell_all.Given as goal
 -- the claims so far were judged and told, no write failed, and the code is their status
 abbrev pub invariant-claims : goal.invariant-claims
 invariant-claims g l = record {
-  told : Tells l.fn.judge l.judge l.telling (Appends (g.W.Write.contents l.fn.device.inner) (g.W.Write.contents l.device.inner)) (λ s. l.code ≡ s);
+  told : (text : List ℕ) × Tells l.fn.judge l.judge l.telling text l.code × Appends (g.W.Write.contents l.fn.device.inner) (g.W.Write.contents l.device.inner) text;
   kept : l.device.failures ≡ l.fn.device.failures;
 }
 

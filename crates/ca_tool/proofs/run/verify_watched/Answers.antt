@@ -1,15 +1,18 @@
-use Rattle.std.proofs.Common.{◌≡◌, inl, subst, IfOk}
-use Rattle.std.proofs.lemmas.Result.{IfErr-weaker}
-use Rattle.std.specs.Io.KnownBytes.{Appends}
+use Rattle.std.proofs.Common.{subst}
 use Rattle.ca_claims.specs.Judging.{Judging}
-use Rattle.ca_tool.specs.Runs.{AreTold}
+use Rattle.ca_tool.specs.Runs.{AreTold, AreToldInPart, NeedsMemory, TellsAll}
+use Rattle.ca_tool.specs.inner.Judged.{TellsInPart}
+use Rattle.ca_tool.proofs.Judged.{told_first}
+use Rattle.ca_tool.proofs.Written.{writes_weaker}
 use Rattle.ca_tool.proofs.run.verify_watched.Goals as goal
 
 -- the judge had all claims of the text
-pub returns-clause-told : goal.returns-clause-told
-returns-clause-told g c =
-    subst (λ (j : Judging). IfOk c.tell_all.result (λ code. AreTold j.files j.rules j.claims j.patterns c.args.telling.now (Appends (g.W.Write.contents c.args.device.now.inner) (g.W.Write.contents c.tell_all.new.device.inner)) (λ s. code ≡ s)))
-    c.in-Ok.ensures.judging c.tell_all.ensures.told
-
-pub returns-clause-fault : goal.returns-clause-fault
-returns-clause-fault g c = IfErr-weaker c.tell_all.result _ _ (λ fault is. inl is) c.tell_all.ensures.fault
+pub returns : goal.returns
+returns g c =
+    let judge = c.in-Ok.judge in
+    let telling = c.args.telling.now in
+    record {
+      tells = subst (λ (j : Judging). TellsAll g.W.Write.contents c.args.device.now c.tell_all.new.device j telling c.tell_all.result) c.in-Ok.ensures.judging
+          (writes_weaker g.W.Write.contents c.args.device.now c.tell_all.new.device (AreTold judge telling) (TellsInPart judge c.tell_all.new.judge telling) (AreToldInPart judge telling) (NeedsMemory judge)
+          c.tell_all.result (told_first judge c.tell_all.new.judge telling) c.tell_all.ensures);
+    }

@@ -1,10 +1,18 @@
-use Rattle.ca_tool.proofs.InPieces.{prefix_front, prefix_later}
+use Rattle.std.proofs.Common.{rules}
+use Rattle.ca_tool.proofs.InPieces.{prefix_front, sends_later}
 use Rattle.ca_tool.proofs.telling.send_told.Goals as goal
 
 -- the answer's line was sent in part
-pub returns-in-Err-clause-front : goal.returns-in-Err-clause-front
-returns-in-Err-clause-front g c = prefix_front _ _ _ _ _ c.answer_pieces.ensures c.in-Err.ensures.front
+pub returns-in-Err : goal.returns-in-Err
+returns-in-Err g c = record {
+  all = tt;
+  kept = tt;
+  fault = search rules;
+  counted = search rules;
+  front = prefix_front _ _ _ _ _ c.answer_pieces.ensures c.in-Err.ensures.front;
+}
 
--- it was sent, and the second line in part
-pub returns-clause-front : goal.returns-clause-front
-returns-clause-front g c = prefix_later c.send_pieces-2.result _ _ _ _ _ _ _ c.answer_pieces.ensures c.second_pieces.ensures c.in_default.ensures.all c.send_pieces-2.ensures.front
+-- it was sent, and then the second line, or a part of it
+pub returns : goal.returns
+returns g c =
+    sends_later g.W.Write.contents _ _ _ _ _ _ _ _ c.send_pieces-2.result c.answer_pieces.ensures c.second_pieces.ensures c.in_default.ensures.all c.in_default.ensures.kept c.send_pieces-2.ensures
