@@ -41,7 +41,7 @@ pub fn verify_run<W: Write>(
     let Ok(mut judge) = Judge::new(alloc, claims, files) else {
         return Err(ToolFault::Memory);
     };
-    answer_all(&mut judge, device)
+    answer_all(alloc, &mut judge, device)
 }
 
 /// Judges each claim, in order, and writes the lines for it before the next is judged. It answers the exit status: 2
@@ -82,14 +82,18 @@ pub fn verify_watched<W: Write, O: Observer>(
     let Ok(mut judge) = Judge::new(alloc, claims, files) else {
         return Err(ToolFault::Memory);
     };
-    tell_all(&mut judge, telling, device, observer)
+    tell_all(alloc, &mut judge, telling, device, observer)
 }
 
 // Judges all claims that are left, and writes the lines of their answers, as long as no write fails.
-fn answer_all<W: Write>(judge: &mut Judge<'_>, device: &mut Dev<W>) -> Result<u8, ToolFault>
+fn answer_all<W: Write>(
+    alloc: Global,
+    judge: &mut Judge<'_>,
+    device: &mut Dev<W>,
+) -> Result<u8, ToolFault>
     ensures { AnswersAll W.contents device.old device.new judge.old result }
 {
-    match tell_all(judge, &PLAIN, device, &mut Unwatched) {
+    match tell_all(alloc, judge, &PLAIN, device, &mut Unwatched) {
         Ok(code) => Ok(code),
         Err(fault) => {
             judge_all(judge);
@@ -100,6 +104,7 @@ fn answer_all<W: Write>(judge: &mut Judge<'_>, device: &mut Dev<W>) -> Result<u8
 
 // Judges the claims that are left, and writes the lines for each, up to a write that fails.
 fn tell_all<W: Write, O: Observer>(
+    alloc: Global,
     judge: &mut Judge<'_>,
     telling: &Telling<'_>,
     device: &mut Dev<W>,
@@ -108,9 +113,10 @@ fn tell_all<W: Write, O: Observer>(
     ensures { WritesOneOf W.contents device.old device.new
         (AreTold judge.old telling.now) (TellsInPart judge.old judge.new telling.now) (NeedsMemory judge.old) result }
 {
+    let mut text = Vec::new(alloc);
     let mut code = 0;
     'claims: while let Some(told) = next_told(judge, telling.explained, observer) {
-        if send_told(device, telling, &told).is_err() {
+        if send_told(device, &mut text, telling, &told).is_err() {
             return Err(ToolFault::Write);
         }
         code = worse(code, told.answer);

@@ -1,15 +1,15 @@
 //! What is printed for a claim: the line of its answer, and a second line that explains it.
 
-ghost use Rattle.std.specs.Prelude.{◌≡◌, codes, if◌then◌else◌, []};
+ghost use Rattle.std.specs.Prelude.{◌≡◌, OnOk, codes, if◌then◌else◌, []};
 ghost use Rattle.ca_tool.specs.Printed.{generations_word, cell_line, at_line, file_line, cause_line, note_text, told_text};
 ghost use Rattle.ca_tool.specs.Writing.{Sends};
 ghost use Rattle.ca_tool.specs.inner.Pieces.{pieces_text};
 
-use crate::pieces::{NOTHING, Piece, send_pieces};
+use crate::pieces::{NOTHING, Piece, push_pieces, send_pieces};
 use crate::printing::answer_pieces;
 use crate::texts::table_line;
 use ca_claims::{Answer, Cause, Note, Verdict, Why};
-use ca_plane::{Dev, WriteFault};
+use ca_plane::{Dev, Memory, WriteFault, send};
 use std::io::Write;
 
 /// How the answers of a text are printed.
@@ -144,8 +144,17 @@ fn second_pieces<'a>(telling: &Telling<'a>, told: &Told<'a>) -> [Piece<'a>; 15]
     note_pieces(telling.before, told.answer.verdict, told.note)
 }
 
-/// Writes the lines for a claim. After a failure some first part of them was written, but not all of them.
-pub(crate) fn send_told<W: Write>(
+// Puts the lines for a claim in place of what `out` holds.
+fn put_told(out: &mut Vec<u8>, telling: &Telling<'_>, told: &Told<'_>) -> Result<(), Memory>
+    ensures { OnOk result (out.new.items ≡ told_text telling.now told.now) }
+{
+    out.clear();
+    push_pieces(out, &answer_pieces(telling.before, &told.answer))?;
+    push_pieces(out, &second_pieces(telling, told))
+}
+
+// Writes the lines for a claim in pieces, which takes no memory.
+fn send_in_pieces<W: Write>(
     device: &mut Dev<W>,
     telling: &Telling<'_>,
     told: &Told<'_>,
@@ -157,4 +166,22 @@ pub(crate) fn send_told<W: Write>(
         return Err(fault);
     }
     send_pieces(device, &second_pieces(telling, told))
+}
+
+/// Writes the lines for a claim as one text, which is put together in `text`; where there is no memory for that, in pieces.
+///
+/// After a failure some first part of them was written, but not all of them.
+pub(crate) fn send_told<W: Write>(
+    device: &mut Dev<W>,
+    text: &mut Vec<u8>,
+    telling: &Telling<'_>,
+    told: &Told<'_>,
+) -> Result<(), WriteFault>
+    ensures { Sends W.contents device.old device.new
+        (told_text telling.now told.now) WriteFault.Write result }
+{
+    if put_told(text, telling, told).is_err() {
+        return send_in_pieces(device, telling, told);
+    }
+    send(device, text)
 }

@@ -1,6 +1,6 @@
 use Rattle.std.proofs.Common.{rules}
 use Rattle.ca_tool.proofs.InPieces.{prefix_front, sends_later}
-use Rattle.ca_tool.proofs.telling.send_told.Goals as goal
+use Rattle.ca_tool.proofs.telling.send_in_pieces.Goals as goal
 
 -- the answer's line was sent in part
 pub returns-in-Err : goal.returns-in-Err
