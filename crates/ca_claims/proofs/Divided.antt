@@ -6,8 +6,7 @@ use Rattle.std.proofs.Math.Nat.{div-add-mod, dvd_of_mod-eq-zero, mod-lt, suc-mul
 use Rattle.std.proofs.lemmas.Bool.{cases_eq}
 use Rattle.ca_plane.specs.Plane.{Picture, cell, shifted}
 use Rattle.ca_plane.specs.Generations.{after, IsAfter}
-use Rattle.ca_run.specs.Centre.{later}
-use Rattle.ca_run.proofs.Laters.{after_later, later_again, later_near, later_same}
+use Rattle.ca_run.proofs.After.{after_again, after_near}
 use Rattle.ca_run.proofs.Returns.{back_times, moved_between}
 use Rattle.ca_claims.specs.Truth.{IsChanged, IsNowhere}
 use Rattle.ca_claims.proofs.Searches.{search_within}
@@ -17,16 +16,11 @@ split : (n k : ℕ) → 1 ≤ k → (n ≡ (n / k) * k + n % k) × (n % k < k)
 split n k some = (sym (div-add-mod n k) ∙ ap (λ a. a + n % k) (mul_comm k (n / k)), mod-lt n some)
 
 module _ (next : List ℕ → ℕ) (p : Picture) where
-  -- m generations of the plane that stands after n of them
-  later_on : (m n : ℕ) (x y : ℤ) → later next (after next p n) m x y ≡ after next p (n + m) x y
-  later_on m n x y =
-      later_same next (after next p n) (later next (cell p) n) m (after_later next p n) x y ∙ later_again next (cell p) n m x y ∙ sym (after_later next p (n + m) x y)
-
   -- where m + k generations don't show at (x, y) what k generations show, m generations change some cell
   differ_before : (m k : ℕ) (x y : ℤ) → after next p (m + k) x y ≢ after next p k x y → (u : ℤ) × (v : ℤ) × (after next p m u v ≢ cell p u v)
   differ_before m k x y other =
       elim (search_within (after next p m) (cell p) k x y) [
-        | inl same ↦ absurd (other (sym (later_on k m x y) ∙ later_near next (after next p m) (cell p) k x y same ∙ sym (after_later next p k x y)))
+        | inl same ↦ absurd (other (sym (after_again next (cell p) m k x y) ∙ after_near next (after next p m) (cell p) k x y same))
         | inr found ↦ found
       ]
 

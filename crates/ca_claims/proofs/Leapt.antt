@@ -15,7 +15,7 @@ use Rattle.ca_quad.specs.Trees.{IsTree, cell}
 use Rattle.ca_quad.proofs.Cells.{of_stays}
 use Rattle.ca_quad.proofs.Trims.{trees_stay}
 use Rattle.ca_macro.specs.Pattern.{AreInRange}
-use Rattle.ca_run.proofs.Laters.{after_later, later_same}
+use Rattle.ca_run.proofs.After.{after_same}
 use Rattle.ca_claims.specs.declared.claims.asks.Asks.{Asks}
 use Rattle.ca_claims.specs.declared.claims.asks.Wanted.{Wanted}
 use Rattle.ca_claims.specs.declared.claims.asks.Wanted.TheVariants.{Own, Other}
@@ -115,7 +115,7 @@ wanted_unmoved nodes asks subject cells other shown right down = λ x y.
 pub shows_after : (next : List ℕ → ℕ) (old new : List Node) (pattern end : Tree) (n : ℕ) (cells : Picture) → IsEnd next old pattern n new end → ShowsTree old pattern cells
     → (x y : ℤ) → after next cells n x y ≡ cell new end x y
 shows_after next old new pattern end n cells is shows x y =
-    after_later next cells n x y ∙ later_same next (plane.cell cells) (cell old pattern) n shows x y ∙ sym (is.shows x y)
+    after_same next (plane.cell cells) (cell old pattern) n shows x y ∙ sym (is.shows x y)
 
 -- what differs there differs from the claimed cells
 pub unlike_as : (p q r s : ℤ → ℤ → ℕ) (n : ℕ) (why : Option Why) → ((x y : ℤ) → r x y ≡ p x y) → ((x y : ℤ) → s x y ≡ q x y)

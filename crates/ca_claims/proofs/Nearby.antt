@@ -6,16 +6,16 @@ use Rattle.std.proofs.lemmas.Int.{ints}
 use Rattle.std.proofs.lemmas.List.Elements.{All-contains}
 use Rattle.ca_plane.specs.Plane.{Picture, cell}
 use Rattle.ca_plane.specs.Sparse.{IsInPlane, IsSparse}
+use Rattle.ca_plane.specs.Generations.{cells_after}
 use Rattle.ca_plane.proofs.Pictures.{Contains-cell}
-use Rattle.ca_run.specs.Centre.{later}
-use Rattle.ca_run.proofs.Laters.{later_dead}
+use Rattle.ca_run.proofs.After.{after_dead}
 use Rattle.ca_macro.specs.Pattern.{AreInRange}
 
 -- where cells are in range, few generations later
 pub later_outside : (next : List ℕ → ℕ) (p : ℤ → ℤ → ℕ) (n : ℕ) → next (replicate 9 0) ≡ 0 → AreInRange p → n ≤ 2 ^ 60
-    → (x y : ℤ) → (IsInPlane (record { y = y; x = x }) → ⊥) → later next p n x y ≡ 0
+    → (x y : ℤ) → (IsInPlane (record { y = y; x = x }) → ⊥) → cells_after next p n x y ≡ 0
 later_outside next p n quiet range few x y out =
-    later_dead next p quiet n x y (λ u v within.
+    after_dead next p quiet n x y (λ u v within.
     elim (cases_eq (p u v) 0) [
       | inl none ↦ none
       | inr live ↦
@@ -24,7 +24,7 @@ later_outside next p n quiet range few x y out =
     ])
 
 -- in a plane that shows what they show few generations later
-pub end_outside : (next : List ℕ → ℕ) (p q : ℤ → ℤ → ℕ) (n : ℕ) → ((x y : ℤ) → q x y ≡ later next p n x y) → next (replicate 9 0) ≡ 0 → AreInRange p → n ≤ 2 ^ 60
+pub end_outside : (next : List ℕ → ℕ) (p q : ℤ → ℤ → ℕ) (n : ℕ) → ((x y : ℤ) → q x y ≡ cells_after next p n x y) → next (replicate 9 0) ≡ 0 → AreInRange p → n ≤ 2 ^ 60
     → (x y : ℤ) → (IsInPlane (record { y = y; x = x }) → ⊥) → q x y ≡ 0
 end_outside next p q n shows quiet range few x y out = shows x y ∙ later_outside next p n quiet range few x y out
 

@@ -10,10 +10,15 @@ around f x y =
     ∷ f (x -ℤ pos 1) y ∷ f x y ∷ f (x +ℤ pos 1) y
     ∷ f (x -ℤ pos 1) (y +ℤ pos 1) ∷ f x (y +ℤ pos 1) ∷ f (x +ℤ pos 1) (y +ℤ pos 1) ∷ []
 
--- the state at (x, y) after n generations, where next gives a cell's next state from the nine cells round it
+-- the state at (x, y) after n generations of a plane with these cells, where next gives a cell's next state from the nine
+-- cells round it
+abbrev pub cells_after : (List ℕ → ℕ) → (ℤ → ℤ → ℕ) → ℕ → ℤ → ℤ → ℕ
+cells_after next cells zero x y = cells x y
+cells_after next cells (suc n) x y = next (around (cells_after next cells n) x y)
+
+-- the state at (x, y) after n generations of a picture
 abbrev pub after : (List ℕ → ℕ) → Picture → ℕ → ℤ → ℤ → ℕ
-after next p zero x y = cell p x y
-after next p (suc n) x y = next (around (after next p n) x y)
+after next p = cells_after next (cell p)
 
 -- after n generations the plane has this picture's cells, at every x and y
 abbrev pub IsAfter : (List ℕ → ℕ) → Picture → ℕ → Picture → Type 0

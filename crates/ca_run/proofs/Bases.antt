@@ -3,13 +3,14 @@ use Rattle.std.proofs.Common.{◌≡◌, ℕ, zero, suc, ◌+◌, ◌≤◌, ◌
 use Rattle.std.specs.Prelude.{ℤ, pos, negsuc, ◌+ℤ◌, replicate}
 use Rattle.std.proofs.lemmas.Int.{ints}
 use Rattle.std.proofs.lemmas.List.{get_or_default}
+use Rattle.ca_plane.specs.Generations.{cells_after}
 use Rattle.ca_quad.specs.declared.node.Node.{Node}
 use Rattle.ca_quad.specs.Squares.{IsOf, dot, together, cell_of}
 use Rattle.ca_quad.specs.Sound.{IsSound, Grows}
 use Rattle.ca_quad.specs.Trees.{Shows, AreQuarters, AreCorners, IsEmpty, from_corner}
-use Rattle.ca_run.specs.Centre.{later, IsCentre}
+use Rattle.ca_run.specs.Centre.{IsCentre}
 use Rattle.ca_run.specs.inner.Shown.{Looks, ShowsAt, sixteen}
-use Rattle.ca_run.proofs.Laters.{later_same, later_none}
+use Rattle.ca_run.proofs.After.{after_same, after_none}
 use Rattle.ca_run.proofs.Looks.{looks_together}
 use Rattle.ca_run.proofs.Shown.{is_centre_at}
 
@@ -106,7 +107,7 @@ next_four_centre next old new sound grows r id cells nw ne sw se square e a b c 
     (subst (λ l. se ≡ next (slice_index l 5 ∷ slice_index l 6 ∷ slice_index l 7 ∷ slice_index l 9 ∷ slice_index l 10 ∷ slice_index l 11 ∷ slice_index l 13 ∷ slice_index l 14 ∷ slice_index l 15 ∷ [])) e d) made)
   where
     q : ℤ → ℤ → ℕ
-    q = later next (from_corner (cell_of old 2 id)) 1
+    q = cells_after next (from_corner (cell_of old 2 id)) 1
 
     centre_of : {E : Type 0} (r : Result ℕ E) → IfOk r (λ half. ShowsAt new half 1 q (pos 0 +ℤ pos 1) (pos 0 +ℤ pos 1)) → IfOk r (IsCentre next new id 0 0)
     centre_of (Err f) shows = tt
@@ -132,5 +133,5 @@ empty_is_centre next quiet nodes id k j half square few empty shows = record {
   is_half = shows.is_square;
   has_cells = λ u v s t.
       shows.looks u v s t
-      ∙ sym (later_same next (from_corner (cell_of nodes (suc (suc k)) id)) (λ _ _. 0) (2 ^ j) (from_corner-empty (cell_of nodes (suc (suc k)) id) empty) (pos (2 ^ k + u)) (pos (2 ^ k + v)) ∙ later_none next quiet (2 ^ j) (pos (2 ^ k + u)) (pos (2 ^ k + v)));
+      ∙ sym (after_same next (from_corner (cell_of nodes (suc (suc k)) id)) (λ _ _. 0) (2 ^ j) (from_corner-empty (cell_of nodes (suc (suc k)) id) empty) (pos (2 ^ k + u)) (pos (2 ^ k + v)) ∙ after_none next quiet (2 ^ j) (pos (2 ^ k + u)) (pos (2 ^ k + v)));
 }

@@ -4,16 +4,16 @@ use Rattle.std.specs.Prelude.{ℤ, pos, negsuc, neg_ℤ, ◌+ℤ◌, ◌-ℤ◌,
 use Rattle.std.proofs.lemmas.Int.{ints}
 use Rattle.std.proofs.Math.Nat.{two-pow-succ}
 use Rattle.std.proofs.Math.Pow.{pow_mono}
+use Rattle.ca_plane.specs.Generations.{cells_after}
 use Rattle.ca_quad.specs.declared.node.Node.{Node}
 use Rattle.ca_quad.specs.declared.tree.Tree.{Tree}
 use Rattle.ca_quad.specs.Trees.{cell}
-use Rattle.ca_run.specs.Centre.{later}
 use Rattle.ca_run.specs.inner.Shown.{ShowsAt}
 use Rattle.ca_run.specs.inner.Words.{WordsShow}
 use Rattle.ca_run.specs.Masks.{GoesBy}
 use Rattle.ca_run.specs.inner.Grid.{word_in, row_in, round_corner, Follows, Keeps, GridShows, EndsAt, DiesBeyond, corner, eight}
 use Rattle.ca_run.proofs.Words.{word_from, word_of_same}
-use Rattle.ca_run.proofs.Laters.{later_again}
+use Rattle.ca_run.proofs.After.{after_again}
 use Rattle.ca_run.proofs.Shown.{at_from}
 use Rattle.ca_run.proofs.Trees.{tree_dies, later_dies, tree_at}
 
@@ -63,10 +63,10 @@ corner_shows rows p a b h i j =
 
 -- the rows between rows that show a plane show it later, from four cells further to the north and to the west on
 pub grid_goes_on : (next : List ℕ → ℕ) (masks : ℕ × ℕ) (n : ℕ) (before after : List (List ℕ)) (p : ℤ → ℤ → ℕ) (a b : ℤ) → GoesBy next masks → next (replicate 9 0) ≡ 0
-    → GridShows before p a b → Follows masks n before after → GridShows after (later next p n) (a -ℤ pos 4) (b -ℤ pos 4)
+    → GridShows before p a b → Follows masks n before after → GridShows after (cells_after next p n) (a -ℤ pos 4) (b -ℤ pos 4)
 grid_goes_on next masks n before after p a b goes_by quiet shows follows = record {
   words = λ i j.
-      word_from _ (later next p n) _ _ _ _ (place_between a i) (place_between b j)
+      word_from _ (cells_after next p n) _ _ _ _ (place_between a i) (place_between b j)
       ((follows j i).shows next p (a +ℤ eight (i -ℤ pos 1)) (b +ℤ eight (j -ℤ pos 1)) goes_by quiet (corner_shows before p a b shows i j));
 }
 
@@ -81,18 +81,18 @@ grid_as rows p q a b c d e f same h = record {
 
 -- rows that show a plane m generations on, and those between them n generations later
 pub grid_again : (next : List ℕ → ℕ) (masks : ℕ × ℕ) (m n sum : ℕ) (before after : List (List ℕ)) (p : ℤ → ℤ → ℕ) (a b : ℤ) (far more : ℕ) → GoesBy next masks → next (replicate 9 0) ≡ 0
-    → m + n ≡ sum → far + 4 ≡ more → GridShows before (later next p m) (a -ℤ pos far) (b -ℤ pos far) → Follows masks n before after
-    → GridShows after (later next p sum) (a -ℤ pos more) (b -ℤ pos more)
+    → m + n ≡ sum → far + 4 ≡ more → GridShows before (cells_after next p m) (a -ℤ pos far) (b -ℤ pos far) → Follows masks n before after
+    → GridShows after (cells_after next p sum) (a -ℤ pos more) (b -ℤ pos more)
 grid_again next masks m n sum before after p a b far more goes_by quiet e f shows follows =
     let ax : (a -ℤ pos far) -ℤ pos 4 ≡ a -ℤ pos more = omega (arith, ints, f) in
     let by : (b -ℤ pos far) -ℤ pos 4 ≡ b -ℤ pos more = omega (arith, ints, f) in
-    grid_as after (later next (later next p m) n) (later next p sum) _ _ _ _ ax by (λ x y. later_again next p m n x y ∙ ap (λ k. later next p k x y) e)
-    (grid_goes_on next masks n before after (later next p m) (a -ℤ pos far) (b -ℤ pos far) goes_by quiet shows follows)
+    grid_as after (cells_after next (cells_after next p m) n) (cells_after next p sum) _ _ _ _ ax by (λ x y. after_again next p m n x y ∙ ap (λ k. cells_after next p k x y) e)
+    (grid_goes_on next masks n before after (cells_after next p m) (a -ℤ pos far) (b -ℤ pos far) goes_by quiet shows follows)
 
 -- where the words are four cells off, those between them once more
 pub next_again : {E : Type 0} (next : List ℕ → ℕ) (masks : ℕ × ℕ) (n : ℕ) (before mid : List (List ℕ)) (r : Result (List (List ℕ)) E) (p : ℤ → ℤ → ℕ) (a b : ℤ) → GoesBy next masks → next (replicate 9 0) ≡ 0
-    → n / 4 % 2 ≡ 0 → GridShows before (later next p (4 * (n / 4))) (a -ℤ pos (4 * (n / 4))) (b -ℤ pos (4 * (n / 4))) → Follows masks (n % 4) before mid → IfOk r (Follows masks 0 mid)
-    → IfOk r (λ grid. GridShows grid (later next p n) (a -ℤ pos (8 * (n / 8 + 1))) (b -ℤ pos (8 * (n / 8 + 1))))
+    → n / 4 % 2 ≡ 0 → GridShows before (cells_after next p (4 * (n / 4))) (a -ℤ pos (4 * (n / 4))) (b -ℤ pos (4 * (n / 4))) → Follows masks (n % 4) before mid → IfOk r (Follows masks 0 mid)
+    → IfOk r (λ grid. GridShows grid (cells_after next p n) (a -ℤ pos (8 * (n / 8 + 1))) (b -ℤ pos (8 * (n / 8 + 1))))
 next_again next masks n before mid (Err e) p a b goes_by quiet even shows first second = tt
 next_again next masks n before mid (Ok after) p a b goes_by quiet even shows first second =
     grid_again next masks n 0 n mid after p a b (4 * (n / 4) + 4) (8 * (n / 8 + 1)) goes_by quiet (omega arith) (omega (arith, even))
@@ -119,7 +119,7 @@ eight_times k =
 
 -- after few generations all that is live of a tree lies within four levels more
 pub dense_dies : (next : List ℕ → ℕ) → next (replicate 9 0) ≡ 0 → (nodes : List Node) (tree : Tree) (n : ℕ) → 1 ≤ tree.level → n ≤ 2 ^ (tree.level + 2)
-    → DiesBeyond (2 ^ (tree.level + 3)) (later next (cell nodes tree) n)
+    → DiesBeyond (2 ^ (tree.level + 3)) (cells_after next (cell nodes tree) n)
 dense_dies next quiet nodes tree n some time =
     let lower : tree.level - 1 ≤ tree.level + 2 = omega arith in
     let low : 2 ^ (tree.level - 1) ≤ 2 ^ (tree.level + 2) = pow_mono lower in

@@ -3,6 +3,7 @@ use Rattle.std.proofs.Common.{◌≡◌, ℕ, suc, ◌+◌, ◌≤◌, ◌^◌, 
 use Rattle.std.specs.Prelude.{ℤ, pos, ◌+ℤ◌}
 use Rattle.std.proofs.lemmas.Int.{ints}
 use Rattle.std.proofs.Math.Nat.{two-pow-succ}
+use Rattle.ca_plane.specs.Generations.{cells_after}
 use Rattle.ca_quad.specs.declared.node.Node.{Node}
 use Rattle.ca_quad.specs.Squares.{IsOf, cell_of}
 use Rattle.ca_quad.specs.Sound.{IsSound, Grows}
@@ -10,7 +11,7 @@ use Rattle.ca_quad.specs.Trees.{from_corner}
 use Rattle.ca_quad.proofs.Growth.{grows_same, grows_on}
 use Rattle.ca_run.specs.declared.leaper.trio.Trio.{Trio}
 use Rattle.ca_run.specs.declared.leaper.trio.Rows.{Rows}
-use Rattle.ca_run.specs.Centre.{later, IsCentre}
+use Rattle.ca_run.specs.Centre.{IsCentre}
 use Rattle.ca_run.specs.Leaping.{Leaping, GoesOn}
 use Rattle.ca_run.specs.inner.Shown.{ShowsAt, FourShow, ThreeShow, TwoShow, NineShow, side}
 use Rattle.ca_run.proofs.Shown.{at_stays, three_stay, at_from, centre_at, is_centre_at, at_corner}
@@ -21,19 +22,19 @@ goes_on_same Rule l sound = record { rule = refl; grows = grows_same l.nodes sou
 
 -- the centre that a call gives shows the plane later
 pub centre_ok : {E : Type 0} (next : List ℕ → ℕ) (old new : List Node) → IsSound old → Grows old new → (r : Result ℕ E) (id k j : ℕ) (p : ℤ → ℤ → ℕ) (a b : ℤ) → ShowsAt old id (suc (suc k)) p a b
-    → IfOk r (IsCentre next new id k j) → IfOk r (λ half. ShowsAt new half (suc k) (later next p (2 ^ j)) (a +ℤ side k) (b +ℤ side k))
+    → IfOk r (IsCentre next new id k j) → IfOk r (λ half. ShowsAt new half (suc k) (cells_after next p (2 ^ j)) (a +ℤ side k) (b +ℤ side k))
 centre_ok next old new sound grows (Err e) id k j p a b shows is_centre = tt
 centre_ok next old new sound grows (Ok half) id k j p a b shows is_centre = centre_at next old new sound grows id k j half p a b shows is_centre
 
 -- what shows a square's own cells later is its centre
 pub nine_centre : {E : Type 0} (next : List ℕ → ℕ) (old new : List Node) → IsSound old → Grows old new → (r : Result ℕ E) (id below k m n j : ℕ) → suc below ≡ k → IsOf old id (suc (suc k)) → j ≤ k → m + n ≡ 2 ^ j
-    → ((p : ℤ → ℤ → ℕ) (a b : ℤ) → ShowsAt old id (suc (suc (suc below))) p a b → IfOk r (λ half. ShowsAt new half (suc (suc below)) (later next (later next p m) n) (a +ℤ side (suc below)) (b +ℤ side (suc below))))
+    → ((p : ℤ → ℤ → ℕ) (a b : ℤ) → ShowsAt old id (suc (suc (suc below))) p a b → IfOk r (λ half. ShowsAt new half (suc (suc below)) (cells_after next (cells_after next p m) n) (a +ℤ side (suc below)) (b +ℤ side (suc below))))
     → IfOk r (IsCentre next new id k j)
 nine_centre next old new sound grows r id below k m n j up square few sum shows =
-    given r (subst (λ l. ((p : ℤ → ℤ → ℕ) (a b : ℤ) → ShowsAt old id (suc (suc l)) p a b → IfOk r (λ half. ShowsAt new half (suc l) (later next (later next p m) n) (a +ℤ side l) (b +ℤ side l)))) up shows
+    given r (subst (λ l. ((p : ℤ → ℤ → ℕ) (a b : ℤ) → ShowsAt old id (suc (suc l)) p a b → IfOk r (λ half. ShowsAt new half (suc l) (cells_after next (cells_after next p m) n) (a +ℤ side l) (b +ℤ side l)))) up shows
     (from_corner (cell_of old (suc (suc k)) id)) (pos 0) (pos 0) (at_corner old id (suc (suc k)) square))
   where
-    given : {E : Type 0} (r : Result ℕ E) → IfOk r (λ half. ShowsAt new half (suc k) (later next (later next (from_corner (cell_of old (suc (suc k)) id)) m) n) (pos 0 +ℤ side k) (pos 0 +ℤ side k))
+    given : {E : Type 0} (r : Result ℕ E) → IfOk r (λ half. ShowsAt new half (suc k) (cells_after next (cells_after next (from_corner (cell_of old (suc (suc k)) id)) m) n) (pos 0 +ℤ side k) (pos 0 +ℤ side k))
         → IfOk r (IsCentre next new id k j)
     given (Err e) h = tt
     given (Ok half) h = is_centre_at next old new sound grows id k j m n half square few sum h

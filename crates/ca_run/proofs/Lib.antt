@@ -1,6 +1,4 @@
-pub mod Rounds
-pub mod Later
-pub mod Laters
+pub mod After
 pub mod Looks
 pub mod Tiles
 pub mod Words

@@ -12,7 +12,7 @@ use Rattle.ca_quad.proofs.Growth.{below_or_not}
 use Rattle.ca_run.specs.declared.leaper.words.Words.{Words}
 use Rattle.ca_run.specs.inner.Words.{WordShows, WordsShow}
 use Rattle.ca_run.specs.inner.Grid.{word_in, row_in, round_corner, HasNone, IsMiddle, LineFollows, LineKeeps, Follows, IsAsNarrow}
-use Rattle.ca_run.proofs.Laters.{later_dead}
+use Rattle.ca_run.proofs.After.{after_dead}
 
 -- where all from a place on are 0, those before it are enough
 pub get_kept : (n : ℕ) (words : List ℕ) (i : ℕ) → ((k : ℕ) → n ≤ k → get_or words k 0 ≡ 0) → get_or (take n words) i 0 ≡ get_or words i 0
@@ -81,7 +81,7 @@ from_offsets p a b u v none au ua bv vb = by_offsets (u -ℤ a) (v -ℤ b) refl 
 pub middle_none : (masks : ℕ × ℕ) (n : ℕ) (square : Words) → n ≤ 4 → HasNone square → IsMiddle masks n square 0
 middle_none masks n square few none = record {
   shows = λ next p a b goes_by quiet shown. record {
-    looks = λ x y i j. none_at x y ∙ sym (later_dead next p quiet n ((a +ℤ pos 4) +ℤ pos x) ((b +ℤ pos 4) +ℤ pos y)
+    looks = λ x y i j. none_at x y ∙ sym (after_dead next p quiet n ((a +ℤ pos 4) +ℤ pos x) ((b +ℤ pos 4) +ℤ pos y)
         (λ u v within. from_offsets p a b u v (square_none square p a b none shown)
         (omega (arith, ints, few, within)) (omega (arith, ints, few, i, within)) (omega (arith, ints, few, within)) (omega (arith, ints, few, j, within))));
   };

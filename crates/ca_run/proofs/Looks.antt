@@ -2,15 +2,16 @@
 use Rattle.std.proofs.Common.{◌≡◌, ℕ, ◌+◌, ◌-◌, ◌<◌, ◌≤◌, inl, inr, List, sym, ap, ap₂, ◌∙◌, arith}
 use Rattle.std.specs.Prelude.{ℤ, pos, negsuc, ◌+ℤ◌}
 use Rattle.std.proofs.lemmas.Int.{ints}
+use Rattle.ca_plane.specs.Generations.{cells_after}
 use Rattle.ca_quad.specs.Squares.{together}
 use Rattle.ca_quad.specs.Trees.{from_corner}
 use Rattle.ca_quad.proofs.Growth.{below_or_not}
 use Rattle.ca_quad.proofs.Cells.{at_nw, at_ne, at_sw, at_se}
 use Rattle.ca_quad.proofs.Walks.{in_nw, in_ne, in_sw, in_se}
 use Rattle.ca_run.specs.Later.{IsWithin}
-use Rattle.ca_run.specs.Centre.{later, centre}
+use Rattle.ca_run.specs.Centre.{centre}
 use Rattle.ca_run.specs.inner.Shown.{Looks}
-use Rattle.ca_run.proofs.Laters.{later_near, later_seen}
+use Rattle.ca_run.proofs.After.{after_near, after_seen}
 
 -- the same from a place by another name
 pub looks_from : (side : ℕ) (cells : ℕ → ℕ → ℕ) (p : ℤ → ℤ → ℕ) (a b c d : ℤ) → a ≡ c → b ≡ d → Looks side cells p a b → Looks side cells p c d
@@ -61,13 +62,13 @@ module _ (s : ℕ) (nw ne sw se : ℕ → ℕ → ℕ) (p : ℤ → ℤ → ℕ)
 
 -- the centre of a square that shows a plane shows what the plane is n generations later, a quarter of the side further in
 pub looks_centre : (next : List ℕ → ℕ) (h n : ℕ) (cells half : ℕ → ℕ → ℕ) (p : ℤ → ℤ → ℕ) (a b : ℤ) → n ≤ h → Looks (h + h + (h + h)) cells p a b
-    → ((u v : ℕ) → u < h + h → v < h + h → half u v ≡ centre next cells h n u v) → Looks (h + h) half (later next p n) (a +ℤ pos h) (b +ℤ pos h)
+    → ((u v : ℕ) → u < h + h → v < h + h → half u v ≡ centre next cells h n u v) → Looks (h + h) half (cells_after next p n) (a +ℤ pos h) (b +ℤ pos h)
 looks_centre next h n cells half p a b few shows is_centre u v i j =
     let ax : a +ℤ pos (h + u) ≡ (a +ℤ pos h) +ℤ pos u = omega (arith, ints) in
     let by : b +ℤ pos (h + v) ≡ (b +ℤ pos h) +ℤ pos v = omega (arith, ints) in
     is_centre u v i j
-    ∙ later_near next (from_corner cells) (λ s t. p (a +ℤ s) (b +ℤ t)) n (pos (h + u)) (pos (h + v)) (λ s t within. inside s t within)
-    ∙ later_seen next p a b n (pos (h + u)) (pos (h + v)) ∙ ap₂ (later next p n) ax by
+    ∙ after_near next (from_corner cells) (λ s t. p (a +ℤ s) (b +ℤ t)) n (pos (h + u)) (pos (h + v)) (λ s t within. inside s t within)
+    ∙ after_seen next p a b n (pos (h + u)) (pos (h + v)) ∙ ap₂ (cells_after next p n) ax by
   where
     inside : (s t : ℤ) → IsWithin n (pos (h + u)) (pos (h + v)) s t → from_corner cells s t ≡ p (a +ℤ s) (b +ℤ t)
     inside (pos x) (pos y) within = shows x y (omega (arith, ints, within, few, i)) (omega (arith, ints, within, few, j))

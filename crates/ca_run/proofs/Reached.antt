@@ -1,6 +1,6 @@
 -- Cells that are in reach of a step, and those that are not.
 use Rattle.std.proofs.Common.{◌≡◌, ℕ, ◌+◌, ◌<◌, ◌≤◌, List, [], ◌∷◌, length, refl, sym, ap, ◌∙◌, subst, arith, true, false, get_or, add-one, below_more}
-use Rattle.std.specs.Prelude.{ℤ, pos, ◌+ℤ◌, ◌-ℤ◌}
+use Rattle.std.specs.Prelude.{ℤ}
 use Rattle.std.specs.List.{All, AllByRecursion}
 use Rattle.std.proofs.lemmas.List.Elements.{All-contains, All-cons, All-nil}
 use Rattle.ca_plane.specs.declared.point.Point.{Point}
@@ -10,6 +10,7 @@ use Rattle.ca_plane.specs.Sparse.{IsSparse}
 use Rattle.ca_plane.proofs.Pictures.{IsListed, Contains-cell, cell-listed, cell-All}
 use Rattle.ca_run.specs.Reach.{IsInReach, LeavesReach}
 use Rattle.ca_run.specs.inner.Reached.{IsOutOfReach}
+use Rattle.ca_run.proofs.After.{around-same}
 
 -- a listed cell out of reach is live there
 pub IsOutOfReach-listed : (p : Picture) (e : Point × ℕ) → IsListed p e → (IsInReach e.0.x e.0.y → false ≡ true) → IsOutOfReach p
@@ -40,14 +41,9 @@ states_after next p q n closed some states sparse shows =
 
 -- ---- generations, one after another
 
--- nine cells are the same where all cells are
-around_same : (f h : ℤ → ℤ → ℕ) (x y : ℤ) → ((a b : ℤ) → f a b ≡ h a b) → around f x y ≡ around h x y
-around_same f h x y same =
-    simp (same (x -ℤ pos 1) (y -ℤ pos 1), same x (y -ℤ pos 1), same (x +ℤ pos 1) (y -ℤ pos 1), same (x -ℤ pos 1) y, same x y, same (x +ℤ pos 1) y, same (x -ℤ pos 1) (y +ℤ pos 1), same x (y +ℤ pos 1), same (x +ℤ pos 1) (y +ℤ pos 1))
-
 -- a generation on from n generations on is n + 1 generations on
 pub after_one_more : (next : List ℕ → ℕ) (p q r : Picture) (n : ℕ) → ((x y : ℤ) → cell q x y ≡ after next p n x y) → ((x y : ℤ) → cell r x y ≡ after next q 1 x y) → (x y : ℤ) → cell r x y ≡ after next p (n + 1) x y
-after_one_more next p q r n shows one x y = one x y ∙ ap next (around_same (cell q) (after next p n) x y shows) ∙ rw (add-one n) refl
+after_one_more next p q r n shows one x y = one x y ∙ ap next (around-same (cell q) (after next p n) x y (λ u v _. shows u v)) ∙ rw (add-one n) refl
 
 -- what leaves the reach after n generations
 pub LeavesReach-after : (next : List ℕ → ℕ) (p q : Picture) (n : ℕ) → ((x y : ℤ) → cell q x y ≡ after next p n x y) → LeavesReach next q 0 → LeavesReach next p n

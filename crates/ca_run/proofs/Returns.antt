@@ -1,49 +1,29 @@
--- What a later cell depends on, pictures that are moved, and times at which a picture is back.
-use Rattle.std.proofs.Common.{◌≡◌, ℕ, zero, suc, ◌+◌, ◌*◌, ◌-◌, ◌≤◌, List, refl, sym, ap, ap₂, ◌∙◌, subst, inl, inr, arith}
-use Rattle.std.specs.Prelude.{ℤ, pos, ◌+ℤ◌, ◌-ℤ◌, ◌*ℤ◌}
+-- Pictures that are moved, and times at which a picture is back.
+use Rattle.std.proofs.Common.{◌≡◌, ℕ, zero, suc, ◌+◌, ◌*◌, ◌-◌, ◌≤◌, List, sym, ap, ap₂, ◌∙◌, subst, inl, inr, arith}
+use Rattle.std.specs.Prelude.{ℤ, pos, neg_ℤ, ◌+ℤ◌, ◌-ℤ◌, ◌*ℤ◌}
 use Rattle.std.specs.Int.{◌∣◌}
 use Rattle.std.proofs.Math.Nat.{dvd_refl, dvd-add, zero-mul, suc-mul}
 use Rattle.std.proofs.Math.IntN.{suc_ℤ-*ℤ, zero-*ℤ}
 use Rattle.std.proofs.lemmas.Bool.{cases_eq}
 use Rattle.std.proofs.lemmas.Int.{ints}
 use Rattle.ca_plane.specs.Plane.{Picture, cell, IsSame, shifted, IsLive}
-use Rattle.ca_plane.specs.Generations.{around, after, IsAfter}
+use Rattle.ca_plane.specs.Generations.{after, IsAfter}
 use Rattle.ca_plane.proofs.Shifts.{cell-shifted}
-use Rattle.ca_run.specs.Later.{IsWithin, AgreeWithin, IsBackInPlace, IsBackAnywhere, IsLeast}
-use Rattle.ca_run.proofs.Rounds.{IsRound, around-same}
-use Rattle.ca_run.proofs.Later.{after_again}
+use Rattle.ca_run.specs.Later.{IsBackInPlace, IsBackAnywhere, IsLeast}
+use Rattle.ca_run.proofs.After.{after_same, after_seen, after_again}
 use Rattle.ca_run.proofs.Vectors.{no_vector}
-
--- ---- what a later cell depends on
-
--- a place within n of one beside (x, y) is within n + 1 of (x, y)
-IsWithin-round : (n : ℕ) (x y u v a b : ℤ) → IsRound x y u v → IsWithin n u v a b → IsWithin (suc n) x y a b
-IsWithin-round n x y u v a b round within =
-    (omega (arith, ints, round, within), omega (arith, ints, round, within), omega (arith, ints, round, within), omega (arith, ints, round, within))
-
--- pictures with the same cells within n of (x, y) have the same state there after n generations
-pub near : (next : List ℕ → ℕ) (p q : Picture) (n : ℕ) (x y : ℤ) → AgreeWithin n x y p q → after next p n x y ≡ after next q n x y
-near next p q zero x y agree = agree x y (omega (arith, ints), omega (arith, ints), omega (arith, ints), omega (arith, ints))
-near next p q (suc n) x y agree =
-    ap next (around-same (after next p n) (after next q n) x y (λ u v round. near next p q n u v (λ a b within. agree a b (IsWithin-round n x y u v a b round within))))
 
 -- ---- pictures that are moved
 
--- the nine cells round a place of a plane that is moved are those round the place before the move
-around-moved : (f : ℤ → ℤ → ℕ) (dx dy x y : ℤ) → around (λ u v. f (u -ℤ dx) (v -ℤ dy)) x y ≡ around f (x -ℤ dx) (y -ℤ dy)
-around-moved f dx dy x y =
-    let west : (x -ℤ pos 1) -ℤ dx ≡ (x -ℤ dx) -ℤ pos 1 = omega (arith, ints) in
-    let east : (x +ℤ pos 1) -ℤ dx ≡ (x -ℤ dx) +ℤ pos 1 = omega (arith, ints) in
-    let north : (y -ℤ pos 1) -ℤ dy ≡ (y -ℤ dy) -ℤ pos 1 = omega (arith, ints) in
-    let south : (y +ℤ pos 1) -ℤ dy ≡ (y -ℤ dy) +ℤ pos 1 = omega (arith, ints) in
-    rw (west, east, north, south) refl
-
 -- a moved picture shows after n generations what the picture shows then, moved
 pub after-shifted : (next : List ℕ → ℕ) (p : Picture) (dx dy : ℤ) (n : ℕ) (x y : ℤ) → after next (shifted p dx dy) n x y ≡ after next p n (x -ℤ dx) (y -ℤ dy)
-after-shifted next p dx dy zero x y = cell-shifted p dx dy x y
-after-shifted next p dx dy (suc n) x y =
-    ap next (around-same (after next (shifted p dx dy) n) (λ u v. after next p n (u -ℤ dx) (v -ℤ dy)) x y (λ u v _. after-shifted next p dx dy n u v)
-    ∙ around-moved (after next p n) dx dy x y)
+after-shifted next p dx dy n x y =
+    after_same next (cell (shifted p dx dy)) (λ u v. cell p (neg_ℤ dx +ℤ u) (neg_ℤ dy +ℤ v)) n
+    (λ u v. cell-shifted p dx dy u v ∙ ap₂ (cell p) (back dx u) (back dy v)) x y
+    ∙ after_seen next (cell p) (neg_ℤ dx) (neg_ℤ dy) n x y ∙ sym (ap₂ (after next p n) (back dx x) (back dy y))
+  where
+    back : (d u : ℤ) → u -ℤ d ≡ neg_ℤ d +ℤ u
+    back d u = omega (arith, ints)
 
 -- the same, of the place after the move
 pub after_moved : (next : List ℕ → ℕ) (p : Picture) (dx dy : ℤ) (n : ℕ) (x y : ℤ) → after next (shifted p dx dy) n (x +ℤ dx) (y +ℤ dy) ≡ after next p n x y
@@ -56,7 +36,8 @@ after_moved next p dx dy n x y =
 
 -- n generations of the picture after m are m + n generations
 pub after_stands : (next : List ℕ → ℕ) (p q : Picture) (m n : ℕ) → IsAfter next p m q → (x y : ℤ) → after next q n x y ≡ after next p (m + n) x y
-after_stands next p q m n stands = after_again next p q m (λ x y. sym (stands x y)) n
+after_stands next p q m n stands x y =
+    after_same next (cell q) (after next p m) n (λ u v. sym (stands u v)) x y ∙ after_again next (cell p) m n x y
 
 -- where a picture is back by a vector after m generations, m + n generations are n, moved by that vector
 after_back : (next : List ℕ → ℕ) (p : Picture) (m n : ℕ) (dx dy : ℤ) → IsAfter next p m (shifted p dx dy) → (x y : ℤ) → after next p (m + n) x y ≡ after next p n (x -ℤ dx) (y -ℤ dy)

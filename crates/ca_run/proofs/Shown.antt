@@ -5,6 +5,7 @@ use Rattle.std.proofs.lemmas.Int.{ints}
 use Rattle.std.proofs.lemmas.List.{get_or_default}
 use Rattle.std.proofs.Math.Nat.{two-pow-succ}
 use Rattle.std.proofs.Math.Pow.{pow_mono}
+use Rattle.ca_plane.specs.Generations.{cells_after}
 use Rattle.ca_quad.specs.declared.node.Node.{Node}
 use Rattle.ca_quad.specs.Squares.{IsOf, together, cell_of}
 use Rattle.ca_quad.specs.Sound.{IsSound, Grows}
@@ -12,13 +13,13 @@ use Rattle.ca_quad.specs.Trees.{Shows, AreQuarters, from_corner}
 use Rattle.ca_quad.proofs.Growth.{grows_on}
 use Rattle.ca_quad.proofs.Cells.{cells_stay, of_stays}
 use Rattle.ca_run.specs.declared.leaper.trio.Trio.{Trio}
-use Rattle.ca_run.specs.Centre.{later, centre, IsCentre}
+use Rattle.ca_run.specs.Centre.{centre, IsCentre}
 use Rattle.ca_run.specs.Leaping.{Leaping, GoesOn}
 use Rattle.ca_run.specs.inner.Shown.{Looks, ShowsAt, FourShow, ThreeShow, TwoShow, AreThree, side}
 use Rattle.ca_run.specs.Memo.{remembered, AreCentres, IsLeaper}
 use Rattle.ca_run.specs.Farthest.{Has, AreFarthest}
 use Rattle.ca_run.specs.Recent.{Keeps, KeepsCentres}
-use Rattle.ca_run.proofs.Laters.{later_again}
+use Rattle.ca_run.proofs.After.{after_again}
 use Rattle.ca_run.proofs.Looks.{looks_from, looks_together, looks_nw, looks_ne, looks_sw, looks_se, looks_centre}
 
 -- ---- growth
@@ -143,7 +144,7 @@ parts_at nodes id k quarters p a b are h =
 
 -- the centre of a square that shows a plane shows what the plane is 2 ^ j generations later
 pub centre_at : (next : List ℕ → ℕ) (old new : List Node) → IsSound old → Grows old new → (id k j half : ℕ) (p : ℤ → ℤ → ℕ) (a b : ℤ) → ShowsAt old id (suc (suc k)) p a b → IsCentre next new id k j half
-    → ShowsAt new half (suc k) (later next p (2 ^ j)) (a +ℤ side k) (b +ℤ side k)
+    → ShowsAt new half (suc k) (cells_after next p (2 ^ j)) (a +ℤ side k) (b +ℤ side k)
 centre_at next old new sound grows id k j half p a b shows is_centre =
     let up = two-pow-succ k in
     let up_again = two-pow-succ (suc k) in
@@ -152,7 +153,7 @@ centre_at next old new sound grows id k j half p a b shows is_centre =
     let looks = looks_centre next (2 ^ k) (2 ^ j) (cell_of new (suc (suc k)) id) (cell_of new (suc k) half) p a b (pow_mono is_centre.in_time)
     (subst (λ n. Looks n (cell_of new (suc (suc k)) id) p a b) wide there.looks)
     (λ u v s t. is_centre.has_cells u v (subst (λ n. u < n) (sym up) s) (subst (λ n. v < n) (sym up) t)) in
-    record { is_square = is_centre.is_half; looks = subst (λ n. Looks n (cell_of new (suc k) half) (later next p (2 ^ j)) (a +ℤ side k) (b +ℤ side k)) (sym up) looks }
+    record { is_square = is_centre.is_half; looks = subst (λ n. Looks n (cell_of new (suc k) half) (cells_after next p (2 ^ j)) (a +ℤ side k) (b +ℤ side k)) (sym up) looks }
 
 -- a square shows its own cells from (0, 0) on
 pub at_corner : (nodes : List Node) (id level : ℕ) → IsOf nodes id level → ShowsAt nodes id level (from_corner (cell_of nodes level id)) (pos 0) (pos 0)
@@ -166,7 +167,7 @@ at_corner nodes id level h = record {
 
 -- a square that shows the plane of another's cells later, a quarter of the side further in, is its centre
 pub is_centre_at : (next : List ℕ → ℕ) (old new : List Node) → IsSound old → Grows old new → (id k j m n half : ℕ) → IsOf old id (suc (suc k)) → j ≤ k → m + n ≡ 2 ^ j
-    → ShowsAt new half (suc k) (later next (later next (from_corner (cell_of old (suc (suc k)) id)) m) n) (pos 0 +ℤ side k) (pos 0 +ℤ side k)
+    → ShowsAt new half (suc k) (cells_after next (cells_after next (from_corner (cell_of old (suc (suc k)) id)) m) n) (pos 0 +ℤ side k) (pos 0 +ℤ side k)
     → IsCentre next new id k j half
 is_centre_at next old new sound grows id k j m n half square few sum shows = record {
   in_time = few;
@@ -176,8 +177,8 @@ is_centre_at next old new sound grows id k j m n half square few sum shows = rec
       let p = from_corner (cell_of old (suc (suc k)) id) in
       let ax : (pos 0 +ℤ side k) +ℤ pos u ≡ pos (2 ^ k + u) = omega (arith, ints) in
       let by : (pos 0 +ℤ side k) +ℤ pos v ≡ pos (2 ^ k + v) = omega (arith, ints) in
-      shows.looks u v s t ∙ ap₂ (later next (later next p m) n) ax by ∙ later_again next p m n (pos (2 ^ k + u)) (pos (2 ^ k + v))
-      ∙ ap (λ i. later next p i (pos (2 ^ k + u)) (pos (2 ^ k + v))) sum
+      shows.looks u v s t ∙ ap₂ (cells_after next (cells_after next p m) n) ax by ∙ after_again next p m n (pos (2 ^ k + u)) (pos (2 ^ k + v))
+      ∙ ap (λ i. cells_after next p i (pos (2 ^ k + u)) (pos (2 ^ k + v))) sum
       ∙ ap (λ f. centre next f (2 ^ k) (2 ^ j) u v) (sym (cells_stay old new sound grows (suc (suc k)) id square));
 }
 

@@ -14,19 +14,18 @@ use Rattle.std.proofs.lemmas.List.{get_or_past, get_or-replicate}
 use Rattle.std.proofs.lemmas.Simd.{length-zip2, get_or-zip2, get_or_narrower}
 use Rattle.std.specs.Simd.Lanes.{zip2, digits_l, number_l}
 use Rattle.std.proofs.lemmas.List.Elements.{All-from_recursion}
-use Rattle.ca_plane.specs.Generations.{around}
+use Rattle.ca_plane.specs.Generations.{around, cells_after}
 use Rattle.ca_plane.specs.Moore.{moore_next}
 use Rattle.ca_quad.specs.Squares.{together}
 use Rattle.ca_quad.specs.Trees.{row_cells, word_cells}
 use Rattle.ca_quad.proofs.Growth.{below_or_not}
 use Rattle.ca_quad.proofs.Walks.{in_nw, in_ne, in_sw, in_se}
 use Rattle.ca_run.specs.declared.leaper.words.Words.{Words}
-use Rattle.ca_run.specs.Centre.{later}
 use Rattle.ca_run.specs.Lanes.{tile_cell, IsWithinEdge}
 use Rattle.ca_run.specs.inner.Words.{WordShows, WordsShow, TileShows, byte_of, bytes_at, inner_byte}
 use Rattle.ca_run.specs.Masks.{GoesBy}
-use Rattle.ca_run.proofs.Rounds.{IsRound, around-same}
-use Rattle.ca_run.proofs.Laters.{around-seen}
+use Rattle.ca_run.specs.Later.{IsWithin}
+use Rattle.ca_run.proofs.After.{around-same, around-seen}
 use Rattle.ca_run.proofs.Looks.{looks_together}
 
 -- ---- bits
@@ -230,16 +229,16 @@ tile_less rows m n p a b few shows = record { looks = λ x y i j k l. shows.look
 -- a generation of the tile is one of the plane, but for one more row and column at each side
 module _ (next : List ℕ → ℕ) (masks : ℕ × ℕ) (goes_by : GoesBy next masks) (old new : List ℕ)
     (made : (x y : ℤ) → IsWithinEdge x y → tile_cell new x y ≡ moore_next masks.0 masks.1 (around (tile_cell old) x y)) where
-  pub tile_goes_on : (m : ℕ) (p : ℤ → ℤ → ℕ) (a b : ℤ) → TileShows old m (later next p m) a b → TileShows new (suc m) (later next p (suc m)) a b
+  pub tile_goes_on : (m : ℕ) (p : ℤ → ℤ → ℕ) (a b : ℤ) → TileShows old m (cells_after next p m) a b → TileShows new (suc m) (cells_after next p (suc m)) a b
   tile_goes_on m p a b shows = record {
     looks = λ x y i j k l.
         made (pos x) (pos y) (omega (arith, ints), omega (arith, ints), omega (arith, ints), omega (arith, ints))
         ∙ sym (goes_by.is_moore.goes_by (around (tile_cell old) (pos x) (pos y)) refl (around_bits old (pos x) (pos y)))
-        ∙ ap next (around-same (tile_cell old) (λ u v. later next p m (a +ℤ u) (b +ℤ v)) (pos x) (pos y) (λ u v round. inside x y i j k l u v round)
-        ∙ around-seen (later next p m) a b (pos x) (pos y));
+        ∙ ap next (around-same (tile_cell old) (λ u v. cells_after next p m (a +ℤ u) (b +ℤ v)) (pos x) (pos y) (λ u v round. inside x y i j k l u v round)
+        ∙ around-seen (cells_after next p m) a b (pos x) (pos y));
   }
     where
-      inside : (x y : ℕ) → suc m ≤ x → x + suc m < 16 → suc m ≤ y → y + suc m < 16 → (u v : ℤ) → IsRound (pos x) (pos y) u v → tile_cell old u v ≡ later next p m (a +ℤ u) (b +ℤ v)
+      inside : (x y : ℕ) → suc m ≤ x → x + suc m < 16 → suc m ≤ y → y + suc m < 16 → (u v : ℤ) → IsWithin 1 (pos x) (pos y) u v → tile_cell old u v ≡ cells_after next p m (a +ℤ u) (b +ℤ v)
       inside x y i j k l (pos u) (pos v) round = shows.looks u v (omega (arith, ints, round)) (omega (arith, ints, round)) (omega (arith, ints, round)) (omega (arith, ints, round))
       inside x y i j k l (pos u) (negsuc v) round = absurd (omega (arith, ints, round))
       inside x y i j k l (negsuc u) v round = absurd (omega (arith, ints, round))

@@ -5,6 +5,7 @@ use Rattle.std.proofs.lemmas.Int.{ints}
 use Rattle.std.proofs.Math.Nat.{two-pow-succ, pow-le-pow_right}
 use Rattle.std.proofs.Math.Pow.{pow_mono}
 use Rattle.std.proofs.lemmas.Nat.{mod-pow-add}
+use Rattle.ca_plane.specs.Generations.{cells_after}
 use Rattle.ca_quad.specs.declared.node.Node.{Node}
 use Rattle.ca_quad.specs.declared.tree.Tree.{Tree}
 use Rattle.ca_quad.specs.Squares.{cell_of}
@@ -13,10 +14,10 @@ use Rattle.ca_quad.specs.Trees.{IsTree, from_corner, cell}
 use Rattle.ca_quad.proofs.Growth.{below_or_not}
 use Rattle.ca_quad.proofs.Cells.{cell_ends, cells_stay}
 use Rattle.ca_quad.proofs.Edges.{outside_x, outside_y}
-use Rattle.ca_run.specs.Centre.{later, IsCentre}
+use Rattle.ca_run.specs.Centre.{IsCentre}
 use Rattle.ca_run.specs.inner.Shown.{ShowsAt, side}
 use Rattle.ca_run.specs.inner.Grid.{IsBeyond, DiesBeyond}
-use Rattle.ca_run.proofs.Laters.{later_same, later_dead, later_again}
+use Rattle.ca_run.proofs.After.{after_same, after_dead, after_again}
 use Rattle.ca_run.proofs.Shown.{at_from, centre_at}
 
 -- a tree is empty beyond half its side
@@ -31,9 +32,9 @@ beyond_near way n far x s h low high (inl e) = inl (omega (arith, ints, h, low, 
 beyond_near way n far x s h low high (inr e) = inr (omega (arith, ints, h, low, high, e))
 
 -- n generations later it is empty n cells further out
-pub later_dies : (next : List ℕ → ℕ) → next (replicate 9 0) ≡ 0 → (p : ℤ → ℤ → ℕ) (way n far : ℕ) → way + n ≤ far → DiesBeyond way p → DiesBeyond far (later next p n)
+pub later_dies : (next : List ℕ → ℕ) → next (replicate 9 0) ≡ 0 → (p : ℤ → ℤ → ℕ) (way n far : ℕ) → way + n ≤ far → DiesBeyond way p → DiesBeyond far (cells_after next p n)
 later_dies next quiet p way n far h dies x y out =
-    later_dead next p quiet n x y (λ s t within.
+    after_dead next p quiet n x y (λ s t within.
     let sx : s ≤ℤ (x +ℤ pos n) = omega (arith, ints, within) in
     let xs : x ≤ℤ (s +ℤ pos n) = omega (arith, ints, within) in
     let ty : t ≤ℤ (y +ℤ pos n) = omega (arith, ints, within) in
@@ -91,7 +92,7 @@ powers_fit l j k some low time =
 -- the centre of a tree with a wide empty margin is the tree 2 ^ j generations later
 pub leap_cells : (next : List ℕ → ℕ) → next (replicate 9 0) ≡ 0 → (s0 s1 s2 : List Node) → IsSound s1 → Grows s1 s2 → (tree wide half : Tree) (k j root : ℕ) → 1 ≤ tree.level → tree.level ≤ k → j + 1 ≤ k
     → IsTree s1 wide → wide.level ≡ suc (suc k) → ((x y : ℤ) → cell s1 wide x y ≡ cell s0 tree x y) → IsCentre next s2 wide.root k j root → half.root ≡ root → half.level ≡ suc k
-    → (x y : ℤ) → cell s2 half x y ≡ later next (cell s0 tree) (2 ^ j) x y
+    → (x y : ℤ) → cell s2 half x y ≡ cells_after next (cell s0 tree) (2 ^ j) x y
 leap_cells next quiet s0 s1 s2 sound grows tree wide half k j root some low time is_tree level same is_centre e f x y =
     let p = cell s1 wide in
     let corner : wide.level - 1 ≡ suc k = omega arith in
@@ -99,19 +100,19 @@ leap_cells next quiet s0 s1 s2 sound grows tree wide half k j root some low time
     let place : neg_ℤ (pos (2 ^ suc k)) +ℤ side k ≡ neg_ℤ (pos (2 ^ k)) = omega (arith, ints, up) in
     let shown = subst (λ n. ShowsAt s1 wide.root (suc (suc k)) p (neg_ℤ (pos (2 ^ n))) (neg_ℤ (pos (2 ^ n)))) corner
     (subst (λ n. ShowsAt s1 wide.root n p (neg_ℤ (pos (2 ^ (wide.level - 1)))) (neg_ℤ (pos (2 ^ (wide.level - 1))))) level (root_at s1 wide is_tree)) in
-    let centred = at_from s2 root (suc k) (later next p (2 ^ j)) _ _ _ _ place place
+    let centred = at_from s2 root (suc k) (cells_after next p (2 ^ j)) _ _ _ _ place place
     (centre_at next s1 s2 sound grows wide.root k j root p (neg_ℤ (pos (2 ^ suc k))) (neg_ℤ (pos (2 ^ suc k))) shown is_centre) in
     let dies : DiesBeyond (2 ^ (tree.level - 1)) p = λ u v out. same u v ∙ tree_dies s0 tree some u v out in
     let later_dead_out = later_dies next quiet p (2 ^ (tree.level - 1)) (2 ^ j) (2 ^ k) (powers_fit tree.level j k some low time) dies in
-    tree_at s2 root k (later next p (2 ^ j)) centred later_dead_out half e f x y ∙ later_same next p (cell s0 tree) (2 ^ j) same x y
+    tree_at s2 root k (cells_after next p (2 ^ j)) centred later_dead_out half e f x y ∙ after_same next p (cell s0 tree) (2 ^ j) same x y
 
 -- one binary digit more: the tree after the digits so far, and then after this one
-pub one_digit : (next : List ℕ → ℕ) (s0 s1 s2 : List Node) (tree now more : Tree) (n j : ℕ) → n / 2 ^ j % 2 ≡ 1 → ((x y : ℤ) → cell s1 now x y ≡ later next (cell s0 tree) (n % 2 ^ j) x y)
-    → ((x y : ℤ) → cell s2 more x y ≡ later next (cell s1 now) (2 ^ j) x y) → (x y : ℤ) → cell s2 more x y ≡ later next (cell s0 tree) (n % 2 ^ (1 + j)) x y
+pub one_digit : (next : List ℕ → ℕ) (s0 s1 s2 : List Node) (tree now more : Tree) (n j : ℕ) → n / 2 ^ j % 2 ≡ 1 → ((x y : ℤ) → cell s1 now x y ≡ cells_after next (cell s0 tree) (n % 2 ^ j) x y)
+    → ((x y : ℤ) → cell s2 more x y ≡ cells_after next (cell s1 now) (2 ^ j) x y) → (x y : ℤ) → cell s2 more x y ≡ cells_after next (cell s0 tree) (n % 2 ^ (1 + j)) x y
 one_digit next s0 s1 s2 tree now more n j digit so_far leap x y =
     let sum : n % 2 ^ j + 2 ^ j ≡ n % 2 ^ (1 + j) = sym (mod-pow-add n 1 j ∙ (ap (λ d. d * 2 ^ j + n % 2 ^ j) digit ∙ omega arith)) in
-    leap x y ∙ later_same next (cell s1 now) (later next (cell s0 tree) (n % 2 ^ j)) (2 ^ j) so_far x y ∙ later_again next (cell s0 tree) (n % 2 ^ j) (2 ^ j) x y
-    ∙ ap (λ m. later next (cell s0 tree) m x y) sum
+    leap x y ∙ after_same next (cell s1 now) (cells_after next (cell s0 tree) (n % 2 ^ j)) (2 ^ j) so_far x y ∙ after_again next (cell s0 tree) (n % 2 ^ j) (2 ^ j) x y
+    ∙ ap (λ m. cells_after next (cell s0 tree) m x y) sum
 
 -- and none where the digit is 0
 pub no_digit : (n j : ℕ) → n / 2 ^ j % 2 ≡ 0 → n % 2 ^ j ≡ n % 2 ^ (1 + j)

@@ -1,20 +1,14 @@
--- Generations of a plane that is given by its cells, and the centre of a square after some of them
--- (Gosper, "Exploiting regularities in large cellular spaces").
-use Rattle.std.specs.Prelude.{◌≡◌, ℕ, zero, suc, ◌+◌, ◌≤◌, ◌<◌, ◌^◌, ℤ, pos, List}
-use Rattle.ca_plane.specs.Generations.{around}
+-- The centre of a square after some generations (Gosper, "Exploiting regularities in large cellular spaces").
+use Rattle.std.specs.Prelude.{◌≡◌, ℕ, suc, ◌+◌, ◌≤◌, ◌<◌, ◌^◌, pos, List}
+use Rattle.ca_plane.specs.Generations.{cells_after}
 use Rattle.ca_quad.specs.declared.node.Node.{Node}
 use Rattle.ca_quad.specs.Squares.{IsOf, cell_of}
 use Rattle.ca_quad.specs.Trees.{from_corner}
 
--- the state at (x, y) after n generations of a plane with these cells
-abbrev pub later : (List ℕ → ℕ) → (ℤ → ℤ → ℕ) → ℕ → ℤ → ℤ → ℕ
-later next cells zero x y = cells x y
-later next cells (suc n) x y = next (around (later next cells n) x y)
-
 -- the centre of a square after n generations, counted from the centre's own corner: the square lies with its upper left
 -- cell at (0, 0), all else is empty, and the centre begins a quarter of the side further in
 abbrev pub centre : (List ℕ → ℕ) → (ℕ → ℕ → ℕ) → ℕ → ℕ → ℕ → ℕ → ℕ
-centre next cells quarter n u v = later next (from_corner cells) n (pos (quarter + u)) (pos (quarter + v))
+centre next cells quarter n u v = cells_after next (from_corner cells) n (pos (quarter + u)) (pos (quarter + v))
 
 -- half names the centre, of level k + 1, of a square of level k + 2 after 2 ^ j generations; j is at most k
 pub record IsCentre (next : List ℕ → ℕ) (nodes : List Node) (id k j half : ℕ) : Type 0 where

@@ -13,7 +13,7 @@ use ca_plane::Automaton;
 
 /// The state at (x, y) after n generations depends only on the cells within n of (x, y) in each direction: two pictures
 /// that show the same cells there have the same state at (x, y) after n generations.
-#[tactic(auto, using(crate::proofs::Returns::near))]
+#[tactic(auto, using(crate::proofs::After::after_near))]
 pub fn l1<A: Automaton>(rule: &A)
     ensures near { (p q : Picture) (n : ℕ) (x y : ℤ) → AgreeWithin n x y p q → after (A.next_of rule.now) p n x y ≡ after (A.next_of rule.now) q n x y }
 {
@@ -22,7 +22,6 @@ pub fn l1<A: Automaton>(rule: &A)
 
 /// A moved picture goes on as the picture does, moved by the same vector: what the picture has at (x, y) after n
 /// generations, the moved one has at (x + dx, y + dy).
-#[tactic(auto, using(crate::proofs::Returns::after_moved))]
 pub fn l2<A: Automaton>(rule: &A)
     ensures moved { (cells : Picture) (dx dy : ℤ) (n : ℕ) (x y : ℤ)
         → after (A.next_of rule.now) (shifted cells dx dy) n (x +ℤ dx) (y +ℤ dy) ≡ after (A.next_of rule.now) cells n x y }

@@ -3,12 +3,11 @@ use Rattle.std.specs.Prelude.{◌≡◌, ◌≢◌, ℕ, ◌≤◌, ◌<◌, ℤ
 use Rattle.std.specs.Int.{◌∣◌}
 use Rattle.ca_plane.specs.Plane.{Picture, shifted}
 use Rattle.ca_plane.specs.Plane as plane
-use Rattle.ca_plane.specs.Generations.{IsAfter}
+use Rattle.ca_plane.specs.Generations.{IsAfter, cells_after}
 use Rattle.ca_plane.specs.Sparse.{IsInPlane, IsSparse}
 use Rattle.ca_quad.specs.declared.node.Node.{Node}
 use Rattle.ca_quad.specs.declared.tree.Tree.{Tree}
 use Rattle.ca_quad.specs.Trees.{IsTree, cell}
-use Rattle.ca_run.specs.Centre.{later}
 use Rattle.ca_macro.specs.Pattern.{AreInRange}
 use Rattle.ca_claims.specs.declared.claims.asks.Asks.{Asks}
 use Rattle.ca_claims.specs.declared.claims.asks.Barred.{Barred}
@@ -73,7 +72,7 @@ IsOnlyMove nodes tree cells v = (dx dy : ℤ) → ShowsTree nodes tree (shifted 
 -- the tree shows the plane n generations after another tree's
 pub record IsEnd (next : List ℕ → ℕ) (old : List Node) (pattern : Tree) (n : ℕ) (nodes : List Node) (end : Tree) : Type 0 where
   pub near : IsNear nodes end
-  pub shows : (x y : ℤ) → cell nodes end x y ≡ later next (cell old pattern) n x y
+  pub shows : (x y : ℤ) → cell nodes end x y ≡ cells_after next (cell old pattern) n x y
 
 -- the tree shows a picture, moved by (dx, dy)
 pub record IsMoved (cells : Picture) (dx dy : ℤ) (nodes : List Node) (tree : Tree) : Type 0 where

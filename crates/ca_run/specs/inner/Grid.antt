@@ -1,7 +1,7 @@
 -- Planes of two states as rows of words (our own). The rows go from the north, the words of each from the west. A place among them is a whole number:
 -- before the first and beyond the last there is nothing but empty words.
 use Rattle.std.specs.Prelude.{◌≡◌, ℕ, ◌+◌, ◌-◌, ◌*◌, ◌/◌, ◌^◌, ◌≤◌, ℤ, pos, negsuc, neg_ℤ, ◌⊎◌, ◌+ℤ◌, ◌-ℤ◌, ◌<ℤ◌, ◌≤ℤ◌, List, [], length, get_or, replicate}
-use Rattle.ca_run.specs.Centre.{later}
+use Rattle.ca_plane.specs.Generations.{cells_after}
 use Rattle.ca_run.specs.declared.leaper.words.Words.{Words}
 use Rattle.ca_run.specs.declared.leaper.grid.Place.{Place}
 use Rattle.ca_run.specs.inner.Words.{WordShows, WordsShow}
@@ -33,7 +33,7 @@ HasNone square = (square.nw ≡ 0) × (square.ne ≡ 0) × (square.sw ≡ 0) × 
 -- the word is what is in the middle of the square so many generations on, under the rule that goes by these masks
 pub record IsMiddle (masks : ℕ × ℕ) (n : ℕ) (square : Words) (word : ℕ) : Type 0 where
   pub shows : (next : List ℕ → ℕ) (p : ℤ → ℤ → ℕ) (a b : ℤ) → GoesBy next masks → next (replicate 9 0) ≡ 0 → WordsShow square p a b
-      → WordShows word (later next p n) (a +ℤ pos 4) (b +ℤ pos 4)
+      → WordShows word (cells_after next p n) (a +ℤ pos 4) (b +ℤ pos 4)
 
 -- the words of a row are what is in the middle of the squares between two rows
 abbrev pub LineFollows : ℕ × ℕ → ℕ → (north south line : List ℕ) → Type 0

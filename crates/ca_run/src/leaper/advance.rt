@@ -1,9 +1,9 @@
 //! Trees after n generations.
 
 ghost use Rattle.std.specs.Prelude.{◌≡◌, ◌+◌, ◌≤◌, ◌^◌, max, ℤ, Ok, IfOk};
+ghost use Rattle.ca_plane.specs.Generations.{cells_after};
 ghost use Rattle.ca_quad.specs.Sound.{IsSound};
 ghost use Rattle.ca_quad.specs.Trees.{IsTree, cell};
-ghost use Rattle.ca_run.specs.Centre.{later};
 ghost use Rattle.ca_run.specs.Leaping.{GoesOn};
 
 use super::{Leaper, Milestone};
@@ -28,7 +28,7 @@ impl<A: Automaton> Leaper<A> {
         requires time { n ≤ 2 ^ 60 }
         ensures tree { IfOk result (IsTree self.new.nodes) }
         ensures level { IfOk result (λ t. t.level ≤ 124) }
-        ensures cells { IfOk result (λ t. (x y : ℤ) → cell self.new.nodes t x y ≡ later (A.next_of self.old.rule) (cell self.old.nodes tree) n x y) }
+        ensures cells { IfOk result (λ t. (x y : ℤ) → cell self.new.nodes t x y ≡ cells_after (A.next_of self.old.rule) (cell self.old.nodes tree) n x y) }
         ensures none { n ≡ 0 → result ≡ Ok tree }
         ensures goes_on { GoesOn A self.old self.new }
     {
@@ -52,7 +52,7 @@ impl<A: Automaton> Leaper<A> {
         requires time { n ≤ 2 ^ 60 }
         ensures tree { IfOk result (IsTree self.new.nodes) }
         ensures level { IfOk result (λ t. t.level ≤ 124) }
-        ensures cells { IfOk result (λ t. (x y : ℤ) → cell self.new.nodes t x y ≡ later (A.next_of self.old.rule) (cell self.old.nodes tree) n x y) }
+        ensures cells { IfOk result (λ t. (x y : ℤ) → cell self.new.nodes t x y ≡ cells_after (A.next_of self.old.rule) (cell self.old.nodes tree) n x y) }
         ensures none { n ≡ 0 → result ≡ Ok tree }
         ensures goes_on { GoesOn A self.old self.new }
     {
@@ -70,7 +70,7 @@ impl<A: Automaton> Leaper<A> {
         requires time { n ≤ 2 ^ 60 }
         ensures tree { IfOk result (IsTree self.new.nodes) }
         ensures level { IfOk result (λ t. t.level ≤ 124) }
-        ensures cells { IfOk result (λ t. (x y : ℤ) → cell self.new.nodes t x y ≡ later (A.next_of self.old.rule) (cell self.old.nodes tree) n x y) }
+        ensures cells { IfOk result (λ t. (x y : ℤ) → cell self.new.nodes t x y ≡ cells_after (A.next_of self.old.rule) (cell self.old.nodes tree) n x y) }
         ensures none { n ≡ 0 → result ≡ Ok tree }
         ensures goes_on { GoesOn A self.old self.new }
     {
@@ -95,7 +95,7 @@ impl<A: Automaton> Leaper<A> {
         requires time { j ≤ 60 }
         ensures tree { IfOk result (IsTree self.new.nodes) }
         ensures level { IfOk result (λ t. t.level ≡ max tree.level (j + 1) + 1) }
-        ensures cells { IfOk result (λ t. (x y : ℤ) → cell self.new.nodes t x y ≡ later (A.next_of self.old.rule) (cell self.old.nodes tree) (2 ^ j) x y) }
+        ensures cells { IfOk result (λ t. (x y : ℤ) → cell self.new.nodes t x y ≡ cells_after (A.next_of self.old.rule) (cell self.old.nodes tree) (2 ^ j) x y) }
         ensures goes_on { GoesOn A self.old self.new }
     {
         // So all that is live 2^j generations on lies in the centre.

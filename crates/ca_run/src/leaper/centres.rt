@@ -1,9 +1,10 @@
 //! The centres of squares after 2^j generations.
 
 ghost use Rattle.std.specs.Prelude.{◌≡◌, ℕ, suc, ◌≤◌, ◌^◌, ℤ, pos, ◌+ℤ◌, List, Option, IfOk, IfSome};
+ghost use Rattle.ca_plane.specs.Generations.{cells_after};
 ghost use Rattle.ca_quad.specs.Squares.{IsOf};
 ghost use Rattle.ca_quad.specs.Trees.{AreFour};
-ghost use Rattle.ca_run.specs.Centre.{later, IsCentre};
+ghost use Rattle.ca_run.specs.Centre.{IsCentre};
 ghost use Rattle.ca_run.specs.Leaping.{GoesOn};
 ghost use Rattle.ca_run.specs.inner.Shown.{ShowsAt, FourShow, TwoShow, ThreeShow, NineShow, AreThree, AreNine, side, generations, IsTimely};
 
@@ -83,7 +84,7 @@ impl<A: Automaton> Leaper<A> {
         requires first { IsTimely grain first }
         requires time { j ≤ grain }
         ensures shows { (next : List ℕ → ℕ) (p : ℤ → ℤ → ℕ) (a b : ℤ) → next ≡ A.next_of self.old.rule → ShowsAt self.old.nodes id (suc (suc (suc grain))) p a b
-            → IfOk result (λ half. ShowsAt self.new.nodes half (suc (suc grain)) (later next (later next p (generations first)) (2 ^ j)) (a +ℤ side (suc grain)) (b +ℤ side (suc grain))) }
+            → IfOk result (λ half. ShowsAt self.new.nodes half (suc (suc grain)) (cells_after next (cells_after next p (generations first)) (2 ^ j)) (a +ℤ side (suc grain)) (b +ℤ side (suc grain))) }
         ensures goes_on { GoesOn A self.old self.new }
     {
         let rows = self.nine(id, grain, first)?;
@@ -99,7 +100,7 @@ impl<A: Automaton> Leaper<A> {
         requires low { grain ≤ 122 }
         requires first { IsTimely grain first }
         ensures shows { (next : List ℕ → ℕ) (p : ℤ → ℤ → ℕ) (a b : ℤ) → next ≡ A.next_of self.old.rule → ShowsAt self.old.nodes id (suc (suc (suc grain))) p a b
-            → IfOk result (λ rows. NineShow self.new.nodes (suc grain) rows (later next p (generations first)) (a +ℤ side grain) (b +ℤ side grain)) }
+            → IfOk result (λ rows. NineShow self.new.nodes (suc grain) rows (cells_after next p (generations first)) (a +ℤ side grain) (b +ℤ side grain)) }
         ensures squares { IfOk result (AreNine self.new.nodes (suc grain)) }
         ensures goes_on { GoesOn A self.old self.new }
     {
@@ -124,7 +125,7 @@ impl<A: Automaton> Leaper<A> {
         requires low { grain ≤ 122 }
         requires first { IsTimely grain first }
         ensures shows { (next : List ℕ → ℕ) (p : ℤ → ℤ → ℕ) (a b : ℤ) → next ≡ A.next_of self.old.rule → TwoShow self.old.nodes (suc (suc grain)) west east p a b
-            → IfOk result (λ three. ThreeShow self.new.nodes (suc grain) three (later next p (generations first)) (a +ℤ side grain) (b +ℤ side grain)) }
+            → IfOk result (λ three. ThreeShow self.new.nodes (suc grain) three (cells_after next p (generations first)) (a +ℤ side grain) (b +ℤ side grain)) }
         ensures squares { IfOk result (AreThree self.new.nodes (suc grain)) }
         ensures goes_on { GoesOn A self.old self.new }
     {
@@ -143,7 +144,7 @@ impl<A: Automaton> Leaper<A> {
         requires low { grain ≤ 122 }
         requires first { IsTimely grain first }
         ensures shows { (next : List ℕ → ℕ) (p : ℤ → ℤ → ℕ) (a b : ℤ) → next ≡ A.next_of self.old.rule → ShowsAt self.old.nodes id (suc (suc grain)) p a b
-            → IfOk result (λ half. ShowsAt self.new.nodes half (suc grain) (later next p (generations first)) (a +ℤ side grain) (b +ℤ side grain)) }
+            → IfOk result (λ half. ShowsAt self.new.nodes half (suc grain) (cells_after next p (generations first)) (a +ℤ side grain) (b +ℤ side grain)) }
         ensures square { IfOk result (λ half. IsOf self.new.nodes half (suc grain)) }
         ensures goes_on { GoesOn A self.old self.new }
     {
@@ -163,7 +164,7 @@ impl<A: Automaton> Leaper<A> {
         requires time { j ≤ grain }
         ensures shows { (next : List ℕ → ℕ) (p : ℤ → ℤ → ℕ) (a b : ℤ) → next ≡ A.next_of self.old.rule
             → ThreeShow self.old.nodes (suc grain) north.now p a b → ThreeShow self.old.nodes (suc grain) south.now p a (b +ℤ side (suc grain))
-            → IfOk result (λ two. TwoShow self.new.nodes (suc grain) two.0 two.1 (later next p (2 ^ j)) (a +ℤ side grain) (b +ℤ side grain)) }
+            → IfOk result (λ two. TwoShow self.new.nodes (suc grain) two.0 two.1 (cells_after next p (2 ^ j)) (a +ℤ side grain) (b +ℤ side grain)) }
         ensures west { IfOk result (λ two. IsOf self.new.nodes two.0 (suc grain)) }
         ensures east { IfOk result (λ two. IsOf self.new.nodes two.1 (suc grain)) }
         ensures goes_on { GoesOn A self.old self.new }
@@ -203,7 +204,7 @@ impl<A: Automaton> Leaper<A> {
         requires low { grain ≤ 122 }
         requires time { j ≤ grain }
         ensures shows { (next : List ℕ → ℕ) (p : ℤ → ℤ → ℕ) (a b : ℤ) → next ≡ A.next_of self.old.rule → FourShow self.old.nodes (suc grain) nw ne sw se p a b
-            → IfOk result (λ half. ShowsAt self.new.nodes half (suc grain) (later next p (2 ^ j)) (a +ℤ side grain) (b +ℤ side grain)) }
+            → IfOk result (λ half. ShowsAt self.new.nodes half (suc grain) (cells_after next p (2 ^ j)) (a +ℤ side grain) (b +ℤ side grain)) }
         ensures square { IfOk result (λ half. IsOf self.new.nodes half (suc grain)) }
         ensures goes_on { GoesOn A self.old self.new }
     {

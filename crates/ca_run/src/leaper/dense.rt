@@ -1,8 +1,8 @@
 //! Planes that are stepped word by word: those of few generations beside their size, of squares that hardly repeat.
 
 ghost use Rattle.std.specs.Prelude.{◌≡◌, ℕ, ◌+◌, ◌*◌, ◌/◌, ◌%◌, ◌≤◌, ◌<◌, ◌^◌, ℤ, pos, neg_ℤ, ◌+ℤ◌, ◌-ℤ◌, ◌≤ℤ◌, ◌-◌, List, true, Ok, None, replicate, IfOk, IfSome};
+ghost use Rattle.ca_plane.specs.Generations.{cells_after};
 ghost use Rattle.ca_quad.specs.Trees.{IsTree, cell};
-ghost use Rattle.ca_run.specs.Centre.{later};
 ghost use Rattle.ca_run.specs.Leaping.{GoesOn};
 ghost use Rattle.ca_run.specs.Masks.{GoesBy};
 ghost use Rattle.ca_run.specs.inner.Grid.{GridShows, Begins, IsAsNarrow, corner, DiesBeyond};
@@ -33,7 +33,7 @@ impl<A: Automaton> Leaper<A> {
         requires { IsTree self.old.nodes tree }
         ensures tree { IfOk result (λ found. IfSome found (IsTree self.new.nodes)) }
         ensures level { IfOk result (λ found. IfSome found (λ t. t.level ≤ 124)) }
-        ensures cells { IfOk result (λ found. IfSome found (λ t. (x y : ℤ) → cell self.new.nodes t x y ≡ later (A.next_of self.old.rule) (cell self.old.nodes tree) n x y)) }
+        ensures cells { IfOk result (λ found. IfSome found (λ t. (x y : ℤ) → cell self.new.nodes t x y ≡ cells_after (A.next_of self.old.rule) (cell self.old.nodes tree) n x y)) }
         ensures none { n ≡ 0 → result ≡ Ok None }
         ensures goes_on { GoesOn A self.old self.new }
     {
@@ -127,7 +127,7 @@ impl Grid {
         requires narrow { IsAsNarrow (2 ^ 40) self }
         requires time { n ≤ 2 ^ 40 }
         ensures { (next : List ℕ → ℕ) (p : ℤ → ℤ → ℕ) (a b : ℤ) → GoesBy next masks → next (replicate 9 0) ≡ 0 → GridShows self p a b
-            → IfOk result (λ grid. GridShows grid (later next p n) (a -ℤ pos (8 * (n / 8 + 1))) (b -ℤ pos (8 * (n / 8 + 1)))) }
+            → IfOk result (λ grid. GridShows grid (cells_after next p n) (a -ℤ pos (8 * (n / 8 + 1))) (b -ℤ pos (8 * (n / 8 + 1)))) }
     {
         let none = Grid::empty(alloc);
         let fours = n / 4;
@@ -154,7 +154,7 @@ impl Grid {
         requires time { fours ≤ 2 ^ 40 }
         ensures narrow { IfOk result (IsAsNarrow (2 ^ 40 + fours)) }
         ensures shows { (next : List ℕ → ℕ) (p : ℤ → ℤ → ℕ) (a b : ℤ) → GoesBy next masks → next (replicate 9 0) ≡ 0 → GridShows self p a b
-            → IfOk result (λ grid. GridShows grid (later next p (4 * fours)) (a -ℤ pos (4 * fours)) (b -ℤ pos (4 * fours))) }
+            → IfOk result (λ grid. GridShows grid (cells_after next p (4 * fours)) (a -ℤ pos (4 * fours)) (b -ℤ pos (4 * fours))) }
     {
         let mut before = Grid::empty(alloc);
         let mut after = Grid::empty(alloc);

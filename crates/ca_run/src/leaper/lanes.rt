@@ -1,8 +1,8 @@
 //! Centres of squares of 16 by 16 and of 32 by 32 cells, many cells at once.
 
 ghost use Rattle.std.specs.Prelude.{◌≡◌, ℕ, suc, ◌+◌, ◌≤◌, ◌^◌, ℤ, ◌+ℤ◌, IfSome};
+ghost use Rattle.ca_plane.specs.Generations.{cells_after};
 ghost use Rattle.ca_quad.specs.Squares.{IsOf};
-ghost use Rattle.ca_run.specs.Centre.{later};
 ghost use Rattle.ca_run.specs.inner.Shown.{ShowsAt, side};
 ghost use Rattle.ca_run.specs.inner.Words.{WordShows, WordsShow};
 
@@ -19,7 +19,7 @@ impl<A: Automaton> Leaper<A> {
         requires time { j ≤ grain }
         ensures grain { IfSome result (λ _. grain ≡ 2) }
         ensures shows { (p : ℤ → ℤ → ℕ) (a b : ℤ) → ShowsAt self.now.nodes id (suc (suc grain)) p a b
-            → IfSome result (λ word. WordShows word (later (A.next_of self.now.rule) p (2 ^ j)) (a +ℤ side grain) (b +ℤ side grain)) }
+            → IfSome result (λ word. WordShows word (cells_after (A.next_of self.now.rule) p (2 ^ j)) (a +ℤ side grain) (b +ℤ side grain)) }
     {
         if grain != 2 {
             return None;
@@ -35,7 +35,7 @@ impl<A: Automaton> Leaper<A> {
         requires time { j ≤ grain }
         ensures grain { IfSome result (λ _. grain ≡ 3) }
         ensures shows { (p : ℤ → ℤ → ℕ) (a b : ℤ) → ShowsAt self.now.nodes id (suc (suc grain)) p a b
-            → IfSome result (λ words. WordsShow words (later (A.next_of self.now.rule) p (2 ^ j)) (a +ℤ side grain) (b +ℤ side grain)) }
+            → IfSome result (λ words. WordsShow words (cells_after (A.next_of self.now.rule) p (2 ^ j)) (a +ℤ side grain) (b +ℤ side grain)) }
     {
         if grain != 3 {
             return None;

@@ -1,8 +1,8 @@
 //! How far a run of generations has come.
 
 ghost use Rattle.std.specs.Prelude.{◌≡◌, ℤ};
+ghost use Rattle.ca_plane.specs.Generations.{cells_after};
 ghost use Rattle.ca_quad.specs.Trees.{cell};
-ghost use Rattle.ca_run.specs.Centre.{later};
 ghost use Rattle.ca_run.specs.inner.Grid.{IsShown};
 
 use super::Leaper;
@@ -43,7 +43,7 @@ impl Milestone {
         held: &Tree,
         generations: u64,
     ) -> Milestone
-        requires { (x y : ℤ) → cell leaper.now.nodes held.now x y ≡ later (A.next_of leaper.now.rule) (cell leaper.now.nodes first.now) generations x y }
+        requires { (x y : ℤ) → cell leaper.now.nodes held.now x y ≡ cells_after (A.next_of leaper.now.rule) (cell leaper.now.nodes first.now) generations x y }
         ensures { result ≡ generations }
     {
         let _ = leaper;
@@ -59,7 +59,7 @@ impl Milestone {
         held: &Grid,
         generations: u64,
     ) -> Milestone
-        requires { IsShown held.now (later (A.next_of leaper.now.rule) (cell leaper.now.nodes first.now) generations) }
+        requires { IsShown held.now (cells_after (A.next_of leaper.now.rule) (cell leaper.now.nodes first.now) generations) }
         ensures { result ≡ generations }
     {
         let _ = leaper;

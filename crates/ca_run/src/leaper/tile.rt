@@ -1,7 +1,7 @@
 //! Squares of 16 by 16 cells of two states, row by row.
 
 ghost use Rattle.std.specs.Prelude.{◌≡◌, ℕ, ◌/◌, ◌%◌, ◌<◌, ℤ, pos, ◌+ℤ◌, List, length, slice_index};
-ghost use Rattle.ca_run.specs.Centre.{later};
+ghost use Rattle.ca_plane.specs.Generations.{cells_after};
 ghost use Rattle.ca_run.specs.inner.Words.{WordShows, WordsShow, TileShows, bytes_at};
 ghost use Rattle.ca_run.specs.Masks.{GoesBy};
 
@@ -33,7 +33,7 @@ fn bytes_of(north: u64, south: u64) -> u16x16
 // The tile so many generations on, as far from its edge as they reach. The rule goes by these masks.
 #[inline(always)]
 pub(super) fn later_tile(tile: Bits, masks: (u16, u16), n: u8) -> Bits
-    ensures { (next : List ℕ → ℕ) (p : ℤ → ℤ → ℕ) (a b : ℤ) → GoesBy next masks → TileShows tile.rows 0 p a b → TileShows result.rows n (later next p n) a b }
+    ensures { (next : List ℕ → ℕ) (p : ℤ → ℤ → ℕ) (a b : ℤ) → GoesBy next masks → TileShows tile.rows 0 p a b → TileShows result.rows n (cells_after next p n) a b }
 {
     let (birth, survive) = masks;
     let mut now = tile;

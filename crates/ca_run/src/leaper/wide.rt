@@ -1,7 +1,7 @@
 //! Squares of 32 by 32 cells of two states, by nine squares that overlap, each half as wide.
 
 ghost use Rattle.std.specs.Prelude.{ℕ, ◌+◌, ◌≤◌, ℤ, pos, ◌+ℤ◌, List};
-ghost use Rattle.ca_run.specs.Centre.{later};
+ghost use Rattle.ca_plane.specs.Generations.{cells_after};
 ghost use Rattle.ca_run.specs.inner.Words.{WordsShow, TwoWordsShow, ThreeWordsShow, NineWordsShow, WideShows};
 ghost use Rattle.ca_run.specs.Masks.{GoesBy};
 
@@ -39,7 +39,7 @@ impl Wide {
         requires first { first ≤ 4 }
         requires more { more ≤ 4 }
         ensures { (next : List ℕ → ℕ) (p : ℤ → ℤ → ℕ) (a b : ℤ) → GoesBy next masks → WideShows self.now p a b
-            → WordsShow result (later next p (first + more)) (a +ℤ pos 8) (b +ℤ pos 8) }
+            → WordsShow result (cells_after next p (first + more)) (a +ℤ pos 8) (b +ℤ pos 8) }
     {
         let nine = self.nine(masks, first);
         let (nw, ne) = pair(&nine.north, &nine.middle, masks, more);
@@ -51,7 +51,7 @@ impl Wide {
     fn nine(&self, masks: (u16, u16), n: u8) -> NineWords
         requires { n ≤ 4 }
         ensures { (next : List ℕ → ℕ) (p : ℤ → ℤ → ℕ) (a b : ℤ) → GoesBy next masks → WideShows self.now p a b
-            → NineWordsShow result (later next p n) (a +ℤ pos 4) (b +ℤ pos 4) }
+            → NineWordsShow result (cells_after next p n) (a +ℤ pos 4) (b +ℤ pos 4) }
     {
         let west = Words::halfway(self.nw, self.sw);
         let east = Words::halfway(self.ne, self.se);
@@ -67,7 +67,7 @@ impl Wide {
 fn three(west: Words, east: Words, masks: (u16, u16), n: u8) -> ThreeWords
     requires { n ≤ 4 }
     ensures { (next : List ℕ → ℕ) (p : ℤ → ℤ → ℕ) (a b : ℤ) → GoesBy next masks → WordsShow west p a b → WordsShow east p (a +ℤ pos 16) b
-        → ThreeWordsShow result (later next p n) (a +ℤ pos 4) (b +ℤ pos 4) }
+        → ThreeWordsShow result (cells_after next p n) (a +ℤ pos 4) (b +ℤ pos 4) }
 {
     ThreeWords {
         west: west.centre(masks, n),
@@ -80,7 +80,7 @@ fn three(west: Words, east: Words, masks: (u16, u16), n: u8) -> ThreeWords
 fn pair(north: &ThreeWords, south: &ThreeWords, masks: (u16, u16), n: u8) -> (u64, u64)
     requires { n ≤ 4 }
     ensures { (next : List ℕ → ℕ) (p : ℤ → ℤ → ℕ) (a b : ℤ) → GoesBy next masks → ThreeWordsShow north.now p a b → ThreeWordsShow south.now p a (b +ℤ pos 8)
-        → TwoWordsShow result (later next p n) (a +ℤ pos 4) (b +ℤ pos 4) }
+        → TwoWordsShow result (cells_after next p n) (a +ℤ pos 4) (b +ℤ pos 4) }
 {
     let west = Words {
         nw: north.west,

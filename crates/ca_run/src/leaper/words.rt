@@ -1,7 +1,7 @@
 //! Squares of two states as words of 64 bits.
 
 ghost use Rattle.std.specs.Prelude.{◌≡◌, ◌↔◌, true, ℕ, ◌≤◌, ℤ, pos, ◌+ℤ◌, List};
-ghost use Rattle.ca_run.specs.Centre.{later};
+ghost use Rattle.ca_plane.specs.Generations.{cells_after};
 ghost use Rattle.ca_run.specs.inner.Grid.{HasNone};
 ghost use Rattle.ca_run.specs.inner.Words.{WordShows, WordsShow};
 ghost use Rattle.ca_run.specs.Masks.{GoesBy};
@@ -30,7 +30,7 @@ impl Words {
     pub(super) fn centre(&self, masks: (u16, u16), n: u8) -> u64
         requires { n ≤ 4 }
         ensures { (next : List ℕ → ℕ) (p : ℤ → ℤ → ℕ) (a b : ℤ) → GoesBy next masks → WordsShow self.now p a b
-            → WordShows result (later next p n) (a +ℤ pos 4) (b +ℤ pos 4) }
+            → WordShows result (cells_after next p n) (a +ℤ pos 4) (b +ℤ pos 4) }
     {
         middle(&later_tile(tile_of(self), masks, n).rows.to_array())
     }

@@ -1,4 +1,4 @@
-use Rattle.ca_run.proofs.Spreading.{spread, live_later}
+use Rattle.ca_run.proofs.Spreading.{spread, none_after}
 use Rattle.ca_run.proofs.laws.l4.Goals as goal
 
 pub returns-clause-outside : goal.returns-clause-outside
@@ -7,4 +7,4 @@ returns-clause-outside g c = λ cells box n x y all.
 
 pub returns-clause-empty : goal.returns-clause-empty
 returns-clause-empty g c = λ cells n x y dead.
-    live_later (g.A.Automaton.next_of c.args.rule.now) cells (g.met.A.Automaton.quiet c.args.rule.now c.states-states.ensures.sound) dead n x y
+    none_after (g.A.Automaton.next_of c.args.rule.now) cells (g.met.A.Automaton.quiet c.args.rule.now c.states-states.ensures.sound) dead n x y

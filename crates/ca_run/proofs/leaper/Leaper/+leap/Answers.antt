@@ -2,12 +2,13 @@ use Rattle.std.proofs.Common.{rules, ◌≡◌, suc, ◌+◌, ◌-◌, ◌≤◌
 use Rattle.std.specs.Prelude.{pos, ◌+ℤ◌}
 use Rattle.std.proofs.lemmas.Bool.Decides.{nat_tests}
 use Rattle.std.proofs.Math.Nat.{two-pow-succ}
+use Rattle.ca_plane.specs.Generations.{cells_after}
 use Rattle.ca_quad.specs.Squares.{IsOf, cell_of}
 use Rattle.ca_quad.specs.Sound.{IsSound}
 use Rattle.ca_quad.specs.Trees.{from_corner}
 use Rattle.ca_quad.proofs.Growth.{grows_on}
 use Rattle.ca_quad.proofs.Cells.{of_stays}
-use Rattle.ca_run.specs.Centre.{later, IsCentre}
+use Rattle.ca_run.specs.Centre.{IsCentre}
 use Rattle.ca_run.specs.inner.Shown.{ShowsAt, FourShow, AreThree, side, generations}
 use Rattle.ca_run.proofs.Shown.{at_corner, goes_on_again, at_stays, three_stay, three_are}
 use Rattle.ca_run.proofs.Lanes.{made_centre}
@@ -20,7 +21,7 @@ centre-returns-in-Some-clause-centre g t c =
     let s0 = c.args.self.now.nodes in
     let new = c.from_word.new.self.nodes in
     let next = g.A.Automaton.next_of c.args.self.now.rule in
-    let q = later next (from_corner (cell_of s0 (suc (suc k)) c.args.id)) (2 ^ c.args.j) in
+    let q = cells_after next (from_corner (cell_of s0 (suc (suc k)) c.args.id)) (2 ^ c.args.j) in
     let sound = subst (λ l. IsSound l.nodes) c.self.view_is c.self.invariant.squares in
     let word = c.in-Some.ensures.shows _ _ _ (at_corner s0 c.args.id (suc (suc k)) c.requires.square) in
     made_centre next s0 new sound c.from_word.ensures.goes_on.grows c.from_word.result c.args.id k c.args.j c.requires.square c.requires.time
@@ -32,7 +33,7 @@ new_centre-returns-in-Some-wide_centre-clause-centre g t c =
     let s0 = c.args.self.now.nodes in
     let new = c.from_words.new.self.nodes in
     let next = g.A.Automaton.next_of c.args.self.now.rule in
-    let q = later next (from_corner (cell_of s0 (suc (suc k)) c.args.id)) (2 ^ c.args.j) in
+    let q = cells_after next (from_corner (cell_of s0 (suc (suc k)) c.args.id)) (2 ^ c.args.j) in
     let sound = subst (λ l. IsSound l.nodes) c.self.view_is c.self.invariant.squares in
     let words = c.in-Some-wide_centre.ensures.shows _ _ _ (at_corner s0 c.args.id (suc (suc k)) c.requires.square) in
     made_centre next s0 new sound c.from_words.ensures.goes_on.grows c.from_words.result c.args.id k c.args.j c.requires.square c.requires.time
@@ -99,7 +100,7 @@ pair-returns-clause-shows g t c = λ next p a b e north south.
     let west = c.in_ok-west.ensures.shows next p a b e (west_four s0.nodes (suc k) n s p a b north south) in
     let east = c.in_ok-east.ensures.shows next p (a +ℤ side (suc k)) b (e ∙ sym (ap (g.A.Automaton.next_of) g1.rule))
     (east_four s1.nodes (suc k) n s p a b (three_stay s0.nodes s1.nodes sound g1.grows (suc k) n p a b north) (three_stay s0.nodes s1.nodes sound g1.grows (suc k) s p a (b +ℤ side (suc k)) south)) in
-    pair_at k s1.nodes s2.nodes g1.grows.sound g2.grows c.in_ok-west.west c.in_ok-east.east (later next p (2 ^ c.args.j)) a b (b +ℤ side k) west east
+    pair_at k s1.nodes s2.nodes g1.grows.sound g2.grows c.in_ok-west.west c.in_ok-east.east (cells_after next p (2 ^ c.args.j)) a b (b +ℤ side k) west east
 
 pub pair-returns-clause-goes_on : goal.pair-returns-clause-goes_on
 pair-returns-clause-goes_on g t c = goes_on_again _ c.args.self.now c.joined_centre.new.self c.joined_centre-2.new.self c.in_ok-west.ensures.goes_on c.in_ok-east.ensures.goes_on
@@ -126,7 +127,7 @@ trio-returns-clause-shows g t c = λ next p a b e two.
     let east = c.in_ok-east.ensures.shows next p (a +ℤ side (suc (suc k))) b e3
     (at_stays s0.nodes s3.nodes sound (grows_on s0.nodes s2.nodes s3.nodes (grows_on s0.nodes s1.nodes s2.nodes g1.grows g2.grows) g3.grows) c.args.east (suc (suc k)) p (a +ℤ side (suc (suc k))) b two.at_east) in
     trio_at k s2.nodes s3.nodes s4.nodes g2.grows.sound g3.grows.sound g3.grows g4.grows (record { west = c.in_ok-west.west; middle = c.in_ok-middle-2.middle; east = c.in_ok-east.east })
-    (later next p (generations c.args.first)) a (b +ℤ side k) west middle east
+    (cells_after next p (generations c.args.first)) a (b +ℤ side k) west middle east
 
 pub trio-returns-clause-goes_on : goal.trio-returns-clause-goes_on
 trio-returns-clause-goes_on g t c =
@@ -180,7 +181,7 @@ nine-returns-clause-shows g t c = λ next p a b e shows.
     let south = c.in_ok-south.ensures.shows next p a (b +ℤ side l) e4
     (record { at_west = at_stays s0 s4 sound to4 q.2 l p a (b +ℤ side l) parts.at_sw; at_east = at_stays s0 s4 sound to4 q.3 l p (a +ℤ side l) (b +ℤ side l) parts.at_se }) in
     nine_at k s1 s4 s5 g1.grows.sound g4.grows.sound from1 g5.grows (record { north = c.in_ok-north.north; middle = c.in_ok-middle.middle; south = c.in_ok-south.south })
-    (later next p (generations c.args.first)) (a +ℤ side k) b north middle south
+    (cells_after next p (generations c.args.first)) (a +ℤ side k) b north middle south
 
 pub nine-returns-clause-squares : goal.nine-returns-clause-squares
 nine-returns-clause-squares g t c =
@@ -243,8 +244,8 @@ by_nine-returns-clause-shows g t c = λ next p a b e shows.
     let g3 = c.in_ok-sw.ensures.goes_on in
     let e1 = e ∙ sym (ap (g.A.Automaton.next_of) g1.rule) in
     let e2 = e1 ∙ sym (ap (g.A.Automaton.next_of) g2.rule) in
-    let mid = later next p (generations c.args.first) in
-    let last = later next mid (2 ^ c.args.j) in
+    let mid = cells_after next p (generations c.args.first) in
+    let last = cells_after next mid (2 ^ c.args.j) in
     let x = a +ℤ side k in
     let y = b +ℤ side k in
     let rows = c.in_ok-rows.rows in

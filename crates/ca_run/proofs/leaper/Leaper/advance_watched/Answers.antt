@@ -1,9 +1,9 @@
 use Rattle.std.proofs.Common.{◌≡◌, subst, ◌∙◌}
 use Rattle.std.specs.Prelude.{ℤ}
+use Rattle.ca_plane.specs.Generations.{cells_after}
 use Rattle.ca_quad.specs.Trees.{cell}
 use Rattle.ca_quad.specs.Sound.{IsSound}
-use Rattle.ca_run.specs.Centre.{later}
-use Rattle.ca_run.proofs.Laters.{later_same}
+use Rattle.ca_run.proofs.After.{after_same}
 use Rattle.ca_run.proofs.Trees.{tree_stays}
 use Rattle.ca_run.proofs.leaper.Leaper.advance_watched.Goals as goal
 
@@ -16,5 +16,5 @@ returns-clause-cells g c = λ x y.
     let next = g.A.Automaton.next_of c.args.self.now.rule in
     let on = c.in_ok-later.ensures.goes_on in
     let sound = subst (λ l. IsSound l.nodes) c.self.view_is c.self.invariant.squares in
-    let leapt = subst (λ r. (x y : ℤ) → cell s2 c.in_ok-by_leaps.field-0 x y ≡ later (g.A.Automaton.next_of r) (cell s1 tree) c.args.n x y) on.rule c.in_ok-by_leaps.ensures.cells in
-    leapt x y ∙ later_same next (cell s1 tree) (cell s0 tree) c.args.n (tree_stays s0 s1 sound on.grows tree c.requires.tree) x y
+    let leapt = subst (λ r. (x y : ℤ) → cell s2 c.in_ok-by_leaps.field-0 x y ≡ cells_after (g.A.Automaton.next_of r) (cell s1 tree) c.args.n x y) on.rule c.in_ok-by_leaps.ensures.cells in
+    leapt x y ∙ after_same next (cell s1 tree) (cell s0 tree) c.args.n (tree_stays s0 s1 sound on.grows tree c.requires.tree) x y

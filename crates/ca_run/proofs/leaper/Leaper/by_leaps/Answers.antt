@@ -2,11 +2,11 @@ use Rattle.std.proofs.Common.{◌≡◌, ℕ, ◌+◌, ◌/◌, ◌%◌, ◌^◌
 use Rattle.std.specs.Prelude.{ℤ}
 use Rattle.std.proofs.lemmas.Bool.Decides.{nat_tests}
 use Rattle.std.proofs.lemmas.Nat.Bits.{bit_at-zero}
+use Rattle.ca_plane.specs.Generations.{cells_after}
 use Rattle.ca_quad.specs.Sound.{IsSound}
 use Rattle.ca_quad.specs.Trees.{cell}
-use Rattle.ca_run.specs.Centre.{later}
 use Rattle.ca_run.proofs.Shown.{goes_on_again}
-use Rattle.ca_run.proofs.Laters.{later_same}
+use Rattle.ca_run.proofs.After.{after_same}
 use Rattle.ca_run.proofs.Trees.{tree_stays, one_digit, no_digit, shifted_two}
 use Rattle.ca_run.proofs.leaper.Leaper.by_leaps.Goals as goal
 use Rattle.ca_run.proofs.leaper.Leaper.by_leaps.Goals.{then-n-j-eq1+in_ok-now, else-n-j-eq1}
@@ -18,7 +18,7 @@ same_time now at m n e shows = shows ∙ ap at e
 pub returns-then-n-eq-MOST-clause-cells : goal.returns-then-n-eq-MOST-clause-cells
 returns-then-n-eq-MOST-clause-cells g c = λ x y.
     let e : c.args.n ≡ 2 ^ 60 = grind (arith, nat_tests) in
-    same_time _ (λ m. later (g.A.Automaton.next_of c.args.self.now.rule) (cell c.args.self.now.nodes c.args.tree) m x y) (2 ^ 60) c.args.n (sym e) (c.in_ok-leap.ensures.cells x y)
+    same_time _ (λ m. cells_after (g.A.Automaton.next_of c.args.self.now.rule) (cell c.args.self.now.nodes c.args.tree) m x y) (2 ^ 60) c.args.n (sym e) (c.in_ok-leap.ensures.cells x y)
 
 pub digits-preserved : goal.digits-preserved
 digits-preserved g c =
@@ -34,12 +34,12 @@ digits-preserved g c =
           let s2 = w.leap-then-n-j-eq1.new.self.nodes in
           let more = w.in_ok-now.now in
           let digit : n / 2 ^ j % 2 ≡ 1 = grind (arith, nat_tests, w.if-n-j-eq1.true) in
-          let leapt = subst (λ r. (x y : ℤ) → cell s2 more x y ≡ later (g.A.Automaton.next_of r) (cell s1 c.digits.now) (2 ^ j) x y) inv.goes_on.rule w.in_ok-now.ensures.cells in
+          let leapt = subst (λ r. (x y : ℤ) → cell s2 more x y ≡ cells_after (g.A.Automaton.next_of r) (cell s1 c.digits.now) (2 ^ j) x y) inv.goes_on.rule w.in_ok-now.ensures.cells in
           rw (w.self-is, w.now-is)
           (record {
             tree = w.in_ok-now.ensures.tree;
             level = omega (arith, w.in_ok-now.ensures.level, inv.level);
-            cells = λ x y. same_time (cell s2 more x y) (λ m. later next (cell s0 c.args.tree) (n % 2 ^ m) x y) (1 + j) (j + 1) one
+            cells = λ x y. same_time (cell s2 more x y) (λ m. cells_after next (cell s0 c.args.tree) (n % 2 ^ m) x y) (1 + j) (j + 1) one
                 (one_digit next s0 s1 s2 c.args.tree c.digits.now more n j digit inv.cells leapt x y);
             none = λ z.
                 let a : 0 / 2 ^ j % 2 ≡ 1 = subst (λ m. m / 2 ^ j % 2 ≡ 1) z digit in
@@ -53,7 +53,7 @@ digits-preserved g c =
           (record {
             tree = inv.tree;
             level = omega (arith, inv.level);
-            cells = λ x y. same_time (cell s1 c.digits.now x y) (λ m. later next (cell s0 c.args.tree) m x y) (n % 2 ^ j) (n % 2 ^ (j + 1)) (no_digit n j digit ∙ ap (λ m. n % 2 ^ m) one) (inv.cells x y);
+            cells = λ x y. same_time (cell s1 c.digits.now x y) (λ m. cells_after next (cell s0 c.args.tree) m x y) (n % 2 ^ j) (n % 2 ^ (j + 1)) (no_digit n j digit ∙ ap (λ m. n % 2 ^ m) one) (inv.cells x y);
             none = inv.none;
             goes_on = inv.goes_on;
           })
@@ -71,10 +71,10 @@ by_tree-requires g c = λ x y.
     let j = c.digits.j in
     let inv = c.digits.invariant in
     let digit : n / 2 ^ j % 2 ≡ 1 = grind (arith, nat_tests, c.if-n-j-eq1.true) in
-    let leapt = subst (λ r. (x y : ℤ) → cell s2 more x y ≡ later (next r) (cell c.digits.self.nodes c.digits.now) (2 ^ j) x y) inv.goes_on.rule c.in_ok-now.ensures.cells in
+    let leapt = subst (λ r. (x y : ℤ) → cell s2 more x y ≡ cells_after (next r) (cell c.digits.self.nodes c.digits.now) (2 ^ j) x y) inv.goes_on.rule c.in_ok-now.ensures.cells in
     let on = goes_on_again _ c.args.self.now c.digits.self c.leap-then-n-j-eq1.new.self inv.goes_on c.in_ok-now.ensures.goes_on in
     let sound = subst (λ l. IsSound l.nodes) c.self.view_is c.self.invariant.squares in
     let reached = one_digit rule s0 c.digits.self.nodes s2 tree c.digits.now more n j digit inv.cells leapt x y in
-    let same = later_same rule (cell s0 tree) (cell s2 tree) (n % 2 ^ (1 + j)) (λ u v. sym (tree_stays s0 s2 sound on.grows tree c.requires.tree u v)) x y in
-    let here = subst (λ r. cell s2 more x y ≡ later (next r) (cell s2 tree) (n % 2 ^ (1 + j)) x y) (sym on.rule) (reached ∙ same) in
-    subst (λ m. cell s2 more x y ≡ later (next c.leap-then-n-j-eq1.new.self.rule) (cell s2 tree) (n % m) x y) (sym (shifted_two j (omega arith))) here
+    let same = after_same rule (cell s0 tree) (cell s2 tree) (n % 2 ^ (1 + j)) (λ u v. sym (tree_stays s0 s2 sound on.grows tree c.requires.tree u v)) x y in
+    let here = subst (λ r. cell s2 more x y ≡ cells_after (next r) (cell s2 tree) (n % 2 ^ (1 + j)) x y) (sym on.rule) (reached ∙ same) in
+    subst (λ m. cell s2 more x y ≡ cells_after (next c.leap-then-n-j-eq1.new.self.rule) (cell s2 tree) (n % m) x y) (sym (shifted_two j (omega arith))) here

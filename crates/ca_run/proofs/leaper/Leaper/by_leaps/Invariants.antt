@@ -1,7 +1,7 @@
 use Rattle.std.proofs.Common.{◌≡◌, ◌+◌, ◌%◌, ◌^◌, ◌≤◌}
 use Rattle.std.specs.Prelude.{ℤ}
+use Rattle.ca_plane.specs.Generations.{cells_after}
 use Rattle.ca_quad.specs.Trees.{IsTree, cell}
-use Rattle.ca_run.specs.Centre.{later}
 use Rattle.ca_run.specs.Leaping.{GoesOn}
 use Rattle.ca_run.proofs.leaper.Leaper.by_leaps.Given as goal
 
@@ -10,7 +10,7 @@ abbrev pub invariant-digits : goal.invariant-digits
 invariant-digits g l = record {
   tree : IsTree l.self.nodes l.now;
   level : l.now.level ≤ 64 + l.j;
-  cells : (x y : ℤ) → cell l.self.nodes l.now x y ≡ later (g.A.Automaton.next_of l.fn.self.rule) (cell l.fn.self.nodes l.fn.tree) (l.fn.n % 2 ^ l.j) x y;
+  cells : (x y : ℤ) → cell l.self.nodes l.now x y ≡ cells_after (g.A.Automaton.next_of l.fn.self.rule) (cell l.fn.self.nodes l.fn.tree) (l.fn.n % 2 ^ l.j) x y;
   none : l.fn.n ≡ 0 → l.now ≡ l.fn.tree;
   goes_on : GoesOn _ l.fn.self l.self;
 }

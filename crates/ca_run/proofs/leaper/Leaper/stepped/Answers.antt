@@ -1,10 +1,10 @@
 use Rattle.std.proofs.Common.{◌≡◌, suc, ◌+◌, ◌-◌, ◌≤◌, ◌^◌, IfSome, refl, ap, subst, sym, ◌∙◌, arith}
 use Rattle.std.specs.Prelude.{pos, neg_ℤ, replicate}
 use Rattle.std.proofs.Math.Nat.{two-pow-succ}
+use Rattle.ca_plane.specs.Generations.{cells_after}
 use Rattle.ca_quad.specs.Trees.{cell}
 use Rattle.ca_run.specs.inner.Shown.{ShowsAt}
 use Rattle.ca_run.specs.Masks.{GoesBy}
-use Rattle.ca_run.specs.Centre.{later}
 use Rattle.ca_run.specs.inner.Grid.{GridShows}
 use Rattle.ca_run.proofs.Lanes.{goes_by_masks}
 use Rattle.ca_run.proofs.Trees.{root_at}
@@ -52,4 +52,4 @@ returns-in_ok-centred-in-Some-2-clause-cells g c =
     let root = subst (λ k. ShowsAt s0 tree.root k p half half) (sym three) (root_at s0 tree c.requires) in
     let before = subst (λ found. IfSome found (λ grid. GridShows grid p half half)) c.in-Some-2.is (c.in_ok-grid.ensures.shows p half half root (tree_ends s0 tree _ some up)) in
     let after = c.in_ok-later-in-Some-2.ensures next p half half goes_by quiet before in
-    c.in_ok-centred-in-Some-2.ensures.cells (later next p n) after (dense_dies next quiet s0 tree n some (dense.time refl))
+    c.in_ok-centred-in-Some-2.ensures.cells (cells_after next p n) after (dense_dies next quiet s0 tree n some (dense.time refl))

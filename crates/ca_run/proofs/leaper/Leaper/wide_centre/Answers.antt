@@ -1,7 +1,7 @@
 use Rattle.std.proofs.Common.{◌≡◌, suc, ◌^◌, sym, subst, arith}
 use Rattle.std.specs.Prelude.{◌+ℤ◌, pos}
 use Rattle.std.proofs.lemmas.Bool.Decides.{nat_tests}
-use Rattle.ca_run.specs.Centre.{later}
+use Rattle.ca_plane.specs.Generations.{cells_after}
 use Rattle.ca_run.specs.inner.Shown.{ShowsAt, side}
 use Rattle.ca_run.specs.inner.Words.{WordsShow}
 use Rattle.ca_run.specs.Masks.{GoesBy}
@@ -15,5 +15,5 @@ returns-clause-shows g c = λ p a b shows.
     let words = c.centre.result in
     let goes_by = subst (λ l. GoesBy (g.A.Automaton.next_of l.rule) c.in_ok-masks.masks) c.self.view_is (goes_by_masks (g.A.Automaton.next_of c.self.inside.rule) c.self.inside.masks c.in_ok-masks.masks c.self.invariant.by_masks c.in_ok-masks.was) in
     let centre = c.centre.ensures next p a b goes_by (c.in_ok-wide.ensures p a b (subst (λ k. ShowsAt c.args.self.now.nodes c.args.id (suc (suc k)) p a b) three shows)) in
-    subst (λ k. WordsShow words (later next p (2 ^ c.args.j)) (a +ℤ side k) (b +ℤ side k)) (sym three)
-    (subst (λ n. WordsShow words (later next p n) (a +ℤ pos 8) (b +ℤ pos 8)) c.halves-first.ensures.sum centre)
+    subst (λ k. WordsShow words (cells_after next p (2 ^ c.args.j)) (a +ℤ side k) (b +ℤ side k)) (sym three)
+    (subst (λ n. WordsShow words (cells_after next p n) (a +ℤ pos 8) (b +ℤ pos 8)) c.halves-first.ensures.sum centre)

@@ -1,10 +1,10 @@
 use Rattle.std.proofs.Common.{ℕ, List}
 use Rattle.std.specs.Prelude.{ℤ}
-use Rattle.ca_run.specs.Centre.{later}
+use Rattle.ca_plane.specs.Generations.{cells_after}
 use Rattle.ca_run.specs.inner.Words.{TileShows}
 use Rattle.ca_run.specs.Masks.{GoesBy}
 use Rattle.ca_run.proofs.leaper.tile.later_tile.Given as goal
 
 -- as many generations on as were counted
 abbrev pub invariant-generations : goal.invariant-generations
-invariant-generations l = (next : List ℕ → ℕ) (p : ℤ → ℤ → ℕ) (a b : ℤ) → GoesBy next (l.birth, l.survive) → TileShows l.fn.tile.rows 0 p a b → TileShows l.now.rows l.counter (later next p l.counter) a b
+invariant-generations l = (next : List ℕ → ℕ) (p : ℤ → ℤ → ℕ) (a b : ℤ) → GoesBy next (l.birth, l.survive) → TileShows l.fn.tile.rows 0 p a b → TileShows l.now.rows l.counter (cells_after next p l.counter) a b

@@ -2,8 +2,8 @@ use Rattle.std.proofs.Common.{◌≡◌, ◌+◌, ◌*◌, refl, sym, subst, ari
 use Rattle.std.specs.Prelude.{pos, ◌-ℤ◌}
 use Rattle.std.proofs.lemmas.Int.{ints}
 use Rattle.std.proofs.lemmas.Bool.Decides.{nat_tests}
+use Rattle.ca_plane.specs.Generations.{cells_after}
 use Rattle.ca_quad.specs.Trees.{cell}
-use Rattle.ca_run.specs.Centre.{later}
 use Rattle.ca_run.specs.inner.Grid.{GridShows, Keeps}
 use Rattle.ca_run.proofs.Grids.{none_keeps, follows_keeps, grid_again, grid_as}
 use Rattle.ca_run.proofs.leaper.grid.Grid.by_fours.Goals as goal
@@ -32,7 +32,7 @@ steps-preserved g c =
 pub returns-clause-shows : goal.returns-clause-shows
 returns-clause-shows g c = λ next p a b goes_by quiet shows.
     let all : c.steps.step ≡ c.args.fours = grind (arith, nat_tests) in
-    subst (λ m. GridShows c.steps.now (later next p (4 * m)) (a -ℤ pos (4 * m)) (b -ℤ pos (4 * m))) all (c.steps.invariant.shows next p a b goes_by quiet shows)
+    subst (λ m. GridShows c.steps.now (cells_after next p (4 * m)) (a -ℤ pos (4 * m)) (b -ℤ pos (4 * m))) all (c.steps.invariant.shows next p a b goes_by quiet shows)
 
 pub by_grid-requires : goal.by_grid-requires
 by_grid-requires g c =
