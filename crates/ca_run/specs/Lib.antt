@@ -2,6 +2,7 @@ pub mod Reach
 pub mod Later
 pub mod Centre
 pub mod Leaping
+pub mod Advanced
 pub mod Lanes
 pub mod Masks
 pub mod Farthest

@@ -4,6 +4,7 @@ ghost use Rattle.std.specs.Prelude.{◌≡◌, ◌+◌, ◌≤◌, ◌^◌, max,
 ghost use Rattle.ca_plane.specs.Generations.{cells_after};
 ghost use Rattle.ca_quad.specs.Sound.{IsSound};
 ghost use Rattle.ca_quad.specs.Trees.{IsTree, cell};
+ghost use Rattle.ca_run.specs.Advanced.{CanAdvance, IsAdvanced};
 ghost use Rattle.ca_run.specs.Leaping.{GoesOn};
 
 use super::{Leaper, Milestone};
@@ -23,12 +24,8 @@ impl<A: Automaton> Leaper<A> {
     /// Fails where there is no memory for more squares or results. Every tree stays as it was, and later calls go on with
     /// what was worked out so far.
     pub fn advance(&mut self, tree: Tree, n: u64) -> Result<Tree, LeapFault>
-        requires tree { IsTree self.old.nodes tree }
-        requires level { tree.level ≤ 64 }
-        requires time { n ≤ 2 ^ 60 }
-        ensures tree { IfOk result (IsTree self.new.nodes) }
-        ensures level { IfOk result (λ t. t.level ≤ 124) }
-        ensures cells { IfOk result (λ t. (x y : ℤ) → cell self.new.nodes t x y ≡ cells_after (A.next_of self.old.rule) (cell self.old.nodes tree) n x y) }
+        requires { CanAdvance self.old.nodes tree n }
+        ensures advanced { IfOk result (IsAdvanced (A.next_of self.old.rule) self.old.nodes tree n self.new.nodes) }
         ensures none { n ≡ 0 → result ≡ Ok tree }
         ensures goes_on { GoesOn A self.old self.new }
     {
@@ -47,12 +44,8 @@ impl<A: Automaton> Leaper<A> {
         n: u64,
         watch: &mut W,
     ) -> Result<Tree, LeapFault>
-        requires tree { IsTree self.old.nodes tree }
-        requires level { tree.level ≤ 64 }
-        requires time { n ≤ 2 ^ 60 }
-        ensures tree { IfOk result (IsTree self.new.nodes) }
-        ensures level { IfOk result (λ t. t.level ≤ 124) }
-        ensures cells { IfOk result (λ t. (x y : ℤ) → cell self.new.nodes t x y ≡ cells_after (A.next_of self.old.rule) (cell self.old.nodes tree) n x y) }
+        requires { CanAdvance self.old.nodes tree n }
+        ensures advanced { IfOk result (IsAdvanced (A.next_of self.old.rule) self.old.nodes tree n self.new.nodes) }
         ensures none { n ≡ 0 → result ≡ Ok tree }
         ensures goes_on { GoesOn A self.old self.new }
     {
@@ -65,12 +58,8 @@ impl<A: Automaton> Leaper<A> {
 
     // The tree n generations on, by a leap for each binary digit.
     fn by_leaps<W: Watch>(&mut self, tree: Tree, n: u64, watch: &mut W) -> Result<Tree, LeapFault>
-        requires tree { IsTree self.old.nodes tree }
-        requires level { tree.level ≤ 64 }
-        requires time { n ≤ 2 ^ 60 }
-        ensures tree { IfOk result (IsTree self.new.nodes) }
-        ensures level { IfOk result (λ t. t.level ≤ 124) }
-        ensures cells { IfOk result (λ t. (x y : ℤ) → cell self.new.nodes t x y ≡ cells_after (A.next_of self.old.rule) (cell self.old.nodes tree) n x y) }
+        requires { CanAdvance self.old.nodes tree n }
+        ensures advanced { IfOk result (IsAdvanced (A.next_of self.old.rule) self.old.nodes tree n self.new.nodes) }
         ensures none { n ≡ 0 → result ≡ Ok tree }
         ensures goes_on { GoesOn A self.old self.new }
     {

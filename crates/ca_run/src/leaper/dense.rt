@@ -3,6 +3,7 @@
 ghost use Rattle.std.specs.Prelude.{◌≡◌, ℕ, ◌+◌, ◌*◌, ◌/◌, ◌%◌, ◌≤◌, ◌<◌, ◌^◌, ℤ, pos, neg_ℤ, ◌+ℤ◌, ◌-ℤ◌, ◌≤ℤ◌, ◌-◌, List, true, Ok, None, replicate, IfOk, IfSome};
 ghost use Rattle.ca_plane.specs.Generations.{cells_after};
 ghost use Rattle.ca_quad.specs.Trees.{IsTree, cell};
+ghost use Rattle.ca_run.specs.Advanced.{IsAdvanced};
 ghost use Rattle.ca_run.specs.Leaping.{GoesOn};
 ghost use Rattle.ca_run.specs.Masks.{GoesBy};
 ghost use Rattle.ca_run.specs.inner.Grid.{GridShows, Begins, IsAsNarrow, corner, DiesBeyond};
@@ -31,9 +32,7 @@ impl<A: Automaton> Leaper<A> {
         watch: &mut W,
     ) -> Result<Option<Tree>, Memory>
         requires { IsTree self.old.nodes tree }
-        ensures tree { IfOk result (λ found. IfSome found (IsTree self.new.nodes)) }
-        ensures level { IfOk result (λ found. IfSome found (λ t. t.level ≤ 124)) }
-        ensures cells { IfOk result (λ found. IfSome found (λ t. (x y : ℤ) → cell self.new.nodes t x y ≡ cells_after (A.next_of self.old.rule) (cell self.old.nodes tree) n x y)) }
+        ensures advanced { IfOk result (λ found. IfSome found (IsAdvanced (A.next_of self.old.rule) self.old.nodes tree n self.new.nodes)) }
         ensures none { n ≡ 0 → result ≡ Ok None }
         ensures goes_on { GoesOn A self.old self.new }
     {

@@ -7,8 +7,8 @@ use Rattle.ca_run.proofs.After.{after_same}
 use Rattle.ca_run.proofs.Trees.{tree_stays}
 use Rattle.ca_run.proofs.leaper.Leaper.advance_watched.Goals as goal
 
-pub returns-clause-cells : goal.returns-clause-cells
-returns-clause-cells g c = λ x y.
+pub returns-clause-advanced : goal.returns-clause-advanced
+returns-clause-advanced g c =
     let s0 = c.args.self.now.nodes in
     let s1 = c.stepped.new.self.nodes in
     let s2 = c.by_leaps.new.self.nodes in
@@ -16,5 +16,9 @@ returns-clause-cells g c = λ x y.
     let next = g.A.Automaton.next_of c.args.self.now.rule in
     let on = c.in_ok-later.ensures.goes_on in
     let sound = subst (λ l. IsSound l.nodes) c.self.view_is c.self.invariant.squares in
-    let leapt = subst (λ r. (x y : ℤ) → cell s2 c.in_ok-by_leaps.field-0 x y ≡ cells_after (g.A.Automaton.next_of r) (cell s1 tree) c.args.n x y) on.rule c.in_ok-by_leaps.ensures.cells in
-    leapt x y ∙ after_same next (cell s1 tree) (cell s0 tree) c.args.n (tree_stays s0 s1 sound on.grows tree c.requires.tree) x y
+    let leapt = subst (λ r. (x y : ℤ) → cell s2 c.in_ok-by_leaps.field-0 x y ≡ cells_after (g.A.Automaton.next_of r) (cell s1 tree) c.args.n x y) on.rule c.in_ok-by_leaps.ensures.advanced.cells in
+    record {
+      is_tree = c.in_ok-by_leaps.ensures.advanced.is_tree;
+      level = c.in_ok-by_leaps.ensures.advanced.level;
+      cells = λ x y. leapt x y ∙ after_same next (cell s1 tree) (cell s0 tree) c.args.n (tree_stays s0 s1 sound on.grows tree c.requires.is_tree) x y;
+    }

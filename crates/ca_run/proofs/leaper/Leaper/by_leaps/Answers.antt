@@ -15,10 +15,14 @@ use Rattle.ca_run.proofs.leaper.Leaper.by_leaps.Goals.{then-n-j-eq1+in_ok-now, e
 same_time : (now : ℕ) (at : ℕ → ℕ) (m n : ℕ) → m ≡ n → now ≡ at m → now ≡ at n
 same_time now at m n e shows = shows ∙ ap at e
 
-pub returns-then-n-eq-MOST-clause-cells : goal.returns-then-n-eq-MOST-clause-cells
-returns-then-n-eq-MOST-clause-cells g c = λ x y.
+pub returns-then-n-eq-MOST-clause-advanced : goal.returns-then-n-eq-MOST-clause-advanced
+returns-then-n-eq-MOST-clause-advanced g c =
     let e : c.args.n ≡ 2 ^ 60 = grind (arith, nat_tests) in
-    same_time _ (λ m. cells_after (g.A.Automaton.next_of c.args.self.now.rule) (cell c.args.self.now.nodes c.args.tree) m x y) (2 ^ 60) c.args.n (sym e) (c.in_ok-leap.ensures.cells x y)
+    record {
+      is_tree = c.in_ok-leap.ensures.tree;
+      level = omega (arith, c.in_ok-leap.ensures.level, c.requires.level);
+      cells = λ x y. same_time _ (λ m. cells_after (g.A.Automaton.next_of c.args.self.now.rule) (cell c.args.self.now.nodes c.args.tree) m x y) (2 ^ 60) c.args.n (sym e) (c.in_ok-leap.ensures.cells x y);
+    }
 
 pub digits-preserved : goal.digits-preserved
 digits-preserved g c =
@@ -75,6 +79,6 @@ by_tree-requires g c = λ x y.
     let on = goes_on_again _ c.args.self.now c.digits.self c.leap-then-n-j-eq1.new.self inv.goes_on c.in_ok-now.ensures.goes_on in
     let sound = subst (λ l. IsSound l.nodes) c.self.view_is c.self.invariant.squares in
     let reached = one_digit rule s0 c.digits.self.nodes s2 tree c.digits.now more n j digit inv.cells leapt x y in
-    let same = after_same rule (cell s0 tree) (cell s2 tree) (n % 2 ^ (1 + j)) (λ u v. sym (tree_stays s0 s2 sound on.grows tree c.requires.tree u v)) x y in
+    let same = after_same rule (cell s0 tree) (cell s2 tree) (n % 2 ^ (1 + j)) (λ u v. sym (tree_stays s0 s2 sound on.grows tree c.requires.is_tree u v)) x y in
     let here = subst (λ r. cell s2 more x y ≡ cells_after (next r) (cell s2 tree) (n % 2 ^ (1 + j)) x y) (sym on.rule) (reached ∙ same) in
     subst (λ m. cell s2 more x y ≡ cells_after (next c.leap-then-n-j-eq1.new.self.rule) (cell s2 tree) (n % m) x y) (sym (shifted_two j (omega arith))) here

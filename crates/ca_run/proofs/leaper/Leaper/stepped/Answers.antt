@@ -34,8 +34,8 @@ later-requires-clause-begins g c =
       );
     }
 
-pub returns-in_ok-centred-in-Some-2-clause-cells : goal.returns-in_ok-centred-in-Some-2-clause-cells
-returns-in_ok-centred-in-Some-2-clause-cells g c =
+pub returns-in_ok-centred-in-Some-2-clause-advanced : goal.returns-in_ok-centred-in-Some-2-clause-advanced
+returns-in_ok-centred-in-Some-2-clause-advanced g c =
     let s0 = c.args.self.now.nodes in
     let tree = c.args.tree in
     let n = c.args.n in
@@ -52,4 +52,8 @@ returns-in_ok-centred-in-Some-2-clause-cells g c =
     let root = subst (λ k. ShowsAt s0 tree.root k p half half) (sym three) (root_at s0 tree c.requires) in
     let before = subst (λ found. IfSome found (λ grid. GridShows grid p half half)) c.in-Some-2.is (c.in_ok-grid.ensures.shows p half half root (tree_ends s0 tree _ some up)) in
     let after = c.in_ok-later-in-Some-2.ensures next p half half goes_by quiet before in
-    c.in_ok-centred-in-Some-2.ensures.cells (cells_after next p n) after (dense_dies next quiet s0 tree n some (dense.time refl))
+    record {
+      is_tree = c.in_ok-centred-in-Some-2.ensures.tree;
+      level = c.in_ok-centred-in-Some-2.ensures.level;
+      cells = c.in_ok-centred-in-Some-2.ensures.cells (cells_after next p n) after (dense_dies next quiet s0 tree n some (dense.time refl));
+    }

@@ -1,0 +1,18 @@
+-- Trees some generations on.
+use Rattle.std.specs.Prelude.{◌≡◌, ℕ, ◌≤◌, ◌^◌, ℤ, List}
+use Rattle.ca_plane.specs.Generations.{cells_after}
+use Rattle.ca_quad.specs.declared.node.Node.{Node}
+use Rattle.ca_quad.specs.declared.tree.Tree.{Tree}
+use Rattle.ca_quad.specs.Trees.{IsTree, cell}
+
+-- a tree that can be advanced by n generations: of at most 2^64 cells a side, by at most 2^60 generations
+pub record CanAdvance (nodes : List Node) (tree : Tree) (n : ℕ) : Type 0 where
+  pub is_tree : IsTree nodes tree
+  pub level : tree.level ≤ 64
+  pub time : n ≤ 2 ^ 60
+
+-- the tree shows what the plane of the first one is n generations on, and has at most 2^124 cells a side
+pub record IsAdvanced (next : List ℕ → ℕ) (old : List Node) (first : Tree) (n : ℕ) (new : List Node) (tree : Tree) : Type 0 where
+  pub is_tree : IsTree new tree
+  pub level : tree.level ≤ 124
+  pub cells : (x y : ℤ) → cell new tree x y ≡ cells_after next (cell old first) n x y
