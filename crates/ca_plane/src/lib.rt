@@ -1,9 +1,10 @@
-//! Points of the unbounded plane, the trait of rules, the sparse plane, and devices that count their failures.
+//! Points of the unbounded plane, the trait of rules, the sparse plane, the limits, and devices that count their failures.
 #![tactic(auto)]
 
 mod automaton;
 pub mod bytes;
 mod device;
+pub mod limits;
 mod memory;
 mod plane;
 mod point;

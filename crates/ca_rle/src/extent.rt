@@ -15,10 +15,10 @@ use crate::unit::{after_white, next_item};
 use ca_plane::Point;
 
 /// The greatest count of an item that is in range.
-const LONGEST: u64 = 1 << 62;
+const LONGEST: u64 = ca_plane::limits::LONGEST_COUNT;
 
 /// Coordinates that are in range are from -2^60 on, and below 2^60.
-const RANGE_EDGE: i128 = 1 << 60;
+const RANGE_EDGE: i128 = ca_plane::limits::RANGE;
 
 /// Where an item begins: so many rows below the corner, and so many columns right of it. At 2^64 - 1 each of them stays.
 #[derive(Clone, Copy)]

@@ -11,9 +11,7 @@ ghost use Rattle.ca_rle.specs.inner.FrontParts.{IsFrontOf};
 use crate::extent::measure;
 use crate::fault::{LineFault, RleFault};
 use crate::front::{Front, read_front};
-
-/// The most live cells of a text.
-const MOST_CELLS: u64 = 1 << 24;
+use ca_plane::limits::MOST_CELLS;
 
 /// What stands before the items of a text without a fault.
 ///

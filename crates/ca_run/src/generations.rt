@@ -10,11 +10,12 @@ ghost use Rattle.ca_run.specs.inner.Reached.{IsOutOfReach};
 
 use crate::fault::RunFault;
 use crate::window::Window;
+use ca_plane::limits::REACH;
 use ca_plane::{Automaton, Memory, Plane, Point};
 use std::alloc::Global;
 
 // The greatest coordinate of a cell from which a step is taken.
-const REACH: i64 = (1 << 62) - 2;
+const STEP_REACH: i64 = REACH as i64 - 2;
 
 /// The plane one generation on.
 ///
@@ -60,7 +61,7 @@ fn is_in_reach(at: Point) -> bool
 fn is_near(coordinate: i64) -> bool
     ensures { IsTrue result ↔ (neg_ℤ (pos (2 ^ 62 - 2)) ≤ℤ coordinate) × (coordinate ≤ℤ pos (2 ^ 62 - 2)) }
 {
-    -REACH <= coordinate && coordinate <= REACH
+    -STEP_REACH <= coordinate && coordinate <= STEP_REACH
 }
 
 // The plane one generation on from one that shows these cells.

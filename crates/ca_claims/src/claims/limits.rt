@@ -6,9 +6,9 @@ ghost use Rattle.ca_claims.specs.Text.{longest_period, HasGoodNumbers, IsShift};
 use super::line::Kind;
 
 // The longest period.
-const LONGEST_PERIOD: u64 = (1 << 32) - 1;
+const LONGEST_PERIOD: u64 = ca_plane::limits::LONGEST_PERIOD;
 // The most generations.
-const MOST_GENERATIONS: u64 = 1 << 60;
+const MOST_GENERATIONS: u64 = ca_plane::limits::MOST_GENERATIONS;
 // The greatest shift in one direction.
 const GREATEST_SHIFT: i64 = 1 << 60;
 

@@ -49,7 +49,7 @@ fn generation(rest: &[u8]) -> Result<Comment<'_>, MacroFault>
     let Some(count) = whole_number(digits) else {
         return Err(MacroFault::Syntax);
     };
-    if count >= 1 << 63 {
+    if count >= ca_plane::limits::GENERATION_LIMIT {
         return Err(MacroFault::GenTooLarge);
     }
     Ok(Comment::Generation(count))

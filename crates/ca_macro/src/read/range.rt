@@ -13,7 +13,7 @@ use ca_quad::{Store, Tree, WideBounds};
 use std::alloc::Global;
 
 /// Coordinates of live cells are from -2^60 to 2^60 - 1.
-const RANGE: i128 = 1 << 60;
+const RANGE: i128 = ca_plane::limits::RANGE;
 
 fn is_in_range(cells: WideBounds) -> bool
     ensures { IsTrue result ↔ ((neg_ℤ (pos range) ≤ℤ cells.x0) × (cells.x1 <ℤ pos range) × (neg_ℤ (pos range) ≤ℤ cells.y0) × (cells.y1 <ℤ pos range)) }

@@ -6,13 +6,11 @@ ghost use Rattle.ca_plane.specs.Box.{LeavesPlane, moved};
 ghost use Rattle.ca_plane.specs.inner.Moves.{IsNear, StaysInPlane};
 ghost use Rattle.ca_plane.specs.Sparse.{IsInPlane, IsSparse};
 
+use crate::limits::REACH;
 use crate::memory::{Memory, MoveFault};
 use crate::plane::Plane;
 use crate::point::Point;
 use std::alloc::Global;
-
-// The greatest coordinate of a plane's cells.
-const FAR: i128 = 1 << 62;
 
 impl Plane {
     /// The plane moved by `dx` to the right and `dy` downward.
@@ -86,5 +84,5 @@ fn is_near(coordinate: i64, distance: i64) -> bool
     ensures { IsTrue result ↔ IsNear (coordinate +ℤ distance) }
 {
     let moved = i128::from(coordinate) + i128::from(distance);
-    -FAR <= moved && moved <= FAR
+    -REACH <= moved && moved <= REACH
 }

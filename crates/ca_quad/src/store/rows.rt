@@ -6,11 +6,12 @@ ghost use Rattle.ca_plane.specs.Sparse.{IsSparse};
 ghost use Rattle.ca_quad.specs.inner.Rows.{point_at, ComesBefore, IsInRow, IsRow, AreRows, Hold, IsPart, AreParts, IsWest, IsEast, IsNorth, IsSouth};
 
 use crate::tree::Spot;
+use ca_plane::limits::REACH;
 use ca_plane::{Memory, Point};
 use std::alloc::Global;
 
 // A column east of every cell of a plane.
-const BEYOND: i128 = 4611686018427387905;
+const BEYOND: i128 = REACH + 1;
 
 // So few cells are searched one after the other.
 const FEW: usize = 16;

@@ -12,17 +12,15 @@ use super::found::Found;
 use super::read::half_side;
 use crate::fault::QuadFault;
 use crate::tree::{Spot, Tree, WideBounds};
+use ca_plane::limits::{MOST_CELLS, REACH};
 use ca_plane::{Plane, Point};
 use std::alloc::Global;
 
 // The most live cells that are handled at once.
-const MAX_CELLS: u128 = 16777216;
+const MAX_CELLS: u128 = MOST_CELLS as u128;
 
 // A tree of this level lies in the square of a plane.
 const INSIDE: u8 = 63;
-
-// How far from 0 a coordinate of a plane's cells may be.
-const REACH: i128 = 4611686018427387904;
 
 // The corners of three parts of a square; the north-western one has that of the square.
 #[derive(Clone, Copy, Drop)]

@@ -47,7 +47,7 @@ fn generation(digits: &[u8]) -> Result<u64, RleFault>
     let Some(generation) = whole_number(digits) else {
         return Err(RleFault::Syntax);
     };
-    if generation >= 1 << 63 {
+    if generation >= ca_plane::limits::GENERATION_LIMIT {
         return Err(RleFault::GenTooLarge);
     }
     Ok(generation)

@@ -10,11 +10,9 @@ ghost use Rattle.ca_run.specs.Leaping.{GoesOn};
 use super::{Leaper, Milestone};
 use crate::fault::LeapFault;
 use crate::watch::{Unwatched, Watch};
+use ca_plane::limits::MOST_GENERATIONS;
 use ca_plane::{Automaton, Memory};
 use ca_quad::Tree;
-
-// The most generations of one call.
-const MOST: u64 = 1 << 60;
 
 impl<A: Automaton> Leaper<A> {
     /// The tree n generations on. Its level is at most 64, and n at most 2^60.
@@ -64,7 +62,7 @@ impl<A: Automaton> Leaper<A> {
         ensures goes_on { GoesOn A self.old self.new }
     {
         let _ = &self.store;
-        if n == MOST {
+        if n == MOST_GENERATIONS {
             return Ok(self.leap(tree, 60)?);
         }
         let mut now = tree;

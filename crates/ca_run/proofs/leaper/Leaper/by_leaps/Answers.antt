@@ -15,8 +15,8 @@ use Rattle.ca_run.proofs.leaper.Leaper.by_leaps.Goals.{then-n-j-eq1+in_ok-now, e
 same_time : (now : ℕ) (at : ℕ → ℕ) (m n : ℕ) → m ≡ n → now ≡ at m → now ≡ at n
 same_time now at m n e shows = shows ∙ ap at e
 
-pub returns-then-n-eq-MOST-clause-advanced : goal.returns-then-n-eq-MOST-clause-advanced
-returns-then-n-eq-MOST-clause-advanced g c =
+pub returns-then-n-eq-MOST_GENERATIONS-clause-advanced : goal.returns-then-n-eq-MOST_GENERATIONS-clause-advanced
+returns-then-n-eq-MOST_GENERATIONS-clause-advanced g c =
     let e : c.args.n ≡ 2 ^ 60 = grind (arith, nat_tests) in
     record {
       is_tree = c.in_ok-leap.ensures.tree;
