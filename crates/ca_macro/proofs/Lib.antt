@@ -18,7 +18,6 @@ pub mod Gathering
 pub mod WrittenNodes
 pub mod Lines
 pub mod Roots
-pub mod Decimals
 pub mod TidyLines
 pub mod TidyFiles
 pub mod NodeCells

@@ -10,7 +10,7 @@ use Rattle.ca_plane.proofs.Lines.{lines_ahead, words_ahead, words_next}
 use Rattle.ca_macro.specs.Nodes.{Node, Leaf, Cells, Parts, mark_of, rows_of, MayFollow}
 use Rattle.ca_macro.specs.File.{Adds, Rule, Generation, IsNumber, WordsSay}
 use Rattle.ca_macro.specs.Tidy.{HasForm, numbers_text, node_text}
-use Rattle.ca_macro.proofs.Decimals.{decimal_writes}
+use Rattle.ca_plane.proofs.Decimals.{decimal_writes}
 
 -- ---- lines and words
 

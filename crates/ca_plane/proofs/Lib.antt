@@ -1,6 +1,7 @@
 pub mod Boxes
 pub mod FirstWords
 pub mod Compared
+pub mod Decimals
 pub mod Gathered
 pub mod Fronts
 pub mod Lengths

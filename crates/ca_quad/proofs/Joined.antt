@@ -8,7 +8,7 @@ use Rattle.ca_quad.specs.Sound.{IsSound, Grows}
 use Rattle.ca_quad.specs.Trees.{IsIn, Shows, AreFour}
 use Rattle.ca_quad.specs.inner.Named.{AreCells2, AreCells4}
 use Rattle.ca_quad.proofs.Views.{named_cells4, among_cells2, among_cells4}
-use Rattle.ca_quad.proofs.Cells.{cells_stay, of_stays}
+use Rattle.ca_quad.proofs.Cells.{cells_stay}
 
 -- the same level for the four
 pub four_at : (nodes : List Node) (j k nw ne sw se : ℕ) → AreFour nodes j nw ne sw se → IsOf nodes nw k → AreFour nodes k nw ne sw se
@@ -47,10 +47,3 @@ pub sixty_four : (nodes : List Node) (k nw ne sw se n : ℕ) → IsOf nodes nw k
 sixty_four nodes k nw ne sw se n h are =
     let e : k ≡ 2 = sym h.is_level ∙ (ap (level_of nodes) (sym are.is_nw) ∙ (among_cells4 nodes 0 (digit 65536 n 0) (omega arith)).is_level) in
     rw (e, are.is_nw, are.is_ne, are.is_sw, are.is_se) refl
-
--- an old square goes on to show its cells
-pub shows_stays : (old new : List Node) → IsSound old → Grows old new → (id k : ℕ) (cells : ℕ → ℕ → ℕ) → Shows old id k cells → Shows new id k cells
-shows_stays old new sound grows id k cells h = record {
-  is_square = of_stays old new sound grows id k h.is_square;
-  has_cells = λ x y. ap (λ f. f x y) (cells_stay old new sound grows k id h.is_square) ∙ h.has_cells x y;
-}

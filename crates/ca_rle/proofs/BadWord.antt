@@ -7,12 +7,10 @@ use Rattle.ca_rle.specs.declared.fault.RleFault.{RleFault}
 use Rattle.ca_rle.specs.declared.fault.RleFault.TheVariants.{Syntax, GenTooLarge}
 use Rattle.ca_rle.specs.Header.{extended_words, Said, Corner, Generation, Nothing, Says}
 use Rattle.ca_rle.specs.Faults.{IsBadWord, HasBadWord}
+use Rattle.ca_rle.proofs.OneHeader.{begins_gen}
 use Rattle.ca_rle.proofs.OnePlace.{IsGood, EndsPreamble, one_place}
 
 -- ---- one word
-
-begins_gen : (word more : List ℕ) → word ≡ codes "Gen=" ++ more → starts_with nat_eq word (codes "Gen=") ≡ true
-begins_gen word more e = rw e
 
 -- no word begins as `Pos=` and as `Gen=`
 gen_is_no_pos : (word more : List ℕ) → word ≡ codes "Gen=" ++ more → starts_with nat_eq word (codes "Pos=") ≡ true → ⊥

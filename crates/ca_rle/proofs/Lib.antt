@@ -20,7 +20,6 @@ pub mod LineKinds
 pub mod FaultAt
 pub mod FaultLines
 pub mod FileOrFault
-pub mod TidyNumbers
 pub mod TidyBody
 pub mod TidyHead
 pub mod TidyCells

@@ -92,7 +92,7 @@ one_integer bytes x y (inr (a, e, d, p)) (inr (b, f, g, q)) =
 begins_pos : (word more : List ℕ) → word ≡ codes "Pos=" ++ more → starts_with nat_eq word (codes "Pos=") ≡ true
 begins_pos word more e = rw e
 
-begins_gen : (word more : List ℕ) → word ≡ codes "Gen=" ++ more → starts_with nat_eq word (codes "Gen=") ≡ true
+pub begins_gen : (word more : List ℕ) → word ≡ codes "Gen=" ++ more → starts_with nat_eq word (codes "Gen=") ≡ true
 begins_gen word more e = rw e
 
 pos_or_gen : (word a b : List ℕ) → word ≡ codes "Pos=" ++ a → word ≡ codes "Gen=" ++ b → ⊥

@@ -11,7 +11,7 @@ use Rattle.ca_rle.specs.Shown.{state_of}
 use Rattle.ca_rle.specs.File.{ended}
 use Rattle.ca_rle.specs.Tidy.{letters_of, tag_text, count_text, item_text, HaveStates}
 use Rattle.ca_rle.proofs.White.{IsWhite-append}
-use Rattle.ca_rle.proofs.TidyNumbers.{Writes, decimal_writes}
+use Rattle.ca_plane.proofs.Decimals.{Writes, decimal_writes}
 
 -- ---- tags
 

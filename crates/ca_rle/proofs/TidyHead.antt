@@ -12,7 +12,7 @@ use Rattle.ca_rle.specs.File.{IsLine, corner_of, generation_of}
 use Rattle.ca_rle.specs.Tidy.{generation_text, corner_line, header_line}
 use Rattle.ca_plane.proofs.Fronts.{every_append, every_wider, every_digit}
 use Rattle.ca_rle.proofs.Headers.{spaced, digits_are_line, word_is_line}
-use Rattle.ca_rle.proofs.TidyNumbers.{decimal_writes, IsNear, signed_writes}
+use Rattle.ca_plane.proofs.Decimals.{decimal_writes, IsNear, signed_writes}
 
 -- ---- bytes of words
 

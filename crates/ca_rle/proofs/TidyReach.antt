@@ -11,7 +11,7 @@ use Rattle.ca_rle.specs.declared.item.Tag.TheVariants.{Cell, RowEnd}
 use Rattle.ca_rle.specs.Shown.{state_of, picture_of}
 use Rattle.ca_rle.specs.Tidy.{AreTidy, IsFrame}
 use Rattle.ca_rle.proofs.Spans.{all_run}
-use Rattle.ca_rle.proofs.TidyNumbers.{IsNear}
+use Rattle.ca_plane.proofs.Decimals.{IsNear}
 use Rattle.ca_rle.proofs.TidyCells.{live_behind, cells_at, next, drawn, picture_drawn, tidy_counts, tidy_tail, reach}
 
 -- each live cell is at most so far from the origin, both ways

@@ -12,7 +12,7 @@ use Rattle.ca_plane.proofs.Fronts.{every_append}
 abbrev pub Writes : ℕ → List ℕ → Type 0
 Writes n digits = AreDigits digits × (n ≡ value digits)
 
-pub digit_is : (n : ℕ) → n < 10 → is_digit (48 + n) ≡ true
+digit_is : (n : ℕ) → n < 10 → is_digit (48 + n) ≡ true
 digit_is n h = grind (arith, nat_tests)
 
 one_digit : (n : ℕ) → n < 10 → Writes n ((48 + n) ∷ [])
