@@ -26,11 +26,11 @@ pub(crate) fn good_front(bytes: &[u8]) -> Result<Front<'_>, LineFault>
 {
     let front = match read_front(bytes) {
         Ok(front) => front,
-        Err(faulty) => return Err(faulty.in_text(bytes)),
+        Err(bad_line) => return Err(bad_line.in_text(bytes)),
     };
     let extent = match measure(front.body) {
         Ok(extent) => extent,
-        Err(faulty) => return Err(faulty.in_text(bytes)),
+        Err(bad_item) => return Err(bad_item.in_text(bytes)),
     };
     if !extent.is_in_range(front.corner) {
         return Err(LineFault {
