@@ -4,10 +4,12 @@
 - By a byte at a time, read or written, a run comes to what it does otherwise.
 - Where the kth byte of standard output can't be written, the first k - 1 are there and no other, though later writes would go well: nothing is tried
   again. `cafile: write` is told, and the status is 2. That a write takes no byte is a failure too.
+- What is printed for a claim is one write: where the kth write fails, what was printed for the first k - 1 claims is there.
 - Where the kth byte of standard error can't be written, the status is the same, and so is all that comes before that line and after it.
 - Where the kth byte of a file can't be read, that file is told as one that can't be read, or refuses the claims that need it; the others are judged.
 """
 import os
+import re
 
 from lib.program import Folder, Outcome, Tally, ample, fault, run
 from lib.refusing import refusing_program
@@ -101,6 +103,16 @@ def try_output(tally, refusing, files):
                 elif got != (Outcome(wanted[:number - 1], b"cafile: write\n", 2) if is_met else outcome):
                     complaints.append(f"byte {number} of {whole}: {got}")
             tally.tell(f"{named(words)}, {name}: {whole} bytes", complaints)
+
+
+def try_claims(tally, refusing, files):
+    """Each write of all that is printed for a claim in turn fails."""
+    text, _ = claim_text(files)
+    for words, printed in ((["verify", text], PLAIN), (["verify", "--explain", text], EXPLAINED)):
+        each = re.findall(rb"line .*\n(?:  .*\n)?", printed)
+        wanted = {number: Outcome(b"".join(each[:number - 1]), b"cafile: write\n", 2) for number in range(1, len(each) + 1)}
+        got = refusing.until_unmet(words, "WRITE_FAILS", range(1, 100))
+        tally.tell(f"{named(words)}: {len(each)} writes", [] if got == wanted else [f"wanted: {wanted}", f"got:    {got}"])
 
 
 def try_errors(tally, refusing, files):
@@ -200,7 +212,7 @@ def try_long(tally, refusing, files):
 def main():
     tally = Tally()
     with refusing_program(tally, "failing devices") as (folder, refusing):
-        for it in (try_bytes, try_output, try_errors, try_reads, try_several, try_long) if refusing else ():
+        for it in (try_bytes, try_output, try_claims, try_errors, try_reads, try_several, try_long) if refusing else ():
             inner = os.path.join(folder, it.__name__)
             os.mkdir(inner)
             it(tally, refusing, Folder(inner))

@@ -154,8 +154,8 @@ IsRunFault old new rule IsFault Write = ⊥
 IsRunFault old new rule IsFault Memory = (WasRead old new × IsRuleFileFault rule table_fault.Memory)
     ⊎ HoldsOfFile old new rule (λ bytes tables. IsFault bytes tables convert_fault.Memory)
 
--- a file's bytes and its rule file, if there is one, are read, at most a byte more than a file may have; and a text that is of both is written with
--- the status 0, or a first part of it, or nothing for a fault of theirs
+-- a run over a file, and over the text of a rule file, if there is one: the file is read, and a text that IsText of its bytes is written, with the
+-- status 0; or a first part of such a text, and then a write fails; or nothing, for a fault that holds
 pub record RunsOver {R W : Type 0} (remaining : R → Option (List ℕ)) (contents : W → Option (List ℕ)) (input read : Counted R) (rule : Option (List ℕ))
     (output written : Counted W) (IsText : List ℕ → List TableRule → List ℕ → Type 0) (IsFault : List ℕ → List TableRule → ConvertFault → Type 0)
     (result : Result ℕ ToolFault) : Type 0 where

@@ -15,8 +15,8 @@ pub record Sends {W T E : Type 0} (contents : W → Option (List ℕ)) (old new 
   pub counted : OnErr result (Rises old.failures new.failures)
   pub front : OnErr result (AppendsPrefix (contents old.inner) (contents new.inner) text)
 
--- a text that may be written with this status is written whole; or a first part of a text that may be begun, and then a write fails, which
--- is counted; or nothing, for another fault, which holds
+-- one of some texts is written whole, with its status; or a first part of one that may be begun, and then a write fails, which is counted; or
+-- nothing, for another fault, which holds
 pub record WritesOneOf {W : Type 0} (contents : W → Option (List ℕ)) (old new : Counted W) (IsText : List ℕ → ℕ → Type 0) (IsBegun : List ℕ → Type 0)
     (IsFault : ToolFault → Type 0) (result : Result ℕ ToolFault) : Type 0 where
   -- all of such a text was written, and no failure was counted
