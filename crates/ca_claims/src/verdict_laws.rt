@@ -1,9 +1,9 @@
-//! Laws of verdicts, which no call needs to run: what a true claim of each kind is; a no means that the claim is false, and
+//! Laws of verdicts, which no call needs to run: what a true claim of each kind is, and what a false one; a no means that the claim is false, and
 //! it's false for one kind of reason; a file has one meaning; and, out of memory apart, only one kind of verdict is true
 //! of a claim.
 
 ghost use Rattle.std.specs.Prelude.{◌≡◌, ◌≢◌, ℕ, ◌≤◌, ◌<◌, ◌↔◌, ℤ, List, pos, negsuc};
-ghost use Rattle.ca_plane.specs.Plane.{Picture, shifted, IsLive};
+ghost use Rattle.ca_plane.specs.Plane.{Picture, cell, shifted, IsLive};
 ghost use Rattle.ca_plane.specs.Generations.{after, IsAfter};
 ghost use Rattle.ca_claims.specs.declared.claims.line.Kind.{Kind};
 ghost use Rattle.ca_claims.specs.declared.claims.line.Kind.TheVariants.{Still, Oscillator, Spaceship, Becomes};
@@ -13,6 +13,7 @@ ghost use Rattle.ca_claims.specs.Truth.{asks_of, IsChanged, IsNowhere, IsTrueCla
 ghost use Rattle.ca_claims.specs.Answers.{IsTrueVerdict};
 ghost use Rattle.ca_claims.specs.Examples.{life, blinker, block};
 ghost use Rattle.ca_claims.specs.declared.verdict.Why.{Why};
+ghost use Rattle.ca_claims.specs.declared.verdict.Why.TheVariants.{Empty, Differs, Earlier};
 ghost use Rattle.ca_claims.specs.declared.verdict.Verdict.TheVariants.{Yes, No, Refused};
 ghost use Rattle.ca_claims.specs.declared.verdict.Cause.{Cause};
 ghost use Rattle.ca_claims.specs.declared.verdict.Cause.TheVariants.{NoFile, BadTable, Memory};
@@ -27,6 +28,31 @@ pub fn true_claims()
         ↔ (IsLive cells × IsAfter next cells period (shifted cells dx dy) × ((m : ℕ) → 1 ≤ m → m < period → IsNowhere next cells m)) }
     ensures becomes { (next : List ℕ → ℕ) (cells other : Picture) (generations : ℕ)
         → IsTrueClaim next cells other (asks_of (Becomes generations)) ↔ IsAfter next cells generations other }
+{}
+
+/// What it means that there is a reason against a claim of each kind: no cell is live, a cell after the claimed generations isn't
+/// the claimed one, or the claimed cells stand and the pattern is back at an earlier time, and at none before that.
+pub fn false_claims()
+    ensures still_empty { (next : List ℕ → ℕ) (cells other : Picture) → IsReason next cells other (asks_of Still) Empty ↔ (IsLive cells → ⊥) }
+    ensures still_differs { (next : List ℕ → ℕ) (cells other : Picture) (x y : ℤ) (found wanted n : ℕ) → IsReason next cells other (asks_of Still) (Differs x y found wanted n)
+        ↔ (IsLive cells × (n ≡ 1) × (after next cells 1 x y ≡ found) × (cell cells x y ≡ wanted) × (found ≢ wanted)) }
+    ensures still_earlier { (next : List ℕ → ℕ) (cells other : Picture) (m : ℕ) (dx dy : ℤ) → IsReason next cells other (asks_of Still) (Earlier m dx dy) → ⊥ }
+    ensures oscillator_empty { (next : List ℕ → ℕ) (cells other : Picture) (period : ℕ) → IsReason next cells other (asks_of (Oscillator period)) Empty ↔ (IsLive cells → ⊥) }
+    ensures oscillator_differs { (next : List ℕ → ℕ) (cells other : Picture) (period : ℕ) (x y : ℤ) (found wanted n : ℕ) → IsReason next cells other (asks_of (Oscillator period)) (Differs x y found wanted n)
+        ↔ (IsLive cells × (n ≡ period) × (after next cells period x y ≡ found) × (cell cells x y ≡ wanted) × (found ≢ wanted)) }
+    ensures oscillator_earlier { (next : List ℕ → ℕ) (cells other : Picture) (period m : ℕ) (dx dy : ℤ) → IsReason next cells other (asks_of (Oscillator period)) (Earlier m dx dy)
+        ↔ (IsLive cells × IsAfter next cells period cells × (1 ≤ m) × (m < period) × (dx ≡ pos 0) × (dy ≡ pos 0) × IsAfter next cells m cells
+        × ((k : ℕ) → 1 ≤ k → k < m → IsChanged next cells k)) }
+    ensures spaceship_empty { (next : List ℕ → ℕ) (cells other : Picture) (period : ℕ) (dx dy : ℤ) → IsReason next cells other (asks_of (Spaceship period dx dy)) Empty ↔ (IsLive cells → ⊥) }
+    ensures spaceship_differs { (next : List ℕ → ℕ) (cells other : Picture) (period : ℕ) (dx dy x y : ℤ) (found wanted n : ℕ) → IsReason next cells other (asks_of (Spaceship period dx dy)) (Differs x y found wanted n)
+        ↔ (IsLive cells × (n ≡ period) × (after next cells period x y ≡ found) × (cell (shifted cells dx dy) x y ≡ wanted) × (found ≢ wanted)) }
+    ensures spaceship_earlier { (next : List ℕ → ℕ) (cells other : Picture) (period m : ℕ) (dx dy u v : ℤ) → IsReason next cells other (asks_of (Spaceship period dx dy)) (Earlier m u v)
+        ↔ (IsLive cells × IsAfter next cells period (shifted cells dx dy) × (1 ≤ m) × (m < period) × IsAfter next cells m (shifted cells u v)
+        × ((k : ℕ) → 1 ≤ k → k < m → IsNowhere next cells k)) }
+    ensures becomes_empty { (next : List ℕ → ℕ) (cells other : Picture) (generations : ℕ) → IsReason next cells other (asks_of (Becomes generations)) Empty → ⊥ }
+    ensures becomes_differs { (next : List ℕ → ℕ) (cells other : Picture) (generations : ℕ) (x y : ℤ) (found wanted n : ℕ) → IsReason next cells other (asks_of (Becomes generations)) (Differs x y found wanted n)
+        ↔ ((n ≡ generations) × (after next cells generations x y ≡ found) × (cell other x y ≡ wanted) × (found ≢ wanted)) }
+    ensures becomes_earlier { (next : List ℕ → ℕ) (cells other : Picture) (generations m : ℕ) (dx dy : ℤ) → IsReason next cells other (asks_of (Becomes generations)) (Earlier m dx dy) → ⊥ }
 {}
 
 /// Where there is a reason against a claim, the claim isn't true.
