@@ -1,6 +1,6 @@
 -- One of a claim's one or two patterns, which is bad, after one that is good.
-use Rattle.std.proofs.Common.{ℕ, List, [], ◌∷◌, map, Option, inl, inr, ap, sym, subst}
-use Rattle.std.specs.List.{AllZip}
+use Rattle.std.proofs.Common.{◌≡◌, ℕ, List, [], ◌∷◌, map, Option, inl, inr, refl, ap, sym, subst}
+use Rattle.std.specs.List.{AllByRecursion, AllZip}
 use Rattle.ca_claims.specs.declared.claims.line.Named.{Named}
 use Rattle.ca_claims.specs.declared.refusal.About.{About}
 use Rattle.ca_claims.specs.declared.refusal.About.TheVariants as about
@@ -9,8 +9,8 @@ use Rattle.ca_claims.specs.declared.refusal.Part.TheVariants.{First, Second}
 use Rattle.ca_claims.specs.declared.verdict.Cause.{Cause}
 use Rattle.ca_claims.specs.declared.verdict.Cause.TheVariants.{NoFile, BadTable, BadPattern, BadRule, StateTooLarge, MixedRules, TooManyCells, Memory}
 use Rattle.ca_claims.specs.Places.{path_at, named_path}
-use Rattle.ca_claims.specs.Answers.{FirstBad}
-use Rattle.ca_claims.specs.Notes.{IsOfPattern, IsFirstBad}
+use Rattle.ca_claims.specs.Answers.{IsThere, FirstBad}
+use Rattle.ca_claims.specs.Notes.{IsOfPattern, IsFirstBad, IsOfRuleFile}
 use Rattle.ca_claims.specs.inner.Patterns.{IsEachOnce, FirstBadAt, IsPart}
 use Rattle.ca_claims.specs.inner.Refusals.{IsOn}
 
@@ -80,4 +80,26 @@ module _ (files : List (List ℕ × List ℕ)) (rules : List (List ℕ)) where
   on_all paths each all once cause about.Claim is = is
   on_all paths each all once cause (about.Pattern part line) is =
       of_pattern (FirstBadAt part each) (FirstBadAt part all) (λ Good Bad bad. once_part Good Bad part each all once bad) cause line is
-  on_all paths each all once cause (about.RuleFile place) is = is
+  on_all paths each all once cause (about.RuleFile place) is = (is.0, of_file cause (path_at paths place) is.1)
+    where
+      -- where each file is there, all are
+      all_there : IsEachOnce each all → AllByRecursion (IsThere files) each → AllByRecursion (IsThere files) all
+      all_there (inl same) there = subst (AllByRecursion (IsThere files)) (sym same) there
+      all_there (inr (x, e, d)) there =
+          let one = (subst (AllByRecursion (IsThere files)) e there).0 in
+          subst (AllByRecursion (IsThere files)) (sym d) (one, (one, tt))
+
+      of_file : (k : Cause) (path : List ℕ) → IsOfRuleFile files rules each k path → IsOfRuleFile files rules all k path
+      of_file NoFile path h = (all_there once h.0, h.1)
+      of_file (BadTable fault) path h = h
+      of_file (BadPattern fault) path h = h
+      of_file (BadRule fault) path h = h
+      of_file StateTooLarge path h = h
+      of_file MixedRules path h = h
+      of_file TooManyCells path h = h
+      of_file Memory path h = h
+
+-- the paths of patterns that are given by their names too
+pub named_paths : (paths : List (List ℕ)) (patterns : List Named) → map (λ p. p.1) (map (named_path paths) patterns) ≡ map (λ n. path_at paths n.path) patterns
+named_paths paths [] = refl
+named_paths paths (n ∷ ns) = ap (λ l. path_at paths n.path ∷ l) (named_paths paths ns)

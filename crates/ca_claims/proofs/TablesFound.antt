@@ -79,11 +79,11 @@ module _ (files : List (List ℕ × List ℕ)) (paths : List (List ℕ)) (found 
 
 module _ (files : List (List ℕ × List ℕ)) (paths rules patterns : List (List ℕ)) where
   -- where a rule line's file is missing, no claim is judged
-  pub refused_missing : (place : ℕ) → place < length paths → FirstBad (IsThere files) (λ p. (p ≡ path_at paths place) × IsMissing files p) rules
+  pub refused_missing : (place : ℕ) → place < length paths → AllByRecursion (IsThere files) patterns → FirstBad (IsThere files) (λ p. (p ≡ path_at paths place) × IsMissing files p) rules
       → IsRefusal files paths rules patterns (record { cause = NoFile; about = about.RuleFile place })
-  refused_missing place within first = record {
+  refused_missing place within there first = record {
     holds = inr (some_first (IsThere files) (IsMissing files) rules (first_weaker (IsThere files) (λ p. (p ≡ path_at paths place) × IsMissing files p) (IsMissing files) (λ p h. h.1) rules first));
-    on = (within, first);
+    on = (within, (there, first));
   }
 
   -- nor where one is faulty

@@ -1,5 +1,6 @@
 -- What a note on a verdict says of the claim's patterns and of the files that were handed in.
-use Rattle.std.specs.Prelude.{◌≡◌, ◌≢◌, ℕ, ℤ, List, Option, Some, None}
+use Rattle.std.specs.Prelude.{◌≡◌, ◌≢◌, ℕ, ℤ, List, map, Option, Some, None}
+use Rattle.std.specs.List.{AllByRecursion}
 use Rattle.ca_rle.specs.FaultyLine as rle
 use Rattle.ca_rle.specs.declared.fault.RleFault.TheVariants as rle_fault
 use Rattle.ca_macro.specs.Faults as macrocell
@@ -47,18 +48,18 @@ IsOfPattern files rules Memory First line = ⊥
 abbrev pub IsFirstBad : List (List ℕ × List ℕ) → (name path : List ℕ) → (Good Bad : List ℕ → Type 0) → Type 0
 IsFirstBad patterns name path Good Bad = FirstBad (λ p. Good p.1) (λ p. (p ≡ (name, path)) × Bad p.1) patterns
 
--- the cause of a refusal is that of a rule line's file, which has this path: it is the first that is missing, or the first that is no
--- good table
-abbrev pub IsOfRuleFile : List (List ℕ × List ℕ) → List (List ℕ) → Cause → List ℕ → Type 0
-IsOfRuleFile files rules NoFile path = FirstBad (IsThere files) (λ r. (r ≡ path) × IsMissing files r) rules
-IsOfRuleFile files rules (BadTable fault) path =
+-- the cause of a refusal is that of a rule line's file, which has this path: it is the first that is missing, where all patterns' files
+-- are there; or the first that is no good table. `patterns` are the paths of the claim's patterns
+abbrev pub IsOfRuleFile : List (List ℕ × List ℕ) → (rules patterns : List (List ℕ)) → Cause → List ℕ → Type 0
+IsOfRuleFile files rules patterns NoFile path = AllByRecursion (IsThere files) patterns × FirstBad (IsThere files) (λ r. (r ≡ path) × IsMissing files r) rules
+IsOfRuleFile files rules patterns (BadTable fault) path =
     FirstBad (HoldsTable files) (λ r. (r ≡ path) × IsBadTable files fault r) rules
-IsOfRuleFile files rules (BadPattern fault) path = ⊥
-IsOfRuleFile files rules (BadRule fault) path = ⊥
-IsOfRuleFile files rules StateTooLarge path = ⊥
-IsOfRuleFile files rules MixedRules path = ⊥
-IsOfRuleFile files rules TooManyCells path = ⊥
-IsOfRuleFile files rules Memory path = ⊥
+IsOfRuleFile files rules patterns (BadPattern fault) path = ⊥
+IsOfRuleFile files rules patterns (BadRule fault) path = ⊥
+IsOfRuleFile files rules patterns StateTooLarge path = ⊥
+IsOfRuleFile files rules patterns MixedRules path = ⊥
+IsOfRuleFile files rules patterns TooManyCells path = ⊥
+IsOfRuleFile files rules patterns Memory path = ⊥
 
 -- what a note says of a verdict on a claim about these patterns
 abbrev pub IsNote : List (List ℕ × List ℕ) → List (List ℕ) → List (List ℕ × List ℕ) → Verdict → Note → Type 0
@@ -67,7 +68,7 @@ IsNote files rules patterns verdict (Cell name) = (x : ℤ) × (y : ℤ) × (fou
     × (verdict ≡ No (Differs x y found wanted generations)) × FirstIs (λ p. p.0 ≡ name.now) patterns
 IsNote files rules patterns verdict (Pattern name path line) = (cause : Cause) × (verdict ≡ Refused cause)
     × IsOfPattern files rules cause (IsFirstBad patterns name.now path.now) line
-IsNote files rules patterns verdict (RuleFile path) = (cause : Cause) × (verdict ≡ Refused cause) × IsOfRuleFile files rules cause path.now
+IsNote files rules patterns verdict (RuleFile path) = (cause : Cause) × (verdict ≡ Refused cause) × IsOfRuleFile files rules (map (λ p. p.1) patterns) cause path.now
 
 -- on these verdicts a note is always given: cells that differ, and all refusals but for different rules and want of memory
 abbrev pub HasNote : Verdict → Type 0

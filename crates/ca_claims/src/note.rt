@@ -10,15 +10,14 @@ pub enum Note<'a> {
         name: &'a [u8],
     },
     /// The claim is refused for the pattern with this name, whose file is at this path. It is the first of the claim's patterns
-    /// of which the cause holds. Where the file doesn't read, the line is that of the first fault in its spelling, if it has one
-    /// and there was memory to find it.
+    /// of which the cause holds. Where the file doesn't read, the line is that on which its fault stands, if it stands on one.
     Pattern {
         name: &'a [u8],
         path: &'a [u8],
         line: Option<u64>,
     },
-    /// The claim is refused for the file of a rule line, which is at this path. It is the first that is missing, or the
-    /// first that is no good table.
+    /// The claim is refused for the file of a rule line, which is at this path. It is the first that is missing,
+    /// where the patterns' files are there, or the first that is no good table.
     RuleFile {
         path: &'a [u8],
     },

@@ -18,7 +18,7 @@ use Rattle.ca_claims.specs.inner.Patterns.{FirstBadAt}
 abbrev pub IsOn : List (List ℕ × List ℕ) → (paths rules patterns : List (List ℕ)) → Cause → About → Type 0
 IsOn files paths rules patterns cause about.Claim = (cause ≡ MixedRules) ⊎ (cause ≡ Memory)
 IsOn files paths rules patterns cause (about.Pattern part line) = IsOfPattern files rules cause (FirstBadAt part patterns) line
-IsOn files paths rules patterns cause (about.RuleFile place) = (place < length paths) × IsOfRuleFile files rules cause (path_at paths place)
+IsOn files paths rules patterns cause (about.RuleFile place) = (place < length paths) × IsOfRuleFile files rules patterns cause (path_at paths place)
 
 -- a claim about these patterns is refused for this cause, which is about this
 pub record IsRefusal (files : List (List ℕ × List ℕ)) (paths rules patterns : List (List ℕ)) (refusal : Refusal) : Type 0 where

@@ -6,7 +6,7 @@ use Rattle.ca_claims.proofs.verifier.tables.Tables.all.Goals as goal
 pub returns-in-Missing-clause-refusal : goal.returns-in-Missing-clause-refusal
 returns-in-Missing-clause-refusal c = λ files paths rules patterns read there.
     let held = subst (AreRead files paths rules) c.in-Missing.is read in
-    refused_missing files paths rules patterns c.in-Missing.place held.0 held.1
+    refused_missing files paths rules patterns c.in-Missing.place held.0 there held.1
 
 pub returns-in-Faulty-clause-refusal : goal.returns-in-Faulty-clause-refusal
 returns-in-Faulty-clause-refusal c = λ files paths rules patterns read there.
