@@ -1,4 +1,4 @@
-//! The limits of planes, pattern files and runs. Each number stands here once, for all code that goes by it.
+//! The limits of planes, pattern files, runs and claims, for the code of all crates.
 
 /// How far from 0 a coordinate of a plane's cells may be.
 pub const REACH: i128 = 1 << 62;
@@ -15,7 +15,7 @@ pub const MOST_CELLS: u64 = 16777216;
 /// The generations that a file names are below this.
 pub const GENERATION_LIMIT: u64 = 1 << 63;
 
-/// The most generations of one run.
+/// The most generations by which a leaper goes on at once, and that a claim may name.
 pub const MOST_GENERATIONS: u64 = 1 << 60;
 
 /// The longest period of a claim.

@@ -37,6 +37,14 @@ pub enum RleFault {
     Memory,
 }
 
+impl From<ca_plane::Memory> for RleFault {
+    ghost from_gives = { λ _ f. f ≡ Memory };
+
+    fn from(_refused: ca_plane::Memory) -> RleFault {
+        RleFault::Memory
+    }
+}
+
 /// A fault, and the number of the line on which it stands, counted from 1: none for a limit that is passed, and for want
 /// of memory.
 #[derive(Clone, Copy, Debug, PartialEq, Eq)]

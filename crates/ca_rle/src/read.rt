@@ -26,9 +26,9 @@ use std::alloc::Global;
 ///
 /// # Errors
 ///
-/// The first fault of the text's spelling and its line; else `Range` where a count is above 2^62, or the corner or a live cell isn't from
-/// -2^60 to 2^60 - 1 in both directions; else `TooManyCells` where more than 16777216 cells are live; and `Memory` where
-/// there is no memory for the pattern of a text without these faults.
+/// The first fault of the text's spelling and its line; else `Range` where a count is above 2^62, or the corner or a live
+/// cell isn't from -2^60 to 2^60 - 1 in both directions; else `TooManyCells` where more than 16777216 cells are live; and
+/// `Memory` where there is no memory for the pattern of a text without these faults.
 pub fn read_rle_with_line(alloc: Global, bytes: &[u8]) -> Result<Pattern, LineFault>
     // What is read is what the text holds, and it passes no limit.
     ensures found { IfOk result (λ p. (file : File) × IsFile bytes.now file × IsWithinLimits file × IsPatternOf file p) }
