@@ -174,20 +174,28 @@ def try_closed(tally, refusing, files):
     tally.expect("standard error takes no second line", got, Outcome(printed, shown[:second] + shown[third:], 1))
 
 
+def all_shown(terminal):
+    """All that a terminal was sent, once no program has it open any more."""
+    shown = b""
+    try:
+        while piece := os.read(terminal, 65536):
+            shown += piece
+    except OSError:  # what Linux answers behind the last byte
+        pass
+    return shown
+
+
 def on_a_terminal(refusing, words, faults):
     """What a run prints whose standard error is a terminal, and what is shown there."""
     master, slave = pty.openpty()
     try:
-        got, _ = refusing.run(words, faults, stderr=slave)
-        os.set_blocking(master, False)
         try:
-            shown = os.read(master, 65536)
-        except BlockingIOError:
-            shown = b""
+            got, _ = refusing.run(words, faults, stderr=slave)
+        finally:
+            os.close(slave)
+        return got.printed, all_shown(master)
     finally:
-        os.close(slave)
         os.close(master)
-    return got.printed, shown
 
 
 def try_terminal(tally, refusing, files):

@@ -1,6 +1,6 @@
-//! Laws of verdicts, which no call needs to run: what a true claim of each kind is, and what a false one; a no means that the claim is false, and
-//! it's false for one kind of reason; a file has one meaning; and, out of memory apart, only one kind of verdict is true
-//! of a claim.
+//! Laws of verdicts, which no call needs to run: what a true claim of each kind is, and what a reason against one shows; a no
+//! means that the claim is false, and it's false for one kind of reason; a file has one meaning; and, out of memory apart,
+//! only one kind of verdict is true of a claim.
 
 ghost use Rattle.std.specs.Prelude.{◌≡◌, ◌≢◌, ℕ, ◌≤◌, ◌<◌, ◌↔◌, ℤ, List, pos, negsuc};
 ghost use Rattle.ca_plane.specs.Plane.{Picture, cell, shifted, IsLive};
