@@ -348,23 +348,6 @@ def try_stepped(claims):
         claims.judge(f"cells that stay, level {level}", text)
 
 
-def to_and_fro(rule):
-    """A square of blinkers in either phase and gaps."""
-    chance, side = random.Random(5), 1100
-    rows = [[0] * side for _ in range(side)]
-    for x in range(0, side, 5):
-        for y in range(0, side, 5):
-            for dx, dy in chance.choice((((0, 1), (1, 1), (2, 1)), ((1, 0), (1, 1), (1, 2)), ())):
-                rows[y + dy][x + dx] = 1
-    return f"x = 1, y = 1, rule = {rule}\n{'$'.join(''.join('bo'[cell] for cell in row) for row in rows)}!\n"
-
-
-def without_order(rule):
-    """A square of the same side without order."""
-    chance, side = random.Random(6), 1100
-    return f"x = 1, y = 1, rule = {rule}\n{'$'.join(''.join(chance.choices('bo', k=side)) for _ in range(side))}!\n"
-
-
 def try_a_million_squares(claims):
     """A plane of more than a million squares that are all different."""
     content, _ = distinct_squares(LARGE, "B/S")
@@ -386,15 +369,16 @@ def try_dense_beside_sparse(claims):
 
 
 def try_settled(claims):
-    """A dense plane that changes no more but to and fro takes a small part of the time of one that goes on changing."""
+    """A dense plane that doesn't change takes a small part of the time of one that goes on changing."""
     seconds = {}
-    for name, rule, cells_of in (("to and fro", "B3/S23", to_and_fro), ("without end", "B1357/S1357", without_order)):
+    for name, rule in (("all cells stay", "B/S012345678"), ("without end", "B1357/S1357")):
+        content, _ = distinct_squares((8, 8, 8, 8), rule)
         text = claims.text()
-        text.load("plane", cells_of(rule))
+        text.load("plane", content)
         text.load("nothing", f"x = 1, y = 1, rule = {rule}\n!")
-        text.claim("becomes plane 240 nothing", "no, cells differ after 240")
+        text.claim("becomes plane 960 nothing", "no, cells differ after 960")
         seconds[name] = claims.judge(f"a dense plane, {name}", text)
-    claims.tally.tell("settled beside changing", [] if seconds["to and fro"] < 0.2 * seconds["without end"] else [str(seconds)])
+    claims.tally.tell("settled beside changing", [] if seconds["all cells stay"] < 0.15 * seconds["without end"] else [str(seconds)])
 
 
 def try_want_of_memory(claims):
