@@ -15,8 +15,8 @@ use Rattle.ca_plane.proofs.Shifts.{cell-shifted}
 use Rattle.ca_quad.specs.Squares.{dot, together}
 use Rattle.ca_quad.specs.Trees.{from_corner, row_cells}
 use Rattle.ca_quad.proofs.Growth.{below_or_not}
-use Rattle.ca_quad.proofs.Cells.{Ends, dot_ends, together_ends}
-use Rattle.ca_quad.proofs.Walks.{in_nw, in_ne, in_sw, in_se}
+use Rattle.ca_quad.specs.inner.Measure.{Ends}
+use Rattle.ca_quad.proofs.Cells.{in_nw, in_ne, in_sw, in_se, dot_ends, together_ends}
 use Rattle.ca_quad.proofs.Edges.{off_x, off_y}
 use Rattle.ca_macro.specs.Shown.{row_from, rows_from, state_of, joined}
 use Rattle.ca_macro.specs.inner.Leaves.{row_bits, leaf_bits}
@@ -238,22 +238,23 @@ module _ (half : ℕ) (p q r s : Picture) (hp : IsPicture p) (hq : IsPicture q) 
       s_at : (x y : ℤ) → cell (shifted s (pos half) (pos half)) x y ≡ from_corner d (x -ℤ pos half) (y -ℤ pos half)
       s_at x y = cell-shifted s (pos half) (pos half) x y ∙ sd (x -ℤ pos half) (y -ℤ pos half)
 
-      -- above and to the left all four are 0
-      none_left : (x y : ℤ) → x <ℤ pos 0 → cell (joined half p q r s) x y ≡ 0
-      none_left x y h =
-          let e = pa x y ∙ off_x a half ea x y (inl h) in
-          let f = q_at x y ∙ off_x b half eb (x -ℤ pos half) (y -ℤ pos 0) (inl (omega (arith, ints))) in
-          let g = r_at x y ∙ off_x c half ec (x -ℤ pos 0) (y -ℤ pos half) (inl (omega (arith, ints))) in
-          let i = s_at x y ∙ off_x d half ed (x -ℤ pos half) (y -ℤ pos half) (inl (omega (arith, ints))) in
+      -- where all four are 0
+      none : (x y : ℤ) → from_corner a x y ≡ 0 → from_corner b (x -ℤ pos half) (y -ℤ pos 0) ≡ 0 → from_corner c (x -ℤ pos 0) (y -ℤ pos half) ≡ 0
+          → from_corner d (x -ℤ pos half) (y -ℤ pos half) ≡ 0 → cell (joined half p q r s) x y ≡ 0
+      none x y na nb nc nd =
+          let e = pa x y ∙ na in
+          let f = q_at x y ∙ nb in
+          let g = r_at x y ∙ nc in
+          let i = s_at x y ∙ nd in
           joined_sum x y (record { last = inl g; third = inl f; first = inl e }) ∙ omega arith
 
+      -- to the left they are
+      none_left : (x y : ℤ) → x <ℤ pos 0 → cell (joined half p q r s) x y ≡ 0
+      none_left x y h = none x y (off_x a half ea x y (inl h)) (off_x b half eb _ _ (inl (omega (arith, ints)))) (off_x c half ec _ _ (inl (omega (arith, ints)))) (off_x d half ed _ _ (inl (omega (arith, ints))))
+
+      -- and above
       none_above : (x y : ℤ) → y <ℤ pos 0 → cell (joined half p q r s) x y ≡ 0
-      none_above x y h =
-          let e = pa x y ∙ off_y a half ea x y (inl h) in
-          let f = q_at x y ∙ off_y b half eb (x -ℤ pos half) (y -ℤ pos 0) (inl (omega (arith, ints))) in
-          let g = r_at x y ∙ off_y c half ec (x -ℤ pos 0) (y -ℤ pos half) (inl (omega (arith, ints))) in
-          let i = s_at x y ∙ off_y d half ed (x -ℤ pos half) (y -ℤ pos half) (inl (omega (arith, ints))) in
-          joined_sum x y (record { last = inl g; third = inl f; first = inl e }) ∙ omega arith
+      none_above x y h = none x y (off_y a half ea x y (inl h)) (off_y b half eb _ _ (inl (omega (arith, ints)))) (off_y c half ec _ _ (inl (omega (arith, ints)))) (off_y d half ed _ _ (inl (omega (arith, ints))))
 
       at_nw : (x y : ℕ) → x < half → y < half → cell (joined half p q r s) (pos x) (pos y) ≡ a x y
       at_nw x y h k =

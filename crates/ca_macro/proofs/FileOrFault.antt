@@ -294,6 +294,10 @@ first_fault bytes Range h = absurd h.holds
 first_fault bytes Memory h = absurd h.holds
 first_fault bytes f h = h
 
+-- a text whose lines say this is a file
+pub said_file : (bytes first : List ℕ) (lines : List (List ℕ)) (said : List Said) → begins_macro bytes ≡ true → lines_of bytes ≡ first ∷ lines → LinesSay [] lines said → IsFile bytes (file_of said)
+said_file bytes first lines said begins are say = record { first = first; lines = lines; said = said; begins = begins; lines_are = are; say = say; nodes = refl; rule_text = refl; generation = refl }
+
 -- a text is a file or has a first fault
 abbrev IsJudged : List ℕ → Type 0
 IsJudged bytes = ((file : File) × IsFile bytes file) ⊎ ((f : MacroFault) × IsFirstFault bytes f)
@@ -302,7 +306,7 @@ begun : (bytes first : List ℕ) (lines : List (List ℕ)) → begins_macro byte
 begun bytes first lines begins are =
     elim (lines_judged [] lines) [
       | inl h ↦
-          inl (file_of h.0, record { first = first; lines = lines; said = h.0; begins = begins; lines_are = are; say = h.1; nodes = refl; rule_text = refl; generation = refl })
+          inl (file_of h.0, said_file bytes first lines h.0 begins are h.1)
       | inr bad ↦ inr (bad.fault, first_fault bytes bad.fault (has_line bytes first lines begins are bad))
     ]
 

@@ -5,6 +5,7 @@ use Rattle.std.proofs.Math.ListN.{get_or-append}
 use Rattle.std.proofs.Math.Seq.{get_or-append_seam}
 use Rattle.std.proofs.lemmas.Bool.{cases_Bool, and_parts, eqb-true}
 use Rattle.std.proofs.lemmas.Bool.Decides.{nat_tests}
+use Rattle.std.proofs.lemmas.List.{length-map, map-append}
 use Rattle.std.proofs.lemmas.Option.{same_Some}
 use Rattle.ca_plane.specs.Plane.{Picture, cell}
 use Rattle.ca_quad.specs.declared.node.Node.{Node as Kept}
@@ -13,10 +14,11 @@ use Rattle.ca_quad.specs.Sound.{IsSound}
 use Rattle.ca_quad.specs.Trees.{from_corner, IsIn, IsEmpty}
 use Rattle.ca_quad.proofs.Cells.{same_cells}
 use Rattle.ca_quad.proofs.Growth.{below_or_not}
+use Rattle.ca_macro.specs.declared.write.written.Written.{Written}
 use Rattle.ca_macro.specs.Nodes.{Node, Leaf, Cells, Parts, level_of, Names, MayFollow}
 use Rattle.ca_macro.specs.Shown.{numbered, row_from, rows_from, state_of, square_of, squares_of}
 use Rattle.ca_macro.specs.Tidy.{AreInPlace, HasForm, is_empty}
-use Rattle.ca_macro.specs.inner.Written.{number_of, cells_of, IsPictureOf, IsNumberOf, IsNodeOf, IsGathered}
+use Rattle.ca_macro.specs.inner.Written.{number_of, node_of, cells_of, IsPictureOf, IsNumberOf, IsNodeOf, IsGathered}
 use Rattle.ca_macro.proofs.Following.{square_stays, square_last, all_append}
 
 -- ---- places in lists of nodes
@@ -51,6 +53,12 @@ names_low [] level (suc i) h = absurd cc
 names_low (n ∷ ns) level (suc zero) h = omega arith
 names_low (n ∷ ns) level (suc (suc i)) h = let r = names_low ns level (suc i) h in omega arith
 
+-- what holds of each number of these nodes holds of those of a node's parts
+pub each_part : (ns : List Node) (level nw ne sw se : ℕ) → MayFollow ns (Parts level nw ne sw se) → (P : ℕ → Type 0) → ((n : ℕ) → n ≤ length ns → P n) → P nw × P ne × P sw × P se
+each_part ns level nw ne sw se h P each =
+    let low = names_low ns (level - 1) in
+    (each nw (low nw h.1.0), each ne (low ne h.1.1.0), each sw (low sw h.1.1.1.0), each se (low se h.1.1.1.1.0))
+
 get_last : (ns : List Node) (n : Node) → slice_get (ns ++ n ∷ []) (length ns) ≡ Some n
 get_last [] n = refl
 get_last (m ∷ ns) n = get_last ns n
@@ -66,12 +74,8 @@ square_of_stays : (ns ms : List Node) (node : Node) → MayFollow ns node → sq
 square_of_stays ns ms (Leaf rows) h = refl
 square_of_stays ns ms (Cells nw ne sw se) h = refl
 square_of_stays ns ms (Parts level nw ne sw se) h =
-    let low = names_low ns (level - 1) in
-    let a = square_stays ns ms nw (low nw h.1.0) in
-    let b = square_stays ns ms ne (low ne h.1.1.0) in
-    let c = square_stays ns ms sw (low sw h.1.1.1.0) in
-    let d = square_stays ns ms se (low se h.1.1.1.1.0) in
-    rw (a, b, c, d) refl
+    let e = each_part ns level nw ne sw se h (λ n. numbered (squares_of (ns ++ ms)) n ≡ numbered (squares_of ns) n) (square_stays ns ms) in
+    rw (e.0, e.1, e.2, e.3) refl
 
 -- what has a number shows what its node shows
 pub square_at : (ns : List Node) (i : ℕ) (d : Node) → AreInPlace [] ns → i < length ns → numbered (squares_of ns) (suc i) ≡ square_of (squares_of ns) (slice_index_or ns i d)
@@ -155,6 +159,14 @@ last_number kept states ns id node h = record {
 }
 
 -- ---- a node is put after the others
+
+-- the nodes that are written with one more, and its number
+pub written_more : (old new : List Written) (node : Written) (number : ℕ) → new ≡ old ++ node ∷ [] → number ≡ length new → (map node_of new ≡ map node_of old ++ node_of node ∷ []) × (suc (length (map node_of old)) ≡ number)
+written_more old new node number more last =
+    let nodes = ap (map node_of) more ∙ map-append node_of old (node ∷ []) in
+    let count = ap length more ∙ length-append old (node ∷ []) in
+    let same = length-map old node_of in
+    (nodes, omega arith)
 
 module _ (kept : List Kept) (sound : IsSound kept) (states : ℕ) (ns : List Node) (old new : List (ℕ × ℕ)) (id : ℕ) (node : Node) (known : IsIn kept id)
     (gathered : IsGathered kept states ns old) (is : IsNodeOf kept states ns id node) (live : IsEmpty (cells_of kept id) → ⊥) (none : number_of old id ≡ None)

@@ -14,8 +14,9 @@ use Rattle.ca_quad.specs.Trees.{Shows, AreFour, IsTree, row_cells, from_corner, 
 use Rattle.ca_quad.proofs.Cells.{cell_ends, cells_stay, of_stays}
 use Rattle.ca_quad.proofs.Shown.{shows_stays}
 use Rattle.ca_macro.specs.declared.read.squares.Squares.{Squares}
-use Rattle.ca_macro.specs.Nodes.{Node, Leaf, Cells, level_of, Names}
+use Rattle.ca_macro.specs.Nodes.{Node, Leaf, Cells, Parts, level_of, Names, IsLevel, MayFollow}
 use Rattle.ca_macro.specs.Shown.{state_of, rows_from, joined, numbered, square_of, squares_after, squares_of, centred, rooted, picture_of}
+use Rattle.ca_macro.specs.Faults.{HasBadPart}
 use Rattle.ca_macro.specs.inner.Leaves.{leaf_bits}
 use Rattle.ca_macro.specs.inner.Numbers.{kept_of}
 use Rattle.ca_macro.specs.inner.Reading.{Draws, AreDrawn, AreEmpties, AreSquares, IsPart}
@@ -197,6 +198,17 @@ part_drawn old new sound grows nodes level n empty (Some id) none h = draws_stay
 pub part_named : (store : List Kept) (nodes : List Node) (level n : ℕ) (part : Option ℕ) → IsPart store nodes level n part → Names nodes level n
 part_named store nodes level n None h = subst (Names nodes level) (sym h) tt
 part_named store nodes level n (Some id) h = h.0
+
+-- a square may follow the nodes that its four parts are
+pub parts_follow : (store : List Kept) (nodes : List Node) (level nw ne sw se : ℕ) (a b c d : Option ℕ) → IsLevel level
+    → IsPart store nodes (level - 1) nw a × IsPart store nodes (level - 1) ne b × IsPart store nodes (level - 1) sw c × IsPart store nodes (level - 1) se d → MayFollow nodes (Parts level nw ne sw se)
+parts_follow store nodes level nw ne sw se a b c d l are =
+    let low = level - 1 in
+    (l, (part_named store nodes low nw a are.0, (part_named store nodes low ne b are.1, (part_named store nodes low sw c are.2, (part_named store nodes low se d are.3, tt)))))
+
+-- the first number that names no part comes after those that do
+pub first_bad : (nodes : List Node) (level : ℕ) (good : List ℕ) (number : ℕ) (more : List ℕ) (P : ℕ → Type 0) → AllByRecursion (Names nodes level) good → P number → HasBadPart nodes level (good ++ number ∷ more) P
+first_bad nodes level good number more P named holds = record { good = good; number = number; more = more; spelled = refl; named = named; holds = holds }
 
 module _ (store : List Kept) (half_level a b c d : ℕ) (p q r s : Picture)
     (da : Draws store (record { root = a; level = half_level }) p) (db : Draws store (record { root = b; level = half_level }) q)

@@ -6,7 +6,8 @@ use Rattle.std.proofs.lemmas.Bool.{cases_Bool, and_from}
 use Rattle.ca_plane.specs.Plane.{cell}
 use Rattle.ca_quad.specs.Squares.{dot, together}
 use Rattle.ca_quad.specs.Trees.{IsEmpty}
-use Rattle.ca_quad.proofs.Cells.{Ends, together_ends, same_nw, same_ne, same_sw, same_se}
+use Rattle.ca_quad.specs.inner.Measure.{Ends}
+use Rattle.ca_quad.proofs.Cells.{together_ends, same_nw, same_ne, same_sw, same_se}
 use Rattle.ca_macro.specs.Nodes.{Node, Leaf, Cells, Parts, level_of, Names, MayFollow}
 use Rattle.ca_macro.specs.Shown.{numbered, square_of, squares_of, state_of}
 use Rattle.ca_macro.specs.Tidy.{AreInPlace, HasForm, is_empty}

@@ -14,7 +14,7 @@ use Rattle.ca_macro.specs.Nodes.{Node, Leaf, Cells, Parts, level_of, Names, MayF
 use Rattle.ca_macro.specs.Shown.{numbered, squares_of, centred, rooted, picture_of, state_of}
 use Rattle.ca_macro.specs.Tidy.{lowest_level, IsLeastLevel, AreInPlace, HasForm, is_empty, parts_of, walks_after, walk_of, each_once, tidy_lines, IsTidy}
 use Rattle.ca_macro.proofs.Following.{walk_to, walk_stays, walk_last, walks_length}
-use Rattle.ca_macro.proofs.Gathering.{dead_square, four_dead, in_place_at, names_low, split_at}
+use Rattle.ca_macro.proofs.Gathering.{dead_square, four_dead, in_place_at, each_part, split_at}
 use Rattle.ca_macro.proofs.Roots.{last_node}
 use Rattle.ca_macro.proofs.NodeCells.{AreWell, node_at, Follows, is_node, cells_at, in_leaf, node_cells, is_named, shown, cells_are, dead_number}
 
@@ -124,6 +124,18 @@ module _ (states : ℕ) (ns ms : List Node) (v : AreWell states ns) (w : AreWell
             (λ x y. sym (cells_are states ns v i a.0 x y) ∙ s.2 x y ∙ cells_are states ms w j b.0 x y),
       )
 
+  -- what holds of 0 and 0, and of two nodes where it holds of their parts, holds of all numbers of squares with the same cells
+  same_below : (R : ℕ → ℕ → Type 0) → R 0 0
+      → ((i j : ℕ) → i < length ns → j < length ms → ((level m n : ℕ) → m ≤ i → Same ns ms level m n → R m n) → (level : ℕ) × Same ns ms level (suc i) (suc j) → Alike ns ms (node_at ns i) (node_at ms j) → R (suc i) (suc j))
+      → (most level m n : ℕ) → m ≤ most → Same ns ms level m n → R m n
+  same_below R none step most level zero zero h s = none
+  same_below R none step most level zero (suc j) h s = absurd (matched level zero (suc j) s)
+  same_below R none step most level (suc i) zero h s = absurd (matched level (suc i) zero s)
+  same_below R none step zero level (suc i) (suc j) h s = absurd (omega arith)
+  same_below R none step (suc most) level (suc i) (suc j) h s =
+      let m = matched level (suc i) (suc j) s in
+      step i j m.0 m.1 (λ l a b k. same_below R none step most l a b (omega arith)) (level, s) m.2
+
 -- ---- in one list of nodes, a square has one number
 
 same_parts : (k level nw ne sw se a b c d : ℕ) → k ≡ level → nw ≡ a → ne ≡ b → sw ≡ c → se ≡ d → Parts k nw ne sw se ≡ Parts level a b c d
@@ -156,18 +168,10 @@ module _ (states : ℕ) (ns : List Node) (v : AreWell states ns) where
         ]
       ]
 
-  number_below : (most level m n : ℕ) → m ≤ most → Same ns ns level m n → m ≡ n
-  number_below most level zero zero h s = refl
-  number_below most level zero (suc j) h s = absurd (matched states ns ns v v level zero (suc j) s)
-  number_below most level (suc i) zero h s = absurd (matched states ns ns v v level (suc i) zero s)
-  number_below zero level (suc i) (suc j) h s = absurd (omega arith)
-  number_below (suc most) level (suc i) (suc j) h s =
-      let m = matched states ns ns v v level (suc i) (suc j) s in
-      let node = one_node ns ns i (node_at ns i) (node_at ns j) (λ l a b k. number_below most l a b (omega arith)) (is_node states ns v i m.0).follows m.2 in
-      ap suc (one_place i j m.0 m.1 node)
-
   pub one_number : (level m n : ℕ) → Same ns ns level m n → m ≡ n
-  one_number level m n = number_below m level m n (omega arith)
+  one_number level m n s =
+      same_below states ns ns v v (λ m n. m ≡ n) refl
+      (λ i j h k part same alike. ap suc (one_place i j h k (one_node ns ns i (node_at ns i) (node_at ns j) part (is_node states ns v i h).follows alike))) m level m n (omega arith) s
 
   one_level : (k level i : ℕ) → Names ns k (suc i) → Names ns level (suc i) → k ≡ level
   one_level k level i a b = same_Some k level (sym a ∙ b)
@@ -180,12 +184,8 @@ parts_stay : (front rest : List Node) (node : Node) → MayFollow front node
 parts_stay front rest (Leaf rows) h = refl
 parts_stay front rest (Cells nw ne sw se) h = refl
 parts_stay front rest (Parts level nw ne sw se) h =
-    let low = names_low front (level - 1) in
-    let a = walk_stays front rest nw (low nw h.1.0) in
-    let b = walk_stays front rest ne (low ne h.1.1.0) in
-    let c = walk_stays front rest sw (low sw h.1.1.1.0) in
-    let d = walk_stays front rest se (low se h.1.1.1.1.0) in
-    rw (a, b, c, d) refl
+    let e = each_part front level nw ne sw se h (λ n. numbered (walks_after [] (front ++ rest)) n ≡ numbered (walks_after [] front) n) (walk_stays front rest) in
+    rw (e.0, e.1, e.2, e.3) refl
 
 -- the node with a number is walked to after its parts
 walk_at : (ns : List Node) (i : ℕ) → AreInPlace [] ns → i < length ns → numbered (walks_after [] ns) (suc i) ≡ flat_map (numbered (walks_after [] ns)) (parts_of (node_at ns i)) ++ suc i ∷ []
@@ -237,17 +237,14 @@ module _ (states : ℕ) (ns ms : List Node) (v : AreWell states ns) (w : AreWell
       (zip_append Meets (first_walk sw) (second_walk c) _ _ (part (k - 1) sw c f.3.1 h.3)
       (zip_append Meets (first_walk se) (second_walk d) [] [] (part (k - 1) se d f.4.1 h.4) tt)))
 
-  walked_below : (most level m n : ℕ) → m ≤ most → Same ns ms level m n → AllZip Meets (first_walk m) (second_walk n)
-  walked_below most level zero zero h s = tt
-  walked_below most level zero (suc j) h s = absurd (matched states ns ms v w level zero (suc j) s)
-  walked_below most level (suc i) zero h s = absurd (matched states ns ms v w level (suc i) zero s)
-  walked_below zero level (suc i) (suc j) h s = absurd (omega arith)
-  walked_below (suc most) level (suc i) (suc j) h s =
-      let m = matched states ns ms v w level (suc i) (suc j) s in
-      let parts = parts_walked i (node_at ns i) (node_at ms j) (λ l a b k. walked_below most l a b (omega arith)) (is_node states ns v i m.0).follows m.2 in
-      subst (λ l. AllZip Meets l (second_walk (suc j))) (sym (walk_at ns i v.in_place m.0))
-      (subst (λ l. AllZip Meets (flat_map first_walk (parts_of (node_at ns i)) ++ suc i ∷ []) l) (sym (walk_at ms j w.in_place m.1))
-      (zip_append Meets (flat_map first_walk (parts_of (node_at ns i))) (flat_map second_walk (parts_of (node_at ms j))) (suc i ∷ []) (suc j ∷ []) parts ((level, s), tt)))
+  walked : (level m n : ℕ) → Same ns ms level m n → AllZip Meets (first_walk m) (second_walk n)
+  walked level m n s =
+      same_below states ns ms v w (λ m n. AllZip Meets (first_walk m) (second_walk n)) tt
+      (λ i j h k part same alike.
+      let parts = parts_walked i (node_at ns i) (node_at ms j) part (is_node states ns v i h).follows alike in
+      subst (λ l. AllZip Meets l (second_walk (suc j))) (sym (walk_at ns i v.in_place h))
+      (subst (λ l. AllZip Meets (flat_map first_walk (parts_of (node_at ns i)) ++ suc i ∷ []) l) (sym (walk_at ms j w.in_place k))
+      (zip_append Meets (flat_map first_walk (parts_of (node_at ns i))) (flat_map second_walk (parts_of (node_at ms j))) (suc i ∷ []) (suc j ∷ []) parts (same, tt)))) m level m n (omega arith) s
 
   -- ---- each number meets one
 
@@ -340,7 +337,7 @@ module _ (states : ℕ) (ns ms : List Node) (v : AreWell states ns) (w : AreWell
 one_list : (states : ℕ) (ns ms : List Node) → AreWell states ns → AreWell states ms → (level : ℕ) → Same ns ms level (length ns) (length ms)
     → each_once (walk_of ns) ≡ range_with_len 1 (length ns) → each_once (walk_of ms) ≡ range_with_len 1 (length ms) → ns ≡ ms
 one_list states ns ms v w level same first second =
-    let met = once_meet states ns ms v w (walk_of ns) (walk_of ms) (walked_below states ns ms v w (length ns) level (length ns) (length ms) (omega arith) same) in
+    let met = once_meet states ns ms v w (walk_of ns) (walk_of ms) (walked states ns ms v w level (length ns) (length ms) same) in
     let ranges : AllZip (Meet ns ms) (range_with_len 1 (length ns)) (range_with_len 1 (length ms)) =
     subst (λ l. AllZip (Meet ns ms) l (range_with_len 1 (length ms))) first (subst (λ l. AllZip (Meet ns ms) (each_once (walk_of ns)) l) second met) in
     let all = range_meet states ns ms v w 1 (length ns) (length ms) ranges in
@@ -424,32 +421,32 @@ root_form : (states : ℕ) (ns : List Node) (root : Node) → ns ≡ root ∷ []
 root_form states ns root single h = let whole : AllByRecursion (HasForm states) (root ∷ []) = subst (AllByRecursion (HasForm states)) single h in whole.0
 
 module _ (t u : List ℕ) (cells : ℤ → ℤ → ℕ) (rule_text : List ℕ) (generation states : ℕ) (p : IsTidy t cells rule_text generation states) (q : IsTidy u cells rule_text generation states) where
-  level_same : level_of p.root ≡ level_of q.root
-  level_same = one_least states cells (level_of p.root) (level_of q.root) p.level q.level
+  level_same : level_of p.tidy.root ≡ level_of q.tidy.root
+  level_same = one_least states cells (level_of p.tidy.root) (level_of q.tidy.root) p.tidy.level q.tidy.level
 
-  root_same : AreWell states p.nodes → AreWell states q.nodes → Same p.nodes q.nodes (level_of p.root) (length p.nodes) (length q.nodes)
+  root_same : AreWell states p.nodes → AreWell states q.nodes → Same p.nodes q.nodes (level_of p.tidy.root) (length p.nodes) (length q.nodes)
   root_same v w =
-      let a = root_named p.nodes p.root p.root_is_last in
-      let b = root_named q.nodes q.root q.root_is_last in
-      let second = λ (x y : ℕ). root_cells q.nodes q.root cells q.root_is_last q.shown x y in
+      let a = root_named p.nodes p.tidy.root p.tidy.root_is_last in
+      let b = root_named q.nodes q.tidy.root q.tidy.root_is_last in
+      let second = λ (x y : ℕ). root_cells q.nodes q.tidy.root cells q.tidy.root_is_last q.tidy.shown x y in
       let here : (l : ℕ) → ℕ → ℤ = λ l x. pos x +ℤ neg_ℤ (pos (2 ^ (l - 1))) in (
         a.1,
         subst (λ l. Names q.nodes l (length q.nodes)) (sym level_same) b.1,
-        λ x y. root_cells p.nodes p.root cells p.root_is_last p.shown x y ∙ ap (λ l. cells (here l x) (here l y)) level_same ∙ sym (second x y),
+        λ x y. root_cells p.nodes p.tidy.root cells p.tidy.root_is_last p.tidy.shown x y ∙ ap (λ l. cells (here l x) (here l y)) level_same ∙ sym (second x y),
       )
 
-  nodes_same : IsKind states p.nodes p.root → IsKind states q.nodes q.root → p.nodes ≡ q.nodes
-  nodes_same (inl v) (inl w) = one_list states p.nodes q.nodes v w (level_of p.root) (root_same v w) p.order q.order
+  nodes_same : IsKind states p.nodes p.tidy.root → IsKind states q.nodes q.tidy.root → p.nodes ≡ q.nodes
+  nodes_same (inl v) (inl w) = one_list states p.nodes q.nodes v w (level_of p.tidy.root) (root_same v w) p.tidy.order q.tidy.order
   nodes_same (inl v) (inr (single, e)) =
-      absurd (not_nothing states cells p.nodes p.root v p.root_is_last p.shown (λ x y. q.shown x y ∙ nothing_shown q.nodes q.root single e x y))
+      absurd (not_nothing states cells p.nodes p.tidy.root v p.tidy.root_is_last p.tidy.shown (λ x y. q.tidy.shown x y ∙ nothing_shown q.nodes q.tidy.root single e x y))
   nodes_same (inr (single, e)) (inl w) =
-      absurd (not_nothing states cells q.nodes q.root w q.root_is_last q.shown (λ x y. p.shown x y ∙ nothing_shown p.nodes p.root single e x y))
+      absurd (not_nothing states cells q.nodes q.tidy.root w q.tidy.root_is_last q.tidy.shown (λ x y. p.tidy.shown x y ∙ nothing_shown p.nodes p.tidy.root single e x y))
   nodes_same (inr (first, e)) (inr (second, f)) =
-      let roots = one_empty states p.root q.root (root_in_place p.nodes p.root first p.in_place) (root_in_place q.nodes q.root second q.in_place)
-      (root_form states p.nodes p.root first p.forms) (root_form states q.nodes q.root second q.forms) p.level.allowed level_same e f in
+      let roots = one_empty states p.tidy.root q.tidy.root (root_in_place p.nodes p.tidy.root first p.tidy.in_place) (root_in_place q.nodes q.tidy.root second q.tidy.in_place)
+      (root_form states p.nodes p.tidy.root first p.tidy.forms) (root_form states q.nodes q.tidy.root second q.tidy.forms) p.tidy.level.allowed level_same e f in
       first ∙ ap (λ n. n ∷ []) roots ∙ sym second
 
   pub one_tidy : t ≡ u
   one_tidy =
-      let nodes = nodes_same (kind states p.nodes p.root p.in_place p.forms p.distinct p.empties) (kind states q.nodes q.root q.in_place q.forms q.distinct q.empties) in
+      let nodes = nodes_same (kind states p.nodes p.tidy.root p.tidy.in_place p.tidy.forms p.tidy.distinct p.tidy.empties) (kind states q.nodes q.tidy.root q.tidy.in_place q.tidy.forms q.tidy.distinct q.tidy.empties) in
       p.spelled ∙ ap (λ ns. flat_map (λ line. line ++ 10 ∷ []) (tidy_lines rule_text generation ns)) nodes ∙ sym q.spelled

@@ -12,9 +12,9 @@ use Rattle.ca_plane.specs.Plane.{Picture, cell, shifted}
 use Rattle.ca_plane.proofs.Shifts.{cell-shifted}
 use Rattle.ca_quad.specs.Squares.{dot, together}
 use Rattle.ca_quad.specs.Trees.{from_corner, row_cells}
-use Rattle.ca_quad.proofs.Cells.{Ends, dot_ends, together_ends}
+use Rattle.ca_quad.specs.inner.Measure.{Ends}
+use Rattle.ca_quad.proofs.Cells.{in_nw, in_ne, in_sw, in_se, dot_ends, together_ends}
 use Rattle.ca_quad.proofs.Growth.{below_or_not}
-use Rattle.ca_quad.proofs.Walks.{in_nw, in_ne, in_sw, in_se}
 use Rattle.ca_macro.specs.Shown.{row_from, rows_from, state_of, joined}
 use Rattle.ca_macro.specs.inner.Written.{row_of, IsPictureOf}
 use Rattle.ca_macro.proofs.Following.{all_append}

@@ -13,14 +13,15 @@ use Rattle.ca_quad.specs.declared.tree.Tree.{Tree}
 use Rattle.ca_quad.specs.Squares as squares
 use Rattle.ca_quad.specs.Trees.{from_corner, IsEmpty, IsTree, cell}
 use Rattle.ca_quad.specs.Trimmed.{IsTrimmed}
-use Rattle.ca_quad.proofs.Cells.{Ends, cell_ends}
+use Rattle.ca_quad.specs.inner.Measure.{Ends}
+use Rattle.ca_quad.proofs.Cells.{cell_ends}
 use Rattle.ca_quad.proofs.Differ.{cell_at}
 use Rattle.ca_quad.proofs.Growth.{below_or_not}
 use Rattle.ca_macro.specs.Nodes.{Node, Cells, Parts, level_of}
 use Rattle.ca_macro.specs.Shown.{numbered, squares_of, centred, rooted, picture_of}
 use Rattle.ca_macro.specs.Pattern.{AreInRange}
-use Rattle.ca_macro.specs.Tidy.{lowest_level, Fits, IsLeastLevel, walks_after, each_once}
-use Rattle.ca_macro.specs.inner.Written.{cells_of, IsPictureOf, IsNumberOf, IsGathered, GoesOn, empty_root, AreTidyNodes}
+use Rattle.ca_macro.specs.Tidy.{lowest_level, Fits, IsLeastLevel, walks_after, each_once, AreTidyNodes}
+use Rattle.ca_macro.specs.inner.Written.{cells_of, IsPictureOf, IsNumberOf, IsGathered, GoesOn, empty_root}
 use Rattle.ca_macro.proofs.Gathering.{corner_zero}
 
 -- ---- where the live cells of a tree are

@@ -14,10 +14,10 @@ use Rattle.ca_macro.specs.File.{Rule, Generation, Adds, added, LinesSay, last_ru
 use Rattle.ca_macro.specs.Shown.{rooted, picture_of}
 use Rattle.ca_macro.specs.Limits.{IsWithinRange}
 use Rattle.ca_macro.specs.Pattern.{AreInRange, Holds}
-use Rattle.ca_macro.specs.Tidy.{AreInPlace, HasForm, node_text, generation_lines, tidy_lines, IsTidy}
+use Rattle.ca_macro.specs.Tidy.{AreInPlace, HasForm, node_text, generation_lines, tidy_lines, IsTidy, AreTidyNodes}
 use Rattle.ca_plane.specs.Puts.{Puts}
 use Rattle.ca_macro.specs.declared.write.written.Written.{Written}
-use Rattle.ca_macro.specs.inner.Written.{node_of, AreTidyNodes}
+use Rattle.ca_macro.specs.inner.Written.{node_of}
 use Rattle.ca_macro.proofs.Roots.{least_as}
 use Rattle.ca_macro.proofs.Gathering.{names_low}
 use Rattle.ca_macro.proofs.Pictures.{NoneDead, shifted_live}
@@ -163,30 +163,36 @@ module _ (text : List ℕ) (cells : ℤ → ℤ → ℕ) (rule : List ℕ) (gene
       let a = line_some (tidy_lines rule generation t.nodes) in
       let b = count_nodes rule generation t.nodes in
       let c = ap length t.spelled in
-      is_file states text rule generation t.nodes word low (omega arith) t.in_place t.forms t.spelled
+      is_file states text rule generation t.nodes word low (omega arith) t.tidy.in_place t.tidy.forms t.spelled
 
   pub tidy_holds : Holds (tidy_file t.nodes rule generation) cells rule generation
-  tidy_holds = record { shown = λ x y. sym (t.shown x y); rule_is = refl; generation_is = refl }
+  tidy_holds = record { shown = λ x y. sym (t.tidy.shown x y); rule_is = refl; generation_is = refl }
 
   pub tidy_within : AreInRange cells → IsWithinRange (tidy_file t.nodes rule generation)
-  tidy_within range = picture_in_range t.nodes cells range t.shown
+  tidy_within range = picture_in_range t.nodes cells range t.tidy.shown
 
 -- ---- the text that is written
+
+-- the nodes of cells are those of the same cells
+pub tidy_nodes_as : (states : ℕ) (other cells : ℤ → ℤ → ℕ) (ns : List Node) → ((x y : ℤ) → other x y ≡ cells x y) → AreTidyNodes states other ns → AreTidyNodes states cells ns
+tidy_nodes_as states other cells ns same a = record {
+  root = a.root;
+  shown = λ x y. sym (same x y) ∙ a.shown x y;
+  root_is_last = a.root_is_last;
+  level = least_as states _ other cells same a.level;
+  in_place = a.in_place;
+  forms = a.forms;
+  distinct = a.distinct;
+  empties = a.empties;
+  order = a.order;
+}
 
 pub tidy_text : (none text rule : List ℕ) (other cells : ℤ → ℤ → ℕ) (generation states : ℕ) (given ns : List Written) → none ≡ [] → given ≡ ns
     → Puts none text (flat_map (λ line. line ++ 10 ∷ []) (tidy_lines rule generation (map node_of given))) → ((x y : ℤ) → other x y ≡ cells x y) → AreTidyNodes states other (map node_of ns)
     → IsTidy text cells rule generation states
 tidy_text none text rule other cells generation states given ns empty same puts shown a = record {
   nodes = map node_of ns;
-  root = a.root;
-  shown = λ x y. sym (shown x y) ∙ a.shown x y;
-  root_is_last = a.root_is_last;
-  level = least_as states _ other cells shown a.level;
-  in_place = a.in_place;
-  forms = a.forms;
-  distinct = a.distinct;
-  empties = a.empties;
-  order = a.order;
+  tidy = tidy_nodes_as states other cells (map node_of ns) shown a;
   spelled = puts.whole ∙ ap (λ l. l ++ flat_map (λ line. line ++ 10 ∷ []) (tidy_lines rule generation (map node_of given))) empty
       ∙ ap (λ l. flat_map (λ line. line ++ 10 ∷ []) (tidy_lines rule generation (map node_of l))) same;
 }

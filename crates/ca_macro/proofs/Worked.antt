@@ -1,6 +1,6 @@
 -- Means for the worked examples: what tests by computation find.
-use Rattle.std.proofs.Common.{◌≡◌, ◌≢◌, ℕ, zero, suc, ◌+◌, decimal, ◌<◌, lit≤, lit<, arith, length, slice_index_or, Bool, true, false, ◌&&◌, inl, inr, List, [], ◌∷◌, ◌++◌, map, codes, refl, sym, ap, ap₂, subst, ◌∙◌, if◌then◌else◌}
-use Rattle.std.specs.List.{AllByRecursion, AllPairs, AllZip, list_all, join_with_byte}
+use Rattle.std.proofs.Common.{◌≡◌, ◌≢◌, ℕ, zero, suc, ◌+◌, decimal, ◌<◌, lit≤, lit<, arith, length, slice_index_or, Bool, true, false, ◌&&◌, ◌⊎◌, Some, None, inl, inr, List, [], ◌∷◌, ◌++◌, map, codes, refl, sym, ap, ap₂, subst, ◌∙◌, if◌then◌else◌}
+use Rattle.std.specs.List.{AllByRecursion, AllPairs, AllZip, list_all, join_with_byte, last_or, range_with_len}
 use Rattle.std.specs.Ordering.{int_eq}
 use Rattle.std.proofs.lemmas.Bool.{and_parts, cases_Bool}
 use Rattle.std.proofs.lemmas.Fmt.{decimal_digit}
@@ -9,10 +9,11 @@ use Rattle.ca_plane.specs.Plane.{Picture, cell}
 use Rattle.ca_plane.proofs.Pictures.{place-from_true}
 use Rattle.ca_quad.specs.Trimmed.{IsWithin}
 use Rattle.ca_macro.specs.declared.fault.MacroFault.TheVariants.{Forward}
-use Rattle.ca_macro.specs.Nodes.{Node, Leaf, rows_of}
+use Rattle.ca_macro.specs.Nodes.{Node, Leaf, level_of, rows_of}
 use Rattle.ca_macro.specs.File.{Adds, IsNumber, begins_macro}
 use Rattle.ca_macro.specs.Faults.{HasLine, HasBadByte, AreMisspelled, AreFaulty}
-use Rattle.ca_macro.specs.Tidy.{Fits, numbers_text}
+use Rattle.ca_macro.specs.Shown.{picture_of}
+use Rattle.ca_macro.specs.Tidy.{Fits, IsLeastLevel, AreInPlace, HasForm, is_empty, walk_of, each_once, numbers_text, tidy_lines, IsTidy}
 use Rattle.ca_macro.specs.Examples.{text_of}
 use Rattle.ca_macro.specs.inner.Leaves.{is_leaf, is_live}
 use Rattle.ca_macro.proofs.Leaves.{leaf_found, no_leaf}
@@ -146,3 +147,25 @@ texts_are (n ∷ ns) h = ap₂ (λ x xs. x ∷ xs) (ap (join_with_byte 32) (digi
 pub spelled_by : (lines nodes : List (List ℕ)) → AllByRecursion (AllByRecursion (λ n. n < 10)) nodes
     → text_of (lines ++ map digits_text nodes) ≡ text_of (lines ++ map numbers_text nodes)
 spelled_by lines nodes h = ap (λ texts. text_of (lines ++ texts)) (texts_are nodes h)
+
+-- ---- tidy texts
+
+-- a tidy text whose picture, root, order and spelling are found by computing
+pub tidy_found : (text : List ℕ) (cells : Picture) (rule_text : List ℕ) (states : ℕ) (nodes : List Node) (root : Node) → cells ≡ picture_of nodes → last_or None nodes ≡ Some root
+    → each_once (walk_of nodes) ≡ range_with_len 1 (length nodes) → IsLeastLevel states (cell cells) (level_of root) → AreInPlace [] nodes → AllByRecursion (HasForm states) nodes → Differ nodes
+    → AllByRecursion (λ n. is_empty n ≡ false) nodes ⊎ (nodes ≡ root ∷ []) → text ≡ text_of (tidy_lines rule_text 0 nodes) → IsTidy text (cell cells) rule_text 0 states
+tidy_found text cells rule_text states nodes root same last order level in_place forms differ empties spelled = record {
+  nodes = nodes;
+  tidy = record {
+    root = root;
+    shown = λ x y. ap (λ (p : Picture). cell p x y) same;
+    root_is_last = last;
+    level = level;
+    in_place = in_place;
+    forms = forms;
+    distinct = pairs_found nodes differ;
+    empties = empties;
+    order = order;
+  };
+  spelled = spelled;
+}

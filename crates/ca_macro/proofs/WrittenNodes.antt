@@ -10,7 +10,8 @@ use Rattle.ca_quad.specs.declared.node.Node.{Node as Kept}
 use Rattle.ca_quad.specs.Squares as squares
 use Rattle.ca_quad.specs.Squares.{dot, together, IsOf}
 use Rattle.ca_quad.specs.Trees.{IsIn, IsEmpty, AreQuarters, row_cells}
-use Rattle.ca_quad.proofs.Cells.{Ends, cell_ends, at_nw, at_ne, at_sw, at_se}
+use Rattle.ca_quad.specs.inner.Measure.{Ends}
+use Rattle.ca_quad.proofs.Cells.{cell_ends, at_nw, at_ne, at_sw, at_se}
 use Rattle.ca_quad.proofs.Growth.{below_or_not}
 use Rattle.ca_macro.specs.Nodes.{Node, Leaf, Cells, Parts, Names}
 use Rattle.ca_macro.specs.Shown.{numbered, joined, square_of, squares_after, squares_of, state_of}

@@ -1,5 +1,5 @@
 -- Small macrocell texts, for which the definitions are worked out.
-use Rattle.std.specs.Prelude.{ℕ, pos, negsuc, List, [], ◌∷◌, ◌++◌, true, false, codes}
+use Rattle.std.specs.Prelude.{ℕ, ℤ, pos, negsuc, ◌+ℤ◌, List, [], ◌∷◌, ◌++◌, true, false, codes}
 use Rattle.std.specs.List.{flat_map}
 use Rattle.ca_plane.specs.Plane.{Picture}
 use Rattle.ca_macro.specs.Nodes.{Node, Leaf, Cells, Parts}
@@ -17,16 +17,24 @@ after_first line = text_of (codes "[M2]" ∷ line ∷ [])
 abbrev pub glider_text : List ℕ
 glider_text = text_of (codes "[M2] (cafile)" ∷ codes "#R B3/S23" ∷ codes ".*$..*$***$$$$$$" ∷ codes "4 0 0 0 1" ∷ [])
 
+-- a file of a leaf, the south-east part of its root
+abbrev pub leaf_file : Node → ℕ → File
+leaf_file leaf generation = record { nodes = leaf ∷ Parts 4 0 0 0 1 ∷ []; rule_text = codes "B3/S23"; generation = generation }
+
+-- a glider, the upper left corner of the box round it at x and y
+abbrev pub glider_at : ℤ → ℤ → Picture
+glider_at x y =
+    (record { y = y; x = x +ℤ pos 1 }, 1) ∷ (record { y = y +ℤ pos 1; x = x +ℤ pos 2 }, 1) ∷ (record { y = y +ℤ pos 2; x = x }, 1)
+    ∷ (record { y = y +ℤ pos 2; x = x +ℤ pos 1 }, 1) ∷ (record { y = y +ℤ pos 2; x = x +ℤ pos 2 }, 1) ∷ []
+
 abbrev pub glider_leaf : Node
 glider_leaf = Leaf ((false ∷ true ∷ []) ∷ (false ∷ false ∷ true ∷ []) ∷ (true ∷ true ∷ true ∷ []) ∷ [] ∷ [] ∷ [] ∷ [] ∷ [] ∷ [])
 
 abbrev pub glider_file : File
-glider_file = record { nodes = glider_leaf ∷ Parts 4 0 0 0 1 ∷ []; rule_text = codes "B3/S23"; generation = 0 }
+glider_file = leaf_file glider_leaf 0
 
 abbrev pub glider : Picture
-glider =
-    (record { y = pos 0; x = pos 1 }, 1) ∷ (record { y = pos 1; x = pos 2 }, 1)
-    ∷ (record { y = pos 2; x = pos 0 }, 1) ∷ (record { y = pos 2; x = pos 1 }, 1) ∷ (record { y = pos 2; x = pos 2 }, 1) ∷ []
+glider = glider_at (pos 0) (pos 0)
 
 -- the same cut off inside its leaf
 abbrev pub cut_text : List ℕ
@@ -55,13 +63,11 @@ golly_leaf = Leaf (
     [] ∷ [] ∷ (false ∷ false ∷ true ∷ []) ∷ (false ∷ false ∷ false ∷ true ∷ []) ∷ (false ∷ true ∷ true ∷ true ∷ []) ∷ [] ∷ [] ∷ [] ∷ [])
 
 abbrev pub golly_file : File
-golly_file = record { nodes = golly_leaf ∷ Parts 4 0 0 0 1 ∷ []; rule_text = codes "B3/S23"; generation = 4 }
+golly_file = leaf_file golly_leaf 4
 
 -- it lies one cell further right and two further down
 abbrev pub golly_glider : Picture
-golly_glider =
-    (record { y = pos 2; x = pos 2 }, 1) ∷ (record { y = pos 3; x = pos 3 }, 1)
-    ∷ (record { y = pos 4; x = pos 1 }, 1) ∷ (record { y = pos 4; x = pos 2 }, 1) ∷ (record { y = pos 4; x = pos 3 }, 1) ∷ []
+golly_glider = glider_at (pos 1) (pos 2)
 
 -- a cross of five cells of state 2, under a rule of three states
 abbrev pub cross_text : List ℕ

@@ -6,7 +6,8 @@ use Rattle.ca_quad.specs.declared.node.Node.{Node}
 use Rattle.ca_quad.specs.Trees as trees
 use Rattle.ca_quad.specs.Trimmed.{IsTrimmed}
 use Rattle.ca_macro.specs.declared.pattern.MacroPattern.{MacroPattern}
-use Rattle.ca_macro.specs.File.{File}
+use Rattle.ca_macro.specs.File.{File, IsFile}
+use Rattle.ca_macro.specs.Limits.{IsWithinRange}
 use Rattle.ca_macro.specs.Shown.{picture_of}
 
 -- the pattern has the file's cells, rule text and generation; its tree has the least level, and the file's picture has states from 1
@@ -18,6 +19,10 @@ pub record IsPatternOf (nodes : List Node) (file : File) (pattern : MacroPattern
   pub states : IsPicture (picture_of file.nodes)
   pub rule_text : pattern.rule_text.items ≡ file.rule_text
   pub generation : pattern.generation ≡ file.generation
+
+-- the text is a file whose live cells are in range, and it holds this pattern
+abbrev pub HoldsMacrocellPattern : List Node → List ℕ → MacroPattern → Type 0
+HoldsMacrocellPattern nodes bytes pattern = (file : File) × IsFile bytes file × IsWithinRange file × IsPatternOf nodes file pattern
 
 -- every live cell is in range
 abbrev pub AreInRange : (ℤ → ℤ → ℕ) → Type 0

@@ -80,9 +80,8 @@ abbrev pub tidy_lines : List ℕ → ℕ → List Node → List (List ℕ)
 tidy_lines rule_text generation nodes =
     codes "[M2] (cafile)" ∷ (codes "#R " ++ rule_text) ∷ (generation_lines generation ++ map node_text nodes)
 
--- the one text of a plane, given by its cells at every x and y, its rule text, its generation and its rule's number of states
-pub record IsTidy (text : List ℕ) (cells : ℤ → ℤ → ℕ) (rule_text : List ℕ) (generation states : ℕ) : Type 0 where
-  pub nodes : List Node
+-- the nodes of a plane, given by its cells at every x and y, as they are written under a rule with this number of states
+pub record AreTidyNodes (states : ℕ) (cells : ℤ → ℤ → ℕ) (nodes : List Node) : Type 0 where
   pub root : Node
   pub shown : (x y : ℤ) → cells x y ≡ cell (picture_of nodes) x y
   pub root_is_last : last_or None nodes ≡ Some root
@@ -95,5 +94,10 @@ pub record IsTidy (text : List ℕ) (cells : ℤ → ℤ → ℕ) (rule_text : L
   pub empties : AllByRecursion (λ n. is_empty n ≡ false) nodes ⊎ (nodes ≡ root ∷ [])
   -- the walk over the root comes to the nodes first in the order of their numbers
   pub order : each_once (walk_of nodes) ≡ range_with_len 1 (length nodes)
+
+-- the one text of a plane, its rule text, its generation and its rule's number of states
+pub record IsTidy (text : List ℕ) (cells : ℤ → ℤ → ℕ) (rule_text : List ℕ) (generation states : ℕ) : Type 0 where
+  pub nodes : List Node
+  pub tidy : AreTidyNodes states cells nodes
   -- each line ends with LF
   pub spelled : text ≡ flat_map (λ line. line ++ 10 ∷ []) (tidy_lines rule_text generation nodes)

@@ -2,13 +2,17 @@
 
 ghost use Rattle.std.specs.Prelude.{◌≡◌, ℕ, List, [], ◌∷◌, codes};
 ghost use Rattle.ca_plane.specs.Plane.{cell};
-ghost use Rattle.ca_macro.specs.declared.fault.MacroFault.TheVariants.{NotMacro, Timeline, Syntax, Forward, Level, LeafSize, GenTooLarge};
+ghost use Rattle.ca_macro.specs.declared.fault.MacroFault.TheVariants.{NotMacro, Timeline, Syntax, Forward};
+ghost use Rattle.ca_macro.specs.declared.fault.MacroFault.TheVariants.{Level, LeafSize, GenTooLarge};
 ghost use Rattle.ca_macro.specs.Nodes.{Parts};
 ghost use Rattle.ca_macro.specs.File.{IsFile};
 ghost use Rattle.ca_macro.specs.Shown.{picture_of};
 ghost use Rattle.ca_macro.specs.Faults.{IsFirstFault, IsFaultyLine};
 ghost use Rattle.ca_macro.specs.Tidy.{IsTidy};
-ghost use Rattle.ca_macro.specs.Examples.{text_of, after_first, glider_text, glider_file, glider, cut_text, cut_file, cut, cut_numbers_text, golly_text, golly_file, golly_glider, cross_text, cross_file, cross, empty_text, empty_text_of_states, mixed_text, mixed_file, mixed};
+ghost use Rattle.ca_macro.specs.Examples.{text_of, after_first, glider_text, glider_file, glider, cut_text};
+ghost use Rattle.ca_macro.specs.Examples.{cut_file, cut, cut_numbers_text, golly_text, golly_file};
+ghost use Rattle.ca_macro.specs.Examples.{golly_glider, cross_text, cross_file, cross, empty_text};
+ghost use Rattle.ca_macro.specs.Examples.{empty_text_of_states, mixed_text, mixed_file, mixed};
 
 /// What whole texts hold, and the pictures that they show.
 pub fn worked_files()
@@ -17,8 +21,10 @@ pub fn worked_files()
     ensures golly { IsFile golly_text golly_file × (picture_of golly_file.nodes ≡ golly_glider) }
     ensures cross { IsFile cross_text cross_file × (picture_of cross_file.nodes ≡ cross) }
     ensures mixed { IsFile mixed_text mixed_file × (picture_of mixed_file.nodes ≡ mixed) }
-    ensures no_node { IsFile (codes "[M2]") (record { nodes = []; rule_text = codes "B3/S23"; generation = 0 }) × (picture_of [] ≡ []) }
-    ensures highest { IsFile (after_first (codes "120 0 0 0 0")) (record { nodes = Parts 120 0 0 0 0 ∷ []; rule_text = codes "B3/S23"; generation = 0 })
+    ensures no_node { IsFile (codes "[M2]")
+        (record { nodes = []; rule_text = codes "B3/S23"; generation = 0 }) × (picture_of [] ≡ []) }
+    ensures highest { IsFile (after_first (codes "120 0 0 0 0"))
+        (record { nodes = Parts 120 0 0 0 0 ∷ []; rule_text = codes "B3/S23"; generation = 0 })
         × (picture_of (Parts 120 0 0 0 0 ∷ []) ≡ []) }
 {}
 
@@ -31,7 +37,8 @@ pub fn worked_faults()
     ensures later_number { IsFirstFault (after_first (codes "4 0 0 0 2")) Forward }
     ensures gap { IsFirstFault (text_of (codes "[M2]" ∷ codes "*$" ∷ codes "5 0 0 0 1" ∷ [])) Level }
     ensures level_first { IsFirstFault (text_of (codes "[M2]" ∷ codes "*$" ∷ codes "5 0 1 9 0" ∷ [])) Level }
-    ensures forward_first { IsFirstFault (text_of (codes "[M2]" ∷ codes "*$" ∷ codes "5 0 9 1 0" ∷ [])) Forward }
+    ensures forward_first { IsFirstFault
+        (text_of (codes "[M2]" ∷ codes "*$" ∷ codes "5 0 9 1 0" ∷ [])) Forward }
     ensures too_high { IsFirstFault (after_first (codes "121 0 0 0 0")) Level }
     ensures no_level { IsFirstFault (after_first (codes "0 0 0 0 256")) Level }
     ensures ninth_cell { IsFirstFault (after_first (codes "*********$")) LeafSize }
@@ -44,7 +51,8 @@ pub fn worked_faults()
     ensures cut { IsFirstFault cut_numbers_text Syntax }
     ensures two_generations { IsFirstFault (after_first (codes "#G 4 5")) Syntax }
     ensures generation { IsFirstFault (after_first (codes "#G 9223372036854775808")) GenTooLarge }
-    ensures first_line { IsFirstFault (text_of (codes "[M2]" ∷ codes "4 0 0 0" ∷ codes "#FRAMES 2" ∷ [])) Syntax }
+    ensures first_line { IsFirstFault
+        (text_of (codes "[M2]" ∷ codes "4 0 0 0" ∷ codes "#FRAMES 2" ∷ [])) Syntax }
 {}
 
 /// The faulty lines of texts.
@@ -53,8 +61,10 @@ pub fn worked_faulty_lines()
     ensures no_text { IsFaultyLine [] 1 }
     ensures second_line { IsFaultyLine (after_first (codes "4 0 0 0 1")) 2 }
     ensures blank_lines_count { IsFaultyLine (text_of (codes "[M2]" ∷ [] ∷ [] ∷ codes "4 0 0 0 1" ∷ [])) 4 }
-    ensures comments_count { IsFaultyLine (text_of (codes "[M2]" ∷ codes "# a comment" ∷ codes "#R B3/S23" ∷ codes "4 0 0 0 1" ∷ [])) 4 }
-    ensures first_of_two { IsFaultyLine (text_of (codes "[M2]" ∷ codes "4 0 0 0" ∷ codes "#FRAMES 2" ∷ [])) 2 }
+    ensures comments_count { IsFaultyLine
+        (text_of (codes "[M2]" ∷ codes "# a comment" ∷ codes "#R B3/S23" ∷ codes "4 0 0 0 1" ∷ [])) 4 }
+    ensures first_of_two { IsFaultyLine
+        (text_of (codes "[M2]" ∷ codes "4 0 0 0" ∷ codes "#FRAMES 2" ∷ [])) 2 }
     ensures cut { IsFaultyLine cut_numbers_text 3 }
 {}
 

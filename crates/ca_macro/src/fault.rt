@@ -6,7 +6,8 @@ ghost use Rattle.ca_macro.specs.inner.Reading.{HasFaultOn, IsReadingFault};
 
 use thiserror::Error;
 
-/// What is wrong with a macrocell text: the first fault of its spelling, else a live cell that is out of range.
+/// What is wrong with a macrocell text: the first fault of its spelling, else a live cell that is out of
+/// range.
 #[derive(Clone, Copy, Debug, PartialEq, Eq, Error)]
 pub enum MacroFault {
     /// The text doesn't begin with `[M2]`.
@@ -38,8 +39,8 @@ pub enum MacroFault {
     Memory,
 }
 
-/// A fault, and the number of the line on which it stands, counted from 1: none for a live cell that is out of range, and
-/// for want of memory.
+/// A fault, and the number of the line on which it stands, counted from 1: none for a live cell that is out
+/// of range, and for want of memory.
 #[derive(Clone, Copy, Debug, PartialEq, Eq)]
 pub struct LineFault {
     pub fault: MacroFault,
@@ -49,7 +50,8 @@ pub struct LineFault {
 impl LineFault {
     /// What was met at the line with this number.
     pub(crate) fn at_line(fault: MacroFault, number: u64) -> LineFault
-        ensures { (bytes : List ℕ) → HasFaultOn bytes fault number → IsReadingFault bytes result.fault result.line }
+        ensures { (bytes : List ℕ) → HasFaultOn bytes fault number
+            → IsReadingFault bytes result.fault result.line }
     {
         let line = match fault {
             MacroFault::Memory => None,

@@ -19,8 +19,10 @@ pub fn one_first_fault()
 
 /// The first fault of a text is on one line, and a fault that is on a line is the first one.
 pub fn one_faulty_line()
-    ensures line { (bytes : List ℕ) (f : MacroFault) → IsFirstFault bytes f → (n : ℕ) × IsFirstFaultOn bytes f n }
-    ensures fault { (bytes : List ℕ) (f : MacroFault) (n : ℕ) → IsFirstFaultOn bytes f n → IsFirstFault bytes f }
+    ensures line { (bytes : List ℕ) (f : MacroFault) → IsFirstFault bytes f
+        → (n : ℕ) × IsFirstFaultOn bytes f n }
+    ensures fault { (bytes : List ℕ) (f : MacroFault) (n : ℕ) → IsFirstFaultOn bytes f n
+        → IsFirstFault bytes f }
     ensures one { (bytes : List ℕ) (m n : ℕ) → IsFaultyLine bytes m → IsFaultyLine bytes n → m ≡ n }
 {}
 
@@ -31,15 +33,18 @@ pub fn no_fault_in_a_file()
 
 /// Every text is a file, or has a first fault in its spelling.
 pub fn file_or_fault()
-    ensures { (bytes : List ℕ) → ((file : File) × IsFile bytes file) ⊎ ((f : MacroFault) × IsFirstFault bytes f) }
+    ensures { (bytes : List ℕ) → ((file : File) × IsFile bytes file)
+        ⊎ ((f : MacroFault) × IsFirstFault bytes f) }
 {}
 
 /// A text has one fault at most, besides `Memory`.
 pub fn one_fault()
-    ensures { (bytes : List ℕ) (f g : MacroFault) → f ≢ Memory → g ≢ Memory → IsFaultOf bytes f → IsFaultOf bytes g → f ≡ g }
+    ensures { (bytes : List ℕ) (f g : MacroFault) → f ≢ Memory → g ≢ Memory → IsFaultOf bytes f
+        → IsFaultOf bytes g → f ≡ g }
 {}
 
 /// A text that is a file within the range has no fault but `Memory`.
 pub fn no_fault_within_range()
-    ensures { (bytes : List ℕ) (file : File) (f : MacroFault) → IsFile bytes file → IsWithinRange file → f ≢ Memory → IsFaultOf bytes f → ⊥ }
+    ensures { (bytes : List ℕ) (file : File) (f : MacroFault) → IsFile bytes file → IsWithinRange file
+        → f ≢ Memory → IsFaultOf bytes f → ⊥ }
 {}

@@ -1,6 +1,7 @@
 //! The lines of a macrocell text, each read by itself. Nothing here takes memory.
 
-ghost use Rattle.std.specs.Prelude.{◌≡◌, ◌<◌, ◌≤◌, not, ℕ, List, [], ◌∷◌, MatchOption, IfOk, IfErr, true, length};
+ghost use Rattle.std.specs.Prelude.{◌≡◌, ◌<◌, ◌≤◌, not, ℕ, List, [], ◌∷◌, MatchOption, IfOk, IfErr, true};
+ghost use Rattle.std.specs.Prelude.{length};
 ghost use Rattle.std.specs.List.{AllByRecursion};
 ghost use Rattle.ca_plane.specs.Bytes.{is_end_or, is_line_end, Every, words_of};
 ghost use Rattle.ca_macro.specs.Nodes.{Node};
@@ -42,7 +43,8 @@ fn state(number: u64) -> Option<u8>
 fn states(numbers: Numbers) -> Option<[u8; 4]>
     ensures { MatchOption result
         (AllByRecursion (λ s. s ≤ 255) (numbers.nw ∷ numbers.ne ∷ numbers.sw ∷ numbers.se ∷ []) → ⊥)
-        (λ states. AllByRecursion (λ s. s ≤ 255) states × (states ≡ numbers.nw ∷ numbers.ne ∷ numbers.sw ∷ numbers.se ∷ [])) }
+        (λ states. AllByRecursion (λ s. s ≤ 255) states
+        × (states ≡ numbers.nw ∷ numbers.ne ∷ numbers.sw ∷ numbers.se ∷ [])) }
 {
     let nw = state(numbers.nw)?;
     let ne = state(numbers.ne)?;
@@ -88,7 +90,8 @@ fn leaf_line<'a>(word: &[u8], rest: &'a [u8]) -> Result<Line<'a>, MacroFault>
     requires begins { is_end_or is_leaf_byte word.now ≡ true }
     requires line { Every (λ b. not (is_line_end b)) rest.now }
     ensures read { IfOk result (λ l. Reads (word.now ∷ words_of rest.now) l) }
-    ensures fault { IfErr result (λ f. (earlier : List Node) → AreFaulty f earlier (word.now ∷ words_of rest.now)) }
+    ensures fault { IfErr result (λ f. (earlier : List Node)
+        → AreFaulty f earlier (word.now ∷ words_of rest.now)) }
 {
     let rows = leaf(word)?;
     match next_word(rest) {
@@ -101,8 +104,8 @@ fn leaf_line<'a>(word: &[u8], rest: &'a [u8]) -> Result<Line<'a>, MacroFault>
 ///
 /// # Errors
 ///
-/// What is wrong with the line, whatever comes before it: `Timeline`, `Syntax`, `LeafSize`, `GenTooLarge`, and
-/// `Level` for a level of 0 or above 120.
+/// What is wrong with the line, whatever comes before it: `Timeline`, `Syntax`, `LeafSize`, `GenTooLarge`,
+/// and `Level` for a level of 0 or above 120.
 pub(crate) fn read_line(line: &[u8]) -> Result<Line<'_>, MacroFault>
     requires { Every (λ b. not (is_line_end b)) line.now }
     ensures read { IfOk result (λ l. Reads (words_of line.now) l) }

@@ -2,8 +2,8 @@
 
 use ca_quad::Tree;
 
-/// A pattern that was read from a text into a store: the tree of its cells, of the smallest level, its rule text, and
-/// its generation count.
+/// A pattern that was read from a text into a store: the tree of its cells, of the smallest level, its rule
+/// text, and its generation count.
 #[derive(Drop)]
 pub struct MacroPattern {
     pub tree: Tree,

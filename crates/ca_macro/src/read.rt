@@ -5,11 +5,11 @@ ghost use Rattle.ca_plane.specs.Bytes.{IsWord};
 ghost use Rattle.ca_plane.specs.Limits.{generation_limit};
 ghost use Rattle.ca_quad.specs.Sound.{IsSound, Grows};
 ghost use Rattle.ca_macro.specs.declared.fault.MacroFault.TheVariants.{Range, Memory};
-ghost use Rattle.ca_macro.specs.File.{Said, File, IsFile, begins_macro};
+ghost use Rattle.ca_macro.specs.File.{Said, begins_macro};
 ghost use Rattle.ca_macro.specs.Limits.{IsWithinRange, IsOutOfRange};
 ghost use Rattle.ca_macro.specs.Faults.{IsFaultOf, IsFaultOn};
-ghost use Rattle.ca_macro.specs.Pattern.{IsPatternOf};
-ghost use Rattle.ca_macro.specs.inner.Reading.{IsReading, IsReadingFault, file_of};
+ghost use Rattle.ca_macro.specs.Pattern.{IsPatternOf, HoldsMacrocellPattern};
+ghost use Rattle.ca_macro.specs.inner.Reading.{HoldsReading, IsReading, IsReadingFault, file_of};
 
 mod empties;
 mod range;
@@ -32,7 +32,7 @@ fn read_lines<'a>(
     bytes: &'a [u8],
 ) -> Result<Reading<'a>, LineFault>
     requires { begins_macro bytes.now ≡ true }
-    ensures found { IfOk result (λ r. (said : List Said) × IsFile bytes.now (file_of said) × IsReading store.new said r) }
+    ensures found { IfOk result (HoldsReading store.new bytes.now) }
     ensures fault { IfErr result (λ f. IsReadingFault bytes.now f.fault f.line) }
     ensures grows { Grows store.old store.new }
 {
@@ -56,13 +56,14 @@ fn read_lines<'a>(
 ///
 /// # Errors
 ///
-/// The first fault of its spelling, and its line; and `Memory` where a growth is refused for the node of a good line.
+/// The first fault of its spelling, and its line; and `Memory` where a growth is refused for the node of a
+/// good line.
 pub(crate) fn read_text<'a>(
     alloc: Global,
     store: &mut Store,
     bytes: &'a [u8],
 ) -> Result<Reading<'a>, LineFault>
-    ensures found { IfOk result (λ r. (said : List Said) × IsFile bytes.now (file_of said) × IsReading store.new said r) }
+    ensures found { IfOk result (HoldsReading store.new bytes.now) }
     ensures fault { IfErr result (λ f. IsReadingFault bytes.now f.fault f.line) }
     ensures grows { Grows store.old store.new }
 {
@@ -104,24 +105,25 @@ fn pattern_of(
     })
 }
 
-/// Reads a macrocell text (Golly Help, File Formats; docs/FORMATS.md) into the store: the pattern that it holds, the centre of
-/// its root at the corner between the cells (-1, -1) and (0, 0).
+/// Reads a macrocell text (Golly Help, File Formats; docs/FORMATS.md) into the store: the pattern that it
+/// holds, the centre of its root at the corner between the cells (-1, -1) and (0, 0).
 ///
-/// Each node becomes a square of the store as its line comes, so the work is in proportion to the text, however many
-/// cells it shows.
+/// Each node becomes a square of the store as its line comes, so the work is in proportion to the text,
+/// however many cells it shows.
 ///
 /// # Errors
 ///
-/// The fault of the first faulty line, and that line; else `Range` where a live cell isn't from -2^60 to 2^60 - 1 in both
-/// directions; and `Memory` where a growth is refused, at a good line that adds a node after good lines, or after the last
-/// line of a good text. After a refusal the store is as before or has more squares.
+/// The fault of the first faulty line, and that line; else `Range` where a live cell isn't from -2^60 to
+/// 2^60 - 1 in both directions; and `Memory` where a growth is refused, at a good line that adds a node after
+/// good lines, or after the last line of a good text. After a refusal the store is as before or has more
+/// squares.
 pub fn read_macro_with_line(
     alloc: Global,
     store: &mut Store,
     bytes: &[u8],
 ) -> Result<MacroPattern, LineFault>
     // What is read is what the text holds, and each live cell is in range.
-    ensures found { IfOk result (λ p. (file : File) × IsFile bytes.now file × IsWithinRange file × IsPatternOf store.new file p) }
+    ensures found { IfOk result (HoldsMacrocellPattern store.new bytes.now) }
     ensures generation { IfOk result (λ p. p.generation < generation_limit) }
     ensures rule { IfOk result (λ p. IsWord p.rule_text.items) }
     // A text that is refused has this fault, on this line.
@@ -147,7 +149,7 @@ pub fn read_macro(
     bytes: &[u8],
 ) -> Result<MacroPattern, MacroFault>
     // What is read is what the text holds, and each live cell is in range.
-    ensures found { IfOk result (λ p. (file : File) × IsFile bytes.now file × IsWithinRange file × IsPatternOf store.new file p) }
+    ensures found { IfOk result (HoldsMacrocellPattern store.new bytes.now) }
     ensures generation { IfOk result (λ p. p.generation < generation_limit) }
     ensures rule { IfOk result (λ p. IsWord p.rule_text.items) }
     // A text that is refused has this fault.

@@ -9,8 +9,8 @@ use ca_plane::Memory;
 use ca_quad::Store;
 use std::alloc::Global;
 
-/// The number, counted from 1, of a text's first faulty line. None where the spelling has no fault: a live cell that is
-/// out of range makes no line faulty.
+/// The number, counted from 1, of a text's first faulty line. None where the spelling has no fault: a live
+/// cell that is out of range makes no line faulty.
 ///
 /// The text is read into a store of its own, so time and memory are in proportion to the text.
 ///
@@ -18,7 +18,8 @@ use std::alloc::Global;
 ///
 /// `Memory` where a growth is refused. That can happen only at a good line that adds a node after good lines.
 pub fn faulty_line(alloc: Global, bytes: &[u8]) -> Result<Option<u64>, Memory>
-    ensures line { IfOk result (λ line. MatchOption line ((f : MacroFault) → IsFirstFault bytes.now f → ⊥) (IsFaultyLine bytes.now)) }
+    ensures line { IfOk result (λ line. MatchOption line ((f : MacroFault) → IsFirstFault bytes.now f → ⊥)
+        (IsFaultyLine bytes.now)) }
     ensures memory { IfErr result (λ _. HasLine bytes.now AddNode) }
 {
     let mut store = Store::new(alloc);

@@ -8,21 +8,24 @@ ghost use Rattle.ca_macro.specs.Limits.{IsWithinRange};
 ghost use Rattle.ca_macro.specs.Pattern.{AreInRange, Holds};
 ghost use Rattle.ca_macro.specs.Tidy.{IsTidy};
 
-/// A tidy text is a macrocell file of its cells, its rule text and its generation, and it is within the range of the reader where the
-/// cells are.
-/// The text is shorter than 2^64 bytes. Of longer ones this is false, since a decimal form has at most 64 digits.
+/// A tidy text is a macrocell file of its cells, its rule text and its generation, and it is within the range
+/// of the reader where the cells are. The text is shorter than 2^64 bytes. Of longer ones this is false,
+/// since a decimal form has at most 64 digits.
 pub fn tidy_means()
-    ensures file { (text : List ℕ) (cells : ℤ → ℤ → ℕ) (rule_text : List ℕ) (generation states : ℕ) → IsTidy text cells rule_text generation states
+    ensures file { (text : List ℕ) (cells : ℤ → ℤ → ℕ) (rule_text : List ℕ) (generation states : ℕ)
+        → IsTidy text cells rule_text generation states
         → IsWord rule_text → generation < generation_limit → length text < 2 ^ 64
         → (file : File) × IsFile text file × Holds file cells rule_text generation }
-    ensures range { (text : List ℕ) (cells : ℤ → ℤ → ℕ) (rule_text : List ℕ) (generation states : ℕ) → IsTidy text cells rule_text generation states
+    ensures range { (text : List ℕ) (cells : ℤ → ℤ → ℕ) (rule_text : List ℕ) (generation states : ℕ)
+        → IsTidy text cells rule_text generation states
         → IsWord rule_text → generation < generation_limit → length text < 2 ^ 64 → AreInRange cells
         → (file : File) × IsFile text file × IsWithinRange file × Holds file cells rule_text generation }
 {}
 
-/// A plane, with its rule text, generation and number of states, has one tidy text at most. The plane is given by its
-/// cells at every x and y.
+/// A plane, with its rule text, generation and number of states, has one tidy text at most. The plane is
+/// given by its cells at every x and y.
 pub fn one_tidy_text()
-    ensures { (t u : List ℕ) (cells : ℤ → ℤ → ℕ) (rule_text : List ℕ) (generation states : ℕ) → IsTidy t cells rule_text generation states
+    ensures { (t u : List ℕ) (cells : ℤ → ℤ → ℕ) (rule_text : List ℕ) (generation states : ℕ)
+        → IsTidy t cells rule_text generation states
         → IsTidy u cells rule_text generation states → t ≡ u }
 {}

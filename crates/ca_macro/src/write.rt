@@ -23,13 +23,15 @@ mod numbers;
 mod root;
 mod written;
 
-/// A tidy text of a tree's cells, with their rule text, their generation count, and their rule's number of states.
+/// A tidy text of a tree's cells, with their rule text, their generation count, and their rule's number of
+/// states.
 ///
-/// The first line is `[M2] (cafile)`, the second `#R ` and the rule text, and where the generation isn't 0 the third is `#G ` and
-/// the generation. Then comes a line for each square but the empty ones, each square once, its parts before it, so that the
-/// root is last: of two states the 8 by 8 squares as leaves, of more the 2 by 2 ones as four states. The root has the
-/// smallest level that holds every live cell, at least 4 where there are two states, and else at least 1. The empty
-/// plane is `4 0 0 0 0` or `1 0 0 0 0`. Each line ends with LF.
+/// The first line is `[M2] (cafile)`, the second `#R ` and the rule text, and where the generation isn't 0
+/// the third is `#G ` and the generation. Then comes a line for each square but the empty ones, each square
+/// once, its parts before it, so that the root is last: of two states the 8 by 8 squares as leaves, of more
+/// the 2 by 2 ones as four states. The root has the smallest level that holds every live cell, at least 4
+/// where there are two states, and else at least 1. The empty plane is `4 0 0 0 0` or `1 0 0 0 0`. Each line
+/// ends with LF.
 ///
 /// # Errors
 ///
@@ -47,7 +49,8 @@ pub fn write_macro(
     requires states { (x y : ℤ) → cell store.old tree x y < states }
     requires rule { IsWord rule_text.now }
     requires generation { generation < generation_limit }
-    ensures tidy { IfOk result (λ text. IsTidy text.items (cell store.old tree) rule_text.now generation states) }
+    ensures tidy { IfOk result (λ text.
+        IsTidy text.items (cell store.old tree) rule_text.now generation states) }
     // It means the cells, the rule text and the generation, and the reader takes it.
     ensures means { IfOk result (λ text. (file : File) × IsFile text.items file × IsWithinRange file
         × Holds file (cell store.old tree) rule_text.now generation) }
@@ -82,16 +85,20 @@ pub fn write_macro_to<W: Write>(
     requires rule { IsWord rule_text.now }
     requires generation { generation < generation_limit }
     // The tidy text is written whole, and no failure is counted.
-    ensures all { OnOk result ((text : List ℕ) × IsTidy text (cell store.old tree) rule_text.now generation states
+    ensures all { OnOk result ((text : List ℕ)
+        × IsTidy text (cell store.old tree) rule_text.now generation states
         × Appends (W.contents out.old.inner) (W.contents out.new.inner) text) }
     // What is written means the cells, the rule text and the generation, and the reader takes it.
-    ensures means { OnOk result ((text : List ℕ) × Appends (W.contents out.old.inner) (W.contents out.new.inner) text
-        × ((file : File) × IsFile text file × IsWithinRange file × Holds file (cell store.old tree) rule_text.now generation)) }
+    ensures means { OnOk result ((text : List ℕ)
+        × Appends (W.contents out.old.inner) (W.contents out.new.inner) text
+        × ((file : File) × IsFile text file × IsWithinRange file
+        × Holds file (cell store.old tree) rule_text.now generation)) }
     ensures kept { OnOk result (out.new.failures ≡ out.old.failures) }
     // Without memory the device is as it was.
     ensures memory { IsErrOf result WriteFault.Memory → out.new ≡ out.old }
     // A write failed after some first part of the tidy text, which isn't the whole.
-    ensures front { IsErrOf result WriteFault.Write → (text : List ℕ) × IsTidy text (cell store.old tree) rule_text.now generation states
+    ensures front { IsErrOf result WriteFault.Write → (text : List ℕ)
+        × IsTidy text (cell store.old tree) rule_text.now generation states
         × AppendsPrefix (W.contents out.old.inner) (W.contents out.new.inner) text }
     ensures counted { IsErrOf result WriteFault.Write → Rises out.old.failures out.new.failures }
     // Every old square stays.

@@ -1,5 +1,5 @@
 -- Cells of squares: where they end, that they stay, and that they tell the square.
-use Rattle.std.proofs.Common.{◌≡◌, ℕ, zero, suc, ◌+◌, ◌-◌, ◌<◌, ◌≤◌, ◌^◌, ◌⊎◌, inl, inr, true, false, ◌==◌, List, length, nat_lt, refl, sym, ap, subst, ◌∙◌, arith}
+use Rattle.std.proofs.Common.{◌≡◌, ℕ, zero, suc, ◌+◌, ◌-◌, ◌<◌, ◌≤◌, ◌^◌, inl, inr, true, false, ◌==◌, List, length, nat_lt, refl, sym, ap, subst, ◌∙◌, arith}
 use Rattle.std.proofs.lemmas.Bool.{cases_Bool}
 use Rattle.std.proofs.lemmas.Bool.Decides.{nat_tests}
 use Rattle.std.proofs.Math.Nat.{two-pow-succ}
@@ -8,43 +8,53 @@ use Rattle.ca_quad.specs.declared.square.Square.{Square}
 use Rattle.ca_quad.specs.declared.square.Square.TheVariants.{Four, Parts}
 use Rattle.ca_quad.specs.Squares.{square_of, level, IsOf, dot, together, cells_in, cell_of}
 use Rattle.ca_quad.specs.Sound.{IsSound, Grows}
+use Rattle.ca_quad.specs.inner.Measure.{Ends}
 use Rattle.ca_quad.specs.inner.Whole.{IsWhole}
 use Rattle.ca_quad.proofs.Growth.{below_or_not, square_stays}
 use Rattle.ca_quad.proofs.Views.{square_whole, known_by_square}
 
--- which quarter a cell is in
+-- the quarter in which a cell lies
 module _ (side : ℕ) (nw ne sw se : ℕ → ℕ → ℕ) (x y : ℕ) where
-  pub at_nw : x < side → y < side → together side nw ne sw se x y ≡ nw x y
-  at_nw h k =
+  pub in_nw : x < side → y < side → together side nw ne sw se x y ≡ nw x y
+  in_nw h k =
       let e : nat_lt x side ≡ true = grind (arith, nat_tests) in
       let f : nat_lt y side ≡ true = grind (arith, nat_tests) in
       rw (e, f) refl
 
-  pub at_ne : y < side → together side nw ne sw se (side + x) y ≡ ne x y
-  at_ne k =
-      let e : nat_lt (side + x) side ≡ false = grind (arith, nat_tests) in
+  pub in_ne : side ≤ x → y < side → together side nw ne sw se x y ≡ ne (x - side) y
+  in_ne h k =
+      let e : nat_lt x side ≡ false = grind (arith, nat_tests) in
       let f : nat_lt y side ≡ true = grind (arith, nat_tests) in
-      let g : side + x - side ≡ x = omega arith in
-      rw (e, f, g) refl
+      rw (e, f) refl
+
+  pub in_sw : x < side → side ≤ y → together side nw ne sw se x y ≡ sw x (y - side)
+  in_sw h k =
+      let e : nat_lt x side ≡ true = grind (arith, nat_tests) in
+      let f : nat_lt y side ≡ false = grind (arith, nat_tests) in
+      rw (e, f) refl
+
+  pub in_se : side ≤ x → side ≤ y → together side nw ne sw se x y ≡ se (x - side) (y - side)
+  in_se h k =
+      let e : nat_lt x side ≡ false = grind (arith, nat_tests) in
+      let f : nat_lt y side ≡ false = grind (arith, nat_tests) in
+      rw (e, f) refl
+
+-- and where it is counted from the corner of its quarter
+module _ (side : ℕ) (nw ne sw se : ℕ → ℕ → ℕ) (x y : ℕ) where
+  pub at_nw : x < side → y < side → together side nw ne sw se x y ≡ nw x y
+  at_nw = in_nw side nw ne sw se x y
+
+  from_side : (n : ℕ) → side + n - side ≡ n
+  from_side n = omega arith
+
+  pub at_ne : y < side → together side nw ne sw se (side + x) y ≡ ne x y
+  at_ne k = in_ne side nw ne sw se (side + x) y (omega arith) k ∙ ap (λ n. ne n y) (from_side x)
 
   pub at_sw : x < side → together side nw ne sw se x (side + y) ≡ sw x y
-  at_sw h =
-      let e : nat_lt x side ≡ true = grind (arith, nat_tests) in
-      let f : nat_lt (side + y) side ≡ false = grind (arith, nat_tests) in
-      let g : side + y - side ≡ y = omega arith in
-      rw (e, f, g) refl
+  at_sw h = in_sw side nw ne sw se x (side + y) h (omega arith) ∙ ap (sw x) (from_side y)
 
   pub at_se : together side nw ne sw se (side + x) (side + y) ≡ se x y
-  at_se =
-      let e : nat_lt (side + x) side ≡ false = grind (arith, nat_tests) in
-      let f : nat_lt (side + y) side ≡ false = grind (arith, nat_tests) in
-      let g : side + x - side ≡ x = omega arith in
-      let h : side + y - side ≡ y = omega arith in
-      rw (e, f, g, h) refl
-
--- every cell beyond the side is 0
-abbrev pub Ends : ℕ → (ℕ → ℕ → ℕ) → Type 0
-Ends side cells = (x y : ℕ) → (side ≤ x) ⊎ (side ≤ y) → cells x y ≡ 0
+  at_se = in_se side nw ne sw se (side + x) (side + y) (omega arith) (omega arith) ∙ rw (from_side x, from_side y) refl
 
 pub dot_ends : (state side : ℕ) → 1 ≤ side → Ends side (dot state)
 dot_ends state side h x y (inl p) = let e : (x == 0) ≡ false = grind (arith, nat_tests) in rw e refl
@@ -86,6 +96,10 @@ square_ends part side h ends (Parts k nw ne sw se) = together_ends side (part nw
 pub one_up : (k : ℕ) → 1 ≤ 2 ^ k
 one_up zero = omega arith
 one_up (suc k) = omega (arith, one_up k, two-pow-succ k)
+
+-- a side is twice that of the level below
+pub twice : (k : ℕ) → 1 ≤ k → 2 ^ k ≡ 2 ^ (k - 1) + 2 ^ (k - 1)
+twice k some = let next : suc (k - 1) ≡ k = omega arith in ap (λ n. 2 ^ n) (sym next) ∙ two-pow-succ (k - 1)
 
 pub cell_ends : (nodes : List Node) (k id : ℕ) → Ends (2 ^ k) (cell_of nodes k id)
 cell_ends nodes zero id = λ x y h. refl

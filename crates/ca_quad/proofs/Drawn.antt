@@ -18,8 +18,9 @@ use Rattle.ca_quad.specs.Trees.{IsIn, IsTree, from_corner, cell as tree_cell}
 use Rattle.ca_quad.specs.Expanded.{FitsPlane}
 use Rattle.ca_quad.specs.inner.Drawn.{cells_of, side_of, placed, IsNear, CanDraw, ArePartCorners, Agrees, IsLive, IsReady}
 use Rattle.ca_quad.proofs.Growth.{below_or_not}
-use Rattle.ca_quad.proofs.Cells.{Ends, cell_ends, dot_ends}
-use Rattle.ca_quad.proofs.Walks.{four_show, parts_show, in_nw, in_ne, in_sw, in_se}
+use Rattle.ca_quad.specs.inner.Measure.{Ends}
+use Rattle.ca_quad.proofs.Cells.{in_nw, in_ne, in_sw, in_se, cell_ends, dot_ends}
+use Rattle.ca_quad.proofs.Walks.{four_show, parts_show}
 use Rattle.ca_quad.proofs.Edges.{off_x, off_y}
 use Rattle.ca_quad.proofs.Boxes.{cell_at}
 
@@ -172,41 +173,28 @@ module _ (side : ℕ) (nw ne sw se : ℕ → ℕ → ℕ) where
         none : (x y : ℤ) → placed all at x y ≡ 0 → (placed nw at x y ≡ 0) × (placed ne cs.ne x y ≡ 0) × (placed sw cs.sw x y ≡ 0) × (placed se cs.se x y ≡ 0)
         none x y = none_live (placed all at x y) (placed nw at x y) (placed ne cs.ne x y) (placed sw cs.sw x y) (placed se cs.se x y) (placed_one x y)
 
-        pub can_nw : CanDraw nw side at
-        can_nw = record {
-          left = can.left;
+        -- whose corner lies so far east and south
+        can_part : (part : ℕ → ℕ → ℕ) (corner : Spot) (dx dy : ℕ) → dx ≤ side → dy ≤ side → corner.x ≡ at.x +ℤ pos dx → corner.y ≡ at.y +ℤ pos dy
+            → ((x y : ℤ) → placed all at x y ≡ 0 → placed part corner x y ≡ 0) → CanDraw part side corner
+        can_part part corner dx dy wide high is_x is_y dead = record {
+          left = omega (arith, ints, can.left);
           right = omega (arith, ints, can.right);
-          top = can.top;
+          top = omega (arith, ints, can.top);
           bottom = omega (arith, ints, can.bottom);
-          fits = λ x y h. can.fits x y (λ z. h (none x y z).0);
+          fits = λ x y h. can.fits x y (λ z. h (dead x y z));
         }
+
+        pub can_nw : CanDraw nw side at
+        can_nw = can_part nw at 0 0 (omega arith) (omega arith) (omega (arith, ints)) (omega (arith, ints)) (λ x y z. (none x y z).0)
 
         pub can_ne : CanDraw ne side cs.ne
-        can_ne = record {
-          left = omega (arith, ints, can.left, are.ne_x);
-          right = omega (arith, ints, can.right, are.ne_x);
-          top = omega (arith, ints, can.top, are.ne_y);
-          bottom = omega (arith, ints, can.bottom, are.ne_y);
-          fits = λ x y h. can.fits x y (λ z. h (none x y z).1);
-        }
+        can_ne = can_part ne cs.ne side 0 (omega arith) (omega arith) are.ne_x (omega (arith, ints, are.ne_y)) (λ x y z. (none x y z).1)
 
         pub can_sw : CanDraw sw side cs.sw
-        can_sw = record {
-          left = omega (arith, ints, can.left, are.sw_x);
-          right = omega (arith, ints, can.right, are.sw_x);
-          top = omega (arith, ints, can.top, are.sw_y);
-          bottom = omega (arith, ints, can.bottom, are.sw_y);
-          fits = λ x y h. can.fits x y (λ z. h (none x y z).2);
-        }
+        can_sw = can_part sw cs.sw 0 side (omega arith) (omega arith) (omega (arith, ints, are.sw_x)) are.sw_y (λ x y z. (none x y z).2)
 
         pub can_se : CanDraw se side cs.se
-        can_se = record {
-          left = omega (arith, ints, can.left, are.se_x);
-          right = omega (arith, ints, can.right, are.se_x);
-          top = omega (arith, ints, can.top, are.se_y);
-          bottom = omega (arith, ints, can.bottom, are.se_y);
-          fits = λ x y h. can.fits x y (λ z. h (none x y z).3);
-        }
+        can_se = can_part se cs.se side side (omega arith) (omega arith) are.se_x are.se_y (λ x y z. (none x y z).3)
 
 -- a square of cells, and one of four parts
 module _ (nodes : List Node) (id nw ne sw se : ℕ) (before : IsIn nodes id) where

@@ -6,7 +6,8 @@ use Rattle.ca_quad.specs.declared.node.Node.{Node}
 use Rattle.ca_quad.specs.declared.tree.Tree.{Tree}
 use Rattle.ca_quad.specs.Squares.{cell_of}
 use Rattle.ca_quad.specs.Trees.{Shows, IsEmpty, from_corner, cell}
-use Rattle.ca_quad.proofs.Cells.{Ends, cell_ends}
+use Rattle.ca_quad.specs.inner.Measure.{Ends}
+use Rattle.ca_quad.proofs.Cells.{cell_ends}
 
 -- before a square or after it
 abbrev pub IsOff : ℕ → ℤ → Type 0
@@ -20,12 +21,15 @@ module _ (cells : ℕ → ℕ → ℕ) (side : ℕ) (ends : Ends side cells) whe
   off_x (negsuc a) (pos b) h = refl
   off_x (negsuc a) (negsuc b) h = refl
 
-  pub off_y : (u v : ℤ) → IsOff side v → from_corner cells u v ≡ 0
-  off_y (pos a) (pos b) (inl h) = absurd (omega (arith, ints))
-  off_y (pos a) (pos b) (inr h) = ends a b (inr (omega (arith, ints)))
-  off_y (pos a) (negsuc b) h = refl
-  off_y (negsuc a) (pos b) h = refl
-  off_y (negsuc a) (negsuc b) h = refl
+-- where x and y change places
+turned : (cells : ℕ → ℕ → ℕ) (u v : ℤ) → from_corner cells u v ≡ from_corner (λ x y. cells y x) v u
+turned cells (pos a) (pos b) = refl
+turned cells (pos a) (negsuc b) = refl
+turned cells (negsuc a) (pos b) = refl
+turned cells (negsuc a) (negsuc b) = refl
+
+pub off_y : (cells : ℕ → ℕ → ℕ) (side : ℕ) → Ends side cells → (u v : ℤ) → IsOff side v → from_corner cells u v ≡ 0
+off_y cells side ends u v h = turned cells u v ∙ off_x (λ x y. cells y x) side (λ x y o. ends y x (elim o [ inl i ↦ inr i | inr i ↦ inl i ])) v u h
 
 module _ (nodes : List Node) (tree : Tree) (half : ℕ) (some : 1 ≤ tree.level) (e : half ≡ 2 ^ (tree.level - 1)) where
   tree_ends : Ends (half + half) (cell_of nodes tree.level tree.root)

@@ -1,16 +1,10 @@
--- The least boxes of squares that lie side by side, and of four that lie together.
-use Rattle.std.proofs.Common.{◌≡◌, ◌≢◌, ℕ, suc, ◌+◌, ◌-◌, ◌<◌, ◌≤◌, ◌^◌, min, max, ◌⊎◌, inl, inr, true, false, Option, Some, None, List, length, nat_lt, refl, sym, ap, subst, ◌∙◌, arith}
+-- The least boxes of squares that lie side by side.
+use Rattle.std.proofs.Common.{◌≡◌, ◌≢◌, ℕ, ◌+◌, ◌-◌, ◌<◌, ◌≤◌, ◌^◌, min, max, ◌⊎◌, inl, inr, true, false, Option, Some, None, nat_lt, refl, sym, subst, ◌∙◌, arith}
 use Rattle.std.proofs.lemmas.Bool.Decides.{nat_tests}
-use Rattle.std.proofs.Math.Nat.{two-pow-succ}
-use Rattle.ca_quad.specs.declared.node.Node.{Node}
-use Rattle.ca_quad.specs.declared.square.Square.TheVariants.{Parts}
 use Rattle.ca_quad.specs.declared.store.extent.Extent.{Extent}
-use Rattle.ca_quad.specs.Squares.{square_of, level, together, cell_of}
-use Rattle.ca_quad.specs.Sound.{HasParts}
 use Rattle.ca_quad.specs.Trees.{IsEmpty}
-use Rattle.ca_quad.specs.inner.Extent.{beside, IsExtent, IsExtentOf, IsBoxOf}
+use Rattle.ca_quad.specs.inner.Extent.{beside, IsExtent, IsExtentOf}
 use Rattle.ca_quad.proofs.Growth.{below_or_not}
-use Rattle.ca_quad.proofs.Walks.{parts_show}
 
 live_as : (a b : ℕ) → a ≡ b → b ≢ 0 → a ≢ 0
 live_as a b e h i = h (sym e ∙ i)
@@ -118,21 +112,3 @@ module _ (side rows : ℕ) (low : side ≤ 2 ^ 124) (w e : ℕ → ℕ → ℕ) 
       is_right = omega (arith, right_is, q.is_right);
       is_bottom = omega (arith, bottom, p.is_bottom, q.is_bottom);
     }
-
--- the box of a square is made of those of its parts
-module _ (nodes : List Node) (id m nw ne sw se : ℕ) (e : Parts m nw ne sw se ≡ square_of nodes id) (whole : HasParts nodes (length nodes) m nw ne sw se) where
-  pub box_of_parts : (side : ℕ) → side ≡ 2 ^ (m - 1) → (a b c d all : Option Extent) → IsBoxOf nodes nw a → IsBoxOf nodes ne b → IsBoxOf nodes sw c → IsBoxOf nodes se d
-      → ((o p q r : ℕ → ℕ → ℕ) → IsExtentOf o side side a → IsExtentOf p side side b → IsExtentOf q side side c → IsExtentOf r side side d
-      → IsExtentOf (together side o p q r) (side + side) (side + side) all)
-      → IsBoxOf nodes id all
-  box_of_parts side half a b c d all g h i j joined k of =
-      let some : 1 ≤ m = omega (arith, whole.least) in
-      let f : k ≡ m = sym of.is_level ∙ ap level (sym e) in
-      let next : suc (m - 1) ≡ k = omega arith in
-      let both : 2 ^ k ≡ side + side = ap (λ k. 2 ^ k) (sym next) ∙ (two-pow-succ (m - 1) ∙ ap (λ n. n + n) (sym half)) in
-      let part = cell_of nodes (m - 1) in
-      let fits : (id : ℕ) (found : Option Extent) → IsExtentOf (part id) (2 ^ (m - 1)) (2 ^ (m - 1)) found → IsExtentOf (part id) side side found
-      = λ id found h. subst (λ n. IsExtentOf (part id) n n found) (sym half) h in
-      let cells : cell_of nodes k id ≡ together side (part nw) (part ne) (part sw) (part se) = parts_show nodes id k of m nw ne sw se some e ∙ ap (λ n. together n (part nw) (part ne) (part sw) (part se)) (sym half) in
-      rw (cells, both)
-      (joined (part nw) (part ne) (part sw) (part se) (fits nw a (g (m - 1) whole.is_nw)) (fits ne b (h (m - 1) whole.is_ne)) (fits sw c (i (m - 1) whole.is_sw)) (fits se d (j (m - 1) whole.is_se)))

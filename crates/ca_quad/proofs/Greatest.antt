@@ -1,17 +1,15 @@
 -- The greatest state of four squares that lie together is the greatest of theirs.
-use Rattle.std.proofs.Common.{◌≡◌, ◌≢◌, ℕ, ◌+◌, ◌-◌, ◌<◌, ◌≤◌, ◌^◌, ◌⊎◌, inl, inr, max, ◌==◌, ◌&&◌, List, length, nat_lt, ℤ, pos, negsuc, ◌+ℤ◌, ◌-ℤ◌, Result, Ok, Err, IfOk, refl, sym, ◌∙◌, arith}
+use Rattle.std.proofs.Common.{◌≡◌, ◌≢◌, ℕ, ◌+◌, ◌-◌, ◌<◌, ◌≤◌, ◌^◌, ◌⊎◌, inl, inr, max, ◌==◌, ◌&&◌, List, nat_lt, ℤ, pos, negsuc, ◌+ℤ◌, ◌-ℤ◌, refl, sym, ◌∙◌, arith}
 use Rattle.std.proofs.lemmas.Bool.{cases_Bool}
 use Rattle.std.proofs.lemmas.Int.{ints}
 use Rattle.ca_quad.specs.declared.node.Node.{Node}
-use Rattle.ca_quad.specs.declared.square.Square.TheVariants.{Four, Parts}
 use Rattle.ca_quad.specs.declared.tree.Tree.{Tree}
-use Rattle.ca_quad.specs.Squares.{square_of, dot, together, cell_of}
-use Rattle.ca_quad.specs.Sound.{HasParts}
+use Rattle.ca_quad.specs.Squares.{dot, together, cell_of}
 use Rattle.ca_quad.specs.Trees.{from_corner, IsTree, cell}
 use Rattle.ca_quad.specs.inner.Greatest.{IsGreatest, IsGreatestOf}
-use Rattle.ca_quad.proofs.Cells.{at_nw, at_ne, at_sw, at_se, Ends, cell_ends, dot_ends}
+use Rattle.ca_quad.specs.inner.Measure.{Ends, IsJoined}
+use Rattle.ca_quad.proofs.Cells.{at_nw, at_ne, at_sw, at_se}
 use Rattle.ca_quad.proofs.Growth.{below_or_not}
-use Rattle.ca_quad.proofs.Walks.{four_show, parts_show}
 
 -- a live cell lies within the side
 pub live_within : (side : ℕ) (cells : ℕ → ℕ → ℕ) → Ends side cells → (x y : ℕ) → cells x y ≢ 0 → (x < side) × (y < side)
@@ -65,28 +63,15 @@ module _ (side : ℕ) (nw ne sw se : ℕ → ℕ → ℕ) (a b c d : ℕ) (is_nw
     greatest_together m e = record { most = no_more m e; shown = λ live. some_has m live (one_of_max a b c d m e) }
 
 -- one cell's greatest state is its own
-greatest_dot : (state : ℕ) → IsGreatest (dot state) state
+pub greatest_dot : (state : ℕ) → IsGreatest (dot state) state
 greatest_dot state = record {
   most = λ x y. elim (cases_Bool ((x == 0) && (y == 0))) [ inl f ↦ rw f (omega arith) | inr f ↦ rw f (omega arith) ];
   shown = λ live. (0, 0, refl);
 }
 
--- the greatest state of a square is that of its cells
-pub greatest_four : (nodes : List Node) (id nw ne sw se : ℕ) → Four nw ne sw se ≡ square_of nodes id → (m : ℕ) → m ≡ max (max nw ne) (max sw se) → IsGreatestOf nodes id m
-greatest_four nodes id nw ne sw se e m is k h =
-    let ends : (state : ℕ) → Ends 1 (dot state) = λ state. dot_ends state 1 (omega arith) in
-    rw (four_show nodes id k h nw ne sw se e)
-    (greatest_together 1 (dot nw) (dot ne) (dot sw) (dot se) nw ne sw se (greatest_dot nw) (greatest_dot ne) (greatest_dot sw) (greatest_dot se) (ends nw) (ends ne) (ends sw) m is)
-
--- or that of its parts
-module _ (nodes : List Node) (id l nw ne sw se : ℕ) (e : Parts l nw ne sw se ≡ square_of nodes id) (whole : HasParts nodes (length nodes) l nw ne sw se) where
-  pub greatest_parts : (a b c d m : ℕ) → IsGreatestOf nodes nw a → IsGreatestOf nodes ne b → IsGreatestOf nodes sw c → IsGreatestOf nodes se d → m ≡ max (max a b) (max c d) → IsGreatestOf nodes id m
-  greatest_parts a b c d m p q r s is k h =
-      let part = cell_of nodes (l - 1) in
-      let ends = cell_ends nodes (l - 1) in
-      rw (parts_show nodes id k h l nw ne sw se (omega (arith, whole.least)) e)
-      (greatest_together (2 ^ (l - 1)) (part nw) (part ne) (part sw) (part se) a b c d (p (l - 1) whole.is_nw) (q (l - 1) whole.is_ne) (r (l - 1) whole.is_sw) (s (l - 1) whole.is_se)
-      (ends nw) (ends ne) (ends sw) m is)
+-- of four squares that lie together, it is the greatest of theirs
+pub greatest_joined : (side a b c d m : ℕ) → m ≡ max (max a b) (max c d) → IsJoined (λ cells n s. IsGreatest cells s) side a b c d m
+greatest_joined side a b c d m e nw ne sw se i j k l p q r s = greatest_together side nw ne sw se a b c d p q r s i j k m e
 
 -- counted from the corner no state is greater
 from_corner_most : (cells : ℕ → ℕ → ℕ) (s : ℕ) → IsGreatest cells s → (u v : ℤ) → from_corner cells u v ≤ s
@@ -97,17 +82,15 @@ from_corner_most cells s is (negsuc a) (negsuc b) = omega arith
 
 -- the greatest state of a tree is that of its root
 module _ (nodes : List Node) (tree : Tree) (is : IsTree nodes tree) where
-  pub tree_most : {E : Type 0} (r : Result ℕ E) → IfOk r (IsGreatestOf nodes tree.root) → IfOk r (λ s. (x y : ℤ) → cell nodes tree x y ≤ s)
-  tree_most (Ok s) h = λ x y.
+  pub tree_most : (s : ℕ) → IsGreatestOf nodes tree.root s → (x y : ℤ) → cell nodes tree x y ≤ s
+  tree_most s h x y =
       from_corner_most (cell_of nodes tree.level tree.root) s (h tree.level is) (x +ℤ pos (2 ^ (tree.level - 1))) (y +ℤ pos (2 ^ (tree.level - 1)))
-  tree_most (Err e) h = tt
 
   back : (n half : ℕ) → pos n -ℤ pos half +ℤ pos half ≡ pos n
   back n half = omega (arith, ints)
 
-  pub tree_shown : {E : Type 0} (r : Result ℕ E) → IfOk r (IsGreatestOf nodes tree.root) → IfOk r (λ s. s ≢ 0 → (x : ℤ) × (y : ℤ) × (cell nodes tree x y ≡ s))
-  tree_shown (Ok s) h = λ live.
+  pub tree_shown : (s : ℕ) → IsGreatestOf nodes tree.root s → s ≢ 0 → (x : ℤ) × (y : ℤ) × (cell nodes tree x y ≡ s)
+  tree_shown s h live =
       let half = 2 ^ (tree.level - 1) in
       let (a, b, here) = (h tree.level is).shown live in
       (pos a -ℤ pos half, pos b -ℤ pos half, rw (back a half, back b half) here)
-  tree_shown (Err e) h = tt

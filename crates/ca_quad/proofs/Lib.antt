@@ -4,6 +4,7 @@ pub mod Views
 pub mod Cells
 pub mod Joined
 pub mod Walks
+pub mod Measures
 pub mod Edges
 pub mod Windows
 pub mod EightRows

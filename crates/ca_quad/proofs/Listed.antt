@@ -16,8 +16,7 @@ use Rattle.ca_quad.specs.declared.node.Node.{Node}
 use Rattle.ca_quad.specs.declared.tree.Tree.{Tree}
 use Rattle.ca_quad.specs.Squares.{cell_of}
 use Rattle.ca_quad.specs.Trees.{from_corner, IsTree, cell}
-use Rattle.ca_quad.specs.inner.Found.{IsCountOf}
-use Rattle.ca_quad.specs.inner.Population.{sum_below, live, live_cells}
+use Rattle.ca_quad.specs.inner.Population.{sum_below, live, live_cells, IsCountOf}
 use Rattle.ca_quad.proofs.Cells.{cell_ends}
 use Rattle.ca_quad.proofs.Growth.{below_or_not}
 use Rattle.ca_quad.proofs.Population.{sum_split, sum_same, count_exact}

@@ -1,13 +1,16 @@
 -- The middle of a square of sixteen parts, of which all but the inner four may be empty.
-use Rattle.std.proofs.Common.{◌≡◌, ℕ, ◌+◌, ◌-◌, ◌≤◌, ◌^◌, suc, List, slice_index, refl, sym, ap, subst, ◌∙◌, arith}
-use Rattle.std.proofs.Math.Nat.{two-pow-succ}
+use Rattle.std.proofs.Common.{◌≡◌, ℕ, ◌+◌, ◌-◌, ◌^◌, suc, List, [], ◌∷◌, length, slice_index, refl, sym, ap, subst, ◌∙◌, arith}
+use Rattle.std.specs.List.{All}
+use Rattle.std.proofs.lemmas.List.Elements.{All-from_recursion, recursion_from_All}
 use Rattle.ca_quad.specs.declared.node.Node.{Node}
-use Rattle.ca_quad.specs.declared.square.Square.TheVariants.{Parts}
+use Rattle.ca_quad.specs.declared.square.Square.TheVariants.{Four, Parts}
 use Rattle.ca_quad.specs.Squares.{square_of, level, IsOf, dot, together, cell_of}
-use Rattle.ca_quad.specs.Trees.{IsEmpty, Shows}
-use Rattle.ca_quad.specs.inner.Ring.{none, ringed, IsRinged, IsMiddle}
-use Rattle.ca_quad.proofs.Cells.{Ends, dot_ends, cell_ends, together_ends, same_nw, same_ne, same_sw, same_se}
-use Rattle.ca_quad.proofs.Walks.{parts_show}
+use Rattle.ca_quad.specs.Sound.{HasParts}
+use Rattle.ca_quad.specs.Trees.{IsIn, IsEmpty, Shows, AreFour}
+use Rattle.ca_quad.specs.inner.Ring.{IsEmptySquare, none, ringed, IsRinged, IsMiddle}
+use Rattle.ca_quad.specs.inner.Measure.{Ends}
+use Rattle.ca_quad.proofs.Cells.{twice, dot_ends, cell_ends, together_ends, same_nw, same_ne, same_sw, same_se}
+use Rattle.ca_quad.proofs.Walks.{four_show, parts_show}
 use Rattle.ca_quad.proofs.Rings.{sixteen, inside_sixteen, is_ringed, ringed_once}
 use Rattle.ca_quad.proofs.Shown.{together_same, ringed_as}
 
@@ -128,21 +131,6 @@ squares nodes k ids n = cell_of nodes k (slice_index ids n)
 pub squares_end : (nodes : List Node) (k : ℕ) (ids : List ℕ) (n : ℕ) → Ends (2 ^ k) (squares nodes k ids n)
 squares_end nodes k ids n = cell_ends nodes k (slice_index ids n)
 
-pub level_is : (nodes : List Node) (id k : ℕ) → IsOf nodes id k → (m a b c d : ℕ) → Parts m a b c d ≡ square_of nodes id → m ≡ k
-level_is nodes id k h m a b c d e = ap level e ∙ h.is_level
-
-pub quarter_is : (nodes : List Node) (id k : ℕ) → IsOf nodes id k → 2 ≤ k → (m a b c d : ℕ) → Parts m a b c d ≡ square_of nodes id
-    → cell_of nodes k id ≡ together (2 ^ (k - 1)) (cell_of nodes (k - 1) a) (cell_of nodes (k - 1) b) (cell_of nodes (k - 1) c) (cell_of nodes (k - 1) d)
-quarter_is nodes id k h large m a b c d e =
-    let same = level_is nodes id k h m a b c d e in
-    subst (λ l. cell_of nodes k id ≡ together (2 ^ (l - 1)) (cell_of nodes (l - 1) a) (cell_of nodes (l - 1) b) (cell_of nodes (l - 1) c) (cell_of nodes (l - 1) d)) same
-    (parts_show nodes id k h m a b c d (omega arith) e)
-
-pub twice : (k : ℕ) → 2 ≤ k → 2 ^ k ≡ 2 ^ (k - 1) + 2 ^ (k - 1)
-twice k h =
-    let next : suc (k - 1) ≡ k = omega arith in
-    ap (λ n. 2 ^ n) (sym next) ∙ two-pow-succ (k - 1)
-
 -- the middle of a hollow square, made of its four inner parts
 pub middle_is : (new : List Node) (k : ℕ) (f : ℕ → ℕ → ℕ → ℕ) (big : ℕ → ℕ → ℕ) (id : ℕ) → sixteen (2 ^ (k - 1)) f ≡ big → IsHollow f
     → Shows new id k (together (2 ^ (k - 1)) (f 3) (f 6) (f 9) (f 12)) → IsMiddle new k big id
@@ -152,3 +140,150 @@ middle_is new k f big id e hollow shows = record {
       (ringed_as (2 ^ (k - 1)) (together (2 ^ (k - 1)) (f 3) (f 6) (f 9) (f 12)) (sixteen (2 ^ (k - 1)) f) (cell_of new k id) (sixteen (2 ^ (k - 1)) f) (hollow_ringed (2 ^ (k - 1)) f hollow)
       shows.has_cells (λ x y. refl));
 }
+
+-- four squares of level 1 that have these sixteen cells
+module _ (nodes : List Node) (nw ne sw se : ℕ) (four : AreFour nodes 1 nw ne sw se) (a b c d e f g h i j l m n o p q : ℕ)
+    (in_nw : Four a b c d ≡ square_of nodes nw) (in_ne : Four e f g h ≡ square_of nodes ne) (in_sw : Four i j l m ≡ square_of nodes sw) (in_se : Four n o p q ≡ square_of nodes se) where
+  abbrev cells : List ℕ
+  cells = a ∷ b ∷ c ∷ d ∷ e ∷ f ∷ g ∷ h ∷ i ∷ j ∷ l ∷ m ∷ n ∷ o ∷ p ∷ q ∷ []
+
+  abbrev large : ℕ → ℕ → ℕ
+  large = together 2 (cell_of nodes 1 nw) (cell_of nodes 1 ne) (cell_of nodes 1 sw) (cell_of nodes 1 se)
+
+  as_cells : sixteen 1 (dots cells) ≡ large
+  as_cells =
+      as_sixteen 1 (dots cells) (cell_of nodes 1 nw) (cell_of nodes 1 ne) (cell_of nodes 1 sw) (cell_of nodes 1 se) (four_show nodes nw 1 four.is_nw a b c d in_nw)
+      (four_show nodes ne 1 four.is_ne e f g h in_ne) (four_show nodes sw 1 four.is_sw i j l m in_sw) (four_show nodes se 1 four.is_se n o p q in_se)
+
+  -- where they are a ring round any cells, the outer ones are 0
+  pub cells_hollow : (small : ℕ → ℕ → ℕ) → IsRinged 1 small large → IsHollow (dots cells)
+  cells_hollow small r = ringed_hollow 1 (dots cells) (dots_end cells) small (subst (IsRinged 1 small) (sym as_cells) r)
+
+  -- and where those are 0, the four inner ones are the middle
+  pub inner_cells : (new : List Node) (id : ℕ) → IsHollow (dots cells) → Shows new id 1 (together 1 (dot d) (dot g) (dot j) (dot n)) → IsMiddle new 1 large id
+  inner_cells new id hollow shows = middle_is new 1 (dots cells) large id as_cells hollow shows
+
+-- a square of these four parts
+pub record IsSplit (nodes : List Node) (id a b c d : ℕ) : Type 0 where
+  pub level : ℕ
+  pub is : Parts level a b c d ≡ square_of nodes id
+  pub whole : HasParts nodes (length nodes) level a b c d
+
+-- the parts of a square of level k: their level, and its cells
+module _ (nodes : List Node) (id k : ℕ) (of : IsOf nodes id k) (a b c d : ℕ) (split : IsSplit nodes id a b c d) where
+  level_is : split.level ≡ k
+  level_is = ap level split.is ∙ of.is_level
+
+  are_parts : HasParts nodes (length nodes) k a b c d
+  are_parts = subst (λ l. HasParts nodes (length nodes) l a b c d) level_is split.whole
+
+  cells_are : cell_of nodes k id ≡ together (2 ^ (k - 1)) (cell_of nodes (k - 1) a) (cell_of nodes (k - 1) b) (cell_of nodes (k - 1) c) (cell_of nodes (k - 1) d)
+  cells_are = parts_show nodes id k of k a b c d (omega (arith, are_parts.least)) (subst (λ l. Parts l a b c d ≡ square_of nodes id) level_is split.is)
+
+-- four squares of level k that have these sixteen parts
+module _ (nodes : List Node) (nw ne sw se k : ℕ) (four : AreFour nodes k nw ne sw se) (a b c d e f g h i j l m n o p q : ℕ)
+    (in_nw : IsSplit nodes nw a b c d) (in_ne : IsSplit nodes ne e f g h) (in_sw : IsSplit nodes sw i j l m) (in_se : IsSplit nodes se n o p q) where
+  abbrev ids : List ℕ
+  ids = a ∷ b ∷ c ∷ d ∷ e ∷ f ∷ g ∷ h ∷ i ∷ j ∷ l ∷ m ∷ n ∷ o ∷ p ∷ q ∷ []
+
+  -- the twelve that lie round the middle
+  abbrev outer : List ℕ
+  outer = a ∷ b ∷ c ∷ e ∷ f ∷ h ∷ i ∷ l ∷ m ∷ o ∷ p ∷ q ∷ []
+
+  abbrev big : ℕ → ℕ → ℕ
+  big = together (2 ^ k) (cell_of nodes k nw) (cell_of nodes k ne) (cell_of nodes k sw) (cell_of nodes k se)
+
+  of_nw : HasParts nodes (length nodes) k a b c d
+  of_nw = are_parts nodes nw k four.is_nw a b c d in_nw
+
+  of_ne : HasParts nodes (length nodes) k e f g h
+  of_ne = are_parts nodes ne k four.is_ne e f g h in_ne
+
+  of_sw : HasParts nodes (length nodes) k i j l m
+  of_sw = are_parts nodes sw k four.is_sw i j l m in_sw
+
+  of_se : HasParts nodes (length nodes) k n o p q
+  of_se = are_parts nodes se k four.is_se n o p q in_se
+
+  as_parts : sixteen (2 ^ (k - 1)) (squares nodes (k - 1) ids) ≡ big
+  as_parts =
+      rw (twice k (omega (arith, of_nw.least)))
+      (as_sixteen (2 ^ (k - 1)) (squares nodes (k - 1) ids) (cell_of nodes k nw) (cell_of nodes k ne) (cell_of nodes k sw) (cell_of nodes k se)
+      (cells_are nodes nw k four.is_nw a b c d in_nw) (cells_are nodes ne k four.is_ne e f g h in_ne) (cells_are nodes sw k four.is_sw i j l m in_sw) (cells_are nodes se k four.is_se n o p q in_se))
+
+  pub outer_known : All (IsIn nodes) outer
+  outer_known =
+      All-from_recursion (IsIn nodes) outer (
+        of_nw.is_nw.before,
+        (
+          of_nw.is_ne.before,
+          (
+            of_nw.is_sw.before,
+            (
+              of_ne.is_nw.before,
+              (
+                of_ne.is_ne.before,
+                (
+                  of_ne.is_se.before,
+                  (of_sw.is_nw.before, (of_sw.is_sw.before, (of_sw.is_se.before, (of_se.is_ne.before, (of_se.is_sw.before, (of_se.is_se.before, tt)))))),
+                ),
+              ),
+            ),
+          ),
+        ),
+      )
+
+  at_level : (id : ℕ) → IsEmpty (cell_of nodes (k - 1) id) → IsOf nodes id (k - 1) → IsEmptySquare nodes id
+  at_level id empty is level of = subst (λ l. IsEmpty (cell_of nodes l id)) (sym is.is_level ∙ of.is_level) empty
+
+  -- where they are a ring round any cells, the outer ones are empty
+  pub outer_empty : (small : ℕ → ℕ → ℕ) → IsRinged (2 ^ (k - 1)) small big → All (IsEmptySquare nodes) outer
+  outer_empty small r =
+      let z = ringed_hollow (2 ^ (k - 1)) (squares nodes (k - 1) ids) (squares_end nodes (k - 1) ids) small (subst (IsRinged (2 ^ (k - 1)) small) (sym as_parts) r) in
+      All-from_recursion (IsEmptySquare nodes) outer (
+        at_level a z.e0 of_nw.is_nw,
+        (
+          at_level b z.e1 of_nw.is_ne,
+          (
+            at_level c z.e2 of_nw.is_sw,
+            (
+              at_level e z.e4 of_ne.is_nw,
+              (
+                at_level f z.e5 of_ne.is_ne,
+                (
+                  at_level h z.e7 of_ne.is_se,
+                  (at_level i z.e8 of_sw.is_nw, (at_level l z.e10 of_sw.is_sw, (at_level m z.e11 of_sw.is_se, (at_level o z.e13 of_se.is_ne, (at_level p z.e14 of_se.is_sw, (at_level q z.e15 of_se.is_se, tt)))))),
+                ),
+              ),
+            ),
+          ),
+        ),
+      )
+
+  hollow : All (IsEmptySquare nodes) outer → IsHollow (squares nodes (k - 1) ids)
+  hollow all =
+      let (e0, (e1, (e2, (e4, (e5, (e7, (e8, (e10, (e11, (e13, (e14, (e15, done)))))))))))) = recursion_from_All (IsEmptySquare nodes) outer all in
+      let k = k - 1 in
+      record {
+        e0 = e0 k of_nw.is_nw;
+        e1 = e1 k of_nw.is_ne;
+        e2 = e2 k of_nw.is_sw;
+        e4 = e4 k of_ne.is_nw;
+        e5 = e5 k of_ne.is_ne;
+        e7 = e7 k of_ne.is_se;
+        e8 = e8 k of_sw.is_nw;
+        e10 = e10 k of_sw.is_sw;
+        e11 = e11 k of_sw.is_se;
+        e13 = e13 k of_se.is_ne;
+        e14 = e14 k of_se.is_sw;
+        e15 = e15 k of_se.is_se;
+      }
+
+  -- and where those are empty, the four inner ones are the middle
+  pub inner_middle : (new : List Node) (id : ℕ)
+      → ((level : ℕ) → IsOf nodes d level → Shows new id (suc level) (together (2 ^ level) (cell_of nodes level d) (cell_of nodes level g) (cell_of nodes level j) (cell_of nodes level n)))
+      → All (IsEmptySquare nodes) outer → IsMiddle new k big id
+  inner_middle new id join all =
+      let next : suc (k - 1) ≡ k = omega (arith, of_nw.least) in
+      let cells = together (2 ^ (k - 1)) (cell_of nodes (k - 1) d) (cell_of nodes (k - 1) g) (cell_of nodes (k - 1) j) (cell_of nodes (k - 1) n) in
+      middle_is new k (squares nodes (k - 1) ids) big id as_parts (hollow all) (subst (λ l. Shows new id l cells) next (join (k - 1) of_nw.is_se))

@@ -8,7 +8,8 @@ use Rattle.ca_quad.specs.Squares.{kept, named, seen, shown, square_of, level, Is
 use Rattle.ca_quad.specs.Sound.{IsGood, node_at, IsSound}
 use Rattle.ca_quad.specs.Trees.{HasMoreStates}
 use Rattle.ca_quad.specs.inner.Numbered.{IsKeptOtherwise}
-use Rattle.ca_quad.proofs.Cells.{at_nw, at_ne, at_sw, at_se, Ends, cell_ends, dot_ends, no_level}
+use Rattle.ca_quad.specs.inner.Measure.{Ends}
+use Rattle.ca_quad.proofs.Cells.{at_nw, at_ne, at_sw, at_se, cell_ends, dot_ends, no_level}
 use Rattle.ca_quad.proofs.Greatest.{live_within}
 use Rattle.ca_quad.proofs.Growth.{below_or_not}
 use Rattle.ca_quad.proofs.Views.{square_whole}

@@ -14,13 +14,13 @@ use Rattle.ca_quad.specs.Squares.{cells2, cells4, digit, seen, shown_cells4, sho
 use Rattle.ca_quad.specs.Sound.{IsSound, HasParts}
 use Rattle.ca_quad.specs.Trees.{IsIn}
 use Rattle.ca_quad.specs.inner.Whole.{IsWhole}
-use Rattle.ca_quad.specs.inner.Population.{live, population}
-use Rattle.ca_quad.specs.inner.Found.{IsCountOf}
-use Rattle.ca_quad.specs.inner.Greatest.{IsGreatestOf}
+use Rattle.ca_quad.specs.inner.Population.{live, population, IsCount, IsCountOf}
+use Rattle.ca_quad.specs.inner.Greatest.{IsGreatest, IsGreatestOf}
 use Rattle.ca_quad.specs.inner.Numbered.{AreDigits, IsNumberOf}
-use Rattle.ca_quad.proofs.Greatest.{greatest_four, greatest_parts}
+use Rattle.ca_quad.proofs.Greatest.{greatest_dot, greatest_joined}
 use Rattle.ca_quad.proofs.Cells.{one_up}
-use Rattle.ca_quad.proofs.Population.{count_in_parts, live_least}
+use Rattle.ca_quad.proofs.Measures.{measure_four, measure_parts}
+use Rattle.ca_quad.proofs.Population.{count_joined, live_least}
 use Rattle.ca_quad.proofs.Views.{named_cells2, named_cells4, among_cells4, square_whole}
 use Rattle.ca_quad.proofs.Walks.{four_show}
 
@@ -99,8 +99,8 @@ pub count_of_number : (nodes : List Node) → IsSound nodes → (id n : ℕ) →
 count_of_number nodes sound =
     of_number nodes sound (λ id n. IsCountOf nodes id (count_ones n)) (count_cells nodes)
     (λ id m nw ne sw se e whole k n a b c d size digits low p q r s.
-    count_in_parts nodes id m nw ne sw se e whole (count_ones a) (count_ones b) (count_ones c) (count_ones d) (count_ones n) p q r s
-    (omega (arith, ones_four k n a b c d digits, ones-le 64 n low)))
+    measure_parts IsCount nodes id m nw ne sw se e whole (2 ^ (m - 1)) refl (count_ones a) (count_ones b) (count_ones c) (count_ones d) (count_ones n) p q r s
+    (count_joined (2 ^ (m - 1)) (count_ones a) (count_ones b) (count_ones c) (count_ones d) (count_ones n) (omega (arith, ones_four k n a b c d digits, ones-le 64 n low))))
 
 -- ---- the greatest state
 
@@ -148,11 +148,13 @@ greatest_cells nodes id n low e =
     let c = digit 2 n 2 in
     let d = digit 2 n 3 in
     let all : live n ≡ max (max (live a) (live b)) (max (live c) (live d)) = live_four 1 n a b c d (record { first = omega arith; second = omega arith; third = omega arith; is = omega arith }) in
-    greatest_four nodes id a b c d (sym e) (live n) (omega (arith, all, live_digit a (omega arith), live_digit b (omega arith), live_digit c (omega arith), live_digit d (omega arith)))
+    measure_four (λ cells side s. IsGreatest cells s) nodes id a b c d (sym e) a b c d (live n) (greatest_dot a) (greatest_dot b) (greatest_dot c) (greatest_dot d)
+    (greatest_joined 1 a b c d (live n) (omega (arith, all, live_digit a (omega arith), live_digit b (omega arith), live_digit c (omega arith), live_digit d (omega arith))))
 
 -- it is 1 where the square's number isn't 0
 pub greatest_of_number : (nodes : List Node) → IsSound nodes → (id n : ℕ) → IsIn nodes id → IsNumberOf nodes id n → IsGreatestOf nodes id (live n)
 greatest_of_number nodes sound =
     of_number nodes sound (λ id n. IsGreatestOf nodes id (live n)) (greatest_cells nodes)
     (λ id m nw ne sw se e whole k n a b c d size digits low p q r s.
-    greatest_parts nodes id m nw ne sw se e whole (live a) (live b) (live c) (live d) (live n) p q r s (live_four k n a b c d digits))
+    measure_parts (λ cells side s. IsGreatest cells s) nodes id m nw ne sw se e whole (2 ^ (m - 1)) refl (live a) (live b) (live c) (live d) (live n) p q r s
+    (greatest_joined (2 ^ (m - 1)) (live a) (live b) (live c) (live d) (live n) (live_four k n a b c d digits)))

@@ -1,15 +1,12 @@
 -- The live cells of four squares that lie together are those of each.
-use Rattle.std.proofs.Common.{◌≡◌, ℕ, zero, suc, ◌+◌, ◌-◌, ◌*◌, ◌<◌, ◌≤◌, ◌^◌, min, inl, inr, ◌==◌, cond, Some, Result, Ok, Err, IfOk, List, length, refl, sym, ap, subst, ◌∙◌, arith}
-use Rattle.std.proofs.lemmas.Bool.{cases_Bool, eqb-true}
-use Rattle.std.proofs.Math.Nat.{two-pow-succ, pow-le-pow_right}
+use Rattle.std.proofs.Common.{◌≡◌, ℕ, zero, suc, ◌+◌, ◌-◌, ◌*◌, ◌<◌, ◌≤◌, ◌^◌, min, inl, inr, ◌==◌, Result, Ok, Err, IfOk, List, refl, ap, arith}
+use Rattle.std.proofs.lemmas.Bool.{cases_Bool}
+use Rattle.std.proofs.Math.Nat.{pow-le-pow_right}
 use Rattle.ca_quad.specs.declared.node.Node.{Node}
-use Rattle.ca_quad.specs.declared.square.Square.TheVariants.{Parts}
-use Rattle.ca_quad.specs.Squares.{square_of, level, IsOf, together, cell_of}
-use Rattle.ca_quad.specs.Sound.{HasParts}
-use Rattle.ca_quad.specs.inner.Population.{sum_below, live, population}
-use Rattle.ca_quad.specs.inner.Found.{found_for, IsCountOf}
+use Rattle.ca_quad.specs.Squares.{IsOf, together, cell_of}
+use Rattle.ca_quad.specs.inner.Measure.{IsJoined}
+use Rattle.ca_quad.specs.inner.Population.{sum_below, live, population, IsCount, IsCountOf}
 use Rattle.ca_quad.proofs.Cells.{at_nw, at_ne, at_sw, at_se}
-use Rattle.ca_quad.proofs.Walks.{parts_show}
 
 pub sum_split : (m n : ℕ) (term : ℕ → ℕ) → sum_below (m + n) term ≡ sum_below m term + sum_below n (λ i. term (m + i))
 sum_split m zero term = let e : m + zero ≡ m = omega arith in rw e (omega arith)
@@ -53,37 +50,9 @@ module _ (side : ℕ) (nw ne sw se : ℕ → ℕ → ℕ) where
       let b = sum_same side (λ y. row all (side + side) (side + y)) (λ y. row sw side y + row se side y) (λ y h. southern y) in
       omega (arith, a, b, sum_split side side (row all (side + side)), sum_plus side (row nw side) (row ne side), sum_plus side (row sw side) (row se side))
 
-some_same : {V : Type 0} {v w : V} → Some v ≡ Some w → v ≡ w
-some_same e = cc
-
--- what was found is kept, and one thing more
-module _ {V : Type 0} (Is : ℕ → V → Type 0) (old new : List (ℕ × V)) (id : ℕ) (value : V) (before : (other : ℕ) (w : V) → found_for old other ≡ Some w → Is other w)
-    (is : Is id value) (put : (other : ℕ) → found_for new other ≡ cond (id == other) (Some value) (found_for old other)) where
-  pub found_more : (other : ℕ) (w : V) → found_for new other ≡ Some w → Is other w
-  found_more other w h =
-      elim (cases_Bool (id == other)) [
-        | inl e ↦
-            let f : cond (id == other) (Some value) (found_for old other) ≡ Some value = rw e refl in
-            let g : value ≡ w = some_same (sym f ∙ (sym (put other) ∙ h)) in
-            subst (λ (v : V). Is other v) g (subst (λ n. Is n value) (eqb-true id other e) is)
-        | inr e ↦
-            let f : cond (id == other) (Some value) (found_for old other) ≡ found_for old other = rw e refl in
-            before other w (sym f ∙ (sym (put other) ∙ h))
-      ]
-
--- the live cells of a square are those of its parts
-module _ (nodes : List Node) (id m nw ne sw se : ℕ) (e : Parts m nw ne sw se ≡ square_of nodes id) (whole : HasParts nodes (length nodes) m nw ne sw se) where
-  pub count_in_parts : (a b c d n : ℕ) → IsCountOf nodes nw a → IsCountOf nodes ne b → IsCountOf nodes sw c → IsCountOf nodes se d
-      → n ≡ min (a + b + (c + d)) (2 ^ 128 - 1) → IsCountOf nodes id n
-  count_in_parts a b c d n p q r s all k h =
-      let some : 1 ≤ m = omega (arith, whole.least) in
-      let f : k ≡ m = sym h.is_level ∙ ap level (sym e) in
-      let next : suc (m - 1) ≡ k = omega arith in
-      let side : 2 ^ k ≡ 2 ^ (m - 1) + 2 ^ (m - 1) = ap (λ k. 2 ^ k) (sym next) ∙ two-pow-succ (m - 1) in
-      let part = cell_of nodes (m - 1) in
-      let whole_is : population (cell_of nodes k id) (2 ^ k) ≡ population (part nw) (2 ^ (m - 1)) + population (part ne) (2 ^ (m - 1)) + (population (part sw) (2 ^ (m - 1)) + population (part se) (2 ^ (m - 1)))
-      = rw (parts_show nodes id k h m nw ne sw se some e, side) (population_together (2 ^ (m - 1)) (part nw) (part ne) (part sw) (part se)) in
-      omega (arith, whole_is, p (m - 1) whole.is_nw, q (m - 1) whole.is_ne, r (m - 1) whole.is_sw, s (m - 1) whole.is_se)
+-- of four squares that lie together the counts add up
+pub count_joined : (side a b c d n : ℕ) → n ≡ min (a + b + (c + d)) (2 ^ 128 - 1) → IsJoined IsCount side a b c d n
+count_joined side a b c d n all nw ne sw se i j k l p q r s = omega (arith, population_together side nw ne sw se)
 
 pub live_least : (state : ℕ) → live state ≤ 1
 live_least state = elim (cases_Bool (state == 0)) [ inl e ↦ rw e (omega arith) | inr e ↦ rw e (omega arith) ]

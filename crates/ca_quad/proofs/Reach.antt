@@ -1,5 +1,5 @@
 -- What the least box of a tree tells of the square of a plane.
-use Rattle.std.proofs.Common.{◌≡◌, ℕ, ◌+◌, ◌-◌, ◌<◌, ◌≤◌, ◌^◌, ◌⊎◌, inl, inr, ℤ, pos, neg_ℤ, ◌+ℤ◌, ◌≤ℤ◌, ◌<ℤ◌, List, refl, arith}
+use Rattle.std.proofs.Common.{◌≡◌, ℕ, ◌+◌, ◌-◌, ◌<◌, ◌≤◌, ◌^◌, inl, inr, ℤ, pos, neg_ℤ, ◌+ℤ◌, ◌≤ℤ◌, List, refl, arith}
 use Rattle.std.proofs.lemmas.Int.{ints}
 use Rattle.std.proofs.Math.Nat.{pow-le-pow_right}
 use Rattle.ca_plane.specs.Sparse.{reach}
@@ -9,6 +9,7 @@ use Rattle.ca_quad.specs.declared.tree.WideBounds.{WideBounds}
 use Rattle.ca_quad.specs.Trees.{cell}
 use Rattle.ca_quad.specs.Boxes.{IsDead, IsLeastBox}
 use Rattle.ca_quad.specs.Expanded.{FitsPlane, LeavesPlane}
+use Rattle.ca_quad.specs.inner.Reach.{IsInReach, IsOutOfReach}
 use Rattle.ca_quad.proofs.Edges.{outside_x, outside_y}
 use Rattle.ca_quad.proofs.Filled.{place_on}
 
@@ -17,16 +18,14 @@ module _ (cells : ℤ → ℤ → ℕ) where
   dead_fits dead x y h = absurd (h (dead x y))
 
   module _ (box : WideBounds) (least : IsLeastBox cells box) where
-    pub leaves_x : (box.x0 <ℤ neg_ℤ reach) ⊎ (reach <ℤ box.x1) → LeavesPlane cells
-    leaves_x (inl h) = (box.x0, least.left.0, least.left.1, λ i. absurd (omega (arith, ints, i.0)))
-    leaves_x (inr h) = (box.x1, least.right.0, least.right.1, λ i. absurd (omega (arith, ints, i.1)))
+    pub box_leaves : IsOutOfReach box → LeavesPlane cells
+    box_leaves (inl h) = (box.x0, least.left.0, least.left.1, λ i. absurd (omega (arith, ints, i.0)))
+    box_leaves (inr (inl h)) = (box.x1, least.right.0, least.right.1, λ i. absurd (omega (arith, ints, i.1)))
+    box_leaves (inr (inr (inl h))) = (least.top.0, box.y0, least.top.1, λ i. absurd (omega (arith, ints, i.2)))
+    box_leaves (inr (inr (inr h))) = (least.bottom.0, box.y1, least.bottom.1, λ i. absurd (omega (arith, ints, i.3)))
 
-    pub leaves_y : (box.y0 <ℤ neg_ℤ reach) ⊎ (reach <ℤ box.y1) → LeavesPlane cells
-    leaves_y (inl h) = (least.top.0, box.y0, least.top.1, λ i. absurd (omega (arith, ints, i.2)))
-    leaves_y (inr h) = (least.bottom.0, box.y1, least.bottom.1, λ i. absurd (omega (arith, ints, i.3)))
-
-    pub box_fits : (neg_ℤ reach ≤ℤ box.x0) × (box.x1 ≤ℤ reach) → (neg_ℤ reach ≤ℤ box.y0) × (box.y1 ≤ℤ reach) → FitsPlane cells
-    box_fits h i x y live =
+    pub box_fits : IsInReach box → FitsPlane cells
+    box_fits h x y live =
         let k = least.all x y live in
         (omega (arith, ints), omega (arith, ints), omega (arith, ints), omega (arith, ints))
 

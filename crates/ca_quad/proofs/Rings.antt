@@ -8,8 +8,8 @@ use Rattle.ca_quad.specs.Squares.{together, cell_of}
 use Rattle.ca_quad.specs.Trees.{from_corner, cell}
 use Rattle.ca_quad.specs.inner.Ring.{none, ringed, IsOut, IsRinged}
 use Rattle.ca_quad.proofs.Growth.{below_or_not}
-use Rattle.ca_quad.proofs.Cells.{Ends, cell_ends}
-use Rattle.ca_quad.proofs.Walks.{in_nw, in_ne, in_sw, in_se}
+use Rattle.ca_quad.specs.inner.Measure.{Ends}
+use Rattle.ca_quad.proofs.Cells.{in_nw, in_ne, in_sw, in_se, cell_ends}
 
 -- a place inside, or out of the middle
 in_or_out : (s n : ℕ) → ((s ≤ n) × (n < s + s + s)) ⊎ IsOut s n

@@ -6,6 +6,7 @@ use Rattle.ca_quad.specs.declared.named.Named.{Named}
 use Rattle.ca_quad.specs.declared.named.Named.TheVariants.{Cells2, Cells4, Kept}
 use Rattle.ca_quad.specs.declared.node.Node.{Node}
 use Rattle.ca_quad.specs.declared.node.Node.TheVariants.{Leaf, Block, Join}
+use Rattle.ca_quad.specs.declared.square.Square.TheVariants.{Parts}
 use Rattle.ca_quad.specs.Squares.{digit, cells2, cells4, named, kept, seen, shown, square_of, level, IsAmong}
 use Rattle.ca_quad.specs.Sound.{IsGood, node_at, IsSound}
 use Rattle.ca_quad.specs.inner.Whole.{IsWhole}
@@ -64,6 +65,15 @@ shown_whole nodes sound (Kept place) h = seen_whole nodes place (length nodes) (
 pub square_whole : (nodes : List Node) → IsSound nodes → (id : ℕ) → id < kept (length nodes) → IsWhole nodes (length nodes) (square_of nodes id)
 square_whole nodes sound id h = shown_whole nodes sound (named id) (named_below (length nodes) id h)
 
+-- a block's parts are named by their cells
+not_block : (m k a b c d : ℕ) → seen (Block m) ≡ Parts k a b c d → 65552 ≤ max (max a b) (max c d) → ⊥
+not_block m k a b c d e low =
+    let p : cells4 (digit 65536 m 0) ≡ a = cc in
+    let q : cells4 (digit 65536 m 1) ≡ b = cc in
+    let r : cells4 (digit 65536 m 2) ≡ c = cc in
+    let s : cells4 (digit 65536 m 3) ≡ d = cc in
+    omega arith
+
 -- good nodes that look alike are equal
 seen_same : (nodes : List Node) (i j : ℕ) (m n : Node) → IsGood nodes i m → IsGood nodes j n → seen m ≡ seen n → m ≡ n
 seen_same nodes i j (Leaf nw ne sw se) (Leaf a b c d) g h e = cc
@@ -76,21 +86,9 @@ seen_same nodes i j (Block m) (Block n) g h e =
     let r : cells4 (digit 65536 m 2) ≡ cells4 (digit 65536 n 2) = cc in
     let s : cells4 (digit 65536 m 3) ≡ cells4 (digit 65536 n 3) = cc in
     ap (λ (n : ℕ). Block n) (omega arith)
-seen_same nodes i j (Block m) (Join k a b c d) g h e =
-    let p : cells4 (digit 65536 m 0) ≡ a = cc in
-    let q : cells4 (digit 65536 m 1) ≡ b = cc in
-    let r : cells4 (digit 65536 m 2) ≡ c = cc in
-    let s : cells4 (digit 65536 m 3) ≡ d = cc in
-    let low : 65552 ≤ max (max a b) (max c d) = h.1 in
-    absurd (omega arith)
+seen_same nodes i j (Block m) (Join k a b c d) g h e = absurd (not_block m k a b c d e h.1)
 seen_same nodes i j (Join k a b c d) (Leaf nw ne sw se) g h e = cc
-seen_same nodes i j (Join k a b c d) (Block m) g h e =
-    let p : cells4 (digit 65536 m 0) ≡ a = cc in
-    let q : cells4 (digit 65536 m 1) ≡ b = cc in
-    let r : cells4 (digit 65536 m 2) ≡ c = cc in
-    let s : cells4 (digit 65536 m 3) ≡ d = cc in
-    let low : 65552 ≤ max (max a b) (max c d) = g.1 in
-    absurd (omega arith)
+seen_same nodes i j (Join k a b c d) (Block m) g h e = absurd (not_block m k a b c d (sym e) g.1)
 seen_same nodes i j (Join k nw ne sw se) (Join l a b c d) g h e = cc
 
 -- no good node looks like a square that is named by its cells

@@ -1,13 +1,12 @@
 -- What a walk over squares knows where it has matched on one: its cells are its corners, or its parts together.
-use Rattle.std.proofs.Common.{◌≡◌, ℕ, suc, ◌-◌, ◌<◌, ◌≤◌, ◌^◌, inl, inr, true, false, ◌==◌, ◌&&◌, List, nat_lt, refl, sym, ap, subst, ◌∙◌, arith}
+use Rattle.std.proofs.Common.{◌≡◌, ℕ, suc, ◌-◌, ◌<◌, ◌≤◌, ◌^◌, inl, inr, ◌==◌, ◌&&◌, List, nat_lt, refl, sym, ap, subst, ◌∙◌, arith}
 use Rattle.std.proofs.lemmas.Bool.{cases_Bool}
-use Rattle.std.proofs.lemmas.Bool.Decides.{nat_tests}
 use Rattle.ca_quad.specs.declared.node.Node.{Node}
 use Rattle.ca_quad.specs.declared.square.Square.TheVariants.{Four, Parts}
 use Rattle.ca_quad.specs.Squares.{square_of, level, IsOf, dot, together, cells_in, cell_of}
 use Rattle.ca_quad.specs.Sound.{IsSound}
 use Rattle.ca_quad.specs.Trees.{IsEmpty}
-use Rattle.ca_quad.proofs.Cells.{cell_ends, same_nw, same_ne, same_sw, same_se, same_cells}
+use Rattle.ca_quad.proofs.Cells.{in_nw, in_ne, in_sw, in_se, cell_ends, same_nw, same_ne, same_sw, same_se, same_cells}
 
 module _ (nodes : List Node) (id k : ℕ) (h : IsOf nodes id k) where
   -- four cells lie together
@@ -24,32 +23,6 @@ module _ (nodes : List Node) (id k : ℕ) (h : IsOf nodes id k) where
       let next : k ≡ suc (m - 1) = omega arith in
       subst (λ k. cell_of nodes k id ≡ together (2 ^ (m - 1)) (cell_of nodes (m - 1) nw) (cell_of nodes (m - 1) ne) (cell_of nodes (m - 1) sw) (cell_of nodes (m - 1) se)) (sym next)
       (ap (λ s. cells_in (cell_of nodes (m - 1)) s (2 ^ (m - 1))) (sym e))
-
--- the quarter in which a cell lies
-module _ (side : ℕ) (nw ne sw se : ℕ → ℕ → ℕ) (x y : ℕ) where
-  pub in_nw : x < side → y < side → together side nw ne sw se x y ≡ nw x y
-  in_nw h k =
-      let e : nat_lt x side ≡ true = grind (arith, nat_tests) in
-      let f : nat_lt y side ≡ true = grind (arith, nat_tests) in
-      rw (e, f) refl
-
-  pub in_ne : side ≤ x → y < side → together side nw ne sw se x y ≡ ne (x - side) y
-  in_ne h k =
-      let e : nat_lt x side ≡ false = grind (arith, nat_tests) in
-      let f : nat_lt y side ≡ true = grind (arith, nat_tests) in
-      rw (e, f) refl
-
-  pub in_sw : x < side → side ≤ y → together side nw ne sw se x y ≡ sw x (y - side)
-  in_sw h k =
-      let e : nat_lt x side ≡ true = grind (arith, nat_tests) in
-      let f : nat_lt y side ≡ false = grind (arith, nat_tests) in
-      rw (e, f) refl
-
-  pub in_se : side ≤ x → side ≤ y → together side nw ne sw se x y ≡ se (x - side) (y - side)
-  in_se h k =
-      let e : nat_lt x side ≡ false = grind (arith, nat_tests) in
-      let f : nat_lt y side ≡ false = grind (arith, nat_tests) in
-      rw (e, f) refl
 
 -- the cell of a square is that of one of its parts
 module _ (nodes : List Node) (id k : ℕ) (h : IsOf nodes id k) (m nw ne sw se : ℕ) (some : 1 ≤ m) (e : Parts m nw ne sw se ≡ square_of nodes id)

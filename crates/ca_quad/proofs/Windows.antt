@@ -9,8 +9,8 @@ use Rattle.ca_quad.specs.Sound.{IsSound, Grows}
 use Rattle.ca_quad.specs.Trees.{Shows, AreFour, row_cells}
 use Rattle.ca_quad.specs.inner.Window.{ShowsFrom}
 use Rattle.ca_quad.proofs.Growth.{below_or_not, grows_on}
-use Rattle.ca_quad.proofs.Cells.{Ends, cells_stay, of_stays}
-use Rattle.ca_quad.proofs.Walks.{in_nw, in_ne, in_sw, in_se}
+use Rattle.ca_quad.specs.inner.Measure.{Ends}
+use Rattle.ca_quad.proofs.Cells.{in_nw, in_ne, in_sw, in_se, cells_stay, of_stays}
 
 -- a square goes on to show them
 pub window_stays : (old new : List Node) → IsSound old → Grows old new → (id k left top : ℕ) (cells : ℕ → ℕ → ℕ) → ShowsFrom old id k cells left top → ShowsFrom new id k cells left top

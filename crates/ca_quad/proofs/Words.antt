@@ -13,7 +13,8 @@ use Rattle.ca_quad.specs.Sound.{IsSound, HasParts}
 use Rattle.ca_quad.specs.Trees.{IsIn, Shows, word_cells}
 use Rattle.ca_quad.specs.inner.Bits.{place}
 use Rattle.ca_quad.specs.inner.Numbered.{AreDigits, IsNumberOf}
-use Rattle.ca_quad.proofs.Cells.{Ends, cell_ends, is_under, is_over}
+use Rattle.ca_quad.specs.inner.Measure.{Ends}
+use Rattle.ca_quad.proofs.Cells.{cell_ends, is_under, is_over}
 use Rattle.ca_quad.proofs.Growth.{below_or_not}
 use Rattle.ca_quad.proofs.Numbered.{of_number}
 use Rattle.ca_quad.proofs.Walks.{four_show, parts_show}

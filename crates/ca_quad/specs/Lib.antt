@@ -5,4 +5,5 @@ pub mod Boxes
 pub mod Expanded
 pub mod Trimmed
 pub mod Added
+pub mod SquareValues
 pub mod inner

@@ -3,7 +3,7 @@ pub mod Whole
 pub mod Named
 pub mod Window
 pub mod Population
-pub mod Found
+pub mod Measure
 pub mod Greatest
 pub mod Hashed
 pub mod Numbered
@@ -13,6 +13,7 @@ pub mod Difference
 pub mod Ring
 pub mod Filled
 pub mod Rows
+pub mod Reach
 pub mod Block
 pub mod Copied
 pub mod Bits

@@ -7,10 +7,12 @@ pub mod laws;
 mod named;
 mod node;
 mod square;
+mod square_map;
 mod store;
 mod tree;
 
 pub use fault::QuadFault;
 pub use id::Id;
+pub use square_map::SquareMap;
 pub use store::Store;
 pub use tree::{Spot, Tree, WideBounds};

@@ -84,7 +84,7 @@ bad_line bytes f h (comment, (said, good)) = no_bad_among h.good h.word h.later 
 
 -- the place of a line with a bad word
 pub bad_word_place : (bytes : List ℕ) (f : RleFault) (h : HasBadWord bytes f) → EndsPreamble bytes h.lines h.line h.more
-bad_word_place bytes f h = record { said = h.said; preamble = h.preamble; line_is = h.line_is; line_ends = h.line_ends; bad_or_last = λ good. absurd (bad_line bytes f h good); spelled = h.spelled }
+bad_word_place bytes f h = record { said = h.said; follows = h.follows; bad_or_last = λ good. absurd (bad_line bytes f h good) }
 
 -- a text's first bad word is one, and stands at one place
 pub one_bad_word : (bytes : List ℕ) (f g : RleFault) (p : HasBadWord bytes f) (q : HasBadWord bytes g) → (p.lines ≡ q.lines) × (p.line ≡ q.line) × (p.good ≡ q.good) × (p.word ≡ q.word) × (f ≡ g)

@@ -1,11 +1,10 @@
 -- Every text is a file, or has a first fault in its spelling.
-use Rattle.std.proofs.Common.{◌≡◌, ℕ, zero, suc, ◌<◌, ◌⊎◌, inl, inr, Bool, true, false, not, IsTrue, List, [], ◌∷◌, ◌++◌, length, Option, Some, None, unwrap_or, refl, sym, ap, subst, ◌∙◌, append-nil, append_assoc, true≢false, arith, nat_le, ◌==◌, is_some}
-use Rattle.std.specs.List.{flat_map, AllZip, AllByRecursion}
+use Rattle.std.proofs.Common.{◌≡◌, ℕ, zero, suc, ◌<◌, ◌⊎◌, inl, inr, Bool, true, false, not, List, [], ◌∷◌, ◌++◌, length, Option, Some, None, refl, sym, ap, ◌∙◌, append-nil, append_assoc, true≢false, arith, nat_le, ◌==◌, is_some}
+use Rattle.std.specs.List.{flat_map, AllZip}
 use Rattle.std.proofs.lemmas.Bool.{cases_Bool, cond_both}
 use Rattle.std.proofs.lemmas.Grind.{flat_map-append}
 use Rattle.std.proofs.lemmas.List.{length-append}
-use Rattle.ca_plane.specs.Limits.{default_rule}
-use Rattle.ca_plane.specs.Bytes.{is_digit, is_line_end, is_end_or, front, rest, value}
+use Rattle.ca_plane.specs.Bytes.{is_digit, is_line_end, front, rest, value}
 use Rattle.ca_plane.proofs.Lines.{line_ends_by_lf}
 use Rattle.ca_rle.specs.declared.fault.RleFault.{RleFault}
 use Rattle.ca_rle.specs.declared.fault.RleFault.TheVariants.{Syntax, Header, XlifeRule, NoEnd, BadState, GenTooLarge}
@@ -13,12 +12,15 @@ use Rattle.ca_rle.specs.declared.item.Item.{Item}
 use Rattle.ca_rle.specs.declared.item.Tag.{Tag}
 use Rattle.ca_rle.specs.Items.{InLine, is_letter, is_prefix, prefixed_state, tag_of, IsItem, Items}
 use Rattle.ca_rle.specs.Header.{IsHeader, is_comment, extended_words, Said, Says}
-use Rattle.ca_rle.specs.File.{File, IsLine, ended, IsPreamble, corner_of, generation_of, IsHeaded, IsFile}
+use Rattle.ca_rle.specs.File.{File, ended, IsPreamble, FollowsPreamble, IsHeaded, IsFile}
 use Rattle.ca_rle.specs.Faults.{after_white, letter_fault, tag_fault, count_fault, item_fault, HasBadWord, HasBadItem, IsFirstFault}
 use Rattle.ca_rle.specs.inner.BodyFaults.{HasBadUnit}
-use Rattle.ca_plane.proofs.Fronts.{front_then_rest, every_front}
+use Rattle.ca_plane.proofs.Fronts.{front_then_rest}
 use Rattle.ca_rle.proofs.OneHeader.{no_comment}
+use Rattle.ca_rle.proofs.FileParts.{file_of, headed_is_file}
+use Rattle.ca_rle.proofs.FrontLines.{next_line_follows}
 use Rattle.ca_rle.proofs.GoodItem.{IsItemOrEnd, good_item_or_end}
+use Rattle.ca_rle.proofs.Preambles.{preamble_more}
 use Rattle.ca_rle.proofs.WordOrFault.{all_say_or_bad}
 use Rattle.ca_rle.proofs.LineKinds.{header_or_not, xlife_or_none}
 
@@ -124,56 +126,27 @@ FileOrFault bytes = ((file : File) × IsFile bytes file) ⊎ ((f : RleFault) × 
 headed_or_fault : (bytes : List ℕ) (said : List Said) (rule : Option (List ℕ)) (body : List ℕ) → IsHeaded bytes said rule body → FileOrFault bytes
 headed_or_fault bytes said rule body h =
     elim (items_or_bad body) [
-      | inl i ↦ inl (record { corner = corner_of said; generation = generation_of said; rule_text = unwrap_or rule default_rule; items = i.0 }, record { said = said; rule = rule; body = body; headed = h; items = i.1; corner = refl; generation = refl; rule_text = refl })
+      | inl i ↦ inl (file_of said rule i.0, headed_is_file bytes said rule body i.0 h i.1)
       | inr b ↦ inr (b.0, first_from_item bytes b.0 (record { said = said; rule = rule; body = body; items = b.1.1.0; bad = b.1.0; headed = h; good = b.1.1.1; fault_is = b.1.1.2 }))
     ]
 
--- good lines, and then a line of which nothing is said
-record Splits (bytes : List ℕ) (lines : List (List ℕ)) (said : List Said) (line more : List ℕ) : Type 0 where
-  preamble : IsPreamble lines said
-  line_is : IsLine line
-  line_ends : IsTrue (is_end_or is_line_end more)
-  spelled : bytes ≡ flat_map ended lines ++ (line ++ more)
-
-header_or_fault : (bytes : List ℕ) (lines : List (List ℕ)) (said : List Said) (line more : List ℕ) (rule : Option (List ℕ)) → Splits bytes lines said line more → IsHeader line rule → FileOrFault bytes
-header_or_fault bytes lines said line more (Some text) s h = headed_or_fault bytes said (Some text) more (record { lines = lines; header = line; preamble = s.preamble; header_is_line = s.line_is; header_is = h; named = inl refl; header_ends = s.line_ends; spelled = s.spelled })
+header_or_fault : (bytes : List ℕ) (lines : List (List ℕ)) (said : List Said) (line more : List ℕ) (rule : Option (List ℕ)) → FollowsPreamble bytes lines said line more → IsHeader line rule → FileOrFault bytes
+header_or_fault bytes lines said line more (Some text) s h = headed_or_fault bytes said (Some text) more (record { lines = lines; header = line; follows = s; header_is = h; named = inl refl })
 header_or_fault bytes lines said line more None s h =
     elim (xlife_or_none lines) [
-      | inl x ↦ inr (XlifeRule, record { lines = lines; said = said; header = line; body = more; xlife = x.xlife; earlier = x.earlier; others = x.others; preamble = s.preamble; is_xlife = x.is_xlife; among = x.among; header_is_line = s.line_is; header_is = h; header_ends = s.line_ends; spelled = s.spelled })
-      | inr none ↦ headed_or_fault bytes said None more (record { lines = lines; header = line; preamble = s.preamble; header_is_line = s.line_is; header_is = h; named = inr none; header_ends = s.line_ends; spelled = s.spelled })
+      | inl x ↦ inr (XlifeRule, record { lines = lines; said = said; header = line; body = more; xlife = x.xlife; earlier = x.earlier; others = x.others; follows = s; is_xlife = x.is_xlife; among = x.among; header_is = h })
+      | inr none ↦ headed_or_fault bytes said None more (record { lines = lines; header = line; follows = s; header_is = h; named = inr none })
     ]
 
 -- a line that is no comment is the header, or the header is missing
-not_comment : (bytes : List ℕ) (lines : List (List ℕ)) (said : List Said) (line more : List ℕ) → Splits bytes lines said line more → is_comment line ≡ false → FileOrFault bytes
+not_comment : (bytes : List ℕ) (lines : List (List ℕ)) (said : List Said) (line more : List ℕ) → FollowsPreamble bytes lines said line more → is_comment line ≡ false → FileOrFault bytes
 not_comment bytes lines said line more s c =
     elim (header_or_not line s.line_is) [
       | inl h ↦ header_or_fault bytes lines said line more h.0 s h.1
-      | inr n ↦ inr (Header, record { lines = lines; said = said; line = line; more = more; preamble = s.preamble; line_is = s.line_is; no_header = n; no_comment_or_last = inl c; line_ends = s.line_ends; spelled = s.spelled })
+      | inr n ↦ inr (Header, record { lines = lines; said = said; line = line; more = more; follows = s; no_header = n; no_comment_or_last = inl c })
     ]
 
 -- ---- one good line more
-
-each_then : (P : List ℕ → Type 0) (lines : List (List ℕ)) (line : List ℕ) → AllByRecursion P lines → P line → AllByRecursion P (lines ++ line ∷ [])
-each_then P [] line h p = (p, tt)
-each_then P (l ∷ ls) line h p = (h.0, each_then P ls line h.1 p)
-
-says_then : (words others : List (List ℕ)) (a b : List Said) → AllZip Says words a → AllZip Says others b → AllZip Says (words ++ others) (a ++ b)
-says_then [] others [] b h k = k
-says_then [] others (s ∷ ss) b h k = absurd h
-says_then (w ∷ ws) others [] b h k = absurd h
-says_then (w ∷ ws) others (s ∷ ss) b (h, hs) k = (h, says_then ws others ss b hs k)
-
-words_then : (lines : List (List ℕ)) (line : List ℕ) → flat_map extended_words (lines ++ line ∷ []) ≡ flat_map extended_words lines ++ extended_words line
-words_then lines line = flat_map-append extended_words lines (line ∷ []) ∙ ap (λ (l : List (List ℕ)). flat_map extended_words lines ++ l) (append-nil (extended_words line))
-
--- a good line more
-pub preamble_then : (lines : List (List ℕ)) (said : List Said) (line : List ℕ) (more : List Said) → IsPreamble lines said → IsLine line → is_comment line ≡ true → AllZip Says (extended_words line) more → IsPreamble (lines ++ line ∷ []) (said ++ more)
-preamble_then lines said line more p l c w =
-    record {
-      each_is_line = each_then IsLine lines line p.each_is_line l;
-      comments = each_then (λ l. IsTrue (is_comment l)) lines line p.comments c;
-      words = subst (λ (ws : List (List ℕ)). AllZip Says ws (said ++ more)) (sym (words_then lines line)) (says_then (flat_map extended_words lines) (extended_words line) said more p.words w);
-    }
 
 lines_then : (lines : List (List ℕ)) (line more : List ℕ) → flat_map ended lines ++ (line ++ 10 ∷ more) ≡ flat_map ended (lines ++ line ∷ []) ++ more
 lines_then lines line more = sym (ap (λ (l : List ℕ). l ++ more) (flat_map-append ended lines (line ∷ []) ∙ ap (λ (l : List ℕ). flat_map ended lines ++ l) (append-nil (ended line))) ∙ append_assoc (flat_map ended lines) (ended line) more ∙ ap (λ (l : List ℕ). flat_map ended lines ++ l) (append_assoc line (10 ∷ []) more))
@@ -184,18 +157,9 @@ lines_then lines line more = sym (ap (λ (l : List ℕ). l ++ more) (flat_map-ap
 abbrev in_line : ℕ → Bool
 in_line b = not (is_line_end b)
 
-ends_by_lf : (bytes more : List ℕ) → rest in_line bytes ≡ more → IsTrue (is_end_or is_line_end more)
-ends_by_lf bytes [] e = refl
-ends_by_lf bytes (b ∷ bs) e = rw (line_ends_by_lf b bytes bs e) refl
-
 -- the first line of what stands after good lines
-first_split : (bytes : List ℕ) (lines : List (List ℕ)) (said : List Said) (left more : List ℕ) → IsPreamble lines said → bytes ≡ flat_map ended lines ++ left → rest in_line left ≡ more → Splits bytes lines said (front in_line left) more
-first_split bytes lines said left more p e r = record {
-  preamble = p;
-  line_is = every_front in_line left;
-  line_ends = ends_by_lf left more r;
-  spelled = e ∙ ap (λ (l : List ℕ). flat_map ended lines ++ l) (sym (front_then_rest in_line left) ∙ ap (λ (l : List ℕ). front in_line left ++ l) r);
-}
+first_split : (bytes : List ℕ) (lines : List (List ℕ)) (said : List Said) (left more : List ℕ) → IsPreamble lines said → bytes ≡ flat_map ended lines ++ left → rest in_line left ≡ more → FollowsPreamble bytes lines said (front in_line left) more
+first_split bytes lines said left more p e r = next_line_follows bytes left (front in_line left) more lines said p e refl (sym r)
 
 rest_length : (left more : List ℕ) (b : ℕ) → rest in_line left ≡ b ∷ more → length more < length left
 rest_length left more b e =
@@ -210,11 +174,11 @@ good_line : (bytes : List ℕ) (lines : List (List ℕ)) (said : List Said) (lef
 good_line bytes lines said left [] last p e r c w next =
     let s = first_split bytes lines said left [] p e r in
     let line = front in_line left in
-    inr (Header, record { lines = lines; said = said; line = line; more = []; preamble = p; line_is = s.line_is; no_header = λ rule h. true≢false (sym c ∙ no_comment line rule h); no_comment_or_last = inr (refl, (last, w)); line_ends = refl; spelled = s.spelled })
+    inr (Header, record { lines = lines; said = said; line = line; more = []; follows = s; no_header = λ rule h. true≢false (sym c ∙ no_comment line rule h); no_comment_or_last = inr (refl, (last, w)) })
 good_line bytes lines said left (b ∷ bs) last p e r c w next =
     let s = first_split bytes lines said left (b ∷ bs) p e r in
     let line = front in_line left in
-    next bs (rest_length left bs b r) (preamble_then lines said line last p s.line_is c w) (s.spelled ∙ ap (λ (d : ℕ). flat_map ended lines ++ (line ++ d ∷ bs)) (line_ends_by_lf b left bs r) ∙ lines_then lines line bs)
+    next bs (rest_length left bs b r) (preamble_more lines line said last p s.line_is c w) (s.spelled ∙ ap (λ (d : ℕ). flat_map ended lines ++ (line ++ d ∷ bs)) (line_ends_by_lf b left bs r) ∙ lines_then lines line bs)
 
 comment_or_fault : (bytes : List ℕ) (lines : List (List ℕ)) (said : List Said) (left : List ℕ) → IsPreamble lines said → bytes ≡ flat_map ended lines ++ left → is_comment (front in_line left) ≡ true
     → ((later : List ℕ) (last : List Said) → length later < length left → IsPreamble (lines ++ front in_line left ∷ []) (said ++ last) → bytes ≡ flat_map ended (lines ++ front in_line left ∷ []) ++ later → FileOrFault bytes)
@@ -223,7 +187,7 @@ comment_or_fault bytes lines said left p e c next =
     let s = first_split bytes lines said left (rest in_line left) p e refl in
     elim (all_say_or_bad (extended_words (front in_line left))) [
       | inl w ↦ good_line bytes lines said left (rest in_line left) w.0 p e refl c w.1 (λ later. next later w.0)
-      | inr b ↦ inr (b.0, first_from_word bytes b.0 (record { lines = lines; said = said; line = front in_line left; good = b.1.good; good_said = b.1.said; word = b.1.word; later = b.1.later; more = rest in_line left; preamble = p; line_is = s.line_is; comment = c; words = b.1.words_are; good_words = b.1.good_words; bad = b.1.bad; line_ends = s.line_ends; spelled = s.spelled }))
+      | inr b ↦ inr (b.0, first_from_word bytes b.0 (record { lines = lines; said = said; line = front in_line left; good = b.1.good; good_said = b.1.said; word = b.1.word; later = b.1.later; more = rest in_line left; follows = s; comment = c; words = b.1.words_are; good_words = b.1.good_words; bad = b.1.bad }))
     ]
 
 lines_within : (n : ℕ) (bytes : List ℕ) (lines : List (List ℕ)) (said : List Said) (left : List ℕ) → length left < n → IsPreamble lines said → bytes ≡ flat_map ended lines ++ left → FileOrFault bytes

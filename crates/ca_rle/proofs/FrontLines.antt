@@ -8,12 +8,11 @@ use Rattle.ca_plane.specs.Bytes.{is_line_end, is_end_or, front, rest}
 use Rattle.ca_plane.proofs.Fronts.{front_then_rest, every_front, rest_ends, front_length}
 use Rattle.ca_rle.specs.declared.fault.RleFault.{RleFault}
 use Rattle.ca_rle.specs.declared.fault.RleFault.TheVariants.{Syntax, GenTooLarge}
-use Rattle.ca_rle.specs.declared.front.lines.Preamble.{Preamble}
 use Rattle.ca_rle.specs.Header.{is_comment, extended_words, Said, Says}
-use Rattle.ca_rle.specs.File.{IsLine, ended}
+use Rattle.ca_rle.specs.File.{IsLine, ended, IsPreamble, FollowsPreamble}
 use Rattle.ca_rle.specs.Faults.{HasBadWord, HasNoHeader}
 use Rattle.ca_rle.specs.FaultyLine.{HasNoHeaderAt, IsFirstFaultAt}
-use Rattle.ca_rle.specs.inner.FrontParts.{HasBadWordAmong, IsPreambleOf}
+use Rattle.ca_rle.specs.inner.FrontParts.{HasBadWordAmong}
 use Rattle.ca_rle.proofs.OneHeader.{no_comment}
 
 -- the bytes of a line
@@ -55,8 +54,17 @@ fewer_behind bytes behind later b e f =
 pub fault_there : (bytes same rest left : List ℕ) (f : RleFault) → bytes ≡ same → rest ≡ left → IsFirstFaultAt same f rest → IsFirstFaultAt bytes f left
 fault_there bytes same rest left f e r h = subst (λ (l : List ℕ). IsFirstFaultAt bytes f l) r (subst (λ (l : List ℕ). IsFirstFaultAt l f rest) (sym e) h)
 
-module _ (bytes line behind : List ℕ) (lines : List (List ℕ)) (said : List Said) (p : Preamble) (r : IsPreambleOf lines said p) (l : IsLine line) (comment : is_comment line ≡ true)
-    (e : is_end_or is_line_end behind ≡ true) (spelled : bytes ≡ flat_map ended lines ++ (line ++ behind)) where
+-- the next line follows the lines so far
+pub next_line_follows : (bytes more line behind : List ℕ) (lines : List (List ℕ)) (said : List Said) → IsPreamble lines said → bytes ≡ flat_map ended lines ++ more
+    → line ≡ front (λ b. not (is_line_end b)) more → behind ≡ rest (λ b. not (is_line_end b)) more → FollowsPreamble bytes lines said line behind
+next_line_follows bytes more line behind lines said p e f r = record {
+  preamble = p;
+  line_is = first_line_is_line more line f;
+  line_ends = first_line_ends more behind r;
+  spelled = (split_there bytes more line behind lines e f r).0;
+}
+
+module _ (bytes line behind : List ℕ) (lines : List (List ℕ)) (said : List Said) (follows : FollowsPreamble bytes lines said line behind) (comment : is_comment line ≡ true) where
   bad_word : (f : RleFault) → HasBadWordAmong (extended_words line) f → HasBadWord bytes f
   bad_word f h = record {
     lines = lines;
@@ -67,14 +75,11 @@ module _ (bytes line behind : List ℕ) (lines : List (List ℕ)) (said : List S
     word = h.word;
     later = h.later;
     more = behind;
-    preamble = r.good;
-    line_is = l;
+    follows = follows;
     comment = comment;
     words = h.words_are;
     good_words = h.good_words;
     bad = h.bad;
-    line_ends = e;
-    spelled = spelled;
   }
 
   -- a bad word in the line is the text's fault
@@ -90,12 +95,9 @@ module _ (bytes line behind : List ℕ) (lines : List (List ℕ)) (said : List S
     said = said;
     line = line;
     more = behind;
-    preamble = r.good;
-    line_is = l;
+    follows = follows;
     no_header = λ rule h. both_ways _ (no_comment line rule h) comment;
     no_comment_or_last = inr (nil_from_length behind none, (last, z));
-    line_ends = e;
-    spelled = spelled;
   }
 
   -- a comment with good words at the text's end is no header

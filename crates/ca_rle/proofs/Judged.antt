@@ -1,18 +1,18 @@
 -- A text judged by its front and by the extent of its items.
-use Rattle.std.proofs.Common.{◌≡◌, ℕ, ◌<◌, ◌≤◌, ◌^◌, Bool, false, ◌↔◌, IsTrue, List, [], Option, None, unwrap_or, inl, inr, refl, sym, subst, ◌∙◌, arith}
+use Rattle.std.proofs.Common.{◌≡◌, ℕ, ◌<◌, ◌≤◌, ◌^◌, Bool, false, ◌↔◌, IsTrue, List, [], Option, None, inl, inr, sym, subst, ◌∙◌, arith}
 use Rattle.std.proofs.lemmas.Bool.{false≢true}
-use Rattle.ca_plane.specs.Limits.{default_rule}
 use Rattle.ca_plane.specs.declared.point.Point.{Point}
 use Rattle.ca_rle.specs.declared.extent.Extent.{Extent}
 use Rattle.ca_rle.specs.declared.fault.RleFault.TheVariants.{Range, TooManyCells}
 use Rattle.ca_rle.specs.declared.item.Item.{Item}
 use Rattle.ca_rle.specs.Items.{Items}
 use Rattle.ca_rle.specs.Header.{Said}
-use Rattle.ca_rle.specs.File.{File, corner_of, generation_of, IsHeaded, IsFile}
+use Rattle.ca_rle.specs.File.{File, corner_of, IsHeaded, IsFile}
 use Rattle.ca_rle.specs.Limits.{IsWithinRange, IsOutOfRange, IsWithinLimits}
 use Rattle.ca_rle.specs.FaultyLine.{IsFaultOn}
 use Rattle.ca_rle.specs.inner.BodyFaults.{KeepsCorner, bare_file}
 use Rattle.ca_rle.specs.inner.Extent.{IsExtentOf, IsExtentInRange}
+use Rattle.ca_rle.proofs.FileParts.{file_of, headed_is_file}
 use Rattle.ca_rle.proofs.Pushed.{counts_low}
 use Rattle.ca_rle.proofs.Ranges.{within_range, extent_in_range, length-picture}
 
@@ -24,10 +24,10 @@ module _ (bytes : List ℕ) (said : List Said) (rule : Option (List ℕ)) (body 
     (keeps : KeepsCorner (corner_of said) place) (items : List Item) (spelled : Items body items) (reach : IsExtentOf items e) where
   -- what the text holds
   abbrev pub file : File
-  file = record { corner = corner_of said; generation = generation_of said; rule_text = unwrap_or rule default_rule; items = items }
+  file = file_of said rule items
 
   pub is_file : IsFile bytes file
-  is_file = record { said = said; rule = rule; body = body; headed = headed; items = spelled; corner = refl; generation = refl; rule_text = refl }
+  is_file = headed_is_file bytes said rule body items headed spelled
 
   out : KeepsCorner (corner_of said) place → (IsExtentInRange e place → ⊥) → IsOutOfRange file
   out (near, inl same) fails w = fails (extent_in_range place items e (counts_low body items spelled.0 spelled.1) reach (bare_of place file same w))

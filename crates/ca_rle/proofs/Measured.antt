@@ -6,10 +6,9 @@ use Rattle.ca_rle.specs.declared.extent.Extent.{Extent}
 use Rattle.ca_rle.specs.declared.extent.Offset.{Offset}
 use Rattle.ca_rle.specs.Items.{Run}
 use Rattle.ca_rle.specs.Shown.{ends_row, state_of, rows_of, columns_of}
-use Rattle.ca_rle.specs.inner.BodyFaults.{kept}
-use Rattle.ca_rle.specs.inner.Extent.{kept_number, live_count, IsOffsetOf, IsExtentOf}
-use Rattle.ca_rle.proofs.Units.{IsItemAtFront}
-use Rattle.ca_rle.proofs.Pushed.{rows_of-push, columns_of-push, longest_of-push, right_behind-push, bottom_behind-push, live_cells-push, Run-push}
+use Rattle.ca_rle.specs.inner.BodyFaults.{kept, IsItemAtFront}
+use Rattle.ca_rle.specs.inner.Extent.{kept_number, live_count, columns_to, rows_to, IsOffsetOf, IsExtentOf}
+use Rattle.ca_rle.proofs.Pushed.{rows_of-push, columns_of-push, longest_of-push, greatest_of-push, live_cells-push, Run-push}
 
 -- where the item after i begins
 pub record IsNextOffset (i : Item) (at next : Offset) : Type 0 where
@@ -53,11 +52,11 @@ extent_more items j at old new o e g = record {
   longest = omega (arith, g.longest, e.longest, longest_of-push items j);
   right =
       let here = kept_if (state_of j.tag == 0) (columns_of items) j.count at.columns (kept_number j.count) o.columns refl in
-      let push = right_behind-push [] items j in
+      let push = greatest_of-push columns_to [] items j in
       omega (arith, g.right, e.right, here, push);
   bottom =
       let here = kept_if (state_of j.tag == 0) (rows_of items) 1 at.rows 1 o.rows refl in
-      let push = bottom_behind-push [] items j in
+      let push = greatest_of-push rows_to [] items j in
       omega (arith, g.bottom, e.bottom, here, push);
   cells =
       let here = kept_live (state_of j.tag == 0) j.count in

@@ -4,7 +4,7 @@ use Rattle.std.specs.List.{flat_map, AllZip}
 use Rattle.std.proofs.lemmas.List.{append_cancel_left}
 use Rattle.ca_plane.specs.Bytes.{is_line_end, is_end_or}
 use Rattle.ca_rle.specs.Header.{IsHeader, is_comment, extended_words, Said, Says}
-use Rattle.ca_rle.specs.File.{IsLine, ended, IsPreamble, IsHeaded}
+use Rattle.ca_rle.specs.File.{IsLine, ended, IsPreamble, FollowsPreamble, IsHeaded}
 use Rattle.ca_rle.specs.Faults.{HasNoHeader, HasXlifeRule}
 use Rattle.ca_plane.proofs.Fronts.{one_split}
 use Rattle.ca_rle.proofs.OneHeader.{no_comment}
@@ -40,11 +40,8 @@ IsGood line = (is_comment line ≡ true) × ((said : List Said) × AllZip Says (
 -- after good lines stands a line that is none of them: it isn't good, or no LF ends it
 pub record EndsPreamble (bytes : List ℕ) (lines : List (List ℕ)) (line more : List ℕ) : Type 0 where
   pub said : List Said
-  pub preamble : IsPreamble lines said
-  pub line_is : IsLine line
-  pub line_ends : IsTrue (is_end_or is_line_end more)
+  pub follows : FollowsPreamble bytes lines said line more
   pub bad_or_last : IsGood line → more ≡ []
-  pub spelled : bytes ≡ flat_map ended lines ++ (line ++ more)
 
 first_is_good : (line : List ℕ) (lines : List (List ℕ)) (said : List Said) → IsPreamble (line ∷ lines) said → IsGood line
 first_is_good line lines said p = let s = says_split (extended_words line) (flat_map extended_words lines) said p.words in (p.comments.0, (s.0, s.2))
@@ -52,29 +49,31 @@ first_is_good line lines said p = let s = says_split (extended_words line) (flat
 -- the place is the same after the first line
 behind_first : (bytes : List ℕ) (first : List ℕ) (lines : List (List ℕ)) (line more later : List ℕ) → EndsPreamble bytes (first ∷ lines) line more → later ≡ flat_map ended lines ++ (line ++ more) → EndsPreamble later lines line more
 behind_first bytes first lines line more later p e =
-    let s = says_split (extended_words first) (flat_map extended_words lines) p.said p.preamble.words in
+    let s = says_split (extended_words first) (flat_map extended_words lines) p.said p.follows.preamble.words in
     record {
       said = s.1;
-      preamble = record { each_is_line = p.preamble.each_is_line.1; comments = p.preamble.comments.1; words = s.3 };
-      line_is = p.line_is;
-      line_ends = p.line_ends;
+      follows = record {
+        preamble = record { each_is_line = p.follows.preamble.each_is_line.1; comments = p.follows.preamble.comments.1; words = s.3 };
+        line_is = p.follows.line_is;
+        line_ends = p.follows.line_ends;
+        spelled = e;
+      };
       bad_or_last = p.bad_or_last;
-      spelled = e;
     }
 
 no_longer : (bytes : List ℕ) (a m k : List ℕ) (ks : List (List ℕ)) (b n : List ℕ) → EndsPreamble bytes [] a m → EndsPreamble bytes (k ∷ ks) b n → ⊥
 no_longer bytes a m k ks b n p q =
-    let f = one_line a k m _ p.line_is q.preamble.each_is_line.0 p.line_ends refl (sym p.spelled ∙ q.spelled ∙ behind_first_line k ks (b ++ n)) in
-    let last = p.bad_or_last (subst IsGood (sym f.0) (first_is_good k ks q.said q.preamble)) in
+    let f = one_line a k m _ p.follows.line_is q.follows.preamble.each_is_line.0 p.follows.line_ends refl (sym p.follows.spelled ∙ q.follows.spelled ∙ behind_first_line k ks (b ++ n)) in
+    let last = p.bad_or_last (subst IsGood (sym f.0) (first_is_good k ks q.said q.follows.preamble)) in
     let none : [] ≡ 10 ∷ (flat_map ended ks ++ (b ++ n)) = sym last ∙ f.1 in cc
 
 -- a text's good lines end at one place
 pub one_place : (bytes : List ℕ) (ls ks : List (List ℕ)) (a b m n : List ℕ) → EndsPreamble bytes ls a m → EndsPreamble bytes ks b n → (ls ≡ ks) × (a ≡ b) × (m ≡ n)
-one_place bytes [] [] a b m n p q = let l = one_line a b m n p.line_is q.line_is p.line_ends q.line_ends (sym p.spelled ∙ q.spelled) in (refl, l.0, l.1)
+one_place bytes [] [] a b m n p q = let l = one_line a b m n p.follows.line_is q.follows.line_is p.follows.line_ends q.follows.line_ends (sym p.follows.spelled ∙ q.follows.spelled) in (refl, l.0, l.1)
 one_place bytes [] (k ∷ ks) a b m n p q = absurd (no_longer bytes a m k ks b n p q)
 one_place bytes (l ∷ ls) [] a b m n p q = absurd (no_longer bytes b n l ls a m q p)
 one_place bytes (l ∷ ls) (k ∷ ks) a b m n p q =
-    let f = one_line l k _ _ p.preamble.each_is_line.0 q.preamble.each_is_line.0 refl refl (sym (behind_first_line l ls (a ++ m)) ∙ sym p.spelled ∙ q.spelled ∙ behind_first_line k ks (b ++ n)) in
+    let f = one_line l k _ _ p.follows.preamble.each_is_line.0 q.follows.preamble.each_is_line.0 refl refl (sym (behind_first_line l ls (a ++ m)) ∙ sym p.follows.spelled ∙ q.follows.spelled ∙ behind_first_line k ks (b ++ n)) in
     let later = flat_map ended ls ++ (a ++ m) in
     let others = one_place later ls ks a b m n (behind_first bytes l ls a m later p refl) (behind_first bytes k ks b n later q (append_cancel_left (10 ∷ []) _ _ f.1)) in
     (ap₂ (λ (x : List ℕ) (xs : List (List ℕ)). x ∷ xs) f.0 others.0, others.1, others.2)
@@ -86,11 +85,11 @@ no_good_header line more rule h good = absurd (true≢false (sym good.0 ∙ no_c
 
 -- the place of a header after which items may stand
 pub headed_place : (bytes : List ℕ) (said : List Said) (rule : Option (List ℕ)) (body : List ℕ) (h : IsHeaded bytes said rule body) → EndsPreamble bytes h.lines h.header body
-headed_place bytes said rule body h = record { said = said; preamble = h.preamble; line_is = h.header_is_line; line_ends = h.header_ends; bad_or_last = no_good_header h.header body rule h.header_is; spelled = h.spelled }
+headed_place bytes said rule body h = record { said = said; follows = h.follows; bad_or_last = no_good_header h.header body rule h.header_is }
 
 -- the place of a header that lacks a rule
 pub xlife_place : (bytes : List ℕ) (h : HasXlifeRule bytes) → EndsPreamble bytes h.lines h.header h.body
-xlife_place bytes h = record { said = h.said; preamble = h.preamble; line_is = h.header_is_line; line_ends = h.header_ends; bad_or_last = no_good_header h.header h.body None h.header_is; spelled = h.spelled }
+xlife_place bytes h = record { said = h.said; follows = h.follows; bad_or_last = no_good_header h.header h.body None h.header_is }
 
 no_comment_or_last : (line more : List ℕ) → (is_comment line ≡ false) ⊎ ((more ≡ []) × ((last : List Said) × AllZip Says (extended_words line) last)) → IsGood line → more ≡ []
 no_comment_or_last line more (inl e) good = absurd (true≢false (sym good.0 ∙ e))
@@ -98,4 +97,4 @@ no_comment_or_last line more (inr e) good = e.0
 
 -- the place where the header is missing
 pub no_header_place : (bytes : List ℕ) (h : HasNoHeader bytes) → EndsPreamble bytes h.lines h.line h.more
-no_header_place bytes h = record { said = h.said; preamble = h.preamble; line_is = h.line_is; line_ends = h.line_ends; bad_or_last = no_comment_or_last h.line h.more h.no_comment_or_last; spelled = h.spelled }
+no_header_place bytes h = record { said = h.said; follows = h.follows; bad_or_last = no_comment_or_last h.line h.more h.no_comment_or_last }

@@ -18,9 +18,8 @@ use Rattle.ca_rle.specs.Items.{Run, IsEnd, Items}
 use Rattle.ca_rle.specs.Shown.{ends_row, state_of, rows_of, columns_of, place_behind, cells_of, picture_behind, picture_of}
 use Rattle.ca_rle.specs.Limits.{IsWithinRange}
 use Rattle.ca_plane.specs.Limits.{IsInRange}
-use Rattle.ca_rle.specs.inner.BodyFaults.{bare_file, kept}
+use Rattle.ca_rle.specs.inner.BodyFaults.{bare_file, kept, IsItemAtFront}
 use Rattle.ca_rle.specs.inner.Extent.{IsOffsetOf, point_from, HasRoom, cells_from}
-use Rattle.ca_rle.proofs.Units.{IsItemAtFront}
 use Rattle.ca_rle.proofs.Pushed.{rows_of-push, columns_of-push, picture_behind-push, picture_behind-append, Run-push, counts_low}
 use Rattle.ca_rle.proofs.Measured.{IsNextOffset, offset_more}
 use Rattle.ca_rle.proofs.Ranges.{all_parts, run_has_room}

@@ -10,7 +10,7 @@ use Rattle.ca_rle.specs.declared.front.words.Start.{Start}
 use Rattle.ca_rle.specs.declared.front.lines.Preamble.{Preamble}
 use Rattle.ca_rle.specs.Header.{is_comment, extended_words, Said, Says, IsXlifeLine}
 use Rattle.ca_rle.specs.File.{IsLine, IsPreamble}
-use Rattle.ca_rle.specs.inner.FrontParts.{IsStart, HasXlifeLine, IsPreambleOf}
+use Rattle.ca_rle.specs.inner.FrontParts.{IsStart, Leads, HasXlifeLine, IsPreambleOf, LeadsPreamble}
 use Rattle.ca_plane.proofs.Fronts.{every_front, front_then_rest, rest_append}
 use Rattle.ca_rle.proofs.Spans.{all_append}
 use Rattle.ca_rle.proofs.StartWords.{all_zip_append}
@@ -67,7 +67,8 @@ no_first behind blank more f e =
 
 -- ---- one more line
 
-preamble_more : (lines : List (List ℕ)) (line : List ℕ) (said more : List Said) → IsPreamble lines said → IsLine line → is_comment line ≡ true → AllZip Says (extended_words line) more → IsPreamble (lines ++ line ∷ []) (said ++ more)
+-- a good line after good lines
+pub preamble_more : (lines : List (List ℕ)) (line : List ℕ) (said more : List Said) → IsPreamble lines said → IsLine line → is_comment line ≡ true → AllZip Says (extended_words line) more → IsPreamble (lines ++ line ∷ []) (said ++ more)
 preamble_more lines line said more p l c z =
     record {
       each_is_line = all_append IsLine lines (line ∷ []) p.each_is_line (l, tt);
@@ -97,3 +98,10 @@ read_more lines line said more p s x r l c z h given none = record {
   xlife = given;
   no_xlife = λ f. let n = none f in all_append (λ l. IsXlifeLine l → ⊥) lines (line ∷ []) (r.no_xlife n.0) (n.1, tt);
 }
+
+-- a good line leads on from what the lines before it say
+pub line_leads : (line : List ℕ) (p : Preamble) (s : Start) (x : Bool) → IsLine line → is_comment line ≡ true → Leads (extended_words line) p.start s
+    → ((lines : List (List ℕ)) (said : List Said) → IsPreambleOf lines said p → x ≡ true → HasXlifeLine (lines ++ line ∷ [])) → (x ≡ false → (p.has_xlife_rule ≡ false) × (IsXlifeLine line → ⊥))
+    → LeadsPreamble line p (record { start = s; has_xlife_rule = x })
+line_leads line p s x l c words given none =
+    (words.0, words.1, λ lines said r. read_more lines line said words.0 p s x r l c words.1 (words.2 said r.start) (given lines said r) none)

@@ -9,7 +9,7 @@ use Rattle.ca_plane.specs.declared.point.Point.{Point}
 use Rattle.ca_rle.specs.declared.item.Item.{Item}
 use Rattle.ca_rle.specs.Items.{tag_of, IsCount, Run}
 use Rattle.ca_rle.specs.Shown.{ends_row, rows_of, columns_of, cells_of, picture_behind}
-use Rattle.ca_rle.specs.inner.Extent.{longest_of, live_count, live_cells, columns_to, rows_to, right_behind, bottom_behind}
+use Rattle.ca_rle.specs.inner.Extent.{longest_of, live_count, live_cells, greatest_of}
 
 -- one more element at the end begins anew, or stands after what was there
 after_last-push : {X : Type 0} (p : X → Bool) (xs : List X) (y : X) → after_last p (xs ++ y ∷ []) ≡ (if p y then [] else after_last p xs ++ y ∷ [])
@@ -66,23 +66,14 @@ pub longest_of-push : (is : List Item) (i : Item) → longest_of (is ++ i ∷ []
 longest_of-push [] i = omega arith
 longest_of-push (j ∷ js) i = let more = longest_of-push js i in omega (arith, more)
 
--- the columns and rows that the live cells take
-pub right_behind-push : (before is : List Item) (i : Item) → right_behind before (is ++ i ∷ []) ≡ max (right_behind before is) (columns_to (before ++ is) i)
-right_behind-push before [] i =
-    let same = ap (λ b. columns_to b i) (append-nil before) in
+-- the greatest of some numbers of items, with one more item
+pub greatest_of-push : (number : List Item → Item → ℕ) (before is : List Item) (i : Item) → greatest_of number before (is ++ i ∷ []) ≡ max (greatest_of number before is) (number (before ++ is) i)
+greatest_of-push number before [] i =
+    let same = ap (λ b. number b i) (append-nil before) in
     omega (arith, same)
-right_behind-push before (j ∷ js) i =
-    let more = right_behind-push (before ++ j ∷ []) js i in
-    let same = ap (λ b. columns_to b i) (append_assoc before (j ∷ []) js) in
-    omega (arith, more, same)
-
-pub bottom_behind-push : (before is : List Item) (i : Item) → bottom_behind before (is ++ i ∷ []) ≡ max (bottom_behind before is) (rows_to (before ++ is) i)
-bottom_behind-push before [] i =
-    let same = ap (λ b. rows_to b i) (append-nil before) in
-    omega (arith, same)
-bottom_behind-push before (j ∷ js) i =
-    let more = bottom_behind-push (before ++ j ∷ []) js i in
-    let same = ap (λ b. rows_to b i) (append_assoc before (j ∷ []) js) in
+greatest_of-push number before (j ∷ js) i =
+    let more = greatest_of-push number (before ++ j ∷ []) js i in
+    let same = ap (λ b. number b i) (append_assoc before (j ∷ []) js) in
     omega (arith, more, same)
 
 -- the live cells with one more item

@@ -5,7 +5,7 @@ use Rattle.std.proofs.lemmas.Bool.{cases_Bool}
 use Rattle.std.proofs.lemmas.Bool.Decides.{nat_tests}
 use Rattle.ca_plane.specs.Bytes.{is_blank, is_line_end, is_end_or, rest}
 use Rattle.ca_plane.proofs.Fronts.{rest_ends, front_length}
-use Rattle.ca_rle.specs.Items.{AtStart, InLine, InComment}
+use Rattle.ca_rle.specs.Items.{Place, AtStart, InLine, InComment}
 use Rattle.ca_rle.specs.Faults.{after_white}
 
 -- no blank ends a line
@@ -16,25 +16,23 @@ blank_no_end b h = grind (arith, nat_tests)
 rest_here : (test : ℕ → Bool) (b : ℕ) (bs : List ℕ) → test b ≡ false → rest test (b ∷ bs) ≡ b ∷ bs
 rest_here test b bs e = rw e refl
 
--- blanks at a line's start are skipped
-pub start_blanks : (bytes : List ℕ) → after_white AtStart bytes ≡ after_white AtStart (rest is_blank bytes)
-start_blanks [] = refl
-start_blanks (b ∷ bs) =
-    let more = start_blanks bs in
+-- blanks are skipped where one is
+blanks_skipped : (place : Place) → ((b : ℕ) (bs : List ℕ) → is_blank b ≡ true → after_white place (b ∷ bs) ≡ after_white place bs) → (bytes : List ℕ) → after_white place bytes ≡ after_white place (rest is_blank bytes)
+blanks_skipped place step [] = refl
+blanks_skipped place step (b ∷ bs) =
+    let more = blanks_skipped place step bs in
     elim (cases_Bool (is_blank b)) [
-      | inl e ↦ rw (e, blank_no_end b e) more
-      | inr e ↦ ap (after_white AtStart) (sym (rest_here is_blank b bs e))
+      | inl e ↦ step b bs e ∙ rw e more
+      | inr e ↦ ap (after_white place) (sym (rest_here is_blank b bs e))
     ]
+
+-- so they are at a line's start
+pub start_blanks : (bytes : List ℕ) → after_white AtStart bytes ≡ after_white AtStart (rest is_blank bytes)
+start_blanks bytes = blanks_skipped AtStart (λ b bs e. rw (e, blank_no_end b e) refl) bytes
 
 -- and elsewhere in a line
 pub line_blanks : (bytes : List ℕ) → after_white InLine bytes ≡ after_white InLine (rest is_blank bytes)
-line_blanks [] = refl
-line_blanks (b ∷ bs) =
-    let more = line_blanks bs in
-    elim (cases_Bool (is_blank b)) [
-      | inl e ↦ rw (e, blank_no_end b e) more
-      | inr e ↦ ap (after_white InLine) (sym (rest_here is_blank b bs e))
-    ]
+line_blanks bytes = blanks_skipped InLine (λ b bs e. rw (e, blank_no_end b e) refl) bytes
 
 -- a comment is skipped up to its line's end
 comment_line : (bytes : List ℕ) → after_white InComment bytes ≡ after_white InLine (rest (λ b. not (is_line_end b)) bytes)

@@ -41,16 +41,18 @@ tidy_is_file far text cells rule_text generation states t small near word low =
       headed = record {
         lines = corner_line t.corner generation ∷ [];
         header = header_line t.width t.height rule_text;
-        preamble = record {
-          each_is_line = (says.is_line, tt);
-          comments = (says.comment, tt);
-          words = subst (λ l. AllZip Says l says.said) (sym (append-nil (extended_words (corner_line t.corner generation)))) says.words;
+        follows = record {
+          preamble = record {
+            each_is_line = (says.is_line, tt);
+            comments = (says.comment, tt);
+            words = subst (λ l. AllZip Says l says.said) (sym (append-nil (extended_words (corner_line t.corner generation)))) says.words;
+          };
+          line_is = header_line_is_line t.width t.height rule_text wide high word;
+          line_ends = refl;
+          spelled = t.spelled ∙ in_parts (corner_line t.corner generation) (header_line t.width t.height rule_text) (text_of t.lines);
         };
-        header_is_line = header_line_is_line t.width t.height rule_text wide high word;
         header_is = header_line_is t.width t.height rule_text wide high word;
         named = inl refl;
-        header_ends = refl;
-        spelled = t.spelled ∙ in_parts (corner_line t.corner generation) (header_line t.width t.height rule_text) (text_of t.lines);
       };
       items = lines_spell states t.lines t.items (10 ∷ []) refl (all_written states t.items (fewer far t.items small counts) t.have_states) t.whole;
       corner = sym says.corner_is;

@@ -8,16 +8,12 @@ use Rattle.ca_rle.specs.declared.fault.RleFault.{RleFault}
 use Rattle.ca_rle.specs.declared.fault.RleFault.TheVariants.{Syntax}
 use Rattle.ca_rle.specs.declared.item.Item.{Item}
 use Rattle.ca_rle.specs.declared.item.Tag.{Tag}
-use Rattle.ca_rle.specs.Items.{InLine, is_prefix, tag_of, Run, IsEnd}
+use Rattle.ca_rle.specs.Items.{InLine, is_prefix, tag_of, IsEnd}
 use Rattle.ca_rle.specs.Faults.{after_white, letter_fault, tag_fault, count_fault, item_fault}
-use Rattle.ca_rle.specs.inner.BodyFaults.{kept}
+use Rattle.ca_rle.specs.inner.BodyFaults.{IsItemAtFront}
 use Rattle.ca_rle.specs.inner.ItemParts.{IsSplit}
 use Rattle.ca_rle.proofs.ItemAt.{item_at, count_of, tag_at_is, behind_is_tag}
 use Rattle.ca_rle.proofs.ReadItems.{run_found, end_found}
-
--- an item stands at the front, and is kept so
-abbrev pub IsItemAtFront : List ℕ → Item → List ℕ → Type 0
-IsItemAtFront bytes i more = (j : Item) × Run bytes (j ∷ []) more × (i ≡ kept j)
 
 -- ---- without digits
 

@@ -1,16 +1,16 @@
 -- What is wrong with an RLE text. The units of its spelling are each word of a `#CXRLE` line, each other line before the
 -- header, the header, and each item (our own order); the first bad one is the text's first fault.
-use Rattle.std.specs.Prelude.{◌≡◌, ℕ, ◌≤◌, ℤ, List, [], ◌∷◌, ◌++◌, Bool, true, false, ◌||◌, ◌==◌, nat_le, IsTrue, Option, Some, None, is_some, codes, ◌⊎◌, if◌then◌else◌}
+use Rattle.std.specs.Prelude.{◌≡◌, ℕ, ◌≤◌, ℤ, List, [], ◌∷◌, ◌++◌, Bool, true, false, ◌||◌, ◌==◌, nat_le, Option, Some, None, is_some, codes, ◌⊎◌, if◌then◌else◌}
 use Rattle.std.specs.Bool.{nat_eq}
-use Rattle.std.specs.List.{flat_map, AllZip, starts_with}
-use Rattle.ca_plane.specs.Bytes.{letter, is_blank, is_line_end, is_digit, is_end_or, front, rest, AreDigits, value}
+use Rattle.std.specs.List.{AllZip, starts_with}
+use Rattle.ca_plane.specs.Bytes.{letter, is_blank, is_line_end, is_digit, front, rest, AreDigits, value}
 use Rattle.ca_rle.specs.declared.fault.RleFault.{RleFault}
 use Rattle.ca_rle.specs.declared.fault.RleFault.TheVariants.{Syntax, Header, XlifeRule, NoEnd, BadState, GenTooLarge, Range, TooManyCells, Memory}
 use Rattle.ca_rle.specs.declared.item.Item.{Item}
 use Rattle.ca_rle.specs.Items.{is_letter, is_prefix, prefixed_state, tag_of, Place, AtStart, InLine, InComment, Run}
 use Rattle.ca_rle.specs.Header.{IsHeader, is_comment, extended_words, Said, Corner, Says, IsXlifeLine}
 use Rattle.ca_plane.specs.Limits.{generation_limit}
-use Rattle.ca_rle.specs.File.{File, IsLine, ended, IsPreamble, IsHeaded, IsFile}
+use Rattle.ca_rle.specs.File.{File, FollowsPreamble, IsHeaded, IsFile}
 use Rattle.ca_rle.specs.Limits.{IsOutOfRange, HasTooManyCells}
 
 -- a word of a `#CXRLE` line that begins as `Pos=` or `Gen=` and isn't of that form, or whose generation is too large
@@ -31,14 +31,11 @@ pub record HasBadWord (bytes : List ℕ) (fault : RleFault) : Type 0 where
   pub word : List ℕ
   pub later : List (List ℕ)
   pub more : List ℕ
-  pub preamble : IsPreamble lines said
-  pub line_is : IsLine line
+  pub follows : FollowsPreamble bytes lines said line more
   pub comment : is_comment line ≡ true
   pub words : extended_words line ≡ good ++ word ∷ later
   pub good_words : AllZip Says good good_said
   pub bad : IsBadWord word fault
-  pub line_ends : IsTrue (is_end_or is_line_end more)
-  pub spelled : bytes ≡ flat_map ended lines ++ (line ++ more)
 
 -- a line that is neither a comment nor a header stands after good lines, or the bytes end
 pub record HasNoHeader (bytes : List ℕ) : Type 0 where
@@ -46,13 +43,10 @@ pub record HasNoHeader (bytes : List ℕ) : Type 0 where
   pub said : List Said
   pub line : List ℕ
   pub more : List ℕ
-  pub preamble : IsPreamble lines said
-  pub line_is : IsLine line
+  pub follows : FollowsPreamble bytes lines said line more
   pub no_header : (rule : Option (List ℕ)) → IsHeader line rule → ⊥
   -- the line is no comment, or it is one with good words and the last of the text
   pub no_comment_or_last : (is_comment line ≡ false) ⊎ ((more ≡ []) × ((last : List Said) × AllZip Says (extended_words line) last))
-  pub line_ends : IsTrue (is_end_or is_line_end more)
-  pub spelled : bytes ≡ flat_map ended lines ++ (line ++ more)
 
 -- a header without a rule stands after good lines, one of which gives XLife's rule
 pub record HasXlifeRule (bytes : List ℕ) : Type 0 where
@@ -63,13 +57,10 @@ pub record HasXlifeRule (bytes : List ℕ) : Type 0 where
   pub xlife : List ℕ
   pub earlier : List (List ℕ)
   pub others : List (List ℕ)
-  pub preamble : IsPreamble lines said
+  pub follows : FollowsPreamble bytes lines said header body
   pub is_xlife : IsXlifeLine xlife
   pub among : lines ≡ earlier ++ xlife ∷ others
-  pub header_is_line : IsLine header
   pub header_is : IsHeader header None
-  pub header_ends : IsTrue (is_end_or is_line_end body)
-  pub spelled : bytes ≡ flat_map ended lines ++ (header ++ body)
 
 -- the bytes after the white space at the front; none where a comment is cut off by the end
 abbrev pub after_white : Place → List ℕ → List ℕ

@@ -29,6 +29,13 @@ pub record IsPreamble (lines : List (List ℕ)) (said : List Said) : Type 0 wher
   pub comments : AllByRecursion (λ l. IsTrue (is_comment l)) lines
   pub words : AllZip Says (flat_map extended_words lines) said
 
+-- lines that may stand before a header, then this line, and then these bytes: none, or its LF and what stands after it
+pub record FollowsPreamble (bytes : List ℕ) (lines : List (List ℕ)) (said : List Said) (line more : List ℕ) : Type 0 where
+  pub preamble : IsPreamble lines said
+  pub line_is : IsLine line
+  pub line_ends : IsTrue (is_end_or is_line_end more)
+  pub spelled : bytes ≡ flat_map ended lines ++ (line ++ more)
+
 -- the corner is that of the last `Pos`, and (0, 0) without one
 abbrev pub last_corner : Point → List Said → Point
 last_corner at [] = at
@@ -51,18 +58,14 @@ last_generation count (Nothing ∷ more) = last_generation count more
 abbrev pub generation_of : List Said → ℕ
 generation_of said = last_generation 0 said
 
--- lines that may stand before a header, a header after them, and what stands after the header's line
+-- lines that may stand before a header, a header after them, and what stands after it: nothing, or its LF and the items
 pub record IsHeaded (bytes : List ℕ) (said : List Said) (rule : Option (List ℕ)) (body : List ℕ) : Type 0 where
   pub lines : List (List ℕ)
   pub header : List ℕ
-  pub preamble : IsPreamble lines said
-  pub header_is_line : IsLine header
+  pub follows : FollowsPreamble bytes lines said header body
   pub header_is : IsHeader header rule
   -- a rule is given, or no line gives XLife's
   pub named : (is_some rule ≡ true) ⊎ AllByRecursion (λ l. IsXlifeLine l → ⊥) lines
-  -- the body is empty, or begins with the LF that ends the header's line
-  pub header_ends : IsTrue (is_end_or is_line_end body)
-  pub spelled : bytes ≡ flat_map ended lines ++ (header ++ body)
 
 -- the bytes are an RLE text that holds this; without a rule text its rule is `B3/S23`
 pub record IsFile (bytes : List ℕ) (file : File) : Type 0 where

@@ -1,8 +1,9 @@
--- A pattern that was read.
-use Rattle.std.specs.Prelude.{◌≡◌}
+-- Texts that are read, and the patterns that they hold.
+use Rattle.std.specs.Prelude.{◌≡◌, ℕ, List}
 use Rattle.ca_plane.specs.Plane.{IsPicture, IsSame}
 use Rattle.ca_rle.specs.declared.pattern.Pattern.{Pattern}
-use Rattle.ca_rle.specs.File.{File}
+use Rattle.ca_rle.specs.File.{File, IsFile}
+use Rattle.ca_rle.specs.Limits.{IsWithinLimits}
 use Rattle.ca_rle.specs.Shown.{picture_of}
 
 -- the pattern has the file's cells, rule text and generation, and the file's picture has states from 1 to 255
@@ -11,3 +12,11 @@ pub record IsPatternOf (file : File) (pattern : Pattern) : Type 0 where
   pub states : IsPicture (picture_of file.corner file.items)
   pub rule_text : pattern.rule_text.items ≡ file.rule_text
   pub generation : pattern.generation ≡ file.generation
+
+-- the text is a file that passes no limit
+abbrev pub IsReadableRle : List ℕ → Type 0
+IsReadableRle bytes = (file : File) × IsFile bytes file × IsWithinLimits file
+
+-- it is one, and this is its pattern
+abbrev pub HoldsRlePattern : List ℕ → Pattern → Type 0
+HoldsRlePattern bytes pattern = (file : File) × IsFile bytes file × IsWithinLimits file × IsPatternOf file pattern

@@ -5,12 +5,12 @@ ghost use Rattle.ca_plane.specs.Plane.{IsSame, IsPicture};
 ghost use Rattle.ca_plane.specs.Sparse.{IsSparse};
 ghost use Rattle.ca_rle.specs.declared.item.Item.{Item};
 ghost use Rattle.ca_rle.specs.declared.fault.RleFault.{RleFault};
-ghost use Rattle.ca_rle.specs.Items.{Run, IsEnd, Items};
+ghost use Rattle.ca_rle.specs.Items.{IsEnd, Items};
 ghost use Rattle.ca_rle.specs.Faults.{item_fault};
 ghost use Rattle.ca_rle.specs.Shown.{state_of, run_of, picture_of};
 ghost use Rattle.ca_rle.specs.Limits.{IsWithinRange};
 ghost use Rattle.ca_plane.specs.Limits.{IsInRange};
-ghost use Rattle.ca_rle.specs.inner.BodyFaults.{kept, bare_file};
+ghost use Rattle.ca_rle.specs.inner.BodyFaults.{IsItemAtFront, bare_file};
 ghost use Rattle.ca_rle.specs.inner.Extent.{point_from, HasRoom, cells_from};
 
 use crate::extent::Offset;
@@ -49,10 +49,11 @@ fn draw_item(plane: &mut Plane, corner: Point, at: Offset, item: Item) -> Result
     set_run(plane, at.point(corner), item.count, state)
 }
 
-/// The item at the front of bytes that were judged to be good, and the bytes after it, or nothing where the pattern ends.
+/// The item at the front of bytes that were judged to be good, and the bytes after it, or nothing where the
+/// pattern ends.
 fn good_item(bytes: &[u8]) -> Option<(Item, &[u8])>
     requires { (f : RleFault) → item_fault bytes.now ≡ Some f → ⊥ }
-    ensures { MatchOption result (IsEnd bytes.now) (λ r. (j : Item) × Run bytes.now (j ∷ []) r.1.now × (r.0 ≡ kept j)) }
+    ensures { MatchOption result (IsEnd bytes.now) (λ r. IsItemAtFront bytes.now r.0 r.1.now) }
 {
     let Ok(found) = next_item(bytes) else {
         return None;

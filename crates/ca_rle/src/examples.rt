@@ -1,8 +1,10 @@
 //! Worked examples: what the definitions say of small texts.
 
-ghost use Rattle.std.specs.Prelude.{◌≡◌, ℕ, List, [], ◌∷◌, ◌++◌, pos, negsuc, codes};
+ghost use Rattle.std.specs.Prelude.{◌≡◌, [], ◌∷◌, pos, negsuc, codes};
+ghost use Rattle.ca_plane.specs.declared.point.Point.{Point};
 ghost use Rattle.ca_rle.specs.declared.item.Tag.TheVariants.{Cell, RowEnd};
-ghost use Rattle.ca_rle.specs.declared.fault.RleFault.TheVariants.{Syntax, Header, XlifeRule, NoEnd, BadState, GenTooLarge};
+ghost use Rattle.ca_rle.specs.declared.fault.RleFault.TheVariants.{Syntax, Header, XlifeRule, NoEnd};
+ghost use Rattle.ca_rle.specs.declared.fault.RleFault.TheVariants.{BadState, GenTooLarge};
 ghost use Rattle.ca_rle.specs.Faults.{IsFirstFault};
 ghost use Rattle.ca_rle.specs.FaultyLine.{IsFirstFaultOn};
 ghost use Rattle.ca_rle.specs.Items.{Items};
@@ -11,58 +13,67 @@ ghost use Rattle.ca_rle.specs.Shown.{picture_of};
 
 /// What items mean, and white space among them.
 pub fn worked_items()
-    ensures block { Items (codes "2o$2o!") (record { count = 2; tag = Cell 1 } ∷ record { count = 1; tag = RowEnd } ∷ record { count = 2; tag = Cell 1 } ∷ []) }
-    ensures states { Items (codes "pAxXyO!") (record { count = 1; tag = Cell 25 } ∷ record { count = 1; tag = Cell 240 } ∷ record { count = 1; tag = Cell 255 } ∷ []) }
-    ensures comment { Items (codes "3" ++ (10 ∷ codes "# c!" ++ (10 ∷ codes "o!"))) (record { count = 3; tag = Cell 1 } ∷ []) }
-    ensures glider { let is = record { count = 1; tag = Cell 0 } ∷ record { count = 1; tag = Cell 1 } ∷ record { count = 1; tag = RowEnd }
-        ∷ record { count = 2; tag = Cell 0 } ∷ record { count = 1; tag = Cell 1 } ∷ record { count = 1; tag = RowEnd }
+    ensures block { Items (codes "2o$2o!") (record { count = 2; tag = Cell 1 }
+        ∷ record { count = 1; tag = RowEnd } ∷ record { count = 2; tag = Cell 1 } ∷ []) }
+    ensures states { Items (codes "pAxXyO!") (record { count = 1; tag = Cell 25 }
+        ∷ record { count = 1; tag = Cell 240 } ∷ record { count = 1; tag = Cell 255 } ∷ []) }
+    ensures comment { Items (codes "3\n# c!\no!") (record { count = 3; tag = Cell 1 } ∷ []) }
+    ensures glider { let is = record { count = 1; tag = Cell 0 } ∷ record { count = 1; tag = Cell 1 }
+        ∷ record { count = 1; tag = RowEnd }
+        ∷ record { count = 2; tag = Cell 0 } ∷ record { count = 1; tag = Cell 1 }
+        ∷ record { count = 1; tag = RowEnd }
         ∷ record { count = 3; tag = Cell 1 } ∷ [] in
         Items (codes "bo$2bo$3o!") is
         × (picture_of (record { y = pos 0; x = pos 0 }) is
         ≡ (record { y = pos 0; x = pos 1 }, 1) ∷ (record { y = pos 1; x = pos 2 }, 1)
-        ∷ (record { y = pos 2; x = pos 0 }, 1) ∷ (record { y = pos 2; x = pos 1 }, 1) ∷ (record { y = pos 2; x = pos 2 }, 1) ∷ []) }
+        ∷ (record { y = pos 2; x = pos 0 }, 1) ∷ (record { y = pos 2; x = pos 1 }, 1)
+        ∷ (record { y = pos 2; x = pos 2 }, 1) ∷ []) }
 {}
 
 /// What whole texts hold.
 pub fn worked_files()
-    ensures r_pentomino { let is = record { count = 1; tag = Cell 0 } ∷ record { count = 2; tag = Cell 1 } ∷ record { count = 1; tag = RowEnd }
+    ensures r_pentomino { let is = record { count = 1; tag = Cell 0 } ∷ record { count = 2; tag = Cell 1 }
+        ∷ record { count = 1; tag = RowEnd }
         ∷ record { count = 2; tag = Cell 1 } ∷ record { count = 1; tag = RowEnd }
         ∷ record { count = 1; tag = Cell 0 } ∷ record { count = 1; tag = Cell 1 } ∷ [] in
-        IsFile
-        (codes "#CXRLE Pos=-1,-1 Gen=7" ++ (13 ∷ 10 ∷ codes "x = 3, y = 3, rule = B3/S23" ++ (13 ∷ 10 ∷ codes "b2o$2o$bo!" ++ (13 ∷ 10 ∷ []))))
-        (record { corner = record { y = negsuc 0; x = negsuc 0 }; generation = 7; rule_text = codes "B3/S23"; items = is })
-        × (picture_of (record { y = negsuc 0; x = negsuc 0 }) is
+        let corner : Point = record { y = negsuc 0; x = negsuc 0 } in
+        IsFile (codes "#CXRLE Pos=-1,-1 Gen=7\r\nx = 3, y = 3, rule = B3/S23\r\nb2o$2o$bo!\r\n")
+        (record { corner = corner; generation = 7; rule_text = codes "B3/S23"; items = is })
+        × (picture_of corner is
         ≡ (record { y = negsuc 0; x = pos 0 }, 1) ∷ (record { y = negsuc 0; x = pos 1 }, 1)
         ∷ (record { y = pos 0; x = negsuc 0 }, 1) ∷ (record { y = pos 0; x = pos 0 }, 1)
         ∷ (record { y = pos 1; x = pos 0 }, 1) ∷ []) }
-    ensures empty { IsFile (codes "x = 0, y = 0" ++ (10 ∷ codes "!"))
-        (record { corner = record { y = pos 0; x = pos 0 }; generation = 0; rule_text = codes "B3/S23"; items = [] }) }
-    ensures corner { let is = record { count = 3; tag = Cell 1 } ∷ record { count = 2; tag = RowEnd } ∷ record { count = 1; tag = Cell 7 } ∷ [] in
-        IsFile (codes "#CXRLE Pos=-3,4" ++ (10 ∷ codes "x = 3, y = 3, rule = Star" ++ (10 ∷ codes "3o2$G!")))
-        (record { corner = record { y = pos 4; x = negsuc 2 }; generation = 0; rule_text = codes "Star"; items = is })
-        × (picture_of (record { y = pos 4; x = negsuc 2 }) is
-        ≡ (record { y = pos 4; x = negsuc 2 }, 1) ∷ (record { y = pos 4; x = negsuc 1 }, 1) ∷ (record { y = pos 4; x = negsuc 0 }, 1)
-        ∷ (record { y = pos 6; x = negsuc 2 }, 7) ∷ []) }
+    ensures empty { let corner : Point = record { y = pos 0; x = pos 0 } in
+        IsFile (codes "x = 0, y = 0\n!")
+        (record { corner = corner; generation = 0; rule_text = codes "B3/S23"; items = [] }) }
+    ensures corner { let is = record { count = 3; tag = Cell 1 } ∷ record { count = 2; tag = RowEnd }
+        ∷ record { count = 1; tag = Cell 7 } ∷ [] in
+        let corner : Point = record { y = pos 4; x = negsuc 2 } in
+        IsFile (codes "#CXRLE Pos=-3,4\nx = 3, y = 3, rule = Star\n3o2$G!")
+        (record { corner = corner; generation = 0; rule_text = codes "Star"; items = is })
+        × (picture_of corner is
+        ≡ (record { y = pos 4; x = negsuc 2 }, 1) ∷ (record { y = pos 4; x = negsuc 1 }, 1)
+        ∷ (record { y = pos 4; x = negsuc 0 }, 1) ∷ (record { y = pos 6; x = negsuc 2 }, 7) ∷ []) }
 {}
 
 /// The first fault of texts, one of each kind.
 pub fn worked_faults()
-    ensures count { IsFirstFault (codes "x = 1, y = 1" ++ (10 ∷ codes "0b!")) Syntax }
-    ensures word { IsFirstFault (codes "#CXRLE Pos=1" ++ (10 ∷ codes "x = 1, y = 1" ++ (10 ∷ codes "o!"))) Syntax }
+    ensures count { IsFirstFault (codes "x = 1, y = 1\n0b!") Syntax }
+    ensures word { IsFirstFault (codes "#CXRLE Pos=1\nx = 1, y = 1\no!") Syntax }
     ensures empty { IsFirstFault [] Header }
-    ensures comma { IsFirstFault (codes "x = 3, y = 3," ++ (10 ∷ codes "3o!")) Header }
-    ensures xlife { IsFirstFault (codes "#r 23/3" ++ (10 ∷ codes "x = 1, y = 1" ++ (10 ∷ codes "o!"))) XlifeRule }
-    ensures cut_off { IsFirstFault (codes "x = 3, y = 1" ++ (10 ∷ codes "3o")) NoEnd }
-    ensures state { IsFirstFault (codes "x = 1, y = 1, rule = Star" ++ (10 ∷ codes "yP!")) BadState }
-    ensures generation { IsFirstFault (codes "#CXRLE Gen=9223372036854775808" ++ (10 ∷ codes "x = 1, y = 1" ++ (10 ∷ codes "o!"))) GenTooLarge }
+    ensures comma { IsFirstFault (codes "x = 3, y = 3,\n3o!") Header }
+    ensures xlife { IsFirstFault (codes "#r 23/3\nx = 1, y = 1\no!") XlifeRule }
+    ensures cut_off { IsFirstFault (codes "x = 3, y = 1\n3o") NoEnd }
+    ensures state { IsFirstFault (codes "x = 1, y = 1, rule = Star\nyP!") BadState }
+    ensures generation { IsFirstFault (codes "#CXRLE Gen=9223372036854775808\nx = 1, y = 1\no!") GenTooLarge }
 {}
 
 /// The line on which the first fault of a text stands.
 pub fn worked_lines()
-    ensures item { IsFirstFaultOn (codes "x = 1, y = 1" ++ (10 ∷ codes "2o$" ++ (10 ∷ codes "z!"))) Syntax 3 }
-    ensures white { IsFirstFaultOn (codes "x = 1, y = 1" ++ (10 ∷ codes "# c!" ++ (10 ∷ 10 ∷ codes "2" ++ (10 ∷ codes "z!")))) Syntax 4 }
-    ensures header { IsFirstFaultOn (codes "#C c" ++ (10 ∷ codes "x = 3, y = 3," ++ (10 ∷ codes "3o!"))) Header 2 }
-    ensures cut_off { IsFirstFaultOn (codes "x = 3, y = 1" ++ (10 ∷ codes "3o" ++ (10 ∷ codes "# c" ++ 10 ∷ []))) NoEnd 3 }
-    ensures comments { IsFirstFaultOn (codes "#C c" ++ (10 ∷ codes "#C d" ++ 10 ∷ [])) Header 2 }
+    ensures item { IsFirstFaultOn (codes "x = 1, y = 1\n2o$\nz!") Syntax 3 }
+    ensures white { IsFirstFaultOn (codes "x = 1, y = 1\n# c!\n\n2\nz!") Syntax 4 }
+    ensures header { IsFirstFaultOn (codes "#C c\nx = 3, y = 3,\n3o!") Header 2 }
+    ensures cut_off { IsFirstFaultOn (codes "x = 3, y = 1\n3o\n# c\n") NoEnd 3 }
+    ensures comments { IsFirstFaultOn (codes "#C c\n#C d\n") Header 2 }
     ensures empty { IsFirstFaultOn [] Header 1 }
 {}

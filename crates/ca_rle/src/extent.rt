@@ -1,13 +1,16 @@
-//! How far the items of an RLE text reach, which is judged before anything is drawn. Nothing here takes memory.
+//! How far the items of an RLE text reach, which is judged before anything is drawn. Nothing here takes
+//! memory.
 
-ghost use Rattle.std.specs.Prelude.{◌≡◌, ℕ, ◌+◌, ◌≤◌, max, pos, neg_ℤ, ◌+ℤ◌, ◌≤ℤ◌, ◌<ℤ◌, List, [], ◌∷◌, Some, ◌==◌, IsTrue, ◌↔◌, IfOk, IfErr, MatchOption, MatchResult, if◌then◌else◌};
+ghost use Rattle.std.specs.Prelude.{◌≡◌, ℕ, ◌+◌, ◌≤◌, max, pos, neg_ℤ, ◌+ℤ◌, ◌≤ℤ◌, ◌<ℤ◌, List, [], ◌∷◌, Some};
+ghost use Rattle.std.specs.Prelude.{◌==◌, IsTrue, ◌↔◌, IfOk, IfErr, MatchOption, MatchResult, if◌then◌else◌};
 ghost use Rattle.ca_rle.specs.declared.item.Item.{Item};
-ghost use Rattle.ca_rle.specs.Items.{InLine, Run, IsEnd, Items};
+ghost use Rattle.ca_rle.specs.Items.{InLine, IsEnd, Items};
 ghost use Rattle.ca_rle.specs.Faults.{after_white, item_fault};
 ghost use Rattle.ca_rle.specs.Shown.{ends_row, state_of};
 ghost use Rattle.ca_plane.specs.Limits.{IsInRange, range};
-ghost use Rattle.ca_rle.specs.inner.BodyFaults.{HasBadUnitAt, kept};
-ghost use Rattle.ca_rle.specs.inner.Extent.{kept_number, live_count, IsOffsetOf, IsExtentOf, IsExtentInRange, point_from};
+ghost use Rattle.ca_rle.specs.inner.BodyFaults.{IsItemAtFront, HasBadUnitAt};
+ghost use Rattle.ca_rle.specs.inner.Extent.{kept_number, live_count, IsOffsetOf, IsExtentOf, IsExtentInRange};
+ghost use Rattle.ca_rle.specs.inner.Extent.{point_from};
 
 use crate::faulty::Faulty;
 use crate::item::{Item, Tag};
@@ -20,7 +23,8 @@ const LONGEST: u64 = ca_plane::limits::LONGEST_COUNT;
 /// Coordinates that are in range are from -2^60 on, and below 2^60.
 const RANGE_EDGE: i128 = ca_plane::limits::RANGE;
 
-/// Where an item begins: so many rows below the corner, and so many columns right of it. At 2^64 - 1 each of them stays.
+/// Where an item begins: so many rows below the corner, and so many columns right of it. At 2^64 - 1 each of
+/// them stays.
 #[derive(Clone, Copy)]
 pub(crate) struct Offset {
     pub(crate) rows: u64,
@@ -41,7 +45,8 @@ impl Offset {
     /// Where the item after this one begins.
     pub(crate) fn behind(self, item: Item) -> Offset
         ensures rows { result.rows ≡ kept_number (self.rows + (if ends_row item.tag then item.count else 0)) }
-        ensures columns { result.columns ≡ (if ends_row item.tag then 0 else kept_number (self.columns + item.count)) }
+        ensures columns { result.columns ≡ (if ends_row item.tag then 0
+            else kept_number (self.columns + item.count)) }
     {
         match item.tag {
             Tag::Cell(_) => Offset {
@@ -97,8 +102,10 @@ impl Extent {
     /// The extent with one more item, which begins at an offset.
     fn grown(self, at: Offset, item: Item) -> Extent
         ensures longest { result.longest ≡ max self.longest item.count }
-        ensures right { result.right ≡ max self.right (if state_of item.tag == 0 then 0 else kept_number (at.columns + item.count)) }
-        ensures bottom { result.bottom ≡ max self.bottom (if state_of item.tag == 0 then 0 else kept_number (at.rows + 1)) }
+        ensures right { result.right ≡ max self.right (if state_of item.tag == 0 then 0
+            else kept_number (at.columns + item.count)) }
+        ensures bottom { result.bottom ≡ max self.bottom (if state_of item.tag == 0 then 0
+            else kept_number (at.rows + 1)) }
         ensures cells { result.cells ≡ kept_number (self.cells + live_count item) }
     {
         let longest = self.longest.max(item.count);
@@ -123,7 +130,8 @@ impl Extent {
 
 /// Whether a coordinate is in range, and so many cells from there on.
 fn has_room(coordinate: i64, length: u64) -> bool
-    ensures { IsTrue result ↔ (neg_ℤ (pos range) ≤ℤ coordinate) × (coordinate <ℤ pos range) × ((coordinate +ℤ pos length) ≤ℤ pos range) }
+    ensures { IsTrue result ↔ (neg_ℤ (pos range) ≤ℤ coordinate) × (coordinate <ℤ pos range)
+        × ((coordinate +ℤ pos length) ≤ℤ pos range) }
 {
     let start = i128::from(coordinate);
     let end = start + i128::from(length);
@@ -136,7 +144,8 @@ fn has_room(coordinate: i64, length: u64) -> bool
 ///
 /// The fault of that item, with the bytes after the white space before it.
 fn item_at(bytes: &[u8]) -> Result<Option<(Item, &[u8])>, Faulty<'_>>
-    ensures { MatchResult result (λ o. MatchOption o (IsEnd bytes.now) (λ r. (j : Item) × Run bytes.now (j ∷ []) r.1.now × (r.0 ≡ kept j)))
+    ensures { MatchResult result (λ o. MatchOption o (IsEnd bytes.now)
+        (λ r. IsItemAtFront bytes.now r.0 r.1.now))
         (λ f. (item_fault bytes.now ≡ Some f.fault) × (f.rest.now ≡ after_white InLine bytes.now)) }
 {
     match next_item(bytes) {
@@ -155,7 +164,8 @@ fn item_at(bytes: &[u8]) -> Result<Option<(Item, &[u8])>, Faulty<'_>>
 /// The fault of the first item that has one.
 pub(crate) fn measure(body: &[u8]) -> Result<Extent, Faulty<'_>>
     ensures found { IfOk result (λ e. (items : List Item) × Items body.now items × IsExtentOf items e) }
-    ensures fault { IfErr result (λ f. (bad : List ℕ) × HasBadUnitAt body.now f.fault bad × (f.rest.now ≡ after_white InLine bad)) }
+    ensures fault { IfErr result (λ f. (bad : List ℕ) × HasBadUnitAt body.now f.fault bad
+        × (f.rest.now ≡ after_white InLine bad)) }
 {
     let mut extent = Extent::none();
     let mut at = Offset::start();

@@ -45,8 +45,8 @@ impl From<ca_plane::Memory> for RleFault {
     }
 }
 
-/// A fault, and the number of the line on which it stands, counted from 1: none for a limit that is passed, and for want
-/// of memory.
+/// A fault, and the number of the line on which it stands, counted from 1: none for a limit that is passed,
+/// and for want of memory.
 #[derive(Clone, Copy, Debug, PartialEq, Eq)]
 pub struct LineFault {
     pub fault: RleFault,

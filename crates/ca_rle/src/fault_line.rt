@@ -1,4 +1,5 @@
-//! A text judged before anything is drawn, and the line on which its first fault stands. Nothing here takes memory.
+//! A text judged before anything is drawn, and the line on which its first fault stands. Nothing here takes
+//! memory.
 
 ghost use Rattle.std.specs.Prelude.{◌≢◌, MatchOption, IfOk, IfErr};
 ghost use Rattle.ca_rle.specs.declared.fault.RleFault.{RleFault};
@@ -17,8 +18,8 @@ use ca_plane::limits::MOST_CELLS;
 ///
 /// # Errors
 ///
-/// The first fault of the text's spelling; else `Range` where a count, the corner or a live cell is out of range; else
-/// `TooManyCells`.
+/// The first fault of the text's spelling; else `Range` where a count, the corner or a live cell is out of
+/// range; else `TooManyCells`.
 pub(crate) fn good_front(bytes: &[u8]) -> Result<Front<'_>, LineFault>
     ensures found { IfOk result (λ f. (file : File) × IsFrontOf bytes.now file f) }
     ensures fault { IfErr result (λ f. IsFaultOn bytes.now f.fault f.line) }
@@ -47,12 +48,14 @@ pub(crate) fn good_front(bytes: &[u8]) -> Result<Front<'_>, LineFault>
     Ok(front)
 }
 
-/// The number, counted from 1, of the line on which the first fault in a text's spelling stands. None where the
-/// spelling has no fault: a text that is only out of range, or has only too many live cells, has no faulty line.
+/// The number, counted from 1, of the line on which the first fault in a text's spelling stands. None where
+/// the spelling has no fault: a text that is only out of range, or has only too many live cells, has no
+/// faulty line.
 ///
-/// A bad word of a `#CXRLE` line, a bad header and a header without a rule stand on their own line. A bad item, also one that is
-/// cut off, stands on the line of its first byte, after the white space before it. Where the text ends and the header or the `!`
-/// is missing, it is missing on the text's last line: after a last LF there is no further line, and the empty text has line 1.
+/// A bad word of a `#CXRLE` line, a bad header and a header without a rule stand on their own line. A bad
+/// item, also one that is cut off, stands on the line of its first byte, after the white space before it.
+/// Where the text ends and the header or the `!` is missing, it is missing on the text's last line: after a
+/// last LF there is no further line, and the empty text has line 1.
 ///
 /// It takes no memory.
 pub fn faulty_line(bytes: &[u8]) -> Option<u64>

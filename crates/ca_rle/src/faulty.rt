@@ -28,8 +28,8 @@ impl Faulty<'_> {
     }
 }
 
-/// The number, counted from 1, of the line on which the rest of a text begins. The end of a text stands on the line of
-/// its last byte.
+/// The number, counted from 1, of the line on which the rest of a text begins. The end of a text stands on
+/// the line of its last byte.
 fn line_of(text: &[u8], rest: &[u8]) -> u64
     ensures { result ≡ line_of text.now rest.now }
 {

@@ -4,13 +4,11 @@ mod header;
 mod lines;
 mod words;
 
-ghost use Rattle.std.specs.Prelude.{◌≡◌, ℕ, List, ◌++◌, true, false, not, Option, IfOk, IfErr};
-ghost use Rattle.std.specs.Option.{option_copied};
+ghost use Rattle.std.specs.Prelude.{◌≡◌, ℕ, List, ◌++◌, true, false, not, IfOk, IfErr};
 ghost use Rattle.std.specs.List.{flat_map};
 ghost use Rattle.ca_plane.specs.Bytes.{Every, is_line_end, is_end_or};
 ghost use Rattle.ca_rle.specs.Header.{Said, is_comment};
-ghost use Rattle.ca_rle.specs.File.{IsHeaded, ended, corner_of, generation_of};
-ghost use Rattle.ca_rle.specs.inner.BodyFaults.{KeepsCorner};
+ghost use Rattle.ca_rle.specs.File.{ended};
 ghost use Rattle.ca_rle.specs.FaultyLine.{IsFirstFaultAt};
 ghost use Rattle.ca_rle.specs.inner.FrontParts.{IsPreambleOf, IsFront};
 
@@ -38,9 +36,11 @@ fn front_at<'a>(preamble: Preamble, line: &'a [u8], body: &'a [u8]) -> Result<Fr
     requires line { Every (λ b. not (is_line_end b)) line.now }
     requires header { is_comment line.now ≡ false }
     requires ends { is_end_or is_line_end body.now ≡ true }
-    ensures found { IfOk result (λ f. (lines : List (List ℕ)) (said : List Said) → IsPreambleOf lines said preamble
+    ensures found { IfOk result (λ f. (lines : List (List ℕ)) (said : List Said)
+        → IsPreambleOf lines said preamble
         → IsFront (flat_map ended lines ++ (line.now ++ body.now)) f) }
-    ensures fault { IfErr result (λ f. (lines : List (List ℕ)) (said : List Said) → IsPreambleOf lines said preamble
+    ensures fault { IfErr result (λ f. (lines : List (List ℕ)) (said : List Said)
+        → IsPreambleOf lines said preamble
         → IsFirstFaultAt (flat_map ended lines ++ (line.now ++ body.now)) f (line.now ++ body.now)) }
 {
     let Some(header) = read_header(line) else {
@@ -63,8 +63,7 @@ fn front_at<'a>(preamble: Preamble, line: &'a [u8], body: &'a [u8]) -> Result<Fr
 ///
 /// The fault of the first bad line, and the bytes from that line on.
 pub(crate) fn read_front(bytes: &[u8]) -> Result<Front<'_>, Faulty<'_>>
-    ensures found { IfOk result (λ f. (said : List Said) × (rule : Option (List ℕ)) × IsHeaded bytes.now said rule f.body.now
-        × (option_copied f.rule ≡ rule) × KeepsCorner (corner_of said) f.corner × (f.generation ≡ generation_of said)) }
+    ensures found { IfOk result (IsFront bytes.now) }
     ensures fault { IfErr result (λ f. IsFirstFaultAt bytes.now f.fault f.rest.now) }
 {
     let mut preamble = Preamble::new();

@@ -19,12 +19,14 @@ pub fn one_list_of_items()
 
 /// No bad item stands after items of a spelled list.
 pub fn no_fault_in_items()
-    ensures { (bytes bad : List ℕ) (is js : List Item) (f : RleFault) → Items bytes is → Run bytes js bad → item_fault bad ≡ Some f → ⊥ }
+    ensures { (bytes bad : List ℕ) (is js : List Item) (f : RleFault) → Items bytes is → Run bytes js bad
+        → item_fault bad ≡ Some f → ⊥ }
 {}
 
 /// At the front of bytes stands an item, or the end of the pattern, where it has no fault.
 pub fn item_or_end()
-    ensures { (bytes : List ℕ) → item_fault bytes ≡ None → ((i : Item) × (more : List ℕ) × Run bytes (i ∷ []) more) ⊎ IsEnd bytes }
+    ensures { (bytes : List ℕ) → item_fault bytes ≡ None
+        → ((i : Item) × (more : List ℕ) × Run bytes (i ∷ []) more) ⊎ IsEnd bytes }
 {}
 
 /// A text is a file in one way at most.
@@ -44,23 +46,28 @@ pub fn one_first_fault()
 
 /// A text has one fault at most, besides running out of memory.
 pub fn one_fault()
-    ensures { (bytes : List ℕ) (f g : RleFault) → f ≢ Memory → g ≢ Memory → IsFaultOf bytes f → IsFaultOf bytes g → f ≡ g }
+    ensures { (bytes : List ℕ) (f g : RleFault) → f ≢ Memory → g ≢ Memory → IsFaultOf bytes f
+        → IsFaultOf bytes g → f ≡ g }
 {}
 
 /// Every text is a file, or has a first fault in its spelling.
 pub fn file_or_fault()
-    ensures { (bytes : List ℕ) → ((file : File) × IsFile bytes file) ⊎ ((f : RleFault) × IsFirstFault bytes f) }
+    ensures { (bytes : List ℕ) → ((file : File) × IsFile bytes file)
+        ⊎ ((f : RleFault) × IsFirstFault bytes f) }
 {}
 
 /// A text that is a file within the limits has no fault, besides running out of memory.
 pub fn no_fault_within_limits()
-    ensures { (bytes : List ℕ) (file : File) (f : RleFault) → IsFile bytes file → IsWithinLimits file → f ≢ Memory → IsFaultOf bytes f → ⊥ }
+    ensures { (bytes : List ℕ) (file : File) (f : RleFault) → IsFile bytes file → IsWithinLimits file
+        → f ≢ Memory → IsFaultOf bytes f → ⊥ }
 {}
 
 /// The fault on a faulty line is the text's first, and each first fault stands on a line.
 pub fn line_of_a_fault()
-    ensures fault { (bytes : List ℕ) (f : RleFault) (line : ℕ) → IsFirstFaultOn bytes f line → IsFirstFault bytes f }
-    ensures line { (bytes : List ℕ) (f : RleFault) → IsFirstFault bytes f → (line : ℕ) × IsFirstFaultOn bytes f line }
+    ensures fault { (bytes : List ℕ) (f : RleFault) (line : ℕ) → IsFirstFaultOn bytes f line
+        → IsFirstFault bytes f }
+    ensures line { (bytes : List ℕ) (f : RleFault) → IsFirstFault bytes f
+        → (line : ℕ) × IsFirstFaultOn bytes f line }
 {}
 
 /// A text has one faulty line at most.
@@ -68,10 +75,11 @@ pub fn one_faulty_line()
     ensures { (bytes : List ℕ) (m n : ℕ) → IsFaultyLine bytes m → IsFaultyLine bytes n → m ≡ n }
 {}
 
-/// How lines are counted: what stands after whole lines and the start of another is on that other line, and the end of a text
-/// is on its last line.
+/// How lines are counted: what stands after whole lines and the start of another is on that other line, and
+/// the end of a text is on its last line.
 pub fn counted_lines()
-    ensures rest { (lines : List (List ℕ)) (before rest : List ℕ) → AllByRecursion IsLine lines → IsLine before → 0 < length rest
+    ensures rest { (lines : List (List ℕ)) (before rest : List ℕ) → AllByRecursion IsLine lines
+        → IsLine before → 0 < length rest
         → line_of (flat_map ended lines ++ (before ++ rest)) rest ≡ length lines + 1 }
     ensures end { (text : List ℕ) → line_of text [] ≡ max 1 (length (lines_of text)) }
 {}

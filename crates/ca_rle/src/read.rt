@@ -4,12 +4,10 @@ ghost use Rattle.std.specs.Prelude.{◌≡◌, ◌<◌, IfOk, IfErr, IsErrOf};
 ghost use Rattle.ca_plane.specs.Bytes.{IsWord};
 ghost use Rattle.ca_plane.specs.Sparse.{IsSparse};
 ghost use Rattle.ca_plane.specs.Limits.{generation_limit};
-ghost use Rattle.ca_rle.specs.File.{File, IsFile};
-ghost use Rattle.ca_rle.specs.Limits.{IsWithinLimits};
 ghost use Rattle.ca_rle.specs.declared.fault.RleFault.TheVariants.{Memory};
 ghost use Rattle.ca_rle.specs.Faults.{IsFaultOf};
 ghost use Rattle.ca_rle.specs.FaultyLine.{IsFaultOn};
-ghost use Rattle.ca_rle.specs.Pattern.{IsPatternOf};
+ghost use Rattle.ca_rle.specs.Pattern.{IsReadableRle, HoldsRlePattern};
 
 use crate::drawing::draw;
 use crate::fault::{LineFault, RleFault};
@@ -18,27 +16,28 @@ use crate::pattern::Pattern;
 use ca_plane::text::rule_text;
 use std::alloc::Global;
 
-/// Reads an extended RLE text (Golly Help, File Formats; docs/FORMATS.md): the pattern that it holds, its first cell at the
-/// corner that `Pos` says, or at (0, 0).
+/// Reads an extended RLE text (Golly Help, File Formats; docs/FORMATS.md): the pattern that it holds, its
+/// first cell at the corner that `Pos` says, or at (0, 0).
 ///
-/// The whole text is judged before anything is written: a text that is refused takes no memory, and a count is never
-/// counted out before it is known to fit.
+/// The whole text is judged before anything is written: a text that is refused takes no memory, and a count
+/// is never counted out before it is known to fit.
 ///
 /// # Errors
 ///
-/// The first fault of the text's spelling and its line; else `Range` where a count is above 2^62, or the corner or a live
-/// cell isn't from -2^60 to 2^60 - 1 in both directions; else `TooManyCells` where more than 16777216 cells are live; and
-/// `Memory` where there is no memory for the pattern of a text without these faults.
+/// The first fault of the text's spelling and its line; else `Range` where a count is above 2^62, or the
+/// corner or a live cell isn't from -2^60 to 2^60 - 1 in both directions; else `TooManyCells` where more than
+/// 16777216 cells are live; and `Memory` where there is no memory for the pattern of a text without these
+/// faults.
 pub fn read_rle_with_line(alloc: Global, bytes: &[u8]) -> Result<Pattern, LineFault>
     // What is read is what the text holds, and it passes no limit.
-    ensures found { IfOk result (λ p. (file : File) × IsFile bytes.now file × IsWithinLimits file × IsPatternOf file p) }
+    ensures found { IfOk result (HoldsRlePattern bytes.now) }
     ensures sparse { IfOk result (λ p. IsSparse p.cells) }
     ensures generation { IfOk result (λ p. p.generation < generation_limit) }
     ensures rule { IfOk result (λ p. IsWord p.rule_text.items) }
     // A text that is refused has this fault, on this line.
     ensures fault { IfErr result (λ f. IsFaultOn bytes.now f.fault f.line) }
     // It runs out of memory only for a text without a fault.
-    ensures memory { IfErr result (λ f. f.fault ≡ Memory → (file : File) × IsFile bytes.now file × IsWithinLimits file) }
+    ensures memory { IfErr result (λ f. f.fault ≡ Memory → IsReadableRle bytes.now) }
 {
     let front = good_front(bytes)?;
     let cells = draw(alloc, front.body, front.corner)?;
@@ -62,14 +61,14 @@ pub fn read_rle_with_line(alloc: Global, bytes: &[u8]) -> Result<Pattern, LineFa
 /// Those of `read_rle_with_line`.
 pub fn read_rle(alloc: Global, bytes: &[u8]) -> Result<Pattern, RleFault>
     // What is read is what the text holds, and it passes no limit.
-    ensures found { IfOk result (λ p. (file : File) × IsFile bytes.now file × IsWithinLimits file × IsPatternOf file p) }
+    ensures found { IfOk result (HoldsRlePattern bytes.now) }
     ensures sparse { IfOk result (λ p. IsSparse p.cells) }
     ensures generation { IfOk result (λ p. p.generation < generation_limit) }
     ensures rule { IfOk result (λ p. IsWord p.rule_text.items) }
     // A text that is refused has this fault.
     ensures fault { IfErr result (λ f. IsFaultOf bytes.now f) }
     // It runs out of memory only for a text without a fault.
-    ensures memory { IsErrOf result RleFault.Memory → (file : File) × IsFile bytes.now file × IsWithinLimits file }
+    ensures memory { IsErrOf result RleFault.Memory → IsReadableRle bytes.now }
 {
     match read_rle_with_line(alloc, bytes) {
         Ok(pattern) => Ok(pattern),

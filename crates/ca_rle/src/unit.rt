@@ -1,11 +1,12 @@
 //! One item of an RLE text, read from the front of its bytes. Nothing here takes memory.
 
-ghost use Rattle.std.specs.Prelude.{◌≡◌, ℕ, ◌<◌, ◌≤◌, ◌-◌, ◌^◌, min, List, [], ◌∷◌, ◌++◌, Some, false, not, length, MatchOption, MatchResult, IsTrue};
+ghost use Rattle.std.specs.Prelude.{◌≡◌, ℕ, ◌<◌, ◌≤◌, ◌-◌, ◌^◌, min, List, [], ◌∷◌, ◌++◌, Some, false, not};
+ghost use Rattle.std.specs.Prelude.{length, MatchOption, MatchResult, IsTrue};
 ghost use Rattle.ca_plane.specs.Bytes.{is_blank, is_digit, is_end_or, Every, value};
 ghost use Rattle.ca_rle.specs.declared.item.Item.{Item};
-ghost use Rattle.ca_rle.specs.Items.{AtStart, InLine, is_letter, is_prefix, prefixed_state, tag_of, Run, IsEnd};
+ghost use Rattle.ca_rle.specs.Items.{AtStart, InLine, is_letter, is_prefix, prefixed_state, tag_of, IsEnd};
 ghost use Rattle.ca_rle.specs.Faults.{after_white, letter_fault, tag_fault, item_fault};
-ghost use Rattle.ca_rle.specs.inner.BodyFaults.{kept};
+ghost use Rattle.ca_rle.specs.inner.BodyFaults.{IsItemAtFront};
 ghost use Rattle.ca_rle.specs.inner.ItemParts.{IsSplit};
 
 use crate::fault::RleFault;
@@ -40,7 +41,8 @@ pub(crate) fn after_white(bytes: &[u8]) -> &[u8]
 /// The cell that a prefix and the letter at the front stand for, and the bytes after it.
 fn prefixed(prefix: u8, bytes: &[u8]) -> Result<(Tag, &[u8]), RleFault>
     requires { IsTrue (is_prefix prefix) }
-    ensures { MatchResult result (λ t. (letter : ℕ) × (tag_of (prefix ∷ letter ∷ []) ≡ Some t.0) × (bytes.now ≡ letter ∷ t.1.now))
+    ensures { MatchResult result (λ t. (letter : ℕ) × (tag_of (prefix ∷ letter ∷ []) ≡ Some t.0)
+        × (bytes.now ≡ letter ∷ t.1.now))
         (λ f. letter_fault prefix bytes.now ≡ Some f) }
 {
     let Some((letter, rest)) = bytes.split_first() else {
@@ -101,7 +103,8 @@ fn split_count(bytes: &[u8]) -> (&[u8], &[u8])
 /// The count that digits write, or nothing where it is 0. At 2^64 - 1 it stays.
 fn count(digits: &[u8]) -> Option<u64>
     requires { Every is_digit digits.now }
-    ensures { MatchOption result (value digits.now ≡ 0) (λ n. (0 < value digits.now) × (n ≡ min (value digits.now) (2 ^ 64 - 1))) }
+    ensures { MatchOption result (value digits.now ≡ 0)
+        (λ n. (0 < value digits.now) × (n ≡ min (value digits.now) (2 ^ 64 - 1))) }
 {
     let count = number(digits);
     if count == 0 {
@@ -112,7 +115,8 @@ fn count(digits: &[u8]) -> Option<u64>
 
 /// The item that stands at the front and the bytes after it, or nothing where the pattern ends there.
 pub(crate) fn next_item(bytes: &[u8]) -> Result<Option<(Item, &[u8])>, RleFault>
-    ensures { MatchResult result (λ o. MatchOption o (IsEnd bytes.now) (λ r. (j : Item) × Run bytes.now (j ∷ []) r.1.now × (r.0 ≡ kept j)))
+    ensures { MatchResult result (λ o. MatchOption o (IsEnd bytes.now)
+        (λ r. IsItemAtFront bytes.now r.0 r.1.now))
         (λ f. item_fault bytes.now ≡ Some f) }
 {
     let (digits, behind) = split_count(bytes);

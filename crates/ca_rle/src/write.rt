@@ -22,15 +22,15 @@ mod runs;
 
 /// The one tidy text of the plane, with its rule text, its generation count, and its rule's number of states.
 ///
-/// The first line is `#CXRLE Pos=X,Y`, the upper left corner of the smallest box round the live cells, with ` Gen=G`
-/// after it where the generation isn't 0. The second is `x = W, y = H, rule = R`, the size of that box. For the
-/// empty plane the corner is 0,0 and the size 0 by 0. Then come the items and `!`, in lines of at most 70 characters,
-/// none of which is ended earlier than it has to be: `b` and `o` where there are two states, else `.` and letters; no
-/// count of 1, no dead cells at the end of a row, no row end after the last row, and no two items side by side that
-/// could be one. Each line ends with LF.
+/// The first line is `#CXRLE Pos=X,Y`, the upper left corner of the smallest box round the live cells, with
+/// ` Gen=G` after it where the generation isn't 0. The second is `x = W, y = H, rule = R`, the size of that
+/// box. For the empty plane the corner is 0,0 and the size 0 by 0. Then come the items and `!`, in lines of
+/// at most 70 characters, none of which is ended earlier than it has to be: `b` and `o` where there are two
+/// states, else `.` and letters; no count of 1, no dead cells at the end of a row, no row end after the last
+/// row, and no two items side by side that could be one. Each line ends with LF.
 ///
-/// The text's list of cells is the plane's own, so the reader takes it where the plane has at most 16777216 live cells, and
-/// refuses that of any other.
+/// The text's list of cells is the plane's own, so the reader takes it where the plane has at most 16777216
+/// live cells, and refuses that of any other.
 ///
 /// # Errors
 ///
@@ -47,11 +47,14 @@ pub fn write_rle(
     requires rule { IsWord rule_text.now }
     requires generation { generation < generation_limit }
     ensures tidy { IfOk result (λ text. IsTidy text.items cells.now rule_text.now generation states) }
-    // It means the plane, its cells one by one in their order, the rule text and the generation, and is in the reader's range.
+    // It means the plane, its cells one by one in their order, the rule text and the generation, and is in
+    // the reader's range.
     ensures means { IfOk result (λ text. (file : File) × IsFile text.items file × IsWithinRange file
-        × (picture_of file.corner file.items ≡ cells.now) × (file.rule_text ≡ rule_text.now) × (file.generation ≡ generation)) }
+        × (picture_of file.corner file.items ≡ cells.now) × (file.rule_text ≡ rule_text.now)
+        × (file.generation ≡ generation)) }
     // The reader takes it where the plane has at most 16777216 live cells.
-    ensures limits { length cells.now ≤ most_cells → IfOk result (λ text. (file : File) → IsFile text.items file → IsWithinLimits file) }
+    ensures limits { length cells.now ≤ most_cells → IfOk result
+        (λ text. (file : File) → IsFile text.items file → IsWithinLimits file) }
 {
     let frame = frame::of(cells);
     let mut text = Vec::new(alloc);
@@ -66,8 +69,8 @@ pub fn write_rle(
 ///
 /// # Errors
 ///
-/// `Memory` where there is no memory for the text: nothing was written. `Write` where a write failed: some first part
-/// of the text was written, but not all.
+/// `Memory` where there is no memory for the text: nothing was written. `Write` where a write failed: some
+/// first part of the text was written, but not all.
 pub fn write_rle_to<W: Write>(
     alloc: Global,
     cells: &Plane,
@@ -84,13 +87,15 @@ pub fn write_rle_to<W: Write>(
     ensures all { OnOk result ((text : List ℕ) × IsTidy text cells.now rule_text.now generation states
         × Appends (W.contents out.old.inner) (W.contents out.new.inner) text) }
     // The reader takes what is written where the plane has at most 16777216 live cells.
-    ensures limits { length cells.now ≤ most_cells → OnOk result ((text : List ℕ) × Appends (W.contents out.old.inner) (W.contents out.new.inner) text
+    ensures limits { length cells.now ≤ most_cells → OnOk result
+        ((text : List ℕ) × Appends (W.contents out.old.inner) (W.contents out.new.inner) text
         × ((file : File) → IsFile text file → IsWithinLimits file)) }
     ensures kept { OnOk result (out.new.failures ≡ out.old.failures) }
     // Without memory the device is as it was.
     ensures memory { IsErrOf result WriteFault.Memory → out.new ≡ out.old }
     // A write failed after some first part of the tidy text, which isn't the whole.
-    ensures front { IsErrOf result WriteFault.Write → (text : List ℕ) × IsTidy text cells.now rule_text.now generation states
+    ensures front { IsErrOf result WriteFault.Write → (text : List ℕ)
+        × IsTidy text cells.now rule_text.now generation states
         × AppendsPrefix (W.contents out.old.inner) (W.contents out.new.inner) text }
     ensures counted { IsErrOf result WriteFault.Write → Rises out.old.failures out.new.failures }
 {

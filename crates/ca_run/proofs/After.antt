@@ -35,8 +35,8 @@ pub after_same : (next : List ℕ → ℕ) (p q : ℤ → ℤ → ℕ) (n : ℕ)
 after_same next p q n same x y = after_near next p q n x y (λ u v _. same u v)
 
 -- the nine cells round a place of a plane that is seen from (a, b)
-pub around-seen : (f : ℤ → ℤ → ℕ) (a b x y : ℤ) → around (λ u v. f (a +ℤ u) (b +ℤ v)) x y ≡ around f (a +ℤ x) (b +ℤ y)
-around-seen f a b x y =
+pub around-nine_states : (f : ℤ → ℤ → ℕ) (a b x y : ℤ) → around (λ u v. f (a +ℤ u) (b +ℤ v)) x y ≡ around f (a +ℤ x) (b +ℤ y)
+around-nine_states f a b x y =
     let west : a +ℤ (x -ℤ pos 1) ≡ (a +ℤ x) -ℤ pos 1 = omega (arith, ints) in
     let east : a +ℤ (x +ℤ pos 1) ≡ (a +ℤ x) +ℤ pos 1 = omega (arith, ints) in
     let north : b +ℤ (y -ℤ pos 1) ≡ (b +ℤ y) -ℤ pos 1 = omega (arith, ints) in
@@ -48,7 +48,7 @@ pub after_seen : (next : List ℕ → ℕ) (p : ℤ → ℤ → ℕ) (a b : ℤ)
 after_seen next p a b zero x y = refl
 after_seen next p a b (suc n) x y =
     ap next (around-same (cells_after next (λ u v. p (a +ℤ u) (b +ℤ v)) n) (λ u v. cells_after next p n (a +ℤ u) (b +ℤ v)) x y (λ u v _. after_seen next p a b n u v)
-    ∙ around-seen (cells_after next p n) a b x y)
+    ∙ around-nine_states (cells_after next p n) a b x y)
 
 -- n generations of the plane after m are m + n generations
 pub after_again : (next : List ℕ → ℕ) (p : ℤ → ℤ → ℕ) (m n : ℕ) (x y : ℤ) → cells_after next (cells_after next p m) n x y ≡ cells_after next p (m + n) x y

@@ -1,5 +1,5 @@
 -- Rows of words that show a plane: those that come between them show the plane later.
-use Rattle.std.proofs.Common.{◌≡◌, ℕ, suc, ◌+◌, ◌-◌, ◌*◌, ◌/◌, ◌%◌, ◌≤◌, ◌^◌, inl, inr, Result, Ok, Err, IfOk, List, [], refl, ap, subst, ◌∙◌, arith}
+use Rattle.std.proofs.Common.{◌≡◌, ℕ, suc, ◌+◌, ◌-◌, ◌*◌, ◌/◌, ◌%◌, ◌≤◌, ◌^◌, inl, inr, Option, IfSome, Result, Ok, Err, IfOk, List, [], refl, sym, ap, subst, ◌∙◌, arith}
 use Rattle.std.specs.Prelude.{ℤ, pos, negsuc, neg_ℤ, ◌+ℤ◌, ◌-ℤ◌, replicate}
 use Rattle.std.proofs.lemmas.Int.{ints}
 use Rattle.std.proofs.Math.Nat.{two-pow-succ}
@@ -7,15 +7,15 @@ use Rattle.std.proofs.Math.Pow.{pow_mono}
 use Rattle.ca_plane.specs.Generations.{cells_after}
 use Rattle.ca_quad.specs.declared.node.Node.{Node}
 use Rattle.ca_quad.specs.declared.tree.Tree.{Tree}
-use Rattle.ca_quad.specs.Trees.{cell}
+use Rattle.ca_quad.specs.Trees.{IsTree, cell}
 use Rattle.ca_run.specs.inner.Shown.{ShowsAt}
 use Rattle.ca_run.specs.inner.Words.{WordsShow}
 use Rattle.ca_run.specs.Masks.{GoesBy}
-use Rattle.ca_run.specs.inner.Grid.{word_in, row_in, round_corner, Follows, Keeps, GridShows, EndsAt, DiesBeyond, corner, eight}
+use Rattle.ca_run.specs.inner.Grid.{word_in, row_in, corner_words, Follows, Keeps, GridShows, EndsAt, DiesBeyond, corner, eight}
 use Rattle.ca_run.proofs.Words.{word_from, word_of_same}
 use Rattle.ca_run.proofs.After.{after_again}
 use Rattle.ca_run.proofs.Shown.{at_from}
-use Rattle.ca_run.proofs.Trees.{tree_dies, later_dies, tree_at}
+use Rattle.ca_run.proofs.Trees.{tree_dies, later_dies, root_at, tree_at}
 
 -- ---- where there are no rows
 
@@ -50,7 +50,7 @@ place_between a i = omega (arith, ints)
 
 -- the words round a corner of rows that show a plane show it
 corner_shows : (rows : List (List ℕ)) (p : ℤ → ℤ → ℕ) (a b : ℤ) → GridShows rows p a b → (i j : ℤ)
-    → WordsShow (round_corner (row_in rows (j -ℤ pos 1)) (row_in rows j) i) p (a +ℤ eight (i -ℤ pos 1)) (b +ℤ eight (j -ℤ pos 1))
+    → WordsShow (corner_words (row_in rows (j -ℤ pos 1)) (row_in rows j) i) p (a +ℤ eight (i -ℤ pos 1)) (b +ℤ eight (j -ℤ pos 1))
 corner_shows rows p a b h i j =
     let west = i -ℤ pos 1 in
     let north = j -ℤ pos 1 in
@@ -107,6 +107,17 @@ tree_ends nodes tree side some e x y (inl h) = tree_dies nodes tree some x y (in
 tree_ends nodes tree side some e x y (inr (inl h)) = tree_dies nodes tree some x y (inl (inr (omega (arith, ints, e, h))))
 tree_ends nodes tree side some e x y (inr (inr (inl h))) = tree_dies nodes tree some x y (inr (inl h))
 tree_ends nodes tree side some e x y (inr (inr (inr h))) = tree_dies nodes tree some x y (inr (inr (omega (arith, ints, e, h))))
+
+-- rows that show whatever the root of a tree shows show the tree's cells
+pub tree_rows : (nodes : List Node) (tree : Tree) (found : Option (List (List ℕ))) → IsTree nodes tree → 6 ≤ tree.level
+    → ((p : ℤ → ℤ → ℕ) (a b : ℤ) → ShowsAt nodes tree.root (suc (suc (suc (tree.level - 3)))) p a b → EndsAt (2 ^ suc (suc (suc (tree.level - 3)))) p a b → IfSome found (λ rows. GridShows rows p a b))
+    → IfSome found (λ rows. GridShows rows (cell nodes tree) (neg_ℤ (pos (2 ^ (tree.level - 1)))) (neg_ℤ (pos (2 ^ (tree.level - 1)))))
+tree_rows nodes tree found is_tree least shows =
+    let three : suc (suc (suc (tree.level - 3))) ≡ tree.level = omega (arith, least) in
+    let one : suc (tree.level - 1) ≡ tree.level = omega (arith, least) in
+    let up : 2 ^ suc (suc (suc (tree.level - 3))) ≡ 2 ^ (tree.level - 1) + 2 ^ (tree.level - 1) = ap (λ m. 2 ^ m) (three ∙ sym one) ∙ two-pow-succ (tree.level - 1) in
+    let half = neg_ℤ (pos (2 ^ (tree.level - 1))) in
+    shows (cell nodes tree) half half (subst (λ k. ShowsAt nodes tree.root k (cell nodes tree) half half) (sym three) (root_at nodes tree is_tree)) (tree_ends nodes tree _ (omega (arith, least)) up)
 
 -- three powers of two more
 eight_times : (k : ℕ) → 2 ^ (k + 3) ≡ 8 * 2 ^ k

@@ -12,7 +12,7 @@ use Rattle.ca_plane.specs.Plane.{Picture, cell}
 use Rattle.ca_plane.specs.Sparse.{point_cmp, IsInPlane, IsSparse}
 use Rattle.ca_plane.proofs.Pictures.{point_cmp_total, apart-Less, place-from_true, cell-first, point-same}
 use Rattle.ca_run.specs.inner.Order.{NoneBefore, IsFirstPlace}
-use Rattle.ca_run.specs.inner.Ahead.{IsWithout}
+use Rattle.ca_run.specs.inner.CellsAhead.{IsWithout}
 use Rattle.ca_run.proofs.Reading.{compared, Less_from_before}
 
 -- a sparse picture without its first cell

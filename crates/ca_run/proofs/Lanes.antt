@@ -1,16 +1,17 @@
 -- Squares that are read as words and made of them, and their centres.
-use Rattle.std.proofs.Common.{◌≡◌, ℕ, suc, ◌≤◌, ◌^◌, List, Option, Some, None, Result, Ok, Err, IfOk, IfSome, sym, subst, ◌∙◌, arith}
+use Rattle.std.proofs.Common.{◌≡◌, ℕ, suc, ◌^◌, List, Option, Some, None, Result, Ok, Err, IfOk, IfSome, sym, subst, ◌∙◌, arith}
 use Rattle.std.specs.Prelude.{ℤ, pos, ◌+ℤ◌, MatchOption}
 use Rattle.ca_plane.specs.Generations.{cells_after}
 use Rattle.ca_quad.specs.declared.node.Node.{Node}
-use Rattle.ca_quad.specs.Squares.{IsOf, cell_of}
+use Rattle.ca_quad.specs.Squares.{cell_of}
 use Rattle.ca_quad.specs.Sound.{IsSound, Grows}
 use Rattle.ca_quad.specs.Trees.{from_corner, word_cells, HasMoreStates}
 use Rattle.ca_run.specs.Centre.{IsCentre}
+use Rattle.ca_run.specs.inner.Centres.{HasCentre}
 use Rattle.ca_run.specs.inner.Shown.{ShowsAt, side}
 use Rattle.ca_run.specs.inner.Words.{WordShows}
 use Rattle.ca_run.specs.Masks.{GoesBy}
-use Rattle.ca_run.proofs.Shown.{is_centre_at}
+use Rattle.ca_run.proofs.Shown.{is_centre_at, at_corner}
 
 -- the word of a square that shows a plane shows it
 pub word_at : (nodes : List Node) (id : ℕ) (found : Option ℕ) (p : ℤ → ℤ → ℕ) (a b : ℤ)
@@ -23,8 +24,23 @@ word_at nodes id (Some word) p a b is shows = record { looks = λ x y i j. sym (
 pub goes_by_masks : (next : List ℕ → ℕ) (found : Option (ℕ × ℕ)) (masks : ℕ × ℕ) → IfSome found (GoesBy next) → found ≡ Some masks → GoesBy next masks
 goes_by_masks next found masks h e = subst (λ m. IfSome m (GoesBy next)) e h
 
--- a square that shows the plane of another's cells 2 ^ j generations later, a quarter of the side further in, is its centre
-pub made_centre : {E : Type 0} (next : List ℕ → ℕ) (old new : List Node) → IsSound old → Grows old new → (r : Result ℕ E) (id k j : ℕ) → IsOf old id (suc (suc k)) → j ≤ k
-    → IfOk r (λ half. ShowsAt new half (suc k) (cells_after next (from_corner (cell_of old (suc (suc k)) id)) (2 ^ j)) (pos 0 +ℤ side k) (pos 0 +ℤ side k)) → IfOk r (IsCentre next new id k j)
-made_centre next old new sound grows (Err e) id k j square few shows = tt
-made_centre next old new sound grows (Ok half) id k j square few shows = is_centre_at next old new sound grows id k j 0 (2 ^ j) half square few (omega arith) shows
+-- words that show the centres of squares of level l + 2 show that of a square of level k + 2, where k is l
+pub centre_shown : {X : Type 0} (Show : X → (ℤ → ℤ → ℕ) → ℤ → ℤ → Type 0) (next : List ℕ → ℕ) (nodes : List Node) (id k j l n : ℕ) (words : X) → k ≡ l → n ≡ 2 ^ j
+    → ((p : ℤ → ℤ → ℕ) (a b : ℤ) → ShowsAt nodes id (suc (suc l)) p a b → Show words (cells_after next p n) (a +ℤ side l) (b +ℤ side l))
+    → (p : ℤ → ℤ → ℕ) (a b : ℤ) → ShowsAt nodes id (suc (suc k)) p a b → (k ≡ l) × Show words (cells_after next p (2 ^ j)) (a +ℤ side k) (b +ℤ side k)
+centre_shown Show next nodes id k j l n words level time shows p a b square = (
+  level,
+  subst (λ g. Show words (cells_after next p (2 ^ j)) (a +ℤ side g) (b +ℤ side g)) (sym level)
+      (subst (λ m. Show words (cells_after next p m) (a +ℤ side l) (b +ℤ side l)) time (shows p a b (subst (λ g. ShowsAt nodes id (suc (suc g)) p a b) level square))),
+)
+
+-- a square that is made of words that show another's centre is that centre
+pub centre_made : {X E : Type 0} (Show : X → (ℤ → ℤ → ℕ) → ℤ → ℤ → Type 0) (next : List ℕ → ℕ) (old new : List Node) → IsSound old → Grows old new → (r : Result ℕ E) (id k j l : ℕ) (words : X) → HasCentre old id k j
+    → ((p : ℤ → ℤ → ℕ) (a b : ℤ) → ShowsAt old id (suc (suc k)) p a b → (k ≡ l) × Show words (cells_after next p (2 ^ j)) (a +ℤ side k) (b +ℤ side k))
+    → ((p : ℤ → ℤ → ℕ) (a b : ℤ) → Show words p a b → IfOk r (λ half. ShowsAt new half (suc l) p a b)) → IfOk r (IsCentre next new id k j)
+centre_made Show next old new sound grows (Err e) id k j l words has shows made = tt
+centre_made Show next old new sound grows (Ok half) id k j l words has shows made =
+    let shown = shows _ _ _ (at_corner old id (suc (suc k)) has.is_square) in
+    let later = cells_after next (from_corner (cell_of old (suc (suc k)) id)) (2 ^ j) in
+    let there = subst (λ g. ShowsAt new half (suc g) later (pos 0 +ℤ side k) (pos 0 +ℤ side k)) (sym shown.0) (made later _ _ shown.1) in
+    is_centre_at next old new sound grows id k j 0 (2 ^ j) half has.is_square has.in_time (omega arith) there

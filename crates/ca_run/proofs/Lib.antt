@@ -19,6 +19,6 @@ pub mod Windows
 pub mod Written
 pub mod Reached
 pub mod BitRows
-pub mod Told
+pub mod NextStates
 pub mod TileCells
 pub mod Grids

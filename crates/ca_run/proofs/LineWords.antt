@@ -11,7 +11,7 @@ use Rattle.ca_quad.specs.Trees.{word_cells}
 use Rattle.ca_quad.proofs.Growth.{below_or_not}
 use Rattle.ca_run.specs.declared.leaper.words.Words.{Words}
 use Rattle.ca_run.specs.inner.Words.{WordShows, WordsShow}
-use Rattle.ca_run.specs.inner.Grid.{word_in, row_in, round_corner, HasNone, IsMiddle, LineFollows, LineKeeps, Follows, IsAsNarrow}
+use Rattle.ca_run.specs.inner.Grid.{word_in, row_in, corner_words, HasNone, IsMiddle, LineFollows, LineKeeps, Follows, IsAsNarrow}
 use Rattle.ca_run.proofs.After.{after_dead}
 
 -- where all from a place on are 0, those before it are enough
@@ -101,7 +101,7 @@ same_words a b h =
 
 -- a square that was there before, and had a live cell, has what came in its middle then
 pub kept_word : (masks : ℕ × ℕ) (n : ℕ) (north south line : List ℕ) (i : ℤ) (square old : Words) (word : ℕ) → LineKeeps masks n north south line
-    → old ≡ round_corner north south i → square ≡ old → (HasNone square → ⊥) → word ≡ word_in line i → IsMiddle masks n square word
+    → old ≡ corner_words north south i → square ≡ old → (HasNone square → ⊥) → word ≡ word_in line i → IsMiddle masks n square word
 kept_word masks n north south line i square old word keeps there same some e =
     let here = same ∙ there in
     subst (IsMiddle masks n square) (sym e)
@@ -122,30 +122,30 @@ clear_east words m low (negsuc k) h = refl
 module _ (masks : ℕ × ℕ) (n : ℕ) (few : n ≤ 4) (north south : List ℕ) where
   -- up to there the words between the rows are empty
   pub line_begins : (m : ℕ) → ((k : ℕ) → k < m → word_in north (pos k) ≡ 0) → ((k : ℕ) → k < m → word_in south (pos k) ≡ 0)
-      → (k : ℕ) → k < m → IsMiddle masks n (round_corner north south (pos k)) (get_or (replicate m 0) k 0)
+      → (k : ℕ) → k < m → IsMiddle masks n (corner_words north south (pos k)) (get_or (replicate m 0) k 0)
   line_begins m g h k low =
       let west : (pos k -ℤ pos 1) <ℤ pos m = omega (arith, ints, low) in
       let here : pos k <ℤ pos m = omega (arith, ints, low) in
-      subst (IsMiddle masks n (round_corner north south (pos k))) (sym (get_or-replicate m k 0 0 low))
-      (middle_none masks n (round_corner north south (pos k)) few (clear_west north m g _ west, clear_west north m g _ here, clear_west south m h _ west, clear_west south m h _ here))
+      subst (IsMiddle masks n (corner_words north south (pos k))) (sym (get_or-replicate m k 0 0 low))
+      (middle_none masks n (corner_words north south (pos k)) few (clear_west north m g _ west, clear_west north m g _ here, clear_west south m h _ west, clear_west south m h _ here))
 
   -- one word more
-  pub line_grows : (line : List ℕ) (word i : ℕ) (square : Words) → length line ≡ i → ((k : ℕ) → k < i → IsMiddle masks n (round_corner north south (pos k)) (get_or line k 0))
-      → square ≡ round_corner north south (pos i) → IsMiddle masks n square word
-      → (k : ℕ) → k < i + 1 → IsMiddle masks n (round_corner north south (pos k)) (get_or (line ++ word ∷ []) k 0)
+  pub line_grows : (line : List ℕ) (word i : ℕ) (square : Words) → length line ≡ i → ((k : ℕ) → k < i → IsMiddle masks n (corner_words north south (pos k)) (get_or line k 0))
+      → square ≡ corner_words north south (pos i) → IsMiddle masks n square word
+      → (k : ℕ) → k < i + 1 → IsMiddle masks n (corner_words north south (pos k)) (get_or (line ++ word ∷ []) k 0)
   line_grows line word i square size so_far at h k low = elim (below_or_not k i) [
     | inl before ↦ subst (IsMiddle masks n _) (sym (get_or_append_left line (word ∷ []) 0 k (omega (arith, size, before)))) (so_far k before)
     | inr behind ↦
         let last : k ≡ length line = omega (arith, size, behind, low) in
         let found : get_or (line ++ word ∷ []) k 0 ≡ word = ap (λ k. get_or (line ++ word ∷ []) k 0) last ∙ get_or-append_seam line word [] 0 in
-        let here : square ≡ round_corner north south (pos k) = at ∙ ap (λ k. round_corner north south (pos k)) (sym size ∙ sym last) in
+        let here : square ≡ corner_words north south (pos k) = at ∙ ap (λ k. corner_words north south (pos k)) (sym size ∙ sym last) in
         subst (IsMiddle masks n _) (sym found) (subst (λ s. IsMiddle masks n s word) here h)
   ]
 
   -- and the whole row
   pub line_ends : (line trimmed : List ℕ) (m : ℕ) → length north ≤ m → length south ≤ m → length line ≡ m + 1
-      → ((k : ℕ) → k < m + 1 → IsMiddle masks n (round_corner north south (pos k)) (get_or line k 0)) → ((i : ℤ) → word_in trimmed i ≡ word_in line i)
-      → (i : ℤ) → IsMiddle masks n (round_corner north south i) (word_in trimmed i)
+      → ((k : ℕ) → k < m + 1 → IsMiddle masks n (corner_words north south (pos k)) (get_or line k 0)) → ((i : ℤ) → word_in trimmed i ≡ word_in line i)
+      → (i : ℤ) → IsMiddle masks n (corner_words north south i) (word_in trimmed i)
   line_ends line trimmed m g h size all same (negsuc i) =
       subst (IsMiddle masks n _) (sym (same (negsuc i))) (middle_none masks n _ few (refl, refl, refl, refl))
   line_ends line trimmed m g h size all same (pos k) = elim (below_or_not k (m + 1)) [
@@ -159,7 +159,7 @@ module _ (masks : ℕ × ℕ) (n : ℕ) (few : n ≤ 4) (north south : List ℕ)
 
 -- the square of the words before a place and there
 pub square_is : (north south : List ℕ) (i : ℤ) (nw ne sw se : ℕ) → nw ≡ word_in north (i -ℤ pos 1) → ne ≡ word_in north i → sw ≡ word_in south (i -ℤ pos 1) → se ≡ word_in south i
-    → record { nw = nw; ne = ne; sw = sw; se = se } ≡ round_corner north south i
+    → record { nw = nw; ne = ne; sw = sw; se = se } ≡ corner_words north south i
 square_is north south i nw ne sw se e f g h = rw (e, f, g, h) refl
 
 -- ---- the rows between rows
@@ -177,8 +177,8 @@ no_word (negsuc i) = refl
 none_follows : (masks : ℕ × ℕ) (n : ℕ) → n ≤ 4 → (north south line : List ℕ) → north ≡ [] → south ≡ [] → line ≡ [] → LineFollows masks n north south line
 none_follows masks n few north south line e f g i =
     let west = i -ℤ pos 1 in
-    subst (IsMiddle masks n (round_corner north south i)) (sym (ap (λ l. word_in l i) g ∙ no_word i))
-    (middle_none masks n (round_corner north south i) few
+    subst (IsMiddle masks n (corner_words north south i)) (sym (ap (λ l. word_in l i) g ∙ no_word i))
+    (middle_none masks n (corner_words north south i) few
     (ap (λ l. word_in l west) e ∙ no_word west, ap (λ l. word_in l i) e ∙ no_word i, ap (λ l. word_in l west) f ∙ no_word west, ap (λ l. word_in l i) f ∙ no_word i))
 
 module _ (masks : ℕ × ℕ) (n : ℕ) (few : n ≤ 4) (rows : List (List ℕ)) where

@@ -6,8 +6,7 @@ use Rattle.ca_plane.specs.Generations.{cells_after}
 use Rattle.ca_quad.specs.Squares.{together}
 use Rattle.ca_quad.specs.Trees.{from_corner}
 use Rattle.ca_quad.proofs.Growth.{below_or_not}
-use Rattle.ca_quad.proofs.Cells.{at_nw, at_ne, at_sw, at_se}
-use Rattle.ca_quad.proofs.Walks.{in_nw, in_ne, in_sw, in_se}
+use Rattle.ca_quad.proofs.Cells.{in_nw, in_ne, in_sw, in_se, at_nw, at_ne, at_sw, at_se}
 use Rattle.ca_run.specs.Later.{IsWithin}
 use Rattle.ca_run.specs.Centre.{centre}
 use Rattle.ca_run.specs.inner.Shown.{Looks}

@@ -9,16 +9,16 @@ use Rattle.ca_plane.specs.Generations.{cells_after}
 use Rattle.ca_quad.specs.declared.node.Node.{Node}
 use Rattle.ca_quad.specs.Squares.{IsOf, together, cell_of}
 use Rattle.ca_quad.specs.Sound.{IsSound, Grows}
-use Rattle.ca_quad.specs.Trees.{Shows, AreQuarters, from_corner}
+use Rattle.ca_quad.specs.Trees.{Shows, AreFour, AreQuarters, from_corner}
 use Rattle.ca_quad.proofs.Growth.{grows_on}
 use Rattle.ca_quad.proofs.Cells.{cells_stay, of_stays}
 use Rattle.ca_run.specs.declared.leaper.trio.Trio.{Trio}
 use Rattle.ca_run.specs.Centre.{centre, IsCentre}
 use Rattle.ca_run.specs.Leaping.{Leaping, GoesOn}
 use Rattle.ca_run.specs.inner.Shown.{Looks, ShowsAt, FourShow, ThreeShow, TwoShow, AreThree, side}
-use Rattle.ca_run.specs.Memo.{remembered, AreCentres, IsLeaper}
-use Rattle.ca_run.specs.Farthest.{Has, AreFarthest}
-use Rattle.ca_run.specs.Recent.{Keeps, KeepsCentres}
+use Rattle.ca_run.specs.Memo.{memo_result, AreCentres, IsLeaper}
+use Rattle.ca_run.specs.FullLeaps.{HasFullLeap, AreFullLeaps}
+use Rattle.ca_run.specs.RecentCentres.{HasRecent, AreRecentCentres}
 use Rattle.ca_run.proofs.After.{after_again}
 use Rattle.ca_run.proofs.Looks.{looks_from, looks_together, looks_nw, looks_ne, looks_sw, looks_se, looks_centre}
 
@@ -26,6 +26,10 @@ use Rattle.ca_run.proofs.Looks.{looks_from, looks_together, looks_nw, looks_ne, 
 
 pub goes_on_again : (Rule : Type 0) (old mid new : Leaping Rule) → GoesOn Rule old mid → GoesOn Rule mid new → GoesOn Rule old new
 goes_on_again Rule old mid new g h = record { rule = h.rule ∙ g.rule; grows = grows_on old.nodes mid.nodes new.nodes g.grows h.grows }
+
+-- four calls, one after another
+pub four_go_on : {Rule : Type 0} {l0 l1 l2 l3 l4 : Leaping Rule} → GoesOn Rule l0 l1 → GoesOn Rule l1 l2 → GoesOn Rule l2 l3 → GoesOn Rule l3 l4 → GoesOn Rule l0 l4
+four_go_on g1 g2 g3 g4 = goes_on_again _ _ _ _ (goes_on_again _ _ _ _ g1 g2) (goes_on_again _ _ _ _ g3 g4)
 
 module _ (old new : List Node) (sound : IsSound old) (grows : Grows old new) where
   pub at_stays : (id level : ℕ) (p : ℤ → ℤ → ℕ) (a b : ℤ) → ShowsAt old id level p a b → ShowsAt new id level p a b
@@ -69,13 +73,13 @@ module _ (old new : List Node) (sound : IsSound old) (grows : Grows old new) whe
       let there = h id j half e in
       (there.0, centre_stays next id there.0 j half there.1)
 
-  pub kept_centres_stay : (next : List ℕ → ℕ) (slots : List (Option (ℕ × ℕ × ℕ))) → KeepsCentres next old slots → KeepsCentres next new slots
+  pub kept_centres_stay : (next : List ℕ → ℕ) (slots : List (Option (ℕ × ℕ × ℕ))) → AreRecentCentres next old slots → AreRecentCentres next new slots
   kept_centres_stay next slots h id j half e =
       let there = h id j half e in
       (there.0, centre_stays next id there.0 j half there.1)
 
-  pub farthest_stay : (next : List ℕ → ℕ) (halves : List (Option ℕ)) → AreFarthest next old halves → AreFarthest next new halves
-  farthest_stay next halves h id half e =
+  pub full_leaps_stay : (next : List ℕ → ℕ) (halves : List (Option ℕ)) → AreFullLeaps next old halves → AreFullLeaps next new halves
+  full_leaps_stay next halves h id half e =
       let there = h id half e in
       (there.0, centre_stays next id there.0 there.0 half there.1)
 
@@ -86,9 +90,35 @@ module _ (old new : List Node) (sound : IsSound old) (grows : Grows old new) whe
     rule = h.rule;
     squares = grows.sound;
     centres = centres_stay next results h.centres;
-    recent = kept_centres_stay next slots h.recent;
-    farthest = farthest_stay next halves h.farthest;
+    recent_centres = kept_centres_stay next slots h.recent_centres;
+    full_leaps = full_leaps_stay next halves h.full_leaps;
     by_masks = h.by_masks;
+  }
+
+-- four squares that were made one after another
+module _ (s1 s2 s3 s4 : List Node) (sound : IsSound s1) (g2 : Grows s1 s2) (g3 : Grows s2 s3) (g4 : Grows s3 s4) (k nw ne sw se : ℕ) where
+  from2 : Grows s2 s4
+  from2 = grows_on s2 s3 s4 g3 g4
+
+  from1 : Grows s1 s4
+  from1 = grows_on s1 s2 s4 g2 from2
+
+  pub four_made : (p : ℤ → ℤ → ℕ) (a b : ℤ) → ShowsAt s1 nw k p a b → ShowsAt s2 ne k p (a +ℤ side k) b → ShowsAt s3 sw k p a (b +ℤ side k) → ShowsAt s4 se k p (a +ℤ side k) (b +ℤ side k)
+      → FourShow s4 k nw ne sw se p a b
+  four_made p a b at_nw at_ne at_sw at_se = record {
+    at_nw = at_stays s1 s4 sound from1 nw k p a b at_nw;
+    at_ne = at_stays s2 s4 g2.sound from2 ne k p (a +ℤ side k) b at_ne;
+    at_sw = at_stays s3 s4 g3.sound g4 sw k p a (b +ℤ side k) at_sw;
+    at_se = at_se;
+  }
+
+  pub four_are : k ≤ 124 → IsOf s1 nw k → IsOf s2 ne k → IsOf s3 sw k → IsOf s4 se k → AreFour s4 k nw ne sw se
+  four_are low is_nw is_ne is_sw is_se = record {
+    is_low = omega (arith, low);
+    is_nw = of_stays s1 s4 sound from1 nw k is_nw;
+    is_ne = of_stays s2 s4 g2.sound from2 ne k is_ne;
+    is_sw = of_stays s3 s4 g3.sound g4 sw k is_sw;
+    is_se = is_se;
   }
 
 -- the same from a place by another name
@@ -192,19 +222,19 @@ centre_of next nodes id k j half there square =
 
 -- what is remembered for a square is its centre
 pub recalled : (next : List ℕ → ℕ) (nodes : List Node) (results : List ((ℕ × ℕ) × ℕ)) (id k j : ℕ) (found : Option ℕ) → AreCentres next nodes results → IsOf nodes id (suc (suc k))
-    → found ≡ remembered results id j → IfSome found (IsCentre next nodes id k j)
+    → found ≡ memo_result results id j → IfSome found (IsCentre next nodes id k j)
 recalled next nodes results id k j None all square e = tt
 recalled next nodes results id k j (Some half) all square e = centre_of next nodes id k j half (all id j half (sym e)) square
 
 -- and so is what a slot has for it
-pub kept_recalled : (next : List ℕ → ℕ) (nodes : List Node) (slots : List (Option (ℕ × ℕ × ℕ))) (id k j : ℕ) (found : Option ℕ) → KeepsCentres next nodes slots → IsOf nodes id (suc (suc k))
-    → IfSome found (Keeps slots id j) → IfSome found (IsCentre next nodes id k j)
+pub kept_recalled : (next : List ℕ → ℕ) (nodes : List Node) (slots : List (Option (ℕ × ℕ × ℕ))) (id k j : ℕ) (found : Option ℕ) → AreRecentCentres next nodes slots → IsOf nodes id (suc (suc k))
+    → IfSome found (HasRecent slots id j) → IfSome found (IsCentre next nodes id k j)
 kept_recalled next nodes slots id k j None all square e = tt
 kept_recalled next nodes slots id k j (Some half) all square e = centre_of next nodes id k j half (all id j half e) square
 
 -- after a write, what a slot has is still the centre of its square
-pub kept_more : (next : List ℕ → ℕ) (nodes : List Node) (old new : List (Option (ℕ × ℕ × ℕ))) (id k j half : ℕ) → KeepsCentres next nodes old → IsCentre next nodes id k j half
-    → ((other time centre : ℕ) → Keeps new other time centre → Keeps old other time centre ⊎ ((other ≡ id) × (time ≡ j) × (centre ≡ half))) → KeepsCentres next nodes new
+pub kept_more : (next : List ℕ → ℕ) (nodes : List Node) (old new : List (Option (ℕ × ℕ × ℕ))) (id k j half : ℕ) → AreRecentCentres next nodes old → IsCentre next nodes id k j half
+    → ((other time centre : ℕ) → HasRecent new other time centre → HasRecent old other time centre ⊎ ((other ≡ id) × (time ≡ j) × (centre ≡ half))) → AreRecentCentres next nodes new
 kept_more next nodes old new id k j half all this more other time centre h = elim (more other time centre h) [
   | inl e ↦ all other time centre e
   | inr same ↦ (
@@ -215,18 +245,18 @@ kept_more next nodes old new id k j half all this more other time centre h = eli
 ]
 
 -- what the slot of a square has is its centre
-pub farthest_recalled : (next : List ℕ → ℕ) (nodes : List Node) (halves : List (Option ℕ)) (id k j : ℕ) (found : Option ℕ) → j ≡ k → AreFarthest next nodes halves → IsOf nodes id (suc (suc k))
-    → IfSome found (Has halves id) → IfSome found (IsCentre next nodes id k j)
-farthest_recalled next nodes halves id k j None time all square e = tt
-farthest_recalled next nodes halves id k j (Some half) time all square e =
+pub full_leap_recalled : (next : List ℕ → ℕ) (nodes : List Node) (halves : List (Option ℕ)) (id k j : ℕ) (found : Option ℕ) → j ≡ k → AreFullLeaps next nodes halves → IsOf nodes id (suc (suc k))
+    → IfSome found (HasFullLeap halves id) → IfSome found (IsCentre next nodes id k j)
+full_leap_recalled next nodes halves id k j None time all square e = tt
+full_leap_recalled next nodes halves id k j (Some half) time all square e =
     let there = all id half e in
     let same : there.0 ≡ k = omega (arith, there.1.is_square.is_level, square.is_level) in
     subst (λ t. IsCentre next nodes id k t half) (sym time) (subst (λ l. IsCentre next nodes id l l half) same there.1)
 
 -- and so after a write
-pub farthest_more : (next : List ℕ → ℕ) (nodes : List Node) (old new : List (Option ℕ)) (id k j half : ℕ) → j ≡ k → AreFarthest next nodes old → IsCentre next nodes id k j half
-    → ((other centre : ℕ) → Has new other centre → Has old other centre ⊎ ((other ≡ id) × (centre ≡ half))) → AreFarthest next nodes new
-farthest_more next nodes old new id k j half time all this more other centre h = elim (more other centre h) [
+pub full_leaps_more : (next : List ℕ → ℕ) (nodes : List Node) (old new : List (Option ℕ)) (id k j half : ℕ) → j ≡ k → AreFullLeaps next nodes old → IsCentre next nodes id k j half
+    → ((other centre : ℕ) → HasFullLeap new other centre → HasFullLeap old other centre ⊎ ((other ≡ id) × (centre ≡ half))) → AreFullLeaps next nodes new
+full_leaps_more next nodes old new id k j half time all this more other centre h = elim (more other centre h) [
   | inl e ↦ all other centre e
   | inr same ↦ (
     k,

@@ -19,13 +19,13 @@ use Rattle.ca_plane.specs.Moore.{moore_next}
 use Rattle.ca_quad.specs.Squares.{together}
 use Rattle.ca_quad.specs.Trees.{row_cells, word_cells}
 use Rattle.ca_quad.proofs.Growth.{below_or_not}
-use Rattle.ca_quad.proofs.Walks.{in_nw, in_ne, in_sw, in_se}
+use Rattle.ca_quad.proofs.Cells.{in_nw, in_ne, in_sw, in_se}
 use Rattle.ca_run.specs.declared.leaper.words.Words.{Words}
 use Rattle.ca_run.specs.Lanes.{tile_cell, IsWithinEdge}
 use Rattle.ca_run.specs.inner.Words.{WordShows, WordsShow, TileShows, byte_of, bytes_at, inner_byte}
 use Rattle.ca_run.specs.Masks.{GoesBy}
 use Rattle.ca_run.specs.Later.{IsWithin}
-use Rattle.ca_run.proofs.After.{around-same, around-seen}
+use Rattle.ca_run.proofs.After.{around-same, around-nine_states}
 use Rattle.ca_run.proofs.Looks.{looks_together}
 
 -- ---- bits
@@ -235,7 +235,7 @@ module _ (next : List ℕ → ℕ) (masks : ℕ × ℕ) (goes_by : GoesBy next m
         made (pos x) (pos y) (omega (arith, ints), omega (arith, ints), omega (arith, ints), omega (arith, ints))
         ∙ sym (goes_by.is_moore.goes_by (around (tile_cell old) (pos x) (pos y)) refl (around_bits old (pos x) (pos y)))
         ∙ ap next (around-same (tile_cell old) (λ u v. cells_after next p m (a +ℤ u) (b +ℤ v)) (pos x) (pos y) (λ u v round. inside x y i j k l u v round)
-        ∙ around-seen (cells_after next p m) a b (pos x) (pos y));
+        ∙ around-nine_states (cells_after next p m) a b (pos x) (pos y));
   }
     where
       inside : (x y : ℕ) → suc m ≤ x → x + suc m < 16 → suc m ≤ y → y + suc m < 16 → (u v : ℤ) → IsWithin 1 (pos x) (pos y) u v → tile_cell old u v ≡ cells_after next p m (a +ℤ u) (b +ℤ v)

@@ -125,6 +125,15 @@ pub tree_stays : (old new : List Node) → IsSound old → Grows old new → (tr
 tree_stays old new sound grows tree h x y =
     ap (λ f. from_corner f (x +ℤ pos (2 ^ (tree.level - 1))) (y +ℤ pos (2 ^ (tree.level - 1)))) (cells_stay old new sound grows tree.level tree.root h)
 
+-- two trees that are made wider one after the other keep their cells
+pub both_padded : (s0 s1 s2 : List Node) → IsSound s0 → Grows s0 s1 → Grows s1 s2 → (a b wide_a wide_b : Tree) → IsTree s1 wide_a → IsTree s0 b
+    → ((x y : ℤ) → cell s1 wide_a x y ≡ cell s0 a x y) → ((x y : ℤ) → cell s2 wide_b x y ≡ cell s1 b x y)
+    → ((x y : ℤ) → cell s2 wide_a x y ≡ cell s0 a x y) × ((x y : ℤ) → cell s2 wide_b x y ≡ cell s0 b x y)
+both_padded s0 s1 s2 sound grows more a b wide_a wide_b is_a is_b same_a same_b = (
+  λ x y. tree_stays s1 s2 grows.sound more wide_a is_a x y ∙ same_a x y,
+  λ x y. same_b x y ∙ tree_stays s0 s1 sound grows b is_b x y,
+)
+
 -- a shifted two is a power of two, where no bit is lost
 pub shifted_two : (j : ℕ) → j < 60 → 2 * 2 ^ j % 18446744073709551616 ≡ 2 ^ (1 + j)
 shifted_two j h =

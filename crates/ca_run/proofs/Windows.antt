@@ -14,9 +14,9 @@ use Rattle.ca_run.specs.Reach.{IsInReach}
 use Rattle.ca_run.specs.declared.row.Row.{Row}
 use Rattle.ca_run.specs.declared.window.Window.{Window}
 use Rattle.ca_run.specs.inner.Order.{IsBefore, NoneBefore, IsFirst, IsFirstPlace, IsEarlier}
-use Rattle.ca_run.specs.inner.Ahead.{IsAhead}
+use Rattle.ca_run.specs.inner.CellsAhead.{IsAhead}
 use Rattle.ca_run.specs.inner.Row.{ShowsRow, IsQuietRow, IsLiveRow, MovesOn}
-use Rattle.ca_run.specs.inner.Window.{seen, Shows, IsQuiet, IsKept, Meets, eastward, IsNextPlace, MovesTo}
+use Rattle.ca_run.specs.inner.Window.{nine_states, Shows, IsQuiet, StaysLive, SeesAhead, east_of, IsNextPlace, MovesTo}
 use Rattle.ca_run.proofs.Reading.{compared, not_both, not_itself, before-moved, before-trans, IsFirst-either, IsFirst-same}
 
 -- ---- the first place from which a cell ahead is seen
@@ -28,8 +28,8 @@ no_step : (y : ℤ) → y +ℤ pos 0 ≡ y
 no_step y = omega (arith, ints)
 
 -- from the first places of the three rows
-pub IsFirst-Meets : (w : Window) (a b c upper r : Option Point) → IsFirst (λ x y. cell w.north.ahead (x +ℤ pos 1) (y +ℤ negsuc 0) ≢ 0) a → IsFirst (λ x y. cell w.middle.ahead (x +ℤ pos 1) (y +ℤ pos 0) ≢ 0) b → IsFirst (λ x y. cell w.south.ahead (x +ℤ pos 1) (y +ℤ pos 1) ≢ 0) c → IsEarlier a b upper → IsEarlier upper c r → IsFirst (Meets w) r
-IsFirst-Meets w a b c upper r north middle south two three =
+pub IsFirst-SeesAhead : (w : Window) (a b c upper r : Option Point) → IsFirst (λ x y. cell w.north.ahead (x +ℤ pos 1) (y +ℤ negsuc 0) ≢ 0) a → IsFirst (λ x y. cell w.middle.ahead (x +ℤ pos 1) (y +ℤ pos 0) ≢ 0) b → IsFirst (λ x y. cell w.south.ahead (x +ℤ pos 1) (y +ℤ pos 1) ≢ 0) c → IsEarlier a b upper → IsEarlier upper c r → IsFirst (SeesAhead w) r
+IsFirst-SeesAhead w a b c upper r north middle south two three =
     let north' : IsFirst (λ x y. cell w.north.ahead (x +ℤ pos 1) (y -ℤ pos 1) ≢ 0) a = IsFirst-same (λ x y. cell w.north.ahead (x +ℤ pos 1) (y +ℤ negsuc 0) ≢ 0) (λ x y. cell w.north.ahead (x +ℤ pos 1) (y -ℤ pos 1) ≢ 0) a (λ x y live. subst (λ v. cell w.north.ahead (x +ℤ pos 1) v ≢ 0) (up_one y) live) (λ x y live. subst (λ v. cell w.north.ahead (x +ℤ pos 1) v ≢ 0) (sym (up_one y)) live) north in
     let middle' : IsFirst (λ x y. cell w.middle.ahead (x +ℤ pos 1) y ≢ 0) b = IsFirst-same (λ x y. cell w.middle.ahead (x +ℤ pos 1) (y +ℤ pos 0) ≢ 0) (λ x y. cell w.middle.ahead (x +ℤ pos 1) y ≢ 0) b (λ x y live. subst (λ v. cell w.middle.ahead (x +ℤ pos 1) v ≢ 0) (no_step y) live) (λ x y live. subst (λ v. cell w.middle.ahead (x +ℤ pos 1) v ≢ 0) (sym (no_step y)) live) middle in
     let two' : IsFirst (λ x y. (cell w.north.ahead (x +ℤ pos 1) (y -ℤ pos 1) ≢ 0) ⊎ (cell w.middle.ahead (x +ℤ pos 1) y ≢ 0)) upper = IsFirst-either (λ x y. cell w.north.ahead (x +ℤ pos 1) (y -ℤ pos 1) ≢ 0) (λ x y. cell w.middle.ahead (x +ℤ pos 1) y ≢ 0) a b upper north' middle' two in
@@ -67,8 +67,8 @@ ShowsRow-MovesOn p old new a b x y shows awaits later moves =
     }
 
 -- one place further on what stays in sight is right
-Awaits-eastward : (p : Picture) (row : Row) (x y : ℤ) → ShowsRow p row x y → Awaits p row (x +ℤ pos 1) y
-Awaits-eastward p row x y shows =
+Awaits-east_of : (p : Picture) (row : Row) (x y : ℤ) → ShowsRow p row x y → Awaits p row (x +ℤ pos 1) y
+Awaits-east_of p row x y shows =
     let back : x ≡ (x +ℤ pos 1) -ℤ pos 1 = omega (arith, ints) in
     record {
       west = shows.centre ∙ ap (λ u. cell p u y) back;
@@ -150,12 +150,12 @@ pub record IsReady (p : Picture) (w : Window) (at : Point) : Type 0 where
   pub within : IsInPlane at
 
 -- where a live cell stays in sight
-IsReady-kept : (p : Picture) (w : Window) → All (λ e. IsInReach e.0.x e.0.y) p → Shows p w → IsKept w → IsReady p w (eastward w.place)
+IsReady-kept : (p : Picture) (w : Window) → All (λ e. IsInReach e.0.x e.0.y) p → Shows p w → StaysLive w → IsReady p w (east_of w.place)
 IsReady-kept p w reach shows kept = record {
   later = inr (refl, omega (arith, ints));
-  north = Awaits-eastward p w.north w.place.x (w.place.y -ℤ pos 1) shows.north;
-  middle = Awaits-eastward p w.middle w.place.x w.place.y shows.middle;
-  south = Awaits-eastward p w.south w.place.x (w.place.y +ℤ pos 1) shows.south;
+  north = Awaits-east_of p w.north w.place.x (w.place.y -ℤ pos 1) shows.north;
+  middle = Awaits-east_of p w.middle w.place.x w.place.y shows.middle;
+  south = Awaits-east_of p w.south w.place.x (w.place.y +ℤ pos 1) shows.south;
   between = λ x y later before. absurd (none_between w.place.x w.place.y x y later before);
   within = elim kept [
     | inl upper ↦ elim upper [
@@ -200,14 +200,14 @@ none_before-moved p dy c d none = λ u v before.
 
 -- no cell ahead of a row is read before those that are seen first
 none_before_seen : (p : Picture) (P : ℤ → ℤ → Type 0) (at : Point) (d dy : ℤ) → IsFirstPlace P at → ((x y : ℤ) → cell p (x +ℤ pos 1) (y +ℤ dy) ≢ 0 → P x y) → d ≡ at.y +ℤ dy → NoneBefore p (at.x +ℤ pos 1) d
-none_before_seen p P at d dy first seen level =
-    none_before-moved p dy (at.x +ℤ pos 1) d (λ x y live before. first.first x y (seen x y live) (before-moved (x +ℤ pos 1) (y +ℤ dy) (at.x +ℤ pos 1) d x y at.x at.y before (omega (arith, ints)) (omega (arith, ints))))
+none_before_seen p P at d dy first nine_states level =
+    none_before-moved p dy (at.x +ℤ pos 1) d (λ x y live before. first.first x y (nine_states x y live) (before-moved (x +ℤ pos 1) (y +ℤ dy) (at.x +ℤ pos 1) d x y at.x at.y before (omega (arith, ints)) (omega (arith, ints))))
 
 -- a cell ahead of a row is seen
-meets_north : (w : Window) (x y : ℤ) → cell w.north.ahead (x +ℤ pos 1) (y +ℤ negsuc 0) ≢ 0 → Meets w x y
+meets_north : (w : Window) (x y : ℤ) → cell w.north.ahead (x +ℤ pos 1) (y +ℤ negsuc 0) ≢ 0 → SeesAhead w x y
 meets_north w x y live = inl (inl (subst (λ v. cell w.north.ahead (x +ℤ pos 1) v ≢ 0) (up_one y) live))
 
-meets_middle : (w : Window) (x y : ℤ) → cell w.middle.ahead (x +ℤ pos 1) (y +ℤ pos 0) ≢ 0 → Meets w x y
+meets_middle : (w : Window) (x y : ℤ) → cell w.middle.ahead (x +ℤ pos 1) (y +ℤ pos 0) ≢ 0 → SeesAhead w x y
 meets_middle w x y live = inl (inr (subst (λ v. cell w.middle.ahead (x +ℤ pos 1) v ≢ 0) (no_step y) live))
 
 -- places keep their order in the rows above and below
@@ -226,25 +226,25 @@ quiet_around p w c d shows quiet none_north none_middle none_south x y later bef
     simp (north.0, north.1, north.2, middle.0, middle.1, middle.2, south.0, south.1, south.2)
 
 -- where all that stays in sight is 0
-IsReady-quiet : (p : Picture) (w : Window) (at : Point) → All (λ e. IsInReach e.0.x e.0.y) p → Shows p w → IsQuiet w → IsFirstPlace (Meets w) at → IsReady p w at
+IsReady-quiet : (p : Picture) (w : Window) (at : Point) → All (λ e. IsInReach e.0.x e.0.y) p → Shows p w → IsQuiet w → IsFirstPlace (SeesAhead w) at → IsReady p w at
 IsReady-quiet p w at reach shows quiet first =
-    let seen : IsSeen w.place.x w.place.y at = elim first.here [
+    let nine_states : IsSeen w.place.x w.place.y at = elim first.here [
       | inl upper ↦ elim upper [
         | inl north ↦ seen_ahead p w.north w.place.x w.place.y (w.place.y -ℤ pos 1) at (at.y -ℤ pos 1) reach shows.north north (omega (arith, ints)) (omega (arith, ints)) (omega (arith, ints))
         | inr middle ↦ seen_ahead p w.middle w.place.x w.place.y w.place.y at at.y reach shows.middle middle (omega (arith, ints)) (omega (arith, ints)) (omega (arith, ints))
       ]
       | inr south ↦ seen_ahead p w.south w.place.x w.place.y (w.place.y +ℤ pos 1) at (at.y +ℤ pos 1) reach shows.south south (omega (arith, ints)) (omega (arith, ints)) (omega (arith, ints))
     ] in
-    let none_north = none_before_seen w.north.ahead (Meets w) at (at.y -ℤ pos 1) (negsuc 0) first (meets_north w) (omega (arith, ints)) in
-    let none_middle = none_before_seen w.middle.ahead (Meets w) at at.y (pos 0) first (meets_middle w) (omega (arith, ints)) in
-    let none_south = none_before_seen w.south.ahead (Meets w) at (at.y +ℤ pos 1) (pos 1) first (λ x y live. inr live) refl in
+    let none_north = none_before_seen w.north.ahead (SeesAhead w) at (at.y -ℤ pos 1) (negsuc 0) first (meets_north w) (omega (arith, ints)) in
+    let none_middle = none_before_seen w.middle.ahead (SeesAhead w) at at.y (pos 0) first (meets_middle w) (omega (arith, ints)) in
+    let none_south = none_before_seen w.south.ahead (SeesAhead w) at (at.y +ℤ pos 1) (pos 1) first (λ x y live. inr live) refl in
     record {
-      later = seen.later;
-      north = Awaits-quiet p w.north w.place.x (w.place.y -ℤ pos 1) at.x (at.y -ℤ pos 1) shows.north quiet.north none_north (above w.place.x w.place.y at.x at.y seen.later);
-      middle = Awaits-quiet p w.middle w.place.x w.place.y at.x at.y shows.middle quiet.middle none_middle seen.later;
-      south = Awaits-quiet p w.south w.place.x (w.place.y +ℤ pos 1) at.x (at.y +ℤ pos 1) shows.south quiet.south none_south (below w.place.x w.place.y at.x at.y seen.later);
+      later = nine_states.later;
+      north = Awaits-quiet p w.north w.place.x (w.place.y -ℤ pos 1) at.x (at.y -ℤ pos 1) shows.north quiet.north none_north (above w.place.x w.place.y at.x at.y nine_states.later);
+      middle = Awaits-quiet p w.middle w.place.x w.place.y at.x at.y shows.middle quiet.middle none_middle nine_states.later;
+      south = Awaits-quiet p w.south w.place.x (w.place.y +ℤ pos 1) at.x (at.y +ℤ pos 1) shows.south quiet.south none_south (below w.place.x w.place.y at.x at.y nine_states.later);
       between = quiet_around p w at.x at.y shows quiet none_north none_middle none_south;
-      within = seen.within;
+      within = nine_states.within;
     }
 
 some_same : (p q : Point) → Some p ≡ Some q → p ≡ q
@@ -253,7 +253,7 @@ some_same p q e = cc
 pub IsReady-next : (p : Picture) (w : Window) (at : Point) → All (λ e. IsInReach e.0.x e.0.y) p → Shows p w → IsNextPlace w (Some at) → IsReady p w at
 IsReady-next p w at reach shows next =
     elim next [
-      | inl kept ↦ subst (λ (q : Point). IsReady p w q) (sym (some_same at (eastward w.place) kept.1)) (IsReady-kept p w reach shows kept.0)
+      | inl kept ↦ subst (λ (q : Point). IsReady p w q) (sym (some_same at (east_of w.place) kept.1)) (IsReady-kept p w reach shows kept.0)
       | inr quiet ↦ IsReady-quiet p w at reach shows quiet.0 quiet.1
     ]
 
@@ -270,8 +270,8 @@ Shows-next p old new at shows ready moves =
     }
 
 -- what is in sight are the nine cells round the place
-pub seen-around : (p : Picture) (w : Window) → Shows p w → seen w ≡ around (cell p) w.place.x w.place.y
-seen-around p w shows = cc (shows.north.west, shows.north.centre, shows.north.east, shows.middle.west, shows.middle.centre, shows.middle.east, shows.south.west, shows.south.centre, shows.south.east)
+pub nine_states-around : (p : Picture) (w : Window) → Shows p w → nine_states w ≡ around (cell p) w.place.x w.place.y
+nine_states-around p w shows = cc (shows.north.west, shows.north.centre, shows.north.east, shows.middle.west, shows.middle.centre, shows.middle.east, shows.south.west, shows.south.centre, shows.south.east)
 
 -- where there is no next place, nothing is live round the places that come after
 pub quiet_end : (p : Picture) (w : Window) (x y : ℤ) → Shows p w → IsNextPlace w None → IsBefore w.place.x w.place.y x y → around (cell p) x y ≡ replicate 9 0

@@ -4,8 +4,8 @@ use Rattle.std.specs.Prelude.{ℤ, pos, ◌+ℤ◌}
 use Rattle.std.proofs.lemmas.Int.{ints}
 use Rattle.ca_quad.specs.Trees.{word_cells}
 use Rattle.ca_run.specs.declared.leaper.words.Words.{Words}
-use Rattle.ca_run.specs.declared.leaper.wide.ThreeWords.{ThreeWords}
-use Rattle.ca_run.specs.declared.leaper.wide.NineWords.{NineWords}
+use Rattle.ca_run.specs.declared.leaper.wide_square.ThreeWords.{ThreeWords}
+use Rattle.ca_run.specs.declared.leaper.wide_square.NineWords.{NineWords}
 use Rattle.ca_run.specs.inner.Words.{WordShows, WordsShow, TwoWordsShow, ThreeWordsShow, NineWordsShow}
 use Rattle.ca_run.proofs.Looks.{looks_from}
 

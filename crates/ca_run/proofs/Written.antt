@@ -13,10 +13,10 @@ use Rattle.ca_run.specs.declared.row.Row.{Row}
 use Rattle.ca_run.specs.declared.window.Window.{Window}
 use Rattle.ca_run.specs.inner.Order.{IsBefore}
 use Rattle.ca_run.specs.inner.Row.{ShowsRow, IsLiveRow, MovesOn}
-use Rattle.ca_run.specs.inner.Window.{seen, Shows, eastward, IsNextPlace, MovesTo}
+use Rattle.ca_run.specs.inner.Window.{nine_states, Shows, east_of, IsNextPlace, MovesTo}
 use Rattle.ca_run.specs.inner.Written.{IsWritten}
 use Rattle.ca_run.proofs.Reading.{compared, not_both, not_itself, before-trans}
-use Rattle.ca_run.proofs.Windows.{IsReady, IsReady-next, Shows-next, quiet_beyond, quiet_end, seen-around}
+use Rattle.ca_run.proofs.Windows.{IsReady, IsReady-next, Shows-next, quiet_beyond, quiet_end, nine_states-around}
 
 -- ---- at first
 
@@ -95,14 +95,14 @@ set_there next p old new w at s quiet written ready state sets = record {
       ∙ written.behind x y (before-trans w.place.x w.place.y at.x at.y x y ready.later later);
 }
 
-pub IsWritten-set : (next : List ℕ → ℕ) (p old new : Picture) (w v : Window) (at : Point) (nine : List ℕ) (s : ℕ) → next (replicate 9 0) ≡ 0 → All (λ e. IsInReach e.0.x e.0.y) p → Shows p w → IsWritten next p old w.place.x w.place.y → IsNextPlace w (Some at) → MovesTo w v at → nine ≡ seen v → s ≡ next nine → Sets old new at s → IsWritten next p new v.place.x v.place.y
+pub IsWritten-set : (next : List ℕ → ℕ) (p old new : Picture) (w v : Window) (at : Point) (nine : List ℕ) (s : ℕ) → next (replicate 9 0) ≡ 0 → All (λ e. IsInReach e.0.x e.0.y) p → Shows p w → IsWritten next p old w.place.x w.place.y → IsNextPlace w (Some at) → MovesTo w v at → nine ≡ nine_states v → s ≡ next nine → Sets old new at s → IsWritten next p new v.place.x v.place.y
 IsWritten-set next p old new w v at nine s quiet reach shows written to moves sight state sets =
     let ready = IsReady-next p w at reach shows to in
-    let there : nine ≡ around (cell p) at.x at.y = sight ∙ subst (λ (q : Point). seen v ≡ around (cell p) q.x q.y) moves.place (seen-around p v (Shows-next p w v at shows ready moves)) in
+    let there : nine ≡ around (cell p) at.x at.y = sight ∙ subst (λ (q : Point). nine_states v ≡ around (cell p) q.x q.y) moves.place (nine_states-around p v (Shows-next p w v at shows ready moves)) in
     subst (λ (q : Point). IsWritten next p new q.x q.y) (sym moves.place) (set_there next p old new w at s quiet written ready (state ∙ ap next there) sets)
 
 -- a state of 0 is there without a write
-pub IsWritten-skip : (next : List ℕ → ℕ) (p old : Picture) (w v : Window) (at : Point) (nine : List ℕ) (s : ℕ) → next (replicate 9 0) ≡ 0 → All (λ e. IsInReach e.0.x e.0.y) p → Shows p w → IsWritten next p old w.place.x w.place.y → IsNextPlace w (Some at) → MovesTo w v at → nine ≡ seen v → s ≡ next nine → s ≡ 0 → IsWritten next p old v.place.x v.place.y
+pub IsWritten-skip : (next : List ℕ → ℕ) (p old : Picture) (w v : Window) (at : Point) (nine : List ℕ) (s : ℕ) → next (replicate 9 0) ≡ 0 → All (λ e. IsInReach e.0.x e.0.y) p → Shows p w → IsWritten next p old w.place.x w.place.y → IsNextPlace w (Some at) → MovesTo w v at → nine ≡ nine_states v → s ≡ next nine → s ≡ 0 → IsWritten next p old v.place.x v.place.y
 IsWritten-skip next p old w v at nine s quiet reach shows written to moves sight state zero_there =
     let ready = IsReady-next p w at reach shows to in
     IsWritten-set next p old old w v at nine s quiet reach shows written to moves sight state (λ x y. unchanged _ (cell old x y) (λ here. let place = place-from_true x y at here in rw (place.0, place.1) (written.behind at.x at.y ready.later ∙ sym zero_there)))
@@ -188,12 +188,12 @@ some_row w at next =
 pub moves_left-fall : (old new : Window) (at : Point) → IsNextPlace old (Some at) → MovesTo old new at → moves_left new < moves_left old
 moves_left-fall old new at next moves =
     let north = row_moves-kept old.north new.north (record { y = at.y -ℤ pos 1; x = at.x +ℤ pos 1 }) moves.north in
-    let middle = row_moves-kept old.middle new.middle (eastward at) moves.middle in
+    let middle = row_moves-kept old.middle new.middle (east_of at) moves.middle in
     let south = row_moves-kept old.south new.south (record { y = at.y +ℤ pos 1; x = at.x +ℤ pos 1 }) moves.south in
     elim (some_row old at next) [
       | inl upper ↦ elim upper [
         | inl brings ↦ let falls = row_moves-fall old.north new.north (record { y = at.y -ℤ pos 1; x = at.x +ℤ pos 1 }) moves.north brings in omega arith
-        | inr brings ↦ let falls = row_moves-fall old.middle new.middle (eastward at) moves.middle brings in omega arith
+        | inr brings ↦ let falls = row_moves-fall old.middle new.middle (east_of at) moves.middle brings in omega arith
       ]
       | inr brings ↦ let falls = row_moves-fall old.south new.south (record { y = at.y +ℤ pos 1; x = at.x +ℤ pos 1 }) moves.south brings in omega arith
     ]

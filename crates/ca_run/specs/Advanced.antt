@@ -1,9 +1,10 @@
 -- Trees some generations on.
-use Rattle.std.specs.Prelude.{◌≡◌, ℕ, ◌≤◌, ◌^◌, ℤ, List}
+use Rattle.std.specs.Prelude.{◌≡◌, ℕ, ◌≤◌, ◌^◌, ℤ, List, Result, Ok, IfOk}
 use Rattle.ca_plane.specs.Generations.{cells_after}
 use Rattle.ca_quad.specs.declared.node.Node.{Node}
 use Rattle.ca_quad.specs.declared.tree.Tree.{Tree}
 use Rattle.ca_quad.specs.Trees.{IsTree, cell}
+use Rattle.ca_run.specs.Leaping.{Leaping, GoesOn}
 
 -- a tree that can be advanced by n generations: of at most 2^64 cells a side, by at most 2^60 generations
 pub record CanAdvance (nodes : List Node) (tree : Tree) (n : ℕ) : Type 0 where
@@ -16,3 +17,9 @@ pub record IsAdvanced (next : List ℕ → ℕ) (old : List Node) (first : Tree)
   pub is_tree : IsTree new tree
   pub level : tree.level ≤ 124
   pub cells : (x y : ℤ) → cell new tree x y ≡ cells_after next (cell old first) n x y
+
+-- what a call comes to that takes a tree n generations on: Ok with the later tree, which is the same one where n is 0; and what a leaper had stays
+pub record Advances {E : Type 0} (Rule : Type 0) (next : List ℕ → ℕ) (old : Leaping Rule) (tree : Tree) (n : ℕ) (new : Leaping Rule) (result : Result Tree E) : Type 0 where
+  pub advanced : IfOk result (IsAdvanced next old.nodes tree n new.nodes)
+  pub none : n ≡ 0 → result ≡ Ok tree
+  pub goes_on : GoesOn Rule old new

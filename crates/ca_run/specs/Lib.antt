@@ -5,7 +5,7 @@ pub mod Leaping
 pub mod Advanced
 pub mod Lanes
 pub mod Masks
-pub mod Farthest
-pub mod Recent
+pub mod FullLeaps
+pub mod RecentCentres
 pub mod Memo
 pub mod inner

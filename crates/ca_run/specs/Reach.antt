@@ -14,5 +14,5 @@ abbrev pub LeavesReach : (List ℕ → ℕ) → Picture → ℕ → Type 0
 LeavesReach next cells n = (x : ℤ) × (y : ℤ) × (after next cells n x y ≢ 0) × (IsInReach x y → ⊥)
 
 -- the box grown by n cells on each side
-abbrev pub grown : Bounds → ℕ → Bounds
-grown box n = record { x0 = box.x0 -ℤ pos n; y0 = box.y0 -ℤ pos n; x1 = box.x1 +ℤ pos n; y1 = box.y1 +ℤ pos n }
+abbrev pub grown_box : Bounds → ℕ → Bounds
+grown_box box n = record { x0 = box.x0 -ℤ pos n; y0 = box.y0 -ℤ pos n; x1 = box.x1 +ℤ pos n; y1 = box.y1 +ℤ pos n }

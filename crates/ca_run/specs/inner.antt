@@ -1,10 +1,11 @@
 pub mod Order
-pub mod Ahead
+pub mod CellsAhead
 pub mod Row
 pub mod Window
 pub mod Reached
 pub mod Written
 pub mod Shown
 pub mod Words
+pub mod Centres
 pub mod Grid
 pub mod Tiles

@@ -10,7 +10,7 @@ ghost use Rattle.ca_plane.specs.Generations.{around};
 ghost use Rattle.ca_plane.specs.Moore.{moore_next};
 ghost use Rattle.ca_quad.specs.Trees.{row_cells};
 ghost use Rattle.ca_run.specs.Lanes.{tile_cell, IsWithinEdge};
-ghost use Rattle.ca_run.specs.inner.Tiles.{told, decided, number};
+ghost use Rattle.ca_run.specs.inner.Tiles.{lives_next, next_by_count, number};
 
 pub(crate) use bits::Bits;
 use count::Count;
@@ -42,13 +42,13 @@ pub fn kernel16(rows: &[u16; 16], birth: u16, survive: u16) -> [u16; 16]
 pub(crate) fn next_tile(alive: Bits, birth: u16, survive: u16) -> Bits
     ensures { (x y : ℤ) → IsWithinEdge x y → tile_cell result.rows x y ≡ moore_next birth survive (around (tile_cell alive.rows) x y) }
 {
-    next_bits(alive, Count::round(alive), birth, survive)
+    next_bits(alive, Count::neighbours(alive), birth, survive)
 }
 
 // The next state of each cell, from the number of live cells round it.
 #[inline(always)]
 fn next_bits(alive: Bits, count: Count, birth: u16, survive: u16) -> Bits
-    ensures { (x y : ℕ) → x < 16 → y < 16 → number count x y ≤ 8 → row_cells result.rows x y ≡ decided birth survive (row_cells alive.rows x y) (number count x y) }
+    ensures { (x y : ℕ) → x < 16 → y < 16 → number count x y ≤ 8 → row_cells result.rows x y ≡ next_by_count birth survive (row_cells alive.rows x y) (number count x y) }
 {
     let Count {
         ones,
@@ -57,14 +57,14 @@ fn next_bits(alive: Bits, count: Count, birth: u16, survive: u16) -> Bits
         eights,
     } = count;
     let none = Bits::all(false);
-    let two_or_three = twos.without(fours);
+    let two_or_three = twos.and_not(fours);
     let next = with_pair(none, alive, ones, two_or_three, birth, survive, 2);
     if (birth | survive) & FEW_OR_MANY == 0 {
         return next;
     }
-    let none_or_one = Bits::all(true).without(twos.or(fours).or(eights));
+    let none_or_one = Bits::all(true).and_not(twos.or(fours).or(eights));
     let next = with_pair(next, alive, ones, none_or_one, birth, survive, 0);
-    let four_or_five = fours.without(twos);
+    let four_or_five = fours.and_not(twos);
     let next = with_pair(next, alive, ones, four_or_five, birth, survive, 4);
     let six_or_seven = fours.and(twos);
     let next = with_pair(next, alive, ones, six_or_seven, birth, survive, 6);
@@ -83,7 +83,7 @@ fn with_pair(
     least: u8,
 ) -> Bits
     requires { least < 8 }
-    ensures { (x y : ℕ) → row_cells result.rows x y ≡ max (row_cells next.rows x y) (min (row_cells which.rows x y) (decided birth survive (row_cells alive.rows x y) (least + row_cells ones.rows x y))) }
+    ensures { (x y : ℕ) → row_cells result.rows x y ≡ max (row_cells next.rows x y) (min (row_cells which.rows x y) (next_by_count birth survive (row_cells alive.rows x y) (least + row_cells ones.rows x y))) }
 {
     let born = is_in(birth, least);
     let stays = is_in(survive, least);
@@ -92,17 +92,17 @@ fn with_pair(
     if !born && !stays && !born_by_more && !stays_by_more {
         return next;
     }
-    let next = with_count(next, alive, which.without(ones), born, stays);
+    let next = with_count(next, alive, which.and_not(ones), born, stays);
     with_count(next, alive, which.and(ones), born_by_more, stays_by_more)
 }
 
 // These bits, and those of `which` for the cells that are born or stay.
 #[inline(always)]
 fn with_count(next: Bits, alive: Bits, which: Bits, born: bool, stays: bool) -> Bits
-    ensures { (x y : ℕ) → row_cells result.rows x y ≡ max (row_cells next.rows x y) (min (row_cells which.rows x y) (told born stays (row_cells alive.rows x y))) }
+    ensures { (x y : ℕ) → row_cells result.rows x y ≡ max (row_cells next.rows x y) (min (row_cells which.rows x y) (lives_next born stays (row_cells alive.rows x y))) }
 {
     let next = if born {
-        next.or(which.without(alive))
+        next.or(which.and_not(alive))
     } else {
         next
     };

@@ -7,7 +7,7 @@ ghost use Rattle.ca_plane.specs.Plane.{Picture, cell, IsSame, shifted, IsLive};
 ghost use Rattle.ca_plane.specs.Generations.{after, IsAfter};
 ghost use Rattle.ca_plane.specs.Box.{IsInBox};
 ghost use Rattle.ca_run.specs.Later.{AgreeWithin, IsBackInPlace, IsBackAnywhere, IsLeast};
-ghost use Rattle.ca_run.specs.Reach.{grown};
+ghost use Rattle.ca_run.specs.Reach.{grown_box};
 
 use ca_plane::Automaton;
 
@@ -42,7 +42,7 @@ pub fn l3<A: Automaton>(rule: &A)
 /// side, no cell is live after n generations. And nothing comes of an empty plane.
 pub fn l4<A: Automaton>(rule: &A)
     ensures outside { (cells : Picture) (box : Bounds) (n : ℕ) (x y : ℤ) → ((u v : ℤ) → cell cells u v ≢ 0 → IsInBox box u v)
-        → (IsInBox (grown box n) x y → ⊥) → after (A.next_of rule.now) cells n x y ≡ 0 }
+        → (IsInBox (grown_box box n) x y → ⊥) → after (A.next_of rule.now) cells n x y ≡ 0 }
     ensures empty { (cells : Picture) (n : ℕ) (x y : ℤ) → (IsLive cells → ⊥) → after (A.next_of rule.now) cells n x y ≡ 0 }
 {
     // A rule that tells its states is sound: where all is empty, nothing is born.

@@ -7,14 +7,15 @@ ghost use Rattle.ca_quad.specs.Squares.{dot, together};
 ghost use Rattle.ca_quad.specs.Trees.{AreFour, Shows};
 ghost use Rattle.ca_run.specs.Centre.{IsCentre};
 ghost use Rattle.ca_run.specs.Leaping.{GoesOn};
+ghost use Rattle.ca_run.specs.Masks.{GoesBy};
 ghost use Rattle.ca_run.specs.inner.Shown.{ShowsAt, FourShow};
 
 mod advance;
 mod base;
 mod centres;
 mod dense;
-mod farthest;
 mod field;
+mod full_leaps;
 mod grid;
 mod lanes;
 mod line;
@@ -22,19 +23,19 @@ mod memo;
 mod milestone;
 mod parts;
 mod planes;
-mod recent;
+mod recent_centres;
 mod squares;
 mod tile;
 mod trio;
-mod wide;
+mod wide_square;
 mod words;
 
 use ca_plane::{Automaton, Memory};
 use ca_quad::{Id, Store};
-use farthest::Farthest;
+use full_leaps::FullLeaps;
 use memo::Memo;
 pub use milestone::Milestone;
-use recent::Recent;
+use recent_centres::RecentCentres;
 use std::alloc::Global;
 use std::marker::Model;
 
@@ -45,8 +46,8 @@ pub struct Leaper<A: Automaton> {
     rule: A,
     masks: Option<(u16, u16)>,
     memo: Memo,
-    recent: Recent,
-    farthest: Farthest,
+    recent_centres: RecentCentres,
+    full_leaps: FullLeaps,
 }
 
 impl<A: Automaton> Model for Leaper<A> {
@@ -57,7 +58,7 @@ impl<A: Automaton> Model for Leaper<A> {
 
     ghost view = { λ l. record { rule = l.rule; nodes = l.store } };
 
-    ghost invariant = { λ l. IsLeaper (A.next_of l.rule) (A.sound l.rule) l.store l.memo l.recent l.farthest l.masks };
+    ghost invariant = { λ l. IsLeaper (A.next_of l.rule) (A.sound l.rule) l.store l.memo l.recent_centres l.full_leaps l.masks };
 }
 
 impl<A: Automaton> Leaper<A> {
@@ -74,8 +75,8 @@ impl<A: Automaton> Leaper<A> {
             rule,
             masks,
             memo: Memo::new(alloc),
-            recent: Recent::new(alloc),
-            farthest: Farthest::new(alloc),
+            recent_centres: RecentCentres::new(alloc),
+            full_leaps: FullLeaps::new(alloc),
         }
     }
 
@@ -89,16 +90,23 @@ impl<A: Automaton> Leaper<A> {
         &self.store
     }
 
+    // The masks by which the rule goes, where there are some.
+    fn masks(&self) -> Option<(u16, u16)>
+        ensures { IfSome result (GoesBy (A.next_of self.now.rule)) }
+    {
+        self.masks
+    }
+
     // What is remembered for a square.
     fn recall(&self, id: Id, grain: u8, j: u8) -> Option<Id>
         requires { IsOf self.now.nodes id (suc (suc grain)) }
         ensures { IfSome result (IsCentre (A.next_of self.now.rule) self.now.nodes id grain j) }
     {
         if j == grain {
-            return self.farthest.get(id);
+            return self.full_leaps.get(id);
         }
         if self.is_cheap(grain) {
-            return self.recent.get(id, j);
+            return self.recent_centres.get(id, j);
         }
         self.memo.get(id, j)
     }
@@ -109,10 +117,10 @@ impl<A: Automaton> Leaper<A> {
         ensures { self.new ≡ self.old }
     {
         if j == grain {
-            return self.farthest.put(id, half);
+            return self.full_leaps.put(id, half);
         }
         if self.is_cheap(grain) {
-            self.recent.put(id, j, half);
+            self.recent_centres.put(id, j, half);
             return Ok(());
         }
         self.memo.put(id, j, half)

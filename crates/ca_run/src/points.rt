@@ -6,7 +6,7 @@ ghost use Rattle.ca_run.specs.inner.Order.{IsEarlier};
 use ca_plane::Point;
 
 /// The earlier of two points, or the one that there is.
-pub(crate) fn earlier(a: Option<Point>, b: Option<Point>) -> Option<Point>
+pub(crate) fn earlier_point(a: Option<Point>, b: Option<Point>) -> Option<Point>
     ensures { IsEarlier a b result }
 {
     let Some(p) = a else {

@@ -4,18 +4,18 @@ ghost use Rattle.std.specs.Prelude.{◌≡◌, ◌≢◌, ℤ, pos, negsuc, ◌+
 ghost use Rattle.ca_plane.specs.Plane.{cell};
 ghost use Rattle.ca_plane.specs.Sparse.{IsInPlane, IsSparse};
 ghost use Rattle.ca_run.specs.inner.Order.{NoneBefore, IsFirst};
-ghost use Rattle.ca_run.specs.inner.Ahead.{IsWithout};
+ghost use Rattle.ca_run.specs.inner.CellsAhead.{IsWithout};
 
 use ca_plane::Point;
 use std::marker::Model;
 
 // The cells of a plane that are still to come, row by row from the top.
 #[derive(Drop)]
-struct Ahead<'a> {
+struct CellsAhead<'a> {
     left: &'a [(Point, u8)],
 }
 
-impl<'a> Model for Ahead<'a> {
+impl<'a> Model for CellsAhead<'a> {
     ghost use Rattle.ca_plane.specs.Plane.{Picture};
     ghost use Rattle.ca_plane.specs.Sparse.{IsSparse};
 
@@ -26,12 +26,12 @@ impl<'a> Model for Ahead<'a> {
     ghost invariant = { λ a. IsSparse a.left.now };
 }
 
-impl<'a> Ahead<'a> {
-    fn new(cells: &'a [(Point, u8)]) -> Ahead<'a>
+impl<'a> CellsAhead<'a> {
+    fn new(cells: &'a [(Point, u8)]) -> CellsAhead<'a>
         requires { IsSparse cells.now }
         ensures { result ≡ cells.now }
     {
-        Ahead { left: cells }
+        CellsAhead { left: cells }
     }
 
     // The point of the first cell.
@@ -66,7 +66,7 @@ pub(crate) struct Row<'a> {
     west: u8,
     centre: u8,
     east: u8,
-    ahead: Ahead<'a>,
+    ahead: CellsAhead<'a>,
 }
 
 impl<'a> Row<'a> {
@@ -84,7 +84,7 @@ impl<'a> Row<'a> {
             west: 0,
             centre: 0,
             east: 0,
-            ahead: Ahead::new(cells),
+            ahead: CellsAhead::new(cells),
         }
     }
 
@@ -104,7 +104,7 @@ impl<'a> Row<'a> {
     }
 
     /// The first place from which a cell ahead is seen in the east, where this row is dy rows below the place.
-    pub(crate) fn first_seen(&self, dy: i64) -> Option<Point>
+    pub(crate) fn first_place(&self, dy: i64) -> Option<Point>
         requires low { negsuc 0 ≤ℤ dy }
         requires high { dy ≤ℤ pos 1 }
         ensures { IsFirst (λ x y. cell self.now.ahead (x +ℤ pos 1) (y +ℤ dy) ≢ 0) result }

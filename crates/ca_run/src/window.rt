@@ -6,7 +6,7 @@ ghost use Rattle.ca_plane.specs.Sparse.{IsInPlane, IsSparse};
 ghost use Rattle.ca_run.specs.Reach.{IsInReach};
 ghost use Rattle.ca_run.specs.inner.Order.{NoneBefore, IsFirst};
 
-use crate::points::{earlier, one_less, one_more};
+use crate::points::{earlier_point, one_less, one_more};
 use crate::row::Row;
 use ca_plane::{Nine, Point};
 
@@ -29,7 +29,7 @@ pub(crate) struct Window<'a> {
 }
 
 impl<'a> Window<'a> {
-    ghost use Rattle.ca_run.specs.inner.Window.{seen, Shows, IsQuiet, IsKept, Meets, IsNextPlace, MovesTo};
+    ghost use Rattle.ca_run.specs.inner.Window.{nine_states, Shows, IsQuiet, StaysLive, SeesAhead, IsNextPlace, MovesTo};
 
     /// A window that comes before all the cells.
     pub(crate) fn new(cells: &'a [(Point, u8)]) -> Window<'a>
@@ -51,7 +51,7 @@ impl<'a> Window<'a> {
         ensures { IsNextPlace self.now result }
     {
         if self.is_quiet() {
-            return self.first_seen();
+            return self.first_place();
         }
         Some(Point {
             y: self.place.y,
@@ -62,17 +62,17 @@ impl<'a> Window<'a> {
     // Whether all the cells are 0 that stay in sight one place further on.
     fn is_quiet(&self) -> bool
         ensures quiet { IsTrue result → IsQuiet self.now }
-        ensures kept { IsFalse result → IsKept self.now }
+        ensures kept { IsFalse result → StaysLive self.now }
     {
         self.north.is_quiet() && self.middle.is_quiet() && self.south.is_quiet()
     }
 
     // The first place from which a cell ahead is seen in the east.
-    fn first_seen(&self) -> Option<Point>
-        ensures { IsFirst (Meets self.now) result }
+    fn first_place(&self) -> Option<Point>
+        ensures { IsFirst (SeesAhead self.now) result }
     {
-        let upper = earlier(self.north.first_seen(-1), self.middle.first_seen(0));
-        earlier(upper, self.south.first_seen(1))
+        let upper = earlier_point(self.north.first_place(-1), self.middle.first_place(0));
+        earlier_point(upper, self.south.first_place(1))
     }
 
     /// Moves on to the next place.
@@ -93,7 +93,7 @@ impl<'a> Window<'a> {
 
     /// The states of the nine cells round the place.
     pub(crate) fn nine(&self) -> Nine
-        ensures { result ≡ seen self.now }
+        ensures { result ≡ nine_states self.now }
     {
         let [nw, n, ne] = self.north.states();
         let [w, centre, e] = self.middle.states();

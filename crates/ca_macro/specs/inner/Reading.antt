@@ -16,7 +16,7 @@ use Rattle.ca_macro.specs.declared.line.numbers.Numbers.{Numbers}
 use Rattle.ca_macro.specs.declared.read.reading.Reading.{Reading}
 use Rattle.ca_macro.specs.declared.read.squares.Squares.{Squares}
 use Rattle.ca_macro.specs.Nodes.{Node, Parts, level_of, Names, MayFollow}
-use Rattle.ca_macro.specs.File.{Said, File, added, last_rule, last_generation}
+use Rattle.ca_macro.specs.File.{Said, File, IsFile, added, last_rule, last_generation}
 use Rattle.ca_macro.specs.Shown.{numbered, squares_of}
 use Rattle.ca_macro.specs.Faults.{HasLine, AreFaulty, HasBadPart, AddNode, IsFirstFaultOn}
 use Rattle.ca_macro.specs.inner.Numbers.{kept_of}
@@ -95,3 +95,7 @@ pub record IsReading (store : List Kept) (said : List Said) (reading : Reading) 
 -- the file of lines that say this
 abbrev pub file_of : List Said → File
 file_of said = record { nodes = flat_map added said; rule_text = last_rule default_rule said; generation = last_generation 0 said }
+
+-- the text is a file, and this is what is kept of its lines
+abbrev pub HoldsReading : List Kept → List ℕ → Reading → Type 0
+HoldsReading store bytes reading = (said : List Said) × IsFile bytes (file_of said) × IsReading store said reading

@@ -1,6 +1,6 @@
 -- The nodes that a writer has gathered from a store of squares, and the numbers of their squares.
-use Rattle.std.specs.Prelude.{◌≡◌, ◌≢◌, ℕ, zero, suc, ◌<◌, ◌≤◌, ◌/◌, ◌%◌, ◌==◌, ℤ, List, [], ◌∷◌, ◌++◌, map, length, Bool, false, Option, Some, None, if◌then◌else◌, slice_index, ◌⊎◌}
-use Rattle.std.specs.List.{AllByRecursion, AllPairs, last_or, range_with_len}
+use Rattle.std.specs.Prelude.{◌≡◌, ◌≢◌, ℕ, zero, suc, ◌<◌, ◌≤◌, ◌/◌, ◌%◌, ◌==◌, ℤ, List, [], ◌∷◌, ◌++◌, map, length, Bool, false, Option, Some, if◌then◌else◌, slice_index}
+use Rattle.std.specs.List.{AllByRecursion, AllPairs, range_with_len}
 use Rattle.std.specs.Map.{lookup}
 use Rattle.ca_plane.specs.Plane.{Picture, cell}
 use Rattle.ca_quad.specs.declared.node.Node.{Node as Kept}
@@ -10,8 +10,8 @@ use Rattle.ca_macro.specs.declared.write.written.Written.{Written}
 use Rattle.ca_macro.specs.declared.write.written.Written.TheVariants.{Leaf, Cells, Parts}
 use Rattle.ca_macro.specs.Nodes.{Node, level_of, Names, MayFollow}
 use Rattle.ca_macro.specs.Nodes as nodes
-use Rattle.ca_macro.specs.Shown.{numbered, square_of, squares_of, picture_of}
-use Rattle.ca_macro.specs.Tidy.{IsLeastLevel, AreInPlace, HasForm, is_empty, walks_after, walk_of, each_once}
+use Rattle.ca_macro.specs.Shown.{numbered, square_of, squares_of}
+use Rattle.ca_macro.specs.Tidy.{AreInPlace, HasForm, is_empty, walks_after, each_once}
 
 -- the number of a square, if it has one
 abbrev pub number_of : List (ℕ × ℕ) → ℕ → Option ℕ
@@ -74,15 +74,3 @@ leaf_level states = if states == 2 then 3 else 1
 -- the root of the empty plane
 abbrev pub empty_root : ℕ → Node
 empty_root states = if states == 2 then nodes.Parts 4 0 0 0 0 else nodes.Cells 0 0 0 0
-
--- the nodes of a tidy text
-pub record AreTidyNodes (states : ℕ) (cells : ℤ → ℤ → ℕ) (ns : List Node) : Type 0 where
-  pub root : Node
-  pub shown : (x y : ℤ) → cells x y ≡ cell (picture_of ns) x y
-  pub root_is_last : last_or None ns ≡ Some root
-  pub level : IsLeastLevel states cells (level_of root)
-  pub in_place : AreInPlace [] ns
-  pub forms : AllByRecursion (HasForm states) ns
-  pub distinct : AllPairs (λ m n. m ≢ n) ns
-  pub empties : AllByRecursion (λ n. is_empty n ≡ false) ns ⊎ (ns ≡ root ∷ [])
-  pub order : each_once (walk_of ns) ≡ range_with_len 1 (length ns)

@@ -38,7 +38,8 @@ fn rule(rest: &[u8]) -> Comment<'_>
 fn generation(rest: &[u8]) -> Result<Comment<'_>, MacroFault>
     requires { Every (λ b. not (is_line_end b)) rest.now }
     ensures said { IfOk result (λ s. WordsSay (codes "#G" ∷ words_of rest.now) (said_of s)) }
-    ensures fault { IfErr result (λ f. (earlier : List Node) → AreFaulty f earlier (codes "#G" ∷ words_of rest.now)) }
+    ensures fault { IfErr result (λ f. (earlier : List Node)
+        → AreFaulty f earlier (codes "#G" ∷ words_of rest.now)) }
 {
     let Some((digits, more)) = next_word(rest) else {
         return Ok(Comment::Nothing);
@@ -59,13 +60,14 @@ fn generation(rest: &[u8]) -> Result<Comment<'_>, MacroFault>
 ///
 /// # Errors
 ///
-/// `Timeline` where the word begins with `#FRAME`. After `#G`: `Syntax` where the words aren't one number, `GenTooLarge`
-/// where that is above 2^63 - 1.
+/// `Timeline` where the word begins with `#FRAME`. After `#G`: `Syntax` where the words aren't one number,
+/// `GenTooLarge` where that is above 2^63 - 1.
 pub(crate) fn said_by<'a>(word: &[u8], rest: &'a [u8]) -> Result<Comment<'a>, MacroFault>
     requires comment { starts_with nat_eq word.now (codes "#") ≡ true }
     requires line { Every (λ b. not (is_line_end b)) rest.now }
     ensures said { IfOk result (λ s. WordsSay (word.now ∷ words_of rest.now) (said_of s)) }
-    ensures fault { IfErr result (λ f. (earlier : List Node) → AreFaulty f earlier (word.now ∷ words_of rest.now)) }
+    ensures fault { IfErr result (λ f. (earlier : List Node)
+        → AreFaulty f earlier (word.now ∷ words_of rest.now)) }
 {
     if word.starts_with(b"#FRAME") {
         return Err(MacroFault::Timeline);

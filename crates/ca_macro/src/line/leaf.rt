@@ -4,7 +4,8 @@ ghost use Rattle.std.specs.Prelude.{◌≡◌, ◌<◌, ◌≤◌, ◌^◌, not,
 ghost use Rattle.ca_plane.specs.Bytes.{is_end_or};
 ghost use Rattle.ca_macro.specs.Nodes.{IsLeaf, rows_of};
 ghost use Rattle.ca_macro.specs.Faults.{is_leaf_byte};
-ghost use Rattle.ca_macro.specs.inner.Leaves.{is_mark, is_live, has_room, leaf_fault, IsLeafFault, row_bits, leaf_bits, cells_of, IsSplit};
+ghost use Rattle.ca_macro.specs.inner.Leaves.{is_mark, is_live, has_room, leaf_fault, IsLeafFault, row_bits};
+ghost use Rattle.ca_macro.specs.inner.Leaves.{leaf_bits, cells_of, IsSplit};
 
 use crate::fault::MacroFault;
 use ca_plane::bytes::split_at_first;
@@ -22,8 +23,8 @@ fn is_mark(byte: u8) -> bool
     matches!(byte, b'.' | b'*')
 }
 
-/// The fault of bytes that go on where so many rows are left, and so many cells of the first of them. It calls itself at
-/// most once for each cell and row end of a leaf.
+/// The fault of bytes that go on where so many rows are left, and so many cells of the first of them. It
+/// calls itself at most once for each cell and row end of a leaf.
 fn fault_from(bytes: &[u8], height: u8, width: u8) -> Option<MacroFault>
     ensures { result ≡ leaf_fault height width bytes.now }
 {
@@ -86,12 +87,13 @@ fn fill(rows: &mut [u8], bytes: &[u8])
 ///
 /// # Errors
 ///
-/// The fault of the first byte with which the bytes are no leaf: `LeafSize` for a ninth cell of a row, and for a cell or a row
-/// end after eight rows; `Syntax` for a byte that no leaf has.
+/// The fault of the first byte with which the bytes are no leaf: `LeafSize` for a ninth cell of a row, and
+/// for a cell or a row end after eight rows; `Syntax` for a byte that no leaf has.
 pub(crate) fn leaf(bytes: &[u8]) -> Result<[u8; 8], MacroFault>
     requires some { 0 < length bytes.now }
     requires begins { is_end_or is_leaf_byte bytes.now ≡ true }
-    ensures found { IfOk result (λ bits. (rows : List (List Bool)) × IsLeaf bytes.now rows × (bits ≡ leaf_bits 8 rows)) }
+    ensures found { IfOk result (λ bits. (rows : List (List Bool)) × IsLeaf bytes.now rows
+        × (bits ≡ leaf_bits 8 rows)) }
     ensures fault { IfErr result (λ f. IsLeafFault bytes.now f) }
 {
     if let Some(fault) = fault_from(bytes, 8, 8) {

@@ -8,8 +8,8 @@ ghost use Rattle.ca_macro.specs.inner.Numbers.{Keeps, AreKept, AreNoNumbers};
 
 use ca_plane::bytes::{next_word, whole_number};
 
-/// Sets each number to that of a word of the line, or to the greatest `u64` where that is greater. False where the line
-/// isn't just as many numbers.
+/// Sets each number to that of a word of the line, or to the greatest `u64` where that is greater. False
+/// where the line isn't just as many numbers.
 fn set_numbers(numbers: &mut [u64], line: &[u8]) -> bool
     requires { Every (λ b. not (is_line_end b)) line.now }
     ensures kept { result ≡ true → AllZip Keeps (words_of line.now) numbers.new }

@@ -16,7 +16,8 @@ use std::alloc::Global;
 const RANGE: i128 = ca_plane::limits::RANGE;
 
 fn is_in_range(cells: WideBounds) -> bool
-    ensures { IsTrue result ↔ ((neg_ℤ (pos range) ≤ℤ cells.x0) × (cells.x1 <ℤ pos range) × (neg_ℤ (pos range) ≤ℤ cells.y0) × (cells.y1 <ℤ pos range)) }
+    ensures { IsTrue result ↔ ((neg_ℤ (pos range) ≤ℤ cells.x0) × (cells.x1 <ℤ pos range)
+        × (neg_ℤ (pos range) ≤ℤ cells.y0) × (cells.y1 <ℤ pos range)) }
 {
     -RANGE <= cells.x0 && cells.x1 < RANGE && -RANGE <= cells.y0 && cells.y1 < RANGE
 }
@@ -29,7 +30,8 @@ fn is_in_range(cells: WideBounds) -> bool
 fn check_range(alloc: Global, store: &Store, tree: Tree) -> Result<(), MacroFault>
     requires { IsTree store.now tree }
     ensures good { OnOk result (AreInRange (cell store.now tree)) }
-    ensures fault { IfErr result (λ f. (f ≡ Memory) ⊎ ((f ≡ Range) × (AreInRange (cell store.now tree) → ⊥))) }
+    ensures fault { IfErr result (λ f. (f ≡ Memory)
+        ⊎ ((f ≡ Range) × (AreInRange (cell store.now tree) → ⊥))) }
 {
     let Some(cells) = store.bounds(alloc, tree)? else {
         return Ok(());
@@ -55,7 +57,8 @@ pub(crate) fn trim_in_range(
     ensures cells { IfOk result (λ t. (x y : ℤ) → cell store.new t x y ≡ cell store.old tree x y) }
     ensures trimmed { IfOk result (IsTrimmed store.new) }
     ensures range { OnOk result (AreInRange (cell store.old tree)) }
-    ensures fault { IfErr result (λ f. (f ≡ Memory) ⊎ ((f ≡ Range) × (AreInRange (cell store.old tree) → ⊥))) }
+    ensures fault { IfErr result (λ f. (f ≡ Memory)
+        ⊎ ((f ≡ Range) × (AreInRange (cell store.old tree) → ⊥))) }
     ensures grows { Grows store.old store.new }
 {
     // Says what holds of every store.

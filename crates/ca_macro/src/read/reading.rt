@@ -37,7 +37,8 @@ impl<'a> Reading<'a> {
 
     /// A line says the rule text, the generation, or nothing.
     fn comment(&mut self, comment: Comment<'a>)
-        ensures { (store : List Kept) (said : List Said) (line : List ℕ) → Every (λ b. not (is_line_end b)) line → WordsSay (words_of line) (said_of comment.entry)
+        ensures { (store : List Kept) (said : List Said) (line : List ℕ)
+            → Every (λ b. not (is_line_end b)) line → WordsSay (words_of line) (said_of comment.entry)
             → IsReading store said self.old → IsReading store (said ++ said_of comment.entry ∷ []) self.new }
     {
         match comment {
@@ -56,7 +57,8 @@ impl<'a> Reading<'a> {
         requires line { Every (λ b. not (is_line_end b)) line.now }
         requires reading { (said : List Said) × IsReading store.old said self.old }
         ensures said { OnOk result ((said : List Said) → IsReading store.old said self.old
-            → (s : Said) × WordsSay (words_of line.now) s × IsAllowed (flat_map added said) s × IsReading store.new (said ++ s ∷ []) self.new) }
+            → (s : Said) × WordsSay (words_of line.now) s × IsAllowed (flat_map added said) s
+            × IsReading store.new (said ++ s ∷ []) self.new) }
         ensures fault { IfErr result (λ f. (said : List Said) → IsReading store.old said self.old
             → HasFault f (flat_map added said) (words_of line.now)) }
         ensures grows { Grows store.old store.new }

@@ -53,9 +53,11 @@ impl Squares {
     ///
     /// `Forward` where no earlier node has the number, and `Level` where the node has another level.
     fn part(&self, level: u8, number: u64) -> Result<Option<Id>, MacroFault>
-        ensures part { IfOk result (λ p. (store : List Kept) (nodes : List Node) (n : ℕ) → AreSquares store nodes self.now → number ≡ kept_of n
+        ensures part { IfOk result (λ p. (store : List Kept) (nodes : List Node) (n : ℕ)
+            → AreSquares store nodes self.now → number ≡ kept_of n
             → IsPart store nodes level n p) }
-        ensures fault { IfErr result (λ f. (store : List Kept) (nodes : List Node) (n : ℕ) → AreSquares store nodes self.now → number ≡ kept_of n
+        ensures fault { IfErr result (λ f. (store : List Kept) (nodes : List Node) (n : ℕ)
+            → AreSquares store nodes self.now → number ≡ kept_of n
             → IsBadNumber f nodes level n) }
     {
         if number == 0 {
@@ -76,9 +78,12 @@ impl Squares {
     ///
     /// The fault of the first number that may not name a part.
     fn parts(&self, level: u8, numbers: Numbers) -> Result<FourParts, MacroFault>
-        ensures parts { IfOk result (λ p. (store : List Kept) (nodes : List Node) (nw ne sw se : ℕ) → AreSquares store nodes self.now → KeepsParts numbers nw ne sw se
-            → IsPart store nodes level nw p.nw × IsPart store nodes level ne p.ne × IsPart store nodes level sw p.sw × IsPart store nodes level se p.se) }
-        ensures fault { IfErr result (λ f. (store : List Kept) (nodes : List Node) (nw ne sw se : ℕ) → AreSquares store nodes self.now → KeepsParts numbers nw ne sw se
+        ensures parts { IfOk result (λ p. (store : List Kept) (nodes : List Node) (nw ne sw se : ℕ)
+            → AreSquares store nodes self.now → KeepsParts numbers nw ne sw se
+            → IsPart store nodes level nw p.nw × IsPart store nodes level ne p.ne
+            × IsPart store nodes level sw p.sw × IsPart store nodes level se p.se) }
+        ensures fault { IfErr result (λ f. (store : List Kept) (nodes : List Node) (nw ne sw se : ℕ)
+            → AreSquares store nodes self.now → KeepsParts numbers nw ne sw se
             → HasBadPart nodes level (nw ∷ ne ∷ sw ∷ se ∷ []) (IsBadNumber f nodes level)) }
     {
         let nw = self.part(level, numbers.nw)?;
@@ -90,7 +95,8 @@ impl Squares {
 
     /// Adds a leaf of these rows.
     pub(crate) fn add_leaf(&mut self, store: &mut Store, rows: &[u8; 8]) -> Result<(), Memory>
-        ensures added { OnOk result ((nodes : List Node) (leaf : List (List Bool)) → AreSquares store.old nodes self.old → rows.now ≡ leaf_bits 8 leaf → length leaf ≤ 8
+        ensures added { OnOk result ((nodes : List Node) (leaf : List (List Bool))
+            → AreSquares store.old nodes self.old → rows.now ≡ leaf_bits 8 leaf → length leaf ≤ 8
             → AreSquares store.new (nodes ++ Leaf leaf ∷ []) self.new) }
         ensures grows { IsSound store.old → Grows store.old store.new }
     {
@@ -101,7 +107,8 @@ impl Squares {
 
     /// Adds a square of four cells of these states.
     pub(crate) fn add_cells(&mut self, store: &mut Store, states: [u8; 4]) -> Result<(), Memory>
-        ensures added { OnOk result ((nodes : List Node) (nw ne sw se : ℕ) → AreSquares store.old nodes self.old → states ≡ nw ∷ ne ∷ sw ∷ se ∷ []
+        ensures added { OnOk result ((nodes : List Node) (nw ne sw se : ℕ)
+            → AreSquares store.old nodes self.old → states ≡ nw ∷ ne ∷ sw ∷ se ∷ []
             → AllByRecursion (λ s. s ≤ 255) (nw ∷ ne ∷ sw ∷ se ∷ [])
             → AreSquares store.new (nodes ++ Cells nw ne sw se ∷ []) self.new) }
         ensures grows { IsSound store.old → Grows store.old store.new }
@@ -116,17 +123,22 @@ impl Squares {
     ///
     /// # Errors
     ///
-    /// The fault of the first number that may not name a part, found before any memory is taken; and `Memory` where a growth is refused.
+    /// The fault of the first number that may not name a part, found before any memory is taken; and `Memory`
+    /// where a growth is refused.
     pub(crate) fn add_parts(
         &mut self,
         store: &mut Store,
         numbers: Numbers,
     ) -> Result<(), MacroFault>
         requires level { IsLevel numbers.level }
-        requires squares { (nodes : List Node) × (nw : ℕ) × (ne : ℕ) × (sw : ℕ) × (se : ℕ) × AreSquares store.old nodes self.old × KeepsParts numbers nw ne sw se }
-        ensures added { OnOk result ((nodes : List Node) (nw ne sw se : ℕ) → AreSquares store.old nodes self.old → KeepsParts numbers nw ne sw se
-            → MayFollow nodes (Parts numbers.level nw ne sw se) × AreSquares store.new (nodes ++ Parts numbers.level nw ne sw se ∷ []) self.new) }
-        ensures fault { IfErr result (λ f. (nodes : List Node) (nw ne sw se : ℕ) → AreSquares store.old nodes self.old → KeepsParts numbers nw ne sw se
+        requires squares { (nodes : List Node) × (nw : ℕ) × (ne : ℕ) × (sw : ℕ) × (se : ℕ)
+            × AreSquares store.old nodes self.old × KeepsParts numbers nw ne sw se }
+        ensures added { OnOk result ((nodes : List Node) (nw ne sw se : ℕ)
+            → AreSquares store.old nodes self.old → KeepsParts numbers nw ne sw se
+            → MayFollow nodes (Parts numbers.level nw ne sw se)
+            × AreSquares store.new (nodes ++ Parts numbers.level nw ne sw se ∷ []) self.new) }
+        ensures fault { IfErr result (λ f. (nodes : List Node) (nw ne sw se : ℕ)
+            → AreSquares store.old nodes self.old → KeepsParts numbers nw ne sw se
             → HaveFault f nodes numbers.level nw ne sw se) }
         ensures grows { Grows store.old store.new }
     {
@@ -147,7 +159,8 @@ impl Squares {
 
     /// The square of the root, which is the last node, or an empty one where there is no node.
     pub(crate) fn root(&self, store: &mut Store) -> Result<Tree, Memory>
-        ensures tree { IfOk result (λ t. (nodes : List Node) → AreSquares store.old nodes self.now → IsTree store.new t) }
+        ensures tree { IfOk result (λ t. (nodes : List Node) → AreSquares store.old nodes self.now
+            → IsTree store.new t) }
         ensures cells { IfOk result (λ t. (nodes : List Node) → AreSquares store.old nodes self.now
             → (x y : ℤ) → cell store.new t x y ≡ plane_cell (picture_of nodes) x y) }
         ensures grows { IsSound store.old → Grows store.old store.new }

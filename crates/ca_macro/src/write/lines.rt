@@ -33,7 +33,8 @@ fn push_row(out: &mut Vec<u8>, row: u8, width: u8) -> Result<(), Memory>
 }
 
 fn push_rows(out: &mut Vec<u8>, rows: &[u8; 8]) -> Result<(), Memory>
-    ensures { OnOk result (Puts out.old.items out.new.items (flat_map (λ row. map mark_of row ++ codes "$") (map (row_of 8) rows.now))) }
+    ensures { OnOk result (Puts out.old.items out.new.items
+        (flat_map (λ row. map mark_of row ++ codes "$") (map (row_of 8) rows.now))) }
 {
     'rows: for row in rows {
         push_row(out, *row, 8)?;
@@ -92,7 +93,8 @@ fn push_line(out: &mut Vec<u8>, node: &Written) -> Result<(), Memory>
 }
 
 fn push_nodes(out: &mut Vec<u8>, nodes: &[Written]) -> Result<(), Memory>
-    ensures { OnOk result (Puts out.old.items out.new.items (flat_map (λ line. line ++ 10 ∷ []) (map node_text (map node_of nodes.now)))) }
+    ensures { OnOk result (Puts out.old.items out.new.items
+        (flat_map (λ line. line ++ 10 ∷ []) (map node_text (map node_of nodes.now)))) }
 {
     'nodes: for node in nodes {
         push_line(out, node)?;
@@ -101,7 +103,8 @@ fn push_nodes(out: &mut Vec<u8>, nodes: &[Written]) -> Result<(), Memory>
 }
 
 fn push_generation(out: &mut Vec<u8>, generation: u64) -> Result<(), Memory>
-    ensures { OnOk result (Puts out.old.items out.new.items (flat_map (λ line. line ++ 10 ∷ []) (generation_lines generation))) }
+    ensures { OnOk result (Puts out.old.items out.new.items
+        (flat_map (λ line. line ++ 10 ∷ []) (generation_lines generation))) }
 {
     if generation == 0 {
         return Ok(());
@@ -118,7 +121,8 @@ pub(super) fn push_lines(
     generation: u64,
     nodes: &[Written],
 ) -> Result<(), Memory>
-    ensures { OnOk result (Puts out.old.items out.new.items (flat_map (λ line. line ++ 10 ∷ []) (tidy_lines rule_text.now generation (map node_of nodes.now)))) }
+    ensures { OnOk result (Puts out.old.items out.new.items
+        (flat_map (λ line. line ++ 10 ∷ []) (tidy_lines rule_text.now generation (map node_of nodes.now)))) }
 {
     push_text(out, b"[M2] (cafile)\n#R ")?;
     push_text(out, rule_text)?;

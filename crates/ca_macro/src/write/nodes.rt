@@ -1,11 +1,13 @@
 //! The nodes of a tree, each square once, its parts before it.
 
-ghost use Rattle.std.specs.Prelude.{◌≡◌, ◌≢◌, ◌+◌, ◌<◌, ◌≤◌, ◌++◌, ◌∷◌, [], ℕ, ℤ, List, map, length, slice_index, OnOk, IfOk, IfSome, Some, None};
+ghost use Rattle.std.specs.Prelude.{◌≡◌, ◌≢◌, ◌+◌, ◌<◌, ◌≤◌, ◌++◌, ◌∷◌, [], ℕ, ℤ, List, map, length};
+ghost use Rattle.std.specs.Prelude.{slice_index, OnOk, IfOk, IfSome, Some, None};
 ghost use Rattle.ca_quad.specs.Squares.{level_of};
 ghost use Rattle.ca_quad.specs.Trees.{IsIn, IsTree, IsEmpty, cell};
 ghost use Rattle.ca_macro.specs.Nodes.{Node, Leaf, Cells};
-ghost use Rattle.ca_macro.specs.Tidy.{IsLeastLevel, parts_of};
-ghost use Rattle.ca_macro.specs.inner.Written.{number_of, row_of, node_of, cells_of, IsNumberOf, IsNodeOf, IsGathered, Extends, GoesOn, leaf_level, empty_root, AreTidyNodes};
+ghost use Rattle.ca_macro.specs.Tidy.{IsLeastLevel, AreTidyNodes, parts_of};
+ghost use Rattle.ca_macro.specs.inner.Written.{number_of, row_of, node_of, cells_of, IsNumberOf, IsNodeOf};
+ghost use Rattle.ca_macro.specs.inner.Written.{IsGathered, Extends, GoesOn, leaf_level, empty_root};
 
 use super::numbers::Numbers;
 use super::written::Written;
@@ -30,9 +32,12 @@ impl Gathered {
         requires new { number_of self.old.numbers id ≡ None }
         ensures number { IfOk result (IsNumberOf store.now (map node_of self.new.nodes.items) id) }
         ensures last { IfOk result (λ n. n ≡ length (map node_of self.new.nodes.items)) }
-        ensures gathered { OnOk result (IsGathered store.now states (map node_of self.new.nodes.items) self.new.numbers) }
-        ensures more { OnOk result (map node_of self.new.nodes.items ≡ map node_of self.old.nodes.items ++ node_of node ∷ []) }
-        ensures keeps { OnOk result ((other : ℕ) → other ≢ id → number_of self.new.numbers other ≡ number_of self.old.numbers other) }
+        ensures gathered { OnOk result (IsGathered store.now states
+            (map node_of self.new.nodes.items) self.new.numbers) }
+        ensures more { OnOk result (map node_of self.new.nodes.items
+            ≡ map node_of self.old.nodes.items ++ node_of node ∷ []) }
+        ensures keeps { OnOk result ((other : ℕ) → other ≢ id
+            → number_of self.new.numbers other ≡ number_of self.old.numbers other) }
     {
         let _squares = store.count();
         self.nodes.push(node)?;
@@ -63,7 +68,8 @@ fn rows_node(rows: [u8; 8]) -> Written
 
 /// The node of these four states.
 fn states_node(states: [u8; 4]) -> Written
-    ensures node { node_of result ≡ Cells (slice_index states 0) (slice_index states 1) (slice_index states 2) (slice_index states 3) }
+    ensures node { node_of result
+        ≡ Cells (slice_index states 0) (slice_index states 1) (slice_index states 2) (slice_index states 3) }
     ensures low { (i : ℕ) → slice_index states i < 256 }
 {
     Written::Cells(states)
@@ -91,21 +97,28 @@ fn part(parts: &[Id; 4], place: usize) -> Id
     parts[place]
 }
 
-/// The number of a square, which is 0 where it is empty. Its node is put after the others where it isn't there yet.
+/// The number of a square, which is 0 where it is empty. Its node is put after the others where it isn't
+/// there yet.
 fn number(store: &Store, states: u16, id: Id, gathered: &mut Gathered) -> Result<u64, Memory>
     requires known { IsIn store.now id }
     requires least { leaf_level states ≤ level_of store.now id }
     requires most { level_of store.now id ≤ 120 }
     requires states { (x y : ℕ) → cells_of store.now id x y < states }
-    requires gathered { IsGathered store.now states (map node_of gathered.old.nodes.items) gathered.old.numbers }
+    requires gathered { IsGathered store.now states
+        (map node_of gathered.old.nodes.items) gathered.old.numbers }
     ensures number { IfOk result (IsNumberOf store.now (map node_of gathered.new.nodes.items) id) }
-    ensures gathered { OnOk result (IsGathered store.now states (map node_of gathered.new.nodes.items) gathered.new.numbers) }
-    ensures more { OnOk result (Extends (map node_of gathered.old.nodes.items) (map node_of gathered.new.nodes.items)) }
-    ensures order { IfOk result (GoesOn (map node_of gathered.old.nodes.items) (map node_of gathered.new.nodes.items)) }
+    ensures gathered { OnOk result (IsGathered store.now states
+        (map node_of gathered.new.nodes.items) gathered.new.numbers) }
+    ensures more { OnOk result (Extends (map node_of gathered.old.nodes.items)
+        (map node_of gathered.new.nodes.items)) }
+    ensures order { IfOk result (GoesOn (map node_of gathered.old.nodes.items)
+        (map node_of gathered.new.nodes.items)) }
     // Larger squares have no new numbers.
-    ensures keeps { OnOk result ((other : ℕ) → level_of store.now id < level_of store.now other → number_of gathered.new.numbers other ≡ number_of gathered.old.numbers other) }
+    ensures keeps { OnOk result ((other : ℕ) → level_of store.now id < level_of store.now other
+        → number_of gathered.new.numbers other ≡ number_of gathered.old.numbers other) }
     // A square that is new is the last.
-    ensures last { IfOk result (λ n. (IsEmpty (cells_of store.now id) → ⊥) → number_of gathered.old.numbers id ≡ None → n ≡ length (map node_of gathered.new.nodes.items)) }
+    ensures last { IfOk result (λ n. (IsEmpty (cells_of store.now id) → ⊥)
+        → number_of gathered.old.numbers id ≡ None → n ≡ length (map node_of gathered.new.nodes.items)) }
 {
     if store.is_empty(id) {
         return Ok(0);

@@ -42,7 +42,8 @@ impl Numbers {
 
     /// Gives a square a number.
     pub(crate) fn put(&mut self, id: Id, number: u64) -> Result<(), Memory>
-        ensures { OnOk result ((other : ℕ) → number_of self.new other ≡ cond (id == other) (Some number) (number_of self.old other)) }
+        ensures { OnOk result ((other : ℕ) → number_of self.new other ≡ cond (id == other) (Some number)
+            (number_of self.old other)) }
     {
         self.by_id.insert(id, number)?;
         Ok(())

@@ -2,8 +2,8 @@
 use Rattle.std.specs.Prelude.{◌≡◌, ℕ, List, Some}
 use Rattle.ca_quad.specs.declared.node.Node.{Node}
 use Rattle.ca_quad.specs.Added.{IsCopy}
-use Rattle.ca_quad.specs.inner.Found.{found_for}
+use Rattle.ca_quad.specs.SquareValues.{square_value}
 
--- each square that was found is the copy of its square
+-- each square's value is its copy
 abbrev pub AreCopies : List Node → List Node → List (ℕ × ℕ) → Type 0
-AreCopies from nodes found = (id copy : ℕ) → found_for found id ≡ Some copy → IsCopy from nodes id copy
+AreCopies from nodes values = (id copy : ℕ) → square_value values id ≡ Some copy → IsCopy from nodes id copy

@@ -1,10 +1,7 @@
 -- The least box round the live cells of a square, counted from its corner.
-use Rattle.std.specs.Prelude.{◌≢◌, ℕ, ◌-◌, ◌<◌, ◌≤◌, nat_lt, if◌then◌else◌, Option, MatchOption, Some, ◌≡◌, ◌^◌, List}
-use Rattle.ca_quad.specs.declared.node.Node.{Node}
+use Rattle.std.specs.Prelude.{◌≢◌, ℕ, ◌-◌, ◌<◌, ◌≤◌, nat_lt, if◌then◌else◌, Option, MatchOption}
 use Rattle.ca_quad.specs.declared.store.extent.Extent.{Extent}
-use Rattle.ca_quad.specs.Squares.{IsOf, cell_of}
 use Rattle.ca_quad.specs.Trees.{IsEmpty}
-use Rattle.ca_quad.specs.inner.Found.{found_for}
 
 -- two squares that lie side by side, of which the western one has this many columns
 abbrev pub beside : ℕ → (ℕ → ℕ → ℕ) → (ℕ → ℕ → ℕ) → ℕ → ℕ → ℕ
@@ -31,11 +28,3 @@ IsWithin side box = (box.left < side) × (box.top < side) × (box.right < side) 
 -- the least box round the live cells, where there are any
 abbrev pub IsExtentOf : (ℕ → ℕ → ℕ) → ℕ → ℕ → Option Extent → Type 0
 IsExtentOf cells columns rows found = MatchOption found (IsEmpty cells) (IsExtent cells columns rows)
-
--- the least box round the live cells of a square
-abbrev pub IsBoxOf : List Node → ℕ → Option Extent → Type 0
-IsBoxOf nodes id found = (level : ℕ) → IsOf nodes id level → IsExtentOf (cell_of nodes level id) (2 ^ level) (2 ^ level) found
-
--- each box that was found is that of its square
-abbrev pub AreBoxes : List Node → List (ℕ × Option Extent) → Type 0
-AreBoxes nodes boxes = (id : ℕ) (found : Option Extent) → found_for boxes id ≡ Some found → IsBoxOf nodes id found

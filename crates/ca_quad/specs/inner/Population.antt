@@ -1,8 +1,8 @@
 -- How many cells are live, as a sum over the square.
-use Rattle.std.specs.Prelude.{ℕ, zero, suc, ◌+◌, ◌^◌, ◌==◌, if◌then◌else◌, List}
+use Rattle.std.specs.Prelude.{◌≡◌, ℕ, zero, suc, ◌+◌, ◌-◌, ◌^◌, ◌==◌, min, if◌then◌else◌, List}
 use Rattle.ca_quad.specs.declared.node.Node.{Node}
 use Rattle.ca_quad.specs.declared.tree.Tree.{Tree}
-use Rattle.ca_quad.specs.Squares.{cell_of}
+use Rattle.ca_quad.specs.Squares.{IsOf, cell_of}
 
 -- the sum of the terms 0 to n - 1
 abbrev pub sum_below : ℕ → (ℕ → ℕ) → ℕ
@@ -20,3 +20,11 @@ population cells side = sum_below side (λ y. sum_below side (λ x. live (cells 
 -- how many cells of a tree are live
 abbrev pub live_cells : List Node → Tree → ℕ
 live_cells nodes tree = population (cell_of nodes tree.level tree.root) (2 ^ tree.level)
+
+-- the number of the live cells, or the greatest u128 where it is larger
+abbrev pub IsCount : (ℕ → ℕ → ℕ) → ℕ → ℕ → Type 0
+IsCount cells side count = count ≡ min (population cells side) (2 ^ 128 - 1)
+
+-- that of a square
+abbrev pub IsCountOf : List Node → ℕ → ℕ → Type 0
+IsCountOf nodes id count = (level : ℕ) → IsOf nodes id level → IsCount (cell_of nodes level id) (2 ^ level) count

@@ -2,6 +2,11 @@
 use Rattle.std.specs.Prelude.{◌≡◌, ℕ, suc, ◌+◌, ◌-◌, ◌<◌, ◌≤◌, ◌^◌, ◌⊎◌, List, Option, MatchOption}
 use Rattle.ca_quad.specs.declared.node.Node.{Node}
 use Rattle.ca_quad.specs.Squares.{IsOf, together, cell_of}
+use Rattle.ca_quad.specs.Trees.{IsEmpty}
+
+-- every cell of the square is 0
+abbrev pub IsEmptySquare : List Node → ℕ → Type 0
+IsEmptySquare nodes id = (level : ℕ) → IsOf nodes id level → IsEmpty (cell_of nodes level id)
 
 -- no live cell
 abbrev pub none : ℕ → ℕ → ℕ

@@ -1,16 +1,14 @@
 //! The least box round the live cells of a tree.
 
-ghost use Rattle.std.specs.Prelude.{◌≡◌, ◌^◌, ◌+◌, ◌≤◌, pos, ◌-ℤ◌, IfOk, OnOk, MatchOption};
-ghost use Rattle.ca_quad.specs.Trees.{IsIn, IsTree, cell};
+ghost use Rattle.std.specs.Prelude.{◌≡◌, ◌^◌, ◌+◌, ◌≤◌, pos, ◌-ℤ◌, IfOk, MatchOption};
+ghost use Rattle.ca_quad.specs.Trees.{IsTree, cell};
 ghost use Rattle.ca_quad.specs.Boxes.{IsDead, IsLeastBox};
-ghost use Rattle.ca_quad.specs.inner.Extent.{IsWithin, IsBoxOf, AreBoxes};
+ghost use Rattle.ca_quad.specs.inner.Extent.{IsWithin};
 
 use super::Store;
 use super::extent::Extent;
-use super::found::Found;
 use super::read::half_side;
-use crate::id::Id;
-use crate::square::Square;
+use crate::square_map::SquareMap;
 use crate::tree::{Tree, WideBounds};
 use ca_plane::Memory;
 use std::alloc::Global;
@@ -28,40 +26,11 @@ impl Store {
         ensures { IfOk result (λ found. MatchOption found (IsDead (cell self.now tree)) (IsLeastBox (cell self.now tree))) }
     {
         let half = half_side(self.level(tree.root));
-        let Some(extent) = self.extent(tree.root, &mut Found::new(alloc))? else {
+        let extent: Option<Extent> = self.measure(tree.root, &mut SquareMap::new(alloc))?;
+        let Some(extent) = extent else {
             return Ok(None);
         };
         Ok(Some(from_middle(half, extent)))
-    }
-
-    // The least box round the live cells of a square.
-    fn extent(&self, id: Id, extents: &mut Found<Option<Extent>>) -> Result<Option<Extent>, Memory>
-        requires known { IsIn self.now id }
-        requires extents { AreBoxes self.now extents.old }
-        ensures least { IfOk result (IsBoxOf self.now id) }
-        ensures extents { OnOk result (AreBoxes self.now extents.new) }
-    {
-        match self.square(id) {
-            Square::Four(nw, ne, sw, se) => Ok(Extent::of_four(
-                1,
-                Extent::of_cell(nw),
-                Extent::of_cell(ne),
-                Extent::of_cell(sw),
-                Extent::of_cell(se),
-            )),
-            Square::Parts(level, nw, ne, sw, se) => {
-                if let Some(extent) = extents.get(id) {
-                    return Ok(extent);
-                }
-                let nw = self.extent(nw, extents)?;
-                let ne = self.extent(ne, extents)?;
-                let sw = self.extent(sw, extents)?;
-                let se = self.extent(se, extents)?;
-                let extent = Extent::of_four(half_side(level), nw, ne, sw, se);
-                extents.put(id, extent)?;
-                Ok(extent)
-            }
-        }
     }
 }
 

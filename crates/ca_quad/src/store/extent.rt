@@ -1,8 +1,9 @@
 //! The least box round the live cells of a square.
 
 ghost use Rattle.std.specs.Prelude.{◌≡◌, ℕ, ◌+◌, ◌-◌, ◌≤◌, ◌^◌, min};
-ghost use Rattle.ca_quad.specs.Squares.{dot, together};
 ghost use Rattle.ca_quad.specs.inner.Extent.{beside, turned, IsExtentOf};
+
+use super::measure::Measure;
 
 // The least box round the live cells of a square, counted from its corner, both ends included.
 #[derive(Clone, Copy, Drop)]
@@ -13,11 +14,10 @@ pub(crate) struct Extent {
     pub bottom: u128,
 }
 
-impl Extent {
-    // The box of one cell.
-    pub(crate) fn of_cell(state: u8) -> Option<Extent>
-        ensures { IsExtentOf (dot state) 1 1 result }
-    {
+impl Measure for Option<Extent> {
+    ghost is = { λ cells side found. IsExtentOf cells side side found };
+
+    fn of_cell(state: u8) -> Option<Extent> {
         if state == 0 {
             return None;
         }
@@ -29,21 +29,20 @@ impl Extent {
         })
     }
 
-    // The box of four squares of this side that lie together.
-    pub(crate) fn of_four(
+    fn of_four(
         side: u128,
         nw: Option<Extent>,
         ne: Option<Extent>,
         sw: Option<Extent>,
         se: Option<Extent>,
-    ) -> Option<Extent>
-        requires { side ≤ 2 ^ 124 }
-        ensures { (a b c d : ℕ → ℕ → ℕ) → IsExtentOf a side side nw → IsExtentOf b side side ne → IsExtentOf c side side sw → IsExtentOf d side side se
-            → IsExtentOf (together side a b c d) (side + side) (side + side) result }
-    {
+    ) -> Option<Extent> {
         let north = beside(side, nw, ne);
         let south = beside(side, sw, se);
         turned(beside(side, turned(north), turned(south)))
+    }
+
+    fn of_number(_cells: u64) -> Option<Option<Extent>> {
+        None
     }
 }
 

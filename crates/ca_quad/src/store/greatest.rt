@@ -1,14 +1,13 @@
 //! The greatest state of a tree's cells.
 
-ghost use Rattle.std.specs.Prelude.{◌≡◌, ◌≢◌, ◌≤◌, ℤ, max, IfOk, OnOk};
-ghost use Rattle.ca_quad.specs.Trees.{IsIn, IsTree, cell};
+ghost use Rattle.std.specs.Prelude.{◌≡◌, ◌≢◌, ◌≤◌, ℤ, max, IfOk};
+ghost use Rattle.ca_quad.specs.Trees.{IsTree, cell};
 ghost use Rattle.ca_quad.specs.inner.Population.{live};
-ghost use Rattle.ca_quad.specs.inner.Greatest.{IsGreatestOf, AreGreatest};
+ghost use Rattle.ca_quad.specs.inner.Greatest.{IsGreatest};
 
 use super::Store;
-use super::found::Found;
-use crate::id::Id;
-use crate::square::Square;
+use super::measure::Measure;
+use crate::square_map::SquareMap;
 use crate::tree::Tree;
 use ca_plane::Memory;
 use std::alloc::Global;
@@ -26,38 +25,44 @@ impl Store {
         ensures most { IfOk result (λ s. (x y : ℤ) → cell self.now tree x y ≤ s) }
         ensures shown { IfOk result (λ s. s ≢ 0 → (x : ℤ) × (y : ℤ) × (cell self.now tree x y ≡ s)) }
     {
-        self.greatest_in(tree.root, &mut Found::new(alloc))
-    }
-
-    // The greatest state of a square's cells.
-    fn greatest_in(&self, id: Id, found: &mut Found<u8>) -> Result<u8, Memory>
-        requires known { IsIn self.now id }
-        requires found { AreGreatest self.now found.old }
-        ensures greatest { IfOk result (IsGreatestOf self.now id) }
-        ensures found { OnOk result (AreGreatest self.now found.new) }
-    {
-        if let Some(cells) = self.number(id) {
-            return Ok(one_if_any(cells));
-        }
-        match self.square(id) {
-            Square::Four(nw, ne, sw, se) => Ok(greatest(nw, ne, sw, se)),
-            Square::Parts(_, nw, ne, sw, se) => {
-                if let Some(state) = found.get(id) {
-                    return Ok(state);
-                }
-                let nw = self.greatest_in(nw, found)?;
-                let ne = self.greatest_in(ne, found)?;
-                let sw = self.greatest_in(sw, found)?;
-                let se = self.greatest_in(se, found)?;
-                let state = greatest(nw, ne, sw, se);
-                found.put(id, state)?;
-                Ok(state)
-            }
-        }
+        let greatest: GreatestState = self.measure(tree.root, &mut SquareMap::new(alloc))?;
+        Ok(greatest.state)
     }
 }
 
-// The greatest state of a square of two states whose cells are the digits of this number.
+// The greatest state of a square's cells.
+#[derive(Clone, Copy)]
+struct GreatestState {
+    state: u8,
+}
+
+impl Measure for GreatestState {
+    ghost is = { λ cells _ greatest. IsGreatest cells greatest.state };
+
+    fn of_cell(state: u8) -> GreatestState {
+        GreatestState { state }
+    }
+
+    fn of_four(
+        _side: u128,
+        nw: GreatestState,
+        ne: GreatestState,
+        sw: GreatestState,
+        se: GreatestState,
+    ) -> GreatestState {
+        GreatestState {
+            state: greatest(nw.state, ne.state, sw.state, se.state),
+        }
+    }
+
+    fn of_number(cells: u64) -> Option<GreatestState> {
+        Some(GreatestState {
+            state: one_if_any(cells),
+        })
+    }
+}
+
+// 1 for a square of two states with live cells, whose cells are the digits of this number.
 fn one_if_any(cells: u64) -> u8
     ensures { result ≡ live cells }
 {

@@ -9,9 +9,9 @@ ghost use Rattle.ca_quad.specs.Added.{IsCopy, AddsCopies};
 ghost use Rattle.ca_quad.specs.inner.Copied.{AreCopies};
 
 use super::Store;
-use super::found::Found;
 use crate::id::Id;
 use crate::square::Square;
+use crate::square_map::SquareMap;
 use crate::tree::Tree;
 use ca_plane::Memory;
 
@@ -34,7 +34,7 @@ impl Store {
         ensures grows { Grows self.old self.new }
     {
         let alloc = *self.nodes.allocator();
-        let root = self.copy_of(from, tree.root, &mut Found::new(alloc))?;
+        let root = self.copy_of(from, tree.root, &mut SquareMap::new(alloc))?;
         Ok(Tree {
             root,
             level: tree.level,
@@ -42,7 +42,7 @@ impl Store {
     }
 
     // The square of the same level and cells as one of another store, given those of some of its squares.
-    fn copy_of(&mut self, from: &Store, id: Id, copies: &mut Found<Id>) -> Result<Id, Memory>
+    fn copy_of(&mut self, from: &Store, id: Id, copies: &mut SquareMap<Id>) -> Result<Id, Memory>
         requires known { IsIn from.now id }
         requires copies { AreCopies from.now self.old copies.old }
         ensures copy { IfOk result (IsCopy from.now self.new id) }

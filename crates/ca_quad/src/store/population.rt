@@ -1,15 +1,14 @@
 //! How many cells are live.
 
-ghost use Rattle.std.specs.Prelude.{◌≡◌, ◌+◌, ◌-◌, ◌≤◌, ◌^◌, min, IfOk, OnOk};
+ghost use Rattle.std.specs.Prelude.{◌≡◌, ◌+◌, ◌-◌, ◌≤◌, ◌^◌, min, IfOk};
 ghost use Rattle.ca_plane.specs.Population.{HasPopulation};
 ghost use Rattle.ca_quad.specs.Trees.{IsIn, IsTree, cell};
-ghost use Rattle.ca_quad.specs.inner.Population.{live};
-ghost use Rattle.ca_quad.specs.inner.Found.{IsCountOf, AreCounts};
+ghost use Rattle.ca_quad.specs.inner.Population.{live, IsCount, IsCountOf};
 
 use super::Store;
-use super::found::Found;
+use super::measure::Measure;
 use crate::id::Id;
-use crate::square::Square;
+use crate::square_map::SquareMap;
 use crate::tree::Tree;
 use ca_plane::Memory;
 use std::alloc::Global;
@@ -27,34 +26,48 @@ impl Store {
         requires level { tree.level ≤ 63 }
         ensures { IfOk result (HasPopulation (cell self.now tree)) }
     {
-        self.live_cells(tree.root, &mut Found::new(alloc))
+        self.live_cells(alloc, tree.root)
     }
 
     // How many cells of a square are live, or the greatest u128 where they are more.
-    pub(crate) fn live_cells(&self, id: Id, counts: &mut Found<u128>) -> Result<u128, Memory>
-        requires known { IsIn self.now id }
-        requires counts { AreCounts self.now counts.old }
+    pub(super) fn live_cells(&self, alloc: Global, id: Id) -> Result<u128, Memory>
+        requires { IsIn self.now id }
         ensures count { IfOk result (IsCountOf self.now id) }
-        ensures counts { OnOk result (AreCounts self.now counts.new) }
     {
-        if let Some(cells) = self.number(id) {
-            return Ok(cells.count_ones() as u128);
+        let population: Population = self.measure(id, &mut SquareMap::new(alloc))?;
+        Ok(population.cells)
+    }
+}
+
+// How many cells of a square are live, or the greatest u128 where they are more.
+#[derive(Clone, Copy)]
+struct Population {
+    cells: u128,
+}
+
+impl Measure for Population {
+    ghost is = { λ cells side population. IsCount cells side population.cells };
+
+    fn of_cell(state: u8) -> Population {
+        Population { cells: live(state) }
+    }
+
+    fn of_four(
+        _side: u128,
+        nw: Population,
+        ne: Population,
+        sw: Population,
+        se: Population,
+    ) -> Population {
+        Population {
+            cells: in_all(nw.cells, ne.cells, sw.cells, se.cells),
         }
-        match self.square(id) {
-            Square::Four(nw, ne, sw, se) => Ok(live(nw) + live(ne) + live(sw) + live(se)),
-            Square::Parts(_, nw, ne, sw, se) => {
-                if let Some(count) = counts.get(id) {
-                    return Ok(count);
-                }
-                let nw = self.live_cells(nw, counts)?;
-                let ne = self.live_cells(ne, counts)?;
-                let sw = self.live_cells(sw, counts)?;
-                let se = self.live_cells(se, counts)?;
-                let count = in_all(nw, ne, sw, se);
-                counts.put(id, count)?;
-                Ok(count)
-            }
-        }
+    }
+
+    fn of_number(cells: u64) -> Option<Population> {
+        Some(Population {
+            cells: cells.count_ones() as u128,
+        })
     }
 }
 

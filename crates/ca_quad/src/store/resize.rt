@@ -1,11 +1,12 @@
 //! Trees of one level more or less, with the same cells.
 
 ghost use Rattle.std.specs.Prelude.{◌≡◌, ℕ, suc, ◌+◌, ◌≤◌, ◌^◌, ◌↔◌, ℤ, length, IfOk, IsTrue};
+ghost use Rattle.std.specs.List.{All};
 ghost use Rattle.ca_quad.specs.Squares.{level_of, dot, together, cell_of, IsOf};
 ghost use Rattle.ca_quad.specs.Sound.{Grows};
-ghost use Rattle.ca_quad.specs.Trees.{IsIn, IsEmpty, IsTree, Shows, AreFour, cell};
+ghost use Rattle.ca_quad.specs.Trees.{IsIn, IsTree, Shows, AreFour, cell};
 ghost use Rattle.ca_quad.specs.Trimmed.{IsTrimmed};
-ghost use Rattle.ca_quad.specs.inner.Ring.{Rings, TellsMiddle, ringed};
+ghost use Rattle.ca_quad.specs.inner.Ring.{IsEmptySquare, Rings, TellsMiddle, ringed};
 
 use super::Store;
 use crate::id::Id;
@@ -145,10 +146,9 @@ impl Store {
         let Square::Four(south_east, j, k, l) = self.square(se) else {
             unreachable!()
         };
-        if a.max(b).max(c).max(d.max(e).max(f)) > 0 {
-            return Ok(None);
-        }
-        if g.max(h).max(i).max(j.max(k).max(l)) > 0 {
+        let north = a.max(b).max(c).max(d.max(e).max(f));
+        let south = g.max(h).max(i).max(j.max(k).max(l));
+        if north.max(south) > 0 {
             return Ok(None);
         }
         Ok(Some(self.leaf(north_west, north_east, south_west, south_east)?))
@@ -176,35 +176,22 @@ impl Store {
         let Square::Parts(_, south_east, j, k, l) = self.square(se) else {
             unreachable!()
         };
-        if !self.are_empty(a, b, c) {
-            return Ok(None);
-        }
-        if !self.are_empty(d, e, f) {
-            return Ok(None);
-        }
-        if !self.are_empty(g, h, i) {
-            return Ok(None);
-        }
-        if !self.are_empty(j, k, l) {
+        if !self.are_empty(&[a, b, c, d, e, f, g, h, i, j, k, l]) {
             return Ok(None);
         }
         Ok(Some(self.join(north_west, north_east, south_west, south_east)?))
     }
 
-    // Whether every cell of three squares of one level is 0.
-    fn are_empty(&self, a: Id, b: Id, c: Id) -> bool
-        requires a { IsIn self.now a }
-        requires b { IsIn self.now b }
-        requires c { IsIn self.now c }
-        ensures { (level : ℕ) → IsOf self.now a level → IsOf self.now b level → IsOf self.now c level
-            → IsTrue result ↔ (IsEmpty (cell_of self.now level a) × IsEmpty (cell_of self.now level b) × IsEmpty (cell_of self.now level c)) }
+    // Whether every cell of these squares is 0.
+    fn are_empty(&self, squares: &[Id]) -> bool
+        requires { All (IsIn self.now) squares.now }
+        ensures { IsTrue result ↔ All (IsEmptySquare self.now) squares.now }
     {
-        if !self.is_empty(a) {
-            return false;
+        'squares: for &square in squares {
+            if !self.is_empty(square) {
+                return false;
+            }
         }
-        if !self.is_empty(b) {
-            return false;
-        }
-        self.is_empty(c)
+        true
     }
 }

@@ -1,14 +1,14 @@
 //! Trees that are made planes.
 
-ghost use Rattle.std.specs.Prelude.{◌≡◌, ◌≤◌, ◌^◌, ◌⊎◌, pos, neg_ℤ, ◌≤ℤ◌, ◌<ℤ◌, IsTrue, IsFalse, IfOk, IfErr, OnOk};
-ghost use Rattle.ca_plane.specs.Sparse.{IsInPlane, IsSparse, reach};
+ghost use Rattle.std.specs.Prelude.{◌≡◌, ◌≤◌, ◌^◌, pos, neg_ℤ, IsTrue, IsFalse, IfOk, IfErr, OnOk};
+ghost use Rattle.ca_plane.specs.Sparse.{IsInPlane, IsSparse};
 ghost use Rattle.ca_quad.specs.Trees.{IsTree, cell};
 ghost use Rattle.ca_quad.specs.Expanded.{FitsPlane, IsExpanded, IsRefused};
 ghost use Rattle.ca_plane.specs.Population.{HasFewCells};
 ghost use Rattle.ca_quad.specs.inner.Drawn.{IsNear, ArePartCorners};
+ghost use Rattle.ca_quad.specs.inner.Reach.{IsInReach, IsOutOfReach};
 
 use super::Store;
-use super::found::Found;
 use super::read::half_side;
 use crate::fault::QuadFault;
 use crate::tree::{Spot, Tree, WideBounds};
@@ -57,7 +57,7 @@ impl Store {
         ensures fault { IfErr result (IsRefused self.now tree) }
     {
         self.check_reach(alloc, tree)?;
-        if self.live_cells(tree.root, &mut Found::new(alloc))? > MAX_CELLS {
+        if self.live_cells(alloc, tree.root)? > MAX_CELLS {
             return Err(QuadFault::TooManyCells);
         }
         Ok(())
@@ -75,10 +75,7 @@ impl Store {
         let Some(bounds) = self.bounds(alloc, tree)? else {
             return Ok(());
         };
-        if !columns_fit(bounds) {
-            return Err(QuadFault::Range);
-        }
-        if !rows_fit(bounds) {
+        if !is_in_reach(bounds) {
             return Err(QuadFault::Range);
         }
         Ok(())
@@ -122,10 +119,10 @@ pub(super) fn point(at: Spot) -> Point
     }
 }
 
-// Whether the columns of the box are those of a plane's cells.
-fn columns_fit(bounds: WideBounds) -> bool
-    ensures yes { IsTrue result → (neg_ℤ reach ≤ℤ bounds.x0) × (bounds.x1 ≤ℤ reach) }
-    ensures no { IsFalse result → (bounds.x0 <ℤ neg_ℤ reach) ⊎ (reach <ℤ bounds.x1) }
+// Whether the box lies in the square in which a plane keeps its cells.
+fn is_in_reach(bounds: WideBounds) -> bool
+    ensures yes { IsTrue result → IsInReach bounds }
+    ensures no { IsFalse result → IsOutOfReach bounds }
 {
     if bounds.x0 < -REACH {
         return false;
@@ -133,19 +130,8 @@ fn columns_fit(bounds: WideBounds) -> bool
     if bounds.x1 > REACH {
         return false;
     }
-    true
-}
-
-// Whether its rows are.
-fn rows_fit(bounds: WideBounds) -> bool
-    ensures yes { IsTrue result → (neg_ℤ reach ≤ℤ bounds.y0) × (bounds.y1 ≤ℤ reach) }
-    ensures no { IsFalse result → (bounds.y0 <ℤ neg_ℤ reach) ⊎ (reach <ℤ bounds.y1) }
-{
     if bounds.y0 < -REACH {
         return false;
     }
-    if bounds.y1 > REACH {
-        return false;
-    }
-    true
+    bounds.y1 <= REACH
 }

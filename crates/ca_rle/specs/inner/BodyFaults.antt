@@ -1,5 +1,5 @@
 -- How an RLE text is read: what stands after its header, and the corner as the reader keeps it.
-use Rattle.std.specs.Prelude.{◌≡◌, ℕ, ◌^◌, ◌-◌, min, List, [], Some, ◌⊎◌}
+use Rattle.std.specs.Prelude.{◌≡◌, ℕ, ◌^◌, ◌-◌, min, List, [], ◌∷◌, Some, ◌⊎◌}
 use Rattle.ca_plane.specs.declared.point.Point.{Point}
 use Rattle.ca_plane.specs.Sparse.{IsInPlane}
 use Rattle.ca_rle.specs.declared.fault.RleFault.{RleFault}
@@ -12,6 +12,10 @@ use Rattle.ca_rle.specs.Faults.{item_fault}
 -- the item as the code keeps it: its count is at most 2^64 - 1
 abbrev pub kept : Item → Item
 kept item = record { count = min item.count (2 ^ 64 - 1); tag = item.tag }
+
+-- an item stands at the front, before these bytes, and this is kept of it
+abbrev pub IsItemAtFront : List ℕ → Item → List ℕ → Type 0
+IsItemAtFront bytes item more = (whole : Item) × Run bytes (whole ∷ []) more × (item ≡ kept whole)
 
 -- the reader keeps the corner itself, or, where that is out of range, some place in the plane that is out of range too
 abbrev pub KeepsCorner : Point → Point → Type 0

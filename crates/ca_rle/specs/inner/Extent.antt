@@ -33,15 +33,18 @@ columns_to before i = if state_of i.tag == 0 then 0 else columns_of before + i.c
 abbrev pub rows_to : List Item → Item → ℕ
 rows_to before i = if state_of i.tag == 0 then 0 else rows_of before + 1
 
--- the most of these columns, of items that stand after others
-abbrev pub right_behind : List Item → List Item → ℕ
-right_behind before [] = 0
-right_behind before (i ∷ is) = max (columns_to before i) (right_behind (before ++ i ∷ []) is)
+-- the greatest of these numbers, of items that stand after others
+abbrev pub greatest_of : (List Item → Item → ℕ) → List Item → List Item → ℕ
+greatest_of number before [] = 0
+greatest_of number before (i ∷ is) = max (number before i) (greatest_of number (before ++ i ∷ []) is)
 
--- the most of these rows
+-- how many columns from the corner on the live cells of items take that stand after others
+abbrev pub right_behind : List Item → List Item → ℕ
+right_behind before is = greatest_of columns_to before is
+
+-- how many rows
 abbrev pub bottom_behind : List Item → List Item → ℕ
-bottom_behind before [] = 0
-bottom_behind before (i ∷ is) = max (rows_to before i) (bottom_behind (before ++ i ∷ []) is)
+bottom_behind before is = greatest_of rows_to before is
 
 -- ---- how it is kept
 

@@ -1,5 +1,5 @@
 -- How what stands before the items of an RLE text is read: numbers, words and lines, one after another.
-use Rattle.std.specs.Prelude.{◌≡◌, ℕ, ℤ, ◌^◌, ◌≤ℤ◌, ◌<ℤ◌, pos, neg_ℤ, List, ◌∷◌, ◌++◌, true, false, Option, unwrap_or, ◌⊎◌}
+use Rattle.std.specs.Prelude.{◌≡◌, ℕ, ℤ, ◌^◌, ◌≤ℤ◌, ◌<ℤ◌, pos, neg_ℤ, List, [], ◌∷◌, ◌++◌, true, false, Option, unwrap_or, ◌⊎◌}
 use Rattle.std.specs.Option.{option_copied}
 use Rattle.std.specs.List.{AllZip, AllByRecursion}
 use Rattle.ca_plane.specs.declared.point.Point.{Point}
@@ -8,7 +8,7 @@ use Rattle.ca_rle.specs.declared.fault.RleFault.{RleFault}
 use Rattle.ca_rle.specs.declared.front.words.Start.{Start}
 use Rattle.ca_rle.specs.declared.front.lines.Preamble.{Preamble}
 use Rattle.ca_rle.specs.declared.front.Front.{Front}
-use Rattle.ca_rle.specs.Header.{Said, Says, IsXlifeLine}
+use Rattle.ca_rle.specs.Header.{Said, Says, extended_words, IsXlifeLine}
 use Rattle.ca_rle.specs.File.{File, IsFile, IsPreamble, IsHeaded, corner_of, generation_of}
 use Rattle.ca_rle.specs.Items.{Items}
 use Rattle.ca_rle.specs.Limits.{IsWithinLimits}
@@ -63,6 +63,11 @@ pub record IsPreambleOf (lines : List (List ℕ)) (said : List Said) (preamble :
   pub start : IsStart said preamble.start
   pub xlife : preamble.has_xlife_rule ≡ true → HasXlifeLine lines
   pub no_xlife : preamble.has_xlife_rule ≡ false → AllByRecursion (λ l. IsXlifeLine l → ⊥) lines
+
+-- after what lines before a header said, this line leads from one state of the reader to another
+abbrev pub LeadsPreamble : List ℕ → Preamble → Preamble → Type 0
+LeadsPreamble line old new = (more : List Said) × AllZip Says (extended_words line) more
+    × ((lines : List (List ℕ)) (said : List Said) → IsPreambleOf lines said old → IsPreambleOf (lines ++ line ∷ []) (said ++ more) new)
 
 -- the bytes have this front
 abbrev pub IsFront : List ℕ → Front → Type 0

@@ -17,7 +17,8 @@ pub(crate) struct Header<'a> {
 
 /// The bytes after the text, blanks on both sides of it left out.
 fn behind_text<'a>(bytes: &'a [u8], text: &[u8]) -> Option<&'a [u8]>
-    ensures { MatchOption result (parts_left (Exactly text.now ∷ []) bytes.now ≡ None) (λ r. parts_left (Exactly text.now ∷ []) bytes.now ≡ Some r.now) }
+    ensures { MatchOption result (parts_left (Exactly text.now ∷ []) bytes.now ≡ None)
+        (λ r. parts_left (Exactly text.now ∷ []) bytes.now ≡ Some r.now) }
 {
     let (_, bytes) = split_blanks(bytes);
     let behind = strip(bytes, text)?;
@@ -27,7 +28,8 @@ fn behind_text<'a>(bytes: &'a [u8], text: &[u8]) -> Option<&'a [u8]>
 
 /// The bytes after a number, blanks on both sides of it left out.
 fn behind_number(bytes: &[u8]) -> Option<&[u8]>
-    ensures { MatchOption result (parts_left (Number ∷ []) bytes.now ≡ None) (λ r. parts_left (Number ∷ []) bytes.now ≡ Some r.now) }
+    ensures { MatchOption result (parts_left (Number ∷ []) bytes.now ≡ None)
+        (λ r. parts_left (Number ∷ []) bytes.now ≡ Some r.now) }
 {
     let (_, bytes) = split_blanks(bytes);
     let (digits, behind) = split_digits(bytes);
@@ -40,7 +42,8 @@ fn behind_number(bytes: &[u8]) -> Option<&[u8]>
 
 /// The bytes after a name, `=` and a number.
 fn behind_size<'a>(bytes: &'a [u8], name: &[u8]) -> Option<&'a [u8]>
-    ensures { MatchOption result (parts_left (Exactly name.now ∷ Exactly (codes "=") ∷ Number ∷ []) bytes.now ≡ None)
+    ensures { MatchOption result (parts_left
+        (Exactly name.now ∷ Exactly (codes "=") ∷ Number ∷ []) bytes.now ≡ None)
         (λ r. parts_left (Exactly name.now ∷ Exactly (codes "=") ∷ Number ∷ []) bytes.now ≡ Some r.now) }
 {
     let bytes = behind_text(bytes, name)?;
@@ -51,7 +54,8 @@ fn behind_size<'a>(bytes: &'a [u8], name: &[u8]) -> Option<&'a [u8]>
 
 /// The bytes after `x`, `=`, a number, `,`, `y`, `=` and a number.
 fn behind_sizes(line: &[u8]) -> Option<&[u8]>
-    ensures { MatchOption result (parts_left (size_parts []) line.now ≡ None) (λ r. parts_left (size_parts []) line.now ≡ Some r.now) }
+    ensures { MatchOption result (parts_left (size_parts []) line.now ≡ None)
+        (λ r. parts_left (size_parts []) line.now ≡ Some r.now) }
 {
     let bytes = behind_size(line, b"x")?;
     let bytes = behind_text(bytes, b",")?;
@@ -61,7 +65,8 @@ fn behind_sizes(line: &[u8]) -> Option<&[u8]>
 
 /// The bytes after `,`, `rule` and `=`.
 fn behind_rule_name(bytes: &[u8]) -> Option<&[u8]>
-    ensures { MatchOption result (parts_left rule_parts bytes.now ≡ None) (λ r. parts_left rule_parts bytes.now ≡ Some r.now) }
+    ensures { MatchOption result (parts_left rule_parts bytes.now ≡ None)
+        (λ r. parts_left rule_parts bytes.now ≡ Some r.now) }
 {
     let bytes = behind_text(bytes, b",")?;
     let bytes = behind_text(bytes, b"rule")?;
@@ -72,7 +77,8 @@ fn behind_rule_name(bytes: &[u8]) -> Option<&[u8]>
 /// The header that the line is.
 pub(crate) fn read_header(line: &[u8]) -> Option<Header<'_>>
     requires { Every (λ b. not (is_line_end b)) line.now }
-    ensures { MatchOption result ((rule : Option (List ℕ)) → IsHeader line.now rule → ⊥) (λ h. IsHeader line.now (option_copied h.rule)) }
+    ensures { MatchOption result ((rule : Option (List ℕ)) → IsHeader line.now rule → ⊥)
+        (λ h. IsHeader line.now (option_copied h.rule)) }
 {
     let behind = behind_sizes(line)?;
     if behind.is_empty() {

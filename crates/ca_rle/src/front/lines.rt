@@ -1,10 +1,9 @@
 //! The lines before the header.
 
-ghost use Rattle.std.specs.Prelude.{◌≡◌, ℕ, List, [], ◌∷◌, ◌++◌, true, not, IsTrue, IsFalse, MatchOption, IfSome, IfOk, IfErr};
-ghost use Rattle.std.specs.List.{AllZip};
+ghost use Rattle.std.specs.Prelude.{◌≡◌, [], true, not, IsTrue, IsFalse, MatchOption, IfSome, IfOk, IfErr};
 ghost use Rattle.ca_plane.specs.Bytes.{Every, is_line_end, words_of, without_cr};
-ghost use Rattle.ca_rle.specs.Header.{Said, Says, is_comment, extended_words, IsXlifeLine};
-ghost use Rattle.ca_rle.specs.inner.FrontParts.{Leads, HasBadWordAmong, IsPreambleOf};
+ghost use Rattle.ca_rle.specs.Header.{is_comment, extended_words, IsXlifeLine};
+ghost use Rattle.ca_rle.specs.inner.FrontParts.{Leads, HasBadWordAmong, IsPreambleOf, LeadsPreamble};
 
 use super::words::Start;
 use crate::fault::RleFault;
@@ -61,7 +60,8 @@ fn is_xlife_line(line: &[u8]) -> bool
 /// The bytes after `#CXRLE`, where that is the line's first word.
 fn behind_cxrle(line: &[u8]) -> Option<&[u8]>
     requires { Every (λ b. not (is_line_end b)) line.now }
-    ensures words { MatchOption result (extended_words line.now ≡ []) (λ w. extended_words line.now ≡ words_of w.now) }
+    ensures words { MatchOption result (extended_words line.now ≡ [])
+        (λ w. extended_words line.now ≡ words_of w.now) }
     ensures line { IfSome result (λ w. Every (λ b. not (is_line_end b)) w.now) }
 {
     let (word, words) = next_word(line)?;
@@ -101,8 +101,7 @@ impl Preamble {
     pub(crate) fn behind_line(self, line: &[u8]) -> Result<Preamble, RleFault>
         requires line { Every (λ b. not (is_line_end b)) line.now }
         requires comment { is_comment line.now ≡ true }
-        ensures found { IfOk result (λ p. (more : List Said) × AllZip Says (extended_words line.now) more
-            × ((lines : List (List ℕ)) (said : List Said) → IsPreambleOf lines said self → IsPreambleOf (lines ++ line.now ∷ []) (said ++ more) p)) }
+        ensures found { IfOk result (LeadsPreamble line.now self) }
         ensures fault { IfErr result (λ f. HasBadWordAmong (extended_words line.now) f) }
     {
         let start = self.start_behind(line)?;

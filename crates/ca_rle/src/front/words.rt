@@ -30,7 +30,8 @@ fn coordinate(bytes: &[u8]) -> Option<i64>
 
 /// The place that two numbers with a comma between them write.
 fn place(bytes: &[u8]) -> Option<Point>
-    ensures { MatchOption result ((x y : ℤ) (a b : List ℕ) → bytes.now ≡ a ++ 44 ∷ b → IsInteger a x → IsInteger b y → ⊥) (λ p. WritesPair bytes.now p) }
+    ensures { MatchOption result ((x y : ℤ) (a b : List ℕ) → bytes.now ≡ a ++ 44 ∷ b
+        → IsInteger a x → IsInteger b y → ⊥) (WritesPair bytes.now) }
 {
     let (x, behind) = split_at_first(bytes, b',');
     let y = strip(behind, b",")?;

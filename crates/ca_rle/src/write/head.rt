@@ -20,7 +20,8 @@ fn push_generation(out: &mut Vec<u8>, generation: u64) -> Result<(), Memory>
 }
 
 fn push_place(out: &mut Vec<u8>, at: Point) -> Result<(), Memory>
-    ensures { OnOk result (Puts out.old.items out.new.items (signed_decimal at.x ++ (codes "," ++ signed_decimal at.y))) }
+    ensures { OnOk result (Puts out.old.items out.new.items
+        (signed_decimal at.x ++ (codes "," ++ signed_decimal at.y))) }
 {
     push_integer(out, at.x)?;
     push_text(out, b",")?;
@@ -48,7 +49,8 @@ pub(super) fn push_header_line(
     height: u64,
     rule_text: &[u8],
 ) -> Result<(), Memory>
-    ensures { OnOk result (Puts out.old.items out.new.items (ended (header_line width height rule_text.now))) }
+    ensures { OnOk result (Puts out.old.items out.new.items
+        (ended (header_line width height rule_text.now))) }
 {
     push_text(out, b"x = ")?;
     push_number(out, width)?;

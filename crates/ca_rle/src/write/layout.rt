@@ -12,7 +12,8 @@ use ca_plane::text::{push_number, push_text};
 /// The most characters of a line of items.
 const MOST_CHARACTERS: usize = 70;
 
-/// Puts a state's letters after the others: 24 states have one letter, and each 24 more a prefix and a letter.
+/// Puts a state's letters after the others: 24 states have one letter, and each 24 more a prefix and a
+/// letter.
 fn push_letters(out: &mut Vec<u8>, state: u8) -> Result<(), Memory>
     ensures { OnOk result (Puts out.old.items out.new.items (letters_of state)) }
 {
@@ -55,13 +56,15 @@ fn push_item(out: &mut Vec<u8>, states: u16, item: Item) -> Result<(), Memory>
     push_tag(out, states, item.tag)
 }
 
-/// Begins a new line before the piece that begins at `start` and ends the text, where it passes the most characters.
+/// Begins a new line before the piece that begins at `start` and ends the text, where it passes the most
+/// characters.
 ///
 /// `filled` is how many characters the last line had before that piece; returned is how many it has now.
 fn wrap(out: &mut Vec<u8>, start: usize, filled: usize) -> Result<usize, Memory>
     requires start { start ≤ length out.old.items }
     requires filled { filled ≤ 70 }
-    ensures { IfOk result (λ n. (old : List ℕ) (piece : List ℕ) → out.old.items ≡ old ++ piece → length old ≡ start → IsPlaced old filled piece out.new.items n) }
+    ensures { IfOk result (λ n. (old : List ℕ) (piece : List ℕ) → out.old.items ≡ old ++ piece
+        → length old ≡ start → IsPlaced old filled piece out.new.items n) }
 {
     let length = out.len() - start;
     if length <= MOST_CHARACTERS - filled {
@@ -73,7 +76,8 @@ fn wrap(out: &mut Vec<u8>, start: usize, filled: usize) -> Result<usize, Memory>
 
 fn place_item(out: &mut Vec<u8>, states: u16, item: Item, filled: usize) -> Result<usize, Memory>
     requires { filled ≤ 70 }
-    ensures placed { IfOk result (λ n. IsPlaced out.old.items filled (item_text states item) out.new.items n) }
+    ensures placed { IfOk result (λ n.
+        IsPlaced out.old.items filled (item_text states item) out.new.items n) }
     ensures short { length (item_text states item) ≤ 70 }
 {
     let start = out.len();
@@ -90,9 +94,11 @@ fn place_end(out: &mut Vec<u8>, filled: usize) -> Result<usize, Memory>
     wrap(out, start, filled)
 }
 
-/// Puts the items and `!` after the text, in lines of at most 70 characters, each ended no earlier than it has to be.
+/// Puts the items and `!` after the text, in lines of at most 70 characters, each ended no earlier than it
+/// has to be.
 pub(super) fn push_items(out: &mut Vec<u8>, states: u16, items: &[Item]) -> Result<(), Memory>
-    ensures { OnOk result (PutsLines out.old.items out.new.items (map (item_text states) items.now ++ codes "!" ∷ [])) }
+    ensures { OnOk result (PutsLines out.old.items out.new.items
+        (map (item_text states) items.now ++ codes "!" ∷ [])) }
 {
     let mut filled = 0;
     'items: for item in items {

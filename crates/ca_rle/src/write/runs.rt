@@ -1,6 +1,7 @@
 //! The tidy items of a plane, run by run.
 
-ghost use Rattle.std.specs.Prelude.{◌≡◌, ◌≢◌, ℕ, ℤ, ◌<◌, ◌^◌, ◌≤ℤ◌, ◌+ℤ◌, pos, ◌++◌, List, OnOk, IfOk, IsTrue, IsFalse};
+ghost use Rattle.std.specs.Prelude.{◌≡◌, ◌≢◌, ℕ, ℤ, ◌<◌, ◌^◌, ◌≤ℤ◌, ◌+ℤ◌, pos, ◌++◌, List, OnOk, IfOk};
+ghost use Rattle.std.specs.Prelude.{IsTrue, IsFalse};
 ghost use Rattle.std.specs.List.{All};
 ghost use Rattle.ca_rle.specs.declared.item.Item.{Item};
 ghost use Rattle.ca_rle.specs.declared.item.Tag.TheVariants.{Cell};
@@ -84,7 +85,8 @@ fn push_gap(items: &mut Vec<Item>, left: i64, from: Point, to: Point) -> Result<
     requires below { from.y ≤ℤ to.y }
     requires right { to.y ≡ from.y → from.x ≤ℤ to.x }
     requires left { left ≤ℤ to.x }
-    ensures { OnOk result ((gap : List Item) × IsGap left from to gap × (items.new.items ≡ items.old.items ++ gap)) }
+    ensures { OnOk result ((gap : List Item) × IsGap left from to gap
+        × (items.new.items ≡ items.old.items ++ gap)) }
 {
     let rows = distance(from.y, to.y);
     if rows == 0 {

@@ -18,8 +18,8 @@ row_in rows (pos j) = get_or rows j []
 row_in rows (negsuc j) = []
 
 -- the four words round the upper left corner of the word at a place of the southern row
-abbrev pub round_corner : (north south : List ℕ) → ℤ → Words
-round_corner north south i = record {
+abbrev pub corner_words : (north south : List ℕ) → ℤ → Words
+corner_words north south i = record {
   nw = word_in north (i -ℤ pos 1);
   ne = word_in north i;
   sw = word_in south (i -ℤ pos 1);
@@ -37,11 +37,11 @@ pub record IsMiddle (masks : ℕ × ℕ) (n : ℕ) (square : Words) (word : ℕ)
 
 -- the words of a row are what is in the middle of the squares between two rows
 abbrev pub LineFollows : ℕ × ℕ → ℕ → (north south line : List ℕ) → Type 0
-LineFollows masks n north south line = (i : ℤ) → IsMiddle masks n (round_corner north south i) (word_in line i)
+LineFollows masks n north south line = (i : ℤ) → IsMiddle masks n (corner_words north south i) (word_in line i)
 
 -- where such a square has a live cell
 abbrev pub LineKeeps : ℕ × ℕ → ℕ → (north south line : List ℕ) → Type 0
-LineKeeps masks n north south line = (i : ℤ) → (HasNone (round_corner north south i) → ⊥) → IsMiddle masks n (round_corner north south i) (word_in line i)
+LineKeeps masks n north south line = (i : ℤ) → (HasNone (corner_words north south i) → ⊥) → IsMiddle masks n (corner_words north south i) (word_in line i)
 
 -- the rows are those between the rows before: four cells further to the north and to the west, so many generations on
 abbrev pub Follows : ℕ × ℕ → ℕ → (before after : List (List ℕ)) → Type 0

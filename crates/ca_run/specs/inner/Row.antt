@@ -3,7 +3,7 @@ use Rattle.std.specs.Prelude.{◌≡◌, ◌≢◌, ℤ, pos, ◌+ℤ◌, ◌-�
 use Rattle.ca_plane.specs.declared.point.Point.{Point}
 use Rattle.ca_plane.specs.Plane.{Picture, cell}
 use Rattle.ca_run.specs.declared.row.Row.{Row}
-use Rattle.ca_run.specs.inner.Ahead.{IsWithout, IsAhead}
+use Rattle.ca_run.specs.inner.CellsAhead.{IsWithout, IsAhead}
 
 -- the row shows p round (x, y), and what comes after
 pub record ShowsRow (p : Picture) (row : Row) (x y : ℤ) : Type 0 where

@@ -5,20 +5,20 @@ use Rattle.ca_quad.specs.Trees.{row_cells}
 use Rattle.ca_run.specs.declared.kernel.count.Count.{Count}
 
 -- whether a cell lives next: where it is dead, whether it is born, and else whether it stays
-abbrev pub told : Bool → Bool → ℕ → ℕ
-told born stays centre = if (if centre == 0 then born else stays) then 1 else 0
+abbrev pub lives_next : Bool → Bool → ℕ → ℕ
+lives_next born stays centre = if (if centre == 0 then born else stays) then 1 else 0
 
 -- the next state of a cell with so many live cells round it, under the rule of two masks
-abbrev pub decided : ℕ → ℕ → ℕ → ℕ → ℕ
-decided birth survive centre count = bit_at (if centre == 0 then birth else survive) count
+abbrev pub next_by_count : ℕ → ℕ → ℕ → ℕ → ℕ
+next_by_count birth survive centre count = bit_at (if centre == 0 then birth else survive) count
 
 -- the number at a place
 abbrev pub number : Count → ℕ → ℕ → ℕ
 number c x y = row_cells c.ones.rows x y + 2 * row_cells c.twos.rows x y + 4 * row_cells c.fours.rows x y + 8 * row_cells c.eights.rows x y
 
 -- the sum of the eight bits round (x + 1, y + 1)
-abbrev pub round_sum : List ℕ → ℕ → ℕ → ℕ
-round_sum rows x y =
+abbrev pub neighbour_sum : List ℕ → ℕ → ℕ → ℕ
+neighbour_sum rows x y =
     row_cells rows x y + row_cells rows (suc x) y + row_cells rows (suc (suc x)) y
     + row_cells rows x (suc y) + row_cells rows (suc (suc x)) (suc y)
     + row_cells rows x (suc (suc y)) + row_cells rows (suc x) (suc (suc y)) + row_cells rows (suc (suc x)) (suc (suc y))

@@ -7,8 +7,8 @@ use Rattle.ca_run.specs.inner.Order.{IsFirst}
 use Rattle.ca_run.specs.inner.Row.{ShowsRow, IsQuietRow, IsLiveRow, MovesOn}
 
 -- the nine cells in sight, row by row: NW, N, NE, W, the centre, E, SW, S, SE
-abbrev pub seen : Window → List ℕ
-seen w =
+abbrev pub nine_states : Window → List ℕ
+nine_states w =
     w.north.west ∷ w.north.centre ∷ w.north.east
     ∷ w.middle.west ∷ w.middle.centre ∷ w.middle.east
     ∷ w.south.west ∷ w.south.centre ∷ w.south.east ∷ []
@@ -26,26 +26,26 @@ pub record IsQuiet (w : Window) : Type 0 where
   pub south : IsQuietRow w.south
 
 -- one of them is live
-abbrev pub IsKept : Window → Type 0
-IsKept w = (IsLiveRow w.north ⊎ IsLiveRow w.middle) ⊎ IsLiveRow w.south
+abbrev pub StaysLive : Window → Type 0
+StaysLive w = (IsLiveRow w.north ⊎ IsLiveRow w.middle) ⊎ IsLiveRow w.south
 
 -- from (x, y) a cell ahead is seen in the east
-abbrev pub Meets : Window → ℤ → ℤ → Type 0
-Meets w x y =
+abbrev pub SeesAhead : Window → ℤ → ℤ → Type 0
+SeesAhead w x y =
     ((cell w.north.ahead (x +ℤ pos 1) (y -ℤ pos 1) ≢ 0) ⊎ (cell w.middle.ahead (x +ℤ pos 1) y ≢ 0))
     ⊎ (cell w.south.ahead (x +ℤ pos 1) (y +ℤ pos 1) ≢ 0)
 
 -- the point one to the east
-abbrev pub eastward : Point → Point
-eastward at = record { y = at.y; x = at.x +ℤ pos 1 }
+abbrev pub east_of : Point → Point
+east_of at = record { y = at.y; x = at.x +ℤ pos 1 }
 
 -- one place to the east where a live cell stays in sight; else the first place from which a cell ahead is seen, if there is one
 abbrev pub IsNextPlace : Window → Option Point → Type 0
-IsNextPlace w next = (IsKept w × (next ≡ Some (eastward w.place))) ⊎ (IsQuiet w × IsFirst (Meets w) next)
+IsNextPlace w next = (StaysLive w × (next ≡ Some (east_of w.place))) ⊎ (IsQuiet w × IsFirst (SeesAhead w) next)
 
 -- new is old, moved on to the place
 pub record MovesTo (old new : Window) (at : Point) : Type 0 where
   pub place : new.place ≡ at
   pub north : MovesOn old.north new.north (record { y = at.y -ℤ pos 1; x = at.x +ℤ pos 1 })
-  pub middle : MovesOn old.middle new.middle (eastward at)
+  pub middle : MovesOn old.middle new.middle (east_of at)
   pub south : MovesOn old.south new.south (record { y = at.y +ℤ pos 1; x = at.x +ℤ pos 1 })

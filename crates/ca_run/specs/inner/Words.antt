@@ -4,9 +4,9 @@ use Rattle.std.specs.Prelude.{◌≡◌, ℕ, ◌+◌, ◌-◌, ◌*◌, ◌/◌
 use Rattle.std.specs.Prelude.{nat_lt, if◌then◌else◌, slice_index}
 use Rattle.ca_quad.specs.Trees.{row_cells, word_cells}
 use Rattle.ca_run.specs.declared.leaper.words.Words.{Words}
-use Rattle.ca_run.specs.declared.leaper.wide.ThreeWords.{ThreeWords}
-use Rattle.ca_run.specs.declared.leaper.wide.NineWords.{NineWords}
-use Rattle.ca_run.specs.declared.leaper.wide.Wide.{Wide}
+use Rattle.ca_run.specs.declared.leaper.wide_square.ThreeWords.{ThreeWords}
+use Rattle.ca_run.specs.declared.leaper.wide_square.NineWords.{NineWords}
+use Rattle.ca_run.specs.declared.leaper.wide_square.WideSquare.{WideSquare}
 use Rattle.ca_run.specs.inner.Shown.{Looks}
 
 -- the word shows the plane from (a, b) on
@@ -38,7 +38,7 @@ pub record NineWordsShow (nine : NineWords) (p : ℤ → ℤ → ℕ) (a b : ℤ
   pub at_south : ThreeWordsShow nine.south p a (b +ℤ pos 8 +ℤ pos 8)
 
 -- the four quarters of a square of 32 by 32 cells show the plane: together they show it from (a, b) on
-pub record WideShows (wide : Wide) (p : ℤ → ℤ → ℕ) (a b : ℤ) : Type 0 where
+pub record WideSquareShows (wide : WideSquare) (p : ℤ → ℤ → ℕ) (a b : ℤ) : Type 0 where
   pub at_nw : WordsShow wide.nw p a b
   pub at_ne : WordsShow wide.ne p (a +ℤ pos 16) b
   pub at_sw : WordsShow wide.sw p a (b +ℤ pos 16)

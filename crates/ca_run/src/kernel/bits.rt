@@ -65,7 +65,7 @@ impl Bits {
 
     // The bits that aren't in the other.
     #[inline(always)]
-    pub(super) fn without(self, other: Bits) -> Bits
+    pub(super) fn and_not(self, other: Bits) -> Bits
         ensures { (x y : ℕ) → row_cells result.rows x y ≡ row_cells self.rows x y - row_cells other.rows x y }
     {
         self.xor(self.and(other))

@@ -2,7 +2,7 @@
 
 ghost use Rattle.std.specs.Prelude.{◌≡◌, ◌+◌, ◌*◌, ◌<◌, ℕ, suc};
 ghost use Rattle.ca_quad.specs.Trees.{row_cells};
-ghost use Rattle.ca_run.specs.inner.Tiles.{number, round_sum};
+ghost use Rattle.ca_run.specs.inner.Tiles.{number, neighbour_sum};
 
 use super::bits::Bits;
 
@@ -18,8 +18,8 @@ pub(super) struct Count {
 impl Count {
     // The number of live cells among the eight round each cell that isn't on the edge.
     #[inline(always)]
-    pub(super) fn round(alive: Bits) -> Count
-        ensures { (x y : ℕ) → x < 14 → y < 14 → number result (suc x) (suc y) ≡ round_sum alive.rows x y }
+    pub(super) fn neighbours(alive: Bits) -> Count
+        ensures { (x y : ℕ) → x < 14 → y < 14 → number result (suc x) (suc y) ≡ neighbour_sum alive.rows x y }
     {
         let west = alive.west();
         let east = alive.east();

@@ -4,7 +4,7 @@ ghost use Rattle.std.specs.Prelude.{◌≡◌, ◌+◌, ◌≤◌, ◌^◌, max,
 ghost use Rattle.ca_plane.specs.Generations.{cells_after};
 ghost use Rattle.ca_quad.specs.Sound.{IsSound};
 ghost use Rattle.ca_quad.specs.Trees.{IsTree, cell};
-ghost use Rattle.ca_run.specs.Advanced.{CanAdvance, IsAdvanced};
+ghost use Rattle.ca_run.specs.Advanced.{CanAdvance, Advances};
 ghost use Rattle.ca_run.specs.Leaping.{GoesOn};
 
 use super::{Leaper, Milestone};
@@ -23,9 +23,7 @@ impl<A: Automaton> Leaper<A> {
     /// what was worked out so far.
     pub fn advance(&mut self, tree: Tree, n: u64) -> Result<Tree, LeapFault>
         requires { CanAdvance self.old.nodes tree n }
-        ensures advanced { IfOk result (IsAdvanced (A.next_of self.old.rule) self.old.nodes tree n self.new.nodes) }
-        ensures none { n ≡ 0 → result ≡ Ok tree }
-        ensures goes_on { GoesOn A self.old self.new }
+        ensures { Advances A (A.next_of self.old.rule) self.old tree n self.new result }
     {
         self.advance_watched(tree, n, &mut Unwatched)
     }
@@ -43,23 +41,24 @@ impl<A: Automaton> Leaper<A> {
         watch: &mut W,
     ) -> Result<Tree, LeapFault>
         requires { CanAdvance self.old.nodes tree n }
-        ensures advanced { IfOk result (IsAdvanced (A.next_of self.old.rule) self.old.nodes tree n self.new.nodes) }
-        ensures none { n ≡ 0 → result ≡ Ok tree }
-        ensures goes_on { GoesOn A self.old self.new }
+        ensures { Advances A (A.next_of self.old.rule) self.old tree n self.new result }
     {
         let _ = &self.store;
-        if let Some(later) = self.stepped(tree, n, watch)? {
+        if let Some(later) = self.step_dense(tree, n, watch)? {
             return Ok(later);
         }
-        Ok(self.by_leaps(tree, n, watch)?)
+        Ok(self.leap_by_digits(tree, n, watch)?)
     }
 
     // The tree n generations on, by a leap for each binary digit.
-    fn by_leaps<W: Watch>(&mut self, tree: Tree, n: u64, watch: &mut W) -> Result<Tree, LeapFault>
+    fn leap_by_digits<W: Watch>(
+        &mut self,
+        tree: Tree,
+        n: u64,
+        watch: &mut W,
+    ) -> Result<Tree, LeapFault>
         requires { CanAdvance self.old.nodes tree n }
-        ensures advanced { IfOk result (IsAdvanced (A.next_of self.old.rule) self.old.nodes tree n self.new.nodes) }
-        ensures none { n ≡ 0 → result ≡ Ok tree }
-        ensures goes_on { GoesOn A self.old self.new }
+        ensures { Advances A (A.next_of self.old.rule) self.old tree n self.new result }
     {
         let _ = &self.store;
         if n == MOST_GENERATIONS {
@@ -69,7 +68,7 @@ impl<A: Automaton> Leaper<A> {
         'digits: for j in 0..60 {
             if (n >> j) % 2 == 1 {
                 now = self.leap(now, j)?;
-                watch.reached(Milestone::by_tree(self, &tree, &now, n % (2 << j)));
+                watch.reached(Milestone::with_tree(self, &tree, &now, n % (2 << j)));
             }
         }
         Ok(now)
@@ -87,7 +86,7 @@ impl<A: Automaton> Leaper<A> {
     {
         // So all that is live 2^j generations on lies in the centre.
         let grain = self.store.level(tree.root).max(j + 1);
-        let wide = self.padded(tree, grain + 2)?;
+        let wide = self.padded_tree(tree, grain + 2)?;
         let root = self.centre(wide.root, grain, j)?;
         Ok(Tree {
             root,
@@ -96,7 +95,7 @@ impl<A: Automaton> Leaper<A> {
     }
 
     // The tree of this level that shows the same cells.
-    pub(super) fn padded(&mut self, tree: Tree, level: u8) -> Result<Tree, Memory>
+    pub(super) fn padded_tree(&mut self, tree: Tree, level: u8) -> Result<Tree, Memory>
         requires tree { IsTree self.old.nodes tree }
         requires more { tree.level ≤ level }
         requires most { level ≤ 125 }
@@ -111,7 +110,7 @@ impl<A: Automaton> Leaper<A> {
             return Ok(tree);
         }
         let wide = self.pad(tree)?;
-        self.padded(wide, level)
+        self.padded_tree(wide, level)
     }
 
     // The tree of one level more that shows the same cells.

@@ -6,6 +6,7 @@ ghost use Rattle.ca_quad.specs.Squares.{IsOf};
 ghost use Rattle.ca_quad.specs.Trees.{AreFour};
 ghost use Rattle.ca_run.specs.Centre.{IsCentre};
 ghost use Rattle.ca_run.specs.Leaping.{GoesOn};
+ghost use Rattle.ca_run.specs.inner.Centres.{HasCentre};
 ghost use Rattle.ca_run.specs.inner.Shown.{ShowsAt, FourShow, TwoShow, ThreeShow, NineShow, AreThree, AreNine, side, generations, IsTimely};
 
 use super::Leaper;
@@ -18,15 +19,16 @@ impl<A: Automaton> Leaper<A> {
     // The centre of a square after 2^j generations.
     #[cycle(leap)]
     pub(super) fn centre(&mut self, id: Id, grain: u8, j: u8) -> Result<Id, Memory>
-        requires square { IsOf self.old.nodes id (suc (suc grain)) }
+        requires centre { HasCentre self.old.nodes id grain j }
         requires low { grain ≤ 123 }
-        requires time { j ≤ grain }
         ensures centre { IfOk result (IsCentre (A.next_of self.old.rule) self.new.nodes id grain j) }
         ensures goes_on { GoesOn A self.old self.new }
     {
         let _ = &self.store;
-        if let Some(word) = self.tile_centre(id, grain, j) {
-            return self.from_word(word);
+        if grain == 2 {
+            if let Some(words) = self.centre_words(id, grain, j) {
+                return self.from_centre_words(id, grain, j, words);
+            }
         }
         if let Some(half) = self.recall(id, grain, j) {
             return Ok(half);
@@ -38,8 +40,7 @@ impl<A: Automaton> Leaper<A> {
 
     // The centre of a square that is empty.
     fn empty_centre(&self, id: Id, grain: u8, j: u8) -> Option<Id>
-        requires square { IsOf self.now.nodes id (suc (suc grain)) }
-        requires time { j ≤ grain }
+        requires { HasCentre self.now.nodes id grain j }
         ensures { IfSome result (IsCentre (A.next_of self.now.rule) self.now.nodes id grain j) }
     {
         let _ = j;
@@ -53,9 +54,8 @@ impl<A: Automaton> Leaper<A> {
     // The centre of a square that isn't remembered.
     #[cycle(leap)]
     fn new_centre(&mut self, id: Id, grain: u8, j: u8) -> Result<Id, Memory>
-        requires square { IsOf self.old.nodes id (suc (suc grain)) }
+        requires centre { HasCentre self.old.nodes id grain j }
         requires low { grain ≤ 123 }
-        requires time { j ≤ grain }
         ensures centre { IfOk result (IsCentre (A.next_of self.old.rule) self.new.nodes id grain j) }
         ensures goes_on { GoesOn A self.old self.new }
     {
@@ -66,19 +66,19 @@ impl<A: Automaton> Leaper<A> {
         if grain == 0 {
             return self.next_four(id);
         }
-        if let Some(words) = self.wide_centre(id, grain, j) {
-            return self.from_words(words);
+        if let Some(words) = self.centre_words(id, grain, j) {
+            return self.from_centre_words(id, grain, j, words);
         }
         if j == grain {
-            return self.by_nine(id, grain - 1, Some(j - 1), j - 1);
+            return self.centre_of_nine(id, grain - 1, Some(j - 1), j - 1);
         }
-        self.by_nine(id, grain - 1, None, j)
+        self.centre_of_nine(id, grain - 1, None, j)
     }
 
     // The centre of a square by nine squares that overlap, each half as wide: their centres make four squares, and the
     // centres of these are the result.
     #[cycle(leap)]
-    fn by_nine(&mut self, id: Id, grain: u8, first: Option<u8>, j: u8) -> Result<Id, Memory>
+    fn centre_of_nine(&mut self, id: Id, grain: u8, first: Option<u8>, j: u8) -> Result<Id, Memory>
         requires square { IsOf self.old.nodes id (suc (suc (suc grain))) }
         requires low { grain ≤ 122 }
         requires first { IsTimely grain first }
@@ -106,8 +106,8 @@ impl<A: Automaton> Leaper<A> {
     {
         let (nw, ne, sw, se) = self.quarters(id, grain + 1);
         let north = self.trio(nw, ne, grain, first)?;
-        let west = self.halfway(nw, sw, grain)?;
-        let east = self.halfway(ne, se, grain)?;
+        let west = self.middle_of_column(nw, sw, grain)?;
+        let east = self.middle_of_column(ne, se, grain)?;
         let middle = self.trio(west, east, grain, first)?;
         let south = self.trio(sw, se, grain, first)?;
         Ok(Rows {
@@ -130,7 +130,7 @@ impl<A: Automaton> Leaper<A> {
         ensures goes_on { GoesOn A self.old self.new }
     {
         let _ = &self.store;
-        let middle = self.between(west, east, grain)?;
+        let middle = self.middle_of_row(west, east, grain)?;
         let west = self.first_centre(west, grain, first)?;
         let middle = self.first_centre(middle, grain, first)?;
         let east = self.first_centre(east, grain, first)?;
@@ -150,7 +150,7 @@ impl<A: Automaton> Leaper<A> {
     {
         let _ = &self.store;
         match first {
-            None => self.inner(id, grain),
+            None => self.inner_square(id, grain),
             Some(j) => self.centre(id, grain, j),
         }
     }

@@ -25,7 +25,7 @@ const GREATEST: u8 = 16;
 
 impl<A: Automaton> Leaper<A> {
     // The tree n generations on, where to step all its words likely takes less time than to leap.
-    pub(super) fn stepped<W: Watch>(
+    pub(super) fn step_dense<W: Watch>(
         &mut self,
         tree: Tree,
         n: u64,
@@ -43,12 +43,12 @@ impl<A: Automaton> Leaper<A> {
         if !self.is_dense(tree, n) {
             return Ok(None);
         }
-        let alloc = self.recent.allocator();
+        let alloc = self.recent_centres.allocator();
         match self.grid(alloc, tree.root, tree.level - 3)? {
             None => Ok(None),
             Some(grid) => {
-                let later = grid.later(alloc, masks, n, self, &tree, watch)?;
-                Ok(Some(self.centred(&later, tree.level, n)?))
+                let later = grid.last_rows(alloc, masks, n, self, &tree, watch)?;
+                Ok(Some(self.centred_tree(&later, tree.level, n)?))
             }
         }
     }
@@ -61,7 +61,11 @@ impl<A: Automaton> Leaper<A> {
         ensures time { result ≡ true → n ≤ 2 ^ (tree.level + 2) }
         ensures some { result ≡ true → 32 ≤ n }
     {
-        if tree.level < LEAST || tree.level > GREATEST || n < FEWEST || !self.farthest.is_empty() {
+        if tree.level < LEAST
+            || tree.level > GREATEST
+            || n < FEWEST
+            || !self.full_leaps.is_empty()
+        {
             return false;
         }
         let words = 1 << (2 * (tree.level - 3));
@@ -69,7 +73,7 @@ impl<A: Automaton> Leaper<A> {
     }
 
     // The tree of a grid that came of one of this level in n generations.
-    fn centred(&mut self, grid: &Grid, level: u8, n: u64) -> Result<Tree, Memory>
+    fn centred_tree(&mut self, grid: &Grid, level: u8, n: u64) -> Result<Tree, Memory>
         requires least { 6 ≤ level }
         requires greatest { level ≤ 16 }
         requires time { n ≤ 2 ^ (level + 2) }
@@ -98,11 +102,11 @@ fn place_of_corner(level: u8, n: u64) -> i64
     ensures least { neg_ℤ (pos (2 ^ 40)) ≤ℤ result }
     ensures greatest { result ≤ℤ pos (2 ^ 40 - 2 ^ (level + 1)) }
 {
-    behind(n / 8 + 1 + (1 << (level - 4)), 1 << level)
+    distance(n / 8 + 1 + (1 << (level - 4)), 1 << level)
 }
 
 // How far one number lies beyond another.
-fn behind(far: u64, near: u64) -> i64
+fn distance(far: u64, near: u64) -> i64
     requires far { far ≤ 2 ^ 62 }
     requires near { near ≤ 2 ^ 62 }
     ensures { result ≡ pos far -ℤ pos near }
@@ -113,7 +117,7 @@ fn behind(far: u64, near: u64) -> i64
 impl Grid {
     // The rows n generations on: they begin n / 8 + 1 words further to the north and to the west. The run began with a tree
     // that they show.
-    fn later<A: Automaton, W: Watch>(
+    fn last_rows<A: Automaton, W: Watch>(
         self,
         alloc: Global,
         masks: (u16, u16),
@@ -130,7 +134,7 @@ impl Grid {
     {
         let none = Grid::empty(alloc);
         let fours = n / 4;
-        let grid = self.by_fours(alloc, masks, fours, leaper, first, watch)?;
+        let grid = self.step_by_fours(alloc, masks, fours, leaper, first, watch)?;
         let grid = grid.next(alloc, &none, &none, masks, (n % 4) as u8)?;
         if fours % 2 == 1 {
             return Ok(grid);
@@ -139,7 +143,7 @@ impl Grid {
     }
 
     // The rows so many times four generations on: as many times they begin four cells further to the north and to the west.
-    fn by_fours<A: Automaton, W: Watch>(
+    fn step_by_fours<A: Automaton, W: Watch>(
         self,
         alloc: Global,
         masks: (u16, u16),
@@ -163,7 +167,7 @@ impl Grid {
             before = after;
             after = now;
             now = next;
-            watch.reached(Milestone::by_grid(leaper, first, &now, 4 * (step + 1)));
+            watch.reached(Milestone::with_grid(leaper, first, &now, 4 * (step + 1)));
         }
         Ok(now)
     }

@@ -1,49 +1,64 @@
 //! Centres of squares of 16 by 16 and of 32 by 32 cells, many cells at once.
 
-ghost use Rattle.std.specs.Prelude.{◌≡◌, ℕ, suc, ◌+◌, ◌≤◌, ◌^◌, ℤ, ◌+ℤ◌, IfSome};
-ghost use Rattle.ca_plane.specs.Generations.{cells_after};
-ghost use Rattle.ca_quad.specs.Squares.{IsOf};
-ghost use Rattle.ca_run.specs.inner.Shown.{ShowsAt, side};
-ghost use Rattle.ca_run.specs.inner.Words.{WordShows, WordsShow};
+ghost use Rattle.std.specs.Prelude.{◌≡◌, ◌+◌, ◌≤◌, ◌^◌, IfOk, IfSome};
+ghost use Rattle.ca_run.specs.Centre.{IsCentre};
+ghost use Rattle.ca_run.specs.Leaping.{GoesOn};
+ghost use Rattle.ca_run.specs.inner.Centres.{HasCentre, ShowsCentre};
 
 use super::Leaper;
 use super::words::Words;
-use ca_plane::Automaton;
+use ca_plane::{Automaton, Memory};
 use ca_quad::Id;
+
+/// The cells of a centre: one word where it is 8 cells wide, four where it is 16.
+#[derive(Clone, Copy, Drop)]
+pub(super) enum CentreWords {
+    One(u64),
+    Four(Words),
+}
 
 // A square's grain is the level of its sixteen parts: its own level is that and 2.
 impl<A: Automaton> Leaper<A> {
-    // The centre of a square of 16 by 16 cells after 2^j generations, where it has no state above 1 and the rule has masks.
-    pub(super) fn tile_centre(&self, id: Id, grain: u8, j: u8) -> Option<u64>
-        requires square { IsOf self.now.nodes id (suc (suc grain)) }
-        requires time { j ≤ grain }
-        ensures grain { IfSome result (λ _. grain ≡ 2) }
-        ensures shows { (p : ℤ → ℤ → ℕ) (a b : ℤ) → ShowsAt self.now.nodes id (suc (suc grain)) p a b
-            → IfSome result (λ word. WordShows word (cells_after (A.next_of self.now.rule) p (2 ^ j)) (a +ℤ side grain) (b +ℤ side grain)) }
+    // The words of a square's centre after 2^j generations: of 16 by 16 or of 32 by 32 cells, none of them above 1, where
+    // the rule has masks.
+    pub(super) fn centre_words(&self, id: Id, grain: u8, j: u8) -> Option<CentreWords>
+        requires { HasCentre self.now.nodes id grain j }
+        ensures { IfSome result (ShowsCentre (A.next_of self.now.rule) self.now.nodes id grain j) }
     {
-        if grain != 2 {
-            return None;
+        let masks = self.masks()?;
+        match grain {
+            2 => {
+                let words = self.words(id)?;
+                Some(CentreWords::One(words.centre(masks, leap_length(j))))
+            }
+            3 => {
+                let wide = self.wide_square(id)?;
+                let (first, more) = halves(j);
+                Some(CentreWords::Four(wide.centre(masks, first, more)))
+            }
+            _ => None,
         }
-        let masks = self.masks?;
-        let words = self.words(id)?;
-        Some(words.centre(masks, few(j)))
     }
 
-    // The centre of a square of 32 by 32 cells after 2^j generations, where it has no state above 1 and the rule has masks.
-    pub(super) fn wide_centre(&self, id: Id, grain: u8, j: u8) -> Option<Words>
-        requires square { IsOf self.now.nodes id (suc (suc grain)) }
-        requires time { j ≤ grain }
-        ensures grain { IfSome result (λ _. grain ≡ 3) }
-        ensures shows { (p : ℤ → ℤ → ℕ) (a b : ℤ) → ShowsAt self.now.nodes id (suc (suc grain)) p a b
-            → IfSome result (λ words. WordsShow words (cells_after (A.next_of self.now.rule) p (2 ^ j)) (a +ℤ side grain) (b +ℤ side grain)) }
+    // The centre of a square, made of its words.
+    pub(super) fn from_centre_words(
+        &mut self,
+        id: Id,
+        grain: u8,
+        j: u8,
+        words: CentreWords,
+    ) -> Result<Id, Memory>
+        requires square { HasCentre self.old.nodes id grain j }
+        requires words { ShowsCentre (A.next_of self.old.rule) self.old.nodes id grain j words }
+        ensures centre { IfOk result (IsCentre (A.next_of self.old.rule) self.new.nodes id grain j) }
+        ensures goes_on { GoesOn A self.old self.new }
     {
-        if grain != 3 {
-            return None;
+        let _ = &self.store;
+        let _ = (id, grain, j);
+        match words {
+            CentreWords::One(word) => self.from_word(word),
+            CentreWords::Four(words) => self.from_words(words),
         }
-        let masks = self.masks?;
-        let wide = self.wide(id)?;
-        let (first, more) = halves(j);
-        Some(wide.centre(masks, first, more))
     }
 }
 
@@ -57,11 +72,11 @@ fn halves(j: u8) -> (u8, u8)
     if j == 3 {
         return (4, 4);
     }
-    (0, few(j))
+    (0, leap_length(j))
 }
 
 // The 2^j generations that go at once.
-fn few(j: u8) -> u8
+fn leap_length(j: u8) -> u8
     requires { j ≤ 2 }
     ensures value { result ≡ 2 ^ j }
     ensures few { result ≤ 4 }

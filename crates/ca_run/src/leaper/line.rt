@@ -1,7 +1,7 @@
 //! Rows of words.
 
 ghost use Rattle.std.specs.Prelude.{◌≡◌, true, ℕ, suc, ◌+◌, ◌≤◌, ◌<◌, ◌^◌, max, ℤ, pos, ◌-ℤ◌, List, ◌++◌, ◌∷◌, [], length, replicate, get_or, IfOk, OnOk};
-ghost use Rattle.ca_run.specs.inner.Grid.{word_in, round_corner, IsMiddle, LineFollows, LineKeeps, HasNone};
+ghost use Rattle.ca_run.specs.inner.Grid.{word_in, corner_words, IsMiddle, LineFollows, LineKeeps, HasNone};
 
 use super::words::Words;
 use ca_plane::Memory;
@@ -229,7 +229,7 @@ impl Course<'_> {
     #[inline(always)]
     fn next_word(&self, i: usize, square: Words, old: Words, masks: (u16, u16), n: u8) -> u64
         requires few { n ≤ 4 }
-        requires old { old ≡ round_corner self.now.before.north.now self.now.before.south.now (pos i -ℤ pos 1) }
+        requires old { old ≡ corner_words self.now.before.north.now self.now.before.south.now (pos i -ℤ pos 1) }
         requires kept { LineKeeps masks n self.now.before.north.now self.now.before.south.now self.now.after.now }
         ensures { IsMiddle masks n square result }
     {

@@ -1,7 +1,7 @@
 //! The results that a leaper remembers.
 
 ghost use Rattle.std.specs.Prelude.{◌≡◌, ℕ, ◌==◌, ◌&&◌, None, Some, cond, OnOk, OnErr};
-ghost use Rattle.ca_run.specs.Memo.{remembered};
+ghost use Rattle.ca_run.specs.Memo.{memo_result};
 
 use ca_plane::Memory;
 use ca_quad::Id;
@@ -26,7 +26,7 @@ impl Model for Memo {
 impl Memo {
     /// Nothing yet.
     pub(crate) fn new(alloc: Global) -> Memo
-        ensures { (id j : ℕ) → remembered result id j ≡ None }
+        ensures { (id j : ℕ) → memo_result result id j ≡ None }
     {
         Memo {
             results: HashMap::new(alloc),
@@ -35,14 +35,14 @@ impl Memo {
 
     /// What is remembered for a square.
     pub(crate) fn get(&self, id: Id, j: u8) -> Option<Id>
-        ensures { result ≡ remembered self.now id j }
+        ensures { result ≡ memo_result self.now id j }
     {
         self.results.get(&(id, j)).copied()
     }
 
     /// Remembers the centre of a square.
     pub(crate) fn put(&mut self, id: Id, j: u8, centre: Id) -> Result<(), Memory>
-        ensures ok { OnOk result ((other time : ℕ) → remembered self.new other time ≡ cond ((id == other) && (j == time)) (Some centre) (remembered self.old other time)) }
+        ensures ok { OnOk result ((other time : ℕ) → memo_result self.new other time ≡ cond ((id == other) && (j == time)) (Some centre) (memo_result self.old other time)) }
         ensures err { OnErr result (self.new ≡ self.old) }
     {
         self.results.insert((id, j), centre)?;

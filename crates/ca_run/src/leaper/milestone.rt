@@ -37,7 +37,7 @@ impl Milestone {
     }
 
     // What a run has reached that began with the first tree and holds the other.
-    pub(super) fn by_tree<A: Automaton>(
+    pub(super) fn with_tree<A: Automaton>(
         leaper: &Leaper<A>,
         first: &Tree,
         held: &Tree,
@@ -53,7 +53,7 @@ impl Milestone {
     }
 
     // What a run has reached that began with a tree and holds a grid.
-    pub(super) fn by_grid<A: Automaton>(
+    pub(super) fn with_grid<A: Automaton>(
         leaper: &Leaper<A>,
         first: &Tree,
         held: &Grid,

@@ -29,7 +29,7 @@ impl<A: Automaton> Leaper<A> {
     }
 
     // The square in the middle between two that lie side by side.
-    pub(super) fn between(&mut self, west: Id, east: Id, grain: u8) -> Result<Id, Memory>
+    pub(super) fn middle_of_row(&mut self, west: Id, east: Id, grain: u8) -> Result<Id, Memory>
         requires west { IsOf self.old.nodes west (suc (suc grain)) }
         requires east { IsOf self.old.nodes east (suc (suc grain)) }
         requires low { grain ≤ 123 }
@@ -44,7 +44,7 @@ impl<A: Automaton> Leaper<A> {
     }
 
     // The square in the middle between two of which one lies over the other.
-    pub(super) fn halfway(&mut self, north: Id, south: Id, grain: u8) -> Result<Id, Memory>
+    pub(super) fn middle_of_column(&mut self, north: Id, south: Id, grain: u8) -> Result<Id, Memory>
         requires north { IsOf self.old.nodes north (suc (suc grain)) }
         requires south { IsOf self.old.nodes south (suc (suc grain)) }
         requires low { grain ≤ 123 }
@@ -60,7 +60,7 @@ impl<A: Automaton> Leaper<A> {
     }
 
     // The middle of a square, half its side wide.
-    pub(super) fn inner(&mut self, id: Id, grain: u8) -> Result<Id, Memory>
+    pub(super) fn inner_square(&mut self, id: Id, grain: u8) -> Result<Id, Memory>
         requires square { IsOf self.old.nodes id (suc (suc grain)) }
         requires low { grain ≤ 123 }
         ensures shows { (p : ℤ → ℤ → ℕ) (a b : ℤ) → ShowsAt self.old.nodes id (suc (suc grain)) p a b

@@ -42,8 +42,8 @@ impl<A: Automaton> Leaper<A> {
         ensures goes_on { GoesOn A self.old self.new }
     {
         let level = a.level.max(b.level);
-        let a = self.padded(a, level)?;
-        let b = self.padded(b, level)?;
+        let a = self.padded_tree(a, level)?;
+        let b = self.padded_tree(b, level)?;
         Ok(self.store.difference(a, b))
     }
 }

@@ -4,10 +4,10 @@ ghost use Rattle.std.specs.Prelude.{ℕ, ℤ, IfOk, IfSome};
 ghost use Rattle.ca_quad.specs.Squares.{IsOf};
 ghost use Rattle.ca_run.specs.Leaping.{GoesOn};
 ghost use Rattle.ca_run.specs.inner.Shown.{ShowsAt};
-ghost use Rattle.ca_run.specs.inner.Words.{WordShows, WordsShow, WideShows};
+ghost use Rattle.ca_run.specs.inner.Words.{WordShows, WordsShow, WideSquareShows};
 
 use super::Leaper;
-use super::wide::Wide;
+use super::wide_square::WideSquare;
 use super::words::Words;
 use ca_plane::{Automaton, Memory};
 use ca_quad::Id;
@@ -36,12 +36,12 @@ impl<A: Automaton> Leaper<A> {
     }
 
     // The words of a square of 32 by 32 cells, where it has no state above 1.
-    pub(super) fn wide(&self, id: Id) -> Option<Wide>
+    pub(super) fn wide_square(&self, id: Id) -> Option<WideSquare>
         requires { IsOf self.now.nodes id 5 }
-        ensures { (p : ℤ → ℤ → ℕ) (a b : ℤ) → ShowsAt self.now.nodes id 5 p a b → IfSome result (λ wide. WideShows wide p a b) }
+        ensures { (p : ℤ → ℤ → ℕ) (a b : ℤ) → ShowsAt self.now.nodes id 5 p a b → IfSome result (λ wide. WideSquareShows wide p a b) }
     {
         let (nw, ne, sw, se) = self.quarters(id, 3);
-        Some(Wide {
+        Some(WideSquare {
             nw: self.words(nw)?,
             ne: self.words(ne)?,
             sw: self.words(sw)?,

@@ -36,7 +36,7 @@ impl Words {
     }
 
     // The square in the middle between two that lie side by side.
-    pub(super) fn between(west: Words, east: Words) -> Words
+    pub(super) fn middle_of_row(west: Words, east: Words) -> Words
         ensures { (p : ℤ → ℤ → ℕ) (a b : ℤ) → WordsShow west p a b → WordsShow east p (a +ℤ pos 16) b → WordsShow result p (a +ℤ pos 8) b }
     {
         Words {
@@ -48,7 +48,7 @@ impl Words {
     }
 
     // The square in the middle between two of which one lies over the other.
-    pub(super) fn halfway(north: Words, south: Words) -> Words
+    pub(super) fn middle_of_column(north: Words, south: Words) -> Words
         ensures { (p : ℤ → ℤ → ℕ) (a b : ℤ) → WordsShow north p a b → WordsShow south p a (b +ℤ pos 16) → WordsShow result p a (b +ℤ pos 8) }
     {
         Words {

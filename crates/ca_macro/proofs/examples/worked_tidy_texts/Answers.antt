@@ -6,7 +6,7 @@ use Rattle.ca_quad.specs.Trimmed.{IsWithin}
 use Rattle.ca_macro.specs.Nodes.{Cells, Parts}
 use Rattle.ca_macro.specs.Tidy.{Fits}
 use Rattle.ca_macro.specs.Examples.{glider_file, glider, cross_file, cross}
-use Rattle.ca_macro.proofs.Worked.{fits_found, pairs_found, spelled_by}
+use Rattle.ca_macro.proofs.Worked.{fits_found, spelled_by, tidy_found}
 use Rattle.ca_macro.proofs.examples.worked_tidy_texts.Goals as goal
 
 -- the places of the glider, and those of the cross
@@ -17,23 +17,11 @@ places2 : AllByRecursion (λ e. IsWithin 2 e.0.x × IsWithin 2 e.0.y) cross
 places2 = (((omega (arith, ints), omega (arith, ints)), (omega (arith, ints), omega (arith, ints))), (((omega (arith, ints), omega (arith, ints)), (omega (arith, ints), omega (arith, ints))), (((omega (arith, ints), omega (arith, ints)), (omega (arith, ints), omega (arith, ints))), (((omega (arith, ints), omega (arith, ints)), (omega (arith, ints), omega (arith, ints))), (((omega (arith, ints), omega (arith, ints)), (omega (arith, ints), omega (arith, ints))), tt)))))
 
 pub returns-clause-glider : goal.returns-clause-glider
-returns-clause-glider c = record {
-  nodes = glider_file.nodes;
-  root = Parts 4 0 0 0 1;
-  shown = λ x y. refl;
-  root_is_last = refl;
-  level = record {
-    allowed = lit≤ tt;
-    fits = fits_found 4 glider places4;
-    least = λ other h f. h;
-  };
-  in_place = (tt, (((lit≤ tt, lit≤ tt), (tt, (tt, (tt, (refl, tt))))), tt));
-  forms = ((refl, refl, (lit≤ tt, (lit≤ tt, (lit≤ tt, (lit≤ tt, (lit≤ tt, (lit≤ tt, (lit≤ tt, (lit≤ tt, tt)))))))), (refl, (refl, (refl, (refl, (refl, (refl, (refl, (refl, tt))))))))), (λ e. lit≤ tt, tt));
-  distinct = pairs_found glider_file.nodes ((λ e. absurd cc, tt), (tt, tt));
-  empties = inl (refl, (refl, tt));
-  order = refl;
-  spelled = spelled_by (codes "[M2] (cafile)" ∷ codes "#R B3/S23" ∷ codes ".*$..*$***$$$$$$" ∷ []) ((4 ∷ 0 ∷ 0 ∷ 0 ∷ 1 ∷ []) ∷ []) (((lit< tt, (lit< tt, (lit< tt, (lit< tt, (lit< tt, tt))))), tt));
-}
+returns-clause-glider c =
+    tidy_found _ glider _ 2 glider_file.nodes (Parts 4 0 0 0 1) refl refl refl (record { allowed = lit≤ tt; fits = fits_found 4 glider places4; least = λ other h f. h })
+    (tt, (((lit≤ tt, lit≤ tt), (tt, (tt, (tt, (refl, tt))))), tt)) ((refl, refl, (lit≤ tt, (lit≤ tt, (lit≤ tt, (lit≤ tt, (lit≤ tt, (lit≤ tt, (lit≤ tt, (lit≤ tt, tt)))))))), (refl, (refl, (refl, (refl, (refl, (refl, (refl, (refl, tt))))))))), (λ e. lit≤ tt, tt))
+    ((λ e. absurd cc, tt), (tt, tt)) (inl (refl, (refl, tt)))
+    (spelled_by (codes "[M2] (cafile)" ∷ codes "#R B3/S23" ∷ codes ".*$..*$***$$$$$$" ∷ []) ((4 ∷ 0 ∷ 0 ∷ 0 ∷ 1 ∷ []) ∷ []) (((lit< tt, (lit< tt, (lit< tt, (lit< tt, (lit< tt, tt))))), tt)))
 
 -- the cross doesn't fit into a square of level 1
 wide : (other : ℕ) → 1 ≤ other → Fits other (cell cross) → 2 ≤ other
@@ -42,53 +30,20 @@ wide (suc zero) h f = let at = f (pos 1) (pos 0) (λ e. absurd cc) in absurd (om
 wide (suc (suc n)) h f = omega arith
 
 pub returns-clause-cross : goal.returns-clause-cross
-returns-clause-cross c = record {
-  nodes = cross_file.nodes;
-  root = Parts 2 0 1 2 3;
-  shown = λ x y. refl;
-  root_is_last = refl;
-  level = record {
-    allowed = lit≤ tt;
-    fits = fits_found 2 cross places2;
-    least = wide;
-  };
-  in_place = ((lit≤ tt, (lit≤ tt, (lit≤ tt, (lit≤ tt, tt)))), ((lit≤ tt, (lit≤ tt, (lit≤ tt, (lit≤ tt, tt)))), ((lit≤ tt, (lit≤ tt, (lit≤ tt, (lit≤ tt, tt)))), (((lit≤ tt, lit≤ tt), (tt, (refl, (refl, (refl, tt))))), tt))));
-  forms = (λ e. absurd cc, (λ e. absurd cc, (λ e. absurd cc, (λ e. absurd cc, tt))));
-  distinct = pairs_found cross_file.nodes (
-    (λ e. absurd cc, (λ e. absurd cc, (λ e. absurd cc, tt))),
-    ((λ e. absurd cc, (λ e. absurd cc, tt)), ((λ e. absurd cc, tt), (tt, tt))),
-  );
-  empties = inl (refl, (refl, (refl, (refl, tt))));
-  order = refl;
-  spelled = spelled_by (codes "[M2] (cafile)" ∷ codes "#R Spread" ∷ []) ((1 ∷ 0 ∷ 0 ∷ 2 ∷ 0 ∷ []) ∷ (1 ∷ 0 ∷ 2 ∷ 0 ∷ 0 ∷ []) ∷ (1 ∷ 2 ∷ 2 ∷ 2 ∷ 0 ∷ []) ∷ (2 ∷ 0 ∷ 1 ∷ 2 ∷ 3 ∷ []) ∷ []) (((lit< tt, (lit< tt, (lit< tt, (lit< tt, (lit< tt, tt))))), ((lit< tt, (lit< tt, (lit< tt, (lit< tt, (lit< tt, tt))))), ((lit< tt, (lit< tt, (lit< tt, (lit< tt, (lit< tt, tt))))), ((lit< tt, (lit< tt, (lit< tt, (lit< tt, (lit< tt, tt))))), tt)))));
-}
+returns-clause-cross c =
+    tidy_found _ cross _ 3 cross_file.nodes (Parts 2 0 1 2 3) refl refl refl (record { allowed = lit≤ tt; fits = fits_found 2 cross places2; least = wide })
+    ((lit≤ tt, (lit≤ tt, (lit≤ tt, (lit≤ tt, tt)))), ((lit≤ tt, (lit≤ tt, (lit≤ tt, (lit≤ tt, tt)))), ((lit≤ tt, (lit≤ tt, (lit≤ tt, (lit≤ tt, tt)))), (((lit≤ tt, lit≤ tt), (tt, (refl, (refl, (refl, tt))))), tt)))) (λ e. absurd cc, (λ e. absurd cc, (λ e. absurd cc, (λ e. absurd cc, tt))))
+    ((λ e. absurd cc, (λ e. absurd cc, (λ e. absurd cc, tt))), ((λ e. absurd cc, (λ e. absurd cc, tt)), ((λ e. absurd cc, tt), (tt, tt)))) (inl (refl, (refl, (refl, (refl, tt)))))
+    (spelled_by (codes "[M2] (cafile)" ∷ codes "#R Spread" ∷ []) ((1 ∷ 0 ∷ 0 ∷ 2 ∷ 0 ∷ []) ∷ (1 ∷ 0 ∷ 2 ∷ 0 ∷ 0 ∷ []) ∷ (1 ∷ 2 ∷ 2 ∷ 2 ∷ 0 ∷ []) ∷ (2 ∷ 0 ∷ 1 ∷ 2 ∷ 3 ∷ []) ∷ []) (((lit< tt, (lit< tt, (lit< tt, (lit< tt, (lit< tt, tt))))), ((lit< tt, (lit< tt, (lit< tt, (lit< tt, (lit< tt, tt))))), ((lit< tt, (lit< tt, (lit< tt, (lit< tt, (lit< tt, tt))))), ((lit< tt, (lit< tt, (lit< tt, (lit< tt, (lit< tt, tt))))), tt))))))
 
 pub returns-clause-empty : goal.returns-clause-empty
-returns-clause-empty c = record {
-  nodes = Parts 4 0 0 0 0 ∷ [];
-  root = Parts 4 0 0 0 0;
-  shown = λ x y. refl;
-  root_is_last = refl;
-  level = record { allowed = lit≤ tt; fits = fits_found 4 [] tt; least = λ other h f. h };
-  in_place = (((lit≤ tt, lit≤ tt), (tt, (tt, (tt, (tt, tt))))), tt);
-  forms = (λ e. lit≤ tt, tt);
-  distinct = pairs_found (Parts 4 0 0 0 0 ∷ []) (tt, tt);
-  empties = inr refl;
-  order = refl;
-  spelled = spelled_by (codes "[M2] (cafile)" ∷ codes "#R B3/S23" ∷ []) ((4 ∷ 0 ∷ 0 ∷ 0 ∷ 0 ∷ []) ∷ []) (((lit< tt, (lit< tt, (lit< tt, (lit< tt, (lit< tt, tt))))), tt));
-}
+returns-clause-empty c =
+    tidy_found _ [] _ 2 (Parts 4 0 0 0 0 ∷ []) (Parts 4 0 0 0 0) refl refl refl (record { allowed = lit≤ tt; fits = fits_found 4 [] tt; least = λ other h f. h })
+    (((lit≤ tt, lit≤ tt), (tt, (tt, (tt, (tt, tt))))), tt) (λ e. lit≤ tt, tt) (tt, tt) (inr refl)
+    (spelled_by (codes "[M2] (cafile)" ∷ codes "#R B3/S23" ∷ []) ((4 ∷ 0 ∷ 0 ∷ 0 ∷ 0 ∷ []) ∷ []) (((lit< tt, (lit< tt, (lit< tt, (lit< tt, (lit< tt, tt))))), tt)))
 
 pub returns-clause-empty_of_states : goal.returns-clause-empty_of_states
-returns-clause-empty_of_states c = record {
-  nodes = Cells 0 0 0 0 ∷ [];
-  root = Cells 0 0 0 0;
-  shown = λ x y. refl;
-  root_is_last = refl;
-  level = record { allowed = lit≤ tt; fits = fits_found 1 [] tt; least = λ other h f. h };
-  in_place = ((lit≤ tt, (lit≤ tt, (lit≤ tt, (lit≤ tt, tt)))), tt);
-  forms = (λ e. absurd cc, tt);
-  distinct = pairs_found (Cells 0 0 0 0 ∷ []) (tt, tt);
-  empties = inr refl;
-  order = refl;
-  spelled = spelled_by (codes "[M2] (cafile)" ∷ codes "#R Spread" ∷ []) ((1 ∷ 0 ∷ 0 ∷ 0 ∷ 0 ∷ []) ∷ []) (((lit< tt, (lit< tt, (lit< tt, (lit< tt, (lit< tt, tt))))), tt));
-}
+returns-clause-empty_of_states c =
+    tidy_found _ [] _ 3 (Cells 0 0 0 0 ∷ []) (Cells 0 0 0 0) refl refl refl (record { allowed = lit≤ tt; fits = fits_found 1 [] tt; least = λ other h f. h })
+    ((lit≤ tt, (lit≤ tt, (lit≤ tt, (lit≤ tt, tt)))), tt) (λ e. absurd cc, tt) (tt, tt) (inr refl)
+    (spelled_by (codes "[M2] (cafile)" ∷ codes "#R Spread" ∷ []) ((1 ∷ 0 ∷ 0 ∷ 0 ∷ 0 ∷ []) ∷ []) (((lit< tt, (lit< tt, (lit< tt, (lit< tt, (lit< tt, tt))))), tt)))

@@ -3,10 +3,11 @@ use Rattle.ca_rle.specs.Header.{size_parts}
 use Rattle.std.specs.List.{list_any}
 use Rattle.std.proofs.lemmas.Bool.{or_left, or_right}
 use Rattle.std.proofs.lemmas.List.{append_cancel_left}
+use Rattle.ca_rle.specs.declared.fault.RleFault.TheVariants.{Syntax, NoEnd, BadState, GenTooLarge}
 use Rattle.ca_rle.specs.declared.item.Tag.TheVariants.{Cell}
 use Rattle.ca_rle.proofs.ReadItems.{run_found}
-use Rattle.ca_rle.proofs.Headers.{spaced_found, header_found, no_header}
-use Rattle.ca_rle.proofs.ExampleHeaders.{plain_header}
+use Rattle.ca_rle.proofs.Headers.{spaced_found, no_header}
+use Rattle.ca_rle.proofs.ExampleHeaders.{some_lines, no_lines, line_follows, plain_header, ruled_header, bad_item, bad_word, no_header_after}
 use Rattle.ca_rle.proofs.examples.worked_faults.Goals as goal
 
 -- a byte among others that passes
@@ -19,132 +20,55 @@ no_comma : (bytes a b : List ℕ) → list_any (λ c. c == 44) bytes ≡ false �
 no_comma bytes a b n e = true≢false (sym (any_behind (λ c. c == 44) a 44 b refl) ∙ ap (list_any (λ c. c == 44)) (sym e) ∙ n)
 
 pub returns-clause-count : goal.returns-clause-count
-returns-clause-count c = inr (record {
-  said = [];
-  rule = None;
-  body = 10 ∷ codes "0b!";
-  items = [];
-  bad = 10 ∷ codes "0b!";
-  headed = plain_header (codes "x = 1, y = 1") (10 ∷ codes "0b!") refl refl refl;
-  good = refl;
-  fault_is = refl;
-})
+returns-clause-count c =
+    let body = codes "\n0b!" in inr (bad_item _ None body body [] Syntax (plain_header (codes "x = 1, y = 1") body refl refl refl) refl refl)
 
 pub returns-clause-word : goal.returns-clause-word
-returns-clause-word c = inl (record {
-  lines = [];
-  said = [];
-  line = codes "#CXRLE Pos=1";
-  good = [];
-  good_said = [];
-  word = codes "Pos=1";
-  later = [];
-  more = 10 ∷ codes "x = 1, y = 1" ++ (10 ∷ codes "o!");
-  preamble = record { each_is_line = tt; comments = tt; words = tt };
-  line_is = refl;
-  comment = refl;
-  words = refl;
-  good_words = tt;
-  bad = inl (refl, λ x y says. no_comma (codes "1") says.0 says.1 refl (append_cancel_left (codes "Pos=") _ _ says.2));
-  line_ends = refl;
-  spelled = refl;
-})
+returns-clause-word c =
+    inl
+    (bad_word (codes "#CXRLE Pos=1") (codes "Pos=1") (codes "\nx = 1, y = 1\no!") Syntax refl refl refl refl
+    (inl (refl, λ x y says. no_comma (codes "1") says.0 says.1 refl (append_cancel_left (codes "Pos=") _ _ says.2))))
 
 pub returns-clause-empty : goal.returns-clause-empty
-returns-clause-empty c = record {
-  lines = [];
-  said = [];
-  line = [];
-  more = [];
-  preamble = record { each_is_line = tt; comments = tt; words = tt };
-  line_is = refl;
-  no_header = no_header [] refl refl;
-  no_comment_or_last = inr (refl, ([], tt));
-  line_ends = refl;
-  spelled = refl;
-}
+returns-clause-empty c = no_header_after [] [] [] no_lines refl refl (no_header [] refl refl) (inr (refl, ([], tt)))
 
 pub returns-clause-comma : goal.returns-clause-comma
-returns-clause-comma c = record {
-  lines = [];
-  said = [];
-  line = codes "x = 3, y = 3,";
-  more = 10 ∷ codes "3o!";
-  preamble = record { each_is_line = tt; comments = tt; words = tt };
-  line_is = refl;
-  no_header = no_header (codes "x = 3, y = 3,") refl refl;
-  no_comment_or_last = inl refl;
-  line_ends = refl;
-  spelled = refl;
-}
+returns-clause-comma c =
+    let line = codes "x = 3, y = 3," in no_header_after [] line (codes "\n3o!") no_lines refl refl (no_header line refl refl) (inl refl)
 
 pub returns-clause-xlife : goal.returns-clause-xlife
-returns-clause-xlife c = record {
-  lines = codes "#r 23/3" ∷ [];
-  said = [];
-  header = codes "x = 1, y = 1";
-  body = 10 ∷ codes "o!";
-  xlife = codes "#r 23/3";
-  earlier = [];
-  others = [];
-  preamble = record { each_is_line = (refl, tt); comments = (refl, tt); words = tt };
-  is_xlife = ([], 32, codes "23/3", refl, refl, refl);
-  among = refl;
-  header_is_line = refl;
-  header_is = inl (spaced_found (size_parts []) (codes "x = 1, y = 1") refl);
-  header_ends = refl;
-  spelled = refl;
-}
+returns-clause-xlife c =
+    let xlife = codes "#r 23/3" in
+    let header = codes "x = 1, y = 1" in
+    let body = codes "\no!" in
+    record {
+      lines = xlife ∷ [];
+      said = [];
+      header = header;
+      body = body;
+      xlife = xlife;
+      earlier = [];
+      others = [];
+      follows = line_follows (xlife ∷ []) [] header body (some_lines (xlife ∷ []) [] (refl, tt) (refl, tt) tt) refl refl;
+      is_xlife = ([], 32, codes "23/3", refl, refl, refl);
+      among = refl;
+      header_is = inl (spaced_found (size_parts []) header refl);
+    }
 
 pub returns-clause-cut_off : goal.returns-clause-cut_off
-returns-clause-cut_off c = record {
-  said = [];
-  rule = None;
-  body = 10 ∷ codes "3o";
-  items = record { count = 3; tag = Cell 1 } ∷ [];
-  bad = [];
-  headed = plain_header (codes "x = 3, y = 1") (10 ∷ codes "3o") refl refl refl;
-  good = run_found (10 ∷ codes "3o") [] [] _ [] refl (lit< tt) refl;
-  fault_is = refl;
-}
+returns-clause-cut_off c =
+    let body = codes "\n3o" in
+    let headed = plain_header (codes "x = 3, y = 1") body refl refl refl in
+    bad_item _ None body [] (record { count = 3; tag = Cell 1 } ∷ []) NoEnd headed (run_found body [] [] _ [] refl (lit< tt) refl) refl
 
 pub returns-clause-state : goal.returns-clause-state
-returns-clause-state c = record {
-  said = [];
-  rule = Some (codes "Star");
-  body = 10 ∷ codes "yP!";
-  items = [];
-  bad = 10 ∷ codes "yP!";
-  headed = record {
-    lines = [];
-    header = codes "x = 1, y = 1, rule = Star";
-    preamble = record { each_is_line = tt; comments = tt; words = tt };
-    header_is_line = refl;
-    header_is = header_found (codes "x = 1, y = 1, rule = Star") (codes "Star") [] refl refl refl;
-    named = inl refl;
-    header_ends = refl;
-    spelled = refl;
-  };
-  good = refl;
-  fault_is = refl;
-}
+returns-clause-state c =
+    let body = codes "\nyP!" in
+    let headed = ruled_header [] [] (codes "x = 1, y = 1, rule = Star") body (codes "Star") [] no_lines refl refl refl refl refl in
+    bad_item _ (Some (codes "Star")) body body [] BadState headed refl refl
 
 pub returns-clause-generation : goal.returns-clause-generation
-returns-clause-generation c = record {
-  lines = [];
-  said = [];
-  line = codes "#CXRLE Gen=9223372036854775808";
-  good = [];
-  good_said = [];
-  word = codes "Gen=9223372036854775808";
-  later = [];
-  more = 10 ∷ codes "x = 1, y = 1" ++ (10 ∷ codes "o!");
-  preamble = record { each_is_line = tt; comments = tt; words = tt };
-  line_is = refl;
-  comment = refl;
-  words = refl;
-  good_words = tt;
-  bad = (codes "9223372036854775808", refl, refl, lit≤ tt);
-  line_ends = refl;
-  spelled = refl;
-}
+returns-clause-generation c =
+    let digits = codes "9223372036854775808" in
+    bad_word (codes "#CXRLE Gen=9223372036854775808") (codes "Gen=9223372036854775808") (codes "\nx = 1, y = 1\no!") GenTooLarge refl refl refl refl
+    (digits, refl, refl, lit≤ tt)

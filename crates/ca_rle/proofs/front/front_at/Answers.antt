@@ -8,12 +8,9 @@ returns-in_default-clause-fault c = λ lines said p. (
     said = said;
     line = c.args.line.now;
     more = c.args.body.now;
-    preamble = p.good;
-    line_is = c.requires.line;
+    follows = record { preamble = p.good; line_is = c.requires.line; line_ends = c.requires.ends; spelled = refl };
     no_header = c.in_default.ensures;
     no_comment_or_last = inl c.requires.header;
-    line_ends = c.requires.ends;
-    spelled = refl;
   },
   refl,
 )
@@ -29,13 +26,10 @@ returns-then-preamble-clause-fault c = λ lines said p. (
         xlife = xlife.1;
         earlier = xlife.0;
         others = xlife.2;
-        preamble = p.good;
+        follows = record { preamble = p.good; line_is = c.requires.line; line_ends = c.requires.ends; spelled = refl };
         is_xlife = xlife.3;
         among = xlife.4;
-        header_is_line = c.requires.line;
         header_is = search rules;
-        header_ends = c.requires.ends;
-        spelled = refl;
       },
   refl,
 )

@@ -3,4 +3,4 @@ use Rattle.ca_run.proofs.TileCells.{next_within}
 use Rattle.ca_run.proofs.kernel.next_tile.Goals as goal
 
 pub returns : goal.returns
-returns c = next_within c.args.birth c.args.survive c.args.alive.rows c.next_bits.result.rows (number c.round.result) c.round.ensures c.next_bits.ensures
+returns c = next_within c.args.birth c.args.survive c.args.alive.rows c.next_bits.result.rows (number c.neighbours.result) c.neighbours.ensures c.next_bits.ensures

@@ -4,7 +4,7 @@ use Rattle.ca_quad.specs.Added.{IsPartOf, IsCopy}
 use Rattle.ca_quad.proofs.Copied.{copies_stay, still_copies, parts_four, parts_copied}
 use Rattle.ca_quad.proofs.Added.{none_added, added_on, added_in_part, ok_added, one_added, added_two, added_three, added_four}
 use Rattle.ca_quad.proofs.Filled.{grows_five}
-use Rattle.ca_quad.proofs.Population.{found_more}
+use Rattle.ca_quad.proofs.Measures.{one_more}
 use Rattle.ca_quad.proofs.store.Store.+copy_of.Goals as goal
 
 pub returns-in-Some-clause-copy : goal.returns-in-Some-clause-copy
@@ -31,7 +31,7 @@ returns-in_ok-put-in-Parts-clause-copy t c =
 pub returns-in_ok-put-in-Parts-clause-copies : goal.returns-in_ok-put-in-Parts-clause-copies
 returns-in_ok-put-in-Parts-clause-copies t c =
     let olds = c.copy_of-in-Parts-3.new.copies in
-    found_more (IsCopy c.args.from.now c.join.new.self) olds c.put.new.self c.args.id c.in_ok-copy-in-Parts.copy
+    one_more (IsCopy c.args.from.now c.join.new.self) olds c.put.new.self c.args.id c.in_ok-copy-in-Parts.copy
     (copies_stay c.args.from.now c.copy_of-in-Parts-3.new.self c.join.new.self c.copy_of-in-Parts-3.ensures.grows.sound c.join.ensures.grows olds c.in_ok-se-in-Parts.ensures.copies)
     (returns-in_ok-put-in-Parts-clause-copy t c) c.in_ok-put-in-Parts.ensures
 

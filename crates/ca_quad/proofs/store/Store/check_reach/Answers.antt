@@ -2,24 +2,18 @@ use Rattle.std.proofs.Common.{◌≡◌, ◌≤◌, ◌∙◌, MatchOption, refl
 use Rattle.std.proofs.lemmas.Bool.Decides.{nat_tests}
 use Rattle.ca_quad.specs.Trees.{cell}
 use Rattle.ca_quad.specs.Boxes.{IsDead, IsLeastBox}
-use Rattle.ca_quad.proofs.Reach.{leaves_x, leaves_y, box_fits, low_fits}
+use Rattle.ca_quad.proofs.Reach.{box_leaves, box_fits, low_fits}
 use Rattle.ca_quad.proofs.store.Store.check_reach.Goals as goal
 
-pub returns-then-not-columns_fit-clause-fault : goal.returns-then-not-columns_fit-clause-fault
-returns-then-not-columns_fit-clause-fault c =
+pub returns-then-not-is_in_reach-clause-fault : goal.returns-then-not-is_in_reach-clause-fault
+returns-then-not-is_in_reach-clause-fault c =
     let cells = cell c.args.self.now c.args.tree in
-    leaves_x cells c.in-Some.bounds (subst (λ found. MatchOption found (IsDead cells) (IsLeastBox cells)) c.in-Some.is c.in_ok-bounds.ensures) (c.if-not-columns_fit.ensures.no refl)
-
-pub returns-then-not-rows_fit-clause-fault :
-    goal.returns-then-not-rows_fit-clause-fault
-returns-then-not-rows_fit-clause-fault c =
-    let cells = cell c.args.self.now c.args.tree in
-    leaves_y cells c.in-Some.bounds (subst (λ found. MatchOption found (IsDead cells) (IsLeastBox cells)) c.in-Some.is c.in_ok-bounds.ensures) (c.if-not-rows_fit.ensures.no refl)
+    box_leaves cells c.in-Some.bounds (subst (λ found. MatchOption found (IsDead cells) (IsLeastBox cells)) c.in-Some.is c.in_ok-bounds.ensures) (c.if-not-is_in_reach.ensures.no refl)
 
 pub returns-clause-fits : goal.returns-clause-fits
 returns-clause-fits c =
     let cells = cell c.args.self.now c.args.tree in
-    box_fits cells c.in-Some.bounds (subst (λ found. MatchOption found (IsDead cells) (IsLeastBox cells)) c.in-Some.is c.in_ok-bounds.ensures) (c.if-not-columns_fit.ensures.yes refl) (c.if-not-rows_fit.ensures.yes refl)
+    box_fits cells c.in-Some.bounds (subst (λ found. MatchOption found (IsDead cells) (IsLeastBox cells)) c.in-Some.is c.in_ok-bounds.ensures) (c.if-not-is_in_reach.ensures.yes refl)
 
 pub returns-then-level-le-INSIDE-clause-fits : goal.returns-then-level-le-INSIDE-clause-fits
 returns-then-level-le-INSIDE-clause-fits c =

@@ -3,12 +3,10 @@ use Rattle.std.specs.Prelude.{ℤ, pos, ◌+ℤ◌}
 use Rattle.std.proofs.lemmas.Int.{ints}
 use Rattle.std.proofs.Math.Nat.{two-pow-succ}
 use Rattle.ca_quad.specs.Trees.{AreFour}
-use Rattle.ca_quad.proofs.Growth.{grows_on}
-use Rattle.ca_quad.proofs.Cells.{of_stays}
 use Rattle.ca_run.specs.inner.Shown.{ShowsAt, FourShow, side}
 use Rattle.ca_run.specs.inner.Words.{WordShows}
 use Rattle.ca_run.specs.inner.Grid.{word_in, row_in, eight}
-use Rattle.ca_run.proofs.Shown.{goes_on_again, at_stays, at_from}
+use Rattle.ca_run.proofs.Shown.{goes_on_again, four_go_on, four_made, four_are, at_from}
 use Rattle.ca_run.proofs.ReadWords.{near_at, near_as, none_shows, side_words}
 use Rattle.ca_run.proofs.leaper.Leaper.+from_grid.Goals as goal
 
@@ -67,41 +65,15 @@ from_parts-from_grid-requires-4 g t c κs within =
 
 pub from_parts-join-requires : goal.from_parts-join-requires
 from_parts-join-requires g t c =
-    let k = suc (suc (suc c.args.grain)) in
-    let s1 = c.from_grid.new.self.nodes in
-    let s2 = c.from_grid-2.new.self.nodes in
-    let s3 = c.from_grid-3.new.self.nodes in
-    let s4 = c.from_grid-4.new.self.nodes in
-    let g1 = c.in_ok-nw.ensures.goes_on.grows in
-    let g2 = c.in_ok-ne.ensures.goes_on.grows in
-    let g3 = c.in_ok-sw.ensures.goes_on.grows in
-    let g4 = c.in_ok-se.ensures.goes_on.grows in
-    let from2 = grows_on s2 s3 s4 g3 g4 in
-    let from1 = grows_on s1 s2 s4 g2 from2 in
-    subst (λ k. AreFour s4 k c.in_ok-nw.nw c.in_ok-ne.ne c.in_ok-sw.sw c.in_ok-se.se) (sym (up2 c.args.grain))
-    (record {
-      is_low = omega (arith, c.requires.low);
-      is_nw = of_stays s1 s4 g1.sound from1 c.in_ok-nw.nw k c.in_ok-nw.ensures.square;
-      is_ne = of_stays s2 s4 g2.sound from2 c.in_ok-ne.ne k c.in_ok-ne.ensures.square;
-      is_sw = of_stays s3 s4 g3.sound g4 c.in_ok-sw.sw k c.in_ok-sw.ensures.square;
-      is_se = c.in_ok-se.ensures.square;
-    })
+    subst (λ k. AreFour c.from_grid-4.new.self.nodes k c.in_ok-nw.nw c.in_ok-ne.ne c.in_ok-sw.sw c.in_ok-se.se) (sym (up2 c.args.grain))
+    (four_are _ _ _ _ c.in_ok-nw.ensures.goes_on.grows.sound c.in_ok-ne.ensures.goes_on.grows c.in_ok-sw.ensures.goes_on.grows c.in_ok-se.ensures.goes_on.grows _ _ _ _ _ (omega (arith, c.requires.low))
+    c.in_ok-nw.ensures.square c.in_ok-ne.ensures.square c.in_ok-sw.ensures.square c.in_ok-se.ensures.square)
 
 pub from_parts-returns-clause-shows : goal.from_parts-returns-clause-shows
 from_parts-returns-clause-shows g t c = λ p a b shows.
     let k = suc (suc (suc c.args.grain)) in
     let i = c.args.at.i in
     let j = c.args.at.j in
-    let s1 = c.from_grid.new.self.nodes in
-    let s2 = c.from_grid-2.new.self.nodes in
-    let s3 = c.from_grid-3.new.self.nodes in
-    let s4 = c.from_grid-4.new.self.nodes in
-    let g1 = c.in_ok-nw.ensures.goes_on.grows in
-    let g2 = c.in_ok-ne.ensures.goes_on.grows in
-    let g3 = c.in_ok-sw.ensures.goes_on.grows in
-    let g4 = c.in_ok-se.ensures.goes_on.grows in
-    let from2 = grows_on s2 s3 s4 g3 g4 in
-    let from1 = grows_on s1 s2 s4 g2 from2 in
     let places = c.quarters-places.ensures in
     let x = a +ℤ eight i in
     let y = b +ℤ eight j in
@@ -111,17 +83,13 @@ from_parts-returns-clause-shows g t c = λ p a b shows.
     let same_x : (u : ℤ) → u ≡ i → a +ℤ eight u ≡ x = λ u e. ap (λ u. a +ℤ eight u) e in
     let same_y : (v : ℤ) → v ≡ j → b +ℤ eight v ≡ y = λ v e. ap (λ v. b +ℤ eight v) e in
     subst (λ k. IfOk c.join.result (λ id. ShowsAt c.join.new.self.nodes id (suc k) p x y)) (up2 c.args.grain)
-    (c.join.ensures.shows p x y (subst (λ k. FourShow s4 k c.in_ok-nw.nw c.in_ok-ne.ne c.in_ok-sw.sw c.in_ok-se.se p x y) (sym (up2 c.args.grain))
-    (record {
-      at_nw = at_stays s1 s4 g1.sound from1 c.in_ok-nw.nw k p x y (c.in_ok-nw.ensures.shows p a b shows);
-      at_ne = at_from s4 c.in_ok-ne.ne k p _ _ _ _ (east _ places.ne.0) (same_y _ places.ne.1) (at_stays s2 s4 g2.sound from2 c.in_ok-ne.ne k p _ _ (c.in_ok-ne.ensures.shows p a b shows));
-      at_sw = at_from s4 c.in_ok-sw.sw k p _ _ _ _ (same_x _ places.sw.0) (south _ places.sw.1) (at_stays s3 s4 g3.sound g4 c.in_ok-sw.sw k p _ _ (c.in_ok-sw.ensures.shows p a b shows));
-      at_se = at_from s4 c.in_ok-se.se k p _ _ _ _ (east _ places.se.0) (south _ places.se.1) (c.in_ok-se.ensures.shows p a b shows);
-    })))
+    (c.join.ensures.shows p x y (subst (λ k. FourShow c.from_grid-4.new.self.nodes k c.in_ok-nw.nw c.in_ok-ne.ne c.in_ok-sw.sw c.in_ok-se.se p x y) (sym (up2 c.args.grain))
+    (four_made _ _ _ _ c.in_ok-nw.ensures.goes_on.grows.sound c.in_ok-ne.ensures.goes_on.grows c.in_ok-sw.ensures.goes_on.grows c.in_ok-se.ensures.goes_on.grows k _ _ _ _ p x y
+    (c.in_ok-nw.ensures.shows p a b shows)
+    (at_from _ _ k p _ _ _ _ (east _ places.ne.0) (same_y _ places.ne.1) (c.in_ok-ne.ensures.shows p a b shows))
+    (at_from _ _ k p _ _ _ _ (same_x _ places.sw.0) (south _ places.sw.1) (c.in_ok-sw.ensures.shows p a b shows))
+    (at_from _ _ k p _ _ _ _ (east _ places.se.0) (south _ places.se.1) (c.in_ok-se.ensures.shows p a b shows)))))
 
 pub from_parts-returns-clause-goes_on : goal.from_parts-returns-clause-goes_on
 from_parts-returns-clause-goes_on g t c =
-    goes_on_again _ c.args.self.now c.from_grid-4.new.self c.join.new.self
-    (goes_on_again _ c.args.self.now c.from_grid-3.new.self c.from_grid-4.new.self
-    (goes_on_again _ c.args.self.now c.from_grid-2.new.self c.from_grid-3.new.self
-    (goes_on_again _ c.args.self.now c.from_grid.new.self c.from_grid-2.new.self c.in_ok-nw.ensures.goes_on c.in_ok-ne.ensures.goes_on) c.in_ok-sw.ensures.goes_on) c.in_ok-se.ensures.goes_on) c.join.ensures.goes_on
+    goes_on_again _ _ _ _ (four_go_on c.in_ok-nw.ensures.goes_on c.in_ok-ne.ensures.goes_on c.in_ok-sw.ensures.goes_on c.in_ok-se.ensures.goes_on) c.join.ensures.goes_on

@@ -1,43 +1,17 @@
 use Rattle.std.proofs.Common.{rules, ◌≡◌, suc, ◌+◌, ◌-◌, ◌≤◌, ◌^◌, IfOk, refl, sym, ap, subst, ◌∙◌, arith}
-use Rattle.std.specs.Prelude.{pos, ◌+ℤ◌}
+use Rattle.std.specs.Prelude.{◌+ℤ◌}
 use Rattle.std.proofs.lemmas.Bool.Decides.{nat_tests}
 use Rattle.std.proofs.Math.Nat.{two-pow-succ}
 use Rattle.ca_plane.specs.Generations.{cells_after}
-use Rattle.ca_quad.specs.Squares.{IsOf, cell_of}
+use Rattle.ca_quad.specs.Squares.{IsOf}
 use Rattle.ca_quad.specs.Sound.{IsSound}
-use Rattle.ca_quad.specs.Trees.{from_corner}
 use Rattle.ca_quad.proofs.Growth.{grows_on}
 use Rattle.ca_quad.proofs.Cells.{of_stays}
 use Rattle.ca_run.specs.Centre.{IsCentre}
 use Rattle.ca_run.specs.inner.Shown.{ShowsAt, FourShow, AreThree, side, generations}
-use Rattle.ca_run.proofs.Shown.{at_corner, goes_on_again, at_stays, three_stay, three_are}
-use Rattle.ca_run.proofs.Lanes.{made_centre}
+use Rattle.ca_run.proofs.Shown.{goes_on_again, four_go_on, at_stays, three_stay, three_are}
 use Rattle.ca_run.proofs.Leap.{goes_on_same, centre_ok, nine_centre, west_four, east_four, pair_at, trio_at, nine_at, four_at}
 use Rattle.ca_run.proofs.leaper.Leaper.+leap.Goals as goal
-
-pub centre-returns-in-Some-clause-centre : goal.centre-returns-in-Some-clause-centre
-centre-returns-in-Some-clause-centre g t c =
-    let k = c.args.grain in
-    let s0 = c.args.self.now.nodes in
-    let new = c.from_word.new.self.nodes in
-    let next = g.A.Automaton.next_of c.args.self.now.rule in
-    let q = cells_after next (from_corner (cell_of s0 (suc (suc k)) c.args.id)) (2 ^ c.args.j) in
-    let sound = subst (λ l. IsSound l.nodes) c.self.view_is c.self.invariant.squares in
-    let word = c.in-Some.ensures.shows _ _ _ (at_corner s0 c.args.id (suc (suc k)) c.requires.square) in
-    made_centre next s0 new sound c.from_word.ensures.goes_on.grows c.from_word.result c.args.id k c.args.j c.requires.square c.requires.time
-    (subst (λ l. IfOk c.from_word.result (λ half. ShowsAt new half (suc l) q (pos 0 +ℤ side k) (pos 0 +ℤ side k))) (sym c.in-Some.ensures.grain) (c.from_word.ensures.shows q _ _ word))
-
-pub new_centre-returns-in-Some-wide_centre-clause-centre : goal.new_centre-returns-in-Some-wide_centre-clause-centre
-new_centre-returns-in-Some-wide_centre-clause-centre g t c =
-    let k = c.args.grain in
-    let s0 = c.args.self.now.nodes in
-    let new = c.from_words.new.self.nodes in
-    let next = g.A.Automaton.next_of c.args.self.now.rule in
-    let q = cells_after next (from_corner (cell_of s0 (suc (suc k)) c.args.id)) (2 ^ c.args.j) in
-    let sound = subst (λ l. IsSound l.nodes) c.self.view_is c.self.invariant.squares in
-    let words = c.in-Some-wide_centre.ensures.shows _ _ _ (at_corner s0 c.args.id (suc (suc k)) c.requires.square) in
-    made_centre next s0 new sound c.from_words.ensures.goes_on.grows c.from_words.result c.args.id k c.args.j c.requires.square c.requires.time
-    (subst (λ l. IfOk c.from_words.result (λ half. ShowsAt new half (suc l) q (pos 0 +ℤ side k) (pos 0 +ℤ side k))) (sym c.in-Some-wide_centre.ensures.grain) (c.from_words.ensures.shows q _ _ words))
 
 pub centre-returns-in-Some-recall-clause-goes_on : goal.centre-returns-in-Some-recall-clause-goes_on
 centre-returns-in-Some-recall-clause-goes_on g t c = goes_on_same _ c.args.self.now (subst (λ l. IsSound l.nodes) c.self.view_is c.self.invariant.squares)
@@ -73,8 +47,8 @@ new_centre-returns-then-j-grain-clause-centre g t c =
     let sum : 2 ^ (c.args.j - 1) + 2 ^ (c.args.j - 1) ≡ 2 ^ c.args.j = sym (two-pow-succ (c.args.j - 1)) ∙ ap (λ n. 2 ^ n) one in
     let sound = subst (λ l. IsSound l.nodes) c.self.view_is c.self.invariant.squares in
     let next = g.A.Automaton.next_of c.args.self.now.rule in
-    nine_centre next c.args.self.now.nodes c.by_nine.new.self.nodes sound c.by_nine.ensures.goes_on.grows c.by_nine.result c.args.id (c.args.grain - 1) c.args.grain (2 ^ (c.args.j - 1)) (2 ^ (c.args.j - 1)) c.args.j up
-    c.requires.square c.requires.time sum (λ p a b shows. c.by_nine.ensures.shows next p a b refl shows)
+    nine_centre next c.args.self.now.nodes c.centre_of_nine.new.self.nodes sound c.centre_of_nine.ensures.goes_on.grows c.centre_of_nine.result c.args.id (c.args.grain - 1) c.args.grain (2 ^ (c.args.j - 1)) (2 ^ (c.args.j - 1)) c.args.j up
+    c.requires.centre.is_square c.requires.centre.in_time sum (λ p a b shows. c.centre_of_nine.ensures.shows next p a b refl shows)
 
 pub new_centre-returns-clause-centre : goal.new_centre-returns-clause-centre
 new_centre-returns-clause-centre g t c =
@@ -83,8 +57,8 @@ new_centre-returns-clause-centre g t c =
     let sum : 0 + 2 ^ c.args.j ≡ 2 ^ c.args.j = omega arith in
     let sound = subst (λ l. IsSound l.nodes) c.self.view_is c.self.invariant.squares in
     let next = g.A.Automaton.next_of c.args.self.now.rule in
-    nine_centre next c.args.self.now.nodes c.by_nine-2.new.self.nodes sound c.by_nine-2.ensures.goes_on.grows c.by_nine-2.result c.args.id (c.args.grain - 1) c.args.grain 0 (2 ^ c.args.j) c.args.j up
-    c.requires.square c.requires.time sum (λ p a b shows. c.by_nine-2.ensures.shows next p a b refl shows)
+    nine_centre next c.args.self.now.nodes c.centre_of_nine-2.new.self.nodes sound c.centre_of_nine-2.ensures.goes_on.grows c.centre_of_nine-2.result c.args.id (c.args.grain - 1) c.args.grain 0 (2 ^ c.args.j) c.args.j up
+    c.requires.centre.is_square c.requires.centre.in_time sum (λ p a b shows. c.centre_of_nine-2.ensures.shows next p a b refl shows)
 
 pub pair-returns-clause-shows : goal.pair-returns-clause-shows
 pair-returns-clause-shows g t c = λ next p a b e north south.
@@ -109,7 +83,7 @@ pub trio-returns-clause-shows : goal.trio-returns-clause-shows
 trio-returns-clause-shows g t c = λ next p a b e two.
     let k = c.args.grain in
     let s0 = c.args.self.now in
-    let s1 = c.between.new.self in
+    let s1 = c.middle_of_row.new.self in
     let s2 = c.first_centre.new.self in
     let s3 = c.first_centre-2.new.self in
     let s4 = c.first_centre-3.new.self in
@@ -131,16 +105,14 @@ trio-returns-clause-shows g t c = λ next p a b e two.
 
 pub trio-returns-clause-goes_on : goal.trio-returns-clause-goes_on
 trio-returns-clause-goes_on g t c =
-    goes_on_again _ c.args.self.now c.first_centre-2.new.self c.first_centre-3.new.self
-    (goes_on_again _ c.args.self.now c.first_centre.new.self c.first_centre-2.new.self
-    (goes_on_again _ c.args.self.now c.between.new.self c.first_centre.new.self c.in_ok-middle.ensures.goes_on c.in_ok-west.ensures.goes_on) c.in_ok-middle-2.ensures.goes_on) c.in_ok-east.ensures.goes_on
+    four_go_on c.in_ok-middle.ensures.goes_on c.in_ok-west.ensures.goes_on c.in_ok-middle-2.ensures.goes_on c.in_ok-east.ensures.goes_on
 
 pub nine-trio-requires-3 : goal.nine-trio-requires-3
 nine-trio-requires-3 g t c κs within =
     let s0 = c.args.self.now.nodes in
     let s1 = c.trio.new.self.nodes in
-    let s2 = c.halfway.new.self.nodes in
-    let s3 = c.halfway-2.new.self.nodes in
+    let s2 = c.middle_of_column.new.self.nodes in
+    let s3 = c.middle_of_column-2.new.self.nodes in
     let s4 = c.trio-2.new.self.nodes in
     let one : c.args.grain + 1 ≡ suc c.args.grain = omega arith in
     let grows = grows_on s0 s3 s4 (grows_on s0 s2 s3 (grows_on s0 s1 s2 c.in_ok-north.ensures.goes_on.grows c.in_ok-west.ensures.goes_on.grows) c.in_ok-east.ensures.goes_on.grows) c.in_ok-middle.ensures.goes_on.grows in
@@ -154,8 +126,8 @@ nine-returns-clause-shows g t c = λ next p a b e shows.
     let k = c.args.grain in
     let s0 = c.args.self.now.nodes in
     let s1 = c.trio.new.self.nodes in
-    let s2 = c.halfway.new.self.nodes in
-    let s3 = c.halfway-2.new.self.nodes in
+    let s2 = c.middle_of_column.new.self.nodes in
+    let s3 = c.middle_of_column-2.new.self.nodes in
     let s4 = c.trio-2.new.self.nodes in
     let s5 = c.trio-3.new.self.nodes in
     let g1 = c.in_ok-north.ensures.goes_on in
@@ -187,8 +159,8 @@ pub nine-returns-clause-squares : goal.nine-returns-clause-squares
 nine-returns-clause-squares g t c =
     let k = suc c.args.grain in
     let s1 = c.trio.new.self.nodes in
-    let s2 = c.halfway.new.self.nodes in
-    let s3 = c.halfway-2.new.self.nodes in
+    let s2 = c.middle_of_column.new.self.nodes in
+    let s3 = c.middle_of_column-2.new.self.nodes in
     let s4 = c.trio-2.new.self.nodes in
     let s5 = c.trio-3.new.self.nodes in
     let g5 = c.in_ok-south.ensures.goes_on.grows in
@@ -201,13 +173,10 @@ nine-returns-clause-squares g t c =
 
 pub nine-returns-clause-goes_on : goal.nine-returns-clause-goes_on
 nine-returns-clause-goes_on g t c =
-    goes_on_again _ c.args.self.now c.trio-2.new.self c.trio-3.new.self
-    (goes_on_again _ c.args.self.now c.halfway-2.new.self c.trio-2.new.self
-    (goes_on_again _ c.args.self.now c.halfway.new.self c.halfway-2.new.self
-    (goes_on_again _ c.args.self.now c.trio.new.self c.halfway.new.self c.in_ok-north.ensures.goes_on c.in_ok-west.ensures.goes_on) c.in_ok-east.ensures.goes_on) c.in_ok-middle.ensures.goes_on) c.in_ok-south.ensures.goes_on
+    goes_on_again _ _ _ _ (four_go_on c.in_ok-north.ensures.goes_on c.in_ok-west.ensures.goes_on c.in_ok-east.ensures.goes_on c.in_ok-middle.ensures.goes_on) c.in_ok-south.ensures.goes_on
 
-pub by_nine-pair-requires-2 : goal.by_nine-pair-requires-2
-by_nine-pair-requires-2 g t c κs within =
+pub centre_of_nine-pair-requires-2 : goal.centre_of_nine-pair-requires-2
+centre_of_nine-pair-requires-2 g t c κs within =
     let s1 = c.nine.new.self.nodes in
     let s2 = c.pair.new.self.nodes in
     let sound = c.in_ok-rows.ensures.goes_on.grows.sound in
@@ -218,8 +187,8 @@ by_nine-pair-requires-2 g t c κs within =
     let south : AreThree s2 k rows.south = three_are s1 s2 sound grows k rows.south c.in_ok-rows.ensures.squares.south in
     search rules
 
-pub by_nine-join-requires : goal.by_nine-join-requires
-by_nine-join-requires g t c =
+pub centre_of_nine-join-requires : goal.centre_of_nine-join-requires
+centre_of_nine-join-requires g t c =
     let s2 = c.pair.new.self.nodes in
     let s3 = c.pair-2.new.self.nodes in
     let sound = c.in_ok-nw.ensures.goes_on.grows.sound in
@@ -233,8 +202,8 @@ by_nine-join-requires g t c =
       is_se = c.in_ok-sw.ensures.east;
     }
 
-pub by_nine-returns-clause-shows : goal.by_nine-returns-clause-shows
-by_nine-returns-clause-shows g t c = λ next p a b e shows.
+pub centre_of_nine-returns-clause-shows : goal.centre_of_nine-returns-clause-shows
+centre_of_nine-returns-clause-shows g t c = λ next p a b e shows.
     let k = c.args.grain in
     let s1 = c.nine.new.self.nodes in
     let s2 = c.pair.new.self.nodes in
@@ -256,8 +225,6 @@ by_nine-returns-clause-shows g t c = λ next p a b e shows.
     (three_stay s1 s2 g1.grows.sound g2.grows (suc k) rows.south mid x (y +ℤ side (suc k) +ℤ side (suc k)) nine.at_south) in
     c.join.ensures.shows last (a +ℤ side (suc k)) (b +ℤ side (suc k)) (four_at k s2 s3 g2.grows.sound g3.grows c.in_ok-nw.nw c.in_ok-nw.ne c.in_ok-sw.sw c.in_ok-sw.se last a b north south)
 
-pub by_nine-returns-clause-goes_on : goal.by_nine-returns-clause-goes_on
-by_nine-returns-clause-goes_on g t c =
-    goes_on_again _ c.args.self.now c.pair-2.new.self c.join.new.self
-    (goes_on_again _ c.args.self.now c.pair.new.self c.pair-2.new.self
-    (goes_on_again _ c.args.self.now c.nine.new.self c.pair.new.self c.in_ok-rows.ensures.goes_on c.in_ok-nw.ensures.goes_on) c.in_ok-sw.ensures.goes_on) c.join.ensures.goes_on
+pub centre_of_nine-returns-clause-goes_on : goal.centre_of_nine-returns-clause-goes_on
+centre_of_nine-returns-clause-goes_on g t c =
+    four_go_on c.in_ok-rows.ensures.goes_on c.in_ok-nw.ensures.goes_on c.in_ok-sw.ensures.goes_on c.join.ensures.goes_on

@@ -7,8 +7,8 @@ decreases-centre g l = 10 * l.grain + 5
 abbrev pub decreases-new_centre : goal.decreases-new_centre
 decreases-new_centre g l = 10 * l.grain + 4
 
-abbrev pub decreases-by_nine : goal.decreases-by_nine
-decreases-by_nine g l = 10 * l.grain + 13
+abbrev pub decreases-centre_of_nine : goal.decreases-centre_of_nine
+decreases-centre_of_nine g l = 10 * l.grain + 13
 
 abbrev pub decreases-nine : goal.decreases-nine
 decreases-nine g l = 10 * l.grain + 12

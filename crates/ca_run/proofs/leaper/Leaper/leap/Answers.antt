@@ -18,5 +18,5 @@ returns-clause-cells g c =
     let one : k + 1 ≡ suc k = omega arith in
     let s2 = c.centre.new.self.nodes in
     let centred = subst (λ r. IsCentre (g.A.Automaton.next_of r) s2 c.in_ok-wide.wide.root k c.args.j c.in_ok-root.root) c.in_ok-wide.ensures.goes_on.rule c.in_ok-root.ensures.centre in
-    leap_cells next quiet c.args.self.now.nodes c.padded.new.self.nodes s2 c.in_ok-wide.ensures.goes_on.grows.sound c.in_ok-root.ensures.goes_on.grows c.args.tree c.in_ok-wide.wide _ k c.args.j c.in_ok-root.root
+    leap_cells next quiet c.args.self.now.nodes c.padded_tree.new.self.nodes s2 c.in_ok-wide.ensures.goes_on.grows.sound c.in_ok-root.ensures.goes_on.grows c.args.tree c.in_ok-wide.wide _ k c.args.j c.in_ok-root.root
     some low time c.in_ok-wide.ensures.tree level c.in_ok-wide.ensures.cells centred refl one

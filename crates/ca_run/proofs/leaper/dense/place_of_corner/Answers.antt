@@ -8,4 +8,4 @@ returns-clause-value c =
     let lower : c.args.level - 4 ≤ 16 = omega (arith, c.requires.greatest) in
     let low : 2 ^ (c.args.level - 4) ≤ 2 ^ 16 = pow_mono lower in
     let high : 2 ^ c.args.level ≤ 2 ^ 16 = pow_mono c.requires.greatest in
-    omega (arith, ints, c.behind.ensures, low, high)
+    omega (arith, ints, c.distance.ensures, low, high)

@@ -4,7 +4,7 @@ use Rattle.ca_macro.specs.declared.fault.MacroFault.TheVariants.{Memory}
 use Rattle.ca_macro.specs.Nodes.{Parts}
 use Rattle.ca_macro.specs.Shown.{square_of, squares_of}
 use Rattle.ca_macro.specs.inner.Reading.{Draws}
-use Rattle.ca_macro.proofs.KeptSquares.{with_square, empties_stay, parts_four, parts_joined, part_named}
+use Rattle.ca_macro.proofs.KeptSquares.{with_square, empties_stay, parts_four, parts_joined, parts_follow}
 use Rattle.ca_macro.proofs.Saying.{passed_on, bad_parts}
 use Rattle.ca_macro.proofs.read.squares.Squares.add_parts.Goals as goal
 
@@ -15,12 +15,8 @@ returns-in_err-parts-clause-fault c =
 
 pub returns-in_err-empty-clause-fault : goal.returns-in_err-empty-clause-fault
 returns-in_err-empty-clause-fault c =
-    let old = c.args.store.now in
-    let low = c.args.numbers.level - 1 in
-    let parts = c.in_ok-parts.parts in
-    passed_on _ Memory _ c.from_residual-in_err-empty.ensures.1 (λ nodes nw ne sw se h keeps.
-    let are = c.in_ok-parts.ensures.parts old nodes nw ne sw se h keeps in
-    (c.requires.level, (part_named old nodes low nw parts.nw are.0, (part_named old nodes low ne parts.ne are.1, (part_named old nodes low sw parts.sw are.2, (part_named old nodes low se parts.se are.3, tt))))))
+    passed_on _ Memory _ c.from_residual-in_err-empty.ensures.1
+    (λ nodes nw ne sw se h keeps. parts_follow c.args.store.now nodes _ nw ne sw se _ _ _ _ c.requires.level (c.in_ok-parts.ensures.parts c.args.store.now nodes nw ne sw se h keeps))
 
 pub join-requires : goal.join-requires
 join-requires c =
@@ -38,20 +34,12 @@ join-requires c =
 
 pub returns-in_err-root-clause-fault : goal.returns-in_err-root-clause-fault
 returns-in_err-root-clause-fault c =
-    let old = c.args.store.now in
-    let low = c.args.numbers.level - 1 in
-    let parts = c.in_ok-parts.parts in
-    passed_on _ Memory _ c.from_residual-in_err-root.ensures.1 (λ nodes nw ne sw se h keeps.
-    let are = c.in_ok-parts.ensures.parts old nodes nw ne sw se h keeps in
-    (c.requires.level, (part_named old nodes low nw parts.nw are.0, (part_named old nodes low ne parts.ne are.1, (part_named old nodes low sw parts.sw are.2, (part_named old nodes low se parts.se are.3, tt))))))
+    passed_on _ Memory _ c.from_residual-in_err-root.ensures.1
+    (λ nodes nw ne sw se h keeps. parts_follow c.args.store.now nodes _ nw ne sw se _ _ _ _ c.requires.level (c.in_ok-parts.ensures.parts c.args.store.now nodes nw ne sw se h keeps))
 
 pub returns-then-is_err-clause-fault : goal.returns-then-is_err-clause-fault
 returns-then-is_err-clause-fault c = λ nodes nw ne sw se h keeps.
-    let old = c.args.store.now in
-    let low = c.args.numbers.level - 1 in
-    let parts = c.in_ok-parts.parts in
-    let are = c.in_ok-parts.ensures.parts old nodes nw ne sw se h keeps in
-    (c.requires.level, (part_named old nodes low nw parts.nw are.0, (part_named old nodes low ne parts.ne are.1, (part_named old nodes low sw parts.sw are.2, (part_named old nodes low se parts.se are.3, tt)))))
+    parts_follow c.args.store.now nodes _ nw ne sw se _ _ _ _ c.requires.level (c.in_ok-parts.ensures.parts c.args.store.now nodes nw ne sw se h keeps)
 
 pub returns-then-is_err-clause-grows : goal.returns-then-is_err-clause-grows
 returns-then-is_err-clause-grows c = grows_on c.args.store.now c.square.new.store c.join.new.self c.square.ensures.grows c.join.ensures.grows
@@ -81,7 +69,7 @@ returns-clause-added c = λ nodes nw ne sw se h keeps.
     in
     let before = c.args.self.now.squares.items in
     let items = c.push.ensures.items ∙ ap (λ b. if b then before ++ record { root = id; level = c.args.numbers.level } ∷ [] else before) c.if-is_err.ensures.negation in (
-      (c.requires.level, (part_named old nodes low nw parts.nw are.0, (part_named old nodes low ne parts.ne are.1, (part_named old nodes low sw parts.sw are.2, (part_named old nodes low se parts.se are.3, tt))))),
+      parts_follow old nodes _ nw ne sw se _ _ _ _ c.requires.level are,
       with_square old new (grows_on old mid new c.square.ensures.grows c.join.ensures.grows) nodes c.args.self.now (record { squares = c.push.new.self; empties = c.square.new.self }) node (record { root = id; level = c.args.numbers.level }) h
           items (empties_stay mid new c.square.ensures.grows.sound c.join.ensures.grows c.square.new.self.ids.items c.in_ok-empty.ensures.empties) refl draws,
     )

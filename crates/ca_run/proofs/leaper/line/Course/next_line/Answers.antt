@@ -2,7 +2,7 @@ use Rattle.std.proofs.Common.{◌≡◌, ℕ, ◌+◌, ◌<◌, max, length, get
 use Rattle.std.specs.Prelude.{pos, ◌-ℤ◌, [], ◌∷◌}
 use Rattle.std.proofs.lemmas.Int.{ints}
 use Rattle.std.proofs.lemmas.List.{length-append, length-replicate}
-use Rattle.ca_run.specs.inner.Grid.{word_in, round_corner, IsMiddle}
+use Rattle.ca_run.specs.inner.Grid.{word_in, corner_words, IsMiddle}
 use Rattle.ca_run.proofs.LineWords.{line_begins, line_grows, line_ends, square_is}
 use Rattle.ca_run.proofs.leaper.line.Course.next_line.Goals as goal
 
@@ -14,7 +14,7 @@ words-init c = record {
   old_south = c.column_two_before-old_west.ensures.south;
   size = ap length c.empty-line.ensures ∙ length-replicate c.start-start.result 0;
   most = omega (arith, c.start-start.ensures.least);
-  middles = subst (λ line. (k : ℕ) → k < c.start-start.result → IsMiddle c.args.masks c.args.n (round_corner c.args.self.now.here.north.now c.args.self.now.here.south.now (pos k)) (get_or line k 0))
+  middles = subst (λ line. (k : ℕ) → k < c.start-start.result → IsMiddle c.args.masks c.args.n (corner_words c.args.self.now.here.north.now c.args.self.now.here.south.now (pos k)) (get_or line k 0))
       (sym c.empty-line.ensures) (line_begins c.args.masks c.args.n c.requires.few _ _ c.start-start.result c.start-start.ensures.north c.start-start.ensures.south);
 }
 
@@ -30,7 +30,7 @@ words-preserved c =
       old_south = c.column_before-old_east.ensures.south ∙ ap (λ u. word_in c.args.self.now.before.south.now (u -ℤ pos 1)) back;
       size = ap length longer ∙ length-append c.words.line (c.next_word-word.result ∷ []) ∙ omega (arith, c.words.invariant.size);
       most = omega (arith, c.words-test.true, c.len-i-end.ensures);
-      middles = subst (λ line. (k : ℕ) → k < i + 1 → IsMiddle c.args.masks c.args.n (round_corner c.args.self.now.here.north.now c.args.self.now.here.south.now (pos k)) (get_or line k 0))
+      middles = subst (λ line. (k : ℕ) → k < i + 1 → IsMiddle c.args.masks c.args.n (corner_words c.args.self.now.here.north.now c.args.self.now.here.south.now (pos k)) (get_or line k 0))
           (sym longer) (line_grows c.args.masks c.args.n c.requires.few _ _ c.words.line c.next_word-word.result i c.beside.result c.words.invariant.size c.words.invariant.middles
           (c.beside.ensures ∙ square_is _ _ (pos i) _ _ _ _ c.words.invariant.west_north c.column-east.ensures.north c.words.invariant.west_south c.column-east.ensures.south) c.next_word-word.ensures);
     }

@@ -1,6 +1,6 @@
 use Rattle.std.proofs.Common.{◌≡◌, ℕ, suc, ◌<◌, ◌≤◌, max, length, get_or}
 use Rattle.std.specs.Prelude.{pos, ◌-ℤ◌}
-use Rattle.ca_run.specs.inner.Grid.{word_in, round_corner, IsMiddle}
+use Rattle.ca_run.specs.inner.Grid.{word_in, corner_words, IsMiddle}
 use Rattle.ca_run.proofs.leaper.line.Course.next_line.Given as goal
 
 -- the words before this place, and the row so far
@@ -12,5 +12,5 @@ invariant-words l = record {
   old_south : l.old_west.south ≡ word_in l.fn.self.before.south.now (pos l.i -ℤ pos 1 -ℤ pos 1);
   size : length l.line ≡ l.i;
   most : l.i ≤ suc (max (length l.fn.self.here.north.now) (length l.fn.self.here.south.now));
-  middles : (k : ℕ) → k < l.i → IsMiddle l.fn.masks l.fn.n (round_corner l.fn.self.here.north.now l.fn.self.here.south.now (pos k)) (get_or l.line k 0);
+  middles : (k : ℕ) → k < l.i → IsMiddle l.fn.masks l.fn.n (corner_words l.fn.self.here.north.now l.fn.self.here.south.now (pos k)) (get_or l.line k 0);
 }

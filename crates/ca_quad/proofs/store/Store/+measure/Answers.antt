@@ -1,0 +1,19 @@
+use Rattle.ca_quad.specs.inner.Measure.{IsMeasureOf}
+use Rattle.ca_quad.proofs.Measures.{measure_four, measure_parts, one_more}
+use Rattle.ca_quad.proofs.store.Store.+measure.Goals as goal
+
+pub returns-in-Four-clause-measure : goal.returns-in-Four-clause-measure
+returns-in-Four-clause-measure g t c =
+    measure_four g.M.Measure.is c.args.self.now c.args.id c.in-Four.nw c.in-Four.ne c.in-Four.sw c.in-Four.se c.in-Four.ensures.shows
+    c.of_cell.result c.of_cell-in-Four.result c.of_cell-in-Four-2.result c.of_cell-in-Four-3.result c.of_four.result c.of_cell.ensures c.of_cell-in-Four.ensures c.of_cell-in-Four-2.ensures c.of_cell-in-Four-3.ensures c.of_four.ensures
+
+pub returns-in_ok-put-in-Parts-clause-measure : goal.returns-in_ok-put-in-Parts-clause-measure
+returns-in_ok-put-in-Parts-clause-measure g t c =
+    measure_parts g.M.Measure.is c.args.self.now c.args.id c.in-Parts.level c.in-Parts.nw c.in-Parts.ne c.in-Parts.sw c.in-Parts.se c.in-Parts.ensures.shows c.in-Parts.ensures.whole
+    c.half_side.result c.half_side.ensures.half c.in_ok-nw-in-Parts.nw c.in_ok-ne-in-Parts.ne c.in_ok-sw-in-Parts.sw c.in_ok-se-in-Parts.se c.of_four-measure.result
+    c.in_ok-nw-in-Parts.ensures.measure c.in_ok-ne-in-Parts.ensures.measure c.in_ok-sw-in-Parts.ensures.measure c.in_ok-se-in-Parts.ensures.measure c.of_four-measure.ensures
+
+pub returns-in_ok-put-in-Parts-clause-measures : goal.returns-in_ok-put-in-Parts-clause-measures
+returns-in_ok-put-in-Parts-clause-measures g t c =
+    one_more (IsMeasureOf g.M.Measure.is c.args.self.now) c.measure-in-Parts-3.new.measures c.put.new.self c.args.id c.of_four-measure.result c.in_ok-se-in-Parts.ensures.measures
+    (returns-in_ok-put-in-Parts-clause-measure g t c) c.in_ok-put-in-Parts.ensures

@@ -1,0 +1,7 @@
+-- Values that belong to squares.
+use Rattle.std.specs.Prelude.{ℕ, ◌==◌, List, Option}
+use Rattle.std.specs.Map.{lookup}
+
+-- the value of the square with this id, if it has one
+abbrev pub square_value : {V : Type 0} → List (ℕ × V) → ℕ → Option V
+square_value values id = lookup (λ (other : ℕ). id == other) values

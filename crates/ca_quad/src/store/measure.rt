@@ -1,0 +1,84 @@
+//! The one walk over a square that looks at each square in it once.
+
+ghost use Rattle.std.specs.Prelude.{ℕ, ◌≤◌, ◌^◌, List, IfSome, IfOk, OnOk};
+ghost use Rattle.ca_quad.specs.declared.node.Node.{Node as Kept};
+ghost use Rattle.ca_quad.specs.Squares.{dot};
+ghost use Rattle.ca_quad.specs.Sound.{IsSound};
+ghost use Rattle.ca_quad.specs.Trees.{IsIn};
+ghost use Rattle.ca_quad.specs.inner.Measure.{IsJoined, IsMeasureOf, AreMeasures};
+ghost use Rattle.ca_quad.specs.inner.Numbered.{IsNumberOf};
+
+use super::Store;
+use super::read::half_side;
+use crate::id::Id;
+use crate::square::Square;
+use crate::square_map::SquareMap;
+use ca_plane::Memory;
+
+// What can be found out of a square from the same of its four parts.
+pub(crate) trait Measure: Copy {
+    // Whether it is the one of these cells, of this side.
+    ghost is: { (ℕ → ℕ → ℕ) → ℕ → Self → Type 0 };
+
+    // That of one cell.
+    fn of_cell(state: u8) -> Self
+        ensures { is (dot state) 1 result };
+
+    // That of four squares of this side that lie together.
+    fn of_four(side: u128, nw: Self, ne: Self, sw: Self, se: Self) -> Self
+        requires { side ≤ 2 ^ 124 }
+        ensures { IsJoined is side nw ne sw se result };
+
+    // That of a square of two states whose cells are the digits of this number, where it is known without its parts.
+    fn of_number(cells: u64) -> Option<Self>
+        ensures { (nodes : List Kept) (id : ℕ) → IsSound nodes → IsIn nodes id → IsNumberOf nodes id cells
+            → IfSome result (IsMeasureOf is nodes id) };
+}
+
+impl Store {
+    // What is found out of a square, given that of some of its squares.
+    pub(super) fn measure<M: Measure>(
+        &self,
+        id: Id,
+        measures: &mut SquareMap<M>,
+    ) -> Result<M, Memory>
+        requires known { IsIn self.now id }
+        requires measures { AreMeasures M.is self.now measures.old }
+        ensures measure { IfOk result (IsMeasureOf M.is self.now id) }
+        ensures measures { OnOk result (AreMeasures M.is self.now measures.new) }
+    {
+        if let Some(measure) = self.number_measure(id) {
+            return Ok(measure);
+        }
+        match self.square(id) {
+            Square::Four(nw, ne, sw, se) => Ok(M::of_four(
+                1,
+                M::of_cell(nw),
+                M::of_cell(ne),
+                M::of_cell(sw),
+                M::of_cell(se),
+            )),
+            Square::Parts(level, nw, ne, sw, se) => {
+                if let Some(measure) = measures.get(id) {
+                    return Ok(measure);
+                }
+                let nw = self.measure(nw, measures)?;
+                let ne = self.measure(ne, measures)?;
+                let sw = self.measure(sw, measures)?;
+                let se = self.measure(se, measures)?;
+                let measure = M::of_four(half_side(level), nw, ne, sw, se);
+                measures.put(id, measure)?;
+                Ok(measure)
+            }
+        }
+    }
+
+    // What the number of a square's cells tells, where it has one.
+    fn number_measure<M: Measure>(&self, id: Id) -> Option<M>
+        requires { IsIn self.now id }
+        ensures { IfSome result (IsMeasureOf M.is self.now id) }
+    {
+        let cells = self.number(id)?;
+        M::of_number(cells)
+    }
+}

@@ -1,5 +1,0 @@
-use Rattle.ca_run.proofs.Words.{words_halfway}
-use Rattle.ca_run.proofs.leaper.words.Words.halfway.Goals as goal
-
-pub returns : goal.returns
-returns c = words_halfway c.args.north c.args.south

@@ -1,0 +1,98 @@
+//! Squares of 32 by 32 cells of two states, by nine squares that overlap, each half as wide.
+
+ghost use Rattle.std.specs.Prelude.{ℕ, ◌+◌, ◌≤◌, ℤ, pos, ◌+ℤ◌, List};
+ghost use Rattle.ca_plane.specs.Generations.{cells_after};
+ghost use Rattle.ca_run.specs.inner.Words.{WordsShow, TwoWordsShow, ThreeWordsShow, NineWordsShow, WideSquareShows};
+ghost use Rattle.ca_run.specs.Masks.{GoesBy};
+
+use super::words::Words;
+
+/// The four quarters of a square of 32 by 32 cells.
+#[derive(Clone, Copy, Drop)]
+pub(crate) struct WideSquare {
+    pub nw: Words,
+    pub ne: Words,
+    pub sw: Words,
+    pub se: Words,
+}
+
+/// Three words side by side.
+#[derive(Clone, Copy, Drop)]
+pub(crate) struct ThreeWords {
+    pub west: u64,
+    pub middle: u64,
+    pub east: u64,
+}
+
+/// Nine words, in three rows.
+#[derive(Clone, Copy, Drop)]
+pub(crate) struct NineWords {
+    pub north: ThreeWords,
+    pub middle: ThreeWords,
+    pub south: ThreeWords,
+}
+
+impl WideSquare {
+    // The 16 by 16 cells in the middle, so many generations on and then so many more, at most 4 each. The rule goes by
+    // these masks.
+    pub(super) fn centre(&self, masks: (u16, u16), first: u8, more: u8) -> Words
+        requires first { first ≤ 4 }
+        requires more { more ≤ 4 }
+        ensures { (next : List ℕ → ℕ) (p : ℤ → ℤ → ℕ) (a b : ℤ) → GoesBy next masks → WideSquareShows self.now p a b
+            → WordsShow result (cells_after next p (first + more)) (a +ℤ pos 8) (b +ℤ pos 8) }
+    {
+        let nine = self.nine(masks, first);
+        let (nw, ne) = pair(&nine.north, &nine.middle, masks, more);
+        let (sw, se) = pair(&nine.middle, &nine.south, masks, more);
+        Words { nw, ne, sw, se }
+    }
+
+    // The centres of the nine squares.
+    fn nine(&self, masks: (u16, u16), n: u8) -> NineWords
+        requires { n ≤ 4 }
+        ensures { (next : List ℕ → ℕ) (p : ℤ → ℤ → ℕ) (a b : ℤ) → GoesBy next masks → WideSquareShows self.now p a b
+            → NineWordsShow result (cells_after next p n) (a +ℤ pos 4) (b +ℤ pos 4) }
+    {
+        let west = Words::middle_of_column(self.nw, self.sw);
+        let east = Words::middle_of_column(self.ne, self.se);
+        NineWords {
+            north: three_centres(self.nw, self.ne, masks, n),
+            middle: three_centres(west, east, masks, n),
+            south: three_centres(self.sw, self.se, masks, n),
+        }
+    }
+}
+
+// The centres of two squares side by side, and of the one between them.
+fn three_centres(west: Words, east: Words, masks: (u16, u16), n: u8) -> ThreeWords
+    requires { n ≤ 4 }
+    ensures { (next : List ℕ → ℕ) (p : ℤ → ℤ → ℕ) (a b : ℤ) → GoesBy next masks → WordsShow west p a b → WordsShow east p (a +ℤ pos 16) b
+        → ThreeWordsShow result (cells_after next p n) (a +ℤ pos 4) (b +ℤ pos 4) }
+{
+    ThreeWords {
+        west: west.centre(masks, n),
+        middle: Words::middle_of_row(west, east).centre(masks, n),
+        east: east.centre(masks, n),
+    }
+}
+
+// The centres of two squares that overlap by half, made of two rows of three.
+fn pair(north: &ThreeWords, south: &ThreeWords, masks: (u16, u16), n: u8) -> (u64, u64)
+    requires { n ≤ 4 }
+    ensures { (next : List ℕ → ℕ) (p : ℤ → ℤ → ℕ) (a b : ℤ) → GoesBy next masks → ThreeWordsShow north.now p a b → ThreeWordsShow south.now p a (b +ℤ pos 8)
+        → TwoWordsShow result (cells_after next p n) (a +ℤ pos 4) (b +ℤ pos 4) }
+{
+    let west = Words {
+        nw: north.west,
+        ne: north.middle,
+        sw: south.west,
+        se: south.middle,
+    };
+    let east = Words {
+        nw: north.middle,
+        ne: north.east,
+        sw: south.middle,
+        se: south.east,
+    };
+    (west.centre(masks, n), east.centre(masks, n))
+}
