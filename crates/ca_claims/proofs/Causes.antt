@@ -53,7 +53,7 @@ use Rattle.ca_claims.specs.inner.Found.{IsFound}
 use Rattle.ca_claims.specs.inner.Refusals.{IsRefusal, IsOnVerdict, IsJudgedOn}
 use Rattle.ca_claims.specs.inner.Patterns.{items, IsEachOnce, FirstBadAt, IsReadFrom, IsUnreadFor, HasName, rule_of, IsRuledAs, ShowsLarge, ShowsSmall, AreOfOneRule, AreMixed, Disagree, AreBoth}
 use Rattle.ca_claims.proofs.ClaimKinds.{asks_bounded, asks_moved, paths_of}
-use Rattle.ca_claims.proofs.PatternsRead.{fault_on, IsReadAt, IsRuledAt, path_has_fault, path_has_rule, path_reads, ruled_at, ruled_has_rule, ruled_is_good, ruled_is_large, ruled_is_many, ruled_is_small, ruled_picture, ruled_reads, tree_shows, wanted}
+use Rattle.ca_claims.proofs.PatternsRead.{fault_on, IsReadAt, IsRuledAt, path_has_fault, path_has_rule, path_reads, ruled_path_reads, ruled_at, ruled_has_rule, ruled_is_good, ruled_is_large, ruled_is_many, ruled_is_small, ruled_picture, ruled_reads, tree_shows, wanted}
 use Rattle.ca_claims.proofs.Shown.{few_shown}
 use Rattle.ca_claims.proofs.Told.{level_is_low}
 use Rattle.ca_claims.proofs.Parts.{first_part, zip_part}
@@ -122,18 +122,18 @@ module _ (files : List (List ℕ × List ℕ)) (rules : List (List ℕ)) where
   cause_twice path NoFile (inl (inl none)) = inl (inl none)
   cause_twice path NoFile (inl (inr none)) = absurd none
   cause_twice path NoFile (inr none) = inr none
-  cause_twice path (BadTable fault) (all, there, first) = ((all.0, (all.0, tt)), there, first)
-  cause_twice path (BadPattern fault) (tables, are, all, inl bad) = (tables, are, (all.0, (all.0, tt)), inl bad)
-  cause_twice path (BadPattern fault) (tables, are, all, inr none) = absurd none.1
-  cause_twice path (BadRule fault) (tables, are, all, inl bad) = (tables, are, (all.0, (all.0, tt)), inl bad)
-  cause_twice path (BadRule fault) (tables, are, all, inr none) = absurd none.1
-  cause_twice path StateTooLarge (tables, are, all, inl large) = (tables, are, (all.0, (all.0, tt)), inl large)
-  cause_twice path StateTooLarge (tables, are, all, inr none) = absurd none
-  cause_twice path MixedRules (tables, are, all, inl (inl mixed)) = (tables, are, (all.0, (all.0, tt)), inl (inl mixed))
-  cause_twice path MixedRules (tables, are, all, inl (inr none)) = absurd none
-  cause_twice path MixedRules (tables, are, all, inr none) = absurd none
+  cause_twice path (BadTable fault) ((all, there), first) = (((all.0, (all.0, tt)), there), first)
+  cause_twice path (BadPattern fault) (tables, (are, all), inl bad) = (tables, (are, (all.0, (all.0, tt))), inl bad)
+  cause_twice path (BadPattern fault) (tables, (are, all), inr none) = absurd none.1
+  cause_twice path (BadRule fault) (tables, (are, all), inl bad) = (tables, (are, (all.0, (all.0, tt))), inl bad)
+  cause_twice path (BadRule fault) (tables, (are, all), inr none) = absurd none.1
+  cause_twice path StateTooLarge (tables, (are, all), inl large) = (tables, (are, (all.0, (all.0, tt))), inl large)
+  cause_twice path StateTooLarge (tables, (are, all), inr none) = absurd none
+  cause_twice path MixedRules (tables, (are, all), inl (inl mixed)) = (tables, (are, (all.0, (all.0, tt))), inl (inl mixed))
+  cause_twice path MixedRules (tables, (are, all), inl (inr none)) = absurd none
+  cause_twice path MixedRules (tables, (are, all), inr none) = absurd none
   cause_twice path TooManyCells (cells, other, rule, (tables, are, good), some) = (cells, other, rule, (tables, are, judged_twice files tables path cells other rule good), some)
-  cause_twice path Memory (tables, are, all, first) = (tables, are, (all.0, (all.0, tt)), first)
+  cause_twice path Memory (tables, (are, all), first) = (tables, (are, (all.0, (all.0, tt))), first)
 
   pub cause_of_all : (each all : List (List ℕ)) (cause : Cause) → IsEachOnce each all → HasCause files rules each cause → HasCause files rules all cause
   cause_of_all each all cause (inl same) h = subst (λ l. HasCause files rules l cause) (sym same) h
@@ -218,8 +218,7 @@ module _ (files : List (List ℕ × List ℕ)) (every rules : List (List ℕ)) (
     unreadable fault line bad = record {
       holds = (
         tables,
-        are,
-        all_there files each there at,
+        (are, all_there files each there at),
         zip_first (λ path b. bytes_at files path ≡ Some b.now) (Reads files) (IsBadPattern files fault) (λ b. IsReadable b.now) (λ b. IsPatternFaultOn b.now fault line)
             (λ path b e reads. (b.now, e, reads)) (λ path b e wrong. (b.now, e, fault_on b.now fault line wrong)) each there at
             (first_part (λ b. IsReadable b.now) (λ b. IsPatternFaultOn b.now fault line) part there bad),
@@ -236,8 +235,7 @@ module _ (files : List (List ℕ × List ℕ)) (every rules : List (List ℕ)) (
     unread_for pattern_fault.Memory line bad = record {
       holds = (
         tables,
-        are,
-        all_there files each there at,
+        (are, all_there files each there at),
         zip_front (λ path b. bytes_at files path ≡ Some b.now) (WantsMemory files) (λ b. IsReadable b.now) (λ b. MayWantMemory b.now)
             (λ path b e reads. (b.now, e, wanted b.now reads)) (λ path b e wants. (b.now, e, wants)) each there at (first_part (λ b. IsReadable b.now) (λ b. MayWantMemory b.now) part there bad),
       );
@@ -247,7 +245,7 @@ module _ (files : List (List ℕ × List ℕ)) (every rules : List (List ℕ)) (
   -- memory is needed for patterns that were read
   pub read_wanting : (paths : List (List ℕ)) → AllByRecursion (Reads files) paths → FirstIs (Reads files) paths → HasCause files rules paths Memory
   read_wanting [] reads first = absurd first
-  read_wanting (p ∷ paths) reads first = (tables, are, there_all (p ∷ paths) reads, reads_want files p first)
+  read_wanting (p ∷ paths) reads first = (tables, (are, there_all (p ∷ paths) reads), reads_want files p first)
     where
       there_all : (ps : List (List ℕ)) → AllByRecursion (Reads files) ps → AllByRecursion (IsThere files) ps
       there_all [] all = tt
@@ -262,7 +260,7 @@ module _ (files : List (List ℕ × List ℕ)) (every rules : List (List ℕ)) (
         let at = zip_part (IsReadAt nodes files) (HasRule files tables) (IsUnnamed files tables fault) (HasName tables) (λ p. IsRuleFault p.rule_text.items tables fault)
         (λ path p at. path_has_rule nodes files path p at tables) (λ path p at. path_has_fault nodes files path p at tables fault) part each patterns read bad in
         record {
-          holds = (tables, are, zip_left (IsReadAt nodes files) (Reads files) (path_reads nodes files) each patterns read, first_part (HasRule files tables) (IsUnnamed files tables fault) part each at);
+          holds = (tables, (are, zip_left (IsReadAt nodes files) (Reads files) (path_reads nodes files) each patterns read), first_part (HasRule files tables) (IsUnnamed files tables fault) part each at);
           on = (refl, tables, are, at);
         }
 
@@ -280,8 +278,7 @@ module _ (files : List (List ℕ × List ℕ)) (every rules : List (List ℕ)) (
           record {
             holds = (
               tables,
-              are,
-              zip_left At (HasRule files tables) (λ path r is. ruled_has_rule nodes files path tables r is) paths patterns ruled,
+              (are, zip_left At (HasRule files tables) (λ path r is. ruled_has_rule nodes files path tables r is) paths patterns ruled),
               some_first (IsSmall files tables) (IsLarge files tables) paths (first_part (IsSmall files tables) (IsLarge files tables) part paths at),
             );
             on = (refl, tables, are, at);
@@ -324,7 +321,7 @@ module _ (files : List (List ℕ × List ℕ)) (every rules : List (List ℕ)) (
         → IsRefusal files every rules paths (disagreement_refusal why)
     disagreed paths patterns (Large part) ruled h = too_large paths (items patterns) ruled part h
     disagreed paths patterns Mixed ruled h =
-        record { holds = (tables, are, all_small paths (items patterns) ruled h.0, other_rules paths (items patterns) ruled h.1); on = inl refl }
+        record { holds = (tables, (are, all_small paths (items patterns) ruled h.0), other_rules paths (items patterns) ruled h.1); on = inl refl }
     disagreed paths patterns disagreement.Memory ruled h = record { holds = wanting paths patterns ruled; on = inr refl }
 
     -- ---- the pictures that the files mean
@@ -441,7 +438,7 @@ module _ (files : List (List ℕ × List ℕ)) (every rules : List (List ℕ)) (
 
   -- a claim that is judged may want memory
   good_reads : (path : List ℕ) (cells : Picture) (rule : RuleValue) → IsGood files tables path cells rule → Reads files path
-  good_reads path cells rule good = let read = good.ruled.1 in (read.bytes, read.at_path, read.readable)
+  good_reads path cells rule good = ruled_path_reads files tables path cells rule good.ruled
 
   memory_wanted : (paths : List (List ℕ)) (cells other : Picture) (rule : RuleValue) → AreGood files tables paths cells other rule → HasCause files rules paths Memory
   memory_wanted [] cells other rule judged = absurd judged
@@ -509,10 +506,13 @@ module _ (nodes : List Node) (counted : Bool) where
 -- so is its subject for a claim
 pub is_subject : (kind : Kind) (asks : Asks) (counted : Bool) (prepared : Prepared) → asks ≡ asks_of kind → HasGoodNumbers kind → (IsTrue counted ↔ IsCounted asks) → IsFit counted prepared
     → IsSubject prepared.leaper.nodes asks prepared.subject prepared.plane
-is_subject kind asks counted prepared same good counts fit = record { pattern = fit.pattern; other = fit.other; moved = moved prepared.plane fit.plane }
+is_subject kind asks counted prepared same good counts fit = record { pattern = fit.pattern; other = fit.other; moved = moved prepared.plane fit.plane; bounded = bounded }
   where
     nothing_or_anywhere : Nothing ≡ Anywhere → ⊥
     nothing_or_anywhere e = cc
+
+    bounded : IsBounded asks
+    bounded = subst IsBounded (sym same) (asks_bounded kind good)
 
     uncounted : IsFalse counted → asks.barred ≢ Anywhere
     uncounted never anywhere = true≢false (sym (counts.1 anywhere) ∙ never)
@@ -524,4 +524,4 @@ is_subject kind asks counted prepared same good counts fit = record { pattern = 
         (subst (λ a. a.dx ≡ pos 0) (sym same) unmoved.0, subst (λ a. a.dy ≡ pos 0) (sym same) unmoved.1, uncounted made)
     moved (Some p) made =
         let anywhere = counts.0 made.0 in
-        ((subst IsBounded (sym same) (asks_bounded kind good)).own (λ none. nothing_or_anywhere (sym none ∙ anywhere)), anywhere, made.1, made.2)
+        (bounded.own (λ none. nothing_or_anywhere (sym none ∙ anywhere)), anywhere, made.1, made.2)

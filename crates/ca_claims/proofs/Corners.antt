@@ -13,6 +13,7 @@ use Rattle.ca_quad.specs.Boxes as wide
 use Rattle.ca_macro.specs.Pattern.{AreInRange}
 use Rattle.ca_plane.specs.Limits.{IsInRange}
 use Rattle.ca_claims.specs.Text.{IsShift}
+use Rattle.ca_claims.specs.inner.Returns.{IsWide}
 use Rattle.ca_claims.specs.inner.Subjects.{HasLive}
 use Rattle.ca_claims.proofs.Searches.{search_within}
 
@@ -66,14 +67,14 @@ not_above : (a b : ℤ) → ((a ≤ℤ b → ⊥) → ⊥) → a ≤ℤ b
 not_above a b h = by_lt_z b a (λ less. absurd (h (λ le. omega (arith, ints, less, le)))) (λ other. omega (arith, ints, other))
 
 -- the corner of a least box lies where the live cells do: in range,
-pub corner_range : (p : Picture) (box : Bounds) → IsLeastBox p box → AreInRange (cell p) → IsInRange (record { y = box.y0; x = box.x0 })
+corner_range : (p : Picture) (box : Bounds) → IsLeastBox p box → AreInRange (cell p) → IsInRange (record { y = box.y0; x = box.x0 })
 corner_range p box least range =
     let left = range box.x0 least.left.0 least.left.1 in
     let top = range least.top.0 box.y0 least.top.1 in
     (left.0, left.1, top.2, top.3)
 
 -- or in the square of a plane
-pub corner_near : (q : ℤ → ℤ → ℕ) (box : WideBounds) → wide.IsLeastBox q box → ((x y : ℤ) → (IsInPlane (record { y = y; x = x }) → ⊥) → q x y ≡ 0)
+corner_near : (q : ℤ → ℤ → ℕ) (box : WideBounds) → wide.IsLeastBox q box → ((x y : ℤ) → (IsInPlane (record { y = y; x = x }) → ⊥) → q x y ≡ 0)
     → IsInPlane (record { y = box.y0; x = box.x0 })
 corner_near q box least near = (
   not_above _ _ (λ out. least.left.1 (near box.x0 least.left.0 (λ a. out a.0))),
@@ -81,3 +82,15 @@ corner_near q box least near = (
   not_above _ _ (λ out. least.top.1 (near least.top.0 box.y0 (λ a. out a.2))),
   not_above _ _ (λ out. least.top.1 (near least.top.0 box.y0 (λ a. out a.3))),
 )
+
+-- so its coordinates are those of a shift
+pub corner_shift : (p : Picture) (box : Bounds) → IsLeastBox p box → AreInRange (cell p) → IsShift box.x0 × IsShift box.y0
+corner_shift p box least range =
+    let here = corner_range p box least range in
+    ((omega (arith, ints, here), omega (arith, ints, here)), (omega (arith, ints, here), omega (arith, ints, here)))
+
+-- or of the square of a plane
+pub corner_wide : (q : ℤ → ℤ → ℕ) (box : WideBounds) → wide.IsLeastBox q box → ((x y : ℤ) → (IsInPlane (record { y = y; x = x }) → ⊥) → q x y ≡ 0) → IsWide box.x0 × IsWide box.y0
+corner_wide q box least near =
+    let here = corner_near q box least near in
+    ((omega (arith, ints, here), omega (arith, ints, here)), (omega (arith, ints, here), omega (arith, ints, here)))

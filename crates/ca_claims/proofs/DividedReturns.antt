@@ -7,6 +7,7 @@ use Rattle.ca_plane.specs.Plane.{Picture, cell, shifted}
 use Rattle.ca_plane.specs.Generations.{after, IsAfter}
 use Rattle.ca_quad.specs.declared.node.Node.{Node}
 use Rattle.ca_quad.specs.declared.tree.Tree.{Tree}
+use Rattle.ca_quad.specs.Trees as trees
 use Rattle.ca_quad.proofs.Growth.{below_or_not}
 use Rattle.ca_claims.specs.declared.verdict.Why.TheVariants.{Earlier}
 use Rattle.ca_claims.specs.declared.claims.asks.Barred.{Barred}
@@ -14,9 +15,11 @@ use Rattle.ca_claims.specs.declared.claims.asks.Barred.TheVariants.{Nothing, InP
 use Rattle.ca_claims.specs.Truth.{IsNotBack, MayReturnBy}
 use Rattle.ca_claims.specs.inner.Divisors.{AreDivisors}
 use Rattle.ca_claims.specs.inner.Returns.{IsNotBackBefore, IsFirstReturn}
-use Rattle.ca_claims.specs.inner.Subjects.{ShowsTree, AreLeft, IsBackBy}
+use Rattle.ca_claims.specs.declared.decide.Case.{Case}
+use Rattle.ca_claims.specs.inner.Subjects.{ShowsTree, IsMovedBy, BarsReturn, IsEnd, IsNoMove, AreLeft, IsBackBy}
 use Rattle.ca_claims.proofs.Times.{unmoved}
 use Rattle.ca_claims.proofs.Divided.{changed_before, nowhere_before}
+use Rattle.ca_claims.proofs.Leapt.{shows_after, both_shown}
 
 -- a pattern that is back at n, and at no proper divisor of n, is back at no time before n
 not_before : (next : List ℕ → ℕ) (p : Picture) (barred : Barred) (n : ℕ) (u v : ℤ) → MayReturnBy barred u v → IsAfter next p n (shifted p u v)
@@ -28,29 +31,51 @@ not_before next p Anywhere n u v may back tested = λ k some less. nowhere_befor
 -- ---- the pattern at one time
 
 -- in its place
-pub back_here : (next : List ℕ → ℕ) (cells : Picture) (barred : Barred) (n : ℕ) (p q : ℤ → ℤ → ℕ) (back : Option (ℤ × ℤ)) → barred ≢ Nothing → barred ≢ Anywhere
+in_place : (next : List ℕ → ℕ) (cells : Picture) (barred : Barred) (n : ℕ) (p q : ℤ → ℤ → ℕ) (back : Option (ℤ × ℤ)) → barred ≢ Nothing → barred ≢ Anywhere
     → ((x y : ℤ) → after next cells n x y ≡ p x y) → ((x y : ℤ) → cell cells x y ≡ q x y)
     → MatchOption back ((x : ℤ) × (y : ℤ) × (p x y ≢ q x y)) (λ v. (v.0 ≡ pos 0) × (v.1 ≡ pos 0) × ((x y : ℤ) → p x y ≡ q x y))
     → MatchOption back (IsNotBack next cells barred n) (IsBackBy next cells barred n)
-back_here next cells Nothing n p q back some place ends shows told = absurd (some refl)
-back_here next cells Anywhere n p q back some place ends shows told = absurd (place refl)
-back_here next cells InPlace n p q None some place ends shows told = (told.0, told.1, λ e. told.2 (sym (ends told.0 told.1) ∙ e ∙ shows told.0 told.1))
-back_here next cells InPlace n p q (Some v) some place ends shows told =
+in_place next cells Nothing n p q back some place ends shows told = absurd (some refl)
+in_place next cells Anywhere n p q back some place ends shows told = absurd (place refl)
+in_place next cells InPlace n p q None some place ends shows told = (told.0, told.1, λ e. told.2 (sym (ends told.0 told.1) ∙ e ∙ shows told.0 told.1))
+in_place next cells InPlace n p q (Some v) some place ends shows told =
     ((told.0, told.1), λ x y. ends x y ∙ told.2 x y ∙ sym (shows x y) ∙ sym (unmoved cells v.0 v.1 x y told.0 told.1))
 
 -- anywhere
-pub back_there : (next : List ℕ → ℕ) (cells p : Picture) (n : ℕ) (q : ℤ → ℤ → ℕ) (back : Option (ℤ × ℤ)) → ((x y : ℤ) → after next cells n x y ≡ q x y)
+anywhere : (next : List ℕ → ℕ) (cells p : Picture) (n : ℕ) (q : ℤ → ℤ → ℕ) (back : Option (ℤ × ℤ)) → ((x y : ℤ) → after next cells n x y ≡ q x y)
     → ((dx dy x y : ℤ) → cell (shifted cells dx dy) x y ≡ cell (shifted p dx dy) x y)
     → MatchOption back ((dx dy : ℤ) → ((x y : ℤ) → cell (shifted p dx dy) x y ≡ q x y) → ⊥) (λ v. (x y : ℤ) → cell (shifted p v.0 v.1) x y ≡ q x y)
     → MatchOption back (IsNotBack next cells Anywhere n) (IsBackBy next cells Anywhere n)
-back_there next cells p n q None ends same told = λ dx dy is. told dx dy (λ x y. sym (same dx dy x y) ∙ sym (is x y) ∙ ends x y)
-back_there next cells p n q (Some v) ends same told = (tt, λ x y. ends x y ∙ sym (told x y) ∙ sym (same v.0 v.1 x y))
+anywhere next cells p n q None ends same told = λ dx dy is. told dx dy (λ x y. sym (same dx dy x y) ∙ sym (is x y) ∙ ends x y)
+anywhere next cells p n q (Some v) ends same told = (tt, λ x y. ends x y ∙ sym (told x y) ∙ sym (same v.0 v.1 x y))
+
+-- what is judged, of a plane some generations on
+module _ (next : List ℕ → ℕ) (s0 s1 : List Node) (case : Case) (bars : BarsReturn s0 case) (end : Tree) (m : ℕ) (is : IsEnd next s0 case.subject.pattern m s1 end) (cells : Picture)
+    (shows : ShowsTree s0 case.subject.pattern cells) where
+  ends : (x y : ℤ) → after next cells m x y ≡ trees.cell s1 end x y
+  ends = shows_after next s0 s1 case.subject.pattern end m cells is shows
+
+  -- where the pattern isn't moved
+  pub back_here : case.plane ≡ None → (pattern : Tree) → ShowsTree s1 pattern cells → (back : Option (ℤ × ℤ))
+      → MatchOption back ((x : ℤ) × (y : ℤ) × (trees.cell s1 end x y ≢ trees.cell s1 pattern x y)) (λ v. (v.0 ≡ pos 0) × (v.1 ≡ pos 0) × ((x y : ℤ) → trees.cell s1 end x y ≡ trees.cell s1 pattern x y))
+      → MatchOption back (IsNotBack next cells case.asks.barred m) (IsBackBy next cells case.asks.barred m)
+  back_here none pattern later back told =
+      let moved = subst (IsMovedBy case.asks s0 case.subject.pattern) none bars.subject.moved in
+      in_place next cells case.asks.barred m (trees.cell s1 end) (trees.cell s1 pattern) back bars.barred moved.2 ends later told
+
+  -- and where it is
+  pub back_there : (p : Picture) → case.plane ≡ Some p → (back : Option (ℤ × ℤ)) → MatchOption back (IsNoMove s1 end p) (λ v. ShowsTree s1 end (shifted p v.0 v.1))
+      → MatchOption back (IsNotBack next cells case.asks.barred m) (IsBackBy next cells case.asks.barred m)
+  back_there p some back told =
+      let moved = subst (IsMovedBy case.asks s0 case.subject.pattern) some bars.subject.moved in
+      subst (λ b. MatchOption back (IsNotBack next cells b m) (IsBackBy next cells b m)) (sym moved.1)
+      (anywhere next cells p m (trees.cell s1 end) back ends (both_shown s0 case.subject.pattern cells p shows moved.3) told)
 
 -- ---- the divisors of the time
 
-module _ (next : List ℕ → ℕ) (nodes : List Node) (pattern : Tree) (barred : Barred) (n : ℕ) where
+module _ (next : List ℕ → ℕ) (nodes : List Node) (case : Case) where
   -- at first all the proper divisors are left
-  pub all_left : (left : List ℕ) → AreDivisors n 1 n left → AreLeft next nodes pattern barred n left
+  pub all_left : (left : List ℕ) → AreDivisors case.asks.generations 1 case.asks.generations left → AreLeft next nodes case left
   all_left left are = record {
     low = 1;
     some = omega arith;
@@ -59,8 +84,8 @@ module _ (next : List ℕ → ℕ) (nodes : List Node) (pattern : Tree) (barred 
   }
 
   -- one fewer is left where the pattern isn't back at the first
-  pub one_fewer : (d : ℕ) (left : List ℕ) → AreLeft next nodes pattern barred n (d ∷ left) → ((cells : Picture) → ShowsTree nodes pattern cells → IsNotBack next cells barred d)
-      → AreLeft next nodes pattern barred n left
+  pub one_fewer : (d : ℕ) (left : List ℕ) → AreLeft next nodes case (d ∷ left) → ((cells : Picture) → ShowsTree nodes case.subject.pattern cells → IsNotBack next cells case.asks.barred d)
+      → AreLeft next nodes case left
   one_fewer d left h tried = record {
     low = d + 1;
     some = omega arith;
@@ -69,7 +94,7 @@ module _ (next : List ℕ → ℕ) (nodes : List Node) (pattern : Tree) (barred 
         elim (below_or_not e d) [
           | inr high ↦
               let same : d ≡ e = omega (arith, high, less) in
-              subst (IsNotBack next cells barred) same (tried cells shows)
+              subst (IsNotBack next cells case.asks.barred) same (tried cells shows)
           | inl below ↦ elim (below_or_not e h.low) [
             | inl lower ↦ h.before cells shows e some lower divides
             | inr from ↦ absurd (h.are.3 e from below divides)
@@ -77,27 +102,27 @@ module _ (next : List ℕ → ℕ) (nodes : List Node) (pattern : Tree) (barred 
         ];
   }
 
-  -- where none is left, the pattern is back at no time before n
-  pub none_left : (left : List ℕ) → length left ≡ 0 → AreLeft next nodes pattern barred n left → (cells : Picture) → ShowsTree nodes pattern cells → (u v : ℤ) → MayReturnBy barred u v → IsAfter next cells n (shifted cells u v)
-      → IsNotBackBefore next cells barred n
+  -- where none is left, the pattern is back at no time before case.asks.generations
+  pub none_left : (left : List ℕ) → length left ≡ 0 → AreLeft next nodes case left → (cells : Picture) → ShowsTree nodes case.subject.pattern cells → (u v : ℤ) → MayReturnBy case.asks.barred u v → IsAfter next cells case.asks.generations (shifted cells u v)
+      → IsNotBackBefore next cells case.asks.barred case.asks.generations
   none_left (d ∷ left) none h cells shows u v may back = absurd (omega (arith, none))
   none_left [] none h cells shows u v may back =
-      not_before next cells barred n u v may back (λ d some less divides.
+      not_before next cells case.asks.barred case.asks.generations u v may back (λ d some less divides.
       elim (below_or_not d h.low) [
         | inl lower ↦ h.before cells shows d some lower divides
         | inr from ↦ absurd (h.are d from less divides)
       ])
 
   -- where it's back at the first that is left, that is its first return
-  pub found_first : (d : ℕ) (left : List ℕ) (v : ℤ × ℤ) → AreLeft next nodes pattern barred n (d ∷ left) → (cells : Picture) → ShowsTree nodes pattern cells
-      → IsBackBy next cells barred d v → IsFirstReturn next cells barred n (Earlier d v.0 v.1)
+  pub found_first : (d : ℕ) (left : List ℕ) (v : ℤ × ℤ) → AreLeft next nodes case (d ∷ left) → (cells : Picture) → ShowsTree nodes case.subject.pattern cells
+      → IsBackBy next cells case.asks.barred d v → IsFirstReturn next cells case.asks.barred case.asks.generations (Earlier d v.0 v.1)
   found_first d left v h cells shows back = (
     omega (arith, h.some, h.are.0),
     h.are.1,
     back.0,
     back.1,
-    not_before next cells barred d v.0 v.1 back.0 back.1 (λ e some less divides.
-        let all : e ∣ n = dvd_trans e divides h.are.2 in
+    not_before next cells case.asks.barred d v.0 v.1 back.0 back.1 (λ e some less divides.
+        let all : e ∣ case.asks.generations = dvd_trans e divides h.are.2 in
         elim (below_or_not e h.low) [
           | inl lower ↦ h.before cells shows e some lower all
           | inr from ↦ absurd (h.are.3 e from less all)

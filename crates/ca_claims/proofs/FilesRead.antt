@@ -7,11 +7,11 @@ use Rattle.ca_plane.specs.Plane.{Picture, cell}
 use Rattle.ca_plane.specs.Limits.{IsInRange}
 use Rattle.ca_plane.proofs.Pictures.{Contains-cell}
 use Rattle.ca_macro.specs.Pattern.{AreInRange}
-use Rattle.ca_claims.specs.declared.target.Target.{Target}
+use Rattle.ca_claims.specs.declared.format.Format.{Format}
 use Rattle.ca_claims.specs.Means.{format_of}
 
 -- what holds of bytes in their format holds of them
-pub in_format : (P : Target → Type 0) (bytes : List ℕ) (format : Target) → format_of bytes ≡ format → P format → P (format_of bytes)
+pub in_format : (P : Format → Type 0) (bytes : List ℕ) (format : Format) → format_of bytes ≡ format → P format → P (format_of bytes)
 in_format P bytes format is h = subst P (sym is) h
 
 All-each : {X : Type 0} (P : X → Type 0) (xs : List X) → AllByRecursion P xs → All P xs

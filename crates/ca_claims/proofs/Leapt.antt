@@ -6,7 +6,7 @@ use Rattle.std.proofs.lemmas.Int.{ints}
 use Rattle.ca_plane.specs.Plane.{Picture, shifted}
 use Rattle.ca_plane.specs.Plane as plane
 use Rattle.ca_plane.proofs.Shifts.{cell-shifted}
-use Rattle.ca_plane.specs.Generations.{after}
+use Rattle.ca_plane.specs.Generations.{after, IsAfter}
 use Rattle.ca_quad.specs.declared.node.Node.{Node}
 use Rattle.ca_quad.specs.declared.tree.Tree.{Tree}
 use Rattle.ca_quad.specs.declared.tree.Spot.{Spot}
@@ -20,10 +20,11 @@ use Rattle.ca_claims.specs.declared.claims.asks.Asks.{Asks}
 use Rattle.ca_claims.specs.declared.claims.asks.Wanted.{Wanted}
 use Rattle.ca_claims.specs.declared.claims.asks.Wanted.TheVariants.{Own, Other}
 use Rattle.ca_claims.specs.declared.decide.Subject.{Subject}
+use Rattle.ca_claims.specs.declared.decide.Case.{Case}
 use Rattle.ca_claims.specs.declared.verdict.Why.{Why}
 use Rattle.ca_claims.specs.declared.verdict.Why.TheVariants.{Empty, Differs, Earlier}
 use Rattle.ca_claims.specs.Truth.{whose, claimed}
-use Rattle.ca_claims.specs.inner.Subjects.{ShowsTree, IsPattern, IsNear, IsMovedBy, IsSubject, AreShown, IsEnd, IsUnlike, whose_tree}
+use Rattle.ca_claims.specs.inner.Subjects.{ShowsTree, IsPattern, IsNear, IsMovedBy, IsCase, BarsReturn, AreShown, IsEnd, IsDifference, wanted_tree}
 use Rattle.ca_claims.proofs.Times.{unmoved}
 
 -- the tree of a pattern has no live cell outside the square of a plane
@@ -39,6 +40,11 @@ near_pattern nodes tree h = record {
             absurd (out (omega (arith, ints, here), omega (arith, ints, here), omega (arith, ints, here), omega (arith, ints, here)))
       ];
 }
+
+-- nor has that of the wanted cells
+pub wanted_near : (nodes : List Node) (wanted : Wanted) (subject : Subject) → IsPattern nodes subject.pattern → IsPattern nodes subject.other → IsNear nodes (wanted_tree wanted subject)
+wanted_near nodes Own subject one other = near_pattern nodes subject.pattern one
+wanted_near nodes Other subject one other = near_pattern nodes subject.other other
 
 -- ---- the store grows
 
@@ -64,11 +70,19 @@ module _ (old new : List Node) (sound : IsSound old) (grows : Grows old new) whe
   moved_stays asks pattern is None h = h
   moved_stays asks pattern is (Some p) h = (h.0, h.1, h.2, shows_stays pattern p is h.3)
 
-  pub subject_stays : (asks : Asks) (subject : Subject) (cells : Option Picture) → IsSubject old asks subject cells → IsSubject new asks subject cells
-  subject_stays asks subject cells h = record {
-    pattern = pattern_stays subject.pattern h.pattern;
-    other = pattern_stays subject.other h.other;
-    moved = moved_stays asks subject.pattern h.pattern.is_tree cells h.moved;
+  pub case_stays : (case : Case) → IsCase old case → IsCase new case
+  case_stays case h = record {
+    pattern = pattern_stays case.subject.pattern h.pattern;
+    other = pattern_stays case.subject.other h.other;
+    moved = moved_stays case.asks case.subject.pattern h.pattern.is_tree case.plane h.moved;
+    bounded = h.bounded;
+  }
+
+  pub bars_stays : (case : Case) → BarsReturn old case → BarsReturn new case
+  bars_stays case h = record {
+    subject = case_stays case h.subject;
+    barred = h.barred;
+    live = (h.live.0, h.live.1, λ z. h.live.2 (sym (trees_stay old new sound grows case.subject.pattern h.subject.pattern.is_tree h.live.0 h.live.1) ∙ z));
   }
 
   pub shown_stays : (subject : Subject) → IsTree old subject.pattern → IsTree old subject.other → (cells other : Picture) → AreShown old subject cells other → AreShown new subject cells other
@@ -103,11 +117,11 @@ wanted_moved nodes tree asks p cells other q dx dy one two own e f is x y =
 
 -- the cells that are wanted, where they aren't moved
 pub wanted_unmoved : (nodes : List Node) (asks : Asks) (subject : Subject) (cells other : Picture) → AreShown nodes subject cells other → asks.dx ≡ pos 0 → asks.dy ≡ pos 0
-    → ShowsTree nodes (whose_tree asks.wanted subject) (claimed asks cells other)
+    → ShowsTree nodes (wanted_tree asks.wanted subject) (claimed asks cells other)
 wanted_unmoved nodes asks subject cells other shown right down = λ x y.
     unmoved (whose asks.wanted cells other) asks.dx asks.dy x y right down ∙ shows asks.wanted x y
   where
-    shows : (wanted : Wanted) → ShowsTree nodes (whose_tree wanted subject) (whose wanted cells other)
+    shows : (wanted : Wanted) → ShowsTree nodes (wanted_tree wanted subject) (whose wanted cells other)
     shows Own = shown.one
     shows Other = shown.two
 
@@ -118,15 +132,23 @@ shows_after next old new pattern end n cells is shows x y =
     after_same next (plane.cell cells) (cell old pattern) n shows x y ∙ sym (is.shows x y)
 
 -- what differs there differs from the claimed cells
-pub unlike_as : (p q r s : ℤ → ℤ → ℕ) (n : ℕ) (why : Option Why) → ((x y : ℤ) → r x y ≡ p x y) → ((x y : ℤ) → s x y ≡ q x y)
-    → MatchOption why ((x y : ℤ) → p x y ≡ q x y) (IsUnlike p q n) → MatchOption why ((x y : ℤ) → r x y ≡ s x y) (IsUnlike r s n)
-unlike_as p q r s n None e f same = λ x y. e x y ∙ same x y ∙ sym (f x y)
-unlike_as p q r s n (Some Empty) e f other = absurd other
-unlike_as p q r s n (Some (Differs x y found claimed generations)) e f other = (other.0, e x y ∙ other.1, f x y ∙ other.2, other.3)
-unlike_as p q r s n (Some (Earlier m dx dy)) e f other = absurd other
+pub difference_as : (p q r s : ℤ → ℤ → ℕ) (n : ℕ) (why : Option Why) → ((x y : ℤ) → r x y ≡ p x y) → ((x y : ℤ) → s x y ≡ q x y)
+    → MatchOption why ((x y : ℤ) → p x y ≡ q x y) (IsDifference p q n) → MatchOption why ((x y : ℤ) → r x y ≡ s x y) (IsDifference r s n)
+difference_as p q r s n None e f same = λ x y. e x y ∙ same x y ∙ sym (f x y)
+difference_as p q r s n (Some Empty) e f other = absurd other
+difference_as p q r s n (Some (Differs x y found claimed generations)) e f other = (other.0, e x y ∙ other.1, f x y ∙ other.2, other.3)
+difference_as p q r s n (Some (Earlier m dx dy)) e f other = absurd other
+
+-- what is found of the tree some generations on and of the claimed one is found of their pictures
+pub wrong_cell : (next : List ℕ → ℕ) (s0 s1 s2 : List Node) (pattern end wanted : Tree) (n : ℕ) → IsEnd next s0 pattern n s1 end → Grows s0 s1 → Grows s1 s2 → (cells claimed_cells : Picture)
+    → ShowsTree s0 pattern cells → ShowsTree s2 wanted claimed_cells → (why : Option Why) → MatchOption why ((x y : ℤ) → cell s2 end x y ≡ cell s2 wanted x y) (IsDifference (cell s2 end) (cell s2 wanted) n)
+    → MatchOption why (IsAfter next cells n claimed_cells) (IsDifference (after next cells n) (plane.cell claimed_cells) n)
+wrong_cell next s0 s1 s2 pattern end wanted n is grows grows_on cells claimed_cells shows stands why told =
+    difference_as (cell s2 end) (cell s2 wanted) (after next cells n) (plane.cell claimed_cells) n why
+    (λ x y. shows_after next s0 s1 pattern end n cells is shows x y ∙ sym (trees_stay s1 s2 grows.sound grows_on end is.near.is_tree x y)) stands told
 
 -- what is told of a place that was found is told of the trees as they were before
-pub told_as : (p q r s : ℤ → ℤ → ℕ) (n : ℕ) (why : Option Why) (found : Option Spot) → ((x y : ℤ) → r x y ≡ p x y) → ((x y : ℤ) → s x y ≡ q x y)
-    → (IsNone found → (x y : ℤ) → r x y ≡ s x y) → MatchOption why (found ≡ None) (IsUnlike p q n) → MatchOption why ((x y : ℤ) → r x y ≡ s x y) (IsUnlike r s n)
-told_as p q r s n None found e f same none = same (subst IsNone (sym none) refl)
-told_as p q r s n (Some why) found e f same told = unlike_as p q r s n (Some why) e f told
+pub difference_told : (p q r s : ℤ → ℤ → ℕ) (n : ℕ) (why : Option Why) (found : Option Spot) → ((x y : ℤ) → r x y ≡ p x y) → ((x y : ℤ) → s x y ≡ q x y)
+    → (IsNone found → (x y : ℤ) → r x y ≡ s x y) → MatchOption why (found ≡ None) (IsDifference p q n) → MatchOption why ((x y : ℤ) → r x y ≡ s x y) (IsDifference r s n)
+difference_told p q r s n None found e f same none = same (subst IsNone (sym none) refl)
+difference_told p q r s n (Some why) found e f same told = difference_as p q r s n (Some why) e f told

@@ -23,6 +23,7 @@ pub mod Verdicts
 pub mod OneReason
 pub mod FewListed
 pub mod OneConversion
+pub mod OneText
 pub mod Searches
 pub mod Divided
 pub mod DivisorLists

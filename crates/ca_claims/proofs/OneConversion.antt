@@ -1,5 +1,5 @@
 -- A file is converted or refused for one cause, and so is its summary; out of memory apart.
-use Rattle.std.proofs.Common.{◌≡◌, ◌≢◌, ℕ, ◌≤◌, ◌<◌, List, length, Option, Some, None, MatchOption, refl, sym, ap, subst, ◌∙◌, arith}
+use Rattle.std.proofs.Common.{◌≡◌, ◌≢◌, ℕ, ◌≤◌, List, length, Option, Some, None, MatchOption, refl, sym, ap, subst, ◌∙◌, arith}
 use Rattle.std.specs.Prelude.{◌≤ℤ◌}
 use Rattle.std.proofs.lemmas.Int.{ints}
 use Rattle.ca_plane.specs.declared.point.Bounds.{Bounds}
@@ -10,50 +10,26 @@ use Rattle.ca_plane.proofs.Populations.{same_population}
 use Rattle.ca_rle.specs.Shown as rle_shown
 use Rattle.ca_rle.proofs.OneFile as rle_file
 use Rattle.ca_rule.specs.TableNext.{TableRule}
-use Rattle.ca_rule.specs.Rule.{RuleValue, states_of, printed_form, NamesRule, IsRuleFault}
-use Rattle.ca_rule.proofs.Rules.{named-once, named-faultless, one-rule-fault}
-use Rattle.ca_claims.specs.declared.target.Target.{Target}
-use Rattle.ca_claims.specs.declared.target.Target.TheVariants.{Rle, Mc}
+use Rattle.ca_rule.specs.Rule.{RuleValue, printed_form}
+use Rattle.ca_claims.specs.declared.format.Format.{Format}
+use Rattle.ca_claims.specs.declared.format.Format.TheVariants.{Rle, Mc}
 use Rattle.ca_claims.specs.declared.pattern.Summary.{Summary}
 use Rattle.ca_claims.specs.declared.conversion.ConvertFault.{ConvertFault}
 use Rattle.ca_claims.specs.declared.conversion.ConvertFault.TheVariants.{BadPattern, BadRule, StateTooLarge, TooManyCells, Memory}
-use Rattle.ca_claims.specs.Means.{format_of, Means, MeansAs, IsReadableAs}
-use Rattle.ca_claims.specs.Answers.{HasLargeState, HasSmallStates}
-use Rattle.ca_claims.specs.Converted.{IsUnder, IsConverted, IsSummary, IsSameSummary, IsSummaryFault, IsConvertFault}
-use Rattle.ca_claims.proofs.Verdicts.{one_meaning, reads_without_fault, one_fault_of}
+use Rattle.ca_claims.specs.Means.{format_of, MeansAs, IsReadableAs, HoldsRuledPattern}
+use Rattle.ca_claims.specs.Answers.{HasSmallStates}
+use Rattle.ca_claims.specs.Converted.{IsConverted, IsSummary, IsSameSummary, IsSummaryFault, IsConvertFault}
+use Rattle.ca_claims.proofs.Verdicts.{reads_without_fault, one_fault_of, one_ruled, small_or_large, named_or_fault, one_rule_fault_of}
 use Rattle.ca_claims.proofs.FewListed.{population-le}
 
--- ---- one meaning under one rule
+-- ---- causes
 
 module _ (bytes : List ℕ) (tables : List TableRule) where
-  -- bytes mean one picture, under one rule, of one generation
-  one_under : (p q : Picture) (r s : RuleValue) (g h : ℕ) → IsUnder bytes tables p r g → IsUnder bytes tables q s h → (p ≡ q) × (r ≡ s) × (g ≡ h)
-  one_under p q r s g h a b =
-      let one = one_meaning bytes p q a.rule_text b.rule_text g h a.means b.means in
-      (one.0, named-once b.rule_text tables r s (subst (λ t. NamesRule t tables r) one.1 a.names) b.names, one.2)
-
-  -- whose states are small or one of them large, not both
-  small_or_large : (p q : Picture) (r s : RuleValue) (g h : ℕ) → IsUnder bytes tables p r g → HasSmallStates r (cell p) → IsUnder bytes tables q s h → HasLargeState s (cell q) → ⊥
-  small_or_large p q r s g h a small b (x, y, large) =
-      let one = one_under p q r s g h a b in
-      let few : cell p x y < states_of r = small x y in
-      let there : cell q x y < states_of r = subst (λ l. cell l x y < states_of r) one.0 few in
-      let low : cell q x y < states_of s = subst (λ u. cell q x y < states_of u) one.1 there in
-      omega arith
-
-  -- a rule text names a rule or has a fault, not both
-  named_or_fault : (p q : Picture) (r : RuleValue) (t : List ℕ) (g h : ℕ) (fault : _) → IsUnder bytes tables p r g → Means bytes q t h → IsRuleFault t tables fault → ⊥
-  named_or_fault p q r t g h fault a means wrong =
-      let one = one_meaning bytes p q a.rule_text t g h a.means means in
-      named-faultless t tables r fault (subst (λ l. NamesRule l tables r) one.1 a.names) wrong
-
-  -- ---- causes
-
   -- bytes of small states have no cause without a summary
-  pub ready_or_fault : (p : Picture) (r : RuleValue) (g : ℕ) (fault : ConvertFault) → fault ≢ Memory → IsUnder bytes tables p r g → HasSmallStates r (cell p) → IsSummaryFault bytes tables fault → ⊥
-  ready_or_fault p r g (BadPattern fault) m a small wrong = reads_without_fault bytes fault a.readable wrong
-  ready_or_fault p r g (BadRule fault) m a small (q, t, h, readable, means, wrong) = named_or_fault p q r t g h fault a means wrong
-  ready_or_fault p r g StateTooLarge m a small (q, s, h, b, large) = small_or_large p q r s g h a small b large
+  pub ready_or_fault : (p : Picture) (r : RuleValue) (g : ℕ) (fault : ConvertFault) → fault ≢ Memory → HoldsRuledPattern bytes tables p r g → HasSmallStates r (cell p) → IsSummaryFault bytes tables fault → ⊥
+  ready_or_fault p r g (BadPattern fault) m a small wrong = reads_without_fault bytes fault a.holds.readable wrong
+  ready_or_fault p r g (BadRule fault) m a small wrong = named_or_fault bytes tables p r g fault a wrong
+  ready_or_fault p r g StateTooLarge m a small (q, s, h, b, large) = small_or_large bytes tables p q r s g h a small b large
   ready_or_fault p r g TooManyCells m a small wrong = wrong
   ready_or_fault p r g Memory m a small wrong = m refl
 
@@ -64,43 +40,41 @@ module _ (bytes : List ℕ) (tables : List TableRule) where
   one_summary_fault TooManyCells g m n a b = absurd a
   one_summary_fault f TooManyCells m n a b = absurd b
   one_summary_fault (BadPattern f) (BadPattern g) m n a b = ap BadPattern (one_fault_of bytes f g a b)
-  one_summary_fault (BadPattern f) (BadRule g) m n a (q, t, h, readable, means, wrong) = absurd (reads_without_fault bytes f readable a)
-  one_summary_fault (BadPattern f) StateTooLarge m n a (q, s, h, under, large) = absurd (reads_without_fault bytes f under.readable a)
-  one_summary_fault (BadRule f) (BadPattern g) m n (q, t, h, readable, means, wrong) b = absurd (reads_without_fault bytes g readable b)
-  one_summary_fault (BadRule f) (BadRule g) m n (p, t, h, readable, means, wrong) (q, u, k, reads, shows, bad) =
-      let one = one_meaning bytes p q t u h k means shows in
-      ap BadRule (one-rule-fault u tables f g (subst (λ l. IsRuleFault l tables f) one.1 wrong) bad)
-  one_summary_fault (BadRule f) StateTooLarge m n (p, t, h, readable, means, wrong) (q, s, k, under, large) = absurd (named_or_fault q p s t k h f under means wrong)
-  one_summary_fault StateTooLarge (BadPattern g) m n (q, s, h, under, large) b = absurd (reads_without_fault bytes g under.readable b)
-  one_summary_fault StateTooLarge (BadRule g) m n (q, s, k, under, large) (p, t, h, readable, means, wrong) = absurd (named_or_fault q p s t k h g under means wrong)
+  one_summary_fault (BadPattern f) (BadRule g) m n a (q, t, h, holds, wrong) = absurd (reads_without_fault bytes f holds.readable a)
+  one_summary_fault (BadPattern f) StateTooLarge m n a (q, s, h, ruled, large) = absurd (reads_without_fault bytes f ruled.holds.readable a)
+  one_summary_fault (BadRule f) (BadPattern g) m n (q, t, h, holds, wrong) b = absurd (reads_without_fault bytes g holds.readable b)
+  one_summary_fault (BadRule f) (BadRule g) m n a b = ap BadRule (one_rule_fault_of bytes tables f g a b)
+  one_summary_fault (BadRule f) StateTooLarge m n a (q, s, k, ruled, large) = absurd (named_or_fault bytes tables q s k f ruled a)
+  one_summary_fault StateTooLarge (BadPattern g) m n (q, s, h, ruled, large) b = absurd (reads_without_fault bytes g ruled.holds.readable b)
+  one_summary_fault StateTooLarge (BadRule g) m n (q, s, k, ruled, large) b = absurd (named_or_fault bytes tables q s k g ruled b)
   one_summary_fault StateTooLarge StateTooLarge m n a b = refl
 
 -- ---- conversions
 
 -- a text of a format that reads, and what it means
-few_shown : (format : Target) (text : List ℕ) (shown : Picture) (rule_text : List ℕ) (generation : ℕ) → format ≡ Rle → IsReadableAs format text → MeansAs format text shown rule_text generation
+few_shown : (format : Format) (text : List ℕ) (shown : Picture) (rule_text : List ℕ) (generation : ℕ) → format ≡ Rle → IsReadableAs format text → MeansAs format text shown rule_text generation
     → length shown ≤ most_cells
 few_shown Rle text shown rule_text generation e (file, is, within) (other, is_too, cells, named, timed) =
     let same = rle_file.one_file text other file is_too is in
     subst (λ p. length p ≤ most_cells) (sym (cells ∙ ap (λ f. rle_shown.picture_of f.corner f.items) same)) within.1
 few_shown Mc text shown rule_text generation e reads means = let no : Mc ≡ Rle = e in cc
 
-module _ (bytes : List ℕ) (tables : List TableRule) (target : Target) where
+module _ (bytes : List ℕ) (tables : List TableRule) (target : Format) where
   -- what is converted has no cause
   pub text_or_fault : (text : List ℕ) (fault : ConvertFault) → fault ≢ Memory → IsConverted bytes tables target text → IsConvertFault bytes tables target fault → ⊥
-  text_or_fault text (BadPattern fault) m a wrong = ready_or_fault bytes tables a.cells a.rule a.generation (BadPattern fault) m a.under a.small wrong
-  text_or_fault text (BadRule fault) m a wrong = ready_or_fault bytes tables a.cells a.rule a.generation (BadRule fault) m a.under a.small wrong
-  text_or_fault text StateTooLarge m a wrong = ready_or_fault bytes tables a.cells a.rule a.generation StateTooLarge m a.under a.small wrong
-  text_or_fault text TooManyCells m a (rle, cells, rule, generation, under, small, (count, population, many)) =
-      let one = one_under bytes tables cells a.cells rule a.rule generation a.generation under a.under in
-      let few = few_shown (format_of text) text a.shown (printed_form a.rule) a.generation (a.format ∙ rle) a.readable a.means in
+  text_or_fault text (BadPattern fault) m a wrong = ready_or_fault bytes tables a.cells a.rule a.generation (BadPattern fault) m a.holds a.small wrong
+  text_or_fault text (BadRule fault) m a wrong = ready_or_fault bytes tables a.cells a.rule a.generation (BadRule fault) m a.holds a.small wrong
+  text_or_fault text StateTooLarge m a wrong = ready_or_fault bytes tables a.cells a.rule a.generation StateTooLarge m a.holds a.small wrong
+  text_or_fault text TooManyCells m a (rle, cells, rule, generation, holds, small, (count, population, many)) =
+      let one = one_ruled bytes tables cells a.cells rule a.rule generation a.generation holds a.holds in
+      let few = few_shown (format_of text) text a.shown (printed_form a.rule) a.generation (a.format ∙ rle) a.text_holds.readable a.text_holds.means in
       let all = population-le a.shown count (cell cells) (λ x y. ap (λ p. cell p x y) one.0 ∙ a.same x y) population in
       omega (arith, few, all, many)
   text_or_fault text Memory m a wrong = m refl
 
   -- too many cells are the cause only of what is ready
   crowded_or_fault : (fault : ConvertFault) → fault ≢ Memory → IsConvertFault bytes tables target TooManyCells → IsSummaryFault bytes tables fault → ⊥
-  crowded_or_fault fault m (rle, cells, rule, generation, under, small, many) wrong = ready_or_fault bytes tables cells rule generation fault m under small wrong
+  crowded_or_fault fault m (rle, cells, rule, generation, holds, small, many) wrong = ready_or_fault bytes tables cells rule generation fault m holds small wrong
 
   -- there is one
   pub one_convert_fault : (f g : ConvertFault) → f ≢ Memory → g ≢ Memory → IsConvertFault bytes tables target f → IsConvertFault bytes tables target g → f ≡ g
@@ -155,7 +129,7 @@ one_bounds p (Some a) None one two = absurd (two (boxed_live p a one))
 -- a file has one summary
 pub one_summary : (bytes : List ℕ) (tables : List TableRule) (s t : Summary) → IsSummary bytes tables s → IsSummary bytes tables t → IsSameSummary s t
 one_summary bytes tables s t a b =
-    let one = one_under bytes tables a.cells b.cells a.rule b.rule s.generation t.generation a.under b.under in
+    let one = one_ruled bytes tables a.cells b.cells a.rule b.rule s.generation t.generation a.holds b.holds in
     record {
       kind = a.kind ∙ sym b.kind;
       rule_text = a.printed ∙ ap printed_form one.1 ∙ sym b.printed;

@@ -18,14 +18,14 @@ use Rattle.ca_rule.specs.declared.fault.RuleFault.{RuleFault}
 use Rattle.ca_rule.specs.Rule.{RuleValue, states_of, NamesRule, IsRuleFault}
 use Rattle.ca_macro.specs.Pattern.{AreInRange}
 use Rattle.ca_claims.specs.declared.pattern.Loaded.{Loaded}
-use Rattle.ca_claims.specs.declared.target.Target.{Target}
-use Rattle.ca_claims.specs.declared.target.Target.TheVariants.{Rle, Mc}
+use Rattle.ca_claims.specs.declared.format.Format.{Format}
+use Rattle.ca_claims.specs.declared.format.Format.TheVariants.{Rle, Mc}
 use Rattle.ca_claims.specs.declared.ruled.Ruled.{Ruled}
 use Rattle.ca_claims.specs.Means.{bytes_at, format_of, IsReadableAs, IsReadable, MayWantMemoryAs, MayWantMemory}
 use Rattle.ca_claims.specs.declared.verdict.PatternFault.{PatternFault}
 use Rattle.ca_claims.specs.declared.verdict.PatternFault.TheVariants as pattern_fault
 use Rattle.ca_claims.specs.Notes.{IsPatternFaultOn}
-use Rattle.ca_claims.specs.Answers.{IsPatternFault, IsRead, IsRuled, HasLargeState, HasSmallStates, Reads, HasRule, IsSmall, IsGood}
+use Rattle.ca_claims.specs.Answers.{IsPatternFault, IsRuled, HasSmallStates, Reads, HasRule, IsSmall, IsLarge, IsUnnamed, IsGood}
 use Rattle.ca_claims.specs.inner.Cells.{IsPlaneOf}
 use Rattle.ca_claims.specs.inner.Patterns.{IsReadFrom, IsUnreadFor, HasName, rule_of, IsRuledAs, ShowsLarge, ShowsSmall}
 use Rattle.ca_claims.proofs.Shown.{small_shown, large_shown, many_shown}
@@ -33,7 +33,7 @@ use Rattle.ca_claims.proofs.Shown.{small_shown, large_shown, many_shown}
 -- ---- files that read
 
 -- memory may run out for them
-wanted_as : (format : Target) (bytes : List ℕ) → IsReadableAs format bytes → MayWantMemoryAs format bytes
+wanted_as : (format : Format) (bytes : List ℕ) → IsReadableAs format bytes → MayWantMemoryAs format bytes
 wanted_as Rle bytes reads = reads
 wanted_as Mc bytes reads = inr (reads.0, reads.1)
 
@@ -74,8 +74,7 @@ module _ (old new : List Node) (grows : Grows old new) (sound : IsSound old) whe
           tree = of_stays old new sound grows pattern.tree.root pattern.tree.level loaded.tree;
           trimmed = trimmed_stays pattern.tree loaded.tree loaded.trimmed;
           shows = λ x y. stays x y ∙ loaded.shows x y;
-          readable = loaded.readable;
-          means = loaded.means;
+          holds = loaded.holds;
         };
         range = λ x y live. read.range x y (λ e. live (stays x y ∙ e));
         generation = read.generation;
@@ -83,6 +82,10 @@ module _ (old new : List Node) (grows : Grows old new) (sound : IsSound old) whe
       }
 
 -- ---- a pattern that was read
+
+-- a file whose pattern has a rule reads
+pub ruled_path_reads : (files : List (List ℕ × List ℕ)) (tables : List TableRule) (path : List ℕ) (cells : Picture) (rule : RuleValue) → IsRuled files tables path cells rule → Reads files path
+ruled_path_reads files tables path cells rule ruled = (ruled.0, ruled.1, ruled.2.1.holds.readable)
 
 module _ (nodes : List Node) (files : List (List ℕ × List ℕ)) (path : List ℕ) where
   -- the pattern is that of the file with this path
@@ -93,23 +96,13 @@ module _ (nodes : List Node) (files : List (List ℕ × List ℕ)) (path : List 
 
   module _ (pattern : Loaded) (at : IsReadAt pattern) where
     pub path_reads : Reads files path
-    path_reads = (at.bytes, at.at_path, at.read.loaded.readable)
+    path_reads = (at.bytes, at.at_path, at.read.loaded.holds.readable)
 
-    path_is_read : IsRead files path at.read.cells pattern.rule_text.items
-    path_is_read = record {
-      bytes = at.bytes;
-      generation = pattern.generation;
-      at_path = at.at_path;
-      readable = at.read.loaded.readable;
-      means = at.read.loaded.means;
-    }
-
-    pub path_has_fault : (tables : List TableRule) (fault : RuleFault) → IsRuleFault pattern.rule_text.items tables fault
-        → (cells : Picture) × (text : List ℕ) × IsRead files path cells text × IsRuleFault text tables fault
-    path_has_fault tables fault wrong = (at.read.cells, pattern.rule_text.items, path_is_read, wrong)
+    pub path_has_fault : (tables : List TableRule) (fault : RuleFault) → IsRuleFault pattern.rule_text.items tables fault → IsUnnamed files tables fault path
+    path_has_fault tables fault wrong = (at.bytes, at.at_path, (at.read.cells, pattern.rule_text.items, pattern.generation, at.read.loaded.holds, wrong))
 
     pub path_is_ruled : (tables : List TableRule) (rule : RuleValue) → NamesRule pattern.rule_text.items tables rule → IsRuled files tables path at.read.cells rule
-    path_is_ruled tables rule names = (pattern.rule_text.items, path_is_read, names)
+    path_is_ruled tables rule names = (at.bytes, at.at_path, (pattern.generation, record { rule_text = pattern.rule_text.items; holds = at.read.loaded.holds; names = names }))
 
     pub path_has_rule : (tables : List TableRule) → HasName tables pattern → HasRule files tables path
     path_has_rule tables named = (at.read.cells, named.0, path_is_ruled tables named.0 named.1)
@@ -143,7 +136,7 @@ module _ (nodes : List Node) (files : List (List ℕ × List ℕ)) (path : List 
       pub ruled_has_rule : HasRule files tables path
       ruled_has_rule = (ruled_picture, rule_of ruled, ruled_reads)
 
-      pub ruled_is_large : ShowsLarge nodes ruled → (cells : Picture) × (rule : RuleValue) × IsRuled files tables path cells rule × HasLargeState rule (cell cells)
+      pub ruled_is_large : ShowsLarge nodes ruled → IsLarge files tables path
       ruled_is_large large =
           (ruled_picture, rule_of ruled, ruled_reads, large_shown (trees.cell nodes ruled.pattern.tree) (cell ruled_picture) tree_shows (rule_of ruled) large)
 

@@ -14,7 +14,7 @@ use Rattle.ca_claims.specs.declared.claims.asks.Barred.{Barred}
 use Rattle.ca_claims.specs.declared.claims.asks.Barred.TheVariants.{Nothing, InPlace, Anywhere}
 use Rattle.ca_claims.specs.Truth.{whose, claimed, IsNotBack, MayReturnBy, IsTrueClaim, IsReason}
 use Rattle.ca_claims.specs.inner.Returns.{IsNotBackBefore, IsFirstReturn}
-use Rattle.ca_claims.specs.inner.Subjects.{ShowsTree, HasLive, IsMovedBy, IsUnlike}
+use Rattle.ca_claims.specs.inner.Subjects.{ShowsTree, HasLive, IsMovedBy, IsDifference}
 
 -- a picture of a live tree is live
 pub live_shown : (nodes : List Node) (tree : Tree) (cells : Picture) → HasLive (trees.cell nodes tree) → ShowsTree nodes tree cells → IsLive cells
@@ -32,10 +32,10 @@ may_return asks nodes pattern None some moved = unmoved asks.barred some
 
 module _ (next : List ℕ → ℕ) (cells other : Picture) (asks : Asks) (live : IsTrue asks.live → IsLive cells) where
   -- cells that differ make a claim false
-  pub unlike_reason : (why : Why) → IsUnlike (after next cells asks.generations) (cell (claimed asks cells other)) asks.generations why → IsReason next cells other asks why
-  unlike_reason Empty told = absurd told
-  unlike_reason (Differs x y found wanted generations) told = (live, told.0, ap (λ n. after next cells n x y) told.0 ∙ told.1, told.2, told.3)
-  unlike_reason (Earlier m dx dy) told = absurd told
+  pub difference_reason : (why : Why) → IsDifference (after next cells asks.generations) (cell (claimed asks cells other)) asks.generations why → IsReason next cells other asks why
+  difference_reason Empty told = absurd told
+  difference_reason (Differs x y found wanted generations) told = (live, told.0, ap (λ n. after next cells n x y) told.0 ∙ told.1, told.2, told.3)
+  difference_reason (Earlier m dx dy) told = absurd told
 
   module _ (stands : IsAfter next cells asks.generations (claimed asks cells other)) where
     -- where the claimed cells stand and nothing is barred, a claim is true

@@ -90,6 +90,6 @@ module _ (files : List (List ℕ × List ℕ)) (paths rules patterns : List (Lis
   pub refused_faulty : (faulty : FaultyTable) → faulty.place < length paths → AllByRecursion (IsThere files) patterns → AllByRecursion (IsThere files) rules
       → FirstBad (HoldsTable files) (IsFaultyAt files paths faulty) rules → IsRefusal files paths rules patterns (record { cause = BadTable faulty.fault; about = about.RuleFile faulty.place })
   refused_faulty faulty within there all first = record {
-    holds = (there, all, first_weaker (HoldsTable files) (IsFaultyAt files paths faulty) (IsBadTable files faulty.fault) (λ p h. h.1) rules first);
+    holds = ((there, all), first_weaker (HoldsTable files) (IsFaultyAt files paths faulty) (IsBadTable files faulty.fault) (λ p h. h.1) rules first);
     on = (within, first);
   }

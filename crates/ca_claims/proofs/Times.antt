@@ -1,10 +1,12 @@
 -- Pictures that are moved by (0, 0), and the vectors of claims.
-use Rattle.std.proofs.Common.{◌≡◌, refl, ap₂, ◌∙◌, arith, w64, to_z, of_z}
+use Rattle.std.proofs.Common.{◌≡◌, refl, sym, ap₂, subst, ◌∙◌, arith, w64, to_z, of_z}
+use Rattle.std.specs.Int.{w128}
 use Rattle.std.specs.Prelude.{ℤ, pos, ◌-ℤ◌, FitsSigned}
 use Rattle.std.proofs.lemmas.Int.{ints, to_z-of_z}
 use Rattle.ca_plane.specs.Plane.{Picture, cell, shifted}
 use Rattle.ca_plane.proofs.Shifts.{cell-shifted}
 use Rattle.ca_claims.specs.Text.{IsShift}
+use Rattle.ca_claims.specs.inner.Returns.{IsWide}
 
 -- a picture that is moved by (0, 0) shows what it showed
 pub unmoved : (p : Picture) (dx dy x y : ℤ) → dx ≡ pos 0 → dy ≡ pos 0 → cell (shifted p dx dy) x y ≡ cell p x y
@@ -19,3 +21,20 @@ cell_shifted_0 p x y = unmoved p (pos 0) (pos 0) x y refl refl
 -- a shift reads so as an `i64`
 pub shift_reads : (d : ℤ) → IsShift d → to_z w64 (of_z w64 d) ≡ d
 shift_reads d shift = let fits : FitsSigned w64 d = omega (arith, ints, shift) in to_z-of_z w64 d fits
+
+pub shift_again : (d : ℤ) → IsShift d → IsShift (to_z w64 (of_z w64 d))
+shift_again d shift = subst IsShift (sym (shift_reads d shift)) shift
+
+-- a coordinate in the square of a plane reads so as an `i128`
+wide_reads : (n : ℤ) → IsWide n → to_z w128 (of_z w128 n) ≡ n
+wide_reads n wide = let fits : FitsSigned w128 n = omega (arith, ints, wide) in to_z-of_z w128 n fits
+
+pub wide_again : (n : ℤ) → IsWide n → IsWide (to_z w128 (of_z w128 n))
+wide_again n wide = subst IsWide (sym (wide_reads n wide)) wide
+
+-- and the distance to it of a shift as an `i64`
+pub distance_reads : (from to d result : ℤ) → IsShift from → IsWide to → result ≡ to_z w128 (of_z w128 to) -ℤ to_z w64 (of_z w64 from) → d ≡ to -ℤ from → d ≡ to_z w64 (of_z w64 result)
+distance_reads from to d result shift wide is e =
+    let far : result ≡ to -ℤ from = is ∙ ap₂ (λ a b. a -ℤ b) (wide_reads to wide) (shift_reads from shift) in
+    let fits : FitsSigned w64 result = omega (arith, ints, far, shift, wide) in
+    e ∙ sym far ∙ sym (to_z-of_z w64 result fits)

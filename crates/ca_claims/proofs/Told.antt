@@ -12,10 +12,11 @@ use Rattle.ca_rule.specs.Rule.{NamesRule}
 use Rattle.ca_macro.specs.Pattern.{AreInRange}
 use Rattle.ca_claims.specs.declared.pattern.Summary.{Summary}
 use Rattle.ca_claims.specs.declared.ruled.Ruled.{Ruled}
-use Rattle.ca_claims.specs.declared.target.Target.{Target}
+use Rattle.ca_claims.specs.declared.format.Format.{Format}
 use Rattle.ca_claims.specs.declared.conversion.ConvertFault.{ConvertFault}
 use Rattle.ca_claims.specs.declared.conversion.ConvertFault.TheVariants.{BadPattern, BadRule, StateTooLarge, TooManyCells, Memory}
-use Rattle.ca_claims.specs.Converted.{IsUnder, IsSummary, IsConvertFault}
+use Rattle.ca_claims.specs.Means.{HoldsRuledPattern}
+use Rattle.ca_claims.specs.Converted.{IsSummary, IsConvertFault}
 use Rattle.ca_claims.specs.inner.Glance.{IsTold}
 use Rattle.ca_claims.specs.inner.Patterns.{IsReadFrom, rule_of}
 use Rattle.ca_claims.specs.inner.Ready.{IsReady, IsUnwritten}
@@ -30,19 +31,14 @@ level_is_low nodes tree trimmed range = elim (cases_order tree.level 61) [
   | inr (inr high) ↦ absurd (trimmed 61 (omega arith) high (λ x y live. let at = range x y live in ((at.0, at.1), (at.2, at.3))))
 ]
 
--- a pattern that was read is under the rule that its rule text names
-pub under : (nodes : List Node) (bytes : List ℕ) (tables : List TableRule) (ruled : Ruled) (read : IsReadFrom nodes bytes ruled.pattern) → NamesRule ruled.pattern.rule_text.items tables (rule_of ruled)
-    → IsUnder bytes tables read.cells (rule_of ruled) ruled.pattern.generation
-under nodes bytes tables ruled read names = record {
-  rule_text = ruled.pattern.rule_text.items;
-  readable = read.loaded.readable;
-  means = read.loaded.means;
-  names = names;
-}
+-- a file holds the pattern that was read of it, with the rule that its rule text names
+pub holds_ruled : (nodes : List Node) (bytes : List ℕ) (tables : List TableRule) (ruled : Ruled) (read : IsReadFrom nodes bytes ruled.pattern) → NamesRule ruled.pattern.rule_text.items tables (rule_of ruled)
+    → HoldsRuledPattern bytes tables read.cells (rule_of ruled) ruled.pattern.generation
+holds_ruled nodes bytes tables ruled read names = record { rule_text = ruled.pattern.rule_text.items; holds = read.loaded.holds; names = names }
 
 module _ (nodes : List Node) (bytes : List ℕ) (tables : List TableRule) (ruled : Ruled) (ready : IsReady nodes bytes tables ruled) where
   -- why it isn't written is why its file isn't converted
-  unwritten : (target : Target) (fault : ConvertFault) → IsUnwritten target nodes ruled fault → IsConvertFault bytes tables target fault
+  unwritten : (target : Format) (fault : ConvertFault) → IsUnwritten target nodes ruled fault → IsConvertFault bytes tables target fault
   unwritten target (BadPattern fault) h = absurd h
   unwritten target (BadRule fault) h = absurd h
   unwritten target StateTooLarge h = absurd h
@@ -54,13 +50,13 @@ module _ (nodes : List Node) (bytes : List ℕ) (tables : List TableRule) (ruled
         read.cells,
         rule_of ruled,
         ruled.pattern.generation,
-        under nodes bytes tables ruled read ready.names,
+        holds_ruled nodes bytes tables ruled read ready.names,
         small_shown tree (cell read.cells) shows (rule_of ruled) ready.small,
         many_shown tree (cell read.cells) shows h.1,
       )
-  unwritten target Memory h = wanted bytes ready.read.loaded.readable
+  unwritten target Memory h = wanted bytes ready.read.loaded.holds.readable
 
-  pub unconverted : (A : Type 0) (target : Target) (r : Result A ConvertFault) → IfErr r (IsUnwritten target nodes ruled) → IfErr r (IsConvertFault bytes tables target)
+  pub unconverted : (A : Type 0) (target : Format) (r : Result A ConvertFault) → IfErr r (IsUnwritten target nodes ruled) → IfErr r (IsConvertFault bytes tables target)
   unconverted A target (Ok a) h = h
   unconverted A target (Err e) h = unwritten target e h
 
@@ -73,7 +69,7 @@ module _ (nodes : List Node) (bytes : List ℕ) (tables : List TableRule) (ruled
       record {
         cells = read.cells;
         rule = rule_of ruled;
-        under = subst (IsUnder bytes tables read.cells (rule_of ruled)) (sym told.generation) (under nodes bytes tables ruled read ready.names);
+        holds = subst (HoldsRuledPattern bytes tables read.cells (rule_of ruled)) (sym told.generation) (holds_ruled nodes bytes tables ruled read ready.names);
         small = small_shown tree (cell read.cells) shows (rule_of ruled) ready.small;
         kind = told.kind ∙ read.loaded.kind;
         printed = told.printed;

@@ -29,12 +29,13 @@ use Rattle.ca_claims.specs.declared.verdict.Cause.TheVariants.{NoFile, BadTable,
 use Rattle.ca_claims.specs.declared.claims.asks.Asks.{Asks}
 use Rattle.ca_claims.specs.declared.claims.asks.Barred.{Barred}
 use Rattle.ca_claims.specs.declared.claims.asks.Barred.TheVariants.{Nothing, InPlace, Anywhere}
-use Rattle.ca_claims.specs.declared.target.Target.{Target}
-use Rattle.ca_claims.specs.declared.target.Target.TheVariants as target
-use Rattle.ca_claims.specs.Means.{format_of, MeansAs, Means, IsReadableAs, IsReadable}
+use Rattle.ca_claims.specs.declared.format.Format.{Format}
+use Rattle.ca_claims.specs.declared.format.Format.TheVariants as formats
+use Rattle.ca_claims.specs.Means.{format_of, MeansAs, Means, IsReadableAs, IsReadable, HoldsRuledPattern, HasRuleFault}
 use Rattle.ca_claims.specs.Text.{Claim, patterns_of}
 use Rattle.ca_claims.specs.Truth.{IsNotBack, MayReturnBy, IsTrueClaim, IsReason}
-use Rattle.ca_claims.specs.Answers.{IsPatternFault, IsQuietTable, IsTableFault, IsRead, IsTableAt, AreTables, IsRuled, IsMissing, IsThere, HoldsTable, Reads, HasRule, IsSmall, SomeOf, FirstBad, HaveOtherRules, AgreeOn, HasCause, IsCauseFor, IsGood, AreGood, IsJudged, IsBadTable, IsBadPattern, IsUnnamed, IsLarge}
+use Rattle.ca_claims.specs.Answers.{IsPatternFault, IsQuietTable, IsTableFault, HasLargeState, HasSmallStates, HoldsOfFile, IsTableAt, AreTables, IsRuled, IsMissing, IsThere, HoldsTable, Reads, HasRule, IsSmall, SomeOf, FirstBad, HaveOtherRules, FilesAreThere, TablesAreGood, PatternsAreRead, PatternsHaveRules, StatesAreSmall, AgreeOn, HasCause, IsCauseFor, IsGood, AreGood, IsJudged, IsBadTable, IsBadPattern, IsUnnamed, IsLarge}
+use Rattle.ca_claims.proofs.PatternsRead.{ruled_path_reads}
 use Rattle.ca_claims.proofs.Zipped.{zip_left}
 
 -- ---- a claim is true or there is a reason against it, not both
@@ -55,11 +56,11 @@ false_from_reason next cells other asks (Earlier m dx dy) reason true = back nex
 -- ---- one meaning
 
 -- bytes of a format mean one picture, one rule text and one generation
-one_meaning_as : (format : Target) (bytes : List ℕ) (p q : Picture) (t u : List ℕ) (g h : ℕ) → MeansAs format bytes p t g → MeansAs format bytes q u h → (p ≡ q) × (t ≡ u) × (g ≡ h)
-one_meaning_as target.Rle bytes p q t u g h a b =
+one_meaning_as : (format : Format) (bytes : List ℕ) (p q : Picture) (t u : List ℕ) (g h : ℕ) → MeansAs format bytes p t g → MeansAs format bytes q u h → (p ≡ q) × (t ≡ u) × (g ≡ h)
+one_meaning_as formats.Rle bytes p q t u g h a b =
     let same = rle_file.one_file bytes a.0 b.0 a.1 b.1 in
     (a.2 ∙ ap (λ f. rle_shown.picture_of f.corner f.items) same ∙ sym b.2, a.3 ∙ ap (λ f. f.rule_text) same ∙ sym b.3, a.4 ∙ ap (λ f. f.generation) same ∙ sym b.4)
-one_meaning_as target.Mc bytes p q t u g h a b =
+one_meaning_as formats.Mc bytes p q t u g h a b =
     let same = macrocell.one_file bytes a.0 b.0 a.1 b.1 in
     (a.2 ∙ ap (λ f. macrocell_shown.picture_of f.nodes) same ∙ sym b.2, a.3 ∙ ap (λ f. f.rule_text) same ∙ sym b.3, a.4 ∙ ap (λ f. f.generation) same ∙ sym b.4)
 
@@ -80,8 +81,8 @@ reads_without_fault bytes (pattern_fault.Macro fault) reads wrong =
 reads_without_fault bytes pattern_fault.Memory reads wrong = wrong
 
 -- no format is the other
-rle_or_macro : (bytes : List ℕ) → format_of bytes ≡ target.Rle → format_of bytes ≡ target.Mc → ⊥
-rle_or_macro bytes a b = let e : target.Rle ≡ target.Mc = sym a ∙ b in cc
+rle_or_macro : (bytes : List ℕ) → format_of bytes ≡ formats.Rle → format_of bytes ≡ formats.Mc → ⊥
+rle_or_macro bytes a b = let e : formats.Rle ≡ formats.Mc = sym a ∙ b in cc
 
 -- bytes have one fault
 pub one_fault_of : (bytes : List ℕ) (f g : PatternFault) → IsPatternFault bytes f → IsPatternFault bytes g → f ≡ g
@@ -93,69 +94,96 @@ one_fault_of bytes pattern_fault.Memory g a b = absurd a
 one_fault_of bytes (pattern_fault.Rle f) pattern_fault.Memory a b = absurd b
 one_fault_of bytes (pattern_fault.Macro f) pattern_fault.Memory a b = absurd b
 
+module _ (bytes : List ℕ) (tables : List TableRule) where
+  -- bytes hold one pattern, under one rule
+  pub one_ruled : (p q : Picture) (r s : RuleValue) (g h : ℕ) → HoldsRuledPattern bytes tables p r g → HoldsRuledPattern bytes tables q s h → (p ≡ q) × (r ≡ s) × (g ≡ h)
+  one_ruled p q r s g h a b =
+      let one = one_meaning bytes p q a.rule_text b.rule_text g h a.holds.means b.holds.means in
+      (one.0, named-once b.rule_text tables r s (subst (λ t. NamesRule t tables r) one.1 a.names) b.names, one.2)
+
+  -- whose states are small or one of them large, not both
+  pub small_or_large : (p q : Picture) (r s : RuleValue) (g h : ℕ) → HoldsRuledPattern bytes tables p r g → HasSmallStates r (cell p) → HoldsRuledPattern bytes tables q s h → HasLargeState s (cell q) → ⊥
+  small_or_large p q r s g h a small b (x, y, large) =
+      let one = one_ruled p q r s g h a b in
+      let few : cell p x y < states_of r = small x y in
+      let there : cell q x y < states_of r = subst (λ l. cell l x y < states_of r) one.0 few in
+      let low : cell q x y < states_of s = subst (λ u. cell q x y < states_of u) one.1 there in
+      omega arith
+
+  -- a rule text names a rule or has a fault, not both
+  pub named_or_fault : (p : Picture) (r : RuleValue) (g : ℕ) (fault : RuleFault) → HoldsRuledPattern bytes tables p r g → HasRuleFault bytes tables fault → ⊥
+  named_or_fault p r g fault a (q, t, h, holds, wrong) =
+      let one = one_meaning bytes p q a.rule_text t g h a.holds.means holds.means in
+      named-faultless t tables r fault (subst (λ l. NamesRule l tables r) one.1 a.names) wrong
+
+  -- and has one fault
+  pub one_rule_fault_of : (f g : RuleFault) → HasRuleFault bytes tables f → HasRuleFault bytes tables g → f ≡ g
+  one_rule_fault_of f g (p, t, h, holds, wrong) (q, u, k, others, bad) =
+      let one = one_meaning bytes p q t u h k holds.means others.means in
+      one-rule-fault u tables f g (subst (λ l. IsRuleFault l tables f) one.1 wrong) bad
+
+-- ---- a path is good or bad, not both
+
 module _ (files : List (List ℕ × List ℕ)) (path : List ℕ) where
-  -- the file of a path is read in one way
-  one_read : (p q : Picture) (t u : List ℕ) → IsRead files path p t → IsRead files path q u → (p ≡ q) × (t ≡ u)
-  one_read p q t u a b =
-      let bytes : a.bytes ≡ b.bytes = same_Some a.bytes b.bytes (sym a.at_path ∙ b.at_path) in
-      let one = one_meaning b.bytes p q t u a.generation b.generation (subst (λ l. Means l p t a.generation) bytes a.means) b.means in
-      (one.0, one.1)
-
-  -- ---- a path is good or bad, not both
-
   pub there_or_none : IsThere files path → IsMissing files path → ⊥
   there_or_none a none = none-some a.0 (sym none ∙ a.1)
 
+  -- what holds of the file of a path holds of the same bytes
+  same_file : (P Q : List ℕ → Type 0) → HoldsOfFile files P path → HoldsOfFile files Q path → (bytes : List ℕ) × P bytes × Q bytes
+  same_file P Q (bytes, at, p) (others, there, q) = (others, subst P (same_Some bytes others (sym at ∙ there)) p, q)
+
   -- the file of a path is one table
   one_table_at : (t u : TableRule) → IsTableAt files path t → IsTableAt files path u → t ≡ u
-  one_table_at t u (bytes, at, a) (others, there, b) =
-      let same : bytes ≡ others = same_Some bytes others (sym at ∙ there) in
-      one_table others t u (subst (λ l. IsQuietTable l t) same a).0 b.0
+  one_table_at t u a b =
+      let (bytes, one, two) = same_file (λ l. IsQuietTable l t) (λ l. IsQuietTable l u) a b in
+      one_table bytes t u one.0 two.0
 
   pub table_or_fault : (fault : TableFault) → HoldsTable files path → IsBadTable files fault path → ⊥
-  table_or_fault fault (t, (bytes, at, a)) (others, there, wrong) =
-      let same : bytes ≡ others = same_Some bytes others (sym at ∙ there) in
-      let quiet = subst (λ l. IsQuietTable l t) same a in
-      elim (none_of_a_table others t fault quiet.0 wrong.1) [ inl memory ↦ wrong.0 memory | inr wakes ↦ wakes.1 quiet.1 ]
+  table_or_fault fault (t, a) b =
+      let (bytes, quiet, wrong) = same_file (λ l. IsQuietTable l t) (λ l. IsTableFault l fault) a b in
+      elim (none_of_a_table bytes t fault quiet.0 wrong.1) [ inl memory ↦ wrong.0 memory | inr wakes ↦ wakes.1 quiet.1 ]
 
   pub one_bad_table : (f g : TableFault) → IsBadTable files f path → IsBadTable files g path → f ≡ g
-  one_bad_table f g (bytes, at, wrong) (others, there, bad) =
-      let same : bytes ≡ others = same_Some bytes others (sym at ∙ there) in
-      let wrong_too = subst (λ l. IsTableFault l f) same wrong in
-      one_table_fault others f g wrong_too.0 bad.0 wrong_too.1 bad.1
+  one_bad_table f g a b =
+      let (bytes, wrong, bad) = same_file (λ l. IsTableFault l f) (λ l. IsTableFault l g) a b in
+      one_table_fault bytes f g wrong.0 bad.0 wrong.1 bad.1
 
   reads_or_fault : (fault : PatternFault) → Reads files path → IsBadPattern files fault path → ⊥
-  reads_or_fault fault a (bytes, at, wrong) =
-      let same : bytes ≡ a.0 = same_Some bytes a.0 (sym at ∙ a.1) in
-      reads_without_fault a.0 fault a.2 (subst (λ l. IsPatternFault l fault) same wrong)
+  reads_or_fault fault a b =
+      let (bytes, reads, wrong) = same_file IsReadable (λ l. IsPatternFault l fault) a b in
+      reads_without_fault bytes fault reads wrong
 
   one_pattern_fault : (f g : PatternFault) → IsBadPattern files f path → IsBadPattern files g path → f ≡ g
-  one_pattern_fault f g (bytes, at, wrong) (others, there, bad) =
-      let same : bytes ≡ others = same_Some bytes others (sym at ∙ there) in
-      one_fault_of others f g (subst (λ l. IsPatternFault l f) same wrong) bad
+  one_pattern_fault f g a b =
+      let (bytes, wrong, bad) = same_file (λ l. IsPatternFault l f) (λ l. IsPatternFault l g) a b in
+      one_fault_of bytes f g wrong bad
 
   module _ (tables : List TableRule) where
-    -- the pattern of a path has one rule
-    one_ruled : (p q : Picture) (r s : RuleValue) → IsRuled files tables path p r → IsRuled files tables path q s → (p ≡ q) × (r ≡ s)
-    one_ruled p q r s a b =
-        let one = one_read p q a.0 b.0 a.1 b.1 in
-        (one.0, named-once b.0 tables r s (subst (λ t. NamesRule t tables r) one.1 a.2) b.2)
+    -- the bytes hold a pattern of some generation
+    abbrev HoldsSome : Picture → RuleValue → List ℕ → Type 0
+    HoldsSome cells rule bytes = (generation : ℕ) × HoldsRuledPattern bytes tables cells rule generation
 
-    named_or_fault : (fault : RuleFault) → HasRule files tables path → IsUnnamed files tables fault path → ⊥
-    named_or_fault fault a (cells, text, read, wrong) =
-        let one = one_read a.0 cells a.2.0 text a.2.1 read in
-        named-faultless text tables a.1 fault (subst (λ t. NamesRule t tables a.1) one.1 a.2.2) wrong
+    -- the pattern of a path has one rule
+    one_ruled_at : (p q : Picture) (r s : RuleValue) → IsRuled files tables path p r → IsRuled files tables path q s → (p ≡ q) × (r ≡ s)
+    one_ruled_at p q r s a b =
+        let (bytes, one, two) = same_file (HoldsSome p r) (HoldsSome q s) a b in
+        let same = one_ruled bytes tables p q r s one.0 two.0 one.1 two.1 in
+        (same.0, same.1)
+
+    named_or_fault_at : (fault : RuleFault) → HasRule files tables path → IsUnnamed files tables fault path → ⊥
+    named_or_fault_at fault (cells, rule, ruled) b =
+        let (bytes, one, wrong) = same_file (HoldsSome cells rule) (λ l. HasRuleFault l tables fault) ruled b in
+        named_or_fault bytes tables cells rule one.0 fault one.1 wrong
 
     one_rule_fault : (f g : RuleFault) → IsUnnamed files tables f path → IsUnnamed files tables g path → f ≡ g
-    one_rule_fault f g (p, t, read, wrong) (q, u, other, bad) =
-        one-rule-fault u tables f g (subst (λ l. IsRuleFault l tables f) (one_read p q t u read other).1 wrong) bad
+    one_rule_fault f g a b =
+        let (bytes, wrong, bad) = same_file (λ l. HasRuleFault l tables f) (λ l. HasRuleFault l tables g) a b in
+        one_rule_fault_of bytes tables f g wrong bad
 
-    small_or_large : IsSmall files tables path → IsLarge files tables path → ⊥
-    small_or_large a (cells, rule, ruled, (x, y, large)) =
-        let one = one_ruled a.0 cells a.1 rule a.2 ruled in
-        let few : cell cells x y < states_of a.1 = subst (λ p. cell p x y < states_of a.1) one.0 (a.3 x y) in
-        let small : cell cells x y < states_of rule = subst (λ r. cell cells x y < states_of r) one.1 few in
-        omega arith
+    small_or_large_at : IsSmall files tables path → IsLarge files tables path → ⊥
+    small_or_large_at (cells, rule, ruled, small) (others, other_rule, there, large) =
+        let (bytes, one, two) = same_file (HoldsSome cells rule) (HoldsSome others other_rule) ruled there in
+        small_or_large bytes tables cells others rule other_rule one.0 two.0 one.1 small two.1 large
 
 -- the files of paths are one list of tables
 one_tables : (files : List (List ℕ × List ℕ)) (rules : List (List ℕ)) (ts us : List TableRule) → AreTables files rules ts → AreTables files rules us → ts ≡ us
@@ -206,8 +234,8 @@ module _ (files : List (List ℕ × List ℕ)) (tables : List TableRule) where
   no_others : (p q : List ℕ) (cells other : Picture) (rule other_rule : RuleValue) → IsGood files tables p cells rule → IsGood files tables q other other_rule → IsSameRule rule other_rule
       → HaveOtherRules files tables p q → ⊥
   no_others p q cells other rule other_rule one two same mixed =
-      let a = (one_ruled files p tables cells mixed.0 rule mixed.1 one.ruled mixed.4).1 in
-      let b = (one_ruled files q tables other mixed.2 other_rule mixed.3 two.ruled mixed.5).1 in
+      let a = (one_ruled_at files p tables cells mixed.0 rule mixed.1 one.ruled mixed.4).1 in
+      let b = (one_ruled_at files q tables other mixed.2 other_rule mixed.3 two.ruled mixed.5).1 in
       mixed.6 (subst (λ r. IsSameRule r mixed.3) a (subst (IsSameRule rule) b same))
 
   -- of good patterns no two have different rules
@@ -244,10 +272,10 @@ module _ (files : List (List ℕ × List ℕ)) (tables : List TableRule) where
   -- patterns are good in one way
   one_good : (paths : List (List ℕ)) (p q o v : Picture) (r s : RuleValue) → AreGood files tables paths p o r → AreGood files tables paths q v s → (p ≡ q) × (o ≡ v) × (r ≡ s)
   one_good [] p q o v r s a b = absurd a
-  one_good (path ∷ []) p q o v r s a b = let one = one_ruled files path tables p q r s a.0.ruled b.0.ruled in (one.0, a.1 ∙ one.0 ∙ sym b.1, one.1)
+  one_good (path ∷ []) p q o v r s a b = let one = one_ruled_at files path tables p q r s a.0.ruled b.0.ruled in (one.0, a.1 ∙ one.0 ∙ sym b.1, one.1)
   one_good (path ∷ other ∷ []) p q o v r s a b =
-      let one = one_ruled files path tables p q r s a.0.ruled b.0.ruled in
-      (one.0, (one_ruled files other tables o v a.1 b.1 a.2.ruled b.2.ruled).0, one.1)
+      let one = one_ruled_at files path tables p q r s a.0.ruled b.0.ruled in
+      (one.0, (one_ruled_at files other tables o v a.1 b.1 a.2.ruled b.2.ruled).0, one.1)
   one_good (path ∷ other ∷ third ∷ paths) p q o v r s a b = absurd a
 
 -- ---- causes, in their order
@@ -273,34 +301,32 @@ place_within MixedRules m = omega arith
 place_within TooManyCells m = omega arith
 place_within Memory m = absurd (m refl)
 
--- this holds of the tables
-abbrev OfTables : List (List ℕ × List ℕ) → List (List ℕ) → (List TableRule → Type 0) → Type 0
-OfTables files rules Holds = (tables : List TableRule) × AreTables files rules tables × Holds tables
+-- what holds of tables holds of those that are the same
+of_these : (files : List (List ℕ × List ℕ)) (rules : List (List ℕ)) (Holds : List TableRule → Type 0) (tables others : List TableRule) → AreTables files rules tables → AreTables files rules others
+    → Holds others → Holds tables
+of_these files rules Holds tables others are there h = subst Holds (one_tables files rules others tables there are) h
 
--- and of those that are the same
-of_these : (files : List (List ℕ × List ℕ)) (rules : List (List ℕ)) (Holds : List TableRule → Type 0) (tables : List TableRule) → AreTables files rules tables → OfTables files rules Holds → Holds tables
-of_these files rules Holds tables are (others, there, h) = subst Holds (one_tables files rules others tables there are) h
-
--- none of the first n causes holds, up to the one that counts cells
-abbrev IsPast : List (List ℕ × List ℕ) → List (List ℕ) → List (List ℕ) → ℕ → Type 0
+-- the first n stages, up to the one rule: none of the first n causes holds
+abbrev IsPast : List (List ℕ × List ℕ) → (rules paths : List (List ℕ)) → ℕ → Type 0
 IsPast files rules paths zero = Unit {0}
-IsPast files rules paths (suc zero) = AllByRecursion (IsThere files) paths × AllByRecursion (IsThere files) rules
-IsPast files rules paths (suc (suc zero)) = OfTables files rules (λ tables. AllByRecursion (IsThere files) paths)
-IsPast files rules paths (suc (suc (suc zero))) = OfTables files rules (λ tables. AllByRecursion (Reads files) paths)
-IsPast files rules paths (suc (suc (suc (suc zero)))) = OfTables files rules (λ tables. AllByRecursion (HasRule files tables) paths)
-IsPast files rules paths (suc (suc (suc (suc (suc zero))))) = OfTables files rules (λ tables. AllByRecursion (IsSmall files tables) paths)
+IsPast files rules paths (suc zero) = FilesAreThere files rules paths
+IsPast files rules paths (suc (suc zero)) = (tables : List TableRule) × TablesAreGood files rules paths tables
+IsPast files rules paths (suc (suc (suc zero))) = (tables : List TableRule) × PatternsAreRead files rules paths tables
+IsPast files rules paths (suc (suc (suc (suc zero)))) = (tables : List TableRule) × PatternsHaveRules files rules paths tables
+IsPast files rules paths (suc (suc (suc (suc (suc zero))))) = (tables : List TableRule) × StatesAreSmall files rules paths tables
 IsPast files rules paths (suc (suc (suc (suc (suc (suc n)))))) =
-    OfTables files rules (λ tables. AllByRecursion (IsSmall files tables) paths × (SomeOf (λ p. SomeOf (HaveOtherRules files tables p) paths) paths → ⊥))
+    (tables : List TableRule) × StatesAreSmall files rules paths tables × (SomeOf (λ p. SomeOf (HaveOtherRules files tables p) paths) paths → ⊥)
 
 module _ (files : List (List ℕ × List ℕ)) (rules paths : List (List ℕ)) where
   -- nor one fewer
   past_one_fewer : (n : ℕ) → IsPast files rules paths (suc n) → IsPast files rules paths n
   past_one_fewer zero h = tt
-  past_one_fewer (suc zero) (tables, are, h) = (h, tables_there files rules tables are)
-  past_one_fewer (suc (suc zero)) (tables, are, h) = (tables, are, all_weaker (Reads files) (IsThere files) (λ p r. (r.0, r.1)) paths h)
-  past_one_fewer (suc (suc (suc zero))) (tables, are, h) = (tables, are, all_weaker (HasRule files tables) (Reads files) (λ p r. (r.2.1.bytes, r.2.1.at_path, r.2.1.readable)) paths h)
-  past_one_fewer (suc (suc (suc (suc zero)))) (tables, are, h) = (tables, are, all_weaker (IsSmall files tables) (HasRule files tables) (λ p r. (r.0, r.1, r.2)) paths h)
-  past_one_fewer (suc (suc (suc (suc (suc zero))))) (tables, are, h) = (tables, are, h.0)
+  past_one_fewer (suc zero) (tables, (are, h)) = (h, tables_there files rules tables are)
+  past_one_fewer (suc (suc zero)) (tables, (are, h)) = (tables, (are, all_weaker (Reads files) (IsThere files) (λ p r. (r.0, r.1)) paths h))
+  past_one_fewer (suc (suc (suc zero))) (tables, (are, h)) =
+      (tables, (are, all_weaker (HasRule files tables) (Reads files) (λ p r. ruled_path_reads files tables p r.0 r.1 r.2) paths h))
+  past_one_fewer (suc (suc (suc (suc zero)))) (tables, (are, h)) = (tables, (are, all_weaker (IsSmall files tables) (HasRule files tables) (λ p r. (r.0, r.1, r.2)) paths h))
+  past_one_fewer (suc (suc (suc (suc (suc zero))))) (tables, small, one) = (tables, small)
   past_one_fewer (suc (suc (suc (suc (suc (suc n)))))) h = h
 
   -- nor any fewer
@@ -313,15 +339,19 @@ module _ (files : List (List ℕ × List ℕ)) (rules paths : List (List ℕ)) w
   past_below : (n m : ℕ) → n ≤ m → IsPast files rules paths m → IsPast files rules paths n
   past_below n m below h = let e : m ≡ (m - n) + n = omega arith in past_fewer n (m - n) (subst (IsPast files rules paths) e h)
 
+  -- patterns on which a claim agrees are past them all
+  past_agreed : (cells other : Picture) (rule : RuleValue) → AgreeOn files rules paths cells other rule → IsPast files rules paths 6
+  past_agreed cells other rule (tables, are, good) = let one = none_mixed files tables paths cells other rule good in (tables, (are, one.0), one.1)
+
   -- a cause comes past those before it
   past_before : (cause : Cause) → cause ≢ Memory → HasCause files rules paths cause → IsPast files rules paths (place cause)
   past_before NoFile m h = tt
-  past_before (BadTable fault) m h = (h.0, h.1)
-  past_before (BadPattern fault) m (tables, are, all, first) = (tables, are, all)
-  past_before (BadRule fault) m (tables, are, all, first) = (tables, are, all)
-  past_before StateTooLarge m (tables, are, all, some) = (tables, are, all)
-  past_before MixedRules m (tables, are, all, some) = (tables, are, all)
-  past_before TooManyCells m (cells, other, rule, (tables, are, good), some) = (tables, are, none_mixed files tables paths cells other rule good)
+  past_before (BadTable fault) m h = h.0
+  past_before (BadPattern fault) m (tables, past, first) = (tables, past)
+  past_before (BadRule fault) m (tables, past, first) = (tables, past)
+  past_before StateTooLarge m (tables, past, some) = (tables, past)
+  past_before MixedRules m (tables, past, some) = (tables, past)
+  past_before TooManyCells m (cells, other, rule, agree, some) = past_agreed cells other rule agree
   past_before Memory m h = absurd (m refl)
 
   -- all tables are good or one is bad, not both
@@ -333,15 +363,16 @@ module _ (files : List (List ℕ × List ℕ)) (rules paths : List (List ℕ)) w
   not_past : (cause : Cause) → suc (place cause) ≤ 6 → HasCause files rules paths cause → IsPast files rules paths (suc (place cause)) → ⊥
   not_past NoFile m (inl none) past = all_or_some (IsThere files) (IsMissing files) (there_or_none files) paths past.0 none
   not_past NoFile m (inr none) past = all_or_some (IsThere files) (IsMissing files) (there_or_none files) rules past.1 none
-  not_past (BadTable fault) m h (tables, are, past) = tables_or_fault fault tables are h.2
-  not_past (BadPattern fault) m (tables, are, all, first) (others, there, past) = all_or_first (Reads files) (IsBadPattern files fault) (λ p. reads_or_fault files p fault) paths past first
-  not_past (BadRule fault) m (tables, are, all, first) past =
-      all_or_first (HasRule files tables) (IsUnnamed files tables fault) (λ p. named_or_fault files p tables fault) paths
-      (of_these files rules (λ t. AllByRecursion (HasRule files t) paths) tables are past) first
-  not_past StateTooLarge m (tables, are, all, some) past =
-      all_or_some (IsSmall files tables) (IsLarge files tables) (λ p. small_or_large files p tables) paths (of_these files rules (λ t. AllByRecursion (IsSmall files t) paths) tables are past) some
-  not_past MixedRules m (tables, are, all, some) past =
-      (of_these files rules (λ t. AllByRecursion (IsSmall files t) paths × (SomeOf (λ p. SomeOf (HaveOtherRules files t p) paths) paths → ⊥)) tables are past).1 some
+  not_past (BadTable fault) m h (tables, (are, past)) = tables_or_fault fault tables are h.1
+  not_past (BadPattern fault) m (tables, good, first) (others, (there, past)) = all_or_first (Reads files) (IsBadPattern files fault) (λ p. reads_or_fault files p fault) paths past first
+  not_past (BadRule fault) m (tables, (are, all), first) (others, (there, past)) =
+      all_or_first (HasRule files tables) (IsUnnamed files tables fault) (λ p. named_or_fault_at files p tables fault) paths
+      (of_these files rules (λ t. AllByRecursion (HasRule files t) paths) tables others are there past) first
+  not_past StateTooLarge m (tables, (are, all), some) (others, (there, past)) =
+      all_or_some (IsSmall files tables) (IsLarge files tables) (λ p. small_or_large_at files p tables) paths
+      (of_these files rules (λ t. AllByRecursion (IsSmall files t) paths) tables others are there past) some
+  not_past MixedRules m (tables, (are, all), some) (others, (there, past), one) =
+      of_these files rules (λ t. SomeOf (λ p. SomeOf (HaveOtherRules files t p) paths) paths → ⊥) tables others are there one some
   not_past TooManyCells m h past = let no : ⊥ = omega arith in no
   not_past Memory m h past = let no : ⊥ = omega arith in no
 
@@ -351,14 +382,14 @@ module _ (files : List (List ℕ × List ℕ)) (rules paths : List (List ℕ)) w
   same_place c Memory m n e h k = absurd (n refl)
   same_place NoFile NoFile m n e h k = refl
   same_place (BadTable f) (BadTable g) m n e h k =
-      ap BadTable (one_first (HoldsTable files) (IsBadTable files f) (IsBadTable files g) (f ≡ g) (λ p. table_or_fault files p f) (λ p. table_or_fault files p g) (λ p. one_bad_table files p f g) rules h.2 k.2)
-  same_place (BadPattern f) (BadPattern g) m n e (tables, are, all, first) (others, there, each, other) =
+      ap BadTable (one_first (HoldsTable files) (IsBadTable files f) (IsBadTable files g) (f ≡ g) (λ p. table_or_fault files p f) (λ p. table_or_fault files p g) (λ p. one_bad_table files p f g) rules h.1 k.1)
+  same_place (BadPattern f) (BadPattern g) m n e (tables, past, first) (others, past_too, other) =
       ap BadPattern (one_first (Reads files) (IsBadPattern files f) (IsBadPattern files g) (f ≡ g) (λ p. reads_or_fault files p f) (λ p. reads_or_fault files p g) (λ p. one_pattern_fault files p f g) paths first other)
-  same_place (BadRule f) (BadRule g) m n e (tables, are, all, first) (others, there, each, other) =
+  same_place (BadRule f) (BadRule g) m n e (tables, (are, all), first) (others, (there, each), other) =
       let same = one_tables files rules others tables there are in
       let too = subst (λ t. FirstBad (HasRule files t) (IsUnnamed files t g) paths) same other in
       ap BadRule (one_first (HasRule files tables) (IsUnnamed files tables f) (IsUnnamed files tables g) (f ≡ g)
-      (λ p. named_or_fault files p tables f) (λ p. named_or_fault files p tables g) (λ p. one_rule_fault files p tables f g) paths first too)
+      (λ p. named_or_fault_at files p tables f) (λ p. named_or_fault_at files p tables g) (λ p. one_rule_fault files p tables f g) paths first too)
   same_place StateTooLarge StateTooLarge m n e h k = refl
   same_place MixedRules MixedRules m n e h k = refl
   same_place TooManyCells TooManyCells m n e h k = refl
@@ -375,23 +406,24 @@ module _ (files : List (List ℕ × List ℕ)) (rules paths : List (List ℕ)) w
 
   -- a file that isn't there goes before out of memory
   pub no_file_or_memory : HasCause files rules paths NoFile → HasCause files rules paths Memory → ⊥
-  no_file_or_memory none (tables, are, all, first) = not_past NoFile (omega arith) none (all, tables_there files rules tables are)
+  no_file_or_memory none (tables, (are, all), first) = not_past NoFile (omega arith) none (all, tables_there files rules tables are)
 
   -- and so does a bad table
   pub bad_table_or_memory : (fault : TableFault) → HasCause files rules paths (BadTable fault) → HasCause files rules paths Memory → ⊥
-  bad_table_or_memory fault bad (tables, are, all, first) = tables_or_fault fault tables are bad.2
+  bad_table_or_memory fault bad (tables, (are, all), first) = tables_or_fault fault tables are bad.1
 
 -- ---- judged claims
 
 module _ (files : List (List ℕ × List ℕ)) (rules paths : List (List ℕ)) where
   -- a claim's patterns agree in one way
   one_agreed : (p q o v : Picture) (r s : RuleValue) → AgreeOn files rules paths p o r → AgreeOn files rules paths q v s → (p ≡ q) × (o ≡ v) × (r ≡ s)
-  one_agreed p q o v r s (tables, are, good) b = one_good files tables paths p q o v r s good (of_these files rules (λ t. AreGood files t paths q v s) tables are b)
+  one_agreed p q o v r s (tables, are, good) (others, there, too) =
+      one_good files tables paths p q o v r s good (of_these files rules (λ t. AreGood files t paths q v s) tables others are there too)
 
   -- where they agree, no cause holds before the one that counts cells
   agreed_or_early : (cells other : Picture) (rule : RuleValue) (cause : Cause) → suc (place cause) ≤ 6 → AgreeOn files rules paths cells other rule → HasCause files rules paths cause → ⊥
-  agreed_or_early cells other rule cause early (tables, are, good) h =
-      not_past files rules paths cause early h (past_below files rules paths (suc (place cause)) 6 early (tables, are, none_mixed files tables paths cells other rule good))
+  agreed_or_early cells other rule cause early agree h =
+      not_past files rules paths cause early h (past_below files rules paths (suc (place cause)) 6 early (past_agreed files rules paths cells other rule agree))
 
   -- nor that one, where the cells aren't too many
   pub agreed_or_cause : (cells other : Picture) (rule : RuleValue) (cause : Cause) → cause ≢ Memory → AgreeOn files rules paths cells other rule

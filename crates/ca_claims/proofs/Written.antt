@@ -15,14 +15,14 @@ use Rattle.ca_rle.specs.File as rle_file
 use Rattle.ca_rle.specs.Limits.{IsWithinLimits}
 use Rattle.ca_rle.specs.Shown as rle_shown
 use Rattle.ca_macro.specs.Tidy as macrocell
-use Rattle.ca_macro.specs.Nodes.{level_of as macrocell_level}
 use Rattle.ca_macro.specs.File as macrocell_file
 use Rattle.ca_macro.specs.Limits.{IsWithinRange}
 use Rattle.ca_macro.specs.Shown as macrocell_shown
 use Rattle.ca_macro.specs.Pattern.{Holds}
+use Rattle.ca_macro.proofs.TidyFiles.{tidy_nodes_as}
 use Rattle.ca_rule.specs.Rule.{states_of, printed_form}
 use Rattle.ca_claims.specs.declared.ruled.Ruled.{Ruled}
-use Rattle.ca_claims.specs.declared.target.Target.TheVariants.{Rle, Mc}
+use Rattle.ca_claims.specs.declared.format.Format.TheVariants.{Rle, Mc}
 use Rattle.ca_claims.specs.Means.{format_of, MeansAs, IsReadableAs}
 use Rattle.ca_claims.specs.inner.Cells.{IsPlaneOf}
 use Rattle.ca_claims.specs.inner.Patterns.{rule_of}
@@ -61,10 +61,12 @@ written_rle nodes ruled cells rule_text text file is printed tidy is_file within
       shown = cells;
       same = λ x y. sym (is.shows x y);
       format = format;
-      readable = in_format (λ t. IsReadableAs t text) text Rle format (file, is_file, within);
-      means =
-          in_format (λ t. MeansAs t text cells (printed_form (rule_of ruled)) ruled.pattern.generation) text Rle format
-          (file, is_file, sym shown, sym (names ∙ printed), sym generation);
+      holds = record {
+        readable = in_format (λ t. IsReadableAs t text) text Rle format (file, is_file, within);
+        means =
+            in_format (λ t. MeansAs t text cells (printed_form (rule_of ruled)) ruled.pattern.generation) text Rle format
+            (file, is_file, sym shown, sym (names ∙ printed), sym generation);
+      };
       tidy = subst (λ t. rle.IsTidy text cells t ruled.pattern.generation (states_of (rule_of ruled))) printed tidy;
     }
 
@@ -72,33 +74,8 @@ written_rle nodes ruled cells rule_text text file is printed tidy is_file within
 
 -- a text that is tidy for cells is so for the same cells
 module _ (f g : ℤ → ℤ → ℕ) (same : (x y : ℤ) → f x y ≡ g x y) where
-  fits_shown : (level : ℕ) → macrocell.Fits level f → macrocell.Fits level g
-  fits_shown level fits = λ x y live. fits x y (λ e. live (sym (same x y) ∙ e))
-
-  fits_back : (level : ℕ) → macrocell.Fits level g → macrocell.Fits level f
-  fits_back level fits = λ x y live. fits x y (λ e. live (same x y ∙ e))
-
-  level_shown : (states level : ℕ) → macrocell.IsLeastLevel states f level → macrocell.IsLeastLevel states g level
-  level_shown states level is = record {
-    allowed = is.allowed;
-    fits = fits_shown level is.fits;
-    least = λ other low fits. is.least other low (fits_back other fits);
-  }
-
-  tidy_shown : (text rule_text : List ℕ) (generation states : ℕ) → macrocell.IsTidy text f rule_text generation states → macrocell.IsTidy text g rule_text generation states
-  tidy_shown text rule_text generation states tidy = record {
-    nodes = tidy.nodes;
-    root = tidy.root;
-    shown = λ x y. sym (same x y) ∙ tidy.shown x y;
-    root_is_last = tidy.root_is_last;
-    level = level_shown states (macrocell_level tidy.root) tidy.level;
-    in_place = tidy.in_place;
-    forms = tidy.forms;
-    distinct = tidy.distinct;
-    empties = tidy.empties;
-    order = tidy.order;
-    spelled = tidy.spelled;
-  }
+  pub tidy_shown : (text rule_text : List ℕ) (generation states : ℕ) → macrocell.IsTidy text f rule_text generation states → macrocell.IsTidy text g rule_text generation states
+  tidy_shown text rule_text generation states tidy = record { nodes = tidy.nodes; tidy = tidy_nodes_as states f g tidy.nodes same tidy.tidy; spelled = tidy.spelled }
 
 pub written_macro : (nodes : List Node) (ruled : Ruled) (rule_text text : List ℕ) (file : macrocell_file.File) → rule_text ≡ printed_form (rule_of ruled)
     → macrocell.IsTidy text (cell nodes ruled.pattern.tree) rule_text ruled.pattern.generation (states_of (rule_of ruled)) → macrocell_file.IsFile text file → IsWithinRange file
@@ -111,10 +88,12 @@ written_macro nodes ruled rule_text text file printed tidy is_file within holds 
       shown = cells;
       same = same;
       format = format;
-      readable = in_format (λ t. IsReadableAs t text) text Mc format (file, is_file, within);
-      means =
-          in_format (λ t. MeansAs t text cells (printed_form (rule_of ruled)) ruled.pattern.generation) text Mc format
-          (file, is_file, refl, sym (holds.rule_is ∙ printed), sym holds.generation_is);
+      holds = record {
+        readable = in_format (λ t. IsReadableAs t text) text Mc format (file, is_file, within);
+        means =
+            in_format (λ t. MeansAs t text cells (printed_form (rule_of ruled)) ruled.pattern.generation) text Mc format
+            (file, is_file, refl, sym (holds.rule_is ∙ printed), sym holds.generation_is);
+      };
       tidy =
           tidy_shown (cell nodes ruled.pattern.tree) (plane.cell cells) same text (printed_form (rule_of ruled)) ruled.pattern.generation (states_of (rule_of ruled))
           (subst (λ t. macrocell.IsTidy text (cell nodes ruled.pattern.tree) t ruled.pattern.generation (states_of (rule_of ruled))) printed tidy);

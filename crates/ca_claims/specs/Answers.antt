@@ -9,12 +9,12 @@ use Rattle.ca_rule.specs.TableFaults as table_faults
 use Rattle.ca_rule.specs.declared.fault.RuleFault.{RuleFault}
 use Rattle.ca_rule.specs.declared.table.fault.TableFault.{TableFault}
 use Rattle.ca_rule.specs.declared.table.fault.TableFault.TheVariants as table_fault
-use Rattle.ca_rule.specs.Rule.{RuleValue, states_of, next_of, IsSameRule, NamesRule, IsRuleFault}
+use Rattle.ca_rule.specs.Rule.{RuleValue, states_of, next_of, IsSameRule}
 use Rattle.ca_rle.specs.Faults as rle_faults
 use Rattle.ca_rle.specs.declared.fault.RleFault.TheVariants as rle_fault
 use Rattle.ca_macro.specs.Faults as macrocell_faults
 use Rattle.ca_macro.specs.declared.fault.MacroFault.TheVariants as macrocell_fault
-use Rattle.ca_claims.specs.declared.target.Target.TheVariants as target
+use Rattle.ca_claims.specs.declared.format.Format.TheVariants as formats
 use Rattle.ca_claims.specs.declared.verdict.Answer.{Answer}
 use Rattle.ca_claims.specs.declared.verdict.Verdict.{Verdict}
 use Rattle.ca_claims.specs.declared.verdict.Verdict.TheVariants.{Yes, No, Refused}
@@ -25,13 +25,13 @@ use Rattle.ca_claims.specs.declared.verdict.Cause.TheVariants.{NoFile, BadTable,
 use Rattle.ca_claims.specs.declared.claims.asks.Asks.{Asks}
 use Rattle.ca_claims.specs.declared.claims.asks.Barred.TheVariants.{Anywhere}
 use Rattle.ca_claims.specs.Text.{Claim, patterns_of}
-use Rattle.ca_claims.specs.Means.{bytes_at, format_of, Means, IsReadable, MayWantMemory}
+use Rattle.ca_claims.specs.Means.{bytes_at, format_of, IsReadable, HoldsRuledPattern, HasRuleFault, MayWantMemory}
 use Rattle.ca_claims.specs.Truth.{asks_of, IsTrueClaim, IsReason}
 
 -- the fault for which the bytes of a pattern aren't read; out of memory is none of them
 abbrev pub IsPatternFault : List ℕ → PatternFault → Type 0
-IsPatternFault bytes (pattern_fault.Rle fault) = (format_of bytes ≡ target.Rle) × (fault ≢ rle_fault.Memory) × rle_faults.IsFaultOf bytes fault
-IsPatternFault bytes (pattern_fault.Macro fault) = (format_of bytes ≡ target.Mc) × (fault ≢ macrocell_fault.Memory) × macrocell_faults.IsFaultOf bytes fault
+IsPatternFault bytes (pattern_fault.Rle fault) = (format_of bytes ≡ formats.Rle) × (fault ≢ rle_fault.Memory) × rle_faults.IsFaultOf bytes fault
+IsPatternFault bytes (pattern_fault.Macro fault) = (format_of bytes ≡ formats.Mc) × (fault ≢ macrocell_fault.Memory) × macrocell_faults.IsFaultOf bytes fault
 IsPatternFault bytes pattern_fault.Memory = ⊥
 
 -- the bytes are the text of this table, which leaves the empty plane empty
@@ -42,25 +42,21 @@ IsQuietTable bytes table = IsTable bytes table × (table_next table (replicate 9
 abbrev pub IsTableFault : List ℕ → TableFault → Type 0
 IsTableFault bytes fault = (fault ≢ table_fault.Memory) × table_faults.IsFaultOf bytes fault
 
--- the file of a path was handed in, is read, and means these cells under this rule text
-pub record IsRead (files : List (List ℕ × List ℕ)) (path : List ℕ) (cells : Picture) (rule_text : List ℕ) : Type 0 where
-  pub bytes : List ℕ
-  pub generation : ℕ
-  pub at_path : bytes_at files path ≡ Some bytes
-  pub readable : IsReadable bytes
-  pub means : Means bytes cells rule_text generation
+-- the file of a path was handed in, and this holds of its bytes
+abbrev pub HoldsOfFile : List (List ℕ × List ℕ) → (List ℕ → Type 0) → List ℕ → Type 0
+HoldsOfFile files Holds path = (bytes : List ℕ) × (bytes_at files path ≡ Some bytes) × Holds bytes
 
--- the file of a rule line's path was handed in, and is the text of this table
+-- the file of a rule line's path is the text of this table
 abbrev pub IsTableAt : List (List ℕ × List ℕ) → List ℕ → TableRule → Type 0
-IsTableAt files path table = (bytes : List ℕ) × (bytes_at files path ≡ Some bytes) × IsQuietTable bytes table
+IsTableAt files path table = HoldsOfFile files (λ bytes. IsQuietTable bytes table) path
 
 -- the files of the rule lines' paths are these tables, in the order of the lines
 abbrev pub AreTables : List (List ℕ × List ℕ) → List (List ℕ) → List TableRule → Type 0
 AreTables files rules tables = AllZip (IsTableAt files) rules tables
 
--- the file means these cells, and its rule text names this rule among the tables
+-- the file of a pattern's path is read, and means these cells under this rule
 abbrev pub IsRuled : List (List ℕ × List ℕ) → List TableRule → List ℕ → Picture → RuleValue → Type 0
-IsRuled files tables path cells rule = (rule_text : List ℕ) × IsRead files path cells rule_text × NamesRule rule_text tables rule
+IsRuled files tables path cells rule = HoldsOfFile files (λ bytes. (generation : ℕ) × HoldsRuledPattern bytes tables cells rule generation) path
 
 -- some cell has a state that isn't below the number of the rule's states
 abbrev pub HasLargeState : RuleValue → (ℤ → ℤ → ℕ) → Type 0
@@ -84,7 +80,7 @@ HoldsTable files path = (table : TableRule) × IsTableAt files path table
 
 -- the file of a pattern's path is there, and it reads
 abbrev pub Reads : List (List ℕ × List ℕ) → List ℕ → Type 0
-Reads files path = (bytes : List ℕ) × (bytes_at files path ≡ Some bytes) × IsReadable bytes
+Reads files path = HoldsOfFile files IsReadable path
 
 -- and its rule text names a rule
 abbrev pub HasRule : List (List ℕ × List ℕ) → List TableRule → List ℕ → Type 0
@@ -111,15 +107,15 @@ FirstIs Holds (x ∷ xs) = Holds x
 
 -- the file of the path is there, and has this fault as the text of a table
 abbrev pub IsBadTable : List (List ℕ × List ℕ) → TableFault → List ℕ → Type 0
-IsBadTable files fault path = (bytes : List ℕ) × (bytes_at files path ≡ Some bytes) × IsTableFault bytes fault
+IsBadTable files fault path = HoldsOfFile files (λ bytes. IsTableFault bytes fault) path
 
 -- as that of a pattern
 abbrev pub IsBadPattern : List (List ℕ × List ℕ) → PatternFault → List ℕ → Type 0
-IsBadPattern files fault path = (bytes : List ℕ) × (bytes_at files path ≡ Some bytes) × IsPatternFault bytes fault
+IsBadPattern files fault path = HoldsOfFile files (λ bytes. IsPatternFault bytes fault) path
 
 -- it is there and is read, and its rule text has this fault
 abbrev pub IsUnnamed : List (List ℕ × List ℕ) → List TableRule → RuleFault → List ℕ → Type 0
-IsUnnamed files tables fault path = (cells : Picture) × (text : List ℕ) × IsRead files path cells text × IsRuleFault text tables fault
+IsUnnamed files tables fault path = HoldsOfFile files (λ bytes. HasRuleFault bytes tables fault) path
 
 -- it has a rule, and some state that is too large for it
 abbrev pub IsLarge : List (List ℕ × List ℕ) → List TableRule → List ℕ → Type 0
@@ -127,7 +123,7 @@ IsLarge files tables path = (cells : Picture) × (rule : RuleValue) × IsRuled f
 
 -- it is there, and memory may run out for it
 abbrev pub WantsMemory : List (List ℕ × List ℕ) → List ℕ → Type 0
-WantsMemory files path = (bytes : List ℕ) × (bytes_at files path ≡ Some bytes) × MayWantMemory bytes
+WantsMemory files path = HoldsOfFile files MayWantMemory path
 
 -- the patterns of two paths have different rules
 abbrev pub HaveOtherRules : List (List ℕ × List ℕ) → List TableRule → List ℕ → List ℕ → Type 0
@@ -151,29 +147,47 @@ AreGood files tables (path ∷ other_path ∷ []) cells other rule =
     IsGood files tables path cells rule × (other_rule : RuleValue) × IsGood files tables other_path other other_rule × IsSameRule rule other_rule
 AreGood files tables (path ∷ other_path ∷ third ∷ paths) cells other rule = ⊥
 
--- all the tables are good, and so are the claim's patterns
-abbrev pub AgreeOn : List (List ℕ × List ℕ) → List (List ℕ) → List (List ℕ) → Picture → Picture → RuleValue → Type 0
+-- A claim about patterns of these paths is judged in stages; `rules` are the paths of the text's rule lines. First: all the
+-- files are there
+abbrev pub FilesAreThere : List (List ℕ × List ℕ) → (rules paths : List (List ℕ)) → Type 0
+FilesAreThere files rules paths = AllByRecursion (IsThere files) paths × AllByRecursion (IsThere files) rules
+
+-- second: those of the rule lines are these good tables
+abbrev pub TablesAreGood : List (List ℕ × List ℕ) → (rules paths : List (List ℕ)) → List TableRule → Type 0
+TablesAreGood files rules paths tables = AreTables files rules tables × AllByRecursion (IsThere files) paths
+
+-- third: the patterns' are read
+abbrev pub PatternsAreRead : List (List ℕ × List ℕ) → (rules paths : List (List ℕ)) → List TableRule → Type 0
+PatternsAreRead files rules paths tables = AreTables files rules tables × AllByRecursion (Reads files) paths
+
+-- fourth: their rule texts name rules
+abbrev pub PatternsHaveRules : List (List ℕ × List ℕ) → (rules paths : List (List ℕ)) → List TableRule → Type 0
+PatternsHaveRules files rules paths tables = AreTables files rules tables × AllByRecursion (HasRule files tables) paths
+
+-- fifth: their states are small
+abbrev pub StatesAreSmall : List (List ℕ × List ℕ) → (rules paths : List (List ℕ)) → List TableRule → Type 0
+StatesAreSmall files rules paths tables = AreTables files rules tables × AllByRecursion (IsSmall files tables) paths
+
+-- sixth: they are of one rule, and mean these cells under it
+abbrev pub AgreeOn : List (List ℕ × List ℕ) → (rules paths : List (List ℕ)) → Picture → Picture → RuleValue → Type 0
 AgreeOn files rules paths cells other rule = (tables : List TableRule) × AreTables files rules tables × AreGood files tables paths cells other rule
 
--- the first cause of a refusal that holds of a claim about patterns of these paths, in the order of these lines; `rules`
--- are the paths of the text's rule lines. A table is judged only where all the files are there, and a pattern only where
--- all the tables are good; out of memory only where besides the first of the patterns may need memory
-abbrev pub HasCause : List (List ℕ × List ℕ) → List (List ℕ) → List (List ℕ) → Cause → Type 0
+-- the cause of a refusal: a claim gets through these stages, and this is wrong at the next. Out of memory comes at any stage
+-- after the second, and only where the first of the patterns may need memory
+abbrev pub HasCause : List (List ℕ × List ℕ) → (rules paths : List (List ℕ)) → Cause → Type 0
 HasCause files rules paths NoFile = SomeOf (IsMissing files) paths ⊎ SomeOf (IsMissing files) rules
-HasCause files rules paths (BadTable fault) = AllByRecursion (IsThere files) paths × AllByRecursion (IsThere files) rules
-    × FirstBad (HoldsTable files) (IsBadTable files fault) rules
-HasCause files rules paths (BadPattern fault) = (tables : List TableRule) × AreTables files rules tables × AllByRecursion (IsThere files) paths
-    × FirstBad (Reads files) (IsBadPattern files fault) paths
-HasCause files rules paths (BadRule fault) = (tables : List TableRule) × AreTables files rules tables × AllByRecursion (Reads files) paths
-    × FirstBad (HasRule files tables) (IsUnnamed files tables fault) paths
-HasCause files rules paths StateTooLarge = (tables : List TableRule) × AreTables files rules tables × AllByRecursion (HasRule files tables) paths
-    × SomeOf (IsLarge files tables) paths
-HasCause files rules paths MixedRules = (tables : List TableRule) × AreTables files rules tables × AllByRecursion (IsSmall files tables) paths
-    × SomeOf (λ p. SomeOf (HaveOtherRules files tables p) paths) paths
-HasCause files rules paths TooManyCells = (cells : Picture) × (other : Picture) × (rule : RuleValue) × AgreeOn files rules paths cells other rule
-    × HasTooManyCells (cell cells)
-HasCause files rules paths Memory = (tables : List TableRule) × AreTables files rules tables × AllByRecursion (IsThere files) paths
-    × FirstIs (WantsMemory files) paths
+HasCause files rules paths (BadTable fault) = FilesAreThere files rules paths × FirstBad (HoldsTable files) (IsBadTable files fault) rules
+HasCause files rules paths (BadPattern fault) =
+    (tables : List TableRule) × TablesAreGood files rules paths tables × FirstBad (Reads files) (IsBadPattern files fault) paths
+HasCause files rules paths (BadRule fault) =
+    (tables : List TableRule) × PatternsAreRead files rules paths tables × FirstBad (HasRule files tables) (IsUnnamed files tables fault) paths
+HasCause files rules paths StateTooLarge =
+    (tables : List TableRule) × PatternsHaveRules files rules paths tables × SomeOf (IsLarge files tables) paths
+HasCause files rules paths MixedRules =
+    (tables : List TableRule) × StatesAreSmall files rules paths tables × SomeOf (λ p. SomeOf (HaveOtherRules files tables p) paths) paths
+HasCause files rules paths TooManyCells =
+    (cells : Picture) × (other : Picture) × (rule : RuleValue) × AgreeOn files rules paths cells other rule × HasTooManyCells (cell cells)
+HasCause files rules paths Memory = (tables : List TableRule) × TablesAreGood files rules paths tables × FirstIs (WantsMemory files) paths
 
 -- cells are counted only of a pattern that may be back anywhere, that of a spaceship
 abbrev pub IsCounted : Asks → Type 0

@@ -4,42 +4,34 @@ use Rattle.ca_plane.specs.Plane.{Picture, cell, IsSame, IsLive}
 use Rattle.ca_plane.specs.Box.{IsLeastBox}
 use Rattle.ca_plane.specs.Population.{HasPopulation, HasTooManyCells}
 use Rattle.ca_rule.specs.TableNext.{TableRule}
-use Rattle.ca_rule.specs.Rule.{RuleValue, states_of, printed_form, NamesRule, IsRuleFault}
+use Rattle.ca_rule.specs.Rule.{RuleValue, states_of, printed_form}
 use Rattle.ca_rle.specs.Tidy as rle
 use Rattle.ca_macro.specs.Tidy as macrocell
-use Rattle.ca_claims.specs.declared.target.Target.{Target}
-use Rattle.ca_claims.specs.declared.target.Target.TheVariants.{Rle, Mc}
+use Rattle.ca_claims.specs.declared.format.Format.{Format}
+use Rattle.ca_claims.specs.declared.format.Format.TheVariants.{Rle, Mc}
 use Rattle.ca_claims.specs.declared.conversion.ConvertFault.{ConvertFault}
 use Rattle.ca_claims.specs.declared.conversion.ConvertFault.TheVariants.{BadPattern, BadRule, StateTooLarge, TooManyCells, Memory}
 use Rattle.ca_claims.specs.declared.pattern.Summary.{Summary}
-use Rattle.ca_claims.specs.Means.{format_of, Means, IsReadable, MayWantMemory}
+use Rattle.ca_claims.specs.Means.{format_of, HoldsPattern, HoldsRuledPattern, HasRuleFault, MayWantMemory}
 use Rattle.ca_claims.specs.Answers.{IsPatternFault, HasLargeState, HasSmallStates}
 
--- the bytes are read, and mean these cells and this generation under a rule that their rule text names among the tables
-pub record IsUnder (bytes : List ℕ) (tables : List TableRule) (cells : Picture) (rule : RuleValue) (generation : ℕ) : Type 0 where
-  pub rule_text : List ℕ
-  pub readable : IsReadable bytes
-  pub means : Means bytes cells rule_text generation
-  pub names : NamesRule rule_text tables rule
-
 -- the tidy text of a format
-abbrev pub IsTidyAs : Target → List ℕ → Picture → List ℕ → ℕ → ℕ → Type 0
+abbrev pub IsTidyAs : Format → List ℕ → Picture → List ℕ → ℕ → ℕ → Type 0
 IsTidyAs Rle text cells rule_text generation states = rle.IsTidy text cells rule_text generation states
 IsTidyAs Mc text cells rule_text generation states = macrocell.IsTidy text (cell cells) rule_text generation states
 
 -- the text is what the bytes are converted to: of the same cells at every x and y, with the printed form of the rule, and of the same
 -- generation; it is the tidy text of the target's format, and its reader takes it
-pub record IsConverted (bytes : List ℕ) (tables : List TableRule) (target : Target) (text : List ℕ) : Type 0 where
+pub record IsConverted (bytes : List ℕ) (tables : List TableRule) (target : Format) (text : List ℕ) : Type 0 where
   pub cells : Picture
   pub rule : RuleValue
   pub generation : ℕ
-  pub under : IsUnder bytes tables cells rule generation
+  pub holds : HoldsRuledPattern bytes tables cells rule generation
   pub small : HasSmallStates rule (cell cells)
   pub shown : Picture
   pub same : IsSame cells shown
   pub format : format_of text ≡ target
-  pub readable : IsReadable text
-  pub means : Means text shown (printed_form rule) generation
+  pub text_holds : HoldsPattern text shown (printed_form rule) generation
   pub tidy : IsTidyAs target text shown (printed_form rule) generation (states_of rule)
 
 -- the summary is that of the bytes: their format, the printed form of their rule, the generation, the number of live cells, and the
@@ -47,7 +39,7 @@ pub record IsConverted (bytes : List ℕ) (tables : List TableRule) (target : Ta
 pub record IsSummary (bytes : List ℕ) (tables : List TableRule) (summary : Summary) : Type 0 where
   pub cells : Picture
   pub rule : RuleValue
-  pub under : IsUnder bytes tables cells rule summary.generation
+  pub holds : HoldsRuledPattern bytes tables cells rule summary.generation
   pub small : HasSmallStates rule (cell cells)
   pub kind : summary.kind ≡ format_of bytes
   pub printed : summary.rule_text.items ≡ printed_form rule
@@ -66,18 +58,17 @@ pub record IsSameSummary (one two : Summary) : Type 0 where
 -- Out of memory may come before any of them, where memory may run out for the bytes
 abbrev pub IsSummaryFault : List ℕ → List TableRule → ConvertFault → Type 0
 IsSummaryFault bytes tables (BadPattern fault) = IsPatternFault bytes fault
-IsSummaryFault bytes tables (BadRule fault) = (cells : Picture) × (rule_text : List ℕ) × (generation : ℕ)
-    × IsReadable bytes × Means bytes cells rule_text generation × IsRuleFault rule_text tables fault
+IsSummaryFault bytes tables (BadRule fault) = HasRuleFault bytes tables fault
 IsSummaryFault bytes tables StateTooLarge = (cells : Picture) × (rule : RuleValue) × (generation : ℕ)
-    × IsUnder bytes tables cells rule generation × HasLargeState rule (cell cells)
+    × HoldsRuledPattern bytes tables cells rule generation × HasLargeState rule (cell cells)
 IsSummaryFault bytes tables TooManyCells = ⊥
 IsSummaryFault bytes tables Memory = MayWantMemory bytes
 
 -- the first reason for which the bytes aren't converted: one of those, or more live cells than an RLE may have
-abbrev pub IsConvertFault : List ℕ → List TableRule → Target → ConvertFault → Type 0
+abbrev pub IsConvertFault : List ℕ → List TableRule → Format → ConvertFault → Type 0
 IsConvertFault bytes tables target (BadPattern fault) = IsSummaryFault bytes tables (BadPattern fault)
 IsConvertFault bytes tables target (BadRule fault) = IsSummaryFault bytes tables (BadRule fault)
 IsConvertFault bytes tables target StateTooLarge = IsSummaryFault bytes tables StateTooLarge
 IsConvertFault bytes tables target TooManyCells = (target ≡ Rle) × (cells : Picture) × (rule : RuleValue) × (generation : ℕ)
-    × IsUnder bytes tables cells rule generation × HasSmallStates rule (cell cells) × HasTooManyCells (cell cells)
+    × HoldsRuledPattern bytes tables cells rule generation × HasSmallStates rule (cell cells) × HasTooManyCells (cell cells)
 IsConvertFault bytes tables target Memory = IsSummaryFault bytes tables Memory

@@ -5,7 +5,7 @@ use Rattle.ca_quad.specs.declared.node.Node.{Node}
 use Rattle.ca_quad.specs.Trees as trees
 use Rattle.ca_quad.specs.Trimmed.{IsTrimmed}
 use Rattle.ca_claims.specs.declared.pattern.Loaded.{Loaded}
-use Rattle.ca_claims.specs.Means.{format_of, Means, IsReadable}
+use Rattle.ca_claims.specs.Means.{format_of, HoldsPattern}
 
 -- the pattern is what the bytes mean, in the store of these nodes: its tree shows these cells and has the least level
 pub record IsLoaded (nodes : List Node) (bytes : List ℕ) (cells : Picture) (loaded : Loaded) : Type 0 where
@@ -13,5 +13,4 @@ pub record IsLoaded (nodes : List Node) (bytes : List ℕ) (cells : Picture) (lo
   pub tree : trees.IsTree nodes loaded.tree
   pub trimmed : IsTrimmed nodes loaded.tree
   pub shows : (x y : ℤ) → trees.cell nodes loaded.tree x y ≡ cell cells x y
-  pub readable : IsReadable bytes
-  pub means : Means bytes cells loaded.rule_text.items loaded.generation
+  pub holds : HoldsPattern bytes cells loaded.rule_text.items loaded.generation

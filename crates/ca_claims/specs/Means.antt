@@ -2,6 +2,9 @@
 use Rattle.std.specs.Prelude.{◌≡◌, ℕ, List, [], ◌∷◌, map, Option, Some, None, if◌then◌else◌}
 use Rattle.std.specs.Str.{bytes_eq}
 use Rattle.ca_plane.specs.Plane.{Picture}
+use Rattle.ca_rule.specs.TableNext.{TableRule}
+use Rattle.ca_rule.specs.declared.fault.RuleFault.{RuleFault}
+use Rattle.ca_rule.specs.Rule.{RuleValue, NamesRule, IsRuleFault}
 use Rattle.ca_rle.specs.File as rle
 use Rattle.ca_rle.specs.Limits.{IsWithinLimits}
 use Rattle.ca_rle.specs.Shown as rle_shown
@@ -11,8 +14,8 @@ use Rattle.ca_macro.specs.Shown as macrocell_shown
 use Rattle.ca_macro.specs.Faults as macrocell_faults
 use Rattle.ca_macro.specs.declared.fault.MacroFault.TheVariants as macrocell_fault
 use Rattle.ca_claims.specs.declared.file.File.{File}
-use Rattle.ca_claims.specs.declared.target.Target.{Target}
-use Rattle.ca_claims.specs.declared.target.Target.TheVariants.{Rle, Mc}
+use Rattle.ca_claims.specs.declared.format.Format.{Format}
+use Rattle.ca_claims.specs.declared.format.Format.TheVariants.{Rle, Mc}
 
 -- the paths and bytes of the files that were handed in
 abbrev pub contents : List File → List (List ℕ × List ℕ)
@@ -24,11 +27,11 @@ bytes_at [] path = None
 bytes_at (f ∷ fs) path = if bytes_eq f.0 path then Some f.1 else bytes_at fs path
 
 -- the format of a file: bytes that begin with `[M2]` are macrocell, and all others RLE
-abbrev pub format_of : List ℕ → Target
+abbrev pub format_of : List ℕ → Format
 format_of bytes = if macrocell.begins_macro bytes then Mc else Rle
 
 -- the bytes are a text of this format that holds a picture, a rule text and a generation
-abbrev pub MeansAs : Target → List ℕ → Picture → List ℕ → ℕ → Type 0
+abbrev pub MeansAs : Format → List ℕ → Picture → List ℕ → ℕ → Type 0
 MeansAs Rle bytes cells rule_text generation = (file : rle.File) × rle.IsFile bytes file
     × (cells ≡ rle_shown.picture_of file.corner file.items) × (rule_text ≡ file.rule_text) × (generation ≡ file.generation)
 MeansAs Mc bytes cells rule_text generation = (file : macrocell.File) × macrocell.IsFile bytes file
@@ -39,7 +42,7 @@ abbrev pub Means : List ℕ → Picture → List ℕ → ℕ → Type 0
 Means bytes cells rule_text generation = MeansAs (format_of bytes) bytes cells rule_text generation
 
 -- the bytes are a text of this format, and pass none of its limits
-abbrev pub IsReadableAs : Target → List ℕ → Type 0
+abbrev pub IsReadableAs : Format → List ℕ → Type 0
 IsReadableAs Rle bytes = (file : rle.File) × rle.IsFile bytes file × IsWithinLimits file
 IsReadableAs Mc bytes = (file : macrocell.File) × macrocell.IsFile bytes file × IsWithinRange file
 
@@ -47,9 +50,25 @@ IsReadableAs Mc bytes = (file : macrocell.File) × macrocell.IsFile bytes file �
 abbrev pub IsReadable : List ℕ → Type 0
 IsReadable bytes = IsReadableAs (format_of bytes) bytes
 
+-- the bytes are a file that is read, and its pattern has these cells, this rule text and this generation
+pub record HoldsPattern (bytes : List ℕ) (cells : Picture) (rule_text : List ℕ) (generation : ℕ) : Type 0 where
+  pub readable : IsReadable bytes
+  pub means : Means bytes cells rule_text generation
+
+-- and its rule text names this rule among the tables
+pub record HoldsRuledPattern (bytes : List ℕ) (tables : List TableRule) (cells : Picture) (rule : RuleValue) (generation : ℕ) : Type 0 where
+  pub rule_text : List ℕ
+  pub holds : HoldsPattern bytes cells rule_text generation
+  pub names : NamesRule rule_text tables rule
+
+-- or has this fault
+abbrev pub HasRuleFault : List ℕ → List TableRule → RuleFault → Type 0
+HasRuleFault bytes tables fault = (cells : Picture) × (rule_text : List ℕ) × (generation : ℕ)
+    × HoldsPattern bytes cells rule_text generation × IsRuleFault rule_text tables fault
+
 -- memory may run out for bytes of this format: an RLE is judged before anything is kept of it, and the squares of a macrocell are
 -- kept as their lines come
-abbrev pub MayWantMemoryAs : Target → List ℕ → Type 0
+abbrev pub MayWantMemoryAs : Format → List ℕ → Type 0
 MayWantMemoryAs Rle bytes = IsReadableAs Rle bytes
 MayWantMemoryAs Mc bytes = macrocell_faults.IsFaultOf bytes macrocell_fault.Memory
 

@@ -1,5 +1,5 @@
 -- What a note on a verdict says of the claim's patterns and of the files that were handed in.
-use Rattle.std.specs.Prelude.{◌≡◌, ◌≢◌, ℕ, ℤ, List, map, Option, Some, None}
+use Rattle.std.specs.Prelude.{◌≡◌, ◌≢◌, ℕ, ℤ, List, map, Option, None}
 use Rattle.std.specs.List.{AllByRecursion}
 use Rattle.ca_rle.specs.FaultyLine as rle
 use Rattle.ca_rle.specs.declared.fault.RleFault.TheVariants as rle_fault
@@ -8,7 +8,7 @@ use Rattle.ca_macro.specs.declared.fault.MacroFault.TheVariants as macrocell_fau
 use Rattle.ca_rule.specs.TableNext.{TableRule}
 use Rattle.ca_claims.specs.declared.note.Note.{Note}
 use Rattle.ca_claims.specs.declared.note.Note.TheVariants.{Nothing, Cell, Pattern, RuleFile}
-use Rattle.ca_claims.specs.declared.target.Target.TheVariants.{Rle, Mc}
+use Rattle.ca_claims.specs.declared.format.Format.TheVariants.{Rle, Mc}
 use Rattle.ca_claims.specs.declared.verdict.Verdict.{Verdict}
 use Rattle.ca_claims.specs.declared.verdict.Verdict.TheVariants.{Yes, No, Refused}
 use Rattle.ca_claims.specs.declared.verdict.Why.TheVariants.{Empty, Differs, Earlier}
@@ -16,8 +16,8 @@ use Rattle.ca_claims.specs.declared.verdict.PatternFault.{PatternFault}
 use Rattle.ca_claims.specs.declared.verdict.PatternFault.TheVariants as pattern_fault
 use Rattle.ca_claims.specs.declared.verdict.Cause.{Cause}
 use Rattle.ca_claims.specs.declared.verdict.Cause.TheVariants.{NoFile, BadTable, BadPattern, BadRule, StateTooLarge, MixedRules, TooManyCells, Memory}
-use Rattle.ca_claims.specs.Means.{bytes_at, format_of}
-use Rattle.ca_claims.specs.Answers.{AreTables, IsMissing, IsThere, HoldsTable, Reads, HasRule, IsSmall, IsBadTable, IsUnnamed, IsLarge, IsCrowded, FirstBad, FirstIs}
+use Rattle.ca_claims.specs.Means.{format_of}
+use Rattle.ca_claims.specs.Answers.{HoldsOfFile, AreTables, IsMissing, IsThere, HoldsTable, Reads, HasRule, IsSmall, IsBadTable, IsUnnamed, IsLarge, IsCrowded, FirstBad, FirstIs}
 
 -- the fault for which the bytes of a pattern aren't read, and the line on which it stands: none for one that isn't in the spelling
 abbrev pub IsPatternFaultOn : List ℕ → PatternFault → Option ℕ → Type 0
@@ -27,7 +27,7 @@ IsPatternFaultOn bytes pattern_fault.Memory line = ⊥
 
 -- the file of the path is there, and has this fault as that of a pattern, on this line
 abbrev pub IsBadPatternOn : List (List ℕ × List ℕ) → PatternFault → Option ℕ → List ℕ → Type 0
-IsBadPatternOn files fault line path = (bytes : List ℕ) × (bytes_at files path ≡ Some bytes) × IsPatternFaultOn bytes fault line
+IsBadPatternOn files fault line path = HoldsOfFile files (λ bytes. IsPatternFaultOn bytes fault line) path
 
 -- the cause of a refusal is what is wrong with one of the claim's patterns: what `First` tells of it, by what is good of the paths before it
 -- and what is bad of its own. Only a file that isn't read has a line; `rules` are the paths of the text's rule lines

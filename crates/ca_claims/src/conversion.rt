@@ -4,15 +4,15 @@ ghost use Rattle.std.specs.Prelude.{◌<◌, IfOk, IfErr};
 ghost use Rattle.ca_plane.specs.Limits.{generation_limit};
 ghost use Rattle.ca_quad.specs.Trees.{IsTree, cell};
 ghost use Rattle.ca_macro.specs.Pattern.{AreInRange};
-ghost use Rattle.ca_claims.specs.declared.target.Target.TheVariants.{Rle, Mc};
+ghost use Rattle.ca_claims.specs.declared.format.Format.TheVariants.{Rle, Mc};
 ghost use Rattle.ca_claims.specs.Answers.{HasSmallStates};
 ghost use Rattle.ca_claims.specs.Converted.{IsConverted, IsConvertFault};
 ghost use Rattle.ca_claims.specs.inner.Patterns.{rule_of};
 ghost use Rattle.ca_claims.specs.inner.Ready.{IsWrittenAs, IsUnwritten};
 
 use crate::cells::plane_of;
+use crate::format::Format;
 use crate::ruled::{Ruled, read_ruled};
-use crate::target::Target;
 use crate::verdict::PatternFault;
 use ca_macro::write_macro;
 use ca_plane::Automaton;
@@ -53,7 +53,7 @@ pub enum ConvertFault {
 pub fn convert(
     alloc: Global,
     bytes: &[u8],
-    target: Target,
+    target: Format,
     tables: &[Table],
 ) -> Result<Vec<u8>, ConvertFault>
     ensures converted { IfOk result (λ text. IsConverted bytes.now tables.now target text.items) }
@@ -62,8 +62,8 @@ pub fn convert(
     let mut store = Store::new(alloc);
     let ruled = read_ruled(alloc, &mut store, bytes, tables)?;
     match target {
-        Target::Rle => rle_of(alloc, &store, &ruled),
-        Target::Mc => macro_of(alloc, &mut store, &ruled),
+        Format::Rle => rle_of(alloc, &store, &ruled),
+        Format::Mc => macro_of(alloc, &mut store, &ruled),
     }
 }
 

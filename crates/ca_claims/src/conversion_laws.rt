@@ -1,19 +1,21 @@
-//! Laws of conversions and summaries, which no call needs to run: out of memory apart, a file has one summary at most, and
-//! one cause for which it is refused.
+//! Laws of conversions and summaries, which no call needs to run: out of memory apart, a file is converted to one text at most
+//! and has one summary at most, and one cause for which it is refused.
 
 ghost use Rattle.std.specs.Prelude.{◌≡◌, ◌≢◌, ℕ, List};
 ghost use Rattle.ca_rule.specs.TableNext.{TableRule};
-ghost use Rattle.ca_claims.specs.declared.target.Target.{Target};
+ghost use Rattle.ca_claims.specs.declared.format.Format.{Format};
 ghost use Rattle.ca_claims.specs.declared.pattern.Summary.{Summary};
 ghost use Rattle.ca_claims.specs.declared.conversion.ConvertFault.{ConvertFault};
 ghost use Rattle.ca_claims.specs.declared.conversion.ConvertFault.TheVariants.{Memory};
 ghost use Rattle.ca_claims.specs.Converted.{IsConverted, IsConvertFault, IsSummary, IsSummaryFault, IsSameSummary};
 
-/// A file isn't both converted and refused, nor refused for two causes; out of memory apart.
+/// A file is converted to one text at most, or refused for one cause, and not both; out of memory apart.
 pub fn one_kind_of_conversion()
-    ensures text_or_fault { (bytes : List ℕ) (tables : List TableRule) (target : Target) (text : List ℕ) (fault : ConvertFault) → fault ≢ Memory
+    ensures one_text { (bytes : List ℕ) (tables : List TableRule) (target : Format) (one two : List ℕ) → IsConverted bytes tables target one
+        → IsConverted bytes tables target two → one ≡ two }
+    ensures text_or_fault { (bytes : List ℕ) (tables : List TableRule) (target : Format) (text : List ℕ) (fault : ConvertFault) → fault ≢ Memory
         → IsConverted bytes tables target text → IsConvertFault bytes tables target fault → ⊥ }
-    ensures one_fault { (bytes : List ℕ) (tables : List TableRule) (target : Target) (one two : ConvertFault) → one ≢ Memory → two ≢ Memory
+    ensures one_fault { (bytes : List ℕ) (tables : List TableRule) (target : Format) (one two : ConvertFault) → one ≢ Memory → two ≢ Memory
         → IsConvertFault bytes tables target one → IsConvertFault bytes tables target two → one ≡ two }
 {}
 

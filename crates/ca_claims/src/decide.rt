@@ -1,7 +1,6 @@
 //! Whether a claim is true of patterns that stand in a leaper's store, by leaps.
 
 ghost use Rattle.std.specs.Prelude.{◌≡◌, ◌≢◌, ◌≤◌, ◌^◌, ℤ, None, IfOk, IfSome, IsTrue, IsFalse, MatchOption};
-ghost use Rattle.std.specs.Option.{option_copied};
 ghost use Rattle.ca_plane.specs.Plane.{Picture, cell as plane_cell};
 ghost use Rattle.ca_plane.specs.Generations.{after, IsAfter};
 ghost use Rattle.ca_plane.specs.Box.{LeavesPlane};
@@ -9,8 +8,8 @@ ghost use Rattle.ca_quad.specs.Boxes.{IsDead};
 ghost use Rattle.ca_quad.specs.Trees.{cell};
 ghost use Rattle.ca_run.specs.Leaping.{GoesOn};
 ghost use Rattle.ca_claims.specs.Truth.{claimed, IsTrueClaim, IsReason};
-ghost use Rattle.ca_claims.specs.inner.Decided.{IsBounded, IsDecided};
-ghost use Rattle.ca_claims.specs.inner.Subjects.{ShowsTree, IsPattern, IsNear, IsSubject, AreShown, HasLive, IsEnd, IsMoved, IsUnlike, whose_tree};
+ghost use Rattle.ca_claims.specs.inner.Decided.{IsDecided};
+ghost use Rattle.ca_claims.specs.inner.Subjects.{ShowsTree, IsPattern, IsNear, IsCase, AreShown, HasLive, IsEnd, IsMoved, IsDifference, wanted_tree};
 
 mod divisors;
 mod returns;
@@ -33,21 +32,26 @@ pub(crate) struct Subject {
     pub(crate) other: Tree,
 }
 
-/// Whether a claim that asks this is true of the patterns under the leaper's rule. The plane is that of the claim's pattern, where
-/// the claim moves it.
+/// What is judged: the trees of a claim's patterns, the plane of the first one where the claim moves it, and what the claim asks.
+#[derive(Drop)]
+pub(crate) struct Case {
+    pub(crate) alloc: Global,
+    pub(crate) subject: Subject,
+    pub(crate) plane: Option<Plane>,
+    pub(crate) asks: Asks,
+}
+
+/// Whether the claim is true of the patterns under the leaper's rule.
 pub(crate) fn decide<A: Automaton, O: Observer>(
-    alloc: Global,
     leaper: &mut Leaper<A>,
-    subject: &Subject,
-    plane: Option<&Plane>,
-    asks: Asks,
+    case: &Case,
     observer: &mut O,
 ) -> Verdict
-    requires subject { IsSubject leaper.old.nodes asks subject.now (option_copied plane) }
-    requires bounded { IsBounded asks }
-    ensures { (cells other : Picture) → AreShown leaper.old.nodes subject.now cells other → IsDecided (A.next_of leaper.old.rule) cells other asks result }
+    requires { IsCase leaper.old.nodes case.now }
+    ensures { (cells other : Picture) → AreShown leaper.old.nodes case.now.subject cells other
+        → IsDecided (A.next_of leaper.old.rule) cells other case.now.asks result }
 {
-    match why_not(alloc, leaper, subject, plane, asks, observer) {
+    match why_not(leaper, case, observer) {
         Ok(None) => Verdict::Yes,
         Ok(Some(why)) => Verdict::No(why),
         Err(Memory) => Verdict::Refused(Cause::Memory),
@@ -56,38 +60,36 @@ pub(crate) fn decide<A: Automaton, O: Observer>(
 
 // Why the claim is false, if it is.
 fn why_not<A: Automaton, O: Observer>(
-    alloc: Global,
     leaper: &mut Leaper<A>,
-    subject: &Subject,
-    plane: Option<&Plane>,
-    asks: Asks,
+    case: &Case,
     observer: &mut O,
 ) -> Result<Option<Why>, Memory>
-    requires subject { IsSubject leaper.old.nodes asks subject.now (option_copied plane) }
-    requires bounded { IsBounded asks }
-    ensures { (cells other : Picture) → AreShown leaper.old.nodes subject.now cells other → IfOk result (λ why. MatchOption why
-        (IsTrueClaim (A.next_of leaper.old.rule) cells other asks)
-        (IsReason (A.next_of leaper.old.rule) cells other asks)) }
+    requires { IsCase leaper.old.nodes case.now }
+    ensures { (cells other : Picture) → AreShown leaper.old.nodes case.now.subject cells other → IfOk result (λ why. MatchOption why
+        (IsTrueClaim (A.next_of leaper.old.rule) cells other case.now.asks)
+        (IsReason (A.next_of leaper.old.rule) cells other case.now.asks)) }
 {
-    if is_wrongly_dead(leaper.store(), &subject.pattern, asks) {
+    // Says what holds of every leaper.
+    let _ = leaper.store();
+    if is_wrongly_dead(leaper, case) {
         return Ok(Some(Why::Empty));
     }
-    if let Some(why) = unlike_claimed(alloc, leaper, subject, plane, asks, observer)? {
+    if let Some(why) = find_wrong_cell(leaper, case, observer)? {
         return Ok(Some(why));
     }
-    match asks.barred {
+    match case.asks.barred {
         Barred::Nothing => Ok(None),
-        _ => first_return(alloc, leaper, subject, plane, asks, observer),
+        _ => first_return(leaper, case, observer),
     }
 }
 
-// Whether no cell of a pattern's tree is live, and one must be.
-fn is_wrongly_dead(store: &Store, pattern: &Tree, asks: Asks) -> bool
-    requires { IsPattern store.now pattern.now }
-    ensures dead { IsTrue result → IsTrue asks.live × IsDead (cell store.now pattern.now) }
-    ensures live { IsFalse result → IsTrue asks.live → HasLive (cell store.now pattern.now) }
+// Whether no cell of a claim's pattern is live, and one must be.
+fn is_wrongly_dead<A: Automaton>(leaper: &Leaper<A>, case: &Case) -> bool
+    requires { IsCase leaper.now.nodes case.now }
+    ensures dead { IsTrue result → IsTrue case.now.asks.live × IsDead (cell leaper.now.nodes case.now.subject.pattern) }
+    ensures live { IsFalse result → IsTrue case.now.asks.live → HasLive (cell leaper.now.nodes case.now.subject.pattern) }
 {
-    asks.live && is_dead(store, pattern)
+    case.asks.live && is_dead(leaper.store(), &case.subject.pattern)
 }
 
 // Whether no cell of a pattern's tree is live.
@@ -100,57 +102,49 @@ fn is_dead(store: &Store, pattern: &Tree) -> bool
 }
 
 // Where the cells after the claim's generations aren't the claimed ones, if they aren't.
-fn unlike_claimed<A: Automaton, O: Observer>(
-    alloc: Global,
+fn find_wrong_cell<A: Automaton, O: Observer>(
     leaper: &mut Leaper<A>,
-    subject: &Subject,
-    plane: Option<&Plane>,
-    asks: Asks,
+    case: &Case,
     observer: &mut O,
 ) -> Result<Option<Why>, Memory>
-    requires subject { IsSubject leaper.old.nodes asks subject.now (option_copied plane) }
-    requires bounded { IsBounded asks }
-    ensures unlike { (cells other : Picture) → AreShown leaper.old.nodes subject.now cells other → IfOk result (λ why. MatchOption why
-        (IsAfter (A.next_of leaper.old.rule) cells asks.generations (claimed asks cells other))
-        (IsUnlike (after (A.next_of leaper.old.rule) cells asks.generations) (plane_cell (claimed asks cells other)) asks.generations)) }
+    requires { IsCase leaper.old.nodes case.now }
+    ensures wrong { (cells other : Picture) → AreShown leaper.old.nodes case.now.subject cells other → IfOk result (λ why. MatchOption why
+        (IsAfter (A.next_of leaper.old.rule) cells case.now.asks.generations (claimed case.now.asks cells other))
+        (IsDifference (after (A.next_of leaper.old.rule) cells case.now.asks.generations) (plane_cell (claimed case.now.asks cells other))
+        case.now.asks.generations)) }
     ensures goes_on { GoesOn A leaper.old leaper.new }
 {
     // Says what holds of every leaper.
     let _ = leaper.store();
-    let end = end_after(leaper, copy(&subject.pattern), asks.generations, observer)?;
-    let wanted = wanted_tree(alloc, leaper, subject, plane, asks)?;
-    unlike(leaper, end, wanted, asks.generations)
+    let generations = case.asks.generations;
+    let end = tree_after(leaper, &case.subject.pattern, generations, observer)?;
+    let wanted = claimed_tree(leaper, case)?;
+    find_difference(leaper, end, wanted, generations)
 }
 
 // The tree of the claimed cells.
-fn wanted_tree<A: Automaton>(
-    alloc: Global,
-    leaper: &mut Leaper<A>,
-    subject: &Subject,
-    plane: Option<&Plane>,
-    asks: Asks,
-) -> Result<Tree, Memory>
-    requires subject { IsSubject leaper.old.nodes asks subject.now (option_copied plane) }
-    requires bounded { IsBounded asks }
+fn claimed_tree<A: Automaton>(leaper: &mut Leaper<A>, case: &Case) -> Result<Tree, Memory>
+    requires { IsCase leaper.old.nodes case.now }
     ensures near { IfOk result (IsNear leaper.new.nodes) }
-    ensures shows { (cells other : Picture) → AreShown leaper.old.nodes subject.now cells other
-        → IfOk result (λ tree. ShowsTree leaper.new.nodes tree (claimed asks cells other)) }
+    ensures shows { (cells other : Picture) → AreShown leaper.old.nodes case.now.subject cells other
+        → IfOk result (λ tree. ShowsTree leaper.new.nodes tree (claimed case.now.asks cells other)) }
     ensures goes_on { GoesOn A leaper.old leaper.new }
 {
     // Says what holds of every leaper.
     let _ = leaper.store();
-    let Some(plane) = plane else {
-        return Ok(whose(asks.wanted, subject));
+    let asks = case.asks;
+    let Some(plane) = &case.plane else {
+        return Ok(wanted_tree(asks.wanted, &case.subject));
     };
-    let Some(moved) = moved_tree(alloc, leaper, plane, asks.dx, asks.dy)? else {
+    let Some(moved) = moved_tree(case.alloc, leaper, plane, asks.dx, asks.dy)? else {
         unreachable!();
     };
     Ok(moved)
 }
 
 // The tree whose cells are wanted.
-fn whose(wanted: Wanted, subject: &Subject) -> Tree
-    ensures { result ≡ whose_tree wanted subject.now }
+fn wanted_tree(wanted: Wanted, subject: &Subject) -> Tree
+    ensures { result ≡ wanted_tree wanted subject.now }
 {
     match wanted {
         Wanted::Own => copy(&subject.pattern),
@@ -169,28 +163,28 @@ fn copy(tree: &Tree) -> Tree
 }
 
 // The tree some generations on.
-pub(crate) fn end_after<A: Automaton, O: Observer>(
+pub(crate) fn tree_after<A: Automaton, O: Observer>(
     leaper: &mut Leaper<A>,
-    pattern: Tree,
+    pattern: &Tree,
     generations: u64,
     observer: &mut O,
 ) -> Result<Tree, Memory>
-    requires pattern { IsPattern leaper.old.nodes pattern }
+    requires pattern { IsPattern leaper.old.nodes pattern.now }
     requires few { generations ≤ 2 ^ 60 }
-    ensures end { IfOk result (IsEnd (A.next_of leaper.old.rule) leaper.old.nodes pattern generations leaper.new.nodes) }
+    ensures end { IfOk result (IsEnd (A.next_of leaper.old.rule) leaper.old.nodes pattern.now generations leaper.new.nodes) }
     ensures goes_on { GoesOn A leaper.old leaper.new }
 {
     // Says what holds of every leaper.
     let _ = leaper.store();
     observer.goes_to(generations);
-    match leaper.advance_watched(pattern, generations, observer) {
+    match leaper.advance_watched(copy(pattern), generations, observer) {
         Ok(end) => Ok(end),
         Err(LeapFault::Memory) => Err(Memory),
     }
 }
 
 // Where one tree isn't as another one, if it isn't.
-fn unlike<A: Automaton>(
+fn find_difference<A: Automaton>(
     leaper: &mut Leaper<A>,
     end: Tree,
     wanted: Tree,
@@ -198,9 +192,9 @@ fn unlike<A: Automaton>(
 ) -> Result<Option<Why>, Memory>
     requires end { IsNear leaper.old.nodes end }
     requires wanted { IsNear leaper.old.nodes wanted }
-    ensures unlike { IfOk result (λ why. MatchOption why
+    ensures difference { IfOk result (λ why. MatchOption why
         ((x y : ℤ) → cell leaper.old.nodes end x y ≡ cell leaper.old.nodes wanted x y)
-        (IsUnlike (cell leaper.old.nodes end) (cell leaper.old.nodes wanted) gens)) }
+        (IsDifference (cell leaper.old.nodes end) (cell leaper.old.nodes wanted) gens)) }
     ensures goes_on { GoesOn A leaper.old leaper.new }
 {
     // Says what holds of every leaper.
@@ -214,26 +208,32 @@ fn unlike<A: Automaton>(
         level: wanted.level,
     };
     let found = leaper.difference(first, second)?;
-    Ok(told_of(leaper.store(), end, wanted, found, gens))
+    Ok(difference_of(leaper.store(), end, wanted, found, gens))
 }
 
 // What is reported of a place where two trees differ.
-fn told_of(store: &Store, end: Tree, wanted: Tree, found: Option<Spot>, gens: u64) -> Option<Why>
+fn difference_of(
+    store: &Store,
+    end: Tree,
+    wanted: Tree,
+    found: Option<Spot>,
+    gens: u64,
+) -> Option<Why>
     requires end { IsNear store.now end }
     requires wanted { IsNear store.now wanted }
     requires other { IfSome found (λ at. cell store.now end at.x at.y ≢ cell store.now wanted at.x at.y) }
-    ensures { MatchOption result (found ≡ None) (IsUnlike (cell store.now end) (cell store.now wanted) gens) }
+    ensures { MatchOption result (found ≡ None) (IsDifference (cell store.now end) (cell store.now wanted) gens) }
 {
     let at = found?;
-    Some(unlike_at(store, end, wanted, at, gens))
+    Some(difference_at(store, end, wanted, at, gens))
 }
 
 // The cells of two trees at a place where they differ.
-fn unlike_at(store: &Store, end: Tree, wanted: Tree, at: Spot, gens: u64) -> Why
+fn difference_at(store: &Store, end: Tree, wanted: Tree, at: Spot, gens: u64) -> Why
     requires end { IsNear store.now end }
     requires wanted { IsNear store.now wanted }
     requires other { cell store.now end at.x at.y ≢ cell store.now wanted at.x at.y }
-    ensures { IsUnlike (cell store.now end) (cell store.now wanted) gens result }
+    ensures { IsDifference (cell store.now end) (cell store.now wanted) gens result }
 {
     let found = store.cell(end, at);
     let claimed = store.cell(wanted, at);

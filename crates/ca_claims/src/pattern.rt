@@ -1,6 +1,6 @@
 //! Pattern files that were read.
 
-use crate::target::Target;
+use crate::format::Format;
 use ca_plane::Bounds;
 use ca_quad::Tree;
 
@@ -8,7 +8,7 @@ use ca_quad::Tree;
 /// text, and its generation count.
 #[derive(Drop)]
 pub struct Loaded {
-    pub kind: Target,
+    pub kind: Format,
     pub tree: Tree,
     pub rule_text: Vec<u8>,
     pub generation: u64,
@@ -18,7 +18,7 @@ pub struct Loaded {
 /// and the smallest box round them, where there are any.
 #[derive(Drop)]
 pub struct Summary {
-    pub kind: Target,
+    pub kind: Format,
     pub rule_text: Vec<u8>,
     pub generation: u64,
     pub cells: u128,

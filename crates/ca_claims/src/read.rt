@@ -7,15 +7,15 @@ ghost use Rattle.ca_plane.specs.Limits.{generation_limit};
 ghost use Rattle.ca_quad.specs.Sound.{Grows};
 ghost use Rattle.ca_quad.specs.Trees.{cell};
 ghost use Rattle.ca_macro.specs.Pattern.{AreInRange};
-ghost use Rattle.ca_claims.specs.declared.target.Target.TheVariants.{Rle, Mc};
+ghost use Rattle.ca_claims.specs.declared.format.Format.TheVariants.{Rle, Mc};
 ghost use Rattle.ca_claims.specs.declared.verdict.PatternFault.TheVariants as pattern_fault;
 ghost use Rattle.ca_claims.specs.Means.{format_of, MayWantMemory};
 ghost use Rattle.ca_claims.specs.Answers.{IsPatternFault};
 ghost use Rattle.ca_claims.specs.Loaded.{IsLoaded};
 ghost use Rattle.ca_claims.specs.inner.Patterns.{IsReadFrom, IsUnread};
 
+use crate::format::Format;
 use crate::pattern::Loaded;
-use crate::target::Target;
 use crate::verdict::PatternFault;
 use ca_macro::{LineFault as MacroLineFault, MacroFault, read_macro_with_line};
 use ca_quad::Store;
@@ -70,19 +70,19 @@ pub(crate) fn read_with_line(
     ensures grows { Grows store.old store.new }
 {
     match format_of(bytes) {
-        Target::Rle => load_rle(alloc, store, bytes),
-        Target::Mc => load_macro(alloc, store, bytes),
+        Format::Rle => load_rle(alloc, store, bytes),
+        Format::Mc => load_macro(alloc, store, bytes),
     }
 }
 
 /// The format of a file with these bytes.
-pub(crate) fn format_of(bytes: &[u8]) -> Target
+pub(crate) fn format_of(bytes: &[u8]) -> Format
     ensures { result ≡ format_of bytes.now }
 {
     if bytes.starts_with(b"[M2]") {
-        return Target::Mc;
+        return Format::Mc;
     }
-    Target::Rle
+    Format::Rle
 }
 
 /// Reads an RLE file into the store.
@@ -116,7 +116,7 @@ fn load_rle(alloc: Global, store: &mut Store, bytes: &[u8]) -> Result<Loaded, Ba
         ..
     } = pattern;
     Ok(Loaded {
-        kind: Target::Rle,
+        kind: Format::Rle,
         tree,
         rule_text,
         generation,
@@ -131,7 +131,7 @@ fn load_macro(alloc: Global, store: &mut Store, bytes: &[u8]) -> Result<Loaded, 
 {
     match read_macro_with_line(alloc, store, bytes) {
         Ok(pattern) => Ok(Loaded {
-            kind: Target::Mc,
+            kind: Format::Mc,
             tree: pattern.tree,
             rule_text: pattern.rule_text,
             generation: pattern.generation,

@@ -11,7 +11,7 @@ ghost use Rattle.ca_claims.specs.declared.verdict.Verdict.TheVariants.{Refused};
 ghost use Rattle.ca_claims.specs.Answers.{AreTrueAnswers};
 ghost use Rattle.ca_plane.specs.Plane.{Picture};
 ghost use Rattle.ca_rule.specs.Rule.{rule_value, next_of};
-ghost use Rattle.ca_claims.specs.inner.Decided.{IsBounded, IsDecided};
+ghost use Rattle.ca_claims.specs.inner.Decided.{IsDecided};
 ghost use Rattle.ca_claims.specs.inner.Subjects.{IsSubject, AreShown};
 ghost use Rattle.ca_claims.specs.inner.Patterns.{items, IsEachOnce};
 ghost use Rattle.ca_claims.specs.inner.Refusals.{IsJudgedOn};
@@ -26,7 +26,7 @@ mod prepared;
 mod tables;
 
 use crate::claims::{Asks, Claim, Claims};
-use crate::decide::decide;
+use crate::decide::{Case, decide};
 use crate::file::File;
 use crate::judge::Judge;
 use crate::observer::Observer;
@@ -166,19 +166,22 @@ fn decide_on<O: Observer>(
     asks: Asks,
     observer: &mut O,
 ) -> Verdict
-    requires subject { IsSubject prepared.leaper.nodes asks prepared.subject prepared.plane }
-    requires bounded { IsBounded asks }
-    ensures { (cells other : Picture) → AreShown prepared.entry.leaper.nodes prepared.entry.subject cells other → IsDecided (next_of (rule_value prepared.entry.leaper.rule)) cells other asks result }
+    requires { IsSubject prepared.leaper.nodes asks prepared.subject prepared.plane }
+    ensures { (cells other : Picture) → AreShown prepared.entry.leaper.nodes prepared.entry.subject cells other
+        → IsDecided (next_of (rule_value prepared.entry.leaper.rule)) cells other asks result }
 {
-    let mut leaper = prepared.leaper;
-    decide(
+    let Prepared {
+        mut leaper,
+        subject,
+        plane,
+    } = prepared;
+    let case = Case {
         alloc,
-        &mut leaper,
-        &prepared.subject,
-        prepared.plane.as_ref(),
+        subject,
+        plane,
         asks,
-        observer,
-    )
+    };
+    decide(&mut leaper, &case, observer)
 }
 
 // The indices of the paths of a claim's patterns, each once.

@@ -24,8 +24,8 @@ use Rattle.ca_claims.specs.declared.verdict.Cause.{Cause}
 use Rattle.ca_claims.specs.declared.verdict.Cause.TheVariants as causes
 use Rattle.ca_claims.specs.declared.note.Note.{Note}
 use Rattle.ca_claims.specs.declared.note.Note.TheVariants as notes
-use Rattle.ca_claims.specs.declared.target.Target.{Target}
-use Rattle.ca_claims.specs.declared.target.Target.TheVariants.{Rle, Mc}
+use Rattle.ca_claims.specs.declared.format.Format.{Format}
+use Rattle.ca_claims.specs.declared.format.Format.TheVariants.{Rle, Mc}
 use Rattle.ca_claims.specs.declared.conversion.ConvertFault.{ConvertFault}
 use Rattle.ca_claims.specs.declared.conversion.ConvertFault.TheVariants as converts
 use Rattle.ca_claims.specs.declared.pattern.Summary.{Summary}
@@ -263,7 +263,7 @@ abbrev pub tolds_text : Telling → List Told → List ℕ
 tolds_text telling tolds = flat_map (told_text telling) tolds
 
 -- the name of a format
-abbrev pub format_name : Target → List ℕ
+abbrev pub format_name : Format → List ℕ
 format_name Rle = codes "rle"
 format_name Mc = codes "macrocell"
 

@@ -9,11 +9,11 @@ use Rattle.ca_quad.specs.Trees.{cell}
 use Rattle.ca_rule.specs.TableNext.{TableRule}
 use Rattle.ca_rule.specs.Rule.{states_of, printed_form, NamesRule}
 use Rattle.ca_claims.specs.declared.ruled.Ruled.{Ruled}
-use Rattle.ca_claims.specs.declared.target.Target.{Target}
-use Rattle.ca_claims.specs.declared.target.Target.TheVariants.{Rle}
+use Rattle.ca_claims.specs.declared.format.Format.{Format}
+use Rattle.ca_claims.specs.declared.format.Format.TheVariants.{Rle}
 use Rattle.ca_claims.specs.declared.conversion.ConvertFault.{ConvertFault}
 use Rattle.ca_claims.specs.declared.conversion.ConvertFault.TheVariants.{BadPattern, BadRule, StateTooLarge, TooManyCells, Memory}
-use Rattle.ca_claims.specs.Means.{format_of, Means, IsReadable}
+use Rattle.ca_claims.specs.Means.{format_of, HoldsPattern}
 use Rattle.ca_claims.specs.Answers.{HasSmallStates}
 use Rattle.ca_claims.specs.Converted.{IsTidyAs}
 use Rattle.ca_claims.specs.inner.Patterns.{IsReadFrom, rule_of}
@@ -26,16 +26,15 @@ pub record IsReady (nodes : List Node) (bytes : List ℕ) (tables : List TableRu
   pub small : HasSmallStates (rule_of ruled) (cell nodes ruled.pattern.tree)
 
 -- the text is the tidy one of a format with the pattern's cells, the printed form of its rule, and its generation
-pub record IsWrittenAs (target : Target) (nodes : List Node) (ruled : Ruled) (text : List ℕ) : Type 0 where
+pub record IsWrittenAs (target : Format) (nodes : List Node) (ruled : Ruled) (text : List ℕ) : Type 0 where
   pub shown : Picture
   pub same : (x y : ℤ) → cell nodes ruled.pattern.tree x y ≡ plane.cell shown x y
   pub format : format_of text ≡ target
-  pub readable : IsReadable text
-  pub means : Means text shown (printed_form (rule_of ruled)) ruled.pattern.generation
+  pub holds : HoldsPattern text shown (printed_form (rule_of ruled)) ruled.pattern.generation
   pub tidy : IsTidyAs target text shown (printed_form (rule_of ruled)) ruled.pattern.generation (states_of (rule_of ruled))
 
 -- why the pattern isn't written in a format: an RLE may not have too many cells
-abbrev pub IsUnwritten : Target → List Node → Ruled → ConvertFault → Type 0
+abbrev pub IsUnwritten : Format → List Node → Ruled → ConvertFault → Type 0
 IsUnwritten target nodes ruled (BadPattern fault) = ⊥
 IsUnwritten target nodes ruled (BadRule fault) = ⊥
 IsUnwritten target nodes ruled StateTooLarge = ⊥

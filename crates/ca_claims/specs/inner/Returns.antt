@@ -1,11 +1,15 @@
 -- When a pattern is back before a claim's generations are over.
-use Rattle.std.specs.Prelude.{ℕ, ◌≤◌, ◌<◌, List}
+use Rattle.std.specs.Prelude.{ℕ, ◌≤◌, ◌<◌, ◌^◌, ℤ, pos, neg_ℤ, ◌≤ℤ◌, List}
 use Rattle.ca_plane.specs.Plane.{Picture, shifted}
 use Rattle.ca_plane.specs.Generations.{IsAfter}
 use Rattle.ca_claims.specs.declared.verdict.Why.{Why}
 use Rattle.ca_claims.specs.declared.verdict.Why.TheVariants.{Empty, Differs, Earlier}
 use Rattle.ca_claims.specs.declared.claims.asks.Barred.{Barred}
 use Rattle.ca_claims.specs.Truth.{IsNotBack, MayReturnBy}
+
+-- a coordinate in the square of a plane
+abbrev pub IsWide : ℤ → Type 0
+IsWide n = (neg_ℤ (pos (2 ^ 62)) ≤ℤ n) × (n ≤ℤ pos (2 ^ 62))
 
 -- the pattern isn't back at a time from 1 on before n
 abbrev pub IsNotBackBefore : (List ℕ → ℕ) → Picture → Barred → ℕ → Type 0

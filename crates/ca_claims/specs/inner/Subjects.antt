@@ -11,13 +11,15 @@ use Rattle.ca_quad.specs.Trees.{IsTree, cell}
 use Rattle.ca_macro.specs.Pattern.{AreInRange}
 use Rattle.ca_claims.specs.declared.claims.asks.Asks.{Asks}
 use Rattle.ca_claims.specs.declared.claims.asks.Barred.{Barred}
-use Rattle.ca_claims.specs.declared.claims.asks.Barred.TheVariants.{Anywhere}
+use Rattle.ca_claims.specs.declared.claims.asks.Barred.TheVariants.{Nothing, Anywhere}
 use Rattle.ca_claims.specs.declared.claims.asks.Wanted.{Wanted}
 use Rattle.ca_claims.specs.declared.claims.asks.Wanted.TheVariants.{Own, Other}
 use Rattle.ca_claims.specs.declared.decide.Subject.{Subject}
+use Rattle.ca_claims.specs.declared.decide.Case.{Case}
 use Rattle.ca_claims.specs.declared.verdict.Why.{Why}
 use Rattle.ca_claims.specs.declared.verdict.Why.TheVariants.{Empty, Differs, Earlier}
 use Rattle.ca_claims.specs.Truth.{MayReturnBy, IsNotBack}
+use Rattle.ca_claims.specs.inner.Decided.{IsBounded}
 use Rattle.ca_claims.specs.inner.Divisors.{AreDivisors}
 
 -- a picture shows the cells of a tree
@@ -41,11 +43,16 @@ abbrev pub IsMovedBy : Asks → List Node → Tree → Option Picture → Type 0
 IsMovedBy asks nodes pattern None = (asks.dx ≡ pos 0) × (asks.dy ≡ pos 0) × (asks.barred ≢ Anywhere)
 IsMovedBy asks nodes pattern (Some cells) = (asks.wanted ≡ Own) × (asks.barred ≡ Anywhere) × IsSparse cells × ShowsTree nodes pattern cells
 
--- what a claim is judged on, as a store's squares show it
+-- what a claim that asks this is judged on, as a store's squares show it
 pub record IsSubject (nodes : List Node) (asks : Asks) (subject : Subject) (plane : Option Picture) : Type 0 where
   pub pattern : IsPattern nodes subject.pattern
   pub other : IsPattern nodes subject.other
   pub moved : IsMovedBy asks nodes subject.pattern plane
+  pub bounded : IsBounded asks
+
+-- what is judged
+abbrev pub IsCase : List Node → Case → Type 0
+IsCase nodes case = IsSubject nodes case.asks case.subject case.plane
 
 -- the pictures show the cells of a claim's trees
 pub record AreShown (nodes : List Node) (subject : Subject) (cells other : Picture) : Type 0 where
@@ -53,13 +60,19 @@ pub record AreShown (nodes : List Node) (subject : Subject) (cells other : Pictu
   pub two : ShowsTree nodes subject.other other
 
 -- the tree whose cells are wanted: the pattern's own, or the other's
-abbrev pub whose_tree : Wanted → Subject → Tree
-whose_tree Own subject = subject.pattern
-whose_tree Other subject = subject.other
+abbrev pub wanted_tree : Wanted → Subject → Tree
+wanted_tree Own subject = subject.pattern
+wanted_tree Other subject = subject.other
 
 -- some cell is live
 abbrev pub HasLive : (ℤ → ℤ → ℕ) → Type 0
 HasLive cells = (x : ℤ) × (y : ℤ) × (cells x y ≢ 0)
+
+-- what is judged, of a live pattern that may not be back early
+pub record BarsReturn (nodes : List Node) (case : Case) : Type 0 where
+  pub subject : IsCase nodes case
+  pub barred : case.asks.barred ≢ Nothing
+  pub live : HasLive (cell nodes case.subject.pattern)
 
 -- no vector moves the picture onto the tree's cells
 abbrev pub IsNoMove : List Node → Tree → Picture → Type 0
@@ -80,18 +93,19 @@ pub record IsMoved (cells : Picture) (dx dy : ℤ) (nodes : List Node) (tree : T
   pub shows : (x y : ℤ) → cell nodes tree x y ≡ plane.cell (shifted cells dx dy) x y
 
 -- a cell that one plane has after n generations, and another hasn't
-abbrev pub IsUnlike : (ℤ → ℤ → ℕ) → (ℤ → ℤ → ℕ) → ℕ → Why → Type 0
-IsUnlike end wanted n Empty = ⊥
-IsUnlike end wanted n (Differs x y found claimed generations) = (generations ≡ n) × (end x y ≡ found) × (wanted x y ≡ claimed) × (found ≢ claimed)
-IsUnlike end wanted n (Earlier m dx dy) = ⊥
+abbrev pub IsDifference : (ℤ → ℤ → ℕ) → (ℤ → ℤ → ℕ) → ℕ → Why → Type 0
+IsDifference end wanted n Empty = ⊥
+IsDifference end wanted n (Differs x y found claimed generations) = (generations ≡ n) × (end x y ≡ found) × (wanted x y ≡ claimed) × (found ≢ claimed)
+IsDifference end wanted n (Earlier m dx dy) = ⊥
 
 -- after n generations the pattern is there again, by this vector, which is barred
 abbrev pub IsBackBy : (List ℕ → ℕ) → Picture → Barred → ℕ → ℤ × ℤ → Type 0
 IsBackBy next cells barred n v = MayReturnBy barred v.0 v.1 × IsAfter next cells n (shifted cells v.0 v.1)
 
--- the divisors of n that are still to be tried: at those below them the pattern isn't back
-pub record AreLeft (next : List ℕ → ℕ) (nodes : List Node) (pattern : Tree) (barred : Barred) (n : ℕ) (left : List ℕ) : Type 0 where
+-- the divisors of the claim's generations that are still to be tried: at those below them the pattern isn't back
+pub record AreLeft (next : List ℕ → ℕ) (nodes : List Node) (case : Case) (left : List ℕ) : Type 0 where
   pub low : ℕ
   pub some : 1 ≤ low
-  pub are : AreDivisors n low n left
-  pub before : (cells : Picture) → ShowsTree nodes pattern cells → (d : ℕ) → 1 ≤ d → d < low → d ∣ n → IsNotBack next cells barred d
+  pub are : AreDivisors case.asks.generations low case.asks.generations left
+  pub before : (cells : Picture) → ShowsTree nodes case.subject.pattern cells → (d : ℕ) → 1 ≤ d → d < low → d ∣ case.asks.generations
+      → IsNotBack next cells case.asks.barred d

@@ -1,21 +1,18 @@
 //! When a pattern is there again before a claim's generations are over.
 
-ghost use Rattle.std.specs.Prelude.{◌≡◌, ◌≢◌, ◌≤◌, ◌^◌, ℤ, pos, neg_ℤ, ◌-ℤ◌, ◌≤ℤ◌, IfOk, MatchOption};
-ghost use Rattle.std.specs.Option.{option_copied};
+ghost use Rattle.std.specs.Prelude.{◌≡◌, ◌≢◌, ◌≤◌, ◌^◌, ℤ, pos, ◌-ℤ◌, IfOk, MatchOption};
 ghost use Rattle.ca_plane.specs.Plane.{Picture, cell as plane_cell, shifted, IsLive};
 ghost use Rattle.ca_plane.specs.Generations.{IsAfter};
 ghost use Rattle.ca_quad.specs.Trees.{cell};
 ghost use Rattle.ca_run.specs.Leaping.{GoesOn};
 ghost use Rattle.ca_macro.specs.Pattern.{AreInRange};
-ghost use Rattle.ca_claims.specs.declared.claims.asks.Barred.TheVariants.{Nothing};
+ghost use Rattle.ca_claims.specs.Text.{IsShift};
 ghost use Rattle.ca_claims.specs.Truth.{MayReturnBy, IsNotBack};
-ghost use Rattle.ca_claims.specs.inner.Decided.{IsBounded};
-ghost use Rattle.ca_claims.specs.inner.Returns.{IsNotBackBefore, IsFirstReturn};
-ghost use Rattle.ca_claims.specs.inner.Subjects.{ShowsTree, IsNear, IsSubject, HasLive, IsNoMove, IsOnlyMove, IsBackBy};
+ghost use Rattle.ca_claims.specs.inner.Returns.{IsNotBackBefore, IsFirstReturn, IsWide};
+ghost use Rattle.ca_claims.specs.inner.Subjects.{ShowsTree, IsNear, BarsReturn, IsNoMove, IsOnlyMove, IsBackBy};
 
 use super::divisors::proper_divisors;
-use super::{Subject, copy, end_after, moved_tree};
-use crate::claims::Asks;
+use super::{Case, copy, moved_tree, tree_after};
 use crate::observer::Observer;
 use crate::verdict::Why;
 use ca_plane::{Automaton, Memory, Plane};
@@ -26,29 +23,23 @@ use std::alloc::Global;
 /// The first return of the pattern before the claim's generations are over. Where the pattern is back then, moved by a vector
 /// that is barred, it is back for the first time at a divisor of their number.
 pub(super) fn first_return<A: Automaton, O: Observer>(
-    alloc: Global,
     leaper: &mut Leaper<A>,
-    subject: &Subject,
-    plane: Option<&Plane>,
-    asks: Asks,
+    case: &Case,
     observer: &mut O,
 ) -> Result<Option<Why>, Memory>
-    requires subject { IsSubject leaper.old.nodes asks subject.now (option_copied plane) }
-    requires bounded { IsBounded asks }
-    requires barred { asks.barred ≢ Nothing }
-    requires live { HasLive (cell leaper.old.nodes subject.now.pattern) }
-    ensures { (cells : Picture) → ShowsTree leaper.old.nodes subject.now.pattern cells → (u v : ℤ) → MayReturnBy asks.barred u v
-        → IsAfter (A.next_of leaper.old.rule) cells asks.generations (shifted cells u v) → IfOk result (λ why. MatchOption why
-        (IsNotBackBefore (A.next_of leaper.old.rule) cells asks.barred asks.generations)
-        (IsFirstReturn (A.next_of leaper.old.rule) cells asks.barred asks.generations)) }
+    requires { BarsReturn leaper.old.nodes case.now }
+    ensures { (cells : Picture) → ShowsTree leaper.old.nodes case.now.subject.pattern cells → (u v : ℤ) → MayReturnBy case.now.asks.barred u v
+        → IsAfter (A.next_of leaper.old.rule) cells case.now.asks.generations (shifted cells u v) → IfOk result (λ why. MatchOption why
+        (IsNotBackBefore (A.next_of leaper.old.rule) cells case.now.asks.barred case.now.asks.generations)
+        (IsFirstReturn (A.next_of leaper.old.rule) cells case.now.asks.barred case.now.asks.generations)) }
 {
     // Says what holds of every leaper.
     let _ = leaper.store();
-    let divisors = proper_divisors(alloc, asks.generations)?;
+    let divisors = proper_divisors(case.alloc, case.asks.generations)?;
     let mut rest = divisors.as_slice();
     'divisors: while let Some((first, later)) = rest.split_first() {
         let m = *first;
-        if let Some((dx, dy)) = back_at(alloc, leaper, subject, plane, asks, m, observer)? {
+        if let Some((dx, dy)) = return_at(leaper, case, m, observer)? {
             return Ok(Some(Why::Earlier { m, dx, dy }));
         }
         rest = later;
@@ -57,36 +48,30 @@ pub(super) fn first_return<A: Automaton, O: Observer>(
 }
 
 // The vector by which the pattern is there again after m generations, if it is and that is barred.
-fn back_at<A: Automaton, O: Observer>(
-    alloc: Global,
+fn return_at<A: Automaton, O: Observer>(
     leaper: &mut Leaper<A>,
-    subject: &Subject,
-    plane: Option<&Plane>,
-    asks: Asks,
+    case: &Case,
     m: u64,
     observer: &mut O,
 ) -> Result<Option<(i64, i64)>, Memory>
-    requires subject { IsSubject leaper.old.nodes asks subject.now (option_copied plane) }
-    requires barred { asks.barred ≢ Nothing }
-    requires live { HasLive (cell leaper.old.nodes subject.now.pattern) }
+    requires case { BarsReturn leaper.old.nodes case.now }
     requires few { m ≤ 2 ^ 60 }
-    ensures back { (cells : Picture) → ShowsTree leaper.old.nodes subject.now.pattern cells → IfOk result (λ back. MatchOption back
-        (IsNotBack (A.next_of leaper.old.rule) cells asks.barred m)
-        (IsBackBy (A.next_of leaper.old.rule) cells asks.barred m)) }
+    ensures back { (cells : Picture) → ShowsTree leaper.old.nodes case.now.subject.pattern cells → IfOk result (λ back. MatchOption back
+        (IsNotBack (A.next_of leaper.old.rule) cells case.now.asks.barred m)
+        (IsBackBy (A.next_of leaper.old.rule) cells case.now.asks.barred m)) }
     ensures goes_on { GoesOn A leaper.old leaper.new }
 {
     // Says what holds of every leaper.
     let _ = leaper.store();
-    let end = end_after(leaper, copy(&subject.pattern), m, observer)?;
-    let _ = asks;
-    match plane {
-        None => back_in_place(leaper, end, copy(&subject.pattern)),
-        Some(plane) => back_anywhere(alloc, leaper, end, plane),
+    let end = tree_after(leaper, &case.subject.pattern, m, observer)?;
+    match &case.plane {
+        None => return_in_place(leaper, end, copy(&case.subject.pattern)),
+        Some(plane) => return_anywhere(case.alloc, leaper, end, plane),
     }
 }
 
 // (0, 0), where a tree shows the cells of another.
-fn back_in_place<A: Automaton>(
+fn return_in_place<A: Automaton>(
     leaper: &mut Leaper<A>,
     end: Tree,
     pattern: Tree,
@@ -105,7 +90,7 @@ fn back_in_place<A: Automaton>(
 }
 
 // The vector by which a tree shows a plane's cells moved, if there is one.
-fn back_anywhere<A: Automaton>(
+fn return_anywhere<A: Automaton>(
     alloc: Global,
     leaper: &mut Leaper<A>,
     end: Tree,
@@ -149,19 +134,17 @@ fn corner_vector(
     let Some(to) = store.bounds(alloc, end)? else {
         return Ok(None);
     };
-    Ok(Some((way(from.x0, to.x0), way(from.y0, to.y0))))
+    Ok(Some((distance(from.x0, to.x0), distance(from.y0, to.y0))))
 }
 
-// The way from one coordinate to another.
-fn way(from: i64, to: i128) -> i64
-    requires from_low { neg_ℤ (pos (2 ^ 60)) ≤ℤ from }
-    requires from_high { from ≤ℤ pos (2 ^ 60) }
-    requires to_low { neg_ℤ (pos (2 ^ 62)) ≤ℤ to }
-    requires to_high { to ≤ℤ pos (2 ^ 62) }
+// How far it is from one coordinate to another.
+fn distance(from: i64, to: i128) -> i64
+    requires from { IsShift from }
+    requires to { IsWide to }
     ensures { result ≡ to -ℤ from }
 {
-    let Ok(way) = i64::try_from(to - i128::from(from)) else {
+    let Ok(distance) = i64::try_from(to - i128::from(from)) else {
         unreachable!();
     };
-    way
+    distance
 }

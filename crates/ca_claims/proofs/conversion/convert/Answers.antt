@@ -1,6 +1,6 @@
 use Rattle.std.proofs.Common.{sym, subst}
 use Rattle.std.specs.Result.{IfErr}
-use Rattle.ca_claims.specs.declared.target.Target.TheVariants.{Rle}
+use Rattle.ca_claims.specs.declared.format.Format.TheVariants.{Rle}
 use Rattle.ca_claims.specs.Converted.{IsConvertFault}
 use Rattle.ca_claims.proofs.Told.{unconverted}
 use Rattle.ca_claims.proofs.conversion.convert.Goals as goal

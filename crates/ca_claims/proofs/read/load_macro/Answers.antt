@@ -1,6 +1,6 @@
 use Rattle.std.proofs.Common.{refl, sym}
 use Rattle.ca_macro.specs.Shown.{picture_of}
-use Rattle.ca_claims.specs.declared.target.Target.TheVariants.{Mc}
+use Rattle.ca_claims.specs.declared.format.Format.TheVariants.{Mc}
 use Rattle.ca_claims.specs.Means.{MeansAs, IsReadableAs}
 use Rattle.ca_claims.proofs.FilesRead.{in_format, shown_in_range}
 use Rattle.ca_claims.proofs.read.load_macro.Goals as goal
@@ -17,10 +17,12 @@ returns-in-Ok-clause-read c =
         tree = found.3.tree;
         trimmed = found.3.trimmed;
         shows = found.3.cells;
-        readable = in_format (λ t. IsReadableAs t c.args.bytes.now) c.args.bytes.now Mc c.requires (file, found.1, found.2);
-        means =
-            in_format (λ t. MeansAs t c.args.bytes.now cells c.in-Ok.pattern.rule_text.items c.in-Ok.pattern.generation) c.args.bytes.now Mc c.requires
-            (file, found.1, refl, found.3.rule_text, found.3.generation);
+        holds = record {
+          readable = in_format (λ t. IsReadableAs t c.args.bytes.now) c.args.bytes.now Mc c.requires (file, found.1, found.2);
+          means =
+              in_format (λ t. MeansAs t c.args.bytes.now cells c.in-Ok.pattern.rule_text.items c.in-Ok.pattern.generation) c.args.bytes.now Mc c.requires
+              (file, found.1, refl, found.3.rule_text, found.3.generation);
+        };
       };
       range = shown_in_range _ cells found.3.cells found.2;
       generation = c.in-Ok.ensures.generation;

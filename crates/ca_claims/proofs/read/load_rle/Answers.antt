@@ -1,6 +1,6 @@
 use Rattle.std.proofs.Common.{refl, sym, ◌∙◌}
 use Rattle.ca_rle.specs.Shown.{picture_of}
-use Rattle.ca_claims.specs.declared.target.Target.TheVariants.{Rle}
+use Rattle.ca_claims.specs.declared.format.Format.TheVariants.{Rle}
 use Rattle.ca_claims.specs.Means.{MeansAs, IsReadableAs}
 use Rattle.ca_claims.proofs.FilesRead.{in_format, shown_in_range}
 use Rattle.ca_claims.proofs.read.load_rle.Goals as goal
@@ -17,10 +17,12 @@ returns-clause-read c =
         tree = c.in-Ok-from_plane.ensures.tree;
         trimmed = c.in-Ok-from_plane.ensures.trimmed;
         shows = λ x y. c.in-Ok-from_plane.ensures.cells x y ∙ found.3.cells x y;
-        readable = in_format (λ t. IsReadableAs t c.args.bytes.now) c.args.bytes.now Rle c.requires (file, found.1, found.2);
-        means =
-            in_format (λ t. MeansAs t c.args.bytes.now cells c.in-Ok.pattern.rule_text.items c.in-Ok.pattern.generation) c.args.bytes.now Rle c.requires
-            (file, found.1, refl, found.3.rule_text, found.3.generation);
+        holds = record {
+          readable = in_format (λ t. IsReadableAs t c.args.bytes.now) c.args.bytes.now Rle c.requires (file, found.1, found.2);
+          means =
+              in_format (λ t. MeansAs t c.args.bytes.now cells c.in-Ok.pattern.rule_text.items c.in-Ok.pattern.generation) c.args.bytes.now Rle c.requires
+              (file, found.1, refl, found.3.rule_text, found.3.generation);
+        };
       };
       range = shown_in_range _ cells (λ x y. c.in-Ok-from_plane.ensures.cells x y ∙ found.3.cells x y) found.2.0.cells;
       generation = c.in-Ok.ensures.generation;

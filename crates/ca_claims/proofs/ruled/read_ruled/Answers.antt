@@ -12,8 +12,7 @@ returns-in-Err-resolve-clause-fault c =
       cells,
       pattern.rule_text.items,
       pattern.generation,
-      loaded.readable,
-      loaded.means,
+      loaded.holds,
       subst (λ t. IsRuleFault t c.args.tables.now c.in-Err-resolve.fault) c.deref.ensures.value c.in-Err-resolve.ensures.fault,
     )
 
@@ -27,8 +26,7 @@ returns-in-Ok-true-clause-fault c =
       pattern.generation,
       record {
         rule_text = pattern.rule_text.items;
-        readable = loaded.readable;
-        means = loaded.means;
+        holds = loaded.holds;
         names = subst (λ t. NamesRule t c.args.tables.now rule) c.deref.ensures.value c.in-Ok-resolve.ensures.found;
       },
       large_shown (trees.cell c.read_pattern.new.store pattern.tree) (cell cells) loaded.shows rule (c.in-Ok-true.ensures.large c.in-Ok-true.field-0-test),

@@ -7,8 +7,7 @@ use Rattle.ca_claims.specs.declared.verdict.Verdict.TheVariants.{Refused}
 use Rattle.ca_claims.specs.Answers.{IsCounted}
 use Rattle.ca_claims.specs.inner.Refusals.{IsJudgedOn}
 use Rattle.ca_claims.specs.inner.Patterns.{items}
-use Rattle.ca_claims.specs.inner.Decided.{IsBounded, IsDecided}
-use Rattle.ca_claims.proofs.ClaimKinds.{asks_bounded}
+use Rattle.ca_claims.specs.inner.Decided.{IsDecided}
 use Rattle.ca_claims.proofs.Causes.{once_paths, once_all, cause_of_all, passed_on, is_subject, true_verdict}
 use Rattle.ca_claims.proofs.Parts.{on_all}
 use Rattle.ca_claims.proofs.verifier.judge.Goals as goal
@@ -30,10 +29,8 @@ returns-in_err-prepared g c = λ files paths rules e read.
     })
 
 pub decide_on-requires : goal.decide_on-requires
-decide_on-requires g c = record {
-  subject = is_subject c.args.claim.now.kind c.asks-asks.result c.counts_cells.result c.in_ok-prepared.prepared c.asks-asks.ensures c.requires.numbers c.counts_cells.ensures c.in_ok-prepared.ensures.fit;
-  bounded = subst IsBounded (sym c.asks-asks.ensures) (asks_bounded c.args.claim.now.kind c.requires.numbers);
-}
+decide_on-requires g c =
+    is_subject c.args.claim.now.kind c.asks-asks.result c.counts_cells.result c.in_ok-prepared.prepared c.asks-asks.ensures c.requires.numbers c.counts_cells.ensures c.in_ok-prepared.ensures.fit
 
 pub returns : goal.returns
 returns g c = λ files paths rules e read.

@@ -7,7 +7,7 @@ use Rattle.ca_claims.proofs.decide.returns.first_return.Given as goal
 abbrev pub invariant-divisors : goal.invariant-divisors
 invariant-divisors g l = record {
   goes_on : GoesOn _ l.fn.leaper l.leaper;
-  left : AreLeft (g.A.Automaton.next_of l.fn.leaper.rule) l.fn.leaper.nodes l.fn.subject.pattern l.fn.asks.barred l.fn.asks.generations l.rest;
+  left : AreLeft (g.A.Automaton.next_of l.fn.leaper.rule) l.fn.leaper.nodes l.fn.case l.rest;
 }
 
 abbrev pub decreases-divisors : goal.decreases-divisors

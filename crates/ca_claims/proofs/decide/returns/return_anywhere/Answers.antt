@@ -8,7 +8,7 @@ use Rattle.ca_quad.proofs.Trims.{trees_stay}
 use Rattle.ca_run.proofs.Shown.{goes_on_again}
 use Rattle.ca_claims.specs.inner.Subjects.{IsOnlyMove}
 use Rattle.ca_claims.proofs.Corners.{not_leaves}
-use Rattle.ca_claims.proofs.decide.returns.back_anywhere.Goals as goal
+use Rattle.ca_claims.proofs.decide.returns.return_anywhere.Goals as goal
 
 pub returns-in_default-2-clause-back : goal.returns-in_default-2-clause-back
 returns-in_default-2-clause-back g c = λ dx dy is.

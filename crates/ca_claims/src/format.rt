@@ -2,7 +2,7 @@
 
 /// A format of pattern files.
 #[derive(Clone, Copy, Debug, PartialEq, Eq)]
-pub enum Target {
+pub enum Format {
     /// Extended RLE.
     Rle,
     /// Macrocell.

@@ -4,21 +4,21 @@ use Rattle.ca_quad.specs.Trees.{cell}
 use Rattle.ca_quad.proofs.Trims.{trees_stay}
 use Rattle.ca_run.proofs.Trees.{some_as}
 use Rattle.ca_claims.specs.inner.Subjects.{IsNear}
-use Rattle.ca_claims.proofs.Leapt.{near_stays, told_as}
-use Rattle.ca_claims.proofs.decide.unlike.Goals as goal
+use Rattle.ca_claims.proofs.Leapt.{near_stays, difference_told}
+use Rattle.ca_claims.proofs.decide.find_difference.Goals as goal
 
-pub told_of-requires-clause-end : goal.told_of-requires-clause-end
-told_of-requires-clause-end g c =
+pub difference_of-requires-clause-end : goal.difference_of-requires-clause-end
+difference_of-requires-clause-end g c =
     subst (λ s. IsNear s c.args.end) (sym c.store-2.ensures.nodes)
     (near_stays c.args.leaper.now.nodes c.difference.new.self.nodes c.store.ensures.sound c.in_ok-found.ensures.goes_on.grows c.args.end c.requires.end)
 
-pub told_of-requires-clause-wanted : goal.told_of-requires-clause-wanted
-told_of-requires-clause-wanted g c =
+pub difference_of-requires-clause-wanted : goal.difference_of-requires-clause-wanted
+difference_of-requires-clause-wanted g c =
     subst (λ s. IsNear s c.args.wanted) (sym c.store-2.ensures.nodes)
     (near_stays c.args.leaper.now.nodes c.difference.new.self.nodes c.store.ensures.sound c.in_ok-found.ensures.goes_on.grows c.args.wanted c.requires.wanted)
 
-pub told_of-requires-clause-other : goal.told_of-requires-clause-other
-told_of-requires-clause-other g c =
+pub difference_of-requires-clause-other : goal.difference_of-requires-clause-other
+difference_of-requires-clause-other g c =
     let old = c.args.leaper.now.nodes in
     let new = c.store-2.result.now in
     let ends : (x y : ℤ) → cell new c.args.end x y ≡ cell old c.args.end x y = λ x y.
@@ -28,11 +28,11 @@ told_of-requires-clause-other g c =
     some_as c.in_ok-found.found (λ at. cell old c.args.end at.x at.y ≢ cell old c.args.wanted at.x at.y) (λ at. cell new c.args.end at.x at.y ≢ cell new c.args.wanted at.x at.y)
     (λ at other same. other (sym (ends at.x at.y) ∙ (same ∙ wanted at.x at.y))) c.in_ok-found.ensures.some
 
-pub returns-clause-unlike : goal.returns-clause-unlike
-returns-clause-unlike g c =
+pub returns-clause-difference : goal.returns-clause-difference
+returns-clause-difference g c =
     let old = c.args.leaper.now.nodes in
     let new = c.store-2.result.now in
-    told_as (cell new c.args.end) (cell new c.args.wanted) (cell old c.args.end) (cell old c.args.wanted) c.args.gens c.told_of.result c.in_ok-found.found
+    difference_told (cell new c.args.end) (cell new c.args.wanted) (cell old c.args.end) (cell old c.args.wanted) c.args.gens c.difference_of.result c.in_ok-found.found
     (λ x y. sym (ap (λ s. cell s c.args.end x y) c.store-2.ensures.nodes ∙ trees_stay old c.difference.new.self.nodes c.store.ensures.sound c.in_ok-found.ensures.goes_on.grows c.args.end c.requires.end.is_tree x y))
     (λ x y. sym (ap (λ s. cell s c.args.wanted x y) c.store-2.ensures.nodes ∙ trees_stay old c.difference.new.self.nodes c.store.ensures.sound c.in_ok-found.ensures.goes_on.grows c.args.wanted c.requires.wanted.is_tree x y))
-    c.in_ok-found.ensures.none.0 c.told_of.ensures
+    c.in_ok-found.ensures.none.0 c.difference_of.ensures
