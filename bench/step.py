@@ -2,8 +2,10 @@
 """A naive stepper, apart from the program: the planes that examples/ claims come from it, and not from cafile.
 
 python3 bench/step.py FILE N prints, in RLE, the pattern of FILE after N generations. Its rule is in the form B3/S23, over the Moore, von Neumann
-(suffix V) or hexagonal (suffix H) neighbourhood. With --rule RULEFILE behind these words the rule is that file's table.
+(suffix V) or hexagonal (suffix H) neighbourhood, or in the form 345/2/4 of Generations. With --rule RULEFILE behind these words the rule is that file's
+table.
 """
+import itertools
 import re
 import sys
 
@@ -25,6 +27,31 @@ class Counting:
     def next(self, centre, ring):
         """The next state of a cell with these neighbours."""
         return int((centre, sum(ring)) in self.live_next)
+
+
+class Aging:
+    """A Generations rule: survival digits, birth digits, and the number of states."""
+
+    ring = RINGS["Moore"]
+
+    def __init__(self, text):
+        survival, birth, states = re.fullmatch(r"([0-8]*)/([0-8]*)/(\d+)", text).groups()
+        self.survival, self.birth, self.states = {int(it) for it in survival}, {int(it) for it in birth}, int(states)
+        self.name = "/".join(["".join(map(str, sorted(it))) for it in (self.survival, self.birth)] + [str(self.states)])
+
+    def next(self, centre, ring):
+        """The next state of a cell with these neighbours, of which those of state 1 are counted."""
+        count = ring.count(1)
+        if centre == 0:
+            return int(count in self.birth)
+        if centre == 1 and count in self.survival:
+            return 1
+        return (centre + 1) % self.states
+
+
+def rule_of(text):
+    """The rule that a text names."""
+    return Aging(text) if text.count("/") == 2 else Counting(text)
 
 
 def state_of(tag):
@@ -98,10 +125,14 @@ def write(cells, rule):
     """The cells in RLE, with the corner of their box."""
     x0, y0 = min((x for x, _ in cells), default=0), min((y for _, y in cells), default=0)
     x1, y1 = max((x for x, _ in cells), default=-1), max((y for _, y in cells), default=-1)
-    dead = tag_of(0, rule.states)
-    rows = ["".join(tag_of(cells.get((x, y), 0), rule.states) for x in range(x0, x1 + 1)).rstrip(dead) for y in range(y0, y1 + 1)]
-    body = re.sub(r"([p-y]?[A-X]|.)\1+", lambda run: f"{len(run[0]) // len(run[1])}{run[1]}", "$".join(rows)) + "!"
-    items = re.findall(r"\d*(?:[p-y]?[A-X]|\D)", body)
+    rows = []
+    for y in range(y0, y1 + 1):
+        row = [tag_of(cells.get((x, y), 0), rule.states) for x in range(x0, x1 + 1)]
+        while row and row[-1] == tag_of(0, rule.states):
+            row.pop()
+        rows += [*row, "$"]
+    runs = [(tag, len([*run])) for tag, run in itertools.groupby([*rows[:-1], "!"])]
+    items = [f"{count if count > 1 else ''}{tag}" for tag, count in runs]
     return f"#CXRLE Pos={x0},{y0}\nx = {x1 - x0 + 1}, y = {y1 - y0 + 1}, rule = {rule.name}\n{folded(items)}\n"
 
 
@@ -113,7 +144,7 @@ def main():
         with open(more[1], encoding="latin-1", newline="") as file:
             rule = read_table(file.read())
     else:
-        rule = Counting(rule_text)
+        rule = rule_of(rule_text)
     sys.stdout.write(write(steps(cells, rule, int(generations)), rule))
 
 

@@ -151,7 +151,7 @@ class Returning:
 
 def returning(name, body):
     """A pattern that comes back, with its generations until then."""
-    rule = step.Counting(name)
+    rule = step.rule_of(name)
     cells, _ = step.read(f"x = 1, y = 1, rule = {name}\n{body}\n")
     left, top = corner(cells)
     shape, planes = moved(cells, (-left, -top)), [cells]

@@ -5,7 +5,7 @@ import tempfile
 from lib.program import Folder, Tally, ample, run
 from texts import SPELLINGS
 
-# A name longer than the printed form of any B/S rule.
+# A name longer than the printed form of any other rule.
 LONG_NAME = "A-rule-whose-name-is-longer-than-any-printed-form"
 
 TABLE = f"@RULE {LONG_NAME}\n@TABLE\nn_states:3\nneighborhood:vonNeumann\nsymmetries:rotate4\nvar a={{1,2}}\n0a000a\n"

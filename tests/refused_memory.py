@@ -28,12 +28,13 @@ from sizes import BLOCK, long_text, spelled
 # Claim texts of examples/, and how many allocations are passed over between two that are refused.
 EXAMPLES = {"block": 1, "glider": 1, "several": 1, "bad_patterns": 1, "rules": 1, "mixed_rules": 1, "states": 1, "pulsar": 1, "number": 1, "syntax": 1,
             "unknown_name": 1, "table_causes": 1, "bad_table": 1, "slide": 1, "tables": 5, "r_pentomino": 11, "soup": 11, "macrocells": 11,
-            "bad_macrocells": 5}
+            "bad_macrocells": 5, "generations": 11}
 
 # Examples of `show` and `convert`, in both formats, with a rule file and without, and with a fault.
 WORDS = {"show_rle": 1, "show_macrocell": 1, "show_table": 1, "show_no_table": 1, "show_bad_table": 1, "show_timeline": 1, "show_full_square": 7,
          "convert_to_macrocell": 1, "convert_to_rle": 1, "convert_both_leaves": 1, "convert_table_to_macrocell": 1, "convert_table_to_rle": 1,
-         "convert_empty_to_macrocell": 1, "convert_too_many_cells": 7, "convert_full_square": 7, "convert_gun_to_macrocell": 3}
+         "convert_empty_to_macrocell": 1, "convert_too_many_cells": 7, "convert_full_square": 7, "convert_gun_to_macrocell": 3,
+         "show_generations": 1, "convert_generations_to_macrocell": 1}
 
 # Examples of `verify` with notes, each of one text, and runs over several texts, each with the examples that its texts give by themselves.
 EXPLAINED = {"explain_several": 1, "explain_bad_patterns": 1, "explain_bad_macrocells": 3, "explain_bad_table": 1, "explain_no_rule_file": 1, "explain_causes": 1}

@@ -27,6 +27,7 @@ MISTAKES = {
     "LifeHistory": (GOOD.replace(b"B3/S23", b"LifeHistory"), "bad rule: unknown", None),
     "a comma after the rule": (GOOD.replace(b"B3/S23", b"B3/S23, more"), "bad rule: unknown", GOOD),
     "a rule of another kind": (GOOD.replace(b"B3/S23", b"B2-a/S12"), "bad rule: unknown", None),
+    "a Generations rule over four neighbours": (GOOD.replace(b"B3/S23", b"2/3/4V"), "bad rule: unknown", None),
     "a grid": (GOOD.replace(b"B3/S23", b"B3/S23:T30,20"), "bad rule: bounded", None),
     "a timeline": (b"[M2]\n#FRAMES 2 0 1\n", "bad pattern: macrocell timeline", None),
 }

@@ -193,7 +193,7 @@ NO_RULES = {
     "bounded": "B3/S23:T30,20 B03/S23:P8 23/3: B0: :Life :",
     "wakes": "B012345678/S B0/S b03s23 /0 s3b0 23/300 B0SV /0h B03/S23",
     "unknown": """Life B S V h 23 B3 B3/ B3V B9/S B/S9 9/3 23/9 B5/SV B/S5v 5/3V B7/SH S8B3h 23/37H B08/S9 B05/SV B3/S2/S3 B3//S23 /B3/S23 B3/S23/
-        23//3 23/3/ B3/23 23/B3 B3/B23 s23s3 B3/S23VV B3/S23VH B3/S23M VB3/S23 B3V/S23 B3/S2-3""",
+        23/3/ B3/23 23/B3 B3/B23 s23s3 B3/S23VV B3/S23VH B3/S23M VB3/S23 B3V/S23 B3/S2-3""",
 }
 
 CHANGES = "no, cells differ after 1"

@@ -80,7 +80,7 @@ IsAround-from upper bytes digits later e =
       whole = sym (front_then_rest is_digit bytes) ∙ ap (λ x. x ++ rest is_digit bytes) parts.0 ∙ ap (λ x. digits ++ x) (s.2 ∙ ap (λ x. s.0 ++ x) t.2);
     }
 
-around_slash-from : (bytes digits later : List ℕ) → lists_around_slash bytes ≡ Some (digits, later) → bytes ≡ digits ++ (47 ∷ later)
+pub around_slash-from : (bytes digits later : List ℕ) → lists_around_slash bytes ≡ Some (digits, later) → bytes ≡ digits ++ (47 ∷ later)
 around_slash-from bytes digits later e =
     let parts = both-some (front is_digit bytes) (behind_slash (rest is_digit bytes)) (digits, later) e in
     sym (front_then_rest is_digit bytes) ∙ ap (λ x. x ++ rest is_digit bytes) parts.0 ∙ ap (λ x. digits ++ x) (behind_slash-some (rest is_digit bytes) later parts.1)

@@ -5,7 +5,8 @@ use Rattle.std.proofs.lemmas.Bool.{cases_Bool, or_cases, and_parts, and_from, or
 use Rattle.std.proofs.lemmas.Bool.Decides.{nat_tests}
 use Rattle.ca_plane.specs.Bytes.{is_blank, is_digit, front, rest, without_last_blanks, trimmed, with_front}
 use Rattle.ca_plane.proofs.Fronts.{front_then_rest, every_right}
-use Rattle.ca_rule.specs.TableLines.{Line, behind, setting, setting_words, is_setting, begins_with, begins_section, begins_variable, is_name_byte, are_digits, is_name, is_field, parts_of, fields_between, fields_of, IsVariableLine, IsTransitionLine}
+use Rattle.ca_rule.specs.Digits.{are_digits}
+use Rattle.ca_rule.specs.TableLines.{Line, behind, setting, setting_words, is_setting, begins_with, begins_section, begins_variable, is_name_byte, is_name, is_field, parts_of, fields_between, fields_of, IsVariableLine, IsTransitionLine}
 use Rattle.ca_rule.specs.inner.TableFields.{opened}
 use Rattle.ca_rule.proofs.Stripped.{behind-whole}
 use Rattle.ca_rule.proofs.VariableLines.{parts-of-line, line-of-parts, opened-braced, braced-opened}
@@ -86,7 +87,7 @@ variable-is-of line name fields v =
     ∙ ap (λ b. some_if b (name, fields_between v.inside)) good
     ∙ ap (λ fs. Some (name, fs)) v.fields_are
 
-if-some : {A : Type 0} (b : Bool) (o : Option A) (y : A) → (if b then o else None) ≡ Some y → (b ≡ true) × (o ≡ Some y)
+pub if-some : {A : Type 0} (b : Bool) (o : Option A) (y : A) → (if b then o else None) ≡ Some y → (b ≡ true) × (o ≡ Some y)
 if-some true o y e = (refl, e)
 if-some false o y e = cc
 

@@ -8,7 +8,8 @@ use Rattle.ca_rule.specs.declared.table.fault.TableFault.{TableFault}
 use Rattle.ca_rule.specs.declared.table.fault.TableFault.TheVariants as faults
 use Rattle.ca_rule.specs.declared.table.slot.Slot.{Slot}
 use Rattle.ca_rule.specs.declared.table.slot.Slot.TheVariants.{Number, Variable}
-use Rattle.ca_rule.specs.TableLines.{Line, begins_section, is_setting, are_digits, is_name, is_field, IsVariableLine, IsTransitionLine}
+use Rattle.ca_rule.specs.Digits.{are_digits}
+use Rattle.ca_rule.specs.TableLines.{Line, begins_section, is_setting, is_name, is_field, IsVariableLine, IsTransitionLine}
 use Rattle.ca_rule.specs.TableText.{Settings, Said, number_of, StandsFor, is_bound, field_count, SaysVariable, SaysTransition}
 use Rattle.ca_rule.specs.TableFaults.{IsMisspelled, HasFields, HasBadState, HasUnknownName, HasUnbound}
 use Rattle.ca_rule.specs.inner.TableSaid.{with_variable}

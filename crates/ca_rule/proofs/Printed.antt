@@ -63,7 +63,7 @@ pub digit_counts : (counts : Counts) (n : ℕ) → list_any (λ m. m == n) numbe
 digit_counts counts n h = has_digit-of (is_count counts) n numbers ∙ rw h refl
 
 -- nine cells, one by one
-nine_cells : (cells : List Bool) → length cells ≡ 9 → map (λ n. get_or cells n false) numbers ≡ cells
+pub nine_cells : (cells : List Bool) → length cells ≡ 9 → map (λ n. get_or cells n false) numbers ≡ cells
 nine_cells (a ∷ b ∷ c ∷ d ∷ e ∷ f ∷ g ∷ h ∷ i ∷ []) len = refl
 nine_cells [] len = absurd (omega arith)
 nine_cells (a ∷ []) len = absurd (omega arith)
@@ -76,7 +76,7 @@ nine_cells (a ∷ b ∷ c ∷ d ∷ e ∷ f ∷ g ∷ []) len = absurd (omega ar
 nine_cells (a ∷ b ∷ c ∷ d ∷ e ∷ f ∷ g ∷ h ∷ []) len = absurd (omega arith)
 nine_cells (a ∷ b ∷ c ∷ d ∷ e ∷ f ∷ g ∷ h ∷ i ∷ j ∷ more) len = absurd (omega arith)
 
-map_same : (f g : ℕ → Bool) (ns : List ℕ) → ((n : ℕ) → list_any (λ m. m == n) ns ≡ true → f n ≡ g n) → map f ns ≡ map g ns
+pub map_same : (f g : ℕ → Bool) (ns : List ℕ) → ((n : ℕ) → list_any (λ m. m == n) ns ≡ true → f n ≡ g n) → map f ns ≡ map g ns
 map_same f g [] h = refl
 map_same f g (m ∷ ms) h =
     let first : f m ≡ g m = h m (grind (arith, nat_tests)) in

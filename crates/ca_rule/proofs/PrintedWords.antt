@@ -13,7 +13,7 @@ use Rattle.ca_rule.specs.declared.hood.Hood.TheVariants.{Moore, VonNeumann, Hex}
 use Rattle.ca_rule.proofs.Printed.{numbers}
 
 -- the digits of some numbers up to 8 may be in a word
-digits_in_word : (p : ℕ → Bool) (ns : List ℕ) → list_all (λ n. nat_le n 8) ns ≡ true → Every is_word_byte (map (λ n. 48 + n) (filter p ns))
+pub digits_in_word : (p : ℕ → Bool) (ns : List ℕ) → list_all (λ n. nat_le n 8) ns ≡ true → Every is_word_byte (map (λ n. 48 + n) (filter p ns))
 digits_in_word p [] h = refl
 digits_in_word p (m ∷ ms) h =
     let parts = and_parts (nat_le m 8) (list_all (λ n. nat_le n 8) ms) h in

@@ -22,7 +22,7 @@ digits-of VonNeumann ds h = digits-up_to 4 (omega arith) ds h
 digits-of Hex ds h = digits-up_to 6 (omega arith) ds h
 
 -- digits are no suffixes
-plain-digits : (ds : List ℕ) → Every is_digit ds → Every is_plain ds
+pub plain-digits : (ds : List ℕ) → Every is_digit ds → Every is_plain ds
 plain-digits ds h = every_wider is_digit is_plain (λ d t. grind (arith, nat_tests)) ds h
 
 -- what follows the first digits of a text with letters
@@ -48,7 +48,7 @@ around upper b digits slash later low h s l =
     ∙ ap (λ x. both digits (behind_letter upper (without_slash x))) r ∙ ap (both digits) t.leads
 
 -- the lists round a `/` are read
-around_slash : (digits later : List ℕ) → Every is_digit digits → lists_around_slash (digits ++ (47 ∷ later)) ≡ Some (digits, later)
+pub around_slash : (digits later : List ℕ) → Every is_digit digits → lists_around_slash (digits ++ (47 ∷ later)) ≡ Some (digits, later)
 around_slash digits later h =
     ap (λ x. both x (behind_slash (rest is_digit (digits ++ (47 ∷ later))))) (front_append is_digit digits (47 ∷ later) h refl)
     ∙ ap (λ x. both digits (behind_slash x)) (rest_append is_digit digits (47 ∷ later) h refl)
@@ -65,7 +65,7 @@ lists-survival_first a bs (inr e) = rw e refl
 no_letter : (upper s : ℕ) → 65 ≤ upper → is_digit s ≡ true → is_letter upper s ≡ false
 no_letter upper s low h = grind (arith, nat_tests)
 
-lists-no_letter : (survival birth : List ℕ) → Every is_digit survival → lists_of (survival ++ (47 ∷ birth)) ≡ swapped (lists_around_slash (survival ++ (47 ∷ birth)))
+pub lists-no_letter : (survival birth : List ℕ) → Every is_digit survival → lists_of (survival ++ (47 ∷ birth)) ≡ swapped (lists_around_slash (survival ++ (47 ∷ birth)))
 lists-no_letter [] birth h = refl
 lists-no_letter (s ∷ ss) birth h =
     let d = (and_parts (is_digit s) (list_all is_digit ss) h).0 in

@@ -12,7 +12,8 @@ use Rattle.ca_rule.specs.declared.table.neighbourhood.Symmetry.{Symmetry}
 use Rattle.ca_rule.specs.declared.table.slot.Slot.{Slot}
 use Rattle.ca_rule.specs.declared.table.slot.Slot.TheVariants.{Number, Variable}
 use Rattle.ca_rule.specs.TableNext.{TableRule, table_next}
-use Rattle.ca_rule.specs.TableLines.{Line, lines_said, last_line, rule_name, begins_table, begins_section, is_setting, states_set, neighbourhood_set, symmetry_set, are_digits, is_name, is_field, IsVariableLine, IsTransitionLine}
+use Rattle.ca_rule.specs.Digits.{are_digits}
+use Rattle.ca_rule.specs.TableLines.{Line, lines_said, last_line, rule_name, begins_table, begins_section, is_setting, states_set, neighbourhood_set, symmetry_set, is_name, is_field, IsVariableLine, IsTransitionLine}
 use Rattle.ca_rule.specs.TableText.{HasTable, sets_again, are_settings, Settings, Mean, Said, nothing, number_of, StandsFor, is_bound, field_count, Say, made, is_end_of_section, IsTable}
 use Rattle.ca_rule.specs.TableFaults.{number_at, is_behind_settings, HasNoRuleLine, HasNoTable, HasSettings, LackStates, LackNeighbourhood, LackSymmetry, HasStatement, IsMisspelled, HasFields, HasBadField, HasBadState, HasUnknownName, HasUnbound, IsFaultOf}
 use Rattle.ca_rule.specs.inner.TableSaid.{with_variable}

@@ -10,7 +10,8 @@ use Rattle.ca_rule.specs.declared.table.slot.Slot.{Slot}
 use Rattle.ca_rule.specs.declared.table.slot.Slot.TheVariants.{Number, Variable}
 use Rattle.ca_rule.specs.declared.table.statements.Statements.{Statements}
 use Rattle.ca_rule.specs.TableNext.{Transition}
-use Rattle.ca_rule.specs.TableLines.{Line, are_digits, state_count, value_of}
+use Rattle.ca_rule.specs.Digits.{are_digits, state_count}
+use Rattle.ca_rule.specs.TableLines.{Line, value_of}
 use Rattle.ca_rule.specs.TableText.{HasTable, Settings, Said, nothing, StandsFor, SaysVariable, SaysTransition, Say, IsTable}
 use Rattle.ca_rule.specs.inner.TableSaying.{AreAllSaid}
 use Rattle.ca_rule.specs.inner.TableSettings.{IsBehindMeant}

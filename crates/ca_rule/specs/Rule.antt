@@ -1,8 +1,10 @@
 -- Rules of every kind: what a cell is next, how many states there are, which rules are the same, and how a rule is named
 -- and printed. Another kind of rule is one more case of each of these.
-use Rattle.std.specs.Prelude.{◌≡◌, ℕ, List, false, Option, Some, None, find}
+use Rattle.std.specs.Prelude.{◌≡◌, ◌⊎◌, ℕ, List, false, Option, Some, None, find}
 use Rattle.std.specs.Str.{bytes_eq}
 use Rattle.ca_rule.specs.Counts.{is_count}
+use Rattle.ca_rule.specs.Generations as generations
+use Rattle.ca_rule.specs.GenerationsText as generations_text
 use Rattle.ca_rule.specs.Next as bs
 use Rattle.ca_rule.specs.Masks as bs_masks
 use Rattle.ca_rule.specs.Spelling as bs_text
@@ -10,65 +12,74 @@ use Rattle.ca_rule.specs.TableNext.{TableRule, IsSound, table_next}
 use Rattle.ca_rule.specs.declared.bs_rule.BsRule.{BsRule}
 use Rattle.ca_rule.specs.declared.fault.RuleFault.{RuleFault}
 use Rattle.ca_rule.specs.declared.fault.RuleFault.TheVariants.{Bounded, Wakes, Unknown}
+use Rattle.ca_rule.specs.declared.gen_rule.GenRule.{GenRule}
 use Rattle.ca_rule.specs.declared.rule.Rule.{Rule}
 use Rattle.ca_rule.specs.declared.rule.Rule.TheVariants as rule
 
--- a rule of any kind: one in B/S notation, or a table
+-- a rule of any kind: one in B/S notation, one of the family Generations, or a table
 pub data RuleValue : Type 0 where
   Bs : BsRule → RuleValue
+  Gen : GenRule → RuleValue
   Tab : TableRule → RuleValue
 
 -- the rule that a program holds, of a table by a reference
 abbrev pub rule_value : Rule → RuleValue
 rule_value (rule.Bs bs) = Bs bs
+rule_value (rule.Gen gen) = Gen gen
 rule_value (rule.Tab table) = Tab table.now
 
 -- how many states a cell can have: two under a B/S rule
 abbrev pub states_of : RuleValue → ℕ
 states_of (Bs rule) = 2
+states_of (Gen rule) = rule.states
 states_of (Tab table) = table.states
 
 -- the next state of the centre of nine cells
 abbrev pub next_of : RuleValue → List ℕ → ℕ
 next_of (Bs rule) nine = bs.next_of rule.hood rule.birth rule.survival nine
+next_of (Gen rule) nine = generations.next_of rule.survival rule.birth rule.states nine
 next_of (Tab table) nine = table_next table nine
 
 -- its masks: those of a B/S rule that counts all eight neighbours
 abbrev pub masks_of : RuleValue → Option (ℕ × ℕ)
 masks_of (Bs rule) = bs_masks.masks_of rule.hood rule.birth rule.survival
+masks_of (Gen rule) = None
 masks_of (Tab table) = None
 
--- states lead to states, and the empty plane stays empty: a B/S rule gives no birth at a count of 0
+-- states lead to states, and the empty plane stays empty: a B/S or Generations rule gives no birth at a count of 0
 abbrev pub IsSoundRule : RuleValue → Type 0
 IsSoundRule (Bs rule) = is_count rule.birth 0 ≡ false
+IsSoundRule (Gen rule) = generations.IsSound rule.birth rule.states
 IsSoundRule (Tab table) = IsSound table
 
--- two rules are the same: both B/S rules, with one neighbourhood and the same counts for birth and for survival, or both
--- tables, with one name
+-- two rules are the same: both B/S rules, with one neighbourhood and the same counts for birth and for survival, both
+-- Generations rules, with the same counts and as many states, or both tables, with one name
 abbrev pub IsSameRule : RuleValue → RuleValue → Type 0
 IsSameRule (Bs r) (Bs s) = (r.hood ≡ s.hood) × (r.birth ≡ s.birth) × (r.survival ≡ s.survival)
-IsSameRule (Bs r) (Tab u) = ⊥
-IsSameRule (Tab t) (Bs s) = ⊥
+IsSameRule (Gen r) (Gen s) = (r.survival ≡ s.survival) × (r.birth ≡ s.birth) × (r.states ≡ s.states)
 IsSameRule (Tab t) (Tab u) = t.name ≡ u.name
+IsSameRule r s = ⊥
 
 -- the first table of this name, byte for byte
 abbrev pub first_named : List ℕ → List TableRule → Option TableRule
 first_named name tables = find (λ (t : TableRule). bytes_eq t.name name) tables
 
--- the text names the rule among the tables: it has no `:`, and it spells that B/S rule, which gives no birth at a count of
--- 0, or spells no B/S rule, and that is the first table of this name
+-- the text names the rule among the tables: it has no `:`, and it spells that B/S or Generations rule, which gives no
+-- birth at a count of 0, or spells neither kind, and that is the first table of this name
 abbrev pub NamesRule : List ℕ → List TableRule → RuleValue → Type 0
 NamesRule text tables (Bs rule) = (bs_text.has_colon text ≡ false) × bs_text.Names text rule
-NamesRule text tables (Tab table) = (bs_text.has_colon text ≡ false) × bs_text.SpellsNone text × (first_named text tables ≡ Some table)
+NamesRule text tables (Gen rule) = (bs_text.has_colon text ≡ false) × generations_text.Names text rule
+NamesRule text tables (Tab table) = (bs_text.has_colon text ≡ false) × bs_text.SpellsNone text × generations_text.SpellsNone text × (first_named text tables ≡ Some table)
 
--- the fault of a text that names no rule: a bounded grid, else a B/S rule that wakes the empty plane, else neither a B/S
--- rule nor the name of a table
+-- the fault of a text that names no rule: a bounded grid, else a B/S or Generations rule that wakes the empty plane, else
+-- neither such a rule nor the name of a table
 abbrev pub IsRuleFault : List ℕ → List TableRule → RuleFault → Type 0
 IsRuleFault text tables Bounded = bs_text.IsFaultOf text Bounded
-IsRuleFault text tables Wakes = bs_text.IsFaultOf text Wakes
-IsRuleFault text tables Unknown = bs_text.IsFaultOf text Unknown × (first_named text tables ≡ None)
+IsRuleFault text tables Wakes = bs_text.IsFaultOf text Wakes ⊎ generations_text.IsFaultOf text Wakes
+IsRuleFault text tables Unknown = bs_text.IsFaultOf text Unknown × generations_text.IsFaultOf text Unknown × (first_named text tables ≡ None)
 
--- the one printed form: that of a B/S rule, or the table's name
+-- the one printed form: that of a B/S or Generations rule, or the table's name
 abbrev pub printed_form : RuleValue → List ℕ
 printed_form (Bs rule) = bs_text.printed rule.hood rule.birth rule.survival
+printed_form (Gen rule) = generations_text.printed rule.survival rule.birth rule.states
 printed_form (Tab table) = table.name

@@ -7,7 +7,8 @@ use Rattle.ca_rule.specs.declared.table.fault.TableFault.TheVariants.{NoRuleLine
 use Rattle.ca_rule.specs.declared.table.neighbourhood.Neighbourhood.{Neighbourhood}
 use Rattle.ca_rule.specs.declared.table.slot.Slot.{Slot}
 use Rattle.ca_rule.specs.TableNext.{TableRule, table_next}
-use Rattle.ca_rule.specs.TableLines.{Line, lines_said, last_line, rule_name, begins_table, begins_section, is_setting, states_set, neighbourhood_set, symmetry_set, are_digits, is_name, IsVariableLine, IsTransitionLine}
+use Rattle.ca_rule.specs.Digits.{are_digits}
+use Rattle.ca_rule.specs.TableLines.{Line, lines_said, last_line, rule_name, begins_table, begins_section, is_setting, states_set, neighbourhood_set, symmetry_set, is_name, IsVariableLine, IsTransitionLine}
 use Rattle.ca_rule.specs.TableText.{HasTable, sets_again, are_settings, Settings, Mean, Said, nothing, number_of, StandsFor, SaysVariable, is_bound, field_count, SaysTransition, Say, IsTable}
 
 -- the number of the first of the lines, or of the text's last where there is none

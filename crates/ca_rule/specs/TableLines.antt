@@ -4,11 +4,12 @@ use Rattle.std.specs.Prelude.{◌≡◌, ℕ, List, [], ◌∷◌, ◌++◌, len
 use Rattle.std.specs.List.{list_all, list_any, enumerate_from}
 use Rattle.std.specs.Option.{option_or}
 use Rattle.std.specs.Str.{bytes_eq}
-use Rattle.ca_plane.specs.Bytes.{is_blank, is_digit, Every, front, rest, trimmed, with_front, lines_of, words_of, value}
+use Rattle.ca_plane.specs.Bytes.{is_blank, is_digit, Every, front, rest, trimmed, with_front, lines_of, words_of}
 use Rattle.ca_rule.specs.declared.table.neighbourhood.Neighbourhood.{Neighbourhood}
 use Rattle.ca_rule.specs.declared.table.neighbourhood.Neighbourhood.TheVariants.{VonNeumann, Moore, Hexagonal, OneDimensional}
 use Rattle.ca_rule.specs.declared.table.neighbourhood.Symmetry.{Symmetry}
 use Rattle.ca_rule.specs.declared.table.neighbourhood.Symmetry.TheVariants.{Identity, Rotate4, Rotate4Reflect, ReflectHorizontal, Rotate8, Rotate8Reflect, Rotate2, Rotate3, Rotate6, Rotate6Reflect, Reflect, Permute}
+use Rattle.ca_rule.specs.Digits.{are_digits, state_count}
 use Rattle.ca_rule.specs.TableOrders.{symmetries_of}
 
 -- what a line says: the bytes before its first `#`, without the blanks at both ends
@@ -77,14 +78,6 @@ is_setting line = list_any (λ word. is_some (setting word line)) setting_words
 abbrev pub value_of : List ℕ → List Line → Option (List ℕ)
 value_of word [] = None
 value_of word (l ∷ ls) = option_or (setting word l) (value_of word ls)
-
--- one or more digits
-abbrev pub are_digits : List ℕ → Bool
-are_digits bytes = nat_le 1 (length bytes) && list_all is_digit bytes
-
--- the number of states that a value gives: from 2 to 256
-abbrev pub state_count : List ℕ → Option ℕ
-state_count bytes = if are_digits bytes && (nat_le 2 (value bytes) && nat_le (value bytes) 256) then Some (value bytes) else None
 
 -- how neighbourhoods are written
 abbrev pub neighbourhood_name : Neighbourhood → List ℕ

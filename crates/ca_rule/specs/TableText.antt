@@ -10,7 +10,8 @@ use Rattle.ca_rule.specs.declared.table.slot.Slot.{Slot}
 use Rattle.ca_rule.specs.declared.table.slot.Slot.TheVariants.{Number, Variable}
 use Rattle.ca_rule.specs.TableOrders.{ring_size}
 use Rattle.ca_rule.specs.TableNext.{States, admits, is_variable, Transition, TableRule}
-use Rattle.ca_rule.specs.TableLines.{Line, lines_said, rule_name, begins_table, begins_section, is_setting, setting, setting_words, value_of, states_set, neighbourhood_set, symmetry_set, are_digits, is_name, IsVariableLine, IsTransitionLine}
+use Rattle.ca_rule.specs.Digits.{are_digits}
+use Rattle.ca_rule.specs.TableLines.{Line, lines_said, rule_name, begins_table, begins_section, is_setting, setting, setting_words, value_of, states_set, neighbourhood_set, symmetry_set, is_name, IsVariableLine, IsTransitionLine}
 
 -- the text gives this name, and these lines follow the one that begins its table: first `@RULE`, then lines that are
 -- skipped, then the first `@TABLE`

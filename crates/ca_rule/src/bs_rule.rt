@@ -4,7 +4,6 @@ ghost use Rattle.std.specs.Prelude.{◌≡◌, ◌↔◌, false, IsTrue, IfOk, I
 ghost use Rattle.ca_plane.specs.Bytes.{IsWord};
 ghost use Rattle.ca_plane.specs.Moore.{IsMoore};
 ghost use Rattle.ca_rule.specs.Counts.{is_count, FitsHood};
-ghost use Rattle.ca_rule.specs.Next.{neighbour_count};
 ghost use Rattle.std.proofs.Common.{arith, rules};
 ghost use Rattle.std.proofs.lemmas.Bool.Decides.{nat_tests};
 
@@ -99,7 +98,7 @@ impl Automaton for BsRule {
     }
 
     fn next(&self, nine: &Nine) -> u8 {
-        let count = usize::from(neighbour_sum(self.hood, nine));
+        let count = usize::from(self.hood.sum(nine));
         let lives = match nine[4] {
             0 => self.birth.contains(count),
             1 => self.survival.contains(count),
@@ -122,16 +121,4 @@ impl Automaton for BsRule {
     ghost closed = { λ rule nine _ _ _. Prim.grind (arith, nat_tests) };
 
     ghost quiet = { Prim.search rules };
-}
-
-/// The sum of the counted neighbours of the middle of nine cells.
-fn neighbour_sum(hood: Hood, nine: &Nine) -> u16
-    ensures { result ≡ neighbour_count hood nine.now }
-{
-    let [nw, n, ne, w, _, e, sw, s, se] = nine.map(u16::from);
-    match hood {
-        Hood::Moore => nw + n + ne + w + e + sw + s + se,
-        Hood::VonNeumann => n + w + e + s,
-        Hood::Hex => nw + n + w + e + s + se,
-    }
 }

@@ -2,7 +2,7 @@
 
 ghost use Rattle.std.specs.Prelude.{◌≡◌, ◌++◌, OnOk};
 
-use ca_plane::Memory;
+use ca_plane::{Memory, Nine};
 
 /// Which of a cell's neighbours a rule counts (Golly Help, QuickLife).
 #[derive(Clone, Copy, Debug, PartialEq, Eq)]
@@ -17,6 +17,7 @@ pub enum Hood {
 
 impl Hood {
     ghost use Rattle.ca_rule.specs.Counts.{most_of};
+    ghost use Rattle.ca_rule.specs.Next.{neighbour_count};
     ghost use Rattle.ca_rule.specs.Spelling.{suffix_of};
 
     /// How many neighbours are counted.
@@ -27,6 +28,18 @@ impl Hood {
             Hood::Moore => 8,
             Hood::VonNeumann => 4,
             Hood::Hex => 6,
+        }
+    }
+
+    /// The sum of the counted neighbours of the middle of nine cells.
+    pub(crate) fn sum(self, nine: &Nine) -> u16
+        ensures { result ≡ neighbour_count self nine.now }
+    {
+        let [nw, n, ne, w, _, e, sw, s, se] = nine.map(u16::from);
+        match self {
+            Hood::Moore => nw + n + ne + w + e + sw + s + se,
+            Hood::VonNeumann => n + w + e + s,
+            Hood::Hex => nw + n + w + e + s + se,
         }
     }
 

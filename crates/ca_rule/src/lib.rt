@@ -3,7 +3,9 @@
 
 mod bs_rule;
 mod counts;
+mod digits;
 mod fault;
+mod gen_rule;
 mod hood;
 mod laws;
 mod rule;
@@ -14,6 +16,11 @@ mod table;
 pub use bs_rule::BsRule;
 pub use counts::Counts;
 pub use fault::RuleFault;
+pub use gen_rule::{
+    GenRule, generations_alike, generations_do_alike, generations_names_itself,
+    generations_rule_or_fault, one_generations_rule, two_states_do_as_bs, worked_generations,
+    worked_generations_cells, worked_generations_faults,
+};
 pub use hood::Hood;
 pub use laws::{
     alike, names_itself, one_rule, rule_or_fault, worked_examples, worked_faults, worked_masks,

@@ -7,6 +7,7 @@ ghost use Rattle.ca_rule.specs.Rule.{rule_value, first_named, NamesRule, IsRuleF
 
 use crate::bs_rule::BsRule;
 use crate::fault::RuleFault;
+use crate::gen_rule::GenRule;
 use crate::table::Table;
 use ca_plane::{Automaton, Memory, Nine};
 use std::alloc::Global;
@@ -16,12 +17,15 @@ use std::alloc::Global;
 pub enum Rule<'t> {
     /// A rule in B/S notation.
     Bs(BsRule),
+    /// A rule of the family Generations.
+    Gen(GenRule),
     /// A rule table.
     Tab(&'t Table),
 }
 
-/// The rule that the text names: a rule in B/S notation, as `B3/S23`, `s23b3` and `23/3` name Conway's Life, or else the
-/// first of the tables whose name is the text, byte for byte. Nothing here takes memory.
+/// The rule that the text names: a rule in B/S notation, as `B3/S23`, `s23b3` and `23/3` name Conway's Life, or one of the
+/// family Generations, as `/2/3` names Brian's Brain, or else the first of the tables whose name is the text, byte for
+/// byte. Nothing here takes memory.
 ///
 /// # Errors
 ///
@@ -31,16 +35,19 @@ pub fn resolve<'t>(text: &[u8], tables: &'t [Table]) -> Result<Rule<'t>, RuleFau
     ensures fault { IfErr result (λ f. IsRuleFault text.now tables.now f) }
 {
     match BsRule::parse(text) {
-        Ok(bs) => Ok(Rule::Bs(bs)),
-        Err(RuleFault::Bounded) => Err(RuleFault::Bounded),
-        Err(RuleFault::Wakes) => Err(RuleFault::Wakes),
-        Err(RuleFault::Unknown) => {
-            let Some(table) = first_named(text, tables) else {
-                return Err(RuleFault::Unknown);
-            };
-            Ok(Rule::Tab(table))
-        }
+        Ok(bs) => return Ok(Rule::Bs(bs)),
+        Err(RuleFault::Unknown) => {}
+        Err(fault) => return Err(fault),
     }
+    match GenRule::parse(text) {
+        Ok(generations) => return Ok(Rule::Gen(generations)),
+        Err(RuleFault::Unknown) => {}
+        Err(fault) => return Err(fault),
+    }
+    let Some(table) = first_named(text, tables) else {
+        return Err(RuleFault::Unknown);
+    };
+    Ok(Rule::Tab(table))
 }
 
 /// The first of the tables of this name.
@@ -58,13 +65,14 @@ fn first_named<'t>(name: &[u8], tables: &'t [Table]) -> Option<&'t Table>
 }
 
 impl Rule<'_> {
-    /// The one printed form of the rule: `B3/S23` and the like, or the table's name.
+    /// The one printed form of the rule: `B3/S23`, `345/2/4` and the like, or the table's name.
     pub fn text(&self, alloc: Global) -> Result<Vec<u8>, Memory>
         ensures printed { IfOk result (λ v. v.items ≡ printed_form (rule_value self.now)) }
         ensures word { IfOk result (λ v. IsWord v.items) }
     {
         match *self {
             Rule::Bs(bs) => bs.text(alloc),
+            Rule::Gen(generations) => generations.text(alloc),
             Rule::Tab(table) => {
                 let mut out = Vec::new(alloc);
                 out.extend_from_slice(table.name())?;
@@ -74,17 +82,22 @@ impl Rule<'_> {
     }
 
     /// Whether the other rule is the same: both are in B/S notation, count the same neighbours, and have the same counts
-    /// for birth and for survival, or both are tables of one name. Nothing here takes memory.
+    /// for birth and for survival; or both are of the family Generations, with the same counts and as many states; or
+    /// both are tables of one name. Nothing here takes memory.
     pub fn same(&self, other: &Rule<'_>) -> bool
         ensures { IsTrue result ↔ IsSameRule (rule_value self.now) (rule_value other.now) }
     {
         match *self {
             Rule::Bs(bs) => match *other {
                 Rule::Bs(other) => bs.same(&other),
-                Rule::Tab(_) => false,
+                Rule::Gen(_) | Rule::Tab(_) => false,
+            },
+            Rule::Gen(generations) => match *other {
+                Rule::Gen(other) => generations.same(&other),
+                Rule::Bs(_) | Rule::Tab(_) => false,
             },
             Rule::Tab(table) => match *other {
-                Rule::Bs(_) => false,
+                Rule::Bs(_) | Rule::Gen(_) => false,
                 Rule::Tab(other) => table.name() == other.name(),
             },
         }
@@ -95,7 +108,7 @@ impl Automaton for Rule<'_> {
     ghost use Rattle.std.proofs.Common.{arith, rules};
     ghost use Rattle.std.proofs.lemmas.Bool.Decides.{nat_tests};
     ghost use Rattle.ca_rule.specs.Rule.{rule_value, states_of, next_of, masks_of, IsSoundRule};
-    ghost use Rattle.ca_rule.specs.declared.rule.Rule.TheVariants.{Bs, Tab};
+    ghost use Rattle.ca_rule.specs.declared.rule.Rule.TheVariants.{Bs, Gen, Tab};
 
     ghost state_count = { λ rule. states_of (rule_value rule) };
 
@@ -106,6 +119,7 @@ impl Automaton for Rule<'_> {
     fn states(&self) -> u16 {
         match *self {
             Rule::Bs(bs) => bs.states(),
+            Rule::Gen(generations) => generations.states(),
             Rule::Tab(table) => table.states(),
         }
     }
@@ -113,6 +127,7 @@ impl Automaton for Rule<'_> {
     fn next(&self, nine: &Nine) -> u8 {
         match *self {
             Rule::Bs(bs) => bs.next(nine),
+            Rule::Gen(generations) => generations.next(nine),
             Rule::Tab(table) => table.next(nine),
         }
     }
@@ -124,11 +139,12 @@ impl Automaton for Rule<'_> {
     {
         match *self {
             Rule::Bs(bs) => bs.masks(),
+            Rule::Gen(generations) => generations.masks(),
             Rule::Tab(table) => table.masks(),
         }
     }
 
-    ghost closed = { elim [ Bs bs ↦ λ nine _ _ _. Prim.grind (arith, nat_tests) | Tab table ↦ λ nine sound. sound.closed nine ] };
+    ghost closed = { elim [ Bs bs ↦ λ nine _ _ _. Prim.grind (arith, nat_tests) | Gen rule ↦ λ nine sound _ _. Prim.grind (arith, nat_tests) | Tab table ↦ λ nine sound. sound.closed nine ] };
 
-    ghost quiet = { elim [ Bs bs ↦ Prim.search rules | Tab table ↦ λ sound. sound.quiet ] };
+    ghost quiet = { elim [ Bs bs ↦ Prim.search rules | Gen rule ↦ λ sound. Prim.grind (arith, nat_tests) | Tab table ↦ λ sound. sound.quiet ] };
 }

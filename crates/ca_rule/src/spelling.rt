@@ -82,7 +82,7 @@ fn lists_around(bytes: &[u8], upper: u8) -> Option<(&[u8], &[u8])>
 }
 
 /// The digits at the start, and what comes after the `/` that follows them.
-fn lists_around_slash(bytes: &[u8]) -> Option<(&[u8], &[u8])>
+pub(crate) fn lists_around_slash(bytes: &[u8]) -> Option<(&[u8], &[u8])>
     ensures { MatchOption result (lists_around_slash bytes.now ≡ None) (λ r. lists_around_slash bytes.now ≡ Some (r.0.now, r.1.now)) }
 {
     let (digits, rest) = split_digits(bytes);
@@ -107,7 +107,7 @@ fn lists_of(body: &[u8]) -> Option<(&[u8], &[u8])>
 }
 
 /// Whether each byte is a digit from `0` to that of `most`.
-fn are_digits_up_to(most: u8, digits: &[u8]) -> bool
+pub(crate) fn are_digits_up_to(most: u8, digits: &[u8]) -> bool
     requires { most ≤ 8 }
     ensures { result ≡ are_digits_up_to most digits.now }
 {

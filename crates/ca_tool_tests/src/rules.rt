@@ -2,7 +2,8 @@
 
 use crate::devices::expect;
 use ca_plane::{Automaton, Nine};
-use ca_rule::{BsRule, Counts, RuleFault, resolve};
+use ca_rule::{BsRule, Counts, GenRule, RuleFault, resolve};
+use std::alloc::Global;
 use std::test::*;
 
 /// Whether the counts are these alone.
@@ -43,9 +44,66 @@ fn texts_that_name_a_rule(rt: HostRuntime) {
     expect(&rt, are_counts(Counts::none(), &[]), "no counts");
 }
 
+/// Generations texts, each printed as the next, and their counts of survival and of birth with the number of states.
+const GENERATIONS: &[(&[u8], &[u8], &[usize], &[usize], u16)] = &[
+    (b"345/2/4", b"345/2/4", &[3, 4, 5], &[2], 4),
+    (b"8088/66/0256", b"08/6/256", &[0, 8], &[6], 256),
+    (b"//2", b"//2", &[], &[], 2),
+];
+
+fn is_generations_rule(alloc: Global, text: &[u8], printed: &[u8]) -> bool {
+    let (Ok(rule), Ok(other)) = (GenRule::parse(text), GenRule::parse(printed)) else {
+        return false;
+    };
+    let Ok(form) = rule.text(alloc) else {
+        return false;
+    };
+    form.as_slice() == printed && rule.same(&other)
+}
+
+fn has_parts(text: &[u8], survival: &[usize], birth: &[usize], states: u16) -> bool {
+    let Ok(rule) = GenRule::parse(text) else {
+        return false;
+    };
+    are_counts(rule.survival, survival) && are_counts(rule.birth, birth) && rule.states() == states
+}
+
+#[test]
+fn texts_that_name_a_generations_rule(rt: HostRuntime) {
+    'texts: for &(text, printed, survival, birth, states) in GENERATIONS {
+        let holds = is_generations_rule(rt.alloc(), text, printed);
+        expect(&rt, holds, "printed form");
+        expect(&rt, has_parts(text, survival, birth, states), "parts");
+    }
+}
+
+/// Texts that name no Generations rule, and why.
+const NO_GENERATIONS: &[(&[u8], RuleFault)] = &[
+    (b"B3/S23", RuleFault::Unknown),
+    (b"23/3", RuleFault::Unknown),
+    (b"2/3/257", RuleFault::Unknown),
+    (b"2/3/3 ", RuleFault::Unknown),
+    (b"2/30/3", RuleFault::Wakes),
+    (b"2/30/3:", RuleFault::Bounded),
+];
+
+#[test]
+fn texts_that_name_no_generations_rule(rt: HostRuntime) {
+    'texts: for &(text, fault) in NO_GENERATIONS {
+        expect(&rt, GenRule::parse(text).err() == Some(fault), "fault");
+    }
+}
+
 #[test]
 fn texts_that_are_no_word(rt: HostRuntime) {
-    'texts: for text in [b"".as_slice(), b"B3/S23 ", b" B3/S23", b"B3 /S23"] {
+    'texts: for text in [
+        b"".as_slice(),
+        b"B3/S23 ",
+        b" B3/S23",
+        b"B3 /S23",
+        b"2/3/3 ",
+        b"2/3/ 3",
+    ] {
         expect(
             &rt,
             resolve(text, &[]).err() == Some(RuleFault::Unknown),
@@ -72,20 +130,34 @@ const CELLS: &[(Nine, u8)] = &[
     ([255; 9], 0),
 ];
 
-fn goes_as_life<A: Automaton>(rule: &A) -> bool {
-    'cells: for &(nine, state) in CELLS {
+/// A cell and those round it, and its next state in Brian's Brain.
+const BRAIN_CELLS: &[(Nine, u8)] = &[
+    ([0, 0, 0, 0, 0, 0, 0, 0, 0], 0),
+    ([1, 1, 0, 0, 0, 0, 0, 0, 0], 1),
+    ([1, 1, 2, 2, 0, 2, 2, 2, 2], 1),
+    ([1, 2, 0, 0, 0, 0, 0, 0, 0], 0),
+    ([1, 1, 0, 0, 1, 0, 0, 0, 0], 2),
+    ([1, 1, 0, 0, 2, 0, 0, 0, 0], 0),
+    ([1, 1, 1, 0, 0, 0, 0, 0, 0], 0),
+];
+
+fn goes_by<A: Automaton>(rule: &A, cells: &[(Nine, u8)]) -> bool {
+    'cells: for &(nine, state) in cells {
         if next_of(rule, &nine) != state {
             return false;
         }
     }
-    rule.states() == 2
+    true
 }
 
 #[test]
-fn cells_of_life(rt: HostRuntime) {
-    let holds = match resolve(b"B3/S23", &[]) {
-        Ok(life) => goes_as_life(&life),
-        Err(_) => false,
-    };
-    expect(&rt, holds, "cells of Life");
+fn next_cells(rt: HostRuntime) {
+    let tried: &[(&[u8], &[(Nine, u8)], u16)] = &[(b"B3/S23", CELLS, 2), (b"/2/3", BRAIN_CELLS, 3)];
+    'rules: for &(text, cells, states) in tried {
+        let holds = match resolve(text, &[]) {
+            Ok(rule) => goes_by(&rule, cells) && rule.states() == states,
+            Err(_) => false,
+        };
+        expect(&rt, holds, "next cells");
+    }
 }

@@ -9,13 +9,13 @@ pub const EXAMPLES: &str = "Examples:
 
 pub const SHOW: &str = "Five lines are printed, for example:
   format macrocell   the format: rle or macrocell
-  rule B3/S23        the rule: a B/S rule, or the name of a table
+  rule B3/S23        the rule: as B3/S23 or 345/2/4, or the name of a table
   gen 4              the generation
   cells 5            the number of live cells
   box 1 2 3 3        the least box round them: left column, top row, width and height; or none
 
 --rule is for a pattern whose rule is a table: it names the rule file with that table, in Golly NAME.rule.
-A pattern under a B/S rule needs none.
+A pattern under a rule such as B3/S23 or 345/2/4 needs none.
 
 The status is 0, or 2 where the pattern can't be shown. Then standard error says why.
 
@@ -29,7 +29,7 @@ pub const CONVERT: &str =
 the generation.
 
 --rule is for a pattern whose rule is a table: it names the rule file with that table, in Golly NAME.rule.
-A pattern under a B/S rule needs none.
+A pattern under a rule such as B3/S23 or 345/2/4 needs none.
 
 The status is 0, or 2 where the pattern can't be converted. Then standard error says why.
 

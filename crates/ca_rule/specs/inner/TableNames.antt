@@ -10,7 +10,8 @@ use Rattle.ca_rule.specs.declared.table.slot.Slot.{Slot}
 use Rattle.ca_rule.specs.declared.table.slot.Slot.TheVariants.{Number, Variable}
 use Rattle.ca_rule.specs.declared.table.statement_fault.StatementFault.{StatementFault}
 use Rattle.ca_rule.specs.declared.table.statement_fault.StatementFault.TheVariants.{State, Name, Unbound, Memory}
-use Rattle.ca_rule.specs.TableLines.{are_digits, is_name}
+use Rattle.ca_rule.specs.Digits.{are_digits}
+use Rattle.ca_rule.specs.TableLines.{is_name}
 use Rattle.ca_rule.specs.TableText.{is_bound}
 
 -- the number that is kept for a name

@@ -4,7 +4,8 @@ ghost use Rattle.std.specs.Prelude.{◌≡◌, ◌==◌, ℕ, ◌∷◌, [], len
 ghost use Rattle.std.specs.List.{list_all, list_any};
 ghost use Rattle.ca_rule.specs.TableLines.{is_field, fields_between, fields_of};
 
-use crate::table::lines::{are_digits, is_name};
+use crate::digits::are_digits;
+use crate::table::lines::is_name;
 use ca_plane::bytes::{split_at_first, trim_blanks};
 
 /// The fields of a line that are left.

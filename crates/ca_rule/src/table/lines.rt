@@ -3,7 +3,7 @@
 ghost use Rattle.std.specs.Prelude.{◌≡◌, ◌==◌, ℕ, not, None, Some, IfSome, MatchOption};
 ghost use Rattle.std.specs.List.{list_all, prefix_len};
 ghost use Rattle.ca_plane.specs.Bytes.{Every, IsWord, is_digit, is_blank, is_line_end};
-ghost use Rattle.ca_rule.specs.TableLines.{content_of, rule_name, begins_section, begins_table, behind, setting, begins_variable, are_digits, is_name_byte, is_name};
+ghost use Rattle.ca_rule.specs.TableLines.{content_of, rule_name, begins_section, begins_table, behind, setting, begins_variable, is_name_byte, is_name};
 
 use ca_plane::bytes::{is_blank, next_word, split_blanks, strip, trim_blanks};
 
@@ -90,23 +90,6 @@ pub(crate) fn setting<'a>(word: &[u8], content: &'a [u8]) -> Option<&'a [u8]>
     let (_, colon) = split_blanks(behind(word, content)?);
     let (_, value) = split_blanks(behind(b":", colon)?);
     Some(value)
-}
-
-/// Whether each byte is a digit.
-fn all_digits(bytes: &[u8]) -> bool
-    ensures { result ≡ list_all is_digit bytes.now }
-{
-    bytes.iter().all(|byte| byte.is_ascii_digit())
-}
-
-/// Whether the bytes are one or more digits.
-pub(crate) fn are_digits(bytes: &[u8]) -> bool
-    ensures { result ≡ are_digits bytes.now }
-{
-    if bytes.is_empty() {
-        return false;
-    }
-    all_digits(bytes)
 }
 
 /// Whether the byte may be in a name.

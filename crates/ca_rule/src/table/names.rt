@@ -5,8 +5,8 @@ ghost use Rattle.std.specs.List.{list_all, AllZip};
 ghost use Rattle.ca_rule.specs.TableLines.{is_field};
 ghost use Rattle.ca_rule.specs.inner.TableFields.{fields_left};
 
+use crate::digits::are_digits;
 use crate::table::fields::FieldsLeft;
-use crate::table::lines::are_digits;
 use crate::table::slot::Slot;
 use crate::table::statement_fault::StatementFault;
 use crate::table::transition_slots::TransitionSlots;

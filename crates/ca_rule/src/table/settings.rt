@@ -3,16 +3,17 @@
 ghost use Rattle.std.specs.Prelude.{◌≡◌, ◌&&◌, ℕ, [], List, true, is_some, option_and_then, IfOk, IfErr};
 ghost use Rattle.ca_rule.specs.inner.TableReading.{text_of, left_of};
 ghost use Rattle.ca_rule.specs.inner.TableSettings.{IsBehindSettings, IsBehindMeant, meaning_of};
-ghost use Rattle.ca_rule.specs.TableLines.{Line, state_count, neighbourhood_name, neighbourhood_named, symmetry_name, symmetry_named};
+ghost use Rattle.ca_rule.specs.Digits.{state_count};
+ghost use Rattle.ca_rule.specs.TableLines.{Line, neighbourhood_name, neighbourhood_named, symmetry_name, symmetry_named};
 ghost use Rattle.ca_rule.specs.TableOrders.{symmetries_of};
 ghost use Rattle.ca_rule.specs.TableText.{HasTable, Mean, are_settings};
 ghost use Rattle.ca_rule.specs.TableFaults.{is_behind_settings, IsFaultOf};
 
+use crate::digits::state_count;
 use crate::table::fault::TableFault;
-use crate::table::lines::{are_digits, setting};
+use crate::table::lines::setting;
 use crate::table::neighbourhood::{Neighbourhood, Symmetry};
 use crate::table::said_lines::SaidLines;
-use ca_plane::bytes::number;
 
 /// The values that lines give to settings.
 #[derive(Clone, Copy)]
@@ -155,23 +156,6 @@ fn read_values<'a>(
         return Err(TableFault::Syntax { line: line.number });
     }
     read_values(values.with(&given), later)
-}
-
-/// The number of states that a value gives: from 2 to 256.
-fn state_count(bytes: &[u8]) -> Option<u16>
-    ensures { result ≡ state_count bytes.now }
-{
-    if !are_digits(bytes) {
-        return None;
-    }
-    let count = number(bytes);
-    if count < 2 {
-        return None;
-    }
-    if count > 256 {
-        return None;
-    }
-    Some(count as u16)
 }
 
 /// How the neighbourhood is written.

@@ -1,0 +1,159 @@
+//! Rules of the family Generations.
+
+ghost use Rattle.std.specs.Prelude.{◌≡◌, ◌↔◌, ◌≤◌, false, IsTrue, IfOk, IfErr};
+ghost use Rattle.ca_plane.specs.Bytes.{IsWord};
+ghost use Rattle.ca_rule.specs.Counts.{is_count};
+ghost use Rattle.ca_rule.specs.Generations.{live};
+ghost use Rattle.std.proofs.Common.{arith};
+ghost use Rattle.std.proofs.lemmas.Bool.Decides.{nat_tests};
+
+mod laws;
+mod spelling;
+
+use crate::counts::Counts;
+use crate::fault::RuleFault;
+use crate::hood::Hood;
+use ca_plane::text::push_number;
+use ca_plane::{Automaton, Memory, Nine};
+pub use laws::{
+    generations_alike, generations_do_alike, generations_names_itself, generations_rule_or_fault,
+    one_generations_rule, two_states_do_as_bs, worked_generations, worked_generations_cells,
+    worked_generations_faults,
+};
+use spelling::spelling_of;
+use std::alloc::Global;
+
+/// A rule of the family Generations (Golly Help, Algorithms: Generations): a dead cell with a birth count of live
+/// neighbours is born, and a live cell with a survival count stays live. Every other live cell begins to die: it goes up
+/// by one state in each generation, and is dead after the last state. State 1 alone is live and is counted.
+/// A rule never gives birth at a count of 0, and has from 2 to 256 states.
+#[derive(Clone, Copy, Debug)]
+pub struct GenRule {
+    pub survival: Counts,
+    pub birth: Counts,
+    pub states: u16,
+    ghost stays_empty: { is_count birth 0 ≡ false },
+    ghost low: { 2 ≤ states },
+    ghost high: { states ≤ 256 },
+}
+
+impl GenRule {
+    ghost use Rattle.ca_rule.specs.Generations.{older};
+    ghost use Rattle.ca_rule.specs.GenerationsText.{Names, IsFaultOf, printed};
+
+    /// The rule that the text names, as `/2/3` names Brian's Brain. Nothing here takes memory.
+    ///
+    /// # Errors
+    ///
+    /// Fails where the text names no rule, with the reason.
+    pub fn parse(text: &[u8]) -> Result<GenRule, RuleFault>
+        ensures found { IfOk result (λ rule. Names text.now rule) }
+        ensures fault { IfErr result (λ f. IsFaultOf text.now f) }
+    {
+        if text.contains(&b':') {
+            return Err(RuleFault::Bounded);
+        }
+        let Some(spelled) = spelling_of(text) else {
+            return Err(RuleFault::Unknown);
+        };
+        let birth = Counts::of_digits(spelled.birth);
+        if birth.contains(0) {
+            return Err(RuleFault::Wakes);
+        }
+        let survival = Counts::of_digits(spelled.survival);
+        let states = spelled.states;
+        Ok(GenRule {
+            survival,
+            birth,
+            states,
+        })
+    }
+
+    /// The one printed form of the rule, as `345/2/4`: the survival digits and the birth digits, each list rising, and the
+    /// number of states.
+    ///
+    /// # Errors
+    ///
+    /// Fails where there is no memory for it.
+    pub fn text(&self, alloc: Global) -> Result<Vec<u8>, Memory>
+        ensures printed { IfOk result (λ v. v.items ≡ printed self.now.survival self.now.birth self.now.states) }
+        ensures word { IfOk result (λ v. IsWord v.items) }
+    {
+        let mut out = Vec::new(alloc);
+        self.survival.push_digits(&mut out)?;
+        out.push(b'/')?;
+        self.birth.push_digits(&mut out)?;
+        out.push(b'/')?;
+        push_number(&mut out, u64::from(self.states))?;
+        Ok(out)
+    }
+
+    /// Whether the other rule is the same: it has the same counts for survival and for birth, and as many states. Nothing
+    /// here takes memory.
+    pub fn same(&self, other: &GenRule) -> bool
+        ensures { IsTrue result ↔ ((self.now.survival ≡ other.now.survival) × (self.now.birth ≡ other.now.birth) × (self.now.states ≡ other.now.states)) }
+    {
+        if self.survival != other.survival {
+            return false;
+        }
+        if self.birth != other.birth {
+            return false;
+        }
+        self.states == other.states
+    }
+
+    /// The state after this one: the next, or 0 where that reaches the number of states.
+    fn older(&self, state: u8) -> u8
+        ensures { result ≡ older self.now.states state }
+    {
+        let next = u16::from(state) + 1;
+        if next < self.states { next as u8 } else { 0 }
+    }
+}
+
+impl Automaton for GenRule {
+    ghost use Rattle.std.specs.Prelude.{None};
+    ghost use Rattle.ca_rule.specs.Generations.{IsSound, next_of};
+
+    ghost state_count = { λ rule. rule.states };
+
+    ghost next_of = { λ rule nine. next_of rule.survival rule.birth rule.states nine };
+
+    ghost sound = { λ rule. IsSound rule.birth rule.states };
+
+    fn states(&self) -> u16 {
+        self.states
+    }
+
+    fn next(&self, nine: &Nine) -> u8 {
+        let count = usize::from(Hood::Moore.sum(&nine.map(live)));
+        let born = self.birth.contains(count);
+        let stays = self.survival.contains(count);
+        let centre = nine[4];
+        if centre == 0 {
+            return u8::from(born);
+        }
+        if centre == 1 && stays {
+            return 1;
+        }
+        self.older(centre)
+    }
+
+    /// None: rules of this family tell no masks, those of two states neither.
+    fn masks(&self) -> Option<(u16, u16)>
+        ensures { result ≡ None }
+    {
+        None
+    }
+
+    ghost closed = { λ rule nine sound _ _. Prim.grind (arith, nat_tests) };
+
+    ghost quiet = { λ rule sound. Prim.grind (arith, nat_tests) };
+}
+
+/// 1 for a live cell, 0 for one that is dead or dying.
+fn live(state: u8) -> u8
+    ensures { result ≡ live state }
+{
+    u8::from(state == 1)
+}

@@ -1,0 +1,108 @@
+//! What holds of rules of the family Generations and of their texts, said of the definitions alone. These functions are
+//! of no use to a program: each has laws for its contract.
+
+ghost use Rattle.std.specs.Prelude.{◌≡◌, ◌↔◌, ◌<◌, ℕ, List, [], ◌∷◌, length, codes};
+ghost use Rattle.std.specs.List.{All};
+ghost use Rattle.ca_rule.specs.Counts.{counts_of};
+ghost use Rattle.ca_rule.specs.Generations.{next_of};
+ghost use Rattle.ca_rule.specs.GenerationsText.{Spells, Names, IsFaultOf, printed};
+ghost use Rattle.ca_rule.specs.Next as bs;
+ghost use Rattle.ca_rule.specs.Spelling as bs_text;
+ghost use Rattle.ca_rule.specs.declared.counts.Counts.{Counts};
+ghost use Rattle.ca_rule.specs.declared.fault.RuleFault.{RuleFault};
+ghost use Rattle.ca_rule.specs.declared.fault.RuleFault.TheVariants.{Bounded, Wakes, Unknown};
+ghost use Rattle.ca_rule.specs.declared.gen_rule.GenRule.{GenRule};
+ghost use Rattle.ca_rule.specs.declared.hood.Hood.TheVariants.{Moore};
+
+use crate::gen_rule::GenRule;
+
+/// A text names one rule at most.
+pub fn one_generations_rule()
+    ensures { (text : List ℕ) (r s : GenRule) → Names text r → Names text s → (r.survival ≡ s.survival) × (r.birth ≡ s.birth) × (r.states ≡ s.states) }
+{}
+
+/// A text that names a rule has no fault, and another has one fault at most. A text that spells a rule spells none in B/S
+/// notation.
+pub fn generations_rule_or_fault()
+    ensures rule_alone { (text : List ℕ) (rule : GenRule) (fault : RuleFault) → Names text rule → IsFaultOf text fault → ⊥ }
+    ensures one_fault { (text : List ℕ) (f g : RuleFault) → IsFaultOf text f → IsFaultOf text g → f ≡ g }
+    ensures one_notation { (text survival birth : List ℕ) (states : ℕ) → Spells text survival birth states → bs_text.SpellsNone text }
+{}
+
+/// Some texts that name rules, and printed rules.
+pub fn worked_generations()
+    ensures brians_brain_is_spelled { Spells (codes "/2/3") [] (codes "2") 3 }
+    ensures star_wars_is_spelled { Spells (codes "345/2/4") (codes "345") (codes "2") 4 }
+    ensures digits_may_stand_in_any_order { Spells (codes "332/33/03") (codes "332") (codes "33") 3 }
+    ensures slashes_may_stand_alone { Spells (codes "//256") [] [] 256 }
+    ensures brians_brain_is_named { (rule : GenRule) → rule.survival ≡ counts_of [] → rule.birth ≡ counts_of (codes "2") → rule.states ≡ 3 → Names (codes "/2/3") rule }
+    ensures brians_brain_is_printed { printed (counts_of []) (counts_of (codes "2")) 3 ≡ codes "/2/3" }
+    ensures star_wars_is_printed { printed (counts_of (codes "534")) (counts_of (codes "22")) 4 ≡ codes "345/2/4" }
+    ensures most_states_are_printed { printed (counts_of (codes "23")) (counts_of (codes "3")) 256 ≡ codes "23/3/256" }
+{}
+
+/// Some texts that name no rule.
+pub fn worked_generations_faults()
+    ensures birth_on_none_wakes { IsFaultOf (codes "2/0/3") Wakes }
+    ensures torus_is_bounded { IsFaultOf (codes "/2/3:T30,20") Bounded }
+    ensures one_state_is_unknown { IsFaultOf (codes "2/3/1") Unknown }
+    ensures states_above_256_are_unknown { IsFaultOf (codes "2/3/257") Unknown }
+    ensures large_numbers_are_unknown { IsFaultOf (codes "2/3/4294967298") Unknown }
+    ensures no_number_is_unknown { IsFaultOf (codes "2/3/") Unknown }
+    ensures nine_neighbours_are_unknown { IsFaultOf (codes "9/3/3") Unknown }
+    ensures unknown_even_with_birth_on_none { IsFaultOf (codes "9/0/3") Unknown }
+    ensures letters_are_unknown { IsFaultOf (codes "S2/B3/3") Unknown }
+    ensures blanks_are_unknown { IsFaultOf (codes "2/3/ 3") Unknown }
+    ensures three_slashes_are_unknown { IsFaultOf (codes "2/3/3/") Unknown }
+    ensures life_is_unknown { IsFaultOf (codes "23/3") Unknown }
+{}
+
+/// Some cells under Brian's Brain, Star Wars, and Life written with two states.
+pub fn worked_generations_cells()
+    ensures two_live_cells_give_birth { next_of (counts_of []) (counts_of (codes "2")) 3 (1 ∷ 0 ∷ 0 ∷ 0 ∷ 0 ∷ 0 ∷ 0 ∷ 0 ∷ 1 ∷ []) ≡ 1 }
+    ensures dying_cells_are_not_counted { next_of (counts_of []) (counts_of (codes "2")) 3 (1 ∷ 0 ∷ 0 ∷ 2 ∷ 0 ∷ 2 ∷ 0 ∷ 0 ∷ 1 ∷ []) ≡ 1 }
+    ensures two_dying_cells_give_no_birth { next_of (counts_of []) (counts_of (codes "2")) 3 (2 ∷ 0 ∷ 0 ∷ 0 ∷ 0 ∷ 0 ∷ 0 ∷ 0 ∷ 2 ∷ []) ≡ 0 }
+    ensures live_cell_begins_to_die { next_of (counts_of []) (counts_of (codes "2")) 3 (1 ∷ 0 ∷ 0 ∷ 0 ∷ 1 ∷ 0 ∷ 0 ∷ 0 ∷ 1 ∷ []) ≡ 2 }
+    ensures dying_cell_is_not_born { next_of (counts_of []) (counts_of (codes "2")) 3 (1 ∷ 0 ∷ 0 ∷ 0 ∷ 2 ∷ 0 ∷ 0 ∷ 0 ∷ 1 ∷ []) ≡ 0 }
+    ensures three_live_cells_keep_one { next_of (counts_of (codes "345")) (counts_of (codes "2")) 4 (1 ∷ 1 ∷ 1 ∷ 0 ∷ 1 ∷ 0 ∷ 0 ∷ 2 ∷ 3 ∷ []) ≡ 1 }
+    ensures two_live_cells_do_not { next_of (counts_of (codes "345")) (counts_of (codes "2")) 4 (1 ∷ 1 ∷ 2 ∷ 0 ∷ 1 ∷ 0 ∷ 0 ∷ 2 ∷ 3 ∷ []) ≡ 2 }
+    ensures dying_cell_goes_on { next_of (counts_of (codes "345")) (counts_of (codes "2")) 4 (1 ∷ 1 ∷ 1 ∷ 0 ∷ 2 ∷ 0 ∷ 0 ∷ 0 ∷ 0 ∷ []) ≡ 3 }
+    ensures last_state_dies { next_of (counts_of (codes "345")) (counts_of (codes "2")) 4 (1 ∷ 1 ∷ 1 ∷ 0 ∷ 3 ∷ 0 ∷ 0 ∷ 0 ∷ 0 ∷ []) ≡ 0 }
+    ensures of_two_states_none_is_dying { next_of (counts_of (codes "23")) (counts_of (codes "3")) 2 (0 ∷ 0 ∷ 0 ∷ 0 ∷ 1 ∷ 0 ∷ 0 ∷ 0 ∷ 0 ∷ []) ≡ 0 }
+{}
+
+/// Of two states, each cell is next what it is under the B/S rule of the same counts over all eight neighbours.
+pub fn two_states_do_as_bs()
+    ensures { (survival birth : Counts) (nine : List ℕ) → length nine ≡ 9 → All (λ s. s < 2) nine → next_of survival birth 2 nine ≡ bs.next_of Moore birth survival nine }
+{}
+
+/// The printed form of a rule names that rule.
+pub fn generations_names_itself(rule: &GenRule)
+    ensures { Names (printed rule.now.survival rule.now.birth rule.now.states) rule.now }
+{
+    let _ = rule.survival.places();
+    let _ = rule.birth.places();
+}
+
+/// Two rules are printed alike exactly where they are equal.
+pub fn generations_alike(a: &GenRule, b: &GenRule)
+    ensures { (printed a.now.survival a.now.birth a.now.states ≡ printed b.now.survival b.now.birth b.now.states)
+        ↔ ((a.now.survival ≡ b.now.survival) × (a.now.birth ≡ b.now.birth) × (a.now.states ≡ b.now.states)) }
+{
+    generations_names_itself(a);
+    generations_names_itself(b);
+}
+
+/// Two rules have as many states, and every cell of such states is next the same under both, exactly where they are
+/// equal.
+pub fn generations_do_alike(a: &GenRule, b: &GenRule)
+    ensures { ((a.now.states ≡ b.now.states)
+        × ((nine : List ℕ) → length nine ≡ 9 → All (λ s. s < a.now.states) nine
+        → next_of a.now.survival a.now.birth a.now.states nine ≡ next_of b.now.survival b.now.birth b.now.states nine))
+        ↔ ((a.now.survival ≡ b.now.survival) × (a.now.birth ≡ b.now.birth) × (a.now.states ≡ b.now.states)) }
+{
+    let _ = a.survival.places();
+    let _ = a.birth.places();
+    let _ = b.survival.places();
+    let _ = b.birth.places();
+}
