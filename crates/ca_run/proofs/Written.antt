@@ -5,7 +5,7 @@ use Rattle.std.specs.List.{All}
 use Rattle.std.proofs.lemmas.Int.{ints}
 use Rattle.ca_plane.specs.declared.point.Point.{Point}
 use Rattle.ca_plane.specs.Plane.{Picture, cell}
-use Rattle.ca_plane.specs.Generations.{around, after}
+use Rattle.ca_plane.specs.Generations.{around, after, IsAfter}
 use Rattle.ca_plane.specs.Change.{Sets}
 use Rattle.ca_plane.proofs.Pictures.{place-from_true, cell-Sets, cell-Sets-other}
 use Rattle.ca_run.specs.Reach.{IsInReach}
@@ -112,9 +112,12 @@ IsWritten-skip next p old w v at nine s quiet reach shows written to moves sight
     unchanged false v same = refl
 
 -- at the end the new picture shows the next state everywhere
-pub IsWritten-end : (next : List ℕ → ℕ) (p new : Picture) (w : Window) → next (replicate 9 0) ≡ 0 → IsWritten next p new w.place.x w.place.y → Shows p w → IsNextPlace w None → (x y : ℤ) → cell new x y ≡ after next p 1 x y
-IsWritten-end next p new w quiet written shows none = λ x y.
-    elim (compared w.place.x w.place.y x y) [
+pub IsWritten-end : (next : List ℕ → ℕ) (p new : Picture) (w : Window) → next (replicate 9 0) ≡ 0
+    → IsWritten next p new w.place.x w.place.y → Shows p w → IsNextPlace w None → IsAfter next p 1 new
+IsWritten-end next p new w quiet written shows none = λ x y. sym (shown x y)
+  where
+    shown : (x y : ℤ) → cell new x y ≡ after next p 1 x y
+    shown x y = elim (compared w.place.x w.place.y x y) [
       | inl later ↦ written.behind x y later ∙ sym (ap next (quiet_end p w x y shows none later) ∙ quiet)
       | inr o ↦ written.up_to x y (λ later. not_both w.place.x w.place.y x y later o)
     ]

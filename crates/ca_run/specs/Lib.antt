@@ -3,6 +3,7 @@ pub mod Later
 pub mod Centre
 pub mod Leaping
 pub mod Advanced
+pub mod Stepped
 pub mod Lanes
 pub mod Masks
 pub mod FullLeaps

@@ -1,5 +1,5 @@
 -- How far live cells may lie from the origin for a step, and the box that generations can't leave (our own).
-use Rattle.std.specs.Prelude.{◌≢◌, ℕ, ◌-◌, ◌^◌, ℤ, pos, neg_ℤ, ◌+ℤ◌, ◌-ℤ◌, ◌≤ℤ◌, List}
+use Rattle.std.specs.Prelude.{◌≢◌, ℕ, ◌-◌, ◌<◌, ◌^◌, ℤ, pos, neg_ℤ, ◌+ℤ◌, ◌-ℤ◌, ◌≤ℤ◌, List}
 use Rattle.ca_plane.specs.declared.point.Bounds.{Bounds}
 use Rattle.ca_plane.specs.Plane.{Picture}
 use Rattle.ca_plane.specs.Generations.{after}
@@ -12,6 +12,10 @@ IsInReach x y =
 -- after n generations some live cell lies out of reach
 abbrev pub LeavesReach : (List ℕ → ℕ) → Picture → ℕ → Type 0
 LeavesReach next cells n = (x : ℤ) × (y : ℤ) × (after next cells n x y ≢ 0) × (IsInReach x y → ⊥)
+
+-- the same at some time before n generations
+abbrev pub LeavesReachBefore : (List ℕ → ℕ) → Picture → ℕ → Type 0
+LeavesReachBefore next cells n = (m : ℕ) × (m < n) × LeavesReach next cells m
 
 -- the box grown by n cells on each side
 abbrev pub grown_box : Bounds → ℕ → Bounds

@@ -1,11 +1,10 @@
 //! The plane after one generation, and after n.
 
-ghost use Rattle.std.specs.Prelude.{◌≡◌, ℕ, ◌<◌, ◌-◌, ◌^◌, ℤ, pos, neg_ℤ, ◌≤ℤ◌, IsTrue, IsFalse, IfOk, IsErrOf, ◌↔◌};
+ghost use Rattle.std.specs.Prelude.{◌-◌, ◌^◌, pos, neg_ℤ, ◌≤ℤ◌, IsTrue, IsFalse, IfOk, ◌↔◌};
 ghost use Rattle.std.specs.List.{All};
-ghost use Rattle.ca_plane.specs.Plane.{cell};
 ghost use Rattle.ca_plane.specs.Sparse.{IsSparse};
-ghost use Rattle.ca_plane.specs.Generations.{after};
-ghost use Rattle.ca_run.specs.Reach.{IsInReach, LeavesReach};
+ghost use Rattle.ca_run.specs.Reach.{IsInReach};
+ghost use Rattle.ca_run.specs.Stepped.{HasStates, IsStepped, Steps};
 ghost use Rattle.ca_run.specs.inner.Reached.{IsOutOfReach};
 
 use crate::fault::RunFault;
@@ -24,13 +23,8 @@ const STEP_REACH: i64 = REACH as i64 - 2;
 /// `Range` exactly where a live cell lies outside -(2^62 - 2) to 2^62 - 2, however much memory there is. Else fails where
 /// there is no memory for the plane one generation on.
 pub fn step<A: Automaton>(alloc: Global, rule: &A, plane: &Plane) -> Result<Plane, RunFault>
-    requires { All (λ e. e.1 < A.state_count rule.now) plane.now }
-    ensures after { IfOk result (λ p. (x y : ℤ) → cell p x y ≡ after (A.next_of rule.now) plane.now 1 x y) }
-    ensures states { IfOk result (λ p. All (λ e. e.1 < A.state_count rule.now) p) }
-    ensures sparse { IfOk result (λ p. IsSparse p) }
-    ensures within { IfOk result (λ p. LeavesReach (A.next_of rule.now) plane.now 0 → ⊥) }
-    ensures range { IsErrOf result RunFault.Range → LeavesReach (A.next_of rule.now) plane.now 0 }
-    ensures judged { LeavesReach (A.next_of rule.now) plane.now 0 → IsErrOf result RunFault.Range }
+    requires { HasStates (A.state_count rule.now) plane.now }
+    ensures { Steps (A.next_of rule.now) (A.state_count rule.now) plane.now 1 result }
 {
     if !is_all_in_reach(plane) {
         return Err(RunFault::Range);
@@ -66,12 +60,10 @@ fn is_near(coordinate: i64) -> bool
 
 // The plane one generation on from one that shows these cells.
 fn next_plane<A: Automaton>(alloc: Global, rule: &A, cells: &[(Point, u8)]) -> Result<Plane, Memory>
-    requires states { All (λ e. e.1 < A.state_count rule.now) cells.now }
+    requires states { HasStates (A.state_count rule.now) cells.now }
     requires sparse { IsSparse cells.now }
     requires reach { All (λ e. IsInReach e.0.x e.0.y) cells.now }
-    ensures after { IfOk result (λ p. (x y : ℤ) → cell p x y ≡ after (A.next_of rule.now) cells.now 1 x y) }
-    ensures states { IfOk result (λ p. All (λ e. e.1 < A.state_count rule.now) p) }
-    ensures sparse { IfOk result (λ p. IsSparse p) }
+    ensures { IfOk result (IsStepped (A.next_of rule.now) (A.state_count rule.now) cells.now 1) }
 {
     // A rule that tells its states is sound: where all is empty, nothing is born, and its states lead to its states.
     let _states = rule.states();
@@ -100,13 +92,8 @@ pub fn steps<A: Automaton>(
     plane: &Plane,
     n: u64,
 ) -> Result<Plane, RunFault>
-    requires { All (λ e. e.1 < A.state_count rule.now) plane.now }
-    ensures after { IfOk result (λ p. (x y : ℤ) → cell p x y ≡ after (A.next_of rule.now) plane.now n x y) }
-    ensures states { IfOk result (λ p. All (λ e. e.1 < A.state_count rule.now) p) }
-    ensures sparse { IfOk result (λ p. IsSparse p) }
-    ensures within { IfOk result (λ p. (m : ℕ) → m < n → LeavesReach (A.next_of rule.now) plane.now m → ⊥) }
-    ensures range { IsErrOf result RunFault.Range → (m : ℕ) × (m < n) × LeavesReach (A.next_of rule.now) plane.now m }
-    ensures judged { 0 < n → LeavesReach (A.next_of rule.now) plane.now 0 → IsErrOf result RunFault.Range }
+    requires { HasStates (A.state_count rule.now) plane.now }
+    ensures { Steps (A.next_of rule.now) (A.state_count rule.now) plane.now n result }
 {
     if n == 0 {
         return Ok(plane.copy(alloc)?);

@@ -1,4 +1,4 @@
-use Rattle.std.proofs.Common.{refl, arith}
+use Rattle.std.proofs.Common.{◌<◌, refl, arith}
 use Rattle.ca_plane.proofs.Pictures.{IsSparse-none}
 use Rattle.ca_run.proofs.Reached.{states_after}
 use Rattle.ca_run.proofs.Windows.{IsReady-next, Shows-next}
@@ -55,13 +55,18 @@ places-preserved g c =
 pub places-smaller : goal.places-smaller
 places-smaller g c = moves_left-fall c.places.window c.move_to.new.self c.in-Some.place c.in-Some.ensures c.move_to.ensures
 
-pub returns-clause-after : goal.returns-clause-after
-returns-clause-after g c =
+pub returns : goal.returns
+returns g c =
     let next = g.A.Automaton.next_of c.args.rule.now in
-    let quiet = g.met.A.Automaton.quiet c.args.rule.now c.states-states.ensures.sound in
-    IsWritten-end next c.args.cells.now c.places.next c.places.window quiet c.places.invariant.written c.places.invariant.shows c.in_default.ensures
-
-pub returns-clause-states : goal.returns-clause-states
-returns-clause-states g c =
-    let next = g.A.Automaton.next_of c.args.rule.now in
-    states_after next c.args.cells.now c.places.next (g.A.Automaton.state_count c.args.rule.now) (λ nine nine_long below. g.met.A.Automaton.closed c.args.rule.now nine c.states-states.ensures.sound nine_long below) (omega (arith, c.states-states.ensures.value, c.states-states.ensures.low)) c.requires.states c.places.invariant.sparse (returns-clause-after g c)
+    let p = c.args.cells.now in
+    let count = g.A.Automaton.state_count c.args.rule.now in
+    let sound = c.states-states.ensures.sound in
+    let quiet = g.met.A.Automaton.quiet c.args.rule.now sound in
+    let some : 0 < count = omega (arith, c.states-states.ensures.value, c.states-states.ensures.low) in
+    let inv = c.places.invariant in
+    let after = IsWritten-end next p c.places.next c.places.window quiet inv.written inv.shows c.in_default.ensures in
+    record {
+      after = after;
+      states = states_after next p c.places.next count (λ nine nine_long below. g.met.A.Automaton.closed c.args.rule.now nine sound nine_long below) some c.requires.states inv.sparse after;
+      sparse = inv.sparse;
+    }
