@@ -1,6 +1,6 @@
 -- Trees that leap: what they show, and where all stays empty.
 use Rattle.std.proofs.Common.{◌≡◌, ℕ, suc, ◌+◌, ◌-◌, ◌*◌, ◌/◌, ◌%◌, ◌<◌, ◌≤◌, ◌^◌, inl, inr, Option, Some, None, IfSome, List, refl, sym, ap, ap₂, subst, ◌∙◌, arith}
-use Rattle.std.specs.Prelude.{ℤ, pos, negsuc, neg_ℤ, ◌+ℤ◌, ◌≤ℤ◌, replicate}
+use Rattle.std.specs.Prelude.{ℤ, pos, negsuc, neg_ℤ, ◌+ℤ◌, ◌≤ℤ◌, replicate, Result, Ok, Err, IfOk}
 use Rattle.std.proofs.lemmas.Int.{ints}
 use Rattle.std.proofs.Math.Nat.{two-pow-succ, pow-le-pow_right}
 use Rattle.std.proofs.Math.Pow.{pow_mono}
@@ -16,6 +16,7 @@ use Rattle.ca_quad.proofs.Cells.{cell_ends, cells_stay}
 use Rattle.ca_quad.proofs.Edges.{outside_x, outside_y}
 use Rattle.ca_run.specs.Centre.{IsCentre}
 use Rattle.ca_run.specs.inner.Shown.{ShowsAt, side}
+use Rattle.ca_run.specs.inner.Padded.{IsPadded}
 use Rattle.ca_run.specs.inner.Grid.{IsBeyond, DiesBeyond}
 use Rattle.ca_run.proofs.After.{after_same, after_dead, after_again}
 use Rattle.ca_run.proofs.Shown.{at_from, centre_at}
@@ -91,15 +92,17 @@ powers_fit l j k some low time =
 
 -- the centre of a tree with a wide empty margin is the tree 2 ^ j generations later
 pub leap_cells : (next : List ℕ → ℕ) → next (replicate 9 0) ≡ 0 → (s0 s1 s2 : List Node) → IsSound s1 → Grows s1 s2 → (tree wide half : Tree) (k j root : ℕ) → 1 ≤ tree.level → tree.level ≤ k → j + 1 ≤ k
-    → IsTree s1 wide → wide.level ≡ suc (suc k) → ((x y : ℤ) → cell s1 wide x y ≡ cell s0 tree x y) → IsCentre next s2 wide.root k j root → half.root ≡ root → half.level ≡ suc k
+    → IsPadded s0 tree (suc (suc k)) s1 wide → IsCentre next s2 wide.root k j root → half.root ≡ root → half.level ≡ suc k
     → (x y : ℤ) → cell s2 half x y ≡ cells_after next (cell s0 tree) (2 ^ j) x y
-leap_cells next quiet s0 s1 s2 sound grows tree wide half k j root some low time is_tree level same is_centre e f x y =
+leap_cells next quiet s0 s1 s2 sound grows tree wide half k j root some low time padded is_centre e f x y =
+    let level = padded.has_level in
+    let same = padded.cells in
     let p = cell s1 wide in
     let corner : wide.level - 1 ≡ suc k = omega arith in
     let up = two-pow-succ k in
     let place : neg_ℤ (pos (2 ^ suc k)) +ℤ side k ≡ neg_ℤ (pos (2 ^ k)) = omega (arith, ints, up) in
     let shown = subst (λ n. ShowsAt s1 wide.root (suc (suc k)) p (neg_ℤ (pos (2 ^ n))) (neg_ℤ (pos (2 ^ n)))) corner
-    (subst (λ n. ShowsAt s1 wide.root n p (neg_ℤ (pos (2 ^ (wide.level - 1)))) (neg_ℤ (pos (2 ^ (wide.level - 1))))) level (root_at s1 wide is_tree)) in
+    (subst (λ n. ShowsAt s1 wide.root n p (neg_ℤ (pos (2 ^ (wide.level - 1)))) (neg_ℤ (pos (2 ^ (wide.level - 1))))) level (root_at s1 wide padded.is_tree)) in
     let centred = at_from s2 root (suc k) (cells_after next p (2 ^ j)) _ _ _ _ place place
     (centre_at next s1 s2 sound grows wide.root k j root p (neg_ℤ (pos (2 ^ suc k))) (neg_ℤ (pos (2 ^ suc k))) shown is_centre) in
     let dies : DiesBeyond (2 ^ (tree.level - 1)) p = λ u v out. same u v ∙ tree_dies s0 tree some u v out in
@@ -125,13 +128,23 @@ pub tree_stays : (old new : List Node) → IsSound old → Grows old new → (tr
 tree_stays old new sound grows tree h x y =
     ap (λ f. from_corner f (x +ℤ pos (2 ^ (tree.level - 1))) (y +ℤ pos (2 ^ (tree.level - 1)))) (cells_stay old new sound grows tree.level tree.root h)
 
+-- a tree that is made wider, and then wider again
+pub padded_again : {E : Type 0} (s0 s1 s2 : List Node) (tree wide : Tree) (low high : ℕ) → IsPadded s0 tree low s1 wide
+    → (r : Result Tree E) → IfOk r (IsPadded s1 wide high s2) → IfOk r (IsPadded s0 tree high s2)
+padded_again s0 s1 s2 tree wide low high padded (Ok wider) again = record {
+  is_tree = again.is_tree;
+  has_level = again.has_level;
+  cells = λ x y. again.cells x y ∙ padded.cells x y;
+}
+padded_again s0 s1 s2 tree wide low high padded (Err e) again = tt
+
 -- two trees that are made wider one after the other keep their cells
-pub both_padded : (s0 s1 s2 : List Node) → IsSound s0 → Grows s0 s1 → Grows s1 s2 → (a b wide_a wide_b : Tree) → IsTree s1 wide_a → IsTree s0 b
-    → ((x y : ℤ) → cell s1 wide_a x y ≡ cell s0 a x y) → ((x y : ℤ) → cell s2 wide_b x y ≡ cell s1 b x y)
+pub both_padded : (s0 s1 s2 : List Node) → IsSound s0 → Grows s0 s1 → Grows s1 s2 → (a b wide_a wide_b : Tree) (level : ℕ)
+    → IsPadded s0 a level s1 wide_a → IsTree s0 b → IsPadded s1 b level s2 wide_b
     → ((x y : ℤ) → cell s2 wide_a x y ≡ cell s0 a x y) × ((x y : ℤ) → cell s2 wide_b x y ≡ cell s0 b x y)
-both_padded s0 s1 s2 sound grows more a b wide_a wide_b is_a is_b same_a same_b = (
-  λ x y. tree_stays s1 s2 grows.sound more wide_a is_a x y ∙ same_a x y,
-  λ x y. same_b x y ∙ tree_stays s0 s1 sound grows b is_b x y,
+both_padded s0 s1 s2 sound grows more a b wide_a wide_b level padded_a is_b padded_b = (
+  λ x y. tree_stays s1 s2 grows.sound more wide_a padded_a.is_tree x y ∙ padded_a.cells x y,
+  λ x y. padded_b.cells x y ∙ tree_stays s0 s1 sound grows b is_b x y,
 )
 
 -- a shifted two is a power of two, where no bit is lost

@@ -5,6 +5,7 @@ pub mod Window
 pub mod Reached
 pub mod Written
 pub mod Shown
+pub mod Padded
 pub mod Words
 pub mod Centres
 pub mod Grid

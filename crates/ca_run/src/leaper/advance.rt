@@ -1,11 +1,11 @@
 //! Trees after n generations.
 
-ghost use Rattle.std.specs.Prelude.{◌≡◌, ◌+◌, ◌≤◌, ◌^◌, max, ℤ, Ok, IfOk};
-ghost use Rattle.ca_plane.specs.Generations.{cells_after};
+ghost use Rattle.std.specs.Prelude.{◌≡◌, ◌+◌, ◌≤◌, ◌^◌, max, Ok, IfOk};
 ghost use Rattle.ca_quad.specs.Sound.{IsSound};
-ghost use Rattle.ca_quad.specs.Trees.{IsTree, cell};
-ghost use Rattle.ca_run.specs.Advanced.{CanAdvance, Advances};
+ghost use Rattle.ca_quad.specs.Trees.{IsTree};
+ghost use Rattle.ca_run.specs.Advanced.{CanAdvance, IsAdvanced, Advances};
 ghost use Rattle.ca_run.specs.Leaping.{GoesOn};
+ghost use Rattle.ca_run.specs.inner.Padded.{IsPadded};
 
 use super::{Leaper, Milestone};
 use crate::fault::LeapFault;
@@ -79,9 +79,8 @@ impl<A: Automaton> Leaper<A> {
         requires tree { IsTree self.old.nodes tree }
         requires level { tree.level ≤ 123 }
         requires time { j ≤ 60 }
-        ensures tree { IfOk result (IsTree self.new.nodes) }
+        ensures advanced { IfOk result (IsAdvanced (A.next_of self.old.rule) self.old.nodes tree (2 ^ j) self.new.nodes) }
         ensures level { IfOk result (λ t. t.level ≡ max tree.level (j + 1) + 1) }
-        ensures cells { IfOk result (λ t. (x y : ℤ) → cell self.new.nodes t x y ≡ cells_after (A.next_of self.old.rule) (cell self.old.nodes tree) (2 ^ j) x y) }
         ensures goes_on { GoesOn A self.old self.new }
     {
         // So all that is live 2^j generations on lies in the centre.
@@ -99,9 +98,7 @@ impl<A: Automaton> Leaper<A> {
         requires tree { IsTree self.old.nodes tree }
         requires more { tree.level ≤ level }
         requires most { level ≤ 125 }
-        ensures tree { IfOk result (IsTree self.new.nodes) }
-        ensures level { IfOk result (λ t. t.level ≡ level) }
-        ensures cells { IfOk result (λ t. (x y : ℤ) → cell self.new.nodes t x y ≡ cell self.old.nodes tree x y) }
+        ensures padded { IfOk result (IsPadded self.old.nodes tree level self.new.nodes) }
         ensures goes_on { GoesOn A self.old self.new }
         ensures sound { IsSound self.old.nodes }
     {
@@ -117,9 +114,7 @@ impl<A: Automaton> Leaper<A> {
     fn pad(&mut self, tree: Tree) -> Result<Tree, Memory>
         requires tree { IsTree self.old.nodes tree }
         requires low { tree.level ≤ 124 }
-        ensures tree { IfOk result (IsTree self.new.nodes) }
-        ensures level { IfOk result (λ t. t.level ≡ tree.level + 1) }
-        ensures cells { IfOk result (λ t. (x y : ℤ) → cell self.new.nodes t x y ≡ cell self.old.nodes tree x y) }
+        ensures padded { IfOk result (IsPadded self.old.nodes tree (tree.level + 1) self.new.nodes) }
         ensures goes_on { GoesOn A self.old self.new }
     {
         self.store.pad(tree)

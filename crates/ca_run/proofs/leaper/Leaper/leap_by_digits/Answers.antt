@@ -20,9 +20,9 @@ returns-then-n-eq-MOST_GENERATIONS g c =
     let e : c.args.n ≡ 2 ^ 60 = grind (arith, nat_tests) in
     record {
       advanced = record {
-        is_tree = c.in_ok-leap.ensures.tree;
-        level = omega (arith, c.in_ok-leap.ensures.level, c.requires.level);
-        cells = λ x y. same_time _ (λ m. cells_after (g.A.Automaton.next_of c.args.self.now.rule) (cell c.args.self.now.nodes c.args.tree) m x y) (2 ^ 60) c.args.n (sym e) (c.in_ok-leap.ensures.cells x y);
+        is_tree = c.in_ok-leap.ensures.advanced.is_tree;
+        level = c.in_ok-leap.ensures.advanced.level;
+        cells = λ x y. same_time _ (λ m. cells_after (g.A.Automaton.next_of c.args.self.now.rule) (cell c.args.self.now.nodes c.args.tree) m x y) (2 ^ 60) c.args.n (sym e) (c.in_ok-leap.ensures.advanced.cells x y);
       };
       none = λ z. absurd (omega (arith, e, z));
       goes_on = c.in_ok-leap.ensures.goes_on;
@@ -42,10 +42,10 @@ digits-preserved g c =
           let s2 = w.leap-then-n-j-eq1.new.self.nodes in
           let more = w.in_ok-now.now in
           let digit : n / 2 ^ j % 2 ≡ 1 = grind (arith, nat_tests, w.if-n-j-eq1.true) in
-          let leapt = subst (λ r. (x y : ℤ) → cell s2 more x y ≡ cells_after (g.A.Automaton.next_of r) (cell s1 c.digits.now) (2 ^ j) x y) inv.goes_on.rule w.in_ok-now.ensures.cells in
+          let leapt = subst (λ r. (x y : ℤ) → cell s2 more x y ≡ cells_after (g.A.Automaton.next_of r) (cell s1 c.digits.now) (2 ^ j) x y) inv.goes_on.rule w.in_ok-now.ensures.advanced.cells in
           rw (w.self-is, w.now-is)
           (record {
-            tree = w.in_ok-now.ensures.tree;
+            tree = w.in_ok-now.ensures.advanced.is_tree;
             level = omega (arith, w.in_ok-now.ensures.level, inv.level);
             cells = λ x y. same_time (cell s2 more x y) (λ m. cells_after next (cell s0 c.args.tree) (n % 2 ^ m) x y) (1 + j) (j + 1) one
                 (one_digit next s0 s1 s2 c.args.tree c.digits.now more n j digit inv.cells leapt x y);
@@ -79,7 +79,7 @@ with_tree-requires g c = λ x y.
     let j = c.digits.j in
     let inv = c.digits.invariant in
     let digit : n / 2 ^ j % 2 ≡ 1 = grind (arith, nat_tests, c.if-n-j-eq1.true) in
-    let leapt = subst (λ r. (x y : ℤ) → cell s2 more x y ≡ cells_after (next r) (cell c.digits.self.nodes c.digits.now) (2 ^ j) x y) inv.goes_on.rule c.in_ok-now.ensures.cells in
+    let leapt = subst (λ r. (x y : ℤ) → cell s2 more x y ≡ cells_after (next r) (cell c.digits.self.nodes c.digits.now) (2 ^ j) x y) inv.goes_on.rule c.in_ok-now.ensures.advanced.cells in
     let on = goes_on_again _ c.args.self.now c.digits.self c.leap-then-n-j-eq1.new.self inv.goes_on c.in_ok-now.ensures.goes_on in
     let sound = subst (λ l. IsSound l.nodes) c.self.view_is c.self.invariant.squares in
     let reached = one_digit rule s0 c.digits.self.nodes s2 tree c.digits.now more n j digit inv.cells leapt x y in
