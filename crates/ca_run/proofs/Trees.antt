@@ -1,6 +1,6 @@
 -- Trees that leap: what they show, and where all stays empty.
 use Rattle.std.proofs.Common.{◌≡◌, ℕ, suc, ◌+◌, ◌-◌, ◌*◌, ◌/◌, ◌%◌, ◌<◌, ◌≤◌, ◌^◌, inl, inr, Option, Some, None, IfSome, List, refl, sym, ap, ap₂, subst, ◌∙◌, arith}
-use Rattle.std.specs.Prelude.{ℤ, pos, negsuc, neg_ℤ, ◌+ℤ◌, ◌≤ℤ◌, replicate, Result, Ok, Err, IfOk}
+use Rattle.std.specs.Prelude.{ℤ, pos, negsuc, neg_ℤ, ◌+ℤ◌, ◌≤ℤ◌, replicate}
 use Rattle.std.proofs.lemmas.Int.{ints}
 use Rattle.std.proofs.Math.Nat.{two-pow-succ, pow-le-pow_right}
 use Rattle.std.proofs.Math.Pow.{pow_mono}
@@ -127,16 +127,6 @@ no_digit n j digit = sym (mod-pow-add n 1 j ∙ (ap (λ d. d * 2 ^ j + n % 2 ^ j
 pub tree_stays : (old new : List Node) → IsSound old → Grows old new → (tree : Tree) → IsTree old tree → (x y : ℤ) → cell new tree x y ≡ cell old tree x y
 tree_stays old new sound grows tree h x y =
     ap (λ f. from_corner f (x +ℤ pos (2 ^ (tree.level - 1))) (y +ℤ pos (2 ^ (tree.level - 1)))) (cells_stay old new sound grows tree.level tree.root h)
-
--- a tree that is made wider, and then wider again
-pub padded_again : {E : Type 0} (s0 s1 s2 : List Node) (tree wide : Tree) (low high : ℕ) → IsPadded s0 tree low s1 wide
-    → (r : Result Tree E) → IfOk r (IsPadded s1 wide high s2) → IfOk r (IsPadded s0 tree high s2)
-padded_again s0 s1 s2 tree wide low high padded (Ok wider) again = record {
-  is_tree = again.is_tree;
-  has_level = again.has_level;
-  cells = λ x y. again.cells x y ∙ padded.cells x y;
-}
-padded_again s0 s1 s2 tree wide low high padded (Err e) again = tt
 
 -- two trees that are made wider one after the other keep their cells
 pub both_padded : (s0 s1 s2 : List Node) → IsSound s0 → Grows s0 s1 → Grows s1 s2 → (a b wide_a wide_b : Tree) (level : ℕ)

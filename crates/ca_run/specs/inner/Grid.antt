@@ -26,6 +26,12 @@ corner_words north south i = record {
   se = word_in south i;
 }
 
+-- a tree of this level, and what comes of it in n generations, has a place in a grid
+pub record FitsGrid (level n : ℕ) : Type 0 where
+  pub least : 6 ≤ level
+  pub greatest : level ≤ 16
+  pub time : n ≤ 2 ^ (level + 2)
+
 -- no cell of the square is live
 abbrev pub HasNone : Words → Type 0
 HasNone square = (square.nw ≡ 0) × (square.ne ≡ 0) × (square.sw ≡ 0) × (square.se ≡ 0)

@@ -6,7 +6,7 @@ ghost use Rattle.ca_quad.specs.Trees.{IsTree, cell};
 ghost use Rattle.ca_run.specs.Advanced.{IsAdvanced};
 ghost use Rattle.ca_run.specs.Leaping.{GoesOn};
 ghost use Rattle.ca_run.specs.Masks.{GoesBy};
-ghost use Rattle.ca_run.specs.inner.Grid.{GridShows, Begins, IsAsNarrow, corner, DiesBeyond};
+ghost use Rattle.ca_run.specs.inner.Grid.{FitsGrid, GridShows, Begins, IsAsNarrow, corner, DiesBeyond};
 
 use super::grid::{Grid, Place};
 use super::{Leaper, Milestone};
@@ -56,9 +56,7 @@ impl<A: Automaton> Leaper<A> {
     // Whether to step all words likely takes less time than to leap: the generations are few beside the side of the tree,
     // nothing was leapt over yet, and its squares hardly repeat.
     fn is_dense(&self, tree: Tree, n: u64) -> bool
-        ensures least { result ≡ true → 6 ≤ tree.level }
-        ensures greatest { result ≡ true → tree.level ≤ 16 }
-        ensures time { result ≡ true → n ≤ 2 ^ (tree.level + 2) }
+        ensures fits { result ≡ true → FitsGrid tree.level n }
         ensures some { result ≡ true → 32 ≤ n }
     {
         if tree.level < LEAST
@@ -74,9 +72,7 @@ impl<A: Automaton> Leaper<A> {
 
     // The tree of a grid that came of one of this level in n generations.
     fn centred_tree(&mut self, grid: &Grid, level: u8, n: u64) -> Result<Tree, Memory>
-        requires least { 6 ≤ level }
-        requires greatest { level ≤ 16 }
-        requires time { n ≤ 2 ^ (level + 2) }
+        requires { FitsGrid level n }
         ensures tree { IfOk result (IsTree self.new.nodes) }
         ensures level { IfOk result (λ t. t.level ≤ 124) }
         ensures cells { (p : ℤ → ℤ → ℕ) → GridShows grid.now p (corner level n) (corner level n) → DiesBeyond (2 ^ (level + 3)) p
@@ -95,9 +91,7 @@ impl<A: Automaton> Leaper<A> {
 // Where the corner of a tree of four levels more lies among the words of a grid that came of one of this level in n
 // generations.
 fn place_of_corner(level: u8, n: u64) -> i64
-    requires least { 6 ≤ level }
-    requires greatest { level ≤ 16 }
-    requires time { n ≤ 2 ^ (level + 2) }
+    requires { FitsGrid level n }
     ensures value { result ≡ (pos (2 ^ (level - 4)) +ℤ pos (n / 8 + 1)) -ℤ pos (2 ^ level) }
     ensures least { neg_ℤ (pos (2 ^ 40)) ≤ℤ result }
     ensures greatest { result ≤ℤ pos (2 ^ 40 - 2 ^ (level + 1)) }
