@@ -6,10 +6,8 @@ mod count;
 ghost use Rattle.std.specs.Prelude.{◌≡◌, ◌+◌, ◌<◌, ◌≤◌, ◌^◌, ◌==◌, ℕ, ℤ, min, max, length};
 ghost use Rattle.std.specs.List.{All};
 ghost use Rattle.std.specs.Int.{bit_at};
-ghost use Rattle.ca_plane.specs.Generations.{around};
-ghost use Rattle.ca_plane.specs.Moore.{moore_next};
 ghost use Rattle.ca_quad.specs.Trees.{row_cells};
-ghost use Rattle.ca_run.specs.Lanes.{tile_cell, IsWithinEdge};
+ghost use Rattle.ca_run.specs.Lanes.{tile_cell, IsWithinEdge, IsNextTile};
 ghost use Rattle.ca_run.specs.inner.Tiles.{lives_next, next_by_count, number};
 
 pub(crate) use bits::Bits;
@@ -30,7 +28,7 @@ const FEW_OR_MANY: u16 = 0b1_1111_0011;
 pub fn kernel16(rows: &[u16; 16], birth: u16, survive: u16) -> [u16; 16]
     ensures rows { length result ≡ 16 }
     ensures words { All (λ row. row < 2 ^ 16) result }
-    ensures within { (x y : ℤ) → IsWithinEdge x y → tile_cell result x y ≡ moore_next birth survive (around (tile_cell rows.now) x y) }
+    ensures within { IsNextTile birth survive rows.now result }
     ensures edge { (x y : ℤ) → (IsWithinEdge x y → ⊥) → tile_cell result x y ≡ 0 }
 {
     let next = next_tile(Bits::of(rows), birth, survive);
@@ -40,7 +38,7 @@ pub fn kernel16(rows: &[u16; 16], birth: u16, survive: u16) -> [u16; 16]
 /// The next generation of those cells of a tile that aren't on its edge.
 #[inline(always)]
 pub(crate) fn next_tile(alive: Bits, birth: u16, survive: u16) -> Bits
-    ensures { (x y : ℤ) → IsWithinEdge x y → tile_cell result.rows x y ≡ moore_next birth survive (around (tile_cell alive.rows) x y) }
+    ensures { IsNextTile birth survive alive.rows result.rows }
 {
     next_bits(alive, Count::neighbours(alive), birth, survive)
 }

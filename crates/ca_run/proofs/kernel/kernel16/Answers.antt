@@ -1,13 +1,11 @@
-use Rattle.std.proofs.Common.{◌∙◌, ap, subst, min, ℤ, ◌≡◌}
-use Rattle.ca_plane.specs.Generations.{around}
-use Rattle.ca_plane.specs.Moore.{moore_next}
+use Rattle.std.proofs.Common.{◌∙◌, ap, subst, min}
 use Rattle.ca_quad.specs.Trees.{row_cells}
-use Rattle.ca_run.specs.Lanes.{tile_cell, IsWithinEdge}
+use Rattle.ca_run.specs.Lanes.{IsNextTile}
 use Rattle.ca_run.proofs.TileCells.{cut_within, next_edge}
 use Rattle.ca_run.proofs.kernel.kernel16.Goals as goal
 
 pub returns-clause-within : goal.returns-clause-within
-returns-clause-within c = subst (λ rows. (x y : ℤ) → IsWithinEdge x y → tile_cell c.and.result.rows x y ≡ moore_next c.args.birth c.args.survive (around (tile_cell rows) x y)) c.of.ensures
+returns-clause-within c = subst (λ rows. IsNextTile c.args.birth c.args.survive rows c.and.result.rows) c.of.ensures
     (λ x y within.
     cut_within c.next_tile-next.result.rows c.and.result.rows (λ u v. c.and.ensures u v ∙ ap (λ rows. min (row_cells c.next_tile-next.result.rows u v) (row_cells rows u v)) c.of-2.ensures) x y within
     ∙ c.next_tile-next.ensures x y within)
