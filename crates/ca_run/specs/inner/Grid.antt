@@ -4,6 +4,7 @@ use Rattle.std.specs.Prelude.{◌≡◌, ℕ, ◌+◌, ◌-◌, ◌*◌, ◌/◌
 use Rattle.ca_plane.specs.Generations.{cells_after}
 use Rattle.ca_run.specs.declared.leaper.words.Words.{Words}
 use Rattle.ca_run.specs.declared.leaper.grid.Place.{Place}
+use Rattle.ca_run.specs.declared.leaper.line.Column.{Column}
 use Rattle.ca_run.specs.inner.Words.{WordShows, WordsShow}
 use Rattle.ca_run.specs.Masks.{GoesBy}
 
@@ -31,6 +32,11 @@ pub record FitsGrid (level n : ℕ) : Type 0 where
   pub least : 6 ≤ level
   pub greatest : level ≤ 16
   pub time : n ≤ 2 ^ (level + 2)
+
+-- the words at a place of two rows, one over the other
+pub record IsColumn (upper lower : List ℕ) (at : ℤ) (column : Column) : Type 0 where
+  pub north : column.north ≡ word_in upper at
+  pub south : column.south ≡ word_in lower at
 
 -- no cell of the square is live
 abbrev pub HasNone : Words → Type 0

@@ -1,7 +1,7 @@
 //! Rows of words.
 
 ghost use Rattle.std.specs.Prelude.{◌≡◌, true, ℕ, suc, ◌+◌, ◌≤◌, ◌<◌, ◌^◌, max, ℤ, pos, ◌-ℤ◌, List, ◌++◌, ◌∷◌, [], length, replicate, get_or, IfOk, OnOk};
-ghost use Rattle.ca_run.specs.inner.Grid.{word_in, corner_words, IsMiddle, LineFollows, LineKeeps, HasNone};
+ghost use Rattle.ca_run.specs.inner.Grid.{word_in, corner_words, IsColumn, IsMiddle, LineFollows, LineKeeps, HasNone};
 
 use super::words::Words;
 use ca_plane::Memory;
@@ -127,8 +127,7 @@ impl Band<'_> {
     // The words at a place.
     #[inline(always)]
     fn column(&self, i: usize) -> Column
-        ensures north { result.north ≡ word_in self.now.north.now (pos i) }
-        ensures south { result.south ≡ word_in self.now.south.now (pos i) }
+        ensures { IsColumn self.now.north.now self.now.south.now (pos i) result }
     {
         Column {
             north: self.north.word(i),
@@ -139,8 +138,7 @@ impl Band<'_> {
     // The words at the place before.
     #[inline(always)]
     fn column_before(&self, i: usize) -> Column
-        ensures north { result.north ≡ word_in self.now.north.now (pos i -ℤ pos 1) }
-        ensures south { result.south ≡ word_in self.now.south.now (pos i -ℤ pos 1) }
+        ensures { IsColumn self.now.north.now self.now.south.now (pos i -ℤ pos 1) result }
     {
         match i.checked_sub(1) {
             Some(place) => self.column(place),
@@ -150,8 +148,7 @@ impl Band<'_> {
 
     // The words two places before.
     fn column_two_before(&self, i: usize) -> Column
-        ensures north { result.north ≡ word_in self.now.north.now (pos i -ℤ pos 1 -ℤ pos 1) }
-        ensures south { result.south ≡ word_in self.now.south.now (pos i -ℤ pos 1 -ℤ pos 1) }
+        ensures { IsColumn self.now.north.now self.now.south.now (pos i -ℤ pos 1 -ℤ pos 1) result }
     {
         match i.checked_sub(1) {
             Some(place) => self.column_before(place),
