@@ -11,6 +11,7 @@ use Rattle.ca_plane.specs.Plane.{Picture, cell}
 use Rattle.ca_quad.specs.declared.node.Node.{Node as Kept}
 use Rattle.ca_quad.specs.Squares as squares
 use Rattle.ca_quad.specs.Sound.{IsSound}
+use Rattle.ca_quad.specs.SquareValues.{square_value}
 use Rattle.ca_quad.specs.Trees.{from_corner, IsIn, IsEmpty}
 use Rattle.ca_quad.proofs.Cells.{same_cells}
 use Rattle.ca_quad.proofs.Growth.{below_or_not}
@@ -18,7 +19,7 @@ use Rattle.ca_macro.specs.declared.write.written.Written.{Written}
 use Rattle.ca_macro.specs.Nodes.{Node, Leaf, Cells, Parts, level_of, Names, MayFollow}
 use Rattle.ca_macro.specs.Shown.{numbered, row_from, rows_from, state_of, square_of, squares_of}
 use Rattle.ca_macro.specs.Tidy.{AreInPlace, HasForm, is_empty}
-use Rattle.ca_macro.specs.inner.Written.{number_of, node_of, cells_of, IsPictureOf, IsNumberOf, IsNodeOf, IsGathered}
+use Rattle.ca_macro.specs.inner.Written.{node_of, cells_of, IsPictureOf, IsNumberOf, IsNodeOf, IsGathered}
 use Rattle.ca_macro.proofs.Following.{square_stays, square_last, all_append}
 
 -- ---- places in lists of nodes
@@ -169,8 +170,8 @@ written_more old new node number more last =
     (nodes, omega arith)
 
 module _ (kept : List Kept) (sound : IsSound kept) (states : ℕ) (ns : List Node) (old new : List (ℕ × ℕ)) (id : ℕ) (node : Node) (known : IsIn kept id)
-    (gathered : IsGathered kept states ns old) (is : IsNodeOf kept states ns id node) (live : IsEmpty (cells_of kept id) → ⊥) (none : number_of old id ≡ None)
-    (put : (other : ℕ) → number_of new other ≡ cond (id == other) (Some (suc (length ns))) (number_of old other)) where
+    (gathered : IsGathered kept states ns old) (is : IsNodeOf kept states ns id node) (live : IsEmpty (cells_of kept id) → ⊥) (none : square_value old id ≡ None)
+    (put : (other : ℕ) → square_value new other ≡ cond (id == other) (Some (suc (length ns))) (square_value old other)) where
   other_node : (i : ℕ) (d : Node) → i < length ns → slice_index_or ns i d ≡ node → ⊥
   other_node i d low same =
       let e = gathered.each i low in
@@ -180,7 +181,7 @@ module _ (kept : List Kept) (sound : IsSound kept) (states : ℕ) (ns : List Nod
       sym (names_level ns (squares.level_of kept other) i d f.1.names) ∙ ap level_of same ∙ is.level in
       let picture : numbered (squares_of ns) (suc i) ≡ square_of (squares_of ns) node = square_at ns i d gathered.in_place low ∙ ap (square_of (squares_of ns)) same in
       let one : other ≡ id = one_square kept sound other id f.0 known level (square_of (squares_of ns) node) (subst (λ p. IsPictureOf p (cells_of kept other)) picture f.1.shows) is.shows in
-      let some : number_of old id ≡ Some (suc i) = ap (number_of old) (sym one) ∙ e.1 in
+      let some : square_value old id ≡ Some (suc i) = ap (square_value old) (sym one) ∙ e.1 in
       absurd (let z = sym none ∙ some in cc)
 
   distinct_more : AllPairs (λ m n. m ≢ n) (ns ++ node ∷ [])
@@ -194,21 +195,21 @@ module _ (kept : List Kept) (sound : IsSound kept) (states : ℕ) (ns : List Nod
             λ e. other_node i d (omega arith) (sym (front i (omega arith)) ∙ e ∙ ap (λ k. slice_index_or (ns ++ node ∷ []) k d) at ∙ get_or-append_seam ns node [] d)
       ]
 
-  numbered_more : (other n : ℕ) → number_of new other ≡ Some n → IsIn kept other × IsNumberOf kept (ns ++ node ∷ []) other n
+  numbered_more : (other n : ℕ) → square_value new other ≡ Some n → IsIn kept other × IsNumberOf kept (ns ++ node ∷ []) other n
   numbered_more other n e =
       elim (cases_Bool (id == other)) [
         | inl t ↦
             let same : id ≡ other = eqb-true id other t in
-            let put_here : cond (id == other) (Some (suc (length ns))) (number_of old other) ≡ Some (suc (length ns)) = rw t refl in
+            let put_here : cond (id == other) (Some (suc (length ns))) (square_value old other) ≡ Some (suc (length ns)) = rw t refl in
             let at : suc (length ns) ≡ n = same_Some _ n (sym put_here ∙ sym (put other) ∙ e) in
             (subst (IsIn kept) same known, subst (λ k. IsNumberOf kept (ns ++ node ∷ []) other k) at (subst (λ k. IsNumberOf kept (ns ++ node ∷ []) k (suc (length ns))) same (last_number kept states ns id node is)))
         | inr t ↦
-            let kept_here : cond (id == other) (Some (suc (length ns))) (number_of old other) ≡ number_of old other = rw t refl in
+            let kept_here : cond (id == other) (Some (suc (length ns))) (square_value old other) ≡ square_value old other = rw t refl in
             let f = gathered.numbered other n (sym kept_here ∙ sym (put other) ∙ e) in
             (f.0, number_goes_on kept ns (node ∷ []) other n f.1)
       ]
 
-  each_more : (i : ℕ) → i < length (ns ++ node ∷ []) → (other : ℕ) × (number_of new other ≡ Some (suc i))
+  each_more : (i : ℕ) → i < length (ns ++ node ∷ []) → (other : ℕ) × (square_value new other ≡ Some (suc i))
   each_more i h =
       let count = length-append ns (node ∷ []) in
       elim (below_or_not i (length ns)) [
@@ -216,7 +217,7 @@ module _ (kept : List Kept) (sound : IsSound kept) (states : ℕ) (ns : List Nod
             let e = gathered.each i l in
             elim (cases_Bool (id == e.0)) [
               | inl t ↦
-                  let some : number_of old id ≡ Some (suc i) = ap (number_of old) (eqb-true id e.0 t) ∙ e.1 in
+                  let some : square_value old id ≡ Some (suc i) = ap (square_value old) (eqb-true id e.0 t) ∙ e.1 in
                   absurd (let z = sym none ∙ some in cc)
               | inr t ↦ (e.0, put e.0 ∙ rw t e.1)
             ]

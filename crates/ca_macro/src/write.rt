@@ -19,7 +19,6 @@ use std::io::Write;
 
 mod lines;
 mod nodes;
-mod numbers;
 mod root;
 mod written;
 

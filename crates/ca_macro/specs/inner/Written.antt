@@ -1,10 +1,10 @@
 -- The nodes that a writer has gathered from a store of squares, and the numbers of their squares.
-use Rattle.std.specs.Prelude.{◌≡◌, ◌≢◌, ℕ, zero, suc, ◌<◌, ◌≤◌, ◌/◌, ◌%◌, ◌==◌, ℤ, List, [], ◌∷◌, ◌++◌, map, length, Bool, false, Option, Some, if◌then◌else◌, slice_index}
+use Rattle.std.specs.Prelude.{◌≡◌, ◌≢◌, ℕ, zero, suc, ◌<◌, ◌≤◌, ◌/◌, ◌%◌, ◌==◌, ℤ, List, [], ◌∷◌, ◌++◌, map, length, Bool, false, Some, if◌then◌else◌, slice_index}
 use Rattle.std.specs.List.{AllByRecursion, AllPairs, range_with_len}
-use Rattle.std.specs.Map.{lookup}
 use Rattle.ca_plane.specs.Plane.{Picture, cell}
 use Rattle.ca_quad.specs.declared.node.Node.{Node as Kept}
 use Rattle.ca_quad.specs.Squares as squares
+use Rattle.ca_quad.specs.SquareValues.{square_value}
 use Rattle.ca_quad.specs.Trees.{from_corner}
 use Rattle.ca_macro.specs.declared.write.written.Written.{Written}
 use Rattle.ca_macro.specs.declared.write.written.Written.TheVariants.{Leaf, Cells, Parts}
@@ -12,10 +12,6 @@ use Rattle.ca_macro.specs.Nodes.{Node, level_of, Names, MayFollow}
 use Rattle.ca_macro.specs.Nodes as nodes
 use Rattle.ca_macro.specs.Shown.{numbered, square_of, squares_of}
 use Rattle.ca_macro.specs.Tidy.{AreInPlace, HasForm, is_empty, walks_after, each_once}
-
--- the number of a square, if it has one
-abbrev pub number_of : List (ℕ × ℕ) → ℕ → Option ℕ
-number_of numbers id = lookup (λ (k : ℕ). id == k) numbers
 
 -- a row's cells by its bits, without the dead cells at its end
 abbrev pub row_of : ℕ → ℕ → List Bool
@@ -55,8 +51,8 @@ pub record IsGathered (kept : List Kept) (states : ℕ) (ns : List Node) (number
   pub forms : AllByRecursion (HasForm states) ns
   pub distinct : AllPairs (λ m n. m ≢ n) ns
   pub live : AllByRecursion (λ n. is_empty n ≡ false) ns
-  pub numbered : (id number : ℕ) → number_of numbers id ≡ Some number → (id < squares.kept (length kept)) × IsNumberOf kept ns id number
-  pub each : (i : ℕ) → i < length ns → (id : ℕ) × (number_of numbers id ≡ Some (suc i))
+  pub numbered : (id number : ℕ) → square_value numbers id ≡ Some number → (id < squares.kept (length kept)) × IsNumberOf kept ns id number
+  pub each : (i : ℕ) → i < length ns → (id : ℕ) × (square_value numbers id ≡ Some (suc i))
 
 -- the new nodes are the old ones, and more after them
 abbrev pub Extends : List Node → List Node → Type 0

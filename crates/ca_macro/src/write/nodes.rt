@@ -3,23 +3,23 @@
 ghost use Rattle.std.specs.Prelude.{◌≡◌, ◌≢◌, ◌+◌, ◌<◌, ◌≤◌, ◌++◌, ◌∷◌, [], ℕ, ℤ, List, map, length};
 ghost use Rattle.std.specs.Prelude.{slice_index, OnOk, IfOk, IfSome, Some, None};
 ghost use Rattle.ca_quad.specs.Squares.{level_of};
+ghost use Rattle.ca_quad.specs.SquareValues.{square_value};
 ghost use Rattle.ca_quad.specs.Trees.{IsIn, IsTree, IsEmpty, cell};
 ghost use Rattle.ca_macro.specs.Nodes.{Node, Leaf, Cells};
 ghost use Rattle.ca_macro.specs.Tidy.{IsLeastLevel, AreTidyNodes, parts_of};
-ghost use Rattle.ca_macro.specs.inner.Written.{number_of, row_of, node_of, cells_of, IsNumberOf, IsNodeOf};
+ghost use Rattle.ca_macro.specs.inner.Written.{row_of, node_of, cells_of, IsNumberOf, IsNodeOf};
 ghost use Rattle.ca_macro.specs.inner.Written.{IsGathered, Extends, GoesOn, leaf_level, empty_root};
 
-use super::numbers::Numbers;
 use super::written::Written;
 use ca_plane::Memory;
-use ca_quad::{Id, Store, Tree};
+use ca_quad::{Id, SquareMap, Store, Tree};
 use std::alloc::Global;
 
-/// What has been gathered so far.
+/// What has been gathered so far: the nodes, and the number of each square that has one.
 #[derive(Drop)]
 struct Gathered {
     nodes: Vec<Written>,
-    numbers: Numbers,
+    numbers: SquareMap<u64>,
 }
 
 impl Gathered {
@@ -29,7 +29,7 @@ impl Gathered {
         requires gathered { IsGathered store.now states (map node_of self.old.nodes.items) self.old.numbers }
         requires node { IsNodeOf store.now states (map node_of self.old.nodes.items) id (node_of node) }
         requires live { IsEmpty (cells_of store.now id) → ⊥ }
-        requires new { number_of self.old.numbers id ≡ None }
+        requires new { square_value self.old.numbers id ≡ None }
         ensures number { IfOk result (IsNumberOf store.now (map node_of self.new.nodes.items) id) }
         ensures last { IfOk result (λ n. n ≡ length (map node_of self.new.nodes.items)) }
         ensures gathered { OnOk result (IsGathered store.now states
@@ -37,7 +37,7 @@ impl Gathered {
         ensures more { OnOk result (map node_of self.new.nodes.items
             ≡ map node_of self.old.nodes.items ++ node_of node ∷ []) }
         ensures keeps { OnOk result ((other : ℕ) → other ≢ id
-            → number_of self.new.numbers other ≡ number_of self.old.numbers other) }
+            → square_value self.new.numbers other ≡ square_value self.old.numbers other) }
     {
         let _squares = store.count();
         self.nodes.push(node)?;
@@ -115,10 +115,10 @@ fn number(store: &Store, states: u16, id: Id, gathered: &mut Gathered) -> Result
         (map node_of gathered.new.nodes.items)) }
     // Larger squares have no new numbers.
     ensures keeps { OnOk result ((other : ℕ) → level_of store.now id < level_of store.now other
-        → number_of gathered.new.numbers other ≡ number_of gathered.old.numbers other) }
+        → square_value gathered.new.numbers other ≡ square_value gathered.old.numbers other) }
     // A square that is new is the last.
     ensures last { IfOk result (λ n. (IsEmpty (cells_of store.now id) → ⊥)
-        → number_of gathered.old.numbers id ≡ None → n ≡ length (map node_of gathered.new.nodes.items)) }
+        → square_value gathered.old.numbers id ≡ None → n ≡ length (map node_of gathered.new.nodes.items)) }
 {
     if store.is_empty(id) {
         return Ok(0);
@@ -163,7 +163,7 @@ pub(super) fn nodes_of(
 {
     let mut gathered = Gathered {
         nodes: Vec::new(alloc),
-        numbers: Numbers::new(alloc),
+        numbers: SquareMap::new(alloc),
     };
     if store.is_empty(tree.root) {
         gathered.nodes.push(empty_root(states))?;

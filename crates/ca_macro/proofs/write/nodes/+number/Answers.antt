@@ -1,8 +1,9 @@
 use Rattle.std.proofs.Common.{◌≡◌, ◌≢◌, ℕ, ◌<◌, [], ◌∷◌, ◌++◌, map, refl, sym, ap, ◌∙◌, arith}
 use Rattle.std.proofs.lemmas.Result.{on_ok_weaker}
 use Rattle.ca_quad.specs.Squares.{level_of}
+use Rattle.ca_quad.specs.SquareValues.{square_value}
 use Rattle.ca_macro.specs.Nodes.{Parts}
-use Rattle.ca_macro.specs.inner.Written.{number_of, node_of, Extends}
+use Rattle.ca_macro.specs.inner.Written.{node_of, Extends}
 use Rattle.ca_macro.proofs.Orders.{goes_again, goes_to_leaf, goes_to_parts, extends_on}
 use Rattle.ca_macro.proofs.WrittenNodes.{empty_number, has_fit_parts, part_nw, part_ne, part_sw, part_se, numbered_node, number_extends, goes_on_ok}
 use Rattle.ca_macro.proofs.write.nodes.+number.Goals as goal
@@ -135,7 +136,7 @@ returns-clause-keeps t c =
     let before = c.args.gathered.now.numbers in
     let now = c.number-4.new.gathered.numbers in
     let new = c.push-2.new.self.numbers in
-    on_ok_weaker {P = (one : ℕ) → one ≢ id → number_of new one ≡ number_of now one} {Q = (one : ℕ) → level_of kept id < level_of kept one → number_of new one ≡ number_of before one} c.push-2.result
+    on_ok_weaker {P = (one : ℕ) → one ≢ id → square_value new one ≡ square_value now one} {Q = (one : ℕ) → level_of kept id < level_of kept one → square_value new one ≡ square_value before one} c.push-2.result
     (λ keeps one higher.
     keeps one (λ same. let e = ap (level_of kept) same in omega arith)
     ∙ c.in_ok-se.ensures.keeps one (omega (arith, fit3.lower)) ∙ c.in_ok-sw.ensures.keeps one (omega (arith, fit2.lower)) ∙ c.in_ok-ne.ensures.keeps one (omega (arith, fit1.lower)) ∙ c.in_ok-nw.ensures.keeps one (omega (arith, fit0.lower)))

@@ -1,5 +1,6 @@
 use Rattle.std.proofs.Common.{◌≡◌, ◌==◌, ℕ, ◌∷◌, [], ◌++◌, map, length, Some, cond, sym, subst, arith}
-use Rattle.ca_macro.specs.inner.Written.{number_of, node_of, IsNumberOf, IsGathered}
+use Rattle.ca_quad.specs.SquareValues.{square_value}
+use Rattle.ca_macro.specs.inner.Written.{node_of, IsNumberOf, IsGathered}
 use Rattle.ca_macro.proofs.Gathering.{last_number, gathered_more, written_more}
 use Rattle.ca_macro.proofs.write.nodes.Gathered.push.Goals as goal
 
@@ -19,4 +20,4 @@ returns-clause-gathered c =
     let new = c.put.new.self in
     subst (λ l. IsGathered c.args.store.now c.args.states l new) (sym more.0)
     (gathered_more c.args.store.now c.count-squares.ensures.sound c.args.states _ old new c.args.id (node_of c.args.node) c.requires.known c.requires.gathered c.requires.node c.requires.live c.requires.new
-    (subst (λ n. (other : ℕ) → number_of new other ≡ cond (c.args.id == other) (Some n) (number_of old other)) (sym more.1) c.in_ok-put.ensures))
+    (subst (λ n. (other : ℕ) → square_value new other ≡ cond (c.args.id == other) (Some n) (square_value old other)) (sym more.1) c.in_ok-put.ensures))
