@@ -1,8 +1,10 @@
--- A macrocell text that was read into a store of squares.
-use Rattle.std.specs.Prelude.{◌≡◌, ◌≢◌, ℕ, ℤ, List}
+-- A pattern in a store of squares: what is read from a macrocell text, and what can be written as one.
+use Rattle.std.specs.Prelude.{◌≡◌, ◌≢◌, ℕ, ◌<◌, ℤ, List}
+use Rattle.ca_plane.specs.Bytes.{IsWord}
 use Rattle.ca_plane.specs.Plane.{IsPicture, cell}
-use Rattle.ca_plane.specs.Limits.{IsInRange}
+use Rattle.ca_plane.specs.Limits.{IsInRange, generation_limit}
 use Rattle.ca_quad.specs.declared.node.Node.{Node}
+use Rattle.ca_quad.specs.declared.tree.Tree.{Tree}
 use Rattle.ca_quad.specs.Trees as trees
 use Rattle.ca_quad.specs.Trimmed.{IsTrimmed}
 use Rattle.ca_macro.specs.declared.pattern.MacroPattern.{MacroPattern}
@@ -33,3 +35,16 @@ pub record Holds (file : File) (cells : ℤ → ℤ → ℕ) (rule_text : List �
   pub shown : (x y : ℤ) → cell (picture_of file.nodes) x y ≡ cells x y
   pub rule_is : file.rule_text ≡ rule_text
   pub generation_is : file.generation ≡ generation
+
+-- the text is a file whose live cells are in range, and it means these cells, this rule text and this generation
+abbrev pub IsFileOf : List ℕ → (ℤ → ℤ → ℕ) → List ℕ → ℕ → Type 0
+IsFileOf text cells rule_text generation = (file : File) × IsFile text file × IsWithinRange file × Holds file cells rule_text generation
+
+-- a tree with a rule text, a generation and its rule's number of states can be written: each live cell is in range, and no state is
+-- too high
+pub record IsWritable (nodes : List Node) (tree : Tree) (rule_text : List ℕ) (generation states : ℕ) : Type 0 where
+  pub is_tree : trees.IsTree nodes tree
+  pub in_range : AreInRange (trees.cell nodes tree)
+  pub low_states : (x y : ℤ) → trees.cell nodes tree x y < states
+  pub is_word : IsWord rule_text
+  pub low_generation : generation < generation_limit

@@ -4,8 +4,7 @@ ghost use Rattle.std.specs.Prelude.{◌≡◌, ℕ, ◌<◌, ◌^◌, ℤ, List,
 ghost use Rattle.ca_plane.specs.Bytes.{IsWord};
 ghost use Rattle.ca_plane.specs.Limits.{generation_limit};
 ghost use Rattle.ca_macro.specs.File.{File, IsFile};
-ghost use Rattle.ca_macro.specs.Limits.{IsWithinRange};
-ghost use Rattle.ca_macro.specs.Pattern.{AreInRange, Holds};
+ghost use Rattle.ca_macro.specs.Pattern.{AreInRange, Holds, IsFileOf};
 ghost use Rattle.ca_macro.specs.Tidy.{IsTidy};
 
 /// A tidy text is a macrocell file of its cells, its rule text and its generation, and it is within the range
@@ -19,7 +18,7 @@ pub fn tidy_means()
     ensures range { (text : List ℕ) (cells : ℤ → ℤ → ℕ) (rule_text : List ℕ) (generation states : ℕ)
         → IsTidy text cells rule_text generation states
         → IsWord rule_text → generation < generation_limit → length text < 2 ^ 64 → AreInRange cells
-        → (file : File) × IsFile text file × IsWithinRange file × Holds file cells rule_text generation }
+        → IsFileOf text cells rule_text generation }
 {}
 
 /// A plane, with its rule text, generation and number of states, has one tidy text at most. The plane is

@@ -1,15 +1,11 @@
 //! The writer of macrocell: a tidy text for a tree.
 
-ghost use Rattle.std.specs.Prelude.{◌≡◌, ◌<◌, ℤ, ℕ, List, IfOk, OnOk, IsErrOf};
+ghost use Rattle.std.specs.Prelude.{◌≡◌, ℕ, List, IfOk, OnOk, IsErrOf};
 ghost use Rattle.std.specs.Io.KnownBytes.{Appends};
-ghost use Rattle.ca_plane.specs.Bytes.{IsWord};
 ghost use Rattle.ca_plane.specs.Device.{Rises, AppendsPrefix};
-ghost use Rattle.ca_plane.specs.Limits.{generation_limit};
 ghost use Rattle.ca_quad.specs.Sound.{Grows};
-ghost use Rattle.ca_quad.specs.Trees.{IsTree, cell};
-ghost use Rattle.ca_macro.specs.File.{File, IsFile};
-ghost use Rattle.ca_macro.specs.Limits.{IsWithinRange};
-ghost use Rattle.ca_macro.specs.Pattern.{AreInRange, Holds};
+ghost use Rattle.ca_quad.specs.Trees.{cell};
+ghost use Rattle.ca_macro.specs.Pattern.{IsWritable, IsFileOf};
 ghost use Rattle.ca_macro.specs.Tidy.{IsTidy};
 
 use ca_plane::{Dev, Memory, WriteFault, send};
@@ -43,16 +39,12 @@ pub fn write_macro(
     generation: u64,
     states: u16,
 ) -> Result<Vec<u8>, Memory>
-    requires tree { IsTree store.old tree }
-    requires range { AreInRange (cell store.old tree) }
-    requires states { (x y : ℤ) → cell store.old tree x y < states }
-    requires rule { IsWord rule_text.now }
-    requires generation { generation < generation_limit }
+    requires { IsWritable store.old tree rule_text.now generation states }
     ensures tidy { IfOk result (λ text.
         IsTidy text.items (cell store.old tree) rule_text.now generation states) }
     // It means the cells, the rule text and the generation, and the reader takes it.
-    ensures means { IfOk result (λ text. (file : File) × IsFile text.items file × IsWithinRange file
-        × Holds file (cell store.old tree) rule_text.now generation) }
+    ensures means { IfOk result (λ text.
+        IsFileOf text.items (cell store.old tree) rule_text.now generation) }
     // Every old square stays.
     ensures grows { Grows store.old store.new }
 {
@@ -78,20 +70,13 @@ pub fn write_macro_to<W: Write>(
     states: u16,
     out: &mut Dev<W>,
 ) -> Result<(), WriteFault>
-    requires tree { IsTree store.old tree }
-    requires range { AreInRange (cell store.old tree) }
-    requires states { (x y : ℤ) → cell store.old tree x y < states }
-    requires rule { IsWord rule_text.now }
-    requires generation { generation < generation_limit }
-    // The tidy text is written whole, and no failure is counted.
+    requires { IsWritable store.old tree rule_text.now generation states }
+    // The tidy text is written whole, which means what that of `write_macro` means.
     ensures all { OnOk result ((text : List ℕ)
         × IsTidy text (cell store.old tree) rule_text.now generation states
+        × IsFileOf text (cell store.old tree) rule_text.now generation
         × Appends (W.contents out.old.inner) (W.contents out.new.inner) text) }
-    // What is written means the cells, the rule text and the generation, and the reader takes it.
-    ensures means { OnOk result ((text : List ℕ)
-        × Appends (W.contents out.old.inner) (W.contents out.new.inner) text
-        × ((file : File) × IsFile text file × IsWithinRange file
-        × Holds file (cell store.old tree) rule_text.now generation)) }
+    // No failure is counted.
     ensures kept { OnOk result (out.new.failures ≡ out.old.failures) }
     // Without memory the device is as it was.
     ensures memory { IsErrOf result WriteFault.Memory → out.new ≡ out.old }
