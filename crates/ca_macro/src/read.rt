@@ -5,7 +5,7 @@ ghost use Rattle.ca_plane.specs.Bytes.{IsWord};
 ghost use Rattle.ca_plane.specs.Limits.{generation_limit};
 ghost use Rattle.ca_quad.specs.Sound.{IsSound, Grows};
 ghost use Rattle.ca_macro.specs.declared.fault.MacroFault.TheVariants.{Range, Memory};
-ghost use Rattle.ca_macro.specs.File.{Said, begins_macro};
+ghost use Rattle.ca_macro.specs.File.{Said};
 ghost use Rattle.ca_macro.specs.Limits.{IsWithinRange, IsOutOfRange};
 ghost use Rattle.ca_macro.specs.Faults.{IsFaultOf, IsFaultOn};
 ghost use Rattle.ca_macro.specs.Pattern.{IsPatternOf, HoldsMacrocellPattern};
@@ -24,33 +24,6 @@ use ca_quad::Store;
 use range::trim_in_range;
 use reading::Reading;
 use std::alloc::Global;
-
-/// What the lines after the first one say, read into the store.
-fn read_lines<'a>(
-    alloc: Global,
-    store: &mut Store,
-    bytes: &'a [u8],
-) -> Result<Reading<'a>, LineFault>
-    requires { begins_macro bytes.now ≡ true }
-    ensures found { IfOk result (HoldsReading store.new bytes.now) }
-    ensures fault { IfErr result (λ f. IsReadingFault bytes.now f.fault f.line) }
-    ensures grows { Grows store.old store.new }
-{
-    // Says what holds of every store.
-    let _ = store.count();
-    let mut reading = Reading::new(alloc);
-    let (_, mut rest) = next_line(bytes);
-    let mut number = 1;
-    'lines: while !rest.is_empty() {
-        let (line, later) = next_line(rest);
-        number += 1;
-        if let Err(fault) = reading.read(store, line) {
-            return Err(LineFault::at_line(fault, number));
-        }
-        rest = later;
-    }
-    Ok(reading)
-}
 
 /// What a text's lines say, read into the store.
 ///
@@ -75,7 +48,18 @@ pub(crate) fn read_text<'a>(
             line: Some(1),
         });
     }
-    read_lines(alloc, store, bytes)
+    let mut reading = Reading::new(alloc);
+    let (_, mut rest) = next_line(bytes);
+    let mut number = 1;
+    'lines: while !rest.is_empty() {
+        let (line, later) = next_line(rest);
+        number += 1;
+        if let Err(fault) = reading.read(store, line) {
+            return Err(LineFault::at_line(fault, number));
+        }
+        rest = later;
+    }
+    Ok(reading)
 }
 
 /// The pattern of a text whose lines have been read.
