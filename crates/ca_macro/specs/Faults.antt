@@ -109,6 +109,10 @@ HaveBadLevel earlier words =
 abbrev pub AddNode : List Node → List (List ℕ) → Type 0
 AddNode earlier words = (node : Node) × WordsSay words (Adds node) × MayFollow earlier node
 
+-- after good lines a good line adds a node
+abbrev pub HasNodeLine : List ℕ → Type 0
+HasNodeLine bytes = HasLine bytes AddNode
+
 -- what is wrong with the words of a line that follows earlier nodes
 abbrev pub AreFaulty : MacroFault → List Node → List (List ℕ) → Type 0
 AreFaulty NotMacro earlier words = ⊥
@@ -141,7 +145,7 @@ IsFaultyLine bytes n = (fault : MacroFault) × IsFirstFaultOn bytes fault n
 -- adds a node after good lines, and at the end of a good text
 abbrev pub IsFaultOf : List ℕ → MacroFault → Type 0
 IsFaultOf bytes Range = (file : File) × IsFile bytes file × IsOutOfRange file
-IsFaultOf bytes Memory = HasLine bytes AddNode ⊎ ((file : File) × IsFile bytes file)
+IsFaultOf bytes Memory = HasNodeLine bytes ⊎ ((file : File) × IsFile bytes file)
 IsFaultOf bytes fault = IsFirstFault bytes fault
 
 -- the fault of a text, and the number of the line on which it stands: none for a fault that isn't in the spelling

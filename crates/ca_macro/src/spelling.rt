@@ -2,7 +2,7 @@
 
 ghost use Rattle.std.specs.Prelude.{IfOk, IfErr, MatchOption};
 ghost use Rattle.ca_macro.specs.declared.fault.MacroFault.{MacroFault};
-ghost use Rattle.ca_macro.specs.Faults.{HasLine, AddNode, IsFirstFault, IsFaultyLine};
+ghost use Rattle.ca_macro.specs.Faults.{HasNodeLine, IsFirstFault, IsFaultyLine};
 
 use crate::read::read_text;
 use ca_plane::Memory;
@@ -20,7 +20,7 @@ use std::alloc::Global;
 pub fn faulty_line(alloc: Global, bytes: &[u8]) -> Result<Option<u64>, Memory>
     ensures line { IfOk result (λ line. MatchOption line ((f : MacroFault) → IsFirstFault bytes.now f → ⊥)
         (IsFaultyLine bytes.now)) }
-    ensures memory { IfErr result (λ _. HasLine bytes.now AddNode) }
+    ensures memory { IfErr result (λ _. HasNodeLine bytes.now) }
 {
     let mut store = Store::new(alloc);
     let Err(found) = read_text(alloc, &mut store, bytes) else {

@@ -18,7 +18,7 @@ use Rattle.ca_macro.specs.declared.read.squares.Squares.{Squares}
 use Rattle.ca_macro.specs.Nodes.{Node, Parts, level_of, Names, MayFollow}
 use Rattle.ca_macro.specs.File.{Said, File, IsFile, added, last_rule, last_generation}
 use Rattle.ca_macro.specs.Shown.{numbered, squares_of}
-use Rattle.ca_macro.specs.Faults.{HasLine, AreFaulty, HasBadPart, AddNode, IsFirstFaultOn}
+use Rattle.ca_macro.specs.Faults.{AreFaulty, HasBadPart, AddNode, HasNodeLine, IsFirstFaultOn}
 use Rattle.ca_macro.specs.inner.Numbers.{kept_of}
 
 -- the square shows the cells of a picture, counted from its upper left corner
@@ -77,12 +77,12 @@ HasFault f earlier words = AreFaulty f earlier words
 
 -- the line with this number has the first fault of a text; or there is no memory for the node of a good line
 abbrev pub HasFaultOn : List ℕ → MacroFault → ℕ → Type 0
-HasFaultOn bytes Memory n = HasLine bytes AddNode
+HasFaultOn bytes Memory n = HasNodeLine bytes
 HasFaultOn bytes f n = IsFirstFaultOn bytes f n
 
 -- the first fault of a text and its line; or, without a line, there is no memory for the node of a good line
 abbrev pub IsReadingFault : List ℕ → MacroFault → Option ℕ → Type 0
-IsReadingFault bytes fault line = MatchOption line ((fault ≡ Memory) × HasLine bytes AddNode) (IsFirstFaultOn bytes fault)
+IsReadingFault bytes fault line = MatchOption line ((fault ≡ Memory) × HasNodeLine bytes) (IsFirstFaultOn bytes fault)
 
 -- what is kept once lines have said this
 pub record IsReading (store : List Kept) (said : List Said) (reading : Reading) : Type 0 where
