@@ -15,6 +15,7 @@ use Rattle.ca_quad.specs.SquareValues.{square_value}
 use Rattle.ca_quad.specs.Trees.{from_corner, IsIn, IsEmpty}
 use Rattle.ca_quad.proofs.Cells.{same_cells}
 use Rattle.ca_quad.proofs.Growth.{below_or_not}
+use Rattle.ca_quad.proofs.Measures.{one_more}
 use Rattle.ca_macro.specs.declared.write.written.Written.{Written}
 use Rattle.ca_macro.specs.Nodes.{Node, Leaf, Cells, Parts, level_of, Names, MayFollow}
 use Rattle.ca_macro.specs.Shown.{numbered, row_from, rows_from, state_of, square_of, squares_of}
@@ -170,8 +171,10 @@ written_more old new node number more last =
     (nodes, omega arith)
 
 module _ (kept : List Kept) (sound : IsSound kept) (states : ℕ) (ns : List Node) (old new : List (ℕ × ℕ)) (id : ℕ) (node : Node) (known : IsIn kept id)
-    (gathered : IsGathered kept states ns old) (is : IsNodeOf kept states ns id node) (live : IsEmpty (cells_of kept id) → ⊥) (none : square_value old id ≡ None)
-    (put : (other : ℕ) → square_value new other ≡ cond (id == other) (Some (suc (length ns))) (square_value old other)) where
+    (gathered : IsGathered kept states ns old) (is : IsNodeOf kept states ns id node)
+    (live : IsEmpty (cells_of kept id) → ⊥) (none : square_value old id ≡ None)
+    (put : (other : ℕ) → square_value new other
+    ≡ cond (id == other) (Some (suc (length ns))) (square_value old other)) where
   other_node : (i : ℕ) (d : Node) → i < length ns → slice_index_or ns i d ≡ node → ⊥
   other_node i d low same =
       let e = gathered.each i low in
@@ -195,19 +198,14 @@ module _ (kept : List Kept) (sound : IsSound kept) (states : ℕ) (ns : List Nod
             λ e. other_node i d (omega arith) (sym (front i (omega arith)) ∙ e ∙ ap (λ k. slice_index_or (ns ++ node ∷ []) k d) at ∙ get_or-append_seam ns node [] d)
       ]
 
-  numbered_more : (other n : ℕ) → square_value new other ≡ Some n → IsIn kept other × IsNumberOf kept (ns ++ node ∷ []) other n
-  numbered_more other n e =
-      elim (cases_Bool (id == other)) [
-        | inl t ↦
-            let same : id ≡ other = eqb-true id other t in
-            let put_here : cond (id == other) (Some (suc (length ns))) (square_value old other) ≡ Some (suc (length ns)) = rw t refl in
-            let at : suc (length ns) ≡ n = same_Some _ n (sym put_here ∙ sym (put other) ∙ e) in
-            (subst (IsIn kept) same known, subst (λ k. IsNumberOf kept (ns ++ node ∷ []) other k) at (subst (λ k. IsNumberOf kept (ns ++ node ∷ []) k (suc (length ns))) same (last_number kept states ns id node is)))
-        | inr t ↦
-            let kept_here : cond (id == other) (Some (suc (length ns))) (square_value old other) ≡ square_value old other = rw t refl in
-            let f = gathered.numbered other n (sym kept_here ∙ sym (put other) ∙ e) in
-            (f.0, number_goes_on kept ns (node ∷ []) other n f.1)
-      ]
+  abbrev IsNumbered : ℕ → ℕ → Type 0
+  IsNumbered other n = IsIn kept other × IsNumberOf kept (ns ++ node ∷ []) other n
+
+  numbered_more : (other n : ℕ) → square_value new other ≡ Some n → IsNumbered other n
+  numbered_more =
+      let before : (other n : ℕ) → square_value old other ≡ Some n → IsNumbered other n = λ other n e.
+      let f = gathered.numbered other n e in (f.0, number_goes_on kept ns (node ∷ []) other n f.1) in
+      one_more IsNumbered old new id (suc (length ns)) before (known, last_number kept states ns id node is) put
 
   each_more : (i : ℕ) → i < length (ns ++ node ∷ []) → (other : ℕ) × (square_value new other ≡ Some (suc i))
   each_more i h =
@@ -217,7 +215,8 @@ module _ (kept : List Kept) (sound : IsSound kept) (states : ℕ) (ns : List Nod
             let e = gathered.each i l in
             elim (cases_Bool (id == e.0)) [
               | inl t ↦
-                  let some : square_value old id ≡ Some (suc i) = ap (square_value old) (eqb-true id e.0 t) ∙ e.1 in
+                  let same : id ≡ e.0 = eqb-true id e.0 t in
+                  let some : square_value old id ≡ Some (suc i) = ap (square_value old) same ∙ e.1 in
                   absurd (let z = sym none ∙ some in cc)
               | inr t ↦ (e.0, put e.0 ∙ rw t e.1)
             ]

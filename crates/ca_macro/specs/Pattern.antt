@@ -36,15 +36,17 @@ pub record Holds (file : File) (cells : ℤ → ℤ → ℕ) (rule_text : List �
   pub rule_is : file.rule_text ≡ rule_text
   pub generation_is : file.generation ≡ generation
 
--- the text is a file whose live cells are in range, and it means these cells, this rule text and this generation
+-- the text is a file whose live cells are in range, and it means these cells, this rule text and this
+-- generation
 abbrev pub IsFileOf : List ℕ → (ℤ → ℤ → ℕ) → List ℕ → ℕ → Type 0
-IsFileOf text cells rule_text generation = (file : File) × IsFile text file × IsWithinRange file × Holds file cells rule_text generation
+IsFileOf text cells rule_text generation =
+    (file : File) × IsFile text file × IsWithinRange file × Holds file cells rule_text generation
 
--- a tree with a rule text, a generation and its rule's number of states can be written: each live cell is in range, and no state is
--- too high
-pub record IsWritable (nodes : List Node) (tree : Tree) (rule_text : List ℕ) (generation states : ℕ) : Type 0 where
-  pub is_tree : trees.IsTree nodes tree
-  pub in_range : AreInRange (trees.cell nodes tree)
-  pub low_states : (x y : ℤ) → trees.cell nodes tree x y < states
-  pub is_word : IsWord rule_text
-  pub low_generation : generation < generation_limit
+-- a tree can be written with this rule text and generation, under a rule of so many states
+pub record IsWritable (nodes : List Node) (tree : Tree) (rule_text : List ℕ) (generation states : ℕ) : Type 0
+  where
+    pub is_tree : trees.IsTree nodes tree
+    pub in_range : AreInRange (trees.cell nodes tree)
+    pub low_states : (x y : ℤ) → trees.cell nodes tree x y < states
+    pub is_word : IsWord rule_text
+    pub low_generation : generation < generation_limit

@@ -82,7 +82,8 @@ HasFaultOn bytes f n = IsFirstFaultOn bytes f n
 
 -- the first fault of a text and its line; or, without a line, there is no memory for the node of a good line
 abbrev pub IsReadingFault : List ℕ → MacroFault → Option ℕ → Type 0
-IsReadingFault bytes fault line = MatchOption line ((fault ≡ Memory) × HasNodeLine bytes) (IsFirstFaultOn bytes fault)
+IsReadingFault bytes fault line =
+    MatchOption line ((fault ≡ Memory) × HasNodeLine bytes) (IsFirstFaultOn bytes fault)
 
 -- what is kept once lines have said this
 pub record IsReading (store : List Kept) (said : List Said) (reading : Reading) : Type 0 where

@@ -51,7 +51,8 @@ pub record IsGathered (kept : List Kept) (states : ℕ) (ns : List Node) (number
   pub forms : AllByRecursion (HasForm states) ns
   pub distinct : AllPairs (λ m n. m ≢ n) ns
   pub live : AllByRecursion (λ n. is_empty n ≡ false) ns
-  pub numbered : (id number : ℕ) → square_value numbers id ≡ Some number → (id < squares.kept (length kept)) × IsNumberOf kept ns id number
+  pub numbered : (id number : ℕ) → square_value numbers id ≡ Some number
+      → (id < squares.kept (length kept)) × IsNumberOf kept ns id number
   pub each : (i : ℕ) → i < length ns → (id : ℕ) × (square_value numbers id ≡ Some (suc i))
 
 -- the new nodes are the old ones, and more after them

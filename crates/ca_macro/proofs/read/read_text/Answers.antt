@@ -8,7 +8,8 @@ lines-init c =
     let store = c.args.store.now in
     let sound = c.count.ensures.sound in
     none_read c.args.bytes.now c.next_line.result.0.now c.next_line.result.1.now store c.new-reading.result
-    c.next_line.ensures.lines (c.new-reading.ensures store sound) (grows_same store sound) c.next_line.ensures.shorter
+    c.next_line.ensures.lines (c.new-reading.ensures store sound) (grows_same store sound)
+    c.next_line.ensures.shorter
 
 pub lines-preserved : goal.lines-preserved
 lines-preserved c =
@@ -22,6 +23,6 @@ pub returns-in-Err-clause-fault : goal.returns-in-Err-clause-fault
 returns-in-Err-clause-fault c =
     let line = c.next_line-in-lines.result in
     c.at_line.ensures c.args.bytes.now
-    (fault_next c.args.bytes.now c.lines.rest.now c.lines.number c.args.store.now c.lines.store c.lines.reading
-    c.lines.invariant line.0.now line.1.now (sym c.starts_with.ensures.value ∙ c.if-not-starts_with.false)
+    (fault_next c.args.bytes.now c.lines.rest.now c.lines.number c.args.store.now c.lines.store
+    c.lines.reading c.lines.invariant line.0.now line.1.now (sym c.starts_with.ensures.value ∙ c.if-not-starts_with.false)
     c.next_line-in-lines.ensures.lines c.in-Err.fault c.in-Err.ensures.fault)

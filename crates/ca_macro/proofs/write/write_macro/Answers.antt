@@ -10,7 +10,9 @@ nodes_of-requires-clause-level c =
 
 pub nodes_of-requires-clause-most : goal.nodes_of-requires-clause-most
 nodes_of-requires-clause-most c =
-    let low = level_in_range c.args.states c.in_ok-root.root.level (cell c.args.store.now c.args.tree) c.requires.in_range c.in_ok-root.ensures.level in
+    let cells = cell c.args.store.now c.args.tree in
+    let level = c.in_ok-root.root.level in
+    let low = level_in_range c.args.states level cells c.requires.in_range c.in_ok-root.ensures.level in
     omega arith
 
 pub returns-clause-tidy : goal.returns-clause-tidy
@@ -24,7 +26,8 @@ returns-clause-means c =
     let generation = c.args.generation in
     let cells = cell c.args.store.now c.args.tree in (
       tidy_file tidy.nodes c.args.rule_text.now generation,
-      file_of_tidy _ cells _ generation c.args.states tidy c.requires.is_word c.requires.low_generation (omega (arith, c.push_lines.new.out.small)),
+      file_of_tidy _ cells _ generation c.args.states tidy c.requires.is_word c.requires.low_generation
+          (omega (arith, c.push_lines.new.out.small)),
       tidy_within _ cells _ generation c.args.states tidy c.requires.in_range,
       tidy_holds _ cells _ generation c.args.states tidy,
     )

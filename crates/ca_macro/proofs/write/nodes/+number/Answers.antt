@@ -136,7 +136,9 @@ returns-clause-keeps t c =
     let before = c.args.gathered.now.numbers in
     let now = c.number-4.new.gathered.numbers in
     let new = c.push-2.new.self.numbers in
-    on_ok_weaker {P = (one : ℕ) → one ≢ id → square_value new one ≡ square_value now one} {Q = (one : ℕ) → level_of kept id < level_of kept one → square_value new one ≡ square_value before one} c.push-2.result
+    on_ok_weaker {P = (one : ℕ) → one ≢ id → square_value new one ≡ square_value now one}
+    {Q = (one : ℕ) → level_of kept id < level_of kept one → square_value new one ≡ square_value before one}
+    c.push-2.result
     (λ keeps one higher.
     keeps one (λ same. let e = ap (level_of kept) same in omega arith)
     ∙ c.in_ok-se.ensures.keeps one (omega (arith, fit3.lower)) ∙ c.in_ok-sw.ensures.keeps one (omega (arith, fit2.lower)) ∙ c.in_ok-ne.ensures.keeps one (omega (arith, fit1.lower)) ∙ c.in_ok-nw.ensures.keeps one (omega (arith, fit0.lower)))
