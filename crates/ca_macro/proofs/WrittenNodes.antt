@@ -9,13 +9,14 @@ use Rattle.ca_plane.specs.Plane.{Picture}
 use Rattle.ca_quad.specs.declared.node.Node.{Node as Kept}
 use Rattle.ca_quad.specs.Squares as squares
 use Rattle.ca_quad.specs.Squares.{dot, together, IsOf}
+use Rattle.ca_quad.specs.SquareValues.{square_value}
 use Rattle.ca_quad.specs.Trees.{IsIn, IsEmpty, AreQuarters, row_cells}
 use Rattle.ca_quad.specs.inner.Measure.{Ends}
 use Rattle.ca_quad.proofs.Cells.{cell_ends, at_nw, at_ne, at_sw, at_se}
 use Rattle.ca_quad.proofs.Growth.{below_or_not}
 use Rattle.ca_macro.specs.Nodes.{Node, Leaf, Cells, Parts, Names}
 use Rattle.ca_macro.specs.Shown.{numbered, joined, square_of, squares_after, squares_of, state_of}
-use Rattle.ca_macro.specs.inner.Written.{row_of, cells_of, IsPictureOf, IsNumberOf, IsNodeOf, Extends, GoesOn, leaf_level}
+use Rattle.ca_macro.specs.inner.Written.{row_of, cells_of, IsPictureOf, IsNumberOf, IsNodeOf, Extends, GoesOn, leaf_level, HasFitParts}
 use Rattle.ca_macro.proofs.Lines.{unequal}
 use Rattle.ca_macro.proofs.Following.{all_append}
 use Rattle.ca_macro.proofs.Pictures.{NoneDead, rows_live, shifted_live, leaf_shows, four_show, joined_show, picture_as}
@@ -108,11 +109,7 @@ one_level states level e h = let f = unequal states 2 e in h ∙ rw f refl
 some_level : (states : ℕ) → 1 ≤ leaf_level states
 some_level states = elim (cases_Bool (states == 2)) [ inl e ↦ rw e (omega arith) | inr e ↦ rw e (omega arith) ]
 
--- the level of the parts of a square that is no leaf
-pub part_level : (states k level : ℕ) → suc k ≡ level → leaf_level states ≤ level → (level ≡ leaf_level states → ⊥) → leaf_level states ≤ k
-part_level states k level next least other =
-    elim (below_or_not k (leaf_level states)) [ inl h ↦ absurd (other (omega arith)) | inr h ↦ h ]
-
+-- the level of a square that is no leaf
 pub large_level : (states k level : ℕ) → suc k ≡ level → leaf_level states ≤ k → 2 ≤ level
 large_level states k level next h = let s = some_level states in omega arith
 
@@ -214,27 +211,21 @@ module _ (kept : List Kept) (id k level : ℕ) (qs : List ℕ) (next : suc k ≡
               (subst (λ l. IsPictureOf (joined (2 ^ l) (numbered (squares_of ns) a) (numbered (squares_of ns) b) (numbered (squares_of ns) c) (numbered (squares_of ns) d)) (together (2 ^ k) (part 0) (part 1) (part 2) (part 3))) e all));
         }
 
--- a square that is written by its four parts
-pub record HasFitParts (kept : List Kept) (states id level : ℕ) (qs : List ℕ) : Type 0 where
-  pub next : suc (level - 1) ≡ level
-  pub is_level : squares.level_of kept id ≡ level
-  pub from : leaf_level states ≤ level - 1
-  pub most : level ≤ 120
-  pub low : (x y : ℕ) → cells_of kept id x y < states
-  pub quarters : AreQuarters kept id (level - 1) qs
-
--- it is no leaf
-pub has_fit_parts : (kept : List Kept) (states id level leaf : ℕ) (qs : List ℕ) → IsIn kept id → leaf_level states ≤ squares.level_of kept id → squares.level_of kept id ≤ 120
-    → ((x y : ℕ) → cells_of kept id x y < states) → level ≡ squares.level_of kept id → 1 ≤ level → leaf ≡ leaf_level states → level ≢ leaf
-    → ((k : ℕ) → IsOf kept id (suc k) → AreQuarters kept id k qs) → HasFitParts kept states id level qs
+-- a square that is no leaf is written by its four parts
+pub has_fit_parts : (kept : List Kept) (states id level leaf : ℕ) (qs : List ℕ) → IsIn kept id
+    → leaf_level states ≤ squares.level_of kept id → squares.level_of kept id ≤ 120
+    → ((x y : ℕ) → cells_of kept id x y < states) → level ≡ squares.level_of kept id → 1 ≤ level
+    → leaf ≡ leaf_level states → level ≢ leaf
+    → ((k : ℕ) → IsOf kept id (suc k) → AreQuarters kept id k qs) → HasFitParts kept states id qs
 has_fit_parts kept states id level leaf qs known least most low is_level some is_leaf other quarters =
-    let next : suc (level - 1) ≡ level = omega arith in record {
-      next = next;
-      is_level = sym is_level;
-      from = part_level states (level - 1) level next (omega arith) (λ e. other (e ∙ sym is_leaf));
-      most = omega arith;
+    let next : squares.level_of kept id ≡ suc (squares.level_of kept id - 1) = omega arith in record {
+      least = elim (below_or_not (leaf_level states) (squares.level_of kept id)) [
+        | inl h ↦ h
+        | inr h ↦ absurd (other (omega arith))
+      ];
+      most = most;
       low = low;
-      quarters = quarters (level - 1) (record { before = known; is_level = sym is_level ∙ sym next });
+      quarters = quarters (squares.level_of kept id - 1) (record { before = known; is_level = next });
     }
 
 -- one of its parts
@@ -245,35 +236,79 @@ pub record IsFitPart (kept : List Kept) (states id part : ℕ) : Type 0 where
   pub most : squares.level_of kept part ≤ 120
   pub low : (x y : ℕ) → cells_of kept part x y < states
 
-module _ (kept : List Kept) (states id level : ℕ) (qs : List ℕ) (has : HasFitParts kept states id level qs) where
-  fit_part : (i p : ℕ) → IsFit kept states (level - 1) (slice_index qs i) → p ≡ slice_index qs i → IsFitPart kept states id p
+-- the values of larger squares stay
+abbrev pub KeepsLarger : List Kept → ℕ → (old new : List (ℕ × ℕ)) → Type 0
+KeepsLarger kept id old new = (one : ℕ) → squares.level_of kept id < squares.level_of kept one
+    → square_value new one ≡ square_value old one
+
+module _ (kept : List Kept) (states id : ℕ) (qs : List ℕ) (has : HasFitParts kept states id qs) where
+  -- the level of its parts
+  below : ℕ
+  below = squares.level_of kept id - 1
+
+  next : suc below ≡ squares.level_of kept id
+  unfolding below
+  next = omega (arith, has.least)
+
+  from : leaf_level states ≤ below
+  unfolding below
+  from = omega (arith, has.least)
+
+  quarters : AreQuarters kept id below qs
+  unfolding below
+  quarters = has.quarters
+
+  fit_part : (i p : ℕ) → IsFit kept states below (slice_index qs i) → p ≡ slice_index qs i
+      → IsFitPart kept states id p
   fit_part i p fit e =
       let is_level = fit.level in
-      let from = has.from in
+      let low = from in
       let most = has.most in
-      let next = has.next in
-      let whole = has.is_level in
-      subst (IsFitPart kept states id) (sym e) (record { before = fit.before; lower = omega arith; least = omega arith; most = omega arith; low = fit.low })
+      let one = next in
+      subst (IsFitPart kept states id) (sym e) (record {
+        before = fit.before;
+        lower = omega arith;
+        least = omega arith;
+        most = omega arith;
+        low = fit.low;
+      })
 
   pub part_nw : (p : ℕ) → p ≡ slice_index qs 0 → IsFitPart kept states id p
-  part_nw p = fit_part 0 p (fit_nw kept id (level - 1) level qs has.next has.is_level has.quarters states has.low)
+  part_nw p = fit_part 0 p (fit_nw kept id below _ qs next refl quarters states has.low)
 
   pub part_ne : (p : ℕ) → p ≡ slice_index qs 1 → IsFitPart kept states id p
-  part_ne p = fit_part 1 p (fit_ne kept id (level - 1) level qs has.next has.is_level has.quarters states has.low)
+  part_ne p = fit_part 1 p (fit_ne kept id below _ qs next refl quarters states has.low)
 
   pub part_sw : (p : ℕ) → p ≡ slice_index qs 2 → IsFitPart kept states id p
-  part_sw p = fit_part 2 p (fit_sw kept id (level - 1) level qs has.next has.is_level has.quarters states has.low)
+  part_sw p = fit_part 2 p (fit_sw kept id below _ qs next refl quarters states has.low)
 
   pub part_se : (p : ℕ) → p ≡ slice_index qs 3 → IsFitPart kept states id p
-  part_se p = fit_part 3 p (fit_se kept id (level - 1) level qs has.next has.is_level has.quarters states has.low)
+  part_se p = fit_part 3 p (fit_se kept id below _ qs next refl quarters states has.low)
+
+  -- where each part leaves what larger squares have, all four leave what this square and larger ones have
+  pub parts_keep : (p0 p1 p2 p3 : ℕ) → p0 ≡ slice_index qs 0 → p1 ≡ slice_index qs 1 → p2 ≡ slice_index qs 2
+      → p3 ≡ slice_index qs 3 → (v0 v1 v2 v3 v4 : List (ℕ × ℕ))
+      → KeepsLarger kept p0 v0 v1 → KeepsLarger kept p1 v1 v2
+      → KeepsLarger kept p2 v2 v3 → KeepsLarger kept p3 v3 v4
+      → (one : ℕ) → squares.level_of kept id ≤ squares.level_of kept one
+      → square_value v4 one ≡ square_value v0 one
+  parts_keep p0 p1 p2 p3 e0 e1 e2 e3 v0 v1 v2 v3 v4 k0 k1 k2 k3 one high =
+      let lower : (p : ℕ) → IsFitPart kept states id p → squares.level_of kept p < squares.level_of kept one =
+      λ p fit. omega (arith, fit.lower) in
+      k3 one (lower p3 (part_se p3 e3)) ∙ k2 one (lower p2 (part_sw p2 e2))
+      ∙ k1 one (lower p1 (part_ne p1 e1)) ∙ k0 one (lower p0 (part_nw p0 e0))
 
   -- the node of its parts' numbers
-  pub numbered_node : (ns : List Node) (p0 p1 p2 p3 a b c d : ℕ) → p0 ≡ slice_index qs 0 → p1 ≡ slice_index qs 1 → p2 ≡ slice_index qs 2 → p3 ≡ slice_index qs 3
-      → IsNumberOf kept ns p0 a → IsNumberOf kept ns p1 b → IsNumberOf kept ns p2 c → IsNumberOf kept ns p3 d → IsNodeOf kept states ns id (Parts level a b c d)
-  numbered_node ns p0 p1 p2 p3 a b c d e0 e1 e2 e3 na nb nc nd =
-      parts_node kept id (level - 1) level qs has.next has.is_level has.quarters states ns a b c d
-      (subst (λ p. IsNumberOf kept ns p a) e0 na) (subst (λ p. IsNumberOf kept ns p b) e1 nb) (subst (λ p. IsNumberOf kept ns p c) e2 nc) (subst (λ p. IsNumberOf kept ns p d) e3 nd)
-      (large_level states (level - 1) level has.next has.from) has.most (level_form states (level - 1) level has.next has.from)
+  pub numbered_node : (ns : List Node) (level p0 p1 p2 p3 a b c d : ℕ) → level ≡ squares.level_of kept id
+      → p0 ≡ slice_index qs 0 → p1 ≡ slice_index qs 1 → p2 ≡ slice_index qs 2 → p3 ≡ slice_index qs 3
+      → IsNumberOf kept ns p0 a → IsNumberOf kept ns p1 b → IsNumberOf kept ns p2 c → IsNumberOf kept ns p3 d
+      → IsNodeOf kept states ns id (Parts level a b c d)
+  numbered_node ns level p0 p1 p2 p3 a b c d is e0 e1 e2 e3 na nb nc nd =
+      subst (λ l. IsNodeOf kept states ns id (Parts l a b c d)) (sym is)
+      (parts_node kept id below _ qs next refl quarters states ns a b c d
+      (subst (λ p. IsNumberOf kept ns p a) e0 na) (subst (λ p. IsNumberOf kept ns p b) e1 nb)
+      (subst (λ p. IsNumberOf kept ns p c) e2 nc) (subst (λ p. IsNumberOf kept ns p d) e3 nd)
+      (large_level states below _ next from) has.most (level_form states below _ next from))
 
 pub number_extends : (kept : List Kept) (old new : List Node) (id n : ℕ) → Extends old new → IsNumberOf kept old id n → IsNumberOf kept new id n
 number_extends kept old new id n x h = subst (λ l. IsNumberOf kept l id n) (sym x.1) (number_goes_on kept old x.0 id n h)

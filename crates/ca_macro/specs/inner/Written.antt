@@ -1,11 +1,11 @@
 -- The nodes that a writer has gathered from a store of squares, and the numbers of their squares.
-use Rattle.std.specs.Prelude.{◌≡◌, ◌≢◌, ℕ, zero, suc, ◌<◌, ◌≤◌, ◌/◌, ◌%◌, ◌==◌, ℤ, List, [], ◌∷◌, ◌++◌, map, length, Bool, false, Some, if◌then◌else◌, slice_index}
+use Rattle.std.specs.Prelude.{◌≡◌, ◌≢◌, ℕ, zero, suc, ◌-◌, ◌<◌, ◌≤◌, ◌/◌, ◌%◌, ◌==◌, ℤ, List, [], ◌∷◌, ◌++◌, map, length, Bool, false, Some, if◌then◌else◌, slice_index}
 use Rattle.std.specs.List.{AllByRecursion, AllPairs, range_with_len}
 use Rattle.ca_plane.specs.Plane.{Picture, cell}
 use Rattle.ca_quad.specs.declared.node.Node.{Node as Kept}
 use Rattle.ca_quad.specs.Squares as squares
 use Rattle.ca_quad.specs.SquareValues.{square_value}
-use Rattle.ca_quad.specs.Trees.{from_corner}
+use Rattle.ca_quad.specs.Trees.{AreQuarters, from_corner}
 use Rattle.ca_macro.specs.declared.write.written.Written.{Written}
 use Rattle.ca_macro.specs.declared.write.written.Written.TheVariants.{Leaf, Cells, Parts}
 use Rattle.ca_macro.specs.Nodes.{Node, level_of, Names, MayFollow}
@@ -31,6 +31,17 @@ cells_of kept id = squares.cell_of kept (squares.level_of kept id) id
 -- a picture shows a square, its upper left cell at (0, 0)
 abbrev pub IsPictureOf : Picture → (ℕ → ℕ → ℕ) → Type 0
 IsPictureOf picture cells = (x y : ℤ) → cell picture x y ≡ from_corner cells x y
+
+-- the level of the squares that are written without parts
+abbrev pub leaf_level : ℕ → ℕ
+leaf_level states = if states == 2 then 3 else 1
+
+-- a square that is written by these four parts
+pub record HasFitParts (kept : List Kept) (states id : ℕ) (parts : List ℕ) : Type 0 where
+  pub least : leaf_level states < squares.level_of kept id
+  pub most : squares.level_of kept id ≤ 120
+  pub low : (x y : ℕ) → cells_of kept id x y < states
+  pub quarters : AreQuarters kept id (squares.level_of kept id - 1) parts
 
 -- the number names a square among these nodes
 pub record IsNumberOf (kept : List Kept) (ns : List Node) (id number : ℕ) : Type 0 where
@@ -63,10 +74,6 @@ Extends old new = (more : List Node) × (new ≡ old ++ more)
 abbrev pub GoesOn : List Node → List Node → ℕ → Type 0
 GoesOn old new number = (walked : List ℕ) → each_once walked ≡ range_with_len 1 (length old)
     → each_once (walked ++ numbered (walks_after [] new) number) ≡ range_with_len 1 (length new)
-
--- the level of the squares that are written without parts
-abbrev pub leaf_level : ℕ → ℕ
-leaf_level states = if states == 2 then 3 else 1
 
 -- the root of the empty plane
 abbrev pub empty_root : ℕ → Node

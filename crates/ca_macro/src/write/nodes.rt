@@ -1,14 +1,14 @@
 //! The nodes of a tree, each square once, its parts before it.
 
 ghost use Rattle.std.specs.Prelude.{◌≡◌, ◌≢◌, ◌+◌, ◌<◌, ◌≤◌, ◌++◌, ◌∷◌, [], ℕ, ℤ, List, map, length};
-ghost use Rattle.std.specs.Prelude.{slice_index, OnOk, IfOk, IfSome, Some, None};
+ghost use Rattle.std.specs.Prelude.{slice_index, OnOk, IfOk, IfSome, MatchOption, Some, None};
 ghost use Rattle.ca_quad.specs.Squares.{level_of};
 ghost use Rattle.ca_quad.specs.SquareValues.{square_value};
 ghost use Rattle.ca_quad.specs.Trees.{IsIn, IsTree, IsEmpty, cell};
 ghost use Rattle.ca_macro.specs.Nodes.{Node, Leaf, Cells};
 ghost use Rattle.ca_macro.specs.Tidy.{IsLeastLevel, AreTidyNodes, parts_of};
-ghost use Rattle.ca_macro.specs.inner.Written.{row_of, node_of, cells_of, IsNumberOf, IsNodeOf};
-ghost use Rattle.ca_macro.specs.inner.Written.{IsGathered, Extends, GoesOn, leaf_level, empty_root};
+ghost use Rattle.ca_macro.specs.inner.Written.{row_of, node_of, cells_of, leaf_level, empty_root};
+ghost use Rattle.ca_macro.specs.inner.Written.{HasFitParts, IsNumberOf, IsNodeOf, IsGathered, Extends, GoesOn};
 
 use super::written::Written;
 use ca_plane::Memory;
@@ -89,6 +89,21 @@ fn leaf(store: &Store, states: u16, id: Id) -> Written
     states_node(store.cells4(id))
 }
 
+/// The parts of a square that is written by them. None is a square that is written without parts.
+fn written_parts(store: &Store, states: u16, id: Id) -> Option<[Id; 4]>
+    requires known { IsIn store.now id }
+    requires least { leaf_level states ≤ level_of store.now id }
+    requires most { level_of store.now id ≤ 120 }
+    requires states { (x y : ℕ) → cells_of store.now id x y < states }
+    ensures { MatchOption result (level_of store.now id ≡ leaf_level states)
+        (HasFitParts store.now states id) }
+{
+    if store.level(id) == leaf_level(states) {
+        return None;
+    }
+    Some(store.children(id))
+}
+
 /// One of four parts.
 fn part(parts: &[Id; 4], place: usize) -> Id
     requires { place < 4 }
@@ -126,15 +141,14 @@ fn number(store: &Store, states: u16, id: Id, gathered: &mut Gathered) -> Result
     if let Some(number) = gathered.numbers.get(id) {
         return Ok(number);
     }
-    let level = store.level(id);
-    if level == leaf_level(states) {
+    let Some(parts) = written_parts(store, states, id) else {
         return gathered.push(store, states, id, leaf(store, states, id));
-    }
-    let parts = store.children(id);
+    };
     let nw = number(store, states, part(&parts, 0), gathered)?;
     let ne = number(store, states, part(&parts, 1), gathered)?;
     let sw = number(store, states, part(&parts, 2), gathered)?;
     let se = number(store, states, part(&parts, 3), gathered)?;
+    let level = store.level(id);
     gathered.push(store, states, id, Written::Parts(level, [nw, ne, sw, se]))
 }
 

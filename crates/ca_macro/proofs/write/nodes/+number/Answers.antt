@@ -5,7 +5,7 @@ use Rattle.ca_quad.specs.SquareValues.{square_value}
 use Rattle.ca_macro.specs.Nodes.{Parts}
 use Rattle.ca_macro.specs.inner.Written.{node_of, Extends}
 use Rattle.ca_macro.proofs.Orders.{goes_again, goes_to_leaf, goes_to_parts, extends_on}
-use Rattle.ca_macro.proofs.WrittenNodes.{empty_number, has_fit_parts, part_nw, part_ne, part_sw, part_se, numbered_node, number_extends, goes_on_ok}
+use Rattle.ca_macro.proofs.WrittenNodes.{empty_number, part_nw, part_ne, part_sw, part_se, parts_keep, numbered_node, number_extends, goes_on_ok}
 use Rattle.ca_macro.proofs.write.nodes.+number.Goals as goal
 
 pub returns-then-is_empty-clause-number : goal.returns-then-is_empty-clause-number
@@ -31,44 +31,34 @@ push-requires-clause-live t c = λ e.
     let yes = (c.is_empty.ensures (level_of c.args.store.now c.args.id) (record { before = c.requires.known; is_level = refl })).1 e in
     absurd cc
 
-pub returns-then-level-leaf_level-clause-order : goal.returns-then-level-leaf_level-clause-order
-returns-then-level-leaf_level-clause-order t c =
+pub returns-in_default-written_parts-clause-order : goal.returns-in_default-written_parts-clause-order
+returns-in_default-written_parts-clause-order t c =
     let ns = map node_of c.args.gathered.now.nodes.items in
     goes_on_ok c.push.result ns ns (map node_of c.push.new.self.nodes.items) (node_of c.leaf.result) c.push.ensures.more c.push.ensures.last (goes_to_leaf ns (node_of c.leaf.result) c.leaf.ensures.parts)
 
 pub number-requires : goal.number-requires
 number-requires t c =
-    let has = has_fit_parts c.args.store.now c.args.states c.args.id c.level-level.result c.leaf_level.result c.children-parts.result
-    c.requires.known c.requires.least c.requires.most c.requires.states c.level-level.ensures.level c.level-level.ensures.least c.leaf_level.ensures c.if-level-leaf_level.false c.children-parts.ensures.quarters in
-    let fit = part_nw c.args.store.now c.args.states c.args.id c.level-level.result c.children-parts.result has c.part.result c.part.ensures in
+    let fit = part_nw _ _ _ _ c.in-Some-written_parts.ensures _ c.part.ensures in
     (omega (arith, c.decreases, fit.lower), (fit.before, (fit.least, (fit.most, (fit.low, c.requires.gathered)))))
 
 pub number-requires-2 : goal.number-requires-2
 number-requires-2 t c =
-    let has = has_fit_parts c.args.store.now c.args.states c.args.id c.level-level.result c.leaf_level.result c.children-parts.result
-    c.requires.known c.requires.least c.requires.most c.requires.states c.level-level.ensures.level c.level-level.ensures.least c.leaf_level.ensures c.if-level-leaf_level.false c.children-parts.ensures.quarters in
-    let fit = part_ne c.args.store.now c.args.states c.args.id c.level-level.result c.children-parts.result has c.part-2.result c.part-2.ensures in
+    let fit = part_ne _ _ _ _ c.in-Some-written_parts.ensures _ c.part-2.ensures in
     (omega (arith, c.decreases, fit.lower), (fit.before, (fit.least, (fit.most, (fit.low, c.in_ok-nw.ensures.gathered)))))
 
 pub number-requires-3 : goal.number-requires-3
 number-requires-3 t c =
-    let has = has_fit_parts c.args.store.now c.args.states c.args.id c.level-level.result c.leaf_level.result c.children-parts.result
-    c.requires.known c.requires.least c.requires.most c.requires.states c.level-level.ensures.level c.level-level.ensures.least c.leaf_level.ensures c.if-level-leaf_level.false c.children-parts.ensures.quarters in
-    let fit = part_sw c.args.store.now c.args.states c.args.id c.level-level.result c.children-parts.result has c.part-3.result c.part-3.ensures in
+    let fit = part_sw _ _ _ _ c.in-Some-written_parts.ensures _ c.part-3.ensures in
     (omega (arith, c.decreases, fit.lower), (fit.before, (fit.least, (fit.most, (fit.low, c.in_ok-ne.ensures.gathered)))))
 
 pub number-requires-4 : goal.number-requires-4
 number-requires-4 t c =
-    let has = has_fit_parts c.args.store.now c.args.states c.args.id c.level-level.result c.leaf_level.result c.children-parts.result
-    c.requires.known c.requires.least c.requires.most c.requires.states c.level-level.ensures.level c.level-level.ensures.least c.leaf_level.ensures c.if-level-leaf_level.false c.children-parts.ensures.quarters in
-    let fit = part_se c.args.store.now c.args.states c.args.id c.level-level.result c.children-parts.result has c.part-4.result c.part-4.ensures in
+    let fit = part_se _ _ _ _ c.in-Some-written_parts.ensures _ c.part-4.ensures in
     (omega (arith, c.decreases, fit.lower), (fit.before, (fit.least, (fit.most, (fit.low, c.in_ok-sw.ensures.gathered)))))
 
 pub push-requires-2-clause-node : goal.push-requires-2-clause-node
 push-requires-2-clause-node t c =
     let kept = c.args.store.now in
-    let has = has_fit_parts c.args.store.now c.args.states c.args.id c.level-level.result c.leaf_level.result c.children-parts.result
-    c.requires.known c.requires.least c.requires.most c.requires.states c.level-level.ensures.level c.level-level.ensures.least c.leaf_level.ensures c.if-level-leaf_level.false c.children-parts.ensures.quarters in
     let s1 = map node_of c.number.new.gathered.nodes.items in
     let s2 = map node_of c.number-2.new.gathered.nodes.items in
     let s3 = map node_of c.number-3.new.gathered.nodes.items in
@@ -76,7 +66,7 @@ push-requires-2-clause-node t c =
     let x34 : Extends s3 s4 = c.in_ok-se.ensures.more in
     let x24 : Extends s2 s4 = extends_on s2 s3 s4 c.in_ok-sw.ensures.more x34 in
     let x14 : Extends s1 s4 = extends_on s1 s2 s4 c.in_ok-ne.ensures.more x24 in
-    numbered_node kept c.args.states c.args.id c.level-level.result c.children-parts.result has s4 c.part.result c.part-2.result c.part-3.result c.part-4.result c.in_ok-nw.nw c.in_ok-ne.ne c.in_ok-sw.sw c.in_ok-se.se
+    numbered_node kept _ _ _ c.in-Some-written_parts.ensures s4 _ _ _ _ _ _ _ _ _ c.level-level.ensures.level
     c.part.ensures c.part-2.ensures c.part-3.ensures c.part-4.ensures
     (number_extends kept s1 s4 c.part.result c.in_ok-nw.nw x14 c.in_ok-nw.ensures.number)
     (number_extends kept s2 s4 c.part-2.result c.in_ok-ne.ne x24 c.in_ok-ne.ensures.number)
@@ -90,14 +80,10 @@ push-requires-2-clause-live t c = λ e.
 
 pub push-requires-2-clause-new : goal.push-requires-2-clause-new
 push-requires-2-clause-new t c =
-    let has = has_fit_parts c.args.store.now c.args.states c.args.id c.level-level.result c.leaf_level.result c.children-parts.result
-    c.requires.known c.requires.least c.requires.most c.requires.states c.level-level.ensures.level c.level-level.ensures.least c.leaf_level.ensures c.if-level-leaf_level.false c.children-parts.ensures.quarters in
-    let fit0 = part_nw c.args.store.now c.args.states c.args.id c.level-level.result c.children-parts.result has c.part.result c.part.ensures in
-    let fit1 = part_ne c.args.store.now c.args.states c.args.id c.level-level.result c.children-parts.result has c.part-2.result c.part-2.ensures in
-    let fit2 = part_sw c.args.store.now c.args.states c.args.id c.level-level.result c.children-parts.result has c.part-3.result c.part-3.ensures in
-    let fit3 = part_se c.args.store.now c.args.states c.args.id c.level-level.result c.children-parts.result has c.part-4.result c.part-4.ensures in
-    c.in_ok-se.ensures.keeps c.args.id (omega (arith, fit3.lower)) ∙ c.in_ok-sw.ensures.keeps c.args.id (omega (arith, fit2.lower))
-    ∙ c.in_ok-ne.ensures.keeps c.args.id (omega (arith, fit1.lower)) ∙ c.in_ok-nw.ensures.keeps c.args.id (omega (arith, fit0.lower)) ∙ sym c.get.ensures ∙ c.in_default.is
+    parts_keep _ _ _ _ c.in-Some-written_parts.ensures _ _ _ _
+    c.part.ensures c.part-2.ensures c.part-3.ensures c.part-4.ensures _ _ _ _ _
+    c.in_ok-nw.ensures.keeps c.in_ok-ne.ensures.keeps c.in_ok-sw.ensures.keeps c.in_ok-se.ensures.keeps
+    c.args.id (omega arith) ∙ sym c.get.ensures ∙ c.in_default.is
 
 pub returns-clause-more : goal.returns-clause-more
 returns-clause-more t c =
@@ -127,19 +113,15 @@ pub returns-clause-keeps : goal.returns-clause-keeps
 returns-clause-keeps t c =
     let kept = c.args.store.now in
     let id = c.args.id in
-    let has = has_fit_parts c.args.store.now c.args.states c.args.id c.level-level.result c.leaf_level.result c.children-parts.result
-    c.requires.known c.requires.least c.requires.most c.requires.states c.level-level.ensures.level c.level-level.ensures.least c.leaf_level.ensures c.if-level-leaf_level.false c.children-parts.ensures.quarters in
-    let fit0 = part_nw c.args.store.now c.args.states c.args.id c.level-level.result c.children-parts.result has c.part.result c.part.ensures in
-    let fit1 = part_ne c.args.store.now c.args.states c.args.id c.level-level.result c.children-parts.result has c.part-2.result c.part-2.ensures in
-    let fit2 = part_sw c.args.store.now c.args.states c.args.id c.level-level.result c.children-parts.result has c.part-3.result c.part-3.ensures in
-    let fit3 = part_se c.args.store.now c.args.states c.args.id c.level-level.result c.children-parts.result has c.part-4.result c.part-4.ensures in
     let before = c.args.gathered.now.numbers in
     let now = c.number-4.new.gathered.numbers in
     let new = c.push-2.new.self.numbers in
     on_ok_weaker {P = (one : ℕ) → one ≢ id → square_value new one ≡ square_value now one}
     {Q = (one : ℕ) → level_of kept id < level_of kept one → square_value new one ≡ square_value before one}
     c.push-2.result
-    (λ keeps one higher.
-    keeps one (λ same. let e = ap (level_of kept) same in omega arith)
-    ∙ c.in_ok-se.ensures.keeps one (omega (arith, fit3.lower)) ∙ c.in_ok-sw.ensures.keeps one (omega (arith, fit2.lower)) ∙ c.in_ok-ne.ensures.keeps one (omega (arith, fit1.lower)) ∙ c.in_ok-nw.ensures.keeps one (omega (arith, fit0.lower)))
+    (λ keeps one higher. keeps one (λ same. let e = ap (level_of kept) same in omega arith)
+    ∙ parts_keep _ _ _ _ c.in-Some-written_parts.ensures _ _ _ _
+    c.part.ensures c.part-2.ensures c.part-3.ensures c.part-4.ensures _ _ _ _ _
+    c.in_ok-nw.ensures.keeps c.in_ok-ne.ensures.keeps c.in_ok-sw.ensures.keeps c.in_ok-se.ensures.keeps
+    one (omega (arith, higher)))
     c.push-2.ensures.keeps
