@@ -36,7 +36,7 @@ use Rattle.ca_tool.specs.declared.fault.InputFault.TheVariants as inputs
 use Rattle.ca_tool.specs.declared.fault.ToolFault.{ToolFault}
 use Rattle.ca_tool.specs.declared.fault.ToolFault.TheVariants as tools
 use Rattle.ca_tool.specs.declared.telling.Telling.{Telling}
-use Rattle.ca_tool.specs.declared.telling.Told.{Told}
+use Rattle.ca_tool.specs.declared.telling.Finding.{Finding}
 
 -- an earlier return of a pattern
 abbrev pub return_text : ℕ → ℤ → ℤ → List ℕ
@@ -254,13 +254,13 @@ note_text before Yes note = []
 note_text before (No why) note = no_note_text before why note
 note_text before (Refused cause) note = refusal_note_text before cause note
 
--- what is told of a claim: the line of its answer, and where answers are explained the second line
-abbrev pub told_text : Telling → Told → List ℕ
-told_text telling told = (telling.before.now ++ line_of told.answer) ++ (if telling.explained then note_text telling.before.now told.answer.verdict told.note else [])
+-- what is printed for a claim: the line of its answer, and where answers are explained the second line
+abbrev pub finding_text : Telling → Finding → List ℕ
+finding_text telling finding = (telling.before.now ++ line_of finding.answer) ++ (if telling.explained then note_text telling.before.now finding.answer.verdict finding.note else [])
 
--- what is told of all claims, in order
-abbrev pub tolds_text : Telling → List Told → List ℕ
-tolds_text telling tolds = flat_map (told_text telling) tolds
+-- what is printed for all claims, in order
+abbrev pub findings_text : Telling → List Finding → List ℕ
+findings_text telling findings = flat_map (finding_text telling) findings
 
 -- the name of a format
 abbrev pub format_name : Format → List ℕ

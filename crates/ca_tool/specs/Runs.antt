@@ -21,8 +21,8 @@ use Rattle.ca_tool.specs.declared.fault.InputFault.TheVariants as inputs
 use Rattle.ca_tool.specs.declared.fault.ToolFault.{ToolFault}
 use Rattle.ca_tool.specs.declared.fault.ToolFault.TheVariants.{Input, BadTable, Convert, Write, Memory}
 use Rattle.ca_tool.specs.declared.telling.Telling.{Telling}
-use Rattle.ca_tool.specs.declared.telling.Told.{Told}
-use Rattle.ca_tool.specs.Printed.{lines_of, tolds_text, status_of, summary_text}
+use Rattle.ca_tool.specs.declared.telling.Finding.{Finding}
+use Rattle.ca_tool.specs.Printed.{lines_of, findings_text, status_of, summary_text}
 use Rattle.ca_tool.specs.Writing.{WritesOneOf}
 
 -- the greatest length of a file: 67108864 bytes
@@ -68,26 +68,26 @@ pub record AreAnswered (judging : Judging) (text : List ℕ) (code : ℕ) : Type
   pub lines : text ≡ lines_of answers
   pub status : code ≡ status_of answers
 
--- the answers of what is told
-abbrev pub answers_of : List Told → List Answer
-answers_of tolds = map (λ told. told.answer) tolds
+-- the answers of findings
+abbrev pub answers_of : List Finding → List Answer
+answers_of findings = map (λ finding. finding.answer) findings
 
 -- one note for each answer, in order, each of them true of its verdict and of the claim's patterns
-abbrev pub AreTrueNotes : List (List ℕ × List ℕ) → List (List ℕ) → List (List (List ℕ × List ℕ)) → List Told → Type 0
-AreTrueNotes files rules patterns tolds = AllZip (λ its told. IsNote files rules its told.answer.verdict told.note) patterns tolds
+abbrev pub AreTrueNotes : List (List ℕ × List ℕ) → List (List ℕ) → List (List (List ℕ × List ℕ)) → List Finding → Type 0
+AreTrueNotes files rules patterns findings = AllZip (λ its finding. IsNote files rules its finding.answer.verdict finding.note) patterns findings
 
 -- where answers are explained, each verdict that has a note is given with it
-abbrev pub AreGiven : Telling → List Told → Type 0
-AreGiven telling tolds = IsTrue telling.explained → AllByRecursion (λ told. IsGiven told.answer.verdict told.note) tolds
+abbrev pub AreGiven : Telling → List Finding → Type 0
+AreGiven telling findings = IsTrue telling.explained → AllByRecursion (λ finding. IsGiven finding.answer.verdict finding.note) findings
 
 -- the text is what is told of true answers to these claims and of true notes on them, and the code is the exit status of the answers
 pub record AreTold (judging : Judging) (telling : Telling) (text : List ℕ) (code : ℕ) : Type 0 where
-  pub tolds : List Told
-  pub holds : AreTrueAnswers judging.files judging.rules judging.claims (answers_of tolds)
-  pub noted : AreTrueNotes judging.files judging.rules judging.patterns tolds
-  pub given : AreGiven telling tolds
-  pub lines : text ≡ tolds_text telling tolds
-  pub status : code ≡ status_of (answers_of tolds)
+  pub findings : List Finding
+  pub holds : AreTrueAnswers judging.files judging.rules judging.claims (answers_of findings)
+  pub noted : AreTrueNotes judging.files judging.rules judging.patterns findings
+  pub given : AreGiven telling findings
+  pub lines : text ≡ findings_text telling findings
+  pub status : code ≡ status_of (answers_of findings)
 
 -- the text is what is told of so many of the first claims
 pub record AreToldInPart (judging : Judging) (telling : Telling) (text : List ℕ) : Type 0 where

@@ -10,7 +10,7 @@ ghost use Rattle.ca_tool.specs.inner.Judged.{TellsInPart, WereAllJudged};
 
 use crate::fault::ToolFault;
 use crate::printing::worse;
-use crate::telling::{Telling, Told, send_told};
+use crate::telling::{Finding, Telling, send_finding};
 use ca_claims::{Claims, File, Judge, Note, Observer};
 use ca_plane::Dev;
 use ca_run::Unwatched;
@@ -115,11 +115,11 @@ fn tell_all<W: Write, O: Observer>(
 {
     let mut text = Vec::new(alloc);
     let mut code = 0;
-    'claims: while let Some(told) = next_told(judge, telling.explained, observer) {
-        if send_told(device, &mut text, telling, &told).is_err() {
+    'claims: while let Some(finding) = next_finding(judge, telling.explained, observer) {
+        if send_finding(device, &mut text, telling, &finding).is_err() {
             return Err(ToolFault::Write);
         }
-        code = worse(code, told.answer);
+        code = worse(code, finding.answer);
     }
     Ok(code)
 }
@@ -128,24 +128,24 @@ fn tell_all<W: Write, O: Observer>(
 fn judge_all(judge: &mut Judge<'_>)
     ensures { WereAllJudged judge.old judge.new }
 {
-    'claims: while let Some(_) = next_told(judge, false, &mut Unwatched) {}
+    'claims: while let Some(_) = next_finding(judge, false, &mut Unwatched) {}
 }
 
 // The next answer, with a note on it where one is wanted.
-fn next_told<'a, O: Observer>(
+fn next_finding<'a, O: Observer>(
     judge: &mut Judge<'a>,
     explained: bool,
     observer: &mut O,
-) -> Option<Told<'a>>
-    ensures judged { MatchOption result (IsDone judge.old judge.new) (λ told. JudgesAndNotes judge.old judge.new told.answer told.note) }
-    ensures given { IsTrue explained → IfSome result (λ told. IsGiven told.answer.verdict told.note) }
+) -> Option<Finding<'a>>
+    ensures judged { MatchOption result (IsDone judge.old judge.new) (λ finding. JudgesAndNotes judge.old judge.new finding.answer finding.note) }
+    ensures given { IsTrue explained → IfSome result (λ finding. IsGiven finding.answer.verdict finding.note) }
 {
     if explained {
         let (answer, note) = judge.next_noted_watched(observer)?;
-        return Some(Told { answer, note });
+        return Some(Finding { answer, note });
     }
     let answer = judge.next_watched(observer)?;
-    Some(Told {
+    Some(Finding {
         answer,
         note: Note::Nothing,
     })

@@ -1,7 +1,7 @@
 //! What is printed for a claim: the line of its answer, and a second line that explains it.
 
 ghost use Rattle.std.specs.Prelude.{◌≡◌, OnOk, codes, if◌then◌else◌, []};
-ghost use Rattle.ca_tool.specs.Printed.{generations_word, cell_line, at_line, file_line, cause_line, note_text, told_text};
+ghost use Rattle.ca_tool.specs.Printed.{generations_word, cell_line, at_line, file_line, cause_line, note_text, finding_text};
 ghost use Rattle.ca_tool.specs.Writing.{Sends};
 ghost use Rattle.ca_tool.specs.inner.Pieces.{pieces_text};
 
@@ -23,7 +23,7 @@ pub struct Telling<'a> {
 
 /// An answer, and the note on it.
 #[derive(Clone, Copy)]
-pub(crate) struct Told<'a> {
+pub(crate) struct Finding<'a> {
     pub(crate) answer: Answer,
     pub(crate) note: Note<'a>,
 }
@@ -135,53 +135,57 @@ fn note_pieces<'a>(before: &'a [u8], verdict: Verdict, note: Note<'a>) -> [Piece
 }
 
 // The second line, where one is printed.
-fn second_pieces<'a>(telling: &Telling<'a>, told: &Told<'a>) -> [Piece<'a>; 15]
-    ensures { pieces_text result ≡ (if telling.now.explained then note_text telling.now.before.now told.now.answer.verdict told.now.note else []) }
+fn second_pieces<'a>(telling: &Telling<'a>, finding: &Finding<'a>) -> [Piece<'a>; 15]
+    ensures { pieces_text result ≡ (if telling.now.explained then note_text telling.now.before.now finding.now.answer.verdict finding.now.note else []) }
 {
     if !telling.explained {
         return [NOTHING; 15];
     }
-    note_pieces(telling.before, told.answer.verdict, told.note)
+    note_pieces(telling.before, finding.answer.verdict, finding.note)
 }
 
 // Puts the lines for a claim in place of what `out` holds.
-fn put_told(out: &mut Vec<u8>, telling: &Telling<'_>, told: &Told<'_>) -> Result<(), Memory>
-    ensures { OnOk result (out.new.items ≡ told_text telling.now told.now) }
+fn put_finding(
+    out: &mut Vec<u8>,
+    telling: &Telling<'_>,
+    finding: &Finding<'_>,
+) -> Result<(), Memory>
+    ensures { OnOk result (out.new.items ≡ finding_text telling.now finding.now) }
 {
     out.clear();
-    push_pieces(out, &answer_pieces(telling.before, &told.answer))?;
-    push_pieces(out, &second_pieces(telling, told))
+    push_pieces(out, &answer_pieces(telling.before, &finding.answer))?;
+    push_pieces(out, &second_pieces(telling, finding))
 }
 
 // Writes the lines for a claim in pieces, which takes no memory.
 fn send_in_pieces<W: Write>(
     device: &mut Dev<W>,
     telling: &Telling<'_>,
-    told: &Told<'_>,
+    finding: &Finding<'_>,
 ) -> Result<(), WriteFault>
     ensures { Sends W.contents device.old device.new
-        (told_text telling.now told.now) WriteFault.Write result }
+        (finding_text telling.now finding.now) WriteFault.Write result }
 {
-    if let Err(fault) = send_pieces(device, &answer_pieces(telling.before, &told.answer)) {
+    if let Err(fault) = send_pieces(device, &answer_pieces(telling.before, &finding.answer)) {
         return Err(fault);
     }
-    send_pieces(device, &second_pieces(telling, told))
+    send_pieces(device, &second_pieces(telling, finding))
 }
 
 /// Writes the lines for a claim as one text, which is put together in `text`; where there is no memory for that, in pieces.
 ///
 /// After a failure some first part of them was written, but not all of them.
-pub(crate) fn send_told<W: Write>(
+pub(crate) fn send_finding<W: Write>(
     device: &mut Dev<W>,
     text: &mut Vec<u8>,
     telling: &Telling<'_>,
-    told: &Told<'_>,
+    finding: &Finding<'_>,
 ) -> Result<(), WriteFault>
     ensures { Sends W.contents device.old device.new
-        (told_text telling.now told.now) WriteFault.Write result }
+        (finding_text telling.now finding.now) WriteFault.Write result }
 {
-    if put_told(text, telling, told).is_err() {
-        return send_in_pieces(device, telling, told);
+    if put_finding(text, telling, finding).is_err() {
+        return send_in_pieces(device, telling, finding);
     }
     send(device, text)
 }

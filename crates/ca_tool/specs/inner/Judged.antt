@@ -4,20 +4,20 @@ use Rattle.ca_claims.specs.Text.{Claim}
 use Rattle.ca_claims.specs.Judging.{Judging}
 use Rattle.ca_claims.specs.Answers.{AreTrueAnswers}
 use Rattle.ca_tool.specs.declared.telling.Telling.{Telling}
-use Rattle.ca_tool.specs.declared.telling.Told.{Told}
-use Rattle.ca_tool.specs.Printed.{tolds_text, status_of}
+use Rattle.ca_tool.specs.declared.telling.Finding.{Finding}
+use Rattle.ca_tool.specs.Printed.{findings_text, status_of}
 use Rattle.ca_tool.specs.Runs.{answers_of, AreTrueNotes, AreGiven}
 
 -- the first claims left were judged, by true answers with true notes, and the others are left
-pub record WereJudged (old new : Judging) (tolds : List Told) : Type 0 where
+pub record WereJudged (old new : Judging) (findings : List Finding) : Type 0 where
   pub files : new.files ≡ old.files
   pub rules : new.rules ≡ old.rules
   pub judged : List (ℕ × Claim)
   pub claims : old.claims ≡ judged ++ new.claims
   pub theirs : List (List (List ℕ × List ℕ))
   pub patterns : old.patterns ≡ theirs ++ new.patterns
-  pub answers : AreTrueAnswers old.files old.rules judged (answers_of tolds)
-  pub notes : AreTrueNotes old.files old.rules theirs tolds
+  pub answers : AreTrueAnswers old.files old.rules judged (answers_of findings)
+  pub notes : AreTrueNotes old.files old.rules theirs findings
 
 -- no claim is left
 pub record NoneLeft (judging : Judging) : Type 0 where
@@ -26,11 +26,11 @@ pub record NoneLeft (judging : Judging) : Type 0 where
 
 -- claims were judged, the text is what is told of them, and the code is the exit status of their answers
 pub record Tells (old new : Judging) (telling : Telling) (text : List ℕ) (code : ℕ) : Type 0 where
-  pub tolds : List Told
-  pub judged : WereJudged old new tolds
-  pub given : AreGiven telling tolds
-  pub lines : text ≡ tolds_text telling tolds
-  pub status : code ≡ status_of (answers_of tolds)
+  pub findings : List Finding
+  pub judged : WereJudged old new findings
+  pub given : AreGiven telling findings
+  pub lines : text ≡ findings_text telling findings
+  pub status : code ≡ status_of (answers_of findings)
 
 -- the same with some exit status
 abbrev pub TellsInPart : Judging → Judging → Telling → List ℕ → Type 0
@@ -38,4 +38,4 @@ TellsInPart old new telling text = (code : ℕ) × Tells old new telling text co
 
 -- all that was left was judged
 abbrev pub WereAllJudged : Judging → Judging → Type 0
-WereAllJudged old new = (tolds : List Told) × WereJudged old new tolds × NoneLeft new
+WereAllJudged old new = (findings : List Finding) × WereJudged old new findings × NoneLeft new

@@ -1,14 +1,14 @@
 use Rattle.std.proofs.Common.{◌++◌, rules, [], refl}
 use Rattle.std.proofs.KnownBytes.{Appends-nil}
 use Rattle.ca_plane.proofs.Sends.{sent_both}
-use Rattle.ca_tool.specs.Printed.{told_text}
+use Rattle.ca_tool.specs.Printed.{finding_text}
 use Rattle.ca_tool.specs.Runs.{answers_of}
 use Rattle.ca_tool.proofs.Judged.{judged_none, tells_more, told_in_part}
 use Rattle.ca_tool.proofs.run.tell_all.Goals as goal
 
 pub claims-init : goal.claims-init
 claims-init g c = record {
-  told = ([], record { tolds = []; judged = judged_none _; given = λ explained. tt; lines = refl; status = refl }, Appends-nil _);
+  told = ([], record { findings = []; judged = judged_none _; given = λ explained. tt; lines = refl; status = refl }, Appends-nil _);
   kept = refl;
 }
 
@@ -17,8 +17,8 @@ pub returns-then-is_err : goal.returns-then-is_err
 returns-then-is_err g c = record {
   whole = tt;
   kept = tt;
-  front = λ is. told_in_part c.args.judge.now c.claims.judge c.next_told.new.judge c.args.telling.now c.in-Some.told (g.W.Write.contents c.args.device.now.inner) (g.W.Write.contents c.claims.device.inner)
-      (g.W.Write.contents c.send_told.new.device.inner) c.claims.code c.in-Some.ensures.given c.claims.invariant.told c.in-Some.ensures.judged (search rules);
+  front = λ is. told_in_part c.args.judge.now c.claims.judge c.next_finding.new.judge c.args.telling.now c.in-Some.finding (g.W.Write.contents c.args.device.now.inner) (g.W.Write.contents c.claims.device.inner)
+      (g.W.Write.contents c.send_finding.new.device.inner) c.claims.code c.in-Some.ensures.given c.claims.invariant.told c.in-Some.ensures.judged (search rules);
   counted = search rules;
   fault = search rules;
   nothing = search rules;
@@ -30,8 +30,8 @@ claims-preserved g c =
     let (text, so_far, sent) = c.claims.invariant.told in
     record {
       told = (
-        text ++ told_text c.args.telling.now c.in-Some.told,
-        tells_more _ _ _ c.args.telling.now c.in-Some.told text _ _ c.in-Some.ensures.given so_far c.in-Some.ensures.judged (c.worse-code.ensures (answers_of so_far.tolds) so_far.status),
+        text ++ finding_text c.args.telling.now c.in-Some.finding,
+        tells_more _ _ _ c.args.telling.now c.in-Some.finding text _ _ c.in-Some.ensures.given so_far c.in-Some.ensures.judged (c.worse-code.ensures (answers_of so_far.findings) so_far.status),
         sent_both _ _ _ text _ sent (search rules),
       );
       kept = search rules;
