@@ -1,21 +1,21 @@
--- Claims judged and told one after another.
+-- Claims judged and reported one after another.
 use Rattle.std.proofs.Common.{◌≡◌, ℕ, List, [], ◌∷◌, ◌++◌, length, take, Option, false, if◌then◌else◌, refl, sym, ap, ◌∙◌, subst, append_assoc}
-use Rattle.std.specs.Prelude.{IsTrue}
-use Rattle.std.specs.List.{AllZip}
+use Rattle.std.specs.List.{AllZip, AllByRecursion}
 use Rattle.std.specs.Io.KnownBytes.{Appends}
 use Rattle.std.proofs.lemmas.List.{append-nil, map-append, length-map}
 use Rattle.std.proofs.lemmas.List.Concat.{flat_map-append}
 use Rattle.std.proofs.lemmas.Slice.Zip.{AllZip-long}
 use Rattle.ca_plane.specs.Device.{AppendsPrefix}
 use Rattle.ca_plane.proofs.Sends.{prefix_of_first, prefix_of_second}
+use Rattle.ca_claims.specs.Text.{Claim}
 use Rattle.ca_claims.specs.Answers.{IsTrueAnswer, AreTrueAnswers}
 use Rattle.ca_claims.specs.Notes.{IsNote, IsGiven}
 use Rattle.ca_claims.specs.Judging.{Judging, JudgesAndNotes}
 use Rattle.ca_tool.specs.declared.telling.Telling.{Telling}
 use Rattle.ca_tool.specs.declared.telling.Finding.{Finding}
 use Rattle.ca_tool.specs.Printed.{line_of, lines_of, note_text, finding_text, findings_text, status_of}
-use Rattle.ca_tool.specs.Runs.{answers_of, AreTrueNotes, AreGiven, AreAnswered, AreTold, AreToldInPart}
-use Rattle.ca_tool.specs.inner.Judged.{WereJudged, NoneLeft, Tells, TellsInPart, WereAllJudged}
+use Rattle.ca_tool.specs.Runs.{with_claims, answers_of, AreTrueNotes, AreFindings, IsPlainReport, IsReport, IsReportOnFirst}
+use Rattle.ca_tool.specs.inner.Judged.{WereJudged, NoneLeft, IsReportUpTo, IsReportPart, WereAllJudged}
 
 -- pairs, and then other pairs
 zip_append : {X Y : Type 0} (R : X → Y → Type 0) (xs : List X) (ys : List Y) (zs : List X) (ws : List Y) → AllZip R xs ys → AllZip R zs ws → AllZip R (xs ++ zs) (ys ++ ws)
@@ -24,26 +24,41 @@ zip_append R [] (y ∷ ys) zs ws all more = absurd all
 zip_append R (x ∷ xs) [] zs ws all more = absurd all
 zip_append R (x ∷ xs) (y ∷ ys) zs ws all more = (all.0, zip_append R xs ys zs ws all.1 more)
 
+-- it holds of some elements, and then of others
+all_append : {X : Type 0} (P : X → Type 0) (xs ys : List X) → AllByRecursion P xs → AllByRecursion P ys → AllByRecursion P (xs ++ ys)
+all_append P [] ys all more = more
+all_append P (x ∷ xs) ys all more = (all.0, all_append P xs ys all.1 more)
+
 -- the first of two lists, by its length
 front : {X : Type 0} (xs ys : List X) (n : ℕ) → n ≡ length xs → take n (xs ++ ys) ≡ xs
 front [] ys n e = rw e refl
 front (x ∷ xs) ys n e = rw e (ap (λ l. x ∷ l) (front xs ys (length xs) refl))
 
+-- findings on some claims, and then on others
+findings_then : (files : List (List ℕ × List ℕ)) (rules : List (List ℕ)) (claims more : List (ℕ × Claim)) (patterns others : List (List (List ℕ × List ℕ))) (xs ys : List Finding)
+    → AreFindings (record { files = files; rules = rules; claims = claims; patterns = patterns }) xs → AreFindings (record { files = files; rules = rules; claims = more; patterns = others }) ys
+    → AreFindings (record { files = files; rules = rules; claims = claims ++ more; patterns = patterns ++ others }) (xs ++ ys)
+findings_then files rules claims more patterns others xs ys first second = record {
+  answers = subst (AreTrueAnswers files rules (claims ++ more)) (sym (map-append (λ (f : Finding). f.answer) xs ys))
+      (zip_append (IsTrueAnswer files rules) claims (answers_of xs) more (answers_of ys) first.answers second.answers);
+  notes = zip_append (λ its (f : Finding). IsNote files rules its f.answer.verdict f.note) patterns xs others ys first.notes second.notes;
+  given = all_append (λ (f : Finding). IsGiven f.answer.verdict f.note) xs ys first.given second.given;
+}
+
 -- no claim was judged yet
 pub judged_none : (judging : Judging) → WereJudged judging judging []
-judged_none judging = record { files = refl; rules = refl; judged = []; claims = refl; theirs = []; patterns = refl; answers = tt; notes = tt }
+judged_none judging = record { files = refl; rules = refl; judged = []; claims = refl; theirs = []; patterns = refl; holds = record { answers = tt; notes = tt; given = tt } }
 
 -- one was
-pub judged_one : (old new : Judging) (finding : Finding) → JudgesAndNotes old new finding.answer finding.note → WereJudged old new (finding ∷ [])
-judged_one old new finding one = record {
+pub judged_one : (old new : Judging) (finding : Finding) → JudgesAndNotes old new finding.answer finding.note → IsGiven finding.answer.verdict finding.note → WereJudged old new (finding ∷ [])
+judged_one old new finding one given = record {
   files = one.judges.files;
   rules = one.judges.rules;
   judged = one.judges.claim ∷ [];
   claims = one.judges.claims;
   theirs = one.judges.its_patterns ∷ [];
   patterns = one.judges.patterns;
-  answers = (one.judges.holds, tt);
-  notes = (one.noted, tt);
+  holds = record { answers = (one.judges.holds, tt); notes = (one.noted, tt); given = (given, tt) };
 }
 
 -- some were, and then others
@@ -55,77 +70,71 @@ judged_then old mid new xs ys first second = record {
   claims = first.claims ∙ ap (λ l. first.judged ++ l) second.claims ∙ sym (append_assoc first.judged second.judged new.claims);
   theirs = first.theirs ++ second.theirs;
   patterns = first.patterns ∙ ap (λ l. first.theirs ++ l) second.patterns ∙ sym (append_assoc first.theirs second.theirs new.patterns);
-  answers = subst (AreTrueAnswers old.files old.rules (first.judged ++ second.judged)) (sym (map-append (λ (t : Finding). t.answer) xs ys))
-      (zip_append (IsTrueAnswer old.files old.rules) first.judged (answers_of xs) second.judged (answers_of ys) first.answers
-      (subst (λ f. AreTrueAnswers f old.rules second.judged (answers_of ys)) first.files (subst (λ r. AreTrueAnswers mid.files r second.judged (answers_of ys)) first.rules second.answers)));
-  notes = zip_append (λ its (t : Finding). IsNote old.files old.rules its t.answer.verdict t.note) first.theirs xs second.theirs ys first.notes
-      (subst (λ f. AreTrueNotes f old.rules second.theirs ys) first.files (subst (λ r. AreTrueNotes mid.files r second.theirs ys) first.rules second.notes));
+  holds = findings_then old.files old.rules first.judged second.judged first.theirs second.theirs xs ys first.holds
+      (subst (λ f. AreFindings (record { files = f; rules = old.rules; claims = second.judged; patterns = second.theirs }) ys) first.files
+      (subst (λ r. AreFindings (record { files = mid.files; rules = r; claims = second.judged; patterns = second.theirs }) ys) first.rules second.holds));
 }
 
--- what is told of some claims and of one more
-told_more : (telling : Telling) (findings : List Finding) (finding : Finding) → findings_text telling (findings ++ finding ∷ []) ≡ findings_text telling findings ++ finding_text telling finding
-told_more telling findings finding = flat_map-append (finding_text telling) findings (finding ∷ []) ∙ ap (λ l. findings_text telling findings ++ l) (append-nil (finding_text telling finding))
+-- what is printed for some claims and for one more
+text_more : (telling : Telling) (findings : List Finding) (finding : Finding) → findings_text telling (findings ++ finding ∷ []) ≡ findings_text telling findings ++ finding_text telling finding
+text_more telling findings finding = flat_map-append (finding_text telling) findings (finding ∷ []) ∙ ap (λ l. findings_text telling findings ++ l) (append-nil (finding_text telling finding))
 
--- where something is noted of some and of one more, it is of all
-given_more : (telling : Telling) (findings : List Finding) (finding : Finding) → AreGiven telling findings → (IsTrue telling.explained → IsGiven finding.answer.verdict finding.note) → AreGiven telling (findings ++ finding ∷ [])
-given_more telling [] finding all one explained = (one explained, tt)
-given_more telling (t ∷ findings) finding all one explained = ((all explained).0, given_more telling findings finding (λ e. (all e).1) one explained)
-
--- one claim more was judged and told
-pub tells_more : (old mid new : Judging) (telling : Telling) (finding : Finding) (text : List ℕ) (code next : ℕ) → (IsTrue telling.explained → IsGiven finding.answer.verdict finding.note) → (so_far : Tells old mid telling text code)
-    → JudgesAndNotes mid new finding.answer finding.note → next ≡ status_of (answers_of so_far.findings ++ finding.answer ∷ []) → Tells old new telling (text ++ finding_text telling finding) next
-tells_more old mid new telling finding text code next given so_far one worse = record {
+-- one claim more was judged and reported
+pub report_more : (old mid new : Judging) (telling : Telling) (finding : Finding) (text : List ℕ) (code next : ℕ) → (so_far : IsReportUpTo old mid telling text code) → WereJudged mid new (finding ∷ [])
+    → next ≡ status_of (answers_of so_far.findings ++ finding.answer ∷ []) → IsReportUpTo old new telling (text ++ finding_text telling finding) next
+report_more old mid new telling finding text code next so_far one worse = record {
   findings = so_far.findings ++ finding ∷ [];
-  judged = judged_then old mid new so_far.findings (finding ∷ []) so_far.judged (judged_one mid new finding one);
-  given = given_more telling so_far.findings finding so_far.given given;
-  lines = ap (λ l. l ++ finding_text telling finding) so_far.lines ∙ sym (told_more telling so_far.findings finding);
-  status = worse ∙ ap status_of (sym (map-append (λ (t : Finding). t.answer) so_far.findings (finding ∷ [])));
+  judged = judged_then old mid new so_far.findings (finding ∷ []) so_far.judged one;
+  lines = ap (λ l. l ++ finding_text telling finding) so_far.lines ∙ sym (text_more telling so_far.findings finding);
+  status = worse ∙ ap status_of (sym (map-append (λ (f : Finding). f.answer) so_far.findings (finding ∷ [])));
 }
 
--- some claims were told, and one more in part
-pub told_in_part : (old mid new : Judging) (telling : Telling) (finding : Finding) (before between after : Option (List ℕ)) (code : ℕ) → (IsTrue telling.explained → IsGiven finding.answer.verdict finding.note)
-    → (text : List ℕ) × Tells old mid telling text code × Appends before between text → JudgesAndNotes mid new finding.answer finding.note → AppendsPrefix between after (finding_text telling finding)
-    → (text : List ℕ) × TellsInPart old new telling text × AppendsPrefix before after text
-told_in_part old mid new telling finding before between after code given (text, so_far, sent) one part = (
+-- some claims were reported, and one more in part
+pub report_in_part : (old mid new : Judging) (telling : Telling) (finding : Finding) (before between after : Option (List ℕ)) (code : ℕ)
+    → (text : List ℕ) × IsReportUpTo old mid telling text code × Appends before between text → WereJudged mid new (finding ∷ []) → AppendsPrefix between after (finding_text telling finding)
+    → (text : List ℕ) × IsReportPart old new telling text × AppendsPrefix before after text
+report_in_part old mid new telling finding before between after code (text, so_far, sent) one part = (
   text ++ finding_text telling finding,
-  (_, tells_more old mid new telling finding text code _ given so_far one refl),
+  (_, report_more old mid new telling finding text code _ so_far one refl),
   prefix_of_second before between after text (finding_text telling finding) sent part,
 )
 
--- where none is left, all were judged
-all_judged : (old new : Judging) (findings : List Finding) → WereJudged old new findings → NoneLeft new → AreTrueAnswers old.files old.rules old.claims (answers_of findings) × AreTrueNotes old.files old.rules old.patterns findings
-all_judged old new findings judged none = (
-  subst (λ cs. AreTrueAnswers old.files old.rules cs (answers_of findings)) (sym (judged.claims ∙ ap (λ l. judged.judged ++ l) none.claims ∙ append-nil judged.judged)) judged.answers,
-  subst (λ ps. AreTrueNotes old.files old.rules ps findings) (sym (judged.patterns ∙ ap (λ l. judged.theirs ++ l) none.patterns ∙ append-nil judged.theirs)) judged.notes,
-)
+-- where none is left, the findings are on all claims
+all_judged : (old new : Judging) (findings : List Finding) → WereJudged old new findings → NoneLeft new → AreFindings old findings
+all_judged old new findings judged none = record {
+  answers = subst (λ cs. AreTrueAnswers old.files old.rules cs (answers_of findings)) (sym (judged.claims ∙ ap (λ l. judged.judged ++ l) none.claims ∙ append-nil judged.judged)) judged.holds.answers;
+  notes = subst (λ ps. AreTrueNotes old.files old.rules ps findings) (sym (judged.patterns ∙ ap (λ l. judged.theirs ++ l) none.patterns ∙ append-nil judged.theirs)) judged.holds.notes;
+  given = judged.holds.given;
+}
 
--- and so all were told
-pub told_all : (old new : Judging) (telling : Telling) (text : List ℕ) (code : ℕ) → Tells old new telling text code → NoneLeft new → AreTold old telling text code
-told_all old new telling text code tells none =
-    let all = all_judged old new tells.findings tells.judged none in
-    record { findings = tells.findings; holds = all.0; noted = all.1; given = tells.given; lines = tells.lines; status = tells.status }
+-- and so is the report
+pub report_on_all : (old new : Judging) (telling : Telling) (text : List ℕ) (code : ℕ) → IsReportUpTo old new telling text code → NoneLeft new → IsReport old telling text code
+report_on_all old new telling text code report none =
+    record { findings = report.findings; holds = all_judged old new report.findings report.judged none; lines = report.lines; status = report.status }
 
--- those that were told are the first ones
-pub told_first : (old new : Judging) (telling : Telling) (text : List ℕ) → TellsInPart old new telling text → AreToldInPart old telling text
-told_first old new telling text (code, tells) =
-    let findings = tells.findings in
-    let judged = tells.judged in
-    let answers : length findings ≡ length judged.judged = sym (length-map findings (λ (t : Finding). t.answer)) ∙ AllZip-long (IsTrueAnswer old.files old.rules) judged.judged (answers_of findings) judged.answers in
-    let notes : length findings ≡ length judged.theirs = AllZip-long (λ its (t : Finding). IsNote old.files old.rules its t.answer.verdict t.note) judged.theirs findings judged.notes in
+-- the claims that were judged are the first ones
+pub report_on_first : (old new : Judging) (telling : Telling) (text : List ℕ) → IsReportPart old new telling text → IsReportOnFirst old telling text
+report_on_first old new telling text (code, report) =
+    let findings = report.findings in
+    let judged = report.judged in
+    let answers : length findings ≡ length judged.judged = sym (length-map findings (λ (f : Finding). f.answer)) ∙ AllZip-long (IsTrueAnswer old.files old.rules) judged.judged (answers_of findings) judged.holds.answers in
+    let notes : length findings ≡ length judged.theirs = AllZip-long (λ its (f : Finding). IsNote old.files old.rules its f.answer.verdict f.note) judged.theirs findings judged.holds.notes in
     record {
       count = length findings;
       code = code;
-      told = record {
+      report = record {
         findings = findings;
-        holds = subst (λ cs. AreTrueAnswers old.files old.rules cs (answers_of findings)) (sym (ap (take (length findings)) judged.claims ∙ front judged.judged new.claims (length findings) answers)) judged.answers;
-        noted = subst (λ ps. AreTrueNotes old.files old.rules ps findings) (sym (ap (take (length findings)) judged.patterns ∙ front judged.theirs new.patterns (length findings) notes)) judged.notes;
-        given = tells.given;
-        lines = tells.lines;
-        status = tells.status;
+        holds = record {
+          answers = subst (λ cs. AreTrueAnswers old.files old.rules cs (answers_of findings)) (sym (ap (take (length findings)) judged.claims ∙ front judged.judged new.claims (length findings) answers)) judged.holds.answers;
+          notes = subst (λ ps. AreTrueNotes old.files old.rules ps findings) (sym (ap (take (length findings)) judged.patterns ∙ front judged.theirs new.patterns (length findings) notes)) judged.holds.notes;
+          given = judged.holds.given;
+        };
+        lines = report.lines;
+        status = report.status;
       };
     }
 
--- with nothing before and nothing explained, what is told is the lines of the answers
+-- with nothing before and nothing explained, what is printed is the lines of the answers
 plain_text : (telling : Telling) (findings : List Finding) → telling.before.now ≡ [] → telling.explained ≡ false → findings_text telling findings ≡ lines_of (answers_of findings)
 plain_text telling [] none off = refl
 plain_text telling (finding ∷ findings) none off =
@@ -135,17 +144,17 @@ plain_text telling (finding ∷ findings) none off =
     ∙ append-nil (line_of finding.answer))
     ∙ ap (λ l. line_of finding.answer ++ l) (plain_text telling findings none off)
 
--- and the claims were answered
-pub answered_plain : (judging : Judging) (telling : Telling) (text : List ℕ) (code : ℕ) → telling.before.now ≡ [] → telling.explained ≡ false → AreTold judging telling text code → AreAnswered judging text code
-answered_plain judging telling text code none off finding = record { answers = answers_of finding.findings; holds = finding.holds; lines = finding.lines ∙ plain_text telling finding.findings none off; status = finding.status }
+-- so the report is a plain one
+pub plain_report : (judging : Judging) (telling : Telling) (text : List ℕ) (code : ℕ) → telling.before.now ≡ [] → telling.explained ≡ false → IsReport judging telling text code → IsPlainReport judging text code
+plain_report judging telling text code none off report =
+    record { answers = answers_of report.findings; holds = report.holds.answers; lines = report.lines ∙ plain_text telling report.findings none off; status = report.status }
 
--- so they were where all were judged, and what is told of the first of them was written in part
-pub answered_part : (old mid new : Judging) (telling : Telling) (before after : Option (List ℕ)) → telling.before.now ≡ [] → telling.explained ≡ false
-    → (text : List ℕ) × TellsInPart old mid telling text × AppendsPrefix before after text → WereAllJudged mid new
-    → (text : List ℕ) × ((code : ℕ) × AreAnswered old text code) × AppendsPrefix before after text
-answered_part old mid new telling before after none off (text, (code, tells), sent) (others, later, left) =
-    let findings = tells.findings ++ others in
-    let all = all_judged old new findings (judged_then old mid new tells.findings others tells.judged later) left in
-    let lines : findings_text telling tells.findings ++ findings_text telling others ≡ lines_of (answers_of findings) = sym (flat_map-append (finding_text telling) tells.findings others) ∙ plain_text telling findings none off in
-    let more = prefix_of_first before after (findings_text telling tells.findings) (findings_text telling others) (subst (AppendsPrefix before after) tells.lines sent) in
-    (lines_of (answers_of findings), (_, record { answers = answers_of findings; holds = all.0; lines = refl; status = refl }), subst (AppendsPrefix before after) lines more)
+-- and where the other claims were judged too, a part of it is one of a plain report on all
+pub plain_part : (old mid new : Judging) (telling : Telling) (before after : Option (List ℕ)) → telling.before.now ≡ [] → telling.explained ≡ false → WereAllJudged mid new
+    → (text : List ℕ) × IsReportPart old mid telling text × AppendsPrefix before after text → (text : List ℕ) × ((code : ℕ) × IsPlainReport old text code) × AppendsPrefix before after text
+plain_part old mid new telling before after none off (others, later, left) (text, (code, report), sent) =
+    let findings = report.findings ++ others in
+    let all = all_judged old new findings (judged_then old mid new report.findings others report.judged later) left in
+    let lines : findings_text telling report.findings ++ findings_text telling others ≡ lines_of (answers_of findings) = sym (flat_map-append (finding_text telling) report.findings others) ∙ plain_text telling findings none off in
+    let more = prefix_of_first before after (findings_text telling report.findings) (findings_text telling others) (subst (AppendsPrefix before after) report.lines sent) in
+    (lines_of (answers_of findings), (_, record { answers = answers_of findings; holds = all.answers; lines = refl; status = refl }), subst (AppendsPrefix before after) lines more)

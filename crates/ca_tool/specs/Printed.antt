@@ -254,9 +254,13 @@ note_text before Yes note = []
 note_text before (No why) note = no_note_text before why note
 note_text before (Refused cause) note = refusal_note_text before cause note
 
+-- the second line for a claim, where answers are explained
+abbrev pub second_line : Telling → Finding → List ℕ
+second_line telling finding = if telling.explained then note_text telling.before.now finding.answer.verdict finding.note else []
+
 -- what is printed for a claim: the line of its answer, and where answers are explained the second line
 abbrev pub finding_text : Telling → Finding → List ℕ
-finding_text telling finding = (telling.before.now ++ line_of finding.answer) ++ (if telling.explained then note_text telling.before.now finding.answer.verdict finding.note else [])
+finding_text telling finding = (telling.before.now ++ line_of finding.answer) ++ second_line telling finding
 
 -- what is printed for all claims, in order
 abbrev pub findings_text : Telling → List Finding → List ℕ

@@ -1,9 +1,9 @@
 -- What a run reads and writes.
-use Rattle.std.specs.Prelude.{◌≡◌, ◌≢◌, ℕ, ◌+◌, ◌<◌, ◌≤◌, ◌^◌, List, [], ◌∷◌, map, length, take, Option, None, Some, Result, Err, ◌⊎◌, IsTrue, IsErrOf}
+use Rattle.std.specs.Prelude.{◌≡◌, ◌≢◌, ℕ, ◌+◌, ◌<◌, ◌≤◌, ◌^◌, List, [], ◌∷◌, map, length, take, Option, None, Some, Result, Err, ◌⊎◌, IsErrOf}
 use Rattle.std.specs.Io.KnownBytes.{Consumes, IsAtEnd}
 use Rattle.std.specs.List.{AllZip, AllByRecursion}
 use Rattle.ca_plane.specs.Device.{Counted, Rises}
-use Rattle.ca_claims.specs.Text.{Asked}
+use Rattle.ca_claims.specs.Text.{Asked, Claim}
 use Rattle.ca_claims.specs.Judging.{Judging}
 use Rattle.ca_claims.specs.Notes.{IsNote, IsGiven}
 use Rattle.ca_rule.specs.TableNext.{TableRule}
@@ -53,16 +53,20 @@ pub record TakesFile {R T E : Type 0} (remaining : R → Option (List ℕ)) (old
   pub failed : IsErrOf result failure → Rises old.failures new.failures
   pub kept : result ≢ Err failure → new.failures ≡ old.failures
 
+-- some claims with their patterns, over the files and the rule lines of others
+abbrev pub with_claims : Judging → List (ℕ × Claim) → List (List (List ℕ × List ℕ)) → Judging
+with_claims judging claims patterns = record { files = judging.files; rules = judging.rules; claims = claims; patterns = patterns }
+
 -- all claims of a text, over these files
 abbrev pub all_claims : List (List ℕ × List ℕ) → Asked → Judging
 all_claims files asked = record { files = files; rules = asked.rules; claims = asked.claims; patterns = asked.patterns }
 
 -- the first n of some claims
 abbrev pub first_claims : ℕ → Judging → Judging
-first_claims n judging = record { files = judging.files; rules = judging.rules; claims = take n judging.claims; patterns = take n judging.patterns }
+first_claims n judging = with_claims judging (take n judging.claims) (take n judging.patterns)
 
--- the text is the lines of true answers to these claims, and the code is the exit status of the answers
-pub record AreAnswered (judging : Judging) (text : List ℕ) (code : ℕ) : Type 0 where
+-- a plain report on these claims: the text is the lines of true answers to them, and the code is the exit status of the answers
+pub record IsPlainReport (judging : Judging) (text : List ℕ) (code : ℕ) : Type 0 where
   pub answers : List Answer
   pub holds : AreTrueAnswers judging.files judging.rules judging.claims answers
   pub lines : text ≡ lines_of answers
@@ -76,40 +80,40 @@ answers_of findings = map (λ finding. finding.answer) findings
 abbrev pub AreTrueNotes : List (List ℕ × List ℕ) → List (List ℕ) → List (List (List ℕ × List ℕ)) → List Finding → Type 0
 AreTrueNotes files rules patterns findings = AllZip (λ its finding. IsNote files rules its finding.answer.verdict finding.note) patterns findings
 
--- where answers are explained, each verdict that has a note is given with it
-abbrev pub AreGiven : Telling → List Finding → Type 0
-AreGiven telling findings = IsTrue telling.explained → AllByRecursion (λ finding. IsGiven finding.answer.verdict finding.note) findings
+-- findings on these claims: true answers to them, and true notes on the answers, where each verdict that has a note is given with it
+pub record AreFindings (judging : Judging) (findings : List Finding) : Type 0 where
+  pub answers : AreTrueAnswers judging.files judging.rules judging.claims (answers_of findings)
+  pub notes : AreTrueNotes judging.files judging.rules judging.patterns findings
+  pub given : AllByRecursion (λ finding. IsGiven finding.answer.verdict finding.note) findings
 
--- the text is what is told of true answers to these claims and of true notes on them, and the code is the exit status of the answers
-pub record AreTold (judging : Judging) (telling : Telling) (text : List ℕ) (code : ℕ) : Type 0 where
+-- a report on these claims: the text is what is printed for findings on them, and the code is the exit status of the answers
+pub record IsReport (judging : Judging) (telling : Telling) (text : List ℕ) (code : ℕ) : Type 0 where
   pub findings : List Finding
-  pub holds : AreTrueAnswers judging.files judging.rules judging.claims (answers_of findings)
-  pub noted : AreTrueNotes judging.files judging.rules judging.patterns findings
-  pub given : AreGiven telling findings
+  pub holds : AreFindings judging findings
   pub lines : text ≡ findings_text telling findings
   pub status : code ≡ status_of (answers_of findings)
 
--- the text is what is told of so many of the first claims
-pub record AreToldInPart (judging : Judging) (telling : Telling) (text : List ℕ) : Type 0 where
+-- a report on some number of the first claims
+pub record IsReportOnFirst (judging : Judging) (telling : Telling) (text : List ℕ) : Type 0 where
   pub count : ℕ
   pub code : ℕ
-  pub told : AreTold (first_claims count judging) telling text code
+  pub report : IsReport (first_claims count judging) telling text code
 
 -- memory was refused for a text that makes a claim
 pub record NeedsMemory (judging : Judging) (fault : ToolFault) : Type 0 where
   pub refused : fault ≡ Memory
   pub some : judging.claims ≢ []
 
--- all that is told of these claims is written, with their status; or a first part of what is told of the first claims, and then a write fails; or
--- nothing, and memory was refused for a text that makes a claim
-abbrev pub TellsAll : {W : Type 0} → (W → Option (List ℕ)) → Counted W → Counted W → Judging → Telling → Result ℕ ToolFault → Type 0
-TellsAll contents old new judging telling result =
-    WritesOneOf contents old new (AreTold judging telling) (AreToldInPart judging telling) (NeedsMemory judging) result
+-- a report on these claims is written, with their status; or a first part of a report on the first claims, and then a write fails; or nothing,
+-- and memory was refused for a text that makes a claim
+abbrev pub WritesReport : {W : Type 0} → (W → Option (List ℕ)) → Counted W → Counted W → Judging → Telling → Result ℕ ToolFault → Type 0
+WritesReport contents old new judging telling result =
+    WritesOneOf contents old new (IsReport judging telling) (IsReportOnFirst judging telling) (NeedsMemory judging) result
 
--- the same of the lines of the answers alone, but that the part is one of the lines of all claims
-abbrev pub AnswersAll : {W : Type 0} → (W → Option (List ℕ)) → Counted W → Counted W → Judging → Result ℕ ToolFault → Type 0
-AnswersAll contents old new judging result =
-    WritesOneOf contents old new (AreAnswered judging) (λ text. (code : ℕ) × AreAnswered judging text code) (NeedsMemory judging) result
+-- the same of a plain report, but that the first part is one of a report on all claims
+abbrev pub WritesPlainReport : {W : Type 0} → (W → Option (List ℕ)) → Counted W → Counted W → Judging → Result ℕ ToolFault → Type 0
+WritesPlainReport contents old new judging result =
+    WritesOneOf contents old new (IsPlainReport judging) (λ text. (code : ℕ) × IsPlainReport judging text code) (NeedsMemory judging) result
 
 -- what a file gave that isn't read; of a read that fails the device tells
 abbrev pub IsInputFault : Option (List ℕ) → Option (List ℕ) → InputFault → Type 0

@@ -1,7 +1,7 @@
 //! What is printed for a claim: the line of its answer, and a second line that explains it.
 
-ghost use Rattle.std.specs.Prelude.{◌≡◌, OnOk, codes, if◌then◌else◌, []};
-ghost use Rattle.ca_tool.specs.Printed.{generations_word, cell_line, at_line, file_line, cause_line, note_text, finding_text};
+ghost use Rattle.std.specs.Prelude.{◌≡◌, OnOk, codes};
+ghost use Rattle.ca_tool.specs.Printed.{generations_word, cell_line, at_line, file_line, cause_line, note_text, second_line, finding_text};
 ghost use Rattle.ca_tool.specs.Writing.{Sends};
 ghost use Rattle.ca_tool.specs.inner.Pieces.{pieces_text};
 
@@ -136,7 +136,7 @@ fn note_pieces<'a>(before: &'a [u8], verdict: Verdict, note: Note<'a>) -> [Piece
 
 // The second line, where one is printed.
 fn second_pieces<'a>(telling: &Telling<'a>, finding: &Finding<'a>) -> [Piece<'a>; 15]
-    ensures { pieces_text result ≡ (if telling.now.explained then note_text telling.now.before.now finding.now.answer.verdict finding.now.note else []) }
+    ensures { pieces_text result ≡ second_line telling.now finding.now }
 {
     if !telling.explained {
         return [NOTHING; 15];

@@ -1,14 +1,13 @@
--- What a loop over claims judged and told.
+-- What a loop over claims judged and reported.
 use Rattle.std.specs.Prelude.{◌≡◌, ℕ, List, [], ◌++◌}
 use Rattle.ca_claims.specs.Text.{Claim}
 use Rattle.ca_claims.specs.Judging.{Judging}
-use Rattle.ca_claims.specs.Answers.{AreTrueAnswers}
 use Rattle.ca_tool.specs.declared.telling.Telling.{Telling}
 use Rattle.ca_tool.specs.declared.telling.Finding.{Finding}
 use Rattle.ca_tool.specs.Printed.{findings_text, status_of}
-use Rattle.ca_tool.specs.Runs.{answers_of, AreTrueNotes, AreGiven}
+use Rattle.ca_tool.specs.Runs.{with_claims, answers_of, AreFindings}
 
--- the first claims left were judged, by true answers with true notes, and the others are left
+-- the first claims left were judged, with these findings, and the others are left
 pub record WereJudged (old new : Judging) (findings : List Finding) : Type 0 where
   pub files : new.files ≡ old.files
   pub rules : new.rules ≡ old.rules
@@ -16,25 +15,23 @@ pub record WereJudged (old new : Judging) (findings : List Finding) : Type 0 whe
   pub claims : old.claims ≡ judged ++ new.claims
   pub theirs : List (List (List ℕ × List ℕ))
   pub patterns : old.patterns ≡ theirs ++ new.patterns
-  pub answers : AreTrueAnswers old.files old.rules judged (answers_of findings)
-  pub notes : AreTrueNotes old.files old.rules theirs findings
+  pub holds : AreFindings (with_claims old judged theirs) findings
 
 -- no claim is left
 pub record NoneLeft (judging : Judging) : Type 0 where
   pub claims : judging.claims ≡ []
   pub patterns : judging.patterns ≡ []
 
--- claims were judged, the text is what is told of them, and the code is the exit status of their answers
-pub record Tells (old new : Judging) (telling : Telling) (text : List ℕ) (code : ℕ) : Type 0 where
+-- claims were judged, the text is what is printed for them, and the code is the exit status of their answers
+pub record IsReportUpTo (old new : Judging) (telling : Telling) (text : List ℕ) (code : ℕ) : Type 0 where
   pub findings : List Finding
   pub judged : WereJudged old new findings
-  pub given : AreGiven telling findings
   pub lines : text ≡ findings_text telling findings
   pub status : code ≡ status_of (answers_of findings)
 
 -- the same with some exit status
-abbrev pub TellsInPart : Judging → Judging → Telling → List ℕ → Type 0
-TellsInPart old new telling text = (code : ℕ) × Tells old new telling text code
+abbrev pub IsReportPart : Judging → Judging → Telling → List ℕ → Type 0
+IsReportPart old new telling text = (code : ℕ) × IsReportUpTo old new telling text code
 
 -- all that was left was judged
 abbrev pub WereAllJudged : Judging → Judging → Type 0

@@ -1,6 +1,6 @@
 use Rattle.std.proofs.Common.{[], ◌∷◌, ◌++◌}
-use Rattle.ca_tool.proofs.Judged.{judged_none, judged_one, judged_then}
-use Rattle.ca_tool.proofs.run.judge_all.Goals as goal
+use Rattle.ca_tool.proofs.Judged.{judged_none, judged_then}
+use Rattle.ca_tool.proofs.run.judge_rest.Goals as goal
 
 pub claims-init : goal.claims-init
 claims-init c = ([], judged_none _)
@@ -9,4 +9,4 @@ claims-init c = ([], judged_none _)
 pub claims-preserved : goal.claims-preserved
 claims-preserved c =
     let so_far = c.claims.invariant in
-    (so_far.0 ++ _ ∷ [], judged_then _ _ _ so_far.0 _ so_far.1 (judged_one _ _ _ c.in-Some.ensures.judged))
+    (so_far.0 ++ _ ∷ [], judged_then _ _ _ so_far.0 _ so_far.1 c.in-Some.ensures)

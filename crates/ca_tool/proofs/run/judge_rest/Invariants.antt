@@ -1,7 +1,7 @@
 use Rattle.std.proofs.Common.{List, length}
 use Rattle.ca_tool.specs.declared.telling.Finding.{Finding}
 use Rattle.ca_tool.specs.inner.Judged.{WereJudged}
-use Rattle.ca_tool.proofs.run.judge_all.Given as goal
+use Rattle.ca_tool.proofs.run.judge_rest.Given as goal
 
 -- the claims so far were judged
 abbrev pub invariant-claims : goal.invariant-claims
