@@ -14,7 +14,7 @@ use Rattle.ca_claims.specs.Judging.{Judging, JudgesAndNotes}
 use Rattle.ca_tool.specs.declared.telling.Telling.{Telling}
 use Rattle.ca_tool.specs.declared.telling.Finding.{Finding}
 use Rattle.ca_tool.specs.Printed.{line_of, lines_of, note_text, finding_text, findings_text, status_of}
-use Rattle.ca_tool.specs.Runs.{with_claims, answers_of, AreTrueNotes, AreFindings, IsPlainReport, IsReport, IsReportOnFirst}
+use Rattle.ca_tool.specs.Runs.{answers_of, AreTrueNotes, AreFindings, IsPlainReport, IsReport, IsReportOnFirst}
 use Rattle.ca_tool.specs.inner.Judged.{WereJudged, NoneLeft, IsReportUpTo, IsReportPart, WereAllJudged}
 
 -- pairs, and then other pairs

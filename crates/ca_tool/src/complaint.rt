@@ -14,7 +14,7 @@ use ca_rule::TableFault;
 use std::io::Write;
 
 // A text in three pieces, of which the last two are empty.
-fn alone<'a>(text: &'a [u8]) -> [Piece<'a>; 3]
+fn padded_text<'a>(text: &'a [u8]) -> [Piece<'a>; 3]
     ensures { pieces_text result ≡ text.now }
 {
     [Piece::Text(text), NOTHING, NOTHING]
@@ -29,8 +29,8 @@ fn fault_pieces<'a>(fault: &Fault, path: &'a [u8]) -> [Piece<'a>; 3]
         Fault::Claims(fault) => claim_pieces(fault),
         Fault::Tool(ToolFault::BadTable(fault)) => table_pieces(fault),
         Fault::Tool(ToolFault::Convert(fault)) => convert_pieces(fault),
-        Fault::Tool(ToolFault::Write) => alone(b"write"),
-        Fault::Tool(ToolFault::Memory) => alone(b"memory"),
+        Fault::Tool(ToolFault::Write) => padded_text(b"write"),
+        Fault::Tool(ToolFault::Memory) => padded_text(b"memory"),
     }
 }
 
@@ -40,7 +40,7 @@ fn input_pieces<'a>(fault: InputFault, path: &'a [u8]) -> [Piece<'a>; 3]
     match fault {
         InputFault::Read => [Piece::Text(b"cannot read "), Piece::Text(path), NOTHING],
         InputFault::TooLong => [Piece::Text(b"too long "), Piece::Text(path), NOTHING],
-        InputFault::Memory => alone(b"memory"),
+        InputFault::Memory => padded_text(b"memory"),
     }
 }
 
@@ -52,7 +52,7 @@ fn claim_pieces<'a>(fault: ClaimFault) -> [Piece<'a>; 3]
         ClaimFault::Number { line } => (line, b": number"),
         ClaimFault::UnknownName { line } => (line, b": unknown name"),
         ClaimFault::NameTaken { line } => (line, b": name taken"),
-        ClaimFault::Memory => return alone(b"memory"),
+        ClaimFault::Memory => return padded_text(b"memory"),
     };
     [
         Piece::Text(b"claims line "),
@@ -65,7 +65,7 @@ fn table_pieces<'a>(fault: TableFault) -> [Piece<'a>; 3]
     ensures { pieces_text result ≡ rule_file_text fault }
 {
     if let TableFault::Memory = fault {
-        return alone(b"memory");
+        return padded_text(b"memory");
     }
     [
         Piece::Text(b"bad table: line "),
@@ -78,15 +78,15 @@ fn convert_pieces<'a>(fault: ConvertFault) -> [Piece<'a>; 3]
     ensures { pieces_text result ≡ convert_fault_text fault }
 {
     match fault {
-        ConvertFault::BadPattern(fault) => alone(pattern_fault_bytes(fault)),
+        ConvertFault::BadPattern(fault) => padded_text(pattern_fault_bytes(fault)),
         ConvertFault::BadRule(fault) => [
             Piece::Text(b"bad rule: "),
             Piece::Text(rule_fault_bytes(fault)),
             NOTHING,
         ],
-        ConvertFault::StateTooLarge => alone(b"state too large"),
-        ConvertFault::TooManyCells => alone(b"too many cells"),
-        ConvertFault::Memory => alone(b"memory"),
+        ConvertFault::StateTooLarge => padded_text(b"state too large"),
+        ConvertFault::TooManyCells => padded_text(b"too many cells"),
+        ConvertFault::Memory => padded_text(b"memory"),
     }
 }
 
@@ -130,8 +130,8 @@ pub fn complain<W: Write>(fault: &Fault, path: &[u8], device: &mut Dev<W>) -> Re
     send_pieces(device, &complaint_pieces(fault, path))
 }
 
-/// Writes the line that tells the fault, after the path of the file that was read. So the line shows which of several
-/// files has the fault.
+/// Writes the line that tells the fault, after the path of the file that was read. So the line shows which of
+/// several files has the fault.
 ///
 /// It takes no memory. After a failure some first part of the line was written, but not all of it.
 pub fn complain_of<W: Write>(

@@ -18,8 +18,8 @@ pub enum InputFault {
     Memory,
 }
 
-/// Why a run ended without its whole text being written: the first of these that holds, but that `Memory` may come
-/// before any other. On all but `Write` nothing was written.
+/// Why a run ended without its whole text being written: the first of these that holds, but that `Memory` may
+/// come before any other. On all but `Write` nothing was written.
 #[derive(Clone, Copy, Debug, PartialEq, Eq, Error)]
 pub enum ToolFault {
     /// The file was not read.

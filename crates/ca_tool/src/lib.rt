@@ -8,7 +8,7 @@ mod pieces;
 mod printing;
 mod read;
 mod run;
-mod shown;
+mod summary;
 mod telling;
 mod texts;
 

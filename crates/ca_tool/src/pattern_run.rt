@@ -10,15 +10,15 @@ ghost use Rattle.ca_tool.specs.inner.Refusals.{TellsTable, TellsConvert, IsReadi
 
 use crate::fault::ToolFault;
 use crate::read::read_all;
-use crate::shown::summary_lines;
+use crate::summary::summary_lines;
 use ca_claims::{ConvertFault, Target, convert, summary};
 use ca_plane::{Dev, send};
 use ca_rule::{Table, TableFault};
 use std::alloc::Global;
 use std::io::{Read, Write};
 
-/// Reads a pattern file and writes the five lines that are shown of it, under the table of the rule file, if there is one.
-/// It answers the exit status 0.
+/// Reads a pattern file and writes the five lines that are shown of it, under the table of the rule file, if
+/// there is one. It answers the exit status 0.
 ///
 /// The file is read whole before the table is judged, and nothing is written before all is judged.
 pub fn show_run<R: Read, W: Write>(
@@ -27,20 +27,21 @@ pub fn show_run<R: Read, W: Write>(
     table: Option<&[u8]>,
     output: &mut Dev<W>,
 ) -> Result<u8, ToolFault>
-    // The lines of a true summary are written, or a first part of them and then a write fails, or none for another fault.
+    // The lines of a true summary are written, or a first part of them and then a write fails, or none for
+    // another fault.
     ensures runs { RunsOver R.remaining W.contents input.old input.new (option_copied table.entry)
         output.old output.new IsShown IsSummaryFault result }
 {
     let (bytes, table) = read_and_parse(alloc, input, table)?;
-    let text = match shown(alloc, &bytes, tables_of(&table)) {
+    let text = match file_summary(alloc, &bytes, tables_of(&table)) {
         Ok(text) => text,
         Err(fault) => return Err(convert_refusal(fault)),
     };
     write(output, &text)
 }
 
-/// Reads a pattern file and writes the file of the target's format that it is converted to, under the table of the rule
-/// file, if there is one. It answers the exit status 0.
+/// Reads a pattern file and writes the file of the target's format that it is converted to, under the table
+/// of the rule file, if there is one. It answers the exit status 0.
 ///
 /// The file is read whole before the table is judged, and nothing is written before all is judged.
 pub fn convert_run<R: Read, W: Write>(
@@ -50,7 +51,8 @@ pub fn convert_run<R: Read, W: Write>(
     table: Option<&[u8]>,
     output: &mut Dev<W>,
 ) -> Result<u8, ToolFault>
-    // What it is converted to is written, or a first part of that and then a write fails, or nothing for another fault.
+    // What it is converted to is written, or a first part of that and then a write fails, or nothing for
+    // another fault.
     ensures runs { RunsOver R.remaining W.contents input.old input.new (option_copied table.entry)
         output.old output.new (λ bytes tables text. IsConverted bytes tables target text)
         (λ bytes tables fault. IsConvertFault bytes tables target fault) result }
@@ -69,9 +71,11 @@ fn read_and_parse<R: Read>(
     input: &mut Dev<R>,
     rule: Option<&[u8]>,
 ) -> Result<(Vec<u8>, Option<Table>), ToolFault>
-    ensures read { IfOk result (λ r. ReadsAll (R.remaining input.old.inner) (R.remaining input.new.inner) r.0.items) }
+    ensures read { IfOk result (λ r.
+        ReadsAll (R.remaining input.old.inner) (R.remaining input.new.inner) r.0.items) }
     ensures known { IfOk result (λ r. AreKnown (option_copied rule.entry) (option_to_list r.1)) }
-    ensures fault { IfErr result (IsReadingFault (R.remaining input.old.inner) (R.remaining input.new.inner) (option_copied rule.entry)) }
+    ensures fault { IfErr result (IsReadingFault (R.remaining input.old.inner) (R.remaining input.new.inner)
+        (option_copied rule.entry)) }
     ensures takes { TakesFile R.remaining input.old input.new (ToolFault.Input inputs.Read) result }
 {
     let bytes = match read_all(alloc, input) {
@@ -122,8 +126,8 @@ fn convert_refusal(fault: ConvertFault) -> ToolFault
     }
 }
 
-// What is shown of a pattern file.
-fn shown(alloc: Global, bytes: &[u8], tables: &[Table]) -> Result<Vec<u8>, ConvertFault>
+// The lines of a summary of a pattern file.
+fn file_summary(alloc: Global, bytes: &[u8], tables: &[Table]) -> Result<Vec<u8>, ConvertFault>
     ensures shown { IfOk result (λ text. IsShown bytes.now tables.now text.items) }
     ensures fault { IfErr result (IsSummaryFault bytes.now tables.now) }
 {

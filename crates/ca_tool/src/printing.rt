@@ -2,7 +2,7 @@
 
 ghost use Rattle.std.specs.Prelude.{◌≡◌, ◌≢◌, ◌++◌, List, ◌∷◌, [], IfOk, OnErr};
 ghost use Rattle.std.specs.List.{list_any};
-ghost use Rattle.ca_claims.specs.declared.verdict.Answer.{Answer as GivenAnswer};
+ghost use Rattle.ca_claims.specs.declared.verdict.Answer.{Answer as AnswerValue};
 ghost use Rattle.ca_claims.specs.declared.verdict.Verdict.TheVariants.{No, Refused};
 ghost use Rattle.ca_tool.specs.Printed.{return_text, why_text, table_fault_text, cause_text, verdict_text, line_of, lines_of, status_of, is_refusal, is_no};
 ghost use Rattle.ca_tool.specs.inner.Pieces.{pieces_text};
@@ -15,7 +15,7 @@ use ca_rule::TableFault;
 use std::alloc::Global;
 
 // A text in two pieces, of which the second is empty.
-fn alone<'a>(text: &'a [u8]) -> [Piece<'a>; 2]
+fn padded_text<'a>(text: &'a [u8]) -> [Piece<'a>; 2]
     ensures { pieces_text result ≡ text.now }
 {
     [Piece::Text(text), NOTHING]
@@ -53,7 +53,7 @@ fn table_fault_pieces<'a>(fault: TableFault) -> [Piece<'a>; 2]
     ensures { pieces_text result ≡ table_fault_text fault }
 {
     if let TableFault::Memory = fault {
-        return alone(b"memory");
+        return padded_text(b"memory");
     }
     [Piece::Text(b"bad table:"), Piece::Text(table_kind(fault))]
 }
@@ -62,17 +62,17 @@ fn cause_pieces<'a>(cause: Cause) -> [Piece<'a>; 2]
     ensures { pieces_text result ≡ cause_text cause }
 {
     match cause {
-        Cause::NoFile => alone(b"no file"),
+        Cause::NoFile => padded_text(b"no file"),
         Cause::BadTable(fault) => table_fault_pieces(fault),
-        Cause::BadPattern(fault) => alone(pattern_fault_bytes(fault)),
+        Cause::BadPattern(fault) => padded_text(pattern_fault_bytes(fault)),
         Cause::BadRule(fault) => [
             Piece::Text(b"bad rule: "),
             Piece::Text(rule_fault_bytes(fault)),
         ],
-        Cause::StateTooLarge => alone(b"state too large"),
-        Cause::MixedRules => alone(b"mixed rules"),
-        Cause::TooManyCells => alone(b"too many cells"),
-        Cause::Memory => alone(b"memory"),
+        Cause::StateTooLarge => padded_text(b"state too large"),
+        Cause::MixedRules => padded_text(b"mixed rules"),
+        Cause::TooManyCells => padded_text(b"too many cells"),
+        Cause::Memory => padded_text(b"memory"),
     }
 }
 
@@ -184,8 +184,9 @@ pub fn status(answers: &[Answer]) -> u8
 }
 
 /// The exit status of some answers and one more, `code` being that of the others.
-pub(crate) fn worse(code: u8, answer: Answer) -> u8
-    ensures { (answers : List GivenAnswer) → code ≡ status_of answers → result ≡ status_of (answers ++ answer ∷ []) }
+pub(crate) fn worse_status(code: u8, answer: Answer) -> u8
+    ensures { (answers : List AnswerValue) → code ≡ status_of answers
+        → result ≡ status_of (answers ++ answer ∷ []) }
 {
     code.max(status(&[answer]))
 }

@@ -13,15 +13,20 @@ pub const MAX_FILE: usize = 67_108_864;
 
 const PIECE: usize = 8192;
 
-/// All bytes that the reader gives up to its end. A read that fails ends the call, and nothing is tried again.
+/// All bytes that the reader gives up to its end. A read that fails ends the call, and nothing is tried
+/// again.
 ///
-/// Each read but the last gives a byte or more, and the call ends once more bytes came than a file may have. The last
-/// read asks for one byte more than a file may still have, so at most one byte too many is taken. Their number is judged
-/// before room is made for them, so that memory runs out only over bytes that a file may have.
+/// Each read but the last gives a byte or more, and the call ends once more bytes came than a file may have.
+/// The last read asks for one byte more than a file may still have, so at most one byte too many is taken.
+/// Their number is judged before room is made for them, so that memory runs out only over bytes that a file
+/// may have.
 pub fn read_all<R: Read>(alloc: Global, device: &mut Dev<R>) -> Result<Vec<u8>, InputFault>
-    ensures found { IfOk result (λ v. ReadsAll (R.remaining device.old.inner) (R.remaining device.new.inner) v.items) }
-    ensures too_long { IsErrOf result InputFault.TooLong → GivesTooMany (R.remaining device.old.inner) (R.remaining device.new.inner) }
-    ensures memory { IsErrOf result InputFault.Memory → GivesSome (R.remaining device.old.inner) (R.remaining device.new.inner) }
+    ensures found { IfOk result (λ v.
+        ReadsAll (R.remaining device.old.inner) (R.remaining device.new.inner) v.items) }
+    ensures too_long { IsErrOf result InputFault.TooLong
+        → GivesTooMany (R.remaining device.old.inner) (R.remaining device.new.inner) }
+    ensures memory { IsErrOf result InputFault.Memory
+        → GivesSome (R.remaining device.old.inner) (R.remaining device.new.inner) }
     // A failed read is counted, and nothing else is.
     ensures takes { TakesFile R.remaining device.old device.new InputFault.Read result }
 {

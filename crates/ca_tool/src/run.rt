@@ -8,7 +8,7 @@ ghost use Rattle.ca_tool.specs.Runs.{all_claims, IsReport, NeedsMemory, WritesRe
 ghost use Rattle.ca_tool.specs.inner.Judged.{WereJudged, IsReportPart, WereAllJudged};
 
 use crate::fault::ToolFault;
-use crate::printing::worse;
+use crate::printing::worse_status;
 use crate::telling::{Finding, Telling, send_finding};
 use ca_claims::{Claims, File, Judge, Observer};
 use ca_plane::Dev;
@@ -22,12 +22,12 @@ const PLAIN: Telling<'static> = Telling {
     explained: false,
 };
 
-/// Judges each claim, in order, and writes the line of its answer before the next is judged. It answers the exit
-/// status: 2 where a claim is refused, else 1 where one is false, else 0.
+/// Judges each claim, in order, and writes the line of its answer before the next is judged. It answers the
+/// exit status: 2 where a claim is refused, else 1 where one is false, else 0.
 ///
 /// Where memory is refused to the list of the files or to the rule tables, nothing is written. A text without
-/// claims needs neither. After a failed write the other claims are judged all the same, so that there are answers to
-/// them, and nothing more is written.
+/// claims needs neither. After a failed write the other claims are judged all the same, and nothing more is
+/// written.
 pub fn verify_run<W: Write>(
     alloc: Global,
     claims: &Claims,
@@ -59,8 +59,8 @@ pub fn verify_told<W: Write>(
     verify_watched(alloc, claims, files, telling, device, &mut Unwatched)
 }
 
-/// Judges each claim, in order, while someone watches, and writes the lines for it before the next is judged. It
-/// answers the exit status: 2 where a claim is refused, else 1 where one is false, else 0.
+/// Judges each claim, in order, while someone watches, and writes the lines for it before the next is judged.
+/// It answers the exit status: 2 where a claim is refused, else 1 where one is false, else 0.
 ///
 /// Where memory is refused to the list of the files or to the rule tables, nothing is written. A text without
 /// claims needs neither. After a failed write no other claim is judged.
@@ -98,7 +98,7 @@ fn report_all<W: Write, O: Observer>(
         if send_finding(device, &mut text, telling, &finding).is_err() {
             return Err(ToolFault::Write);
         }
-        code = worse(code, finding.answer);
+        code = worse_status(code, finding.answer);
     }
     Ok(code)
 }

@@ -172,7 +172,8 @@ fn send_in_pieces<W: Write>(
     send_pieces(device, &second_pieces(telling, finding))
 }
 
-/// Writes the lines for a claim as one text, which is put together in `text`; where there is no memory for that, in pieces.
+/// Writes the lines for a claim as one text, which is put together in `text`; where there is no memory for
+/// that, in pieces.
 ///
 /// After a failure some first part of them was written, but not all of them.
 pub(crate) fn send_finding<W: Write>(

@@ -40,7 +40,8 @@ pub(crate) fn table_line(fault: TableFault) -> u64
 
 /// What is wrong with a rule table, after a space, where it isn't that memory is out.
 pub(crate) fn table_kind<'a>(fault: TableFault) -> &'a [u8]
-    ensures { (words : ℕ → List ℕ) → fault ≢ table_fault.Memory → table_text words fault ≡ words (table_line fault) ++ result.now }
+    ensures { (words : ℕ → List ℕ) → fault ≢ table_fault.Memory
+        → table_text words fault ≡ words (table_line fault) ++ result.now }
 {
     match fault {
         TableFault::NoRuleLine { .. } => b" no rule line",

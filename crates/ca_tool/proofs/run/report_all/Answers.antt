@@ -31,7 +31,7 @@ claims-preserved g c =
     record {
       reported = (
         text ++ finding_text c.args.telling.now c.in-Some.finding,
-        report_more _ _ _ c.args.telling.now c.in-Some.finding text _ _ so_far c.in-Some.ensures (c.worse-code.ensures (answers_of so_far.findings) so_far.status),
+        report_more _ _ _ c.args.telling.now c.in-Some.finding text _ _ so_far c.in-Some.ensures (c.worse_status-code.ensures (answers_of so_far.findings) so_far.status),
         sent_both _ _ _ text _ sent (search rules),
       );
       kept = search rules;

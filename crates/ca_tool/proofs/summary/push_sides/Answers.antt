@@ -1,7 +1,7 @@
 use Rattle.std.proofs.Common.{rules, w64}
 use Rattle.std.proofs.lemmas.Int.{to_z-of_z}
 use Rattle.ca_tool.proofs.After.{puts_then}
-use Rattle.ca_tool.proofs.shown.push_sides.Goals as goal
+use Rattle.ca_tool.proofs.summary.push_sides.Goals as goal
 
 pub returns : goal.returns
 returns c =

@@ -1,7 +1,7 @@
 use Rattle.std.proofs.Common.{◌∙◌, ◌∷◌, [], sym, ap, max}
 use Rattle.ca_tool.specs.Printed.{status_of}
 use Rattle.ca_tool.proofs.Statuses.{status_more}
-use Rattle.ca_tool.proofs.printing.worse.Goals as goal
+use Rattle.ca_tool.proofs.printing.worse_status.Goals as goal
 
 pub returns : goal.returns
 returns c = λ answers so_far.

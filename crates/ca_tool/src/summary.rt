@@ -88,7 +88,8 @@ fn push_corner(out: &mut Vec<u8>, bounds: Bounds) -> Result<(), Memory>
 }
 
 fn push_sides(out: &mut Vec<u8>, bounds: Bounds) -> Result<(), Memory>
-    ensures { OnOk result (Puts out.old.items out.new.items (pair_text (side bounds.x0 bounds.x1) (side bounds.y0 bounds.y1))) }
+    ensures { OnOk result (Puts out.old.items out.new.items
+        (pair_text (side bounds.x0 bounds.x1) (side bounds.y0 bounds.y1))) }
 {
     push_side(out, bounds.x0, bounds.x1)?;
     push_text(out, b" ")?;
