@@ -13,7 +13,7 @@ use std::rt::{Files, Stdin};
 
 /// A file that a claim text names, and that could be read.
 #[derive(Drop)]
-pub struct Loaded {
+pub struct LoadedFile {
     path: Vec<u8>,
     bytes: Vec<u8>,
 }
@@ -55,9 +55,12 @@ fn open<R: Files>(rt: &R, path: &str) -> Result<R::File, InputFault> {
     }
 }
 
-/// The files that a claim text needs and that can be read, in the order of its paths. No other file is opened. Fails where
-/// there is no memory for them, of a text that makes a claim.
-pub fn load_needed<R: Files + AllocGlobal>(rt: &R, claims: &Claims) -> Result<Vec<Loaded>, Memory>
+/// The files that a claim text needs and that can be read, in the order of its paths. No other file is
+/// opened. Fails where there is no memory for them, of a text that makes a claim.
+pub fn load_needed<R: Files + AllocGlobal>(
+    rt: &R,
+    claims: &Claims,
+) -> Result<Vec<LoadedFile>, Memory>
     ensures { OnErr result (claims.now.claims ≢ []) }
 {
     if claims.claim_count() == 0 {
@@ -67,21 +70,25 @@ pub fn load_needed<R: Files + AllocGlobal>(rt: &R, claims: &Claims) -> Result<Ve
     let mut all = Vec::new(rt.alloc());
     for index in 0..claims.path_count() {
         if needed.get(index) == Some(&true) {
-            load(rt, claims.path(index), &mut all)?;
+            add_file(rt, claims.path(index), &mut all)?;
         }
     }
     Ok(all)
 }
 
 // Adds the file of a path, if the path is UTF-8, and the file can be read and isn't too long.
-fn load<R: Files + AllocGlobal>(rt: &R, path: &[u8], all: &mut Vec<Loaded>) -> Result<(), Memory> {
+fn add_file<R: Files + AllocGlobal>(
+    rt: &R,
+    path: &[u8],
+    all: &mut Vec<LoadedFile>,
+) -> Result<(), Memory> {
     let Ok(text) = str::from_utf8(path) else {
         return Ok(());
     };
     match read_file(rt, text) {
         Ok(bytes) => {
             let path = Vec::from_slice(rt.alloc(), path)?;
-            all.push(Loaded { path, bytes })?;
+            all.push(LoadedFile { path, bytes })?;
             Ok(())
         }
         Err(InputFault::Memory) => Err(Memory),
@@ -90,9 +97,11 @@ fn load<R: Files + AllocGlobal>(rt: &R, path: &[u8], all: &mut Vec<Loaded>) -> R
 }
 
 /// The files as `verify` takes them. It takes memory only where there are some.
-pub fn views<'a>(alloc: Global, loaded: &'a [Loaded]) -> Result<Vec<File<'a>>, Memory>
-    ensures paths { IfOk result (λ views. map (λ f. f.path.now) views.items ≡ map (λ f. f.path.items) loaded.now) }
-    ensures bytes { IfOk result (λ views. map (λ f. f.bytes.now) views.items ≡ map (λ f. f.bytes.items) loaded.now) }
+pub fn views<'a>(alloc: Global, loaded: &'a [LoadedFile]) -> Result<Vec<File<'a>>, Memory>
+    ensures paths { IfOk result (λ views.
+        map (λ f. f.path.now) views.items ≡ map (λ f. f.path.items) loaded.now) }
+    ensures bytes { IfOk result (λ views.
+        map (λ f. f.bytes.now) views.items ≡ map (λ f. f.bytes.items) loaded.now) }
     ensures memory { OnErr result (loaded.now ≢ []) }
 {
     let mut views = Vec::new(alloc);

@@ -18,8 +18,8 @@ use std::rt::{Clock, Files};
 
 /// Judges the claim texts of these paths, one after another, and answers the greatest of their exit statuses.
 ///
-/// A text that can't be read or has a fault is reported on standard error, and the others are still judged. Nothing
-/// more is judged after a failed write.
+/// A text that can't be read or has a fault is reported on standard error, and the others are still judged.
+/// Nothing more is judged after a failed write.
 pub fn verify_files<R: Files + Clock + AllocGlobal>(
     rt: &R,
     paths: &[String],
@@ -37,7 +37,7 @@ pub fn verify_files<R: Files + Clock + AllocGlobal>(
                 return FAULT;
             }
             Err(fault) => {
-                tell(&fault, path, are_named, streams);
+                report_fault(&fault, path, are_named, streams);
                 greatest = FAULT;
             }
         }
@@ -45,7 +45,7 @@ pub fn verify_files<R: Files + Clock + AllocGlobal>(
     greatest
 }
 
-fn tell(fault: &Fault, path: &str, is_named: bool, streams: &mut Streams) {
+fn report_fault(fault: &Fault, path: &str, is_named: bool, streams: &mut Streams) {
     let _ = if is_named {
         complain_of(fault, path.as_bytes(), &mut streams.errors)
     } else {
@@ -63,7 +63,7 @@ fn verify_text<R: Files + Clock + AllocGlobal>(
 ) -> Result<u8, Fault> {
     let text = read_source(rt, path, streams.input).map_err(Fault::Input)?;
     let claims = read_claims(rt.alloc(), &text).map_err(Fault::Claims)?;
-    let Ok(before) = before_lines(rt.alloc(), path, is_named) else {
+    let Ok(before) = line_prefix(rt.alloc(), path, is_named) else {
         return Err(Fault::Input(InputFault::Memory));
     };
     let telling = Telling {
@@ -74,7 +74,7 @@ fn verify_text<R: Files + Clock + AllocGlobal>(
 }
 
 // What stands before each line: the path of the text, where it is named.
-fn before_lines(alloc: Global, path: &str, is_named: bool) -> Result<Vec<u8>, Memory>
+fn line_prefix(alloc: Global, path: &str, is_named: bool) -> Result<Vec<u8>, Memory>
     ensures text { IfOk result (λ text. text.items ≡ (if is_named then path.now ++ codes ": " else [])) }
     ensures memory { OnErr result (IsTrue is_named) }
 {
@@ -103,8 +103,8 @@ fn judge<R: Files + Clock + AllocGlobal>(
     let is_watched = progress || streams.errors.inner().is_terminal();
     let output = &mut streams.output;
     let result = if is_watched {
-        let mut shown = Progress::new(rt, &mut streams.errors, telling.before);
-        verify_watched(rt.alloc(), claims, &files, telling, output, &mut shown)
+        let mut observer = Progress::new(rt, &mut streams.errors, telling.before);
+        verify_watched(rt.alloc(), claims, &files, telling, output, &mut observer)
     } else {
         verify_told(rt.alloc(), claims, &files, telling, output)
     };

@@ -19,7 +19,7 @@ pub fn show_file<R: Files + AllocGlobal>(
         return FAULT;
     };
     let run = show_run(rt.alloc(), &mut file, bytes_of(&rule), &mut streams.output);
-    ended(run, path, &mut streams.errors)
+    exit_status(run, path, &mut streams.errors)
 }
 
 /// Writes the pattern file of a path in the target's format, and answers the exit status.
@@ -40,10 +40,11 @@ pub fn convert_file<R: Files + AllocGlobal>(
         bytes_of(&rule),
         &mut streams.output,
     );
-    ended(run, path, &mut streams.errors)
+    exit_status(run, path, &mut streams.errors)
 }
 
-// Opens the pattern file and reads the rule file, if one is named. Where one of them fails, it tells which, and gives nothing.
+// Opens the pattern file and reads the rule file, if one is named. Where one of them fails, that is reported,
+// and there is nothing to run on.
 fn open<R: Files + AllocGlobal>(
     rt: &R,
     path: &str,
@@ -53,7 +54,7 @@ fn open<R: Files + AllocGlobal>(
     let file = match open_source(rt, path, streams.input) {
         Ok(file) => file,
         Err(fault) => {
-            tell(fault, path, &mut streams.errors);
+            report_fault(fault, path, &mut streams.errors);
             return None;
         }
     };
@@ -63,13 +64,13 @@ fn open<R: Files + AllocGlobal>(
     match read_file(rt, rule_path) {
         Ok(bytes) => Some((file, Some(bytes))),
         Err(fault) => {
-            tell(fault, rule_path, &mut streams.errors);
+            report_fault(fault, rule_path, &mut streams.errors);
             None
         }
     }
 }
 
-fn tell(fault: InputFault, path: &str, errors: &mut Dev<Stderr>) {
+fn report_fault(fault: InputFault, path: &str, errors: &mut Dev<Stderr>) {
     let _ = complain(&Fault::Input(fault), path.as_bytes(), errors);
 }
 
@@ -80,8 +81,8 @@ fn bytes_of(file: &Option<Vec<u8>>) -> Option<&[u8]> {
     }
 }
 
-// The exit status of a run, whose fault is printed.
-fn ended(run: Result<u8, ToolFault>, path: &str, errors: &mut Dev<Stderr>) -> u8 {
+// The exit status of a run, whose fault is reported.
+fn exit_status(run: Result<u8, ToolFault>, path: &str, errors: &mut Dev<Stderr>) -> u8 {
     match run {
         Ok(status) => status,
         Err(fault) => {

@@ -10,33 +10,35 @@ use std::time::Instant;
 /// Goes back to the line's begin, and erases the line.
 const WIPE: &[u8] = b"\r\x1b[K";
 
-/// Shows which claim is judged and how far it is, once it has taken a second, and wipes that when the claim is judged.
+/// Shows which claim is judged and how far it is, once it has taken a second, and wipes that when the claim
+/// is judged.
 #[derive(Drop)]
 pub struct Progress<'a, R> {
     rt: &'a R,
     errors: &'a mut Dev<Stderr>,
-    before: &'a [u8],
+    prefix: &'a [u8],
     line: u64,
     goal: u64,
-    began: Option<Instant>,
+    start: Option<Instant>,
     is_shown: bool,
 }
 
 impl<'a, R: Clock + AllocGlobal> Progress<'a, R> {
     /// Nothing is shown yet. What stands before a verdict's line stands before this one too.
-    pub fn new(rt: &'a R, errors: &'a mut Dev<Stderr>, before: &'a [u8]) -> Progress<'a, R> {
+    pub fn new(rt: &'a R, errors: &'a mut Dev<Stderr>, prefix: &'a [u8]) -> Progress<'a, R> {
         Progress {
             rt,
             errors,
-            before,
+            prefix,
             line: 0,
             goal: 0,
-            began: None,
+            start: None,
             is_shown: false,
         }
     }
 
-    // Shows how many generations are reached, where the claim has taken a second. Out of memory shows nothing.
+    // Shows how many generations are reached, where the claim has taken a second. Out of memory shows
+    // nothing.
     fn show(&mut self, generations: u64) {
         if !self.is_long() {
             return;
@@ -49,10 +51,10 @@ impl<'a, R: Clock + AllocGlobal> Progress<'a, R> {
 
     // A clock that can't be read tells no time.
     fn is_long(&self) -> bool {
-        let Some(began) = self.began else {
+        let Some(start) = self.start else {
             return false;
         };
-        match began.elapsed(self.rt) {
+        match start.elapsed(self.rt) {
             Ok(time) => time.as_secs() > 0,
             Err(_) => false,
         }
@@ -61,7 +63,7 @@ impl<'a, R: Clock + AllocGlobal> Progress<'a, R> {
     fn text(&self, generations: u64) -> Result<Vec<u8>, Memory> {
         let mut text = Vec::new(self.rt.alloc());
         push_text(&mut text, WIPE)?;
-        push_text(&mut text, self.before)?;
+        push_text(&mut text, self.prefix)?;
         push_text(&mut text, b"line ")?;
         push_number(&mut text, self.line)?;
         push_text(&mut text, b": ")?;
@@ -89,7 +91,7 @@ impl<R: Clock + AllocGlobal> Watch for Progress<'_, R> {
 impl<R: Clock + AllocGlobal> Observer for Progress<'_, R> {
     fn begins(&mut self, line: u64) {
         self.line = line;
-        self.began = Instant::now(self.rt).ok();
+        self.start = Instant::now(self.rt).ok();
     }
 
     fn goes_to(&mut self, generations: u64) {

@@ -16,7 +16,8 @@ pub enum Request {
         path: String,
         rule: Option<String>,
     },
-    /// The pattern file at this path in the target's format, with the table of the rule file, if one is named.
+    /// The pattern file at this path in the target's format, with the table of the rule file, if one is
+    /// named.
     Convert {
         path: String,
         target: Target,
@@ -45,27 +46,28 @@ pub struct Extras {
 /// Why the words ask for nothing.
 #[derive(Drop)]
 pub enum WordsFault {
-    /// They aren't UTF-8. (That they hold no command, or lack one of its words, can't come, since clap asks for those.)
+    /// They aren't UTF-8. (That they hold no command, or lack one of its words, can't come, since clap asks
+    /// for those.)
     Usage,
     /// They fit no command, for the reason that this text gives.
-    Told { text: String },
+    Misfit { text: String },
     /// A growth was refused.
     Memory,
 }
 
 /// What the words after the program's name ask for.
 pub fn read_words<R: Env + AllocGlobal>(rt: &R) -> Result<Request, WordsFault> {
-    let words = given(rt)?;
+    let words = program_words(rt)?;
     let Ok(command) = command(rt.alloc()) else {
         return Err(WordsFault::Memory);
     };
     match command.try_get_matches_from(words.as_slice()) {
-        Ok(matches) => asked(rt.alloc(), &matches),
-        Err(error) => told(rt.alloc(), &error),
+        Ok(matches) => request_of(rt.alloc(), &matches),
+        Err(error) => help_or_fault(rt.alloc(), &error),
     }
 }
 
-fn given<R: Env + AllocGlobal>(rt: &R) -> Result<Vec<String>, WordsFault> {
+fn program_words<R: Env + AllocGlobal>(rt: &R) -> Result<Vec<String>, WordsFault> {
     let words = match env::args(rt) {
         Ok(words) => words,
         Err(error) if error.kind() == io::ErrorKind::OutOfMemory => return Err(WordsFault::Memory),
@@ -171,7 +173,7 @@ fn progress_word<'a>(alloc: Global) -> Arg<'a> {
 }
 
 // The command and its words are required, so that clap finds them wherever it finds no fault.
-fn asked(alloc: Global, matches: &ArgMatches<'_>) -> Result<Request, WordsFault> {
+fn request_of(alloc: Global, matches: &ArgMatches<'_>) -> Result<Request, WordsFault> {
     if let Some(words) = matches.subcommand_matches("show") {
         let path = word_of(alloc, words, "FILE")?;
         let rule = rule_of(alloc, words)?;
@@ -198,23 +200,23 @@ fn word_of(alloc: Global, words: &ArgMatches<'_>, name: &str) -> Result<String, 
     let Some(word) = words.get_str(name) else {
         return Err(WordsFault::Usage);
     };
-    kept(alloc, word)
+    copy_word(alloc, word)
 }
 
 fn words_of(alloc: Global, words: &ArgMatches<'_>, name: &str) -> Result<Vec<String>, WordsFault> {
-    let Some(given) = words.get_strs(name) else {
+    let Some(values) = words.get_strs(name) else {
         return Err(WordsFault::Usage);
     };
     let mut all = Vec::new(alloc);
-    'given: for word in given {
-        if all.push(kept(alloc, word)?).is_err() {
+    'values: for word in values {
+        if all.push(copy_word(alloc, word)?).is_err() {
             return Err(WordsFault::Memory);
         }
     }
     Ok(all)
 }
 
-fn kept(alloc: Global, word: &str) -> Result<String, WordsFault> {
+fn copy_word(alloc: Global, word: &str) -> Result<String, WordsFault> {
     let Ok(text) = String::from_str(alloc, word) else {
         return Err(WordsFault::Memory);
     };
@@ -238,7 +240,7 @@ fn target_of(words: &ArgMatches<'_>) -> Result<Target, WordsFault> {
 }
 
 // Help and version come from clap as errors too.
-fn told(alloc: Global, error: &Error) -> Result<Request, WordsFault> {
+fn help_or_fault(alloc: Global, error: &Error) -> Result<Request, WordsFault> {
     if error.kind() == ErrorKind::OutOfMemory {
         return Err(WordsFault::Memory);
     }
@@ -246,7 +248,7 @@ fn told(alloc: Global, error: &Error) -> Result<Request, WordsFault> {
         return Err(WordsFault::Memory);
     };
     if error.use_stderr() {
-        return Err(WordsFault::Told { text });
+        return Err(WordsFault::Misfit { text });
     }
     Ok(Request::Help { text })
 }
