@@ -92,7 +92,8 @@ powers_fit l j k some low time =
 
 -- the centre of a tree with a wide empty margin is the tree 2 ^ j generations later
 pub leap_cells : (next : List ℕ → ℕ) → next (replicate 9 0) ≡ 0 → (s0 s1 s2 : List Node) → IsSound s1 → Grows s1 s2 → (tree wide half : Tree) (k j root : ℕ) → 1 ≤ tree.level → tree.level ≤ k → j + 1 ≤ k
-    → IsPadded s0 tree (suc (suc k)) s1 wide → IsCentre next s2 wide.root k j root → half.root ≡ root → half.level ≡ suc k
+    → IsPadded s0 tree (suc (suc k)) s1 wide → IsCentre next s2 wide.root k j root
+    → half.root ≡ root → half.level ≡ suc k
     → (x y : ℤ) → cell s2 half x y ≡ cells_after next (cell s0 tree) (2 ^ j) x y
 leap_cells next quiet s0 s1 s2 sound grows tree wide half k j root some low time padded is_centre e f x y =
     let level = padded.has_level in
@@ -129,7 +130,8 @@ tree_stays old new sound grows tree h x y =
     ap (λ f. from_corner f (x +ℤ pos (2 ^ (tree.level - 1))) (y +ℤ pos (2 ^ (tree.level - 1)))) (cells_stay old new sound grows tree.level tree.root h)
 
 -- two trees that are made wider one after the other keep their cells
-pub both_padded : (s0 s1 s2 : List Node) → IsSound s0 → Grows s0 s1 → Grows s1 s2 → (a b wide_a wide_b : Tree) (level : ℕ)
+pub both_padded : (s0 s1 s2 : List Node) → IsSound s0 → Grows s0 s1 → Grows s1 s2
+    → (a b wide_a wide_b : Tree) (level : ℕ)
     → IsPadded s0 a level s1 wide_a → IsTree s0 b → IsPadded s1 b level s2 wide_b
     → ((x y : ℤ) → cell s2 wide_a x y ≡ cell s0 a x y) × ((x y : ℤ) → cell s2 wide_b x y ≡ cell s0 b x y)
 both_padded s0 s1 s2 sound grows more a b wide_a wide_b level padded_a is_b padded_b = (

@@ -79,7 +79,8 @@ impl<A: Automaton> Leaper<A> {
         requires tree { IsTree self.old.nodes tree }
         requires level { tree.level ≤ 123 }
         requires time { j ≤ 60 }
-        ensures advanced { IfOk result (IsAdvanced (A.next_of self.old.rule) self.old.nodes tree (2 ^ j) self.new.nodes) }
+        ensures advanced { IfOk result
+            (IsAdvanced (A.next_of self.old.rule) self.old.nodes tree (2 ^ j) self.new.nodes) }
         ensures level { IfOk result (λ t. t.level ≡ max tree.level (j + 1) + 1) }
         ensures goes_on { GoesOn A self.old self.new }
     {
