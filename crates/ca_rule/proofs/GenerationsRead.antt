@@ -1,7 +1,8 @@
 -- What is read from a text of the family Generations is what it spells, and nothing else.
-use Rattle.std.proofs.Common.{◌≡◌, ◌↔◌, ◌&&◌, ℕ, List, [], ◌∷◌, ◌++◌, true, false, nat_le, length, Some, None, option_map, option_and_then, if◌then◌else◌, refl, ap, sym, subst, ◌∙◌, append-nil}
-use Rattle.std.specs.List.{list_all}
+use Rattle.std.proofs.Common.{◌≡◌, ◌↔◌, ◌&&◌, ℕ, List, [], ◌∷◌, ◌++◌, Bool, true, false, not, nat_le, length, get_or, Option, Some, None, is_some, option_map, option_and_then, if◌then◌else◌, refl, ap, sym, subst, ◌∙◌, append-nil}
+use Rattle.std.specs.List.{list_all, All}
 use Rattle.std.proofs.lemmas.Bool.{and_parts, and_from, false≢true}
+use Rattle.std.proofs.lemmas.List.Sums.{AllPass-from_list_all}
 use Rattle.std.proofs.lemmas.Option.{same_Some, none-some}
 use Rattle.ca_plane.specs.Bytes.{Every, is_digit, value}
 use Rattle.ca_plane.proofs.Fronts.{every_append, every_right}
@@ -48,6 +49,28 @@ read-spelled text p e =
 -- a text of which nothing is read spells no rule
 pub none-spelled : (text : List ℕ) → parts_in text ≡ None → SpellsNone text
 none-spelled text none s b n h = none-some (s, b, n) (sym none ∙ spelled-read text s b n h)
+
+-- so it is unknown, if it has no `:`
+unread : (colon : Bool) (parts : Option Parts) → (not colon && not (is_some parts)) ≡ true → (colon ≡ false) × (parts ≡ None)
+unread false None e = (refl, refl)
+unread false (Some p) e = absurd (false≢true e)
+unread true parts e = absurd (false≢true e)
+
+pub all_unknown : (texts : List (List ℕ)) → list_all (λ text. not (bs.has_colon text) && not (is_some (parts_in text))) texts ≡ true → All (λ text. IsFaultOf text Unknown) texts
+all_unknown texts e k d low =
+    let text = get_or texts k d in
+    let none = unread (bs.has_colon text) (parts_in text) (AllPass-from_list_all _ texts e k d low) in (none.0, none-spelled text none.1)
+
+-- a rule of the counts and states that are read is named
+pub read-named : (text : List ℕ) (p : Parts) (rule : GenRule) → parts_in text ≡ Some p → has_digit p.1 0 ≡ false → rule.survival ≡ counts_of p.0 → rule.birth ≡ counts_of p.1 → rule.states ≡ p.2 → Names text rule
+read-named text p rule read empty s b n = record {
+  survival = p.0;
+  birth = p.1;
+  spells = subst (Spells text p.0 p.1) (sym n) (read-spelled text p read);
+  stays_empty = empty;
+  survival_is = s;
+  birth_is = b;
+}
 
 -- a text spells one rule at most
 pub spelled-once : (text s b u v : List ℕ) (n m : ℕ) → Spells text s b n → Spells text u v m → (s ≡ u) × (b ≡ v) × (n ≡ m)

@@ -41,20 +41,15 @@ pub fn worked_generations()
     ensures most_states_are_printed { printed (counts_of (codes "23")) (counts_of (codes "3")) 256 ≡ codes "23/3/256" }
 {}
 
-/// Some texts that name no rule.
+/// Some texts that name no rule: one wakes the empty plane, one is of a torus. Of the others some have too few or too many
+/// states, or no number of states; some have a count above 8, with birth on 0 or without; and some have a letter, a blank,
+/// or other slashes.
 pub fn worked_generations_faults()
-    ensures birth_on_none_wakes { IsFaultOf (codes "2/0/3") Wakes }
-    ensures torus_is_bounded { IsFaultOf (codes "/2/3:T30,20") Bounded }
-    ensures one_state_is_unknown { IsFaultOf (codes "2/3/1") Unknown }
-    ensures states_above_256_are_unknown { IsFaultOf (codes "2/3/257") Unknown }
-    ensures large_numbers_are_unknown { IsFaultOf (codes "2/3/4294967298") Unknown }
-    ensures no_number_is_unknown { IsFaultOf (codes "2/3/") Unknown }
-    ensures nine_neighbours_are_unknown { IsFaultOf (codes "9/3/3") Unknown }
-    ensures unknown_even_with_birth_on_none { IsFaultOf (codes "9/0/3") Unknown }
-    ensures letters_are_unknown { IsFaultOf (codes "S2/B3/3") Unknown }
-    ensures blanks_are_unknown { IsFaultOf (codes "2/3/ 3") Unknown }
-    ensures three_slashes_are_unknown { IsFaultOf (codes "2/3/3/") Unknown }
-    ensures life_is_unknown { IsFaultOf (codes "23/3") Unknown }
+    ensures wakes { IsFaultOf (codes "2/0/3") Wakes }
+    ensures bounded { IsFaultOf (codes "/2/3:T30,20") Bounded }
+    ensures unknown { All (λ text. IsFaultOf text Unknown) (
+        codes "2/3/1" ∷ codes "2/3/257" ∷ codes "2/3/4294967298" ∷ codes "2/3/" ∷ codes "9/3/3" ∷ codes "9/0/3"
+        ∷ codes "S2/B3/3" ∷ codes "2/3/ 3" ∷ codes "2/3/3/" ∷ codes "23/3" ∷ []) }
 {}
 
 /// Some cells under Brian's Brain, Star Wars, and Life written with two states.

@@ -1,9 +1,8 @@
-use Rattle.std.proofs.Common.{codes, refl, sym, subst, inl, inr, []}
+use Rattle.std.proofs.Common.{codes, refl, inl, inr, []}
 use Rattle.ca_rule.specs.Spelling.{SpellsNone}
 use Rattle.ca_rule.specs.declared.hood.Hood.TheVariants.{Moore}
-use Rattle.ca_rule.specs.GenerationsText.{Spells}
 use Rattle.ca_rule.proofs.Formed.{spells-no_lists, spells-birth}
-use Rattle.ca_rule.proofs.GenerationsRead.{read-spelled, none-spelled as generations-none}
+use Rattle.ca_rule.proofs.GenerationsRead.{read-spelled, read-named, none-spelled as generations-none}
 use Rattle.ca_rule.proofs.rule_laws.worked_names.Goals as goal
 
 -- the name is no spelling of a B/S rule
@@ -43,17 +42,7 @@ returns-clause-waking_rule_is_no_table c =
     inl (refl, codes "03", codes "23", Moore, record { birth_digits = refl; survival_digits = refl; form = inl (98, 115, [], [], inr refl, inr refl, inl refl, refl, refl) }, refl)
 
 pub returns-clause-brians_brain_is_no_table : goal.returns-clause-brians_brain_is_no_table
-returns-clause-brians_brain_is_no_table c = λ rule survival birth states. (
-  refl,
-  record {
-    survival = [];
-    birth = codes "2";
-    spells = subst (Spells (codes "/2/3") [] (codes "2")) (sym states) (read-spelled (codes "/2/3") ([], codes "2", 3) refl);
-    stays_empty = refl;
-    survival_is = survival;
-    birth_is = birth;
-  },
-)
+returns-clause-brians_brain_is_no_table c = λ rule survival birth states. (refl, read-named (codes "/2/3") ([], codes "2", 3) rule refl refl survival birth states)
 
 pub returns-clause-waking_generations_are_no_table : goal.returns-clause-waking_generations_are_no_table
 returns-clause-waking_generations_are_no_table c = inr (refl, codes "2", codes "0", 3, read-spelled (codes "2/0/3") (codes "2", codes "0", 3) refl, refl)

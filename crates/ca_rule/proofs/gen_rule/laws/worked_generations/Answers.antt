@@ -1,18 +1,10 @@
-use Rattle.std.proofs.Common.{◌++◌, [], codes, refl, ap, sym, subst, ◌∙◌, arith}
+use Rattle.std.proofs.Common.{◌++◌, [], codes, refl, ap, ◌∙◌, arith}
 use Rattle.std.proofs.lemmas.Fmt.{decimal_digit, decimal_step}
-use Rattle.ca_rule.specs.GenerationsText.{Spells}
-use Rattle.ca_rule.proofs.GenerationsRead.{read-spelled}
+use Rattle.ca_rule.proofs.GenerationsRead.{read-named}
 use Rattle.ca_rule.proofs.gen_rule.laws.worked_generations.Goals as goal
 
 pub returns-clause-brians_brain_is_named : goal.returns-clause-brians_brain_is_named
-returns-clause-brians_brain_is_named c = λ rule survival birth states. record {
-  survival = [];
-  birth = codes "2";
-  spells = subst (Spells (codes "/2/3") [] (codes "2")) (sym states) (read-spelled (codes "/2/3") ([], codes "2", 3) refl);
-  stays_empty = refl;
-  survival_is = survival;
-  birth_is = birth;
-}
+returns-clause-brians_brain_is_named c = λ rule. read-named (codes "/2/3") ([], codes "2", 3) rule refl refl
 
 pub returns-clause-brians_brain_is_printed : goal.returns-clause-brians_brain_is_printed
 returns-clause-brians_brain_is_printed c = ap (λ ds. codes "/2/" ++ ds) (decimal_digit 3 (omega arith))
