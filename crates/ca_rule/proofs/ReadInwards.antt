@@ -97,6 +97,10 @@ record IsTakenApart (text body : List ℕ) (hood : Hood) : Type 0 where
 take_apart : (text body suffix : List ℕ) (hood : Hood) → text ≡ body ++ suffix → Every is_plain body → IsSuffix hood suffix → IsTakenApart text body hood
 take_apart text body suffix hood e h s = record { found = split text body suffix hood e h s; no_colon = no_colon text body suffix hood e h s }
 
+-- its lists are read from what it is without its suffix
+lists-read : (text body birth survival : List ℕ) (hood : Hood) → IsTakenApart text body hood → lists_of body ≡ Some (birth, survival) → IsRead text birth survival hood
+lists-read text body birth survival hood t lists = record { hood_is = t.found.hood_is; lists_are = ap lists_of t.found.body_is ∙ lists; no_colon = t.no_colon }
+
 split-lettered : (first second : ℕ) (text digits later : List ℕ) (hood : Hood) → (first ≡ 66) ⊎ (first ≡ 83) → (second ≡ 66) ⊎ (second ≡ 83) → Every is_digit digits → Every is_digit later
     → (f : IsLettered first second text digits later hood) → IsTakenApart text (f.0 ∷ (digits ++ (f.2 ++ (f.1 ∷ later)))) hood
 split-lettered first second text digits later hood i j h k f =
@@ -109,31 +113,19 @@ split-lettered first second text digits later hood i j h k f =
 
 read-birth_first : (text birth survival : List ℕ) (hood : Hood) → Every is_digit birth → Every is_digit survival → IsLettered 66 83 text birth survival hood → IsRead text birth survival hood
 read-birth_first text birth survival hood h k f =
-    let s = split-lettered 66 83 text birth survival hood (inl refl) (inr refl) h k f in
-    record {
-      hood_is = s.found.hood_is;
-      no_colon = s.no_colon;
-      lists_are = ap lists_of s.found.body_is ∙ lists-birth_first f.0 (birth ++ (f.2 ++ (f.1 ∷ survival))) f.4 ∙ around 83 f.1 birth f.2 survival (omega arith) h f.6 f.5;
-    }
+    lists-read text _ birth survival hood (split-lettered 66 83 text birth survival hood (inl refl) (inr refl) h k f)
+    (lists-birth_first f.0 (birth ++ (f.2 ++ (f.1 ∷ survival))) f.4 ∙ around 83 f.1 birth f.2 survival (omega arith) h f.6 f.5)
 
 read-survival_first : (text birth survival : List ℕ) (hood : Hood) → Every is_digit birth → Every is_digit survival → IsLettered 83 66 text survival birth hood → IsRead text birth survival hood
 read-survival_first text birth survival hood h k f =
-    let s = split-lettered 83 66 text survival birth hood (inr refl) (inl refl) k h f in
-    record {
-      hood_is = s.found.hood_is;
-      no_colon = s.no_colon;
-      lists_are = ap lists_of s.found.body_is ∙ lists-survival_first f.0 (survival ++ (f.2 ++ (f.1 ∷ birth))) f.4 ∙ ap swapped (around 66 f.1 survival f.2 birth (omega arith) k f.6 f.5);
-    }
+    lists-read text _ birth survival hood (split-lettered 83 66 text survival birth hood (inr refl) (inl refl) k h f)
+    (lists-survival_first f.0 (survival ++ (f.2 ++ (f.1 ∷ birth))) f.4 ∙ ap swapped (around 66 f.1 survival f.2 birth (omega arith) k f.6 f.5))
 
 read-unlettered : (text birth survival : List ℕ) (hood : Hood) → Every is_digit birth → Every is_digit survival → IsUnlettered text survival birth hood → IsRead text birth survival hood
 read-unlettered text birth survival hood h k f =
     let whole : text ≡ (survival ++ (47 ∷ birth)) ++ f.0 = f.2 ∙ simp append_assoc refl in
-    let s = take_apart text (survival ++ (47 ∷ birth)) f.0 hood whole (every_append is_plain survival _ (plain-digits survival k) (plain-digits birth h)) f.1 in
-    record {
-      hood_is = s.found.hood_is;
-      no_colon = s.no_colon;
-      lists_are = ap lists_of s.found.body_is ∙ lists-no_letter survival birth k ∙ ap swapped (around_slash survival birth k);
-    }
+    lists-read text _ birth survival hood (take_apart text (survival ++ (47 ∷ birth)) f.0 hood whole (every_append is_plain survival _ (plain-digits survival k) (plain-digits birth h)) f.1)
+    (lists-no_letter survival birth k ∙ ap swapped (around_slash survival birth k))
 
 -- a text that spells a rule is read as that rule
 pub read : (text birth survival : List ℕ) (hood : Hood) → Spells text birth survival hood → IsRead text birth survival hood
