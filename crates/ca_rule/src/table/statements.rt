@@ -1,12 +1,12 @@
 //! What the statements of a rule table say, one after another.
 
-ghost use Rattle.std.specs.Prelude.{◌≡◌, ◌≤◌, ◌∷◌, [], ◌++◌, ℕ, length, true, List, OnOk, IfErr};
+ghost use Rattle.std.specs.Prelude.{◌≡◌, ◌≤◌, ◌∷◌, [], ◌++◌, ℕ, true, List, OnOk, IfErr};
 ghost use Rattle.std.specs.List.{list_all, list_any, AllZip};
 ghost use Rattle.ca_rule.specs.declared.table.slot.Slot.{Slot as SlotValue};
 ghost use Rattle.ca_rule.specs.TableLines.{is_field, fields_between};
 ghost use Rattle.ca_rule.specs.TableNext.{is_variable};
 ghost use Rattle.ca_rule.specs.TableText.{Settings, Said, StandsFor, is_bound};
-ghost use Rattle.ca_rule.specs.inner.TableFields.{fields_left};
+ghost use Rattle.ca_rule.specs.inner.TableFields.{fields_left, AreTransitionFields};
 ghost use Rattle.ca_rule.specs.inner.TableNames.{number_in, IsFaultAmong, IsFaultOfTransition};
 ghost use Rattle.ca_rule.specs.inner.TableSettings.{meaning_of};
 
@@ -70,6 +70,7 @@ impl<'a> Statements<'a> {
         }
         Ok(())
     }
+
     /// The fields say one more transition, in a table with this many states.
     fn add_transition(
         &mut self,
@@ -78,9 +79,7 @@ impl<'a> Statements<'a> {
         fields: &FieldsLeft<'_>,
     ) -> Result<(), StatementFault>
         requires low { states ≤ 256 }
-        requires some { 1 ≤ length (fields_left fields.now) }
-        requires few { length (fields_left fields.now) ≤ 10 }
-        requires fields { list_all is_field (fields_left fields.now) ≡ true }
+        requires fields { AreTransitionFields (fields_left fields.now) }
         ensures said { OnOk result ((settings : Settings) (said : Said) → settings.states ≡ states → IsKept said self.old
             → (inputs : List SlotValue) × (becomes : SlotValue) × AllZip (StandsFor settings said) (fields_left fields.now) (inputs ++ becomes ∷ []) × (is_bound becomes inputs ≡ true) × IsKept (with_transition said inputs becomes) self.new) }
         ensures fault { IfErr result (IsFaultOfTransition states (number_in self.old.names) (fields_left fields.now)) }

@@ -14,24 +14,13 @@ add_variable-requires-clause-fields c =
     let is = c.in-Some.ensures 0 (meaning_of c.args.settings.now) nothing c.field_count-count.ensures.count in
     let k = subst (IsStatement (0, c.args.content.now) c.field_count-count.result) c.in-Variable.is is in k.are_fields
 
-pub add_transition-requires-clause-some : goal.add_transition-requires-clause-some
-add_transition-requires-clause-some c =
-    let is = c.in-Some.ensures 0 (meaning_of c.args.settings.now) nothing c.field_count-count.ensures.count in
-    let k = subst (IsStatement (0, c.args.content.now) c.field_count-count.result) c.in-Transition.is is in
-    let count = k.count in
-    let some = c.field_count-count.ensures.some in omega arith
-
-pub add_transition-requires-clause-few : goal.add_transition-requires-clause-few
-add_transition-requires-clause-few c =
-    let is = c.in-Some.ensures 0 (meaning_of c.args.settings.now) nothing c.field_count-count.ensures.count in
-    let k = subst (IsStatement (0, c.args.content.now) c.field_count-count.result) c.in-Transition.is is in
-    let count = k.count in
-    let few = c.field_count-count.ensures.few in omega arith
-
 pub add_transition-requires-clause-fields : goal.add_transition-requires-clause-fields
 add_transition-requires-clause-fields c =
     let is = c.in-Some.ensures 0 (meaning_of c.args.settings.now) nothing c.field_count-count.ensures.count in
-    let k = subst (IsStatement (0, c.args.content.now) c.field_count-count.result) c.in-Transition.is is in k.are_fields
+    let k = subst (IsStatement (0, c.args.content.now) c.field_count-count.result) c.in-Transition.is is in
+    let count = k.count in
+    let some = c.field_count-count.ensures.some in
+    let few = c.field_count-count.ensures.few in record { some = omega arith; few = omega arith; spelled = k.are_fields }
 
 pub returns-in-Variable-clause-said : goal.returns-in-Variable-clause-said
 returns-in-Variable-clause-said c = on_ok_weaker c.add_variable.result (λ h n said kept.

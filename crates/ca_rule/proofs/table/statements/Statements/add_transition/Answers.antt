@@ -11,7 +11,7 @@ use Rattle.ca_rule.proofs.table.statements.Statements.add_transition.Goals as go
 pub returns-in_default-clause-fault : goal.returns-in_default-clause-fault
 returns-in_default-clause-fault c =
     absurd (no-slots c.args.states (number_in c.args.self.now.names) (fields_left c.args.fields.now) (slots_of c.in_ok-slots.slots) c.in_ok-slots.ensures.stand
-    (ap length (sym c.all.ensures) ∙ c.in_default.ensures.cases) c.requires.some)
+    (ap length (sym c.all.ensures) ∙ c.in_default.ensures.cases) c.requires.fields.some)
 
 pub returns-clause-said : goal.returns-clause-said
 returns-clause-said c = λ settings said same kept.
