@@ -217,11 +217,11 @@ again-read bytes n a =
     has-table bytes a.name (a.good ++ a.line ∷ a.later) a.has_table ∙ settings-again bytes a.name [] a.good a.line a.later a.once a.again
     ∙ ap (λ m. Err (Syntax m)) (sym a.number)
 
-settings-read : (bytes : List ℕ) (n : ℕ) (P : List Line → Type 0) (f : TableFault) (h : HasSettings bytes n P) → settings_of n h.lines ≡ Err f → reading bytes ≡ Err f
-settings-read bytes n P f h e =
-    has-table bytes h.name (h.lines ++ h.behind) h.has_table
-    ∙ settings-end bytes h.name [] h.lines h.behind h.once h.ends
-    ∙ ap (λ m. then_ok (from_nothing h.name h.behind) (settings_of m h.lines)) (sym h.number)
+settings-read : (bytes : List ℕ) (n : ℕ) (P : List Line → Type 0) (f : TableFault) (h : HasSettings bytes n P) → settings_of n h.0 ≡ Err f → reading bytes ≡ Err f
+settings-read bytes n P f (lines, h, holds) e =
+    has-table bytes h.name (lines ++ h.behind) h.has_table
+    ∙ settings-end bytes h.name [] lines h.behind h.once h.ends
+    ∙ ap (λ m. then_ok (from_nothing h.name h.behind) (settings_of m lines)) (sym h.number)
     ∙ ap (then_ok (from_nothing h.name h.behind)) e
 
 statement-read : (bytes : List ℕ) (n : ℕ) (P : Settings → Said → Line → Type 0) (f : ℕ → TableFault) (h : HasStatement bytes n P) → step_of h.settings h.said h.line ≡ Err (f h.line.0) → reading bytes ≡ Err (f n)
@@ -248,10 +248,10 @@ kind_of bytes (NoRuleLine n) h = OfReading (no-rule-line bytes (lines_said bytes
 kind_of bytes (NoTable n) h = OfReading (no-table-line bytes (lines_said bytes) h.0 ∙ ap (λ m. Err (NoTable m)) (sym h.1))
 kind_of bytes (Syntax n) (inl h) = OfReading (again-read bytes n h)
 kind_of bytes (Syntax n) (inr h) = OfReading (statement-read bytes n IsMisspelled (λ m. Syntax m) h (step-misspelled h.settings h.said h.line h.holds))
-kind_of bytes (States n) (inl h) = OfReading (settings-read bytes n LackStates (States n) h (lack-states n h.lines h.holds))
+kind_of bytes (States n) (inl h) = OfReading (settings-read bytes n LackStates (States n) h (lack-states n h.0 h.2))
 kind_of bytes (States n) (inr h) = OfReading (statement-read bytes n HasBadState (λ m. States m) h (step-bad-state h.settings h.said h.line h.holds))
-kind_of bytes (Neighborhood n) h = OfReading (settings-read bytes n LackNeighbourhood (Neighborhood n) h (lack-neighbourhood n h.lines h.holds))
-kind_of bytes (Symmetries n) h = OfReading (settings-read bytes n LackSymmetry (Symmetries n) h (lack-symmetry n h.lines h.holds))
+kind_of bytes (Neighborhood n) h = OfReading (settings-read bytes n LackNeighbourhood (Neighborhood n) h (lack-neighbourhood n h.0 h.2))
+kind_of bytes (Symmetries n) h = OfReading (settings-read bytes n LackSymmetry (Symmetries n) h (lack-symmetry n h.0 h.2))
 kind_of bytes (Variable n) h = OfReading (statement-read bytes n HasUnknownName (λ m. Variable m) h (step-unknown-name h.settings h.said h.line h.holds))
 kind_of bytes (Unbound n) h = OfReading (statement-read bytes n HasUnbound (λ m. Unbound m) h (step-unbound h.settings h.said h.line h.holds))
 kind_of bytes (Wakes n) (t, is, wakes, number) = subst (λ m. FaultKind bytes (Wakes m)) (sym number) (OfWaking t is wakes)

@@ -9,8 +9,8 @@ use Rattle.ca_rule.specs.declared.table.settings.SettingValues.{SettingValues}
 use Rattle.ca_rule.specs.declared.table.fault.TableFault.{TableFault}
 use Rattle.ca_rule.specs.TableLines.{Line, setting, is_setting, value_of}
 use Rattle.ca_rule.specs.TableText.{HasTable, Settings, Mean, sets_again, are_settings}
-use Rattle.ca_rule.specs.TableFaults.{number_at, is_behind_settings, SetsAgain, HasSettings, IsFaultOf}
-use Rattle.ca_rule.specs.inner.TableSettings.{bytes_of, AreValuesOf, AreGivenBy, has_some, have_one, joined, IsBehindSettings, IsBehindMeant, HaveEnd}
+use Rattle.ca_rule.specs.TableFaults.{number_at, is_behind_settings, SetsAgain, HaveEnd, IsFaultOf}
+use Rattle.ca_rule.specs.inner.TableSettings.{bytes_of, AreValuesOf, AreGivenBy, has_some, have_one, joined, IsBehindSettings, IsBehindMeant}
 
 -- a value that is matched is that of the bytes
 pub matched : (value : Option (Bor (List ℕ))) (is : Option (List ℕ)) → MatchOption value (is ≡ None) (λ r. is ≡ Some r.now) → is ≡ bytes_of value
@@ -136,19 +136,6 @@ module _ (all left later : List Line) (line : Line) (values given : SettingValue
 -- another line ends the settings
 pub settings-end : (left later : List Line) (line : Line) (given : SettingValues) → left ≡ line ∷ later → AreGivenBy line given → has_some given ≡ false → is_behind_settings left ≡ true
 settings-end left later line given next are none = ap is_behind_settings next ∙ ap not (sym (is-setting line given are) ∙ none)
-
--- the settings end, and something is wrong with them
-pub has-settings : (bytes : List ℕ) (n : ℕ) (good : List Line) (P : List Line → Type 0) → HaveEnd bytes n good → P good → HasSettings bytes n P
-has-settings bytes n good P end holding = record {
-  name = end.name;
-  lines = good;
-  behind = end.behind;
-  has_table = end.has_table;
-  once = end.once;
-  ends = end.ends;
-  number = end.number;
-  holds = holding;
-}
 
 -- what holds of an error holds of the one that is passed on
 pub passed-on : {T E : Type 0} (r : Result T E) (e : E) (P : E → Type 0) → IsErrAnd r (λ passed. passed ≡ e) → P e → IfErr r P

@@ -8,7 +8,7 @@ use Rattle.ca_rule.specs.declared.table.statement_fault.StatementFault.TheVarian
 use Rattle.ca_rule.specs.declared.table.statements.Statements.{Statements}
 use Rattle.ca_rule.specs.TableLines.{Line, begins_section, IsVariableLine, IsTransitionLine}
 use Rattle.ca_rule.specs.TableText.{HasTable, Settings, Mean, Said, nothing, StandsFor, number_of, SaysVariable, is_bound, field_count, SaysTransition, Say}
-use Rattle.ca_rule.specs.TableFaults.{is_behind_settings, HasStatement, HasFields, IsFaultOf}
+use Rattle.ca_rule.specs.TableFaults.{is_behind_settings, HasStatement, HasFields, HasBadField, IsFaultOf}
 use Rattle.ca_rule.specs.inner.TableNames.{HasNoSlot, IsFaultAmong, IsFaultOfTransition}
 use Rattle.ca_rule.specs.inner.TableSaid.{IsKept, with_variable, with_transition}
 use Rattle.ca_rule.specs.inner.TableSaying.{fault_at, IsKeptBehind, IsFaultOfLine, IsBehindSaid, AreAllSaid}
@@ -28,25 +28,20 @@ transition-behind settings said line fields kept is h =
 
 -- a fault among the fields of a line is the line's
 module _ (settings : Settings) (said : Said) (count : ℕ) (numbers : List ℕ → Option ℕ) (same : settings.states ≡ count) (named : (name : List ℕ) → numbers name ≡ number_of 0 said.variables name) (line : Line) (fields : List (List ℕ)) where
+  bad-field : (f : StatementFault) (P : List ℕ → Type 0) → HasFields settings line fields → (h : HasNoSlot count numbers fields f) → P h.field → HasBadField settings said line P
+  bad-field f P spelled h holding = record {
+    good = h.good;
+    slots = h.slots;
+    field = h.field;
+    later = h.later;
+    spelled = subst (HasFields settings line) h.whole spelled;
+    stand = all-stand settings said count numbers same named h.good h.slots h.stand;
+    holds = holding;
+  }
+
   no-slot : (f : StatementFault) → HasFields settings line fields → HasNoSlot count numbers fields f → IsFaultOfLine settings said line f
-  no-slot State spelled h = record {
-    good = h.good;
-    slots = h.slots;
-    field = h.field;
-    later = h.later;
-    spelled = subst (HasFields settings line) h.whole spelled;
-    stand = all-stand settings said count numbers same named h.good h.slots h.stand;
-    holds = (h.holds.0, subst (λ c. c ≤ value h.field) (sym same) h.holds.1);
-  }
-  no-slot Name spelled h = record {
-    good = h.good;
-    slots = h.slots;
-    field = h.field;
-    later = h.later;
-    spelled = subst (HasFields settings line) h.whole spelled;
-    stand = all-stand settings said count numbers same named h.good h.slots h.stand;
-    holds = (h.holds.0, sym (named h.field) ∙ h.holds.1);
-  }
+  no-slot State spelled h = bad-field State _ spelled h (h.holds.0, subst (λ c. c ≤ value h.field) (sym same) h.holds.1)
+  no-slot Name spelled h = bad-field Name _ spelled h (h.holds.0, sym (named h.field) ∙ h.holds.1)
   no-slot Syntax spelled h = absurd h.holds
   no-slot Unbound spelled h = absurd h.holds
   no-slot Memory spelled h = absurd h.holds
@@ -105,32 +100,38 @@ section-behind settings all left later line kept before next begins = record { l
 pub none-behind : (settings : Settings) (all left : List Line) (kept : Statements) → IsBehindSaid settings all left kept → left ≡ [] → AreAllSaid settings all kept
 none-behind settings all left kept before none = record { later = []; behind = subst (λ l. IsBehindSaid settings all l kept) none before; ends = refl }
 
+-- a line of the table comes after good settings and good statements, and this holds of it
+pub has-statement : (bytes named : List ℕ) (head before later : List Line) (settings : Settings) (said : Said) (line : Line) → Mean head settings → HasTable bytes named (head ++ (before ++ line ∷ later))
+    → is_behind_settings (before ++ line ∷ later) ≡ true → Say settings nothing before said → begins_section line ≡ false → (P : Settings → Said → Line → Type 0) → P settings said line → HasStatement bytes line.0 P
+has-statement bytes named head before later settings said line mean has ended say inside P holding = record {
+  name = named;
+  setting_lines = head;
+  good = before;
+  line = line;
+  later = later;
+  settings = settings;
+  said = said;
+  has_table = has;
+  mean = mean;
+  ends = ended;
+  say = say;
+  in_table = inside;
+  number = refl;
+  holds = holding;
+}
+
 -- or the next line has a fault
 module _ (settings : Settings) (all left later : List Line) (line : Line) (kept : Statements) (before : IsBehindSaid settings all left kept) (next : left ≡ line ∷ later) (in_table : begins_section line ≡ false)
     (bytes name : List ℕ) (head : List Line) (has : HasTable bytes name (head ++ all)) (mean : Mean head settings) (ended : is_behind_settings all ≡ true) where
-  has-statement : (P : Settings → Said → Line → Type 0) → P settings before.said line → HasStatement bytes line.0 P
-  has-statement P holding =
+  at-line : (P : Settings → Said → Line → Type 0) → P settings before.said line → HasStatement bytes line.0 P
+  at-line =
       let whole = before.whole ∙ ap (λ l. before.good ++ l) next in
-      record {
-        name = name;
-        setting_lines = head;
-        good = before.good;
-        line = line;
-        later = later;
-        settings = settings;
-        said = before.said;
-        has_table = subst (λ l. HasTable bytes name (head ++ l)) whole has;
-        mean = mean;
-        ends = ap is_behind_settings (sym whole) ∙ ended;
-        say = before.say;
-        in_table = in_table;
-        number = refl;
-        holds = holding;
-      }
+      has-statement bytes name head before.good later settings before.said line mean (subst (λ l. HasTable bytes name (head ++ l)) whole has)
+      (ap is_behind_settings (sym whole) ∙ ended) before.say in_table
 
   pub line-fault : (f : StatementFault) → ((said : Said) → IsKept said kept → IsFaultOfLine settings said line f) → IsFaultOf bytes (fault_at line.0 f)
-  line-fault Syntax fault = inr (has-statement _ (fault before.said before.is_kept))
-  line-fault State fault = inr (has-statement _ (fault before.said before.is_kept))
-  line-fault Name fault = has-statement _ (fault before.said before.is_kept)
-  line-fault Unbound fault = has-statement _ (fault before.said before.is_kept)
-  line-fault Memory fault = inl (line.0, has-statement _ (fault before.said before.is_kept))
+  line-fault Syntax fault = inr (at-line _ (fault before.said before.is_kept))
+  line-fault State fault = inr (at-line _ (fault before.said before.is_kept))
+  line-fault Name fault = at-line _ (fault before.said before.is_kept)
+  line-fault Unbound fault = at-line _ (fault before.said before.is_kept)
+  line-fault Memory fault = inl (line.0, at-line _ (fault before.said before.is_kept))

@@ -15,11 +15,12 @@ use Rattle.ca_rule.specs.TableNext.{TableRule, table_next}
 use Rattle.ca_rule.specs.Digits.{are_digits}
 use Rattle.ca_rule.specs.TableLines.{Line, lines_said, last_line, rule_name, begins_table, begins_section, is_setting, states_set, neighbourhood_set, symmetry_set, is_name, is_field, IsVariableLine, IsTransitionLine}
 use Rattle.ca_rule.specs.TableText.{HasTable, sets_again, are_settings, Settings, Mean, Said, nothing, number_of, StandsFor, is_bound, field_count, Say, made, is_end_of_section, IsTable}
-use Rattle.ca_rule.specs.TableFaults.{number_at, is_behind_settings, HasNoRuleLine, HasNoTable, HasSettings, LackStates, LackNeighbourhood, LackSymmetry, HasStatement, IsMisspelled, HasFields, HasBadField, HasBadState, HasUnknownName, HasUnbound, IsFaultOf}
+use Rattle.ca_rule.specs.TableFaults.{number_at, is_behind_settings, HasNoRuleLine, HasNoTable, HaveEnd, HasStatement, IsMisspelled, HasFields, HasBadField, HasBadState, HasUnknownName, HasUnbound, IsFaultOf}
 use Rattle.ca_rule.specs.inner.TableSaid.{with_variable}
 use Rattle.ca_rule.proofs.OneSpelling.{some_if, variable_of, variable-is-of, variable-of-is, transition_of, transition-is-of, transition-of-is}
 use Rattle.ca_rule.proofs.OneStatement.{slot_if, slot_of, slot-stands, inputs_of, result_of, with_transition, Says}
 use Rattle.ca_rule.proofs.SettingsRead.{settings-snoc}
+use Rattle.ca_rule.proofs.StatementsRead.{has-statement}
 
 -- ---- fields
 
@@ -186,22 +187,7 @@ module _ (bytes named : List ℕ) (setting_lines : List Line) (settings : Settin
     say : Say settings nothing good said
 
   statement-fault : (P : Settings → Said → Line → Type 0) (good : List Line) (said : Said) (line : Line) (later : List Line) → BehindStatements good said (line ∷ later) → begins_section line ≡ false → P settings said line → HasStatement bytes line.0 P
-  statement-fault P good said line later b inside holds = record {
-    name = named;
-    setting_lines = setting_lines;
-    good = good;
-    line = line;
-    later = later;
-    settings = settings;
-    said = said;
-    has_table = b.has_table;
-    mean = mean;
-    ends = b.ends;
-    say = b.say;
-    in_table = inside;
-    number = refl;
-    holds = holds;
-  }
+  statement-fault P good said line later b inside holds = has-statement bytes named setting_lines good later settings said line mean b.has_table b.ends b.say inside P holds
 
   bad-line : (good : List Line) (said : Said) (line : Line) (later : List Line) → BehindStatements good said (line ∷ later) → begins_section line ≡ false → IsBadLine settings said line → TableOrFault bytes
   bad-line good said line later b inside (Misspelled h) = inr (Syntax line.0, other-than-memory (Syntax line.0) refl, inr (statement-fault IsMisspelled good said line later b inside h))
@@ -240,41 +226,33 @@ module _ (bytes named : List ℕ) (setting_lines : List Line) (settings : Settin
 
 -- ---- settings
 
-module _ (bytes named : List ℕ) where
-  -- the settings end, and these lines follow them
-  record HaveEnded (good behind : List Line) : Type 0 where
-    has_table : HasTable bytes named (good ++ behind)
-    once : are_settings [] good ≡ true
-    ends : is_behind_settings behind ≡ true
-
-  lacking : (P : List Line → Type 0) (good behind : List Line) → HaveEnded good behind → P good → HasSettings bytes (number_at bytes behind) P
-  lacking P good behind h holds = record { name = named; lines = good; behind = behind; has_table = h.has_table; once = h.once; ends = h.ends; number = refl; holds = holds }
-
-  symmetry-or-fault : (good behind : List Line) (count : ℕ) (of : Neighbourhood) (under : Option Symmetry) → HaveEnded good behind → states_set good ≡ Some count → neighbourhood_set good ≡ Some of → symmetry_set of good ≡ under → TableOrFault bytes
-  symmetry-or-fault good behind count of None h s n e =
-      inr (Symmetries (number_at bytes behind), other-than-memory (Symmetries (number_at bytes behind)) refl, lacking LackSymmetry good behind h (count, of, s, n, e))
-  symmetry-or-fault good behind count of (Some under) h s n e =
-      statements-or-fault bytes named good (record { states = count; neighbourhood = of; symmetry = under }) (record { once = h.once; states_are = s; neighbourhood_is = n; symmetry_is = e }) [] nothing behind
+module _ (bytes : List ℕ) where
+  symmetry-or-fault : (n count : ℕ) (good : List Line) (of : Neighbourhood) (under : Option Symmetry) → HaveEnd bytes n good → states_set good ≡ Some count → neighbourhood_set good ≡ Some of → symmetry_set of good ≡ under → TableOrFault bytes
+  symmetry-or-fault n count good of None h s k e = inr (Symmetries n, other-than-memory (Symmetries n) refl, (good, h, (count, of, s, k, e)))
+  symmetry-or-fault n count good of (Some under) h s k e =
+      statements-or-fault bytes h.name good (record { states = count; neighbourhood = of; symmetry = under }) (record { once = h.once; states_are = s; neighbourhood_is = k; symmetry_is = e }) [] nothing h.behind
       (record { has_table = h.has_table; ends = h.ends; say = refl })
 
-  neighbourhood-or-fault : (good behind : List Line) (count : ℕ) (of : Option Neighbourhood) → HaveEnded good behind → states_set good ≡ Some count → neighbourhood_set good ≡ of → TableOrFault bytes
-  neighbourhood-or-fault good behind count None h s e =
-      inr (Neighborhood (number_at bytes behind), other-than-memory (Neighborhood (number_at bytes behind)) refl, lacking LackNeighbourhood good behind h (count, s, e))
-  neighbourhood-or-fault good behind count (Some of) h s e = symmetry-or-fault good behind count of (symmetry_set of good) h s e refl
+  neighbourhood-or-fault : (n count : ℕ) (good : List Line) (of : Option Neighbourhood) → HaveEnd bytes n good → states_set good ≡ Some count → neighbourhood_set good ≡ of → TableOrFault bytes
+  neighbourhood-or-fault n count good None h s e = inr (Neighborhood n, other-than-memory (Neighborhood n) refl, (good, h, (count, s, e)))
+  neighbourhood-or-fault n count good (Some of) h s e = symmetry-or-fault n count good of (symmetry_set of good) h s e refl
 
-  states-or-fault : (good behind : List Line) (count : Option ℕ) → HaveEnded good behind → states_set good ≡ count → TableOrFault bytes
-  states-or-fault good behind None h e =
-      inr (States (number_at bytes behind), other-than-memory (States (number_at bytes behind)) refl, inl (lacking LackStates good behind h e))
-  states-or-fault good behind (Some count) h e = neighbourhood-or-fault good behind count (neighbourhood_set good) h e refl
+  states-or-fault : (n : ℕ) (good : List Line) (count : Option ℕ) → HaveEnd bytes n good → states_set good ≡ count → TableOrFault bytes
+  states-or-fault n good None h e = inr (States n, other-than-memory (States n) refl, inl (good, h, e))
+  states-or-fault n good (Some count) h e = neighbourhood-or-fault n count good (neighbourhood_set good) h e refl
 
-  settings-or-fault : (good left : List Line) → HasTable bytes named (good ++ left) → are_settings [] good ≡ true → TableOrFault bytes
-  settings-or-fault good [] has once = states-or-fault good [] (states_set good) (record { has_table = has; once = once; ends = refl }) refl
-  settings-or-fault good (l ∷ ls) has once = elim (cases_Bool (is_setting l)) [
+  ended : (named : List ℕ) (good behind : List Line) → HasTable bytes named (good ++ behind) → are_settings [] good ≡ true → is_behind_settings behind ≡ true → TableOrFault bytes
+  ended named good behind has once ends =
+      states-or-fault (number_at bytes behind) good (states_set good) (record { name = named; behind = behind; has_table = has; once = once; ends = ends; number = refl }) refl
+
+  settings-or-fault : (named : List ℕ) (good left : List Line) → HasTable bytes named (good ++ left) → are_settings [] good ≡ true → TableOrFault bytes
+  settings-or-fault named good [] has once = ended named good [] has once refl
+  settings-or-fault named good (l ∷ ls) has once = elim (cases_Bool (is_setting l)) [
     | inl s ↦ elim (cases_Bool (sets_again good l)) [
       | inl a ↦ inr (Syntax l.0, other-than-memory (Syntax l.0) refl, inl (record { name = named; good = good; line = l; later = ls; has_table = has; once = once; again = a; number = refl }))
-      | inr a ↦ settings-or-fault (good ++ l ∷ []) ls (subst (HasTable bytes named) (sym (append_assoc good (l ∷ []) ls)) has) (settings-snoc [] good l once s a)
+      | inr a ↦ settings-or-fault named (good ++ l ∷ []) ls (subst (HasTable bytes named) (sym (append_assoc good (l ∷ []) ls)) has) (settings-snoc [] good l once s a)
     ]
-    | inr s ↦ states-or-fault good (l ∷ ls) (states_set good) (record { has_table = has; once = once; ends = ap not s }) refl
+    | inr s ↦ ended named good (l ∷ ls) has once (ap not s)
   ]
 
 -- ---- the head

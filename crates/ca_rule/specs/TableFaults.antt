@@ -42,17 +42,19 @@ pub record SetsAgain (bytes : List ℕ) (n : ℕ) : Type 0 where
   pub again : sets_again good line ≡ true
   pub number : n ≡ line.0
 
--- the table's first lines are settings, each once, up to the n-th line of the text: the first other line, or the text's
--- last; this holds of them
-pub record HasSettings (bytes : List ℕ) (n : ℕ) (P : List Line → Type 0) : Type 0 where
+-- the table's first lines are these, settings, each once, up to the n-th line of the text: the first other line, or the
+-- text's last
+pub record HaveEnd (bytes : List ℕ) (n : ℕ) (lines : List Line) : Type 0 where
   pub name : List ℕ
-  pub lines : List Line
   pub behind : List Line
   pub has_table : HasTable bytes name (lines ++ behind)
   pub once : are_settings [] lines ≡ true
   pub ends : is_behind_settings behind ≡ true
   pub number : n ≡ number_at bytes behind
-  pub holds : P lines
+
+-- there are such settings, and this holds of them
+abbrev pub HasSettings : List ℕ → ℕ → (List Line → Type 0) → Type 0
+HasSettings bytes n P = (lines : List Line) × HaveEnd bytes n lines × P lines
 
 -- no number of states is set, or none from 2 to 256
 abbrev pub LackStates : List Line → Type 0

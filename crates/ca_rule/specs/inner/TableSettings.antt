@@ -5,8 +5,7 @@ use Rattle.std.specs.Borrow.{Bor}
 use Rattle.ca_rule.specs.declared.table.settings.SettingValues.{SettingValues}
 use Rattle.ca_rule.specs.declared.table.settings.TableSettings.{TableSettings}
 use Rattle.ca_rule.specs.TableLines.{Line, setting, value_of}
-use Rattle.ca_rule.specs.TableText.{HasTable, Settings, Mean, are_settings}
-use Rattle.ca_rule.specs.TableFaults.{number_at, is_behind_settings}
+use Rattle.ca_rule.specs.TableText.{Settings, Mean, are_settings}
 
 -- the bytes, where there are some
 abbrev pub bytes_of : Option (Bor (List ℕ)) → Option (List ℕ)
@@ -56,12 +55,3 @@ pub record IsBehindMeant (all : List Line) (settings : Settings) (lines : List L
   pub good : List Line
   pub mean : Mean good settings
   pub whole : all ≡ good ++ lines
-
--- these are all settings of the table, and they end at the n-th line of the text
-pub record HaveEnd (bytes : List ℕ) (n : ℕ) (good : List Line) : Type 0 where
-  pub name : List ℕ
-  pub behind : List Line
-  pub has_table : HasTable bytes name (good ++ behind)
-  pub once : are_settings [] good ≡ true
-  pub ends : is_behind_settings behind ≡ true
-  pub number : n ≡ number_at bytes behind

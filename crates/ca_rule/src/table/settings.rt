@@ -7,7 +7,7 @@ ghost use Rattle.ca_rule.specs.Digits.{state_count};
 ghost use Rattle.ca_rule.specs.TableLines.{Line, neighbourhood_name, neighbourhood_named, symmetry_name, symmetry_named};
 ghost use Rattle.ca_rule.specs.TableOrders.{symmetries_of};
 ghost use Rattle.ca_rule.specs.TableText.{HasTable, Mean, are_settings};
-ghost use Rattle.ca_rule.specs.TableFaults.{is_behind_settings, IsFaultOf};
+ghost use Rattle.ca_rule.specs.TableFaults.{is_behind_settings, HaveEnd, IsFaultOf};
 
 use crate::digits::state_count;
 use crate::table::fault::TableFault;
@@ -33,7 +33,7 @@ pub(crate) struct TableSettings {
 }
 
 impl<'a> SettingValues<'a> {
-    ghost use Rattle.ca_rule.specs.inner.TableSettings.{bytes_of, meaning_of, AreValuesOf, AreGivenBy, HaveEnd, has_some, have_one, joined};
+    ghost use Rattle.ca_rule.specs.inner.TableSettings.{bytes_of, meaning_of, AreValuesOf, AreGivenBy, has_some, have_one, joined};
 
     /// Before the first line.
     fn none() -> SettingValues<'a>

@@ -1,10 +1,11 @@
-use Rattle.std.proofs.Common.{ℕ, List, arith, codes, refl, inl, inr, [], ◌∷◌, ◌≡◌, true}
+use Rattle.std.proofs.Common.{ℕ, List, arith, codes, refl, inl, inr, [], ◌∷◌, ◌++◌, ◌≡◌, true}
 use Rattle.ca_rule.specs.declared.table.neighbourhood.Neighbourhood.TheVariants.{VonNeumann}
 use Rattle.ca_rule.specs.declared.table.neighbourhood.Symmetry.TheVariants.{Rotate4}
 use Rattle.ca_rule.specs.declared.table.slot.Slot.TheVariants.{Number}
-use Rattle.ca_rule.specs.TableLines.{Line, IsTransitionLine}
-use Rattle.ca_rule.specs.TableText.{HasTable, are_settings, Settings, Said, nothing, SaysVariable, SaysTransition, made}
-use Rattle.ca_rule.specs.TableFaults.{HasSettings, LackStates, LackNeighbourhood, LackSymmetry}
+use Rattle.ca_rule.specs.TableLines.{Line, lines_said, IsTransitionLine}
+use Rattle.ca_rule.specs.TableNext.{TableRule}
+use Rattle.ca_rule.specs.TableText.{HasTable, are_settings, Settings, Said, nothing, SaysVariable, SaysTransition, made, IsTable}
+use Rattle.ca_rule.specs.TableFaults.{HaveEnd}
 use Rattle.ca_rule.specs.TableExamples.{file_with, one_neighbour, a}
 use Rattle.ca_rule.proofs.table.laws.worked_texts.Goals as goal
 
@@ -76,70 +77,56 @@ says_both last is_spelled = record {
   after_is = refl;
 }
 
-pub returns-clause-table_is_read : goal.returns-clause-table_is_read
-returns-clause-table_is_read c = (
+-- the rule file's head, and these lines after it
+head : (bytes : List ℕ) (lines : List Line) → lines_said bytes ≡ (1, codes "@RULE Spread") ∷ ((2, codes "@TABLE") ∷ lines) → HasTable bytes (codes "Spread") lines
+head bytes lines said = record { rule_line = (1, codes "@RULE Spread"); skipped = []; table_line = (2, codes "@TABLE"); named = refl; no_table = refl; begins = refl; whole = said }
+
+-- the file with good settings and this transition
+abbrev file : List ℕ → List ℕ
+file last = file_with (codes "n_states:3") (codes "neighborhood:vonNeumann") (codes "symmetries:rotate4") last
+
+abbrev good : List Line
+good = settings_with (codes "n_states:3") (codes "neighborhood:vonNeumann") (codes "symmetries:rotate4")
+
+is_read : (last : List ℕ) → HasTable (file last) (codes "Spread") (good ++ (statements_with last ++ [])) → IsTransitionLine (7, last) 6 (codes "0" ∷ codes "a" ∷ codes "0" ∷ codes "0" ∷ codes "0" ∷ codes "a" ∷ [])
+    → (table : TableRule) × IsTable (file last) table × (table.transitions ≡ one_neighbour ∷ [])
+is_read last has is_spelled = (
   made (codes "Spread") of_four both_said,
   record {
     name = codes "Spread";
-    setting_lines = settings_with (codes "n_states:3") (codes "neighborhood:vonNeumann") (codes "symmetries:rotate4");
-    statements = statements_with (codes "0,a,0,0,0,a");
+    setting_lines = good;
+    statements = statements_with last;
     later = [];
     settings = of_four;
     said = both_said;
-    has_table = record { rule_line = (1, codes "@RULE Spread"); skipped = []; table_line = (2, codes "@TABLE"); named = refl; no_table = refl; begins = refl; whole = refl };
+    has_table = has;
     mean = record { once = refl; states_are = refl; neighbourhood_is = refl; symmetry_is = refl };
-    say = (one_said, inl says_one, (both_said, inr (says_both (codes "0,a,0,0,0,a") (record { no_variable = refl; fields_are = refl; are_fields = refl; count = refl })), refl));
+    say = (one_said, inl says_one, (both_said, inr (says_both last is_spelled), refl));
     ends = refl;
     table_is = refl;
   },
   refl,
 )
 
+pub returns-clause-table_is_read : goal.returns-clause-table_is_read
+returns-clause-table_is_read c = is_read (codes "0,a,0,0,0,a") (head _ _ refl) (record { no_variable = refl; fields_are = refl; are_fields = refl; count = refl })
+
 pub returns-clause-table_is_read_without_commas : goal.returns-clause-table_is_read_without_commas
-returns-clause-table_is_read_without_commas c = (
-  made (codes "Spread") of_four both_said,
-  record {
-    name = codes "Spread";
-    setting_lines = settings_with (codes "n_states:3") (codes "neighborhood:vonNeumann") (codes "symmetries:rotate4");
-    statements = statements_with (codes "0a000a");
-    later = [];
-    settings = of_four;
-    said = both_said;
-    has_table = record { rule_line = (1, codes "@RULE Spread"); skipped = []; table_line = (2, codes "@TABLE"); named = refl; no_table = refl; begins = refl; whole = refl };
-    mean = record { once = refl; states_are = refl; neighbourhood_is = refl; symmetry_is = refl };
-    say = (one_said, inl says_one, (both_said, inr (says_both (codes "0a000a") (record { no_variable = refl; fields_are = refl; are_fields = refl; count = refl })), refl));
-    ends = refl;
-    table_is = refl;
-  },
-  refl,
-)
+returns-clause-table_is_read_without_commas c = is_read (codes "0a000a") (head _ _ refl) (record { no_variable = refl; fields_are = refl; are_fields = refl; count = refl })
 
 pub returns-clause-table_is_missing : goal.returns-clause-table_is_missing
 returns-clause-table_is_missing c = ((codes "Spread", refl, refl), refl)
 
 -- settings that end at the sixth line
-module _ (states neighbourhood symmetry : List ℕ) (P : List Line → Type 0) where
-  end_at_six : HasTable (file_with states neighbourhood symmetry (codes "0a000a")) (codes "Spread") ((3, states) ∷ (4, neighbourhood) ∷ (5, symmetry) ∷ statements_with (codes "0a000a"))
-      → are_settings [] (settings_with states neighbourhood symmetry) ≡ true → P (settings_with states neighbourhood symmetry) → HasSettings (file_with states neighbourhood symmetry (codes "0a000a")) 6 P
-  end_at_six has are holding = record {
-    name = codes "Spread";
-    lines = settings_with states neighbourhood symmetry;
-    behind = statements_with (codes "0a000a");
-    has_table = has;
-    once = are;
-    ends = refl;
-    number = refl;
-    holds = holding;
-  }
+end_at_six : (states neighbourhood symmetry : List ℕ) → HasTable (file_with states neighbourhood symmetry (codes "0a000a")) (codes "Spread") (settings_with states neighbourhood symmetry ++ statements_with (codes "0a000a"))
+    → are_settings [] (settings_with states neighbourhood symmetry) ≡ true → HaveEnd (file_with states neighbourhood symmetry (codes "0a000a")) 6 (settings_with states neighbourhood symmetry)
+end_at_six states neighbourhood symmetry has are = record { name = codes "Spread"; behind = statements_with (codes "0a000a"); has_table = has; once = are; ends = refl; number = refl }
 
 pub returns-clause-one_state_is_too_few : goal.returns-clause-one_state_is_too_few
-returns-clause-one_state_is_too_few c =
-    inl (end_at_six (codes "n_states:1") (codes "neighborhood:vonNeumann") (codes "symmetries:rotate4") LackStates (record { rule_line = (1, codes "@RULE Spread"); skipped = []; table_line = (2, codes "@TABLE"); named = refl; no_table = refl; begins = refl; whole = refl }) refl refl)
+returns-clause-one_state_is_too_few c = inl (_, end_at_six (codes "n_states:1") (codes "neighborhood:vonNeumann") (codes "symmetries:rotate4") (head _ _ refl) refl, refl)
 
 pub returns-clause-neighbourhood_is_unknown : goal.returns-clause-neighbourhood_is_unknown
-returns-clause-neighbourhood_is_unknown c =
-    end_at_six (codes "n_states:3") (codes "neighborhood:Margolus") (codes "symmetries:rotate4") LackNeighbourhood (record { rule_line = (1, codes "@RULE Spread"); skipped = []; table_line = (2, codes "@TABLE"); named = refl; no_table = refl; begins = refl; whole = refl }) refl (3, refl, refl)
+returns-clause-neighbourhood_is_unknown c = (_, end_at_six (codes "n_states:3") (codes "neighborhood:Margolus") (codes "symmetries:rotate4") (head _ _ refl) refl, (3, refl, refl))
 
 pub returns-clause-symmetry_is_unknown : goal.returns-clause-symmetry_is_unknown
-returns-clause-symmetry_is_unknown c =
-    end_at_six (codes "n_states:3") (codes "neighborhood:vonNeumann") (codes "symmetries:rotate8") LackSymmetry (record { rule_line = (1, codes "@RULE Spread"); skipped = []; table_line = (2, codes "@TABLE"); named = refl; no_table = refl; begins = refl; whole = refl }) refl (3, VonNeumann, refl, refl, refl)
+returns-clause-symmetry_is_unknown c = (_, end_at_six (codes "n_states:3") (codes "neighborhood:vonNeumann") (codes "symmetries:rotate8") (head _ _ refl) refl, (3, VonNeumann, refl, refl, refl))
