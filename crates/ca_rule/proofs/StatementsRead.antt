@@ -26,22 +26,20 @@ pub transition-behind : (settings : Settings) (said : Said) (line : Line) (field
 transition-behind settings said line fields kept is h =
     (with_transition said h.0 h.1, inr (record { fields = fields; inputs = h.0; result = h.1; spelled = is; stand = h.2; bound = h.3; after_is = refl }), h.4)
 
+-- the first field that stands for nothing
+pub bad-field : (settings : Settings) (said : Said) (line : Line) (P : List ℕ → Type 0) (fields good later : List (List ℕ)) (slots : List Slot) (field : List ℕ) → HasFields settings line fields → fields ≡ good ++ field ∷ later
+    → AllZip (StandsFor settings said) good slots → P field → HasBadField settings said line P
+bad-field settings said line P fields good later slots field spelled whole stand holds =
+    record { good = good; slots = slots; field = field; later = later; spelled = subst (HasFields settings line) whole spelled; stand = stand; holds = holds }
+
 -- a fault among the fields of a line is the line's
 module _ (settings : Settings) (said : Said) (count : ℕ) (numbers : List ℕ → Option ℕ) (same : settings.states ≡ count) (named : (name : List ℕ) → numbers name ≡ number_of 0 said.variables name) (line : Line) (fields : List (List ℕ)) where
-  bad-field : (f : StatementFault) (P : List ℕ → Type 0) → HasFields settings line fields → (h : HasNoSlot count numbers fields f) → P h.field → HasBadField settings said line P
-  bad-field f P spelled h holding = record {
-    good = h.good;
-    slots = h.slots;
-    field = h.field;
-    later = h.later;
-    spelled = subst (HasFields settings line) h.whole spelled;
-    stand = all-stand settings said count numbers same named h.good h.slots h.stand;
-    holds = holding;
-  }
+  unslotted : (f : StatementFault) (P : List ℕ → Type 0) → HasFields settings line fields → (h : HasNoSlot count numbers fields f) → P h.field → HasBadField settings said line P
+  unslotted f P spelled h = bad-field settings said line P fields h.good h.later h.slots h.field spelled h.whole (all-stand settings said count numbers same named h.good h.slots h.stand)
 
   no-slot : (f : StatementFault) → HasFields settings line fields → HasNoSlot count numbers fields f → IsFaultOfLine settings said line f
-  no-slot State spelled h = bad-field State _ spelled h (h.holds.0, subst (λ c. c ≤ value h.field) (sym same) h.holds.1)
-  no-slot Name spelled h = bad-field Name _ spelled h (h.holds.0, sym (named h.field) ∙ h.holds.1)
+  no-slot State spelled h = unslotted State _ spelled h (h.holds.0, subst (λ c. c ≤ value h.field) (sym same) h.holds.1)
+  no-slot Name spelled h = unslotted Name _ spelled h (h.holds.0, sym (named h.field) ∙ h.holds.1)
   no-slot Syntax spelled h = absurd h.holds
   no-slot Unbound spelled h = absurd h.holds
   no-slot Memory spelled h = absurd h.holds

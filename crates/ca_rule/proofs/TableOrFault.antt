@@ -20,7 +20,7 @@ use Rattle.ca_rule.specs.inner.TableSaid.{with_variable}
 use Rattle.ca_rule.proofs.OneSpelling.{some_if, variable_of, variable-is-of, variable-of-is, transition_of, transition-is-of, transition-of-is}
 use Rattle.ca_rule.proofs.OneStatement.{slot_if, slot_of, slot-stands, inputs_of, result_of, with_transition, Says}
 use Rattle.ca_rule.proofs.SettingsRead.{settings-snoc}
-use Rattle.ca_rule.proofs.StatementsRead.{has-statement}
+use Rattle.ca_rule.proofs.StatementsRead.{bad-field, has-statement}
 
 -- ---- fields
 
@@ -105,18 +105,10 @@ zip-length R (x ∷ xs) (y ∷ ys) h = let more = zip-length R xs ys h.1 in omeg
 
 module _ (settings : Settings) (said : Said) (line : Line) where
   first-bad : (P : List ℕ → Type 0) (fields : List (List ℕ)) → HasFields settings line fields → (b : FirstBad settings said fields) → P b.field → HasBadField settings said line P
-  first-bad P fields spelled b holds = record {
-    good = b.good;
-    slots = b.slots;
-    field = b.field;
-    later = b.later;
-    spelled = subst (HasFields settings line) b.whole spelled;
-    stand = b.stand;
-    holds = holds;
-  }
+  first-bad P fields spelled b = bad-field settings said line P fields b.good b.later b.slots b.field spelled b.whole b.stand
 
-  bad-field : (fields : List (List ℕ)) → HasFields settings line fields → FirstBad settings said fields → IsBadLine settings said line
-  bad-field fields spelled b = elim (cases_Bool (are_digits b.field)) [
+  field-fault : (fields : List (List ℕ)) → HasFields settings line fields → FirstBad settings said fields → IsBadLine settings said line
+  field-fault fields spelled b = elim (cases_Bool (are_digits b.field)) [
     | inl d ↦ BadState (first-bad (λ field. (are_digits field ≡ true) × (settings.states ≤ value field)) fields spelled b (d, high-state settings said b.field d b.none))
     | inr d ↦
         let name : is_name b.field ≡ true = ap (λ v. v || is_name b.field) (sym d) ∙ b.is in
@@ -126,7 +118,7 @@ module _ (settings : Settings) (said : Said) (line : Line) where
   variable-or-bad : (name : List ℕ) (fields : List (List ℕ)) → IsVariableLine line name fields → SaysOrBad settings said line
   variable-or-bad name fields v = elim (fields-or-bad settings said fields v.are_fields) [
     | inl s ↦ inl (with_variable settings said name s.0, inl (record { name = name; fields = fields; slots = s.0; spelled = v; stand = s.1; after_is = refl }))
-    | inr b ↦ inr (bad-field fields (inl (name, v)) b)
+    | inr b ↦ inr (field-fault fields (inl (name, v)) b)
   ]
 
   bound-or-bad : (fields : List (List ℕ)) (inputs : List Slot) (result : Slot) → IsTransitionLine line (field_count settings) fields → AllZip (StandsFor settings said) fields (inputs ++ result ∷ []) → SaysOrBad settings said line
@@ -142,7 +134,7 @@ module _ (settings : Settings) (said : Said) (line : Line) where
         let count = t.count in
         let some : 1 ≤ length s.0 = omega arith in
         bound-or-bad fields (inputs_of s.0) (result_of s.0) t (subst (AllZip (StandsFor settings said) fields) (split-last s.0 some) s.1)
-    | inr b ↦ inr (bad-field fields (inr t) b)
+    | inr b ↦ inr (field-fault fields (inr t) b)
   ]
 
   spelled-or-bad : (v : Option (List ℕ × List (List ℕ))) (t : Option (List (List ℕ))) → variable_of line ≡ v → transition_of (field_count settings) line ≡ t → SaysOrBad settings said line

@@ -1,4 +1,4 @@
--- Small rule tables and cells for the worked examples.
+-- Small rule tables, and cells under them and under other rules, for the worked examples.
 use Rattle.std.specs.Prelude.{ℕ, ◌-◌, List, [], ◌∷◌, ◌++◌, map, flat_map, codes}
 use Rattle.ca_rule.specs.declared.table.neighbourhood.Neighbourhood.{Neighbourhood}
 use Rattle.ca_rule.specs.declared.table.neighbourhood.Neighbourhood.TheVariants.{VonNeumann}
@@ -6,11 +6,28 @@ use Rattle.ca_rule.specs.declared.table.neighbourhood.Symmetry.{Symmetry}
 use Rattle.ca_rule.specs.declared.table.neighbourhood.Symmetry.TheVariants.{Identity}
 use Rattle.ca_rule.specs.declared.table.slot.Slot.{Slot}
 use Rattle.ca_rule.specs.declared.table.slot.Slot.TheVariants.{Number, Variable}
-use Rattle.ca_rule.specs.TableNext.{Transition, TableRule}
+use Rattle.ca_plane.specs.Bytes.{words_of}
+use Rattle.ca_rule.specs.declared.hood.Hood.{Hood}
+use Rattle.ca_rule.specs.Counts.{counts_of}
+use Rattle.ca_rule.specs.Next as bs
+use Rattle.ca_rule.specs.Generations as generations
+use Rattle.ca_rule.specs.TableNext.{Transition, TableRule, table_next}
 
 -- numbers below ten, as digits
 abbrev pub digits : List ℕ → List ℕ
 digits text = map (λ b. b - 48) text
+
+-- lists of digits with blanks between them
+abbrev pub digit_lists : List ℕ → List (List ℕ)
+digit_lists text = map digits (words_of text)
+
+-- the next cell under a B/S rule of these birth and survival digits
+abbrev pub bs_cell : Hood → List ℕ → List ℕ → List ℕ → ℕ
+bs_cell hood birth survival nine = bs.next_of hood (counts_of birth) (counts_of survival) (digits nine)
+
+-- and under a Generations rule of these survival and birth digits, and so many states
+abbrev pub generations_cell : List ℕ → List ℕ → ℕ → List ℕ → ℕ
+generations_cell survival birth states nine = generations.next_of (counts_of survival) (counts_of birth) states (digits nine)
 
 -- a table of three states with `var a={1,2}`, `var b={0,1,2}` and these transitions
 abbrev pub table_of : Neighbourhood → Symmetry → List Transition → TableRule
@@ -22,6 +39,10 @@ table_of of under lines = record {
   variables = (1 ∷ 2 ∷ []) ∷ (0 ∷ 1 ∷ 2 ∷ []) ∷ [];
   transitions = lines;
 }
+
+-- the next cell under such a table
+abbrev pub table_cell : Neighbourhood → Symmetry → List Transition → List ℕ → ℕ
+table_cell of under lines nine = table_next (table_of of under lines) (digits nine)
 
 -- one of another name, without transitions
 abbrev pub named : List ℕ → TableRule
@@ -78,3 +99,7 @@ text_of lines = flat_map (λ l. l ++ codes "\n") lines
 abbrev pub file_with : List ℕ → List ℕ → List ℕ → List ℕ → List ℕ
 file_with states neighbourhood symmetry last =
     text_of (codes "@RULE Spread" ∷ codes "@TABLE" ∷ states ∷ neighbourhood ∷ symmetry ∷ codes "var a={1,2}" ∷ last ∷ [])
+
+-- one whose settings are good
+abbrev pub file_of : List ℕ → List ℕ
+file_of last = file_with (codes "n_states:3") (codes "neighborhood:vonNeumann") (codes "symmetries:rotate4") last

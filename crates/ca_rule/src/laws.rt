@@ -5,8 +5,8 @@ ghost use Rattle.std.specs.Prelude.{◌≡◌, ◌↔◌, ℕ, List, [], ◌∷�
 ghost use Rattle.ca_plane.specs.Moore.{moore_next};
 ghost use Rattle.ca_rule.specs.Counts.{is_count, counts_of};
 ghost use Rattle.ca_rule.specs.Masks.{masks_of};
-ghost use Rattle.ca_rule.specs.Next.{next_of};
 ghost use Rattle.ca_rule.specs.Spelling.{Spells, Names, IsFaultOf, printed};
+ghost use Rattle.ca_rule.specs.TableExamples.{digits, bs_cell};
 ghost use Rattle.ca_rule.specs.declared.bs_rule.BsRule.{BsRule};
 ghost use Rattle.ca_rule.specs.declared.fault.RuleFault.{RuleFault};
 ghost use Rattle.ca_rule.specs.declared.fault.RuleFault.TheVariants.{Bounded, Wakes, Unknown};
@@ -24,6 +24,23 @@ pub fn rule_or_fault()
     ensures rule_alone { (text : List ℕ) (rule : BsRule) (fault : RuleFault) → Names text rule → IsFaultOf text fault → ⊥ }
     ensures one_fault { (text : List ℕ) (f g : RuleFault) → IsFaultOf text f → IsFaultOf text g → f ≡ g }
 {}
+
+/// The printed form of a rule names that rule.
+pub fn names_itself(rule: &BsRule)
+    ensures { Names (printed rule.now.hood rule.now.birth rule.now.survival) rule.now }
+{
+    let _ = rule.birth.places();
+    let _ = rule.survival.places();
+}
+
+/// Two rules are printed alike exactly where they are equal.
+pub fn alike(a: &BsRule, b: &BsRule)
+    ensures { (printed a.now.hood a.now.birth a.now.survival ≡ printed b.now.hood b.now.birth b.now.survival)
+        ↔ ((a.now.hood ≡ b.now.hood) × (a.now.birth ≡ b.now.birth) × (a.now.survival ≡ b.now.survival)) }
+{
+    names_itself(a);
+    names_itself(b);
+}
 
 /// Some texts that name rules, and printed rules.
 pub fn worked_examples()
@@ -58,13 +75,13 @@ pub fn worked_faults()
 pub fn worked_next_cells()
     ensures two_is_a_count { is_count (counts_of (codes "23")) 2 ≡ true }
     ensures nine_is_no_count { is_count (counts_of (codes "012345678")) 9 ≡ false }
-    ensures centre_of_a_blinker_survives { next_of Moore (counts_of (codes "3")) (counts_of (codes "23")) (0 ∷ 0 ∷ 0 ∷ 1 ∷ 1 ∷ 1 ∷ 0 ∷ 0 ∷ 0 ∷ []) ≡ 1 }
-    ensures north_of_a_blinker_is_born { next_of Moore (counts_of (codes "3")) (counts_of (codes "23")) (0 ∷ 0 ∷ 0 ∷ 0 ∷ 0 ∷ 0 ∷ 1 ∷ 1 ∷ 1 ∷ []) ≡ 1 }
-    ensures four_neighbours_are_too_many { next_of Moore (counts_of (codes "3")) (counts_of (codes "23")) (1 ∷ 0 ∷ 1 ∷ 0 ∷ 1 ∷ 0 ∷ 1 ∷ 0 ∷ 1 ∷ []) ≡ 0 }
-    ensures north_west_is_not_among_four { next_of VonNeumann (counts_of (codes "1")) (counts_of []) (1 ∷ 0 ∷ 0 ∷ 0 ∷ 0 ∷ 0 ∷ 0 ∷ 0 ∷ 0 ∷ []) ≡ 0 }
-    ensures north_is_among_four { next_of VonNeumann (counts_of (codes "1")) (counts_of []) (0 ∷ 1 ∷ 0 ∷ 0 ∷ 0 ∷ 0 ∷ 0 ∷ 0 ∷ 0 ∷ []) ≡ 1 }
-    ensures north_east_is_not_among_six { next_of Hex (counts_of (codes "1")) (counts_of []) (0 ∷ 0 ∷ 1 ∷ 0 ∷ 0 ∷ 0 ∷ 0 ∷ 0 ∷ 0 ∷ []) ≡ 0 }
-    ensures north_west_is_among_six { next_of Hex (counts_of (codes "1")) (counts_of []) (1 ∷ 0 ∷ 0 ∷ 0 ∷ 0 ∷ 0 ∷ 0 ∷ 0 ∷ 0 ∷ []) ≡ 1 }
+    ensures centre_of_a_blinker_survives { bs_cell Moore (codes "3") (codes "23") (codes "000111000") ≡ 1 }
+    ensures north_of_a_blinker_is_born { bs_cell Moore (codes "3") (codes "23") (codes "000000111") ≡ 1 }
+    ensures four_neighbours_are_too_many { bs_cell Moore (codes "3") (codes "23") (codes "101010101") ≡ 0 }
+    ensures north_west_is_not_among_four { bs_cell VonNeumann (codes "1") [] (codes "100000000") ≡ 0 }
+    ensures north_is_among_four { bs_cell VonNeumann (codes "1") [] (codes "010000000") ≡ 1 }
+    ensures north_east_is_not_among_six { bs_cell Hex (codes "1") [] (codes "001000000") ≡ 0 }
+    ensures north_west_is_among_six { bs_cell Hex (codes "1") [] (codes "100000000") ≡ 1 }
 {}
 
 /// Some masks.
@@ -73,24 +90,7 @@ pub fn worked_masks()
     ensures no_birth_sets_no_bit { masks_of Moore (counts_of []) (counts_of (codes "8")) ≡ Some (0, 256) }
     ensures four_neighbours_have_none { masks_of VonNeumann (counts_of (codes "1")) (counts_of []) ≡ None }
     ensures six_neighbours_have_none { masks_of Hex (counts_of (codes "6")) (counts_of (codes "6")) ≡ None }
-    ensures life_goes_by_its_masks { moore_next 8 12 (0 ∷ 0 ∷ 0 ∷ 1 ∷ 1 ∷ 1 ∷ 0 ∷ 0 ∷ 0 ∷ []) ≡ 1 }
-    ensures dead_cells_are_born_on_three { moore_next 8 12 (0 ∷ 0 ∷ 0 ∷ 0 ∷ 0 ∷ 0 ∷ 1 ∷ 1 ∷ 1 ∷ []) ≡ 1 }
-    ensures dead_cells_are_not_born_on_two { moore_next 8 12 (0 ∷ 0 ∷ 0 ∷ 1 ∷ 0 ∷ 1 ∷ 0 ∷ 0 ∷ 0 ∷ []) ≡ 0 }
+    ensures life_goes_by_its_masks { moore_next 8 12 (digits (codes "000111000")) ≡ 1 }
+    ensures dead_cells_are_born_on_three { moore_next 8 12 (digits (codes "000000111")) ≡ 1 }
+    ensures dead_cells_are_not_born_on_two { moore_next 8 12 (digits (codes "000101000")) ≡ 0 }
 {}
-
-/// The printed form of a rule names that rule.
-pub fn names_itself(rule: &BsRule)
-    ensures { Names (printed rule.now.hood rule.now.birth rule.now.survival) rule.now }
-{
-    let _ = rule.birth.places();
-    let _ = rule.survival.places();
-}
-
-/// Two rules are printed alike exactly where they are equal.
-pub fn alike(a: &BsRule, b: &BsRule)
-    ensures { (printed a.now.hood a.now.birth a.now.survival ≡ printed b.now.hood b.now.birth b.now.survival)
-        ↔ ((a.now.hood ≡ b.now.hood) × (a.now.birth ≡ b.now.birth) × (a.now.survival ≡ b.now.survival)) }
-{
-    names_itself(a);
-    names_itself(b);
-}

@@ -8,6 +8,7 @@ ghost use Rattle.ca_rule.specs.Generations.{next_of};
 ghost use Rattle.ca_rule.specs.GenerationsText.{Spells, Names, IsFaultOf, printed};
 ghost use Rattle.ca_rule.specs.Next as bs;
 ghost use Rattle.ca_rule.specs.Spelling as bs_text;
+ghost use Rattle.ca_rule.specs.TableExamples.{generations_cell};
 ghost use Rattle.ca_rule.specs.declared.counts.Counts.{Counts};
 ghost use Rattle.ca_rule.specs.declared.fault.RuleFault.{RuleFault};
 ghost use Rattle.ca_rule.specs.declared.fault.RuleFault.TheVariants.{Bounded, Wakes, Unknown};
@@ -27,43 +28,6 @@ pub fn generations_rule_or_fault()
     ensures rule_alone { (text : List ℕ) (rule : GenRule) (fault : RuleFault) → Names text rule → IsFaultOf text fault → ⊥ }
     ensures one_fault { (text : List ℕ) (f g : RuleFault) → IsFaultOf text f → IsFaultOf text g → f ≡ g }
     ensures one_notation { (text survival birth : List ℕ) (states : ℕ) → Spells text survival birth states → bs_text.SpellsNone text }
-{}
-
-/// Some texts that name rules, and printed rules.
-pub fn worked_generations()
-    ensures brians_brain_is_spelled { Spells (codes "/2/3") [] (codes "2") 3 }
-    ensures star_wars_is_spelled { Spells (codes "345/2/4") (codes "345") (codes "2") 4 }
-    ensures digits_may_stand_in_any_order { Spells (codes "332/33/03") (codes "332") (codes "33") 3 }
-    ensures slashes_may_stand_alone { Spells (codes "//256") [] [] 256 }
-    ensures brians_brain_is_named { (rule : GenRule) → rule.survival ≡ counts_of [] → rule.birth ≡ counts_of (codes "2") → rule.states ≡ 3 → Names (codes "/2/3") rule }
-    ensures brians_brain_is_printed { printed (counts_of []) (counts_of (codes "2")) 3 ≡ codes "/2/3" }
-    ensures star_wars_is_printed { printed (counts_of (codes "534")) (counts_of (codes "22")) 4 ≡ codes "345/2/4" }
-    ensures most_states_are_printed { printed (counts_of (codes "23")) (counts_of (codes "3")) 256 ≡ codes "23/3/256" }
-{}
-
-/// Some texts that name no rule: one wakes the empty plane, one is of a torus. Of the others some have too few or too many
-/// states, or no number of states; some have a count above 8, with birth on 0 or without; and some have a letter, a blank,
-/// or other slashes.
-pub fn worked_generations_faults()
-    ensures wakes { IsFaultOf (codes "2/0/3") Wakes }
-    ensures bounded { IsFaultOf (codes "/2/3:T30,20") Bounded }
-    ensures unknown { All (λ text. IsFaultOf text Unknown) (
-        codes "2/3/1" ∷ codes "2/3/257" ∷ codes "2/3/4294967298" ∷ codes "2/3/" ∷ codes "9/3/3" ∷ codes "9/0/3"
-        ∷ codes "S2/B3/3" ∷ codes "2/3/ 3" ∷ codes "2/3/3/" ∷ codes "23/3" ∷ []) }
-{}
-
-/// Some cells under Brian's Brain, Star Wars, and Life written with two states.
-pub fn worked_generations_cells()
-    ensures two_live_cells_give_birth { next_of (counts_of []) (counts_of (codes "2")) 3 (1 ∷ 0 ∷ 0 ∷ 0 ∷ 0 ∷ 0 ∷ 0 ∷ 0 ∷ 1 ∷ []) ≡ 1 }
-    ensures dying_cells_are_not_counted { next_of (counts_of []) (counts_of (codes "2")) 3 (1 ∷ 0 ∷ 0 ∷ 2 ∷ 0 ∷ 2 ∷ 0 ∷ 0 ∷ 1 ∷ []) ≡ 1 }
-    ensures two_dying_cells_give_no_birth { next_of (counts_of []) (counts_of (codes "2")) 3 (2 ∷ 0 ∷ 0 ∷ 0 ∷ 0 ∷ 0 ∷ 0 ∷ 0 ∷ 2 ∷ []) ≡ 0 }
-    ensures live_cell_begins_to_die { next_of (counts_of []) (counts_of (codes "2")) 3 (1 ∷ 0 ∷ 0 ∷ 0 ∷ 1 ∷ 0 ∷ 0 ∷ 0 ∷ 1 ∷ []) ≡ 2 }
-    ensures dying_cell_is_not_born { next_of (counts_of []) (counts_of (codes "2")) 3 (1 ∷ 0 ∷ 0 ∷ 0 ∷ 2 ∷ 0 ∷ 0 ∷ 0 ∷ 1 ∷ []) ≡ 0 }
-    ensures three_live_cells_keep_one { next_of (counts_of (codes "345")) (counts_of (codes "2")) 4 (1 ∷ 1 ∷ 1 ∷ 0 ∷ 1 ∷ 0 ∷ 0 ∷ 2 ∷ 3 ∷ []) ≡ 1 }
-    ensures two_live_cells_do_not { next_of (counts_of (codes "345")) (counts_of (codes "2")) 4 (1 ∷ 1 ∷ 2 ∷ 0 ∷ 1 ∷ 0 ∷ 0 ∷ 2 ∷ 3 ∷ []) ≡ 2 }
-    ensures dying_cell_goes_on { next_of (counts_of (codes "345")) (counts_of (codes "2")) 4 (1 ∷ 1 ∷ 1 ∷ 0 ∷ 2 ∷ 0 ∷ 0 ∷ 0 ∷ 0 ∷ []) ≡ 3 }
-    ensures last_state_dies { next_of (counts_of (codes "345")) (counts_of (codes "2")) 4 (1 ∷ 1 ∷ 1 ∷ 0 ∷ 3 ∷ 0 ∷ 0 ∷ 0 ∷ 0 ∷ []) ≡ 0 }
-    ensures of_two_states_none_is_dying { next_of (counts_of (codes "23")) (counts_of (codes "3")) 2 (0 ∷ 0 ∷ 0 ∷ 0 ∷ 1 ∷ 0 ∷ 0 ∷ 0 ∷ 0 ∷ []) ≡ 0 }
 {}
 
 /// Of two states, each cell is next what it is under the B/S rule of the same counts over all eight neighbours.
@@ -101,3 +65,40 @@ pub fn generations_do_alike(a: &GenRule, b: &GenRule)
     let _ = b.survival.places();
     let _ = b.birth.places();
 }
+
+/// Some texts that name rules, and printed rules.
+pub fn worked_generations()
+    ensures brians_brain_is_spelled { Spells (codes "/2/3") [] (codes "2") 3 }
+    ensures star_wars_is_spelled { Spells (codes "345/2/4") (codes "345") (codes "2") 4 }
+    ensures digits_may_stand_in_any_order { Spells (codes "332/33/03") (codes "332") (codes "33") 3 }
+    ensures slashes_may_stand_alone { Spells (codes "//256") [] [] 256 }
+    ensures brians_brain_is_named { (rule : GenRule) → rule.survival ≡ counts_of [] → rule.birth ≡ counts_of (codes "2") → rule.states ≡ 3 → Names (codes "/2/3") rule }
+    ensures brians_brain_is_printed { printed (counts_of []) (counts_of (codes "2")) 3 ≡ codes "/2/3" }
+    ensures star_wars_is_printed { printed (counts_of (codes "534")) (counts_of (codes "22")) 4 ≡ codes "345/2/4" }
+    ensures most_states_are_printed { printed (counts_of (codes "23")) (counts_of (codes "3")) 256 ≡ codes "23/3/256" }
+{}
+
+/// Some texts that name no rule: one wakes the empty plane, one is of a torus. Of the others some have too few or too many
+/// states, or no number of states; some have a count above 8, with birth on 0 or without; and some have a letter, a blank,
+/// or other slashes.
+pub fn worked_generations_faults()
+    ensures wakes { IsFaultOf (codes "2/0/3") Wakes }
+    ensures bounded { IsFaultOf (codes "/2/3:T30,20") Bounded }
+    ensures unknown { All (λ text. IsFaultOf text Unknown) (
+        codes "2/3/1" ∷ codes "2/3/257" ∷ codes "2/3/4294967298" ∷ codes "2/3/" ∷ codes "9/3/3" ∷ codes "9/0/3"
+        ∷ codes "S2/B3/3" ∷ codes "2/3/ 3" ∷ codes "2/3/3/" ∷ codes "23/3" ∷ []) }
+{}
+
+/// Some cells under Brian's Brain, Star Wars, and Life written with two states.
+pub fn worked_generations_cells()
+    ensures two_live_cells_give_birth { generations_cell [] (codes "2") 3 (codes "100000001") ≡ 1 }
+    ensures dying_cells_are_not_counted { generations_cell [] (codes "2") 3 (codes "100202001") ≡ 1 }
+    ensures two_dying_cells_give_no_birth { generations_cell [] (codes "2") 3 (codes "200000002") ≡ 0 }
+    ensures live_cell_begins_to_die { generations_cell [] (codes "2") 3 (codes "100010001") ≡ 2 }
+    ensures dying_cell_is_not_born { generations_cell [] (codes "2") 3 (codes "100020001") ≡ 0 }
+    ensures three_live_cells_keep_one { generations_cell (codes "345") (codes "2") 4 (codes "111010023") ≡ 1 }
+    ensures two_live_cells_do_not { generations_cell (codes "345") (codes "2") 4 (codes "112010023") ≡ 2 }
+    ensures dying_cell_goes_on { generations_cell (codes "345") (codes "2") 4 (codes "111020000") ≡ 3 }
+    ensures last_state_dies { generations_cell (codes "345") (codes "2") 4 (codes "111030000") ≡ 0 }
+    ensures of_two_states_none_is_dying { generations_cell (codes "23") (codes "3") 2 (codes "000010000") ≡ 0 }
+{}

@@ -1,29 +1,24 @@
 use Rattle.std.proofs.Common.{ℕ, List, arith, codes, refl, inl, inr, [], ◌∷◌, ◌++◌, ◌≡◌, true}
+use Rattle.std.specs.List.{list_all}
+use Rattle.ca_plane.specs.Bytes.{is_blank, Every}
 use Rattle.ca_rule.specs.declared.table.neighbourhood.Neighbourhood.TheVariants.{VonNeumann}
 use Rattle.ca_rule.specs.declared.table.neighbourhood.Symmetry.TheVariants.{Rotate4}
 use Rattle.ca_rule.specs.declared.table.slot.Slot.TheVariants.{Number}
-use Rattle.ca_rule.specs.TableLines.{Line, lines_said, IsTransitionLine}
+use Rattle.ca_rule.specs.TableLines.{Line, lines_said, begins_variable, is_field, fields_between, IsVariableLine, IsTransitionLine}
 use Rattle.ca_rule.specs.TableNext.{TableRule}
 use Rattle.ca_rule.specs.TableText.{HasTable, are_settings, Settings, Said, nothing, SaysVariable, SaysTransition, made, IsTable}
 use Rattle.ca_rule.specs.TableFaults.{HaveEnd}
-use Rattle.ca_rule.specs.TableExamples.{file_with, one_neighbour, a}
+use Rattle.ca_rule.specs.TableExamples.{file_with, file_of, one_neighbour, a}
 use Rattle.ca_rule.proofs.table.laws.worked_texts.Goals as goal
 
+-- the line of a variable `a`, with a blank after `var`
+is_variable : {line : Line} {fields : List (List ℕ)} (second third inside : List ℕ) → begins_variable line ≡ true → Every is_blank second → Every is_blank third → fields_between inside ≡ fields → list_all is_field fields ≡ true
+    → line.1 ≡ codes "var" ++ (codes " " ++ (codes "a" ++ (second ++ (codes "=" ++ (third ++ (codes "{" ++ (inside ++ codes "}"))))))) → IsVariableLine line (codes "a") fields
+is_variable second third inside b s t f a w =
+    record { first = codes " "; second = second; third = third; inside = inside; begins = b; first_blanks = refl; second_blanks = s; third_blanks = t; named = refl; fields_are = f; are_fields = a; spelled = w }
+
 pub returns-clause-variable_is_spelled : goal.returns-clause-variable_is_spelled
-returns-clause-variable_is_spelled c = record {
-  first = codes " ";
-  second = codes " ";
-  third = codes " ";
-  inside = codes " 1 , b ";
-  begins = refl;
-  first_blanks = refl;
-  second_blanks = refl;
-  third_blanks = refl;
-  named = refl;
-  fields_are = refl;
-  are_fields = refl;
-  spelled = refl;
-}
+returns-clause-variable_is_spelled c = is_variable (codes " ") (codes " ") (codes " 1 , b ") refl refl refl refl refl refl
 
 -- the settings of the examples, and what their statements say
 abbrev of_four : Settings
@@ -47,20 +42,7 @@ says_one = record {
   name = codes "a";
   fields = codes "1" ∷ codes "2" ∷ [];
   slots = Number 1 ∷ Number 2 ∷ [];
-  spelled = record {
-    first = codes " ";
-    second = [];
-    third = [];
-    inside = codes "1,2";
-    begins = refl;
-    first_blanks = refl;
-    second_blanks = refl;
-    third_blanks = refl;
-    named = refl;
-    fields_are = refl;
-    are_fields = refl;
-    spelled = refl;
-  };
+  spelled = is_variable [] [] (codes "1,2") refl refl refl refl refl refl;
   stand = ((refl, refl, omega arith), ((refl, refl, omega arith), tt));
   after_is = refl;
 }
@@ -81,15 +63,11 @@ says_both last is_spelled = record {
 head : (bytes : List ℕ) (lines : List Line) → lines_said bytes ≡ (1, codes "@RULE Spread") ∷ ((2, codes "@TABLE") ∷ lines) → HasTable bytes (codes "Spread") lines
 head bytes lines said = record { rule_line = (1, codes "@RULE Spread"); skipped = []; table_line = (2, codes "@TABLE"); named = refl; no_table = refl; begins = refl; whole = said }
 
--- the file with good settings and this transition
-abbrev file : List ℕ → List ℕ
-file last = file_with (codes "n_states:3") (codes "neighborhood:vonNeumann") (codes "symmetries:rotate4") last
-
 abbrev good : List Line
 good = settings_with (codes "n_states:3") (codes "neighborhood:vonNeumann") (codes "symmetries:rotate4")
 
-is_read : (last : List ℕ) → HasTable (file last) (codes "Spread") (good ++ (statements_with last ++ [])) → IsTransitionLine (7, last) 6 (codes "0" ∷ codes "a" ∷ codes "0" ∷ codes "0" ∷ codes "0" ∷ codes "a" ∷ [])
-    → (table : TableRule) × IsTable (file last) table × (table.transitions ≡ one_neighbour ∷ [])
+is_read : (last : List ℕ) → HasTable (file_of last) (codes "Spread") (good ++ (statements_with last ++ [])) → IsTransitionLine (7, last) 6 (codes "0" ∷ codes "a" ∷ codes "0" ∷ codes "0" ∷ codes "0" ∷ codes "a" ∷ [])
+    → (table : TableRule) × IsTable (file_of last) table × (table.transitions ≡ one_neighbour ∷ [])
 is_read last has is_spelled = (
   made (codes "Spread") of_four both_said,
   record {
