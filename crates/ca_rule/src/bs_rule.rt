@@ -14,9 +14,9 @@ use crate::spelling::spelling_of;
 use ca_plane::{Automaton, Memory, Nine};
 use std::alloc::Global;
 
-/// A two-state rule in B/S notation (Golly Help, QuickLife): a dead cell with a birth count of live neighbours is born,
-/// a live cell with a survival count survives, and every other cell is dead next.
-/// A rule never gives birth at a count of 0, and has no count above the number of neighbours that it counts.
+/// A two-state rule in B/S notation (Golly Help, QuickLife): a dead cell with a birth count of live
+/// neighbours is born, a live cell with a survival count survives, and every other cell is dead next. A rule
+/// never gives birth at a count of 0, and has no count above the number of neighbours that it counts.
 #[derive(Clone, Copy, Debug)]
 pub struct BsRule {
     pub birth: Counts,
@@ -30,7 +30,8 @@ pub struct BsRule {
 impl BsRule {
     ghost use Rattle.ca_rule.specs.Spelling.{Names, IsFaultOf, printed};
 
-    /// The rule that the text names, as `B3/S23`, `s23b3` and `23/3` name Conway's Life. Nothing here takes memory.
+    /// The rule that the text names, as `B3/S23`, `s23b3` and `23/3` name Conway's Life. Nothing here takes
+    /// memory.
     pub fn parse(text: &[u8]) -> Result<BsRule, RuleFault>
         ensures found { IfOk result (λ rule. Names text.now rule) }
         ensures fault { IfErr result (λ f. IsFaultOf text.now f) }
@@ -54,9 +55,11 @@ impl BsRule {
         })
     }
 
-    /// The one printed form of the rule, as `B3/S23`: each list of digits rising, then `V` or `H` where it applies.
+    /// The one printed form of the rule, as `B3/S23`: each list of digits rising, then `V` or `H` where it
+    /// applies.
     pub fn text(&self, alloc: Global) -> Result<Vec<u8>, Memory>
-        ensures printed { IfOk result (λ v. v.items ≡ printed self.now.hood self.now.birth self.now.survival) }
+        ensures printed { IfOk result
+            (λ v. v.items ≡ printed self.now.hood self.now.birth self.now.survival) }
         ensures word { IfOk result (λ v. IsWord v.items) }
     {
         let mut out = Vec::new(alloc);
@@ -68,10 +71,12 @@ impl BsRule {
         Ok(out)
     }
 
-    /// Whether the other rule is the same: it counts the same neighbours, and has the same counts for birth and for
-    /// survival. Nothing here takes memory.
+    /// Whether the other rule is the same: it counts the same neighbours, and has the same counts for birth
+    /// and for survival. Nothing here takes memory.
     pub fn same(&self, other: &BsRule) -> bool
-        ensures { IsTrue result ↔ ((self.now.hood ≡ other.now.hood) × (self.now.birth ≡ other.now.birth) × (self.now.survival ≡ other.now.survival)) }
+        ensures { IsTrue result
+            ↔ ((self.now.hood ≡ other.now.hood) × (self.now.birth ≡ other.now.birth)
+            × (self.now.survival ≡ other.now.survival)) }
     {
         if self.hood != other.hood {
             return false;
@@ -109,7 +114,8 @@ impl Automaton for BsRule {
 
     /// The masks of its birth and survival counts, where it counts all eight neighbours; else `None`.
     fn masks(&self) -> Option<(u16, u16)>
-        ensures moore { IfSome result (λ masks. IsMoore 2 (next_of self.now.hood self.now.birth self.now.survival) masks.0 masks.1) }
+        ensures moore { IfSome result
+            (λ masks. IsMoore 2 (next_of self.now.hood self.now.birth self.now.survival) masks.0 masks.1) }
         ensures masks { result ≡ masks_of self.now.hood self.now.birth self.now.survival }
     {
         match self.hood {

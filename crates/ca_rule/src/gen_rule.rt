@@ -23,10 +23,10 @@ pub use laws::{
 use spelling::spelling_of;
 use std::alloc::Global;
 
-/// A rule of the family Generations (Golly Help, Algorithms: Generations): a dead cell with a birth count of live
-/// neighbours is born, and a live cell with a survival count stays live. Every other live cell begins to die: it goes up
-/// by one state in each generation, and is dead after the last state. State 1 alone is live and is counted.
-/// A rule never gives birth at a count of 0, and has from 2 to 256 states.
+/// A rule of the family Generations (Golly Help, Algorithms: Generations): a dead cell with a birth count of
+/// live neighbours is born, and a live cell with a survival count stays live. Every other live cell begins to
+/// die: it goes up by one state in each generation, and is dead after the last state. State 1 alone is live
+/// and is counted. A rule never gives birth at a count of 0, and has from 2 to 256 states.
 #[derive(Clone, Copy, Debug)]
 pub struct GenRule {
     pub survival: Counts,
@@ -69,14 +69,15 @@ impl GenRule {
         })
     }
 
-    /// The one printed form of the rule, as `345/2/4`: the survival digits and the birth digits, each list rising, and the
-    /// number of states.
+    /// The one printed form of the rule, as `345/2/4`: the survival digits and the birth digits, each list
+    /// rising, and the number of states.
     ///
     /// # Errors
     ///
     /// Fails where there is no memory for it.
     pub fn text(&self, alloc: Global) -> Result<Vec<u8>, Memory>
-        ensures printed { IfOk result (λ v. v.items ≡ printed self.now.survival self.now.birth self.now.states) }
+        ensures printed { IfOk result
+            (λ v. v.items ≡ printed self.now.survival self.now.birth self.now.states) }
         ensures word { IfOk result (λ v. IsWord v.items) }
     {
         let mut out = Vec::new(alloc);
@@ -88,10 +89,12 @@ impl GenRule {
         Ok(out)
     }
 
-    /// Whether the other rule is the same: it has the same counts for survival and for birth, and as many states. Nothing
-    /// here takes memory.
+    /// Whether the other rule is the same: it has the same counts for survival and for birth, and as many
+    /// states. Nothing here takes memory.
     pub fn same(&self, other: &GenRule) -> bool
-        ensures { IsTrue result ↔ ((self.now.survival ≡ other.now.survival) × (self.now.birth ≡ other.now.birth) × (self.now.states ≡ other.now.states)) }
+        ensures { IsTrue result
+            ↔ ((self.now.survival ≡ other.now.survival) × (self.now.birth ≡ other.now.birth)
+            × (self.now.states ≡ other.now.states)) }
     {
         if self.survival != other.survival {
             return false;

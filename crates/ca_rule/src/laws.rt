@@ -1,5 +1,5 @@
-//! What holds of rule texts, of printed rules and of next cells, said of the definitions alone. These functions are
-//! of no use to a program: each has a law for its contract.
+//! What holds of rule texts, of printed rules and of next cells, said of the definitions alone. These
+//! functions are of no use to a program: each has a law for its contract.
 
 ghost use Rattle.std.specs.Prelude.{◌≡◌, ◌↔◌, ℕ, List, [], ◌∷◌, true, false, codes, Some, None};
 ghost use Rattle.ca_plane.specs.Moore.{moore_next};
@@ -16,12 +16,14 @@ use crate::bs_rule::BsRule;
 
 /// A text names one rule at most.
 pub fn one_rule()
-    ensures { (text : List ℕ) (r s : BsRule) → Names text r → Names text s → (r.hood ≡ s.hood) × (r.birth ≡ s.birth) × (r.survival ≡ s.survival) }
+    ensures { (text : List ℕ) (r s : BsRule) → Names text r → Names text s
+        → (r.hood ≡ s.hood) × (r.birth ≡ s.birth) × (r.survival ≡ s.survival) }
 {}
 
 /// A text that names a rule has no fault, and another has one fault at most.
 pub fn rule_or_fault()
-    ensures rule_alone { (text : List ℕ) (rule : BsRule) (fault : RuleFault) → Names text rule → IsFaultOf text fault → ⊥ }
+    ensures rule_alone { (text : List ℕ) (rule : BsRule) (fault : RuleFault) → Names text rule
+        → IsFaultOf text fault → ⊥ }
     ensures one_fault { (text : List ℕ) (f g : RuleFault) → IsFaultOf text f → IsFaultOf text g → f ≡ g }
 {}
 
@@ -51,10 +53,14 @@ pub fn worked_examples()
     ensures slash_alone_spells_no_counts { Spells (codes "/") [] [] Moore }
     ensures four_neighbours_are_spelled { Spells (codes "b1sv") (codes "1") [] VonNeumann }
     ensures six_neighbours_are_spelled { Spells (codes "B6/S6h") (codes "6") (codes "6") Hex }
-    ensures life_is_named { (rule : BsRule) → rule.hood ≡ Moore → rule.birth ≡ counts_of (codes "3") → rule.survival ≡ counts_of (codes "23") → Names (codes "B3/S23") rule }
-    ensures life_is_printed { printed Moore (counts_of (codes "33")) (counts_of (codes "32")) ≡ codes "B3/S23" }
-    ensures four_neighbours_are_printed { printed VonNeumann (counts_of (codes "1")) (counts_of []) ≡ codes "B1/SV" }
-    ensures six_neighbours_are_printed { printed Hex (counts_of (codes "6")) (counts_of (codes "6")) ≡ codes "B6/S6H" }
+    ensures life_is_named { (rule : BsRule) → rule.hood ≡ Moore → rule.birth ≡ counts_of (codes "3")
+        → rule.survival ≡ counts_of (codes "23") → Names (codes "B3/S23") rule }
+    ensures life_is_printed { printed Moore (counts_of (codes "33")) (counts_of (codes "32"))
+        ≡ codes "B3/S23" }
+    ensures four_neighbours_are_printed { printed VonNeumann (counts_of (codes "1")) (counts_of [])
+        ≡ codes "B1/SV" }
+    ensures six_neighbours_are_printed { printed Hex (counts_of (codes "6")) (counts_of (codes "6"))
+        ≡ codes "B6/S6H" }
 {}
 
 /// Some texts that name no rule.

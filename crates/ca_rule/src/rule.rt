@@ -3,7 +3,8 @@
 ghost use Rattle.std.specs.Prelude.{◌≡◌, ◌↔◌, None, Some, IsTrue, IfOk, IfErr, MatchOption, IfSome};
 ghost use Rattle.ca_plane.specs.Bytes.{IsWord};
 ghost use Rattle.ca_plane.specs.Moore.{IsMoore};
-ghost use Rattle.ca_rule.specs.Rule.{rule_value, first_named, NamesRule, IsRuleFault, printed_form, IsSameRule};
+ghost use Rattle.ca_rule.specs.Rule.{rule_value, first_named, NamesRule, IsRuleFault, printed_form};
+ghost use Rattle.ca_rule.specs.Rule.{IsSameRule};
 
 use crate::bs_rule::BsRule;
 use crate::fault::RuleFault;
@@ -23,9 +24,9 @@ pub enum Rule<'t> {
     Tab(&'t Table),
 }
 
-/// The rule that the text names: a rule in B/S notation, as `B3/S23`, `s23b3` and `23/3` name Conway's Life, or one of the
-/// family Generations, as `/2/3` names Brian's Brain, or else the first of the tables whose name is the text, byte for
-/// byte. Nothing here takes memory.
+/// The rule that the text names: a rule in B/S notation, as `B3/S23`, `s23b3` and `23/3` name Conway's Life,
+/// or one of the family Generations, as `/2/3` names Brian's Brain, or else the first of the tables whose
+/// name is the text, byte for byte. Nothing here takes memory.
 ///
 /// # Errors
 ///
@@ -52,7 +53,8 @@ pub fn resolve<'t>(text: &[u8], tables: &'t [Table]) -> Result<Rule<'t>, RuleFau
 
 /// The first of the tables of this name.
 fn first_named<'t>(name: &[u8], tables: &'t [Table]) -> Option<&'t Table>
-    ensures { MatchOption result (first_named name.now tables.now ≡ None) (λ table. first_named name.now tables.now ≡ Some table.now) }
+    ensures { MatchOption result (first_named name.now tables.now ≡ None)
+        (λ table. first_named name.now tables.now ≡ Some table.now) }
 {
     let mut left = tables;
     'tables: while let Some((table, later)) = left.split_first() {
@@ -81,9 +83,9 @@ impl Rule<'_> {
         }
     }
 
-    /// Whether the other rule is the same: both are in B/S notation, count the same neighbours, and have the same counts
-    /// for birth and for survival; or both are of the family Generations, with the same counts and as many states; or
-    /// both are tables of one name. Nothing here takes memory.
+    /// Whether the other rule is the same: both are in B/S notation, count the same neighbours, and have the
+    /// same counts for birth and for survival; or both are of the family Generations, with the same counts
+    /// and as many states; or both are tables of one name. Nothing here takes memory.
     pub fn same(&self, other: &Rule<'_>) -> bool
         ensures { IsTrue result ↔ IsSameRule (rule_value self.now) (rule_value other.now) }
     {
@@ -134,7 +136,9 @@ impl Automaton for Rule<'_> {
 
     /// The masks of a B/S rule that counts all eight neighbours; else `None`.
     fn masks(&self) -> Option<(u16, u16)>
-        ensures moore { IfSome result (λ masks. IsMoore (states_of (rule_value self.now)) (next_of (rule_value self.now)) masks.0 masks.1) }
+        ensures moore { IfSome result
+            (λ masks. IsMoore (states_of (rule_value self.now))
+            (next_of (rule_value self.now)) masks.0 masks.1) }
         ensures masks { result ≡ masks_of (rule_value self.now) }
     {
         match *self {
@@ -144,7 +148,15 @@ impl Automaton for Rule<'_> {
         }
     }
 
-    ghost closed = { elim [ Bs bs ↦ λ nine _ _ _. Prim.grind (arith, nat_tests) | Gen rule ↦ λ nine sound _ _. Prim.grind (arith, nat_tests) | Tab table ↦ λ nine sound. sound.closed nine ] };
+    ghost closed = { elim [
+      | Bs bs ↦ λ nine _ _ _. Prim.grind (arith, nat_tests)
+      | Gen rule ↦ λ nine sound _ _. Prim.grind (arith, nat_tests)
+      | Tab table ↦ λ nine sound. sound.closed nine
+    ] };
 
-    ghost quiet = { elim [ Bs bs ↦ Prim.search rules | Gen rule ↦ λ sound. Prim.grind (arith, nat_tests) | Tab table ↦ λ sound. sound.quiet ] };
+    ghost quiet = { elim [
+      | Bs bs ↦ Prim.search rules
+      | Gen rule ↦ λ sound. Prim.grind (arith, nat_tests)
+      | Tab table ↦ λ sound. sound.quiet
+    ] };
 }

@@ -2,7 +2,8 @@
 
 ghost use Rattle.std.specs.Prelude.{◌≡◌, ◌≤◌, List, ℕ, None, Some, IfSome, IfNone, MatchOption};
 ghost use Rattle.ca_rule.specs.Counts.{are_digits_up_to};
-ghost use Rattle.ca_rule.specs.inner.TextParts.{is_letter, hood_of, body_of, without_slash, behind_letter, behind_slash, lists_around, lists_around_slash, lists_of};
+ghost use Rattle.ca_rule.specs.inner.TextParts.{is_letter, hood_of, body_of, without_slash, behind_letter};
+ghost use Rattle.ca_rule.specs.inner.TextParts.{behind_slash, lists_around, lists_around_slash, lists_of};
 ghost use Rattle.ca_rule.specs.Spelling.{Spells};
 ghost use Rattle.ca_rule.specs.declared.hood.Hood.{Hood};
 
@@ -54,7 +55,8 @@ fn without_slash(bytes: &[u8]) -> &[u8]
 fn behind_letter(bytes: &[u8], upper: u8) -> Option<&[u8]>
     requires low { 65 ≤ upper }
     requires high { upper ≤ 90 }
-    ensures { MatchOption result (behind_letter upper bytes.now ≡ None) (λ r. behind_letter upper bytes.now ≡ Some r.now) }
+    ensures { MatchOption result (behind_letter upper bytes.now ≡ None)
+        (λ r. behind_letter upper bytes.now ≡ Some r.now) }
 {
     let (first, rest) = bytes.split_first()?;
     if !is_letter(*first, upper) {
@@ -70,11 +72,13 @@ fn behind_slash(bytes: &[u8]) -> Option<&[u8]>
     bytes.strip_prefix(b"/")
 }
 
-/// The digits at the start, and what comes after the letter that follows them, with an optional `/` before it.
+/// The digits at the start, and what comes after the letter that follows them, with an optional `/` before
+/// it.
 fn lists_around(bytes: &[u8], upper: u8) -> Option<(&[u8], &[u8])>
     requires low { 65 ≤ upper }
     requires high { upper ≤ 90 }
-    ensures { MatchOption result (lists_around upper bytes.now ≡ None) (λ r. lists_around upper bytes.now ≡ Some (r.0.now, r.1.now)) }
+    ensures { MatchOption result (lists_around upper bytes.now ≡ None)
+        (λ r. lists_around upper bytes.now ≡ Some (r.0.now, r.1.now)) }
 {
     let (digits, rest) = split_digits(bytes);
     let later = behind_letter(without_slash(rest), upper)?;
@@ -83,7 +87,8 @@ fn lists_around(bytes: &[u8], upper: u8) -> Option<(&[u8], &[u8])>
 
 /// The digits at the start, and what comes after the `/` that follows them.
 pub(crate) fn lists_around_slash(bytes: &[u8]) -> Option<(&[u8], &[u8])>
-    ensures { MatchOption result (lists_around_slash bytes.now ≡ None) (λ r. lists_around_slash bytes.now ≡ Some (r.0.now, r.1.now)) }
+    ensures { MatchOption result (lists_around_slash bytes.now ≡ None)
+        (λ r. lists_around_slash bytes.now ≡ Some (r.0.now, r.1.now)) }
 {
     let (digits, rest) = split_digits(bytes);
     let later = behind_slash(rest)?;
@@ -92,7 +97,8 @@ pub(crate) fn lists_around_slash(bytes: &[u8]) -> Option<(&[u8], &[u8])>
 
 /// The birth and the survival digits of a text without its suffix, whatever follows its last `/` or letter.
 fn lists_of(body: &[u8]) -> Option<(&[u8], &[u8])>
-    ensures { MatchOption result (lists_of body.now ≡ None) (λ r. lists_of body.now ≡ Some (r.0.now, r.1.now)) }
+    ensures { MatchOption result (lists_of body.now ≡ None)
+        (λ r. lists_of body.now ≡ Some (r.0.now, r.1.now)) }
 {
     let (first, rest) = body.split_first()?;
     if is_letter(*first, b'B') {
@@ -119,7 +125,8 @@ pub(crate) fn are_digits_up_to(most: u8, digits: &[u8]) -> bool
 /// The digits and the neighbourhood that the text spells.
 pub(crate) fn spelling_of(text: &[u8]) -> Option<Spelled<'_>>
     ensures found { IfSome result (λ s. Spells text.now s.birth.now s.survival.now s.hood) }
-    ensures none { IfNone result ((birth survival : List ℕ) (hood : Hood) → Spells text.now birth survival hood → ⊥) }
+    ensures none { IfNone result ((birth survival : List ℕ) (hood : Hood)
+        → Spells text.now birth survival hood → ⊥) }
 {
     let (body, hood) = split_suffix(text);
     let (birth, survival) = lists_of(body)?;

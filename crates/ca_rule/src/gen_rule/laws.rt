@@ -1,5 +1,5 @@
-//! What holds of rules of the family Generations and of their texts, said of the definitions alone. These functions are
-//! of no use to a program: each has laws for its contract.
+//! What holds of rules of the family Generations and of their texts, said of the definitions alone. These
+//! functions are of no use to a program: each has laws for its contract.
 
 ghost use Rattle.std.specs.Prelude.{◌≡◌, ◌↔◌, ◌<◌, ℕ, List, [], ◌∷◌, length, codes};
 ghost use Rattle.std.specs.List.{All};
@@ -19,20 +19,25 @@ use crate::gen_rule::GenRule;
 
 /// A text names one rule at most.
 pub fn one_generations_rule()
-    ensures { (text : List ℕ) (r s : GenRule) → Names text r → Names text s → (r.survival ≡ s.survival) × (r.birth ≡ s.birth) × (r.states ≡ s.states) }
+    ensures { (text : List ℕ) (r s : GenRule) → Names text r → Names text s
+        → (r.survival ≡ s.survival) × (r.birth ≡ s.birth) × (r.states ≡ s.states) }
 {}
 
-/// A text that names a rule has no fault, and another has one fault at most. A text that spells a rule spells none in B/S
-/// notation.
+/// A text that names a rule has no fault, and another has one fault at most. A text that spells a rule spells
+/// none in B/S notation.
 pub fn generations_rule_or_fault()
-    ensures rule_alone { (text : List ℕ) (rule : GenRule) (fault : RuleFault) → Names text rule → IsFaultOf text fault → ⊥ }
+    ensures rule_alone { (text : List ℕ) (rule : GenRule) (fault : RuleFault) → Names text rule
+        → IsFaultOf text fault → ⊥ }
     ensures one_fault { (text : List ℕ) (f g : RuleFault) → IsFaultOf text f → IsFaultOf text g → f ≡ g }
-    ensures one_notation { (text survival birth : List ℕ) (states : ℕ) → Spells text survival birth states → bs_text.SpellsNone text }
+    ensures one_notation { (text survival birth : List ℕ) (states : ℕ) → Spells text survival birth states
+        → bs_text.SpellsNone text }
 {}
 
-/// Of two states, each cell is next what it is under the B/S rule of the same counts over all eight neighbours.
+/// Of two states, each cell is next what it is under the B/S rule of the same counts over all eight
+/// neighbours.
 pub fn two_states_do_as_bs()
-    ensures { (survival birth : Counts) (nine : List ℕ) → length nine ≡ 9 → All (λ s. s < 2) nine → next_of survival birth 2 nine ≡ bs.next_of Moore birth survival nine }
+    ensures { (survival birth : Counts) (nine : List ℕ) → length nine ≡ 9 → All (λ s. s < 2) nine
+        → next_of survival birth 2 nine ≡ bs.next_of Moore birth survival nine }
 {}
 
 /// The printed form of a rule names that rule.
@@ -45,19 +50,21 @@ pub fn generations_names_itself(rule: &GenRule)
 
 /// Two rules are printed alike exactly where they are equal.
 pub fn generations_alike(a: &GenRule, b: &GenRule)
-    ensures { (printed a.now.survival a.now.birth a.now.states ≡ printed b.now.survival b.now.birth b.now.states)
+    ensures { (printed a.now.survival a.now.birth a.now.states
+        ≡ printed b.now.survival b.now.birth b.now.states)
         ↔ ((a.now.survival ≡ b.now.survival) × (a.now.birth ≡ b.now.birth) × (a.now.states ≡ b.now.states)) }
 {
     generations_names_itself(a);
     generations_names_itself(b);
 }
 
-/// Two rules have as many states, and every cell of such states is next the same under both, exactly where they are
-/// equal.
+/// Two rules have as many states, and every cell of such states is next the same under both, exactly where
+/// they are equal.
 pub fn generations_do_alike(a: &GenRule, b: &GenRule)
     ensures { ((a.now.states ≡ b.now.states)
         × ((nine : List ℕ) → length nine ≡ 9 → All (λ s. s < a.now.states) nine
-        → next_of a.now.survival a.now.birth a.now.states nine ≡ next_of b.now.survival b.now.birth b.now.states nine))
+        → next_of a.now.survival a.now.birth a.now.states nine
+        ≡ next_of b.now.survival b.now.birth b.now.states nine))
         ↔ ((a.now.survival ≡ b.now.survival) × (a.now.birth ≡ b.now.birth) × (a.now.states ≡ b.now.states)) }
 {
     let _ = a.survival.places();
@@ -72,21 +79,24 @@ pub fn worked_generations()
     ensures star_wars_is_spelled { Spells (codes "345/2/4") (codes "345") (codes "2") 4 }
     ensures digits_may_stand_in_any_order { Spells (codes "332/33/03") (codes "332") (codes "33") 3 }
     ensures slashes_may_stand_alone { Spells (codes "//256") [] [] 256 }
-    ensures brians_brain_is_named { (rule : GenRule) → rule.survival ≡ counts_of [] → rule.birth ≡ counts_of (codes "2") → rule.states ≡ 3 → Names (codes "/2/3") rule }
+    ensures brians_brain_is_named { (rule : GenRule) → rule.survival ≡ counts_of []
+        → rule.birth ≡ counts_of (codes "2") → rule.states ≡ 3 → Names (codes "/2/3") rule }
     ensures brians_brain_is_printed { printed (counts_of []) (counts_of (codes "2")) 3 ≡ codes "/2/3" }
-    ensures star_wars_is_printed { printed (counts_of (codes "534")) (counts_of (codes "22")) 4 ≡ codes "345/2/4" }
-    ensures most_states_are_printed { printed (counts_of (codes "23")) (counts_of (codes "3")) 256 ≡ codes "23/3/256" }
+    ensures star_wars_is_printed { printed (counts_of (codes "534")) (counts_of (codes "22")) 4
+        ≡ codes "345/2/4" }
+    ensures most_states_are_printed { printed (counts_of (codes "23")) (counts_of (codes "3")) 256
+        ≡ codes "23/3/256" }
 {}
 
-/// Some texts that name no rule: one wakes the empty plane, one is of a torus. Of the others some have too few or too many
-/// states, or no number of states; some have a count above 8, with birth on 0 or without; and some have a letter, a blank,
-/// or other slashes.
+/// Some texts that name no rule: one wakes the empty plane, one is of a torus. Of the others some have too
+/// few or too many states, or no number of states; some have a count above 8, with birth on 0 or without; and
+/// some have a letter, a blank, or other slashes.
 pub fn worked_generations_faults()
     ensures wakes { IsFaultOf (codes "2/0/3") Wakes }
     ensures bounded { IsFaultOf (codes "/2/3:T30,20") Bounded }
     ensures unknown { All (λ text. IsFaultOf text Unknown) (
-        codes "2/3/1" ∷ codes "2/3/257" ∷ codes "2/3/4294967298" ∷ codes "2/3/" ∷ codes "9/3/3" ∷ codes "9/0/3"
-        ∷ codes "S2/B3/3" ∷ codes "2/3/ 3" ∷ codes "2/3/3/" ∷ codes "23/3" ∷ []) }
+        codes "2/3/1" ∷ codes "2/3/257" ∷ codes "2/3/4294967298" ∷ codes "2/3/" ∷ codes "9/3/3"
+        ∷ codes "9/0/3" ∷ codes "S2/B3/3" ∷ codes "2/3/ 3" ∷ codes "2/3/3/" ∷ codes "23/3" ∷ []) }
 {}
 
 /// Some cells under Brian's Brain, Star Wars, and Life written with two states.
@@ -100,5 +110,6 @@ pub fn worked_generations_cells()
     ensures two_live_cells_do_not { generations_cell (codes "345") (codes "2") 4 (codes "112010023") ≡ 2 }
     ensures dying_cell_goes_on { generations_cell (codes "345") (codes "2") 4 (codes "111020000") ≡ 3 }
     ensures last_state_dies { generations_cell (codes "345") (codes "2") 4 (codes "111030000") ≡ 0 }
-    ensures of_two_states_none_is_dying { generations_cell (codes "23") (codes "3") 2 (codes "000010000") ≡ 0 }
+    ensures of_two_states_none_is_dying { generations_cell (codes "23") (codes "3") 2
+        (codes "000010000") ≡ 0 }
 {}

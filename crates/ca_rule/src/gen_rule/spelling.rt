@@ -17,7 +17,8 @@ pub(crate) struct Spelled<'t> {
 
 /// The digits and the number of states that the text spells.
 pub(crate) fn spelling_of(text: &[u8]) -> Option<Spelled<'_>>
-    ensures { MatchOption result (parts_in text.now ≡ None) (λ s. parts_in text.now ≡ Some (s.survival.now, s.birth.now, s.states)) }
+    ensures { MatchOption result (parts_in text.now ≡ None)
+        (λ s. parts_in text.now ≡ Some (s.survival.now, s.birth.now, s.states)) }
 {
     let (survival, later) = lists_around_slash(text)?;
     let (birth, number) = lists_around_slash(later)?;

@@ -1,13 +1,15 @@
 //! The places that the slots of a transition take, slot by slot.
 
-ghost use Rattle.std.specs.Prelude.{◌≡◌, ◌==◌, ◌<◌, ◌≤◌, ◌+◌, [], ◌∷◌, ◌++◌, length, take, get_or, slice_index, remove};
+ghost use Rattle.std.specs.Prelude.{◌≡◌, ◌==◌, ◌<◌, ◌≤◌, ◌+◌, [], ◌∷◌, ◌++◌, length, take, get_or};
+ghost use Rattle.std.specs.Prelude.{slice_index, remove};
 ghost use Rattle.std.specs.List.{list_any};
 ghost use Rattle.ca_rule.specs.TableOrders.{ring};
 
 use crate::table::neighbourhood::Neighbourhood;
 use ca_plane::Nine;
 
-/// Places among nine cells: those that the first slots have taken, and those that are free, in the order of the ring.
+/// Places among nine cells: those that the first slots have taken, and those that are free, in the order of
+/// the ring.
 #[derive(Clone, Copy)]
 pub(crate) struct Choice {
     taken: [u8; 9],
@@ -65,7 +67,9 @@ impl Choice {
     /// Whether the cell at that free place is equal to the cell at a free place before it.
     pub(crate) fn repeats(&self, at: usize, nine: &Nine) -> bool
         requires { at < self.now.free_count }
-        ensures { result ≡ list_any (λ p. slice_index nine.now p == slice_index nine.now (get_or (free_of self.now) at 0)) (take at (free_of self.now)) }
+        ensures { result
+            ≡ list_any (λ p. slice_index nine.now p == slice_index nine.now (get_or (free_of self.now) at 0))
+            (take at (free_of self.now)) }
     {
         let cell = cell_at(nine, self.free[at]);
         has_cell(&self.free[..at], cell, nine)

@@ -29,7 +29,8 @@ impl Begun<'_> {
     ghost use Rattle.std.specs.List.{count_by};
     ghost use Rattle.ca_rule.specs.inner.TableCrowd.{has_room, may_take, one_takes, are_crowded};
 
-    /// Whether as many of the free cells are like the cell as slots left are like the slot, where that is a variable.
+    /// Whether as many of the free cells are like the cell as slots left are like the slot, where that is a
+    /// variable.
     fn has_room(&self, slot: Slot, cell: u8) -> bool
         ensures { result ≡ has_room self.now.nine.now self.now.left.now self.now.free.now slot cell }
     {
@@ -43,8 +44,10 @@ impl Begun<'_> {
 
     /// Whether the slot may take the cell.
     fn may_take(&self, slot: Slot, cell: u8) -> bool
-        ensures { let taken = zip self.now.slots.now (map (slice_index self.now.nine.now) self.now.places.now) in
-            result ≡ may_take self.now.variables.now self.now.nine.now taken self.now.left.now self.now.free.now slot cell }
+        ensures { let taken = zip self.now.slots.now
+            (map (slice_index self.now.nine.now) self.now.places.now) in
+            result ≡ may_take self.now.variables.now self.now.nine.now taken self.now.left.now
+            self.now.free.now slot cell }
     {
         if !admits(self.variables, slot, cell) {
             return false;
@@ -59,8 +62,10 @@ impl Begun<'_> {
 
     /// Whether one of the slots in the set may take the cell. The set's least bit stands for the first slot.
     fn one_takes(&self, slots: &[Slot], set: u8, cell: u8) -> bool
-        ensures { let taken = zip self.now.slots.now (map (slice_index self.now.nine.now) self.now.places.now) in
-            result ≡ one_takes self.now.variables.now self.now.nine.now taken self.now.left.now self.now.free.now slots.now set cell }
+        ensures { let taken = zip self.now.slots.now
+            (map (slice_index self.now.nine.now) self.now.places.now) in
+            result ≡ one_takes self.now.variables.now self.now.nine.now taken self.now.left.now
+            self.now.free.now slots.now set cell }
     {
         let Some((slot, later)) = slots.split_first() else {
             return false;
@@ -73,8 +78,11 @@ impl Begun<'_> {
 
     /// How many of the cells at the places one of the slots left in the set may take.
     fn cells_taken(&self, set: u8, places: &[u8]) -> usize
-        ensures count { let taken = zip self.now.slots.now (map (slice_index self.now.nine.now) self.now.places.now) in
-            result ≡ count_by (λ p. one_takes self.now.variables.now self.now.nine.now taken self.now.left.now self.now.free.now self.now.left.now set (slice_index self.now.nine.now p)) places.now }
+        ensures count { let taken = zip self.now.slots.now
+            (map (slice_index self.now.nine.now) self.now.places.now) in
+            result ≡ count_by
+            (λ p. one_takes self.now.variables.now self.now.nine.now taken self.now.left.now self.now.free.now
+            self.now.left.now set (slice_index self.now.nine.now p)) places.now }
         ensures within { result ≤ length places.now }
     {
         let Some((place, later)) = places.split_first() else {
@@ -91,8 +99,10 @@ impl Begun<'_> {
 
     /// Whether the slots left that are in the set are more than the free cells that one of them may take.
     fn are_crowded(&self, set: u8) -> bool
-        ensures { let taken = zip self.now.slots.now (map (slice_index self.now.nine.now) self.now.places.now) in
-            result ≡ are_crowded self.now.variables.now self.now.nine.now taken self.now.left.now self.now.free.now set }
+        ensures { let taken = zip self.now.slots.now
+            (map (slice_index self.now.nine.now) self.now.places.now) in
+            result ≡ are_crowded self.now.variables.now self.now.nine.now taken self.now.left.now
+            self.now.free.now set }
     {
         self.cells_taken(set, self.free) < slots_in(self.left, set)
     }
@@ -117,7 +127,8 @@ impl Begun<'_> {
     }
 }
 
-/// Whether some of the slots after the places are more than the free cells that one of them may take, as far as is found.
+/// Whether some of the slots after the places are more than the free cells that one of them may take, as far
+/// as is found.
 pub(crate) fn has_crowd(
     variables: &[StateSet],
     slots: &[Slot],

@@ -2,7 +2,8 @@
 
 use thiserror::Error;
 
-/// What is wrong with the first faulty line of a rule file. Lines are counted from 1, blank lines and comments too.
+/// What is wrong with the first faulty line of a rule file. Lines are counted from 1, blank lines and
+/// comments too.
 #[derive(Clone, Copy, Debug, PartialEq, Eq, Error)]
 pub enum TableFault {
     /// The first line that says something isn't `@RULE` and a name.
@@ -11,8 +12,8 @@ pub enum TableFault {
     /// No section is named `@TABLE`.
     #[error("line {line}: no table")]
     NoTable { line: u64 },
-    /// A setting a second time or too late, a `var` line or a transition that isn't spelled as one, or another number
-    /// of fields than the neighbourhood needs.
+    /// A setting a second time or too late, a `var` line or a transition that isn't spelled as one, or
+    /// another number of fields than the neighbourhood needs.
     #[error("line {line}: syntax")]
     Syntax { line: u64 },
     /// No number of states, or one that isn't from 2 to 256, or a state that isn't below it.

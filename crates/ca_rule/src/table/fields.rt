@@ -40,7 +40,8 @@ impl<'a> FieldsLeft<'a> {
     /// The first field, and those after it.
     #[tactic(auto, using(crate::proofs::Fields::parts))]
     pub(crate) fn next(&self) -> Option<(&'a [u8], FieldsLeft<'a>)>
-        ensures { MatchOption result (fields_left self.now ≡ []) (λ r. fields_left self.now ≡ r.0.now ∷ fields_left r.1) }
+        ensures { MatchOption result (fields_left self.now ≡ [])
+            (λ r. fields_left self.now ≡ r.0.now ∷ fields_left r.1) }
     {
         match *self {
             FieldsLeft::Between(bytes) => {

@@ -32,7 +32,8 @@ fn name_of<'a>(lines: &SaidLines<'a>) -> Result<(&'a [u8], SaidLines<'a>), Table
 
 /// The lines after the first that begins a table.
 fn behind_table<'a>(lines: &SaidLines<'a>) -> Option<SaidLines<'a>>
-    ensures found { MatchOption result (list_any begins_table (left_of lines.now) ≡ false) (λ r. IsBehindTable (left_of lines.now) (left_of r)) }
+    ensures found { MatchOption result (list_any begins_table (left_of lines.now) ≡ false)
+        (λ r. IsBehindTable (left_of lines.now) (left_of r)) }
     ensures text { IfSome result (λ r. text_of r ≡ text_of lines.now) }
 {
     let mut left = *lines;

@@ -3,7 +3,8 @@
 ghost use Rattle.std.specs.Prelude.{◌≡◌, ◌==◌, ℕ, not, None, Some, IfSome, MatchOption};
 ghost use Rattle.std.specs.List.{list_all, prefix_len};
 ghost use Rattle.ca_plane.specs.Bytes.{Every, IsWord, is_digit, is_blank, is_line_end};
-ghost use Rattle.ca_rule.specs.TableLines.{content_of, rule_name, begins_section, begins_table, behind, setting, begins_variable, is_name_byte, is_name};
+ghost use Rattle.ca_rule.specs.TableLines.{content_of, rule_name, begins_section, begins_table, behind};
+ghost use Rattle.ca_rule.specs.TableLines.{setting, begins_variable, is_name_byte, is_name};
 
 use ca_plane::bytes::{is_blank, next_word, split_blanks, strip, trim_blanks};
 
@@ -26,7 +27,9 @@ pub(crate) fn content_of(line: &[u8]) -> &[u8]
 /// The name that the line `@RULE` gives.
 pub(crate) fn rule_name(content: &[u8]) -> Option<&[u8]>
     requires { Every (λ b. not (is_line_end b)) content.now }
-    ensures name { (n : ℕ) → MatchOption result (rule_name (n, content.now) ≡ None) (λ r. rule_name (n, content.now) ≡ Some r.now) }
+    ensures name { (n : ℕ)
+        → MatchOption result (rule_name (n, content.now) ≡ None)
+        (λ r. rule_name (n, content.now) ≡ Some r.now) }
     ensures word { IfSome result (λ r. IsWord r.now) }
 {
     let (word, rest) = next_word(content)?;
@@ -55,7 +58,8 @@ pub(crate) fn begins_table(content: &[u8]) -> bool
 
 /// What follows the text with which the bytes begin.
 pub(crate) fn behind<'a>(text: &[u8], bytes: &'a [u8]) -> Option<&'a [u8]>
-    ensures { MatchOption result (behind text.now bytes.now ≡ None) (λ r. behind text.now bytes.now ≡ Some r.now) }
+    ensures { MatchOption result (behind text.now bytes.now ≡ None)
+        (λ r. behind text.now bytes.now ≡ Some r.now) }
 {
     strip(bytes, text)
 }
@@ -85,7 +89,9 @@ pub(crate) fn begins_variable(content: &[u8]) -> bool
 
 /// The value of the setting with this word, where the line is that one.
 pub(crate) fn setting<'a>(word: &[u8], content: &'a [u8]) -> Option<&'a [u8]>
-    ensures { (n : ℕ) → MatchOption result (setting word.now (n, content.now) ≡ None) (λ r. setting word.now (n, content.now) ≡ Some r.now) }
+    ensures { (n : ℕ)
+        → MatchOption result (setting word.now (n, content.now) ≡ None)
+        (λ r. setting word.now (n, content.now) ≡ Some r.now) }
 {
     let (_, colon) = split_blanks(behind(word, content)?);
     let (_, value) = split_blanks(behind(b":", colon)?);

@@ -46,7 +46,8 @@ impl<'a> Names<'a> {
 
     /// The name has this number from here on.
     pub(crate) fn put(&mut self, name: &'a [u8], number: usize) -> Result<(), StatementFault>
-        ensures { OnOk result ((other : List ℕ) → number_in self.new other ≡ update bytes_eq (number_in self.old) name.now (Some number) other) }
+        ensures { OnOk result ((other : List ℕ)
+            → number_in self.new other ≡ update bytes_eq (number_in self.old) name.now (Some number) other) }
     {
         if self.numbers.insert(name, number).is_err() {
             return Err(StatementFault::Memory);
@@ -78,7 +79,8 @@ impl<'a> Names<'a> {
     fn judge(&self, states: u16, fields: &FieldsLeft<'_>) -> Result<(), StatementFault>
         requires low { states ≤ 256 }
         requires fields { list_all is_field (fields_left fields.now) ≡ true }
-        ensures stand { OnOk result ((slots : List SlotValue) × AllZip (IsSlot states (number_in self.now)) (fields_left fields.now) slots) }
+        ensures stand { OnOk result ((slots : List SlotValue)
+            × AllZip (IsSlot states (number_in self.now)) (fields_left fields.now) slots) }
         ensures fault { IfErr result (HasNoSlot states (number_in self.now) (fields_left fields.now)) }
     {
         let mut left = *fields;
@@ -98,7 +100,8 @@ impl<'a> Names<'a> {
         requires low { states ≤ 256 }
         requires few { length (fields_left fields.now) ≤ 10 }
         requires fields { list_all is_field (fields_left fields.now) ≡ true }
-        ensures stand { IfOk result (λ s. AllZip (IsSlot states (number_in self.now)) (fields_left fields.now) (slots_of s)) }
+        ensures stand { IfOk result
+            (λ s. AllZip (IsSlot states (number_in self.now)) (fields_left fields.now) (slots_of s)) }
         ensures fault { IfErr result (HasNoSlot states (number_in self.now) (fields_left fields.now)) }
     {
         let mut slots = TransitionSlots::new();
@@ -120,7 +123,8 @@ impl<'a> Names<'a> {
     ) -> Result<Vec<Slot>, StatementFault>
         requires low { states ≤ 256 }
         requires fields { list_all is_field (fields_left fields.now) ≡ true }
-        ensures stand { IfOk result (λ v. AllZip (IsSlot states (number_in self.now)) (fields_left fields.now) v.items) }
+        ensures stand { IfOk result
+            (λ v. AllZip (IsSlot states (number_in self.now)) (fields_left fields.now) v.items) }
         ensures fault { IfErr result (IsFaultAmong states (number_in self.now) (fields_left fields.now)) }
     {
         self.judge(states, fields)?;

@@ -21,7 +21,8 @@ pub(crate) enum PartsFault {
 impl PartsFault {
     /// The fault of a text of these parts, whose last line has this number.
     pub(crate) fn at(self, line: u64) -> TableFault
-        ensures { (bytes : List ℕ) (table : TableRule) → IsTable bytes table → line ≡ last_line bytes → IsPartsFault table self → IsFaultOf bytes result }
+        ensures { (bytes : List ℕ) (table : TableRule) → IsTable bytes table → line ≡ last_line bytes
+            → IsPartsFault table self → IsFaultOf bytes result }
     {
         match self {
             PartsFault::Wakes => TableFault::Wakes { line },

@@ -3,8 +3,11 @@
 ghost use Rattle.std.specs.Prelude.{◌≡◌, ◌≢◌, ◌∷◌, map};
 ghost use Rattle.ca_rule.specs.TableOrders.{ring, orders};
 ghost use Rattle.ca_rule.specs.inner.TablePlaces.{places};
-ghost use Rattle.ca_rule.specs.declared.table.neighbourhood.Neighbourhood.TheVariants.{VonNeumann, Moore, Hexagonal, OneDimensional};
-ghost use Rattle.ca_rule.specs.declared.table.neighbourhood.Symmetry.TheVariants.{Rotate8, Rotate8Reflect, Permute};
+ghost use Rattle.ca_rule.specs.declared.table.neighbourhood.Neighbourhood.TheVariants.{VonNeumann, Moore};
+ghost use Rattle.ca_rule.specs.declared.table.neighbourhood.Neighbourhood.TheVariants.{Hexagonal};
+ghost use Rattle.ca_rule.specs.declared.table.neighbourhood.Neighbourhood.TheVariants.{OneDimensional};
+ghost use Rattle.ca_rule.specs.declared.table.neighbourhood.Symmetry.TheVariants.{Rotate8, Rotate8Reflect};
+ghost use Rattle.ca_rule.specs.declared.table.neighbourhood.Symmetry.TheVariants.{Permute};
 
 use crate::table::neighbourhood::{Neighbourhood, Symmetry};
 
@@ -27,7 +30,8 @@ impl Orders {
     /// The orders of a symmetry of the neighbourhood.
     #[tactic(auto, using(crate::proofs::Permuted::every_order_placed))]
     pub(crate) fn of(neighbourhood: Neighbourhood, symmetry: Symmetry) -> Orders
-        ensures placements { placements_of result ≡ map (places neighbourhood) (orders neighbourhood symmetry) }
+        ensures placements { placements_of result
+            ≡ map (places neighbourhood) (orders neighbourhood symmetry) }
         ensures centred { list_all begins_at_centre (placements_of result) ≡ true }
     {
         match symmetry {
@@ -49,10 +53,11 @@ pub(crate) fn as_it_stands(neighbourhood: Neighbourhood) -> &'static [u8]
     }
 }
 
-/// For each order of the symmetry, except `permute`: the places of the slots' cells among nine, the centre's first.
-/// A symmetry that the neighbourhood doesn't have has none.
+/// For each order of the symmetry, except `permute`: the places of the slots' cells among nine, the centre's
+/// first. A symmetry that the neighbourhood doesn't have has none.
 fn placements(neighbourhood: Neighbourhood, symmetry: Symmetry) -> &'static [&'static [u8]]
-    ensures { symmetry ≢ Permute → map (λ p. p.now) result.now ≡ map (places neighbourhood) (orders neighbourhood symmetry) }
+    ensures { symmetry ≢ Permute
+        → map (λ p. p.now) result.now ≡ map (places neighbourhood) (orders neighbourhood symmetry) }
 {
     match neighbourhood {
         Neighbourhood::VonNeumann => placements_of_four(symmetry),
@@ -64,7 +69,8 @@ fn placements(neighbourhood: Neighbourhood, symmetry: Symmetry) -> &'static [&'s
 
 /// Those round a ring of four.
 fn placements_of_four(symmetry: Symmetry) -> &'static [&'static [u8]]
-    ensures { symmetry ≢ Permute → map (λ p. p.now) result.now ≡ map (places VonNeumann) (orders VonNeumann symmetry) }
+    ensures { symmetry ≢ Permute
+        → map (λ p. p.now) result.now ≡ map (places VonNeumann) (orders VonNeumann symmetry) }
 {
     match symmetry {
         Symmetry::Identity => &[&[4, 1, 5, 7, 3]],
@@ -163,7 +169,8 @@ fn by_eighths_and_mirrored() -> &'static [&'static [u8]]
 
 /// Those round a ring of six.
 fn placements_of_six(symmetry: Symmetry) -> &'static [&'static [u8]]
-    ensures { symmetry ≢ Permute → map (λ p. p.now) result.now ≡ map (places Hexagonal) (orders Hexagonal symmetry) }
+    ensures { symmetry ≢ Permute
+        → map (λ p. p.now) result.now ≡ map (places Hexagonal) (orders Hexagonal symmetry) }
 {
     match symmetry {
         Symmetry::Identity => &[&[4, 1, 5, 8, 7, 3, 0]],
@@ -201,7 +208,8 @@ fn placements_of_six(symmetry: Symmetry) -> &'static [&'static [u8]]
 
 /// Those of two cells.
 fn placements_of_two(symmetry: Symmetry) -> &'static [&'static [u8]]
-    ensures { symmetry ≢ Permute → map (λ p. p.now) result.now ≡ map (places OneDimensional) (orders OneDimensional symmetry) }
+    ensures { symmetry ≢ Permute
+        → map (λ p. p.now) result.now ≡ map (places OneDimensional) (orders OneDimensional symmetry) }
 {
     match symmetry {
         Symmetry::Identity => &[&[4, 3, 5]],

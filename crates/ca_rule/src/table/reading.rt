@@ -23,7 +23,8 @@ pub(crate) fn read_statements<'a>(
 ) -> Result<Statements<'a>, TableFault>
     requires low { settings.now.states ≤ 256 }
     ensures found { IfOk result (AreAllSaid (meaning_of settings.now) (left_of lines.now)) }
-    ensures fault { IfErr result (λ f. (bytes name : List ℕ) (head : List Line) → HasTable bytes name (head ++ left_of lines.now) → Mean head (meaning_of settings.now)
+    ensures fault { IfErr result (λ f. (bytes name : List ℕ) (head : List Line)
+        → HasTable bytes name (head ++ left_of lines.now) → Mean head (meaning_of settings.now)
         → is_behind_settings (left_of lines.now) ≡ true → IsFaultOf bytes f) }
 {
     let mut statements = Statements::new(alloc);

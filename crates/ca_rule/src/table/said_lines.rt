@@ -46,7 +46,8 @@ impl<'a> SaidLines<'a> {
 
     /// The first line that says something, and the lines after it.
     pub(crate) fn next(&self) -> Option<(SaidLine<'a>, SaidLines<'a>)>
-        ensures lines { MatchOption result (left_of self.now ≡ []) (λ r. left_of self.now ≡ line_of r.0 ∷ left_of r.1) }
+        ensures lines { MatchOption result (left_of self.now ≡ [])
+            (λ r. left_of self.now ≡ line_of r.0 ∷ left_of r.1) }
         ensures text { IfSome result (λ r. text_of r.1 ≡ text_of self.now) }
         ensures shorter { IfSome result (λ r. length r.1.left.now < length self.now.left.now) }
     {
@@ -73,7 +74,8 @@ impl<'a> SaidLines<'a> {
         None
     }
 
-    /// The number of the first line that is left and says something, or of the text's last line where there is none.
+    /// The number of the first line that is left and says something, or of the text's last line where there
+    /// is none.
     pub(crate) fn number(&self) -> u64
         ensures { result ≡ number_at (text_of self.now) (left_of self.now) }
     {

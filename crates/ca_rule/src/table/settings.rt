@@ -4,7 +4,8 @@ ghost use Rattle.std.specs.Prelude.{◌≡◌, ◌&&◌, ℕ, [], List, true, is
 ghost use Rattle.ca_rule.specs.inner.TableReading.{text_of, left_of};
 ghost use Rattle.ca_rule.specs.inner.TableSettings.{IsBehindSettings, IsBehindMeant, meaning_of};
 ghost use Rattle.ca_rule.specs.Digits.{state_count};
-ghost use Rattle.ca_rule.specs.TableLines.{Line, neighbourhood_name, neighbourhood_named, symmetry_name, symmetry_named};
+ghost use Rattle.ca_rule.specs.TableLines.{Line, neighbourhood_name, neighbourhood_named, symmetry_name};
+ghost use Rattle.ca_rule.specs.TableLines.{symmetry_named};
 ghost use Rattle.ca_rule.specs.TableOrders.{symmetries_of};
 ghost use Rattle.ca_rule.specs.TableText.{HasTable, Mean, are_settings};
 ghost use Rattle.ca_rule.specs.TableFaults.{is_behind_settings, HaveEnd, IsFaultOf};
@@ -33,7 +34,8 @@ pub(crate) struct TableSettings {
 }
 
 impl<'a> SettingValues<'a> {
-    ghost use Rattle.ca_rule.specs.inner.TableSettings.{bytes_of, meaning_of, AreValuesOf, AreGivenBy, has_some, have_one, joined};
+    ghost use Rattle.ca_rule.specs.inner.TableSettings.{bytes_of, meaning_of, AreValuesOf, AreGivenBy};
+    ghost use Rattle.ca_rule.specs.inner.TableSettings.{has_some, have_one, joined};
 
     /// Before the first line.
     fn none() -> SettingValues<'a>
@@ -107,8 +109,10 @@ impl<'a> SettingValues<'a> {
 
     /// What the values mean, where the settings end at the line with this number.
     fn meaning(&self, line: u64) -> Result<TableSettings, TableFault>
-        ensures mean { IfOk result (λ s. (good : List Line) → AreValuesOf good self.now → are_settings [] good ≡ true → Mean good (meaning_of s)) }
-        ensures fault { IfErr result (λ f. (bytes : List ℕ) (good : List Line) → AreValuesOf good self.now → HaveEnd bytes line good → IsFaultOf bytes f) }
+        ensures mean { IfOk result (λ s. (good : List Line) → AreValuesOf good self.now
+            → are_settings [] good ≡ true → Mean good (meaning_of s)) }
+        ensures fault { IfErr result (λ f. (bytes : List ℕ) (good : List Line) → AreValuesOf good self.now
+            → HaveEnd bytes line good → IsFaultOf bytes f) }
     {
         let Some(states) = self.states() else {
             return Err(TableFault::States { line });
@@ -134,16 +138,18 @@ fn are_both(one: Option<&[u8]>, other: Option<&[u8]>) -> bool
     one.is_some() && other.is_some()
 }
 
-/// The values of settings with those of the lines that are settings, and the lines after these. No setting has more than
-/// one line, so the calls are four at most.
+/// The values of settings with those of the lines that are settings, and the lines after these. No setting
+/// has more than one line, so the calls are four at most.
 fn read_values<'a>(
     values: SettingValues<'a>,
     lines: SaidLines<'a>,
 ) -> Result<(SettingValues<'a>, SaidLines<'a>), TableFault>
-    ensures read { IfOk result (λ r. (all : List Line) → IsBehindSettings all values.entry (left_of lines.entry) → IsBehindSettings all r.0 (left_of r.1)) }
+    ensures read { IfOk result (λ r. (all : List Line)
+        → IsBehindSettings all values.entry (left_of lines.entry) → IsBehindSettings all r.0 (left_of r.1)) }
     ensures ends { IfOk result (λ r. is_behind_settings (left_of r.1) ≡ true) }
     ensures text { IfOk result (λ r. text_of r.1 ≡ text_of lines.entry) }
-    ensures fault { IfErr result (λ f. (bytes name : List ℕ) (all : List Line) → HasTable bytes name all → IsBehindSettings all values.entry (left_of lines.entry) → IsFaultOf bytes f) }
+    ensures fault { IfErr result (λ f. (bytes name : List ℕ) (all : List Line) → HasTable bytes name all
+        → IsBehindSettings all values.entry (left_of lines.entry) → IsFaultOf bytes f) }
 {
     let Some((line, later)) = lines.next() else {
         return Ok((values, lines));
@@ -267,7 +273,8 @@ pub(crate) fn read_settings<'a>(
     ensures found { IfOk result (λ r. IsBehindMeant (left_of lines.now) (meaning_of r.0) (left_of r.1)) }
     ensures ends { IfOk result (λ r. is_behind_settings (left_of r.1) ≡ true) }
     ensures text { IfOk result (λ r. text_of r.1 ≡ text_of lines.now) }
-    ensures fault { IfErr result (λ f. (name : List ℕ) → HasTable (text_of lines.now) name (left_of lines.now) → IsFaultOf (text_of lines.now) f) }
+    ensures fault { IfErr result (λ f. (name : List ℕ) → HasTable (text_of lines.now) name (left_of lines.now)
+        → IsFaultOf (text_of lines.now) f) }
 {
     let (values, behind) = read_values(SettingValues::none(), *lines)?;
     let settings = values.meaning(behind.number())?;

@@ -15,8 +15,8 @@ use ca_plane::{Memory, Nine};
 use std::alloc::Global;
 use std::marker::Model;
 
-/// A sieve of up to 64 transitions. For each slot and each state, a bit a transition: where it is 0, the slot of the
-/// transition doesn't admit the state.
+/// A sieve of up to 64 transitions. For each slot and each state, a bit a transition: where it is 0, the slot
+/// of the transition doesn't admit the state.
 #[derive(Drop)]
 pub(crate) struct Sieve {
     rows: Vec<[u64; 256]>,
@@ -32,13 +32,15 @@ impl Model for Sieve {
 }
 
 impl Sieve {
-    ghost use Rattle.std.specs.Prelude.{◌≡◌, ◌<◌, ℕ, List, length, true, false, drop, map, zip, slice_index, IfOk};
+    ghost use Rattle.std.specs.Prelude.{◌≡◌, ◌<◌, ℕ, List, length, true, false, drop, map, zip, slice_index};
+    ghost use Rattle.std.specs.Prelude.{IfOk};
     ghost use Rattle.std.specs.List.{list_all};
     ghost use Rattle.std.specs.Int.{bit_at};
     ghost use Rattle.ca_rule.specs.TableNext.{States, Taken, Transition as TransitionValue, admits};
     ghost use Rattle.ca_rule.specs.inner.TablePlaces.{begins_at_centre};
     ghost use Rattle.ca_rule.specs.inner.TableSearch.{placements_of};
-    ghost use Rattle.ca_rule.specs.inner.TableSieve.{inputs_at, takable, IsSieve, HasIdle, FitNowhere, PassesOver};
+    ghost use Rattle.ca_rule.specs.inner.TableSieve.{inputs_at, takable, IsSieve, HasIdle, FitNowhere};
+    ghost use Rattle.ca_rule.specs.inner.TableSieve.{PassesOver};
 
     /// The sieve of the first 64 of the transitions of a table with this many states.
     ///
@@ -65,11 +67,12 @@ impl Sieve {
         Ok(Sieve { rows })
     }
 
-    /// Bits of the first 64 transitions: those that are 0 fit in none of the orders. Under all orders the first that may
-    /// fit is looked at no further where it may fit the ring as it is.
+    /// Bits of the first 64 transitions: those that are 0 fit in none of the orders. Under all orders the
+    /// first that may fit is looked at no further where it may fit the ring as it is.
     pub(crate) fn passed(&self, orders: Orders, nine: &Nine) -> u64
         requires centred { list_all begins_at_centre (placements_of orders) ≡ true }
-        ensures { (variables : List States) (ts : List TransitionValue) → IsSieve variables ts self.now → PassesOver variables nine.now (placements_of orders) ts result }
+        ensures { (variables : List States) (ts : List TransitionValue) → IsSieve variables ts self.now
+            → PassesOver variables nine.now (placements_of orders) ts result }
     {
         match orders {
             Orders::Listed(placements) => self.passed_in(placements, nine),
@@ -87,7 +90,8 @@ impl Sieve {
 
     /// Those that are 0 fit at none of the placements.
     fn passed_in(&self, placements: &[&[u8]], nine: &Nine) -> u64
-        ensures { (variables : List States) (ts : List TransitionValue) → IsSieve variables ts self.now → (k : ℕ) → k < 64 → k < length ts → bit_at result k ≡ 0
+        ensures { (variables : List States) (ts : List TransitionValue) → IsSieve variables ts self.now
+            → (k : ℕ) → k < 64 → k < length ts → bit_at result k ≡ 0
             → FitNowhere variables nine.now (inputs_at ts k) (map (λ p. p.now) placements.now) }
     {
         let Some((placement, later)) = placements.split_first() else {
@@ -98,8 +102,10 @@ impl Sieve {
 
     /// Those that are 0 have one of the slots, from this one on, that doesn't admit the cell at its place.
     fn passed_at(&self, slot: usize, places: &[u8], nine: &Nine) -> u64
-        ensures { (variables : List States) (ts : List TransitionValue) → IsSieve variables ts self.now → (k : ℕ) → k < 64 → k < length ts → bit_at result k ≡ 0
-            → list_all (λ (t : Taken). admits variables t.0 t.1) (zip (drop slot (inputs_at ts k)) (map (slice_index nine.now) places.now)) ≡ false }
+        ensures { (variables : List States) (ts : List TransitionValue) → IsSieve variables ts self.now
+            → (k : ℕ) → k < 64 → k < length ts → bit_at result k ≡ 0
+            → list_all (λ (t : Taken). admits variables t.0 t.1)
+            (zip (drop slot (inputs_at ts k)) (map (slice_index nine.now) places.now)) ≡ false }
     {
         let Some((place, later)) = places.split_first() else {
             return u64::MAX;
@@ -114,9 +120,11 @@ impl Sieve {
         bits & self.passed_at(slot + 1, later, nine)
     }
 
-    /// Those that are 0 have a slot after the centre's, up to this one, that admits none of the cells at the places.
+    /// Those that are 0 have a slot after the centre's, up to this one, that admits none of the cells at the
+    /// places.
     fn busy(&self, slot: usize, places: &[u8], nine: &Nine) -> u64
-        ensures { (variables : List States) (ts : List TransitionValue) → IsSieve variables ts self.now → (k : ℕ) → k < 64 → k < length ts → bit_at result k ≡ 0
+        ensures { (variables : List States) (ts : List TransitionValue) → IsSieve variables ts self.now
+            → (k : ℕ) → k < 64 → k < length ts → bit_at result k ≡ 0
             → HasIdle variables nine.now (inputs_at ts k) slot places.now }
     {
         if slot == 0 {
@@ -131,7 +139,8 @@ impl Sieve {
 
     /// Those that are 0 have a slot there that admits none of the cells at the places.
     fn taking(&self, slot: usize, places: &[u8], nine: &Nine) -> u64
-        ensures { (variables : List States) (ts : List TransitionValue) → IsSieve variables ts self.now → (k : ℕ) → k < 64 → k < length ts → bit_at result k ≡ 0
+        ensures { (variables : List States) (ts : List TransitionValue) → IsSieve variables ts self.now
+            → (k : ℕ) → k < 64 → k < length ts → bit_at result k ≡ 0
             → takable variables nine.now (drop slot (inputs_at ts k)) places.now ≡ 0 }
     {
         let Some((place, later)) = places.split_first() else {

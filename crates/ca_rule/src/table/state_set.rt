@@ -63,7 +63,8 @@ fn one_admits(variables: &[StateSet], slots: &[Slot], state: u8) -> bool
 /// The states below the count that one of the slots admits.
 pub(crate) fn states_among(count: u16, variables: &[StateSet], slots: &[Slot]) -> StateSet
     requires { count ≤ 256 }
-    ensures { result ≡ filter (λ s. list_any (λ slot. admits variables.now slot s) slots.now) (range_with_len 0 count) }
+    ensures { result
+        ≡ filter (λ s. list_any (λ slot. admits variables.now slot s) slots.now) (range_with_len 0 count) }
 {
     let mut words = [0; 4];
     'states: for state in 0..count {

@@ -37,7 +37,9 @@ pub(crate) fn field_count(neighbourhood: Neighbourhood) -> usize
 
 /// The fields of a transition, where the line is spelled as one of this many slots.
 fn transition_fields(content: &[u8], slots: usize) -> Option<FieldsLeft<'_>>
-    ensures { (n : ℕ) → MatchOption result ((fields : List (List ℕ)) → IsTransitionLine (n, content.now) slots fields → ⊥) (λ f. IsTransitionLine (n, content.now) slots (fields_left f)) }
+    ensures { (n : ℕ)
+        → MatchOption result ((fields : List (List ℕ)) → IsTransitionLine (n, content.now) slots fields → ⊥)
+        (λ f. IsTransitionLine (n, content.now) slots (fields_left f)) }
 {
     if begins_variable(content) {
         return None;
@@ -54,7 +56,9 @@ fn transition_fields(content: &[u8], slots: usize) -> Option<FieldsLeft<'_>>
 
 /// What the line states, by its spelling, in a table whose transitions have this many slots.
 pub(crate) fn read_statement(content: &[u8], slots: usize) -> Option<Statement<'_>>
-    ensures { (n : ℕ) (settings : Settings) (said : Said) → slots ≡ field_count settings → MatchOption result (IsMisspelled settings said (n, content.now)) (IsStatement (n, content.now) slots) }
+    ensures { (n : ℕ) (settings : Settings) (said : Said) → slots ≡ field_count settings
+        → MatchOption result (IsMisspelled settings said (n, content.now))
+        (IsStatement (n, content.now) slots) }
 {
     if let Some(line) = variable_line(content) {
         return Some(Statement::Variable(line));

@@ -54,9 +54,13 @@ impl<'a> Statements<'a> {
     ) -> Result<(), StatementFault>
         requires low { states ≤ 256 }
         requires fields { list_all is_field (fields_between line.now.inside.now) ≡ true }
-        ensures said { OnOk result ((settings : Settings) (said : Said) → settings.states ≡ states → IsKept said self.old
-            → (slots : List SlotValue) × AllZip (StandsFor settings said) (fields_between line.now.inside.now) slots × IsKept (with_variable settings said line.now.name.now slots) self.new) }
-        ensures fault { IfErr result (IsFaultAmong states (number_in self.old.names) (fields_between line.now.inside.now)) }
+        ensures said { OnOk result ((settings : Settings) (said : Said) → settings.states ≡ states
+            → IsKept said self.old
+            → (slots : List SlotValue)
+            × AllZip (StandsFor settings said) (fields_between line.now.inside.now) slots
+            × IsKept (with_variable settings said line.now.name.now slots) self.new) }
+        ensures fault { IfErr result
+            (IsFaultAmong states (number_in self.old.names) (fields_between line.now.inside.now)) }
     {
         let fields = FieldsLeft::inside(line.inside);
         let slots = self.names.slots(alloc, states, &fields)?;
@@ -80,9 +84,13 @@ impl<'a> Statements<'a> {
     ) -> Result<(), StatementFault>
         requires low { states ≤ 256 }
         requires fields { AreTransitionFields (fields_left fields.now) }
-        ensures said { OnOk result ((settings : Settings) (said : Said) → settings.states ≡ states → IsKept said self.old
-            → (inputs : List SlotValue) × (becomes : SlotValue) × AllZip (StandsFor settings said) (fields_left fields.now) (inputs ++ becomes ∷ []) × (is_bound becomes inputs ≡ true) × IsKept (with_transition said inputs becomes) self.new) }
-        ensures fault { IfErr result (IsFaultOfTransition states (number_in self.old.names) (fields_left fields.now)) }
+        ensures said { OnOk result ((settings : Settings) (said : Said) → settings.states ≡ states
+            → IsKept said self.old
+            → (inputs : List SlotValue) × (becomes : SlotValue)
+            × AllZip (StandsFor settings said) (fields_left fields.now) (inputs ++ becomes ∷ [])
+            × (is_bound becomes inputs ≡ true) × IsKept (with_transition said inputs becomes) self.new) }
+        ensures fault { IfErr result
+            (IsFaultOfTransition states (number_in self.old.names) (fields_left fields.now)) }
     {
         let slots = self.names.transition_slots(states, fields)?;
         let Some((becomes, inputs)) = slots.all().split_last() else {
@@ -110,8 +118,10 @@ impl<'a> Statements<'a> {
         content: &'a [u8],
     ) -> Result<(), StatementFault>
         requires low { settings.now.states ≤ 256 }
-        ensures said { OnOk result ((n : ℕ) (said : Said) → IsKept said self.old → IsKeptBehind (meaning_of settings.now) said (n, content.now) self.new) }
-        ensures fault { IfErr result (λ f. (n : ℕ) (said : Said) → IsKept said self.old → IsFaultOfLine (meaning_of settings.now) said (n, content.now) f) }
+        ensures said { OnOk result ((n : ℕ) (said : Said) → IsKept said self.old
+            → IsKeptBehind (meaning_of settings.now) said (n, content.now) self.new) }
+        ensures fault { IfErr result (λ f. (n : ℕ) (said : Said) → IsKept said self.old
+            → IsFaultOfLine (meaning_of settings.now) said (n, content.now) f) }
     {
         let count = field_count(settings.neighbourhood);
         let Some(statement) = read_statement(content, count) else {

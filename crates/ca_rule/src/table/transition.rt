@@ -33,7 +33,8 @@ impl Transition {
     ghost use Rattle.std.specs.Prelude.{◌≡◌, map, length, drop, true, None};
     ghost use Rattle.ca_rule.specs.TableNext.{fits};
     ghost use Rattle.std.specs.List.{list_all};
-    ghost use Rattle.ca_rule.specs.inner.TablePlaces.{begins_at_centre, slots_admit, admits_centre, taken_at, outcome_at};
+    ghost use Rattle.ca_rule.specs.inner.TablePlaces.{begins_at_centre, slots_admit, admits_centre, taken_at};
+    ghost use Rattle.ca_rule.specs.inner.TablePlaces.{outcome_at};
     ghost use Rattle.ca_rule.specs.inner.TableSearch.{least_outcome, placements_of};
     ghost use Rattle.ca_rule.specs.inner.TableChoice.{taken_of, free_of};
 
@@ -100,7 +101,8 @@ impl Transition {
         }
     }
 
-    /// The state that the transition gives at the first of the placements at which it fits, if it fits at one.
+    /// The state that the transition gives at the first of the placements at which it fits, if it fits at
+    /// one.
     fn listed_outcome(
         &self,
         variables: &[StateSet],
@@ -116,13 +118,16 @@ impl Transition {
         self.listed_outcome(variables, later, nine)
     }
 
-    /// The state that the transition gives in the first order of the free places, after those that are taken, in which
-    /// it fits. The next slot takes the free places one after another, in order, but of equal cells the first alone;
-    /// where the slots don't fit at the places taken so far, no order of the others is tried. Once a place has led to
-    /// none, the others are tried only where the slots left aren't too many for the cells that they may take.
+    /// The state that the transition gives in the first order of the free places, after those that are taken,
+    /// in which it fits. The next slot takes the free places one after another, in order, but of equal cells
+    /// the first alone; where the slots don't fit at the places taken so far, no order of the others is
+    /// tried. Once a place has led to none, the others are tried only where the slots left aren't too many
+    /// for the cells that they may take.
     fn least_outcome(&self, variables: &[StateSet], choice: Choice, nine: &Nine) -> Option<u8>
         requires fit { fits variables.now (taken_at nine.now self.now (taken_of choice)) ≡ true }
-        ensures { result ≡ least_outcome variables.now nine.now self.now (taken_of choice) (length (free_of choice)) (free_of choice) }
+        ensures { result
+            ≡ least_outcome variables.now nine.now self.now (taken_of choice) (length (free_of choice))
+            (free_of choice) }
     {
         let count = choice.free_count();
         if count == 0 {
@@ -155,10 +160,12 @@ impl Transition {
         fits(variables, &self.inputs, choice.taken(), nine)
     }
 
-    /// Whether some of the slots left are more than the free cells that one of them may take, as far as is found.
+    /// Whether some of the slots left are more than the free cells that one of them may take, as far as is
+    /// found.
     fn has_crowd(&self, variables: &[StateSet], choice: &Choice, nine: &Nine) -> bool
         ensures { result ≡ true →
-            least_outcome variables.now nine.now self.now (taken_of choice.now) (length (free_of choice.now)) (free_of choice.now) ≡ None }
+            least_outcome variables.now nine.now self.now (taken_of choice.now) (length (free_of choice.now))
+            (free_of choice.now) ≡ None }
     {
         has_crowd(variables, &self.inputs, choice.taken(), nine, choice.free())
     }
@@ -195,7 +202,9 @@ pub(crate) fn takes_one_cell(
     places: &[u8],
     nine: &Nine,
 ) -> bool
-    ensures { result ≡ list_all (λ (t : Taken). not (is_variable number t.0) || (t.1 == cell)) (zip slots.now (map (slice_index nine.now) places.now)) }
+    ensures { result
+        ≡ list_all (λ (t : Taken). not (is_variable number t.0) || (t.1 == cell))
+        (zip slots.now (map (slice_index nine.now) places.now)) }
 {
     let mut slots_left = slots;
     let mut places_left = places;
@@ -239,11 +248,12 @@ fn fits(variables: &[StateSet], slots: &[Slot], places: &[u8], nine: &Nine) -> b
     each_admits(variables, slots, places, nine) && each_takes_one_cell(slots, places, nine)
 }
 
-/// Whether no variable comes twice among the slots, and none was seen before. A variable is seen by its number's remainder
-/// by 64, so that the answer may be no where two numbers have one remainder.
+/// Whether no variable comes twice among the slots, and none was seen before. A variable is seen by its
+/// number's remainder by 64, so that the answer may be no where two numbers have one remainder.
 fn are_distinct(slots: &[Slot], seen: u64) -> bool
     ensures distinct { result ≡ true → are_distinct slots.now ≡ true }
-    ensures apart { result ≡ true → (v : ℕ) → bit_at seen (v % 64) ≡ 1 → list_any (is_variable v) slots.now ≡ false }
+    ensures apart { result ≡ true → (v : ℕ) → bit_at seen (v % 64) ≡ 1
+        → list_any (is_variable v) slots.now ≡ false }
 {
     let Some((slot, later)) = slots.split_first() else {
         return true;
@@ -259,7 +269,9 @@ fn are_distinct(slots: &[Slot], seen: u64) -> bool
 
 /// Whether each slot admits the cell at its place.
 fn each_admits(variables: &[StateSet], slots: &[Slot], places: &[u8], nine: &Nine) -> bool
-    ensures { result ≡ list_all (λ (t : Taken). admits variables.now t.0 t.1) (zip slots.now (map (slice_index nine.now) places.now)) }
+    ensures { result
+        ≡ list_all (λ (t : Taken). admits variables.now t.0 t.1)
+        (zip slots.now (map (slice_index nine.now) places.now)) }
 {
     let mut slots_left = slots;
     let mut places_left = places;

@@ -30,7 +30,8 @@ fn opened(bytes: &[u8]) -> Option<&[u8]>
 /// The bytes before a `}` that comes last.
 #[tactic(auto, using(crate::proofs::VariableLines::lasts))]
 fn before_brace(bytes: &[u8]) -> Option<&[u8]>
-    ensures { MatchOption result ((r : List ℕ) → bytes.now ≢ r ++ codes "}") (λ r. bytes.now ≡ r.now ++ codes "}") }
+    ensures { MatchOption result ((r : List ℕ) → bytes.now ≢ r ++ codes "}")
+        (λ r. bytes.now ≡ r.now ++ codes "}") }
 {
     let Some((last, before)) = bytes.split_last() else {
         return None;
@@ -43,7 +44,8 @@ fn before_brace(bytes: &[u8]) -> Option<&[u8]>
 
 /// What is in braces after `=`.
 fn braced(bytes: &[u8]) -> Option<&[u8]>
-    ensures { MatchOption result ((inside : List ℕ) → IsBraced bytes.now inside → ⊥) (λ r. IsBraced bytes.now r.now) }
+    ensures { MatchOption result ((inside : List ℕ) → IsBraced bytes.now inside → ⊥)
+        (λ r. IsBraced bytes.now r.now) }
 {
     before_brace(opened(bytes)?)
 }
@@ -66,7 +68,9 @@ fn split_name(bytes: &[u8]) -> (&[u8], &[u8])
 
 /// The name and the fields of a variable, where the line is spelled as that of one.
 pub(crate) fn variable_line(content: &[u8]) -> Option<VariableLine<'_>>
-    ensures { (n : ℕ) → MatchOption result ((name : List ℕ) (fields : List (List ℕ)) → IsVariableLine (n, content.now) name fields → ⊥)
+    ensures { (n : ℕ)
+        → MatchOption result ((name : List ℕ) (fields : List (List ℕ))
+        → IsVariableLine (n, content.now) name fields → ⊥)
         (λ v. IsVariableLine (n, content.now) v.name.now (fields_between v.inside.now)) }
 {
     if !begins_variable(content) {
