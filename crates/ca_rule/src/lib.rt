@@ -30,5 +30,5 @@ pub use rule::{Rule, resolve};
 pub use rule_laws::{named_rules, same_rules, worked_names};
 pub use table::{
     Neighbourhood, Slot, Symmetry, Table, TableFault, one_table, table_or_fault, worked_cells,
-    worked_orders, worked_texts,
+    worked_orders, worked_texts, worked_transitions,
 };

@@ -29,7 +29,7 @@ pub(crate) mod variable_line;
 use ca_plane::{Automaton, Nine};
 pub use fault::TableFault;
 use head::table_lines;
-pub use laws::{worked_cells, worked_orders, worked_texts};
+pub use laws::{worked_cells, worked_orders, worked_texts, worked_transitions};
 pub use neighbourhood::{Neighbourhood, Symmetry};
 pub(crate) use parts_fault::PartsFault;
 use placement::Orders;
@@ -43,8 +43,8 @@ use std::marker::Model;
 pub use text_laws::{one_table, table_or_fault};
 use transition::Transition;
 
-/// A rule table: the rule of a file with an `@TABLE` section (Golly Help, File Formats: rule tables). It leaves the empty
-/// plane empty.
+/// A rule table: the rule of a file with an `@TABLE` section (Golly Help, File Formats: rule tables). It
+/// leaves the empty plane empty.
 #[derive(Drop)]
 pub struct Table {
     name: Vec<u8>,
@@ -60,9 +60,11 @@ impl Model for Table {
 
     ghost Value = { TableRule };
 
-    ghost view = { λ t. stored t.name.items t.states t.neighbourhood t.symmetry t.sifted.variables t.sifted.transitions };
+    ghost view = { λ t. stored t.name.items t.states t.neighbourhood t.symmetry t.sifted.variables
+        t.sifted.transitions };
 
-    ghost invariant = { λ t. IsKept (stored t.name.items t.states t.neighbourhood t.symmetry t.sifted.variables t.sifted.transitions) };
+    ghost invariant = { λ t. IsKept
+        (stored t.name.items t.states t.neighbourhood t.symmetry t.sifted.variables t.sifted.transitions) };
 }
 
 impl Table {
@@ -74,8 +76,8 @@ impl Table {
     ghost use Rattle.ca_rule.specs.TableFaults.{IsFaultOf};
     ghost use Rattle.ca_rule.specs.inner.TableStored.{stored, is_below, IsPartsFault};
 
-    /// The table of a rule file's text, or what is wrong with its first faulty line. Out of memory comes only where a
-    /// good statement or the whole table was read.
+    /// The table of a rule file's text, or what is wrong with its first faulty line. Out of memory comes only
+    /// where a good statement or the whole table was read.
     pub fn parse(alloc: Global, text: &[u8]) -> Result<Table, TableFault>
         ensures found { IfOk result (IsTable text.now) }
         ensures quiet { IfOk result (λ t. table_next t (replicate 9 0) ≡ 0) }
@@ -107,8 +109,8 @@ impl Table {
     ///
     /// # Errors
     ///
-    /// `Wakes` where it would turn nine zeros into another state, however much memory there is. Else fails where there is
-    /// no memory for sieves of the transitions.
+    /// `Wakes` where it would turn nine zeros into another state, however much memory there is. Else fails
+    /// where there is no memory for sieves of the transitions.
     pub(crate) fn of_parts(
         alloc: Global,
         name: Vec<u8>,
@@ -121,10 +123,14 @@ impl Table {
         requires named { IsWord name.items }
         requires low { 2 ≤ states }
         requires high { states ≤ 256 }
-        requires results { list_all (λ (t : TransitionValue). is_below states t.result) transitions.items ≡ true }
-        ensures parts { IfOk result (λ t. t ≡ stored name.items states neighbourhood symmetry variables.items transitions.items) }
+        requires results { list_all
+            (λ (t : TransitionValue). is_below states t.result) transitions.items ≡ true }
+        ensures parts { IfOk result
+            (λ t. t ≡ stored name.items states neighbourhood symmetry variables.items transitions.items) }
         ensures quiet { IfOk result (λ t. table_next t (replicate 9 0) ≡ 0) }
-        ensures fault { IfErr result (IsPartsFault (stored name.items states neighbourhood symmetry variables.items transitions.items)) }
+        ensures fault { IfErr result
+            (IsPartsFault
+            (stored name.items states neighbourhood symmetry variables.items transitions.items)) }
     {
         let orders = Orders::of(neighbourhood, symmetry);
         if first_outcome(&variables, &transitions, orders, &[0; 9]) != 0 {

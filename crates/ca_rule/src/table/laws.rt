@@ -1,16 +1,28 @@
-//! What holds of the orders of symmetries and of next cells under rule tables, said of the definitions alone. These
-//! functions are of no use to a program: each has laws for its contract.
+//! What holds of the orders of symmetries and of next cells under rule tables, said of the definitions alone.
+//! These functions are of no use to a program: each has laws for its contract.
 
 ghost use Rattle.std.specs.Prelude.{◌≡◌, [], ◌∷◌, ◌++◌, true, false, None, Some, codes};
 ghost use Rattle.ca_rule.specs.TableOrders.{orders};
-ghost use Rattle.ca_rule.specs.TableLines.{lines_said, setting, is_setting, begins_variable, is_name, fields_of, IsVariableLine};
+ghost use Rattle.ca_rule.specs.TableLines.{lines_said, setting, is_setting, begins_variable, is_name};
+ghost use Rattle.ca_rule.specs.TableLines.{fields_of, IsVariableLine};
 ghost use Rattle.ca_rule.specs.TableText.{IsTable};
 ghost use Rattle.ca_rule.specs.TableFaults.{IsFaultOf};
-ghost use Rattle.ca_rule.specs.declared.table.fault.TableFault.TheVariants.{NoRuleLine, NoTable, States, Neighborhood, Symmetries};
+ghost use Rattle.ca_rule.specs.declared.table.fault.TableFault.TheVariants.{NoRuleLine, NoTable, States};
+ghost use Rattle.ca_rule.specs.declared.table.fault.TableFault.TheVariants.{Neighborhood, Symmetries};
 ghost use Rattle.ca_rule.specs.TableNext.{TableRule};
-ghost use Rattle.ca_rule.specs.TableExamples.{text_of, file_with, file_of, digit_lists, table_cell, one_neighbour, two_neighbours, like_neighbours, north_of_one, second_of_eight, second_of_six, second_of_two};
-ghost use Rattle.ca_rule.specs.declared.table.neighbourhood.Neighbourhood.TheVariants.{VonNeumann, Moore, Hexagonal, OneDimensional};
-ghost use Rattle.ca_rule.specs.declared.table.neighbourhood.Symmetry.TheVariants.{Identity, Rotate4, Rotate4Reflect, ReflectHorizontal, Rotate8, Rotate8Reflect, Rotate2, Rotate3, Rotate6, Rotate6Reflect, Reflect, Permute};
+ghost use Rattle.ca_rule.specs.TableExamples.{text_of, file_with, file_of, digit_lists, table_cell};
+ghost use Rattle.ca_rule.specs.TableExamples.{one_neighbour, two_neighbours, like_neighbours, north_of_one};
+ghost use Rattle.ca_rule.specs.TableExamples.{second_of_eight, second_of_six, second_of_two};
+ghost use Rattle.ca_rule.specs.declared.table.neighbourhood.Neighbourhood.TheVariants.{VonNeumann, Moore};
+ghost use Rattle.ca_rule.specs.declared.table.neighbourhood.Neighbourhood.TheVariants.{Hexagonal};
+ghost use Rattle.ca_rule.specs.declared.table.neighbourhood.Neighbourhood.TheVariants.{OneDimensional};
+ghost use Rattle.ca_rule.specs.declared.table.neighbourhood.Symmetry.TheVariants.{Identity, Rotate4};
+ghost use Rattle.ca_rule.specs.declared.table.neighbourhood.Symmetry.TheVariants.{Rotate4Reflect};
+ghost use Rattle.ca_rule.specs.declared.table.neighbourhood.Symmetry.TheVariants.{ReflectHorizontal, Rotate8};
+ghost use Rattle.ca_rule.specs.declared.table.neighbourhood.Symmetry.TheVariants.{Rotate8Reflect, Rotate2};
+ghost use Rattle.ca_rule.specs.declared.table.neighbourhood.Symmetry.TheVariants.{Rotate3, Rotate6};
+ghost use Rattle.ca_rule.specs.declared.table.neighbourhood.Symmetry.TheVariants.{Rotate6Reflect, Reflect};
+ghost use Rattle.ca_rule.specs.declared.table.neighbourhood.Symmetry.TheVariants.{Permute};
 
 /// The orders of each symmetry.
 pub fn worked_orders()
@@ -55,52 +67,86 @@ pub fn worked_cells()
     ensures east_spreads { table_cell VonNeumann Rotate4 (one_neighbour ∷ []) (codes "000001000") ≡ 1 }
     ensures south_spreads { table_cell VonNeumann Rotate4 (one_neighbour ∷ []) (codes "000000010") ≡ 1 }
     ensures west_spreads { table_cell VonNeumann Rotate4 (one_neighbour ∷ []) (codes "000200000") ≡ 2 }
-    ensures corners_do_not_count_among_four { table_cell VonNeumann Rotate4 (one_neighbour ∷ []) (codes "120000201") ≡ 2 }
+    ensures corners_do_not_count_among_four { table_cell VonNeumann Rotate4 (one_neighbour ∷ [])
+        (codes "120000201") ≡ 2 }
     ensures two_are_too_many { table_cell VonNeumann Rotate4 (one_neighbour ∷ []) (codes "010100000") ≡ 0 }
-    ensures only_the_north_spreads_without_turns { table_cell VonNeumann Identity (one_neighbour ∷ []) (codes "000001000") ≡ 0 }
-    ensures centre_stays_where_none_fits { table_cell VonNeumann Rotate4 (one_neighbour ∷ []) (codes "010020000") ≡ 2 }
+    ensures only_the_north_spreads_without_turns { table_cell VonNeumann Identity (one_neighbour ∷ [])
+        (codes "000001000") ≡ 0 }
+    ensures centre_stays_where_none_fits { table_cell VonNeumann Rotate4 (one_neighbour ∷ [])
+        (codes "010020000") ≡ 2 }
     ensures centre_stays_without_transitions { table_cell VonNeumann Rotate4 [] (codes "111121111") ≡ 2 }
 
-    ensures least_order_decides { table_cell VonNeumann Rotate4Reflect (two_neighbours ∷ []) (codes "010200000") ≡ 1 }
-    ensures the_other_order_without_mirrors { table_cell VonNeumann Rotate4 (two_neighbours ∷ []) (codes "010200000") ≡ 2 }
-    ensures least_order_of_all_decides { table_cell VonNeumann Permute (two_neighbours ∷ []) (codes "000102000") ≡ 2 }
-    ensures opposite_cells_are_only_permuted { table_cell VonNeumann Rotate4Reflect (two_neighbours ∷ []) (codes "000102000") ≡ 0 }
+    ensures least_order_decides { table_cell VonNeumann Rotate4Reflect (two_neighbours ∷ [])
+        (codes "010200000") ≡ 1 }
+    ensures the_other_order_without_mirrors { table_cell VonNeumann Rotate4 (two_neighbours ∷ [])
+        (codes "010200000") ≡ 2 }
+    ensures least_order_of_all_decides { table_cell VonNeumann Permute (two_neighbours ∷ [])
+        (codes "000102000") ≡ 2 }
+    ensures opposite_cells_are_only_permuted { table_cell VonNeumann Rotate4Reflect (two_neighbours ∷ [])
+        (codes "000102000") ≡ 0 }
+{}
 
-    ensures variable_has_one_cell { table_cell VonNeumann Permute (like_neighbours ∷ []) (codes "000102000") ≡ 0 }
-    ensures variable_has_one_cell_twice { table_cell VonNeumann Permute (like_neighbours ∷ []) (codes "000202000") ≡ 2 }
-    ensures first_line_decides { table_cell VonNeumann Identity (one_neighbour ∷ north_of_one ∷ []) (codes "010000000") ≡ 1 }
-    ensures first_line_decides_turned_round { table_cell VonNeumann Identity (north_of_one ∷ one_neighbour ∷ []) (codes "010000000") ≡ 2 }
-    ensures later_line_where_the_first_does_not_fit { table_cell VonNeumann Identity (north_of_one ∷ one_neighbour ∷ []) (codes "020000000") ≡ 2 }
+/// Some cells where a variable, the first line that fits or the neighbourhood's ring decides.
+pub fn worked_transitions()
+    ensures variable_has_one_cell { table_cell VonNeumann Permute (like_neighbours ∷ [])
+        (codes "000102000") ≡ 0 }
+    ensures variable_has_one_cell_twice { table_cell VonNeumann Permute (like_neighbours ∷ [])
+        (codes "000202000") ≡ 2 }
+    ensures first_line_decides { table_cell VonNeumann Identity (one_neighbour ∷ north_of_one ∷ [])
+        (codes "010000000") ≡ 1 }
+    ensures first_line_decides_turned_round { table_cell VonNeumann Identity
+        (north_of_one ∷ one_neighbour ∷ []) (codes "010000000") ≡ 2 }
+    ensures later_line_where_the_first_does_not_fit { table_cell VonNeumann Identity
+        (north_of_one ∷ one_neighbour ∷ []) (codes "020000000") ≡ 2 }
 
-    ensures second_of_eight_is_north_east { table_cell Moore Identity (second_of_eight ∷ []) (codes "001000000") ≡ 1 }
-    ensures second_of_six_is_east { table_cell Hexagonal Identity (second_of_six ∷ []) (codes "000001000") ≡ 1 }
-    ensures north_east_is_not_among_six { table_cell Hexagonal Identity (second_of_six ∷ []) (codes "001001100") ≡ 1 }
-    ensures second_of_two_is_east { table_cell OneDimensional Identity (second_of_two ∷ []) (codes "000001000") ≡ 1 }
-    ensures rows_above_and_below_do_not_count { table_cell OneDimensional Identity (second_of_two ∷ []) (codes "111001111") ≡ 1 }
+    ensures second_of_eight_is_north_east { table_cell Moore Identity (second_of_eight ∷ [])
+        (codes "001000000") ≡ 1 }
+    ensures second_of_six_is_east { table_cell Hexagonal Identity (second_of_six ∷ [])
+        (codes "000001000") ≡ 1 }
+    ensures north_east_is_not_among_six { table_cell Hexagonal Identity (second_of_six ∷ [])
+        (codes "001001100") ≡ 1 }
+    ensures second_of_two_is_east { table_cell OneDimensional Identity (second_of_two ∷ [])
+        (codes "000001000") ≡ 1 }
+    ensures rows_above_and_below_do_not_count { table_cell OneDimensional Identity (second_of_two ∷ [])
+        (codes "111001111") ≡ 1 }
 {}
 
 /// Some lines and texts of rule tables.
 pub fn worked_texts()
-    ensures comments_and_blanks_are_dropped { lines_said (codes " @RULE A # b\r\n\n# c\n\t@TABLE") ≡ (1, codes "@RULE A") ∷ (4, codes "@TABLE") ∷ [] }
-    ensures blanks_may_stand_round_the_colon { setting (codes "n_states") (3, codes "n_states : 3") ≡ Some (codes "3") }
-    ensures all_behind_the_colon_is_the_value { setting (codes "n_states") (3, codes "n_states:3 4") ≡ Some (codes "3 4") }
+    ensures comments_and_blanks_are_dropped { lines_said (codes " @RULE A # b\r\n\n# c\n\t@TABLE")
+        ≡ (1, codes "@RULE A") ∷ (4, codes "@TABLE") ∷ [] }
+    ensures blanks_may_stand_round_the_colon { setting (codes "n_states") (3, codes "n_states : 3")
+        ≡ Some (codes "3") }
+    ensures all_behind_the_colon_is_the_value { setting (codes "n_states") (3, codes "n_states:3 4")
+        ≡ Some (codes "3 4") }
     ensures other_words_are_no_settings { is_setting (3, codes "states:3") ≡ false }
     ensures var_alone_is_no_variable { begins_variable (6, codes "var") ≡ false }
     ensures var_and_a_blank_is_one { begins_variable (6, codes "var a") ≡ true }
-    ensures variable_is_spelled { IsVariableLine (6, codes "var a = { 1 , b }") (codes "a") (codes "1" ∷ codes "b" ∷ []) }
+    ensures variable_is_spelled { IsVariableLine (6, codes "var a = { 1 , b }") (codes "a")
+        (codes "1" ∷ codes "b" ∷ []) }
     ensures names_begin_with_no_digit { is_name (codes "1a") ≡ false }
     ensures names_may_hold_digits { is_name (codes "a1") ≡ true }
-    ensures fields_stand_between_commas { fields_of (7, codes "0,a, 12 ,a") ≡ codes "0" ∷ codes "a" ∷ codes "12" ∷ codes "a" ∷ [] }
+    ensures fields_stand_between_commas { fields_of (7, codes "0,a, 12 ,a")
+        ≡ codes "0" ∷ codes "a" ∷ codes "12" ∷ codes "a" ∷ [] }
     ensures each_byte_is_a_field { fields_of (7, codes "0a0") ≡ codes "0" ∷ codes "a" ∷ codes "0" ∷ [] }
     ensures table_is_read { (table : TableRule) × IsTable (file_of (codes "0,a,0,0,0,a")) table
         × (table.transitions ≡ one_neighbour ∷ []) }
     ensures table_is_read_without_commas { (table : TableRule) × IsTable (file_of (codes "0a000a")) table
         × (table.transitions ≡ one_neighbour ∷ []) }
-    ensures rule_line_is_missing { IsFaultOf (text_of (codes "# a" ∷ codes "@RUL Spread" ∷ codes "@TABLE" ∷ [])) (NoRuleLine 2) }
-    ensures rule_line_wants_a_name { IsFaultOf (text_of (codes "@RULE" ∷ codes "@TABLE" ∷ [])) (NoRuleLine 1) }
+    ensures rule_line_is_missing { IsFaultOf
+        (text_of (codes "# a" ∷ codes "@RUL Spread" ∷ codes "@TABLE" ∷ [])) (NoRuleLine 2) }
+    ensures rule_line_wants_a_name { IsFaultOf (text_of (codes "@RULE" ∷ codes "@TABLE" ∷ []))
+        (NoRuleLine 1) }
     ensures empty_text_has_no_rule_line { IsFaultOf [] (NoRuleLine 1) }
-    ensures table_is_missing { IsFaultOf (text_of (codes "@RULE Spread" ∷ codes "@TABLES" ∷ codes "n_states:3" ∷ [])) (NoTable 3) }
-    ensures one_state_is_too_few { IsFaultOf (file_with (codes "n_states:1") (codes "neighborhood:vonNeumann") (codes "symmetries:rotate4") (codes "0a000a")) (States 6) }
-    ensures neighbourhood_is_unknown { IsFaultOf (file_with (codes "n_states:3") (codes "neighborhood:Margolus") (codes "symmetries:rotate4") (codes "0a000a")) (Neighborhood 6) }
-    ensures symmetry_is_unknown { IsFaultOf (file_with (codes "n_states:3") (codes "neighborhood:vonNeumann") (codes "symmetries:rotate8") (codes "0a000a")) (Symmetries 6) }
+    ensures table_is_missing { IsFaultOf
+        (text_of (codes "@RULE Spread" ∷ codes "@TABLES" ∷ codes "n_states:3" ∷ [])) (NoTable 3) }
+    ensures one_state_is_too_few { IsFaultOf
+        (file_with (codes "n_states:1") (codes "neighborhood:vonNeumann") (codes "symmetries:rotate4")
+        (codes "0a000a")) (States 6) }
+    ensures neighbourhood_is_unknown { IsFaultOf
+        (file_with (codes "n_states:3") (codes "neighborhood:Margolus") (codes "symmetries:rotate4")
+        (codes "0a000a")) (Neighborhood 6) }
+    ensures symmetry_is_unknown { IsFaultOf
+        (file_with (codes "n_states:3") (codes "neighborhood:vonNeumann") (codes "symmetries:rotate8")
+        (codes "0a000a")) (Symmetries 6) }
 {}
