@@ -3,7 +3,6 @@ use Rattle.std.proofs.Common.{◌≡◌, ◌≢◌, ℕ, ◌+◌, ◌-◌, ◌<�
 use Rattle.std.proofs.lemmas.Bool.{cases_eq}
 use Rattle.std.proofs.lemmas.Int.{ints}
 use Rattle.std.proofs.lemmas.List.{get_or_default}
-use Rattle.std.proofs.Math.Nat.{two-pow-succ}
 use Rattle.ca_plane.specs.declared.point.Point.{Point}
 use Rattle.ca_plane.specs.Plane.{Picture, cell}
 use Rattle.ca_plane.proofs.Pictures.{Contains-cell}
@@ -14,10 +13,12 @@ use Rattle.ca_quad.specs.declared.store.to_plane.Corners.{Corners}
 use Rattle.ca_quad.specs.declared.tree.Spot.{Spot}
 use Rattle.ca_quad.specs.Trees.{Shows}
 use Rattle.ca_quad.specs.inner.Drawn.{ArePartCorners}
-use Rattle.ca_quad.specs.inner.Filled.{counted}
+use Rattle.ca_quad.specs.inner.Filled.{counted, LiesNear, AreRowsOf}
 use Rattle.ca_quad.specs.inner.Ring.{none}
 use Rattle.ca_quad.specs.inner.Rows.{point_at, AreRows, Hold, Cover, IsPart, AreParts}
 use Rattle.ca_quad.specs.inner.Window.{ShowsFrom}
+use Rattle.ca_quad.proofs.Cells.{twice}
+use Rattle.ca_quad.proofs.Filled.{near_nw, near_ne, near_sw, near_se}
 
 -- a part of a part
 pub part_part : (p : Picture) (rows half part : List Row) (P Q : Point → Type 0) → IsPart p rows P half → IsPart p half Q part → IsPart p rows (λ q. P q × Q q) part
@@ -54,55 +55,34 @@ shows_none nodes id level p rows at e cover h = record {
 }
 
 -- the quarters of a square
-module _ (level half : ℕ) (large : 2 ≤ level) (side : half ≡ 2 ^ (level - 1)) (at : Spot) (cs : Corners) (are : ArePartCorners at half cs) (p : Picture) (rows : List Row) (cover : Cover p rows (2 ^ level) at)
+module _ (level half : ℕ) (large : 2 ≤ level) (side : half ≡ 2 ^ (level - 1)) (at : Spot) (cs : Corners) (are : ArePartCorners at half cs) (p : Picture) (rows : List Row) (of : AreRowsOf level p rows at)
     (parts : Quarters) (round : AreParts p rows cs.se parts) where
-  twice : 2 ^ level ≡ 2 ^ (level - 1) + 2 ^ (level - 1)
-  twice =
-      let next : level ≡ suc (level - 1) = omega arith in
-      ap (λ n. 2 ^ n) next ∙ two-pow-succ (level - 1)
+  two : 2 ^ level ≡ 2 ^ (level - 1) + 2 ^ (level - 1)
+  two = twice level (omega arith)
 
-  -- rows that hold a quarter's cells
-  pub record Holds (now : List Row) (corner : Spot) : Type 0 where
-    pub are_rows : AreRows p now
-    pub covers : Cover p now (2 ^ (level - 1)) corner
+  rows_of : (corner : Spot) → LiesNear (2 ^ (level - 1)) corner → (P : Point → Type 0) (part : List Row) → IsPart p rows P part → (dx dy : ℕ)
+      → dx ≤ 2 ^ (level - 1) → dy ≤ 2 ^ (level - 1) → corner.x ≡ at.x +ℤ pos dx → corner.y ≡ at.y +ℤ pos dy
+      → ((q : Point) (x y : ℕ) → x < 2 ^ (level - 1) → y < 2 ^ (level - 1) → q.x ≡ corner.x +ℤ pos x → q.y ≡ corner.y +ℤ pos y → P q)
+      → AreRowsOf (level - 1) p part corner
+  rows_of corner near P part is dx dy low_x low_y is_x is_y within = record {
+    near = near;
+    sparse = of.sparse;
+    are_rows = is.are;
+    cover = record {
+      held = λ i x y low a b ex ey.
+          is.held i (of.cover.held i (dx + x) (dy + y) low (omega (arith, two)) (omega (arith, two)) (omega (arith, ints)) (omega (arith, ints))) (within (point_at p i) x y a b ex ey);
+    };
+  }
 
-  module _ (now : List Row) where
-    pub holds_nw : now ≡ parts.nw.items → Holds now at
-    holds_nw e = rw e (record {
-      are_rows = round.nw.are;
-      covers = record {
-        held = λ i x y low a b ex ey.
-            round.nw.held i (cover.held i x y low (omega (arith, twice)) (omega (arith, twice)) ex ey)
-            (omega (arith, ints, side, are.se_x), omega (arith, ints, side, are.se_y));
-      };
-    })
-
-    pub holds_ne : now ≡ parts.ne.items → Holds now cs.ne
-    holds_ne e = rw e (record {
-      are_rows = round.ne.are;
-      covers = record {
-        held = λ i x y low a b ex ey.
-            round.ne.held i (cover.held i (half + x) y low (omega (arith, twice, side)) (omega (arith, twice)) (omega (arith, ints, are.ne_x)) (omega (arith, ints, are.ne_y)))
-            (omega (arith, ints, are.se_x, are.ne_x), omega (arith, ints, side, are.se_y, are.ne_y));
-      };
-    })
-
-    pub holds_sw : now ≡ parts.sw.items → Holds now cs.sw
-    holds_sw e = rw e (record {
-      are_rows = round.sw.are;
-      covers = record {
-        held = λ i x y low a b ex ey.
-            round.sw.held i (cover.held i x (half + y) low (omega (arith, twice)) (omega (arith, twice, side)) (omega (arith, ints, are.sw_x)) (omega (arith, ints, are.sw_y)))
-            (omega (arith, ints, side, are.se_x, are.sw_x), omega (arith, ints, are.se_y, are.sw_y));
-      };
-    })
-
-    pub holds_se : now ≡ parts.se.items → Holds now cs.se
-    holds_se e = rw e (record {
-      are_rows = round.se.are;
-      covers = record {
-        held = λ i x y low a b ex ey.
-            round.se.held i (cover.held i (half + x) (half + y) low (omega (arith, twice, side)) (omega (arith, twice, side)) (omega (arith, ints, are.se_x)) (omega (arith, ints, are.se_y)))
-            (omega (arith, ints), omega (arith, ints));
-      };
-    })
+  -- the parts of the rows are the rows of the quarters
+  pub rows_four : AreRowsOf (level - 1) p parts.nw.items at × AreRowsOf (level - 1) p parts.ne.items cs.ne × AreRowsOf (level - 1) p parts.sw.items cs.sw × AreRowsOf (level - 1) p parts.se.items cs.se
+  rows_four = (
+    rows_of at (near_nw level half large side at cs are of.near) _ parts.nw.items round.nw 0 0 (omega arith) (omega arith) (omega (arith, ints)) (omega (arith, ints))
+        (λ q x y a b ex ey. (omega (arith, ints, side, are.se_x), omega (arith, ints, side, are.se_y))),
+    rows_of cs.ne (near_ne level half large side at cs are of.near) _ parts.ne.items round.ne half 0 (omega arith) (omega arith) are.ne_x (omega (arith, ints, are.ne_y))
+        (λ q x y a b ex ey. (omega (arith, ints, are.se_x, are.ne_x), omega (arith, ints, side, are.se_y, are.ne_y))),
+    rows_of cs.sw (near_sw level half large side at cs are of.near) _ parts.sw.items round.sw 0 half (omega arith) (omega arith) (omega (arith, ints, are.sw_x)) are.sw_y
+        (λ q x y a b ex ey. (omega (arith, ints, side, are.se_x, are.sw_x), omega (arith, ints, are.se_y, are.sw_y))),
+    rows_of cs.se (near_se level half large side at cs are of.near) _ parts.se.items round.se half half (omega arith) (omega arith) are.se_x are.se_y
+        (λ q x y a b ex ey. (omega (arith, ints), omega (arith, ints))),
+  )

@@ -18,6 +18,7 @@ use Rattle.ca_quad.specs.inner.Drawn.{ArePartCorners}
 use Rattle.ca_quad.specs.inner.Filled.{counted, LiesNear, HoldsBox}
 use Rattle.ca_quad.specs.inner.Ring.{none}
 use Rattle.ca_quad.specs.inner.Window.{ShowsFrom}
+use Rattle.ca_quad.proofs.Cells.{twice}
 use Rattle.ca_quad.proofs.Differ.{cell_at}
 use Rattle.ca_quad.proofs.Edges.{IsOff, outside_x, outside_y}
 use Rattle.ca_quad.proofs.Growth.{below_or_not, grows_on}
@@ -58,43 +59,40 @@ module _ (s0 s1 s2 s3 : List Node) (g1 : Grows s0 s1) (g2 : Grows s1 s2) (g3 : G
 
 -- the quarters of a square that lies near
 module _ (level half : ℕ) (large : 2 ≤ level) (side : half ≡ 2 ^ (level - 1)) (at : Spot) (cs : Corners) (are : ArePartCorners at half cs) (near : LiesNear (2 ^ level) at) where
-  twice : 2 ^ level ≡ 2 ^ (level - 1) + 2 ^ (level - 1)
-  twice =
-      let next : level ≡ suc (level - 1) = omega arith in
-      ap (λ n. 2 ^ n) next ∙ two-pow-succ (level - 1)
+  two : 2 ^ level ≡ 2 ^ (level - 1) + 2 ^ (level - 1)
+  two = twice level (omega arith)
 
   pub near_nw : LiesNear (2 ^ (level - 1)) at
-  near_nw = record { left = near.left; right = omega (arith, ints, near.right, twice); top = near.top; bottom = omega (arith, ints, near.bottom, twice) }
+  near_nw = record { left = near.left; right = omega (arith, ints, near.right, two); top = near.top; bottom = omega (arith, ints, near.bottom, two) }
 
   pub near_ne : LiesNear (2 ^ (level - 1)) cs.ne
   near_ne = record {
     left = omega (arith, ints, near.left, are.ne_x);
-    right = omega (arith, ints, near.right, twice, are.ne_x, side);
+    right = omega (arith, ints, near.right, two, are.ne_x, side);
     top = omega (arith, ints, near.top, are.ne_y);
-    bottom = omega (arith, ints, near.bottom, twice, are.ne_y);
+    bottom = omega (arith, ints, near.bottom, two, are.ne_y);
   }
 
   pub near_sw : LiesNear (2 ^ (level - 1)) cs.sw
   near_sw = record {
     left = omega (arith, ints, near.left, are.sw_x);
-    right = omega (arith, ints, near.right, twice, are.sw_x);
+    right = omega (arith, ints, near.right, two, are.sw_x);
     top = omega (arith, ints, near.top, are.sw_y);
-    bottom = omega (arith, ints, near.bottom, twice, are.sw_y, side);
+    bottom = omega (arith, ints, near.bottom, two, are.sw_y, side);
   }
 
   pub near_se : LiesNear (2 ^ (level - 1)) cs.se
   near_se = record {
     left = omega (arith, ints, near.left, are.se_x);
-    right = omega (arith, ints, near.right, twice, are.se_x, side);
+    right = omega (arith, ints, near.right, two, are.se_x, side);
     top = omega (arith, ints, near.top, are.se_y);
-    bottom = omega (arith, ints, near.bottom, twice, are.se_y, side);
+    bottom = omega (arith, ints, near.bottom, two, are.se_y, side);
   }
 
 -- the whole tree lies near
 pub near_first : (level half : ℕ) (at : Spot) → 1 ≤ level → level ≤ 65 → half ≡ 2 ^ (level - 1) → at.x ≡ neg_ℤ (pos half) → at.y ≡ neg_ℤ (pos half) → LiesNear (2 ^ level) at
 near_first level half at least most side ex ey =
-    let next : suc (level - 1) ≡ level = omega arith in
-    let twice : 2 ^ level ≡ 2 ^ (level - 1) + 2 ^ (level - 1) = ap (λ n. 2 ^ n) (sym next) ∙ two-pow-succ (level - 1) in
+    let two = twice level least in
     let low : 2 ^ (level - 1) ≤ 2 ^ 64 = pow-le-pow_right {n = 2} (omega arith) {i = level - 1} {j = 64} (omega arith) in
     record { left = omega (arith, ints); right = omega (arith, ints); top = omega (arith, ints); bottom = omega (arith, ints) }
 

@@ -1,8 +1,11 @@
 -- Cells of a plane that are gathered into squares.
-use Rattle.std.specs.Prelude.{ℕ, ◌^◌, pos, neg_ℤ, ◌+ℤ◌, ◌<ℤ◌, ◌≤ℤ◌}
+use Rattle.std.specs.Prelude.{ℕ, ◌^◌, pos, neg_ℤ, ◌+ℤ◌, ◌<ℤ◌, ◌≤ℤ◌, List}
 use Rattle.ca_plane.specs.declared.point.Bounds.{Bounds}
 use Rattle.ca_plane.specs.Plane.{Picture, cell}
+use Rattle.ca_plane.specs.Sparse.{IsSparse}
+use Rattle.ca_quad.specs.declared.store.rows.Row.{Row}
 use Rattle.ca_quad.specs.declared.tree.Spot.{Spot}
+use Rattle.ca_quad.specs.inner.Rows.{AreRows, Cover}
 
 -- the cells of a picture, counted from this place
 abbrev pub counted : Picture → Spot → ℕ → ℕ → ℕ
@@ -14,6 +17,13 @@ pub record LiesNear (side : ℕ) (at : Spot) : Type 0 where
   pub right : (at.x +ℤ pos side) ≤ℤ pos (2 ^ 64)
   pub top : neg_ℤ (pos (2 ^ 64)) ≤ℤ at.y
   pub bottom : (at.y +ℤ pos side) ≤ℤ pos (2 ^ 64)
+
+-- the rows hold all cells of the picture that lie in a square of this level, which lies near
+pub record AreRowsOf (level : ℕ) (p : Picture) (rows : List Row) (at : Spot) : Type 0 where
+  pub near : LiesNear (2 ^ level) at
+  pub sparse : IsSparse p
+  pub are_rows : AreRows p rows
+  pub cover : Cover p rows (2 ^ level) at
 
 -- a tree with this half of a side holds the box
 abbrev pub HoldsBox : ℕ → Bounds → Type 0

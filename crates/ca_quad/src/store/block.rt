@@ -4,7 +4,7 @@ ghost use Rattle.std.specs.Prelude.{◌≡◌, ℕ, ◌+◌, ◌<◌, ◌≤◌,
 ghost use Rattle.ca_plane.specs.Sparse.{IsSparse};
 ghost use Rattle.ca_quad.specs.Sound.{Grows};
 ghost use Rattle.ca_quad.specs.inner.Block.{block_cells, IsCell, TellsPlace, IsPut, IsRight};
-ghost use Rattle.ca_quad.specs.inner.Filled.{counted, LiesNear};
+ghost use Rattle.ca_quad.specs.inner.Filled.{counted, LiesNear, AreRowsOf};
 ghost use Rattle.ca_quad.specs.inner.Rows.{point_at, IsInRow, IsRow, AreRows, Cover};
 ghost use Rattle.ca_quad.specs.inner.Window.{ShowsFrom};
 
@@ -26,10 +26,7 @@ impl Store {
     ) -> Result<Id, Memory>
         requires least { 1 ≤ level }
         requires most { level ≤ 5 }
-        requires near { LiesNear (2 ^ level) at }
-        requires sparse { IsSparse cells.now }
-        requires rows { AreRows cells.now rows.now }
-        requires cover { Cover cells.now rows.now (2 ^ level) at }
+        requires rows { AreRowsOf level cells.now rows.now at }
         ensures shows { IfOk result (λ id. ShowsFrom self.new id level (counted cells.now at) 0 0) }
         ensures grows { Grows self.old self.new }
     {

@@ -2,13 +2,11 @@
 
 ghost use Rattle.std.specs.Prelude.{◌≡◌, ℕ, ◌-◌, ◌≤◌, ◌^◌, ℤ, IsTrue, IsFalse, IfOk};
 ghost use Rattle.ca_plane.specs.Plane.{cell as plane_cell};
-ghost use Rattle.ca_plane.specs.Sparse.{IsSparse};
 ghost use Rattle.ca_quad.specs.Sound.{Grows};
 ghost use Rattle.ca_quad.specs.Trees.{IsTree, Shows, cell};
 ghost use Rattle.ca_quad.specs.Trimmed.{HoldsAll, IsTrimmed};
-ghost use Rattle.ca_quad.specs.inner.Filled.{counted, LiesNear, HoldsBox};
+ghost use Rattle.ca_quad.specs.inner.Filled.{counted, AreRowsOf, HoldsBox};
 ghost use Rattle.ca_quad.specs.inner.Ring.{none};
-ghost use Rattle.ca_quad.specs.inner.Rows.{AreRows, Cover};
 ghost use Rattle.ca_quad.specs.inner.Window.{ShowsFrom};
 
 use super::Store;
@@ -64,10 +62,7 @@ impl Store {
         requires least { 4 ≤ level }
         requires most { level ≤ 65 }
         requires empty { Shows self.old empty level none }
-        requires near { LiesNear (2 ^ level) at }
-        requires sparse { IsSparse cells.now }
-        requires rows { AreRows cells.now rows.now }
-        requires cover { Cover cells.now rows.now (2 ^ level) at }
+        requires rows { AreRowsOf level cells.now rows.now at }
         ensures shows { IfOk result (λ id. ShowsFrom self.new id level (counted cells.now at) 0 0) }
         ensures grows { Grows self.old self.new }
     {

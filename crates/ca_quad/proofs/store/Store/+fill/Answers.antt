@@ -1,69 +1,60 @@
-use Rattle.std.proofs.Common.{◌≡◌, ◌≤◌, length, sym, subst, ◌∙◌, arith}
+use Rattle.std.proofs.Common.{◌≡◌, ℕ, ◌≤◌, ◌-◌, List, get_or, length, sym, subst, ◌∙◌, arith}
 use Rattle.std.proofs.lemmas.Bool.{eqb-true}
-use Rattle.ca_quad.specs.Sound.{IsSound}
-use Rattle.ca_quad.proofs.Covers.{shows_none, holds_nw, holds_ne, holds_sw, holds_se}
-use Rattle.ca_quad.proofs.Filled.{part_none, grows_three, grows_five, near_nw, near_ne, near_sw, near_se, can_join_filled, filled_joined}
+use Rattle.ca_quad.specs.declared.node.Node.{Node}
+use Rattle.ca_quad.specs.declared.store.rows.Row.{Row}
+use Rattle.ca_quad.specs.declared.tree.Spot.{Spot}
+use Rattle.ca_quad.specs.Sound.{IsSound, Grows}
+use Rattle.ca_quad.specs.Trees.{Shows}
+use Rattle.ca_quad.specs.inner.Filled.{AreRowsOf}
+use Rattle.ca_quad.specs.inner.Ring.{none}
+use Rattle.ca_quad.proofs.Covers.{shows_none, rows_four}
+use Rattle.ca_quad.proofs.Filled.{part_none, grows_three, grows_five, can_join_filled, filled_joined}
 use Rattle.ca_quad.proofs.Growth.{grows_same, grows_on}
 use Rattle.ca_quad.proofs.store.Store.+fill.Goals as goal
+use Rattle.ca_quad.proofs.store.Store.+fill.Goals.{In_ok-parts}
 
 pub returns-then-is_empty-clause-shows : goal.returns-then-is_empty-clause-shows
-returns-then-is_empty-clause-shows t c = shows_none c.args.self.now c.args.empty c.args.level c.args.cells.now c.args.rows.now c.args.at (eqb-true (length c.args.rows.now) 0 (sym c.is_empty.ensures ∙ c.if-is_empty.true)) c.requires.cover c.requires.empty
+returns-then-is_empty-clause-shows t c = shows_none c.args.self.now c.args.empty c.args.level c.args.cells.now c.args.rows.now c.args.at (eqb-true (length c.args.rows.now) 0 (sym c.is_empty.ensures ∙ c.if-is_empty.true)) c.requires.rows.cover c.requires.empty
+
+-- what the four calls share
+module _ (t : ℕ) (c : In_ok-parts t) where
+  large : 5 ≤ c.args.level
+  large = c.is_block.ensures.large c.if-is_block.false
+
+  rows : AreRowsOf (c.args.level - 1) c.args.cells.now c.in_ok-parts.parts.nw.items c.args.at × AreRowsOf (c.args.level - 1) c.args.cells.now c.in_ok-parts.parts.ne.items c.part_corners-corners.result.ne
+      × AreRowsOf (c.args.level - 1) c.args.cells.now c.in_ok-parts.parts.sw.items c.part_corners-corners.result.sw × AreRowsOf (c.args.level - 1) c.args.cells.now c.in_ok-parts.parts.se.items c.part_corners-corners.result.se
+  rows =
+      rows_four c.args.level c.half_side.result (omega (arith, large)) c.half_side.ensures.half c.args.at c.part_corners-corners.result c.part_corners-corners.ensures c.args.cells.now c.args.rows.now c.requires.rows
+      c.in_ok-parts.parts c.in_ok-parts.ensures
+
+  can_fill : (new : List Node) → Grows c.args.self.now new → (now part : List Row) (at : Spot) → now ≡ part → AreRowsOf (c.args.level - 1) c.args.cells.now part at
+      → 4 ≤ c.args.level - 1 × (c.args.level - 1 ≤ 65 × (Shows new (get_or c.children.result 0 c.index-children-0.result) (c.args.level - 1) none × AreRowsOf (c.args.level - 1) c.args.cells.now now at))
+  can_fill new grows now part at e of =
+      let empty =
+      part_none c.args.self.now new (subst IsSound c.self.view_is c.self.invariant) grows c.args.empty c.args.level c.children.result c.index-children-0.result (omega (arith, c.children.type_inv)) (omega (arith, large))
+      c.requires.empty c.children.ensures.quarters
+      in
+      (omega (arith, large), (omega (arith, c.requires.most), (empty, rw e of)))
 
 pub fill-requires : goal.fill-requires
 fill-requires t c =
-    let large : 5 ≤ c.args.level = c.is_block.ensures.large c.if-is_block.false in
-    let s0 = c.args.self.now in
-    let sound : IsSound s0 = subst IsSound c.self.view_is c.self.invariant in
-    let four : length c.children.result ≡ 4 = omega (arith, c.children.type_inv) in
-    let half = c.half_side.result in
-    let cs = c.part_corners-corners.result in
-    let are = c.part_corners-corners.ensures in
-    let empty = part_none s0 s0 sound (grows_same s0 sound) c.args.empty c.args.level c.children.result c.index-children-0.result four (omega arith) c.requires.empty c.children.ensures.quarters in
-    let near = near_nw c.args.level half (omega arith) c.half_side.ensures.half c.args.at cs are c.requires.near in
-    let holds = holds_nw c.args.level half (omega arith) c.half_side.ensures.half c.args.at cs are c.args.cells.now c.args.rows.now c.requires.cover c.in_ok-parts.parts c.in_ok-parts.ensures _ c.deref.ensures.value in
-    (omega (arith, c.decreases), (omega arith, (omega (arith, c.requires.most), (empty, (near, (c.requires.sparse, (holds.are_rows, holds.covers)))))))
+    let a = (goal.at.fill-requires t c).In_ok-parts in
+    (omega (arith, c.decreases, large t a), can_fill t a _ (grows_same _ (subst IsSound c.self.view_is c.self.invariant)) _ _ _ c.deref.ensures.value (rows t a).0)
 
 pub fill-requires-2 : goal.fill-requires-2
 fill-requires-2 t c =
-    let large : 5 ≤ c.args.level = c.is_block.ensures.large c.if-is_block.false in
-    let s0 = c.args.self.now in
-    let sound : IsSound s0 = subst IsSound c.self.view_is c.self.invariant in
-    let four : length c.children.result ≡ 4 = omega (arith, c.children.type_inv) in
-    let half = c.half_side.result in
-    let cs = c.part_corners-corners.result in
-    let are = c.part_corners-corners.ensures in
-    let empty = part_none s0 c.fill.new.self sound (c.fill.ensures.grows) c.args.empty c.args.level c.children.result c.index-children-0.result four (omega arith) c.requires.empty c.children.ensures.quarters in
-    let near = near_ne c.args.level half (omega arith) c.half_side.ensures.half c.args.at cs are c.requires.near in
-    let holds = holds_ne c.args.level half (omega arith) c.half_side.ensures.half c.args.at cs are c.args.cells.now c.args.rows.now c.requires.cover c.in_ok-parts.parts c.in_ok-parts.ensures _ c.deref-2.ensures.value in
-    (omega (arith, c.decreases), (omega arith, (omega (arith, c.requires.most), (empty, (near, (c.requires.sparse, (holds.are_rows, holds.covers)))))))
+    let a = (goal.at.fill-requires-2 t c).In_ok-parts in
+    (omega (arith, c.decreases, large t a), can_fill t a _ c.fill.ensures.grows _ _ _ c.deref-2.ensures.value (rows t a).1)
 
 pub fill-requires-3 : goal.fill-requires-3
 fill-requires-3 t c =
-    let large : 5 ≤ c.args.level = c.is_block.ensures.large c.if-is_block.false in
-    let s0 = c.args.self.now in
-    let sound : IsSound s0 = subst IsSound c.self.view_is c.self.invariant in
-    let four : length c.children.result ≡ 4 = omega (arith, c.children.type_inv) in
-    let half = c.half_side.result in
-    let cs = c.part_corners-corners.result in
-    let are = c.part_corners-corners.ensures in
-    let empty = part_none s0 c.fill-2.new.self sound (grows_on s0 c.fill.new.self c.fill-2.new.self c.fill.ensures.grows c.fill-2.ensures.grows) c.args.empty c.args.level c.children.result c.index-children-0.result four (omega arith) c.requires.empty c.children.ensures.quarters in
-    let near = near_sw c.args.level half (omega arith) c.half_side.ensures.half c.args.at cs are c.requires.near in
-    let holds = holds_sw c.args.level half (omega arith) c.half_side.ensures.half c.args.at cs are c.args.cells.now c.args.rows.now c.requires.cover c.in_ok-parts.parts c.in_ok-parts.ensures _ c.deref-3.ensures.value in
-    (omega (arith, c.decreases), (omega arith, (omega (arith, c.requires.most), (empty, (near, (c.requires.sparse, (holds.are_rows, holds.covers)))))))
+    let a = (goal.at.fill-requires-3 t c).In_ok-parts in
+    (omega (arith, c.decreases, large t a), can_fill t a _ (grows_on _ _ _ c.fill.ensures.grows c.fill-2.ensures.grows) _ _ _ c.deref-3.ensures.value (rows t a).2)
 
 pub fill-requires-4 : goal.fill-requires-4
 fill-requires-4 t c =
-    let large : 5 ≤ c.args.level = c.is_block.ensures.large c.if-is_block.false in
-    let s0 = c.args.self.now in
-    let sound : IsSound s0 = subst IsSound c.self.view_is c.self.invariant in
-    let four : length c.children.result ≡ 4 = omega (arith, c.children.type_inv) in
-    let half = c.half_side.result in
-    let cs = c.part_corners-corners.result in
-    let are = c.part_corners-corners.ensures in
-    let empty = part_none s0 c.fill-3.new.self sound (grows_three s0 c.fill.new.self c.fill-2.new.self c.fill-3.new.self c.fill.ensures.grows c.fill-2.ensures.grows c.fill-3.ensures.grows) c.args.empty c.args.level c.children.result c.index-children-0.result four (omega arith) c.requires.empty c.children.ensures.quarters in
-    let near = near_se c.args.level half (omega arith) c.half_side.ensures.half c.args.at cs are c.requires.near in
-    let holds = holds_se c.args.level half (omega arith) c.half_side.ensures.half c.args.at cs are c.args.cells.now c.args.rows.now c.requires.cover c.in_ok-parts.parts c.in_ok-parts.ensures _ c.deref-4.ensures.value in
-    (omega (arith, c.decreases), (omega arith, (omega (arith, c.requires.most), (empty, (near, (c.requires.sparse, (holds.are_rows, holds.covers)))))))
+    let a = (goal.at.fill-requires-4 t c).In_ok-parts in
+    (omega (arith, c.decreases, large t a), can_fill t a _ (grows_three _ _ _ _ c.fill.ensures.grows c.fill-2.ensures.grows c.fill-3.ensures.grows) _ _ _ c.deref-4.ensures.value (rows t a).3)
 
 pub join-requires : goal.join-requires
 join-requires t c =

@@ -19,4 +19,4 @@ pub returns-clause-shows : goal.returns-clause-shows
 returns-clause-shows c =
     let level = c.args.level in
     window_as c.gather.new.self c.gather.result level (block_cells c.states_of-states.result) (counted c.args.cells.now c.args.at)
-    (c.states_of-states.ensures (2 ^ level) (low level c.requires.most) c.requires.cover) c.gather.ensures.shows
+    (c.states_of-states.ensures (2 ^ level) (low level c.requires.most) c.requires.rows.cover) c.gather.ensures.shows

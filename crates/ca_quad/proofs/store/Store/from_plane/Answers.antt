@@ -1,4 +1,5 @@
 use Rattle.std.proofs.Common.{subst, arith}
+use Rattle.std.proofs.lemmas.Grind.{common_steps}
 use Rattle.ca_plane.specs.Plane.{Picture, cell as plane_cell}
 use Rattle.ca_quad.specs.declared.tree.Tree.{Tree}
 use Rattle.ca_quad.specs.Trees.{cell}
@@ -8,9 +9,9 @@ use Rattle.ca_quad.proofs.Filled.{near_first, tree_filled}
 use Rattle.ca_quad.proofs.Trims.{cells_as}
 use Rattle.ca_quad.proofs.store.Store.from_plane.Goals as goal
 
-pub fill-requires-clause-near : goal.fill-requires-clause-near
-fill-requires-clause-near c =
-    near_first c.level_for-level.result c.half_side.result c.first_corner-corner.result (omega (arith, c.level_for-level.ensures.least)) c.level_for-level.ensures.most c.half_side.ensures.half c.first_corner-corner.ensures.x c.first_corner-corner.ensures.y
+pub fill-requires-clause-rows : goal.fill-requires-clause-rows
+fill-requires-clause-rows c =
+    record { near = near_first c.level_for-level.result c.half_side.result c.first_corner-corner.result (omega (arith, c.level_for-level.ensures.least)) c.level_for-level.ensures.most c.half_side.ensures.half c.first_corner-corner.ensures.x c.first_corner-corner.ensures.y; sparse = grind (arith, common_steps); are_rows = grind (arith, common_steps); cover = grind (arith, common_steps) }
 
 pub returns-clause-cells : goal.returns-clause-cells
 returns-clause-cells c =
