@@ -1,11 +1,12 @@
-use Rattle.std.proofs.Common.{inl, refl, rules, sym, subst}
-use Rattle.ca_quad.specs.Sound.{IsSound}
-use Rattle.ca_quad.specs.Added.{IsPartOf, IsCopy}
+use Rattle.std.proofs.Common.{ℕ, inl, refl, rules, sym, subst}
+use Rattle.ca_quad.specs.Sound.{IsSound, Grows}
+use Rattle.ca_quad.specs.Added.{IsPartOf, IsCopy, AddsCopies}
 use Rattle.ca_quad.proofs.Copied.{copies_stay, still_copies, parts_four, parts_copied}
 use Rattle.ca_quad.proofs.Added.{none_added, added_on, added_in_part, ok_added, one_added, added_two, added_three, added_four}
 use Rattle.ca_quad.proofs.Filled.{grows_five}
 use Rattle.ca_quad.proofs.Measures.{one_more}
 use Rattle.ca_quad.proofs.store.Store.+copy_of.Goals as goal
+use Rattle.ca_quad.proofs.store.Store.+copy_of.Goals.{After-copy_of-in-Parts-3, In_ok-copy-in-Parts}
 
 pub returns-in-Some-clause-copy : goal.returns-in-Some-clause-copy
 returns-in-Some-clause-copy t c = c.requires.copies c.args.id c.in-Some.copy (sym c.in-Some.ensures)
@@ -21,24 +22,45 @@ join-requires t c = (
       c.in_ok-nw-in-Parts.nw c.in_ok-ne-in-Parts.ne c.in_ok-sw-in-Parts.sw c.in_ok-se-in-Parts.se c.in_ok-nw-in-Parts.ensures.copy c.in_ok-ne-in-Parts.ensures.copy c.in_ok-sw-in-Parts.ensures.copy c.in_ok-se-in-Parts.ensures.copy,
 )
 
+-- what the copies of the four parts add
+four_added : (t : ℕ) (c : After-copy_of-in-Parts-3 t) → AddsCopies c.args.from.now c.args.id c.args.self.now c.copy_of-in-Parts-3.new.self
+four_added t c =
+    added_four c.args.from.now c.args.id c.in-Parts.field-0 c.in-Parts.nw c.in-Parts.ne c.in-Parts.sw c.in-Parts.se c.in-Parts.ensures.shows
+    c.args.self.now c.copy_of.new.self c.copy_of-in-Parts.new.self c.copy_of.ensures.grows c.copy_of-in-Parts.ensures.grows c.copy_of.ensures.added c.copy_of-in-Parts.ensures.added
+    c.copy_of-in-Parts-2.new.self c.copy_of-in-Parts-3.new.self c.copy_of-in-Parts-2.ensures.grows c.copy_of-in-Parts-3.ensures.grows c.copy_of-in-Parts-2.ensures.added c.copy_of-in-Parts-3.ensures.added
+
+-- and what their square is and adds
+module _ (t : ℕ) (c : In_ok-copy-in-Parts t) where
+  copied : IsCopy c.args.from.now c.join.new.self c.args.id c.in_ok-copy-in-Parts.copy
+  copied =
+      parts_copied c.args.from.now c.copy_of.new.self c.copy_of-in-Parts.new.self c.copy_of-in-Parts-2.new.self c.copy_of-in-Parts-3.new.self c.copy_of.ensures.grows.sound c.copy_of-in-Parts.ensures.grows c.copy_of-in-Parts-2.ensures.grows c.copy_of-in-Parts-3.ensures.grows
+      c.args.id c.in-Parts.field-0 c.in-Parts.nw c.in-Parts.ne c.in-Parts.sw c.in-Parts.se c.requires.known c.in-Parts.ensures.shows c.in-Parts.ensures.whole
+      c.in_ok-nw-in-Parts.nw c.in_ok-ne-in-Parts.ne c.in_ok-sw-in-Parts.sw c.in_ok-se-in-Parts.se c.in_ok-nw-in-Parts.ensures.copy c.in_ok-ne-in-Parts.ensures.copy c.in_ok-sw-in-Parts.ensures.copy c.in_ok-se-in-Parts.ensures.copy
+      c.join.new.self c.in_ok-copy-in-Parts.copy c.in_ok-copy-in-Parts.ensures.shows
+
+  square_added : AddsCopies c.args.from.now c.args.id c.copy_of-in-Parts-3.new.self c.join.new.self
+  square_added = ok_added c.args.from.now c.args.id c.copy_of-in-Parts-3.new.self c.join.new.self c.in_ok-copy-in-Parts.copy c.in_ok-copy-in-Parts.ensures.added copied
+
+  all_grow : Grows c.args.self.now c.join.new.self
+  all_grow =
+      grows_five c.args.self.now c.copy_of.new.self c.copy_of-in-Parts.new.self c.copy_of-in-Parts-2.new.self c.copy_of.ensures.grows c.copy_of-in-Parts.ensures.grows c.copy_of-in-Parts-2.ensures.grows
+      c.copy_of-in-Parts-3.new.self c.join.new.self c.copy_of-in-Parts-3.ensures.grows c.join.ensures.grows
+
 pub returns-in_ok-put-in-Parts-clause-copy : goal.returns-in_ok-put-in-Parts-clause-copy
-returns-in_ok-put-in-Parts-clause-copy t c =
-    parts_copied c.args.from.now c.copy_of.new.self c.copy_of-in-Parts.new.self c.copy_of-in-Parts-2.new.self c.copy_of-in-Parts-3.new.self c.copy_of.ensures.grows.sound c.copy_of-in-Parts.ensures.grows c.copy_of-in-Parts-2.ensures.grows c.copy_of-in-Parts-3.ensures.grows
-    c.args.id c.in-Parts.field-0 c.in-Parts.nw c.in-Parts.ne c.in-Parts.sw c.in-Parts.se c.requires.known c.in-Parts.ensures.shows c.in-Parts.ensures.whole
-    c.in_ok-nw-in-Parts.nw c.in_ok-ne-in-Parts.ne c.in_ok-sw-in-Parts.sw c.in_ok-se-in-Parts.se c.in_ok-nw-in-Parts.ensures.copy c.in_ok-ne-in-Parts.ensures.copy c.in_ok-sw-in-Parts.ensures.copy c.in_ok-se-in-Parts.ensures.copy
-    c.join.new.self c.in_ok-copy-in-Parts.copy c.in_ok-copy-in-Parts.ensures.shows
+returns-in_ok-put-in-Parts-clause-copy t c = copied t (goal.at.returns-in_ok-put-in-Parts-clause-copy t c).In_ok-copy-in-Parts
 
 pub returns-in_ok-put-in-Parts-clause-copies : goal.returns-in_ok-put-in-Parts-clause-copies
 returns-in_ok-put-in-Parts-clause-copies t c =
     let olds = c.copy_of-in-Parts-3.new.copies in
     one_more (IsCopy c.args.from.now c.join.new.self) olds c.put.new.self c.args.id c.in_ok-copy-in-Parts.copy
     (copies_stay c.args.from.now c.copy_of-in-Parts-3.new.self c.join.new.self c.copy_of-in-Parts-3.ensures.grows.sound c.join.ensures.grows olds c.in_ok-se-in-Parts.ensures.copies)
-    (returns-in_ok-put-in-Parts-clause-copy t c) c.in_ok-put-in-Parts.ensures
+    (copied t (goal.at.returns-in_ok-put-in-Parts-clause-copies t c).In_ok-copy-in-Parts) c.in_ok-put-in-Parts.ensures
 
 pub returns-in_ok-put-in-Parts-clause-grows : goal.returns-in_ok-put-in-Parts-clause-grows
-returns-in_ok-put-in-Parts-clause-grows t c =
-    grows_five c.args.self.now c.copy_of.new.self c.copy_of-in-Parts.new.self c.copy_of-in-Parts-2.new.self c.copy_of.ensures.grows c.copy_of-in-Parts.ensures.grows c.copy_of-in-Parts-2.ensures.grows
-    c.copy_of-in-Parts-3.new.self c.join.new.self c.copy_of-in-Parts-3.ensures.grows c.join.ensures.grows
+returns-in_ok-put-in-Parts-clause-grows t c = all_grow t (goal.at.returns-in_ok-put-in-Parts-clause-grows t c).In_ok-copy-in-Parts
+
+pub returns-in_err-put-in-Parts-clause-grows : goal.returns-in_err-put-in-Parts-clause-grows
+returns-in_err-put-in-Parts-clause-grows t c = all_grow t (goal.at.returns-in_err-put-in-Parts-clause-grows t c).In_ok-copy-in-Parts
 
 pub returns-in-Four-clause-copy : goal.returns-in-Four-clause-copy
 returns-in-Four-clause-copy t c = search rules
@@ -63,41 +85,22 @@ returns-in_err-sw-in-Parts-clause-added t c =
     c.copy_of-in-Parts-2.new.self c.copy_of-in-Parts-2.ensures.grows c.copy_of-in-Parts-2.ensures.added
 
 pub returns-in_err-se-in-Parts-clause-added : goal.returns-in_err-se-in-Parts-clause-added
-returns-in_err-se-in-Parts-clause-added t c =
-    added_four c.args.from.now c.args.id c.in-Parts.field-0 c.in-Parts.nw c.in-Parts.ne c.in-Parts.sw c.in-Parts.se c.in-Parts.ensures.shows
-    c.args.self.now c.copy_of.new.self c.copy_of-in-Parts.new.self c.copy_of.ensures.grows c.copy_of-in-Parts.ensures.grows c.copy_of.ensures.added c.copy_of-in-Parts.ensures.added
-    c.copy_of-in-Parts-2.new.self c.copy_of-in-Parts-3.new.self c.copy_of-in-Parts-2.ensures.grows c.copy_of-in-Parts-3.ensures.grows c.copy_of-in-Parts-2.ensures.added c.copy_of-in-Parts-3.ensures.added
+returns-in_err-se-in-Parts-clause-added t c = four_added t (goal.at.returns-in_err-se-in-Parts-clause-added t c).After-copy_of-in-Parts-3
 
 pub returns-in_err-copy-in-Parts-clause-added : goal.returns-in_err-copy-in-Parts-clause-added
 returns-in_err-copy-in-Parts-clause-added t c =
+    let a = goal.at.returns-in_err-copy-in-Parts-clause-added t c in
     added_on c.args.from.now c.args.id c.args.self.now c.copy_of-in-Parts-3.new.self c.join.new.self c.copy_of-in-Parts-3.ensures.grows.sound c.join.ensures.grows
-    (added_four c.args.from.now c.args.id c.in-Parts.field-0 c.in-Parts.nw c.in-Parts.ne c.in-Parts.sw c.in-Parts.se c.in-Parts.ensures.shows
-    c.args.self.now c.copy_of.new.self c.copy_of-in-Parts.new.self c.copy_of.ensures.grows c.copy_of-in-Parts.ensures.grows c.copy_of.ensures.added c.copy_of-in-Parts.ensures.added
-    c.copy_of-in-Parts-2.new.self c.copy_of-in-Parts-3.new.self c.copy_of-in-Parts-2.ensures.grows c.copy_of-in-Parts-3.ensures.grows c.copy_of-in-Parts-2.ensures.added c.copy_of-in-Parts-3.ensures.added)
-    (none_added c.args.from.now c.args.id c.copy_of-in-Parts-3.new.self c.join.new.self c.in_err-copy-in-Parts.ensures.err)
+    (four_added t a.After-copy_of-in-Parts-3) (none_added c.args.from.now c.args.id c.copy_of-in-Parts-3.new.self c.join.new.self c.in_err-copy-in-Parts.ensures.err)
 
 pub returns-in_err-put-in-Parts-clause-added : goal.returns-in_err-put-in-Parts-clause-added
 returns-in_err-put-in-Parts-clause-added t c =
+    let a = goal.at.returns-in_err-put-in-Parts-clause-added t c in
     added_on c.args.from.now c.args.id c.args.self.now c.copy_of-in-Parts-3.new.self c.join.new.self c.copy_of-in-Parts-3.ensures.grows.sound c.join.ensures.grows
-    (added_four c.args.from.now c.args.id c.in-Parts.field-0 c.in-Parts.nw c.in-Parts.ne c.in-Parts.sw c.in-Parts.se c.in-Parts.ensures.shows
-    c.args.self.now c.copy_of.new.self c.copy_of-in-Parts.new.self c.copy_of.ensures.grows c.copy_of-in-Parts.ensures.grows c.copy_of.ensures.added c.copy_of-in-Parts.ensures.added
-    c.copy_of-in-Parts-2.new.self c.copy_of-in-Parts-3.new.self c.copy_of-in-Parts-2.ensures.grows c.copy_of-in-Parts-3.ensures.grows c.copy_of-in-Parts-2.ensures.added c.copy_of-in-Parts-3.ensures.added)
-    (ok_added c.args.from.now c.args.id c.copy_of-in-Parts-3.new.self c.join.new.self c.in_ok-copy-in-Parts.copy c.in_ok-copy-in-Parts.ensures.added
-    (parts_copied c.args.from.now c.copy_of.new.self c.copy_of-in-Parts.new.self c.copy_of-in-Parts-2.new.self c.copy_of-in-Parts-3.new.self c.copy_of.ensures.grows.sound c.copy_of-in-Parts.ensures.grows c.copy_of-in-Parts-2.ensures.grows c.copy_of-in-Parts-3.ensures.grows
-    c.args.id c.in-Parts.field-0 c.in-Parts.nw c.in-Parts.ne c.in-Parts.sw c.in-Parts.se c.requires.known c.in-Parts.ensures.shows c.in-Parts.ensures.whole
-    c.in_ok-nw-in-Parts.nw c.in_ok-ne-in-Parts.ne c.in_ok-sw-in-Parts.sw c.in_ok-se-in-Parts.se c.in_ok-nw-in-Parts.ensures.copy c.in_ok-ne-in-Parts.ensures.copy c.in_ok-sw-in-Parts.ensures.copy c.in_ok-se-in-Parts.ensures.copy
-    c.join.new.self c.in_ok-copy-in-Parts.copy c.in_ok-copy-in-Parts.ensures.shows))
+    (four_added t a.After-copy_of-in-Parts-3) (square_added t a.In_ok-copy-in-Parts)
 
 pub returns-in_ok-put-in-Parts-clause-added : goal.returns-in_ok-put-in-Parts-clause-added
 returns-in_ok-put-in-Parts-clause-added t c =
+    let a = goal.at.returns-in_ok-put-in-Parts-clause-added t c in
     added_on c.args.from.now c.args.id c.args.self.now c.copy_of-in-Parts-3.new.self c.join.new.self c.copy_of-in-Parts-3.ensures.grows.sound c.join.ensures.grows
-    (added_four c.args.from.now c.args.id c.in-Parts.field-0 c.in-Parts.nw c.in-Parts.ne c.in-Parts.sw c.in-Parts.se c.in-Parts.ensures.shows
-    c.args.self.now c.copy_of.new.self c.copy_of-in-Parts.new.self c.copy_of.ensures.grows c.copy_of-in-Parts.ensures.grows c.copy_of.ensures.added c.copy_of-in-Parts.ensures.added
-    c.copy_of-in-Parts-2.new.self c.copy_of-in-Parts-3.new.self c.copy_of-in-Parts-2.ensures.grows c.copy_of-in-Parts-3.ensures.grows c.copy_of-in-Parts-2.ensures.added c.copy_of-in-Parts-3.ensures.added)
-    (ok_added c.args.from.now c.args.id c.copy_of-in-Parts-3.new.self c.join.new.self c.in_ok-copy-in-Parts.copy c.in_ok-copy-in-Parts.ensures.added
-    (returns-in_ok-put-in-Parts-clause-copy t c))
-
-pub returns-in_err-put-in-Parts-clause-grows : goal.returns-in_err-put-in-Parts-clause-grows
-returns-in_err-put-in-Parts-clause-grows t c =
-    grows_five c.args.self.now c.copy_of.new.self c.copy_of-in-Parts.new.self c.copy_of-in-Parts-2.new.self c.copy_of.ensures.grows c.copy_of-in-Parts.ensures.grows c.copy_of-in-Parts-2.ensures.grows
-    c.copy_of-in-Parts-3.new.self c.join.new.self c.copy_of-in-Parts-3.ensures.grows c.join.ensures.grows
+    (four_added t a.After-copy_of-in-Parts-3) (square_added t a.In_ok-copy-in-Parts)
