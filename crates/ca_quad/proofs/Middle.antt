@@ -16,18 +16,10 @@ use Rattle.ca_quad.proofs.Shown.{together_same, ringed_as}
 
 -- the twelve parts round the middle are empty
 pub record IsHollow (f : ℕ → ℕ → ℕ → ℕ) : Type 0 where
-  pub e0 : IsEmpty (f 0)
-  pub e1 : IsEmpty (f 1)
-  pub e2 : IsEmpty (f 2)
-  pub e4 : IsEmpty (f 4)
-  pub e5 : IsEmpty (f 5)
-  pub e7 : IsEmpty (f 7)
-  pub e8 : IsEmpty (f 8)
-  pub e10 : IsEmpty (f 10)
-  pub e11 : IsEmpty (f 11)
-  pub e13 : IsEmpty (f 13)
-  pub e14 : IsEmpty (f 14)
-  pub e15 : IsEmpty (f 15)
+  pub nw : IsEmpty (f 0) × IsEmpty (f 1) × IsEmpty (f 2)
+  pub ne : IsEmpty (f 4) × IsEmpty (f 5) × IsEmpty (f 7)
+  pub sw : IsEmpty (f 8) × IsEmpty (f 10) × IsEmpty (f 11)
+  pub se : IsEmpty (f 13) × IsEmpty (f 14) × IsEmpty (f 15)
 
 module _ (s : ℕ) (f : ℕ → ℕ → ℕ → ℕ) where
   nw : ℕ → ℕ → ℕ
@@ -61,10 +53,10 @@ module _ (s : ℕ) (f : ℕ → ℕ → ℕ → ℕ) where
       ringed_as s (together s (f 3) (f 6) (f 9) (f 12)) (ringed s (f 3) (f 6) (f 9) (f 12)) (together s (f 3) (f 6) (f 9) (f 12)) (sixteen s f) (is_ringed s (f 3) (f 6) (f 9) (f 12))
       (λ x y. refl)
       (together_same (s + s) nw ne sw se ring_nw ring_ne ring_sw ring_se
-      (together_same s (f 0) (f 1) (f 2) (f 3) none none none (f 3) h.e0 h.e1 h.e2 (λ x y. refl))
-      (together_same s (f 4) (f 5) (f 6) (f 7) none none (f 6) none h.e4 h.e5 (λ x y. refl) h.e7)
-      (together_same s (f 8) (f 9) (f 10) (f 11) none (f 9) none none h.e8 (λ x y. refl) h.e10 h.e11)
-      (together_same s (f 12) (f 13) (f 14) (f 15) (f 12) none none none (λ x y. refl) h.e13 h.e14 h.e15))
+      (together_same s (f 0) (f 1) (f 2) (f 3) none none none (f 3) h.nw.0 h.nw.1 h.nw.2 (λ x y. refl))
+      (together_same s (f 4) (f 5) (f 6) (f 7) none none (f 6) none h.ne.0 h.ne.1 (λ x y. refl) h.ne.2)
+      (together_same s (f 8) (f 9) (f 10) (f 11) none (f 9) none none h.sw.0 (λ x y. refl) h.sw.1 h.sw.2)
+      (together_same s (f 12) (f 13) (f 14) (f 15) (f 12) none none none (λ x y. refl) h.se.0 h.se.1 h.se.2))
 
   module _ (ends : (n : ℕ) → Ends s (f n)) (small : ℕ → ℕ → ℕ) (h : IsRinged s small (sixteen s f)) where
     none_ends : Ends s none
@@ -99,18 +91,10 @@ module _ (s : ℕ) (f : ℕ → ℕ → ℕ → ℕ) where
     -- so the parts round it are empty
     pub ringed_hollow : IsHollow f
     ringed_hollow = record {
-      e0 = same_nw s (f 0) (f 1) (f 2) (f 3) none none none (f 3) alike_nw (ends 0) none_ends;
-      e1 = same_ne s (f 0) (f 1) (f 2) (f 3) none none none (f 3) alike_nw (ends 1) none_ends;
-      e2 = same_sw s (f 0) (f 1) (f 2) (f 3) none none none (f 3) alike_nw (ends 2) none_ends;
-      e4 = same_nw s (f 4) (f 5) (f 6) (f 7) none none (f 6) none alike_ne (ends 4) none_ends;
-      e5 = same_ne s (f 4) (f 5) (f 6) (f 7) none none (f 6) none alike_ne (ends 5) none_ends;
-      e7 = same_se s (f 4) (f 5) (f 6) (f 7) none none (f 6) none alike_ne;
-      e8 = same_nw s (f 8) (f 9) (f 10) (f 11) none (f 9) none none alike_sw (ends 8) none_ends;
-      e10 = same_sw s (f 8) (f 9) (f 10) (f 11) none (f 9) none none alike_sw (ends 10) none_ends;
-      e11 = same_se s (f 8) (f 9) (f 10) (f 11) none (f 9) none none alike_sw;
-      e13 = same_ne s (f 12) (f 13) (f 14) (f 15) (f 12) none none none alike_se (ends 13) none_ends;
-      e14 = same_sw s (f 12) (f 13) (f 14) (f 15) (f 12) none none none alike_se (ends 14) none_ends;
-      e15 = same_se s (f 12) (f 13) (f 14) (f 15) (f 12) none none none alike_se;
+      nw = (same_nw s (f 0) (f 1) (f 2) (f 3) none none none (f 3) alike_nw (ends 0) none_ends, same_ne s (f 0) (f 1) (f 2) (f 3) none none none (f 3) alike_nw (ends 1) none_ends, same_sw s (f 0) (f 1) (f 2) (f 3) none none none (f 3) alike_nw (ends 2) none_ends);
+      ne = (same_nw s (f 4) (f 5) (f 6) (f 7) none none (f 6) none alike_ne (ends 4) none_ends, same_ne s (f 4) (f 5) (f 6) (f 7) none none (f 6) none alike_ne (ends 5) none_ends, same_se s (f 4) (f 5) (f 6) (f 7) none none (f 6) none alike_ne);
+      sw = (same_nw s (f 8) (f 9) (f 10) (f 11) none (f 9) none none alike_sw (ends 8) none_ends, same_sw s (f 8) (f 9) (f 10) (f 11) none (f 9) none none alike_sw (ends 10) none_ends, same_se s (f 8) (f 9) (f 10) (f 11) none (f 9) none none alike_sw);
+      se = (same_ne s (f 12) (f 13) (f 14) (f 15) (f 12) none none none alike_se (ends 13) none_ends, same_sw s (f 12) (f 13) (f 14) (f 15) (f 12) none none none alike_se (ends 14) none_ends, same_se s (f 12) (f 13) (f 14) (f 15) (f 12) none none none alike_se);
     }
 
 pub as_sixteen : (s : ℕ) (f : ℕ → ℕ → ℕ → ℕ) (p q r t : ℕ → ℕ → ℕ) → p ≡ together s (f 0) (f 1) (f 2) (f 3) → q ≡ together s (f 4) (f 5) (f 6) (f 7)
@@ -241,18 +225,18 @@ module _ (nodes : List Node) (nw ne sw se k : ℕ) (four : AreFour nodes k nw ne
   outer_empty small r =
       let z = ringed_hollow (2 ^ (k - 1)) (squares nodes (k - 1) ids) (squares_end nodes (k - 1) ids) small (subst (IsRinged (2 ^ (k - 1)) small) (sym as_parts) r) in
       All-from_recursion (IsEmptySquare nodes) outer (
-        at_level a z.e0 of_nw.is_nw,
+        at_level a z.nw.0 of_nw.is_nw,
         (
-          at_level b z.e1 of_nw.is_ne,
+          at_level b z.nw.1 of_nw.is_ne,
           (
-            at_level c z.e2 of_nw.is_sw,
+            at_level c z.nw.2 of_nw.is_sw,
             (
-              at_level e z.e4 of_ne.is_nw,
+              at_level e z.ne.0 of_ne.is_nw,
               (
-                at_level f z.e5 of_ne.is_ne,
+                at_level f z.ne.1 of_ne.is_ne,
                 (
-                  at_level h z.e7 of_ne.is_se,
-                  (at_level i z.e8 of_sw.is_nw, (at_level l z.e10 of_sw.is_sw, (at_level m z.e11 of_sw.is_se, (at_level o z.e13 of_se.is_ne, (at_level p z.e14 of_se.is_sw, (at_level q z.e15 of_se.is_se, tt)))))),
+                  at_level h z.ne.2 of_ne.is_se,
+                  (at_level i z.sw.0 of_sw.is_nw, (at_level l z.sw.1 of_sw.is_sw, (at_level m z.sw.2 of_sw.is_se, (at_level o z.se.0 of_se.is_ne, (at_level p z.se.1 of_se.is_sw, (at_level q z.se.2 of_se.is_se, tt)))))),
                 ),
               ),
             ),
@@ -265,18 +249,10 @@ module _ (nodes : List Node) (nw ne sw se k : ℕ) (four : AreFour nodes k nw ne
       let (e0, (e1, (e2, (e4, (e5, (e7, (e8, (e10, (e11, (e13, (e14, (e15, done)))))))))))) = recursion_from_All (IsEmptySquare nodes) outer all in
       let k = k - 1 in
       record {
-        e0 = e0 k of_nw.is_nw;
-        e1 = e1 k of_nw.is_ne;
-        e2 = e2 k of_nw.is_sw;
-        e4 = e4 k of_ne.is_nw;
-        e5 = e5 k of_ne.is_ne;
-        e7 = e7 k of_ne.is_se;
-        e8 = e8 k of_sw.is_nw;
-        e10 = e10 k of_sw.is_sw;
-        e11 = e11 k of_sw.is_se;
-        e13 = e13 k of_se.is_ne;
-        e14 = e14 k of_se.is_sw;
-        e15 = e15 k of_se.is_se;
+        nw = (e0 k of_nw.is_nw, e1 k of_nw.is_ne, e2 k of_nw.is_sw);
+        ne = (e4 k of_ne.is_nw, e5 k of_ne.is_ne, e7 k of_ne.is_se);
+        sw = (e8 k of_sw.is_nw, e10 k of_sw.is_sw, e11 k of_sw.is_se);
+        se = (e13 k of_se.is_ne, e14 k of_se.is_sw, e15 k of_se.is_se);
       }
 
   -- and where those are empty, the four inner ones are the middle

@@ -6,7 +6,7 @@ use Rattle.ca_quad.specs.declared.named.Named.{Named}
 use Rattle.ca_quad.specs.declared.named.Named.TheVariants.{Cells2, Cells4, Kept}
 use Rattle.ca_quad.specs.declared.node.Node.{Node}
 use Rattle.ca_quad.specs.declared.node.Node.TheVariants.{Leaf, Block, Join}
-use Rattle.ca_quad.specs.declared.square.Square.TheVariants.{Parts}
+use Rattle.ca_quad.specs.declared.square.Square.TheVariants.{Four, Parts}
 use Rattle.ca_quad.specs.Squares.{digit, cells2, cells4, named, kept, seen, shown, square_of, level, IsAmong}
 use Rattle.ca_quad.specs.Sound.{IsGood, node_at, IsSound}
 use Rattle.ca_quad.specs.inner.Whole.{IsWhole}
@@ -65,13 +65,17 @@ shown_whole nodes sound (Kept place) h = seen_whole nodes place (length nodes) (
 pub square_whole : (nodes : List Node) → IsSound nodes → (id : ℕ) → id < kept (length nodes) → IsWhole nodes (length nodes) (square_of nodes id)
 square_whole nodes sound id h = shown_whole nodes sound (named id) (named_below (length nodes) id h)
 
+-- equal squares have equal cells, or equal parts
+same_four : {a b c d e f g h : ℕ} → Four a b c d ≡ Four e f g h → (a ≡ e) × (b ≡ f) × (c ≡ g) × (d ≡ h)
+same_four p = (cc, cc, cc, cc)
+
+same_parts : {k l a b c d e f g h : ℕ} → Parts k a b c d ≡ Parts l e f g h → (a ≡ e) × (b ≡ f) × (c ≡ g) × (d ≡ h)
+same_parts p = (cc, cc, cc, cc)
+
 -- a block's parts are named by their cells
 not_block : (m k a b c d : ℕ) → seen (Block m) ≡ Parts k a b c d → 65552 ≤ max (max a b) (max c d) → ⊥
 not_block m k a b c d e low =
-    let p : cells4 (digit 65536 m 0) ≡ a = cc in
-    let q : cells4 (digit 65536 m 1) ≡ b = cc in
-    let r : cells4 (digit 65536 m 2) ≡ c = cc in
-    let s : cells4 (digit 65536 m 3) ≡ d = cc in
+    let (p, q, r, s) = same_parts e in
     omega arith
 
 -- good nodes that look alike are equal
@@ -81,10 +85,7 @@ seen_same nodes i j (Leaf nw ne sw se) (Block n) g h e = cc
 seen_same nodes i j (Leaf nw ne sw se) (Join k a b c d) g h e = cc
 seen_same nodes i j (Block m) (Leaf a b c d) g h e = cc
 seen_same nodes i j (Block m) (Block n) g h e =
-    let p : cells4 (digit 65536 m 0) ≡ cells4 (digit 65536 n 0) = cc in
-    let q : cells4 (digit 65536 m 1) ≡ cells4 (digit 65536 n 1) = cc in
-    let r : cells4 (digit 65536 m 2) ≡ cells4 (digit 65536 n 2) = cc in
-    let s : cells4 (digit 65536 m 3) ≡ cells4 (digit 65536 n 3) = cc in
+    let (p, q, r, s) = same_parts e in
     ap (λ (n : ℕ). Block n) (omega arith)
 seen_same nodes i j (Block m) (Join k a b c d) g h e = absurd (not_block m k a b c d e h.1)
 seen_same nodes i j (Join k a b c d) (Leaf nw ne sw se) g h e = cc
@@ -94,10 +95,7 @@ seen_same nodes i j (Join k nw ne sw se) (Join l a b c d) g h e = cc
 -- no good node looks like a square that is named by its cells
 cells2_not_kept : (nodes : List Node) (i m : ℕ) (n : Node) → m < 16 → IsGood nodes i n → shown nodes (Cells2 m) ≡ seen n → ⊥
 cells2_not_kept nodes i m (Leaf a b c d) h g e =
-    let p : digit 2 m 0 ≡ a = cc in
-    let q : digit 2 m 1 ≡ b = cc in
-    let r : digit 2 m 2 ≡ c = cc in
-    let s : digit 2 m 3 ≡ d = cc in
+    let (p, q, r, s) = same_four e in
     omega arith
 cells2_not_kept nodes i m (Block n) h g e = cc
 cells2_not_kept nodes i m (Join k a b c d) h g e = cc
@@ -106,29 +104,20 @@ cells4_not_kept : (nodes : List Node) (i m : ℕ) (n : Node) → m < 65536 → I
 cells4_not_kept nodes i m (Leaf a b c d) h g e = cc
 cells4_not_kept nodes i m (Block n) h g e = cc
 cells4_not_kept nodes i m (Join k a b c d) h g e =
-    let p : digit 16 m 0 ≡ a = cc in
-    let q : digit 16 m 1 ≡ b = cc in
-    let r : digit 16 m 2 ≡ c = cc in
-    let s : digit 16 m 3 ≡ d = cc in
+    let (p, q, r, s) = same_parts e in
     let low : 65552 ≤ max (max a b) (max c d) = g.1 in
     omega arith
 
 -- names that look alike are equal
 shown_same : (nodes : List Node) → IsSound nodes → (m n : Named) → IsBelow (length nodes) m → IsBelow (length nodes) n → shown nodes m ≡ shown nodes n → m ≡ n
 shown_same nodes sound (Cells2 m) (Cells2 n) g h e =
-    let p : digit 2 m 0 ≡ digit 2 n 0 = cc in
-    let q : digit 2 m 1 ≡ digit 2 n 1 = cc in
-    let r : digit 2 m 2 ≡ digit 2 n 2 = cc in
-    let s : digit 2 m 3 ≡ digit 2 n 3 = cc in
+    let (p, q, r, s) = same_four e in
     ap (λ (n : ℕ). Cells2 n) (omega arith)
 shown_same nodes sound (Cells2 m) (Cells4 n) g h e = cc
 shown_same nodes sound (Cells2 m) (Kept i) g h e = absurd (cells2_not_kept nodes i m (node_at nodes i) g (sound.good i h) e)
 shown_same nodes sound (Cells4 m) (Cells2 n) g h e = cc
 shown_same nodes sound (Cells4 m) (Cells4 n) g h e =
-    let p : digit 16 m 0 ≡ digit 16 n 0 = cc in
-    let q : digit 16 m 1 ≡ digit 16 n 1 = cc in
-    let r : digit 16 m 2 ≡ digit 16 n 2 = cc in
-    let s : digit 16 m 3 ≡ digit 16 n 3 = cc in
+    let (p, q, r, s) = same_parts e in
     ap (λ (n : ℕ). Cells4 n) (omega arith)
 shown_same nodes sound (Cells4 m) (Kept i) g h e = absurd (cells4_not_kept nodes i m (node_at nodes i) g (sound.good i h) e)
 shown_same nodes sound (Kept i) (Cells2 n) g h e = absurd (cells2_not_kept nodes i n (node_at nodes i) h (sound.good i g) (sym e))
