@@ -1,5 +1,5 @@
 -- Rows that hold the cells of a square, and of its quarters.
-use Rattle.std.proofs.Common.{◌≡◌, ◌≢◌, ℕ, ◌+◌, ◌-◌, ◌<◌, ◌≤◌, ◌^◌, inl, inr, ℤ, pos, ◌+ℤ◌, List, [], ◌∷◌, get_or, length, suc, refl, sym, ap, subst, ◌∙◌, arith}
+use Rattle.std.proofs.Common.{◌≡◌, ◌≢◌, ℕ, ◌+◌, ◌-◌, ◌<◌, ◌≤◌, ◌^◌, inl, inr, ℤ, pos, ◌+ℤ◌, List, [], ◌∷◌, get_or, length, refl, sym, ap, subst, ◌∙◌, arith}
 use Rattle.std.proofs.lemmas.Bool.{cases_eq}
 use Rattle.std.proofs.lemmas.Int.{ints}
 use Rattle.std.proofs.lemmas.List.{get_or_default}
@@ -15,7 +15,7 @@ use Rattle.ca_quad.specs.Trees.{Shows}
 use Rattle.ca_quad.specs.inner.Drawn.{ArePartCorners}
 use Rattle.ca_quad.specs.inner.Filled.{counted, LiesNear, AreRowsOf}
 use Rattle.ca_quad.specs.inner.Ring.{none}
-use Rattle.ca_quad.specs.inner.Rows.{point_at, AreRows, Hold, Cover, IsPart, AreParts}
+use Rattle.ca_quad.specs.inner.Rows.{point_at, Hold, Cover, IsPart, AreParts}
 use Rattle.ca_quad.specs.inner.Window.{ShowsFrom}
 use Rattle.ca_quad.proofs.Cells.{twice}
 use Rattle.ca_quad.proofs.Filled.{near_nw, near_ne, near_sw, near_se}

@@ -69,14 +69,10 @@ module _ (nodes : List Node) (a b k : ℕ) (h : IsOf nodes a (suc k)) (same : le
       → x ≡ left → y ≡ top → left ≤ 2 ^ k → top ≤ 2 ^ k → c ≢ d → AreUnequal nodes k a b c d x y
   unequal c d left top x y first second is_x is_y low_x low_y apart = rw (is_x, is_y) (record { unequal = apart; x_low = low_x; y_low = low_y; first = first; second = second })
 
-  pub unequal_nw : nw ≢ p → AreUnequal nodes k a b nw p 0 0
-  unequal_nw = unequal nw p 0 0 0 0 (quarter_nw nodes a k h m nw ne sw se e w) (quarter_nw nodes b k i l p q r s f v) refl refl (omega arith) (omega arith)
-
-  pub unequal_ne : ne ≢ q → AreUnequal nodes k a b ne q half 0
-  unequal_ne = unequal ne q (2 ^ k) 0 half 0 (quarter_ne nodes a k h m nw ne sw se e w) (quarter_ne nodes b k i l p q r s f v) is_half refl (omega arith) (omega arith)
-
-  pub unequal_sw : sw ≢ r → AreUnequal nodes k a b sw r 0 half
-  unequal_sw = unequal sw r 0 (2 ^ k) 0 half (quarter_sw nodes a k h m nw ne sw se e w) (quarter_sw nodes b k i l p q r s f v) refl is_half (omega arith) (omega arith)
-
-  pub unequal_se : se ≢ s → AreUnequal nodes k a b se s half half
-  unequal_se = unequal se s (2 ^ k) (2 ^ k) half half (quarter_se nodes a k h m nw ne sw se e w) (quarter_se nodes b k i l p q r s f v) is_half is_half (omega arith) (omega arith)
+  pub unequal_four : (nw ≢ p → AreUnequal nodes k a b nw p 0 0) × (ne ≢ q → AreUnequal nodes k a b ne q half 0) × (sw ≢ r → AreUnequal nodes k a b sw r 0 half) × (se ≢ s → AreUnequal nodes k a b se s half half)
+  unequal_four = (
+    unequal nw p 0 0 0 0 (quarter_nw nodes a k h m nw ne sw se e w) (quarter_nw nodes b k i l p q r s f v) refl refl (omega arith) (omega arith),
+    unequal ne q (2 ^ k) 0 half 0 (quarter_ne nodes a k h m nw ne sw se e w) (quarter_ne nodes b k i l p q r s f v) is_half refl (omega arith) (omega arith),
+    unequal sw r 0 (2 ^ k) 0 half (quarter_sw nodes a k h m nw ne sw se e w) (quarter_sw nodes b k i l p q r s f v) refl is_half (omega arith) (omega arith),
+    unequal se s (2 ^ k) (2 ^ k) half half (quarter_se nodes a k h m nw ne sw se e w) (quarter_se nodes b k i l p q r s f v) is_half is_half (omega arith) (omega arith),
+  )
