@@ -26,9 +26,10 @@ pub trait Automaton {
     fn next(&self, nine: &Nine) -> u8
         ensures { result ≡ next_of self.now nine.now };
 
-    /// The masks of a rule of two states that goes by the number of live cells among the eight round a cell: a dead cell
-    /// with n of them is born where bit n of the first is 1, a live one survives where bit n of the second is 1. What
-    /// makes many cells at once asks for them. A rule that has none, or does not tell them, answers `None`.
+    /// The masks of a rule of two states that goes by the number of live cells among the eight round a cell:
+    /// a dead cell with n of them is born where bit n of the first is 1, a live one survives where bit n of
+    /// the second is 1. What makes many cells at once asks for them. A rule that has none, or does not tell
+    /// them, answers `None`.
     fn masks(&self) -> Option<(u16, u16)>
         ensures { IfSome result (λ masks. IsMoore (state_count self.now) (next_of self.now) masks.0 masks.1) }
     {
@@ -36,7 +37,8 @@ pub trait Automaton {
     }
 
     // states below the count lead to states below it
-    ghost closed: { (r : Self) (nine : List ℕ) → sound r → length nine ≡ 9 → All (λ s. s < state_count r) nine → next_of r nine < state_count r };
+    ghost closed: { (r : Self) (nine : List ℕ) → sound r → length nine ≡ 9 → All (λ s. s < state_count r) nine
+        → next_of r nine < state_count r };
 
     // where all is empty, nothing is born
     ghost quiet: { (r : Self) → sound r → next_of r (replicate 9 0) ≡ 0 };

@@ -1,8 +1,11 @@
 //! Blanks, words, numbers and lines: what every reader of bytes begins with. Nothing here takes memory.
 
-ghost use Rattle.std.specs.Prelude.{◌≡◌, ◌≢◌, ◌⊎◌, ℕ, ◌-◌, ◌<◌, ◌^◌, ◌++◌, List, ◌∷◌, [], length, not, min, ℤ, ◌==◌, MatchOption, IfSome};
+ghost use Rattle.std.specs.Prelude.{◌≡◌, ◌≢◌, ◌⊎◌, ℕ, ◌-◌, ◌<◌, ◌^◌, ◌++◌, List, ◌∷◌, [], length, not, min};
+ghost use Rattle.std.specs.Prelude.{ℤ, ◌==◌, MatchOption, IfSome};
 ghost use Rattle.std.specs.List.{prefix_len, list_all};
-ghost use Rattle.ca_plane.specs.Bytes.{is_blank, is_line_end, is_digit, is_word_byte, Every, front, rest, trimmed, value, AreDigits, IsInteger, nearest_i64, IsWord, lines_of, words_of};
+ghost use Rattle.ca_plane.specs.Bytes.{is_blank, is_line_end, is_digit, is_word_byte, Every, front, rest};
+ghost use Rattle.ca_plane.specs.Bytes.{trimmed, value, AreDigits, IsInteger, nearest_i64, IsWord, lines_of};
+ghost use Rattle.ca_plane.specs.Bytes.{words_of};
 
 /// Whether the byte is a blank: a space, a tab or a CR.
 pub fn is_blank(byte: u8) -> bool
@@ -106,7 +109,8 @@ pub fn split_line(bytes: &[u8]) -> (&[u8], &[u8])
 /// The first line of bytes that aren't empty, without its LF, and the bytes after that.
 pub fn next_line(bytes: &[u8]) -> (&[u8], &[u8])
     requires { 0 < length bytes.now }
-    ensures spelled { (bytes.now ≡ result.0.now ++ 10 ∷ result.1.now) ⊎ ((bytes.now ≡ result.0.now) × (result.1.now ≡ [])) }
+    ensures spelled { (bytes.now ≡ result.0.now ++ 10 ∷ result.1.now)
+        ⊎ ((bytes.now ≡ result.0.now) × (result.1.now ≡ [])) }
     ensures lines { lines_of bytes.now ≡ result.0.now ∷ lines_of result.1.now }
     ensures line { Every (λ b. not (is_line_end b)) result.0.now }
     ensures shorter { length result.1.now < length bytes.now }
@@ -121,9 +125,11 @@ pub fn next_line(bytes: &[u8]) -> (&[u8], &[u8])
 /// The first word of a line's bytes, and the bytes after it. None where the bytes hold no word.
 pub fn next_word(bytes: &[u8]) -> Option<(&[u8], &[u8])>
     requires { Every (λ b. not (is_line_end b)) bytes.now }
-    ensures words { MatchOption result (words_of bytes.now ≡ []) (λ w. words_of bytes.now ≡ w.0.now ∷ words_of w.1.now) }
+    ensures words { MatchOption result (words_of bytes.now ≡ [])
+        (λ w. words_of bytes.now ≡ w.0.now ∷ words_of w.1.now) }
     ensures word { IfSome result (λ w. IsWord w.0.now) }
-    ensures spelled { IfSome result (λ w. (blanks : List ℕ) × Every is_blank blanks × (bytes.now ≡ blanks ++ (w.0.now ++ w.1.now))) }
+    ensures spelled { IfSome result (λ w.
+        (blanks : List ℕ) × Every is_blank blanks × (bytes.now ≡ blanks ++ (w.0.now ++ w.1.now))) }
     ensures line { IfSome result (λ w. Every (λ b. not (is_line_end b)) w.1.now) }
     ensures some { IfSome result (λ w. 0 < length w.0.now) }
     ensures shorter { IfSome result (λ w. length w.1.now < length bytes.now) }
@@ -138,12 +144,13 @@ pub fn next_word(bytes: &[u8]) -> Option<(&[u8], &[u8])>
 
 /// The bytes after the text, where they begin with it.
 pub fn strip<'a>(bytes: &'a [u8], text: &[u8]) -> Option<&'a [u8]>
-    ensures { MatchOption result ((r : List ℕ) → bytes.now ≢ text.now ++ r) (λ r. bytes.now ≡ text.now ++ r.now) }
+    ensures { MatchOption result ((r : List ℕ) → bytes.now ≢ text.now ++ r)
+        (λ r. bytes.now ≡ text.now ++ r.now) }
 {
     bytes.strip_prefix(text)
 }
 
-/// The number that the digits write, or the greatest `u64` where it is greater. There may be any count of digits.
+/// The number that the digits write, or the greatest `u64` where it is greater. Any count of digits will do.
 pub fn number(digits: &[u8]) -> u64
     requires { Every is_digit digits.now }
     ensures { result ≡ min (value digits.now) (2 ^ 64 - 1) }
@@ -163,9 +170,11 @@ fn all_digits(bytes: &[u8]) -> bool
     bytes.iter().all(|byte| byte.is_ascii_digit())
 }
 
-/// The number that the bytes write, or the greatest `u64` where it is greater. None where they are not one or more digits.
+/// The number that the bytes write, or the greatest `u64` where it is greater. None where they are not one or
+/// more digits.
 pub fn whole_number(bytes: &[u8]) -> Option<u64>
-    ensures { MatchOption result (AreDigits bytes.now → ⊥) (λ n. AreDigits bytes.now × (n ≡ min (value bytes.now) (2 ^ 64 - 1))) }
+    ensures { MatchOption result (AreDigits bytes.now → ⊥)
+        (λ n. AreDigits bytes.now × (n ≡ min (value bytes.now) (2 ^ 64 - 1))) }
 {
     if bytes.is_empty() {
         return None;
@@ -176,10 +185,11 @@ pub fn whole_number(bytes: &[u8]) -> Option<u64>
     Some(number(bytes))
 }
 
-/// The integer that the bytes write, digits with an optional `-` before them; where it doesn't fit, the nearest `i64`. None where
-/// they write no integer.
+/// The integer that the bytes write, digits with an optional `-` before them; where it doesn't fit, the
+/// nearest `i64`. None where they write no integer.
 pub fn integer(bytes: &[u8]) -> Option<i64>
-    ensures { MatchOption result ((n : ℤ) → IsInteger bytes.now n → ⊥) (λ i. (n : ℤ) × IsInteger bytes.now n × (i ≡ nearest_i64 n)) }
+    ensures { MatchOption result ((n : ℤ) → IsInteger bytes.now n → ⊥)
+        (λ i. (n : ℤ) × IsInteger bytes.now n × (i ≡ nearest_i64 n)) }
 {
     match strip(bytes, b"-") {
         Some(digits) => Some(0i64.saturating_sub_unsigned(whole_number(digits)?)),

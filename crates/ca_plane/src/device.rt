@@ -1,7 +1,7 @@
 //! A reader or a writer that counts its failures.
 //!
-//! Nothing else is here: the fields of a `Dev` are private, so that no call but its own two can ask the device, or
-//! change the count.
+//! Nothing else is here: the fields of a `Dev` are private, so that no call but its own two can ask the
+//! device, or change the count.
 
 ghost use Rattle.std.specs.Prelude.{◌≡◌, ℕ, ◌<◌, length, OnOk, OnErr, IfOk};
 ghost use Rattle.std.specs.Io.{ReadsAtMost, WritesAtMost};
@@ -70,7 +70,8 @@ impl<R: Read> Dev<R> {
     /// It fails only where the inner reader does, and counts a failure exactly then.
     pub fn read(&mut self, buffer: &mut [u8]) -> Result<usize, Failed>
         ensures bound { ReadsAtMost result buffer.new }
-        ensures bytes { ReadConsumes (R.remaining self.old.inner) (R.remaining self.new.inner) result buffer.new }
+        ensures bytes { ReadConsumes (R.remaining self.old.inner)
+            (R.remaining self.new.inner) result buffer.new }
         ensures kept { OnOk result (self.new.failures ≡ self.old.failures) }
         ensures counted { OnErr result (Rises self.old.failures self.new.failures) }
     {
@@ -88,7 +89,8 @@ impl<W: Write> Dev<W> {
     pub fn write(&mut self, bytes: &[u8]) -> Result<usize, Failed>
         ensures bound { WritesAtMost result bytes.now }
         ensures some { IfOk result (λ n. 0 < length bytes.now → 0 < n) }
-        ensures bytes { WriteAppends (W.contents self.old.inner) (W.contents self.new.inner) result bytes.now }
+        ensures bytes { WriteAppends (W.contents self.old.inner)
+            (W.contents self.new.inner) result bytes.now }
         ensures kept { OnOk result (self.new.failures ≡ self.old.failures) }
         ensures counted { OnErr result (Rises self.old.failures self.new.failures) }
     {

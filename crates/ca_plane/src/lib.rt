@@ -1,4 +1,5 @@
-//! Points of the unbounded plane, the trait of rules, the sparse plane, the limits, and devices that count their failures.
+//! Points of the unbounded plane, the trait of rules, the sparse plane, the limits, and devices that count
+//! their failures.
 #![tactic(auto)]
 
 mod automaton;

@@ -1,5 +1,6 @@
 //! The sparse plane: the cells that aren't 0, by their points.
-ghost use Rattle.std.specs.Prelude.{◌≡◌, ◌≢◌, ◌+◌, ◌≤◌, ◌↔◌, [], length, IsTrue, IsFalse, IsOk, OnOk, OnErr, IfOk, IfErr, IsNone, IfSome};
+ghost use Rattle.std.specs.Prelude.{◌≡◌, ◌≢◌, ◌+◌, ◌≤◌, ◌↔◌, [], length, IsTrue, IsFalse, IsOk, OnOk, OnErr};
+ghost use Rattle.std.specs.Prelude.{IfOk, IfErr, IsNone, IfSome};
 ghost use Rattle.std.specs.List.{All};
 ghost use Rattle.std.specs.Iterator.{YieldsFirst, item_count};
 ghost use Rattle.ca_plane.specs.Plane.{cell, IsSame, IsLive};
@@ -61,8 +62,8 @@ impl Plane {
     ///
     /// # Errors
     ///
-    /// Fails where there is no memory for one more cell, and then leaves the plane as it was. A write of 0 never fails, nor
-    /// does one to a cell that isn't 0.
+    /// Fails where there is no memory for one more cell, and then leaves the plane as it was. A write of 0
+    /// never fails, nor does one to a cell that isn't 0.
     pub fn set(&mut self, at: Point, state: u8) -> Result<(), Memory>
         requires { IsInPlane at }
         ensures ok { OnOk result (Sets self.old self.new at state) }

@@ -5,7 +5,8 @@ ghost use Rattle.ca_plane.specs.Population.{HasPopulation, HasFewCells, HasTooMa
 
 /// The same cells have one population at most.
 pub fn one_population()
-    ensures { (f g : ℤ → ℤ → ℕ) → ((x y : ℤ) → f x y ≡ g x y) → (m n : ℕ) → HasPopulation f m → HasPopulation g n → m ≡ n }
+    ensures { (f g : ℤ → ℤ → ℕ) → ((x y : ℤ) → f x y ≡ g x y) → (m n : ℕ) → HasPopulation f m
+        → HasPopulation g n → m ≡ n }
 {}
 
 /// The same cells aren't both few and too many.

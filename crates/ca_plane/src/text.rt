@@ -51,8 +51,8 @@ pub fn push_number(out: &mut Vec<u8>, number: u64) -> Result<(), Memory>
     push_text(out, buffer.format(number).as_bytes())
 }
 
-/// Puts the number after what `out` holds, in decimal digits without leading zeros, with a `-` before them where it is
-/// below 0.
+/// Puts the number after what `out` holds, in decimal digits without leading zeros, with a `-` before them
+/// where it is below 0.
 ///
 /// # Errors
 ///

@@ -7,7 +7,7 @@ ghost use Rattle.ca_quad.specs.inner.Named.{AreCells2, AreCells4, four_numbers};
 use crate::named::Named;
 use std::marker::Model;
 
-/// The name of a square in a store. Two squares of a store have one id exactly where level and cells are the same.
+/// The name of a square in a store. Two squares there have one id exactly where level and cells are the same.
 #[derive(Clone, Copy, Debug, PartialEq, Eq, Hash, Drop)]
 pub struct Id {
     // Below 16 a 2 by 2 square of two states, below 65552 a 4 by 4 one, and else a place in the store.
@@ -25,8 +25,9 @@ impl Model for Id {
 }
 
 impl Id {
-    /// The number of the name. Of two squares that are kept as nodes, the one that was added later has the larger
-    /// number. A small square of two states is named by its cells. Its number is below theirs, whenever it was made.
+    /// The number of the name. Of two squares that are kept as nodes, the one that was added later has the
+    /// larger number. A small square of two states is named by its cells. Its number is below theirs,
+    /// whenever it was made.
     pub fn number(self) -> usize
         ensures value { result ≡ self }
         ensures most { result < 2 ^ 32 }
@@ -98,7 +99,9 @@ impl Id {
 
     // The cells of four 4 by 4 squares of two states that lie together.
     pub(crate) fn sixty_four_cells(nw: Id, ne: Id, sw: Id, se: Id) -> Option<u64>
-        ensures { MatchOption result ((min (min nw ne) (min sw se) < 16) ⊎ (65552 ≤ max (max nw ne) (max sw se))) (AreCells4 nw ne sw se) }
+        ensures { MatchOption result
+            ((min (min nw ne) (min sw se) < 16) ⊎ (65552 ≤ max (max nw ne) (max sw se)))
+            (AreCells4 nw ne sw se) }
     {
         let most = nw.number.max(ne.number).max(sw.number.max(se.number));
         let least = nw.number.min(ne.number).min(sw.number.min(se.number));

@@ -17,5 +17,6 @@ pub fn one_id(store: &Store)
 
 /// When a store grows, every old id names the same square.
 pub fn old_squares_stay()
-    ensures { (old new : List Node) → IsSound old → Grows old new → (id level : ℕ) → IsOf old id level → Stays old new id level }
+    ensures { (old new : List Node) → IsSound old → Grows old new → (id level : ℕ) → IsOf old id level
+        → Stays old new id level }
 {}

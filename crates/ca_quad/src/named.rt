@@ -1,6 +1,6 @@
 //! What an id stands for.
 
-/// What an id stands for: a small square of two states by its cells, any other square by its place in the store.
+/// What an id stands for: a small square of two states by its cells, any other by its place in the store.
 #[derive(Clone, Copy, Drop)]
 pub(crate) enum Named {
     // A 2 by 2 square: its cells are binary digits, the north-western lowest.

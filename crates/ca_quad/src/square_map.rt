@@ -46,7 +46,8 @@ impl<V: Copy> SquareMap<V> {
     ///
     /// Fails where there is no memory for one more value.
     pub fn put(&mut self, id: Id, value: V) -> Result<(), Memory>
-        ensures { OnOk result ((other : ℕ) → square_value self.new other ≡ cond (id == other) (Some value) (square_value self.old other)) }
+        ensures { OnOk result ((other : ℕ)
+            → square_value self.new other ≡ cond (id == other) (Some value) (square_value self.old other)) }
     {
         self.values.insert(id, value)?;
         Ok(())

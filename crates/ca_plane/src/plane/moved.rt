@@ -1,6 +1,7 @@
 //! Planes that are moved.
 
-ghost use Rattle.std.specs.Prelude.{◌≡◌, IsTrue, IsFalse, IsOk, IfOk, IsErrOf, ◌↔◌, ◌≤ℤ◌, ◌+ℤ◌, pos, neg_ℤ, ◌^◌};
+ghost use Rattle.std.specs.Prelude.{◌≡◌, IsTrue, IsFalse, IsOk, IfOk, IsErrOf, ◌↔◌, ◌≤ℤ◌, ◌+ℤ◌, pos, neg_ℤ};
+ghost use Rattle.std.specs.Prelude.{◌^◌};
 ghost use Rattle.ca_plane.specs.Plane.{IsSame, shifted};
 ghost use Rattle.ca_plane.specs.Box.{LeavesPlane, moved};
 ghost use Rattle.ca_plane.specs.inner.Moves.{IsNear, StaysInPlane};
@@ -17,8 +18,8 @@ impl Plane {
     ///
     /// # Errors
     ///
-    /// `Range` exactly where a cell would lie beyond 2^62 in some direction, however much memory there is. Else fails
-    /// where there is no memory for the moved plane.
+    /// `Range` exactly where a cell would lie beyond 2^62 in some direction, however much memory there is.
+    /// Else fails where there is no memory for the moved plane.
     pub fn translated(&self, alloc: Global, dx: i64, dy: i64) -> Result<Plane, MoveFault>
         ensures moved { IfOk result (λ q. IsSame q (shifted self.now dx dy)) }
         ensures sparse { IfOk result IsSparse }

@@ -16,7 +16,8 @@ use crate::tree::Spot;
 use ca_plane::{Memory, Point};
 
 impl Store {
-    // The square of this level, at most 5, whose corner lies there and which shows the cells, of which the rows hold all that lie there.
+    // The square of this level, at most 5, whose corner lies there and which shows the cells, of which the
+    // rows hold all that lie there.
     pub(super) fn fill_block(
         &mut self,
         cells: &[(Point, u8)],
@@ -84,7 +85,8 @@ fn states_of(cells: &[(Point, u8)], rows: &[Row], at: Spot) -> [u8; 1024]
     requires near { LiesNear 0 at }
     requires sparse { IsSparse cells.now }
     requires rows { AreRows cells.now rows.now }
-    ensures { (side : ℕ) → side ≤ 32 → Cover cells.now rows.now side at → (x y : ℕ) → x < side → y < side → IsRight cells.now at result x y }
+    ensures { (side : ℕ) → side ≤ 32 → Cover cells.now rows.now side at → (x y : ℕ) → x < side → y < side
+        → IsRight cells.now at result x y }
 {
     let mut states = [0; 1024];
     'rows: for &row in rows {
@@ -98,8 +100,10 @@ fn put_row(states: &mut [u8; 1024], cells: &[(Point, u8)], row: Row, at: Spot)
     requires near { LiesNear 0 at }
     requires sparse { IsSparse cells.now }
     requires row { IsRow cells.now row }
-    ensures put { (i x y : ℕ) → IsInRow row i → IsCell at (point_at cells.now i) x y → IsRight cells.now at states.new x y }
-    ensures kept { (x y : ℕ) → x < 32 → y < 32 → IsRight cells.now at states.old x y → IsRight cells.now at states.new x y }
+    ensures put { (i x y : ℕ) → IsInRow row i → IsCell at (point_at cells.now i) x y
+        → IsRight cells.now at states.new x y }
+    ensures kept { (x y : ℕ) → x < 32 → y < 32 → IsRight cells.now at states.old x y
+        → IsRight cells.now at states.new x y }
 {
     'places: for place in row.first..row.end {
         let (point, state) = cells[place];
@@ -131,7 +135,8 @@ fn place_in(point: Point, at: Spot) -> Option<usize>
 fn way(first: i128, coordinate: i64) -> Option<usize>
     requires low { neg_ℤ (pos (2 ^ 64)) ≤ℤ first }
     requires high { (first +ℤ pos 0) ≤ℤ pos (2 ^ 64) }
-    ensures { MatchOption result ((n : ℕ) → n < 32 → coordinate ≡ first +ℤ pos n → ⊥) (λ n. (n < 32) × (coordinate ≡ first +ℤ pos n)) }
+    ensures { MatchOption result ((n : ℕ) → n < 32 → coordinate ≡ first +ℤ pos n → ⊥)
+        (λ n. (n < 32) × (coordinate ≡ first +ℤ pos n)) }
 {
     let way = i128::from(coordinate) - first;
     if way < 0 {

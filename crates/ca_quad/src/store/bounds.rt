@@ -23,7 +23,8 @@ impl Store {
     /// Fails where there is no memory to remember the boxes of its squares.
     pub fn bounds(&self, alloc: Global, tree: Tree) -> Result<Option<WideBounds>, Memory>
         requires { IsTree self.now tree }
-        ensures { IfOk result (λ found. MatchOption found (IsDead (cell self.now tree)) (IsLeastBox (cell self.now tree))) }
+        ensures { IfOk result (λ found. MatchOption found (IsDead (cell self.now tree))
+            (IsLeastBox (cell self.now tree))) }
     {
         let half = half_side(self.level(tree.root));
         let extent: Option<Extent> = self.measure(tree.root, &mut SquareMap::new(alloc))?;

@@ -34,7 +34,8 @@ impl Store {
         requires a { IsIn self.now a }
         requires b { IsIn self.now b }
         requires level { level_of self.now a ≡ level_of self.now b }
-        ensures { (level : ℕ) → IsOf self.now a level → Tells (2 ^ level) (cell_of self.now level a) (cell_of self.now level b) result }
+        ensures { (level : ℕ) → IsOf self.now a level
+            → Tells (2 ^ level) (cell_of self.now level a) (cell_of self.now level b) result }
     {
         if self.level(a) == 1 {
             return corner_difference(self.cells4(a), self.cells4(b));
@@ -44,7 +45,7 @@ impl Store {
         Some((left + x, top + y))
     }
 
-    // Two quarters of two squares that lie at one place and aren't the same, and their way from the left and from the top.
+    // Two quarters that lie at one place of two squares and aren't the same, and their way from left and top.
     fn unequal_quarters(&self, a: Id, b: Id) -> Option<(Id, Id, u128, u128)>
         requires a { IsIn self.now a }
         requires b { IsIn self.now b }

@@ -6,7 +6,8 @@ ghost use Rattle.ca_quad.specs.Trees.{IsIn, IsTree, cell};
 ghost use Rattle.ca_quad.specs.Expanded.{FitsPlane};
 ghost use Rattle.ca_plane.specs.Plane.{cell as plane_cell};
 ghost use Rattle.ca_plane.specs.Sparse.{IsSparse};
-ghost use Rattle.ca_quad.specs.inner.Drawn.{placed, CanDraw, Agrees, IsLive, IsReady, AreReady, shown, IsLiveIn, IsLiveInRow, Paints, IsAdded, ArePushed, AreHalves};
+ghost use Rattle.ca_quad.specs.inner.Drawn.{placed, CanDraw, Agrees, IsLive, IsReady, AreReady, shown};
+ghost use Rattle.ca_quad.specs.inner.Drawn.{IsLiveIn, IsLiveInRow, Paints, IsAdded, ArePushed, AreHalves};
 
 use super::Store;
 use super::read::half_side;
@@ -63,7 +64,8 @@ impl Store {
         requires least { 1 ≤ level }
         requires most { level ≤ 125 }
         requires ready { (all : ℤ → ℤ → ℕ) × AreReady self.now all level squares.now }
-        ensures { (all : ℤ → ℤ → ℕ) → AreReady self.now all level squares.now → OnOk result (Paints all plane.old plane.new (IsLiveIn self.now squares.now)) }
+        ensures { (all : ℤ → ℤ → ℕ) → AreReady self.now all level squares.now
+            → OnOk result (Paints all plane.old plane.new (IsLiveIn self.now squares.now)) }
     {
         if squares.is_empty() {
             return Ok(());
@@ -149,7 +151,8 @@ impl Store {
     fn draw_row(&self, squares: &[Placed], row: u8, plane: &mut Plane) -> Result<(), Memory>
         requires row { row ≤ 1 }
         requires ready { (all : ℤ → ℤ → ℕ) × AreReady self.now all 1 squares.now }
-        ensures { (all : ℤ → ℤ → ℕ) → AreReady self.now all 1 squares.now → OnOk result (Paints all plane.old plane.new (IsLiveInRow self.now row squares.now)) }
+        ensures { (all : ℤ → ℤ → ℕ) → AreReady self.now all 1 squares.now
+            → OnOk result (Paints all plane.old plane.new (IsLiveInRow self.now row squares.now)) }
     {
         'squares: for &square in squares {
             self.draw_two(square, row, plane)?;
@@ -161,7 +164,9 @@ impl Store {
     fn draw_two(&self, square: Placed, row: u8, plane: &mut Plane) -> Result<(), Memory>
         requires row { row ≤ 1 }
         requires ready { (all : ℤ → ℤ → ℕ) × IsReady self.now all 1 square }
-        ensures { (all : ℤ → ℤ → ℕ) → IsReady self.now all 1 square → OnOk result (Paints all plane.old plane.new (λ x y. IsLive (shown self.now square) x y × (y ≡ square.at.y +ℤ pos row))) }
+        ensures { (all : ℤ → ℤ → ℕ) → IsReady self.now all 1 square
+            → OnOk result (Paints all plane.old plane.new
+            (λ x y. IsLive (shown self.now square) x y × (y ≡ square.at.y +ℤ pos row))) }
     {
         let corners = part_corners(square.at, 1);
         match self.square(square.id) {
@@ -181,7 +186,8 @@ impl Store {
 // Writes a cell, where it is live.
 fn draw_cell(state: u8, at: Spot, plane: &mut Plane) -> Result<(), Memory>
     requires near { CanDraw (dot state) 1 at }
-    ensures { (all : ℤ → ℤ → ℕ) → Agrees all (placed (dot state) at) → OnOk result (Paints all plane.old plane.new (IsLive (placed (dot state) at))) }
+    ensures { (all : ℤ → ℤ → ℕ) → Agrees all (placed (dot state) at)
+        → OnOk result (Paints all plane.old plane.new (IsLive (placed (dot state) at))) }
 {
     if state == 0 {
         return Ok(());

@@ -49,7 +49,8 @@ impl Measure for Option<Extent> {
 // The box of two squares that lie side by side, where the western one has this many columns.
 fn beside(side: u128, west: Option<Extent>, east: Option<Extent>) -> Option<Extent>
     requires { side ≤ 2 ^ 124 }
-    ensures { (w e : ℕ → ℕ → ℕ) (rows : ℕ) → IsExtentOf w side rows west → IsExtentOf e side rows east → IsExtentOf (beside side w e) (side + side) rows result }
+    ensures { (w e : ℕ → ℕ → ℕ) (rows : ℕ) → IsExtentOf w side rows west → IsExtentOf e side rows east
+        → IsExtentOf (beside side w e) (side + side) rows result }
 {
     let Some(east) = east else {
         return west;
@@ -75,7 +76,8 @@ fn beside(side: u128, west: Option<Extent>, east: Option<Extent>) -> Option<Exte
 
 // The box of the cells whose x and y change places.
 fn turned(found: Option<Extent>) -> Option<Extent>
-    ensures { (cells : ℕ → ℕ → ℕ) (columns rows : ℕ) → IsExtentOf cells columns rows found → IsExtentOf (turned cells) rows columns result }
+    ensures { (cells : ℕ → ℕ → ℕ) (columns rows : ℕ) → IsExtentOf cells columns rows found
+        → IsExtentOf (turned cells) rows columns result }
 {
     let Some(box_found) = found else {
         return None;

@@ -18,7 +18,7 @@ use crate::tree::{Spot, Tree};
 use ca_plane::{Bounds, Memory, Plane, Point};
 use std::alloc::Global;
 
-// A square of this level is a block, and so is one of the next with this many rows: lone cells would make it dear.
+// A square of this level is a block, and one of the next with this many rows: lone cells would make it dear.
 const LEAST: u8 = 4;
 
 const MANY: usize = 8;
@@ -48,8 +48,8 @@ impl Store {
         self.trim(Tree { root, level })
     }
 
-    // The square of this level, from 4 to 65, whose corner lies there and which shows the cells, given the empty one.
-    // The rows hold all cells that lie there.
+    // The square of this level, from 4 to 65, whose corner lies there and which shows the cells, given the
+    // empty one. The rows hold all cells that lie there.
     fn fill(
         &mut self,
         alloc: Global,

@@ -22,8 +22,8 @@ impl Store {
     ///
     /// # Errors
     ///
-    /// Fails where there is no memory for more squares. The store may then have more squares than before: copies of
-    /// squares of the tree, as on success.
+    /// Fails where there is no memory for more squares. The store may then have more squares than before:
+    /// copies of squares of the tree, as on success.
     pub fn import(&mut self, from: &Store, tree: Tree) -> Result<Tree, Memory>
         requires tree { IsTree from.now tree }
         ensures tree { IfOk result (IsTree self.new) }

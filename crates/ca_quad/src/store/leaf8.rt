@@ -10,7 +10,7 @@ use crate::id::Id;
 use ca_plane::Memory;
 
 impl Store {
-    /// The eight rows of a square of level 3 of two states, from the top. Bit 0 of a row is its western-most cell.
+    /// The eight rows of a square of level 3 of two states, from the top. Bit 0 of a row is the western-most.
     pub fn leaf8(&self, id: Id) -> [u8; 8]
         requires known { IsIn self.now id }
         requires level { level_of self.now id ≡ 3 }

@@ -17,7 +17,8 @@ impl Store {
     ///
     /// Fails where there is no memory for one more square, and then leaves the store as it was.
     pub fn leaf(&mut self, nw: u8, ne: u8, sw: u8, se: u8) -> Result<Id, Memory>
-        ensures shows { IfOk result (λ id. Shows self.new id 1 (together 1 (dot nw) (dot ne) (dot sw) (dot se))) }
+        ensures shows { IfOk result (λ id. Shows self.new id 1
+            (together 1 (dot nw) (dot ne) (dot sw) (dot se))) }
         ensures grows { Grows self.old self.new }
         ensures added { IfOk result (AddsOnly self.old self.new) }
         ensures count { length self.new ≤ length self.old + 1 }
@@ -37,8 +38,10 @@ impl Store {
     /// Fails where there is no memory for one more square, and then leaves the store as it was.
     pub fn join(&mut self, nw: Id, ne: Id, sw: Id, se: Id) -> Result<Id, Memory>
         requires { (level : ℕ) × AreFour self.old level nw ne sw se }
-        ensures shows { (level : ℕ) → IsOf self.old nw level → IfOk result (λ id. Shows self.new id (suc level)
-            (together (2 ^ level) (cell_of self.old level nw) (cell_of self.old level ne) (cell_of self.old level sw) (cell_of self.old level se))) }
+        ensures shows { (level : ℕ) → IsOf self.old nw level
+            → IfOk result (λ id. Shows self.new id (suc level)
+            (together (2 ^ level) (cell_of self.old level nw) (cell_of self.old level ne)
+            (cell_of self.old level sw) (cell_of self.old level se))) }
         ensures grows { Grows self.old self.new }
         ensures added { IfOk result (AddsOnly self.old self.new) }
         ensures count { length self.new ≤ length self.old + 1 }

@@ -29,7 +29,7 @@ pub(crate) trait Measure: Copy {
         requires { side ≤ 2 ^ 124 }
         ensures { IsJoined is side nw ne sw se result };
 
-    // That of a square of two states whose cells are the digits of this number, where it is known without its parts.
+    // That of a square of two states whose cells are this number's digits, where it is known without parts.
     fn of_number(cells: u64) -> Option<Self>
         ensures { (nodes : List Kept) (id : ℕ) → IsSound nodes → IsIn nodes id → IsNumberOf nodes id cells
             → IfSome result (IsMeasureOf is nodes id) };

@@ -40,7 +40,8 @@ impl Store {
     fn ringed(&mut self, id: Id) -> Result<Id, Memory>
         requires known { IsIn self.old id }
         requires low { level_of self.old id ≤ 124 }
-        ensures shows { (level : ℕ) → IsOf self.old id level → IfOk result (Rings self.old self.new level id) }
+        ensures shows { (level : ℕ) → IsOf self.old id level
+            → IfOk result (Rings self.old self.new level id) }
         ensures least { 1 ≤ level_of self.old id }
         ensures grows { Grows self.old self.new }
         ensures count { length self.new ≤ length self.old + 130 }
@@ -53,7 +54,8 @@ impl Store {
 
     // These four cells with a ring of empty ones.
     fn ringed_cells(&mut self, nw: u8, ne: u8, sw: u8, se: u8) -> Result<Id, Memory>
-        ensures shows { IfOk result (λ id. Shows self.new id 2 (ringed 1 (dot nw) (dot ne) (dot sw) (dot se))) }
+        ensures shows { IfOk result (λ id. Shows self.new id 2
+            (ringed 1 (dot nw) (dot ne) (dot sw) (dot se))) }
         ensures grows { Grows self.old self.new }
         ensures count { length self.new ≤ length self.old + 5 }
     {
@@ -69,7 +71,9 @@ impl Store {
         requires least { 1 ≤ level }
         requires low { level ≤ 123 }
         requires four { AreFour self.old level nw ne sw se }
-        ensures shows { IfOk result (λ id. Shows self.new id (suc (suc level)) (ringed (2 ^ level) (cell_of self.old level nw) (cell_of self.old level ne) (cell_of self.old level sw) (cell_of self.old level se))) }
+        ensures shows { IfOk result (λ id. Shows self.new id (suc (suc level))
+            (ringed (2 ^ level) (cell_of self.old level nw) (cell_of self.old level ne)
+            (cell_of self.old level sw) (cell_of self.old level se))) }
         ensures grows { Grows self.old self.new }
         ensures count { length self.new ≤ length self.old + 130 }
     {
@@ -113,7 +117,8 @@ impl Store {
     fn middle(&mut self, id: Id) -> Result<Option<Id>, Memory>
         requires known { IsIn self.old id }
         requires large { 2 ≤ level_of self.old id }
-        ensures tells { (level : ℕ) → IsOf self.old id (suc level) → IfOk result (TellsMiddle self.new level (cell_of self.old (suc level) id)) }
+        ensures tells { (level : ℕ) → IsOf self.old id (suc level)
+            → IfOk result (TellsMiddle self.new level (cell_of self.old (suc level) id)) }
         ensures grows { Grows self.old self.new }
         ensures count { length self.new ≤ length self.old + 1 }
     {
@@ -129,7 +134,9 @@ impl Store {
     // The same for four squares of level 1. Their outer cells are a to l.
     fn middle_cells(&mut self, nw: Id, ne: Id, sw: Id, se: Id) -> Result<Option<Id>, Memory>
         requires four { AreFour self.old 1 nw ne sw se }
-        ensures tells { IfOk result (TellsMiddle self.new 1 (together 2 (cell_of self.old 1 nw) (cell_of self.old 1 ne) (cell_of self.old 1 sw) (cell_of self.old 1 se))) }
+        ensures tells { IfOk result (TellsMiddle self.new 1
+            (together 2 (cell_of self.old 1 nw) (cell_of self.old 1 ne) (cell_of self.old 1 sw)
+            (cell_of self.old 1 se))) }
         ensures grows { Grows self.old self.new }
         ensures count { length self.new ≤ length self.old + 1 }
     {
@@ -159,7 +166,8 @@ impl Store {
         requires large { 2 ≤ level_of self.old nw }
         requires four { AreFour self.old (level_of self.old nw) nw ne sw se }
         ensures tells { (level : ℕ) → IsOf self.old nw level → IfOk result (TellsMiddle self.new level
-            (together (2 ^ level) (cell_of self.old level nw) (cell_of self.old level ne) (cell_of self.old level sw) (cell_of self.old level se))) }
+            (together (2 ^ level) (cell_of self.old level nw) (cell_of self.old level ne)
+            (cell_of self.old level sw) (cell_of self.old level se))) }
         ensures grows { Grows self.old self.new }
         ensures count { length self.new ≤ length self.old + 1 }
     {

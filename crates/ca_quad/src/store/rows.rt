@@ -1,9 +1,11 @@
 //! Rows of a plane's cells, and those of their cells that lie in smaller squares.
 
-ghost use Rattle.std.specs.Prelude.{◌≡◌, ℕ, ◌+◌, ◌-◌, ◌<◌, ◌≤◌, ◌⊎◌, ◌≤ℤ◌, ◌<ℤ◌, length, IsTrue, IsFalse, IfOk, OnOk};
+ghost use Rattle.std.specs.Prelude.{◌≡◌, ℕ, ◌+◌, ◌-◌, ◌<◌, ◌≤◌, ◌⊎◌, ◌≤ℤ◌, ◌<ℤ◌, length, IsTrue, IsFalse};
+ghost use Rattle.std.specs.Prelude.{IfOk, OnOk};
 ghost use Rattle.ca_plane.specs.Plane.{Picture};
 ghost use Rattle.ca_plane.specs.Sparse.{IsSparse};
-ghost use Rattle.ca_quad.specs.inner.Rows.{point_at, ComesBefore, IsInRow, IsRow, AreRows, Hold, IsPart, AreParts, IsWest, IsEast, IsNorth, IsSouth};
+ghost use Rattle.ca_quad.specs.inner.Rows.{point_at, ComesBefore, IsInRow, IsRow, AreRows, Hold, IsPart};
+ghost use Rattle.ca_quad.specs.inner.Rows.{AreParts, IsWest, IsEast, IsNorth, IsSouth};
 
 use crate::tree::Spot;
 use ca_plane::limits::REACH;
@@ -189,8 +191,10 @@ fn halves(
 
 // The rows north of a spot, and its own row and those south of it.
 fn bands(alloc: Global, rows: &[Row], at: Spot) -> Result<(Vec<Row>, Vec<Row>), Memory>
-    ensures north { (p : Picture) → AreRows p rows.now → IfOk result (λ b. IsPart p rows.now (IsNorth at.y) b.0.items) }
-    ensures south { (p : Picture) → AreRows p rows.now → IfOk result (λ b. IsPart p rows.now (IsSouth at.y) b.1.items) }
+    ensures north { (p : Picture) → AreRows p rows.now
+        → IfOk result (λ b. IsPart p rows.now (IsNorth at.y) b.0.items) }
+    ensures south { (p : Picture) → AreRows p rows.now
+        → IfOk result (λ b. IsPart p rows.now (IsSouth at.y) b.1.items) }
 {
     let mut north = Vec::new(alloc);
     let mut south = Vec::new(alloc);
@@ -228,7 +232,8 @@ fn part_of(row: Row, first: usize, end: usize) -> Row
 // Adds a row, where it has a cell.
 fn push_row(row: Row, rows: &mut Vec<Row>) -> Result<(), Memory>
     ensures holds { OnOk result ((i : ℕ) → Hold rows.old.items i ⊎ IsInRow row i → Hold rows.new.items i) }
-    ensures rows { OnOk result ((p : Picture) → AreRows p rows.old.items → IsRow p row → AreRows p rows.new.items) }
+    ensures rows { OnOk result ((p : Picture) → AreRows p rows.old.items → IsRow p row
+        → AreRows p rows.new.items) }
 {
     if row.first == row.end {
         return Ok(());

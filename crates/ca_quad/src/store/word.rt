@@ -12,18 +12,20 @@ use crate::node::Node;
 use ca_plane::Memory;
 
 impl Store {
-    /// The cells of a square of level 3 as bits, row by row: bit `8 * y + x` is the cell at (x, y), counted from the north-western corner.
-    /// There is none where a cell has a state above 1.
+    /// The cells of a square of level 3 as bits, row by row: bit `8 * y + x` is the cell at (x, y), counted
+    /// from the north-western corner. There is none where a cell has a state above 1.
     pub fn word(&self, id: Id) -> Option<u64>
         requires known { IsIn self.now id }
         requires level { level_of self.now id ≡ 3 }
-        ensures { MatchOption result (HasMoreStates (cell_of self.now 3 id)) (λ word. (x y : ℕ) → cell_of self.now 3 id x y ≡ word_cells word x y) }
+        ensures { MatchOption result (HasMoreStates (cell_of self.now 3 id))
+            (λ word. (x y : ℕ) → cell_of self.now 3 id x y ≡ word_cells word x y) }
     {
         let cells = self.number(id)?;
         Some(rows(cells))
     }
 
-    /// The square of level 3 with these cells: bit `8 * y + x` is the cell at (x, y), counted from the north-western corner.
+    /// The square of level 3 with these cells: bit `8 * y + x` is the cell at (x, y), counted from the
+    /// north-western corner.
     ///
     /// # Errors
     ///
