@@ -63,17 +63,17 @@ no_bad_among (w ∷ ws) word later [] f p bad = p
 no_bad_among (w ∷ ws) word later (s ∷ ss) f p bad = no_bad_among ws word later ss f p.1 bad
 
 -- the first bad word of some words is one
-pub first_bad_word : (good others : List (List ℕ)) (word other : List ℕ) (later behind : List (List ℕ)) (a b : List Said) (f g : RleFault)
-    → AllZip Says good a → IsBadWord word f → AllZip Says others b → IsBadWord other g → good ++ word ∷ later ≡ others ++ other ∷ behind → (good ≡ others) × (word ≡ other)
-first_bad_word [] [] word other later behind a b f g p x q y e = (refl, ap first_word e)
-first_bad_word [] (o ∷ os) word other later behind a [] f g p x q y e = absurd q
-first_bad_word [] (o ∷ os) word other later behind a (s ∷ ss) f g p x q y e = absurd (no_bad_word word s f (subst (λ (w : List ℕ). Says w s) (sym (ap first_word e)) q.0) x)
-first_bad_word (w ∷ ws) [] word other later behind [] b f g p x q y e = absurd p
-first_bad_word (w ∷ ws) [] word other later behind (s ∷ ss) b f g p x q y e = absurd (no_bad_word other s g (subst (λ (v : List ℕ). Says v s) (ap first_word e) p.0) y)
-first_bad_word (w ∷ ws) (o ∷ os) word other later behind [] b f g p x q y e = absurd p
-first_bad_word (w ∷ ws) (o ∷ os) word other later behind (s ∷ ss) [] f g p x q y e = absurd q
-first_bad_word (w ∷ ws) (o ∷ os) word other later behind (s ∷ ss) (t ∷ ts) f g p x q y e =
-    let others = first_bad_word ws os word other later behind ss ts f g p.1 x q.1 y (ap (λ (l : List (List ℕ)). drop 1 l) e) in
+pub first_bad_word : (good others : List (List ℕ)) (word other : List ℕ) (later after : List (List ℕ)) (a b : List Said) (f g : RleFault)
+    → AllZip Says good a → IsBadWord word f → AllZip Says others b → IsBadWord other g → good ++ word ∷ later ≡ others ++ other ∷ after → (good ≡ others) × (word ≡ other)
+first_bad_word [] [] word other later after a b f g p x q y e = (refl, ap first_word e)
+first_bad_word [] (o ∷ os) word other later after a [] f g p x q y e = absurd q
+first_bad_word [] (o ∷ os) word other later after a (s ∷ ss) f g p x q y e = absurd (no_bad_word word s f (subst (λ (w : List ℕ). Says w s) (sym (ap first_word e)) q.0) x)
+first_bad_word (w ∷ ws) [] word other later after [] b f g p x q y e = absurd p
+first_bad_word (w ∷ ws) [] word other later after (s ∷ ss) b f g p x q y e = absurd (no_bad_word other s g (subst (λ (v : List ℕ). Says v s) (ap first_word e) p.0) y)
+first_bad_word (w ∷ ws) (o ∷ os) word other later after [] b f g p x q y e = absurd p
+first_bad_word (w ∷ ws) (o ∷ os) word other later after (s ∷ ss) [] f g p x q y e = absurd q
+first_bad_word (w ∷ ws) (o ∷ os) word other later after (s ∷ ss) (t ∷ ts) f g p x q y e =
+    let others = first_bad_word ws os word other later after ss ts f g p.1 x q.1 y (ap (λ (l : List (List ℕ)). drop 1 l) e) in
     (ap₂ (λ (v : List ℕ) (vs : List (List ℕ)). v ∷ vs) (ap first_word e) others.0, others.1)
 
 -- ---- a text

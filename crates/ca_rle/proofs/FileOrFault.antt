@@ -31,12 +31,12 @@ letters_length [] t e = absurd cc
 letters_length (b ∷ bs) t e = omega arith
 
 -- what stands after an item is shorter
-pub shorter_behind : (bytes front more : List ℕ) (i : Item) → IsItem front i → bytes ≡ front ++ more → length more < length bytes
-shorter_behind bytes front more i (before, digits, between, letters, v, c, w, e, spelled) d =
+pub shorter_after : (bytes front more : List ℕ) (i : Item) → IsItem front i → bytes ≡ front ++ more → length more < length bytes
+shorter_after bytes front more i (before, digits, between, letters, v, c, w, e, spelled) d =
     let low = letters_length letters i.tag e in
     let whole = ap (λ (l : List ℕ). length l) d ∙ length-append front more in
     let item = ap (λ (l : List ℕ). length l) spelled ∙ length-append before (digits ++ (between ++ letters)) in
-    let behind = length-append digits (between ++ letters) in
+    let after = length-append digits (between ++ letters) in
     let last = length-append between letters in
     omega arith
 
@@ -58,7 +58,7 @@ items_within (suc n) bytes h =
     elim (fault_or_unit bytes (item_fault bytes) refl) [
       | inl b ↦ inr (b.0, (bytes, ([], refl, b.1)))
       | inr u ↦ elim u [
-        | inl s ↦ let item = s.2 in with_item bytes item.0 item.1 s.0 item.2 item.4 (items_within n item.1 (let less = shorter_behind bytes item.0 item.1 s.0 item.2 item.4 in omega arith))
+        | inl s ↦ let item = s.2 in with_item bytes item.0 item.1 s.0 item.2 item.4 (items_within n item.1 (let less = shorter_after bytes item.0 item.1 s.0 item.2 item.4 in omega arith))
         | inr end ↦ inl ([], (bytes, refl, end))
       ]
     ]

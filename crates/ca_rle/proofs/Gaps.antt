@@ -9,10 +9,10 @@ use Rattle.ca_plane.proofs.Pictures.{point-same}
 use Rattle.ca_rle.specs.declared.item.Item.{Item}
 use Rattle.ca_rle.specs.declared.item.Tag.{Tag}
 use Rattle.ca_rle.specs.declared.item.Tag.TheVariants.{Cell, RowEnd}
-use Rattle.ca_rle.specs.Shown.{state_of, rows_of, columns_of, run_of, place_behind, picture_of}
+use Rattle.ca_rle.specs.Shown.{state_of, rows_of, columns_of, run_of, place_after, picture_of}
 use Rattle.ca_rle.specs.Tidy.{AreTidy}
 use Rattle.ca_rle.specs.inner.Written.{some_of, IsGap}
-use Rattle.ca_rle.proofs.Pushed.{rows_of-push, columns_of-push, picture_behind-push}
+use Rattle.ca_rle.proofs.Pushed.{rows_of-push, columns_of-push, picture_after-push}
 
 -- so many of a tag
 abbrev pub item_of : Tag → ℕ → Item
@@ -51,39 +51,39 @@ gap-over_rows left from to old mid new rows columns below some right ends dead =
 -- ---- places
 
 -- after row ends a row begins
-pub place-row : (corner : Point) (is : List Item) (n : ℕ) → place_behind corner (is ++ item_of RowEnd n ∷ []) ≡ record { y = (place_behind corner is).y +ℤ pos n; x = corner.x }
+pub place-row : (corner : Point) (is : List Item) (n : ℕ) → place_after corner (is ++ item_of RowEnd n ∷ []) ≡ record { y = (place_after corner is).y +ℤ pos n; x = corner.x }
 place-row corner is n =
     let rows : rows_of (is ++ item_of RowEnd n ∷ []) ≡ rows_of is + n = rows_of-push is (item_of RowEnd n) in
     let columns : columns_of (is ++ item_of RowEnd n ∷ []) ≡ 0 = columns_of-push is (item_of RowEnd n) in
     point-same _ _ (omega (arith, ints, rows)) (omega (arith, ints, columns))
 
 -- after cells the row goes on
-pub place-cells : (corner : Point) (is : List Item) (s n : ℕ) → place_behind corner (is ++ item_of (Cell s) n ∷ []) ≡ record { y = (place_behind corner is).y; x = (place_behind corner is).x +ℤ pos n }
+pub place-cells : (corner : Point) (is : List Item) (s n : ℕ) → place_after corner (is ++ item_of (Cell s) n ∷ []) ≡ record { y = (place_after corner is).y; x = (place_after corner is).x +ℤ pos n }
 place-cells corner is s n =
     let rows : rows_of (is ++ item_of (Cell s) n ∷ []) ≡ rows_of is + 0 = rows_of-push is (item_of (Cell s) n) in
     let columns : columns_of (is ++ item_of (Cell s) n ∷ []) ≡ columns_of is + n = columns_of-push is (item_of (Cell s) n) in
     point-same _ _ (omega (arith, ints, rows)) (omega (arith, ints, columns))
 
 place-rows : (corner : Point) (is : List Item) (n : ℕ)
-    → place_behind corner (is ++ some_of RowEnd n) ≡ record { y = (place_behind corner is).y +ℤ pos n; x = (if n == 0 then (place_behind corner is).x else corner.x) }
-place-rows corner is zero = ap (place_behind corner) (append-nil is) ∙ point-same _ _ (omega (arith, ints)) refl
+    → place_after corner (is ++ some_of RowEnd n) ≡ record { y = (place_after corner is).y +ℤ pos n; x = (if n == 0 then (place_after corner is).x else corner.x) }
+place-rows corner is zero = ap (place_after corner) (append-nil is) ∙ point-same _ _ (omega (arith, ints)) refl
 place-rows corner is (suc n) = rw (nonzero (suc n) (omega arith)) (place-row corner is (suc n))
 
-place-dead : (corner : Point) (is : List Item) (n : ℕ) → place_behind corner (is ++ some_of (Cell 0) n) ≡ record { y = (place_behind corner is).y; x = (place_behind corner is).x +ℤ pos n }
-place-dead corner is zero = ap (place_behind corner) (append-nil is) ∙ point-same _ _ refl (omega (arith, ints))
+place-dead : (corner : Point) (is : List Item) (n : ℕ) → place_after corner (is ++ some_of (Cell 0) n) ≡ record { y = (place_after corner is).y; x = (place_after corner is).x +ℤ pos n }
+place-dead corner is zero = ap (place_after corner) (append-nil is) ∙ point-same _ _ refl (omega (arith, ints))
 place-dead corner is (suc n) = rw (nonzero (suc n) (omega arith)) (place-cells corner is 0 (suc n))
 
 -- a gap leads to its end
-pub place-gap : (corner from to : Point) (is gap : List Item) → place_behind corner is ≡ from → IsGap corner.x from to gap → place_behind corner (is ++ gap) ≡ to
+pub place-gap : (corner from to : Point) (is gap : List Item) → place_after corner is ≡ from → IsGap corner.x from to gap → place_after corner (is ++ gap) ≡ to
 place-gap corner from to is gap at leads =
     let rows = some_of RowEnd leads.rows in
     let dead = some_of (Cell 0) leads.columns in
-    let behind : place_behind corner (is ++ rows) ≡ record { y = from.y +ℤ pos leads.rows; x = (if leads.rows == 0 then from.x else corner.x) } =
+    let after : place_after corner (is ++ rows) ≡ record { y = from.y +ℤ pos leads.rows; x = (if leads.rows == 0 then from.x else corner.x) } =
     place-rows corner is leads.rows ∙ ap (λ (p : Point). let made : Point = record { y = p.y +ℤ pos leads.rows; x = (if leads.rows == 0 then p.x else corner.x) } in made) at
     in
-    ap (λ (l : List Item). place_behind corner (is ++ l)) leads.gap_is ∙ ap (place_behind corner) (sym (append_assoc is rows dead))
+    ap (λ (l : List Item). place_after corner (is ++ l)) leads.gap_is ∙ ap (place_after corner) (sym (append_assoc is rows dead))
     ∙ place-dead corner (is ++ rows) leads.columns
-    ∙ ap (λ (p : Point). let made : Point = record { y = p.y; x = p.x +ℤ pos leads.columns } in made) behind
+    ∙ ap (λ (p : Point). let made : Point = record { y = p.y; x = p.x +ℤ pos leads.columns } in made) after
     ∙ point-same _ _ (sym leads.below) (sym leads.right)
 
 -- ---- cells
@@ -92,7 +92,7 @@ place-gap corner from to is gap at leads =
 cells-dead : (corner : Point) (is : List Item) (tag : Tag) (n : ℕ) → state_of tag ≡ 0 → picture_of corner (is ++ some_of tag n) ≡ picture_of corner is
 cells-dead corner is tag zero dead = ap (picture_of corner) (append-nil is)
 cells-dead corner is tag (suc n) dead =
-    rw (nonzero (suc n) (omega arith)) (picture_behind-push corner [] is (item_of tag (suc n)) ∙ rw dead (append-nil (picture_of corner is)))
+    rw (nonzero (suc n) (omega arith)) (picture_after-push corner [] is (item_of tag (suc n)) ∙ rw dead (append-nil (picture_of corner is)))
 
 -- a gap shows no more
 pub cells-gap : (corner from to : Point) (left : ℤ) (is gap : List Item) → IsGap left from to gap → picture_of corner (is ++ gap) ≡ picture_of corner is
@@ -103,8 +103,8 @@ cells-gap corner from to left is gap leads =
     ∙ cells-dead corner (is ++ rows) (Cell 0) leads.columns refl ∙ cells-dead corner is RowEnd leads.rows refl
 
 -- one more run shows its cells
-pub cells-run : (corner : Point) (is : List Item) (s n : ℕ) → 0 < s → picture_of corner (is ++ item_of (Cell s) n ∷ []) ≡ picture_of corner is ++ run_of s (place_behind corner is) n
-cells-run corner is s n live = picture_behind-push corner [] is (item_of (Cell s) n) ∙ rw (nonzero s live) refl
+pub cells-run : (corner : Point) (is : List Item) (s n : ℕ) → 0 < s → picture_of corner (is ++ item_of (Cell s) n ∷ []) ≡ picture_of corner is ++ run_of s (place_after corner is) n
+cells-run corner is s n live = picture_after-push corner [] is (item_of (Cell s) n) ∙ rw (nonzero s live) refl
 
 -- ---- tidiness
 

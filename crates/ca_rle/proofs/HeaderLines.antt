@@ -42,17 +42,17 @@ parts_stop ps qs bytes e = parts_append ps qs bytes ∙ ap (option_and_then (par
 pub no_sizes : (line : List ℕ) → parts_left (size_parts []) line ≡ None → (rule : Option (List ℕ)) → IsHeader line rule → ⊥
 no_sizes line e = no_header line (ap has_more e) (parts_stop (size_parts []) rule_parts line e)
 
-more_there : (behind : List ℕ) → eqb (length behind) 0 ≡ false → has_more (Some behind) ≡ true
+more_there : (after : List ℕ) → eqb (length after) 0 ≡ false → has_more (Some after) ≡ true
 more_there [] e = absurd cc
 more_there (b ∷ bs) e = refl
 
 -- after the sizes stands something else
-pub no_rule_name : (line behind : List ℕ) → parts_left (size_parts []) line ≡ Some behind → eqb (length behind) 0 ≡ false → parts_left rule_parts behind ≡ None → (rule : Option (List ℕ)) → IsHeader line rule → ⊥
-no_rule_name line behind e some n = no_header line (ap has_more e ∙ more_there behind some) (parts_then (size_parts []) rule_parts line behind e ∙ n)
+pub no_rule_name : (line after : List ℕ) → parts_left (size_parts []) line ≡ Some after → eqb (length after) 0 ≡ false → parts_left rule_parts after ≡ None → (rule : Option (List ℕ)) → IsHeader line rule → ⊥
+no_rule_name line after e some n = no_header line (ap has_more e ∙ more_there after some) (parts_then (size_parts []) rule_parts line after e ∙ n)
 
 -- after the sizes stands nothing
-pub sizes_alone : (line behind : List ℕ) → parts_left (size_parts []) line ≡ Some behind → eqb (length behind) 0 ≡ true → IsHeader line None
-sizes_alone line behind e none = inl (spaced_found (size_parts []) line (e ∙ ap Some (nil_from_length behind (eqb-true (length behind) 0 none))))
+pub sizes_alone : (line after : List ℕ) → parts_left (size_parts []) line ≡ Some after → eqb (length after) 0 ≡ true → IsHeader line None
+sizes_alone line after e none = inl (spaced_found (size_parts []) line (e ∙ ap Some (nil_from_length after (eqb-true (length after) 0 none))))
 
 -- what parts leave is a part of the line
 left_is_line : (ps : List Part) (line more : List ℕ) → IsLine line → parts_left ps line ≡ Some more → IsLine more
@@ -76,9 +76,9 @@ no_word_byte (b ∷ bs) h l e =
     let some : length (b ∷ front is_word_byte bs) ≡ 0 = rw test at e in
     absurd (omega arith)
 
-module _ (line behind text : List ℕ) (l : IsLine line) (sizes : parts_left (size_parts []) line ≡ Some behind) (named : parts_left rule_parts behind ≡ Some text) where
+module _ (line after text : List ℕ) (l : IsLine line) (sizes : parts_left (size_parts []) line ≡ Some after) (named : parts_left rule_parts after ≡ Some text) where
   all_left : parts_left (size_parts rule_parts) line ≡ Some text
-  all_left = parts_then (size_parts []) rule_parts line behind sizes ∙ named
+  all_left = parts_then (size_parts []) rule_parts line after sizes ∙ named
 
   text_is_line : IsLine text
   text_is_line = left_is_line (size_parts rule_parts) line text l all_left
@@ -86,7 +86,7 @@ module _ (line behind text : List ℕ) (l : IsLine line) (sizes : parts_left (si
   -- `rule =` with nothing after it
   pub rule_missing : eqb (length (front is_word_byte text)) 0 ≡ true → IsHeader line None
   rule_missing none =
-      let empty = no_word_byte text (left_is_clear rule_parts behind text named) text_is_line (eqb-true _ _ none) in
+      let empty = no_word_byte text (left_is_clear rule_parts after text named) text_is_line (eqb-true _ _ none) in
       inr (spaced_found (size_parts rule_parts) line (all_left ∙ ap Some empty))
 
   -- `rule =` with a word after it

@@ -6,7 +6,7 @@ use Rattle.std.proofs.lemmas.Bool.Decides.{nat_tests}
 use Rattle.std.proofs.lemmas.Option.{none-some, same_Some}
 use Rattle.ca_plane.specs.Bytes.{Every, is_blank, is_line_end, is_digit, is_word_byte, IsWord, AreDigits, front, rest, is_end_or}
 use Rattle.ca_rle.specs.Header.{Part, Exactly, Number, IsPart, IsSpaced, size_parts, rule_parts, IsHeader}
-use Rattle.ca_rle.specs.inner.HeaderParts.{strip, left_behind, part_left, parts_left}
+use Rattle.ca_rle.specs.inner.HeaderParts.{strip, left_after, part_left, parts_left}
 use Rattle.ca_rle.specs.File.{IsLine}
 use Rattle.ca_plane.proofs.Fronts.{every_wider, every_front, front_append, rest_append, front_then_rest}
 
@@ -60,17 +60,17 @@ no_blank_digit : (b : ℕ) → is_digit b ≡ true → not (is_blank b) ≡ true
 no_blank_digit b h = grind (arith, nat_tests)
 
 -- blanks hide what stands after them
-behind_blanks : (blanks after : List ℕ) → Every is_blank blanks → IsTrue (is_end_or (λ b. not (is_digit b)) after) → IsTrue (is_end_or (λ b. not (is_digit b)) (blanks ++ after))
-behind_blanks [] after b h = h
-behind_blanks (c ∷ cs) after b h = no_digit_blank c (and_parts (is_blank c) (list_all is_blank cs) b).0
+after_blanks : (blanks after : List ℕ) → Every is_blank blanks → IsTrue (is_end_or (λ b. not (is_digit b)) after) → IsTrue (is_end_or (λ b. not (is_digit b)) (blanks ++ after))
+after_blanks [] after b h = h
+after_blanks (c ∷ cs) after b h = no_digit_blank c (and_parts (is_blank c) (list_all is_blank cs) b).0
 
 opens_is : (ps : List Part) (text more : List ℕ) → IsTrue (opens ps more) → IsSpaced ps text → IsTrue (is_end_or (λ b. not (is_digit b)) (text ++ more))
-opens_is [] text more h s = behind_blanks text more s h
+opens_is [] text more h s = after_blanks text more s h
 opens_is (Exactly [] ∷ ps) text more h s = absurd cc
 opens_is (Number ∷ ps) text more h s = absurd cc
 opens_is (Exactly (c ∷ cs) ∷ ps) text more h (blanks, part, later, b, p, s, e) =
     let whole : text ++ more ≡ blanks ++ (c ∷ (cs ++ (later ++ more))) = ap (λ (l : List ℕ). l ++ more) (e ∙ ap (λ (q : List ℕ). blanks ++ (q ++ later)) p) ∙ simp append_assoc in
-    subst (λ (l : List ℕ). is_end_or (λ b. not (is_digit b)) l ≡ true) (sym whole) (behind_blanks blanks (c ∷ (cs ++ (later ++ more))) b h)
+    subst (λ (l : List ℕ). is_end_or (λ b. not (is_digit b)) l ≡ true) (sym whole) (after_blanks blanks (c ∷ (cs ++ (later ++ more))) b h)
 
 digits_left : (digits more : List ℕ) → AreDigits digits → IsTrue (is_end_or (λ b. not (is_digit b)) more) → part_left Number (digits ++ more) ≡ Some more
 digits_left [] more d h = absurd cc
@@ -145,7 +145,7 @@ strip_found (t ∷ ts) (b ∷ bs) more e =
     let p = some_of_cond (t == b) (strip ts bs) more e in
     ap₂ (λ (c : ℕ) (l : List ℕ). c ∷ l) (sym (eqb-true t b p.0)) (strip_found ts bs more p.1)
 
-left_found : (digits after more : List ℕ) → Every is_digit digits → left_behind digits after ≡ Some more → AreDigits digits × (after ≡ more)
+left_found : (digits after more : List ℕ) → Every is_digit digits → left_after digits after ≡ Some more → AreDigits digits × (after ≡ more)
 left_found [] after more d e = absurd cc
 left_found (c ∷ cs) after more d e = (d, same_Some after more e)
 

@@ -9,7 +9,7 @@ use Rattle.ca_rle.specs.declared.item.Tag.{Tag}
 use Rattle.ca_rle.specs.Items.{InLine, IsWhite, is_prefix, tag_of, IsCount, IsItem, IsEnd}
 use Rattle.ca_rle.specs.Faults.{after_white}
 use Rattle.ca_plane.proofs.Fronts.{front_append, rest_append}
-use Rattle.ca_rle.proofs.White.{Stops, Stops_above, after_white_is, IsWhite-append, no_digit_behind}
+use Rattle.ca_rle.proofs.White.{Stops, Stops_above, after_white_is, IsWhite-append, no_digit_after}
 
 -- ---- tags
 
@@ -64,9 +64,9 @@ pub record Parts (bytes : List ℕ) (digits letters more : List ℕ) : Type 0 wh
   pub uncounted : digits ≡ [] → rest is_digit (after_white InLine bytes) ≡ letters ++ more
 
 -- after white space stands the tag
-pub behind_is_tag : (white letters more : List ℕ) (t : Tag) → IsWhite white → tag_of letters ≡ Some t → after_white InLine (white ++ (letters ++ more)) ≡ letters ++ more
-behind_is_tag white [] more t w e = absurd cc
-behind_is_tag white (b ∷ bs) more t w e = after_white_is InLine white b (bs ++ more) (Stops_above b (tag_byte b bs t e).0) w
+pub after_is_tag : (white letters more : List ℕ) (t : Tag) → IsWhite white → tag_of letters ≡ Some t → after_white InLine (white ++ (letters ++ more)) ≡ letters ++ more
+after_is_tag white [] more t w e = absurd cc
+after_is_tag white (b ∷ bs) more t w e = after_white_is InLine white b (bs ++ more) (Stops_above b (tag_byte b bs t e).0) w
 
 -- a tag begins with no digit
 no_digit_tag : (letters more : List ℕ) (t : Tag) → tag_of letters ≡ Some t → IsTrue (is_end_or (λ b. not (is_digit b)) (letters ++ more))
@@ -79,19 +79,19 @@ digit_stops d ds h = Stops_above d (let p = (and_parts (is_digit d) (list_all is
 pub item_parts : (before digits between letters more : List ℕ) (n : ℕ) (t : Tag) → IsWhite before → IsCount digits n → IsWhite between → tag_of letters ≡ Some t
     → Parts (before ++ (digits ++ (between ++ (letters ++ more)))) digits letters more
 item_parts before [] between letters more n t v c w e =
-    let seen : after_white InLine (before ++ (between ++ (letters ++ more))) ≡ letters ++ more = ap (after_white InLine) (sym (append_assoc before between (letters ++ more))) ∙ behind_is_tag (before ++ between) letters more t (IsWhite-append before between v w) e in
+    let seen : after_white InLine (before ++ (between ++ (letters ++ more))) ≡ letters ++ more = ap (after_white InLine) (sym (append_assoc before between (letters ++ more))) ∙ after_is_tag (before ++ between) letters more t (IsWhite-append before between v w) e in
     let ends = no_digit_tag letters more t e in
     record {
       digits_are = rw seen (front_append is_digit [] (letters ++ more) refl ends);
-      letters_are = rw (seen, rest_append is_digit [] (letters ++ more) refl ends) (behind_is_tag [] letters more t refl e);
+      letters_are = rw (seen, rest_append is_digit [] (letters ++ more) refl ends) (after_is_tag [] letters more t refl e);
       uncounted = λ _. ap (rest is_digit) seen ∙ rest_append is_digit [] (letters ++ more) refl ends;
     }
 item_parts before (d ∷ ds) between letters more n t v c w e =
     let seen : after_white InLine (before ++ (d ∷ ds ++ (between ++ (letters ++ more)))) ≡ d ∷ ds ++ (between ++ (letters ++ more)) = after_white_is InLine before d (ds ++ (between ++ (letters ++ more))) (digit_stops d ds c.0) v in
-    let ends = no_digit_behind between (letters ++ more) w (no_digit_tag letters more t e) in
+    let ends = no_digit_after between (letters ++ more) w (no_digit_tag letters more t e) in
     record {
       digits_are = rw seen (front_append is_digit (d ∷ ds) (between ++ (letters ++ more)) c.0 ends);
-      letters_are = rw (seen, rest_append is_digit (d ∷ ds) (between ++ (letters ++ more)) c.0 ends) (behind_is_tag between letters more t w e);
+      letters_are = rw (seen, rest_append is_digit (d ∷ ds) (between ++ (letters ++ more)) c.0 ends) (after_is_tag between letters more t w e);
       uncounted = λ h. absurd cc;
     }
 
@@ -114,9 +114,9 @@ no_tag_at_end [] = refl
 no_tag_at_end (b ∷ bs) = refl
 
 -- at an end `!` stands after white space
-pub end_behind : (bytes : List ℕ) → IsEnd bytes → (ignored : List ℕ) × (after_white InLine bytes ≡ 33 ∷ ignored)
-end_behind bytes (before, ignored, w, spelled) = (ignored, ap (after_white InLine) spelled ∙ after_white_is InLine before 33 ignored (record { no_line_end = refl; no_blank = refl; no_hash = refl }) w)
+pub end_after : (bytes : List ℕ) → IsEnd bytes → (ignored : List ℕ) × (after_white InLine bytes ≡ 33 ∷ ignored)
+end_after bytes (before, ignored, w, spelled) = (ignored, ap (after_white InLine) spelled ∙ after_white_is InLine before 33 ignored (record { no_line_end = refl; no_blank = refl; no_hash = refl }) w)
 
 -- at an end no item is read
 pub no_item_at_end : (bytes : List ℕ) → IsEnd bytes → item_at bytes ≡ None
-no_item_at_end bytes end = let e = end_behind bytes end in rw (e.1, no_tag_at_end e.0)
+no_item_at_end bytes end = let e = end_after bytes end in rw (e.1, no_tag_at_end e.0)

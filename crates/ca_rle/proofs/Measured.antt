@@ -65,18 +65,18 @@ extent_more items j at old new o e g = record {
 }
 
 -- these items were read and measured, and the next begins at an offset
-pub record IsMeasured (bytes behind : List ℕ) (at : Offset) (extent : Extent) (items : List Item) : Type 0 where
-  pub run : Run bytes items behind
+pub record IsMeasured (bytes after : List ℕ) (at : Offset) (extent : Extent) (items : List Item) : Type 0 where
+  pub run : Run bytes items after
   pub offset : IsOffsetOf items at
   pub reach : IsExtentOf items extent
 
 -- one more item
-pub measured_more : (bytes behind more : List ℕ) (at next : Offset) (old new : Extent) (items : List Item) (i : Item) → IsMeasured bytes behind at old items → IsItemAtFront behind i more → IsNextOffset i at next → IsGrownBy i at old new
+pub measured_more : (bytes after more : List ℕ) (at next : Offset) (old new : Extent) (items : List Item) (i : Item) → IsMeasured bytes after at old items → IsItemAtFront after i more → IsNextOffset i at next → IsGrownBy i at old new
     → (all : List Item) × IsMeasured bytes more next new all
-measured_more bytes behind more at next old new items i m (j, item, same) n g = (
+measured_more bytes after more at next old new items i m (j, item, same) n g = (
   items ++ j ∷ [],
   record {
-    run = Run-push bytes items j behind more m.run item;
+    run = Run-push bytes items j after more m.run item;
     offset = offset_more items j at next m.offset (subst (λ i. IsNextOffset i at next) same n);
     reach = extent_more items j at old new m.offset m.reach (subst (λ i. IsGrownBy i at old new) same g);
   },

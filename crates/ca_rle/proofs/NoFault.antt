@@ -10,7 +10,7 @@ use Rattle.ca_rle.specs.declared.item.Tag.{Tag}
 use Rattle.ca_rle.specs.declared.item.Tag.TheVariants.{Cell}
 use Rattle.ca_rle.specs.Items.{InLine, is_letter, is_prefix, prefixed_state, tag_of, IsCount, IsItem, Run, IsEnd, Items}
 use Rattle.ca_rle.specs.Faults.{after_white, letter_fault, tag_fault, count_fault, item_fault}
-use Rattle.ca_rle.proofs.ItemAt.{tag_byte, two_letters, item_parts, end_behind, regroup}
+use Rattle.ca_rle.proofs.ItemAt.{tag_byte, two_letters, item_parts, end_after, regroup}
 use Rattle.ca_rle.proofs.OneList.{item_or_end, one_item}
 
 not_end : (b : ℕ) (bs : List ℕ) (t : Tag) → tag_of (b ∷ bs) ≡ Some t → (b == 33) ≡ false
@@ -46,7 +46,7 @@ no_item_fault bytes more i (before, digits, between, letters, v, c, w, e, spelle
 
 -- an end has no fault
 pub no_end_fault : (bytes : List ℕ) → IsEnd bytes → item_fault bytes ≡ None
-no_end_fault bytes end = let e = end_behind bytes end in rw e.1
+no_end_fault bytes end = let e = end_after bytes end in rw e.1
 
 -- after items of a spelled list stands no bad item
 pub no_bad_item : (bytes bad : List ℕ) (is js : List Item) (f : RleFault) → Items bytes is → Run bytes js bad → item_fault bad ≡ Some f → ⊥

@@ -38,9 +38,9 @@ word_or_none [] = None
 word_or_none (b ∷ bs) = Some (b ∷ bs)
 
 -- the rule text that a header names
-abbrev rule_behind : Option (List ℕ) → Option (List ℕ)
-rule_behind None = None
-rule_behind (Some more) = word_or_none (front is_word_byte more)
+abbrev rule_after : Option (List ℕ) → Option (List ℕ)
+rule_after None = None
+rule_after (Some more) = word_or_none (front is_word_byte more)
 
 word_ends : (b : ℕ) → is_blank b ≡ true → not (is_word_byte b) ≡ true
 word_ends b h = rw h
@@ -53,15 +53,15 @@ is_some_word : (text : List ℕ) → IsWord text → word_or_none text ≡ Some 
 is_some_word [] w = absurd cc
 is_some_word (b ∷ bs) w = refl
 
-rule_is : (line : List ℕ) (rule : Option (List ℕ)) → IsHeader line rule → rule_behind (parts_left (size_parts rule_parts) line) ≡ rule
+rule_is : (line : List ℕ) (rule : Option (List ℕ)) → IsHeader line rule → rule_after (parts_left (size_parts rule_parts) line) ≡ rule
 rule_is line None h =
     elim (header_none line h) [
-      | inl e ↦ ap rule_behind (parts_append (size_parts []) rule_parts line ∙ ap (option_and_then (parts_left rule_parts)) e)
-      | inr e ↦ ap rule_behind e
+      | inl e ↦ ap rule_after (parts_append (size_parts []) rule_parts line ∙ ap (option_and_then (parts_left rule_parts)) e)
+      | inr e ↦ ap rule_after e
     ]
 rule_is line (Some text) h =
     let s = header_some line text h in
-    ap rule_behind s.3 ∙ ap word_or_none (front_append is_word_byte text s.0 (every_word_byte text s.1) (ignored_ends s.0 s.2)) ∙ is_some_word text s.1
+    ap rule_after s.3 ∙ ap word_or_none (front_append is_word_byte text s.0 (every_word_byte text s.1) (ignored_ends s.0 s.2)) ∙ is_some_word text s.1
 
 pub one_header : (line : List ℕ) (r s : Option (List ℕ)) → IsHeader line r → IsHeader line s → r ≡ s
 one_header line r s p q = sym (rule_is line r p) ∙ rule_is line s q

@@ -20,8 +20,8 @@ pub one_line : (a b m n : List ℕ) → IsLine a → IsLine b → IsTrue (is_end
 one_line a b m n p q h k e = one_split (λ c. not (is_line_end c)) a b m n p q (line_stops m h) (line_stops n k) e
 
 -- after the first line stand its LF and the others
-pub behind_first_line : (line : List ℕ) (lines : List (List ℕ)) (more : List ℕ) → flat_map ended (line ∷ lines) ++ more ≡ line ++ (10 ∷ (flat_map ended lines ++ more))
-behind_first_line line lines more = simp append_assoc
+pub after_first_line : (line : List ℕ) (lines : List (List ℕ)) (more : List ℕ) → flat_map ended (line ∷ lines) ++ more ≡ line ++ (10 ∷ (flat_map ended lines ++ more))
+after_first_line line lines more = simp append_assoc
 
 -- ---- what words say
 
@@ -47,8 +47,8 @@ first_is_good : (line : List ℕ) (lines : List (List ℕ)) (said : List Said) �
 first_is_good line lines said p = let s = says_split (extended_words line) (flat_map extended_words lines) said p.words in (p.comments.0, (s.0, s.2))
 
 -- the place is the same after the first line
-behind_first : (bytes : List ℕ) (first : List ℕ) (lines : List (List ℕ)) (line more later : List ℕ) → EndsPreamble bytes (first ∷ lines) line more → later ≡ flat_map ended lines ++ (line ++ more) → EndsPreamble later lines line more
-behind_first bytes first lines line more later p e =
+after_first : (bytes : List ℕ) (first : List ℕ) (lines : List (List ℕ)) (line more later : List ℕ) → EndsPreamble bytes (first ∷ lines) line more → later ≡ flat_map ended lines ++ (line ++ more) → EndsPreamble later lines line more
+after_first bytes first lines line more later p e =
     let s = says_split (extended_words first) (flat_map extended_words lines) p.said p.follows.preamble.words in
     record {
       said = s.1;
@@ -63,7 +63,7 @@ behind_first bytes first lines line more later p e =
 
 no_longer : (bytes : List ℕ) (a m k : List ℕ) (ks : List (List ℕ)) (b n : List ℕ) → EndsPreamble bytes [] a m → EndsPreamble bytes (k ∷ ks) b n → ⊥
 no_longer bytes a m k ks b n p q =
-    let f = one_line a k m _ p.follows.line_is q.follows.preamble.each_is_line.0 p.follows.line_ends refl (sym p.follows.spelled ∙ q.follows.spelled ∙ behind_first_line k ks (b ++ n)) in
+    let f = one_line a k m _ p.follows.line_is q.follows.preamble.each_is_line.0 p.follows.line_ends refl (sym p.follows.spelled ∙ q.follows.spelled ∙ after_first_line k ks (b ++ n)) in
     let last = p.bad_or_last (subst IsGood (sym f.0) (first_is_good k ks q.said q.follows.preamble)) in
     let none : [] ≡ 10 ∷ (flat_map ended ks ++ (b ++ n)) = sym last ∙ f.1 in cc
 
@@ -73,9 +73,9 @@ one_place bytes [] [] a b m n p q = let l = one_line a b m n p.follows.line_is q
 one_place bytes [] (k ∷ ks) a b m n p q = absurd (no_longer bytes a m k ks b n p q)
 one_place bytes (l ∷ ls) [] a b m n p q = absurd (no_longer bytes b n l ls a m q p)
 one_place bytes (l ∷ ls) (k ∷ ks) a b m n p q =
-    let f = one_line l k _ _ p.follows.preamble.each_is_line.0 q.follows.preamble.each_is_line.0 refl refl (sym (behind_first_line l ls (a ++ m)) ∙ sym p.follows.spelled ∙ q.follows.spelled ∙ behind_first_line k ks (b ++ n)) in
+    let f = one_line l k _ _ p.follows.preamble.each_is_line.0 q.follows.preamble.each_is_line.0 refl refl (sym (after_first_line l ls (a ++ m)) ∙ sym p.follows.spelled ∙ q.follows.spelled ∙ after_first_line k ks (b ++ n)) in
     let later = flat_map ended ls ++ (a ++ m) in
-    let others = one_place later ls ks a b m n (behind_first bytes l ls a m later p refl) (behind_first bytes k ks b n later q (append_cancel_left (10 ∷ []) _ _ f.1)) in
+    let others = one_place later ls ks a b m n (after_first bytes l ls a m later p refl) (after_first bytes k ks b n later q (append_cancel_left (10 ∷ []) _ _ f.1)) in
     (ap₂ (λ (x : List ℕ) (xs : List (List ℕ)). x ∷ xs) f.0 others.0, others.1, others.2)
 
 -- ---- what stands there

@@ -14,7 +14,7 @@ use Rattle.ca_rle.specs.declared.item.Tag.TheVariants.{Cell, RowEnd}
 use Rattle.ca_rle.specs.File.{ended}
 use Rattle.ca_rle.specs.Shown.{picture_of}
 use Rattle.ca_rle.specs.Tidy.{AreTidy, IsFull, AreLines, IsFrame, corner_line, header_line, IsTidy}
-use Rattle.ca_rle.proofs.TidyCells.{next, drawn, picture_drawn, IsAhead, tidy_counts, tidy_tail, item_out, clear, within, behind, reach}
+use Rattle.ca_rle.proofs.TidyCells.{next, drawn, picture_drawn, IsAhead, tidy_counts, tidy_tail, item_out, clear, within, after, reach}
 use Rattle.ca_rle.proofs.TidyBody.{text_of, tokens}
 
 -- ---- one frame
@@ -69,7 +69,7 @@ not_none left at n RowEnd is tidy same =
 not_longer : (left : ℤ) (at : Point) (n m s v : ℕ) (is js : List Item) → AreTidy (record { count = n; tag = Cell s } ∷ is) → AreTidy (record { count = m; tag = Cell v } ∷ js)
     → AreSame at (drawn left at (record { count = n; tag = Cell s } ∷ is)) (drawn left at (record { count = m; tag = Cell v } ∷ js)) → v ≡ s → n < m → ⊥
 not_longer left at n m s v is js p q same e l =
-    behind left at n s is (at.x +ℤ pos n) at.y p refl refl
+    after left at n s is (at.x +ℤ pos n) at.y p refl refl
     (same (at.x +ℤ pos n) at.y (inr (refl, omega (arith, ints))) ∙ within left at (record { count = m; tag = Cell v }) js n (at.x +ℤ pos n) at.y q l refl refl ∙ e)
 
 -- or with more row ends
@@ -123,9 +123,9 @@ not_in_item left at n RowEnd x y k (inl below) l row col = omega (arith, ints)
 not_in_item left at n RowEnd x y k (inr here) l row col = omega (arith, ints, here.0)
 
 -- after the same first item they show the same
-same_behind : (left : ℤ) (at : Point) (i : Item) (is js : List Item) → 0 < i.count → AreSame at (drawn left at (i ∷ is)) (drawn left at (i ∷ js))
+same_after : (left : ℤ) (at : Point) (i : Item) (is js : List Item) → 0 < i.count → AreSame at (drawn left at (i ∷ is)) (drawn left at (i ∷ js))
     → AreSame (next left at i) (drawn left (next left at i) is) (drawn left (next left at i) js)
-same_behind left at i is js low same x y ahead =
+same_after left at i is js low same x y ahead =
     let out = λ (q : Picture). item_out at i q x y (λ k l row col. not_in_item left at i.count i.tag x y k ahead l row col) in
     sym (out (drawn left (next left at i) is)) ∙ same x y (ahead_next left at i.count i.tag x y low ahead) ∙ out (drawn left (next left at i) js)
 
@@ -142,7 +142,7 @@ one_tidy_list left at (i ∷ is) (j ∷ js) p q same =
     let item : i ≡ j = same_item i j first.0 first.1 in
     let with_one = subst (λ k. AreSame at (drawn left at (i ∷ is)) (drawn left at (k ∷ js))) (sym item) same in
     ap₂ (λ (k : Item) (ks : List Item). k ∷ ks) item
-    (one_tidy_list left (next left at i) is js (tidy_tail i is p) (tidy_tail j js q) (same_behind left at i is js (tidy_counts i is p) with_one))
+    (one_tidy_list left (next left at i) is js (tidy_tail i is p) (tidy_tail j js q) (same_after left at i is js (tidy_counts i is p) with_one))
 
 -- ---- one breaking into lines
 

@@ -15,27 +15,27 @@ use Rattle.ca_rle.specs.declared.item.Item.{Item}
 use Rattle.ca_rle.specs.declared.item.Tag.{Tag}
 use Rattle.ca_rle.specs.declared.item.Tag.TheVariants.{Cell, RowEnd}
 use Rattle.ca_rle.specs.Items.{Run, IsEnd, Items}
-use Rattle.ca_rle.specs.Shown.{ends_row, state_of, rows_of, columns_of, place_behind, cells_of, picture_behind, picture_of}
+use Rattle.ca_rle.specs.Shown.{ends_row, state_of, rows_of, columns_of, place_after, cells_of, picture_after, picture_of}
 use Rattle.ca_rle.specs.Limits.{IsWithinRange}
 use Rattle.ca_plane.specs.Limits.{IsInRange}
 use Rattle.ca_rle.specs.inner.BodyFaults.{bare_file, kept, IsItemAtFront}
 use Rattle.ca_rle.specs.inner.Extent.{IsOffsetOf, point_from, HasRoom, cells_from}
-use Rattle.ca_rle.proofs.Pushed.{rows_of-push, columns_of-push, picture_behind-push, picture_behind-append, Run-push, counts_low}
+use Rattle.ca_rle.proofs.Pushed.{rows_of-push, columns_of-push, picture_after-push, picture_after-append, Run-push, counts_low}
 use Rattle.ca_rle.proofs.Measured.{IsNextOffset, offset_more}
 use Rattle.ca_rle.proofs.Ranges.{all_parts, run_has_room}
 use Rattle.ca_rle.proofs.Prefixes.{items_left, items_done, item_state_low}
-use Rattle.ca_rle.proofs.Runs.{run_behind, run_clear, run_states, cell-behind-zero}
+use Rattle.ca_rle.proofs.Runs.{run_after, run_clear, run_states, cell-after-zero}
 
 -- a place in reading order at or after another
 abbrev pub IsAhead : Point → ℤ → ℤ → Type 0
 IsAhead at x y = (at.y <ℤ y) ⊎ ((y ≡ at.y) × (at.x ≤ℤ x))
 
 -- the place after an item: further right, or below the corner further down
-abbrev place_after : Point → Point → Item → Point
-place_after corner at i = if ends_row i.tag then record { y = at.y +ℤ pos i.count; x = corner.x } else record { y = at.y; x = at.x +ℤ pos i.count }
+abbrev next_place : Point → Point → Item → Point
+next_place corner at i = if ends_row i.tag then record { y = at.y +ℤ pos i.count; x = corner.x } else record { y = at.y; x = at.x +ℤ pos i.count }
 
-place_behind-push : (corner : Point) (is : List Item) (i : Item) → place_behind corner (is ++ i ∷ []) ≡ place_after corner (place_behind corner is) i
-place_behind-push corner is i =
+place_after-push : (corner : Point) (is : List Item) (i : Item) → place_after corner (is ++ i ∷ []) ≡ next_place corner (place_after corner is) i
+place_after-push corner is i =
     elim (cases_Bool (ends_row i.tag)) [
       | inl e ↦
           let row : rows_of (is ++ i ∷ []) ≡ rows_of is + i.count = rw (rows_of-push, e) refl in
@@ -48,16 +48,16 @@ place_behind-push corner is i =
     ]
 
 -- the same cells in front of pictures that are the same
-same_behind : (r p q : Picture) → IsSame p q → IsSame (r ++ p) (r ++ q)
-same_behind [] p q same x y = same x y
-same_behind (e ∷ es) p q same x y = ap (λ s. if int_eq y e.0.y && int_eq x e.0.x then e.1 else s) (same_behind es p q same x y)
+same_after : (r p q : Picture) → IsSame p q → IsSame (r ++ p) (r ++ q)
+same_after [] p q same x y = same x y
+same_after (e ∷ es) p q same x y = ap (λ s. if int_eq y e.0.y && int_eq x e.0.x then e.1 else s) (same_after es p q same x y)
 
 -- an item's cells may stand before a picture that is clear ahead of them, or after it
-item_behind : (p : Picture) (at : Point) (i : Item) → IsPicture p → ((x y : ℤ) → IsAhead at x y → cell p x y ≡ 0) → IsSame (cells_from at i ++ p) (p ++ cells_from at i)
-item_behind p at i states ahead x y =
+item_after : (p : Picture) (at : Point) (i : Item) → IsPicture p → ((x y : ℤ) → IsAhead at x y → cell p x y ≡ 0) → IsSame (cells_from at i ++ p) (p ++ cells_from at i)
+item_after p at i states ahead x y =
     elim (cases_Bool (state_of i.tag == 0)) [
       | inl e ↦ rw e (ap (λ q. cell q x y) (sym (append-nil p)))
-      | inr e ↦ rw e (run_behind p (state_of i.tag) at i.count states (λ k. ahead (at.x +ℤ pos k) at.y (inr (refl, omega (arith, ints)))) x y)
+      | inr e ↦ rw e (run_after p (state_of i.tag) at i.count states (λ k. ahead (at.x +ℤ pos k) at.y (inr (refl, omega (arith, ints)))) x y)
     ]
 
 -- an item's cells are a picture
@@ -71,7 +71,7 @@ item_states at i low =
     ]
 
 -- after an item its own cells end
-tag_clear : (corner at : Point) (n : ℕ) (t : Tag) (x y : ℤ) → IsAhead (place_after corner at (record { count = n; tag = t })) x y → cell (cells_from at (record { count = n; tag = t })) x y ≡ 0
+tag_clear : (corner at : Point) (n : ℕ) (t : Tag) (x y : ℤ) → IsAhead (next_place corner at (record { count = n; tag = t })) x y → cell (cells_from at (record { count = n; tag = t })) x y ≡ 0
 tag_clear corner at n RowEnd x y h = refl
 tag_clear corner at n (Cell s) x y h =
     elim (cases_Bool (s == 0)) [
@@ -79,12 +79,12 @@ tag_clear corner at n (Cell s) x y h =
       | inr e ↦ rw e (run_clear s at n x y (past h))
     ]
   where
-    past : IsAhead (place_after corner at (record { count = n; tag = Cell s })) x y → y ≡ at.y → (at.x +ℤ pos n) ≤ℤ x
+    past : IsAhead (next_place corner at (record { count = n; tag = Cell s })) x y → y ≡ at.y → (at.x +ℤ pos n) ≤ℤ x
     past (inl below) row = absurd (omega (arith, ints))
     past (inr right) row = right.1
 
 -- what is ahead of the place after an item is ahead of the item
-tag_ahead : (corner at : Point) (n : ℕ) (t : Tag) (x y : ℤ) → 0 < n → IsAhead (place_after corner at (record { count = n; tag = t })) x y → IsAhead at x y
+tag_ahead : (corner at : Point) (n : ℕ) (t : Tag) (x y : ℤ) → 0 < n → IsAhead (next_place corner at (record { count = n; tag = t })) x y → IsAhead at x y
 tag_ahead corner at n (Cell s) x y some (inl below) = inl below
 tag_ahead corner at n (Cell s) x y some (inr right) = inr (right.0, omega (arith, ints, right.1))
 tag_ahead corner at n RowEnd x y some (inl below) = inl (omega (arith, ints))
@@ -101,7 +101,7 @@ pub record IsNext (corner : Point) (items : List Item) (at : Offset) (i j : Item
   pub cells : cells_from (point_from corner at) i ≡ cells_of corner items j
 
 -- a kept offset is the offset, where the place is in range
-offset_is : (corner : Point) (items : List Item) (at : Offset) → IsInRange corner → IsOffsetOf items at → IsInRange (place_behind corner items) → point_from corner at ≡ place_behind corner items
+offset_is : (corner : Point) (items : List Item) (at : Offset) → IsInRange corner → IsOffsetOf items at → IsInRange (place_after corner items) → point_from corner at ≡ place_after corner items
 offset_is corner items at start offset range =
     point-same _ _ (omega (arith, ints, start.2, offset.rows, range.3)) (omega (arith, ints, start.0, offset.columns, range.1))
 
@@ -119,21 +119,21 @@ next_is corner bytes rest more at all items i spelled range run offset (j, item,
     let left = items_left bytes more all (items ++ j ∷ []) spelled (Run-push bytes items j rest more run item) in
     let counts = all_parts (λ i. i.count ≤ 2 ^ 62) (items ++ j ∷ []) left.0 (subst (λ l. AllByRecursion (λ i. i.count ≤ 2 ^ 62) l) left.2 range.counts) in
     let count : j.count ≤ 2 ^ 62 = (all_parts (λ i. i.count ≤ 2 ^ 62) items (j ∷ []) counts.0).1.0 in
-    let shown : picture_of corner all ≡ (picture_of corner items ++ cells_of corner items j) ++ picture_behind corner (items ++ j ∷ []) left.0 =
-    ap (picture_of corner) left.2 ∙ picture_behind-append corner [] (items ++ j ∷ []) left.0 ∙ ap (λ p. p ++ picture_behind corner (items ++ j ∷ []) left.0) (picture_behind-push corner [] items j)
+    let shown : picture_of corner all ≡ (picture_of corner items ++ cells_of corner items j) ++ picture_after corner (items ++ j ∷ []) left.0 =
+    ap (picture_of corner) left.2 ∙ picture_after-append corner [] (items ++ j ∷ []) left.0 ∙ ap (λ p. p ++ picture_after corner (items ++ j ∷ []) left.0) (picture_after-push corner [] items j)
     in
     let cells = all_parts (λ e. IsInRange e.0) (picture_of corner items ++ cells_of corner items j) _ (subst (λ p. AllByRecursion (λ e. IsInRange e.0) p) shown range.cells) in
     let here : AllByRecursion (λ e. IsInRange e.0) (cells_of corner items j) = (all_parts (λ e. IsInRange e.0) (picture_of corner items) (cells_of corner items j) cells.0).1 in
     let some : 0 < j.count = (counts_low rest (j ∷ []) more item).0 in
     let exact : i ≡ j = same ∙ kept_is j count in
-    let live : state_of j.tag ≢ 0 → HasRoom (place_behind corner items) j.count = λ ne. run_has_room (state_of j.tag) (place_behind corner items) j.count some (rw (ne_eqb (state_of j.tag) 0 ne) at here) in
-    let place : state_of j.tag ≢ 0 → point_from corner at ≡ place_behind corner items = λ ne. offset_is corner items at range.corner offset (live ne).0 in
+    let live : state_of j.tag ≢ 0 → HasRoom (place_after corner items) j.count = λ ne. run_has_room (state_of j.tag) (place_after corner items) j.count some (rw (ne_eqb (state_of j.tag) 0 ne) at here) in
+    let place : state_of j.tag ≢ 0 → point_from corner at ≡ place_after corner items = λ ne. offset_is corner items at range.corner offset (live ne).0 in
     record {
       same = same;
       some = some;
       state = item_state_low rest j more item;
       room = rw exact (λ ne. subst (λ p. HasRoom p j.count) (sym (place ne)) (live ne));
-      cells = rw exact (next_cells (point_from corner at) (place_behind corner items) j.count j.count j.tag place refl);
+      cells = rw exact (next_cells (point_from corner at) (place_after corner items) j.count j.count j.tag place refl);
     }
   where
     kept_is : (j : Item) → j.count ≤ 2 ^ 62 → kept j ≡ j
@@ -142,12 +142,12 @@ next_is corner bytes rest more at all items i spelled range run offset (j, item,
 -- ---- all items
 
 -- these items were read and drawn, and the next begins at an offset
-pub record IsDrawn (corner : Point) (bytes behind : List ℕ) (at : Offset) (plane : Picture) (items : List Item) : Type 0 where
-  pub run : Run bytes items behind
+pub record IsDrawn (corner : Point) (bytes after : List ℕ) (at : Offset) (plane : Picture) (items : List Item) : Type 0 where
+  pub run : Run bytes items after
   pub offset : IsOffsetOf items at
   pub cells : IsSame plane (picture_of corner items)
   pub states : IsPicture (picture_of corner items)
-  pub ahead : (x y : ℤ) → IsAhead (place_behind corner items) x y → cell (picture_of corner items) x y ≡ 0
+  pub ahead : (x y : ℤ) → IsAhead (place_after corner items) x y → cell (picture_of corner items) x y ≡ 0
 
 -- one more item
 pub drawn_more : (corner : Point) (bytes rest more : List ℕ) (at next : Offset) (plane new : Picture) (items : List Item) (i : Item) → IsDrawn corner bytes rest at plane items → (item : IsItemAtFront rest i more)
@@ -155,19 +155,19 @@ pub drawn_more : (corner : Point) (bytes rest more : List ℕ) (at next : Offset
 drawn_more corner bytes rest more at next plane new items i d (j, item, same) n o drawn =
     let old = picture_of corner items in
     let here = cells_of corner items j in
-    let whole : picture_of corner (items ++ j ∷ []) ≡ old ++ here = picture_behind-push corner [] items j in
-    let place = place_behind-push corner items j in
+    let whole : picture_of corner (items ++ j ∷ []) ≡ old ++ here = picture_after-push corner [] items j in
+    let place = place_after-push corner items j in
     record {
       run = Run-push bytes items j rest more d.run item;
       offset = offset_more items j at next d.offset (subst (λ i. IsNextOffset i at next) same o);
       cells = λ x y.
-          drawn x y ∙ ap (λ c. cell (c ++ plane) x y) n.cells ∙ same_behind here plane old d.cells x y ∙ item_behind old (place_behind corner items) j d.states d.ahead x y ∙ ap (λ p. cell p x y) (sym whole);
-      states = rw whole (All-append (λ e. (1 ≤ e.1) × (e.1 ≤ 255)) old here d.states (item_states (place_behind corner items) j n.state));
+          drawn x y ∙ ap (λ c. cell (c ++ plane) x y) n.cells ∙ same_after here plane old d.cells x y ∙ item_after old (place_after corner items) j d.states d.ahead x y ∙ ap (λ p. cell p x y) (sym whole);
+      states = rw whole (All-append (λ e. (1 ≤ e.1) × (e.1 ≤ 255)) old here d.states (item_states (place_after corner items) j n.state));
       ahead = λ x y h.
-          let behind = subst (λ p. IsAhead p x y) place h in
+          let after = subst (λ p. IsAhead p x y) place h in
           ap (λ p. cell p x y) whole
-          ∙ cell-behind-zero old here x y d.states (d.ahead x y (tag_ahead corner (place_behind corner items) j.count j.tag x y n.some behind))
-          ∙ tag_clear corner (place_behind corner items) j.count j.tag x y behind;
+          ∙ cell-after-zero old here x y d.states (d.ahead x y (tag_ahead corner (place_after corner items) j.count j.tag x y n.some after))
+          ∙ tag_clear corner (place_after corner items) j.count j.tag x y after;
     }
 
 -- drawn to the end, the plane shows the picture of all the body's items

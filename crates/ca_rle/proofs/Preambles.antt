@@ -41,28 +41,28 @@ first_is [] b e = absurd cc
 first_is (c ∷ cs) b e = (cs, ap (λ (d : ℕ). d ∷ cs) (sym (same_Some b c e)))
 
 -- what stands after the blanks of an XLife line
-pub xlife_behind : (line : List ℕ) → IsXlifeLine line → (blank : ℕ) × (more : List ℕ) × IsTrue (is_blank blank) × (rest is_blank (without_cr line) ≡ codes "#r" ++ blank ∷ more)
-xlife_behind line (blanks, blank, more, b, h, e) = (blank, more, h, ap (rest is_blank) e ∙ rest_append is_blank blanks (codes "#r" ++ blank ∷ more) b refl)
+pub xlife_after : (line : List ℕ) → IsXlifeLine line → (blank : ℕ) × (more : List ℕ) × IsTrue (is_blank blank) × (rest is_blank (without_cr line) ≡ codes "#r" ++ blank ∷ more)
+xlife_after line (blanks, blank, more, b, h, e) = (blank, more, h, ap (rest is_blank) e ∙ rest_append is_blank blanks (codes "#r" ++ blank ∷ more) b refl)
 
 -- and what makes one
-pub xlife_from : (line behind : List ℕ) (blank : ℕ) → rest is_blank (without_cr line) ≡ codes "#r" ++ behind → Some blank ≡ slice_get behind 0 → IsTrue (is_blank blank) → IsXlifeLine line
-xlife_from line behind blank e f h =
-    let first = first_is behind blank f in
+pub xlife_from : (line after : List ℕ) (blank : ℕ) → rest is_blank (without_cr line) ≡ codes "#r" ++ after → Some blank ≡ slice_get after 0 → IsTrue (is_blank blank) → IsXlifeLine line
+xlife_from line after blank e f h =
+    let first = first_is after blank f in
     let blanks = front is_blank (without_cr line) in
     (blanks, blank, first.0, every_front is_blank (without_cr line), h, sym (front_then_rest is_blank (without_cr line)) ∙ ap (λ (l : List ℕ). blanks ++ l) (e ∙ ap (λ (l : List ℕ). codes "#r" ++ l) first.1))
 
 -- the byte after `#r` is the first there
-pub same_blank : (behind : List ℕ) (byte blank : ℕ) (more : List ℕ) → Some byte ≡ slice_get behind 0 → codes "#r" ++ behind ≡ codes "#r" ++ blank ∷ more → IsTrue (is_blank blank) → is_blank byte ≡ true
-same_blank behind byte blank more f e h =
-    let first = first_is behind byte f in
-    let whole : behind ≡ blank ∷ more = append_cancel_left (codes "#r") behind (blank ∷ more) e in
+pub same_blank : (after : List ℕ) (byte blank : ℕ) (more : List ℕ) → Some byte ≡ slice_get after 0 → codes "#r" ++ after ≡ codes "#r" ++ blank ∷ more → IsTrue (is_blank blank) → is_blank byte ≡ true
+same_blank after byte blank more f e h =
+    let first = first_is after byte f in
+    let whole : after ≡ blank ∷ more = append_cancel_left (codes "#r") after (blank ∷ more) e in
     let same : byte ≡ blank = cc in
     rw same h
 
 -- after `#r` is none
-pub no_first : (behind : List ℕ) (blank : ℕ) (more : List ℕ) → None ≡ slice_get behind 0 → codes "#r" ++ behind ≡ codes "#r" ++ blank ∷ more → ⊥
-no_first behind blank more f e =
-    let whole : behind ≡ blank ∷ more = append_cancel_left (codes "#r") behind (blank ∷ more) e in
+pub no_first : (after : List ℕ) (blank : ℕ) (more : List ℕ) → None ≡ slice_get after 0 → codes "#r" ++ after ≡ codes "#r" ++ blank ∷ more → ⊥
+no_first after blank more f e =
+    let whole : after ≡ blank ∷ more = append_cancel_left (codes "#r") after (blank ∷ more) e in
     none-some blank (f ∙ ap (λ (l : List ℕ). slice_get l 0) whole)
 
 -- ---- one more line

@@ -8,7 +8,7 @@ use Rattle.std.proofs.lemmas.List.Sums.{sum_by_push, prefix_len-le-length}
 use Rattle.ca_plane.specs.declared.point.Point.{Point}
 use Rattle.ca_rle.specs.declared.item.Item.{Item}
 use Rattle.ca_rle.specs.Items.{tag_of, IsCount, Run}
-use Rattle.ca_rle.specs.Shown.{ends_row, rows_of, columns_of, cells_of, picture_behind}
+use Rattle.ca_rle.specs.Shown.{ends_row, rows_of, columns_of, cells_of, picture_after}
 use Rattle.ca_rle.specs.inner.Extent.{longest_of, live_count, live_cells, greatest_of}
 
 -- one more element at the end begins anew, or stands after what was there
@@ -46,20 +46,20 @@ columns_of-push is i =
     ]
 
 -- the cells of one more item stand after those of the others
-pub picture_behind-push : (corner : Point) (before is : List Item) (i : Item) → picture_behind corner before (is ++ i ∷ []) ≡ picture_behind corner before is ++ cells_of corner (before ++ is) i
-picture_behind-push corner before [] i = append-nil (cells_of corner before i) ∙ ap (λ b. cells_of corner b i) (sym (append-nil before))
-picture_behind-push corner before (j ∷ js) i =
-    ap (λ p. cells_of corner before j ++ p) (picture_behind-push corner (before ++ j ∷ []) js i)
-    ∙ sym (append_assoc (cells_of corner before j) (picture_behind corner (before ++ j ∷ []) js) (cells_of corner ((before ++ j ∷ []) ++ js) i))
-    ∙ ap (λ b. (cells_of corner before j ++ picture_behind corner (before ++ j ∷ []) js) ++ cells_of corner b i) (append_assoc before (j ∷ []) js)
+pub picture_after-push : (corner : Point) (before is : List Item) (i : Item) → picture_after corner before (is ++ i ∷ []) ≡ picture_after corner before is ++ cells_of corner (before ++ is) i
+picture_after-push corner before [] i = append-nil (cells_of corner before i) ∙ ap (λ b. cells_of corner b i) (sym (append-nil before))
+picture_after-push corner before (j ∷ js) i =
+    ap (λ p. cells_of corner before j ++ p) (picture_after-push corner (before ++ j ∷ []) js i)
+    ∙ sym (append_assoc (cells_of corner before j) (picture_after corner (before ++ j ∷ []) js) (cells_of corner ((before ++ j ∷ []) ++ js) i))
+    ∙ ap (λ b. (cells_of corner before j ++ picture_after corner (before ++ j ∷ []) js) ++ cells_of corner b i) (append_assoc before (j ∷ []) js)
 
 -- the cells of two parts stand one after the other
-pub picture_behind-append : (corner : Point) (before is js : List Item) → picture_behind corner before (is ++ js) ≡ picture_behind corner before is ++ picture_behind corner (before ++ is) js
-picture_behind-append corner before [] js = ap (λ b. picture_behind corner b js) (sym (append-nil before))
-picture_behind-append corner before (i ∷ is) js =
-    ap (λ p. cells_of corner before i ++ p) (picture_behind-append corner (before ++ i ∷ []) is js)
-    ∙ sym (append_assoc (cells_of corner before i) (picture_behind corner (before ++ i ∷ []) is) (picture_behind corner ((before ++ i ∷ []) ++ is) js))
-    ∙ ap (λ b. (cells_of corner before i ++ picture_behind corner (before ++ i ∷ []) is) ++ picture_behind corner b js) (append_assoc before (i ∷ []) is)
+pub picture_after-append : (corner : Point) (before is js : List Item) → picture_after corner before (is ++ js) ≡ picture_after corner before is ++ picture_after corner (before ++ is) js
+picture_after-append corner before [] js = ap (λ b. picture_after corner b js) (sym (append-nil before))
+picture_after-append corner before (i ∷ is) js =
+    ap (λ p. cells_of corner before i ++ p) (picture_after-append corner (before ++ i ∷ []) is js)
+    ∙ sym (append_assoc (cells_of corner before i) (picture_after corner (before ++ i ∷ []) is) (picture_after corner ((before ++ i ∷ []) ++ is) js))
+    ∙ ap (λ b. (cells_of corner before i ++ picture_after corner (before ++ i ∷ []) is) ++ picture_after corner b js) (append_assoc before (i ∷ []) is)
 
 -- the greatest count with one more item
 pub longest_of-push : (is : List Item) (i : Item) → longest_of (is ++ i ∷ []) ≡ max (longest_of is) i.count

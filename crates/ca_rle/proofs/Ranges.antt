@@ -7,11 +7,11 @@ use Rattle.std.proofs.lemmas.Int.{ints}
 use Rattle.ca_plane.specs.declared.point.Point.{Point}
 use Rattle.ca_rle.specs.declared.item.Item.{Item}
 use Rattle.ca_rle.specs.declared.extent.Extent.{Extent}
-use Rattle.ca_rle.specs.Shown.{state_of, rows_of, columns_of, run_of, place_behind, cells_of, picture_behind}
+use Rattle.ca_rle.specs.Shown.{state_of, rows_of, columns_of, run_of, place_after, cells_of, picture_after}
 use Rattle.ca_rle.specs.Limits.{IsWithinRange}
 use Rattle.ca_plane.specs.Limits.{IsInRange}
 use Rattle.ca_rle.specs.inner.BodyFaults.{bare_file}
-use Rattle.ca_rle.specs.inner.Extent.{longest_of, live_count, live_cells, columns_to, rows_to, right_behind, bottom_behind, kept_number, IsExtentOf, IsExtentInRange, HasRoom}
+use Rattle.ca_rle.specs.inner.Extent.{longest_of, live_count, live_cells, columns_to, rows_to, right_after, bottom_after, kept_number, IsExtentOf, IsExtentInRange, HasRoom}
 use Rattle.ca_rle.proofs.Spans.{all_run, all_append, length_run}
 
 -- ---- counts
@@ -62,7 +62,7 @@ item_in_range at i false room = run_in_range (state_of i.tag) at i.count (room r
 -- the place of an item has room for its cells, where they don't pass these columns and rows
 has_room : (corner : Point) (before : List Item) (i : Item) (right bottom : ℕ) → IsInRange corner
     → (corner.x +ℤ pos right) ≤ℤ pos (2 ^ 60) → (corner.y +ℤ pos bottom) ≤ℤ pos (2 ^ 60) → (state_of i.tag == 0) ≡ false → 0 < i.count → columns_to before i ≤ right → rows_to before i ≤ bottom
-    → HasRoom (place_behind corner before) i.count
+    → HasRoom (place_after corner before) i.count
 has_room corner before i right bottom start x y live some columns rows =
     let c : columns_of before + i.count ≤ right = rw live at columns in
     let r : rows_of before + 1 ≤ bottom = rw live at rows in
@@ -70,11 +70,11 @@ has_room corner before i right bottom start x y live some columns rows =
 
 -- cells that don't pass them are in range
 pub cells_in_range : (corner : Point) (before is : List Item) (right bottom : ℕ) → IsInRange corner → (corner.x +ℤ pos right) ≤ℤ pos (2 ^ 60) → (corner.y +ℤ pos bottom) ≤ℤ pos (2 ^ 60)
-    → AllByRecursion (λ i. 0 < i.count) is → right_behind before is ≤ right → bottom_behind before is ≤ bottom → AllByRecursion (λ e. IsInRange e.0) (picture_behind corner before is)
+    → AllByRecursion (λ i. 0 < i.count) is → right_after before is ≤ right → bottom_after before is ≤ bottom → AllByRecursion (λ e. IsInRange e.0) (picture_after corner before is)
 cells_in_range corner before [] right bottom start x y low r b = tt
 cells_in_range corner before (i ∷ is) right bottom start x y (some, low) r b =
-    all_append (λ e. IsInRange e.0) (cells_of corner before i) (picture_behind corner (before ++ i ∷ []) is)
-    (item_in_range (place_behind corner before) i (state_of i.tag == 0) (λ live. has_room corner before i right bottom start x y live some (omega (arith, r)) (omega (arith, b))))
+    all_append (λ e. IsInRange e.0) (cells_of corner before i) (picture_after corner (before ++ i ∷ []) is)
+    (item_in_range (place_after corner before) i (state_of i.tag == 0) (λ live. has_room corner before i right bottom start x y live some (omega (arith, r)) (omega (arith, b))))
     (cells_in_range corner (before ++ i ∷ []) is right bottom start x y low (omega (arith, r)) (omega (arith, b)))
 
 -- ---- back from cells
@@ -88,23 +88,23 @@ limit-max : (corner : ℤ) (a b : ℕ) → (corner +ℤ pos a) ≤ℤ pos (2 ^ 6
 limit-max corner a b h k = omega (arith, ints, h, k)
 
 -- an item in range has room for its live cells
-room_from : (corner : Point) (before : List Item) (i : Item) → 0 < i.count → AllByRecursion (λ e. IsInRange e.0) (cells_of corner before i) → (state_of i.tag == 0) ≡ false → HasRoom (place_behind corner before) i.count
-room_from corner before i some all live = run_has_room (state_of i.tag) (place_behind corner before) i.count some (rw live at all)
+room_from : (corner : Point) (before : List Item) (i : Item) → 0 < i.count → AllByRecursion (λ e. IsInRange e.0) (cells_of corner before i) → (state_of i.tag == 0) ≡ false → HasRoom (place_after corner before) i.count
+room_from corner before i some all live = run_has_room (state_of i.tag) (place_after corner before) i.count some (rw live at all)
 
 -- the columns and rows of cells in range
-pub right_in_range : (corner : Point) (before is : List Item) → IsInRange corner → AllByRecursion (λ i. 0 < i.count) is → AllByRecursion (λ e. IsInRange e.0) (picture_behind corner before is) → (corner.x +ℤ pos (right_behind before is)) ≤ℤ pos (2 ^ 60)
+pub right_in_range : (corner : Point) (before is : List Item) → IsInRange corner → AllByRecursion (λ i. 0 < i.count) is → AllByRecursion (λ e. IsInRange e.0) (picture_after corner before is) → (corner.x +ℤ pos (right_after before is)) ≤ℤ pos (2 ^ 60)
 right_in_range corner before [] start low all = omega (arith, ints, start.1)
 right_in_range corner before (i ∷ is) start (some, low) all =
-    let parts = all_parts (λ e. IsInRange e.0) (cells_of corner before i) (picture_behind corner (before ++ i ∷ []) is) all in
-    limit-max corner.x (columns_to before i) (right_behind (before ++ i ∷ []) is)
+    let parts = all_parts (λ e. IsInRange e.0) (cells_of corner before i) (picture_after corner (before ++ i ∷ []) is) all in
+    limit-max corner.x (columns_to before i) (right_after (before ++ i ∷ []) is)
     (limit-if corner.x (state_of i.tag == 0) (columns_of before + i.count) (omega (arith, ints, start.1)) (λ live. let room = room_from corner before i some parts.0 live in omega (arith, ints, room.1)))
     (right_in_range corner (before ++ i ∷ []) is start low parts.1)
 
-pub bottom_in_range : (corner : Point) (before is : List Item) → IsInRange corner → AllByRecursion (λ i. 0 < i.count) is → AllByRecursion (λ e. IsInRange e.0) (picture_behind corner before is) → (corner.y +ℤ pos (bottom_behind before is)) ≤ℤ pos (2 ^ 60)
+pub bottom_in_range : (corner : Point) (before is : List Item) → IsInRange corner → AllByRecursion (λ i. 0 < i.count) is → AllByRecursion (λ e. IsInRange e.0) (picture_after corner before is) → (corner.y +ℤ pos (bottom_after before is)) ≤ℤ pos (2 ^ 60)
 bottom_in_range corner before [] start low all = omega (arith, ints, start.3)
 bottom_in_range corner before (i ∷ is) start (some, low) all =
-    let parts = all_parts (λ e. IsInRange e.0) (cells_of corner before i) (picture_behind corner (before ++ i ∷ []) is) all in
-    limit-max corner.y (rows_to before i) (bottom_behind (before ++ i ∷ []) is)
+    let parts = all_parts (λ e. IsInRange e.0) (cells_of corner before i) (picture_after corner (before ++ i ∷ []) is) all in
+    limit-max corner.y (rows_to before i) (bottom_after (before ++ i ∷ []) is)
     (limit-if corner.y (state_of i.tag == 0) (rows_of before + 1) (omega (arith, ints, start.3)) (λ live. let room = room_from corner before i some parts.0 live in omega (arith, ints, room.0.3)))
     (bottom_in_range corner (before ++ i ∷ []) is start low parts.1)
 
@@ -117,8 +117,8 @@ near corner n m low e h = omega (arith, ints, low, e, h)
 -- items whose extent is in range are
 pub within_range : (corner : Point) (items : List Item) (e : Extent) → AllByRecursion (λ i. 0 < i.count) items → IsExtentOf items e → IsExtentInRange e corner → IsWithinRange (bare_file corner items)
 within_range corner items e low reach range =
-    let right = near corner.x e.right (right_behind [] items) range.start.0 reach.right range.right in
-    let bottom = near corner.y e.bottom (bottom_behind [] items) range.start.2 reach.bottom range.bottom in
+    let right = near corner.x e.right (right_after [] items) range.start.0 reach.right range.right in
+    let bottom = near corner.y e.bottom (bottom_after [] items) range.start.2 reach.bottom range.bottom in
     record {
       counts = counts_from (2 ^ 62) items (omega (arith, reach.longest, range.counts));
       corner = range.start;
@@ -135,8 +135,8 @@ extent_in_range corner items e low reach range =
     record {
       counts = let longest = longest_from (2 ^ 62) items range.counts in omega (arith, reach.longest, longest);
       start = range.corner;
-      right = kept-le corner.x e.right (right_behind [] items) reach.right (right_in_range corner [] items range.corner low range.cells);
-      bottom = kept-le corner.y e.bottom (bottom_behind [] items) reach.bottom (bottom_in_range corner [] items range.corner low range.cells);
+      right = kept-le corner.x e.right (right_after [] items) reach.right (right_in_range corner [] items range.corner low range.cells);
+      bottom = kept-le corner.y e.bottom (bottom_after [] items) reach.bottom (bottom_in_range corner [] items range.corner low range.cells);
     }
 
 -- ---- how many cells there are
@@ -146,9 +146,9 @@ live_length at i true = refl
 live_length at i false = length_run _ 0 i.count
 
 -- a picture has as many cells as its items have live ones
-pub length-picture : (corner : Point) (before is : List Item) → length (picture_behind corner before is) ≡ live_cells is
+pub length-picture : (corner : Point) (before is : List Item) → length (picture_after corner before is) ≡ live_cells is
 length-picture corner before [] = refl
 length-picture corner before (i ∷ is) =
-    let here : length (cells_of corner before i) ≡ live_count i = live_length (place_behind corner before) i (state_of i.tag == 0) in
+    let here : length (cells_of corner before i) ≡ live_count i = live_length (place_after corner before) i (state_of i.tag == 0) in
     let later = length-picture corner (before ++ i ∷ []) is in
-    omega (arith, length-append (cells_of corner before i) (picture_behind corner (before ++ i ∷ []) is), sum_by-cons live_count i is, here, later)
+    omega (arith, length-append (cells_of corner before i) (picture_after corner (before ++ i ∷ []) is), sum_by-cons live_count i is, here, later)

@@ -24,30 +24,30 @@ chosen true x y z e = inl (refl, e)
 chosen false x y z e = inr (refl, e)
 
 -- what is not empty after white space follows white space
-pub behind_follows : (place : Place) (bytes : List ℕ) (c : ℕ) (more : List ℕ) → after_white place bytes ≡ c ∷ more → BeginsWhite place bytes (c ∷ more)
-behind_follows AtStart [] c more e = absurd cc
-behind_follows InLine [] c more e = absurd cc
-behind_follows InComment [] c more e = absurd cc
-behind_follows AtStart (b ∷ bs) c more e =
+pub after_follows : (place : Place) (bytes : List ℕ) (c : ℕ) (more : List ℕ) → after_white place bytes ≡ c ∷ more → BeginsWhite place bytes (c ∷ more)
+after_follows AtStart [] c more e = absurd cc
+after_follows InLine [] c more e = absurd cc
+after_follows InComment [] c more e = absurd cc
+after_follows AtStart (b ∷ bs) c more e =
     elim (chosen (is_line_end b || is_blank b) _ _ _ e) [
-      | inl w ↦ byte_more AtStart AtStart b bs (c ∷ more) (λ l. rw w.0) (behind_follows AtStart bs c more w.1)
+      | inl w ↦ byte_more AtStart AtStart b bs (c ∷ more) (λ l. rw w.0) (after_follows AtStart bs c more w.1)
       | inr n ↦ elim (chosen (b == 35) _ _ _ n.1) [
-        | inl w ↦ byte_more AtStart InComment b bs (c ∷ more) (λ l. rw (n.0, w.0)) (behind_follows InComment bs c more w.1)
+        | inl w ↦ byte_more AtStart InComment b bs (c ∷ more) (λ l. rw (n.0, w.0)) (after_follows InComment bs c more w.1)
         | inr here ↦ ([], refl, here.1)
       ]
     ]
-behind_follows InLine (b ∷ bs) c more e =
+after_follows InLine (b ∷ bs) c more e =
     elim (chosen (is_line_end b) _ _ _ e) [
-      | inl w ↦ byte_more InLine AtStart b bs (c ∷ more) (λ l. rw w.0) (behind_follows AtStart bs c more w.1)
+      | inl w ↦ byte_more InLine AtStart b bs (c ∷ more) (λ l. rw w.0) (after_follows AtStart bs c more w.1)
       | inr n ↦ elim (chosen (is_blank b) _ _ _ n.1) [
-        | inl w ↦ byte_more InLine InLine b bs (c ∷ more) (λ l. rw (n.0, w.0)) (behind_follows InLine bs c more w.1)
+        | inl w ↦ byte_more InLine InLine b bs (c ∷ more) (λ l. rw (n.0, w.0)) (after_follows InLine bs c more w.1)
         | inr here ↦ ([], refl, here.1)
       ]
     ]
-behind_follows InComment (b ∷ bs) c more e =
+after_follows InComment (b ∷ bs) c more e =
     elim (chosen (is_line_end b) _ _ _ e) [
-      | inl w ↦ byte_more InComment AtStart b bs (c ∷ more) (λ l. rw w.0) (behind_follows AtStart bs c more w.1)
-      | inr w ↦ byte_more InComment InComment b bs (c ∷ more) (λ l. rw w.0) (behind_follows InComment bs c more w.1)
+      | inl w ↦ byte_more InComment AtStart b bs (c ∷ more) (λ l. rw w.0) (after_follows AtStart bs c more w.1)
+      | inr w ↦ byte_more InComment InComment b bs (c ∷ more) (λ l. rw w.0) (after_follows InComment bs c more w.1)
     ]
 
 -- ---- tags and counts
@@ -85,14 +85,14 @@ StandsBefore i bytes more = (front : List ℕ) × IsItem front i × (bytes ≡ f
 regroup : (before digits between letters more : List ℕ) → before ++ (digits ++ (between ++ (letters ++ more))) ≡ (before ++ (digits ++ (between ++ letters))) ++ more
 regroup before digits between letters more = simp append_assoc
 
-found_behind : (bytes seen : List ℕ) (i : Item) (more : List ℕ) → after_white InLine bytes ≡ seen → counted (count_of (front is_digit seen)) (tag_at (after_white InLine (rest is_digit seen))) ≡ Some (i, more) → 0 < i.count → StandsBefore i bytes more
-found_behind bytes [] i more e h pos = absurd cc
-found_behind bytes (c ∷ cs) i more e h pos =
-    let outer = behind_follows InLine bytes c cs e in
+found_after : (bytes seen : List ℕ) (i : Item) (more : List ℕ) → after_white InLine bytes ≡ seen → counted (count_of (front is_digit seen)) (tag_at (after_white InLine (rest is_digit seen))) ≡ Some (i, more) → 0 < i.count → StandsBefore i bytes more
+found_after bytes [] i more e h pos = absurd cc
+found_after bytes (c ∷ cs) i more e h pos =
+    let outer = after_follows InLine bytes c cs e in
     let read = counted_some _ _ i more h in
     let digits = front is_digit (c ∷ cs) in
     let letters = tag_found _ i.tag more read.0 in
-    let inner = behind_follows InLine (rest is_digit (c ∷ cs)) letters.0 (letters.1 ++ more) letters.3 in
+    let inner = after_follows InLine (rest is_digit (c ∷ cs)) letters.0 (letters.1 ++ more) letters.3 in
     let whole : bytes ≡ outer.0 ++ (digits ++ (inner.0 ++ (letters.0 ∷ letters.1 ++ more))) = outer.2 ∙ ap (λ (l : List ℕ). outer.0 ++ l) (sym (front_then_rest is_digit (c ∷ cs)) ∙ ap (λ (l : List ℕ). digits ++ l) inner.2) in (
       outer.0 ++ (digits ++ (inner.0 ++ letters.0 ∷ letters.1)),
       (outer.0, digits, inner.0, letters.0 ∷ letters.1, outer.1, count_found digits i.count (every_front is_digit (c ∷ cs)) read.1 pos, inner.1, letters.2, refl),
@@ -101,11 +101,11 @@ found_behind bytes (c ∷ cs) i more e h pos =
 
 -- the item that is read at the front stands there, if its count isn't 0
 pub item_found : (bytes : List ℕ) (i : Item) (more : List ℕ) → item_at bytes ≡ Some (i, more) → 0 < i.count → StandsBefore i bytes more
-item_found bytes i more = found_behind bytes (after_white InLine bytes) i more refl
+item_found bytes i more = found_after bytes (after_white InLine bytes) i more refl
 
 -- `!` after white space is an end
 pub end_found : (bytes ignored : List ℕ) → after_white InLine bytes ≡ 33 ∷ ignored → IsEnd bytes
-end_found bytes ignored e = let b = behind_follows InLine bytes 33 ignored e in (b.0, ignored, b.1, b.2)
+end_found bytes ignored e = let b = after_follows InLine bytes 33 ignored e in (b.0, ignored, b.1, b.2)
 
 -- a run is an item and then a run
 pub run_found : (bytes more rest : List ℕ) (i : Item) (is : List Item) → item_at bytes ≡ Some (i, more) → 0 < i.count → Run more is rest → Run bytes (i ∷ is) rest

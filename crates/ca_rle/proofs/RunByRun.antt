@@ -17,7 +17,7 @@ use Rattle.ca_plane.proofs.Pictures.{IsListed-at, point-same}
 use Rattle.ca_rle.specs.declared.item.Item.{Item}
 use Rattle.ca_rle.specs.declared.item.Tag.TheVariants.{Cell}
 use Rattle.ca_rle.specs.declared.write.runs.Run.{Run}
-use Rattle.ca_rle.specs.Shown.{place_behind, run_of, picture_of}
+use Rattle.ca_rle.specs.Shown.{place_after, run_of, picture_of}
 use Rattle.ca_rle.specs.Tidy.{AreTidy}
 use Rattle.ca_rle.specs.inner.Written.{IsGap}
 use Rattle.ca_rle.proofs.Gaps.{PutsGap, item_of, AreBefore, place-cells, place-gap, cells-gap, cells-run, before-first, before-next, tidy-end}
@@ -58,14 +58,14 @@ all_ahead p at [] row column less = tt
 all_ahead p at (q ∷ qs) row column less = (less_ahead p q at less.0 row column, all_ahead p at qs row column less.1)
 
 -- what is sorted stays so without its first
-sorted_behind : (xs rest : Picture) → IsStrictlySortedBy point_cmp (map (λ e. e.0) (xs ++ rest)) → IsStrictlySortedBy point_cmp (map (λ e. e.0) rest)
-sorted_behind [] rest sorted = sorted
-sorted_behind (x ∷ xs) rest sorted = sorted_behind xs rest (sorted_tail point_cmp _ _ sorted)
+sorted_after : (xs rest : Picture) → IsStrictlySortedBy point_cmp (map (λ e. e.0) (xs ++ rest)) → IsStrictlySortedBy point_cmp (map (λ e. e.0) rest)
+sorted_after [] rest sorted = sorted
+sorted_after (x ∷ xs) rest sorted = sorted_after xs rest (sorted_tail point_cmp _ _ sorted)
 
 -- after a cell of a sparse picture all others are ahead of the place after it
-pub ahead_behind : (p xs u : Picture) (e : Point × ℕ) (at : Point) → IsSparse p → p ≡ xs ++ e ∷ u → at.y ≡ e.0.y → at.x ≡ e.0.x +ℤ pos 1 → AreAhead at u
-ahead_behind p xs u e at sparse split row column =
-    let sorted = sorted_behind xs (e ∷ u) (subst (λ (q : Picture). IsStrictlySortedBy point_cmp (map (λ f. f.0) q)) split sparse.rising) in
+pub ahead_after : (p xs u : Picture) (e : Point × ℕ) (at : Point) → IsSparse p → p ≡ xs ++ e ∷ u → at.y ≡ e.0.y → at.x ≡ e.0.x +ℤ pos 1 → AreAhead at u
+ahead_after p xs u e at sparse split row column =
+    let sorted = sorted_after xs (e ∷ u) (subst (λ (q : Picture). IsStrictlySortedBy point_cmp (map (λ f. f.0) q)) split sparse.rising) in
     all_ahead e.0 at (map (λ f. f.0) u) row column (sorted_head point_cmp _ _ sorted)
 
 -- ---- runs
@@ -76,7 +76,7 @@ pub record IsReadTo (corner : Point) (items : List Item) (run : Run) (seen : Pic
   pub some : 0 < count
   pub past : run.past ≡ run.from.x +ℤ pos count
   pub live : 0 < run.state
-  pub place : place_behind corner items ≡ run.from
+  pub place : place_after corner items ≡ run.from
   pub before : AreBefore items (Cell run.state)
   pub cells : seen ≡ picture_of corner items ++ run_of run.state run.from count
 
@@ -159,15 +159,15 @@ run_shown corner items run seen read =
     cells-run corner items run.state read.count read.live ∙ ap (λ (at : Point). picture_of corner items ++ run_of run.state at read.count) read.place ∙ sym read.cells
 
 -- the next run
-next_run : (corner : Point) (items gap : List Item) (run next : Run) (seen : Picture) (e : Point × ℕ) (item : Item) (behind : Point) → IsReadTo corner items run seen
-    → item.tag ≡ Cell run.state → run.past ≡ run.from.x +ℤ pos item.count → behind.y ≡ run.from.y → behind.x ≡ run.past
-    → IsGap corner.x behind e.0 gap → 0 < e.1 → (e.0 ≡ behind → run.state ≢ e.1)
+next_run : (corner : Point) (items gap : List Item) (run next : Run) (seen : Picture) (e : Point × ℕ) (item : Item) (after : Point) → IsReadTo corner items run seen
+    → item.tag ≡ Cell run.state → run.past ≡ run.from.x +ℤ pos item.count → after.y ≡ run.from.y → after.x ≡ run.past
+    → IsGap corner.x after e.0 gap → 0 < e.1 → (e.0 ≡ after → run.state ≢ e.1)
     → next.from ≡ e.0 → next.past ≡ e.0.x +ℤ pos 1 → next.state ≡ e.1
     → IsReadTo corner ((items ++ item ∷ []) ++ gap) next (seen ++ e ∷ [])
-next_run corner items gap run next seen e item behind read tag count row column leads live apart from past state =
+next_run corner items gap run next seen e item after read tag count row column leads live apart from past state =
     let here = item_of (Cell run.state) read.count in
     let whole = items ++ here ∷ [] in
-    let place : place_behind corner whole ≡ behind =
+    let place : place_after corner whole ≡ after =
     place-cells corner items run.state read.count ∙ ap (λ (at : Point). let made : Point = record { y = at.y; x = at.x +ℤ pos read.count } in made) read.place
     ∙ point-same _ _ (sym row) (omega (arith, ints, column, read.past))
     in
@@ -176,10 +176,10 @@ next_run corner items gap run next seen e item behind read tag count row column 
       some = omega arith;
       past = refl;
       live = live;
-      place = place-gap corner behind e.0 whole gap place leads;
-      before = before-next corner.x behind e.0 items gap run.state read.count e.1 read.before read.live read.some leads live apart;
+      place = place-gap corner after e.0 whole gap place leads;
+      before = before-next corner.x after e.0 items gap run.state read.count e.1 read.before read.live read.some leads live apart;
       cells =
-          ap (λ (p : Picture). p ++ e ∷ []) (sym (cells-gap corner behind e.0 corner.x whole gap leads ∙ run_shown corner items run seen read))
+          ap (λ (p : Picture). p ++ e ∷ []) (sym (cells-gap corner after e.0 corner.x whole gap leads ∙ run_shown corner items run seen read))
           ∙ ap (λ (p : Picture). picture_of corner (whole ++ gap) ++ p) (run_one e);
     }
     in
@@ -194,14 +194,14 @@ read-first corner left none items run e at empty (gap, leads, put) live from pas
     (first_run corner gap run e (subst (λ (x : ℤ). IsGap x corner e.0 gap) at leads) live from past state)
 
 -- the next run, after a gap that was put after the item of the one before
-pub read-next : (corner : Point) (left : ℤ) (items mid new : List Item) (run next : Run) (seen : Picture) (e : Point × ℕ) (item : Item) (behind : Point) → IsReadTo corner items run seen
-    → item.tag ≡ Cell run.state → run.past ≡ run.from.x +ℤ pos item.count → behind.y ≡ run.from.y → behind.x ≡ run.past → mid ≡ items ++ item ∷ []
-    → left ≡ corner.x → PutsGap left behind e.0 mid new → 0 < e.1 → (e.0.y ≡ run.from.y → e.0.x ≡ run.past → e.1 ≢ run.state)
+pub read-next : (corner : Point) (left : ℤ) (items mid new : List Item) (run next : Run) (seen : Picture) (e : Point × ℕ) (item : Item) (after : Point) → IsReadTo corner items run seen
+    → item.tag ≡ Cell run.state → run.past ≡ run.from.x +ℤ pos item.count → after.y ≡ run.from.y → after.x ≡ run.past → mid ≡ items ++ item ∷ []
+    → left ≡ corner.x → PutsGap left after e.0 mid new → 0 < e.1 → (e.0.y ≡ run.from.y → e.0.x ≡ run.past → e.1 ≢ run.state)
     → next.from ≡ e.0 → next.past ≡ e.0.x +ℤ pos 1 → next.state ≡ e.1
     → IsReadTo corner new next (seen ++ e ∷ [])
-read-next corner left items mid new run next seen e item behind read tag count row column pushed at (gap, leads, put) live apart from past state =
+read-next corner left items mid new run next seen e item after read tag count row column pushed at (gap, leads, put) live apart from past state =
     subst (λ (l : List Item). IsReadTo corner l next (seen ++ e ∷ [])) (sym (put ∙ ap (λ (l : List Item). l ++ gap) pushed))
-    (next_run corner items gap run next seen e item behind read tag count row column (subst (λ (x : ℤ). IsGap x behind e.0 gap) at leads) live
+    (next_run corner items gap run next seen e item after read tag count row column (subst (λ (x : ℤ). IsGap x after e.0 gap) at leads) live
     (λ same z. apart (ap (λ (p : Point). p.y) same ∙ row) (ap (λ (p : Point). p.x) same ∙ column) (sym z)) from past state)
 
 -- the last run
@@ -265,7 +265,7 @@ pub before-first_run : (p t u : Picture) (corner : Point) (items : List Item) (r
     → run.from.y ≡ e.0.y → run.past ≡ e.0.x +ℤ pos 1 → IsReadTo corner items run (e ∷ []) → IsReadBefore p corner items run u
 before-first_run p t u corner items run r e sparse start some step row past read =
     let split = first_split p t u r e start some step in
-    record { seen = e ∷ []; split = split; read = read; ahead = ahead_behind p [] u e _ sparse split row past }
+    record { seen = e ∷ []; split = split; read = read; ahead = ahead_after p [] u e _ sparse split row past }
 
 -- after one more cell
 pub before-turn : (p t u : Picture) (corner : Point) (items new : List Item) (run next : Run) (r : Option (Point × ℕ)) (e : Point × ℕ) → IsSparse p → (before : IsReadBefore p corner items run t)
@@ -276,7 +276,7 @@ before-turn p t u corner items new run next r e sparse before some step row past
       seen = before.seen ++ e ∷ [];
       split = split ∙ sym (append_assoc before.seen (e ∷ []) u);
       read = read;
-      ahead = ahead_behind p before.seen u e _ sparse split row past;
+      ahead = ahead_after p before.seen u e _ sparse split row past;
     }
 
 -- after the last cell

@@ -47,13 +47,13 @@ cell-before-zero [] p x y h = h
 cell-before-zero (e ∷ es) p x y h = ap (λ s. if int_eq y e.0.y && int_eq x e.0.x then e.1 else s) (cell-before-zero es p x y h)
 
 -- one that the earlier shows as 0 is as in the later, where the earlier lists no state 0
-pub cell-behind-zero : (p r : Picture) (x y : ℤ) → IsPicture p → cell p x y ≡ 0 → cell (p ++ r) x y ≡ cell r x y
-cell-behind-zero [] r x y states h = refl
-cell-behind-zero (e ∷ es) r x y states h =
+pub cell-after-zero : (p r : Picture) (x y : ℤ) → IsPicture p → cell p x y ≡ 0 → cell (p ++ r) x y ≡ cell r x y
+cell-after-zero [] r x y states h = refl
+cell-after-zero (e ∷ es) r x y states h =
     let low = (All-head (λ e. (1 ≤ e.1) × (e.1 ≤ 255)) e es states).0 in
     elim (cases_Bool (int_eq y e.0.y && int_eq x e.0.x)) [
       | inl t ↦ absurd (omega (arith, low, (rw t at h)))
-      | inr t ↦ rw t (cell-behind-zero es r x y (All-tail (λ e. (1 ≤ e.1) × (e.1 ≤ 255)) e es states) (rw t at h))
+      | inr t ↦ rw t (cell-after-zero es r x y (All-tail (λ e. (1 ≤ e.1) × (e.1 ≤ 255)) e es states) (rw t at h))
     ]
 
 -- one that the earlier shows as another state is as in the earlier
@@ -79,10 +79,10 @@ cell-apart p state at (k ∷ ks) x y clear h =
     ]
 
 -- a run at such places may stand before the picture or after it
-pub run_behind : (p : Picture) (state : ℕ) (at : Point) (n : ℕ) → IsPicture p → ((k : ℕ) → cell p (at.x +ℤ pos k) at.y ≡ 0) → IsSame (run_of state at n ++ p) (p ++ run_of state at n)
-run_behind p state at n states clear x y =
+pub run_after : (p : Picture) (state : ℕ) (at : Point) (n : ℕ) → IsPicture p → ((k : ℕ) → cell p (at.x +ℤ pos k) at.y ≡ 0) → IsSame (run_of state at n ++ p) (p ++ run_of state at n)
+run_after p state at n states clear x y =
     elim (cases_eq (cell p x y) 0) [
-      | inl e ↦ cell-before-zero (run_of state at n) p x y e ∙ sym (cell-behind-zero p (run_of state at n) x y states e)
+      | inl e ↦ cell-before-zero (run_of state at n) p x y e ∙ sym (cell-after-zero p (run_of state at n) x y states e)
       | inr h ↦ cell-apart p state at (range_with_len 0 n) x y clear h ∙ sym (cell-front p (run_of state at n) x y h)
     ]
 

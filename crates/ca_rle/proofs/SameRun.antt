@@ -14,11 +14,11 @@ run_then bytes middle rest [] js r s = subst (λ (l : List ℕ). Run l js rest) 
 run_then bytes middle rest (i ∷ is) js (front, more, item, later, e) s = (front, more, item, run_then more middle rest is js later s, e)
 
 -- after the first items of a run stand its others
-pub run_behind : (bytes middle rest : List ℕ) (is js : List Item) → Run bytes is middle → Run bytes (is ++ js) rest → Run middle js rest
-run_behind bytes middle rest [] js r s = subst (λ (l : List ℕ). Run l js rest) r s
-run_behind bytes middle rest (i ∷ is) js (a, m, p, r, d) (b, n, q, s, e) =
+pub run_after : (bytes middle rest : List ℕ) (is js : List Item) → Run bytes is middle → Run bytes (is ++ js) rest → Run middle js rest
+run_after bytes middle rest [] js r s = subst (λ (l : List ℕ). Run l js rest) r s
+run_after bytes middle rest (i ∷ is) js (a, m, p, r, d) (b, n, q, s, e) =
     let same = one_item a b m n i i p q (sym d ∙ e) in
-    run_behind m middle rest is js r (subst (λ (l : List ℕ). Run l (is ++ js) rest) (sym same.1) s)
+    run_after m middle rest is js r (subst (λ (l : List ℕ). Run l (is ++ js) rest) (sym same.1) s)
 
 -- after the same items stands the same rest
 pub one_rest : (bytes rest last : List ℕ) (is : List Item) → Run bytes is rest → Run bytes is last → rest ≡ last
@@ -31,8 +31,8 @@ one_rest bytes rest last (i ∷ is) (a, m, p, r, d) (b, n, q, s, e) =
 abbrev pub GoesOn : List ℕ → List Item → List ℕ → List Item → Type 0
 GoesOn middle is rest js = (others : List Item) × (js ≡ is ++ others) × Run middle others rest
 
-goes_on_behind : (i j : Item) (is js : List Item) (m n : List ℕ) → i ≡ j → GoesOn m is n js → GoesOn m (i ∷ is) n (j ∷ js)
-goes_on_behind i j is js m n e (others, d, r) = (others, ap₂ (λ (k : Item) (ks : List Item). k ∷ ks) (sym e) d, r)
+goes_on_after : (i j : Item) (is js : List Item) (m n : List ℕ) → i ≡ j → GoesOn m is n js → GoesOn m (i ∷ is) n (j ∷ js)
+goes_on_after i j is js m n e (others, d, r) = (others, ap₂ (λ (k : Item) (ks : List Item). k ∷ ks) (sym e) d, r)
 
 -- of two runs in front of the same bytes one goes on where the other ends
 pub two_runs : (bytes m n : List ℕ) (is js : List Item) → Run bytes is m → Run bytes js n → GoesOn m is n js ⊎ GoesOn n js m is
@@ -41,8 +41,8 @@ two_runs bytes m n (i ∷ is) [] r s = inr (i ∷ is, refl, subst (λ (l : List 
 two_runs bytes m n (i ∷ is) (j ∷ js) (a, k, p, r, d) (b, l, q, s, e) =
     let same = one_item a b k l i j p q (sym d ∙ e) in
     elim (two_runs k m n is js r (subst (λ (x : List ℕ). Run x js n) (sym same.1) s)) [
-      | inl g ↦ inl (goes_on_behind i j is js m n same.0 g)
-      | inr g ↦ inr (goes_on_behind j i js is n m (sym same.0) g)
+      | inl g ↦ inl (goes_on_after i j is js m n same.0 g)
+      | inr g ↦ inr (goes_on_after j i js is n m (sym same.0) g)
     ]
 
 -- where the bytes have a fault, no item stands

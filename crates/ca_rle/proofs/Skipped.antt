@@ -65,19 +65,19 @@ other_line (b ∷ bs) h k =
     ]
 
 -- what stands after a line's blanks is read on, if it is no comment
-pub line_start : (bytes behind : List ℕ) → behind ≡ rest is_blank bytes → starts_with nat_eq behind (35 ∷ []) ≡ false → after_white AtStart bytes ≡ after_white InLine behind
-line_start bytes behind e h =
-    start_blanks bytes ∙ ap (after_white AtStart) (sym e) ∙ other_line behind (ap (is_end_or (λ b. not (is_blank b))) e ∙ rest_ends is_blank bytes) h
+pub line_start : (bytes after : List ℕ) → after ≡ rest is_blank bytes → starts_with nat_eq after (35 ∷ []) ≡ false → after_white AtStart bytes ≡ after_white InLine after
+line_start bytes after e h =
+    start_blanks bytes ∙ ap (after_white AtStart) (sym e) ∙ other_line after (ap (is_end_or (λ b. not (is_blank b))) e ∙ rest_ends is_blank bytes) h
 
 -- and a comment is skipped whole
-pub comment_start : (bytes behind end : List ℕ) → behind ≡ rest is_blank bytes → starts_with nat_eq behind (35 ∷ []) ≡ true → end ≡ rest (λ b. not (is_line_end b)) behind → after_white AtStart bytes ≡ after_white InLine end
-comment_start bytes behind end e h f = start_blanks bytes ∙ ap (after_white AtStart) (sym e) ∙ hash_line behind h ∙ ap (after_white InLine) (sym f)
+pub comment_start : (bytes after end : List ℕ) → after ≡ rest is_blank bytes → starts_with nat_eq after (35 ∷ []) ≡ true → end ≡ rest (λ b. not (is_line_end b)) after → after_white AtStart bytes ≡ after_white InLine end
+comment_start bytes after end e h f = start_blanks bytes ∙ ap (after_white AtStart) (sym e) ∙ hash_line after h ∙ ap (after_white InLine) (sym f)
 
 -- no blank stands where a line ends
 pub no_blank_at_end : (bytes : List ℕ) → is_end_or (λ b. not (is_blank b)) (rest (λ b. not (is_line_end b)) bytes) ≡ true
 no_blank_at_end bytes = at_end (rest (λ b. not (is_line_end b)) bytes) (rest_ends (λ b. not (is_line_end b)) bytes)
   where
-    at_end : (behind : List ℕ) → is_end_or (λ b. not (not (is_line_end b))) behind ≡ true → is_end_or (λ b. not (is_blank b)) behind ≡ true
+    at_end : (after : List ℕ) → is_end_or (λ b. not (not (is_line_end b))) after ≡ true → is_end_or (λ b. not (is_blank b)) after ≡ true
     at_end [] h = refl
     at_end (b ∷ bs) h = grind (arith, nat_tests)
 

@@ -5,7 +5,7 @@ use Rattle.std.proofs.lemmas.List.Sums.{sum_by-cons, sum_by_push, sum_by-take-dr
 use Rattle.std.proofs.lemmas.Int.{ints}
 use Rattle.ca_plane.specs.declared.point.Point.{Point}
 use Rattle.ca_rle.specs.declared.item.Item.{Item}
-use Rattle.ca_rle.specs.Shown.{ends_row, state_of, rows_of, columns_of, run_of, place_behind, cells_of, picture_behind}
+use Rattle.ca_rle.specs.Shown.{ends_row, state_of, rows_of, columns_of, run_of, place_after, cells_of, picture_after}
 use Rattle.ca_plane.specs.Limits.{IsInRange}
 
 -- the sum of all counts
@@ -47,14 +47,14 @@ length_if true xs = omega arith
 length_if false xs = omega arith
 
 -- a picture has no more cells than its counts make
-pub picture_length : (corner : Point) (before is : List Item) → length (picture_behind corner before is) ≤ span is
+pub picture_length : (corner : Point) (before is : List Item) → length (picture_after corner before is) ≤ span is
 picture_length corner before [] = omega arith
 picture_length corner before (i ∷ is) =
-    let run = run_of (state_of i.tag) (place_behind corner before) i.count in
+    let run = run_of (state_of i.tag) (place_after corner before) i.count in
     let here : length (cells_of corner before i) ≤ length run = length_if (state_of i.tag == 0) run in
     let each : length run ≡ i.count = length_run _ 0 i.count in
     let later = picture_length corner (before ++ i ∷ []) is in
-    omega (arith, length-append (cells_of corner before i) (picture_behind corner (before ++ i ∷ []) is), sum_by-cons (λ (j : Item). j.count) i is)
+    omega (arith, length-append (cells_of corner before i) (picture_after corner (before ++ i ∷ []) is), sum_by-cons (λ (j : Item). j.count) i is)
 
 abbrev pub origin : Point
 origin = record { y = pos 0; x = pos 0 }
@@ -63,13 +63,13 @@ near : (r c k : ℕ) → r < 2 ^ 60 → c + k < 2 ^ 60 → IsInRange (record { y
 near r c k h l = (omega (arith, ints), omega (arith, ints), omega (arith, ints), omega (arith, ints))
 
 -- from the origin each cell is in range, where all counts together are below 2^60
-pub cells_in_range : (before is : List Item) → span before + span is < 2 ^ 60 → AllByRecursion (λ e. IsInRange e.0) (picture_behind origin before is)
+pub cells_in_range : (before is : List Item) → span before + span is < 2 ^ 60 → AllByRecursion (λ e. IsInRange e.0) (picture_after origin before is)
 cells_in_range before [] h = tt
 cells_in_range before (i ∷ is) h =
     let cons = sum_by-cons (λ (j : Item). j.count) i is in
     let push = sum_by_push (λ (j : Item). j.count) before i in
     let rows = rows_within before in
     let columns = columns_within before in
-    all_append _ (cells_of origin before i) (picture_behind origin (before ++ i ∷ []) is)
+    all_append _ (cells_of origin before i) (picture_after origin (before ++ i ∷ []) is)
     (all_if _ (state_of i.tag == 0) _ (all_run _ _ 0 i.count (λ k l. near (rows_of before) (columns_of before) k (omega arith) (omega arith))))
     (cells_in_range (before ++ i ∷ []) is (omega arith))

@@ -56,10 +56,10 @@ split_pair bytes a b x e h =
     (ap (front (λ c. not (c == 44))) e ∙ front_append (λ c. not (c == 44)) a (44 ∷ b) clear refl, ap (rest (λ c. not (c == 44))) e ∙ rest_append (λ c. not (c == 44)) a (44 ∷ b) clear refl)
 
 -- the pair is that of the numbers on both sides of the first comma, as they were read
-pub writes_pair : (bytes behind : List ℕ) (p : Point) → rest (λ c. not (c == 44)) bytes ≡ 44 ∷ behind → Writes (front (λ c. not (c == 44)) bytes) p.x → Writes behind p.y → WritesPair bytes p
-writes_pair bytes behind p e x y =
+pub writes_pair : (bytes after : List ℕ) (p : Point) → rest (λ c. not (c == 44)) bytes ≡ 44 ∷ after → Writes (front (λ c. not (c == 44)) bytes) p.x → Writes after p.y → WritesPair bytes p
+writes_pair bytes after p e x y =
     let before = front (λ c. not (c == 44)) bytes in
-    (before, behind, sym (front_then_rest (λ c. not (c == 44)) bytes) ∙ ap (λ (l : List ℕ). before ++ l) e, x, y)
+    (before, after, sym (front_then_rest (λ c. not (c == 44)) bytes) ∙ ap (λ (l : List ℕ). before ++ l) e, x, y)
 
 -- a number is kept in 64 bits
 pub kept_in_bits : (bytes : List ℕ) (n m : ℤ) → Writes bytes n → m ≡ to_z w64 (of_z w64 n) → Writes bytes m

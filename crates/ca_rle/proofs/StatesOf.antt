@@ -6,14 +6,14 @@ use Rattle.std.proofs.lemmas.List.Elements.{All-head, All-tail}
 use Rattle.ca_plane.specs.declared.point.Point.{Point}
 use Rattle.ca_plane.specs.Plane.{Picture, IsPicture}
 use Rattle.ca_rle.specs.declared.item.Item.{Item}
-use Rattle.ca_rle.specs.Shown.{state_of, run_of, place_behind, cells_of, picture_behind, picture_of}
+use Rattle.ca_rle.specs.Shown.{state_of, run_of, place_after, cells_of, picture_after, picture_of}
 use Rattle.ca_rle.specs.Tidy.{AreTidy, HaveStates}
 use Rattle.ca_rle.proofs.Gaps.{nonzero}
 
 -- what holds of all holds of those after
-all_behind : {X : Type 0} (P : X → Type 0) (xs ys : List X) → All P (xs ++ ys) → All P ys
-all_behind P [] ys all = all
-all_behind P (x ∷ xs) ys all = all_behind P xs ys (All-tail P x (xs ++ ys) all)
+all_after : {X : Type 0} (P : X → Type 0) (xs ys : List X) → All P (xs ++ ys) → All P ys
+all_after P [] ys all = all
+all_after P (x ∷ xs) ys all = all_after P xs ys (All-tail P x (xs ++ ys) all)
 
 -- what holds of the cells of a run's picture holds of its state
 run_state : (P : ℕ → Type 0) (s n : ℕ) (at : Point) (rest : Picture) → 0 < n → All (λ e. P e.1) (run_of s at n ++ rest) → P s
@@ -23,15 +23,15 @@ run_state P s (suc n) at rest some all = All-head (λ (e : Point × ℕ). P e.1)
 -- and so of the state of each live item
 item_state : (P : ℕ → Type 0) (corner : Point) (before : List Item) (i : Item) (rest : Picture) → 0 < i.count → All (λ e. P e.1) (cells_of corner before i ++ rest) → 0 < state_of i.tag → P (state_of i.tag)
 item_state P corner before i rest some all live =
-    run_state P (state_of i.tag) i.count (place_behind corner before) rest some (rw (nonzero (state_of i.tag) live) at all)
+    run_state P (state_of i.tag) i.count (place_after corner before) rest some (rw (nonzero (state_of i.tag) live) at all)
 
-items_states : (n : ℕ) (corner : Point) (before is : List Item) → AreTidy is → All (λ e. (e.1 ≤ 255) × (e.1 < n)) (picture_behind corner before is) → HaveStates n is
+items_states : (n : ℕ) (corner : Point) (before is : List Item) → AreTidy is → All (λ e. (e.1 ≤ 255) × (e.1 < n)) (picture_after corner before is) → HaveStates n is
 items_states n corner before [] tidy all = tt
 items_states n corner before (i ∷ is) tidy all =
     let some : 0 < i.count = first_count i is tidy in
-    let rest = picture_behind corner (before ++ i ∷ []) is in
+    let rest = picture_after corner (before ++ i ∷ []) is in
     let here = item_state (λ s. (s ≤ 255) × (s < n)) corner before i rest some all in
-    ((low here, λ live. (here live).1), items_states n corner (before ++ i ∷ []) is (later i is tidy) (all_behind (λ (e : Point × ℕ). (e.1 ≤ 255) × (e.1 < n)) (cells_of corner before i) rest all))
+    ((low here, λ live. (here live).1), items_states n corner (before ++ i ∷ []) is (later i is tidy) (all_after (λ (e : Point × ℕ). (e.1 ≤ 255) × (e.1 < n)) (cells_of corner before i) rest all))
   where
     first_count : (i : Item) (is : List Item) → AreTidy (i ∷ is) → 0 < i.count
     first_count i [] tidy = tidy.0

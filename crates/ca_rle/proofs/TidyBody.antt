@@ -89,13 +89,13 @@ all_written states [] counts have = tt
 all_written states (i ∷ is) (c, cs) (h, hs) = (record { count = count_means i.count c.0 c.1; tag = tag_means states i.tag h.0 h.1 }, all_written states is cs hs)
 
 -- an item after white space
-item_behind : (states : ℕ) (i : Item) (white : List ℕ) → IsWhite white → IsWritten states i → IsItem (white ++ item_text states i) i
-item_behind states i white w h = (white, count_text i.count, [], tag_text states i.tag, w, h.count, refl, h.tag, refl)
+item_after : (states : ℕ) (i : Item) (white : List ℕ) → IsWhite white → IsWritten states i → IsItem (white ++ item_text states i) i
+item_after states i white w h = (white, count_text i.count, [], tag_text states i.tag, w, h.count, refl, h.tag, refl)
 
 -- one more item in front of spelled ones
 one_more : (states : ℕ) (i : Item) (is : List Item) (white more : List ℕ) → IsWhite white → IsWritten states i → Items more is → Items (white ++ (item_text states i ++ more)) (i ∷ is)
 one_more states i is white more w h (rest, run, end) =
-    (rest, (white ++ item_text states i, more, item_behind states i white w h, run, sym (append_assoc white (item_text states i) more)), end)
+    (rest, (white ++ item_text states i, more, item_after states i white w h, run, sym (append_assoc white (item_text states i) more)), end)
 
 -- ---- lines
 
@@ -121,9 +121,9 @@ line_spells states (t ∷ ts) more later [] white w all e others =
 line_spells states (t ∷ ts) more later (i ∷ is) white w (h, hs) e others =
     let first : t ≡ item_text states i = cc in
     let next : ts ++ more ≡ tokens states is = cc in
-    let behind = line_spells states ts more later is [] refl hs next others in
+    let after = line_spells states ts more later is [] refl hs next others in
     let whole : white ++ (item_text states i ++ ((concat ts ++ 10 ∷ []) ++ later)) ≡ white ++ (((t ++ concat ts) ++ 10 ∷ []) ++ later) = rw first (simp append_assoc) in
-    subst (λ l. Items l (i ∷ is)) whole (one_more states i is white _ w h behind)
+    subst (λ l. Items l (i ∷ is)) whole (one_more states i is white _ w h after)
 
 -- lines of whole items spell them, after white space
 pub lines_spell : (states : ℕ) (lines : List (List (List ℕ))) (is : List Item) (white : List ℕ)

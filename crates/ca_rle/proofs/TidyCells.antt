@@ -12,7 +12,7 @@ use Rattle.ca_plane.proofs.Pictures.{point-same}
 use Rattle.ca_rle.specs.declared.item.Item.{Item}
 use Rattle.ca_rle.specs.declared.item.Tag.{Tag}
 use Rattle.ca_rle.specs.declared.item.Tag.TheVariants.{Cell, RowEnd}
-use Rattle.ca_rle.specs.Shown.{ends_row, state_of, rows_of, columns_of, run_of, place_behind, cells_of, picture_behind}
+use Rattle.ca_rle.specs.Shown.{ends_row, state_of, rows_of, columns_of, run_of, place_after, cells_of, picture_after}
 use Rattle.ca_rle.specs.Tidy.{AreTidy}
 use Rattle.ca_rle.proofs.Pushed.{rows_of-push, columns_of-push}
 
@@ -50,12 +50,12 @@ run_out state at a (suc n) q x y h =
     ]
 
 -- what is live without live cells before it is live with them
-pub live_behind : (p q : Picture) (x y : ℤ) → AllByRecursion (λ e. e.1 ≢ 0) p → cell q x y ≢ 0 → cell (p ++ q) x y ≢ 0
-live_behind [] q x y all live = live
-live_behind (e ∷ es) q x y (some, others) live =
+pub live_after : (p q : Picture) (x y : ℤ) → AllByRecursion (λ e. e.1 ≢ 0) p → cell q x y ≢ 0 → cell (p ++ q) x y ≢ 0
+live_after [] q x y all live = live
+live_after (e ∷ es) q x y (some, others) live =
     elim (cases_Bool (int_eq y e.0.y && int_eq x e.0.x)) [
       | inl t ↦ rw t some
-      | inr t ↦ rw t (live_behind es q x y others live)
+      | inr t ↦ rw t (live_after es q x y others live)
     ]
 
 -- ---- items from a place on
@@ -73,7 +73,7 @@ abbrev pub drawn : ℤ → Point → List Item → Picture
 drawn left at [] = []
 drawn left at (i ∷ is) = cells_at at i ++ drawn left (next left at i) is
 
-place_next : (corner : Point) (before : List Item) (n : ℕ) (t : Tag) → place_behind corner (before ++ record { count = n; tag = t } ∷ []) ≡ next corner.x (place_behind corner before) (record { count = n; tag = t })
+place_next : (corner : Point) (before : List Item) (n : ℕ) (t : Tag) → place_after corner (before ++ record { count = n; tag = t } ∷ []) ≡ next corner.x (place_after corner before) (record { count = n; tag = t })
 place_next corner before n (Cell s) =
     let i : Item = record { count = n; tag = Cell s } in
     let rows : rows_of (before ++ i ∷ []) ≡ rows_of before + 0 = rows_of-push before i in
@@ -85,13 +85,13 @@ place_next corner before n RowEnd =
     let columns : columns_of (before ++ i ∷ []) ≡ 0 = columns_of-push before i in
     point-same _ _ (omega (arith, ints)) (omega (arith, ints))
 
-drawn_behind : (corner : Point) (before is : List Item) → picture_behind corner before is ≡ drawn corner.x (place_behind corner before) is
-drawn_behind corner before [] = refl
-drawn_behind corner before (i ∷ is) = ap (λ p. cells_of corner before i ++ p) (drawn_behind corner (before ++ i ∷ []) is ∙ ap (λ at. drawn corner.x at is) (place_next corner before i.count i.tag))
+drawn_after : (corner : Point) (before is : List Item) → picture_after corner before is ≡ drawn corner.x (place_after corner before) is
+drawn_after corner before [] = refl
+drawn_after corner before (i ∷ is) = ap (λ p. cells_of corner before i ++ p) (drawn_after corner (before ++ i ∷ []) is ∙ ap (λ at. drawn corner.x at is) (place_next corner before i.count i.tag))
 
 -- the picture of items is what they show from the corner on
-pub picture_drawn : (corner : Point) (is : List Item) → picture_behind corner [] is ≡ drawn corner.x corner is
-picture_drawn corner is = drawn_behind corner [] is ∙ ap (λ at. drawn corner.x at is) (point-same (place_behind corner []) corner (omega (arith, ints)) (omega (arith, ints)))
+pub picture_drawn : (corner : Point) (is : List Item) → picture_after corner [] is ≡ drawn corner.x corner is
+picture_drawn corner is = drawn_after corner [] is ∙ ap (λ at. drawn corner.x at is) (point-same (place_after corner []) corner (omega (arith, ints)) (omega (arith, ints)))
 
 -- a place that is none of an item's
 pub item_out : (at : Point) (i : Item) (q : Picture) (x y : ℤ) → ((k : ℕ) → k < i.count → y ≡ at.y → x ≡ at.x +ℤ pos k → ⊥) → cell (cells_at at i ++ q) x y ≡ cell q x y
@@ -153,12 +153,12 @@ other_state s (Cell u) other dead e = other (ap Cell (sym e))
 other_state s RowEnd other dead e = dead (ap Cell (sym e)) refl
 
 -- the place after the cells of the first item has another state
-pub behind : (left : ℤ) (at : Point) (n s : ℕ) (is : List Item) (x y : ℤ) → AreTidy (record { count = n; tag = Cell s } ∷ is) → y ≡ at.y → x ≡ at.x +ℤ pos n
+pub after : (left : ℤ) (at : Point) (n s : ℕ) (is : List Item) (x y : ℤ) → AreTidy (record { count = n; tag = Cell s } ∷ is) → y ≡ at.y → x ≡ at.x +ℤ pos n
     → cell (drawn left at (record { count = n; tag = Cell s } ∷ is)) x y ≢ s
-behind left at n s [] x y tidy row col e =
+after left at n s [] x y tidy row col e =
     let none = item_out at (record { count = n; tag = Cell s }) [] x y (λ k l _ here. omega (arith, ints)) in
     omega (arith, none, e, tidy.1)
-behind left at n s (j ∷ js) x y tidy row col e =
+after left at n s (j ∷ js) x y tidy row col e =
     let i : Item = record { count = n; tag = Cell s } in
     let later = item_out at i (drawn left (next left at i) (j ∷ js)) x y (λ k l _ here. omega (arith, ints)) in
     let first = within left (next left at i) j js 0 x y tidy.3 (tidy_counts j js tidy.3) row (omega (arith, ints)) in
@@ -176,7 +176,7 @@ ReachesLive left at n t is = (x : ℤ) × (y : ℤ) × Reaches at n t x y × (ce
 row_live : (left : ℤ) (at : Point) (n s : ℕ) (is : List Item) → AreTidy (record { count = n; tag = Cell s } ∷ is) → ReachesLive left at n (Cell s) is
 row_live left at n s is tidy =
     elim (cases_eq s 0) [
-      | inl e ↦ (at.x +ℤ pos n, at.y, (refl, omega (arith, ints), omega (arith, ints)), λ z. behind left at n s is _ _ tidy refl refl (z ∙ sym e))
+      | inl e ↦ (at.x +ℤ pos n, at.y, (refl, omega (arith, ints), omega (arith, ints)), λ z. after left at n s is _ _ tidy refl refl (z ∙ sym e))
       | inr h ↦
           let low = tidy_counts (record { count = n; tag = Cell s }) is tidy in (
             at.x +ℤ pos (n - 1),
@@ -186,14 +186,14 @@ row_live left at n s is tidy =
           )
     ]
 
-behind_row_end : (left : ℤ) (at : Point) (n m : ℕ) (t : Tag) (is : List Item) → AreTidy (record { count = n; tag = RowEnd } ∷ record { count = m; tag = t } ∷ is)
+after_row_end : (left : ℤ) (at : Point) (n m : ℕ) (t : Tag) (is : List Item) → AreTidy (record { count = n; tag = RowEnd } ∷ record { count = m; tag = t } ∷ is)
     → ReachesLive left at n RowEnd (record { count = m; tag = t } ∷ is)
-behind_row_end left at n m RowEnd is tidy = absurd (tidy.1 refl)
-behind_row_end left at n m (Cell s) is tidy =
+after_row_end left at n m RowEnd is tidy = absurd (tidy.1 refl)
+after_row_end left at n m (Cell s) is tidy =
     let r = row_live left (record { y = at.y +ℤ pos n; x = left }) m s is tidy.3 in
     (r.0, r.1, r.2.0, r.3)
 
 pub reach : (left : ℤ) (at : Point) (n : ℕ) (t : Tag) (is : List Item) → AreTidy (record { count = n; tag = t } ∷ is) → ReachesLive left at n t is
 reach left at n (Cell s) is tidy = row_live left at n s is tidy
 reach left at n RowEnd [] tidy = absurd (omega (arith, tidy.1))
-reach left at n RowEnd (j ∷ js) tidy = behind_row_end left at n j.count j.tag js tidy
+reach left at n RowEnd (j ∷ js) tidy = after_row_end left at n j.count j.tag js tidy

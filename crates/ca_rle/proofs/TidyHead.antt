@@ -7,7 +7,7 @@ use Rattle.std.proofs.lemmas.Bool.Decides.{nat_tests}
 use Rattle.ca_plane.specs.declared.point.Point.{Point}
 use Rattle.ca_plane.specs.Bytes.{is_blank, is_line_end, is_digit, is_word_byte, is_end_or, Every, words_of, IsWord, AreDigits, IsInteger}
 use Rattle.ca_plane.proofs.Lines.{words_ahead, words_next}
-use Rattle.ca_rle.specs.Header.{IsSpaced, size_parts, rule_parts, IsHeader, is_comment, words_behind_cxrle, extended_words, Said, Corner, Generation, Says}
+use Rattle.ca_rle.specs.Header.{IsSpaced, size_parts, rule_parts, IsHeader, is_comment, words_after_cxrle, extended_words, Said, Corner, Generation, Says}
 use Rattle.ca_rle.specs.File.{IsLine, corner_of, generation_of}
 use Rattle.ca_rle.specs.Tidy.{generation_text, corner_line, header_line}
 use Rattle.ca_plane.proofs.Fronts.{every_append, every_wider, every_digit}
@@ -94,7 +94,7 @@ says_both a b more corner generation p q s =
     words_ahead (codes "#CXRLE") (codes " Pos=" ++ (a ++ (codes "," ++ (b ++ more)))) refl refl in
     let group : codes "Pos=" ++ (a ++ (codes "," ++ (b ++ more))) ≡ pos_word a b ++ more = ap (λ l. codes "Pos=" ++ l) (sym (append_assoc a (44 ∷ b) more)) in
     let words : words_of (codes "Pos=" ++ (a ++ (codes "," ++ (b ++ more)))) ≡ pos_word a b ∷ words_of more = ap words_of group ∙ words_ahead (pos_word a b) more (pos_is_word a b u v) s.blank_first in
-    let all : extended_words (codes "#CXRLE Pos=" ++ (a ++ (codes "," ++ (b ++ more)))) ≡ pos_word a b ∷ words_of more = ap words_behind_cxrle (first ∙ ap (λ l. codes "#CXRLE" ∷ l) words) in
+    let all : extended_words (codes "#CXRLE Pos=" ++ (a ++ (codes "," ++ (b ++ more)))) ≡ pos_word a b ∷ words_of more = ap words_after_cxrle (first ∙ ap (λ l. codes "#CXRLE" ∷ l) words) in
     record {
       said = Corner corner.x corner.y ∷ s.said;
       is_line = every_append _ a (codes "," ++ (b ++ more)) (line_from_word a u) (every_append _ b more (line_from_word b v) s.line);

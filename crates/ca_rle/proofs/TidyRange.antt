@@ -15,7 +15,7 @@ use Rattle.ca_rle.specs.Shown.{picture_of}
 use Rattle.ca_rle.specs.Tidy.{IsFrame, IsTidy}
 use Rattle.ca_rle.proofs.Spans.{all_append}
 use Rattle.ca_rle.proofs.OneFile.{one_file}
-use Rattle.ca_rle.proofs.TidyCells.{live_behind, cells_at, next, drawn, picture_drawn}
+use Rattle.ca_rle.proofs.TidyCells.{live_after, cells_at, next, drawn, picture_drawn}
 use Rattle.ca_rle.proofs.TidyReach.{AreNear, IsFrameNear, frame_near, live_states, tidy_counts_near}
 use Rattle.ca_rle.proofs.TidyFile.{tidy_file, tidy_is_file}
 
@@ -36,7 +36,7 @@ listed_in_range : (p : Picture) → AllByRecursion (λ e. e.1 ≢ 0) p → AreIn
 listed_in_range [] states within = tt
 listed_in_range (e ∷ es) (some, others) within = (
   within e.0.x e.0.y (λ z. some (sym (cell-first e es) ∙ z)),
-  listed_in_range es others (λ x y live. within x y (live_behind (e ∷ []) es x y (some, tt) live)),
+  listed_in_range es others (λ x y live. within x y (live_after (e ∷ []) es x y (some, tt) live)),
 )
 
 drawn_states : (left : ℤ) (at : Point) (is : List Item) → AllByRecursion (λ e. e.1 ≢ 0) (drawn left at is)

@@ -12,7 +12,7 @@ use Rattle.ca_rle.specs.Shown.{state_of, picture_of}
 use Rattle.ca_rle.specs.Tidy.{AreTidy, IsFrame}
 use Rattle.ca_rle.proofs.Spans.{all_run}
 use Rattle.ca_plane.proofs.Decimals.{IsNear}
-use Rattle.ca_rle.proofs.TidyCells.{live_behind, cells_at, next, drawn, picture_drawn, tidy_counts, tidy_tail, reach}
+use Rattle.ca_rle.proofs.TidyCells.{live_after, cells_at, next, drawn, picture_drawn, tidy_counts, tidy_tail, reach}
 
 -- each live cell is at most so far from the origin, both ways
 abbrev pub AreNear : ℕ → Picture → Type 0
@@ -75,7 +75,7 @@ between_next far left at i is b = record {
   first = b.first;
   column = next_column left at i.count i.tag b.column;
   row = next_row _ left at i.count i.tag b.row;
-  near = λ x y live. b.near x y (live_behind (cells_at at i) (drawn left (next left at i) is) x y (live_states at i) live);
+  near = λ x y live. b.near x y (live_after (cells_at at i) (drawn left (next left at i) is) x y (live_states at i) live);
 }
 
 count_near : (far : ℕ) (left : ℤ) (at : Point) (n : ℕ) (t : Tag) (is : List Item) → AreTidy (record { count = n; tag = t } ∷ is)

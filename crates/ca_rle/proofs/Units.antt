@@ -12,31 +12,31 @@ use Rattle.ca_rle.specs.Items.{InLine, is_prefix, tag_of, IsEnd}
 use Rattle.ca_rle.specs.Faults.{after_white, letter_fault, tag_fault, count_fault, item_fault}
 use Rattle.ca_rle.specs.inner.BodyFaults.{IsItemAtFront}
 use Rattle.ca_rle.specs.inner.ItemParts.{IsSplit}
-use Rattle.ca_rle.proofs.ItemAt.{item_at, count_of, tag_at_is, behind_is_tag}
+use Rattle.ca_rle.proofs.ItemAt.{item_at, count_of, tag_at_is, after_is_tag}
 use Rattle.ca_rle.proofs.ReadItems.{run_found, end_found}
 
 -- ---- without digits
 
 -- a tag is an item that counts once
-pub plain_item : (bytes digits behind letters more : List ℕ) (t : Tag) → IsSplit bytes digits behind → eqb (length digits) 0 ≡ true → tag_of letters ≡ Some t → behind ≡ letters ++ more
+pub plain_item : (bytes digits after letters more : List ℕ) (t : Tag) → IsSplit bytes digits after → eqb (length digits) 0 ≡ true → tag_of letters ≡ Some t → after ≡ letters ++ more
     → IsItemAtFront bytes (record { count = 1; tag = t }) more
-plain_item bytes digits behind letters more t s none tag e =
+plain_item bytes digits after letters more t s none tag e =
     let no_digits : front is_digit (after_white InLine bytes) ≡ [] = sym s.digits_are ∙ nil_from_length digits (eqb-true (length digits) 0 none) in
-    let letters_are : after_white InLine (rest is_digit (after_white InLine bytes)) ≡ letters ++ more = ap (after_white InLine) (sym s.behind_is ∙ e) ∙ behind_is_tag [] letters more t refl tag in
+    let letters_are : after_white InLine (rest is_digit (after_white InLine bytes)) ≡ letters ++ more = ap (after_white InLine) (sym s.later_is ∙ e) ∙ after_is_tag [] letters more t refl tag in
     let read : item_at bytes ≡ Some (record { count = 1; tag = t }, more) = rw (no_digits, letters_are, tag_at_is letters more t tag) refl in
     (record { count = 1; tag = t }, run_found bytes more more (record { count = 1; tag = t }) [] read (omega arith) refl, refl)
 
 -- `!` is an end
-pub plain_end : (bytes digits behind ignored : List ℕ) → IsSplit bytes digits behind → eqb (length digits) 0 ≡ true → behind ≡ 33 ∷ ignored → IsEnd bytes
-plain_end bytes digits behind ignored s none e =
+pub plain_end : (bytes digits after ignored : List ℕ) → IsSplit bytes digits after → eqb (length digits) 0 ≡ true → after ≡ 33 ∷ ignored → IsEnd bytes
+plain_end bytes digits after ignored s none e =
     let no_digits : front is_digit (after_white InLine bytes) ≡ [] = sym s.digits_are ∙ nil_from_length digits (eqb-true (length digits) 0 none) in
-    end_found bytes ignored (sym (front_then_rest is_digit (after_white InLine bytes)) ∙ ap (λ l. l ++ rest is_digit (after_white InLine bytes)) no_digits ∙ sym s.behind_is ∙ e)
+    end_found bytes ignored (sym (front_then_rest is_digit (after_white InLine bytes)) ∙ ap (λ l. l ++ rest is_digit (after_white InLine bytes)) no_digits ∙ sym s.later_is ∙ e)
 
 -- the tag's fault is the item's
-pub plain_fault : (bytes digits behind : List ℕ) (f : RleFault) → IsSplit bytes digits behind → eqb (length digits) 0 ≡ true → tag_fault false behind ≡ Some f → item_fault bytes ≡ Some f
-plain_fault bytes digits behind f s none e =
+pub plain_fault : (bytes digits after : List ℕ) (f : RleFault) → IsSplit bytes digits after → eqb (length digits) 0 ≡ true → tag_fault false after ≡ Some f → item_fault bytes ≡ Some f
+plain_fault bytes digits after f s none e =
     let no_digits : front is_digit (after_white InLine bytes) ≡ [] = sym s.digits_are ∙ nil_from_length digits (eqb-true (length digits) 0 none) in
-    rw (no_digits, ← s.behind_is) e
+    rw (no_digits, ← s.later_is) e
 
 -- ---- after digits
 
@@ -46,31 +46,31 @@ counts [] some = absurd cc
 counts (d ∷ ds) some = refl
 
 -- a tag is an item that counts so often
-pub counted_item : (bytes digits behind letters more : List ℕ) (n : ℕ) (t : Tag) → IsSplit bytes digits behind → eqb (length digits) 0 ≡ false
-    → (0 < value digits) × (n ≡ min (value digits) (2 ^ 64 - 1)) → tag_of letters ≡ Some t → after_white InLine behind ≡ letters ++ more
+pub counted_item : (bytes digits after letters more : List ℕ) (n : ℕ) (t : Tag) → IsSplit bytes digits after → eqb (length digits) 0 ≡ false
+    → (0 < value digits) × (n ≡ min (value digits) (2 ^ 64 - 1)) → tag_of letters ≡ Some t → after_white InLine after ≡ letters ++ more
     → IsItemAtFront bytes (record { count = n; tag = t }) more
-counted_item bytes digits behind letters more n t s some number tag e =
-    let letters_are : after_white InLine (rest is_digit (after_white InLine bytes)) ≡ letters ++ more = ap (after_white InLine) (sym s.behind_is) ∙ e in
+counted_item bytes digits after letters more n t s some number tag e =
+    let letters_are : after_white InLine (rest is_digit (after_white InLine bytes)) ≡ letters ++ more = ap (after_white InLine) (sym s.later_is) ∙ e in
     let count : count_of (front is_digit (after_white InLine bytes)) ≡ value digits = ap count_of (sym s.digits_are) ∙ counts digits some in
     let read : item_at bytes ≡ Some (record { count = value digits; tag = t }, more) = rw (count, letters_are, tag_at_is letters more t tag) refl in
     (record { count = value digits; tag = t }, run_found bytes more more (record { count = value digits; tag = t }) [] read number.0 refl, ap (λ (m : ℕ). let made : Item = record { count = m; tag = t } in made) number.1)
 
 -- the fault of digits that aren't none
-digits_fault : (digits behind : List ℕ) → eqb (length digits) 0 ≡ false → count_fault digits behind ≡ (cond (value digits == 0) (Some Syntax) (tag_fault true (after_white InLine behind)))
-digits_fault [] behind some = absurd cc
-digits_fault (d ∷ ds) behind some = refl
+digits_fault : (digits after : List ℕ) → eqb (length digits) 0 ≡ false → count_fault digits after ≡ (cond (value digits == 0) (Some Syntax) (tag_fault true (after_white InLine after)))
+digits_fault [] after some = absurd cc
+digits_fault (d ∷ ds) after some = refl
 
-fault_is : (bytes digits behind : List ℕ) → IsSplit bytes digits behind → item_fault bytes ≡ count_fault digits behind
-fault_is bytes digits behind s = rw (s.digits_are, s.behind_is) refl
+fault_is : (bytes digits after : List ℕ) → IsSplit bytes digits after → item_fault bytes ≡ count_fault digits after
+fault_is bytes digits after s = rw (s.digits_are, s.later_is) refl
 
 -- a count of 0 is a fault
-pub zero_fault : (bytes digits behind : List ℕ) → IsSplit bytes digits behind → eqb (length digits) 0 ≡ false → value digits ≡ 0 → item_fault bytes ≡ Some Syntax
-zero_fault bytes digits behind s some none = fault_is bytes digits behind s ∙ digits_fault digits behind some ∙ rw none refl
+pub zero_fault : (bytes digits after : List ℕ) → IsSplit bytes digits after → eqb (length digits) 0 ≡ false → value digits ≡ 0 → item_fault bytes ≡ Some Syntax
+zero_fault bytes digits after s some none = fault_is bytes digits after s ∙ digits_fault digits after some ∙ rw none refl
 
-behind_count : (bytes digits behind : List ℕ) → IsSplit bytes digits behind → eqb (length digits) 0 ≡ false → 0 < value digits → item_fault bytes ≡ tag_fault true (after_white InLine behind)
-behind_count bytes digits behind s some number =
+after_count : (bytes digits after : List ℕ) → IsSplit bytes digits after → eqb (length digits) 0 ≡ false → 0 < value digits → item_fault bytes ≡ tag_fault true (after_white InLine after)
+after_count bytes digits after s some number =
     let e : (value digits == 0) ≡ false = ne_eqb (value digits) 0 (λ z. omega (arith, number, z)) in
-    fault_is bytes digits behind s ∙ digits_fault digits behind some ∙ rw e refl
+    fault_is bytes digits after s ∙ digits_fault digits after some ∙ rw e refl
 
 -- a fault of a tag without a count is its fault after one too
 counted_fault : (bytes : List ℕ) (f : RleFault) → tag_fault false bytes ≡ Some f → tag_fault true bytes ≡ Some f
@@ -83,11 +83,11 @@ counted_fault (b ∷ bs) f e = go (b == 33) e
     go false h = h
 
 -- the tag's fault is the item's
-pub counted_tag_fault : (bytes digits behind seen : List ℕ) (f : RleFault) → IsSplit bytes digits behind → eqb (length digits) 0 ≡ false → 0 < value digits
-    → seen ≡ after_white InLine behind → tag_fault false seen ≡ Some f → item_fault bytes ≡ Some f
-counted_tag_fault bytes digits behind seen f s some number e h = behind_count bytes digits behind s some number ∙ ap (tag_fault true) (sym e) ∙ counted_fault seen f h
+pub counted_tag_fault : (bytes digits after seen : List ℕ) (f : RleFault) → IsSplit bytes digits after → eqb (length digits) 0 ≡ false → 0 < value digits
+    → seen ≡ after_white InLine after → tag_fault false seen ≡ Some f → item_fault bytes ≡ Some f
+counted_tag_fault bytes digits after seen f s some number e h = after_count bytes digits after s some number ∙ ap (tag_fault true) (sym e) ∙ counted_fault seen f h
 
 -- and `!` takes no count
-pub counted_end : (bytes digits behind seen ignored : List ℕ) → IsSplit bytes digits behind → eqb (length digits) 0 ≡ false → 0 < value digits
-    → seen ≡ after_white InLine behind → seen ≡ 33 ∷ ignored → item_fault bytes ≡ Some Syntax
-counted_end bytes digits behind seen ignored s some number e h = behind_count bytes digits behind s some number ∙ ap (tag_fault true) (sym e ∙ h)
+pub counted_end : (bytes digits after seen ignored : List ℕ) → IsSplit bytes digits after → eqb (length digits) 0 ≡ false → 0 < value digits
+    → seen ≡ after_white InLine after → seen ≡ 33 ∷ ignored → item_fault bytes ≡ Some Syntax
+counted_end bytes digits after seen ignored s some number e h = after_count bytes digits after s some number ∙ ap (tag_fault true) (sym e ∙ h)

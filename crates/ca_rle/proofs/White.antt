@@ -55,6 +55,6 @@ first_of_white : (b : ℕ) (p q : Bool) → cond (is_line_end b) p (cond (is_bla
 first_of_white b p q h = grind (arith, nat_tests)
 
 -- no digit stands at the front of white space, nor after it
-pub no_digit_behind : (white after : List ℕ) → IsWhite white → IsTrue (is_end_or (λ b. not (is_digit b)) after) → IsTrue (is_end_or (λ b. not (is_digit b)) (white ++ after))
-no_digit_behind [] after w h = h
-no_digit_behind (b ∷ bs) after w h = rw (first_of_white b _ _ w)
+pub no_digit_after : (white after : List ℕ) → IsWhite white → IsTrue (is_end_or (λ b. not (is_digit b)) after) → IsTrue (is_end_or (λ b. not (is_digit b)) (white ++ after))
+no_digit_after [] after w h = h
+no_digit_after (b ∷ bs) after w h = rw (first_of_white b _ _ w)

@@ -88,8 +88,8 @@ split_or_not bytes (c ∷ cs) e =
 abbrev pub SaysOrBad : List ℕ → Type 0
 SaysOrBad word = ((s : Said) × Says word s) ⊎ ((f : RleFault) × IsBadWord word f)
 
-behind_text : (word text : List ℕ) → starts_with nat_eq word text ≡ true → word ≡ text ++ drop (length text) word
-behind_text word text h = sym (take-append-drop (length text) word) ∙ ap (λ (l : List ℕ). l ++ drop (length text) word) (sym ((bytes_eq-Decides text (take (length text) word)).0 h))
+after_text : (word text : List ℕ) → starts_with nat_eq word text ≡ true → word ≡ text ++ drop (length text) word
+after_text word text h = sym (take-append-drop (length text) word) ∙ ap (λ (l : List ℕ). l ++ drop (length text) word) (sym ((bytes_eq-Decides text (take (length text) word)).0 h))
 
 corner_or_bad : (word more : List ℕ) → starts_with nat_eq word (codes "Pos=") ≡ true → word ≡ codes "Pos=" ++ more → SaysOrBad word
 corner_or_bad word more h e =
@@ -112,9 +112,9 @@ generation_or_bad word more h e =
 pub says_or_bad : (word : List ℕ) → SaysOrBad word
 says_or_bad word =
     elim (cases_Bool (starts_with nat_eq word (codes "Pos="))) [
-      | inl p ↦ corner_or_bad word _ p (behind_text word (codes "Pos=") p)
+      | inl p ↦ corner_or_bad word _ p (after_text word (codes "Pos=") p)
       | inr p ↦ elim (cases_Bool (starts_with nat_eq word (codes "Gen="))) [
-        | inl g ↦ generation_or_bad word _ g (behind_text word (codes "Gen=") g)
+        | inl g ↦ generation_or_bad word _ g (after_text word (codes "Gen=") g)
         | inr g ↦ inl (Nothing, (p, g))
       ]
     ]

@@ -44,13 +44,13 @@ abbrev pub is_comment : List ℕ → Bool
 is_comment line = is_end_or (λ b. b == letter "#") (rest is_blank line)
 
 -- the words after `#CXRLE`, where that is the first word of the line
-abbrev pub words_behind_cxrle : List (List ℕ) → List (List ℕ)
-words_behind_cxrle [] = []
-words_behind_cxrle (w ∷ ws) = if bytes_eq w (codes "#CXRLE") then ws else []
+abbrev pub words_after_cxrle : List (List ℕ) → List (List ℕ)
+words_after_cxrle [] = []
+words_after_cxrle (w ∷ ws) = if bytes_eq w (codes "#CXRLE") then ws else []
 
 -- the words that a line has after its `#CXRLE`, and none in any other line
 abbrev pub extended_words : List ℕ → List (List ℕ)
-extended_words line = words_behind_cxrle (words_of line)
+extended_words line = words_after_cxrle (words_of line)
 
 -- what a word of a `#CXRLE` line says
 pub data Said : Type 0 where

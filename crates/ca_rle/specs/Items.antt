@@ -15,7 +15,7 @@ is_prefix b = nat_le (letter "p") b && nat_le b (letter "y")
 
 -- the state of a prefix and a letter: 24 more for `p`, 48 more for `q`, and so on
 abbrev pub prefixed_state : ℕ → ℕ → ℕ
-prefixed_state prefix behind = 24 * (prefix - 111) + (behind - 64)
+prefixed_state prefix next = 24 * (prefix - 111) + (next - 64)
 
 -- what a tag means: `b` and `.` are state 0, `o` is state 1, letters are states, `$` ends a row
 abbrev pub tag_of : List ℕ → Option Tag

@@ -30,18 +30,18 @@ abbrev pub run_of : ℕ → Point → ℕ → Picture
 run_of state at count = map (λ k. (record { y = at.y; x = at.x +ℤ pos k }, state)) (range_with_len 0 count)
 
 -- where the item after these begins
-abbrev pub place_behind : Point → List Item → Point
-place_behind corner before = record { y = corner.y +ℤ pos (rows_of before); x = corner.x +ℤ pos (columns_of before) }
+abbrev pub place_after : Point → List Item → Point
+place_after corner before = record { y = corner.y +ℤ pos (rows_of before); x = corner.x +ℤ pos (columns_of before) }
 
 -- the cells of one item, after the items before it; dead cells and row ends have none
 abbrev pub cells_of : Point → List Item → Item → Picture
-cells_of corner before item = if state_of item.tag == 0 then [] else run_of (state_of item.tag) (place_behind corner before) item.count
+cells_of corner before item = if state_of item.tag == 0 then [] else run_of (state_of item.tag) (place_after corner before) item.count
 
 -- the cells of items that stand after others
-abbrev pub picture_behind : Point → List Item → List Item → Picture
-picture_behind corner before [] = []
-picture_behind corner before (i ∷ is) = cells_of corner before i ++ picture_behind corner (before ++ i ∷ []) is
+abbrev pub picture_after : Point → List Item → List Item → Picture
+picture_after corner before [] = []
+picture_after corner before (i ∷ is) = cells_of corner before i ++ picture_after corner (before ++ i ∷ []) is
 
 -- the picture of a list of items, whose first cell is at the corner
 abbrev pub picture_of : Point → List Item → Picture
-picture_of corner items = picture_behind corner [] items
+picture_of corner items = picture_after corner [] items

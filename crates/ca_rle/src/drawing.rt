@@ -77,7 +77,7 @@ pub(crate) fn draw(alloc: Global, body: &[u8], corner: Point) -> Result<Plane, M
     let mut rest = body;
     'items: while let Some((item, more)) = good_item(rest) {
         draw_item(&mut plane, corner, at, item)?;
-        at = at.behind(item);
+        at = at.after_item(item);
         rest = more;
     }
     Ok(plane)

@@ -43,7 +43,7 @@ impl Offset {
     }
 
     /// Where the item after this one begins.
-    pub(crate) fn behind(self, item: Item) -> Offset
+    pub(crate) fn after_item(self, item: Item) -> Offset
         ensures rows { result.rows ≡ kept_number (self.rows + (if ends_row item.tag then item.count else 0)) }
         ensures columns { result.columns ≡ (if ends_row item.tag then 0
             else kept_number (self.columns + item.count)) }
@@ -172,7 +172,7 @@ pub(crate) fn measure(body: &[u8]) -> Result<Extent, Faulty<'_>>
     let mut rest = body;
     'items: while let Some((item, more)) = item_at(rest)? {
         extent = extent.grown(at, item);
-        at = at.behind(item);
+        at = at.after_item(item);
         rest = more;
     }
     Ok(extent)

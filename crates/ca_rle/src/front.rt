@@ -69,18 +69,18 @@ pub(crate) fn read_front(bytes: &[u8]) -> Result<Front<'_>, Faulty<'_>>
     let mut preamble = Preamble::new();
     let mut rest = bytes;
     'lines: loop {
-        let (line, behind) = split_line(rest);
+        let (line, more) = split_line(rest);
         if !is_comment(line) {
-            return match front_at(preamble, line, behind) {
+            return match front_at(preamble, line, more) {
                 Ok(front) => Ok(front),
                 Err(fault) => Err(Faulty { fault, rest }),
             };
         }
-        preamble = match preamble.behind_line(line) {
+        preamble = match preamble.after_line(line) {
             Ok(preamble) => preamble,
             Err(fault) => return Err(Faulty { fault, rest }),
         };
-        let Some((_, later)) = behind.split_first() else {
+        let Some((_, later)) = more.split_first() else {
             return Err(Faulty {
                 fault: RleFault::Header,
                 rest,

@@ -14,7 +14,7 @@ use crate::item::{Item, Tag};
 use ca_plane::bytes::{number, split_blanks, split_digits, split_line, strip};
 
 /// The bytes of a line after the blanks at its start, or its end where it is a comment.
-fn behind_line_start(bytes: &[u8]) -> &[u8]
+fn after_line_start(bytes: &[u8]) -> &[u8]
     ensures white { after_white AtStart bytes.now ≡ after_white InLine result.now }
     ensures no_blank { IsTrue (is_end_or (λ b. not (is_blank b)) result.now) }
     ensures shorter { length result.now ≤ length bytes.now }
@@ -33,7 +33,7 @@ pub(crate) fn after_white(bytes: &[u8]) -> &[u8]
 {
     let (_, mut rest) = split_blanks(bytes);
     'lines: while let Some(line) = strip(rest, b"\n") {
-        rest = behind_line_start(line);
+        rest = after_line_start(line);
     }
     rest
 }
@@ -119,9 +119,9 @@ pub(crate) fn next_item(bytes: &[u8]) -> Result<Option<(Item, &[u8])>, RleFault>
         (λ r. IsItemAtFront bytes.now r.0 r.1.now))
         (λ f. item_fault bytes.now ≡ Some f) }
 {
-    let (digits, behind) = split_count(bytes);
+    let (digits, later) = split_count(bytes);
     if digits.is_empty() {
-        let Some((tag, rest)) = next_tag(behind)? else {
+        let Some((tag, rest)) = next_tag(later)? else {
             return Ok(None);
         };
         return Ok(Some((Item { count: 1, tag }, rest)));
@@ -129,7 +129,7 @@ pub(crate) fn next_item(bytes: &[u8]) -> Result<Option<(Item, &[u8])>, RleFault>
     let Some(count) = count(digits) else {
         return Err(RleFault::Syntax);
     };
-    let Some((tag, rest)) = next_tag(after_white(behind))? else {
+    let Some((tag, rest)) = next_tag(after_white(later))? else {
         return Err(RleFault::Syntax);
     };
     Ok(Some((Item { count, tag }, rest)))

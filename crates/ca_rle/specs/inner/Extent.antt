@@ -39,12 +39,12 @@ greatest_of number before [] = 0
 greatest_of number before (i ∷ is) = max (number before i) (greatest_of number (before ++ i ∷ []) is)
 
 -- how many columns from the corner on the live cells of items take that stand after others
-abbrev pub right_behind : List Item → List Item → ℕ
-right_behind before is = greatest_of columns_to before is
+abbrev pub right_after : List Item → List Item → ℕ
+right_after before is = greatest_of columns_to before is
 
 -- how many rows
-abbrev pub bottom_behind : List Item → List Item → ℕ
-bottom_behind before is = greatest_of rows_to before is
+abbrev pub bottom_after : List Item → List Item → ℕ
+bottom_after before is = greatest_of rows_to before is
 
 -- ---- how it is kept
 
@@ -60,8 +60,8 @@ pub record IsOffsetOf (items : List Item) (offset : Offset) : Type 0 where
 -- how far these items reach
 pub record IsExtentOf (items : List Item) (extent : Extent) : Type 0 where
   pub longest : extent.longest ≡ kept_number (longest_of items)
-  pub right : extent.right ≡ kept_number (right_behind [] items)
-  pub bottom : extent.bottom ≡ kept_number (bottom_behind [] items)
+  pub right : extent.right ≡ kept_number (right_after [] items)
+  pub bottom : extent.bottom ≡ kept_number (bottom_after [] items)
   pub cells : extent.cells ≡ kept_number (live_cells items)
 
 -- items of this extent are in range from this corner

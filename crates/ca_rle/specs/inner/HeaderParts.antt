@@ -11,14 +11,14 @@ strip (t ∷ ts) [] = None
 strip (t ∷ ts) (b ∷ bs) = if t == b then strip ts bs else None
 
 -- what is left after digits, of which there is one at least
-abbrev pub left_behind : List ℕ → List ℕ → Option (List ℕ)
-left_behind [] more = None
-left_behind (d ∷ ds) more = Some more
+abbrev pub left_after : List ℕ → List ℕ → Option (List ℕ)
+left_after [] more = None
+left_after (d ∷ ds) more = Some more
 
 -- what is left after a part
 abbrev pub part_left : Part → List ℕ → Option (List ℕ)
 part_left (Exactly text) bytes = strip text bytes
-part_left Number bytes = left_behind (front is_digit bytes) (rest is_digit bytes)
+part_left Number bytes = left_after (front is_digit bytes) (rest is_digit bytes)
 
 -- what is left after parts, with blanks before each and after the last
 abbrev pub parts_left : List Part → List ℕ → Option (List ℕ)

@@ -5,6 +5,6 @@ use Rattle.ca_rle.specs.Items.{InLine}
 use Rattle.ca_rle.specs.Faults.{after_white}
 
 -- the digits after the white space at the front, and what stands after them
-pub record IsSplit (bytes digits behind : List ℕ) : Type 0 where
+pub record IsSplit (bytes digits later : List ℕ) : Type 0 where
   pub digits_are : digits ≡ front is_digit (after_white InLine bytes)
-  pub behind_is : behind ≡ rest is_digit (after_white InLine bytes)
+  pub later_is : later ≡ rest is_digit (after_white InLine bytes)

@@ -16,62 +16,62 @@ pub(crate) struct Header<'a> {
 }
 
 /// The bytes after the text, blanks on both sides of it left out.
-fn behind_text<'a>(bytes: &'a [u8], text: &[u8]) -> Option<&'a [u8]>
+fn after_text<'a>(bytes: &'a [u8], text: &[u8]) -> Option<&'a [u8]>
     ensures { MatchOption result (parts_left (Exactly text.now ∷ []) bytes.now ≡ None)
         (λ r. parts_left (Exactly text.now ∷ []) bytes.now ≡ Some r.now) }
 {
     let (_, bytes) = split_blanks(bytes);
-    let behind = strip(bytes, text)?;
-    let (_, behind) = split_blanks(behind);
-    Some(behind)
+    let rest = strip(bytes, text)?;
+    let (_, rest) = split_blanks(rest);
+    Some(rest)
 }
 
 /// The bytes after a number, blanks on both sides of it left out.
-fn behind_number(bytes: &[u8]) -> Option<&[u8]>
+fn after_number(bytes: &[u8]) -> Option<&[u8]>
     ensures { MatchOption result (parts_left (Number ∷ []) bytes.now ≡ None)
         (λ r. parts_left (Number ∷ []) bytes.now ≡ Some r.now) }
 {
     let (_, bytes) = split_blanks(bytes);
-    let (digits, behind) = split_digits(bytes);
+    let (digits, rest) = split_digits(bytes);
     if digits.is_empty() {
         return None;
     }
-    let (_, behind) = split_blanks(behind);
-    Some(behind)
+    let (_, rest) = split_blanks(rest);
+    Some(rest)
 }
 
 /// The bytes after a name, `=` and a number.
-fn behind_size<'a>(bytes: &'a [u8], name: &[u8]) -> Option<&'a [u8]>
+fn after_size<'a>(bytes: &'a [u8], name: &[u8]) -> Option<&'a [u8]>
     ensures { MatchOption result (parts_left
         (Exactly name.now ∷ Exactly (codes "=") ∷ Number ∷ []) bytes.now ≡ None)
         (λ r. parts_left (Exactly name.now ∷ Exactly (codes "=") ∷ Number ∷ []) bytes.now ≡ Some r.now) }
 {
-    let bytes = behind_text(bytes, name)?;
-    let bytes = behind_text(bytes, b"=")?;
-    let behind = behind_number(bytes)?;
-    Some(behind)
+    let bytes = after_text(bytes, name)?;
+    let bytes = after_text(bytes, b"=")?;
+    let rest = after_number(bytes)?;
+    Some(rest)
 }
 
 /// The bytes after `x`, `=`, a number, `,`, `y`, `=` and a number.
-fn behind_sizes(line: &[u8]) -> Option<&[u8]>
+fn after_sizes(line: &[u8]) -> Option<&[u8]>
     ensures { MatchOption result (parts_left (size_parts []) line.now ≡ None)
         (λ r. parts_left (size_parts []) line.now ≡ Some r.now) }
 {
-    let bytes = behind_size(line, b"x")?;
-    let bytes = behind_text(bytes, b",")?;
-    let behind = behind_size(bytes, b"y")?;
-    Some(behind)
+    let bytes = after_size(line, b"x")?;
+    let bytes = after_text(bytes, b",")?;
+    let rest = after_size(bytes, b"y")?;
+    Some(rest)
 }
 
 /// The bytes after `,`, `rule` and `=`.
-fn behind_rule_name(bytes: &[u8]) -> Option<&[u8]>
+fn after_rule_name(bytes: &[u8]) -> Option<&[u8]>
     ensures { MatchOption result (parts_left rule_parts bytes.now ≡ None)
         (λ r. parts_left rule_parts bytes.now ≡ Some r.now) }
 {
-    let bytes = behind_text(bytes, b",")?;
-    let bytes = behind_text(bytes, b"rule")?;
-    let behind = behind_text(bytes, b"=")?;
-    Some(behind)
+    let bytes = after_text(bytes, b",")?;
+    let bytes = after_text(bytes, b"rule")?;
+    let rest = after_text(bytes, b"=")?;
+    Some(rest)
 }
 
 /// The header that the line is.
@@ -80,11 +80,11 @@ pub(crate) fn read_header(line: &[u8]) -> Option<Header<'_>>
     ensures { MatchOption result ((rule : Option (List ℕ)) → IsHeader line.now rule → ⊥)
         (λ h. IsHeader line.now (option_copied h.rule)) }
 {
-    let behind = behind_sizes(line)?;
-    if behind.is_empty() {
+    let rest = after_sizes(line)?;
+    if rest.is_empty() {
         return Some(Header { rule: None });
     }
-    let text = behind_rule_name(behind)?;
+    let text = after_rule_name(rest)?;
     let (rule, _) = split_word(text);
     if rule.is_empty() {
         return Some(Header { rule: None });

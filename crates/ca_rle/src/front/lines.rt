@@ -48,17 +48,17 @@ fn is_xlife_line(line: &[u8]) -> bool
     ensures no { IsFalse result → IsXlifeLine line.now → ⊥ }
 {
     let (_, text) = split_blanks(without_cr(line));
-    let Some(behind) = strip(text, b"#r") else {
+    let Some(rest) = strip(text, b"#r") else {
         return false;
     };
-    match behind.first() {
+    match rest.first() {
         Some(byte) => is_blank(*byte),
         None => false,
     }
 }
 
 /// The bytes after `#CXRLE`, where that is the line's first word.
-fn behind_cxrle(line: &[u8]) -> Option<&[u8]>
+fn after_cxrle(line: &[u8]) -> Option<&[u8]>
     requires { Every (λ b. not (is_line_end b)) line.now }
     ensures words { MatchOption result (extended_words line.now ≡ [])
         (λ w. extended_words line.now ≡ words_of w.now) }
@@ -86,25 +86,25 @@ impl Preamble {
     }
 
     /// The start where the words of this line stand after those before.
-    fn start_behind(self, line: &[u8]) -> Result<Start, RleFault>
+    fn start_after(self, line: &[u8]) -> Result<Start, RleFault>
         requires { Every (λ b. not (is_line_end b)) line.now }
         ensures found { IfOk result (λ t. Leads (extended_words line.now) self.start t) }
         ensures fault { IfErr result (λ f. HasBadWordAmong (extended_words line.now) f) }
     {
-        match behind_cxrle(line) {
-            Some(words) => self.start.behind_words(words),
+        match after_cxrle(line) {
+            Some(words) => self.start.after_words(words),
             None => Ok(self.start),
         }
     }
 
     /// What this line says after those before.
-    pub(crate) fn behind_line(self, line: &[u8]) -> Result<Preamble, RleFault>
+    pub(crate) fn after_line(self, line: &[u8]) -> Result<Preamble, RleFault>
         requires line { Every (λ b. not (is_line_end b)) line.now }
         requires comment { is_comment line.now ≡ true }
         ensures found { IfOk result (LeadsPreamble line.now self) }
         ensures fault { IfErr result (λ f. HasBadWordAmong (extended_words line.now) f) }
     {
-        let start = self.start_behind(line)?;
+        let start = self.start_after(line)?;
         Ok(Preamble {
             start,
             has_xlife_rule: self.has_xlife_rule || is_xlife_line(line),

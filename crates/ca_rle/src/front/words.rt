@@ -33,8 +33,8 @@ fn place(bytes: &[u8]) -> Option<Point>
     ensures { MatchOption result ((x y : ℤ) (a b : List ℕ) → bytes.now ≡ a ++ 44 ∷ b
         → IsInteger a x → IsInteger b y → ⊥) (WritesPair bytes.now) }
 {
-    let (x, behind) = split_at_first(bytes, b',');
-    let y = strip(behind, b",")?;
+    let (x, rest) = split_at_first(bytes, b',');
+    let y = strip(rest, b",")?;
     let x = coordinate(x)?;
     let y = coordinate(y)?;
     Some(Point { y, x })
@@ -56,7 +56,7 @@ fn generation(digits: &[u8]) -> Result<u64, RleFault>
 
 impl Start {
     /// The start where this word stands after those before.
-    fn behind_word(self, word: &[u8]) -> Result<Start, RleFault>
+    fn after_word(self, word: &[u8]) -> Result<Start, RleFault>
         ensures found { IfOk result (λ t. Leads (word.now ∷ []) self t) }
         ensures fault { IfErr result (λ f. IsBadWord word.now f) }
     {
@@ -74,7 +74,7 @@ impl Start {
     }
 
     /// The start where these words stand after those before.
-    pub(crate) fn behind_words(self, words: &[u8]) -> Result<Start, RleFault>
+    pub(crate) fn after_words(self, words: &[u8]) -> Result<Start, RleFault>
         requires { Every (λ b. not (is_line_end b)) words.now }
         ensures found { IfOk result (λ t. Leads (words_of words.now) self t) }
         ensures fault { IfErr result (λ f. HasBadWordAmong (words_of words.now) f) }
@@ -82,7 +82,7 @@ impl Start {
         let mut start = self;
         let mut rest = words;
         'words: while let Some((word, more)) = next_word(rest) {
-            start = start.behind_word(word)?;
+            start = start.after_word(word)?;
             rest = more;
         }
         Ok(start)

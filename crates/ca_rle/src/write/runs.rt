@@ -39,7 +39,7 @@ impl Run {
     }
 
     /// The place after the run.
-    fn behind(self) -> Point
+    fn end(self) -> Point
         ensures y { result.y ≡ self.from.y }
         ensures x { result.x ≡ self.past }
     {
@@ -54,7 +54,7 @@ impl Run {
         ensures yes { IsTrue result → (point.y ≡ self.from.y) × (point.x ≡ self.past) × (state ≡ self.state) }
         ensures no { IsFalse result → point.y ≡ self.from.y → point.x ≡ self.past → state ≢ self.state }
     {
-        point == self.behind() && state == self.state
+        point == self.end() && state == self.state
     }
 
     /// The item of the run.
@@ -116,7 +116,7 @@ pub(super) fn items(alloc: Global, cells: &Plane, corner: Point) -> Result<Vec<I
             continue;
         }
         items.push(run.item())?;
-        push_gap(&mut items, corner.x, run.behind(), point)?;
+        push_gap(&mut items, corner.x, run.end(), point)?;
         run = Run::of(point, state);
     }
     items.push(run.item())?;

@@ -18,7 +18,7 @@ items-preserved c =
     let item = c.in-Some.ensures in
     let next = next_is c.args.corner c.args.body.now _ _ _ c.requires.0 so_far.0 _ c.requires.1 c.requires.2 so_far.1.run so_far.1.offset item in
     record {
-      drawn = (so_far.0 ++ item.0 ∷ [], drawn_more c.args.corner _ _ _ _ _ _ _ so_far.0 _ so_far.1 item next (record { rows = c.behind-at.ensures.rows; columns = c.behind-at.ensures.columns }) c.in_ok-draw_item.ensures.cells);
+      drawn = (so_far.0 ++ item.0 ∷ [], drawn_more c.args.corner _ _ _ _ _ _ _ so_far.0 _ so_far.1 item next (record { rows = c.after_item-at.ensures.rows; columns = c.after_item-at.ensures.columns }) c.in_ok-draw_item.ensures.cells);
       sparse = c.in_ok-draw_item.ensures.sparse c.items.invariant.sparse;
     }
 

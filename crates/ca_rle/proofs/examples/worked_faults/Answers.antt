@@ -11,13 +11,13 @@ use Rattle.ca_rle.proofs.ExampleHeaders.{some_lines, no_lines, line_follows, pla
 use Rattle.ca_rle.proofs.examples.worked_faults.Goals as goal
 
 -- a byte among others that passes
-any_behind : (test : ℕ → Bool) (a : List ℕ) (c : ℕ) (b : List ℕ) → test c ≡ true → list_any test (a ++ c ∷ b) ≡ true
-any_behind test [] c b h = or_left (test c) (list_any test b) h
-any_behind test (d ∷ ds) c b h = or_right (test d) (list_any test (ds ++ c ∷ b)) (any_behind test ds c b h)
+any_after : (test : ℕ → Bool) (a : List ℕ) (c : ℕ) (b : List ℕ) → test c ≡ true → list_any test (a ++ c ∷ b) ≡ true
+any_after test [] c b h = or_left (test c) (list_any test b) h
+any_after test (d ∷ ds) c b h = or_right (test d) (list_any test (ds ++ c ∷ b)) (any_after test ds c b h)
 
 -- a list that holds no comma isn't split by one
 no_comma : (bytes a b : List ℕ) → list_any (λ c. c == 44) bytes ≡ false → bytes ≡ a ++ 44 ∷ b → ⊥
-no_comma bytes a b n e = true≢false (sym (any_behind (λ c. c == 44) a 44 b refl) ∙ ap (list_any (λ c. c == 44)) (sym e) ∙ n)
+no_comma bytes a b n e = true≢false (sym (any_after (λ c. c == 44) a 44 b refl) ∙ ap (list_any (λ c. c == 44)) (sym e) ∙ n)
 
 pub returns-clause-count : goal.returns-clause-count
 returns-clause-count c =

@@ -11,7 +11,7 @@ returns-in_err-x c = rw c.from_residual-in_err-x.ensures (λ x y a b e i j. c.in
 
 pub returns-in_err-y-2 : goal.returns-in_err-y-2
 returns-in_err-y-2 c = rw c.from_residual-in_err-y-2.ensures (λ x y a b e i j.
-    let behind = sym c.in_ok-y.ensures ∙ c.split_at_first.ensures.rest ∙ (split_pair _ a b x e i).1 in
+    let after = sym c.in_ok-y.ensures ∙ c.split_at_first.ensures.rest ∙ (split_pair _ a b x e i).1 in
     let same : c.in_ok-y.y.now ≡ b = cc in
     c.in_err-y-2.ensures y (rw same j))
 

@@ -60,7 +60,7 @@ cells-preserved c =
     let next = next-turn c.args.cells.now _ _ c.args.corner _ _ _ e c.cells-left.ensures.sparse c.requires c.cells.invariant c.in-Some-2.is c.next-in-cells.ensures.steps in
     before-turn c.args.cells.now _ _ c.args.corner _ _ c.cells.run c.of-run-in-cells.result _ e c.cells-left.ensures.sparse c.cells.invariant c.in-Some-2.is c.next-in-cells.ensures.steps
     (ap (λ p. p.y) c.of-run-in-cells.ensures.from) c.of-run-in-cells.ensures.past
-    (read-next c.args.corner _ _ c.push.new.self.items _ c.cells.run c.of-run-in-cells.result _ e c.item.result c.behind.result c.cells.invariant.read c.item.ensures.tag c.item.ensures.count c.behind.ensures.y c.behind.ensures.x
+    (read-next c.args.corner _ _ c.push.new.self.items _ c.cells.run c.of-run-in-cells.result _ e c.item.result c.end.result c.cells.invariant.read c.item.ensures.tag c.item.ensures.count c.end.ensures.y c.end.ensures.x
     c.in_ok-push.ensures.items (omega (arith, ints)) c.in_ok-push_gap-2.ensures next.live (c.if-goes_on.ensures.no refl)
     c.of-run-in-cells.ensures.from c.of-run-in-cells.ensures.past c.of-run-in-cells.ensures.state)
 

@@ -1,6 +1,6 @@
 use Rattle.std.proofs.lemmas.Bool.{both_ways}
 use Rattle.ca_rle.proofs.Preambles.{line_leads, xlife_before, xlife_last}
-use Rattle.ca_rle.proofs.front.lines.Preamble.behind_line.Goals as goal
+use Rattle.ca_rle.proofs.front.lines.Preamble.after_line.Goals as goal
 
 pub returns-then-self-clause-found : goal.returns-then-self-clause-found
 returns-then-self-clause-found c =

@@ -2,7 +2,7 @@ use Rattle.std.proofs.Common.{◌≡◌, ◌++◌, not, length}
 use Rattle.std.specs.Prelude.{ℕ, List}
 use Rattle.ca_plane.specs.Bytes.{Every, is_line_end, words_of}
 use Rattle.ca_rle.specs.inner.FrontParts.{Leads}
-use Rattle.ca_rle.proofs.front.words.Start.behind_words.Given as goal
+use Rattle.ca_rle.proofs.front.words.Start.after_words.Given as goal
 
 abbrev pub invariant-words : goal.invariant-words
 invariant-words l = record {

@@ -1,6 +1,6 @@
 use Rattle.std.proofs.Common.{refl, [], ◌∷◌, ◌++◌, sym, ap, ◌∙◌, append_assoc}
 use Rattle.ca_rle.proofs.StartWords.{leads_none, leads_more}
-use Rattle.ca_rle.proofs.front.words.Start.behind_words.Goals as goal
+use Rattle.ca_rle.proofs.front.words.Start.after_words.Goals as goal
 
 pub words-init : goal.words-init
 words-init c = record { line = c.requires; good = ([], refl, leads_none _) }

@@ -1,7 +1,7 @@
 use Rattle.ca_rle.proofs.StartWords.{leads_corner, leads_generation, leads_nowhere, says_nothing, bad_place}
 use Rattle.std.proofs.Common.{sym, subst}
 use Rattle.ca_rle.specs.Header.{Says, Generation}
-use Rattle.ca_rle.proofs.front.words.Start.behind_word.Goals as goal
+use Rattle.ca_rle.proofs.front.words.Start.after_word.Goals as goal
 
 pub returns-in_default-place-clause-fault : goal.returns-in_default-place-clause-fault
 returns-in_default-place-clause-fault c = bad_place _ _ c.in-Some.ensures c.in_default-place.ensures
