@@ -12,8 +12,8 @@ use Rattle.ca_macro.specs.File.{File, IsFile}
 use Rattle.ca_macro.specs.Limits.{IsWithinRange}
 use Rattle.ca_macro.specs.Shown.{picture_of}
 
--- the pattern has the file's cells, rule text and generation; its tree has the least level, and the file's picture has states from 1
--- to 255
+-- the pattern has the file's cells, rule text and generation; its tree has the least level, the file's picture has states from 1 to
+-- 255, the generation is below the limit, and the rule text is a word
 pub record IsPatternOf (nodes : List Node) (file : File) (pattern : MacroPattern) : Type 0 where
   pub tree : trees.IsTree nodes pattern.tree
   pub trimmed : IsTrimmed nodes pattern.tree
@@ -21,6 +21,8 @@ pub record IsPatternOf (nodes : List Node) (file : File) (pattern : MacroPattern
   pub states : IsPicture (picture_of file.nodes)
   pub rule_text : pattern.rule_text.items ≡ file.rule_text
   pub generation : pattern.generation ≡ file.generation
+  pub low_generation : pattern.generation < generation_limit
+  pub is_word : IsWord pattern.rule_text.items
 
 -- the text is a file whose live cells are in range, and it holds this pattern
 abbrev pub HoldsMacrocellPattern : List Node → List ℕ → MacroPattern → Type 0

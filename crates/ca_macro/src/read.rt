@@ -1,8 +1,6 @@
 //! The reader of macrocell.
 
 ghost use Rattle.std.specs.Prelude.{◌≡◌, ◌⊎◌, ◌<◌, List, [], ◌∷◌, ◌++◌, true, IfOk, IfErr};
-ghost use Rattle.ca_plane.specs.Bytes.{IsWord};
-ghost use Rattle.ca_plane.specs.Limits.{generation_limit};
 ghost use Rattle.ca_quad.specs.Sound.{IsSound, Grows};
 ghost use Rattle.ca_macro.specs.declared.fault.MacroFault.TheVariants.{Range, Memory};
 ghost use Rattle.ca_macro.specs.File.{Said};
@@ -71,8 +69,6 @@ fn pattern_of(
     requires { (said : List Said) × IsReading store.old said reading.now }
     ensures found { IfOk result (λ p. (said : List Said) → IsReading store.old said reading.now
         → IsWithinRange (file_of said) × IsPatternOf store.new (file_of said) p) }
-    ensures generation { IfOk result (λ p. p.generation < generation_limit) }
-    ensures rule { IfOk result (λ p. IsWord p.rule_text.items) }
     ensures fault { IfErr result (λ f. (said : List Said) → IsReading store.old said reading.now
         → (f ≡ Memory) ⊎ ((f ≡ Range) × IsOutOfRange (file_of said))) }
     ensures grows { Grows store.old store.new }
@@ -108,8 +104,6 @@ pub fn read_macro_with_line(
 ) -> Result<MacroPattern, LineFault>
     // What is read is what the text holds, and each live cell is in range.
     ensures found { IfOk result (HoldsMacrocellPattern store.new bytes.now) }
-    ensures generation { IfOk result (λ p. p.generation < generation_limit) }
-    ensures rule { IfOk result (λ p. IsWord p.rule_text.items) }
     // A text that is refused has this fault, on this line.
     ensures fault { IfErr result (λ f. IsFaultOn bytes.now f.fault f.line) }
     // Every old square stays.
@@ -134,8 +128,6 @@ pub fn read_macro(
 ) -> Result<MacroPattern, MacroFault>
     // What is read is what the text holds, and each live cell is in range.
     ensures found { IfOk result (HoldsMacrocellPattern store.new bytes.now) }
-    ensures generation { IfOk result (λ p. p.generation < generation_limit) }
-    ensures rule { IfOk result (λ p. IsWord p.rule_text.items) }
     // A text that is refused has this fault.
     ensures fault { IfErr result (λ f. IsFaultOf bytes.now f) }
     // Every old square stays.

@@ -1,4 +1,4 @@
-use Rattle.std.proofs.Common.{inl, inr, sym, ◌∙◌}
+use Rattle.std.proofs.Common.{inl, inr, sym, ◌∙◌, rules}
 use Rattle.std.specs.List.{flat_map}
 use Rattle.ca_plane.specs.Limits.{default_rule}
 use Rattle.ca_plane.specs.Plane.{cell}
@@ -35,5 +35,7 @@ returns-clause-found c = λ said read.
         states = states;
         rule_text = c.in-Ok.ensures ∙ sym (read.rule default_rule);
         generation = sym read.generation;
+        low_generation = read.limit;
+        is_word = let word = read.word in search rules;
       },
     )
