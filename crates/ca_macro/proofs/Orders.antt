@@ -116,6 +116,10 @@ stays_on old new n x h = ap (λ l. numbered (walks_after [] l) n) x.1 ∙ walk_s
 pub extends_on : (old mid new : List Node) → Extends old mid → Extends mid new → Extends old new
 extends_on old mid new x y = (x.0 ++ y.0, y.1 ∙ ap (λ l. l ++ y.0) x.1 ∙ append_assoc old x.0 y.0)
 
+-- each of these lists of nodes extends the one before it
+pub parts_extend : (s0 s1 s2 s3 s4 s5 : List Node) → Extends s0 s1 → Extends s1 s2 → Extends s2 s3 → Extends s3 s4 → Extends s4 s5 → Extends s0 s5
+parts_extend s0 s1 s2 s3 s4 s5 x1 x2 x3 x4 x5 = extends_on s0 s1 s5 x1 (extends_on s1 s2 s5 x2 (extends_on s2 s3 s5 x3 (extends_on s3 s4 s5 x4 x5)))
+
 four_flat : (f : ℕ → List ℕ) (walked : List ℕ) (a b c d : ℕ) → (((walked ++ f a) ++ f b) ++ f c) ++ f d ≡ walked ++ (f a ++ (f b ++ (f c ++ (f d ++ []))))
 four_flat f walked a b c d = simp (append_assoc, append-nil)
 

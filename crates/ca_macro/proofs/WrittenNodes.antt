@@ -214,10 +214,11 @@ module _ (kept : List Kept) (id k level : ℕ) (qs : List ℕ) (next : suc k ≡
 -- a square that is no leaf is written by its four parts
 pub has_fit_parts : (kept : List Kept) (states id level leaf : ℕ) (qs : List ℕ) → IsIn kept id
     → leaf_level states ≤ squares.level_of kept id → squares.level_of kept id ≤ 120
-    → ((x y : ℕ) → cells_of kept id x y < states) → level ≡ squares.level_of kept id → 1 ≤ level
+    → ((x y : ℕ) → cells_of kept id x y < states) → level ≡ squares.level_of kept id
     → leaf ≡ leaf_level states → level ≢ leaf
     → ((k : ℕ) → IsOf kept id (suc k) → AreQuarters kept id k qs) → HasFitParts kept states id qs
-has_fit_parts kept states id level leaf qs known least most low is_level some is_leaf other quarters =
+has_fit_parts kept states id level leaf qs known least most low is_level is_leaf other quarters =
+    let some = some_level states in
     let next : squares.level_of kept id ≡ suc (squares.level_of kept id - 1) = omega arith in record {
       least = elim (below_or_not (leaf_level states) (squares.level_of kept id)) [
         | inl h ↦ h

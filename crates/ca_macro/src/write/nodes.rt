@@ -8,7 +8,8 @@ ghost use Rattle.ca_quad.specs.Trees.{IsIn, IsTree, IsEmpty, cell};
 ghost use Rattle.ca_macro.specs.Nodes.{Node, Leaf, Cells};
 ghost use Rattle.ca_macro.specs.Tidy.{IsLeastLevel, AreTidyNodes, parts_of};
 ghost use Rattle.ca_macro.specs.inner.Written.{row_of, node_of, cells_of, leaf_level, empty_root};
-ghost use Rattle.ca_macro.specs.inner.Written.{HasFitParts, IsNumberOf, IsNodeOf, IsGathered, Extends, GoesOn};
+ghost use Rattle.ca_macro.specs.inner.Written.{HasFitParts, IsNumberOf, IsNodeOf, IsGathered};
+ghost use Rattle.ca_macro.specs.inner.Written.{Extends, GoesOn};
 
 use super::written::Written;
 use ca_plane::Memory;
@@ -89,8 +90,9 @@ fn leaf(store: &Store, states: u16, id: Id) -> Written
     states_node(store.cells4(id))
 }
 
-/// The parts of a square that is written by them. None is a square that is written without parts.
-fn written_parts(store: &Store, states: u16, id: Id) -> Option<[Id; 4]>
+/// The parts of a square of this level that is written by them. None where it is written without parts.
+fn written_parts(store: &Store, states: u16, id: Id, level: u8) -> Option<[Id; 4]>
+    requires level { level ≡ level_of store.now id }
     requires known { IsIn store.now id }
     requires least { leaf_level states ≤ level_of store.now id }
     requires most { level_of store.now id ≤ 120 }
@@ -98,7 +100,7 @@ fn written_parts(store: &Store, states: u16, id: Id) -> Option<[Id; 4]>
     ensures { MatchOption result (level_of store.now id ≡ leaf_level states)
         (HasFitParts store.now states id) }
 {
-    if store.level(id) == leaf_level(states) {
+    if level == leaf_level(states) {
         return None;
     }
     Some(store.children(id))
@@ -141,14 +143,14 @@ fn number(store: &Store, states: u16, id: Id, gathered: &mut Gathered) -> Result
     if let Some(number) = gathered.numbers.get(id) {
         return Ok(number);
     }
-    let Some(parts) = written_parts(store, states, id) else {
+    let level = store.level(id);
+    let Some(parts) = written_parts(store, states, id, level) else {
         return gathered.push(store, states, id, leaf(store, states, id));
     };
     let nw = number(store, states, part(&parts, 0), gathered)?;
     let ne = number(store, states, part(&parts, 1), gathered)?;
     let sw = number(store, states, part(&parts, 2), gathered)?;
     let se = number(store, states, part(&parts, 3), gathered)?;
-    let level = store.level(id);
     gathered.push(store, states, id, Written::Parts(level, [nw, ne, sw, se]))
 }
 

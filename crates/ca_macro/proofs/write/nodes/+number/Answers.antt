@@ -1,21 +1,19 @@
-use Rattle.std.proofs.Common.{◌≡◌, ◌≢◌, ℕ, ◌<◌, [], ◌∷◌, ◌++◌, map, refl, sym, ap, ◌∙◌, arith}
+use Rattle.std.proofs.Common.{map, refl, sym, ap, ◌∙◌, arith}
 use Rattle.std.proofs.lemmas.Result.{on_ok_weaker}
 use Rattle.ca_quad.specs.Squares.{level_of}
-use Rattle.ca_quad.specs.SquareValues.{square_value}
-use Rattle.ca_macro.specs.Nodes.{Parts}
-use Rattle.ca_macro.specs.inner.Written.{node_of, Extends}
-use Rattle.ca_macro.proofs.Orders.{goes_again, goes_to_leaf, goes_to_parts, extends_on}
+use Rattle.ca_macro.specs.inner.Written.{node_of}
+use Rattle.ca_macro.proofs.Orders.{goes_again, goes_to_leaf, goes_to_parts, extends_on, parts_extend}
 use Rattle.ca_macro.proofs.WrittenNodes.{empty_number, part_nw, part_ne, part_sw, part_se, parts_keep, numbered_node, number_extends, goes_on_ok}
 use Rattle.ca_macro.proofs.write.nodes.+number.Goals as goal
 
 pub returns-then-is_empty-clause-number : goal.returns-then-is_empty-clause-number
 returns-then-is_empty-clause-number t c =
     empty_number c.args.store.now (map node_of c.args.gathered.now.nodes.items) c.args.id
-    ((c.is_empty.ensures (level_of c.args.store.now c.args.id) (record { before = c.requires.known; is_level = refl })).0 c.if-is_empty.true)
+    ((c.is_empty.ensures _ (record { before = c.requires.known; is_level = refl })).0 c.if-is_empty.true)
 
 pub returns-then-is_empty-clause-last : goal.returns-then-is_empty-clause-last
 returns-then-is_empty-clause-last t c = λ live none.
-    absurd (live ((c.is_empty.ensures (level_of c.args.store.now c.args.id) (record { before = c.requires.known; is_level = refl })).0 c.if-is_empty.true))
+    absurd (live ((c.is_empty.ensures _ (record { before = c.requires.known; is_level = refl })).0 c.if-is_empty.true))
 
 pub returns-in-Some-clause-number : goal.returns-in-Some-clause-number
 returns-in-Some-clause-number t c = (c.requires.gathered.numbered c.args.id c.in-Some.number (sym c.get.ensures ∙ c.in-Some.is)).1
@@ -28,7 +26,7 @@ push-requires-clause-node t c = c.leaf.ensures.node (map node_of c.args.gathered
 
 pub push-requires-clause-live : goal.push-requires-clause-live
 push-requires-clause-live t c = λ e.
-    let yes = (c.is_empty.ensures (level_of c.args.store.now c.args.id) (record { before = c.requires.known; is_level = refl })).1 e in
+    let yes = (c.is_empty.ensures _ (record { before = c.requires.known; is_level = refl })).1 e in
     absurd cc
 
 pub returns-in_default-written_parts-clause-order : goal.returns-in_default-written_parts-clause-order
@@ -58,24 +56,17 @@ number-requires-4 t c =
 
 pub push-requires-2-clause-node : goal.push-requires-2-clause-node
 push-requires-2-clause-node t c =
-    let kept = c.args.store.now in
-    let s1 = map node_of c.number.new.gathered.nodes.items in
-    let s2 = map node_of c.number-2.new.gathered.nodes.items in
-    let s3 = map node_of c.number-3.new.gathered.nodes.items in
-    let s4 = map node_of c.number-4.new.gathered.nodes.items in
-    let x34 : Extends s3 s4 = c.in_ok-se.ensures.more in
-    let x24 : Extends s2 s4 = extends_on s2 s3 s4 c.in_ok-sw.ensures.more x34 in
-    let x14 : Extends s1 s4 = extends_on s1 s2 s4 c.in_ok-ne.ensures.more x24 in
-    numbered_node kept _ _ _ c.in-Some-written_parts.ensures s4 _ _ _ _ _ _ _ _ _ c.level-level.ensures.level
+    let x34 = c.in_ok-se.ensures.more in
+    let x24 = extends_on _ _ _ c.in_ok-sw.ensures.more x34 in
+    let x14 = extends_on _ _ _ c.in_ok-ne.ensures.more x24 in
+    numbered_node _ _ _ _ c.in-Some-written_parts.ensures _ _ _ _ _ _ _ _ _ _ c.level-level.ensures.level
     c.part.ensures c.part-2.ensures c.part-3.ensures c.part-4.ensures
-    (number_extends kept s1 s4 c.part.result c.in_ok-nw.nw x14 c.in_ok-nw.ensures.number)
-    (number_extends kept s2 s4 c.part-2.result c.in_ok-ne.ne x24 c.in_ok-ne.ensures.number)
-    (number_extends kept s3 s4 c.part-3.result c.in_ok-sw.sw x34 c.in_ok-sw.ensures.number)
-    c.in_ok-se.ensures.number
+    (number_extends _ _ _ _ _ x14 c.in_ok-nw.ensures.number) (number_extends _ _ _ _ _ x24 c.in_ok-ne.ensures.number)
+    (number_extends _ _ _ _ _ x34 c.in_ok-sw.ensures.number) c.in_ok-se.ensures.number
 
 pub push-requires-2-clause-live : goal.push-requires-2-clause-live
 push-requires-2-clause-live t c = λ e.
-    let yes = (c.is_empty.ensures (level_of c.args.store.now c.args.id) (record { before = c.requires.known; is_level = refl })).1 e in
+    let yes = (c.is_empty.ensures _ (record { before = c.requires.known; is_level = refl })).1 e in
     absurd cc
 
 pub push-requires-2-clause-new : goal.push-requires-2-clause-new
@@ -87,39 +78,18 @@ push-requires-2-clause-new t c =
 
 pub returns-clause-more : goal.returns-clause-more
 returns-clause-more t c =
-    let s0 = map node_of c.args.gathered.now.nodes.items in
-    let s1 = map node_of c.number.new.gathered.nodes.items in
-    let s2 = map node_of c.number-2.new.gathered.nodes.items in
-    let s3 = map node_of c.number-3.new.gathered.nodes.items in
-    let s4 = map node_of c.number-4.new.gathered.nodes.items in
-    let s5 = map node_of c.push-2.new.self.nodes.items in
-    let node = Parts c.level-level.result c.in_ok-nw.nw c.in_ok-ne.ne c.in_ok-sw.sw c.in_ok-se.se in
-    let x04 : Extends s0 s4 = extends_on s0 s1 s4 c.in_ok-nw.ensures.more (extends_on s1 s2 s4 c.in_ok-ne.ensures.more (extends_on s2 s3 s4 c.in_ok-sw.ensures.more c.in_ok-se.ensures.more)) in
-    on_ok_weaker {P = s5 ≡ s4 ++ node ∷ []} {Q = Extends s0 s5} c.push-2.result (λ e. extends_on s0 s4 s5 x04 (node ∷ [], e)) c.push-2.ensures.more
+    on_ok_weaker c.push-2.result (λ e. parts_extend _ _ _ _ _ _ c.in_ok-nw.ensures.more c.in_ok-ne.ensures.more c.in_ok-sw.ensures.more c.in_ok-se.ensures.more (_, e)) c.push-2.ensures.more
 
 pub returns-clause-order : goal.returns-clause-order
 returns-clause-order t c =
-    let s0 = map node_of c.args.gathered.now.nodes.items in
-    let s1 = map node_of c.number.new.gathered.nodes.items in
-    let s2 = map node_of c.number-2.new.gathered.nodes.items in
-    let s3 = map node_of c.number-3.new.gathered.nodes.items in
-    let s4 = map node_of c.number-4.new.gathered.nodes.items in
-    let s5 = map node_of c.push-2.new.self.nodes.items in
-    goes_on_ok c.push-2.result s0 s4 s5 (Parts c.level-level.result c.in_ok-nw.nw c.in_ok-ne.ne c.in_ok-sw.sw c.in_ok-se.se) c.push-2.ensures.more c.push-2.ensures.last
-    (goes_to_parts c.level-level.result c.in_ok-nw.nw c.in_ok-ne.ne c.in_ok-sw.sw c.in_ok-se.se s0 s1 s2 s3 s4 c.in_ok-ne.ensures.more c.in_ok-sw.ensures.more c.in_ok-se.ensures.more
+    goes_on_ok c.push-2.result _ _ _ _ c.push-2.ensures.more c.push-2.ensures.last
+    (goes_to_parts c.level-level.result _ _ _ _ _ _ _ _ _ c.in_ok-ne.ensures.more c.in_ok-sw.ensures.more c.in_ok-se.ensures.more
     c.in_ok-nw.ensures.number.at_most c.in_ok-ne.ensures.number.at_most c.in_ok-sw.ensures.number.at_most c.in_ok-nw.ensures.order c.in_ok-ne.ensures.order c.in_ok-sw.ensures.order c.in_ok-se.ensures.order)
 
 pub returns-clause-keeps : goal.returns-clause-keeps
 returns-clause-keeps t c =
-    let kept = c.args.store.now in
-    let id = c.args.id in
-    let before = c.args.gathered.now.numbers in
-    let now = c.number-4.new.gathered.numbers in
-    let new = c.push-2.new.self.numbers in
-    on_ok_weaker {P = (one : ℕ) → one ≢ id → square_value new one ≡ square_value now one}
-    {Q = (one : ℕ) → level_of kept id < level_of kept one → square_value new one ≡ square_value before one}
-    c.push-2.result
-    (λ keeps one higher. keeps one (λ same. let e = ap (level_of kept) same in omega arith)
+    on_ok_weaker c.push-2.result
+    (λ keeps one higher. keeps one (λ same. let e = ap (level_of c.args.store.now) same in omega arith)
     ∙ parts_keep _ _ _ _ c.in-Some-written_parts.ensures _ _ _ _
     c.part.ensures c.part-2.ensures c.part-3.ensures c.part-4.ensures _ _ _ _ _
     c.in_ok-nw.ensures.keeps c.in_ok-ne.ensures.keeps c.in_ok-sw.ensures.keeps c.in_ok-se.ensures.keeps
