@@ -25,6 +25,6 @@ returns-in-Ok-clause-read c =
         };
       };
       range = shown_in_range _ cells found.3.cells found.2;
-      generation = c.in-Ok.ensures.generation;
-      word = c.in-Ok.ensures.rule;
+      generation = found.3.low_generation;
+      word = found.3.is_word;
     }

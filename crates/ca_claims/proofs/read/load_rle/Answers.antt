@@ -25,6 +25,6 @@ returns-clause-read c =
         };
       };
       range = shown_in_range _ cells (λ x y. c.in-Ok-from_plane.ensures.cells x y ∙ found.3.cells x y) found.2.0.cells;
-      generation = c.in-Ok.ensures.generation;
-      word = c.in-Ok.ensures.rule;
+      generation = found.3.low_generation;
+      word = found.3.is_word;
     }
