@@ -69,37 +69,14 @@ impl<A: Automaton> Leaper<A> {
         ensures goes_on { GoesOn A self.old self.new }
     {
         if grain == 0 {
-            return self.inner_cells(id);
+            let [_, _, _, _, _, nw, ne, _, _, sw, se, _, _, _, _, _] = self.cells16(id);
+            return self.leaf(nw, ne, sw, se);
         }
-        self.inner_parts(id, grain - 1)
-    }
-
-    // The same where its parts have parts.
-    fn inner_parts(&mut self, id: Id, grain: u8) -> Result<Id, Memory>
-        requires square { IsOf self.old.nodes id (suc (suc (suc grain))) }
-        requires low { grain ≤ 122 }
-        ensures shows { (p : ℤ → ℤ → ℕ) (a b : ℤ) → ShowsAt self.old.nodes id (suc (suc (suc grain))) p a b
-            → IfOk result (λ half. ShowsAt self.new.nodes half (suc (suc grain)) p (a +ℤ side (suc grain)) (b +ℤ side (suc grain))) }
-        ensures square { IfOk result (λ half. IsOf self.new.nodes half (suc (suc grain))) }
-        ensures goes_on { GoesOn A self.old self.new }
-    {
-        let (nw, ne, sw, se) = self.quarters(id, grain + 1);
-        let (_, _, _, nw) = self.quarters(nw, grain);
-        let (_, _, ne, _) = self.quarters(ne, grain);
-        let (_, sw, _, _) = self.quarters(sw, grain);
-        let (se, _, _, _) = self.quarters(se, grain);
-        self.join(nw, ne, sw, se, grain)
-    }
-
-    // The same where its parts have cells.
-    fn inner_cells(&mut self, id: Id) -> Result<Id, Memory>
-        requires square { IsOf self.old.nodes id 2 }
-        ensures shows { (p : ℤ → ℤ → ℕ) (a b : ℤ) → ShowsAt self.old.nodes id 2 p a b
-            → IfOk result (λ half. ShowsAt self.new.nodes half 1 p (a +ℤ pos 1) (b +ℤ pos 1)) }
-        ensures square { IfOk result (λ half. IsOf self.new.nodes half 1) }
-        ensures goes_on { GoesOn A self.old self.new }
-    {
-        let [_, _, _, _, _, nw, ne, _, _, sw, se, _, _, _, _, _] = self.cells16(id);
-        self.leaf(nw, ne, sw, se)
+        let (nw, ne, sw, se) = self.quarters(id, grain);
+        let (_, _, _, nw) = self.quarters(nw, grain - 1);
+        let (_, _, ne, _) = self.quarters(ne, grain - 1);
+        let (_, sw, _, _) = self.quarters(sw, grain - 1);
+        let (se, _, _, _) = self.quarters(se, grain - 1);
+        self.join(nw, ne, sw, se, grain - 1)
     }
 }
