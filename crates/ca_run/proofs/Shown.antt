@@ -83,17 +83,17 @@ module _ (old new : List Node) (sound : IsSound old) (grows : Grows old new) whe
       let there = h id half e in
       (there.0, centre_stays next id there.0 there.0 half there.1)
 
-  -- a leaper stays one as its store grows
-  pub leaper_stays : (next : List ℕ → ℕ) (S : Type 0) (results : List ((ℕ × ℕ) × ℕ)) (slots : List (Option (ℕ × ℕ × ℕ))) (halves : List (Option ℕ)) (masks : Option (ℕ × ℕ))
-      → IsLeaper next S old results slots halves masks → IsLeaper next S new results slots halves masks
-  leaper_stays next S results slots halves masks h = record {
-    rule = h.rule;
-    squares = grows.sound;
-    centres = centres_stay next results h.centres;
-    recent_centres = kept_centres_stay next slots h.recent_centres;
-    full_leaps = full_leaps_stay next halves h.full_leaps;
-    by_masks = h.by_masks;
-  }
+-- a leaper stays one as its store grows
+pub leaper_stays : {old new : List Node} {next : List ℕ → ℕ} {S : Type 0} {results : List ((ℕ × ℕ) × ℕ)} {slots : List (Option (ℕ × ℕ × ℕ))} {halves : List (Option ℕ)} {masks : Option (ℕ × ℕ)}
+    → IsLeaper next S old results slots halves masks → Grows old new → IsLeaper next S new results slots halves masks
+leaper_stays h grows = record {
+  rule = h.rule;
+  squares = grows.sound;
+  centres = centres_stay _ _ h.squares grows _ _ h.centres;
+  recent_centres = kept_centres_stay _ _ h.squares grows _ _ h.recent_centres;
+  full_leaps = full_leaps_stay _ _ h.squares grows _ _ h.full_leaps;
+  by_masks = h.by_masks;
+}
 
 -- four squares that were made one after another
 module _ (s1 s2 s3 s4 : List Node) (sound : IsSound s1) (g2 : Grows s1 s2) (g3 : Grows s2 s3) (g4 : Grows s3 s4) (k nw ne sw se : ℕ) where

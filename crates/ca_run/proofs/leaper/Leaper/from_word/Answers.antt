@@ -2,6 +2,4 @@ use Rattle.ca_run.proofs.Shown.{leaper_stays}
 use Rattle.ca_run.proofs.leaper.Leaper.from_word.Goals as goal
 
 pub invariant_of-self : goal.invariant_of-self
-invariant_of-self g c =
-    leaper_stays c.self.inside.store c.from_word.new.self c.self.invariant.squares c.from_word.ensures.grows (g.A.Automaton.next_of c.self.inside.rule) (g.A.Automaton.sound c.self.inside.rule) c.self.inside.memo c.self.inside.recent_centres c.self.inside.full_leaps c.self.inside.masks
-    c.self.invariant
+invariant_of-self g c = leaper_stays c.self.invariant c.from_word.ensures.grows

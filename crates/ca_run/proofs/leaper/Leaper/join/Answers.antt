@@ -5,8 +5,7 @@ use Rattle.ca_run.proofs.Shown.{leaper_stays, joined_at, joined_of}
 use Rattle.ca_run.proofs.leaper.Leaper.join.Goals as goal
 
 pub invariant_of-self : goal.invariant_of-self
-invariant_of-self g c =
-    leaper_stays c.self.inside.store c.join.new.self c.self.invariant.squares c.join.ensures.grows (g.A.Automaton.next_of c.self.inside.rule) (g.A.Automaton.sound c.self.inside.rule) c.self.inside.memo c.self.inside.recent_centres c.self.inside.full_leaps c.self.inside.masks c.self.invariant
+invariant_of-self g c = leaper_stays c.self.invariant c.join.ensures.grows
 
 pub returns-clause-shows : goal.returns-clause-shows
 returns-clause-shows g c = λ p a b four.
