@@ -12,12 +12,12 @@ use Rattle.ca_quad.proofs.Growth.{grows_same, grows_on}
 use Rattle.ca_run.specs.declared.leaper.trio.Trio.{Trio}
 use Rattle.ca_run.specs.declared.leaper.trio.Rows.{Rows}
 use Rattle.ca_run.specs.Centre.{IsCentre}
-use Rattle.ca_run.specs.Leaping.{Leaping, GoesOn}
+use Rattle.ca_run.specs.Leaping.{LeaperView, GoesOn}
 use Rattle.ca_run.specs.inner.Shown.{ShowsAt, FourShow, ThreeShow, TwoShow, NineShow, side}
 use Rattle.ca_run.proofs.Shown.{at_stays, three_stay, at_from, centre_at, is_centre_at, at_corner}
 
 -- a leaper that does nothing goes on
-pub goes_on_same : (Rule : Type 0) (l : Leaping Rule) → IsSound l.nodes → GoesOn Rule l l
+pub goes_on_same : (Rule : Type 0) (l : LeaperView Rule) → IsSound l.nodes → GoesOn Rule l l
 goes_on_same Rule l sound = record { rule = refl; grows = grows_same l.nodes sound }
 
 -- the centre that a call gives shows the plane later

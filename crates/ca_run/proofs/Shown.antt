@@ -14,7 +14,7 @@ use Rattle.ca_quad.proofs.Growth.{grows_on}
 use Rattle.ca_quad.proofs.Cells.{cells_stay, of_stays}
 use Rattle.ca_run.specs.declared.leaper.trio.Trio.{Trio}
 use Rattle.ca_run.specs.Centre.{centre, IsCentre}
-use Rattle.ca_run.specs.Leaping.{Leaping, GoesOn}
+use Rattle.ca_run.specs.Leaping.{LeaperView, GoesOn}
 use Rattle.ca_run.specs.inner.Shown.{Looks, ShowsAt, FourShow, ThreeShow, TwoShow, AreThree, side}
 use Rattle.ca_run.specs.Memo.{memo_result, AreCentres, IsLeaper}
 use Rattle.ca_run.specs.FullLeaps.{HasFullLeap, AreFullLeaps}
@@ -24,11 +24,11 @@ use Rattle.ca_run.proofs.Looks.{looks_from, looks_together, looks_nw, looks_ne, 
 
 -- ---- growth
 
-pub goes_on_again : (Rule : Type 0) (old mid new : Leaping Rule) → GoesOn Rule old mid → GoesOn Rule mid new → GoesOn Rule old new
+pub goes_on_again : (Rule : Type 0) (old mid new : LeaperView Rule) → GoesOn Rule old mid → GoesOn Rule mid new → GoesOn Rule old new
 goes_on_again Rule old mid new g h = record { rule = h.rule ∙ g.rule; grows = grows_on old.nodes mid.nodes new.nodes g.grows h.grows }
 
 -- four calls, one after another
-pub four_go_on : {Rule : Type 0} {l0 l1 l2 l3 l4 : Leaping Rule} → GoesOn Rule l0 l1 → GoesOn Rule l1 l2 → GoesOn Rule l2 l3 → GoesOn Rule l3 l4 → GoesOn Rule l0 l4
+pub four_go_on : {Rule : Type 0} {l0 l1 l2 l3 l4 : LeaperView Rule} → GoesOn Rule l0 l1 → GoesOn Rule l1 l2 → GoesOn Rule l2 l3 → GoesOn Rule l3 l4 → GoesOn Rule l0 l4
 four_go_on g1 g2 g3 g4 = goes_on_again _ _ _ _ (goes_on_again _ _ _ _ g1 g2) (goes_on_again _ _ _ _ g3 g4)
 
 module _ (old new : List Node) (sound : IsSound old) (grows : Grows old new) where

@@ -4,7 +4,7 @@ use Rattle.ca_plane.specs.Generations.{cells_after}
 use Rattle.ca_quad.specs.declared.node.Node.{Node}
 use Rattle.ca_quad.specs.declared.tree.Tree.{Tree}
 use Rattle.ca_quad.specs.Trees.{IsTree, cell}
-use Rattle.ca_run.specs.Leaping.{Leaping, GoesOn}
+use Rattle.ca_run.specs.Leaping.{LeaperView, GoesOn}
 
 -- a tree that can be advanced by n generations: of at most 2^64 cells a side, by at most 2^60 generations
 pub record CanAdvance (nodes : List Node) (tree : Tree) (n : ℕ) : Type 0 where
@@ -13,13 +13,16 @@ pub record CanAdvance (nodes : List Node) (tree : Tree) (n : ℕ) : Type 0 where
   pub time : n ≤ 2 ^ 60
 
 -- the tree shows what the plane of the first one is n generations on, and has at most 2^124 cells a side
-pub record IsAdvanced (next : List ℕ → ℕ) (old : List Node) (first : Tree) (n : ℕ) (new : List Node) (tree : Tree) : Type 0 where
+pub record IsAdvanced (next : List ℕ → ℕ) (old : List Node) (first : Tree) (n : ℕ)
+    (new : List Node) (tree : Tree) : Type 0 where
   pub is_tree : IsTree new tree
   pub level : tree.level ≤ 124
   pub cells : (x y : ℤ) → cell new tree x y ≡ cells_after next (cell old first) n x y
 
--- what a call comes to that takes a tree n generations on: Ok with the later tree, which is the same one where n is 0; and what a leaper had stays
-pub record Advances {E : Type 0} (Rule : Type 0) (next : List ℕ → ℕ) (old : Leaping Rule) (tree : Tree) (n : ℕ) (new : Leaping Rule) (result : Result Tree E) : Type 0 where
+-- what a call comes to that takes a tree n generations on: Ok with the later tree, which is the same one where n is 0;
+-- and what a leaper had stays
+pub record Advances {E : Type 0} (Rule : Type 0) (next : List ℕ → ℕ) (old : LeaperView Rule)
+    (tree : Tree) (n : ℕ) (new : LeaperView Rule) (result : Result Tree E) : Type 0 where
   pub advanced : IfOk result (IsAdvanced next old.nodes tree n new.nodes)
   pub none : n ≡ 0 → result ≡ Ok tree
   pub goes_on : GoesOn Rule old new

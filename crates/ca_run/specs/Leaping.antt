@@ -4,11 +4,11 @@ use Rattle.ca_quad.specs.declared.node.Node.{Node}
 use Rattle.ca_quad.specs.Sound.{Grows}
 
 -- a rule, and the squares of a store
-pub record Leaping (Rule : Type 0) : Type 0 where
+pub record LeaperView (Rule : Type 0) : Type 0 where
   pub rule : Rule
   pub nodes : List Node
 
 -- the rule is the same, and each old square stays what it was
-pub record GoesOn (Rule : Type 0) (old new : Leaping Rule) : Type 0 where
+pub record GoesOn (Rule : Type 0) (old new : LeaperView Rule) : Type 0 where
   pub rule : new.rule ≡ old.rule
   pub grows : Grows old.nodes new.nodes

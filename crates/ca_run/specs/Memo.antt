@@ -14,10 +14,13 @@ memo_result results id j = lookup (λ (k : ℕ × ℕ). (id == k.0) && (j == k.1
 
 -- each remembered result is the centre of its square
 abbrev pub AreCentres : (List ℕ → ℕ) → List Node → List ((ℕ × ℕ) × ℕ) → Type 0
-AreCentres next nodes results = (id j half : ℕ) → memo_result results id j ≡ Some half → (k : ℕ) × IsCentre next nodes id k j half
+AreCentres next nodes results = (id j half : ℕ) → memo_result results id j ≡ Some half
+    → (k : ℕ) × IsCentre next nodes id k j half
 
 -- the rule and the squares are sound, what is remembered are centres, and the rule goes by the masks, if there are some
-pub record IsLeaper (next : List ℕ → ℕ) (RuleIsSound : Type 0) (nodes : List Node) (results : List ((ℕ × ℕ) × ℕ)) (slots : List (Option (ℕ × ℕ × ℕ))) (halves : List (Option ℕ)) (masks : Option (ℕ × ℕ)) : Type 0 where
+pub record IsLeaper (next : List ℕ → ℕ) (RuleIsSound : Type 0) (nodes : List Node)
+    (results : List ((ℕ × ℕ) × ℕ)) (slots : List (Option (ℕ × ℕ × ℕ))) (halves : List (Option ℕ))
+    (masks : Option (ℕ × ℕ)) : Type 0 where
   pub rule : RuleIsSound
   pub squares : IsSound nodes
   pub centres : AreCentres next nodes results

@@ -20,8 +20,8 @@ const STEP_REACH: i64 = REACH as i64 - 2;
 ///
 /// # Errors
 ///
-/// `Range` exactly where a live cell lies outside -(2^62 - 2) to 2^62 - 2, however much memory there is. Else fails where
-/// there is no memory for the plane one generation on.
+/// `Range` exactly where a live cell lies outside -(2^62 - 2) to 2^62 - 2, however much memory there is. Else
+/// fails where there is no memory for the plane one generation on.
 pub fn step<A: Automaton>(alloc: Global, rule: &A, plane: &Plane) -> Result<Plane, RunFault>
     requires { HasStates (A.state_count rule.now) plane.now }
     ensures { Steps (A.next_of rule.now) (A.state_count rule.now) plane.now 1 result }
@@ -65,7 +65,7 @@ fn next_plane<A: Automaton>(alloc: Global, rule: &A, cells: &[(Point, u8)]) -> R
     requires reach { All (λ e. IsInReach e.0.x e.0.y) cells.now }
     ensures { IfOk result (IsStepped (A.next_of rule.now) (A.state_count rule.now) cells.now 1) }
 {
-    // A rule that tells its states is sound: where all is empty, nothing is born, and its states lead to its states.
+    // A rule that tells its states is sound: nothing is born where all is empty, and it keeps to its states.
     let _states = rule.states();
     let mut window = Window::new(cells);
     let mut next = Plane::new(alloc);
@@ -84,8 +84,8 @@ fn next_plane<A: Automaton>(alloc: Global, rule: &A, cells: &[(Point, u8)]) -> R
 ///
 /// # Errors
 ///
-/// `Range` exactly where a live cell lies outside -(2^62 - 2) to 2^62 - 2 before one of the n steps, and the steps before
-/// it had memory. Else fails where there is no memory for a plane.
+/// `Range` exactly where a live cell lies outside -(2^62 - 2) to 2^62 - 2 before one of the n steps, and the
+/// steps before it had memory. Else fails where there is no memory for a plane.
 pub fn steps<A: Automaton>(
     alloc: Global,
     rule: &A,

@@ -23,8 +23,8 @@ const INNER: [u16; 16] = [
 // The mask of all numbers of live cells but 2 and 3.
 const FEW_OR_MANY: u16 = 0b1_1111_0011;
 
-/// The next generation of a tile, under the rule that goes by these masks (`Automaton::masks`). Bit x of a row is its
-/// cell at x. The cells on the edge have neighbours outside the tile, so they are 0 in the result.
+/// The next generation of a tile, under the rule that goes by these masks (`Automaton::masks`). Bit x of a
+/// row is its cell at x. The cells on the edge have neighbours outside the tile, so they are 0 in the result.
 pub fn kernel16(rows: &[u16; 16], birth: u16, survive: u16) -> [u16; 16]
     ensures rows { length result ≡ 16 }
     ensures words { All (λ row. row < 2 ^ 16) result }
@@ -46,7 +46,9 @@ pub(crate) fn next_tile(alive: Bits, birth: u16, survive: u16) -> Bits
 // The next state of each cell, from the number of live cells round it.
 #[inline(always)]
 fn next_bits(alive: Bits, count: Count, birth: u16, survive: u16) -> Bits
-    ensures { (x y : ℕ) → x < 16 → y < 16 → number count x y ≤ 8 → row_cells result.rows x y ≡ next_by_count birth survive (row_cells alive.rows x y) (number count x y) }
+    ensures { (x y : ℕ) → x < 16 → y < 16 → number count x y ≤ 8
+        → row_cells result.rows x y
+        ≡ next_by_count birth survive (row_cells alive.rows x y) (number count x y) }
 {
     let Count {
         ones,
@@ -69,7 +71,8 @@ fn next_bits(alive: Bits, count: Count, birth: u16, survive: u16) -> Bits
     with_count(next, alive, eights, is_in(birth, 8), is_in(survive, 8))
 }
 
-// These bits, and the next states of those cells which have `least` live cells round them, or one more where `ones` tells it.
+// These bits, and the next states of those cells which have `least` live cells round them, or one more where
+// `ones` tells it.
 #[inline(always)]
 fn with_pair(
     next: Bits,
@@ -81,7 +84,10 @@ fn with_pair(
     least: u8,
 ) -> Bits
     requires { least < 8 }
-    ensures { (x y : ℕ) → row_cells result.rows x y ≡ max (row_cells next.rows x y) (min (row_cells which.rows x y) (next_by_count birth survive (row_cells alive.rows x y) (least + row_cells ones.rows x y))) }
+    ensures { (x y : ℕ) → row_cells result.rows x y
+        ≡ max (row_cells next.rows x y)
+        (min (row_cells which.rows x y)
+        (next_by_count birth survive (row_cells alive.rows x y) (least + row_cells ones.rows x y))) }
 {
     let born = is_in(birth, least);
     let stays = is_in(survive, least);
@@ -97,7 +103,9 @@ fn with_pair(
 // These bits, and those of `which` for the cells that are born or stay.
 #[inline(always)]
 fn with_count(next: Bits, alive: Bits, which: Bits, born: bool, stays: bool) -> Bits
-    ensures { (x y : ℕ) → row_cells result.rows x y ≡ max (row_cells next.rows x y) (min (row_cells which.rows x y) (lives_next born stays (row_cells alive.rows x y))) }
+    ensures { (x y : ℕ) → row_cells result.rows x y
+        ≡ max (row_cells next.rows x y)
+        (min (row_cells which.rows x y) (lives_next born stays (row_cells alive.rows x y))) }
 {
     let next = if born {
         next.or(which.and_not(alive))

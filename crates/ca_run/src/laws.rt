@@ -11,20 +11,22 @@ ghost use Rattle.ca_run.specs.Reach.{grown_box};
 
 use ca_plane::Automaton;
 
-/// The state at (x, y) after n generations depends only on the cells within n of (x, y) in each direction: two pictures
-/// that show the same cells there have the same state at (x, y) after n generations.
+/// The state at (x, y) after n generations depends only on the cells within n of (x, y) in each direction:
+/// two pictures that show the same cells there have the same state at (x, y) after n generations.
 #[tactic(auto, using(crate::proofs::After::after_near))]
 pub fn l1<A: Automaton>(rule: &A)
-    ensures near { (p q : Picture) (n : ℕ) (x y : ℤ) → AgreeWithin n x y p q → after (A.next_of rule.now) p n x y ≡ after (A.next_of rule.now) q n x y }
+    ensures near { (p q : Picture) (n : ℕ) (x y : ℤ) → AgreeWithin n x y p q
+        → after (A.next_of rule.now) p n x y ≡ after (A.next_of rule.now) q n x y }
 {
     let _ = rule;
 }
 
-/// A moved picture goes on as the picture does, moved by the same vector: what the picture has at (x, y) after n
-/// generations, the moved one has at (x + dx, y + dy).
+/// A moved picture goes on as the picture does, moved by the same vector: what the picture has at (x, y)
+/// after n generations, the moved one has at (x + dx, y + dy).
 pub fn l2<A: Automaton>(rule: &A)
     ensures moved { (cells : Picture) (dx dy : ℤ) (n : ℕ) (x y : ℤ)
-        → after (A.next_of rule.now) (shifted cells dx dy) n (x +ℤ dx) (y +ℤ dy) ≡ after (A.next_of rule.now) cells n x y }
+        → after (A.next_of rule.now) (shifted cells dx dy) n (x +ℤ dx) (y +ℤ dy)
+        ≡ after (A.next_of rule.now) cells n x y }
 {
     let _ = rule;
 }
@@ -38,12 +40,14 @@ pub fn l3<A: Automaton>(rule: &A)
     let _ = rule;
 }
 
-/// Live cells spread by one cell a generation at most: outside a box that holds them all, grown by n cells on each
-/// side, no cell is live after n generations. And nothing comes of an empty plane.
+/// Live cells spread by one cell a generation at most: outside a box that holds them all, grown by n cells on
+/// each side, no cell is live after n generations. And nothing comes of an empty plane.
 pub fn l4<A: Automaton>(rule: &A)
-    ensures outside { (cells : Picture) (box : Bounds) (n : ℕ) (x y : ℤ) → ((u v : ℤ) → cell cells u v ≢ 0 → IsInBox box u v)
-        → (IsInBox (grown_box box n) x y → ⊥) → after (A.next_of rule.now) cells n x y ≡ 0 }
-    ensures empty { (cells : Picture) (n : ℕ) (x y : ℤ) → (IsLive cells → ⊥) → after (A.next_of rule.now) cells n x y ≡ 0 }
+    ensures outside { (cells : Picture) (box : Bounds) (n : ℕ) (x y : ℤ)
+        → ((u v : ℤ) → cell cells u v ≢ 0 → IsInBox box u v) → (IsInBox (grown_box box n) x y → ⊥)
+        → after (A.next_of rule.now) cells n x y ≡ 0 }
+    ensures empty { (cells : Picture) (n : ℕ) (x y : ℤ) → (IsLive cells → ⊥)
+        → after (A.next_of rule.now) cells n x y ≡ 0 }
 {
     // A rule that tells its states is sound: where all is empty, nothing is born.
     let _states = rule.states();
@@ -51,21 +55,25 @@ pub fn l4<A: Automaton>(rule: &A)
 
 /// A live pattern is moved onto itself by no vector but (0, 0).
 pub fn l5()
-    ensures { (cells : Picture) (dx dy : ℤ) → IsLive cells → IsSame cells (shifted cells dx dy) → (dx ≡ pos 0) × (dy ≡ pos 0) }
+    ensures { (cells : Picture) (dx dy : ℤ) → IsLive cells → IsSame cells (shifted cells dx dy)
+        → (dx ≡ pos 0) × (dy ≡ pos 0) }
 {}
 
-/// The least time at which a picture is back divides every such time, whether it has to be back in its place or may be
-/// moved by any vector. After k times as many generations it's back moved by k times the vector, and a live picture by
-/// no other vector.
+/// The least time at which a picture is back divides every such time, whether it has to be back in its place
+/// or may be moved by any vector. After k times as many generations it's back moved by k times the vector,
+/// and a live picture by no other vector.
 pub fn l6<A: Automaton>(rule: &A)
     ensures in_place { (cells : Picture) (m n : ℕ) → IsLeast (IsBackInPlace (A.next_of rule.now) cells) m
         → IsBackInPlace (A.next_of rule.now) cells n → m ∣ n }
     ensures anywhere { (cells : Picture) (m n : ℕ) → IsLeast (IsBackAnywhere (A.next_of rule.now) cells) m
         → IsBackAnywhere (A.next_of rule.now) cells n → m ∣ n }
-    ensures again { (cells : Picture) (m k : ℕ) (dx dy : ℤ) → IsAfter (A.next_of rule.now) cells m (shifted cells dx dy)
+    ensures again { (cells : Picture) (m k : ℕ) (dx dy : ℤ)
+        → IsAfter (A.next_of rule.now) cells m (shifted cells dx dy)
         → IsAfter (A.next_of rule.now) cells (k * m) (shifted cells (pos k *ℤ dx) (pos k *ℤ dy)) }
-    ensures vector { (cells : Picture) (m k : ℕ) (dx dy u v : ℤ) → IsLive cells → IsAfter (A.next_of rule.now) cells m (shifted cells dx dy)
-        → IsAfter (A.next_of rule.now) cells (k * m) (shifted cells u v) → (u ≡ pos k *ℤ dx) × (v ≡ pos k *ℤ dy) }
+    ensures vector { (cells : Picture) (m k : ℕ) (dx dy u v : ℤ) → IsLive cells
+        → IsAfter (A.next_of rule.now) cells m (shifted cells dx dy)
+        → IsAfter (A.next_of rule.now) cells (k * m) (shifted cells u v)
+        → (u ≡ pos k *ℤ dx) × (v ≡ pos k *ℤ dy) }
 {
     let _ = rule;
 }

@@ -51,14 +51,15 @@ pub struct Leaper<A: Automaton> {
 }
 
 impl<A: Automaton> Model for Leaper<A> {
-    ghost use Rattle.ca_run.specs.Leaping.{Leaping};
+    ghost use Rattle.ca_run.specs.Leaping.{LeaperView};
     ghost use Rattle.ca_run.specs.Memo.{IsLeaper};
 
-    ghost Value = { Leaping A };
+    ghost Value = { LeaperView A };
 
     ghost view = { λ l. record { rule = l.rule; nodes = l.store } };
 
-    ghost invariant = { λ l. IsLeaper (A.next_of l.rule) (A.sound l.rule) l.store l.memo l.recent_centres l.full_leaps l.masks };
+    ghost invariant = { λ l. IsLeaper (A.next_of l.rule) (A.sound l.rule) l.store l.memo l.recent_centres
+        l.full_leaps l.masks };
 }
 
 impl<A: Automaton> Leaper<A> {
@@ -133,7 +134,8 @@ impl<A: Automaton> Leaper<A> {
 
     // The 2 by 2 square of these cells.
     fn leaf(&mut self, nw: u8, ne: u8, sw: u8, se: u8) -> Result<Id, Memory>
-        ensures shows { IfOk result (λ id. Shows self.new.nodes id 1 (together 1 (dot nw) (dot ne) (dot sw) (dot se))) }
+        ensures shows { IfOk result (λ id. Shows self.new.nodes id 1
+            (together 1 (dot nw) (dot ne) (dot sw) (dot se))) }
         ensures goes_on { GoesOn A self.old self.new }
     {
         self.store.leaf(nw, ne, sw, se)
@@ -142,7 +144,8 @@ impl<A: Automaton> Leaper<A> {
     // The square of four whose own parts have the level `grain`.
     fn join(&mut self, nw: Id, ne: Id, sw: Id, se: Id, grain: u8) -> Result<Id, Memory>
         requires { AreFour self.old.nodes (suc grain) nw ne sw se }
-        ensures shows { (p : ℤ → ℤ → ℕ) (a b : ℤ) → FourShow self.old.nodes (suc grain) nw ne sw se p a b → IfOk result (λ id. ShowsAt self.new.nodes id (suc (suc grain)) p a b) }
+        ensures shows { (p : ℤ → ℤ → ℕ) (a b : ℤ) → FourShow self.old.nodes (suc grain) nw ne sw se p a b
+            → IfOk result (λ id. ShowsAt self.new.nodes id (suc (suc grain)) p a b) }
         ensures square { IfOk result (λ id. IsOf self.new.nodes id (suc (suc grain))) }
         ensures goes_on { GoesOn A self.old self.new }
     {

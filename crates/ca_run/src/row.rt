@@ -60,7 +60,8 @@ impl<'a> CellsAhead<'a> {
     }
 }
 
-/// One row of a window: the states of three cells side by side, and the cells of the plane that come after them.
+/// One row of a window: the states of three cells side by side, and the cells of the plane that come after
+/// them.
 #[derive(Drop)]
 pub(crate) struct Row<'a> {
     west: u8,
@@ -103,7 +104,7 @@ impl<'a> Row<'a> {
         self.centre == 0 && self.east == 0
     }
 
-    /// The first place from which a cell ahead is seen in the east, where this row is dy rows below the place.
+    /// The first place from which a cell ahead is seen in the east, this row being dy rows below it.
     pub(crate) fn first_place(&self, dy: i64) -> Option<Point>
         requires low { negsuc 0 ≤ℤ dy }
         requires high { dy ≤ℤ pos 1 }

@@ -18,7 +18,8 @@ const CORNER: Point = Point {
 
 /// Three rows of three cells, round a place of a plane.
 ///
-/// It moves on to one place after another, row by row from the top, and passes over places round which no cell is live.
+/// It moves on to one place after another, row by row from the top, and passes over places round which no
+/// cell is live.
 #[derive(Drop)]
 pub(crate) struct Window<'a> {
     place: Point,
@@ -29,7 +30,8 @@ pub(crate) struct Window<'a> {
 }
 
 impl<'a> Window<'a> {
-    ghost use Rattle.ca_run.specs.inner.Window.{nine_states, Shows, IsQuiet, StaysLive, SeesAhead, IsNextPlace, MovesTo};
+    ghost use Rattle.ca_run.specs.inner.Window.{nine_states, Shows, IsQuiet, StaysLive, SeesAhead};
+    ghost use Rattle.ca_run.specs.inner.Window.{IsNextPlace, MovesTo};
 
     /// A window that comes before all the cells.
     pub(crate) fn new(cells: &'a [(Point, u8)]) -> Window<'a>

@@ -17,7 +17,7 @@ enum Refusal {
     TakesNone,
 }
 
-/// Takes at most 3 bytes at a time, but none in the call with the number `fails_at`. Calls are counted from 1.
+/// Takes at most 3 bytes at a time, but none in the call `fails_at`, counted from 1.
 #[derive(Drop)]
 struct Page {
     taken: Vec<u8>,
@@ -125,7 +125,8 @@ fn each_read_asks_the_reader_once(rt: HostRuntime) {
     expect(&rt, reads_on(&mut endless, &mut buffer[..1]), "many reads");
 }
 
-/// Bytes that are written where the second write fails, what the write gives, how many failed by then, and what was taken.
+/// Bytes that are written where the second write fails, what the write gives, how many failed by then, and
+/// what was taken.
 const WRITES: &[(&[u8], Result<usize, Failed>, u64, &[u8])] = &[
     (b"bo$2", Ok(3), 0, b"bo$"),
     (b"2bo", Err(Failed), 1, b"bo$"),

@@ -1,4 +1,4 @@
-//! What the tests expect. All else answers yes or no, since one assertion is dearer to prove than a comparison.
+//! What the tests expect. All else answers yes or no, since an assertion costs more proof than a comparison.
 
 ghost use Rattle.std.specs.Prelude.{◌≡◌, IsTrue};
 ghost use Rattle.ca_plane.specs.Sparse.{IsInPlane};

@@ -17,7 +17,8 @@ fn put_another(store: &mut Store) -> Result<(), Memory> {
     Ok(())
 }
 
-/// How many squares a glider's tree adds to a store that has another square, which is read from one that has another, too.
+/// How many squares a glider's tree adds to a store that has another square, which is read from one that has
+/// another, too.
 fn imported(alloc: Global, from: &mut Store, store: &mut Store) -> Result<usize, Memory> {
     put_another(from)?;
     let tree = from.from_plane(&plane_of(alloc, GLIDER)?)?;

@@ -36,7 +36,8 @@ impl Bits {
     // The bits that are in both.
     #[inline(always)]
     pub(super) fn and(self, other: Bits) -> Bits
-        ensures { (x y : ℕ) → row_cells result.rows x y ≡ min (row_cells self.rows x y) (row_cells other.rows x y) }
+        ensures { (x y : ℕ) → row_cells result.rows x y
+            ≡ min (row_cells self.rows x y) (row_cells other.rows x y) }
     {
         Bits {
             rows: self.rows & other.rows,
@@ -46,7 +47,8 @@ impl Bits {
     // The bits that are in one of them or in both.
     #[inline(always)]
     pub(super) fn or(self, other: Bits) -> Bits
-        ensures { (x y : ℕ) → row_cells result.rows x y ≡ max (row_cells self.rows x y) (row_cells other.rows x y) }
+        ensures { (x y : ℕ) → row_cells result.rows x y
+            ≡ max (row_cells self.rows x y) (row_cells other.rows x y) }
     {
         Bits {
             rows: self.rows | other.rows,
@@ -56,7 +58,8 @@ impl Bits {
     // The bits that are in just one of them.
     #[inline(always)]
     pub(super) fn xor(self, other: Bits) -> Bits
-        ensures { (x y : ℕ) → row_cells result.rows x y ≡ (row_cells self.rows x y + row_cells other.rows x y) % 2 }
+        ensures { (x y : ℕ) → row_cells result.rows x y
+            ≡ (row_cells self.rows x y + row_cells other.rows x y) % 2 }
     {
         Bits {
             rows: self.rows ^ other.rows,

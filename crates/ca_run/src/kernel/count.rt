@@ -42,7 +42,8 @@ impl Count {
 // The sum of two bits at each place, in binary, the ones first.
 #[inline(always)]
 fn add2(a: Bits, b: Bits) -> (Bits, Bits)
-    ensures { (x y : ℕ) → row_cells a.rows x y + row_cells b.rows x y ≡ row_cells result.0.rows x y + 2 * row_cells result.1.rows x y }
+    ensures { (x y : ℕ) → row_cells a.rows x y + row_cells b.rows x y
+        ≡ row_cells result.0.rows x y + 2 * row_cells result.1.rows x y }
 {
     (a.xor(b), a.and(b))
 }
@@ -50,7 +51,8 @@ fn add2(a: Bits, b: Bits) -> (Bits, Bits)
 // The sum of three bits at each place.
 #[inline(always)]
 fn add3(a: Bits, b: Bits, c: Bits) -> (Bits, Bits)
-    ensures { (x y : ℕ) → row_cells a.rows x y + row_cells b.rows x y + row_cells c.rows x y ≡ row_cells result.0.rows x y + 2 * row_cells result.1.rows x y }
+    ensures { (x y : ℕ) → row_cells a.rows x y + row_cells b.rows x y + row_cells c.rows x y
+        ≡ row_cells result.0.rows x y + 2 * row_cells result.1.rows x y }
 {
     let one = a.xor(b);
     (one.xor(c), a.and(b).or(one.and(c)))

@@ -19,8 +19,8 @@ impl<A: Automaton> Leaper<A> {
     ///
     /// # Errors
     ///
-    /// Fails where there is no memory for more squares or results. Every tree stays as it was, and later calls go on with
-    /// what was worked out so far.
+    /// Fails where there is no memory for more squares or results. Every tree stays as it was, and later
+    /// calls go on with what was worked out so far.
     pub fn advance(&mut self, tree: Tree, n: u64) -> Result<Tree, LeapFault>
         requires { CanAdvance self.old.nodes tree n }
         ensures { Advances A (A.next_of self.old.rule) self.old tree n self.new result }
@@ -28,8 +28,9 @@ impl<A: Automaton> Leaper<A> {
         self.advance_watched(tree, n, &mut Unwatched)
     }
 
-    /// The same, while someone watches, who sees after most leaps how many generations are reached. Where n is 2^60,
-    /// there is one leap, and nothing is seen after it. Where the plane is stepped, it is after each four generations.
+    /// The same, while someone watches, who sees after most leaps how many generations are reached. Where n
+    /// is 2^60, there is one leap, and nothing is seen after it. Where the plane is stepped, it is after each
+    /// four generations.
     ///
     /// # Errors
     ///

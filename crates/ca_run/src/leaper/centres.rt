@@ -7,7 +7,8 @@ ghost use Rattle.ca_quad.specs.Trees.{AreFour};
 ghost use Rattle.ca_run.specs.Centre.{IsCentre};
 ghost use Rattle.ca_run.specs.Leaping.{GoesOn};
 ghost use Rattle.ca_run.specs.inner.Centres.{HasCentre};
-ghost use Rattle.ca_run.specs.inner.Shown.{ShowsAt, FourShow, TwoShow, ThreeShow, NineShow, AreThree, AreNine, side, generations, IsTimely};
+ghost use Rattle.ca_run.specs.inner.Shown.{ShowsAt, FourShow, TwoShow, ThreeShow, NineShow, AreThree};
+ghost use Rattle.ca_run.specs.inner.Shown.{AreNine, side, generations, IsTimely};
 
 use super::Leaper;
 use super::trio::{Rows, Trio};
@@ -75,16 +76,19 @@ impl<A: Automaton> Leaper<A> {
         self.centre_of_nine(id, grain - 1, None, j)
     }
 
-    // The centre of a square by nine squares that overlap, each half as wide: their centres make four squares, and the
-    // centres of these are the result.
+    // The centre of a square by nine squares that overlap, each half as wide: their centres make four
+    // squares, and the centres of these are the result.
     #[cycle(leap)]
     fn centre_of_nine(&mut self, id: Id, grain: u8, first: Option<u8>, j: u8) -> Result<Id, Memory>
         requires square { IsOf self.old.nodes id (suc (suc (suc grain))) }
         requires low { grain ≤ 122 }
         requires first { IsTimely grain first }
         requires time { j ≤ grain }
-        ensures shows { (next : List ℕ → ℕ) (p : ℤ → ℤ → ℕ) (a b : ℤ) → next ≡ A.next_of self.old.rule → ShowsAt self.old.nodes id (suc (suc (suc grain))) p a b
-            → IfOk result (λ half. ShowsAt self.new.nodes half (suc (suc grain)) (cells_after next (cells_after next p (generations first)) (2 ^ j)) (a +ℤ side (suc grain)) (b +ℤ side (suc grain))) }
+        ensures shows { (next : List ℕ → ℕ) (p : ℤ → ℤ → ℕ) (a b : ℤ) → next ≡ A.next_of self.old.rule
+            → ShowsAt self.old.nodes id (suc (suc (suc grain))) p a b
+            → IfOk result (λ half. ShowsAt self.new.nodes half (suc (suc grain))
+            (cells_after next (cells_after next p (generations first)) (2 ^ j))
+            (a +ℤ side (suc grain)) (b +ℤ side (suc grain))) }
         ensures goes_on { GoesOn A self.old self.new }
     {
         let rows = self.nine(id, grain, first)?;
@@ -99,8 +103,10 @@ impl<A: Automaton> Leaper<A> {
         requires square { IsOf self.old.nodes id (suc (suc (suc grain))) }
         requires low { grain ≤ 122 }
         requires first { IsTimely grain first }
-        ensures shows { (next : List ℕ → ℕ) (p : ℤ → ℤ → ℕ) (a b : ℤ) → next ≡ A.next_of self.old.rule → ShowsAt self.old.nodes id (suc (suc (suc grain))) p a b
-            → IfOk result (λ rows. NineShow self.new.nodes (suc grain) rows (cells_after next p (generations first)) (a +ℤ side grain) (b +ℤ side grain)) }
+        ensures shows { (next : List ℕ → ℕ) (p : ℤ → ℤ → ℕ) (a b : ℤ) → next ≡ A.next_of self.old.rule
+            → ShowsAt self.old.nodes id (suc (suc (suc grain))) p a b
+            → IfOk result (λ rows. NineShow self.new.nodes (suc grain) rows
+            (cells_after next p (generations first)) (a +ℤ side grain) (b +ℤ side grain)) }
         ensures squares { IfOk result (AreNine self.new.nodes (suc grain)) }
         ensures goes_on { GoesOn A self.old self.new }
     {
@@ -124,8 +130,10 @@ impl<A: Automaton> Leaper<A> {
         requires east { IsOf self.old.nodes east (suc (suc grain)) }
         requires low { grain ≤ 122 }
         requires first { IsTimely grain first }
-        ensures shows { (next : List ℕ → ℕ) (p : ℤ → ℤ → ℕ) (a b : ℤ) → next ≡ A.next_of self.old.rule → TwoShow self.old.nodes (suc (suc grain)) west east p a b
-            → IfOk result (λ three. ThreeShow self.new.nodes (suc grain) three (cells_after next p (generations first)) (a +ℤ side grain) (b +ℤ side grain)) }
+        ensures shows { (next : List ℕ → ℕ) (p : ℤ → ℤ → ℕ) (a b : ℤ) → next ≡ A.next_of self.old.rule
+            → TwoShow self.old.nodes (suc (suc grain)) west east p a b
+            → IfOk result (λ three. ThreeShow self.new.nodes (suc grain) three
+            (cells_after next p (generations first)) (a +ℤ side grain) (b +ℤ side grain)) }
         ensures squares { IfOk result (AreThree self.new.nodes (suc grain)) }
         ensures goes_on { GoesOn A self.old self.new }
     {
@@ -143,8 +151,10 @@ impl<A: Automaton> Leaper<A> {
         requires square { IsOf self.old.nodes id (suc (suc grain)) }
         requires low { grain ≤ 122 }
         requires first { IsTimely grain first }
-        ensures shows { (next : List ℕ → ℕ) (p : ℤ → ℤ → ℕ) (a b : ℤ) → next ≡ A.next_of self.old.rule → ShowsAt self.old.nodes id (suc (suc grain)) p a b
-            → IfOk result (λ half. ShowsAt self.new.nodes half (suc grain) (cells_after next p (generations first)) (a +ℤ side grain) (b +ℤ side grain)) }
+        ensures shows { (next : List ℕ → ℕ) (p : ℤ → ℤ → ℕ) (a b : ℤ) → next ≡ A.next_of self.old.rule
+            → ShowsAt self.old.nodes id (suc (suc grain)) p a b
+            → IfOk result (λ half. ShowsAt self.new.nodes half (suc grain)
+            (cells_after next p (generations first)) (a +ℤ side grain) (b +ℤ side grain)) }
         ensures square { IfOk result (λ half. IsOf self.new.nodes half (suc grain)) }
         ensures goes_on { GoesOn A self.old self.new }
     {
@@ -163,8 +173,10 @@ impl<A: Automaton> Leaper<A> {
         requires low { grain ≤ 122 }
         requires time { j ≤ grain }
         ensures shows { (next : List ℕ → ℕ) (p : ℤ → ℤ → ℕ) (a b : ℤ) → next ≡ A.next_of self.old.rule
-            → ThreeShow self.old.nodes (suc grain) north.now p a b → ThreeShow self.old.nodes (suc grain) south.now p a (b +ℤ side (suc grain))
-            → IfOk result (λ two. TwoShow self.new.nodes (suc grain) two.0 two.1 (cells_after next p (2 ^ j)) (a +ℤ side grain) (b +ℤ side grain)) }
+            → ThreeShow self.old.nodes (suc grain) north.now p a b
+            → ThreeShow self.old.nodes (suc grain) south.now p a (b +ℤ side (suc grain))
+            → IfOk result (λ two. TwoShow self.new.nodes (suc grain) two.0 two.1 (cells_after next p (2 ^ j))
+            (a +ℤ side grain) (b +ℤ side grain)) }
         ensures west { IfOk result (λ two. IsOf self.new.nodes two.0 (suc grain)) }
         ensures east { IfOk result (λ two. IsOf self.new.nodes two.1 (suc grain)) }
         ensures goes_on { GoesOn A self.old self.new }
@@ -203,8 +215,10 @@ impl<A: Automaton> Leaper<A> {
         requires four { AreFour self.old.nodes (suc grain) nw ne sw se }
         requires low { grain ≤ 122 }
         requires time { j ≤ grain }
-        ensures shows { (next : List ℕ → ℕ) (p : ℤ → ℤ → ℕ) (a b : ℤ) → next ≡ A.next_of self.old.rule → FourShow self.old.nodes (suc grain) nw ne sw se p a b
-            → IfOk result (λ half. ShowsAt self.new.nodes half (suc grain) (cells_after next p (2 ^ j)) (a +ℤ side grain) (b +ℤ side grain)) }
+        ensures shows { (next : List ℕ → ℕ) (p : ℤ → ℤ → ℕ) (a b : ℤ) → next ≡ A.next_of self.old.rule
+            → FourShow self.old.nodes (suc grain) nw ne sw se p a b
+            → IfOk result (λ half. ShowsAt self.new.nodes half (suc grain) (cells_after next p (2 ^ j))
+            (a +ℤ side grain) (b +ℤ side grain)) }
         ensures square { IfOk result (λ half. IsOf self.new.nodes half (suc grain)) }
         ensures goes_on { GoesOn A self.old self.new }
     {

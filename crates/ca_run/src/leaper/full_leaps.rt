@@ -8,8 +8,8 @@ use ca_quad::Id;
 use std::alloc::Global;
 use std::marker::Model;
 
-/// The centres of squares as far on as they can be known: after a quarter as many generations as they have cells a side.
-/// A square has the slot of its number.
+/// The centres of squares as far on as they can be known: after a quarter as many generations as they have
+/// cells a side. A square has the slot of its number.
 #[derive(Drop)]
 pub(crate) struct FullLeaps {
     slots: Vec<Option<Id>>,
@@ -47,7 +47,8 @@ impl FullLeaps {
 
     /// Remembers the centre of a square.
     pub(crate) fn put(&mut self, id: Id, half: Id) -> Result<(), Memory>
-        ensures { (other centre : ℕ) → HasFullLeap self.new other centre → HasFullLeap self.old other centre ⊎ ((other ≡ id) × (centre ≡ half)) }
+        ensures { (other centre : ℕ) → HasFullLeap self.new other centre
+            → HasFullLeap self.old other centre ⊎ ((other ≡ id) × (centre ≡ half)) }
     {
         let place = id.number();
         self.make_room(place)?;

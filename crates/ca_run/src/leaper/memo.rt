@@ -9,7 +9,7 @@ use std::alloc::Global;
 use std::collections::HashMap;
 use std::marker::Model;
 
-/// The centres of squares after 2^j generations, by square and j. One that was forgotten costs nothing but time.
+/// The centres of squares after 2^j generations, by square and j. A forgotten one costs only time.
 #[derive(Drop)]
 pub(crate) struct Memo {
     results: HashMap<(Id, u8), Id>,
@@ -42,7 +42,8 @@ impl Memo {
 
     /// Remembers the centre of a square.
     pub(crate) fn put(&mut self, id: Id, j: u8, centre: Id) -> Result<(), Memory>
-        ensures ok { OnOk result ((other time : ℕ) → memo_result self.new other time ≡ cond ((id == other) && (j == time)) (Some centre) (memo_result self.old other time)) }
+        ensures ok { OnOk result ((other time : ℕ) → memo_result self.new other time
+            ≡ cond ((id == other) && (j == time)) (Some centre) (memo_result self.old other time)) }
         ensures err { OnErr result (self.new ≡ self.old) }
     {
         self.results.insert((id, j), centre)?;

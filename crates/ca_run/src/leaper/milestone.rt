@@ -11,8 +11,9 @@ use ca_plane::Automaton;
 use ca_quad::Tree;
 use std::marker::Model;
 
-/// A number of generations that a run reports. It is made in this module's crate alone, with a tree or rows that show the
-/// plane of some tree after that many generations. That this is the tree with which the run began is tested.
+/// A number of generations that a run reports. It is made in this module's crate alone, with a tree or rows
+/// that show the plane of some tree after that many generations. That this is the tree with which the run
+/// began is tested.
 #[derive(Clone, Copy)]
 pub struct Milestone {
     generations: u64,
@@ -43,7 +44,8 @@ impl Milestone {
         held: &Tree,
         generations: u64,
     ) -> Milestone
-        requires { (x y : ℤ) → cell leaper.now.nodes held.now x y ≡ cells_after (A.next_of leaper.now.rule) (cell leaper.now.nodes first.now) generations x y }
+        requires { (x y : ℤ) → cell leaper.now.nodes held.now x y
+            ≡ cells_after (A.next_of leaper.now.rule) (cell leaper.now.nodes first.now) generations x y }
         ensures { result ≡ generations }
     {
         let _ = leaper;
@@ -59,7 +61,8 @@ impl Milestone {
         held: &Grid,
         generations: u64,
     ) -> Milestone
-        requires { IsShown held.now (cells_after (A.next_of leaper.now.rule) (cell leaper.now.nodes first.now) generations) }
+        requires { IsShown held.now
+            (cells_after (A.next_of leaper.now.rule) (cell leaper.now.nodes first.now) generations) }
         ensures { result ≡ generations }
     {
         let _ = leaper;

@@ -64,7 +64,8 @@ impl<A: Automaton> Leaper<A> {
         requires square { IsOf self.old.nodes id (suc (suc grain)) }
         requires low { grain ≤ 123 }
         ensures shows { (p : ℤ → ℤ → ℕ) (a b : ℤ) → ShowsAt self.old.nodes id (suc (suc grain)) p a b
-            → IfOk result (λ half. ShowsAt self.new.nodes half (suc grain) p (a +ℤ side grain) (b +ℤ side grain)) }
+            → IfOk result (λ half. ShowsAt self.new.nodes half (suc grain) p
+            (a +ℤ side grain) (b +ℤ side grain)) }
         ensures square { IfOk result (λ half. IsOf self.new.nodes half (suc grain)) }
         ensures goes_on { GoesOn A self.old self.new }
     {

@@ -37,8 +37,10 @@ impl<A: Automaton> Leaper<A> {
         requires b { IsTree self.old.nodes b }
         requires a_low { a.level ≤ 124 }
         requires b_low { b.level ≤ 124 }
-        ensures none { IfOk result (λ found. IsNone found ↔ ((x y : ℤ) → cell self.old.nodes a x y ≡ cell self.old.nodes b x y)) }
-        ensures some { IfOk result (λ found. IfSome found (λ at. cell self.old.nodes a at.x at.y ≢ cell self.old.nodes b at.x at.y)) }
+        ensures none { IfOk result (λ found. IsNone found
+            ↔ ((x y : ℤ) → cell self.old.nodes a x y ≡ cell self.old.nodes b x y)) }
+        ensures some { IfOk result (λ found. IfSome found
+            (λ at. cell self.old.nodes a at.x at.y ≢ cell self.old.nodes b at.x at.y)) }
         ensures goes_on { GoesOn A self.old self.new }
     {
         let level = a.level.max(b.level);

@@ -13,8 +13,8 @@ const FIRST: usize = 1024;
 
 const MOST: usize = 262144;
 
-/// Centres of squares after 2^j generations. A square, the j and its centre have the slot of their hash until others
-/// come there.
+/// Centres of squares after 2^j generations. A square, the j and its centre have the slot of their hash until
+/// others come there.
 #[derive(Drop)]
 pub(crate) struct RecentCentres {
     slots: Vec<Option<(Id, u8, Id)>>,
@@ -60,7 +60,8 @@ impl RecentCentres {
 
     /// Remembers the centre of a square, if there is memory for any.
     pub(crate) fn put(&mut self, id: Id, j: u8, half: Id)
-        ensures { (other time centre : ℕ) → HasRecent self.new other time centre → HasRecent self.old other time centre ⊎ ((other ≡ id) × (time ≡ j) × (centre ≡ half)) }
+        ensures { (other time centre : ℕ) → HasRecent self.new other time centre
+            → HasRecent self.old other time centre ⊎ ((other ≡ id) × (time ≡ j) × (centre ≡ half)) }
     {
         self.count_one();
         if let Some(place) = self.place(id, j) {
@@ -92,7 +93,8 @@ impl RecentCentres {
         }
     }
 
-    // Four times as many slots, where that isn't too many and there is memory. Most of what is kept isn't found any more.
+    // Four times as many slots, where that isn't too many and there is memory. Most of what is kept isn't
+    // found any more.
     fn grow(&mut self)
         ensures { (id j half : ℕ) → HasRecent self.new id j half → HasRecent self.old id j half }
     {

@@ -16,7 +16,8 @@ impl<A: Automaton> Leaper<A> {
     // The word of a square of 8 by 8 cells, where it has no state above 1.
     pub(super) fn word(&self, id: Id) -> Option<u64>
         requires { IsOf self.now.nodes id 3 }
-        ensures { (p : ℤ → ℤ → ℕ) (a b : ℤ) → ShowsAt self.now.nodes id 3 p a b → IfSome result (λ word. WordShows word p a b) }
+        ensures { (p : ℤ → ℤ → ℕ) (a b : ℤ) → ShowsAt self.now.nodes id 3 p a b
+            → IfSome result (λ word. WordShows word p a b) }
     {
         self.store.word(id)
     }
@@ -24,7 +25,8 @@ impl<A: Automaton> Leaper<A> {
     // The words of a square of 16 by 16 cells, where it has no state above 1.
     pub(super) fn words(&self, id: Id) -> Option<Words>
         requires { IsOf self.now.nodes id 4 }
-        ensures { (p : ℤ → ℤ → ℕ) (a b : ℤ) → ShowsAt self.now.nodes id 4 p a b → IfSome result (λ words. WordsShow words p a b) }
+        ensures { (p : ℤ → ℤ → ℕ) (a b : ℤ) → ShowsAt self.now.nodes id 4 p a b
+            → IfSome result (λ words. WordsShow words p a b) }
     {
         let (nw, ne, sw, se) = self.quarters(id, 2);
         Some(Words {
@@ -38,7 +40,8 @@ impl<A: Automaton> Leaper<A> {
     // The words of a square of 32 by 32 cells, where it has no state above 1.
     pub(super) fn wide_square(&self, id: Id) -> Option<WideSquare>
         requires { IsOf self.now.nodes id 5 }
-        ensures { (p : ℤ → ℤ → ℕ) (a b : ℤ) → ShowsAt self.now.nodes id 5 p a b → IfSome result (λ wide. WideSquareShows wide p a b) }
+        ensures { (p : ℤ → ℤ → ℕ) (a b : ℤ) → ShowsAt self.now.nodes id 5 p a b
+            → IfSome result (λ wide. WideSquareShows wide p a b) }
     {
         let (nw, ne, sw, se) = self.quarters(id, 3);
         Some(WideSquare {
@@ -51,7 +54,8 @@ impl<A: Automaton> Leaper<A> {
 
     // The square of 8 by 8 cells of a word.
     pub(super) fn from_word(&mut self, word: u64) -> Result<Id, Memory>
-        ensures shows { (p : ℤ → ℤ → ℕ) (a b : ℤ) → WordShows word p a b → IfOk result (λ id. ShowsAt self.new.nodes id 3 p a b) }
+        ensures shows { (p : ℤ → ℤ → ℕ) (a b : ℤ) → WordShows word p a b
+            → IfOk result (λ id. ShowsAt self.new.nodes id 3 p a b) }
         ensures square { IfOk result (λ id. IsOf self.new.nodes id 3) }
         ensures goes_on { GoesOn A self.old self.new }
     {
@@ -60,7 +64,8 @@ impl<A: Automaton> Leaper<A> {
 
     // The square of 16 by 16 cells of four words.
     pub(super) fn from_words(&mut self, words: Words) -> Result<Id, Memory>
-        ensures shows { (p : ℤ → ℤ → ℕ) (a b : ℤ) → WordsShow words p a b → IfOk result (λ id. ShowsAt self.new.nodes id 4 p a b) }
+        ensures shows { (p : ℤ → ℤ → ℕ) (a b : ℤ) → WordsShow words p a b
+            → IfOk result (λ id. ShowsAt self.new.nodes id 4 p a b) }
         ensures square { IfOk result (λ id. IsOf self.new.nodes id 4) }
         ensures goes_on { GoesOn A self.old self.new }
     {

@@ -33,7 +33,8 @@ fn bytes_of(north: u64, south: u64) -> u16x16
 // The tile so many generations on, as far from its edge as they reach. The rule goes by these masks.
 #[inline(always)]
 pub(super) fn later_tile(tile: Bits, masks: (u16, u16), n: u8) -> Bits
-    ensures { (next : List ℕ → ℕ) (p : ℤ → ℤ → ℕ) (a b : ℤ) → GoesBy next masks → TileShows tile.rows 0 p a b → TileShows result.rows n (cells_after next p n) a b }
+    ensures { (next : List ℕ → ℕ) (p : ℤ → ℤ → ℕ) (a b : ℤ) → GoesBy next masks → TileShows tile.rows 0 p a b
+        → TileShows result.rows n (cells_after next p n) a b }
 {
     let (birth, survive) = masks;
     let mut now = tile;
@@ -45,7 +46,8 @@ pub(super) fn later_tile(tile: Bits, masks: (u16, u16), n: u8) -> Bits
 
 // The 8 by 8 cells in the middle of a tile.
 pub(super) fn middle(rows: &[u16; 16]) -> u64
-    ensures { (p : ℤ → ℤ → ℕ) (a b : ℤ) → TileShows rows.now 4 p a b → WordShows result p (a +ℤ pos 4) (b +ℤ pos 4) }
+    ensures { (p : ℤ → ℤ → ℕ) (a b : ℤ) → TileShows rows.now 4 p a b
+        → WordShows result p (a +ℤ pos 4) (b +ℤ pos 4) }
 {
     u64::from_le_bytes([
         inner_byte(rows[4]),

@@ -2,7 +2,8 @@
 
 ghost use Rattle.std.specs.Prelude.{ℕ, ◌+◌, ◌≤◌, ℤ, pos, ◌+ℤ◌, List};
 ghost use Rattle.ca_plane.specs.Generations.{cells_after};
-ghost use Rattle.ca_run.specs.inner.Words.{WordsShow, TwoWordsShow, ThreeWordsShow, NineWordsShow, WideSquareShows};
+ghost use Rattle.ca_run.specs.inner.Words.{WordsShow, TwoWordsShow, ThreeWordsShow, NineWordsShow};
+ghost use Rattle.ca_run.specs.inner.Words.{WideSquareShows};
 ghost use Rattle.ca_run.specs.Masks.{GoesBy};
 
 use super::words::Words;
@@ -33,12 +34,13 @@ pub(crate) struct NineWords {
 }
 
 impl WideSquare {
-    // The 16 by 16 cells in the middle, so many generations on and then so many more, at most 4 each. The rule goes by
-    // these masks.
+    // The 16 by 16 cells in the middle, so many generations on and then so many more, at most 4 each. The
+    // rule goes by these masks.
     pub(super) fn centre(&self, masks: (u16, u16), first: u8, more: u8) -> Words
         requires first { first ≤ 4 }
         requires more { more ≤ 4 }
-        ensures { (next : List ℕ → ℕ) (p : ℤ → ℤ → ℕ) (a b : ℤ) → GoesBy next masks → WideSquareShows self.now p a b
+        ensures { (next : List ℕ → ℕ) (p : ℤ → ℤ → ℕ) (a b : ℤ) → GoesBy next masks
+            → WideSquareShows self.now p a b
             → WordsShow result (cells_after next p (first + more)) (a +ℤ pos 8) (b +ℤ pos 8) }
     {
         let nine = self.nine(masks, first);
@@ -50,7 +52,8 @@ impl WideSquare {
     // The centres of the nine squares.
     fn nine(&self, masks: (u16, u16), n: u8) -> NineWords
         requires { n ≤ 4 }
-        ensures { (next : List ℕ → ℕ) (p : ℤ → ℤ → ℕ) (a b : ℤ) → GoesBy next masks → WideSquareShows self.now p a b
+        ensures { (next : List ℕ → ℕ) (p : ℤ → ℤ → ℕ) (a b : ℤ) → GoesBy next masks
+            → WideSquareShows self.now p a b
             → NineWordsShow result (cells_after next p n) (a +ℤ pos 4) (b +ℤ pos 4) }
     {
         let west = Words::middle_of_column(self.nw, self.sw);
@@ -66,7 +69,8 @@ impl WideSquare {
 // The centres of two squares side by side, and of the one between them.
 fn three_centres(west: Words, east: Words, masks: (u16, u16), n: u8) -> ThreeWords
     requires { n ≤ 4 }
-    ensures { (next : List ℕ → ℕ) (p : ℤ → ℤ → ℕ) (a b : ℤ) → GoesBy next masks → WordsShow west p a b → WordsShow east p (a +ℤ pos 16) b
+    ensures { (next : List ℕ → ℕ) (p : ℤ → ℤ → ℕ) (a b : ℤ) → GoesBy next masks → WordsShow west p a b
+        → WordsShow east p (a +ℤ pos 16) b
         → ThreeWordsShow result (cells_after next p n) (a +ℤ pos 4) (b +ℤ pos 4) }
 {
     ThreeWords {
@@ -79,7 +83,8 @@ fn three_centres(west: Words, east: Words, masks: (u16, u16), n: u8) -> ThreeWor
 // The centres of two squares that overlap by half, made of two rows of three.
 fn pair(north: &ThreeWords, south: &ThreeWords, masks: (u16, u16), n: u8) -> (u64, u64)
     requires { n ≤ 4 }
-    ensures { (next : List ℕ → ℕ) (p : ℤ → ℤ → ℕ) (a b : ℤ) → GoesBy next masks → ThreeWordsShow north.now p a b → ThreeWordsShow south.now p a (b +ℤ pos 8)
+    ensures { (next : List ℕ → ℕ) (p : ℤ → ℤ → ℕ) (a b : ℤ) → GoesBy next masks
+        → ThreeWordsShow north.now p a b → ThreeWordsShow south.now p a (b +ℤ pos 8)
         → TwoWordsShow result (cells_after next p n) (a +ℤ pos 4) (b +ℤ pos 4) }
 {
     let west = Words {

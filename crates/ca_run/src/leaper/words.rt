@@ -37,7 +37,8 @@ impl Words {
 
     // The square in the middle between two that lie side by side.
     pub(super) fn middle_of_row(west: Words, east: Words) -> Words
-        ensures { (p : ℤ → ℤ → ℕ) (a b : ℤ) → WordsShow west p a b → WordsShow east p (a +ℤ pos 16) b → WordsShow result p (a +ℤ pos 8) b }
+        ensures { (p : ℤ → ℤ → ℕ) (a b : ℤ) → WordsShow west p a b → WordsShow east p (a +ℤ pos 16) b
+            → WordsShow result p (a +ℤ pos 8) b }
     {
         Words {
             nw: west.ne,
@@ -49,7 +50,8 @@ impl Words {
 
     // The square in the middle between two of which one lies over the other.
     pub(super) fn middle_of_column(north: Words, south: Words) -> Words
-        ensures { (p : ℤ → ℤ → ℕ) (a b : ℤ) → WordsShow north p a b → WordsShow south p a (b +ℤ pos 16) → WordsShow result p a (b +ℤ pos 8) }
+        ensures { (p : ℤ → ℤ → ℕ) (a b : ℤ) → WordsShow north p a b → WordsShow south p a (b +ℤ pos 16)
+            → WordsShow result p a (b +ℤ pos 8) }
     {
         Words {
             nw: north.sw,
