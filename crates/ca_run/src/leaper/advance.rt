@@ -48,23 +48,10 @@ impl<A: Automaton> Leaper<A> {
         if let Some(later) = self.step_dense(tree, n, watch)? {
             return Ok(later);
         }
-        Ok(self.leap_by_digits(tree, n, watch)?)
-    }
-
-    // The tree n generations on, by a leap for each binary digit.
-    fn leap_by_digits<W: Watch>(
-        &mut self,
-        tree: Tree,
-        n: u64,
-        watch: &mut W,
-    ) -> Result<Tree, LeapFault>
-        requires { CanAdvance self.old.nodes tree n }
-        ensures { Advances A (A.next_of self.old.rule) self.old tree n self.new result }
-    {
-        let _ = &self.store;
         if n == MOST_GENERATIONS {
             return Ok(self.leap(tree, 60)?);
         }
+        // By a leap for each binary digit.
         let mut now = tree;
         'digits: for j in 0..60 {
             if (n >> j) % 2 == 1 {

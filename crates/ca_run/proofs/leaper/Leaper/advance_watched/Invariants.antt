@@ -3,7 +3,7 @@ use Rattle.std.specs.Prelude.{ℤ}
 use Rattle.ca_plane.specs.Generations.{cells_after}
 use Rattle.ca_quad.specs.Trees.{IsTree, cell}
 use Rattle.ca_run.specs.Leaping.{GoesOn}
-use Rattle.ca_run.proofs.leaper.Leaper.leap_by_digits.Given as goal
+use Rattle.ca_run.proofs.leaper.Leaper.advance_watched.Given as goal
 
 -- as many generations on as the first j binary digits say
 abbrev pub invariant-digits : goal.invariant-digits
