@@ -20,11 +20,7 @@ struct Life;
 impl Automaton for Life {
     ghost state_count = { λ _. 2 };
 
-    ghost next_of = { λ _ nine.
-        let count = slice_index nine 0 + slice_index nine 1 + slice_index nine 2
-        + slice_index nine 3 + slice_index nine 4 + slice_index nine 5
-        + slice_index nine 6 + slice_index nine 7 + slice_index nine 8 in
-        if (count == 3) || ((count == 4) && (slice_index nine 4 == 1)) then 1 else 0 };
+    ghost next_of = { λ _ nine. let count = slice_index nine 0 + slice_index nine 1 + slice_index nine 2 + slice_index nine 3 + slice_index nine 4 + slice_index nine 5 + slice_index nine 6 + slice_index nine 7 + slice_index nine 8 in if (count == 3) || ((count == 4) && (slice_index nine 4 == 1)) then 1 else 0 };
 
     ghost sound = { λ _. Unit {0} };
 
