@@ -1,5 +1,7 @@
 -- A text's lines say one thing, or one of them is the first that is faulty.
-use Rattle.std.proofs.Common.{◌≡◌, ◌≢◌, ℕ, suc, ◌+◌, List, [], ◌∷◌, ◌++◌, length, Option, Some, None, is_some, ◌⊎◌, inl, inr, refl, sym, ap, subst, ◌∙◌, arith}
+use Rattle.std.proofs.Common.{◌≡◌, ◌≢◌, ℕ, suc, ◌+◌, List, [], ◌∷◌, ◌++◌, length, get_or, Bool, true, Option, Some, None, is_some, codes, ◌⊎◌, inl, inr, refl, sym, ap, subst, ◌∙◌, arith}
+use Rattle.std.specs.List.{list_any}
+use Rattle.std.specs.Str.{bytes_eq}
 use Rattle.std.proofs.lemmas.Bool.{false≢true}
 use Rattle.std.proofs.lemmas.List.{append-nil}
 use Rattle.ca_plane.specs.Bytes.{IsInteger, lines_of, words_of, value}
@@ -49,25 +51,26 @@ same_claim words a b h k =
     let kind = same.2 in
     λ i. record { pattern = pattern i; other = other i; kind = kind i }
 
+-- words begin as a claim's do
+abbrev pub begins_claim : List (List ℕ) → Bool
+begins_claim words = list_any (bytes_eq (get_or words 0 [])) (codes "still" ∷ codes "oscillator" ∷ codes "spaceship" ∷ codes "becomes" ∷ [])
+
+pub claim_begins : (words : List (List ℕ)) (claim : Claim) → WordsSay words (Claims claim) → begins_claim words ≡ true
+claim_begins words claim h = begins claim.pattern claim.other claim.kind h
+  where
+    begins : (n : List ℕ) (o : Option (List ℕ)) (kind : Kind) → WordsClaim words n o kind → begins_claim words ≡ true
+    begins n o Still w = ap begins_claim w.0
+    begins n o (Oscillator v) w = ap begins_claim w.1
+    begins n o (Spaceship v dx dy) w = ap begins_claim w.3
+    begins n o (Becomes v) w = ap begins_claim w.2
+
 -- and no name is loaded by words that make a claim
 load_or_claim : (words : List (List ℕ)) (name path : List ℕ) (claim : Claim) → WordsSay words (Load name path) → WordsSay words (Claims claim) → ⊥
-load_or_claim words name path claim h k = none claim.pattern claim.other claim.kind k
-  where
-    none : (n : List ℕ) (o : Option (List ℕ)) (kind : Kind) → WordsClaim words n o kind → ⊥
-    none n o Still w = let same = w.0 in cc
-    none n o (Oscillator v) w = let same = w.1 in cc
-    none n o (Spaceship v dx dy) w = let same = w.3 in cc
-    none n o (Becomes v) w = let same = w.2 in cc
+load_or_claim words name path claim h k = false≢true (sym (ap begins_claim h) ∙ claim_begins words claim k)
 
 -- nor is a table
 rule_or_claim : (words : List (List ℕ)) (path : List ℕ) (claim : Claim) → WordsSay words (Rule path) → WordsSay words (Claims claim) → ⊥
-rule_or_claim words path claim h k = none claim.pattern claim.other claim.kind k
-  where
-    none : (n : List ℕ) (o : Option (List ℕ)) (kind : Kind) → WordsClaim words n o kind → ⊥
-    none n o Still w = let same = w.0 in cc
-    none n o (Oscillator v) w = let same = w.1 in cc
-    none n o (Spaceship v dx dy) w = let same = w.3 in cc
-    none n o (Becomes v) w = let same = w.2 in cc
+rule_or_claim words path claim h k = false≢true (sym (ap begins_claim h) ∙ claim_begins words claim k)
 
 -- words say one thing
 pub same_line : (words : List (List ℕ)) (a b : Line) → WordsSay words a → WordsSay words b → a ≡ b
@@ -103,9 +106,7 @@ first_says earlier l ls (Some line) said h = ((h.0, h.1, h.2), h.3)
 -- lines say one thing
 pub same_said : (earlier : List Line) (lines : List (List ℕ)) (s t : List (Option Line)) → LinesSay earlier lines s → LinesSay earlier lines t → s ≡ t
 same_said earlier [] [] [] h k = refl
-same_said earlier [] (s ∷ ss) t h k = absurd h
 same_said earlier [] [] (t ∷ ts) h k = absurd k
-same_said earlier (l ∷ ls) [] t h k = absurd h
 same_said earlier (l ∷ ls) (s ∷ ss) [] h k = absurd k
 same_said earlier (l ∷ ls) (s ∷ ss) (t ∷ ts) h k =
     let a = first_says earlier l ls s ss h in
@@ -113,6 +114,7 @@ same_said earlier (l ∷ ls) (s ∷ ss) (t ∷ ts) h k =
     let same : s ≡ t = same_next earlier (words_of l) s t a.0 b.0 in
     let later : ss ≡ ts = same_said (after_first earlier t) ls ss ts (subst (λ o. LinesSay (after_first earlier o) ls ss) same a.1) b.1 in
     λ i. same i ∷ later i
+same_said earlier lines s t h k = absurd h
 
 -- what lines say after the first, and what the first says
 spoken_first : (earlier : List Line) (s : Option Line) (said : List (Option Line)) → earlier ++ spoken (s ∷ said) ≡ after_first earlier s ++ spoken said

@@ -188,14 +188,13 @@ module _ (files : List (List ℕ × List ℕ)) (path : List ℕ) where
 -- the files of paths are one list of tables
 one_tables : (files : List (List ℕ × List ℕ)) (rules : List (List ℕ)) (ts us : List TableRule) → AreTables files rules ts → AreTables files rules us → ts ≡ us
 one_tables files [] [] [] a b = refl
-one_tables files [] (t ∷ ts) us a b = absurd a
 one_tables files [] [] (u ∷ us) a b = absurd b
-one_tables files (r ∷ rs) [] us a b = absurd a
 one_tables files (r ∷ rs) (t ∷ ts) [] a b = absurd b
 one_tables files (r ∷ rs) (t ∷ ts) (u ∷ us) a b =
     let head = one_table_at files r t u a.0 b.0 in
     let tail = one_tables files rs ts us a.1 b.1 in
     cc
+one_tables files rules ts us a b = absurd a
 
 -- all of which are there
 pub tables_there : (files : List (List ℕ × List ℕ)) (rules : List (List ℕ)) (tables : List TableRule) → AreTables files rules tables → AllByRecursion (IsThere files) rules

@@ -1,14 +1,9 @@
 //! Patterns that are written in another form.
 
-ghost use Rattle.std.specs.Prelude.{◌<◌, IfOk, IfErr};
-ghost use Rattle.ca_plane.specs.Limits.{generation_limit};
-ghost use Rattle.ca_quad.specs.Trees.{IsTree, cell};
-ghost use Rattle.ca_macro.specs.Pattern.{AreInRange};
+ghost use Rattle.std.specs.Prelude.{IfOk, IfErr};
 ghost use Rattle.ca_claims.specs.declared.format.Format.TheVariants.{Rle, Mc};
-ghost use Rattle.ca_claims.specs.Answers.{HasSmallStates};
 ghost use Rattle.ca_claims.specs.Converted.{IsConverted, IsConvertFault};
-ghost use Rattle.ca_claims.specs.inner.Patterns.{rule_of};
-ghost use Rattle.ca_claims.specs.inner.Ready.{IsWrittenAs, IsUnwritten};
+ghost use Rattle.ca_claims.specs.inner.Ready.{IsWritable, IsWrittenAs, IsUnwritten};
 
 use crate::cells::plane_of;
 use crate::format::Format;
@@ -69,10 +64,7 @@ pub fn convert(
 
 /// The tidy RLE of a pattern, where it hasn't too many cells.
 fn rle_of(alloc: Global, store: &Store, ruled: &Ruled<'_>) -> Result<Vec<u8>, ConvertFault>
-    requires tree { IsTree store.now ruled.now.pattern.tree }
-    requires range { AreInRange (cell store.now ruled.now.pattern.tree) }
-    requires small { HasSmallStates (rule_of ruled.now) (cell store.now ruled.now.pattern.tree) }
-    requires generation { ruled.now.pattern.generation < generation_limit }
+    requires { IsWritable store.now ruled.now }
     ensures written { IfOk result (λ text. IsWrittenAs Rle store.now ruled.now text.items) }
     ensures fault { IfErr result (IsUnwritten Rle store.now ruled.now) }
 {
@@ -93,10 +85,7 @@ fn rle_of(alloc: Global, store: &Store, ruled: &Ruled<'_>) -> Result<Vec<u8>, Co
 
 /// The tidy macrocell of a pattern.
 fn macro_of(alloc: Global, store: &mut Store, ruled: &Ruled<'_>) -> Result<Vec<u8>, ConvertFault>
-    requires tree { IsTree store.old ruled.now.pattern.tree }
-    requires range { AreInRange (cell store.old ruled.now.pattern.tree) }
-    requires small { HasSmallStates (rule_of ruled.now) (cell store.old ruled.now.pattern.tree) }
-    requires generation { ruled.now.pattern.generation < generation_limit }
+    requires { IsWritable store.old ruled.now }
     ensures written { IfOk result (λ text. IsWrittenAs Mc store.old ruled.now text.items) }
     ensures fault { IfErr result (IsUnwritten Mc store.old ruled.now) }
 {

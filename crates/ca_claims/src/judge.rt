@@ -150,10 +150,7 @@ fn look_up<'a>(alloc: Global, claims: &Claims, files: &[File<'a>]) -> Result<Nee
 
 /// A library for the claims of a text. For one claim alone nothing is kept.
 fn library_for<'a>(alloc: Global, claims: &Claims) -> Library<'a> {
-    if claims.claim_count() == 1 {
-        return Library::closed(alloc);
-    }
-    Library::new(alloc)
+    Library::new(alloc, claims.claim_count() != 1)
 }
 
 /// The answer to the claim with this index, and a note on it, where these are the bytes of the files with the paths of the text
@@ -169,10 +166,9 @@ fn answer_to<'a, 'f, O: Observer>(
 ) -> (Answer, Note<'a>)
     requires index { index < length claims.now.claims }
     requires found { length found.now ≡ length claims.now.paths }
-    ensures answer { (files : List (List ℕ × List ℕ)) → map option_copied found.now ≡ map (bytes_at files) claims.now.paths
-        → AreRead files claims.now.paths claims.now.rules tables.now → IsAnswerTo files claims.now index result.0 result.1 }
-    ensures given { (files : List (List ℕ × List ℕ)) → map option_copied found.now ≡ map (bytes_at files) claims.now.paths
-        → AreRead files claims.now.paths claims.now.rules tables.now → IsGiven result.0.verdict result.1 }
+    ensures { (files : List (List ℕ × List ℕ)) → map option_copied found.now ≡ map (bytes_at files) claims.now.paths
+        → AreRead files claims.now.paths claims.now.rules tables.now
+        → IsAnswerTo files claims.now index result.0 result.1 }
 {
     let asked = claims.claim(index);
     observer.begins(asked.line);

@@ -20,10 +20,11 @@ pub(crate) fn note_on<'a>(
     judged: Judged,
 ) -> Note<'a>
     requires within { AllByRecursion (λ n. n.path < length claims.now.paths) (items patterns.now) }
-    ensures note { (files : List (List ℕ × List ℕ)) → IsOnVerdict files claims.now.paths claims.now.rules (map (λ n. path_at claims.now.paths n.path) (items patterns.now)) judged.verdict judged.about
-        → IsNote files claims.now.rules (map (named_path claims.now.paths) (items patterns.now)) judged.verdict result }
-    ensures given { (files : List (List ℕ × List ℕ)) → IsOnVerdict files claims.now.paths claims.now.rules (map (λ n. path_at claims.now.paths n.path) (items patterns.now)) judged.verdict judged.about
-        → IsGiven judged.verdict result }
+    ensures { (files : List (List ℕ × List ℕ))
+        → IsOnVerdict files claims.now.paths claims.now.rules
+        (map (λ n. path_at claims.now.paths n.path) (items patterns.now)) judged.verdict judged.about
+        → IsNote files claims.now.rules (map (named_path claims.now.paths) (items patterns.now)) judged.verdict result
+        × IsGiven judged.verdict result }
 {
     match (judged.verdict, judged.about) {
         (Verdict::No(Why::Differs { .. }), _) => Note::Cell {

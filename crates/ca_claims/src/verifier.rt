@@ -100,7 +100,7 @@ pub(crate) fn verdict_on<'a, O: Observer>(
     library.clear();
     as_judged(judge(
         alloc,
-        &mut Library::closed(alloc),
+        &mut Library::new(alloc, false),
         claim,
         found,
         tables,

@@ -8,7 +8,7 @@ use Rattle.ca_claims.specs.Text.{Asked, Claim}
 use Rattle.ca_claims.specs.Means.{bytes_at}
 use Rattle.ca_claims.specs.Answers.{IsTrueAnswer}
 use Rattle.ca_claims.specs.Judging.{Judging}
-use Rattle.ca_claims.specs.Notes.{IsNote}
+use Rattle.ca_claims.specs.Notes.{IsNote, IsGiven}
 use Rattle.ca_claims.specs.declared.note.Note.{Note}
 use Rattle.ca_claims.specs.inner.Tables.{AreRead}
 
@@ -31,7 +31,7 @@ left_from files asked index = record {
   patterns = drop index asked.patterns;
 }
 
--- the answer to the claim with this index is true, and so is the note on it
+-- the answer to the claim with this index is true, and so is the note on it, which is given where the verdict has one
 pub record IsAnswerTo (files : List (List ℕ × List ℕ)) (asked : Asked) (index : ℕ) (answer : Answer) (note : Note) : Type 0 where
   pub claim : ℕ × Claim
   pub at : slice_get asked.claims index ≡ Some claim
@@ -39,3 +39,4 @@ pub record IsAnswerTo (files : List (List ℕ × List ℕ)) (asked : Asked) (ind
   pub patterns : List (List ℕ × List ℕ)
   pub named : slice_get asked.patterns index ≡ Some patterns
   pub noted : IsNote files asked.rules patterns answer.verdict note
+  pub given : IsGiven answer.verdict note

@@ -5,7 +5,8 @@ use Rattle.ca_plane.specs.Plane as plane
 use Rattle.ca_plane.specs.Limits.{generation_limit}
 use Rattle.ca_plane.specs.Population.{HasTooManyCells}
 use Rattle.ca_quad.specs.declared.node.Node.{Node}
-use Rattle.ca_quad.specs.Trees.{cell}
+use Rattle.ca_quad.specs.Trees.{IsTree, cell}
+use Rattle.ca_macro.specs.Pattern.{AreInRange}
 use Rattle.ca_rule.specs.TableNext.{TableRule}
 use Rattle.ca_rule.specs.Rule.{states_of, printed_form, NamesRule}
 use Rattle.ca_claims.specs.declared.ruled.Ruled.{Ruled}
@@ -24,6 +25,13 @@ pub record IsReady (nodes : List Node) (bytes : List ℕ) (tables : List TableRu
   pub generation : ruled.pattern.generation < generation_limit
   pub names : NamesRule ruled.pattern.rule_text.items tables (rule_of ruled)
   pub small : HasSmallStates (rule_of ruled) (cell nodes ruled.pattern.tree)
+
+-- a pattern that may be written: in range, of small states under its rule, at a generation below the limit
+pub record IsWritable (nodes : List Node) (ruled : Ruled) : Type 0 where
+  pub tree : IsTree nodes ruled.pattern.tree
+  pub range : AreInRange (cell nodes ruled.pattern.tree)
+  pub small : HasSmallStates (rule_of ruled) (cell nodes ruled.pattern.tree)
+  pub generation : ruled.pattern.generation < generation_limit
 
 -- the text is the tidy one of a format with the pattern's cells, the printed form of its rule, and its generation
 pub record IsWrittenAs (target : Format) (nodes : List Node) (ruled : Ruled) (text : List ℕ) : Type 0 where

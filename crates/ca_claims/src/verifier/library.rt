@@ -1,6 +1,6 @@
 //! The patterns that were last read, for later claims on the same files.
 
-ghost use Rattle.std.specs.Prelude.{◌≡◌, ◌↔◌, true, false, [], Some, IsTrue, IfSome, MatchResult, slice_get};
+ghost use Rattle.std.specs.Prelude.{◌≡◌, ◌↔◌, [], Some, IsTrue, IfSome, MatchResult, slice_get};
 ghost use Rattle.ca_quad.specs.Sound.{Grows};
 ghost use Rattle.ca_claims.specs.inner.Patterns.{IsReadFrom, IsUnread};
 
@@ -40,24 +40,13 @@ impl<'a> Model for Kept<'a> {
 }
 
 impl<'a> Library<'a> {
-    /// A library that keeps what is read, and has nothing yet.
-    pub(crate) fn new(alloc: Global) -> Library<'a>
-        ensures open { result.is_open ≡ true }
+    /// A library that has nothing yet. One that isn't open keeps nothing: for a claim that has no memory beside what is kept.
+    pub(crate) fn new(alloc: Global, is_open: bool) -> Library<'a>
+        ensures open { result.is_open ≡ is_open }
         ensures kept { result.kept.items ≡ [] }
     {
         Library {
-            is_open: true,
-            kept: Vec::new(alloc),
-        }
-    }
-
-    /// A library that keeps nothing: for a claim that has no memory beside what is kept.
-    pub(crate) fn closed(alloc: Global) -> Library<'a>
-        ensures open { result.is_open ≡ false }
-        ensures kept { result.kept.items ≡ [] }
-    {
-        Library {
-            is_open: false,
+            is_open,
             kept: Vec::new(alloc),
         }
     }

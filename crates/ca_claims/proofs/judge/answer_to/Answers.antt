@@ -12,27 +12,21 @@ verdict_on-judged-requires g c = record {
   numbers = c.claim-asked.ensures.asked.numbers;
 }
 
-pub returns-clause-answer : goal.returns-clause-answer
-returns-clause-answer g c = λ files e read.
+pub returns : goal.returns
+returns g c = λ files e read.
     let paths = c.args.claims.now.paths in
     let rules = c.args.claims.now.rules in
     let claim = about (path_at paths) c.claim-asked.result.claim in
     let judged = c.verdict_on-judged.ensures files paths rules e read in
     let same = c.patterns.ensures.claim (c.claim-asked.result.line, claim) c.claim-asked.ensures.claim in
+    let noted = c.note_on.ensures files
+        (subst (λ ps. IsOnVerdict files paths rules ps c.verdict_on-judged.result.verdict c.verdict_on-judged.result.about) same judged.on) in
     record {
       claim = (c.claim-asked.result.line, claim);
       at = c.claim-asked.ensures.claim;
       holds = (refl, judged.holds);
       patterns = map (named_path paths) (items c.patterns.result);
       named = c.patterns.ensures.patterns;
-      noted = c.note_on.ensures.note files (subst (λ ps. IsOnVerdict files paths rules ps c.verdict_on-judged.result.verdict c.verdict_on-judged.result.about) same judged.on);
+      noted = noted.0;
+      given = noted.1;
     }
-
-pub returns-clause-given : goal.returns-clause-given
-returns-clause-given g c = λ files e read.
-    let paths = c.args.claims.now.paths in
-    let rules = c.args.claims.now.rules in
-    let claim = about (path_at paths) c.claim-asked.result.claim in
-    let judged = c.verdict_on-judged.ensures files paths rules e read in
-    let same = c.patterns.ensures.claim (c.claim-asked.result.line, claim) c.claim-asked.ensures.claim in
-    c.note_on.ensures.given files (subst (λ ps. IsOnVerdict files paths rules ps c.verdict_on-judged.result.verdict c.verdict_on-judged.result.about) same judged.on)

@@ -1,13 +1,15 @@
-use Rattle.std.proofs.Common.{◌≡◌, ◌≢◌, ℕ, List, [], ◌∷◌, get_or, Option, Some, codes, refl, sym, ap, subst, inl, inr, arith}
+use Rattle.std.proofs.Common.{◌≡◌, ◌≢◌, ℕ, ◌+◌, List, [], ◌∷◌, ◌++◌, length, get_or, Option, Some, codes, refl, sym, ap, subst, inl, inr, arith}
 use Rattle.std.specs.Prelude.{pos, neg_ℤ}
 use Rattle.std.specs.Str.{bytes_eq}
 use Rattle.std.proofs.lemmas.Bool.{false≢true}
 use Rattle.std.proofs.lemmas.Int.{ints}
-use Rattle.ca_plane.specs.Bytes.{AreDigits}
+use Rattle.ca_plane.specs.Bytes.{AreDigits, lines_of, words_of}
 use Rattle.ca_claims.specs.declared.claims.line.Kind.{Kind}
 use Rattle.ca_claims.specs.declared.claims.line.Kind.TheVariants.{Still, Oscillator, Spaceship, Becomes}
-use Rattle.ca_claims.specs.Examples.{of_one, still_of, becomes_of}
-use Rattle.ca_claims.specs.Text.{Line, Rule, Load, Claims, WordsClaim, WordsSay, HasGoodNumbers}
+use Rattle.ca_claims.specs.Examples.{of_one, still_of, becomes_of, text_of}
+use Rattle.ca_claims.specs.Text.{Line, Rule, Load, Claims, WordsClaim, WordsSay, HasGoodNumbers, LinesSay, spoken}
+use Rattle.ca_claims.specs.TextFaults.{HasLine, AreMisspelled, HaveBadNumber, AskUnknown, LoadTaken}
+use Rattle.ca_claims.proofs.OneMeaning.{claim_begins}
 use Rattle.ca_claims.proofs.laws.worked_examples.Goals as goal
 
 -- one cell to the left and two down, in four generations
@@ -78,89 +80,51 @@ returns-clause-spare_unneeded c = λ h. elim h.1 [
 pub returns-clause-none_needed : goal.returns-clause-none_needed
 returns-clause-none_needed c = λ path h. h.0 refl
 
+-- a line is faulty after lines that say this
+faulty : (bytes : List ℕ) (P : List Line → List (List ℕ) → Type 0) (before : List (List ℕ)) (said : List (Option Line)) (line : List ℕ) → LinesSay [] before said
+    → lines_of bytes ≡ before ++ line ∷ [] → P (spoken said) (words_of line) → HasLine bytes (length before + 1) P
+faulty bytes P before said line good among holds =
+    record { before = before; line = line; later = []; said = said; good = good; among = among; number = refl; holds = holds }
+
+-- the first line is
+first_faulty : (line : List ℕ) (P : List Line → List (List ℕ) → Type 0) → lines_of line ≡ line ∷ [] → P [] (words_of line) → HasLine line 1 P
+first_faulty line P among holds = faulty line P [] [] line tt among holds
+
+-- the second is, after one that loads a name
+second_faulty : (line : List ℕ) (P : List Line → List (List ℕ) → Type 0) → lines_of (text_of (codes "load a p" ∷ line ∷ [])) ≡ codes "load a p" ∷ line ∷ []
+    → P (Load (codes "a") (codes "p") ∷ []) (words_of line) → HasLine (text_of (codes "load a p" ∷ line ∷ [])) 2 P
+second_faulty line P among holds =
+    faulty (text_of (codes "load a p" ∷ line ∷ [])) P (codes "load a p" ∷ []) (Some (Load (codes "a") (codes "p")) ∷ []) line (refl, refl, refl, tt) among holds
+
 pub returns-clause-unknown : goal.returns-clause-unknown
-returns-clause-unknown c = record {
-  before = [];
-  line = codes "still q";
-  later = [];
-  said = [];
-  good = tt;
-  among = refl;
-  number = refl;
-  holds = (refl, still_of (codes "q"), (refl, refl), tt, λ h. false≢true h.0);
-}
+returns-clause-unknown c = first_faulty (codes "still q") AskUnknown refl (refl, still_of (codes "q"), (refl, refl), tt, λ h. false≢true h.0)
 
 pub returns-clause-taken : goal.returns-clause-taken
-returns-clause-taken c = record {
-  before = codes "load a p" ∷ [];
-  line = codes "load a q";
-  later = [];
-  said = Some (Load (codes "a") (codes "p")) ∷ [];
-  good = (refl, refl, refl, tt);
-  among = refl;
-  number = refl;
-  holds = (refl, codes "a", codes "q", refl, refl);
-}
+returns-clause-taken c = second_faulty (codes "load a q") LoadTaken refl (refl, codes "a", codes "q", refl, refl)
 
 pub returns-clause-other_unknown : goal.returns-clause-other_unknown
-returns-clause-other_unknown c = record {
-  before = codes "load a p" ∷ [];
-  line = codes "becomes a 1 b";
-  later = [];
-  said = Some (Load (codes "a") (codes "p")) ∷ [];
-  good = (refl, refl, refl, tt);
-  among = refl;
-  number = refl;
-  holds = (refl, becomes_of (codes "a") 1 (codes "b"), (codes "1", codes "b", refl, refl, refl, refl), omega arith, λ h. false≢true h.1.0);
-}
+returns-clause-other_unknown c = second_faulty (codes "becomes a 1 b") AskUnknown refl
+    (refl, becomes_of (codes "a") 1 (codes "b"), (codes "1", codes "b", refl, refl, refl, refl), omega arith, λ h. false≢true h.1.0)
 
 -- `rule r q` says nothing
 two_say_nothing : (line : Line) → WordsSay (codes "rule" ∷ codes "r" ∷ codes "q" ∷ []) line → ⊥
 two_say_nothing (Rule path) h = cc
 two_say_nothing (Load name path) h = false≢true (sym (ap (λ words. bytes_eq (get_or words 0 []) (codes "rule")) h))
-two_say_nothing (Claims claim) h = none claim.pattern claim.other claim.kind h
-  where
-    none : (n : List ℕ) (o : Option (List ℕ)) (kind : Kind) → WordsClaim (codes "rule" ∷ codes "r" ∷ codes "q" ∷ []) n o kind → ⊥
-    none n o Still w = let same = w.0 in cc
-    none n o (Oscillator v) w = let same = w.1 in cc
-    none n o (Spaceship v dx dy) w = let same = w.3 in cc
-    none n o (Becomes v) w = let same = w.2 in cc
+two_say_nothing (Claims claim) h = false≢true (claim_begins (codes "rule" ∷ codes "r" ∷ codes "q" ∷ []) claim h)
 
 pub returns-clause-two_tables : goal.returns-clause-two_tables
-returns-clause-two_tables c = record {
-  before = codes "rule r" ∷ [];
-  line = codes "rule r q";
-  later = [];
-  said = Some (Rule (codes "r")) ∷ [];
-  good = (refl, refl, tt, tt);
-  among = refl;
-  number = refl;
-  holds = (refl, two_say_nothing);
-}
+returns-clause-two_tables c =
+    faulty (text_of (codes "rule r" ∷ codes "rule r q" ∷ [])) AreMisspelled (codes "rule r" ∷ []) (Some (Rule (codes "r")) ∷ []) (codes "rule r q") (refl, refl, tt, tt) refl
+    (refl, two_say_nothing)
 
 -- `gun a` says nothing
 says_nothing : (line : Line) → WordsSay (codes "gun" ∷ codes "a" ∷ []) line → ⊥
 says_nothing (Rule path) h = cc
 says_nothing (Load name path) h = cc
-says_nothing (Claims claim) h = none claim.pattern claim.other claim.kind h
-  where
-    none : (n : List ℕ) (o : Option (List ℕ)) (kind : Kind) → WordsClaim (codes "gun" ∷ codes "a" ∷ []) n o kind → ⊥
-    none n o Still w = let same = w.0 in cc
-    none n o (Oscillator v) w = let same = w.1 in cc
-    none n o (Spaceship v dx dy) w = let same = w.3 in cc
-    none n o (Becomes v) w = let same = w.2 in cc
+says_nothing (Claims claim) h = false≢true (claim_begins (codes "gun" ∷ codes "a" ∷ []) claim h)
 
 pub returns-clause-misspelled : goal.returns-clause-misspelled
-returns-clause-misspelled c = record {
-  before = codes "load a p" ∷ [];
-  line = codes "gun a";
-  later = [];
-  said = Some (Load (codes "a") (codes "p")) ∷ [];
-  good = (refl, refl, refl, tt);
-  among = refl;
-  number = refl;
-  holds = (refl, says_nothing);
-}
+returns-clause-misspelled c = second_faulty (codes "gun a") AreMisspelled refl (refl, says_nothing)
 
 -- the third word of an oscillator's claim is a number
 period_word : (keyword name word : List ℕ) (n : List ℕ) (p : List ℕ) → keyword ∷ name ∷ word ∷ [] ≡ keyword ∷ n ∷ p ∷ [] → p ≡ word
@@ -179,42 +143,16 @@ letter_says_nothing (Claims claim) h = none claim.pattern claim.other claim.kind
     none n o (Becomes v) w = let same = w.2 in cc
 
 pub returns-clause-no_number : goal.returns-clause-no_number
-returns-clause-no_number c = record {
-  before = codes "load a p" ∷ [];
-  line = codes "oscillator a x";
-  later = [];
-  said = Some (Load (codes "a") (codes "p")) ∷ [];
-  good = (refl, refl, refl, tt);
-  among = refl;
-  number = refl;
-  holds = (refl, letter_says_nothing);
-}
+returns-clause-no_number c = second_faulty (codes "oscillator a x") AreMisspelled refl (refl, letter_says_nothing)
 
 pub returns-clause-no_shift : goal.returns-clause-no_shift
-returns-clause-no_shift c = record {
-  before = codes "load a p" ∷ [];
-  line = codes "spaceship a 4 0 0";
-  later = [];
-  said = Some (Load (codes "a") (codes "p")) ∷ [];
-  good = (refl, refl, refl, tt);
-  among = refl;
-  number = refl;
-  holds = (
-    refl,
-    of_one (codes "a") (Spaceship 4 (pos 0) (pos 0)),
-    (codes "4", codes "0", codes "0", refl, refl, refl, inl (refl, refl), inl (refl, refl), refl),
-    λ h. h.4 refl refl,
-  );
-}
+returns-clause-no_shift c = second_faulty (codes "spaceship a 4 0 0") HaveBadNumber refl (
+  refl,
+  of_one (codes "a") (Spaceship 4 (pos 0) (pos 0)),
+  (codes "4", codes "0", codes "0", refl, refl, refl, inl (refl, refl), inl (refl, refl), refl),
+  λ h. h.4 refl refl,
+)
 
 pub returns-clause-no_period : goal.returns-clause-no_period
-returns-clause-no_period c = record {
-  before = [];
-  line = codes "oscillator b 1";
-  later = [];
-  said = [];
-  good = tt;
-  among = refl;
-  number = refl;
-  holds = (refl, of_one (codes "b") (Oscillator 1), (codes "1", refl, refl, refl, refl), λ h. omega arith);
-}
+returns-clause-no_period c =
+    first_faulty (codes "oscillator b 1") HaveBadNumber refl (refl, of_one (codes "b") (Oscillator 1), (codes "1", refl, refl, refl, refl), λ h. omega arith)

@@ -29,21 +29,15 @@ returns-in-Two-clause-patterns c =
 
 pub returns-in-One-clause-claim : goal.returns-in-One-clause-claim
 returns-in-One-clause-claim c =
-    let kept = c.self.inside in
-    let names : List (List ℕ) = map (λ n. n.items) kept.names.items in
-    let only = c.in-One.only in
     subst (λ a. c.args.index < length a.claims → (claim : ℕ × Claim) → slice_get a.claims c.args.index ≡ Some claim → patterns_of claim.1 ≡ path_at a.paths c.named.result.path ∷ []) c.self.view_is
-    (λ within claim is. patterns_claimed names kept.paths kept.claims.items c.args.index c.index.result.now (only ∷ []) within c.index.ensures c.in-One.ensures claim is
-    ∙ ap (λ k. path_at kept.paths k ∷ []) (sym c.named.ensures.path)) c.requires
+    (λ within claim is. patterns_claimed _ c.self.inside.paths _ _ _ (c.in-One.only ∷ []) within c.index.ensures c.in-One.ensures claim is
+    ∙ ap (λ k. path_at c.self.inside.paths k ∷ []) (sym c.named.ensures.path)) c.requires
 
 pub returns-in-Two-clause-claim : goal.returns-in-Two-clause-claim
 returns-in-Two-clause-claim c =
-    let kept = c.self.inside in
-    let names : List (List ℕ) = map (λ n. n.items) kept.names.items in
-    let first = c.in-Two.first in
-    let second = c.in-Two.second in
-    let one = c.named-in-Two.ensures.path in
-    let two = c.named-in-Two-2.ensures.path in
+    let paths = c.self.inside.paths in
+    let one = sym c.named-in-Two.ensures.path in
+    let two = sym c.named-in-Two-2.ensures.path in
     subst (λ a. c.args.index < length a.claims → (claim : ℕ × Claim) → slice_get a.claims c.args.index ≡ Some claim → patterns_of claim.1 ≡ path_at a.paths c.named-in-Two.result.path ∷ path_at a.paths c.named-in-Two-2.result.path ∷ []) c.self.view_is
-    (λ within claim is. patterns_claimed names kept.paths kept.claims.items c.args.index c.index.result.now (first ∷ second ∷ []) within c.index.ensures c.in-Two.ensures claim is
-    ∙ (λ i. path_at kept.paths (sym one i) ∷ path_at kept.paths (sym two i) ∷ [])) c.requires
+    (λ within claim is. patterns_claimed _ paths _ _ _ (c.in-Two.first ∷ c.in-Two.second ∷ []) within c.index.ensures c.in-Two.ensures claim is
+    ∙ (λ i. path_at paths (one i) ∷ path_at paths (two i) ∷ [])) c.requires

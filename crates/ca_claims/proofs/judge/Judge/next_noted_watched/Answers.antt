@@ -6,8 +6,8 @@ use Rattle.ca_claims.specs.inner.Kept.{left_from}
 use Rattle.ca_claims.proofs.Answered.{judged_and_noted}
 use Rattle.ca_claims.proofs.judge.Judge.next_noted_watched.Goals as goal
 
-pub returns-clause-noted : goal.returns-clause-noted
-returns-clause-noted g c =
+pub returns : goal.returns
+returns g c =
     let files = contents c.self.inside.files.now in
     let asked = c.self.inside.claims.now in
     let index = c.self.inside.index in
@@ -16,15 +16,8 @@ returns-clause-noted g c =
     let kept = c.self.invariant.kept some in
     let found_at = subst (λ l. map option_copied l ≡ map (bytes_at files) asked.paths) (sym c.deref.ensures.value) kept.found_at in
     let noted = c.answer_to-noted.result in
-    subst (λ old. JudgesAndNotes old (left_from files asked (index + 1)) noted.0 noted.1) c.self.view_is
-    (judged_and_noted files asked index noted.0 noted.1 (c.answer_to-noted.ensures.answer files found_at kept.read))
-
-pub returns-clause-given : goal.returns-clause-given
-returns-clause-given g c =
-    let files = contents c.self.inside.files.now in
-    let asked = c.self.inside.claims.now in
-    let count : c.claim_count.result ≡ length asked.claims = c.claim_count.ensures.claims in
-    let some : asked.claims ≢ [] = λ none. (let empty : length asked.claims ≡ 0 = ap length none in omega (arith, empty, count, c.self.invariant.within, c.if-self-claim_count.false)) in
-    let kept = c.self.invariant.kept some in
-    let found_at = subst (λ l. map option_copied l ≡ map (bytes_at files) asked.paths) (sym c.deref.ensures.value) kept.found_at in
-    c.answer_to-noted.ensures.given files found_at kept.read
+    let answered = c.answer_to-noted.ensures files found_at kept.read in
+    record {
+      noted = subst (λ old. JudgesAndNotes old (left_from files asked (index + 1)) noted.0 noted.1) c.self.view_is (judged_and_noted files asked index noted.0 noted.1 answered);
+      given = answered.given;
+    }
