@@ -42,10 +42,9 @@ use Rattle.ca_claims.specs.declared.ruled.Ruled.{Ruled}
 use Rattle.ca_claims.specs.Text.{Claim, patterns_of, about, HasGoodNumbers}
 use Rattle.ca_claims.specs.Places.{path_at}
 use Rattle.ca_claims.specs.Means.{bytes_at, IsReadable, MayWantMemory}
-use Rattle.ca_claims.specs.Notes.{IsPatternFaultOn, IsBadPatternOn}
 use Rattle.ca_claims.specs.Truth.{asks_of}
 use Rattle.ca_claims.specs.inner.Decided.{IsBounded, IsDecided}
-use Rattle.ca_claims.specs.Answers.{AreTables, IsMissing, IsThere, Reads, HasRule, IsSmall, SomeOf, FirstIs, HaveOtherRules, HasCause, IsGood, AreGood, IsCounted, IsJudged, IsTrueVerdict, IsBadPattern, IsUnnamed, IsLarge, IsCrowded, WantsMemory}
+use Rattle.ca_claims.specs.Answers.{IsPatternFaultOn, IsBadPatternOn, AreTables, IsMissing, IsThere, Reads, HasRule, IsSmall, SomeOf, FirstIs, HaveOtherRules, HasCause, IsGood, AreGood, IsCounted, IsJudged, IsTrueVerdict, IsBadPattern, IsUnnamed, IsLarge, IsCrowded, WantsMemory}
 use Rattle.ca_claims.specs.inner.Cells.{IsPlaneOf}
 use Rattle.ca_claims.specs.inner.Subjects.{ShowsTree, IsPattern, AreShown, IsMovedBy, IsSubject}
 use Rattle.ca_claims.specs.inner.Prepared.{IsPrepared, IsFit, IsPlaneRefused, refusal_for, disagreement_refusal}

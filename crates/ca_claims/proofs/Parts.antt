@@ -7,10 +7,10 @@ use Rattle.ca_claims.specs.declared.refusal.About.TheVariants as about
 use Rattle.ca_claims.specs.declared.refusal.Part.{Part}
 use Rattle.ca_claims.specs.declared.refusal.Part.TheVariants.{First, Second}
 use Rattle.ca_claims.specs.declared.verdict.Cause.{Cause}
-use Rattle.ca_claims.specs.declared.verdict.Cause.TheVariants.{NoFile, BadTable, BadPattern, BadRule, StateTooLarge, MixedRules, TooManyCells, Memory}
+use Rattle.ca_claims.specs.declared.verdict.Cause.TheVariants.{NoFile, BadPattern, BadRule, StateTooLarge, TooManyCells}
 use Rattle.ca_claims.specs.Places.{path_at, named_path}
-use Rattle.ca_claims.specs.Answers.{IsThere, FirstBad}
-use Rattle.ca_claims.specs.Notes.{IsOfPattern, IsFirstBad, IsOfRuleFile}
+use Rattle.ca_claims.specs.Answers.{IsThere, FirstBad, IsOfPattern, IsOfRuleFile}
+use Rattle.ca_claims.specs.Notes.{IsFirstBad}
 use Rattle.ca_claims.specs.inner.Patterns.{IsEachOnce, FirstBadAt, IsPart}
 use Rattle.ca_claims.specs.inner.Refusals.{IsOn}
 
@@ -60,13 +60,11 @@ module _ (files : List (List ℕ × List ℕ)) (rules : List (List ℕ)) where
   of_pattern : (F H : (Good Bad : List ℕ → Type 0) → Type 0) → ((Good Bad : List ℕ → Type 0) → F Good Bad → H Good Bad) → (cause : Cause) (line : Option ℕ)
       → IsOfPattern files rules cause F line → IsOfPattern files rules cause H line
   of_pattern F H f NoFile line is = (is.0, f _ _ is.1)
-  of_pattern F H f (BadTable fault) line is = absurd is
   of_pattern F H f (BadPattern fault) line is = f _ _ is
   of_pattern F H f (BadRule fault) line is = (is.0, is.1, is.2, f _ _ is.3)
   of_pattern F H f StateTooLarge line is = (is.0, is.1, is.2, f _ _ is.3)
-  of_pattern F H f MixedRules line is = absurd is
   of_pattern F H f TooManyCells line is = (is.0, is.1, is.2, f _ _ is.3)
-  of_pattern F H f Memory line is = absurd is
+  of_pattern F H f cause line is = absurd is
 
   -- so it is told by its name and path
   pub told_part : (paths : List (List ℕ)) (part : Part) (patterns : List Named) (pattern : Named) → IsPart part patterns pattern → (cause : Cause) (line : Option ℕ)
@@ -91,13 +89,7 @@ module _ (files : List (List ℕ × List ℕ)) (rules : List (List ℕ)) where
 
       of_file : (k : Cause) (path : List ℕ) → IsOfRuleFile files rules each k path → IsOfRuleFile files rules all k path
       of_file NoFile path h = (all_there once h.0, h.1)
-      of_file (BadTable fault) path h = h
-      of_file (BadPattern fault) path h = h
-      of_file (BadRule fault) path h = h
-      of_file StateTooLarge path h = h
-      of_file MixedRules path h = h
-      of_file TooManyCells path h = h
-      of_file Memory path h = h
+      of_file k path h = h
 
 -- the paths of patterns that are given by their names too
 pub named_paths : (paths : List (List ℕ)) (patterns : List Named) → map (λ p. p.1) (map (named_path paths) patterns) ≡ map (λ n. path_at paths n.path) patterns

@@ -24,8 +24,7 @@ use Rattle.ca_claims.specs.declared.ruled.Ruled.{Ruled}
 use Rattle.ca_claims.specs.Means.{bytes_at, format_of, IsReadableAs, IsReadable, MayWantMemoryAs, MayWantMemory}
 use Rattle.ca_claims.specs.declared.verdict.PatternFault.{PatternFault}
 use Rattle.ca_claims.specs.declared.verdict.PatternFault.TheVariants as pattern_fault
-use Rattle.ca_claims.specs.Notes.{IsPatternFaultOn}
-use Rattle.ca_claims.specs.Answers.{IsPatternFault, IsRuled, HasSmallStates, Reads, HasRule, IsSmall, IsLarge, IsUnnamed, IsGood}
+use Rattle.ca_claims.specs.Answers.{IsPatternFault, IsPatternFaultOn, IsRuled, HasSmallStates, Reads, HasRule, IsSmall, IsLarge, IsUnnamed, IsGood}
 use Rattle.ca_claims.specs.inner.Cells.{IsPlaneOf}
 use Rattle.ca_claims.specs.inner.Patterns.{IsReadFrom, IsUnreadFor, HasName, rule_of, IsRuledAs, ShowsLarge, ShowsSmall}
 use Rattle.ca_claims.proofs.Shown.{small_shown, large_shown, many_shown}

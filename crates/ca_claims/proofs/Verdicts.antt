@@ -291,14 +291,8 @@ place TooManyCells = 6
 place Memory = 7
 
 place_within : (cause : Cause) → cause ≢ Memory → suc (place cause) ≤ 7
-place_within NoFile m = omega arith
-place_within (BadTable fault) m = omega arith
-place_within (BadPattern fault) m = omega arith
-place_within (BadRule fault) m = omega arith
-place_within StateTooLarge m = omega arith
-place_within MixedRules m = omega arith
-place_within TooManyCells m = omega arith
 place_within Memory m = absurd (m refl)
+place_within cause m = omega arith
 
 -- what holds of tables holds of those that are the same
 of_these : (files : List (List ℕ × List ℕ)) (rules : List (List ℕ)) (Holds : List TableRule → Type 0) (tables others : List TableRule) → AreTables files rules tables → AreTables files rules others
@@ -346,12 +340,9 @@ module _ (files : List (List ℕ × List ℕ)) (rules paths : List (List ℕ)) w
   past_before : (cause : Cause) → cause ≢ Memory → HasCause files rules paths cause → IsPast files rules paths (place cause)
   past_before NoFile m h = tt
   past_before (BadTable fault) m h = h.0
-  past_before (BadPattern fault) m (tables, past, first) = (tables, past)
-  past_before (BadRule fault) m (tables, past, first) = (tables, past)
-  past_before StateTooLarge m (tables, past, some) = (tables, past)
-  past_before MixedRules m (tables, past, some) = (tables, past)
   past_before TooManyCells m (cells, other, rule, agree, some) = past_agreed cells other rule agree
   past_before Memory m h = absurd (m refl)
+  past_before cause m h = (h.0, h.1)
 
   -- all tables are good or one is bad, not both
   pub tables_or_fault : (fault : TableFault) (tables : List TableRule) → AreTables files rules tables → FirstBad (HoldsTable files) (IsBadTable files fault) rules → ⊥
@@ -427,16 +418,11 @@ module _ (files : List (List ℕ × List ℕ)) (rules paths : List (List ℕ)) w
   -- nor that one, where the cells aren't too many
   pub agreed_or_cause : (cells other : Picture) (rule : RuleValue) (cause : Cause) → cause ≢ Memory → AgreeOn files rules paths cells other rule
       → (cause ≡ TooManyCells → HasFewCells (cell cells)) → HasCause files rules paths cause → ⊥
-  agreed_or_cause cells other rule NoFile m agree few h = agreed_or_early cells other rule NoFile (omega arith) agree h
-  agreed_or_cause cells other rule (BadTable fault) m agree few h = agreed_or_early cells other rule (BadTable fault) (omega arith) agree h
-  agreed_or_cause cells other rule (BadPattern fault) m agree few h = agreed_or_early cells other rule (BadPattern fault) (omega arith) agree h
-  agreed_or_cause cells other rule (BadRule fault) m agree few h = agreed_or_early cells other rule (BadRule fault) (omega arith) agree h
-  agreed_or_cause cells other rule StateTooLarge m agree few h = agreed_or_early cells other rule StateTooLarge (omega arith) agree h
-  agreed_or_cause cells other rule MixedRules m agree few h = agreed_or_early cells other rule MixedRules (omega arith) agree h
   agreed_or_cause cells other rule TooManyCells m agree few (p, o, r, same, many) =
       let one = one_agreed cells p other o rule r agree same in
       not_both (cell cells) (cell p) (λ x y. ap (λ l. cell l x y) one.0) (few refl) many
   agreed_or_cause cells other rule Memory m agree few h = m refl
+  agreed_or_cause cells other rule cause m agree few h = agreed_or_early cells other rule cause (omega arith) agree h
 
 module _ (files : List (List ℕ × List ℕ)) (rules : List (List ℕ)) (claim : Claim) where
   -- a claim is judged or refused for a cause, not both, out of memory apart

@@ -1,5 +1,5 @@
--- True answers: what a yes, a no and a refusal say of the files that were handed in.
-use Rattle.std.specs.Prelude.{◌≡◌, ◌≢◌, ℕ, ◌≤◌, ◌<◌, ℤ, List, [], ◌∷◌, replicate, Some, None, ◌⊎◌}
+-- True answers: what a yes, a no and a refusal say of the files that were handed in, and what a refusal is about.
+use Rattle.std.specs.Prelude.{◌≡◌, ◌≢◌, ℕ, ◌≤◌, ◌<◌, ℤ, List, [], ◌∷◌, replicate, Option, Some, None, ◌⊎◌}
 use Rattle.std.specs.List.{AllZip, AllByRecursion}
 use Rattle.ca_plane.specs.Plane.{Picture, cell}
 use Rattle.ca_plane.specs.Population.{HasFewCells, HasTooManyCells}
@@ -11,6 +11,7 @@ use Rattle.ca_rule.specs.declared.table.fault.TableFault.{TableFault}
 use Rattle.ca_rule.specs.declared.table.fault.TableFault.TheVariants as table_fault
 use Rattle.ca_rule.specs.Rule.{RuleValue, states_of, next_of, IsSameRule}
 use Rattle.ca_rle.specs.Faults as rle_faults
+use Rattle.ca_rle.specs.FaultyLine as rle_lines
 use Rattle.ca_rle.specs.declared.fault.RleFault.TheVariants as rle_fault
 use Rattle.ca_macro.specs.Faults as macrocell_faults
 use Rattle.ca_macro.specs.declared.fault.MacroFault.TheVariants as macrocell_fault
@@ -33,6 +34,14 @@ abbrev pub IsPatternFault : List ℕ → PatternFault → Type 0
 IsPatternFault bytes (pattern_fault.Rle fault) = (format_of bytes ≡ formats.Rle) × (fault ≢ rle_fault.Memory) × rle_faults.IsFaultOf bytes fault
 IsPatternFault bytes (pattern_fault.Macro fault) = (format_of bytes ≡ formats.Mc) × (fault ≢ macrocell_fault.Memory) × macrocell_faults.IsFaultOf bytes fault
 IsPatternFault bytes pattern_fault.Memory = ⊥
+
+-- the same, and the line on which it stands: none for one that isn't in the spelling
+abbrev pub IsPatternFaultOn : List ℕ → PatternFault → Option ℕ → Type 0
+IsPatternFaultOn bytes (pattern_fault.Rle fault) line =
+    (format_of bytes ≡ formats.Rle) × (fault ≢ rle_fault.Memory) × rle_lines.IsFaultOn bytes fault line
+IsPatternFaultOn bytes (pattern_fault.Macro fault) line =
+    (format_of bytes ≡ formats.Mc) × (fault ≢ macrocell_fault.Memory) × macrocell_faults.IsFaultOn bytes fault line
+IsPatternFaultOn bytes pattern_fault.Memory line = ⊥
 
 -- the bytes are the text of this table, which leaves the empty plane empty
 abbrev pub IsQuietTable : List ℕ → TableRule → Type 0
@@ -113,6 +122,10 @@ IsBadTable files fault path = HoldsOfFile files (λ bytes. IsTableFault bytes fa
 abbrev pub IsBadPattern : List (List ℕ × List ℕ) → PatternFault → List ℕ → Type 0
 IsBadPattern files fault path = HoldsOfFile files (λ bytes. IsPatternFault bytes fault) path
 
+-- on this line
+abbrev pub IsBadPatternOn : List (List ℕ × List ℕ) → PatternFault → Option ℕ → List ℕ → Type 0
+IsBadPatternOn files fault line path = HoldsOfFile files (λ bytes. IsPatternFaultOn bytes fault line) path
+
 -- it is there and is read, and its rule text has this fault
 abbrev pub IsUnnamed : List (List ℕ × List ℕ) → List TableRule → RuleFault → List ℕ → Type 0
 IsUnnamed files tables fault path = HoldsOfFile files (λ bytes. HasRuleFault bytes tables fault) path
@@ -188,6 +201,32 @@ HasCause files rules paths MixedRules =
 HasCause files rules paths TooManyCells =
     (cells : Picture) × (other : Picture) × (rule : RuleValue) × AgreeOn files rules paths cells other rule × HasTooManyCells (cell cells)
 HasCause files rules paths Memory = (tables : List TableRule) × TablesAreGood files rules paths tables × FirstIs (WantsMemory files) paths
+
+-- What a cause is about, beside what it says. The claim as a whole: its patterns' rules differ, or memory is out
+abbrev pub IsOfClaim : Cause → Type 0
+IsOfClaim cause = (cause ≡ MixedRules) ⊎ (cause ≡ Memory)
+
+-- one of the claim's patterns: what `First` tells of it, by what is good of the paths before it and what is bad of its own. Only a file
+-- that isn't read has a line; `rules` are the paths of the text's rule lines
+abbrev pub IsOfPattern : List (List ℕ × List ℕ) → List (List ℕ) → Cause → (First : (Good Bad : List ℕ → Type 0) → Type 0) → Option ℕ → Type 0
+IsOfPattern files rules NoFile First line = (line ≡ None) × First (IsThere files) (IsMissing files)
+IsOfPattern files rules (BadPattern fault) First line = First (Reads files) (IsBadPatternOn files fault line)
+IsOfPattern files rules (BadRule fault) First line =
+    (line ≡ None) × (tables : List TableRule) × AreTables files rules tables × First (HasRule files tables) (IsUnnamed files tables fault)
+IsOfPattern files rules StateTooLarge First line =
+    (line ≡ None) × (tables : List TableRule) × AreTables files rules tables × First (IsSmall files tables) (IsLarge files tables)
+IsOfPattern files rules TooManyCells First line =
+    (line ≡ None) × (tables : List TableRule) × AreTables files rules tables × First (λ p. ⊥) (IsCrowded files tables)
+IsOfPattern files rules cause First line = ⊥
+
+-- a rule line's file, which has this path: it is the first that is missing, where all patterns' files are there; or the first that is no
+-- good table. `patterns` are the paths of the claim's patterns
+abbrev pub IsOfRuleFile : List (List ℕ × List ℕ) → (rules patterns : List (List ℕ)) → Cause → List ℕ → Type 0
+IsOfRuleFile files rules patterns NoFile path =
+    AllByRecursion (IsThere files) patterns × FirstBad (IsThere files) (λ r. (r ≡ path) × IsMissing files r) rules
+IsOfRuleFile files rules patterns (BadTable fault) path =
+    FirstBad (HoldsTable files) (λ r. (r ≡ path) × IsBadTable files fault r) rules
+IsOfRuleFile files rules patterns cause path = ⊥
 
 -- cells are counted only of a pattern that may be back anywhere, that of a spaceship
 abbrev pub IsCounted : Asks → Type 0

@@ -23,8 +23,7 @@ use Rattle.ca_claims.specs.declared.verifier.agreement.Disagreement.{Disagreemen
 use Rattle.ca_claims.specs.declared.verifier.agreement.Disagreement.TheVariants.{Large, Mixed}
 use Rattle.ca_claims.specs.declared.verifier.agreement.Disagreement.TheVariants as disagreement
 use Rattle.ca_claims.specs.Means.{MayWantMemory}
-use Rattle.ca_claims.specs.Answers.{HasLargeState, HasSmallStates}
-use Rattle.ca_claims.specs.Notes.{IsPatternFaultOn}
+use Rattle.ca_claims.specs.Answers.{IsPatternFaultOn, HasLargeState, HasSmallStates}
 use Rattle.ca_claims.specs.Loaded.{IsLoaded}
 
 -- one or two, as a list

@@ -1,22 +1,20 @@
 -- What the cause of a refusal is about.
-use Rattle.std.specs.Prelude.{◌≡◌, ℕ, ◌<◌, List, length, ◌⊎◌}
+use Rattle.std.specs.Prelude.{ℕ, ◌<◌, List, length}
 use Rattle.ca_claims.specs.declared.refusal.About.{About}
 use Rattle.ca_claims.specs.declared.refusal.About.TheVariants as about
 use Rattle.ca_claims.specs.declared.refusal.Refusal.{Refusal}
 use Rattle.ca_claims.specs.declared.verdict.Cause.{Cause}
-use Rattle.ca_claims.specs.declared.verdict.Cause.TheVariants.{MixedRules, Memory}
 use Rattle.ca_claims.specs.declared.verdict.Verdict.{Verdict}
 use Rattle.ca_claims.specs.declared.verdict.Verdict.TheVariants.{Yes, No, Refused}
 use Rattle.ca_claims.specs.Text.{Claim, patterns_of}
 use Rattle.ca_claims.specs.Places.{path_at}
-use Rattle.ca_claims.specs.Answers.{HasCause, IsTrueVerdict}
-use Rattle.ca_claims.specs.Notes.{IsOfPattern, IsOfRuleFile}
+use Rattle.ca_claims.specs.Answers.{HasCause, IsOfClaim, IsOfPattern, IsOfRuleFile, IsTrueVerdict}
 use Rattle.ca_claims.specs.inner.Patterns.{FirstBadAt}
 
 -- the cause of a refusal is about this; `paths` are all paths of the text, `rules` those of its rule lines, and `patterns` those of the
 -- claim's patterns
 abbrev pub IsOn : List (List ℕ × List ℕ) → (paths rules patterns : List (List ℕ)) → Cause → About → Type 0
-IsOn files paths rules patterns cause about.Claim = (cause ≡ MixedRules) ⊎ (cause ≡ Memory)
+IsOn files paths rules patterns cause about.Claim = IsOfClaim cause
 IsOn files paths rules patterns cause (about.Pattern part line) = IsOfPattern files rules cause (FirstBadAt part patterns) line
 IsOn files paths rules patterns cause (about.RuleFile place) = (place < length paths) × IsOfRuleFile files rules patterns cause (path_at paths place)
 
