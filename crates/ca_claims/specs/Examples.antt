@@ -29,6 +29,19 @@ text_of (l ∷ ls) = l ++ 10 ∷ text_of ls
 abbrev pub block_text : List ℕ
 block_text = text_of (codes "# a comment" ∷ [] ∷ codes "load b block.rle" ∷ codes "still b" ∷ [])
 
+-- what its lines say
+abbrev pub block_said : List (Option Line)
+block_said = None ∷ None ∷ Some (Load (codes "b") (codes "block.rle")) ∷ Some (Claims (still_of (codes "b"))) ∷ []
+
+-- what it asks: the claim is about the name's path
+abbrev pub block_asked : Asked
+block_asked = record {
+  paths = codes "block.rle" ∷ [];
+  rules = [];
+  claims = (4, still_of (codes "block.rle")) ∷ [];
+  patterns = ((codes "b", codes "block.rle") ∷ []) ∷ [];
+}
+
 -- all claims, about the patterns of two files, of which one is loaded by two names; line 2 is a comment and line 7 is blank
 abbrev pub every_text : List ℕ
 every_text = text_of (

@@ -21,8 +21,10 @@ pub(crate) fn has_large_state(
     rule: &Rule<'_>,
 ) -> Result<bool, Memory>
     requires { IsTree store.now tree }
-    ensures large { IfOk result (λ large. IsTrue large → HasLargeState (rule_value rule.now) (cell store.now tree)) }
-    ensures small { IfOk result (λ large. IsFalse large → HasSmallStates (rule_value rule.now) (cell store.now tree)) }
+    ensures large { IfOk result
+        (λ large. IsTrue large → HasLargeState (rule_value rule.now) (cell store.now tree)) }
+    ensures small { IfOk result
+        (λ large. IsFalse large → HasSmallStates (rule_value rule.now) (cell store.now tree)) }
 {
     let greatest = store.greatest_state(alloc, tree)?;
     Ok(u16::from(greatest) >= rule.states())
@@ -32,7 +34,8 @@ pub(crate) fn has_large_state(
 pub(crate) fn plane_of(alloc: Global, store: &Store, tree: Tree) -> Result<Option<Plane>, Memory>
     requires tree { IsTree store.now tree }
     requires range { AreInRange (cell store.now tree) }
-    ensures { IfOk result (λ found. MatchOption found (HasTooManyCells (cell store.now tree)) (IsPlaneOf store.now tree)) }
+    ensures { IfOk result
+        (λ found. MatchOption found (HasTooManyCells (cell store.now tree)) (IsPlaneOf store.now tree)) }
 {
     match store.to_plane(alloc, tree) {
         Ok(cells) => Ok(Some(cells)),

@@ -1,6 +1,7 @@
 //! Claim texts, and what they ask.
 
-ghost use Rattle.std.specs.Prelude.{◌≡◌, ◌≢◌, ℕ, ◌<◌, [], Some, None, map, slice_get, length, All, IfOk, MatchOption, OnErr, IsTrue, ◌↔◌};
+ghost use Rattle.std.specs.Prelude.{◌≡◌, ◌≢◌, ℕ, ◌<◌, [], Some, None, map, slice_get, length, All, IfOk};
+ghost use Rattle.std.specs.Prelude.{MatchOption, OnErr, IsTrue, ◌↔◌};
 ghost use Rattle.std.specs.List.{AllByRecursion, AllZip, IsDistinct};
 ghost use Rattle.std.specs.Str.{bytes_eq};
 ghost use Rattle.ca_claims.specs.Places.{path_at, numbered, named_path, IsAsked};
@@ -27,7 +28,8 @@ pub use reading::read_claims;
 use std::alloc::Global;
 use std::marker::Model;
 
-/// What a claim text asks: the paths of its files and the names of its patterns, each once, the rule tables, and its claims.
+/// What a claim text asks: the paths of its files and the names of its patterns, each once, the rule tables,
+/// and its claims.
 #[derive(Drop)]
 pub struct Claims {
     paths: Paths,
@@ -47,7 +49,8 @@ impl Model for Claims {
       paths = c.paths;
       rules = map (path_at c.paths) c.rules.items;
       claims = map by_path (map (named (map (λ name. name.items) c.names.items) c.paths) c.claims.items);
-      patterns = map named_patterns (map (named (map (λ name. name.items) c.names.items) c.paths) c.claims.items);
+      patterns = map named_patterns
+          (map (named (map (λ name. name.items) c.names.items) c.paths) c.claims.items);
     } };
 
     ghost invariant = { λ c. All (λ i. i < length c.paths) c.rules.items
@@ -73,7 +76,8 @@ impl Claims {
 
     /// The path with this index, where there are so many.
     pub(crate) fn path_at(&self, index: usize) -> Option<&[u8]>
-        ensures { MatchOption result (slice_get self.now.paths index ≡ None) (λ path. slice_get self.now.paths index ≡ Some path.now) }
+        ensures { MatchOption result (slice_get self.now.paths index ≡ None)
+            (λ path. slice_get self.now.paths index ≡ Some path.now) }
     {
         if index < self.path_count() {
             return Some(self.path(index));
@@ -81,14 +85,15 @@ impl Claims {
         None
     }
 
-    /// For each path, in their order, whether its file is needed: a text without claims needs none; another needs those of its rule lines
-    /// and of its claims' patterns.
+    /// For each path, in their order, whether its file is needed: a text without claims needs none; another
+    /// needs those of its rule lines and of its claims' patterns.
     ///
     /// # Errors
     ///
     /// Fails where there is no memory for the list, of a text that names a path.
     pub fn needed(&self, alloc: Global) -> Result<Vec<bool>, Memory>
-        ensures needed { IfOk result (λ v. AllZip (λ path needed. IsTrue needed ↔ IsNeeded self.now path) self.now.paths v.items) }
+        ensures needed { IfOk result
+            (λ v. AllZip (λ path needed. IsTrue needed ↔ IsNeeded self.now path) self.now.paths v.items) }
         ensures memory { OnErr result (self.now.paths ≢ []) }
     {
         let count = self.path_count();
@@ -106,7 +111,8 @@ impl Claims {
 
     /// The index of the path, where the text names it.
     pub(crate) fn index_of_path(&self, path: &[u8]) -> Option<usize>
-        ensures { MatchOption result ((i : ℕ) → slice_get self.now.paths i ≢ Some path.now) (λ i. slice_get self.now.paths i ≡ Some path.now) }
+        ensures { MatchOption result ((i : ℕ) → slice_get self.now.paths i ≢ Some path.now)
+            (λ i. slice_get self.now.paths i ≡ Some path.now) }
     {
         self.paths.index_of(path)
     }
@@ -143,9 +149,11 @@ impl Claims {
     /// The patterns of the claim with this index, in their order.
     pub(crate) fn patterns(&self, index: usize) -> OneOrTwo<Named<'_>>
         requires { index < length self.now.claims }
-        ensures patterns { slice_get self.now.patterns index ≡ Some (map (named_path self.now.paths) (items result)) }
+        ensures patterns { slice_get self.now.patterns index
+            ≡ Some (map (named_path self.now.paths) (items result)) }
         ensures within { AllByRecursion (λ p. p.path < length self.now.paths) (items result) }
-        ensures claim { (claim : ℕ × TextClaim) → slice_get self.now.claims index ≡ Some claim → patterns_of claim.1 ≡ map (λ p. path_at self.now.paths p.path) (items result) }
+        ensures claim { (claim : ℕ × TextClaim) → slice_get self.now.claims index ≡ Some claim
+            → patterns_of claim.1 ≡ map (λ p. path_at self.now.paths p.path) (items result) }
     {
         match self.claims[index].claim.patterns() {
             OneOrTwo::One(only) => OneOrTwo::One(named(&self.names, only)),

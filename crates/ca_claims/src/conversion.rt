@@ -17,9 +17,9 @@ use ca_rule::{RuleFault, Table};
 use std::alloc::Global;
 use thiserror::Error;
 
-/// Why a pattern isn't converted, or no summary of it is given: the first of these that holds, but that out of memory may
-/// come before any other where memory is needed for the pattern's file: an RLE that reads, or a macrocell that is spelled
-/// well or has a good node before any fault.
+/// Why a pattern isn't converted, or no summary of it is given: the first of these that holds, but that out
+/// of memory may come before any other where memory is needed for the pattern's file: an RLE that reads, or a
+/// macrocell that is spelled well or has a good node before any fault.
 #[derive(Clone, Copy, Debug, PartialEq, Eq, Error)]
 pub enum ConvertFault {
     /// The bytes don't read. Their fault is never out of memory here.
@@ -31,7 +31,8 @@ pub enum ConvertFault {
     /// A cell has a state that isn't below the number of the rule's states.
     #[error("state too large")]
     StateTooLarge,
-    /// More than 16777216 cells are live, which is more than an RLE may have. No other target has it, nor has a summary.
+    /// More than 16777216 cells are live, which is more than an RLE may have. No other target has it, nor has
+    /// a summary.
     #[error("too many cells")]
     TooManyCells,
     /// A growth was refused.
@@ -39,8 +40,9 @@ pub enum ConvertFault {
     Memory,
 }
 
-/// The tidy text of the target's format that means what the bytes mean: the same cells at every x and y, the printed form of
-/// the same rule, and the same generation. The source may be of either format, that of the target too.
+/// The tidy text of the target's format that means what the bytes mean: the same cells at every x and y, the
+/// printed form of the same rule, and the same generation. The source may be of either format, that of the
+/// target too.
 ///
 /// # Errors
 ///

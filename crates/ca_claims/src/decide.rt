@@ -9,7 +9,8 @@ ghost use Rattle.ca_quad.specs.Trees.{cell};
 ghost use Rattle.ca_run.specs.Leaping.{GoesOn};
 ghost use Rattle.ca_claims.specs.Truth.{claimed, IsTrueClaim, IsReason};
 ghost use Rattle.ca_claims.specs.inner.Decided.{IsDecided};
-ghost use Rattle.ca_claims.specs.inner.Subjects.{ShowsTree, IsPattern, IsNear, IsCase, AreShown, HasLive, IsEnd, IsMoved, IsDifference, wanted_tree};
+ghost use Rattle.ca_claims.specs.inner.Subjects.{ShowsTree, IsPattern, IsNear, IsCase, AreShown, HasLive};
+ghost use Rattle.ca_claims.specs.inner.Subjects.{IsEnd, IsMoved, IsDifference, wanted_tree};
 
 mod divisors;
 mod returns;
@@ -32,7 +33,8 @@ pub(crate) struct Subject {
     pub(crate) other: Tree,
 }
 
-/// What is judged: the trees of a claim's patterns, the plane of the first one where the claim moves it, and what the claim asks.
+/// What is judged: the trees of a claim's patterns, the plane of the first one where the claim moves it, and
+/// what the claim asks.
 #[derive(Drop)]
 pub(crate) struct Case {
     pub(crate) alloc: Global,
@@ -65,7 +67,8 @@ fn why_not<A: Automaton, O: Observer>(
     observer: &mut O,
 ) -> Result<Option<Why>, Memory>
     requires { IsCase leaper.old.nodes case.now }
-    ensures { (cells other : Picture) → AreShown leaper.old.nodes case.now.subject cells other → IfOk result (λ why. MatchOption why
+    ensures { (cells other : Picture) → AreShown leaper.old.nodes case.now.subject cells other
+        → IfOk result (λ why. MatchOption why
         (IsTrueClaim (A.next_of leaper.old.rule) cells other case.now.asks)
         (IsReason (A.next_of leaper.old.rule) cells other case.now.asks)) }
 {
@@ -86,8 +89,10 @@ fn why_not<A: Automaton, O: Observer>(
 // Whether no cell of a claim's pattern is live, and one must be.
 fn is_wrongly_dead<A: Automaton>(leaper: &Leaper<A>, case: &Case) -> bool
     requires { IsCase leaper.now.nodes case.now }
-    ensures dead { IsTrue result → IsTrue case.now.asks.live × IsDead (cell leaper.now.nodes case.now.subject.pattern) }
-    ensures live { IsFalse result → IsTrue case.now.asks.live → HasLive (cell leaper.now.nodes case.now.subject.pattern) }
+    ensures dead { IsTrue result → IsTrue case.now.asks.live
+        × IsDead (cell leaper.now.nodes case.now.subject.pattern) }
+    ensures live { IsFalse result → IsTrue case.now.asks.live
+        → HasLive (cell leaper.now.nodes case.now.subject.pattern) }
 {
     case.asks.live && is_dead(leaper.store(), &case.subject.pattern)
 }
@@ -108,9 +113,12 @@ fn find_wrong_cell<A: Automaton, O: Observer>(
     observer: &mut O,
 ) -> Result<Option<Why>, Memory>
     requires { IsCase leaper.old.nodes case.now }
-    ensures wrong { (cells other : Picture) → AreShown leaper.old.nodes case.now.subject cells other → IfOk result (λ why. MatchOption why
-        (IsAfter (A.next_of leaper.old.rule) cells case.now.asks.generations (claimed case.now.asks cells other))
-        (IsDifference (after (A.next_of leaper.old.rule) cells case.now.asks.generations) (plane_cell (claimed case.now.asks cells other))
+    ensures wrong { (cells other : Picture) → AreShown leaper.old.nodes case.now.subject cells other
+        → IfOk result (λ why. MatchOption why
+        (IsAfter (A.next_of leaper.old.rule) cells case.now.asks.generations
+        (claimed case.now.asks cells other))
+        (IsDifference (after (A.next_of leaper.old.rule) cells case.now.asks.generations)
+        (plane_cell (claimed case.now.asks cells other))
         case.now.asks.generations)) }
     ensures goes_on { GoesOn A leaper.old leaper.new }
 {
@@ -171,7 +179,8 @@ pub(crate) fn tree_after<A: Automaton, O: Observer>(
 ) -> Result<Tree, Memory>
     requires pattern { IsPattern leaper.old.nodes pattern.now }
     requires few { generations ≤ 2 ^ 60 }
-    ensures end { IfOk result (IsEnd (A.next_of leaper.old.rule) leaper.old.nodes pattern.now generations leaper.new.nodes) }
+    ensures end { IfOk result
+        (IsEnd (A.next_of leaper.old.rule) leaper.old.nodes pattern.now generations leaper.new.nodes) }
     ensures goes_on { GoesOn A leaper.old leaper.new }
 {
     // Says what holds of every leaper.
@@ -222,7 +231,8 @@ fn difference_of(
     requires end { IsNear store.now end }
     requires wanted { IsNear store.now wanted }
     requires other { IfSome found (λ at. cell store.now end at.x at.y ≢ cell store.now wanted at.x at.y) }
-    ensures { MatchOption result (found ≡ None) (IsDifference (cell store.now end) (cell store.now wanted) gens) }
+    ensures { MatchOption result (found ≡ None)
+        (IsDifference (cell store.now end) (cell store.now wanted) gens) }
 {
     let at = found?;
     Some(difference_at(store, end, wanted, at, gens))
@@ -260,7 +270,8 @@ pub(crate) fn moved_tree<A: Automaton>(
     dx: i64,
     dy: i64,
 ) -> Result<Option<Tree>, Memory>
-    ensures moved { IfOk result (λ tree. MatchOption tree (LeavesPlane plane.now dx dy) (IsMoved plane.now dx dy leaper.new.nodes)) }
+    ensures moved { IfOk result
+        (λ tree. MatchOption tree (LeavesPlane plane.now dx dy) (IsMoved plane.now dx dy leaper.new.nodes)) }
     ensures goes_on { GoesOn A leaper.old leaper.new }
 {
     // Says what holds of every leaper.

@@ -2,10 +2,12 @@
 
 use thiserror::Error;
 
-/// What is wrong with the first faulty line of a claim text. Lines are counted from 1, blank lines and comments too.
+/// What is wrong with the first faulty line of a claim text. Lines are counted from 1, blank lines and
+/// comments too.
 #[derive(Clone, Copy, Debug, PartialEq, Eq, Error)]
 pub enum ClaimFault {
-    /// An unknown keyword, another count of words than the keyword wants, or a word that is no number where one is wanted.
+    /// An unknown keyword, another count of words than the keyword wants, or a word that is no number where
+    /// one is wanted.
     #[error("line {line}: syntax")]
     Syntax { line: u64 },
     /// A number outside its limits.

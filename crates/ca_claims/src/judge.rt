@@ -1,6 +1,7 @@
 //! The claims of a text, judged one after another.
 
-ghost use Rattle.std.specs.Prelude.{◌≡◌, ◌≢◌, ℕ, ◌<◌, List, [], map, length, IfOk, IfSome, OnErr, MatchOption};
+ghost use Rattle.std.specs.Prelude.{◌≡◌, ◌≢◌, ℕ, ◌<◌, List, [], map, length, IfOk, IfSome, OnErr};
+ghost use Rattle.std.specs.Prelude.{MatchOption};
 ghost use Rattle.std.specs.Option.{option_copied};
 ghost use Rattle.ca_claims.specs.Means.{contents, bytes_at};
 ghost use Rattle.ca_claims.specs.Judging.{Judges, JudgesAndNotes, IsDone};
@@ -20,8 +21,8 @@ use ca_run::Unwatched;
 use std::alloc::Global;
 use std::marker::Model;
 
-/// The claims of a text that are left, the files that were handed in, and what is kept of them: the bytes of each path, the
-/// rule tables, and the patterns that were last read.
+/// The claims of a text that are left, the files that were handed in, and what is kept of them: the bytes of
+/// each path, the rule tables, and the patterns that were last read.
 #[derive(Drop)]
 pub struct Judge<'a> {
     alloc: Global,
@@ -46,12 +47,13 @@ impl<'a> Model for Judge<'a> {
 }
 
 impl<'a> Judge<'a> {
-    /// A judge of all claims of a text. Of two files with one path the first counts. The rule tables are read once for all
-    /// claims; of two tables with one name that of the first rule line counts.
+    /// A judge of all claims of a text. Of two files with one path the first counts. The rule tables are read
+    /// once for all claims; of two tables with one name that of the first rule line counts.
     ///
     /// # Errors
     ///
-    /// Fails where there is no memory for the list of the files or for the rule tables of a text that makes a claim.
+    /// Fails where there is no memory for the list of the files or for the rule tables of a text that makes a
+    /// claim.
     pub fn new(
         alloc: Global,
         claims: &'a Claims,
@@ -94,7 +96,8 @@ impl<'a> Judge<'a> {
 
     /// The answer to the next claim, with a note on it.
     pub fn next_noted(&mut self) -> Option<(Answer, Note<'a>)>
-        ensures noted { MatchOption result (IsDone self.old self.new) (λ noted. JudgesAndNotes self.old self.new noted.0 noted.1) }
+        ensures noted { MatchOption result (IsDone self.old self.new)
+            (λ noted. JudgesAndNotes self.old self.new noted.0 noted.1) }
         ensures given { IfSome result (λ noted. IsGiven noted.0.verdict noted.1) }
     {
         self.next_noted_watched(&mut Unwatched)
@@ -105,7 +108,8 @@ impl<'a> Judge<'a> {
         &mut self,
         observer: &mut O,
     ) -> Option<(Answer, Note<'a>)>
-        ensures noted { MatchOption result (IsDone self.old self.new) (λ noted. JudgesAndNotes self.old self.new noted.0 noted.1) }
+        ensures noted { MatchOption result (IsDone self.old self.new)
+            (λ noted. JudgesAndNotes self.old self.new noted.0 noted.1) }
         ensures given { IfSome result (λ noted. IsGiven noted.0.verdict noted.1) }
     {
         if self.index == self.claims.claim_count() {
@@ -134,7 +138,8 @@ struct Needed<'a> {
 
 /// What the claims of a text need of these files. A text without claims needs nothing.
 fn look_up<'a>(alloc: Global, claims: &Claims, files: &[File<'a>]) -> Result<Needed<'a>, Memory>
-    ensures found { IfOk result (λ n. claims.now.claims ≢ [] → AreFound (contents files.now) claims.now n.found.items n.tables) }
+    ensures found { IfOk result
+        (λ n. claims.now.claims ≢ [] → AreFound (contents files.now) claims.now n.found.items n.tables) }
     ensures memory { OnErr result (claims.now.claims ≢ []) }
 {
     if claims.claim_count() == 0 {
@@ -153,8 +158,8 @@ fn library_for<'a>(alloc: Global, claims: &Claims) -> Library<'a> {
     Library::new(alloc, claims.claim_count() != 1)
 }
 
-/// The answer to the claim with this index, and a note on it, where these are the bytes of the files with the paths of the text
-/// and what its rule lines' files hold.
+/// The answer to the claim with this index, and a note on it, where these are the bytes of the files with the
+/// paths of the text and what its rule lines' files hold.
 fn answer_to<'a, 'f, O: Observer>(
     alloc: Global,
     library: &mut Library<'f>,
@@ -166,7 +171,8 @@ fn answer_to<'a, 'f, O: Observer>(
 ) -> (Answer, Note<'a>)
     requires index { index < length claims.now.claims }
     requires found { length found.now ≡ length claims.now.paths }
-    ensures { (files : List (List ℕ × List ℕ)) → map option_copied found.now ≡ map (bytes_at files) claims.now.paths
+    ensures { (files : List (List ℕ × List ℕ))
+        → map option_copied found.now ≡ map (bytes_at files) claims.now.paths
         → AreRead files claims.now.paths claims.now.rules tables.now
         → IsAnswerTo files claims.now index result.0 result.1 }
 {

@@ -1,40 +1,47 @@
 //! Laws of claim texts, which no call needs to run.
 
-ghost use Rattle.std.specs.Prelude.{◌≡◌, ◌≢◌, ℕ, List, [], ◌∷◌, Option, Some, None, codes};
-ghost use Rattle.ca_claims.specs.Text.{Line, Load, Claims as Claiming, IsClaimText, asked_by};
+ghost use Rattle.std.specs.Prelude.{◌≡◌, ◌≢◌, ℕ, List, [], ◌∷◌, Option, codes};
+ghost use Rattle.ca_claims.specs.Text.{Line, IsClaimText, asked_by};
 ghost use Rattle.ca_claims.specs.Needed.{IsNeeded};
 ghost use Rattle.ca_claims.specs.TextFaults.{IsFirstFault};
-ghost use Rattle.ca_claims.specs.Examples.{still_of, block_text, every_text, every_said, every_asked, table_text, table_said, tables_text, tables_said, tables_asked, spare_said, two_tables_text, unknown_text, other_unknown_text, taken_text, misspelled_text, no_number_text, no_shift_text, no_period_text};
+ghost use Rattle.ca_claims.specs.Examples.{block_text, block_said, block_asked, every_text, every_said};
+ghost use Rattle.ca_claims.specs.Examples.{every_asked, table_text, table_said, tables_text, tables_said};
+ghost use Rattle.ca_claims.specs.Examples.{tables_asked, spare_said, two_tables_text, unknown_text};
+ghost use Rattle.ca_claims.specs.Examples.{other_unknown_text, taken_text, misspelled_text, no_number_text};
+ghost use Rattle.ca_claims.specs.Examples.{no_shift_text, no_period_text};
 ghost use Rattle.ca_claims.specs.declared.fault.ClaimFault.{ClaimFault};
 ghost use Rattle.ca_claims.specs.declared.fault.ClaimFault.TheVariants as fault;
 
 /// A claim text has one meaning at most.
 pub fn one_meaning()
-    ensures { (bytes : List ℕ) (s t : List (Option Line)) → IsClaimText bytes s → IsClaimText bytes t → s ≡ t }
+    ensures { (bytes : List ℕ) (s t : List (Option Line)) → IsClaimText bytes s → IsClaimText bytes t
+        → s ≡ t }
 {}
 
 /// A claim text has no fault other than out of memory.
 pub fn no_fault_in_claim_text()
-    ensures { (bytes : List ℕ) (said : List (Option Line)) (f : ClaimFault) → f ≢ fault.Memory → IsClaimText bytes said → IsFirstFault bytes f → ⊥ }
+    ensures { (bytes : List ℕ) (said : List (Option Line)) (f : ClaimFault) → f ≢ fault.Memory
+        → IsClaimText bytes said → IsFirstFault bytes f → ⊥ }
 {}
 
 /// A text has one first fault at most, apart from out of memory.
 pub fn one_fault()
-    ensures { (bytes : List ℕ) (f g : ClaimFault) → f ≢ fault.Memory → g ≢ fault.Memory → IsFirstFault bytes f → IsFirstFault bytes g → f ≡ g }
+    ensures { (bytes : List ℕ) (f g : ClaimFault) → f ≢ fault.Memory → g ≢ fault.Memory → IsFirstFault bytes f
+        → IsFirstFault bytes g → f ≡ g }
 {}
 
 /// What the definitions say of small texts.
 pub fn worked_examples()
     // A comment, a blank line, a name and a claim, which is on line 4 and about the name's path.
-    ensures lines { IsClaimText block_text (None ∷ None ∷ Some (Load (codes "b") (codes "block.rle")) ∷ Some (Claiming (still_of (codes "b"))) ∷ []) }
-    ensures asked { asked_by (None ∷ None ∷ Some (Load (codes "b") (codes "block.rle")) ∷ Some (Claiming (still_of (codes "b"))) ∷ [])
-        ≡ record { paths = codes "block.rle" ∷ []; rules = []; claims = (4, still_of (codes "block.rle")) ∷ []; patterns = ((codes "b", codes "block.rle") ∷ []) ∷ [] } }
+    ensures lines { IsClaimText block_text block_said }
+    ensures asked { asked_by block_said ≡ block_asked }
     // All claims.
     ensures every_line { IsClaimText every_text every_said }
     ensures every_claim { asked_by every_said ≡ every_asked }
     // A rule table after two names of one path.
     ensures table_line { IsClaimText table_text table_said }
-    ensures table_paths { asked_by table_said ≡ record { paths = codes "p" ∷ codes "r" ∷ []; rules = codes "r" ∷ []; claims = []; patterns = [] } }
+    ensures table_paths { asked_by table_said
+        ≡ record { paths = codes "p" ∷ codes "r" ∷ []; rules = codes "r" ∷ []; claims = []; patterns = [] } }
     // Rule tables before and after a name and a claim.
     ensures tables_line { IsClaimText tables_text tables_said }
     ensures tables_paths { asked_by tables_said ≡ tables_asked }

@@ -1,4 +1,5 @@
-//! Claims about the patterns of files: the text that makes them, and the verdict on each; and patterns that are converted.
+//! Claims about the patterns of files: the text that makes them, and the verdict on each; and patterns that
+//! are converted.
 #![tactic(auto)]
 
 mod cells;

@@ -1,23 +1,26 @@
 //! What a second line can tell of a verdict.
 
-/// What a verdict doesn't say itself: which pattern or file it is about, and where that file is faulty. Lines are counted from 1.
+/// What a verdict doesn't say itself: which pattern or file it is about, and where that file is faulty. Lines
+/// are counted from 1.
 #[derive(Clone, Copy, Debug)]
 pub enum Note<'a> {
-    /// The verdict says all: a yes, a no but for cells that differ, and a refusal for different rules or for want of memory.
+    /// The verdict says all: a yes, a no but for cells that differ, and a refusal for different rules or for
+    /// want of memory.
     Nothing,
     /// Cells differ, of the claim's first pattern, which has this name.
     Cell {
         name: &'a [u8],
     },
-    /// The claim is refused for the pattern with this name, whose file is at this path. It is the first of the claim's patterns
-    /// of which the cause holds. Where the file doesn't read, the line is that on which its fault stands, if it stands on one.
+    /// The claim is refused for the pattern with this name, whose file is at this path. It is the first of
+    /// the claim's patterns of which the cause holds. Where the file doesn't read, the line is that on which
+    /// its fault stands, if it stands on one.
     Pattern {
         name: &'a [u8],
         path: &'a [u8],
         line: Option<u64>,
     },
-    /// The claim is refused for the file of a rule line, which is at this path. It is the first that is missing,
-    /// where the patterns' files are there, or the first that is no good table.
+    /// The claim is refused for the file of a rule line, which is at this path. It is the first that is
+    /// missing, where the patterns' files are there, or the first that is no good table.
     RuleFile {
         path: &'a [u8],
     },

@@ -23,7 +23,8 @@ pub(crate) fn note_on<'a>(
     ensures { (files : List (List ℕ × List ℕ))
         → IsOnVerdict files claims.now.paths claims.now.rules
         (map (λ n. path_at claims.now.paths n.path) (items patterns.now)) judged.verdict judged.about
-        → IsNote files claims.now.rules (map (named_path claims.now.paths) (items patterns.now)) judged.verdict result
+        → IsNote files claims.now.rules (map (named_path claims.now.paths) (items patterns.now))
+        judged.verdict result
         × IsGiven judged.verdict result }
 {
     match (judged.verdict, judged.about) {

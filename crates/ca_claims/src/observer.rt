@@ -2,14 +2,14 @@
 
 use ca_run::{Unwatched, Watch};
 
-/// Sees how far the judging of a claim is, while it lasts. As a `Watch`, it also sees how many generations a run has
-/// reached.
+/// Sees how far the judging of a claim is, while it lasts. As a `Watch`, it also sees how many generations a
+/// run has reached.
 pub trait Observer: Watch {
     /// The claim on this line is judged next.
     fn begins(&mut self, line: u64);
 
-    /// The cells of its pattern are looked for after so many generations: those of the claim, or an earlier time at which the
-    /// pattern may be back.
+    /// The cells of its pattern are looked for after so many generations: those of the claim, or an earlier
+    /// time at which the pattern may be back.
     fn goes_to(&mut self, generations: u64);
 
     /// The claim is judged.

@@ -24,13 +24,15 @@ pub(crate) struct Ruled<'t> {
 
 /// The pattern with the rule that its rule text names among the tables, or what is wrong with the text.
 pub(crate) fn with_rule<'t>(pattern: Loaded, tables: &'t [Table]) -> Result<Ruled<'t>, RuleFault>
-    ensures { MatchResult result (IsRuledAs tables.now pattern) (IsRuleFault pattern.rule_text.items tables.now) }
+    ensures { MatchResult result (IsRuledAs tables.now pattern)
+        (IsRuleFault pattern.rule_text.items tables.now) }
 {
     let rule = resolve(&pattern.rule_text, tables)?;
     Ok(Ruled { pattern, rule })
 }
 
-/// Reads a pattern file into the store: a pattern of small states under a rule that its rule text names among the tables.
+/// Reads a pattern file into the store: a pattern of small states under a rule that its rule text names among
+/// the tables.
 pub(crate) fn read_ruled<'t>(
     alloc: Global,
     store: &mut Store,

@@ -10,7 +10,8 @@ use thiserror::Error;
 pub enum Why {
     /// The claim asks for a live pattern, and no cell is live.
     Empty,
-    /// After `gens` generations, the claimed number, the cell at (`x`, `y`) is `found`, and the claim says `claimed`.
+    /// After `gens` generations, the claimed number, the cell at (`x`, `y`) is `found`, and the claim says
+    /// `claimed`.
     Differs {
         x: i64,
         y: i64,
@@ -18,8 +19,9 @@ pub enum Why {
         claimed: u8,
         gens: u64,
     },
-    /// The claimed cells stand after the claimed period, but after `m` generations, fewer than that, the pattern was there
-    /// already, moved by (`dx`, `dy`); and after no fewer. An oscillator's is moved by (0, 0).
+    /// The claimed cells stand after the claimed period, but after `m` generations, fewer than that, the
+    /// pattern was there already, moved by (`dx`, `dy`); and after no fewer. An oscillator's is moved by (0,
+    /// 0).
     Earlier {
         m: u64,
         dx: i64,
@@ -41,17 +43,17 @@ pub enum PatternFault {
     Memory,
 }
 
-/// Why a claim isn't judged: the first of these that holds. Out of memory alone may come before any other, where all files
-/// are there, all rule tables are good, and the first pattern's file needs memory: it is an RLE that reads, or a macrocell
-/// that is spelled well or has a good node before any fault. Of two patterns the claim's first goes before the other in each
-/// of them.
+/// Why a claim isn't judged: the first of these that holds. Out of memory alone may come before any other,
+/// where all files are there, all rule tables are good, and the first pattern's file needs memory: it is an
+/// RLE that reads, or a macrocell that is spelled well or has a good node before any fault. Of two patterns
+/// the claim's first goes before the other in each of them.
 #[derive(Clone, Copy, Debug, PartialEq, Eq, Error)]
 pub enum Cause {
     /// No file with the path of one of the patterns, or of a rule line of the text, was handed in.
     #[error("no file")]
     NoFile,
-    /// The file of a rule line is the text of no rule table, or of one that wakes the empty plane; the first such line's.
-    /// Its fault is never out of memory here.
+    /// The file of a rule line is the text of no rule table, or of one that wakes the empty plane; the first
+    /// such line's. Its fault is never out of memory here.
     #[error("rule table: {0}")]
     BadTable(TableFault),
     /// A pattern's file doesn't read. Its fault is never out of memory here.

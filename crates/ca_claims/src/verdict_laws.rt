@@ -1,12 +1,13 @@
-//! Laws of verdicts, which no call needs to run: what a true claim of each kind is, and what a reason against one shows; a no
-//! means that the claim is false, and it's false for one kind of reason; a file has one meaning; and, out of memory apart,
-//! only one kind of verdict is true of a claim.
+//! Laws of verdicts, which no call needs to run: what a true claim of each kind is, and what a reason against
+//! one shows; a no means that the claim is false, and it's false for one kind of reason; a file has one
+//! meaning; and, out of memory apart, only one kind of verdict is true of a claim.
 
 ghost use Rattle.std.specs.Prelude.{◌≡◌, ◌≢◌, ℕ, ◌≤◌, ◌<◌, ◌↔◌, ℤ, List, pos, negsuc};
 ghost use Rattle.ca_plane.specs.Plane.{Picture, cell, shifted, IsLive};
 ghost use Rattle.ca_plane.specs.Generations.{after, IsAfter};
 ghost use Rattle.ca_claims.specs.declared.claims.line.Kind.{Kind};
-ghost use Rattle.ca_claims.specs.declared.claims.line.Kind.TheVariants.{Still, Oscillator, Spaceship, Becomes};
+ghost use Rattle.ca_claims.specs.declared.claims.line.Kind.TheVariants.{Still, Oscillator, Spaceship};
+ghost use Rattle.ca_claims.specs.declared.claims.line.Kind.TheVariants.{Becomes};
 ghost use Rattle.ca_claims.specs.Text.{Claim};
 ghost use Rattle.ca_claims.specs.Means.{Means};
 ghost use Rattle.ca_claims.specs.Truth.{asks_of, IsChanged, IsNowhere, IsTrueClaim, IsReason, IsSameReason};
@@ -21,70 +22,111 @@ ghost use Rattle.ca_rule.specs.declared.table.fault.TableFault.{TableFault};
 
 /// What it means that a claim of each kind is true.
 pub fn true_claims()
-    ensures still { (next : List ℕ → ℕ) (cells other : Picture) → IsTrueClaim next cells other (asks_of Still) ↔ (IsLive cells × IsAfter next cells 1 cells) }
-    ensures oscillator { (next : List ℕ → ℕ) (cells other : Picture) (period : ℕ) → IsTrueClaim next cells other (asks_of (Oscillator period))
-        ↔ (IsLive cells × IsAfter next cells period cells × ((m : ℕ) → 1 ≤ m → m < period → IsChanged next cells m)) }
-    ensures spaceship { (next : List ℕ → ℕ) (cells other : Picture) (period : ℕ) (dx dy : ℤ) → IsTrueClaim next cells other (asks_of (Spaceship period dx dy))
-        ↔ (IsLive cells × IsAfter next cells period (shifted cells dx dy) × ((m : ℕ) → 1 ≤ m → m < period → IsNowhere next cells m)) }
+    ensures still { (next : List ℕ → ℕ) (cells other : Picture) → IsTrueClaim next cells other (asks_of Still)
+        ↔ (IsLive cells × IsAfter next cells 1 cells) }
+    ensures oscillator { (next : List ℕ → ℕ) (cells other : Picture) (period : ℕ)
+        → IsTrueClaim next cells other (asks_of (Oscillator period))
+        ↔ (IsLive cells × IsAfter next cells period cells
+        × ((m : ℕ) → 1 ≤ m → m < period → IsChanged next cells m)) }
+    ensures spaceship { (next : List ℕ → ℕ) (cells other : Picture) (period : ℕ) (dx dy : ℤ)
+        → IsTrueClaim next cells other (asks_of (Spaceship period dx dy))
+        ↔ (IsLive cells × IsAfter next cells period (shifted cells dx dy)
+        × ((m : ℕ) → 1 ≤ m → m < period → IsNowhere next cells m)) }
     ensures becomes { (next : List ℕ → ℕ) (cells other : Picture) (generations : ℕ)
-        → IsTrueClaim next cells other (asks_of (Becomes generations)) ↔ IsAfter next cells generations other }
+        → IsTrueClaim next cells other (asks_of (Becomes generations))
+        ↔ IsAfter next cells generations other }
 {}
 
-/// What it means that there is a reason against a claim of each kind: no cell is live, a cell after the claimed generations isn't
-/// the claimed one, or the claimed cells stand and the pattern is back at an earlier time, and at none before that.
+/// What it means that there is a reason against a claim of each kind: no cell is live, a cell after the
+/// claimed generations isn't the claimed one, or the claimed cells stand and the pattern is back at an
+/// earlier time, and at none before that.
 pub fn false_claims()
-    ensures still_empty { (next : List ℕ → ℕ) (cells other : Picture) → IsReason next cells other (asks_of Still) Empty ↔ (IsLive cells → ⊥) }
-    ensures still_differs { (next : List ℕ → ℕ) (cells other : Picture) (x y : ℤ) (found wanted n : ℕ) → IsReason next cells other (asks_of Still) (Differs x y found wanted n)
-        ↔ (IsLive cells × (n ≡ 1) × (after next cells 1 x y ≡ found) × (cell cells x y ≡ wanted) × (found ≢ wanted)) }
-    ensures still_earlier { (next : List ℕ → ℕ) (cells other : Picture) (m : ℕ) (dx dy : ℤ) → IsReason next cells other (asks_of Still) (Earlier m dx dy) → ⊥ }
-    ensures oscillator_empty { (next : List ℕ → ℕ) (cells other : Picture) (period : ℕ) → IsReason next cells other (asks_of (Oscillator period)) Empty ↔ (IsLive cells → ⊥) }
-    ensures oscillator_differs { (next : List ℕ → ℕ) (cells other : Picture) (period : ℕ) (x y : ℤ) (found wanted n : ℕ) → IsReason next cells other (asks_of (Oscillator period)) (Differs x y found wanted n)
-        ↔ (IsLive cells × (n ≡ period) × (after next cells period x y ≡ found) × (cell cells x y ≡ wanted) × (found ≢ wanted)) }
-    ensures oscillator_earlier { (next : List ℕ → ℕ) (cells other : Picture) (period m : ℕ) (dx dy : ℤ) → IsReason next cells other (asks_of (Oscillator period)) (Earlier m dx dy)
-        ↔ (IsLive cells × IsAfter next cells period cells × (1 ≤ m) × (m < period) × (dx ≡ pos 0) × (dy ≡ pos 0) × IsAfter next cells m cells
+    ensures still_empty { (next : List ℕ → ℕ) (cells other : Picture)
+        → IsReason next cells other (asks_of Still) Empty ↔ (IsLive cells → ⊥) }
+    ensures still_differs { (next : List ℕ → ℕ) (cells other : Picture) (x y : ℤ) (found wanted n : ℕ)
+        → IsReason next cells other (asks_of Still) (Differs x y found wanted n)
+        ↔ (IsLive cells × (n ≡ 1) × (after next cells 1 x y ≡ found) × (cell cells x y ≡ wanted)
+        × (found ≢ wanted)) }
+    ensures still_earlier { (next : List ℕ → ℕ) (cells other : Picture) (m : ℕ) (dx dy : ℤ)
+        → IsReason next cells other (asks_of Still) (Earlier m dx dy) → ⊥ }
+    ensures oscillator_empty { (next : List ℕ → ℕ) (cells other : Picture) (period : ℕ)
+        → IsReason next cells other (asks_of (Oscillator period)) Empty ↔ (IsLive cells → ⊥) }
+    ensures oscillator_differs { (next : List ℕ → ℕ) (cells other : Picture) (period : ℕ) (x y : ℤ)
+        (found wanted n : ℕ)
+        → IsReason next cells other (asks_of (Oscillator period)) (Differs x y found wanted n)
+        ↔ (IsLive cells × (n ≡ period) × (after next cells period x y ≡ found) × (cell cells x y ≡ wanted)
+        × (found ≢ wanted)) }
+    ensures oscillator_earlier { (next : List ℕ → ℕ) (cells other : Picture) (period m : ℕ) (dx dy : ℤ)
+        → IsReason next cells other (asks_of (Oscillator period)) (Earlier m dx dy)
+        ↔ (IsLive cells × IsAfter next cells period cells × (1 ≤ m) × (m < period) × (dx ≡ pos 0)
+        × (dy ≡ pos 0) × IsAfter next cells m cells
         × ((k : ℕ) → 1 ≤ k → k < m → IsChanged next cells k)) }
-    ensures spaceship_empty { (next : List ℕ → ℕ) (cells other : Picture) (period : ℕ) (dx dy : ℤ) → IsReason next cells other (asks_of (Spaceship period dx dy)) Empty ↔ (IsLive cells → ⊥) }
-    ensures spaceship_differs { (next : List ℕ → ℕ) (cells other : Picture) (period : ℕ) (dx dy x y : ℤ) (found wanted n : ℕ) → IsReason next cells other (asks_of (Spaceship period dx dy)) (Differs x y found wanted n)
-        ↔ (IsLive cells × (n ≡ period) × (after next cells period x y ≡ found) × (cell (shifted cells dx dy) x y ≡ wanted) × (found ≢ wanted)) }
-    ensures spaceship_earlier { (next : List ℕ → ℕ) (cells other : Picture) (period m : ℕ) (dx dy u v : ℤ) → IsReason next cells other (asks_of (Spaceship period dx dy)) (Earlier m u v)
-        ↔ (IsLive cells × IsAfter next cells period (shifted cells dx dy) × (1 ≤ m) × (m < period) × IsAfter next cells m (shifted cells u v)
+    ensures spaceship_empty { (next : List ℕ → ℕ) (cells other : Picture) (period : ℕ) (dx dy : ℤ)
+        → IsReason next cells other (asks_of (Spaceship period dx dy)) Empty ↔ (IsLive cells → ⊥) }
+    ensures spaceship_differs { (next : List ℕ → ℕ) (cells other : Picture) (period : ℕ) (dx dy x y : ℤ)
+        (found wanted n : ℕ)
+        → IsReason next cells other (asks_of (Spaceship period dx dy)) (Differs x y found wanted n)
+        ↔ (IsLive cells × (n ≡ period) × (after next cells period x y ≡ found)
+        × (cell (shifted cells dx dy) x y ≡ wanted) × (found ≢ wanted)) }
+    ensures spaceship_earlier { (next : List ℕ → ℕ) (cells other : Picture) (period m : ℕ) (dx dy u v : ℤ)
+        → IsReason next cells other (asks_of (Spaceship period dx dy)) (Earlier m u v)
+        ↔ (IsLive cells × IsAfter next cells period (shifted cells dx dy) × (1 ≤ m) × (m < period)
+        × IsAfter next cells m (shifted cells u v)
         × ((k : ℕ) → 1 ≤ k → k < m → IsNowhere next cells k)) }
-    ensures becomes_empty { (next : List ℕ → ℕ) (cells other : Picture) (generations : ℕ) → IsReason next cells other (asks_of (Becomes generations)) Empty → ⊥ }
-    ensures becomes_differs { (next : List ℕ → ℕ) (cells other : Picture) (generations : ℕ) (x y : ℤ) (found wanted n : ℕ) → IsReason next cells other (asks_of (Becomes generations)) (Differs x y found wanted n)
-        ↔ ((n ≡ generations) × (after next cells generations x y ≡ found) × (cell other x y ≡ wanted) × (found ≢ wanted)) }
-    ensures becomes_earlier { (next : List ℕ → ℕ) (cells other : Picture) (generations m : ℕ) (dx dy : ℤ) → IsReason next cells other (asks_of (Becomes generations)) (Earlier m dx dy) → ⊥ }
+    ensures becomes_empty { (next : List ℕ → ℕ) (cells other : Picture) (generations : ℕ)
+        → IsReason next cells other (asks_of (Becomes generations)) Empty → ⊥ }
+    ensures becomes_differs { (next : List ℕ → ℕ) (cells other : Picture) (generations : ℕ) (x y : ℤ)
+        (found wanted n : ℕ)
+        → IsReason next cells other (asks_of (Becomes generations)) (Differs x y found wanted n)
+        ↔ ((n ≡ generations) × (after next cells generations x y ≡ found) × (cell other x y ≡ wanted)
+        × (found ≢ wanted)) }
+    ensures becomes_earlier { (next : List ℕ → ℕ) (cells other : Picture) (generations m : ℕ) (dx dy : ℤ)
+        → IsReason next cells other (asks_of (Becomes generations)) (Earlier m dx dy) → ⊥ }
 {}
 
 /// Where there is a reason against a claim, the claim isn't true.
 pub fn no_is_false()
-    ensures { (next : List ℕ → ℕ) (cells other : Picture) (kind : Kind) (why : Why) → IsReason next cells other (asks_of kind) why → IsTrueClaim next cells other (asks_of kind) → ⊥ }
+    ensures { (next : List ℕ → ℕ) (cells other : Picture) (kind : Kind) (why : Why)
+        → IsReason next cells other (asks_of kind) why → IsTrueClaim next cells other (asks_of kind) → ⊥ }
 {}
 
-/// A claim is false for one kind of reason at most: two reasons are both want of live cells, or both cells that differ after
-/// the claimed generations (which cells is open), or the same earlier return.
+/// A claim is false for one kind of reason at most: two reasons are both want of live cells, or both cells
+/// that differ after the claimed generations (which cells is open), or the same earlier return.
 pub fn one_reason()
-    ensures { (next : List ℕ → ℕ) (cells other : Picture) (kind : Kind) (one two : Why) → IsReason next cells other (asks_of kind) one
+    ensures { (next : List ℕ → ℕ) (cells other : Picture) (kind : Kind) (one two : Why)
+        → IsReason next cells other (asks_of kind) one
         → IsReason next cells other (asks_of kind) two → IsSameReason one two }
 {}
 
 /// The bytes of a file mean one picture, one rule text and one generation at most.
 pub fn one_meaning_of_a_file()
-    ensures { (bytes : List ℕ) (p q : Picture) (t u : List ℕ) (g h : ℕ) → Means bytes p t g → Means bytes q u h → (p ≡ q) × (t ≡ u) × (g ≡ h) }
+    ensures { (bytes : List ℕ) (p q : Picture) (t u : List ℕ) (g h : ℕ) → Means bytes p t g
+        → Means bytes q u h → (p ≡ q) × (t ≡ u) × (g ≡ h) }
 {}
 
-/// A yes and a no aren't both true of a claim, nor is one of them and a refusal, nor are refusals for two causes; out of
-/// memory apart. Nor are out of memory and a file that isn't there, or out of memory and a bad table.
+/// A yes and a no aren't both true of a claim, nor is one of them and a refusal, nor are refusals for two
+/// causes; out of memory apart. Nor are out of memory and a file that isn't there, or out of memory and a bad
+/// table.
 pub fn one_kind_of_verdict()
-    ensures yes_or_no { (files : List (List ℕ × List ℕ)) (rules : List (List ℕ)) (claim : Claim) (why : Why) → IsTrueVerdict files rules claim Yes → IsTrueVerdict files rules claim (No why) → ⊥ }
-    ensures yes_or_refused { (files : List (List ℕ × List ℕ)) (rules : List (List ℕ)) (claim : Claim) (cause : Cause) → cause ≢ Memory
+    ensures yes_or_no { (files : List (List ℕ × List ℕ)) (rules : List (List ℕ)) (claim : Claim) (why : Why)
+        → IsTrueVerdict files rules claim Yes → IsTrueVerdict files rules claim (No why) → ⊥ }
+    ensures yes_or_refused { (files : List (List ℕ × List ℕ)) (rules : List (List ℕ)) (claim : Claim)
+        (cause : Cause) → cause ≢ Memory
         → IsTrueVerdict files rules claim Yes → IsTrueVerdict files rules claim (Refused cause) → ⊥ }
-    ensures no_or_refused { (files : List (List ℕ × List ℕ)) (rules : List (List ℕ)) (claim : Claim) (why : Why) (cause : Cause) → cause ≢ Memory
+    ensures no_or_refused { (files : List (List ℕ × List ℕ)) (rules : List (List ℕ)) (claim : Claim)
+        (why : Why) (cause : Cause) → cause ≢ Memory
         → IsTrueVerdict files rules claim (No why) → IsTrueVerdict files rules claim (Refused cause) → ⊥ }
-    ensures one_cause { (files : List (List ℕ × List ℕ)) (rules : List (List ℕ)) (claim : Claim) (one two : Cause) → one ≢ Memory → two ≢ Memory
-        → IsTrueVerdict files rules claim (Refused one) → IsTrueVerdict files rules claim (Refused two) → one ≡ two }
-    ensures no_file_or_memory { (files : List (List ℕ × List ℕ)) (rules : List (List ℕ)) (claim : Claim) → IsTrueVerdict files rules claim (Refused NoFile) → IsTrueVerdict files rules claim (Refused Memory) → ⊥ }
-    ensures bad_table_or_memory { (files : List (List ℕ × List ℕ)) (rules : List (List ℕ)) (claim : Claim) (fault : TableFault)
-        → IsTrueVerdict files rules claim (Refused (BadTable fault)) → IsTrueVerdict files rules claim (Refused Memory) → ⊥ }
+    ensures one_cause { (files : List (List ℕ × List ℕ)) (rules : List (List ℕ)) (claim : Claim)
+        (one two : Cause) → one ≢ Memory → two ≢ Memory
+        → IsTrueVerdict files rules claim (Refused one) → IsTrueVerdict files rules claim (Refused two)
+        → one ≡ two }
+    ensures no_file_or_memory { (files : List (List ℕ × List ℕ)) (rules : List (List ℕ)) (claim : Claim)
+        → IsTrueVerdict files rules claim (Refused NoFile) → IsTrueVerdict files rules claim (Refused Memory)
+        → ⊥ }
+    ensures bad_table_or_memory { (files : List (List ℕ × List ℕ)) (rules : List (List ℕ)) (claim : Claim)
+        (fault : TableFault)
+        → IsTrueVerdict files rules claim (Refused (BadTable fault))
+        → IsTrueVerdict files rules claim (Refused Memory) → ⊥ }
 {}
 
 /// Cells of the blinker and the block under Conway's Life.

@@ -40,15 +40,16 @@ use prepared::{Prepared, prepare};
 use std::alloc::Global;
 pub(crate) use tables::Tables;
 
-/// One answer for each claim, in the order of their lines. Of two files with one path the first counts. The rule tables
-/// are read once for all claims; of two tables with one name that of the first rule line counts.
+/// One answer for each claim, in the order of their lines. Of two files with one path the first counts. The
+/// rule tables are read once for all claims; of two tables with one name that of the first rule line counts.
 ///
 /// # Errors
 ///
-/// Fails where there is no memory for the answers, the list of the files or the rule tables. A text without claims
-/// needs none of these. Where there is no memory to judge a claim, that claim alone is refused.
+/// Fails where there is no memory for the answers, the list of the files or the rule tables. A text without
+/// claims needs none of these. Where there is no memory to judge a claim, that claim alone is refused.
 pub fn verify(alloc: Global, claims: &Claims, files: &[File<'_>]) -> Result<Vec<Answer>, Memory>
-    ensures answers { IfOk result (λ v. AreTrueAnswers (contents files.now) claims.now.rules claims.now.claims v.items) }
+    ensures answers { IfOk result
+        (λ v. AreTrueAnswers (contents files.now) claims.now.rules claims.now.claims v.items) }
     ensures memory { OnErr result (claims.now.claims ≢ []) }
 {
     let mut answers = Vec::with_capacity(alloc, claims.claim_count())?;
@@ -65,7 +66,8 @@ pub(crate) fn find_files<'a>(
     claims: &Claims,
     files: &[File<'a>],
 ) -> Result<Vec<Option<&'a [u8]>>, Memory>
-    ensures { IfOk result (λ v. map option_copied v.items ≡ map (bytes_at (contents files.now)) claims.now.paths) }
+    ensures { IfOk result
+        (λ v. map option_copied v.items ≡ map (bytes_at (contents files.now)) claims.now.paths) }
 {
     let mut found = vec![in alloc; None; claims.path_count()]?;
     'files: for file in files {
@@ -78,8 +80,9 @@ pub(crate) fn find_files<'a>(
     Ok(found)
 }
 
-/// The verdict on a claim, where these are the bytes of the files with the paths of the text and what its rule lines' files
-/// hold. Where there is no memory to judge it beside what the library keeps, that is let go.
+/// The verdict on a claim, where these are the bytes of the files with the paths of the text and what its
+/// rule lines' files hold. Where there is no memory to judge it beside what the library keeps, that is let
+/// go.
 pub(crate) fn verdict_on<'a, O: Observer>(
     alloc: Global,
     library: &mut Library<'a>,
@@ -90,7 +93,8 @@ pub(crate) fn verdict_on<'a, O: Observer>(
 ) -> Judged
     requires within { AllByRecursion (λ i. i < length found.now) (patterns_of claim.now) }
     requires numbers { HasGoodNumbers claim.now.kind }
-    ensures { (files : List (List ℕ × List ℕ)) (paths rules : List (List ℕ)) → map option_copied found.now ≡ map (bytes_at files) paths → AreRead files paths rules tables.now
+    ensures { (files : List (List ℕ × List ℕ)) (paths rules : List (List ℕ))
+        → map option_copied found.now ≡ map (bytes_at files) paths → AreRead files paths rules tables.now
         → IsJudgedOn files paths rules (about (path_at paths) claim.now) result.verdict result.about }
 {
     let judged = as_judged(judge(alloc, library, claim, found, tables, observer));
@@ -116,7 +120,8 @@ fn wants_memory(verdict: &Verdict) -> bool {
 /// The verdict that was reached, or the refusal.
 fn as_judged(judged: Result<Verdict, Refusal>) -> Judged
     ensures { (files : List (List ℕ × List ℕ)) (paths rules : List (List ℕ)) (claim : TextClaim)
-        → MatchResult judged (λ verdict. IsJudgedOn files paths rules claim verdict abouts.Claim) (λ r. IsJudgedOn files paths rules claim (Refused r.cause) r.about)
+        → MatchResult judged (λ verdict. IsJudgedOn files paths rules claim verdict abouts.Claim)
+        (λ r. IsJudgedOn files paths rules claim (Refused r.cause) r.about)
         → IsJudgedOn files paths rules claim result.verdict result.about }
 {
     match judged {
@@ -131,8 +136,8 @@ fn as_judged(judged: Result<Verdict, Refusal>) -> Judged
     }
 }
 
-/// The verdict on a claim, where these are the bytes of the files with the paths of the text and what its rule lines' files
-/// hold, or why there is none.
+/// The verdict on a claim, where these are the bytes of the files with the paths of the text and what its
+/// rule lines' files hold, or why there is none.
 fn judge<'a, O: Observer>(
     alloc: Global,
     library: &mut Library<'a>,
@@ -143,8 +148,10 @@ fn judge<'a, O: Observer>(
 ) -> Result<Verdict, Refusal>
     requires within { AllByRecursion (λ i. i < length found.now) (patterns_of claim.now) }
     requires numbers { HasGoodNumbers claim.now.kind }
-    ensures { (files : List (List ℕ × List ℕ)) (paths rules : List (List ℕ)) → map option_copied found.now ≡ map (bytes_at files) paths → AreRead files paths rules tables.now
-        → MatchResult result (λ verdict. IsJudgedOn files paths rules (about (path_at paths) claim.now) verdict abouts.Claim)
+    ensures { (files : List (List ℕ × List ℕ)) (paths rules : List (List ℕ))
+        → map option_copied found.now ≡ map (bytes_at files) paths → AreRead files paths rules tables.now
+        → MatchResult result
+        (λ verdict. IsJudgedOn files paths rules (about (path_at paths) claim.now) verdict abouts.Claim)
         (λ r. IsJudgedOn files paths rules (about (path_at paths) claim.now) (Refused r.cause) r.about) }
 {
     let asks = claim.kind.asks();
@@ -167,7 +174,8 @@ fn decide_on<O: Observer>(
     observer: &mut O,
 ) -> Verdict
     requires { IsSubject prepared.leaper.nodes asks prepared.subject prepared.plane }
-    ensures { (cells other : Picture) → AreShown prepared.entry.leaper.nodes prepared.entry.subject cells other
+    ensures { (cells other : Picture)
+        → AreShown prepared.entry.leaper.nodes prepared.entry.subject cells other
         → IsDecided (next_of (rule_value prepared.entry.leaper.rule)) cells other asks result }
 {
     let Prepared {

@@ -6,8 +6,8 @@ ghost use Rattle.ca_claims.specs.inner.Patterns.{items};
 
 use crate::verifier::OneOrTwo;
 
-/// What is claimed of patterns, each of which is given by a `P`: by its name, or by the index of its path among the text's
-/// paths, or by both.
+/// What is claimed of patterns, each of which is given by a `P`: by its name, or by the index of its path
+/// among the text's paths, or by both.
 #[derive(Clone, Copy)]
 pub(crate) struct Claim<P> {
     pub(crate) pattern: P,
@@ -23,8 +23,8 @@ pub(crate) enum Kind {
     Still,
     /// The pattern is live and is back after the period. At no earlier time, starting at 1, is it back.
     Oscillator { period: u64 },
-    /// The pattern is live, and after the period it is moved by the shift. At no earlier time, starting at 1, is it
-    /// back, however moved.
+    /// The pattern is live, and after the period it is moved by the shift. At no earlier time, starting at 1,
+    /// is it back, however moved.
     Spaceship { period: u64, dx: i64, dy: i64 },
     /// After the generations the pattern's plane is that of the other pattern, cell for cell.
     Becomes { generations: u64 },

@@ -51,7 +51,8 @@ impl Paths {
 
     /// The index of the path, where it is one of these.
     pub(crate) fn index_of(&self, path: &[u8]) -> Option<usize>
-        ensures { MatchOption result ((i : ℕ) → slice_get self.now i ≢ Some path.now) (λ i. slice_get self.now i ≡ Some path.now) }
+        ensures { MatchOption result ((i : ℕ) → slice_get self.now i ≢ Some path.now)
+            (λ i. slice_get self.now i ≡ Some path.now) }
     {
         self.set.get_index_of(path)
     }

@@ -1,11 +1,14 @@
 //! A claim text read, a line at a time.
 
-ghost use Rattle.std.specs.Prelude.{◌≡◌, ℕ, ◌+◌, ◌∷◌, [], ◌++◌, List, Option, Some, None, not, codes, length, is_some, OnOk, IfOk, IfErr, MatchOption};
+ghost use Rattle.std.specs.Prelude.{◌≡◌, ℕ, ◌+◌, ◌∷◌, [], ◌++◌, List, Option, Some, None, not, codes, length};
+ghost use Rattle.std.specs.Prelude.{is_some, OnOk, IfOk, IfErr, MatchOption};
 ghost use Rattle.ca_plane.specs.Bytes.{Every, is_line_end, words_of};
-ghost use Rattle.ca_claims.specs.Text.{Line, Rule, Load, Claims as Claiming, HasGoodNumbers, IsAllowed, IsClaimText, spoken, asked_by};
+ghost use Rattle.ca_claims.specs.Text.{Line, Rule, Load, Claims as Claiming, HasGoodNumbers, IsAllowed};
+ghost use Rattle.ca_claims.specs.Text.{IsClaimText, spoken, asked_by};
 ghost use Rattle.ca_claims.specs.TextFaults.{IsFirstFault};
 ghost use Rattle.ca_claims.specs.declared.claims.words.LineKind.TheVariants as kind;
-ghost use Rattle.ca_claims.specs.inner.Reading.{IsKind, IsReading, SaysNext, HasFault, place_of, claim_of, AreKnown, at_places};
+ghost use Rattle.ca_claims.specs.inner.Reading.{IsKind, IsReading, SaysNext, HasFault, place_of, claim_of};
+ghost use Rattle.ca_claims.specs.inner.Reading.{AreKnown, at_places};
 
 use super::Claims;
 use super::line::{Claim, ClaimLine, Place};
@@ -44,7 +47,8 @@ impl<'a> Reading<'a> {
     fn rule(&mut self, alloc: Global, path: &[u8]) -> Result<(), ClaimFault>
         ensures ruled { OnOk result ((said : List (Option Line)) → IsReading said self.old
             → IsReading (said ++ Some (Rule path.now) ∷ []) self.new) }
-        ensures fault { IfErr result (λ f. (line : ℕ) (earlier : List Line) → HasFault line earlier (codes "rule" ∷ path.now ∷ []) f) }
+        ensures fault { IfErr result
+            (λ f. (line : ℕ) (earlier : List Line) → HasFault line earlier (codes "rule" ∷ path.now ∷ []) f) }
     {
         let Ok(table) = self.paths.put(alloc, path) else {
             return Err(ClaimFault::Memory);
@@ -110,7 +114,9 @@ impl<'a> Reading<'a> {
 
     /// The claim about the places of its names, where each is loaded.
     fn placed(&self, claim: &Claim<&'a [u8]>) -> Option<Claim<Place>>
-        ensures { MatchOption result (AreKnown (place_of self.now.places) (claim_of claim.now) → ⊥) (λ c. AreKnown (place_of self.now.places) (claim_of claim.now) × (c ≡ at_places (place_of self.now.places) (claim_of claim.now))) }
+        ensures { MatchOption result (AreKnown (place_of self.now.places) (claim_of claim.now) → ⊥)
+            (λ c. AreKnown (place_of self.now.places) (claim_of claim.now)
+            × (c ≡ at_places (place_of self.now.places) (claim_of claim.now))) }
     {
         let pattern = self.place(claim.pattern)?;
         let other = match claim.other {
@@ -127,11 +133,13 @@ impl<'a> Reading<'a> {
     /// The line with this number makes the claim.
     fn claim(&mut self, line: u64, claim: &Claim<&'a [u8]>) -> Result<(), ClaimFault>
         requires { HasGoodNumbers claim.now.kind }
-        ensures claimed { OnOk result ((said : List (Option Line)) → IsReading said self.old → line ≡ length said + 1
+        ensures claimed { OnOk result
+            ((said : List (Option Line)) → IsReading said self.old → line ≡ length said + 1
             → IsAllowed (spoken said) (Claiming (claim_of claim.now))
             × IsReading (said ++ Some (Claiming (claim_of claim.now)) ∷ []) self.new) }
         ensures fault { IfErr result (λ f. (said : List (Option Line)) → IsReading said self.old
-            → (words : List (List ℕ)) → IsKind words (kind.Claim claim.now) → HasFault line (spoken said) words f) }
+            → (words : List (List ℕ)) → IsKind words (kind.Claim claim.now)
+            → HasFault line (spoken said) words f) }
     {
         let Some(claim) = self.placed(claim) else {
             return Err(ClaimFault::UnknownName { line });
@@ -145,7 +153,8 @@ impl<'a> Reading<'a> {
     /// The next line of the text, which has this number.
     fn read(&mut self, alloc: Global, number: u64, line: &'a [u8]) -> Result<(), ClaimFault>
         requires { Every (λ b. not (is_line_end b)) line.now }
-        ensures said { OnOk result ((said : List (Option Line)) → IsReading said self.old → number ≡ length said + 1
+        ensures said { OnOk result
+            ((said : List (Option Line)) → IsReading said self.old → number ≡ length said + 1
             → (s : Option Line) × SaysNext (spoken said) (words_of line.now) s
             × IsReading (said ++ s ∷ []) self.new) }
         ensures fault { IfErr result (λ f. (said : List (Option Line)) → IsReading said self.old
@@ -166,10 +175,11 @@ impl<'a> Reading<'a> {
 ///
 /// # Errors
 ///
-/// The first fault of the text; or `Memory`, at a good line that follows good lines alone: a line's spelling, its numbers and
-/// its names are judged without memory.
+/// The first fault of the text; or `Memory`, at a good line that follows good lines alone: a line's spelling,
+/// its numbers and its names are judged without memory.
 pub fn read_claims(alloc: Global, bytes: &[u8]) -> Result<Claims, ClaimFault>
-    ensures found { IfOk result (λ c. (said : List (Option Line)) × IsClaimText bytes.now said × (c ≡ asked_by said)) }
+    ensures found { IfOk result
+        (λ c. (said : List (Option Line)) × IsClaimText bytes.now said × (c ≡ asked_by said)) }
     ensures fault { IfErr result (λ f. IsFirstFault bytes.now f) }
 {
     let mut reading = Reading::new(alloc);

@@ -12,7 +12,8 @@ use ca_plane::bytes::{next_word, whole_number};
 /// The word of a line's bytes, where they have one and no other.
 fn one_word(bytes: &[u8]) -> Option<&[u8]>
     requires { Every (λ b. not (is_line_end b)) bytes.now }
-    ensures { MatchOption result ((a : List ℕ) → words_of bytes.now ≢ a ∷ []) (λ a. words_of bytes.now ≡ a.now ∷ []) }
+    ensures { MatchOption result ((a : List ℕ) → words_of bytes.now ≢ a ∷ [])
+        (λ a. words_of bytes.now ≡ a.now ∷ []) }
 {
     let (word, rest) = next_word(bytes)?;
     match next_word(rest) {
@@ -24,7 +25,8 @@ fn one_word(bytes: &[u8]) -> Option<&[u8]>
 /// The two words of a line's bytes, where they have two and no other.
 fn two_words(bytes: &[u8]) -> Option<(&[u8], &[u8])>
     requires { Every (λ b. not (is_line_end b)) bytes.now }
-    ensures { MatchOption result ((a b : List ℕ) → words_of bytes.now ≢ a ∷ b ∷ []) (λ w. words_of bytes.now ≡ w.0.now ∷ w.1.now ∷ []) }
+    ensures { MatchOption result ((a b : List ℕ) → words_of bytes.now ≢ a ∷ b ∷ [])
+        (λ w. words_of bytes.now ≡ w.0.now ∷ w.1.now ∷ []) }
 {
     let (first, rest) = next_word(bytes)?;
     let second = one_word(rest)?;
@@ -34,7 +36,8 @@ fn two_words(bytes: &[u8]) -> Option<(&[u8], &[u8])>
 /// The three words of a line's bytes, where they have three and no other.
 fn three_words(bytes: &[u8]) -> Option<(&[u8], &[u8], &[u8])>
     requires { Every (λ b. not (is_line_end b)) bytes.now }
-    ensures { MatchOption result ((a b c : List ℕ) → words_of bytes.now ≢ a ∷ b ∷ c ∷ []) (λ w. words_of bytes.now ≡ w.0.now ∷ w.1.now ∷ w.2.now ∷ []) }
+    ensures { MatchOption result ((a b c : List ℕ) → words_of bytes.now ≢ a ∷ b ∷ c ∷ [])
+        (λ w. words_of bytes.now ≡ w.0.now ∷ w.1.now ∷ w.2.now ∷ []) }
 {
     let (first, rest) = next_word(bytes)?;
     let (second, third) = two_words(rest)?;
@@ -44,7 +47,8 @@ fn three_words(bytes: &[u8]) -> Option<(&[u8], &[u8], &[u8])>
 /// The four words of a line's bytes, where they have four and no other.
 fn four_words(bytes: &[u8]) -> Option<(&[u8], &[u8], &[u8], &[u8])>
     requires { Every (λ b. not (is_line_end b)) bytes.now }
-    ensures { MatchOption result ((a b c d : List ℕ) → words_of bytes.now ≢ a ∷ b ∷ c ∷ d ∷ []) (λ w. words_of bytes.now ≡ w.0.now ∷ w.1.now ∷ w.2.now ∷ w.3.now ∷ []) }
+    ensures { MatchOption result ((a b c d : List ℕ) → words_of bytes.now ≢ a ∷ b ∷ c ∷ d ∷ [])
+        (λ w. words_of bytes.now ≡ w.0.now ∷ w.1.now ∷ w.2.now ∷ w.3.now ∷ []) }
 {
     let (first, rest) = next_word(bytes)?;
     let (second, third, fourth) = three_words(rest)?;
@@ -127,7 +131,9 @@ fn load(words: &[u8]) -> LineKind<'_>
 /// The claim that a keyword and the words after it make.
 fn claim<'a>(keyword: &[u8], words: &'a [u8]) -> Option<Claim<&'a [u8]>>
     requires { Every (λ b. not (is_line_end b)) words.now }
-    ensures { MatchOption result ((c : TextClaim) → WordsSay (keyword.now ∷ words_of words.now) (Claims c) → ⊥) (λ c. MakesClaim (keyword.now ∷ words_of words.now) c) }
+    ensures { MatchOption result
+        ((c : TextClaim) → WordsSay (keyword.now ∷ words_of words.now) (Claims c) → ⊥)
+        (λ c. MakesClaim (keyword.now ∷ words_of words.now) c) }
 {
     if keyword == b"still".as_slice() {
         return still(words);
@@ -147,7 +153,9 @@ fn claim<'a>(keyword: &[u8], words: &'a [u8]) -> Option<Claim<&'a [u8]>>
 /// The claim of a line whose keyword is `still`, by the words after it.
 fn still(words: &[u8]) -> Option<Claim<&[u8]>>
     requires { Every (λ b. not (is_line_end b)) words.now }
-    ensures { MatchOption result ((c : TextClaim) → WordsSay (codes "still" ∷ words_of words.now) (Claims c) → ⊥) (λ c. MakesClaim (codes "still" ∷ words_of words.now) c) }
+    ensures { MatchOption result
+        ((c : TextClaim) → WordsSay (codes "still" ∷ words_of words.now) (Claims c) → ⊥)
+        (λ c. MakesClaim (codes "still" ∷ words_of words.now) c) }
 {
     let name = one_word(words)?;
     Some(Claim {
@@ -160,7 +168,9 @@ fn still(words: &[u8]) -> Option<Claim<&[u8]>>
 /// The claim of a line whose keyword is `oscillator`, by the words after it.
 fn oscillator(words: &[u8]) -> Option<Claim<&[u8]>>
     requires { Every (λ b. not (is_line_end b)) words.now }
-    ensures { MatchOption result ((c : TextClaim) → WordsSay (codes "oscillator" ∷ words_of words.now) (Claims c) → ⊥) (λ c. MakesClaim (codes "oscillator" ∷ words_of words.now) c) }
+    ensures { MatchOption result
+        ((c : TextClaim) → WordsSay (codes "oscillator" ∷ words_of words.now) (Claims c) → ⊥)
+        (λ c. MakesClaim (codes "oscillator" ∷ words_of words.now) c) }
 {
     let (name, period) = two_words(words)?;
     let period = whole_number(period)?;
@@ -174,7 +184,9 @@ fn oscillator(words: &[u8]) -> Option<Claim<&[u8]>>
 /// The claim of a line whose keyword is `spaceship`, by the words after it.
 fn spaceship(words: &[u8]) -> Option<Claim<&[u8]>>
     requires { Every (λ b. not (is_line_end b)) words.now }
-    ensures { MatchOption result ((c : TextClaim) → WordsSay (codes "spaceship" ∷ words_of words.now) (Claims c) → ⊥) (λ c. MakesClaim (codes "spaceship" ∷ words_of words.now) c) }
+    ensures { MatchOption result
+        ((c : TextClaim) → WordsSay (codes "spaceship" ∷ words_of words.now) (Claims c) → ⊥)
+        (λ c. MakesClaim (codes "spaceship" ∷ words_of words.now) c) }
 {
     let (name, period, dx, dy) = four_words(words)?;
     let period = whole_number(period)?;
@@ -190,7 +202,9 @@ fn spaceship(words: &[u8]) -> Option<Claim<&[u8]>>
 /// The claim of a line whose keyword is `becomes`, by the words after it.
 fn becomes(words: &[u8]) -> Option<Claim<&[u8]>>
     requires { Every (λ b. not (is_line_end b)) words.now }
-    ensures { MatchOption result ((c : TextClaim) → WordsSay (codes "becomes" ∷ words_of words.now) (Claims c) → ⊥) (λ c. MakesClaim (codes "becomes" ∷ words_of words.now) c) }
+    ensures { MatchOption result
+        ((c : TextClaim) → WordsSay (codes "becomes" ∷ words_of words.now) (Claims c) → ⊥)
+        (λ c. MakesClaim (codes "becomes" ∷ words_of words.now) c) }
 {
     let (name, generations, other) = three_words(words)?;
     let generations = whole_number(generations)?;

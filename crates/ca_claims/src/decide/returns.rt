@@ -9,7 +9,8 @@ ghost use Rattle.ca_macro.specs.Pattern.{AreInRange};
 ghost use Rattle.ca_claims.specs.Text.{IsShift};
 ghost use Rattle.ca_claims.specs.Truth.{MayReturnBy, IsNotBack};
 ghost use Rattle.ca_claims.specs.inner.Returns.{IsNotBackBefore, IsFirstReturn, IsWide};
-ghost use Rattle.ca_claims.specs.inner.Subjects.{ShowsTree, IsNear, BarsReturn, IsNoMove, IsOnlyMove, IsBackBy};
+ghost use Rattle.ca_claims.specs.inner.Subjects.{ShowsTree, IsNear, BarsReturn, IsNoMove, IsOnlyMove};
+ghost use Rattle.ca_claims.specs.inner.Subjects.{IsBackBy};
 
 use super::divisors::proper_divisors;
 use super::{Case, copy, moved_tree, tree_after};
@@ -20,16 +21,18 @@ use ca_quad::{Store, Tree};
 use ca_run::Leaper;
 use std::alloc::Global;
 
-/// The first return of the pattern before the claim's generations are over. Where the pattern is back then, moved by a vector
-/// that is barred, it is back for the first time at a divisor of their number.
+/// The first return of the pattern before the claim's generations are over. Where the pattern is back then,
+/// moved by a vector that is barred, it is back for the first time at a divisor of their number.
 pub(super) fn first_return<A: Automaton, O: Observer>(
     leaper: &mut Leaper<A>,
     case: &Case,
     observer: &mut O,
 ) -> Result<Option<Why>, Memory>
     requires { BarsReturn leaper.old.nodes case.now }
-    ensures { (cells : Picture) → ShowsTree leaper.old.nodes case.now.subject.pattern cells → (u v : ℤ) → MayReturnBy case.now.asks.barred u v
-        → IsAfter (A.next_of leaper.old.rule) cells case.now.asks.generations (shifted cells u v) → IfOk result (λ why. MatchOption why
+    ensures { (cells : Picture) → ShowsTree leaper.old.nodes case.now.subject.pattern cells → (u v : ℤ)
+        → MayReturnBy case.now.asks.barred u v
+        → IsAfter (A.next_of leaper.old.rule) cells case.now.asks.generations (shifted cells u v)
+        → IfOk result (λ why. MatchOption why
         (IsNotBackBefore (A.next_of leaper.old.rule) cells case.now.asks.barred case.now.asks.generations)
         (IsFirstReturn (A.next_of leaper.old.rule) cells case.now.asks.barred case.now.asks.generations)) }
 {
@@ -56,7 +59,8 @@ fn return_at<A: Automaton, O: Observer>(
 ) -> Result<Option<(i64, i64)>, Memory>
     requires case { BarsReturn leaper.old.nodes case.now }
     requires few { m ≤ 2 ^ 60 }
-    ensures back { (cells : Picture) → ShowsTree leaper.old.nodes case.now.subject.pattern cells → IfOk result (λ back. MatchOption back
+    ensures back { (cells : Picture) → ShowsTree leaper.old.nodes case.now.subject.pattern cells
+        → IfOk result (λ back. MatchOption back
         (IsNotBack (A.next_of leaper.old.rule) cells case.now.asks.barred m)
         (IsBackBy (A.next_of leaper.old.rule) cells case.now.asks.barred m)) }
     ensures goes_on { GoesOn A leaper.old leaper.new }
@@ -80,7 +84,8 @@ fn return_in_place<A: Automaton>(
     requires pattern { IsNear leaper.old.nodes pattern }
     ensures back { IfOk result (λ back. MatchOption back
         ((x : ℤ) × (y : ℤ) × (cell leaper.old.nodes end x y ≢ cell leaper.old.nodes pattern x y))
-        (λ v. (v.0 ≡ pos 0) × (v.1 ≡ pos 0) × ((x y : ℤ) → cell leaper.old.nodes end x y ≡ cell leaper.old.nodes pattern x y))) }
+        (λ v. (v.0 ≡ pos 0) × (v.1 ≡ pos 0)
+        × ((x y : ℤ) → cell leaper.old.nodes end x y ≡ cell leaper.old.nodes pattern x y))) }
     ensures goes_on { GoesOn A leaper.old leaper.new }
 {
     match leaper.difference(end, pattern)? {
@@ -115,8 +120,8 @@ fn return_anywhere<A: Automaton>(
     }
 }
 
-// The vector from the corner of a plane's least box to that of a tree's, where the tree isn't empty: no other can move the plane
-// onto the tree.
+// The vector from the corner of a plane's least box to that of a tree's, where the tree isn't empty: no other
+// can move the plane onto the tree.
 fn corner_vector(
     alloc: Global,
     store: &Store,
@@ -126,7 +131,9 @@ fn corner_vector(
     requires end { IsNear store.now end }
     requires range { AreInRange (plane_cell plane.now) }
     requires live { IsLive plane.now }
-    ensures { IfOk result (λ vector. MatchOption vector (IsNoMove store.now end plane.now) (IsOnlyMove store.now end plane.now)) }
+    ensures { IfOk result
+        (λ vector. MatchOption vector (IsNoMove store.now end plane.now)
+        (IsOnlyMove store.now end plane.now)) }
 {
     let Some(from) = plane.bounds() else {
         unreachable!();

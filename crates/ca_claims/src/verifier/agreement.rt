@@ -4,7 +4,8 @@ ghost use Rattle.std.specs.Prelude.{IfOk, IfErr, MatchOption};
 ghost use Rattle.std.specs.List.{AllByRecursion};
 ghost use Rattle.ca_quad.specs.Trees.{IsTree};
 ghost use Rattle.ca_rule.specs.Rule.{rule_value};
-ghost use Rattle.ca_claims.specs.inner.Patterns.{items, FirstBadAt, ShowsLarge, ShowsSmall, AreOfOneRule, AreMixed, Disagree};
+ghost use Rattle.ca_claims.specs.inner.Patterns.{items, FirstBadAt, ShowsLarge, ShowsSmall, AreOfOneRule};
+ghost use Rattle.ca_claims.specs.inner.Patterns.{AreMixed, Disagree};
 
 use super::one_or_two::OneOrTwo;
 use crate::cells::has_large_state;
@@ -56,7 +57,8 @@ fn large_part(
     patterns: &OneOrTwo<Ruled<'_>>,
 ) -> Result<Option<Part>, Memory>
     requires { AllByRecursion (λ r. IsTree store.now r.pattern.tree) (items patterns.now) }
-    ensures { IfOk result (λ large. MatchOption large (AllByRecursion (ShowsSmall store.now) (items patterns.now))
+    ensures { IfOk result
+        (λ large. MatchOption large (AllByRecursion (ShowsSmall store.now) (items patterns.now))
         (λ part. FirstBadAt part (items patterns.now) (ShowsSmall store.now) (ShowsLarge store.now))) }
 {
     match patterns {
@@ -79,7 +81,8 @@ fn large_part(
 
 /// The rule of the patterns, or that of the first where the second's is the same.
 fn one_rule<'t>(patterns: &OneOrTwo<Ruled<'t>>) -> Option<Rule<'t>>
-    ensures { MatchOption result (AreMixed (items patterns.now)) (λ rule. AreOfOneRule (items patterns.now) (rule_value rule)) }
+    ensures { MatchOption result (AreMixed (items patterns.now))
+        (λ rule. AreOfOneRule (items patterns.now) (rule_value rule)) }
 {
     match patterns {
         OneOrTwo::One(only) => Some(only.rule),

@@ -40,7 +40,8 @@ impl<'a> Model for Kept<'a> {
 }
 
 impl<'a> Library<'a> {
-    /// A library that has nothing yet. One that isn't open keeps nothing: for a claim that has no memory beside what is kept.
+    /// A library that has nothing yet. One that isn't open keeps nothing: for a claim that has no memory
+    /// beside what is kept.
     pub(crate) fn new(alloc: Global, is_open: bool) -> Library<'a>
         ensures open { result.is_open ≡ is_open }
         ensures kept { result.kept.items ≡ [] }
@@ -66,8 +67,8 @@ impl<'a> Library<'a> {
         self.kept.clear();
     }
 
-    /// The pattern of a file's bytes, put into the store: the one that is kept where a kept file has the same bytes, and else
-    /// the one that is read. Or what is wrong with them.
+    /// The pattern of a file's bytes, put into the store: the one that is kept where a kept file has the same
+    /// bytes, and else the one that is read. Or what is wrong with them.
     pub(crate) fn pattern(
         &mut self,
         alloc: Global,
@@ -88,8 +89,8 @@ impl<'a> Library<'a> {
         pattern
     }
 
-    /// The pattern of a file's bytes: taken out where it is kept, and else read. For a new one the longest unused one goes first,
-    /// so that there are never more than are kept.
+    /// The pattern of a file's bytes: taken out where it is kept, and else read. For a new one the longest
+    /// unused one goes first, so that there are never more than are kept.
     fn take(&mut self, alloc: Global, bytes: &'a [u8]) -> Result<Kept<'a>, BadPattern>
         ensures { MatchResult result (λ kept. kept ≡ bytes.now) (IsUnread bytes.now) }
     {

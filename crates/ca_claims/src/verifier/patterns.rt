@@ -37,8 +37,10 @@ pub(crate) fn read_each<'a>(
     store: &mut Store,
     files: &OneOrTwo<&'a [u8]>,
 ) -> Result<OneOrTwo<Loaded>, Unread>
-    ensures read { IfOk result (λ patterns. AllZip (λ b p. IsReadFrom store.new b.now p) (items files.now) (items patterns)) }
-    ensures unread { IfErr result (λ u. FirstBadAt u.part (items files.now) (λ b. IsReadable b.now) (λ b. IsUnread b.now u.bad)) }
+    ensures read { IfOk result
+        (λ patterns. AllZip (λ b p. IsReadFrom store.new b.now p) (items files.now) (items patterns)) }
+    ensures unread { IfErr result
+        (λ u. FirstBadAt u.part (items files.now) (λ b. IsReadable b.now) (λ b. IsUnread b.now u.bad)) }
 {
     match *files {
         OneOrTwo::One(only) => match library.pattern(alloc, store, only) {
@@ -69,13 +71,16 @@ pub(crate) fn read_each<'a>(
     }
 }
 
-/// The patterns with the rules that their rule texts name among the tables, or the first whose text names none.
+/// The patterns with the rules that their rule texts name among the tables, or the first whose text names
+/// none.
 pub(crate) fn with_rules<'t>(
     patterns: OneOrTwo<Loaded>,
     tables: &'t [Table],
 ) -> Result<OneOrTwo<Ruled<'t>>, Unnamed>
     ensures named { IfOk result (λ ruled. AllZip (IsRuledAs tables.now) (items patterns) (items ruled)) }
-    ensures unnamed { IfErr result (λ u. FirstBadAt u.part (items patterns) (HasName tables.now) (λ p. IsRuleFault p.rule_text.items tables.now u.fault)) }
+    ensures unnamed { IfErr result
+        (λ u. FirstBadAt u.part (items patterns) (HasName tables.now)
+        (λ p. IsRuleFault p.rule_text.items tables.now u.fault)) }
 {
     match patterns {
         OneOrTwo::One(only) => match with_rule(only, tables) {

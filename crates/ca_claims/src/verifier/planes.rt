@@ -50,7 +50,8 @@ pub(crate) fn subject_of(patterns: &OneOrTwo<Ruled<'_>>) -> Subject
     }
 }
 
-/// Whether the cells of the claim's pattern are counted: those of one that may be back anywhere, since it's moved cell by cell.
+/// Whether the cells of the claim's pattern are counted: those of one that may be back anywhere, since it's
+/// moved cell by cell.
 pub(crate) fn counts_cells(asks: Asks) -> bool
     ensures { IsTrue result ↔ IsCounted asks }
 {
@@ -66,7 +67,8 @@ pub(crate) fn counted_plane(
 ) -> Result<Option<Plane>, Refusal>
     requires tree { IsTree store.now tree }
     requires range { AreInRange (cell store.now tree) }
-    ensures plane { IfOk result (λ plane. MatchOption plane (IsFalse counted) (λ p. IsTrue counted × IsPlaneOf store.now tree p)) }
+    ensures plane { IfOk result
+        (λ plane. MatchOption plane (IsFalse counted) (λ p. IsTrue counted × IsPlaneOf store.now tree p)) }
     ensures refusal { IfErr result (IsPlaneRefused store.now tree counted) }
 {
     if !counted {

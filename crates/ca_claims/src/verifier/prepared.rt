@@ -1,6 +1,7 @@
 //! What a claim is judged on, or why it isn't judged.
 
-ghost use Rattle.std.specs.Prelude.{◌≡◌, ℕ, ◌<◌, List, map, length, get_or, Some, None, IfOk, IfErr, MatchResult};
+ghost use Rattle.std.specs.Prelude.{◌≡◌, ℕ, ◌<◌, List, map, length, get_or, Some, None, IfOk, IfErr};
+ghost use Rattle.std.specs.Prelude.{MatchResult};
 ghost use Rattle.std.specs.List.{AllByRecursion, AllZip};
 ghost use Rattle.std.specs.Option.{option_copied};
 ghost use Rattle.ca_claims.specs.Places.{path_at};
@@ -9,7 +10,8 @@ ghost use Rattle.ca_claims.specs.Answers.{AreTables};
 ghost use Rattle.ca_claims.specs.declared.refusal.About.TheVariants as abouts;
 ghost use Rattle.ca_claims.specs.inner.Found.{IsFound};
 ghost use Rattle.ca_claims.specs.inner.Patterns.{items, FirstBadAt};
-ghost use Rattle.ca_claims.specs.inner.Prepared.{IsPrepared, MayBe, IsFit, reading_refusal, disagreement_refusal};
+ghost use Rattle.ca_claims.specs.inner.Prepared.{IsPrepared, MayBe, IsFit, reading_refusal};
+ghost use Rattle.ca_claims.specs.inner.Prepared.{disagreement_refusal};
 ghost use Rattle.ca_claims.specs.inner.Refusals.{IsRefusal};
 ghost use Rattle.ca_claims.specs.inner.Tables.{AreRead};
 
@@ -28,8 +30,8 @@ use ca_rule::{Rule, Table};
 use ca_run::Leaper;
 use std::alloc::Global;
 
-/// A leaper over the squares of a claim's patterns, under their one rule; their trees; and the plane of the claim's pattern,
-/// where its cells are counted.
+/// A leaper over the squares of a claim's patterns, under their one rule; their trees; and the plane of the
+/// claim's pattern, where its cells are counted.
 #[derive(Drop)]
 pub(crate) struct Prepared<'t> {
     pub(crate) leaper: Leaper<Rule<'t>>,
@@ -48,8 +50,10 @@ pub(crate) fn prepare<'a, 't>(
     tables: &'t Tables,
 ) -> Result<Prepared<'t>, Refusal>
     requires { AllByRecursion (λ i. i < length found.now) (items places.now) }
-    ensures prepared { (files : List (List ℕ × List ℕ)) (paths rules : List (List ℕ)) → map option_copied found.now ≡ map (bytes_at files) paths → AreRead files paths rules tables.now
-        → MatchResult result (IsPrepared files rules (map (path_at paths) (items places.now)) counted) (IsRefusal files paths rules (map (path_at paths) (items places.now))) }
+    ensures prepared { (files : List (List ℕ × List ℕ)) (paths rules : List (List ℕ))
+        → map option_copied found.now ≡ map (bytes_at files) paths → AreRead files paths rules tables.now
+        → MatchResult result (IsPrepared files rules (map (path_at paths) (items places.now)) counted)
+        (IsRefusal files paths rules (map (path_at paths) (items places.now))) }
     ensures counted { IfErr result (λ r. MayBe counted r.cause) }
     ensures fit { IfOk result (IsFit counted) }
 {
@@ -61,8 +65,8 @@ pub(crate) fn prepare<'a, 't>(
     prepare_by(alloc, library, &files, counted, tables)
 }
 
-/// What a claim about the patterns whose files have these bytes is judged on, or why it isn't judged under the text's
-/// tables.
+/// What a claim about the patterns whose files have these bytes is judged on, or why it isn't judged under
+/// the text's tables.
 fn prepare_by<'a, 't>(
     alloc: Global,
     library: &mut Library<'a>,
@@ -70,8 +74,10 @@ fn prepare_by<'a, 't>(
     counted: bool,
     tables: &'t [Table],
 ) -> Result<Prepared<'t>, Refusal>
-    ensures prepared { (files : List (List ℕ × List ℕ)) (paths rules each : List (List ℕ)) → AllZip (λ path b. bytes_at files path ≡ Some b.now) each (items there.now)
-        → AreTables files rules tables.now → MatchResult result (IsPrepared files rules each counted) (IsRefusal files paths rules each) }
+    ensures prepared { (files : List (List ℕ × List ℕ)) (paths rules each : List (List ℕ))
+        → AllZip (λ path b. bytes_at files path ≡ Some b.now) each (items there.now)
+        → AreTables files rules tables.now
+        → MatchResult result (IsPrepared files rules each counted) (IsRefusal files paths rules each) }
     ensures counted { IfErr result (λ r. MayBe counted r.cause) }
     ensures fit { IfOk result (IsFit counted) }
 {
@@ -137,8 +143,10 @@ fn files_at<'a>(
     found: &[Option<&'a [u8]>],
 ) -> Result<OneOrTwo<&'a [u8]>, Part>
     requires { AllByRecursion (λ i. i < length found.now) (items places.now) }
-    ensures { MatchResult result (λ files. AllZip (λ i b. get_or found.now i None ≡ Some b) (items places.now) (items files))
-        (λ part. FirstBadAt part (items places.now) (IsFound found.now) (λ i. get_or found.now i None ≡ None)) }
+    ensures { MatchResult result
+        (λ files. AllZip (λ i b. get_or found.now i None ≡ Some b) (items places.now) (items files))
+        (λ part. FirstBadAt part (items places.now) (IsFound found.now)
+        (λ i. get_or found.now i None ≡ None)) }
 {
     match *places {
         OneOrTwo::One(only) => match found[only] {

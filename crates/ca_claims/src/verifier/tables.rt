@@ -1,6 +1,7 @@
 //! The tables of a text's rule lines.
 
-ghost use Rattle.std.specs.Prelude.{◌≡◌, ◌≢◌, ℕ, ◌<◌, List, map, length, get_or, Some, None, All, IfOk, IfErr, MatchOption};
+ghost use Rattle.std.specs.Prelude.{◌≡◌, ◌≢◌, ℕ, ◌<◌, List, map, length, get_or, Some, None, All, IfOk};
+ghost use Rattle.std.specs.Prelude.{IfErr, MatchOption};
 ghost use Rattle.std.specs.List.{AllByRecursion, AllZip};
 ghost use Rattle.std.specs.Option.{option_copied};
 ghost use Rattle.ca_rule.specs.TableNext.{TableRule};
@@ -50,7 +51,8 @@ impl Tables {
         found: &[Option<&[u8]>],
     ) -> Result<Tables, Memory>
         requires { All (λ i. i < length found.now) places.now }
-        ensures { (files : List (List ℕ × List ℕ)) (paths : List (List ℕ)) → map option_copied found.now ≡ map (bytes_at files) paths
+        ensures { (files : List (List ℕ × List ℕ)) (paths : List (List ℕ))
+            → map option_copied found.now ≡ map (bytes_at files) paths
             → IfOk result (AreRead files paths (map (path_at paths) places.now)) }
     {
         if let Some(place) = first_missing(places, found) {
@@ -67,8 +69,10 @@ impl Tables {
 
     /// The tables, or why no claim is judged without them.
     pub(crate) fn all(&self) -> Result<&[Table], Refusal>
-        ensures tables { (files : List (List ℕ × List ℕ)) (paths rules : List (List ℕ)) → AreRead files paths rules self.now → IfOk result (λ tables. AreTables files rules tables.now) }
-        ensures refusal { (files : List (List ℕ × List ℕ)) (paths rules patterns : List (List ℕ)) → AreRead files paths rules self.now → AllByRecursion (IsThere files) patterns
+        ensures tables { (files : List (List ℕ × List ℕ)) (paths rules : List (List ℕ))
+            → AreRead files paths rules self.now → IfOk result (λ tables. AreTables files rules tables.now) }
+        ensures refusal { (files : List (List ℕ × List ℕ)) (paths rules patterns : List (List ℕ))
+            → AreRead files paths rules self.now → AllByRecursion (IsThere files) patterns
             → IfErr result (IsRefusal files paths rules patterns) }
         ensures kind { IfErr result (λ r. r.cause ≢ causes.TooManyCells) }
     {
@@ -89,7 +93,9 @@ impl Tables {
 /// The first of these places at which no file is found.
 fn first_missing(places: &[usize], found: &[Option<&[u8]>]) -> Option<usize>
     requires { All (λ i. i < length found.now) places.now }
-    ensures { MatchOption result (AllByRecursion (IsFound found.now) places.now) (λ place. FirstBad (IsFound found.now) (λ i. (i ≡ place) × (get_or found.now i None ≡ None)) places.now) }
+    ensures { MatchOption result (AllByRecursion (IsFound found.now) places.now)
+        (λ place. FirstBad (IsFound found.now)
+        (λ i. (i ≡ place) × (get_or found.now i None ≡ None)) places.now) }
 {
     'places: for place in places {
         if found[*place].is_none() {
@@ -109,7 +115,8 @@ fn tables_of(
     requires there { AllByRecursion (IsFound found.now) places.now }
     ensures read { IfOk result (λ tables. AllZip (IsTableFound found.now) places.now tables.items) }
     ensures fault { IfErr result (λ faulty. faulty.fault ≢ table_fault.Memory
-        → FirstBad (λ i. (table : TableRule) × IsTableFound found.now i table) (IsFaultFound found.now faulty) places.now) }
+        → FirstBad (λ i. (table : TableRule) × IsTableFound found.now i table)
+        (IsFaultFound found.now faulty) places.now) }
 {
     let mut tables = Vec::new(alloc);
     'places: for place in places {

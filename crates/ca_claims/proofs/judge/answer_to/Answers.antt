@@ -20,7 +20,7 @@ returns g c = λ files e read.
     let judged = c.verdict_on-judged.ensures files paths rules e read in
     let same = c.patterns.ensures.claim (c.claim-asked.result.line, claim) c.claim-asked.ensures.claim in
     let noted = c.note_on.ensures files
-        (subst (λ ps. IsOnVerdict files paths rules ps c.verdict_on-judged.result.verdict c.verdict_on-judged.result.about) same judged.on) in
+    (subst (λ ps. IsOnVerdict files paths rules ps c.verdict_on-judged.result.verdict c.verdict_on-judged.result.about) same judged.on) in
     record {
       claim = (c.claim-asked.result.line, claim);
       at = c.claim-asked.ensures.claim;
