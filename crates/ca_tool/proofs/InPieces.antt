@@ -34,8 +34,15 @@ module _ {X : Type 0} (f : X → List ℕ) where
       ∙ ap (λ l. flat_map f l ++ rest) (sym (drop-cons xs i d (omega arith)))
 
 -- a first text was sent in part
-pub prefix_front : (old new : Option (List ℕ)) (these first second : List ℕ) → these ≡ first → AppendsPrefix old new these → AppendsPrefix old new (first ++ second)
-prefix_front old new these first second same front = prefix_of_first old new first second (subst (AppendsPrefix old new) same front)
+pub sends_part : {W T U E : Type 0} (contents : W → Option (List ℕ)) (old new : Counted W) (these first second : List ℕ) (failure e : E) → these ≡ first
+    → Sends {T = T} contents old new these failure (Err e) → Sends {T = U} contents old new (first ++ second) failure (Err e)
+sends_part contents old new these first second failure e same sends = record {
+  all = tt;
+  kept = tt;
+  fault = sends.fault;
+  counted = sends.counted;
+  front = prefix_of_first (contents old.inner) (contents new.inner) first second (subst (AppendsPrefix (contents old.inner) (contents new.inner)) same sends.front);
+}
 
 -- a first text was sent, and then a second one, or a part of it
 pub sends_later : {W T E : Type 0} (contents : W → Option (List ℕ)) (old mid new : Counted W) (these those first second : List ℕ) (failure : E) (r : Result T E) → these ≡ first → those ≡ second

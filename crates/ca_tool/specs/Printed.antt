@@ -225,14 +225,8 @@ file_line before name path line = before ++ (codes "  " ++ (name ++ (codes ": " 
 
 -- the faulty line of a rule line's file
 abbrev pub cause_line : Cause → Option ℕ
-cause_line causes.NoFile = None
 cause_line (causes.BadTable fault) = Some (table_line fault)
-cause_line (causes.BadPattern fault) = None
-cause_line (causes.BadRule fault) = None
-cause_line causes.StateTooLarge = None
-cause_line causes.MixedRules = None
-cause_line causes.TooManyCells = None
-cause_line causes.Memory = None
+cause_line cause = None
 
 -- the line of a note on a no
 abbrev pub no_note_text : List ℕ → Why → Note → List ℕ

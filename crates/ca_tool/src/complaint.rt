@@ -1,7 +1,8 @@
 //! The line that tells a fault.
 
 ghost use Rattle.std.specs.Prelude.{◌≡◌};
-ghost use Rattle.ca_tool.specs.Printed.{input_fault_text, claim_fault_text, rule_file_text, convert_fault_text, fault_text, complaint, complaint_of};
+ghost use Rattle.ca_tool.specs.Printed.{input_fault_text, claim_fault_text, rule_file_text};
+ghost use Rattle.ca_tool.specs.Printed.{convert_fault_text, fault_text, complaint, complaint_of};
 ghost use Rattle.ca_tool.specs.Writing.{Sends};
 ghost use Rattle.ca_tool.specs.inner.Pieces.{pieces_text};
 

@@ -4,7 +4,8 @@ ghost use Rattle.std.specs.Prelude.{◌≡◌, ◌≢◌, ◌++◌, List, ◌∷
 ghost use Rattle.std.specs.List.{list_any};
 ghost use Rattle.ca_claims.specs.declared.verdict.Answer.{Answer as AnswerValue};
 ghost use Rattle.ca_claims.specs.declared.verdict.Verdict.TheVariants.{No, Refused};
-ghost use Rattle.ca_tool.specs.Printed.{return_text, why_text, table_fault_text, cause_text, verdict_text, line_of, lines_of, status_of, is_refusal, is_no};
+ghost use Rattle.ca_tool.specs.Printed.{return_text, why_text, table_fault_text, cause_text, verdict_text};
+ghost use Rattle.ca_tool.specs.Printed.{line_of, lines_of, status_of, is_refusal, is_no};
 ghost use Rattle.ca_tool.specs.inner.Pieces.{pieces_text};
 
 use crate::pieces::{NOTHING, Piece, push_pieces};

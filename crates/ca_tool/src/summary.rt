@@ -3,7 +3,8 @@
 ghost use Rattle.std.specs.Prelude.{◌≡◌, codes, OnOk, IfOk};
 ghost use Rattle.std.specs.Fmt.{signed_decimal};
 ghost use Rattle.ca_plane.specs.Puts.{Puts};
-ghost use Rattle.ca_tool.specs.Printed.{format_name, side, pair_text, bounds_text, box_text, word_line, summary_text};
+ghost use Rattle.ca_tool.specs.Printed.{format_name, side, pair_text, bounds_text, box_text, word_line};
+ghost use Rattle.ca_tool.specs.Printed.{summary_text};
 
 use ca_claims::{Summary, Target};
 use ca_plane::text::{push_integer, push_text};

@@ -1,7 +1,8 @@
 //! What is printed for a claim: the line of its answer, and a second line that explains it.
 
 ghost use Rattle.std.specs.Prelude.{◌≡◌, OnOk, codes};
-ghost use Rattle.ca_tool.specs.Printed.{generations_word, cell_line, at_line, file_line, cause_line, note_text, second_line, finding_text};
+ghost use Rattle.ca_tool.specs.Printed.{generations_word, cell_line, at_line, file_line, cause_line};
+ghost use Rattle.ca_tool.specs.Printed.{note_text, second_line, finding_text};
 ghost use Rattle.ca_tool.specs.Writing.{Sends};
 ghost use Rattle.ca_tool.specs.inner.Pieces.{pieces_text};
 

@@ -1,16 +1,9 @@
-use Rattle.std.proofs.Common.{rules}
-use Rattle.ca_tool.proofs.InPieces.{prefix_front, sends_later}
+use Rattle.ca_tool.proofs.InPieces.{sends_part, sends_later}
 use Rattle.ca_tool.proofs.telling.send_in_pieces.Goals as goal
 
 -- the answer's line was sent in part
 pub returns-in-Err : goal.returns-in-Err
-returns-in-Err g c = record {
-  all = tt;
-  kept = tt;
-  fault = search rules;
-  counted = search rules;
-  front = prefix_front _ _ _ _ _ c.answer_pieces.ensures c.in-Err.ensures.front;
-}
+returns-in-Err g c = sends_part g.W.Write.contents _ _ _ _ _ _ _ c.answer_pieces.ensures c.in-Err.ensures
 
 -- it was sent, and then the second line, or a part of it
 pub returns : goal.returns
