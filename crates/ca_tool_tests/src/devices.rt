@@ -1,5 +1,5 @@
-//! Readers and writers that fail in mid-stream, and the one assertion of these tests. All else answers yes or no, since one assertion is dearer to
-//! prove than a comparison.
+//! Readers and writers that fail in mid-stream, and the one assertion of these tests. All else answers yes or
+//! no, since one assertion is dearer to prove than a comparison.
 
 ghost use Rattle.std.specs.Prelude.{Some, IsTrue};
 

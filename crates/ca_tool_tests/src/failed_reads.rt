@@ -48,7 +48,8 @@ const CUT: &[u8] = b"x = 3, y = 3, rule = B3/S23\nbo";
 
 const NO_TABLE: &[u8] = b"@RULE Spread\n@TABLES\n";
 
-/// Whether a read in mid-stream is reported before the faults of a table and a pattern, and nothing is written.
+/// Whether a read in mid-stream is reported before the faults of a table and a pattern, and nothing is
+/// written.
 fn is_reported(alloc: Global, target: Option<Target>) -> bool {
     let mut input = Faulty::device(CUT, 2);
     let mut out = Dev::new(Vec::new(alloc));

@@ -44,7 +44,8 @@ fn texts_that_name_a_rule(rt: HostRuntime) {
     expect(&rt, are_counts(Counts::none(), &[]), "no counts");
 }
 
-/// Generations texts, each printed as the next, and their counts of survival and of birth with the number of states.
+/// Generations texts, each printed as the next, and their counts of survival and of birth with the number of
+/// states.
 const GENERATIONS: &[(&[u8], &[u8], &[usize], &[usize], u16)] = &[
     (b"345/2/4", b"345/2/4", &[3, 4, 5], &[2], 4),
     (b"8088/66/0256", b"08/6/256", &[0, 8], &[6], 256),
