@@ -7,18 +7,18 @@ use Rattle.ca_plane.specs.Bytes.{lines_of, words_of}
 use Rattle.ca_claims.specs.declared.claims.reading.Reading.{Reading}
 use Rattle.ca_claims.specs.declared.fault.ClaimFault.{ClaimFault}
 use Rattle.ca_claims.specs.declared.fault.ClaimFault.TheVariants.{Syntax, Number, UnknownName, NameTaken, Memory}
-use Rattle.ca_claims.specs.Text.{Line, LinesSay, spoken}
-use Rattle.ca_claims.specs.TextFaults.{HasLine, AreMisspelled, HaveBadNumber, AskUnknown, LoadTaken, AreAllowed, IsFirstFault}
-use Rattle.ca_claims.specs.inner.Reading.{IsReading, SaysNext, HasFault}
-use Rattle.ca_claims.proofs.LinesSaid.{LinesSay-push, length_said}
+use Rattle.ca_claims.specs.Text.{ClaimTextLine, ClaimLinesSay, spoken}
+use Rattle.ca_claims.specs.TextFaults.{HasClaimLine, AreMisspelledClaimWords, HaveBadNumber, AskUnknown, LoadTaken, AreAllowed, IsFirstClaimFault}
+use Rattle.ca_claims.specs.inner.Reading.{IsClaimReading, SaysNext, HasClaimFault}
+use Rattle.ca_claims.proofs.LinesSaid.{ClaimLinesSay-push, length_said}
 
 -- some lines of the text are read, and these bytes are left
 pub record HasRead (bytes rest : List ℕ) (number : ℕ) (reading : Reading) : Type 0 where
   pub done : List (List ℕ)
-  pub said : List (Option Line)
+  pub said : List (Option ClaimTextLine)
   pub lines : lines_of bytes ≡ done ++ lines_of rest
-  pub good : LinesSay [] done said
-  pub read : IsReading said reading
+  pub good : ClaimLinesSay [] done said
+  pub read : IsClaimReading said reading
   pub counted : number ≡ length done
   pub room : number + length rest ≤ length bytes
 
@@ -40,7 +40,7 @@ module _ (bytes rest : List ℕ) (number : ℕ) (reading : Reading) (so_far : Ha
 
   -- one more line
   pub one_read : (line later : List ℕ) (after : Reading) → lines_of rest ≡ line ∷ lines_of later → length later < length rest
-      → ((said : List (Option Line)) → IsReading said reading → number + 1 ≡ length said + 1 → (s : Option Line) × SaysNext (spoken said) (words_of line) s × IsReading (said ++ s ∷ []) after)
+      → ((said : List (Option ClaimTextLine)) → IsClaimReading said reading → number + 1 ≡ length said + 1 → (s : Option ClaimTextLine) × SaysNext (spoken said) (words_of line) s × IsClaimReading (said ++ s ∷ []) after)
       → HasRead bytes later (number + 1) after
   one_read line later after next shorter says =
       let s = says so_far.said so_far.read number_said in
@@ -48,14 +48,14 @@ module _ (bytes rest : List ℕ) (number : ℕ) (reading : Reading) (so_far : Ha
         done = so_far.done ++ line ∷ [];
         said = so_far.said ++ s.0 ∷ [];
         lines = so_far.lines ∙ ap (λ l. so_far.done ++ l) next ∙ sym (append_assoc so_far.done (line ∷ []) (lines_of later));
-        good = LinesSay-push [] so_far.done so_far.said line s.0 so_far.good s.1;
+        good = ClaimLinesSay-push [] so_far.done so_far.said line s.0 so_far.good s.1;
         read = s.2;
         counted = more_counted line;
         room = more_room later shorter;
       }
 
   -- the line that follows, of whose words this holds
-  next_line : (P : List Line → List (List ℕ) → Type 0) (line later : List ℕ) (n : ℕ) → lines_of rest ≡ line ∷ lines_of later → n ≡ number + 1 → P (spoken so_far.said) (words_of line) → HasLine bytes n P
+  next_line : (P : List ClaimTextLine → List (List ℕ) → Type 0) (line later : List ℕ) (n : ℕ) → lines_of rest ≡ line ∷ lines_of later → n ≡ number + 1 → P (spoken so_far.said) (words_of line) → HasClaimLine bytes n P
   next_line P line later n next e holds =
       let counted = so_far.counted in
       record {
@@ -70,8 +70,8 @@ module _ (bytes rest : List ℕ) (number : ℕ) (reading : Reading) (so_far : Ha
       }
 
   -- its fault is the first of the text
-  fault_next : (line later : List ℕ) → lines_of rest ≡ line ∷ lines_of later → (f : ClaimFault) → HasFault (number + 1) (spoken so_far.said) (words_of line) f → IsFirstFault bytes f
-  fault_next line later next (Syntax n) h = next_line AreMisspelled line later n next h.0 h.1
+  fault_next : (line later : List ℕ) → lines_of rest ≡ line ∷ lines_of later → (f : ClaimFault) → HasClaimFault (number + 1) (spoken so_far.said) (words_of line) f → IsFirstClaimFault bytes f
+  fault_next line later next (Syntax n) h = next_line AreMisspelledClaimWords line later n next h.0 h.1
   fault_next line later next (Number n) h = next_line HaveBadNumber line later n next h.0 h.1
   fault_next line later next (UnknownName n) h = next_line AskUnknown line later n next h.0 h.1
   fault_next line later next (NameTaken n) h = next_line LoadTaken line later n next h.0 h.1
@@ -79,7 +79,7 @@ module _ (bytes rest : List ℕ) (number : ℕ) (reading : Reading) (so_far : Ha
 
   -- so is the one that `?` passes on
   pub first_fault : {T : Type 0} (line later : List ℕ) → lines_of rest ≡ line ∷ lines_of later → (r : Result T ClaimFault) (f : ClaimFault) → IsErrAnd r (λ passed. passed ≡ f)
-      → ((said : List (Option Line)) → IsReading said reading → HasFault (number + 1) (spoken said) (words_of line) f) → IfErr r (λ g. IsFirstFault bytes g)
+      → ((said : List (Option ClaimTextLine)) → IsClaimReading said reading → HasClaimFault (number + 1) (spoken said) (words_of line) f) → IfErr r (λ g. IsFirstClaimFault bytes g)
   first_fault line later next r f h faults =
       let p = err_from_is_err_and r h in
-      subst (λ o. IfErr o (λ g. IsFirstFault bytes g)) (sym p.1) (subst (IsFirstFault bytes) (sym p.2) (fault_next line later next f (faults so_far.said so_far.read)))
+      subst (λ o. IfErr o (λ g. IsFirstClaimFault bytes g)) (sym p.1) (subst (IsFirstClaimFault bytes) (sym p.2) (fault_next line later next f (faults so_far.said so_far.read)))

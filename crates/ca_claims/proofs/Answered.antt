@@ -5,7 +5,7 @@ use Rattle.std.proofs.lemmas.List.{append_assoc}
 use Rattle.std.proofs.lemmas.Option.{slice_get_within, get_or_from_slice_get}
 use Rattle.indexmap.proofs.SetLemmas.{AllZip-push}
 use Rattle.ca_claims.specs.declared.verdict.Answer.{Answer}
-use Rattle.ca_claims.specs.Text.{Claim, Asked}
+use Rattle.ca_claims.specs.Text.{Claim, ClaimText}
 use Rattle.ca_claims.specs.Answers.{IsTrueAnswer, AreTrueAnswers}
 use Rattle.ca_claims.specs.Judging.{Judging, Judges, JudgesAndNotes}
 use Rattle.ca_claims.specs.declared.note.Note.{Note}
@@ -40,7 +40,7 @@ some_claims files rules claims old new answers answer before next none =
     not_empty before.done new.claims next.claim (ap (λ l. before.done ++ l) (sym next.claims) ∙ sym before.split ∙ none)
 
 -- the claim with an index is judged, with a true note, and those after it are left
-pub judged_and_noted : (files : List (List ℕ × List ℕ)) (asked : Asked) (index : ℕ) (answer : Answer) (note : Note) → IsAnswerTo files asked index answer note
+pub judged_and_noted : (files : List (List ℕ × List ℕ)) (asked : ClaimText) (index : ℕ) (answer : Answer) (note : Note) → IsAnswerTo files asked index answer note
     → JudgesAndNotes (left_from files asked index) (left_from files asked (index + 1)) answer note
 judged_and_noted files asked index answer note is = record {
   judges = record {

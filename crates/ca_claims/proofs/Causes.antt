@@ -44,7 +44,7 @@ use Rattle.ca_claims.specs.Places.{path_at}
 use Rattle.ca_claims.specs.Means.{bytes_at, IsReadable, MayWantMemory}
 use Rattle.ca_claims.specs.Truth.{asks_of}
 use Rattle.ca_claims.specs.inner.Decided.{IsBounded, IsDecided}
-use Rattle.ca_claims.specs.Answers.{IsPatternFaultOn, IsBadPatternOn, AreTables, IsMissing, IsThere, Reads, HasRule, IsSmall, SomeOf, FirstIs, HaveOtherRules, HasCause, IsGood, AreGood, IsCounted, IsJudged, IsTrueVerdict, IsBadPattern, IsUnnamed, IsLarge, IsCrowded, WantsMemory}
+use Rattle.ca_claims.specs.Answers.{IsPatternFaultOn, IsBadPatternOn, AreTables, IsMissing, IsThere, IsReadableFile, HasRule, IsSmall, SomeOf, FirstIs, HaveOtherRules, HasCause, IsGoodPattern, AreGood, IsCounted, IsJudged, IsTrueVerdict, IsBadPattern, IsUnnamed, IsLarge, IsCrowded, WantsMemory}
 use Rattle.ca_claims.specs.inner.Cells.{IsPlaneOf}
 use Rattle.ca_claims.specs.inner.Subjects.{ShowsTree, IsPattern, AreShown, IsMovedBy, IsSubject}
 use Rattle.ca_claims.specs.inner.Prepared.{IsPrepared, IsFit, IsPlaneRefused, refusal_for, disagreement_refusal}
@@ -114,7 +114,7 @@ module _ (files : List (List ℕ × List ℕ)) (paths : List (List ℕ)) (found 
 
 module _ (files : List (List ℕ × List ℕ)) (tables : List TableRule) where
   judged_twice : (path : List ℕ) (cells other : Picture) (rule : RuleValue) → AreGood files tables (path ∷ []) cells other rule → AreGood files tables (path ∷ path ∷ []) cells other rule
-  judged_twice path cells other rule one = (one.0, rule, subst (λ o. IsGood files tables path o rule) (sym one.1) one.0, same-refl rule)
+  judged_twice path cells other rule one = (one.0, rule, subst (λ o. IsGoodPattern files tables path o rule) (sym one.1) one.0, same-refl rule)
 
 module _ (files : List (List ℕ × List ℕ)) (rules : List (List ℕ)) where
   cause_twice : (path : List ℕ) (cause : Cause) → HasCause files rules (path ∷ []) cause → HasCause files rules (path ∷ path ∷ []) cause
@@ -206,7 +206,7 @@ judged_of_all files tables each all cells other rule (inl same) h = subst (λ l.
 judged_of_all files tables each all cells other rule (inr (x, e, d)) h =
     subst (λ l. AreGood files tables l cells other rule) (sym d) (judged_twice files tables x cells other rule (subst (λ l. AreGood files tables l cells other rule) e h))
 
-reads_want : (files : List (List ℕ × List ℕ)) (path : List ℕ) → Reads files path → WantsMemory files path
+reads_want : (files : List (List ℕ × List ℕ)) (path : List ℕ) → IsReadableFile files path → WantsMemory files path
 reads_want files path reads = (reads.0, reads.1, wanted reads.0 reads.2)
 
 module _ (files : List (List ℕ × List ℕ)) (every rules : List (List ℕ)) (tables : List TableRule) (are : AreTables files rules tables) where
@@ -218,11 +218,11 @@ module _ (files : List (List ℕ × List ℕ)) (every rules : List (List ℕ)) (
       holds = (
         tables,
         (are, all_there files each there at),
-        zip_first (λ path b. bytes_at files path ≡ Some b.now) (Reads files) (IsBadPattern files fault) (λ b. IsReadable b.now) (λ b. IsPatternFaultOn b.now fault line)
+        zip_first (λ path b. bytes_at files path ≡ Some b.now) (IsReadableFile files) (IsBadPattern files fault) (λ b. IsReadable b.now) (λ b. IsPatternFaultOn b.now fault line)
             (λ path b e reads. (b.now, e, reads)) (λ path b e wrong. (b.now, e, fault_on b.now fault line wrong)) each there at
             (first_part (λ b. IsReadable b.now) (λ b. IsPatternFaultOn b.now fault line) part there bad),
       );
-      on = zip_part (λ path b. bytes_at files path ≡ Some b.now) (Reads files) (IsBadPatternOn files fault line)
+      on = zip_part (λ path b. bytes_at files path ≡ Some b.now) (IsReadableFile files) (IsBadPatternOn files fault line)
           (λ b. IsReadable b.now) (λ b. IsPatternFaultOn b.now fault line)
           (λ path b e reads. (b.now, e, reads)) (λ path b e wrong. (b.now, e, wrong)) part each there at bad;
     }
@@ -242,11 +242,11 @@ module _ (files : List (List ℕ × List ℕ)) (every rules : List (List ℕ)) (
     }
 
   -- memory is needed for patterns that were read
-  pub read_wanting : (paths : List (List ℕ)) → AllByRecursion (Reads files) paths → FirstIs (Reads files) paths → HasCause files rules paths Memory
+  pub read_wanting : (paths : List (List ℕ)) → AllByRecursion (IsReadableFile files) paths → FirstIs (IsReadableFile files) paths → HasCause files rules paths Memory
   read_wanting [] reads first = absurd first
   read_wanting (p ∷ paths) reads first = (tables, (are, there_all (p ∷ paths) reads), reads_want files p first)
     where
-      there_all : (ps : List (List ℕ)) → AllByRecursion (Reads files) ps → AllByRecursion (IsThere files) ps
+      there_all : (ps : List (List ℕ)) → AllByRecursion (IsReadableFile files) ps → AllByRecursion (IsThere files) ps
       there_all [] all = tt
       there_all (q ∷ qs) all = ((all.0.0, all.0.1), there_all qs all.1)
 
@@ -259,7 +259,7 @@ module _ (files : List (List ℕ × List ℕ)) (every rules : List (List ℕ)) (
         let at = zip_part (IsReadAt nodes files) (HasRule files tables) (IsUnnamed files tables fault) (HasName tables) (λ p. IsRuleFault p.rule_text.items tables fault)
         (λ path p at. path_has_rule nodes files path p at tables) (λ path p at. path_has_fault nodes files path p at tables fault) part each patterns read bad in
         record {
-          holds = (tables, (are, zip_left (IsReadAt nodes files) (Reads files) (path_reads nodes files) each patterns read), first_part (HasRule files tables) (IsUnnamed files tables fault) part each at);
+          holds = (tables, (are, zip_left (IsReadAt nodes files) (IsReadableFile files) (path_reads nodes files) each patterns read), first_part (HasRule files tables) (IsUnnamed files tables fault) part each at);
           on = (refl, tables, are, at);
         }
 
@@ -288,8 +288,8 @@ module _ (files : List (List ℕ × List ℕ)) (every rules : List (List ℕ)) (
           zip_left (λ path r. At path r × ShowsSmall nodes r) (IsSmall files tables) (λ path r h. ruled_is_small nodes files path tables r h.0 h.1) paths patterns
           (zip_beside At (ShowsSmall nodes) paths patterns ruled small)
 
-      all_read : AllByRecursion (Reads files) paths
-      all_read = zip_left At (Reads files) (λ path r at. path_reads nodes files path r.pattern at.read_at) paths patterns ruled
+      all_read : AllByRecursion (IsReadableFile files) paths
+      all_read = zip_left At (IsReadableFile files) (λ path r at. path_reads nodes files path r.pattern at.read_at) paths patterns ruled
 
     -- the first two patterns have different rules
     other_rules : (paths : List (List ℕ)) (patterns : List Ruled) → AllZip At paths patterns → AreMixed patterns → SomeOf (λ p. SomeOf (HaveOtherRules files tables p) paths) paths
@@ -331,8 +331,8 @@ module _ (files : List (List ℕ × List ℕ)) (every rules : List (List ℕ)) (
       other_shown : Picture
       good : AreGood files tables paths shown other_shown rule
 
-    good_under : (path : List ℕ) (a : Ruled) (at : At path a) (rule : RuleValue) → rule ≡ rule_of a → ShowsSmall nodes a → IsGood files tables path (ruled_picture nodes files path tables a at) rule
-    good_under path a at rule e small = subst (IsGood files tables path (ruled_picture nodes files path tables a at)) (sym e) (ruled_is_good nodes files path tables a at small)
+    good_under : (path : List ℕ) (a : Ruled) (at : At path a) (rule : RuleValue) → rule ≡ rule_of a → ShowsSmall nodes a → IsGoodPattern files tables path (ruled_picture nodes files path tables a at) rule
+    good_under path a at rule e small = subst (IsGoodPattern files tables path (ruled_picture nodes files path tables a at)) (sym e) (ruled_is_good nodes files path tables a at small)
 
     agreed : (paths : List (List ℕ)) (patterns : OneOrTwo Ruled) (rule : RuleValue) → AllZip At paths (items patterns)
         → AllByRecursion (ShowsSmall nodes) (items patterns) → AreOfOneRule (items patterns) rule → Agreed paths rule
@@ -436,7 +436,7 @@ module _ (files : List (List ℕ × List ℕ)) (every rules : List (List ℕ)) (
         }
 
   -- a claim that is judged may want memory
-  good_reads : (path : List ℕ) (cells : Picture) (rule : RuleValue) → IsGood files tables path cells rule → Reads files path
+  good_reads : (path : List ℕ) (cells : Picture) (rule : RuleValue) → IsGoodPattern files tables path cells rule → IsReadableFile files path
   good_reads path cells rule good = ruled_path_reads files tables path cells rule good.ruled
 
   memory_wanted : (paths : List (List ℕ)) (cells other : Picture) (rule : RuleValue) → AreGood files tables paths cells other rule → HasCause files rules paths Memory

@@ -44,7 +44,7 @@ module _ (p : Picture) (q : ℤ → ℤ → ℕ) (dx dy : ℤ) (same : (x y : �
   live_before x y live = λ z. live (sym (same x y) ∙ cell-shifted p dx dy x y ∙ z)
 
   -- so the vector is that from the one least box to the other
-  pub corner_moved : (box : Bounds) (box2 : WideBounds) → IsLeastBox p box → wide.IsLeastBox q box2 → (dx ≡ box2.x0 -ℤ box.x0) × (dy ≡ box2.y0 -ℤ box.y0)
+  pub corner_moved : (box : Bounds) (box2 : WideBounds) → IsLeastBox p box → wide.IsLeastWideBox q box2 → (dx ≡ box2.x0 -ℤ box.x0) × (dy ≡ box2.y0 -ℤ box.y0)
   corner_moved box box2 least least2 =
       let right = least2.all (box.x0 +ℤ dx) (least.left.0 +ℤ dy) (live_after box.x0 least.left.0 least.left.1) in
       let left = least.all (box2.x0 -ℤ dx) (least2.left.0 -ℤ dy) (live_before box2.x0 least2.left.0 least2.left.1) in
@@ -74,7 +74,7 @@ corner_range p box least range =
     (left.0, left.1, top.2, top.3)
 
 -- or in the square of a plane
-corner_near : (q : ℤ → ℤ → ℕ) (box : WideBounds) → wide.IsLeastBox q box → ((x y : ℤ) → (IsInPlane (record { y = y; x = x }) → ⊥) → q x y ≡ 0)
+corner_near : (q : ℤ → ℤ → ℕ) (box : WideBounds) → wide.IsLeastWideBox q box → ((x y : ℤ) → (IsInPlane (record { y = y; x = x }) → ⊥) → q x y ≡ 0)
     → IsInPlane (record { y = box.y0; x = box.x0 })
 corner_near q box least near = (
   not_above _ _ (λ out. least.left.1 (near box.x0 least.left.0 (λ a. out a.0))),
@@ -90,7 +90,7 @@ corner_shift p box least range =
     ((omega (arith, ints, here), omega (arith, ints, here)), (omega (arith, ints, here), omega (arith, ints, here)))
 
 -- or of the square of a plane
-pub corner_wide : (q : ℤ → ℤ → ℕ) (box : WideBounds) → wide.IsLeastBox q box → ((x y : ℤ) → (IsInPlane (record { y = y; x = x }) → ⊥) → q x y ≡ 0) → IsWide box.x0 × IsWide box.y0
+pub corner_wide : (q : ℤ → ℤ → ℕ) (box : WideBounds) → wide.IsLeastWideBox q box → ((x y : ℤ) → (IsInPlane (record { y = y; x = x }) → ⊥) → q x y ≡ 0) → IsWide box.x0 × IsWide box.y0
 corner_wide q box least near =
     let here = corner_near q box least near in
     ((omega (arith, ints, here), omega (arith, ints, here)), (omega (arith, ints, here), omega (arith, ints, here)))

@@ -16,7 +16,7 @@ use Rattle.ca_claims.specs.Truth.{IsNotBack, MayReturnBy}
 use Rattle.ca_claims.specs.inner.Divisors.{AreDivisors}
 use Rattle.ca_claims.specs.inner.Returns.{IsNotBackBefore, IsFirstReturn}
 use Rattle.ca_claims.specs.declared.decide.Case.{Case}
-use Rattle.ca_claims.specs.inner.Subjects.{ShowsTree, IsMovedBy, BarsReturn, IsEnd, IsNoMove, AreLeft, IsBackBy}
+use Rattle.ca_claims.specs.inner.Subjects.{ShowsTree, IsMovedBy, BarsReturn, IsEndTree, IsNoMove, AreLeft, IsBackBy}
 use Rattle.ca_claims.proofs.Times.{unmoved}
 use Rattle.ca_claims.proofs.Divided.{changed_before, nowhere_before}
 use Rattle.ca_claims.proofs.Leapt.{shows_after, both_shown}
@@ -50,7 +50,7 @@ anywhere next cells p n q None ends same told = λ dx dy is. told dx dy (λ x y.
 anywhere next cells p n q (Some v) ends same told = (tt, λ x y. ends x y ∙ sym (told x y) ∙ sym (same v.0 v.1 x y))
 
 -- what is judged, of a plane some generations on
-module _ (next : List ℕ → ℕ) (s0 s1 : List Node) (case : Case) (bars : BarsReturn s0 case) (end : Tree) (m : ℕ) (is : IsEnd next s0 case.subject.pattern m s1 end) (cells : Picture)
+module _ (next : List ℕ → ℕ) (s0 s1 : List Node) (case : Case) (bars : BarsReturn s0 case) (end : Tree) (m : ℕ) (is : IsEndTree next s0 case.subject.pattern m s1 end) (cells : Picture)
     (shows : ShowsTree s0 case.subject.pattern cells) where
   ends : (x y : ℤ) → after next cells m x y ≡ trees.cell s1 end x y
   ends = shows_after next s0 s1 case.subject.pattern end m cells is shows

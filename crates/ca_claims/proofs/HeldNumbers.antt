@@ -5,7 +5,7 @@ use Rattle.std.proofs.lemmas.Int.{ints, to_z-of_z}
 use Rattle.ca_plane.specs.Bytes.{IsInteger}
 use Rattle.ca_claims.specs.declared.claims.line.Kind.{Kind}
 use Rattle.ca_claims.specs.declared.claims.line.Kind.TheVariants.{Still, Oscillator, Spaceship, Becomes}
-use Rattle.ca_claims.specs.Text.{Claim, Claims, WordsSay, WordsClaim}
+use Rattle.ca_claims.specs.Text.{Claim, Claims, ClaimWordsSay, WordsClaim}
 use Rattle.ca_claims.specs.inner.Reading.{IsHeldShift, IsHeldKind}
 
 -- what stands after a word that begins equal words
@@ -26,11 +26,11 @@ shift_words words name p x y e n other (Becomes v) h = let same = h.2 in cc
 
 -- so words without them make none
 pub no_right : (words : List (List ℕ)) (name p x y : List ℕ) → words ≡ name ∷ p ∷ x ∷ y ∷ [] → ((n : ℤ) → IsInteger x n → ⊥)
-    → (claim : Claim) → WordsSay (codes "spaceship" ∷ words) (Claims claim) → ⊥
+    → (claim : Claim) → ClaimWordsSay (codes "spaceship" ∷ words) (Claims claim) → ⊥
 no_right words name p x y e none claim h = let s = shift_words words name p x y e claim.pattern claim.other claim.kind h in none s.0 s.2
 
 pub no_down : (words : List (List ℕ)) (name p x y : List ℕ) → words ≡ name ∷ p ∷ x ∷ y ∷ [] → ((n : ℤ) → IsInteger y n → ⊥)
-    → (claim : Claim) → WordsSay (codes "spaceship" ∷ words) (Claims claim) → ⊥
+    → (claim : Claim) → ClaimWordsSay (codes "spaceship" ∷ words) (Claims claim) → ⊥
 no_down words name p x y e none claim h = let s = shift_words words name p x y e claim.pattern claim.other claim.kind h in none s.1 s.3
 
 -- a number below 2^61 is held as itself

@@ -10,7 +10,7 @@ use Rattle.ca_plane.specs.Generations.{after, IsAfter}
 use Rattle.ca_quad.specs.declared.node.Node.{Node}
 use Rattle.ca_quad.specs.declared.tree.Tree.{Tree}
 use Rattle.ca_quad.specs.declared.tree.Spot.{Spot}
-use Rattle.ca_quad.specs.Sound.{IsSound, Grows}
+use Rattle.ca_quad.specs.Sound.{IsSoundStore, Grows}
 use Rattle.ca_quad.specs.Trees.{IsTree, cell}
 use Rattle.ca_quad.proofs.Cells.{of_stays}
 use Rattle.ca_quad.proofs.Trims.{trees_stay}
@@ -23,12 +23,12 @@ use Rattle.ca_claims.specs.declared.decide.Subject.{Subject}
 use Rattle.ca_claims.specs.declared.decide.Case.{Case}
 use Rattle.ca_claims.specs.declared.verdict.Why.{Why}
 use Rattle.ca_claims.specs.declared.verdict.Why.TheVariants.{Empty, Differs, Earlier}
-use Rattle.ca_claims.specs.Truth.{whose, claimed}
-use Rattle.ca_claims.specs.inner.Subjects.{ShowsTree, IsPattern, IsNear, IsMovedBy, IsCase, BarsReturn, AreShown, IsEnd, IsDifference, wanted_tree}
+use Rattle.ca_claims.specs.Truth.{wanted_cells, claimed}
+use Rattle.ca_claims.specs.inner.Subjects.{ShowsTree, IsPattern, IsNearTree, IsMovedBy, IsCase, BarsReturn, AreShown, IsEndTree, IsDifference, wanted_tree}
 use Rattle.ca_claims.proofs.Times.{unmoved}
 
 -- the tree of a pattern has no live cell outside the square of a plane
-pub near_pattern : (nodes : List Node) (tree : Tree) → IsPattern nodes tree → IsNear nodes tree
+pub near_pattern : (nodes : List Node) (tree : Tree) → IsPattern nodes tree → IsNearTree nodes tree
 near_pattern nodes tree h = record {
   is_tree = h.is_tree;
   low = omega (arith, h.low);
@@ -42,17 +42,17 @@ near_pattern nodes tree h = record {
 }
 
 -- nor has that of the wanted cells
-pub wanted_near : (nodes : List Node) (wanted : Wanted) (subject : Subject) → IsPattern nodes subject.pattern → IsPattern nodes subject.other → IsNear nodes (wanted_tree wanted subject)
+pub wanted_near : (nodes : List Node) (wanted : Wanted) (subject : Subject) → IsPattern nodes subject.pattern → IsPattern nodes subject.other → IsNearTree nodes (wanted_tree wanted subject)
 wanted_near nodes Own subject one other = near_pattern nodes subject.pattern one
 wanted_near nodes Other subject one other = near_pattern nodes subject.other other
 
 -- ---- the store grows
 
-module _ (old new : List Node) (sound : IsSound old) (grows : Grows old new) where
+module _ (old new : List Node) (sound : IsSoundStore old) (grows : Grows old new) where
   pub shows_stays : (tree : Tree) (p : Picture) → IsTree old tree → ShowsTree old tree p → ShowsTree new tree p
   shows_stays tree p is shows = λ x y. shows x y ∙ sym (trees_stay old new sound grows tree is x y)
 
-  pub near_stays : (tree : Tree) → IsNear old tree → IsNear new tree
+  pub near_stays : (tree : Tree) → IsNearTree old tree → IsNearTree new tree
   near_stays tree h = record {
     is_tree = of_stays old new sound grows tree.root tree.level h.is_tree;
     low = h.low;
@@ -112,21 +112,21 @@ both_shown nodes tree p q one two dx dy x y =
 pub wanted_moved : (nodes : List Node) (tree : Tree) (asks : Asks) (p cells other : Picture) (q : ℤ → ℤ → ℕ) (dx dy : ℤ) → ShowsTree nodes tree p → ShowsTree nodes tree cells
     → asks.wanted ≡ Own → dx ≡ asks.dx → dy ≡ asks.dy → ((x y : ℤ) → q x y ≡ plane.cell (shifted p dx dy) x y) → (x y : ℤ) → plane.cell (claimed asks cells other) x y ≡ q x y
 wanted_moved nodes tree asks p cells other q dx dy one two own e f is x y =
-    ap (λ w. plane.cell (shifted (whose w cells other) asks.dx asks.dy) x y) own ∙ both_shown nodes tree cells p two one asks.dx asks.dy x y
+    ap (λ w. plane.cell (shifted (wanted_cells w cells other) asks.dx asks.dy) x y) own ∙ both_shown nodes tree cells p two one asks.dx asks.dy x y
     ∙ ap₂ (λ a b. plane.cell (shifted p a b) x y) (sym e) (sym f) ∙ sym (is x y)
 
 -- the cells that are wanted, where they aren't moved
 pub wanted_unmoved : (nodes : List Node) (asks : Asks) (subject : Subject) (cells other : Picture) → AreShown nodes subject cells other → asks.dx ≡ pos 0 → asks.dy ≡ pos 0
     → ShowsTree nodes (wanted_tree asks.wanted subject) (claimed asks cells other)
 wanted_unmoved nodes asks subject cells other shown right down = λ x y.
-    unmoved (whose asks.wanted cells other) asks.dx asks.dy x y right down ∙ shows asks.wanted x y
+    unmoved (wanted_cells asks.wanted cells other) asks.dx asks.dy x y right down ∙ shows asks.wanted x y
   where
-    shows : (wanted : Wanted) → ShowsTree nodes (wanted_tree wanted subject) (whose wanted cells other)
+    shows : (wanted : Wanted) → ShowsTree nodes (wanted_tree wanted subject) (wanted_cells wanted cells other)
     shows Own = shown.one
     shows Other = shown.two
 
 -- the tree some generations on shows what the picture has then
-pub shows_after : (next : List ℕ → ℕ) (old new : List Node) (pattern end : Tree) (n : ℕ) (cells : Picture) → IsEnd next old pattern n new end → ShowsTree old pattern cells
+pub shows_after : (next : List ℕ → ℕ) (old new : List Node) (pattern end : Tree) (n : ℕ) (cells : Picture) → IsEndTree next old pattern n new end → ShowsTree old pattern cells
     → (x y : ℤ) → after next cells n x y ≡ cell new end x y
 shows_after next old new pattern end n cells is shows x y =
     after_same next (plane.cell cells) (cell old pattern) n shows x y ∙ sym (is.shows x y)
@@ -140,7 +140,7 @@ difference_as p q r s n (Some (Differs x y found claimed generations)) e f other
 difference_as p q r s n (Some (Earlier m dx dy)) e f other = absurd other
 
 -- what is found of the tree some generations on and of the claimed one is found of their pictures
-pub wrong_cell : (next : List ℕ → ℕ) (s0 s1 s2 : List Node) (pattern end wanted : Tree) (n : ℕ) → IsEnd next s0 pattern n s1 end → Grows s0 s1 → Grows s1 s2 → (cells claimed_cells : Picture)
+pub wrong_cell : (next : List ℕ → ℕ) (s0 s1 s2 : List Node) (pattern end wanted : Tree) (n : ℕ) → IsEndTree next s0 pattern n s1 end → Grows s0 s1 → Grows s1 s2 → (cells claimed_cells : Picture)
     → ShowsTree s0 pattern cells → ShowsTree s2 wanted claimed_cells → (why : Option Why) → MatchOption why ((x y : ℤ) → cell s2 end x y ≡ cell s2 wanted x y) (IsDifference (cell s2 end) (cell s2 wanted) n)
     → MatchOption why (IsAfter next cells n claimed_cells) (IsDifference (after next cells n) (plane.cell claimed_cells) n)
 wrong_cell next s0 s1 s2 pattern end wanted n is grows grows_on cells claimed_cells shows stands why told =

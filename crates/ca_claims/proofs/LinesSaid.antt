@@ -5,17 +5,17 @@ use Rattle.std.specs.Str.{bytes_eq}
 use Rattle.std.proofs.lemmas.Bool.{cases_Bool}
 use Rattle.std.proofs.lemmas.List.{append-nil}
 use Rattle.ca_plane.specs.Bytes.{words_of}
-use Rattle.ca_claims.specs.Text.{about, Line, Rule, Load, Claims, path_of, IsAllowed, LinesSay, spoken, rule_paths, file_paths, claims_from}
+use Rattle.ca_claims.specs.Text.{about, ClaimTextLine, Rule, Load, Claims, path_of, IsAllowedLine, ClaimLinesSay, spoken, rule_paths, file_paths, claims_from}
 use Rattle.ca_claims.specs.inner.Reading.{SaysNext}
 
 -- what lines say and then more lines
-pub spoken-append : (said more : List (Option Line)) → spoken (said ++ more) ≡ spoken said ++ spoken more
+pub spoken-append : (said more : List (Option ClaimTextLine)) → spoken (said ++ more) ≡ spoken said ++ spoken more
 spoken-append [] more = refl
 spoken-append (None ∷ said) more = spoken-append said more
 spoken-append (Some line ∷ said) more = ap (λ l. line ∷ l) (spoken-append said more)
 
 -- the paths of their tables
-pub rule_paths-append : (said more : List (Option Line)) → rule_paths (said ++ more) ≡ rule_paths said ++ rule_paths more
+pub rule_paths-append : (said more : List (Option ClaimTextLine)) → rule_paths (said ++ more) ≡ rule_paths said ++ rule_paths more
 rule_paths-append [] more = refl
 rule_paths-append (None ∷ said) more = rule_paths-append said more
 rule_paths-append (Some (Rule path) ∷ said) more = ap (λ l. path ∷ l) (rule_paths-append said more)
@@ -23,7 +23,7 @@ rule_paths-append (Some (Load name path) ∷ said) more = rule_paths-append said
 rule_paths-append (Some (Claims claim) ∷ said) more = rule_paths-append said more
 
 -- the paths of their files
-pub file_paths-append : (said more : List (Option Line)) → file_paths (said ++ more) ≡ file_paths said ++ file_paths more
+pub file_paths-append : (said more : List (Option ClaimTextLine)) → file_paths (said ++ more) ≡ file_paths said ++ file_paths more
 file_paths-append [] more = refl
 file_paths-append (None ∷ said) more = file_paths-append said more
 file_paths-append (Some (Rule path) ∷ said) more = ap (λ l. path ∷ l) (file_paths-append said more)
@@ -31,7 +31,7 @@ file_paths-append (Some (Load name path) ∷ said) more = ap (λ l. path ∷ l) 
 file_paths-append (Some (Claims claim) ∷ said) more = file_paths-append said more
 
 -- the path that they load a name from
-pub path_of-append : (lines more : List Line) (name : List ℕ) → path_of (lines ++ more) name ≡ option_or (path_of lines name) (path_of more name)
+pub path_of-append : (lines more : List ClaimTextLine) (name : List ℕ) → path_of (lines ++ more) name ≡ option_or (path_of lines name) (path_of more name)
 path_of-append [] more name = refl
 path_of-append (Rule path ∷ lines) more name = path_of-append lines more name
 path_of-append (Load loaded path ∷ lines) more name =
@@ -40,15 +40,15 @@ path_of-append (Load loaded path ∷ lines) more name =
 path_of-append (Claims claim ∷ lines) more name = path_of-append lines more name
 
 -- the claims of lines depend on their first number and the lines before
-same_claims : (m n : ℕ) (lines others : List Line) (more : List (Option Line)) → m ≡ n → lines ≡ others → claims_from m lines more ≡ claims_from n others more
+same_claims : (m n : ℕ) (lines others : List ClaimTextLine) (more : List (Option ClaimTextLine)) → m ≡ n → lines ≡ others → claims_from m lines more ≡ claims_from n others more
 same_claims m n lines others more e f = λ i. claims_from (e i) (f i) more
 
 -- one line is before the others
-pub one_before : (earlier : List Line) (line : Line) (lines : List Line) → (earlier ++ line ∷ []) ++ lines ≡ earlier ++ line ∷ lines
+pub one_before : (earlier : List ClaimTextLine) (line : ClaimTextLine) (lines : List ClaimTextLine) → (earlier ++ line ∷ []) ++ lines ≡ earlier ++ line ∷ lines
 one_before earlier line lines = append_assoc earlier (line ∷ []) lines
 
 -- the claims that they make
-pub claims_from-append : (n : ℕ) (earlier : List Line) (said more : List (Option Line)) → claims_from n earlier (said ++ more) ≡ claims_from n earlier said ++ claims_from (n + length said) (earlier ++ spoken said) more
+pub claims_from-append : (n : ℕ) (earlier : List ClaimTextLine) (said more : List (Option ClaimTextLine)) → claims_from n earlier (said ++ more) ≡ claims_from n earlier said ++ claims_from (n + length said) (earlier ++ spoken said) more
 claims_from-append n earlier [] more = ap (λ k. claims_from k earlier more) (omega arith) ∙ ap (λ l. claims_from (n + 0) l more) (sym (append-nil earlier))
 claims_from-append n earlier (None ∷ said) more =
     claims_from-append (n + 1) earlier said more
@@ -68,7 +68,7 @@ claims_from-append n earlier (Some (Claims claim) ∷ said) more =
     ∙ ap (λ l. claims_from (n + 1) (earlier ++ line ∷ []) said ++ l) (same_claims _ _ _ _ more (omega arith) (one_before earlier line (spoken said))))
 
 -- each line says something or nothing
-pub length_said : (earlier : List Line) (lines : List (List ℕ)) (said : List (Option Line)) → LinesSay earlier lines said → length said ≡ length lines
+pub length_said : (earlier : List ClaimTextLine) (lines : List (List ℕ)) (said : List (Option ClaimTextLine)) → ClaimLinesSay earlier lines said → length said ≡ length lines
 length_said earlier [] [] h = refl
 length_said earlier [] (s ∷ said) h = absurd h
 length_said earlier (l ∷ ls) [] h = absurd h
@@ -76,12 +76,12 @@ length_said earlier (l ∷ ls) (None ∷ said) h = ap suc (length_said earlier l
 length_said earlier (l ∷ ls) (Some line ∷ said) h = ap suc (length_said (earlier ++ line ∷ []) ls said h.3)
 
 -- one more line
-pub LinesSay-push : (earlier : List Line) (lines : List (List ℕ)) (said : List (Option Line)) (l : List ℕ) (s : Option Line) → LinesSay earlier lines said → SaysNext (earlier ++ spoken said) (words_of l) s → LinesSay earlier (lines ++ l ∷ []) (said ++ s ∷ [])
-LinesSay-push earlier [] [] l None h next = (next, tt)
-LinesSay-push earlier [] [] l (Some line) h next = (next.0, next.1, subst (λ ls. IsAllowed ls line) (append-nil earlier) next.2, tt)
-LinesSay-push earlier [] (s ∷ said) l t h next = absurd h
-LinesSay-push earlier (k ∷ ks) [] l t h next = absurd h
-LinesSay-push earlier (k ∷ ks) (None ∷ said) l t h next = (h.0, LinesSay-push earlier ks said l t h.1 next)
-LinesSay-push earlier (k ∷ ks) (Some line ∷ said) l t h next =
+pub ClaimLinesSay-push : (earlier : List ClaimTextLine) (lines : List (List ℕ)) (said : List (Option ClaimTextLine)) (l : List ℕ) (s : Option ClaimTextLine) → ClaimLinesSay earlier lines said → SaysNext (earlier ++ spoken said) (words_of l) s → ClaimLinesSay earlier (lines ++ l ∷ []) (said ++ s ∷ [])
+ClaimLinesSay-push earlier [] [] l None h next = (next, tt)
+ClaimLinesSay-push earlier [] [] l (Some line) h next = (next.0, next.1, subst (λ ls. IsAllowedLine ls line) (append-nil earlier) next.2, tt)
+ClaimLinesSay-push earlier [] (s ∷ said) l t h next = absurd h
+ClaimLinesSay-push earlier (k ∷ ks) [] l t h next = absurd h
+ClaimLinesSay-push earlier (k ∷ ks) (None ∷ said) l t h next = (h.0, ClaimLinesSay-push earlier ks said l t h.1 next)
+ClaimLinesSay-push earlier (k ∷ ks) (Some line ∷ said) l t h next =
     let after : SaysNext ((earlier ++ line ∷ []) ++ spoken said) (words_of l) t = subst (λ ls. SaysNext ls (words_of l) t) (sym (one_before earlier line (spoken said))) next in
-    (h.0, h.1, h.2, LinesSay-push (earlier ++ line ∷ []) ks said l t h.3 after)
+    (h.0, h.1, h.2, ClaimLinesSay-push (earlier ++ line ∷ []) ks said l t h.3 after)

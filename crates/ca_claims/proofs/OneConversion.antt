@@ -56,7 +56,7 @@ few_shown : (format : Format) (text : List ℕ) (shown : Picture) (rule_text : L
     → length shown ≤ most_cells
 few_shown Rle text shown rule_text generation e (file, is, within) (other, is_too, cells, named, timed) =
     let same = rle_file.one_file text other file is_too is in
-    subst (λ p. length p ≤ most_cells) (sym (cells ∙ ap (λ f. rle_shown.picture_of f.corner f.items) same)) within.1
+    subst (λ p. length p ≤ most_cells) (sym (cells ∙ ap (λ f. rle_shown.picture_of_items f.corner f.items) same)) within.1
 few_shown Mc text shown rule_text generation e reads means = let no : Mc ≡ Rle = e in cc
 
 module _ (bytes : List ℕ) (tables : List TableRule) (target : Format) where

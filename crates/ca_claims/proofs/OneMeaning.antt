@@ -10,9 +10,9 @@ use Rattle.ca_claims.specs.declared.fault.ClaimFault.{ClaimFault}
 use Rattle.ca_claims.specs.declared.fault.ClaimFault.TheVariants.{Syntax, Number, UnknownName, NameTaken, Memory}
 use Rattle.ca_claims.specs.declared.claims.line.Kind.{Kind}
 use Rattle.ca_claims.specs.declared.claims.line.Kind.TheVariants.{Still, Oscillator, Spaceship, Becomes}
-use Rattle.ca_claims.specs.Text.{Claim, Line, Rule, Load, Claims, WordsClaim, WordsSay, HasGoodNumbers, IsAllowed, LinesSay, IsClaimText, spoken}
-use Rattle.ca_claims.specs.TextFaults.{IsFirstFault}
-use Rattle.ca_claims.specs.inner.Reading.{SaysNext, HasFault}
+use Rattle.ca_claims.specs.Text.{Claim, ClaimTextLine, Rule, Load, Claims, WordsClaim, ClaimWordsSay, HasGoodNumbers, IsAllowedLine, ClaimLinesSay, IsClaimText, spoken}
+use Rattle.ca_claims.specs.TextFaults.{IsFirstClaimFault}
+use Rattle.ca_claims.specs.inner.Reading.{SaysNext, HasClaimFault}
 use Rattle.ca_claims.proofs.LinesSaid.{one_before}
 
 -- words make a claim of one kind, about the same patterns
@@ -43,7 +43,7 @@ same_words words n m o p (Oscillator v) b h k = cc
 same_words words n m o p (Spaceship v dx dy) b h k = cc
 same_words words n m o p (Becomes v) b h k = cc
 
-same_claim : (words : List (List ℕ)) (a b : Claim) → WordsSay words (Claims a) → WordsSay words (Claims b) → a ≡ b
+same_claim : (words : List (List ℕ)) (a b : Claim) → ClaimWordsSay words (Claims a) → ClaimWordsSay words (Claims b) → a ≡ b
 same_claim words a b h k =
     let same = same_words words a.pattern b.pattern a.other b.other a.kind b.kind h k in
     let pattern = same.0 in
@@ -55,7 +55,7 @@ same_claim words a b h k =
 abbrev pub begins_claim : List (List ℕ) → Bool
 begins_claim words = list_any (bytes_eq (get_or words 0 [])) (codes "still" ∷ codes "oscillator" ∷ codes "spaceship" ∷ codes "becomes" ∷ [])
 
-pub claim_begins : (words : List (List ℕ)) (claim : Claim) → WordsSay words (Claims claim) → begins_claim words ≡ true
+pub claim_begins : (words : List (List ℕ)) (claim : Claim) → ClaimWordsSay words (Claims claim) → begins_claim words ≡ true
 claim_begins words claim h = begins claim.pattern claim.other claim.kind h
   where
     begins : (n : List ℕ) (o : Option (List ℕ)) (kind : Kind) → WordsClaim words n o kind → begins_claim words ≡ true
@@ -65,15 +65,15 @@ claim_begins words claim h = begins claim.pattern claim.other claim.kind h
     begins n o (Becomes v) w = ap begins_claim w.2
 
 -- and no name is loaded by words that make a claim
-load_or_claim : (words : List (List ℕ)) (name path : List ℕ) (claim : Claim) → WordsSay words (Load name path) → WordsSay words (Claims claim) → ⊥
+load_or_claim : (words : List (List ℕ)) (name path : List ℕ) (claim : Claim) → ClaimWordsSay words (Load name path) → ClaimWordsSay words (Claims claim) → ⊥
 load_or_claim words name path claim h k = false≢true (sym (ap begins_claim h) ∙ claim_begins words claim k)
 
 -- nor is a table
-rule_or_claim : (words : List (List ℕ)) (path : List ℕ) (claim : Claim) → WordsSay words (Rule path) → WordsSay words (Claims claim) → ⊥
+rule_or_claim : (words : List (List ℕ)) (path : List ℕ) (claim : Claim) → ClaimWordsSay words (Rule path) → ClaimWordsSay words (Claims claim) → ⊥
 rule_or_claim words path claim h k = false≢true (sym (ap begins_claim h) ∙ claim_begins words claim k)
 
 -- words say one thing
-pub same_line : (words : List (List ℕ)) (a b : Line) → WordsSay words a → WordsSay words b → a ≡ b
+pub same_line : (words : List (List ℕ)) (a b : ClaimTextLine) → ClaimWordsSay words a → ClaimWordsSay words b → a ≡ b
 same_line words (Rule p) (Rule q) h k = cc
 same_line words (Rule p) (Load m q) h k = cc
 same_line words (Rule p) (Claims b) h k = absurd (rule_or_claim words p b h k)
@@ -85,26 +85,26 @@ same_line words (Claims a) (Load m q) h k = absurd (load_or_claim words m q a k 
 same_line words (Claims a) (Claims b) h k = ap Claims (same_claim words a b h k)
 
 -- a next line says one thing
-pub same_next : (earlier : List Line) (words : List (List ℕ)) (s t : Option Line) → SaysNext earlier words s → SaysNext earlier words t → s ≡ t
+pub same_next : (earlier : List ClaimTextLine) (words : List (List ℕ)) (s t : Option ClaimTextLine) → SaysNext earlier words s → SaysNext earlier words t → s ≡ t
 same_next earlier words None None h k = refl
 same_next earlier words None (Some b) h k = absurd (false≢true (sym k.0 ∙ h))
 same_next earlier words (Some a) None h k = absurd (false≢true (sym h.0 ∙ k))
 same_next earlier words (Some a) (Some b) h k = ap Some (same_line words a b h.1 k.1)
 
 -- what is said before the lines that follow the first
-after_first : List Line → Option Line → List Line
+after_first : List ClaimTextLine → Option ClaimTextLine → List ClaimTextLine
 after_first earlier None = earlier
 after_first earlier (Some line) = earlier ++ line ∷ []
 
 -- the first line and those after it
-first_says : (earlier : List Line) (l : List ℕ) (ls : List (List ℕ)) (s : Option Line) (said : List (Option Line)) → LinesSay earlier (l ∷ ls) (s ∷ said)
-    → SaysNext earlier (words_of l) s × LinesSay (after_first earlier s) ls said
+first_says : (earlier : List ClaimTextLine) (l : List ℕ) (ls : List (List ℕ)) (s : Option ClaimTextLine) (said : List (Option ClaimTextLine)) → ClaimLinesSay earlier (l ∷ ls) (s ∷ said)
+    → SaysNext earlier (words_of l) s × ClaimLinesSay (after_first earlier s) ls said
 unfolding after_first
 first_says earlier l ls None said h = (h.0, h.1)
 first_says earlier l ls (Some line) said h = ((h.0, h.1, h.2), h.3)
 
 -- lines say one thing
-pub same_said : (earlier : List Line) (lines : List (List ℕ)) (s t : List (Option Line)) → LinesSay earlier lines s → LinesSay earlier lines t → s ≡ t
+pub same_said : (earlier : List ClaimTextLine) (lines : List (List ℕ)) (s t : List (Option ClaimTextLine)) → ClaimLinesSay earlier lines s → ClaimLinesSay earlier lines t → s ≡ t
 same_said earlier [] [] [] h k = refl
 same_said earlier [] [] (t ∷ ts) h k = absurd k
 same_said earlier (l ∷ ls) (s ∷ ss) [] h k = absurd k
@@ -112,36 +112,36 @@ same_said earlier (l ∷ ls) (s ∷ ss) (t ∷ ts) h k =
     let a = first_says earlier l ls s ss h in
     let b = first_says earlier l ls t ts k in
     let same : s ≡ t = same_next earlier (words_of l) s t a.0 b.0 in
-    let later : ss ≡ ts = same_said (after_first earlier t) ls ss ts (subst (λ o. LinesSay (after_first earlier o) ls ss) same a.1) b.1 in
+    let later : ss ≡ ts = same_said (after_first earlier t) ls ss ts (subst (λ o. ClaimLinesSay (after_first earlier o) ls ss) same a.1) b.1 in
     λ i. same i ∷ later i
 same_said earlier lines s t h k = absurd h
 
 -- what lines say after the first, and what the first says
-spoken_first : (earlier : List Line) (s : Option Line) (said : List (Option Line)) → earlier ++ spoken (s ∷ said) ≡ after_first earlier s ++ spoken said
+spoken_first : (earlier : List ClaimTextLine) (s : Option ClaimTextLine) (said : List (Option ClaimTextLine)) → earlier ++ spoken (s ∷ said) ≡ after_first earlier s ++ spoken said
 unfolding after_first
 spoken_first earlier None said = refl
 spoken_first earlier (Some line) said = sym (one_before earlier line (spoken said))
 
 -- a faulty line says nothing that a line may say
-fault_says_none : (n : ℕ) (earlier : List Line) (words : List (List ℕ)) (f : ClaimFault) (s : Option Line) → f ≢ Memory → HasFault n earlier words f → SaysNext earlier words s → ⊥
+fault_says_none : (n : ℕ) (earlier : List ClaimTextLine) (words : List (List ℕ)) (f : ClaimFault) (s : Option ClaimTextLine) → f ≢ Memory → HasClaimFault n earlier words f → SaysNext earlier words s → ⊥
 fault_says_none n earlier words (Syntax line) None ne h k = false≢true (sym h.1.0 ∙ k)
 fault_says_none n earlier words (Syntax line) (Some a) ne h k = h.1.1 a k.1
 fault_says_none n earlier words (Number line) None ne h k = false≢true (sym h.1.0 ∙ k)
 fault_says_none n earlier words (Number line) (Some a) ne h k =
-    let allowed = subst (IsAllowed earlier) (same_line words a (Claims h.1.1) k.1 h.1.2) k.2 in
+    let allowed = subst (IsAllowedLine earlier) (same_line words a (Claims h.1.1) k.1 h.1.2) k.2 in
     h.1.3 allowed.0
 fault_says_none n earlier words (UnknownName line) None ne h k = false≢true (sym h.1.0 ∙ k)
 fault_says_none n earlier words (UnknownName line) (Some a) ne h k =
-    let allowed = subst (IsAllowed earlier) (same_line words a (Claims h.1.1) k.1 h.1.2) k.2 in
+    let allowed = subst (IsAllowedLine earlier) (same_line words a (Claims h.1.1) k.1 h.1.2) k.2 in
     h.1.4 allowed.1
 fault_says_none n earlier words (NameTaken line) None ne h k = false≢true (sym h.1.0 ∙ k)
 fault_says_none n earlier words (NameTaken line) (Some a) ne h k =
-    let allowed = subst (IsAllowed earlier) (same_line words a (Load h.1.1 h.1.2) k.1 h.1.3) k.2 in
+    let allowed = subst (IsAllowedLine earlier) (same_line words a (Load h.1.1 h.1.2) k.1 h.1.3) k.2 in
     false≢true (sym (ap is_some allowed) ∙ h.1.4)
 fault_says_none n earlier words Memory s ne h k = ne refl
 
 -- a line has one fault
-same_fault : (n : ℕ) (earlier : List Line) (words : List (List ℕ)) (f g : ClaimFault) → f ≢ Memory → g ≢ Memory → HasFault n earlier words f → HasFault n earlier words g → f ≡ g
+same_fault : (n : ℕ) (earlier : List ClaimTextLine) (words : List (List ℕ)) (f g : ClaimFault) → f ≢ Memory → g ≢ Memory → HasClaimFault n earlier words f → HasClaimFault n earlier words g → f ≡ g
 same_fault n earlier words (Syntax a) (Syntax b) x y h k = ap Syntax (h.0 ∙ sym k.0)
 same_fault n earlier words (Syntax a) (Number b) x y h k = absurd (h.1.1 (Claims k.1.1) k.1.2)
 same_fault n earlier words (Syntax a) (UnknownName b) x y h k = absurd (h.1.1 (Claims k.1.1) k.1.2)
@@ -162,24 +162,24 @@ same_fault n earlier words Memory g x y h k = absurd (x refl)
 same_fault n earlier words f Memory x y h k = absurd (y refl)
 
 -- the first faulty one of these lines, the first of which has the number n, has this fault
-abbrev FirstAt : ℕ → List Line → List (List ℕ) → ClaimFault → Type 0
+abbrev FirstAt : ℕ → List ClaimTextLine → List (List ℕ) → ClaimFault → Type 0
 FirstAt n earlier [] f = ⊥
-FirstAt n earlier (l ∷ ls) f = HasFault n earlier (words_of l) f ⊎ ((s : Option Line) × SaysNext earlier (words_of l) s × FirstAt (n + 1) (after_first earlier s) ls f)
+FirstAt n earlier (l ∷ ls) f = HasClaimFault n earlier (words_of l) f ⊎ ((s : Option ClaimTextLine) × SaysNext earlier (words_of l) s × FirstAt (n + 1) (after_first earlier s) ls f)
 
 -- a fault after good lines is the first
-first_at : (n : ℕ) (earlier : List Line) (before : List (List ℕ)) (l : List ℕ) (later : List (List ℕ)) (said : List (Option Line)) (f : ClaimFault) → LinesSay earlier before said
-    → HasFault (length before + n) (earlier ++ spoken said) (words_of l) f → FirstAt n earlier (before ++ l ∷ later) f
+first_at : (n : ℕ) (earlier : List ClaimTextLine) (before : List (List ℕ)) (l : List ℕ) (later : List (List ℕ)) (said : List (Option ClaimTextLine)) (f : ClaimFault) → ClaimLinesSay earlier before said
+    → HasClaimFault (length before + n) (earlier ++ spoken said) (words_of l) f → FirstAt n earlier (before ++ l ∷ later) f
 first_at n earlier [] l later [] f good h =
-    inl (subst (λ ls. HasFault n ls (words_of l) f) (append-nil earlier) (subst (λ m. HasFault m (earlier ++ []) (words_of l) f) (let e : 0 + n ≡ n = omega arith in e) h))
+    inl (subst (λ ls. HasClaimFault n ls (words_of l) f) (append-nil earlier) (subst (λ m. HasClaimFault m (earlier ++ []) (words_of l) f) (let e : 0 + n ≡ n = omega arith in e) h))
 first_at n earlier [] l later (s ∷ said) f good h = absurd good
 first_at n earlier (k ∷ ks) l later [] f good h = absurd good
 first_at n earlier (k ∷ ks) l later (s ∷ said) f good h =
     let a = first_says earlier k ks s said good in
     let counted : suc (length ks) + n ≡ length ks + (n + 1) = omega arith in
-    inr (s, a.0, first_at (n + 1) (after_first earlier s) ks l later said f a.1 (subst (λ ls. HasFault (length ks + (n + 1)) ls (words_of l) f) (spoken_first earlier s said) (subst (λ m. HasFault m (earlier ++ spoken (s ∷ said)) (words_of l) f) counted h)))
+    inr (s, a.0, first_at (n + 1) (after_first earlier s) ks l later said f a.1 (subst (λ ls. HasClaimFault (length ks + (n + 1)) ls (words_of l) f) (spoken_first earlier s said) (subst (λ m. HasClaimFault m (earlier ++ spoken (s ∷ said)) (words_of l) f) counted h)))
 
 -- the first fault of a text is that of its lines
-of_lines : (bytes : List ℕ) (f : ClaimFault) → f ≢ Memory → IsFirstFault bytes f → FirstAt 1 [] (lines_of bytes) f
+of_lines : (bytes : List ℕ) (f : ClaimFault) → f ≢ Memory → IsFirstClaimFault bytes f → FirstAt 1 [] (lines_of bytes) f
 of_lines bytes (Syntax n) ne h = subst (λ ls. FirstAt 1 [] ls (Syntax n)) (sym h.among) (first_at 1 [] h.before h.line h.later h.said (Syntax n) h.good (h.number, h.holds))
 of_lines bytes (Number n) ne h = subst (λ ls. FirstAt 1 [] ls (Number n)) (sym h.among) (first_at 1 [] h.before h.line h.later h.said (Number n) h.good (h.number, h.holds))
 of_lines bytes (UnknownName n) ne h = subst (λ ls. FirstAt 1 [] ls (UnknownName n)) (sym h.among) (first_at 1 [] h.before h.line h.later h.said (UnknownName n) h.good (h.number, h.holds))
@@ -187,7 +187,7 @@ of_lines bytes (NameTaken n) ne h = subst (λ ls. FirstAt 1 [] ls (NameTaken n))
 of_lines bytes Memory ne h = absurd (ne refl)
 
 -- lines that each say something have no fault
-no_fault : (n : ℕ) (earlier : List Line) (lines : List (List ℕ)) (said : List (Option Line)) (f : ClaimFault) → f ≢ Memory → LinesSay earlier lines said → FirstAt n earlier lines f → ⊥
+no_fault : (n : ℕ) (earlier : List ClaimTextLine) (lines : List (List ℕ)) (said : List (Option ClaimTextLine)) (f : ClaimFault) → f ≢ Memory → ClaimLinesSay earlier lines said → FirstAt n earlier lines f → ⊥
 no_fault n earlier [] said f ne good h = h
 no_fault n earlier (l ∷ ls) [] f ne good h = good
 no_fault n earlier (l ∷ ls) (s ∷ said) f ne good (inl h) = fault_says_none n earlier (words_of l) f s ne h (first_says earlier l ls s said good).0
@@ -197,7 +197,7 @@ no_fault n earlier (l ∷ ls) (s ∷ said) f ne good (inr h) =
     no_fault (n + 1) (after_first earlier s) ls said f ne a.1 (subst (λ o. FirstAt (n + 1) (after_first earlier o) ls f) same h.2)
 
 -- lines have one first fault
-same_first : (n : ℕ) (earlier : List Line) (lines : List (List ℕ)) (f g : ClaimFault) → f ≢ Memory → g ≢ Memory → FirstAt n earlier lines f → FirstAt n earlier lines g → f ≡ g
+same_first : (n : ℕ) (earlier : List ClaimTextLine) (lines : List (List ℕ)) (f g : ClaimFault) → f ≢ Memory → g ≢ Memory → FirstAt n earlier lines f → FirstAt n earlier lines g → f ≡ g
 same_first n earlier [] f g x y h k = absurd h
 same_first n earlier (l ∷ ls) f g x y (inl h) (inl k) = same_fault n earlier (words_of l) f g x y h k
 same_first n earlier (l ∷ ls) f g x y (inl h) (inr k) = absurd (fault_says_none n earlier (words_of l) f k.0 x h k.1)
@@ -207,9 +207,9 @@ same_first n earlier (l ∷ ls) f g x y (inr h) (inr k) =
     same_first (n + 1) (after_first earlier h.0) ls f g x y h.2 (subst (λ o. FirstAt (n + 1) (after_first earlier o) ls g) same k.2)
 
 -- a text whose lines say something has no fault
-pub no_first_fault : (bytes : List ℕ) (said : List (Option Line)) (f : ClaimFault) → f ≢ Memory → IsClaimText bytes said → IsFirstFault bytes f → ⊥
+pub no_first_fault : (bytes : List ℕ) (said : List (Option ClaimTextLine)) (f : ClaimFault) → f ≢ Memory → IsClaimText bytes said → IsFirstClaimFault bytes f → ⊥
 no_first_fault bytes said f ne good h = no_fault 1 [] (lines_of bytes) said f ne good (of_lines bytes f ne h)
 
 -- a text has one first fault
-pub same_first_fault : (bytes : List ℕ) (f g : ClaimFault) → f ≢ Memory → g ≢ Memory → IsFirstFault bytes f → IsFirstFault bytes g → f ≡ g
+pub same_first_fault : (bytes : List ℕ) (f g : ClaimFault) → f ≢ Memory → g ≢ Memory → IsFirstClaimFault bytes f → IsFirstClaimFault bytes g → f ≡ g
 same_first_fault bytes f g x y h k = same_first 1 [] (lines_of bytes) f g x y (of_lines bytes f x h) (of_lines bytes g y k)

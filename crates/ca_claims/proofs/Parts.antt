@@ -11,7 +11,7 @@ use Rattle.ca_claims.specs.declared.verdict.Cause.TheVariants.{NoFile, BadPatter
 use Rattle.ca_claims.specs.Places.{path_at, named_path}
 use Rattle.ca_claims.specs.Answers.{IsThere, FirstBad, IsOfPattern, IsOfRuleFile}
 use Rattle.ca_claims.specs.Notes.{IsFirstBad}
-use Rattle.ca_claims.specs.inner.Patterns.{IsEachOnce, FirstBadAt, IsPart}
+use Rattle.ca_claims.specs.inner.Patterns.{IsEachOnce, FirstBadAt, IsListPart}
 use Rattle.ca_claims.specs.inner.Refusals.{IsOn}
 
 -- the first bad one
@@ -47,7 +47,7 @@ once_part {X} Good Bad part each all (inr (x, e, d)) bad =
     twice Second b = absurd b
 
 -- by its name and path
-named_part : (paths : List (List ℕ)) (Good Bad : List ℕ → Type 0) (part : Part) (patterns : List Named) (pattern : Named) → IsPart part patterns pattern
+named_part : (paths : List (List ℕ)) (Good Bad : List ℕ → Type 0) (part : Part) (patterns : List Named) (pattern : Named) → IsListPart part patterns pattern
     → FirstBadAt part (map (λ n. path_at paths n.path) patterns) Good Bad → IsFirstBad (map (named_path paths) patterns) pattern.name.now (path_at paths pattern.path) Good Bad
 named_part paths Good Bad First [] pattern is bad = absurd bad
 named_part paths Good Bad First (n ∷ ns) pattern is bad = inl (ap (named_path paths) (sym is), bad)
@@ -67,7 +67,7 @@ module _ (files : List (List ℕ × List ℕ)) (rules : List (List ℕ)) where
   of_pattern F H f cause line is = absurd is
 
   -- so it is told by its name and path
-  pub told_part : (paths : List (List ℕ)) (part : Part) (patterns : List Named) (pattern : Named) → IsPart part patterns pattern → (cause : Cause) (line : Option ℕ)
+  pub told_part : (paths : List (List ℕ)) (part : Part) (patterns : List Named) (pattern : Named) → IsListPart part patterns pattern → (cause : Cause) (line : Option ℕ)
       → IsOfPattern files rules cause (FirstBadAt part (map (λ n. path_at paths n.path) patterns)) line
       → IsOfPattern files rules cause (IsFirstBad (map (named_path paths) patterns) pattern.name.now (path_at paths pattern.path)) line
   told_part paths part patterns pattern is = of_pattern (FirstBadAt part (map (λ n. path_at paths n.path) patterns)) (IsFirstBad (map (named_path paths) patterns) pattern.name.now (path_at paths pattern.path))

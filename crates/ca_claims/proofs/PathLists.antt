@@ -10,7 +10,7 @@ use Rattle.std.proofs.lemmas.List.Elements.{filter-append}
 use Rattle.std.proofs.lemmas.List.Quantifiers.{position-Some}
 use Rattle.indexmap.specs.IndexSet.{insert_key}
 use Rattle.ca_claims.specs.inner.Reading.{with_path}
-use Rattle.ca_claims.specs.Text.{each_once}
+use Rattle.ca_claims.specs.Text.{paths_once}
 
 -- bytes are equal to themselves
 pub bytes_eq_self : (xs : List ℕ) → bytes_eq xs xs ≡ true
@@ -67,13 +67,13 @@ with_other : (p x : List ℕ) (es : List (List ℕ)) → bytes_eq p x ≡ false 
 with_other p x es e = elim (cases_Bool (list_any (bytes_eq p) es)) [ inl here ↦ rw (e, here) refl | inr new ↦ rw (e, new) refl ]
 
 -- each once, after one more path
-pub each_once-push : (ps : List (List ℕ)) (p : List ℕ) → each_once (ps ++ p ∷ []) ≡ with_path (each_once ps) p
-each_once-push [] p = refl
-each_once-push (x ∷ xs) p =
-    let later = ap (λ l. x ∷ filter (λ q. not (bytes_eq q x)) l) (each_once-push xs p) in
+pub paths_once-push : (ps : List (List ℕ)) (p : List ℕ) → paths_once (ps ++ p ∷ []) ≡ with_path (paths_once ps) p
+paths_once-push [] p = refl
+paths_once-push (x ∷ xs) p =
+    let later = ap (λ l. x ∷ filter (λ q. not (bytes_eq q x)) l) (paths_once-push xs p) in
     elim (cases_Bool (bytes_eq p x)) [
-      | inl e ↦ later ∙ ap (λ l. x ∷ l) (none_left p x (each_once xs) e) ∙ sym (with_first p x (filter (λ q. not (bytes_eq q x)) (each_once xs)) e)
-      | inr e ↦ later ∙ ap (λ l. x ∷ l) (put_after p x (each_once xs) e) ∙ sym (with_other p x (filter (λ q. not (bytes_eq q x)) (each_once xs)) e)
+      | inl e ↦ later ∙ ap (λ l. x ∷ l) (none_left p x (paths_once xs) e) ∙ sym (with_first p x (filter (λ q. not (bytes_eq q x)) (paths_once xs)) e)
+      | inr e ↦ later ∙ ap (λ l. x ∷ l) (put_after p x (paths_once xs) e) ∙ sym (with_other p x (filter (λ q. not (bytes_eq q x)) (paths_once xs)) e)
     ]
 
 -- paths keep their places where more come after them

@@ -9,8 +9,8 @@ use Rattle.std.proofs.lemmas.Option.{none-some, same_Some, slice_get-get_or, unw
 use Rattle.std.proofs.lemmas.Slice.Eq.{bytes_eq-Decides}
 use Rattle.ca_claims.specs.declared.claims.line.ClaimLine.{ClaimLine}
 use Rattle.ca_claims.specs.declared.claims.line.Place.{Place}
-use Rattle.ca_claims.specs.Text.{Asked, patterns_of, named_patterns}
-use Rattle.ca_claims.specs.Places.{path_at, named_at, named, IsNamed}
+use Rattle.ca_claims.specs.Text.{ClaimText, patterns_of, named_patterns}
+use Rattle.ca_claims.specs.Places.{path_at, named_at, claim_with_names, IsNamed}
 use Rattle.ca_claims.specs.Answers.{SomeOf}
 use Rattle.ca_claims.specs.Needed.{IsNeeded}
 use Rattle.ca_claims.specs.inner.Marks.{marked, claims_marked}
@@ -121,7 +121,7 @@ path_there paths i within = slice_get-get_or paths i [] within ∙ ap Some (sym 
 
 -- a claim's pattern has the path exactly where one of its places has
 pattern_paths : (names paths : List (List ℕ)) (l : ClaimLine Place) (q : List ℕ)
-    → SomeOf (λ p. p ≡ q) (map (path_at paths) (map (λ p. p.path) (patterns_of l.claim))) ↔ SomeOf (λ n. n.1 ≡ q) (named_patterns (named names paths l))
+    → SomeOf (λ p. p ≡ q) (map (path_at paths) (map (λ p. p.path) (patterns_of l.claim))) ↔ SomeOf (λ n. n.1 ≡ q) (named_patterns (claim_with_names names paths l))
 pattern_paths names paths l q =
     let places = patterns_of l.claim in
     let same = paths_of (named_at names paths) l.claim in
@@ -134,7 +134,7 @@ pattern_paths names paths l q =
 
 -- the paths of these claims' patterns
 abbrev pub IsClaimed : List (List ℕ) → List (List ℕ) → List (ClaimLine Place) → List ℕ → Type 0
-IsClaimed names paths claims q = SomeOf (SomeOf (λ n. n.1 ≡ q)) (map named_patterns (map (named names paths) claims))
+IsClaimed names paths claims q = SomeOf (SomeOf (λ n. n.1 ≡ q)) (map named_patterns (map (claim_with_names names paths) claims))
 
 module _ (names paths : List (List ℕ)) (distinct : IsDistinct bytes_eq paths) where
   -- the marks of the paths at these indices are set
@@ -155,7 +155,7 @@ module _ (names paths : List (List ℕ)) (distinct : IsDistinct bytes_eq paths) 
   marks_claimed P (l ∷ ls) marks good h =
       let is = map (λ p. p.path) (patterns_of l.claim) in
       let asked : IsNamed names paths l.claim = All-head (λ k. IsNamed names paths k.claim) l ls good in
-      let First : List ℕ → Type 0 = λ q. SomeOf (λ n. n.1 ≡ q) (named_patterns (named names paths l)) in
+      let First : List ℕ → Type 0 = λ q. SomeOf (λ n. n.1 ≡ q) (named_patterns (claim_with_names names paths l)) in
       let one = marks_set P is marks (path_indices names paths (patterns_of l.claim) asked.within) h in
       let first = marks_same (λ q. SomeOf (λ p. p ≡ q) (map (path_at paths) is) ⊎ P q) (λ q. First q ⊎ P q)
       (λ q. or_same (pattern_paths names paths l q) (P q)) paths (marked marks is) one in
@@ -166,8 +166,8 @@ module _ (names paths : List (List ℕ)) (distinct : IsDistinct bytes_eq paths) 
   -- ---- the files that a text needs
 
   -- all that is needed is marked
-  pub needed_marks : (rules : List ℕ) (claims : List (ClaimLine Place)) (asked : Asked) → asked.claims ≢ [] → asked.rules ≡ map (path_at paths) rules
-      → asked.patterns ≡ map named_patterns (map (named names paths) claims) → All (λ i. i < length paths) rules → All (λ l. IsNamed names paths l.claim) claims
+  pub needed_marks : (rules : List ℕ) (claims : List (ClaimLine Place)) (asked : ClaimText) → asked.claims ≢ [] → asked.rules ≡ map (path_at paths) rules
+      → asked.patterns ≡ map named_patterns (map (claim_with_names names paths) claims) → All (λ i. i < length paths) rules → All (λ l. IsNamed names paths l.claim) claims
       → Marks (IsNeeded asked) paths (claims_marked (marked (replicate (length paths) false) rules) claims)
   needed_marks rules claims asked some is_rule is_pattern within good =
       let Ruled : List ℕ → Type 0 = λ q. SomeOf (λ r. r ≡ q) (map (path_at paths) rules) in
@@ -189,5 +189,5 @@ module _ (names paths : List (List ℕ)) (distinct : IsDistinct bytes_eq paths) 
       )) paths (claims_marked (marked (replicate (length paths) false) rules) claims) both
 
 -- without a claim nothing is
-pub nothing_needed : (asked : Asked) (paths : List (List ℕ)) → asked.claims ≡ [] → Marks (IsNeeded asked) paths (replicate (length paths) false)
+pub nothing_needed : (asked : ClaimText) (paths : List (List ℕ)) → asked.claims ≡ [] → Marks (IsNeeded asked) paths (replicate (length paths) false)
 nothing_needed asked paths none = no_marks (IsNeeded asked) paths (λ q needed. needed.0 none)

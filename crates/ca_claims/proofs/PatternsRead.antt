@@ -8,7 +8,7 @@ use Rattle.ca_plane.specs.Population.{HasTooManyCells}
 use Rattle.ca_plane.specs.Limits.{IsInRange}
 use Rattle.ca_plane.proofs.Pictures.{cell-listed}
 use Rattle.ca_quad.specs.declared.node.Node.{Node}
-use Rattle.ca_quad.specs.Sound.{IsSound, Grows}
+use Rattle.ca_quad.specs.Sound.{IsSoundStore, Grows}
 use Rattle.ca_quad.specs.Trees as trees
 use Rattle.ca_quad.specs.Trimmed.{IsTrimmed}
 use Rattle.ca_quad.proofs.Cells.{of_stays}
@@ -24,7 +24,7 @@ use Rattle.ca_claims.specs.declared.ruled.Ruled.{Ruled}
 use Rattle.ca_claims.specs.Means.{bytes_at, format_of, IsReadableAs, IsReadable, MayWantMemoryAs, MayWantMemory}
 use Rattle.ca_claims.specs.declared.verdict.PatternFault.{PatternFault}
 use Rattle.ca_claims.specs.declared.verdict.PatternFault.TheVariants as pattern_fault
-use Rattle.ca_claims.specs.Answers.{IsPatternFault, IsPatternFaultOn, IsRuled, HasSmallStates, Reads, HasRule, IsSmall, IsLarge, IsUnnamed, IsGood}
+use Rattle.ca_claims.specs.Answers.{IsPatternFault, IsPatternFaultOn, IsRuled, HasSmallStates, IsReadableFile, HasRule, IsSmall, IsLarge, IsUnnamed, IsGoodPattern}
 use Rattle.ca_claims.specs.inner.Cells.{IsPlaneOf}
 use Rattle.ca_claims.specs.inner.Patterns.{IsReadFrom, IsUnreadFor, HasName, rule_of, IsRuledAs, ShowsLarge, ShowsSmall}
 use Rattle.ca_claims.proofs.Shown.{small_shown, large_shown, many_shown}
@@ -55,7 +55,7 @@ unread_fault bytes pattern_fault.Memory line un m = absurd (m refl)
 
 -- ---- patterns of a store that grows
 
-module _ (old new : List Node) (grows : Grows old new) (sound : IsSound old) where
+module _ (old new : List Node) (grows : Grows old new) (sound : IsSoundStore old) where
   -- a tree of the least level stays one
   trimmed_stays : (tree : _) → trees.IsTree old tree → IsTrimmed old tree → IsTrimmed new tree
   trimmed_stays tree is trimmed = λ level low high holds.
@@ -83,7 +83,7 @@ module _ (old new : List Node) (grows : Grows old new) (sound : IsSound old) whe
 -- ---- a pattern that was read
 
 -- a file whose pattern has a rule reads
-pub ruled_path_reads : (files : List (List ℕ × List ℕ)) (tables : List TableRule) (path : List ℕ) (cells : Picture) (rule : RuleValue) → IsRuled files tables path cells rule → Reads files path
+pub ruled_path_reads : (files : List (List ℕ × List ℕ)) (tables : List TableRule) (path : List ℕ) (cells : Picture) (rule : RuleValue) → IsRuled files tables path cells rule → IsReadableFile files path
 ruled_path_reads files tables path cells rule ruled = (ruled.0, ruled.1, ruled.2.1.holds.readable)
 
 module _ (nodes : List Node) (files : List (List ℕ × List ℕ)) (path : List ℕ) where
@@ -94,7 +94,7 @@ module _ (nodes : List Node) (files : List (List ℕ × List ℕ)) (path : List 
     pub read : IsReadFrom nodes bytes pattern
 
   module _ (pattern : Loaded) (at : IsReadAt pattern) where
-    pub path_reads : Reads files path
+    pub path_reads : IsReadableFile files path
     path_reads = (at.bytes, at.at_path, at.read.loaded.holds.readable)
 
     pub path_has_fault : (tables : List TableRule) (fault : RuleFault) → IsRuleFault pattern.rule_text.items tables fault → IsUnnamed files tables fault path
@@ -142,7 +142,7 @@ module _ (nodes : List Node) (files : List (List ℕ × List ℕ)) (path : List 
       ruled_small : ShowsSmall nodes ruled → HasSmallStates (rule_of ruled) (cell ruled_picture)
       ruled_small = small_shown (trees.cell nodes ruled.pattern.tree) (cell ruled_picture) tree_shows (rule_of ruled)
 
-      pub ruled_is_good : ShowsSmall nodes ruled → IsGood files tables path ruled_picture (rule_of ruled)
+      pub ruled_is_good : ShowsSmall nodes ruled → IsGoodPattern files tables path ruled_picture (rule_of ruled)
       ruled_is_good small = record { ruled = ruled_reads; small = ruled_small small }
 
       pub ruled_is_small : ShowsSmall nodes ruled → IsSmall files tables path

@@ -12,11 +12,11 @@ use Rattle.std.proofs.lemmas.Slice.Eq.{bytes_eq-Decides}
 use Rattle.ca_claims.specs.declared.claims.line.Claim.{Claim as ClaimOf}
 use Rattle.ca_claims.specs.declared.claims.line.ClaimLine.{ClaimLine}
 use Rattle.ca_claims.specs.declared.claims.line.Place.{Place}
-use Rattle.ca_claims.specs.Places.{path_at, named_at, named, IsNamed}
-use Rattle.ca_claims.specs.Text.{Claim, patterns_of, about, HasGoodNumbers, Line, Rule, Load, Claims, path_of, AreLoaded, IsAllowed, spoken, rule_paths, file_paths, each_once, claims_from}
-use Rattle.ca_claims.specs.inner.Reading.{IsKept, StandsAt, AreKnown, known_place, at_places, with_path}
+use Rattle.ca_claims.specs.Places.{path_at, named_at, claim_with_names, IsNamed}
+use Rattle.ca_claims.specs.Text.{Claim, patterns_of, about, HasGoodNumbers, ClaimTextLine, Rule, Load, Claims, path_of, AreLoaded, IsAllowedLine, spoken, rule_paths, file_paths, paths_once, claims_from}
+use Rattle.ca_claims.specs.inner.Reading.{KeepsClaimLines, StandsAt, AreKnownNames, known_place, at_places, with_path}
 use Rattle.ca_claims.proofs.ClaimKinds.{paths_of, about_same, about_twice}
-use Rattle.ca_claims.proofs.PathLists.{each_once-push, stays_before, stands_last, kept_place, no_fewer}
+use Rattle.ca_claims.proofs.PathLists.{paths_once-push, stays_before, stands_last, kept_place, no_fewer}
 use Rattle.ca_claims.proofs.LinesSaid.{spoken-append, rule_paths-append, file_paths-append, path_of-append, claims_from-append}
 
 -- what holds of a result that is Ok
@@ -86,7 +86,7 @@ module _ (names after paths more : List (List ℕ)) (grown : Grown names after) 
       λ i. (name i, path i)
 
   -- a claim keeps its names and paths
-  claim_kept : (l : ClaimLine Place) → IsNamed names paths l.claim → named after more l ≡ named names paths l
+  claim_kept : (l : ClaimLine Place) → IsNamed names paths l.claim → claim_with_names after more l ≡ claim_with_names names paths l
   claim_kept l h =
       let same = about_same (named_at after more) (named_at names paths) l.claim
       (AllByRecursion-weaker (λ p. (p.name < length names) × (p.path < length paths)) (λ p. named_at after more p ≡ named_at names paths p) named_kept (patterns_of l.claim) h.within) in
@@ -101,7 +101,7 @@ module _ (names after paths more : List (List ℕ)) (grown : Grown names after) 
   }
 
   -- so do all claims
-  all_kept : (claims : List (ClaimLine Place)) → All (λ l. IsNamed names paths l.claim) claims → map (named after more) claims ≡ map (named names paths) claims
+  all_kept : (claims : List (ClaimLine Place)) → All (λ l. IsNamed names paths l.claim) claims → map (claim_with_names after more) claims ≡ map (claim_with_names names paths) claims
   all_kept [] h = refl
   all_kept (l ∷ ls) h =
       let first = claim_kept l (All-head (λ k. IsNamed names paths k.claim) l ls h) in
@@ -118,31 +118,31 @@ module _ (names after paths more : List (List ℕ)) (grown : Grown names after) 
       (h.0, grown.stays p.name (slice_get_within names p.name name h.1) ∙ h.1, longer.stays p.path (slice_get_within paths p.path h.0 h.2) ∙ h.2, h.3)
 
 -- a path is found where it is loaded and wasn't before
-loaded_now : (lines : List Line) (name path q : List ℕ) → path_of lines name ≡ None → bytes_eq name q ≡ true → path_of (lines ++ Load name path ∷ []) q ≡ Some path
+loaded_now : (lines : List ClaimTextLine) (name path q : List ℕ) → path_of lines name ≡ None → bytes_eq name q ≡ true → path_of (lines ++ Load name path ∷ []) q ≡ Some path
 loaded_now lines name path q none e =
     let same : name ≡ q = (bytes_eq-Decides name q).0 e in
     let before : path_of lines q ≡ None = ap (path_of lines) (sym same) ∙ none in
     path_of-append lines (Load name path ∷ []) q ∙ rw (before, e) refl
 
 -- another name's path stays
-loaded_else : (lines : List Line) (name path q : List ℕ) → bytes_eq name q ≡ false → path_of (lines ++ Load name path ∷ []) q ≡ path_of lines q
+loaded_else : (lines : List ClaimTextLine) (name path q : List ℕ) → bytes_eq name q ≡ false → path_of (lines ++ Load name path ∷ []) q ≡ path_of lines q
 loaded_else lines name path q e = path_of-append lines (Load name path ∷ []) q ∙ rw e (option_or_none (path_of lines q))
 
 -- a rule table loads nothing
-rule_loads_none : (lines : List Line) (path q : List ℕ) → path_of (lines ++ Rule path ∷ []) q ≡ path_of lines q
+rule_loads_none : (lines : List ClaimTextLine) (path q : List ℕ) → path_of (lines ++ Rule path ∷ []) q ≡ path_of lines q
 rule_loads_none lines path q = path_of-append lines (Rule path ∷ []) q ∙ option_or_none (path_of lines q)
 
 -- nor does a claim
-claim_loads_none : (lines : List Line) (claim : Claim) (q : List ℕ) → path_of (lines ++ Claims claim ∷ []) q ≡ path_of lines q
+claim_loads_none : (lines : List ClaimTextLine) (claim : Claim) (q : List ℕ) → path_of (lines ++ Claims claim ∷ []) q ≡ path_of lines q
 claim_loads_none lines claim q = path_of-append lines (Claims claim ∷ []) q ∙ option_or_none (path_of lines q)
 
-module _ (said : List (Option Line)) (names paths : List (List ℕ)) (rules : List ℕ) (claims : List (ClaimLine Place)) (places : List ℕ → Option Place) (read : IsKept said names paths rules claims places) where
+module _ (said : List (Option ClaimTextLine)) (names paths : List (List ℕ)) (rules : List ℕ) (claims : List (ClaimLine Place)) (places : List ℕ → Option Place) (read : KeepsClaimLines said names paths rules claims places) where
   -- a line that says nothing
-  pub read_none : IsKept (said ++ None ∷ []) names paths rules claims places
+  pub read_none : KeepsClaimLines (said ++ None ∷ []) names paths rules claims places
   read_none =
       let same : spoken (said ++ None ∷ []) ≡ spoken said = spoken-append said (None ∷ []) ∙ append-nil (spoken said) in
       record {
-        once = read.once ∙ ap each_once (sym (file_paths-append said (None ∷ []) ∙ append-nil (file_paths said)));
+        once = read.once ∙ ap paths_once (sym (file_paths-append said (None ∷ []) ∙ append-nil (file_paths said)));
         ruled = read.ruled ∙ sym (rule_paths-append said (None ∷ []) ∙ append-nil (rule_paths said));
         placed = read.placed;
         asked = read.asked ∙ sym (claims_from-append 1 [] said (None ∷ []) ∙ append-nil (claims_from 1 [] said));
@@ -151,16 +151,16 @@ module _ (said : List (Option Line)) (names paths : List (List ℕ)) (rules : Li
       }
 
   -- the paths after a line with one more
-  once_more : (path : List ℕ) (line : Line) → file_paths (Some line ∷ []) ≡ path ∷ [] → with_path paths path ≡ each_once (file_paths (said ++ Some line ∷ []))
+  once_more : (path : List ℕ) (line : ClaimTextLine) → file_paths (Some line ∷ []) ≡ path ∷ [] → with_path paths path ≡ paths_once (file_paths (said ++ Some line ∷ []))
   once_more path line e =
-      ap (λ l. with_path l path) read.once ∙ sym (each_once-push (file_paths said) path)
-      ∙ ap (λ l. each_once (file_paths said ++ l)) (sym e) ∙ ap each_once (sym (file_paths-append said (Some line ∷ [])))
+      ap (λ l. with_path l path) read.once ∙ sym (paths_once-push (file_paths said) path)
+      ∙ ap (λ l. paths_once (file_paths said ++ l)) (sym e) ∙ ap paths_once (sym (file_paths-append said (Some line ∷ [])))
 
   -- a line that says where a rule table is
   pub read_rule : (path : List ℕ) (place : ℕ) → slice_get (with_path paths path) place ≡ Some path
-      → IsKept (said ++ Some (Rule path) ∷ []) names (with_path paths path) (rules ++ place ∷ []) claims places
+      → KeepsClaimLines (said ++ Some (Rule path) ∷ []) names (with_path paths path) (rules ++ place ∷ []) claims places
   read_rule path place at =
-      let s : Option Line = Some (Rule path) in
+      let s : Option ClaimTextLine = Some (Rule path) in
       let same = grown_same names in
       let longer = grown_path paths path in
       record {
@@ -203,9 +203,9 @@ module _ (said : List (Option Line)) (names paths : List (List ℕ)) (rules : Li
 
     -- a line that loads a name from a path
     pub read_load : (after : List ℕ → Option Place) → ((q : List ℕ) → after q ≡ update bytes_eq places name (Some new_place) q)
-        → IsKept (said ++ Some (Load name path) ∷ []) (names ++ name ∷ []) (with_path paths path) rules claims after
+        → KeepsClaimLines (said ++ Some (Load name path) ∷ []) (names ++ name ∷ []) (with_path paths path) rules claims after
     read_load after updated =
-        let s : Option Line = Some (Load name path) in
+        let s : Option ClaimTextLine = Some (Load name path) in
         let grown = grown_push names name in
         let longer = grown_path paths path in
         record {
@@ -229,10 +229,10 @@ module _ (said : List (Option Line)) (names paths : List (List ℕ)) (rules : Li
   loaded_known name (Some p) found at loaded = refl
 
   -- so are all names of a claim
-  pub names_loaded : (claim : Claim) → AreKnown places claim → AreLoaded (spoken said) (patterns_of claim)
+  pub names_loaded : (claim : Claim) → AreKnownNames places claim → AreLoaded (spoken said) (patterns_of claim)
   names_loaded claim = AllByRecursion-weaker (λ n. IsSome (places n)) (λ n. IsSome (path_of (spoken said) n)) (λ n. known_loaded n (places n) (path_of (spoken said) n) (read.known n)) (patterns_of claim)
 
-  pub names_known : (claim : Claim) → AreLoaded (spoken said) (patterns_of claim) → AreKnown places claim
+  pub names_known : (claim : Claim) → AreLoaded (spoken said) (patterns_of claim) → AreKnownNames places claim
   names_known claim = AllByRecursion-weaker (λ n. IsSome (path_of (spoken said) n)) (λ n. IsSome (places n)) (λ n. loaded_known n (places n) (path_of (spoken said) n) (read.known n)) (patterns_of claim)
 
   -- a known name and its path stand at its place
@@ -249,7 +249,7 @@ module _ (said : List (Option Line)) (names paths : List (List ℕ)) (rules : Li
   place_within name (Some p) found at known = (slice_get_within names p.name name at.1, slice_get_within paths p.path at.0 at.2)
 
   -- so a claim at its names' places is about the names, and the paths that are loaded
-  places_named : (claim : Claim) → AreKnown places claim → about (named_at names paths) (at_places places claim) ≡ about (λ name. (name, unwrap_or (path_of (spoken said) name) [])) claim
+  places_named : (claim : Claim) → AreKnownNames places claim → about (named_at names paths) (at_places places claim) ≡ about (λ name. (name, unwrap_or (path_of (spoken said) name) [])) claim
   places_named claim known =
       about_twice (λ name. known_place (places name)) (named_at names paths) claim
       ∙ about_same (λ name. named_at names paths (known_place (places name))) (λ name. (name, unwrap_or (path_of (spoken said) name) [])) claim
@@ -257,7 +257,7 @@ module _ (said : List (Option Line)) (names paths : List (List ℕ)) (rules : Li
       (λ n. place_named n (places n) (path_of (spoken said) n) (read.known n)) (patterns_of claim) known)
 
   -- and these are kept
-  places_there : (claim : Claim) → AreKnown places claim → HasGoodNumbers claim.kind → IsNamed names paths (at_places places claim)
+  places_there : (claim : Claim) → AreKnownNames places claim → HasGoodNumbers claim.kind → IsNamed names paths (at_places places claim)
   places_there claim known good =
       let is_within : Place → Type 0 = λ p. (p.name < length names) × (p.path < length paths) in
       record {
@@ -267,19 +267,19 @@ module _ (said : List (Option Line)) (names paths : List (List ℕ)) (rules : Li
       }
 
   -- a line that makes a claim
-  pub read_claim : (claim : Claim) (line : ℕ) → AreKnown places claim → HasGoodNumbers claim.kind → line ≡ length said + 1
-      → IsAllowed (spoken said) (Claims claim) × IsKept (said ++ Some (Claims claim) ∷ []) names paths rules (claims ++ record { line = line; claim = at_places places claim } ∷ []) places
+  pub read_claim : (claim : Claim) (line : ℕ) → AreKnownNames places claim → HasGoodNumbers claim.kind → line ≡ length said + 1
+      → IsAllowedLine (spoken said) (Claims claim) × KeepsClaimLines (said ++ Some (Claims claim) ∷ []) names paths rules (claims ++ record { line = line; claim = at_places places claim } ∷ []) places
   read_claim claim line known good number =
-      let s : Option Line = Some (Claims claim) in
+      let s : Option ClaimTextLine = Some (Claims claim) in
       let l : ClaimLine Place = record { line = line; claim = at_places places claim } in
       let counted : line ≡ 1 + length said = omega arith in
       let same = places_named claim known in (
         (good, names_loaded claim known),
         record {
-          once = read.once ∙ ap each_once (sym (file_paths-append said (s ∷ []) ∙ append-nil (file_paths said)));
+          once = read.once ∙ ap paths_once (sym (file_paths-append said (s ∷ []) ∙ append-nil (file_paths said)));
           ruled = read.ruled ∙ sym (rule_paths-append said (s ∷ []) ∙ append-nil (rule_paths said));
           placed = read.placed;
-          asked = map-append (named names paths) claims (l ∷ [])
+          asked = map-append (claim_with_names names paths) claims (l ∷ [])
               ∙ ap (λ cs. cs ++ (line, about (named_at names paths) (at_places places claim)) ∷ []) read.asked
               ∙ (λ i. claims_from 1 [] said ++ (counted i, same i) ∷ [])
               ∙ sym (claims_from-append 1 [] said (s ∷ []));

@@ -12,7 +12,7 @@ use Rattle.ca_claims.specs.declared.claims.asks.Asks.{Asks}
 use Rattle.ca_claims.specs.declared.claims.asks.Wanted.TheVariants.{Own}
 use Rattle.ca_claims.specs.declared.claims.asks.Barred.{Barred}
 use Rattle.ca_claims.specs.declared.claims.asks.Barred.TheVariants.{Nothing, InPlace, Anywhere}
-use Rattle.ca_claims.specs.Truth.{whose, claimed, IsNotBack, MayReturnBy, IsTrueClaim, IsReason}
+use Rattle.ca_claims.specs.Truth.{wanted_cells, claimed, IsNotBack, MayReturnBy, IsTrueClaim, IsReason}
 use Rattle.ca_claims.specs.inner.Returns.{IsNotBackBefore, IsFirstReturn}
 use Rattle.ca_claims.specs.inner.Subjects.{ShowsTree, HasLive, IsMovedBy, IsDifference}
 
@@ -56,4 +56,4 @@ module _ (next : List ℕ → ℕ) (cells other : Picture) (asks : Asks) (live :
 
 -- the claimed cells are the pattern's own, moved
 pub own_stand : (next : List ℕ → ℕ) (cells other : Picture) (asks : Asks) → asks.wanted ≡ Own → IsAfter next cells asks.generations (claimed asks cells other) → IsAfter next cells asks.generations (shifted cells asks.dx asks.dy)
-own_stand next cells other asks own stands = subst (λ w. IsAfter next cells asks.generations (shifted (whose w cells other) asks.dx asks.dy)) own stands
+own_stand next cells other asks own stands = subst (λ w. IsAfter next cells asks.generations (shifted (wanted_cells w cells other) asks.dx asks.dy)) own stands

@@ -34,7 +34,7 @@ use Rattle.ca_claims.specs.declared.format.Format.TheVariants as formats
 use Rattle.ca_claims.specs.Means.{format_of, MeansAs, Means, IsReadableAs, IsReadable, HoldsRuledPattern, HasRuleFault}
 use Rattle.ca_claims.specs.Text.{Claim, patterns_of}
 use Rattle.ca_claims.specs.Truth.{IsNotBack, MayReturnBy, IsTrueClaim, IsReason}
-use Rattle.ca_claims.specs.Answers.{IsPatternFault, IsQuietTable, IsTableFault, HasLargeState, HasSmallStates, HoldsOfFile, IsTableAt, AreTables, IsRuled, IsMissing, IsThere, HoldsTable, Reads, HasRule, IsSmall, SomeOf, FirstBad, HaveOtherRules, FilesAreThere, TablesAreGood, PatternsAreRead, PatternsHaveRules, StatesAreSmall, AgreeOn, HasCause, IsCauseFor, IsGood, AreGood, IsJudged, IsBadTable, IsBadPattern, IsUnnamed, IsLarge}
+use Rattle.ca_claims.specs.Answers.{IsPatternFault, IsQuietTable, IsTableFault, HasLargeState, HasSmallStates, HoldsOfFile, IsTableAt, AreTables, IsRuled, IsMissing, IsThere, HoldsTable, IsReadableFile, HasRule, IsSmall, SomeOf, FirstBad, HaveOtherRules, FilesAreThere, TablesAreGood, PatternsAreRead, PatternsHaveRules, StatesAreSmall, AgreeOn, HasCause, IsCauseFor, IsGoodPattern, AreGood, IsJudged, IsBadTable, IsBadPattern, IsUnnamed, IsLarge}
 use Rattle.ca_claims.proofs.PatternsRead.{ruled_path_reads}
 use Rattle.ca_claims.proofs.Zipped.{zip_left}
 
@@ -59,10 +59,10 @@ false_from_reason next cells other asks (Earlier m dx dy) reason true = back nex
 one_meaning_as : (format : Format) (bytes : List ℕ) (p q : Picture) (t u : List ℕ) (g h : ℕ) → MeansAs format bytes p t g → MeansAs format bytes q u h → (p ≡ q) × (t ≡ u) × (g ≡ h)
 one_meaning_as formats.Rle bytes p q t u g h a b =
     let same = rle_file.one_file bytes a.0 b.0 a.1 b.1 in
-    (a.2 ∙ ap (λ f. rle_shown.picture_of f.corner f.items) same ∙ sym b.2, a.3 ∙ ap (λ f. f.rule_text) same ∙ sym b.3, a.4 ∙ ap (λ f. f.generation) same ∙ sym b.4)
+    (a.2 ∙ ap (λ f. rle_shown.picture_of_items f.corner f.items) same ∙ sym b.2, a.3 ∙ ap (λ f. f.rule_text) same ∙ sym b.3, a.4 ∙ ap (λ f. f.generation) same ∙ sym b.4)
 one_meaning_as formats.Mc bytes p q t u g h a b =
     let same = macrocell.one_file bytes a.0 b.0 a.1 b.1 in
-    (a.2 ∙ ap (λ f. macrocell_shown.picture_of f.nodes) same ∙ sym b.2, a.3 ∙ ap (λ f. f.rule_text) same ∙ sym b.3, a.4 ∙ ap (λ f. f.generation) same ∙ sym b.4)
+    (a.2 ∙ ap (λ f. macrocell_shown.picture_of_nodes f.nodes) same ∙ sym b.2, a.3 ∙ ap (λ f. f.rule_text) same ∙ sym b.3, a.4 ∙ ap (λ f. f.generation) same ∙ sym b.4)
 
 -- and so do any bytes
 pub one_meaning : (bytes : List ℕ) (p q : Picture) (t u : List ℕ) (g h : ℕ) → Means bytes p t g → Means bytes q u h → (p ≡ q) × (t ≡ u) × (g ≡ h)
@@ -148,7 +148,7 @@ module _ (files : List (List ℕ × List ℕ)) (path : List ℕ) where
       let (bytes, wrong, bad) = same_file (λ l. IsTableFault l f) (λ l. IsTableFault l g) a b in
       one_table_fault bytes f g wrong.0 bad.0 wrong.1 bad.1
 
-  reads_or_fault : (fault : PatternFault) → Reads files path → IsBadPattern files fault path → ⊥
+  reads_or_fault : (fault : PatternFault) → IsReadableFile files path → IsBadPattern files fault path → ⊥
   reads_or_fault fault a b =
       let (bytes, reads, wrong) = same_file IsReadable (λ l. IsPatternFault l fault) a b in
       reads_without_fault bytes fault reads wrong
@@ -230,7 +230,7 @@ one_first Good Bad Worse Same h k same (p ∷ ps) (inr a) (inr b) = one_first Go
 
 module _ (files : List (List ℕ × List ℕ)) (tables : List TableRule) where
   -- the rules of good patterns with one rule are the same
-  no_others : (p q : List ℕ) (cells other : Picture) (rule other_rule : RuleValue) → IsGood files tables p cells rule → IsGood files tables q other other_rule → IsSameRule rule other_rule
+  no_others : (p q : List ℕ) (cells other : Picture) (rule other_rule : RuleValue) → IsGoodPattern files tables p cells rule → IsGoodPattern files tables q other other_rule → IsSameRule rule other_rule
       → HaveOtherRules files tables p q → ⊥
   no_others p q cells other rule other_rule one two same mixed =
       let a = (one_ruled_at files p tables cells mixed.0 rule mixed.1 one.ruled mixed.4).1 in
@@ -315,9 +315,9 @@ module _ (files : List (List ℕ × List ℕ)) (rules paths : List (List ℕ)) w
   past_one_fewer : (n : ℕ) → IsPast files rules paths (suc n) → IsPast files rules paths n
   past_one_fewer zero h = tt
   past_one_fewer (suc zero) (tables, (are, h)) = (h, tables_there files rules tables are)
-  past_one_fewer (suc (suc zero)) (tables, (are, h)) = (tables, (are, all_weaker (Reads files) (IsThere files) (λ p r. (r.0, r.1)) paths h))
+  past_one_fewer (suc (suc zero)) (tables, (are, h)) = (tables, (are, all_weaker (IsReadableFile files) (IsThere files) (λ p r. (r.0, r.1)) paths h))
   past_one_fewer (suc (suc (suc zero))) (tables, (are, h)) =
-      (tables, (are, all_weaker (HasRule files tables) (Reads files) (λ p r. ruled_path_reads files tables p r.0 r.1 r.2) paths h))
+      (tables, (are, all_weaker (HasRule files tables) (IsReadableFile files) (λ p r. ruled_path_reads files tables p r.0 r.1 r.2) paths h))
   past_one_fewer (suc (suc (suc (suc zero)))) (tables, (are, h)) = (tables, (are, all_weaker (IsSmall files tables) (HasRule files tables) (λ p r. (r.0, r.1, r.2)) paths h))
   past_one_fewer (suc (suc (suc (suc (suc zero))))) (tables, small, one) = (tables, small)
   past_one_fewer (suc (suc (suc (suc (suc (suc n)))))) h = h
@@ -354,7 +354,7 @@ module _ (files : List (List ℕ × List ℕ)) (rules paths : List (List ℕ)) w
   not_past NoFile m (inl none) past = all_or_some (IsThere files) (IsMissing files) (there_or_none files) paths past.0 none
   not_past NoFile m (inr none) past = all_or_some (IsThere files) (IsMissing files) (there_or_none files) rules past.1 none
   not_past (BadTable fault) m h (tables, (are, past)) = tables_or_fault fault tables are h.1
-  not_past (BadPattern fault) m (tables, good, first) (others, (there, past)) = all_or_first (Reads files) (IsBadPattern files fault) (λ p. reads_or_fault files p fault) paths past first
+  not_past (BadPattern fault) m (tables, good, first) (others, (there, past)) = all_or_first (IsReadableFile files) (IsBadPattern files fault) (λ p. reads_or_fault files p fault) paths past first
   not_past (BadRule fault) m (tables, (are, all), first) (others, (there, past)) =
       all_or_first (HasRule files tables) (IsUnnamed files tables fault) (λ p. named_or_fault_at files p tables fault) paths
       (of_these files rules (λ t. AllByRecursion (HasRule files t) paths) tables others are there past) first
@@ -374,7 +374,7 @@ module _ (files : List (List ℕ × List ℕ)) (rules paths : List (List ℕ)) w
   same_place (BadTable f) (BadTable g) m n e h k =
       ap BadTable (one_first (HoldsTable files) (IsBadTable files f) (IsBadTable files g) (f ≡ g) (λ p. table_or_fault files p f) (λ p. table_or_fault files p g) (λ p. one_bad_table files p f g) rules h.1 k.1)
   same_place (BadPattern f) (BadPattern g) m n e (tables, past, first) (others, past_too, other) =
-      ap BadPattern (one_first (Reads files) (IsBadPattern files f) (IsBadPattern files g) (f ≡ g) (λ p. reads_or_fault files p f) (λ p. reads_or_fault files p g) (λ p. one_pattern_fault files p f g) paths first other)
+      ap BadPattern (one_first (IsReadableFile files) (IsBadPattern files f) (IsBadPattern files g) (f ≡ g) (λ p. reads_or_fault files p f) (λ p. reads_or_fault files p g) (λ p. one_pattern_fault files p f g) paths first other)
   same_place (BadRule f) (BadRule g) m n e (tables, (are, all), first) (others, (there, each), other) =
       let same = one_tables files rules others tables there are in
       let too = subst (λ t. FirstBad (HasRule files t) (IsUnnamed files t g) paths) same other in

@@ -16,7 +16,7 @@ use Rattle.ca_rle.specs.Limits.{IsWithinLimits}
 use Rattle.ca_rle.specs.Shown as rle_shown
 use Rattle.ca_macro.specs.Tidy as macrocell
 use Rattle.ca_macro.specs.File as macrocell_file
-use Rattle.ca_macro.specs.Limits.{IsWithinRange}
+use Rattle.ca_macro.specs.Limits.{IsMacrocellWithinRange}
 use Rattle.ca_macro.specs.Shown as macrocell_shown
 use Rattle.ca_macro.specs.Pattern.{Holds}
 use Rattle.ca_macro.proofs.TidyFiles.{tidy_nodes_as}
@@ -32,11 +32,11 @@ use Rattle.ca_claims.proofs.FilesRead.{in_format}
 -- ---- the format
 
 -- a tidy RLE begins with `#`
-tidy_is_rle : (text : List ℕ) (cells : Picture) (rule_text : List ℕ) (generation states : ℕ) → rle.IsTidy text cells rule_text generation states → format_of text ≡ Rle
+tidy_is_rle : (text : List ℕ) (cells : Picture) (rule_text : List ℕ) (generation states : ℕ) → rle.IsTidyRle text cells rule_text generation states → format_of text ≡ Rle
 tidy_is_rle text cells rule_text generation states tidy = ap format_of tidy.spelled ∙ refl
 
 -- a macrocell begins as one
-file_is_macro : (text : List ℕ) (file : macrocell_file.File) → macrocell_file.IsFile text file → format_of text ≡ Mc
+file_is_macro : (text : List ℕ) (file : macrocell_file.MacrocellFile) → macrocell_file.IsMacrocellFile text file → format_of text ≡ Mc
 file_is_macro text file is = rw is.begins refl
 
 -- ---- an RLE
@@ -52,9 +52,9 @@ plane_is_short nodes tree picture is =
     let (count, has, low) = is.few in
     subst (λ n. n ≤ most_cells) (same_population (cell nodes tree) (plane.cell picture) (λ x y. sym (is.shows x y)) count (length picture) has (sparse_population picture is.sparse)) low
 
-pub written_rle : (nodes : List Node) (ruled : Ruled) (cells : Picture) (rule_text text : List ℕ) (file : rle_file.File) → IsPlaneOf nodes ruled.pattern.tree cells → rule_text ≡ printed_form (rule_of ruled)
-    → rle.IsTidy text cells rule_text ruled.pattern.generation (states_of (rule_of ruled)) → rle_file.IsFile text file → IsWithinLimits file
-    → rle_shown.picture_of file.corner file.items ≡ cells → file.rule_text ≡ rule_text → file.generation ≡ ruled.pattern.generation → IsWrittenAs Rle nodes ruled text
+pub written_rle : (nodes : List Node) (ruled : Ruled) (cells : Picture) (rule_text text : List ℕ) (file : rle_file.RleFile) → IsPlaneOf nodes ruled.pattern.tree cells → rule_text ≡ printed_form (rule_of ruled)
+    → rle.IsTidyRle text cells rule_text ruled.pattern.generation (states_of (rule_of ruled)) → rle_file.IsRleFile text file → IsWithinLimits file
+    → rle_shown.picture_of_items file.corner file.items ≡ cells → file.rule_text ≡ rule_text → file.generation ≡ ruled.pattern.generation → IsWrittenAs Rle nodes ruled text
 written_rle nodes ruled cells rule_text text file is printed tidy is_file within shown names generation =
     let format = tidy_is_rle text cells rule_text ruled.pattern.generation (states_of (rule_of ruled)) tidy in
     record {
@@ -67,22 +67,22 @@ written_rle nodes ruled cells rule_text text file is printed tidy is_file within
             in_format (λ t. MeansAs t text cells (printed_form (rule_of ruled)) ruled.pattern.generation) text Rle format
             (file, is_file, sym shown, sym (names ∙ printed), sym generation);
       };
-      tidy = subst (λ t. rle.IsTidy text cells t ruled.pattern.generation (states_of (rule_of ruled))) printed tidy;
+      tidy = subst (λ t. rle.IsTidyRle text cells t ruled.pattern.generation (states_of (rule_of ruled))) printed tidy;
     }
 
 -- ---- a macrocell
 
 -- a text that is tidy for cells is so for the same cells
 module _ (f g : ℤ → ℤ → ℕ) (same : (x y : ℤ) → f x y ≡ g x y) where
-  pub tidy_shown : (text rule_text : List ℕ) (generation states : ℕ) → macrocell.IsTidy text f rule_text generation states → macrocell.IsTidy text g rule_text generation states
+  pub tidy_shown : (text rule_text : List ℕ) (generation states : ℕ) → macrocell.IsTidyMacrocell text f rule_text generation states → macrocell.IsTidyMacrocell text g rule_text generation states
   tidy_shown text rule_text generation states tidy = record { nodes = tidy.nodes; tidy = tidy_nodes_as states f g tidy.nodes same tidy.tidy; spelled = tidy.spelled }
 
-pub written_macro : (nodes : List Node) (ruled : Ruled) (rule_text text : List ℕ) (file : macrocell_file.File) → rule_text ≡ printed_form (rule_of ruled)
-    → macrocell.IsTidy text (cell nodes ruled.pattern.tree) rule_text ruled.pattern.generation (states_of (rule_of ruled)) → macrocell_file.IsFile text file → IsWithinRange file
+pub written_macro : (nodes : List Node) (ruled : Ruled) (rule_text text : List ℕ) (file : macrocell_file.MacrocellFile) → rule_text ≡ printed_form (rule_of ruled)
+    → macrocell.IsTidyMacrocell text (cell nodes ruled.pattern.tree) rule_text ruled.pattern.generation (states_of (rule_of ruled)) → macrocell_file.IsMacrocellFile text file → IsMacrocellWithinRange file
     → Holds file (cell nodes ruled.pattern.tree) rule_text ruled.pattern.generation → IsWrittenAs Mc nodes ruled text
 written_macro nodes ruled rule_text text file printed tidy is_file within holds =
     let format = file_is_macro text file is_file in
-    let cells = macrocell_shown.picture_of file.nodes in
+    let cells = macrocell_shown.picture_of_nodes file.nodes in
     let same : (x y : ℤ) → cell nodes ruled.pattern.tree x y ≡ plane.cell cells x y = λ x y. sym (holds.shown x y) in
     record {
       shown = cells;
@@ -96,5 +96,5 @@ written_macro nodes ruled rule_text text file printed tidy is_file within holds 
       };
       tidy =
           tidy_shown (cell nodes ruled.pattern.tree) (plane.cell cells) same text (printed_form (rule_of ruled)) ruled.pattern.generation (states_of (rule_of ruled))
-          (subst (λ t. macrocell.IsTidy text (cell nodes ruled.pattern.tree) t ruled.pattern.generation (states_of (rule_of ruled))) printed tidy);
+          (subst (λ t. macrocell.IsTidyMacrocell text (cell nodes ruled.pattern.tree) t ruled.pattern.generation (states_of (rule_of ruled))) printed tidy);
     }

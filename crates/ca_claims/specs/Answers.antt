@@ -31,16 +31,16 @@ use Rattle.ca_claims.specs.Truth.{asks_of, IsTrueClaim, IsReason}
 
 -- the fault for which the bytes of a pattern aren't read; out of memory is none of them
 abbrev pub IsPatternFault : List ℕ → PatternFault → Type 0
-IsPatternFault bytes (pattern_fault.Rle fault) = (format_of bytes ≡ formats.Rle) × (fault ≢ rle_fault.Memory) × rle_faults.IsFaultOf bytes fault
-IsPatternFault bytes (pattern_fault.Macro fault) = (format_of bytes ≡ formats.Mc) × (fault ≢ macrocell_fault.Memory) × macrocell_faults.IsFaultOf bytes fault
+IsPatternFault bytes (pattern_fault.Rle fault) = (format_of bytes ≡ formats.Rle) × (fault ≢ rle_fault.Memory) × rle_faults.IsRleFault bytes fault
+IsPatternFault bytes (pattern_fault.Macro fault) = (format_of bytes ≡ formats.Mc) × (fault ≢ macrocell_fault.Memory) × macrocell_faults.IsMacrocellFault bytes fault
 IsPatternFault bytes pattern_fault.Memory = ⊥
 
 -- the same, and the line on which it stands: none for one that isn't in the spelling
 abbrev pub IsPatternFaultOn : List ℕ → PatternFault → Option ℕ → Type 0
 IsPatternFaultOn bytes (pattern_fault.Rle fault) line =
-    (format_of bytes ≡ formats.Rle) × (fault ≢ rle_fault.Memory) × rle_lines.IsFaultOn bytes fault line
+    (format_of bytes ≡ formats.Rle) × (fault ≢ rle_fault.Memory) × rle_lines.IsRleFaultOn bytes fault line
 IsPatternFaultOn bytes (pattern_fault.Macro fault) line =
-    (format_of bytes ≡ formats.Mc) × (fault ≢ macrocell_fault.Memory) × macrocell_faults.IsFaultOn bytes fault line
+    (format_of bytes ≡ formats.Mc) × (fault ≢ macrocell_fault.Memory) × macrocell_faults.IsMacrocellFaultOn bytes fault line
 IsPatternFaultOn bytes pattern_fault.Memory line = ⊥
 
 -- the bytes are the text of this table, which leaves the empty plane empty
@@ -49,7 +49,7 @@ IsQuietTable bytes table = IsTable bytes table × (table_next table (replicate 9
 
 -- the fault for which the bytes are the text of no such table; out of memory is none of them
 abbrev pub IsTableFault : List ℕ → TableFault → Type 0
-IsTableFault bytes fault = (fault ≢ table_fault.Memory) × table_faults.IsFaultOf bytes fault
+IsTableFault bytes fault = (fault ≢ table_fault.Memory) × table_faults.IsTableTextFault bytes fault
 
 -- the file of a path was handed in, and this holds of its bytes
 abbrev pub HoldsOfFile : List (List ℕ × List ℕ) → (List ℕ → Type 0) → List ℕ → Type 0
@@ -88,8 +88,8 @@ abbrev pub HoldsTable : List (List ℕ × List ℕ) → List ℕ → Type 0
 HoldsTable files path = (table : TableRule) × IsTableAt files path table
 
 -- the file of a pattern's path is there, and it reads
-abbrev pub Reads : List (List ℕ × List ℕ) → List ℕ → Type 0
-Reads files path = HoldsOfFile files IsReadable path
+abbrev pub IsReadableFile : List (List ℕ × List ℕ) → List ℕ → Type 0
+IsReadableFile files path = HoldsOfFile files IsReadable path
 
 -- and its rule text names a rule
 abbrev pub HasRule : List (List ℕ × List ℕ) → List TableRule → List ℕ → Type 0
@@ -144,20 +144,20 @@ HaveOtherRules files tables path other = (cells : Picture) × (rule : RuleValue)
     × IsRuled files tables path cells rule × IsRuled files tables other other_cells other_rule × (IsSameRule rule other_rule → ⊥)
 
 -- a pattern's file is there and is read, and means these cells, of small states, under this rule
-pub record IsGood (files : List (List ℕ × List ℕ)) (tables : List TableRule) (path : List ℕ) (cells : Picture) (rule : RuleValue) : Type 0 where
+pub record IsGoodPattern (files : List (List ℕ × List ℕ)) (tables : List TableRule) (path : List ℕ) (cells : Picture) (rule : RuleValue) : Type 0 where
   pub ruled : IsRuled files tables path cells rule
   pub small : HasSmallStates rule (cell cells)
 
 -- and it has too many cells
 abbrev pub IsCrowded : List (List ℕ × List ℕ) → List TableRule → List ℕ → Type 0
-IsCrowded files tables path = (cells : Picture) × (rule : RuleValue) × IsGood files tables path cells rule × HasTooManyCells (cell cells)
+IsCrowded files tables path = (cells : Picture) × (rule : RuleValue) × IsGoodPattern files tables path cells rule × HasTooManyCells (cell cells)
 
 -- the patterns of a claim's paths mean these cells under this rule; where there is one pattern, it is the other too
 abbrev pub AreGood : List (List ℕ × List ℕ) → List TableRule → List (List ℕ) → Picture → Picture → RuleValue → Type 0
 AreGood files tables [] cells other rule = ⊥
-AreGood files tables (path ∷ []) cells other rule = IsGood files tables path cells rule × (other ≡ cells)
+AreGood files tables (path ∷ []) cells other rule = IsGoodPattern files tables path cells rule × (other ≡ cells)
 AreGood files tables (path ∷ other_path ∷ []) cells other rule =
-    IsGood files tables path cells rule × (other_rule : RuleValue) × IsGood files tables other_path other other_rule × IsSameRule rule other_rule
+    IsGoodPattern files tables path cells rule × (other_rule : RuleValue) × IsGoodPattern files tables other_path other other_rule × IsSameRule rule other_rule
 AreGood files tables (path ∷ other_path ∷ third ∷ paths) cells other rule = ⊥
 
 -- A claim about patterns of these paths is judged in stages; `rules` are the paths of the text's rule lines. First: all the
@@ -171,7 +171,7 @@ TablesAreGood files rules paths tables = AreTables files rules tables × AllByRe
 
 -- third: the patterns' are read
 abbrev pub PatternsAreRead : List (List ℕ × List ℕ) → (rules paths : List (List ℕ)) → List TableRule → Type 0
-PatternsAreRead files rules paths tables = AreTables files rules tables × AllByRecursion (Reads files) paths
+PatternsAreRead files rules paths tables = AreTables files rules tables × AllByRecursion (IsReadableFile files) paths
 
 -- fourth: their rule texts name rules
 abbrev pub PatternsHaveRules : List (List ℕ × List ℕ) → (rules paths : List (List ℕ)) → List TableRule → Type 0
@@ -191,7 +191,7 @@ abbrev pub HasCause : List (List ℕ × List ℕ) → (rules paths : List (List 
 HasCause files rules paths NoFile = SomeOf (IsMissing files) paths ⊎ SomeOf (IsMissing files) rules
 HasCause files rules paths (BadTable fault) = FilesAreThere files rules paths × FirstBad (HoldsTable files) (IsBadTable files fault) rules
 HasCause files rules paths (BadPattern fault) =
-    (tables : List TableRule) × TablesAreGood files rules paths tables × FirstBad (Reads files) (IsBadPattern files fault) paths
+    (tables : List TableRule) × TablesAreGood files rules paths tables × FirstBad (IsReadableFile files) (IsBadPattern files fault) paths
 HasCause files rules paths (BadRule fault) =
     (tables : List TableRule) × PatternsAreRead files rules paths tables × FirstBad (HasRule files tables) (IsUnnamed files tables fault) paths
 HasCause files rules paths StateTooLarge =
@@ -210,7 +210,7 @@ IsOfClaim cause = (cause ≡ MixedRules) ⊎ (cause ≡ Memory)
 -- that isn't read has a line; `rules` are the paths of the text's rule lines
 abbrev pub IsOfPattern : List (List ℕ × List ℕ) → List (List ℕ) → Cause → (First : (Good Bad : List ℕ → Type 0) → Type 0) → Option ℕ → Type 0
 IsOfPattern files rules NoFile First line = (line ≡ None) × First (IsThere files) (IsMissing files)
-IsOfPattern files rules (BadPattern fault) First line = First (Reads files) (IsBadPatternOn files fault line)
+IsOfPattern files rules (BadPattern fault) First line = First (IsReadableFile files) (IsBadPatternOn files fault line)
 IsOfPattern files rules (BadRule fault) First line =
     (line ≡ None) × (tables : List TableRule) × AreTables files rules tables × First (HasRule files tables) (IsUnnamed files tables fault)
 IsOfPattern files rules StateTooLarge First line =

@@ -17,8 +17,8 @@ use Rattle.ca_claims.specs.Answers.{IsPatternFault, HasLargeState, HasSmallState
 
 -- the tidy text of a format
 abbrev pub IsTidyAs : Format → List ℕ → Picture → List ℕ → ℕ → ℕ → Type 0
-IsTidyAs Rle text cells rule_text generation states = rle.IsTidy text cells rule_text generation states
-IsTidyAs Mc text cells rule_text generation states = macrocell.IsTidy text (cell cells) rule_text generation states
+IsTidyAs Rle text cells rule_text generation states = rle.IsTidyRle text cells rule_text generation states
+IsTidyAs Mc text cells rule_text generation states = macrocell.IsTidyMacrocell text (cell cells) rule_text generation states
 
 -- the text is what the bytes are converted to: of the same cells at every x and y, with the printed form of the rule, and of the same
 -- generation; it is the tidy text of the target's format, and its reader takes it

@@ -2,11 +2,11 @@
 use Rattle.std.specs.Prelude.{ℕ, pos, neg_ℤ, List, [], ◌∷◌, ◌++◌, Option, None, Some, codes}
 use Rattle.ca_plane.specs.Plane.{Picture}
 use Rattle.ca_rule.specs.Counts.{counts_of}
-use Rattle.ca_rule.specs.Next.{next_of}
+use Rattle.ca_rule.specs.Next.{bs_next}
 use Rattle.ca_rule.specs.declared.hood.Hood.TheVariants.{Moore}
 use Rattle.ca_claims.specs.declared.claims.line.Kind.{Kind}
 use Rattle.ca_claims.specs.declared.claims.line.Kind.TheVariants.{Still, Oscillator, Spaceship, Becomes}
-use Rattle.ca_claims.specs.Text.{Claim, Line, Rule, Load, Claims, Asked}
+use Rattle.ca_claims.specs.Text.{Claim, ClaimTextLine, Rule, Load, Claims, ClaimText}
 
 -- a claim about one pattern
 abbrev pub of_one : List ℕ → Kind → Claim
@@ -30,11 +30,11 @@ abbrev pub block_text : List ℕ
 block_text = text_of (codes "# a comment" ∷ [] ∷ codes "load b block.rle" ∷ codes "still b" ∷ [])
 
 -- what its lines say
-abbrev pub block_said : List (Option Line)
+abbrev pub block_said : List (Option ClaimTextLine)
 block_said = None ∷ None ∷ Some (Load (codes "b") (codes "block.rle")) ∷ Some (Claims (still_of (codes "b"))) ∷ []
 
 -- what it asks: the claim is about the name's path
-abbrev pub block_asked : Asked
+abbrev pub block_asked : ClaimText
 block_asked = record {
   paths = codes "block.rle" ∷ [];
   rules = [];
@@ -49,14 +49,14 @@ every_text = text_of (
     ∷ codes "oscillator c 007" ∷ [] ∷ codes "spaceship g 4 -1 2" ∷ codes "becomes g 0 c" ∷ [])
 
 -- what its lines say
-abbrev pub every_said : List (Option Line)
+abbrev pub every_said : List (Option ClaimTextLine)
 every_said =
     Some (Load (codes "b") (codes "block.rle")) ∷ None ∷ Some (Load (codes "g") (codes "glider.rle")) ∷ Some (Load (codes "c") (codes "block.rle"))
     ∷ Some (Claims (still_of (codes "b"))) ∷ Some (Claims (of_one (codes "c") (Oscillator 7))) ∷ None
     ∷ Some (Claims (of_one (codes "g") (Spaceship 4 (neg_ℤ (pos 1)) (pos 2)))) ∷ Some (Claims (becomes_of (codes "g") 0 (codes "c"))) ∷ []
 
 -- what it asks: each path once, in the order of the lines, and each claim with the number of its line
-abbrev pub every_asked : Asked
+abbrev pub every_asked : ClaimText
 every_asked = record {
   paths = codes "block.rle" ∷ codes "glider.rle" ∷ [];
   rules = [];
@@ -69,11 +69,11 @@ every_asked = record {
 }
 
 -- a rule table after two names of one path
-abbrev pub table_text : List ℕ
-table_text = text_of (codes "load a p" ∷ codes "load b p" ∷ codes "rule r" ∷ [])
+abbrev pub rule_line_text : List ℕ
+rule_line_text = text_of (codes "load a p" ∷ codes "load b p" ∷ codes "rule r" ∷ [])
 
 -- what its lines say
-abbrev pub table_said : List (Option Line)
+abbrev pub table_said : List (Option ClaimTextLine)
 table_said = Some (Load (codes "a") (codes "p")) ∷ Some (Load (codes "b") (codes "p")) ∷ Some (Rule (codes "r")) ∷ []
 
 -- rule tables before and after a name and a claim, one of them on two lines
@@ -81,13 +81,13 @@ abbrev pub tables_text : List ℕ
 tables_text = text_of (codes "rule r" ∷ codes "load a p" ∷ codes "still a" ∷ codes "rule q" ∷ codes "rule r" ∷ [])
 
 -- what its lines say
-abbrev pub tables_said : List (Option Line)
+abbrev pub tables_said : List (Option ClaimTextLine)
 tables_said =
     Some (Rule (codes "r")) ∷ Some (Load (codes "a") (codes "p")) ∷ Some (Claims (still_of (codes "a")))
     ∷ Some (Rule (codes "q")) ∷ Some (Rule (codes "r")) ∷ []
 
 -- what it asks: the path on two lines is one of the files, and two of the rule tables
-abbrev pub tables_asked : Asked
+abbrev pub tables_asked : ClaimText
 tables_asked = record {
   paths = codes "r" ∷ codes "p" ∷ codes "q" ∷ [];
   rules = codes "r" ∷ codes "q" ∷ codes "r" ∷ [];
@@ -96,7 +96,7 @@ tables_asked = record {
 }
 
 -- a name that no claim is about
-abbrev pub spare_said : List (Option Line)
+abbrev pub spare_said : List (Option ClaimTextLine)
 spare_said = Some (Load (codes "a") (codes "p")) ∷ Some (Load (codes "b") (codes "q")) ∷ Some (Claims (still_of (codes "a"))) ∷ []
 
 -- two paths where there may be one
@@ -133,7 +133,7 @@ no_period_text = codes "oscillator b 1"
 
 -- the next state under Conway's Life, `B3/S23`
 abbrev pub life : List ℕ → ℕ
-life = next_of Moore (counts_of (codes "3")) (counts_of (codes "23"))
+life = bs_next Moore (counts_of (codes "3")) (counts_of (codes "23"))
 
 -- three cells in a row, from (0, 0) to the right
 abbrev pub blinker : Picture

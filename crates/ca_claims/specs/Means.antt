@@ -9,7 +9,7 @@ use Rattle.ca_rle.specs.File as rle
 use Rattle.ca_rle.specs.Limits.{IsWithinLimits}
 use Rattle.ca_rle.specs.Shown as rle_shown
 use Rattle.ca_macro.specs.File as macrocell
-use Rattle.ca_macro.specs.Limits.{IsWithinRange}
+use Rattle.ca_macro.specs.Limits.{IsMacrocellWithinRange}
 use Rattle.ca_macro.specs.Shown as macrocell_shown
 use Rattle.ca_macro.specs.Faults as macrocell_faults
 use Rattle.ca_macro.specs.declared.fault.MacroFault.TheVariants as macrocell_fault
@@ -32,10 +32,10 @@ format_of bytes = if macrocell.begins_macro bytes then Mc else Rle
 
 -- the bytes are a text of this format that holds a picture, a rule text and a generation
 abbrev pub MeansAs : Format → List ℕ → Picture → List ℕ → ℕ → Type 0
-MeansAs Rle bytes cells rule_text generation = (file : rle.File) × rle.IsFile bytes file
-    × (cells ≡ rle_shown.picture_of file.corner file.items) × (rule_text ≡ file.rule_text) × (generation ≡ file.generation)
-MeansAs Mc bytes cells rule_text generation = (file : macrocell.File) × macrocell.IsFile bytes file
-    × (cells ≡ macrocell_shown.picture_of file.nodes) × (rule_text ≡ file.rule_text) × (generation ≡ file.generation)
+MeansAs Rle bytes cells rule_text generation = (file : rle.RleFile) × rle.IsRleFile bytes file
+    × (cells ≡ rle_shown.picture_of_items file.corner file.items) × (rule_text ≡ file.rule_text) × (generation ≡ file.generation)
+MeansAs Mc bytes cells rule_text generation = (file : macrocell.MacrocellFile) × macrocell.IsMacrocellFile bytes file
+    × (cells ≡ macrocell_shown.picture_of_nodes file.nodes) × (rule_text ≡ file.rule_text) × (generation ≡ file.generation)
 
 -- the bytes of a file mean a picture, a rule text and a generation
 abbrev pub Means : List ℕ → Picture → List ℕ → ℕ → Type 0
@@ -43,8 +43,8 @@ Means bytes cells rule_text generation = MeansAs (format_of bytes) bytes cells r
 
 -- the bytes are a text of this format, and pass none of its limits
 abbrev pub IsReadableAs : Format → List ℕ → Type 0
-IsReadableAs Rle bytes = (file : rle.File) × rle.IsFile bytes file × IsWithinLimits file
-IsReadableAs Mc bytes = (file : macrocell.File) × macrocell.IsFile bytes file × IsWithinRange file
+IsReadableAs Rle bytes = (file : rle.RleFile) × rle.IsRleFile bytes file × IsWithinLimits file
+IsReadableAs Mc bytes = (file : macrocell.MacrocellFile) × macrocell.IsMacrocellFile bytes file × IsMacrocellWithinRange file
 
 -- the bytes mean a pattern and pass no limit
 abbrev pub IsReadable : List ℕ → Type 0
@@ -70,7 +70,7 @@ HasRuleFault bytes tables fault = (cells : Picture) × (rule_text : List ℕ) ×
 -- kept as their lines come
 abbrev pub MayWantMemoryAs : Format → List ℕ → Type 0
 MayWantMemoryAs Rle bytes = IsReadableAs Rle bytes
-MayWantMemoryAs Mc bytes = macrocell_faults.IsFaultOf bytes macrocell_fault.Memory
+MayWantMemoryAs Mc bytes = macrocell_faults.IsMacrocellFault bytes macrocell_fault.Memory
 
 -- memory may run out where these bytes are read
 abbrev pub MayWantMemory : List ℕ → Type 0

@@ -30,5 +30,5 @@ HasNote (No (Earlier m dx dy)) = ⊥
 HasNote (Refused cause) = IsOfClaim cause → ⊥
 
 -- where the verdict has a note, it is given
-abbrev pub IsGiven : Verdict → Note → Type 0
-IsGiven verdict note = HasNote verdict → note ≢ Nothing
+abbrev pub HasItsNote : Verdict → Note → Type 0
+HasItsNote verdict note = HasNote verdict → note ≢ Nothing

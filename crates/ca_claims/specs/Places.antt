@@ -17,8 +17,8 @@ pub record IsAsked (paths : List (List ℕ)) (claim : ClaimOf ℕ) : Type 0 wher
   pub numbers : HasGoodNumbers claim.kind
 
 -- the claim about the paths at its indices, with the number of its line
-abbrev pub numbered : List (List ℕ) → ClaimLine ℕ → ℕ × Claim
-numbered paths l = (l.line, about (path_at paths) l.claim)
+abbrev pub claim_with_paths : List (List ℕ) → ClaimLine ℕ → ℕ × Claim
+claim_with_paths paths l = (l.line, about (path_at paths) l.claim)
 
 -- the name and the path at their indices
 abbrev pub named_at : List (List ℕ) → List (List ℕ) → Place → List ℕ × List ℕ
@@ -29,8 +29,8 @@ abbrev pub named_path : List (List ℕ) → Named → List ℕ × List ℕ
 named_path paths n = (n.name.now, path_at paths n.path)
 
 -- the claim about the names and paths at its indices, with the number of its line
-abbrev pub named : List (List ℕ) → List (List ℕ) → ClaimLine Place → ℕ × ClaimOf (List ℕ × List ℕ)
-named names paths l = (l.line, about (named_at names paths) l.claim)
+abbrev pub claim_with_names : List (List ℕ) → List (List ℕ) → ClaimLine Place → ℕ × ClaimOf (List ℕ × List ℕ)
+claim_with_names names paths l = (l.line, about (named_at names paths) l.claim)
 
 -- the claim's patterns have names and paths among these, and its numbers are good
 pub record IsNamed (names paths : List (List ℕ)) (claim : ClaimOf Place) : Type 0 where

@@ -46,10 +46,10 @@ HasGoodNumbers (Spaceship period dx dy) = (1 ≤ period) × (period ≤ longest_
 HasGoodNumbers (Becomes generations) = generations ≤ most_generations
 
 -- what a line says: that a rule table is at a path, that a name is loaded from a path, or a claim
-pub data Line : Type 0 where
-  Rule : (path : List ℕ) → Line
-  Load : (name path : List ℕ) → Line
-  Claims : (claim : Claim) → Line
+pub data ClaimTextLine : Type 0 where
+  Rule : (path : List ℕ) → ClaimTextLine
+  Load : (name path : List ℕ) → ClaimTextLine
+  Claims : (claim : Claim) → ClaimTextLine
 
 -- a line without words says nothing, nor does one whose first word begins with `#`
 abbrev pub is_skipped : List (List ℕ) → Bool
@@ -68,49 +68,49 @@ WordsClaim words name other (Becomes generations) = (n : List ℕ) × (second : 
     (words ≡ codes "becomes" ∷ name ∷ n ∷ second ∷ []) × AreDigits n × (generations ≡ value n) × (other ≡ Some second)
 
 -- what a line says by its words: `rule PATH`, `load NAME PATH`, or a claim
-abbrev pub WordsSay : List (List ℕ) → Line → Type 0
-WordsSay words (Rule path) = words ≡ codes "rule" ∷ path ∷ []
-WordsSay words (Load name path) = words ≡ codes "load" ∷ name ∷ path ∷ []
-WordsSay words (Claims claim) = WordsClaim words claim.pattern claim.other claim.kind
+abbrev pub ClaimWordsSay : List (List ℕ) → ClaimTextLine → Type 0
+ClaimWordsSay words (Rule path) = words ≡ codes "rule" ∷ path ∷ []
+ClaimWordsSay words (Load name path) = words ≡ codes "load" ∷ name ∷ path ∷ []
+ClaimWordsSay words (Claims claim) = WordsClaim words claim.pattern claim.other claim.kind
 
 -- the path that a name is loaded from
-abbrev pub path_of : List Line → List ℕ → Option (List ℕ)
+abbrev pub path_of : List ClaimTextLine → List ℕ → Option (List ℕ)
 path_of [] name = None
 path_of (Rule path ∷ ls) name = path_of ls name
 path_of (Load loaded path ∷ ls) name = if bytes_eq loaded name then Some path else path_of ls name
 path_of (Claims claim ∷ ls) name = path_of ls name
 
 -- each of the names is loaded on one of the lines
-abbrev pub AreLoaded : List Line → List (List ℕ) → Type 0
+abbrev pub AreLoaded : List ClaimTextLine → List (List ℕ) → Type 0
 AreLoaded earlier names = AllByRecursion (λ n. IsSome (path_of earlier n)) names
 
 -- a rule table may be anywhere; a name is loaded once; and a claim has good numbers, and its names are loaded on earlier lines
-abbrev pub IsAllowed : List Line → Line → Type 0
-IsAllowed earlier (Rule path) = Unit {0}
-IsAllowed earlier (Load name path) = path_of earlier name ≡ None
-IsAllowed earlier (Claims claim) = HasGoodNumbers claim.kind × AreLoaded earlier (patterns_of claim)
+abbrev pub IsAllowedLine : List ClaimTextLine → ClaimTextLine → Type 0
+IsAllowedLine earlier (Rule path) = Unit {0}
+IsAllowedLine earlier (Load name path) = path_of earlier name ≡ None
+IsAllowedLine earlier (Claims claim) = HasGoodNumbers claim.kind × AreLoaded earlier (patterns_of claim)
 
 -- lines that follow what earlier ones say, and what each of them says
-abbrev pub LinesSay : List Line → List (List ℕ) → List (Option Line) → Type 0
-LinesSay earlier [] [] = Unit {0}
-LinesSay earlier [] (s ∷ said) = ⊥
-LinesSay earlier (l ∷ ls) [] = ⊥
-LinesSay earlier (l ∷ ls) (None ∷ said) = (is_skipped (words_of l) ≡ true) × LinesSay earlier ls said
-LinesSay earlier (l ∷ ls) (Some line ∷ said) =
-    (is_skipped (words_of l) ≡ false) × WordsSay (words_of l) line × IsAllowed earlier line × LinesSay (earlier ++ line ∷ []) ls said
+abbrev pub ClaimLinesSay : List ClaimTextLine → List (List ℕ) → List (Option ClaimTextLine) → Type 0
+ClaimLinesSay earlier [] [] = Unit {0}
+ClaimLinesSay earlier [] (s ∷ said) = ⊥
+ClaimLinesSay earlier (l ∷ ls) [] = ⊥
+ClaimLinesSay earlier (l ∷ ls) (None ∷ said) = (is_skipped (words_of l) ≡ true) × ClaimLinesSay earlier ls said
+ClaimLinesSay earlier (l ∷ ls) (Some line ∷ said) =
+    (is_skipped (words_of l) ≡ false) × ClaimWordsSay (words_of l) line × IsAllowedLine earlier line × ClaimLinesSay (earlier ++ line ∷ []) ls said
 
 -- the bytes are a claim text, whose lines say this, one after another
-abbrev pub IsClaimText : List ℕ → List (Option Line) → Type 0
-IsClaimText bytes said = LinesSay [] (lines_of bytes) said
+abbrev pub IsClaimText : List ℕ → List (Option ClaimTextLine) → Type 0
+IsClaimText bytes said = ClaimLinesSay [] (lines_of bytes) said
 
 -- what the lines say that aren't skipped
-abbrev pub spoken : List (Option Line) → List Line
+abbrev pub spoken : List (Option ClaimTextLine) → List ClaimTextLine
 spoken [] = []
 spoken (None ∷ said) = spoken said
 spoken (Some line ∷ said) = line ∷ spoken said
 
 -- the paths of the rule tables, in the order of their lines
-abbrev pub rule_paths : List (Option Line) → List (List ℕ)
+abbrev pub rule_paths : List (Option ClaimTextLine) → List (List ℕ)
 rule_paths [] = []
 rule_paths (None ∷ said) = rule_paths said
 rule_paths (Some (Rule path) ∷ said) = path ∷ rule_paths said
@@ -118,7 +118,7 @@ rule_paths (Some (Load name path) ∷ said) = rule_paths said
 rule_paths (Some (Claims claim) ∷ said) = rule_paths said
 
 -- the paths of the rule tables and of the names that are loaded, in the order of their lines
-abbrev pub file_paths : List (Option Line) → List (List ℕ)
+abbrev pub file_paths : List (Option ClaimTextLine) → List (List ℕ)
 file_paths [] = []
 file_paths (None ∷ said) = file_paths said
 file_paths (Some (Rule path) ∷ said) = path ∷ file_paths said
@@ -126,13 +126,13 @@ file_paths (Some (Load name path) ∷ said) = path ∷ file_paths said
 file_paths (Some (Claims claim) ∷ said) = file_paths said
 
 -- each once, in the order in which they first appear
-abbrev pub each_once : List (List ℕ) → List (List ℕ)
-each_once [] = []
-each_once (p ∷ ps) = p ∷ filter (λ q. not (bytes_eq q p)) (each_once ps)
+abbrev pub paths_once : List (List ℕ) → List (List ℕ)
+paths_once [] = []
+paths_once (p ∷ ps) = p ∷ filter (λ q. not (bytes_eq q p)) (paths_once ps)
 
 -- the claims with the numbers of their lines, of which the first is n; each about names, with the paths that earlier lines
 -- load them from
-abbrev pub claims_from : ℕ → List Line → List (Option Line) → List (ℕ × ClaimOf (List ℕ × List ℕ))
+abbrev pub claims_from : ℕ → List ClaimTextLine → List (Option ClaimTextLine) → List (ℕ × ClaimOf (List ℕ × List ℕ))
 claims_from n earlier [] = []
 claims_from n earlier (None ∷ said) = claims_from (n + 1) earlier said
 claims_from n earlier (Some (Rule path) ∷ said) = claims_from (n + 1) (earlier ++ Rule path ∷ []) said
@@ -150,16 +150,16 @@ named_patterns c = patterns_of c.1
 
 -- what a claim text asks: the paths of its files, each once; those of the rule tables, one for each of their lines; its claims
 -- with the numbers of their lines; and for each claim the names and paths of its patterns
-pub record Asked : Type 0 where
+pub record ClaimText : Type 0 where
   pub paths : List (List ℕ)
   pub rules : List (List ℕ)
   pub claims : List (ℕ × Claim)
   pub patterns : List (List (List ℕ × List ℕ))
 
 -- what the lines of a text ask; lines are counted from 1, skipped ones too
-abbrev pub asked_by : List (Option Line) → Asked
+abbrev pub asked_by : List (Option ClaimTextLine) → ClaimText
 asked_by said = record {
-  paths = each_once (file_paths said);
+  paths = paths_once (file_paths said);
   rules = rule_paths said;
   claims = map by_path (claims_from 1 [] said);
   patterns = map named_patterns (claims_from 1 [] said);

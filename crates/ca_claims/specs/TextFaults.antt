@@ -3,45 +3,45 @@ use Rattle.std.specs.Prelude.{◌≡◌, ℕ, ◌+◌, List, [], ◌∷◌, ◌+
 use Rattle.ca_plane.specs.Bytes.{lines_of, words_of}
 use Rattle.ca_claims.specs.declared.fault.ClaimFault.{ClaimFault}
 use Rattle.ca_claims.specs.declared.fault.ClaimFault.TheVariants.{Syntax, Number, UnknownName, NameTaken, Memory}
-use Rattle.ca_claims.specs.Text.{Claim, patterns_of, HasGoodNumbers, Line, Load, Claims, is_skipped, WordsSay, path_of, AreLoaded, IsAllowed, LinesSay, spoken}
+use Rattle.ca_claims.specs.Text.{Claim, patterns_of, HasGoodNumbers, ClaimTextLine, Load, Claims, is_skipped, ClaimWordsSay, path_of, AreLoaded, IsAllowedLine, ClaimLinesSay, spoken}
 
 -- good lines are followed by a line, the n-th of the text; this holds of what the good lines say, and of its words
-pub record HasLine (bytes : List ℕ) (n : ℕ) (P : List Line → List (List ℕ) → Type 0) : Type 0 where
+pub record HasClaimLine (bytes : List ℕ) (n : ℕ) (P : List ClaimTextLine → List (List ℕ) → Type 0) : Type 0 where
   pub before : List (List ℕ)
   pub line : List ℕ
   pub later : List (List ℕ)
-  pub said : List (Option Line)
-  pub good : LinesSay [] before said
+  pub said : List (Option ClaimTextLine)
+  pub good : ClaimLinesSay [] before said
   pub among : lines_of bytes ≡ before ++ line ∷ later
   pub number : n ≡ length before + 1
   pub holds : P (spoken said) (words_of line)
 
 -- the words say nothing that a line may say: another keyword, another count of words, or no number where there must be one
-abbrev pub AreMisspelled : List Line → List (List ℕ) → Type 0
-AreMisspelled earlier words = (is_skipped words ≡ false) × ((line : Line) → WordsSay words line → ⊥)
+abbrev pub AreMisspelledClaimWords : List ClaimTextLine → List (List ℕ) → Type 0
+AreMisspelledClaimWords earlier words = (is_skipped words ≡ false) × ((line : ClaimTextLine) → ClaimWordsSay words line → ⊥)
 
 -- a claim with a number outside its limits
-abbrev pub HaveBadNumber : List Line → List (List ℕ) → Type 0
-HaveBadNumber earlier words = (is_skipped words ≡ false) × (claim : Claim) × WordsSay words (Claims claim) × (HasGoodNumbers claim.kind → ⊥)
+abbrev pub HaveBadNumber : List ClaimTextLine → List (List ℕ) → Type 0
+HaveBadNumber earlier words = (is_skipped words ≡ false) × (claim : Claim) × ClaimWordsSay words (Claims claim) × (HasGoodNumbers claim.kind → ⊥)
 
 -- a claim with good numbers, about a name that no earlier line loads
-abbrev pub AskUnknown : List Line → List (List ℕ) → Type 0
+abbrev pub AskUnknown : List ClaimTextLine → List (List ℕ) → Type 0
 AskUnknown earlier words =
-    (is_skipped words ≡ false) × (claim : Claim) × WordsSay words (Claims claim) × HasGoodNumbers claim.kind × (AreLoaded earlier (patterns_of claim) → ⊥)
+    (is_skipped words ≡ false) × (claim : Claim) × ClaimWordsSay words (Claims claim) × HasGoodNumbers claim.kind × (AreLoaded earlier (patterns_of claim) → ⊥)
 
 -- a name that an earlier line loads is loaded again
-abbrev pub LoadTaken : List Line → List (List ℕ) → Type 0
+abbrev pub LoadTaken : List ClaimTextLine → List (List ℕ) → Type 0
 LoadTaken earlier words =
-    (is_skipped words ≡ false) × (name : List ℕ) × (path : List ℕ) × WordsSay words (Load name path) × IsSome (path_of earlier name)
+    (is_skipped words ≡ false) × (name : List ℕ) × (path : List ℕ) × ClaimWordsSay words (Load name path) × IsSome (path_of earlier name)
 
 -- a good line: a rule table, a name that no earlier line loads, or a claim with good numbers about names that earlier lines load
-abbrev pub AreAllowed : List Line → List (List ℕ) → Type 0
-AreAllowed earlier words = (is_skipped words ≡ false) × (line : Line) × WordsSay words line × IsAllowed earlier line
+abbrev pub AreAllowed : List ClaimTextLine → List (List ℕ) → Type 0
+AreAllowed earlier words = (is_skipped words ≡ false) × (line : ClaimTextLine) × ClaimWordsSay words line × IsAllowedLine earlier line
 
 -- the text's first fault, with the number of its line; a text is out of memory only at a good line after good lines
-abbrev pub IsFirstFault : List ℕ → ClaimFault → Type 0
-IsFirstFault bytes (Syntax n) = HasLine bytes n AreMisspelled
-IsFirstFault bytes (Number n) = HasLine bytes n HaveBadNumber
-IsFirstFault bytes (UnknownName n) = HasLine bytes n AskUnknown
-IsFirstFault bytes (NameTaken n) = HasLine bytes n LoadTaken
-IsFirstFault bytes Memory = (n : ℕ) × HasLine bytes n AreAllowed
+abbrev pub IsFirstClaimFault : List ℕ → ClaimFault → Type 0
+IsFirstClaimFault bytes (Syntax n) = HasClaimLine bytes n AreMisspelledClaimWords
+IsFirstClaimFault bytes (Number n) = HasClaimLine bytes n HaveBadNumber
+IsFirstClaimFault bytes (UnknownName n) = HasClaimLine bytes n AskUnknown
+IsFirstClaimFault bytes (NameTaken n) = HasClaimLine bytes n LoadTaken
+IsFirstClaimFault bytes Memory = (n : ℕ) × HasClaimLine bytes n AreAllowed

@@ -22,13 +22,13 @@ asks_of (Spaceship period dx dy) = record { live = true; generations = period; w
 asks_of (Becomes generations) = record { live = false; generations = generations; wanted = Other; dx = pos 0; dy = pos 0; barred = Nothing }
 
 -- the cells that are wanted: the pattern's own, or the other's
-abbrev pub whose : Wanted → Picture → Picture → Picture
-whose Own cells other = cells
-whose Other cells other = other
+abbrev pub wanted_cells : Wanted → Picture → Picture → Picture
+wanted_cells Own cells other = cells
+wanted_cells Other cells other = other
 
 -- the claimed cells: those that are wanted, moved by the vector
 abbrev pub claimed : Asks → Picture → Picture → Picture
-claimed asks cells other = shifted (whose asks.wanted cells other) asks.dx asks.dy
+claimed asks cells other = shifted (wanted_cells asks.wanted cells other) asks.dx asks.dy
 
 -- after n generations some cell isn't what it was
 abbrev pub IsChanged : (List ℕ → ℕ) → Picture → ℕ → Type 0

@@ -4,7 +4,7 @@ ghost use Rattle.std.specs.Prelude.{◌≡◌, ◌≢◌, ℕ, ◌<◌, [], Some
 ghost use Rattle.std.specs.Prelude.{MatchOption, OnErr, IsTrue, ◌↔◌};
 ghost use Rattle.std.specs.List.{AllByRecursion, AllZip, IsDistinct};
 ghost use Rattle.std.specs.Str.{bytes_eq};
-ghost use Rattle.ca_claims.specs.Places.{path_at, numbered, named_path, IsAsked};
+ghost use Rattle.ca_claims.specs.Places.{path_at, claim_with_paths, named_path, IsAsked};
 ghost use Rattle.ca_claims.specs.inner.Patterns.{items};
 ghost use Rattle.ca_claims.specs.Needed.{IsNeeded};
 ghost use Rattle.ca_claims.specs.Text.{Claim as TextClaim, patterns_of};
@@ -40,17 +40,17 @@ pub struct Claims {
 
 impl Model for Claims {
     ghost use Rattle.std.specs.Prelude.{map, length, ◌<◌, All};
-    ghost use Rattle.ca_claims.specs.Text.{Asked, by_path, named_patterns};
-    ghost use Rattle.ca_claims.specs.Places.{path_at, named, IsNamed};
+    ghost use Rattle.ca_claims.specs.Text.{ClaimText, by_path, named_patterns};
+    ghost use Rattle.ca_claims.specs.Places.{path_at, claim_with_names, IsNamed};
 
-    ghost Value = { Asked };
+    ghost Value = { ClaimText };
 
     ghost view = { λ c. record {
       paths = c.paths;
       rules = map (path_at c.paths) c.rules.items;
-      claims = map by_path (map (named (map (λ name. name.items) c.names.items) c.paths) c.claims.items);
+      claims = map by_path (map (claim_with_names (map (λ name. name.items) c.names.items) c.paths) c.claims.items);
       patterns = map named_patterns
-          (map (named (map (λ name. name.items) c.names.items) c.paths) c.claims.items);
+          (map (claim_with_names (map (λ name. name.items) c.names.items) c.paths) c.claims.items);
     } };
 
     ghost invariant = { λ c. All (λ i. i < length c.paths) c.rules.items
@@ -136,7 +136,7 @@ impl Claims {
     /// The claim with this index, counted from 0 in the order of the lines, about the indices of its paths.
     pub(crate) fn claim(&self, index: usize) -> ClaimLine<usize>
         requires { index < length self.now.claims }
-        ensures claim { slice_get self.now.claims index ≡ Some (numbered self.now.paths result) }
+        ensures claim { slice_get self.now.claims index ≡ Some (claim_with_paths self.now.paths result) }
         ensures asked { IsAsked self.now.paths result.claim }
     {
         let kept = self.claims[index];

@@ -6,11 +6,11 @@ ghost use Rattle.ca_plane.specs.Generations.{after, IsAfter};
 ghost use Rattle.ca_plane.specs.Box.{LeavesPlane};
 ghost use Rattle.ca_quad.specs.Boxes.{IsDead};
 ghost use Rattle.ca_quad.specs.Trees.{cell};
-ghost use Rattle.ca_run.specs.Leaping.{GoesOn};
+ghost use Rattle.ca_run.specs.Leaping.{LeaperGrows};
 ghost use Rattle.ca_claims.specs.Truth.{claimed, IsTrueClaim, IsReason};
 ghost use Rattle.ca_claims.specs.inner.Decided.{IsDecided};
-ghost use Rattle.ca_claims.specs.inner.Subjects.{ShowsTree, IsPattern, IsNear, IsCase, AreShown, HasLive};
-ghost use Rattle.ca_claims.specs.inner.Subjects.{IsEnd, IsMoved, IsDifference, wanted_tree};
+ghost use Rattle.ca_claims.specs.inner.Subjects.{ShowsTree, IsPattern, IsNearTree, IsCase, AreShown, HasLive};
+ghost use Rattle.ca_claims.specs.inner.Subjects.{IsEndTree, IsMoved, IsDifference, wanted_tree};
 
 mod divisors;
 mod returns;
@@ -120,7 +120,7 @@ fn find_wrong_cell<A: Automaton, O: Observer>(
         (IsDifference (after (A.next_of leaper.old.rule) cells case.now.asks.generations)
         (plane_cell (claimed case.now.asks cells other))
         case.now.asks.generations)) }
-    ensures goes_on { GoesOn A leaper.old leaper.new }
+    ensures goes_on { LeaperGrows A leaper.old leaper.new }
 {
     // Says what holds of every leaper.
     let _ = leaper.store();
@@ -133,10 +133,10 @@ fn find_wrong_cell<A: Automaton, O: Observer>(
 // The tree of the claimed cells.
 fn claimed_tree<A: Automaton>(leaper: &mut Leaper<A>, case: &Case) -> Result<Tree, Memory>
     requires { IsCase leaper.old.nodes case.now }
-    ensures near { IfOk result (IsNear leaper.new.nodes) }
+    ensures near { IfOk result (IsNearTree leaper.new.nodes) }
     ensures shows { (cells other : Picture) → AreShown leaper.old.nodes case.now.subject cells other
         → IfOk result (λ tree. ShowsTree leaper.new.nodes tree (claimed case.now.asks cells other)) }
-    ensures goes_on { GoesOn A leaper.old leaper.new }
+    ensures goes_on { LeaperGrows A leaper.old leaper.new }
 {
     // Says what holds of every leaper.
     let _ = leaper.store();
@@ -180,8 +180,8 @@ pub(crate) fn tree_after<A: Automaton, O: Observer>(
     requires pattern { IsPattern leaper.old.nodes pattern.now }
     requires few { generations ≤ 2 ^ 60 }
     ensures end { IfOk result
-        (IsEnd (A.next_of leaper.old.rule) leaper.old.nodes pattern.now generations leaper.new.nodes) }
-    ensures goes_on { GoesOn A leaper.old leaper.new }
+        (IsEndTree (A.next_of leaper.old.rule) leaper.old.nodes pattern.now generations leaper.new.nodes) }
+    ensures goes_on { LeaperGrows A leaper.old leaper.new }
 {
     // Says what holds of every leaper.
     let _ = leaper.store();
@@ -199,12 +199,12 @@ fn find_difference<A: Automaton>(
     wanted: Tree,
     gens: u64,
 ) -> Result<Option<Why>, Memory>
-    requires end { IsNear leaper.old.nodes end }
-    requires wanted { IsNear leaper.old.nodes wanted }
+    requires end { IsNearTree leaper.old.nodes end }
+    requires wanted { IsNearTree leaper.old.nodes wanted }
     ensures difference { IfOk result (λ why. MatchOption why
         ((x y : ℤ) → cell leaper.old.nodes end x y ≡ cell leaper.old.nodes wanted x y)
         (IsDifference (cell leaper.old.nodes end) (cell leaper.old.nodes wanted) gens)) }
-    ensures goes_on { GoesOn A leaper.old leaper.new }
+    ensures goes_on { LeaperGrows A leaper.old leaper.new }
 {
     // Says what holds of every leaper.
     let _ = leaper.store();
@@ -228,8 +228,8 @@ fn difference_of(
     found: Option<Spot>,
     gens: u64,
 ) -> Option<Why>
-    requires end { IsNear store.now end }
-    requires wanted { IsNear store.now wanted }
+    requires end { IsNearTree store.now end }
+    requires wanted { IsNearTree store.now wanted }
     requires other { IfSome found (λ at. cell store.now end at.x at.y ≢ cell store.now wanted at.x at.y) }
     ensures { MatchOption result (found ≡ None)
         (IsDifference (cell store.now end) (cell store.now wanted) gens) }
@@ -240,8 +240,8 @@ fn difference_of(
 
 // The cells of two trees at a place where they differ.
 fn difference_at(store: &Store, end: Tree, wanted: Tree, at: Spot, gens: u64) -> Why
-    requires end { IsNear store.now end }
-    requires wanted { IsNear store.now wanted }
+    requires end { IsNearTree store.now end }
+    requires wanted { IsNearTree store.now wanted }
     requires other { cell store.now end at.x at.y ≢ cell store.now wanted at.x at.y }
     ensures { IsDifference (cell store.now end) (cell store.now wanted) gens result }
 {
@@ -272,7 +272,7 @@ pub(crate) fn moved_tree<A: Automaton>(
 ) -> Result<Option<Tree>, Memory>
     ensures moved { IfOk result
         (λ tree. MatchOption tree (LeavesPlane plane.now dx dy) (IsMoved plane.now dx dy leaper.new.nodes)) }
-    ensures goes_on { GoesOn A leaper.old leaper.new }
+    ensures goes_on { LeaperGrows A leaper.old leaper.new }
 {
     // Says what holds of every leaper.
     let _ = leaper.store();

@@ -10,7 +10,7 @@ ghost use Rattle.ca_quad.specs.Trees.{IsTree, cell};
 ghost use Rattle.ca_quad.specs.Trimmed.{IsTrimmed};
 ghost use Rattle.ca_macro.specs.Pattern.{AreInRange};
 ghost use Rattle.ca_claims.specs.Converted.{IsSummary, IsSummaryFault};
-ghost use Rattle.ca_claims.specs.inner.Glance.{IsNear, IsTold};
+ghost use Rattle.ca_claims.specs.inner.Glance.{AreNearBounds, IsTold};
 
 use crate::conversion::ConvertFault;
 use crate::pattern::Summary;
@@ -73,7 +73,7 @@ fn bounds_of(alloc: Global, store: &Store, tree: Tree) -> Result<Option<Bounds>,
 
 /// A box that lies near the middle of the plane.
 fn narrowed(bounds: WideBounds) -> Bounds
-    requires { IsNear bounds }
+    requires { AreNearBounds bounds }
     ensures x0 { result.x0 ≡ bounds.x0 }
     ensures y0 { result.y0 ≡ bounds.y0 }
     ensures x1 { result.x1 ≡ bounds.x1 }

@@ -5,7 +5,7 @@ ghost use Rattle.std.specs.Prelude.{MatchOption};
 ghost use Rattle.std.specs.Option.{option_copied};
 ghost use Rattle.ca_claims.specs.Means.{contents, bytes_at};
 ghost use Rattle.ca_claims.specs.Judging.{Judges, JudgesAndNotes, IsDone};
-ghost use Rattle.ca_claims.specs.Notes.{IsGiven};
+ghost use Rattle.ca_claims.specs.Notes.{HasItsNote};
 ghost use Rattle.ca_claims.specs.inner.Kept.{AreFound, IsAnswerTo};
 ghost use Rattle.ca_claims.specs.inner.Tables.{AreRead};
 
@@ -98,7 +98,7 @@ impl<'a> Judge<'a> {
     pub fn next_noted(&mut self) -> Option<(Answer, Note<'a>)>
         ensures noted { MatchOption result (IsDone self.old self.new)
             (λ noted. JudgesAndNotes self.old self.new noted.0 noted.1) }
-        ensures given { IfSome result (λ noted. IsGiven noted.0.verdict noted.1) }
+        ensures given { IfSome result (λ noted. HasItsNote noted.0.verdict noted.1) }
     {
         self.next_noted_watched(&mut Unwatched)
     }
@@ -110,7 +110,7 @@ impl<'a> Judge<'a> {
     ) -> Option<(Answer, Note<'a>)>
         ensures noted { MatchOption result (IsDone self.old self.new)
             (λ noted. JudgesAndNotes self.old self.new noted.0 noted.1) }
-        ensures given { IfSome result (λ noted. IsGiven noted.0.verdict noted.1) }
+        ensures given { IfSome result (λ noted. HasItsNote noted.0.verdict noted.1) }
     {
         if self.index == self.claims.claim_count() {
             return None;

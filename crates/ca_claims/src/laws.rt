@@ -1,11 +1,11 @@
 //! Laws of claim texts, which no call needs to run.
 
 ghost use Rattle.std.specs.Prelude.{◌≡◌, ◌≢◌, ℕ, List, [], ◌∷◌, Option, codes};
-ghost use Rattle.ca_claims.specs.Text.{Line, IsClaimText, asked_by};
+ghost use Rattle.ca_claims.specs.Text.{ClaimTextLine, IsClaimText, asked_by};
 ghost use Rattle.ca_claims.specs.Needed.{IsNeeded};
-ghost use Rattle.ca_claims.specs.TextFaults.{IsFirstFault};
+ghost use Rattle.ca_claims.specs.TextFaults.{IsFirstClaimFault};
 ghost use Rattle.ca_claims.specs.Examples.{block_text, block_said, block_asked, every_text, every_said};
-ghost use Rattle.ca_claims.specs.Examples.{every_asked, table_text, table_said, tables_text, tables_said};
+ghost use Rattle.ca_claims.specs.Examples.{every_asked, rule_line_text, table_said, tables_text, tables_said};
 ghost use Rattle.ca_claims.specs.Examples.{tables_asked, spare_said, two_tables_text, unknown_text};
 ghost use Rattle.ca_claims.specs.Examples.{other_unknown_text, taken_text, misspelled_text, no_number_text};
 ghost use Rattle.ca_claims.specs.Examples.{no_shift_text, no_period_text};
@@ -14,20 +14,20 @@ ghost use Rattle.ca_claims.specs.declared.fault.ClaimFault.TheVariants as fault;
 
 /// A claim text has one meaning at most.
 pub fn one_meaning()
-    ensures { (bytes : List ℕ) (s t : List (Option Line)) → IsClaimText bytes s → IsClaimText bytes t
+    ensures { (bytes : List ℕ) (s t : List (Option ClaimTextLine)) → IsClaimText bytes s → IsClaimText bytes t
         → s ≡ t }
 {}
 
 /// A claim text has no fault other than out of memory.
 pub fn no_fault_in_claim_text()
-    ensures { (bytes : List ℕ) (said : List (Option Line)) (f : ClaimFault) → f ≢ fault.Memory
-        → IsClaimText bytes said → IsFirstFault bytes f → ⊥ }
+    ensures { (bytes : List ℕ) (said : List (Option ClaimTextLine)) (f : ClaimFault) → f ≢ fault.Memory
+        → IsClaimText bytes said → IsFirstClaimFault bytes f → ⊥ }
 {}
 
 /// A text has one first fault at most, apart from out of memory.
 pub fn one_fault()
-    ensures { (bytes : List ℕ) (f g : ClaimFault) → f ≢ fault.Memory → g ≢ fault.Memory → IsFirstFault bytes f
-        → IsFirstFault bytes g → f ≡ g }
+    ensures { (bytes : List ℕ) (f g : ClaimFault) → f ≢ fault.Memory → g ≢ fault.Memory → IsFirstClaimFault bytes f
+        → IsFirstClaimFault bytes g → f ≡ g }
 {}
 
 /// What the definitions say of small texts.
@@ -39,7 +39,7 @@ pub fn worked_examples()
     ensures every_line { IsClaimText every_text every_said }
     ensures every_claim { asked_by every_said ≡ every_asked }
     // A rule table after two names of one path.
-    ensures table_line { IsClaimText table_text table_said }
+    ensures table_line { IsClaimText rule_line_text table_said }
     ensures table_paths { asked_by table_said
         ≡ record { paths = codes "p" ∷ codes "r" ∷ []; rules = codes "r" ∷ []; claims = []; patterns = [] } }
     // Rule tables before and after a name and a claim.
@@ -53,13 +53,13 @@ pub fn worked_examples()
     // No lines.
     ensures empty { IsClaimText [] [] }
     // Each fault, with the number of its line.
-    ensures unknown { IsFirstFault unknown_text (fault.UnknownName 1) }
-    ensures taken { IsFirstFault taken_text (fault.NameTaken 2) }
-    ensures other_unknown { IsFirstFault other_unknown_text (fault.UnknownName 2) }
-    ensures misspelled { IsFirstFault misspelled_text (fault.Syntax 2) }
-    ensures two_tables { IsFirstFault two_tables_text (fault.Syntax 2) }
-    ensures no_number { IsFirstFault no_number_text (fault.Syntax 2) }
-    ensures no_shift { IsFirstFault no_shift_text (fault.Number 2) }
+    ensures unknown { IsFirstClaimFault unknown_text (fault.UnknownName 1) }
+    ensures taken { IsFirstClaimFault taken_text (fault.NameTaken 2) }
+    ensures other_unknown { IsFirstClaimFault other_unknown_text (fault.UnknownName 2) }
+    ensures misspelled { IsFirstClaimFault misspelled_text (fault.Syntax 2) }
+    ensures two_tables { IsFirstClaimFault two_tables_text (fault.Syntax 2) }
+    ensures no_number { IsFirstClaimFault no_number_text (fault.Syntax 2) }
+    ensures no_shift { IsFirstClaimFault no_shift_text (fault.Number 2) }
     // A number comes before an unknown name.
-    ensures no_period { IsFirstFault no_period_text (fault.Number 1) }
+    ensures no_period { IsFirstClaimFault no_period_text (fault.Number 1) }
 {}

@@ -3,8 +3,8 @@
 ghost use Rattle.std.specs.Prelude.{ℕ, ◌<◌, List, map, length};
 ghost use Rattle.std.specs.List.{AllByRecursion};
 ghost use Rattle.ca_claims.specs.Places.{path_at, named_path};
-ghost use Rattle.ca_claims.specs.Notes.{IsNote, IsGiven};
-ghost use Rattle.ca_claims.specs.inner.Patterns.{items, IsPart};
+ghost use Rattle.ca_claims.specs.Notes.{IsNote, HasItsNote};
+ghost use Rattle.ca_claims.specs.inner.Patterns.{items, IsListPart};
 ghost use Rattle.ca_claims.specs.inner.Refusals.{IsOnVerdict};
 
 use crate::claims::{Claims, Named};
@@ -25,7 +25,7 @@ pub(crate) fn note_on<'a>(
         (map (λ n. path_at claims.now.paths n.path) (items patterns.now)) judged.verdict judged.about
         → IsNote files claims.now.rules (map (named_path claims.now.paths) (items patterns.now))
         judged.verdict result
-        × IsGiven judged.verdict result }
+        × HasItsNote judged.verdict result }
 {
     match (judged.verdict, judged.about) {
         (Verdict::No(Why::Differs { .. }), _) => Note::Cell {
@@ -49,7 +49,7 @@ pub(crate) fn note_on<'a>(
 
 /// This one of a claim's patterns; the only one, where there is one.
 fn named_part<'a>(patterns: &OneOrTwo<Named<'a>>, part: Part) -> Named<'a>
-    ensures { IsPart part (items patterns.now) result }
+    ensures { IsListPart part (items patterns.now) result }
 {
     match (patterns, part) {
         (OneOrTwo::One(only), _) => *only,

@@ -18,7 +18,7 @@ use Rattle.ca_quad.proofs.Growth.{below_or_not}
 use Rattle.ca_quad.specs.inner.Measure.{Ends}
 use Rattle.ca_quad.proofs.Cells.{in_nw, in_ne, in_sw, in_se, dot_ends, together_ends}
 use Rattle.ca_quad.proofs.Edges.{off_x, off_y}
-use Rattle.ca_macro.specs.Shown.{row_from, rows_from, state_of, joined}
+use Rattle.ca_macro.specs.Shown.{row_from, rows_from, leaf_state, joined}
 use Rattle.ca_macro.specs.inner.Leaves.{row_bits, leaf_bits}
 
 -- ---- one picture after another
@@ -163,7 +163,7 @@ four_cells nw ne sw se x (suc (suc y)) = sym (together_ends 1 (dot nw) (dot ne) 
 
 -- ---- the bits of a leaf
 
-low_bit : (live : Bool) (n : ℕ) → ((if live then 1 else 0) + 2 * n) % 2 ≡ state_of live
+low_bit : (live : Bool) (n : ℕ) → ((if live then 1 else 0) + 2 * n) % 2 ≡ leaf_state live
 low_bit true n = omega arith
 low_bit false n = omega arith
 
@@ -171,12 +171,12 @@ high_bits : (live : Bool) (n : ℕ) → ((if live then 1 else 0) + 2 * n) / 2 �
 high_bits true n = omega arith
 high_bits false n = omega arith
 
-row_bit : (row : List Bool) (i : ℕ) → bit_at (row_bits row) i ≡ get_or (map state_of row) i 0
+row_bit : (row : List Bool) (i : ℕ) → bit_at (row_bits row) i ≡ get_or (map leaf_state row) i 0
 row_bit [] i = bit_at-zero i
 row_bit (live ∷ more) zero = bit_at_lowest (row_bits (live ∷ more)) ∙ low_bit live (row_bits more)
 row_bit (live ∷ more) (suc i) = bit_at-suc (row_bits (live ∷ more)) i ∙ ap (λ n. bit_at n i) (high_bits live (row_bits more)) ∙ row_bit more i
 
-pub leaf_cell : (height : ℕ) (rows : List (List Bool)) (x y : ℕ) → length rows ≤ height → row_cells (leaf_bits height rows) x y ≡ in_rows (map (map state_of) rows) x y
+pub leaf_cell : (height : ℕ) (rows : List (List Bool)) (x y : ℕ) → length rows ≤ height → row_cells (leaf_bits height rows) x y ≡ in_rows (map (map leaf_state) rows) x y
 leaf_cell zero [] x y h = bit_at-zero x
 leaf_cell zero (r ∷ rs) x y h = absurd (omega arith)
 leaf_cell (suc height) [] x zero h = bit_at-zero x
@@ -184,12 +184,12 @@ leaf_cell (suc height) [] x (suc y) h = leaf_cell height [] x y (omega arith)
 leaf_cell (suc height) (r ∷ rs) x zero h = row_bit r x
 leaf_cell (suc height) (r ∷ rs) x (suc y) h = leaf_cell height rs x y (omega arith)
 
-row_of_leaf : (row : List Bool) → AreStates (map state_of row)
+row_of_leaf : (row : List Bool) → AreStates (map leaf_state row)
 row_of_leaf [] = tt
 row_of_leaf (true ∷ row) = (omega arith, row_of_leaf row)
 row_of_leaf (false ∷ row) = (omega arith, row_of_leaf row)
 
-pub leaf_states : (rows : List (List Bool)) → AllByRecursion AreStates (map (map state_of) rows)
+pub leaf_states : (rows : List (List Bool)) → AllByRecursion AreStates (map (map leaf_state) rows)
 leaf_states [] = tt
 leaf_states (r ∷ rs) = (row_of_leaf r, leaf_states rs)
 

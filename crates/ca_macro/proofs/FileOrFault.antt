@@ -11,10 +11,10 @@ use Rattle.ca_plane.specs.Limits.{generation_limit}
 use Rattle.ca_quad.proofs.Growth.{below_or_not}
 use Rattle.ca_macro.specs.declared.fault.MacroFault.{MacroFault}
 use Rattle.ca_macro.specs.declared.fault.MacroFault.TheVariants.{NotMacro, Timeline, Syntax, Forward, Level, LeafSize, Range, GenTooLarge, Memory}
-use Rattle.ca_macro.specs.Nodes.{Node, Leaf, Cells, Parts, Names, IsLevel}
-use Rattle.ca_macro.specs.File.{Said, Nothing, Rule, Generation, Adds, AreNumbers, WordsSay, added, IsAllowed, LinesSay, File, begins_macro, IsFile}
-use Rattle.ca_macro.specs.Faults.{HasLine, is_leaf_byte, HasBadPart, AreFaulty, IsFirstFault}
-use Rattle.ca_macro.specs.inner.Leaves.{leaf_fault, cells_of, IsLeafFault}
+use Rattle.ca_macro.specs.Nodes.{Node, Leaf, Cells, Parts, NamesPart, IsLevel}
+use Rattle.ca_macro.specs.File.{MacrocellLine, Nothing, Rule, Generation, Adds, AreNumbers, MacrocellWordsSay, added, IsAllowedNode, MacrocellLinesSay, MacrocellFile, begins_macro, IsMacrocellFile}
+use Rattle.ca_macro.specs.Faults.{HasMacrocellLine, is_leaf_byte, HasBadPart, AreFaulty, IsFirstMacrocellFault}
+use Rattle.ca_macro.specs.inner.Leaves.{leaf_fault, leaf_cells, IsLeafFault}
 use Rattle.ca_macro.specs.inner.Reading.{file_of}
 use Rattle.ca_macro.proofs.Leaves.{leaf_found}
 use Rattle.ca_macro.proofs.LeafLines.{fault_none, fault_found}
@@ -24,7 +24,7 @@ use Rattle.ca_macro.proofs.Verdicts.{are_digits, digits_from_test, digits_test, 
 
 -- the words say something, or are faulty
 abbrev Judged : List Node → List (List ℕ) → Type 0
-Judged earlier words = ((s : Said) × WordsSay words s × IsAllowed earlier s) ⊎ ((f : MacroFault) × AreFaulty f earlier words)
+Judged earlier words = ((s : MacrocellLine) × MacrocellWordsSay words s × IsAllowedNode earlier s) ⊎ ((f : MacroFault) × AreFaulty f earlier words)
 
 bytes_are : (w text : List ℕ) → bytes_eq w text ≡ true → w ≡ text
 bytes_are w text e = (bytes_eq-Decides w text).0 e
@@ -86,8 +86,8 @@ bad_leaf earlier w ws f h = absurd h
 
 leaf_judged : (earlier : List Node) (w : List ℕ) (ws : List (List ℕ)) (o : Option MacroFault) → is_end_or is_leaf_byte w ≡ true → leaf_fault 8 8 w ≡ o → Judged earlier (w ∷ ws)
 leaf_judged earlier w ws (Some f) begins e = bad_leaf earlier w ws f (fault_found w f begins e)
-leaf_judged earlier w [] None begins e = inl (Adds (Leaf (cells_of w)), (w, refl, leaf_found w (fault_none w 8 8 e)), tt)
-leaf_judged earlier w (v ∷ ws) None begins e = inr (Syntax, inr (inl (w, v ∷ ws, refl, inr ((cells_of w, leaf_found w (fault_none w 8 8 e)), λ z. absurd cc))))
+leaf_judged earlier w [] None begins e = inl (Adds (Leaf (leaf_cells w)), (w, refl, leaf_found w (fault_none w 8 8 e)), tt)
+leaf_judged earlier w (v ∷ ws) None begins e = inr (Syntax, inr (inl (w, v ∷ ws, refl, inr ((leaf_cells w, leaf_found w (fault_none w 8 8 e)), λ z. absurd cc))))
 
 -- the words are five numbers, or aren't
 abbrev HasNumbers : List (List ℕ) → Type 0
@@ -132,10 +132,10 @@ numbers_or_none (a ∷ b ∷ c ∷ d ∷ e ∷ []) =
 -- numbers may name parts, or the first bad one isn't given earlier, or has another level
 abbrev Named : List Node → ℕ → List ℕ → Type 0
 Named earlier level ns =
-    AllByRecursion (Names earlier level) ns
-    ⊎ (HasBadPart earlier level ns (λ n. length earlier < n) ⊎ HasBadPart earlier level ns (λ n. (n ≤ length earlier) × (Names earlier level n → ⊥)))
+    AllByRecursion (NamesPart earlier level) ns
+    ⊎ (HasBadPart earlier level ns (λ n. length earlier < n) ⊎ HasBadPart earlier level ns (λ n. (n ≤ length earlier) × (NamesPart earlier level n → ⊥)))
 
-one_after : (earlier : List Node) (level n : ℕ) (ns : List ℕ) (P : ℕ → Type 0) → Names earlier level n → HasBadPart earlier level ns P → HasBadPart earlier level (n ∷ ns) P
+one_after : (earlier : List Node) (level n : ℕ) (ns : List ℕ) (P : ℕ → Type 0) → NamesPart earlier level n → HasBadPart earlier level ns P → HasBadPart earlier level (n ∷ ns) P
 one_after earlier level n ns P h bad = record {
   good = n ∷ bad.good;
   number = bad.number;
@@ -154,14 +154,14 @@ named_or_bad earlier level (n ∷ ns) =
     elim (below_or_not (length earlier) n) [
       | inl forward ↦ inr (inl (first_here earlier level n ns (λ m. length earlier < m) forward))
       | inr within ↦ elim (cases_Bool (names earlier level n)) [
-        | inr f ↦ inr (inr (first_here earlier level n ns (λ m. (m ≤ length earlier) × (Names earlier level m → ⊥)) (within, λ h. true≢false (sym (names_test earlier level n h) ∙ f))))
+        | inr f ↦ inr (inr (first_here earlier level n ns (λ m. (m ≤ length earlier) × (NamesPart earlier level m → ⊥)) (within, λ h. true≢false (sym (names_test earlier level n h) ∙ f))))
         | inl t ↦
             let h = names_from_test earlier level n t in
             elim (named_or_bad earlier level ns) [
               | inl all ↦ inl (h, all)
               | inr bad ↦ inr (elim bad [
                 | inl b ↦ inl (one_after earlier level n ns (λ m. length earlier < m) h b)
-                | inr b ↦ inr (one_after earlier level n ns (λ m. (m ≤ length earlier) × (Names earlier level m → ⊥)) h b)
+                | inr b ↦ inr (one_after earlier level n ns (λ m. (m ≤ length earlier) × (NamesPart earlier level m → ⊥)) h b)
               ])
             ]
       ]
@@ -225,13 +225,13 @@ record HasFaulty (earlier : List Node) (lines : List (List ℕ)) : Type 0 where
   good : List (List ℕ)
   line : List ℕ
   later : List (List ℕ)
-  said : List Said
+  said : List MacrocellLine
   fault : MacroFault
   lines_are : lines ≡ good ++ line ∷ later
-  say : LinesSay earlier good said
+  say : MacrocellLinesSay earlier good said
   faulty : AreFaulty fault (earlier ++ flat_map added said) (words_of line)
 
-lines_judged : (earlier : List Node) (lines : List (List ℕ)) → ((said : List Said) × LinesSay earlier lines said) ⊎ HasFaulty earlier lines
+lines_judged : (earlier : List Node) (lines : List (List ℕ)) → ((said : List MacrocellLine) × MacrocellLinesSay earlier lines said) ⊎ HasFaulty earlier lines
 lines_judged earlier [] = inl ([], tt)
 lines_judged earlier (l ∷ ls) =
     elim (line_judged earlier (words_of l)) [
@@ -275,7 +275,7 @@ some_line b bs =
     fronted [] e = (b ∷ [], [], e)
     fronted (k ∷ ks) e = (b ∷ k, ks, e)
 
-has_line : (bytes first : List ℕ) (lines : List (List ℕ)) → begins_macro bytes ≡ true → lines_of bytes ≡ first ∷ lines → (bad : HasFaulty [] lines) → HasLine bytes (AreFaulty bad.fault)
+has_line : (bytes first : List ℕ) (lines : List (List ℕ)) → begins_macro bytes ≡ true → lines_of bytes ≡ first ∷ lines → (bad : HasFaulty [] lines) → HasMacrocellLine bytes (AreFaulty bad.fault)
 has_line bytes first lines begins are bad = record {
   first = first;
   good = bad.good;
@@ -288,19 +288,19 @@ has_line bytes first lines begins are bad = record {
   holds = bad.faulty;
 }
 
-first_fault : (bytes : List ℕ) (f : MacroFault) → HasLine bytes (AreFaulty f) → IsFirstFault bytes f
+first_fault : (bytes : List ℕ) (f : MacroFault) → HasMacrocellLine bytes (AreFaulty f) → IsFirstMacrocellFault bytes f
 first_fault bytes NotMacro h = absurd h.holds
 first_fault bytes Range h = absurd h.holds
 first_fault bytes Memory h = absurd h.holds
 first_fault bytes f h = h
 
 -- a text whose lines say this is a file
-pub said_file : (bytes first : List ℕ) (lines : List (List ℕ)) (said : List Said) → begins_macro bytes ≡ true → lines_of bytes ≡ first ∷ lines → LinesSay [] lines said → IsFile bytes (file_of said)
+pub said_file : (bytes first : List ℕ) (lines : List (List ℕ)) (said : List MacrocellLine) → begins_macro bytes ≡ true → lines_of bytes ≡ first ∷ lines → MacrocellLinesSay [] lines said → IsMacrocellFile bytes (file_of said)
 said_file bytes first lines said begins are say = record { first = first; lines = lines; said = said; begins = begins; lines_are = are; say = say; nodes = refl; rule_text = refl; generation = refl }
 
 -- a text is a file or has a first fault
 abbrev IsJudged : List ℕ → Type 0
-IsJudged bytes = ((file : File) × IsFile bytes file) ⊎ ((f : MacroFault) × IsFirstFault bytes f)
+IsJudged bytes = ((file : MacrocellFile) × IsMacrocellFile bytes file) ⊎ ((f : MacroFault) × IsFirstMacrocellFault bytes f)
 
 begun : (bytes first : List ℕ) (lines : List (List ℕ)) → begins_macro bytes ≡ true → lines_of bytes ≡ first ∷ lines → IsJudged bytes
 begun bytes first lines begins are =

@@ -10,17 +10,17 @@ use Rattle.std.proofs.lemmas.Option.{same_Some}
 use Rattle.ca_plane.specs.Plane.{Picture, cell}
 use Rattle.ca_quad.specs.declared.node.Node.{Node as Kept}
 use Rattle.ca_quad.specs.Squares as squares
-use Rattle.ca_quad.specs.Sound.{IsSound}
+use Rattle.ca_quad.specs.Sound.{IsSoundStore}
 use Rattle.ca_quad.specs.SquareValues.{square_value}
 use Rattle.ca_quad.specs.Trees.{from_corner, IsIn, IsEmpty}
 use Rattle.ca_quad.proofs.Cells.{same_cells}
 use Rattle.ca_quad.proofs.Growth.{below_or_not}
 use Rattle.ca_quad.proofs.Measures.{one_more}
 use Rattle.ca_macro.specs.declared.write.written.Written.{Written}
-use Rattle.ca_macro.specs.Nodes.{Node, Leaf, Cells, Parts, level_of, Names, MayFollow}
-use Rattle.ca_macro.specs.Shown.{numbered, row_from, rows_from, state_of, square_of, squares_of}
+use Rattle.ca_macro.specs.Nodes.{Node, Leaf, Cells, Parts, node_level, NamesPart, MayFollow}
+use Rattle.ca_macro.specs.Shown.{numbered_square, row_from, rows_from, leaf_state, node_picture, squares_of}
 use Rattle.ca_macro.specs.Tidy.{AreInPlace, HasForm, is_empty}
-use Rattle.ca_macro.specs.inner.Written.{node_of, cells_of, IsPictureOf, IsNumberOf, IsNodeOf, IsGathered}
+use Rattle.ca_macro.specs.inner.Written.{node_of, kept_cells, IsPictureOf, IsWrittenNumber, IsNodeOf, IsGathered}
 use Rattle.ca_macro.proofs.Following.{square_stays, square_last, all_append}
 
 -- ---- places in lists of nodes
@@ -40,16 +40,16 @@ split_at (n ∷ ns) (suc i) d h =
     let s = split_at ns i d (omega arith) in
     (n ∷ s.0, s.1, ap (λ l. n ∷ l) s.2, let e = s.3 in omega arith)
 
-names_get : (ns ms : List Node) (level i : ℕ) → option_map level_of (slice_get ns i) ≡ Some level → option_map level_of (slice_get (ns ++ ms) i) ≡ Some level
+names_get : (ns ms : List Node) (level i : ℕ) → option_map node_level (slice_get ns i) ≡ Some level → option_map node_level (slice_get (ns ++ ms) i) ≡ Some level
 names_get [] ms level i h = absurd cc
 names_get (n ∷ ns) ms level zero h = h
 names_get (n ∷ ns) ms level (suc i) h = names_get ns ms level i h
 
-pub names_stay : (ns ms : List Node) (level n : ℕ) → Names ns level n → Names (ns ++ ms) level n
+pub names_stay : (ns ms : List Node) (level n : ℕ) → NamesPart ns level n → NamesPart (ns ++ ms) level n
 names_stay ns ms level zero h = tt
 names_stay ns ms level (suc i) h = names_get ns ms level i h
 
-pub names_low : (ns : List Node) (level n : ℕ) → Names ns level n → n ≤ length ns
+pub names_low : (ns : List Node) (level n : ℕ) → NamesPart ns level n → n ≤ length ns
 names_low ns level zero h = omega arith
 names_low [] level (suc i) h = absurd cc
 names_low (n ∷ ns) level (suc zero) h = omega arith
@@ -65,54 +65,54 @@ get_last : (ns : List Node) (n : Node) → slice_get (ns ++ n ∷ []) (length ns
 get_last [] n = refl
 get_last (m ∷ ns) n = get_last ns n
 
-pub names_level : (ns : List Node) (level i : ℕ) (d : Node) → option_map level_of (slice_get ns i) ≡ Some level → level_of (slice_index_or ns i d) ≡ level
+pub names_level : (ns : List Node) (level i : ℕ) (d : Node) → option_map node_level (slice_get ns i) ≡ Some level → node_level (slice_index_or ns i d) ≡ level
 names_level [] level i d h = absurd cc
-names_level (n ∷ ns) level zero d h = same_Some (level_of n) level h
+names_level (n ∷ ns) level zero d h = same_Some (node_level n) level h
 names_level (n ∷ ns) level (suc i) d h = names_level ns level i d h
 
 -- ---- pictures of nodes
 
-square_of_stays : (ns ms : List Node) (node : Node) → MayFollow ns node → square_of (squares_of (ns ++ ms)) node ≡ square_of (squares_of ns) node
+square_of_stays : (ns ms : List Node) (node : Node) → MayFollow ns node → node_picture (squares_of (ns ++ ms)) node ≡ node_picture (squares_of ns) node
 square_of_stays ns ms (Leaf rows) h = refl
 square_of_stays ns ms (Cells nw ne sw se) h = refl
 square_of_stays ns ms (Parts level nw ne sw se) h =
-    let e = each_part ns level nw ne sw se h (λ n. numbered (squares_of (ns ++ ms)) n ≡ numbered (squares_of ns) n) (square_stays ns ms) in
+    let e = each_part ns level nw ne sw se h (λ n. numbered_square (squares_of (ns ++ ms)) n ≡ numbered_square (squares_of ns) n) (square_stays ns ms) in
     rw (e.0, e.1, e.2, e.3) refl
 
 -- what has a number shows what its node shows
-pub square_at : (ns : List Node) (i : ℕ) (d : Node) → AreInPlace [] ns → i < length ns → numbered (squares_of ns) (suc i) ≡ square_of (squares_of ns) (slice_index_or ns i d)
+pub square_at : (ns : List Node) (i : ℕ) (d : Node) → AreInPlace [] ns → i < length ns → numbered_square (squares_of ns) (suc i) ≡ node_picture (squares_of ns) (slice_index_or ns i d)
 square_at ns i d h low =
     let s = split_at ns i d low in
     let node = slice_index_or ns i d in
     let stands : MayFollow s.0 node = in_place_at [] s.0 node s.1 (subst (AreInPlace []) s.2 h) in
     let again : (s.0 ++ node ∷ []) ++ s.1 ≡ ns = append_assoc s.0 (node ∷ []) s.1 ∙ sym s.2 in
     let count = length-append s.0 (node ∷ []) in
-    let first : numbered (squares_of ns) (suc (length s.0)) ≡ square_of (squares_of s.0) node =
-    ap (λ l. numbered (squares_of l) (suc (length s.0))) (sym again) ∙ square_stays (s.0 ++ node ∷ []) s.1 (suc (length s.0)) (omega arith) ∙ square_last s.0 node in
-    let second : square_of (squares_of ns) node ≡ square_of (squares_of s.0) node =
-    ap (λ l. square_of (squares_of l) node) s.2 ∙ square_of_stays s.0 (node ∷ s.1) node stands in
-    ap (λ k. numbered (squares_of ns) (suc k)) (sym s.3) ∙ first ∙ sym second
+    let first : numbered_square (squares_of ns) (suc (length s.0)) ≡ node_picture (squares_of s.0) node =
+    ap (λ l. numbered_square (squares_of l) (suc (length s.0))) (sym again) ∙ square_stays (s.0 ++ node ∷ []) s.1 (suc (length s.0)) (omega arith) ∙ square_last s.0 node in
+    let second : node_picture (squares_of ns) node ≡ node_picture (squares_of s.0) node =
+    ap (λ l. node_picture (squares_of l) node) s.2 ∙ square_of_stays s.0 (node ∷ s.1) node stands in
+    ap (λ k. numbered_square (squares_of ns) (suc k)) (sym s.3) ∙ first ∙ sym second
 
 -- ---- squares with one picture are one
 
 same_shown : (p : Picture) (f g : ℕ → ℕ → ℕ) → IsPictureOf p f → IsPictureOf p g → (x y : ℕ) → f x y ≡ g x y
 same_shown p f g a b x y = sym (a (pos x) (pos y)) ∙ b (pos x) (pos y)
 
-one_square : (kept : List Kept) → IsSound kept → (a b : ℕ) → IsIn kept a → IsIn kept b → squares.level_of kept a ≡ squares.level_of kept b → (p : Picture) → IsPictureOf p (cells_of kept a) → IsPictureOf p (cells_of kept b) → a ≡ b
+one_square : (kept : List Kept) → IsSoundStore kept → (a b : ℕ) → IsIn kept a → IsIn kept b → squares.level_of kept a ≡ squares.level_of kept b → (p : Picture) → IsPictureOf p (kept_cells kept a) → IsPictureOf p (kept_cells kept b) → a ≡ b
 one_square kept sound a b h i same p f g =
     let level = squares.level_of kept a in
     let at : IsPictureOf p (squares.cell_of kept level b) = subst (λ l. IsPictureOf p (squares.cell_of kept l b)) (sym same) g in
     same_cells kept sound level a b (record { before = h; is_level = refl }) (record { before = i; is_level = sym same })
-    (same_shown p (cells_of kept a) (squares.cell_of kept level b) f at)
+    (same_shown p (kept_cells kept a) (squares.cell_of kept level b) f at)
 
 -- ---- nodes without live cells
 
-dead_row : (row : List Bool) (x y : ℤ) → list_all not row ≡ true → row_from x y (map state_of row) ≡ []
+dead_row : (row : List Bool) (x y : ℤ) → list_all not row ≡ true → row_from x y (map leaf_state row) ≡ []
 dead_row [] x y h = refl
 dead_row (true ∷ row) x y h = absurd cc
 dead_row (false ∷ row) x y h = dead_row row _ y h
 
-dead_rows : (rows : List (List Bool)) (y : ℤ) → list_all (list_all not) rows ≡ true → rows_from y (map (map state_of) rows) ≡ []
+dead_rows : (rows : List (List Bool)) (y : ℤ) → list_all (list_all not) rows ≡ true → rows_from y (map (map leaf_state) rows) ≡ []
 dead_rows [] y h = refl
 dead_rows (row ∷ rows) y h =
     let p = and_parts (list_all not row) (list_all (list_all not) rows) h in
@@ -126,7 +126,7 @@ four_dead a b c d h =
     let s = and_parts (d == 0) true r.1 in
     (eqb-true a 0 p.0, eqb-true b 0 q.0, eqb-true c 0 r.0, eqb-true d 0 s.0)
 
-pub dead_square : (earlier : List Picture) (node : Node) → is_empty node ≡ true → square_of earlier node ≡ []
+pub dead_square : (earlier : List Picture) (node : Node) → is_empty node ≡ true → node_picture earlier node ≡ []
 dead_square earlier (Leaf rows) h = dead_rows rows (pos 0) h
 dead_square earlier (Cells nw ne sw se) h = let z = four_dead nw ne sw se h in rw (z.0, z.1, z.2, z.3) refl
 dead_square earlier (Parts level nw ne sw se) h = let z = four_dead nw ne sw se h in rw (z.0, z.1, z.2, z.3) refl
@@ -137,7 +137,7 @@ corner_zero f h (pos x) (negsuc y) = refl
 corner_zero f h (negsuc x) (pos y) = refl
 corner_zero f h (negsuc x) (negsuc y) = refl
 
-live_node : (earlier : List Picture) (node : Node) (f : ℕ → ℕ → ℕ) → IsPictureOf (square_of earlier node) f → (IsEmpty f → ⊥) → is_empty node ≡ false
+live_node : (earlier : List Picture) (node : Node) (f : ℕ → ℕ → ℕ) → IsPictureOf (node_picture earlier node) f → (IsEmpty f → ⊥) → is_empty node ≡ false
 live_node earlier node f shows live =
     elim (cases_Bool (is_empty node)) [
       | inl e ↦ absurd (live (λ x y. sym (shows (pos x) (pos y)) ∙ ap (λ p. cell p (pos x) (pos y)) (dead_square earlier node e)))
@@ -146,18 +146,18 @@ live_node earlier node f shows live =
 
 -- ---- numbers go on to name their squares
 
-pub number_goes_on : (kept : List Kept) (ns ms : List Node) (id n : ℕ) → IsNumberOf kept ns id n → IsNumberOf kept (ns ++ ms) id n
+pub number_goes_on : (kept : List Kept) (ns ms : List Node) (id n : ℕ) → IsWrittenNumber kept ns id n → IsWrittenNumber kept (ns ++ ms) id n
 number_goes_on kept ns ms id n h = record {
   at_most = let e = length-append ns ms in let f = h.at_most in omega arith;
   names = names_stay ns ms (squares.level_of kept id) n h.names;
-  shows = subst (λ p. IsPictureOf p (cells_of kept id)) (sym (square_stays ns ms n h.at_most)) h.shows;
+  shows = subst (λ p. IsPictureOf p (kept_cells kept id)) (sym (square_stays ns ms n h.at_most)) h.shows;
 }
 
-pub last_number : (kept : List Kept) (states : ℕ) (ns : List Node) (id : ℕ) (node : Node) → IsNodeOf kept states ns id node → IsNumberOf kept (ns ++ node ∷ []) id (suc (length ns))
+pub last_number : (kept : List Kept) (states : ℕ) (ns : List Node) (id : ℕ) (node : Node) → IsNodeOf kept states ns id node → IsWrittenNumber kept (ns ++ node ∷ []) id (suc (length ns))
 last_number kept states ns id node h = record {
   at_most = let e = length-append ns (node ∷ []) in omega arith;
-  names = ap (option_map level_of) (get_last ns node) ∙ ap Some h.level;
-  shows = subst (λ p. IsPictureOf p (cells_of kept id)) (sym (square_last ns node)) h.shows;
+  names = ap (option_map node_level) (get_last ns node) ∙ ap Some h.level;
+  shows = subst (λ p. IsPictureOf p (kept_cells kept id)) (sym (square_last ns node)) h.shows;
 }
 
 -- ---- a node is put after the others
@@ -170,9 +170,9 @@ written_more old new node number more last =
     let same = length-map old node_of in
     (nodes, omega arith)
 
-module _ (kept : List Kept) (sound : IsSound kept) (states : ℕ) (ns : List Node) (old new : List (ℕ × ℕ)) (id : ℕ) (node : Node) (known : IsIn kept id)
+module _ (kept : List Kept) (sound : IsSoundStore kept) (states : ℕ) (ns : List Node) (old new : List (ℕ × ℕ)) (id : ℕ) (node : Node) (known : IsIn kept id)
     (gathered : IsGathered kept states ns old) (is : IsNodeOf kept states ns id node)
-    (live : IsEmpty (cells_of kept id) → ⊥) (none : square_value old id ≡ None)
+    (live : IsEmpty (kept_cells kept id) → ⊥) (none : square_value old id ≡ None)
     (put : (other : ℕ) → square_value new other
     ≡ cond (id == other) (Some (suc (length ns))) (square_value old other)) where
   other_node : (i : ℕ) (d : Node) → i < length ns → slice_index_or ns i d ≡ node → ⊥
@@ -181,9 +181,9 @@ module _ (kept : List Kept) (sound : IsSound kept) (states : ℕ) (ns : List Nod
       let other = e.0 in
       let f = gathered.numbered other (suc i) e.1 in
       let level : squares.level_of kept other ≡ squares.level_of kept id =
-      sym (names_level ns (squares.level_of kept other) i d f.1.names) ∙ ap level_of same ∙ is.level in
-      let picture : numbered (squares_of ns) (suc i) ≡ square_of (squares_of ns) node = square_at ns i d gathered.in_place low ∙ ap (square_of (squares_of ns)) same in
-      let one : other ≡ id = one_square kept sound other id f.0 known level (square_of (squares_of ns) node) (subst (λ p. IsPictureOf p (cells_of kept other)) picture f.1.shows) is.shows in
+      sym (names_level ns (squares.level_of kept other) i d f.1.names) ∙ ap node_level same ∙ is.level in
+      let picture : numbered_square (squares_of ns) (suc i) ≡ node_picture (squares_of ns) node = square_at ns i d gathered.in_place low ∙ ap (node_picture (squares_of ns)) same in
+      let one : other ≡ id = one_square kept sound other id f.0 known level (node_picture (squares_of ns) node) (subst (λ p. IsPictureOf p (kept_cells kept other)) picture f.1.shows) is.shows in
       let some : square_value old id ≡ Some (suc i) = ap (square_value old) (sym one) ∙ e.1 in
       absurd (let z = sym none ∙ some in cc)
 
@@ -199,7 +199,7 @@ module _ (kept : List Kept) (sound : IsSound kept) (states : ℕ) (ns : List Nod
       ]
 
   abbrev IsNumbered : ℕ → ℕ → Type 0
-  IsNumbered other n = IsIn kept other × IsNumberOf kept (ns ++ node ∷ []) other n
+  IsNumbered other n = IsIn kept other × IsWrittenNumber kept (ns ++ node ∷ []) other n
 
   numbered_more : (other n : ℕ) → square_value new other ≡ Some n → IsNumbered other n
   numbered_more =
@@ -231,7 +231,7 @@ module _ (kept : List Kept) (sound : IsSound kept) (states : ℕ) (ns : List Nod
     in_place = in_place_more [] ns node gathered.in_place is.in_place;
     forms = all_append (HasForm states) ns (node ∷ []) gathered.forms (is.form, tt);
     distinct = distinct_more;
-    live = all_append (λ n. is_empty n ≡ false) ns (node ∷ []) gathered.live (live_node (squares_of ns) node (cells_of kept id) is.shows live, tt);
+    live = all_append (λ n. is_empty n ≡ false) ns (node ∷ []) gathered.live (live_node (squares_of ns) node (kept_cells kept id) is.shows live, tt);
     numbered = numbered_more;
     each = each_more;
   }

@@ -9,29 +9,29 @@ use Rattle.ca_plane.proofs.Shifts.{cell-shifted}
 use Rattle.ca_quad.specs.declared.node.Node.{Node as Kept}
 use Rattle.ca_quad.specs.declared.tree.Tree.{Tree}
 use Rattle.ca_quad.specs.Squares.{dot, together, cell_of}
-use Rattle.ca_quad.specs.Sound.{IsSound, Grows}
-use Rattle.ca_quad.specs.Trees.{Shows, AreFour, IsTree, row_cells, from_corner, cell as tree_cell}
+use Rattle.ca_quad.specs.Sound.{IsSoundStore, Grows}
+use Rattle.ca_quad.specs.Trees.{ShowsSquare, AreFour, IsTree, row_cells, from_corner, cell as tree_cell}
 use Rattle.ca_quad.proofs.Cells.{cell_ends, cells_stay, of_stays}
 use Rattle.ca_quad.proofs.Shown.{shows_stays}
 use Rattle.ca_macro.specs.declared.read.squares.Squares.{Squares}
-use Rattle.ca_macro.specs.Nodes.{Node, Leaf, Cells, Parts, level_of, Names, IsLevel, MayFollow}
-use Rattle.ca_macro.specs.Shown.{state_of, rows_from, joined, numbered, square_of, squares_after, squares_of, centred, rooted, picture_of}
+use Rattle.ca_macro.specs.Nodes.{Node, Leaf, Cells, Parts, node_level, NamesPart, IsLevel, MayFollow}
+use Rattle.ca_macro.specs.Shown.{leaf_state, rows_from, joined, numbered_square, node_picture, squares_after, squares_of, centred, rooted, picture_of_nodes}
 use Rattle.ca_macro.specs.Faults.{HasBadPart}
 use Rattle.ca_macro.specs.inner.Leaves.{leaf_bits}
 use Rattle.ca_macro.specs.inner.Numbers.{kept_of}
-use Rattle.ca_macro.specs.inner.Reading.{Draws, AreDrawn, AreEmpties, AreSquares, IsPart}
+use Rattle.ca_macro.specs.inner.Reading.{Draws, AreDrawn, AreEmpties, AreSquares, IsNodePart}
 use Rattle.ca_macro.proofs.Drawings.{AreStates, rows_states, rows_cell, from_corner_same, in_rows, four_cells, leaf_cell, leaf_states, shifted_states, joined_states, joined_cell}
 
 -- ---- squares go on to show their pictures
 
-pub draws_stay : (old new : List Kept) → IsSound old → Grows old new → (t : Tree) (p : Picture) → Draws old t p → Draws new t p
+pub draws_stay : (old new : List Kept) → IsSoundStore old → Grows old new → (t : Tree) (p : Picture) → Draws old t p → Draws new t p
 draws_stay old new sound grows t p h = record {
   is_tree = of_stays old new sound grows t.root t.level h.is_tree;
   states = h.states;
   has_cells = λ x y. h.has_cells x y ∙ ap (λ f. from_corner f x y) (sym (cells_stay old new sound grows t.level t.root h.is_tree));
 }
 
-pub drawn_stay : (old new : List Kept) → IsSound old → Grows old new → (ns : List Node) (ps : List Picture) (ts : List Tree) → AreDrawn old ns ps ts → AreDrawn new ns ps ts
+pub drawn_stay : (old new : List Kept) → IsSoundStore old → Grows old new → (ns : List Node) (ps : List Picture) (ts : List Tree) → AreDrawn old ns ps ts → AreDrawn new ns ps ts
 drawn_stay old new sound grows [] [] [] h = tt
 drawn_stay old new sound grows [] [] (t ∷ ts) h = absurd h
 drawn_stay old new sound grows [] (p ∷ ps) ts h = absurd h
@@ -40,18 +40,18 @@ drawn_stay old new sound grows (n ∷ ns) (p ∷ ps) [] h = absurd h
 drawn_stay old new sound grows (n ∷ ns) (p ∷ ps) (t ∷ ts) h =
     (h.0, draws_stay old new sound grows t p h.1, drawn_stay old new sound grows ns ps ts h.2)
 
-pub empties_stay : (old new : List Kept) → IsSound old → Grows old new → (ids : List ℕ) → AreEmpties old ids → AreEmpties new ids
+pub empties_stay : (old new : List Kept) → IsSoundStore old → Grows old new → (ids : List ℕ) → AreEmpties old ids → AreEmpties new ids
 empties_stay old new sound grows ids h i low = shows_stays old new sound grows (slice_index ids i) (suc i) (λ x y. 0) (h i low)
 
 -- ---- one more
 
 squares_push : (earlier : List Picture) (ns : List Node) (n : Node)
-    → squares_after earlier (ns ++ n ∷ []) ≡ squares_after earlier ns ++ square_of (squares_after earlier ns) n ∷ []
+    → squares_after earlier (ns ++ n ∷ []) ≡ squares_after earlier ns ++ node_picture (squares_after earlier ns) n ∷ []
 squares_push earlier [] n = refl
-squares_push earlier (m ∷ ns) n = squares_push (earlier ++ square_of earlier m ∷ []) ns n
+squares_push earlier (m ∷ ns) n = squares_push (earlier ++ node_picture earlier m ∷ []) ns n
 
 drawn_push : (store : List Kept) (ns : List Node) (ps : List Picture) (ts : List Tree) (n : Node) (p : Picture) (t : Tree) → AreDrawn store ns ps ts
-    → t.level ≡ level_of n → Draws store t p → AreDrawn store (ns ++ n ∷ []) (ps ++ p ∷ []) (ts ++ t ∷ [])
+    → t.level ≡ node_level n → Draws store t p → AreDrawn store (ns ++ n ∷ []) (ps ++ p ∷ []) (ts ++ t ∷ [])
 drawn_push store [] [] [] n p t h e d = (e, d, tt)
 drawn_push store [] [] (u ∷ ts) n p t h e d = absurd h
 drawn_push store [] (q ∷ ps) ts n p t h e d = absurd h
@@ -60,15 +60,15 @@ drawn_push store (m ∷ ns) (q ∷ ps) [] n p t h e d = absurd h
 drawn_push store (m ∷ ns) (q ∷ ps) (u ∷ ts) n p t h e d = (h.0, h.1, drawn_push store ns ps ts n p t h.2 e d)
 
 pub one_more : (store : List Kept) (nodes : List Node) (ts : List Tree) (n : Node) (t : Tree) → AreDrawn store nodes (squares_of nodes) ts
-    → t.level ≡ level_of n → Draws store t (square_of (squares_of nodes) n) → AreDrawn store (nodes ++ n ∷ []) (squares_of (nodes ++ n ∷ [])) (ts ++ t ∷ [])
+    → t.level ≡ node_level n → Draws store t (node_picture (squares_of nodes) n) → AreDrawn store (nodes ++ n ∷ []) (squares_of (nodes ++ n ∷ [])) (ts ++ t ∷ [])
 one_more store nodes ts n t h e d =
     subst (λ ps. AreDrawn store (nodes ++ n ∷ []) ps (ts ++ t ∷ [])) (sym (squares_push [] nodes n))
-    (drawn_push store nodes (squares_of nodes) ts n (square_of (squares_of nodes) n) t h e d)
+    (drawn_push store nodes (squares_of nodes) ts n (node_picture (squares_of nodes) n) t h e d)
 
 -- what is kept once a square is put after the others
 pub with_square : (old new : List Kept) → Grows old new → (nodes : List Node) (squares after : Squares) (n : Node) (t : Tree) → AreSquares old nodes squares
     → after.squares.items ≡ squares.squares.items ++ t ∷ [] → AreEmpties new after.empties.ids.items
-    → t.level ≡ level_of n → Draws new t (square_of (squares_of nodes) n) → AreSquares new (nodes ++ n ∷ []) after
+    → t.level ≡ node_level n → Draws new t (node_picture (squares_of nodes) n) → AreSquares new (nodes ++ n ∷ []) after
 with_square old new grows nodes squares after n t h items empties e d = record {
   sound = grows.sound;
   drawn = subst (AreDrawn new (nodes ++ n ∷ []) (squares_of (nodes ++ n ∷ []))) (sym items)
@@ -90,7 +90,7 @@ drawn_length store (n ∷ ns) (p ∷ ps) (t ∷ ts) h = ap suc (drawn_length sto
 record IsDrawnAt (store : List Kept) (ns : List Node) (ps : List Picture) (i : ℕ) (t : Tree) : Type 0 where
   node : Node
   stands : slice_get ns i ≡ Some node
-  level : t.level ≡ level_of node
+  level : t.level ≡ node_level node
   draws : Draws store t (get_or ps i [])
 
 drawn_at : (store : List Kept) (ns : List Node) (ps : List Picture) (ts : List Tree) (i : ℕ) (t : Tree) → AreDrawn store ns ps ts → slice_get ts i ≡ Some t → IsDrawnAt store ns ps i t
@@ -104,7 +104,7 @@ drawn_at store (n ∷ ns) (p ∷ ps) (u ∷ ts) zero t h e =
     record {
       node = n;
       stands = refl;
-      level = subst (λ v. v.level ≡ level_of n) same h.0;
+      level = subst (λ v. v.level ≡ node_level n) same h.0;
       draws = subst (λ v. Draws store v p) same h.1;
     }
 drawn_at store (n ∷ ns) (p ∷ ps) (u ∷ ts) (suc i) t h e =
@@ -129,25 +129,25 @@ module _ (store : List Kept) (nodes : List Node) (squares : Squares) (h : AreSqu
     there : IsDrawnAt store nodes (squares_of nodes) (kept - 1) t
     there = drawn_at store nodes (squares_of nodes) squares.squares.items (kept - 1) t h.drawn at
 
-    pub number_named : t.level ≡ level → Names nodes level n × Draws store (record { root = t.root; level = level }) (numbered (squares_of nodes) n)
+    pub number_named : t.level ≡ level → NamesPart nodes level n × Draws store (record { root = t.root; level = level }) (numbered_square (squares_of nodes) n)
     number_named same =
         let f = there in
-        subst (λ m. Names nodes level m × Draws store (record { root = t.root; level = level }) (numbered (squares_of nodes) m)) (sym exact)
+        subst (λ m. NamesPart nodes level m × Draws store (record { root = t.root; level = level }) (numbered_square (squares_of nodes) m)) (sym exact)
         (named f.node f.stands (sym f.level ∙ same), subst (λ l. Draws store (record { root = t.root; level = l }) (get_or (squares_of nodes) (kept - 1) [])) same f.draws)
       where
-        named : (node : Node) → slice_get nodes (kept - 1) ≡ Some node → level_of node ≡ level → Names nodes level (suc (kept - 1))
+        named : (node : Node) → slice_get nodes (kept - 1) ≡ Some node → node_level node ≡ level → NamesPart nodes level (suc (kept - 1))
         named node stands l = rw (stands, l) refl
 
-    pub number_of_other_level : (t.level ≡ level → ⊥) → (n ≤ length nodes) × (Names nodes level n → ⊥)
+    pub number_of_other_level : (t.level ≡ level → ⊥) → (n ≤ length nodes) × (NamesPart nodes level n → ⊥)
     number_of_other_level other =
         let f = there in
         let low = slice_get_within squares.squares.items (kept - 1) t at in
         let count = same_length in
         let m = exact in
-        (omega arith, λ names. other (f.level ∙ named f.node f.stands (subst (Names nodes level) exact names)))
+        (omega arith, λ names. other (f.level ∙ named f.node f.stands (subst (NamesPart nodes level) exact names)))
       where
-        named : (node : Node) → slice_get nodes (kept - 1) ≡ Some node → Names nodes level (suc (kept - 1)) → level_of node ≡ level
-        named node stands names = same_Some (level_of node) level (rw stands at names)
+        named : (node : Node) → slice_get nodes (kept - 1) ≡ Some node → NamesPart nodes level (suc (kept - 1)) → node_level node ≡ level
+        named node stands names = same_Some (node_level node) level (rw stands at names)
 
 -- ---- the squares of nodes
 
@@ -160,7 +160,7 @@ empty_corner u v = sym (from_corner-none u v)
     from_corner-none u v = refl
 
 -- a square that shows what rows do
-pub rows_drawn : (store : List Kept) (id level : ℕ) (cells : ℕ → ℕ → ℕ) (rows : List (List ℕ)) → Shows store id level cells → AllByRecursion AreStates rows
+pub rows_drawn : (store : List Kept) (id level : ℕ) (cells : ℕ → ℕ → ℕ) (rows : List (List ℕ)) → ShowsSquare store id level cells → AllByRecursion AreStates rows
     → ((x y : ℕ) → cells x y ≡ in_rows rows x y) → Draws store (record { root = id; level = level }) (rows_from (pos 0) rows)
 rows_drawn store id level cells rows h states same = record {
   is_tree = h.is_square;
@@ -169,20 +169,20 @@ rows_drawn store id level cells rows h states same = record {
       ∙ from_corner_same (in_rows rows) (cell_of store level id) (λ i j. sym (h.has_cells i j ∙ same i j)) x y;
 }
 
-pub leaf_drawn : (store : List Kept) (id : ℕ) (bits : List ℕ) (leaf : List (List Bool)) → Shows store id 3 (row_cells bits) → bits ≡ leaf_bits 8 leaf → length leaf ≤ 8
-    → (earlier : List Picture) → Draws store (record { root = id; level = 3 }) (square_of earlier (Leaf leaf))
+pub leaf_drawn : (store : List Kept) (id : ℕ) (bits : List ℕ) (leaf : List (List Bool)) → ShowsSquare store id 3 (row_cells bits) → bits ≡ leaf_bits 8 leaf → length leaf ≤ 8
+    → (earlier : List Picture) → Draws store (record { root = id; level = 3 }) (node_picture earlier (Leaf leaf))
 leaf_drawn store id bits leaf h e low earlier =
-    rows_drawn store id 3 (row_cells bits) (map (map state_of) leaf) h (leaf_states leaf)
+    rows_drawn store id 3 (row_cells bits) (map (map leaf_state) leaf) h (leaf_states leaf)
     (λ x y. ap (λ b. row_cells b x y) e ∙ leaf_cell 8 leaf x y low)
 
-pub cells_drawn : (store : List Kept) (id nw ne sw se : ℕ) → Shows store id 1 (together 1 (dot nw) (dot ne) (dot sw) (dot se))
-    → AllByRecursion (λ s. s ≤ 255) (nw ∷ ne ∷ sw ∷ se ∷ []) → (earlier : List Picture) → Draws store (record { root = id; level = 1 }) (square_of earlier (Cells nw ne sw se))
+pub cells_drawn : (store : List Kept) (id nw ne sw se : ℕ) → ShowsSquare store id 1 (together 1 (dot nw) (dot ne) (dot sw) (dot se))
+    → AllByRecursion (λ s. s ≤ 255) (nw ∷ ne ∷ sw ∷ se ∷ []) → (earlier : List Picture) → Draws store (record { root = id; level = 1 }) (node_picture earlier (Cells nw ne sw se))
 cells_drawn store id nw ne sw se h low earlier =
     rows_drawn store id 1 (together 1 (dot nw) (dot ne) (dot sw) (dot se)) ((nw ∷ ne ∷ []) ∷ (sw ∷ se ∷ []) ∷ []) h
     ((low.0, (low.1.0, tt)), ((low.1.1.0, (low.1.1.1.0, tt)), tt)) (λ x y. sym (four_cells nw ne sw se x y))
 
 -- an empty square shows nothing
-pub empty_drawn : (store : List Kept) (id level : ℕ) → Shows store id level (λ x y. 0) → Draws store (record { root = id; level = level }) []
+pub empty_drawn : (store : List Kept) (id level : ℕ) → ShowsSquare store id level (λ x y. 0) → Draws store (record { root = id; level = level }) []
 empty_drawn store id level h = record {
   is_tree = h.is_square;
   states = All-nil (λ e. (1 ≤ e.1) × (e.1 ≤ 255));
@@ -190,24 +190,24 @@ empty_drawn store id level h = record {
 }
 
 -- the square of a part
-pub part_drawn : (old new : List Kept) → IsSound old → Grows old new → (nodes : List Node) (level n empty : ℕ) (part : Option ℕ) → Shows new empty level (λ x y. 0)
-    → IsPart old nodes level n part → Draws new (record { root = unwrap_or part empty; level = level }) (numbered (squares_of nodes) n)
+pub part_drawn : (old new : List Kept) → IsSoundStore old → Grows old new → (nodes : List Node) (level n empty : ℕ) (part : Option ℕ) → ShowsSquare new empty level (λ x y. 0)
+    → IsNodePart old nodes level n part → Draws new (record { root = unwrap_or part empty; level = level }) (numbered_square (squares_of nodes) n)
 part_drawn old new sound grows nodes level n empty None none h = rw h (empty_drawn new empty level none)
-part_drawn old new sound grows nodes level n empty (Some id) none h = draws_stay old new sound grows (record { root = id; level = level }) (numbered (squares_of nodes) n) h.1
+part_drawn old new sound grows nodes level n empty (Some id) none h = draws_stay old new sound grows (record { root = id; level = level }) (numbered_square (squares_of nodes) n) h.1
 
-pub part_named : (store : List Kept) (nodes : List Node) (level n : ℕ) (part : Option ℕ) → IsPart store nodes level n part → Names nodes level n
-part_named store nodes level n None h = subst (Names nodes level) (sym h) tt
+pub part_named : (store : List Kept) (nodes : List Node) (level n : ℕ) (part : Option ℕ) → IsNodePart store nodes level n part → NamesPart nodes level n
+part_named store nodes level n None h = subst (NamesPart nodes level) (sym h) tt
 part_named store nodes level n (Some id) h = h.0
 
 -- a square may follow the nodes that its four parts are
 pub parts_follow : (store : List Kept) (nodes : List Node) (level nw ne sw se : ℕ) (a b c d : Option ℕ) → IsLevel level
-    → IsPart store nodes (level - 1) nw a × IsPart store nodes (level - 1) ne b × IsPart store nodes (level - 1) sw c × IsPart store nodes (level - 1) se d → MayFollow nodes (Parts level nw ne sw se)
+    → IsNodePart store nodes (level - 1) nw a × IsNodePart store nodes (level - 1) ne b × IsNodePart store nodes (level - 1) sw c × IsNodePart store nodes (level - 1) se d → MayFollow nodes (Parts level nw ne sw se)
 parts_follow store nodes level nw ne sw se a b c d l are =
     let low = level - 1 in
     (l, (part_named store nodes low nw a are.0, (part_named store nodes low ne b are.1, (part_named store nodes low sw c are.2, (part_named store nodes low se d are.3, tt)))))
 
 -- the first number that names no part comes after those that do
-pub first_bad : (nodes : List Node) (level : ℕ) (good : List ℕ) (number : ℕ) (more : List ℕ) (P : ℕ → Type 0) → AllByRecursion (Names nodes level) good → P number → HasBadPart nodes level (good ++ number ∷ more) P
+pub first_bad : (nodes : List Node) (level : ℕ) (good : List ℕ) (number : ℕ) (more : List ℕ) (P : ℕ → Type 0) → AllByRecursion (NamesPart nodes level) good → P number → HasBadPart nodes level (good ++ number ∷ more) P
 first_bad nodes level good number more P named holds = record { good = good; number = number; more = more; spelled = refl; named = named; holds = holds }
 
 module _ (store : List Kept) (half_level a b c d : ℕ) (p q r s : Picture)
@@ -219,7 +219,7 @@ module _ (store : List Kept) (half_level a b c d : ℕ) (p q r s : Picture)
 
     -- four squares joined
     pub joined_drawn : (new : List Kept) (id : ℕ)
-        → Shows new id (suc half_level) (together (2 ^ half_level) (cell_of store half_level a) (cell_of store half_level b) (cell_of store half_level c) (cell_of store half_level d))
+        → ShowsSquare new id (suc half_level) (together (2 ^ half_level) (cell_of store half_level a) (cell_of store half_level b) (cell_of store half_level c) (cell_of store half_level d))
         → Draws new (record { root = id; level = suc half_level }) (joined (2 ^ half_level) p q r s)
     joined_drawn new id h =
         let side = 2 ^ half_level in
@@ -240,8 +240,8 @@ module _ (store : List Kept) (half_level a b c d : ℕ) (p q r s : Picture)
 record IsRoot (store : List Kept) (ns : List Node) (ps : List Picture) (t : Tree) : Type 0 where
   node : Node
   last : last_or None ns ≡ Some node
-  level : t.level ≡ level_of node
-  draws : Draws store t (numbered ps (length ns))
+  level : t.level ≡ node_level node
+  draws : Draws store t (numbered_square ps (length ns))
 
 root_at : (store : List Kept) (ns : List Node) (ps : List Picture) (ts : List Tree) (t : Tree) → AreDrawn store ns ps ts → slice_get ts (length ts - 1) ≡ Some t → IsRoot store ns ps t
 root_at store [] [] [] t h e = absurd (let low = slice_get_within [] 0 t e in omega arith)
@@ -251,7 +251,7 @@ root_at store (n ∷ ns) [] ts t h e = absurd h
 root_at store (n ∷ ns) (p ∷ ps) [] t h e = absurd h
 root_at store (n ∷ []) (p ∷ []) (u ∷ []) t h e =
     let same : u ≡ t = same_Some u t e in
-    record { node = n; last = refl; level = subst (λ v. v.level ≡ level_of n) same h.0; draws = subst (λ v. Draws store v p) same h.1 }
+    record { node = n; last = refl; level = subst (λ v. v.level ≡ node_level n) same h.0; draws = subst (λ v. Draws store v p) same h.1 }
 root_at store (n ∷ []) (p ∷ []) (u ∷ v ∷ ts) t h e = absurd h.2
 root_at store (n ∷ []) (p ∷ q ∷ ps) (u ∷ ts) t h e = absurd h.2
 root_at store (n ∷ m ∷ ns) (p ∷ []) (u ∷ ts) t h e = absurd h.2
@@ -269,19 +269,19 @@ centred_shows store t p h x y =
     sym (cell-shifted p (neg_ℤ (pos half)) (neg_ℤ (pos half)) x y ∙ rw (at x, at y) (h.has_cells (x +ℤ pos half) (y +ℤ pos half)))
 
 pub root_shows : (store : List Kept) (nodes : List Node) (squares : Squares) (t : Tree) → AreSquares store nodes squares → slice_get squares.squares.items (length squares.squares.items - 1) ≡ Some t
-    → IsTree store t × ((x y : ℤ) → tree_cell store t x y ≡ cell (picture_of nodes) x y)
+    → IsTree store t × ((x y : ℤ) → tree_cell store t x y ≡ cell (picture_of_nodes nodes) x y)
 root_shows store nodes squares t h e =
     let root = root_at store nodes (squares_of nodes) squares.squares.items t h.drawn e in
-    let picture = numbered (squares_of nodes) (length nodes) in
+    let picture = numbered_square (squares_of nodes) (length nodes) in
     (root.draws.is_tree, λ x y. centred_shows store t picture root.draws x y ∙ ap (λ l. cell (centred l picture) x y) root.level ∙ sym (ap (λ r. cell (rooted r picture) x y) root.last))
 
 -- without a node nothing is shown
 pub no_root_shows : (old new : List Kept) (nodes : List Node) (squares : Squares) (id : ℕ) → AreSquares old nodes squares → length squares.squares.items ≡ 0
-    → Shows new id 1 (λ x y. 0) → (x y : ℤ) → tree_cell new (record { root = id; level = 1 }) x y ≡ cell (picture_of nodes) x y
+    → ShowsSquare new id 1 (λ x y. 0) → (x y : ℤ) → tree_cell new (record { root = id; level = 1 }) x y ≡ cell (picture_of_nodes nodes) x y
 no_root_shows old new [] squares id h none shows x y = centred_shows new (record { root = id; level = 1 }) [] (empty_drawn new id 1 shows) x y
 no_root_shows old new (n ∷ ns) squares id h none shows x y = absurd (let count = drawn_length old (n ∷ ns) (squares_of (n ∷ ns)) squares.squares.items h.drawn in omega arith)
 
-last_picture : (store : List Kept) (ns : List Node) (ps : List Picture) (ts : List Tree) → AreDrawn store ns ps ts → IsPicture (numbered ps (length ns))
+last_picture : (store : List Kept) (ns : List Node) (ps : List Picture) (ts : List Tree) → AreDrawn store ns ps ts → IsPicture (numbered_square ps (length ns))
 last_picture store [] [] [] h = All-nil (λ e. (1 ≤ e.1) × (e.1 ≤ 255))
 last_picture store [] [] (t ∷ ts) h = absurd h
 last_picture store [] (p ∷ ps) ts h = absurd h
@@ -292,29 +292,29 @@ last_picture store (n ∷ m ∷ ns) (p ∷ ps) (t ∷ ts) h = last_picture store
 
 rooted_states : (root : Option Node) (square : Picture) → IsPicture square → IsPicture (rooted root square)
 rooted_states None square h = All-nil (λ e. (1 ≤ e.1) × (e.1 ≤ 255))
-rooted_states (Some root) square h = shifted_states square (neg_ℤ (pos (2 ^ (level_of root - 1)))) (neg_ℤ (pos (2 ^ (level_of root - 1)))) h
+rooted_states (Some root) square h = shifted_states square (neg_ℤ (pos (2 ^ (node_level root - 1)))) (neg_ℤ (pos (2 ^ (node_level root - 1)))) h
 
 -- the picture of nodes has states from 1 to 255
-pub picture_states : (store : List Kept) (nodes : List Node) (squares : Squares) → AreSquares store nodes squares → IsPicture (picture_of nodes)
+pub picture_states : (store : List Kept) (nodes : List Node) (squares : Squares) → AreSquares store nodes squares → IsPicture (picture_of_nodes nodes)
 picture_states store nodes squares h =
-    rooted_states (last_or None nodes) (numbered (squares_of nodes) (length nodes)) (last_picture store nodes (squares_of nodes) squares.squares.items h.drawn)
+    rooted_states (last_or None nodes) (numbered_square (squares_of nodes) (length nodes)) (last_picture store nodes (squares_of nodes) squares.squares.items h.drawn)
 
 -- ---- four parts
 
-module _ (old new : List Kept) (sound : IsSound old) (grows : Grows old new) (nodes : List Node) (low empty : ℕ) (none : Shows new empty low (λ x y. 0))
+module _ (old new : List Kept) (sound : IsSoundStore old) (grows : Grows old new) (nodes : List Node) (low empty : ℕ) (none : ShowsSquare new empty low (λ x y. 0))
     (nw ne sw se : ℕ) (p q r s : Option ℕ) (a b c d : ℕ) (ea : a ≡ unwrap_or p empty) (eb : b ≡ unwrap_or q empty) (ec : c ≡ unwrap_or r empty) (ed : d ≡ unwrap_or s empty)
-    (hp : IsPart old nodes low nw p) (hq : IsPart old nodes low ne q) (hr : IsPart old nodes low sw r) (hs : IsPart old nodes low se s)
+    (hp : IsNodePart old nodes low nw p) (hq : IsNodePart old nodes low ne q) (hr : IsNodePart old nodes low sw r) (hs : IsNodePart old nodes low se s)
   where
-    part_at : (n id : ℕ) (o : Option ℕ) → id ≡ unwrap_or o empty → IsPart old nodes low n o → Draws new (record { root = id; level = low }) (numbered (squares_of nodes) n)
-    part_at n id o e h = subst (λ i. Draws new (record { root = i; level = low }) (numbered (squares_of nodes) n)) (sym e) (part_drawn old new sound grows nodes low n empty o none h)
+    part_at : (n id : ℕ) (o : Option ℕ) → id ≡ unwrap_or o empty → IsNodePart old nodes low n o → Draws new (record { root = id; level = low }) (numbered_square (squares_of nodes) n)
+    part_at n id o e h = subst (λ i. Draws new (record { root = i; level = low }) (numbered_square (squares_of nodes) n)) (sym e) (part_drawn old new sound grows nodes low n empty o none h)
 
     pub parts_four : low ≤ 124 → AreFour new low a b c d
     parts_four small =
-        drawn_four new low a b c d (numbered (squares_of nodes) nw) (numbered (squares_of nodes) ne) (numbered (squares_of nodes) sw) (numbered (squares_of nodes) se)
+        drawn_four new low a b c d (numbered_square (squares_of nodes) nw) (numbered_square (squares_of nodes) ne) (numbered_square (squares_of nodes) sw) (numbered_square (squares_of nodes) se)
         (part_at nw a p ea hp) (part_at ne b q eb hq) (part_at sw c r ec hr) (part_at se d s ed hs) small
 
-    pub parts_joined : (after : List Kept) (id : ℕ) → Shows after id (suc low) (together (2 ^ low) (cell_of new low a) (cell_of new low b) (cell_of new low c) (cell_of new low d))
-        → Draws after (record { root = id; level = suc low }) (joined (2 ^ low) (numbered (squares_of nodes) nw) (numbered (squares_of nodes) ne) (numbered (squares_of nodes) sw) (numbered (squares_of nodes) se))
+    pub parts_joined : (after : List Kept) (id : ℕ) → ShowsSquare after id (suc low) (together (2 ^ low) (cell_of new low a) (cell_of new low b) (cell_of new low c) (cell_of new low d))
+        → Draws after (record { root = id; level = suc low }) (joined (2 ^ low) (numbered_square (squares_of nodes) nw) (numbered_square (squares_of nodes) ne) (numbered_square (squares_of nodes) sw) (numbered_square (squares_of nodes) se))
     parts_joined after id h =
-        joined_drawn new low a b c d (numbered (squares_of nodes) nw) (numbered (squares_of nodes) ne) (numbered (squares_of nodes) sw) (numbered (squares_of nodes) se)
+        joined_drawn new low a b c d (numbered_square (squares_of nodes) nw) (numbered_square (squares_of nodes) ne) (numbered_square (squares_of nodes) sw) (numbered_square (squares_of nodes) se)
         (part_at nw a p ea hp) (part_at ne b q eb hq) (part_at sw c r ec hr) (part_at se d s ed hs) after id h

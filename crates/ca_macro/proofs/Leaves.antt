@@ -4,7 +4,7 @@ use Rattle.std.specs.List.{AllByRecursion, list_all}
 use Rattle.std.proofs.lemmas.Bool.{and_parts, and_from, leb-true, le-leb, true≢false}
 use Rattle.std.proofs.lemmas.List.{length-map}
 use Rattle.std.proofs.lemmas.Bool.Decides.{nat_tests}
-use Rattle.ca_macro.specs.Nodes.{mark_of, rows_of, IsLeaf}
+use Rattle.ca_macro.specs.Nodes.{mark_of, leaf_rows, IsLeaf}
 use Rattle.ca_macro.specs.inner.Leaves.{is_mark, is_live, has_room, is_leaf}
 
 -- ---- rows of marks
@@ -46,8 +46,8 @@ room_found (suc height) (r ∷ rs) h =
     ((omega arith, (omega arith, later.0.1)), ap₂ (λ x xs. x ∷ xs) (sym (marks_found r q.0)) later.1)
 
 -- bytes that pass the test are a leaf
-pub leaf_found : (bytes : List ℕ) → is_leaf bytes ≡ true → IsLeaf bytes (map (map is_live) (rows_of bytes))
-leaf_found bytes h = let room = room_found 8 (rows_of bytes) h in record { marks = room.1; height = room.0.0; width = room.0.1 }
+pub leaf_found : (bytes : List ℕ) → is_leaf bytes ≡ true → IsLeaf bytes (map (map is_live) (leaf_rows bytes))
+leaf_found bytes h = let room = room_found 8 (leaf_rows bytes) h in record { marks = room.1; height = room.0.0; width = room.0.1 }
 
 room_passes : (height : ℕ) (rows : List (List Bool)) → HasRoom height rows → has_room height 8 (map (map mark_of) rows) ≡ true
 room_passes height [] h = refl
@@ -82,5 +82,5 @@ rows_found : (rows : List (List Bool)) → map (map is_live) (map (map mark_of) 
 rows_found [] = refl
 rows_found (row ∷ rows) = ap₂ (λ x xs. x ∷ xs) (row_found row) (rows_found rows)
 
-pub one_leaf : (bytes : List ℕ) (rows : List (List Bool)) → IsLeaf bytes rows → map (map is_live) (rows_of bytes) ≡ rows
+pub one_leaf : (bytes : List ℕ) (rows : List (List Bool)) → IsLeaf bytes rows → map (map is_live) (leaf_rows bytes) ≡ rows
 one_leaf bytes rows leaf = ap (map (map is_live)) leaf.marks ∙ rows_found rows

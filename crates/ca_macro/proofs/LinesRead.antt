@@ -10,30 +10,30 @@ use Rattle.ca_macro.specs.declared.fault.MacroFault.{MacroFault}
 use Rattle.ca_macro.specs.declared.fault.MacroFault.TheVariants.{NotMacro, Memory}
 use Rattle.ca_macro.specs.declared.read.reading.Reading.{Reading}
 use Rattle.ca_macro.specs.Nodes.{Node}
-use Rattle.ca_macro.specs.File.{Said, WordsSay, added, IsAllowed, LinesSay, begins_macro}
-use Rattle.ca_macro.specs.Faults.{HasLine, AreFaulty, AddNode}
-use Rattle.ca_macro.specs.inner.Reading.{HasFault, HasFaultOn, IsReading}
+use Rattle.ca_macro.specs.File.{MacrocellLine, MacrocellWordsSay, added, IsAllowedNode, MacrocellLinesSay, begins_macro}
+use Rattle.ca_macro.specs.Faults.{HasMacrocellLine, AreFaulty, AddNode}
+use Rattle.ca_macro.specs.inner.Reading.{HasNodeFault, HasFaultOn, IsMacrocellReading}
 
 -- ---- one more line
 
-added-append : (said more : List Said) → flat_map added (said ++ more) ≡ flat_map added said ++ flat_map added more
+added-append : (said more : List MacrocellLine) → flat_map added (said ++ more) ≡ flat_map added said ++ flat_map added more
 added-append [] more = refl
 added-append (s ∷ said) more = ap (λ l. added s ++ l) (added-append said more) ∙ sym (append_assoc (added s) (flat_map added said) (flat_map added more))
 
 -- the nodes, once one more line has said this
-pub added-push : (said : List Said) (s : Said) → flat_map added (said ++ s ∷ []) ≡ flat_map added said ++ added s
+pub added-push : (said : List MacrocellLine) (s : MacrocellLine) → flat_map added (said ++ s ∷ []) ≡ flat_map added said ++ added s
 added-push said s = added-append said (s ∷ []) ∙ ap (λ l. flat_map added said ++ l) (append-nil (added s))
 
-allowed_after : (e f : List Node) (s : Said) → e ≡ f → IsAllowed e s → IsAllowed f s
-allowed_after e f s same h = subst (λ l. IsAllowed l s) same h
+allowed_after : (e f : List Node) (s : MacrocellLine) → e ≡ f → IsAllowedNode e s → IsAllowedNode f s
+allowed_after e f s same h = subst (λ l. IsAllowedNode l s) same h
 
-pub LinesSay-push : (earlier : List Node) (lines : List (List ℕ)) (said : List Said) (l : List ℕ) (s : Said) → LinesSay earlier lines said
-    → WordsSay (words_of l) s → IsAllowed (earlier ++ flat_map added said) s → LinesSay earlier (lines ++ l ∷ []) (said ++ s ∷ [])
-LinesSay-push earlier [] [] l s h says allowed = (says, allowed_after (earlier ++ []) earlier s (append-nil earlier) allowed, tt)
-LinesSay-push earlier [] (t ∷ said) l s h says allowed = absurd h
-LinesSay-push earlier (k ∷ ks) [] l s h says allowed = absurd h
-LinesSay-push earlier (k ∷ ks) (t ∷ said) l s h says allowed =
-    (h.0, h.1, LinesSay-push (earlier ++ added t) ks said l s h.2 says (allowed_after (earlier ++ (added t ++ flat_map added said)) ((earlier ++ added t) ++ flat_map added said) s (sym (append_assoc earlier (added t) (flat_map added said))) allowed))
+pub MacrocellLinesSay-push : (earlier : List Node) (lines : List (List ℕ)) (said : List MacrocellLine) (l : List ℕ) (s : MacrocellLine) → MacrocellLinesSay earlier lines said
+    → MacrocellWordsSay (words_of l) s → IsAllowedNode (earlier ++ flat_map added said) s → MacrocellLinesSay earlier (lines ++ l ∷ []) (said ++ s ∷ [])
+MacrocellLinesSay-push earlier [] [] l s h says allowed = (says, allowed_after (earlier ++ []) earlier s (append-nil earlier) allowed, tt)
+MacrocellLinesSay-push earlier [] (t ∷ said) l s h says allowed = absurd h
+MacrocellLinesSay-push earlier (k ∷ ks) [] l s h says allowed = absurd h
+MacrocellLinesSay-push earlier (k ∷ ks) (t ∷ said) l s h says allowed =
+    (h.0, h.1, MacrocellLinesSay-push (earlier ++ added t) ks said l s h.2 says (allowed_after (earlier ++ (added t ++ flat_map added said)) ((earlier ++ added t) ++ flat_map added said) s (sym (append_assoc earlier (added t) (flat_map added said))) allowed))
 
 -- ---- line by line
 
@@ -41,16 +41,16 @@ LinesSay-push earlier (k ∷ ks) (t ∷ said) l s h says allowed =
 pub record AreRead (bytes rest : List ℕ) (count : ℕ) (old store : List Kept) (reading : Reading) : Type 0 where
   pub first : List ℕ
   pub good : List (List ℕ)
-  pub said : List Said
+  pub said : List MacrocellLine
   pub lines : lines_of bytes ≡ first ∷ (good ++ lines_of rest)
-  pub say : LinesSay [] good said
-  pub read : IsReading store said reading
+  pub say : MacrocellLinesSay [] good said
+  pub read : IsMacrocellReading store said reading
   pub grows : Grows old store
   pub counted : count ≡ length good + 1
   pub few : count + length rest ≤ length bytes
 
 -- before the first line but the one that names the format
-pub none_read : (bytes line rest : List ℕ) (store : List Kept) (reading : Reading) → lines_of bytes ≡ line ∷ lines_of rest → IsReading store [] reading → Grows store store
+pub none_read : (bytes line rest : List ℕ) (store : List Kept) (reading : Reading) → lines_of bytes ≡ line ∷ lines_of rest → IsMacrocellReading store [] reading → Grows store store
     → length rest < length bytes → AreRead bytes rest 1 store store reading
 none_read bytes line rest store reading lines read grows shorter =
     record { first = line; good = []; said = []; lines = lines; say = tt; read = read; grows = grows; counted = refl; few = omega arith }
@@ -58,7 +58,7 @@ none_read bytes line rest store reading lines read grows shorter =
 module _ (bytes rest : List ℕ) (count : ℕ) (old store : List Kept) (reading : Reading) (front : AreRead bytes rest count old store reading) where
   -- one more line
   pub one_read : (line later : List ℕ) (new : List Kept) (after : Reading) → lines_of rest ≡ line ∷ lines_of later → Grows store new
-      → ((said : List Said) → IsReading store said reading → (s : Said) × WordsSay (words_of line) s × IsAllowed (flat_map added said) s × IsReading new (said ++ s ∷ []) after)
+      → ((said : List MacrocellLine) → IsMacrocellReading store said reading → (s : MacrocellLine) × MacrocellWordsSay (words_of line) s × IsAllowedNode (flat_map added said) s × IsMacrocellReading new (said ++ s ∷ []) after)
       → length later < length rest → AreRead bytes later (count + 1) old new after
   one_read line later new after next grows says shorter =
       let s = says front.said front.read in
@@ -67,7 +67,7 @@ module _ (bytes rest : List ℕ) (count : ℕ) (old store : List Kept) (reading 
         good = front.good ++ line ∷ [];
         said = front.said ++ s.0 ∷ [];
         lines = front.lines ∙ ap (λ l. front.first ∷ (front.good ++ l)) next ∙ ap (λ l. front.first ∷ l) (sym (append_assoc front.good (line ∷ []) (lines_of later)));
-        say = LinesSay-push [] front.good front.said line s.0 front.say s.1 s.2;
+        say = MacrocellLinesSay-push [] front.good front.said line s.0 front.say s.1 s.2;
         read = s.3;
         grows = grows_on old store new front.grows grows;
         counted = let more = length_push front.good line in let counted = front.counted in omega arith;
@@ -76,7 +76,7 @@ module _ (bytes rest : List ℕ) (count : ℕ) (old store : List Kept) (reading 
 
   -- the line that follows, of whose words this holds
   abbrev next_line : (P : List Node → List (List ℕ) → Type 0) (line later : List ℕ) → begins_macro bytes ≡ true → lines_of rest ≡ line ∷ lines_of later
-      → P (flat_map added front.said) (words_of line) → HasLine bytes P
+      → P (flat_map added front.said) (words_of line) → HasMacrocellLine bytes P
   next_line P line later begins next holds = record {
     first = front.first;
     good = front.good;
@@ -91,12 +91,12 @@ module _ (bytes rest : List ℕ) (count : ℕ) (old store : List Kept) (reading 
 
   -- it is faulty
   faulty_next : (f : MacroFault) (line later : List ℕ) → begins_macro bytes ≡ true → lines_of rest ≡ line ∷ lines_of later → AreFaulty f (flat_map added front.said) (words_of line)
-      → (found : HasLine bytes (AreFaulty f)) × (count + 1 ≡ length found.good + 2)
+      → (found : HasMacrocellLine bytes (AreFaulty f)) × (count + 1 ≡ length found.good + 2)
   faulty_next f line later begins next holds = (next_line (AreFaulty f) line later begins next holds, let same : count + 1 ≡ length front.good + 2 = let counted = front.counted in omega arith in same)
 
   -- its fault is that of the text
   pub fault_next : (line later : List ℕ) → begins_macro bytes ≡ true → lines_of rest ≡ line ∷ lines_of later
-      → (f : MacroFault) → ((said : List Said) → IsReading store said reading → HasFault f (flat_map added said) (words_of line)) → HasFaultOn bytes f (count + 1)
+      → (f : MacroFault) → ((said : List MacrocellLine) → IsMacrocellReading store said reading → HasNodeFault f (flat_map added said) (words_of line)) → HasFaultOn bytes f (count + 1)
   fault_next line later begins next NotMacro h = absurd (h front.said front.read)
   fault_next line later begins next Memory h = next_line AddNode line later begins next (h front.said front.read)
   fault_next line later begins next f h = faulty_next f line later begins next (h front.said front.read)

@@ -8,8 +8,8 @@ use Rattle.ca_quad.specs.Squares.{dot, together}
 use Rattle.ca_quad.specs.Trees.{IsEmpty}
 use Rattle.ca_quad.specs.inner.Measure.{Ends}
 use Rattle.ca_quad.proofs.Cells.{together_ends, same_nw, same_ne, same_sw, same_se}
-use Rattle.ca_macro.specs.Nodes.{Node, Leaf, Cells, Parts, level_of, Names, MayFollow}
-use Rattle.ca_macro.specs.Shown.{numbered, square_of, squares_of, state_of}
+use Rattle.ca_macro.specs.Nodes.{Node, Leaf, Cells, Parts, node_level, NamesPart, MayFollow}
+use Rattle.ca_macro.specs.Shown.{numbered_square, node_picture, squares_of, leaf_state}
 use Rattle.ca_macro.specs.Tidy.{AreInPlace, HasForm, is_empty}
 use Rattle.ca_macro.specs.inner.Written.{IsPictureOf}
 use Rattle.ca_macro.proofs.Pictures.{rows_show, four_show, four_end, joined_show, picture_as}
@@ -34,7 +34,7 @@ all_at P (n ∷ ns) (suc i) a h = all_at P ns i a.1 (omega arith)
 
 -- a number of a part: of this level, and not above this place
 abbrev pub IsPart : List Node → ℕ → ℕ → ℕ → Type 0
-IsPart ns level most n = Names ns level n × (n ≤ most)
+IsPart ns level most n = NamesPart ns level n × (n ≤ most)
 
 -- a node whose parts are among the first nodes
 abbrev pub Follows : List Node → ℕ → Node → Type 0
@@ -48,17 +48,17 @@ follows_in ns front rest i (Cells nw ne sw se) whole count h = tt
 follows_in ns front rest i (Parts level nw ne sw se) whole count h =
     (h.0.0, part nw h.1.0, part ne h.1.1.0, part sw h.1.1.1.0, part se h.1.1.1.1.0)
   where
-    part : (n : ℕ) → Names front (level - 1) n → IsPart ns (level - 1) i n
+    part : (n : ℕ) → NamesPart front (level - 1) n → IsPart ns (level - 1) i n
     part n named =
         let low = names_low front (level - 1) n named in
-        (subst (λ l. Names l (level - 1) n) (sym whole) (names_stay front rest (level - 1) n named), omega arith)
+        (subst (λ l. NamesPart l (level - 1) n) (sym whole) (names_stay front rest (level - 1) n named), omega arith)
 
 -- what is known of the node at a place
 pub record IsNode (states : ℕ) (ns : List Node) (i : ℕ) : Type 0 where
   pub follows : Follows ns i (node_at ns i)
   pub form : HasForm states (node_at ns i)
   pub live : is_empty (node_at ns i) ≡ false
-  pub square : numbered (squares_of ns) (suc i) ≡ square_of (squares_of ns) (node_at ns i)
+  pub square : numbered_square (squares_of ns) (suc i) ≡ node_picture (squares_of ns) (node_at ns i)
 
 pub is_node : (states : ℕ) (ns : List Node) → AreWell states ns → (i : ℕ) → i < length ns → IsNode states ns i
 is_node states ns well i low =
@@ -74,11 +74,11 @@ is_node states ns well i low =
 
 -- the cells of the square with a number, from its corner
 abbrev pub cells_at : List Node → ℕ → ℕ → ℕ → ℕ
-cells_at ns n x y = cell (numbered (squares_of ns) n) (pos x) (pos y)
+cells_at ns n x y = cell (numbered_square (squares_of ns) n) (pos x) (pos y)
 
 -- the state at a place of a leaf's rows
 abbrev pub in_leaf : List (List Bool) → ℕ → ℕ → ℕ
-in_leaf rows x y = slice_index (slice_index_or (map (map state_of) rows) y []) x
+in_leaf rows x y = slice_index (slice_index_or (map (map leaf_state) rows) y []) x
 
 -- the cells of a node
 abbrev pub node_cells : List Node → Node → ℕ → ℕ → ℕ
@@ -88,10 +88,10 @@ node_cells ns (Parts level nw ne sw se) = together (2 ^ (level - 1)) (cells_at n
 
 -- the picture with a number shows its cells alone, which end with the side of its level
 pub record IsShown (ns : List Node) (level n : ℕ) : Type 0 where
-  pub shows : IsPictureOf (numbered (squares_of ns) n) (cells_at ns n)
+  pub shows : IsPictureOf (numbered_square (squares_of ns) n) (cells_at ns n)
   pub ends : Ends (2 ^ level) (cells_at ns n)
 
-none_right : (row : List Bool) (x : ℕ) → length row ≤ x → slice_index (map state_of row) x ≡ 0
+none_right : (row : List Bool) (x : ℕ) → length row ≤ x → slice_index (map leaf_state row) x ≡ 0
 none_right [] x h = refl
 none_right (b ∷ row) zero h = absurd (omega arith)
 none_right (b ∷ row) (suc x) h = none_right row x (omega arith)
@@ -114,17 +114,17 @@ none_ends : (side : ℕ) → Ends side (λ x y. 0)
 none_ends side x y h = refl
 
 -- a picture of some cells is one of its own
-own_shows : (ns : List Node) (level n : ℕ) (f : ℕ → ℕ → ℕ) → IsPictureOf (numbered (squares_of ns) n) f → Ends (2 ^ level) f → IsShown ns level n
+own_shows : (ns : List Node) (level n : ℕ) (f : ℕ → ℕ → ℕ) → IsPictureOf (numbered_square (squares_of ns) n) f → Ends (2 ^ level) f → IsShown ns level n
 own_shows ns level n f shows ends = record {
-  shows = picture_as (numbered (squares_of ns) n) f (cells_at ns n) (λ x y. sym (shows (pos x) (pos y))) shows;
+  shows = picture_as (numbered_square (squares_of ns) n) f (cells_at ns n) (λ x y. sym (shows (pos x) (pos y))) shows;
   ends = λ x y h. shows (pos x) (pos y) ∙ ends x y h;
 }
 
 pub parts_show : (ns : List Node) (level nw ne sw se : ℕ) → IsShown ns (level - 1) nw → IsShown ns (level - 1) ne → IsShown ns (level - 1) sw → IsShown ns (level - 1) se
-    → IsPictureOf (square_of (squares_of ns) (Parts level nw ne sw se)) (node_cells ns (Parts level nw ne sw se))
+    → IsPictureOf (node_picture (squares_of ns) (Parts level nw ne sw se)) (node_cells ns (Parts level nw ne sw se))
 parts_show ns level nw ne sw se a b c d =
     joined_show (2 ^ (level - 1)) (cells_at ns nw) (cells_at ns ne) (cells_at ns sw) (cells_at ns se) a.ends b.ends c.ends
-    (numbered (squares_of ns) nw) (numbered (squares_of ns) ne) (numbered (squares_of ns) sw) (numbered (squares_of ns) se)
+    (numbered_square (squares_of ns) nw) (numbered_square (squares_of ns) ne) (numbered_square (squares_of ns) sw) (numbered_square (squares_of ns) se)
     (live_at ns nw) (live_at ns ne) (live_at ns sw) a.shows b.shows c.shows d.shows
 
 parts_end : (ns : List Node) (level nw ne sw se : ℕ) → 2 ≤ level → IsShown ns (level - 1) nw → IsShown ns (level - 1) ne → IsShown ns (level - 1) sw → IsShown ns (level - 1) se
@@ -136,9 +136,9 @@ parts_end ns level nw ne sw se large a b c d =
     (together_ends (2 ^ (level - 1)) (cells_at ns nw) (cells_at ns ne) (cells_at ns sw) (cells_at ns se) a.ends b.ends c.ends d.ends)
 
 -- a node shows its cells, where its parts show theirs
-node_shown : (states : ℕ) (ns : List Node) (i : ℕ) (node : Node) → ((level n : ℕ) → n ≤ i → Names ns level n → IsShown ns level n) → Follows ns i node → HasForm states node
-    → IsPictureOf (square_of (squares_of ns) node) (node_cells ns node) × Ends (2 ^ level_of node) (node_cells ns node)
-node_shown states ns i (Leaf rows) part follows form = (rows_show (map (map state_of) rows) (in_leaf rows) (λ x y. refl), leaf_ends rows form.1 form.2)
+node_shown : (states : ℕ) (ns : List Node) (i : ℕ) (node : Node) → ((level n : ℕ) → n ≤ i → NamesPart ns level n → IsShown ns level n) → Follows ns i node → HasForm states node
+    → IsPictureOf (node_picture (squares_of ns) node) (node_cells ns node) × Ends (2 ^ node_level node) (node_cells ns node)
+node_shown states ns i (Leaf rows) part follows form = (rows_show (map (map leaf_state) rows) (in_leaf rows) (λ x y. refl), leaf_ends rows form.1 form.2)
 node_shown states ns i (Cells nw ne sw se) part follows form = (four_show nw ne sw se (node_cells ns (Cells nw ne sw se)) (λ x y. refl), four_end nw ne sw se)
 node_shown states ns i (Parts level nw ne sw se) part follows form =
     let a = part (level - 1) nw follows.1.1 follows.1.0 in
@@ -149,14 +149,14 @@ node_shown states ns i (Parts level nw ne sw se) part follows form =
 
 module _ (states : ℕ) (ns : List Node) (well : AreWell states ns) where
   -- a number of a level names a node of that level
-  pub is_named : (level i : ℕ) → Names ns level (suc i) → (i < length ns) × (level_of (node_at ns i) ≡ level)
+  pub is_named : (level i : ℕ) → NamesPart ns level (suc i) → (i < length ns) × (node_level (node_at ns i) ≡ level)
   is_named level i named = (let low = names_low ns level (suc i) named in omega arith, names_level ns level i (Leaf []) named)
 
   none_shown : (level : ℕ) → IsShown ns level 0
   none_shown level = own_shows ns level 0 (λ x y. 0) (corner_zero (λ x y. 0) (λ x y. refl)) (none_ends (2 ^ level))
 
   -- by the numbers below
-  shown_below : (most level n : ℕ) → n ≤ most → Names ns level n → IsShown ns level n
+  shown_below : (most level n : ℕ) → n ≤ most → NamesPart ns level n → IsShown ns level n
   shown_below most level zero h named = none_shown level
   shown_below zero level (suc i) h named = absurd (omega arith)
   shown_below (suc most) level (suc i) h named =
@@ -166,7 +166,7 @@ module _ (states : ℕ) (ns : List Node) (well : AreWell states ns) where
       own_shows ns level (suc i) (node_cells ns (node_at ns i)) (subst (λ p. IsPictureOf p (node_cells ns (node_at ns i))) (sym node.square) both.0)
       (subst (λ l. Ends (2 ^ l) (node_cells ns (node_at ns i))) at.1 both.1)
 
-  pub shown : (level n : ℕ) → Names ns level n → IsShown ns level n
+  pub shown : (level n : ℕ) → NamesPart ns level n → IsShown ns level n
   shown level n = shown_below n level n (omega arith)
 
   -- the cells of a number are those of its node
@@ -178,11 +178,11 @@ module _ (states : ℕ) (ns : List Node) (well : AreWell states ns) where
 
   -- ---- no number but 0 is that of an empty square
 
-  no_state : (b : Bool) → state_of b ≡ 0 → not b ≡ true
+  no_state : (b : Bool) → leaf_state b ≡ 0 → not b ≡ true
   no_state true h = absurd (omega arith)
   no_state false h = refl
 
-  row_none : (row : List Bool) → ((x : ℕ) → slice_index (map state_of row) x ≡ 0) → list_all not row ≡ true
+  row_none : (row : List Bool) → ((x : ℕ) → slice_index (map leaf_state row) x ≡ 0) → list_all not row ≡ true
   row_none [] h = refl
   row_none (b ∷ row) h = and_from (not b) (list_all not row) (no_state b (h 0)) (row_none row (λ x. h (suc x)))
 
@@ -200,7 +200,7 @@ module _ (states : ℕ) (ns : List Node) (well : AreWell states ns) where
         | inr e ↦ elim (cases_Bool (nat_lt x side)) [ inl f ↦ rw (e, f) refl | inr f ↦ rw (e, f) refl ]
       ]
 
-  node_dead : (i : ℕ) (node : Node) → ((level n : ℕ) → n ≤ i → Names ns level n → IsEmpty (cells_at ns n) → n ≡ 0) → Follows ns i node → IsEmpty (node_cells ns node) → is_empty node ≡ true
+  node_dead : (i : ℕ) (node : Node) → ((level n : ℕ) → n ≤ i → NamesPart ns level n → IsEmpty (cells_at ns n) → n ≡ 0) → Follows ns i node → IsEmpty (node_cells ns node) → is_empty node ≡ true
   node_dead i (Leaf rows) part follows h = rows_none rows h
   node_dead i (Cells nw ne sw se) part follows h = four_none nw ne sw se (h 0 0) (h 1 0) (h 0 1) (h 1 1)
   node_dead i (Parts level nw ne sw se) part follows h =
@@ -217,7 +217,7 @@ module _ (states : ℕ) (ns : List Node) (well : AreWell states ns) where
       (part (level - 1) sw follows.3.1 follows.3.0 (same_sw side p q r s none none none none same (shown (level - 1) sw follows.3.0).ends (none_ends side)))
       (part (level - 1) se follows.4.1 follows.4.0 (same_se side p q r s none none none none same))
 
-  dead_below : (most level n : ℕ) → n ≤ most → Names ns level n → IsEmpty (cells_at ns n) → n ≡ 0
+  dead_below : (most level n : ℕ) → n ≤ most → NamesPart ns level n → IsEmpty (cells_at ns n) → n ≡ 0
   dead_below most level zero h named none = refl
   dead_below zero level (suc i) h named none = absurd (omega arith)
   dead_below (suc most) level (suc i) h named none =
@@ -227,5 +227,5 @@ module _ (states : ℕ) (ns : List Node) (well : AreWell states ns) where
       node_dead i (node_at ns i) (λ l n k. dead_below most l n (omega arith)) node.follows (λ x y. sym (cells_are i at.0 x y) ∙ none x y) in
       absurd (let z = sym node.live ∙ dead in cc)
 
-  pub dead_number : (level n : ℕ) → Names ns level n → IsEmpty (cells_at ns n) → n ≡ 0
+  pub dead_number : (level n : ℕ) → NamesPart ns level n → IsEmpty (cells_at ns n) → n ≡ 0
   dead_number level n = dead_below n level n (omega arith)

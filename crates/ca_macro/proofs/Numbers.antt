@@ -4,7 +4,7 @@ use Rattle.std.specs.List.{AllZip, AllByRecursion}
 use Rattle.ca_plane.specs.Bytes.{value}
 use Rattle.ca_macro.specs.declared.line.numbers.Numbers.{Numbers}
 use Rattle.ca_macro.specs.File.{IsNumber, AreNumbers}
-use Rattle.ca_macro.specs.Faults.{AreMisspelled}
+use Rattle.ca_macro.specs.Faults.{AreMisspelledNodeWords}
 use Rattle.ca_macro.specs.inner.Numbers.{kept_of, Keeps, AreKept}
 
 numbers_kept : (words : List (List ℕ)) (kept : List ℕ) → AllZip Keeps words kept → AllZip IsNumber words (map value words) × (kept ≡ map kept_of (map value words)) × (length (map value words) ≡ length kept)
@@ -46,7 +46,7 @@ kept_one n h z = omega arith
 
 -- numbers of level 1, of which a state is too large
 pub large_state : (words : List (List ℕ)) (kept : Numbers) → AreKept words kept → kept.level ≢ 0 → kept.level ≤ 1
-    → (AllByRecursion (λ s. s ≤ 255) (kept.nw ∷ kept.ne ∷ kept.sw ∷ kept.se ∷ []) → ⊥) → AreMisspelled words
+    → (AllByRecursion (λ s. s ≤ 255) (kept.nw ∷ kept.ne ∷ kept.sw ∷ kept.se ∷ []) → ⊥) → AreMisspelledNodeWords words
 large_state words kept (level, nw, ne, sw, se, are, l, a, b, c, d) some low large =
     let one : 1 ≡ level = kept_one level (subst (λ n. n ≤ 1) l low) (λ z. some (l ∙ z)) in
     inr (inr (inr (

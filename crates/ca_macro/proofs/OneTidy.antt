@@ -10,9 +10,9 @@ use Rattle.ca_plane.proofs.Shifts.{cell-shifted}
 use Rattle.ca_quad.specs.Squares.{together}
 use Rattle.ca_quad.proofs.Cells.{same_nw, same_ne, same_sw, same_se}
 use Rattle.ca_quad.proofs.Growth.{below_or_not}
-use Rattle.ca_macro.specs.Nodes.{Node, Leaf, Cells, Parts, level_of, Names, MayFollow}
-use Rattle.ca_macro.specs.Shown.{numbered, squares_of, centred, rooted, picture_of, state_of}
-use Rattle.ca_macro.specs.Tidy.{lowest_level, IsLeastLevel, AreInPlace, HasForm, is_empty, parts_of, walks_after, walk_of, each_once, tidy_lines, IsTidy}
+use Rattle.ca_macro.specs.Nodes.{Node, Leaf, Cells, Parts, node_level, NamesPart, MayFollow}
+use Rattle.ca_macro.specs.Shown.{numbered_square, squares_of, centred, rooted, picture_of_nodes, leaf_state}
+use Rattle.ca_macro.specs.Tidy.{lowest_level, IsLeastLevel, AreInPlace, HasForm, is_empty, node_parts, walks_after, walk_of, numbers_once, tidy_lines, IsTidyMacrocell}
 use Rattle.ca_macro.proofs.Following.{walk_to, walk_stays, walk_last, walks_length}
 use Rattle.ca_macro.proofs.Gathering.{dead_square, four_dead, in_place_at, each_part, split_at}
 use Rattle.ca_macro.proofs.Roots.{last_node}
@@ -32,18 +32,18 @@ one_zero : ◌≡◌ {A = ℕ} 1 0 → ⊥
 one_zero e = omega arith
 
 -- a row of dead cells isn't cut
-not_dead : (b : Bool) (row : List Bool) → IsCut (b ∷ row) → ((x : ℕ) → slice_index (map state_of (b ∷ row)) x ≡ 0) → ⊥
+not_dead : (b : Bool) (row : List Bool) → IsCut (b ∷ row) → ((x : ℕ) → slice_index (map leaf_state (b ∷ row)) x ≡ 0) → ⊥
 not_dead true row h dead = one_zero (dead 0)
 not_dead false [] h dead = absurd cc
 not_dead false (c ∷ row) h dead = not_dead c row h (λ x. dead (suc x))
 
-one_state : (b c : Bool) → state_of b ≡ state_of c → b ≡ c
+one_state : (b c : Bool) → leaf_state b ≡ leaf_state c → b ≡ c
 one_state true true e = refl
 one_state true false e = absurd (omega arith)
 one_state false true e = absurd (omega arith)
 one_state false false e = refl
 
-one_row : (r s : List Bool) → IsCut r → IsCut s → ((x : ℕ) → slice_index (map state_of r) x ≡ slice_index (map state_of s) x) → r ≡ s
+one_row : (r s : List Bool) → IsCut r → IsCut s → ((x : ℕ) → slice_index (map leaf_state r) x ≡ slice_index (map leaf_state s) x) → r ≡ s
 one_row [] [] p q same = refl
 one_row [] (c ∷ s) p q same = absurd (not_dead c s q (λ x. sym (same x)))
 one_row (b ∷ r) [] p q same = absurd (not_dead b r p same)
@@ -61,7 +61,7 @@ one_leaf (r ∷ rs) (s ∷ ss) e p q same =
 
 -- numbers of squares of one level that have the same cells, in two lists of nodes
 abbrev Same : List Node → List Node → ℕ → ℕ → ℕ → Type 0
-Same ns ms level m n = Names ns level m × Names ms level n × ((x y : ℕ) → cells_at ns m x y ≡ cells_at ms n x y)
+Same ns ms level m n = NamesPart ns level m × NamesPart ms level n × ((x y : ℕ) → cells_at ns m x y ≡ cells_at ms n x y)
 
 -- two nodes have the same cells, or parts that do
 abbrev Alike : List Node → List Node → Node → Node → Type 0
@@ -77,7 +77,7 @@ Alike ns ms (Parts k nw ne sw se) (Parts level a b c d) =
     (k ≡ level) × Same ns ms (k - 1) nw a × Same ns ms (k - 1) ne b × Same ns ms (k - 1) sw c × Same ns ms (k - 1) se d
 
 module _ (states : ℕ) (ns ms : List Node) (v : AreWell states ns) (w : AreWell states ms) where
-  alike : (i j : ℕ) (p q : Node) → Follows ns i p → Follows ms j q → HasForm states p → HasForm states q → level_of p ≡ level_of q
+  alike : (i j : ℕ) (p q : Node) → Follows ns i p → Follows ms j q → HasForm states p → HasForm states q → node_level p ≡ node_level q
       → ((x y : ℕ) → node_cells ns p x y ≡ node_cells ms q x y) → Alike ns ms p q
   alike i j (Leaf rows) (Leaf others) f g h k e same = one_leaf rows others (h.1 ∙ sym k.1) h.3 k.3 same
   alike i j (Leaf rows) (Cells a b c d) f g h k e same = absurd (omega arith)
@@ -90,11 +90,11 @@ module _ (states : ℕ) (ns ms : List Node) (v : AreWell states ns) (w : AreWell
   alike i j (Parts l nw ne sw se) (Parts level a b c d) f g h k e same =
       let side = 2 ^ (l - 1) in
       let below : level - 1 ≡ l - 1 = omega arith in
-      let name : (n : ℕ) → Names ms (level - 1) n → Names ms (l - 1) n = λ n named. subst (λ m. Names ms m n) below named in
+      let name : (n : ℕ) → NamesPart ms (level - 1) n → NamesPart ms (l - 1) n = λ n named. subst (λ m. NamesPart ms m n) below named in
       let these : (x y : ℕ) → together side (cells_at ns nw) (cells_at ns ne) (cells_at ns sw) (cells_at ns se) x y ≡ together side (cells_at ms a) (cells_at ms b) (cells_at ms c) (cells_at ms d) x y =
       λ x y. same x y ∙ ap (λ m. together (2 ^ m) (cells_at ms a) (cells_at ms b) (cells_at ms c) (cells_at ms d) x y) below in
-      let ends = λ (n : ℕ) (named : Names ns (l - 1) n). (shown states ns v (l - 1) n named).ends in
-      let stops = λ (n : ℕ) (named : Names ms (l - 1) n). (shown states ms w (l - 1) n named).ends in (
+      let ends = λ (n : ℕ) (named : NamesPart ns (l - 1) n). (shown states ns v (l - 1) n named).ends in
+      let stops = λ (n : ℕ) (named : NamesPart ms (l - 1) n). (shown states ms w (l - 1) n named).ends in (
         e,
         (f.1.0, name a g.1.0, same_nw side (cells_at ns nw) (cells_at ns ne) (cells_at ns sw) (cells_at ns se) (cells_at ms a) (cells_at ms b) (cells_at ms c) (cells_at ms d) these (ends nw f.1.0) (stops a (name a g.1.0))),
         (f.2.0, name b g.2.0, same_ne side (cells_at ns nw) (cells_at ns ne) (cells_at ns sw) (cells_at ns se) (cells_at ms a) (cells_at ms b) (cells_at ms c) (cells_at ms d) these (ends ne f.2.0) (stops b (name b g.2.0))),
@@ -173,22 +173,22 @@ module _ (states : ℕ) (ns : List Node) (v : AreWell states ns) where
       same_below states ns ns v v (λ m n. m ≡ n) refl
       (λ i j h k part same alike. ap suc (one_place i j h k (one_node ns ns i (node_at ns i) (node_at ns j) part (is_node states ns v i h).follows alike))) m level m n (omega arith) s
 
-  one_level : (k level i : ℕ) → Names ns k (suc i) → Names ns level (suc i) → k ≡ level
+  one_level : (k level i : ℕ) → NamesPart ns k (suc i) → NamesPart ns level (suc i) → k ≡ level
   one_level k level i a b = same_Some k level (sym a ∙ b)
 
 -- ---- walks
 
 -- walks to earlier nodes stay
 parts_stay : (front rest : List Node) (node : Node) → MayFollow front node
-    → flat_map (numbered (walks_after [] (front ++ rest))) (parts_of node) ≡ flat_map (numbered (walks_after [] front)) (parts_of node)
+    → flat_map (numbered_square (walks_after [] (front ++ rest))) (node_parts node) ≡ flat_map (numbered_square (walks_after [] front)) (node_parts node)
 parts_stay front rest (Leaf rows) h = refl
 parts_stay front rest (Cells nw ne sw se) h = refl
 parts_stay front rest (Parts level nw ne sw se) h =
-    let e = each_part front level nw ne sw se h (λ n. numbered (walks_after [] (front ++ rest)) n ≡ numbered (walks_after [] front) n) (walk_stays front rest) in
+    let e = each_part front level nw ne sw se h (λ n. numbered_square (walks_after [] (front ++ rest)) n ≡ numbered_square (walks_after [] front) n) (walk_stays front rest) in
     rw (e.0, e.1, e.2, e.3) refl
 
 -- the node with a number is walked to after its parts
-walk_at : (ns : List Node) (i : ℕ) → AreInPlace [] ns → i < length ns → numbered (walks_after [] ns) (suc i) ≡ flat_map (numbered (walks_after [] ns)) (parts_of (node_at ns i)) ++ suc i ∷ []
+walk_at : (ns : List Node) (i : ℕ) → AreInPlace [] ns → i < length ns → numbered_square (walks_after [] ns) (suc i) ≡ flat_map (numbered_square (walks_after [] ns)) (node_parts (node_at ns i)) ++ suc i ∷ []
 walk_at ns i h low =
     let s = split_at ns i (Leaf []) low in
     let node = node_at ns i in
@@ -196,11 +196,11 @@ walk_at ns i h low =
     let again : (s.0 ++ node ∷ []) ++ s.1 ≡ ns = append_assoc s.0 (node ∷ []) s.1 ∙ sym s.2 in
     let count = length-append s.0 (node ∷ []) in
     let last : length (walks_after [] s.0) + 1 ≡ suc i = let e = walks_length s.0 in let f = s.3 in omega arith in
-    let first : numbered (walks_after [] ns) (suc (length s.0)) ≡ walk_to (walks_after [] s.0) node =
-    ap (λ l. numbered (walks_after [] l) (suc (length s.0))) (sym again) ∙ walk_stays (s.0 ++ node ∷ []) s.1 (suc (length s.0)) (omega arith) ∙ walk_last s.0 node in
-    let second : flat_map (numbered (walks_after [] ns)) (parts_of node) ≡ flat_map (numbered (walks_after [] s.0)) (parts_of node) =
-    ap (λ l. flat_map (numbered (walks_after [] l)) (parts_of node)) s.2 ∙ parts_stay s.0 (node ∷ s.1) node stands in
-    ap (λ k. numbered (walks_after [] ns) (suc k)) (sym s.3) ∙ first ∙ ap₂ (λ l k. l ++ k ∷ []) (sym second) last
+    let first : numbered_square (walks_after [] ns) (suc (length s.0)) ≡ walk_to (walks_after [] s.0) node =
+    ap (λ l. numbered_square (walks_after [] l) (suc (length s.0))) (sym again) ∙ walk_stays (s.0 ++ node ∷ []) s.1 (suc (length s.0)) (omega arith) ∙ walk_last s.0 node in
+    let second : flat_map (numbered_square (walks_after [] ns)) (node_parts node) ≡ flat_map (numbered_square (walks_after [] s.0)) (node_parts node) =
+    ap (λ l. flat_map (numbered_square (walks_after [] l)) (node_parts node)) s.2 ∙ parts_stay s.0 (node ∷ s.1) node stands in
+    ap (λ k. numbered_square (walks_after [] ns) (suc k)) (sym s.3) ∙ first ∙ ap₂ (λ l k. l ++ k ∷ []) (sym second) last
 
 abbrev Meet : List Node → List Node → ℕ → ℕ → Type 0
 Meet ns ms m n = (level : ℕ) × Same ns ms level m n
@@ -216,13 +216,13 @@ module _ (states : ℕ) (ns ms : List Node) (v : AreWell states ns) (w : AreWell
   Meets = Meet ns ms
 
   abbrev first_walk : ℕ → List ℕ
-  first_walk = numbered (walks_after [] ns)
+  first_walk = numbered_square (walks_after [] ns)
 
   abbrev second_walk : ℕ → List ℕ
-  second_walk = numbered (walks_after [] ms)
+  second_walk = numbered_square (walks_after [] ms)
 
   parts_walked : (i : ℕ) (p q : Node) → ((level m n : ℕ) → m ≤ i → Same ns ms level m n → AllZip Meets (first_walk m) (second_walk n)) → Follows ns i p → Alike ns ms p q
-      → AllZip Meets (flat_map first_walk (parts_of p)) (flat_map second_walk (parts_of q))
+      → AllZip Meets (flat_map first_walk (node_parts p)) (flat_map second_walk (node_parts q))
   parts_walked i (Leaf rows) (Leaf others) part f h = tt
   parts_walked i (Leaf rows) (Cells a b c d) part f h = absurd h
   parts_walked i (Leaf rows) (Parts level a b c d) part f h = absurd h
@@ -243,8 +243,8 @@ module _ (states : ℕ) (ns ms : List Node) (v : AreWell states ns) (w : AreWell
       (λ i j h k part same alike.
       let parts = parts_walked i (node_at ns i) (node_at ms j) part (is_node states ns v i h).follows alike in
       subst (λ l. AllZip Meets l (second_walk (suc j))) (sym (walk_at ns i v.in_place h))
-      (subst (λ l. AllZip Meets (flat_map first_walk (parts_of (node_at ns i)) ++ suc i ∷ []) l) (sym (walk_at ms j w.in_place k))
-      (zip_append Meets (flat_map first_walk (parts_of (node_at ns i))) (flat_map second_walk (parts_of (node_at ms j))) (suc i ∷ []) (suc j ∷ []) parts (same, tt)))) m level m n (omega arith) s
+      (subst (λ l. AllZip Meets (flat_map first_walk (node_parts (node_at ns i)) ++ suc i ∷ []) l) (sym (walk_at ms j w.in_place k))
+      (zip_append Meets (flat_map first_walk (node_parts (node_at ns i))) (flat_map second_walk (node_parts (node_at ms j))) (suc i ∷ []) (suc j ∷ []) parts (same, tt)))) m level m n (omega arith) s
 
   -- ---- each number meets one
 
@@ -296,11 +296,11 @@ module _ (states : ℕ) (ns ms : List Node) (v : AreWell states ns) (w : AreWell
         | inr t ↦ let u : (n == b) ≡ false = sym e ∙ t in rw (t, u) (h.0, later)
       ]
 
-  once_meet : (xs ys : List ℕ) → AllZip Meets xs ys → AllZip Meets (each_once xs) (each_once ys)
+  once_meet : (xs ys : List ℕ) → AllZip Meets xs ys → AllZip Meets (numbers_once xs) (numbers_once ys)
   once_meet [] [] h = tt
   once_meet [] (n ∷ ys) h = absurd h
   once_meet (m ∷ xs) [] h = absurd h
-  once_meet (m ∷ xs) (n ∷ ys) h = (h.0, others_meet m n h.0 (each_once xs) (each_once ys) (once_meet xs ys h.1))
+  once_meet (m ∷ xs) (n ∷ ys) h = (h.0, others_meet m n h.0 (numbers_once xs) (numbers_once ys) (once_meet xs ys h.1))
 
   range_meet : (a m n : ℕ) → AllZip Meets (range_with_len a m) (range_with_len a n) → (m ≡ n) × ((i : ℕ) → a ≤ i → i < a + m → Meets i i)
   range_meet a zero zero h = (refl, λ i low high. absurd (omega arith))
@@ -335,32 +335,32 @@ module _ (states : ℕ) (ns ms : List Node) (v : AreWell states ns) (w : AreWell
       one_node ns ms i (node_at ns i) (node_at ms i) (part_met i low) (is_node states ns v i low).follows m.2
 
 one_list : (states : ℕ) (ns ms : List Node) → AreWell states ns → AreWell states ms → (level : ℕ) → Same ns ms level (length ns) (length ms)
-    → each_once (walk_of ns) ≡ range_with_len 1 (length ns) → each_once (walk_of ms) ≡ range_with_len 1 (length ms) → ns ≡ ms
+    → numbers_once (walk_of ns) ≡ range_with_len 1 (length ns) → numbers_once (walk_of ms) ≡ range_with_len 1 (length ms) → ns ≡ ms
 one_list states ns ms v w level same first second =
     let met = once_meet states ns ms v w (walk_of ns) (walk_of ms) (walked states ns ms v w level (length ns) (length ms) same) in
     let ranges : AllZip (Meet ns ms) (range_with_len 1 (length ns)) (range_with_len 1 (length ms)) =
-    subst (λ l. AllZip (Meet ns ms) l (range_with_len 1 (length ms))) first (subst (λ l. AllZip (Meet ns ms) (each_once (walk_of ns)) l) second met) in
+    subst (λ l. AllZip (Meet ns ms) l (range_with_len 1 (length ms))) first (subst (λ l. AllZip (Meet ns ms) (numbers_once (walk_of ns)) l) second met) in
     let all = range_meet states ns ms v w 1 (length ns) (length ms) ranges in
     same_nodes ns ms all.0 (node_met states ns ms v w all.1)
 
 -- ---- the root
 
-root_named : (ns : List Node) (root : Node) → last_or None ns ≡ Some root → (length ns ≢ 0) × Names ns (level_of root) (length ns)
+root_named : (ns : List Node) (root : Node) → last_or None ns ≡ Some root → (length ns ≢ 0) × NamesPart ns (node_level root) (length ns)
 root_named [] root last = absurd cc
 root_named (n ∷ ns) root last =
     let r = last_node (n ∷ ns) (length ns) None refl in
     let one : r.0 ≡ root = same_Some r.0 root (sym r.1 ∙ last) in
-    ((λ e. omega arith), ap (option_map level_of) r.2 ∙ ap (λ m. Some (level_of m)) one)
+    ((λ e. omega arith), ap (option_map node_level) r.2 ∙ ap (λ m. Some (node_level m)) one)
 
 there_and_back : (u d : ℤ) → (u +ℤ d) -ℤ d ≡ u
 there_and_back u d = omega (arith, ints)
 
-root_cells : (ns : List Node) (root : Node) (cells : ℤ → ℤ → ℕ) → last_or None ns ≡ Some root → ((x y : ℤ) → cells x y ≡ cell (picture_of ns) x y) → (x y : ℕ)
-    → cells_at ns (length ns) x y ≡ cells (pos x +ℤ neg_ℤ (pos (2 ^ (level_of root - 1)))) (pos y +ℤ neg_ℤ (pos (2 ^ (level_of root - 1))))
+root_cells : (ns : List Node) (root : Node) (cells : ℤ → ℤ → ℕ) → last_or None ns ≡ Some root → ((x y : ℤ) → cells x y ≡ cell (picture_of_nodes ns) x y) → (x y : ℕ)
+    → cells_at ns (length ns) x y ≡ cells (pos x +ℤ neg_ℤ (pos (2 ^ (node_level root - 1)))) (pos y +ℤ neg_ℤ (pos (2 ^ (node_level root - 1))))
 root_cells ns root cells last same x y =
-    let far = neg_ℤ (pos (2 ^ (level_of root - 1))) in
-    let square = numbered (squares_of ns) (length ns) in
-    let picture : picture_of ns ≡ centred (level_of root) square = ap (λ o. rooted o square) last in
+    let far = neg_ℤ (pos (2 ^ (node_level root - 1))) in
+    let square = numbered_square (squares_of ns) (length ns) in
+    let picture : picture_of_nodes ns ≡ centred (node_level root) square = ap (λ o. rooted o square) last in
     let whole = same (pos x +ℤ far) (pos y +ℤ far) ∙ ap (λ p. cell p (pos x +ℤ far) (pos y +ℤ far)) picture ∙ cell-shifted square far far (pos x +ℤ far) (pos y +ℤ far) in
     sym (whole ∙ ap₂ (cell square) (there_and_back (pos x) far) (there_and_back (pos y) far))
 
@@ -372,11 +372,11 @@ one_least states cells k level a b =
 
 -- ---- the empty plane
 
-nothing_shown : (ns : List Node) (root : Node) → ns ≡ root ∷ [] → is_empty root ≡ true → (x y : ℤ) → cell (picture_of ns) x y ≡ 0
+nothing_shown : (ns : List Node) (root : Node) → ns ≡ root ∷ [] → is_empty root ≡ true → (x y : ℤ) → cell (picture_of_nodes ns) x y ≡ 0
 nothing_shown ns root single e x y =
-    ap (λ l. cell (picture_of l) x y) single ∙ ap (λ p. cell (centred (level_of root) p) x y) (dead_square [] root e)
+    ap (λ l. cell (picture_of_nodes l) x y) single ∙ ap (λ p. cell (centred (node_level root) p) x y) (dead_square [] root e)
 
-one_empty : (states : ℕ) (p q : Node) → MayFollow [] p → MayFollow [] q → HasForm states p → HasForm states q → lowest_level states ≤ level_of p → level_of p ≡ level_of q
+one_empty : (states : ℕ) (p q : Node) → MayFollow [] p → MayFollow [] q → HasForm states p → HasForm states q → lowest_level states ≤ node_level p → node_level p ≡ node_level q
     → is_empty p ≡ true → is_empty q ≡ true → p ≡ q
 one_empty states (Leaf rows) q f g h k low e s t = let four : lowest_level states ≡ 4 = rw h.0 refl in absurd (omega arith)
 one_empty states (Cells nw ne sw se) (Leaf others) f g h k low e s t = absurd (omega arith)
@@ -408,11 +408,11 @@ kind states ns root place forms distinct (inr single) =
     ]
 
 -- a plane with a live cell isn't that of an empty root
-not_nothing : (states : ℕ) (cells : ℤ → ℤ → ℕ) (ns : List Node) (root : Node) → AreWell states ns → last_or None ns ≡ Some root → ((x y : ℤ) → cells x y ≡ cell (picture_of ns) x y)
+not_nothing : (states : ℕ) (cells : ℤ → ℤ → ℕ) (ns : List Node) (root : Node) → AreWell states ns → last_or None ns ≡ Some root → ((x y : ℤ) → cells x y ≡ cell (picture_of_nodes ns) x y)
     → ((x y : ℤ) → cells x y ≡ 0) → ⊥
 not_nothing states cells ns root v last same none =
     let r = root_named ns root last in
-    r.0 (dead_number states ns v (level_of root) (length ns) r.1 (λ x y. root_cells ns root cells last same x y ∙ none _ _))
+    r.0 (dead_number states ns v (node_level root) (length ns) r.1 (λ x y. root_cells ns root cells last same x y ∙ none _ _))
 
 root_in_place : (ns : List Node) (root : Node) → ns ≡ root ∷ [] → AreInPlace [] ns → MayFollow [] root
 root_in_place ns root single h = let whole : AreInPlace [] (root ∷ []) = subst (AreInPlace []) single h in whole.0
@@ -420,23 +420,23 @@ root_in_place ns root single h = let whole : AreInPlace [] (root ∷ []) = subst
 root_form : (states : ℕ) (ns : List Node) (root : Node) → ns ≡ root ∷ [] → AllByRecursion (HasForm states) ns → HasForm states root
 root_form states ns root single h = let whole : AllByRecursion (HasForm states) (root ∷ []) = subst (AllByRecursion (HasForm states)) single h in whole.0
 
-module _ (t u : List ℕ) (cells : ℤ → ℤ → ℕ) (rule_text : List ℕ) (generation states : ℕ) (p : IsTidy t cells rule_text generation states) (q : IsTidy u cells rule_text generation states) where
-  level_same : level_of p.tidy.root ≡ level_of q.tidy.root
-  level_same = one_least states cells (level_of p.tidy.root) (level_of q.tidy.root) p.tidy.level q.tidy.level
+module _ (t u : List ℕ) (cells : ℤ → ℤ → ℕ) (rule_text : List ℕ) (generation states : ℕ) (p : IsTidyMacrocell t cells rule_text generation states) (q : IsTidyMacrocell u cells rule_text generation states) where
+  level_same : node_level p.tidy.root ≡ node_level q.tidy.root
+  level_same = one_least states cells (node_level p.tidy.root) (node_level q.tidy.root) p.tidy.level q.tidy.level
 
-  root_same : AreWell states p.nodes → AreWell states q.nodes → Same p.nodes q.nodes (level_of p.tidy.root) (length p.nodes) (length q.nodes)
+  root_same : AreWell states p.nodes → AreWell states q.nodes → Same p.nodes q.nodes (node_level p.tidy.root) (length p.nodes) (length q.nodes)
   root_same v w =
       let a = root_named p.nodes p.tidy.root p.tidy.root_is_last in
       let b = root_named q.nodes q.tidy.root q.tidy.root_is_last in
       let second = λ (x y : ℕ). root_cells q.nodes q.tidy.root cells q.tidy.root_is_last q.tidy.shown x y in
       let here : (l : ℕ) → ℕ → ℤ = λ l x. pos x +ℤ neg_ℤ (pos (2 ^ (l - 1))) in (
         a.1,
-        subst (λ l. Names q.nodes l (length q.nodes)) (sym level_same) b.1,
+        subst (λ l. NamesPart q.nodes l (length q.nodes)) (sym level_same) b.1,
         λ x y. root_cells p.nodes p.tidy.root cells p.tidy.root_is_last p.tidy.shown x y ∙ ap (λ l. cells (here l x) (here l y)) level_same ∙ sym (second x y),
       )
 
   nodes_same : IsKind states p.nodes p.tidy.root → IsKind states q.nodes q.tidy.root → p.nodes ≡ q.nodes
-  nodes_same (inl v) (inl w) = one_list states p.nodes q.nodes v w (level_of p.tidy.root) (root_same v w) p.tidy.order q.tidy.order
+  nodes_same (inl v) (inl w) = one_list states p.nodes q.nodes v w (node_level p.tidy.root) (root_same v w) p.tidy.order q.tidy.order
   nodes_same (inl v) (inr (single, e)) =
       absurd (not_nothing states cells p.nodes p.tidy.root v p.tidy.root_is_last p.tidy.shown (λ x y. q.tidy.shown x y ∙ nothing_shown q.nodes q.tidy.root single e x y))
   nodes_same (inr (single, e)) (inl w) =

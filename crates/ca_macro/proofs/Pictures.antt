@@ -15,7 +15,7 @@ use Rattle.ca_quad.specs.Trees.{from_corner, row_cells}
 use Rattle.ca_quad.specs.inner.Measure.{Ends}
 use Rattle.ca_quad.proofs.Cells.{in_nw, in_ne, in_sw, in_se, dot_ends, together_ends}
 use Rattle.ca_quad.proofs.Growth.{below_or_not}
-use Rattle.ca_macro.specs.Shown.{row_from, rows_from, state_of, joined}
+use Rattle.ca_macro.specs.Shown.{row_from, rows_from, leaf_state, joined}
 use Rattle.ca_macro.specs.inner.Written.{row_of, IsPictureOf}
 use Rattle.ca_macro.proofs.Following.{all_append}
 
@@ -159,7 +159,7 @@ rows_show rows cells same = λ x y. rows_cell rows (pos 0) x y ∙ ap (in_rows r
 
 -- ---- leaves
 
-state_bit : (b : ℕ) → state_of (b % 2 == 1) ≡ b % 2
+state_bit : (b : ℕ) → leaf_state (b % 2 == 1) ≡ b % 2
 state_bit b =
     elim (cases_Bool (b % 2 == 1)) [
       | inl e ↦ rw e (sym (eqb-true (b % 2) 1 e))
@@ -170,24 +170,24 @@ bit_next : (live : ℕ) (more : List ℕ) (bits : ℕ) → live ≡ bits % 2 →
 bit_next live more bits e later zero = e ∙ sym (bit_at_lowest bits)
 bit_next live more bits e later (suc i) = later i ∙ sym (bit_at-suc bits i)
 
-row_bit : (width bits i : ℕ) → bits < 2 ^ width → slice_index (map state_of (row_of width bits)) i ≡ bit_at bits i
+row_bit : (width bits i : ℕ) → bits < 2 ^ width → slice_index (map leaf_state (row_of width bits)) i ≡ bit_at bits i
 row_bit zero bits i h = let z : bits ≡ 0 = omega arith in rw z (sym (bit_at-zero i))
 row_bit (suc width) bits i h =
     let half : bits / 2 < 2 ^ width = omega (arith, two-pow-succ width) in
     elim (cases_Bool (bits == 0)) [
       | inl e ↦ rw e (sym (ap (λ b. bit_at b i) (eqb-true bits 0 e) ∙ bit_at-zero i))
-      | inr e ↦ rw e (bit_next (state_of (bits % 2 == 1)) (map state_of (row_of width (bits / 2))) bits (state_bit bits) (λ j. row_bit width (bits / 2) j half) i)
+      | inr e ↦ rw e (bit_next (leaf_state (bits % 2 == 1)) (map leaf_state (row_of width (bits / 2))) bits (state_bit bits) (λ j. row_bit width (bits / 2) j half) i)
     ]
 
-rows_at : (bytes : List ℕ) (j : ℕ) → slice_index_or (map (map state_of) (map (row_of 8) bytes)) j [] ≡ map state_of (row_of 8 (slice_index bytes j))
+rows_at : (bytes : List ℕ) (j : ℕ) → slice_index_or (map (map leaf_state) (map (row_of 8) bytes)) j [] ≡ map leaf_state (row_of 8 (slice_index bytes j))
 rows_at [] j = refl
 rows_at (b ∷ bs) zero = refl
 rows_at (b ∷ bs) (suc j) = rows_at bs j
 
 pub leaf_shows : (bytes : List ℕ) (cells : ℕ → ℕ → ℕ) → ((y : ℕ) → slice_index bytes y < 256) → ((x y : ℕ) → cells x y ≡ row_cells bytes x y)
-    → IsPictureOf (rows_from (pos 0) (map (map state_of) (map (row_of 8) bytes))) cells
+    → IsPictureOf (rows_from (pos 0) (map (map leaf_state) (map (row_of 8) bytes))) cells
 leaf_shows bytes cells low same =
-    rows_show (map (map state_of) (map (row_of 8) bytes)) cells (λ x y. ap (λ r. slice_index r x) (rows_at bytes y) ∙ row_bit 8 (slice_index bytes y) x (low y) ∙ sym (same x y))
+    rows_show (map (map leaf_state) (map (row_of 8) bytes)) cells (λ x y. ap (λ r. slice_index r x) (rows_at bytes y) ∙ row_bit 8 (slice_index bytes y) x (low y) ∙ sym (same x y))
 
 -- ---- four cells
 

@@ -9,14 +9,14 @@ use Rattle.std.specs.List.{AllByRecursion}
 use Rattle.std.proofs.lemmas.Int.{ints}
 use Rattle.ca_plane.specs.Limits.{range, IsInRange}
 use Rattle.ca_quad.specs.declared.tree.WideBounds.{WideBounds}
-use Rattle.ca_quad.specs.Boxes.{IsLeastBox}
+use Rattle.ca_quad.specs.Boxes.{IsLeastWideBox}
 use Rattle.ca_macro.specs.Pattern.{AreInRange}
 
 -- a box is in range
 abbrev pub IsBoxInRange : WideBounds → Type 0
 IsBoxInRange box = (neg_ℤ (pos range) ≤ℤ box.x0) × (box.x1 <ℤ pos range) × (neg_ℤ (pos range) ≤ℤ box.y0) × (box.y1 <ℤ pos range)
 
-pub box_of_range : (cells : ℤ → ℤ → ℕ) (box : WideBounds) → IsLeastBox cells box → AreInRange cells → IsBoxInRange box
+pub box_of_range : (cells : ℤ → ℤ → ℕ) (box : WideBounds) → IsLeastWideBox cells box → AreInRange cells → IsBoxInRange box
 box_of_range cells box least h =
     let l = h box.x0 least.left.0 least.left.1 in
     let r = h box.x1 least.right.0 least.right.1 in
@@ -24,7 +24,7 @@ box_of_range cells box least h =
     let b = h least.bottom.0 box.y1 least.bottom.1 in
     (l.0, r.1, t.2, b.3)
 
-pub range_of_box : (cells : ℤ → ℤ → ℕ) (box : WideBounds) → IsLeastBox cells box → IsBoxInRange box → AreInRange cells
+pub range_of_box : (cells : ℤ → ℤ → ℕ) (box : WideBounds) → IsLeastWideBox cells box → IsBoxInRange box → AreInRange cells
 range_of_box cells box least h x y live =
     let i = least.all x y live in
     (omega (arith, ints), omega (arith, ints), omega (arith, ints), omega (arith, ints))

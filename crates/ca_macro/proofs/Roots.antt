@@ -17,11 +17,11 @@ use Rattle.ca_quad.specs.inner.Measure.{Ends}
 use Rattle.ca_quad.proofs.Cells.{cell_ends}
 use Rattle.ca_quad.proofs.Differ.{cell_at}
 use Rattle.ca_quad.proofs.Growth.{below_or_not}
-use Rattle.ca_macro.specs.Nodes.{Node, Cells, Parts, level_of}
-use Rattle.ca_macro.specs.Shown.{numbered, squares_of, centred, rooted, picture_of}
+use Rattle.ca_macro.specs.Nodes.{Node, Cells, Parts, node_level}
+use Rattle.ca_macro.specs.Shown.{numbered_square, squares_of, centred, rooted, picture_of_nodes}
 use Rattle.ca_macro.specs.Pattern.{AreInRange}
-use Rattle.ca_macro.specs.Tidy.{lowest_level, Fits, IsLeastLevel, walks_after, each_once, AreTidyNodes}
-use Rattle.ca_macro.specs.inner.Written.{cells_of, IsPictureOf, IsNumberOf, IsGathered, GoesOn, empty_root}
+use Rattle.ca_macro.specs.Tidy.{lowest_level, Fits, IsLeastLevel, walks_after, numbers_once, AreTidyNodes}
+use Rattle.ca_macro.specs.inner.Written.{kept_cells, IsPictureOf, IsWrittenNumber, IsGathered, KeepsFirstOrder, empty_root}
 use Rattle.ca_macro.proofs.Gathering.{corner_zero}
 
 -- ---- where the live cells of a tree are
@@ -168,30 +168,30 @@ root_shown kept t square shows x y =
     sym (cell-shifted square shift shift x y ∙ shows (x -ℤ shift) (y -ℤ shift) ∙ ap₂ (from_corner (squares.cell_of kept t.level t.root)) (back x half) (back y half))
 
 module _ (kept : List Kept) (t : Tree) (is_tree : IsTree kept t) (states : ℕ) (ns : List Node) (numbers : List (ℕ × ℕ)) (level : IsLeastLevel states (cell kept t) t.level)
-    (gathered : IsGathered kept states ns numbers) (live : IsEmpty (cells_of kept t.root) → ⊥) where
-  pub tree_nodes : (n : ℕ) → IsNumberOf kept ns t.root n → n ≡ length ns → GoesOn [] ns n → AreTidyNodes states (cell kept t) ns
+    (gathered : IsGathered kept states ns numbers) (live : IsEmpty (kept_cells kept t.root) → ⊥) where
+  pub tree_nodes : (n : ℕ) → IsWrittenNumber kept ns t.root n → n ≡ length ns → KeepsFirstOrder [] ns n → AreTidyNodes states (cell kept t) ns
   tree_nodes zero number last goes = absurd (live (λ x y. sym (number.shows (pos x) (pos y))))
   tree_nodes (suc i) number last goes =
       let root = last_node ns i None (sym last) in
-      let named : Some (level_of root.0) ≡ Some (squares.level_of kept t.root) = sym (ap (option_map level_of) root.2) ∙ number.names in
-      let is_level : level_of root.0 ≡ t.level = same_Some (level_of root.0) (squares.level_of kept t.root) named ∙ is_tree.is_level in
-      let shows : IsPictureOf (numbered (squares_of ns) (length ns)) (squares.cell_of kept t.level t.root) =
-      subst (λ l. IsPictureOf (numbered (squares_of ns) (length ns)) (squares.cell_of kept l t.root)) is_tree.is_level (subst (λ k. IsPictureOf (numbered (squares_of ns) k) (cells_of kept t.root)) last number.shows) in
-      let picture : picture_of ns ≡ centred t.level (numbered (squares_of ns) (length ns)) = ap (λ o. rooted o (numbered (squares_of ns) (length ns))) root.1 ∙ ap (λ l. centred l (numbered (squares_of ns) (length ns))) is_level in
+      let named : Some (node_level root.0) ≡ Some (squares.level_of kept t.root) = sym (ap (option_map node_level) root.2) ∙ number.names in
+      let is_level : node_level root.0 ≡ t.level = same_Some (node_level root.0) (squares.level_of kept t.root) named ∙ is_tree.is_level in
+      let shows : IsPictureOf (numbered_square (squares_of ns) (length ns)) (squares.cell_of kept t.level t.root) =
+      subst (λ l. IsPictureOf (numbered_square (squares_of ns) (length ns)) (squares.cell_of kept l t.root)) is_tree.is_level (subst (λ k. IsPictureOf (numbered_square (squares_of ns) k) (kept_cells kept t.root)) last number.shows) in
+      let picture : picture_of_nodes ns ≡ centred t.level (numbered_square (squares_of ns) (length ns)) = ap (λ o. rooted o (numbered_square (squares_of ns) (length ns))) root.1 ∙ ap (λ l. centred l (numbered_square (squares_of ns) (length ns))) is_level in
       record {
         root = root.0;
-        shown = λ x y. root_shown kept t (numbered (squares_of ns) (length ns)) shows x y ∙ ap (λ p. plane.cell p x y) (sym picture);
+        shown = λ x y. root_shown kept t (numbered_square (squares_of ns) (length ns)) shows x y ∙ ap (λ p. plane.cell p x y) (sym picture);
         root_is_last = root.1;
         level = subst (IsLeastLevel states (cell kept t)) (sym is_level) level;
         in_place = gathered.in_place;
         forms = gathered.forms;
         distinct = gathered.distinct;
         empties = inl gathered.live;
-        order = ap (λ k. each_once (numbered (walks_after [] ns) k)) (sym last) ∙ goes [] refl;
+        order = ap (λ k. numbers_once (numbered_square (walks_after [] ns) k)) (sym last) ∙ goes [] refl;
       }
 
 -- the states of a tree's root are those of its cells
-pub root_states : (kept : List Kept) (t : Tree) → IsTree kept t → (states : ℕ) → ((x y : ℤ) → cell kept t x y < states) → (x y : ℕ) → cells_of kept t.root x y < states
+pub root_states : (kept : List Kept) (t : Tree) → IsTree kept t → (states : ℕ) → ((x y : ℤ) → cell kept t x y < states) → (x y : ℕ) → kept_cells kept t.root x y < states
 root_states kept t is_tree states low x y =
     let half = 2 ^ (t.level - 1) in
     let u = pos x -ℤ pos half in

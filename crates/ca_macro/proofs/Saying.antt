@@ -16,10 +16,10 @@ use Rattle.ca_macro.specs.declared.line.comment.Comment.TheVariants as comment
 use Rattle.ca_macro.specs.declared.read.reading.Reading.{Reading}
 use Rattle.ca_macro.specs.declared.read.squares.Squares.{Squares}
 use Rattle.ca_macro.specs.Nodes.{Node, Parts, IsLevel}
-use Rattle.ca_macro.specs.File.{Said, Nothing, Rule, Generation, Adds, WordsSay, added, IsAllowed, last_rule, last_generation}
+use Rattle.ca_macro.specs.File.{MacrocellLine, Nothing, Rule, Generation, Adds, MacrocellWordsSay, added, IsAllowedNode, last_rule, last_line_generation}
 use Rattle.ca_macro.specs.Faults.{AreFaulty, HasBadPart}
 use Rattle.ca_macro.specs.inner.Comments.{said_of}
-use Rattle.ca_macro.specs.inner.Reading.{AreSquares, IsBadNumber, HaveFault, HasFault, IsReading}
+use Rattle.ca_macro.specs.inner.Reading.{AreSquares, IsBadNumber, HaveFault, HasNodeFault, IsMacrocellReading}
 use Rattle.ca_macro.proofs.LinesRead.{added-push}
 
 -- ---- a fault that `?` passes on
@@ -63,28 +63,28 @@ are_words (b ∷ bs) h =
 
 -- ---- comments
 
-rule_push : (text : List ℕ) (said : List Said) (later : List ℕ) → last_rule text (said ++ Rule later ∷ []) ≡ later
+rule_push : (text : List ℕ) (said : List MacrocellLine) (later : List ℕ) → last_rule text (said ++ Rule later ∷ []) ≡ later
 rule_push text [] later = refl
 rule_push text (Nothing ∷ said) later = rule_push text said later
 rule_push text (Rule t ∷ said) later = rule_push t said later
 rule_push text (Generation n ∷ said) later = rule_push text said later
 rule_push text (Adds n ∷ said) later = rule_push text said later
 
-rule_kept : (text : List ℕ) (said : List Said) (s : Said) → ((t : List ℕ) → last_rule t (s ∷ []) ≡ t) → last_rule text (said ++ s ∷ []) ≡ last_rule text said
+rule_kept : (text : List ℕ) (said : List MacrocellLine) (s : MacrocellLine) → ((t : List ℕ) → last_rule t (s ∷ []) ≡ t) → last_rule text (said ++ s ∷ []) ≡ last_rule text said
 rule_kept text [] s h = h text
 rule_kept text (Nothing ∷ said) s h = rule_kept text said s h
 rule_kept text (Rule t ∷ said) s h = rule_kept t said s h
 rule_kept text (Generation n ∷ said) s h = rule_kept text said s h
 rule_kept text (Adds n ∷ said) s h = rule_kept text said s h
 
-generation_push : (count : ℕ) (said : List Said) (later : ℕ) → last_generation count (said ++ Generation later ∷ []) ≡ later
+generation_push : (count : ℕ) (said : List MacrocellLine) (later : ℕ) → last_line_generation count (said ++ Generation later ∷ []) ≡ later
 generation_push count [] later = refl
 generation_push count (Nothing ∷ said) later = generation_push count said later
 generation_push count (Rule t ∷ said) later = generation_push count said later
 generation_push count (Generation n ∷ said) later = generation_push n said later
 generation_push count (Adds n ∷ said) later = generation_push count said later
 
-generation_kept : (count : ℕ) (said : List Said) (s : Said) → ((n : ℕ) → last_generation n (s ∷ []) ≡ n) → last_generation count (said ++ s ∷ []) ≡ last_generation count said
+generation_kept : (count : ℕ) (said : List MacrocellLine) (s : MacrocellLine) → ((n : ℕ) → last_line_generation n (s ∷ []) ≡ n) → last_line_generation count (said ++ s ∷ []) ≡ last_line_generation count said
 generation_kept count [] s h = h count
 generation_kept count (Nothing ∷ said) s h = generation_kept count said s h
 generation_kept count (Rule t ∷ said) s h = generation_kept count said s h
@@ -92,11 +92,11 @@ generation_kept count (Generation n ∷ said) s h = generation_kept n said s h
 generation_kept count (Adds n ∷ said) s h = generation_kept count said s h
 
 -- a line that adds no node leaves the squares
-no_node : (store : List Kept) (said : List Said) (s : Said) (squares : Squares) → added s ≡ [] → AreSquares store (flat_map added said) squares → AreSquares store (flat_map added (said ++ s ∷ [])) squares
+no_node : (store : List Kept) (said : List MacrocellLine) (s : MacrocellLine) (squares : Squares) → added s ≡ [] → AreSquares store (flat_map added said) squares → AreSquares store (flat_map added (said ++ s ∷ [])) squares
 no_node store said s squares none h =
     subst (λ ns. AreSquares store ns squares) (sym (added-push said s ∙ ap (λ l. flat_map added said ++ l) none ∙ append-nil (flat_map added said))) h
 
-pub nothing_said : (store : List Kept) (said : List Said) (reading : Reading) → IsReading store said reading → IsReading store (said ++ Nothing ∷ []) reading
+pub nothing_said : (store : List Kept) (said : List MacrocellLine) (reading : Reading) → IsMacrocellReading store said reading → IsMacrocellReading store (said ++ Nothing ∷ []) reading
 nothing_said store said reading h = record {
   squares = no_node store said Nothing reading.squares refl h.squares;
   rule = λ text. rule_kept text said Nothing (λ t. refl) ∙ h.rule text;
@@ -108,8 +108,8 @@ nothing_said store said reading h = record {
 second_word : (words : List (List ℕ)) (first text : List ℕ) (more : List (List ℕ)) → words ≡ first ∷ text ∷ more → AllByRecursion IsWord words → IsWord text
 second_word words first text more e h = (subst (AllByRecursion IsWord) e h).1.0
 
-pub rule_said : (store : List Kept) (said : List Said) (reading : Reading) (text : Bor (List ℕ)) (line : List ℕ) → Every (λ b. not (is_line_end b)) line → WordsSay (words_of line) (Rule text.now)
-    → IsReading store said reading → IsReading store (said ++ Rule text.now ∷ []) (record { squares = reading.squares; rule = Some text; generation = reading.generation })
+pub rule_said : (store : List Kept) (said : List MacrocellLine) (reading : Reading) (text : Bor (List ℕ)) (line : List ℕ) → Every (λ b. not (is_line_end b)) line → MacrocellWordsSay (words_of line) (Rule text.now)
+    → IsMacrocellReading store said reading → IsMacrocellReading store (said ++ Rule text.now ∷ []) (record { squares = reading.squares; rule = Some text; generation = reading.generation })
 rule_said store said reading text line one says h = record {
   squares = no_node store said (Rule text.now) reading.squares refl h.squares;
   rule = λ t. rule_push t said text.now;
@@ -118,8 +118,8 @@ rule_said store said reading text line one says h = record {
   limit = h.limit;
 }
 
-pub generation_said : (store : List Kept) (said : List Said) (reading : Reading) (count : ℕ) → count < generation_limit
-    → IsReading store said reading → IsReading store (said ++ Generation count ∷ []) (record { squares = reading.squares; rule = reading.rule; generation = count })
+pub generation_said : (store : List Kept) (said : List MacrocellLine) (reading : Reading) (count : ℕ) → count < generation_limit
+    → IsMacrocellReading store said reading → IsMacrocellReading store (said ++ Generation count ∷ []) (record { squares = reading.squares; rule = reading.rule; generation = count })
 generation_said store said reading count low h = record {
   squares = no_node store said (Generation count) reading.squares refl h.squares;
   rule = λ t. rule_kept t said (Generation count) (λ u. refl) ∙ h.rule t;
@@ -128,15 +128,15 @@ generation_said store said reading count low h = record {
   limit = low;
 }
 
-pub comment_allowed : (earlier : List Node) (c : Comment) → IsAllowed earlier (said_of c)
+pub comment_allowed : (earlier : List Node) (c : Comment) → IsAllowedNode earlier (said_of c)
 comment_allowed earlier comment.Nothing = tt
 comment_allowed earlier (comment.Rule text) = tt
 comment_allowed earlier (comment.Generation count) = tt
 
 -- ---- nodes
 
-pub node_said : (old new : List Kept) (said : List Said) (reading : Reading) (after : Squares) (node : Node) → IsReading old said reading → AreSquares new (flat_map added said ++ node ∷ []) after
-    → IsReading new (said ++ Adds node ∷ []) (record { squares = after; rule = reading.rule; generation = reading.generation })
+pub node_said : (old new : List Kept) (said : List MacrocellLine) (reading : Reading) (after : Squares) (node : Node) → IsMacrocellReading old said reading → AreSquares new (flat_map added said ++ node ∷ []) after
+    → IsMacrocellReading new (said ++ Adds node ∷ []) (record { squares = after; rule = reading.rule; generation = reading.generation })
 node_said old new said reading after node h squares = record {
   squares = subst (λ ns. AreSquares new ns after) (sym (added-push said (Adds node))) squares;
   rule = λ t. rule_kept t said (Adds node) (λ u. refl) ∙ h.rule t;
@@ -148,7 +148,7 @@ node_said old new said reading after node h squares = record {
 -- ---- faults
 
 -- a line that is faulty by itself
-pub faulty_line : (f : MacroFault) (earlier : List Node) (words : List (List ℕ)) → AreFaulty f earlier words → HasFault f earlier words
+pub faulty_line : (f : MacroFault) (earlier : List Node) (words : List (List ℕ)) → AreFaulty f earlier words → HasNodeFault f earlier words
 faulty_line Memory earlier words h = absurd h
 faulty_line f earlier words h = h
 
@@ -158,8 +158,8 @@ bad_parts Memory nodes level nw ne sw se h = absurd h.holds
 bad_parts f nodes level nw ne sw se h = h
 
 -- the fault of a line that gives a square by its parts
-pub parts_fault : (f : MacroFault) (earlier : List Node) (words : List (List ℕ)) (level nw ne sw se : ℕ) → WordsSay words (Adds (Parts level nw ne sw se)) → IsLevel level
-    → HaveFault f earlier level nw ne sw se → HasFault f earlier words
+pub parts_fault : (f : MacroFault) (earlier : List Node) (words : List (List ℕ)) (level nw ne sw se : ℕ) → MacrocellWordsSay words (Adds (Parts level nw ne sw se)) → IsLevel level
+    → HaveFault f earlier level nw ne sw se → HasNodeFault f earlier words
 parts_fault Forward earlier words level nw ne sw se says l h = (level, nw, ne, sw, se, says, l, record { good = h.good; number = h.number; more = h.more; spelled = h.spelled; named = h.named; holds = h.holds })
 parts_fault Level earlier words level nw ne sw se says l h = inr (level, nw, ne, sw, se, says, l, record { good = h.good; number = h.number; more = h.more; spelled = h.spelled; named = h.named; holds = h.holds })
 parts_fault Memory earlier words level nw ne sw se says l h = (Parts level nw ne sw se, says, h)

@@ -10,11 +10,11 @@ use Rattle.std.proofs.lemmas.List.{length-map}
 use Rattle.ca_plane.proofs.Pictures.{cell-first}
 use Rattle.ca_plane.specs.declared.point.Point.{Point}
 use Rattle.ca_macro.specs.Nodes.{Node, Leaf, Cells, Parts, MayFollow}
-use Rattle.ca_macro.specs.File.{Rule, Generation, Adds, added, LinesSay, last_rule, last_generation, File, begins_macro, IsFile}
-use Rattle.ca_macro.specs.Shown.{rooted, picture_of}
-use Rattle.ca_macro.specs.Limits.{IsWithinRange}
+use Rattle.ca_macro.specs.File.{Rule, Generation, Adds, added, MacrocellLinesSay, last_rule, last_line_generation, MacrocellFile, begins_macro, IsMacrocellFile}
+use Rattle.ca_macro.specs.Shown.{rooted, picture_of_nodes}
+use Rattle.ca_macro.specs.Limits.{IsMacrocellWithinRange}
 use Rattle.ca_macro.specs.Pattern.{AreInRange, Holds}
-use Rattle.ca_macro.specs.Tidy.{AreInPlace, HasForm, node_text, generation_lines, tidy_lines, IsTidy, AreTidyNodes}
+use Rattle.ca_macro.specs.Tidy.{AreInPlace, HasForm, node_text, generation_lines, tidy_lines, IsTidyMacrocell, AreTidyNodes}
 use Rattle.ca_plane.specs.Puts.{Puts}
 use Rattle.ca_macro.specs.declared.write.written.Written.{Written}
 use Rattle.ca_macro.specs.inner.Written.{node_of}
@@ -48,7 +48,7 @@ small_after most earlier (Parts level nw ne sw se) h k stands =
 -- ---- what the lines of the nodes say
 
 module _ (states most : ℕ) (fits : most < 2 ^ 64) where
-  nodes_say : (earlier ns : List Node) → length earlier + length ns ≤ most → AreInPlace earlier ns → AllByRecursion (HasForm states) ns → LinesSay earlier (map node_text ns) (map Adds ns)
+  nodes_say : (earlier ns : List Node) → length earlier + length ns ≤ most → AreInPlace earlier ns → AllByRecursion (HasForm states) ns → MacrocellLinesSay earlier (map node_text ns) (map Adds ns)
   nodes_say earlier [] h place forms = tt
   nodes_say earlier (n ∷ ns) h place forms =
       let count = length-append earlier (n ∷ []) in
@@ -68,13 +68,13 @@ no_rule : (rule : List ℕ) (ns : List Node) → rule ≡ last_rule rule (map Ad
 no_rule rule [] = refl
 no_rule rule (n ∷ ns) = no_rule rule ns
 
-no_generation : (count : ℕ) (ns : List Node) → count ≡ last_generation count (map Adds ns)
+no_generation : (count : ℕ) (ns : List Node) → count ≡ last_line_generation count (map Adds ns)
 no_generation count [] = refl
 no_generation count (n ∷ ns) = no_generation count ns
 
 -- ---- the file
 
-abbrev pub tidy_file : List Node → List ℕ → ℕ → File
+abbrev pub tidy_file : List Node → List ℕ → ℕ → MacrocellFile
 tidy_file ns rule generation = record { nodes = ns; rule_text = rule; generation = generation }
 
 begin_tidy : (rule : List ℕ) (more : List (List ℕ)) → begins_macro (flat_map (λ line. line ++ 10 ∷ []) (codes "[M2] (cafile)" ∷ (codes "#R " ++ rule) ∷ more)) ≡ true
@@ -82,13 +82,13 @@ begin_tidy rule more = refl
 
 module _ (states : ℕ) (text rule : List ℕ) (generation : ℕ) (ns : List Node) (word : IsWord rule) (low : generation < 2 ^ 63) (most : length ns < 2 ^ 64) (place : AreInPlace [] ns) (forms : AllByRecursion (HasForm states) ns)
     (spelled : text ≡ flat_map (λ line. line ++ 10 ∷ []) (tidy_lines rule generation ns)) where
-  said_nodes : LinesSay [] (map node_text ns) (map Adds ns)
+  said_nodes : MacrocellLinesSay [] (map node_text ns) (map Adds ns)
   said_nodes = nodes_say states (length ns) most [] ns (omega arith) place forms
 
   lines_nodes : AllByRecursion IsLine (map node_text ns)
   lines_nodes = nodes_lines states (length ns) most [] ns (omega arith) place
 
-  without : generation ≡ 0 → text ≡ flat_map (λ line. line ++ 10 ∷ []) (codes "[M2] (cafile)" ∷ (codes "#R " ++ rule) ∷ map node_text ns) → IsFile text (tidy_file ns rule generation)
+  without : generation ≡ 0 → text ≡ flat_map (λ line. line ++ 10 ∷ []) (codes "[M2] (cafile)" ∷ (codes "#R " ++ rule) ∷ map node_text ns) → IsMacrocellFile text (tidy_file ns rule generation)
   without none whole = record {
     first = codes "[M2] (cafile)";
     lines = (codes "#R " ++ rule) ∷ map node_text ns;
@@ -101,7 +101,7 @@ module _ (states : ℕ) (text rule : List ℕ) (generation : ℕ) (ns : List Nod
     generation = none ∙ no_generation 0 ns;
   }
 
-  with_generation : text ≡ flat_map (λ line. line ++ 10 ∷ []) (codes "[M2] (cafile)" ∷ (codes "#R " ++ rule) ∷ (codes "#G " ++ decimal generation) ∷ map node_text ns) → IsFile text (tidy_file ns rule generation)
+  with_generation : text ≡ flat_map (λ line. line ++ 10 ∷ []) (codes "[M2] (cafile)" ∷ (codes "#R " ++ rule) ∷ (codes "#G " ++ decimal generation) ∷ map node_text ns) → IsMacrocellFile text (tidy_file ns rule generation)
   with_generation whole = record {
     first = codes "[M2] (cafile)";
     lines = (codes "#R " ++ rule) ∷ (codes "#G " ++ decimal generation) ∷ map node_text ns;
@@ -114,7 +114,7 @@ module _ (states : ℕ) (text rule : List ℕ) (generation : ℕ) (ns : List Nod
     generation = no_generation generation ns;
   }
 
-  pub is_file : IsFile text (tidy_file ns rule generation)
+  pub is_file : IsMacrocellFile text (tidy_file ns rule generation)
   is_file =
       elim (cases_Bool (generation == 0)) [
         | inl e ↦ without (eqb-true generation 0 e) (rw e at spelled)
@@ -145,9 +145,9 @@ rooted_live : (root : Option Node) (square : Picture) → NoneDead square → No
 rooted_live None square live = tt
 rooted_live (Some root) square live = shifted_live square _ _ live
 
-pub picture_in_range : (ns : List Node) (cells : ℤ → ℤ → ℕ) → AreInRange cells → ((x y : ℤ) → cells x y ≡ cell (picture_of ns) x y) → AllByRecursion (λ e. IsInRange e.0) (picture_of ns)
+pub picture_in_range : (ns : List Node) (cells : ℤ → ℤ → ℕ) → AreInRange cells → ((x y : ℤ) → cells x y ≡ cell (picture_of_nodes ns) x y) → AllByRecursion (λ e. IsInRange e.0) (picture_of_nodes ns)
 picture_in_range ns cells range shown =
-    all_in_range (picture_of ns) (picture_of ns) cells range shown (listed_live (picture_of ns) (rooted_live (last_or None ns) _ (live_at ns (length ns))))
+    all_in_range (picture_of_nodes ns) (picture_of_nodes ns) cells range shown (listed_live (picture_of_nodes ns) (rooted_live (last_or None ns) _ (live_at ns (length ns))))
 
 -- ---- a tidy text
 
@@ -157,8 +157,8 @@ count_nodes rule generation ns =
     let b = length-map ns node_text in
     omega arith
 
-module _ (text : List ℕ) (cells : ℤ → ℤ → ℕ) (rule : List ℕ) (generation states : ℕ) (t : IsTidy text cells rule generation states) where
-  pub file_of_tidy : IsWord rule → generation < 2 ^ 63 → length text < 2 ^ 64 → IsFile text (tidy_file t.nodes rule generation)
+module _ (text : List ℕ) (cells : ℤ → ℤ → ℕ) (rule : List ℕ) (generation states : ℕ) (t : IsTidyMacrocell text cells rule generation states) where
+  pub file_of_tidy : IsWord rule → generation < 2 ^ 63 → length text < 2 ^ 64 → IsMacrocellFile text (tidy_file t.nodes rule generation)
   file_of_tidy word low short =
       let a = line_some (tidy_lines rule generation t.nodes) in
       let b = count_nodes rule generation t.nodes in
@@ -168,7 +168,7 @@ module _ (text : List ℕ) (cells : ℤ → ℤ → ℕ) (rule : List ℕ) (gene
   pub tidy_holds : Holds (tidy_file t.nodes rule generation) cells rule generation
   tidy_holds = record { shown = λ x y. sym (t.tidy.shown x y); rule_is = refl; generation_is = refl }
 
-  pub tidy_within : AreInRange cells → IsWithinRange (tidy_file t.nodes rule generation)
+  pub tidy_within : AreInRange cells → IsMacrocellWithinRange (tidy_file t.nodes rule generation)
   tidy_within range = picture_in_range t.nodes cells range t.tidy.shown
 
 -- ---- the text that is written
@@ -189,7 +189,7 @@ tidy_nodes_as states other cells ns same a = record {
 
 pub tidy_text : (none text rule : List ℕ) (other cells : ℤ → ℤ → ℕ) (generation states : ℕ) (given ns : List Written) → none ≡ [] → given ≡ ns
     → Puts none text (flat_map (λ line. line ++ 10 ∷ []) (tidy_lines rule generation (map node_of given))) → ((x y : ℤ) → other x y ≡ cells x y) → AreTidyNodes states other (map node_of ns)
-    → IsTidy text cells rule generation states
+    → IsTidyMacrocell text cells rule generation states
 tidy_text none text rule other cells generation states given ns empty same puts shown a = record {
   nodes = map node_of ns;
   tidy = tidy_nodes_as states other cells (map node_of ns) shown a;

@@ -7,8 +7,8 @@ use Rattle.ca_plane.specs.Bytes.{Every, is_blank, is_line_end, is_digit, is_word
 use Rattle.ca_plane.proofs.Fronts.{every_append, every_wider, every_digit, every_word_byte}
 use Rattle.ca_plane.proofs.FirstWords.{word_from}
 use Rattle.ca_plane.proofs.Lines.{lines_ahead, words_ahead, words_next}
-use Rattle.ca_macro.specs.Nodes.{Node, Leaf, Cells, Parts, mark_of, rows_of, MayFollow}
-use Rattle.ca_macro.specs.File.{Adds, Rule, Generation, IsNumber, WordsSay}
+use Rattle.ca_macro.specs.Nodes.{Node, Leaf, Cells, Parts, mark_of, leaf_rows, MayFollow}
+use Rattle.ca_macro.specs.File.{Adds, Rule, Generation, IsNumber, MacrocellWordsSay}
 use Rattle.ca_macro.specs.Tidy.{HasForm, numbers_text, node_text}
 use Rattle.ca_plane.proofs.Decimals.{decimal_writes}
 
@@ -63,12 +63,12 @@ numbers_line (n ∷ m ∷ ns) a =
 abbrev leaf_text : List (List Bool) → List ℕ
 leaf_text rows = flat_map (λ row. map mark_of row ++ 36 ∷ []) rows
 
-row_before : (row : List Bool) (more : List ℕ) → rows_of ((map mark_of row ++ 36 ∷ []) ++ more) ≡ map mark_of row ∷ rows_of more
+row_before : (row : List Bool) (more : List ℕ) → leaf_rows ((map mark_of row ++ 36 ∷ []) ++ more) ≡ map mark_of row ∷ leaf_rows more
 row_before [] more = refl
 row_before (true ∷ row) more = ap (with_front 42) (row_before row more)
 row_before (false ∷ row) more = ap (with_front 46) (row_before row more)
 
-rows_read : (rows : List (List Bool)) → rows_of (leaf_text rows) ≡ map (map mark_of) rows
+rows_read : (rows : List (List Bool)) → leaf_rows (leaf_text rows) ≡ map (map mark_of) rows
 rows_read [] = refl
 rows_read (row ∷ rows) = row_before row (leaf_text rows) ∙ ap (λ l. map mark_of row ∷ l) (rows_read rows)
 
@@ -96,7 +96,7 @@ AreSmall (Leaf rows) = Unit {0}
 AreSmall (Cells nw ne sw se) = Unit {0}
 AreSmall (Parts level nw ne sw se) = AllByRecursion (λ n. n < 2 ^ 64) (nw ∷ ne ∷ sw ∷ se ∷ [])
 
-pub node_said : (states : ℕ) (earlier : List Node) (n : Node) → HasForm states n → MayFollow earlier n → AreSmall n → WordsSay (words_of (node_text n)) (Adds n)
+pub node_said : (states : ℕ) (earlier : List Node) (n : Node) → HasForm states n → MayFollow earlier n → AreSmall n → MacrocellWordsSay (words_of (node_text n)) (Adds n)
 node_said states earlier (Leaf rows) form stands small =
     let eight : length rows ≡ 8 = form.1 in
     let some = leaf_some rows (omega arith) in
@@ -115,7 +115,7 @@ node_line earlier (Parts level nw ne sw se) stands small = numbers_line (level �
 
 -- ---- the rule text and the generation
 
-pub rule_said : (rule : List ℕ) → IsWord rule → WordsSay (words_of (codes "#R " ++ rule)) (Rule rule)
+pub rule_said : (rule : List ℕ) → IsWord rule → MacrocellWordsSay (words_of (codes "#R " ++ rule)) (Rule rule)
 rule_said rule h =
     let last : words_of (codes " " ++ rule) ≡ rule ∷ [] = ap (λ l. words_of (codes " " ++ l)) (sym (append-nil rule)) ∙ words_next (codes " ") rule [] refl h refl in
     ([], words_ahead (codes "#R") (codes " " ++ rule) refl refl ∙ ap (λ l. codes "#R" ∷ l) last)
@@ -123,7 +123,7 @@ rule_said rule h =
 pub rule_line : (rule : List ℕ) → IsWord rule → IsLine (codes "#R " ++ rule)
 rule_line rule h = every_append (λ b. not (is_line_end b)) (codes "#R ") rule refl (word_is_line rule (every_word_byte rule h))
 
-pub generation_said : (count : ℕ) → count < 2 ^ 63 → WordsSay (words_of (codes "#G " ++ decimal count)) (Generation count)
+pub generation_said : (count : ℕ) → count < 2 ^ 63 → MacrocellWordsSay (words_of (codes "#G " ++ decimal count)) (Generation count)
 generation_said count h =
     let w = decimal_writes count (omega arith) in
     let last : words_of (codes " " ++ decimal count) ≡ decimal count ∷ [] =

@@ -9,17 +9,17 @@ use Rattle.ca_plane.specs.Bytes.{letter, is_digit, is_end_or, AreDigits, value}
 use Rattle.ca_plane.specs.Limits.{generation_limit}
 use Rattle.ca_macro.specs.declared.fault.MacroFault.{MacroFault}
 use Rattle.ca_macro.specs.declared.fault.MacroFault.TheVariants.{NotMacro, Timeline, Syntax, Forward, Level, LeafSize, Range, GenTooLarge, Memory}
-use Rattle.ca_macro.specs.Nodes.{Node, Leaf, Cells, Parts, IsLeaf, level_of, Names, IsLevel}
-use Rattle.ca_macro.specs.File.{Said, Nothing, Rule, Generation, Adds, is_comment, AreNumbers, WordsSay, IsAllowed}
+use Rattle.ca_macro.specs.Nodes.{Node, Leaf, Cells, Parts, IsLeaf, node_level, NamesPart, IsLevel}
+use Rattle.ca_macro.specs.File.{MacrocellLine, Nothing, Rule, Generation, Adds, is_comment, AreNumbers, MacrocellWordsSay, IsAllowedNode}
 use Rattle.ca_macro.specs.Faults.{is_leaf_byte, HasBadByte, HavePart, LackNumbers, AreFaulty}
-use Rattle.ca_macro.specs.inner.Leaves.{leaf_fault, cells_of}
+use Rattle.ca_macro.specs.inner.Leaves.{leaf_fault, leaf_cells}
 use Rattle.ca_macro.proofs.Leaves.{one_leaf}
 use Rattle.ca_macro.proofs.LeafLines.{byte_fault, leaf_none, bad_fault, leaf_begins}
 
 -- ---- the verdict
 
 abbrev pub Verdict : Type 0
-Verdict = Result Said MacroFault
+Verdict = Result MacrocellLine MacroFault
 
 abbrev pub are_digits : List ℕ → Bool
 are_digits [] = false
@@ -42,7 +42,7 @@ hash_verdict w ws =
 
 abbrev leaf_verdict : List ℕ → List (List ℕ) → Option MacroFault → Verdict
 leaf_verdict w ws (Some f) = Err f
-leaf_verdict w [] None = Ok (Adds (Leaf (cells_of w)))
+leaf_verdict w [] None = Ok (Adds (Leaf (leaf_cells w)))
 leaf_verdict w (v ∷ ws) None = Err Syntax
 
 -- a number names a part of this level
@@ -52,7 +52,7 @@ has_level level (Some l) = l == level
 
 abbrev pub names : List Node → ℕ → ℕ → Bool
 names earlier level zero = true
-names earlier level (suc i) = has_level level (option_map level_of (slice_get earlier i))
+names earlier level (suc i) = has_level level (option_map node_level (slice_get earlier i))
 
 abbrev first_bad : List Node → ℕ → List ℕ → Option MacroFault
 first_bad earlier level [] = None
@@ -177,19 +177,19 @@ level_same l level e = grind (arith, nat_tests)
 level_from_same : (l level : ℕ) → (l == level) ≡ true → l ≡ level
 level_from_same l level e = grind (arith, nat_tests)
 
-pub names_test : (earlier : List Node) (level n : ℕ) → Names earlier level n → names earlier level n ≡ true
+pub names_test : (earlier : List Node) (level n : ℕ) → NamesPart earlier level n → names earlier level n ≡ true
 names_test earlier level zero h = refl
 names_test earlier level (suc i) h = ap (has_level level) h ∙ level_same level level refl
 
-pub names_from_test : (earlier : List Node) (level n : ℕ) → names earlier level n ≡ true → Names earlier level n
+pub names_from_test : (earlier : List Node) (level n : ℕ) → names earlier level n ≡ true → NamesPart earlier level n
 names_from_test earlier level zero h = tt
-names_from_test earlier level (suc i) h = found (option_map level_of (slice_get earlier i)) refl
+names_from_test earlier level (suc i) h = found (option_map node_level (slice_get earlier i)) refl
   where
-    found : (o : Option ℕ) → option_map level_of (slice_get earlier i) ≡ o → option_map level_of (slice_get earlier i) ≡ Some level
+    found : (o : Option ℕ) → option_map node_level (slice_get earlier i) ≡ o → option_map node_level (slice_get earlier i) ≡ Some level
     found None e = absurd (true≢false (sym h ∙ ap (has_level level) e))
     found (Some l) e = e ∙ ap Some (level_from_same l level (sym (ap (has_level level) e) ∙ h))
 
-named_within : (earlier : List Node) (level n : ℕ) → Names earlier level n → n ≤ length earlier
+named_within : (earlier : List Node) (level n : ℕ) → NamesPart earlier level n → n ≤ length earlier
 named_within earlier level zero h = omega arith
 named_within [] level (suc i) h = absurd (let none : None ≡ Some level = h in cc)
 named_within (e ∷ es) level (suc zero) h = omega arith
@@ -198,7 +198,7 @@ named_within (e ∷ es) level (suc (suc i)) h = let later = named_within es leve
 not_forward : (earlier : List Node) (n : ℕ) → n ≤ length earlier → nat_lt (length earlier) n ≡ false
 not_forward earlier n h = grind (arith, nat_tests)
 
-named_no_bad : (earlier : List Node) (level : ℕ) (good more : List ℕ) → AllByRecursion (Names earlier level) good → first_bad earlier level (good ++ more) ≡ first_bad earlier level more
+named_no_bad : (earlier : List Node) (level : ℕ) (good more : List ℕ) → AllByRecursion (NamesPart earlier level) good → first_bad earlier level (good ++ more) ≡ first_bad earlier level more
 named_no_bad earlier level [] more h = refl
 named_no_bad earlier level (n ∷ ns) more h =
     rw (not_forward earlier n (named_within earlier level n h.0), names_test earlier level n h.0) (named_no_bad earlier level ns more h.1)
@@ -220,14 +220,14 @@ bad_told earlier words P f bad (level, nw, ne, sw, se, numbers, l, part) =
 forward_bad : (earlier : List Node) (level n : ℕ) (more : List ℕ) → length earlier < n → first_bad earlier level (n ∷ more) ≡ Some Forward
 forward_bad earlier level n more h = let e : nat_lt (length earlier) n ≡ true = grind (arith, nat_tests) in rw e refl
 
-level_bad : (earlier : List Node) (level n : ℕ) (more : List ℕ) → (n ≤ length earlier) × (Names earlier level n → ⊥) → first_bad earlier level (n ∷ more) ≡ Some Level
+level_bad : (earlier : List Node) (level n : ℕ) (more : List ℕ) → (n ≤ length earlier) × (NamesPart earlier level n → ⊥) → first_bad earlier level (n ∷ more) ≡ Some Level
 level_bad earlier level n more h =
     elim (cases_Bool (names earlier level n)) [
       | inl t ↦ absurd (h.1 (names_from_test earlier level n t))
       | inr f ↦ rw (not_forward earlier n h.0, f) refl
     ]
 
-pub said_told : (earlier : List Node) (words : List (List ℕ)) (s : Said) → WordsSay words s → IsAllowed earlier s → verdict earlier words ≡ Ok s
+pub said_told : (earlier : List Node) (words : List (List ℕ)) (s : MacrocellLine) → MacrocellWordsSay words s → IsAllowedNode earlier s → verdict earlier words ≡ Ok s
 said_told earlier words Nothing h allowed = nothing_told earlier words h
 said_told earlier words (Rule text) h allowed = ap (verdict earlier) h.1
 said_told earlier words (Generation count) (digits, spelled, number, low) allowed =
@@ -333,7 +333,7 @@ fault_told earlier words Syntax (inr (inr (inl lack))) = lack_told earlier words
 fault_told earlier words Syntax (inr (inr (inr (nw, ne, sw, se, numbers, large)))) = numbers_told earlier words 1 nw ne sw se numbers ∙ large_state_told nw ne sw se earlier large
 fault_told earlier words Forward h = bad_told earlier words (λ level number. length earlier < number) Forward (forward_bad earlier) h
 fault_told earlier words Level (inl (level, nw, ne, sw, se, numbers, none)) = numbers_told earlier words level nw ne sw se numbers ∙ rw (no_level_test level none) refl
-fault_told earlier words Level (inr h) = bad_told earlier words (λ level number. (number ≤ length earlier) × (Names earlier level number → ⊥)) Level (level_bad earlier) h
+fault_told earlier words Level (inr h) = bad_told earlier words (λ level number. (number ≤ length earlier) × (NamesPart earlier level number → ⊥)) Level (level_bad earlier) h
 fault_told earlier words LeafSize (w, ws, spelled, bad) = bad_leaf_told earlier words w ws is_leaf_byte LeafSize spelled bad (size_fault bad.byte bad.passes)
 fault_told earlier words Range h = absurd h
 fault_told earlier words GenTooLarge (digits, spelled, are, large) =

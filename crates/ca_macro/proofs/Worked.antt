@@ -7,13 +7,13 @@ use Rattle.std.proofs.lemmas.Fmt.{decimal_digit}
 use Rattle.ca_plane.specs.Bytes.{AreDigits, is_digit, value, lines_of, words_of}
 use Rattle.ca_plane.specs.Plane.{Picture, cell}
 use Rattle.ca_plane.proofs.Pictures.{place-from_true}
-use Rattle.ca_quad.specs.Trimmed.{IsWithin}
+use Rattle.ca_quad.specs.Trimmed.{IsWithinLevel}
 use Rattle.ca_macro.specs.declared.fault.MacroFault.TheVariants.{Forward}
-use Rattle.ca_macro.specs.Nodes.{Node, Leaf, level_of, rows_of}
+use Rattle.ca_macro.specs.Nodes.{Node, Leaf, node_level, leaf_rows}
 use Rattle.ca_macro.specs.File.{Adds, IsNumber, begins_macro}
-use Rattle.ca_macro.specs.Faults.{HasLine, HasBadByte, AreMisspelled, AreFaulty}
-use Rattle.ca_macro.specs.Shown.{picture_of}
-use Rattle.ca_macro.specs.Tidy.{Fits, IsLeastLevel, AreInPlace, HasForm, is_empty, walk_of, each_once, numbers_text, tidy_lines, IsTidy}
+use Rattle.ca_macro.specs.Faults.{HasMacrocellLine, HasBadByte, AreMisspelledNodeWords, AreFaulty}
+use Rattle.ca_macro.specs.Shown.{picture_of_nodes}
+use Rattle.ca_macro.specs.Tidy.{Fits, IsLeastLevel, AreInPlace, HasForm, is_empty, walk_of, numbers_once, numbers_text, tidy_lines, IsTidyMacrocell}
 use Rattle.ca_macro.specs.Examples.{text_of}
 use Rattle.ca_macro.specs.inner.Leaves.{is_leaf, is_live}
 use Rattle.ca_macro.proofs.Leaves.{leaf_found, no_leaf}
@@ -42,7 +42,7 @@ numbers_found line h = words_found (words_of line) h
 
 -- the line after the first
 abbrev pub faulty : (bytes line : List ℕ) (later : List (List ℕ)) (P : List Node → List (List ℕ) → Type 0) → begins_macro bytes ≡ true → lines_of bytes ≡ codes "[M2]" ∷ line ∷ later
-    → P [] (words_of line) → HasLine bytes P
+    → P [] (words_of line) → HasMacrocellLine bytes P
 faulty bytes line later P begins lines holds = record {
   first = codes "[M2]";
   good = [];
@@ -61,7 +61,7 @@ one_cell = Leaf ((true ∷ []) ∷ [])
 
 -- the line after the first and a leaf of one cell
 abbrev pub faulty_after_leaf : (bytes line : List ℕ) (P : List Node → List (List ℕ) → Type 0) → begins_macro bytes ≡ true → lines_of bytes ≡ codes "[M2]" ∷ codes "*$" ∷ line ∷ []
-    → P (one_cell ∷ []) (words_of line) → HasLine bytes P
+    → P (one_cell ∷ []) (words_of line) → HasMacrocellLine bytes P
 faulty_after_leaf bytes line P begins lines holds = record {
   first = codes "[M2]";
   good = codes "*$" ∷ [];
@@ -80,7 +80,7 @@ own_number =
     (4, 0, 0, 0, 1, numbers_found (codes "4 0 0 0 1") refl, (lit≤ tt, lit≤ tt), record { good = 0 ∷ 0 ∷ 0 ∷ []; number = 1; more = []; spelled = refl; named = (tt, (tt, (tt, tt))); holds = lit< tt })
 
 -- four numbers
-pub four_numbers : AreMisspelled (words_of (codes "4 0 0 0"))
+pub four_numbers : AreMisspelledNodeWords (words_of (codes "4 0 0 0"))
 four_numbers = inr (inr (inl (refl, λ level nw ne sw se h. h.1.1.1.1)))
 
 -- a byte that ends a leaf
@@ -88,7 +88,7 @@ pub bad_byte : (good : List ℕ) (byte : ℕ) (more : List ℕ) (test : ℕ → 
     → HasBadByte (good ++ byte ∷ more) test
 bad_byte good byte more test some leaf other passes = record {
   good = good;
-  rows = map (map is_live) (rows_of good);
+  rows = map (map is_live) (leaf_rows good);
   byte = byte;
   more = more;
   some = some;
@@ -101,13 +101,13 @@ bad_byte good byte more test some leaf other passes = record {
 -- ---- squares
 
 -- the live cells of a list fit where all its places do
-pub fits_found : (level : ℕ) (p : Picture) → AllByRecursion (λ e. IsWithin level e.0.x × IsWithin level e.0.y) p → Fits level (cell p)
+pub fits_found : (level : ℕ) (p : Picture) → AllByRecursion (λ e. IsWithinLevel level e.0.x × IsWithinLevel level e.0.y) p → Fits level (cell p)
 fits_found level [] h x y live = absurd (live refl)
 fits_found level (e ∷ es) h x y live =
     elim (cases_Bool (int_eq y e.0.y && int_eq x e.0.x)) [
       | inl t ↦
           let place = place-from_true x y e.0 t in
-          (subst (IsWithin level) (sym place.1) h.0.0, subst (IsWithin level) (sym place.0) h.0.1)
+          (subst (IsWithinLevel level) (sym place.1) h.0.0, subst (IsWithinLevel level) (sym place.0) h.0.1)
       | inr f ↦ fits_found level es h.1 x y (λ z. live (ap (λ b. if b then e.1 else cell es x y) f ∙ z))
     ]
 
@@ -151,9 +151,9 @@ spelled_by lines nodes h = ap (λ texts. text_of (lines ++ texts)) (texts_are no
 -- ---- tidy texts
 
 -- a tidy text whose picture, root, order and spelling are found by computing
-pub tidy_found : (text : List ℕ) (cells : Picture) (rule_text : List ℕ) (states : ℕ) (nodes : List Node) (root : Node) → cells ≡ picture_of nodes → last_or None nodes ≡ Some root
-    → each_once (walk_of nodes) ≡ range_with_len 1 (length nodes) → IsLeastLevel states (cell cells) (level_of root) → AreInPlace [] nodes → AllByRecursion (HasForm states) nodes → Differ nodes
-    → AllByRecursion (λ n. is_empty n ≡ false) nodes ⊎ (nodes ≡ root ∷ []) → text ≡ text_of (tidy_lines rule_text 0 nodes) → IsTidy text (cell cells) rule_text 0 states
+pub tidy_found : (text : List ℕ) (cells : Picture) (rule_text : List ℕ) (states : ℕ) (nodes : List Node) (root : Node) → cells ≡ picture_of_nodes nodes → last_or None nodes ≡ Some root
+    → numbers_once (walk_of nodes) ≡ range_with_len 1 (length nodes) → IsLeastLevel states (cell cells) (node_level root) → AreInPlace [] nodes → AllByRecursion (HasForm states) nodes → Differ nodes
+    → AllByRecursion (λ n. is_empty n ≡ false) nodes ⊎ (nodes ≡ root ∷ []) → text ≡ text_of (tidy_lines rule_text 0 nodes) → IsTidyMacrocell text (cell cells) rule_text 0 states
 tidy_found text cells rule_text states nodes root same last order level in_place forms differ empties spelled = record {
   nodes = nodes;
   tidy = record {

@@ -14,9 +14,9 @@ use Rattle.ca_quad.specs.Trees.{IsIn, IsEmpty, AreQuarters, row_cells}
 use Rattle.ca_quad.specs.inner.Measure.{Ends}
 use Rattle.ca_quad.proofs.Cells.{cell_ends, at_nw, at_ne, at_sw, at_se}
 use Rattle.ca_quad.proofs.Growth.{below_or_not}
-use Rattle.ca_macro.specs.Nodes.{Node, Leaf, Cells, Parts, Names}
-use Rattle.ca_macro.specs.Shown.{numbered, joined, square_of, squares_after, squares_of, state_of}
-use Rattle.ca_macro.specs.inner.Written.{row_of, cells_of, IsPictureOf, IsNumberOf, IsNodeOf, Extends, GoesOn, leaf_level, HasFitParts}
+use Rattle.ca_macro.specs.Nodes.{Node, Leaf, Cells, Parts, NamesPart}
+use Rattle.ca_macro.specs.Shown.{numbered_square, joined, node_picture, squares_after, squares_of, leaf_state}
+use Rattle.ca_macro.specs.inner.Written.{row_of, kept_cells, IsPictureOf, IsWrittenNumber, IsNodeOf, Extends, KeepsFirstOrder, leaf_level, HasFitParts}
 use Rattle.ca_macro.proofs.Lines.{unequal}
 use Rattle.ca_macro.proofs.Following.{all_append}
 use Rattle.ca_macro.proofs.Pictures.{NoneDead, rows_live, shifted_live, leaf_shows, four_show, joined_show, picture_as}
@@ -24,36 +24,36 @@ use Rattle.ca_macro.proofs.Gathering.{corner_zero, number_goes_on}
 
 -- ---- no picture of a node lists a dead cell
 
-numbered_live : (lists : List Picture) → AllByRecursion NoneDead lists → (n : ℕ) → NoneDead (numbered lists n)
+numbered_live : (lists : List Picture) → AllByRecursion NoneDead lists → (n : ℕ) → NoneDead (numbered_square lists n)
 numbered_live lists a zero = tt
 numbered_live [] a (suc i) = tt
 numbered_live (l ∷ ls) a (suc zero) = a.0
 numbered_live (l ∷ ls) a (suc (suc i)) = numbered_live ls a.1 (suc i)
 
-square_live : (earlier : List Picture) → AllByRecursion NoneDead earlier → (node : Node) → NoneDead (square_of earlier node)
-square_live earlier a (Leaf rows) = rows_live (map (map state_of) rows) (pos 0)
+square_live : (earlier : List Picture) → AllByRecursion NoneDead earlier → (node : Node) → NoneDead (node_picture earlier node)
+square_live earlier a (Leaf rows) = rows_live (map (map leaf_state) rows) (pos 0)
 square_live earlier a (Cells nw ne sw se) = rows_live ((nw ∷ ne ∷ []) ∷ (sw ∷ se ∷ []) ∷ []) (pos 0)
 square_live earlier a (Parts level nw ne sw se) =
     let live = numbered_live earlier a in
     let half = pos (2 ^ (level - 1)) in
     all_append _ _ _ (live nw)
-    (all_append _ _ _ (shifted_live (numbered earlier ne) half (pos 0) (live ne))
-    (all_append _ _ _ (shifted_live (numbered earlier sw) (pos 0) half (live sw)) (shifted_live (numbered earlier se) half half (live se))))
+    (all_append _ _ _ (shifted_live (numbered_square earlier ne) half (pos 0) (live ne))
+    (all_append _ _ _ (shifted_live (numbered_square earlier sw) (pos 0) half (live sw)) (shifted_live (numbered_square earlier se) half half (live se))))
 
 squares_live : (earlier : List Picture) (ns : List Node) → AllByRecursion NoneDead earlier → AllByRecursion NoneDead (squares_after earlier ns)
 squares_live earlier [] a = a
-squares_live earlier (n ∷ ns) a = squares_live (earlier ++ square_of earlier n ∷ []) ns (all_append NoneDead earlier (square_of earlier n ∷ []) a (square_live earlier a n, tt))
+squares_live earlier (n ∷ ns) a = squares_live (earlier ++ node_picture earlier n ∷ []) ns (all_append NoneDead earlier (node_picture earlier n ∷ []) a (square_live earlier a n, tt))
 
-pub live_at : (ns : List Node) (n : ℕ) → NoneDead (numbered (squares_of ns) n)
+pub live_at : (ns : List Node) (n : ℕ) → NoneDead (numbered_square (squares_of ns) n)
 live_at ns n = numbered_live (squares_of ns) (squares_live [] ns tt) n
 
 -- ---- an empty square has the number 0
 
-pub empty_number : (kept : List Kept) (ns : List Node) (id : ℕ) → IsEmpty (cells_of kept id) → IsNumberOf kept ns id 0
+pub empty_number : (kept : List Kept) (ns : List Node) (id : ℕ) → IsEmpty (kept_cells kept id) → IsWrittenNumber kept ns id 0
 empty_number kept ns id h = record {
   at_most = omega arith;
   names = tt;
-  shows = λ x y. corner_zero (cells_of kept id) h x y;
+  shows = λ x y. corner_zero (kept_cells kept id) h x y;
 }
 
 -- ---- leaves
@@ -122,7 +122,7 @@ leaf_node kept states ns id bytes two level eight low shows = record {
   in_place = tt;
   form = (two, length-map bytes (row_of 8) ∙ eight, all_short bytes, all_end_live bytes low);
   level = sym level;
-  shows = leaf_shows bytes (cells_of kept id) low (subst (λ l. (x y : ℕ) → squares.cell_of kept l id x y ≡ row_cells bytes x y) (sym level) shows);
+  shows = leaf_shows bytes (kept_cells kept id) low (subst (λ l. (x y : ℕ) → squares.cell_of kept l id x y ≡ row_cells bytes x y) (sym level) shows);
 }
 
 pub cells_node : (kept : List Kept) (states : ℕ) (ns : List Node) (id nw ne sw se : ℕ) → (states ≡ 2 → ⊥) → squares.level_of kept id ≡ 1 → nw < 256 → ne < 256 → sw < 256 → se < 256
@@ -131,7 +131,7 @@ cells_node kept states ns id nw ne sw se two level a b c d shows = record {
   in_place = (omega arith, (omega arith, (omega arith, (omega arith, tt))));
   form = two;
   level = sym level;
-  shows = four_show nw ne sw se (cells_of kept id) (subst (λ l. (x y : ℕ) → squares.cell_of kept l id x y ≡ together 1 (dot nw) (dot ne) (dot sw) (dot se) x y) (sym level) shows);
+  shows = four_show nw ne sw se (kept_cells kept id) (subst (λ l. (x y : ℕ) → squares.cell_of kept l id x y ≡ together 1 (dot nw) (dot ne) (dot sw) (dot se) x y) (sym level) shows);
 }
 
 -- ---- parts
@@ -140,7 +140,7 @@ cells_node kept states ns id nw ne sw se two level a b c d shows = record {
 pub record IsFit (kept : List Kept) (states k id : ℕ) : Type 0 where
   pub before : IsIn kept id
   pub level : squares.level_of kept id ≡ k
-  pub low : (x y : ℕ) → cells_of kept id x y < states
+  pub low : (x y : ℕ) → kept_cells kept id x y < states
 
 low_ends : (side states : ℕ) (f : ℕ → ℕ → ℕ) → Ends side f → 0 < states → ((x y : ℕ) → x < side → y < side → f x y < states) → (x y : ℕ) → f x y < states
 low_ends side states f ends some low x y =
@@ -156,11 +156,11 @@ module _ (kept : List Kept) (id k level : ℕ) (qs : List ℕ) (next : suc k ≡
   part : ℕ → ℕ → ℕ → ℕ
   part i = squares.cell_of kept k (slice_index qs i)
 
-  whole : (x y : ℕ) → cells_of kept id x y ≡ together (2 ^ k) (part 0) (part 1) (part 2) (part 3) x y
+  whole : (x y : ℕ) → kept_cells kept id x y ≡ together (2 ^ k) (part 0) (part 1) (part 2) (part 3) x y
   unfolding part
   whole x y = ap (λ l. squares.cell_of kept l id x y) (is_level ∙ sym next) ∙ q.has_cells x y
 
-  module _ (states : ℕ) (low : (x y : ℕ) → cells_of kept id x y < states) where
+  module _ (states : ℕ) (low : (x y : ℕ) → kept_cells kept id x y < states) where
     some : 0 < states
     some = let h = low 0 0 in omega arith
 
@@ -187,34 +187,34 @@ module _ (kept : List Kept) (id k level : ℕ) (qs : List ℕ) (next : suc k ≡
     unfolding part
     fit_se = fit (slice_index qs 3) q.is_se (λ x y h i. subst (λ n. n < states) (whole (2 ^ k + x) (2 ^ k + y) ∙ at_se (2 ^ k) (part 0) (part 1) (part 2) (part 3) x y) (low (2 ^ k + x) (2 ^ k + y)))
 
-  module _ (states : ℕ) (ns : List Node) (a b c d : ℕ) (na : IsNumberOf kept ns (slice_index qs 0) a) (nb : IsNumberOf kept ns (slice_index qs 1) b) (nc : IsNumberOf kept ns (slice_index qs 2) c) (nd : IsNumberOf kept ns (slice_index qs 3) d)
+  module _ (states : ℕ) (ns : List Node) (a b c d : ℕ) (na : IsWrittenNumber kept ns (slice_index qs 0) a) (nb : IsWrittenNumber kept ns (slice_index qs 1) b) (nc : IsWrittenNumber kept ns (slice_index qs 2) c) (nd : IsWrittenNumber kept ns (slice_index qs 3) d)
       (large : 2 ≤ level) (most : level ≤ 120) (form : states ≡ 2 → 4 ≤ level) where
-    name : (p n : ℕ) → IsOf kept p k → IsNumberOf kept ns p n → Names ns (level - 1) n
-    name p n is h = let e : k ≡ level - 1 = omega arith in subst (λ l. Names ns l n) (is.is_level ∙ e) h.names
+    name : (p n : ℕ) → IsOf kept p k → IsWrittenNumber kept ns p n → NamesPart ns (level - 1) n
+    name p n is h = let e : k ≡ level - 1 = omega arith in subst (λ l. NamesPart ns l n) (is.is_level ∙ e) h.names
 
-    shown : (p n : ℕ) → IsOf kept p k → IsNumberOf kept ns p n → IsPictureOf (numbered (squares_of ns) n) (squares.cell_of kept k p)
-    shown p n is h = subst (λ l. IsPictureOf (numbered (squares_of ns) n) (squares.cell_of kept l p)) is.is_level h.shows
+    shown : (p n : ℕ) → IsOf kept p k → IsWrittenNumber kept ns p n → IsPictureOf (numbered_square (squares_of ns) n) (squares.cell_of kept k p)
+    shown p n is h = subst (λ l. IsPictureOf (numbered_square (squares_of ns) n) (squares.cell_of kept l p)) is.is_level h.shows
 
     pub parts_node : IsNodeOf kept states ns id (Parts level a b c d)
     unfolding part
     parts_node =
         let e : k ≡ level - 1 = omega arith in
         let all = joined_show (2 ^ k) (part 0) (part 1) (part 2) (part 3) (cell_ends kept k (slice_index qs 0)) (cell_ends kept k (slice_index qs 1)) (cell_ends kept k (slice_index qs 2))
-        (numbered (squares_of ns) a) (numbered (squares_of ns) b) (numbered (squares_of ns) c) (numbered (squares_of ns) d)
+        (numbered_square (squares_of ns) a) (numbered_square (squares_of ns) b) (numbered_square (squares_of ns) c) (numbered_square (squares_of ns) d)
         (live_at ns a) (live_at ns b) (live_at ns c) (shown _ a q.is_nw na) (shown _ b q.is_ne nb) (shown _ c q.is_sw nc) (shown _ d q.is_se nd) in
         record {
           in_place = ((large, most), (name _ a q.is_nw na, (name _ b q.is_ne nb, (name _ c q.is_sw nc, (name _ d q.is_se nd, tt)))));
           form = form;
           level = sym is_level;
-          shows = subst (λ l. IsPictureOf (square_of (squares_of ns) (Parts level a b c d)) (cells_of kept id)) e
-              (picture_as (square_of (squares_of ns) (Parts level a b c d)) (together (2 ^ k) (part 0) (part 1) (part 2) (part 3)) (cells_of kept id) (λ x y. sym (whole x y))
-              (subst (λ l. IsPictureOf (joined (2 ^ l) (numbered (squares_of ns) a) (numbered (squares_of ns) b) (numbered (squares_of ns) c) (numbered (squares_of ns) d)) (together (2 ^ k) (part 0) (part 1) (part 2) (part 3))) e all));
+          shows = subst (λ l. IsPictureOf (node_picture (squares_of ns) (Parts level a b c d)) (kept_cells kept id)) e
+              (picture_as (node_picture (squares_of ns) (Parts level a b c d)) (together (2 ^ k) (part 0) (part 1) (part 2) (part 3)) (kept_cells kept id) (λ x y. sym (whole x y))
+              (subst (λ l. IsPictureOf (joined (2 ^ l) (numbered_square (squares_of ns) a) (numbered_square (squares_of ns) b) (numbered_square (squares_of ns) c) (numbered_square (squares_of ns) d)) (together (2 ^ k) (part 0) (part 1) (part 2) (part 3))) e all));
         }
 
 -- a square that is no leaf is written by its four parts
 pub has_fit_parts : (kept : List Kept) (states id level leaf : ℕ) (qs : List ℕ) → IsIn kept id
     → leaf_level states ≤ squares.level_of kept id → squares.level_of kept id ≤ 120
-    → ((x y : ℕ) → cells_of kept id x y < states) → level ≡ squares.level_of kept id
+    → ((x y : ℕ) → kept_cells kept id x y < states) → level ≡ squares.level_of kept id
     → leaf ≡ leaf_level states → level ≢ leaf
     → ((k : ℕ) → IsOf kept id (suc k) → AreQuarters kept id k qs) → HasFitParts kept states id qs
 has_fit_parts kept states id level leaf qs known least most low is_level is_leaf other quarters =
@@ -235,7 +235,7 @@ pub record IsFitPart (kept : List Kept) (states id part : ℕ) : Type 0 where
   pub lower : suc (squares.level_of kept part) ≡ squares.level_of kept id
   pub least : leaf_level states ≤ squares.level_of kept part
   pub most : squares.level_of kept part ≤ 120
-  pub low : (x y : ℕ) → cells_of kept part x y < states
+  pub low : (x y : ℕ) → kept_cells kept part x y < states
 
 -- the values of larger squares stay
 abbrev pub KeepsLarger : List Kept → ℕ → (old new : List (ℕ × ℕ)) → Type 0
@@ -302,21 +302,21 @@ module _ (kept : List Kept) (states id : ℕ) (qs : List ℕ) (has : HasFitParts
   -- the node of its parts' numbers
   pub numbered_node : (ns : List Node) (level p0 p1 p2 p3 a b c d : ℕ) → level ≡ squares.level_of kept id
       → p0 ≡ slice_index qs 0 → p1 ≡ slice_index qs 1 → p2 ≡ slice_index qs 2 → p3 ≡ slice_index qs 3
-      → IsNumberOf kept ns p0 a → IsNumberOf kept ns p1 b → IsNumberOf kept ns p2 c → IsNumberOf kept ns p3 d
+      → IsWrittenNumber kept ns p0 a → IsWrittenNumber kept ns p1 b → IsWrittenNumber kept ns p2 c → IsWrittenNumber kept ns p3 d
       → IsNodeOf kept states ns id (Parts level a b c d)
   numbered_node ns level p0 p1 p2 p3 a b c d is e0 e1 e2 e3 na nb nc nd =
       subst (λ l. IsNodeOf kept states ns id (Parts l a b c d)) (sym is)
       (parts_node kept id below _ qs next refl quarters states ns a b c d
-      (subst (λ p. IsNumberOf kept ns p a) e0 na) (subst (λ p. IsNumberOf kept ns p b) e1 nb)
-      (subst (λ p. IsNumberOf kept ns p c) e2 nc) (subst (λ p. IsNumberOf kept ns p d) e3 nd)
+      (subst (λ p. IsWrittenNumber kept ns p a) e0 na) (subst (λ p. IsWrittenNumber kept ns p b) e1 nb)
+      (subst (λ p. IsWrittenNumber kept ns p c) e2 nc) (subst (λ p. IsWrittenNumber kept ns p d) e3 nd)
       (large_level states below _ next from) has.most (level_form states below _ next from))
 
-pub number_extends : (kept : List Kept) (old new : List Node) (id n : ℕ) → Extends old new → IsNumberOf kept old id n → IsNumberOf kept new id n
-number_extends kept old new id n x h = subst (λ l. IsNumberOf kept l id n) (sym x.1) (number_goes_on kept old x.0 id n h)
+pub number_extends : (kept : List Kept) (old new : List Node) (id n : ℕ) → Extends old new → IsWrittenNumber kept old id n → IsWrittenNumber kept new id n
+number_extends kept old new id n x h = subst (λ l. IsWrittenNumber kept l id n) (sym x.1) (number_goes_on kept old x.0 id n h)
 
 -- a new node is the last
-pub goes_on_ok : {E : Type 0} (r : Result ℕ E) (old mid new : List Node) (node : Node) → OnOk r (new ≡ mid ++ node ∷ []) → IfOk r (λ n. n ≡ length new) → GoesOn old (mid ++ node ∷ []) (suc (length mid)) → IfOk r (GoesOn old new)
+pub goes_on_ok : {E : Type 0} (r : Result ℕ E) (old mid new : List Node) (node : Node) → OnOk r (new ≡ mid ++ node ∷ []) → IfOk r (λ n. n ≡ length new) → KeepsFirstOrder old (mid ++ node ∷ []) (suc (length mid)) → IfOk r (KeepsFirstOrder old new)
 goes_on_ok (Ok n) old mid new node more last goes =
     let e : suc (length mid) ≡ n = let f = ap length more ∙ length-append mid (node ∷ []) in omega arith in
-    subst (λ l. GoesOn old l n) (sym more) (subst (GoesOn old (mid ++ node ∷ [])) e goes)
+    subst (λ l. KeepsFirstOrder old l n) (sym more) (subst (KeepsFirstOrder old (mid ++ node ∷ [])) e goes)
 goes_on_ok (Err e) old mid new node more last goes = tt

@@ -3,7 +3,7 @@ use Rattle.std.specs.Prelude.{ℕ, ℤ, pos, negsuc, ◌+ℤ◌, List, [], ◌�
 use Rattle.std.specs.List.{flat_map}
 use Rattle.ca_plane.specs.Plane.{Picture}
 use Rattle.ca_macro.specs.Nodes.{Node, Leaf, Cells, Parts}
-use Rattle.ca_macro.specs.File.{File}
+use Rattle.ca_macro.specs.File.{MacrocellFile}
 
 -- lines, each ended by LF
 abbrev pub text_of : List (List ℕ) → List ℕ
@@ -18,7 +18,7 @@ abbrev pub glider_text : List ℕ
 glider_text = text_of (codes "[M2] (cafile)" ∷ codes "#R B3/S23" ∷ codes ".*$..*$***$$$$$$" ∷ codes "4 0 0 0 1" ∷ [])
 
 -- a file of a leaf, the south-east part of its root
-abbrev pub leaf_file : Node → ℕ → File
+abbrev pub leaf_file : Node → ℕ → MacrocellFile
 leaf_file leaf generation = record { nodes = leaf ∷ Parts 4 0 0 0 1 ∷ []; rule_text = codes "B3/S23"; generation = generation }
 
 -- a glider, the upper left corner of the box round it at x and y
@@ -30,7 +30,7 @@ glider_at x y =
 abbrev pub glider_leaf : Node
 glider_leaf = Leaf ((false ∷ true ∷ []) ∷ (false ∷ false ∷ true ∷ []) ∷ (true ∷ true ∷ true ∷ []) ∷ [] ∷ [] ∷ [] ∷ [] ∷ [] ∷ [])
 
-abbrev pub glider_file : File
+abbrev pub glider_file : MacrocellFile
 glider_file = leaf_file glider_leaf 0
 
 abbrev pub glider : Picture
@@ -43,7 +43,7 @@ cut_text = codes "[M2] (cafile)\n#R B3/S23\n.*$..*$"
 abbrev pub cut_leaf : Node
 cut_leaf = Leaf ((false ∷ true ∷ []) ∷ (false ∷ false ∷ true ∷ []) ∷ [])
 
-abbrev pub cut_file : File
+abbrev pub cut_file : MacrocellFile
 cut_file = record { nodes = cut_leaf ∷ []; rule_text = codes "B3/S23"; generation = 0 }
 
 -- the leaf is the root then
@@ -62,7 +62,7 @@ abbrev pub golly_leaf : Node
 golly_leaf = Leaf (
     [] ∷ [] ∷ (false ∷ false ∷ true ∷ []) ∷ (false ∷ false ∷ false ∷ true ∷ []) ∷ (false ∷ true ∷ true ∷ true ∷ []) ∷ [] ∷ [] ∷ [] ∷ [])
 
-abbrev pub golly_file : File
+abbrev pub golly_file : MacrocellFile
 golly_file = leaf_file golly_leaf 4
 
 -- it lies one cell further right and two further down
@@ -74,7 +74,7 @@ abbrev pub cross_text : List ℕ
 cross_text = text_of (
     codes "[M2] (cafile)" ∷ codes "#R Spread" ∷ codes "1 0 0 2 0" ∷ codes "1 0 2 0 0" ∷ codes "1 2 2 2 0" ∷ codes "2 0 1 2 3" ∷ [])
 
-abbrev pub cross_file : File
+abbrev pub cross_file : MacrocellFile
 cross_file = record {
   nodes = Cells 0 0 2 0 ∷ Cells 0 2 0 0 ∷ Cells 2 2 2 0 ∷ Parts 2 0 1 2 3 ∷ [];
   rule_text = codes "Spread";
@@ -101,7 +101,7 @@ mixed_text = codes "[M2]\r\n# 4 0 0 0 0\r\n #R Old rule\r\n\r\n#R\r\n#Rule\r\n\t
 abbrev pub mixed_leaf : Node
 mixed_leaf = Leaf ((true ∷ true ∷ []) ∷ (true ∷ true ∷ []) ∷ [])
 
-abbrev pub mixed_file : File
+abbrev pub mixed_file : MacrocellFile
 mixed_file = record {
   nodes = mixed_leaf ∷ Cells 0 0 0 200 ∷ Parts 2 2 0 0 2 ∷ [];
   rule_text = codes "New";

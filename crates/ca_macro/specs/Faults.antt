@@ -5,21 +5,21 @@ use Rattle.std.specs.List.{AllByRecursion, starts_with, flat_map}
 use Rattle.ca_plane.specs.Bytes.{letter, is_end_or, AreDigits, value, lines_of, words_of}
 use Rattle.ca_macro.specs.declared.fault.MacroFault.{MacroFault}
 use Rattle.ca_macro.specs.declared.fault.MacroFault.TheVariants.{NotMacro, Timeline, Syntax, Forward, Level, LeafSize, Range, GenTooLarge, Memory}
-use Rattle.ca_macro.specs.Nodes.{Node, IsLeaf, Names, IsLevel, MayFollow}
-use Rattle.ca_macro.specs.File.{Said, Adds, AreNumbers, WordsSay, added, LinesSay, File, begins_macro, IsFile}
+use Rattle.ca_macro.specs.Nodes.{Node, IsLeaf, NamesPart, IsLevel, MayFollow}
+use Rattle.ca_macro.specs.File.{MacrocellLine, Adds, AreNumbers, MacrocellWordsSay, added, MacrocellLinesSay, MacrocellFile, begins_macro, IsMacrocellFile}
 use Rattle.ca_plane.specs.Limits.{generation_limit}
-use Rattle.ca_macro.specs.Limits.{IsOutOfRange}
+use Rattle.ca_macro.specs.Limits.{IsMacrocellOutOfRange}
 
 -- a line after `[M2]` and good lines: this holds of the nodes of the good lines and the words of this line
-pub record HasLine (bytes : List ℕ) (P : List Node → List (List ℕ) → Type 0) : Type 0 where
+pub record HasMacrocellLine (bytes : List ℕ) (P : List Node → List (List ℕ) → Type 0) : Type 0 where
   pub first : List ℕ
   pub good : List (List ℕ)
   pub line : List ℕ
   pub later : List (List ℕ)
-  pub said : List Said
+  pub said : List MacrocellLine
   pub begins : begins_macro bytes ≡ true
   pub lines_are : lines_of bytes ≡ first ∷ (good ++ line ∷ later)
-  pub say : LinesSay [] good said
+  pub say : MacrocellLinesSay [] good said
   pub holds : P (flat_map added said) (words_of line)
 
 -- the first word begins a plane of a timeline
@@ -75,8 +75,8 @@ HaveLargeState words = (nw : ℕ) × (ne : ℕ) × (sw : ℕ) × (se : ℕ) × A
     × (AllByRecursion (λ state. state ≤ 255) (nw ∷ ne ∷ sw ∷ se ∷ []) → ⊥)
 
 -- the words say nothing that a line may say
-abbrev pub AreMisspelled : List (List ℕ) → Type 0
-AreMisspelled words = HaveBadGeneration words ⊎ (HaveBadLeaf words ⊎ (LackNumbers words ⊎ HaveLargeState words))
+abbrev pub AreMisspelledNodeWords : List (List ℕ) → Type 0
+AreMisspelledNodeWords words = HaveBadGeneration words ⊎ (HaveBadLeaf words ⊎ (LackNumbers words ⊎ HaveLargeState words))
 
 -- this holds of the first of these numbers that may not name a part of this level
 pub record HasBadPart (earlier : List Node) (level : ℕ) (numbers : List ℕ) (P : ℕ → Type 0) : Type 0 where
@@ -84,7 +84,7 @@ pub record HasBadPart (earlier : List Node) (level : ℕ) (numbers : List ℕ) (
   pub number : ℕ
   pub more : List ℕ
   pub spelled : numbers ≡ good ++ number ∷ more
-  pub named : AllByRecursion (Names earlier level) good
+  pub named : AllByRecursion (NamesPart earlier level) good
   pub holds : P number
 
 -- a square of a level from 2 to 120: this holds of its first bad part
@@ -103,21 +103,21 @@ HaveNoLevel words = (level : ℕ) × (nw : ℕ) × (ne : ℕ) × (sw : ℕ) × (
 -- the level is 0 or above 120, or the first bad part is an earlier node of another level
 abbrev pub HaveBadLevel : List Node → List (List ℕ) → Type 0
 HaveBadLevel earlier words =
-    HaveNoLevel words ⊎ HavePart earlier words (λ level number. (number ≤ length earlier) × (Names earlier level number → ⊥))
+    HaveNoLevel words ⊎ HavePart earlier words (λ level number. (number ≤ length earlier) × (NamesPart earlier level number → ⊥))
 
 -- the words add a node
 abbrev pub AddNode : List Node → List (List ℕ) → Type 0
-AddNode earlier words = (node : Node) × WordsSay words (Adds node) × MayFollow earlier node
+AddNode earlier words = (node : Node) × MacrocellWordsSay words (Adds node) × MayFollow earlier node
 
 -- after good lines a good line adds a node
 abbrev pub HasNodeLine : List ℕ → Type 0
-HasNodeLine bytes = HasLine bytes AddNode
+HasNodeLine bytes = HasMacrocellLine bytes AddNode
 
 -- what is wrong with the words of a line that follows earlier nodes
 abbrev pub AreFaulty : MacroFault → List Node → List (List ℕ) → Type 0
 AreFaulty NotMacro earlier words = ⊥
 AreFaulty Timeline earlier words = AreTimeline words
-AreFaulty Syntax earlier words = AreMisspelled words
+AreFaulty Syntax earlier words = AreMisspelledNodeWords words
 AreFaulty Forward earlier words = HaveForwardPart earlier words
 AreFaulty Level earlier words = HaveBadLevel earlier words
 AreFaulty LeafSize earlier words = HaveLargeLeaf words
@@ -126,28 +126,28 @@ AreFaulty GenTooLarge earlier words = HaveLargeGeneration words
 AreFaulty Memory earlier words = ⊥
 
 -- the first fault in the spelling of a text
-abbrev pub IsFirstFault : List ℕ → MacroFault → Type 0
-IsFirstFault bytes NotMacro = begins_macro bytes ≡ false
-IsFirstFault bytes Range = ⊥
-IsFirstFault bytes Memory = ⊥
-IsFirstFault bytes fault = HasLine bytes (AreFaulty fault)
+abbrev pub IsFirstMacrocellFault : List ℕ → MacroFault → Type 0
+IsFirstMacrocellFault bytes NotMacro = begins_macro bytes ≡ false
+IsFirstMacrocellFault bytes Range = ⊥
+IsFirstMacrocellFault bytes Memory = ⊥
+IsFirstMacrocellFault bytes fault = HasMacrocellLine bytes (AreFaulty fault)
 
 -- the first fault in the spelling of a text, and the number of its line. The line that begins with `[M2]` is line 1
-abbrev pub IsFirstFaultOn : List ℕ → MacroFault → (line : ℕ) → Type 0
-IsFirstFaultOn bytes NotMacro n = IsFirstFault bytes NotMacro × (n ≡ 1)
-IsFirstFaultOn bytes fault n = (found : HasLine bytes (AreFaulty fault)) × (n ≡ length found.good + 2)
+abbrev pub IsFirstMacrocellFaultOn : List ℕ → MacroFault → (line : ℕ) → Type 0
+IsFirstMacrocellFaultOn bytes NotMacro n = IsFirstMacrocellFault bytes NotMacro × (n ≡ 1)
+IsFirstMacrocellFaultOn bytes fault n = (found : HasMacrocellLine bytes (AreFaulty fault)) × (n ≡ length found.good + 2)
 
 -- the line of the first fault in the spelling of a text has this number
-abbrev pub IsFaultyLine : List ℕ → ℕ → Type 0
-IsFaultyLine bytes n = (fault : MacroFault) × IsFirstFaultOn bytes fault n
+abbrev pub IsFaultyMacrocellLine : List ℕ → ℕ → Type 0
+IsFaultyMacrocellLine bytes n = (fault : MacroFault) × IsFirstMacrocellFaultOn bytes fault n
 
 -- the fault of a text: the first in its spelling, else a live cell that is out of range. Memory can run out at a good line that
 -- adds a node after good lines, and at the end of a good text
-abbrev pub IsFaultOf : List ℕ → MacroFault → Type 0
-IsFaultOf bytes Range = (file : File) × IsFile bytes file × IsOutOfRange file
-IsFaultOf bytes Memory = HasNodeLine bytes ⊎ ((file : File) × IsFile bytes file)
-IsFaultOf bytes fault = IsFirstFault bytes fault
+abbrev pub IsMacrocellFault : List ℕ → MacroFault → Type 0
+IsMacrocellFault bytes Range = (file : MacrocellFile) × IsMacrocellFile bytes file × IsMacrocellOutOfRange file
+IsMacrocellFault bytes Memory = HasNodeLine bytes ⊎ ((file : MacrocellFile) × IsMacrocellFile bytes file)
+IsMacrocellFault bytes fault = IsFirstMacrocellFault bytes fault
 
 -- the fault of a text, and the number of the line on which it stands: none for a fault that isn't in the spelling
-abbrev pub IsFaultOn : List ℕ → MacroFault → Option ℕ → Type 0
-IsFaultOn bytes fault line = IsFaultOf bytes fault × MatchOption line (IsFirstFault bytes fault → ⊥) (IsFirstFaultOn bytes fault)
+abbrev pub IsMacrocellFaultOn : List ℕ → MacroFault → Option ℕ → Type 0
+IsMacrocellFaultOn bytes fault line = IsMacrocellFault bytes fault × MatchOption line (IsFirstMacrocellFault bytes fault → ⊥) (IsFirstMacrocellFaultOn bytes fault)

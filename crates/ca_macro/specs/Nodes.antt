@@ -12,30 +12,30 @@ pub data Node : Type 0 where
   Parts : (level nw ne sw se : ℕ) → Node
 
 -- the level of a square whose side is 2^level cells
-abbrev pub level_of : Node → ℕ
-level_of (Leaf rows) = 3
-level_of (Cells nw ne sw se) = 1
-level_of (Parts level nw ne sw se) = level
+abbrev pub node_level : Node → ℕ
+node_level (Leaf rows) = 3
+node_level (Cells nw ne sw se) = 1
+node_level (Parts level nw ne sw se) = level
 
 -- how a cell of a leaf is written: `*` is live, `.` is dead
 abbrev pub mark_of : Bool → ℕ
 mark_of live = if live then letter "*" else letter "."
 
 -- the rows that bytes give: `$` ends a row; after the last row it may be left out (our own)
-abbrev pub rows_of : List ℕ → List (List ℕ)
-rows_of [] = []
-rows_of (b ∷ bs) = if b == letter "$" then [] ∷ rows_of bs else with_front b (rows_of bs)
+abbrev pub leaf_rows : List ℕ → List (List ℕ)
+leaf_rows [] = []
+leaf_rows (b ∷ bs) = if b == letter "$" then [] ∷ leaf_rows bs else with_front b (leaf_rows bs)
 
 -- the bytes are those of a leaf: at most eight rows of at most eight cells
 pub record IsLeaf (bytes : List ℕ) (rows : List (List Bool)) : Type 0 where
-  pub marks : rows_of bytes ≡ map (map mark_of) rows
+  pub marks : leaf_rows bytes ≡ map (map mark_of) rows
   pub height : length rows ≤ 8
   pub width : AllByRecursion (λ row. length row ≤ 8) rows
 
 -- a number may name a part of this level after earlier nodes: 0 is the empty square, and nodes are numbered from 1
-abbrev pub Names : List Node → ℕ → ℕ → Type 0
-Names earlier level zero = Unit {0}
-Names earlier level (suc i) = option_map level_of (slice_get earlier i) ≡ Some level
+abbrev pub NamesPart : List Node → ℕ → ℕ → Type 0
+NamesPart earlier level zero = Unit {0}
+NamesPart earlier level (suc i) = option_map node_level (slice_get earlier i) ≡ Some level
 
 -- the levels of squares that are given by their parts
 abbrev pub IsLevel : ℕ → Type 0
@@ -45,4 +45,4 @@ IsLevel level = (2 ≤ level) × (level ≤ 120)
 abbrev pub MayFollow : List Node → Node → Type 0
 MayFollow earlier (Leaf rows) = Unit {0}
 MayFollow earlier (Cells nw ne sw se) = AllByRecursion (λ state. state ≤ 255) (nw ∷ ne ∷ sw ∷ se ∷ [])
-MayFollow earlier (Parts level nw ne sw se) = IsLevel level × AllByRecursion (Names earlier (level - 1)) (nw ∷ ne ∷ sw ∷ se ∷ [])
+MayFollow earlier (Parts level nw ne sw se) = IsLevel level × AllByRecursion (NamesPart earlier (level - 1)) (nw ∷ ne ∷ sw ∷ se ∷ [])

@@ -2,7 +2,7 @@
 use Rattle.std.specs.Prelude.{ℕ, zero, suc, ◌-◌, ◌^◌, ℤ, pos, neg_ℤ, ◌+ℤ◌, List, [], ◌∷◌, ◌++◌, map, Bool, ◌==◌, Option, Some, None, get_or, length, if◌then◌else◌}
 use Rattle.std.specs.List.{last_or}
 use Rattle.ca_plane.specs.Plane.{Picture, shifted}
-use Rattle.ca_macro.specs.Nodes.{Node, Leaf, Cells, Parts, level_of}
+use Rattle.ca_macro.specs.Nodes.{Node, Leaf, Cells, Parts, node_level}
 
 -- the live cells of a row of states, from (x, y) to the right
 abbrev pub row_from : ℤ → ℤ → List ℕ → Picture
@@ -17,8 +17,8 @@ rows_from y [] = []
 rows_from y (r ∷ rs) = row_from (pos 0) y r ++ rows_from (y +ℤ pos 1) rs
 
 -- the state of a leaf's cell
-abbrev pub state_of : Bool → ℕ
-state_of live = if live then 1 else 0
+abbrev pub leaf_state : Bool → ℕ
+leaf_state live = if live then 1 else 0
 
 -- four pictures, each moved to its corner of a square whose half side is this
 abbrev pub joined : ℕ → (nw ne sw se : Picture) → Picture
@@ -26,21 +26,21 @@ joined half nw ne sw se =
     nw ++ (shifted ne (pos half) (pos 0) ++ (shifted sw (pos 0) (pos half) ++ shifted se (pos half) (pos half)))
 
 -- the list of the square with a number, among the lists of the nodes: 0 is the empty square, and nodes are numbered from 1
-abbrev pub numbered : {A : Type 0} → List (List A) → ℕ → List A
-numbered lists zero = []
-numbered lists (suc i) = get_or lists i []
+abbrev pub numbered_square : {A : Type 0} → List (List A) → ℕ → List A
+numbered_square lists zero = []
+numbered_square lists (suc i) = get_or lists i []
 
 -- the picture of a node that follows nodes of these pictures, its upper left cell at (0, 0)
-abbrev pub square_of : List Picture → Node → Picture
-square_of earlier (Leaf rows) = rows_from (pos 0) (map (map state_of) rows)
-square_of earlier (Cells nw ne sw se) = rows_from (pos 0) ((nw ∷ ne ∷ []) ∷ (sw ∷ se ∷ []) ∷ [])
-square_of earlier (Parts level nw ne sw se) =
-    joined (2 ^ (level - 1)) (numbered earlier nw) (numbered earlier ne) (numbered earlier sw) (numbered earlier se)
+abbrev pub node_picture : List Picture → Node → Picture
+node_picture earlier (Leaf rows) = rows_from (pos 0) (map (map leaf_state) rows)
+node_picture earlier (Cells nw ne sw se) = rows_from (pos 0) ((nw ∷ ne ∷ []) ∷ (sw ∷ se ∷ []) ∷ [])
+node_picture earlier (Parts level nw ne sw se) =
+    joined (2 ^ (level - 1)) (numbered_square earlier nw) (numbered_square earlier ne) (numbered_square earlier sw) (numbered_square earlier se)
 
 -- the pictures of earlier nodes and of those that follow them
 abbrev pub squares_after : List Picture → List Node → List Picture
 squares_after earlier [] = earlier
-squares_after earlier (n ∷ ns) = squares_after (earlier ++ square_of earlier n ∷ []) ns
+squares_after earlier (n ∷ ns) = squares_after (earlier ++ node_picture earlier n ∷ []) ns
 
 -- the pictures of all nodes
 abbrev pub squares_of : List Node → List Picture
@@ -53,8 +53,8 @@ centred level square = shifted square (neg_ℤ (pos (2 ^ (level - 1)))) (neg_ℤ
 -- the picture of nodes is that of the last one, the root
 abbrev pub rooted : Option Node → Picture → Picture
 rooted None square = []
-rooted (Some root) square = centred (level_of root) square
+rooted (Some root) square = centred (node_level root) square
 
 -- without a node it is empty (our own)
-abbrev pub picture_of : List Node → Picture
-picture_of nodes = rooted (last_or None nodes) (numbered (squares_of nodes) (length nodes))
+abbrev pub picture_of_nodes : List Node → Picture
+picture_of_nodes nodes = rooted (last_or None nodes) (numbered_square (squares_of nodes) (length nodes))

@@ -4,8 +4,8 @@ use Rattle.std.specs.List.{flat_map, list_all, AllByRecursion, AllPairs, last_or
 use Rattle.ca_plane.specs.Bytes.{letter}
 use Rattle.ca_plane.specs.Plane.{cell}
 use Rattle.ca_quad.specs.Trimmed.{HoldsAll}
-use Rattle.ca_macro.specs.Nodes.{Node, Leaf, Cells, Parts, level_of, mark_of, MayFollow}
-use Rattle.ca_macro.specs.Shown.{numbered, picture_of}
+use Rattle.ca_macro.specs.Nodes.{Node, Leaf, Cells, Parts, node_level, mark_of, MayFollow}
+use Rattle.ca_macro.specs.Shown.{numbered_square, picture_of_nodes}
 
 -- the least level of a root
 abbrev pub lowest_level : ℕ → ℕ
@@ -41,25 +41,25 @@ is_empty (Cells nw ne sw se) = list_all (λ state. state == 0) (nw ∷ ne ∷ sw
 is_empty (Parts level nw ne sw se) = list_all (λ number. number == 0) (nw ∷ ne ∷ sw ∷ se ∷ [])
 
 -- the numbers of a node's parts
-abbrev pub parts_of : Node → List ℕ
-parts_of (Leaf rows) = []
-parts_of (Cells nw ne sw se) = []
-parts_of (Parts level nw ne sw se) = nw ∷ ne ∷ sw ∷ se ∷ []
+abbrev pub node_parts : Node → List ℕ
+node_parts (Leaf rows) = []
+node_parts (Cells nw ne sw se) = []
+node_parts (Parts level nw ne sw se) = nw ∷ ne ∷ sw ∷ se ∷ []
 
 -- the walks over earlier nodes and over those that follow them: a walk over a node comes to all that the walks over its parts come to, one
 -- after another, and then to the node itself
 abbrev pub walks_after : List (List ℕ) → List Node → List (List ℕ)
 walks_after earlier [] = earlier
-walks_after earlier (n ∷ ns) = walks_after (earlier ++ (flat_map (numbered earlier) (parts_of n) ++ (length earlier + 1) ∷ []) ∷ []) ns
+walks_after earlier (n ∷ ns) = walks_after (earlier ++ (flat_map (numbered_square earlier) (node_parts n) ++ (length earlier + 1) ∷ []) ∷ []) ns
 
 -- the walk over the root
 abbrev pub walk_of : List Node → List ℕ
-walk_of nodes = numbered (walks_after [] nodes) (length nodes)
+walk_of nodes = numbered_square (walks_after [] nodes) (length nodes)
 
 -- each number once, where it comes first
-abbrev pub each_once : List ℕ → List ℕ
-each_once [] = []
-each_once (n ∷ ns) = n ∷ filter (λ m. not (m == n)) (each_once ns)
+abbrev pub numbers_once : List ℕ → List ℕ
+numbers_once [] = []
+numbers_once (n ∷ ns) = n ∷ filter (λ m. not (m == n)) (numbers_once ns)
 
 -- numbers as they are written
 abbrev pub numbers_text : List ℕ → List ℕ
@@ -83,9 +83,9 @@ tidy_lines rule_text generation nodes =
 -- the nodes of a plane, given by its cells at every x and y, as they are written under a rule with this number of states
 pub record AreTidyNodes (states : ℕ) (cells : ℤ → ℤ → ℕ) (nodes : List Node) : Type 0 where
   pub root : Node
-  pub shown : (x y : ℤ) → cells x y ≡ cell (picture_of nodes) x y
+  pub shown : (x y : ℤ) → cells x y ≡ cell (picture_of_nodes nodes) x y
   pub root_is_last : last_or None nodes ≡ Some root
-  pub level : IsLeastLevel states cells (level_of root)
+  pub level : IsLeastLevel states cells (node_level root)
   pub in_place : AreInPlace [] nodes
   pub forms : AllByRecursion (HasForm states) nodes
   -- no node is written twice
@@ -93,10 +93,10 @@ pub record AreTidyNodes (states : ℕ) (cells : ℤ → ℤ → ℕ) (nodes : Li
   -- only the root may be an empty node, and then it is the only node
   pub empties : AllByRecursion (λ n. is_empty n ≡ false) nodes ⊎ (nodes ≡ root ∷ [])
   -- the walk over the root comes to the nodes first in the order of their numbers
-  pub order : each_once (walk_of nodes) ≡ range_with_len 1 (length nodes)
+  pub order : numbers_once (walk_of nodes) ≡ range_with_len 1 (length nodes)
 
 -- the one text of a plane, its rule text, its generation and its rule's number of states
-pub record IsTidy (text : List ℕ) (cells : ℤ → ℤ → ℕ) (rule_text : List ℕ) (generation states : ℕ) : Type 0 where
+pub record IsTidyMacrocell (text : List ℕ) (cells : ℤ → ℤ → ℕ) (rule_text : List ℕ) (generation states : ℕ) : Type 0 where
   pub nodes : List Node
   pub tidy : AreTidyNodes states cells nodes
   -- each line ends with LF

@@ -2,7 +2,7 @@
 
 ghost use Rattle.std.specs.Prelude.{◌≡◌, ℕ, List};
 ghost use Rattle.ca_macro.specs.declared.fault.MacroFault.TheVariants.{Memory};
-ghost use Rattle.ca_macro.specs.inner.Reading.{HasFaultOn, IsReadingFault};
+ghost use Rattle.ca_macro.specs.inner.Reading.{HasFaultOn, IsMacrocellReadingFault};
 
 use thiserror::Error;
 
@@ -51,7 +51,7 @@ impl LineFault {
     /// What was met at the line with this number.
     pub(crate) fn at_line(fault: MacroFault, number: u64) -> LineFault
         ensures { (bytes : List ℕ) → HasFaultOn bytes fault number
-            → IsReadingFault bytes result.fault result.line }
+            → IsMacrocellReadingFault bytes result.fault result.line }
     {
         let line = match fault {
             MacroFault::Memory => None,

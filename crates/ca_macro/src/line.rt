@@ -6,7 +6,7 @@ ghost use Rattle.std.specs.List.{AllByRecursion};
 ghost use Rattle.ca_plane.specs.Bytes.{is_end_or, is_line_end, Every, words_of};
 ghost use Rattle.ca_macro.specs.Nodes.{Node};
 ghost use Rattle.ca_macro.specs.Faults.{is_leaf_byte, AreFaulty, begin_node};
-ghost use Rattle.ca_macro.specs.inner.Lines.{Reads};
+ghost use Rattle.ca_macro.specs.inner.Lines.{ReadsLines};
 
 mod comment;
 mod leaf;
@@ -57,7 +57,7 @@ fn states(numbers: Numbers) -> Option<[u8; 4]>
 fn node(line: &[u8]) -> Result<Line<'_>, MacroFault>
     requires line { Every (λ b. not (is_line_end b)) line.now }
     requires begins { begin_node (words_of line.now) ≡ true }
-    ensures read { IfOk result (λ l. Reads (words_of line.now) l) }
+    ensures read { IfOk result (λ l. ReadsLines (words_of line.now) l) }
     ensures fault { IfErr result (λ f. (earlier : List Node) → AreFaulty f earlier (words_of line.now)) }
 {
     let Some(numbers) = five_numbers(line) else {
@@ -89,7 +89,7 @@ fn leaf_line<'a>(word: &[u8], rest: &'a [u8]) -> Result<Line<'a>, MacroFault>
     requires some { 0 < length word.now }
     requires begins { is_end_or is_leaf_byte word.now ≡ true }
     requires line { Every (λ b. not (is_line_end b)) rest.now }
-    ensures read { IfOk result (λ l. Reads (word.now ∷ words_of rest.now) l) }
+    ensures read { IfOk result (λ l. ReadsLines (word.now ∷ words_of rest.now) l) }
     ensures fault { IfErr result (λ f. (earlier : List Node)
         → AreFaulty f earlier (word.now ∷ words_of rest.now)) }
 {
@@ -108,7 +108,7 @@ fn leaf_line<'a>(word: &[u8], rest: &'a [u8]) -> Result<Line<'a>, MacroFault>
 /// and `Level` for a level of 0 or above 120.
 pub(crate) fn read_line(line: &[u8]) -> Result<Line<'_>, MacroFault>
     requires { Every (λ b. not (is_line_end b)) line.now }
-    ensures read { IfOk result (λ l. Reads (words_of line.now) l) }
+    ensures read { IfOk result (λ l. ReadsLines (words_of line.now) l) }
     ensures fault { IfErr result (λ f. (earlier : List Node) → AreFaulty f earlier (words_of line.now)) }
 {
     let Some((word, rest)) = next_word(line) else {

@@ -1,13 +1,13 @@
 //! The reader of macrocell.
 
 ghost use Rattle.std.specs.Prelude.{◌≡◌, ◌⊎◌, ◌<◌, List, [], ◌∷◌, ◌++◌, true, IfOk, IfErr};
-ghost use Rattle.ca_quad.specs.Sound.{IsSound, Grows};
+ghost use Rattle.ca_quad.specs.Sound.{IsSoundStore, Grows};
 ghost use Rattle.ca_macro.specs.declared.fault.MacroFault.TheVariants.{Range, Memory};
-ghost use Rattle.ca_macro.specs.File.{Said};
-ghost use Rattle.ca_macro.specs.Limits.{IsWithinRange, IsOutOfRange};
-ghost use Rattle.ca_macro.specs.Faults.{IsFaultOf, IsFaultOn};
-ghost use Rattle.ca_macro.specs.Pattern.{IsPatternOf, HoldsMacrocellPattern};
-ghost use Rattle.ca_macro.specs.inner.Reading.{HoldsReading, IsReading, IsReadingFault, file_of};
+ghost use Rattle.ca_macro.specs.File.{MacrocellLine};
+ghost use Rattle.ca_macro.specs.Limits.{IsMacrocellWithinRange, IsMacrocellOutOfRange};
+ghost use Rattle.ca_macro.specs.Faults.{IsMacrocellFault, IsMacrocellFaultOn};
+ghost use Rattle.ca_macro.specs.Pattern.{IsMacrocellPattern, HoldsMacrocellPattern};
+ghost use Rattle.ca_macro.specs.inner.Reading.{HoldsReading, IsMacrocellReading, IsMacrocellReadingFault, file_of};
 
 mod empties;
 mod range;
@@ -35,7 +35,7 @@ pub(crate) fn read_text<'a>(
     bytes: &'a [u8],
 ) -> Result<Reading<'a>, LineFault>
     ensures found { IfOk result (HoldsReading store.new bytes.now) }
-    ensures fault { IfErr result (λ f. IsReadingFault bytes.now f.fault f.line) }
+    ensures fault { IfErr result (λ f. IsMacrocellReadingFault bytes.now f.fault f.line) }
     ensures grows { Grows store.old store.new }
 {
     // Says what holds of every store.
@@ -66,11 +66,11 @@ fn pattern_of(
     store: &mut Store,
     reading: &Reading<'_>,
 ) -> Result<MacroPattern, MacroFault>
-    requires { (said : List Said) × IsReading store.old said reading.now }
-    ensures found { IfOk result (λ p. (said : List Said) → IsReading store.old said reading.now
-        → IsWithinRange (file_of said) × IsPatternOf store.new (file_of said) p) }
-    ensures fault { IfErr result (λ f. (said : List Said) → IsReading store.old said reading.now
-        → (f ≡ Memory) ⊎ ((f ≡ Range) × IsOutOfRange (file_of said))) }
+    requires { (said : List MacrocellLine) × IsMacrocellReading store.old said reading.now }
+    ensures found { IfOk result (λ p. (said : List MacrocellLine) → IsMacrocellReading store.old said reading.now
+        → IsMacrocellWithinRange (file_of said) × IsMacrocellPattern store.new (file_of said) p) }
+    ensures fault { IfErr result (λ f. (said : List MacrocellLine) → IsMacrocellReading store.old said reading.now
+        → (f ≡ Memory) ⊎ ((f ≡ Range) × IsMacrocellOutOfRange (file_of said))) }
     ensures grows { Grows store.old store.new }
 {
     let root = reading.squares.root(store)?;
@@ -105,7 +105,7 @@ pub fn read_macro_with_line(
     // What is read is what the text holds, and each live cell is in range.
     ensures found { IfOk result (HoldsMacrocellPattern store.new bytes.now) }
     // A text that is refused has this fault, on this line.
-    ensures fault { IfErr result (λ f. IsFaultOn bytes.now f.fault f.line) }
+    ensures fault { IfErr result (λ f. IsMacrocellFaultOn bytes.now f.fault f.line) }
     // Every old square stays.
     ensures grows { Grows store.old store.new }
 {
@@ -129,7 +129,7 @@ pub fn read_macro(
     // What is read is what the text holds, and each live cell is in range.
     ensures found { IfOk result (HoldsMacrocellPattern store.new bytes.now) }
     // A text that is refused has this fault.
-    ensures fault { IfErr result (λ f. IsFaultOf bytes.now f) }
+    ensures fault { IfErr result (λ f. IsMacrocellFault bytes.now f) }
     // Every old square stays.
     ensures grows { Grows store.old store.new }
 {

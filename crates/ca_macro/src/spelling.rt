@@ -2,7 +2,7 @@
 
 ghost use Rattle.std.specs.Prelude.{IfOk, IfErr, MatchOption};
 ghost use Rattle.ca_macro.specs.declared.fault.MacroFault.{MacroFault};
-ghost use Rattle.ca_macro.specs.Faults.{HasNodeLine, IsFirstFault, IsFaultyLine};
+ghost use Rattle.ca_macro.specs.Faults.{HasNodeLine, IsFirstMacrocellFault, IsFaultyMacrocellLine};
 
 use crate::read::read_text;
 use ca_plane::Memory;
@@ -18,8 +18,8 @@ use std::alloc::Global;
 ///
 /// `Memory` where a growth is refused. That can happen only at a good line that adds a node after good lines.
 pub fn faulty_line(alloc: Global, bytes: &[u8]) -> Result<Option<u64>, Memory>
-    ensures line { IfOk result (λ line. MatchOption line ((f : MacroFault) → IsFirstFault bytes.now f → ⊥)
-        (IsFaultyLine bytes.now)) }
+    ensures line { IfOk result (λ line. MatchOption line ((f : MacroFault) → IsFirstMacrocellFault bytes.now f → ⊥)
+        (IsFaultyMacrocellLine bytes.now)) }
     ensures memory { IfErr result (λ _. HasNodeLine bytes.now) }
 {
     let mut store = Store::new(alloc);

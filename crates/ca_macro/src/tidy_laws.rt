@@ -3,20 +3,20 @@
 ghost use Rattle.std.specs.Prelude.{◌≡◌, ℕ, ◌<◌, ◌^◌, ℤ, List, length};
 ghost use Rattle.ca_plane.specs.Bytes.{IsWord};
 ghost use Rattle.ca_plane.specs.Limits.{generation_limit};
-ghost use Rattle.ca_macro.specs.File.{File, IsFile};
+ghost use Rattle.ca_macro.specs.File.{MacrocellFile, IsMacrocellFile};
 ghost use Rattle.ca_macro.specs.Pattern.{AreInRange, Holds, IsFileOf};
-ghost use Rattle.ca_macro.specs.Tidy.{IsTidy};
+ghost use Rattle.ca_macro.specs.Tidy.{IsTidyMacrocell};
 
 /// A tidy text is a macrocell file of its cells, its rule text and its generation, and it is within the range
 /// of the reader where the cells are. The text is shorter than 2^64 bytes. Of longer ones this is false,
 /// since a decimal form has at most 64 digits.
 pub fn tidy_means()
     ensures file { (text : List ℕ) (cells : ℤ → ℤ → ℕ) (rule_text : List ℕ) (generation states : ℕ)
-        → IsTidy text cells rule_text generation states
+        → IsTidyMacrocell text cells rule_text generation states
         → IsWord rule_text → generation < generation_limit → length text < 2 ^ 64
-        → (file : File) × IsFile text file × Holds file cells rule_text generation }
+        → (file : MacrocellFile) × IsMacrocellFile text file × Holds file cells rule_text generation }
     ensures range { (text : List ℕ) (cells : ℤ → ℤ → ℕ) (rule_text : List ℕ) (generation states : ℕ)
-        → IsTidy text cells rule_text generation states
+        → IsTidyMacrocell text cells rule_text generation states
         → IsWord rule_text → generation < generation_limit → length text < 2 ^ 64 → AreInRange cells
         → IsFileOf text cells rule_text generation }
 {}
@@ -25,6 +25,6 @@ pub fn tidy_means()
 /// given by its cells at every x and y.
 pub fn one_tidy_text()
     ensures { (t u : List ℕ) (cells : ℤ → ℤ → ℕ) (rule_text : List ℕ) (generation states : ℕ)
-        → IsTidy t cells rule_text generation states
-        → IsTidy u cells rule_text generation states → t ≡ u }
+        → IsTidyMacrocell t cells rule_text generation states
+        → IsTidyMacrocell u cells rule_text generation states → t ≡ u }
 {}

@@ -6,7 +6,7 @@ ghost use Rattle.ca_plane.specs.Device.{Rises, AppendsPrefix};
 ghost use Rattle.ca_quad.specs.Sound.{Grows};
 ghost use Rattle.ca_quad.specs.Trees.{cell};
 ghost use Rattle.ca_macro.specs.Pattern.{IsWritable, IsFileOf};
-ghost use Rattle.ca_macro.specs.Tidy.{IsTidy};
+ghost use Rattle.ca_macro.specs.Tidy.{IsTidyMacrocell};
 
 use ca_plane::{Dev, Memory, WriteFault, send};
 use ca_quad::{Store, Tree};
@@ -41,7 +41,7 @@ pub fn write_macro(
 ) -> Result<Vec<u8>, Memory>
     requires { IsWritable store.old tree rule_text.now generation states }
     ensures tidy { IfOk result (λ text.
-        IsTidy text.items (cell store.old tree) rule_text.now generation states) }
+        IsTidyMacrocell text.items (cell store.old tree) rule_text.now generation states) }
     // It means the cells, the rule text and the generation, and the reader takes it.
     ensures means { IfOk result (λ text.
         IsFileOf text.items (cell store.old tree) rule_text.now generation) }
@@ -73,7 +73,7 @@ pub fn write_macro_to<W: Write>(
     requires { IsWritable store.old tree rule_text.now generation states }
     // The tidy text is written whole, which means what that of `write_macro` means.
     ensures all { OnOk result ((text : List ℕ)
-        × IsTidy text (cell store.old tree) rule_text.now generation states
+        × IsTidyMacrocell text (cell store.old tree) rule_text.now generation states
         × IsFileOf text (cell store.old tree) rule_text.now generation
         × Appends (W.contents out.old.inner) (W.contents out.new.inner) text) }
     // No failure is counted.
@@ -82,7 +82,7 @@ pub fn write_macro_to<W: Write>(
     ensures memory { IsErrOf result WriteFault.Memory → out.new ≡ out.old }
     // A write failed after some first part of the tidy text, which isn't the whole.
     ensures front { IsErrOf result WriteFault.Write → (text : List ℕ)
-        × IsTidy text (cell store.old tree) rule_text.now generation states
+        × IsTidyMacrocell text (cell store.old tree) rule_text.now generation states
         × AppendsPrefix (W.contents out.old.inner) (W.contents out.new.inner) text }
     ensures counted { IsErrOf result WriteFault.Write → Rises out.old.failures out.new.failures }
     // Every old square stays.

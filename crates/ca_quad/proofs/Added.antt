@@ -2,8 +2,8 @@
 use Rattle.std.proofs.Common.{◌≡◌, ℕ, inl, inr, Result, Ok, Err, IfOk, OnErr, List, length, refl, ap, subst, arith}
 use Rattle.ca_quad.specs.declared.node.Node.{Node}
 use Rattle.ca_quad.specs.declared.square.Square.TheVariants.{Parts}
-use Rattle.ca_quad.specs.Squares.{kept, square_of, level_of, cell_of}
-use Rattle.ca_quad.specs.Sound.{IsSound, Grows, AddsOnly}
+use Rattle.ca_quad.specs.Squares.{place_id, square_of, level_of, cell_of}
+use Rattle.ca_quad.specs.Sound.{IsSoundStore, Grows, AddsOnly}
 use Rattle.ca_quad.specs.Added.{IsPartOf, itself, in_part, IsCopy, AddsCopies}
 use Rattle.ca_quad.proofs.Growth.{below_or_not}
 use Rattle.ca_quad.proofs.Shown.{shows_stays}
@@ -13,12 +13,12 @@ pub none_added : (from : List Node) (root : ℕ) (old new : List Node) → new �
 none_added from root old new e place low high = absurd (omega (arith, ap length e))
 
 -- what is added to a store stays a copy when more copies are added
-pub added_on : (from : List Node) (root : ℕ) (old mid new : List Node) → IsSound mid → Grows mid new → AddsCopies from root old mid → AddsCopies from root mid new → AddsCopies from root old new
+pub added_on : (from : List Node) (root : ℕ) (old mid new : List Node) → IsSoundStore mid → Grows mid new → AddsCopies from root old mid → AddsCopies from root mid new → AddsCopies from root old new
 added_on from root old mid new sound grows first more place low high =
     elim (below_or_not place (length mid)) [
       | inl h ↦
           let f = first place low h in
-          (f.0, (f.1.0, shows_stays mid new sound grows (kept place) (level_of from f.0) (cell_of from (level_of from f.0) f.0) f.1.1))
+          (f.0, (f.1.0, shows_stays mid new sound grows (place_id place) (level_of from f.0) (cell_of from (level_of from f.0) f.0) f.1.1))
       | inr h ↦ more place h high
     ]
 

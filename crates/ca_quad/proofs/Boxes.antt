@@ -8,8 +8,8 @@ use Rattle.ca_quad.specs.declared.tree.WideBounds.{WideBounds}
 use Rattle.ca_quad.specs.declared.store.extent.Extent.{Extent}
 use Rattle.ca_quad.specs.Squares.{cell_of}
 use Rattle.ca_quad.specs.Trees.{IsEmpty, from_corner, cell}
-use Rattle.ca_quad.specs.Boxes.{IsDead, IsLeastBox}
-use Rattle.ca_quad.specs.inner.Extent.{IsWithin, IsExtent}
+use Rattle.ca_quad.specs.Boxes.{IsDead, IsLeastWideBox}
+use Rattle.ca_quad.specs.inner.Extent.{FitsSide, IsExtent}
 
 -- a box that is counted from the corner holds the place
 abbrev HoldsFrom : Extent → ℤ → ℤ → Type 0
@@ -41,7 +41,7 @@ module _ (nodes : List Node) (tree : Tree) where
     pub cell_at : (x y : ℤ) → cell nodes tree x y ≡ from_corner (cell_of nodes tree.level tree.root) (x +ℤ pos half) (y +ℤ pos half)
     cell_at x y = ap (λ n. from_corner (cell_of nodes tree.level tree.root) (x +ℤ pos n) (y +ℤ pos n)) (sym e)
 
-    pub box_within : (some : 1 ≤ tree.level) (box : Extent) → IsExtent (cell_of nodes tree.level tree.root) (2 ^ tree.level) (2 ^ tree.level) box → IsWithin (half + half) box
+    pub box_within : (some : 1 ≤ tree.level) (box : Extent) → IsExtent (cell_of nodes tree.level tree.root) (2 ^ tree.level) (2 ^ tree.level) box → FitsSide (half + half) box
     box_within some box h =
         let next : suc (tree.level - 1) ≡ tree.level = omega arith in
         let side : 2 ^ tree.level ≡ half + half = ap (λ k. 2 ^ k) (sym next) ∙ (two-pow-succ (tree.level - 1) ∙ ap (λ n. n + n) (sym e)) in
@@ -57,7 +57,7 @@ module _ (nodes : List Node) (tree : Tree) where
 
     pub tree_box : (columns rows : ℕ) (box : Extent) (wide : WideBounds) → IsExtent (cell_of nodes tree.level tree.root) columns rows box
         → wide.x0 ≡ pos box.left -ℤ pos half → wide.y0 ≡ pos box.top -ℤ pos half → wide.x1 ≡ pos box.right -ℤ pos half → wide.y1 ≡ pos box.bottom -ℤ pos half
-        → IsLeastBox (cell nodes tree) wide
+        → IsLeastWideBox (cell nodes tree) wide
     tree_box columns rows box wide h x0 y0 x1 y1 =
         let there : (a b : ℕ) (x y : ℤ) → x ≡ pos a -ℤ pos half → y ≡ pos b -ℤ pos half → cell_of nodes tree.level tree.root a b ≢ 0 → cell nodes tree x y ≢ 0
         = λ a b x y f g i j. i (sym (at_place a b x y f g) ∙ j) in

@@ -7,7 +7,7 @@ use Rattle.ca_quad.specs.declared.node.Node.{Node}
 use Rattle.ca_quad.specs.declared.square.Square.{Square}
 use Rattle.ca_quad.specs.declared.square.Square.TheVariants.{Four, Parts}
 use Rattle.ca_quad.specs.Squares.{square_of, level, IsOf, dot, together, cells_in, cell_of}
-use Rattle.ca_quad.specs.Sound.{IsSound, Grows}
+use Rattle.ca_quad.specs.Sound.{IsSoundStore, Grows}
 use Rattle.ca_quad.specs.inner.Measure.{Ends}
 use Rattle.ca_quad.specs.inner.Whole.{IsWhole}
 use Rattle.ca_quad.proofs.Growth.{below_or_not, square_stays}
@@ -107,7 +107,7 @@ cell_ends nodes (suc k) id =
     rw two-pow-succ (square_ends (cell_of nodes k) (2 ^ k) (one_up k) (cell_ends nodes k) (square_of nodes id))
 
 -- the cells of an old square stay
-module _ (old new : List Node) (sound : IsSound old) (grows : Grows old new) where
+module _ (old new : List Node) (sound : IsSoundStore old) (grows : Grows old new) where
   stays_in : (k : ℕ) → ((id : ℕ) → IsOf old id k → cell_of new k id ≡ cell_of old k id) → (s : Square) → level s ≡ suc k → IsWhole old (length old) s
       → cells_in (cell_of new k) s (2 ^ k) ≡ cells_in (cell_of old k) s (2 ^ k)
   stays_in k same (Four nw ne sw se) e w = refl
@@ -178,7 +178,7 @@ lowest : (k : ℕ) → 1 ≡ suc k → k ≡ 0
 lowest k e = omega arith
 
 -- in one store the cells tell the square
-module _ (nodes : List Node) (sound : IsSound nodes) where
+module _ (nodes : List Node) (sound : IsSoundStore nodes) where
   same_square : (k : ℕ) → ((a b : ℕ) → IsOf nodes a k → IsOf nodes b k → ((x y : ℕ) → cell_of nodes k a x y ≡ cell_of nodes k b x y) → a ≡ b)
       → (s t : Square) → level s ≡ suc k → level t ≡ suc k → IsWhole nodes (length nodes) s → IsWhole nodes (length nodes) t
       → ((x y : ℕ) → cells_in (cell_of nodes k) s (2 ^ k) x y ≡ cells_in (cell_of nodes k) t (2 ^ k) x y) → s ≡ t

@@ -11,17 +11,17 @@ use Rattle.ca_quad.specs.declared.store.rows.Quarters.{Quarters}
 use Rattle.ca_quad.specs.declared.store.rows.Row.{Row}
 use Rattle.ca_quad.specs.declared.store.to_plane.Corners.{Corners}
 use Rattle.ca_quad.specs.declared.tree.Spot.{Spot}
-use Rattle.ca_quad.specs.Trees.{Shows}
+use Rattle.ca_quad.specs.Trees.{ShowsSquare}
 use Rattle.ca_quad.specs.inner.Drawn.{ArePartCorners}
 use Rattle.ca_quad.specs.inner.Filled.{counted, LiesNear, AreRowsOf}
 use Rattle.ca_quad.specs.inner.Ring.{none}
-use Rattle.ca_quad.specs.inner.Rows.{point_at, Hold, Cover, IsPart, AreParts}
+use Rattle.ca_quad.specs.inner.Rows.{point_at, Hold, Cover, IsPartOfRows, AreParts}
 use Rattle.ca_quad.specs.inner.Window.{ShowsFrom}
 use Rattle.ca_quad.proofs.Cells.{twice}
 use Rattle.ca_quad.proofs.Filled.{near_nw, near_ne, near_sw, near_se}
 
 -- a part of a part
-pub part_part : (p : Picture) (rows half part : List Row) (P Q : Point → Type 0) → IsPart p rows P half → IsPart p half Q part → IsPart p rows (λ q. P q × Q q) part
+pub part_part : (p : Picture) (rows half part : List Row) (P Q : Point → Type 0) → IsPartOfRows p rows P half → IsPartOfRows p half Q part → IsPartOfRows p rows (λ q. P q × Q q) part
 part_part p rows half part P Q a b = record { are = b.are; held = λ i h t. b.held i (a.held i h t.0) t.1 }
 
 -- where a cell is live, there is a place for it
@@ -48,7 +48,7 @@ no_rows : (rows : List Row) → length rows ≡ 0 → rows ≡ []
 no_rows [] e = refl
 no_rows (r ∷ rs) e = absurd (omega arith)
 
-pub shows_none : (nodes : List Node) (id level : ℕ) (p : Picture) (rows : List Row) (at : Spot) → length rows ≡ 0 → Cover p rows (2 ^ level) at → Shows nodes id level none → ShowsFrom nodes id level (counted p at) 0 0
+pub shows_none : (nodes : List Node) (id level : ℕ) (p : Picture) (rows : List Row) (at : Spot) → length rows ≡ 0 → Cover p rows (2 ^ level) at → ShowsSquare nodes id level none → ShowsFrom nodes id level (counted p at) 0 0
 shows_none nodes id level p rows at e cover h = record {
   is_square = h.is_square;
   has_cells = λ x y i j. h.has_cells x y ∙ sym (covered_none p rows (2 ^ level) at (no_rows rows e) cover (0 + x) (0 + y) (omega arith) (omega arith));
@@ -60,7 +60,7 @@ module _ (level half : ℕ) (large : 2 ≤ level) (side : half ≡ 2 ^ (level - 
   two : 2 ^ level ≡ 2 ^ (level - 1) + 2 ^ (level - 1)
   two = twice level (omega arith)
 
-  rows_of : (corner : Spot) → LiesNear (2 ^ (level - 1)) corner → (P : Point → Type 0) (part : List Row) → IsPart p rows P part → (dx dy : ℕ)
+  rows_of : (corner : Spot) → LiesNear (2 ^ (level - 1)) corner → (P : Point → Type 0) (part : List Row) → IsPartOfRows p rows P part → (dx dy : ℕ)
       → dx ≤ 2 ^ (level - 1) → dy ≤ 2 ^ (level - 1) → corner.x ≡ at.x +ℤ pos dx → corner.y ≡ at.y +ℤ pos dy
       → ((q : Point) (x y : ℕ) → x < 2 ^ (level - 1) → y < 2 ^ (level - 1) → q.x ≡ corner.x +ℤ pos x → q.y ≡ corner.y +ℤ pos y → P q)
       → AreRowsOf (level - 1) p part corner

@@ -5,8 +5,8 @@ use Rattle.ca_quad.specs.declared.node.Node.{Node}
 use Rattle.ca_quad.specs.Squares.{IsOf, cell_of}
 use Rattle.ca_quad.specs.declared.tree.Tree.{Tree}
 use Rattle.ca_quad.specs.Trees.{from_corner, cell}
-use Rattle.ca_quad.specs.Sound.{IsSound}
-use Rattle.ca_quad.specs.inner.Difference.{DifferAt, AreEqual, Tells, AreUnequal}
+use Rattle.ca_quad.specs.Sound.{IsSoundStore}
+use Rattle.ca_quad.specs.inner.Difference.{DifferInSquare, AreEqual, Tells, AreUnequal}
 use Rattle.ca_quad.proofs.Cells.{same_cells}
 
 -- what is told of squares of a level is told of squares of any level that they have
@@ -17,8 +17,8 @@ at_level nodes a b k h r told level i =
 
 module _ (nodes : List Node) (k a b p q left top : ℕ) (w : AreUnequal nodes k a b p q left top) where
   -- where quarters differ, so do the squares
-  pub differ_within : (x y : ℕ) → DifferAt (2 ^ k) (cell_of nodes k p) (cell_of nodes k q) (x, y)
-      → DifferAt (2 ^ suc k) (cell_of nodes (suc k) a) (cell_of nodes (suc k) b) (left + x, top + y)
+  pub differ_within : (x y : ℕ) → DifferInSquare (2 ^ k) (cell_of nodes k p) (cell_of nodes k q) (x, y)
+      → DifferInSquare (2 ^ suc k) (cell_of nodes (suc k) a) (cell_of nodes (suc k) b) (left + x, top + y)
   differ_within x y d = record {
     x_in = omega (arith, two-pow-succ k, d.x_in, w.x_low);
     y_in = omega (arith, two-pow-succ k, d.y_in, w.y_low);
@@ -26,7 +26,7 @@ module _ (nodes : List Node) (k a b p q left top : ℕ) (w : AreUnequal nodes k 
   }
 
   -- unequal quarters differ somewhere
-  pub differ_some : IsSound nodes → AreEqual (cell_of nodes k p) (cell_of nodes k q) → ⊥
+  pub differ_some : IsSoundStore nodes → AreEqual (cell_of nodes k p) (cell_of nodes k q) → ⊥
   differ_some sound same = w.unequal (same_cells nodes sound k p q w.first.is_square w.second.is_square same)
 
 -- places of squares are small
@@ -55,7 +55,7 @@ trees_same nodes a b e same x y =
 
 -- where the roots' cells differ, so do the trees
 module _ (nodes : List Node) (a b : Tree) (same : a.level ≡ b.level) (half : ℕ) (e : half ≡ 2 ^ (a.level - 1)) (u v : ℤ) (x y : ℕ) (f : u +ℤ pos half ≡ pos x) (g : v +ℤ pos half ≡ pos y)
-    (d : DifferAt (2 ^ a.level) (cell_of nodes a.level a.root) (cell_of nodes a.level b.root) (x, y)) where
+    (d : DifferInSquare (2 ^ a.level) (cell_of nodes a.level a.root) (cell_of nodes a.level b.root) (x, y)) where
   pub trees_differ : cell nodes a u v ≡ cell nodes b u v → ⊥
   trees_differ h =
       d.differ

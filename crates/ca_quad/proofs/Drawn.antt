@@ -16,7 +16,7 @@ use Rattle.ca_quad.specs.Squares.{square_of, level, level_of, IsOf, dot, togethe
 use Rattle.ca_quad.specs.Sound.{HasParts}
 use Rattle.ca_quad.specs.Trees.{IsIn, IsTree, from_corner, cell as tree_cell}
 use Rattle.ca_quad.specs.Expanded.{FitsPlane}
-use Rattle.ca_quad.specs.inner.Drawn.{cells_of, side_of, placed, IsNear, CanDraw, ArePartCorners, Agrees, IsLive, IsReady}
+use Rattle.ca_quad.specs.inner.Drawn.{square_cells, side_of, placed, IsNearSpot, CanDraw, ArePartCorners, Agrees, IsLiveAt, IsReadyToDraw}
 use Rattle.ca_quad.proofs.Growth.{below_or_not}
 use Rattle.ca_quad.specs.inner.Measure.{Ends}
 use Rattle.ca_quad.proofs.Cells.{in_nw, in_ne, in_sw, in_se, cell_ends, dot_ends}
@@ -54,7 +54,7 @@ dot_shown state at x y =
     ]
 
 -- a live dot is at its place
-dot_place : (state : ℕ) (at : Spot) (x y : ℤ) → IsLive (placed (dot state) at) x y → (x ≡ at.x) × (y ≡ at.y)
+dot_place : (state : ℕ) (at : Spot) (x y : ℤ) → IsLiveAt (placed (dot state) at) x y → (x ≡ at.x) × (y ≡ at.y)
 dot_place state at x y live =
     let point : Point = record { y = at.y; x = at.x } in
     elim (cases_Bool (int_eq y at.y && int_eq x at.x)) [
@@ -165,7 +165,7 @@ module _ (side : ℕ) (nw ne sw se : ℕ → ℕ → ℕ) where
           )
 
       -- a live cell is one of theirs
-      pub four_live : (x y : ℤ) → IsLive (placed all at) x y → (IsLive (placed nw at) x y ⊎ IsLive (placed ne cs.ne) x y) ⊎ (IsLive (placed sw cs.sw) x y ⊎ IsLive (placed se cs.se) x y)
+      pub four_live : (x y : ℤ) → IsLiveAt (placed all at) x y → (IsLiveAt (placed nw at) x y ⊎ IsLiveAt (placed ne cs.ne) x y) ⊎ (IsLiveAt (placed sw cs.sw) x y ⊎ IsLiveAt (placed se cs.se) x y)
       four_live x y = one_live (placed all at x y) (placed nw at x y) (placed ne cs.ne x y) (placed sw cs.sw x y) (placed se cs.se x y) (placed_one x y)
 
       -- where a square may be drawn, so may each of its parts
@@ -199,30 +199,30 @@ module _ (side : ℕ) (nw ne sw se : ℕ → ℕ → ℕ) where
 -- a square of cells, and one of four parts
 module _ (nodes : List Node) (id nw ne sw se : ℕ) (before : IsIn nodes id) where
   module _ (e : Four nw ne sw se ≡ square_of nodes id) where
-    pub four_cells : cells_of nodes id ≡ together 1 (dot nw) (dot ne) (dot sw) (dot se)
+    pub four_cells : square_cells nodes id ≡ together 1 (dot nw) (dot ne) (dot sw) (dot se)
     four_cells = four_show nodes id (level_of nodes id) (record { before = before; is_level = refl }) nw ne sw se e
 
-    pub four_can : (at : Spot) → CanDraw (cells_of nodes id) (side_of nodes id) at → CanDraw (together 1 (dot nw) (dot ne) (dot sw) (dot se)) (1 + 1) at
+    pub four_can : (at : Spot) → CanDraw (square_cells nodes id) (side_of nodes id) at → CanDraw (together 1 (dot nw) (dot ne) (dot sw) (dot se)) (1 + 1) at
     four_can at can =
         let side : side_of nodes id ≡ 1 + 1 = ap (λ s. 2 ^ level s) (sym e) in
         subst (λ n. CanDraw (together 1 (dot nw) (dot ne) (dot sw) (dot se)) n at) side (subst (λ cells. CanDraw cells (side_of nodes id) at) four_cells can)
 
   module _ (m : ℕ) (e : Parts m nw ne sw se ≡ square_of nodes id) (whole : HasParts nodes (length nodes) m nw ne sw se) (half : ℕ) (half_is : half ≡ 2 ^ (m - 1)) where
-    pub parts_cells : cells_of nodes id ≡ together half (cells_of nodes nw) (cells_of nodes ne) (cells_of nodes sw) (cells_of nodes se)
+    pub parts_cells : square_cells nodes id ≡ together half (square_cells nodes nw) (square_cells nodes ne) (square_cells nodes sw) (square_cells nodes se)
     parts_cells =
         let all = parts_show nodes id (level_of nodes id) (record { before = before; is_level = refl }) m nw ne sw se (omega (arith, whole.least)) e in
-        let a : cells_of nodes nw ≡ cell_of nodes (m - 1) nw = ap (λ k. cell_of nodes k nw) whole.is_nw.is_level in
-        let b : cells_of nodes ne ≡ cell_of nodes (m - 1) ne = ap (λ k. cell_of nodes k ne) whole.is_ne.is_level in
-        let c : cells_of nodes sw ≡ cell_of nodes (m - 1) sw = ap (λ k. cell_of nodes k sw) whole.is_sw.is_level in
-        let d : cells_of nodes se ≡ cell_of nodes (m - 1) se = ap (λ k. cell_of nodes k se) whole.is_se.is_level in
+        let a : square_cells nodes nw ≡ cell_of nodes (m - 1) nw = ap (λ k. cell_of nodes k nw) whole.is_nw.is_level in
+        let b : square_cells nodes ne ≡ cell_of nodes (m - 1) ne = ap (λ k. cell_of nodes k ne) whole.is_ne.is_level in
+        let c : square_cells nodes sw ≡ cell_of nodes (m - 1) sw = ap (λ k. cell_of nodes k sw) whole.is_sw.is_level in
+        let d : square_cells nodes se ≡ cell_of nodes (m - 1) se = ap (λ k. cell_of nodes k se) whole.is_se.is_level in
         rw (half_is, a, b, c, d) all
 
-    pub parts_can : (at : Spot) → CanDraw (cells_of nodes id) (side_of nodes id) at → CanDraw (together half (cells_of nodes nw) (cells_of nodes ne) (cells_of nodes sw) (cells_of nodes se)) (half + half) at
+    pub parts_can : (at : Spot) → CanDraw (square_cells nodes id) (side_of nodes id) at → CanDraw (together half (square_cells nodes nw) (square_cells nodes ne) (square_cells nodes sw) (square_cells nodes se)) (half + half) at
     parts_can at can =
         let f : level_of nodes id ≡ m = ap level (sym e) in
         let next : level_of nodes id ≡ suc (m - 1) = omega (arith, f, whole.least) in
         let side : side_of nodes id ≡ half + half = ap (λ k. 2 ^ k) next ∙ (two-pow-succ (m - 1) ∙ ap (λ n. n + n) (sym half_is)) in
-        subst (λ n. CanDraw (together half (cells_of nodes nw) (cells_of nodes ne) (cells_of nodes sw) (cells_of nodes se)) n at) side
+        subst (λ n. CanDraw (together half (square_cells nodes nw) (square_cells nodes ne) (square_cells nodes sw) (square_cells nodes se)) n at) side
         (subst (λ cells. CanDraw cells (side_of nodes id) at) parts_cells can)
 
 -- a part of this level has this side
@@ -230,13 +230,13 @@ module _ (nodes : List Node) (id k half : ℕ) (of : IsOf nodes id k) (half_is :
   side_is : side_of nodes id ≡ half
   side_is = ap (λ k. 2 ^ k) of.is_level ∙ sym half_is
 
-  pub part_ends : Ends half (cells_of nodes id)
-  part_ends = subst (λ n. Ends n (cells_of nodes id)) side_is (cell_ends nodes (level_of nodes id) id)
+  pub part_ends : Ends half (square_cells nodes id)
+  part_ends = subst (λ n. Ends n (square_cells nodes id)) side_is (cell_ends nodes (level_of nodes id) id)
 
-  pub part_can : (at : Spot) → CanDraw (cells_of nodes id) half at → CanDraw (cells_of nodes id) (side_of nodes id) at
-  part_can at can = subst (λ n. CanDraw (cells_of nodes id) n at) (sym side_is) can
+  pub part_can : (at : Spot) → CanDraw (square_cells nodes id) half at → CanDraw (square_cells nodes id) (side_of nodes id) at
+  part_can at can = subst (λ n. CanDraw (square_cells nodes id) n at) (sym side_is) can
 
-pub near_at : (cells : ℕ → ℕ → ℕ) (side : ℕ) (at : Spot) → CanDraw cells side at → IsNear at
+pub near_at : (cells : ℕ → ℕ → ℕ) (side : ℕ) (at : Spot) → CanDraw cells side at → IsNearSpot at
 near_at cells side at can = (can.left, omega (arith, ints, can.right), can.top, omega (arith, ints, can.bottom))
 
 -- four cells that are drawn in turn
@@ -244,7 +244,7 @@ module _ (nodes : List Node) (id nw ne sw se : ℕ) (before : IsIn nodes id) (e 
   dot_end : (state : ℕ) → Ends 1 (dot state)
   dot_end state = dot_ends state 1 (omega arith)
 
-  pub cells_can : CanDraw (cells_of nodes id) (side_of nodes id) at → CanDraw (dot nw) 1 at × CanDraw (dot ne) 1 cs.ne × CanDraw (dot sw) 1 cs.sw × CanDraw (dot se) 1 cs.se
+  pub cells_can : CanDraw (square_cells nodes id) (side_of nodes id) at → CanDraw (dot nw) 1 at × CanDraw (dot ne) 1 cs.ne × CanDraw (dot sw) 1 cs.sw × CanDraw (dot se) 1 cs.se
   cells_can can =
       let all = four_can nodes id nw ne sw se before e at can in (
         can_nw 1 (dot nw) (dot ne) (dot sw) (dot se) (dot_end nw) (dot_end ne) (dot_end sw) (dot_end se) at cs are all,
@@ -254,19 +254,19 @@ module _ (nodes : List Node) (id nw ne sw se : ℕ) (before : IsIn nodes id) (e 
       )
 
   -- the four cells agree with a picture where the square does
-  pub cells_agree : (pic : ℤ → ℤ → ℕ) → Agrees pic (placed (cells_of nodes id) at) → Agrees pic (placed (dot nw) at) × Agrees pic (placed (dot ne) cs.ne) × Agrees pic (placed (dot sw) cs.sw) × Agrees pic (placed (dot se) cs.se)
+  pub cells_agree : (pic : ℤ → ℤ → ℕ) → Agrees pic (placed (square_cells nodes id) at) → Agrees pic (placed (dot nw) at) × Agrees pic (placed (dot ne) cs.ne) × Agrees pic (placed (dot sw) cs.sw) × Agrees pic (placed (dot se) cs.se)
   cells_agree pic h =
       four_agree 1 (dot nw) (dot ne) (dot sw) (dot se) (dot_end nw) (dot_end ne) (dot_end sw) (dot_end se) at cs are pic
       (subst (λ cells. Agrees pic (placed cells at)) (four_cells nodes id nw ne sw se before e) h)
 
   -- a live cell is one of them
-  cells_live : (x y : ℤ) → IsLive (placed (cells_of nodes id) at) x y → (IsLive (placed (dot nw) at) x y ⊎ IsLive (placed (dot ne) cs.ne) x y) ⊎ (IsLive (placed (dot sw) cs.sw) x y ⊎ IsLive (placed (dot se) cs.se) x y)
+  cells_live : (x y : ℤ) → IsLiveAt (placed (square_cells nodes id) at) x y → (IsLiveAt (placed (dot nw) at) x y ⊎ IsLiveAt (placed (dot ne) cs.ne) x y) ⊎ (IsLiveAt (placed (dot sw) cs.sw) x y ⊎ IsLiveAt (placed (dot se) cs.se) x y)
   cells_live x y h =
       four_live 1 (dot nw) (dot ne) (dot sw) (dot se) (dot_end nw) (dot_end ne) (dot_end sw) (dot_end se) at cs are x y
-      (subst (λ cells. IsLive (placed cells at) x y) (four_cells nodes id nw ne sw se before e) h)
+      (subst (λ cells. IsLiveAt (placed cells at) x y) (four_cells nodes id nw ne sw se before e) h)
 
   -- of the upper row, and of the lower
-  pub upper_live : (x y : ℤ) → IsLive (placed (cells_of nodes id) at) x y → y ≡ at.y +ℤ pos 0 → IsLive (placed (dot nw) at) x y ⊎ IsLive (placed (dot ne) cs.ne) x y
+  pub upper_live : (x y : ℤ) → IsLiveAt (placed (square_cells nodes id) at) x y → y ≡ at.y +ℤ pos 0 → IsLiveAt (placed (dot nw) at) x y ⊎ IsLiveAt (placed (dot ne) cs.ne) x y
   upper_live x y h f = elim (cells_live x y h) [
     | inl u ↦ u
     | inr u ↦ elim u [
@@ -275,7 +275,7 @@ module _ (nodes : List Node) (id nw ne sw se : ℕ) (before : IsIn nodes id) (e 
     ]
   ]
 
-  pub lower_live : (x y : ℤ) → IsLive (placed (cells_of nodes id) at) x y → y ≡ at.y +ℤ pos 1 → IsLive (placed (dot sw) cs.sw) x y ⊎ IsLive (placed (dot se) cs.se) x y
+  pub lower_live : (x y : ℤ) → IsLiveAt (placed (square_cells nodes id) at) x y → y ≡ at.y +ℤ pos 1 → IsLiveAt (placed (dot sw) cs.sw) x y ⊎ IsLiveAt (placed (dot se) cs.se) x y
   lower_live x y h f = elim (cells_live x y h) [
     | inr u ↦ u
     | inl u ↦ elim u [
@@ -287,7 +287,7 @@ module _ (nodes : List Node) (id nw ne sw se : ℕ) (before : IsIn nodes id) (e 
 -- and four parts
 module _ (nodes : List Node) (id nw ne sw se : ℕ) (before : IsIn nodes id) (m : ℕ) (e : Parts m nw ne sw se ≡ square_of nodes id) (whole : HasParts nodes (length nodes) m nw ne sw se)
     (half : ℕ) (half_is : half ≡ 2 ^ (m - 1)) (at : Spot) (cs : Corners) (are : ArePartCorners at half cs) where
-  end_of : (part : ℕ) → IsOf nodes part (m - 1) → Ends half (cells_of nodes part)
+  end_of : (part : ℕ) → IsOf nodes part (m - 1) → Ends half (square_cells nodes part)
   end_of part of = part_ends nodes part (m - 1) half of half_is
 
   pub part_lower : (part : ℕ) → IsOf nodes part (m - 1) → level_of nodes part < level_of nodes id
@@ -295,10 +295,10 @@ module _ (nodes : List Node) (id nw ne sw se : ℕ) (before : IsIn nodes id) (m 
       let f : level_of nodes id ≡ m = ap level (sym e) in
       omega (arith, f, of.is_level, whole.least)
 
-  pub parts_each : CanDraw (cells_of nodes id) (side_of nodes id) at
-      → CanDraw (cells_of nodes nw) (side_of nodes nw) at × CanDraw (cells_of nodes ne) (side_of nodes ne) cs.ne × CanDraw (cells_of nodes sw) (side_of nodes sw) cs.sw × CanDraw (cells_of nodes se) (side_of nodes se) cs.se
+  pub parts_each : CanDraw (square_cells nodes id) (side_of nodes id) at
+      → CanDraw (square_cells nodes nw) (side_of nodes nw) at × CanDraw (square_cells nodes ne) (side_of nodes ne) cs.ne × CanDraw (square_cells nodes sw) (side_of nodes sw) cs.sw × CanDraw (square_cells nodes se) (side_of nodes se) cs.se
   parts_each can =
-      let part = cells_of nodes in
+      let part = square_cells nodes in
       let all = parts_can nodes id nw ne sw se before m e whole half half_is at can in
       let a = end_of nw whole.is_nw in
       let b = end_of ne whole.is_ne in
@@ -310,19 +310,19 @@ module _ (nodes : List Node) (id nw ne sw se : ℕ) (before : IsIn nodes id) (m 
         part_can nodes se (m - 1) half whole.is_se half_is cs.se (can_se half (part nw) (part ne) (part sw) (part se) a b c d at cs are all),
       )
 
-  part_ready : (pic : ℤ → ℤ → ℕ) (part : ℕ) (spot : Spot) → IsOf nodes part (m - 1) → CanDraw (cells_of nodes part) (side_of nodes part) spot → Agrees pic (placed (cells_of nodes part) spot) → IsReady nodes pic (m - 1) (record { id = part; at = spot })
+  part_ready : (pic : ℤ → ℤ → ℕ) (part : ℕ) (spot : Spot) → IsOf nodes part (m - 1) → CanDraw (square_cells nodes part) (side_of nodes part) spot → Agrees pic (placed (square_cells nodes part) spot) → IsReadyToDraw nodes pic (m - 1) (record { id = part; at = spot })
   part_ready pic part spot of can agrees = record { is_square = of; can = can; agrees = agrees }
 
-  parts_agree : (pic : ℤ → ℤ → ℕ) → Agrees pic (placed (cells_of nodes id) at)
-      → Agrees pic (placed (cells_of nodes nw) at) × Agrees pic (placed (cells_of nodes ne) cs.ne) × Agrees pic (placed (cells_of nodes sw) cs.sw) × Agrees pic (placed (cells_of nodes se) cs.se)
+  parts_agree : (pic : ℤ → ℤ → ℕ) → Agrees pic (placed (square_cells nodes id) at)
+      → Agrees pic (placed (square_cells nodes nw) at) × Agrees pic (placed (square_cells nodes ne) cs.ne) × Agrees pic (placed (square_cells nodes sw) cs.sw) × Agrees pic (placed (square_cells nodes se) cs.se)
   parts_agree pic h =
-      let part = cells_of nodes in
+      let part = square_cells nodes in
       four_agree half (part nw) (part ne) (part sw) (part se) (end_of nw whole.is_nw) (end_of ne whole.is_ne) (end_of sw whole.is_sw) (end_of se whole.is_se) at cs are pic
       (subst (λ cells. Agrees pic (placed cells at)) (parts_cells nodes id nw ne sw se before m e whole half half_is) h)
 
   -- each part may be drawn
-  pub parts_ready : (pic : ℤ → ℤ → ℕ) → CanDraw (cells_of nodes id) (side_of nodes id) at → Agrees pic (placed (cells_of nodes id) at)
-      → IsReady nodes pic (m - 1) (record { id = nw; at = at }) × IsReady nodes pic (m - 1) (record { id = ne; at = cs.ne }) × IsReady nodes pic (m - 1) (record { id = sw; at = cs.sw }) × IsReady nodes pic (m - 1) (record { id = se; at = cs.se })
+  pub parts_ready : (pic : ℤ → ℤ → ℕ) → CanDraw (square_cells nodes id) (side_of nodes id) at → Agrees pic (placed (square_cells nodes id) at)
+      → IsReadyToDraw nodes pic (m - 1) (record { id = nw; at = at }) × IsReadyToDraw nodes pic (m - 1) (record { id = ne; at = cs.ne }) × IsReadyToDraw nodes pic (m - 1) (record { id = sw; at = cs.sw }) × IsReadyToDraw nodes pic (m - 1) (record { id = se; at = cs.se })
   parts_ready pic can h =
       let cans = parts_each can in
       let agree = parts_agree pic h in (
@@ -333,23 +333,23 @@ module _ (nodes : List Node) (id nw ne sw se : ℕ) (before : IsIn nodes id) (m 
       )
 
   -- a live cell is one of theirs
-  pub parts_live : (x y : ℤ) → IsLive (placed (cells_of nodes id) at) x y
-      → (IsLive (placed (cells_of nodes nw) at) x y ⊎ IsLive (placed (cells_of nodes ne) cs.ne) x y) ⊎ (IsLive (placed (cells_of nodes sw) cs.sw) x y ⊎ IsLive (placed (cells_of nodes se) cs.se) x y)
+  pub parts_live : (x y : ℤ) → IsLiveAt (placed (square_cells nodes id) at) x y
+      → (IsLiveAt (placed (square_cells nodes nw) at) x y ⊎ IsLiveAt (placed (square_cells nodes ne) cs.ne) x y) ⊎ (IsLiveAt (placed (square_cells nodes sw) cs.sw) x y ⊎ IsLiveAt (placed (square_cells nodes se) cs.se) x y)
   parts_live x y h =
-      let part = cells_of nodes in
+      let part = square_cells nodes in
       four_live half (part nw) (part ne) (part sw) (part se) (end_of nw whole.is_nw) (end_of ne whole.is_ne) (end_of sw whole.is_sw) (end_of se whole.is_se) at cs are x y
-      (subst (λ cells. IsLive (placed cells at) x y) (parts_cells nodes id nw ne sw se before m e whole half half_is) h)
+      (subst (λ cells. IsLiveAt (placed cells at) x y) (parts_cells nodes id nw ne sw se before m e whole half half_is) h)
 
 -- a whole tree
 module _ (nodes : List Node) (tree : Tree) (is : IsTree nodes tree) (some : 1 ≤ tree.level) (half : ℕ) (half_is : half ≡ 2 ^ (tree.level - 1)) (low : half ≤ 2 ^ 124) (at : Spot)
     (is_x : at.x ≡ neg_ℤ (pos half)) (is_y : at.y ≡ neg_ℤ (pos half)) where
-  pub tree_placed : (x y : ℤ) → placed (cells_of nodes tree.root) at x y ≡ tree_cell nodes tree x y
+  pub tree_placed : (x y : ℤ) → placed (square_cells nodes tree.root) at x y ≡ tree_cell nodes tree x y
   tree_placed x y =
       let e : x -ℤ neg_ℤ (pos half) ≡ x +ℤ pos half = omega (arith, ints) in
       let f : y -ℤ neg_ℤ (pos half) ≡ y +ℤ pos half = omega (arith, ints) in
       rw (is_x, is_y, e, f) (ap (λ k. from_corner (cell_of nodes k tree.root) (x +ℤ pos half) (y +ℤ pos half)) is.is_level ∙ sym (cell_at nodes tree half half_is x y))
 
-  pub tree_can : FitsPlane (tree_cell nodes tree) → CanDraw (cells_of nodes tree.root) (side_of nodes tree.root) at
+  pub tree_can : FitsPlane (tree_cell nodes tree) → CanDraw (square_cells nodes tree.root) (side_of nodes tree.root) at
   tree_can fits =
       let next : level_of nodes tree.root ≡ suc (tree.level - 1) = omega (arith, is.is_level, some) in
       let side : side_of nodes tree.root ≡ half + half = ap (λ k. 2 ^ k) next ∙ (two-pow-succ (tree.level - 1) ∙ ap (λ n. n + n) (sym half_is)) in
@@ -361,5 +361,5 @@ module _ (nodes : List Node) (tree : Tree) (is : IsTree nodes tree) (some : 1 �
         fits = λ x y h. fits x y (λ z. h (tree_placed x y ∙ z));
       }
 
-  pub tree_ready : FitsPlane (tree_cell nodes tree) → IsReady nodes (tree_cell nodes tree) tree.level (record { id = tree.root; at = at })
+  pub tree_ready : FitsPlane (tree_cell nodes tree) → IsReadyToDraw nodes (tree_cell nodes tree) tree.level (record { id = tree.root; at = at })
   tree_ready fits = record { is_square = is; can = tree_can fits; agrees = λ x y live. tree_placed x y }

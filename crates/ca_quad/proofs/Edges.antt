@@ -5,7 +5,7 @@ use Rattle.std.proofs.Math.Nat.{two-pow-succ}
 use Rattle.ca_quad.specs.declared.node.Node.{Node}
 use Rattle.ca_quad.specs.declared.tree.Tree.{Tree}
 use Rattle.ca_quad.specs.Squares.{cell_of}
-use Rattle.ca_quad.specs.Trees.{Shows, IsEmpty, from_corner, cell}
+use Rattle.ca_quad.specs.Trees.{ShowsSquare, IsEmpty, from_corner, cell}
 use Rattle.ca_quad.specs.inner.Measure.{Ends}
 use Rattle.ca_quad.proofs.Cells.{cell_ends}
 
@@ -50,7 +50,7 @@ module _ (nodes : List Node) (tree : Tree) (half : ℕ) (some : 1 ≤ tree.level
 
 -- a square whose cells are said to be empty ones
 pub shows_empty : {E : Type 0} (new : List Node) (r : Result ℕ E) (k level : ℕ) (cells : ℕ → ℕ → ℕ) → suc k ≡ level → IsEmpty cells
-    → IfOk r (λ id. Shows new id (suc k) cells) → IfOk r (λ id. Shows new id level (λ x y. 0))
+    → IfOk r (λ id. ShowsSquare new id (suc k) cells) → IfOk r (λ id. ShowsSquare new id level (λ x y. 0))
 shows_empty new (Ok id) k level cells e empty h =
-    subst (λ l. Shows new id l (λ x y. 0)) e (record { is_square = h.is_square; has_cells = λ x y. h.has_cells x y ∙ empty x y })
+    subst (λ l. ShowsSquare new id l (λ x y. 0)) e (record { is_square = h.is_square; has_cells = λ x y. h.has_cells x y ∙ empty x y })
 shows_empty new (Err e) k level cells f empty h = tt

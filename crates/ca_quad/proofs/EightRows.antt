@@ -4,7 +4,7 @@ use Rattle.std.specs.Int.{bit_at, bytes_low_first, to_le_bytes}
 use Rattle.std.proofs.lemmas.Nat.{shr-shr, shr_split}
 use Rattle.std.proofs.lemmas.Nat.Bits.{bit_at_cat_low}
 use Rattle.ca_quad.specs.declared.node.Node.{Node}
-use Rattle.ca_quad.specs.Trees.{Shows, row_cells, word_cells}
+use Rattle.ca_quad.specs.Trees.{ShowsSquare, row_cells, word_cells}
 use Rattle.ca_quad.proofs.Windows.{rows_end}
 use Rattle.ca_quad.proofs.Words.{are_word_cells}
 
@@ -40,6 +40,6 @@ rows_of_word rows word e low x y =
 
 -- a square that shows a word shows its rows
 pub shows_rows : {E : Type 0} (nodes : List Node) (r : Result ℕ E) (rows : List ℕ) (word : ℕ) → ((x y : ℕ) → row_cells rows x y ≡ word_cells word x y)
-    → IfOk r (λ id. Shows nodes id 3 (word_cells word)) → IfOk r (λ id. Shows nodes id 3 (row_cells rows))
+    → IfOk r (λ id. ShowsSquare nodes id 3 (word_cells word)) → IfOk r (λ id. ShowsSquare nodes id 3 (row_cells rows))
 shows_rows nodes (Ok id) rows word same h = record { is_square = h.is_square; has_cells = λ x y. h.has_cells x y ∙ sym (same x y) }
 shows_rows nodes (Err e) rows word same h = tt

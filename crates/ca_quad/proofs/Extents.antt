@@ -3,7 +3,7 @@ use Rattle.std.proofs.Common.{◌≡◌, ◌≢◌, ℕ, ◌+◌, ◌-◌, ◌<�
 use Rattle.std.proofs.lemmas.Bool.Decides.{nat_tests}
 use Rattle.ca_quad.specs.declared.store.extent.Extent.{Extent}
 use Rattle.ca_quad.specs.Trees.{IsEmpty}
-use Rattle.ca_quad.specs.inner.Extent.{beside, IsExtent, IsExtentOf}
+use Rattle.ca_quad.specs.inner.Extent.{beside, IsExtent, IsSquareExtent}
 use Rattle.ca_quad.proofs.Growth.{below_or_not}
 
 live_as : (a b : ℕ) → a ≡ b → b ≢ 0 → a ≢ 0
@@ -44,7 +44,7 @@ module _ (side rows : ℕ) (w e : ℕ → ℕ → ℕ) (none : IsEmpty e) where
         is_bottom = h.is_bottom;
       }
 
-  pub west_only : (found : Option Extent) → IsExtentOf w side rows found → IsExtentOf (beside side w e) (side + side) rows found
+  pub west_only : (found : Option Extent) → IsSquareExtent w side rows found → IsSquareExtent (beside side w e) (side + side) rows found
   west_only (Some box) h = west_box box h
   west_only None h = λ x y. elim (below_or_not x side) [ inl i ↦ in_west side w e x y i ∙ h x y | inr i ↦ from_side side w e x y i ∙ none (x - side) y ]
 

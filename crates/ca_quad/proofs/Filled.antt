@@ -11,8 +11,8 @@ use Rattle.ca_quad.specs.declared.store.to_plane.Corners.{Corners}
 use Rattle.ca_quad.specs.declared.tree.Spot.{Spot}
 use Rattle.ca_quad.specs.declared.tree.Tree.{Tree}
 use Rattle.ca_quad.specs.Squares.{IsOf, together, cell_of}
-use Rattle.ca_quad.specs.Sound.{IsSound, Grows}
-use Rattle.ca_quad.specs.Trees.{Shows, AreFour, AreQuarters, cell as tree_cell}
+use Rattle.ca_quad.specs.Sound.{IsSoundStore, Grows}
+use Rattle.ca_quad.specs.Trees.{ShowsSquare, AreFour, AreQuarters, cell as tree_cell}
 use Rattle.ca_quad.specs.Trimmed.{HoldsAll}
 use Rattle.ca_quad.specs.inner.Drawn.{ArePartCorners}
 use Rattle.ca_quad.specs.inner.Filled.{counted, LiesNear, HoldsBox}
@@ -31,7 +31,7 @@ pub counted_at : (p : Picture) (at : Spot) (x y : ℤ) (a b : ℕ) → x ≡ at.
 counted_at p at x y a b e f = ap (λ n. cell p n y) e ∙ ap (λ n. cell p (at.x +ℤ pos a) n) f
 
 -- the first quarter of an empty square is empty
-none_first : (nodes : List Node) → IsSound nodes → (id k : ℕ) (parts : List ℕ) (d : ℕ) → length parts ≡ 4 → Shows nodes id (suc k) none → AreQuarters nodes id k parts → Shows nodes (get_or parts 0 d) k none
+none_first : (nodes : List Node) → IsSoundStore nodes → (id k : ℕ) (parts : List ℕ) (d : ℕ) → length parts ≡ 4 → ShowsSquare nodes id (suc k) none → AreQuarters nodes id k parts → ShowsSquare nodes (get_or parts 0 d) k none
 none_first nodes sound id k [] d four h q = absurd (omega arith)
 none_first nodes sound id k (p ∷ ps) d four h q = record {
   is_square = q.is_nw;
@@ -39,11 +39,11 @@ none_first nodes sound id k (p ∷ ps) d four h q = record {
 }
 
 -- and stays so
-pub part_none : (old new : List Node) → IsSound old → Grows old new → (id level : ℕ) (parts : List ℕ) (d : ℕ) → length parts ≡ 4 → 2 ≤ level → Shows old id level none
-    → ((l : ℕ) → IsOf old id (suc l) → AreQuarters old id l parts) → Shows new (get_or parts 0 d) (level - 1) none
+pub part_none : (old new : List Node) → IsSoundStore old → Grows old new → (id level : ℕ) (parts : List ℕ) (d : ℕ) → length parts ≡ 4 → 2 ≤ level → ShowsSquare old id level none
+    → ((l : ℕ) → IsOf old id (suc l) → AreQuarters old id l parts) → ShowsSquare new (get_or parts 0 d) (level - 1) none
 part_none old new sound grows id level parts d four large shows quarters =
     let next : level ≡ suc (level - 1) = omega arith in
-    let h : Shows old id (suc (level - 1)) none = subst (λ l. Shows old id l none) next shows in
+    let h : ShowsSquare old id (suc (level - 1)) none = subst (λ l. ShowsSquare old id l none) next shows in
     shows_stays old new sound grows (get_or parts 0 d) (level - 1) none (none_first old sound id (level - 1) parts d four h (quarters (level - 1) h.is_square))
 
 -- squares that are made one after the other
@@ -110,7 +110,7 @@ window_to nodes id k p from at dx dy ex ey h = record {
 }
 
 -- four quarters that are made one after the other
-module _ (s1 s2 s3 s4 : List Node) (sound : IsSound s1) (g2 : Grows s1 s2) (g3 : Grows s2 s3) (g4 : Grows s3 s4) (level half : ℕ) (large : 2 ≤ level) (side : half ≡ 2 ^ (level - 1)) (nw ne sw se : ℕ) where
+module _ (s1 s2 s3 s4 : List Node) (sound : IsSoundStore s1) (g2 : Grows s1 s2) (g3 : Grows s2 s3) (g4 : Grows s3 s4) (level half : ℕ) (large : 2 ≤ level) (side : half ≡ 2 ^ (level - 1)) (nw ne sw se : ℕ) where
   module _ (cells : ℕ → ℕ → ℕ) (x y : ℕ) (p : ShowsFrom s1 nw (level - 1) cells x y) (q : ShowsFrom s2 ne (level - 1) cells (x + half) y) (r : ShowsFrom s3 sw (level - 1) cells x (y + half)) (s : ShowsFrom s4 se (level - 1) cells (x + half) (y + half)) where
     quarters : FourWindows s4 (level - 1) cells x y nw ne sw se
     quarters =
@@ -122,7 +122,7 @@ module _ (s1 s2 s3 s4 : List Node) (sound : IsSound s1) (g2 : Grows s1 s2) (g3 :
     can_join low = four_windows s4 (level - 1) cells x y nw ne sw se quarters (omega arith)
 
     pub joined : {E : Type 0} (new : List Node) (u : Result ℕ E)
-        → ((l : ℕ) → IsOf s4 nw l → IfOk u (λ id. Shows new id (suc l) (together (2 ^ l) (cell_of s4 l nw) (cell_of s4 l ne) (cell_of s4 l sw) (cell_of s4 l se))))
+        → ((l : ℕ) → IsOf s4 nw l → IfOk u (λ id. ShowsSquare new id (suc l) (together (2 ^ l) (cell_of s4 l nw) (cell_of s4 l ne) (cell_of s4 l sw) (cell_of s4 l se))))
         → IfOk u (λ id. ShowsFrom new id level cells x y)
     joined new u join =
         let next : suc (level - 1) ≡ level = omega arith in
@@ -145,7 +145,7 @@ module _ (s1 s2 s3 s4 : List Node) (sound : IsSound s1) (g2 : Grows s1 s2) (g3 :
       can_join_filled = can_join (counted cells at) 0 0 p to_ne to_sw to_se
 
       pub filled_joined : {E : Type 0} (new : List Node) (u : Result ℕ E)
-          → ((l : ℕ) → IsOf s4 nw l → IfOk u (λ id. Shows new id (suc l) (together (2 ^ l) (cell_of s4 l nw) (cell_of s4 l ne) (cell_of s4 l sw) (cell_of s4 l se))))
+          → ((l : ℕ) → IsOf s4 nw l → IfOk u (λ id. ShowsSquare new id (suc l) (together (2 ^ l) (cell_of s4 l nw) (cell_of s4 l ne) (cell_of s4 l sw) (cell_of s4 l se))))
           → IfOk u (λ id. ShowsFrom new id level (counted cells at) 0 0)
       filled_joined = joined (counted cells at) 0 0 p to_ne to_sw to_se
 

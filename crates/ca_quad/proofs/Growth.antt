@@ -13,9 +13,9 @@ use Rattle.ca_quad.specs.declared.named.Named.{Named}
 use Rattle.ca_quad.specs.declared.named.Named.TheVariants.{Cells2, Cells4, Kept}
 use Rattle.ca_quad.specs.declared.node.Node.{Node}
 use Rattle.ca_quad.specs.declared.node.Node.TheVariants.{Leaf, Block, Join}
-use Rattle.ca_quad.specs.Squares.{named, kept, seen, shown, square_of, level, IsAmong}
+use Rattle.ca_quad.specs.Squares.{meaning_of_id, place_id, node_square, square_named, square_of, level, IsAmong}
 use Rattle.ca_quad.proofs.Nodes.{node_eq, node_eq-self, node_eq-same}
-use Rattle.ca_quad.specs.Sound.{IsGood, node_at, IsSound, Grows, AddsOnly}
+use Rattle.ca_quad.specs.Sound.{IsStorable, node_at, IsSoundStore, Grows, AddsOnly}
 
 pub below_or_not : (a b : ℕ) → (a < b) ⊎ (b ≤ a)
 below_or_not a b = elim (leb_tells b a) [ inl e ↦ inr e.1 | inr e ↦ inl e.1 ]
@@ -26,7 +26,7 @@ IsBelow places (Cells2 n) = n < 16
 IsBelow places (Cells4 n) = n < 65536
 IsBelow places (Kept place) = place < places
 
-pub named_below : (places id : ℕ) → id < kept places → IsBelow places (named id)
+pub named_below : (places id : ℕ) → id < place_id places → IsBelow places (meaning_of_id id)
 named_below places id h =
     elim (cases_Bool (nat_lt id 16)) [
       | inl e ↦ rw e (grind (arith, nat_tests))
@@ -40,14 +40,14 @@ named_below places id h =
 abbrev pub SameFirst : ℕ → List Node → List Node → Type 0
 SameFirst places old new = (place : ℕ) → place < places → node_at new place ≡ node_at old place
 
-shown_stays : (places : ℕ) (old new : List Node) → SameFirst places old new → (n : Named) → IsBelow places n → shown new n ≡ shown old n
+shown_stays : (places : ℕ) (old new : List Node) → SameFirst places old new → (n : Named) → IsBelow places n → square_named new n ≡ square_named old n
 shown_stays places old new same (Cells2 n) h = refl
 shown_stays places old new same (Cells4 n) h = refl
 shown_stays places old new same (Kept place) h = rw (same place h) refl
 
 -- an id names the same square in lists with the same first nodes
-pub square_stays : (places : ℕ) (old new : List Node) → SameFirst places old new → (id : ℕ) → id < kept places → square_of new id ≡ square_of old id
-square_stays places old new same id h = shown_stays places old new same (named id) (named_below places id h)
+pub square_stays : (places : ℕ) (old new : List Node) → SameFirst places old new → (id : ℕ) → id < place_id places → square_of new id ≡ square_of old id
+square_stays places old new same id h = shown_stays places old new same (meaning_of_id id) (named_below places id h)
 
 pub among_stays : (places : ℕ) (old new : List Node) → SameFirst places old new → (id k : ℕ) → IsAmong old places id k → IsAmong new places id k
 among_stays places old new same id k h = record {
@@ -55,7 +55,7 @@ among_stays places old new same id k h = record {
   is_level = ap level (square_stays places old new same id h.before) ∙ h.is_level;
 }
 
-pub good_stays : (places : ℕ) (old new : List Node) → SameFirst places old new → (n : Node) → IsGood old places n → IsGood new places n
+pub good_stays : (places : ℕ) (old new : List Node) → SameFirst places old new → (n : Node) → IsStorable old places n → IsStorable new places n
 good_stays places old new same (Leaf nw ne sw se) h = h
 good_stays places old new same (Block n) h = h
 good_stays places old new same (Join k nw ne sw se) h = (
@@ -71,7 +71,7 @@ good_stays places old new same (Join k nw ne sw se) h = (
 )
 
 -- a good node that isn't there yet may be put after the others
-module _ (nodes : List Node) (node : Node) (sound : IsSound nodes) (good : IsGood nodes (length nodes) node)
+module _ (nodes : List Node) (node : Node) (sound : IsSoundStore nodes) (good : IsStorable nodes (length nodes) node)
     (absent : (place : ℕ) → place < length nodes → node_at nodes place ≡ node → ⊥) where
   first : SameFirst (length nodes) nodes (nodes ++ node ∷ [])
   first place h = get_or-append nodes (node ∷ []) (Leaf 0 0 0 0) place h
@@ -86,15 +86,15 @@ module _ (nodes : List Node) (node : Node) (sound : IsSound nodes) (good : IsGoo
   place_cases place h =
       elim (below_or_not place (length nodes)) [ inl e ↦ inl e | inr e ↦ inr (omega (arith, longer)) ]
 
-  good_at : (place : ℕ) → place < length (nodes ++ node ∷ []) → IsGood (nodes ++ node ∷ []) place (node_at (nodes ++ node ∷ []) place)
+  good_at : (place : ℕ) → place < length (nodes ++ node ∷ []) → IsStorable (nodes ++ node ∷ []) place (node_at (nodes ++ node ∷ []) place)
   good_at place h =
       elim (place_cases place h) [
         | inl e ↦
-            subst (IsGood (nodes ++ node ∷ []) place) (sym (first place e))
+            subst (IsStorable (nodes ++ node ∷ []) place) (sym (first place e))
             (good_stays place nodes (nodes ++ node ∷ []) (λ p q. first p (omega arith)) (node_at nodes place) (sound.good place e))
         | inr e ↦
-            subst (λ p. IsGood (nodes ++ node ∷ []) p (node_at (nodes ++ node ∷ []) p)) (sym e)
-            (subst (IsGood (nodes ++ node ∷ []) (length nodes)) (sym last) (good_stays (length nodes) nodes (nodes ++ node ∷ []) first node good))
+            subst (λ p. IsStorable (nodes ++ node ∷ []) p (node_at (nodes ++ node ∷ []) p)) (sym e)
+            (subst (IsStorable (nodes ++ node ∷ []) (length nodes)) (sym last) (good_stays (length nodes) nodes (nodes ++ node ∷ []) first node good))
       ]
 
   once_at : (i j : ℕ) → i < length (nodes ++ node ∷ []) → j < length (nodes ++ node ∷ []) → node_at (nodes ++ node ∷ []) i ≡ node_at (nodes ++ node ∷ []) j → i ≡ j
@@ -118,13 +118,13 @@ module _ (nodes : List Node) (node : Node) (sound : IsSound nodes) (good : IsGoo
   }
 
   -- and then it is the only one that is added
-  pub adds_last : (at : ℕ) → at < length (nodes ++ node ∷ []) → node_at (nodes ++ node ∷ []) at ≡ node → AddsOnly nodes (nodes ++ node ∷ []) (kept at)
+  pub adds_last : (at : ℕ) → at < length (nodes ++ node ∷ []) → node_at (nodes ++ node ∷ []) at ≡ node → AddsOnly nodes (nodes ++ node ∷ []) (place_id at)
   adds_last at h e place low high =
       let here : place ≡ length nodes = omega (arith, longer) in
-      ap kept (once_at at place h high (e ∙ sym (ap (node_at (nodes ++ node ∷ [])) here ∙ last)))
+      ap place_id (once_at at place h high (e ∙ sym (ap (node_at (nodes ++ node ∷ [])) here ∙ last)))
 
 -- as it is
-pub grows_same : (nodes : List Node) → IsSound nodes → Grows nodes nodes
+pub grows_same : (nodes : List Node) → IsSoundStore nodes → Grows nodes nodes
 grows_same nodes sound = record { sound = sound; longer = omega arith; kept = λ place h. refl }
 
 pub grows_on : (old mid new : List Node) → Grows old mid → Grows mid new → Grows old new
@@ -135,7 +135,7 @@ grows_on old mid new g h = record {
 }
 
 -- the node is put after the others, where it isn't there
-pub put_grows : (nodes : List Node) (node : Node) → IsSound nodes → IsGood nodes (length nodes) node → Grows nodes (insert_key node_eq nodes node)
+pub put_grows : (nodes : List Node) (node : Node) → IsSoundStore nodes → IsStorable nodes (length nodes) node → Grows nodes (insert_key node_eq nodes node)
 put_grows nodes node sound good =
     elim (cases_Bool (list_any (node_eq node) nodes)) [
       | inl e ↦ rw e (grows_same nodes sound)
@@ -143,8 +143,8 @@ put_grows nodes node sound good =
     ]
 
 -- no other is put there
-pub put_adds : (nodes : List Node) (node found : Node) (at : ℕ) → IsSound nodes → IsGood nodes (length nodes) node
-    → slice_get (insert_key node_eq nodes node) at ≡ Some found → node_eq node found ≡ true → AddsOnly nodes (insert_key node_eq nodes node) (kept at)
+pub put_adds : (nodes : List Node) (node found : Node) (at : ℕ) → IsSoundStore nodes → IsStorable nodes (length nodes) node
+    → slice_get (insert_key node_eq nodes node) at ≡ Some found → node_eq node found ≡ true → AddsOnly nodes (insert_key node_eq nodes node) (place_id at)
 put_adds nodes node found at sound good stored same =
     elim (cases_Bool (list_any (node_eq node) nodes)) [
       | inl e ↦ rw e (λ place low high. absurd (omega arith))
@@ -155,7 +155,7 @@ put_adds nodes node found at sound good stored same =
           at (slice_get_within (nodes ++ node ∷ []) at found is) (get_or_from_slice_get (nodes ++ node ∷ []) at found (Leaf 0 0 0 0) is ∙ sym (node_eq-same node found same)))
     ]
 
-pub named_kept : (place : ℕ) → named (kept place) ≡ Kept place
+pub named_kept : (place : ℕ) → meaning_of_id (place_id place) ≡ Kept place
 named_kept place =
     let e : nat_lt (65552 + place) 16 ≡ false = grind (arith, nat_tests) in
     let f : nat_lt (65552 + place) 65552 ≡ false = grind (arith, nat_tests) in
@@ -163,6 +163,6 @@ named_kept place =
     rw (e, f, g) refl
 
 -- the node at a place is shown by the place's id
-pub kept_shows : (nodes : List Node) (place : ℕ) (found node : Node) → slice_get nodes place ≡ Some found → node_eq node found ≡ true → square_of nodes (kept place) ≡ seen node
+pub kept_shows : (nodes : List Node) (place : ℕ) (found node : Node) → slice_get nodes place ≡ Some found → node_eq node found ≡ true → square_of nodes (place_id place) ≡ node_square node
 kept_shows nodes place found node e f =
-    ap (shown nodes) (named_kept place) ∙ (ap seen (get_or_from_slice_get nodes place found (Leaf 0 0 0 0) e) ∙ ap seen (sym (node_eq-same node found f)))
+    ap (square_named nodes) (named_kept place) ∙ (ap node_square (get_or_from_slice_get nodes place found (Leaf 0 0 0 0) e) ∙ ap node_square (sym (node_eq-same node found f)))

@@ -12,7 +12,7 @@ use Rattle.ca_plane.specs.Plane.{Picture}
 use Rattle.ca_plane.specs.Sparse.{point_cmp, IsSparse}
 use Rattle.ca_quad.specs.declared.store.rows.Row.{Row}
 use Rattle.ca_quad.specs.declared.tree.Spot.{Spot}
-use Rattle.ca_quad.specs.inner.Rows.{point_at, ComesBefore, IsInRow, IsRow, AreRows, Hold, IsPart, IsNorth, IsSouth}
+use Rattle.ca_quad.specs.inner.Rows.{point_at, ComesBefore, IsInRow, IsPictureRow, AreRows, Hold, IsPartOfRows, IsNorth, IsSouth}
 
 -- ---- the order of the list
 
@@ -67,8 +67,8 @@ module _ (rs new : List Row) (r : Row) (e : new ≡ rs ++ r ∷ []) where
   Hold-push i (inl h) = rw e (Hold-left rs (r ∷ []) i h)
   Hold-push i (inr h) = rw e (Hold-last rs r i h)
 
-  pub AreRows-push : (p : Picture) → AreRows p rs → IsRow p r → AreRows p new
-  AreRows-push p are is = rw e (All-append (IsRow p) rs (r ∷ []) are (All-cons (IsRow p) r [] is (All-nil _)))
+  pub AreRows-push : (p : Picture) → AreRows p rs → IsPictureRow p r → AreRows p new
+  AreRows-push p are is = rw e (All-append (IsPictureRow p) rs (r ∷ []) are (All-cons (IsPictureRow p) r [] is (All-nil _)))
 
 -- no place is in an empty row
 pub Hold-same : (rs : List Row) (r : Row) → r.first ≡ r.end → (i : ℕ) → Hold rs i ⊎ IsInRow r i → Hold rs i
@@ -94,7 +94,7 @@ module _ (p : Picture) (rows : List Row) (passes : Point → Type 0) where
   pub part_first : (part : List Row) → part ≡ [] → IsSoFar p rows passes part 0
   part_first part e = record { are = rw e (All-nil _); held = λ i h t. inr h }
 
-  pub part_last : (part : List Row) (k : ℕ) → length rows ≤ k → IsSoFar p rows passes part k → IsPart p rows passes part
+  pub part_last : (part : List Row) (k : ℕ) → length rows ≤ k → IsSoFar p rows passes part k → IsPartOfRows p rows passes part
   part_last part k past so = record {
     are = so.are;
     held = λ i h t. elim (so.held i h t) [ inl g ↦ g | inr g ↦ absurd (subst (λ rs. Hold rs i) (drop_all k rows past) g) ];
@@ -116,7 +116,7 @@ module _ (p : Picture) (rows : List Row) (passes : Point → Type 0) where
 module _ (p : Picture) (sparse : IsSparse p) where
   -- the places from one on whose points come before the end of its row
   pub row_made : (first : ℕ) (at : Spot) (row : Row) → at.y ≡ (point_at p first).y → row.y ≡ (point_at p first).y → row.first ≡ first → first < row.end → row.end ≤ length p
-      → ((i : ℕ) → first + 1 ≤ i → i < row.end → ComesBefore (point_at p i) at) → IsRow p row
+      → ((i : ℕ) → first + 1 ≤ i → i < row.end → ComesBefore (point_at p i) at) → IsPictureRow p row
   row_made first at row ey ry e some range before = record {
     order = omega arith;
     range = range;
@@ -133,7 +133,7 @@ module _ (p : Picture) (sparse : IsSparse p) where
           ]
 
   -- some of its places
-  pub row_cut : (row new : Row) → IsRow p row → new.y ≡ row.y → row.first ≤ new.first → new.first ≤ new.end → new.end ≤ row.end → IsRow p new
+  pub row_cut : (row new : Row) → IsPictureRow p row → new.y ≡ row.y → row.first ≤ new.first → new.first ≤ new.end → new.end ≤ row.end → IsPictureRow p new
   row_cut row new is ey low order high = record {
     order = order;
     range = omega (arith, is.range);
@@ -142,8 +142,8 @@ module _ (p : Picture) (sparse : IsSparse p) where
 
 -- a row goes to the part that it belongs to, and the other part stays
 module _ (p : Picture) (rows : List Row) (are : AreRows p rows) (k : ℕ) (r : Row) (at : slice_get rows k ≡ Some r) (y : ℤ) where
-  is : IsRow p r
-  is = all_at (IsRow p) rows k r at are
+  is : IsPictureRow p r
+  is = all_at (IsPictureRow p) rows k r at are
 
   module _ (north south new_north new_south more : List Row) (n : IsSoFar p rows (IsNorth y) north k) (s : IsSoFar p rows (IsSouth y) south k) where
     pub north_next : r.y <ℤ y → new_north ≡ more → new_south ≡ south → more ≡ north ++ r ∷ [] → IsSoFar p rows (IsNorth y) new_north (k + 1) × IsSoFar p rows (IsSouth y) new_south (k + 1)

@@ -16,7 +16,7 @@ use Rattle.ca_quad.specs.declared.node.Node.{Node}
 use Rattle.ca_quad.specs.declared.tree.Tree.{Tree}
 use Rattle.ca_quad.specs.Squares.{cell_of}
 use Rattle.ca_quad.specs.Trees.{from_corner, IsTree, cell}
-use Rattle.ca_quad.specs.inner.Population.{sum_below, live, live_cells, IsCountOf}
+use Rattle.ca_quad.specs.inner.Population.{sum_below, cell_population, live_cells_of_tree, IsCountOf}
 use Rattle.ca_quad.proofs.Cells.{cell_ends}
 use Rattle.ca_quad.proofs.Growth.{below_or_not}
 use Rattle.ca_quad.proofs.Population.{sum_split, sum_same, count_exact}
@@ -33,7 +33,7 @@ module _ (cells : ℕ → ℕ) (at : ℕ → Point) (apart : (i j : ℕ) → at 
   IsPlace n p = (i : ℕ) × (i < n) × (p ≡ at i) × (cells i ≢ 0)
 
   IsPlace-next : (n : ℕ) (p : Point) → IsPlace n p → IsPlace (suc n) p
-  IsPlace-next n p h = let (i, low, is, live) = h in (i, omega arith, is, live)
+  IsPlace-next n p h = let (i, low, is, cell_population) = h in (i, omega arith, is, cell_population)
 
   is_live : (n : ℕ) → (n == 0) ≡ false → n ≢ 0
   is_live n e = grind (arith, nat_tests)
@@ -54,24 +54,24 @@ module _ (cells : ℕ → ℕ) (at : ℕ → Point) (apart : (i j : ℕ) → at 
   once (suc n) =
       elim (cases_Bool (cells n == 0)) [
         | inl e ↦ rw e (once n)
-        | inr e ↦ rw e (AllPairs-cons (λ p q. p ≢ q) (at n) (listed n) (λ k d l z. let (i, low, is, live) = each n k d l in let same : n ≡ i = apart n i (z ∙ is) in omega arith) (once n))
+        | inr e ↦ rw e (AllPairs-cons (λ p q. p ≢ q) (at n) (listed n) (λ k d l z. let (i, low, is, cell_population) = each n k d l in let same : n ≡ i = apart n i (z ∙ is) in omega arith) (once n))
       ]
 
   pub has : (n i : ℕ) → i < n → cells i ≢ 0 → Contains (listed n) (at i)
   unfolding listed
-  has zero i low live = absurd (omega arith)
-  has (suc n) i low live =
+  has zero i low cell_population = absurd (omega arith)
+  has (suc n) i low cell_population =
       elim (cases_Bool (cells n == 0)) [
         | inl e ↦
-            let other : i ≢ n = λ z. live (ap cells z ∙ eqb-true (cells n) 0 e) in
-            rw e (has n i (omega arith) live)
+            let other : i ≢ n = λ z. cell_population (ap cells z ∙ eqb-true (cells n) 0 e) in
+            rw e (has n i (omega arith) cell_population)
         | inr e ↦ elim (cases_eq i n) [
           | inl same ↦ rw e (0, omega arith, ap at (sym same))
-          | inr other ↦ rw e (Contains-append_right (at n ∷ []) (listed n) (at i) (has n i (omega arith) live))
+          | inr other ↦ rw e (Contains-append_right (at n ∷ []) (listed n) (at i) (has n i (omega arith) cell_population))
         ]
       ]
 
-  pub count : (n : ℕ) → length (listed n) ≡ sum_below n (λ i. live (cells i))
+  pub count : (n : ℕ) → length (listed n) ≡ sum_below n (λ i. cell_population (cells i))
   unfolding listed
   count zero = refl
   count (suc n) =
@@ -85,13 +85,13 @@ module _ (cells : ℕ → ℕ → ℕ) (side : ℕ) where
   pub by_rows : ℕ → ℕ
   by_rows i = cells (i % side) (i / side)
 
-  rows : (n : ℕ) → sum_below (n * side) (λ i. live (by_rows i)) ≡ sum_below n (λ y. sum_below side (λ x. live (cells x y)))
+  rows : (n : ℕ) → sum_below (n * side) (λ i. cell_population (by_rows i)) ≡ sum_below n (λ y. sum_below side (λ x. cell_population (cells x y)))
   unfolding by_rows
   rows zero = let e : 0 * side ≡ 0 = omega arith in rw e refl
   rows (suc n) =
       let e : suc n * side ≡ n * side + side = suc-mul n side in
-      let row = sum_same side (λ x. live (by_rows (n * side + x))) (λ x. live (cells x n)) (λ x h. rw (mod-mul-add n side x h, div-mul-add n side x h) refl) in
-      rw e (sum_split (n * side) side (λ i. live (by_rows i)) ∙ omega (arith, rows n, row))
+      let row = sum_same side (λ x. cell_population (by_rows (n * side + x))) (λ x. cell_population (cells x n)) (λ x h. rw (mod-mul-add n side x h, div-mul-add n side x h) refl) in
+      rw e (sum_split (n * side) side (λ i. cell_population (by_rows i)) ∙ omega (arith, rows n, row))
 
 -- the live cells of a tree
 module _ (nodes : List Node) (tree : Tree) where
@@ -126,22 +126,22 @@ module _ (nodes : List Node) (tree : Tree) where
 
   -- a live place is counted from the corner
   counted : (u v : ℤ) → from_corner cells u v ≢ 0 → (a : ℕ) × (b : ℕ) × (u ≡ pos a) × (v ≡ pos b) × (cells a b ≢ 0)
-  counted (pos a) (pos b) live = (a, b, refl, refl, live)
-  counted (pos a) (negsuc b) live = absurd (live refl)
-  counted (negsuc a) (pos b) live = absurd (live refl)
-  counted (negsuc a) (negsuc b) live = absurd (live refl)
+  counted (pos a) (pos b) cell_population = (a, b, refl, refl, cell_population)
+  counted (pos a) (negsuc b) cell_population = absurd (cell_population refl)
+  counted (negsuc a) (pos b) cell_population = absurd (cell_population refl)
+  counted (negsuc a) (negsuc b) cell_population = absurd (cell_population refl)
 
   within : (a b : ℕ) → cells a b ≢ 0 → (a < side) × (b < side)
   unfolding cells side
-  within a b live = (
-    elim (below_or_not a side) [ inl h ↦ h | inr h ↦ absurd (live (cell_ends nodes tree.level tree.root a b (inl h))) ],
-    elim (below_or_not b side) [ inl h ↦ h | inr h ↦ absurd (live (cell_ends nodes tree.level tree.root a b (inr h))) ],
+  within a b cell_population = (
+    elim (below_or_not a side) [ inl h ↦ h | inr h ↦ absurd (cell_population (cell_ends nodes tree.level tree.root a b (inl h))) ],
+    elim (below_or_not b side) [ inl h ↦ h | inr h ↦ absurd (cell_population (cell_ends nodes tree.level tree.root a b (inr h))) ],
   )
 
   all_listed : (x y : ℤ) → cell nodes tree x y ≢ 0 → Contains (listed (by_rows cells side) place place_apart (side * side)) (record { y = y; x = x })
   unfolding by_rows place cells half side
-  all_listed x y live =
-      let (a, b, is_x, is_y, is_live) = counted (x +ℤ pos half) (y +ℤ pos half) live in
+  all_listed x y cell_population =
+      let (a, b, is_x, is_y, is_live) = counted (x +ℤ pos half) (y +ℤ pos half) cell_population in
       let (low_a, low_b) = within a b is_live in
       let column : (b * side + a) % side ≡ a = mod-mul-add b side a low_a in
       let row : (b * side + a) / side ≡ b = div-mul-add b side a low_a in
@@ -154,7 +154,7 @@ module _ (nodes : List Node) (tree : Tree) where
       (has (by_rows cells side) place place_apart (side * side) (b * side + a) (omega (arith, next, e, low_a)) here)
 
   -- they are as many as the sum tells
-  pub tree_population : HasPopulation (cell nodes tree) (live_cells nodes tree)
+  pub tree_population : HasPopulation (cell nodes tree) (live_cells_of_tree nodes tree)
   unfolding side cells
   tree_population =
       let places = listed (by_rows cells side) place place_apart (side * side) in (
@@ -163,7 +163,7 @@ module _ (nodes : List Node) (tree : Tree) where
           once = once (by_rows cells side) place place_apart (side * side);
           live = recursion_from_All (λ (p : Point). cell nodes tree p.x p.y ≢ 0) places
               (All-weaker (IsPlace (by_rows cells side) place place_apart (side * side)) (λ (p : Point). cell nodes tree p.x p.y ≢ 0)
-              (λ p h z. let (i, low, is, live) = h in live (sym (shown i) ∙ (ap (λ (q : Point). cell nodes tree q.x q.y) (sym is) ∙ z))) places (each (by_rows cells side) place place_apart (side * side)));
+              (λ p h z. let (i, low, is, cell_population) = h in cell_population (sym (shown i) ∙ (ap (λ (q : Point). cell nodes tree q.x q.y) (sym is) ∙ z))) places (each (by_rows cells side) place place_apart (side * side)));
           all = all_listed;
         },
         sym (count (by_rows cells side) place place_apart (side * side) ∙ rows cells side side),
@@ -174,14 +174,14 @@ module _ (nodes : List Node) (tree : Tree) where
     pub counts_all : {E : Type 0} (r : Result ℕ E) → tree.level ≤ 63 → IfOk r (IsCountOf nodes tree.root) → IfOk r (HasPopulation (cell nodes tree))
     counts_all r low count = exact r (count_exact nodes r tree.root tree.level is low count)
       where
-        exact : {E : Type 0} (r : Result ℕ E) → IfOk r (λ n. n ≡ live_cells nodes tree) → IfOk r (HasPopulation (cell nodes tree))
+        exact : {E : Type 0} (r : Result ℕ E) → IfOk r (λ n. n ≡ live_cells_of_tree nodes tree) → IfOk r (HasPopulation (cell nodes tree))
         exact (Ok n) e = subst (HasPopulation (cell nodes tree)) (sym e) tree_population
         exact (Err e) h = tt
 
     -- a low count tells that the cells are few
     pub few_counted : (n : ℕ) → IsCountOf nodes tree.root n → n ≤ most_cells → HasFewCells (cell nodes tree)
-    few_counted n count low = (live_cells nodes tree, tree_population, omega (arith, count tree.level is, low))
+    few_counted n count low = (live_cells_of_tree nodes tree, tree_population, omega (arith, count tree.level is, low))
 
     -- and a high one that they aren't
     pub many_counted : (n : ℕ) → IsCountOf nodes tree.root n → most_cells < n → HasTooManyCells (cell nodes tree)
-    many_counted n count high = (live_cells nodes tree, tree_population, omega (arith, count tree.level is, high))
+    many_counted n count high = (live_cells_of_tree nodes tree, tree_population, omega (arith, count tree.level is, high))

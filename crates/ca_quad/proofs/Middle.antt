@@ -6,8 +6,8 @@ use Rattle.ca_quad.specs.declared.node.Node.{Node}
 use Rattle.ca_quad.specs.declared.square.Square.TheVariants.{Four, Parts}
 use Rattle.ca_quad.specs.Squares.{square_of, level, IsOf, dot, together, cell_of}
 use Rattle.ca_quad.specs.Sound.{HasParts}
-use Rattle.ca_quad.specs.Trees.{IsIn, IsEmpty, Shows, AreFour}
-use Rattle.ca_quad.specs.inner.Ring.{IsEmptySquare, none, ringed, IsRinged, IsMiddle}
+use Rattle.ca_quad.specs.Trees.{IsIn, IsEmpty, ShowsSquare, AreFour}
+use Rattle.ca_quad.specs.inner.Ring.{IsEmptySquare, none, ringed, IsRinged, IsMiddleSquare}
 use Rattle.ca_quad.specs.inner.Measure.{Ends}
 use Rattle.ca_quad.proofs.Cells.{twice, dot_ends, cell_ends, together_ends, same_nw, same_ne, same_sw, same_se}
 use Rattle.ca_quad.proofs.Walks.{four_show, parts_show}
@@ -117,7 +117,7 @@ squares_end nodes k ids n = cell_ends nodes k (slice_index ids n)
 
 -- the middle of a hollow square, made of its four inner parts
 pub middle_is : (new : List Node) (k : ℕ) (f : ℕ → ℕ → ℕ → ℕ) (big : ℕ → ℕ → ℕ) (id : ℕ) → sixteen (2 ^ (k - 1)) f ≡ big → IsHollow f
-    → Shows new id k (together (2 ^ (k - 1)) (f 3) (f 6) (f 9) (f 12)) → IsMiddle new k big id
+    → ShowsSquare new id k (together (2 ^ (k - 1)) (f 3) (f 6) (f 9) (f 12)) → IsMiddleSquare new k big id
 middle_is new k f big id e hollow shows = record {
   is_square = shows.is_square;
   is_ringed = subst (IsRinged (2 ^ (k - 1)) (cell_of new k id)) e
@@ -144,7 +144,7 @@ module _ (nodes : List Node) (nw ne sw se : ℕ) (four : AreFour nodes 1 nw ne s
   cells_hollow small r = ringed_hollow 1 (dots cells) (dots_end cells) small (subst (IsRinged 1 small) (sym as_cells) r)
 
   -- and where those are 0, the four inner ones are the middle
-  pub inner_cells : (new : List Node) (id : ℕ) → IsHollow (dots cells) → Shows new id 1 (together 1 (dot d) (dot g) (dot j) (dot n)) → IsMiddle new 1 large id
+  pub inner_cells : (new : List Node) (id : ℕ) → IsHollow (dots cells) → ShowsSquare new id 1 (together 1 (dot d) (dot g) (dot j) (dot n)) → IsMiddleSquare new 1 large id
   inner_cells new id hollow shows = middle_is new 1 (dots cells) large id as_cells hollow shows
 
 -- a square of these four parts
@@ -257,9 +257,9 @@ module _ (nodes : List Node) (nw ne sw se k : ℕ) (four : AreFour nodes k nw ne
 
   -- and where those are empty, the four inner ones are the middle
   pub inner_middle : (new : List Node) (id : ℕ)
-      → ((level : ℕ) → IsOf nodes d level → Shows new id (suc level) (together (2 ^ level) (cell_of nodes level d) (cell_of nodes level g) (cell_of nodes level j) (cell_of nodes level n)))
-      → All (IsEmptySquare nodes) outer → IsMiddle new k big id
+      → ((level : ℕ) → IsOf nodes d level → ShowsSquare new id (suc level) (together (2 ^ level) (cell_of nodes level d) (cell_of nodes level g) (cell_of nodes level j) (cell_of nodes level n)))
+      → All (IsEmptySquare nodes) outer → IsMiddleSquare new k big id
   inner_middle new id join all =
       let next : suc (k - 1) ≡ k = omega (arith, of_nw.least) in
       let cells = together (2 ^ (k - 1)) (cell_of nodes (k - 1) d) (cell_of nodes (k - 1) g) (cell_of nodes (k - 1) j) (cell_of nodes (k - 1) n) in
-      middle_is new k (squares nodes (k - 1) ids) big id as_parts (hollow all) (subst (λ l. Shows new id l cells) next (join (k - 1) of_nw.is_se))
+      middle_is new k (squares nodes (k - 1) ids) big id as_parts (hollow all) (subst (λ l. ShowsSquare new id l cells) next (join (k - 1) of_nw.is_se))

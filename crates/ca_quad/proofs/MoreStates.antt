@@ -4,8 +4,8 @@ use Rattle.std.proofs.lemmas.Bool.Decides.{nat_tests}
 use Rattle.ca_quad.specs.declared.named.Named.TheVariants.{Kept}
 use Rattle.ca_quad.specs.declared.node.Node.{Node}
 use Rattle.ca_quad.specs.declared.node.Node.TheVariants.{Leaf, Block, Join}
-use Rattle.ca_quad.specs.Squares.{kept, named, seen, shown, square_of, level, IsOf, IsAmong, dot, together, cells_in, cell_of}
-use Rattle.ca_quad.specs.Sound.{IsGood, node_at, IsSound}
+use Rattle.ca_quad.specs.Squares.{place_id, meaning_of_id, node_square, square_named, square_of, level, IsOf, IsAmong, dot, together, cells_in, cell_of}
+use Rattle.ca_quad.specs.Sound.{IsStorable, node_at, IsSoundStore}
 use Rattle.ca_quad.specs.Trees.{HasMoreStates}
 use Rattle.ca_quad.specs.inner.Numbered.{IsKeptOtherwise}
 use Rattle.ca_quad.specs.inner.Measure.{Ends}
@@ -50,8 +50,8 @@ more_dot : (state : ℕ) → 2 ≤ state → HasMoreStates (dot state)
 more_dot state h = (0, 0, h)
 
 -- a good node that is no block
-more_in_node : (nodes : List Node) (places k : ℕ) → places ≤ length nodes → ((id : ℕ) → IsOf nodes id k → kept 0 ≤ id → HasMoreStates (cell_of nodes k id))
-    → (node : Node) → IsGood nodes places node → level (seen node) ≡ suc k → ((n : ℕ) → node ≢ Block n) → HasMoreStates (cells_in (cell_of nodes k) (seen node) (2 ^ k))
+more_in_node : (nodes : List Node) (places k : ℕ) → places ≤ length nodes → ((id : ℕ) → IsOf nodes id k → place_id 0 ≤ id → HasMoreStates (cell_of nodes k id))
+    → (node : Node) → IsStorable nodes places node → level (node_square node) ≡ suc k → ((n : ℕ) → node ≢ Block n) → HasMoreStates (cells_in (cell_of nodes k) (node_square node) (2 ^ k))
 more_in_node nodes places k fits more (Leaf a b c d) good e other =
     let ends : (state : ℕ) → Ends 1 (dot state) = λ state. dot_ends state 1 (omega arith) in
     let none : k ≡ 0 = omega arith in
@@ -64,28 +64,28 @@ more_in_node nodes places k fits more (Join m a b c d) good e other =
     let lower : m - 1 ≡ k = omega arith in
     let is_part : (id : ℕ) → IsAmong nodes places id (m - 1) → IsOf nodes id k = λ id h. record { before = omega (arith, h.before, fits); is_level = h.is_level ∙ lower } in
     more_in_four (2 ^ k) (part a) (part b) (part c) (part d) (ends a) (ends b) (ends c)
-    (one_of (more a (is_part a good.0.is_nw)) (more b (is_part b good.0.is_ne)) (more c (is_part c good.0.is_sw)) (more d (is_part d good.0.is_se)) (one_reaches a b c d (kept 0) good.1))
+    (one_of (more a (is_part a good.0.is_nw)) (more b (is_part b good.0.is_ne)) (more c (is_part c good.0.is_sw)) (more d (is_part d good.0.is_se)) (one_reaches a b c d (place_id 0) good.1))
 
-named_kept : (id : ℕ) → kept 0 ≤ id → named id ≡ Kept (id - 65552)
+named_kept : (id : ℕ) → place_id 0 ≤ id → meaning_of_id id ≡ Kept (id - 65552)
 named_kept id far =
     let e : nat_lt id 16 ≡ false = grind (arith, nat_tests) in
     let f : nat_lt id 65552 ≡ false = grind (arith, nat_tests) in
     rw (e, f) refl
 
 -- a square that is kept at a place, and is no block
-module _ (nodes : List Node) (sound : IsSound nodes) where
-  more_at : (k id place : ℕ) → ((p : ℕ) → IsOf nodes p k → kept 0 ≤ p → HasMoreStates (cell_of nodes k p)) → IsOf nodes id (suc k) → place < length nodes → named id ≡ Kept place
+module _ (nodes : List Node) (sound : IsSoundStore nodes) where
+  more_at : (k id place : ℕ) → ((p : ℕ) → IsOf nodes p k → place_id 0 ≤ p → HasMoreStates (cell_of nodes k p)) → IsOf nodes id (suc k) → place < length nodes → meaning_of_id id ≡ Kept place
       → ((n : ℕ) → node_at nodes place ≢ Block n) → HasMoreStates (cell_of nodes (suc k) id)
   more_at k id place more is low name other =
-      rw name (more_in_node nodes place k (omega arith) more (node_at nodes place) (sound.good place low) (ap (λ n. level (shown nodes n)) (sym name) ∙ is.is_level) other)
+      rw name (more_in_node nodes place k (omega arith) more (node_at nodes place) (sound.good place low) (ap (λ n. level (square_named nodes n)) (sym name) ∙ is.is_level) other)
 
-  more_kept : (k : ℕ) → k ≤ 2 → (id : ℕ) → IsOf nodes id k → kept 0 ≤ id → HasMoreStates (cell_of nodes k id)
+  more_kept : (k : ℕ) → k ≤ 2 → (id : ℕ) → IsOf nodes id k → place_id 0 ≤ id → HasMoreStates (cell_of nodes k id)
   more_kept zero h id is far = absurd (no_level nodes (length nodes) (square_of nodes id) is.is_level (square_whole nodes sound id is.before))
   more_kept (suc k) h id is far =
       let name = named_kept id far in
       more_at k id (id - 65552) (more_kept k (omega arith)) is (omega (arith, is.before)) name
       (λ n e.
-      let three : 3 ≡ suc k = sym (ap (λ m. level (seen m)) e) ∙ (ap (λ m. level (shown nodes m)) (sym name) ∙ is.is_level) in
+      let three : 3 ≡ suc k = sym (ap (λ m. level (node_square m)) e) ∙ (ap (λ m. level (square_named nodes m)) (sym name) ∙ is.is_level) in
       omega arith)
 
   pub more_states : (id : ℕ) → IsOf nodes id 3 → IsKeptOtherwise nodes id → HasMoreStates (cell_of nodes 3 id)

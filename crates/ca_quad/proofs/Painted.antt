@@ -16,13 +16,13 @@ use Rattle.ca_quad.specs.declared.tree.Spot.{Spot}
 use Rattle.ca_quad.specs.Squares.{square_of, level as level_in, level_of, dot}
 use Rattle.ca_quad.specs.Sound.{HasParts}
 use Rattle.ca_quad.specs.Trees.{IsIn, IsEmpty}
-use Rattle.ca_quad.specs.inner.Drawn.{cells_of, placed, ArePartCorners, Agrees, IsLive, shown, IsReady, AreReady, IsLiveIn, IsLiveInRow, Paints, IsAdded, ArePushed}
+use Rattle.ca_quad.specs.inner.Drawn.{square_cells, placed, ArePartCorners, Agrees, IsLiveAt, placed_cells, IsReadyToDraw, AreReady, IsLiveIn, IsLiveInRow, Paints, IsAdded, ArePushed}
 use Rattle.ca_quad.proofs.Boxes.{dead_from}
 use Rattle.ca_quad.proofs.Drawn.{dot_shown, part_ends, parts_live, parts_ready}
 use Rattle.ca_quad.proofs.Edges.{IsOff, off_y}
 
 -- no cell of an empty square is live
-pub none_is_live : (cells : ℕ → ℕ → ℕ) (at : Spot) → IsEmpty cells → (x y : ℤ) → IsLive (placed cells at) x y → ⊥
+pub none_is_live : (cells : ℕ → ℕ → ℕ) (at : Spot) → IsEmpty cells → (x y : ℤ) → IsLiveAt (placed cells at) x y → ⊥
 none_is_live cells at none x y live = live (dead_from cells none (x -ℤ at.x) (y -ℤ at.y))
 
 dot_empty : (x y : ℕ) → dot 0 x y ≡ 0
@@ -33,11 +33,11 @@ module _ (all : ℤ → ℤ → ℕ) where
   pub paints_none : (p : Picture) (live : ℤ → ℤ → Type 0) → ((x y : ℤ) → live x y → ⊥) → Paints all p p live
   paints_none p live none = record { kept = λ x y h. h; put = λ x y l. absurd (none x y l) }
 
-  pub paints_dot_none : (p : Picture) (state : ℕ) (at : Spot) → state ≡ 0 → Paints all p p (IsLive (placed (dot state) at))
+  pub paints_dot_none : (p : Picture) (state : ℕ) (at : Spot) → state ≡ 0 → Paints all p p (IsLiveAt (placed (dot state) at))
   paints_dot_none p state at e = paints_none p _ (none_is_live (dot state) at (λ x y. ap (λ s. dot s x y) e ∙ dot_empty x y))
 
   -- one cell is written
-  pub paints_dot : (old new : Picture) (state : ℕ) (at : Point) (spot : Spot) → at.x ≡ spot.x → at.y ≡ spot.y → state ≢ 0 → Sets old new at state → Agrees all (placed (dot state) spot) → Paints all old new (IsLive (placed (dot state) spot))
+  pub paints_dot : (old new : Picture) (state : ℕ) (at : Point) (spot : Spot) → at.x ≡ spot.x → at.y ≡ spot.y → state ≢ 0 → Sets old new at state → Agrees all (placed (dot state) spot) → Paints all old new (IsLiveAt (placed (dot state) spot))
   paints_dot old new state at spot ex ey live sets agrees = record {
     kept = λ x y h.
         elim (cases_Bool (int_eq y at.y && int_eq x at.x)) [
@@ -74,7 +74,7 @@ module _ (nodes : List Node) where
   live_left (r ∷ rs) ts x y (inl h) = inl h
   live_left (r ∷ rs) ts x y (inr h) = inr (live_left rs ts x y h)
 
-  live_last : (rs : List Placed) (r : Placed) (x y : ℤ) → IsLive (shown nodes r) x y → IsLiveIn nodes (rs ++ r ∷ []) x y
+  live_last : (rs : List Placed) (r : Placed) (x y : ℤ) → IsLiveAt (placed_cells nodes r) x y → IsLiveIn nodes (rs ++ r ∷ []) x y
   live_last [] r x y h = inl h
   live_last (q ∷ rs) r x y h = inr (live_last rs r x y h)
 
@@ -82,11 +82,11 @@ module _ (nodes : List Node) where
   pub added : (square : Placed) (old new : List Placed) → new ≡ old ++ square ∷ [] → IsAdded nodes square old new
   added square old new e = rw e (record {
     live = λ x y h. elim h [ inl l ↦ live_left old (square ∷ []) x y l | inr l ↦ live_last old square x y l ];
-    ready = λ all level are is. All-append (IsReady nodes all level) old (square ∷ []) are (All-cons (IsReady nodes all level) square [] is (All-nil _));
+    ready = λ all level are is. All-append (IsReadyToDraw nodes all level) old (square ∷ []) are (All-cons (IsReadyToDraw nodes all level) square [] is (All-nil _));
   })
 
   -- an empty square isn't needed
-  pub added_none : (square : Placed) (old : List Placed) → ((x y : ℤ) → IsLive (shown nodes square) x y → ⊥) → IsAdded nodes square old old
+  pub added_none : (square : Placed) (old : List Placed) → ((x y : ℤ) → IsLiveAt (placed_cells nodes square) x y → ⊥) → IsAdded nodes square old old
   added_none square old none = record {
     live = λ x y h. elim h [ inl l ↦ l | inr l ↦ absurd (none x y l) ];
     ready = λ all level are is. are;
@@ -103,14 +103,14 @@ module _ (nodes : List Node) (square : Placed) (nw ne sw se : ℕ) (before : IsI
     (a : IsAdded nodes (record { id = nw; at = square.at }) old.north.items n) (b : IsAdded nodes (record { id = ne; at = cs.ne }) n new.north.items)
     (c : IsAdded nodes (record { id = sw; at = cs.sw }) old.south.items s) (d : IsAdded nodes (record { id = se; at = cs.se }) s new.south.items)
   where
-    of_four : (x y : ℤ) → (IsLive (shown nodes (record { id = nw; at = square.at })) x y ⊎ IsLive (shown nodes (record { id = ne; at = cs.ne })) x y) ⊎ (IsLive (shown nodes (record { id = sw; at = cs.sw })) x y ⊎ IsLive (shown nodes (record { id = se; at = cs.se })) x y)
+    of_four : (x y : ℤ) → (IsLiveAt (placed_cells nodes (record { id = nw; at = square.at })) x y ⊎ IsLiveAt (placed_cells nodes (record { id = ne; at = cs.ne })) x y) ⊎ (IsLiveAt (placed_cells nodes (record { id = sw; at = cs.sw })) x y ⊎ IsLiveAt (placed_cells nodes (record { id = se; at = cs.se })) x y)
         → IsLiveIn nodes new.north.items x y ⊎ IsLiveIn nodes new.south.items x y
     of_four x y (inl (inl l)) = inl (b.live x y (inl (a.live x y (inr l))))
     of_four x y (inl (inr l)) = inl (b.live x y (inr l))
     of_four x y (inr (inl l)) = inr (d.live x y (inl (c.live x y (inr l))))
     of_four x y (inr (inr l)) = inr (d.live x y (inr l))
 
-    pushed_live : (x y : ℤ) → (IsLiveIn nodes old.north.items x y ⊎ IsLiveIn nodes old.south.items x y) ⊎ IsLive (shown nodes square) x y → IsLiveIn nodes new.north.items x y ⊎ IsLiveIn nodes new.south.items x y
+    pushed_live : (x y : ℤ) → (IsLiveIn nodes old.north.items x y ⊎ IsLiveIn nodes old.south.items x y) ⊎ IsLiveAt (placed_cells nodes square) x y → IsLiveIn nodes new.north.items x y ⊎ IsLiveIn nodes new.south.items x y
     pushed_live x y (inl (inl h)) = inl (b.live x y (inl (a.live x y (inl h))))
     pushed_live x y (inl (inr h)) = inr (d.live x y (inl (c.live x y (inl h))))
     pushed_live x y (inr h) = of_four x y (parts_live nodes square.id nw ne sw se before m e whole half half_is square.at cs are x y h)
@@ -133,25 +133,25 @@ two_below (pos (suc (suc n))) = inr (inr (omega (arith, ints)))
 two_below (negsuc n) = inr (inl (omega (arith, ints)))
 
 module _ (nodes : List Node) (all : ℤ → ℤ → ℕ) where
-  row_of : (s : Placed) → IsReady nodes all 1 s → (x y : ℤ) → IsLive (shown nodes s) x y → (y ≡ s.at.y +ℤ pos 0) ⊎ (y ≡ s.at.y +ℤ pos 1)
+  row_of : (s : Placed) → IsReadyToDraw nodes all 1 s → (x y : ℤ) → IsLiveAt (placed_cells nodes s) x y → (y ≡ s.at.y +ℤ pos 0) ⊎ (y ≡ s.at.y +ℤ pos 1)
   row_of s is x y live =
       let ends = part_ends nodes s.id 1 2 is.is_square refl in
       elim (two_below (y -ℤ s.at.y)) [
         | inl h ↦ elim h [ inl e ↦ inl (omega (arith, ints)) | inr e ↦ inr (omega (arith, ints)) ]
-        | inr off ↦ absurd (live (off_y (cells_of nodes s.id) 2 ends (x -ℤ s.at.x) (y -ℤ s.at.y) off))
+        | inr off ↦ absurd (live (off_y (square_cells nodes s.id) 2 ends (x -ℤ s.at.x) (y -ℤ s.at.y) off))
       ]
 
   pub rows_live : (ss : List Placed) → AreReady nodes all 1 ss → (x y : ℤ) → IsLiveIn nodes ss x y → IsLiveInRow nodes 0 ss x y ⊎ IsLiveInRow nodes 1 ss x y
   rows_live [] are x y h = absurd h
-  rows_live (s ∷ ss) are x y (inl h) = elim (row_of s (All-head (IsReady nodes all 1) s ss are) x y h) [ inl e ↦ inl (inl (h, e)) | inr e ↦ inr (inl (h, e)) ]
-  rows_live (s ∷ ss) are x y (inr h) = elim (rows_live ss (All-tail (IsReady nodes all 1) s ss are) x y h) [ inl l ↦ inl (inr l) | inr l ↦ inr (inr l) ]
+  rows_live (s ∷ ss) are x y (inl h) = elim (row_of s (All-head (IsReadyToDraw nodes all 1) s ss are) x y h) [ inl e ↦ inl (inl (h, e)) | inr e ↦ inr (inl (h, e)) ]
+  rows_live (s ∷ ss) are x y (inr h) = elim (rows_live ss (All-tail (IsReadyToDraw nodes all 1) s ss are) x y h) [ inl l ↦ inl (inr l) | inr l ↦ inr (inr l) ]
 
   -- the first square of all
-  pub ready_one : (level k : ℕ) (ss : List Placed) (s : Placed) → k ≡ level → ss ≡ [] ++ s ∷ [] → IsReady nodes all level s → AreReady nodes all k ss
-  ready_one level k ss s e f is = rw (e, f) (All-cons (IsReady nodes all level) s [] is (All-nil _))
+  pub ready_one : (level k : ℕ) (ss : List Placed) (s : Placed) → k ≡ level → ss ≡ [] ++ s ∷ [] → IsReadyToDraw nodes all level s → AreReady nodes all k ss
+  ready_one level k ss s e f is = rw (e, f) (All-cons (IsReadyToDraw nodes all level) s [] is (All-nil _))
 
 -- where all that is live was written to an empty plane, it shows all
-pub painted_all : (nodes : List Node) (all : ℤ → ℤ → ℕ) (ss : List Placed) (s : Placed) (old new : Picture) → ss ≡ [] ++ s ∷ [] → old ≡ [] → ((x y : ℤ) → shown nodes s x y ≡ all x y) → Paints all old new (IsLiveIn nodes ss) → (x y : ℤ) → cell new x y ≡ all x y
+pub painted_all : (nodes : List Node) (all : ℤ → ℤ → ℕ) (ss : List Placed) (s : Placed) (old new : Picture) → ss ≡ [] ++ s ∷ [] → old ≡ [] → ((x y : ℤ) → placed_cells nodes s x y ≡ all x y) → Paints all old new (IsLiveIn nodes ss) → (x y : ℤ) → cell new x y ≡ all x y
 painted_all nodes all ss s old new e f same p x y =
     elim (cases_eq (all x y) 0) [
       | inl z ↦ p.kept x y (ap (λ (q : Picture). cell q x y) f ∙ sym z)

@@ -7,9 +7,9 @@ use Rattle.ca_quad.specs.declared.node.Node.{Node}
 use Rattle.ca_quad.specs.declared.tree.Tree.{Tree}
 use Rattle.ca_quad.specs.declared.tree.WideBounds.{WideBounds}
 use Rattle.ca_quad.specs.Trees.{cell}
-use Rattle.ca_quad.specs.Boxes.{IsDead, IsLeastBox}
-use Rattle.ca_quad.specs.Expanded.{FitsPlane, LeavesPlane}
-use Rattle.ca_quad.specs.inner.Reach.{IsInReach, IsOutOfReach}
+use Rattle.ca_quad.specs.Boxes.{IsDead, IsLeastWideBox}
+use Rattle.ca_quad.specs.Expanded.{FitsPlane, HasCellOutsidePlane}
+use Rattle.ca_quad.specs.inner.Reach.{IsBoxInReach, IsBoxOutOfReach}
 use Rattle.ca_quad.proofs.Edges.{outside_x, outside_y}
 use Rattle.ca_quad.proofs.Filled.{place_on}
 
@@ -17,14 +17,14 @@ module _ (cells : ℤ → ℤ → ℕ) where
   pub dead_fits : IsDead cells → FitsPlane cells
   dead_fits dead x y h = absurd (h (dead x y))
 
-  module _ (box : WideBounds) (least : IsLeastBox cells box) where
-    pub box_leaves : IsOutOfReach box → LeavesPlane cells
+  module _ (box : WideBounds) (least : IsLeastWideBox cells box) where
+    pub box_leaves : IsBoxOutOfReach box → HasCellOutsidePlane cells
     box_leaves (inl h) = (box.x0, least.left.0, least.left.1, λ i. absurd (omega (arith, ints, i.0)))
     box_leaves (inr (inl h)) = (box.x1, least.right.0, least.right.1, λ i. absurd (omega (arith, ints, i.1)))
     box_leaves (inr (inr (inl h))) = (least.top.0, box.y0, least.top.1, λ i. absurd (omega (arith, ints, i.2)))
     box_leaves (inr (inr (inr h))) = (least.bottom.0, box.y1, least.bottom.1, λ i. absurd (omega (arith, ints, i.3)))
 
-    pub box_fits : IsInReach box → FitsPlane cells
+    pub box_fits : IsBoxInReach box → FitsPlane cells
     box_fits h x y live =
         let k = least.all x y live in
         (omega (arith, ints), omega (arith, ints), omega (arith, ints), omega (arith, ints))

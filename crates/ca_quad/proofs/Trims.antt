@@ -5,7 +5,7 @@ use Rattle.std.proofs.Math.Nat.{two-pow-succ, pow-le-pow_right}
 use Rattle.ca_quad.specs.declared.node.Node.{Node}
 use Rattle.ca_quad.specs.declared.tree.Tree.{Tree}
 use Rattle.ca_quad.specs.Squares.{cell_of}
-use Rattle.ca_quad.specs.Sound.{IsSound, Grows}
+use Rattle.ca_quad.specs.Sound.{IsSoundStore, Grows}
 use Rattle.ca_quad.specs.Trees.{IsTree, from_corner, cell}
 use Rattle.ca_quad.specs.Trimmed.{HoldsAll, IsTrimmed}
 use Rattle.ca_quad.specs.inner.Ring.{IsOut, IsRinged, HasNoRing}
@@ -14,7 +14,7 @@ use Rattle.ca_quad.proofs.Cells.{cells_stay}
 use Rattle.ca_quad.proofs.Differ.{cell_at}
 
 -- an old tree shows the same plane
-pub trees_stay : (old new : List Node) → IsSound old → Grows old new → (tree : Tree) → IsTree old tree → (x y : ℤ) → cell new tree x y ≡ cell old tree x y
+pub trees_stay : (old new : List Node) → IsSoundStore old → Grows old new → (tree : Tree) → IsTree old tree → (x y : ℤ) → cell new tree x y ≡ cell old tree x y
 trees_stay old new sound grows tree h x y =
     ap (λ f. from_corner f (x +ℤ pos (2 ^ (tree.level - 1))) (y +ℤ pos (2 ^ (tree.level - 1)))) (cells_stay old new sound grows tree.level tree.root h)
 

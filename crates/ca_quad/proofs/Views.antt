@@ -7,15 +7,15 @@ use Rattle.ca_quad.specs.declared.named.Named.TheVariants.{Cells2, Cells4, Kept}
 use Rattle.ca_quad.specs.declared.node.Node.{Node}
 use Rattle.ca_quad.specs.declared.node.Node.TheVariants.{Leaf, Block, Join}
 use Rattle.ca_quad.specs.declared.square.Square.TheVariants.{Four, Parts}
-use Rattle.ca_quad.specs.Squares.{digit, cells2, cells4, named, kept, seen, shown, square_of, level, IsAmong}
-use Rattle.ca_quad.specs.Sound.{IsGood, node_at, IsSound}
+use Rattle.ca_quad.specs.Squares.{digit, cells2, cells4, meaning_of_id, place_id, node_square, square_named, square_of, level, IsAmong}
+use Rattle.ca_quad.specs.Sound.{IsStorable, node_at, IsSoundStore}
 use Rattle.ca_quad.specs.inner.Whole.{IsWhole}
 use Rattle.ca_quad.proofs.Growth.{IsBelow, named_below}
 
-pub named_cells2 : (n : ℕ) → n < 16 → named (cells2 n) ≡ Cells2 n
+pub named_cells2 : (n : ℕ) → n < 16 → meaning_of_id (cells2 n) ≡ Cells2 n
 named_cells2 n h = let e : nat_lt n 16 ≡ true = grind (arith, nat_tests) in rw e refl
 
-pub named_cells4 : (n : ℕ) → n < 65536 → named (cells4 n) ≡ Cells4 n
+pub named_cells4 : (n : ℕ) → n < 65536 → meaning_of_id (cells4 n) ≡ Cells4 n
 named_cells4 n h =
     let e : nat_lt (16 + n) 16 ≡ false = grind (arith, nat_tests) in
     let f : nat_lt (16 + n) 65552 ≡ true = grind (arith, nat_tests) in
@@ -23,15 +23,15 @@ named_cells4 n h =
     rw (e, f, g) refl
 
 pub among_cells2 : (nodes : List Node) (places n : ℕ) → n < 16 → IsAmong nodes places (cells2 n) 1
-among_cells2 nodes places n h = record { before = omega arith; is_level = ap (λ m. level (shown nodes m)) (named_cells2 n h) }
+among_cells2 nodes places n h = record { before = omega arith; is_level = ap (λ m. level (square_named nodes m)) (named_cells2 n h) }
 
 pub among_cells4 : (nodes : List Node) (places n : ℕ) → n < 65536 → IsAmong nodes places (cells4 n) 2
-among_cells4 nodes places n h = record { before = omega arith; is_level = ap (λ m. level (shown nodes m)) (named_cells4 n h) }
+among_cells4 nodes places n h = record { before = omega arith; is_level = ap (λ m. level (square_named nodes m)) (named_cells4 n h) }
 
 among_more : (nodes : List Node) (few places id k : ℕ) → few ≤ places → IsAmong nodes few id k → IsAmong nodes places id k
 among_more nodes few places id k h a = record { before = omega arith; is_level = a.is_level }
 
-seen_whole : (nodes : List Node) (few places : ℕ) → few ≤ places → (n : Node) → IsGood nodes few n → IsWhole nodes places (seen n)
+seen_whole : (nodes : List Node) (few places : ℕ) → few ≤ places → (n : Node) → IsStorable nodes few n → IsWhole nodes places (node_square n)
 seen_whole nodes few places h (Leaf nw ne sw se) good = tt
 seen_whole nodes few places h (Block n) good = record {
   least = omega arith;
@@ -50,7 +50,7 @@ seen_whole nodes few places h (Join k nw ne sw se) good = record {
   is_se = among_more nodes few places se (k - 1) h good.0.is_se;
 }
 
-shown_whole : (nodes : List Node) → IsSound nodes → (n : Named) → IsBelow (length nodes) n → IsWhole nodes (length nodes) (shown nodes n)
+shown_whole : (nodes : List Node) → IsSoundStore nodes → (n : Named) → IsBelow (length nodes) n → IsWhole nodes (length nodes) (square_named nodes n)
 shown_whole nodes sound (Cells2 n) h = tt
 shown_whole nodes sound (Cells4 n) h = record {
   least = omega arith;
@@ -62,8 +62,8 @@ shown_whole nodes sound (Cells4 n) h = record {
 }
 shown_whole nodes sound (Kept place) h = seen_whole nodes place (length nodes) (omega arith) (node_at nodes place) (sound.good place h)
 
-pub square_whole : (nodes : List Node) → IsSound nodes → (id : ℕ) → id < kept (length nodes) → IsWhole nodes (length nodes) (square_of nodes id)
-square_whole nodes sound id h = shown_whole nodes sound (named id) (named_below (length nodes) id h)
+pub square_whole : (nodes : List Node) → IsSoundStore nodes → (id : ℕ) → id < place_id (length nodes) → IsWhole nodes (length nodes) (square_of nodes id)
+square_whole nodes sound id h = shown_whole nodes sound (meaning_of_id id) (named_below (length nodes) id h)
 
 -- equal squares have equal cells, or equal parts
 same_four : {a b c d e f g h : ℕ} → Four a b c d ≡ Four e f g h → (a ≡ e) × (b ≡ f) × (c ≡ g) × (d ≡ h)
@@ -73,13 +73,13 @@ same_parts : {k l a b c d e f g h : ℕ} → Parts k a b c d ≡ Parts l e f g h
 same_parts p = (cc, cc, cc, cc)
 
 -- a block's parts are named by their cells
-not_block : (m k a b c d : ℕ) → seen (Block m) ≡ Parts k a b c d → 65552 ≤ max (max a b) (max c d) → ⊥
+not_block : (m k a b c d : ℕ) → node_square (Block m) ≡ Parts k a b c d → 65552 ≤ max (max a b) (max c d) → ⊥
 not_block m k a b c d e low =
     let (p, q, r, s) = same_parts e in
     omega arith
 
 -- good nodes that look alike are equal
-seen_same : (nodes : List Node) (i j : ℕ) (m n : Node) → IsGood nodes i m → IsGood nodes j n → seen m ≡ seen n → m ≡ n
+seen_same : (nodes : List Node) (i j : ℕ) (m n : Node) → IsStorable nodes i m → IsStorable nodes j n → node_square m ≡ node_square n → m ≡ n
 seen_same nodes i j (Leaf nw ne sw se) (Leaf a b c d) g h e = cc
 seen_same nodes i j (Leaf nw ne sw se) (Block n) g h e = cc
 seen_same nodes i j (Leaf nw ne sw se) (Join k a b c d) g h e = cc
@@ -93,14 +93,14 @@ seen_same nodes i j (Join k a b c d) (Block m) g h e = absurd (not_block m k a b
 seen_same nodes i j (Join k nw ne sw se) (Join l a b c d) g h e = cc
 
 -- no good node looks like a square that is named by its cells
-cells2_not_kept : (nodes : List Node) (i m : ℕ) (n : Node) → m < 16 → IsGood nodes i n → shown nodes (Cells2 m) ≡ seen n → ⊥
+cells2_not_kept : (nodes : List Node) (i m : ℕ) (n : Node) → m < 16 → IsStorable nodes i n → square_named nodes (Cells2 m) ≡ node_square n → ⊥
 cells2_not_kept nodes i m (Leaf a b c d) h g e =
     let (p, q, r, s) = same_four e in
     omega arith
 cells2_not_kept nodes i m (Block n) h g e = cc
 cells2_not_kept nodes i m (Join k a b c d) h g e = cc
 
-cells4_not_kept : (nodes : List Node) (i m : ℕ) (n : Node) → m < 65536 → IsGood nodes i n → shown nodes (Cells4 m) ≡ seen n → ⊥
+cells4_not_kept : (nodes : List Node) (i m : ℕ) (n : Node) → m < 65536 → IsStorable nodes i n → square_named nodes (Cells4 m) ≡ node_square n → ⊥
 cells4_not_kept nodes i m (Leaf a b c d) h g e = cc
 cells4_not_kept nodes i m (Block n) h g e = cc
 cells4_not_kept nodes i m (Join k a b c d) h g e =
@@ -109,7 +109,7 @@ cells4_not_kept nodes i m (Join k a b c d) h g e =
     omega arith
 
 -- names that look alike are equal
-shown_same : (nodes : List Node) → IsSound nodes → (m n : Named) → IsBelow (length nodes) m → IsBelow (length nodes) n → shown nodes m ≡ shown nodes n → m ≡ n
+shown_same : (nodes : List Node) → IsSoundStore nodes → (m n : Named) → IsBelow (length nodes) m → IsBelow (length nodes) n → square_named nodes m ≡ square_named nodes n → m ≡ n
 shown_same nodes sound (Cells2 m) (Cells2 n) g h e =
     let (p, q, r, s) = same_four e in
     ap (λ (n : ℕ). Cells2 n) (omega arith)
@@ -130,7 +130,7 @@ number_of (Cells2 n) = n
 number_of (Cells4 n) = 16 + n
 number_of (Kept place) = 65552 + place
 
-number_named : (id : ℕ) → number_of (named id) ≡ id
+number_named : (id : ℕ) → number_of (meaning_of_id id) ≡ id
 unfolding number_of
 number_named id =
     elim (cases_Bool (nat_lt id 16)) [
@@ -142,6 +142,6 @@ number_named id =
     ]
 
 -- an id is known by its square
-pub known_by_square : (nodes : List Node) → IsSound nodes → (a b : ℕ) → a < kept (length nodes) → b < kept (length nodes) → square_of nodes a ≡ square_of nodes b → a ≡ b
+pub known_by_square : (nodes : List Node) → IsSoundStore nodes → (a b : ℕ) → a < place_id (length nodes) → b < place_id (length nodes) → square_of nodes a ≡ square_of nodes b → a ≡ b
 known_by_square nodes sound a b h k e =
-    sym (number_named a) ∙ (ap number_of (shown_same nodes sound (named a) (named b) (named_below (length nodes) a h) (named_below (length nodes) b k) e) ∙ number_named b)
+    sym (number_named a) ∙ (ap number_of (shown_same nodes sound (meaning_of_id a) (meaning_of_id b) (named_below (length nodes) a h) (named_below (length nodes) b k) e) ∙ number_named b)

@@ -4,7 +4,7 @@ use Rattle.std.proofs.lemmas.Bool.{cases_Bool}
 use Rattle.ca_quad.specs.declared.node.Node.{Node}
 use Rattle.ca_quad.specs.declared.square.Square.TheVariants.{Four, Parts}
 use Rattle.ca_quad.specs.Squares.{square_of, level, IsOf, dot, together, cells_in, cell_of}
-use Rattle.ca_quad.specs.Sound.{IsSound}
+use Rattle.ca_quad.specs.Sound.{IsSoundStore}
 use Rattle.ca_quad.specs.Trees.{IsEmpty}
 use Rattle.ca_quad.proofs.Cells.{in_nw, in_ne, in_sw, in_se, cell_ends, same_nw, same_ne, same_sw, same_se, same_cells}
 
@@ -62,7 +62,7 @@ abbrev nothing : ℕ → ℕ → ℕ
 nothing x y = 0
 
 -- the parts of an empty square are empty, and so they are one
-module _ (nodes : List Node) (sound : IsSound nodes) (k nw ne sw se : ℕ) (a : IsOf nodes nw k) (b : IsOf nodes ne k) (c : IsOf nodes sw k) (d : IsOf nodes se k)
+module _ (nodes : List Node) (sound : IsSoundStore nodes) (k nw ne sw se : ℕ) (a : IsOf nodes nw k) (b : IsOf nodes ne k) (c : IsOf nodes sw k) (d : IsOf nodes se k)
     (empty : IsEmpty (together (2 ^ k) (cell_of nodes k nw) (cell_of nodes k ne) (cell_of nodes k sw) (cell_of nodes k se))) where
   alike : (x y : ℕ) → together (2 ^ k) (cell_of nodes k nw) (cell_of nodes k ne) (cell_of nodes k sw) (cell_of nodes k se) x y ≡ together (2 ^ k) nothing nothing nothing nothing x y
   alike x y = empty x y ∙ sym (together_empty (2 ^ k) nothing nothing nothing nothing (λ x y. refl) (λ x y. refl) (λ x y. refl) (λ x y. refl) x y)

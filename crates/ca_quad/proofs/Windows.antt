@@ -5,15 +5,15 @@ use Rattle.std.proofs.lemmas.List.{get_or_past}
 use Rattle.std.proofs.lemmas.Nat.Bits.{bit_at_above, bit_at-zero}
 use Rattle.ca_quad.specs.declared.node.Node.{Node}
 use Rattle.ca_quad.specs.Squares.{cell_of, together}
-use Rattle.ca_quad.specs.Sound.{IsSound, Grows}
-use Rattle.ca_quad.specs.Trees.{Shows, AreFour, row_cells}
+use Rattle.ca_quad.specs.Sound.{IsSoundStore, Grows}
+use Rattle.ca_quad.specs.Trees.{ShowsSquare, AreFour, row_cells}
 use Rattle.ca_quad.specs.inner.Window.{ShowsFrom}
 use Rattle.ca_quad.proofs.Growth.{below_or_not, grows_on}
 use Rattle.ca_quad.specs.inner.Measure.{Ends}
 use Rattle.ca_quad.proofs.Cells.{in_nw, in_ne, in_sw, in_se, cells_stay, of_stays}
 
 -- a square goes on to show them
-pub window_stays : (old new : List Node) → IsSound old → Grows old new → (id k left top : ℕ) (cells : ℕ → ℕ → ℕ) → ShowsFrom old id k cells left top → ShowsFrom new id k cells left top
+pub window_stays : (old new : List Node) → IsSoundStore old → Grows old new → (id k left top : ℕ) (cells : ℕ → ℕ → ℕ) → ShowsFrom old id k cells left top → ShowsFrom new id k cells left top
 window_stays old new sound grows id k left top cells h = record {
   is_square = of_stays old new sound grows id k h.is_square;
   has_cells = λ x y i j. ap (λ f. f x y) (cells_stay old new sound grows k id h.is_square) ∙ h.has_cells x y i j;
@@ -26,7 +26,7 @@ pub record FourWindows (nodes : List Node) (k : ℕ) (cells : ℕ → ℕ → �
   pub c : ShowsFrom nodes sw k cells left (top + 2 ^ k)
   pub d : ShowsFrom nodes se k cells (left + 2 ^ k) (top + 2 ^ k)
 
-pub gathered : (r s t nodes : List Node) → IsSound r → Grows r s → Grows s t → Grows t nodes → (k : ℕ) (cells : ℕ → ℕ → ℕ) (left top nw ne sw se : ℕ)
+pub gathered : (r s t nodes : List Node) → IsSoundStore r → Grows r s → Grows s t → Grows t nodes → (k : ℕ) (cells : ℕ → ℕ → ℕ) (left top nw ne sw se : ℕ)
     → ShowsFrom r nw k cells left top → ShowsFrom s ne k cells (left + 2 ^ k) top → ShowsFrom t sw k cells left (top + 2 ^ k) → ShowsFrom nodes se k cells (left + 2 ^ k) (top + 2 ^ k)
     → FourWindows nodes k cells left top nw ne sw se
 gathered r s t nodes sound g h i k cells left top nw ne sw se a b c d = record {
@@ -66,7 +66,7 @@ module _ (nodes : List Node) (k : ℕ) (cells : ℕ → ℕ → ℕ) (left top n
       ]
 
   pub window_joined : {E : Type 0} (new : List Node) (r : Result ℕ E)
-      → IfOk r (λ id. Shows new id (suc k) (together (2 ^ k) (cell_of nodes k nw) (cell_of nodes k ne) (cell_of nodes k sw) (cell_of nodes k se)))
+      → IfOk r (λ id. ShowsSquare new id (suc k) (together (2 ^ k) (cell_of nodes k nw) (cell_of nodes k ne) (cell_of nodes k sw) (cell_of nodes k se)))
       → IfOk r (λ id. ShowsFrom new id (suc k) cells left top)
   window_joined new (Ok id) h = record { is_square = h.is_square; has_cells = λ x y i j. h.has_cells x y ∙ together_shows x y i j }
   window_joined new (Err e) h = tt

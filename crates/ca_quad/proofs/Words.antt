@@ -8,11 +8,11 @@ use Rattle.ca_quad.specs.declared.named.Named.TheVariants.{Cells2}
 use Rattle.ca_quad.specs.declared.node.Node.{Node}
 use Rattle.ca_quad.specs.declared.node.Node.TheVariants.{Block}
 use Rattle.ca_quad.specs.declared.square.Square.TheVariants.{Parts}
-use Rattle.ca_quad.specs.Squares.{digit, seen, shown, square_of, level, IsOf, dot, together, cell_of}
-use Rattle.ca_quad.specs.Sound.{IsSound, HasParts}
-use Rattle.ca_quad.specs.Trees.{IsIn, Shows, word_cells}
+use Rattle.ca_quad.specs.Squares.{digit, node_square, square_named, square_of, level, IsOf, dot, together, cell_of}
+use Rattle.ca_quad.specs.Sound.{IsSoundStore, HasParts}
+use Rattle.ca_quad.specs.Trees.{IsIn, ShowsSquare, word_cells}
 use Rattle.ca_quad.specs.inner.Bits.{place}
-use Rattle.ca_quad.specs.inner.Numbered.{AreDigits, IsNumberOf}
+use Rattle.ca_quad.specs.inner.Numbered.{AreFourDigits, IsNumberOfNode}
 use Rattle.ca_quad.specs.inner.Measure.{Ends}
 use Rattle.ca_quad.proofs.Cells.{cell_ends, is_under, is_over}
 use Rattle.ca_quad.proofs.Growth.{below_or_not}
@@ -20,7 +20,7 @@ use Rattle.ca_quad.proofs.Numbered.{of_number}
 use Rattle.ca_quad.proofs.Walks.{four_show, parts_show}
 
 -- the bits of a number are those of its four digits
-module _ (k n a b c d : ℕ) (are : AreDigits k n a b c d) (i : ℕ) where
+module _ (k n a b c d : ℕ) (are : AreFourDigits k n a b c d) (i : ℕ) where
   next_bit : (high low : ℕ) → low < 2 ^ k → (j : ℕ) → bit_at (high * 2 ^ k + low) (k + j) ≡ bit_at high j
   next_bit high low h j = let e : k + j - k ≡ j = omega arith in bit_at_cat_high high k low (k + j) h (omega arith) ∙ ap (bit_at high) e
 
@@ -67,7 +67,7 @@ place_low (suc k) x y h i =
     ]
 
 -- four squares whose cells are the bits of a number's digits
-bits_together : (k n a b c d : ℕ) → AreDigits (4 ^ k) n a b c d → (nw ne sw se : ℕ → ℕ → ℕ) → AreBits k a nw → AreBits k b ne → AreBits k c sw → AreBits k d se
+bits_together : (k n a b c d : ℕ) → AreFourDigits (4 ^ k) n a b c d → (nw ne sw se : ℕ → ℕ → ℕ) → AreBits k a nw → AreBits k b ne → AreBits k c sw → AreBits k d se
     → AreBits (suc k) n (together (2 ^ k) nw ne sw se)
 bits_together k n a b c d are nw ne sw se p q r s x y h i =
     let side = two-pow-succ k in
@@ -104,7 +104,7 @@ dot_bits n low zero zero h i = let e : n ≡ n / 1 % 2 = omega arith in e
 dot_bits n low (suc x) y h i = absurd (omega arith)
 dot_bits n low zero (suc y) h i = absurd (omega arith)
 
-bits_of_cells : (nodes : List Node) (id n : ℕ) → n < 16 → square_of nodes id ≡ shown nodes (Cells2 n) → IsBits nodes id n
+bits_of_cells : (nodes : List Node) (id n : ℕ) → n < 16 → square_of nodes id ≡ square_named nodes (Cells2 n) → IsBits nodes id n
 bits_of_cells nodes id n low e k h =
     let a = digit 2 n 0 in
     let b = digit 2 n 1 in
@@ -117,17 +117,17 @@ bits_of_cells nodes id n low e k h =
     (dot_bits a (omega arith)) (dot_bits b (omega arith)) (dot_bits c (omega arith)) (dot_bits d (omega arith))))
 
 bits_of_parts : (nodes : List Node) (id m nw ne sw se : ℕ) → Parts m nw ne sw se ≡ square_of nodes id → HasParts nodes (length nodes) m nw ne sw se
-    → (k n a b c d : ℕ) → k ≡ 4 ^ (m - 1) → AreDigits k n a b c d → n < 2 ^ 64 → IsBits nodes nw a → IsBits nodes ne b → IsBits nodes sw c → IsBits nodes se d → IsBits nodes id n
+    → (k n a b c d : ℕ) → k ≡ 4 ^ (m - 1) → AreFourDigits k n a b c d → n < 2 ^ 64 → IsBits nodes nw a → IsBits nodes ne b → IsBits nodes sw c → IsBits nodes se d → IsBits nodes id n
 bits_of_parts nodes id m nw ne sw se e whole k n a b c d size are low p q r s l h =
     let j = m - 1 in
     let same : suc j ≡ l = omega (arith, whole.least, sym h.is_level ∙ ap level (sym e)) in
     subst (λ i. AreBits i n (cell_of nodes l id)) same
     (rw (parts_show nodes id l h m nw ne sw se (omega (arith, whole.least)) e)
-    (bits_together j n a b c d (subst (λ i. AreDigits i n a b c d) size are) (cell_of nodes j nw) (cell_of nodes j ne) (cell_of nodes j sw) (cell_of nodes j se)
+    (bits_together j n a b c d (subst (λ i. AreFourDigits i n a b c d) size are) (cell_of nodes j nw) (cell_of nodes j ne) (cell_of nodes j sw) (cell_of nodes j se)
     (p j whole.is_nw) (q j whole.is_ne) (r j whole.is_sw) (s j whole.is_se)))
 
 -- a square's number has its cells as bits
-number_bits : (nodes : List Node) → IsSound nodes → (id n : ℕ) → IsIn nodes id → IsNumberOf nodes id n → IsBits nodes id n
+number_bits : (nodes : List Node) → IsSoundStore nodes → (id n : ℕ) → IsIn nodes id → IsNumberOfNode nodes id n → IsBits nodes id n
 number_bits nodes sound = of_number nodes sound (IsBits nodes) (bits_of_cells nodes) (bits_of_parts nodes)
 
 -- cells that are the bits of a word in row order are the cells of the word
@@ -141,12 +141,12 @@ are_word_cells word cells low ends same x y =
     ]
 
 -- a square of level 3 whose number is a block of the word's cells shows them
-module _ (nodes : List Node) (sound : IsSound nodes) (block word : ℕ) (fits : word < 2 ^ 64) (same : (x y : ℕ) → x < 8 → y < 8 → bit_at block (place 3 x y) ≡ bit_at word (8 * y + x)) where
-  pub is_word : (id : ℕ) → IsOf nodes id 3 → IsNumberOf nodes id block → (x y : ℕ) → cell_of nodes 3 id x y ≡ word_cells word x y
+module _ (nodes : List Node) (sound : IsSoundStore nodes) (block word : ℕ) (fits : word < 2 ^ 64) (same : (x y : ℕ) → x < 8 → y < 8 → bit_at block (place 3 x y) ≡ bit_at word (8 * y + x)) where
+  pub is_word : (id : ℕ) → IsOf nodes id 3 → IsNumberOfNode nodes id block → (x y : ℕ) → cell_of nodes 3 id x y ≡ word_cells word x y
   is_word id is number =
       are_word_cells word (cell_of nodes 3 id) fits (cell_ends nodes 3 id) (λ x y h i. number_bits nodes sound id block is.before number 3 is x y h i ∙ same x y h i)
 
-  pub shows_word : {E : Type 0} (r : Result ℕ E) → block < 2 ^ 64 → IfOk r (IsIn nodes) → IfOk r (λ id. square_of nodes id ≡ seen (Block block)) → IfOk r (λ id. Shows nodes id 3 (word_cells word))
+  pub shows_word : {E : Type 0} (r : Result ℕ E) → block < 2 ^ 64 → IfOk r (IsIn nodes) → IfOk r (λ id. square_of nodes id ≡ node_square (Block block)) → IfOk r (λ id. ShowsSquare nodes id 3 (word_cells word))
   shows_word (Ok id) low known e =
       let is : IsOf nodes id 3 = record { before = known; is_level = ap level e } in
       record { is_square = is; has_cells = is_word id is (inr (inr (low, e))) }

@@ -3,8 +3,8 @@ use Rattle.std.specs.Prelude.{◌≡◌, ℕ, ◌<◌, ◌≤◌, ◌⊎◌, Lis
 use Rattle.ca_quad.specs.declared.node.Node.{Node}
 use Rattle.ca_quad.specs.declared.square.Square.{Square}
 use Rattle.ca_quad.specs.declared.square.Square.TheVariants.{Four, Parts}
-use Rattle.ca_quad.specs.Squares.{kept, square_of, level_of, cell_of}
-use Rattle.ca_quad.specs.Trees.{Shows}
+use Rattle.ca_quad.specs.Squares.{place_id, square_of, level_of, cell_of}
+use Rattle.ca_quad.specs.Trees.{ShowsSquare}
 
 -- the id is one of the square's four parts
 abbrev pub IsPartOf : Square → ℕ → Type 0
@@ -18,8 +18,8 @@ pub data LiesIn (nodes : List Node) : ℕ → ℕ → Type 0 where
 
 -- the copy has the level and the cells of the square
 abbrev pub IsCopy : List Node → List Node → ℕ → ℕ → Type 0
-IsCopy from nodes id copy = Shows nodes copy (level_of from id) (cell_of from (level_of from id) id)
+IsCopy from nodes id copy = ShowsSquare nodes copy (level_of from id) (cell_of from (level_of from id) id)
 
 -- each square that is added is the copy of one that lies in the root
 abbrev pub AddsCopies : List Node → ℕ → List Node → List Node → Type 0
-AddsCopies from root old new = (place : ℕ) → length old ≤ place → place < length new → (id : ℕ) × (LiesIn from root id × IsCopy from new id (kept place))
+AddsCopies from root old new = (place : ℕ) → length old ≤ place → place < length new → (id : ℕ) × (LiesIn from root id × IsCopy from new id (place_id place))

@@ -7,12 +7,12 @@ abbrev pub IsDead : (ℤ → ℤ → ℕ) → Type 0
 IsDead cells = (x y : ℤ) → cells x y ≡ 0
 
 -- the place is in the box, both ends included
-abbrev pub IsInBox : WideBounds → ℤ → ℤ → Type 0
-IsInBox box x y = (box.x0 ≤ℤ x) × (x ≤ℤ box.x1) × (box.y0 ≤ℤ y) × (y ≤ℤ box.y1)
+abbrev pub IsInWideBox : WideBounds → ℤ → ℤ → Type 0
+IsInWideBox box x y = (box.x0 ≤ℤ x) × (x ≤ℤ box.x1) × (box.y0 ≤ℤ y) × (y ≤ℤ box.y1)
 
 -- the least box round the live cells: they are all in it, and one lies on each of its sides
-pub record IsLeastBox (cells : ℤ → ℤ → ℕ) (box : WideBounds) : Type 0 where
-  pub all : (x y : ℤ) → cells x y ≢ 0 → IsInBox box x y
+pub record IsLeastWideBox (cells : ℤ → ℤ → ℕ) (box : WideBounds) : Type 0 where
+  pub all : (x y : ℤ) → cells x y ≢ 0 → IsInWideBox box x y
   pub left : (y : ℤ) × (cells box.x0 y ≢ 0)
   pub right : (y : ℤ) × (cells box.x1 y ≢ 0)
   pub top : (x : ℤ) × (cells x box.y0 ≢ 0)

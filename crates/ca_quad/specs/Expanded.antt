@@ -15,8 +15,8 @@ abbrev pub FitsPlane : (ℤ → ℤ → ℕ) → Type 0
 FitsPlane cells = (x y : ℤ) → cells x y ≢ 0 → IsInPlane (record { y = y; x = x })
 
 -- some live cell lies outside it
-abbrev pub LeavesPlane : (ℤ → ℤ → ℕ) → Type 0
-LeavesPlane cells = (x : ℤ) × (y : ℤ) × (cells x y ≢ 0) × (IsInPlane (record { y = y; x = x }) → ⊥)
+abbrev pub HasCellOutsidePlane : (ℤ → ℤ → ℕ) → Type 0
+HasCellOutsidePlane cells = (x : ℤ) × (y : ℤ) × (cells x y ≢ 0) × (IsInPlane (record { y = y; x = x }) → ⊥)
 
 -- a picture shows the cells of a tree, which aren't too many
 pub record IsExpanded (nodes : List Node) (tree : Tree) (picture : Picture) : Type 0 where
@@ -26,5 +26,5 @@ pub record IsExpanded (nodes : List Node) (tree : Tree) (picture : Picture) : Ty
 -- why a tree isn't made a plane; memory may run out at any time
 abbrev pub IsRefused : List Node → Tree → QuadFault → Type 0
 IsRefused nodes tree Memory = Unit {0}
-IsRefused nodes tree Range = LeavesPlane (cell nodes tree)
+IsRefused nodes tree Range = HasCellOutsidePlane (cell nodes tree)
 IsRefused nodes tree TooManyCells = FitsPlane (cell nodes tree) × HasTooManyCells (cell nodes tree)

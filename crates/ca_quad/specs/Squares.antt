@@ -18,36 +18,36 @@ abbrev pub cells4 : ℕ → ℕ
 cells4 cells = 16 + cells
 
 -- and the others the nodes of the list, by their places
-abbrev pub kept : ℕ → ℕ
-kept place = 65552 + place
+abbrev pub place_id : ℕ → ℕ
+place_id place = 65552 + place
 
 -- what an id names
-abbrev pub named : ℕ → Named
-named id = if nat_lt id 16 then Cells2 id else (if nat_lt id 65552 then Cells4 (id - 16) else Kept (id - 65552))
+abbrev pub meaning_of_id : ℕ → Named
+meaning_of_id id = if nat_lt id 16 then Cells2 id else (if nat_lt id 65552 then Cells4 (id - 16) else Kept (id - 65552))
 
 -- the digit of a number at a place, the lowest at place 0
 abbrev pub digit : ℕ → ℕ → ℕ → ℕ
 digit base n place = n / base ^ place % base
 
 -- what a node shows: a block's parts are its number's digits of base 65536
-abbrev pub seen : Node → Square
-seen (Leaf nw ne sw se) = Four nw ne sw se
-seen (Block n) = Parts 3 (cells4 (digit 65536 n 0)) (cells4 (digit 65536 n 1)) (cells4 (digit 65536 n 2)) (cells4 (digit 65536 n 3))
-seen (Join level nw ne sw se) = Parts level nw ne sw se
+abbrev pub node_square : Node → Square
+node_square (Leaf nw ne sw se) = Four nw ne sw se
+node_square (Block n) = Parts 3 (cells4 (digit 65536 n 0)) (cells4 (digit 65536 n 1)) (cells4 (digit 65536 n 2)) (cells4 (digit 65536 n 3))
+node_square (Join level nw ne sw se) = Parts level nw ne sw se
 
 -- a 4 by 4 square of two states shows its parts: its number's digits of base 16
 abbrev pub shown_cells4 : ℕ → Square
 shown_cells4 n = Parts 2 (cells2 (digit 16 n 0)) (cells2 (digit 16 n 1)) (cells2 (digit 16 n 2)) (cells2 (digit 16 n 3))
 
 -- what a named square shows: a 2 by 2 square's cells are its number's binary digits
-abbrev pub shown : List Node → Named → Square
-shown nodes (Cells2 n) = Four (digit 2 n 0) (digit 2 n 1) (digit 2 n 2) (digit 2 n 3)
-shown nodes (Cells4 n) = shown_cells4 n
-shown nodes (Kept place) = seen (slice_index_or nodes place (Leaf 0 0 0 0))
+abbrev pub square_named : List Node → Named → Square
+square_named nodes (Cells2 n) = Four (digit 2 n 0) (digit 2 n 1) (digit 2 n 2) (digit 2 n 3)
+square_named nodes (Cells4 n) = shown_cells4 n
+square_named nodes (Kept place) = node_square (slice_index_or nodes place (Leaf 0 0 0 0))
 
 -- the square of an id: its four cells, or its level and four parts
 abbrev pub square_of : List Node → ℕ → Square
-square_of nodes id = shown nodes (named id)
+square_of nodes id = square_named nodes (meaning_of_id id)
 
 abbrev pub level : Square → ℕ
 level (Four nw ne sw se) = 1
@@ -59,7 +59,7 @@ level_of nodes id = level (square_of nodes id)
 
 -- the id names a square of this level, by its cells or by one of the first places
 pub record IsAmong (nodes : List Node) (places id level : ℕ) : Type 0 where
-  pub before : id < kept places
+  pub before : id < place_id places
   pub is_level : level_of nodes id ≡ level
 
 -- the id names a square of this level

@@ -5,14 +5,14 @@ use Rattle.ca_quad.specs.declared.node.Node.{Node}
 use Rattle.ca_quad.specs.declared.square.Square.{Square}
 use Rattle.ca_quad.specs.declared.square.Square.TheVariants.{Four, Parts}
 use Rattle.ca_quad.specs.declared.tree.Tree.{Tree}
-use Rattle.ca_quad.specs.Squares.{kept, level_of, IsOf, dot, together, cell_of}
+use Rattle.ca_quad.specs.Squares.{place_id, level_of, IsOf, dot, together, cell_of}
 
 -- the id is one of these nodes' squares
 abbrev pub IsIn : List Node → ℕ → Type 0
-IsIn nodes id = id < kept (length nodes)
+IsIn nodes id = id < place_id (length nodes)
 
 -- the id names a square of this level with these cells
-pub record Shows (nodes : List Node) (id level : ℕ) (cells : ℕ → ℕ → ℕ) : Type 0 where
+pub record ShowsSquare (nodes : List Node) (id level : ℕ) (cells : ℕ → ℕ → ℕ) : Type 0 where
   pub is_square : IsOf nodes id level
   pub has_cells : (x y : ℕ) → cell_of nodes level id x y ≡ cells x y
 

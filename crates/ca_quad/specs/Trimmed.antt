@@ -5,12 +5,12 @@ use Rattle.ca_quad.specs.declared.tree.Tree.{Tree}
 use Rattle.ca_quad.specs.Trees.{cell}
 
 -- a tree of this level covers x and y from -2^(level-1) to 2^(level-1) - 1
-abbrev pub IsWithin : ℕ → ℤ → Type 0
-IsWithin level n = (neg_ℤ (pos (2 ^ (level - 1))) ≤ℤ n) × (n <ℤ pos (2 ^ (level - 1)))
+abbrev pub IsWithinLevel : ℕ → ℤ → Type 0
+IsWithinLevel level n = (neg_ℤ (pos (2 ^ (level - 1))) ≤ℤ n) × (n <ℤ pos (2 ^ (level - 1)))
 
 -- every live cell lies in the square of a tree of this level
 abbrev pub HoldsAll : ℕ → (ℤ → ℤ → ℕ) → Type 0
-HoldsAll level cells = (x y : ℤ) → cells x y ≢ 0 → IsWithin level x × IsWithin level y
+HoldsAll level cells = (x y : ℤ) → cells x y ≢ 0 → IsWithinLevel level x × IsWithinLevel level y
 
 -- no lower level holds every live cell of the tree
 abbrev pub IsTrimmed : List Node → Tree → Type 0

@@ -1,7 +1,7 @@
 //! The names of squares.
 
 ghost use Rattle.std.specs.Prelude.{◌≡◌, ◌+◌, ◌<◌, ◌≤◌, ◌*◌, ◌^◌, ◌⊎◌, max, min, MatchOption, IsTrue, ◌↔◌};
-ghost use Rattle.ca_quad.specs.Squares.{named, cells2, cells4, kept};
+ghost use Rattle.ca_quad.specs.Squares.{meaning_of_id, cells2, cells4, place_id};
 ghost use Rattle.ca_quad.specs.inner.Named.{AreCells2, AreCells4, four_numbers};
 
 use crate::named::Named;
@@ -67,7 +67,7 @@ impl Id {
     // The square that is kept at this place.
     pub(crate) fn kept(place: usize) -> Id
         requires { place ≤ 9 * 2 ^ 28 }
-        ensures { result ≡ kept place }
+        ensures { result ≡ place_id place }
     {
         Id {
             number: 65552 + place as u32,
@@ -76,7 +76,7 @@ impl Id {
 
     // What the id stands for.
     pub(crate) fn named(self) -> Named
-        ensures { result ≡ named self }
+        ensures { result ≡ meaning_of_id self }
     {
         if self.number < 16 {
             return Named::Cells2(self.number as u8);

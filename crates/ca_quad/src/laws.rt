@@ -3,7 +3,7 @@
 ghost use Rattle.std.specs.Prelude.{◌≡◌, ℕ, ◌↔◌, List};
 ghost use Rattle.ca_quad.specs.declared.node.Node.{Node};
 ghost use Rattle.ca_quad.specs.Squares.{IsOf};
-ghost use Rattle.ca_quad.specs.Sound.{IsSound, Grows};
+ghost use Rattle.ca_quad.specs.Sound.{IsSoundStore, Grows};
 ghost use Rattle.ca_quad.specs.Trees.{IsIn, AreSame, Stays};
 
 use crate::store::Store;
@@ -17,6 +17,6 @@ pub fn one_id(store: &Store)
 
 /// When a store grows, every old id names the same square.
 pub fn old_squares_stay()
-    ensures { (old new : List Node) → IsSound old → Grows old new → (id level : ℕ) → IsOf old id level
+    ensures { (old new : List Node) → IsSoundStore old → Grows old new → (id level : ℕ) → IsOf old id level
         → Stays old new id level }
 {}

@@ -2,8 +2,8 @@
 
 ghost use Rattle.std.specs.Prelude.{◌≡◌, ◌+◌, ◌≤◌, ◌<◌, [], length, IfOk, OnErr};
 ghost use Rattle.ca_quad.specs.declared.node.Node.TheVariants.{Block};
-ghost use Rattle.ca_quad.specs.Squares.{seen, shown_cells4, square_of};
-ghost use Rattle.ca_quad.specs.Sound.{IsSound, IsGood, Grows, AddsOnly};
+ghost use Rattle.ca_quad.specs.Squares.{node_square, shown_cells4, square_of};
+ghost use Rattle.ca_quad.specs.Sound.{IsSoundStore, IsStorable, Grows, AddsOnly};
 ghost use Rattle.ca_quad.specs.Trees.{IsIn};
 ghost use Rattle.ca_quad.specs.inner.Whole.{IsWhole};
 
@@ -48,13 +48,13 @@ pub struct Store {
 impl Model for Store {
     ghost use Rattle.std.specs.Prelude.{List};
     ghost use Rattle.ca_quad.specs.declared.node.Node.{Node as Kept};
-    ghost use Rattle.ca_quad.specs.Sound.{IsSound};
+    ghost use Rattle.ca_quad.specs.Sound.{IsSoundStore};
 
     ghost Value = { List Kept };
 
     ghost view = { λ s. s.nodes.keys };
 
-    ghost invariant = { λ s. IsSound s.nodes.keys };
+    ghost invariant = { λ s. IsSoundStore s.nodes.keys };
 }
 
 impl Store {
@@ -70,16 +70,16 @@ impl Store {
     /// How many squares are kept.
     pub fn count(&self) -> usize
         ensures count { result ≡ length self.now }
-        ensures sound { IsSound self.now }
+        ensures sound { IsSoundStore self.now }
     {
         self.nodes.len()
     }
 
     // Keeps the node, where it isn't kept yet, and gives its name.
     fn put(&mut self, node: Node) -> Result<Id, Memory>
-        requires { IsGood self.old (length self.old) node }
+        requires { IsStorable self.old (length self.old) node }
         ensures known { IfOk result (IsIn self.new) }
-        ensures shows { IfOk result (λ id. square_of self.new id ≡ seen node) }
+        ensures shows { IfOk result (λ id. square_of self.new id ≡ node_square node) }
         ensures grows { Grows self.old self.new }
         ensures added { IfOk result (AddsOnly self.old self.new) }
         ensures count { length self.new ≤ length self.old + 1 }
@@ -97,7 +97,7 @@ impl Store {
         requires { IsIn self.now id }
         ensures shows { result ≡ square_of self.now id }
         ensures whole { IsWhole self.now (length self.now) result }
-        ensures sound { IsSound self.now }
+        ensures sound { IsSoundStore self.now }
     {
         self.named_square(id)
     }
@@ -106,7 +106,7 @@ impl Store {
     fn named_square(&self, id: Id) -> Square
         requires { IsIn self.now id }
         ensures shows { result ≡ square_of self.now id }
-        ensures sound { IsSound self.now }
+        ensures sound { IsSoundStore self.now }
     {
         match id.named() {
             Named::Cells2(n) => Square::Four(n % 2, n / 2 % 2, n / 4 % 2, n / 8),
@@ -131,7 +131,7 @@ fn parts_of_cells4(n: u16) -> Square
 
 // The parts of an 8 by 8 square of two states.
 fn parts_of_block(n: u64) -> Square
-    ensures { result ≡ seen (Block n) }
+    ensures { result ≡ node_square (Block n) }
 {
     Square::Parts(
         3,
@@ -144,7 +144,7 @@ fn parts_of_block(n: u64) -> Square
 
 // What a kept node looks like.
 fn shown(node: Node) -> Square
-    ensures { result ≡ seen node }
+    ensures { result ≡ node_square node }
 {
     match node {
         Node::Leaf(nw, ne, sw, se) => Square::Four(nw, ne, sw, se),

@@ -5,7 +5,7 @@ use Rattle.std.proofs.lemmas.List.{append_cancel_left}
 use Rattle.ca_plane.specs.Bytes.{value}
 use Rattle.ca_rle.specs.declared.fault.RleFault.{RleFault}
 use Rattle.ca_rle.specs.declared.fault.RleFault.TheVariants.{Syntax, GenTooLarge}
-use Rattle.ca_rle.specs.Header.{extended_words, Said, Corner, Generation, Nothing, Says}
+use Rattle.ca_rle.specs.Header.{extended_words, CxrleWord, Corner, Generation, Nothing, Says}
 use Rattle.ca_rle.specs.Faults.{IsBadWord, HasBadWord}
 use Rattle.ca_rle.proofs.OneHeader.{begins_gen}
 use Rattle.ca_rle.proofs.OnePlace.{IsGood, EndsPreamble, one_place}
@@ -23,7 +23,7 @@ pub below_and_above : (a b : ℕ) → a < b → b ≤ a → ⊥
 below_and_above a b h k = omega arith
 
 -- what a word says is no fault
-pub no_bad_word : (word : List ℕ) (said : Said) (f : RleFault) → Says word said → IsBadWord word f → ⊥
+pub no_bad_word : (word : List ℕ) (said : CxrleWord) (f : RleFault) → Says word said → IsBadWord word f → ⊥
 no_bad_word word (Corner x y) Syntax says (inl (h, bad)) = bad x y says
 no_bad_word word (Corner x y) Syntax (a, b, e, p, q) (inr (h, bad)) = pos_is_no_gen word (a ++ 44 ∷ b) e h
 no_bad_word word (Corner x y) GenTooLarge (a, b, e, p, q) (digits, f, d, large) = pos_is_no_gen word (a ++ 44 ∷ b) e (begins_gen word digits f)
@@ -56,14 +56,14 @@ first_word [] = []
 first_word (w ∷ ws) = w
 
 -- a bad word is none of good words
-pub no_bad_among : (good : List (List ℕ)) (word : List ℕ) (later : List (List ℕ)) (said : List Said) (f : RleFault) → AllZip Says (good ++ word ∷ later) said → IsBadWord word f → ⊥
+pub no_bad_among : (good : List (List ℕ)) (word : List ℕ) (later : List (List ℕ)) (said : List CxrleWord) (f : RleFault) → AllZip Says (good ++ word ∷ later) said → IsBadWord word f → ⊥
 no_bad_among [] word later [] f p bad = p
 no_bad_among [] word later (s ∷ ss) f p bad = no_bad_word word s f p.0 bad
 no_bad_among (w ∷ ws) word later [] f p bad = p
 no_bad_among (w ∷ ws) word later (s ∷ ss) f p bad = no_bad_among ws word later ss f p.1 bad
 
 -- the first bad word of some words is one
-pub first_bad_word : (good others : List (List ℕ)) (word other : List ℕ) (later after : List (List ℕ)) (a b : List Said) (f g : RleFault)
+pub first_bad_word : (good others : List (List ℕ)) (word other : List ℕ) (later after : List (List ℕ)) (a b : List CxrleWord) (f g : RleFault)
     → AllZip Says good a → IsBadWord word f → AllZip Says others b → IsBadWord other g → good ++ word ∷ later ≡ others ++ other ∷ after → (good ≡ others) × (word ≡ other)
 first_bad_word [] [] word other later after a b f g p x q y e = (refl, ap first_word e)
 first_bad_word [] (o ∷ os) word other later after a [] f g p x q y e = absurd q

@@ -3,7 +3,7 @@ use Rattle.std.proofs.Common.{◌≡◌, ℕ, List, Option, true, inr, sym, true
 use Rattle.ca_rle.specs.declared.fault.RleFault.{RleFault}
 use Rattle.ca_rle.specs.declared.fault.RleFault.TheVariants.{Syntax, NoEnd, BadState}
 use Rattle.ca_rle.specs.Items.{InLine}
-use Rattle.ca_rle.specs.Header.{Said}
+use Rattle.ca_rle.specs.Header.{CxrleWord}
 use Rattle.ca_rle.specs.File.{IsHeaded}
 use Rattle.ca_rle.specs.Faults.{after_white}
 use Rattle.ca_rle.specs.FaultyLine.{HasBadItemAt, IsFirstFaultAt}
@@ -17,6 +17,6 @@ bad_item_at bytes BadState rest h b = b
 bad_item_at bytes f rest h b = absurd (true≢false (sym h))
 
 -- a bad item is the text's fault, after the white space before it
-pub body_fault_at : (bytes : List ℕ) (said : List Said) (rule : Option (List ℕ)) (body bad rest : List ℕ) (f : RleFault) → IsHeaded bytes said rule body → HasBadUnitAt body f bad → rest ≡ after_white InLine bad → IsFirstFaultAt bytes f rest
+pub body_fault_at : (bytes : List ℕ) (said : List CxrleWord) (rule : Option (List ℕ)) (body bad rest : List ℕ) (f : RleFault) → IsHeaded bytes said rule body → HasBadUnitAt body f bad → rest ≡ after_white InLine bad → IsFirstFaultAt bytes f rest
 body_fault_at bytes said rule body bad rest f headed (items, run, fault) e =
     bad_item_at bytes f rest (item_fault_kind bad f fault) (record { said = said; rule = rule; body = body; items = items; bad = bad; headed = headed; good = run; fault_is = fault }, e)

@@ -11,15 +11,15 @@ use Rattle.ca_rle.specs.declared.fault.RleFault.{RleFault}
 use Rattle.ca_rle.specs.declared.fault.RleFault.TheVariants.{Syntax, Header, XlifeRule, NoEnd, BadState, GenTooLarge, Range, TooManyCells, Memory}
 use Rattle.ca_rle.specs.Items.{InLine}
 use Rattle.ca_rle.specs.File.{IsLine, ended}
-use Rattle.ca_rle.specs.Faults.{after_white, HasBadWord, HasBadItem, IsFirstFault, IsFaultOf}
-use Rattle.ca_rle.specs.FaultyLine.{HasBadWordAt, HasBadItemAt, IsFirstFaultAt, IsFirstFaultOn, IsFaultyLine, IsFaultOn, line_of}
+use Rattle.ca_rle.specs.Faults.{after_white, HasBadWord, HasBadItem, IsFirstRleFault, IsRleFault}
+use Rattle.ca_rle.specs.FaultyLine.{HasBadWordAt, HasBadItemAt, IsFirstFaultAt, IsFirstRleFaultOn, IsFaultyRleLine, IsRleFaultOn, line_number_of}
 use Rattle.ca_rle.proofs.OnePlace.{EndsPreamble, one_place, xlife_place, no_header_place}
 use Rattle.ca_rle.proofs.BadWord.{bad_word_place}
 use Rattle.ca_rle.proofs.OneFault.{bad_word_or_header, header_of_headed, one_bad_place, one_first_fault, one_fault}
 
 -- ---- the fault of a line
 
-fault_at : (bytes : List ℕ) (f : RleFault) (rest : List ℕ) → IsFirstFaultAt bytes f rest → IsFirstFault bytes f
+fault_at : (bytes : List ℕ) (f : RleFault) (rest : List ℕ) → IsFirstFaultAt bytes f rest → IsFirstRleFault bytes f
 fault_at bytes Syntax rest (inl p) = inl p.0
 fault_at bytes Syntax rest (inr p) = inr p.0
 fault_at bytes Range rest p = p
@@ -28,10 +28,10 @@ fault_at bytes Memory rest p = p
 fault_at bytes f rest p = p.0
 
 -- what stands on a line is the first fault
-pub fault_of_line : (bytes : List ℕ) (f : RleFault) (line : ℕ) → IsFirstFaultOn bytes f line → IsFirstFault bytes f
+pub fault_of_line : (bytes : List ℕ) (f : RleFault) (line : ℕ) → IsFirstRleFaultOn bytes f line → IsFirstRleFault bytes f
 fault_of_line bytes f line p = fault_at bytes f p.0 p.1
 
-rest_of : (bytes : List ℕ) (f : RleFault) → IsFirstFault bytes f → (rest : List ℕ) × IsFirstFaultAt bytes f rest
+rest_of : (bytes : List ℕ) (f : RleFault) → IsFirstRleFault bytes f → (rest : List ℕ) × IsFirstFaultAt bytes f rest
 rest_of bytes Syntax (inl p) = (_, inl (p, refl))
 rest_of bytes Syntax (inr p) = (_, inr (p, refl))
 rest_of bytes Range p = absurd p
@@ -40,27 +40,27 @@ rest_of bytes Memory p = absurd p
 rest_of bytes f p = (_, (p, refl))
 
 -- and it stands on a line
-pub line_of_fault : (bytes : List ℕ) (f : RleFault) → IsFirstFault bytes f → (line : ℕ) × IsFirstFaultOn bytes f line
-line_of_fault bytes f p = let at = rest_of bytes f p in (line_of bytes at.0, (at.0, at.1, refl))
+pub line_of_fault : (bytes : List ℕ) (f : RleFault) → IsFirstRleFault bytes f → (line : ℕ) × IsFirstRleFaultOn bytes f line
+line_of_fault bytes f p = let at = rest_of bytes f p in (line_number_of bytes at.0, (at.0, at.1, refl))
 
-of_first : (bytes : List ℕ) (f : RleFault) → IsFirstFault bytes f → IsFaultOf bytes f
+of_first : (bytes : List ℕ) (f : RleFault) → IsFirstRleFault bytes f → IsRleFault bytes f
 of_first bytes Range p = absurd p
 of_first bytes TooManyCells p = absurd p
 of_first bytes Memory p = absurd p
 of_first bytes f p = p
 
-no_memory : (bytes : List ℕ) (f : RleFault) → IsFirstFault bytes f → f ≢ Memory
-no_memory bytes f p e = subst (IsFirstFault bytes) e p
+no_memory : (bytes : List ℕ) (f : RleFault) → IsFirstRleFault bytes f → f ≢ Memory
+no_memory bytes f p e = subst (IsFirstRleFault bytes) e p
 
 -- a first fault at a place is the text's, on the line of that place, and it isn't that memory ran out
-pub on_line : (bytes : List ℕ) (f : RleFault) (rest : List ℕ) (line : ℕ) → IsFirstFaultAt bytes f rest → line ≡ line_of bytes rest → IsFaultOn bytes f (Some line) × (f ≢ Memory)
+pub on_line : (bytes : List ℕ) (f : RleFault) (rest : List ℕ) (line : ℕ) → IsFirstFaultAt bytes f rest → line ≡ line_number_of bytes rest → IsRleFaultOn bytes f (Some line) × (f ≢ Memory)
 on_line bytes f rest line p e =
     let first = fault_at bytes f rest p in
     ((of_first bytes f first, (rest, p, e)), no_memory bytes f first)
 
 -- what the line of a text's fault says of faulty lines
-pub line_or_none : (bytes : List ℕ) (f : RleFault) (line : Option ℕ) → f ≢ Memory → IsFaultOn bytes f line → MatchOption line ((g : RleFault) → IsFirstFault bytes g → ⊥) (IsFaultyLine bytes)
-line_or_none bytes f None n h = λ g p. h.1 (subst (IsFirstFault bytes) (one_fault bytes g f (no_memory bytes g p) n (of_first bytes g p) h.0) p)
+pub line_or_none : (bytes : List ℕ) (f : RleFault) (line : Option ℕ) → f ≢ Memory → IsRleFaultOn bytes f line → MatchOption line ((g : RleFault) → IsFirstRleFault bytes g → ⊥) (IsFaultyRleLine bytes)
+line_or_none bytes f None n h = λ g p. h.1 (subst (IsFirstRleFault bytes) (one_fault bytes g f (no_memory bytes g p) n (of_first bytes g p) h.0) p)
 line_or_none bytes f (Some line) n h = (f, h.1)
 
 -- ---- one line
@@ -89,14 +89,14 @@ same_rest bytes NoEnd r s p q = same_item bytes NoEnd r s p q
 same_rest bytes BadState r s p q = same_item bytes BadState r s p q
 same_rest bytes f r s p q = absurd p
 
-same_line : (bytes : List ℕ) (f : RleFault) (m n : ℕ) → IsFirstFaultOn bytes f m → IsFirstFaultOn bytes f n → m ≡ n
-same_line bytes f m n p q = p.2 ∙ ap (line_of bytes) (same_rest bytes f p.0 q.0 p.1 q.1) ∙ sym q.2
+same_line : (bytes : List ℕ) (f : RleFault) (m n : ℕ) → IsFirstRleFaultOn bytes f m → IsFirstRleFaultOn bytes f n → m ≡ n
+same_line bytes f m n p q = p.2 ∙ ap (line_number_of bytes) (same_rest bytes f p.0 q.0 p.1 q.1) ∙ sym q.2
 
 -- a text has one faulty line at most
-pub one_faulty_line : (bytes : List ℕ) (m n : ℕ) → IsFaultyLine bytes m → IsFaultyLine bytes n → m ≡ n
+pub one_faulty_line : (bytes : List ℕ) (m n : ℕ) → IsFaultyRleLine bytes m → IsFaultyRleLine bytes n → m ≡ n
 one_faulty_line bytes m n (f, p) (g, q) =
     let same = one_first_fault bytes f g (fault_of_line bytes f m p) (fault_of_line bytes g n q) in
-    same_line bytes g m n (subst (λ (h : RleFault). IsFirstFaultOn bytes h m) same p) q
+    same_line bytes g m n (subst (λ (h : RleFault). IsFirstRleFaultOn bytes h m) same p) q
 
 -- ---- lines counted
 
@@ -118,7 +118,7 @@ ends_of_lines (l ∷ ls) h =
     omega (arith, first, line, none, others)
 
 -- what stands after whole lines and the start of another is on this other line
-pub line_after : (lines : List (List ℕ)) (before rest : List ℕ) → AllByRecursion IsLine lines → IsLine before → 0 < length rest → line_of (flat_map ended lines ++ (before ++ rest)) rest ≡ length lines + 1
+pub line_after : (lines : List (List ℕ)) (before rest : List ℕ) → AllByRecursion IsLine lines → IsLine before → 0 < length rest → line_number_of (flat_map ended lines ++ (before ++ rest)) rest ≡ length lines + 1
 line_after lines before rest whole start some =
     let all = flat_map ended lines ++ before in
     let text = flat_map ended lines ++ (before ++ rest) in
@@ -152,13 +152,13 @@ none_before a b c e = omega (arith, e)
 count-first : (b : ℕ) (bs : List ℕ) → count_by is_line_end (b ∷ bs) ≡ cond (is_line_end b) 1 0 + count_by is_line_end bs
 count-first b bs = none_before (count_by is_line_end (b ∷ bs)) (cond (is_line_end b) 1 0) (count_by is_line_end bs) (count-append (b ∷ []) bs)
 
-before_last : (b : ℕ) (bs : List ℕ) → line_of (b ∷ bs) [] ≡ 1 + count_by is_line_end (take (length bs) (b ∷ bs))
+before_last : (b : ℕ) (bs : List ℕ) → line_number_of (b ∷ bs) [] ≡ 1 + count_by is_line_end (take (length bs) (b ∷ bs))
 before_last b bs =
     let bytes : length (b ∷ bs) - max 1 0 ≡ length bs = omega arith in
     ap (λ (n : ℕ). 1 + count_by is_line_end (take n (b ∷ bs))) bytes
 
 -- the end of a text is on its last line
-pub line_of_end : (text : List ℕ) → line_of text [] ≡ max 1 (length (lines_of text))
+pub line_of_end : (text : List ℕ) → line_number_of text [] ≡ max 1 (length (lines_of text))
 line_of_end [] = refl
 line_of_end (b ∷ []) = first_byte (is_line_end b) b
 line_of_end (b ∷ c ∷ cs) =

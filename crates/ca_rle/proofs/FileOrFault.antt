@@ -11,9 +11,9 @@ use Rattle.ca_rle.specs.declared.fault.RleFault.TheVariants.{Syntax, Header, Xli
 use Rattle.ca_rle.specs.declared.item.Item.{Item}
 use Rattle.ca_rle.specs.declared.item.Tag.{Tag}
 use Rattle.ca_rle.specs.Items.{InLine, is_letter, is_prefix, prefixed_state, tag_of, IsItem, Items}
-use Rattle.ca_rle.specs.Header.{IsHeader, is_comment, extended_words, Said, Says}
-use Rattle.ca_rle.specs.File.{File, ended, IsPreamble, FollowsPreamble, IsHeaded, IsFile}
-use Rattle.ca_rle.specs.Faults.{after_white, letter_fault, tag_fault, count_fault, item_fault, HasBadWord, HasBadItem, IsFirstFault}
+use Rattle.ca_rle.specs.Header.{IsHeader, is_front_line, extended_words, CxrleWord, Says}
+use Rattle.ca_rle.specs.File.{RleFile, ended, IsPreamble, FollowsPreamble, IsHeaded, IsRleFile}
+use Rattle.ca_rle.specs.Faults.{after_white, letter_fault, tag_fault, count_fault, item_fault, HasBadWord, HasBadItem, IsFirstRleFault}
 use Rattle.ca_rle.specs.inner.BodyFaults.{HasBadUnit}
 use Rattle.ca_plane.proofs.Fronts.{front_then_rest}
 use Rattle.ca_rle.proofs.OneHeader.{no_comment}
@@ -101,18 +101,18 @@ count_fault_kind (d ∷ ds) bytes = cond_both (value (d ∷ ds) == 0) _ _ (λ (o
 pub item_fault_kind : (bytes : List ℕ) (f : RleFault) → item_fault bytes ≡ Some f → is_of_item f ≡ true
 item_fault_kind bytes f e = ap none_or_of_item (sym e) ∙ count_fault_kind (front is_digit (after_white InLine bytes)) (rest is_digit (after_white InLine bytes))
 
-bad_item_first : (bytes : List ℕ) (f : RleFault) → is_of_item f ≡ true → HasBadItem bytes f → IsFirstFault bytes f
+bad_item_first : (bytes : List ℕ) (f : RleFault) → is_of_item f ≡ true → HasBadItem bytes f → IsFirstRleFault bytes f
 bad_item_first bytes Syntax h b = inr b
 bad_item_first bytes NoEnd h b = b
 bad_item_first bytes BadState h b = b
 bad_item_first bytes f h b = absurd (true≢false (sym h))
 
 -- the first bad item is a text's first fault
-pub first_from_item : (bytes : List ℕ) (f : RleFault) → HasBadItem bytes f → IsFirstFault bytes f
+pub first_from_item : (bytes : List ℕ) (f : RleFault) → HasBadItem bytes f → IsFirstRleFault bytes f
 first_from_item bytes f b = bad_item_first bytes f (item_fault_kind b.bad f b.fault_is) b
 
 -- the first bad word is a text's first fault
-pub first_from_word : (bytes : List ℕ) (f : RleFault) → HasBadWord bytes f → IsFirstFault bytes f
+pub first_from_word : (bytes : List ℕ) (f : RleFault) → HasBadWord bytes f → IsFirstRleFault bytes f
 first_from_word bytes Syntax b = inl b
 first_from_word bytes GenTooLarge b = b
 first_from_word bytes f b = absurd b.bad
@@ -121,16 +121,16 @@ first_from_word bytes f b = absurd b.bad
 
 -- a text is a file, or has a first fault
 abbrev pub FileOrFault : List ℕ → Type 0
-FileOrFault bytes = ((file : File) × IsFile bytes file) ⊎ ((f : RleFault) × IsFirstFault bytes f)
+FileOrFault bytes = ((file : RleFile) × IsRleFile bytes file) ⊎ ((f : RleFault) × IsFirstRleFault bytes f)
 
-headed_or_fault : (bytes : List ℕ) (said : List Said) (rule : Option (List ℕ)) (body : List ℕ) → IsHeaded bytes said rule body → FileOrFault bytes
+headed_or_fault : (bytes : List ℕ) (said : List CxrleWord) (rule : Option (List ℕ)) (body : List ℕ) → IsHeaded bytes said rule body → FileOrFault bytes
 headed_or_fault bytes said rule body h =
     elim (items_or_bad body) [
       | inl i ↦ inl (file_of said rule i.0, headed_is_file bytes said rule body i.0 h i.1)
       | inr b ↦ inr (b.0, first_from_item bytes b.0 (record { said = said; rule = rule; body = body; items = b.1.1.0; bad = b.1.0; headed = h; good = b.1.1.1; fault_is = b.1.1.2 }))
     ]
 
-header_or_fault : (bytes : List ℕ) (lines : List (List ℕ)) (said : List Said) (line more : List ℕ) (rule : Option (List ℕ)) → FollowsPreamble bytes lines said line more → IsHeader line rule → FileOrFault bytes
+header_or_fault : (bytes : List ℕ) (lines : List (List ℕ)) (said : List CxrleWord) (line more : List ℕ) (rule : Option (List ℕ)) → FollowsPreamble bytes lines said line more → IsHeader line rule → FileOrFault bytes
 header_or_fault bytes lines said line more (Some text) s h = headed_or_fault bytes said (Some text) more (record { lines = lines; header = line; follows = s; header_is = h; named = inl refl })
 header_or_fault bytes lines said line more None s h =
     elim (xlife_or_none lines) [
@@ -139,7 +139,7 @@ header_or_fault bytes lines said line more None s h =
     ]
 
 -- a line that is no comment is the header, or the header is missing
-not_comment : (bytes : List ℕ) (lines : List (List ℕ)) (said : List Said) (line more : List ℕ) → FollowsPreamble bytes lines said line more → is_comment line ≡ false → FileOrFault bytes
+not_comment : (bytes : List ℕ) (lines : List (List ℕ)) (said : List CxrleWord) (line more : List ℕ) → FollowsPreamble bytes lines said line more → is_front_line line ≡ false → FileOrFault bytes
 not_comment bytes lines said line more s c =
     elim (header_or_not line s.line_is) [
       | inl h ↦ header_or_fault bytes lines said line more h.0 s h.1
@@ -158,7 +158,7 @@ abbrev in_line : ℕ → Bool
 in_line b = not (is_line_end b)
 
 -- the first line of what stands after good lines
-first_split : (bytes : List ℕ) (lines : List (List ℕ)) (said : List Said) (left more : List ℕ) → IsPreamble lines said → bytes ≡ flat_map ended lines ++ left → rest in_line left ≡ more → FollowsPreamble bytes lines said (front in_line left) more
+first_split : (bytes : List ℕ) (lines : List (List ℕ)) (said : List CxrleWord) (left more : List ℕ) → IsPreamble lines said → bytes ≡ flat_map ended lines ++ left → rest in_line left ≡ more → FollowsPreamble bytes lines said (front in_line left) more
 first_split bytes lines said left more p e r = next_line_follows bytes left (front in_line left) more lines said p e refl (sym r)
 
 rest_length : (left more : List ℕ) (b : ℕ) → rest in_line left ≡ b ∷ more → length more < length left
@@ -167,8 +167,8 @@ rest_length left more b e =
     omega arith
 
 -- a comment whose words are good is followed by a text that is judged, or is the last
-good_line : (bytes : List ℕ) (lines : List (List ℕ)) (said : List Said) (left more : List ℕ) (last : List Said) → IsPreamble lines said → bytes ≡ flat_map ended lines ++ left → rest in_line left ≡ more
-    → is_comment (front in_line left) ≡ true → AllZip Says (extended_words (front in_line left)) last
+good_line : (bytes : List ℕ) (lines : List (List ℕ)) (said : List CxrleWord) (left more : List ℕ) (last : List CxrleWord) → IsPreamble lines said → bytes ≡ flat_map ended lines ++ left → rest in_line left ≡ more
+    → is_front_line (front in_line left) ≡ true → AllZip Says (extended_words (front in_line left)) last
     → ((later : List ℕ) → length later < length left → IsPreamble (lines ++ front in_line left ∷ []) (said ++ last) → bytes ≡ flat_map ended (lines ++ front in_line left ∷ []) ++ later → FileOrFault bytes)
     → FileOrFault bytes
 good_line bytes lines said left [] last p e r c w next =
@@ -180,8 +180,8 @@ good_line bytes lines said left (b ∷ bs) last p e r c w next =
     let line = front in_line left in
     next bs (rest_length left bs b r) (preamble_more lines line said last p s.line_is c w) (s.spelled ∙ ap (λ (d : ℕ). flat_map ended lines ++ (line ++ d ∷ bs)) (line_ends_by_lf b left bs r) ∙ lines_then lines line bs)
 
-comment_or_fault : (bytes : List ℕ) (lines : List (List ℕ)) (said : List Said) (left : List ℕ) → IsPreamble lines said → bytes ≡ flat_map ended lines ++ left → is_comment (front in_line left) ≡ true
-    → ((later : List ℕ) (last : List Said) → length later < length left → IsPreamble (lines ++ front in_line left ∷ []) (said ++ last) → bytes ≡ flat_map ended (lines ++ front in_line left ∷ []) ++ later → FileOrFault bytes)
+comment_or_fault : (bytes : List ℕ) (lines : List (List ℕ)) (said : List CxrleWord) (left : List ℕ) → IsPreamble lines said → bytes ≡ flat_map ended lines ++ left → is_front_line (front in_line left) ≡ true
+    → ((later : List ℕ) (last : List CxrleWord) → length later < length left → IsPreamble (lines ++ front in_line left ∷ []) (said ++ last) → bytes ≡ flat_map ended (lines ++ front in_line left ∷ []) ++ later → FileOrFault bytes)
     → FileOrFault bytes
 comment_or_fault bytes lines said left p e c next =
     let s = first_split bytes lines said left (rest in_line left) p e refl in
@@ -190,10 +190,10 @@ comment_or_fault bytes lines said left p e c next =
       | inr b ↦ inr (b.0, first_from_word bytes b.0 (record { lines = lines; said = said; line = front in_line left; good = b.1.good; good_said = b.1.said; word = b.1.word; later = b.1.later; more = rest in_line left; follows = s; comment = c; words = b.1.words_are; good_words = b.1.good_words; bad = b.1.bad }))
     ]
 
-lines_within : (n : ℕ) (bytes : List ℕ) (lines : List (List ℕ)) (said : List Said) (left : List ℕ) → length left < n → IsPreamble lines said → bytes ≡ flat_map ended lines ++ left → FileOrFault bytes
+lines_within : (n : ℕ) (bytes : List ℕ) (lines : List (List ℕ)) (said : List CxrleWord) (left : List ℕ) → length left < n → IsPreamble lines said → bytes ≡ flat_map ended lines ++ left → FileOrFault bytes
 lines_within zero bytes lines said left h p e = absurd (omega arith)
 lines_within (suc n) bytes lines said left h p e =
-    elim (cases_Bool (is_comment (front in_line left))) [
+    elim (cases_Bool (is_front_line (front in_line left))) [
       | inl c ↦ comment_or_fault bytes lines said left p e c (λ later last less q d. lines_within n bytes (lines ++ front in_line left ∷ []) (said ++ last) later (omega arith) q d)
       | inr c ↦ not_comment bytes lines said (front in_line left) (rest in_line left) (first_split bytes lines said left (rest in_line left) p e refl) c
     ]

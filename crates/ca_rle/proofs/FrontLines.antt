@@ -8,7 +8,7 @@ use Rattle.ca_plane.specs.Bytes.{is_line_end, is_end_or, front, rest}
 use Rattle.ca_plane.proofs.Fronts.{front_then_rest, every_front, rest_ends, front_length}
 use Rattle.ca_rle.specs.declared.fault.RleFault.{RleFault}
 use Rattle.ca_rle.specs.declared.fault.RleFault.TheVariants.{Syntax, GenTooLarge}
-use Rattle.ca_rle.specs.Header.{is_comment, extended_words, Said, Says}
+use Rattle.ca_rle.specs.Header.{is_front_line, extended_words, CxrleWord, Says}
 use Rattle.ca_rle.specs.File.{IsLine, ended, IsPreamble, FollowsPreamble}
 use Rattle.ca_rle.specs.Faults.{HasBadWord, HasNoHeader}
 use Rattle.ca_rle.specs.FaultyLine.{HasNoHeaderAt, IsFirstFaultAt}
@@ -55,7 +55,7 @@ pub fault_there : (bytes same rest left : List ℕ) (f : RleFault) → bytes ≡
 fault_there bytes same rest left f e r h = subst (λ (l : List ℕ). IsFirstFaultAt bytes f l) r (subst (λ (l : List ℕ). IsFirstFaultAt l f rest) (sym e) h)
 
 -- the next line follows the lines so far
-pub next_line_follows : (bytes more line after : List ℕ) (lines : List (List ℕ)) (said : List Said) → IsPreamble lines said → bytes ≡ flat_map ended lines ++ more
+pub next_line_follows : (bytes more line after : List ℕ) (lines : List (List ℕ)) (said : List CxrleWord) → IsPreamble lines said → bytes ≡ flat_map ended lines ++ more
     → line ≡ front (λ b. not (is_line_end b)) more → after ≡ rest (λ b. not (is_line_end b)) more → FollowsPreamble bytes lines said line after
 next_line_follows bytes more line after lines said p e f r = record {
   preamble = p;
@@ -64,7 +64,7 @@ next_line_follows bytes more line after lines said p e f r = record {
   spelled = (split_there bytes more line after lines e f r).0;
 }
 
-module _ (bytes line after : List ℕ) (lines : List (List ℕ)) (said : List Said) (follows : FollowsPreamble bytes lines said line after) (comment : is_comment line ≡ true) where
+module _ (bytes line after : List ℕ) (lines : List (List ℕ)) (said : List CxrleWord) (follows : FollowsPreamble bytes lines said line after) (comment : is_front_line line ≡ true) where
   bad_word : (f : RleFault) → HasBadWordAmong (extended_words line) f → HasBadWord bytes f
   bad_word f h = record {
     lines = lines;
@@ -89,7 +89,7 @@ module _ (bytes line after : List ℕ) (lines : List (List ℕ)) (said : List Sa
   word_fault GenTooLarge h = (bad_word GenTooLarge h, refl)
   word_fault f h = absurd h.bad
 
-  has_no_header : (last : List Said) → AllZip Says (extended_words line) last → length after ≡ 0 → HasNoHeader bytes
+  has_no_header : (last : List CxrleWord) → AllZip Says (extended_words line) last → length after ≡ 0 → HasNoHeader bytes
   has_no_header last z none = record {
     lines = lines;
     said = said;
@@ -101,6 +101,6 @@ module _ (bytes line after : List ℕ) (lines : List (List ℕ)) (said : List Sa
   }
 
   -- a comment with good words at the text's end is no header
-  pub no_header_there : (last : List Said) → AllZip Says (extended_words line) last → length after ≡ 0 → HasNoHeaderAt bytes (line ++ after)
+  pub no_header_there : (last : List CxrleWord) → AllZip Says (extended_words line) last → length after ≡ 0 → HasNoHeaderAt bytes (line ++ after)
   unfolding has_no_header
   no_header_there last z none = (has_no_header last z none, refl)

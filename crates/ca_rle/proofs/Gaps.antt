@@ -9,10 +9,10 @@ use Rattle.ca_plane.proofs.Pictures.{point-same}
 use Rattle.ca_rle.specs.declared.item.Item.{Item}
 use Rattle.ca_rle.specs.declared.item.Tag.{Tag}
 use Rattle.ca_rle.specs.declared.item.Tag.TheVariants.{Cell, RowEnd}
-use Rattle.ca_rle.specs.Shown.{state_of, rows_of, columns_of, run_of, place_after, picture_of}
+use Rattle.ca_rle.specs.Shown.{tag_state, row_count, columns_of, run_of, place_after, picture_of_items}
 use Rattle.ca_rle.specs.Tidy.{AreTidy}
-use Rattle.ca_rle.specs.inner.Written.{some_of, IsGap}
-use Rattle.ca_rle.proofs.Pushed.{rows_of-push, columns_of-push, picture_after-push}
+use Rattle.ca_rle.specs.inner.Written.{some_of, IsItemGap}
+use Rattle.ca_rle.proofs.Pushed.{row_count-push, columns_of-push, picture_after-push}
 
 -- so many of a tag
 abbrev pub item_of : Tag → ℕ → Item
@@ -29,7 +29,7 @@ some-suc tag n = rw (nonzero (suc n) (omega arith)) refl
 
 -- new is old with a gap after it
 abbrev pub PutsGap : ℤ → Point → Point → List Item → List Item → Type 0
-PutsGap left from to old new = (gap : List Item) × IsGap left from to gap × (new ≡ old ++ gap)
+PutsGap left from to old new = (gap : List Item) × IsItemGap left from to gap × (new ≡ old ++ gap)
 
 -- a gap within a row
 pub gap-in_row : (left : ℤ) (from to : Point) (old new : List Item) (rows columns : ℕ) → to.y ≡ from.y +ℤ pos rows → rows ≡ 0 → to.x ≡ from.x +ℤ pos columns
@@ -53,14 +53,14 @@ gap-over_rows left from to old mid new rows columns below some right ends dead =
 -- after row ends a row begins
 pub place-row : (corner : Point) (is : List Item) (n : ℕ) → place_after corner (is ++ item_of RowEnd n ∷ []) ≡ record { y = (place_after corner is).y +ℤ pos n; x = corner.x }
 place-row corner is n =
-    let rows : rows_of (is ++ item_of RowEnd n ∷ []) ≡ rows_of is + n = rows_of-push is (item_of RowEnd n) in
+    let rows : row_count (is ++ item_of RowEnd n ∷ []) ≡ row_count is + n = row_count-push is (item_of RowEnd n) in
     let columns : columns_of (is ++ item_of RowEnd n ∷ []) ≡ 0 = columns_of-push is (item_of RowEnd n) in
     point-same _ _ (omega (arith, ints, rows)) (omega (arith, ints, columns))
 
 -- after cells the row goes on
 pub place-cells : (corner : Point) (is : List Item) (s n : ℕ) → place_after corner (is ++ item_of (Cell s) n ∷ []) ≡ record { y = (place_after corner is).y; x = (place_after corner is).x +ℤ pos n }
 place-cells corner is s n =
-    let rows : rows_of (is ++ item_of (Cell s) n ∷ []) ≡ rows_of is + 0 = rows_of-push is (item_of (Cell s) n) in
+    let rows : row_count (is ++ item_of (Cell s) n ∷ []) ≡ row_count is + 0 = row_count-push is (item_of (Cell s) n) in
     let columns : columns_of (is ++ item_of (Cell s) n ∷ []) ≡ columns_of is + n = columns_of-push is (item_of (Cell s) n) in
     point-same _ _ (omega (arith, ints, rows)) (omega (arith, ints, columns))
 
@@ -74,7 +74,7 @@ place-dead corner is zero = ap (place_after corner) (append-nil is) ∙ point-sa
 place-dead corner is (suc n) = rw (nonzero (suc n) (omega arith)) (place-cells corner is 0 (suc n))
 
 -- a gap leads to its end
-pub place-gap : (corner from to : Point) (is gap : List Item) → place_after corner is ≡ from → IsGap corner.x from to gap → place_after corner (is ++ gap) ≡ to
+pub place-gap : (corner from to : Point) (is gap : List Item) → place_after corner is ≡ from → IsItemGap corner.x from to gap → place_after corner (is ++ gap) ≡ to
 place-gap corner from to is gap at leads =
     let rows = some_of RowEnd leads.rows in
     let dead = some_of (Cell 0) leads.columns in
@@ -89,21 +89,21 @@ place-gap corner from to is gap at leads =
 -- ---- cells
 
 -- one more item that isn't live shows no more
-cells-dead : (corner : Point) (is : List Item) (tag : Tag) (n : ℕ) → state_of tag ≡ 0 → picture_of corner (is ++ some_of tag n) ≡ picture_of corner is
-cells-dead corner is tag zero dead = ap (picture_of corner) (append-nil is)
+cells-dead : (corner : Point) (is : List Item) (tag : Tag) (n : ℕ) → tag_state tag ≡ 0 → picture_of_items corner (is ++ some_of tag n) ≡ picture_of_items corner is
+cells-dead corner is tag zero dead = ap (picture_of_items corner) (append-nil is)
 cells-dead corner is tag (suc n) dead =
-    rw (nonzero (suc n) (omega arith)) (picture_after-push corner [] is (item_of tag (suc n)) ∙ rw dead (append-nil (picture_of corner is)))
+    rw (nonzero (suc n) (omega arith)) (picture_after-push corner [] is (item_of tag (suc n)) ∙ rw dead (append-nil (picture_of_items corner is)))
 
 -- a gap shows no more
-pub cells-gap : (corner from to : Point) (left : ℤ) (is gap : List Item) → IsGap left from to gap → picture_of corner (is ++ gap) ≡ picture_of corner is
+pub cells-gap : (corner from to : Point) (left : ℤ) (is gap : List Item) → IsItemGap left from to gap → picture_of_items corner (is ++ gap) ≡ picture_of_items corner is
 cells-gap corner from to left is gap leads =
     let rows = some_of RowEnd leads.rows in
     let dead = some_of (Cell 0) leads.columns in
-    ap (λ (l : List Item). picture_of corner (is ++ l)) leads.gap_is ∙ ap (picture_of corner) (sym (append_assoc is rows dead))
+    ap (λ (l : List Item). picture_of_items corner (is ++ l)) leads.gap_is ∙ ap (picture_of_items corner) (sym (append_assoc is rows dead))
     ∙ cells-dead corner (is ++ rows) (Cell 0) leads.columns refl ∙ cells-dead corner is RowEnd leads.rows refl
 
 -- one more run shows its cells
-pub cells-run : (corner : Point) (is : List Item) (s n : ℕ) → 0 < s → picture_of corner (is ++ item_of (Cell s) n ∷ []) ≡ picture_of corner is ++ run_of s (place_after corner is) n
+pub cells-run : (corner : Point) (is : List Item) (s n : ℕ) → 0 < s → picture_of_items corner (is ++ item_of (Cell s) n ∷ []) ≡ picture_of_items corner is ++ run_of s (place_after corner is) n
 cells-run corner is s n live = picture_after-push corner [] is (item_of (Cell s) n) ∙ rw (nonzero s live) refl
 
 -- ---- tidiness
@@ -155,18 +155,18 @@ before-gap is t (suc r) (suc c) live row dead here =
     (omega arith) (cell_no_cell 0 t (λ z. omega (arith, z))) (λ _. cell_no_row t)))
 
 -- a gap of no row ends and no dead cells leads nowhere
-gap_stays : (left : ℤ) (from to : Point) (gap : List Item) (leads : IsGap left from to gap) → leads.rows ≡ 0 → leads.columns ≡ 0 → to ≡ from
+gap_stays : (left : ℤ) (from to : Point) (gap : List Item) (leads : IsItemGap left from to gap) → leads.rows ≡ 0 → leads.columns ≡ 0 → to ≡ from
 gap_stays left from to gap leads rows columns =
     let start : (if leads.rows == 0 then from.x else left) ≡ from.x = rw rows refl in
     point-same to from (omega (arith, ints, leads.below)) (omega (arith, ints, leads.right))
 
 -- the first run, after its gap
-pub before-first : (left : ℤ) (from to : Point) (gap : List Item) (t : ℕ) → IsGap left from to gap → 0 < t → AreBefore gap (Cell t)
+pub before-first : (left : ℤ) (from to : Point) (gap : List Item) (t : ℕ) → IsItemGap left from to gap → 0 < t → AreBefore gap (Cell t)
 before-first left from to gap t leads live =
     subst (λ (l : List Item). AreBefore l (Cell t)) (sym leads.gap_is) (before-gap [] t leads.rows leads.columns live tt tt (λ _ _. tt))
 
 -- a later run, after the run before it and the gap
-pub before-next : (left : ℤ) (from to : Point) (is gap : List Item) (s m t : ℕ) → AreBefore is (Cell s) → 0 < s → 0 < m → IsGap left from to gap → 0 < t
+pub before-next : (left : ℤ) (from to : Point) (is gap : List Item) (s m t : ℕ) → AreBefore is (Cell s) → 0 < s → 0 < m → IsItemGap left from to gap → 0 < t
     → (to ≡ from → s ≢ t) → AreBefore ((is ++ item_of (Cell s) m ∷ []) ++ gap) (Cell t)
 before-next left from to is gap s m t before some count leads live apart =
     let run = is ++ item_of (Cell s) m ∷ [] in

@@ -5,7 +5,7 @@ use Rattle.std.proofs.lemmas.Bool.{and_parts}
 use Rattle.std.proofs.lemmas.Bool.Decides.{nat_tests}
 use Rattle.std.proofs.lemmas.Option.{none-some, same_Some}
 use Rattle.ca_plane.specs.Bytes.{Every, is_blank, is_line_end, is_digit, is_word_byte, IsWord, AreDigits, front, rest, is_end_or}
-use Rattle.ca_rle.specs.Header.{Part, Exactly, Number, IsPart, IsSpaced, size_parts, rule_parts, IsHeader}
+use Rattle.ca_rle.specs.Header.{Part, Exactly, Number, IsHeaderPart, IsSpaced, size_parts, rule_parts, IsHeader}
 use Rattle.ca_rle.specs.inner.HeaderParts.{strip, left_after, part_left, parts_left}
 use Rattle.ca_rle.specs.File.{IsLine}
 use Rattle.ca_plane.proofs.Fronts.{every_wider, every_front, front_append, rest_append, front_then_rest}
@@ -16,7 +16,7 @@ joined [] last = last
 joined (p ∷ ps) last = p.0 ++ (p.1 ++ joined ps last)
 
 abbrev pub IsPiece : Part → List ℕ × List ℕ → Type 0
-IsPiece part piece = Every is_blank piece.0 × IsPart part piece.1
+IsPiece part piece = Every is_blank piece.0 × IsHeaderPart part piece.1
 
 pub spaced : (parts : List Part) (pieces : List (List ℕ × List ℕ)) (last : List ℕ) → AllZip IsPiece parts pieces → Every is_blank last → IsSpaced parts (joined pieces last)
 spaced [] [] last h b = b
@@ -149,7 +149,7 @@ left_found : (digits after more : List ℕ) → Every is_digit digits → left_a
 left_found [] after more d e = absurd cc
 left_found (c ∷ cs) after more d e = (d, same_Some after more e)
 
-part_found : (p : Part) (bytes more : List ℕ) → part_left p bytes ≡ Some more → (part : List ℕ) × IsPart p part × (bytes ≡ part ++ more)
+part_found : (p : Part) (bytes more : List ℕ) → part_left p bytes ≡ Some more → (part : List ℕ) × IsHeaderPart p part × (bytes ≡ part ++ more)
 part_found (Exactly text) bytes more e = (text, refl, strip_found text bytes more e)
 part_found Number bytes more e =
     let f = left_found (front is_digit bytes) (rest is_digit bytes) more (every_front is_digit bytes) e in

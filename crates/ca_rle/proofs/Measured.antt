@@ -5,10 +5,10 @@ use Rattle.ca_rle.specs.declared.item.Item.{Item}
 use Rattle.ca_rle.specs.declared.extent.Extent.{Extent}
 use Rattle.ca_rle.specs.declared.extent.Offset.{Offset}
 use Rattle.ca_rle.specs.Items.{Run}
-use Rattle.ca_rle.specs.Shown.{ends_row, state_of, rows_of, columns_of}
-use Rattle.ca_rle.specs.inner.BodyFaults.{kept, IsItemAtFront}
-use Rattle.ca_rle.specs.inner.Extent.{kept_number, live_count, columns_to, rows_to, IsOffsetOf, IsExtentOf}
-use Rattle.ca_rle.proofs.Pushed.{rows_of-push, columns_of-push, longest_of-push, greatest_of-push, live_cells-push, Run-push}
+use Rattle.ca_rle.specs.Shown.{ends_row, tag_state, row_count, columns_of}
+use Rattle.ca_rle.specs.inner.BodyFaults.{with_capped_count, IsItemAtFront}
+use Rattle.ca_rle.specs.inner.Extent.{kept_number, live_count_of_item, columns_to, rows_to, IsOffsetOf, IsItemsExtent}
+use Rattle.ca_rle.proofs.Pushed.{row_count-push, columns_of-push, longest_of-push, greatest_of-push, live_count_of_items-push, Run-push}
 
 -- where the item after i begins
 pub record IsNextOffset (i : Item) (at next : Offset) : Type 0 where
@@ -18,9 +18,9 @@ pub record IsNextOffset (i : Item) (at next : Offset) : Type 0 where
 -- the extent grown by i, which begins at an offset
 pub record IsGrownBy (i : Item) (at : Offset) (old new : Extent) : Type 0 where
   pub longest : new.longest ≡ max old.longest i.count
-  pub right : new.right ≡ max old.right (if state_of i.tag == 0 then 0 else kept_number (at.columns + i.count))
-  pub bottom : new.bottom ≡ max old.bottom (if state_of i.tag == 0 then 0 else kept_number (at.rows + 1))
-  pub cells : new.cells ≡ kept_number (old.cells + live_count i)
+  pub right : new.right ≡ max old.right (if tag_state i.tag == 0 then 0 else kept_number (at.columns + i.count))
+  pub bottom : new.bottom ≡ max old.bottom (if tag_state i.tag == 0 then 0 else kept_number (at.rows + 1))
+  pub cells : new.cells ≡ kept_number (old.cells + live_count_of_item i)
 
 -- sums of kept numbers, by a test or not
 kept_sum : (t : Bool) (a b x y n : ℕ) → n ≡ kept_number (x + (if t then y else 0)) → x ≡ kept_number a → y ≡ kept_number b → n ≡ kept_number (a + (if t then b else 0))
@@ -32,9 +32,9 @@ kept_none_or_sum true a b x y n e f g = omega (arith, e)
 kept_none_or_sum false a b x y n e f g = omega (arith, e, f, g)
 
 -- the offset after one more item
-pub offset_more : (items : List Item) (j : Item) (at next : Offset) → IsOffsetOf items at → IsNextOffset (kept j) at next → IsOffsetOf (items ++ j ∷ []) next
+pub offset_more : (items : List Item) (j : Item) (at next : Offset) → IsOffsetOf items at → IsNextOffset (with_capped_count j) at next → IsOffsetOf (items ++ j ∷ []) next
 offset_more items j at next o n = record {
-  rows = kept_sum (ends_row j.tag) (rows_of items) j.count at.rows (kept_number j.count) next.rows n.rows o.rows refl ∙ ap kept_number (sym (rows_of-push items j));
+  rows = kept_sum (ends_row j.tag) (row_count items) j.count at.rows (kept_number j.count) next.rows n.rows o.rows refl ∙ ap kept_number (sym (row_count-push items j));
   columns = kept_none_or_sum (ends_row j.tag) (columns_of items) j.count at.columns (kept_number j.count) next.columns n.columns o.columns refl ∙ ap kept_number (sym (columns_of-push items j));
 }
 
@@ -47,20 +47,20 @@ kept_live true n = refl
 kept_live false n = refl
 
 -- the extent with one more item
-pub extent_more : (items : List Item) (j : Item) (at : Offset) (old new : Extent) → IsOffsetOf items at → IsExtentOf items old → IsGrownBy (kept j) at old new → IsExtentOf (items ++ j ∷ []) new
+pub extent_more : (items : List Item) (j : Item) (at : Offset) (old new : Extent) → IsOffsetOf items at → IsItemsExtent items old → IsGrownBy (with_capped_count j) at old new → IsItemsExtent (items ++ j ∷ []) new
 extent_more items j at old new o e g = record {
   longest = omega (arith, g.longest, e.longest, longest_of-push items j);
   right =
-      let here = kept_if (state_of j.tag == 0) (columns_of items) j.count at.columns (kept_number j.count) o.columns refl in
+      let here = kept_if (tag_state j.tag == 0) (columns_of items) j.count at.columns (kept_number j.count) o.columns refl in
       let push = greatest_of-push columns_to [] items j in
       omega (arith, g.right, e.right, here, push);
   bottom =
-      let here = kept_if (state_of j.tag == 0) (rows_of items) 1 at.rows 1 o.rows refl in
+      let here = kept_if (tag_state j.tag == 0) (row_count items) 1 at.rows 1 o.rows refl in
       let push = greatest_of-push rows_to [] items j in
       omega (arith, g.bottom, e.bottom, here, push);
   cells =
-      let here = kept_live (state_of j.tag == 0) j.count in
-      let push = live_cells-push items j in
+      let here = kept_live (tag_state j.tag == 0) j.count in
+      let push = live_count_of_items-push items j in
       omega (arith, g.cells, e.cells, here, push);
 }
 
@@ -68,7 +68,7 @@ extent_more items j at old new o e g = record {
 pub record IsMeasured (bytes after : List ℕ) (at : Offset) (extent : Extent) (items : List Item) : Type 0 where
   pub run : Run bytes items after
   pub offset : IsOffsetOf items at
-  pub reach : IsExtentOf items extent
+  pub reach : IsItemsExtent items extent
 
 -- one more item
 pub measured_more : (bytes after more : List ℕ) (at next : Offset) (old new : Extent) (items : List Item) (i : Item) → IsMeasured bytes after at old items → IsItemAtFront after i more → IsNextOffset i at next → IsGrownBy i at old new

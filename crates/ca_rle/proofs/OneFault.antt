@@ -5,11 +5,11 @@ use Rattle.std.proofs.lemmas.Option.{same_Some}
 use Rattle.ca_rle.specs.declared.fault.RleFault.{RleFault}
 use Rattle.ca_rle.specs.declared.fault.RleFault.TheVariants.{Syntax, Header, XlifeRule, NoEnd, BadState, GenTooLarge, Range, TooManyCells, Memory}
 use Rattle.ca_rle.specs.Items.{Run}
-use Rattle.ca_rle.specs.Header.{IsHeader, is_comment, Said, IsXlifeLine}
-use Rattle.ca_rle.specs.File.{File, IsHeaded, IsFile}
-use Rattle.ca_rle.specs.Limits.{IsWithinRange, IsOutOfRange, HasTooManyCells, IsWithinLimits}
-use Rattle.ca_rle.specs.Shown.{picture_of}
-use Rattle.ca_rle.specs.Faults.{item_fault, HasBadWord, HasNoHeader, HasXlifeRule, HasBadItem, IsFirstFault, IsFaultOf}
+use Rattle.ca_rle.specs.Header.{IsHeader, is_front_line, CxrleWord, IsXlifeLine}
+use Rattle.ca_rle.specs.File.{RleFile, IsHeaded, IsRleFile}
+use Rattle.ca_rle.specs.Limits.{IsRleWithinRange, IsRleOutOfRange, HasTooManyRleCells, IsWithinLimits}
+use Rattle.ca_rle.specs.Shown.{picture_of_items}
+use Rattle.ca_rle.specs.Faults.{item_fault, HasBadWord, HasNoHeader, HasXlifeRule, HasBadItem, IsFirstRleFault, IsRleFault}
 use Rattle.ca_rle.proofs.NoFault.{no_bad_item}
 use Rattle.ca_rle.proofs.OneHeader.{one_header, no_comment}
 use Rattle.ca_rle.proofs.OneFile.{one_headed, one_file}
@@ -29,17 +29,17 @@ pub record HasHeader (bytes : List ℕ) : Type 0 where
   pub header_is : IsHeader header rule
 
 -- a header after which items may stand
-pub header_of_headed : (bytes : List ℕ) (said : List Said) (rule : Option (List ℕ)) (body : List ℕ) → IsHeaded bytes said rule body → HasHeader bytes
+pub header_of_headed : (bytes : List ℕ) (said : List CxrleWord) (rule : Option (List ℕ)) (body : List ℕ) → IsHeaded bytes said rule body → HasHeader bytes
 header_of_headed bytes said rule body h = record { lines = h.lines; header = h.header; rule = rule; body = body; place = headed_place bytes said rule body h; header_is = h.header_is }
 
 -- a header that lacks a rule
 pub header_of_xlife : (bytes : List ℕ) → HasXlifeRule bytes → HasHeader bytes
 header_of_xlife bytes h = record { lines = h.lines; header = h.header; rule = None; body = h.body; place = xlife_place bytes h; header_is = h.header_is }
 
-bad_word_is_comment : (bytes : List ℕ) (f : RleFault) (p : HasBadWord bytes f) (lines : List (List ℕ)) (line more : List ℕ) → EndsPreamble bytes lines line more → is_comment line ≡ true
+bad_word_is_comment : (bytes : List ℕ) (f : RleFault) (p : HasBadWord bytes f) (lines : List (List ℕ)) (line more : List ℕ) → EndsPreamble bytes lines line more → is_front_line line ≡ true
 bad_word_is_comment bytes f p lines line more q =
     let place = one_place bytes p.lines lines p.line line p.more more (bad_word_place bytes f p) q in
-    ap is_comment (sym place.1) ∙ p.comment
+    ap is_front_line (sym place.1) ∙ p.comment
 
 -- a text with a bad word has no header after its good lines
 pub bad_word_or_header : (bytes : List ℕ) (f : RleFault) → HasBadWord bytes f → HasHeader bytes → ⊥
@@ -69,7 +69,7 @@ no_rule : (o : Option (List ℕ)) → None ≡ o → is_some o ≡ true → ⊥
 no_rule o e h = true≢false (sym h ∙ ap is_some (sym e))
 
 -- a header after which items may stand names its rule, or no line gives XLife's
-pub xlife_or_headed : (bytes : List ℕ) (said : List Said) (rule : Option (List ℕ)) (body : List ℕ) → HasXlifeRule bytes → IsHeaded bytes said rule body → ⊥
+pub xlife_or_headed : (bytes : List ℕ) (said : List CxrleWord) (rule : Option (List ℕ)) (body : List ℕ) → HasXlifeRule bytes → IsHeaded bytes said rule body → ⊥
 xlife_or_headed bytes said rule body p q =
     let place = one_place bytes p.lines q.lines p.header q.header p.body body (xlife_place bytes p) (headed_place bytes said rule body q) in
     elim q.named [
@@ -97,7 +97,7 @@ pub data FaultKind (bytes : List ℕ) : RleFault → Type 0 where
   BadItem : {f : RleFault} → HasBadItem bytes f → FaultKind bytes f
 
 -- what a first fault is of
-pub kind_of : (bytes : List ℕ) (f : RleFault) → IsFirstFault bytes f → FaultKind bytes f
+pub kind_of : (bytes : List ℕ) (f : RleFault) → IsFirstRleFault bytes f → FaultKind bytes f
 kind_of bytes Header p = NoHeader p
 kind_of bytes XlifeRule p = Xlife p
 kind_of bytes GenTooLarge p = BadWord p
@@ -129,10 +129,10 @@ one_kind bytes f g (BadItem p) (Xlife q) = absurd (xlife_or_headed bytes p.said 
 one_kind bytes f g (BadItem p) (BadItem q) = one_bad_unit bytes f g p q
 
 -- a text has one first fault at most
-pub one_first_fault : (bytes : List ℕ) (f g : RleFault) → IsFirstFault bytes f → IsFirstFault bytes g → f ≡ g
+pub one_first_fault : (bytes : List ℕ) (f g : RleFault) → IsFirstRleFault bytes f → IsFirstRleFault bytes g → f ≡ g
 one_first_fault bytes f g p q = one_kind bytes f g (kind_of bytes f p) (kind_of bytes g q)
 
-no_kind_in_a_file : (bytes : List ℕ) (file : File) (f : RleFault) → IsFile bytes file → FaultKind bytes f → ⊥
+no_kind_in_a_file : (bytes : List ℕ) (file : RleFile) (f : RleFault) → IsRleFile bytes file → FaultKind bytes f → ⊥
 no_kind_in_a_file bytes file f h (BadWord p) = bad_word_or_header bytes f p (header_of_headed bytes h.said h.rule h.body h.headed)
 no_kind_in_a_file bytes file f h (NoHeader p) = no_header_or_header bytes p (header_of_headed bytes h.said h.rule h.body h.headed)
 no_kind_in_a_file bytes file f h (Xlife p) = xlife_or_headed bytes h.said h.rule h.body p h.headed
@@ -141,26 +141,26 @@ no_kind_in_a_file bytes file f h (BadItem p) =
     no_bad_item h.body p.bad file.items p.items f h.items (subst (λ (l : List ℕ). Run l p.items p.bad) headed.2 p.good) p.fault_is
 
 -- a file has no fault in its spelling
-pub no_fault_in_a_file : (bytes : List ℕ) (file : File) (f : RleFault) → IsFile bytes file → IsFirstFault bytes f → ⊥
+pub no_fault_in_a_file : (bytes : List ℕ) (file : RleFile) (f : RleFault) → IsRleFile bytes file → IsFirstRleFault bytes f → ⊥
 no_fault_in_a_file bytes file f h p = no_kind_in_a_file bytes file f h (kind_of bytes f p)
 
 -- ---- the limits
 
 -- a fault by its kind: the first in the spelling, or a limit that a file passes
 pub data LimitKind (bytes : List ℕ) : RleFault → Type 0 where
-  Spelling : {f : RleFault} → IsFirstFault bytes f → LimitKind bytes f
-  TooFar : (file : File) → IsFile bytes file → IsOutOfRange file → LimitKind bytes Range
-  TooMany : (file : File) → IsFile bytes file → HasTooManyCells file → LimitKind bytes TooManyCells
+  Spelling : {f : RleFault} → IsFirstRleFault bytes f → LimitKind bytes f
+  TooFar : (file : RleFile) → IsRleFile bytes file → IsRleOutOfRange file → LimitKind bytes Range
+  TooMany : (file : RleFile) → IsRleFile bytes file → HasTooManyRleCells file → LimitKind bytes TooManyCells
 
 -- what a fault is of
-pub limit_kind_of : (bytes : List ℕ) (f : RleFault) → f ≢ Memory → IsFaultOf bytes f → LimitKind bytes f
+pub limit_kind_of : (bytes : List ℕ) (f : RleFault) → f ≢ Memory → IsRleFault bytes f → LimitKind bytes f
 limit_kind_of bytes Range n (file, h, out) = TooFar file h out
 limit_kind_of bytes TooManyCells n (file, h, many) = TooMany file h many
 limit_kind_of bytes Memory n p = absurd (n refl)
 limit_kind_of bytes f n p = Spelling p
 
-far_or_many : (bytes : List ℕ) (far many : File) → IsFile bytes far → IsOutOfRange far → IsFile bytes many → HasTooManyCells many → ⊥
-far_or_many bytes far many h out k m = out (subst IsWithinRange (one_file bytes many far k h) m.0)
+far_or_many : (bytes : List ℕ) (far many : RleFile) → IsRleFile bytes far → IsRleOutOfRange far → IsRleFile bytes many → HasTooManyRleCells many → ⊥
+far_or_many bytes far many h out k m = out (subst IsRleWithinRange (one_file bytes many far k h) m.0)
 
 one_limit_kind : (bytes : List ℕ) (f g : RleFault) → LimitKind bytes f → LimitKind bytes g → f ≡ g
 one_limit_kind bytes f g (Spelling p) (Spelling q) = one_first_fault bytes f g p q
@@ -174,14 +174,14 @@ one_limit_kind bytes f g (TooMany file h many) (TooFar far k out) = absurd (far_
 one_limit_kind bytes f g (TooMany file h many) (TooMany other k m) = refl
 
 -- a text has one fault at most, besides running out of memory
-pub one_fault : (bytes : List ℕ) (f g : RleFault) → f ≢ Memory → g ≢ Memory → IsFaultOf bytes f → IsFaultOf bytes g → f ≡ g
+pub one_fault : (bytes : List ℕ) (f g : RleFault) → f ≢ Memory → g ≢ Memory → IsRleFault bytes f → IsRleFault bytes g → f ≡ g
 one_fault bytes f g m n p q = one_limit_kind bytes f g (limit_kind_of bytes f m p) (limit_kind_of bytes g n q)
 
-no_limit_kind : (bytes : List ℕ) (file : File) (f : RleFault) → IsFile bytes file → IsWithinLimits file → LimitKind bytes f → ⊥
+no_limit_kind : (bytes : List ℕ) (file : RleFile) (f : RleFault) → IsRleFile bytes file → IsWithinLimits file → LimitKind bytes f → ⊥
 no_limit_kind bytes file f h w (Spelling p) = no_fault_in_a_file bytes file f h p
-no_limit_kind bytes file f h w (TooFar far k out) = out (subst IsWithinRange (one_file bytes file far h k) w.0)
-no_limit_kind bytes file f h w (TooMany full k many) = below_and_above (2 ^ 24) (length (picture_of file.corner file.items)) (subst HasTooManyCells (one_file bytes full file k h) many).1 w.1
+no_limit_kind bytes file f h w (TooFar far k out) = out (subst IsRleWithinRange (one_file bytes file far h k) w.0)
+no_limit_kind bytes file f h w (TooMany full k many) = below_and_above (2 ^ 24) (length (picture_of_items file.corner file.items)) (subst HasTooManyRleCells (one_file bytes full file k h) many).1 w.1
 
 -- a file within the limits has no fault, besides running out of memory
-pub no_fault_within_limits : (bytes : List ℕ) (file : File) (f : RleFault) → IsFile bytes file → IsWithinLimits file → f ≢ Memory → IsFaultOf bytes f → ⊥
+pub no_fault_within_limits : (bytes : List ℕ) (file : RleFile) (f : RleFault) → IsRleFile bytes file → IsWithinLimits file → f ≢ Memory → IsRleFault bytes f → ⊥
 no_fault_within_limits bytes file f h w n p = no_limit_kind bytes file f h w (limit_kind_of bytes f n p)

@@ -3,7 +3,7 @@ use Rattle.std.proofs.Common.{◌≡◌, ℕ, true, false, not, IsTrue, List, []
 use Rattle.std.specs.List.{flat_map, AllZip}
 use Rattle.std.proofs.lemmas.List.{append_cancel_left}
 use Rattle.ca_plane.specs.Bytes.{is_line_end, is_end_or}
-use Rattle.ca_rle.specs.Header.{IsHeader, is_comment, extended_words, Said, Says}
+use Rattle.ca_rle.specs.Header.{IsHeader, is_front_line, extended_words, CxrleWord, Says}
 use Rattle.ca_rle.specs.File.{IsLine, ended, IsPreamble, FollowsPreamble, IsHeaded}
 use Rattle.ca_rle.specs.Faults.{HasNoHeader, HasXlifeRule}
 use Rattle.ca_plane.proofs.Fronts.{one_split}
@@ -26,7 +26,7 @@ after_first_line line lines more = simp append_assoc
 -- ---- what words say
 
 -- what the first words say, and what the others do
-pub says_split : (words others : List (List ℕ)) (said : List Said) → AllZip Says (words ++ others) said → (a : List Said) × (b : List Said) × AllZip Says words a × AllZip Says others b
+pub says_split : (words others : List (List ℕ)) (said : List CxrleWord) → AllZip Says (words ++ others) said → (a : List CxrleWord) × (b : List CxrleWord) × AllZip Says words a × AllZip Says others b
 says_split [] others said h = ([], said, tt, h)
 says_split (w ∷ ws) others [] h = absurd h
 says_split (w ∷ ws) others (s ∷ ss) (h, hs) = let later = says_split ws others ss hs in (s ∷ later.0, later.1, (h, later.2), later.3)
@@ -35,15 +35,15 @@ says_split (w ∷ ws) others (s ∷ ss) (h, hs) = let later = says_split ws othe
 
 -- a comment line whose words are good
 abbrev pub IsGood : List ℕ → Type 0
-IsGood line = (is_comment line ≡ true) × ((said : List Said) × AllZip Says (extended_words line) said)
+IsGood line = (is_front_line line ≡ true) × ((said : List CxrleWord) × AllZip Says (extended_words line) said)
 
 -- after good lines stands a line that is none of them: it isn't good, or no LF ends it
 pub record EndsPreamble (bytes : List ℕ) (lines : List (List ℕ)) (line more : List ℕ) : Type 0 where
-  pub said : List Said
+  pub said : List CxrleWord
   pub follows : FollowsPreamble bytes lines said line more
   pub bad_or_last : IsGood line → more ≡ []
 
-first_is_good : (line : List ℕ) (lines : List (List ℕ)) (said : List Said) → IsPreamble (line ∷ lines) said → IsGood line
+first_is_good : (line : List ℕ) (lines : List (List ℕ)) (said : List CxrleWord) → IsPreamble (line ∷ lines) said → IsGood line
 first_is_good line lines said p = let s = says_split (extended_words line) (flat_map extended_words lines) said p.words in (p.comments.0, (s.0, s.2))
 
 -- the place is the same after the first line
@@ -84,14 +84,14 @@ no_good_header : (line more : List ℕ) (rule : Option (List ℕ)) → IsHeader 
 no_good_header line more rule h good = absurd (true≢false (sym good.0 ∙ no_comment line rule h))
 
 -- the place of a header after which items may stand
-pub headed_place : (bytes : List ℕ) (said : List Said) (rule : Option (List ℕ)) (body : List ℕ) (h : IsHeaded bytes said rule body) → EndsPreamble bytes h.lines h.header body
+pub headed_place : (bytes : List ℕ) (said : List CxrleWord) (rule : Option (List ℕ)) (body : List ℕ) (h : IsHeaded bytes said rule body) → EndsPreamble bytes h.lines h.header body
 headed_place bytes said rule body h = record { said = said; follows = h.follows; bad_or_last = no_good_header h.header body rule h.header_is }
 
 -- the place of a header that lacks a rule
 pub xlife_place : (bytes : List ℕ) (h : HasXlifeRule bytes) → EndsPreamble bytes h.lines h.header h.body
 xlife_place bytes h = record { said = h.said; follows = h.follows; bad_or_last = no_good_header h.header h.body None h.header_is }
 
-no_comment_or_last : (line more : List ℕ) → (is_comment line ≡ false) ⊎ ((more ≡ []) × ((last : List Said) × AllZip Says (extended_words line) last)) → IsGood line → more ≡ []
+no_comment_or_last : (line more : List ℕ) → (is_front_line line ≡ false) ⊎ ((more ≡ []) × ((last : List CxrleWord) × AllZip Says (extended_words line) last)) → IsGood line → more ≡ []
 no_comment_or_last line more (inl e) good = absurd (true≢false (sym good.0 ∙ e))
 no_comment_or_last line more (inr e) good = e.0
 

@@ -12,8 +12,8 @@ use Rattle.ca_rle.specs.declared.item.Item.{Item}
 use Rattle.ca_rle.specs.declared.item.Tag.{Tag}
 use Rattle.ca_rle.specs.declared.item.Tag.TheVariants.{Cell, RowEnd}
 use Rattle.ca_rle.specs.File.{ended}
-use Rattle.ca_rle.specs.Shown.{picture_of}
-use Rattle.ca_rle.specs.Tidy.{AreTidy, IsFull, AreLines, IsFrame, corner_line, header_line, IsTidy}
+use Rattle.ca_rle.specs.Shown.{picture_of_items}
+use Rattle.ca_rle.specs.Tidy.{AreTidy, IsFull, AreLines, IsFrame, corner_line, header_line, IsTidyRle}
 use Rattle.ca_rle.proofs.TidyCells.{next, drawn, picture_drawn, IsAhead, tidy_counts, tidy_tail, item_out, clear, within, after, reach}
 use Rattle.ca_rle.proofs.TidyBody.{text_of, tokens}
 
@@ -195,10 +195,10 @@ one_breaking (l ∷ ls) (m ∷ ms) p q e =
 
 -- ---- one text
 
-pub one_tidy : (t u : List ℕ) (cells : Picture) (rule_text : List ℕ) (generation states : ℕ) → IsTidy t cells rule_text generation states → IsTidy u cells rule_text generation states → t ≡ u
+pub one_tidy : (t u : List ℕ) (cells : Picture) (rule_text : List ℕ) (generation states : ℕ) → IsTidyRle t cells rule_text generation states → IsTidyRle u cells rule_text generation states → t ≡ u
 one_tidy t u cells rule_text generation states p q =
     let frame = one_frame cells p.corner q.corner p.width q.width p.height q.height p.frame q.frame in
-    let shown : IsSame cells (picture_of p.corner q.items) = subst (λ at. IsSame cells (picture_of at q.items)) (sym frame.corner) q.shown in
+    let shown : IsSame cells (picture_of_items p.corner q.items) = subst (λ at. IsSame cells (picture_of_items at q.items)) (sym frame.corner) q.shown in
     let same : AreSame p.corner (drawn p.corner.x p.corner p.items) (drawn p.corner.x p.corner q.items) = λ x y ahead.
     ap (λ c. cell c x y) (sym (picture_drawn p.corner p.items)) ∙ sym (p.shown x y) ∙ shown x y ∙ ap (λ c. cell c x y) (picture_drawn p.corner q.items) in
     let items : p.items ≡ q.items = one_tidy_list p.corner.x p.corner p.items q.items p.tidy q.tidy same in

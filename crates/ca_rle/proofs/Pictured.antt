@@ -15,12 +15,12 @@ use Rattle.ca_rle.specs.declared.item.Item.{Item}
 use Rattle.ca_rle.specs.declared.item.Tag.{Tag}
 use Rattle.ca_rle.specs.declared.item.Tag.TheVariants.{Cell, RowEnd}
 use Rattle.ca_rle.specs.Items.{Run, IsEnd, Items}
-use Rattle.ca_rle.specs.Shown.{ends_row, state_of, rows_of, columns_of, place_after, cells_of, picture_after, picture_of}
-use Rattle.ca_rle.specs.Limits.{IsWithinRange}
+use Rattle.ca_rle.specs.Shown.{ends_row, tag_state, row_count, columns_of, place_after, item_cells, picture_after, picture_of_items}
+use Rattle.ca_rle.specs.Limits.{IsRleWithinRange}
 use Rattle.ca_plane.specs.Limits.{IsInRange}
-use Rattle.ca_rle.specs.inner.BodyFaults.{bare_file, kept, IsItemAtFront}
+use Rattle.ca_rle.specs.inner.BodyFaults.{bare_file, with_capped_count, IsItemAtFront}
 use Rattle.ca_rle.specs.inner.Extent.{IsOffsetOf, point_from, HasRoom, cells_from}
-use Rattle.ca_rle.proofs.Pushed.{rows_of-push, columns_of-push, picture_after-push, picture_after-append, Run-push, counts_low}
+use Rattle.ca_rle.proofs.Pushed.{row_count-push, columns_of-push, picture_after-push, picture_after-append, Run-push, counts_low}
 use Rattle.ca_rle.proofs.Measured.{IsNextOffset, offset_more}
 use Rattle.ca_rle.proofs.Ranges.{all_parts, run_has_room}
 use Rattle.ca_rle.proofs.Prefixes.{items_left, items_done, item_state_low}
@@ -38,11 +38,11 @@ place_after-push : (corner : Point) (is : List Item) (i : Item) → place_after 
 place_after-push corner is i =
     elim (cases_Bool (ends_row i.tag)) [
       | inl e ↦
-          let row : rows_of (is ++ i ∷ []) ≡ rows_of is + i.count = rw (rows_of-push, e) refl in
+          let row : row_count (is ++ i ∷ []) ≡ row_count is + i.count = rw (row_count-push, e) refl in
           let column : columns_of (is ++ i ∷ []) ≡ 0 = rw (columns_of-push, e) refl in
           rw (row, column, e) (point-same _ _ (omega (arith, ints)) (omega (arith, ints)))
       | inr e ↦
-          let row : rows_of (is ++ i ∷ []) ≡ rows_of is = rw (rows_of-push, e) (omega arith) in
+          let row : row_count (is ++ i ∷ []) ≡ row_count is = rw (row_count-push, e) (omega arith) in
           let column : columns_of (is ++ i ∷ []) ≡ columns_of is + i.count = rw (columns_of-push, e) refl in
           rw (row, column, e) (point-same _ _ (omega (arith, ints)) (omega (arith, ints)))
     ]
@@ -55,19 +55,19 @@ same_after (e ∷ es) p q same x y = ap (λ s. if int_eq y e.0.y && int_eq x e.0
 -- an item's cells may stand before a picture that is clear ahead of them, or after it
 item_after : (p : Picture) (at : Point) (i : Item) → IsPicture p → ((x y : ℤ) → IsAhead at x y → cell p x y ≡ 0) → IsSame (cells_from at i ++ p) (p ++ cells_from at i)
 item_after p at i states ahead x y =
-    elim (cases_Bool (state_of i.tag == 0)) [
+    elim (cases_Bool (tag_state i.tag == 0)) [
       | inl e ↦ rw e (ap (λ q. cell q x y) (sym (append-nil p)))
-      | inr e ↦ rw e (run_after p (state_of i.tag) at i.count states (λ k. ahead (at.x +ℤ pos k) at.y (inr (refl, omega (arith, ints)))) x y)
+      | inr e ↦ rw e (run_after p (tag_state i.tag) at i.count states (λ k. ahead (at.x +ℤ pos k) at.y (inr (refl, omega (arith, ints)))) x y)
     ]
 
 -- an item's cells are a picture
-item_states : (at : Point) (i : Item) → state_of i.tag ≤ 255 → IsPicture (cells_from at i)
+item_states : (at : Point) (i : Item) → tag_state i.tag ≤ 255 → IsPicture (cells_from at i)
 item_states at i low =
-    elim (cases_Bool (state_of i.tag == 0)) [
+    elim (cases_Bool (tag_state i.tag == 0)) [
       | inl e ↦ rw e (All-nil (λ e. (1 ≤ e.1) × (e.1 ≤ 255)))
       | inr e ↦
-          let some = eqb-false (state_of i.tag) 0 e in
-          rw e (run_states (state_of i.tag) at i.count (omega arith) low)
+          let some = eqb-false (tag_state i.tag) 0 e in
+          rw e (run_states (tag_state i.tag) at i.count (omega arith) low)
     ]
 
 -- after an item its own cells end
@@ -94,40 +94,40 @@ tag_ahead corner at n RowEnd x y some (inr right) = inl (omega (arith, ints, rig
 
 -- what the next item of a body within range is, and where it stands
 pub record IsNext (corner : Point) (items : List Item) (at : Offset) (i j : Item) : Type 0 where
-  pub same : i ≡ kept j
+  pub same : i ≡ with_capped_count j
   pub some : 0 < j.count
-  pub state : state_of j.tag ≤ 255
-  pub room : state_of i.tag ≢ 0 → HasRoom (point_from corner at) i.count
-  pub cells : cells_from (point_from corner at) i ≡ cells_of corner items j
+  pub state : tag_state j.tag ≤ 255
+  pub room : tag_state i.tag ≢ 0 → HasRoom (point_from corner at) i.count
+  pub cells : cells_from (point_from corner at) i ≡ item_cells corner items j
 
 -- a kept offset is the offset, where the place is in range
 offset_is : (corner : Point) (items : List Item) (at : Offset) → IsInRange corner → IsOffsetOf items at → IsInRange (place_after corner items) → point_from corner at ≡ place_after corner items
 offset_is corner items at start offset range =
     point-same _ _ (omega (arith, ints, start.2, offset.rows, range.3)) (omega (arith, ints, start.0, offset.columns, range.1))
 
-next_cells : (p q : Point) (m n : ℕ) (t : Tag) → (state_of t ≢ 0 → p ≡ q) → m ≡ n → cells_from p (record { count = m; tag = t }) ≡ cells_from q (record { count = n; tag = t })
+next_cells : (p q : Point) (m n : ℕ) (t : Tag) → (tag_state t ≢ 0 → p ≡ q) → m ≡ n → cells_from p (record { count = m; tag = t }) ≡ cells_from q (record { count = n; tag = t })
 next_cells p q m n t place count =
-    elim (cases_Bool (state_of t == 0)) [
+    elim (cases_Bool (tag_state t == 0)) [
       | inl e ↦ rw e refl
-      | inr e ↦ rw (place (eqb-false (state_of t) 0 e), count) refl
+      | inr e ↦ rw (place (eqb-false (tag_state t) 0 e), count) refl
     ]
 
 -- the next item
-pub next_is : (corner : Point) (bytes rest more : List ℕ) (at : Offset) (all items : List Item) (i : Item) → Items bytes all → IsWithinRange (bare_file corner all) → Run bytes items rest → IsOffsetOf items at
+pub next_is : (corner : Point) (bytes rest more : List ℕ) (at : Offset) (all items : List Item) (i : Item) → Items bytes all → IsRleWithinRange (bare_file corner all) → Run bytes items rest → IsOffsetOf items at
     → (item : IsItemAtFront rest i more) → IsNext corner items at i item.0
 next_is corner bytes rest more at all items i spelled range run offset (j, item, same) =
     let left = items_left bytes more all (items ++ j ∷ []) spelled (Run-push bytes items j rest more run item) in
     let counts = all_parts (λ i. i.count ≤ 2 ^ 62) (items ++ j ∷ []) left.0 (subst (λ l. AllByRecursion (λ i. i.count ≤ 2 ^ 62) l) left.2 range.counts) in
     let count : j.count ≤ 2 ^ 62 = (all_parts (λ i. i.count ≤ 2 ^ 62) items (j ∷ []) counts.0).1.0 in
-    let shown : picture_of corner all ≡ (picture_of corner items ++ cells_of corner items j) ++ picture_after corner (items ++ j ∷ []) left.0 =
-    ap (picture_of corner) left.2 ∙ picture_after-append corner [] (items ++ j ∷ []) left.0 ∙ ap (λ p. p ++ picture_after corner (items ++ j ∷ []) left.0) (picture_after-push corner [] items j)
+    let shown : picture_of_items corner all ≡ (picture_of_items corner items ++ item_cells corner items j) ++ picture_after corner (items ++ j ∷ []) left.0 =
+    ap (picture_of_items corner) left.2 ∙ picture_after-append corner [] (items ++ j ∷ []) left.0 ∙ ap (λ p. p ++ picture_after corner (items ++ j ∷ []) left.0) (picture_after-push corner [] items j)
     in
-    let cells = all_parts (λ e. IsInRange e.0) (picture_of corner items ++ cells_of corner items j) _ (subst (λ p. AllByRecursion (λ e. IsInRange e.0) p) shown range.cells) in
-    let here : AllByRecursion (λ e. IsInRange e.0) (cells_of corner items j) = (all_parts (λ e. IsInRange e.0) (picture_of corner items) (cells_of corner items j) cells.0).1 in
+    let cells = all_parts (λ e. IsInRange e.0) (picture_of_items corner items ++ item_cells corner items j) _ (subst (λ p. AllByRecursion (λ e. IsInRange e.0) p) shown range.cells) in
+    let here : AllByRecursion (λ e. IsInRange e.0) (item_cells corner items j) = (all_parts (λ e. IsInRange e.0) (picture_of_items corner items) (item_cells corner items j) cells.0).1 in
     let some : 0 < j.count = (counts_low rest (j ∷ []) more item).0 in
     let exact : i ≡ j = same ∙ kept_is j count in
-    let live : state_of j.tag ≢ 0 → HasRoom (place_after corner items) j.count = λ ne. run_has_room (state_of j.tag) (place_after corner items) j.count some (rw (ne_eqb (state_of j.tag) 0 ne) at here) in
-    let place : state_of j.tag ≢ 0 → point_from corner at ≡ place_after corner items = λ ne. offset_is corner items at range.corner offset (live ne).0 in
+    let live : tag_state j.tag ≢ 0 → HasRoom (place_after corner items) j.count = λ ne. run_has_room (tag_state j.tag) (place_after corner items) j.count some (rw (ne_eqb (tag_state j.tag) 0 ne) at here) in
+    let place : tag_state j.tag ≢ 0 → point_from corner at ≡ place_after corner items = λ ne. offset_is corner items at range.corner offset (live ne).0 in
     record {
       same = same;
       some = some;
@@ -136,7 +136,7 @@ next_is corner bytes rest more at all items i spelled range run offset (j, item,
       cells = rw exact (next_cells (point_from corner at) (place_after corner items) j.count j.count j.tag place refl);
     }
   where
-    kept_is : (j : Item) → j.count ≤ 2 ^ 62 → kept j ≡ j
+    kept_is : (j : Item) → j.count ≤ 2 ^ 62 → with_capped_count j ≡ j
     kept_is j low = ap (λ (m : ℕ). let made : Item = record { count = m; tag = j.tag } in made) (omega (arith, low))
 
 -- ---- all items
@@ -145,17 +145,17 @@ next_is corner bytes rest more at all items i spelled range run offset (j, item,
 pub record IsDrawn (corner : Point) (bytes after : List ℕ) (at : Offset) (plane : Picture) (items : List Item) : Type 0 where
   pub run : Run bytes items after
   pub offset : IsOffsetOf items at
-  pub cells : IsSame plane (picture_of corner items)
-  pub states : IsPicture (picture_of corner items)
-  pub ahead : (x y : ℤ) → IsAhead (place_after corner items) x y → cell (picture_of corner items) x y ≡ 0
+  pub cells : IsSame plane (picture_of_items corner items)
+  pub states : IsPicture (picture_of_items corner items)
+  pub ahead : (x y : ℤ) → IsAhead (place_after corner items) x y → cell (picture_of_items corner items) x y ≡ 0
 
 -- one more item
 pub drawn_more : (corner : Point) (bytes rest more : List ℕ) (at next : Offset) (plane new : Picture) (items : List Item) (i : Item) → IsDrawn corner bytes rest at plane items → (item : IsItemAtFront rest i more)
     → IsNext corner items at i item.0 → IsNextOffset i at next → IsSame new (cells_from (point_from corner at) i ++ plane) → IsDrawn corner bytes more next new (items ++ item.0 ∷ [])
 drawn_more corner bytes rest more at next plane new items i d (j, item, same) n o drawn =
-    let old = picture_of corner items in
-    let here = cells_of corner items j in
-    let whole : picture_of corner (items ++ j ∷ []) ≡ old ++ here = picture_after-push corner [] items j in
+    let old = picture_of_items corner items in
+    let here = item_cells corner items j in
+    let whole : picture_of_items corner (items ++ j ∷ []) ≡ old ++ here = picture_after-push corner [] items j in
     let place = place_after-push corner items j in
     record {
       run = Run-push bytes items j rest more d.run item;
@@ -172,6 +172,6 @@ drawn_more corner bytes rest more at next plane new items i d (j, item, same) n 
 
 -- drawn to the end, the plane shows the picture of all the body's items
 pub drawn_all : (corner : Point) (bytes rest : List ℕ) (at : Offset) (plane : Picture) (items all : List Item) → IsDrawn corner bytes rest at plane items → IsEnd rest → Items bytes all
-    → IsSame plane (picture_of corner all) × IsPicture (picture_of corner all)
+    → IsSame plane (picture_of_items corner all) × IsPicture (picture_of_items corner all)
 drawn_all corner bytes rest at plane items all d end spelled =
-    subst (λ l. IsSame plane (picture_of corner l) × IsPicture (picture_of corner l)) (sym (items_done bytes rest all items spelled d.run end)) (d.cells, d.states)
+    subst (λ l. IsSame plane (picture_of_items corner l) × IsPicture (picture_of_items corner l)) (sym (items_done bytes rest all items spelled d.run end)) (d.cells, d.states)

@@ -4,7 +4,7 @@ use Rattle.std.proofs.lemmas.Bool.Decides.{nat_tests}
 use Rattle.ca_rle.specs.declared.item.Item.{Item}
 use Rattle.ca_rle.specs.declared.item.Tag.{Tag}
 use Rattle.ca_rle.specs.Items.{tag_of, Run, IsEnd, Items}
-use Rattle.ca_rle.specs.Shown.{state_of}
+use Rattle.ca_rle.specs.Shown.{tag_state}
 use Rattle.ca_rle.proofs.OneList.{item_or_end, one_item, one_list}
 
 -- the items after those that were read spell what is left
@@ -21,11 +21,11 @@ pub items_done : (bytes rest : List ℕ) (all some : List Item) → Items bytes 
 items_done bytes rest all some items run end = one_list bytes all some items (rest, run, end)
 
 -- no state is above 255
-pub state_low : (letters : List ℕ) (t : Tag) → tag_of letters ≡ Some t → state_of t ≤ 255
+pub state_low : (letters : List ℕ) (t : Tag) → tag_of letters ≡ Some t → tag_state t ≤ 255
 state_low [] t e = absurd cc
 state_low (b ∷ []) t e = grind (arith, nat_tests)
 state_low (p ∷ b ∷ []) t e = grind (arith, nat_tests)
 state_low (p ∷ b ∷ c ∷ bs) t e = absurd cc
 
-pub item_state_low : (bytes : List ℕ) (i : Item) (more : List ℕ) → Run bytes (i ∷ []) more → state_of i.tag ≤ 255
+pub item_state_low : (bytes : List ℕ) (i : Item) (more : List ℕ) → Run bytes (i ∷ []) more → tag_state i.tag ≤ 255
 item_state_low bytes i more (front, later, (before, digits, between, letters, v, c, w, e, spelled), same, whole) = state_low letters i.tag e

@@ -8,8 +8,8 @@ use Rattle.std.proofs.lemmas.List.Sums.{sum_by_push, prefix_len-le-length}
 use Rattle.ca_plane.specs.declared.point.Point.{Point}
 use Rattle.ca_rle.specs.declared.item.Item.{Item}
 use Rattle.ca_rle.specs.Items.{tag_of, IsCount, Run}
-use Rattle.ca_rle.specs.Shown.{ends_row, rows_of, columns_of, cells_of, picture_after}
-use Rattle.ca_rle.specs.inner.Extent.{longest_of, live_count, live_cells, greatest_of}
+use Rattle.ca_rle.specs.Shown.{ends_row, row_count, columns_of, item_cells, picture_after}
+use Rattle.ca_rle.specs.inner.Extent.{longest_of, live_count_of_item, live_count_of_items, greatest_of}
 
 -- one more element at the end begins anew, or stands after what was there
 after_last-push : {X : Type 0} (p : X → Bool) (xs : List X) (y : X) → after_last p (xs ++ y ∷ []) ≡ (if p y then [] else after_last p xs ++ y ∷ [])
@@ -29,8 +29,8 @@ after_last-push {X} p xs y =
     ]
 
 -- the row after one more item
-pub rows_of-push : (is : List Item) (i : Item) → rows_of (is ++ i ∷ []) ≡ rows_of is + (if ends_row i.tag then i.count else 0)
-rows_of-push is i = sum_by_push (λ i. if ends_row i.tag then i.count else 0) is i
+pub row_count-push : (is : List Item) (i : Item) → row_count (is ++ i ∷ []) ≡ row_count is + (if ends_row i.tag then i.count else 0)
+row_count-push is i = sum_by_push (λ i. if ends_row i.tag then i.count else 0) is i
 
 -- the column after one more item
 pub columns_of-push : (is : List Item) (i : Item) → columns_of (is ++ i ∷ []) ≡ (if ends_row i.tag then 0 else columns_of is + i.count)
@@ -46,20 +46,20 @@ columns_of-push is i =
     ]
 
 -- the cells of one more item stand after those of the others
-pub picture_after-push : (corner : Point) (before is : List Item) (i : Item) → picture_after corner before (is ++ i ∷ []) ≡ picture_after corner before is ++ cells_of corner (before ++ is) i
-picture_after-push corner before [] i = append-nil (cells_of corner before i) ∙ ap (λ b. cells_of corner b i) (sym (append-nil before))
+pub picture_after-push : (corner : Point) (before is : List Item) (i : Item) → picture_after corner before (is ++ i ∷ []) ≡ picture_after corner before is ++ item_cells corner (before ++ is) i
+picture_after-push corner before [] i = append-nil (item_cells corner before i) ∙ ap (λ b. item_cells corner b i) (sym (append-nil before))
 picture_after-push corner before (j ∷ js) i =
-    ap (λ p. cells_of corner before j ++ p) (picture_after-push corner (before ++ j ∷ []) js i)
-    ∙ sym (append_assoc (cells_of corner before j) (picture_after corner (before ++ j ∷ []) js) (cells_of corner ((before ++ j ∷ []) ++ js) i))
-    ∙ ap (λ b. (cells_of corner before j ++ picture_after corner (before ++ j ∷ []) js) ++ cells_of corner b i) (append_assoc before (j ∷ []) js)
+    ap (λ p. item_cells corner before j ++ p) (picture_after-push corner (before ++ j ∷ []) js i)
+    ∙ sym (append_assoc (item_cells corner before j) (picture_after corner (before ++ j ∷ []) js) (item_cells corner ((before ++ j ∷ []) ++ js) i))
+    ∙ ap (λ b. (item_cells corner before j ++ picture_after corner (before ++ j ∷ []) js) ++ item_cells corner b i) (append_assoc before (j ∷ []) js)
 
 -- the cells of two parts stand one after the other
 pub picture_after-append : (corner : Point) (before is js : List Item) → picture_after corner before (is ++ js) ≡ picture_after corner before is ++ picture_after corner (before ++ is) js
 picture_after-append corner before [] js = ap (λ b. picture_after corner b js) (sym (append-nil before))
 picture_after-append corner before (i ∷ is) js =
-    ap (λ p. cells_of corner before i ++ p) (picture_after-append corner (before ++ i ∷ []) is js)
-    ∙ sym (append_assoc (cells_of corner before i) (picture_after corner (before ++ i ∷ []) is) (picture_after corner ((before ++ i ∷ []) ++ is) js))
-    ∙ ap (λ b. (cells_of corner before i ++ picture_after corner (before ++ i ∷ []) is) ++ picture_after corner b js) (append_assoc before (i ∷ []) is)
+    ap (λ p. item_cells corner before i ++ p) (picture_after-append corner (before ++ i ∷ []) is js)
+    ∙ sym (append_assoc (item_cells corner before i) (picture_after corner (before ++ i ∷ []) is) (picture_after corner ((before ++ i ∷ []) ++ is) js))
+    ∙ ap (λ b. (item_cells corner before i ++ picture_after corner (before ++ i ∷ []) is) ++ picture_after corner b js) (append_assoc before (i ∷ []) is)
 
 -- the greatest count with one more item
 pub longest_of-push : (is : List Item) (i : Item) → longest_of (is ++ i ∷ []) ≡ max (longest_of is) i.count
@@ -77,8 +77,8 @@ greatest_of-push number before (j ∷ js) i =
     omega (arith, more, same)
 
 -- the live cells with one more item
-pub live_cells-push : (is : List Item) (i : Item) → live_cells (is ++ i ∷ []) ≡ live_cells is + live_count i
-live_cells-push is i = sum_by_push live_count is i
+pub live_count_of_items-push : (is : List Item) (i : Item) → live_count_of_items (is ++ i ∷ []) ≡ live_count_of_items is + live_count_of_item i
+live_count_of_items-push is i = sum_by_push live_count_of_item is i
 
 -- ---- in the bytes
 

@@ -7,11 +7,11 @@ use Rattle.std.proofs.lemmas.Int.{ints}
 use Rattle.ca_plane.specs.declared.point.Point.{Point}
 use Rattle.ca_rle.specs.declared.item.Item.{Item}
 use Rattle.ca_rle.specs.declared.extent.Extent.{Extent}
-use Rattle.ca_rle.specs.Shown.{state_of, rows_of, columns_of, run_of, place_after, cells_of, picture_after}
-use Rattle.ca_rle.specs.Limits.{IsWithinRange}
+use Rattle.ca_rle.specs.Shown.{tag_state, row_count, columns_of, run_of, place_after, item_cells, picture_after}
+use Rattle.ca_rle.specs.Limits.{IsRleWithinRange}
 use Rattle.ca_plane.specs.Limits.{IsInRange}
 use Rattle.ca_rle.specs.inner.BodyFaults.{bare_file}
-use Rattle.ca_rle.specs.inner.Extent.{longest_of, live_count, live_cells, columns_to, rows_to, right_after, bottom_after, kept_number, IsExtentOf, IsExtentInRange, HasRoom}
+use Rattle.ca_rle.specs.inner.Extent.{longest_of, live_count_of_item, live_count_of_items, columns_to, rows_to, right_after, bottom_after, kept_number, IsItemsExtent, IsExtentInRange, HasRoom}
 use Rattle.ca_rle.proofs.Spans.{all_run, all_append, length_run}
 
 -- ---- counts
@@ -55,17 +55,17 @@ run_has_room state at n some all =
     ((omega (arith, ints, first.0), omega (arith, ints, first.1), first.2, first.3), omega (arith, ints, last.1))
 
 -- an item whose live cells have room is in range
-item_in_range : (at : Point) (i : Item) (live : Bool) → (live ≡ false → HasRoom at i.count) → AllByRecursion (λ e. IsInRange e.0) (cond live [] (run_of (state_of i.tag) at i.count))
+item_in_range : (at : Point) (i : Item) (live : Bool) → (live ≡ false → HasRoom at i.count) → AllByRecursion (λ e. IsInRange e.0) (cond live [] (run_of (tag_state i.tag) at i.count))
 item_in_range at i true room = tt
-item_in_range at i false room = run_in_range (state_of i.tag) at i.count (room refl)
+item_in_range at i false room = run_in_range (tag_state i.tag) at i.count (room refl)
 
 -- the place of an item has room for its cells, where they don't pass these columns and rows
 has_room : (corner : Point) (before : List Item) (i : Item) (right bottom : ℕ) → IsInRange corner
-    → (corner.x +ℤ pos right) ≤ℤ pos (2 ^ 60) → (corner.y +ℤ pos bottom) ≤ℤ pos (2 ^ 60) → (state_of i.tag == 0) ≡ false → 0 < i.count → columns_to before i ≤ right → rows_to before i ≤ bottom
+    → (corner.x +ℤ pos right) ≤ℤ pos (2 ^ 60) → (corner.y +ℤ pos bottom) ≤ℤ pos (2 ^ 60) → (tag_state i.tag == 0) ≡ false → 0 < i.count → columns_to before i ≤ right → rows_to before i ≤ bottom
     → HasRoom (place_after corner before) i.count
 has_room corner before i right bottom start x y live some columns rows =
     let c : columns_of before + i.count ≤ right = rw live at columns in
-    let r : rows_of before + 1 ≤ bottom = rw live at rows in
+    let r : row_count before + 1 ≤ bottom = rw live at rows in
     ((omega (arith, ints, start.0), omega (arith, ints, x, c), omega (arith, ints, start.2), omega (arith, ints, y, r)), omega (arith, ints, x, c))
 
 -- cells that don't pass them are in range
@@ -73,8 +73,8 @@ pub cells_in_range : (corner : Point) (before is : List Item) (right bottom : �
     → AllByRecursion (λ i. 0 < i.count) is → right_after before is ≤ right → bottom_after before is ≤ bottom → AllByRecursion (λ e. IsInRange e.0) (picture_after corner before is)
 cells_in_range corner before [] right bottom start x y low r b = tt
 cells_in_range corner before (i ∷ is) right bottom start x y (some, low) r b =
-    all_append (λ e. IsInRange e.0) (cells_of corner before i) (picture_after corner (before ++ i ∷ []) is)
-    (item_in_range (place_after corner before) i (state_of i.tag == 0) (λ live. has_room corner before i right bottom start x y live some (omega (arith, r)) (omega (arith, b))))
+    all_append (λ e. IsInRange e.0) (item_cells corner before i) (picture_after corner (before ++ i ∷ []) is)
+    (item_in_range (place_after corner before) i (tag_state i.tag == 0) (λ live. has_room corner before i right bottom start x y live some (omega (arith, r)) (omega (arith, b))))
     (cells_in_range corner (before ++ i ∷ []) is right bottom start x y low (omega (arith, r)) (omega (arith, b)))
 
 -- ---- back from cells
@@ -88,24 +88,24 @@ limit-max : (corner : ℤ) (a b : ℕ) → (corner +ℤ pos a) ≤ℤ pos (2 ^ 6
 limit-max corner a b h k = omega (arith, ints, h, k)
 
 -- an item in range has room for its live cells
-room_from : (corner : Point) (before : List Item) (i : Item) → 0 < i.count → AllByRecursion (λ e. IsInRange e.0) (cells_of corner before i) → (state_of i.tag == 0) ≡ false → HasRoom (place_after corner before) i.count
-room_from corner before i some all live = run_has_room (state_of i.tag) (place_after corner before) i.count some (rw live at all)
+room_from : (corner : Point) (before : List Item) (i : Item) → 0 < i.count → AllByRecursion (λ e. IsInRange e.0) (item_cells corner before i) → (tag_state i.tag == 0) ≡ false → HasRoom (place_after corner before) i.count
+room_from corner before i some all live = run_has_room (tag_state i.tag) (place_after corner before) i.count some (rw live at all)
 
 -- the columns and rows of cells in range
 pub right_in_range : (corner : Point) (before is : List Item) → IsInRange corner → AllByRecursion (λ i. 0 < i.count) is → AllByRecursion (λ e. IsInRange e.0) (picture_after corner before is) → (corner.x +ℤ pos (right_after before is)) ≤ℤ pos (2 ^ 60)
 right_in_range corner before [] start low all = omega (arith, ints, start.1)
 right_in_range corner before (i ∷ is) start (some, low) all =
-    let parts = all_parts (λ e. IsInRange e.0) (cells_of corner before i) (picture_after corner (before ++ i ∷ []) is) all in
+    let parts = all_parts (λ e. IsInRange e.0) (item_cells corner before i) (picture_after corner (before ++ i ∷ []) is) all in
     limit-max corner.x (columns_to before i) (right_after (before ++ i ∷ []) is)
-    (limit-if corner.x (state_of i.tag == 0) (columns_of before + i.count) (omega (arith, ints, start.1)) (λ live. let room = room_from corner before i some parts.0 live in omega (arith, ints, room.1)))
+    (limit-if corner.x (tag_state i.tag == 0) (columns_of before + i.count) (omega (arith, ints, start.1)) (λ live. let room = room_from corner before i some parts.0 live in omega (arith, ints, room.1)))
     (right_in_range corner (before ++ i ∷ []) is start low parts.1)
 
 pub bottom_in_range : (corner : Point) (before is : List Item) → IsInRange corner → AllByRecursion (λ i. 0 < i.count) is → AllByRecursion (λ e. IsInRange e.0) (picture_after corner before is) → (corner.y +ℤ pos (bottom_after before is)) ≤ℤ pos (2 ^ 60)
 bottom_in_range corner before [] start low all = omega (arith, ints, start.3)
 bottom_in_range corner before (i ∷ is) start (some, low) all =
-    let parts = all_parts (λ e. IsInRange e.0) (cells_of corner before i) (picture_after corner (before ++ i ∷ []) is) all in
+    let parts = all_parts (λ e. IsInRange e.0) (item_cells corner before i) (picture_after corner (before ++ i ∷ []) is) all in
     limit-max corner.y (rows_to before i) (bottom_after (before ++ i ∷ []) is)
-    (limit-if corner.y (state_of i.tag == 0) (rows_of before + 1) (omega (arith, ints, start.3)) (λ live. let room = room_from corner before i some parts.0 live in omega (arith, ints, room.0.3)))
+    (limit-if corner.y (tag_state i.tag == 0) (row_count before + 1) (omega (arith, ints, start.3)) (λ live. let room = room_from corner before i some parts.0 live in omega (arith, ints, room.0.3)))
     (bottom_in_range corner (before ++ i ∷ []) is start low parts.1)
 
 -- ---- the extent
@@ -115,7 +115,7 @@ near : (corner : ℤ) (n m : ℕ) → neg_ℤ (pos (2 ^ 60)) ≤ℤ corner → n
 near corner n m low e h = omega (arith, ints, low, e, h)
 
 -- items whose extent is in range are
-pub within_range : (corner : Point) (items : List Item) (e : Extent) → AllByRecursion (λ i. 0 < i.count) items → IsExtentOf items e → IsExtentInRange e corner → IsWithinRange (bare_file corner items)
+pub within_range : (corner : Point) (items : List Item) (e : Extent) → AllByRecursion (λ i. 0 < i.count) items → IsItemsExtent items e → IsExtentInRange e corner → IsRleWithinRange (bare_file corner items)
 within_range corner items e low reach range =
     let right = near corner.x e.right (right_after [] items) range.start.0 reach.right range.right in
     let bottom = near corner.y e.bottom (bottom_after [] items) range.start.2 reach.bottom range.bottom in
@@ -130,7 +130,7 @@ kept-le : (corner : ℤ) (n m : ℕ) → n ≡ kept_number m → (corner +ℤ po
 kept-le corner n m e h = omega (arith, ints, e, h)
 
 -- and those that are in range have such an extent
-pub extent_in_range : (corner : Point) (items : List Item) (e : Extent) → AllByRecursion (λ i. 0 < i.count) items → IsExtentOf items e → IsWithinRange (bare_file corner items) → IsExtentInRange e corner
+pub extent_in_range : (corner : Point) (items : List Item) (e : Extent) → AllByRecursion (λ i. 0 < i.count) items → IsItemsExtent items e → IsRleWithinRange (bare_file corner items) → IsExtentInRange e corner
 extent_in_range corner items e low reach range =
     record {
       counts = let longest = longest_from (2 ^ 62) items range.counts in omega (arith, reach.longest, longest);
@@ -141,14 +141,14 @@ extent_in_range corner items e low reach range =
 
 -- ---- how many cells there are
 
-live_length : (at : Point) (i : Item) (live : Bool) → length (cond live [] (run_of (state_of i.tag) at i.count)) ≡ cond live 0 i.count
+live_length : (at : Point) (i : Item) (live : Bool) → length (cond live [] (run_of (tag_state i.tag) at i.count)) ≡ cond live 0 i.count
 live_length at i true = refl
 live_length at i false = length_run _ 0 i.count
 
 -- a picture has as many cells as its items have live ones
-pub length-picture : (corner : Point) (before is : List Item) → length (picture_after corner before is) ≡ live_cells is
+pub length-picture : (corner : Point) (before is : List Item) → length (picture_after corner before is) ≡ live_count_of_items is
 length-picture corner before [] = refl
 length-picture corner before (i ∷ is) =
-    let here : length (cells_of corner before i) ≡ live_count i = live_length (place_after corner before) i (state_of i.tag == 0) in
+    let here : length (item_cells corner before i) ≡ live_count_of_item i = live_length (place_after corner before) i (tag_state i.tag == 0) in
     let later = length-picture corner (before ++ i ∷ []) is in
-    omega (arith, length-append (cells_of corner before i) (picture_after corner (before ++ i ∷ []) is), sum_by-cons live_count i is, here, later)
+    omega (arith, length-append (item_cells corner before i) (picture_after corner (before ++ i ∷ []) is), sum_by-cons live_count_of_item i is, here, later)

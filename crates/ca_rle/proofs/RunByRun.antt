@@ -17,9 +17,9 @@ use Rattle.ca_plane.proofs.Pictures.{IsListed-at, point-same}
 use Rattle.ca_rle.specs.declared.item.Item.{Item}
 use Rattle.ca_rle.specs.declared.item.Tag.TheVariants.{Cell}
 use Rattle.ca_rle.specs.declared.write.runs.Run.{Run}
-use Rattle.ca_rle.specs.Shown.{place_after, run_of, picture_of}
+use Rattle.ca_rle.specs.Shown.{place_after, run_of, picture_of_items}
 use Rattle.ca_rle.specs.Tidy.{AreTidy}
-use Rattle.ca_rle.specs.inner.Written.{IsGap}
+use Rattle.ca_rle.specs.inner.Written.{IsItemGap}
 use Rattle.ca_rle.proofs.Gaps.{PutsGap, item_of, AreBefore, place-cells, place-gap, cells-gap, cells-run, before-first, before-next, tidy-end}
 
 -- ---- reading order
@@ -78,7 +78,7 @@ pub record IsReadTo (corner : Point) (items : List Item) (run : Run) (seen : Pic
   pub live : 0 < run.state
   pub place : place_after corner items ≡ run.from
   pub before : AreBefore items (Cell run.state)
-  pub cells : seen ≡ picture_of corner items ++ run_of run.state run.from count
+  pub cells : seen ≡ picture_of_items corner items ++ run_of run.state run.from count
 
 -- runs with the same parts are the same
 run_same : (run next : Run) → run.from ≡ next.from → run.past ≡ next.past → run.state ≡ next.state → run ≡ next
@@ -105,7 +105,7 @@ abbrev begun : Point × ℕ → Run
 begun e = record { from = e.0; past = e.0.x +ℤ pos 1; state = e.1 }
 
 -- the first run
-first_run : (corner : Point) (gap : List Item) (run : Run) (e : Point × ℕ) → IsGap corner.x corner e.0 gap → 0 < e.1
+first_run : (corner : Point) (gap : List Item) (run : Run) (e : Point × ℕ) → IsItemGap corner.x corner e.0 gap → 0 < e.1
     → run.from ≡ e.0 → run.past ≡ e.0.x +ℤ pos 1 → run.state ≡ e.1 → IsReadTo corner gap run (e ∷ [])
 first_run corner gap run e leads live from past state =
     let read : IsReadTo corner gap (begun e) (e ∷ []) = record {
@@ -126,7 +126,7 @@ pub read-more : (corner : Point) (items : List Item) (run next : Run) (seen : Pi
     → IsReadTo corner items next (seen ++ e ∷ [])
 read-more corner items run next seen e read from past state row column same =
     let n = read.count in
-    let shown = picture_of corner items in
+    let shown = picture_of_items corner items in
     let more : Run = record { from = run.from; past = e.0.x +ℤ pos 1; state = run.state } in
     let at : e.0.x ≡ run.from.x +ℤ pos n = column ∙ read.past in
     let grown : IsReadTo corner items more (seen ++ e ∷ []) = record {
@@ -154,14 +154,14 @@ run_item corner items run seen item read tag past = item_same item run.state rea
 
 -- the picture of the items with the run's
 run_shown : (corner : Point) (items : List Item) (run : Run) (seen : Picture) (read : IsReadTo corner items run seen)
-    → picture_of corner (items ++ item_of (Cell run.state) read.count ∷ []) ≡ seen
+    → picture_of_items corner (items ++ item_of (Cell run.state) read.count ∷ []) ≡ seen
 run_shown corner items run seen read =
-    cells-run corner items run.state read.count read.live ∙ ap (λ (at : Point). picture_of corner items ++ run_of run.state at read.count) read.place ∙ sym read.cells
+    cells-run corner items run.state read.count read.live ∙ ap (λ (at : Point). picture_of_items corner items ++ run_of run.state at read.count) read.place ∙ sym read.cells
 
 -- the next run
 next_run : (corner : Point) (items gap : List Item) (run next : Run) (seen : Picture) (e : Point × ℕ) (item : Item) (after : Point) → IsReadTo corner items run seen
     → item.tag ≡ Cell run.state → run.past ≡ run.from.x +ℤ pos item.count → after.y ≡ run.from.y → after.x ≡ run.past
-    → IsGap corner.x after e.0 gap → 0 < e.1 → (e.0 ≡ after → run.state ≢ e.1)
+    → IsItemGap corner.x after e.0 gap → 0 < e.1 → (e.0 ≡ after → run.state ≢ e.1)
     → next.from ≡ e.0 → next.past ≡ e.0.x +ℤ pos 1 → next.state ≡ e.1
     → IsReadTo corner ((items ++ item ∷ []) ++ gap) next (seen ++ e ∷ [])
 next_run corner items gap run next seen e item after read tag count row column leads live apart from past state =
@@ -180,7 +180,7 @@ next_run corner items gap run next seen e item after read tag count row column l
       before = before-next corner.x after e.0 items gap run.state read.count e.1 read.before read.live read.some leads live apart;
       cells =
           ap (λ (p : Picture). p ++ e ∷ []) (sym (cells-gap corner after e.0 corner.x whole gap leads ∙ run_shown corner items run seen read))
-          ∙ ap (λ (p : Picture). picture_of corner (whole ++ gap) ++ p) (run_one e);
+          ∙ ap (λ (p : Picture). picture_of_items corner (whole ++ gap) ++ p) (run_one e);
     }
     in
     subst (λ (i : Item). IsReadTo corner ((items ++ i ∷ []) ++ gap) next (seen ++ e ∷ [])) (sym (run_item corner items run seen item read tag count))
@@ -191,7 +191,7 @@ pub read-first : (corner : Point) (left : ℤ) (none items : List Item) (run : R
     → run.from ≡ e.0 → run.past ≡ e.0.x +ℤ pos 1 → run.state ≡ e.1 → IsReadTo corner items run (e ∷ [])
 read-first corner left none items run e at empty (gap, leads, put) live from past state =
     subst (λ (l : List Item). IsReadTo corner l run (e ∷ [])) (sym (put ∙ ap (λ (l : List Item). l ++ gap) empty))
-    (first_run corner gap run e (subst (λ (x : ℤ). IsGap x corner e.0 gap) at leads) live from past state)
+    (first_run corner gap run e (subst (λ (x : ℤ). IsItemGap x corner e.0 gap) at leads) live from past state)
 
 -- the next run, after a gap that was put after the item of the one before
 pub read-next : (corner : Point) (left : ℤ) (items mid new : List Item) (run next : Run) (seen : Picture) (e : Point × ℕ) (item : Item) (after : Point) → IsReadTo corner items run seen
@@ -201,22 +201,22 @@ pub read-next : (corner : Point) (left : ℤ) (items mid new : List Item) (run n
     → IsReadTo corner new next (seen ++ e ∷ [])
 read-next corner left items mid new run next seen e item after read tag count row column pushed at (gap, leads, put) live apart from past state =
     subst (λ (l : List Item). IsReadTo corner l next (seen ++ e ∷ [])) (sym (put ∙ ap (λ (l : List Item). l ++ gap) pushed))
-    (next_run corner items gap run next seen e item after read tag count row column (subst (λ (x : ℤ). IsGap x after e.0 gap) at leads) live
+    (next_run corner items gap run next seen e item after read tag count row column (subst (λ (x : ℤ). IsItemGap x after e.0 gap) at leads) live
     (λ same z. apart (ap (λ (p : Point). p.y) same ∙ row) (ap (λ (p : Point). p.x) same ∙ column) (sym z)) from past state)
 
 -- the last run
 read-end : (corner : Point) (items : List Item) (run : Run) (seen : Picture) (item : Item) → IsReadTo corner items run seen
     → item.tag ≡ Cell run.state → run.past ≡ run.from.x +ℤ pos item.count
-    → AreTidy (items ++ item ∷ []) × (picture_of corner (items ++ item ∷ []) ≡ seen)
+    → AreTidy (items ++ item ∷ []) × (picture_of_items corner (items ++ item ∷ []) ≡ seen)
 read-end corner items run seen item read tag count =
-    subst (λ (i : Item). AreTidy (items ++ i ∷ []) × (picture_of corner (items ++ i ∷ []) ≡ seen)) (sym (run_item corner items run seen item read tag count))
+    subst (λ (i : Item). AreTidy (items ++ i ∷ []) × (picture_of_items corner (items ++ i ∷ []) ≡ seen)) (sym (run_item corner items run seen item read tag count))
     (tidy-end items run.state read.count read.before read.live read.some, run_shown corner items run seen read)
 
 -- a list that is those and the last run's item
 pub read-last : (corner : Point) (items all : List Item) (run : Run) (seen : Picture) (item : Item) → IsReadTo corner items run seen
-    → item.tag ≡ Cell run.state → run.past ≡ run.from.x +ℤ pos item.count → all ≡ items ++ item ∷ [] → AreTidy all × (picture_of corner all ≡ seen)
+    → item.tag ≡ Cell run.state → run.past ≡ run.from.x +ℤ pos item.count → all ≡ items ++ item ∷ [] → AreTidy all × (picture_of_items corner all ≡ seen)
 read-last corner items all run seen item read tag count whole =
-    subst (λ (is : List Item). AreTidy is × (picture_of corner is ≡ seen)) (sym whole) (read-end corner items run seen item read tag count)
+    subst (λ (is : List Item). AreTidy is × (picture_of_items corner is ≡ seen)) (sym whole) (read-end corner items run seen item read tag count)
 
 -- ---- a `for` over the cells of a plane
 

@@ -5,7 +5,7 @@ use Rattle.std.proofs.lemmas.List.Sums.{sum_by-cons, sum_by_push, sum_by-take-dr
 use Rattle.std.proofs.lemmas.Int.{ints}
 use Rattle.ca_plane.specs.declared.point.Point.{Point}
 use Rattle.ca_rle.specs.declared.item.Item.{Item}
-use Rattle.ca_rle.specs.Shown.{ends_row, state_of, rows_of, columns_of, run_of, place_after, cells_of, picture_after}
+use Rattle.ca_rle.specs.Shown.{ends_row, tag_state, row_count, columns_of, run_of, place_after, item_cells, picture_after}
 use Rattle.ca_plane.specs.Limits.{IsInRange}
 
 -- the sum of all counts
@@ -16,7 +16,7 @@ counted_or_not : (b : Bool) (n : ℕ) → cond b n 0 ≤ n
 counted_or_not true n = omega arith
 counted_or_not false n = omega arith
 
-pub rows_within : (is : List Item) → rows_of is ≤ span is
+pub rows_within : (is : List Item) → row_count is ≤ span is
 rows_within is = sum_by-le-sum_by (λ i. cond (ends_row i.tag) i.count 0) (λ i. i.count) is (λ i. counted_or_not (ends_row i.tag) i.count)
 
 pub columns_within : (is : List Item) → columns_of is ≤ span is
@@ -50,11 +50,11 @@ length_if false xs = omega arith
 pub picture_length : (corner : Point) (before is : List Item) → length (picture_after corner before is) ≤ span is
 picture_length corner before [] = omega arith
 picture_length corner before (i ∷ is) =
-    let run = run_of (state_of i.tag) (place_after corner before) i.count in
-    let here : length (cells_of corner before i) ≤ length run = length_if (state_of i.tag == 0) run in
+    let run = run_of (tag_state i.tag) (place_after corner before) i.count in
+    let here : length (item_cells corner before i) ≤ length run = length_if (tag_state i.tag == 0) run in
     let each : length run ≡ i.count = length_run _ 0 i.count in
     let later = picture_length corner (before ++ i ∷ []) is in
-    omega (arith, length-append (cells_of corner before i) (picture_after corner (before ++ i ∷ []) is), sum_by-cons (λ (j : Item). j.count) i is)
+    omega (arith, length-append (item_cells corner before i) (picture_after corner (before ++ i ∷ []) is), sum_by-cons (λ (j : Item). j.count) i is)
 
 abbrev pub origin : Point
 origin = record { y = pos 0; x = pos 0 }
@@ -70,6 +70,6 @@ cells_in_range before (i ∷ is) h =
     let push = sum_by_push (λ (j : Item). j.count) before i in
     let rows = rows_within before in
     let columns = columns_within before in
-    all_append _ (cells_of origin before i) (picture_after origin (before ++ i ∷ []) is)
-    (all_if _ (state_of i.tag == 0) _ (all_run _ _ 0 i.count (λ k l. near (rows_of before) (columns_of before) k (omega arith) (omega arith))))
+    all_append _ (item_cells origin before i) (picture_after origin (before ++ i ∷ []) is)
+    (all_if _ (tag_state i.tag == 0) _ (all_run _ _ 0 i.count (λ k l. near (row_count before) (columns_of before) k (omega arith) (omega arith))))
     (cells_in_range (before ++ i ∷ []) is (omega arith))

@@ -13,8 +13,8 @@ use Rattle.ca_plane.specs.declared.point.Point.{Point}
 use Rattle.ca_plane.specs.Bytes.{front, rest, IsInteger, nearest_i64}
 use Rattle.ca_rle.specs.declared.front.words.Start.{Start}
 use Rattle.ca_rle.specs.declared.fault.RleFault.TheVariants.{Syntax}
-use Rattle.ca_rle.specs.Header.{Said, Corner, Generation, Nothing, Says}
-use Rattle.ca_rle.specs.File.{last_corner, last_generation}
+use Rattle.ca_rle.specs.Header.{CxrleWord, Corner, Generation, Nothing, Says}
+use Rattle.ca_rle.specs.File.{last_corner, last_word_generation}
 use Rattle.ca_rle.specs.Faults.{IsBadWord}
 use Rattle.ca_rle.specs.inner.BodyFaults.{KeepsCorner}
 use Rattle.ca_rle.specs.inner.FrontParts.{KeepsNumber, Writes, WritesPair, IsStart, Leads}
@@ -82,13 +82,13 @@ keeps_corner x y p h k = (
   ],
 )
 
-corner_append : (at : Point) (a b : List Said) → last_corner at (a ++ b) ≡ last_corner (last_corner at a) b
+corner_append : (at : Point) (a b : List CxrleWord) → last_corner at (a ++ b) ≡ last_corner (last_corner at a) b
 corner_append at [] b = refl
 corner_append at (Corner x y ∷ a) b = corner_append (record { y = y; x = x }) a b
 corner_append at (Generation n ∷ a) b = corner_append at a b
 corner_append at (Nothing ∷ a) b = corner_append at a b
 
-generation_append : (n : ℕ) (a b : List Said) → last_generation n (a ++ b) ≡ last_generation (last_generation n a) b
+generation_append : (n : ℕ) (a b : List CxrleWord) → last_word_generation n (a ++ b) ≡ last_word_generation (last_word_generation n a) b
 generation_append n [] b = refl
 generation_append n (Corner x y ∷ a) b = generation_append n a b
 generation_append n (Generation m ∷ a) b = generation_append m a b
@@ -148,7 +148,7 @@ bad_place word numbers e none =
 
 -- ---- words of a line
 
-pub all_zip_append : (ws vs : List (List ℕ)) (a b : List Said) → AllZip Says ws a → AllZip Says vs b → AllZip Says (ws ++ vs) (a ++ b)
+pub all_zip_append : (ws vs : List (List ℕ)) (a b : List CxrleWord) → AllZip Says ws a → AllZip Says vs b → AllZip Says (ws ++ vs) (a ++ b)
 all_zip_append [] vs [] b p q = q
 all_zip_append (w ∷ ws) vs (s ∷ a) b (p, ps) q = (p, all_zip_append ws vs a b ps q)
 all_zip_append [] vs (s ∷ a) b p q = absurd p
@@ -156,9 +156,9 @@ all_zip_append (w ∷ ws) vs [] b p q = absurd p
 
 -- no words lead nowhere
 pub leads_none : (start : Start) → Leads [] start start
-leads_none start = ([], tt, λ said h. subst (λ (l : List Said). IsStart l start) (sym (append-nil said)) h)
+leads_none start = ([], tt, λ said h. subst (λ (l : List CxrleWord). IsStart l start) (sym (append-nil said)) h)
 
 -- words after words
 pub leads_more : (ws vs : List (List ℕ)) (a b c : Start) → Leads ws a b → Leads vs b c → Leads (ws ++ vs) a c
 leads_more ws vs a b c (m, z, f) (n, y, g) =
-    (m ++ n, all_zip_append ws vs m n z y, λ said h. subst (λ (l : List Said). IsStart l c) (append_assoc said m n) (g (said ++ m) (f said h)))
+    (m ++ n, all_zip_append ws vs m n z y, λ said h. subst (λ (l : List CxrleWord). IsStart l c) (append_assoc said m n) (g (said ++ m) (f said h)))

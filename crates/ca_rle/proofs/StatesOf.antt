@@ -6,7 +6,7 @@ use Rattle.std.proofs.lemmas.List.Elements.{All-head, All-tail}
 use Rattle.ca_plane.specs.declared.point.Point.{Point}
 use Rattle.ca_plane.specs.Plane.{Picture, IsPicture}
 use Rattle.ca_rle.specs.declared.item.Item.{Item}
-use Rattle.ca_rle.specs.Shown.{state_of, run_of, place_after, cells_of, picture_after, picture_of}
+use Rattle.ca_rle.specs.Shown.{tag_state, run_of, place_after, item_cells, picture_after, picture_of_items}
 use Rattle.ca_rle.specs.Tidy.{AreTidy, HaveStates}
 use Rattle.ca_rle.proofs.Gaps.{nonzero}
 
@@ -21,9 +21,9 @@ run_state P s zero at rest some all = absurd (omega arith)
 run_state P s (suc n) at rest some all = All-head (λ (e : Point × ℕ). P e.1) _ _ all
 
 -- and so of the state of each live item
-item_state : (P : ℕ → Type 0) (corner : Point) (before : List Item) (i : Item) (rest : Picture) → 0 < i.count → All (λ e. P e.1) (cells_of corner before i ++ rest) → 0 < state_of i.tag → P (state_of i.tag)
+item_state : (P : ℕ → Type 0) (corner : Point) (before : List Item) (i : Item) (rest : Picture) → 0 < i.count → All (λ e. P e.1) (item_cells corner before i ++ rest) → 0 < tag_state i.tag → P (tag_state i.tag)
 item_state P corner before i rest some all live =
-    run_state P (state_of i.tag) i.count (place_after corner before) rest some (rw (nonzero (state_of i.tag) live) at all)
+    run_state P (tag_state i.tag) i.count (place_after corner before) rest some (rw (nonzero (tag_state i.tag) live) at all)
 
 items_states : (n : ℕ) (corner : Point) (before is : List Item) → AreTidy is → All (λ e. (e.1 ≤ 255) × (e.1 < n)) (picture_after corner before is) → HaveStates n is
 items_states n corner before [] tidy all = tt
@@ -31,7 +31,7 @@ items_states n corner before (i ∷ is) tidy all =
     let some : 0 < i.count = first_count i is tidy in
     let rest = picture_after corner (before ++ i ∷ []) is in
     let here = item_state (λ s. (s ≤ 255) × (s < n)) corner before i rest some all in
-    ((low here, λ live. (here live).1), items_states n corner (before ++ i ∷ []) is (later i is tidy) (all_after (λ (e : Point × ℕ). (e.1 ≤ 255) × (e.1 < n)) (cells_of corner before i) rest all))
+    ((low here, λ live. (here live).1), items_states n corner (before ++ i ∷ []) is (later i is tidy) (all_after (λ (e : Point × ℕ). (e.1 ≤ 255) × (e.1 < n)) (item_cells corner before i) rest all))
   where
     first_count : (i : Item) (is : List Item) → AreTidy (i ∷ is) → 0 < i.count
     first_count i [] tidy = tidy.0
@@ -41,10 +41,10 @@ items_states n corner before (i ∷ is) tidy all =
     later i [] tidy = tt
     later i (j ∷ js) tidy = tidy.3
 
-    low : (0 < state_of i.tag → (state_of i.tag ≤ 255) × (state_of i.tag < n)) → state_of i.tag ≤ 255
-    low here = elim (cases_eq (state_of i.tag) 0) [ inl e ↦ omega (arith, e) | inr e ↦ (here (omega (arith, e))).0 ]
+    low : (0 < tag_state i.tag → (tag_state i.tag ≤ 255) × (tag_state i.tag < n)) → tag_state i.tag ≤ 255
+    low here = elim (cases_eq (tag_state i.tag) 0) [ inl e ↦ omega (arith, e) | inr e ↦ (here (omega (arith, e))).0 ]
 
 -- tidy items whose picture has states from 1 to 255 below a number have states below it
-pub have_states : (n : ℕ) (corner : Point) (p : Picture) (is : List Item) → AreTidy is → picture_of corner is ≡ p → IsPicture p → All (λ e. e.1 < n) p → HaveStates n is
+pub have_states : (n : ℕ) (corner : Point) (p : Picture) (is : List Item) → AreTidy is → picture_of_items corner is ≡ p → IsPicture p → All (λ e. e.1 < n) p → HaveStates n is
 have_states n corner p is tidy shown states below =
     items_states n corner [] is tidy (subst (λ (q : Picture). All (λ e. (e.1 ≤ 255) × (e.1 < n)) q) (sym shown) (λ k d l. ((states k d l).1, below k d l)))

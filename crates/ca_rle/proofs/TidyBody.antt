@@ -7,7 +7,7 @@ use Rattle.ca_rle.specs.declared.item.Item.{Item}
 use Rattle.ca_rle.specs.declared.item.Tag.{Tag}
 use Rattle.ca_rle.specs.declared.item.Tag.TheVariants.{Cell, RowEnd}
 use Rattle.ca_rle.specs.Items.{is_letter, is_prefix, prefixed_state, tag_of, IsWhite, IsCount, IsItem, Items}
-use Rattle.ca_rle.specs.Shown.{state_of}
+use Rattle.ca_rle.specs.Shown.{tag_state}
 use Rattle.ca_rle.specs.File.{ended}
 use Rattle.ca_rle.specs.Tidy.{letters_of, tag_text, count_text, item_text, HaveStates}
 use Rattle.ca_rle.proofs.White.{IsWhite-append}
@@ -58,7 +58,7 @@ short_letter s two =
           rw e (ap (λ n. Some (Cell n)) one)
     ]
 
-pub tag_means : (states : ℕ) (t : Tag) → state_of t ≤ 255 → (0 < state_of t → state_of t < states) → tag_of (tag_text states t) ≡ Some t
+pub tag_means : (states : ℕ) (t : Tag) → tag_state t ≤ 255 → (0 < tag_state t → tag_state t < states) → tag_of (tag_text states t) ≡ Some t
 tag_means states RowEnd high few = refl
 tag_means states (Cell s) high few =
     elim (cases_Bool (states == 2)) [

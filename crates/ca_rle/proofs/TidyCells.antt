@@ -12,9 +12,9 @@ use Rattle.ca_plane.proofs.Pictures.{point-same}
 use Rattle.ca_rle.specs.declared.item.Item.{Item}
 use Rattle.ca_rle.specs.declared.item.Tag.{Tag}
 use Rattle.ca_rle.specs.declared.item.Tag.TheVariants.{Cell, RowEnd}
-use Rattle.ca_rle.specs.Shown.{ends_row, state_of, rows_of, columns_of, run_of, place_after, cells_of, picture_after}
+use Rattle.ca_rle.specs.Shown.{ends_row, tag_state, row_count, columns_of, run_of, place_after, item_cells, picture_after}
 use Rattle.ca_rle.specs.Tidy.{AreTidy}
-use Rattle.ca_rle.proofs.Pushed.{rows_of-push, columns_of-push}
+use Rattle.ca_rle.proofs.Pushed.{row_count-push, columns_of-push}
 
 -- ---- a run of cells before a picture
 
@@ -62,7 +62,7 @@ live_after (e ∷ es) q x y (some, others) live =
 
 -- the cells of an item that begins at a place
 abbrev pub cells_at : Point → Item → Picture
-cells_at at i = if state_of i.tag == 0 then [] else run_of (state_of i.tag) at i.count
+cells_at at i = if tag_state i.tag == 0 then [] else run_of (tag_state i.tag) at i.count
 
 -- the place after an item: further right, or at the left end of a row further down
 abbrev pub next : ℤ → Point → Item → Point
@@ -76,18 +76,18 @@ drawn left at (i ∷ is) = cells_at at i ++ drawn left (next left at i) is
 place_next : (corner : Point) (before : List Item) (n : ℕ) (t : Tag) → place_after corner (before ++ record { count = n; tag = t } ∷ []) ≡ next corner.x (place_after corner before) (record { count = n; tag = t })
 place_next corner before n (Cell s) =
     let i : Item = record { count = n; tag = Cell s } in
-    let rows : rows_of (before ++ i ∷ []) ≡ rows_of before + 0 = rows_of-push before i in
+    let rows : row_count (before ++ i ∷ []) ≡ row_count before + 0 = row_count-push before i in
     let columns : columns_of (before ++ i ∷ []) ≡ columns_of before + n = columns_of-push before i in
     point-same _ _ (omega (arith, ints)) (omega (arith, ints))
 place_next corner before n RowEnd =
     let i : Item = record { count = n; tag = RowEnd } in
-    let rows : rows_of (before ++ i ∷ []) ≡ rows_of before + n = rows_of-push before i in
+    let rows : row_count (before ++ i ∷ []) ≡ row_count before + n = row_count-push before i in
     let columns : columns_of (before ++ i ∷ []) ≡ 0 = columns_of-push before i in
     point-same _ _ (omega (arith, ints)) (omega (arith, ints))
 
 drawn_after : (corner : Point) (before is : List Item) → picture_after corner before is ≡ drawn corner.x (place_after corner before) is
 drawn_after corner before [] = refl
-drawn_after corner before (i ∷ is) = ap (λ p. cells_of corner before i ++ p) (drawn_after corner (before ++ i ∷ []) is ∙ ap (λ at. drawn corner.x at is) (place_next corner before i.count i.tag))
+drawn_after corner before (i ∷ is) = ap (λ p. item_cells corner before i ++ p) (drawn_after corner (before ++ i ∷ []) is ∙ ap (λ at. drawn corner.x at is) (place_next corner before i.count i.tag))
 
 -- the picture of items is what they show from the corner on
 pub picture_drawn : (corner : Point) (is : List Item) → picture_after corner [] is ≡ drawn corner.x corner is
@@ -96,9 +96,9 @@ picture_drawn corner is = drawn_after corner [] is ∙ ap (λ at. drawn corner.x
 -- a place that is none of an item's
 pub item_out : (at : Point) (i : Item) (q : Picture) (x y : ℤ) → ((k : ℕ) → k < i.count → y ≡ at.y → x ≡ at.x +ℤ pos k → ⊥) → cell (cells_at at i ++ q) x y ≡ cell q x y
 item_out at i q x y h =
-    elim (cases_Bool (state_of i.tag == 0)) [
+    elim (cases_Bool (tag_state i.tag == 0)) [
       | inl e ↦ rw e refl
-      | inr e ↦ rw e (run_out (state_of i.tag) at 0 i.count q x y (λ k l row col. h k l row (omega (arith, ints))))
+      | inr e ↦ rw e (run_out (tag_state i.tag) at 0 i.count q x y (λ k l row col. h k l row (omega (arith, ints))))
     ]
 
 -- ---- tidy lists
@@ -141,14 +141,14 @@ in_item left at n (Cell s) k x y l row col = inr (row, omega (arith, ints))
 in_item left at n RowEnd k x y l row col = inl (omega (arith, ints))
 
 -- the first item's places have its state
-pub within : (left : ℤ) (at : Point) (i : Item) (is : List Item) (k : ℕ) (x y : ℤ) → AreTidy (i ∷ is) → k < i.count → y ≡ at.y → x ≡ at.x +ℤ pos k → cell (drawn left at (i ∷ is)) x y ≡ state_of i.tag
+pub within : (left : ℤ) (at : Point) (i : Item) (is : List Item) (k : ℕ) (x y : ℤ) → AreTidy (i ∷ is) → k < i.count → y ≡ at.y → x ≡ at.x +ℤ pos k → cell (drawn left at (i ∷ is)) x y ≡ tag_state i.tag
 within left at i is k x y tidy l row col =
-    elim (cases_Bool (state_of i.tag == 0)) [
-      | inl e ↦ rw e (clear left (next left at i) is x y (tidy_tail i is tidy) (in_item left at i.count i.tag k x y l row col) ∙ sym (eqb-true (state_of i.tag) 0 e))
-      | inr e ↦ rw e (run_in (state_of i.tag) at 0 i.count k _ x y l row (omega (arith, ints)))
+    elim (cases_Bool (tag_state i.tag == 0)) [
+      | inl e ↦ rw e (clear left (next left at i) is x y (tidy_tail i is tidy) (in_item left at i.count i.tag k x y l row col) ∙ sym (eqb-true (tag_state i.tag) 0 e))
+      | inr e ↦ rw e (run_in (tag_state i.tag) at 0 i.count k _ x y l row (omega (arith, ints)))
     ]
 
-other_state : (s : ℕ) (t : Tag) → Cell s ≢ t → (Cell s ≡ Cell 0 → t ≢ RowEnd) → state_of t ≢ s
+other_state : (s : ℕ) (t : Tag) → Cell s ≢ t → (Cell s ≡ Cell 0 → t ≢ RowEnd) → tag_state t ≢ s
 other_state s (Cell u) other dead e = other (ap Cell (sym e))
 other_state s RowEnd other dead e = dead (ap Cell (sym e)) refl
 

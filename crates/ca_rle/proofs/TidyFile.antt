@@ -6,16 +6,16 @@ use Rattle.ca_plane.specs.Plane.{Picture, cell, IsSame}
 use Rattle.ca_plane.specs.Sparse.{IsInPlane}
 use Rattle.ca_rle.specs.declared.item.Item.{Item}
 use Rattle.ca_rle.specs.Header.{extended_words, Says}
-use Rattle.ca_rle.specs.File.{File, ended, IsFile}
-use Rattle.ca_rle.specs.Shown.{picture_of}
-use Rattle.ca_rle.specs.Tidy.{corner_line, header_line, IsTidy}
+use Rattle.ca_rle.specs.File.{RleFile, ended, IsRleFile}
+use Rattle.ca_rle.specs.Shown.{picture_of_items}
+use Rattle.ca_rle.specs.Tidy.{corner_line, header_line, IsTidyRle}
 use Rattle.ca_rle.proofs.OneFile.{one_file}
 use Rattle.ca_rle.proofs.TidyBody.{all_written, text_of, lines_spell}
 use Rattle.ca_rle.proofs.TidyHead.{SaysBoth, corner_line_says, header_line_is, header_line_is_line}
 use Rattle.ca_rle.proofs.TidyReach.{AreNear, IsFrameNear, frame_near, tidy_counts_near}
 
 -- what a tidy text holds
-abbrev pub tidy_file : (text : List ℕ) (cells : Picture) (rule_text : List ℕ) (generation states : ℕ) → IsTidy text cells rule_text generation states → File
+abbrev pub tidy_file : (text : List ℕ) (cells : Picture) (rule_text : List ℕ) (generation states : ℕ) → IsTidyRle text cells rule_text generation states → RleFile
 tidy_file text cells rule_text generation states t = record { corner = t.corner; generation = generation; rule_text = rule_text; items = t.items }
 
 fewer : (far : ℕ) (is : List Item) → far < 2 ^ 63 → AllByRecursion (λ i. (0 < i.count) × (i.count ≤ far + far + 1)) is → AllByRecursion (λ i. (0 < i.count) × (i.count < 2 ^ 64)) is
@@ -26,8 +26,8 @@ in_parts : (a b c : List ℕ) → ended a ++ (ended b ++ c) ≡ (ended a ++ []) 
 in_parts a b c = simp (append_assoc, append-nil)
 
 -- where each live cell is near the origin, so that each number has its decimal form
-pub tidy_is_file : (far : ℕ) (text : List ℕ) (cells : Picture) (rule_text : List ℕ) (generation states : ℕ) (t : IsTidy text cells rule_text generation states)
-    → far < 2 ^ 63 → AreNear far cells → IsWord rule_text → generation < 2 ^ 63 → IsFile text (tidy_file text cells rule_text generation states t)
+pub tidy_is_file : (far : ℕ) (text : List ℕ) (cells : Picture) (rule_text : List ℕ) (generation states : ℕ) (t : IsTidyRle text cells rule_text generation states)
+    → far < 2 ^ 63 → AreNear far cells → IsWord rule_text → generation < 2 ^ 63 → IsRleFile text (tidy_file text cells rule_text generation states t)
 tidy_is_file far text cells rule_text generation states t small near word low =
     let frame : IsFrameNear far t.corner t.width t.height = frame_near far cells t.corner t.width t.height near t.frame in
     let counts = tidy_counts_near far cells t.corner t.items near frame.x frame.y t.tidy t.shown in
@@ -64,22 +64,22 @@ tidy_is_file far text cells rule_text generation states t small near word low =
 near_in_plane : (cells : Picture) → ((x y : ℤ) → cell cells x y ≢ 0 → IsInPlane (record { y = y; x = x })) → AreNear (2 ^ 62) cells
 near_in_plane cells within x y live = let h = within x y live in ((h.0, h.1), (h.2, h.3))
 
-pub file_of_tidy : (text : List ℕ) (cells : Picture) (rule_text : List ℕ) (generation states : ℕ) (t : IsTidy text cells rule_text generation states)
-    → IsWord rule_text → generation < 2 ^ 63 → ((x y : ℤ) → cell cells x y ≢ 0 → IsInPlane (record { y = y; x = x })) → IsFile text (tidy_file text cells rule_text generation states t)
+pub file_of_tidy : (text : List ℕ) (cells : Picture) (rule_text : List ℕ) (generation states : ℕ) (t : IsTidyRle text cells rule_text generation states)
+    → IsWord rule_text → generation < 2 ^ 63 → ((x y : ℤ) → cell cells x y ≢ 0 → IsInPlane (record { y = y; x = x })) → IsRleFile text (tidy_file text cells rule_text generation states t)
 file_of_tidy text cells rule_text generation states t word low within = tidy_is_file (2 ^ 62) text cells rule_text generation states t (omega arith) (near_in_plane cells within) word low
 
 -- the file has this plane, rule text and generation
-abbrev pub Holds : File → Picture → List ℕ → ℕ → Type 0
-Holds file cells rule_text generation = IsSame cells (picture_of file.corner file.items) × (file.rule_text ≡ rule_text) × (file.generation ≡ generation)
+abbrev pub Holds : RleFile → Picture → List ℕ → ℕ → Type 0
+Holds file cells rule_text generation = IsSame cells (picture_of_items file.corner file.items) × (file.rule_text ≡ rule_text) × (file.generation ≡ generation)
 
-pub tidy_holds : (text : List ℕ) (cells : Picture) (rule_text : List ℕ) (generation states : ℕ) (t : IsTidy text cells rule_text generation states)
+pub tidy_holds : (text : List ℕ) (cells : Picture) (rule_text : List ℕ) (generation states : ℕ) (t : IsTidyRle text cells rule_text generation states)
     → Holds (tidy_file text cells rule_text generation states t) cells rule_text generation
 tidy_holds text cells rule_text generation states t = (t.shown, refl, refl)
 
 -- and so has each file of the text
-pub only_of_tidy : (text : List ℕ) (cells : Picture) (rule_text : List ℕ) (generation states : ℕ) → IsTidy text cells rule_text generation states
+pub only_of_tidy : (text : List ℕ) (cells : Picture) (rule_text : List ℕ) (generation states : ℕ) → IsTidyRle text cells rule_text generation states
     → IsWord rule_text → generation < 2 ^ 63 → ((x y : ℤ) → cell cells x y ≢ 0 → IsInPlane (record { y = y; x = x }))
-    → (file : File) → IsFile text file → Holds file cells rule_text generation
+    → (file : RleFile) → IsRleFile text file → Holds file cells rule_text generation
 only_of_tidy text cells rule_text generation states t word low within file is =
     let same = one_file text (tidy_file text cells rule_text generation states t) file (file_of_tidy text cells rule_text generation states t word low within) is in
     subst (λ f. Holds f cells rule_text generation) same (tidy_holds text cells rule_text generation states t)

@@ -7,7 +7,7 @@ use Rattle.std.proofs.lemmas.Bool.Decides.{nat_tests}
 use Rattle.ca_plane.specs.declared.point.Point.{Point}
 use Rattle.ca_plane.specs.Bytes.{is_blank, is_line_end, is_digit, is_word_byte, is_end_or, Every, words_of, IsWord, AreDigits, IsInteger}
 use Rattle.ca_plane.proofs.Lines.{words_ahead, words_next}
-use Rattle.ca_rle.specs.Header.{IsSpaced, size_parts, rule_parts, IsHeader, is_comment, words_after_cxrle, extended_words, Said, Corner, Generation, Says}
+use Rattle.ca_rle.specs.Header.{IsSpaced, size_parts, rule_parts, IsHeader, is_front_line, words_after_cxrle, extended_words, CxrleWord, Corner, Generation, Says}
 use Rattle.ca_rle.specs.File.{IsLine, corner_of, generation_of}
 use Rattle.ca_rle.specs.Tidy.{generation_text, corner_line, header_line}
 use Rattle.ca_plane.proofs.Fronts.{every_append, every_wider, every_digit}
@@ -37,7 +37,7 @@ pos_is_word a b p q = every_append is_word_byte a (44 ∷ b) p q
 
 -- what stands after the corner's word says the generation
 record SaysCount (bytes : List ℕ) (count : ℕ) : Type 0 where
-  said : List Said
+  said : List CxrleWord
   blank_first : is_end_or is_blank bytes ≡ true
   words : AllZip Says (words_of bytes) said
   line : IsLine bytes
@@ -78,9 +78,9 @@ generation_says count small =
 
 -- the line is a comment that says the corner and the generation
 pub record SaysBoth (line : List ℕ) (corner : Point) (generation : ℕ) : Type 0 where
-  pub said : List Said
+  pub said : List CxrleWord
   pub is_line : IsLine line
-  pub comment : is_comment line ≡ true
+  pub comment : is_front_line line ≡ true
   pub words : AllZip Says (extended_words line) said
   pub corner_is : corner_of said ≡ corner
   pub generation_is : generation_of said ≡ generation

@@ -8,11 +8,11 @@ use Rattle.ca_plane.specs.Bytes.{IsWord}
 use Rattle.ca_plane.specs.Plane.{Picture, cell}
 use Rattle.ca_plane.proofs.Pictures.{Contains-cell, cell-first}
 use Rattle.ca_rle.specs.declared.item.Item.{Item}
-use Rattle.ca_rle.specs.File.{File, IsFile}
-use Rattle.ca_rle.specs.Limits.{IsWithinRange, IsWithinLimits}
+use Rattle.ca_rle.specs.File.{RleFile, IsRleFile}
+use Rattle.ca_rle.specs.Limits.{IsRleWithinRange, IsWithinLimits}
 use Rattle.ca_plane.specs.Limits.{IsInRange}
-use Rattle.ca_rle.specs.Shown.{picture_of}
-use Rattle.ca_rle.specs.Tidy.{IsFrame, IsTidy}
+use Rattle.ca_rle.specs.Shown.{picture_of_items}
+use Rattle.ca_rle.specs.Tidy.{IsFrame, IsTidyRle}
 use Rattle.ca_rle.proofs.Spans.{all_append}
 use Rattle.ca_rle.proofs.OneFile.{one_file}
 use Rattle.ca_rle.proofs.TidyCells.{live_after, cells_at, next, drawn, picture_drawn}
@@ -52,34 +52,34 @@ near_in_range cells within x y live =
     let h = within x y live in
     ((h.0, omega (arith, ints, h.1)), (h.2, omega (arith, ints, h.3)))
 
-pub tidy_within_range : (text : List ℕ) (cells : Picture) (rule_text : List ℕ) (generation states : ℕ) (t : IsTidy text cells rule_text generation states)
-    → AreInRange cells → IsWithinRange (tidy_file text cells rule_text generation states t)
+pub tidy_within_range : (text : List ℕ) (cells : Picture) (rule_text : List ℕ) (generation states : ℕ) (t : IsTidyRle text cells rule_text generation states)
+    → AreInRange cells → IsRleWithinRange (tidy_file text cells rule_text generation states t)
 tidy_within_range text cells rule_text generation states t within =
     let near = near_in_range cells within in
     let frame : IsFrameNear (2 ^ 60) t.corner t.width t.height = frame_near (2 ^ 60) cells t.corner t.width t.height near t.frame in
     record {
       counts = few_counts t.items (tidy_counts_near (2 ^ 60) cells t.corner t.items near frame.x frame.y t.tidy t.shown);
       corner = corner_in_range cells t.corner t.width t.height within t.frame;
-      cells = listed_in_range (picture_of t.corner t.items) (subst (λ p. AllByRecursion (λ e. e.1 ≢ 0) p) (sym (picture_drawn t.corner t.items)) (drawn_states t.corner.x t.corner t.items))
+      cells = listed_in_range (picture_of_items t.corner t.items) (subst (λ p. AllByRecursion (λ e. e.1 ≢ 0) p) (sym (picture_drawn t.corner t.items)) (drawn_states t.corner.x t.corner t.items))
           (λ x y live. within x y (λ z. live (sym (t.shown x y) ∙ z)));
     }
 
-pub file_in_range : (text : List ℕ) (cells : Picture) (rule_text : List ℕ) (generation states : ℕ) (t : IsTidy text cells rule_text generation states)
-    → IsWord rule_text → generation < 2 ^ 63 → AreInRange cells → IsFile text (tidy_file text cells rule_text generation states t)
+pub file_in_range : (text : List ℕ) (cells : Picture) (rule_text : List ℕ) (generation states : ℕ) (t : IsTidyRle text cells rule_text generation states)
+    → IsWord rule_text → generation < 2 ^ 63 → AreInRange cells → IsRleFile text (tidy_file text cells rule_text generation states t)
 file_in_range text cells rule_text generation states t word low within = tidy_is_file (2 ^ 60) text cells rule_text generation states t (omega arith) (near_in_range cells within) word low
 
 -- and so is each file of the text
-pub only_in_range : (text : List ℕ) (cells : Picture) (rule_text : List ℕ) (generation states : ℕ) → IsTidy text cells rule_text generation states
-    → IsWord rule_text → generation < 2 ^ 63 → AreInRange cells → (file : File) → IsFile text file → IsWithinRange file
+pub only_in_range : (text : List ℕ) (cells : Picture) (rule_text : List ℕ) (generation states : ℕ) → IsTidyRle text cells rule_text generation states
+    → IsWord rule_text → generation < 2 ^ 63 → AreInRange cells → (file : RleFile) → IsRleFile text file → IsRleWithinRange file
 only_in_range text cells rule_text generation states t word low within file is =
     let same = one_file text (tidy_file text cells rule_text generation states t) file (file_in_range text cells rule_text generation states t word low within) is in
-    subst IsWithinRange same (tidy_within_range text cells rule_text generation states t within)
+    subst IsRleWithinRange same (tidy_within_range text cells rule_text generation states t within)
 
 -- where each listed cell is in range, each live cell is
 pub listed_range : (cells : Picture) → All (λ e. IsInRange e.0) cells → AreInRange cells
 listed_range cells all x y live = All-contains (λ e. IsInRange e.0) cells _ all (Contains-cell cells x y live)
 
 -- a file that lists so few cells passes no limit, nor does another file of the text, since there is none
-pub within_limits : (text : List ℕ) (given file : File) (cells : Picture) → IsFile text given → IsWithinRange given → picture_of given.corner given.items ≡ cells → length cells ≤ 2 ^ 24
-    → IsFile text file → IsWithinLimits file
+pub within_limits : (text : List ℕ) (given file : RleFile) (cells : Picture) → IsRleFile text given → IsRleWithinRange given → picture_of_items given.corner given.items ≡ cells → length cells ≤ 2 ^ 24
+    → IsRleFile text file → IsWithinLimits file
 within_limits text given file cells is range shown few other = subst IsWithinLimits (one_file text given file is other) (range, subst (λ (p : Picture). length p ≤ 2 ^ 24) (sym shown) few)

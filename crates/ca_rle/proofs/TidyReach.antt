@@ -8,7 +8,7 @@ use Rattle.ca_plane.specs.Plane.{Picture, cell, IsSame}
 use Rattle.ca_rle.specs.declared.item.Item.{Item}
 use Rattle.ca_rle.specs.declared.item.Tag.{Tag}
 use Rattle.ca_rle.specs.declared.item.Tag.TheVariants.{Cell, RowEnd}
-use Rattle.ca_rle.specs.Shown.{state_of, picture_of}
+use Rattle.ca_rle.specs.Shown.{tag_state, picture_of_items}
 use Rattle.ca_rle.specs.Tidy.{AreTidy, IsFrame}
 use Rattle.ca_rle.proofs.Spans.{all_run}
 use Rattle.ca_plane.proofs.Decimals.{IsNear}
@@ -50,9 +50,9 @@ frame_near far cells corner width height near (inr (box, least, at, w, h)) =
 -- an item lists no dead cells
 pub live_states : (at : Point) (i : Item) → AllByRecursion (λ e. e.1 ≢ 0) (cells_at at i)
 live_states at i =
-    elim (cases_Bool (state_of i.tag == 0)) [
+    elim (cases_Bool (tag_state i.tag == 0)) [
       | inl e ↦ rw e tt
-      | inr e ↦ let some = eqb-false (state_of i.tag) 0 e in rw e (all_run (λ e. e.1 ≢ 0) _ 0 i.count (λ k l. some))
+      | inr e ↦ let some = eqb-false (tag_state i.tag) 0 e in rw e (all_run (λ e. e.1 ≢ 0) _ 0 i.count (λ k l. some))
     ]
 
 -- the columns and rows from which items go on, and those where their live cells end
@@ -95,7 +95,7 @@ counts_near far left at (i ∷ is) tidy b =
     ((tidy_counts i is tidy, count_near far left at i.count i.tag is tidy b), counts_near far left (next left at i) is (tidy_tail i is tidy) (between_next far left at i is b))
 
 -- no count of a tidy list is 0, or greater than the square of its live cells is wide
-pub tidy_counts_near : (far : ℕ) (cells : Picture) (corner : Point) (is : List Item) → AreNear far cells → IsNear far corner.x → IsNear far corner.y → AreTidy is → IsSame cells (picture_of corner is)
+pub tidy_counts_near : (far : ℕ) (cells : Picture) (corner : Point) (is : List Item) → AreNear far cells → IsNear far corner.x → IsNear far corner.y → AreTidy is → IsSame cells (picture_of_items corner is)
     → AllByRecursion (λ i. (0 < i.count) × (i.count ≤ far + far + 1)) is
 tidy_counts_near far cells corner is near x y tidy same =
     counts_near far corner.x corner is tidy (record {

@@ -7,8 +7,8 @@ use Rattle.ca_plane.specs.Plane.{Picture, cell}
 use Rattle.ca_plane.specs.Puts.{Puts}
 use Rattle.ca_rle.specs.declared.item.Item.{Item}
 use Rattle.ca_rle.specs.File.{ended}
-use Rattle.ca_rle.specs.Shown.{picture_of}
-use Rattle.ca_rle.specs.Tidy.{AreTidy, HaveStates, IsFrame, corner_line, header_line, item_text, IsTidy}
+use Rattle.ca_rle.specs.Shown.{picture_of_items}
+use Rattle.ca_rle.specs.Tidy.{AreTidy, HaveStates, IsFrame, corner_line, header_line, item_text, IsTidyRle}
 use Rattle.ca_rle.specs.inner.Written.{IsPlaced, PutsLines}
 use Rattle.ca_rle.proofs.Laid.{IsLaid, laid_more, laid_end}
 
@@ -27,8 +27,8 @@ lines_end start text mid new filled now states i items laid all placed end =
 abbrev pub tidy_text : (none first second text rule_text : List ℕ) (cells : Picture) (generation states : ℕ) (corner : Point) (width height : ℕ) (items given : List Item)
     → none ≡ [] → Puts none first (ended (corner_line corner generation)) → Puts first second (ended (header_line width height rule_text))
     → given ≡ items → PutsLines second text (map (item_text states) given ++ codes "!" ∷ [])
-    → IsFrame cells corner width height → picture_of corner items ≡ cells → AreTidy items → HaveStates states items
-    → IsTidy text cells rule_text generation states
+    → IsFrame cells corner width height → picture_of_items corner items ≡ cells → AreTidy items → HaveStates states items
+    → IsTidyRle text cells rule_text generation states
 tidy_text none first second text rule_text cells generation states corner width height items given empty one two same lines frame shown tidy have = record {
   corner = corner;
   width = width;

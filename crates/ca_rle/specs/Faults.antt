@@ -8,10 +8,10 @@ use Rattle.ca_rle.specs.declared.fault.RleFault.{RleFault}
 use Rattle.ca_rle.specs.declared.fault.RleFault.TheVariants.{Syntax, Header, XlifeRule, NoEnd, BadState, GenTooLarge, Range, TooManyCells, Memory}
 use Rattle.ca_rle.specs.declared.item.Item.{Item}
 use Rattle.ca_rle.specs.Items.{is_letter, is_prefix, prefixed_state, tag_of, Place, AtStart, InLine, InComment, Run}
-use Rattle.ca_rle.specs.Header.{IsHeader, is_comment, extended_words, Said, Corner, Says, IsXlifeLine}
+use Rattle.ca_rle.specs.Header.{IsHeader, is_front_line, extended_words, CxrleWord, Corner, Says, IsXlifeLine}
 use Rattle.ca_plane.specs.Limits.{generation_limit}
-use Rattle.ca_rle.specs.File.{File, FollowsPreamble, IsHeaded, IsFile}
-use Rattle.ca_rle.specs.Limits.{IsOutOfRange, HasTooManyCells}
+use Rattle.ca_rle.specs.File.{RleFile, FollowsPreamble, IsHeaded, IsRleFile}
+use Rattle.ca_rle.specs.Limits.{IsRleOutOfRange, HasTooManyRleCells}
 
 -- a word of a `#CXRLE` line that begins as `Pos=` or `Gen=` and isn't of that form, or whose generation is too large
 abbrev pub IsBadWord : List ℕ → RleFault → Type 0
@@ -24,15 +24,15 @@ IsBadWord word fault = ⊥
 -- a bad word stands after good lines and good words
 pub record HasBadWord (bytes : List ℕ) (fault : RleFault) : Type 0 where
   pub lines : List (List ℕ)
-  pub said : List Said
+  pub said : List CxrleWord
   pub line : List ℕ
   pub good : List (List ℕ)
-  pub good_said : List Said
+  pub good_said : List CxrleWord
   pub word : List ℕ
   pub later : List (List ℕ)
   pub more : List ℕ
   pub follows : FollowsPreamble bytes lines said line more
-  pub comment : is_comment line ≡ true
+  pub comment : is_front_line line ≡ true
   pub words : extended_words line ≡ good ++ word ∷ later
   pub good_words : AllZip Says good good_said
   pub bad : IsBadWord word fault
@@ -40,18 +40,18 @@ pub record HasBadWord (bytes : List ℕ) (fault : RleFault) : Type 0 where
 -- a line that is neither a comment nor a header stands after good lines, or the bytes end
 pub record HasNoHeader (bytes : List ℕ) : Type 0 where
   pub lines : List (List ℕ)
-  pub said : List Said
+  pub said : List CxrleWord
   pub line : List ℕ
   pub more : List ℕ
   pub follows : FollowsPreamble bytes lines said line more
   pub no_header : (rule : Option (List ℕ)) → IsHeader line rule → ⊥
   -- the line is no comment, or it is one with good words and the last of the text
-  pub no_comment_or_last : (is_comment line ≡ false) ⊎ ((more ≡ []) × ((last : List Said) × AllZip Says (extended_words line) last))
+  pub no_comment_or_last : (is_front_line line ≡ false) ⊎ ((more ≡ []) × ((last : List CxrleWord) × AllZip Says (extended_words line) last))
 
 -- a header without a rule stands after good lines, one of which gives XLife's rule
 pub record HasXlifeRule (bytes : List ℕ) : Type 0 where
   pub lines : List (List ℕ)
-  pub said : List Said
+  pub said : List CxrleWord
   pub header : List ℕ
   pub body : List ℕ
   pub xlife : List ℕ
@@ -99,7 +99,7 @@ item_fault bytes = count_fault (front is_digit (after_white InLine bytes)) (rest
 
 -- a bad item stands after a good header and good items, or the bytes end
 pub record HasBadItem (bytes : List ℕ) (fault : RleFault) : Type 0 where
-  pub said : List Said
+  pub said : List CxrleWord
   pub rule : Option (List ℕ)
   pub body : List ℕ
   pub items : List Item
@@ -109,18 +109,18 @@ pub record HasBadItem (bytes : List ℕ) (fault : RleFault) : Type 0 where
   pub fault_is : item_fault bad ≡ Some fault
 
 -- the first fault in the spelling of a text; the limits are no part of the spelling
-abbrev pub IsFirstFault : List ℕ → RleFault → Type 0
-IsFirstFault bytes Header = HasNoHeader bytes
-IsFirstFault bytes XlifeRule = HasXlifeRule bytes
-IsFirstFault bytes GenTooLarge = HasBadWord bytes GenTooLarge
-IsFirstFault bytes Syntax = HasBadWord bytes Syntax ⊎ HasBadItem bytes Syntax
-IsFirstFault bytes NoEnd = HasBadItem bytes NoEnd
-IsFirstFault bytes BadState = HasBadItem bytes BadState
-IsFirstFault bytes fault = ⊥
+abbrev pub IsFirstRleFault : List ℕ → RleFault → Type 0
+IsFirstRleFault bytes Header = HasNoHeader bytes
+IsFirstRleFault bytes XlifeRule = HasXlifeRule bytes
+IsFirstRleFault bytes GenTooLarge = HasBadWord bytes GenTooLarge
+IsFirstRleFault bytes Syntax = HasBadWord bytes Syntax ⊎ HasBadItem bytes Syntax
+IsFirstRleFault bytes NoEnd = HasBadItem bytes NoEnd
+IsFirstRleFault bytes BadState = HasBadItem bytes BadState
+IsFirstRleFault bytes fault = ⊥
 
 -- the fault of a text: the first in its spelling, else the first limit that it passes; of running out of memory nothing is said here
-abbrev pub IsFaultOf : List ℕ → RleFault → Type 0
-IsFaultOf bytes Range = (file : File) × IsFile bytes file × IsOutOfRange file
-IsFaultOf bytes TooManyCells = (file : File) × IsFile bytes file × HasTooManyCells file
-IsFaultOf bytes Memory = Unit {0}
-IsFaultOf bytes fault = IsFirstFault bytes fault
+abbrev pub IsRleFault : List ℕ → RleFault → Type 0
+IsRleFault bytes Range = (file : RleFile) × IsRleFile bytes file × IsRleOutOfRange file
+IsRleFault bytes TooManyCells = (file : RleFile) × IsRleFile bytes file × HasTooManyRleCells file
+IsRleFault bytes Memory = Unit {0}
+IsRleFault bytes fault = IsFirstRleFault bytes fault

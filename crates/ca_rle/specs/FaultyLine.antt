@@ -6,7 +6,7 @@ use Rattle.ca_plane.specs.Bytes.{is_line_end}
 use Rattle.ca_rle.specs.declared.fault.RleFault.{RleFault}
 use Rattle.ca_rle.specs.declared.fault.RleFault.TheVariants.{Syntax, Header, XlifeRule, NoEnd, BadState, GenTooLarge}
 use Rattle.ca_rle.specs.Items.{InLine}
-use Rattle.ca_rle.specs.Faults.{after_white, HasBadWord, HasNoHeader, HasXlifeRule, HasBadItem, IsFirstFault, IsFaultOf}
+use Rattle.ca_rle.specs.Faults.{after_white, HasBadWord, HasNoHeader, HasXlifeRule, HasBadItem, IsFirstRleFault, IsRleFault}
 
 -- the line of the bad word and what stands after it
 abbrev pub HasBadWordAt : List ℕ → RleFault → List ℕ → Type 0
@@ -36,17 +36,17 @@ IsFirstFaultAt bytes fault rest = ⊥
 
 -- the number, from 1 on, of the line on which the rest of a text begins: one more than the LFs before it.
 -- The end of a text stands on the line of the text's last byte, and the empty text has line 1.
-abbrev pub line_of : List ℕ → List ℕ → ℕ
-line_of text rest = 1 + count_by is_line_end (take (length text - max 1 (length rest)) text)
+abbrev pub line_number_of : List ℕ → List ℕ → ℕ
+line_number_of text rest = 1 + count_by is_line_end (take (length text - max 1 (length rest)) text)
 
 -- the first fault in the spelling of a text, and the number of the line on which it stands
-abbrev pub IsFirstFaultOn : List ℕ → RleFault → ℕ → Type 0
-IsFirstFaultOn bytes fault line = (rest : List ℕ) × IsFirstFaultAt bytes fault rest × (line ≡ line_of bytes rest)
+abbrev pub IsFirstRleFaultOn : List ℕ → RleFault → ℕ → Type 0
+IsFirstRleFaultOn bytes fault line = (rest : List ℕ) × IsFirstFaultAt bytes fault rest × (line ≡ line_number_of bytes rest)
 
 -- the number of the line on which the first fault in the spelling of a text stands
-abbrev pub IsFaultyLine : List ℕ → ℕ → Type 0
-IsFaultyLine bytes line = (fault : RleFault) × IsFirstFaultOn bytes fault line
+abbrev pub IsFaultyRleLine : List ℕ → ℕ → Type 0
+IsFaultyRleLine bytes line = (fault : RleFault) × IsFirstRleFaultOn bytes fault line
 
 -- the fault of a text, and the number of the line on which it stands: none for a fault that isn't in the spelling
-abbrev pub IsFaultOn : List ℕ → RleFault → Option ℕ → Type 0
-IsFaultOn bytes fault line = IsFaultOf bytes fault × MatchOption line (IsFirstFault bytes fault → ⊥) (IsFirstFaultOn bytes fault)
+abbrev pub IsRleFaultOn : List ℕ → RleFault → Option ℕ → Type 0
+IsRleFaultOn bytes fault line = IsRleFault bytes fault × MatchOption line (IsFirstRleFault bytes fault → ⊥) (IsFirstRleFaultOn bytes fault)

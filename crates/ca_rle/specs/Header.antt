@@ -12,15 +12,15 @@ pub data Part : Type 0 where
   Number : Part
 
 -- the bytes of a part
-abbrev pub IsPart : Part → List ℕ → Type 0
-IsPart (Exactly text) bytes = bytes ≡ text
-IsPart Number bytes = AreDigits bytes
+abbrev pub IsHeaderPart : Part → List ℕ → Type 0
+IsHeaderPart (Exactly text) bytes = bytes ≡ text
+IsHeaderPart Number bytes = AreDigits bytes
 
 -- the parts one after another, with blanks before each and after the last
 abbrev pub IsSpaced : List Part → List ℕ → Type 0
 IsSpaced [] bytes = Every is_blank bytes
 IsSpaced (p ∷ ps) bytes = (blanks : List ℕ) × (part : List ℕ) × (more : List ℕ) ×
-    Every is_blank blanks × IsPart p part × IsSpaced ps more × (bytes ≡ blanks ++ (part ++ more))
+    Every is_blank blanks × IsHeaderPart p part × IsSpaced ps more × (bytes ≡ blanks ++ (part ++ more))
 
 -- `,` `rule` `=`
 abbrev pub rule_parts : List Part
@@ -40,8 +40,8 @@ IsHeader line (Some text) = (front : List ℕ) × (ignored : List ℕ) ×
     IsSpaced (size_parts rule_parts) front × IsWord text × IsTrue (is_end_or is_blank ignored) × (line ≡ front ++ (text ++ ignored))
 
 -- a line that may stand before the header: it is blank, or its first byte that is no blank is `#`
-abbrev pub is_comment : List ℕ → Bool
-is_comment line = is_end_or (λ b. b == letter "#") (rest is_blank line)
+abbrev pub is_front_line : List ℕ → Bool
+is_front_line line = is_end_or (λ b. b == letter "#") (rest is_blank line)
 
 -- the words after `#CXRLE`, where that is the first word of the line
 abbrev pub words_after_cxrle : List (List ℕ) → List (List ℕ)
@@ -53,13 +53,13 @@ abbrev pub extended_words : List ℕ → List (List ℕ)
 extended_words line = words_after_cxrle (words_of line)
 
 -- what a word of a `#CXRLE` line says
-pub data Said : Type 0 where
-  Corner : (x y : ℤ) → Said
-  Generation : (count : ℕ) → Said
-  Nothing : Said
+pub data CxrleWord : Type 0 where
+  Corner : (x y : ℤ) → CxrleWord
+  Generation : (count : ℕ) → CxrleWord
+  Nothing : CxrleWord
 
 -- `Pos=X,Y` is the corner, `Gen=G` the generation, below its limit; other words say nothing
-abbrev pub Says : List ℕ → Said → Type 0
+abbrev pub Says : List ℕ → CxrleWord → Type 0
 Says word (Corner x y) = (a : List ℕ) × (b : List ℕ) × (word ≡ codes "Pos=" ++ (a ++ letter "," ∷ b)) × IsInteger a x × IsInteger b y
 Says word (Generation count) = (digits : List ℕ) × (word ≡ codes "Gen=" ++ digits) × AreDigits digits × (count ≡ value digits) × (count < generation_limit)
 Says word Nothing = (starts_with nat_eq word (codes "Pos=") ≡ false) × (starts_with nat_eq word (codes "Gen=") ≡ false)

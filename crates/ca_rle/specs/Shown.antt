@@ -13,13 +13,13 @@ ends_row (Cell state) = false
 ends_row RowEnd = true
 
 -- the state of a tag's cells; a row end has none
-abbrev pub state_of : Tag → ℕ
-state_of (Cell state) = state
-state_of RowEnd = 0
+abbrev pub tag_state : Tag → ℕ
+tag_state (Cell state) = state
+tag_state RowEnd = 0
 
 -- how many rows down the items lead: the sum of the counts of all row ends
-abbrev pub rows_of : List Item → ℕ
-rows_of items = sum_by (λ i. if ends_row i.tag then i.count else 0) items
+abbrev pub row_count : List Item → ℕ
+row_count items = sum_by (λ i. if ends_row i.tag then i.count else 0) items
 
 -- how far right the items lead: the sum of the counts of the cell items after the last row end
 abbrev pub columns_of : List Item → ℕ
@@ -31,17 +31,17 @@ run_of state at count = map (λ k. (record { y = at.y; x = at.x +ℤ pos k }, st
 
 -- where the item after these begins
 abbrev pub place_after : Point → List Item → Point
-place_after corner before = record { y = corner.y +ℤ pos (rows_of before); x = corner.x +ℤ pos (columns_of before) }
+place_after corner before = record { y = corner.y +ℤ pos (row_count before); x = corner.x +ℤ pos (columns_of before) }
 
 -- the cells of one item, after the items before it; dead cells and row ends have none
-abbrev pub cells_of : Point → List Item → Item → Picture
-cells_of corner before item = if state_of item.tag == 0 then [] else run_of (state_of item.tag) (place_after corner before) item.count
+abbrev pub item_cells : Point → List Item → Item → Picture
+item_cells corner before item = if tag_state item.tag == 0 then [] else run_of (tag_state item.tag) (place_after corner before) item.count
 
 -- the cells of items that stand after others
 abbrev pub picture_after : Point → List Item → List Item → Picture
 picture_after corner before [] = []
-picture_after corner before (i ∷ is) = cells_of corner before i ++ picture_after corner (before ++ i ∷ []) is
+picture_after corner before (i ∷ is) = item_cells corner before i ++ picture_after corner (before ++ i ∷ []) is
 
 -- the picture of a list of items, whose first cell is at the corner
-abbrev pub picture_of : Point → List Item → Picture
-picture_of corner items = picture_after corner [] items
+abbrev pub picture_of_items : Point → List Item → Picture
+picture_of_items corner items = picture_after corner [] items

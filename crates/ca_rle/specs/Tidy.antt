@@ -10,7 +10,7 @@ use Rattle.ca_plane.specs.Box.{IsLeastBox}
 use Rattle.ca_rle.specs.declared.item.Item.{Item}
 use Rattle.ca_rle.specs.declared.item.Tag.{Tag}
 use Rattle.ca_rle.specs.declared.item.Tag.TheVariants.{Cell, RowEnd}
-use Rattle.ca_rle.specs.Shown.{state_of, picture_of}
+use Rattle.ca_rle.specs.Shown.{tag_state, picture_of_items}
 use Rattle.ca_rle.specs.File.{ended}
 
 -- the letters of a state, where there may be more than two: `.` for 0, `A` to `X` for 1 to 24, and then 24 for each prefix from `p` on
@@ -36,12 +36,12 @@ item_text states item = count_text item.count ++ tag_text states item.tag
 -- no two items side by side that could be one, no dead cells at the end of a row, live cells last, and no count of 0
 abbrev pub AreTidy : List Item → Type 0
 AreTidy [] = Unit {0}
-AreTidy (i ∷ []) = (0 < i.count) × (0 < state_of i.tag)
+AreTidy (i ∷ []) = (0 < i.count) × (0 < tag_state i.tag)
 AreTidy (i ∷ j ∷ is) = (0 < i.count) × (i.tag ≢ j.tag) × (i.tag ≡ Cell 0 → j.tag ≢ RowEnd) × AreTidy (j ∷ is)
 
 -- each state is below the number of states, and a byte
 abbrev pub HaveStates : ℕ → List Item → Type 0
-HaveStates states items = AllByRecursion (λ i. (state_of i.tag ≤ 255) × (0 < state_of i.tag → state_of i.tag < states)) items
+HaveStates states items = AllByRecursion (λ i. (tag_state i.tag ≤ 255) × (0 < tag_state i.tag → tag_state i.tag < states)) items
 
 -- the characters of the first of these items; none where there is none
 abbrev pub first_text : List (List ℕ) → List ℕ
@@ -78,14 +78,14 @@ abbrev pub header_line : ℕ → ℕ → List ℕ → List ℕ
 header_line width height rule_text = codes "x = " ++ (decimal width ++ (codes ", y = " ++ (decimal height ++ (codes ", rule = " ++ rule_text))))
 
 -- the one text of a plane, its rule text, its generation and its rule's number of states
-pub record IsTidy (text : List ℕ) (cells : Picture) (rule_text : List ℕ) (generation states : ℕ) : Type 0 where
+pub record IsTidyRle (text : List ℕ) (cells : Picture) (rule_text : List ℕ) (generation states : ℕ) : Type 0 where
   pub corner : Point
   pub width : ℕ
   pub height : ℕ
   pub items : List Item
   pub lines : List (List (List ℕ))
   pub frame : IsFrame cells corner width height
-  pub shown : IsSame cells (picture_of corner items)
+  pub shown : IsSame cells (picture_of_items corner items)
   pub tidy : AreTidy items
   pub have_states : HaveStates states items
   -- the lines hold the items, one after another, and then `!`

@@ -7,8 +7,8 @@ ghost use Rattle.ca_rle.specs.declared.item.Item.{Item};
 ghost use Rattle.ca_rle.specs.declared.fault.RleFault.{RleFault};
 ghost use Rattle.ca_rle.specs.Items.{IsEnd, Items};
 ghost use Rattle.ca_rle.specs.Faults.{item_fault};
-ghost use Rattle.ca_rle.specs.Shown.{state_of, run_of, picture_of};
-ghost use Rattle.ca_rle.specs.Limits.{IsWithinRange};
+ghost use Rattle.ca_rle.specs.Shown.{tag_state, run_of, picture_of_items};
+ghost use Rattle.ca_rle.specs.Limits.{IsRleWithinRange};
 ghost use Rattle.ca_plane.specs.Limits.{IsInRange};
 ghost use Rattle.ca_rle.specs.inner.BodyFaults.{IsItemAtFront, bare_file};
 ghost use Rattle.ca_rle.specs.inner.Extent.{point_from, HasRoom, cells_from};
@@ -38,7 +38,7 @@ fn set_run(plane: &mut Plane, at: Point, count: u64, state: u8) -> Result<(), Me
 /// Writes the cells of an item that begins at an offset from the corner.
 fn draw_item(plane: &mut Plane, corner: Point, at: Offset, item: Item) -> Result<(), Memory>
     requires corner { IsInRange corner }
-    requires room { state_of item.tag ≢ 0 → HasRoom (point_from corner at) item.count }
+    requires room { tag_state item.tag ≢ 0 → HasRoom (point_from corner at) item.count }
     ensures cells { OnOk result (IsSame plane.new (cells_from (point_from corner at) item ++ plane.old)) }
     ensures sparse { OnOk result (IsSparse plane.old → IsSparse plane.new) }
 {
@@ -67,9 +67,9 @@ fn good_item(bytes: &[u8]) -> Option<(Item, &[u8])>
 ///
 /// Fails where there is no memory for it.
 pub(crate) fn draw(alloc: Global, body: &[u8], corner: Point) -> Result<Plane, Memory>
-    requires { (items : List Item) × Items body.now items × IsWithinRange (bare_file corner items) }
+    requires { (items : List Item) × Items body.now items × IsRleWithinRange (bare_file corner items) }
     ensures shown { IfOk result (λ p. (items : List Item) → Items body.now items
-        → IsSame p (picture_of corner items) × IsPicture (picture_of corner items)) }
+        → IsSame p (picture_of_items corner items) × IsPicture (picture_of_items corner items)) }
     ensures sparse { IfOk result (λ p. IsSparse p) }
 {
     let mut plane = Plane::new(alloc);

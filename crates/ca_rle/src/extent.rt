@@ -6,10 +6,10 @@ ghost use Rattle.std.specs.Prelude.{◌==◌, IsTrue, ◌↔◌, IfOk, IfErr, Ma
 ghost use Rattle.ca_rle.specs.declared.item.Item.{Item};
 ghost use Rattle.ca_rle.specs.Items.{InLine, IsEnd, Items};
 ghost use Rattle.ca_rle.specs.Faults.{after_white, item_fault};
-ghost use Rattle.ca_rle.specs.Shown.{ends_row, state_of};
+ghost use Rattle.ca_rle.specs.Shown.{ends_row, tag_state};
 ghost use Rattle.ca_plane.specs.Limits.{IsInRange, range};
 ghost use Rattle.ca_rle.specs.inner.BodyFaults.{IsItemAtFront, HasBadUnitAt};
-ghost use Rattle.ca_rle.specs.inner.Extent.{kept_number, live_count, IsOffsetOf, IsExtentOf, IsExtentInRange};
+ghost use Rattle.ca_rle.specs.inner.Extent.{kept_number, live_count_of_item, IsOffsetOf, IsItemsExtent, IsExtentInRange};
 ghost use Rattle.ca_rle.specs.inner.Extent.{point_from};
 
 use crate::faulty::Faulty;
@@ -89,7 +89,7 @@ pub(crate) struct Extent {
 impl Extent {
     /// The extent of no items.
     fn none() -> Extent
-        ensures { IsExtentOf [] result }
+        ensures { IsItemsExtent [] result }
     {
         Extent {
             longest: 0,
@@ -102,11 +102,11 @@ impl Extent {
     /// The extent with one more item, which begins at an offset.
     fn grown(self, at: Offset, item: Item) -> Extent
         ensures longest { result.longest ≡ max self.longest item.count }
-        ensures right { result.right ≡ max self.right (if state_of item.tag == 0 then 0
+        ensures right { result.right ≡ max self.right (if tag_state item.tag == 0 then 0
             else kept_number (at.columns + item.count)) }
-        ensures bottom { result.bottom ≡ max self.bottom (if state_of item.tag == 0 then 0
+        ensures bottom { result.bottom ≡ max self.bottom (if tag_state item.tag == 0 then 0
             else kept_number (at.rows + 1)) }
-        ensures cells { result.cells ≡ kept_number (self.cells + live_count item) }
+        ensures cells { result.cells ≡ kept_number (self.cells + live_count_of_item item) }
     {
         let longest = self.longest.max(item.count);
         if item.tag.state() == 0 {
@@ -163,7 +163,7 @@ fn item_at(bytes: &[u8]) -> Result<Option<(Item, &[u8])>, Faulty<'_>>
 ///
 /// The fault of the first item that has one.
 pub(crate) fn measure(body: &[u8]) -> Result<Extent, Faulty<'_>>
-    ensures found { IfOk result (λ e. (items : List Item) × Items body.now items × IsExtentOf items e) }
+    ensures found { IfOk result (λ e. (items : List Item) × Items body.now items × IsItemsExtent items e) }
     ensures fault { IfErr result (λ f. (bad : List ℕ) × HasBadUnitAt body.now f.fault bad
         × (f.rest.now ≡ after_white InLine bad)) }
 {

@@ -4,9 +4,9 @@
 ghost use Rattle.std.specs.Prelude.{◌≢◌, MatchOption, IfOk, IfErr};
 ghost use Rattle.ca_rle.specs.declared.fault.RleFault.{RleFault};
 ghost use Rattle.ca_rle.specs.declared.fault.RleFault.TheVariants.{Memory};
-ghost use Rattle.ca_rle.specs.File.{File};
-ghost use Rattle.ca_rle.specs.Faults.{IsFirstFault};
-ghost use Rattle.ca_rle.specs.FaultyLine.{IsFaultOn, IsFaultyLine};
+ghost use Rattle.ca_rle.specs.File.{RleFile};
+ghost use Rattle.ca_rle.specs.Faults.{IsFirstRleFault};
+ghost use Rattle.ca_rle.specs.FaultyLine.{IsRleFaultOn, IsFaultyRleLine};
 ghost use Rattle.ca_rle.specs.inner.FrontParts.{IsFrontOf};
 
 use crate::extent::measure;
@@ -21,8 +21,8 @@ use ca_plane::limits::MOST_CELLS;
 /// The first fault of the text's spelling; else `Range` where a count, the corner or a live cell is out of
 /// range; else `TooManyCells`.
 pub(crate) fn good_front(bytes: &[u8]) -> Result<Front<'_>, LineFault>
-    ensures found { IfOk result (λ f. (file : File) × IsFrontOf bytes.now file f) }
-    ensures fault { IfErr result (λ f. IsFaultOn bytes.now f.fault f.line) }
+    ensures found { IfOk result (λ f. (file : RleFile) × IsFrontOf bytes.now file f) }
+    ensures fault { IfErr result (λ f. IsRleFaultOn bytes.now f.fault f.line) }
     ensures no_memory { IfErr result (λ f. f.fault ≢ Memory) }
 {
     let front = match read_front(bytes) {
@@ -59,7 +59,7 @@ pub(crate) fn good_front(bytes: &[u8]) -> Result<Front<'_>, LineFault>
 ///
 /// It takes no memory.
 pub fn faulty_line(bytes: &[u8]) -> Option<u64>
-    ensures { MatchOption result ((f : RleFault) → IsFirstFault bytes.now f → ⊥) (IsFaultyLine bytes.now) }
+    ensures { MatchOption result ((f : RleFault) → IsFirstRleFault bytes.now f → ⊥) (IsFaultyRleLine bytes.now) }
 {
     match good_front(bytes) {
         Ok(_) => None,

@@ -2,7 +2,7 @@
 
 ghost use Rattle.std.specs.Prelude.{◌≡◌, ◌≢◌};
 ghost use Rattle.ca_rle.specs.declared.fault.RleFault.TheVariants.{Memory};
-ghost use Rattle.ca_rle.specs.FaultyLine.{IsFirstFaultAt, IsFaultOn, line_of};
+ghost use Rattle.ca_rle.specs.FaultyLine.{IsFirstFaultAt, IsRleFaultOn, line_number_of};
 
 use crate::fault::{LineFault, RleFault};
 
@@ -18,7 +18,7 @@ impl Faulty<'_> {
     /// The fault of this text, with the line on which it stands.
     pub(crate) fn in_text(self, text: &[u8]) -> LineFault
         requires { IsFirstFaultAt text.now self.fault self.rest.now }
-        ensures fault { IsFaultOn text.now result.fault result.line }
+        ensures fault { IsRleFaultOn text.now result.fault result.line }
         ensures no_memory { result.fault ≢ Memory }
     {
         LineFault {
@@ -31,7 +31,7 @@ impl Faulty<'_> {
 /// The number, counted from 1, of the line on which the rest of a text begins. The end of a text stands on
 /// the line of its last byte.
 fn line_of(text: &[u8], rest: &[u8]) -> u64
-    ensures { result ≡ line_of text.now rest.now }
+    ensures { result ≡ line_number_of text.now rest.now }
 {
     let (before, _) = text.split_at(text.len().saturating_sub(rest.len().max(1)));
     1 + before.iter().filter(|byte| **byte == b'\n').count() as u64

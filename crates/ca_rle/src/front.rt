@@ -7,7 +7,7 @@ mod words;
 ghost use Rattle.std.specs.Prelude.{◌≡◌, ℕ, List, ◌++◌, true, false, not, IfOk, IfErr};
 ghost use Rattle.std.specs.List.{flat_map};
 ghost use Rattle.ca_plane.specs.Bytes.{Every, is_line_end, is_end_or};
-ghost use Rattle.ca_rle.specs.Header.{Said, is_comment};
+ghost use Rattle.ca_rle.specs.Header.{CxrleWord, is_front_line};
 ghost use Rattle.ca_rle.specs.File.{ended};
 ghost use Rattle.ca_rle.specs.FaultyLine.{IsFirstFaultAt};
 ghost use Rattle.ca_rle.specs.inner.FrontParts.{IsPreambleOf, IsFront};
@@ -34,12 +34,12 @@ pub(crate) struct Front<'a> {
 /// Reads the header, which stands in this line after what the lines before it say.
 fn front_at<'a>(preamble: Preamble, line: &'a [u8], body: &'a [u8]) -> Result<Front<'a>, RleFault>
     requires line { Every (λ b. not (is_line_end b)) line.now }
-    requires header { is_comment line.now ≡ false }
+    requires header { is_front_line line.now ≡ false }
     requires ends { is_end_or is_line_end body.now ≡ true }
-    ensures found { IfOk result (λ f. (lines : List (List ℕ)) (said : List Said)
+    ensures found { IfOk result (λ f. (lines : List (List ℕ)) (said : List CxrleWord)
         → IsPreambleOf lines said preamble
         → IsFront (flat_map ended lines ++ (line.now ++ body.now)) f) }
-    ensures fault { IfErr result (λ f. (lines : List (List ℕ)) (said : List Said)
+    ensures fault { IfErr result (λ f. (lines : List (List ℕ)) (said : List CxrleWord)
         → IsPreambleOf lines said preamble
         → IsFirstFaultAt (flat_map ended lines ++ (line.now ++ body.now)) f (line.now ++ body.now)) }
 {

@@ -1,7 +1,7 @@
 //! Items of an RLE text.
 
 ghost use Rattle.std.specs.Prelude.{◌≡◌};
-ghost use Rattle.ca_rle.specs.Shown.{state_of};
+ghost use Rattle.ca_rle.specs.Shown.{tag_state};
 
 /// What an item repeats (Golly Help, File Formats: Extended RLE format).
 #[derive(Clone, Copy, Debug, PartialEq, Eq)]
@@ -15,7 +15,7 @@ pub enum Tag {
 impl Tag {
     /// The state of the cells, 0 for a row's end.
     pub(crate) fn state(self) -> u8
-        ensures { result ≡ state_of self }
+        ensures { result ≡ tag_state self }
     {
         match self {
             Tag::Cell(state) => state,

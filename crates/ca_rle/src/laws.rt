@@ -7,9 +7,9 @@ ghost use Rattle.ca_rle.specs.declared.item.Item.{Item};
 ghost use Rattle.ca_rle.specs.declared.fault.RleFault.{RleFault};
 ghost use Rattle.ca_rle.specs.declared.fault.RleFault.TheVariants.{Memory};
 ghost use Rattle.ca_rle.specs.Items.{Items, IsEnd, Run};
-ghost use Rattle.ca_rle.specs.Faults.{item_fault, IsFirstFault, IsFaultOf};
-ghost use Rattle.ca_rle.specs.FaultyLine.{IsFirstFaultOn, IsFaultyLine, line_of};
-ghost use Rattle.ca_rle.specs.File.{File, IsFile, IsLine, ended};
+ghost use Rattle.ca_rle.specs.Faults.{item_fault, IsFirstRleFault, IsRleFault};
+ghost use Rattle.ca_rle.specs.FaultyLine.{IsFirstRleFaultOn, IsFaultyRleLine, line_number_of};
+ghost use Rattle.ca_rle.specs.File.{RleFile, IsRleFile, IsLine, ended};
 ghost use Rattle.ca_rle.specs.Limits.{IsWithinLimits};
 
 /// Bytes spell one list of items at most.
@@ -31,48 +31,48 @@ pub fn item_or_end()
 
 /// A text is a file in one way at most.
 pub fn one_file()
-    ensures { (bytes : List ℕ) (f g : File) → IsFile bytes f → IsFile bytes g → f ≡ g }
+    ensures { (bytes : List ℕ) (f g : RleFile) → IsRleFile bytes f → IsRleFile bytes g → f ≡ g }
 {}
 
 /// A text that is a file has no fault in its spelling.
 pub fn no_fault_in_a_file()
-    ensures { (bytes : List ℕ) (file : File) (f : RleFault) → IsFile bytes file → IsFirstFault bytes f → ⊥ }
+    ensures { (bytes : List ℕ) (file : RleFile) (f : RleFault) → IsRleFile bytes file → IsFirstRleFault bytes f → ⊥ }
 {}
 
 /// A text has one first fault at most in its spelling.
 pub fn one_first_fault()
-    ensures { (bytes : List ℕ) (f g : RleFault) → IsFirstFault bytes f → IsFirstFault bytes g → f ≡ g }
+    ensures { (bytes : List ℕ) (f g : RleFault) → IsFirstRleFault bytes f → IsFirstRleFault bytes g → f ≡ g }
 {}
 
 /// A text has one fault at most, besides running out of memory.
 pub fn one_fault()
-    ensures { (bytes : List ℕ) (f g : RleFault) → f ≢ Memory → g ≢ Memory → IsFaultOf bytes f
-        → IsFaultOf bytes g → f ≡ g }
+    ensures { (bytes : List ℕ) (f g : RleFault) → f ≢ Memory → g ≢ Memory → IsRleFault bytes f
+        → IsRleFault bytes g → f ≡ g }
 {}
 
 /// Every text is a file, or has a first fault in its spelling.
 pub fn file_or_fault()
-    ensures { (bytes : List ℕ) → ((file : File) × IsFile bytes file)
-        ⊎ ((f : RleFault) × IsFirstFault bytes f) }
+    ensures { (bytes : List ℕ) → ((file : RleFile) × IsRleFile bytes file)
+        ⊎ ((f : RleFault) × IsFirstRleFault bytes f) }
 {}
 
 /// A text that is a file within the limits has no fault, besides running out of memory.
 pub fn no_fault_within_limits()
-    ensures { (bytes : List ℕ) (file : File) (f : RleFault) → IsFile bytes file → IsWithinLimits file
-        → f ≢ Memory → IsFaultOf bytes f → ⊥ }
+    ensures { (bytes : List ℕ) (file : RleFile) (f : RleFault) → IsRleFile bytes file → IsWithinLimits file
+        → f ≢ Memory → IsRleFault bytes f → ⊥ }
 {}
 
 /// The fault on a faulty line is the text's first, and each first fault stands on a line.
 pub fn line_of_a_fault()
-    ensures fault { (bytes : List ℕ) (f : RleFault) (line : ℕ) → IsFirstFaultOn bytes f line
-        → IsFirstFault bytes f }
-    ensures line { (bytes : List ℕ) (f : RleFault) → IsFirstFault bytes f
-        → (line : ℕ) × IsFirstFaultOn bytes f line }
+    ensures fault { (bytes : List ℕ) (f : RleFault) (line : ℕ) → IsFirstRleFaultOn bytes f line
+        → IsFirstRleFault bytes f }
+    ensures line { (bytes : List ℕ) (f : RleFault) → IsFirstRleFault bytes f
+        → (line : ℕ) × IsFirstRleFaultOn bytes f line }
 {}
 
 /// A text has one faulty line at most.
 pub fn one_faulty_line()
-    ensures { (bytes : List ℕ) (m n : ℕ) → IsFaultyLine bytes m → IsFaultyLine bytes n → m ≡ n }
+    ensures { (bytes : List ℕ) (m n : ℕ) → IsFaultyRleLine bytes m → IsFaultyRleLine bytes n → m ≡ n }
 {}
 
 /// How lines are counted: what stands after whole lines and the start of another is on that other line, and
@@ -80,6 +80,6 @@ pub fn one_faulty_line()
 pub fn counted_lines()
     ensures rest { (lines : List (List ℕ)) (before rest : List ℕ) → AllByRecursion IsLine lines
         → IsLine before → 0 < length rest
-        → line_of (flat_map ended lines ++ (before ++ rest)) rest ≡ length lines + 1 }
-    ensures end { (text : List ℕ) → line_of text [] ≡ max 1 (length (lines_of text)) }
+        → line_number_of (flat_map ended lines ++ (before ++ rest)) rest ≡ length lines + 1 }
+    ensures end { (text : List ℕ) → line_number_of text [] ≡ max 1 (length (lines_of text)) }
 {}

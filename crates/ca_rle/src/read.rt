@@ -2,8 +2,8 @@
 
 ghost use Rattle.std.specs.Prelude.{◌≡◌, IfOk, IfErr, IsErrOf};
 ghost use Rattle.ca_rle.specs.declared.fault.RleFault.TheVariants.{Memory};
-ghost use Rattle.ca_rle.specs.Faults.{IsFaultOf};
-ghost use Rattle.ca_rle.specs.FaultyLine.{IsFaultOn};
+ghost use Rattle.ca_rle.specs.Faults.{IsRleFault};
+ghost use Rattle.ca_rle.specs.FaultyLine.{IsRleFaultOn};
 ghost use Rattle.ca_rle.specs.Pattern.{IsReadableRle, HoldsRlePattern};
 
 use crate::drawing::draw;
@@ -29,7 +29,7 @@ pub fn read_rle_with_line(alloc: Global, bytes: &[u8]) -> Result<Pattern, LineFa
     // What is read is what the text holds, and it passes no limit.
     ensures found { IfOk result (HoldsRlePattern bytes.now) }
     // A text that is refused has this fault, on this line.
-    ensures fault { IfErr result (λ f. IsFaultOn bytes.now f.fault f.line) }
+    ensures fault { IfErr result (λ f. IsRleFaultOn bytes.now f.fault f.line) }
     // It runs out of memory only for a text without a fault.
     ensures memory { IfErr result (λ f. f.fault ≡ Memory → IsReadableRle bytes.now) }
 {
@@ -57,7 +57,7 @@ pub fn read_rle(alloc: Global, bytes: &[u8]) -> Result<Pattern, RleFault>
     // What is read is what the text holds, and it passes no limit.
     ensures found { IfOk result (HoldsRlePattern bytes.now) }
     // A text that is refused has this fault.
-    ensures fault { IfErr result (λ f. IsFaultOf bytes.now f) }
+    ensures fault { IfErr result (λ f. IsRleFault bytes.now f) }
     // It runs out of memory only for a text without a fault.
     ensures memory { IsErrOf result RleFault.Memory → IsReadableRle bytes.now }
 {

@@ -6,10 +6,10 @@ ghost use Rattle.std.specs.Io.KnownBytes.{Appends};
 ghost use Rattle.ca_plane.specs.Bytes.{IsWord};
 ghost use Rattle.ca_plane.specs.Device.{Rises, AppendsPrefix};
 ghost use Rattle.ca_plane.specs.Limits.{IsInRange, generation_limit, most_cells};
-ghost use Rattle.ca_rle.specs.File.{File, IsFile};
-ghost use Rattle.ca_rle.specs.Limits.{IsWithinRange, IsWithinLimits};
-ghost use Rattle.ca_rle.specs.Shown.{picture_of};
-ghost use Rattle.ca_rle.specs.Tidy.{IsTidy};
+ghost use Rattle.ca_rle.specs.File.{RleFile, IsRleFile};
+ghost use Rattle.ca_rle.specs.Limits.{IsRleWithinRange, IsWithinLimits};
+ghost use Rattle.ca_rle.specs.Shown.{picture_of_items};
+ghost use Rattle.ca_rle.specs.Tidy.{IsTidyRle};
 
 use ca_plane::{Dev, Memory, Plane, WriteFault, send};
 use std::alloc::Global;
@@ -46,15 +46,15 @@ pub fn write_rle(
     requires states { All (λ e. e.1 < states) cells.now }
     requires rule { IsWord rule_text.now }
     requires generation { generation < generation_limit }
-    ensures tidy { IfOk result (λ text. IsTidy text.items cells.now rule_text.now generation states) }
+    ensures tidy { IfOk result (λ text. IsTidyRle text.items cells.now rule_text.now generation states) }
     // It means the plane, its cells one by one in their order, the rule text and the generation, and is in
     // the reader's range.
-    ensures means { IfOk result (λ text. (file : File) × IsFile text.items file × IsWithinRange file
-        × (picture_of file.corner file.items ≡ cells.now) × (file.rule_text ≡ rule_text.now)
+    ensures means { IfOk result (λ text. (file : RleFile) × IsRleFile text.items file × IsRleWithinRange file
+        × (picture_of_items file.corner file.items ≡ cells.now) × (file.rule_text ≡ rule_text.now)
         × (file.generation ≡ generation)) }
     // The reader takes it where the plane has at most 16777216 live cells.
     ensures limits { length cells.now ≤ most_cells → IfOk result
-        (λ text. (file : File) → IsFile text.items file → IsWithinLimits file) }
+        (λ text. (file : RleFile) → IsRleFile text.items file → IsWithinLimits file) }
 {
     let frame = frame::of(cells);
     let mut text = Vec::new(alloc);
@@ -84,18 +84,18 @@ pub fn write_rle_to<W: Write>(
     requires rule { IsWord rule_text.now }
     requires generation { generation < generation_limit }
     // The tidy text is written whole, and no failure is counted.
-    ensures all { OnOk result ((text : List ℕ) × IsTidy text cells.now rule_text.now generation states
+    ensures all { OnOk result ((text : List ℕ) × IsTidyRle text cells.now rule_text.now generation states
         × Appends (W.contents out.old.inner) (W.contents out.new.inner) text) }
     // The reader takes what is written where the plane has at most 16777216 live cells.
     ensures limits { length cells.now ≤ most_cells → OnOk result
         ((text : List ℕ) × Appends (W.contents out.old.inner) (W.contents out.new.inner) text
-        × ((file : File) → IsFile text file → IsWithinLimits file)) }
+        × ((file : RleFile) → IsRleFile text file → IsWithinLimits file)) }
     ensures kept { OnOk result (out.new.failures ≡ out.old.failures) }
     // Without memory the device is as it was.
     ensures memory { IsErrOf result WriteFault.Memory → out.new ≡ out.old }
     // A write failed after some first part of the tidy text, which isn't the whole.
     ensures front { IsErrOf result WriteFault.Write → (text : List ℕ)
-        × IsTidy text cells.now rule_text.now generation states
+        × IsTidyRle text cells.now rule_text.now generation states
         × AppendsPrefix (W.contents out.old.inner) (W.contents out.new.inner) text }
     ensures counted { IsErrOf result WriteFault.Write → Rises out.old.failures out.new.failures }
 {

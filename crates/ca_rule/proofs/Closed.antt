@@ -8,13 +8,13 @@ use Rattle.ca_rule.specs.declared.table.neighbourhood.Neighbourhood.{Neighbourho
 use Rattle.ca_rule.specs.declared.table.slot.Slot.{Slot}
 use Rattle.ca_rule.specs.declared.table.slot.Slot.TheVariants.{Number, Variable}
 use Rattle.ca_rule.specs.TableOrders.{ring, orders}
-use Rattle.ca_rule.specs.TableNext.{States, Transition, TableRule, arranged, is_variable, fits, cell_of, given, outcome, next_by, table_next}
+use Rattle.ca_rule.specs.TableNext.{States, Transition, TableRule, arranged, is_variable, fits, taken_cell, result_state, outcome, next_by, table_next}
 use Rattle.ca_rule.specs.inner.TableStored.{is_below}
 
 -- each cell of nine is below the count, and so is what follows them
 module _ (count : ℕ) (nine : List ℕ) (some : 0 < count) (cells : (i : ℕ) → slice_index nine i < count) where
   cell_below : (v : ℕ) (slots : List Slot) (h : Neighbourhood) (positions : List ℕ) →
-      cell_of v (zip slots (map (λ position. slice_index nine (slice_index (ring h) position)) positions)) < count
+      taken_cell v (zip slots (map (λ position. slice_index nine (slice_index (ring h) position)) positions)) < count
   cell_below v [] h ps = some
   cell_below v (s ∷ ss) h [] = some
   cell_below v (s ∷ ss) h (p ∷ ps) =
@@ -23,7 +23,7 @@ module _ (count : ℕ) (nine : List ℕ) (some : 0 < count) (cells : (i : ℕ) �
         | inr t ↦ rw t (cell_below v ss h ps)
       ]
 
-  cell_of_below : (v : ℕ) (slots : List Slot) (h : Neighbourhood) (g : List ℕ) → cell_of v (zip slots (arranged h nine g)) < count
+  cell_of_below : (v : ℕ) (slots : List Slot) (h : Neighbourhood) (g : List ℕ) → taken_cell v (zip slots (arranged h nine g)) < count
   cell_of_below v [] h g = some
   cell_of_below v (s ∷ ss) h g =
       elim (cases_Bool (is_variable v s)) [
@@ -31,7 +31,7 @@ module _ (count : ℕ) (nine : List ℕ) (some : 0 < count) (cells : (i : ℕ) �
         | inr t ↦ rw t (cell_below v ss h g)
       ]
 
-  given_below : (result : Slot) (slots : List Slot) (h : Neighbourhood) (g : List ℕ) → is_below count result ≡ true → given result (zip slots (arranged h nine g)) < count
+  given_below : (result : Slot) (slots : List Slot) (h : Neighbourhood) (g : List ℕ) → is_below count result ≡ true → result_state result (zip slots (arranged h nine g)) < count
   given_below (Number state) slots h g below = grind (arith, nat_tests)
   given_below (Variable v) slots h g below = cell_of_below v slots h g
 

@@ -13,7 +13,7 @@ use Rattle.ca_rule.specs.declared.table.slot.Slot.TheVariants.{Number, Variable}
 use Rattle.std.proofs.lemmas.List.Sums.{sum_by-cons}
 use Rattle.ca_rule.specs.inner.TablePlaces.{taken_at}
 use Rattle.ca_rule.specs.inner.TableSearch.{least_outcome}
-use Rattle.ca_rule.specs.inner.TableCrowd.{has_room, may_take, one_takes, slots_in, are_crowded, HasCrowd}
+use Rattle.ca_rule.specs.inner.TableCrowd.{has_slot_room, may_take, one_takes, slots_in, are_crowded, HasCrowd}
 use Rattle.ca_rule.proofs.Searched.{zip-append, take_one_cell-front}
 use Rattle.ca_rule.proofs.Shuffled.{Alike, count-cons, length-alike, orders-alike, each-more}
 use Rattle.ca_rule.proofs.Repeated.{counted, none-of-unfit}
@@ -47,7 +47,7 @@ like-cells v c (s ∷ ss) (d ∷ cells) long e =
 module _ (variables : List States) (nine : List ℕ) (left : List Slot) (free : List ℕ) where
   -- where slots take their cells among more, there is room for each
   room : (taken : List Taken) (g : List ℕ) → length left ≤ length g → Alike free g → (s : Slot) (c : ℕ)
-      → take_one_cell (taken ++ zip left (map (slice_index nine) g)) s c ≡ true → has_room nine left free s c ≡ true
+      → take_one_cell (taken ++ zip left (map (slice_index nine) g)) s c ≡ true → has_slot_room nine left free s c ≡ true
   room taken g long like (Number n) c e = refl
   room taken g long like (Variable v) c e =
       let all = all-back (λ (t : Taken). not (is_variable v t.0) || (t.1 == c)) taken (zip left (map (slice_index nine) g)) e in
@@ -57,7 +57,7 @@ module _ (variables : List States) (nine : List ℕ) (left : List Slot) (free : 
       grind (arith, nat_tests)
 
   -- in slots that fit, each may take its cell beside the first of them
-  each-may : (taken more rest : List Taken) → ((s : Slot) (c : ℕ) → take_one_cell (taken ++ more) s c ≡ true → has_room nine left free s c ≡ true)
+  each-may : (taken more rest : List Taken) → ((s : Slot) (c : ℕ) → take_one_cell (taken ++ more) s c ≡ true → has_slot_room nine left free s c ≡ true)
       → list_all (λ (t : Taken). admits variables t.0 t.1 && take_one_cell (taken ++ more) t.0 t.1) rest ≡ true
       → list_all (λ (t : Taken). may_take variables nine taken left free t.0 t.1) rest ≡ true
   each-may taken more [] wide e = refl

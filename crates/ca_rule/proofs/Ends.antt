@@ -6,19 +6,19 @@ use Rattle.std.proofs.lemmas.Bool.Decides.{nat_tests}
 use Rattle.std.proofs.lemmas.List.{append-nil}
 use Rattle.std.proofs.lemmas.List.Folds.{list_any-append}
 use Rattle.ca_plane.specs.Bytes.{Every}
-use Rattle.ca_rule.specs.inner.TextParts.{is_letter, hood_at, hood_of, body_of}
+use Rattle.ca_rule.specs.inner.TextParts.{is_rule_letter, hood_at, hood_of, body_of}
 use Rattle.ca_rule.specs.Spelling.{IsLetter, IsSuffix, has_colon}
 use Rattle.ca_rule.specs.declared.hood.Hood.{Hood}
 use Rattle.ca_rule.specs.declared.hood.Hood.TheVariants.{Moore, VonNeumann, Hex}
 
 -- what the test of a letter says
-pub IsLetter-from_test : (upper byte : ℕ) → is_letter upper byte ≡ true → IsLetter upper byte
+pub IsLetter-from_test : (upper byte : ℕ) → is_rule_letter upper byte ≡ true → IsLetter upper byte
 IsLetter-from_test upper byte h = grind (arith, nat_tests)
 
 -- and the test where it is the letter
-pub is_letter-from : (upper byte : ℕ) → IsLetter upper byte → is_letter upper byte ≡ true
-is_letter-from upper byte (inl e) = grind (arith, nat_tests)
-is_letter-from upper byte (inr e) = grind (arith, nat_tests)
+pub is_rule_letter-from : (upper byte : ℕ) → IsLetter upper byte → is_rule_letter upper byte ≡ true
+is_rule_letter-from upper byte (inl e) = grind (arith, nat_tests)
+is_rule_letter-from upper byte (inr e) = grind (arith, nat_tests)
 
 cons_if : (t : Bool) (c : ℕ) (xs ys : List ℕ) → c ∷ (if t then xs else ys) ≡ (if t then c ∷ xs else c ∷ ys)
 cons_if true c xs ys = refl
@@ -31,14 +31,14 @@ hood_of-last (c ∷ []) b = refl
 hood_of-last (c ∷ d ∷ bs) b = hood_of-last (d ∷ bs) b
 
 -- and whether it belongs to the text before the suffix
-pub body_of-last : (bs : List ℕ) (b : ℕ) → body_of (bs ++ (b ∷ [])) ≡ (if is_letter 86 b || is_letter 72 b then bs else bs ++ (b ∷ []))
+pub body_of-last : (bs : List ℕ) (b : ℕ) → body_of (bs ++ (b ∷ [])) ≡ (if is_rule_letter 86 b || is_rule_letter 72 b then bs else bs ++ (b ∷ []))
 body_of-last [] b = refl
-body_of-last (c ∷ []) b = cons_if (is_letter 86 b || is_letter 72 b) c [] (b ∷ [])
-body_of-last (c ∷ d ∷ bs) b = ap (λ l. c ∷ l) (body_of-last (d ∷ bs) b) ∙ cons_if (is_letter 86 b || is_letter 72 b) c (d ∷ bs) (d ∷ (bs ++ (b ∷ [])))
+body_of-last (c ∷ []) b = cons_if (is_rule_letter 86 b || is_rule_letter 72 b) c [] (b ∷ [])
+body_of-last (c ∷ d ∷ bs) b = ap (λ l. c ∷ l) (body_of-last (d ∷ bs) b) ∙ cons_if (is_rule_letter 86 b || is_rule_letter 72 b) c (d ∷ bs) (d ∷ (bs ++ (b ∷ [])))
 
 -- a byte that is no suffix and no colon
 abbrev pub is_plain : ℕ → Bool
-is_plain b = not (is_letter 86 b || is_letter 72 b || (b == 58))
+is_plain b = not (is_rule_letter 86 b || is_rule_letter 72 b || (b == 58))
 
 hood_at-plain : (b : ℕ) → is_plain b ≡ true → hood_at b ≡ Moore
 hood_at-plain b h = grind (arith, nat_tests)
@@ -110,9 +110,9 @@ pub record HasSuffix (text body : List ℕ) (hood : Hood) : Type 0 where
 
 suffix-one : (b : ℕ) → HasSuffix (b ∷ []) (body_of (b ∷ [])) (hood_at b)
 suffix-one b =
-    elim (cases_Bool (is_letter 86 b)) [
+    elim (cases_Bool (is_rule_letter 86 b)) [
       | inl v ↦ rw v (record { suffix = b ∷ []; is_suffix = (b, IsLetter-from_test 86 b v, refl); whole = refl })
-      | inr v ↦ elim (cases_Bool (is_letter 72 b)) [
+      | inr v ↦ elim (cases_Bool (is_rule_letter 72 b)) [
         | inl h ↦ rw (v, h) (record { suffix = b ∷ []; is_suffix = (b, IsLetter-from_test 72 b h, refl); whole = refl })
         | inr h ↦ rw (v, h) (record { suffix = []; is_suffix = refl; whole = refl })
       ]

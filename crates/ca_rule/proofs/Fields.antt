@@ -2,10 +2,10 @@
 use Rattle.std.proofs.Common.{◌≡◌, ◌==◌, ◌≤◌, ℕ, not, List, [], ◌∷◌, length, map, take, drop, refl, ap, arith, inl, inr}
 use Rattle.std.proofs.lemmas.Bool.{cases_Bool}
 use Rattle.ca_plane.specs.Bytes.{front, rest, trimmed, with_front}
-use Rattle.ca_rule.specs.TableLines.{parts_of, fields_between}
+use Rattle.ca_rule.specs.TableLines.{comma_parts, fields_between}
 
 -- one part follows the last comma
-last-part : (bytes : List ℕ) → rest (λ b. not (b == 44)) bytes ≡ [] → parts_of bytes ≡ front (λ b. not (b == 44)) bytes ∷ []
+last-part : (bytes : List ℕ) → rest (λ b. not (b == 44)) bytes ≡ [] → comma_parts bytes ≡ front (λ b. not (b == 44)) bytes ∷ []
 last-part [] e = refl
 last-part (b ∷ bs) e =
     elim (cases_Bool (b == 44)) [
@@ -14,11 +14,11 @@ last-part (b ∷ bs) e =
     ]
 
 -- one part comes before a comma
-next-part : (bytes later : List ℕ) (comma : ℕ) → rest (λ b. not (b == 44)) bytes ≡ comma ∷ later → parts_of bytes ≡ front (λ b. not (b == 44)) bytes ∷ parts_of later
+next-part : (bytes later : List ℕ) (comma : ℕ) → rest (λ b. not (b == 44)) bytes ≡ comma ∷ later → comma_parts bytes ≡ front (λ b. not (b == 44)) bytes ∷ comma_parts later
 next-part [] later comma e = cc
 next-part (b ∷ bs) later comma e =
     elim (cases_Bool (b == 44)) [
-      | inl t ↦ rw t (let k = rw t at e in ap (λ l. [] ∷ parts_of l) (ap (drop 1) k))
+      | inl t ↦ rw t (let k = rw t at e in ap (λ l. [] ∷ comma_parts l) (ap (drop 1) k))
       | inr t ↦ rw t (ap (with_front b) (next-part bs later comma (let k = rw t at e in k)))
     ]
 

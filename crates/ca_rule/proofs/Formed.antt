@@ -6,8 +6,8 @@ use Rattle.std.proofs.lemmas.Bool.Decides.{nat_tests}
 use Rattle.ca_plane.specs.Bytes.{is_digit, front, rest}
 use Rattle.ca_plane.proofs.Fronts.{front_then_rest}
 use Rattle.ca_rule.specs.Counts.{most_of, are_digits_up_to}
-use Rattle.ca_rule.specs.inner.TextParts.{is_letter, hood_of, body_of, without_slash, behind_letter, behind_slash, both, swapped, lists_around, lists_around_slash, lists_of}
-use Rattle.ca_rule.specs.Spelling.{IsLetter, IsSuffix, IsOptionalSlash, IsLettered, IsUnlettered, Spells}
+use Rattle.ca_rule.specs.inner.TextParts.{is_rule_letter, hood_of, body_of, without_slash, behind_letter, behind_slash, both, swapped, lists_around, lists_around_slash, lists_of}
+use Rattle.ca_rule.specs.Spelling.{IsLetter, IsSuffix, IsOptionalSlash, IsLettered, IsUnlettered, SpellsBsRule}
 use Rattle.ca_rule.specs.declared.hood.Hood.{Hood}
 use Rattle.ca_rule.proofs.Ends.{IsLetter-from_test, has_suffix}
 use Rattle.ca_rule.proofs.ReadInwards.{read}
@@ -20,7 +20,7 @@ IfNone-from (Some _) p = tt
 behind_letter-some : (upper : ℕ) (bs later : List ℕ) → behind_letter upper bs ≡ Some later → (b : ℕ) × IsLetter upper b × (bs ≡ b ∷ later)
 behind_letter-some upper [] later e = cc
 behind_letter-some upper (b ∷ bs) later e =
-    elim (cases_Bool (is_letter upper b)) [
+    elim (cases_Bool (is_rule_letter upper b)) [
       | inl t ↦ let k = rw t at e in (b, IsLetter-from_test upper b t, cc)
       | inr t ↦ let k = rw t at e in cc
     ]
@@ -99,9 +99,9 @@ IsFormed text birth survival hood = IsLettered 66 83 text birth survival hood �
 formed : (text body suffix birth survival : List ℕ) (hood : Hood) → text ≡ body ++ suffix → IsSuffix hood suffix → lists_of body ≡ Some (birth, survival) → IsFormed text birth survival hood
 formed text [] suffix birth survival hood e s r = cc
 formed text (b ∷ bs) suffix birth survival hood e s r =
-    elim (cases_Bool (is_letter 66 b)) [
+    elim (cases_Bool (is_rule_letter 66 b)) [
       | inl t ↦ let k = rw t at r in inl (lettered 66 83 text bs suffix birth survival b hood e s (IsLetter-from_test 66 b t) (IsAround-from 83 bs birth survival k))
-      | inr t ↦ elim (cases_Bool (is_letter 83 b)) [
+      | inr t ↦ elim (cases_Bool (is_rule_letter 83 b)) [
         | inl u ↦ let k = rw (t, u) at r in inr (inl (lettered 83 66 text bs suffix survival birth b hood e s (IsLetter-from_test 83 b u) (IsAround-from 66 bs survival birth (swapped-some _ birth survival k))))
         | inr u ↦ let k = rw (t, u) at r in inr (inr (unlettered text (b ∷ bs) suffix survival birth hood e s (around_slash-from (b ∷ bs) survival birth (swapped-some _ birth survival k))))
       ]
@@ -109,12 +109,12 @@ formed text (b ∷ bs) suffix birth survival hood e s r =
 
 module _ (text body : List ℕ) (hood : Hood) (b : body ≡ body_of text) (h : hood ≡ hood_of text) where
   -- with no lists of digits a text spells no rule
-  pub spells-no_lists : lists_of body ≡ None → (birth survival : List ℕ) (of : Hood) → Spells text birth survival of → ⊥
+  pub spells-no_lists : lists_of body ≡ None → (birth survival : List ℕ) (of : Hood) → SpellsBsRule text birth survival of → ⊥
   spells-no_lists none birth survival of k = let r = read text birth survival of k in let same = ap lists_of b in cc (r.lists_are)
 
   module _ (birth survival : List ℕ) (most : ℕ) (r : lists_of body ≡ Some (birth, survival)) (m : most ≡ most_of hood) where
     -- where all are digits of the neighbourhood it spells them
-    pub spells-found : are_digits_up_to most birth ≡ true → are_digits_up_to most survival ≡ true → Spells text birth survival hood
+    pub spells-found : are_digits_up_to most birth ≡ true → are_digits_up_to most survival ≡ true → SpellsBsRule text birth survival hood
     spells-found i j =
         let s = has_suffix text in
         record {
@@ -124,16 +124,16 @@ module _ (text body : List ℕ) (hood : Hood) (b : body ≡ body_of text) (h : h
         }
 
     -- it spells nothing else
-    pub spells-only : (d v : List ℕ) (of : Hood) → Spells text d v of → (d ≡ birth) × (v ≡ survival) × (most_of of ≡ most)
+    pub spells-only : (d v : List ℕ) (of : Hood) → SpellsBsRule text d v of → (d ≡ birth) × (v ≡ survival) × (most_of of ≡ most)
     spells-only d v of k =
         let found = read text d v of k in
         let same : Some (d, v) ≡ Some (birth, survival) = sym found.lists_are ∙ ap lists_of (sym b) ∙ r in
         (ap first_list same, ap second_list same, ap most_of (sym found.hood_is ∙ sym h) ∙ sym m)
 
     -- so nothing where a birth digit isn't one of the neighbourhood
-    pub spells-birth : are_digits_up_to most birth ≡ false → (d v : List ℕ) (of : Hood) → Spells text d v of → ⊥
+    pub spells-birth : are_digits_up_to most birth ≡ false → (d v : List ℕ) (of : Hood) → SpellsBsRule text d v of → ⊥
     spells-birth fails d v of k = let same = spells-only d v of k in let all = k.birth_digits in cc (same.0, same.2)
 
     -- nor where a survival digit isn't
-    pub spells-survival : are_digits_up_to most survival ≡ false → (d v : List ℕ) (of : Hood) → Spells text d v of → ⊥
+    pub spells-survival : are_digits_up_to most survival ≡ false → (d v : List ℕ) (of : Hood) → SpellsBsRule text d v of → ⊥
     spells-survival fails d v of k = let same = spells-only d v of k in let all = k.survival_digits in cc (same.1, same.2)

@@ -5,7 +5,7 @@ use Rattle.std.proofs.lemmas.Bool.{cases_Bool}
 use Rattle.std.proofs.lemmas.Bool.Decides.{nat_tests}
 use Rattle.std.proofs.lemmas.List.Elements.{All-get_or, All-from_recursion}
 use Rattle.ca_rule.specs.Counts.{is_count}
-use Rattle.ca_rule.specs.Generations.{live, live_count, older, next_state, next_of}
+use Rattle.ca_rule.specs.Generations.{liveness, live_count, older, generations_next_state, generations_next}
 use Rattle.ca_rule.specs.Next as bs
 use Rattle.ca_rule.specs.declared.counts.Counts.{Counts}
 use Rattle.ca_rule.specs.declared.hood.Hood.TheVariants.{Moore}
@@ -15,23 +15,23 @@ use Rattle.ca_rule.proofs.SameCounts.{alike_counts}
 -- ---- of two states
 
 -- a state below 2 is 1 where it is live
-live-below : (s : ℕ) → s < 2 → live s ≡ s
-live-below zero low = refl
-live-below (suc zero) low = refl
-live-below (suc (suc s)) low = absurd (omega arith)
+liveness-below : (s : ℕ) → s < 2 → liveness s ≡ s
+liveness-below zero low = refl
+liveness-below (suc zero) low = refl
+liveness-below (suc (suc s)) low = absurd (omega arith)
 
-all-live : (cells : List ℕ) → All (λ s. s < 2) cells → map live cells ≡ cells
+all-live : (cells : List ℕ) → All (λ s. s < 2) cells → map liveness cells ≡ cells
 all-live [] low = refl
-all-live (c ∷ cs) low = ap₂ (λ x xs. x ∷ xs) (live-below c (low 0 0 (omega arith))) (all-live cs (λ k d within. low (suc k) d (omega arith)))
+all-live (c ∷ cs) low = ap₂ (λ x xs. x ∷ xs) (liveness-below c (low 0 0 (omega arith))) (all-live cs (λ k d within. low (suc k) d (omega arith)))
 
-of-two : (survival birth : Counts) (centre count : ℕ) → centre < 2 → next_state survival birth 2 centre count ≡ bs.next_state birth survival centre count
+of-two : (survival birth : Counts) (centre count : ℕ) → centre < 2 → generations_next_state survival birth 2 centre count ≡ bs.bs_next_state birth survival centre count
 of-two survival birth zero count low = refl
 of-two survival birth (suc zero) count low = refl
 of-two survival birth (suc (suc c)) count low = absurd (omega arith)
 
-pub as-bs : (survival birth : Counts) (nine : List ℕ) → length nine ≡ 9 → All (λ s. s < 2) nine → next_of survival birth 2 nine ≡ bs.next_of Moore birth survival nine
+pub as-bs : (survival birth : Counts) (nine : List ℕ) → length nine ≡ 9 → All (λ s. s < 2) nine → generations_next survival birth 2 nine ≡ bs.bs_next Moore birth survival nine
 as-bs survival birth nine long low =
-    ap (λ cells. next_state survival birth 2 (slice_index nine 4) (bs.neighbour_count Moore cells)) (all-live nine low)
+    ap (λ cells. generations_next_state survival birth 2 (slice_index nine 4) (bs.neighbour_count Moore cells)) (all-live nine low)
     ∙ of-two survival birth (slice_index nine 4) (bs.neighbour_count Moore nine) (All-get_or (λ s. s < 2) nine 4 0 (omega arith) low)
 
 -- ---- alike
@@ -77,10 +77,10 @@ one-test false false other apart e = refl
 older-not_1 : (states : ℕ) → older states 1 ≢ 1
 older-not_1 states e = elim (cases_Bool (nat_lt 2 states)) [ inl t ↦ (let k = rw t at e in omega (arith, k)) | inr t ↦ (let k = rw t at e in omega (arith, k)) ]
 
-module _ (states : ℕ) (low : 2 ≤ states) (s b t d : Counts) (alike : (nine : List ℕ) → length nine ≡ 9 → All (λ x. x < states) nine → next_of s b states nine ≡ next_of t d states nine) where
-  alike-at : (c n : ℕ) → c < states → n < 9 → next_state s b states c n ≡ next_state t d states c n
+module _ (states : ℕ) (low : 2 ≤ states) (s b t d : Counts) (alike : (nine : List ℕ) → length nine ≡ 9 → All (λ x. x < states) nine → generations_next s b states nine ≡ generations_next t d states nine) where
+  alike-at : (c n : ℕ) → c < states → n < 9 → generations_next_state s b states c n ≡ generations_next_state t d states c n
   alike-at c n below few =
-      ap (next_state s b states c) (sym (cells-count c n few)) ∙ alike (cells_of c n) refl (cells-low c n states low below) ∙ ap (next_state t d states c) (cells-count c n few)
+      ap (generations_next_state s b states c) (sym (cells-count c n few)) ∙ alike (cells_of c n) refl (cells-low c n states low below) ∙ ap (generations_next_state t d states c) (cells-count c n few)
 
   alike-births : length b.holds ≡ 9 → length d.holds ≡ 9 → b ≡ d
   alike-births lb ld = alike_counts b d lb ld (λ n h. one-test (is_count b n) (is_count d n) 0 (λ e. omega (arith, e)) (alike-at 0 n (omega arith) (below-9 n h)))
@@ -90,10 +90,10 @@ module _ (states : ℕ) (low : 2 ≤ states) (s b t d : Counts) (alike : (nine :
 
 -- two rules are equal exactly where they have as many states and do alike
 pub do-alike : (s b t d : Counts) (n m : ℕ) → 2 ≤ n → length s.holds ≡ 9 → length b.holds ≡ 9 → length t.holds ≡ 9 → length d.holds ≡ 9
-    → ((n ≡ m) × ((nine : List ℕ) → length nine ≡ 9 → All (λ x. x < n) nine → next_of s b n nine ≡ next_of t d m nine)) ↔ ((s ≡ t) × (b ≡ d) × (n ≡ m))
+    → ((n ≡ m) × ((nine : List ℕ) → length nine ≡ 9 → All (λ x. x < n) nine → generations_next s b n nine ≡ generations_next t d m nine)) ↔ ((s ≡ t) × (b ≡ d) × (n ≡ m))
 do-alike s b t d n m low ls lb lt ld = (
   λ h.
-      let alike : (nine : List ℕ) → length nine ≡ 9 → All (λ x. x < n) nine → next_of s b n nine ≡ next_of t d n nine = λ nine long below. h.1 nine long below ∙ ap (λ k. next_of t d k nine) (sym h.0) in
+      let alike : (nine : List ℕ) → length nine ≡ 9 → All (λ x. x < n) nine → generations_next s b n nine ≡ generations_next t d n nine = λ nine long below. h.1 nine long below ∙ ap (λ k. generations_next t d k nine) (sym h.0) in
       (alike-survivals n low s b t d alike ls lt, alike-births n low s b t d alike lb ld, h.0),
-  λ e. (e.2, λ nine long below i. next_of (e.0 i) (e.1 i) (e.2 i) nine),
+  λ e. (e.2, λ nine long below i. generations_next (e.0 i) (e.1 i) (e.2 i) nine),
 )

@@ -8,7 +8,7 @@ use Rattle.ca_plane.proofs.Decimals.{decimal_writes}
 use Rattle.ca_plane.proofs.Fronts.{every_append, every_digit, every_wider}
 use Rattle.ca_rule.specs.Counts.{is_count}
 use Rattle.ca_rule.specs.Digits.{are_digits, state_count}
-use Rattle.ca_rule.specs.GenerationsText.{Names, printed}
+use Rattle.ca_rule.specs.GenerationsText.{NamesGenerationsRule, printed_generations_rule}
 use Rattle.ca_rule.specs.Spelling.{digits_of}
 use Rattle.ca_rule.specs.declared.counts.Counts.{Counts}
 use Rattle.ca_rule.specs.declared.gen_rule.GenRule.{GenRule}
@@ -30,7 +30,7 @@ written n ds h e low high =
 
 -- the printed form of a rule names it
 pub names_itself : (rule : GenRule) → length rule.survival.holds ≡ 9 → length rule.birth.holds ≡ 9 → is_count rule.birth 0 ≡ false → 2 ≤ rule.states → rule.states ≤ 256
-    → Names (printed rule.survival rule.birth rule.states) rule
+    → NamesGenerationsRule (printed_generations_rule rule.survival rule.birth rule.states) rule
 names_itself rule ls lb stays low high =
     let digits = decimal_writes rule.states (omega arith) in
     record {
@@ -57,7 +57,7 @@ decimal-in_word : (n : ℕ) → n ≤ 256 → Every is_word_byte (decimal n)
 decimal-in_word n high = every_wider is_digit is_word_byte (λ b t. grind (arith, nat_tests)) (decimal n) (every_digit (decimal n) (decimal_writes n (omega arith)).0)
 
 -- the printed form of a rule is a word
-pub printed_is_word : (survival birth : Counts) (states : ℕ) → states ≤ 256 → IsWord (printed survival birth states)
+pub printed_is_word : (survival birth : Counts) (states : ℕ) → states ≤ 256 → IsWord (printed_generations_rule survival birth states)
 printed_is_word survival birth states high =
     let later = every_append is_word_byte (digits_of birth) (47 ∷ decimal states) (digits_in_word (is_count birth) numbers refl) (decimal-in_word states high) in
     word-before (digits_of survival) 47 (digits_of birth ++ (47 ∷ decimal states)) (digits_in_word (is_count survival) numbers refl) later

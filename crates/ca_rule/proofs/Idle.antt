@@ -8,7 +8,7 @@ use Rattle.std.proofs.lemmas.Bool.Decides.{nat_tests}
 use Rattle.ca_rule.specs.declared.table.slot.Slot.{Slot}
 use Rattle.ca_rule.specs.declared.table.neighbourhood.Neighbourhood.{Neighbourhood}
 use Rattle.ca_rule.specs.TableOrders.{ring, ring_size, picks, every_order}
-use Rattle.ca_rule.specs.TableNext.{States, Transition, admits, fits, given}
+use Rattle.ca_rule.specs.TableNext.{States, Transition, admits, fits, result_state}
 use Rattle.ca_rule.specs.inner.TablePlaces.{slots_admit, taken_at, outcome_at}
 use Rattle.ca_rule.specs.inner.TableSieve.{first_inputs, takable, HasIdle, GivesNone}
 use Rattle.ca_rule.proofs.Shuffled.{Alike, count-cons, length-alike, orders-alike, each-more}
@@ -86,13 +86,13 @@ as_it_stands (suc n) (x ∷ xs) e =
     (map (λ g. x ∷ g) first.0 ++ more, ap (λ l. map (λ g. x ∷ g) l ++ more) first.1)
 
 pub stands-first : (variables : List States) (nine : List ℕ) (t : Transition) (h : Neighbourhood) (placement : List ℕ) → placement ≡ 4 ∷ ring h → fits variables (taken_at nine t placement) ≡ true
-    → outcome_at variables nine t (map (λ g. (4 ∷ []) ++ g) (every_order (ring_size h) (ring h))) ≡ Some (given t.result (taken_at nine t placement))
+    → outcome_at variables nine t (map (λ g. (4 ∷ []) ++ g) (every_order (ring_size h) (ring h))) ≡ Some (result_state t.result (taken_at nine t placement))
 stands-first variables nine t h placement same fit =
     let first = as_it_stands (ring_size h) (ring h) refl in
     let here : fits variables (taken_at nine t (4 ∷ ring h)) ≡ true = ap (λ p. fits variables (taken_at nine t p)) (sym same) ∙ fit in
     ap (λ gs. outcome_at variables nine t (map (λ g. (4 ∷ []) ++ g) gs)) first.1
     ∙ now (4 ∷ ring h) (map (λ g. (4 ∷ []) ++ g) first.0) here
-    ∙ ap (λ p. Some (given t.result (taken_at nine t p))) (sym same)
+    ∙ ap (λ p. Some (result_state t.result (taken_at nine t p))) (sym same)
   where
-    now : (p : List ℕ) (ps : List (List ℕ)) → fits variables (taken_at nine t p) ≡ true → outcome_at variables nine t (p ∷ ps) ≡ Some (given t.result (taken_at nine t p))
+    now : (p : List ℕ) (ps : List (List ℕ)) → fits variables (taken_at nine t p) ≡ true → outcome_at variables nine t (p ∷ ps) ≡ Some (result_state t.result (taken_at nine t p))
     now p ps e = rw e refl

@@ -5,7 +5,7 @@ use Rattle.std.proofs.lemmas.List.Elements.{All-get_or}
 use Rattle.std.proofs.lemmas.Nat.Bits.{bit_at-zero, bit_at_lowest, bit_at-suc}
 use Rattle.ca_plane.specs.Moore.{eight_sum, IsMoore}
 use Rattle.ca_rule.specs.Masks.{mask_of}
-use Rattle.ca_rule.specs.Next.{next_state, next_of}
+use Rattle.ca_rule.specs.Next.{bs_next_state, bs_next}
 use Rattle.ca_rule.specs.declared.counts.Counts.{Counts}
 use Rattle.ca_rule.specs.declared.hood.Hood.TheVariants.{Moore}
 
@@ -24,12 +24,12 @@ mask_bit (h ∷ hs) zero = bit_at_lowest (mask_of (h ∷ hs)) ∙ lowest h (mask
 mask_bit (h ∷ hs) (suc n) = bit_at-suc (mask_of (h ∷ hs)) n ∙ ap (λ m. bit_at m n) (others h (mask_of hs)) ∙ mask_bit hs n
 
 next_masked : (birth survival : Counts) (centre count : ℕ) → centre < 2
-    → next_state birth survival centre count ≡ bit_at (if centre == 0 then mask_of birth.holds else mask_of survival.holds) count
+    → bs_next_state birth survival centre count ≡ bit_at (if centre == 0 then mask_of birth.holds else mask_of survival.holds) count
 next_masked birth survival zero count low = sym (mask_bit birth.holds count)
 next_masked birth survival (suc zero) count low = sym (mask_bit survival.holds count)
 next_masked birth survival (suc (suc c)) count low = absurd (omega arith)
 
-pub goes_by_masks : (birth survival : Counts) → IsMoore 2 (next_of Moore birth survival) (mask_of birth.holds) (mask_of survival.holds)
+pub goes_by_masks : (birth survival : Counts) → IsMoore 2 (bs_next Moore birth survival) (mask_of birth.holds) (mask_of survival.holds)
 goes_by_masks birth survival = record {
   two_states = refl;
   goes_by = λ nine long low. next_masked birth survival (slice_index nine 4) (eight_sum nine) (All-get_or (λ s. s < 2) nine 4 0 (omega arith) low);

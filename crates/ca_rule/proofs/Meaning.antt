@@ -1,7 +1,7 @@
 -- A text names one rule at most, and no rule where it has a fault.
 use Rattle.std.proofs.Common.{◌≡◌, ◌↔◌, ℕ, List, false, Some, ap, sym, ◌∙◌, subst}
 use Rattle.ca_rule.specs.Counts.{has_digit, counts_of}
-use Rattle.ca_rule.specs.Spelling.{Spells, Names, IsFaultOf, printed}
+use Rattle.ca_rule.specs.Spelling.{SpellsBsRule, NamesBsRule, IsBsRuleFault, printed_bs_rule}
 use Rattle.ca_rule.specs.declared.bs_rule.BsRule.{BsRule}
 use Rattle.ca_rule.specs.declared.hood.Hood.{Hood}
 use Rattle.ca_rule.specs.declared.fault.RuleFault.{RuleFault}
@@ -16,7 +16,7 @@ pub record AreOne (b s c t : List ℕ) (h k : Hood) : Type 0 where
   pub hoods : h ≡ k
 
 -- a text spells one rule at most
-pub spells-once : (text b s c t : List ℕ) (h k : Hood) → Spells text b s h → Spells text c t k → AreOne b s c t h k
+pub spells-once : (text b s c t : List ℕ) (h k : Hood) → SpellsBsRule text b s h → SpellsBsRule text c t k → AreOne b s c t h k
 spells-once text b s c t h k x y =
     let p = read text b s h x in
     let q = read text c t k y in
@@ -24,13 +24,13 @@ spells-once text b s c t h k x y =
     record { births = ap first_list lists; survivals = ap second_list lists; hoods = sym p.hood_is ∙ q.hood_is }
 
 -- a text names one rule at most
-pub names-once : (text : List ℕ) (r s : BsRule) → Names text r → Names text s → (r.hood ≡ s.hood) × (r.birth ≡ s.birth) × (r.survival ≡ s.survival)
+pub names-once : (text : List ℕ) (r s : BsRule) → NamesBsRule text r → NamesBsRule text s → (r.hood ≡ s.hood) × (r.birth ≡ s.birth) × (r.survival ≡ s.survival)
 names-once text r s h k =
     let one = spells-once text h.birth h.survival k.birth k.survival r.hood s.hood h.spells k.spells in
     (one.hoods, h.birth_is ∙ ap counts_of one.births ∙ sym k.birth_is, h.survival_is ∙ ap counts_of one.survivals ∙ sym k.survival_is)
 
 -- a text that spells a rule without birth on 0 has no fault
-faultless : (text birth survival : List ℕ) (hood : Hood) (fault : RuleFault) → Spells text birth survival hood → has_digit birth 0 ≡ false → IsFaultOf text fault → ⊥
+faultless : (text birth survival : List ℕ) (hood : Hood) (fault : RuleFault) → SpellsBsRule text birth survival hood → has_digit birth 0 ≡ false → IsBsRuleFault text fault → ⊥
 faultless text birth survival hood Bounded h w k = let n = (read text birth survival hood h).no_colon in cc
 faultless text birth survival hood Wakes h w k =
     let same = spells-once text birth survival k.1 k.2 hood k.3 h k.4 in
@@ -38,13 +38,13 @@ faultless text birth survival hood Wakes h w k =
 faultless text birth survival hood Unknown h w k = k.1 birth survival hood h
 
 -- a text that names a rule has no fault
-pub names-faultless : (text : List ℕ) (rule : BsRule) (fault : RuleFault) → Names text rule → IsFaultOf text fault → ⊥
+pub names-faultless : (text : List ℕ) (rule : BsRule) (fault : RuleFault) → NamesBsRule text rule → IsBsRuleFault text fault → ⊥
 names-faultless text rule fault h k = faultless text h.birth h.survival rule.hood fault h.spells h.stays_empty k
 
 -- rules that are named by their printed forms are printed alike exactly where they are equal
-pub alike : (a b : BsRule) → Names (printed a.hood a.birth a.survival) a → Names (printed b.hood b.birth b.survival) b
-    → (printed a.hood a.birth a.survival ≡ printed b.hood b.birth b.survival) ↔ ((a.hood ≡ b.hood) × (a.birth ≡ b.birth) × (a.survival ≡ b.survival))
+pub alike : (a b : BsRule) → NamesBsRule (printed_bs_rule a.hood a.birth a.survival) a → NamesBsRule (printed_bs_rule b.hood b.birth b.survival) b
+    → (printed_bs_rule a.hood a.birth a.survival ≡ printed_bs_rule b.hood b.birth b.survival) ↔ ((a.hood ≡ b.hood) × (a.birth ≡ b.birth) × (a.survival ≡ b.survival))
 alike a b h k = (
-  λ e. let l : Names (printed b.hood b.birth b.survival) a = subst (λ text. Names text a) e h in names-once (printed b.hood b.birth b.survival) a b l k,
-  λ e. ap (λ x. printed x a.birth a.survival) e.0 ∙ ap (λ x. printed b.hood x a.survival) e.1 ∙ ap (λ x. printed b.hood b.birth x) e.2,
+  λ e. let l : NamesBsRule (printed_bs_rule b.hood b.birth b.survival) a = subst (λ text. NamesBsRule text a) e h in names-once (printed_bs_rule b.hood b.birth b.survival) a b l k,
+  λ e. ap (λ x. printed_bs_rule x a.birth a.survival) e.0 ∙ ap (λ x. printed_bs_rule b.hood x a.survival) e.1 ∙ ap (λ x. printed_bs_rule b.hood b.birth x) e.2,
 )

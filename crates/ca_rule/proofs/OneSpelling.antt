@@ -6,7 +6,7 @@ use Rattle.std.proofs.lemmas.Bool.Decides.{nat_tests}
 use Rattle.ca_plane.specs.Bytes.{is_blank, is_digit, front, rest, without_last_blanks, trimmed, with_front}
 use Rattle.ca_plane.proofs.Fronts.{front_then_rest, every_right}
 use Rattle.ca_rule.specs.Digits.{are_digits}
-use Rattle.ca_rule.specs.TableLines.{Line, behind, setting, setting_words, is_setting, begins_with, begins_section, begins_variable, is_name_byte, is_name, is_field, parts_of, fields_between, fields_of, IsVariableLine, IsTransitionLine}
+use Rattle.ca_rule.specs.TableLines.{NumberedLine, behind, setting, setting_words, is_setting, begins_with, begins_section, begins_variable, is_name_byte, is_name, is_field, comma_parts, fields_between, fields_of, IsVariableLine, IsTransitionLine}
 use Rattle.ca_rule.specs.inner.TableFields.{opened}
 use Rattle.ca_rule.proofs.Stripped.{behind-whole}
 use Rattle.ca_rule.proofs.VariableLines.{parts-of-line, line-of-parts, opened-braced, braced-opened}
@@ -72,10 +72,10 @@ abbrev variable_if : Bool → List ℕ → Option (List ℕ × List (List ℕ))
 variable_if begins more = if begins then variable_in more else None
 
 -- the name and the fields of a variable's line
-abbrev pub variable_of : Line → Option (List ℕ × List (List ℕ))
+abbrev pub variable_of : NumberedLine → Option (List ℕ × List (List ℕ))
 variable_of line = option_and_then (variable_if (begins_variable line)) (behind (codes "var") line.1)
 
-pub variable-is-of : (line : Line) (name : List ℕ) (fields : List (List ℕ)) → IsVariableLine line name fields → variable_of line ≡ Some (name, fields)
+pub variable-is-of : (line : NumberedLine) (name : List ℕ) (fields : List (List ℕ)) → IsVariableLine line name fields → variable_of line ≡ Some (name, fields)
 variable-is-of line name fields v =
     let p = parts-of-line line name fields v in
     let inside = ap (option_and_then before_brace) (opened-braced (tail_in p.more) v.inside p.braces) ∙ before-brace v.inside in
@@ -91,7 +91,7 @@ pub if-some : {A : Type 0} (b : Bool) (o : Option A) (y : A) → (if b then o el
 if-some true o y e = (refl, e)
 if-some false o y e = cc
 
-pub variable-of-is : (line : Line) (v : List ℕ × List (List ℕ)) → variable_of line ≡ Some v → IsVariableLine line v.0 v.1
+pub variable-of-is : (line : NumberedLine) (v : List ℕ × List (List ℕ)) → variable_of line ≡ Some v → IsVariableLine line v.0 v.1
 variable-of-is line v e =
     let m = then-some (variable_if (begins_variable line)) (behind (codes "var") line.1) v e in
     let begun = if-some (begins_variable line) (variable_in m.0) v m.2 in
@@ -109,10 +109,10 @@ abbrev so_many : ℕ → List (List ℕ) → Option (List (List ℕ))
 so_many slots fields = some_if (list_all is_field fields && (length fields == slots)) fields
 
 -- the fields of a transition of this many slots
-abbrev pub transition_of : ℕ → Line → Option (List (List ℕ))
+abbrev pub transition_of : ℕ → NumberedLine → Option (List (List ℕ))
 transition_of slots line = if begins_variable line then None else so_many slots (fields_of line)
 
-pub transition-is-of : (line : Line) (slots : ℕ) (fields : List (List ℕ)) → IsTransitionLine line slots fields → transition_of slots line ≡ Some fields
+pub transition-is-of : (line : NumberedLine) (slots : ℕ) (fields : List (List ℕ)) → IsTransitionLine line slots fields → transition_of slots line ≡ Some fields
 transition-is-of line slots fields t =
     let good = and_from (list_all is_field fields) (length fields == slots) t.are_fields (eq-eqb (length fields) slots t.count) in
     cond-false _ _ _ t.no_variable
@@ -123,7 +123,7 @@ unless-some : {A : Type 0} (b : Bool) (o : Option A) (y : A) → (if b then None
 unless-some true o y e = cc
 unless-some false o y e = (refl, e)
 
-pub transition-of-is : (line : Line) (slots : ℕ) (fields : List (List ℕ)) → transition_of slots line ≡ Some fields → IsTransitionLine line slots fields
+pub transition-of-is : (line : NumberedLine) (slots : ℕ) (fields : List (List ℕ)) → transition_of slots line ≡ Some fields → IsTransitionLine line slots fields
 transition-of-is line slots fields e =
     let u = unless-some (begins_variable line) (so_many slots (fields_of line)) fields e in
     let s = some-if (list_all is_field (fields_of line) && (length (fields_of line) == slots)) (fields_of line) fields u.1 in
@@ -185,12 +185,12 @@ with-front-stands b (p ∷ ps) all =
     let two = and_parts (stands_in_one b) (list_all stands_in_one p) one.0 in
     (two.0, and_from (list_all stands_in_one p) (list_all (list_all stands_in_one) ps) two.1 one.1)
 
-parts-stand : (bytes : List ℕ) → list_all (list_all stands_in_one) (parts_of bytes) ≡ true → list_all stands_in_one bytes ≡ true
+parts-stand : (bytes : List ℕ) → list_all (list_all stands_in_one) (comma_parts bytes) ≡ true → list_all stands_in_one bytes ≡ true
 parts-stand [] all = refl
 parts-stand (b ∷ bs) all = elim (cases_Bool (b == 44)) [
-  | inl t ↦ and_from (stands_in_one b) (list_all stands_in_one bs) (or_right (is_blank b) _ (or_left (b == 44) _ t)) (parts-stand bs (ap (λ v. list_all (list_all stands_in_one) (if v then [] ∷ parts_of bs else with_front b (parts_of bs))) (sym t) ∙ all))
+  | inl t ↦ and_from (stands_in_one b) (list_all stands_in_one bs) (or_right (is_blank b) _ (or_left (b == 44) _ t)) (parts-stand bs (ap (λ v. list_all (list_all stands_in_one) (if v then [] ∷ comma_parts bs else with_front b (comma_parts bs))) (sym t) ∙ all))
   | inr t ↦
-      let parts = with-front-stands b (parts_of bs) (ap (λ v. list_all (list_all stands_in_one) (if v then [] ∷ parts_of bs else with_front b (parts_of bs))) (sym t) ∙ all) in
+      let parts = with-front-stands b (comma_parts bs) (ap (λ v. list_all (list_all stands_in_one) (if v then [] ∷ comma_parts bs else with_front b (comma_parts bs))) (sym t) ∙ all) in
       and_from (stands_in_one b) (list_all stands_in_one bs) parts.0 (parts-stand bs parts.1)
 ]
 
@@ -206,11 +206,11 @@ bytes-stand (b ∷ bs) all =
     let parts = and_parts (is_field (b ∷ [])) (list_all is_field (map (λ b. b ∷ []) bs)) all in
     and_from (stands_in_one b) (list_all stands_in_one bs) (and_parts (stands_in_one b) true (field-stands (b ∷ []) parts.0)).0 (bytes-stand bs parts.1)
 
-line-stands : (line : Line) (slots : ℕ) (fields : List (List ℕ)) → IsTransitionLine line slots fields → list_all stands_in_one line.1 ≡ true
+line-stands : (line : NumberedLine) (slots : ℕ) (fields : List (List ℕ)) → IsTransitionLine line slots fields → list_all stands_in_one line.1 ≡ true
 line-stands line slots fields t =
     let all : list_all is_field (fields_of line) ≡ true = ap (list_all is_field) t.fields_are ∙ t.are_fields in
     elim (cases_Bool (list_any (λ b. b == 44) line.1)) [
-      | inl c ↦ parts-stand line.1 (fields-stand (parts_of line.1) (ap (λ v. list_all is_field (if v then fields_between line.1 else map (λ b. b ∷ []) line.1)) (sym c) ∙ all))
+      | inl c ↦ parts-stand line.1 (fields-stand (comma_parts line.1) (ap (λ v. list_all is_field (if v then fields_between line.1 else map (λ b. b ∷ []) line.1)) (sym c) ∙ all))
       | inr c ↦ bytes-stand line.1 (ap (λ v. list_all is_field (if v then fields_between line.1 else map (λ b. b ∷ []) line.1)) (sym c) ∙ all)
     ]
 
@@ -226,15 +226,15 @@ at-sign (b ∷ bs) all = elim (cases_Bool (b == 64)) [
   | inr t ↦ t
 ]
 
-pub transition-no-section : (line : Line) (slots : ℕ) (fields : List (List ℕ)) → IsTransitionLine line slots fields → begins_section line ≡ false
+pub transition-no-section : (line : NumberedLine) (slots : ℕ) (fields : List (List ℕ)) → IsTransitionLine line slots fields → begins_section line ≡ false
 transition-no-section line slots fields t = at-sign line.1 (line-stands line slots fields t)
 
-pub variable-no-section : (line : Line) (name : List ℕ) (fields : List (List ℕ)) → IsVariableLine line name fields → begins_section line ≡ false
+pub variable-no-section : (line : NumberedLine) (name : List ℕ) (fields : List (List ℕ)) → IsVariableLine line name fields → begins_section line ≡ false
 variable-no-section line name fields v = ap (begins_with (λ b. b == 64)) v.spelled
 
 -- ---- nor is a setting
 
-pub variable-no-setting : (line : Line) (name : List ℕ) (fields : List (List ℕ)) → IsVariableLine line name fields → is_setting line ≡ false
+pub variable-no-setting : (line : NumberedLine) (name : List ℕ) (fields : List (List ℕ)) → IsVariableLine line name fields → is_setting line ≡ false
 variable-no-setting line name fields v = ap (λ l. is_setting (line.0, l)) v.spelled
 
 is-some : {A : Type 0} (o : Option A) → is_some o ≡ true → (x : A) × (o ≡ Some x)
@@ -242,7 +242,7 @@ is-some None e = absurd (false≢true e)
 is-some (Some x) e = (x, refl)
 
 -- a colon is in the line of a setting
-colon-stands : (word : List ℕ) (line : Line) → is_some (setting word line) ≡ true → list_all stands_in_one line.1 ≡ true → ⊥
+colon-stands : (word : List ℕ) (line : NumberedLine) → is_some (setting word line) ≡ true → list_all stands_in_one line.1 ≡ true → ⊥
 colon-stands word line some all =
     let value = is-some (setting word line) some in
     let m = map-some (rest is_blank) (option_and_then (λ bytes. behind (codes ":") (rest is_blank bytes)) (behind word line.1)) value.0 value.1 in
@@ -252,12 +252,12 @@ colon-stands word line some all =
     let last = every_right stands_in_one (front is_blank t.0) (codes ":" ++ m.0) (ap (list_all stands_in_one) (sym colon) ∙ later) in
     false≢true last
 
-any-word : (words : List (List ℕ)) (line : Line) → list_all stands_in_one line.1 ≡ true → list_any (λ word. is_some (setting word line)) words ≡ false
+any-word : (words : List (List ℕ)) (line : NumberedLine) → list_all stands_in_one line.1 ≡ true → list_any (λ word. is_some (setting word line)) words ≡ false
 any-word [] line all = refl
 any-word (w ∷ ws) line all = elim (cases_Bool (is_some (setting w line))) [
   | inl t ↦ absurd (colon-stands w line t all)
   | inr t ↦ or_from (is_some (setting w line)) (list_any (λ word. is_some (setting word line)) ws) t (any-word ws line all)
 ]
 
-pub transition-no-setting : (line : Line) (slots : ℕ) (fields : List (List ℕ)) → IsTransitionLine line slots fields → is_setting line ≡ false
+pub transition-no-setting : (line : NumberedLine) (slots : ℕ) (fields : List (List ℕ)) → IsTransitionLine line slots fields → is_setting line ≡ false
 transition-no-setting line slots fields t = any-word setting_words line (line-stands line slots fields t)

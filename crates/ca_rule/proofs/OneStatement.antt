@@ -9,8 +9,8 @@ use Rattle.ca_rule.specs.declared.table.fault.TableFault.TheVariants as faults
 use Rattle.ca_rule.specs.declared.table.slot.Slot.{Slot}
 use Rattle.ca_rule.specs.declared.table.slot.Slot.TheVariants.{Number, Variable}
 use Rattle.ca_rule.specs.Digits.{are_digits}
-use Rattle.ca_rule.specs.TableLines.{Line, begins_section, is_setting, is_name, is_field, IsVariableLine, IsTransitionLine}
-use Rattle.ca_rule.specs.TableText.{Settings, Said, number_of, StandsFor, is_bound, field_count, SaysVariable, SaysTransition}
+use Rattle.ca_rule.specs.TableLines.{NumberedLine, begins_section, is_setting, is_name, is_field, IsVariableLine, IsTransitionLine}
+use Rattle.ca_rule.specs.TableText.{Settings, SaidStatements, number_of, StandsFor, is_bound, field_count, SaysVariable, SaysTransition}
 use Rattle.ca_rule.specs.TableFaults.{IsMisspelled, HasFields, HasBadState, HasUnknownName, HasUnbound}
 use Rattle.ca_rule.specs.inner.TableSaid.{with_variable}
 use Rattle.ca_rule.proofs.OneSpelling.{map-some, some_if, some-if, variable_of, variable-is-of, variable-of-is, transition_of, transition-is-of, transition-of-is, transition-no-section, variable-no-section, variable-no-setting, transition-no-setting}
@@ -23,12 +23,12 @@ then_ok f (Err e) = Err e
 -- ---- fields
 
 -- what a field stands for, where it is known whether it is a number
-abbrev pub slot_if : Settings → Said → List ℕ → Bool → Option Slot
+abbrev pub slot_if : Settings → SaidStatements → List ℕ → Bool → Option Slot
 slot_if settings said field true = some_if (nat_lt (value field) settings.states) (Number (value field))
 slot_if settings said field false = option_map Variable (number_of 0 said.variables field)
 
 -- what a field stands for
-abbrev pub slot_of : Settings → Said → List ℕ → Option Slot
+abbrev pub slot_of : Settings → SaidStatements → List ℕ → Option Slot
 slot_of settings said field = slot_if settings said field (are_digits field)
 
 abbrev fault_if : ℕ → Bool → TableFault
@@ -44,7 +44,7 @@ with_slot None fault later = Err fault
 with_slot (Some s) fault later = then_ok (λ ss. Ok (s ∷ ss)) later
 
 -- what the fields of the n-th line stand for, or the fault of the first that stands for nothing
-abbrev pub slots_of : Settings → Said → ℕ → List (List ℕ) → Result (List Slot) TableFault
+abbrev pub slots_of : Settings → SaidStatements → ℕ → List (List ℕ) → Result (List Slot) TableFault
 slots_of settings said n [] = Ok []
 slots_of settings said n (f ∷ fs) = with_slot (slot_of settings said f) (field_fault n f) (slots_of settings said n fs)
 
@@ -59,7 +59,7 @@ digits-or-name (b ∷ bs) d n =
 no-digits : (field : List ℕ) → is_name field ≡ true → are_digits field ≡ false
 no-digits field n = false_from_ne_true (are_digits field) (λ d. digits-or-name field d n)
 
-module _ (settings : Settings) (said : Said) where
+module _ (settings : Settings) (said : SaidStatements) where
   slot-is : (field : List ℕ) (slot : Slot) → StandsFor settings said field slot → slot_of settings said field ≡ Some slot
   slot-is field (Number state) h =
       let low : value field < settings.states = subst (λ v. v < settings.states) h.1 h.2 in
@@ -136,33 +136,33 @@ result-is (s ∷ []) result = refl
 result-is (s ∷ t ∷ ss) result = result-is (t ∷ ss) result
 
 -- one more transition is said
-abbrev pub with_transition : Said → List Slot → Slot → Said
+abbrev pub with_transition : SaidStatements → List Slot → Slot → SaidStatements
 with_transition said inputs result = record said { transitions = said.transitions ++ record { inputs = inputs; result = result } ∷ [] }
 
-abbrev said_if : Said → ℕ → List Slot → Slot → Bool → Result Said TableFault
+abbrev said_if : SaidStatements → ℕ → List Slot → Slot → Bool → Result SaidStatements TableFault
 said_if said n inputs result true = Ok (with_transition said inputs result)
 said_if said n inputs result false = Err (faults.Unbound n)
 
-abbrev bound_or_fault : Said → ℕ → List Slot → Slot → Result Said TableFault
+abbrev bound_or_fault : SaidStatements → ℕ → List Slot → Slot → Result SaidStatements TableFault
 bound_or_fault said n inputs result = said_if said n inputs result (is_bound result inputs)
 
-abbrev step_with : Settings → Said → Line → Option (List ℕ × List (List ℕ)) → Option (List (List ℕ)) → Result Said TableFault
+abbrev step_with : Settings → SaidStatements → NumberedLine → Option (List ℕ × List (List ℕ)) → Option (List (List ℕ)) → Result SaidStatements TableFault
 step_with settings said line (Some v) t = then_ok (λ slots. Ok (with_variable settings said v.0 slots)) (slots_of settings said line.0 v.1)
 step_with settings said line None (Some fields) = then_ok (λ slots. bound_or_fault said line.0 (inputs_of slots) (result_of slots)) (slots_of settings said line.0 fields)
 step_with settings said line None None = Err (faults.Syntax line.0)
 
 -- what is said after the line, or its fault
-abbrev pub step_of : Settings → Said → Line → Result Said TableFault
+abbrev pub step_of : Settings → SaidStatements → NumberedLine → Result SaidStatements TableFault
 step_of settings said line = step_with settings said line (variable_of line) (transition_of (field_count settings) line)
 
 none-of : {A : Type 0} (o : Option A) → ((x : A) → o ≡ Some x → ⊥) → o ≡ None
 none-of None none = refl
 none-of (Some x) none = absurd (none x refl)
 
-transition-no-variable : (line : Line) (slots : ℕ) (fields : List (List ℕ)) → IsTransitionLine line slots fields → variable_of line ≡ None
+transition-no-variable : (line : NumberedLine) (slots : ℕ) (fields : List (List ℕ)) → IsTransitionLine line slots fields → variable_of line ≡ None
 transition-no-variable line slots fields t = none-of (variable_of line) (λ v e. true≢false (sym (variable-of-is line v e).begins ∙ t.no_variable))
 
-module _ (settings : Settings) (said : Said) (line : Line) where
+module _ (settings : Settings) (said : SaidStatements) (line : NumberedLine) where
   at-variable : (name : List ℕ) (fields : List (List ℕ)) → IsVariableLine line name fields → step_of settings said line ≡ then_ok (λ slots. Ok (with_variable settings said name slots)) (slots_of settings said line.0 fields)
   at-variable name fields v = ap (λ o. step_with settings said line o (transition_of (field_count settings) line)) (variable-is-of line name fields v)
 
@@ -182,10 +182,10 @@ module _ (settings : Settings) (said : Said) (line : Line) where
       ∙ ap (bound_or_fault said line.0 inputs) (result-is inputs result)
 
   -- the line says this
-  abbrev pub Says : Said → Type 0
+  abbrev pub Says : SaidStatements → Type 0
   Says after = SaysVariable settings said line after ⊎ SaysTransition settings said line after
 
-  pub step-says : (after : Said) → Says after → step_of settings said line ≡ Ok after
+  pub step-says : (after : SaidStatements) → Says after → step_of settings said line ≡ Ok after
   step-says after (inl v) =
       at-variable v.name v.fields v.spelled
       ∙ ap (then_ok (λ slots. Ok (with_variable settings said v.name slots))) (slots-are settings said line.0 v.fields v.slots v.stand)
@@ -196,11 +196,11 @@ module _ (settings : Settings) (said : Said) (line : Line) where
       ∙ ap (λ a. Ok a) (sym t.after_is)
 
   -- a line that says something is no setting, and begins no section
-  pub says-no-setting : (after : Said) → Says after → is_setting line ≡ false
+  pub says-no-setting : (after : SaidStatements) → Says after → is_setting line ≡ false
   says-no-setting after (inl v) = variable-no-setting line v.name v.fields v.spelled
   says-no-setting after (inr t) = transition-no-setting line (field_count settings) t.fields t.spelled
 
-  pub says-no-section : (after : Said) → Says after → begins_section line ≡ false
+  pub says-no-section : (after : SaidStatements) → Says after → begins_section line ≡ false
   says-no-section after (inl v) = variable-no-section line v.name v.fields v.spelled
   says-no-section after (inr t) = transition-no-section line (field_count settings) t.fields t.spelled
 

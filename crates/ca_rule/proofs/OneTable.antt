@@ -9,20 +9,20 @@ use Rattle.ca_rule.specs.declared.table.fault.TableFault.TheVariants.{NoRuleLine
 use Rattle.ca_rule.specs.declared.table.neighbourhood.Neighbourhood.{Neighbourhood}
 use Rattle.ca_rule.specs.declared.table.neighbourhood.Symmetry.{Symmetry}
 use Rattle.ca_rule.specs.TableNext.{TableRule}
-use Rattle.ca_rule.specs.TableLines.{Line, lines_said, last_line, rule_name, begins_table, begins_section, setting, setting_words, is_setting, value_of, states_set, neighbourhood_set, symmetry_set}
-use Rattle.ca_rule.specs.TableText.{HasTable, sets_again, are_settings, Settings, Mean, Said, nothing, Say, made, is_end_of_section, IsTable}
-use Rattle.ca_rule.specs.TableFaults.{number_at, is_behind_settings, HasNoRuleLine, HasNoTable, SetsAgain, HasSettings, LackStates, LackNeighbourhood, LackSymmetry, HasStatement, IsMisspelled, HasBadState, HasUnknownName, HasUnbound, DoesWake, IsFaultOf}
+use Rattle.ca_rule.specs.TableLines.{NumberedLine, lines_said, last_line, rule_name, begins_table, begins_section, setting, setting_words, is_setting, value_of, states_set, neighbourhood_set, symmetry_set}
+use Rattle.ca_rule.specs.TableText.{HasTable, sets_again, are_settings, Settings, Mean, SaidStatements, nothing, Say, made, is_end_of_section, IsTable}
+use Rattle.ca_rule.specs.TableFaults.{number_at, is_behind_settings, HasNoRuleLine, HasNoTable, SetsAgain, HasSettings, LackStates, LackNeighbourhood, LackSymmetry, HasStatement, IsMisspelled, HasBadState, HasUnknownName, HasUnbound, DoesWake, IsTableTextFault}
 use Rattle.ca_rule.proofs.OneStatement.{then_ok, step_of, step-says, says-no-setting, says-no-section, step-misspelled, step-bad-state, step-unknown-name, step-unbound}
 
 -- ---- a reading
 
 -- what statements make after what was said, or the first fault
-abbrev by_statements : List ℕ → Settings → Said → List Line → Result TableRule TableFault
+abbrev by_statements : List ℕ → Settings → SaidStatements → List NumberedLine → Result TableRule TableFault
 by_statements named settings said [] = Ok (made named settings said)
 by_statements named settings said (l ∷ ls) = if begins_section l then Ok (made named settings said) else then_ok (λ next. by_statements named settings next ls) (step_of settings said l)
 
 -- what they make after settings
-abbrev from_nothing : List ℕ → List Line → Settings → Result TableRule TableFault
+abbrev from_nothing : List ℕ → List NumberedLine → Settings → Result TableRule TableFault
 from_nothing named lines settings = by_statements named settings nothing lines
 
 abbrev with_symmetry : ℕ → ℕ → Neighbourhood → Option Symmetry → Result Settings TableFault
@@ -34,33 +34,33 @@ with_states n None of under = Err (States n)
 with_states n (Some count) None under = Err (Neighborhood n)
 with_states n (Some count) (Some of) under = with_symmetry n count of (under of)
 
-abbrev under_of : List Line → Neighbourhood → Option Symmetry
+abbrev under_of : List NumberedLine → Neighbourhood → Option Symmetry
 under_of lines of = symmetry_set of lines
 
 -- what settings mean, which end at the n-th line
-abbrev settings_of : ℕ → List Line → Result Settings TableFault
+abbrev settings_of : ℕ → List NumberedLine → Result Settings TableFault
 settings_of n lines = with_states n (states_set lines) (neighbourhood_set lines) (under_of lines)
 
 -- the settings end, and these lines follow them
-abbrev by_meaning : List ℕ → List ℕ → List Line → List Line → Result TableRule TableFault
+abbrev by_meaning : List ℕ → List ℕ → List NumberedLine → List NumberedLine → Result TableRule TableFault
 by_meaning bytes named good behind = then_ok (from_nothing named behind) (settings_of (number_at bytes behind) good)
 
 -- these lines follow settings
-abbrev by_settings : List ℕ → List ℕ → List Line → List Line → Result TableRule TableFault
+abbrev by_settings : List ℕ → List ℕ → List NumberedLine → List NumberedLine → Result TableRule TableFault
 by_settings bytes named good [] = by_meaning bytes named good []
 by_settings bytes named good (l ∷ ls) =
     if is_setting l then (if sets_again good l then Err (Syntax l.0) else by_settings bytes named (good ++ l ∷ []) ls) else by_meaning bytes named good (l ∷ ls)
 
 -- these lines follow the name
-abbrev by_table : List ℕ → List ℕ → List Line → Result TableRule TableFault
+abbrev by_table : List ℕ → List ℕ → List NumberedLine → Result TableRule TableFault
 by_table bytes named [] = Err (NoTable (last_line bytes))
 by_table bytes named (l ∷ ls) = if begins_table l then by_settings bytes named [] ls else by_table bytes named ls
 
-abbrev by_name : List ℕ → ℕ → Option (List ℕ) → List Line → Result TableRule TableFault
+abbrev by_name : List ℕ → ℕ → Option (List ℕ) → List NumberedLine → Result TableRule TableFault
 by_name bytes n None ls = Err (NoRuleLine n)
 by_name bytes n (Some named) ls = by_table bytes named ls
 
-abbrev by_lines : List ℕ → List Line → Result TableRule TableFault
+abbrev by_lines : List ℕ → List NumberedLine → Result TableRule TableFault
 by_lines bytes [] = Err (NoRuleLine (last_line bytes))
 by_lines bytes (l ∷ ls) = by_name bytes l.0 (rule_name l) ls
 
@@ -71,29 +71,29 @@ reading bytes = by_lines bytes (lines_said bytes)
 -- ---- the head
 
 module _ (bytes named : List ℕ) where
-  skipped-table : (skipped : List Line) (line : Line) (lines : List Line) → list_any begins_table skipped ≡ false → begins_table line ≡ true → by_table bytes named (skipped ++ line ∷ lines) ≡ by_settings bytes named [] lines
+  skipped-table : (skipped : List NumberedLine) (line : NumberedLine) (lines : List NumberedLine) → list_any begins_table skipped ≡ false → begins_table line ≡ true → by_table bytes named (skipped ++ line ∷ lines) ≡ by_settings bytes named [] lines
   skipped-table [] line lines none begins = cond-true _ _ _ begins
   skipped-table (s ∷ ss) line lines none begins =
       let parts = or_parts (begins_table s) (list_any begins_table ss) none in
       cond-false _ _ _ parts.0 ∙ skipped-table ss line lines parts.1 begins
 
-  no-table : (lines : List Line) → list_any begins_table lines ≡ false → by_table bytes named lines ≡ Err (NoTable (last_line bytes))
+  no-table : (lines : List NumberedLine) → list_any begins_table lines ≡ false → by_table bytes named lines ≡ Err (NoTable (last_line bytes))
   no-table [] none = refl
   no-table (l ∷ ls) none =
       let parts = or_parts (begins_table l) (list_any begins_table ls) none in
       cond-false _ _ _ parts.0 ∙ no-table ls parts.1
 
 -- a text with a table is read from after `@TABLE` on
-has-table : (bytes named : List ℕ) (lines : List Line) → HasTable bytes named lines → reading bytes ≡ by_settings bytes named [] lines
+has-table : (bytes named : List ℕ) (lines : List NumberedLine) → HasTable bytes named lines → reading bytes ≡ by_settings bytes named [] lines
 has-table bytes named lines h =
     ap (by_lines bytes) h.whole ∙ ap (λ o. by_name bytes h.rule_line.0 o (h.skipped ++ h.table_line ∷ lines)) h.named
     ∙ skipped-table bytes named h.skipped h.table_line lines h.no_table h.begins
 
-no-rule-line : (bytes : List ℕ) (lines : List Line) → HasNoRuleLine lines → by_lines bytes lines ≡ Err (NoRuleLine (number_at bytes lines))
+no-rule-line : (bytes : List ℕ) (lines : List NumberedLine) → HasNoRuleLine lines → by_lines bytes lines ≡ Err (NoRuleLine (number_at bytes lines))
 no-rule-line bytes [] none = refl
 no-rule-line bytes (l ∷ ls) none = ap (λ o. by_name bytes l.0 o ls) none
 
-no-table-line : (bytes : List ℕ) (lines : List Line) → HasNoTable lines → by_lines bytes lines ≡ Err (NoTable (last_line bytes))
+no-table-line : (bytes : List ℕ) (lines : List NumberedLine) → HasNoTable lines → by_lines bytes lines ≡ Err (NoTable (last_line bytes))
 no-table-line bytes [] none = absurd none
 no-table-line bytes (l ∷ ls) none = ap (λ o. by_name bytes l.0 o ls) none.1 ∙ no-table bytes none.0 ls none.2
 
@@ -107,17 +107,17 @@ any-both f g (w ∷ ws) e = elim (or_cases (f w && g w) (list_any (λ w. f w && 
   | inr h ↦ or_right (f w) (list_any f ws) (any-both f g ws h)
 ]
 
-pub again-setting : (earlier : List Line) (line : Line) → sets_again earlier line ≡ true → is_setting line ≡ true
+pub again-setting : (earlier : List NumberedLine) (line : NumberedLine) → sets_again earlier line ≡ true → is_setting line ≡ true
 again-setting earlier line again = any-both (λ word. is_some (setting word line)) (λ word. is_some (value_of word earlier)) setting_words again
 
 module _ (bytes named : List ℕ) where
-  good-setting : (earlier : List Line) (line : Line) (later : List Line) → (is_setting line && not (sets_again earlier line)) ≡ true → by_settings bytes named earlier (line ∷ later) ≡ by_settings bytes named (earlier ++ line ∷ []) later
+  good-setting : (earlier : List NumberedLine) (line : NumberedLine) (later : List NumberedLine) → (is_setting line && not (sets_again earlier line)) ≡ true → by_settings bytes named earlier (line ∷ later) ≡ by_settings bytes named (earlier ++ line ∷ []) later
   good-setting earlier line later e =
       let parts = and_parts (is_setting line) (not (sets_again earlier line)) e in
       cond-true _ _ _ parts.0
       ∙ cond-false _ _ _ (not-true (sets_again earlier line) parts.1)
 
-  settings-end : (earlier good behind : List Line) → are_settings earlier good ≡ true → is_behind_settings behind ≡ true → by_settings bytes named earlier (good ++ behind) ≡ by_meaning bytes named (earlier ++ good) behind
+  settings-end : (earlier good behind : List NumberedLine) → are_settings earlier good ≡ true → is_behind_settings behind ≡ true → by_settings bytes named earlier (good ++ behind) ≡ by_meaning bytes named (earlier ++ good) behind
   settings-end earlier [] [] once ends = ap (λ g. by_meaning bytes named g []) (sym (append-nil earlier))
   settings-end earlier [] (l ∷ ls) once ends =
       cond-false _ _ _ (not-true (is_setting l) ends)
@@ -127,7 +127,7 @@ module _ (bytes named : List ℕ) where
       good-setting earlier x (xs ++ behind) parts.0 ∙ settings-end (earlier ++ x ∷ []) xs behind parts.1 ends
       ∙ ap (λ g. by_meaning bytes named g behind) (append_assoc earlier (x ∷ []) xs)
 
-  settings-again : (earlier good : List Line) (line : Line) (later : List Line) → are_settings earlier good ≡ true → sets_again (earlier ++ good) line ≡ true → by_settings bytes named earlier (good ++ line ∷ later) ≡ Err (Syntax line.0)
+  settings-again : (earlier good : List NumberedLine) (line : NumberedLine) (later : List NumberedLine) → are_settings earlier good ≡ true → sets_again (earlier ++ good) line ≡ true → by_settings bytes named earlier (good ++ line ∷ later) ≡ Err (Syntax line.0)
   settings-again earlier [] line later once again =
       let twice : sets_again earlier line ≡ true = ap (λ g. sets_again g line) (sym (append-nil earlier)) ∙ again in
       cond-true _ _ _ (again-setting earlier line twice)
@@ -138,21 +138,21 @@ module _ (bytes named : List ℕ) where
       ∙ settings-again (earlier ++ x ∷ []) xs line later parts.1 (ap (λ g. sets_again g line) (append_assoc earlier (x ∷ []) xs) ∙ again)
 
 -- what settings mean
-settings-mean : (n : ℕ) (lines : List Line) (settings : Settings) → Mean lines settings → settings_of n lines ≡ Ok settings
+settings-mean : (n : ℕ) (lines : List NumberedLine) (settings : Settings) → Mean lines settings → settings_of n lines ≡ Ok settings
 settings-mean n lines settings m =
     ap (λ o. with_states n o (neighbourhood_set lines) (under_of lines)) m.states_are
     ∙ ap (λ o. with_states n (Some settings.states) o (under_of lines)) m.neighbourhood_is
     ∙ ap (with_symmetry n settings.states settings.neighbourhood) m.symmetry_is
 
-lack-states : (n : ℕ) (lines : List Line) → LackStates lines → settings_of n lines ≡ Err (States n)
+lack-states : (n : ℕ) (lines : List NumberedLine) → LackStates lines → settings_of n lines ≡ Err (States n)
 lack-states n lines none = ap (λ o. with_states n o (neighbourhood_set lines) (under_of lines)) none
 
-lack-neighbourhood : (n : ℕ) (lines : List Line) → LackNeighbourhood lines → settings_of n lines ≡ Err (Neighborhood n)
+lack-neighbourhood : (n : ℕ) (lines : List NumberedLine) → LackNeighbourhood lines → settings_of n lines ≡ Err (Neighborhood n)
 lack-neighbourhood n lines (count, some, none) =
     ap (λ o. with_states n o (neighbourhood_set lines) (under_of lines)) some
     ∙ ap (λ o. with_states n (Some count) o (under_of lines)) none
 
-lack-symmetry : (n : ℕ) (lines : List Line) → LackSymmetry lines → settings_of n lines ≡ Err (Symmetries n)
+lack-symmetry : (n : ℕ) (lines : List NumberedLine) → LackSymmetry lines → settings_of n lines ≡ Err (Symmetries n)
 lack-symmetry n lines (count, of, some, other, none) =
     ap (λ o. with_states n o (neighbourhood_set lines) (under_of lines)) some
     ∙ ap (λ o. with_states n (Some count) o (under_of lines)) other
@@ -161,7 +161,7 @@ lack-symmetry n lines (count, of, some, other, none) =
 -- ---- statements
 
 module _ (named : List ℕ) (settings : Settings) where
-  statements-end : (said : Said) (good later : List Line) (after : Said) → Say settings said good after → is_end_of_section later ≡ true → by_statements named settings said (good ++ later) ≡ Ok (made named settings after)
+  statements-end : (said : SaidStatements) (good later : List NumberedLine) (after : SaidStatements) → Say settings said good after → is_end_of_section later ≡ true → by_statements named settings said (good ++ later) ≡ Ok (made named settings after)
   statements-end said [] [] after say ends = ap (λ s. Ok (made named settings s)) say
   statements-end said [] (l ∷ ls) after say ends =
       cond-true _ _ _ ends
@@ -171,7 +171,7 @@ module _ (named : List ℕ) (settings : Settings) where
       ∙ ap (then_ok (λ next. by_statements named settings next (xs ++ later))) (step-says settings said x next says)
       ∙ statements-end next xs later after more ends
 
-  statements-fault : (said : Said) (good : List Line) (line : Line) (later : List Line) (after : Said) (f : TableFault) → Say settings said good after → begins_section line ≡ false → step_of settings after line ≡ Err f
+  statements-fault : (said : SaidStatements) (good : List NumberedLine) (line : NumberedLine) (later : List NumberedLine) (after : SaidStatements) (f : TableFault) → Say settings said good after → begins_section line ≡ false → step_of settings after line ≡ Err f
       → by_statements named settings said (good ++ line ∷ later) ≡ Err f
   statements-fault said [] line later after f say inside fault =
       cond-false _ _ _ inside
@@ -183,14 +183,14 @@ module _ (named : List ℕ) (settings : Settings) where
       ∙ statements-fault next xs line later after f more inside fault
 
 -- a line that begins a section is no setting
-pub section-no-setting : (line : Line) → begins_section line ≡ true → is_setting line ≡ false
+pub section-no-setting : (line : NumberedLine) → begins_section line ≡ true → is_setting line ≡ false
 section-no-setting (n, []) e = absurd (false≢true e)
 section-no-setting (n, b ∷ bs) e =
     let same : b ≡ 64 = grind (arith, nat_tests) in
     ap (λ c. is_setting (n, c ∷ bs)) same
 
 -- so statements follow the settings
-pub behind-settings : (settings : Settings) (said : Said) (good later : List Line) (after : Said) → Say settings said good after → is_end_of_section later ≡ true → is_behind_settings (good ++ later) ≡ true
+pub behind-settings : (settings : Settings) (said : SaidStatements) (good later : List NumberedLine) (after : SaidStatements) → Say settings said good after → is_end_of_section later ≡ true → is_behind_settings (good ++ later) ≡ true
 behind-settings settings said [] [] after say ends = refl
 behind-settings settings said [] (l ∷ ls) after say ends = ap not (section-no-setting l ends)
 behind-settings settings said (x ∷ xs) later after (next, says, more) ends = ap not (says-no-setting settings said x next says)
@@ -217,14 +217,14 @@ again-read bytes n a =
     has-table bytes a.name (a.good ++ a.line ∷ a.later) a.has_table ∙ settings-again bytes a.name [] a.good a.line a.later a.once a.again
     ∙ ap (λ m. Err (Syntax m)) (sym a.number)
 
-settings-read : (bytes : List ℕ) (n : ℕ) (P : List Line → Type 0) (f : TableFault) (h : HasSettings bytes n P) → settings_of n h.0 ≡ Err f → reading bytes ≡ Err f
+settings-read : (bytes : List ℕ) (n : ℕ) (P : List NumberedLine → Type 0) (f : TableFault) (h : HasSettings bytes n P) → settings_of n h.0 ≡ Err f → reading bytes ≡ Err f
 settings-read bytes n P f (lines, h, holds) e =
     has-table bytes h.name (lines ++ h.behind) h.has_table
     ∙ settings-end bytes h.name [] lines h.behind h.once h.ends
     ∙ ap (λ m. then_ok (from_nothing h.name h.behind) (settings_of m lines)) (sym h.number)
     ∙ ap (then_ok (from_nothing h.name h.behind)) e
 
-statement-read : (bytes : List ℕ) (n : ℕ) (P : Settings → Said → Line → Type 0) (f : ℕ → TableFault) (h : HasStatement bytes n P) → step_of h.settings h.said h.line ≡ Err (f h.line.0) → reading bytes ≡ Err (f n)
+statement-read : (bytes : List ℕ) (n : ℕ) (P : Settings → SaidStatements → NumberedLine → Type 0) (f : ℕ → TableFault) (h : HasStatement bytes n P) → step_of h.settings h.said h.line ≡ Err (f h.line.0) → reading bytes ≡ Err (f n)
 statement-read bytes n P f h e =
     has-table bytes h.name (h.setting_lines ++ (h.good ++ h.line ∷ h.later)) h.has_table
     ∙ settings-end bytes h.name [] h.setting_lines (h.good ++ h.line ∷ h.later) h.mean.once h.ends
@@ -243,7 +243,7 @@ pub data FaultKind (bytes : List ℕ) : TableFault → Type 0 where
   OfWaking : (t : TableRule) → IsTable bytes t → DoesWake t → FaultKind bytes (Wakes (last_line bytes))
 
 -- what a fault is of
-kind_of : (bytes : List ℕ) (f : TableFault) → IsFaultOf bytes f → FaultKind bytes f
+kind_of : (bytes : List ℕ) (f : TableFault) → IsTableTextFault bytes f → FaultKind bytes f
 kind_of bytes (NoRuleLine n) h = OfReading (no-rule-line bytes (lines_said bytes) h.0 ∙ ap (λ m. Err (NoRuleLine m)) (sym h.1))
 kind_of bytes (NoTable n) h = OfReading (no-table-line bytes (lines_said bytes) h.0 ∙ ap (λ m. Err (NoTable m)) (sym h.1))
 kind_of bytes (Syntax n) (inl h) = OfReading (again-read bytes n h)
@@ -266,7 +266,7 @@ none_by_kind bytes t f is (OfReading e) = absurd (table-or-fault bytes t f is e)
 none_by_kind bytes t f is (OfWaking u also wakes) = inr (refl, subst DoesWake (one_table bytes u t also is) wakes)
 
 -- a text of a table has no fault but that it wakes, out of memory apart
-pub none_of_a_table : (bytes : List ℕ) (t : TableRule) (f : TableFault) → IsTable bytes t → IsFaultOf bytes f → (f ≡ Memory) ⊎ ((f ≡ Wakes (last_line bytes)) × DoesWake t)
+pub none_of_a_table : (bytes : List ℕ) (t : TableRule) (f : TableFault) → IsTable bytes t → IsTableTextFault bytes f → (f ≡ Memory) ⊎ ((f ≡ Wakes (last_line bytes)) × DoesWake t)
 none_of_a_table bytes t f is h = none_by_kind bytes t f is (kind_of bytes f h)
 
 one_kind : (bytes : List ℕ) (f g : TableFault) → f ≢ Memory → g ≢ Memory → FaultKind bytes f → FaultKind bytes g → f ≡ g
@@ -279,5 +279,5 @@ one_kind bytes f g m n (OfWaking t is wakes) (OfReading e) = absurd (table-or-fa
 one_kind bytes f g m n (OfWaking t is wakes) (OfWaking u also others) = refl
 
 -- a text has one fault at most, out of memory apart
-pub one_fault : (bytes : List ℕ) (f g : TableFault) → f ≢ Memory → g ≢ Memory → IsFaultOf bytes f → IsFaultOf bytes g → f ≡ g
+pub one_fault : (bytes : List ℕ) (f g : TableFault) → f ≢ Memory → g ≢ Memory → IsTableTextFault bytes f → IsTableTextFault bytes g → f ≡ g
 one_fault bytes f g m n h k = one_kind bytes f g m n (kind_of bytes f h) (kind_of bytes g k)

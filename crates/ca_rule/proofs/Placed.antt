@@ -8,7 +8,7 @@ use Rattle.std.specs.Prelude.{if◌then◌else◌}
 use Rattle.ca_rule.specs.declared.table.neighbourhood.Neighbourhood.{Neighbourhood}
 use Rattle.ca_rule.specs.declared.table.neighbourhood.Symmetry.{Symmetry}
 use Rattle.ca_rule.specs.TableOrders.{ring, orders}
-use Rattle.ca_rule.specs.TableNext.{States, Transition, admits, arranged, fits, given, outcome, next_by, table_next}
+use Rattle.ca_rule.specs.TableNext.{States, Transition, admits, arranged, fits, result_state, outcome, next_by, table_next}
 use Rattle.ca_rule.specs.inner.TableStored.{stored}
 use Rattle.ca_rule.specs.inner.TablePlaces.{places, begins_at_centre, slots_admit, admits_centre, outcome_at, next_at}
 
@@ -23,8 +23,8 @@ arranged-at h nine order = ap (λ l. slice_index nine 4 ∷ l) (cells-at h nine 
 outcome-at : (h : Neighbourhood) (variables : List States) (nine : List ℕ) (t : Transition) (gs : List (List ℕ)) → outcome_at variables nine t (map (places h) gs) ≡ outcome h variables nine t gs
 outcome-at h variables nine t [] = refl
 outcome-at h variables nine t (g ∷ gs) =
-    ap (λ cells. if fits variables (zip t.inputs cells) then Some (given t.result (zip t.inputs cells)) else outcome_at variables nine t (map (places h) gs)) (arranged-at h nine g)
-    ∙ ap (λ o. if fits variables (zip t.inputs (arranged h nine g)) then Some (given t.result (zip t.inputs (arranged h nine g))) else o) (outcome-at h variables nine t gs)
+    ap (λ cells. if fits variables (zip t.inputs cells) then Some (result_state t.result (zip t.inputs cells)) else outcome_at variables nine t (map (places h) gs)) (arranged-at h nine g)
+    ∙ ap (λ o. if fits variables (zip t.inputs (arranged h nine g)) then Some (result_state t.result (zip t.inputs (arranged h nine g))) else o) (outcome-at h variables nine t gs)
 
 -- the next state is the same by either
 pub next-at : (h : Neighbourhood) (variables : List States) (gs : List (List ℕ)) (nine : List ℕ) (ts : List Transition) → next_at variables (map (places h) gs) nine ts ≡ next_by h variables gs nine ts

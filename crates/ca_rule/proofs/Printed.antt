@@ -4,7 +4,7 @@ use Rattle.std.specs.List.{list_all, list_any, filter}
 use Rattle.std.proofs.lemmas.Bool.{and_parts, cases_Bool}
 use Rattle.std.proofs.lemmas.Bool.Decides.{nat_tests}
 use Rattle.ca_rule.specs.Counts.{most_of, is_count, has_digit, counts_of, are_digits_up_to, FitsHood}
-use Rattle.ca_rule.specs.Spelling.{IsSuffix, Names, digits_of, suffix_of, printed}
+use Rattle.ca_rule.specs.Spelling.{IsSuffix, NamesBsRule, digits_of, suffix_of, printed_bs_rule}
 use Rattle.ca_rule.specs.declared.bs_rule.BsRule.{BsRule}
 use Rattle.ca_rule.specs.declared.counts.Counts.{Counts}
 use Rattle.ca_rule.specs.declared.hood.Hood.{Hood}
@@ -109,7 +109,7 @@ suffix-is Hex = (72, inl refl, refl)
 
 -- the printed form of a rule names it
 pub names_itself : (rule : BsRule) → length rule.birth.holds ≡ 9 → length rule.survival.holds ≡ 9 → is_count rule.birth 0 ≡ false → FitsHood rule.birth rule.hood → FitsHood rule.survival rule.hood
-    → Names (printed rule.hood rule.birth rule.survival) rule
+    → NamesBsRule (printed_bs_rule rule.hood rule.birth rule.survival) rule
 names_itself rule lb ls stays fb fs = record {
   birth = digits_of rule.birth;
   survival = digits_of rule.survival;

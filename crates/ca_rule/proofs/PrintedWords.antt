@@ -6,7 +6,7 @@ use Rattle.std.proofs.lemmas.Bool.Decides.{nat_tests}
 use Rattle.ca_plane.specs.Bytes.{Every, is_word_byte, IsWord}
 use Rattle.ca_plane.proofs.Fronts.{every_append}
 use Rattle.ca_rule.specs.Counts.{is_count}
-use Rattle.ca_rule.specs.Spelling.{digits_of, suffix_of, printed}
+use Rattle.ca_rule.specs.Spelling.{digits_of, suffix_of, printed_bs_rule}
 use Rattle.ca_rule.specs.declared.counts.Counts.{Counts}
 use Rattle.ca_rule.specs.declared.hood.Hood.{Hood}
 use Rattle.ca_rule.specs.declared.hood.Hood.TheVariants.{Moore, VonNeumann, Hex}
@@ -27,7 +27,7 @@ suffix_in_word VonNeumann = refl
 suffix_in_word Hex = refl
 
 -- the printed form of a rule is a word
-pub printed_is_word : (hood : Hood) (birth survival : Counts) → IsWord (printed hood birth survival)
+pub printed_is_word : (hood : Hood) (birth survival : Counts) → IsWord (printed_bs_rule hood birth survival)
 printed_is_word hood birth survival =
     let later = every_append is_word_byte (digits_of survival) (suffix_of hood) (digits_in_word (is_count survival) numbers refl) (suffix_in_word hood) in
     every_append is_word_byte (digits_of birth) (47 ∷ 83 ∷ (digits_of survival ++ suffix_of hood)) (digits_in_word (is_count birth) numbers refl) later

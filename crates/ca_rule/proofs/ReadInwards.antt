@@ -6,11 +6,11 @@ use Rattle.std.proofs.lemmas.Bool.Decides.{nat_tests}
 use Rattle.ca_plane.specs.Bytes.{Every, is_digit, is_end_or, rest}
 use Rattle.ca_plane.proofs.Fronts.{front_append, rest_append, every_append, every_wider}
 use Rattle.ca_rule.specs.Counts.{most_of, are_digits_up_to}
-use Rattle.ca_rule.specs.inner.TextParts.{is_letter, hood_of, body_of, without_slash, behind_letter, behind_slash, both, swapped, lists_around, lists_around_slash, lists_of}
-use Rattle.ca_rule.specs.Spelling.{IsLetter, IsSuffix, IsOptionalSlash, IsLettered, IsUnlettered, Spells, has_colon}
+use Rattle.ca_rule.specs.inner.TextParts.{is_rule_letter, hood_of, body_of, without_slash, behind_letter, behind_slash, both, swapped, lists_around, lists_around_slash, lists_of}
+use Rattle.ca_rule.specs.Spelling.{IsLetter, IsSuffix, IsOptionalSlash, IsLettered, IsUnlettered, SpellsBsRule, has_colon}
 use Rattle.ca_rule.specs.declared.hood.Hood.{Hood}
 use Rattle.ca_rule.specs.declared.hood.Hood.TheVariants.{Moore, VonNeumann, Hex}
-use Rattle.ca_rule.proofs.Ends.{is_letter-from, is_plain, IsSplit, split, no_colon}
+use Rattle.ca_rule.proofs.Ends.{is_rule_letter-from, is_plain, IsSplit, split, no_colon}
 
 digits-up_to : (most : ℕ) → most ≤ 9 → (ds : List ℕ) → are_digits_up_to most ds ≡ true → Every is_digit ds
 digits-up_to most m ds h = every_wider (λ d. nat_le 48 d && nat_le d (48 + most)) is_digit (λ d t. grind (arith, nat_tests)) ds h
@@ -36,7 +36,7 @@ tail-letter upper b later low (inr e) = record { ends = grind (arith, nat_tests)
 
 tail : (upper b : ℕ) (slash later : List ℕ) → 65 ≤ upper → IsOptionalSlash slash → IsLetter upper b → IsTail upper (slash ++ (b ∷ later)) later
 tail upper b slash later low (inl none) l = rw none (tail-letter upper b later low l)
-tail upper b slash later low (inr one) l = rw one (record { ends = refl; leads = rw (is_letter-from upper b l) refl })
+tail upper b slash later low (inr one) l = rw one (record { ends = refl; leads = rw (is_rule_letter-from upper b l) refl })
 
 -- the lists round a letter are read
 around : (upper b : ℕ) (digits slash later : List ℕ) → 65 ≤ upper → Every is_digit digits → IsOptionalSlash slash → IsLetter upper b → lists_around upper (digits ++ (slash ++ (b ∷ later))) ≡ Some (digits, later)
@@ -62,7 +62,7 @@ lists-survival_first : (a : ℕ) (bs : List ℕ) → IsLetter 83 a → lists_of 
 lists-survival_first a bs (inl e) = rw e refl
 lists-survival_first a bs (inr e) = rw e refl
 
-no_letter : (upper s : ℕ) → 65 ≤ upper → is_digit s ≡ true → is_letter upper s ≡ false
+no_letter : (upper s : ℕ) → 65 ≤ upper → is_digit s ≡ true → is_rule_letter upper s ≡ false
 no_letter upper s low h = grind (arith, nat_tests)
 
 pub lists-no_letter : (survival birth : List ℕ) → Every is_digit survival → lists_of (survival ++ (47 ∷ birth)) ≡ swapped (lists_around_slash (survival ++ (47 ∷ birth)))
@@ -128,7 +128,7 @@ read-unlettered text birth survival hood h k f =
     (lists-no_letter survival birth k ∙ ap swapped (around_slash survival birth k))
 
 -- a text that spells a rule is read as that rule
-pub read : (text birth survival : List ℕ) (hood : Hood) → Spells text birth survival hood → IsRead text birth survival hood
+pub read : (text birth survival : List ℕ) (hood : Hood) → SpellsBsRule text birth survival hood → IsRead text birth survival hood
 read text birth survival hood h =
     let b = digits-of hood birth h.birth_digits in
     let s = digits-of hood survival h.survival_digits in

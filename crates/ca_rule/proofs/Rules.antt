@@ -9,7 +9,7 @@ use Rattle.ca_rule.specs.Counts.{is_count, FitsHood}
 use Rattle.ca_rule.specs.Generations as generations
 use Rattle.ca_rule.specs.GenerationsText as generations_text
 use Rattle.ca_rule.specs.Next as bs
-use Rattle.ca_rule.specs.Spelling.{has_colon, Names, printed}
+use Rattle.ca_rule.specs.Spelling.{has_colon, NamesBsRule, printed_bs_rule}
 use Rattle.ca_rule.specs.TableNext.{TableRule}
 use Rattle.ca_rule.specs.declared.bs_rule.BsRule.{BsRule}
 use Rattle.ca_rule.specs.declared.counts.Counts.{Counts}
@@ -60,11 +60,11 @@ same-trans (Tab t) (Tab u) (Tab v) a b = a ∙ b
 
 -- B/S rules that are the same have the same next cells
 pub same-next : (r s : BsRule) → IsSameRule (Bs r) (Bs s) → next_of (Bs r) ≡ next_of (Bs s)
-same-next r s a = λ i. bs.next_of (a.0 i) (a.1 i) (a.2 i)
+same-next r s a = λ i. bs.bs_next (a.0 i) (a.1 i) (a.2 i)
 
 -- so have Generations rules
 pub same-next_generations : (r s : GenRule) → IsSameRule (Gen r) (Gen s) → next_of (Gen r) ≡ next_of (Gen s)
-same-next_generations r s a = λ i. generations.next_of (a.0 i) (a.1 i) (a.2 i)
+same-next_generations r s a = λ i. generations.generations_next (a.0 i) (a.1 i) (a.2 i)
 
 -- the rule of these parts
 abbrev rule_of : (hood : Hood) (birth survival : Counts) → is_count birth 0 ≡ false → FitsHood birth hood → FitsHood survival hood → BsRule
@@ -112,7 +112,7 @@ equal-generations r s a =
 -- ---- what a text names
 
 -- a text that spells a rule has no `:`
-pub names-no_colon : (text : List ℕ) (rule : BsRule) → Names text rule → has_colon text ≡ false
+pub names-no_colon : (text : List ℕ) (rule : BsRule) → NamesBsRule text rule → has_colon text ≡ false
 names-no_colon text rule named = (read text named.birth named.survival rule.hood named.spells).no_colon
 
 -- the first table of a name has that name
@@ -125,7 +125,7 @@ first-named name (t ∷ ts) table found =
     ]
 
 -- no text names rules of both notations
-bs-or-generations : (text : List ℕ) (r : BsRule) (s : GenRule) → Names text r → generations_text.Names text s → ⊥
+bs-or-generations : (text : List ℕ) (r : BsRule) (s : GenRule) → NamesBsRule text r → generations_text.NamesGenerationsRule text s → ⊥
 bs-or-generations text r s a b = generations_read.other-notation text b.survival b.birth s.states b.spells a.birth a.survival r.hood a.spells
 
 -- a text names one rule
@@ -177,14 +177,14 @@ one-rule-fault text tables Unknown Wakes a b = absurd (wakes-or-unknown text tab
 one-rule-fault text tables Unknown Unknown a b = refl
 
 -- the printed form of a rule that is named names it too
-pub printed-names : (text : List ℕ) (tables : List TableRule) (rule : RuleValue) → NamesRule text tables rule → NamesRule (printed_form rule) tables rule
-printed-names text tables (Bs r) named =
+pub printed_bs_rule-names : (text : List ℕ) (tables : List TableRule) (rule : RuleValue) → NamesRule text tables rule → NamesRule (printed_form rule) tables rule
+printed_bs_rule-names text tables (Bs r) named =
     let again = names_itself r (ap (λ c. length c.holds) named.1.birth_is) (ap (λ c. length c.holds) named.1.survival_is) r.stays_empty r.birth_fits r.survival_fits in
-    (names-no_colon (printed r.hood r.birth r.survival) r again, again)
-printed-names text tables (Gen r) named =
+    (names-no_colon (printed_bs_rule r.hood r.birth r.survival) r again, again)
+printed_bs_rule-names text tables (Gen r) named =
     let again = generations_printed.names_itself r (ap (λ c. length c.holds) named.1.survival_is) (ap (λ c. length c.holds) named.1.birth_is) r.stays_empty r.low r.high in
-    (generations_read.names-no_colon (generations_text.printed r.survival r.birth r.states) r again, again)
-printed-names text tables (Tab t) named = subst (λ name. NamesRule name tables (Tab t)) (sym (first-named text tables t named.3)) named
+    (generations_read.names-no_colon (generations_text.printed_generations_rule r.survival r.birth r.states) r again, again)
+printed_bs_rule-names text tables (Tab t) named = subst (λ name. NamesRule name tables (Tab t)) (sym (first-named text tables t named.3)) named
 
 -- rules that are named among the same tables are the same only where they are equal
 pub same-named : (text other : List ℕ) (tables : List TableRule) (r s : RuleValue) → NamesRule text tables r → NamesRule other tables s → IsSameRule r s → r ≡ s

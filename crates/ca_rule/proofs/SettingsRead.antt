@@ -7,10 +7,10 @@ use Rattle.std.specs.Option.{option_or}
 use Rattle.std.proofs.lemmas.List.{append-nil}
 use Rattle.ca_rule.specs.declared.table.settings.SettingValues.{SettingValues}
 use Rattle.ca_rule.specs.declared.table.fault.TableFault.{TableFault}
-use Rattle.ca_rule.specs.TableLines.{Line, setting, is_setting, value_of}
+use Rattle.ca_rule.specs.TableLines.{NumberedLine, setting, is_setting, value_of}
 use Rattle.ca_rule.specs.TableText.{HasTable, Settings, Mean, sets_again, are_settings}
-use Rattle.ca_rule.specs.TableFaults.{number_at, is_behind_settings, SetsAgain, HaveEnd, IsFaultOf}
-use Rattle.ca_rule.specs.inner.TableSettings.{bytes_of, AreValuesOf, AreGivenBy, has_some, have_one, joined, IsBehindSettings, IsBehindMeant}
+use Rattle.ca_rule.specs.TableFaults.{number_at, is_behind_settings, SetsAgain, HaveEnd, IsTableTextFault}
+use Rattle.ca_rule.specs.inner.TableSettings.{bytes_of, AreValuesOf, AreGivenBy, has_some, have_one, joined_settings, IsBehindSettings, IsBehindMeant}
 
 -- a value that is matched is that of the bytes
 pub matched : (value : Option (Bor (List ℕ))) (is : Option (List ℕ)) → MatchOption value (is ≡ None) (λ r. is ≡ Some r.now) → is ≡ bytes_of value
@@ -59,14 +59,14 @@ and-both true false e f = cc
 and-both false b e f = cc
 
 -- the value that one more line gives
-value-snoc : (word : List ℕ) (ls : List Line) (l : Line) → value_of word (ls ++ l ∷ []) ≡ option_or (value_of word ls) (setting word l)
+value-snoc : (word : List ℕ) (ls : List NumberedLine) (l : NumberedLine) → value_of word (ls ++ l ∷ []) ≡ option_or (value_of word ls) (setting word l)
 value-snoc word [] l = or-none (setting word l)
 value-snoc word (x ∷ xs) l = elim (cases_Option (setting word x)) [
   | inl n ↦ rw n (value-snoc word xs l)
   | inr s ↦ rw s.1 refl
 ]
 
-module _ (line : Line) (given : SettingValues) (are : AreGivenBy line given) where
+module _ (line : NumberedLine) (given : SettingValues) (are : AreGivenBy line given) where
   -- whether a word's setting is given
   given-states : is_some given.states ≡ is_some (setting (codes "n_states") line)
   given-states = sym (some-bytes given.states) ∙ ap is_some (sym are.states_are)
@@ -82,14 +82,14 @@ module _ (line : Line) (given : SettingValues) (are : AreGivenBy line given) whe
   is-setting = any-of _ _ _ _ _ _ given-states given-neighbourhood given-symmetry
 
   -- one that gives a value again sets again
-  pub is-again : (lines : List Line) (values : SettingValues) → AreValuesOf lines values → have_one values given ≡ sets_again lines line
+  pub is-again : (lines : List NumberedLine) (values : SettingValues) → AreValuesOf lines values → have_one values given ≡ sets_again lines line
   is-again lines values of = any-of _ _ _ _ _ _
       (both-of _ _ _ _ (sym (some-bytes values.states) ∙ ap is_some (sym of.states_are)) given-states)
       (both-of _ _ _ _ (sym (some-bytes values.neighbourhood) ∙ ap is_some (sym of.neighbourhood_is)) given-neighbourhood)
       (both-of _ _ _ _ (sym (some-bytes values.symmetry) ∙ ap is_some (sym of.symmetry_is)) given-symmetry)
 
   -- and the values with this line's
-  pub values-snoc : (lines : List Line) (values : SettingValues) → AreValuesOf lines values → AreValuesOf (lines ++ line ∷ []) (joined values given)
+  pub values-snoc : (lines : List NumberedLine) (values : SettingValues) → AreValuesOf lines values → AreValuesOf (lines ++ line ∷ []) (joined_settings values given)
   values-snoc lines values of = record {
     states_are = value-snoc (codes "n_states") lines line ∙ ap (λ o. option_or o (setting (codes "n_states") line)) of.states_are ∙ ap (option_or (bytes_of values.states)) are.states_are ∙ sym (or-bytes values.states given.states);
     neighbourhood_is = value-snoc (codes "neighborhood") lines line ∙ ap (λ o. option_or o (setting (codes "neighborhood") line)) of.neighbourhood_is ∙ ap (option_or (bytes_of values.neighbourhood)) are.neighbourhood_is ∙ sym (or-bytes values.neighbourhood given.neighbourhood);
@@ -97,7 +97,7 @@ module _ (line : Line) (given : SettingValues) (are : AreGivenBy line given) whe
   }
 
 -- one more setting that isn't set again
-pub settings-snoc : (earlier ls : List Line) (l : Line) → are_settings earlier ls ≡ true → is_setting l ≡ true → sets_again (earlier ++ ls) l ≡ false → are_settings earlier (ls ++ l ∷ []) ≡ true
+pub settings-snoc : (earlier ls : List NumberedLine) (l : NumberedLine) → are_settings earlier ls ≡ true → is_setting l ≡ true → sets_again (earlier ++ ls) l ≡ false → are_settings earlier (ls ++ l ∷ []) ≡ true
 settings-snoc earlier [] l once is fresh =
     let none : sets_again earlier l ≡ false = subst (λ e. sets_again e l ≡ false) (append-nil earlier) fresh in
     rw is (rw none refl)
@@ -107,12 +107,12 @@ settings-snoc earlier (x ∷ xs) l once is fresh =
     and-both _ _ parts.0 (settings-snoc (earlier ++ x ∷ []) xs l parts.1 is fresher)
 
 -- before the first line
-pub no-settings : (all : List Line) (values : SettingValues) → AreValuesOf [] values → IsBehindSettings all values all
+pub no-settings : (all : List NumberedLine) (values : SettingValues) → AreValuesOf [] values → IsBehindSettings all values all
 no-settings all values of = record { good = []; once = refl; values_are = of; whole = refl }
 
-module _ (all left later : List Line) (line : Line) (values given : SettingValues) (before : IsBehindSettings all values left) (next : left ≡ line ∷ later) (are : AreGivenBy line given) where
+module _ (all left later : List NumberedLine) (line : NumberedLine) (values given : SettingValues) (before : IsBehindSettings all values left) (next : left ≡ line ∷ later) (are : AreGivenBy line given) where
   -- one more setting is read
-  pub one-setting : has_some given ≡ true → have_one values given ≡ false → IsBehindSettings all (joined values given) later
+  pub one-setting : has_some given ≡ true → have_one values given ≡ false → IsBehindSettings all (joined_settings values given) later
   one-setting some fresh = record {
     good = before.good ++ line ∷ [];
     once = settings-snoc [] before.good line before.once (sym (is-setting line given are) ∙ some) (sym (is-again line given are before.good values before.values_are) ∙ fresh);
@@ -134,7 +134,7 @@ module _ (all left later : List Line) (line : Line) (values given : SettingValue
   }
 
 -- another line ends the settings
-pub settings-end : (left later : List Line) (line : Line) (given : SettingValues) → left ≡ line ∷ later → AreGivenBy line given → has_some given ≡ false → is_behind_settings left ≡ true
+pub settings-end : (left later : List NumberedLine) (line : NumberedLine) (given : SettingValues) → left ≡ line ∷ later → AreGivenBy line given → has_some given ≡ false → is_behind_settings left ≡ true
 settings-end left later line given next are none = ap is_behind_settings next ∙ ap not (sym (is-setting line given are) ∙ none)
 
 -- what holds of an error holds of the one that is passed on
@@ -144,12 +144,12 @@ passed-on r e P h holds =
     subst (λ o. IfErr o P) (sym p.1) (subst P (sym p.2) holds)
 
 -- so settings that mean something come before the lines that are left
-pub all-meant : (all left : List Line) (values : SettingValues) (settings : Settings) → IsBehindSettings all values left → ((good : List Line) → AreValuesOf good values → are_settings [] good ≡ true → Mean good settings) → IsBehindMeant all settings left
+pub all-meant : (all left : List NumberedLine) (values : SettingValues) (settings : Settings) → IsBehindSettings all values left → ((good : List NumberedLine) → AreValuesOf good values → are_settings [] good ≡ true → Mean good settings) → IsBehindMeant all settings left
 all-meant all left values settings before meaning = record { good = before.good; mean = meaning before.good before.values_are before.once; whole = before.whole }
 
 -- and else the fault is that of the text
-pub settings-fault : (bytes text name : List ℕ) (n : ℕ) (all left : List Line) (values : SettingValues) (f : TableFault) → text ≡ bytes → HasTable bytes name all → IsBehindSettings all values left → is_behind_settings left ≡ true → n ≡ number_at text left
-    → ((bytes : List ℕ) (good : List Line) → AreValuesOf good values → HaveEnd bytes n good → IsFaultOf bytes f) → IsFaultOf bytes f
+pub settings-fault : (bytes text name : List ℕ) (n : ℕ) (all left : List NumberedLine) (values : SettingValues) (f : TableFault) → text ≡ bytes → HasTable bytes name all → IsBehindSettings all values left → is_behind_settings left ≡ true → n ≡ number_at text left
+    → ((bytes : List ℕ) (good : List NumberedLine) → AreValuesOf good values → HaveEnd bytes n good → IsTableTextFault bytes f) → IsTableTextFault bytes f
 settings-fault bytes text name n all left values f same has before ended number faults = faults bytes before.good before.values_are (record {
   name = name;
   behind = left;

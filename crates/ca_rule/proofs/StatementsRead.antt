@@ -6,34 +6,34 @@ use Rattle.ca_rule.specs.declared.table.slot.Slot.{Slot}
 use Rattle.ca_rule.specs.declared.table.statement_fault.StatementFault.{StatementFault}
 use Rattle.ca_rule.specs.declared.table.statement_fault.StatementFault.TheVariants.{Syntax, State, Name, Unbound, Memory}
 use Rattle.ca_rule.specs.declared.table.statements.Statements.{Statements}
-use Rattle.ca_rule.specs.TableLines.{Line, begins_section, IsVariableLine, IsTransitionLine}
-use Rattle.ca_rule.specs.TableText.{HasTable, Settings, Mean, Said, nothing, StandsFor, number_of, SaysVariable, is_bound, field_count, SaysTransition, Say}
-use Rattle.ca_rule.specs.TableFaults.{is_behind_settings, HasStatement, HasFields, HasBadField, IsFaultOf}
+use Rattle.ca_rule.specs.TableLines.{NumberedLine, begins_section, IsVariableLine, IsTransitionLine}
+use Rattle.ca_rule.specs.TableText.{HasTable, Settings, Mean, SaidStatements, nothing, StandsFor, number_of, SaysVariable, is_bound, field_count, SaysTransition, Say}
+use Rattle.ca_rule.specs.TableFaults.{is_behind_settings, HasStatement, HasFields, HasBadField, IsTableTextFault}
 use Rattle.ca_rule.specs.inner.TableNames.{HasNoSlot, IsFaultAmong, IsFaultOfTransition}
-use Rattle.ca_rule.specs.inner.TableSaid.{IsKept, with_variable, with_transition}
+use Rattle.ca_rule.specs.inner.TableSaid.{KeepsStatements, with_variable, with_transition}
 use Rattle.ca_rule.specs.inner.TableSaying.{fault_at, IsKeptBehind, IsFaultOfLine, IsBehindSaid, AreAllSaid}
 use Rattle.ca_rule.proofs.StatementsSaid.{all-stand}
 
 -- the line of a variable says one more, and it is kept
-pub variable-behind : (settings : Settings) (said : Said) (line : Line) (name : List ℕ) (fields : List (List ℕ)) (kept : Statements) → IsVariableLine line name fields
-    → (slots : List Slot) × AllZip (StandsFor settings said) fields slots × IsKept (with_variable settings said name slots) kept → IsKeptBehind settings said line kept
+pub variable-behind : (settings : Settings) (said : SaidStatements) (line : NumberedLine) (name : List ℕ) (fields : List (List ℕ)) (kept : Statements) → IsVariableLine line name fields
+    → (slots : List Slot) × AllZip (StandsFor settings said) fields slots × KeepsStatements (with_variable settings said name slots) kept → IsKeptBehind settings said line kept
 variable-behind settings said line name fields kept is h =
     (with_variable settings said name h.0, inl (record { name = name; fields = fields; slots = h.0; spelled = is; stand = h.1; after_is = refl }), h.2)
 
 -- and so a transition
-pub transition-behind : (settings : Settings) (said : Said) (line : Line) (fields : List (List ℕ)) (kept : Statements) → IsTransitionLine line (field_count settings) fields
-    → (inputs : List Slot) × (becomes : Slot) × AllZip (StandsFor settings said) fields (inputs ++ becomes ∷ []) × (is_bound becomes inputs ≡ true) × IsKept (with_transition said inputs becomes) kept → IsKeptBehind settings said line kept
+pub transition-behind : (settings : Settings) (said : SaidStatements) (line : NumberedLine) (fields : List (List ℕ)) (kept : Statements) → IsTransitionLine line (field_count settings) fields
+    → (inputs : List Slot) × (becomes : Slot) × AllZip (StandsFor settings said) fields (inputs ++ becomes ∷ []) × (is_bound becomes inputs ≡ true) × KeepsStatements (with_transition said inputs becomes) kept → IsKeptBehind settings said line kept
 transition-behind settings said line fields kept is h =
     (with_transition said h.0 h.1, inr (record { fields = fields; inputs = h.0; result = h.1; spelled = is; stand = h.2; bound = h.3; after_is = refl }), h.4)
 
 -- the first field that stands for nothing
-pub bad-field : (settings : Settings) (said : Said) (line : Line) (P : List ℕ → Type 0) (fields good later : List (List ℕ)) (slots : List Slot) (field : List ℕ) → HasFields settings line fields → fields ≡ good ++ field ∷ later
+pub bad-field : (settings : Settings) (said : SaidStatements) (line : NumberedLine) (P : List ℕ → Type 0) (fields good later : List (List ℕ)) (slots : List Slot) (field : List ℕ) → HasFields settings line fields → fields ≡ good ++ field ∷ later
     → AllZip (StandsFor settings said) good slots → P field → HasBadField settings said line P
 bad-field settings said line P fields good later slots field spelled whole stand holds =
     record { good = good; slots = slots; field = field; later = later; spelled = subst (HasFields settings line) whole spelled; stand = stand; holds = holds }
 
 -- a fault among the fields of a line is the line's
-module _ (settings : Settings) (said : Said) (count : ℕ) (numbers : List ℕ → Option ℕ) (same : settings.states ≡ count) (named : (name : List ℕ) → numbers name ≡ number_of 0 said.variables name) (line : Line) (fields : List (List ℕ)) where
+module _ (settings : Settings) (said : SaidStatements) (count : ℕ) (numbers : List ℕ → Option ℕ) (same : settings.states ≡ count) (named : (name : List ℕ) → numbers name ≡ number_of 0 said.variables name) (line : NumberedLine) (fields : List (List ℕ)) where
   unslotted : (f : StatementFault) (P : List ℕ → Type 0) → HasFields settings line fields → (h : HasNoSlot count numbers fields f) → P h.field → HasBadField settings said line P
   unslotted f P spelled h = bad-field settings said line P fields h.good h.later h.slots h.field spelled h.whole (all-stand settings said count numbers same named h.good h.slots h.stand)
 
@@ -70,17 +70,17 @@ module _ (settings : Settings) (said : Said) (count : ℕ) (numbers : List ℕ �
   transition-fault Name is h = no-slot Name (inr is) h
 
 -- one more line says something after the others
-say-snoc : (settings : Settings) (said mid after : Said) (ls : List Line) (l : Line) → Say settings said ls mid → SaysVariable settings mid l after ⊎ SaysTransition settings mid l after → Say settings said (ls ++ l ∷ []) after
+say-snoc : (settings : Settings) (said mid after : SaidStatements) (ls : List NumberedLine) (l : NumberedLine) → Say settings said ls mid → SaysVariable settings mid l after ⊎ SaysTransition settings mid l after → Say settings said (ls ++ l ∷ []) after
 say-snoc settings said mid after [] l h says = (after, subst (λ s. SaysVariable settings s l after ⊎ SaysTransition settings s l after) (sym h) says, refl)
 say-snoc settings said mid after (x ∷ xs) l h says = (h.0, h.1, say-snoc settings h.0 mid after xs l h.2 says)
 
 -- before the first line
-pub none-said : (settings : Settings) (all : List Line) (kept : Statements) → IsKept nothing kept → IsBehindSaid settings all all kept
+pub none-said : (settings : Settings) (all : List NumberedLine) (kept : Statements) → KeepsStatements nothing kept → IsBehindSaid settings all all kept
 none-said settings all kept is = record { good = []; said = nothing; whole = refl; say = refl; is_kept = is }
 
 -- one more line is said
-pub one-said : (settings : Settings) (all left later : List Line) (line : Line) (old new : Statements) → IsBehindSaid settings all left old → left ≡ line ∷ later
-    → ((said : Said) → IsKept said old → IsKeptBehind settings said line new) → IsBehindSaid settings all later new
+pub one-said : (settings : Settings) (all left later : List NumberedLine) (line : NumberedLine) (old new : Statements) → IsBehindSaid settings all left old → left ≡ line ∷ later
+    → ((said : SaidStatements) → KeepsStatements said old → IsKeptBehind settings said line new) → IsBehindSaid settings all later new
 one-said settings all left later line old new before next more =
     let is = more before.said before.is_kept in
     record {
@@ -92,15 +92,15 @@ one-said settings all left later line old new before next more =
     }
 
 -- a section begins after them, or they end
-pub section-behind : (settings : Settings) (all left later : List Line) (line : Line) (kept : Statements) → IsBehindSaid settings all left kept → left ≡ line ∷ later → begins_section line ≡ true → AreAllSaid settings all kept
+pub section-behind : (settings : Settings) (all left later : List NumberedLine) (line : NumberedLine) (kept : Statements) → IsBehindSaid settings all left kept → left ≡ line ∷ later → begins_section line ≡ true → AreAllSaid settings all kept
 section-behind settings all left later line kept before next begins = record { later = line ∷ later; behind = subst (λ l. IsBehindSaid settings all l kept) next before; ends = begins }
 
-pub none-behind : (settings : Settings) (all left : List Line) (kept : Statements) → IsBehindSaid settings all left kept → left ≡ [] → AreAllSaid settings all kept
+pub none-behind : (settings : Settings) (all left : List NumberedLine) (kept : Statements) → IsBehindSaid settings all left kept → left ≡ [] → AreAllSaid settings all kept
 none-behind settings all left kept before none = record { later = []; behind = subst (λ l. IsBehindSaid settings all l kept) none before; ends = refl }
 
 -- a line of the table comes after good settings and good statements, and this holds of it
-pub has-statement : (bytes named : List ℕ) (head before later : List Line) (settings : Settings) (said : Said) (line : Line) → Mean head settings → HasTable bytes named (head ++ (before ++ line ∷ later))
-    → is_behind_settings (before ++ line ∷ later) ≡ true → Say settings nothing before said → begins_section line ≡ false → (P : Settings → Said → Line → Type 0) → P settings said line → HasStatement bytes line.0 P
+pub has-statement : (bytes named : List ℕ) (head before later : List NumberedLine) (settings : Settings) (said : SaidStatements) (line : NumberedLine) → Mean head settings → HasTable bytes named (head ++ (before ++ line ∷ later))
+    → is_behind_settings (before ++ line ∷ later) ≡ true → Say settings nothing before said → begins_section line ≡ false → (P : Settings → SaidStatements → NumberedLine → Type 0) → P settings said line → HasStatement bytes line.0 P
 has-statement bytes named head before later settings said line mean has ended say inside P holding = record {
   name = named;
   setting_lines = head;
@@ -119,15 +119,15 @@ has-statement bytes named head before later settings said line mean has ended sa
 }
 
 -- or the next line has a fault
-module _ (settings : Settings) (all left later : List Line) (line : Line) (kept : Statements) (before : IsBehindSaid settings all left kept) (next : left ≡ line ∷ later) (in_table : begins_section line ≡ false)
-    (bytes name : List ℕ) (head : List Line) (has : HasTable bytes name (head ++ all)) (mean : Mean head settings) (ended : is_behind_settings all ≡ true) where
-  at-line : (P : Settings → Said → Line → Type 0) → P settings before.said line → HasStatement bytes line.0 P
+module _ (settings : Settings) (all left later : List NumberedLine) (line : NumberedLine) (kept : Statements) (before : IsBehindSaid settings all left kept) (next : left ≡ line ∷ later) (in_table : begins_section line ≡ false)
+    (bytes name : List ℕ) (head : List NumberedLine) (has : HasTable bytes name (head ++ all)) (mean : Mean head settings) (ended : is_behind_settings all ≡ true) where
+  at-line : (P : Settings → SaidStatements → NumberedLine → Type 0) → P settings before.said line → HasStatement bytes line.0 P
   at-line =
       let whole = before.whole ∙ ap (λ l. before.good ++ l) next in
       has-statement bytes name head before.good later settings before.said line mean (subst (λ l. HasTable bytes name (head ++ l)) whole has)
       (ap is_behind_settings (sym whole) ∙ ended) before.say in_table
 
-  pub line-fault : (f : StatementFault) → ((said : Said) → IsKept said kept → IsFaultOfLine settings said line f) → IsFaultOf bytes (fault_at line.0 f)
+  pub line-fault : (f : StatementFault) → ((said : SaidStatements) → KeepsStatements said kept → IsFaultOfLine settings said line f) → IsTableTextFault bytes (fault_at line.0 f)
   line-fault Syntax fault = inr (at-line _ (fault before.said before.is_kept))
   line-fault State fault = inr (at-line _ (fault before.said before.is_kept))
   line-fault Name fault = at-line _ (fault before.said before.is_kept)

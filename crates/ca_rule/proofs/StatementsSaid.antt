@@ -9,9 +9,9 @@ use Rattle.std.proofs.lemmas.List.{map-append, length-map}
 use Rattle.ca_rule.specs.declared.table.slot.Slot.{Slot}
 use Rattle.ca_rule.specs.declared.table.slot.Slot.TheVariants.{Number, Variable}
 use Rattle.ca_rule.specs.TableNext.{States}
-use Rattle.ca_rule.specs.TableText.{Settings, Said, StandsFor, number_of, states_said, states_among}
+use Rattle.ca_rule.specs.TableText.{Settings, SaidStatements, StandsFor, number_of, states_said, states_among}
 use Rattle.ca_rule.specs.inner.TableNames.{number_in, IsSlot}
-use Rattle.ca_rule.specs.inner.TableSaid.{IsKept, with_variable, with_transition}
+use Rattle.ca_rule.specs.inner.TableSaid.{KeepsStatements, with_variable, with_transition}
 use Rattle.ca_rule.specs.declared.table.statements.Statements.{Statements}
 use Rattle.ca_rule.proofs.AmongStates.{zero-plus}
 
@@ -33,7 +33,7 @@ number-snoc n (v ∷ vs) name states other =
     ]
 
 -- fields stand for what their names are numbered as
-module _ (settings : Settings) (said : Said) (count : ℕ) (numbers : List ℕ → Option ℕ) (same : settings.states ≡ count) (named : (name : List ℕ) → numbers name ≡ number_of 0 said.variables name) where
+module _ (settings : Settings) (said : SaidStatements) (count : ℕ) (numbers : List ℕ → Option ℕ) (same : settings.states ≡ count) (named : (name : List ℕ) → numbers name ≡ number_of 0 said.variables name) where
   stands : (field : List ℕ) (slot : Slot) → IsSlot count numbers field slot → StandsFor settings said field slot
   stands field (Number state) h = (h.0, h.1, subst (λ c. state < c) (sym same) h.2)
   stands field (Variable v) h = (h.0, sym (named field) ∙ h.1)
@@ -45,9 +45,9 @@ module _ (settings : Settings) (said : Said) (count : ℕ) (numbers : List ℕ �
   all-stand (f ∷ fs) (s ∷ ss) h = (stands f s h.0, all-stand fs ss h.1)
 
 -- one more variable is kept
-pub variable-kept : (settings : Settings) (said : Said) (old new : Statements) (name : List ℕ) (slots : List Slot) (set : States) (number : ℕ) → IsKept said old
+pub variable-kept : (settings : Settings) (said : SaidStatements) (old new : Statements) (name : List ℕ) (slots : List Slot) (set : States) (number : ℕ) → KeepsStatements said old
     → ((other : List ℕ) → number_in new.names other ≡ update bytes_eq (number_in old.names) name (Some number) other) → number ≡ length old.variables.items
-    → new.variables.items ≡ old.variables.items ++ set ∷ [] → set ≡ states_among settings (states_said said) slots → new.transitions.items ≡ old.transitions.items → IsKept (with_variable settings said name slots) new
+    → new.variables.items ≡ old.variables.items ++ set ∷ [] → set ≡ states_among settings (states_said said) slots → new.transitions.items ≡ old.transitions.items → KeepsStatements (with_variable settings said name slots) new
 variable-kept settings said old new name slots set number kept put counted pushed among others =
     let many : number ≡ 0 + length said.variables = counted ∙ ap length (sym kept.sets) ∙ length-map said.variables (λ (v : List ℕ × States). v.1) ∙ sym (zero-plus (length said.variables)) in
     record {
@@ -60,8 +60,8 @@ variable-kept settings said old new name slots set number kept put counted pushe
     }
 
 -- one more transition is kept
-pub transition-kept : (said : Said) (old new : Statements) (inputs : List Slot) (result : Slot) → IsKept said old → new.names ≡ old.names → new.variables.items ≡ old.variables.items
-    → new.transitions.items ≡ old.transitions.items ++ record { inputs = inputs; result = result } ∷ [] → IsKept (with_transition said inputs result) new
+pub transition-kept : (said : SaidStatements) (old new : Statements) (inputs : List Slot) (result : Slot) → KeepsStatements said old → new.names ≡ old.names → new.variables.items ≡ old.variables.items
+    → new.transitions.items ≡ old.transitions.items ++ record { inputs = inputs; result = result } ∷ [] → KeepsStatements (with_transition said inputs result) new
 transition-kept said old new inputs result kept names sets pushed = record {
   named = λ name. ap (λ n. number_in n name) names ∙ kept.named name;
   sets = kept.sets ∙ sym sets;

@@ -4,19 +4,19 @@ use Rattle.std.proofs.lemmas.Bool.{cases_Bool}
 use Rattle.std.specs.List.{list_any}
 use Rattle.std.proofs.lemmas.List.{append-nil}
 use Rattle.ca_rule.specs.declared.table.fault.TableFault.TheVariants.{NoRuleLine, NoTable}
-use Rattle.ca_rule.specs.TableLines.{Line, lines_said, last_line, begins_table}
+use Rattle.ca_rule.specs.TableLines.{NumberedLine, lines_said, last_line, begins_table}
 use Rattle.ca_rule.specs.TableText.{HasTable}
-use Rattle.ca_rule.specs.TableFaults.{number_at, HasNoRuleLine, HasNoTable, IsFaultOf}
-use Rattle.ca_rule.specs.inner.TableReading.{IsNamed, IsBehindSkipped, IsBehindTable}
+use Rattle.ca_rule.specs.TableFaults.{number_at, HasNoRuleLine, HasNoTable, IsTableTextFault}
+use Rattle.ca_rule.specs.inner.TableReading.{HasRuleName, IsBehindSkipped, IsBehindTable}
 
 -- the lines that are left are all lines of the text, and the first of them is no `@RULE` with a name
-pub no-rule-line : (bytes : List ℕ) (left lines : List Line) (n : ℕ) → left ≡ lines_said bytes → left ≡ lines → HasNoRuleLine lines → n ≡ number_at bytes lines → IsFaultOf bytes (NoRuleLine n)
+pub no-rule-line : (bytes : List ℕ) (left lines : List NumberedLine) (n : ℕ) → left ≡ lines_said bytes → left ≡ lines → HasNoRuleLine lines → n ≡ number_at bytes lines → IsTableTextFault bytes (NoRuleLine n)
 no-rule-line bytes left lines n all are none number =
     let same = sym are ∙ all in
     (subst HasNoRuleLine same none, number ∙ ap (number_at bytes) same)
 
 -- a test that none of the lines passes, and not the next
-any-snoc : (test : Line → Bool) (ls : List Line) (l : Line) → list_any test ls ≡ false → test l ≡ false → list_any test (ls ++ l ∷ []) ≡ false
+any-snoc : (test : NumberedLine → Bool) (ls : List NumberedLine) (l : NumberedLine) → list_any test ls ≡ false → test l ≡ false → list_any test (ls ++ l ∷ []) ≡ false
 any-snoc test [] l none e = rw e refl
 any-snoc test (x ∷ xs) l none e =
     elim (cases_Bool (test x)) [
@@ -25,11 +25,11 @@ any-snoc test (x ∷ xs) l none e =
     ]
 
 -- before the first line
-pub none-skipped : (all : List Line) → IsBehindSkipped all all
+pub none-skipped : (all : List NumberedLine) → IsBehindSkipped all all
 none-skipped all = record { skipped = []; no_table = refl; whole = refl }
 
 -- one more line is skipped
-pub one-skipped : (all left later : List Line) (line : Line) → IsBehindSkipped all left → left ≡ line ∷ later → begins_table line ≡ false → IsBehindSkipped all later
+pub one-skipped : (all left later : List NumberedLine) (line : NumberedLine) → IsBehindSkipped all left → left ≡ line ∷ later → begins_table line ≡ false → IsBehindSkipped all later
 one-skipped all left later line before next silent = record {
   skipped = before.skipped ++ line ∷ [];
   no_table = any-snoc begins_table before.skipped line before.no_table silent;
@@ -37,13 +37,13 @@ one-skipped all left later line before next silent = record {
 }
 
 -- all lines are skipped
-pub all-skipped : (all left : List Line) → IsBehindSkipped all left → left ≡ [] → list_any begins_table all ≡ false
+pub all-skipped : (all left : List NumberedLine) → IsBehindSkipped all left → left ≡ [] → list_any begins_table all ≡ false
 all-skipped all left before none =
     let whole = before.whole ∙ ap (λ l. before.skipped ++ l) none ∙ append-nil before.skipped in
     ap (list_any begins_table) whole ∙ before.no_table
 
 -- the line that follows begins a table
-pub table-begins : (all left later : List Line) (line : Line) → IsBehindSkipped all left → left ≡ line ∷ later → begins_table line ≡ true → IsBehindTable all later
+pub table-begins : (all left later : List NumberedLine) (line : NumberedLine) → IsBehindSkipped all left → left ≡ line ∷ later → begins_table line ≡ true → IsBehindTable all later
 table-begins all left later line before next begun = record {
   skipped = before.skipped;
   table_line = line;
@@ -53,7 +53,7 @@ table-begins all left later line before next begun = record {
 }
 
 -- so a table follows the name
-pub has-table : (bytes name : List ℕ) (all lines : List Line) → IsNamed bytes name all → IsBehindTable all lines → HasTable bytes name lines
+pub has-table : (bytes name : List ℕ) (all lines : List NumberedLine) → HasRuleName bytes name all → IsBehindTable all lines → HasTable bytes name lines
 has-table bytes name all lines named behind = record {
   rule_line = named.rule_line;
   skipped = behind.skipped;
@@ -65,5 +65,5 @@ has-table bytes name all lines named behind = record {
 }
 
 -- or none
-pub no-table : (bytes name : List ℕ) (all : List Line) (n : ℕ) → IsNamed bytes name all → list_any begins_table all ≡ false → n ≡ last_line bytes → IsFaultOf bytes (NoTable n)
+pub no-table : (bytes name : List ℕ) (all : List NumberedLine) (n : ℕ) → HasRuleName bytes name all → list_any begins_table all ≡ false → n ≡ last_line bytes → IsTableTextFault bytes (NoTable n)
 no-table bytes name all n named none number = (subst HasNoTable (sym named.whole) (name, named.named, none), number)

@@ -13,9 +13,9 @@ use Rattle.ca_rule.specs.declared.table.slot.Slot.{Slot}
 use Rattle.ca_rule.specs.declared.table.slot.Slot.TheVariants.{Number, Variable}
 use Rattle.ca_rule.specs.TableNext.{TableRule, table_next}
 use Rattle.ca_rule.specs.Digits.{are_digits}
-use Rattle.ca_rule.specs.TableLines.{Line, lines_said, last_line, rule_name, begins_table, begins_section, is_setting, states_set, neighbourhood_set, symmetry_set, is_name, is_field, IsVariableLine, IsTransitionLine}
-use Rattle.ca_rule.specs.TableText.{HasTable, sets_again, are_settings, Settings, Mean, Said, nothing, number_of, StandsFor, is_bound, field_count, Say, made, is_end_of_section, IsTable}
-use Rattle.ca_rule.specs.TableFaults.{number_at, is_behind_settings, HasNoRuleLine, HasNoTable, HaveEnd, HasStatement, IsMisspelled, HasFields, HasBadField, HasBadState, HasUnknownName, HasUnbound, IsFaultOf}
+use Rattle.ca_rule.specs.TableLines.{NumberedLine, lines_said, last_line, rule_name, begins_table, begins_section, is_setting, states_set, neighbourhood_set, symmetry_set, is_name, is_field, IsVariableLine, IsTransitionLine}
+use Rattle.ca_rule.specs.TableText.{HasTable, sets_again, are_settings, Settings, Mean, SaidStatements, nothing, number_of, StandsFor, is_bound, field_count, Say, made, is_end_of_section, IsTable}
+use Rattle.ca_rule.specs.TableFaults.{number_at, is_behind_settings, HasNoRuleLine, HasNoTable, HaveEnd, HasStatement, IsMisspelled, HasFields, HasBadField, HasBadState, HasUnknownName, HasUnbound, IsTableTextFault}
 use Rattle.ca_rule.specs.inner.TableSaid.{with_variable}
 use Rattle.ca_rule.proofs.OneSpelling.{some_if, variable_of, variable-is-of, variable-of-is, transition_of, transition-is-of, transition-of-is}
 use Rattle.ca_rule.proofs.OneStatement.{slot_if, slot_of, slot-stands, inputs_of, result_of, with_transition, Says}
@@ -25,7 +25,7 @@ use Rattle.ca_rule.proofs.StatementsRead.{bad-field, has-statement}
 -- ---- fields
 
 -- the first field that stands for nothing
-record FirstBad (settings : Settings) (said : Said) (fields : List (List ℕ)) : Type 0 where
+record FirstBad (settings : Settings) (said : SaidStatements) (fields : List (List ℕ)) : Type 0 where
   good : List (List ℕ)
   slots : List Slot
   field : List ℕ
@@ -36,7 +36,7 @@ record FirstBad (settings : Settings) (said : Said) (fields : List (List ℕ)) :
   none : slot_of settings said field ≡ None
 
 -- fields stand for slots, or one of them is the first that doesn't
-abbrev FieldsOrBad : Settings → Said → List (List ℕ) → Type 0
+abbrev FieldsOrBad : Settings → SaidStatements → List (List ℕ) → Type 0
 FieldsOrBad settings said fields = ((slots : List Slot) × AllZip (StandsFor settings said) fields slots) ⊎ FirstBad settings said fields
 
 some-none : {A : Type 0} (b : Bool) (x : A) → some_if b x ≡ None → b ≡ false
@@ -47,7 +47,7 @@ map-none : {A B : Type 0} (f : A → B) (o : Option A) → option_map f o ≡ No
 map-none f None e = refl
 map-none f (Some x) e = cc
 
-module _ (settings : Settings) (said : Said) where
+module _ (settings : Settings) (said : SaidStatements) where
   one-more : (f : List ℕ) (fs : List (List ℕ)) (o : Option Slot) → is_field f ≡ true → slot_of settings said f ≡ o → FieldsOrBad settings said fs → FieldsOrBad settings said (f ∷ fs)
   one-more f fs None is e later = inr (record { good = []; slots = []; field = f; later = fs; whole = refl; stand = tt; is = is; none = e })
   one-more f fs (Some s) is e (inl l) = inl (s ∷ l.0, (slot-stands settings said f s is e, l.1))
@@ -81,15 +81,15 @@ module _ (settings : Settings) (said : Said) where
 -- ---- lines
 
 -- what is wrong with a line that says nothing
-pub data IsBadLine (settings : Settings) (said : Said) (line : Line) : Type 0 where
+pub data IsBadLine (settings : Settings) (said : SaidStatements) (line : NumberedLine) : Type 0 where
   Misspelled : IsMisspelled settings said line → IsBadLine settings said line
   BadState : HasBadState settings said line → IsBadLine settings said line
   UnknownName : HasUnknownName settings said line → IsBadLine settings said line
   NoInput : HasUnbound settings said line → IsBadLine settings said line
 
 -- a line says something, or something is wrong with it
-abbrev SaysOrBad : Settings → Said → Line → Type 0
-SaysOrBad settings said line = ((next : Said) × Says settings said line next) ⊎ IsBadLine settings said line
+abbrev SaysOrBad : Settings → SaidStatements → NumberedLine → Type 0
+SaysOrBad settings said line = ((next : SaidStatements) × Says settings said line next) ⊎ IsBadLine settings said line
 
 -- slots are those but the last, and the last
 split-last : (slots : List Slot) → 1 ≤ length slots → slots ≡ inputs_of slots ++ result_of slots ∷ []
@@ -103,7 +103,7 @@ zip-length R [] (y ∷ ys) h = absurd h
 zip-length R (x ∷ xs) [] h = absurd h
 zip-length R (x ∷ xs) (y ∷ ys) h = let more = zip-length R xs ys h.1 in omega arith
 
-module _ (settings : Settings) (said : Said) (line : Line) where
+module _ (settings : Settings) (said : SaidStatements) (line : NumberedLine) where
   first-bad : (P : List ℕ → Type 0) (fields : List (List ℕ)) → HasFields settings line fields → (b : FirstBad settings said fields) → P b.field → HasBadField settings said line P
   first-bad P fields spelled b = bad-field settings said line P fields b.good b.later b.slots b.field spelled b.whole b.stand
 
@@ -152,7 +152,7 @@ module _ (settings : Settings) (said : Said) (line : Line) where
 
 -- the text is that of a table that leaves the empty plane empty, or has a fault, and it isn't out of memory
 abbrev pub TableOrFault : List ℕ → Type 0
-TableOrFault bytes = ((t : TableRule) × IsTable bytes t × (table_next t (replicate 9 0) ≡ 0)) ⊎ ((f : TableFault) × (f ≢ Memory) × IsFaultOf bytes f)
+TableOrFault bytes = ((t : TableRule) × IsTable bytes t × (table_next t (replicate 9 0) ≡ 0)) ⊎ ((f : TableFault) × (f ≢ Memory) × IsTableTextFault bytes f)
 
 abbrev is_memory : TableFault → Bool
 is_memory Memory = true
@@ -167,27 +167,27 @@ quiet-or-wakes bytes t is = elim (cases_eq (table_next t (replicate 9 0)) 0) [
   | inr wakes ↦ inr (Wakes (last_line bytes), other-than-memory (Wakes (last_line bytes)) refl, (t, is, wakes, refl))
 ]
 
-say-then : (settings : Settings) (said : Said) (good : List Line) (line : Line) (after next : Said) → Say settings said good after → Says settings after line next → Say settings said (good ++ line ∷ []) next
+say-then : (settings : Settings) (said : SaidStatements) (good : List NumberedLine) (line : NumberedLine) (after next : SaidStatements) → Say settings said good after → Says settings after line next → Say settings said (good ++ line ∷ []) next
 say-then settings said [] line after next say says = (next, subst (λ s. Says settings s line next) (sym say) says, refl)
 say-then settings said (x ∷ xs) line after next (other, one, more) says = (other, one, say-then settings other xs line after next more says)
 
-module _ (bytes named : List ℕ) (setting_lines : List Line) (settings : Settings) (mean : Mean setting_lines settings) where
+module _ (bytes named : List ℕ) (setting_lines : List NumberedLine) (settings : Settings) (mean : Mean setting_lines settings) where
   -- these lines follow good statements
-  record BehindStatements (good : List Line) (said : Said) (left : List Line) : Type 0 where
+  record BehindStatements (good : List NumberedLine) (said : SaidStatements) (left : List NumberedLine) : Type 0 where
     has_table : HasTable bytes named (setting_lines ++ (good ++ left))
     ends : is_behind_settings (good ++ left) ≡ true
     say : Say settings nothing good said
 
-  statement-fault : (P : Settings → Said → Line → Type 0) (good : List Line) (said : Said) (line : Line) (later : List Line) → BehindStatements good said (line ∷ later) → begins_section line ≡ false → P settings said line → HasStatement bytes line.0 P
+  statement-fault : (P : Settings → SaidStatements → NumberedLine → Type 0) (good : List NumberedLine) (said : SaidStatements) (line : NumberedLine) (later : List NumberedLine) → BehindStatements good said (line ∷ later) → begins_section line ≡ false → P settings said line → HasStatement bytes line.0 P
   statement-fault P good said line later b inside holds = has-statement bytes named setting_lines good later settings said line mean b.has_table b.ends b.say inside P holds
 
-  bad-line : (good : List Line) (said : Said) (line : Line) (later : List Line) → BehindStatements good said (line ∷ later) → begins_section line ≡ false → IsBadLine settings said line → TableOrFault bytes
+  bad-line : (good : List NumberedLine) (said : SaidStatements) (line : NumberedLine) (later : List NumberedLine) → BehindStatements good said (line ∷ later) → begins_section line ≡ false → IsBadLine settings said line → TableOrFault bytes
   bad-line good said line later b inside (Misspelled h) = inr (Syntax line.0, other-than-memory (Syntax line.0) refl, inr (statement-fault IsMisspelled good said line later b inside h))
   bad-line good said line later b inside (BadState h) = inr (States line.0, other-than-memory (States line.0) refl, inr (statement-fault HasBadState good said line later b inside h))
   bad-line good said line later b inside (UnknownName h) = inr (faults.Variable line.0, other-than-memory (faults.Variable line.0) refl, statement-fault HasUnknownName good said line later b inside h)
   bad-line good said line later b inside (NoInput h) = inr (Unbound line.0, other-than-memory (Unbound line.0) refl, statement-fault HasUnbound good said line later b inside h)
 
-  all-read : (good : List Line) (said : Said) (left : List Line) → BehindStatements good said left → is_end_of_section left ≡ true → TableOrFault bytes
+  all-read : (good : List NumberedLine) (said : SaidStatements) (left : List NumberedLine) → BehindStatements good said left → is_end_of_section left ≡ true → TableOrFault bytes
   all-read good said left b ends = quiet-or-wakes bytes (made named settings said) (record {
     name = named;
     setting_lines = setting_lines;
@@ -202,7 +202,7 @@ module _ (bytes named : List ℕ) (setting_lines : List Line) (settings : Settin
     table_is = refl;
   })
 
-  statements-or-fault : (good : List Line) (said : Said) (left : List Line) → BehindStatements good said left → TableOrFault bytes
+  statements-or-fault : (good : List NumberedLine) (said : SaidStatements) (left : List NumberedLine) → BehindStatements good said left → TableOrFault bytes
   statements-or-fault good said [] b = all-read good said [] b refl
   statements-or-fault good said (l ∷ ls) b = elim (cases_Bool (begins_section l)) [
     | inl s ↦ all-read good said (l ∷ ls) b s
@@ -219,25 +219,25 @@ module _ (bytes named : List ℕ) (setting_lines : List Line) (settings : Settin
 -- ---- settings
 
 module _ (bytes : List ℕ) where
-  symmetry-or-fault : (n count : ℕ) (good : List Line) (of : Neighbourhood) (under : Option Symmetry) → HaveEnd bytes n good → states_set good ≡ Some count → neighbourhood_set good ≡ Some of → symmetry_set of good ≡ under → TableOrFault bytes
+  symmetry-or-fault : (n count : ℕ) (good : List NumberedLine) (of : Neighbourhood) (under : Option Symmetry) → HaveEnd bytes n good → states_set good ≡ Some count → neighbourhood_set good ≡ Some of → symmetry_set of good ≡ under → TableOrFault bytes
   symmetry-or-fault n count good of None h s k e = inr (Symmetries n, other-than-memory (Symmetries n) refl, (good, h, (count, of, s, k, e)))
   symmetry-or-fault n count good of (Some under) h s k e =
       statements-or-fault bytes h.name good (record { states = count; neighbourhood = of; symmetry = under }) (record { once = h.once; states_are = s; neighbourhood_is = k; symmetry_is = e }) [] nothing h.behind
       (record { has_table = h.has_table; ends = h.ends; say = refl })
 
-  neighbourhood-or-fault : (n count : ℕ) (good : List Line) (of : Option Neighbourhood) → HaveEnd bytes n good → states_set good ≡ Some count → neighbourhood_set good ≡ of → TableOrFault bytes
+  neighbourhood-or-fault : (n count : ℕ) (good : List NumberedLine) (of : Option Neighbourhood) → HaveEnd bytes n good → states_set good ≡ Some count → neighbourhood_set good ≡ of → TableOrFault bytes
   neighbourhood-or-fault n count good None h s e = inr (Neighborhood n, other-than-memory (Neighborhood n) refl, (good, h, (count, s, e)))
   neighbourhood-or-fault n count good (Some of) h s e = symmetry-or-fault n count good of (symmetry_set of good) h s e refl
 
-  states-or-fault : (n : ℕ) (good : List Line) (count : Option ℕ) → HaveEnd bytes n good → states_set good ≡ count → TableOrFault bytes
+  states-or-fault : (n : ℕ) (good : List NumberedLine) (count : Option ℕ) → HaveEnd bytes n good → states_set good ≡ count → TableOrFault bytes
   states-or-fault n good None h e = inr (States n, other-than-memory (States n) refl, inl (good, h, e))
   states-or-fault n good (Some count) h e = neighbourhood-or-fault n count good (neighbourhood_set good) h e refl
 
-  ended : (named : List ℕ) (good behind : List Line) → HasTable bytes named (good ++ behind) → are_settings [] good ≡ true → is_behind_settings behind ≡ true → TableOrFault bytes
+  ended : (named : List ℕ) (good behind : List NumberedLine) → HasTable bytes named (good ++ behind) → are_settings [] good ≡ true → is_behind_settings behind ≡ true → TableOrFault bytes
   ended named good behind has once ends =
       states-or-fault (number_at bytes behind) good (states_set good) (record { name = named; behind = behind; has_table = has; once = once; ends = ends; number = refl }) refl
 
-  settings-or-fault : (named : List ℕ) (good left : List Line) → HasTable bytes named (good ++ left) → are_settings [] good ≡ true → TableOrFault bytes
+  settings-or-fault : (named : List ℕ) (good left : List NumberedLine) → HasTable bytes named (good ++ left) → are_settings [] good ≡ true → TableOrFault bytes
   settings-or-fault named good [] has once = ended named good [] has once refl
   settings-or-fault named good (l ∷ ls) has once = elim (cases_Bool (is_setting l)) [
     | inl s ↦ elim (cases_Bool (sets_again good l)) [
@@ -249,13 +249,13 @@ module _ (bytes : List ℕ) where
 
 -- ---- the head
 
-any-then : (skipped : List Line) (l : Line) → list_any begins_table skipped ≡ false → begins_table l ≡ false → list_any begins_table (skipped ++ l ∷ []) ≡ false
+any-then : (skipped : List NumberedLine) (l : NumberedLine) → list_any begins_table skipped ≡ false → begins_table l ≡ false → list_any begins_table (skipped ++ l ∷ []) ≡ false
 any-then [] l none other = or_from (begins_table l) false other refl
 any-then (s ∷ ss) l none other =
     let parts = or_parts (begins_table s) (list_any begins_table ss) none in
     or_from (begins_table s) (list_any begins_table (ss ++ l ∷ [])) parts.0 (any-then ss l parts.1 other)
 
-lines-or-fault : (bytes named : List ℕ) (rule_line : Line) (skipped left : List Line) → rule_name rule_line ≡ Some named → list_any begins_table skipped ≡ false → lines_said bytes ≡ rule_line ∷ (skipped ++ left) → TableOrFault bytes
+lines-or-fault : (bytes named : List ℕ) (rule_line : NumberedLine) (skipped left : List NumberedLine) → rule_name rule_line ≡ Some named → list_any begins_table skipped ≡ false → lines_said bytes ≡ rule_line ∷ (skipped ++ left) → TableOrFault bytes
 lines-or-fault bytes named rule_line skipped [] is none whole =
     inr (
       NoTable (last_line bytes),
@@ -267,15 +267,15 @@ lines-or-fault bytes named rule_line skipped (l ∷ ls) is none whole = elim (ca
   | inr t ↦ lines-or-fault bytes named rule_line (skipped ++ l ∷ []) ls is (any-then skipped l none t) (whole ∙ ap (λ k. rule_line ∷ k) (sym (append_assoc skipped (l ∷ []) ls)))
 ]
 
-no-name : (bytes : List ℕ) (lines : List Line) → lines_said bytes ≡ lines → HasNoRuleLine lines → TableOrFault bytes
+no-name : (bytes : List ℕ) (lines : List NumberedLine) → lines_said bytes ≡ lines → HasNoRuleLine lines → TableOrFault bytes
 no-name bytes lines e none =
     inr (NoRuleLine (number_at bytes lines), other-than-memory (NoRuleLine (number_at bytes lines)) refl, (subst HasNoRuleLine (sym e) none, ap (number_at bytes) (sym e)))
 
-named-or-fault : (bytes : List ℕ) (l : Line) (ls : List Line) (named : Option (List ℕ)) → lines_said bytes ≡ l ∷ ls → rule_name l ≡ named → TableOrFault bytes
+named-or-fault : (bytes : List ℕ) (l : NumberedLine) (ls : List NumberedLine) (named : Option (List ℕ)) → lines_said bytes ≡ l ∷ ls → rule_name l ≡ named → TableOrFault bytes
 named-or-fault bytes l ls None e is = no-name bytes (l ∷ ls) e is
 named-or-fault bytes l ls (Some named) e is = lines-or-fault bytes named l [] ls is refl e
 
-said-or-fault : (bytes : List ℕ) (lines : List Line) → lines_said bytes ≡ lines → TableOrFault bytes
+said-or-fault : (bytes : List ℕ) (lines : List NumberedLine) → lines_said bytes ≡ lines → TableOrFault bytes
 said-or-fault bytes [] e = no-name bytes [] e tt
 said-or-fault bytes (l ∷ ls) e = named-or-fault bytes l ls (rule_name l) e refl
 

@@ -11,8 +11,8 @@ use Rattle.ca_rule.specs.declared.table.slot.Slot.TheVariants.{Number, Variable}
 use Rattle.ca_rule.specs.declared.table.statements.Statements.{Statements}
 use Rattle.ca_rule.specs.TableNext.{Transition}
 use Rattle.ca_rule.specs.Digits.{are_digits, state_count}
-use Rattle.ca_rule.specs.TableLines.{Line, value_of}
-use Rattle.ca_rule.specs.TableText.{HasTable, Settings, Said, nothing, StandsFor, SaysVariable, SaysTransition, Say, IsTable}
+use Rattle.ca_rule.specs.TableLines.{NumberedLine, value_of}
+use Rattle.ca_rule.specs.TableText.{HasTable, Settings, SaidStatements, nothing, StandsFor, SaysVariable, SaysTransition, Say, IsTable}
 use Rattle.ca_rule.specs.inner.TableSaying.{AreAllSaid}
 use Rattle.ca_rule.specs.inner.TableSettings.{IsBehindMeant}
 use Rattle.ca_rule.specs.inner.TableStored.{stored, is_below}
@@ -35,43 +35,43 @@ set-within None n is = absurd (none-some n is)
 set-within (Some bytes) n is = count-within bytes n is
 
 -- settings mean so many states
-pub states-within : (all left : List Line) (settings : Settings) → IsBehindMeant all settings left → (2 ≤ settings.states) × (settings.states ≤ 256)
+pub states-within : (all left : List NumberedLine) (settings : Settings) → IsBehindMeant all settings left → (2 ≤ settings.states) × (settings.states ≤ 256)
 states-within all left settings before = set-within (value_of (codes "n_states") before.good) settings.states before.mean.states_are
 
 -- a slot that a field stands for is below the number of states
 module _ (settings : Settings) where
-  stands-below : (said : Said) (field : List ℕ) (slot : Slot) → StandsFor settings said field slot → is_below settings.states slot ≡ true
+  stands-below : (said : SaidStatements) (field : List ℕ) (slot : Slot) → StandsFor settings said field slot → is_below settings.states slot ≡ true
   stands-below said field (Number state) h = let low = h.2 in grind (arith, nat_tests)
   stands-below said field (Variable v) h = refl
 
-  last-below : (said : Said) (fields : List (List ℕ)) (inputs : List Slot) (result : Slot) → AllZip (StandsFor settings said) fields (inputs ++ result ∷ []) → is_below settings.states result ≡ true
+  last-below : (said : SaidStatements) (fields : List (List ℕ)) (inputs : List Slot) (result : Slot) → AllZip (StandsFor settings said) fields (inputs ++ result ∷ []) → is_below settings.states result ≡ true
   last-below said [] [] result h = absurd h
   last-below said [] (i ∷ is) result h = absurd h
   last-below said (f ∷ fs) [] result h = stands-below said f result h.0
   last-below said (f ∷ fs) (i ∷ is) result h = last-below said fs is result h.1
 
   -- so are the results of the transitions that a line says
-  line-below : (said after : Said) (line : Line) → list_all (λ t. is_below settings.states t.result) said.transitions ≡ true → SaysVariable settings said line after ⊎ SaysTransition settings said line after
+  line-below : (said after : SaidStatements) (line : NumberedLine) → list_all (λ t. is_below settings.states t.result) said.transitions ≡ true → SaysVariable settings said line after ⊎ SaysTransition settings said line after
       → list_all (λ t. is_below settings.states t.result) after.transitions ≡ true
-  line-below said after line below (inl v) = ap (λ (s : Said). list_all (λ t. is_below settings.states t.result) s.transitions) v.after_is ∙ below
+  line-below said after line below (inl v) = ap (λ (s : SaidStatements). list_all (λ t. is_below settings.states t.result) s.transitions) v.after_is ∙ below
   line-below said after line below (inr v) =
       let low = last-below said v.fields v.inputs v.result v.stand in
-      ap (λ (s : Said). list_all (λ t. is_below settings.states t.result) s.transitions) v.after_is
+      ap (λ (s : SaidStatements). list_all (λ t. is_below settings.states t.result) s.transitions) v.after_is
       ∙ list_all-append (λ t. is_below settings.states t.result) said.transitions (record { inputs = v.inputs; result = v.result } ∷ [])
       ∙ rw below (rw low refl)
 
   -- and those that all lines say
-  pub all-below : (said after : Said) (lines : List Line) → list_all (λ t. is_below settings.states t.result) said.transitions ≡ true → Say settings said lines after → list_all (λ t. is_below settings.states t.result) after.transitions ≡ true
-  all-below said after [] below h = subst (λ (s : Said). list_all (λ t. is_below settings.states t.result) s.transitions ≡ true) h below
+  pub all-below : (said after : SaidStatements) (lines : List NumberedLine) → list_all (λ t. is_below settings.states t.result) said.transitions ≡ true → Say settings said lines after → list_all (λ t. is_below settings.states t.result) after.transitions ≡ true
+  all-below said after [] below h = subst (λ (s : SaidStatements). list_all (λ t. is_below settings.states t.result) s.transitions ≡ true) h below
   all-below said after (l ∷ ls) below h = all-below h.0 after ls (line-below said h.0 l below h.1) h.2
 
-  pub kept-below : (all : List Line) (kept : Statements) → AreAllSaid settings all kept → list_all (λ (t : Transition). is_below settings.states t.result) kept.transitions.items ≡ true
+  pub kept-below : (all : List NumberedLine) (kept : Statements) → AreAllSaid settings all kept → list_all (λ (t : Transition). is_below settings.states t.result) kept.transitions.items ≡ true
   kept-below all kept h =
       let said = h.behind.said in
       ap (list_all (λ (t : Transition). is_below settings.states t.result)) (sym h.behind.is_kept.lines) ∙ all-below nothing said h.behind.good refl h.behind.say
 
 -- what is stored is what the text says
-pub is-table : (bytes name : List ℕ) (all left : List Line) (settings : Settings) (kept : Statements) → HasTable bytes name all → IsBehindMeant all settings left → AreAllSaid settings left kept
+pub is-table : (bytes name : List ℕ) (all left : List NumberedLine) (settings : Settings) (kept : Statements) → HasTable bytes name all → IsBehindMeant all settings left → AreAllSaid settings left kept
     → IsTable bytes (stored name settings.states settings.neighbourhood settings.symmetry kept.variables.items kept.transitions.items)
 is-table bytes name all left settings kept has before h = record {
   name = name;

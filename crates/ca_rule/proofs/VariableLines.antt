@@ -6,7 +6,7 @@ use Rattle.std.proofs.lemmas.List.{append_cancel_right, length_push}
 use Rattle.std.proofs.lemmas.Bool.{and_parts, cases_Bool}
 use Rattle.ca_plane.specs.Bytes.{is_blank, Every, front, rest, is_end_or}
 use Rattle.ca_plane.proofs.Fronts.{front_then_rest, every_front, front_append, rest_append}
-use Rattle.ca_rule.specs.TableLines.{Line, behind, begins_variable, is_name_byte, is_name, is_field, fields_between, IsVariableLine}
+use Rattle.ca_rule.specs.TableLines.{NumberedLine, behind, begins_variable, is_name_byte, is_name, is_field, fields_between, IsVariableLine}
 use Rattle.ca_rule.specs.inner.TableFields.{opened, IsBraced}
 use Rattle.ca_rule.proofs.Stripped.{behind-is, behind-whole}
 
@@ -65,7 +65,7 @@ pub record HasParts (line name inside : List ℕ) : Type 0 where
   pub name_is : front is_name_byte (rest is_blank more) ≡ name
   pub braces : IsBraced (rest is_name_byte (rest is_blank more)) inside
 
-pub parts-of-line : (line : Line) (name : List ℕ) (fields : List (List ℕ)) (v : IsVariableLine line name fields) → HasParts line.1 name v.inside
+pub parts-of-line : (line : NumberedLine) (name : List ℕ) (fields : List (List ℕ)) (v : IsVariableLine line name fields) → HasParts line.1 name v.inside
 parts-of-line line name fields v =
     let tail : List ℕ = v.second ++ (codes "=" ++ (v.third ++ (codes "{" ++ (v.inside ++ codes "}")))) in
     let blank : rest is_blank (v.first ++ (name ++ tail)) ≡ name ++ tail = rest_append is_blank v.first (name ++ tail) v.first_blanks (name-begins name tail v.named) in
@@ -85,7 +85,7 @@ parts-of-line line name fields v =
     }
 
 -- and a line with these parts is spelled so
-pub line-of-parts : (line : Line) (name inside : List ℕ) → begins_variable line ≡ true → HasParts line.1 name inside → is_name name ≡ true → list_all is_field (fields_between inside) ≡ true → IsVariableLine line name (fields_between inside)
+pub line-of-parts : (line : NumberedLine) (name inside : List ℕ) → begins_variable line ≡ true → HasParts line.1 name inside → is_name name ≡ true → list_all is_field (fields_between inside) ≡ true → IsVariableLine line name (fields_between inside)
 line-of-parts line name inside var p is all = record {
   first = front is_blank p.more;
   second = p.braces.second;
@@ -138,7 +138,7 @@ pub not-opened : (bytes inside : List ℕ) → opened bytes ≡ None → IsBrace
 not-opened bytes inside e b = let k = sym e ∙ opened-braced bytes inside b in cc
 
 -- a variable's line, read from its start
-module _ (line : Line) (more named found later : List ℕ) (is_var : behind (codes "var") line.1 ≡ Some more) (blanks : named ≡ rest is_blank more)
+module _ (line : NumberedLine) (more named found later : List ℕ) (is_var : behind (codes "var") line.1 ≡ Some more) (blanks : named ≡ rest is_blank more)
     (first : found ≡ front is_name_byte named) (behind_it : later ≡ rest is_name_byte named) where
   pub read-name : (name : List ℕ) (fields : List (List ℕ)) → IsVariableLine line name fields → found ≡ name
   read-name name fields v =

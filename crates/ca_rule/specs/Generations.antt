@@ -7,12 +7,12 @@ use Rattle.ca_rule.specs.Counts.{is_count}
 use Rattle.ca_rule.specs.Next.{neighbour_count}
 
 -- 1 for a live cell, and 0 for one that is dead or dying
-abbrev pub live : ℕ → ℕ
-live state = if state == 1 then 1 else 0
+abbrev pub liveness : ℕ → ℕ
+liveness state = if state == 1 then 1 else 0
 
 -- how many live cells are among the eight round the centre of nine
 abbrev pub live_count : List ℕ → ℕ
-live_count nine = neighbour_count Moore (map live nine)
+live_count nine = neighbour_count Moore (map liveness nine)
 
 -- the state after this one; where that reaches the number of states, the cell is dead
 abbrev pub older : ℕ → ℕ → ℕ
@@ -20,16 +20,16 @@ older states state = if nat_lt (state + 1) states then state + 1 else 0
 
 -- a dead cell is born at a birth count of live cells round it, and a live one stays live at a survival count; every other
 -- live cell begins to die, and a dying one goes on to
-abbrev pub next_state : Counts → Counts → ℕ → ℕ → ℕ → ℕ
-next_state survival birth states centre count =
+abbrev pub generations_next_state : Counts → Counts → ℕ → ℕ → ℕ → ℕ
+generations_next_state survival birth states centre count =
     if centre == 0 then (if is_count birth count then 1 else 0)
     else (if (centre == 1) && is_count survival count then 1 else older states centre)
 
 -- the next state of the centre of nine cells
-abbrev pub next_of : Counts → Counts → ℕ → List ℕ → ℕ
-next_of survival birth states nine = next_state survival birth states (slice_index nine 4) (live_count nine)
+abbrev pub generations_next : Counts → Counts → ℕ → List ℕ → ℕ
+generations_next survival birth states nine = generations_next_state survival birth states (slice_index nine 4) (live_count nine)
 
 -- there are two states or more, and the empty plane stays empty
-pub record IsSound (birth : Counts) (states : ℕ) : Type 0 where
+pub record IsSoundGenerations (birth : Counts) (states : ℕ) : Type 0 where
   pub low : 2 ≤ states
   pub quiet : is_count birth 0 ≡ false

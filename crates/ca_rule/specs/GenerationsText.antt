@@ -11,7 +11,7 @@ use Rattle.ca_rule.specs.declared.fault.RuleFault.{RuleFault}
 use Rattle.ca_rule.specs.declared.fault.RuleFault.TheVariants.{Bounded, Wakes, Unknown}
 
 -- the text spells a rule: survival digits, `/`, birth digits, `/`, and the number of states, as `345/2/4`
-pub record Spells (text survival birth : List ℕ) (states : ℕ) : Type 0 where
+pub record SpellsGenerationsRule (text survival birth : List ℕ) (states : ℕ) : Type 0 where
   pub survival_digits : IsTrue (are_digits_up_to 8 survival)
   pub birth_digits : IsTrue (are_digits_up_to 8 birth)
   pub number : List ℕ
@@ -19,24 +19,24 @@ pub record Spells (text survival birth : List ℕ) (states : ℕ) : Type 0 where
   pub form : text ≡ survival ++ (codes "/" ++ (birth ++ (codes "/" ++ number)))
 
 -- the text names the rule: it spells it, and leaves the empty plane empty
-pub record Names (text : List ℕ) (rule : GenRule) : Type 0 where
+pub record NamesGenerationsRule (text : List ℕ) (rule : GenRule) : Type 0 where
   pub survival : List ℕ
   pub birth : List ℕ
-  pub spells : Spells text survival birth rule.states
+  pub spells : SpellsGenerationsRule text survival birth rule.states
   pub stays_empty : has_digit birth 0 ≡ false
   pub survival_is : rule.survival ≡ counts_of survival
   pub birth_is : rule.birth ≡ counts_of birth
 
 -- the text spells no rule, with birth on 0 or without
-abbrev pub SpellsNone : List ℕ → Type 0
-SpellsNone text = (survival birth : List ℕ) (states : ℕ) → Spells text survival birth states → ⊥
+abbrev pub SpellsNoGenerationsRule : List ℕ → Type 0
+SpellsNoGenerationsRule text = (survival birth : List ℕ) (states : ℕ) → SpellsGenerationsRule text survival birth states → ⊥
 
 -- the fault of a text that names no rule: a bounded grid, else a rule that wakes the empty plane, else no spelling
-abbrev pub IsFaultOf : List ℕ → RuleFault → Type 0
-IsFaultOf text Bounded = has_colon text ≡ true
-IsFaultOf text Wakes = (has_colon text ≡ false) × (survival : List ℕ) × (birth : List ℕ) × (states : ℕ) × Spells text survival birth states × (has_digit birth 0 ≡ true)
-IsFaultOf text Unknown = (has_colon text ≡ false) × SpellsNone text
+abbrev pub IsGenerationsRuleFault : List ℕ → RuleFault → Type 0
+IsGenerationsRuleFault text Bounded = has_colon text ≡ true
+IsGenerationsRuleFault text Wakes = (has_colon text ≡ false) × (survival : List ℕ) × (birth : List ℕ) × (states : ℕ) × SpellsGenerationsRule text survival birth states × (has_digit birth 0 ≡ true)
+IsGenerationsRuleFault text Unknown = (has_colon text ≡ false) × SpellsNoGenerationsRule text
 
 -- the printed form: the survival digits, `/`, the birth digits, `/`, and the number of states
-abbrev pub printed : Counts → Counts → ℕ → List ℕ
-printed survival birth states = digits_of survival ++ (codes "/" ++ (digits_of birth ++ (codes "/" ++ decimal states)))
+abbrev pub printed_generations_rule : Counts → Counts → ℕ → List ℕ
+printed_generations_rule survival birth states = digits_of survival ++ (codes "/" ++ (digits_of birth ++ (codes "/" ++ decimal states)))

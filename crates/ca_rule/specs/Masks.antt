@@ -10,7 +10,7 @@ mask_of [] = 0
 mask_of (held ∷ more) = (if held then 1 else 0) + 2 * mask_of more
 
 -- the masks of the birth counts and of the survival counts, where all eight neighbours are counted; else there are none
-abbrev pub masks_of : Hood → Counts → Counts → Option (ℕ × ℕ)
-masks_of Moore birth survival = Some (mask_of birth.holds, mask_of survival.holds)
-masks_of VonNeumann birth survival = None
-masks_of Hex birth survival = None
+abbrev pub masks_by_hood : Hood → Counts → Counts → Option (ℕ × ℕ)
+masks_by_hood Moore birth survival = Some (mask_of birth.holds, mask_of survival.holds)
+masks_by_hood VonNeumann birth survival = None
+masks_by_hood Hex birth survival = None

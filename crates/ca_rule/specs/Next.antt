@@ -19,11 +19,11 @@ neighbour_count Hex nine =
     + slice_index nine 7 + slice_index nine 8
 
 -- a dead centre is born where the sum is a birth count, a live one survives where it is a survival count; all else is 0
-abbrev pub next_state : Counts → Counts → ℕ → ℕ → ℕ
-next_state birth survival centre count =
+abbrev pub bs_next_state : Counts → Counts → ℕ → ℕ → ℕ
+bs_next_state birth survival centre count =
     if centre == 0 then (if is_count birth count then 1 else 0)
     else (if centre == 1 then (if is_count survival count then 1 else 0) else 0)
 
 -- the next state of the centre of nine cells
-abbrev pub next_of : Hood → Counts → Counts → List ℕ → ℕ
-next_of hood birth survival nine = next_state birth survival (slice_index nine 4) (neighbour_count hood nine)
+abbrev pub bs_next : Hood → Counts → Counts → List ℕ → ℕ
+bs_next hood birth survival nine = bs_next_state birth survival (slice_index nine 4) (neighbour_count hood nine)

@@ -8,7 +8,7 @@ use Rattle.ca_rule.specs.GenerationsText as generations_text
 use Rattle.ca_rule.specs.Next as bs
 use Rattle.ca_rule.specs.Masks as bs_masks
 use Rattle.ca_rule.specs.Spelling as bs_text
-use Rattle.ca_rule.specs.TableNext.{TableRule, IsSound, table_next}
+use Rattle.ca_rule.specs.TableNext.{TableRule, IsSoundTable, table_next}
 use Rattle.ca_rule.specs.declared.bs_rule.BsRule.{BsRule}
 use Rattle.ca_rule.specs.declared.fault.RuleFault.{RuleFault}
 use Rattle.ca_rule.specs.declared.fault.RuleFault.TheVariants.{Bounded, Wakes, Unknown}
@@ -36,21 +36,21 @@ states_of (Tab table) = table.states
 
 -- the next state of the centre of nine cells
 abbrev pub next_of : RuleValue → List ℕ → ℕ
-next_of (Bs rule) nine = bs.next_of rule.hood rule.birth rule.survival nine
-next_of (Gen rule) nine = generations.next_of rule.survival rule.birth rule.states nine
+next_of (Bs rule) nine = bs.bs_next rule.hood rule.birth rule.survival nine
+next_of (Gen rule) nine = generations.generations_next rule.survival rule.birth rule.states nine
 next_of (Tab table) nine = table_next table nine
 
 -- its masks: those of a B/S rule that counts all eight neighbours
 abbrev pub masks_of : RuleValue → Option (ℕ × ℕ)
-masks_of (Bs rule) = bs_masks.masks_of rule.hood rule.birth rule.survival
+masks_of (Bs rule) = bs_masks.masks_by_hood rule.hood rule.birth rule.survival
 masks_of (Gen rule) = None
 masks_of (Tab table) = None
 
 -- states lead to states, and the empty plane stays empty: a B/S or Generations rule gives no birth at a count of 0
 abbrev pub IsSoundRule : RuleValue → Type 0
 IsSoundRule (Bs rule) = is_count rule.birth 0 ≡ false
-IsSoundRule (Gen rule) = generations.IsSound rule.birth rule.states
-IsSoundRule (Tab table) = IsSound table
+IsSoundRule (Gen rule) = generations.IsSoundGenerations rule.birth rule.states
+IsSoundRule (Tab table) = IsSoundTable table
 
 -- two rules are the same: both B/S rules, with one neighbourhood and the same counts for birth and for survival, both
 -- Generations rules, with the same counts and as many states, or both tables, with one name
@@ -67,19 +67,19 @@ first_named name tables = find (λ (t : TableRule). bytes_eq t.name name) tables
 -- the text names the rule among the tables: it has no `:`, and it spells that B/S or Generations rule, which gives no
 -- birth at a count of 0, or spells neither kind, and that is the first table of this name
 abbrev pub NamesRule : List ℕ → List TableRule → RuleValue → Type 0
-NamesRule text tables (Bs rule) = (bs_text.has_colon text ≡ false) × bs_text.Names text rule
-NamesRule text tables (Gen rule) = (bs_text.has_colon text ≡ false) × generations_text.Names text rule
-NamesRule text tables (Tab table) = (bs_text.has_colon text ≡ false) × bs_text.SpellsNone text × generations_text.SpellsNone text × (first_named text tables ≡ Some table)
+NamesRule text tables (Bs rule) = (bs_text.has_colon text ≡ false) × bs_text.NamesBsRule text rule
+NamesRule text tables (Gen rule) = (bs_text.has_colon text ≡ false) × generations_text.NamesGenerationsRule text rule
+NamesRule text tables (Tab table) = (bs_text.has_colon text ≡ false) × bs_text.SpellsNoBsRule text × generations_text.SpellsNoGenerationsRule text × (first_named text tables ≡ Some table)
 
 -- the fault of a text that names no rule: a bounded grid, else a B/S or Generations rule that wakes the empty plane, else
 -- neither such a rule nor the name of a table
 abbrev pub IsRuleFault : List ℕ → List TableRule → RuleFault → Type 0
-IsRuleFault text tables Bounded = bs_text.IsFaultOf text Bounded
-IsRuleFault text tables Wakes = bs_text.IsFaultOf text Wakes ⊎ generations_text.IsFaultOf text Wakes
-IsRuleFault text tables Unknown = bs_text.IsFaultOf text Unknown × generations_text.IsFaultOf text Unknown × (first_named text tables ≡ None)
+IsRuleFault text tables Bounded = bs_text.IsBsRuleFault text Bounded
+IsRuleFault text tables Wakes = bs_text.IsBsRuleFault text Wakes ⊎ generations_text.IsGenerationsRuleFault text Wakes
+IsRuleFault text tables Unknown = bs_text.IsBsRuleFault text Unknown × generations_text.IsGenerationsRuleFault text Unknown × (first_named text tables ≡ None)
 
 -- the one printed form: that of a B/S or Generations rule, or the table's name
 abbrev pub printed_form : RuleValue → List ℕ
-printed_form (Bs rule) = bs_text.printed rule.hood rule.birth rule.survival
-printed_form (Gen rule) = generations_text.printed rule.survival rule.birth rule.states
+printed_form (Bs rule) = bs_text.printed_bs_rule rule.hood rule.birth rule.survival
+printed_form (Gen rule) = generations_text.printed_generations_rule rule.survival rule.birth rule.states
 printed_form (Tab table) = table.name

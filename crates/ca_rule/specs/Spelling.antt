@@ -36,7 +36,7 @@ abbrev pub IsUnlettered : List ℕ → List ℕ → List ℕ → Hood → Type 0
 IsUnlettered text survival birth hood = (suffix : List ℕ) × IsSuffix hood suffix × (text ≡ survival ++ (codes "/" ++ (birth ++ suffix)))
 
 -- the text spells a rule with these birth and survival digits over this neighbourhood, no digit above its size
-pub record Spells (text birth survival : List ℕ) (hood : Hood) : Type 0 where
+pub record SpellsBsRule (text birth survival : List ℕ) (hood : Hood) : Type 0 where
   pub birth_digits : IsTrue (are_digits_up_to (most_of hood) birth)
   pub survival_digits : IsTrue (are_digits_up_to (most_of hood) survival)
   pub form : IsLettered (letter "B") (letter "S") text birth survival hood ⊎ (IsLettered (letter "S") (letter "B") text survival birth hood ⊎ IsUnlettered text survival birth hood)
@@ -46,23 +46,23 @@ abbrev pub has_colon : List ℕ → Bool
 has_colon text = list_any (λ b. b == letter ":") text
 
 -- the text names the rule: it spells it, and leaves the empty plane empty
-pub record Names (text : List ℕ) (rule : BsRule) : Type 0 where
+pub record NamesBsRule (text : List ℕ) (rule : BsRule) : Type 0 where
   pub birth : List ℕ
   pub survival : List ℕ
-  pub spells : Spells text birth survival rule.hood
+  pub spells : SpellsBsRule text birth survival rule.hood
   pub stays_empty : has_digit birth 0 ≡ false
   pub birth_is : rule.birth ≡ counts_of birth
   pub survival_is : rule.survival ≡ counts_of survival
 
 -- the text spells no rule, with birth on 0 or without
-abbrev pub SpellsNone : List ℕ → Type 0
-SpellsNone text = (birth survival : List ℕ) (hood : Hood) → Spells text birth survival hood → ⊥
+abbrev pub SpellsNoBsRule : List ℕ → Type 0
+SpellsNoBsRule text = (birth survival : List ℕ) (hood : Hood) → SpellsBsRule text birth survival hood → ⊥
 
 -- the fault of a text that names no rule: a bounded grid, else a rule that wakes the empty plane, else no spelling
-abbrev pub IsFaultOf : List ℕ → RuleFault → Type 0
-IsFaultOf text Bounded = has_colon text ≡ true
-IsFaultOf text Wakes = (has_colon text ≡ false) × (birth : List ℕ) × (survival : List ℕ) × (hood : Hood) × Spells text birth survival hood × (has_digit birth 0 ≡ true)
-IsFaultOf text Unknown = (has_colon text ≡ false) × SpellsNone text
+abbrev pub IsBsRuleFault : List ℕ → RuleFault → Type 0
+IsBsRuleFault text Bounded = has_colon text ≡ true
+IsBsRuleFault text Wakes = (has_colon text ≡ false) × (birth : List ℕ) × (survival : List ℕ) × (hood : Hood) × SpellsBsRule text birth survival hood × (has_digit birth 0 ≡ true)
+IsBsRuleFault text Unknown = (has_colon text ≡ false) × SpellsNoBsRule text
 
 -- the digits of counts, rising, each once
 abbrev pub digits_of : Counts → List ℕ
@@ -75,5 +75,5 @@ suffix_of VonNeumann = codes "V"
 suffix_of Hex = codes "H"
 
 -- the printed form: `B`, the birth digits, `/S`, the survival digits, and the suffix
-abbrev pub printed : Hood → Counts → Counts → List ℕ
-printed hood birth survival = codes "B" ++ (digits_of birth ++ (codes "/S" ++ (digits_of survival ++ suffix_of hood)))
+abbrev pub printed_bs_rule : Hood → Counts → Counts → List ℕ
+printed_bs_rule hood birth survival = codes "B" ++ (digits_of birth ++ (codes "/S" ++ (digits_of survival ++ suffix_of hood)))

@@ -23,11 +23,11 @@ digit_lists text = map digits (words_of text)
 
 -- the next cell under a B/S rule of these birth and survival digits
 abbrev pub bs_cell : Hood → List ℕ → List ℕ → List ℕ → ℕ
-bs_cell hood birth survival nine = bs.next_of hood (counts_of birth) (counts_of survival) (digits nine)
+bs_cell hood birth survival nine = bs.bs_next hood (counts_of birth) (counts_of survival) (digits nine)
 
 -- and under a Generations rule of these survival and birth digits, and so many states
 abbrev pub generations_cell : List ℕ → List ℕ → ℕ → List ℕ → ℕ
-generations_cell survival birth states nine = generations.next_of (counts_of survival) (counts_of birth) states (digits nine)
+generations_cell survival birth states nine = generations.generations_next (counts_of survival) (counts_of birth) states (digits nine)
 
 -- a table of three states with `var a={1,2}`, `var b={0,1,2}` and these transitions
 abbrev pub table_of : Neighbourhood → Symmetry → List Transition → TableRule
@@ -45,8 +45,8 @@ abbrev pub table_cell : Neighbourhood → Symmetry → List Transition → List 
 table_cell of under lines nine = table_next (table_of of under lines) (digits nine)
 
 -- one of another name, without transitions
-abbrev pub named : List ℕ → TableRule
-named other = record (table_of VonNeumann Identity []) { name = other }
+abbrev pub table_named : List ℕ → TableRule
+table_named other = record (table_of VonNeumann Identity []) { name = other }
 
 -- `a` and `b`
 abbrev pub a : Slot

@@ -17,15 +17,15 @@ abbrev pub content_of : List ℕ → List ℕ
 content_of line = trimmed (front (λ b. not (b == 35)) line)
 
 -- a line that says something: its number in the text, and what it says
-abbrev pub Line : Type 0
-Line = ℕ × List ℕ
+abbrev pub NumberedLine : Type 0
+NumberedLine = ℕ × List ℕ
 
 -- it says something
-abbrev pub says_something : Line → Bool
+abbrev pub says_something : NumberedLine → Bool
 says_something line = nat_le 1 (length line.1)
 
 -- the lines of a text that say something; lines are counted from 1, those that say nothing too
-abbrev pub lines_said : List ℕ → List Line
+abbrev pub lines_said : List ℕ → List NumberedLine
 lines_said bytes = filter says_something (enumerate_from 1 (map content_of (lines_of bytes)))
 
 -- the number of a text's last line; that of the empty text is 1 (our own)
@@ -39,7 +39,7 @@ rule_named (w ∷ []) = None
 rule_named (w ∷ name ∷ more) = if bytes_eq w (codes "@RULE") then Some name else None
 
 -- the name that the line `@RULE` gives
-abbrev pub rule_name : Line → Option (List ℕ)
+abbrev pub rule_name : NumberedLine → Option (List ℕ)
 rule_name line = rule_named (words_of line.1)
 
 -- the first byte passes the test
@@ -48,11 +48,11 @@ begins_with test [] = false
 begins_with test (b ∷ bs) = test b
 
 -- a line that begins with `@` begins a section
-abbrev pub begins_section : Line → Bool
+abbrev pub begins_section : NumberedLine → Bool
 begins_section line = begins_with (λ b. b == 64) line.1
 
 -- the section is a table: its first word is `@TABLE`
-abbrev pub begins_table : Line → Bool
+abbrev pub begins_table : NumberedLine → Bool
 begins_table line = bytes_eq (front (λ b. not (is_blank b)) line.1) (codes "@TABLE")
 
 -- what follows the text with which the bytes begin
@@ -67,15 +67,15 @@ setting_words = codes "n_states" ∷ codes "neighborhood" ∷ codes "symmetries"
 
 -- the value of a setting, where the line is the one with this word: the word, `:`, and all after it (our own); blanks may
 -- be round the `:`
-abbrev pub setting : List ℕ → Line → Option (List ℕ)
+abbrev pub setting : List ℕ → NumberedLine → Option (List ℕ)
 setting word line = option_map (rest is_blank) (option_and_then (λ bytes. behind (codes ":") (rest is_blank bytes)) (behind word line.1))
 
 -- the line is a setting
-abbrev pub is_setting : Line → Bool
+abbrev pub is_setting : NumberedLine → Bool
 is_setting line = list_any (λ word. is_some (setting word line)) setting_words
 
 -- the value that lines give to a setting, if they do
-abbrev pub value_of : List ℕ → List Line → Option (List ℕ)
+abbrev pub value_of : List ℕ → List NumberedLine → Option (List ℕ)
 value_of word [] = None
 value_of word (l ∷ ls) = option_or (setting word l) (value_of word ls)
 
@@ -110,17 +110,17 @@ abbrev pub symmetry_named : Neighbourhood → List ℕ → Option Symmetry
 symmetry_named neighbourhood bytes = find (λ s. bytes_eq (symmetry_name s) bytes) (symmetries_of neighbourhood)
 
 -- what the settings' values mean; none where a setting is missing or its value means nothing
-abbrev pub states_set : List Line → Option ℕ
+abbrev pub states_set : List NumberedLine → Option ℕ
 states_set settings = option_and_then state_count (value_of (codes "n_states") settings)
 
-abbrev pub neighbourhood_set : List Line → Option Neighbourhood
+abbrev pub neighbourhood_set : List NumberedLine → Option Neighbourhood
 neighbourhood_set settings = option_and_then neighbourhood_named (value_of (codes "neighborhood") settings)
 
-abbrev pub symmetry_set : Neighbourhood → List Line → Option Symmetry
+abbrev pub symmetry_set : Neighbourhood → List NumberedLine → Option Symmetry
 symmetry_set neighbourhood settings = option_and_then (symmetry_named neighbourhood) (value_of (codes "symmetries") settings)
 
 -- a line that begins with `var` and a blank is that of a variable; `var` alone is none (our own)
-abbrev pub begins_variable : Line → Bool
+abbrev pub begins_variable : NumberedLine → Bool
 begins_variable line = unwrap_or (option_map (begins_with is_blank) (behind (codes "var") line.1)) false
 
 -- a byte that may be in a name: no blank and none of `,` `{` `}` `=` `#` `:` `@`; the bytes from 128 on may (our own)
@@ -136,20 +136,20 @@ abbrev pub is_field : List ℕ → Bool
 is_field bytes = are_digits bytes || is_name bytes
 
 -- the parts between commas
-abbrev pub parts_of : List ℕ → List (List ℕ)
-parts_of [] = [] ∷ []
-parts_of (b ∷ bs) = if b == 44 then [] ∷ parts_of bs else with_front b (parts_of bs)
+abbrev pub comma_parts : List ℕ → List (List ℕ)
+comma_parts [] = [] ∷ []
+comma_parts (b ∷ bs) = if b == 44 then [] ∷ comma_parts bs else with_front b (comma_parts bs)
 
 -- the fields between commas, without the blanks round them
 abbrev pub fields_between : List ℕ → List (List ℕ)
-fields_between bytes = map trimmed (parts_of bytes)
+fields_between bytes = map trimmed (comma_parts bytes)
 
 -- the fields of a transition: those between commas, or each byte where there is no comma
-abbrev pub fields_of : Line → List (List ℕ)
+abbrev pub fields_of : NumberedLine → List (List ℕ)
 fields_of line = if list_any (λ b. b == 44) line.1 then fields_between line.1 else map (λ b. b ∷ []) line.1
 
 -- the line of a variable: `var`, a blank, a name, `=`, `{`, fields with commas between, `}`; blanks may be between
-pub record IsVariableLine (line : Line) (name : List ℕ) (fields : List (List ℕ)) : Type 0 where
+pub record IsVariableLine (line : NumberedLine) (name : List ℕ) (fields : List (List ℕ)) : Type 0 where
   pub first : List ℕ
   pub second : List ℕ
   pub third : List ℕ
@@ -164,7 +164,7 @@ pub record IsVariableLine (line : Line) (name : List ℕ) (fields : List (List �
   pub spelled : line.1 ≡ codes "var" ++ (first ++ (name ++ (second ++ (codes "=" ++ (third ++ (codes "{" ++ (inside ++ codes "}")))))))
 
 -- a transition of this many slots, of which the result is the last
-pub record IsTransitionLine (line : Line) (slots : ℕ) (fields : List (List ℕ)) : Type 0 where
+pub record IsTransitionLine (line : NumberedLine) (slots : ℕ) (fields : List (List ℕ)) : Type 0 where
   pub no_variable : begins_variable line ≡ false
   pub fields_are : fields_of line ≡ fields
   pub are_fields : list_all is_field fields ≡ true

@@ -27,8 +27,8 @@ pub record TableRule : Type 0 where
   pub transitions : List Transition
 
 -- the states of the variable with this number
-abbrev pub states_of : List States → ℕ → States
-states_of variables v = slice_index_or variables v []
+abbrev pub variable_states : List States → ℕ → States
+variable_states variables v = slice_index_or variables v []
 
 -- the cells that the slots take under an order: the centre, and then the ring's cells, each at its position
 abbrev pub arranged : Neighbourhood → List ℕ → List ℕ → List ℕ
@@ -41,7 +41,7 @@ Taken = Slot × ℕ
 -- the slot is that number, or a variable that has that state
 abbrev pub admits : List States → Slot → ℕ → Bool
 admits variables (Number state) cell = cell == state
-admits variables (Variable v) cell = list_any (λ s. s == cell) (states_of variables v)
+admits variables (Variable v) cell = list_any (λ s. s == cell) (variable_states variables v)
 
 -- the slot is the variable with this number
 abbrev pub is_variable : ℕ → Slot → Bool
@@ -58,20 +58,20 @@ abbrev pub fits : List States → List Taken → Bool
 fits variables all = list_all (λ (t : Taken). admits variables t.0 t.1 && take_one_cell all t.0 t.1) all
 
 -- the cell that the variable takes
-abbrev pub cell_of : ℕ → List Taken → ℕ
-cell_of v [] = 0
-cell_of v (t ∷ ts) = if is_variable v t.0 then t.1 else cell_of v ts
+abbrev pub taken_cell : ℕ → List Taken → ℕ
+taken_cell v [] = 0
+taken_cell v (t ∷ ts) = if is_variable v t.0 then t.1 else taken_cell v ts
 
 -- the state that a result gives: its number, or the cell of its variable
-abbrev pub given : Slot → List Taken → ℕ
-given (Number state) all = state
-given (Variable v) all = cell_of v all
+abbrev pub result_state : Slot → List Taken → ℕ
+result_state (Number state) all = state
+result_state (Variable v) all = taken_cell v all
 
 -- what a transition gives under the first of these orders under which it fits
 abbrev pub outcome : Neighbourhood → List States → List ℕ → Transition → List (List ℕ) → Option ℕ
 outcome neighbourhood variables nine t [] = None
 outcome neighbourhood variables nine t (g ∷ gs) =
-    if fits variables (zip t.inputs (arranged neighbourhood nine g)) then Some (given t.result (zip t.inputs (arranged neighbourhood nine g)))
+    if fits variables (zip t.inputs (arranged neighbourhood nine g)) then Some (result_state t.result (zip t.inputs (arranged neighbourhood nine g)))
     else outcome neighbourhood variables nine t gs
 
 -- what the first transition gives that fits under one of these orders; where none fits, the centre stays
@@ -84,7 +84,7 @@ abbrev pub table_next : TableRule → List ℕ → ℕ
 table_next table nine = next_by table.neighbourhood table.variables (orders table.neighbourhood table.symmetry) nine table.transitions
 
 -- a table of two to 256 states under which states lead to states, and the empty plane stays empty
-pub record IsSound (table : TableRule) : Type 0 where
+pub record IsSoundTable (table : TableRule) : Type 0 where
   pub low : 2 ≤ table.states
   pub high : table.states ≤ 256
   pub closed : (nine : List ℕ) → length nine ≡ 9 → All (λ s. s < table.states) nine → table_next table nine < table.states

@@ -11,25 +11,25 @@ use Rattle.ca_rule.specs.declared.table.slot.Slot.TheVariants.{Number, Variable}
 use Rattle.ca_rule.specs.TableOrders.{ring_size}
 use Rattle.ca_rule.specs.TableNext.{States, admits, is_variable, Transition, TableRule}
 use Rattle.ca_rule.specs.Digits.{are_digits}
-use Rattle.ca_rule.specs.TableLines.{Line, lines_said, rule_name, begins_table, begins_section, is_setting, setting, setting_words, value_of, states_set, neighbourhood_set, symmetry_set, is_name, IsVariableLine, IsTransitionLine}
+use Rattle.ca_rule.specs.TableLines.{NumberedLine, lines_said, rule_name, begins_table, begins_section, is_setting, setting, setting_words, value_of, states_set, neighbourhood_set, symmetry_set, is_name, IsVariableLine, IsTransitionLine}
 
 -- the text gives this name, and these lines follow the one that begins its table: first `@RULE`, then lines that are
 -- skipped, then the first `@TABLE`
-pub record HasTable (bytes name : List ℕ) (lines : List Line) : Type 0 where
-  pub rule_line : Line
-  pub skipped : List Line
-  pub table_line : Line
+pub record HasTable (bytes name : List ℕ) (lines : List NumberedLine) : Type 0 where
+  pub rule_line : NumberedLine
+  pub skipped : List NumberedLine
+  pub table_line : NumberedLine
   pub named : rule_name rule_line ≡ Some name
   pub no_table : list_any begins_table skipped ≡ false
   pub begins : begins_table table_line ≡ true
   pub whole : lines_said bytes ≡ rule_line ∷ (skipped ++ table_line ∷ lines)
 
 -- the line is a setting that one of the earlier lines sets
-abbrev pub sets_again : List Line → Line → Bool
+abbrev pub sets_again : List NumberedLine → NumberedLine → Bool
 sets_again earlier line = list_any (λ word. is_some (setting word line) && is_some (value_of word earlier)) setting_words
 
 -- after earlier lines, all lines are settings, and none is set again
-abbrev pub are_settings : List Line → List Line → Bool
+abbrev pub are_settings : List NumberedLine → List NumberedLine → Bool
 are_settings earlier [] = true
 are_settings earlier (l ∷ ls) = (is_setting l && not (sets_again earlier l)) && are_settings (earlier ++ l ∷ []) ls
 
@@ -40,23 +40,23 @@ pub record Settings : Type 0 where
   pub symmetry : Symmetry
 
 -- the lines are settings, all three of them, each once and in any order, and mean this
-pub record Mean (lines : List Line) (settings : Settings) : Type 0 where
+pub record Mean (lines : List NumberedLine) (settings : Settings) : Type 0 where
   pub once : are_settings [] lines ≡ true
   pub states_are : states_set lines ≡ Some settings.states
   pub neighbourhood_is : neighbourhood_set lines ≡ Some settings.neighbourhood
   pub symmetry_is : symmetry_set settings.neighbourhood lines ≡ Some settings.symmetry
 
 -- what statements say: a variable's name and states for each of their lines, and the transitions
-pub record Said : Type 0 where
+pub record SaidStatements : Type 0 where
   pub variables : List (List ℕ × States)
   pub transitions : List Transition
 
 -- before the first statement
-abbrev pub nothing : Said
+abbrev pub nothing : SaidStatements
 nothing = record { variables = []; transitions = [] }
 
 -- the states of the variables
-abbrev pub states_said : Said → List States
+abbrev pub states_said : SaidStatements → List States
 states_said said = map (λ (v : List ℕ × States). v.1) said.variables
 
 -- the number of the last variable of this name, where the list's first variable has the number n; a later line replaces an
@@ -66,7 +66,7 @@ number_of n [] name = None
 number_of n (v ∷ vs) name = option_or (number_of (n + 1) vs name) (if bytes_eq v.0 name then Some n else None)
 
 -- a field stands for a state of the table, or for a variable
-abbrev pub StandsFor : Settings → Said → List ℕ → Slot → Type 0
+abbrev pub StandsFor : Settings → SaidStatements → List ℕ → Slot → Type 0
 StandsFor settings said field (Number state) = (are_digits field ≡ true) × (state ≡ value field) × (state < settings.states)
 StandsFor settings said field (Variable v) = (is_name field ≡ true) × (number_of 0 said.variables field ≡ Some v)
 
@@ -75,7 +75,7 @@ abbrev pub states_among : Settings → List States → List Slot → States
 states_among settings variables slots = filter (λ s. list_any (λ slot. admits variables slot s) slots) (range_with_len 0 settings.states)
 
 -- after what was said, the line says one more variable
-pub record SaysVariable (settings : Settings) (said : Said) (line : Line) (after : Said) : Type 0 where
+pub record SaysVariable (settings : Settings) (said : SaidStatements) (line : NumberedLine) (after : SaidStatements) : Type 0 where
   pub name : List ℕ
   pub fields : List (List ℕ)
   pub slots : List Slot
@@ -93,7 +93,7 @@ abbrev pub field_count : Settings → ℕ
 field_count settings = ring_size settings.neighbourhood + 2
 
 -- the line says one more transition
-pub record SaysTransition (settings : Settings) (said : Said) (line : Line) (after : Said) : Type 0 where
+pub record SaysTransition (settings : Settings) (said : SaidStatements) (line : NumberedLine) (after : SaidStatements) : Type 0 where
   pub fields : List (List ℕ)
   pub inputs : List Slot
   pub result : Slot
@@ -103,12 +103,12 @@ pub record SaysTransition (settings : Settings) (said : Said) (line : Line) (aft
   pub after_is : after ≡ record said { transitions = said.transitions ++ record { inputs = inputs; result = result } ∷ [] }
 
 -- the lines are statements, which say this, one after another, after what was said
-abbrev pub Say : Settings → Said → List Line → Said → Type 0
+abbrev pub Say : Settings → SaidStatements → List NumberedLine → SaidStatements → Type 0
 Say settings said [] after = said ≡ after
-Say settings said (l ∷ ls) after = (next : Said) × (SaysVariable settings said l next ⊎ SaysTransition settings said l next) × Say settings next ls after
+Say settings said (l ∷ ls) after = (next : SaidStatements) × (SaysVariable settings said l next ⊎ SaysTransition settings said l next) × Say settings next ls after
 
 -- what a name, settings and statements make
-abbrev pub made : List ℕ → Settings → Said → TableRule
+abbrev pub made : List ℕ → Settings → SaidStatements → TableRule
 made named settings said = record {
   name = named;
   states = settings.states;
@@ -119,7 +119,7 @@ made named settings said = record {
 }
 
 -- no line is left, or the first of them begins a section
-abbrev pub is_end_of_section : List Line → Bool
+abbrev pub is_end_of_section : List NumberedLine → Bool
 is_end_of_section [] = true
 is_end_of_section (l ∷ ls) = begins_section l
 
@@ -127,11 +127,11 @@ is_end_of_section (l ∷ ls) = begins_section l
 -- a later `@`, also a second `@RULE` or `@TABLE`, is skipped (our own)
 pub record IsTable (bytes : List ℕ) (table : TableRule) : Type 0 where
   pub name : List ℕ
-  pub setting_lines : List Line
-  pub statements : List Line
-  pub later : List Line
+  pub setting_lines : List NumberedLine
+  pub statements : List NumberedLine
+  pub later : List NumberedLine
   pub settings : Settings
-  pub said : Said
+  pub said : SaidStatements
   pub has_table : HasTable bytes name (setting_lines ++ (statements ++ later))
   pub mean : Mean setting_lines settings
   pub say : Say settings nothing statements said

@@ -28,13 +28,13 @@ pub struct BsRule {
 }
 
 impl BsRule {
-    ghost use Rattle.ca_rule.specs.Spelling.{Names, IsFaultOf, printed};
+    ghost use Rattle.ca_rule.specs.Spelling.{NamesBsRule, IsBsRuleFault, printed_bs_rule};
 
     /// The rule that the text names, as `B3/S23`, `s23b3` and `23/3` name Conway's Life. Nothing here takes
     /// memory.
     pub fn parse(text: &[u8]) -> Result<BsRule, RuleFault>
-        ensures found { IfOk result (λ rule. Names text.now rule) }
-        ensures fault { IfErr result (λ f. IsFaultOf text.now f) }
+        ensures found { IfOk result (λ rule. NamesBsRule text.now rule) }
+        ensures fault { IfErr result (λ f. IsBsRuleFault text.now f) }
     {
         if text.contains(&b':') {
             return Err(RuleFault::Bounded);
@@ -59,7 +59,7 @@ impl BsRule {
     /// applies.
     pub fn text(&self, alloc: Global) -> Result<Vec<u8>, Memory>
         ensures printed { IfOk result
-            (λ v. v.items ≡ printed self.now.hood self.now.birth self.now.survival) }
+            (λ v. v.items ≡ printed_bs_rule self.now.hood self.now.birth self.now.survival) }
         ensures word { IfOk result (λ v. IsWord v.items) }
     {
         let mut out = Vec::new(alloc);
@@ -89,12 +89,12 @@ impl BsRule {
 }
 
 impl Automaton for BsRule {
-    ghost use Rattle.ca_rule.specs.Masks.{masks_of};
-    ghost use Rattle.ca_rule.specs.Next.{next_of};
+    ghost use Rattle.ca_rule.specs.Masks.{masks_by_hood};
+    ghost use Rattle.ca_rule.specs.Next.{bs_next};
 
     ghost state_count = { λ _. 2 };
 
-    ghost next_of = { λ rule nine. next_of rule.hood rule.birth rule.survival nine };
+    ghost next_of = { λ rule nine. bs_next rule.hood rule.birth rule.survival nine };
 
     ghost sound = { λ rule. is_count rule.birth 0 ≡ false };
 
@@ -115,8 +115,8 @@ impl Automaton for BsRule {
     /// The masks of its birth and survival counts, where it counts all eight neighbours; else `None`.
     fn masks(&self) -> Option<(u16, u16)>
         ensures moore { IfSome result
-            (λ masks. IsMoore 2 (next_of self.now.hood self.now.birth self.now.survival) masks.0 masks.1) }
-        ensures masks { result ≡ masks_of self.now.hood self.now.birth self.now.survival }
+            (λ masks. IsMoore 2 (bs_next self.now.hood self.now.birth self.now.survival) masks.0 masks.1) }
+        ensures masks { result ≡ masks_by_hood self.now.hood self.now.birth self.now.survival }
     {
         match self.hood {
             Hood::Moore => Some((self.birth.mask(), self.survival.mask())),

@@ -3,7 +3,7 @@
 ghost use Rattle.std.specs.Prelude.{◌≡◌, ◌↔◌, ◌≤◌, false, IsTrue, IfOk, IfErr};
 ghost use Rattle.ca_plane.specs.Bytes.{IsWord};
 ghost use Rattle.ca_rule.specs.Counts.{is_count};
-ghost use Rattle.ca_rule.specs.Generations.{live};
+ghost use Rattle.ca_rule.specs.Generations.{liveness};
 ghost use Rattle.std.proofs.Common.{arith};
 ghost use Rattle.std.proofs.lemmas.Bool.Decides.{nat_tests};
 
@@ -39,7 +39,7 @@ pub struct GenRule {
 
 impl GenRule {
     ghost use Rattle.ca_rule.specs.Generations.{older};
-    ghost use Rattle.ca_rule.specs.GenerationsText.{Names, IsFaultOf, printed};
+    ghost use Rattle.ca_rule.specs.GenerationsText.{NamesGenerationsRule, IsGenerationsRuleFault, printed_generations_rule};
 
     /// The rule that the text names, as `/2/3` names Brian's Brain. Nothing here takes memory.
     ///
@@ -47,8 +47,8 @@ impl GenRule {
     ///
     /// Fails where the text names no rule, with the reason.
     pub fn parse(text: &[u8]) -> Result<GenRule, RuleFault>
-        ensures found { IfOk result (λ rule. Names text.now rule) }
-        ensures fault { IfErr result (λ f. IsFaultOf text.now f) }
+        ensures found { IfOk result (λ rule. NamesGenerationsRule text.now rule) }
+        ensures fault { IfErr result (λ f. IsGenerationsRuleFault text.now f) }
     {
         if text.contains(&b':') {
             return Err(RuleFault::Bounded);
@@ -77,7 +77,7 @@ impl GenRule {
     /// Fails where there is no memory for it.
     pub fn text(&self, alloc: Global) -> Result<Vec<u8>, Memory>
         ensures printed { IfOk result
-            (λ v. v.items ≡ printed self.now.survival self.now.birth self.now.states) }
+            (λ v. v.items ≡ printed_generations_rule self.now.survival self.now.birth self.now.states) }
         ensures word { IfOk result (λ v. IsWord v.items) }
     {
         let mut out = Vec::new(alloc);
@@ -116,13 +116,13 @@ impl GenRule {
 
 impl Automaton for GenRule {
     ghost use Rattle.std.specs.Prelude.{None};
-    ghost use Rattle.ca_rule.specs.Generations.{IsSound, next_of};
+    ghost use Rattle.ca_rule.specs.Generations.{IsSoundGenerations, generations_next};
 
     ghost state_count = { λ rule. rule.states };
 
-    ghost next_of = { λ rule nine. next_of rule.survival rule.birth rule.states nine };
+    ghost next_of = { λ rule nine. generations_next rule.survival rule.birth rule.states nine };
 
-    ghost sound = { λ rule. IsSound rule.birth rule.states };
+    ghost sound = { λ rule. IsSoundGenerations rule.birth rule.states };
 
     fn states(&self) -> u16 {
         self.states
@@ -156,7 +156,7 @@ impl Automaton for GenRule {
 
 /// 1 for a live cell, 0 for one that is dead or dying.
 fn live(state: u8) -> u8
-    ensures { result ≡ live state }
+    ensures { result ≡ liveness state }
 {
     u8::from(state == 1)
 }

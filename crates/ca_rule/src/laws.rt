@@ -4,8 +4,8 @@
 ghost use Rattle.std.specs.Prelude.{◌≡◌, ◌↔◌, ℕ, List, [], ◌∷◌, true, false, codes, Some, None};
 ghost use Rattle.ca_plane.specs.Moore.{moore_next};
 ghost use Rattle.ca_rule.specs.Counts.{is_count, counts_of};
-ghost use Rattle.ca_rule.specs.Masks.{masks_of};
-ghost use Rattle.ca_rule.specs.Spelling.{Spells, Names, IsFaultOf, printed};
+ghost use Rattle.ca_rule.specs.Masks.{masks_by_hood};
+ghost use Rattle.ca_rule.specs.Spelling.{SpellsBsRule, NamesBsRule, IsBsRuleFault, printed_bs_rule};
 ghost use Rattle.ca_rule.specs.TableExamples.{digits, bs_cell};
 ghost use Rattle.ca_rule.specs.declared.bs_rule.BsRule.{BsRule};
 ghost use Rattle.ca_rule.specs.declared.fault.RuleFault.{RuleFault};
@@ -16,20 +16,20 @@ use crate::bs_rule::BsRule;
 
 /// A text names one rule at most.
 pub fn one_rule()
-    ensures { (text : List ℕ) (r s : BsRule) → Names text r → Names text s
+    ensures { (text : List ℕ) (r s : BsRule) → NamesBsRule text r → NamesBsRule text s
         → (r.hood ≡ s.hood) × (r.birth ≡ s.birth) × (r.survival ≡ s.survival) }
 {}
 
 /// A text that names a rule has no fault, and another has one fault at most.
 pub fn rule_or_fault()
-    ensures rule_alone { (text : List ℕ) (rule : BsRule) (fault : RuleFault) → Names text rule
-        → IsFaultOf text fault → ⊥ }
-    ensures one_fault { (text : List ℕ) (f g : RuleFault) → IsFaultOf text f → IsFaultOf text g → f ≡ g }
+    ensures rule_alone { (text : List ℕ) (rule : BsRule) (fault : RuleFault) → NamesBsRule text rule
+        → IsBsRuleFault text fault → ⊥ }
+    ensures one_fault { (text : List ℕ) (f g : RuleFault) → IsBsRuleFault text f → IsBsRuleFault text g → f ≡ g }
 {}
 
 /// The printed form of a rule names that rule.
 pub fn names_itself(rule: &BsRule)
-    ensures { Names (printed rule.now.hood rule.now.birth rule.now.survival) rule.now }
+    ensures { NamesBsRule (printed_bs_rule rule.now.hood rule.now.birth rule.now.survival) rule.now }
 {
     let _ = rule.birth.places();
     let _ = rule.survival.places();
@@ -37,7 +37,7 @@ pub fn names_itself(rule: &BsRule)
 
 /// Two rules are printed alike exactly where they are equal.
 pub fn alike(a: &BsRule, b: &BsRule)
-    ensures { (printed a.now.hood a.now.birth a.now.survival ≡ printed b.now.hood b.now.birth b.now.survival)
+    ensures { (printed_bs_rule a.now.hood a.now.birth a.now.survival ≡ printed_bs_rule b.now.hood b.now.birth b.now.survival)
         ↔ ((a.now.hood ≡ b.now.hood) × (a.now.birth ≡ b.now.birth) × (a.now.survival ≡ b.now.survival)) }
 {
     names_itself(a);
@@ -46,35 +46,35 @@ pub fn alike(a: &BsRule, b: &BsRule)
 
 /// Some texts that name rules, and printed rules.
 pub fn worked_examples()
-    ensures life_is_spelled { Spells (codes "B3/S23") (codes "3") (codes "23") Moore }
-    ensures life_is_spelled_survival_first { Spells (codes "S32/B33") (codes "33") (codes "32") Moore }
-    ensures life_is_spelled_in_lower_case { Spells (codes "s23b3") (codes "3") (codes "23") Moore }
-    ensures life_is_spelled_without_letters { Spells (codes "23/3") (codes "3") (codes "23") Moore }
-    ensures slash_alone_spells_no_counts { Spells (codes "/") [] [] Moore }
-    ensures four_neighbours_are_spelled { Spells (codes "b1sv") (codes "1") [] VonNeumann }
-    ensures six_neighbours_are_spelled { Spells (codes "B6/S6h") (codes "6") (codes "6") Hex }
+    ensures life_is_spelled { SpellsBsRule (codes "B3/S23") (codes "3") (codes "23") Moore }
+    ensures life_is_spelled_survival_first { SpellsBsRule (codes "S32/B33") (codes "33") (codes "32") Moore }
+    ensures life_is_spelled_in_lower_case { SpellsBsRule (codes "s23b3") (codes "3") (codes "23") Moore }
+    ensures life_is_spelled_without_letters { SpellsBsRule (codes "23/3") (codes "3") (codes "23") Moore }
+    ensures slash_alone_spells_no_counts { SpellsBsRule (codes "/") [] [] Moore }
+    ensures four_neighbours_are_spelled { SpellsBsRule (codes "b1sv") (codes "1") [] VonNeumann }
+    ensures six_neighbours_are_spelled { SpellsBsRule (codes "B6/S6h") (codes "6") (codes "6") Hex }
     ensures life_is_named { (rule : BsRule) → rule.hood ≡ Moore → rule.birth ≡ counts_of (codes "3")
-        → rule.survival ≡ counts_of (codes "23") → Names (codes "B3/S23") rule }
-    ensures life_is_printed { printed Moore (counts_of (codes "33")) (counts_of (codes "32"))
+        → rule.survival ≡ counts_of (codes "23") → NamesBsRule (codes "B3/S23") rule }
+    ensures life_is_printed { printed_bs_rule Moore (counts_of (codes "33")) (counts_of (codes "32"))
         ≡ codes "B3/S23" }
-    ensures four_neighbours_are_printed { printed VonNeumann (counts_of (codes "1")) (counts_of [])
+    ensures four_neighbours_are_printed { printed_bs_rule VonNeumann (counts_of (codes "1")) (counts_of [])
         ≡ codes "B1/SV" }
-    ensures six_neighbours_are_printed { printed Hex (counts_of (codes "6")) (counts_of (codes "6"))
+    ensures six_neighbours_are_printed { printed_bs_rule Hex (counts_of (codes "6")) (counts_of (codes "6"))
         ≡ codes "B6/S6H" }
 {}
 
 /// Some texts that name no rule.
 pub fn worked_faults()
-    ensures birth_on_none_wakes { IsFaultOf (codes "b03s23") Wakes }
-    ensures birth_on_none_wakes_without_letters { IsFaultOf (codes "/0") Wakes }
-    ensures torus_is_bounded { IsFaultOf (codes "B3/S23:T30,20") Bounded }
-    ensures colon_alone_is_bounded { IsFaultOf (codes "B0:") Bounded }
-    ensures names_of_rules_are_unknown { IsFaultOf (codes "Life") Unknown }
-    ensures empty_text_is_unknown { IsFaultOf [] Unknown }
-    ensures nine_neighbours_are_unknown { IsFaultOf (codes "B9/S") Unknown }
-    ensures five_of_four_neighbours_are_unknown { IsFaultOf (codes "B5/SV") Unknown }
-    ensures seven_of_six_neighbours_are_unknown { IsFaultOf (codes "B7/SH") Unknown }
-    ensures unknown_even_with_birth_on_none { IsFaultOf (codes "B08/S9") Unknown }
+    ensures birth_on_none_wakes { IsBsRuleFault (codes "b03s23") Wakes }
+    ensures birth_on_none_wakes_without_letters { IsBsRuleFault (codes "/0") Wakes }
+    ensures torus_is_bounded { IsBsRuleFault (codes "B3/S23:T30,20") Bounded }
+    ensures colon_alone_is_bounded { IsBsRuleFault (codes "B0:") Bounded }
+    ensures names_of_rules_are_unknown { IsBsRuleFault (codes "Life") Unknown }
+    ensures empty_text_is_unknown { IsBsRuleFault [] Unknown }
+    ensures nine_neighbours_are_unknown { IsBsRuleFault (codes "B9/S") Unknown }
+    ensures five_of_four_neighbours_are_unknown { IsBsRuleFault (codes "B5/SV") Unknown }
+    ensures seven_of_six_neighbours_are_unknown { IsBsRuleFault (codes "B7/SH") Unknown }
+    ensures unknown_even_with_birth_on_none { IsBsRuleFault (codes "B08/S9") Unknown }
 {}
 
 /// Some counts, and some cells under B/S rules.
@@ -92,10 +92,10 @@ pub fn worked_next_cells()
 
 /// Some masks.
 pub fn worked_masks()
-    ensures life_has_masks { masks_of Moore (counts_of (codes "3")) (counts_of (codes "23")) ≡ Some (8, 12) }
-    ensures no_birth_sets_no_bit { masks_of Moore (counts_of []) (counts_of (codes "8")) ≡ Some (0, 256) }
-    ensures four_neighbours_have_none { masks_of VonNeumann (counts_of (codes "1")) (counts_of []) ≡ None }
-    ensures six_neighbours_have_none { masks_of Hex (counts_of (codes "6")) (counts_of (codes "6")) ≡ None }
+    ensures life_has_masks { masks_by_hood Moore (counts_of (codes "3")) (counts_of (codes "23")) ≡ Some (8, 12) }
+    ensures no_birth_sets_no_bit { masks_by_hood Moore (counts_of []) (counts_of (codes "8")) ≡ Some (0, 256) }
+    ensures four_neighbours_have_none { masks_by_hood VonNeumann (counts_of (codes "1")) (counts_of []) ≡ None }
+    ensures six_neighbours_have_none { masks_by_hood Hex (counts_of (codes "6")) (counts_of (codes "6")) ≡ None }
     ensures life_goes_by_its_masks { moore_next 8 12 (digits (codes "000111000")) ≡ 1 }
     ensures dead_cells_are_born_on_three { moore_next 8 12 (digits (codes "000000111")) ≡ 1 }
     ensures dead_cells_are_not_born_on_two { moore_next 8 12 (digits (codes "000101000")) ≡ 0 }

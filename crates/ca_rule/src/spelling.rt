@@ -2,9 +2,9 @@
 
 ghost use Rattle.std.specs.Prelude.{◌≡◌, ◌≤◌, List, ℕ, None, Some, IfSome, IfNone, MatchOption};
 ghost use Rattle.ca_rule.specs.Counts.{are_digits_up_to};
-ghost use Rattle.ca_rule.specs.inner.TextParts.{is_letter, hood_of, body_of, without_slash, behind_letter};
+ghost use Rattle.ca_rule.specs.inner.TextParts.{is_rule_letter, hood_of, body_of, without_slash, behind_letter};
 ghost use Rattle.ca_rule.specs.inner.TextParts.{behind_slash, lists_around, lists_around_slash, lists_of};
-ghost use Rattle.ca_rule.specs.Spelling.{Spells};
+ghost use Rattle.ca_rule.specs.Spelling.{SpellsBsRule};
 ghost use Rattle.ca_rule.specs.declared.hood.Hood.{Hood};
 
 use crate::hood::Hood;
@@ -22,7 +22,7 @@ pub(crate) struct Spelled<'t> {
 fn is_letter(byte: u8, upper: u8) -> bool
     requires low { 65 ≤ upper }
     requires high { upper ≤ 90 }
-    ensures { result ≡ is_letter upper byte }
+    ensures { result ≡ is_rule_letter upper byte }
 {
     byte == upper || byte == upper + 32
 }
@@ -124,9 +124,9 @@ pub(crate) fn are_digits_up_to(most: u8, digits: &[u8]) -> bool
 
 /// The digits and the neighbourhood that the text spells.
 pub(crate) fn spelling_of(text: &[u8]) -> Option<Spelled<'_>>
-    ensures found { IfSome result (λ s. Spells text.now s.birth.now s.survival.now s.hood) }
+    ensures found { IfSome result (λ s. SpellsBsRule text.now s.birth.now s.survival.now s.hood) }
     ensures none { IfNone result ((birth survival : List ℕ) (hood : Hood)
-        → Spells text.now birth survival hood → ⊥) }
+        → SpellsBsRule text.now birth survival hood → ⊥) }
 {
     let (body, hood) = split_suffix(text);
     let (birth, survival) = lists_of(body)?;

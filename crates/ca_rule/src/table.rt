@@ -56,14 +56,14 @@ pub struct Table {
 
 impl Model for Table {
     ghost use Rattle.ca_rule.specs.TableNext.{TableRule};
-    ghost use Rattle.ca_rule.specs.inner.TableStored.{stored, IsKept};
+    ghost use Rattle.ca_rule.specs.inner.TableStored.{stored, IsStoredTable};
 
     ghost Value = { TableRule };
 
     ghost view = { λ t. stored t.name.items t.states t.neighbourhood t.symmetry t.sifted.variables
         t.sifted.transitions };
 
-    ghost invariant = { λ t. IsKept
+    ghost invariant = { λ t. IsStoredTable
         (stored t.name.items t.states t.neighbourhood t.symmetry t.sifted.variables t.sifted.transitions) };
 }
 
@@ -73,7 +73,7 @@ impl Table {
     ghost use Rattle.ca_plane.specs.Bytes.{IsWord};
     ghost use Rattle.ca_rule.specs.TableNext.{Transition as TransitionValue, table_next};
     ghost use Rattle.ca_rule.specs.TableText.{IsTable};
-    ghost use Rattle.ca_rule.specs.TableFaults.{IsFaultOf};
+    ghost use Rattle.ca_rule.specs.TableFaults.{IsTableTextFault};
     ghost use Rattle.ca_rule.specs.inner.TableStored.{stored, is_below, IsPartsFault};
 
     /// The table of a rule file's text, or what is wrong with its first faulty line. Out of memory comes only
@@ -81,7 +81,7 @@ impl Table {
     pub fn parse(alloc: Global, text: &[u8]) -> Result<Table, TableFault>
         ensures found { IfOk result (IsTable text.now) }
         ensures quiet { IfOk result (λ t. table_next t (replicate 9 0) ≡ 0) }
-        ensures fault { IfErr result (IsFaultOf text.now) }
+        ensures fault { IfErr result (IsTableTextFault text.now) }
     {
         let (name, lines) = table_lines(text)?;
         let (settings, behind) = read_settings(&lines)?;
@@ -159,13 +159,13 @@ impl Table {
 
 impl Automaton for Table {
     ghost use Rattle.std.specs.Prelude.{◌≡◌, None};
-    ghost use Rattle.ca_rule.specs.TableNext.{IsSound, table_next};
+    ghost use Rattle.ca_rule.specs.TableNext.{IsSoundTable, table_next};
 
     ghost state_count = { λ table. table.states };
 
     ghost next_of = { table_next };
 
-    ghost sound = { IsSound };
+    ghost sound = { IsSoundTable };
 
     fn states(&self) -> u16 {
         self.states

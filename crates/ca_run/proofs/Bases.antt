@@ -6,8 +6,8 @@ use Rattle.std.proofs.lemmas.List.{get_or_default}
 use Rattle.ca_plane.specs.Generations.{cells_after}
 use Rattle.ca_quad.specs.declared.node.Node.{Node}
 use Rattle.ca_quad.specs.Squares.{IsOf, dot, together, cell_of}
-use Rattle.ca_quad.specs.Sound.{IsSound, Grows}
-use Rattle.ca_quad.specs.Trees.{Shows, AreQuarters, AreCorners, IsEmpty, from_corner}
+use Rattle.ca_quad.specs.Sound.{IsSoundStore, Grows}
+use Rattle.ca_quad.specs.Trees.{ShowsSquare, AreQuarters, AreCorners, IsEmpty, from_corner}
 use Rattle.ca_run.specs.Centre.{IsCentre}
 use Rattle.ca_run.specs.inner.Shown.{Looks, ShowsAt, sixteen}
 use Rattle.ca_run.proofs.After.{after_same, after_none}
@@ -73,7 +73,7 @@ dots_look s t u v p a b e f g h =
 
 -- a square of four cells that are those of a plane shows it
 dots_at : {E : Type 0} (new : List Node) (r : Result ℕ E) (s t u v : ℕ) (p : ℤ → ℤ → ℕ) (a b : ℤ) → s ≡ p a b → t ≡ p (a +ℤ pos 1) b → u ≡ p a (b +ℤ pos 1) → v ≡ p (a +ℤ pos 1) (b +ℤ pos 1)
-    → IfOk r (λ id. Shows new id 1 (together 1 (dot s) (dot t) (dot u) (dot v))) → IfOk r (λ id. ShowsAt new id 1 p a b)
+    → IfOk r (λ id. ShowsSquare new id 1 (together 1 (dot s) (dot t) (dot u) (dot v))) → IfOk r (λ id. ShowsAt new id 1 p a b)
 dots_at new (Err e) s t u v p a b f g h i shows = tt
 dots_at new (Ok id) s t u v p a b f g h i shows = record {
   is_square = shows.is_square;
@@ -82,7 +82,7 @@ dots_at new (Ok id) s t u v p a b f g h i shows = record {
 
 -- the middle of sixteen cells
 pub inner_cells_at : {E : Type 0} (old new : List Node) (r : Result ℕ E) (id : ℕ) (cells : List ℕ) (p : ℤ → ℤ → ℕ) (a b : ℤ) → cells ≡ sixteen (cell_of old 2 id) → ShowsAt old id 2 p a b
-    → IfOk r (λ half. Shows new half 1 (together 1 (dot (slice_index cells 5)) (dot (slice_index cells 6)) (dot (slice_index cells 9)) (dot (slice_index cells 10))))
+    → IfOk r (λ half. ShowsSquare new half 1 (together 1 (dot (slice_index cells 5)) (dot (slice_index cells 6)) (dot (slice_index cells 9)) (dot (slice_index cells 10))))
     → IfOk r (λ half. ShowsAt new half 1 p (a +ℤ pos 1) (b +ℤ pos 1))
 inner_cells_at old new r id cells p a b e shows made =
     let ax : a +ℤ pos 2 ≡ (a +ℤ pos 1) +ℤ pos 1 = omega (arith, ints) in
@@ -94,12 +94,12 @@ inner_cells_at old new r id cells p a b e shows made =
     (ap (λ l. slice_index l 10) e ∙ shows.looks 2 2 (omega arith) (omega arith) ∙ ap₂ p ax by) made
 
 -- the next states of the four in the middle are the centre after one generation
-pub next_four_centre : {E : Type 0} (next : List ℕ → ℕ) (old new : List Node) → IsSound old → Grows old new → (r : Result ℕ E) (id : ℕ) (cells : List ℕ) (nw ne sw se : ℕ) → IsOf old id 2 → cells ≡ sixteen (cell_of old 2 id)
+pub next_four_centre : {E : Type 0} (next : List ℕ → ℕ) (old new : List Node) → IsSoundStore old → Grows old new → (r : Result ℕ E) (id : ℕ) (cells : List ℕ) (nw ne sw se : ℕ) → IsOf old id 2 → cells ≡ sixteen (cell_of old 2 id)
     → nw ≡ next (slice_index cells 0 ∷ slice_index cells 1 ∷ slice_index cells 2 ∷ slice_index cells 4 ∷ slice_index cells 5 ∷ slice_index cells 6 ∷ slice_index cells 8 ∷ slice_index cells 9 ∷ slice_index cells 10 ∷ [])
     → ne ≡ next (slice_index cells 1 ∷ slice_index cells 2 ∷ slice_index cells 3 ∷ slice_index cells 5 ∷ slice_index cells 6 ∷ slice_index cells 7 ∷ slice_index cells 9 ∷ slice_index cells 10 ∷ slice_index cells 11 ∷ [])
     → sw ≡ next (slice_index cells 4 ∷ slice_index cells 5 ∷ slice_index cells 6 ∷ slice_index cells 8 ∷ slice_index cells 9 ∷ slice_index cells 10 ∷ slice_index cells 12 ∷ slice_index cells 13 ∷ slice_index cells 14 ∷ [])
     → se ≡ next (slice_index cells 5 ∷ slice_index cells 6 ∷ slice_index cells 7 ∷ slice_index cells 9 ∷ slice_index cells 10 ∷ slice_index cells 11 ∷ slice_index cells 13 ∷ slice_index cells 14 ∷ slice_index cells 15 ∷ [])
-    → IfOk r (λ half. Shows new half 1 (together 1 (dot nw) (dot ne) (dot sw) (dot se))) → IfOk r (IsCentre next new id 0 0)
+    → IfOk r (λ half. ShowsSquare new half 1 (together 1 (dot nw) (dot ne) (dot sw) (dot se))) → IfOk r (IsCentre next new id 0 0)
 next_four_centre next old new sound grows r id cells nw ne sw se square e a b c d made = centre_of r (dots_at new r nw ne sw se q (pos 0 +ℤ pos 1) (pos 0 +ℤ pos 1)
     (subst (λ l. nw ≡ next (slice_index l 0 ∷ slice_index l 1 ∷ slice_index l 2 ∷ slice_index l 4 ∷ slice_index l 5 ∷ slice_index l 6 ∷ slice_index l 8 ∷ slice_index l 9 ∷ slice_index l 10 ∷ [])) e a)
     (subst (λ l. ne ≡ next (slice_index l 1 ∷ slice_index l 2 ∷ slice_index l 3 ∷ slice_index l 5 ∷ slice_index l 6 ∷ slice_index l 7 ∷ slice_index l 9 ∷ slice_index l 10 ∷ slice_index l 11 ∷ [])) e b)

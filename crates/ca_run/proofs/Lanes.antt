@@ -4,7 +4,7 @@ use Rattle.std.specs.Prelude.{ℤ, pos, ◌+ℤ◌, MatchOption}
 use Rattle.ca_plane.specs.Generations.{cells_after}
 use Rattle.ca_quad.specs.declared.node.Node.{Node}
 use Rattle.ca_quad.specs.Squares.{cell_of}
-use Rattle.ca_quad.specs.Sound.{IsSound, Grows}
+use Rattle.ca_quad.specs.Sound.{IsSoundStore, Grows}
 use Rattle.ca_quad.specs.Trees.{from_corner, word_cells, HasMoreStates}
 use Rattle.ca_run.specs.Centre.{IsCentre}
 use Rattle.ca_run.specs.inner.Centres.{HasCentre}
@@ -35,7 +35,7 @@ centre_shown Show next nodes id k j l n words level time shows p a b square = (
 )
 
 -- a square that is made of words that show another's centre is that centre
-pub centre_made : {X E : Type 0} (Show : X → (ℤ → ℤ → ℕ) → ℤ → ℤ → Type 0) (next : List ℕ → ℕ) (old new : List Node) → IsSound old → Grows old new → (r : Result ℕ E) (id k j l : ℕ) (words : X) → HasCentre old id k j
+pub centre_made : {X E : Type 0} (Show : X → (ℤ → ℤ → ℕ) → ℤ → ℤ → Type 0) (next : List ℕ → ℕ) (old new : List Node) → IsSoundStore old → Grows old new → (r : Result ℕ E) (id k j l : ℕ) (words : X) → HasCentre old id k j
     → ((p : ℤ → ℤ → ℕ) (a b : ℤ) → ShowsAt old id (suc (suc k)) p a b → (k ≡ l) × Show words (cells_after next p (2 ^ j)) (a +ℤ side k) (b +ℤ side k))
     → ((p : ℤ → ℤ → ℕ) (a b : ℤ) → Show words p a b → IfOk r (λ half. ShowsAt new half (suc l) p a b)) → IfOk r (IsCentre next new id k j)
 centre_made Show next old new sound grows (Err e) id k j l words has shows made = tt

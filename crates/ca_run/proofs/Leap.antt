@@ -6,28 +6,28 @@ use Rattle.std.proofs.Math.Nat.{two-pow-succ}
 use Rattle.ca_plane.specs.Generations.{cells_after}
 use Rattle.ca_quad.specs.declared.node.Node.{Node}
 use Rattle.ca_quad.specs.Squares.{IsOf, cell_of}
-use Rattle.ca_quad.specs.Sound.{IsSound, Grows}
+use Rattle.ca_quad.specs.Sound.{IsSoundStore, Grows}
 use Rattle.ca_quad.specs.Trees.{from_corner}
 use Rattle.ca_quad.proofs.Growth.{grows_same, grows_on}
 use Rattle.ca_run.specs.declared.leaper.trio.Trio.{Trio}
 use Rattle.ca_run.specs.declared.leaper.trio.Rows.{Rows}
 use Rattle.ca_run.specs.Centre.{IsCentre}
-use Rattle.ca_run.specs.Leaping.{LeaperView, GoesOn}
+use Rattle.ca_run.specs.Leaping.{LeaperView, LeaperGrows}
 use Rattle.ca_run.specs.inner.Shown.{ShowsAt, FourShow, ThreeShow, TwoShow, NineShow, side}
 use Rattle.ca_run.proofs.Shown.{at_stays, three_stay, at_from, centre_at, is_centre_at, at_corner}
 
 -- a leaper that does nothing goes on
-pub goes_on_same : (Rule : Type 0) (l : LeaperView Rule) → IsSound l.nodes → GoesOn Rule l l
+pub goes_on_same : (Rule : Type 0) (l : LeaperView Rule) → IsSoundStore l.nodes → LeaperGrows Rule l l
 goes_on_same Rule l sound = record { rule = refl; grows = grows_same l.nodes sound }
 
 -- the centre that a call gives shows the plane later
-pub centre_ok : {E : Type 0} (next : List ℕ → ℕ) (old new : List Node) → IsSound old → Grows old new → (r : Result ℕ E) (id k j : ℕ) (p : ℤ → ℤ → ℕ) (a b : ℤ) → ShowsAt old id (suc (suc k)) p a b
+pub centre_ok : {E : Type 0} (next : List ℕ → ℕ) (old new : List Node) → IsSoundStore old → Grows old new → (r : Result ℕ E) (id k j : ℕ) (p : ℤ → ℤ → ℕ) (a b : ℤ) → ShowsAt old id (suc (suc k)) p a b
     → IfOk r (IsCentre next new id k j) → IfOk r (λ half. ShowsAt new half (suc k) (cells_after next p (2 ^ j)) (a +ℤ side k) (b +ℤ side k))
 centre_ok next old new sound grows (Err e) id k j p a b shows is_centre = tt
 centre_ok next old new sound grows (Ok half) id k j p a b shows is_centre = centre_at next old new sound grows id k j half p a b shows is_centre
 
 -- what shows a square's own cells later is its centre
-pub nine_centre : {E : Type 0} (next : List ℕ → ℕ) (old new : List Node) → IsSound old → Grows old new → (r : Result ℕ E) (id below k m n j : ℕ) → suc below ≡ k → IsOf old id (suc (suc k)) → j ≤ k → m + n ≡ 2 ^ j
+pub nine_centre : {E : Type 0} (next : List ℕ → ℕ) (old new : List Node) → IsSoundStore old → Grows old new → (r : Result ℕ E) (id below k m n j : ℕ) → suc below ≡ k → IsOf old id (suc (suc k)) → j ≤ k → m + n ≡ 2 ^ j
     → ((p : ℤ → ℤ → ℕ) (a b : ℤ) → ShowsAt old id (suc (suc (suc below))) p a b → IfOk r (λ half. ShowsAt new half (suc (suc below)) (cells_after next (cells_after next p m) n) (a +ℤ side (suc below)) (b +ℤ side (suc below))))
     → IfOk r (IsCentre next new id k j)
 nine_centre next old new sound grows r id below k m n j up square few sum shows =
@@ -75,7 +75,7 @@ module _ (k : ℕ) where
       omega (arith, ints, up)
 
   -- centres of two squares that lie side by side and overlap by half
-  pub pair_at : (mid new : List Node) → IsSound mid → Grows mid new → (west east : ℕ) (p : ℤ → ℤ → ℕ) (a b c : ℤ) → ShowsAt mid west (suc k) p (a +ℤ side k) c → ShowsAt new east (suc k) p ((a +ℤ side (suc k)) +ℤ side k) c
+  pub pair_at : (mid new : List Node) → IsSoundStore mid → Grows mid new → (west east : ℕ) (p : ℤ → ℤ → ℕ) (a b c : ℤ) → ShowsAt mid west (suc k) p (a +ℤ side k) c → ShowsAt new east (suc k) p ((a +ℤ side (suc k)) +ℤ side k) c
       → TwoShow new (suc k) west east p (a +ℤ side k) c
   pair_at mid new sound grows west east p a b c w e = record {
     at_west = at_stays mid new sound grows west (suc k) p (a +ℤ side k) c w;
@@ -83,7 +83,7 @@ module _ (k : ℕ) where
   }
 
   -- and of three
-  pub trio_at : (s2 s3 s4 : List Node) → IsSound s2 → IsSound s3 → Grows s2 s3 → Grows s3 s4 → (three : Trio) (p : ℤ → ℤ → ℕ) (a c : ℤ) → ShowsAt s2 three.west (suc k) p (a +ℤ side k) c
+  pub trio_at : (s2 s3 s4 : List Node) → IsSoundStore s2 → IsSoundStore s3 → Grows s2 s3 → Grows s3 s4 → (three : Trio) (p : ℤ → ℤ → ℕ) (a c : ℤ) → ShowsAt s2 three.west (suc k) p (a +ℤ side k) c
       → ShowsAt s3 three.middle (suc k) p ((a +ℤ side (suc k)) +ℤ side k) c → ShowsAt s4 three.east (suc k) p ((a +ℤ side (suc (suc k))) +ℤ side k) c → ThreeShow s4 (suc k) three p (a +ℤ side k) c
   trio_at s2 s3 s4 sound2 sound3 g h three p a c w m e = record {
     at_west = at_stays s2 s4 sound2 (grows_on s2 s3 s4 g h) three.west (suc k) p (a +ℤ side k) c w;
@@ -92,7 +92,7 @@ module _ (k : ℕ) where
   }
 
   -- and of nine
-  pub nine_at : (s1 s4 s5 : List Node) → IsSound s1 → IsSound s4 → Grows s1 s4 → Grows s4 s5 → (rows : Rows) (p : ℤ → ℤ → ℕ) (c b : ℤ) → ThreeShow s1 (suc k) rows.north p c (b +ℤ side k)
+  pub nine_at : (s1 s4 s5 : List Node) → IsSoundStore s1 → IsSoundStore s4 → Grows s1 s4 → Grows s4 s5 → (rows : Rows) (p : ℤ → ℤ → ℕ) (c b : ℤ) → ThreeShow s1 (suc k) rows.north p c (b +ℤ side k)
       → ThreeShow s4 (suc k) rows.middle p c ((b +ℤ side (suc k)) +ℤ side k) → ThreeShow s5 (suc k) rows.south p c ((b +ℤ side (suc (suc k))) +ℤ side k) → NineShow s5 (suc k) rows p c (b +ℤ side k)
   nine_at s1 s4 s5 sound1 sound4 g h rows p c b n m s = record {
     at_north = three_stay s1 s5 sound1 (grows_on s1 s4 s5 g h) (suc k) rows.north p c (b +ℤ side k) n;
@@ -101,7 +101,7 @@ module _ (k : ℕ) where
   }
 
   -- the four centres lie together
-  pub four_at : (s2 s3 : List Node) → IsSound s2 → Grows s2 s3 → (nw ne sw se : ℕ) (p : ℤ → ℤ → ℕ) (a b : ℤ) → TwoShow s2 (suc k) nw ne p ((a +ℤ side k) +ℤ side k) ((b +ℤ side k) +ℤ side k)
+  pub four_at : (s2 s3 : List Node) → IsSoundStore s2 → Grows s2 s3 → (nw ne sw se : ℕ) (p : ℤ → ℤ → ℕ) (a b : ℤ) → TwoShow s2 (suc k) nw ne p ((a +ℤ side k) +ℤ side k) ((b +ℤ side k) +ℤ side k)
       → TwoShow s3 (suc k) sw se p ((a +ℤ side k) +ℤ side k) (((b +ℤ side k) +ℤ side (suc k)) +ℤ side k) → FourShow s3 (suc k) nw ne sw se p (a +ℤ side (suc k)) (b +ℤ side (suc k))
   four_at s2 s3 sound grows nw ne sw se p a b n s =
       let x = side_twice a in

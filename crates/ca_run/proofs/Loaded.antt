@@ -10,11 +10,11 @@ use Rattle.ca_plane.proofs.Pictures.{Contains-cell}
 use Rattle.ca_quad.specs.declared.node.Node.{Node}
 use Rattle.ca_quad.specs.declared.tree.Tree.{Tree}
 use Rattle.ca_quad.specs.Trees.{cell}
-use Rattle.ca_quad.specs.Trimmed.{IsWithin, IsTrimmed}
+use Rattle.ca_quad.specs.Trimmed.{IsWithinLevel, IsTrimmed}
 use Rattle.ca_quad.proofs.Growth.{below_or_not}
 
 -- a coordinate of a plane lies within a tree of level 64
-is_within : (n : ℤ) → neg_ℤ reach ≤ℤ n → n ≤ℤ reach → IsWithin 64 n
+is_within : (n : ℤ) → neg_ℤ reach ≤ℤ n → n ≤ℤ reach → IsWithinLevel 64 n
 is_within n low high = (omega (arith, ints), omega (arith, ints))
 
 -- a trimmed tree that shows a plane has a level of 64 at most

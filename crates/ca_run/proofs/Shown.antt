@@ -8,13 +8,13 @@ use Rattle.std.proofs.Math.Pow.{pow_mono}
 use Rattle.ca_plane.specs.Generations.{cells_after}
 use Rattle.ca_quad.specs.declared.node.Node.{Node}
 use Rattle.ca_quad.specs.Squares.{IsOf, together, cell_of}
-use Rattle.ca_quad.specs.Sound.{IsSound, Grows}
-use Rattle.ca_quad.specs.Trees.{Shows, AreFour, AreQuarters, from_corner}
+use Rattle.ca_quad.specs.Sound.{IsSoundStore, Grows}
+use Rattle.ca_quad.specs.Trees.{ShowsSquare, AreFour, AreQuarters, from_corner}
 use Rattle.ca_quad.proofs.Growth.{grows_on}
 use Rattle.ca_quad.proofs.Cells.{cells_stay, of_stays}
 use Rattle.ca_run.specs.declared.leaper.trio.Trio.{Trio}
 use Rattle.ca_run.specs.Centre.{centre, IsCentre}
-use Rattle.ca_run.specs.Leaping.{LeaperView, GoesOn}
+use Rattle.ca_run.specs.Leaping.{LeaperView, LeaperGrows}
 use Rattle.ca_run.specs.inner.Shown.{Looks, ShowsAt, FourShow, ThreeShow, TwoShow, AreThree, side}
 use Rattle.ca_run.specs.Memo.{memo_result, AreCentres, IsLeaper}
 use Rattle.ca_run.specs.FullLeaps.{HasFullLeap, AreFullLeaps}
@@ -24,14 +24,14 @@ use Rattle.ca_run.proofs.Looks.{looks_from, looks_together, looks_nw, looks_ne, 
 
 -- ---- growth
 
-pub goes_on_again : (Rule : Type 0) (old mid new : LeaperView Rule) → GoesOn Rule old mid → GoesOn Rule mid new → GoesOn Rule old new
+pub goes_on_again : (Rule : Type 0) (old mid new : LeaperView Rule) → LeaperGrows Rule old mid → LeaperGrows Rule mid new → LeaperGrows Rule old new
 goes_on_again Rule old mid new g h = record { rule = h.rule ∙ g.rule; grows = grows_on old.nodes mid.nodes new.nodes g.grows h.grows }
 
 -- four calls, one after another
-pub four_go_on : {Rule : Type 0} {l0 l1 l2 l3 l4 : LeaperView Rule} → GoesOn Rule l0 l1 → GoesOn Rule l1 l2 → GoesOn Rule l2 l3 → GoesOn Rule l3 l4 → GoesOn Rule l0 l4
+pub four_go_on : {Rule : Type 0} {l0 l1 l2 l3 l4 : LeaperView Rule} → LeaperGrows Rule l0 l1 → LeaperGrows Rule l1 l2 → LeaperGrows Rule l2 l3 → LeaperGrows Rule l3 l4 → LeaperGrows Rule l0 l4
 four_go_on g1 g2 g3 g4 = goes_on_again _ _ _ _ (goes_on_again _ _ _ _ g1 g2) (goes_on_again _ _ _ _ g3 g4)
 
-module _ (old new : List Node) (sound : IsSound old) (grows : Grows old new) where
+module _ (old new : List Node) (sound : IsSoundStore old) (grows : Grows old new) where
   pub at_stays : (id level : ℕ) (p : ℤ → ℤ → ℕ) (a b : ℤ) → ShowsAt old id level p a b → ShowsAt new id level p a b
   at_stays id level p a b h = record {
     is_square = of_stays old new sound grows id level h.is_square;
@@ -96,7 +96,7 @@ leaper_stays h grows = record {
 }
 
 -- four squares that were made one after another
-module _ (s1 s2 s3 s4 : List Node) (sound : IsSound s1) (g2 : Grows s1 s2) (g3 : Grows s2 s3) (g4 : Grows s3 s4) (k nw ne sw se : ℕ) where
+module _ (s1 s2 s3 s4 : List Node) (sound : IsSoundStore s1) (g2 : Grows s1 s2) (g3 : Grows s2 s3) (g4 : Grows s3 s4) (k nw ne sw se : ℕ) where
   from2 : Grows s2 s4
   from2 = grows_on s2 s3 s4 g3 g4
 
@@ -135,7 +135,7 @@ side_up k =
 
 -- the square of four that show a plane shows it
 pub joined_at : {E : Type 0} (old new : List Node) (r : Result ℕ E) (k nw ne sw se : ℕ) (p : ℤ → ℤ → ℕ) (a b : ℤ) → FourShow old k nw ne sw se p a b
-    → IfOk r (λ id. Shows new id (suc k) (together (2 ^ k) (cell_of old k nw) (cell_of old k ne) (cell_of old k sw) (cell_of old k se)))
+    → IfOk r (λ id. ShowsSquare new id (suc k) (together (2 ^ k) (cell_of old k nw) (cell_of old k ne) (cell_of old k sw) (cell_of old k se)))
     → IfOk r (λ id. ShowsAt new id (suc k) p a b)
 joined_at old new (Err e) k nw ne sw se p a b four shows = tt
 joined_at old new (Ok id) k nw ne sw se p a b four shows = record {
@@ -147,7 +147,7 @@ joined_at old new (Ok id) k nw ne sw se p a b four shows = record {
 }
 
 -- the square of four is of the level above
-pub joined_of : {E : Type 0} (new : List Node) (r : Result ℕ E) (k : ℕ) (cells : ℕ → ℕ → ℕ) → IfOk r (λ id. Shows new id (suc k) cells) → IfOk r (λ id. IsOf new id (suc k))
+pub joined_of : {E : Type 0} (new : List Node) (r : Result ℕ E) (k : ℕ) (cells : ℕ → ℕ → ℕ) → IfOk r (λ id. ShowsSquare new id (suc k) cells) → IfOk r (λ id. IsOf new id (suc k))
 joined_of new (Err e) k cells shows = tt
 joined_of new (Ok id) k cells shows = shows.is_square
 
@@ -173,7 +173,7 @@ parts_at nodes id k quarters p a b are h =
 -- ---- centres
 
 -- the centre of a square that shows a plane shows what the plane is 2 ^ j generations later
-pub centre_at : (next : List ℕ → ℕ) (old new : List Node) → IsSound old → Grows old new → (id k j half : ℕ) (p : ℤ → ℤ → ℕ) (a b : ℤ) → ShowsAt old id (suc (suc k)) p a b → IsCentre next new id k j half
+pub centre_at : (next : List ℕ → ℕ) (old new : List Node) → IsSoundStore old → Grows old new → (id k j half : ℕ) (p : ℤ → ℤ → ℕ) (a b : ℤ) → ShowsAt old id (suc (suc k)) p a b → IsCentre next new id k j half
     → ShowsAt new half (suc k) (cells_after next p (2 ^ j)) (a +ℤ side k) (b +ℤ side k)
 centre_at next old new sound grows id k j half p a b shows is_centre =
     let up = two-pow-succ k in
@@ -196,7 +196,7 @@ at_corner nodes id level h = record {
 }
 
 -- a square that shows the plane of another's cells later, a quarter of the side further in, is its centre
-pub is_centre_at : (next : List ℕ → ℕ) (old new : List Node) → IsSound old → Grows old new → (id k j m n half : ℕ) → IsOf old id (suc (suc k)) → j ≤ k → m + n ≡ 2 ^ j
+pub is_centre_at : (next : List ℕ → ℕ) (old new : List Node) → IsSoundStore old → Grows old new → (id k j m n half : ℕ) → IsOf old id (suc (suc k)) → j ≤ k → m + n ≡ 2 ^ j
     → ShowsAt new half (suc k) (cells_after next (cells_after next (from_corner (cell_of old (suc (suc k)) id)) m) n) (pos 0 +ℤ side k) (pos 0 +ℤ side k)
     → IsCentre next new id k j half
 is_centre_at next old new sound grows id k j m n half square few sum shows = record {

@@ -22,7 +22,7 @@ use Rattle.ca_quad.proofs.Growth.{below_or_not}
 use Rattle.ca_quad.proofs.Cells.{in_nw, in_ne, in_sw, in_se}
 use Rattle.ca_run.specs.declared.leaper.words.Words.{Words}
 use Rattle.ca_run.specs.Lanes.{tile_cell, IsWithinEdge}
-use Rattle.ca_run.specs.inner.Words.{WordShows, WordsShow, TileShows, byte_of, bytes_at, inner_byte}
+use Rattle.ca_run.specs.inner.Words.{WordShows, WordsShow, TileShows, byte_of, word_bytes_at, inner_byte}
 use Rattle.ca_run.specs.Masks.{GoesBy}
 use Rattle.ca_run.specs.Later.{IsWithin}
 use Rattle.ca_run.proofs.After.{around-same, around-nine_states}
@@ -52,7 +52,7 @@ power_256 (suc y) =
     pow-suc 256 y ∙ ap (λ n. n * 256) (power_256 y) ∙ sym (pow-add 2 (8 * y) 8) ∙ ap (λ n. 2 ^ n) e
 
 -- the bytes of two words, one after the other
-pub bytes_of_two : (north south : ℕ) → north < 2 ^ 64 → south < 2 ^ 64 → (y : ℕ) → y < 16 → slice_index (digits_l 256 16 (number_l (2 ^ 64) (north ∷ south ∷ []))) y ≡ bytes_at north south y
+pub bytes_of_two : (north south : ℕ) → north < 2 ^ 64 → south < 2 ^ 64 → (y : ℕ) → y < 16 → slice_index (digits_l 256 16 (number_l (2 ^ 64) (north ∷ south ∷ []))) y ≡ word_bytes_at north south y
 bytes_of_two north south h k y i =
     let words = north ∷ south ∷ [] in
     let narrow = λ (j : ℕ) (z : ℕ) (l : z < 8) (m : 8 * j + z < 16). get_or_narrower (2 ^ 64) 8 256 16 words j z refl (h, (k, tt)) l m in
@@ -83,7 +83,7 @@ joined_rows f g is_or is_up west east l m y i h k =
 
 -- the rows of four words
 abbrev IsRowsOf : Words → List ℕ → Type 0
-IsRowsOf words rows = (y : ℕ) → y < 16 → slice_index rows y ≡ bytes_at words.ne words.se y * 256 + bytes_at words.nw words.sw y
+IsRowsOf words rows = (y : ℕ) → y < 16 → slice_index rows y ≡ word_bytes_at words.ne words.se y * 256 + word_bytes_at words.nw words.sw y
 
 -- a bit of a row that is joined of two bytes
 bit_west : (e w x : ℕ) → x < 8 → bit_at (e * 256 + w) x ≡ bit_at w x
@@ -134,7 +134,7 @@ tile_shows words rows is p a b shows = record {
       shows.at_nw.looks shows.at_ne.looks shows.at_sw.looks shows.at_se.looks x y (omega arith) (omega arith);
 }
 
-bytes_low : (north south y : ℕ) → bytes_at north south y < 256
+bytes_low : (north south y : ℕ) → word_bytes_at north south y < 256
 bytes_low north south y = elim (below_or_not y 8) [
   | inl l ↦ subst (λ n. n < 256) (cond_below y 8 (byte_of north y) (byte_of south (y - 8)) l) (byte_low north y)
   | inr l ↦ subst (λ n. n < 256) (cond_above y 8 (byte_of north y) (byte_of south (y - 8)) (byte_of south (y - 8)) l refl) (byte_low south (y - 8))
@@ -142,7 +142,7 @@ bytes_low north south y = elim (below_or_not y 8) [
 
 -- and so does what is joined of their bytes
 pub joined_shows : (f g : ℕ → ℕ → ℕ) → ((a b : ℕ) → f a b ≡ bit_or a b) → ((a : ℕ) → g a 8 ≡ a * 256 % 65536) → (words : Words) (west east : List ℕ) → length west ≡ 16 → length east ≡ 16
-    → ((y : ℕ) → y < 16 → slice_index west y ≡ bytes_at words.nw words.sw y) → ((y : ℕ) → y < 16 → slice_index east y ≡ bytes_at words.ne words.se y)
+    → ((y : ℕ) → y < 16 → slice_index west y ≡ word_bytes_at words.nw words.sw y) → ((y : ℕ) → y < 16 → slice_index east y ≡ word_bytes_at words.ne words.se y)
     → (p : ℤ → ℤ → ℕ) (a b : ℤ) → WordsShow words p a b → TileShows (zip2 f west (zip2 g east (replicate 16 8))) 0 p a b
 joined_shows f g is_or is_up words west east l m are_west are_east = tile_shows words (zip2 f west (zip2 g east (replicate 16 8))) (λ y i.
     let h : slice_index west y < 256 = omega (arith, are_west y i, bytes_low words.nw words.sw y) in

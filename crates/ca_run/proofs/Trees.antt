@@ -9,7 +9,7 @@ use Rattle.ca_plane.specs.Generations.{cells_after}
 use Rattle.ca_quad.specs.declared.node.Node.{Node}
 use Rattle.ca_quad.specs.declared.tree.Tree.{Tree}
 use Rattle.ca_quad.specs.Squares.{cell_of}
-use Rattle.ca_quad.specs.Sound.{IsSound, Grows}
+use Rattle.ca_quad.specs.Sound.{IsSoundStore, Grows}
 use Rattle.ca_quad.specs.Trees.{IsTree, from_corner, cell}
 use Rattle.ca_quad.proofs.Growth.{below_or_not}
 use Rattle.ca_quad.proofs.Cells.{cell_ends, cells_stay}
@@ -91,7 +91,7 @@ powers_fit l j k some low time =
     omega (arith, a, b, up)
 
 -- the centre of a tree with a wide empty margin is the tree 2 ^ j generations later
-pub leap_cells : (next : List ℕ → ℕ) → next (replicate 9 0) ≡ 0 → (s0 s1 s2 : List Node) → IsSound s1 → Grows s1 s2 → (tree wide half : Tree) (k j root : ℕ) → 1 ≤ tree.level → tree.level ≤ k → j + 1 ≤ k
+pub leap_cells : (next : List ℕ → ℕ) → next (replicate 9 0) ≡ 0 → (s0 s1 s2 : List Node) → IsSoundStore s1 → Grows s1 s2 → (tree wide half : Tree) (k j root : ℕ) → 1 ≤ tree.level → tree.level ≤ k → j + 1 ≤ k
     → IsPadded s0 tree (suc (suc k)) s1 wide → IsCentre next s2 wide.root k j root
     → half.root ≡ root → half.level ≡ suc k
     → (x y : ℤ) → cell s2 half x y ≡ cells_after next (cell s0 tree) (2 ^ j) x y
@@ -125,12 +125,12 @@ no_digit n j digit = sym (mod-pow-add n 1 j ∙ (ap (λ d. d * 2 ^ j + n % 2 ^ j
 -- ---- trees that stay
 
 -- an old tree keeps its cells
-pub tree_stays : (old new : List Node) → IsSound old → Grows old new → (tree : Tree) → IsTree old tree → (x y : ℤ) → cell new tree x y ≡ cell old tree x y
+pub tree_stays : (old new : List Node) → IsSoundStore old → Grows old new → (tree : Tree) → IsTree old tree → (x y : ℤ) → cell new tree x y ≡ cell old tree x y
 tree_stays old new sound grows tree h x y =
     ap (λ f. from_corner f (x +ℤ pos (2 ^ (tree.level - 1))) (y +ℤ pos (2 ^ (tree.level - 1)))) (cells_stay old new sound grows tree.level tree.root h)
 
 -- two trees that are made wider one after the other keep their cells
-pub both_padded : (s0 s1 s2 : List Node) → IsSound s0 → Grows s0 s1 → Grows s1 s2
+pub both_padded : (s0 s1 s2 : List Node) → IsSoundStore s0 → Grows s0 s1 → Grows s1 s2
     → (a b wide_a wide_b : Tree) (level : ℕ)
     → IsPadded s0 a level s1 wide_a → IsTree s0 b → IsPadded s1 b level s2 wide_b
     → ((x y : ℤ) → cell s2 wide_a x y ≡ cell s0 a x y) × ((x y : ℤ) → cell s2 wide_b x y ≡ cell s0 b x y)

@@ -16,7 +16,7 @@ use Rattle.ca_run.specs.declared.window.Window.{Window}
 use Rattle.ca_run.specs.inner.Order.{IsBefore, NoneBefore, IsFirst, IsFirstPlace, IsEarlier}
 use Rattle.ca_run.specs.inner.CellsAhead.{IsAhead}
 use Rattle.ca_run.specs.inner.Row.{ShowsRow, IsQuietRow, IsLiveRow, MovesOn}
-use Rattle.ca_run.specs.inner.Window.{nine_states, Shows, IsQuiet, StaysLive, SeesAhead, east_of, IsNextPlace, MovesTo}
+use Rattle.ca_run.specs.inner.Window.{nine_states, ShowsWindow, IsQuiet, StaysLive, SeesAhead, east_of, IsNextPlace, MovesTo}
 use Rattle.ca_run.proofs.Reading.{compared, not_both, not_itself, before-moved, before-trans, IsFirst-either, IsFirst-same}
 
 -- ---- the first place from which a cell ahead is seen
@@ -150,7 +150,7 @@ pub record IsReady (p : Picture) (w : Window) (at : Point) : Type 0 where
   pub within : IsInPlane at
 
 -- where a live cell stays in sight
-IsReady-kept : (p : Picture) (w : Window) → All (λ e. IsInReach e.0.x e.0.y) p → Shows p w → StaysLive w → IsReady p w (east_of w.place)
+IsReady-kept : (p : Picture) (w : Window) → All (λ e. IsInReach e.0.x e.0.y) p → ShowsWindow p w → StaysLive w → IsReady p w (east_of w.place)
 IsReady-kept p w reach shows kept = record {
   later = inr (refl, omega (arith, ints));
   north = Awaits-east_of p w.north w.place.x (w.place.y -ℤ pos 1) shows.north;
@@ -218,7 +218,7 @@ below : (a b x y : ℤ) → IsBefore a b x y → IsBefore a (b +ℤ pos 1) x (y 
 below a b x y before = before-moved a b x y a (b +ℤ pos 1) x (y +ℤ pos 1) before (omega (arith, ints)) (omega (arith, ints))
 
 -- where no cell ahead is seen before (c, d), nothing is live round the places up to there
-quiet_around : (p : Picture) (w : Window) (c d : ℤ) → Shows p w → IsQuiet w → NoneBefore w.north.ahead (c +ℤ pos 1) (d -ℤ pos 1) → NoneBefore w.middle.ahead (c +ℤ pos 1) d → NoneBefore w.south.ahead (c +ℤ pos 1) (d +ℤ pos 1) → (x y : ℤ) → IsBefore w.place.x w.place.y x y → IsBefore x y c d → around (cell p) x y ≡ replicate 9 0
+quiet_around : (p : Picture) (w : Window) (c d : ℤ) → ShowsWindow p w → IsQuiet w → NoneBefore w.north.ahead (c +ℤ pos 1) (d -ℤ pos 1) → NoneBefore w.middle.ahead (c +ℤ pos 1) d → NoneBefore w.south.ahead (c +ℤ pos 1) (d +ℤ pos 1) → (x y : ℤ) → IsBefore w.place.x w.place.y x y → IsBefore x y c d → around (cell p) x y ≡ replicate 9 0
 quiet_around p w c d shows quiet none_north none_middle none_south x y later before =
     let north = quiet_three p w.north w.place.x (w.place.y -ℤ pos 1) c (d -ℤ pos 1) x (y -ℤ pos 1) shows.north quiet.north none_north (above w.place.x w.place.y x y later) (above x y c d before) in
     let middle = quiet_three p w.middle w.place.x w.place.y c d x y shows.middle quiet.middle none_middle later before in
@@ -226,7 +226,7 @@ quiet_around p w c d shows quiet none_north none_middle none_south x y later bef
     simp (north.0, north.1, north.2, middle.0, middle.1, middle.2, south.0, south.1, south.2)
 
 -- where all that stays in sight is 0
-IsReady-quiet : (p : Picture) (w : Window) (at : Point) → All (λ e. IsInReach e.0.x e.0.y) p → Shows p w → IsQuiet w → IsFirstPlace (SeesAhead w) at → IsReady p w at
+IsReady-quiet : (p : Picture) (w : Window) (at : Point) → All (λ e. IsInReach e.0.x e.0.y) p → ShowsWindow p w → IsQuiet w → IsFirstPlace (SeesAhead w) at → IsReady p w at
 IsReady-quiet p w at reach shows quiet first =
     let nine_states : IsSeen w.place.x w.place.y at = elim first.here [
       | inl upper ↦ elim upper [
@@ -250,7 +250,7 @@ IsReady-quiet p w at reach shows quiet first =
 some_same : (p q : Point) → Some p ≡ Some q → p ≡ q
 some_same p q e = cc
 
-pub IsReady-next : (p : Picture) (w : Window) (at : Point) → All (λ e. IsInReach e.0.x e.0.y) p → Shows p w → IsNextPlace w (Some at) → IsReady p w at
+pub IsReady-next : (p : Picture) (w : Window) (at : Point) → All (λ e. IsInReach e.0.x e.0.y) p → ShowsWindow p w → IsNextPlace w (Some at) → IsReady p w at
 IsReady-next p w at reach shows next =
     elim next [
       | inl kept ↦ subst (λ (q : Point). IsReady p w q) (sym (some_same at (east_of w.place) kept.1)) (IsReady-kept p w reach shows kept.0)
@@ -258,8 +258,8 @@ IsReady-next p w at reach shows next =
     ]
 
 -- a window that moves on to the next place shows the picture there
-pub Shows-next : (p : Picture) (old new : Window) (at : Point) → Shows p old → IsReady p old at → MovesTo old new at → Shows p new
-Shows-next p old new at shows ready moves =
+pub ShowsWindow-next : (p : Picture) (old new : Window) (at : Point) → ShowsWindow p old → IsReady p old at → MovesTo old new at → ShowsWindow p new
+ShowsWindow-next p old new at shows ready moves =
     let north = ShowsRow-MovesOn p old.north new.north old.place.x (old.place.y -ℤ pos 1) at.x (at.y -ℤ pos 1) shows.north ready.north (above old.place.x old.place.y at.x at.y ready.later) moves.north in
     let middle = ShowsRow-MovesOn p old.middle new.middle old.place.x old.place.y at.x at.y shows.middle ready.middle ready.later moves.middle in
     let south = ShowsRow-MovesOn p old.south new.south old.place.x (old.place.y +ℤ pos 1) at.x (at.y +ℤ pos 1) shows.south ready.south (below old.place.x old.place.y at.x at.y ready.later) moves.south in
@@ -270,11 +270,11 @@ Shows-next p old new at shows ready moves =
     }
 
 -- what is in sight are the nine cells round the place
-pub nine_states-around : (p : Picture) (w : Window) → Shows p w → nine_states w ≡ around (cell p) w.place.x w.place.y
+pub nine_states-around : (p : Picture) (w : Window) → ShowsWindow p w → nine_states w ≡ around (cell p) w.place.x w.place.y
 nine_states-around p w shows = cc (shows.north.west, shows.north.centre, shows.north.east, shows.middle.west, shows.middle.centre, shows.middle.east, shows.south.west, shows.south.centre, shows.south.east)
 
 -- where there is no next place, nothing is live round the places that come after
-pub quiet_end : (p : Picture) (w : Window) (x y : ℤ) → Shows p w → IsNextPlace w None → IsBefore w.place.x w.place.y x y → around (cell p) x y ≡ replicate 9 0
+pub quiet_end : (p : Picture) (w : Window) (x y : ℤ) → ShowsWindow p w → IsNextPlace w None → IsBefore w.place.x w.place.y x y → around (cell p) x y ≡ replicate 9 0
 quiet_end p w x y shows next later =
     elim next [
       | inl kept ↦ absurd (let no : ⊥ = cc (kept.1) in no)

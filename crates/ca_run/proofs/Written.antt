@@ -13,10 +13,10 @@ use Rattle.ca_run.specs.declared.row.Row.{Row}
 use Rattle.ca_run.specs.declared.window.Window.{Window}
 use Rattle.ca_run.specs.inner.Order.{IsBefore}
 use Rattle.ca_run.specs.inner.Row.{ShowsRow, IsLiveRow, MovesOn}
-use Rattle.ca_run.specs.inner.Window.{nine_states, Shows, east_of, IsNextPlace, MovesTo}
+use Rattle.ca_run.specs.inner.Window.{nine_states, ShowsWindow, east_of, IsNextPlace, MovesTo}
 use Rattle.ca_run.specs.inner.Written.{IsWritten}
 use Rattle.ca_run.proofs.Reading.{compared, not_both, not_itself, before-trans}
-use Rattle.ca_run.proofs.Windows.{IsReady, IsReady-next, Shows-next, quiet_beyond, quiet_end, nine_states-around}
+use Rattle.ca_run.proofs.Windows.{IsReady, IsReady-next, ShowsWindow-next, quiet_beyond, quiet_end, nine_states-around}
 
 -- ---- at first
 
@@ -43,8 +43,8 @@ ShowsRow-corner p row x y b reach corner near west centre east ahead = record {
     inside_later y b v corner near inside = omega (arith, ints)
 
 -- a window that is in the corner
-pub Shows-corner : (p : Picture) (w : Window) → All (λ e. IsInReach e.0.x e.0.y) p → IsCorner w.place.x w.place.y → (w.north.west ≡ 0) × (w.north.centre ≡ 0) × (w.north.east ≡ 0) × (w.north.ahead ≡ p) → (w.middle.west ≡ 0) × (w.middle.centre ≡ 0) × (w.middle.east ≡ 0) × (w.middle.ahead ≡ p) → (w.south.west ≡ 0) × (w.south.centre ≡ 0) × (w.south.east ≡ 0) × (w.south.ahead ≡ p) → Shows p w
-Shows-corner p w reach corner north middle south = record {
+pub ShowsWindow-corner : (p : Picture) (w : Window) → All (λ e. IsInReach e.0.x e.0.y) p → IsCorner w.place.x w.place.y → (w.north.west ≡ 0) × (w.north.centre ≡ 0) × (w.north.east ≡ 0) × (w.north.ahead ≡ p) → (w.middle.west ≡ 0) × (w.middle.centre ≡ 0) × (w.middle.east ≡ 0) × (w.middle.ahead ≡ p) → (w.south.west ≡ 0) × (w.south.centre ≡ 0) × (w.south.east ≡ 0) × (w.south.ahead ≡ p) → ShowsWindow p w
+ShowsWindow-corner p w reach corner north middle south = record {
   north = ShowsRow-corner p w.north w.place.x (w.place.y -ℤ pos 1) w.place.y reach corner (omega (arith, ints)) north.0 north.1 north.2 north.3;
   middle = ShowsRow-corner p w.middle w.place.x w.place.y w.place.y reach corner (omega (arith, ints)) middle.0 middle.1 middle.2 middle.3;
   south = ShowsRow-corner p w.south w.place.x (w.place.y +ℤ pos 1) w.place.y reach corner (omega (arith, ints)) south.0 south.1 south.2 south.3;
@@ -95,14 +95,14 @@ set_there next p old new w at s quiet written ready state sets = record {
       ∙ written.behind x y (before-trans w.place.x w.place.y at.x at.y x y ready.later later);
 }
 
-pub IsWritten-set : (next : List ℕ → ℕ) (p old new : Picture) (w v : Window) (at : Point) (nine : List ℕ) (s : ℕ) → next (replicate 9 0) ≡ 0 → All (λ e. IsInReach e.0.x e.0.y) p → Shows p w → IsWritten next p old w.place.x w.place.y → IsNextPlace w (Some at) → MovesTo w v at → nine ≡ nine_states v → s ≡ next nine → Sets old new at s → IsWritten next p new v.place.x v.place.y
+pub IsWritten-set : (next : List ℕ → ℕ) (p old new : Picture) (w v : Window) (at : Point) (nine : List ℕ) (s : ℕ) → next (replicate 9 0) ≡ 0 → All (λ e. IsInReach e.0.x e.0.y) p → ShowsWindow p w → IsWritten next p old w.place.x w.place.y → IsNextPlace w (Some at) → MovesTo w v at → nine ≡ nine_states v → s ≡ next nine → Sets old new at s → IsWritten next p new v.place.x v.place.y
 IsWritten-set next p old new w v at nine s quiet reach shows written to moves sight state sets =
     let ready = IsReady-next p w at reach shows to in
-    let there : nine ≡ around (cell p) at.x at.y = sight ∙ subst (λ (q : Point). nine_states v ≡ around (cell p) q.x q.y) moves.place (nine_states-around p v (Shows-next p w v at shows ready moves)) in
+    let there : nine ≡ around (cell p) at.x at.y = sight ∙ subst (λ (q : Point). nine_states v ≡ around (cell p) q.x q.y) moves.place (nine_states-around p v (ShowsWindow-next p w v at shows ready moves)) in
     subst (λ (q : Point). IsWritten next p new q.x q.y) (sym moves.place) (set_there next p old new w at s quiet written ready (state ∙ ap next there) sets)
 
 -- a state of 0 is there without a write
-pub IsWritten-skip : (next : List ℕ → ℕ) (p old : Picture) (w v : Window) (at : Point) (nine : List ℕ) (s : ℕ) → next (replicate 9 0) ≡ 0 → All (λ e. IsInReach e.0.x e.0.y) p → Shows p w → IsWritten next p old w.place.x w.place.y → IsNextPlace w (Some at) → MovesTo w v at → nine ≡ nine_states v → s ≡ next nine → s ≡ 0 → IsWritten next p old v.place.x v.place.y
+pub IsWritten-skip : (next : List ℕ → ℕ) (p old : Picture) (w v : Window) (at : Point) (nine : List ℕ) (s : ℕ) → next (replicate 9 0) ≡ 0 → All (λ e. IsInReach e.0.x e.0.y) p → ShowsWindow p w → IsWritten next p old w.place.x w.place.y → IsNextPlace w (Some at) → MovesTo w v at → nine ≡ nine_states v → s ≡ next nine → s ≡ 0 → IsWritten next p old v.place.x v.place.y
 IsWritten-skip next p old w v at nine s quiet reach shows written to moves sight state zero_there =
     let ready = IsReady-next p w at reach shows to in
     IsWritten-set next p old old w v at nine s quiet reach shows written to moves sight state (λ x y. unchanged _ (cell old x y) (λ here. let place = place-from_true x y at here in rw (place.0, place.1) (written.behind at.x at.y ready.later ∙ sym zero_there)))
@@ -113,7 +113,7 @@ IsWritten-skip next p old w v at nine s quiet reach shows written to moves sight
 
 -- at the end the new picture shows the next state everywhere
 pub IsWritten-end : (next : List ℕ → ℕ) (p new : Picture) (w : Window) → next (replicate 9 0) ≡ 0
-    → IsWritten next p new w.place.x w.place.y → Shows p w → IsNextPlace w None → IsAfter next p 1 new
+    → IsWritten next p new w.place.x w.place.y → ShowsWindow p w → IsNextPlace w None → IsAfter next p 1 new
 IsWritten-end next p new w quiet written shows none = λ x y. sym (shown x y)
   where
     shown : (x y : ℤ) → cell new x y ≡ after next p 1 x y

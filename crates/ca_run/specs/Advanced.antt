@@ -4,7 +4,7 @@ use Rattle.ca_plane.specs.Generations.{cells_after}
 use Rattle.ca_quad.specs.declared.node.Node.{Node}
 use Rattle.ca_quad.specs.declared.tree.Tree.{Tree}
 use Rattle.ca_quad.specs.Trees.{IsTree, cell}
-use Rattle.ca_run.specs.Leaping.{LeaperView, GoesOn}
+use Rattle.ca_run.specs.Leaping.{LeaperView, LeaperGrows}
 
 -- a tree that can be advanced by n generations: of at most 2^64 cells a side, by at most 2^60 generations
 pub record CanAdvance (nodes : List Node) (tree : Tree) (n : ℕ) : Type 0 where
@@ -25,4 +25,4 @@ pub record Advances {E : Type 0} (Rule : Type 0) (next : List ℕ → ℕ) (old 
     (tree : Tree) (n : ℕ) (new : LeaperView Rule) (result : Result Tree E) : Type 0 where
   pub advanced : IfOk result (IsAdvanced next old.nodes tree n new.nodes)
   pub none : n ≡ 0 → result ≡ Ok tree
-  pub goes_on : GoesOn Rule old new
+  pub goes_on : LeaperGrows Rule old new

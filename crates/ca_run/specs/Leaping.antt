@@ -9,6 +9,6 @@ pub record LeaperView (Rule : Type 0) : Type 0 where
   pub nodes : List Node
 
 -- the rule is the same, and each old square stays what it was
-pub record GoesOn (Rule : Type 0) (old new : LeaperView Rule) : Type 0 where
+pub record LeaperGrows (Rule : Type 0) (old new : LeaperView Rule) : Type 0 where
   pub rule : new.rule ≡ old.rule
   pub grows : Grows old.nodes new.nodes

@@ -2,7 +2,7 @@
 use Rattle.std.specs.Prelude.{◌≡◌, ℕ, ◌==◌, ◌&&◌, List, Option, Some, IfSome}
 use Rattle.std.specs.Map.{lookup}
 use Rattle.ca_quad.specs.declared.node.Node.{Node}
-use Rattle.ca_quad.specs.Sound.{IsSound}
+use Rattle.ca_quad.specs.Sound.{IsSoundStore}
 use Rattle.ca_run.specs.Centre.{IsCentre}
 use Rattle.ca_run.specs.FullLeaps.{AreFullLeaps}
 use Rattle.ca_run.specs.RecentCentres.{AreRecentCentres}
@@ -22,7 +22,7 @@ pub record IsLeaper (next : List ℕ → ℕ) (RuleIsSound : Type 0) (nodes : Li
     (results : List ((ℕ × ℕ) × ℕ)) (slots : List (Option (ℕ × ℕ × ℕ))) (halves : List (Option ℕ))
     (masks : Option (ℕ × ℕ)) : Type 0 where
   pub rule : RuleIsSound
-  pub squares : IsSound nodes
+  pub squares : IsSoundStore nodes
   pub centres : AreCentres next nodes results
   pub recent_centres : AreRecentCentres next nodes slots
   pub full_leaps : AreFullLeaps next nodes halves

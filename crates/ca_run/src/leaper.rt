@@ -2,11 +2,11 @@
 
 ghost use Rattle.std.specs.Prelude.{◌≡◌, ℕ, suc, ℤ, IfOk, IfSome};
 ghost use Rattle.ca_quad.specs.Squares.{IsOf};
-ghost use Rattle.ca_quad.specs.Sound.{IsSound};
+ghost use Rattle.ca_quad.specs.Sound.{IsSoundStore};
 ghost use Rattle.ca_quad.specs.Squares.{dot, together};
-ghost use Rattle.ca_quad.specs.Trees.{AreFour, Shows};
+ghost use Rattle.ca_quad.specs.Trees.{AreFour, ShowsSquare};
 ghost use Rattle.ca_run.specs.Centre.{IsCentre};
-ghost use Rattle.ca_run.specs.Leaping.{GoesOn};
+ghost use Rattle.ca_run.specs.Leaping.{LeaperGrows};
 ghost use Rattle.ca_run.specs.Masks.{GoesBy};
 ghost use Rattle.ca_run.specs.inner.Shown.{ShowsAt, FourShow};
 
@@ -84,7 +84,7 @@ impl<A: Automaton> Leaper<A> {
     /// The store of the squares.
     pub fn store(&self) -> &Store
         ensures nodes { result.now ≡ self.now.nodes }
-        ensures sound { IsSound self.now.nodes }
+        ensures sound { IsSoundStore self.now.nodes }
         ensures rule { A.sound self.now.rule }
     {
         let _ = &self.memo;
@@ -134,9 +134,9 @@ impl<A: Automaton> Leaper<A> {
 
     // The 2 by 2 square of these cells.
     fn leaf(&mut self, nw: u8, ne: u8, sw: u8, se: u8) -> Result<Id, Memory>
-        ensures shows { IfOk result (λ id. Shows self.new.nodes id 1
+        ensures shows { IfOk result (λ id. ShowsSquare self.new.nodes id 1
             (together 1 (dot nw) (dot ne) (dot sw) (dot se))) }
-        ensures goes_on { GoesOn A self.old self.new }
+        ensures goes_on { LeaperGrows A self.old self.new }
     {
         self.store.leaf(nw, ne, sw, se)
     }
@@ -147,7 +147,7 @@ impl<A: Automaton> Leaper<A> {
         ensures shows { (p : ℤ → ℤ → ℕ) (a b : ℤ) → FourShow self.old.nodes (suc grain) nw ne sw se p a b
             → IfOk result (λ id. ShowsAt self.new.nodes id (suc (suc grain)) p a b) }
         ensures square { IfOk result (λ id. IsOf self.new.nodes id (suc (suc grain))) }
-        ensures goes_on { GoesOn A self.old self.new }
+        ensures goes_on { LeaperGrows A self.old self.new }
     {
         let _ = grain;
         self.store.join(nw, ne, sw, se)

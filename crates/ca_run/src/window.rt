@@ -30,14 +30,14 @@ pub(crate) struct Window<'a> {
 }
 
 impl<'a> Window<'a> {
-    ghost use Rattle.ca_run.specs.inner.Window.{nine_states, Shows, IsQuiet, StaysLive, SeesAhead};
+    ghost use Rattle.ca_run.specs.inner.Window.{nine_states, ShowsWindow, IsQuiet, StaysLive, SeesAhead};
     ghost use Rattle.ca_run.specs.inner.Window.{IsNextPlace, MovesTo};
 
     /// A window that comes before all the cells.
     pub(crate) fn new(cells: &'a [(Point, u8)]) -> Window<'a>
         requires sparse { IsSparse cells.now }
         requires reach { All (λ e. IsInReach e.0.x e.0.y) cells.now }
-        ensures shows { Shows cells.now result }
+        ensures shows { ShowsWindow cells.now result }
         ensures place { result.place ≡ CORNER }
     {
         Window {

@@ -9,11 +9,11 @@ use Rattle.ca_plane.specs.Device.{AppendsPrefix}
 use Rattle.ca_plane.proofs.Sends.{prefix_of_first, prefix_of_second}
 use Rattle.ca_claims.specs.Text.{Claim}
 use Rattle.ca_claims.specs.Answers.{IsTrueAnswer, AreTrueAnswers}
-use Rattle.ca_claims.specs.Notes.{IsNote, IsGiven}
+use Rattle.ca_claims.specs.Notes.{IsNote, HasItsNote}
 use Rattle.ca_claims.specs.Judging.{Judging, JudgesAndNotes}
 use Rattle.ca_tool.specs.declared.telling.Telling.{Telling}
 use Rattle.ca_tool.specs.declared.telling.Finding.{Finding}
-use Rattle.ca_tool.specs.Printed.{line_of, lines_of, note_text, finding_text, findings_text, status_of}
+use Rattle.ca_tool.specs.Printed.{answer_line, answer_lines, note_text, finding_text, findings_text, status_of}
 use Rattle.ca_tool.specs.Runs.{answers_of, AreTrueNotes, AreFindings, IsPlainReport, IsReport, IsReportOnFirst}
 use Rattle.ca_tool.specs.inner.Judged.{WereJudged, NoneLeft, IsReportUpTo, IsReportPart, WereAllJudged}
 
@@ -42,7 +42,7 @@ findings_then files rules claims more patterns others xs ys first second = recor
   answers = subst (AreTrueAnswers files rules (claims ++ more)) (sym (map-append (λ (f : Finding). f.answer) xs ys))
       (zip_append (IsTrueAnswer files rules) claims (answers_of xs) more (answers_of ys) first.answers second.answers);
   notes = zip_append (λ its (f : Finding). IsNote files rules its f.answer.verdict f.note) patterns xs others ys first.notes second.notes;
-  given = all_append (λ (f : Finding). IsGiven f.answer.verdict f.note) xs ys first.given second.given;
+  given = all_append (λ (f : Finding). HasItsNote f.answer.verdict f.note) xs ys first.given second.given;
 }
 
 -- no claim was judged yet
@@ -50,7 +50,7 @@ pub judged_none : (judging : Judging) → WereJudged judging judging []
 judged_none judging = record { files = refl; rules = refl; judged = []; claims = refl; theirs = []; patterns = refl; holds = record { answers = tt; notes = tt; given = tt } }
 
 -- one was
-pub judged_one : (old new : Judging) (finding : Finding) → JudgesAndNotes old new finding.answer finding.note → IsGiven finding.answer.verdict finding.note → WereJudged old new (finding ∷ [])
+pub judged_one : (old new : Judging) (finding : Finding) → JudgesAndNotes old new finding.answer finding.note → HasItsNote finding.answer.verdict finding.note → WereJudged old new (finding ∷ [])
 judged_one old new finding one given = record {
   files = one.judges.files;
   rules = one.judges.rules;
@@ -135,14 +135,14 @@ report_on_first old new telling text (code, report) =
     }
 
 -- with nothing before and nothing explained, what is printed is the lines of the answers
-plain_text : (telling : Telling) (findings : List Finding) → telling.before.now ≡ [] → telling.explained ≡ false → findings_text telling findings ≡ lines_of (answers_of findings)
+plain_text : (telling : Telling) (findings : List Finding) → telling.before.now ≡ [] → telling.explained ≡ false → findings_text telling findings ≡ answer_lines (answers_of findings)
 plain_text telling [] none off = refl
 plain_text telling (finding ∷ findings) none off =
     ap (λ l. l ++ findings_text telling findings)
-    (ap (λ b. (b ++ line_of finding.answer) ++ (if telling.explained then note_text telling.before.now finding.answer.verdict finding.note else [])) none
-    ∙ ap (λ e. line_of finding.answer ++ (if e then note_text telling.before.now finding.answer.verdict finding.note else [])) off
-    ∙ append-nil (line_of finding.answer))
-    ∙ ap (λ l. line_of finding.answer ++ l) (plain_text telling findings none off)
+    (ap (λ b. (b ++ answer_line finding.answer) ++ (if telling.explained then note_text telling.before.now finding.answer.verdict finding.note else [])) none
+    ∙ ap (λ e. answer_line finding.answer ++ (if e then note_text telling.before.now finding.answer.verdict finding.note else [])) off
+    ∙ append-nil (answer_line finding.answer))
+    ∙ ap (λ l. answer_line finding.answer ++ l) (plain_text telling findings none off)
 
 -- so the report is a plain one
 pub plain_report : (judging : Judging) (telling : Telling) (text : List ℕ) (code : ℕ) → telling.before.now ≡ [] → telling.explained ≡ false → IsReport judging telling text code → IsPlainReport judging text code
@@ -155,6 +155,6 @@ pub plain_part : (old mid new : Judging) (telling : Telling) (before after : Opt
 plain_part old mid new telling before after none off (others, later, left) (text, (code, report), sent) =
     let findings = report.findings ++ others in
     let all = all_judged old new findings (judged_then old mid new report.findings others report.judged later) left in
-    let lines : findings_text telling report.findings ++ findings_text telling others ≡ lines_of (answers_of findings) = sym (flat_map-append (finding_text telling) report.findings others) ∙ plain_text telling findings none off in
+    let lines : findings_text telling report.findings ++ findings_text telling others ≡ answer_lines (answers_of findings) = sym (flat_map-append (finding_text telling) report.findings others) ∙ plain_text telling findings none off in
     let more = prefix_of_first before after (findings_text telling report.findings) (findings_text telling others) (subst (AppendsPrefix before after) report.lines sent) in
-    (lines_of (answers_of findings), (_, record { answers = answers_of findings; holds = all.answers; lines = refl; status = refl }), subst (AppendsPrefix before after) lines more)
+    (answer_lines (answers_of findings), (_, record { answers = answers_of findings; holds = all.answers; lines = refl; status = refl }), subst (AppendsPrefix before after) lines more)

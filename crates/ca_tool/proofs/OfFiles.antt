@@ -8,22 +8,22 @@ use Rattle.ca_claims.specs.declared.conversion.ConvertFault.{ConvertFault}
 use Rattle.ca_claims.specs.declared.conversion.ConvertFault.TheVariants as convert_fault
 use Rattle.ca_tool.specs.declared.fault.ToolFault.{ToolFault}
 use Rattle.ca_tool.specs.declared.fault.ToolFault.TheVariants.{Input, BadTable, Convert, Write, Memory}
-use Rattle.ca_tool.specs.Runs.{ReadsAll, AreKnown, HoldsOfFile, IsRunFault}
+use Rattle.ca_tool.specs.Runs.{ReadsAll, AreKnownTables, HoldsOfReadFile, IsRunFault}
 use Rattle.ca_tool.specs.Writing.{Sends, WritesOneOf}
 use Rattle.ca_tool.specs.inner.Refusals.{TellsConvert}
 
 -- the pattern is refused, or memory is out for it
 pub convert_told : (old new rule : Option (List ℕ)) (IsFault : List ℕ → List TableRule → ConvertFault → Type 0) (fault : ConvertFault) (told : ToolFault) → TellsConvert fault told
-    → HoldsOfFile old new rule (λ bytes tables. IsFault bytes tables fault) → IsRunFault old new rule IsFault told
+    → HoldsOfReadFile old new rule (λ bytes tables. IsFault bytes tables fault) → IsRunFault old new rule IsFault told
 convert_told old new rule IsFault fault (Input f) none of = absurd none
 convert_told old new rule IsFault fault (BadTable f) none of = absurd none
-convert_told old new rule IsFault fault (Convert f) (other, same) of = (subst (λ g. g ≢ convert_fault.Memory) (sym same) other, subst (λ g. HoldsOfFile old new rule (λ bytes tables. IsFault bytes tables g)) (sym same) of)
+convert_told old new rule IsFault fault (Convert f) (other, same) of = (subst (λ g. g ≢ convert_fault.Memory) (sym same) other, subst (λ g. HoldsOfReadFile old new rule (λ bytes tables. IsFault bytes tables g)) (sym same) of)
 convert_told old new rule IsFault fault Write none of = absurd none
-convert_told old new rule IsFault fault Memory same of = inr (subst (λ g. HoldsOfFile old new rule (λ bytes tables. IsFault bytes tables g)) same of)
+convert_told old new rule IsFault fault Memory same of = inr (subst (λ g. HoldsOfReadFile old new rule (λ bytes tables. IsFault bytes tables g)) same of)
 
 -- what holds of the bytes that were read, and of the tables that are known
-pub of_file : (old new rule : Option (List ℕ)) (Holds : List ℕ → List TableRule → Type 0) (bytes these : List ℕ) (all tables : List TableRule) → ReadsAll old new bytes → AreKnown rule all
-    → these ≡ bytes → tables ≡ all → Holds these tables → HoldsOfFile old new rule Holds
+pub of_file : (old new rule : Option (List ℕ)) (Holds : List ℕ → List TableRule → Type 0) (bytes these : List ℕ) (all tables : List TableRule) → ReadsAll old new bytes → AreKnownTables rule all
+    → these ≡ bytes → tables ≡ all → Holds these tables → HoldsOfReadFile old new rule Holds
 of_file old new rule Holds bytes these all tables read known same equal holds =
     record { bytes = bytes; tables = all; read = read; known = known; holds = subst (λ b. Holds b all) same (subst (λ t. Holds these t) equal holds) }
 
@@ -37,7 +37,7 @@ never_write fault Memory tells is = cc
 
 -- where the pattern is refused, nothing is written
 pub nothing_written : {W : Type 0} (contents : W → Option (List ℕ)) (output : Counted W) (IsText : List ℕ → ℕ → Type 0) (IsBegun : List ℕ → Type 0) (old new rule : Option (List ℕ))
-    (IsFault : List ℕ → List TableRule → ConvertFault → Type 0) (fault : ConvertFault) (told : ToolFault) → TellsConvert fault told → HoldsOfFile old new rule (λ bytes tables. IsFault bytes tables fault)
+    (IsFault : List ℕ → List TableRule → ConvertFault → Type 0) (fault : ConvertFault) (told : ToolFault) → TellsConvert fault told → HoldsOfReadFile old new rule (λ bytes tables. IsFault bytes tables fault)
     → WritesOneOf contents output output IsText IsBegun (IsRunFault old new rule IsFault) (Err told)
 nothing_written contents output IsText IsBegun old new rule IsFault fault told tells of = record {
   whole = tt;
@@ -50,9 +50,9 @@ nothing_written contents output IsText IsBegun old new rule IsFault fault told t
 
 -- a text of the file was written, or a part of it
 pub text_written : {W : Type 0} (contents : W → Option (List ℕ)) (output written : Counted W) (old new rule : Option (List ℕ)) (IsText : List ℕ → List TableRule → List ℕ → Type 0)
-    (IsFault : List ℕ → List TableRule → ConvertFault → Type 0) (text sent : List ℕ) (result : Result ℕ ToolFault) → HoldsOfFile old new rule (λ bytes tables. IsText bytes tables text) → sent ≡ text
+    (IsFault : List ℕ → List TableRule → ConvertFault → Type 0) (text sent : List ℕ) (result : Result ℕ ToolFault) → HoldsOfReadFile old new rule (λ bytes tables. IsText bytes tables text) → sent ≡ text
     → IfOk result (λ status. status ≡ 0) → Sends contents output written sent Write result
-    → WritesOneOf contents output written (λ text status. (status ≡ 0) × HoldsOfFile old new rule (λ bytes tables. IsText bytes tables text)) (λ text. HoldsOfFile old new rule (λ bytes tables. IsText bytes tables text))
+    → WritesOneOf contents output written (λ text status. (status ≡ 0) × HoldsOfReadFile old new rule (λ bytes tables. IsText bytes tables text)) (λ text. HoldsOfReadFile old new rule (λ bytes tables. IsText bytes tables text))
     (IsRunFault old new rule IsFault) result
 text_written contents output written old new rule IsText IsFault text sent (Ok status) of same zero sends = record {
   whole = (text, (zero, of), subst (Appends (contents output.inner) (contents written.inner)) same sends.all);

@@ -135,12 +135,12 @@ verdict_text (No why) = codes "no, " ++ why_text why
 verdict_text (Refused cause) = codes "refused, " ++ cause_text cause
 
 -- the line of an answer
-abbrev pub line_of : Answer → List ℕ
-line_of answer = codes "line " ++ (decimal answer.line ++ (codes ": " ++ (verdict_text answer.verdict ++ 10 ∷ [])))
+abbrev pub answer_line : Answer → List ℕ
+answer_line answer = codes "line " ++ (decimal answer.line ++ (codes ": " ++ (verdict_text answer.verdict ++ 10 ∷ [])))
 
 -- a line for each answer, in order
-abbrev pub lines_of : List Answer → List ℕ
-lines_of answers = flat_map line_of answers
+abbrev pub answer_lines : List Answer → List ℕ
+answer_lines answers = flat_map answer_line answers
 
 -- whether the claim isn't judged
 abbrev pub is_refusal : Verdict → Bool
@@ -254,7 +254,7 @@ second_line telling finding = if telling.explained then note_text telling.before
 
 -- what is printed for a claim: the line of its answer, and where answers are explained the second line
 abbrev pub finding_text : Telling → Finding → List ℕ
-finding_text telling finding = (telling.before.now ++ line_of finding.answer) ++ second_line telling finding
+finding_text telling finding = (telling.before.now ++ answer_line finding.answer) ++ second_line telling finding
 
 -- what is printed for all claims, in order
 abbrev pub findings_text : Telling → List Finding → List ℕ
@@ -270,12 +270,12 @@ abbrev pub pair_text : ℤ → ℤ → List ℕ
 pair_text a b = signed_decimal a ++ (codes " " ++ signed_decimal b)
 
 -- how long the side of a box is that goes from one coordinate to another, both of them in it
-abbrev pub side : ℤ → ℤ → ℤ
-side first last = last -ℤ first +ℤ pos 1
+abbrev pub side_length : ℤ → ℤ → ℤ
+side_length first last = last -ℤ first +ℤ pos 1
 
 -- a box: its upper left corner, its width and its height
 abbrev pub bounds_text : Bounds → List ℕ
-bounds_text box = pair_text box.x0 box.y0 ++ (codes " " ++ pair_text (side box.x0 box.x1) (side box.y0 box.y1))
+bounds_text box = pair_text box.x0 box.y0 ++ (codes " " ++ pair_text (side_length box.x0 box.x1) (side_length box.y0 box.y1))
 
 -- the box round live cells, where there are any
 abbrev pub box_text : Option Bounds → List ℕ

@@ -3,9 +3,9 @@ use Rattle.std.specs.Prelude.{◌≡◌, ◌≢◌, ℕ, ◌+◌, ◌<◌, ◌�
 use Rattle.std.specs.Io.KnownBytes.{Consumes, IsAtEnd}
 use Rattle.std.specs.List.{AllZip, AllByRecursion}
 use Rattle.ca_plane.specs.Device.{Counted, Rises}
-use Rattle.ca_claims.specs.Text.{Asked, Claim}
+use Rattle.ca_claims.specs.Text.{ClaimText, Claim}
 use Rattle.ca_claims.specs.Judging.{Judging}
-use Rattle.ca_claims.specs.Notes.{IsNote, IsGiven}
+use Rattle.ca_claims.specs.Notes.{IsNote, HasItsNote}
 use Rattle.ca_rule.specs.TableNext.{TableRule}
 use Rattle.ca_rule.specs.TableFaults as table_faults
 use Rattle.ca_rule.specs.declared.table.fault.TableFault.{TableFault}
@@ -22,7 +22,7 @@ use Rattle.ca_tool.specs.declared.fault.ToolFault.{ToolFault}
 use Rattle.ca_tool.specs.declared.fault.ToolFault.TheVariants.{Input, BadTable, Convert, Write, Memory}
 use Rattle.ca_tool.specs.declared.telling.Telling.{Telling}
 use Rattle.ca_tool.specs.declared.telling.Finding.{Finding}
-use Rattle.ca_tool.specs.Printed.{lines_of, findings_text, status_of, summary_text}
+use Rattle.ca_tool.specs.Printed.{answer_lines, findings_text, status_of, summary_text}
 use Rattle.ca_tool.specs.Writing.{WritesOneOf}
 
 -- the greatest length of a file: 67108864 bytes
@@ -58,7 +58,7 @@ abbrev pub with_claims : Judging → List (ℕ × Claim) → List (List (List �
 with_claims judging claims patterns = record { files = judging.files; rules = judging.rules; claims = claims; patterns = patterns }
 
 -- all claims of a text, over these files
-abbrev pub all_claims : List (List ℕ × List ℕ) → Asked → Judging
+abbrev pub all_claims : List (List ℕ × List ℕ) → ClaimText → Judging
 all_claims files asked = record { files = files; rules = asked.rules; claims = asked.claims; patterns = asked.patterns }
 
 -- the first n of some claims
@@ -69,7 +69,7 @@ first_claims n judging = with_claims judging (take n judging.claims) (take n jud
 pub record IsPlainReport (judging : Judging) (text : List ℕ) (code : ℕ) : Type 0 where
   pub answers : List Answer
   pub holds : AreTrueAnswers judging.files judging.rules judging.claims answers
-  pub lines : text ≡ lines_of answers
+  pub lines : text ≡ answer_lines answers
   pub status : code ≡ status_of answers
 
 -- the answers of findings
@@ -84,7 +84,7 @@ AreTrueNotes files rules patterns findings = AllZip (λ its finding. IsNote file
 pub record AreFindings (judging : Judging) (findings : List Finding) : Type 0 where
   pub answers : AreTrueAnswers judging.files judging.rules judging.claims (answers_of findings)
   pub notes : AreTrueNotes judging.files judging.rules judging.patterns findings
-  pub given : AllByRecursion (λ finding. IsGiven finding.answer.verdict finding.note) findings
+  pub given : AllByRecursion (λ finding. HasItsNote finding.answer.verdict finding.note) findings
 
 -- a report on these claims: the text is what is printed for findings on them, and the code is the exit status of the answers
 pub record IsReport (judging : Judging) (telling : Telling) (text : List ℕ) (code : ℕ) : Type 0 where
@@ -122,16 +122,16 @@ IsInputFault old new inputs.TooLong = GivesTooMany old new
 IsInputFault old new inputs.Memory = GivesSome old new
 
 -- the tables that a run knows: that of the rule file, or none without one
-abbrev pub AreKnown : Option (List ℕ) → List TableRule → Type 0
-AreKnown None tables = tables ≡ []
-AreKnown (Some rule) tables = (table : TableRule) × IsQuietTable rule table × (tables ≡ table ∷ [])
+abbrev pub AreKnownTables : Option (List ℕ) → List TableRule → Type 0
+AreKnownTables None tables = tables ≡ []
+AreKnownTables (Some rule) tables = (table : TableRule) × IsQuietTable rule table × (tables ≡ table ∷ [])
 
 -- the file was read whole, the rule file is a table, and this holds of the file's bytes and the tables
-pub record HoldsOfFile (old new rule : Option (List ℕ)) (Holds : List ℕ → List TableRule → Type 0) : Type 0 where
+pub record HoldsOfReadFile (old new rule : Option (List ℕ)) (Holds : List ℕ → List TableRule → Type 0) : Type 0 where
   pub bytes : List ℕ
   pub tables : List TableRule
   pub read : ReadsAll old new bytes
-  pub known : AreKnown rule tables
+  pub known : AreKnownTables rule tables
   pub holds : Holds bytes tables
 
 -- the text is the five lines of a summary that is true of the bytes
@@ -146,17 +146,17 @@ WasRead old new = (bytes : List ℕ) × ReadsAll old new bytes
 
 -- what is wrong with the rule file, or that its table may be out of memory
 abbrev pub IsRuleFileFault : Option (List ℕ) → TableFault → Type 0
-IsRuleFileFault rule fault = (text : List ℕ) × (rule ≡ Some text) × table_faults.IsFaultOf text fault
+IsRuleFileFault rule fault = (text : List ℕ) × (rule ≡ Some text) × table_faults.IsTableTextFault text fault
 
 -- why a run wrote nothing, where IsFault says why bytes under some tables are refused: the file isn't read; or it is, and the rule file is no
 -- good table; or it is, and the pattern is refused; or memory is out, for the table or for the pattern
 abbrev pub IsRunFault : Option (List ℕ) → Option (List ℕ) → Option (List ℕ) → (List ℕ → List TableRule → ConvertFault → Type 0) → ToolFault → Type 0
 IsRunFault old new rule IsFault (Input fault) = IsInputFault old new fault
 IsRunFault old new rule IsFault (BadTable fault) = (fault ≢ table_fault.Memory) × WasRead old new × IsRuleFileFault rule fault
-IsRunFault old new rule IsFault (Convert fault) = (fault ≢ convert_fault.Memory) × HoldsOfFile old new rule (λ bytes tables. IsFault bytes tables fault)
+IsRunFault old new rule IsFault (Convert fault) = (fault ≢ convert_fault.Memory) × HoldsOfReadFile old new rule (λ bytes tables. IsFault bytes tables fault)
 IsRunFault old new rule IsFault Write = ⊥
 IsRunFault old new rule IsFault Memory = (WasRead old new × IsRuleFileFault rule table_fault.Memory)
-    ⊎ HoldsOfFile old new rule (λ bytes tables. IsFault bytes tables convert_fault.Memory)
+    ⊎ HoldsOfReadFile old new rule (λ bytes tables. IsFault bytes tables convert_fault.Memory)
 
 -- a run over a file, and over the text of a rule file, if there is one: the file is read, and a text that IsText of its bytes is written, with the
 -- status 0; or a first part of such a text, and then a write fails; or nothing, for a fault that holds
@@ -165,6 +165,6 @@ pub record RunsOver {R W : Type 0} (remaining : R → Option (List ℕ)) (conten
     (result : Result ℕ ToolFault) : Type 0 where
   pub reads : TakesFile remaining input read (Input inputs.Read) result
   pub writes : WritesOneOf contents output written
-      (λ text status. (status ≡ 0) × HoldsOfFile (remaining input.inner) (remaining read.inner) rule (λ bytes tables. IsText bytes tables text))
-      (λ text. HoldsOfFile (remaining input.inner) (remaining read.inner) rule (λ bytes tables. IsText bytes tables text))
+      (λ text status. (status ≡ 0) × HoldsOfReadFile (remaining input.inner) (remaining read.inner) rule (λ bytes tables. IsText bytes tables text))
+      (λ text. HoldsOfReadFile (remaining input.inner) (remaining read.inner) rule (λ bytes tables. IsText bytes tables text))
       (IsRunFault (remaining input.inner) (remaining read.inner) rule IsFault) result

@@ -5,7 +5,7 @@ ghost use Rattle.std.specs.Option.{option_copied, option_to_list};
 ghost use Rattle.ca_claims.specs.Converted.{IsConverted, IsSummaryFault, IsConvertFault};
 ghost use Rattle.ca_tool.specs.declared.fault.InputFault.TheVariants as inputs;
 ghost use Rattle.ca_tool.specs.Writing.{Sends};
-ghost use Rattle.ca_tool.specs.Runs.{ReadsAll, TakesFile, AreKnown, IsShown, IsRuleFileFault, RunsOver};
+ghost use Rattle.ca_tool.specs.Runs.{ReadsAll, TakesFile, AreKnownTables, IsShown, IsRuleFileFault, RunsOver};
 ghost use Rattle.ca_tool.specs.inner.Refusals.{TellsTable, TellsConvert, IsReadingFault};
 
 use crate::fault::ToolFault;
@@ -73,7 +73,7 @@ fn read_and_parse<R: Read>(
 ) -> Result<(Vec<u8>, Option<Table>), ToolFault>
     ensures read { IfOk result (λ r.
         ReadsAll (R.remaining input.old.inner) (R.remaining input.new.inner) r.0.items) }
-    ensures known { IfOk result (λ r. AreKnown (option_copied rule.entry) (option_to_list r.1)) }
+    ensures known { IfOk result (λ r. AreKnownTables (option_copied rule.entry) (option_to_list r.1)) }
     ensures fault { IfErr result (IsReadingFault (R.remaining input.old.inner) (R.remaining input.new.inner)
         (option_copied rule.entry)) }
     ensures takes { TakesFile R.remaining input.old input.new (ToolFault.Input inputs.Read) result }
@@ -90,7 +90,7 @@ fn read_and_parse<R: Read>(
 
 // The table of the rule file's text, if there is one.
 fn rule_table(alloc: Global, rule: Option<&[u8]>) -> Result<Option<Table>, TableFault>
-    ensures known { IfOk result (λ table. AreKnown (option_copied rule.entry) (option_to_list table)) }
+    ensures known { IfOk result (λ table. AreKnownTables (option_copied rule.entry) (option_to_list table)) }
     ensures fault { IfErr result (IsRuleFileFault (option_copied rule.entry)) }
 {
     let Some(text) = rule else {

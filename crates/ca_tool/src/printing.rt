@@ -5,7 +5,7 @@ ghost use Rattle.std.specs.List.{list_any};
 ghost use Rattle.ca_claims.specs.declared.verdict.Answer.{Answer as AnswerValue};
 ghost use Rattle.ca_claims.specs.declared.verdict.Verdict.TheVariants.{No, Refused};
 ghost use Rattle.ca_tool.specs.Printed.{return_text, why_text, table_fault_text, cause_text, verdict_text};
-ghost use Rattle.ca_tool.specs.Printed.{line_of, lines_of, status_of, is_refusal, is_no};
+ghost use Rattle.ca_tool.specs.Printed.{answer_line, answer_lines, status_of, is_refusal, is_no};
 ghost use Rattle.ca_tool.specs.inner.Pieces.{pieces_text};
 
 use crate::pieces::{NOTHING, Piece, push_pieces};
@@ -115,7 +115,7 @@ fn verdict_pieces<'a>(verdict: Verdict) -> [Piece<'a>; 7]
 
 /// The line of an answer in pieces, after a text that stands before it.
 pub(crate) fn answer_pieces<'a>(before: &'a [u8], answer: &Answer) -> [Piece<'a>; 12]
-    ensures { pieces_text result ≡ before.now ++ line_of answer.now }
+    ensures { pieces_text result ≡ before.now ++ answer_line answer.now }
 {
     let [a, b, c, d, e, f, g] = verdict_pieces(answer.verdict);
     [
@@ -140,7 +140,7 @@ pub(crate) fn answer_pieces<'a>(before: &'a [u8], answer: &Answer) -> [Piece<'a>
 ///
 /// Fails where there is no memory for the lines. Without answers it needs none.
 pub fn lines(alloc: Global, answers: &[Answer]) -> Result<Vec<u8>, Memory>
-    ensures lines { IfOk result (λ text. text.items ≡ lines_of answers.now) }
+    ensures lines { IfOk result (λ text. text.items ≡ answer_lines answers.now) }
     ensures memory { OnErr result (answers.now ≢ []) }
 {
     let mut text = Vec::new(alloc);

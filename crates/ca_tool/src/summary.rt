@@ -3,7 +3,7 @@
 ghost use Rattle.std.specs.Prelude.{◌≡◌, codes, OnOk, IfOk};
 ghost use Rattle.std.specs.Fmt.{signed_decimal};
 ghost use Rattle.ca_plane.specs.Puts.{Puts};
-ghost use Rattle.ca_tool.specs.Printed.{format_name, side, pair_text, bounds_text, box_text, word_line};
+ghost use Rattle.ca_tool.specs.Printed.{format_name, side_length, pair_text, bounds_text, box_text, word_line};
 ghost use Rattle.ca_tool.specs.Printed.{summary_text};
 
 use ca_claims::{Summary, Target};
@@ -90,7 +90,7 @@ fn push_corner(out: &mut Vec<u8>, bounds: Bounds) -> Result<(), Memory>
 
 fn push_sides(out: &mut Vec<u8>, bounds: Bounds) -> Result<(), Memory>
     ensures { OnOk result (Puts out.old.items out.new.items
-        (pair_text (side bounds.x0 bounds.x1) (side bounds.y0 bounds.y1))) }
+        (pair_text (side_length bounds.x0 bounds.x1) (side_length bounds.y0 bounds.y1))) }
 {
     push_side(out, bounds.x0, bounds.x1)?;
     push_text(out, b" ")?;
@@ -98,7 +98,7 @@ fn push_sides(out: &mut Vec<u8>, bounds: Bounds) -> Result<(), Memory>
 }
 
 fn push_side(out: &mut Vec<u8>, first: i64, last: i64) -> Result<(), Memory>
-    ensures { OnOk result (Puts out.old.items out.new.items (signed_decimal (side first last))) }
+    ensures { OnOk result (Puts out.old.items out.new.items (signed_decimal (side_length first last))) }
 {
     let mut buffer = Buffer::new();
     let length = i128::from(last) - i128::from(first) + 1;

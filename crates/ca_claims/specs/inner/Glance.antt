@@ -18,7 +18,7 @@ abbrev pub IsCoordinate : ℤ → Type 0
 IsCoordinate n = (neg_ℤ (pos range) ≤ℤ n) × (n <ℤ pos range)
 
 -- the sides of the box are those of live cells
-pub record IsNear (bounds : WideBounds) : Type 0 where
+pub record AreNearBounds (bounds : WideBounds) : Type 0 where
   pub x0 : IsCoordinate bounds.x0
   pub y0 : IsCoordinate bounds.y0
   pub x1 : IsCoordinate bounds.x1

@@ -4,26 +4,26 @@ use Rattle.std.specs.Borrow.{Bor}
 use Rattle.std.specs.Option.{option_copied}
 use Rattle.ca_claims.specs.declared.verifier.tables.Tables.{Tables}
 use Rattle.ca_claims.specs.declared.verdict.Answer.{Answer}
-use Rattle.ca_claims.specs.Text.{Asked, Claim}
+use Rattle.ca_claims.specs.Text.{ClaimText, Claim}
 use Rattle.ca_claims.specs.Means.{bytes_at}
 use Rattle.ca_claims.specs.Answers.{IsTrueAnswer}
 use Rattle.ca_claims.specs.Judging.{Judging}
-use Rattle.ca_claims.specs.Notes.{IsNote, IsGiven}
+use Rattle.ca_claims.specs.Notes.{IsNote, HasItsNote}
 use Rattle.ca_claims.specs.declared.note.Note.{Note}
 use Rattle.ca_claims.specs.inner.Tables.{AreRead}
 
 -- for each path of the text the bytes of its file, and the tables of the rule lines
-pub record AreFound (files : List (List ℕ × List ℕ)) (asked : Asked) (found : List (Option (Bor (List ℕ)))) (tables : Tables) : Type 0 where
+pub record AreFound (files : List (List ℕ × List ℕ)) (asked : ClaimText) (found : List (Option (Bor (List ℕ)))) (tables : Tables) : Type 0 where
   pub found_at : map option_copied found ≡ map (bytes_at files) asked.paths
   pub read : AreRead files asked.paths asked.rules tables
 
 -- these are kept, if the text makes a claim; and the claim with this index is the next, or all are judged
-pub record IsKeptOf (files : List (List ℕ × List ℕ)) (asked : Asked) (found : List (Option (Bor (List ℕ)))) (tables : Tables) (index : ℕ) : Type 0 where
+pub record IsKeptOf (files : List (List ℕ × List ℕ)) (asked : ClaimText) (found : List (Option (Bor (List ℕ)))) (tables : Tables) (index : ℕ) : Type 0 where
   pub kept : asked.claims ≢ [] → AreFound files asked found tables
   pub within : index ≤ length asked.claims
 
 -- what is left to be judged of these files and claims, from the claim with this index on
-abbrev pub left_from : List (List ℕ × List ℕ) → Asked → ℕ → Judging
+abbrev pub left_from : List (List ℕ × List ℕ) → ClaimText → ℕ → Judging
 left_from files asked index = record {
   files = files;
   rules = asked.rules;
@@ -32,11 +32,11 @@ left_from files asked index = record {
 }
 
 -- the answer to the claim with this index is true, and so is the note on it, which is given where the verdict has one
-pub record IsAnswerTo (files : List (List ℕ × List ℕ)) (asked : Asked) (index : ℕ) (answer : Answer) (note : Note) : Type 0 where
+pub record IsAnswerTo (files : List (List ℕ × List ℕ)) (asked : ClaimText) (index : ℕ) (answer : Answer) (note : Note) : Type 0 where
   pub claim : ℕ × Claim
   pub at : slice_get asked.claims index ≡ Some claim
   pub holds : IsTrueAnswer files asked.rules claim answer
   pub patterns : List (List ℕ × List ℕ)
   pub named : slice_get asked.patterns index ≡ Some patterns
   pub noted : IsNote files asked.rules patterns answer.verdict note
-  pub given : IsGiven answer.verdict note
+  pub given : HasItsNote answer.verdict note

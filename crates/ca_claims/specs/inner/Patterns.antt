@@ -62,12 +62,12 @@ FirstBadAt Second (x ∷ []) Good Bad = ⊥
 FirstBadAt Second (x ∷ y ∷ ys) Good Bad = Good x × Bad y
 
 -- of one or two, this is the one; the only one, where there is one
-abbrev pub IsPart : {X : Type 0} → Part → List X → X → Type 0
-IsPart First [] x = ⊥
-IsPart First (y ∷ ys) x = x ≡ y
-IsPart Second [] x = ⊥
-IsPart Second (y ∷ []) x = x ≡ y
-IsPart Second (y ∷ z ∷ zs) x = x ≡ z
+abbrev pub IsListPart : {X : Type 0} → Part → List X → X → Type 0
+IsListPart First [] x = ⊥
+IsListPart First (y ∷ ys) x = x ≡ y
+IsListPart Second [] x = ⊥
+IsListPart Second (y ∷ []) x = x ≡ y
+IsListPart Second (y ∷ z ∷ zs) x = x ≡ z
 
 -- the pattern's rule text names a rule among the tables
 abbrev pub HasName : List TableRule → Loaded → Type 0

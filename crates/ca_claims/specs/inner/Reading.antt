@@ -13,9 +13,9 @@ use Rattle.ca_claims.specs.declared.claims.words.LineKind.{LineKind}
 use Rattle.ca_claims.specs.declared.claims.words.LineKind.TheVariants.{Skipped, Rule, Load, Claim, OutsideLimits, Misspelled}
 use Rattle.ca_claims.specs.declared.fault.ClaimFault.{ClaimFault}
 use Rattle.ca_claims.specs.declared.fault.ClaimFault.TheVariants.{Syntax, Number, UnknownName, NameTaken, Memory}
-use Rattle.ca_claims.specs.Places.{path_at, named, IsNamed}
+use Rattle.ca_claims.specs.Places.{path_at, claim_with_names, IsNamed}
 use Rattle.ca_claims.specs.Text as text
-use Rattle.ca_claims.specs.TextFaults.{AreMisspelled, HaveBadNumber, AskUnknown, LoadTaken, AreAllowed}
+use Rattle.ca_claims.specs.TextFaults.{AreMisspelledClaimWords, HaveBadNumber, AskUnknown, LoadTaken, AreAllowed}
 
 -- the paths, with this one after them where it isn't one of them
 abbrev pub with_path : List (List ℕ) → List ℕ → List (List ℕ)
@@ -44,20 +44,20 @@ MakesClaim words held = (kind : Kind) × text.WordsClaim words (claim_of held).p
 -- the kind of a line with these words
 abbrev pub IsKind : List (List ℕ) → LineKind → Type 0
 IsKind words Skipped = text.is_skipped words ≡ true
-IsKind words (Rule path) = (text.is_skipped words ≡ false) × text.WordsSay words (text.Rule path.now)
-IsKind words (Load name path) = (text.is_skipped words ≡ false) × text.WordsSay words (text.Load name.now path.now)
-IsKind words (Claim held) = (text.is_skipped words ≡ false) × text.WordsSay words (text.Claims (claim_of held)) × text.HasGoodNumbers held.kind
+IsKind words (Rule path) = (text.is_skipped words ≡ false) × text.ClaimWordsSay words (text.Rule path.now)
+IsKind words (Load name path) = (text.is_skipped words ≡ false) × text.ClaimWordsSay words (text.Load name.now path.now)
+IsKind words (Claim held) = (text.is_skipped words ≡ false) × text.ClaimWordsSay words (text.Claims (claim_of held)) × text.HasGoodNumbers held.kind
 IsKind words OutsideLimits =
-    (text.is_skipped words ≡ false) × (claim : text.Claim) × text.WordsSay words (text.Claims claim) × (text.HasGoodNumbers claim.kind → ⊥)
-IsKind words Misspelled = (text.is_skipped words ≡ false) × ((line : text.Line) → text.WordsSay words line → ⊥)
+    (text.is_skipped words ≡ false) × (claim : text.Claim) × text.ClaimWordsSay words (text.Claims claim) × (text.HasGoodNumbers claim.kind → ⊥)
+IsKind words Misspelled = (text.is_skipped words ≡ false) × ((line : text.ClaimTextLine) → text.ClaimWordsSay words line → ⊥)
 
 -- the indices of a name and of its path
 abbrev pub place_of : {S : Type 0} → HashMap (Bor (List ℕ)) Place S → List ℕ → Option Place
 place_of names name = get_by (λ n. bytes_eq name n.now) names
 
 -- each of a claim's names is known
-abbrev pub AreKnown : (List ℕ → Option Place) → text.Claim → Type 0
-AreKnown places claim = AllByRecursion (λ n. IsSome (places n)) (text.patterns_of claim)
+abbrev pub AreKnownNames : (List ℕ → Option Place) → text.Claim → Type 0
+AreKnownNames places claim = AllByRecursion (λ n. IsSome (places n)) (text.patterns_of claim)
 
 -- the place of a name that is known
 abbrev pub known_place : Option Place → Place
@@ -74,27 +74,27 @@ StandsAt names paths name (Some place) found =
     (path : List ℕ) × (slice_get names place.name ≡ Some name) × (slice_get paths place.path ≡ Some path) × (found ≡ Some path)
 
 -- the names and paths, the places of the rule tables, the claims, and the places of the names, which are kept once the lines have said this
-pub record IsKept (said : List (Option text.Line)) (names paths : List (List ℕ)) (rules : List ℕ) (claims : List (ClaimLine Place)) (places : List ℕ → Option Place) : Type 0 where
-  pub once : paths ≡ text.each_once (text.file_paths said)
+pub record KeepsClaimLines (said : List (Option text.ClaimTextLine)) (names paths : List (List ℕ)) (rules : List ℕ) (claims : List (ClaimLine Place)) (places : List ℕ → Option Place) : Type 0 where
+  pub once : paths ≡ text.paths_once (text.file_paths said)
   pub ruled : map (path_at paths) rules ≡ text.rule_paths said
   pub placed : All (λ i. i < length paths) rules
-  pub asked : map (named names paths) claims ≡ text.claims_from 1 [] said
+  pub asked : map (claim_with_names names paths) claims ≡ text.claims_from 1 [] said
   pub good : All (λ l. IsNamed names paths l.claim) claims
   pub known : (name : List ℕ) → StandsAt names paths name (places name) (text.path_of (text.spoken said) name)
 
 -- what is kept once the lines have said this
-abbrev pub IsReading : List (Option text.Line) → Reading → Type 0
-IsReading said reading = IsKept said (map (λ name. name.items) reading.names.items) reading.paths reading.rules.items reading.claims.items (place_of reading.places)
+abbrev pub IsClaimReading : List (Option text.ClaimTextLine) → Reading → Type 0
+IsClaimReading said reading = KeepsClaimLines said (map (λ name. name.items) reading.names.items) reading.paths reading.rules.items reading.claims.items (place_of reading.places)
 
 -- the next line says this, after what earlier lines say
-abbrev pub SaysNext : List text.Line → List (List ℕ) → Option text.Line → Type 0
+abbrev pub SaysNext : List text.ClaimTextLine → List (List ℕ) → Option text.ClaimTextLine → Type 0
 SaysNext earlier words None = text.is_skipped words ≡ true
-SaysNext earlier words (Some line) = (text.is_skipped words ≡ false) × text.WordsSay words line × text.IsAllowed earlier line
+SaysNext earlier words (Some line) = (text.is_skipped words ≡ false) × text.ClaimWordsSay words line × text.IsAllowedLine earlier line
 
 -- the n-th line has this fault, after what earlier lines say
-abbrev pub HasFault : ℕ → List text.Line → List (List ℕ) → ClaimFault → Type 0
-HasFault n earlier words (Syntax line) = (line ≡ n) × AreMisspelled earlier words
-HasFault n earlier words (Number line) = (line ≡ n) × HaveBadNumber earlier words
-HasFault n earlier words (UnknownName line) = (line ≡ n) × AskUnknown earlier words
-HasFault n earlier words (NameTaken line) = (line ≡ n) × LoadTaken earlier words
-HasFault n earlier words Memory = AreAllowed earlier words
+abbrev pub HasClaimFault : ℕ → List text.ClaimTextLine → List (List ℕ) → ClaimFault → Type 0
+HasClaimFault n earlier words (Syntax line) = (line ≡ n) × AreMisspelledClaimWords earlier words
+HasClaimFault n earlier words (Number line) = (line ≡ n) × HaveBadNumber earlier words
+HasClaimFault n earlier words (UnknownName line) = (line ≡ n) × AskUnknown earlier words
+HasClaimFault n earlier words (NameTaken line) = (line ≡ n) × LoadTaken earlier words
+HasClaimFault n earlier words Memory = AreAllowed earlier words

@@ -33,7 +33,7 @@ pub record IsPattern (nodes : List Node) (tree : Tree) : Type 0 where
   pub range : AreInRange (cell nodes tree)
 
 -- a tree with no live cell outside the square of a plane
-pub record IsNear (nodes : List Node) (tree : Tree) : Type 0 where
+pub record IsNearTree (nodes : List Node) (tree : Tree) : Type 0 where
   pub is_tree : IsTree nodes tree
   pub low : tree.level ≤ 124
   pub near : (x y : ℤ) → (IsInPlane (record { y = y; x = x }) → ⊥) → cell nodes tree x y ≡ 0
@@ -83,13 +83,13 @@ abbrev pub IsOnlyMove : List Node → Tree → Picture → ℤ × ℤ → Type 0
 IsOnlyMove nodes tree cells v = (dx dy : ℤ) → ShowsTree nodes tree (shifted cells dx dy) → (dx ≡ v.0) × (dy ≡ v.1)
 
 -- the tree shows the plane n generations after another tree's
-pub record IsEnd (next : List ℕ → ℕ) (old : List Node) (pattern : Tree) (n : ℕ) (nodes : List Node) (end : Tree) : Type 0 where
-  pub near : IsNear nodes end
+pub record IsEndTree (next : List ℕ → ℕ) (old : List Node) (pattern : Tree) (n : ℕ) (nodes : List Node) (end : Tree) : Type 0 where
+  pub near : IsNearTree nodes end
   pub shows : (x y : ℤ) → cell nodes end x y ≡ cells_after next (cell old pattern) n x y
 
 -- the tree shows a picture, moved by (dx, dy)
 pub record IsMoved (cells : Picture) (dx dy : ℤ) (nodes : List Node) (tree : Tree) : Type 0 where
-  pub near : IsNear nodes tree
+  pub near : IsNearTree nodes tree
   pub shows : (x y : ℤ) → cell nodes tree x y ≡ plane.cell (shifted cells dx dy) x y
 
 -- a cell that one plane has after n generations, and another hasn't

@@ -3,12 +3,12 @@
 ghost use Rattle.std.specs.Prelude.{◌≡◌, ℕ, ◌+◌, ◌∷◌, [], ◌++◌, List, Option, Some, None, not, codes, length};
 ghost use Rattle.std.specs.Prelude.{is_some, OnOk, IfOk, IfErr, MatchOption};
 ghost use Rattle.ca_plane.specs.Bytes.{Every, is_line_end, words_of};
-ghost use Rattle.ca_claims.specs.Text.{Line, Rule, Load, Claims as Claiming, HasGoodNumbers, IsAllowed};
+ghost use Rattle.ca_claims.specs.Text.{ClaimTextLine, Rule, Load, Claims as Claiming, HasGoodNumbers, IsAllowedLine};
 ghost use Rattle.ca_claims.specs.Text.{IsClaimText, spoken, asked_by};
-ghost use Rattle.ca_claims.specs.TextFaults.{IsFirstFault};
+ghost use Rattle.ca_claims.specs.TextFaults.{IsFirstClaimFault};
 ghost use Rattle.ca_claims.specs.declared.claims.words.LineKind.TheVariants as kind;
-ghost use Rattle.ca_claims.specs.inner.Reading.{IsKind, IsReading, SaysNext, HasFault, place_of, claim_of};
-ghost use Rattle.ca_claims.specs.inner.Reading.{AreKnown, at_places};
+ghost use Rattle.ca_claims.specs.inner.Reading.{IsKind, IsClaimReading, SaysNext, HasClaimFault, place_of, claim_of};
+ghost use Rattle.ca_claims.specs.inner.Reading.{AreKnownNames, at_places};
 
 use super::Claims;
 use super::line::{Claim, ClaimLine, Place};
@@ -32,7 +32,7 @@ struct Reading<'a> {
 impl<'a> Reading<'a> {
     /// Before the first line.
     fn new(alloc: Global) -> Reading<'a>
-        ensures { IsReading [] result }
+        ensures { IsClaimReading [] result }
     {
         Reading {
             paths: Paths::new(alloc),
@@ -45,10 +45,10 @@ impl<'a> Reading<'a> {
 
     /// A line says that a rule table is at the path.
     fn rule(&mut self, alloc: Global, path: &[u8]) -> Result<(), ClaimFault>
-        ensures ruled { OnOk result ((said : List (Option Line)) → IsReading said self.old
-            → IsReading (said ++ Some (Rule path.now) ∷ []) self.new) }
+        ensures ruled { OnOk result ((said : List (Option ClaimTextLine)) → IsClaimReading said self.old
+            → IsClaimReading (said ++ Some (Rule path.now) ∷ []) self.new) }
         ensures fault { IfErr result
-            (λ f. (line : ℕ) (earlier : List Line) → HasFault line earlier (codes "rule" ∷ path.now ∷ []) f) }
+            (λ f. (line : ℕ) (earlier : List ClaimTextLine) → HasClaimFault line earlier (codes "rule" ∷ path.now ∷ []) f) }
     {
         let Ok(table) = self.paths.put(alloc, path) else {
             return Err(ClaimFault::Memory);
@@ -74,11 +74,11 @@ impl<'a> Reading<'a> {
         name: &'a [u8],
         path: &[u8],
     ) -> Result<(), ClaimFault>
-        ensures loaded { OnOk result ((said : List (Option Line)) → IsReading said self.old
-            → IsAllowed (spoken said) (Load name.now path.now)
-            × IsReading (said ++ Some (Load name.now path.now) ∷ []) self.new) }
-        ensures fault { IfErr result (λ f. (said : List (Option Line)) → IsReading said self.old
-            → HasFault line (spoken said) (codes "load" ∷ name.now ∷ path.now ∷ []) f) }
+        ensures loaded { OnOk result ((said : List (Option ClaimTextLine)) → IsClaimReading said self.old
+            → IsAllowedLine (spoken said) (Load name.now path.now)
+            × IsClaimReading (said ++ Some (Load name.now path.now) ∷ []) self.new) }
+        ensures fault { IfErr result (λ f. (said : List (Option ClaimTextLine)) → IsClaimReading said self.old
+            → HasClaimFault line (spoken said) (codes "load" ∷ name.now ∷ path.now ∷ []) f) }
     {
         if self.is_loaded(name) {
             return Err(ClaimFault::NameTaken { line });
@@ -92,8 +92,8 @@ impl<'a> Reading<'a> {
     /// The name, which isn't loaded yet, is kept with its path.
     fn keep(&mut self, alloc: Global, name: &'a [u8], path: &[u8]) -> Result<(), AllocError>
         requires { place_of self.now.places name.now ≡ None }
-        ensures { OnOk result ((said : List (Option Line)) → IsReading said self.old
-            → IsReading (said ++ Some (Load name.now path.now) ∷ []) self.new) }
+        ensures { OnOk result ((said : List (Option ClaimTextLine)) → IsClaimReading said self.old
+            → IsClaimReading (said ++ Some (Load name.now path.now) ∷ []) self.new) }
     {
         let kept = Vec::from_slice(alloc, name)?;
         let place = Place {
@@ -114,8 +114,8 @@ impl<'a> Reading<'a> {
 
     /// The claim about the places of its names, where each is loaded.
     fn placed(&self, claim: &Claim<&'a [u8]>) -> Option<Claim<Place>>
-        ensures { MatchOption result (AreKnown (place_of self.now.places) (claim_of claim.now) → ⊥)
-            (λ c. AreKnown (place_of self.now.places) (claim_of claim.now)
+        ensures { MatchOption result (AreKnownNames (place_of self.now.places) (claim_of claim.now) → ⊥)
+            (λ c. AreKnownNames (place_of self.now.places) (claim_of claim.now)
             × (c ≡ at_places (place_of self.now.places) (claim_of claim.now))) }
     {
         let pattern = self.place(claim.pattern)?;
@@ -134,12 +134,12 @@ impl<'a> Reading<'a> {
     fn claim(&mut self, line: u64, claim: &Claim<&'a [u8]>) -> Result<(), ClaimFault>
         requires { HasGoodNumbers claim.now.kind }
         ensures claimed { OnOk result
-            ((said : List (Option Line)) → IsReading said self.old → line ≡ length said + 1
-            → IsAllowed (spoken said) (Claiming (claim_of claim.now))
-            × IsReading (said ++ Some (Claiming (claim_of claim.now)) ∷ []) self.new) }
-        ensures fault { IfErr result (λ f. (said : List (Option Line)) → IsReading said self.old
+            ((said : List (Option ClaimTextLine)) → IsClaimReading said self.old → line ≡ length said + 1
+            → IsAllowedLine (spoken said) (Claiming (claim_of claim.now))
+            × IsClaimReading (said ++ Some (Claiming (claim_of claim.now)) ∷ []) self.new) }
+        ensures fault { IfErr result (λ f. (said : List (Option ClaimTextLine)) → IsClaimReading said self.old
             → (words : List (List ℕ)) → IsKind words (kind.Claim claim.now)
-            → HasFault line (spoken said) words f) }
+            → HasClaimFault line (spoken said) words f) }
     {
         let Some(claim) = self.placed(claim) else {
             return Err(ClaimFault::UnknownName { line });
@@ -154,11 +154,11 @@ impl<'a> Reading<'a> {
     fn read(&mut self, alloc: Global, number: u64, line: &'a [u8]) -> Result<(), ClaimFault>
         requires { Every (λ b. not (is_line_end b)) line.now }
         ensures said { OnOk result
-            ((said : List (Option Line)) → IsReading said self.old → number ≡ length said + 1
-            → (s : Option Line) × SaysNext (spoken said) (words_of line.now) s
-            × IsReading (said ++ s ∷ []) self.new) }
-        ensures fault { IfErr result (λ f. (said : List (Option Line)) → IsReading said self.old
-            → HasFault number (spoken said) (words_of line.now) f) }
+            ((said : List (Option ClaimTextLine)) → IsClaimReading said self.old → number ≡ length said + 1
+            → (s : Option ClaimTextLine) × SaysNext (spoken said) (words_of line.now) s
+            × IsClaimReading (said ++ s ∷ []) self.new) }
+        ensures fault { IfErr result (λ f. (said : List (Option ClaimTextLine)) → IsClaimReading said self.old
+            → HasClaimFault number (spoken said) (words_of line.now) f) }
     {
         match line_kind(line) {
             LineKind::Skipped => Ok(()),
@@ -179,8 +179,8 @@ impl<'a> Reading<'a> {
 /// its numbers and its names are judged without memory.
 pub fn read_claims(alloc: Global, bytes: &[u8]) -> Result<Claims, ClaimFault>
     ensures found { IfOk result
-        (λ c. (said : List (Option Line)) × IsClaimText bytes.now said × (c ≡ asked_by said)) }
-    ensures fault { IfErr result (λ f. IsFirstFault bytes.now f) }
+        (λ c. (said : List (Option ClaimTextLine)) × IsClaimText bytes.now said × (c ≡ asked_by said)) }
+    ensures fault { IfErr result (λ f. IsFirstClaimFault bytes.now f) }
 {
     let mut reading = Reading::new(alloc);
     let mut rest = bytes;

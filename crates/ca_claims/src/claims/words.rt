@@ -2,7 +2,7 @@
 
 ghost use Rattle.std.specs.Prelude.{◌≡◌, ◌≢◌, ℕ, ◌<◌, List, [], ◌∷◌, not, length, codes, MatchOption};
 ghost use Rattle.ca_plane.specs.Bytes.{Every, is_line_end, words_of};
-ghost use Rattle.ca_claims.specs.Text.{Claim as TextClaim, Claims, WordsSay, is_skipped};
+ghost use Rattle.ca_claims.specs.Text.{Claim as TextClaim, Claims, ClaimWordsSay, is_skipped};
 ghost use Rattle.ca_claims.specs.inner.Reading.{IsKind, MakesClaim};
 
 use super::line::{Claim, Kind};
@@ -132,7 +132,7 @@ fn load(words: &[u8]) -> LineKind<'_>
 fn claim<'a>(keyword: &[u8], words: &'a [u8]) -> Option<Claim<&'a [u8]>>
     requires { Every (λ b. not (is_line_end b)) words.now }
     ensures { MatchOption result
-        ((c : TextClaim) → WordsSay (keyword.now ∷ words_of words.now) (Claims c) → ⊥)
+        ((c : TextClaim) → ClaimWordsSay (keyword.now ∷ words_of words.now) (Claims c) → ⊥)
         (λ c. MakesClaim (keyword.now ∷ words_of words.now) c) }
 {
     if keyword == b"still".as_slice() {
@@ -154,7 +154,7 @@ fn claim<'a>(keyword: &[u8], words: &'a [u8]) -> Option<Claim<&'a [u8]>>
 fn still(words: &[u8]) -> Option<Claim<&[u8]>>
     requires { Every (λ b. not (is_line_end b)) words.now }
     ensures { MatchOption result
-        ((c : TextClaim) → WordsSay (codes "still" ∷ words_of words.now) (Claims c) → ⊥)
+        ((c : TextClaim) → ClaimWordsSay (codes "still" ∷ words_of words.now) (Claims c) → ⊥)
         (λ c. MakesClaim (codes "still" ∷ words_of words.now) c) }
 {
     let name = one_word(words)?;
@@ -169,7 +169,7 @@ fn still(words: &[u8]) -> Option<Claim<&[u8]>>
 fn oscillator(words: &[u8]) -> Option<Claim<&[u8]>>
     requires { Every (λ b. not (is_line_end b)) words.now }
     ensures { MatchOption result
-        ((c : TextClaim) → WordsSay (codes "oscillator" ∷ words_of words.now) (Claims c) → ⊥)
+        ((c : TextClaim) → ClaimWordsSay (codes "oscillator" ∷ words_of words.now) (Claims c) → ⊥)
         (λ c. MakesClaim (codes "oscillator" ∷ words_of words.now) c) }
 {
     let (name, period) = two_words(words)?;
@@ -185,7 +185,7 @@ fn oscillator(words: &[u8]) -> Option<Claim<&[u8]>>
 fn spaceship(words: &[u8]) -> Option<Claim<&[u8]>>
     requires { Every (λ b. not (is_line_end b)) words.now }
     ensures { MatchOption result
-        ((c : TextClaim) → WordsSay (codes "spaceship" ∷ words_of words.now) (Claims c) → ⊥)
+        ((c : TextClaim) → ClaimWordsSay (codes "spaceship" ∷ words_of words.now) (Claims c) → ⊥)
         (λ c. MakesClaim (codes "spaceship" ∷ words_of words.now) c) }
 {
     let (name, period, dx, dy) = four_words(words)?;
@@ -203,7 +203,7 @@ fn spaceship(words: &[u8]) -> Option<Claim<&[u8]>>
 fn becomes(words: &[u8]) -> Option<Claim<&[u8]>>
     requires { Every (λ b. not (is_line_end b)) words.now }
     ensures { MatchOption result
-        ((c : TextClaim) → WordsSay (codes "becomes" ∷ words_of words.now) (Claims c) → ⊥)
+        ((c : TextClaim) → ClaimWordsSay (codes "becomes" ∷ words_of words.now) (Claims c) → ⊥)
         (λ c. MakesClaim (codes "becomes" ∷ words_of words.now) c) }
 {
     let (name, generations, other) = three_words(words)?;

@@ -4,12 +4,12 @@ ghost use Rattle.std.specs.Prelude.{◌≡◌, ◌≢◌, ◌≤◌, ◌^◌, �
 ghost use Rattle.ca_plane.specs.Plane.{Picture, cell as plane_cell, shifted, IsLive};
 ghost use Rattle.ca_plane.specs.Generations.{IsAfter};
 ghost use Rattle.ca_quad.specs.Trees.{cell};
-ghost use Rattle.ca_run.specs.Leaping.{GoesOn};
+ghost use Rattle.ca_run.specs.Leaping.{LeaperGrows};
 ghost use Rattle.ca_macro.specs.Pattern.{AreInRange};
 ghost use Rattle.ca_claims.specs.Text.{IsShift};
 ghost use Rattle.ca_claims.specs.Truth.{MayReturnBy, IsNotBack};
 ghost use Rattle.ca_claims.specs.inner.Returns.{IsNotBackBefore, IsFirstReturn, IsWide};
-ghost use Rattle.ca_claims.specs.inner.Subjects.{ShowsTree, IsNear, BarsReturn, IsNoMove, IsOnlyMove};
+ghost use Rattle.ca_claims.specs.inner.Subjects.{ShowsTree, IsNearTree, BarsReturn, IsNoMove, IsOnlyMove};
 ghost use Rattle.ca_claims.specs.inner.Subjects.{IsBackBy};
 
 use super::divisors::proper_divisors;
@@ -63,7 +63,7 @@ fn return_at<A: Automaton, O: Observer>(
         → IfOk result (λ back. MatchOption back
         (IsNotBack (A.next_of leaper.old.rule) cells case.now.asks.barred m)
         (IsBackBy (A.next_of leaper.old.rule) cells case.now.asks.barred m)) }
-    ensures goes_on { GoesOn A leaper.old leaper.new }
+    ensures goes_on { LeaperGrows A leaper.old leaper.new }
 {
     // Says what holds of every leaper.
     let _ = leaper.store();
@@ -80,13 +80,13 @@ fn return_in_place<A: Automaton>(
     end: Tree,
     pattern: Tree,
 ) -> Result<Option<(i64, i64)>, Memory>
-    requires end { IsNear leaper.old.nodes end }
-    requires pattern { IsNear leaper.old.nodes pattern }
+    requires end { IsNearTree leaper.old.nodes end }
+    requires pattern { IsNearTree leaper.old.nodes pattern }
     ensures back { IfOk result (λ back. MatchOption back
         ((x : ℤ) × (y : ℤ) × (cell leaper.old.nodes end x y ≢ cell leaper.old.nodes pattern x y))
         (λ v. (v.0 ≡ pos 0) × (v.1 ≡ pos 0)
         × ((x y : ℤ) → cell leaper.old.nodes end x y ≡ cell leaper.old.nodes pattern x y))) }
-    ensures goes_on { GoesOn A leaper.old leaper.new }
+    ensures goes_on { LeaperGrows A leaper.old leaper.new }
 {
     match leaper.difference(end, pattern)? {
         None => Ok(Some((0, 0))),
@@ -101,12 +101,12 @@ fn return_anywhere<A: Automaton>(
     end: Tree,
     plane: &Plane,
 ) -> Result<Option<(i64, i64)>, Memory>
-    requires end { IsNear leaper.old.nodes end }
+    requires end { IsNearTree leaper.old.nodes end }
     requires range { AreInRange (plane_cell plane.now) }
     requires live { IsLive plane.now }
     ensures back { IfOk result (λ back. MatchOption back (IsNoMove leaper.old.nodes end plane.now)
         (λ v. ShowsTree leaper.old.nodes end (shifted plane.now v.0 v.1))) }
-    ensures goes_on { GoesOn A leaper.old leaper.new }
+    ensures goes_on { LeaperGrows A leaper.old leaper.new }
 {
     let Some((dx, dy)) = corner_vector(alloc, leaper.store(), copy(&end), plane)? else {
         return Ok(None);
@@ -128,7 +128,7 @@ fn corner_vector(
     end: Tree,
     plane: &Plane,
 ) -> Result<Option<(i64, i64)>, Memory>
-    requires end { IsNear store.now end }
+    requires end { IsNearTree store.now end }
     requires range { AreInRange (plane_cell plane.now) }
     requires live { IsLive plane.now }
     ensures { IfOk result

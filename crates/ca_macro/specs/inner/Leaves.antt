@@ -4,7 +4,7 @@ use Rattle.std.specs.List.{list_all}
 use Rattle.ca_plane.specs.Bytes.{letter}
 use Rattle.ca_macro.specs.declared.fault.MacroFault.{MacroFault}
 use Rattle.ca_macro.specs.declared.fault.MacroFault.TheVariants.{Syntax, LeafSize}
-use Rattle.ca_macro.specs.Nodes.{rows_of}
+use Rattle.ca_macro.specs.Nodes.{leaf_rows}
 use Rattle.ca_macro.specs.Faults.{is_leaf_byte, HasBadByte}
 
 -- the byte of a cell
@@ -23,7 +23,7 @@ has_room (suc height) width (r ∷ rs) = (list_all is_mark r && nat_le (length r
 
 -- the bytes are those of a leaf
 abbrev pub is_leaf : List ℕ → Bool
-is_leaf bytes = has_room 8 8 (rows_of bytes)
+is_leaf bytes = has_room 8 8 (leaf_rows bytes)
 
 -- the fault of bytes that go on where so many rows are left, and so many cells of the first of them
 abbrev pub leaf_fault : (height width : ℕ) → List ℕ → Option MacroFault
@@ -52,9 +52,9 @@ leaf_bits (suc height) [] = 0 ∷ leaf_bits height []
 leaf_bits (suc height) (row ∷ rows) = row_bits row ∷ leaf_bits height rows
 
 -- the cells of rows that bytes give
-abbrev pub cells_of : List ℕ → List (List Bool)
-cells_of bytes = map (map is_live) (rows_of bytes)
+abbrev pub leaf_cells : List ℕ → List (List Bool)
+leaf_cells bytes = map (map is_live) (leaf_rows bytes)
 
 -- the first row of bytes, and the bytes after its `$`
-abbrev pub IsSplit : (bytes row later : List ℕ) → Type 0
-IsSplit bytes row later = (rows_of bytes ≡ row ∷ rows_of later) ⊎ ((bytes ≡ []) × (row ≡ []) × (later ≡ []))
+abbrev pub IsRowSplit : (bytes row later : List ℕ) → Type 0
+IsRowSplit bytes row later = (leaf_rows bytes ≡ row ∷ leaf_rows later) ⊎ ((bytes ≡ []) × (row ≡ []) × (later ≡ []))

@@ -4,16 +4,16 @@ use Rattle.std.specs.List.{AllByRecursion}
 use Rattle.ca_macro.specs.declared.line.Line.{Line}
 use Rattle.ca_macro.specs.declared.line.Line.TheVariants.{Comment, Leaf, Cells, Parts}
 use Rattle.ca_macro.specs.Nodes as nodes
-use Rattle.ca_macro.specs.File.{Adds, WordsSay}
+use Rattle.ca_macro.specs.File.{Adds, MacrocellWordsSay}
 use Rattle.ca_macro.specs.inner.Comments.{said_of}
 use Rattle.ca_macro.specs.inner.Leaves.{leaf_bits}
 use Rattle.ca_macro.specs.inner.Numbers.{kept_of}
 
 -- what is read of a line of these words is what they say: of a leaf the bits of its rows, and of the numbers of nodes what is kept
-abbrev pub Reads : List (List ℕ) → Line → Type 0
-Reads words (Comment comment) = WordsSay words (said_of comment)
-Reads words (Leaf bits) = (rows : List (List Bool)) × WordsSay words (Adds (nodes.Leaf rows)) × (bits ≡ leaf_bits 8 rows)
-Reads words (Cells states) = (nw : ℕ) × (ne : ℕ) × (sw : ℕ) × (se : ℕ) × WordsSay words (Adds (nodes.Cells nw ne sw se))
+abbrev pub ReadsLines : List (List ℕ) → Line → Type 0
+ReadsLines words (Comment comment) = MacrocellWordsSay words (said_of comment)
+ReadsLines words (Leaf bits) = (rows : List (List Bool)) × MacrocellWordsSay words (Adds (nodes.Leaf rows)) × (bits ≡ leaf_bits 8 rows)
+ReadsLines words (Cells states) = (nw : ℕ) × (ne : ℕ) × (sw : ℕ) × (se : ℕ) × MacrocellWordsSay words (Adds (nodes.Cells nw ne sw se))
     × AllByRecursion (λ state. state ≤ 255) (nw ∷ ne ∷ sw ∷ se ∷ []) × (states ≡ nw ∷ ne ∷ sw ∷ se ∷ [])
-Reads words (Parts kept) = (nw : ℕ) × (ne : ℕ) × (sw : ℕ) × (se : ℕ) × WordsSay words (Adds (nodes.Parts kept.level nw ne sw se))
+ReadsLines words (Parts kept) = (nw : ℕ) × (ne : ℕ) × (sw : ℕ) × (se : ℕ) × MacrocellWordsSay words (Adds (nodes.Parts kept.level nw ne sw se))
     × nodes.IsLevel kept.level × (kept.nw ≡ kept_of nw) × (kept.ne ≡ kept_of ne) × (kept.sw ≡ kept_of sw) × (kept.se ≡ kept_of se)

@@ -8,17 +8,17 @@ use Rattle.ca_plane.specs.Plane.{Picture, IsPicture, cell}
 use Rattle.ca_quad.specs.declared.node.Node.{Node as Kept}
 use Rattle.ca_quad.specs.declared.tree.Tree.{Tree}
 use Rattle.ca_quad.specs.Squares.{cell_of}
-use Rattle.ca_quad.specs.Sound.{IsSound}
-use Rattle.ca_quad.specs.Trees.{Shows, IsTree, from_corner}
+use Rattle.ca_quad.specs.Sound.{IsSoundStore}
+use Rattle.ca_quad.specs.Trees.{ShowsSquare, IsTree, from_corner}
 use Rattle.ca_macro.specs.declared.fault.MacroFault.{MacroFault}
 use Rattle.ca_macro.specs.declared.fault.MacroFault.TheVariants.{Forward, Level, Memory}
 use Rattle.ca_macro.specs.declared.line.numbers.Numbers.{Numbers}
 use Rattle.ca_macro.specs.declared.read.reading.Reading.{Reading}
 use Rattle.ca_macro.specs.declared.read.squares.Squares.{Squares}
-use Rattle.ca_macro.specs.Nodes.{Node, Parts, level_of, Names, MayFollow}
-use Rattle.ca_macro.specs.File.{Said, File, IsFile, added, last_rule, last_generation}
-use Rattle.ca_macro.specs.Shown.{numbered, squares_of}
-use Rattle.ca_macro.specs.Faults.{AreFaulty, HasBadPart, AddNode, HasNodeLine, IsFirstFaultOn}
+use Rattle.ca_macro.specs.Nodes.{Node, Parts, node_level, NamesPart, MayFollow}
+use Rattle.ca_macro.specs.File.{MacrocellLine, MacrocellFile, IsMacrocellFile, added, last_rule, last_line_generation}
+use Rattle.ca_macro.specs.Shown.{numbered_square, squares_of}
+use Rattle.ca_macro.specs.Faults.{AreFaulty, HasBadPart, AddNode, HasNodeLine, IsFirstMacrocellFaultOn}
 use Rattle.ca_macro.specs.inner.Numbers.{kept_of}
 
 -- the square shows the cells of a picture, counted from its upper left corner
@@ -34,28 +34,28 @@ AreDrawn store [] [] (t ∷ ts) = ⊥
 AreDrawn store [] (p ∷ ps) ts = ⊥
 AreDrawn store (n ∷ ns) [] ts = ⊥
 AreDrawn store (n ∷ ns) (p ∷ ps) [] = ⊥
-AreDrawn store (n ∷ ns) (p ∷ ps) (t ∷ ts) = (t.level ≡ level_of n) × Draws store t p × AreDrawn store ns ps ts
+AreDrawn store (n ∷ ns) (p ∷ ps) (t ∷ ts) = (t.level ≡ node_level n) × Draws store t p × AreDrawn store ns ps ts
 
 -- the squares of level 1, 2 and so on whose cells are all 0
 abbrev pub AreEmpties : List Kept → List ℕ → Type 0
-AreEmpties store ids = (i : ℕ) → i < length ids → Shows store (slice_index ids i) (suc i) (λ x y. 0)
+AreEmpties store ids = (i : ℕ) → i < length ids → ShowsSquare store (slice_index ids i) (suc i) (λ x y. 0)
 
 -- the squares that are kept for a text's nodes
 pub record AreSquares (store : List Kept) (nodes : List Node) (squares : Squares) : Type 0 where
-  pub sound : IsSound store
+  pub sound : IsSoundStore store
   pub drawn : AreDrawn store nodes (squares_of nodes) squares.squares.items
   pub empties : AreEmpties store squares.empties.ids.items
 
 -- a number names a part of this level: the empty square, or this one
-abbrev pub IsPart : List Kept → List Node → (level number : ℕ) → Option ℕ → Type 0
-IsPart store nodes level number None = number ≡ 0
-IsPart store nodes level number (Some id) =
-    Names nodes level number × Draws store (record { root = id; level = level }) (numbered (squares_of nodes) number)
+abbrev pub IsNodePart : List Kept → List Node → (level number : ℕ) → Option ℕ → Type 0
+IsNodePart store nodes level number None = number ≡ 0
+IsNodePart store nodes level number (Some id) =
+    NamesPart nodes level number × Draws store (record { root = id; level = level }) (numbered_square (squares_of nodes) number)
 
 -- a number may not name a part of this level, and this is why
 abbrev pub IsBadNumber : MacroFault → List Node → (level number : ℕ) → Type 0
 IsBadNumber Forward nodes level number = length nodes < number
-IsBadNumber Level nodes level number = (number ≤ length nodes) × (Names nodes level number → ⊥)
+IsBadNumber Level nodes level number = (number ≤ length nodes) × (NamesPart nodes level number → ⊥)
 IsBadNumber fault nodes level number = ⊥
 
 -- of these numbers this is kept
@@ -71,32 +71,32 @@ HaveFault Memory nodes level nw ne sw se = MayFollow nodes (Parts level nw ne sw
 HaveFault f nodes level nw ne sw se = HasBadPart nodes (level - 1) (nw ∷ ne ∷ sw ∷ se ∷ []) (IsBadNumber f nodes (level - 1))
 
 -- the fault of a line with these words that follows earlier nodes
-abbrev pub HasFault : MacroFault → List Node → List (List ℕ) → Type 0
-HasFault Memory earlier words = AddNode earlier words
-HasFault f earlier words = AreFaulty f earlier words
+abbrev pub HasNodeFault : MacroFault → List Node → List (List ℕ) → Type 0
+HasNodeFault Memory earlier words = AddNode earlier words
+HasNodeFault f earlier words = AreFaulty f earlier words
 
 -- the line with this number has the first fault of a text; or there is no memory for the node of a good line
 abbrev pub HasFaultOn : List ℕ → MacroFault → ℕ → Type 0
 HasFaultOn bytes Memory n = HasNodeLine bytes
-HasFaultOn bytes f n = IsFirstFaultOn bytes f n
+HasFaultOn bytes f n = IsFirstMacrocellFaultOn bytes f n
 
 -- the first fault of a text and its line; or, without a line, there is no memory for the node of a good line
-abbrev pub IsReadingFault : List ℕ → MacroFault → Option ℕ → Type 0
-IsReadingFault bytes fault line =
-    MatchOption line ((fault ≡ Memory) × HasNodeLine bytes) (IsFirstFaultOn bytes fault)
+abbrev pub IsMacrocellReadingFault : List ℕ → MacroFault → Option ℕ → Type 0
+IsMacrocellReadingFault bytes fault line =
+    MatchOption line ((fault ≡ Memory) × HasNodeLine bytes) (IsFirstMacrocellFaultOn bytes fault)
 
 -- what is kept once lines have said this
-pub record IsReading (store : List Kept) (said : List Said) (reading : Reading) : Type 0 where
+pub record IsMacrocellReading (store : List Kept) (said : List MacrocellLine) (reading : Reading) : Type 0 where
   pub squares : AreSquares store (flat_map added said) reading.squares
   pub rule : (text : List ℕ) → last_rule text said ≡ unwrap_or (option_copied reading.rule) text
   pub word : IfSome reading.rule (λ r. IsWord r.now)
-  pub generation : last_generation 0 said ≡ reading.generation
+  pub generation : last_line_generation 0 said ≡ reading.generation
   pub limit : reading.generation < generation_limit
 
 -- the file of lines that say this
-abbrev pub file_of : List Said → File
-file_of said = record { nodes = flat_map added said; rule_text = last_rule default_rule said; generation = last_generation 0 said }
+abbrev pub file_of : List MacrocellLine → MacrocellFile
+file_of said = record { nodes = flat_map added said; rule_text = last_rule default_rule said; generation = last_line_generation 0 said }
 
 -- the text is a file, and this is what is kept of its lines
 abbrev pub HoldsReading : List Kept → List ℕ → Reading → Type 0
-HoldsReading store bytes reading = (said : List Said) × IsFile bytes (file_of said) × IsReading store said reading
+HoldsReading store bytes reading = (said : List MacrocellLine) × IsMacrocellFile bytes (file_of said) × IsMacrocellReading store said reading

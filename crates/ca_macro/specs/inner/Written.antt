@@ -8,10 +8,10 @@ use Rattle.ca_quad.specs.SquareValues.{square_value}
 use Rattle.ca_quad.specs.Trees.{AreQuarters, from_corner}
 use Rattle.ca_macro.specs.declared.write.written.Written.{Written}
 use Rattle.ca_macro.specs.declared.write.written.Written.TheVariants.{Leaf, Cells, Parts}
-use Rattle.ca_macro.specs.Nodes.{Node, level_of, Names, MayFollow}
+use Rattle.ca_macro.specs.Nodes.{Node, node_level, NamesPart, MayFollow}
 use Rattle.ca_macro.specs.Nodes as nodes
-use Rattle.ca_macro.specs.Shown.{numbered, square_of, squares_of}
-use Rattle.ca_macro.specs.Tidy.{AreInPlace, HasForm, is_empty, walks_after, each_once}
+use Rattle.ca_macro.specs.Shown.{numbered_square, node_picture, squares_of}
+use Rattle.ca_macro.specs.Tidy.{AreInPlace, HasForm, is_empty, walks_after, numbers_once}
 
 -- a row's cells by its bits, without the dead cells at its end
 abbrev pub row_of : ℕ → ℕ → List Bool
@@ -25,8 +25,8 @@ node_of (Cells states) = nodes.Cells (slice_index states 0) (slice_index states 
 node_of (Parts level numbers) = nodes.Parts level (slice_index numbers 0) (slice_index numbers 1) (slice_index numbers 2) (slice_index numbers 3)
 
 -- the cells of an id's square
-abbrev pub cells_of : List Kept → ℕ → ℕ → ℕ → ℕ
-cells_of kept id = squares.cell_of kept (squares.level_of kept id) id
+abbrev pub kept_cells : List Kept → ℕ → ℕ → ℕ → ℕ
+kept_cells kept id = squares.cell_of kept (squares.level_of kept id) id
 
 -- a picture shows a square, its upper left cell at (0, 0)
 abbrev pub IsPictureOf : Picture → (ℕ → ℕ → ℕ) → Type 0
@@ -40,21 +40,21 @@ leaf_level states = if states == 2 then 3 else 1
 pub record HasFitParts (kept : List Kept) (states id : ℕ) (parts : List ℕ) : Type 0 where
   pub least : leaf_level states < squares.level_of kept id
   pub most : squares.level_of kept id ≤ 120
-  pub low : (x y : ℕ) → cells_of kept id x y < states
+  pub low : (x y : ℕ) → kept_cells kept id x y < states
   pub quarters : AreQuarters kept id (squares.level_of kept id - 1) parts
 
 -- the number names a square among these nodes
-pub record IsNumberOf (kept : List Kept) (ns : List Node) (id number : ℕ) : Type 0 where
+pub record IsWrittenNumber (kept : List Kept) (ns : List Node) (id number : ℕ) : Type 0 where
   pub at_most : number ≤ length ns
-  pub names : Names ns (squares.level_of kept id) number
-  pub shows : IsPictureOf (numbered (squares_of ns) number) (cells_of kept id)
+  pub names : NamesPart ns (squares.level_of kept id) number
+  pub shows : IsPictureOf (numbered_square (squares_of ns) number) (kept_cells kept id)
 
 -- the node may be written for this square after these nodes
 pub record IsNodeOf (kept : List Kept) (states : ℕ) (ns : List Node) (id : ℕ) (node : Node) : Type 0 where
   pub in_place : MayFollow ns node
   pub form : HasForm states node
-  pub level : level_of node ≡ squares.level_of kept id
-  pub shows : IsPictureOf (square_of (squares_of ns) node) (cells_of kept id)
+  pub level : node_level node ≡ squares.level_of kept id
+  pub shows : IsPictureOf (node_picture (squares_of ns) node) (kept_cells kept id)
 
 -- what has been gathered: nodes as they are written, each that of a square, and the squares' numbers
 pub record IsGathered (kept : List Kept) (states : ℕ) (ns : List Node) (numbers : List (ℕ × ℕ)) : Type 0 where
@@ -63,7 +63,7 @@ pub record IsGathered (kept : List Kept) (states : ℕ) (ns : List Node) (number
   pub distinct : AllPairs (λ m n. m ≢ n) ns
   pub live : AllByRecursion (λ n. is_empty n ≡ false) ns
   pub numbered : (id number : ℕ) → square_value numbers id ≡ Some number
-      → (id < squares.kept (length kept)) × IsNumberOf kept ns id number
+      → (id < squares.place_id (length kept)) × IsWrittenNumber kept ns id number
   pub each : (i : ℕ) → i < length ns → (id : ℕ) × (square_value numbers id ≡ Some (suc i))
 
 -- the new nodes are the old ones, and more after them
@@ -71,9 +71,9 @@ abbrev pub Extends : List Node → List Node → Type 0
 Extends old new = (more : List Node) × (new ≡ old ++ more)
 
 -- where walks so far came first to the old nodes in their order, they come first to the new ones in theirs, after one over this number
-abbrev pub GoesOn : List Node → List Node → ℕ → Type 0
-GoesOn old new number = (walked : List ℕ) → each_once walked ≡ range_with_len 1 (length old)
-    → each_once (walked ++ numbered (walks_after [] new) number) ≡ range_with_len 1 (length new)
+abbrev pub KeepsFirstOrder : List Node → List Node → ℕ → Type 0
+KeepsFirstOrder old new number = (walked : List ℕ) → numbers_once walked ≡ range_with_len 1 (length old)
+    → numbers_once (walked ++ numbered_square (walks_after [] new) number) ≡ range_with_len 1 (length new)
 
 -- the root of the empty plane
 abbrev pub empty_root : ℕ → Node

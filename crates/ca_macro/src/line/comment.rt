@@ -4,7 +4,7 @@ ghost use Rattle.std.specs.Prelude.{◌≡◌, not, List, ◌∷◌, true, codes
 ghost use Rattle.std.specs.Bool.{nat_eq};
 ghost use Rattle.std.specs.List.{starts_with};
 ghost use Rattle.ca_plane.specs.Bytes.{is_line_end, Every, words_of};
-ghost use Rattle.ca_macro.specs.File.{WordsSay};
+ghost use Rattle.ca_macro.specs.File.{MacrocellWordsSay};
 ghost use Rattle.ca_macro.specs.Nodes.{Node};
 ghost use Rattle.ca_macro.specs.Faults.{AreFaulty};
 ghost use Rattle.ca_macro.specs.inner.Comments.{said_of};
@@ -26,7 +26,7 @@ pub(crate) enum Comment<'a> {
 /// What the words after `#R` say: the first is the rule text.
 fn rule(rest: &[u8]) -> Comment<'_>
     requires { Every (λ b. not (is_line_end b)) rest.now }
-    ensures { WordsSay (codes "#R" ∷ words_of rest.now) (said_of result) }
+    ensures { MacrocellWordsSay (codes "#R" ∷ words_of rest.now) (said_of result) }
 {
     match next_word(rest) {
         Some((text, _)) => Comment::Rule(text),
@@ -37,7 +37,7 @@ fn rule(rest: &[u8]) -> Comment<'_>
 /// What the words after `#G` say: one number is the generation.
 fn generation(rest: &[u8]) -> Result<Comment<'_>, MacroFault>
     requires { Every (λ b. not (is_line_end b)) rest.now }
-    ensures said { IfOk result (λ s. WordsSay (codes "#G" ∷ words_of rest.now) (said_of s)) }
+    ensures said { IfOk result (λ s. MacrocellWordsSay (codes "#G" ∷ words_of rest.now) (said_of s)) }
     ensures fault { IfErr result (λ f. (earlier : List Node)
         → AreFaulty f earlier (codes "#G" ∷ words_of rest.now)) }
 {
@@ -65,7 +65,7 @@ fn generation(rest: &[u8]) -> Result<Comment<'_>, MacroFault>
 pub(crate) fn said_by<'a>(word: &[u8], rest: &'a [u8]) -> Result<Comment<'a>, MacroFault>
     requires comment { starts_with nat_eq word.now (codes "#") ≡ true }
     requires line { Every (λ b. not (is_line_end b)) rest.now }
-    ensures said { IfOk result (λ s. WordsSay (word.now ∷ words_of rest.now) (said_of s)) }
+    ensures said { IfOk result (λ s. MacrocellWordsSay (word.now ∷ words_of rest.now) (said_of s)) }
     ensures fault { IfErr result (λ f. (earlier : List Node)
         → AreFaulty f earlier (word.now ∷ words_of rest.now)) }
 {

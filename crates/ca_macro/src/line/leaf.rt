@@ -2,10 +2,10 @@
 
 ghost use Rattle.std.specs.Prelude.{◌≡◌, ◌<◌, ◌≤◌, ◌^◌, not, List, Bool, length, map, true, IfOk, IfErr};
 ghost use Rattle.ca_plane.specs.Bytes.{is_end_or};
-ghost use Rattle.ca_macro.specs.Nodes.{IsLeaf, rows_of};
+ghost use Rattle.ca_macro.specs.Nodes.{IsLeaf, leaf_rows};
 ghost use Rattle.ca_macro.specs.Faults.{is_leaf_byte};
 ghost use Rattle.ca_macro.specs.inner.Leaves.{is_mark, is_live, has_room, leaf_fault, IsLeafFault, row_bits};
-ghost use Rattle.ca_macro.specs.inner.Leaves.{leaf_bits, cells_of, IsSplit};
+ghost use Rattle.ca_macro.specs.inner.Leaves.{leaf_bits, leaf_cells, IsRowSplit};
 
 use crate::fault::MacroFault;
 use ca_plane::bytes::split_at_first;
@@ -61,7 +61,7 @@ fn row_bits(cells: &[u8]) -> u8
 
 /// The first row of a leaf's bytes, and the bytes after its `$`.
 fn split_row(bytes: &[u8]) -> (&[u8], &[u8])
-    ensures { IsSplit bytes.now result.0.now result.1.now }
+    ensures { IsRowSplit bytes.now result.0.now result.1.now }
 {
     let (cells, rest) = split_at_first(bytes, b'$');
     match rest.split_first() {
@@ -72,8 +72,8 @@ fn split_row(bytes: &[u8]) -> (&[u8], &[u8])
 
 /// Sets each row to its bits, and the rows that the bytes leave out to 0.
 fn fill(rows: &mut [u8], bytes: &[u8])
-    requires { has_room (length rows.old) 8 (rows_of bytes.now) ≡ true }
-    ensures { rows.new ≡ leaf_bits (length rows.old) (cells_of bytes.now) }
+    requires { has_room (length rows.old) 8 (leaf_rows bytes.now) ≡ true }
+    ensures { rows.new ≡ leaf_bits (length rows.old) (leaf_cells bytes.now) }
 {
     let Some((first, later)) = rows.split_first_mut() else {
         return;

@@ -1,8 +1,8 @@
 //! The empty squares of a store, made as they are needed.
 
 ghost use Rattle.std.specs.Prelude.{◌≡◌, ℕ, [], ◌+◌, ◌<◌, ◌≤◌, length, IfOk, OnOk, IsTrue};
-ghost use Rattle.ca_quad.specs.Sound.{IsSound, Grows};
-ghost use Rattle.ca_quad.specs.Trees.{Shows};
+ghost use Rattle.ca_quad.specs.Sound.{IsSoundStore, Grows};
+ghost use Rattle.ca_quad.specs.Trees.{ShowsSquare};
 ghost use Rattle.ca_macro.specs.inner.Reading.{AreEmpties};
 
 use ca_plane::Memory;
@@ -28,7 +28,7 @@ impl Empties {
     fn grow(&mut self, store: &mut Store) -> Result<(), Memory>
         requires few { length self.old.ids.items ≤ 124 }
         requires empties { AreEmpties store.old self.old.ids.items }
-        requires sound { IsSound store.old }
+        requires sound { IsSoundStore store.old }
         ensures empties { OnOk result (AreEmpties store.new self.new.ids.items) }
         ensures count { OnOk result (length self.new.ids.items ≡ length self.old.ids.items + 1) }
         ensures grows { Grows store.old store.new }
@@ -46,8 +46,8 @@ impl Empties {
         requires least { 1 ≤ level }
         requires most { level ≤ 125 }
         requires empties { AreEmpties store.old self.old.ids.items }
-        requires sound { IsSound store.old }
-        ensures shows { IfOk result (λ id. Shows store.new id level (λ x y. 0)) }
+        requires sound { IsSoundStore store.old }
+        ensures shows { IfOk result (λ id. ShowsSquare store.new id level (λ x y. 0)) }
         ensures empties { OnOk result (AreEmpties store.new self.new.ids.items) }
         ensures grows { Grows store.old store.new }
     {

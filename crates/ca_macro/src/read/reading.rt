@@ -4,10 +4,10 @@ ghost use Rattle.std.specs.Prelude.{◌≡◌, ℕ, List, [], ◌∷◌, ◌++�
 ghost use Rattle.std.specs.List.{flat_map};
 ghost use Rattle.ca_plane.specs.Bytes.{Every, is_line_end, words_of};
 ghost use Rattle.ca_quad.specs.declared.node.Node.{Node as Kept};
-ghost use Rattle.ca_quad.specs.Sound.{IsSound, Grows};
-ghost use Rattle.ca_macro.specs.File.{Said, WordsSay, IsAllowed, added};
+ghost use Rattle.ca_quad.specs.Sound.{IsSoundStore, Grows};
+ghost use Rattle.ca_macro.specs.File.{MacrocellLine, MacrocellWordsSay, IsAllowedNode, added};
 ghost use Rattle.ca_macro.specs.inner.Comments.{said_of};
-ghost use Rattle.ca_macro.specs.inner.Reading.{IsReading, HasFault};
+ghost use Rattle.ca_macro.specs.inner.Reading.{IsMacrocellReading, HasNodeFault};
 
 use crate::fault::MacroFault;
 use crate::line::{Comment, Line, read_line};
@@ -26,7 +26,7 @@ pub(crate) struct Reading<'a> {
 impl<'a> Reading<'a> {
     /// Before the first line.
     pub(crate) fn new(alloc: Global) -> Reading<'a>
-        ensures { (store : List Kept) → IsSound store → IsReading store [] result }
+        ensures { (store : List Kept) → IsSoundStore store → IsMacrocellReading store [] result }
     {
         Reading {
             squares: Squares::new(alloc),
@@ -37,9 +37,9 @@ impl<'a> Reading<'a> {
 
     /// A line says the rule text, the generation, or nothing.
     fn comment(&mut self, comment: Comment<'a>)
-        ensures { (store : List Kept) (said : List Said) (line : List ℕ)
-            → Every (λ b. not (is_line_end b)) line → WordsSay (words_of line) (said_of comment.entry)
-            → IsReading store said self.old → IsReading store (said ++ said_of comment.entry ∷ []) self.new }
+        ensures { (store : List Kept) (said : List MacrocellLine) (line : List ℕ)
+            → Every (λ b. not (is_line_end b)) line → MacrocellWordsSay (words_of line) (said_of comment.entry)
+            → IsMacrocellReading store said self.old → IsMacrocellReading store (said ++ said_of comment.entry ∷ []) self.new }
     {
         match comment {
             Comment::Nothing => {}
@@ -55,12 +55,12 @@ impl<'a> Reading<'a> {
     /// The line's fault; and `Memory` where a growth is refused for the node of a good line.
     pub(crate) fn read(&mut self, store: &mut Store, line: &'a [u8]) -> Result<(), MacroFault>
         requires line { Every (λ b. not (is_line_end b)) line.now }
-        requires reading { (said : List Said) × IsReading store.old said self.old }
-        ensures said { OnOk result ((said : List Said) → IsReading store.old said self.old
-            → (s : Said) × WordsSay (words_of line.now) s × IsAllowed (flat_map added said) s
-            × IsReading store.new (said ++ s ∷ []) self.new) }
-        ensures fault { IfErr result (λ f. (said : List Said) → IsReading store.old said self.old
-            → HasFault f (flat_map added said) (words_of line.now)) }
+        requires reading { (said : List MacrocellLine) × IsMacrocellReading store.old said self.old }
+        ensures said { OnOk result ((said : List MacrocellLine) → IsMacrocellReading store.old said self.old
+            → (s : MacrocellLine) × MacrocellWordsSay (words_of line.now) s × IsAllowedNode (flat_map added said) s
+            × IsMacrocellReading store.new (said ++ s ∷ []) self.new) }
+        ensures fault { IfErr result (λ f. (said : List MacrocellLine) → IsMacrocellReading store.old said self.old
+            → HasNodeFault f (flat_map added said) (words_of line.now)) }
         ensures grows { Grows store.old store.new }
     {
         match read_line(line)? {

@@ -3,15 +3,15 @@
 ghost use Rattle.std.specs.Prelude.{◌≡◌, ℕ, ℤ, List, [], ◌∷◌, ◌++◌, ◌≤◌, length, IfOk, OnOk, IfErr, Bool};
 ghost use Rattle.std.specs.List.{AllByRecursion};
 ghost use Rattle.ca_quad.specs.declared.node.Node.{Node as Kept};
-ghost use Rattle.ca_quad.specs.Sound.{IsSound, Grows};
-ghost use Rattle.ca_quad.specs.Trees.{Shows, IsTree, cell};
+ghost use Rattle.ca_quad.specs.Sound.{IsSoundStore, Grows};
+ghost use Rattle.ca_quad.specs.Trees.{ShowsSquare, IsTree, cell};
 ghost use Rattle.ca_plane.specs.Plane.{cell as plane_cell};
 ghost use Rattle.ca_macro.specs.Nodes.{Node, Leaf, Cells, Parts, IsLevel, MayFollow};
-ghost use Rattle.ca_macro.specs.Shown.{picture_of};
+ghost use Rattle.ca_macro.specs.Shown.{picture_of_nodes};
 ghost use Rattle.ca_macro.specs.Faults.{HasBadPart};
 ghost use Rattle.ca_macro.specs.inner.Leaves.{leaf_bits};
 ghost use Rattle.ca_macro.specs.inner.Numbers.{kept_of};
-ghost use Rattle.ca_macro.specs.inner.Reading.{AreSquares, IsPart, IsBadNumber, KeepsParts, HaveFault};
+ghost use Rattle.ca_macro.specs.inner.Reading.{AreSquares, IsNodePart, IsBadNumber, KeepsParts, HaveFault};
 
 use crate::fault::MacroFault;
 use crate::line::Numbers;
@@ -39,7 +39,7 @@ struct FourParts {
 impl Squares {
     /// Before the first node.
     pub(crate) fn new(alloc: Global) -> Squares
-        ensures { (store : List Kept) → IsSound store → AreSquares store [] result }
+        ensures { (store : List Kept) → IsSoundStore store → AreSquares store [] result }
     {
         Squares {
             squares: Vec::new(alloc),
@@ -55,7 +55,7 @@ impl Squares {
     fn part(&self, level: u8, number: u64) -> Result<Option<Id>, MacroFault>
         ensures part { IfOk result (λ p. (store : List Kept) (nodes : List Node) (n : ℕ)
             → AreSquares store nodes self.now → number ≡ kept_of n
-            → IsPart store nodes level n p) }
+            → IsNodePart store nodes level n p) }
         ensures fault { IfErr result (λ f. (store : List Kept) (nodes : List Node) (n : ℕ)
             → AreSquares store nodes self.now → number ≡ kept_of n
             → IsBadNumber f nodes level n) }
@@ -80,8 +80,8 @@ impl Squares {
     fn parts(&self, level: u8, numbers: Numbers) -> Result<FourParts, MacroFault>
         ensures parts { IfOk result (λ p. (store : List Kept) (nodes : List Node) (nw ne sw se : ℕ)
             → AreSquares store nodes self.now → KeepsParts numbers nw ne sw se
-            → IsPart store nodes level nw p.nw × IsPart store nodes level ne p.ne
-            × IsPart store nodes level sw p.sw × IsPart store nodes level se p.se) }
+            → IsNodePart store nodes level nw p.nw × IsNodePart store nodes level ne p.ne
+            × IsNodePart store nodes level sw p.sw × IsNodePart store nodes level se p.se) }
         ensures fault { IfErr result (λ f. (store : List Kept) (nodes : List Node) (nw ne sw se : ℕ)
             → AreSquares store nodes self.now → KeepsParts numbers nw ne sw se
             → HasBadPart nodes level (nw ∷ ne ∷ sw ∷ se ∷ []) (IsBadNumber f nodes level)) }
@@ -98,7 +98,7 @@ impl Squares {
         ensures added { OnOk result ((nodes : List Node) (leaf : List (List Bool))
             → AreSquares store.old nodes self.old → rows.now ≡ leaf_bits 8 leaf → length leaf ≤ 8
             → AreSquares store.new (nodes ++ Leaf leaf ∷ []) self.new) }
-        ensures grows { IsSound store.old → Grows store.old store.new }
+        ensures grows { IsSoundStore store.old → Grows store.old store.new }
     {
         let root = store.from_leaf8(rows)?;
         self.squares.push(Tree { root, level: 3 })?;
@@ -111,7 +111,7 @@ impl Squares {
             → AreSquares store.old nodes self.old → states ≡ nw ∷ ne ∷ sw ∷ se ∷ []
             → AllByRecursion (λ s. s ≤ 255) (nw ∷ ne ∷ sw ∷ se ∷ [])
             → AreSquares store.new (nodes ++ Cells nw ne sw se ∷ []) self.new) }
-        ensures grows { IsSound store.old → Grows store.old store.new }
+        ensures grows { IsSoundStore store.old → Grows store.old store.new }
     {
         let [nw, ne, sw, se] = states;
         let root = store.leaf(nw, ne, sw, se)?;
@@ -162,8 +162,8 @@ impl Squares {
         ensures tree { IfOk result (λ t. (nodes : List Node) → AreSquares store.old nodes self.now
             → IsTree store.new t) }
         ensures cells { IfOk result (λ t. (nodes : List Node) → AreSquares store.old nodes self.now
-            → (x y : ℤ) → cell store.new t x y ≡ plane_cell (picture_of nodes) x y) }
-        ensures grows { IsSound store.old → Grows store.old store.new }
+            → (x y : ℤ) → cell store.new t x y ≡ plane_cell (picture_of_nodes nodes) x y) }
+        ensures grows { IsSoundStore store.old → Grows store.old store.new }
     {
         match self.squares.last() {
             Some(square) => Ok(*square),

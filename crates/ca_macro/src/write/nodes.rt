@@ -6,10 +6,10 @@ ghost use Rattle.ca_quad.specs.Squares.{level_of};
 ghost use Rattle.ca_quad.specs.SquareValues.{square_value};
 ghost use Rattle.ca_quad.specs.Trees.{IsIn, IsTree, IsEmpty, cell};
 ghost use Rattle.ca_macro.specs.Nodes.{Node, Leaf, Cells};
-ghost use Rattle.ca_macro.specs.Tidy.{IsLeastLevel, AreTidyNodes, parts_of};
-ghost use Rattle.ca_macro.specs.inner.Written.{row_of, node_of, cells_of, leaf_level, empty_root};
-ghost use Rattle.ca_macro.specs.inner.Written.{HasFitParts, IsNumberOf, IsNodeOf, IsGathered};
-ghost use Rattle.ca_macro.specs.inner.Written.{Extends, GoesOn};
+ghost use Rattle.ca_macro.specs.Tidy.{IsLeastLevel, AreTidyNodes, node_parts};
+ghost use Rattle.ca_macro.specs.inner.Written.{row_of, node_of, kept_cells, leaf_level, empty_root};
+ghost use Rattle.ca_macro.specs.inner.Written.{HasFitParts, IsWrittenNumber, IsNodeOf, IsGathered};
+ghost use Rattle.ca_macro.specs.inner.Written.{Extends, KeepsFirstOrder};
 
 use super::written::Written;
 use ca_plane::Memory;
@@ -29,9 +29,9 @@ impl Gathered {
         requires known { IsIn store.now id }
         requires gathered { IsGathered store.now states (map node_of self.old.nodes.items) self.old.numbers }
         requires node { IsNodeOf store.now states (map node_of self.old.nodes.items) id (node_of node) }
-        requires live { IsEmpty (cells_of store.now id) → ⊥ }
+        requires live { IsEmpty (kept_cells store.now id) → ⊥ }
         requires new { square_value self.old.numbers id ≡ None }
-        ensures number { IfOk result (IsNumberOf store.now (map node_of self.new.nodes.items) id) }
+        ensures number { IfOk result (IsWrittenNumber store.now (map node_of self.new.nodes.items) id) }
         ensures last { IfOk result (λ n. n ≡ length (map node_of self.new.nodes.items)) }
         ensures gathered { OnOk result (IsGathered store.now states
             (map node_of self.new.nodes.items) self.new.numbers) }
@@ -80,9 +80,9 @@ fn states_node(states: [u8; 4]) -> Written
 fn leaf(store: &Store, states: u16, id: Id) -> Written
     requires known { IsIn store.now id }
     requires level { level_of store.now id ≡ leaf_level states }
-    requires states { (x y : ℕ) → cells_of store.now id x y < states }
+    requires states { (x y : ℕ) → kept_cells store.now id x y < states }
     ensures node { (ns : List Node) → IsNodeOf store.now states ns id (node_of result) }
-    ensures parts { parts_of (node_of result) ≡ [] }
+    ensures parts { node_parts (node_of result) ≡ [] }
 {
     if states == 2 {
         return rows_node(store.leaf8(id));
@@ -96,7 +96,7 @@ fn written_parts(store: &Store, states: u16, id: Id, level: u8) -> Option<[Id; 4
     requires known { IsIn store.now id }
     requires least { leaf_level states ≤ level_of store.now id }
     requires most { level_of store.now id ≤ 120 }
-    requires states { (x y : ℕ) → cells_of store.now id x y < states }
+    requires states { (x y : ℕ) → kept_cells store.now id x y < states }
     ensures { MatchOption result (level_of store.now id ≡ leaf_level states)
         (HasFitParts store.now states id) }
 {
@@ -120,21 +120,21 @@ fn number(store: &Store, states: u16, id: Id, gathered: &mut Gathered) -> Result
     requires known { IsIn store.now id }
     requires least { leaf_level states ≤ level_of store.now id }
     requires most { level_of store.now id ≤ 120 }
-    requires states { (x y : ℕ) → cells_of store.now id x y < states }
+    requires states { (x y : ℕ) → kept_cells store.now id x y < states }
     requires gathered { IsGathered store.now states
         (map node_of gathered.old.nodes.items) gathered.old.numbers }
-    ensures number { IfOk result (IsNumberOf store.now (map node_of gathered.new.nodes.items) id) }
+    ensures number { IfOk result (IsWrittenNumber store.now (map node_of gathered.new.nodes.items) id) }
     ensures gathered { OnOk result (IsGathered store.now states
         (map node_of gathered.new.nodes.items) gathered.new.numbers) }
     ensures more { OnOk result (Extends (map node_of gathered.old.nodes.items)
         (map node_of gathered.new.nodes.items)) }
-    ensures order { IfOk result (GoesOn (map node_of gathered.old.nodes.items)
+    ensures order { IfOk result (KeepsFirstOrder (map node_of gathered.old.nodes.items)
         (map node_of gathered.new.nodes.items)) }
     // Larger squares have no new numbers.
     ensures keeps { OnOk result ((other : ℕ) → level_of store.now id < level_of store.now other
         → square_value gathered.new.numbers other ≡ square_value gathered.old.numbers other) }
     // A square that is new is the last.
-    ensures last { IfOk result (λ n. (IsEmpty (cells_of store.now id) → ⊥)
+    ensures last { IfOk result (λ n. (IsEmpty (kept_cells store.now id) → ⊥)
         → square_value gathered.old.numbers id ≡ None → n ≡ length (map node_of gathered.new.nodes.items)) }
 {
     if store.is_empty(id) {

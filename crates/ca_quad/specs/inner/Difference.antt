@@ -5,7 +5,7 @@ use Rattle.ca_quad.specs.Squares.{dot, together, cell_of}
 use Rattle.ca_quad.specs.inner.Window.{ShowsFrom}
 
 -- the cells differ at this place of the square, counted from its upper left corner
-pub record DifferAt (side : ℕ) (p q : ℕ → ℕ → ℕ) (at : ℕ × ℕ) : Type 0 where
+pub record DifferInSquare (side : ℕ) (p q : ℕ → ℕ → ℕ) (at : ℕ × ℕ) : Type 0 where
   pub x_in : at.0 < side
   pub y_in : at.1 < side
   pub differ : p at.0 at.1 ≢ q at.0 at.1
@@ -16,7 +16,7 @@ AreEqual p q = (x y : ℕ) → p x y ≡ q x y
 
 -- it tells a place where they differ, and none where they are equal
 abbrev pub Tells : ℕ → (ℕ → ℕ → ℕ) → (ℕ → ℕ → ℕ) → Option (ℕ × ℕ) → Type 0
-Tells side p q answer = MatchOption answer (AreEqual p q) (DifferAt side p q)
+Tells side p q answer = MatchOption answer (AreEqual p q) (DifferInSquare side p q)
 
 -- the cells of a 2 by 2 square, from its four states
 abbrev pub four_cells : List ℕ → ℕ → ℕ → ℕ

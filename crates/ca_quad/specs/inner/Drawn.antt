@@ -12,8 +12,8 @@ use Rattle.ca_quad.specs.Trees.{from_corner}
 use Rattle.ca_quad.specs.Expanded.{FitsPlane}
 
 -- the cells of an id's square
-abbrev pub cells_of : List Node → ℕ → ℕ → ℕ → ℕ
-cells_of nodes id = cell_of nodes (level_of nodes id) id
+abbrev pub square_cells : List Node → ℕ → ℕ → ℕ → ℕ
+square_cells nodes id = cell_of nodes (level_of nodes id) id
 
 -- and its side
 abbrev pub side_of : List Node → ℕ → ℕ
@@ -24,8 +24,8 @@ abbrev pub placed : (ℕ → ℕ → ℕ) → Spot → ℤ → ℤ → ℕ
 placed cells at x y = from_corner cells (x -ℤ at.x) (y -ℤ at.y)
 
 -- no sum of the place's coordinates with a side leaves an i128
-abbrev pub IsNear : Spot → Type 0
-IsNear at = (neg_ℤ (pos (2 ^ 124)) ≤ℤ at.x) × (at.x ≤ℤ pos (2 ^ 124)) × (neg_ℤ (pos (2 ^ 124)) ≤ℤ at.y) × (at.y ≤ℤ pos (2 ^ 124))
+abbrev pub IsNearSpot : Spot → Type 0
+IsNearSpot at = (neg_ℤ (pos (2 ^ 124)) ≤ℤ at.x) × (at.x ≤ℤ pos (2 ^ 124)) × (neg_ℤ (pos (2 ^ 124)) ≤ℤ at.y) × (at.y ≤ℤ pos (2 ^ 124))
 
 -- a square of this side may be drawn there: it lies near, and each live cell in the square of a plane
 pub record CanDraw (cells : ℕ → ℕ → ℕ) (side : ℕ) (at : Spot) : Type 0 where
@@ -49,32 +49,32 @@ abbrev pub Agrees : (ℤ → ℤ → ℕ) → (ℤ → ℤ → ℕ) → Type 0
 Agrees all cells = (x y : ℤ) → cells x y ≢ 0 → cells x y ≡ all x y
 
 -- the cells of a square, at its place
-abbrev pub shown : List Node → Placed → ℤ → ℤ → ℕ
-shown nodes square = placed (cells_of nodes square.id) square.at
+abbrev pub placed_cells : List Node → Placed → ℤ → ℤ → ℕ
+placed_cells nodes square = placed (square_cells nodes square.id) square.at
 
 -- a square of this level may be drawn, and shows some of these cells
-pub record IsReady (nodes : List Node) (all : ℤ → ℤ → ℕ) (level : ℕ) (square : Placed) : Type 0 where
+pub record IsReadyToDraw (nodes : List Node) (all : ℤ → ℤ → ℕ) (level : ℕ) (square : Placed) : Type 0 where
   pub is_square : IsOf nodes square.id level
-  pub can : CanDraw (cells_of nodes square.id) (side_of nodes square.id) square.at
-  pub agrees : Agrees all (shown nodes square)
+  pub can : CanDraw (square_cells nodes square.id) (side_of nodes square.id) square.at
+  pub agrees : Agrees all (placed_cells nodes square)
 
 -- each of the squares is
 abbrev pub AreReady : List Node → (ℤ → ℤ → ℕ) → ℕ → List Placed → Type 0
-AreReady nodes all level squares = All (IsReady nodes all level) squares
+AreReady nodes all level squares = All (IsReadyToDraw nodes all level) squares
 
 -- the cell is live
-abbrev pub IsLive : (ℤ → ℤ → ℕ) → ℤ → ℤ → Type 0
-IsLive cells x y = cells x y ≢ 0
+abbrev pub IsLiveAt : (ℤ → ℤ → ℕ) → ℤ → ℤ → Type 0
+IsLiveAt cells x y = cells x y ≢ 0
 
 -- one of the squares has a live cell there
 abbrev pub IsLiveIn : List Node → List Placed → ℤ → ℤ → Type 0
 IsLiveIn nodes [] x y = ⊥
-IsLiveIn nodes (s ∷ ss) x y = IsLive (shown nodes s) x y ⊎ IsLiveIn nodes ss x y
+IsLiveIn nodes (s ∷ ss) x y = IsLiveAt (placed_cells nodes s) x y ⊎ IsLiveIn nodes ss x y
 
 -- the same of the upper row of each square, or of the next one
 abbrev pub IsLiveInRow : List Node → ℕ → List Placed → ℤ → ℤ → Type 0
 IsLiveInRow nodes row [] x y = ⊥
-IsLiveInRow nodes row (s ∷ ss) x y = (IsLive (shown nodes s) x y × (y ≡ s.at.y +ℤ pos row)) ⊎ IsLiveInRow nodes row ss x y
+IsLiveInRow nodes row (s ∷ ss) x y = (IsLiveAt (placed_cells nodes s) x y × (y ≡ s.at.y +ℤ pos row)) ⊎ IsLiveInRow nodes row ss x y
 
 -- these cells were written, and no right one was lost
 pub record Paints (all : ℤ → ℤ → ℕ) (old new : Picture) (live : ℤ → ℤ → Type 0) : Type 0 where
@@ -83,13 +83,13 @@ pub record Paints (all : ℤ → ℤ → ℕ) (old new : Picture) (live : ℤ �
 
 -- a square came to the others, unless it has no live cell
 pub record IsAdded (nodes : List Node) (square : Placed) (old new : List Placed) : Type 0 where
-  pub live : (x y : ℤ) → IsLiveIn nodes old x y ⊎ IsLive (shown nodes square) x y → IsLiveIn nodes new x y
-  pub ready : (all : ℤ → ℤ → ℕ) (level : ℕ) → AreReady nodes all level old → IsReady nodes all level square → AreReady nodes all level new
+  pub live : (x y : ℤ) → IsLiveIn nodes old x y ⊎ IsLiveAt (placed_cells nodes square) x y → IsLiveIn nodes new x y
+  pub ready : (all : ℤ → ℤ → ℕ) (level : ℕ) → AreReady nodes all level old → IsReadyToDraw nodes all level square → AreReady nodes all level new
 
 -- the parts of a square of this level came to the halves
 pub record ArePushed (nodes : List Node) (level : ℕ) (square : Placed) (old new : Halves) : Type 0 where
-  pub live : (x y : ℤ) → (IsLiveIn nodes old.north.items x y ⊎ IsLiveIn nodes old.south.items x y) ⊎ IsLive (shown nodes square) x y → IsLiveIn nodes new.north.items x y ⊎ IsLiveIn nodes new.south.items x y
-  pub ready : (all : ℤ → ℤ → ℕ) → IsReady nodes all level square → AreReady nodes all (level - 1) old.north.items × AreReady nodes all (level - 1) old.south.items
+  pub live : (x y : ℤ) → (IsLiveIn nodes old.north.items x y ⊎ IsLiveIn nodes old.south.items x y) ⊎ IsLiveAt (placed_cells nodes square) x y → IsLiveIn nodes new.north.items x y ⊎ IsLiveIn nodes new.south.items x y
+  pub ready : (all : ℤ → ℤ → ℕ) → IsReadyToDraw nodes all level square → AreReady nodes all (level - 1) old.north.items × AreReady nodes all (level - 1) old.south.items
       → AreReady nodes all (level - 1) new.north.items × AreReady nodes all (level - 1) new.south.items
 
 -- the halves have all live cells of the squares

@@ -22,9 +22,9 @@ pub record IsExtent (cells : ℕ → ℕ → ℕ) (columns rows : ℕ) (box : Ex
   pub is_bottom : box.bottom < rows
 
 -- the box lies in a square of this side
-abbrev pub IsWithin : ℕ → Extent → Type 0
-IsWithin side box = (box.left < side) × (box.top < side) × (box.right < side) × (box.bottom < side)
+abbrev pub FitsSide : ℕ → Extent → Type 0
+FitsSide side box = (box.left < side) × (box.top < side) × (box.right < side) × (box.bottom < side)
 
 -- the least box round the live cells, where there are any
-abbrev pub IsExtentOf : (ℕ → ℕ → ℕ) → ℕ → ℕ → Option Extent → Type 0
-IsExtentOf cells columns rows found = MatchOption found (IsEmpty cells) (IsExtent cells columns rows)
+abbrev pub IsSquareExtent : (ℕ → ℕ → ℕ) → ℕ → ℕ → Option Extent → Type 0
+IsSquareExtent cells columns rows found = MatchOption found (IsEmpty cells) (IsExtent cells columns rows)

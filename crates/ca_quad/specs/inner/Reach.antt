@@ -4,9 +4,9 @@ use Rattle.ca_plane.specs.Sparse.{reach}
 use Rattle.ca_quad.specs.declared.tree.WideBounds.{WideBounds}
 
 -- the box lies in it
-abbrev pub IsInReach : WideBounds → Type 0
-IsInReach box = (neg_ℤ reach ≤ℤ box.x0) × (box.x1 ≤ℤ reach) × (neg_ℤ reach ≤ℤ box.y0) × (box.y1 ≤ℤ reach)
+abbrev pub IsBoxInReach : WideBounds → Type 0
+IsBoxInReach box = (neg_ℤ reach ≤ℤ box.x0) × (box.x1 ≤ℤ reach) × (neg_ℤ reach ≤ℤ box.y0) × (box.y1 ≤ℤ reach)
 
 -- one of its sides lies outside
-abbrev pub IsOutOfReach : WideBounds → Type 0
-IsOutOfReach box = (box.x0 <ℤ neg_ℤ reach) ⊎ ((reach <ℤ box.x1) ⊎ ((box.y0 <ℤ neg_ℤ reach) ⊎ (reach <ℤ box.y1)))
+abbrev pub IsBoxOutOfReach : WideBounds → Type 0
+IsBoxOutOfReach box = (box.x0 <ℤ neg_ℤ reach) ⊎ ((reach <ℤ box.x1) ⊎ ((box.y0 <ℤ neg_ℤ reach) ⊎ (reach <ℤ box.y1)))

@@ -32,7 +32,7 @@ pub record Rings (smaller larger : List Node) (level small big : ℕ) : Type 0 w
   pub is_ringed : IsRinged (2 ^ (level - 1)) (cell_of smaller level small) (cell_of larger (suc level) big)
 
 -- the square of this level is the middle of larger cells, which are 0 in a ring round it
-pub record IsMiddle (nodes : List Node) (level : ℕ) (big : ℕ → ℕ → ℕ) (small : ℕ) : Type 0 where
+pub record IsMiddleSquare (nodes : List Node) (level : ℕ) (big : ℕ → ℕ → ℕ) (small : ℕ) : Type 0 where
   pub is_square : IsOf nodes small level
   pub is_ringed : IsRinged (2 ^ (level - 1)) (cell_of nodes level small) big
 
@@ -42,4 +42,4 @@ HasNoRing level big = (small : ℕ → ℕ → ℕ) → IsRinged (2 ^ (level - 1
 
 -- it tells the middle, and none where there are live cells round it
 abbrev pub TellsMiddle : List Node → ℕ → (ℕ → ℕ → ℕ) → Option ℕ → Type 0
-TellsMiddle nodes level big answer = MatchOption answer (HasNoRing level big) (IsMiddle nodes level big)
+TellsMiddle nodes level big answer = MatchOption answer (HasNoRing level big) (IsMiddleSquare nodes level big)

@@ -24,14 +24,14 @@ pub record IsInRow (row : Row) (place : ℕ) : Type 0 where
   pub below : place < row.end
 
 -- the row's places are in the list, and their points have its y
-pub record IsRow (p : Picture) (row : Row) : Type 0 where
+pub record IsPictureRow (p : Picture) (row : Row) : Type 0 where
   pub order : row.first ≤ row.end
   pub range : row.end ≤ length p
   pub same : (i : ℕ) → IsInRow row i → (point_at p i).y ≡ row.y
 
 -- each is a row of the picture
 abbrev pub AreRows : Picture → List Row → Type 0
-AreRows p rows = All (IsRow p) rows
+AreRows p rows = All (IsPictureRow p) rows
 
 -- one of the rows has this place
 abbrev pub Hold : List Row → ℕ → Type 0
@@ -43,7 +43,7 @@ pub record Cover (p : Picture) (rows : List Row) (side : ℕ) (at : Spot) : Type
   pub held : (i x y : ℕ) → i < length p → x < side → y < side → (point_at p i).x ≡ at.x +ℤ pos x → (point_at p i).y ≡ at.y +ℤ pos y → Hold rows i
 
 -- the part has those cells of the rows for which this holds
-pub record IsPart (p : Picture) (rows : List Row) (passes : Point → Type 0) (part : List Row) : Type 0 where
+pub record IsPartOfRows (p : Picture) (rows : List Row) (passes : Point → Type 0) (part : List Row) : Type 0 where
   pub are : AreRows p part
   pub held : (i : ℕ) → Hold rows i → passes (point_at p i) → Hold part i
 
@@ -62,7 +62,7 @@ IsSouth y point = y ≤ℤ point.y
 
 -- those of the rows that lie round a spot
 pub record AreParts (p : Picture) (rows : List Row) (at : Spot) (quarters : Quarters) : Type 0 where
-  pub nw : IsPart p rows (λ q. IsWest at.x q × IsNorth at.y q) quarters.nw.items
-  pub ne : IsPart p rows (λ q. IsEast at.x q × IsNorth at.y q) quarters.ne.items
-  pub sw : IsPart p rows (λ q. IsWest at.x q × IsSouth at.y q) quarters.sw.items
-  pub se : IsPart p rows (λ q. IsEast at.x q × IsSouth at.y q) quarters.se.items
+  pub nw : IsPartOfRows p rows (λ q. IsWest at.x q × IsNorth at.y q) quarters.nw.items
+  pub ne : IsPartOfRows p rows (λ q. IsEast at.x q × IsNorth at.y q) quarters.ne.items
+  pub sw : IsPartOfRows p rows (λ q. IsWest at.x q × IsSouth at.y q) quarters.sw.items
+  pub se : IsPartOfRows p rows (λ q. IsEast at.x q × IsSouth at.y q) quarters.se.items

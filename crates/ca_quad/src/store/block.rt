@@ -5,7 +5,7 @@ ghost use Rattle.ca_plane.specs.Sparse.{IsSparse};
 ghost use Rattle.ca_quad.specs.Sound.{Grows};
 ghost use Rattle.ca_quad.specs.inner.Block.{block_cells, IsCell, TellsPlace, IsPut, IsRight};
 ghost use Rattle.ca_quad.specs.inner.Filled.{counted, LiesNear, AreRowsOf};
-ghost use Rattle.ca_quad.specs.inner.Rows.{point_at, IsInRow, IsRow, AreRows, Cover};
+ghost use Rattle.ca_quad.specs.inner.Rows.{point_at, IsInRow, IsPictureRow, AreRows, Cover};
 ghost use Rattle.ca_quad.specs.inner.Window.{ShowsFrom};
 
 use super::Store;
@@ -99,7 +99,7 @@ fn states_of(cells: &[(Point, u8)], rows: &[Row], at: Spot) -> [u8; 1024]
 fn put_row(states: &mut [u8; 1024], cells: &[(Point, u8)], row: Row, at: Spot)
     requires near { LiesNear 0 at }
     requires sparse { IsSparse cells.now }
-    requires row { IsRow cells.now row }
+    requires row { IsPictureRow cells.now row }
     ensures put { (i x y : ℕ) → IsInRow row i → IsCell at (point_at cells.now i) x y
         → IsRight cells.now at states.new x y }
     ensures kept { (x y : ℕ) → x < 32 → y < 32 → IsRight cells.now at states.old x y

@@ -2,8 +2,8 @@
 
 ghost use Rattle.std.specs.Prelude.{◌≡◌, ◌^◌, ◌+◌, ◌≤◌, pos, ◌-ℤ◌, IfOk, MatchOption};
 ghost use Rattle.ca_quad.specs.Trees.{IsTree, cell};
-ghost use Rattle.ca_quad.specs.Boxes.{IsDead, IsLeastBox};
-ghost use Rattle.ca_quad.specs.inner.Extent.{IsWithin};
+ghost use Rattle.ca_quad.specs.Boxes.{IsDead, IsLeastWideBox};
+ghost use Rattle.ca_quad.specs.inner.Extent.{FitsSide};
 
 use super::Store;
 use super::extent::Extent;
@@ -24,7 +24,7 @@ impl Store {
     pub fn bounds(&self, alloc: Global, tree: Tree) -> Result<Option<WideBounds>, Memory>
         requires { IsTree self.now tree }
         ensures { IfOk result (λ found. MatchOption found (IsDead (cell self.now tree))
-            (IsLeastBox (cell self.now tree))) }
+            (IsLeastWideBox (cell self.now tree))) }
     {
         let half = half_side(self.level(tree.root));
         let extent: Option<Extent> = self.measure(tree.root, &mut SquareMap::new(alloc))?;
@@ -38,7 +38,7 @@ impl Store {
 // The box of a tree's root, counted from the middle of the tree.
 fn from_middle(half: u128, extent: Extent) -> WideBounds
     requires half { half ≤ 2 ^ 124 }
-    requires within { IsWithin (half + half) extent }
+    requires within { FitsSide (half + half) extent }
     ensures x0 { result.x0 ≡ pos extent.left -ℤ pos half }
     ensures y0 { result.y0 ≡ pos extent.top -ℤ pos half }
     ensures x1 { result.x1 ≡ pos extent.right -ℤ pos half }

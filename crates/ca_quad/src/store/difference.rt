@@ -2,7 +2,7 @@
 
 ghost use Rattle.std.specs.Prelude.{◌≡◌, ◌≢◌, ℕ, suc, ◌≤◌, ◌^◌, ◌↔◌, ℤ, IsNone, IfSome};
 ghost use Rattle.ca_quad.specs.Squares.{level_of, IsOf, cell_of};
-ghost use Rattle.ca_quad.specs.Sound.{IsSound};
+ghost use Rattle.ca_quad.specs.Sound.{IsSoundStore};
 ghost use Rattle.ca_quad.specs.Trees.{IsIn, IsTree, cell};
 ghost use Rattle.ca_quad.specs.inner.Difference.{Tells, TellsQuarters, four_cells};
 
@@ -52,7 +52,7 @@ impl Store {
         requires level { level_of self.now a ≡ level_of self.now b }
         requires large { 2 ≤ level_of self.now a }
         ensures tells { (level : ℕ) → IsOf self.now a (suc level) → TellsQuarters self.now level a b result }
-        ensures sound { IsSound self.now }
+        ensures sound { IsSoundStore self.now }
     {
         let Square::Parts(level, nw, ne, sw, se) = self.square(a) else {
             unreachable!()

@@ -6,7 +6,7 @@ ghost use Rattle.ca_quad.specs.Trees.{IsIn, IsTree, cell};
 ghost use Rattle.ca_quad.specs.Expanded.{FitsPlane};
 ghost use Rattle.ca_plane.specs.Plane.{cell as plane_cell};
 ghost use Rattle.ca_plane.specs.Sparse.{IsSparse};
-ghost use Rattle.ca_quad.specs.inner.Drawn.{placed, CanDraw, Agrees, IsLive, IsReady, AreReady, shown};
+ghost use Rattle.ca_quad.specs.inner.Drawn.{placed, CanDraw, Agrees, IsLiveAt, IsReadyToDraw, AreReady, placed_cells};
 ghost use Rattle.ca_quad.specs.inner.Drawn.{IsLiveIn, IsLiveInRow, Paints, IsAdded, ArePushed, AreHalves};
 
 use super::Store;
@@ -100,7 +100,7 @@ impl Store {
     fn push_parts(&self, square: Placed, level: u8, halves: &mut Halves) -> Result<(), Memory>
         requires least { 2 ≤ level }
         requires most { level ≤ 125 }
-        requires ready { (all : ℤ → ℤ → ℕ) × IsReady self.now all level square }
+        requires ready { (all : ℤ → ℤ → ℕ) × IsReadyToDraw self.now all level square }
         ensures { OnOk result (ArePushed self.now level square halves.old halves.new) }
     {
         match self.square(square.id) {
@@ -163,10 +163,10 @@ impl Store {
     // Writes the live cells of one row of a 2 by 2 square.
     fn draw_two(&self, square: Placed, row: u8, plane: &mut Plane) -> Result<(), Memory>
         requires row { row ≤ 1 }
-        requires ready { (all : ℤ → ℤ → ℕ) × IsReady self.now all 1 square }
-        ensures { (all : ℤ → ℤ → ℕ) → IsReady self.now all 1 square
+        requires ready { (all : ℤ → ℤ → ℕ) × IsReadyToDraw self.now all 1 square }
+        ensures { (all : ℤ → ℤ → ℕ) → IsReadyToDraw self.now all 1 square
             → OnOk result (Paints all plane.old plane.new
-            (λ x y. IsLive (shown self.now square) x y × (y ≡ square.at.y +ℤ pos row))) }
+            (λ x y. IsLiveAt (placed_cells self.now square) x y × (y ≡ square.at.y +ℤ pos row))) }
     {
         let corners = part_corners(square.at, 1);
         match self.square(square.id) {
@@ -187,7 +187,7 @@ impl Store {
 fn draw_cell(state: u8, at: Spot, plane: &mut Plane) -> Result<(), Memory>
     requires near { CanDraw (dot state) 1 at }
     ensures { (all : ℤ → ℤ → ℕ) → Agrees all (placed (dot state) at)
-        → OnOk result (Paints all plane.old plane.new (IsLive (placed (dot state) at))) }
+        → OnOk result (Paints all plane.old plane.new (IsLiveAt (placed (dot state) at))) }
 {
     if state == 0 {
         return Ok(());

@@ -1,7 +1,7 @@
 //! The least box round the live cells of a square.
 
 ghost use Rattle.std.specs.Prelude.{◌≡◌, ℕ, ◌+◌, ◌-◌, ◌≤◌, ◌^◌, min};
-ghost use Rattle.ca_quad.specs.inner.Extent.{beside, turned, IsExtentOf};
+ghost use Rattle.ca_quad.specs.inner.Extent.{beside, turned, IsSquareExtent};
 
 use super::measure::Measure;
 
@@ -15,7 +15,7 @@ pub(crate) struct Extent {
 }
 
 impl Measure for Option<Extent> {
-    ghost is = { λ cells side found. IsExtentOf cells side side found };
+    ghost is = { λ cells side found. IsSquareExtent cells side side found };
 
     fn of_cell(state: u8) -> Option<Extent> {
         if state == 0 {
@@ -49,8 +49,8 @@ impl Measure for Option<Extent> {
 // The box of two squares that lie side by side, where the western one has this many columns.
 fn beside(side: u128, west: Option<Extent>, east: Option<Extent>) -> Option<Extent>
     requires { side ≤ 2 ^ 124 }
-    ensures { (w e : ℕ → ℕ → ℕ) (rows : ℕ) → IsExtentOf w side rows west → IsExtentOf e side rows east
-        → IsExtentOf (beside side w e) (side + side) rows result }
+    ensures { (w e : ℕ → ℕ → ℕ) (rows : ℕ) → IsSquareExtent w side rows west → IsSquareExtent e side rows east
+        → IsSquareExtent (beside side w e) (side + side) rows result }
 {
     let Some(east) = east else {
         return west;
@@ -76,8 +76,8 @@ fn beside(side: u128, west: Option<Extent>, east: Option<Extent>) -> Option<Exte
 
 // The box of the cells whose x and y change places.
 fn turned(found: Option<Extent>) -> Option<Extent>
-    ensures { (cells : ℕ → ℕ → ℕ) (columns rows : ℕ) → IsExtentOf cells columns rows found
-        → IsExtentOf (turned cells) rows columns result }
+    ensures { (cells : ℕ → ℕ → ℕ) (columns rows : ℕ) → IsSquareExtent cells columns rows found
+        → IsSquareExtent (turned cells) rows columns result }
 {
     let Some(box_found) = found else {
         return None;

@@ -3,7 +3,7 @@
 ghost use Rattle.std.specs.Prelude.{◌≡◌, ℕ, ◌-◌, ◌≤◌, ◌^◌, ℤ, IsTrue, IsFalse, IfOk};
 ghost use Rattle.ca_plane.specs.Plane.{cell as plane_cell};
 ghost use Rattle.ca_quad.specs.Sound.{Grows};
-ghost use Rattle.ca_quad.specs.Trees.{IsTree, Shows, cell};
+ghost use Rattle.ca_quad.specs.Trees.{IsTree, ShowsSquare, cell};
 ghost use Rattle.ca_quad.specs.Trimmed.{HoldsAll, IsTrimmed};
 ghost use Rattle.ca_quad.specs.inner.Filled.{counted, AreRowsOf, HoldsBox};
 ghost use Rattle.ca_quad.specs.inner.Ring.{none};
@@ -61,7 +61,7 @@ impl Store {
     ) -> Result<Id, Memory>
         requires least { 4 ≤ level }
         requires most { level ≤ 65 }
-        requires empty { Shows self.old empty level none }
+        requires empty { ShowsSquare self.old empty level none }
         requires rows { AreRowsOf level cells.now rows.now at }
         ensures shows { IfOk result (λ id. ShowsFrom self.new id level (counted cells.now at) 0 0) }
         ensures grows { Grows self.old self.new }

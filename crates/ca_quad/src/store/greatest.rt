@@ -2,7 +2,7 @@
 
 ghost use Rattle.std.specs.Prelude.{◌≡◌, ◌≢◌, ◌≤◌, ℤ, max, IfOk};
 ghost use Rattle.ca_quad.specs.Trees.{IsTree, cell};
-ghost use Rattle.ca_quad.specs.inner.Population.{live};
+ghost use Rattle.ca_quad.specs.inner.Population.{cell_population};
 ghost use Rattle.ca_quad.specs.inner.Greatest.{IsGreatest};
 
 use super::Store;
@@ -64,7 +64,7 @@ impl Measure for GreatestState {
 
 // 1 for a square of two states with live cells, whose cells are the digits of this number.
 fn one_if_any(cells: u64) -> u8
-    ensures { result ≡ live cells }
+    ensures { result ≡ cell_population cells }
 {
     if cells == 0 {
         return 0;

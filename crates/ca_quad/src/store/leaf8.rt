@@ -3,7 +3,7 @@
 ghost use Rattle.std.specs.Prelude.{◌≡◌, ℕ, ◌+◌, ◌<◌, ◌≤◌, length, IfOk, OnErr};
 ghost use Rattle.ca_quad.specs.Squares.{level_of, cell_of};
 ghost use Rattle.ca_quad.specs.Sound.{Grows, AddsOnly};
-ghost use Rattle.ca_quad.specs.Trees.{IsIn, Shows, row_cells};
+ghost use Rattle.ca_quad.specs.Trees.{IsIn, ShowsSquare, row_cells};
 
 use super::Store;
 use crate::id::Id;
@@ -29,7 +29,7 @@ impl Store {
     ///
     /// Fails where there is no memory for one more square, and then leaves the store as it was.
     pub fn from_leaf8(&mut self, rows: &[u8; 8]) -> Result<Id, Memory>
-        ensures shows { IfOk result (λ id. Shows self.new id 3 (row_cells rows.now)) }
+        ensures shows { IfOk result (λ id. ShowsSquare self.new id 3 (row_cells rows.now)) }
         ensures grows { Grows self.old self.new }
         ensures added { IfOk result (AddsOnly self.old self.new) }
         ensures count { length self.new ≤ length self.old + 1 }

@@ -3,7 +3,7 @@
 ghost use Rattle.std.specs.Prelude.{◌≡◌, ℕ, suc, ◌+◌, ◌≤◌, ◌^◌, length, IfOk, OnErr};
 ghost use Rattle.ca_quad.specs.Squares.{dot, together, cell_of, IsOf};
 ghost use Rattle.ca_quad.specs.Sound.{Grows, AddsOnly};
-ghost use Rattle.ca_quad.specs.Trees.{Shows, AreFour};
+ghost use Rattle.ca_quad.specs.Trees.{ShowsSquare, AreFour};
 
 use super::Store;
 use crate::id::Id;
@@ -17,7 +17,7 @@ impl Store {
     ///
     /// Fails where there is no memory for one more square, and then leaves the store as it was.
     pub fn leaf(&mut self, nw: u8, ne: u8, sw: u8, se: u8) -> Result<Id, Memory>
-        ensures shows { IfOk result (λ id. Shows self.new id 1
+        ensures shows { IfOk result (λ id. ShowsSquare self.new id 1
             (together 1 (dot nw) (dot ne) (dot sw) (dot se))) }
         ensures grows { Grows self.old self.new }
         ensures added { IfOk result (AddsOnly self.old self.new) }
@@ -39,7 +39,7 @@ impl Store {
     pub fn join(&mut self, nw: Id, ne: Id, sw: Id, se: Id) -> Result<Id, Memory>
         requires { (level : ℕ) × AreFour self.old level nw ne sw se }
         ensures shows { (level : ℕ) → IsOf self.old nw level
-            → IfOk result (λ id. Shows self.new id (suc level)
+            → IfOk result (λ id. ShowsSquare self.new id (suc level)
             (together (2 ^ level) (cell_of self.old level nw) (cell_of self.old level ne)
             (cell_of self.old level sw) (cell_of self.old level se))) }
         ensures grows { Grows self.old self.new }
@@ -66,7 +66,7 @@ impl Store {
     pub fn empty(&mut self, level: u8) -> Result<Id, Memory>
         requires least { 1 ≤ level }
         requires most { level ≤ 125 }
-        ensures shows { IfOk result (λ id. Shows self.new id level (λ x y. 0)) }
+        ensures shows { IfOk result (λ id. ShowsSquare self.new id level (λ x y. 0)) }
         ensures grows { Grows self.old self.new }
         ensures count { length self.new ≤ length self.old + level }
     {

@@ -3,10 +3,10 @@
 ghost use Rattle.std.specs.Prelude.{ℕ, ◌≤◌, ◌^◌, List, IfSome, IfOk, OnOk};
 ghost use Rattle.ca_quad.specs.declared.node.Node.{Node as Kept};
 ghost use Rattle.ca_quad.specs.Squares.{dot};
-ghost use Rattle.ca_quad.specs.Sound.{IsSound};
+ghost use Rattle.ca_quad.specs.Sound.{IsSoundStore};
 ghost use Rattle.ca_quad.specs.Trees.{IsIn};
 ghost use Rattle.ca_quad.specs.inner.Measure.{IsJoined, IsMeasureOf, AreMeasures};
-ghost use Rattle.ca_quad.specs.inner.Numbered.{IsNumberOf};
+ghost use Rattle.ca_quad.specs.inner.Numbered.{IsNumberOfNode};
 
 use super::Store;
 use super::read::half_side;
@@ -31,7 +31,7 @@ pub(crate) trait Measure: Copy {
 
     // That of a square of two states whose cells are this number's digits, where it is known without parts.
     fn of_number(cells: u64) -> Option<Self>
-        ensures { (nodes : List Kept) (id : ℕ) → IsSound nodes → IsIn nodes id → IsNumberOf nodes id cells
+        ensures { (nodes : List Kept) (id : ℕ) → IsSoundStore nodes → IsIn nodes id → IsNumberOfNode nodes id cells
             → IfSome result (IsMeasureOf is nodes id) };
 }
 

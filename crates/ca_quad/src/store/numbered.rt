@@ -2,9 +2,9 @@
 
 ghost use Rattle.std.specs.Prelude.{◌≡◌, ◌≢◌, ℕ, MatchOption};
 ghost use Rattle.ca_quad.specs.declared.node.Node.TheVariants.{Block};
-ghost use Rattle.ca_quad.specs.Sound.{IsSound};
+ghost use Rattle.ca_quad.specs.Sound.{IsSoundStore};
 ghost use Rattle.ca_quad.specs.Trees.{IsIn};
-ghost use Rattle.ca_quad.specs.inner.Numbered.{IsNumberOf, IsKeptOtherwise};
+ghost use Rattle.ca_quad.specs.inner.Numbered.{IsNumberOfNode, IsKeptOtherwise};
 
 use super::Store;
 use crate::id::Id;
@@ -15,8 +15,8 @@ impl Store {
     // The number of a square's cells, where it has two states and at most 8 by 8 cells.
     pub(super) fn number(&self, id: Id) -> Option<u64>
         requires { IsIn self.now id }
-        ensures number { MatchOption result (IsKeptOtherwise self.now id) (IsNumberOf self.now id) }
-        ensures sound { IsSound self.now }
+        ensures number { MatchOption result (IsKeptOtherwise self.now id) (IsNumberOfNode self.now id) }
+        ensures sound { IsSoundStore self.now }
     {
         match id.named() {
             Named::Cells2(n) => Some(n as u64),

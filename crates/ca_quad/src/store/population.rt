@@ -3,7 +3,7 @@
 ghost use Rattle.std.specs.Prelude.{◌≡◌, ◌+◌, ◌-◌, ◌≤◌, ◌^◌, min, IfOk};
 ghost use Rattle.ca_plane.specs.Population.{HasPopulation};
 ghost use Rattle.ca_quad.specs.Trees.{IsIn, IsTree, cell};
-ghost use Rattle.ca_quad.specs.inner.Population.{live, IsCount, IsCountOf};
+ghost use Rattle.ca_quad.specs.inner.Population.{cell_population, IsPopulationIn, IsCountOf};
 
 use super::Store;
 use super::measure::Measure;
@@ -46,7 +46,7 @@ struct Population {
 }
 
 impl Measure for Population {
-    ghost is = { λ cells side population. IsCount cells side population.cells };
+    ghost is = { λ cells side population. IsPopulationIn cells side population.cells };
 
     fn of_cell(state: u8) -> Population {
         Population { cells: live(state) }
@@ -73,7 +73,7 @@ impl Measure for Population {
 
 // 1 for a live cell.
 fn live(state: u8) -> u128
-    ensures { result ≡ live state }
+    ensures { result ≡ cell_population state }
 {
     if state == 0 {
         return 0;

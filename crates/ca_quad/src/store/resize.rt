@@ -4,7 +4,7 @@ ghost use Rattle.std.specs.Prelude.{◌≡◌, ℕ, suc, ◌+◌, ◌≤◌, ◌
 ghost use Rattle.std.specs.List.{All};
 ghost use Rattle.ca_quad.specs.Squares.{level_of, dot, together, cell_of, IsOf};
 ghost use Rattle.ca_quad.specs.Sound.{Grows};
-ghost use Rattle.ca_quad.specs.Trees.{IsIn, IsTree, Shows, AreFour, cell};
+ghost use Rattle.ca_quad.specs.Trees.{IsIn, IsTree, ShowsSquare, AreFour, cell};
 ghost use Rattle.ca_quad.specs.Trimmed.{IsTrimmed};
 ghost use Rattle.ca_quad.specs.inner.Ring.{IsEmptySquare, Rings, TellsMiddle, ringed};
 
@@ -54,7 +54,7 @@ impl Store {
 
     // These four cells with a ring of empty ones.
     fn ringed_cells(&mut self, nw: u8, ne: u8, sw: u8, se: u8) -> Result<Id, Memory>
-        ensures shows { IfOk result (λ id. Shows self.new id 2
+        ensures shows { IfOk result (λ id. ShowsSquare self.new id 2
             (ringed 1 (dot nw) (dot ne) (dot sw) (dot se))) }
         ensures grows { Grows self.old self.new }
         ensures count { length self.new ≤ length self.old + 5 }
@@ -71,7 +71,7 @@ impl Store {
         requires least { 1 ≤ level }
         requires low { level ≤ 123 }
         requires four { AreFour self.old level nw ne sw se }
-        ensures shows { IfOk result (λ id. Shows self.new id (suc (suc level))
+        ensures shows { IfOk result (λ id. ShowsSquare self.new id (suc (suc level))
             (ringed (2 ^ level) (cell_of self.old level nw) (cell_of self.old level ne)
             (cell_of self.old level sw) (cell_of self.old level se))) }
         ensures grows { Grows self.old self.new }

@@ -4,7 +4,7 @@ ghost use Rattle.std.specs.Prelude.{◌≡◌, ℕ, ◌+◌, ◌-◌, ◌<◌, �
 ghost use Rattle.std.specs.Prelude.{IfOk, OnOk};
 ghost use Rattle.ca_plane.specs.Plane.{Picture};
 ghost use Rattle.ca_plane.specs.Sparse.{IsSparse};
-ghost use Rattle.ca_quad.specs.inner.Rows.{point_at, ComesBefore, IsInRow, IsRow, AreRows, Hold, IsPart};
+ghost use Rattle.ca_quad.specs.inner.Rows.{point_at, ComesBefore, IsInRow, IsPictureRow, AreRows, Hold, IsPartOfRows};
 ghost use Rattle.ca_quad.specs.inner.Rows.{AreParts, IsWest, IsEast, IsNorth, IsSouth};
 
 use crate::tree::Spot;
@@ -46,7 +46,7 @@ pub(super) fn rows_of(alloc: Global, cells: &[(Point, u8)]) -> Result<Vec<Row>, 
 fn row_from(cells: &[(Point, u8)], first: usize) -> Row
     requires sparse { IsSparse cells.now }
     requires first { first < length cells.now }
-    ensures row { IsRow cells.now result }
+    ensures row { IsPictureRow cells.now result }
     ensures first { result.first ≡ first }
     ensures some { first < result.end }
 {
@@ -128,7 +128,7 @@ fn comes_before(point: Point, at: Spot) -> bool
 // The place in a row at which the cells from a spot's column on begin.
 fn split(cells: &[(Point, u8)], row: Row, at: Spot) -> usize
     requires sparse { IsSparse cells.now }
-    requires row { IsRow cells.now row }
+    requires row { IsPictureRow cells.now row }
     ensures least { row.first ≤ result }
     ensures most { result ≤ row.end }
     ensures west { (i : ℕ) → IsInRow row i → IsWest at.x (point_at cells.now i) → i < result }
@@ -176,8 +176,8 @@ fn halves(
 ) -> Result<(Vec<Row>, Vec<Row>), Memory>
     requires sparse { IsSparse cells.now }
     requires rows { AreRows cells.now rows.now }
-    ensures west { IfOk result (λ h. IsPart cells.now rows.now (IsWest at.x) h.0.items) }
-    ensures east { IfOk result (λ h. IsPart cells.now rows.now (IsEast at.x) h.1.items) }
+    ensures west { IfOk result (λ h. IsPartOfRows cells.now rows.now (IsWest at.x) h.0.items) }
+    ensures east { IfOk result (λ h. IsPartOfRows cells.now rows.now (IsEast at.x) h.1.items) }
 {
     let mut west = Vec::new(alloc);
     let mut east = Vec::new(alloc);
@@ -192,9 +192,9 @@ fn halves(
 // The rows north of a spot, and its own row and those south of it.
 fn bands(alloc: Global, rows: &[Row], at: Spot) -> Result<(Vec<Row>, Vec<Row>), Memory>
     ensures north { (p : Picture) → AreRows p rows.now
-        → IfOk result (λ b. IsPart p rows.now (IsNorth at.y) b.0.items) }
+        → IfOk result (λ b. IsPartOfRows p rows.now (IsNorth at.y) b.0.items) }
     ensures south { (p : Picture) → AreRows p rows.now
-        → IfOk result (λ b. IsPart p rows.now (IsSouth at.y) b.1.items) }
+        → IfOk result (λ b. IsPartOfRows p rows.now (IsSouth at.y) b.1.items) }
 {
     let mut north = Vec::new(alloc);
     let mut south = Vec::new(alloc);
@@ -232,7 +232,7 @@ fn part_of(row: Row, first: usize, end: usize) -> Row
 // Adds a row, where it has a cell.
 fn push_row(row: Row, rows: &mut Vec<Row>) -> Result<(), Memory>
     ensures holds { OnOk result ((i : ℕ) → Hold rows.old.items i ⊎ IsInRow row i → Hold rows.new.items i) }
-    ensures rows { OnOk result ((p : Picture) → AreRows p rows.old.items → IsRow p row
+    ensures rows { OnOk result ((p : Picture) → AreRows p rows.old.items → IsPictureRow p row
         → AreRows p rows.new.items) }
 {
     if row.first == row.end {

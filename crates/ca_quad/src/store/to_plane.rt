@@ -5,8 +5,8 @@ ghost use Rattle.ca_plane.specs.Sparse.{IsInPlane, IsSparse};
 ghost use Rattle.ca_quad.specs.Trees.{IsTree, cell};
 ghost use Rattle.ca_quad.specs.Expanded.{FitsPlane, IsExpanded, IsRefused};
 ghost use Rattle.ca_plane.specs.Population.{HasFewCells};
-ghost use Rattle.ca_quad.specs.inner.Drawn.{IsNear, ArePartCorners};
-ghost use Rattle.ca_quad.specs.inner.Reach.{IsInReach, IsOutOfReach};
+ghost use Rattle.ca_quad.specs.inner.Drawn.{IsNearSpot, ArePartCorners};
+ghost use Rattle.ca_quad.specs.inner.Reach.{IsBoxInReach, IsBoxOutOfReach};
 
 use super::Store;
 use super::read::half_side;
@@ -96,7 +96,7 @@ pub(super) fn first_corner(half: u128) -> Spot
 // The corners of the parts of a square whose own corner lies there, and whose parts have this side.
 pub(super) fn part_corners(at: Spot, side: u128) -> Corners
     requires side { side ≤ 2 ^ 124 }
-    requires near { IsNear at }
+    requires near { IsNearSpot at }
     ensures { ArePartCorners at side result }
 {
     let east = at.x + side as i128;
@@ -122,8 +122,8 @@ pub(super) fn point(at: Spot) -> Point
 
 // Whether the box lies in the square in which a plane keeps its cells.
 fn is_in_reach(bounds: WideBounds) -> bool
-    ensures yes { IsTrue result → IsInReach bounds }
-    ensures no { IsFalse result → IsOutOfReach bounds }
+    ensures yes { IsTrue result → IsBoxInReach bounds }
+    ensures no { IsFalse result → IsBoxOutOfReach bounds }
 {
     if bounds.x0 < -REACH {
         return false;

@@ -3,7 +3,7 @@
 ghost use Rattle.std.specs.Prelude.{◌≡◌, ℕ, ◌+◌, ◌≤◌, length, IfOk, OnErr, MatchOption};
 ghost use Rattle.ca_quad.specs.Squares.{level_of, cell_of};
 ghost use Rattle.ca_quad.specs.Sound.{Grows, AddsOnly};
-ghost use Rattle.ca_quad.specs.Trees.{IsIn, Shows, word_cells, HasMoreStates};
+ghost use Rattle.ca_quad.specs.Trees.{IsIn, ShowsSquare, word_cells, HasMoreStates};
 
 use super::Store;
 use super::bits::{corners, rows};
@@ -31,7 +31,7 @@ impl Store {
     ///
     /// Fails where there is no memory for one more square, and then leaves the store as it was.
     pub fn from_word(&mut self, word: u64) -> Result<Id, Memory>
-        ensures shows { IfOk result (λ id. Shows self.new id 3 (word_cells word)) }
+        ensures shows { IfOk result (λ id. ShowsSquare self.new id 3 (word_cells word)) }
         ensures grows { Grows self.old self.new }
         ensures added { IfOk result (AddsOnly self.old self.new) }
         ensures count { length self.new ≤ length self.old + 1 }

@@ -5,24 +5,24 @@ use Rattle.ca_plane.specs.Sparse.{IsInPlane}
 use Rattle.ca_rle.specs.declared.fault.RleFault.{RleFault}
 use Rattle.ca_rle.specs.declared.item.Item.{Item}
 use Rattle.ca_rle.specs.Items.{Run}
-use Rattle.ca_rle.specs.File.{File}
+use Rattle.ca_rle.specs.File.{RleFile}
 use Rattle.ca_plane.specs.Limits.{IsInRange}
 use Rattle.ca_rle.specs.Faults.{item_fault}
 
 -- the item as the code keeps it: its count is at most 2^64 - 1
-abbrev pub kept : Item → Item
-kept item = record { count = min item.count (2 ^ 64 - 1); tag = item.tag }
+abbrev pub with_capped_count : Item → Item
+with_capped_count item = record { count = min item.count (2 ^ 64 - 1); tag = item.tag }
 
 -- an item stands at the front, before these bytes, and this is kept of it
 abbrev pub IsItemAtFront : List ℕ → Item → List ℕ → Type 0
-IsItemAtFront bytes item more = (whole : Item) × Run bytes (whole ∷ []) more × (item ≡ kept whole)
+IsItemAtFront bytes item more = (whole : Item) × Run bytes (whole ∷ []) more × (item ≡ with_capped_count whole)
 
 -- the reader keeps the corner itself, or, where that is out of range, some place in the plane that is out of range too
 abbrev pub KeepsCorner : Point → Point → Type 0
 KeepsCorner corner place = IsInPlane place × ((place ≡ corner) ⊎ ((IsInRange corner → ⊥) × (IsInRange place → ⊥)))
 
 -- a file with this corner and these items, of which no more is said
-abbrev pub bare_file : Point → List Item → File
+abbrev pub bare_file : Point → List Item → RleFile
 bare_file corner items = record { corner = corner; generation = 0; rule_text = []; items = items }
 
 -- these bytes stand after good items, and begin with a bad item or end

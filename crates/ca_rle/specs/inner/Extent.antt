@@ -6,7 +6,7 @@ use Rattle.ca_plane.specs.Plane.{Picture}
 use Rattle.ca_rle.specs.declared.item.Item.{Item}
 use Rattle.ca_rle.specs.declared.extent.Extent.{Extent}
 use Rattle.ca_rle.specs.declared.extent.Offset.{Offset}
-use Rattle.ca_rle.specs.Shown.{state_of, rows_of, columns_of, run_of}
+use Rattle.ca_rle.specs.Shown.{tag_state, row_count, columns_of, run_of}
 use Rattle.ca_rle.specs.Limits.{most_count}
 use Rattle.ca_plane.specs.Limits.{IsInRange, range}
 
@@ -18,20 +18,20 @@ longest_of [] = 0
 longest_of (i ∷ is) = max i.count (longest_of is)
 
 -- how many live cells an item has
-abbrev pub live_count : Item → ℕ
-live_count i = if state_of i.tag == 0 then 0 else i.count
+abbrev pub live_count_of_item : Item → ℕ
+live_count_of_item i = if tag_state i.tag == 0 then 0 else i.count
 
 -- how many live cells the items have
-abbrev pub live_cells : List Item → ℕ
-live_cells is = sum_by live_count is
+abbrev pub live_count_of_items : List Item → ℕ
+live_count_of_items is = sum_by live_count_of_item is
 
 -- how many columns from the corner on an item's live cells take, after the items before it
 abbrev pub columns_to : List Item → Item → ℕ
-columns_to before i = if state_of i.tag == 0 then 0 else columns_of before + i.count
+columns_to before i = if tag_state i.tag == 0 then 0 else columns_of before + i.count
 
 -- how many rows
 abbrev pub rows_to : List Item → Item → ℕ
-rows_to before i = if state_of i.tag == 0 then 0 else rows_of before + 1
+rows_to before i = if tag_state i.tag == 0 then 0 else row_count before + 1
 
 -- the greatest of these numbers, of items that stand after others
 abbrev pub greatest_of : (List Item → Item → ℕ) → List Item → List Item → ℕ
@@ -54,15 +54,15 @@ kept_number n = min n (2 ^ 64 - 1)
 
 -- where the item after these begins
 pub record IsOffsetOf (items : List Item) (offset : Offset) : Type 0 where
-  pub rows : offset.rows ≡ kept_number (rows_of items)
+  pub rows : offset.rows ≡ kept_number (row_count items)
   pub columns : offset.columns ≡ kept_number (columns_of items)
 
 -- how far these items reach
-pub record IsExtentOf (items : List Item) (extent : Extent) : Type 0 where
+pub record IsItemsExtent (items : List Item) (extent : Extent) : Type 0 where
   pub longest : extent.longest ≡ kept_number (longest_of items)
   pub right : extent.right ≡ kept_number (right_after [] items)
   pub bottom : extent.bottom ≡ kept_number (bottom_after [] items)
-  pub cells : extent.cells ≡ kept_number (live_cells items)
+  pub cells : extent.cells ≡ kept_number (live_count_of_items items)
 
 -- items of this extent are in range from this corner
 pub record IsExtentInRange (extent : Extent) (corner : Point) : Type 0 where
@@ -83,4 +83,4 @@ HasRoom at count = IsInRange at × ((at.x +ℤ pos count) ≤ℤ pos range)
 
 -- the cells of an item that begins at a point
 abbrev pub cells_from : Point → Item → Picture
-cells_from at i = if state_of i.tag == 0 then [] else run_of (state_of i.tag) at i.count
+cells_from at i = if tag_state i.tag == 0 then [] else run_of (tag_state i.tag) at i.count

@@ -8,8 +8,8 @@ use Rattle.ca_rle.specs.declared.fault.RleFault.{RleFault}
 use Rattle.ca_rle.specs.declared.front.words.Start.{Start}
 use Rattle.ca_rle.specs.declared.front.lines.Preamble.{Preamble}
 use Rattle.ca_rle.specs.declared.front.Front.{Front}
-use Rattle.ca_rle.specs.Header.{Said, Says, extended_words, IsXlifeLine}
-use Rattle.ca_rle.specs.File.{File, IsFile, IsPreamble, IsHeaded, corner_of, generation_of}
+use Rattle.ca_rle.specs.Header.{CxrleWord, Says, extended_words, IsXlifeLine}
+use Rattle.ca_rle.specs.File.{RleFile, IsRleFile, IsPreamble, IsHeaded, corner_of, generation_of}
 use Rattle.ca_rle.specs.Items.{Items}
 use Rattle.ca_rle.specs.Limits.{IsWithinLimits}
 use Rattle.ca_plane.specs.Limits.{range, default_rule}
@@ -17,14 +17,14 @@ use Rattle.ca_rle.specs.Faults.{IsBadWord}
 use Rattle.ca_rle.specs.inner.BodyFaults.{KeepsCorner}
 
 -- a coordinate in range
-abbrev pub IsNear : ℤ → Type 0
-IsNear n = (neg_ℤ (pos range) ≤ℤ n) × (n <ℤ pos range)
+abbrev pub IsNearCoordinate : ℤ → Type 0
+IsNearCoordinate n = (neg_ℤ (pos range) ≤ℤ n) × (n <ℤ pos range)
 
 -- the reader keeps the number itself, or, where that is out of range, some number within 2^62 that is out of range too
 pub record KeepsNumber (number kept : ℤ) : Type 0 where
   pub low : neg_ℤ (pos (2 ^ 62)) ≤ℤ kept
   pub high : kept ≤ℤ pos (2 ^ 62)
-  pub same : (kept ≡ number) ⊎ ((IsNear number → ⊥) × (IsNear kept → ⊥))
+  pub same : (kept ≡ number) ⊎ ((IsNearCoordinate number → ⊥) × (IsNearCoordinate kept → ⊥))
 
 -- the bytes write a number that is kept so
 abbrev pub Writes : List ℕ → ℤ → Type 0
@@ -35,18 +35,18 @@ abbrev pub WritesPair : List ℕ → Point → Type 0
 WritesPair bytes place = (a : List ℕ) × (b : List ℕ) × (bytes ≡ a ++ 44 ∷ b) × Writes a place.x × Writes b place.y
 
 -- the start that words say
-pub record IsStart (said : List Said) (start : Start) : Type 0 where
+pub record IsStart (said : List CxrleWord) (start : Start) : Type 0 where
   pub corner : KeepsCorner (corner_of said) start.corner
   pub generation : start.generation ≡ generation_of said
 
 -- after what was said, these words lead from one start to another
 abbrev pub Leads : List (List ℕ) → Start → Start → Type 0
-Leads words old new = (more : List Said) × AllZip Says words more × ((said : List Said) → IsStart said old → IsStart (said ++ more) new)
+Leads words old new = (more : List CxrleWord) × AllZip Says words more × ((said : List CxrleWord) → IsStart said old → IsStart (said ++ more) new)
 
 -- a bad word stands after good ones
 pub record HasBadWordAmong (words : List (List ℕ)) (fault : RleFault) : Type 0 where
   pub good : List (List ℕ)
-  pub good_said : List Said
+  pub good_said : List CxrleWord
   pub word : List ℕ
   pub later : List (List ℕ)
   pub words_are : words ≡ good ++ word ∷ later
@@ -58,7 +58,7 @@ abbrev pub HasXlifeLine : List (List ℕ) → Type 0
 HasXlifeLine lines = (earlier : List (List ℕ)) × (line : List ℕ) × (later : List (List ℕ)) × IsXlifeLine line × (lines ≡ earlier ++ line ∷ later)
 
 -- what lines before a header say
-pub record IsPreambleOf (lines : List (List ℕ)) (said : List Said) (preamble : Preamble) : Type 0 where
+pub record IsPreambleOf (lines : List (List ℕ)) (said : List CxrleWord) (preamble : Preamble) : Type 0 where
   pub good : IsPreamble lines said
   pub start : IsStart said preamble.start
   pub xlife : preamble.has_xlife_rule ≡ true → HasXlifeLine lines
@@ -66,17 +66,17 @@ pub record IsPreambleOf (lines : List (List ℕ)) (said : List Said) (preamble :
 
 -- after what lines before a header said, this line leads from one state of the reader to another
 abbrev pub LeadsPreamble : List ℕ → Preamble → Preamble → Type 0
-LeadsPreamble line old new = (more : List Said) × AllZip Says (extended_words line) more
-    × ((lines : List (List ℕ)) (said : List Said) → IsPreambleOf lines said old → IsPreambleOf (lines ++ line ∷ []) (said ++ more) new)
+LeadsPreamble line old new = (more : List CxrleWord) × AllZip Says (extended_words line) more
+    × ((lines : List (List ℕ)) (said : List CxrleWord) → IsPreambleOf lines said old → IsPreambleOf (lines ++ line ∷ []) (said ++ more) new)
 
 -- the bytes have this front
 abbrev pub IsFront : List ℕ → Front → Type 0
-IsFront bytes front = (said : List Said) × (rule : Option (List ℕ)) × IsHeaded bytes said rule front.body.now
+IsFront bytes front = (said : List CxrleWord) × (rule : Option (List ℕ)) × IsHeaded bytes said rule front.body.now
     × (option_copied front.rule ≡ rule) × KeepsCorner (corner_of said) front.corner × (front.generation ≡ generation_of said)
 
 -- a text holds this file, which passes no limit, and this is its front
-pub record IsFrontOf (bytes : List ℕ) (file : File) (front : Front) : Type 0 where
-  pub is_file : IsFile bytes file
+pub record IsFrontOf (bytes : List ℕ) (file : RleFile) (front : Front) : Type 0 where
+  pub is_file : IsRleFile bytes file
   pub within : IsWithinLimits file
   pub items : Items front.body.now file.items
   pub corner : front.corner ≡ file.corner

@@ -22,7 +22,7 @@ abbrev pub some_of : Tag → ℕ → List Item
 some_of tag count = if count == 0 then [] else record { count = count; tag = tag } ∷ []
 
 -- a gap leads from one place to a later one: row ends, which go to the left side, and then dead cells
-pub record IsGap (left : ℤ) (from to : Point) (gap : List Item) : Type 0 where
+pub record IsItemGap (left : ℤ) (from to : Point) (gap : List Item) : Type 0 where
   pub rows : ℕ
   pub columns : ℕ
   pub below : to.y ≡ from.y +ℤ pos rows

@@ -2,7 +2,7 @@
 
 ghost use Rattle.std.specs.Prelude.{◌≡◌, [], true, not, IsTrue, IsFalse, MatchOption, IfSome, IfOk, IfErr};
 ghost use Rattle.ca_plane.specs.Bytes.{Every, is_line_end, words_of, without_cr};
-ghost use Rattle.ca_rle.specs.Header.{is_comment, extended_words, IsXlifeLine};
+ghost use Rattle.ca_rle.specs.Header.{is_front_line, extended_words, IsXlifeLine};
 ghost use Rattle.ca_rle.specs.inner.FrontParts.{Leads, HasBadWordAmong, IsPreambleOf, LeadsPreamble};
 
 use super::words::Start;
@@ -20,7 +20,7 @@ pub(crate) struct Preamble {
 
 /// Whether the line may stand before a header: it is blank, or its first byte that is no blank is `#`.
 pub(crate) fn is_comment(line: &[u8]) -> bool
-    ensures { result ≡ is_comment line.now }
+    ensures { result ≡ is_front_line line.now }
 {
     let (_, text) = split_blanks(line);
     match text.first() {
@@ -100,7 +100,7 @@ impl Preamble {
     /// What this line says after those before.
     pub(crate) fn after_line(self, line: &[u8]) -> Result<Preamble, RleFault>
         requires line { Every (λ b. not (is_line_end b)) line.now }
-        requires comment { is_comment line.now ≡ true }
+        requires comment { is_front_line line.now ≡ true }
         ensures found { IfOk result (LeadsPreamble line.now self) }
         ensures fault { IfErr result (λ f. HasBadWordAmong (extended_words line.now) f) }
     {

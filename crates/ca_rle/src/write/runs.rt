@@ -5,9 +5,9 @@ ghost use Rattle.std.specs.Prelude.{IsTrue, IsFalse};
 ghost use Rattle.std.specs.List.{All};
 ghost use Rattle.ca_rle.specs.declared.item.Item.{Item};
 ghost use Rattle.ca_rle.specs.declared.item.Tag.TheVariants.{Cell};
-ghost use Rattle.ca_rle.specs.Shown.{picture_of};
+ghost use Rattle.ca_rle.specs.Shown.{picture_of_items};
 ghost use Rattle.ca_rle.specs.Tidy.{AreTidy, HaveStates};
-ghost use Rattle.ca_rle.specs.inner.Written.{some_of, IsGap};
+ghost use Rattle.ca_rle.specs.inner.Written.{some_of, IsItemGap};
 ghost use Rattle.ca_plane.specs.Plane.{cell};
 
 use super::frame::distance;
@@ -85,7 +85,7 @@ fn push_gap(items: &mut Vec<Item>, left: i64, from: Point, to: Point) -> Result<
     requires below { from.y ≤ℤ to.y }
     requires right { to.y ≡ from.y → from.x ≤ℤ to.x }
     requires left { left ≤ℤ to.x }
-    ensures { OnOk result ((gap : List Item) × IsGap left from to gap
+    ensures { OnOk result ((gap : List Item) × IsItemGap left from to gap
         × (items.new.items ≡ items.old.items ++ gap)) }
 {
     let rows = distance(from.y, to.y);
@@ -99,7 +99,7 @@ fn push_gap(items: &mut Vec<Item>, left: i64, from: Point, to: Point) -> Result<
 /// The tidy items of the plane, whose first cell is at the corner.
 pub(super) fn items(alloc: Global, cells: &Plane, corner: Point) -> Result<Vec<Item>, Memory>
     requires { (x y : ℤ) → cell cells.now x y ≢ 0 → (corner.x ≤ℤ x) × (corner.y ≤ℤ y) }
-    ensures shown { IfOk result (λ v. picture_of corner v.items ≡ cells.now) }
+    ensures shown { IfOk result (λ v. picture_of_items corner v.items ≡ cells.now) }
     ensures tidy { IfOk result (λ v. AreTidy v.items) }
     ensures states { (n : ℕ) → All (λ e. e.1 < n) cells.now → IfOk result (λ v. HaveStates n v.items) }
 {

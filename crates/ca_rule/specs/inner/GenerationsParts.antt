@@ -9,17 +9,17 @@ abbrev pub Parts : Type 0
 Parts = List ℕ × List ℕ × ℕ
 
 -- the parts, where the bytes are such digits and such a number
-abbrev pub parts_of : List ℕ → List ℕ → List ℕ → Option Parts
-parts_of survival birth number =
+abbrev pub generations_parts : List ℕ → List ℕ → List ℕ → Option Parts
+generations_parts survival birth number =
     if are_digits_up_to 8 survival && are_digits_up_to 8 birth then option_map (λ states. (survival, birth, states)) (state_count number) else None
 
 -- the parts of a text after its survival digits, by what stands round the second `/`
-abbrev pub parts_behind : List ℕ → List ℕ × List ℕ → Option Parts
-parts_behind survival lists = parts_of survival lists.0 lists.1
+abbrev pub parts_after : List ℕ → List ℕ × List ℕ → Option Parts
+parts_after survival lists = generations_parts survival lists.0 lists.1
 
 -- the parts of a text, by what stands round the first `/`
 abbrev pub parts_around : List ℕ × List ℕ → Option Parts
-parts_around lists = option_and_then (parts_behind lists.0) (lists_around_slash lists.1)
+parts_around lists = option_and_then (parts_after lists.0) (lists_around_slash lists.1)
 
 -- the parts that a text spells
 abbrev pub parts_in : List ℕ → Option Parts

@@ -7,13 +7,13 @@ use Rattle.ca_rule.specs.TableNext.{States, Taken, admits, is_variable, take_one
 use Rattle.ca_rule.specs.declared.table.slot.Slot.TheVariants.{Number, Variable}
 
 -- where the slot is a variable: as many of the cells at the free places are this one as slots left are that variable
-abbrev pub has_room : List ℕ → List Slot → List ℕ → Slot → ℕ → Bool
-has_room nine left free (Number state) cell = true
-has_room nine left free (Variable v) cell = nat_le (count_by (is_variable v) left) (count_by (λ p. slice_index nine p == cell) free)
+abbrev pub has_slot_room : List ℕ → List Slot → List ℕ → Slot → ℕ → Bool
+has_slot_room nine left free (Number state) cell = true
+has_slot_room nine left free (Variable v) cell = nat_le (count_by (is_variable v) left) (count_by (λ p. slice_index nine p == cell) free)
 
 -- a slot may take the cell, beside those that have taken theirs
 abbrev pub may_take : List States → List ℕ → List Taken → List Slot → List ℕ → Slot → ℕ → Bool
-may_take variables nine taken left free s cell = admits variables s cell && (take_one_cell taken s cell && has_room nine left free s cell)
+may_take variables nine taken left free s cell = admits variables s cell && (take_one_cell taken s cell && has_slot_room nine left free s cell)
 
 -- one of the slots in the set may take the cell
 abbrev pub one_takes : List States → List ℕ → List Taken → List Slot → List ℕ → List Slot → ℕ → ℕ → Bool

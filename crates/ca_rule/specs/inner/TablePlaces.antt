@@ -3,7 +3,7 @@ use Rattle.std.specs.Prelude.{ℕ, Bool, true, false, ◌==◌, List, [], ◌∷
 use Rattle.ca_rule.specs.declared.table.neighbourhood.Neighbourhood.{Neighbourhood}
 use Rattle.ca_rule.specs.declared.table.slot.Slot.{Slot}
 use Rattle.ca_rule.specs.TableOrders.{ring}
-use Rattle.ca_rule.specs.TableNext.{States, Transition, Taken, admits, fits, given}
+use Rattle.ca_rule.specs.TableNext.{States, Transition, Taken, admits, fits, result_state}
 
 -- the places among nine cells of the cells that the slots take under an order, the centre's first
 abbrev pub places : Neighbourhood → List ℕ → List ℕ
@@ -17,7 +17,7 @@ taken_at nine t placement = zip t.inputs (map (slice_index nine) placement)
 abbrev pub outcome_at : List States → List ℕ → Transition → List (List ℕ) → Option ℕ
 outcome_at variables nine t [] = None
 outcome_at variables nine t (p ∷ ps) =
-    if fits variables (taken_at nine t p) then Some (given t.result (taken_at nine t p)) else outcome_at variables nine t ps
+    if fits variables (taken_at nine t p) then Some (result_state t.result (taken_at nine t p)) else outcome_at variables nine t ps
 
 -- what the first transition gives that fits at one of these placements; where none fits, the centre stays
 abbrev pub next_at : List States → List (List ℕ) → List ℕ → List Transition → ℕ

@@ -5,10 +5,10 @@ use Rattle.ca_rule.specs.declared.table.fault.TableFault.TheVariants as table_fa
 use Rattle.ca_rule.specs.declared.table.statement_fault.StatementFault.{StatementFault}
 use Rattle.ca_rule.specs.declared.table.statement_fault.StatementFault.TheVariants.{Syntax, State, Name, Unbound, Memory}
 use Rattle.ca_rule.specs.declared.table.statements.Statements.{Statements}
-use Rattle.ca_rule.specs.TableLines.{Line}
-use Rattle.ca_rule.specs.TableText.{Settings, Said, nothing, SaysVariable, SaysTransition, Say, is_end_of_section}
+use Rattle.ca_rule.specs.TableLines.{NumberedLine}
+use Rattle.ca_rule.specs.TableText.{Settings, SaidStatements, nothing, SaysVariable, SaysTransition, Say, is_end_of_section}
 use Rattle.ca_rule.specs.TableFaults.{IsMisspelled, HasBadState, HasUnknownName, HasUnbound, SaysMore}
-use Rattle.ca_rule.specs.inner.TableSaid.{IsKept}
+use Rattle.ca_rule.specs.inner.TableSaid.{KeepsStatements}
 
 -- the fault of the text, where its n-th line has this fault
 abbrev pub fault_at : ℕ → StatementFault → TableFault
@@ -19,7 +19,7 @@ fault_at n Unbound = table_fault.Unbound n
 fault_at n Memory = table_fault.Memory
 
 -- the line's fault; where memory ran out it has none
-abbrev pub IsFaultOfLine : Settings → Said → Line → StatementFault → Type 0
+abbrev pub IsFaultOfLine : Settings → SaidStatements → NumberedLine → StatementFault → Type 0
 IsFaultOfLine settings said line Syntax = IsMisspelled settings said line
 IsFaultOfLine settings said line State = HasBadState settings said line
 IsFaultOfLine settings said line Name = HasUnknownName settings said line
@@ -27,19 +27,19 @@ IsFaultOfLine settings said line Unbound = HasUnbound settings said line
 IsFaultOfLine settings said line Memory = SaysMore settings said line
 
 -- the line says this, after what was said, and it is kept
-abbrev pub IsKeptBehind : Settings → Said → Line → Statements → Type 0
-IsKeptBehind settings said line kept = (after : Said) × (SaysVariable settings said line after ⊎ SaysTransition settings said line after) × IsKept after kept
+abbrev pub IsKeptBehind : Settings → SaidStatements → NumberedLine → Statements → Type 0
+IsKeptBehind settings said line kept = (after : SaidStatements) × (SaysVariable settings said line after ⊎ SaysTransition settings said line after) × KeepsStatements after kept
 
 -- the first of the lines are statements, which say what is kept, and these are left
-pub record IsBehindSaid (settings : Settings) (all left : List Line) (kept : Statements) : Type 0 where
-  pub good : List Line
-  pub said : Said
+pub record IsBehindSaid (settings : Settings) (all left : List NumberedLine) (kept : Statements) : Type 0 where
+  pub good : List NumberedLine
+  pub said : SaidStatements
   pub whole : all ≡ good ++ left
   pub say : Say settings nothing good said
-  pub is_kept : IsKept said kept
+  pub is_kept : KeepsStatements said kept
 
 -- they are all statements of the section
-pub record AreAllSaid (settings : Settings) (all : List Line) (kept : Statements) : Type 0 where
-  pub later : List Line
+pub record AreAllSaid (settings : Settings) (all : List NumberedLine) (kept : Statements) : Type 0 where
+  pub later : List NumberedLine
   pub behind : IsBehindSaid settings all later kept
   pub ends : is_end_of_section later ≡ true

@@ -4,7 +4,7 @@ use Rattle.std.specs.Option.{option_or}
 use Rattle.std.specs.Borrow.{Bor}
 use Rattle.ca_rule.specs.declared.table.settings.SettingValues.{SettingValues}
 use Rattle.ca_rule.specs.declared.table.settings.TableSettings.{TableSettings}
-use Rattle.ca_rule.specs.TableLines.{Line, setting, value_of}
+use Rattle.ca_rule.specs.TableLines.{NumberedLine, setting, value_of}
 use Rattle.ca_rule.specs.TableText.{Settings, Mean, are_settings}
 
 -- the bytes, where there are some
@@ -12,13 +12,13 @@ abbrev pub bytes_of : Option (Bor (List ℕ)) → Option (List ℕ)
 bytes_of value = option_map (λ (b : Bor (List ℕ)). b.now) value
 
 -- these are the values that the lines give
-pub record AreValuesOf (lines : List Line) (values : SettingValues) : Type 0 where
+pub record AreValuesOf (lines : List NumberedLine) (values : SettingValues) : Type 0 where
   pub states_are : value_of (codes "n_states") lines ≡ bytes_of values.states
   pub neighbourhood_is : value_of (codes "neighborhood") lines ≡ bytes_of values.neighbourhood
   pub symmetry_is : value_of (codes "symmetries") lines ≡ bytes_of values.symmetry
 
 -- these are the values that one line gives
-pub record AreGivenBy (line : Line) (values : SettingValues) : Type 0 where
+pub record AreGivenBy (line : NumberedLine) (values : SettingValues) : Type 0 where
   pub states_are : setting (codes "n_states") line ≡ bytes_of values.states
   pub neighbourhood_is : setting (codes "neighborhood") line ≡ bytes_of values.neighbourhood
   pub symmetry_is : setting (codes "symmetries") line ≡ bytes_of values.symmetry
@@ -28,8 +28,8 @@ abbrev pub meaning_of : TableSettings → Settings
 meaning_of settings = record { states = settings.states; neighbourhood = settings.neighbourhood; symmetry = settings.symmetry }
 
 -- these lines follow settings of which none is set again, and which give these values
-pub record IsBehindSettings (all : List Line) (values : SettingValues) (lines : List Line) : Type 0 where
-  pub good : List Line
+pub record IsBehindSettings (all : List NumberedLine) (values : SettingValues) (lines : List NumberedLine) : Type 0 where
+  pub good : List NumberedLine
   pub once : are_settings [] good ≡ true
   pub values_are : AreValuesOf good values
   pub whole : all ≡ good ++ lines
@@ -43,15 +43,15 @@ abbrev pub have_one : SettingValues → SettingValues → Bool
 have_one v w = ((is_some v.states && is_some w.states) || (is_some v.neighbourhood && is_some w.neighbourhood)) || (is_some v.symmetry && is_some w.symmetry)
 
 -- these values, and for a setting that has none the other's
-abbrev pub joined : SettingValues → SettingValues → SettingValues
-joined v w = record {
+abbrev pub joined_settings : SettingValues → SettingValues → SettingValues
+joined_settings v w = record {
   states = option_or v.states w.states;
   neighbourhood = option_or v.neighbourhood w.neighbourhood;
   symmetry = option_or v.symmetry w.symmetry;
 }
 
 -- these lines follow settings that mean this
-pub record IsBehindMeant (all : List Line) (settings : Settings) (lines : List Line) : Type 0 where
-  pub good : List Line
+pub record IsBehindMeant (all : List NumberedLine) (settings : Settings) (lines : List NumberedLine) : Type 0 where
+  pub good : List NumberedLine
   pub mean : Mean good settings
   pub whole : all ≡ good ++ lines

@@ -24,12 +24,12 @@ abbrev pub TellsSlot : List States → List Transition → ℕ → ℕ → ℕ �
 TellsSlot variables ts slot state bits = TellsBefore variables ts slot state bits 64
 
 -- and for each state of a row of numbers
-abbrev pub IsRow : List States → List Transition → ℕ → List ℕ → Type 0
-IsRow variables ts slot row = (state : ℕ) → state < 256 → TellsSlot variables ts slot state (slice_index row state)
+abbrev pub IsSieveRow : List States → List Transition → ℕ → List ℕ → Type 0
+IsSieveRow variables ts slot row = (state : ℕ) → state < 256 → TellsSlot variables ts slot state (slice_index row state)
 
 -- and for each slot that has a row
 abbrev pub IsSieve : List States → List Transition → List (List ℕ) → Type 0
-IsSieve variables ts rows = (slot : ℕ) → slot < length rows → IsRow variables ts slot (get_or rows slot [])
+IsSieve variables ts rows = (slot : ℕ) → slot < length rows → IsSieveRow variables ts slot (get_or rows slot [])
 
 -- how many of the cells at these places the first of the slots admits
 abbrev pub takable : List States → List ℕ → List Slot → List ℕ → ℕ

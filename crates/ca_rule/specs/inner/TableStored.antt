@@ -7,7 +7,7 @@ use Rattle.ca_rule.specs.declared.table.slot.Slot.TheVariants.{Number, Variable}
 use Rattle.ca_plane.specs.Bytes.{IsWord}
 use Rattle.ca_rule.specs.declared.table.parts_fault.PartsFault.{PartsFault}
 use Rattle.ca_rule.specs.declared.table.parts_fault.PartsFault.TheVariants.{Wakes, Memory}
-use Rattle.ca_rule.specs.TableNext.{States, Transition, TableRule, table_next, IsSound}
+use Rattle.ca_rule.specs.TableNext.{States, Transition, TableRule, table_next, IsSoundTable}
 use Rattle.ca_rule.specs.TableFaults.{DoesWake}
 
 -- the table of these parts
@@ -27,9 +27,9 @@ is_below count (Number state) = nat_lt state count
 is_below count (Variable v) = true
 
 -- what holds of each table that is kept: its name is a word, and it is sound
-pub record IsKept (table : TableRule) : Type 0 where
+pub record IsStoredTable (table : TableRule) : Type 0 where
   pub named : IsWord table.name
-  pub sound : IsSound table
+  pub sound : IsSoundTable table
 
 -- why the parts of a table aren't kept: it wakes, or there is no memory for one that doesn't
 abbrev pub IsPartsFault : TableRule → PartsFault → Type 0

@@ -5,12 +5,12 @@ use Rattle.ca_rule.specs.declared.hood.Hood.{Hood}
 use Rattle.ca_rule.specs.declared.hood.Hood.TheVariants.{Moore, VonNeumann, Hex}
 
 -- the byte is this letter, which is given in upper case, of either case
-abbrev pub is_letter : ℕ → ℕ → Bool
-is_letter upper byte = (byte == upper) || (byte == upper + 32)
+abbrev pub is_rule_letter : ℕ → ℕ → Bool
+is_rule_letter upper byte = (byte == upper) || (byte == upper + 32)
 
 -- the neighbourhood that the byte means at the end of a text
 abbrev pub hood_at : ℕ → Hood
-hood_at byte = if is_letter 86 byte then VonNeumann else (if is_letter 72 byte then Hex else Moore)
+hood_at byte = if is_rule_letter 86 byte then VonNeumann else (if is_rule_letter 72 byte then Hex else Moore)
 
 -- the neighbourhood that the end of a text means
 abbrev pub hood_of : List ℕ → Hood
@@ -21,7 +21,7 @@ hood_of (b ∷ c ∷ bs) = hood_of (c ∷ bs)
 -- the text before its suffix
 abbrev pub body_of : List ℕ → List ℕ
 body_of [] = []
-body_of (b ∷ []) = if is_letter 86 b || is_letter 72 b then [] else b ∷ []
+body_of (b ∷ []) = if is_rule_letter 86 b || is_rule_letter 72 b then [] else b ∷ []
 body_of (b ∷ c ∷ bs) = b ∷ body_of (c ∷ bs)
 
 -- the bytes without a `/` at their start
@@ -32,7 +32,7 @@ without_slash (b ∷ bs) = if b == 47 then bs else b ∷ bs
 -- the bytes after the letter with which they begin
 abbrev pub behind_letter : ℕ → List ℕ → Option (List ℕ)
 behind_letter upper [] = None
-behind_letter upper (b ∷ bs) = if is_letter upper b then Some bs else None
+behind_letter upper (b ∷ bs) = if is_rule_letter upper b then Some bs else None
 
 -- the bytes after the `/` with which they begin
 abbrev pub behind_slash : List ℕ → Option (List ℕ)
@@ -61,5 +61,5 @@ lists_around_slash bytes = both (front is_digit bytes) (behind_slash (rest is_di
 abbrev pub lists_of : List ℕ → Option (List ℕ × List ℕ)
 lists_of [] = None
 lists_of (b ∷ bs) =
-    if is_letter 66 b then lists_around 83 bs
-    else (if is_letter 83 b then swapped (lists_around 66 bs) else swapped (lists_around_slash (b ∷ bs)))
+    if is_rule_letter 66 b then lists_around 83 bs
+    else (if is_rule_letter 83 b then swapped (lists_around 66 bs) else swapped (lists_around_slash (b ∷ bs)))

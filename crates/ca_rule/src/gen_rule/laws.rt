@@ -4,8 +4,8 @@
 ghost use Rattle.std.specs.Prelude.{◌≡◌, ◌↔◌, ◌<◌, ℕ, List, [], ◌∷◌, length, codes};
 ghost use Rattle.std.specs.List.{All};
 ghost use Rattle.ca_rule.specs.Counts.{counts_of};
-ghost use Rattle.ca_rule.specs.Generations.{next_of};
-ghost use Rattle.ca_rule.specs.GenerationsText.{Spells, Names, IsFaultOf, printed};
+ghost use Rattle.ca_rule.specs.Generations.{generations_next};
+ghost use Rattle.ca_rule.specs.GenerationsText.{SpellsGenerationsRule, NamesGenerationsRule, IsGenerationsRuleFault, printed_generations_rule};
 ghost use Rattle.ca_rule.specs.Next as bs;
 ghost use Rattle.ca_rule.specs.Spelling as bs_text;
 ghost use Rattle.ca_rule.specs.TableExamples.{generations_cell};
@@ -19,30 +19,30 @@ use crate::gen_rule::GenRule;
 
 /// A text names one rule at most.
 pub fn one_generations_rule()
-    ensures { (text : List ℕ) (r s : GenRule) → Names text r → Names text s
+    ensures { (text : List ℕ) (r s : GenRule) → NamesGenerationsRule text r → NamesGenerationsRule text s
         → (r.survival ≡ s.survival) × (r.birth ≡ s.birth) × (r.states ≡ s.states) }
 {}
 
 /// A text that names a rule has no fault, and another has one fault at most. A text that spells a rule spells
 /// none in B/S notation.
 pub fn generations_rule_or_fault()
-    ensures rule_alone { (text : List ℕ) (rule : GenRule) (fault : RuleFault) → Names text rule
-        → IsFaultOf text fault → ⊥ }
-    ensures one_fault { (text : List ℕ) (f g : RuleFault) → IsFaultOf text f → IsFaultOf text g → f ≡ g }
-    ensures one_notation { (text survival birth : List ℕ) (states : ℕ) → Spells text survival birth states
-        → bs_text.SpellsNone text }
+    ensures rule_alone { (text : List ℕ) (rule : GenRule) (fault : RuleFault) → NamesGenerationsRule text rule
+        → IsGenerationsRuleFault text fault → ⊥ }
+    ensures one_fault { (text : List ℕ) (f g : RuleFault) → IsGenerationsRuleFault text f → IsGenerationsRuleFault text g → f ≡ g }
+    ensures one_notation { (text survival birth : List ℕ) (states : ℕ) → SpellsGenerationsRule text survival birth states
+        → bs_text.SpellsNoBsRule text }
 {}
 
 /// Of two states, each cell is next what it is under the B/S rule of the same counts over all eight
 /// neighbours.
 pub fn two_states_do_as_bs()
     ensures { (survival birth : Counts) (nine : List ℕ) → length nine ≡ 9 → All (λ s. s < 2) nine
-        → next_of survival birth 2 nine ≡ bs.next_of Moore birth survival nine }
+        → generations_next survival birth 2 nine ≡ bs.bs_next Moore birth survival nine }
 {}
 
 /// The printed form of a rule names that rule.
 pub fn generations_names_itself(rule: &GenRule)
-    ensures { Names (printed rule.now.survival rule.now.birth rule.now.states) rule.now }
+    ensures { NamesGenerationsRule (printed_generations_rule rule.now.survival rule.now.birth rule.now.states) rule.now }
 {
     let _ = rule.survival.places();
     let _ = rule.birth.places();
@@ -50,8 +50,8 @@ pub fn generations_names_itself(rule: &GenRule)
 
 /// Two rules are printed alike exactly where they are equal.
 pub fn generations_alike(a: &GenRule, b: &GenRule)
-    ensures { (printed a.now.survival a.now.birth a.now.states
-        ≡ printed b.now.survival b.now.birth b.now.states)
+    ensures { (printed_generations_rule a.now.survival a.now.birth a.now.states
+        ≡ printed_generations_rule b.now.survival b.now.birth b.now.states)
         ↔ ((a.now.survival ≡ b.now.survival) × (a.now.birth ≡ b.now.birth) × (a.now.states ≡ b.now.states)) }
 {
     generations_names_itself(a);
@@ -63,8 +63,8 @@ pub fn generations_alike(a: &GenRule, b: &GenRule)
 pub fn generations_do_alike(a: &GenRule, b: &GenRule)
     ensures { ((a.now.states ≡ b.now.states)
         × ((nine : List ℕ) → length nine ≡ 9 → All (λ s. s < a.now.states) nine
-        → next_of a.now.survival a.now.birth a.now.states nine
-        ≡ next_of b.now.survival b.now.birth b.now.states nine))
+        → generations_next a.now.survival a.now.birth a.now.states nine
+        ≡ generations_next b.now.survival b.now.birth b.now.states nine))
         ↔ ((a.now.survival ≡ b.now.survival) × (a.now.birth ≡ b.now.birth) × (a.now.states ≡ b.now.states)) }
 {
     let _ = a.survival.places();
@@ -75,16 +75,16 @@ pub fn generations_do_alike(a: &GenRule, b: &GenRule)
 
 /// Some texts that name rules, and printed rules.
 pub fn worked_generations()
-    ensures brians_brain_is_spelled { Spells (codes "/2/3") [] (codes "2") 3 }
-    ensures star_wars_is_spelled { Spells (codes "345/2/4") (codes "345") (codes "2") 4 }
-    ensures digits_may_stand_in_any_order { Spells (codes "332/33/03") (codes "332") (codes "33") 3 }
-    ensures slashes_may_stand_alone { Spells (codes "//256") [] [] 256 }
+    ensures brians_brain_is_spelled { SpellsGenerationsRule (codes "/2/3") [] (codes "2") 3 }
+    ensures star_wars_is_spelled { SpellsGenerationsRule (codes "345/2/4") (codes "345") (codes "2") 4 }
+    ensures digits_may_stand_in_any_order { SpellsGenerationsRule (codes "332/33/03") (codes "332") (codes "33") 3 }
+    ensures slashes_may_stand_alone { SpellsGenerationsRule (codes "//256") [] [] 256 }
     ensures brians_brain_is_named { (rule : GenRule) → rule.survival ≡ counts_of []
-        → rule.birth ≡ counts_of (codes "2") → rule.states ≡ 3 → Names (codes "/2/3") rule }
-    ensures brians_brain_is_printed { printed (counts_of []) (counts_of (codes "2")) 3 ≡ codes "/2/3" }
-    ensures star_wars_is_printed { printed (counts_of (codes "534")) (counts_of (codes "22")) 4
+        → rule.birth ≡ counts_of (codes "2") → rule.states ≡ 3 → NamesGenerationsRule (codes "/2/3") rule }
+    ensures brians_brain_is_printed { printed_generations_rule (counts_of []) (counts_of (codes "2")) 3 ≡ codes "/2/3" }
+    ensures star_wars_is_printed { printed_generations_rule (counts_of (codes "534")) (counts_of (codes "22")) 4
         ≡ codes "345/2/4" }
-    ensures most_states_are_printed { printed (counts_of (codes "23")) (counts_of (codes "3")) 256
+    ensures most_states_are_printed { printed_generations_rule (counts_of (codes "23")) (counts_of (codes "3")) 256
         ≡ codes "23/3/256" }
 {}
 
@@ -92,9 +92,9 @@ pub fn worked_generations()
 /// few or too many states, or no number of states; some have a count above 8, with birth on 0 or without; and
 /// some have a letter, a blank, or other slashes.
 pub fn worked_generations_faults()
-    ensures wakes { IsFaultOf (codes "2/0/3") Wakes }
-    ensures bounded { IsFaultOf (codes "/2/3:T30,20") Bounded }
-    ensures unknown { All (λ text. IsFaultOf text Unknown) (
+    ensures wakes { IsGenerationsRuleFault (codes "2/0/3") Wakes }
+    ensures bounded { IsGenerationsRuleFault (codes "/2/3:T30,20") Bounded }
+    ensures unknown { All (λ text. IsGenerationsRuleFault text Unknown) (
         codes "2/3/1" ∷ codes "2/3/257" ∷ codes "2/3/4294967298" ∷ codes "2/3/" ∷ codes "9/3/3"
         ∷ codes "9/0/3" ∷ codes "S2/B3/3" ∷ codes "2/3/ 3" ∷ codes "2/3/3/" ∷ codes "23/3" ∷ []) }
 {}

@@ -27,12 +27,12 @@ struct Begun<'t> {
 impl Begun<'_> {
     ghost use Rattle.std.specs.Prelude.{◌≡◌, ◌≤◌, length, map, zip, slice_index};
     ghost use Rattle.std.specs.List.{count_by};
-    ghost use Rattle.ca_rule.specs.inner.TableCrowd.{has_room, may_take, one_takes, are_crowded};
+    ghost use Rattle.ca_rule.specs.inner.TableCrowd.{has_slot_room, may_take, one_takes, are_crowded};
 
     /// Whether as many of the free cells are like the cell as slots left are like the slot, where that is a
     /// variable.
     fn has_room(&self, slot: Slot, cell: u8) -> bool
-        ensures { result ≡ has_room self.now.nine.now self.now.left.now self.now.free.now slot cell }
+        ensures { result ≡ has_slot_room self.now.nine.now self.now.left.now self.now.free.now slot cell }
     {
         match slot {
             Slot::Number(_) => true,

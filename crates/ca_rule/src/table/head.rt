@@ -5,8 +5,8 @@ ghost use Rattle.std.specs.List.{list_any};
 ghost use Rattle.ca_plane.specs.Bytes.{IsWord};
 ghost use Rattle.ca_rule.specs.TableLines.{lines_said, begins_table};
 ghost use Rattle.ca_rule.specs.TableText.{HasTable};
-ghost use Rattle.ca_rule.specs.TableFaults.{IsFaultOf};
-ghost use Rattle.ca_rule.specs.inner.TableReading.{text_of, left_of, IsNamed, IsBehindTable};
+ghost use Rattle.ca_rule.specs.TableFaults.{IsTableTextFault};
+ghost use Rattle.ca_rule.specs.inner.TableReading.{said_text, left_of, HasRuleName, IsBehindTable};
 
 use crate::table::fault::TableFault;
 use crate::table::lines::{begins_table, rule_name};
@@ -14,11 +14,11 @@ use crate::table::said_lines::SaidLines;
 
 /// The name that the text's first line gives, and the lines after that.
 fn name_of<'a>(lines: &SaidLines<'a>) -> Result<(&'a [u8], SaidLines<'a>), TableFault>
-    requires { left_of lines.now ≡ lines_said (text_of lines.now) }
-    ensures named { IfOk result (λ r. IsNamed (text_of lines.now) r.0.now (left_of r.1)) }
+    requires { left_of lines.now ≡ lines_said (said_text lines.now) }
+    ensures named { IfOk result (λ r. HasRuleName (said_text lines.now) r.0.now (left_of r.1)) }
     ensures word { IfOk result (λ r. IsWord r.0.now) }
-    ensures text { IfOk result (λ r. text_of r.1 ≡ text_of lines.now) }
-    ensures fault { IfErr result (λ f. IsFaultOf (text_of lines.now) f) }
+    ensures text { IfOk result (λ r. said_text r.1 ≡ said_text lines.now) }
+    ensures fault { IfErr result (λ f. IsTableTextFault (said_text lines.now) f) }
 {
     let Some((line, later)) = lines.next() else {
         let line = lines.number();
@@ -34,7 +34,7 @@ fn name_of<'a>(lines: &SaidLines<'a>) -> Result<(&'a [u8], SaidLines<'a>), Table
 fn behind_table<'a>(lines: &SaidLines<'a>) -> Option<SaidLines<'a>>
     ensures found { MatchOption result (list_any begins_table (left_of lines.now) ≡ false)
         (λ r. IsBehindTable (left_of lines.now) (left_of r)) }
-    ensures text { IfSome result (λ r. text_of r ≡ text_of lines.now) }
+    ensures text { IfSome result (λ r. said_text r ≡ said_text lines.now) }
 {
     let mut left = *lines;
     'lines: while let Some((line, later)) = left.next() {
@@ -50,8 +50,8 @@ fn behind_table<'a>(lines: &SaidLines<'a>) -> Option<SaidLines<'a>>
 pub(crate) fn table_lines(text: &[u8]) -> Result<(&[u8], SaidLines<'_>), TableFault>
     ensures found { IfOk result (λ r. HasTable text.now r.0.now (left_of r.1)) }
     ensures word { IfOk result (λ r. IsWord r.0.now) }
-    ensures text { IfOk result (λ r. text_of r.1 ≡ text.now) }
-    ensures fault { IfErr result (λ f. IsFaultOf text.now f) }
+    ensures text { IfOk result (λ r. said_text r.1 ≡ text.now) }
+    ensures fault { IfErr result (λ f. IsTableTextFault text.now f) }
 {
     let lines = SaidLines::of_text(text);
     let (name, behind) = name_of(&lines)?;

@@ -6,7 +6,7 @@ ghost use Rattle.ca_rule.specs.TableOrders.{orders};
 ghost use Rattle.ca_rule.specs.TableLines.{lines_said, setting, is_setting, begins_variable, is_name};
 ghost use Rattle.ca_rule.specs.TableLines.{fields_of, IsVariableLine};
 ghost use Rattle.ca_rule.specs.TableText.{IsTable};
-ghost use Rattle.ca_rule.specs.TableFaults.{IsFaultOf};
+ghost use Rattle.ca_rule.specs.TableFaults.{IsTableTextFault};
 ghost use Rattle.ca_rule.specs.declared.table.fault.TableFault.TheVariants.{NoRuleLine, NoTable, States};
 ghost use Rattle.ca_rule.specs.declared.table.fault.TableFault.TheVariants.{Neighborhood, Symmetries};
 ghost use Rattle.ca_rule.specs.TableNext.{TableRule};
@@ -133,20 +133,20 @@ pub fn worked_texts()
         × (table.transitions ≡ one_neighbour ∷ []) }
     ensures table_is_read_without_commas { (table : TableRule) × IsTable (file_of (codes "0a000a")) table
         × (table.transitions ≡ one_neighbour ∷ []) }
-    ensures rule_line_is_missing { IsFaultOf
+    ensures rule_line_is_missing { IsTableTextFault
         (text_of (codes "# a" ∷ codes "@RUL Spread" ∷ codes "@TABLE" ∷ [])) (NoRuleLine 2) }
-    ensures rule_line_wants_a_name { IsFaultOf (text_of (codes "@RULE" ∷ codes "@TABLE" ∷ []))
+    ensures rule_line_wants_a_name { IsTableTextFault (text_of (codes "@RULE" ∷ codes "@TABLE" ∷ []))
         (NoRuleLine 1) }
-    ensures empty_text_has_no_rule_line { IsFaultOf [] (NoRuleLine 1) }
-    ensures table_is_missing { IsFaultOf
+    ensures empty_text_has_no_rule_line { IsTableTextFault [] (NoRuleLine 1) }
+    ensures table_is_missing { IsTableTextFault
         (text_of (codes "@RULE Spread" ∷ codes "@TABLES" ∷ codes "n_states:3" ∷ [])) (NoTable 3) }
-    ensures one_state_is_too_few { IsFaultOf
+    ensures one_state_is_too_few { IsTableTextFault
         (file_with (codes "n_states:1") (codes "neighborhood:vonNeumann") (codes "symmetries:rotate4")
         (codes "0a000a")) (States 6) }
-    ensures neighbourhood_is_unknown { IsFaultOf
+    ensures neighbourhood_is_unknown { IsTableTextFault
         (file_with (codes "n_states:3") (codes "neighborhood:Margolus") (codes "symmetries:rotate4")
         (codes "0a000a")) (Neighborhood 6) }
-    ensures symmetry_is_unknown { IsFaultOf
+    ensures symmetry_is_unknown { IsTableTextFault
         (file_with (codes "n_states:3") (codes "neighborhood:vonNeumann") (codes "symmetries:rotate8")
         (codes "0a000a")) (Symmetries 6) }
 {}

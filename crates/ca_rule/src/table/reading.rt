@@ -1,9 +1,9 @@
 //! How the statements of a rule table are read.
 
 ghost use Rattle.std.specs.Prelude.{◌≡◌, ◌≤◌, ◌++◌, ℕ, List, true, IfOk, IfErr};
-ghost use Rattle.ca_rule.specs.TableLines.{Line};
+ghost use Rattle.ca_rule.specs.TableLines.{NumberedLine};
 ghost use Rattle.ca_rule.specs.TableText.{HasTable, Mean};
-ghost use Rattle.ca_rule.specs.TableFaults.{is_behind_settings, IsFaultOf};
+ghost use Rattle.ca_rule.specs.TableFaults.{is_behind_settings, IsTableTextFault};
 ghost use Rattle.ca_rule.specs.inner.TableReading.{left_of};
 ghost use Rattle.ca_rule.specs.inner.TableSettings.{meaning_of};
 ghost use Rattle.ca_rule.specs.inner.TableSaying.{AreAllSaid};
@@ -23,9 +23,9 @@ pub(crate) fn read_statements<'a>(
 ) -> Result<Statements<'a>, TableFault>
     requires low { settings.now.states ≤ 256 }
     ensures found { IfOk result (AreAllSaid (meaning_of settings.now) (left_of lines.now)) }
-    ensures fault { IfErr result (λ f. (bytes name : List ℕ) (head : List Line)
+    ensures fault { IfErr result (λ f. (bytes name : List ℕ) (head : List NumberedLine)
         → HasTable bytes name (head ++ left_of lines.now) → Mean head (meaning_of settings.now)
-        → is_behind_settings (left_of lines.now) ≡ true → IsFaultOf bytes f) }
+        → is_behind_settings (left_of lines.now) ≡ true → IsTableTextFault bytes f) }
 {
     let mut statements = Statements::new(alloc);
     let mut left = *lines;

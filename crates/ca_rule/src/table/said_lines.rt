@@ -30,11 +30,11 @@ pub(crate) struct SaidLines<'a> {
 }
 
 impl<'a> SaidLines<'a> {
-    ghost use Rattle.ca_rule.specs.inner.TableReading.{text_of, left_of, line_of};
+    ghost use Rattle.ca_rule.specs.inner.TableReading.{said_text, left_of, said_line};
 
     /// All lines of the text.
     pub(crate) fn of_text(text: &'a [u8]) -> SaidLines<'a>
-        ensures text { text_of result ≡ text.now }
+        ensures text { said_text result ≡ text.now }
         ensures lines { left_of result ≡ lines_said text.now }
     {
         SaidLines {
@@ -47,8 +47,8 @@ impl<'a> SaidLines<'a> {
     /// The first line that says something, and the lines after it.
     pub(crate) fn next(&self) -> Option<(SaidLine<'a>, SaidLines<'a>)>
         ensures lines { MatchOption result (left_of self.now ≡ [])
-            (λ r. left_of self.now ≡ line_of r.0 ∷ left_of r.1) }
-        ensures text { IfSome result (λ r. text_of r.1 ≡ text_of self.now) }
+            (λ r. left_of self.now ≡ said_line r.0 ∷ left_of r.1) }
+        ensures text { IfSome result (λ r. said_text r.1 ≡ said_text self.now) }
         ensures shorter { IfSome result (λ r. length r.1.left.now < length self.now.left.now) }
     {
         let mut read = self.read;
@@ -77,7 +77,7 @@ impl<'a> SaidLines<'a> {
     /// The number of the first line that is left and says something, or of the text's last line where there
     /// is none.
     pub(crate) fn number(&self) -> u64
-        ensures { result ≡ number_at (text_of self.now) (left_of self.now) }
+        ensures { result ≡ number_at (said_text self.now) (left_of self.now) }
     {
         match self.next() {
             Some((line, _)) => line.number,
@@ -87,7 +87,7 @@ impl<'a> SaidLines<'a> {
 
     /// The number of the text's last line.
     pub(crate) fn last_line(&self) -> u64
-        ensures { result ≡ last_line (text_of self.now) }
+        ensures { result ≡ last_line (said_text self.now) }
     {
         last_line(self.text)
     }

@@ -1,14 +1,14 @@
 //! The settings of a rule table.
 
 ghost use Rattle.std.specs.Prelude.{◌≡◌, ◌&&◌, ℕ, [], List, true, is_some, option_and_then, IfOk, IfErr};
-ghost use Rattle.ca_rule.specs.inner.TableReading.{text_of, left_of};
+ghost use Rattle.ca_rule.specs.inner.TableReading.{said_text, left_of};
 ghost use Rattle.ca_rule.specs.inner.TableSettings.{IsBehindSettings, IsBehindMeant, meaning_of};
 ghost use Rattle.ca_rule.specs.Digits.{state_count};
-ghost use Rattle.ca_rule.specs.TableLines.{Line, neighbourhood_name, neighbourhood_named, symmetry_name};
+ghost use Rattle.ca_rule.specs.TableLines.{NumberedLine, neighbourhood_name, neighbourhood_named, symmetry_name};
 ghost use Rattle.ca_rule.specs.TableLines.{symmetry_named};
 ghost use Rattle.ca_rule.specs.TableOrders.{symmetries_of};
 ghost use Rattle.ca_rule.specs.TableText.{HasTable, Mean, are_settings};
-ghost use Rattle.ca_rule.specs.TableFaults.{is_behind_settings, HaveEnd, IsFaultOf};
+ghost use Rattle.ca_rule.specs.TableFaults.{is_behind_settings, HaveEnd, IsTableTextFault};
 
 use crate::digits::state_count;
 use crate::table::fault::TableFault;
@@ -35,7 +35,7 @@ pub(crate) struct TableSettings {
 
 impl<'a> SettingValues<'a> {
     ghost use Rattle.ca_rule.specs.inner.TableSettings.{bytes_of, meaning_of, AreValuesOf, AreGivenBy};
-    ghost use Rattle.ca_rule.specs.inner.TableSettings.{has_some, have_one, joined};
+    ghost use Rattle.ca_rule.specs.inner.TableSettings.{has_some, have_one, joined_settings};
 
     /// Before the first line.
     fn none() -> SettingValues<'a>
@@ -77,7 +77,7 @@ impl<'a> SettingValues<'a> {
 
     /// These values, and for a setting that has none the other's.
     fn with(&self, other: &SettingValues<'a>) -> SettingValues<'a>
-        ensures { result ≡ joined self.now other.now }
+        ensures { result ≡ joined_settings self.now other.now }
     {
         SettingValues {
             states: self.states.or(other.states),
@@ -109,10 +109,10 @@ impl<'a> SettingValues<'a> {
 
     /// What the values mean, where the settings end at the line with this number.
     fn meaning(&self, line: u64) -> Result<TableSettings, TableFault>
-        ensures mean { IfOk result (λ s. (good : List Line) → AreValuesOf good self.now
+        ensures mean { IfOk result (λ s. (good : List NumberedLine) → AreValuesOf good self.now
             → are_settings [] good ≡ true → Mean good (meaning_of s)) }
-        ensures fault { IfErr result (λ f. (bytes : List ℕ) (good : List Line) → AreValuesOf good self.now
-            → HaveEnd bytes line good → IsFaultOf bytes f) }
+        ensures fault { IfErr result (λ f. (bytes : List ℕ) (good : List NumberedLine) → AreValuesOf good self.now
+            → HaveEnd bytes line good → IsTableTextFault bytes f) }
     {
         let Some(states) = self.states() else {
             return Err(TableFault::States { line });
@@ -144,12 +144,12 @@ fn read_values<'a>(
     values: SettingValues<'a>,
     lines: SaidLines<'a>,
 ) -> Result<(SettingValues<'a>, SaidLines<'a>), TableFault>
-    ensures read { IfOk result (λ r. (all : List Line)
+    ensures read { IfOk result (λ r. (all : List NumberedLine)
         → IsBehindSettings all values.entry (left_of lines.entry) → IsBehindSettings all r.0 (left_of r.1)) }
     ensures ends { IfOk result (λ r. is_behind_settings (left_of r.1) ≡ true) }
-    ensures text { IfOk result (λ r. text_of r.1 ≡ text_of lines.entry) }
-    ensures fault { IfErr result (λ f. (bytes name : List ℕ) (all : List Line) → HasTable bytes name all
-        → IsBehindSettings all values.entry (left_of lines.entry) → IsFaultOf bytes f) }
+    ensures text { IfOk result (λ r. said_text r.1 ≡ said_text lines.entry) }
+    ensures fault { IfErr result (λ f. (bytes name : List ℕ) (all : List NumberedLine) → HasTable bytes name all
+        → IsBehindSettings all values.entry (left_of lines.entry) → IsTableTextFault bytes f) }
 {
     let Some((line, later)) = lines.next() else {
         return Ok((values, lines));
@@ -272,9 +272,9 @@ pub(crate) fn read_settings<'a>(
 ) -> Result<(TableSettings, SaidLines<'a>), TableFault>
     ensures found { IfOk result (λ r. IsBehindMeant (left_of lines.now) (meaning_of r.0) (left_of r.1)) }
     ensures ends { IfOk result (λ r. is_behind_settings (left_of r.1) ≡ true) }
-    ensures text { IfOk result (λ r. text_of r.1 ≡ text_of lines.now) }
-    ensures fault { IfErr result (λ f. (name : List ℕ) → HasTable (text_of lines.now) name (left_of lines.now)
-        → IsFaultOf (text_of lines.now) f) }
+    ensures text { IfOk result (λ r. said_text r.1 ≡ said_text lines.now) }
+    ensures fault { IfErr result (λ f. (name : List ℕ) → HasTable (said_text lines.now) name (left_of lines.now)
+        → IsTableTextFault (said_text lines.now) f) }
 {
     let (values, behind) = read_values(SettingValues::none(), *lines)?;
     let settings = values.meaning(behind.number())?;

@@ -5,7 +5,7 @@ ghost use Rattle.std.specs.List.{list_all};
 ghost use Rattle.std.specs.Int.{bit_at};
 ghost use Rattle.ca_rule.specs.TableNext.{States, Taken, Transition as TransitionValue, admits};
 ghost use Rattle.ca_rule.specs.inner.TablePlaces.{slots_admit};
-ghost use Rattle.ca_rule.specs.inner.TableSieve.{IsRow, TellsSlot};
+ghost use Rattle.ca_rule.specs.inner.TableSieve.{IsSieveRow, TellsSlot};
 
 use crate::table::choice::{Choice, cell_at};
 use crate::table::placement::{Orders, as_it_stands};
@@ -161,7 +161,7 @@ fn row_of(
     slot: usize,
 ) -> [u64; 256]
     requires { states ≤ 256 }
-    ensures { IsRow variables.now transitions.now slot result }
+    ensures { IsSieveRow variables.now transitions.now slot result }
 {
     let mut row = [u64::MAX; 256];
     'states: for state in 0..states {

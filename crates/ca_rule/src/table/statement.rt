@@ -3,7 +3,7 @@
 ghost use Rattle.std.specs.Prelude.{◌≡◌, ◌≤◌, ◌+◌, ℕ, List, MatchOption};
 ghost use Rattle.ca_rule.specs.TableLines.{IsTransitionLine};
 ghost use Rattle.ca_rule.specs.TableOrders.{ring_size};
-ghost use Rattle.ca_rule.specs.TableText.{Settings, Said, field_count};
+ghost use Rattle.ca_rule.specs.TableText.{Settings, SaidStatements, field_count};
 ghost use Rattle.ca_rule.specs.TableFaults.{IsMisspelled};
 ghost use Rattle.ca_rule.specs.inner.TableFields.{fields_left};
 ghost use Rattle.ca_rule.specs.inner.TableStatements.{IsStatement};
@@ -56,7 +56,7 @@ fn transition_fields(content: &[u8], slots: usize) -> Option<FieldsLeft<'_>>
 
 /// What the line states, by its spelling, in a table whose transitions have this many slots.
 pub(crate) fn read_statement(content: &[u8], slots: usize) -> Option<Statement<'_>>
-    ensures { (n : ℕ) (settings : Settings) (said : Said) → slots ≡ field_count settings
+    ensures { (n : ℕ) (settings : Settings) (said : SaidStatements) → slots ≡ field_count settings
         → MatchOption result (IsMisspelled settings said (n, content.now))
         (IsStatement (n, content.now) slots) }
 {

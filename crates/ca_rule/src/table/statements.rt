@@ -5,7 +5,7 @@ ghost use Rattle.std.specs.List.{list_all, list_any, AllZip};
 ghost use Rattle.ca_rule.specs.declared.table.slot.Slot.{Slot as SlotValue};
 ghost use Rattle.ca_rule.specs.TableLines.{is_field, fields_between};
 ghost use Rattle.ca_rule.specs.TableNext.{is_variable};
-ghost use Rattle.ca_rule.specs.TableText.{Settings, Said, StandsFor, is_bound};
+ghost use Rattle.ca_rule.specs.TableText.{Settings, SaidStatements, StandsFor, is_bound};
 ghost use Rattle.ca_rule.specs.inner.TableFields.{fields_left, AreTransitionFields};
 ghost use Rattle.ca_rule.specs.inner.TableNames.{number_in, IsFaultAmong, IsFaultOfTransition};
 ghost use Rattle.ca_rule.specs.inner.TableSettings.{meaning_of};
@@ -31,12 +31,12 @@ pub(crate) struct Statements<'a> {
 
 impl<'a> Statements<'a> {
     ghost use Rattle.ca_rule.specs.TableText.{nothing};
-    ghost use Rattle.ca_rule.specs.inner.TableSaid.{IsKept, with_variable, with_transition};
+    ghost use Rattle.ca_rule.specs.inner.TableSaid.{KeepsStatements, with_variable, with_transition};
     ghost use Rattle.ca_rule.specs.inner.TableSaying.{IsKeptBehind, IsFaultOfLine};
 
     /// Before the first statement.
     pub(crate) fn new(alloc: Global) -> Statements<'a>
-        ensures { IsKept nothing result }
+        ensures { KeepsStatements nothing result }
     {
         Statements {
             names: Names::new(alloc),
@@ -54,11 +54,11 @@ impl<'a> Statements<'a> {
     ) -> Result<(), StatementFault>
         requires low { states ≤ 256 }
         requires fields { list_all is_field (fields_between line.now.inside.now) ≡ true }
-        ensures said { OnOk result ((settings : Settings) (said : Said) → settings.states ≡ states
-            → IsKept said self.old
+        ensures said { OnOk result ((settings : Settings) (said : SaidStatements) → settings.states ≡ states
+            → KeepsStatements said self.old
             → (slots : List SlotValue)
             × AllZip (StandsFor settings said) (fields_between line.now.inside.now) slots
-            × IsKept (with_variable settings said line.now.name.now slots) self.new) }
+            × KeepsStatements (with_variable settings said line.now.name.now slots) self.new) }
         ensures fault { IfErr result
             (IsFaultAmong states (number_in self.old.names) (fields_between line.now.inside.now)) }
     {
@@ -84,11 +84,11 @@ impl<'a> Statements<'a> {
     ) -> Result<(), StatementFault>
         requires low { states ≤ 256 }
         requires fields { AreTransitionFields (fields_left fields.now) }
-        ensures said { OnOk result ((settings : Settings) (said : Said) → settings.states ≡ states
-            → IsKept said self.old
+        ensures said { OnOk result ((settings : Settings) (said : SaidStatements) → settings.states ≡ states
+            → KeepsStatements said self.old
             → (inputs : List SlotValue) × (becomes : SlotValue)
             × AllZip (StandsFor settings said) (fields_left fields.now) (inputs ++ becomes ∷ [])
-            × (is_bound becomes inputs ≡ true) × IsKept (with_transition said inputs becomes) self.new) }
+            × (is_bound becomes inputs ≡ true) × KeepsStatements (with_transition said inputs becomes) self.new) }
         ensures fault { IfErr result
             (IsFaultOfTransition states (number_in self.old.names) (fields_left fields.now)) }
     {
@@ -118,9 +118,9 @@ impl<'a> Statements<'a> {
         content: &'a [u8],
     ) -> Result<(), StatementFault>
         requires low { settings.now.states ≤ 256 }
-        ensures said { OnOk result ((n : ℕ) (said : Said) → IsKept said self.old
+        ensures said { OnOk result ((n : ℕ) (said : SaidStatements) → KeepsStatements said self.old
             → IsKeptBehind (meaning_of settings.now) said (n, content.now) self.new) }
-        ensures fault { IfErr result (λ f. (n : ℕ) (said : Said) → IsKept said self.old
+        ensures fault { IfErr result (λ f. (n : ℕ) (said : SaidStatements) → KeepsStatements said self.old
             → IsFaultOfLine (meaning_of settings.now) said (n, content.now) f) }
     {
         let count = field_count(settings.neighbourhood);

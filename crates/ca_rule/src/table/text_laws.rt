@@ -5,7 +5,7 @@ ghost use Rattle.std.specs.Prelude.{◌≡◌, ◌≢◌, ◌⊎◌, ℕ, List, 
 ghost use Rattle.ca_rule.specs.TableNext.{TableRule, table_next};
 ghost use Rattle.ca_rule.specs.TableLines.{last_line};
 ghost use Rattle.ca_rule.specs.TableText.{IsTable};
-ghost use Rattle.ca_rule.specs.TableFaults.{DoesWake, IsFaultOf};
+ghost use Rattle.ca_rule.specs.TableFaults.{DoesWake, IsTableTextFault};
 ghost use Rattle.ca_rule.specs.declared.table.fault.TableFault.{TableFault};
 ghost use Rattle.ca_rule.specs.declared.table.fault.TableFault.TheVariants.{Wakes, Memory};
 
@@ -19,11 +19,11 @@ pub fn one_table()
 /// nothing about a text.
 pub fn table_or_fault()
     ensures none_of_a_table { (bytes : List ℕ) (t : TableRule) (f : TableFault) → IsTable bytes t
-        → IsFaultOf bytes f
+        → IsTableTextFault bytes f
         → (f ≡ Memory) ⊎ ((f ≡ Wakes (last_line bytes)) × DoesWake t) }
-    ensures one_fault { (bytes : List ℕ) (f g : TableFault) → f ≢ Memory → g ≢ Memory → IsFaultOf bytes f
-        → IsFaultOf bytes g → f ≡ g }
+    ensures one_fault { (bytes : List ℕ) (f g : TableFault) → f ≢ Memory → g ≢ Memory → IsTableTextFault bytes f
+        → IsTableTextFault bytes g → f ≡ g }
     ensures one_or_the_other { (bytes : List ℕ)
         → ((t : TableRule) × IsTable bytes t × (table_next t (replicate 9 0) ≡ 0))
-        ⊎ ((f : TableFault) × (f ≢ Memory) × IsFaultOf bytes f) }
+        ⊎ ((f : TableFault) × (f ≢ Memory) × IsTableTextFault bytes f) }
 {}

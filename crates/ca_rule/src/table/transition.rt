@@ -4,7 +4,7 @@ ghost use Rattle.std.specs.Prelude.{◌≡◌, ◌==◌, ◌||◌, ◌%◌, ℕ,
 ghost use Rattle.std.specs.Int.{bit_at};
 ghost use Rattle.std.specs.List.{list_all, list_any};
 ghost use Rattle.ca_rule.specs.inner.TableDistinct.{are_distinct};
-ghost use Rattle.ca_rule.specs.TableNext.{Taken, is_variable, admits, take_one_cell, cell_of, fits, given};
+ghost use Rattle.ca_rule.specs.TableNext.{Taken, is_variable, admits, take_one_cell, taken_cell, fits, result_state};
 
 use crate::table::choice::{Choice, cell_at};
 use crate::table::crowd::has_crowd;
@@ -223,7 +223,7 @@ pub(crate) fn takes_one_cell(
 
 /// The cell that the variable takes.
 fn cell_of(number: usize, slots: &[Slot], places: &[u8], nine: &Nine) -> u8
-    ensures { result ≡ cell_of number (zip slots.now (map (slice_index nine.now) places.now)) }
+    ensures { result ≡ taken_cell number (zip slots.now (map (slice_index nine.now) places.now)) }
 {
     let mut slots_left = slots;
     let mut places_left = places;
@@ -316,7 +316,7 @@ fn each_takes_one_cell(slots: &[Slot], places: &[u8], nine: &Nine) -> bool
 
 /// The state that a result gives: its number, or the cell of its variable.
 fn given(becomes: Slot, slots: &[Slot], places: &[u8], nine: &Nine) -> u8
-    ensures { let all = zip slots.now (map (slice_index nine.now) places.now) in result ≡ given becomes all }
+    ensures { let all = zip slots.now (map (slice_index nine.now) places.now) in result ≡ result_state becomes all }
 {
     match becomes {
         Slot::Number(state) => state,

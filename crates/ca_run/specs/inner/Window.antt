@@ -14,7 +14,7 @@ nine_states w =
     ∷ w.south.west ∷ w.south.centre ∷ w.south.east ∷ []
 
 -- the window shows p round its place, and what comes after
-pub record Shows (p : Picture) (w : Window) : Type 0 where
+pub record ShowsWindow (p : Picture) (w : Window) : Type 0 where
   pub north : ShowsRow p w.north w.place.x (w.place.y -ℤ pos 1)
   pub middle : ShowsRow p w.middle w.place.x w.place.y
   pub south : ShowsRow p w.south w.place.x (w.place.y +ℤ pos 1)

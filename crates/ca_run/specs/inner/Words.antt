@@ -53,8 +53,8 @@ abbrev pub byte_of : ℕ → ℕ → ℕ
 byte_of word place = word / 2 ^ (8 * place) % 256
 
 -- the bytes of two words, the lowest first
-abbrev pub bytes_at : ℕ → ℕ → ℕ → ℕ
-bytes_at north south place = if nat_lt place 8 then byte_of north place else byte_of south (place - 8)
+abbrev pub word_bytes_at : ℕ → ℕ → ℕ → ℕ
+word_bytes_at north south place = if nat_lt place 8 then byte_of north place else byte_of south (place - 8)
 
 -- the eight cells in the middle of a tile's row
 abbrev pub inner_byte : List ℕ → ℕ → ℕ

@@ -1,10 +1,10 @@
 //! Trees after n generations.
 
 ghost use Rattle.std.specs.Prelude.{◌≡◌, ◌+◌, ◌≤◌, ◌^◌, max, Ok, IfOk};
-ghost use Rattle.ca_quad.specs.Sound.{IsSound};
+ghost use Rattle.ca_quad.specs.Sound.{IsSoundStore};
 ghost use Rattle.ca_quad.specs.Trees.{IsTree};
 ghost use Rattle.ca_run.specs.Advanced.{CanAdvance, IsAdvanced, Advances};
-ghost use Rattle.ca_run.specs.Leaping.{GoesOn};
+ghost use Rattle.ca_run.specs.Leaping.{LeaperGrows};
 ghost use Rattle.ca_run.specs.inner.Padded.{IsPadded};
 
 use super::{Leaper, Milestone};
@@ -70,7 +70,7 @@ impl<A: Automaton> Leaper<A> {
         ensures advanced { IfOk result
             (IsAdvanced (A.next_of self.old.rule) self.old.nodes tree (2 ^ j) self.new.nodes) }
         ensures level { IfOk result (λ t. t.level ≡ max tree.level (j + 1) + 1) }
-        ensures goes_on { GoesOn A self.old self.new }
+        ensures goes_on { LeaperGrows A self.old self.new }
     {
         // So all that is live 2^j generations on lies in the centre.
         let grain = self.store.level(tree.root).max(j + 1);
@@ -88,8 +88,8 @@ impl<A: Automaton> Leaper<A> {
         requires more { tree.level ≤ level }
         requires most { level ≤ 125 }
         ensures padded { IfOk result (IsPadded self.old.nodes tree level self.new.nodes) }
-        ensures goes_on { GoesOn A self.old self.new }
-        ensures sound { IsSound self.old.nodes }
+        ensures goes_on { LeaperGrows A self.old self.new }
+        ensures sound { IsSoundStore self.old.nodes }
     {
         let _ = &self.store;
         if tree.level == level {
@@ -104,7 +104,7 @@ impl<A: Automaton> Leaper<A> {
         requires tree { IsTree self.old.nodes tree }
         requires low { tree.level ≤ 124 }
         ensures padded { IfOk result (IsPadded self.old.nodes tree (tree.level + 1) self.new.nodes) }
-        ensures goes_on { GoesOn A self.old self.new }
+        ensures goes_on { LeaperGrows A self.old self.new }
     {
         self.store.pad(tree)
     }

@@ -3,7 +3,7 @@
 ghost use Rattle.std.specs.Prelude.{◌≡◌, IfOk};
 ghost use Rattle.ca_quad.specs.Squares.{IsOf, cell_of};
 ghost use Rattle.ca_run.specs.Centre.{IsCentre};
-ghost use Rattle.ca_run.specs.Leaping.{GoesOn};
+ghost use Rattle.ca_run.specs.Leaping.{LeaperGrows};
 ghost use Rattle.ca_run.specs.inner.Shown.{sixteen};
 
 use super::Leaper;
@@ -28,7 +28,7 @@ impl<A: Automaton> Leaper<A> {
     pub(super) fn next_four(&mut self, id: Id) -> Result<Id, Memory>
         requires { IsOf self.old.nodes id 2 }
         ensures centre { IfOk result (IsCentre (A.next_of self.old.rule) self.new.nodes id 0 0) }
-        ensures goes_on { GoesOn A self.old self.new }
+        ensures goes_on { LeaperGrows A self.old self.new }
     {
         let [a, b, c, d, e, f, g, h, i, j, k, l, m, n, o, p] = self.cells16(id);
         let nw = self.rule.next(&[a, b, c, e, f, g, i, j, k]);

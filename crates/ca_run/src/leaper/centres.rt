@@ -5,7 +5,7 @@ ghost use Rattle.ca_plane.specs.Generations.{cells_after};
 ghost use Rattle.ca_quad.specs.Squares.{IsOf};
 ghost use Rattle.ca_quad.specs.Trees.{AreFour};
 ghost use Rattle.ca_run.specs.Centre.{IsCentre};
-ghost use Rattle.ca_run.specs.Leaping.{GoesOn};
+ghost use Rattle.ca_run.specs.Leaping.{LeaperGrows};
 ghost use Rattle.ca_run.specs.inner.Centres.{HasCentre};
 ghost use Rattle.ca_run.specs.inner.Shown.{ShowsAt, FourShow, TwoShow, ThreeShow, NineShow, AreThree};
 ghost use Rattle.ca_run.specs.inner.Shown.{AreNine, side, generations, IsTimely};
@@ -23,7 +23,7 @@ impl<A: Automaton> Leaper<A> {
         requires centre { HasCentre self.old.nodes id grain j }
         requires low { grain ≤ 123 }
         ensures centre { IfOk result (IsCentre (A.next_of self.old.rule) self.new.nodes id grain j) }
-        ensures goes_on { GoesOn A self.old self.new }
+        ensures goes_on { LeaperGrows A self.old self.new }
     {
         let _ = &self.store;
         if grain == 2 {
@@ -58,7 +58,7 @@ impl<A: Automaton> Leaper<A> {
         requires centre { HasCentre self.old.nodes id grain j }
         requires low { grain ≤ 123 }
         ensures centre { IfOk result (IsCentre (A.next_of self.old.rule) self.new.nodes id grain j) }
-        ensures goes_on { GoesOn A self.old self.new }
+        ensures goes_on { LeaperGrows A self.old self.new }
     {
         let _ = &self.store;
         if let Some(half) = self.empty_centre(id, grain, j) {
@@ -89,7 +89,7 @@ impl<A: Automaton> Leaper<A> {
             → IfOk result (λ half. ShowsAt self.new.nodes half (suc (suc grain))
             (cells_after next (cells_after next p (generations first)) (2 ^ j))
             (a +ℤ side (suc grain)) (b +ℤ side (suc grain))) }
-        ensures goes_on { GoesOn A self.old self.new }
+        ensures goes_on { LeaperGrows A self.old self.new }
     {
         let rows = self.nine(id, grain, first)?;
         let (nw, ne) = self.pair(&rows.north, &rows.middle, grain, j)?;
@@ -108,7 +108,7 @@ impl<A: Automaton> Leaper<A> {
             → IfOk result (λ rows. NineShow self.new.nodes (suc grain) rows
             (cells_after next p (generations first)) (a +ℤ side grain) (b +ℤ side grain)) }
         ensures squares { IfOk result (AreNine self.new.nodes (suc grain)) }
-        ensures goes_on { GoesOn A self.old self.new }
+        ensures goes_on { LeaperGrows A self.old self.new }
     {
         let (nw, ne, sw, se) = self.quarters(id, grain + 1);
         let north = self.trio(nw, ne, grain, first)?;
@@ -135,7 +135,7 @@ impl<A: Automaton> Leaper<A> {
             → IfOk result (λ three. ThreeShow self.new.nodes (suc grain) three
             (cells_after next p (generations first)) (a +ℤ side grain) (b +ℤ side grain)) }
         ensures squares { IfOk result (AreThree self.new.nodes (suc grain)) }
-        ensures goes_on { GoesOn A self.old self.new }
+        ensures goes_on { LeaperGrows A self.old self.new }
     {
         let _ = &self.store;
         let middle = self.middle_of_row(west, east, grain)?;
@@ -156,7 +156,7 @@ impl<A: Automaton> Leaper<A> {
             → IfOk result (λ half. ShowsAt self.new.nodes half (suc grain)
             (cells_after next p (generations first)) (a +ℤ side grain) (b +ℤ side grain)) }
         ensures square { IfOk result (λ half. IsOf self.new.nodes half (suc grain)) }
-        ensures goes_on { GoesOn A self.old self.new }
+        ensures goes_on { LeaperGrows A self.old self.new }
     {
         let _ = &self.store;
         match first {
@@ -179,7 +179,7 @@ impl<A: Automaton> Leaper<A> {
             (a +ℤ side grain) (b +ℤ side grain)) }
         ensures west { IfOk result (λ two. IsOf self.new.nodes two.0 (suc grain)) }
         ensures east { IfOk result (λ two. IsOf self.new.nodes two.1 (suc grain)) }
-        ensures goes_on { GoesOn A self.old self.new }
+        ensures goes_on { LeaperGrows A self.old self.new }
     {
         let _ = &self.store;
         let west = self.joined_centre(
@@ -220,7 +220,7 @@ impl<A: Automaton> Leaper<A> {
             → IfOk result (λ half. ShowsAt self.new.nodes half (suc grain) (cells_after next p (2 ^ j))
             (a +ℤ side grain) (b +ℤ side grain)) }
         ensures square { IfOk result (λ half. IsOf self.new.nodes half (suc grain)) }
-        ensures goes_on { GoesOn A self.old self.new }
+        ensures goes_on { LeaperGrows A self.old self.new }
     {
         let id = self.join(nw, ne, sw, se, grain)?;
         self.centre(id, grain, j)

@@ -4,7 +4,7 @@ ghost use Rattle.std.specs.Prelude.{◌≡◌, ℕ, ◌+◌, ◌*◌, ◌/◌, �
 ghost use Rattle.ca_plane.specs.Generations.{cells_after};
 ghost use Rattle.ca_quad.specs.Trees.{IsTree, cell};
 ghost use Rattle.ca_run.specs.Advanced.{IsAdvanced};
-ghost use Rattle.ca_run.specs.Leaping.{GoesOn};
+ghost use Rattle.ca_run.specs.Leaping.{LeaperGrows};
 ghost use Rattle.ca_run.specs.Masks.{GoesBy};
 ghost use Rattle.ca_run.specs.inner.Grid.{FitsGrid, GridShows, Begins, IsAsNarrow, corner, DiesBeyond};
 
@@ -34,7 +34,7 @@ impl<A: Automaton> Leaper<A> {
         requires { IsTree self.old.nodes tree }
         ensures advanced { IfOk result (λ found. IfSome found (IsAdvanced (A.next_of self.old.rule) self.old.nodes tree n self.new.nodes)) }
         ensures none { n ≡ 0 → result ≡ Ok None }
-        ensures goes_on { GoesOn A self.old self.new }
+        ensures goes_on { LeaperGrows A self.old self.new }
     {
         let _ = &self.store;
         let Some(masks) = self.masks else {
@@ -77,7 +77,7 @@ impl<A: Automaton> Leaper<A> {
         ensures level { IfOk result (λ t. t.level ≤ 124) }
         ensures cells { (p : ℤ → ℤ → ℕ) → GridShows grid.now p (corner level n) (corner level n) → DiesBeyond (2 ^ (level + 3)) p
             → IfOk result (λ t. (x y : ℤ) → cell self.new.nodes t x y ≡ p x y) }
-        ensures goes_on { GoesOn A self.old self.new }
+        ensures goes_on { LeaperGrows A self.old self.new }
     {
         let place = place_of_corner(level, n);
         let root = self.from_grid(grid, level + 1, Place { i: place, j: place })?;

@@ -2,7 +2,7 @@
 
 ghost use Rattle.std.specs.Prelude.{◌≡◌, ℕ, suc, ◌+◌, ◌<◌, ◌≤◌, ◌^◌, ℤ, pos, neg_ℤ, ◌-◌, ◌+ℤ◌, ◌<ℤ◌, ◌≤ℤ◌, length, IfOk, IfSome};
 ghost use Rattle.ca_quad.specs.Squares.{IsOf};
-ghost use Rattle.ca_run.specs.Leaping.{GoesOn};
+ghost use Rattle.ca_run.specs.Leaping.{LeaperGrows};
 ghost use Rattle.ca_run.specs.inner.Shown.{ShowsAt};
 ghost use Rattle.ca_run.specs.inner.Words.{WordShows};
 ghost use Rattle.ca_run.specs.inner.Grid.{GridShows, LineShows, IsAsNarrow, IsNear, EndsAt, eight};
@@ -135,7 +135,7 @@ impl<A: Automaton> Leaper<A> {
         requires near { IsNear (2 ^ grain) at }
         ensures shows { (p : ℤ → ℤ → ℕ) (a b : ℤ) → GridShows grid.now p a b → IfOk result (λ id. ShowsAt self.new.nodes id (suc (suc (suc grain))) p (a +ℤ eight at.i) (b +ℤ eight at.j)) }
         ensures square { IfOk result (λ id. IsOf self.new.nodes id (suc (suc (suc grain)))) }
-        ensures goes_on { GoesOn A self.old self.new }
+        ensures goes_on { LeaperGrows A self.old self.new }
     {
         if grain == 0 {
             return self.from_word(grid.word(at));
@@ -155,7 +155,7 @@ impl<A: Automaton> Leaper<A> {
         requires near { IsNear (2 ^ grain + 2 ^ grain) at }
         ensures shows { (p : ℤ → ℤ → ℕ) (a b : ℤ) → GridShows grid.now p a b → IfOk result (λ id. ShowsAt self.new.nodes id (suc (suc (suc (suc grain)))) p (a +ℤ eight at.i) (b +ℤ eight at.j)) }
         ensures square { IfOk result (λ id. IsOf self.new.nodes id (suc (suc (suc (suc grain))))) }
-        ensures goes_on { GoesOn A self.old self.new }
+        ensures goes_on { LeaperGrows A self.old self.new }
     {
         let places = at.quarters(width(grain));
         let nw = self.from_grid(grid, grain, at)?;
@@ -171,7 +171,7 @@ impl<A: Automaton> Leaper<A> {
         requires most { level ≤ 125 }
         ensures shows { (p : ℤ → ℤ → ℕ) (a b : ℤ) → ((x y : ℕ) → x < 2 ^ level → y < 2 ^ level → p (a +ℤ pos x) (b +ℤ pos y) ≡ 0) → IfOk result (λ id. ShowsAt self.new.nodes id level p a b) }
         ensures square { IfOk result (λ id. IsOf self.new.nodes id level) }
-        ensures goes_on { GoesOn A self.old self.new }
+        ensures goes_on { LeaperGrows A self.old self.new }
     {
         self.store.empty(level)
     }

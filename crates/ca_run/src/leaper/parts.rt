@@ -2,8 +2,8 @@
 
 ghost use Rattle.std.specs.Prelude.{◌≡◌, ℕ, suc, ◌≤◌, ◌^◌, ℤ, pos, ◌+ℤ◌, IfOk};
 ghost use Rattle.ca_quad.specs.Squares.{IsOf};
-ghost use Rattle.ca_quad.specs.Sound.{IsSound};
-ghost use Rattle.ca_run.specs.Leaping.{GoesOn};
+ghost use Rattle.ca_quad.specs.Sound.{IsSoundStore};
+ghost use Rattle.ca_run.specs.Leaping.{LeaperGrows};
 ghost use Rattle.ca_run.specs.inner.Shown.{ShowsAt, FourShow, TwoShow, side};
 
 use super::Leaper;
@@ -21,7 +21,7 @@ impl<A: Automaton> Leaper<A> {
         ensures ne { IsOf self.now.nodes result.1 (suc grain) }
         ensures sw { IsOf self.now.nodes result.2 (suc grain) }
         ensures se { IsOf self.now.nodes result.3 (suc grain) }
-        ensures sound { IsSound self.now.nodes }
+        ensures sound { IsSoundStore self.now.nodes }
     {
         let _ = grain;
         let [nw, ne, sw, se] = self.store.children(id);
@@ -36,7 +36,7 @@ impl<A: Automaton> Leaper<A> {
         ensures shows { (p : ℤ → ℤ → ℕ) (a b : ℤ) → TwoShow self.old.nodes (suc (suc grain)) west east p a b
             → IfOk result (λ id. ShowsAt self.new.nodes id (suc (suc grain)) p (a +ℤ side (suc grain)) b) }
         ensures square { IfOk result (λ id. IsOf self.new.nodes id (suc (suc grain))) }
-        ensures goes_on { GoesOn A self.old self.new }
+        ensures goes_on { LeaperGrows A self.old self.new }
     {
         let (_, nw, _, sw) = self.quarters(west, grain);
         let (ne, _, se, _) = self.quarters(east, grain);
@@ -52,7 +52,7 @@ impl<A: Automaton> Leaper<A> {
             → ShowsAt self.old.nodes south (suc (suc grain)) p a (b +ℤ side (suc (suc grain)))
             → IfOk result (λ id. ShowsAt self.new.nodes id (suc (suc grain)) p a (b +ℤ side (suc grain))) }
         ensures square { IfOk result (λ id. IsOf self.new.nodes id (suc (suc grain))) }
-        ensures goes_on { GoesOn A self.old self.new }
+        ensures goes_on { LeaperGrows A self.old self.new }
     {
         let (_, _, nw, ne) = self.quarters(north, grain);
         let (sw, se, _, _) = self.quarters(south, grain);
@@ -67,7 +67,7 @@ impl<A: Automaton> Leaper<A> {
             → IfOk result (λ half. ShowsAt self.new.nodes half (suc grain) p
             (a +ℤ side grain) (b +ℤ side grain)) }
         ensures square { IfOk result (λ half. IsOf self.new.nodes half (suc grain)) }
-        ensures goes_on { GoesOn A self.old self.new }
+        ensures goes_on { LeaperGrows A self.old self.new }
     {
         if grain == 0 {
             let [_, _, _, _, _, nw, ne, _, _, sw, se, _, _, _, _, _] = self.cells16(id);

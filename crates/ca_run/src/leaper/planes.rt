@@ -4,7 +4,7 @@ ghost use Rattle.std.specs.Prelude.{◌≡◌, ◌≢◌, ◌≤◌, ◌↔◌, 
 ghost use Rattle.ca_plane.specs.Plane.{cell as plane_cell};
 ghost use Rattle.ca_quad.specs.Trees.{IsTree, cell};
 ghost use Rattle.ca_quad.specs.Trimmed.{IsTrimmed};
-ghost use Rattle.ca_run.specs.Leaping.{GoesOn};
+ghost use Rattle.ca_run.specs.Leaping.{LeaperGrows};
 
 use super::Leaper;
 use ca_plane::{Automaton, Memory, Plane};
@@ -21,7 +21,7 @@ impl<A: Automaton> Leaper<A> {
         ensures cells { IfOk result (λ t. (x y : ℤ) → cell self.new.nodes t x y ≡ plane_cell plane.now x y) }
         ensures trimmed { IfOk result (IsTrimmed self.new.nodes) }
         ensures level { IfOk result (λ t. t.level ≤ 64) }
-        ensures goes_on { GoesOn A self.old self.new }
+        ensures goes_on { LeaperGrows A self.old self.new }
     {
         let _count = plane.len();
         self.store.from_plane(plane)
@@ -41,7 +41,7 @@ impl<A: Automaton> Leaper<A> {
             ↔ ((x y : ℤ) → cell self.old.nodes a x y ≡ cell self.old.nodes b x y)) }
         ensures some { IfOk result (λ found. IfSome found
             (λ at. cell self.old.nodes a at.x at.y ≢ cell self.old.nodes b at.x at.y)) }
-        ensures goes_on { GoesOn A self.old self.new }
+        ensures goes_on { LeaperGrows A self.old self.new }
     {
         let level = a.level.max(b.level);
         let a = self.padded_tree(a, level)?;

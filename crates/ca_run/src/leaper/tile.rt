@@ -2,7 +2,7 @@
 
 ghost use Rattle.std.specs.Prelude.{◌≡◌, ℕ, ◌/◌, ◌%◌, ◌<◌, ℤ, pos, ◌+ℤ◌, List, length, slice_index};
 ghost use Rattle.ca_plane.specs.Generations.{cells_after};
-ghost use Rattle.ca_run.specs.inner.Words.{WordShows, WordsShow, TileShows, bytes_at};
+ghost use Rattle.ca_run.specs.inner.Words.{WordShows, WordsShow, TileShows, word_bytes_at};
 ghost use Rattle.ca_run.specs.Masks.{GoesBy};
 
 use super::words::Words;
@@ -25,7 +25,7 @@ pub(super) fn tile_of(words: &Words) -> Bits
 #[inline(always)]
 fn bytes_of(north: u64, south: u64) -> u16x16
     ensures length { length result ≡ 16 }
-    ensures bytes { (y : ℕ) → y < 16 → slice_index result y ≡ bytes_at north south y }
+    ensures bytes { (y : ℕ) → y < 16 → slice_index result y ≡ word_bytes_at north south y }
 {
     u64x2::from_array([north, south]).to_le_bytes().cast()
 }

@@ -1,6 +1,6 @@
 use Rattle.std.proofs.Common.{◌<◌, subst, sym, ◌∙◌}
 use Rattle.std.specs.List.{All}
-use Rattle.ca_rle.specs.Tidy.{IsTidy}
+use Rattle.ca_rle.specs.Tidy.{IsTidyRle}
 use Rattle.ca_claims.proofs.PatternsRead.{listed_in_range, listed_small}
 use Rattle.ca_claims.proofs.Written.{plane_is_short, plane_is, written_rle}
 use Rattle.ca_claims.proofs.conversion.rle_of.Goals as goal
@@ -22,4 +22,4 @@ returns-in-Ok-write_rle-clause-written c =
     let text = c.in-Ok-write_rle.text.items in
     let short = plane_is_short c.args.store.now ruled.pattern.tree cells (plane_is _ _ _ _ c.in-Ok-Some.field-0-is c.in-Ok-Some.ensures) in
     written_rle c.args.store.now ruled cells c.deref.result.now text means.0 (plane_is _ _ _ _ c.in-Ok-Some.field-0-is c.in-Ok-Some.ensures) (c.deref.ensures.value ∙ c.in-Ok.ensures.printed)
-    (subst (λ n. IsTidy text cells c.deref.result.now ruled.pattern.generation n) c.states.ensures.value written.tidy) means.1 (written.limits short means.0 means.1) means.3 means.4 means.5
+    (subst (λ n. IsTidyRle text cells c.deref.result.now ruled.pattern.generation n) c.states.ensures.value written.tidy) means.1 (written.limits short means.0 means.1) means.3 means.4 means.5

@@ -1,7 +1,7 @@
 use Rattle.std.proofs.Common.{sym, subst}
 use Rattle.ca_claims.specs.Text.{IsShift}
 use Rattle.ca_claims.specs.Truth.{claimed}
-use Rattle.ca_claims.specs.inner.Subjects.{ShowsTree, IsNear, IsMovedBy}
+use Rattle.ca_claims.specs.inner.Subjects.{ShowsTree, IsNearTree, IsMovedBy}
 use Rattle.ca_quad.specs.Trees.{cell}
 use Rattle.ca_claims.proofs.Times.{shift_reads}
 use Rattle.ca_claims.proofs.Corners.{leaves_none}
@@ -11,7 +11,7 @@ use Rattle.ca_claims.proofs.decide.claimed_tree.Goals as goal
 pub returns-in_default-clause-near : goal.returns-in_default-clause-near
 returns-in_default-clause-near g c =
     let nodes = c.args.leaper.now.nodes in
-    subst (IsNear nodes) (sym c.wanted_tree.ensures) (wanted_near nodes c.args.case.now.asks.wanted c.args.case.now.subject c.requires.pattern c.requires.other)
+    subst (IsNearTree nodes) (sym c.wanted_tree.ensures) (wanted_near nodes c.args.case.now.asks.wanted c.args.case.now.subject c.requires.pattern c.requires.other)
 
 pub returns-in_default-clause-shows : goal.returns-in_default-clause-shows
 returns-in_default-clause-shows g c = λ cells other shown.

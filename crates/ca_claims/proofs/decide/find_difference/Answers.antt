@@ -3,18 +3,18 @@ use Rattle.std.specs.Prelude.{ℤ}
 use Rattle.ca_quad.specs.Trees.{cell}
 use Rattle.ca_quad.proofs.Trims.{trees_stay}
 use Rattle.ca_run.proofs.Trees.{some_as}
-use Rattle.ca_claims.specs.inner.Subjects.{IsNear}
+use Rattle.ca_claims.specs.inner.Subjects.{IsNearTree}
 use Rattle.ca_claims.proofs.Leapt.{near_stays, difference_told}
 use Rattle.ca_claims.proofs.decide.find_difference.Goals as goal
 
 pub difference_of-requires-clause-end : goal.difference_of-requires-clause-end
 difference_of-requires-clause-end g c =
-    subst (λ s. IsNear s c.args.end) (sym c.store-2.ensures.nodes)
+    subst (λ s. IsNearTree s c.args.end) (sym c.store-2.ensures.nodes)
     (near_stays c.args.leaper.now.nodes c.difference.new.self.nodes c.store.ensures.sound c.in_ok-found.ensures.goes_on.grows c.args.end c.requires.end)
 
 pub difference_of-requires-clause-wanted : goal.difference_of-requires-clause-wanted
 difference_of-requires-clause-wanted g c =
-    subst (λ s. IsNear s c.args.wanted) (sym c.store-2.ensures.nodes)
+    subst (λ s. IsNearTree s c.args.wanted) (sym c.store-2.ensures.nodes)
     (near_stays c.args.leaper.now.nodes c.difference.new.self.nodes c.store.ensures.sound c.in_ok-found.ensures.goes_on.grows c.args.wanted c.requires.wanted)
 
 pub difference_of-requires-clause-other : goal.difference_of-requires-clause-other

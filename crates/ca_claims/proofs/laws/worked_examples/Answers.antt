@@ -7,8 +7,8 @@ use Rattle.ca_plane.specs.Bytes.{AreDigits, lines_of, words_of}
 use Rattle.ca_claims.specs.declared.claims.line.Kind.{Kind}
 use Rattle.ca_claims.specs.declared.claims.line.Kind.TheVariants.{Still, Oscillator, Spaceship, Becomes}
 use Rattle.ca_claims.specs.Examples.{of_one, still_of, becomes_of, text_of}
-use Rattle.ca_claims.specs.Text.{Line, Rule, Load, Claims, WordsClaim, WordsSay, HasGoodNumbers, LinesSay, spoken}
-use Rattle.ca_claims.specs.TextFaults.{HasLine, AreMisspelled, HaveBadNumber, AskUnknown, LoadTaken}
+use Rattle.ca_claims.specs.Text.{ClaimTextLine, Rule, Load, Claims, WordsClaim, ClaimWordsSay, HasGoodNumbers, ClaimLinesSay, spoken}
+use Rattle.ca_claims.specs.TextFaults.{HasClaimLine, AreMisspelledClaimWords, HaveBadNumber, AskUnknown, LoadTaken}
 use Rattle.ca_claims.proofs.OneMeaning.{claim_begins}
 use Rattle.ca_claims.proofs.laws.worked_examples.Goals as goal
 
@@ -17,13 +17,13 @@ shift_good : HasGoodNumbers (Spaceship 4 (neg_ℤ (pos 1)) (pos 2))
 shift_good = (omega arith, omega arith, (omega (arith, ints), omega (arith, ints)), (omega (arith, ints), omega (arith, ints)), λ e f. omega (arith, ints))
 
 -- what the words of three claims say
-says_oscillator : WordsSay (codes "oscillator" ∷ codes "c" ∷ codes "007" ∷ []) (Claims (of_one (codes "c") (Oscillator 7)))
+says_oscillator : ClaimWordsSay (codes "oscillator" ∷ codes "c" ∷ codes "007" ∷ []) (Claims (of_one (codes "c") (Oscillator 7)))
 says_oscillator = (codes "007", refl, refl, refl, refl)
 
-says_spaceship : WordsSay (codes "spaceship" ∷ codes "g" ∷ codes "4" ∷ codes "-1" ∷ codes "2" ∷ []) (Claims (of_one (codes "g") (Spaceship 4 (neg_ℤ (pos 1)) (pos 2))))
+says_spaceship : ClaimWordsSay (codes "spaceship" ∷ codes "g" ∷ codes "4" ∷ codes "-1" ∷ codes "2" ∷ []) (Claims (of_one (codes "g") (Spaceship 4 (neg_ℤ (pos 1)) (pos 2))))
 says_spaceship = (codes "4", codes "-1", codes "2", refl, refl, refl, inr (codes "1", refl, refl, refl), inl (refl, refl), refl)
 
-says_becomes : WordsSay (codes "becomes" ∷ codes "g" ∷ codes "0" ∷ codes "c" ∷ []) (Claims (becomes_of (codes "g") 0 (codes "c")))
+says_becomes : ClaimWordsSay (codes "becomes" ∷ codes "g" ∷ codes "0" ∷ codes "c" ∷ []) (Claims (becomes_of (codes "g") 0 (codes "c")))
 says_becomes = (codes "0", codes "c", refl, refl, refl, refl)
 
 pub returns-clause-every_line : goal.returns-clause-every_line
@@ -81,18 +81,18 @@ pub returns-clause-none_needed : goal.returns-clause-none_needed
 returns-clause-none_needed c = λ path h. h.0 refl
 
 -- a line is faulty after lines that say this
-faulty : (bytes : List ℕ) (P : List Line → List (List ℕ) → Type 0) (before : List (List ℕ)) (said : List (Option Line)) (line : List ℕ) → LinesSay [] before said
-    → lines_of bytes ≡ before ++ line ∷ [] → P (spoken said) (words_of line) → HasLine bytes (length before + 1) P
+faulty : (bytes : List ℕ) (P : List ClaimTextLine → List (List ℕ) → Type 0) (before : List (List ℕ)) (said : List (Option ClaimTextLine)) (line : List ℕ) → ClaimLinesSay [] before said
+    → lines_of bytes ≡ before ++ line ∷ [] → P (spoken said) (words_of line) → HasClaimLine bytes (length before + 1) P
 faulty bytes P before said line good among holds =
     record { before = before; line = line; later = []; said = said; good = good; among = among; number = refl; holds = holds }
 
 -- the first line is
-first_faulty : (line : List ℕ) (P : List Line → List (List ℕ) → Type 0) → lines_of line ≡ line ∷ [] → P [] (words_of line) → HasLine line 1 P
+first_faulty : (line : List ℕ) (P : List ClaimTextLine → List (List ℕ) → Type 0) → lines_of line ≡ line ∷ [] → P [] (words_of line) → HasClaimLine line 1 P
 first_faulty line P among holds = faulty line P [] [] line tt among holds
 
 -- the second is, after one that loads a name
-second_faulty : (line : List ℕ) (P : List Line → List (List ℕ) → Type 0) → lines_of (text_of (codes "load a p" ∷ line ∷ [])) ≡ codes "load a p" ∷ line ∷ []
-    → P (Load (codes "a") (codes "p") ∷ []) (words_of line) → HasLine (text_of (codes "load a p" ∷ line ∷ [])) 2 P
+second_faulty : (line : List ℕ) (P : List ClaimTextLine → List (List ℕ) → Type 0) → lines_of (text_of (codes "load a p" ∷ line ∷ [])) ≡ codes "load a p" ∷ line ∷ []
+    → P (Load (codes "a") (codes "p") ∷ []) (words_of line) → HasClaimLine (text_of (codes "load a p" ∷ line ∷ [])) 2 P
 second_faulty line P among holds =
     faulty (text_of (codes "load a p" ∷ line ∷ [])) P (codes "load a p" ∷ []) (Some (Load (codes "a") (codes "p")) ∷ []) line (refl, refl, refl, tt) among holds
 
@@ -107,31 +107,31 @@ returns-clause-other_unknown c = second_faulty (codes "becomes a 1 b") AskUnknow
     (refl, becomes_of (codes "a") 1 (codes "b"), (codes "1", codes "b", refl, refl, refl, refl), omega arith, λ h. false≢true h.1.0)
 
 -- `rule r q` says nothing
-two_say_nothing : (line : Line) → WordsSay (codes "rule" ∷ codes "r" ∷ codes "q" ∷ []) line → ⊥
+two_say_nothing : (line : ClaimTextLine) → ClaimWordsSay (codes "rule" ∷ codes "r" ∷ codes "q" ∷ []) line → ⊥
 two_say_nothing (Rule path) h = cc
 two_say_nothing (Load name path) h = false≢true (sym (ap (λ words. bytes_eq (get_or words 0 []) (codes "rule")) h))
 two_say_nothing (Claims claim) h = false≢true (claim_begins (codes "rule" ∷ codes "r" ∷ codes "q" ∷ []) claim h)
 
 pub returns-clause-two_tables : goal.returns-clause-two_tables
 returns-clause-two_tables c =
-    faulty (text_of (codes "rule r" ∷ codes "rule r q" ∷ [])) AreMisspelled (codes "rule r" ∷ []) (Some (Rule (codes "r")) ∷ []) (codes "rule r q") (refl, refl, tt, tt) refl
+    faulty (text_of (codes "rule r" ∷ codes "rule r q" ∷ [])) AreMisspelledClaimWords (codes "rule r" ∷ []) (Some (Rule (codes "r")) ∷ []) (codes "rule r q") (refl, refl, tt, tt) refl
     (refl, two_say_nothing)
 
 -- `gun a` says nothing
-says_nothing : (line : Line) → WordsSay (codes "gun" ∷ codes "a" ∷ []) line → ⊥
+says_nothing : (line : ClaimTextLine) → ClaimWordsSay (codes "gun" ∷ codes "a" ∷ []) line → ⊥
 says_nothing (Rule path) h = cc
 says_nothing (Load name path) h = cc
 says_nothing (Claims claim) h = false≢true (claim_begins (codes "gun" ∷ codes "a" ∷ []) claim h)
 
 pub returns-clause-misspelled : goal.returns-clause-misspelled
-returns-clause-misspelled c = second_faulty (codes "gun a") AreMisspelled refl (refl, says_nothing)
+returns-clause-misspelled c = second_faulty (codes "gun a") AreMisspelledClaimWords refl (refl, says_nothing)
 
 -- the third word of an oscillator's claim is a number
 period_word : (keyword name word : List ℕ) (n : List ℕ) (p : List ℕ) → keyword ∷ name ∷ word ∷ [] ≡ keyword ∷ n ∷ p ∷ [] → p ≡ word
 period_word keyword name word n p e = cc
 
 -- `oscillator a x` says nothing
-letter_says_nothing : (line : Line) → WordsSay (codes "oscillator" ∷ codes "a" ∷ codes "x" ∷ []) line → ⊥
+letter_says_nothing : (line : ClaimTextLine) → ClaimWordsSay (codes "oscillator" ∷ codes "a" ∷ codes "x" ∷ []) line → ⊥
 letter_says_nothing (Rule path) h = cc
 letter_says_nothing (Load name path) h = cc
 letter_says_nothing (Claims claim) h = none claim.pattern claim.other claim.kind h
@@ -143,7 +143,7 @@ letter_says_nothing (Claims claim) h = none claim.pattern claim.other claim.kind
     none n o (Becomes v) w = let same = w.2 in cc
 
 pub returns-clause-no_number : goal.returns-clause-no_number
-returns-clause-no_number c = second_faulty (codes "oscillator a x") AreMisspelled refl (refl, letter_says_nothing)
+returns-clause-no_number c = second_faulty (codes "oscillator a x") AreMisspelledClaimWords refl (refl, letter_says_nothing)
 
 pub returns-clause-no_shift : goal.returns-clause-no_shift
 returns-clause-no_shift c = second_faulty (codes "spaceship a 4 0 0") HaveBadNumber refl (

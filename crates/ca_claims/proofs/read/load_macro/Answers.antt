@@ -1,5 +1,5 @@
 use Rattle.std.proofs.Common.{refl, sym}
-use Rattle.ca_macro.specs.Shown.{picture_of}
+use Rattle.ca_macro.specs.Shown.{picture_of_nodes}
 use Rattle.ca_claims.specs.declared.format.Format.TheVariants.{Mc}
 use Rattle.ca_claims.specs.Means.{MeansAs, IsReadableAs}
 use Rattle.ca_claims.proofs.FilesRead.{in_format, shown_in_range}
@@ -9,7 +9,7 @@ pub returns-in-Ok-clause-read : goal.returns-in-Ok-clause-read
 returns-in-Ok-clause-read c =
     let found = c.in-Ok.ensures.found in
     let file = found.0 in
-    let cells = picture_of file.nodes in
+    let cells = picture_of_nodes file.nodes in
     record {
       cells = cells;
       loaded = record {

@@ -1,5 +1,5 @@
 use Rattle.std.proofs.Common.{refl, sym, ◌∙◌}
-use Rattle.ca_rle.specs.Shown.{picture_of}
+use Rattle.ca_rle.specs.Shown.{picture_of_items}
 use Rattle.ca_claims.specs.declared.format.Format.TheVariants.{Rle}
 use Rattle.ca_claims.specs.Means.{MeansAs, IsReadableAs}
 use Rattle.ca_claims.proofs.FilesRead.{in_format, shown_in_range}
@@ -9,7 +9,7 @@ pub returns-clause-read : goal.returns-clause-read
 returns-clause-read c =
     let found = c.in-Ok.ensures.found in
     let file = found.0 in
-    let cells = picture_of file.corner file.items in
+    let cells = picture_of_items file.corner file.items in
     record {
       cells = cells;
       loaded = record {

@@ -3,7 +3,7 @@ use Rattle.std.proofs.lemmas.Option.{same_Some}
 use Rattle.ca_macro.specs.declared.fault.MacroFault.TheVariants.{Timeline, Syntax, Forward, Level, LeafSize, GenTooLarge}
 use Rattle.ca_macro.specs.Faults.{is_leaf_byte, AreFaulty}
 use Rattle.ca_macro.specs.Examples.{text_of, after_first, cut_numbers_text}
-use Rattle.ca_macro.specs.inner.Leaves.{cells_of}
+use Rattle.ca_macro.specs.inner.Leaves.{leaf_cells}
 use Rattle.ca_macro.proofs.Leaves.{leaf_found}
 use Rattle.ca_macro.proofs.Worked.{numbers_found, faulty, faulty_after_leaf, own_number, four_numbers, bad_byte}
 use Rattle.ca_macro.proofs.examples.worked_faults.Goals as goal
@@ -62,7 +62,7 @@ pub returns-clause-other_byte_first : goal.returns-clause-other_byte_first
 returns-clause-other_byte_first c = faulty (after_first (codes "$$$$$$$$x")) (codes "$$$$$$$$x") [] (AreFaulty Syntax) refl refl (inr (inl (codes "$$$$$$$$x", [], refl, inl (bad_byte (codes "$$$$$$$$") 120 ([]) (λ b. not (is_leaf_byte b)) some refl refl refl))))
 
 pub returns-clause-blank_inside : goal.returns-clause-blank_inside
-returns-clause-blank_inside c = faulty (after_first (codes "*$ *$")) (codes "*$ *$") [] (AreFaulty Syntax) refl refl (inr (inl (codes "*$", codes "*$" ∷ [], refl, inr ((cells_of (codes "*$"), leaf_found (codes "*$") refl), some))))
+returns-clause-blank_inside c = faulty (after_first (codes "*$ *$")) (codes "*$ *$") [] (AreFaulty Syntax) refl refl (inr (inl (codes "*$", codes "*$" ∷ [], refl, inr ((leaf_cells (codes "*$"), leaf_found (codes "*$") refl), some))))
 
 pub returns-clause-state : goal.returns-clause-state
 returns-clause-state c = faulty (after_first (codes "1 0 0 0 256")) (codes "1 0 0 0 256") [] (AreFaulty Syntax) refl refl (inr (inr (inr (0, 0, 0, 256, numbers_found (codes "1 0 0 0 256") refl, λ h. large h.1.1.1.0))))

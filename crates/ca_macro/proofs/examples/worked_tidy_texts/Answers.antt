@@ -2,7 +2,7 @@ use Rattle.std.proofs.Common.{ℕ, zero, suc, ◌≤◌, pos, [], ◌∷◌, inl
 use Rattle.std.specs.List.{AllByRecursion}
 use Rattle.std.proofs.lemmas.Int.{ints}
 use Rattle.ca_plane.specs.Plane.{cell}
-use Rattle.ca_quad.specs.Trimmed.{IsWithin}
+use Rattle.ca_quad.specs.Trimmed.{IsWithinLevel}
 use Rattle.ca_macro.specs.Nodes.{Cells, Parts}
 use Rattle.ca_macro.specs.Tidy.{Fits}
 use Rattle.ca_macro.specs.Examples.{glider_file, glider, cross_file, cross}
@@ -10,10 +10,10 @@ use Rattle.ca_macro.proofs.Worked.{fits_found, spelled_by, tidy_found}
 use Rattle.ca_macro.proofs.examples.worked_tidy_texts.Goals as goal
 
 -- the places of the glider, and those of the cross
-places4 : AllByRecursion (λ e. IsWithin 4 e.0.x × IsWithin 4 e.0.y) glider
+places4 : AllByRecursion (λ e. IsWithinLevel 4 e.0.x × IsWithinLevel 4 e.0.y) glider
 places4 = (((omega (arith, ints), omega (arith, ints)), (omega (arith, ints), omega (arith, ints))), (((omega (arith, ints), omega (arith, ints)), (omega (arith, ints), omega (arith, ints))), (((omega (arith, ints), omega (arith, ints)), (omega (arith, ints), omega (arith, ints))), (((omega (arith, ints), omega (arith, ints)), (omega (arith, ints), omega (arith, ints))), (((omega (arith, ints), omega (arith, ints)), (omega (arith, ints), omega (arith, ints))), tt)))))
 
-places2 : AllByRecursion (λ e. IsWithin 2 e.0.x × IsWithin 2 e.0.y) cross
+places2 : AllByRecursion (λ e. IsWithinLevel 2 e.0.x × IsWithinLevel 2 e.0.y) cross
 places2 = (((omega (arith, ints), omega (arith, ints)), (omega (arith, ints), omega (arith, ints))), (((omega (arith, ints), omega (arith, ints)), (omega (arith, ints), omega (arith, ints))), (((omega (arith, ints), omega (arith, ints)), (omega (arith, ints), omega (arith, ints))), (((omega (arith, ints), omega (arith, ints)), (omega (arith, ints), omega (arith, ints))), (((omega (arith, ints), omega (arith, ints)), (omega (arith, ints), omega (arith, ints))), tt)))))
 
 pub returns-clause-glider : goal.returns-clause-glider

@@ -4,7 +4,7 @@ use Rattle.ca_plane.specs.Limits.{default_rule}
 use Rattle.ca_plane.specs.Plane.{cell}
 use Rattle.ca_quad.specs.Trees.{cell as tree_cell}
 use Rattle.ca_macro.specs.File.{added}
-use Rattle.ca_macro.specs.Shown.{picture_of}
+use Rattle.ca_macro.specs.Shown.{picture_of_nodes}
 use Rattle.ca_macro.proofs.KeptSquares.{picture_states}
 use Rattle.ca_macro.proofs.Ranges.{entries_in_range, cells_in_range, range_as}
 use Rattle.ca_macro.proofs.Saying.{passed_on}
@@ -13,7 +13,7 @@ use Rattle.ca_macro.proofs.read.pattern_of.Goals as goal
 pub returns-in_err-tree-clause-fault : goal.returns-in_err-tree-clause-fault
 returns-in_err-tree-clause-fault c =
     passed_on _ c.in_err-tree.field-0.0 _ c.from_residual-in_err-tree.ensures.1 (λ said read.
-    let picture = picture_of (flat_map added said) in
+    let picture = picture_of_nodes (flat_map added said) in
     let root = tree_cell c.root.new.store c.in_ok-root.root in
     elim c.in_err-tree.ensures.fault [
       | inl memory ↦ inl memory
@@ -23,7 +23,7 @@ returns-in_err-tree-clause-fault c =
 pub returns-clause-found : goal.returns-clause-found
 returns-clause-found c = λ said read.
     let nodes = flat_map added said in
-    let picture = picture_of nodes in
+    let picture = picture_of_nodes nodes in
     let root = tree_cell c.root.new.store c.in_ok-root.root in
     let shown = c.in_ok-root.ensures.cells nodes read.squares in
     let states = picture_states c.args.store.now nodes c.args.reading.now.squares read.squares in (

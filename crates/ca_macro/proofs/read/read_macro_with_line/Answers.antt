@@ -1,11 +1,11 @@
-use Rattle.ca_macro.specs.Faults.{IsFaultOn}
+use Rattle.ca_macro.specs.Faults.{IsMacrocellFaultOn}
 use Rattle.ca_macro.proofs.OneMeaning.{reading_fault, refused}
 use Rattle.ca_macro.proofs.Saying.{passed_on}
 use Rattle.ca_macro.proofs.read.read_macro_with_line.Goals as goal
 
 pub returns-in_err-reading-clause-fault : goal.returns-in_err-reading-clause-fault
 returns-in_err-reading-clause-fault c =
-    passed_on _ c.in_err-reading.field-0.0 (λ f. IsFaultOn c.args.bytes.now f.fault f.line) c.from_residual.ensures.1 (reading_fault c.args.bytes.now _ _ c.in_err-reading.ensures.fault)
+    passed_on _ c.in_err-reading.field-0.0 (λ f. IsMacrocellFaultOn c.args.bytes.now f.fault f.line) c.from_residual.ensures.1 (reading_fault c.args.bytes.now _ _ c.in_err-reading.ensures.fault)
 
 pub returns-clause-fault : goal.returns-clause-fault
 returns-clause-fault c =

@@ -1,7 +1,7 @@
 use Rattle.std.proofs.Common.{◌∙◌, ◌<◌, ◌^◌, sym, subst}
 use Rattle.ca_plane.specs.Bytes.{IsWord}
 use Rattle.ca_plane.specs.Plane.{IsSame, IsPicture}
-use Rattle.ca_rle.specs.Shown.{picture_of}
+use Rattle.ca_rle.specs.Shown.{picture_of_items}
 use Rattle.ca_rle.proofs.FileParts.{generation_is_low, rule_is_word}
 use Rattle.ca_rle.proofs.Judged.{bare_of}
 use Rattle.ca_rle.proofs.read.read_rle_with_line.Goals as goal
@@ -20,8 +20,8 @@ returns-clause-found c =
       front.is_file,
       front.within,
       record {
-        cells = subst (λ p. IsSame c.in_ok-cells.cells (picture_of p file.items)) front.corner shown.0;
-        states = subst (λ p. IsPicture (picture_of p file.items)) front.corner shown.1;
+        cells = subst (λ p. IsSame c.in_ok-cells.cells (picture_of_items p file.items)) front.corner shown.0;
+        states = subst (λ p. IsPicture (picture_of_items p file.items)) front.corner shown.1;
         rule_text = c.in-Ok.ensures ∙ front.rule_text;
         generation = front.generation;
         sparse = c.in_ok-cells.ensures.sparse;

@@ -1,4 +1,4 @@
-use Rattle.ca_rule.proofs.Rules.{named-once, named-faultless, one-rule-fault, printed-names, same-named}
+use Rattle.ca_rule.proofs.Rules.{named-once, named-faultless, one-rule-fault, printed_bs_rule-names, same-named}
 use Rattle.ca_rule.proofs.rule_laws.named_rules.Goals as goal
 
 pub returns-clause-one_rule : goal.returns-clause-one_rule
@@ -11,7 +11,7 @@ pub returns-clause-one_fault : goal.returns-clause-one_fault
 returns-clause-one_fault c = one-rule-fault
 
 pub returns-clause-printed : goal.returns-clause-printed
-returns-clause-printed c = printed-names
+returns-clause-printed c = printed_bs_rule-names
 
 pub returns-clause-same_are_equal : goal.returns-clause-same_are_equal
 returns-clause-same_are_equal c = same-named

@@ -1,12 +1,12 @@
 use Rattle.std.proofs.Common.{codes, refl, inl, inr, []}
-use Rattle.ca_rule.specs.Spelling.{SpellsNone}
+use Rattle.ca_rule.specs.Spelling.{SpellsNoBsRule}
 use Rattle.ca_rule.specs.declared.hood.Hood.TheVariants.{Moore}
 use Rattle.ca_rule.proofs.Formed.{spells-no_lists, spells-birth}
 use Rattle.ca_rule.proofs.GenerationsRead.{read-spelled, read-named, none-spelled as generations-none}
 use Rattle.ca_rule.proofs.rule_laws.worked_names.Goals as goal
 
 -- the name is no spelling of a B/S rule
-spread : SpellsNone (codes "Spread")
+spread : SpellsNoBsRule (codes "Spread")
 spread = spells-no_lists (codes "Spread") (codes "Spread") Moore refl refl refl
 
 pub returns-clause-table_is_named : goal.returns-clause-table_is_named

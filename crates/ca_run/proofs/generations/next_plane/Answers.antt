@@ -1,7 +1,7 @@
 use Rattle.std.proofs.Common.{◌<◌, refl, arith}
 use Rattle.ca_plane.proofs.Pictures.{IsSparse-none}
 use Rattle.ca_run.proofs.Reached.{states_after}
-use Rattle.ca_run.proofs.Windows.{IsReady-next, Shows-next}
+use Rattle.ca_run.proofs.Windows.{IsReady-next, ShowsWindow-next}
 use Rattle.ca_run.proofs.Written.{IsWritten-corner, IsWritten-set, IsWritten-skip, IsWritten-end, moves_left-fall}
 use Rattle.ca_run.proofs.generations.next_plane.Goals as goal
 
@@ -33,7 +33,7 @@ places-preserved-then-state-eq0 g c =
     let quiet = g.met.A.Automaton.quiet c.args.rule.now c.states-states.ensures.sound in
     let ready = IsReady-next c.args.cells.now c.places.window c.in-Some.place c.requires.reach c.places.invariant.shows c.in-Some.ensures in
     record {
-      shows = Shows-next c.args.cells.now c.places.window c.move_to.new.self c.in-Some.place c.places.invariant.shows ready c.move_to.ensures;
+      shows = ShowsWindow-next c.args.cells.now c.places.window c.move_to.new.self c.in-Some.place c.places.invariant.shows ready c.move_to.ensures;
       written = IsWritten-skip next c.args.cells.now c.places.next c.places.window c.move_to.new.self c.in-Some.place c.nine.result c.next-state.result quiet c.requires.reach c.places.invariant.shows c.places.invariant.written c.in-Some.ensures c.move_to.ensures c.nine.ensures c.next-state.ensures c.if-state-eq0.true;
       sparse = c.places.invariant.sparse;
     }
@@ -47,7 +47,7 @@ places-preserved g c =
     let quiet = g.met.A.Automaton.quiet c.args.rule.now c.states-states.ensures.sound in
     let ready = IsReady-next c.args.cells.now c.places.window c.in-Some.place c.requires.reach c.places.invariant.shows c.in-Some.ensures in
     record {
-      shows = Shows-next c.args.cells.now c.places.window c.move_to.new.self c.in-Some.place c.places.invariant.shows ready c.move_to.ensures;
+      shows = ShowsWindow-next c.args.cells.now c.places.window c.move_to.new.self c.in-Some.place c.places.invariant.shows ready c.move_to.ensures;
       written = IsWritten-set next c.args.cells.now c.places.next c.set.new.self c.places.window c.move_to.new.self c.in-Some.place c.nine.result c.next-state.result quiet c.requires.reach c.places.invariant.shows c.places.invariant.written c.in-Some.ensures c.move_to.ensures c.nine.ensures c.next-state.ensures c.in_ok-set.ensures.ok;
       sparse = c.in_ok-set.ensures.sparse;
     }

@@ -1,5 +1,5 @@
 use Rattle.ca_plane.specs.Sparse.{IsSparse}
-use Rattle.ca_run.specs.inner.Window.{Shows}
+use Rattle.ca_run.specs.inner.Window.{ShowsWindow}
 use Rattle.ca_run.specs.inner.Written.{IsWritten}
 use Rattle.ca_run.proofs.Written.{moves_left}
 use Rattle.ca_run.proofs.generations.next_plane.Given as goal
@@ -7,7 +7,7 @@ use Rattle.ca_run.proofs.generations.next_plane.Given as goal
 -- the window shows the cells round its place, and up to there the next generation is written
 abbrev pub invariant-places : goal.invariant-places
 invariant-places g l = record {
-  shows : Shows l.cells l.window;
+  shows : ShowsWindow l.cells l.window;
   written : IsWritten (g.A.Automaton.next_of l.rule) l.cells l.next l.window.place.x l.window.place.y;
   sparse : IsSparse l.next;
 }

@@ -2,8 +2,8 @@ use Rattle.std.proofs.Common.{rules, ◌≡◌, ◌≢◌, ℕ, map, length, rep
 use Rattle.std.specs.List.{IsDistinct}
 use Rattle.std.specs.Str.{bytes_eq}
 use Rattle.std.proofs.lemmas.List.{nil_from_length}
-use Rattle.ca_claims.specs.Text.{Asked, by_path, named_patterns}
-use Rattle.ca_claims.specs.Places.{path_at, named}
+use Rattle.ca_claims.specs.Text.{ClaimText, by_path, named_patterns}
+use Rattle.ca_claims.specs.Places.{path_at, claim_with_names}
 use Rattle.ca_claims.specs.Needed.{IsNeeded}
 use Rattle.ca_claims.specs.inner.Marks.{marked, claims_marked}
 use Rattle.ca_claims.proofs.PathMarks.{Marks, written_over, length-marked, length-claims_marked, needed_marks, nothing_needed}
@@ -20,11 +20,11 @@ pub returns-clause-needed : goal.returns-clause-needed
 returns-clause-needed c =
     let kept = c.self.inside in
     let names : List (List ℕ) = map (λ n. n.items) kept.names.items in
-    let asked : Asked = record {
+    let asked : ClaimText = record {
       paths = kept.paths;
       rules = map (path_at kept.paths) kept.rules.items;
-      claims = map by_path (map (named names kept.paths) kept.claims.items);
-      patterns = map named_patterns (map (named names kept.paths) kept.claims.items);
+      claims = map by_path (map (claim_with_names names kept.paths) kept.claims.items);
+      patterns = map named_patterns (map (claim_with_names names kept.paths) kept.claims.items);
     } in
     let n = c.in_ok-needed.needed.len in
     let start : c.in_ok-needed.needed.items ≡ replicate (length c.args.self.now.paths) false =

@@ -3,7 +3,7 @@ use Rattle.std.specs.Str.{bytes_eq}
 use Rattle.std.proofs.lemmas.Bool.{true≢false}
 use Rattle.std.proofs.lemmas.Slice.Eq.{bytes_eq-Decides}
 use Rattle.ca_plane.specs.Bytes.{words_of}
-use Rattle.ca_claims.specs.Text.{Line, Rule, Load, Claims, WordsSay, HasGoodNumbers}
+use Rattle.ca_claims.specs.Text.{ClaimTextLine, Rule, Load, Claims, ClaimWordsSay, HasGoodNumbers}
 use Rattle.ca_claims.specs.inner.Reading.{claim_of}
 use Rattle.ca_claims.proofs.claims.words.line_kind.Goals as goal
 
@@ -22,7 +22,7 @@ returns-in_default-claim c =
     let keyword = c.in-Some.keyword.now in
     rw words (sym c.begins_comment.ensures ∙ c.if-begins_comment.false, says_none)
   where
-    says_none : (line : Line) → WordsSay (c.in-Some.keyword.now ∷ words_of c.in-Some.rest.now) line → ⊥
+    says_none : (line : ClaimTextLine) → ClaimWordsSay (c.in-Some.keyword.now ∷ words_of c.in-Some.rest.now) line → ⊥
     says_none (Rule path) h = other_keyword c.in-Some.keyword.now (codes "rule") c.as_slice.result.now c.as_slice.ensures c.if-eq.ensures (same_keyword _ _ _ _ h)
     says_none (Load name path) h = other_keyword c.in-Some.keyword.now (codes "load") c.as_slice-2.result.now c.as_slice-2.ensures c.if-eq-2.ensures (same_keyword _ _ _ _ h)
     says_none (Claims claim) h = c.in_default-claim.ensures claim h

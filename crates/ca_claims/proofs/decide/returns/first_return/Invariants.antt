@@ -1,12 +1,12 @@
 use Rattle.std.proofs.Common.{length}
-use Rattle.ca_run.specs.Leaping.{GoesOn}
+use Rattle.ca_run.specs.Leaping.{LeaperGrows}
 use Rattle.ca_claims.specs.inner.Subjects.{AreLeft}
 use Rattle.ca_claims.proofs.decide.returns.first_return.Given as goal
 
 -- the divisors that are still to be tried
 abbrev pub invariant-divisors : goal.invariant-divisors
 invariant-divisors g l = record {
-  goes_on : GoesOn _ l.fn.leaper l.leaper;
+  goes_on : LeaperGrows _ l.fn.leaper l.leaper;
   left : AreLeft (g.A.Automaton.next_of l.fn.leaper.rule) l.fn.leaper.nodes l.fn.case l.rest;
 }
 

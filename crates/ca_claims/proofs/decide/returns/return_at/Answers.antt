@@ -1,5 +1,5 @@
 use Rattle.std.proofs.Common.{sym, subst}
-use Rattle.ca_claims.specs.inner.Subjects.{ShowsTree, IsNear}
+use Rattle.ca_claims.specs.inner.Subjects.{ShowsTree, IsNearTree}
 use Rattle.ca_claims.proofs.Leapt.{near_pattern, near_stays, shows_stays, ok_as}
 use Rattle.ca_claims.proofs.DividedReturns.{back_here, back_there}
 use Rattle.ca_claims.proofs.decide.returns.return_at.Goals as goal
@@ -9,7 +9,7 @@ return_in_place-requires-clause-pattern g c =
     let s0 = c.args.leaper.now.nodes in
     let s1 = c.tree_after.new.leaper.nodes in
     let pattern = c.args.case.now.subject.pattern in
-    subst (IsNear s1) (sym c.copy.ensures) (near_stays s0 s1 c.store.ensures.sound c.in_ok-end.ensures.goes_on.grows pattern (near_pattern s0 pattern c.requires.case.subject.pattern))
+    subst (IsNearTree s1) (sym c.copy.ensures) (near_stays s0 s1 c.store.ensures.sound c.in_ok-end.ensures.goes_on.grows pattern (near_pattern s0 pattern c.requires.case.subject.pattern))
 
 pub returns-in-None-clause-back : goal.returns-in-None-clause-back
 returns-in-None-clause-back g c = λ cells shows.

@@ -1,7 +1,7 @@
 use Rattle.std.proofs.Common.{refl, sym, subst, ◌∙◌, inr}
 use Rattle.std.specs.Option.{MatchOption}
 use Rattle.std.proofs.lemmas.Bool.{false≢true}
-use Rattle.ca_quad.specs.Boxes.{IsDead, IsLeastBox}
+use Rattle.ca_quad.specs.Boxes.{IsDead, IsLeastWideBox}
 use Rattle.ca_quad.specs.Trees.{cell}
 use Rattle.ca_macro.proofs.Ranges.{box_of_range, range_of_box}
 use Rattle.ca_macro.proofs.read.range.check_range.Goals as goal
@@ -9,11 +9,11 @@ use Rattle.ca_macro.proofs.read.range.check_range.Goals as goal
 pub returns-then-not-is_in_range-clause-fault : goal.returns-then-not-is_in_range-clause-fault
 returns-then-not-is_in_range-clause-fault c =
     let cells = cell c.args.store.now c.args.tree in
-    let least : IsLeastBox cells c.in-Some.cells = subst (λ o. MatchOption o (IsDead cells) (IsLeastBox cells)) c.in-Some.is c.in_ok-cells.ensures in
+    let least : IsLeastWideBox cells c.in-Some.cells = subst (λ o. MatchOption o (IsDead cells) (IsLeastWideBox cells)) c.in-Some.is c.in_ok-cells.ensures in
     inr (refl, λ within. false≢true (sym c.if-not-is_in_range.true ∙ c.is_in_range.ensures.1 (box_of_range cells c.in-Some.cells least within)))
 
 pub returns-clause-good : goal.returns-clause-good
 returns-clause-good c =
     let cells = cell c.args.store.now c.args.tree in
-    let least : IsLeastBox cells c.in-Some.cells = subst (λ o. MatchOption o (IsDead cells) (IsLeastBox cells)) c.in-Some.is c.in_ok-cells.ensures in
+    let least : IsLeastWideBox cells c.in-Some.cells = subst (λ o. MatchOption o (IsDead cells) (IsLeastWideBox cells)) c.in-Some.is c.in_ok-cells.ensures in
     range_of_box cells c.in-Some.cells least (c.is_in_range.ensures.0 c.if-not-is_in_range.false)

@@ -2,7 +2,7 @@ use Rattle.std.proofs.Common.{◌≡◌, [], ◌∷◌, ◌++◌, map, refl, sym
 use Rattle.ca_quad.specs.Trees.{IsEmpty, cell}
 use Rattle.ca_quad.specs.Squares.{level_of}
 use Rattle.ca_macro.specs.Tidy.{AreTidyNodes}
-use Rattle.ca_macro.specs.inner.Written.{node_of, empty_root, cells_of, GoesOn}
+use Rattle.ca_macro.specs.inner.Written.{node_of, empty_root, kept_cells, KeepsFirstOrder}
 use Rattle.ca_macro.proofs.Roots.{empty_tree_nodes, tree_nodes, root_states}
 use Rattle.ca_macro.proofs.write.nodes.nodes_of.Goals as goal
 
@@ -19,8 +19,8 @@ number-requires-clause-states c = root_states c.args.store.now c.args.tree c.req
 pub returns : goal.returns
 returns c =
     let ns = map node_of c.number.new.gathered.nodes.items in
-    let live = λ (e : IsEmpty (cells_of c.args.store.now c.args.tree.root)).
+    let live = λ (e : IsEmpty (kept_cells c.args.store.now c.args.tree.root)).
     let yes = (c.is_empty.ensures (level_of c.args.store.now c.args.tree.root) (record { before = c.requires.tree.before; is_level = refl })).1 e in absurd cc in
-    let goes = subst (λ l. GoesOn (map node_of l) ns c.in_ok-number.field-0) c.new.ensures.items c.in_ok-number.ensures.order in
+    let goes = subst (λ l. KeepsFirstOrder (map node_of l) ns c.in_ok-number.field-0) c.new.ensures.items c.in_ok-number.ensures.order in
     tree_nodes c.args.store.now c.args.tree c.requires.tree c.args.states ns c.number.new.gathered.numbers c.requires.level c.in_ok-number.ensures.gathered live
     c.in_ok-number.field-0 c.in_ok-number.ensures.number (c.in_ok-number.ensures.last live (c.new-2.ensures c.args.tree.root)) goes

@@ -1,5 +1,5 @@
 use Rattle.std.proofs.Common.{ℕ, inl, refl, rules, sym, subst}
-use Rattle.ca_quad.specs.Sound.{IsSound, Grows}
+use Rattle.ca_quad.specs.Sound.{IsSoundStore, Grows}
 use Rattle.ca_quad.specs.Added.{IsPartOf, IsCopy, AddsCopies}
 use Rattle.ca_quad.proofs.Copied.{copies_stay, still_copies, parts_four, parts_copied}
 use Rattle.ca_quad.proofs.Added.{none_added, added_on, added_in_part, ok_added, one_added, added_two, added_three, added_four}
@@ -12,7 +12,7 @@ pub returns-in-Some-clause-copy : goal.returns-in-Some-clause-copy
 returns-in-Some-clause-copy t c = c.requires.copies c.args.id c.in-Some.copy (sym c.in-Some.ensures)
 
 pub returns-in-Four-clause-copies : goal.returns-in-Four-clause-copies
-returns-in-Four-clause-copies t c = still_copies c.args.from.now c.args.self.now c.leaf.new.self c.leaf.result (subst IsSound c.self.view_is c.self.invariant) c.leaf.ensures.grows c.args.copies.now c.requires.copies
+returns-in-Four-clause-copies t c = still_copies c.args.from.now c.args.self.now c.leaf.new.self c.leaf.result (subst IsSoundStore c.self.view_is c.self.invariant) c.leaf.ensures.grows c.args.copies.now c.requires.copies
 
 pub join-requires : goal.join-requires
 join-requires t c = (

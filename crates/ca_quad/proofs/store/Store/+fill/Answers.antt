@@ -3,8 +3,8 @@ use Rattle.std.proofs.lemmas.Bool.{eqb-true}
 use Rattle.ca_quad.specs.declared.node.Node.{Node}
 use Rattle.ca_quad.specs.declared.store.rows.Row.{Row}
 use Rattle.ca_quad.specs.declared.tree.Spot.{Spot}
-use Rattle.ca_quad.specs.Sound.{IsSound, Grows}
-use Rattle.ca_quad.specs.Trees.{Shows}
+use Rattle.ca_quad.specs.Sound.{IsSoundStore, Grows}
+use Rattle.ca_quad.specs.Trees.{ShowsSquare}
 use Rattle.ca_quad.specs.inner.Filled.{AreRowsOf}
 use Rattle.ca_quad.specs.inner.Ring.{none}
 use Rattle.ca_quad.proofs.Covers.{shows_none, rows_four}
@@ -28,10 +28,10 @@ module _ (t : ℕ) (c : In_ok-parts t) where
       c.in_ok-parts.parts c.in_ok-parts.ensures
 
   can_fill : (new : List Node) → Grows c.args.self.now new → (now part : List Row) (at : Spot) → now ≡ part → AreRowsOf (c.args.level - 1) c.args.cells.now part at
-      → 4 ≤ c.args.level - 1 × (c.args.level - 1 ≤ 65 × (Shows new (get_or c.children.result 0 c.index-children-0.result) (c.args.level - 1) none × AreRowsOf (c.args.level - 1) c.args.cells.now now at))
+      → 4 ≤ c.args.level - 1 × (c.args.level - 1 ≤ 65 × (ShowsSquare new (get_or c.children.result 0 c.index-children-0.result) (c.args.level - 1) none × AreRowsOf (c.args.level - 1) c.args.cells.now now at))
   can_fill new grows now part at e of =
       let empty =
-      part_none c.args.self.now new (subst IsSound c.self.view_is c.self.invariant) grows c.args.empty c.args.level c.children.result c.index-children-0.result (omega (arith, c.children.type_inv)) (omega (arith, large))
+      part_none c.args.self.now new (subst IsSoundStore c.self.view_is c.self.invariant) grows c.args.empty c.args.level c.children.result c.index-children-0.result (omega (arith, c.children.type_inv)) (omega (arith, large))
       c.requires.empty c.children.ensures.quarters
       in
       (omega (arith, large), (omega (arith, c.requires.most), (empty, rw e of)))
@@ -39,7 +39,7 @@ module _ (t : ℕ) (c : In_ok-parts t) where
 pub fill-requires : goal.fill-requires
 fill-requires t c =
     let a = (goal.at.fill-requires t c).In_ok-parts in
-    (omega (arith, c.decreases, large t a), can_fill t a _ (grows_same _ (subst IsSound c.self.view_is c.self.invariant)) _ _ _ c.deref.ensures.value (rows t a).0)
+    (omega (arith, c.decreases, large t a), can_fill t a _ (grows_same _ (subst IsSoundStore c.self.view_is c.self.invariant)) _ _ _ c.deref.ensures.value (rows t a).0)
 
 pub fill-requires-2 : goal.fill-requires-2
 fill-requires-2 t c =

@@ -2,9 +2,9 @@ use Rattle.std.proofs.Common.{◌≡◌, ℕ, ◌≤◌, suc, ◌-◌, sym, subs
 use Rattle.std.proofs.lemmas.Bool.Decides.{nat_tests}
 use Rattle.ca_quad.specs.declared.tree.Tree.{Tree}
 use Rattle.ca_quad.specs.Squares.{IsOf, cell_of}
-use Rattle.ca_quad.specs.Sound.{IsSound}
+use Rattle.ca_quad.specs.Sound.{IsSoundStore}
 use Rattle.ca_quad.specs.Trees.{cell}
-use Rattle.ca_quad.specs.inner.Ring.{TellsMiddle, HasNoRing, IsMiddle}
+use Rattle.ca_quad.specs.inner.Ring.{TellsMiddle, HasNoRing, IsMiddleSquare}
 use Rattle.ca_quad.proofs.Rings.{ring_keeps}
 use Rattle.ca_quad.proofs.Trims.{trees_stay, trimmed_as, cells_as, no_ring}
 use Rattle.ca_quad.proofs.store.Store.+trim.Goals as goal
@@ -12,7 +12,7 @@ use Rattle.ca_quad.proofs.store.Store.+trim.Goals.{After-middle, In-Some}
 
 pub returns-in_default-clause-cells : goal.returns-in_default-clause-cells
 returns-in_default-clause-cells t c =
-    trees_stay c.args.self.now c.middle.new.self (subst IsSound c.self.view_is c.self.invariant) c.middle.ensures.grows c.args.tree c.requires.tree
+    trees_stay c.args.self.now c.middle.new.self (subst IsSoundStore c.self.view_is c.self.invariant) c.middle.ensures.grows c.args.tree c.requires.tree
 
 -- the level of the middle
 lower : (t : ℕ) (c : After-middle t) → (suc (c.args.tree.level - 1) ≡ c.args.tree.level) × (1 ≤ c.args.tree.level - 1) × IsOf c.args.self.now c.args.tree.root (suc (c.args.tree.level - 1))
@@ -28,12 +28,12 @@ returns-in_default-clause-trimmed t c =
     let k = tree.level - 1 in
     let (e, some, h) = lower t (goal.at.returns-in_default-clause-trimmed t c).After-middle in
     let none : HasNoRing k (cell_of old (suc k) tree.root) = subst (TellsMiddle c.middle.new.self k (cell_of old (suc k) tree.root)) c.in_default.is (c.in_ok-root.ensures.tells k h) in
-    trimmed_as old c.middle.new.self tree (trees_stay old c.middle.new.self (subst IsSound c.self.view_is c.self.invariant) c.middle.ensures.grows tree c.requires.tree)
+    trimmed_as old c.middle.new.self tree (trees_stay old c.middle.new.self (subst IsSoundStore c.self.view_is c.self.invariant) c.middle.ensures.grows tree c.requires.tree)
     (no_ring old tree k e some (subst (λ l. HasNoRing k (cell_of old l tree.root)) e none))
 
 -- the root's middle
 middle : (t : ℕ) (c : In-Some t) → IsOf c.args.self.now c.args.tree.root (suc (c.args.tree.level - 1))
-    → IsMiddle c.middle.new.self (c.args.tree.level - 1) (cell_of c.args.self.now (suc (c.args.tree.level - 1)) c.args.tree.root) c.in-Some.root
+    → IsMiddleSquare c.middle.new.self (c.args.tree.level - 1) (cell_of c.args.self.now (suc (c.args.tree.level - 1)) c.args.tree.root) c.in-Some.root
 middle t c h =
     let k = c.args.tree.level - 1 in
     subst (TellsMiddle c.middle.new.self k (cell_of c.args.self.now (suc k) c.args.tree.root)) c.in-Some.is (c.in_ok-root.ensures.tells k h)

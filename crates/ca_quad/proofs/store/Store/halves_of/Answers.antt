@@ -1,7 +1,7 @@
 use Rattle.std.proofs.Common.{◌≡◌, Some, length, refl, inl, inr, subst}
 use Rattle.std.specs.List.{slice_get}
 use Rattle.std.proofs.lemmas.Option.{slice_get_read}
-use Rattle.ca_quad.specs.inner.Drawn.{IsReady, IsLiveIn}
+use Rattle.ca_quad.specs.inner.Drawn.{IsReadyToDraw, IsLiveIn}
 use Rattle.ca_quad.proofs.Held.{rest_at, all_at}
 use Rattle.ca_quad.proofs.store.Store.halves_of.Goals as goal
 
@@ -18,5 +18,5 @@ squares-preserved c =
         | inl h ↦ inl (pushed.live x y (inl h))
         | inr rest ↦ elim (subst (λ rs. IsLiveIn nodes rs x y) (rest_at squares k s at) rest) [ inl here ↦ inl (pushed.live x y (inr here)) | inr more ↦ inr more ]
       ],
-      λ all are. pushed.ready all (all_at (IsReady nodes all c.args.level) squares k s at are) (ready all are),
+      λ all are. pushed.ready all (all_at (IsReadyToDraw nodes all c.args.level) squares k s at are) (ready all are),
     )

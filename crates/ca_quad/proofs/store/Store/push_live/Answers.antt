@@ -1,6 +1,6 @@
 use Rattle.std.proofs.Common.{refl}
 use Rattle.ca_quad.specs.Squares.{level_of}
-use Rattle.ca_quad.specs.inner.Drawn.{cells_of}
+use Rattle.ca_quad.specs.inner.Drawn.{square_cells}
 use Rattle.ca_quad.proofs.Painted.{none_is_live, added, added_none}
 use Rattle.ca_quad.proofs.store.Store.push_live.Goals as goal
 
@@ -9,7 +9,7 @@ returns-then-is_empty c =
     let nodes = c.args.self.now in
     let id = c.args.square.id in
     added_none nodes c.args.square c.args.squares.now.items
-    (none_is_live (cells_of nodes id) c.args.square.at ((c.is_empty.ensures (level_of nodes id) (record { before = c.requires; is_level = refl })).0 c.if-is_empty.true))
+    (none_is_live (square_cells nodes id) c.args.square.at ((c.is_empty.ensures (level_of nodes id) (record { before = c.requires; is_level = refl })).0 c.if-is_empty.true))
 
 pub returns : goal.returns
 returns c = added c.args.self.now c.args.square c.args.squares.now.items c.push.new.self.items c.in_ok-push.ensures.items

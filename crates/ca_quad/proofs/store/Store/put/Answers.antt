@@ -1,12 +1,12 @@
 use Rattle.std.proofs.Common.{length, sym, subst}
-use Rattle.ca_quad.specs.Sound.{IsGood, Grows, AddsOnly}
+use Rattle.ca_quad.specs.Sound.{IsStorable, Grows, AddsOnly}
 use Rattle.ca_quad.proofs.Growth.{put_grows, put_adds, kept_shows}
 use Rattle.ca_quad.proofs.store.Store.put.Goals as goal
 
 grown : (c : goal.After-kept) → Grows c.self.inside.nodes.keys c.insert_full.new.self.keys
 grown c =
     rw c.in_ok-place.ensures.keys
-    (put_grows c.self.inside.nodes.keys c.args.node c.self.invariant (subst (λ ns. IsGood ns (length ns) c.args.node) (sym c.self.view_is) c.requires))
+    (put_grows c.self.inside.nodes.keys c.args.node c.self.invariant (subst (λ ns. IsStorable ns (length ns) c.args.node) (sym c.self.view_is) c.requires))
 
 pub invariant_of-self-2 : goal.invariant_of-self-2
 invariant_of-self-2 c = (grown c).sound
@@ -23,7 +23,7 @@ pub returns-clause-added : goal.returns-clause-added
 returns-clause-added c =
     let found = c.in_ok-place.ensures.stored in
     let keys = c.self.inside.nodes.keys in
-    let good = subst (λ ns. IsGood ns (length ns) c.args.node) (sym c.self.view_is) c.requires in
+    let good = subst (λ ns. IsStorable ns (length ns) c.args.node) (sym c.self.view_is) c.requires in
     let is = c.in_ok-place.ensures.keys in
     subst (λ ns. AddsOnly ns c.insert_full.new.self.keys c.kept.result) c.self.view_is
     (rw (c.kept.ensures, is)

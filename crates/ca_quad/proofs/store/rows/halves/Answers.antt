@@ -1,6 +1,6 @@
 use Rattle.std.proofs.Common.{inl, inr, arith}
 use Rattle.std.proofs.lemmas.Option.{slice_get-get_or}
-use Rattle.ca_quad.specs.inner.Rows.{IsRow, IsWest, IsEast}
+use Rattle.ca_quad.specs.inner.Rows.{IsPictureRow, IsWest, IsEast}
 use Rattle.ca_quad.proofs.Held.{all_at, row_cut, part_last, part_next}
 use Rattle.ca_quad.proofs.store.rows.halves.Goals as goal
 
@@ -10,7 +10,7 @@ rows-preserved c =
     let rows = c.args.rows.now in
     let k = c.rows.row-index in
     let at = slice_get-get_or rows k _ c.rows-test.true in
-    let is = all_at (IsRow p) rows k _ at c.requires.rows in
+    let is = all_at (IsPictureRow p) rows k _ at c.requires.rows in
     let cut = c.split-place.ensures in
     let w = c.part_of.ensures in
     let e = c.part_of-in-rows.ensures in

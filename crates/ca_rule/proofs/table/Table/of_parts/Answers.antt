@@ -1,9 +1,9 @@
 use Rattle.std.proofs.Common.{◌≡◌, ◌<◌, replicate, ap, subst, sym, ◌∙◌, arith}
 use Rattle.std.proofs.lemmas.Bool.Decides.{nat_tests}
-use Rattle.ca_rule.specs.TableNext.{IsSound, table_next}
+use Rattle.ca_rule.specs.TableNext.{IsSoundTable, table_next}
 use Rattle.ca_rule.specs.inner.TableSearch.{placements_of}
 use Rattle.ca_rule.specs.inner.TablePlaces.{next_at}
-use Rattle.ca_rule.specs.inner.TableStored.{stored, IsKept}
+use Rattle.ca_rule.specs.inner.TableStored.{stored, IsStoredTable}
 use Rattle.ca_rule.proofs.Closed.{closed}
 use Rattle.ca_rule.proofs.Placed.{stored-next}
 use Rattle.ca_rule.proofs.table.Table.of_parts.Goals as goal
@@ -45,10 +45,10 @@ invariant_of-result c =
     ≡ stored c.args.name.items c.args.states c.args.neighbourhood c.args.symmetry c.args.variables.items c.args.transitions.items
     = ap (λ v. stored c.args.name.items c.args.states c.args.neighbourhood c.args.symmetry v c.in-Ok.sifted.transitions) c.in-Ok.ensures.variables
     ∙ ap (λ t. stored c.args.name.items c.args.states c.args.neighbourhood c.args.symmetry c.args.variables.items t) c.in-Ok.ensures.transitions in
-    let sound : IsSound (stored c.args.name.items c.args.states c.args.neighbourhood c.args.symmetry c.args.variables.items c.args.transitions.items) = record {
+    let sound : IsSoundTable (stored c.args.name.items c.args.states c.args.neighbourhood c.args.symmetry c.args.variables.items c.args.transitions.items) = record {
       low = c.requires.low;
       high = c.requires.high;
       closed = closed (stored c.args.name.items c.args.states c.args.neighbourhood c.args.symmetry c.args.variables.items c.args.transitions.items) some c.requires.results;
       quiet = ap (λ t. table_next t (replicate 9 0)) (sym kept) ∙ returns-clause-quiet c;
     } in
-    subst IsKept (sym kept) (record { named = c.requires.named; sound = sound })
+    subst IsStoredTable (sym kept) (record { named = c.requires.named; sound = sound })

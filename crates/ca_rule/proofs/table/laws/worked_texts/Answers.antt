@@ -4,15 +4,15 @@ use Rattle.ca_plane.specs.Bytes.{is_blank, Every}
 use Rattle.ca_rule.specs.declared.table.neighbourhood.Neighbourhood.TheVariants.{VonNeumann}
 use Rattle.ca_rule.specs.declared.table.neighbourhood.Symmetry.TheVariants.{Rotate4}
 use Rattle.ca_rule.specs.declared.table.slot.Slot.TheVariants.{Number}
-use Rattle.ca_rule.specs.TableLines.{Line, lines_said, begins_variable, is_field, fields_between, IsVariableLine, IsTransitionLine}
+use Rattle.ca_rule.specs.TableLines.{NumberedLine, lines_said, begins_variable, is_field, fields_between, IsVariableLine, IsTransitionLine}
 use Rattle.ca_rule.specs.TableNext.{TableRule}
-use Rattle.ca_rule.specs.TableText.{HasTable, are_settings, Settings, Said, nothing, SaysVariable, SaysTransition, made, IsTable}
+use Rattle.ca_rule.specs.TableText.{HasTable, are_settings, Settings, SaidStatements, nothing, SaysVariable, SaysTransition, made, IsTable}
 use Rattle.ca_rule.specs.TableFaults.{HaveEnd}
 use Rattle.ca_rule.specs.TableExamples.{file_with, file_of, one_neighbour, a}
 use Rattle.ca_rule.proofs.table.laws.worked_texts.Goals as goal
 
 -- the line of a variable `a`, with a blank after `var`
-is_variable : {line : Line} {fields : List (List ℕ)} (second third inside : List ℕ) → begins_variable line ≡ true → Every is_blank second → Every is_blank third → fields_between inside ≡ fields → list_all is_field fields ≡ true
+is_variable : {line : NumberedLine} {fields : List (List ℕ)} (second third inside : List ℕ) → begins_variable line ≡ true → Every is_blank second → Every is_blank third → fields_between inside ≡ fields → list_all is_field fields ≡ true
     → line.1 ≡ codes "var" ++ (codes " " ++ (codes "a" ++ (second ++ (codes "=" ++ (third ++ (codes "{" ++ (inside ++ codes "}"))))))) → IsVariableLine line (codes "a") fields
 is_variable second third inside b s t f a w =
     record { first = codes " "; second = second; third = third; inside = inside; begins = b; first_blanks = refl; second_blanks = s; third_blanks = t; named = refl; fields_are = f; are_fields = a; spelled = w }
@@ -24,17 +24,17 @@ returns-clause-variable_is_spelled c = is_variable (codes " ") (codes " ") (code
 abbrev of_four : Settings
 of_four = record { states = 3; neighbourhood = VonNeumann; symmetry = Rotate4 }
 
-abbrev one_said : Said
+abbrev one_said : SaidStatements
 one_said = record { variables = (codes "a", 1 ∷ 2 ∷ []) ∷ []; transitions = [] }
 
-abbrev both_said : Said
+abbrev both_said : SaidStatements
 both_said = record { variables = (codes "a", 1 ∷ 2 ∷ []) ∷ []; transitions = one_neighbour ∷ [] }
 
 -- the lines of the settings, and those after them
-abbrev settings_with : List ℕ → List ℕ → List ℕ → List Line
+abbrev settings_with : List ℕ → List ℕ → List ℕ → List NumberedLine
 settings_with states neighbourhood symmetry = (3, states) ∷ (4, neighbourhood) ∷ (5, symmetry) ∷ []
 
-abbrev statements_with : List ℕ → List Line
+abbrev statements_with : List ℕ → List NumberedLine
 statements_with last = (6, codes "var a={1,2}") ∷ (7, last) ∷ []
 
 says_one : SaysVariable of_four nothing (6, codes "var a={1,2}") one_said
@@ -60,10 +60,10 @@ says_both last is_spelled = record {
 }
 
 -- the rule file's head, and these lines after it
-head : (bytes : List ℕ) (lines : List Line) → lines_said bytes ≡ (1, codes "@RULE Spread") ∷ ((2, codes "@TABLE") ∷ lines) → HasTable bytes (codes "Spread") lines
+head : (bytes : List ℕ) (lines : List NumberedLine) → lines_said bytes ≡ (1, codes "@RULE Spread") ∷ ((2, codes "@TABLE") ∷ lines) → HasTable bytes (codes "Spread") lines
 head bytes lines said = record { rule_line = (1, codes "@RULE Spread"); skipped = []; table_line = (2, codes "@TABLE"); named = refl; no_table = refl; begins = refl; whole = said }
 
-abbrev good : List Line
+abbrev good : List NumberedLine
 good = settings_with (codes "n_states:3") (codes "neighborhood:vonNeumann") (codes "symmetries:rotate4")
 
 is_read : (last : List ℕ) → HasTable (file_of last) (codes "Spread") (good ++ (statements_with last ++ [])) → IsTransitionLine (7, last) 6 (codes "0" ∷ codes "a" ∷ codes "0" ∷ codes "0" ∷ codes "0" ∷ codes "a" ∷ [])

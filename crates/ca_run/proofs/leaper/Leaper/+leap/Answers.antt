@@ -4,7 +4,7 @@ use Rattle.std.proofs.lemmas.Bool.Decides.{nat_tests}
 use Rattle.std.proofs.Math.Nat.{two-pow-succ}
 use Rattle.ca_plane.specs.Generations.{cells_after}
 use Rattle.ca_quad.specs.Squares.{IsOf}
-use Rattle.ca_quad.specs.Sound.{IsSound}
+use Rattle.ca_quad.specs.Sound.{IsSoundStore}
 use Rattle.ca_quad.proofs.Growth.{grows_on}
 use Rattle.ca_quad.proofs.Cells.{of_stays}
 use Rattle.ca_run.specs.Centre.{IsCentre}
@@ -14,14 +14,14 @@ use Rattle.ca_run.proofs.Leap.{goes_on_same, centre_ok, nine_centre, west_four, 
 use Rattle.ca_run.proofs.leaper.Leaper.+leap.Goals as goal
 
 pub centre-returns-in-Some-recall-clause-goes_on : goal.centre-returns-in-Some-recall-clause-goes_on
-centre-returns-in-Some-recall-clause-goes_on g t c = goes_on_same _ c.args.self.now (subst (λ l. IsSound l.nodes) c.self.view_is c.self.invariant.squares)
+centre-returns-in-Some-recall-clause-goes_on g t c = goes_on_same _ c.args.self.now (subst (λ l. IsSoundStore l.nodes) c.self.view_is c.self.invariant.squares)
 
 pub new_centre-returns-in-Some-clause-goes_on : goal.new_centre-returns-in-Some-clause-goes_on
-new_centre-returns-in-Some-clause-goes_on g t c = goes_on_same _ c.args.self.now (subst (λ l. IsSound l.nodes) c.self.view_is c.self.invariant.squares)
+new_centre-returns-in-Some-clause-goes_on g t c = goes_on_same _ c.args.self.now (subst (λ l. IsSoundStore l.nodes) c.self.view_is c.self.invariant.squares)
 
 pub first_centre-returns-in-Some-clause-shows : goal.first_centre-returns-in-Some-clause-shows
 first_centre-returns-in-Some-clause-shows g t c = λ next p a b e shows.
-    let sound = subst (λ l. IsSound l.nodes) c.self.view_is c.self.invariant.squares in
+    let sound = subst (λ l. IsSoundStore l.nodes) c.self.view_is c.self.invariant.squares in
     let new = c.centre.new.self.nodes in
     rw c.in-Some.is
     (centre_ok next c.args.self.now.nodes new sound c.centre.ensures.goes_on.grows c.centre.result c.args.id c.args.grain c.in-Some.j p a b shows
@@ -45,7 +45,7 @@ new_centre-returns-then-j-grain-clause-centre g t c =
     let up : suc (c.args.grain - 1) ≡ c.args.grain = omega arith in
     let one : suc (c.args.j - 1) ≡ c.args.j = omega arith in
     let sum : 2 ^ (c.args.j - 1) + 2 ^ (c.args.j - 1) ≡ 2 ^ c.args.j = sym (two-pow-succ (c.args.j - 1)) ∙ ap (λ n. 2 ^ n) one in
-    let sound = subst (λ l. IsSound l.nodes) c.self.view_is c.self.invariant.squares in
+    let sound = subst (λ l. IsSoundStore l.nodes) c.self.view_is c.self.invariant.squares in
     let next = g.A.Automaton.next_of c.args.self.now.rule in
     nine_centre next c.args.self.now.nodes c.centre_of_nine.new.self.nodes sound c.centre_of_nine.ensures.goes_on.grows c.centre_of_nine.result c.args.id (c.args.grain - 1) c.args.grain (2 ^ (c.args.j - 1)) (2 ^ (c.args.j - 1)) c.args.j up
     c.requires.centre.is_square c.requires.centre.in_time sum (λ p a b shows. c.centre_of_nine.ensures.shows next p a b refl shows)
@@ -55,7 +55,7 @@ new_centre-returns-clause-centre g t c =
     let some : 1 ≤ c.args.grain = grind (arith, nat_tests) in
     let up : suc (c.args.grain - 1) ≡ c.args.grain = omega arith in
     let sum : 0 + 2 ^ c.args.j ≡ 2 ^ c.args.j = omega arith in
-    let sound = subst (λ l. IsSound l.nodes) c.self.view_is c.self.invariant.squares in
+    let sound = subst (λ l. IsSoundStore l.nodes) c.self.view_is c.self.invariant.squares in
     let next = g.A.Automaton.next_of c.args.self.now.rule in
     nine_centre next c.args.self.now.nodes c.centre_of_nine-2.new.self.nodes sound c.centre_of_nine-2.ensures.goes_on.grows c.centre_of_nine-2.result c.args.id (c.args.grain - 1) c.args.grain 0 (2 ^ c.args.j) c.args.j up
     c.requires.centre.is_square c.requires.centre.in_time sum (λ p a b shows. c.centre_of_nine-2.ensures.shows next p a b refl shows)
@@ -68,7 +68,7 @@ pair-returns-clause-shows g t c = λ next p a b e north south.
     let s2 = c.joined_centre-2.new.self in
     let g1 = c.in_ok-west.ensures.goes_on in
     let g2 = c.in_ok-east.ensures.goes_on in
-    let sound = subst (λ l. IsSound l.nodes) c.self.view_is c.self.invariant.squares in
+    let sound = subst (λ l. IsSoundStore l.nodes) c.self.view_is c.self.invariant.squares in
     let n = c.args.north.now in
     let s = c.args.south.now in
     let west = c.in_ok-west.ensures.shows next p a b e (west_four s0.nodes (suc k) n s p a b north south) in
@@ -91,7 +91,7 @@ trio-returns-clause-shows g t c = λ next p a b e two.
     let g2 = c.in_ok-west.ensures.goes_on in
     let g3 = c.in_ok-middle-2.ensures.goes_on in
     let g4 = c.in_ok-east.ensures.goes_on in
-    let sound = subst (λ l. IsSound l.nodes) c.self.view_is c.self.invariant.squares in
+    let sound = subst (λ l. IsSoundStore l.nodes) c.self.view_is c.self.invariant.squares in
     let e1 = e ∙ sym (ap (g.A.Automaton.next_of) g1.rule) in
     let e2 = e1 ∙ sym (ap (g.A.Automaton.next_of) g2.rule) in
     let e3 = e2 ∙ sym (ap (g.A.Automaton.next_of) g3.rule) in

@@ -3,7 +3,7 @@ use Rattle.std.specs.Prelude.{ℤ}
 use Rattle.std.proofs.lemmas.Bool.Decides.{nat_tests}
 use Rattle.std.proofs.lemmas.Nat.Bits.{bit_at-zero}
 use Rattle.ca_plane.specs.Generations.{cells_after}
-use Rattle.ca_quad.specs.Sound.{IsSound}
+use Rattle.ca_quad.specs.Sound.{IsSoundStore}
 use Rattle.ca_quad.specs.Trees.{cell}
 use Rattle.ca_quad.proofs.Cells.{of_stays}
 use Rattle.ca_run.proofs.Shown.{goes_on_again}
@@ -25,7 +25,7 @@ returns-then-n-eq-MOST_GENERATIONS g c =
     let tree = c.args.tree in
     let next = g.A.Automaton.next_of c.args.self.now.rule in
     let on = c.in_ok-later.ensures.goes_on in
-    let sound = subst (λ l. IsSound l.nodes) c.self.view_is c.self.invariant.squares in
+    let sound = subst (λ l. IsSoundStore l.nodes) c.self.view_is c.self.invariant.squares in
     let leapt = subst (λ r. (x y : ℤ) → cell s2 c.in_ok-leap.field-0 x y ≡ cells_after (g.A.Automaton.next_of r) (cell s1 tree) (2 ^ 60) x y) on.rule c.in_ok-leap.ensures.advanced.cells in
     record {
       advanced = record {
@@ -44,7 +44,7 @@ digits-init g c =
     let s1 = c.step_dense.new.self.nodes in
     let tree = c.args.tree in
     let on = c.in_ok-later.ensures.goes_on in
-    let sound = subst (λ l. IsSound l.nodes) c.self.view_is c.self.invariant.squares in
+    let sound = subst (λ l. IsSoundStore l.nodes) c.self.view_is c.self.invariant.squares in
     let none : 0 ≡ c.args.n % 2 ^ 0 = omega arith in
     record {
       tree = of_stays s0 s1 sound on.grows tree.root tree.level c.requires.is_tree;
@@ -108,7 +108,7 @@ with_tree-requires g c = λ x y.
     let digit : n / 2 ^ j % 2 ≡ 1 = grind (arith, nat_tests, c.if-n-j-eq1.true) in
     let leapt = subst (λ r. (x y : ℤ) → cell s2 more x y ≡ cells_after (next r) (cell c.digits.self.nodes c.digits.now) (2 ^ j) x y) inv.goes_on.rule c.in_ok-now.ensures.advanced.cells in
     let on = goes_on_again _ c.args.self.now c.digits.self c.leap-then-n-j-eq1.new.self inv.goes_on c.in_ok-now.ensures.goes_on in
-    let sound = subst (λ l. IsSound l.nodes) c.self.view_is c.self.invariant.squares in
+    let sound = subst (λ l. IsSoundStore l.nodes) c.self.view_is c.self.invariant.squares in
     let reached = one_digit rule s0 c.digits.self.nodes s2 tree c.digits.now more n j digit inv.cells leapt x y in
     let same = after_same rule (cell s0 tree) (cell s2 tree) (n % 2 ^ (1 + j)) (λ u v. sym (tree_stays s0 s2 sound on.grows tree c.requires.is_tree u v)) x y in
     let here = subst (λ r. cell s2 more x y ≡ cells_after (next r) (cell s2 tree) (n % 2 ^ (1 + j)) x y) (sym on.rule) (reached ∙ same) in

@@ -2,7 +2,7 @@ use Rattle.std.proofs.Common.{◌≡◌, ◌+◌, ◌%◌, ◌^◌, ◌≤◌}
 use Rattle.std.specs.Prelude.{ℤ}
 use Rattle.ca_plane.specs.Generations.{cells_after}
 use Rattle.ca_quad.specs.Trees.{IsTree, cell}
-use Rattle.ca_run.specs.Leaping.{GoesOn}
+use Rattle.ca_run.specs.Leaping.{LeaperGrows}
 use Rattle.ca_run.proofs.leaper.Leaper.advance_watched.Given as goal
 
 -- as many generations on as the first j binary digits say
@@ -12,5 +12,5 @@ invariant-digits g l = record {
   level : l.now.level ≤ 64 + l.j;
   cells : (x y : ℤ) → cell l.self.nodes l.now x y ≡ cells_after (g.A.Automaton.next_of l.fn.self.rule) (cell l.fn.self.nodes l.fn.tree) (l.fn.n % 2 ^ l.j) x y;
   none : l.fn.n ≡ 0 → l.now ≡ l.fn.tree;
-  goes_on : GoesOn _ l.fn.self l.self;
+  goes_on : LeaperGrows _ l.fn.self l.self;
 }

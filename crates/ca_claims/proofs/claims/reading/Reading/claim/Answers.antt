@@ -1,6 +1,6 @@
 use Rattle.std.proofs.Common.{map, [], ◌∷◌, ◌++◌, Some, if◌then◌else◌, refl, sym, ap, subst, ◌∙◌}
 use Rattle.ca_claims.specs.Text.{Claims}
-use Rattle.ca_claims.specs.inner.Reading.{claim_of, IsKept, place_of}
+use Rattle.ca_claims.specs.inner.Reading.{claim_of, KeepsClaimLines, place_of}
 use Rattle.ca_claims.proofs.ReadOn.{names_loaded, names_known, read_claim}
 use Rattle.ca_claims.proofs.claims.reading.Reading.claim.Goals as goal
 
@@ -13,7 +13,7 @@ returns-clause-claimed c = λ said read number.
     let items = c.push.ensures.items
     ∙ ap (λ b. if b then old.claims.items ++ record { line = c.args.line; claim = c.in-Some.claim } ∷ [] else old.claims.items) c.if-is_err.ensures.negation
     ∙ ap (λ k. old.claims.items ++ record { line = c.args.line; claim = k } ∷ []) placed.1 in
-    (claimed.0, subst (λ l. IsKept (said ++ Some (Claims claim) ∷ []) (map (λ n. n.items) old.names.items) old.paths old.rules.items l (place_of old.places)) (sym items) claimed.1)
+    (claimed.0, subst (λ l. KeepsClaimLines (said ++ Some (Claims claim) ∷ []) (map (λ n. n.items) old.names.items) old.paths old.rules.items l (place_of old.places)) (sym items) claimed.1)
 
 -- out of memory at a claim about names that are loaded
 pub returns-then-is_err-clause-fault : goal.returns-then-is_err-clause-fault

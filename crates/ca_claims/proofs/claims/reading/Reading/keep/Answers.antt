@@ -4,7 +4,7 @@ use Rattle.std.specs.Str.{bytes_eq}
 use Rattle.std.proofs.lemmas.List.{map-append, length-map}
 use Rattle.std.proofs.lemmas.Map.Text.{hash_map_updates_str}
 use Rattle.ca_claims.specs.Text.{Load}
-use Rattle.ca_claims.specs.inner.Reading.{IsKept, place_of}
+use Rattle.ca_claims.specs.inner.Reading.{KeepsClaimLines, place_of}
 use Rattle.ca_claims.proofs.ReadOn.{read_load}
 use Rattle.ca_claims.proofs.claims.reading.Reading.keep.Goals as goal
 
@@ -22,5 +22,5 @@ returns c = λ said read.
     let updated = hash_map_updates_str name old.places c.insert.new.self _ c.in_ok-insert.ensures.updates in
     let loaded = read_load said names old.paths old.rules.items old.claims.items (place_of old.places) read name path c.in_ok-put.field-0 c.requires there after
     (λ q. updated q ∙ ap (λ k. update bytes_eq (place_of old.places) name (Some (record { name = k; path = c.in_ok-put.field-0 })) q) last) in
-    subst (λ l. IsKept (said ++ Some (Load name path) ∷ []) l c.put.new.self old.rules.items old.claims.items after) (sym more)
-    (subst (λ l. IsKept (said ++ Some (Load name path) ∷ []) (names ++ name ∷ []) l old.rules.items old.claims.items after) (sym c.in_ok-put.ensures.paths) loaded)
+    subst (λ l. KeepsClaimLines (said ++ Some (Load name path) ∷ []) l c.put.new.self old.rules.items old.claims.items after) (sym more)
+    (subst (λ l. KeepsClaimLines (said ++ Some (Load name path) ∷ []) (names ++ name ∷ []) l old.rules.items old.claims.items after) (sym c.in_ok-put.ensures.paths) loaded)

@@ -1,6 +1,6 @@
 use Rattle.std.proofs.Common.{◌≡◌, ◌-◌, ◌∷◌, [], ◌++◌, suc, Some, length, ap, sym, subst, ◌∙◌, arith}
 use Rattle.std.specs.List.{slice_get}
-use Rattle.ca_quad.specs.Trees.{Shows}
+use Rattle.ca_quad.specs.Trees.{ShowsSquare}
 use Rattle.ca_macro.specs.inner.Reading.{AreEmpties}
 use Rattle.ca_macro.proofs.EmptySquares.{leaf_empty, join_empty, last_empty, empties_push}
 use Rattle.ca_macro.proofs.read.empties.Empties.grow.Goals as goal
@@ -28,5 +28,5 @@ returns-clause-empties c =
           let items = c.in_ok-push.ensures.items ∙ ap (λ s. s.ids.items ++ c.match-last.id ∷ []) w.self-is ∙ ap (λ i. ids ++ i ∷ []) w.id-is in
           subst (λ s. AreEmpties s c.push.new.self.items) (sym w.store-is)
           (empties_push old new c.requires.sound w.in_ok-id-in-None.ensures.grows ids c.push.new.self.items w.in_ok-id-in-None.id c.requires.empties items
-          (subst (λ n. Shows new w.in_ok-id-in-None.id (suc n) (λ x y. 0)) (sym none) shows))
+          (subst (λ n. ShowsSquare new w.in_ok-id-in-None.id (suc n) (λ x y. 0)) (sym none) shows))
     ]

@@ -2,7 +2,7 @@ use Rattle.std.proofs.Common.{◌≡◌, suc, ◌-◌, [], ◌∷◌, ◌++◌, 
 use Rattle.ca_quad.proofs.Growth.{grows_on}
 use Rattle.ca_macro.specs.declared.fault.MacroFault.TheVariants.{Memory}
 use Rattle.ca_macro.specs.Nodes.{Parts}
-use Rattle.ca_macro.specs.Shown.{square_of, squares_of}
+use Rattle.ca_macro.specs.Shown.{node_picture, squares_of}
 use Rattle.ca_macro.specs.inner.Reading.{Draws}
 use Rattle.ca_macro.proofs.KeptSquares.{with_square, empties_stay, parts_four, parts_joined, parts_follow}
 use Rattle.ca_macro.proofs.Saying.{passed_on, bad_parts}
@@ -61,8 +61,8 @@ returns-clause-added c = λ nodes nw ne sw se h keeps.
     parts.nw parts.ne parts.sw parts.se c.unwrap_or.result c.unwrap_or-2.result c.unwrap_or-3.result c.unwrap_or-4.result
     c.unwrap_or.ensures c.unwrap_or-2.ensures c.unwrap_or-3.ensures c.unwrap_or-4.ensures are.0 are.1 are.2 are.3 (omega arith)
     in
-    let draws : Draws new (record { root = id; level = c.args.numbers.level }) (square_of (squares_of nodes) node) =
-    subst (λ l. Draws new (record { root = id; level = l }) (square_of (squares_of nodes) node)) next
+    let draws : Draws new (record { root = id; level = c.args.numbers.level }) (node_picture (squares_of nodes) node) =
+    subst (λ l. Draws new (record { root = id; level = l }) (node_picture (squares_of nodes) node)) next
     (parts_joined old mid h.sound c.square.ensures.grows nodes low c.in_ok-empty.empty c.in_ok-empty.ensures.shows nw ne sw se
     parts.nw parts.ne parts.sw parts.se c.unwrap_or.result c.unwrap_or-2.result c.unwrap_or-3.result c.unwrap_or-4.result
     c.unwrap_or.ensures c.unwrap_or-2.ensures c.unwrap_or-3.ensures c.unwrap_or-4.ensures are.0 are.1 are.2 are.3 new id (c.in_ok-root.ensures.shows low four.is_nw))
