@@ -48,7 +48,8 @@ impl Model for Claims {
     ghost view = { λ c. record {
       paths = c.paths;
       rules = map (path_at c.paths) c.rules.items;
-      claims = map by_path (map (claim_with_names (map (λ name. name.items) c.names.items) c.paths) c.claims.items);
+      claims = map by_path (map (claim_with_names
+          (map (λ name. name.items) c.names.items) c.paths) c.claims.items);
       patterns = map named_patterns
           (map (claim_with_names (map (λ name. name.items) c.names.items) c.paths) c.claims.items);
     } };

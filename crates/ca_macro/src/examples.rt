@@ -18,7 +18,8 @@ ghost use Rattle.ca_macro.specs.Examples.{empty_text_of_states, mixed_text, mixe
 pub fn worked_files()
     ensures glider { IsMacrocellFile glider_text glider_file × (picture_of_nodes glider_file.nodes ≡ glider) }
     ensures cut { IsMacrocellFile cut_text cut_file × (picture_of_nodes cut_file.nodes ≡ cut) }
-    ensures golly { IsMacrocellFile golly_text golly_file × (picture_of_nodes golly_file.nodes ≡ golly_glider) }
+    ensures golly { IsMacrocellFile golly_text golly_file
+        × (picture_of_nodes golly_file.nodes ≡ golly_glider) }
     ensures cross { IsMacrocellFile cross_text cross_file × (picture_of_nodes cross_file.nodes ≡ cross) }
     ensures mixed { IsMacrocellFile mixed_text mixed_file × (picture_of_nodes mixed_file.nodes ≡ mixed) }
     ensures no_node { IsMacrocellFile (codes "[M2]")
@@ -36,7 +37,8 @@ pub fn worked_faults()
     ensures own_number { IsFirstMacrocellFault (after_first (codes "4 0 0 0 1")) Forward }
     ensures later_number { IsFirstMacrocellFault (after_first (codes "4 0 0 0 2")) Forward }
     ensures gap { IsFirstMacrocellFault (text_of (codes "[M2]" ∷ codes "*$" ∷ codes "5 0 0 0 1" ∷ [])) Level }
-    ensures level_first { IsFirstMacrocellFault (text_of (codes "[M2]" ∷ codes "*$" ∷ codes "5 0 1 9 0" ∷ [])) Level }
+    ensures level_first { IsFirstMacrocellFault
+        (text_of (codes "[M2]" ∷ codes "*$" ∷ codes "5 0 1 9 0" ∷ [])) Level }
     ensures forward_first { IsFirstMacrocellFault
         (text_of (codes "[M2]" ∷ codes "*$" ∷ codes "5 0 9 1 0" ∷ [])) Forward }
     ensures too_high { IsFirstMacrocellFault (after_first (codes "121 0 0 0 0")) Level }
@@ -60,7 +62,8 @@ pub fn worked_faulty_lines()
     ensures not_macro { IsFaultyMacrocellLine (text_of (codes "x = 0, y = 0" ∷ codes "!" ∷ [])) 1 }
     ensures no_text { IsFaultyMacrocellLine [] 1 }
     ensures second_line { IsFaultyMacrocellLine (after_first (codes "4 0 0 0 1")) 2 }
-    ensures blank_lines_count { IsFaultyMacrocellLine (text_of (codes "[M2]" ∷ [] ∷ [] ∷ codes "4 0 0 0 1" ∷ [])) 4 }
+    ensures blank_lines_count { IsFaultyMacrocellLine
+        (text_of (codes "[M2]" ∷ [] ∷ [] ∷ codes "4 0 0 0 1" ∷ [])) 4 }
     ensures comments_count { IsFaultyMacrocellLine
         (text_of (codes "[M2]" ∷ codes "# a comment" ∷ codes "#R B3/S23" ∷ codes "4 0 0 0 1" ∷ [])) 4 }
     ensures first_of_two { IsFaultyMacrocellLine

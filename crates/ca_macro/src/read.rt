@@ -67,9 +67,11 @@ fn pattern_of(
     reading: &Reading<'_>,
 ) -> Result<MacroPattern, MacroFault>
     requires { (said : List MacrocellLine) × IsMacrocellReading store.old said reading.now }
-    ensures found { IfOk result (λ p. (said : List MacrocellLine) → IsMacrocellReading store.old said reading.now
+    ensures found { IfOk result (λ p. (said : List MacrocellLine)
+        → IsMacrocellReading store.old said reading.now
         → IsMacrocellWithinRange (file_of said) × IsMacrocellPattern store.new (file_of said) p) }
-    ensures fault { IfErr result (λ f. (said : List MacrocellLine) → IsMacrocellReading store.old said reading.now
+    ensures fault { IfErr result (λ f. (said : List MacrocellLine)
+        → IsMacrocellReading store.old said reading.now
         → (f ≡ Memory) ⊎ ((f ≡ Range) × IsMacrocellOutOfRange (file_of said))) }
     ensures grows { Grows store.old store.new }
 {

@@ -65,7 +65,8 @@ pub fn worked_faults()
     ensures xlife { IsFirstRleFault (codes "#r 23/3\nx = 1, y = 1\no!") XlifeRule }
     ensures cut_off { IsFirstRleFault (codes "x = 3, y = 1\n3o") NoEnd }
     ensures state { IsFirstRleFault (codes "x = 1, y = 1, rule = Star\nyP!") BadState }
-    ensures generation { IsFirstRleFault (codes "#CXRLE Gen=9223372036854775808\nx = 1, y = 1\no!") GenTooLarge }
+    ensures generation { IsFirstRleFault
+        (codes "#CXRLE Gen=9223372036854775808\nx = 1, y = 1\no!") GenTooLarge }
 {}
 
 /// The line on which the first fault of a text stands.

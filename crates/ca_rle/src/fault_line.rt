@@ -59,7 +59,8 @@ pub(crate) fn good_front(bytes: &[u8]) -> Result<Front<'_>, LineFault>
 ///
 /// It takes no memory.
 pub fn faulty_line(bytes: &[u8]) -> Option<u64>
-    ensures { MatchOption result ((f : RleFault) → IsFirstRleFault bytes.now f → ⊥) (IsFaultyRleLine bytes.now) }
+    ensures { MatchOption result ((f : RleFault) → IsFirstRleFault bytes.now f → ⊥)
+        (IsFaultyRleLine bytes.now) }
 {
     match good_front(bytes) {
         Ok(_) => None,

@@ -36,7 +36,8 @@ pub fn one_file()
 
 /// A text that is a file has no fault in its spelling.
 pub fn no_fault_in_a_file()
-    ensures { (bytes : List ℕ) (file : RleFile) (f : RleFault) → IsRleFile bytes file → IsFirstRleFault bytes f → ⊥ }
+    ensures { (bytes : List ℕ) (file : RleFile) (f : RleFault) → IsRleFile bytes file
+        → IsFirstRleFault bytes f → ⊥ }
 {}
 
 /// A text has one first fault at most in its spelling.

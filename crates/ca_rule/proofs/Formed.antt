@@ -6,7 +6,7 @@ use Rattle.std.proofs.lemmas.Bool.Decides.{nat_tests}
 use Rattle.ca_plane.specs.Bytes.{is_digit, front, rest}
 use Rattle.ca_plane.proofs.Fronts.{front_then_rest}
 use Rattle.ca_rule.specs.Counts.{most_of, are_digits_up_to}
-use Rattle.ca_rule.specs.inner.TextParts.{is_rule_letter, hood_of, body_of, without_slash, behind_letter, behind_slash, both, swapped, lists_around, lists_around_slash, lists_of}
+use Rattle.ca_rule.specs.inner.TextParts.{is_rule_letter, hood_of, body_of, without_slash, tail_after_letter, tail_after_slash, both, swapped, lists_around, lists_around_slash, lists_of}
 use Rattle.ca_rule.specs.Spelling.{IsLetter, IsSuffix, IsOptionalSlash, IsLettered, IsUnlettered, SpellsBsRule}
 use Rattle.ca_rule.specs.declared.hood.Hood.{Hood}
 use Rattle.ca_rule.proofs.Ends.{IsLetter-from_test, has_suffix}
@@ -17,17 +17,17 @@ pub IfNone-from : {T P : Type 0} (r : Option T) → P → IfNone r P
 IfNone-from None p = p
 IfNone-from (Some _) p = tt
 
-behind_letter-some : (upper : ℕ) (bs later : List ℕ) → behind_letter upper bs ≡ Some later → (b : ℕ) × IsLetter upper b × (bs ≡ b ∷ later)
-behind_letter-some upper [] later e = cc
-behind_letter-some upper (b ∷ bs) later e =
+tail_after_letter-some : (upper : ℕ) (bs later : List ℕ) → tail_after_letter upper bs ≡ Some later → (b : ℕ) × IsLetter upper b × (bs ≡ b ∷ later)
+tail_after_letter-some upper [] later e = cc
+tail_after_letter-some upper (b ∷ bs) later e =
     elim (cases_Bool (is_rule_letter upper b)) [
       | inl t ↦ let k = rw t at e in (b, IsLetter-from_test upper b t, cc)
       | inr t ↦ let k = rw t at e in cc
     ]
 
-behind_slash-some : (bs later : List ℕ) → behind_slash bs ≡ Some later → bs ≡ 47 ∷ later
-behind_slash-some [] later e = cc
-behind_slash-some (b ∷ bs) later e =
+tail_after_slash-some : (bs later : List ℕ) → tail_after_slash bs ≡ Some later → bs ≡ 47 ∷ later
+tail_after_slash-some [] later e = cc
+tail_after_slash-some (b ∷ bs) later e =
     elim (cases_Bool (b == 47)) [
       | inl t ↦ let k = rw t at e in let one : b ≡ 47 = grind (arith, nat_tests) in cc
       | inr t ↦ let k = rw t at e in cc
@@ -69,9 +69,9 @@ record IsAround (upper : ℕ) (bytes digits later : List ℕ) : Type 0 where
 
 IsAround-from : (upper : ℕ) (bytes digits later : List ℕ) → lists_around upper bytes ≡ Some (digits, later) → IsAround upper bytes digits later
 IsAround-from upper bytes digits later e =
-    let parts = both-some (front is_digit bytes) (behind_letter upper (without_slash (rest is_digit bytes))) (digits, later) e in
+    let parts = both-some (front is_digit bytes) (tail_after_letter upper (without_slash (rest is_digit bytes))) (digits, later) e in
     let s = without_slash-split (rest is_digit bytes) in
-    let t = behind_letter-some upper (without_slash (rest is_digit bytes)) later parts.1 in
+    let t = tail_after_letter-some upper (without_slash (rest is_digit bytes)) later parts.1 in
     record {
       letter = t.0;
       slash = s.0;
@@ -82,8 +82,8 @@ IsAround-from upper bytes digits later e =
 
 pub around_slash-from : (bytes digits later : List ℕ) → lists_around_slash bytes ≡ Some (digits, later) → bytes ≡ digits ++ (47 ∷ later)
 around_slash-from bytes digits later e =
-    let parts = both-some (front is_digit bytes) (behind_slash (rest is_digit bytes)) (digits, later) e in
-    sym (front_then_rest is_digit bytes) ∙ ap (λ x. x ++ rest is_digit bytes) parts.0 ∙ ap (λ x. digits ++ x) (behind_slash-some (rest is_digit bytes) later parts.1)
+    let parts = both-some (front is_digit bytes) (tail_after_slash (rest is_digit bytes)) (digits, later) e in
+    sym (front_then_rest is_digit bytes) ∙ ap (λ x. x ++ rest is_digit bytes) parts.0 ∙ ap (λ x. digits ++ x) (tail_after_slash-some (rest is_digit bytes) later parts.1)
 
 lettered : (first second : ℕ) (text bs suffix digits later : List ℕ) (b : ℕ) (hood : Hood) → text ≡ (b ∷ bs) ++ suffix → IsSuffix hood suffix → IsLetter first b → IsAround second bs digits later → IsLettered first second text digits later hood
 lettered first second text bs suffix digits later b hood e s l a =

@@ -6,9 +6,9 @@ use Rattle.std.proofs.lemmas.Bool.Decides.{nat_tests}
 use Rattle.ca_plane.specs.Bytes.{is_blank, is_digit, front, rest, without_last_blanks, trimmed, with_front}
 use Rattle.ca_plane.proofs.Fronts.{front_then_rest, every_right}
 use Rattle.ca_rule.specs.Digits.{are_digits}
-use Rattle.ca_rule.specs.TableLines.{NumberedLine, behind, setting, setting_words, is_setting, begins_with, begins_section, begins_variable, is_name_byte, is_name, is_field, comma_parts, fields_between, fields_of, IsVariableLine, IsTransitionLine}
+use Rattle.ca_rule.specs.TableLines.{NumberedLine, tail_after, setting, setting_words, is_setting, begins_with, begins_section, begins_variable, is_name_byte, is_name, is_field, comma_parts, fields_between, fields_of, IsVariableLine, IsTransitionLine}
 use Rattle.ca_rule.specs.inner.TableFields.{opened}
-use Rattle.ca_rule.proofs.Stripped.{behind-whole}
+use Rattle.ca_rule.proofs.Stripped.{tail_after-whole}
 use Rattle.ca_rule.proofs.VariableLines.{parts-of-line, line-of-parts, opened-braced, braced-opened}
 
 -- ---- where something is some
@@ -73,7 +73,7 @@ variable_if begins more = if begins then variable_in more else None
 
 -- the name and the fields of a variable's line
 abbrev pub variable_of : NumberedLine → Option (List ℕ × List (List ℕ))
-variable_of line = option_and_then (variable_if (begins_variable line)) (behind (codes "var") line.1)
+variable_of line = option_and_then (variable_if (begins_variable line)) (tail_after (codes "var") line.1)
 
 pub variable-is-of : (line : NumberedLine) (name : List ℕ) (fields : List (List ℕ)) → IsVariableLine line name fields → variable_of line ≡ Some (name, fields)
 variable-is-of line name fields v =
@@ -93,7 +93,7 @@ if-some false o y e = cc
 
 pub variable-of-is : (line : NumberedLine) (v : List ℕ × List (List ℕ)) → variable_of line ≡ Some v → IsVariableLine line v.0 v.1
 variable-of-is line v e =
-    let m = then-some (variable_if (begins_variable line)) (behind (codes "var") line.1) v e in
+    let m = then-some (variable_if (begins_variable line)) (tail_after (codes "var") line.1) v e in
     let begun = if-some (begins_variable line) (variable_in m.0) v m.2 in
     let i = then-some (named_fields (name_in m.0)) (option_and_then before_brace (opened (tail_in m.0))) v begun.1 in
     let o = then-some before_brace (opened (tail_in m.0)) i.0 i.1 in
@@ -161,10 +161,10 @@ field-stands field e = elim (or_cases (are_digits field) (is_name field) e) [
 ]
 
 -- blanks may be there too
-behind-blanks : (bytes : List ℕ) → list_all stands_in_one (rest is_blank bytes) ≡ true → list_all stands_in_one bytes ≡ true
-behind-blanks [] all = refl
-behind-blanks (b ∷ bs) all = elim (cases_Bool (is_blank b)) [
-  | inl t ↦ and_from (stands_in_one b) (list_all stands_in_one bs) (or_left (is_blank b) _ t) (behind-blanks bs (let k = rw t at all in k))
+tail_after-blanks : (bytes : List ℕ) → list_all stands_in_one (rest is_blank bytes) ≡ true → list_all stands_in_one bytes ≡ true
+tail_after-blanks [] all = refl
+tail_after-blanks (b ∷ bs) all = elim (cases_Bool (is_blank b)) [
+  | inl t ↦ and_from (stands_in_one b) (list_all stands_in_one bs) (or_left (is_blank b) _ t) (tail_after-blanks bs (let k = rw t at all in k))
   | inr t ↦ let k = rw t at all in k
 ]
 
@@ -198,7 +198,7 @@ fields-stand : (parts : List (List ℕ)) → list_all is_field (map trimmed part
 fields-stand [] all = refl
 fields-stand (p ∷ ps) all =
     let parts = and_parts (is_field (trimmed p)) (list_all is_field (map trimmed ps)) all in
-    and_from (list_all stands_in_one p) (list_all (list_all stands_in_one) ps) (behind-blanks p (before-blanks (rest is_blank p) (field-stands (trimmed p) parts.0))) (fields-stand ps parts.1)
+    and_from (list_all stands_in_one p) (list_all (list_all stands_in_one) ps) (tail_after-blanks p (before-blanks (rest is_blank p) (field-stands (trimmed p) parts.0))) (fields-stand ps parts.1)
 
 bytes-stand : (bytes : List ℕ) → list_all is_field (map (λ b. b ∷ []) bytes) ≡ true → list_all stands_in_one bytes ≡ true
 bytes-stand [] all = refl
@@ -245,10 +245,10 @@ is-some (Some x) e = (x, refl)
 colon-stands : (word : List ℕ) (line : NumberedLine) → is_some (setting word line) ≡ true → list_all stands_in_one line.1 ≡ true → ⊥
 colon-stands word line some all =
     let value = is-some (setting word line) some in
-    let m = map-some (rest is_blank) (option_and_then (λ bytes. behind (codes ":") (rest is_blank bytes)) (behind word line.1)) value.0 value.1 in
-    let t = then-some (λ bytes. behind (codes ":") (rest is_blank bytes)) (behind word line.1) m.0 m.1 in
-    let later = every_right stands_in_one word t.0 (ap (list_all stands_in_one) (sym (behind-whole word line.1 t.0 t.1)) ∙ all) in
-    let colon : t.0 ≡ front is_blank t.0 ++ (codes ":" ++ m.0) = sym (front_then_rest is_blank t.0) ∙ ap (λ l. front is_blank t.0 ++ l) (behind-whole (codes ":") (rest is_blank t.0) m.0 t.2) in
+    let m = map-some (rest is_blank) (option_and_then (λ bytes. tail_after (codes ":") (rest is_blank bytes)) (tail_after word line.1)) value.0 value.1 in
+    let t = then-some (λ bytes. tail_after (codes ":") (rest is_blank bytes)) (tail_after word line.1) m.0 m.1 in
+    let later = every_right stands_in_one word t.0 (ap (list_all stands_in_one) (sym (tail_after-whole word line.1 t.0 t.1)) ∙ all) in
+    let colon : t.0 ≡ front is_blank t.0 ++ (codes ":" ++ m.0) = sym (front_then_rest is_blank t.0) ∙ ap (λ l. front is_blank t.0 ++ l) (tail_after-whole (codes ":") (rest is_blank t.0) m.0 t.2) in
     let last = every_right stands_in_one (front is_blank t.0) (codes ":" ++ m.0) (ap (list_all stands_in_one) (sym colon) ∙ later) in
     false≢true last
 

@@ -11,7 +11,7 @@ use Rattle.ca_rule.specs.declared.table.neighbourhood.Symmetry.{Symmetry}
 use Rattle.ca_rule.specs.TableNext.{TableRule}
 use Rattle.ca_rule.specs.TableLines.{NumberedLine, lines_said, last_line, rule_name, begins_table, begins_section, setting, setting_words, is_setting, value_of, states_set, neighbourhood_set, symmetry_set}
 use Rattle.ca_rule.specs.TableText.{HasTable, sets_again, are_settings, Settings, Mean, SaidStatements, nothing, Say, made, is_end_of_section, IsTable}
-use Rattle.ca_rule.specs.TableFaults.{number_at, is_behind_settings, HasNoRuleLine, HasNoTable, SetsAgain, HasSettings, LackStates, LackNeighbourhood, LackSymmetry, HasStatement, IsMisspelled, HasBadState, HasUnknownName, HasUnbound, DoesWake, IsTableTextFault}
+use Rattle.ca_rule.specs.TableFaults.{number_at, follows_settings, HasNoRuleLine, HasNoTable, SetsAgain, HasSettings, LackStates, LackNeighbourhood, LackSymmetry, HasStatement, IsMisspelled, HasBadState, HasUnknownName, HasUnbound, DoesWake, IsTableTextFault}
 use Rattle.ca_rule.proofs.OneStatement.{then_ok, step_of, step-says, says-no-setting, says-no-section, step-misspelled, step-bad-state, step-unknown-name, step-unbound}
 
 -- ---- a reading
@@ -43,7 +43,7 @@ settings_of n lines = with_states n (states_set lines) (neighbourhood_set lines)
 
 -- the settings end, and these lines follow them
 abbrev by_meaning : List ℕ → List ℕ → List NumberedLine → List NumberedLine → Result TableRule TableFault
-by_meaning bytes named good behind = then_ok (from_nothing named behind) (settings_of (number_at bytes behind) good)
+by_meaning bytes named good tail_after = then_ok (from_nothing named tail_after) (settings_of (number_at bytes tail_after) good)
 
 -- these lines follow settings
 abbrev by_settings : List ℕ → List ℕ → List NumberedLine → List NumberedLine → Result TableRule TableFault
@@ -117,15 +117,15 @@ module _ (bytes named : List ℕ) where
       cond-true _ _ _ parts.0
       ∙ cond-false _ _ _ (not-true (sets_again earlier line) parts.1)
 
-  settings-end : (earlier good behind : List NumberedLine) → are_settings earlier good ≡ true → is_behind_settings behind ≡ true → by_settings bytes named earlier (good ++ behind) ≡ by_meaning bytes named (earlier ++ good) behind
+  settings-end : (earlier good tail_after : List NumberedLine) → are_settings earlier good ≡ true → follows_settings tail_after ≡ true → by_settings bytes named earlier (good ++ tail_after) ≡ by_meaning bytes named (earlier ++ good) tail_after
   settings-end earlier [] [] once ends = ap (λ g. by_meaning bytes named g []) (sym (append-nil earlier))
   settings-end earlier [] (l ∷ ls) once ends =
       cond-false _ _ _ (not-true (is_setting l) ends)
       ∙ ap (λ g. by_meaning bytes named g (l ∷ ls)) (sym (append-nil earlier))
-  settings-end earlier (x ∷ xs) behind once ends =
+  settings-end earlier (x ∷ xs) tail_after once ends =
       let parts = and_parts (is_setting x && not (sets_again earlier x)) (are_settings (earlier ++ x ∷ []) xs) once in
-      good-setting earlier x (xs ++ behind) parts.0 ∙ settings-end (earlier ++ x ∷ []) xs behind parts.1 ends
-      ∙ ap (λ g. by_meaning bytes named g behind) (append_assoc earlier (x ∷ []) xs)
+      good-setting earlier x (xs ++ tail_after) parts.0 ∙ settings-end (earlier ++ x ∷ []) xs tail_after parts.1 ends
+      ∙ ap (λ g. by_meaning bytes named g tail_after) (append_assoc earlier (x ∷ []) xs)
 
   settings-again : (earlier good : List NumberedLine) (line : NumberedLine) (later : List NumberedLine) → are_settings earlier good ≡ true → sets_again (earlier ++ good) line ≡ true → by_settings bytes named earlier (good ++ line ∷ later) ≡ Err (Syntax line.0)
   settings-again earlier [] line later once again =
@@ -190,10 +190,10 @@ section-no-setting (n, b ∷ bs) e =
     ap (λ c. is_setting (n, c ∷ bs)) same
 
 -- so statements follow the settings
-pub behind-settings : (settings : Settings) (said : SaidStatements) (good later : List NumberedLine) (after : SaidStatements) → Say settings said good after → is_end_of_section later ≡ true → is_behind_settings (good ++ later) ≡ true
-behind-settings settings said [] [] after say ends = refl
-behind-settings settings said [] (l ∷ ls) after say ends = ap not (section-no-setting l ends)
-behind-settings settings said (x ∷ xs) later after (next, says, more) ends = ap not (says-no-setting settings said x next says)
+pub tail_after-settings : (settings : Settings) (said : SaidStatements) (good later : List NumberedLine) (after : SaidStatements) → Say settings said good after → is_end_of_section later ≡ true → follows_settings (good ++ later) ≡ true
+tail_after-settings settings said [] [] after say ends = refl
+tail_after-settings settings said [] (l ∷ ls) after say ends = ap not (section-no-setting l ends)
+tail_after-settings settings said (x ∷ xs) later after (next, says, more) ends = ap not (says-no-setting settings said x next says)
 
 -- ---- a text
 
@@ -201,7 +201,7 @@ behind-settings settings said (x ∷ xs) later after (next, says, more) ends = a
 is-read : (bytes : List ℕ) (t : TableRule) → IsTable bytes t → reading bytes ≡ Ok t
 is-read bytes t h =
     has-table bytes h.name (h.setting_lines ++ (h.statements ++ h.later)) h.has_table
-    ∙ settings-end bytes h.name [] h.setting_lines (h.statements ++ h.later) h.mean.once (behind-settings h.settings nothing h.statements h.later h.said h.say h.ends)
+    ∙ settings-end bytes h.name [] h.setting_lines (h.statements ++ h.later) h.mean.once (tail_after-settings h.settings nothing h.statements h.later h.said h.say h.ends)
     ∙ ap (then_ok (from_nothing h.name (h.statements ++ h.later))) (settings-mean (number_at bytes (h.statements ++ h.later)) h.setting_lines h.settings h.mean)
     ∙ statements-end h.name h.settings nothing h.statements h.later h.said h.say h.ends
     ∙ ap (λ x. Ok x) (sym h.table_is)
@@ -219,10 +219,10 @@ again-read bytes n a =
 
 settings-read : (bytes : List ℕ) (n : ℕ) (P : List NumberedLine → Type 0) (f : TableFault) (h : HasSettings bytes n P) → settings_of n h.0 ≡ Err f → reading bytes ≡ Err f
 settings-read bytes n P f (lines, h, holds) e =
-    has-table bytes h.name (lines ++ h.behind) h.has_table
-    ∙ settings-end bytes h.name [] lines h.behind h.once h.ends
-    ∙ ap (λ m. then_ok (from_nothing h.name h.behind) (settings_of m lines)) (sym h.number)
-    ∙ ap (then_ok (from_nothing h.name h.behind)) e
+    has-table bytes h.name (lines ++ h.tail_after) h.has_table
+    ∙ settings-end bytes h.name [] lines h.tail_after h.once h.ends
+    ∙ ap (λ m. then_ok (from_nothing h.name h.tail_after) (settings_of m lines)) (sym h.number)
+    ∙ ap (then_ok (from_nothing h.name h.tail_after)) e
 
 statement-read : (bytes : List ℕ) (n : ℕ) (P : Settings → SaidStatements → NumberedLine → Type 0) (f : ℕ → TableFault) (h : HasStatement bytes n P) → step_of h.settings h.said h.line ≡ Err (f h.line.0) → reading bytes ≡ Err (f n)
 statement-read bytes n P f h e =

@@ -6,7 +6,7 @@ use Rattle.std.proofs.lemmas.Bool.Decides.{nat_tests}
 use Rattle.ca_plane.specs.Bytes.{Every, is_digit, is_end_or, rest}
 use Rattle.ca_plane.proofs.Fronts.{front_append, rest_append, every_append, every_wider}
 use Rattle.ca_rule.specs.Counts.{most_of, are_digits_up_to}
-use Rattle.ca_rule.specs.inner.TextParts.{is_rule_letter, hood_of, body_of, without_slash, behind_letter, behind_slash, both, swapped, lists_around, lists_around_slash, lists_of}
+use Rattle.ca_rule.specs.inner.TextParts.{is_rule_letter, hood_of, body_of, without_slash, tail_after_letter, tail_after_slash, both, swapped, lists_around, lists_around_slash, lists_of}
 use Rattle.ca_rule.specs.Spelling.{IsLetter, IsSuffix, IsOptionalSlash, IsLettered, IsUnlettered, SpellsBsRule, has_colon}
 use Rattle.ca_rule.specs.declared.hood.Hood.{Hood}
 use Rattle.ca_rule.specs.declared.hood.Hood.TheVariants.{Moore, VonNeumann, Hex}
@@ -28,7 +28,7 @@ plain-digits ds h = every_wider is_digit is_plain (λ d t. grind (arith, nat_tes
 -- what follows the first digits of a text with letters
 record IsTail (upper : ℕ) (tail later : List ℕ) : Type 0 where
   ends : is_end_or (λ b. not (is_digit b)) tail ≡ true
-  leads : behind_letter upper (without_slash tail) ≡ Some later
+  leads : tail_after_letter upper (without_slash tail) ≡ Some later
 
 tail-letter : (upper b : ℕ) (later : List ℕ) → 65 ≤ upper → IsLetter upper b → IsTail upper (b ∷ later) later
 tail-letter upper b later low (inl e) = record { ends = grind (arith, nat_tests); leads = grind (arith, nat_tests) }
@@ -44,14 +44,14 @@ around upper b digits slash later low h s l =
     let t = tail upper b slash later low s l in
     let f = front_append is_digit digits (slash ++ (b ∷ later)) h t.ends in
     let r = rest_append is_digit digits (slash ++ (b ∷ later)) h t.ends in
-    ap (λ x. both x (behind_letter upper (without_slash (rest is_digit (digits ++ (slash ++ (b ∷ later))))))) f
-    ∙ ap (λ x. both digits (behind_letter upper (without_slash x))) r ∙ ap (both digits) t.leads
+    ap (λ x. both x (tail_after_letter upper (without_slash (rest is_digit (digits ++ (slash ++ (b ∷ later))))))) f
+    ∙ ap (λ x. both digits (tail_after_letter upper (without_slash x))) r ∙ ap (both digits) t.leads
 
 -- the lists round a `/` are read
 pub around_slash : (digits later : List ℕ) → Every is_digit digits → lists_around_slash (digits ++ (47 ∷ later)) ≡ Some (digits, later)
 around_slash digits later h =
-    ap (λ x. both x (behind_slash (rest is_digit (digits ++ (47 ∷ later))))) (front_append is_digit digits (47 ∷ later) h refl)
-    ∙ ap (λ x. both digits (behind_slash x)) (rest_append is_digit digits (47 ∷ later) h refl)
+    ap (λ x. both x (tail_after_slash (rest is_digit (digits ++ (47 ∷ later))))) (front_append is_digit digits (47 ∷ later) h refl)
+    ∙ ap (λ x. both digits (tail_after_slash x)) (rest_append is_digit digits (47 ∷ later) h refl)
 
 -- the reading of a text without its suffix, by its first byte
 lists-birth_first : (a : ℕ) (bs : List ℕ) → IsLetter 66 a → lists_of (a ∷ bs) ≡ lists_around 83 bs

@@ -24,9 +24,9 @@ module _ (variables : List States) (nine : List ℕ) (t : Transition) where
       ]
 
   -- an order after a place, and the place after those taken
-  behind : (taken : List ℕ) (x : ℕ) (gs : List (List ℕ)) → map (λ g. taken ++ g) (map (λ g. x ∷ g) gs) ≡ map (λ g. (taken ++ x ∷ []) ++ g) gs
-  behind taken x [] = refl
-  behind taken x (g ∷ gs) = ap (λ l. (taken ++ x ∷ g) ∷ l) (behind taken x gs) ∙ ap (λ l. l ∷ map (λ h. (taken ++ x ∷ []) ++ h) gs) (sym (append_assoc taken (x ∷ []) g))
+  tail_after : (taken : List ℕ) (x : ℕ) (gs : List (List ℕ)) → map (λ g. taken ++ g) (map (λ g. x ∷ g) gs) ≡ map (λ g. (taken ++ x ∷ []) ++ g) gs
+  tail_after taken x [] = refl
+  tail_after taken x (g ∷ gs) = ap (λ l. (taken ++ x ∷ g) ∷ l) (tail_after taken x gs) ∙ ap (λ l. l ∷ map (λ h. (taken ++ x ∷ []) ++ h) gs) (sym (append_assoc taken (x ∷ []) g))
 
   picked : (taken : List ℕ) (n : ℕ) (ps : List (ℕ × List ℕ)) →
       outcome_at variables nine t (map (λ g. taken ++ g) (flat_map (λ p. map (λ g. p.0 ∷ g) (every_order n p.1)) ps)) ≡ picked_outcome variables nine t taken n ps
@@ -34,7 +34,7 @@ module _ (variables : List States) (nine : List ℕ) (t : Transition) where
   picked taken n (p ∷ ps) =
       ap (outcome_at variables nine t) (map-append (λ g. taken ++ g) (map (λ g. p.0 ∷ g) (every_order n p.1)) (flat_map (λ q. map (λ g. q.0 ∷ g) (every_order n q.1)) ps))
       ∙ outcome_at-append (map (λ g. taken ++ g) (map (λ g. p.0 ∷ g) (every_order n p.1))) (map (λ g. taken ++ g) (flat_map (λ q. map (λ g. q.0 ∷ g) (every_order n q.1)) ps))
-      ∙ ap (λ o. option_or o (outcome_at variables nine t (map (λ g. taken ++ g) (flat_map (λ q. map (λ g. q.0 ∷ g) (every_order n q.1)) ps)))) (ap (outcome_at variables nine t) (behind taken p.0 (every_order n p.1)))
+      ∙ ap (λ o. option_or o (outcome_at variables nine t (map (λ g. taken ++ g) (flat_map (λ q. map (λ g. q.0 ∷ g) (every_order n q.1)) ps)))) (ap (outcome_at variables nine t) (tail_after taken p.0 (every_order n p.1)))
       ∙ ap (λ o. option_or (least_outcome variables nine t (taken ++ p.0 ∷ []) n p.1) o) (picked taken n ps)
 
   -- the next slot takes one of the free places

@@ -9,7 +9,7 @@ use Rattle.ca_rule.specs.declared.table.settings.SettingValues.{SettingValues}
 use Rattle.ca_rule.specs.declared.table.fault.TableFault.{TableFault}
 use Rattle.ca_rule.specs.TableLines.{NumberedLine, setting, is_setting, value_of}
 use Rattle.ca_rule.specs.TableText.{HasTable, Settings, Mean, sets_again, are_settings}
-use Rattle.ca_rule.specs.TableFaults.{number_at, is_behind_settings, SetsAgain, HaveEnd, IsTableTextFault}
+use Rattle.ca_rule.specs.TableFaults.{number_at, follows_settings, SetsAgain, HaveEnd, IsTableTextFault}
 use Rattle.ca_rule.specs.inner.TableSettings.{bytes_of, AreValuesOf, AreGivenBy, has_some, have_one, joined_settings, IsBehindSettings, IsBehindMeant}
 
 -- a value that is matched is that of the bytes
@@ -134,8 +134,8 @@ module _ (all left later : List NumberedLine) (line : NumberedLine) (values give
   }
 
 -- another line ends the settings
-pub settings-end : (left later : List NumberedLine) (line : NumberedLine) (given : SettingValues) → left ≡ line ∷ later → AreGivenBy line given → has_some given ≡ false → is_behind_settings left ≡ true
-settings-end left later line given next are none = ap is_behind_settings next ∙ ap not (sym (is-setting line given are) ∙ none)
+pub settings-end : (left later : List NumberedLine) (line : NumberedLine) (given : SettingValues) → left ≡ line ∷ later → AreGivenBy line given → has_some given ≡ false → follows_settings left ≡ true
+settings-end left later line given next are none = ap follows_settings next ∙ ap not (sym (is-setting line given are) ∙ none)
 
 -- what holds of an error holds of the one that is passed on
 pub passed-on : {T E : Type 0} (r : Result T E) (e : E) (P : E → Type 0) → IsErrAnd r (λ passed. passed ≡ e) → P e → IfErr r P
@@ -148,11 +148,11 @@ pub all-meant : (all left : List NumberedLine) (values : SettingValues) (setting
 all-meant all left values settings before meaning = record { good = before.good; mean = meaning before.good before.values_are before.once; whole = before.whole }
 
 -- and else the fault is that of the text
-pub settings-fault : (bytes text name : List ℕ) (n : ℕ) (all left : List NumberedLine) (values : SettingValues) (f : TableFault) → text ≡ bytes → HasTable bytes name all → IsBehindSettings all values left → is_behind_settings left ≡ true → n ≡ number_at text left
+pub settings-fault : (bytes text name : List ℕ) (n : ℕ) (all left : List NumberedLine) (values : SettingValues) (f : TableFault) → text ≡ bytes → HasTable bytes name all → IsBehindSettings all values left → follows_settings left ≡ true → n ≡ number_at text left
     → ((bytes : List ℕ) (good : List NumberedLine) → AreValuesOf good values → HaveEnd bytes n good → IsTableTextFault bytes f) → IsTableTextFault bytes f
 settings-fault bytes text name n all left values f same has before ended number faults = faults bytes before.good before.values_are (record {
   name = name;
-  behind = left;
+  tail_after = left;
   has_table = subst (HasTable bytes name) before.whole has;
   once = before.once;
   ends = ended;

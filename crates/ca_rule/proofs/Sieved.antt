@@ -45,13 +45,13 @@ pub here-or-later : (variables : List States) (nine : List ℕ) (slots : List Sl
     → (bit_at a k ≡ 0 → slots_admit variables (slice_index nine place) (drop slot slots) ≡ false)
     → (bit_at b k ≡ 0 → each variables (zip (drop (slot + 1) slots) (map (slice_index nine) later)) ≡ false)
     → each variables (zip (drop slot slots) (map (slice_index nine) places)) ≡ false
-here-or-later variables nine slots slot place places later a b k e none here behind =
+here-or-later variables nine slots slot place places later a b k e none here tail_after =
     let split = each-drop variables slots slot (slice_index nine place) (map (slice_index nine) later) in
     ap (λ l. each variables (zip (drop slot slots) (map (slice_index nine) l))) e ∙ split
     ∙ elim (cases_Bool (bit_at a k == 0)) [
       | inl z ↦ let zeros : bit_at a k ≡ 0 = grind (arith, nat_tests) in rw (here zeros) refl
       | inr z ↦ ap (λ n. slots_admit variables (slice_index nine place) (drop slot slots) && each variables (zip (drop n slots) (map (slice_index nine) later))) (next-slot slot)
-          ∙ ap (λ b. slots_admit variables (slice_index nine place) (drop slot slots) && b) (behind (other-bit a b k none z)) ∙ and-not (slots_admit variables (slice_index nine place) (drop slot slots))
+          ∙ ap (λ b. slots_admit variables (slice_index nine place) (drop slot slots) && b) (tail_after (other-bit a b k none z)) ∙ and-not (slots_admit variables (slice_index nine place) (drop slot slots))
     ]
 
 pub here : (variables : List States) (nine : List ℕ) (slots : List Slot) (slot place : ℕ) (places later : List ℕ) → places ≡ place ∷ later

@@ -8,7 +8,7 @@ use Rattle.ca_rule.specs.declared.table.statement_fault.StatementFault.TheVarian
 use Rattle.ca_rule.specs.declared.table.statements.Statements.{Statements}
 use Rattle.ca_rule.specs.TableLines.{NumberedLine, begins_section, IsVariableLine, IsTransitionLine}
 use Rattle.ca_rule.specs.TableText.{HasTable, Settings, Mean, SaidStatements, nothing, StandsFor, number_of, SaysVariable, is_bound, field_count, SaysTransition, Say}
-use Rattle.ca_rule.specs.TableFaults.{is_behind_settings, HasStatement, HasFields, HasBadField, IsTableTextFault}
+use Rattle.ca_rule.specs.TableFaults.{follows_settings, HasStatement, HasFields, HasBadField, IsTableTextFault}
 use Rattle.ca_rule.specs.inner.TableNames.{HasNoSlot, IsFaultAmong, IsFaultOfTransition}
 use Rattle.ca_rule.specs.inner.TableSaid.{KeepsStatements, with_variable, with_transition}
 use Rattle.ca_rule.specs.inner.TableSaying.{fault_at, IsKeptBehind, IsFaultOfLine, IsBehindSaid, AreAllSaid}
@@ -93,14 +93,14 @@ one-said settings all left later line old new before next more =
 
 -- a section begins after them, or they end
 pub section-behind : (settings : Settings) (all left later : List NumberedLine) (line : NumberedLine) (kept : Statements) → IsBehindSaid settings all left kept → left ≡ line ∷ later → begins_section line ≡ true → AreAllSaid settings all kept
-section-behind settings all left later line kept before next begins = record { later = line ∷ later; behind = subst (λ l. IsBehindSaid settings all l kept) next before; ends = begins }
+section-behind settings all left later line kept before next begins = record { later = line ∷ later; tail_after = subst (λ l. IsBehindSaid settings all l kept) next before; ends = begins }
 
 pub none-behind : (settings : Settings) (all left : List NumberedLine) (kept : Statements) → IsBehindSaid settings all left kept → left ≡ [] → AreAllSaid settings all kept
-none-behind settings all left kept before none = record { later = []; behind = subst (λ l. IsBehindSaid settings all l kept) none before; ends = refl }
+none-behind settings all left kept before none = record { later = []; tail_after = subst (λ l. IsBehindSaid settings all l kept) none before; ends = refl }
 
 -- a line of the table comes after good settings and good statements, and this holds of it
 pub has-statement : (bytes named : List ℕ) (head before later : List NumberedLine) (settings : Settings) (said : SaidStatements) (line : NumberedLine) → Mean head settings → HasTable bytes named (head ++ (before ++ line ∷ later))
-    → is_behind_settings (before ++ line ∷ later) ≡ true → Say settings nothing before said → begins_section line ≡ false → (P : Settings → SaidStatements → NumberedLine → Type 0) → P settings said line → HasStatement bytes line.0 P
+    → follows_settings (before ++ line ∷ later) ≡ true → Say settings nothing before said → begins_section line ≡ false → (P : Settings → SaidStatements → NumberedLine → Type 0) → P settings said line → HasStatement bytes line.0 P
 has-statement bytes named head before later settings said line mean has ended say inside P holding = record {
   name = named;
   setting_lines = head;
@@ -120,12 +120,12 @@ has-statement bytes named head before later settings said line mean has ended sa
 
 -- or the next line has a fault
 module _ (settings : Settings) (all left later : List NumberedLine) (line : NumberedLine) (kept : Statements) (before : IsBehindSaid settings all left kept) (next : left ≡ line ∷ later) (in_table : begins_section line ≡ false)
-    (bytes name : List ℕ) (head : List NumberedLine) (has : HasTable bytes name (head ++ all)) (mean : Mean head settings) (ended : is_behind_settings all ≡ true) where
+    (bytes name : List ℕ) (head : List NumberedLine) (has : HasTable bytes name (head ++ all)) (mean : Mean head settings) (ended : follows_settings all ≡ true) where
   at-line : (P : Settings → SaidStatements → NumberedLine → Type 0) → P settings before.said line → HasStatement bytes line.0 P
   at-line =
       let whole = before.whole ∙ ap (λ l. before.good ++ l) next in
       has-statement bytes name head before.good later settings before.said line mean (subst (λ l. HasTable bytes name (head ++ l)) whole has)
-      (ap is_behind_settings (sym whole) ∙ ended) before.say in_table
+      (ap follows_settings (sym whole) ∙ ended) before.say in_table
 
   pub line-fault : (f : StatementFault) → ((said : SaidStatements) → KeepsStatements said kept → IsFaultOfLine settings said line f) → IsTableTextFault bytes (fault_at line.0 f)
   line-fault Syntax fault = inr (at-line _ (fault before.said before.is_kept))

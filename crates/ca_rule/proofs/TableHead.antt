@@ -54,14 +54,14 @@ table-begins all left later line before next begun = record {
 
 -- so a table follows the name
 pub has-table : (bytes name : List ℕ) (all lines : List NumberedLine) → HasRuleName bytes name all → IsBehindTable all lines → HasTable bytes name lines
-has-table bytes name all lines named behind = record {
+has-table bytes name all lines named tail_after = record {
   rule_line = named.rule_line;
-  skipped = behind.skipped;
-  table_line = behind.table_line;
+  skipped = tail_after.skipped;
+  table_line = tail_after.table_line;
   named = named.named;
-  no_table = behind.no_table;
-  begins = behind.begins;
-  whole = named.whole ∙ ap (λ l. named.rule_line ∷ l) behind.whole;
+  no_table = tail_after.no_table;
+  begins = tail_after.begins;
+  whole = named.whole ∙ ap (λ l. named.rule_line ∷ l) tail_after.whole;
 }
 
 -- or none

@@ -15,7 +15,7 @@ use Rattle.ca_rule.specs.TableNext.{TableRule, table_next}
 use Rattle.ca_rule.specs.Digits.{are_digits}
 use Rattle.ca_rule.specs.TableLines.{NumberedLine, lines_said, last_line, rule_name, begins_table, begins_section, is_setting, states_set, neighbourhood_set, symmetry_set, is_name, is_field, IsVariableLine, IsTransitionLine}
 use Rattle.ca_rule.specs.TableText.{HasTable, sets_again, are_settings, Settings, Mean, SaidStatements, nothing, number_of, StandsFor, is_bound, field_count, Say, made, is_end_of_section, IsTable}
-use Rattle.ca_rule.specs.TableFaults.{number_at, is_behind_settings, HasNoRuleLine, HasNoTable, HaveEnd, HasStatement, IsMisspelled, HasFields, HasBadField, HasBadState, HasUnknownName, HasUnbound, IsTableTextFault}
+use Rattle.ca_rule.specs.TableFaults.{number_at, follows_settings, HasNoRuleLine, HasNoTable, HaveEnd, HasStatement, IsMisspelled, HasFields, HasBadField, HasBadState, HasUnknownName, HasUnbound, IsTableTextFault}
 use Rattle.ca_rule.specs.inner.TableSaid.{with_variable}
 use Rattle.ca_rule.proofs.OneSpelling.{some_if, variable_of, variable-is-of, variable-of-is, transition_of, transition-is-of, transition-of-is}
 use Rattle.ca_rule.proofs.OneStatement.{slot_if, slot_of, slot-stands, inputs_of, result_of, with_transition, Says}
@@ -175,7 +175,7 @@ module _ (bytes named : List ℕ) (setting_lines : List NumberedLine) (settings 
   -- these lines follow good statements
   record BehindStatements (good : List NumberedLine) (said : SaidStatements) (left : List NumberedLine) : Type 0 where
     has_table : HasTable bytes named (setting_lines ++ (good ++ left))
-    ends : is_behind_settings (good ++ left) ≡ true
+    ends : follows_settings (good ++ left) ≡ true
     say : Say settings nothing good said
 
   statement-fault : (P : Settings → SaidStatements → NumberedLine → Type 0) (good : List NumberedLine) (said : SaidStatements) (line : NumberedLine) (later : List NumberedLine) → BehindStatements good said (line ∷ later) → begins_section line ≡ false → P settings said line → HasStatement bytes line.0 P
@@ -209,7 +209,7 @@ module _ (bytes named : List ℕ) (setting_lines : List NumberedLine) (settings 
     | inr s ↦ elim (says-or-bad settings said l) [
       | inl n ↦ statements-or-fault (good ++ l ∷ []) n.0 ls (record {
         has_table = subst (λ lines. HasTable bytes named (setting_lines ++ lines)) (sym (append_assoc good (l ∷ []) ls)) b.has_table;
-        ends = ap is_behind_settings (append_assoc good (l ∷ []) ls) ∙ b.ends;
+        ends = ap follows_settings (append_assoc good (l ∷ []) ls) ∙ b.ends;
         say = say-then settings nothing good l said n.0 b.say n.1;
       })
       | inr h ↦ bad-line good said l ls b s h
@@ -222,7 +222,7 @@ module _ (bytes : List ℕ) where
   symmetry-or-fault : (n count : ℕ) (good : List NumberedLine) (of : Neighbourhood) (under : Option Symmetry) → HaveEnd bytes n good → states_set good ≡ Some count → neighbourhood_set good ≡ Some of → symmetry_set of good ≡ under → TableOrFault bytes
   symmetry-or-fault n count good of None h s k e = inr (Symmetries n, other-than-memory (Symmetries n) refl, (good, h, (count, of, s, k, e)))
   symmetry-or-fault n count good of (Some under) h s k e =
-      statements-or-fault bytes h.name good (record { states = count; neighbourhood = of; symmetry = under }) (record { once = h.once; states_are = s; neighbourhood_is = k; symmetry_is = e }) [] nothing h.behind
+      statements-or-fault bytes h.name good (record { states = count; neighbourhood = of; symmetry = under }) (record { once = h.once; states_are = s; neighbourhood_is = k; symmetry_is = e }) [] nothing h.tail_after
       (record { has_table = h.has_table; ends = h.ends; say = refl })
 
   neighbourhood-or-fault : (n count : ℕ) (good : List NumberedLine) (of : Option Neighbourhood) → HaveEnd bytes n good → states_set good ≡ Some count → neighbourhood_set good ≡ of → TableOrFault bytes
@@ -233,9 +233,9 @@ module _ (bytes : List ℕ) where
   states-or-fault n good None h e = inr (States n, other-than-memory (States n) refl, inl (good, h, e))
   states-or-fault n good (Some count) h e = neighbourhood-or-fault n count good (neighbourhood_set good) h e refl
 
-  ended : (named : List ℕ) (good behind : List NumberedLine) → HasTable bytes named (good ++ behind) → are_settings [] good ≡ true → is_behind_settings behind ≡ true → TableOrFault bytes
-  ended named good behind has once ends =
-      states-or-fault (number_at bytes behind) good (states_set good) (record { name = named; behind = behind; has_table = has; once = once; ends = ends; number = refl }) refl
+  ended : (named : List ℕ) (good tail_after : List NumberedLine) → HasTable bytes named (good ++ tail_after) → are_settings [] good ≡ true → follows_settings tail_after ≡ true → TableOrFault bytes
+  ended named good tail_after has once ends =
+      states-or-fault (number_at bytes tail_after) good (states_set good) (record { name = named; tail_after = tail_after; has_table = has; once = once; ends = ends; number = refl }) refl
 
   settings-or-fault : (named : List ℕ) (good left : List NumberedLine) → HasTable bytes named (good ++ left) → are_settings [] good ≡ true → TableOrFault bytes
   settings-or-fault named good [] has once = ended named good [] has once refl

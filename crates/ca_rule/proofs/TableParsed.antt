@@ -67,8 +67,8 @@ module _ (settings : Settings) where
 
   pub kept-below : (all : List NumberedLine) (kept : Statements) → AreAllSaid settings all kept → list_all (λ (t : Transition). is_below settings.states t.result) kept.transitions.items ≡ true
   kept-below all kept h =
-      let said = h.behind.said in
-      ap (list_all (λ (t : Transition). is_below settings.states t.result)) (sym h.behind.is_kept.lines) ∙ all-below nothing said h.behind.good refl h.behind.say
+      let said = h.tail_after.said in
+      ap (list_all (λ (t : Transition). is_below settings.states t.result)) (sym h.tail_after.is_kept.lines) ∙ all-below nothing said h.tail_after.good refl h.tail_after.say
 
 -- what is stored is what the text says
 pub is-table : (bytes name : List ℕ) (all left : List NumberedLine) (settings : Settings) (kept : Statements) → HasTable bytes name all → IsBehindMeant all settings left → AreAllSaid settings left kept
@@ -76,13 +76,13 @@ pub is-table : (bytes name : List ℕ) (all left : List NumberedLine) (settings 
 is-table bytes name all left settings kept has before h = record {
   name = name;
   setting_lines = before.good;
-  statements = h.behind.good;
+  statements = h.tail_after.good;
   later = h.later;
   settings = settings;
-  said = h.behind.said;
-  has_table = subst (HasTable bytes name) (before.whole ∙ ap (λ l. before.good ++ l) h.behind.whole) has;
+  said = h.tail_after.said;
+  has_table = subst (HasTable bytes name) (before.whole ∙ ap (λ l. before.good ++ l) h.tail_after.whole) has;
   mean = before.mean;
-  say = h.behind.say;
+  say = h.tail_after.say;
   ends = h.ends;
-  table_is = λ i. stored name settings.states settings.neighbourhood settings.symmetry (sym h.behind.is_kept.sets i) (sym h.behind.is_kept.lines i);
+  table_is = λ i. stored name settings.states settings.neighbourhood settings.symmetry (sym h.tail_after.is_kept.sets i) (sym h.tail_after.is_kept.lines i);
 }

@@ -6,9 +6,9 @@ use Rattle.std.proofs.lemmas.List.{append_cancel_right, length_push}
 use Rattle.std.proofs.lemmas.Bool.{and_parts, cases_Bool}
 use Rattle.ca_plane.specs.Bytes.{is_blank, Every, front, rest, is_end_or}
 use Rattle.ca_plane.proofs.Fronts.{front_then_rest, every_front, front_append, rest_append}
-use Rattle.ca_rule.specs.TableLines.{NumberedLine, behind, begins_variable, is_name_byte, is_name, is_field, fields_between, IsVariableLine}
+use Rattle.ca_rule.specs.TableLines.{NumberedLine, tail_after, begins_variable, is_name_byte, is_name, is_field, fields_between, IsVariableLine}
 use Rattle.ca_rule.specs.inner.TableFields.{opened, IsBraced}
-use Rattle.ca_rule.proofs.Stripped.{behind-is, behind-whole}
+use Rattle.ca_rule.proofs.Stripped.{tail_after-is, tail_after-whole}
 
 -- a blank or a sign follows blanks
 blanks-end : (test : ℕ → Bool) (blanks more : List ℕ) → ((b : ℕ) → is_blank b ≡ true → test b ≡ true) → Every is_blank blanks → is_end_or test more ≡ true → is_end_or test (blanks ++ more) ≡ true
@@ -33,22 +33,22 @@ name-begins (b ∷ bs) more e = no-blank b (and_parts (is_name_byte b) (list_all
 pub opened-braced : (bytes inside : List ℕ) → IsBraced bytes inside → opened bytes ≡ Some (inside ++ codes "}")
 opened-braced bytes inside b =
     let one : rest is_blank bytes ≡ codes "=" ++ (b.third ++ (codes "{" ++ (inside ++ codes "}"))) = ap (rest is_blank) b.spelled ∙ rest_append is_blank b.second (codes "=" ++ (b.third ++ (codes "{" ++ (inside ++ codes "}")))) b.second_blanks refl in
-    let two : behind (codes "=") (rest is_blank bytes) ≡ Some (b.third ++ (codes "{" ++ (inside ++ codes "}"))) = ap (behind (codes "=")) one ∙ behind-is (codes "=") (b.third ++ (codes "{" ++ (inside ++ codes "}"))) in
+    let two : tail_after (codes "=") (rest is_blank bytes) ≡ Some (b.third ++ (codes "{" ++ (inside ++ codes "}"))) = ap (tail_after (codes "=")) one ∙ tail_after-is (codes "=") (b.third ++ (codes "{" ++ (inside ++ codes "}"))) in
     let three : rest is_blank (b.third ++ (codes "{" ++ (inside ++ codes "}"))) ≡ codes "{" ++ (inside ++ codes "}") = rest_append is_blank b.third (codes "{" ++ (inside ++ codes "}")) b.third_blanks refl in
-    ap (option_and_then (λ more. behind (codes "{") (rest is_blank more))) two
-    ∙ ap (behind (codes "{")) three ∙ behind-is (codes "{") (inside ++ codes "}")
+    ap (option_and_then (λ more. tail_after (codes "{") (rest is_blank more))) two
+    ∙ ap (tail_after (codes "{")) three ∙ tail_after-is (codes "{") (inside ++ codes "}")
 
 -- where something follows the first part, and the second
-opened-parts : (o : Option (List ℕ)) (r : List ℕ) → option_and_then (λ more. behind (codes "{") (rest is_blank more)) o ≡ Some r → (more : List ℕ) × (o ≡ Some more) × (behind (codes "{") (rest is_blank more) ≡ Some r)
+opened-parts : (o : Option (List ℕ)) (r : List ℕ) → option_and_then (λ more. tail_after (codes "{") (rest is_blank more)) o ≡ Some r → (more : List ℕ) × (o ≡ Some more) × (tail_after (codes "{") (rest is_blank more) ≡ Some r)
 opened-parts None r e = cc
 opened-parts (Some more) r e = (more, refl, e)
 
 -- and what is opened and ends with a brace is braced
 pub braced-opened : (bytes inside r : List ℕ) → opened bytes ≡ Some r → r ≡ inside ++ codes "}" → IsBraced bytes inside
 braced-opened bytes inside r e end =
-    let parts = opened-parts (behind (codes "=") (rest is_blank bytes)) r e in
-    let one = behind-whole (codes "=") (rest is_blank bytes) parts.0 parts.1 in
-    let two = behind-whole (codes "{") (rest is_blank parts.0) r parts.2 in
+    let parts = opened-parts (tail_after (codes "=") (rest is_blank bytes)) r e in
+    let one = tail_after-whole (codes "=") (rest is_blank bytes) parts.0 parts.1 in
+    let two = tail_after-whole (codes "{") (rest is_blank parts.0) r parts.2 in
     record {
       second = front is_blank bytes;
       third = front is_blank parts.0;
@@ -61,7 +61,7 @@ braced-opened bytes inside r e end =
 -- a line that is spelled as a variable's has its name after `var` and blanks, and braces after that
 pub record HasParts (line name inside : List ℕ) : Type 0 where
   pub more : List ℕ
-  pub is_var : behind (codes "var") line ≡ Some more
+  pub is_var : tail_after (codes "var") line ≡ Some more
   pub name_is : front is_name_byte (rest is_blank more) ≡ name
   pub braces : IsBraced (rest is_name_byte (rest is_blank more)) inside
 
@@ -73,7 +73,7 @@ parts-of-line line name fields v =
     let ends : is_end_or (λ b. not (is_name_byte b)) tail ≡ true = blanks-end (λ b. not (is_name_byte b)) v.second (codes "=" ++ (v.third ++ (codes "{" ++ (v.inside ++ codes "}")))) no-name-byte v.second_blanks refl in
     record {
       more = v.first ++ (name ++ tail);
-      is_var = ap (behind (codes "var")) v.spelled ∙ behind-is (codes "var") (v.first ++ (name ++ tail));
+      is_var = ap (tail_after (codes "var")) v.spelled ∙ tail_after-is (codes "var") (v.first ++ (name ++ tail));
       name_is = ap (front is_name_byte) blank ∙ front_append is_name_byte name tail bytes ends;
       braces = record {
         second = v.second;
@@ -98,7 +98,7 @@ line-of-parts line name inside var p is all = record {
   named = is;
   fields_are = refl;
   are_fields = all;
-  spelled = behind-whole (codes "var") line.1 p.more p.is_var ∙ ap (λ l. codes "var" ++ l)
+  spelled = tail_after-whole (codes "var") line.1 p.more p.is_var ∙ ap (λ l. codes "var" ++ l)
       (sym (front_then_rest is_blank p.more) ∙ ap (λ l. front is_blank p.more ++ l)
       (sym (front_then_rest is_name_byte (rest is_blank p.more)) ∙ ap (λ n. n ++ rest is_name_byte (rest is_blank p.more)) p.name_is ∙ ap (λ l. name ++ l) p.braces.spelled));
 }
@@ -138,7 +138,7 @@ pub not-opened : (bytes inside : List ℕ) → opened bytes ≡ None → IsBrace
 not-opened bytes inside e b = let k = sym e ∙ opened-braced bytes inside b in cc
 
 -- a variable's line, read from its start
-module _ (line : NumberedLine) (more named found later : List ℕ) (is_var : behind (codes "var") line.1 ≡ Some more) (blanks : named ≡ rest is_blank more)
+module _ (line : NumberedLine) (more named found later : List ℕ) (is_var : tail_after (codes "var") line.1 ≡ Some more) (blanks : named ≡ rest is_blank more)
     (first : found ≡ front is_name_byte named) (behind_it : later ≡ rest is_name_byte named) where
   pub read-name : (name : List ℕ) (fields : List (List ℕ)) → IsVariableLine line name fields → found ≡ name
   read-name name fields v =

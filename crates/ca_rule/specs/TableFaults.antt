@@ -17,9 +17,9 @@ number_at bytes [] = last_line bytes
 number_at bytes (l ∷ ls) = l.0
 
 -- the first of the lines, if there is one, is no setting
-abbrev pub is_behind_settings : List NumberedLine → Bool
-is_behind_settings [] = true
-is_behind_settings (l ∷ ls) = not (is_setting l)
+abbrev pub follows_settings : List NumberedLine → Bool
+follows_settings [] = true
+follows_settings (l ∷ ls) = not (is_setting l)
 
 -- the first line that says something is no `@RULE` with a name
 abbrev pub HasNoRuleLine : List NumberedLine → Type 0
@@ -46,11 +46,11 @@ pub record SetsAgain (bytes : List ℕ) (n : ℕ) : Type 0 where
 -- text's last
 pub record HaveEnd (bytes : List ℕ) (n : ℕ) (lines : List NumberedLine) : Type 0 where
   pub name : List ℕ
-  pub behind : List NumberedLine
-  pub has_table : HasTable bytes name (lines ++ behind)
+  pub tail_after : List NumberedLine
+  pub has_table : HasTable bytes name (lines ++ tail_after)
   pub once : are_settings [] lines ≡ true
-  pub ends : is_behind_settings behind ≡ true
-  pub number : n ≡ number_at bytes behind
+  pub ends : follows_settings tail_after ≡ true
+  pub number : n ≡ number_at bytes tail_after
 
 -- there are such settings, and this holds of them
 abbrev pub HasSettings : List ℕ → ℕ → (List NumberedLine → Type 0) → Type 0
@@ -80,7 +80,7 @@ pub record HasStatement (bytes : List ℕ) (n : ℕ) (P : Settings → SaidState
   pub said : SaidStatements
   pub has_table : HasTable bytes name (setting_lines ++ (good ++ line ∷ later))
   pub mean : Mean setting_lines settings
-  pub ends : is_behind_settings (good ++ line ∷ later) ≡ true
+  pub ends : follows_settings (good ++ line ∷ later) ≡ true
   pub say : Say settings nothing good said
   pub in_table : begins_section line ≡ false
   pub number : n ≡ line.0

@@ -56,10 +56,10 @@ abbrev pub begins_table : NumberedLine → Bool
 begins_table line = bytes_eq (front (λ b. not (is_blank b)) line.1) (codes "@TABLE")
 
 -- what follows the text with which the bytes begin
-abbrev pub behind : List ℕ → List ℕ → Option (List ℕ)
-behind [] bytes = Some bytes
-behind (t ∷ ts) [] = None
-behind (t ∷ ts) (b ∷ bs) = if t == b then behind ts bs else None
+abbrev pub tail_after : List ℕ → List ℕ → Option (List ℕ)
+tail_after [] bytes = Some bytes
+tail_after (t ∷ ts) [] = None
+tail_after (t ∷ ts) (b ∷ bs) = if t == b then tail_after ts bs else None
 
 -- the words of settings
 abbrev pub setting_words : List (List ℕ)
@@ -68,7 +68,7 @@ setting_words = codes "n_states" ∷ codes "neighborhood" ∷ codes "symmetries"
 -- the value of a setting, where the line is the one with this word: the word, `:`, and all after it (our own); blanks may
 -- be round the `:`
 abbrev pub setting : List ℕ → NumberedLine → Option (List ℕ)
-setting word line = option_map (rest is_blank) (option_and_then (λ bytes. behind (codes ":") (rest is_blank bytes)) (behind word line.1))
+setting word line = option_map (rest is_blank) (option_and_then (λ bytes. tail_after (codes ":") (rest is_blank bytes)) (tail_after word line.1))
 
 -- the line is a setting
 abbrev pub is_setting : NumberedLine → Bool
@@ -121,7 +121,7 @@ symmetry_set neighbourhood settings = option_and_then (symmetry_named neighbourh
 
 -- a line that begins with `var` and a blank is that of a variable; `var` alone is none (our own)
 abbrev pub begins_variable : NumberedLine → Bool
-begins_variable line = unwrap_or (option_map (begins_with is_blank) (behind (codes "var") line.1)) false
+begins_variable line = unwrap_or (option_map (begins_with is_blank) (tail_after (codes "var") line.1)) false
 
 -- a byte that may be in a name: no blank and none of `,` `{` `}` `=` `#` `:` `@`; the bytes from 128 on may (our own)
 abbrev pub is_name_byte : ℕ → Bool

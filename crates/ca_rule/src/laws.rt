@@ -24,7 +24,8 @@ pub fn one_rule()
 pub fn rule_or_fault()
     ensures rule_alone { (text : List ℕ) (rule : BsRule) (fault : RuleFault) → NamesBsRule text rule
         → IsBsRuleFault text fault → ⊥ }
-    ensures one_fault { (text : List ℕ) (f g : RuleFault) → IsBsRuleFault text f → IsBsRuleFault text g → f ≡ g }
+    ensures one_fault { (text : List ℕ) (f g : RuleFault) → IsBsRuleFault text f → IsBsRuleFault text g
+        → f ≡ g }
 {}
 
 /// The printed form of a rule names that rule.
@@ -37,7 +38,8 @@ pub fn names_itself(rule: &BsRule)
 
 /// Two rules are printed alike exactly where they are equal.
 pub fn alike(a: &BsRule, b: &BsRule)
-    ensures { (printed_bs_rule a.now.hood a.now.birth a.now.survival ≡ printed_bs_rule b.now.hood b.now.birth b.now.survival)
+    ensures { (printed_bs_rule a.now.hood a.now.birth a.now.survival
+        ≡ printed_bs_rule b.now.hood b.now.birth b.now.survival)
         ↔ ((a.now.hood ≡ b.now.hood) × (a.now.birth ≡ b.now.birth) × (a.now.survival ≡ b.now.survival)) }
 {
     names_itself(a);
@@ -92,10 +94,14 @@ pub fn worked_next_cells()
 
 /// Some masks.
 pub fn worked_masks()
-    ensures life_has_masks { masks_by_hood Moore (counts_of (codes "3")) (counts_of (codes "23")) ≡ Some (8, 12) }
-    ensures no_birth_sets_no_bit { masks_by_hood Moore (counts_of []) (counts_of (codes "8")) ≡ Some (0, 256) }
-    ensures four_neighbours_have_none { masks_by_hood VonNeumann (counts_of (codes "1")) (counts_of []) ≡ None }
-    ensures six_neighbours_have_none { masks_by_hood Hex (counts_of (codes "6")) (counts_of (codes "6")) ≡ None }
+    ensures life_has_masks { masks_by_hood Moore (counts_of (codes "3")) (counts_of (codes "23"))
+        ≡ Some (8, 12) }
+    ensures no_birth_sets_no_bit { masks_by_hood Moore (counts_of []) (counts_of (codes "8"))
+        ≡ Some (0, 256) }
+    ensures four_neighbours_have_none { masks_by_hood VonNeumann (counts_of (codes "1")) (counts_of [])
+        ≡ None }
+    ensures six_neighbours_have_none { masks_by_hood Hex (counts_of (codes "6")) (counts_of (codes "6"))
+        ≡ None }
     ensures life_goes_by_its_masks { moore_next 8 12 (digits (codes "000111000")) ≡ 1 }
     ensures dead_cells_are_born_on_three { moore_next 8 12 (digits (codes "000000111")) ≡ 1 }
     ensures dead_cells_are_not_born_on_two { moore_next 8 12 (digits (codes "000101000")) ≡ 0 }

@@ -64,9 +64,11 @@ pub fn worked_names()
         (table_of VonNeumann Rotate4 [] ∷ []) Unknown }
     ensures empty_text_is_no_name { IsRuleFault [] (table_of VonNeumann Rotate4 [] ∷ []) Unknown }
     ensures waking_rule_is_no_table { IsRuleFault (codes "b03s23") (table_named (codes "b03s23") ∷ []) Wakes }
-    ensures waking_generations_are_no_table { IsRuleFault (codes "2/0/3") (table_named (codes "2/0/3") ∷ []) Wakes }
+    ensures waking_generations_are_no_table { IsRuleFault (codes "2/0/3")
+        (table_named (codes "2/0/3") ∷ []) Wakes }
     ensures too_many_states_may_be_a_name { NamesRule (codes "2/3/257") (table_named (codes "2/3/257") ∷ [])
         (Tab (table_named (codes "2/3/257"))) }
     ensures life_of_two_states_is_another_rule { (r : BsRule) (s : GenRule) → IsSameRule (Bs r) (Gen s) → ⊥ }
-    ensures colon_is_no_table { IsRuleFault (codes "Spread:T9") (table_named (codes "Spread:T9") ∷ []) Bounded }
+    ensures colon_is_no_table { IsRuleFault (codes "Spread:T9")
+        (table_named (codes "Spread:T9") ∷ []) Bounded }
 {}

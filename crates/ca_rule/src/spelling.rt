@@ -2,8 +2,8 @@
 
 ghost use Rattle.std.specs.Prelude.{◌≡◌, ◌≤◌, List, ℕ, None, Some, IfSome, IfNone, MatchOption};
 ghost use Rattle.ca_rule.specs.Counts.{are_digits_up_to};
-ghost use Rattle.ca_rule.specs.inner.TextParts.{is_rule_letter, hood_of, body_of, without_slash, behind_letter};
-ghost use Rattle.ca_rule.specs.inner.TextParts.{behind_slash, lists_around, lists_around_slash, lists_of};
+ghost use Rattle.ca_rule.specs.inner.TextParts.{is_rule_letter, hood_of, body_of, without_slash, tail_after_letter};
+ghost use Rattle.ca_rule.specs.inner.TextParts.{tail_after_slash, lists_around, lists_around_slash, lists_of};
 ghost use Rattle.ca_rule.specs.Spelling.{SpellsBsRule};
 ghost use Rattle.ca_rule.specs.declared.hood.Hood.{Hood};
 
@@ -52,11 +52,11 @@ fn without_slash(bytes: &[u8]) -> &[u8]
 }
 
 /// The bytes after the letter with which they begin.
-fn behind_letter(bytes: &[u8], upper: u8) -> Option<&[u8]>
+fn tail_after_letter(bytes: &[u8], upper: u8) -> Option<&[u8]>
     requires low { 65 ≤ upper }
     requires high { upper ≤ 90 }
-    ensures { MatchOption result (behind_letter upper bytes.now ≡ None)
-        (λ r. behind_letter upper bytes.now ≡ Some r.now) }
+    ensures { MatchOption result (tail_after_letter upper bytes.now ≡ None)
+        (λ r. tail_after_letter upper bytes.now ≡ Some r.now) }
 {
     let (first, rest) = bytes.split_first()?;
     if !is_letter(*first, upper) {
@@ -66,8 +66,9 @@ fn behind_letter(bytes: &[u8], upper: u8) -> Option<&[u8]>
 }
 
 /// The bytes after the `/` with which they begin.
-fn behind_slash(bytes: &[u8]) -> Option<&[u8]>
-    ensures { MatchOption result (behind_slash bytes.now ≡ None) (λ r. behind_slash bytes.now ≡ Some r.now) }
+fn tail_after_slash(bytes: &[u8]) -> Option<&[u8]>
+    ensures { MatchOption result (tail_after_slash bytes.now ≡ None)
+        (λ r. tail_after_slash bytes.now ≡ Some r.now) }
 {
     bytes.strip_prefix(b"/")
 }
@@ -81,7 +82,7 @@ fn lists_around(bytes: &[u8], upper: u8) -> Option<(&[u8], &[u8])>
         (λ r. lists_around upper bytes.now ≡ Some (r.0.now, r.1.now)) }
 {
     let (digits, rest) = split_digits(bytes);
-    let later = behind_letter(without_slash(rest), upper)?;
+    let later = tail_after_letter(without_slash(rest), upper)?;
     Some((digits, later))
 }
 
@@ -91,7 +92,7 @@ pub(crate) fn lists_around_slash(bytes: &[u8]) -> Option<(&[u8], &[u8])>
         (λ r. lists_around_slash bytes.now ≡ Some (r.0.now, r.1.now)) }
 {
     let (digits, rest) = split_digits(bytes);
-    let later = behind_slash(rest)?;
+    let later = tail_after_slash(rest)?;
     Some((digits, later))
 }
 

@@ -84,8 +84,8 @@ impl Table {
         ensures fault { IfErr result (IsTableTextFault text.now) }
     {
         let (name, lines) = table_lines(text)?;
-        let (settings, behind) = read_settings(&lines)?;
-        let statements = read_statements(alloc, &settings, &behind)?;
+        let (settings, tail_after) = read_settings(&lines)?;
+        let statements = read_statements(alloc, &settings, &tail_after)?;
         let Ok(name) = name.to_vec(alloc) else {
             return Err(TableFault::Memory);
         };

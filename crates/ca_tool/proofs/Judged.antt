@@ -11,8 +11,8 @@ use Rattle.ca_claims.specs.Text.{Claim}
 use Rattle.ca_claims.specs.Answers.{IsTrueAnswer, AreTrueAnswers}
 use Rattle.ca_claims.specs.Notes.{IsNote, HasItsNote}
 use Rattle.ca_claims.specs.Judging.{Judging, JudgesAndNotes}
-use Rattle.ca_tool.specs.declared.telling.Telling.{Telling}
-use Rattle.ca_tool.specs.declared.telling.Finding.{Finding}
+use Rattle.ca_tool.specs.declared.finding.ReportStyle.{ReportStyle}
+use Rattle.ca_tool.specs.declared.finding.Finding.{Finding}
 use Rattle.ca_tool.specs.Printed.{answer_line, answer_lines, note_text, finding_text, findings_text, status_of}
 use Rattle.ca_tool.specs.Runs.{answers_of, AreTrueNotes, AreFindings, IsPlainReport, IsReport, IsReportOnFirst}
 use Rattle.ca_tool.specs.inner.Judged.{WereJudged, NoneLeft, IsReportUpTo, IsReportPart, WereAllJudged}
@@ -76,27 +76,27 @@ judged_then old mid new xs ys first second = record {
 }
 
 -- what is printed for some claims and for one more
-text_more : (telling : Telling) (findings : List Finding) (finding : Finding) → findings_text telling (findings ++ finding ∷ []) ≡ findings_text telling findings ++ finding_text telling finding
-text_more telling findings finding = flat_map-append (finding_text telling) findings (finding ∷ []) ∙ ap (λ l. findings_text telling findings ++ l) (append-nil (finding_text telling finding))
+text_more : (style : ReportStyle) (findings : List Finding) (finding : Finding) → findings_text style (findings ++ finding ∷ []) ≡ findings_text style findings ++ finding_text style finding
+text_more style findings finding = flat_map-append (finding_text style) findings (finding ∷ []) ∙ ap (λ l. findings_text style findings ++ l) (append-nil (finding_text style finding))
 
 -- one claim more was judged and reported
-pub report_more : (old mid new : Judging) (telling : Telling) (finding : Finding) (text : List ℕ) (code next : ℕ) → (so_far : IsReportUpTo old mid telling text code) → WereJudged mid new (finding ∷ [])
-    → next ≡ status_of (answers_of so_far.findings ++ finding.answer ∷ []) → IsReportUpTo old new telling (text ++ finding_text telling finding) next
-report_more old mid new telling finding text code next so_far one worse = record {
+pub report_more : (old mid new : Judging) (style : ReportStyle) (finding : Finding) (text : List ℕ) (code next : ℕ) → (so_far : IsReportUpTo old mid style text code) → WereJudged mid new (finding ∷ [])
+    → next ≡ status_of (answers_of so_far.findings ++ finding.answer ∷ []) → IsReportUpTo old new style (text ++ finding_text style finding) next
+report_more old mid new style finding text code next so_far one worse = record {
   findings = so_far.findings ++ finding ∷ [];
   judged = judged_then old mid new so_far.findings (finding ∷ []) so_far.judged one;
-  lines = ap (λ l. l ++ finding_text telling finding) so_far.lines ∙ sym (text_more telling so_far.findings finding);
+  lines = ap (λ l. l ++ finding_text style finding) so_far.lines ∙ sym (text_more style so_far.findings finding);
   status = worse ∙ ap status_of (sym (map-append (λ (f : Finding). f.answer) so_far.findings (finding ∷ [])));
 }
 
 -- some claims were reported, and one more in part
-pub report_in_part : (old mid new : Judging) (telling : Telling) (finding : Finding) (before between after : Option (List ℕ)) (code : ℕ)
-    → (text : List ℕ) × IsReportUpTo old mid telling text code × Appends before between text → WereJudged mid new (finding ∷ []) → AppendsPrefix between after (finding_text telling finding)
-    → (text : List ℕ) × IsReportPart old new telling text × AppendsPrefix before after text
-report_in_part old mid new telling finding before between after code (text, so_far, sent) one part = (
-  text ++ finding_text telling finding,
-  (_, report_more old mid new telling finding text code _ so_far one refl),
-  prefix_of_second before between after text (finding_text telling finding) sent part,
+pub report_in_part : (old mid new : Judging) (style : ReportStyle) (finding : Finding) (before between after : Option (List ℕ)) (code : ℕ)
+    → (text : List ℕ) × IsReportUpTo old mid style text code × Appends before between text → WereJudged mid new (finding ∷ []) → AppendsPrefix between after (finding_text style finding)
+    → (text : List ℕ) × IsReportPart old new style text × AppendsPrefix before after text
+report_in_part old mid new style finding before between after code (text, so_far, sent) one part = (
+  text ++ finding_text style finding,
+  (_, report_more old mid new style finding text code _ so_far one refl),
+  prefix_of_second before between after text (finding_text style finding) sent part,
 )
 
 -- where none is left, the findings are on all claims
@@ -108,13 +108,13 @@ all_judged old new findings judged none = record {
 }
 
 -- and so is the report
-pub report_on_all : (old new : Judging) (telling : Telling) (text : List ℕ) (code : ℕ) → IsReportUpTo old new telling text code → NoneLeft new → IsReport old telling text code
-report_on_all old new telling text code report none =
+pub report_on_all : (old new : Judging) (style : ReportStyle) (text : List ℕ) (code : ℕ) → IsReportUpTo old new style text code → NoneLeft new → IsReport old style text code
+report_on_all old new style text code report none =
     record { findings = report.findings; holds = all_judged old new report.findings report.judged none; lines = report.lines; status = report.status }
 
 -- the claims that were judged are the first ones
-pub report_on_first : (old new : Judging) (telling : Telling) (text : List ℕ) → IsReportPart old new telling text → IsReportOnFirst old telling text
-report_on_first old new telling text (code, report) =
+pub report_on_first : (old new : Judging) (style : ReportStyle) (text : List ℕ) → IsReportPart old new style text → IsReportOnFirst old style text
+report_on_first old new style text (code, report) =
     let findings = report.findings in
     let judged = report.judged in
     let answers : length findings ≡ length judged.judged = sym (length-map findings (λ (f : Finding). f.answer)) ∙ AllZip-long (IsTrueAnswer old.files old.rules) judged.judged (answers_of findings) judged.holds.answers in
@@ -135,26 +135,26 @@ report_on_first old new telling text (code, report) =
     }
 
 -- with nothing before and nothing explained, what is printed is the lines of the answers
-plain_text : (telling : Telling) (findings : List Finding) → telling.before.now ≡ [] → telling.explained ≡ false → findings_text telling findings ≡ answer_lines (answers_of findings)
-plain_text telling [] none off = refl
-plain_text telling (finding ∷ findings) none off =
-    ap (λ l. l ++ findings_text telling findings)
-    (ap (λ b. (b ++ answer_line finding.answer) ++ (if telling.explained then note_text telling.before.now finding.answer.verdict finding.note else [])) none
-    ∙ ap (λ e. answer_line finding.answer ++ (if e then note_text telling.before.now finding.answer.verdict finding.note else [])) off
+plain_text : (style : ReportStyle) (findings : List Finding) → style.before.now ≡ [] → style.explained ≡ false → findings_text style findings ≡ answer_lines (answers_of findings)
+plain_text style [] none off = refl
+plain_text style (finding ∷ findings) none off =
+    ap (λ l. l ++ findings_text style findings)
+    (ap (λ b. (b ++ answer_line finding.answer) ++ (if style.explained then note_text style.before.now finding.answer.verdict finding.note else [])) none
+    ∙ ap (λ e. answer_line finding.answer ++ (if e then note_text style.before.now finding.answer.verdict finding.note else [])) off
     ∙ append-nil (answer_line finding.answer))
-    ∙ ap (λ l. answer_line finding.answer ++ l) (plain_text telling findings none off)
+    ∙ ap (λ l. answer_line finding.answer ++ l) (plain_text style findings none off)
 
 -- so the report is a plain one
-pub plain_report : (judging : Judging) (telling : Telling) (text : List ℕ) (code : ℕ) → telling.before.now ≡ [] → telling.explained ≡ false → IsReport judging telling text code → IsPlainReport judging text code
-plain_report judging telling text code none off report =
-    record { answers = answers_of report.findings; holds = report.holds.answers; lines = report.lines ∙ plain_text telling report.findings none off; status = report.status }
+pub plain_report : (judging : Judging) (style : ReportStyle) (text : List ℕ) (code : ℕ) → style.before.now ≡ [] → style.explained ≡ false → IsReport judging style text code → IsPlainReport judging text code
+plain_report judging style text code none off report =
+    record { answers = answers_of report.findings; holds = report.holds.answers; lines = report.lines ∙ plain_text style report.findings none off; status = report.status }
 
 -- and where the other claims were judged too, a part of it is one of a plain report on all
-pub plain_part : (old mid new : Judging) (telling : Telling) (before after : Option (List ℕ)) → telling.before.now ≡ [] → telling.explained ≡ false → WereAllJudged mid new
-    → (text : List ℕ) × IsReportPart old mid telling text × AppendsPrefix before after text → (text : List ℕ) × ((code : ℕ) × IsPlainReport old text code) × AppendsPrefix before after text
-plain_part old mid new telling before after none off (others, later, left) (text, (code, report), sent) =
+pub plain_part : (old mid new : Judging) (style : ReportStyle) (before after : Option (List ℕ)) → style.before.now ≡ [] → style.explained ≡ false → WereAllJudged mid new
+    → (text : List ℕ) × IsReportPart old mid style text × AppendsPrefix before after text → (text : List ℕ) × ((code : ℕ) × IsPlainReport old text code) × AppendsPrefix before after text
+plain_part old mid new style before after none off (others, later, left) (text, (code, report), sent) =
     let findings = report.findings ++ others in
     let all = all_judged old new findings (judged_then old mid new report.findings others report.judged later) left in
-    let lines : findings_text telling report.findings ++ findings_text telling others ≡ answer_lines (answers_of findings) = sym (flat_map-append (finding_text telling) report.findings others) ∙ plain_text telling findings none off in
-    let more = prefix_of_first before after (findings_text telling report.findings) (findings_text telling others) (subst (AppendsPrefix before after) report.lines sent) in
+    let lines : findings_text style report.findings ++ findings_text style others ≡ answer_lines (answers_of findings) = sym (flat_map-append (finding_text style) report.findings others) ∙ plain_text style findings none off in
+    let more = prefix_of_first before after (findings_text style report.findings) (findings_text style others) (subst (AppendsPrefix before after) report.lines sent) in
     (answer_lines (answers_of findings), (_, record { answers = answers_of findings; holds = all.answers; lines = refl; status = refl }), subst (AppendsPrefix before after) lines more)

@@ -35,8 +35,8 @@ use Rattle.ca_tool.specs.declared.fault.InputFault.{InputFault}
 use Rattle.ca_tool.specs.declared.fault.InputFault.TheVariants as inputs
 use Rattle.ca_tool.specs.declared.fault.ToolFault.{ToolFault}
 use Rattle.ca_tool.specs.declared.fault.ToolFault.TheVariants as tools
-use Rattle.ca_tool.specs.declared.telling.Telling.{Telling}
-use Rattle.ca_tool.specs.declared.telling.Finding.{Finding}
+use Rattle.ca_tool.specs.declared.finding.ReportStyle.{ReportStyle}
+use Rattle.ca_tool.specs.declared.finding.Finding.{Finding}
 
 -- an earlier return of a pattern
 abbrev pub return_text : ℕ → ℤ → ℤ → List ℕ
@@ -249,16 +249,16 @@ note_text before (No why) note = no_note_text before why note
 note_text before (Refused cause) note = refusal_note_text before cause note
 
 -- the second line for a claim, where answers are explained
-abbrev pub second_line : Telling → Finding → List ℕ
-second_line telling finding = if telling.explained then note_text telling.before.now finding.answer.verdict finding.note else []
+abbrev pub second_line : ReportStyle → Finding → List ℕ
+second_line style finding = if style.explained then note_text style.before.now finding.answer.verdict finding.note else []
 
 -- what is printed for a claim: the line of its answer, and where answers are explained the second line
-abbrev pub finding_text : Telling → Finding → List ℕ
-finding_text telling finding = (telling.before.now ++ answer_line finding.answer) ++ second_line telling finding
+abbrev pub finding_text : ReportStyle → Finding → List ℕ
+finding_text style finding = (style.before.now ++ answer_line finding.answer) ++ second_line style finding
 
 -- what is printed for all claims, in order
-abbrev pub findings_text : Telling → List Finding → List ℕ
-findings_text telling findings = flat_map (finding_text telling) findings
+abbrev pub findings_text : ReportStyle → List Finding → List ℕ
+findings_text style findings = flat_map (finding_text style) findings
 
 -- the name of a format
 abbrev pub format_name : Format → List ℕ

@@ -20,8 +20,8 @@ use Rattle.ca_tool.specs.declared.fault.InputFault.{InputFault}
 use Rattle.ca_tool.specs.declared.fault.InputFault.TheVariants as inputs
 use Rattle.ca_tool.specs.declared.fault.ToolFault.{ToolFault}
 use Rattle.ca_tool.specs.declared.fault.ToolFault.TheVariants.{Input, BadTable, Convert, Write, Memory}
-use Rattle.ca_tool.specs.declared.telling.Telling.{Telling}
-use Rattle.ca_tool.specs.declared.telling.Finding.{Finding}
+use Rattle.ca_tool.specs.declared.finding.ReportStyle.{ReportStyle}
+use Rattle.ca_tool.specs.declared.finding.Finding.{Finding}
 use Rattle.ca_tool.specs.Printed.{answer_lines, findings_text, status_of, summary_text}
 use Rattle.ca_tool.specs.Writing.{WritesOneOf}
 
@@ -87,17 +87,17 @@ pub record AreFindings (judging : Judging) (findings : List Finding) : Type 0 wh
   pub given : AllByRecursion (λ finding. HasItsNote finding.answer.verdict finding.note) findings
 
 -- a report on these claims: the text is what is printed for findings on them, and the code is the exit status of the answers
-pub record IsReport (judging : Judging) (telling : Telling) (text : List ℕ) (code : ℕ) : Type 0 where
+pub record IsReport (judging : Judging) (style : ReportStyle) (text : List ℕ) (code : ℕ) : Type 0 where
   pub findings : List Finding
   pub holds : AreFindings judging findings
-  pub lines : text ≡ findings_text telling findings
+  pub lines : text ≡ findings_text style findings
   pub status : code ≡ status_of (answers_of findings)
 
 -- a report on some number of the first claims
-pub record IsReportOnFirst (judging : Judging) (telling : Telling) (text : List ℕ) : Type 0 where
+pub record IsReportOnFirst (judging : Judging) (style : ReportStyle) (text : List ℕ) : Type 0 where
   pub count : ℕ
   pub code : ℕ
-  pub report : IsReport (first_claims count judging) telling text code
+  pub report : IsReport (first_claims count judging) style text code
 
 -- memory was refused for a text that makes a claim
 pub record NeedsMemory (judging : Judging) (fault : ToolFault) : Type 0 where
@@ -106,9 +106,9 @@ pub record NeedsMemory (judging : Judging) (fault : ToolFault) : Type 0 where
 
 -- a report on these claims is written, with their status; or a first part of a report on the first claims, and then a write fails; or nothing,
 -- and memory was refused for a text that makes a claim
-abbrev pub WritesReport : {W : Type 0} → (W → Option (List ℕ)) → Counted W → Counted W → Judging → Telling → Result ℕ ToolFault → Type 0
-WritesReport contents old new judging telling result =
-    WritesOneOf contents old new (IsReport judging telling) (IsReportOnFirst judging telling) (NeedsMemory judging) result
+abbrev pub WritesReport : {W : Type 0} → (W → Option (List ℕ)) → Counted W → Counted W → Judging → ReportStyle → Result ℕ ToolFault → Type 0
+WritesReport contents old new judging style result =
+    WritesOneOf contents old new (IsReport judging style) (IsReportOnFirst judging style) (NeedsMemory judging) result
 
 -- the same of a plain report, but that the first part is one of a report on all claims
 abbrev pub WritesPlainReport : {W : Type 0} → (W → Option (List ℕ)) → Counted W → Counted W → Judging → Result ℕ ToolFault → Type 0

@@ -135,7 +135,7 @@ pub fn complain<W: Write>(fault: &Fault, path: &[u8], device: &mut Dev<W>) -> Re
 /// several files has the fault.
 ///
 /// It takes no memory. After a failure some first part of the line was written, but not all of it.
-pub fn complain_of<W: Write>(
+pub fn complain_with_path<W: Write>(
     fault: &Fault,
     path: &[u8],
     device: &mut Dev<W>,

@@ -3,19 +3,19 @@
 
 mod complaint;
 mod fault;
+mod finding;
 mod pattern_run;
 mod pieces;
 mod printing;
 mod read;
 mod run;
 mod summary;
-mod telling;
 mod texts;
 
-pub use complaint::{complain, complain_of};
+pub use complaint::{complain, complain_with_path};
 pub use fault::{Fault, InputFault, ToolFault};
+pub use finding::ReportStyle;
 pub use pattern_run::{convert_run, show_run};
 pub use printing::{lines, status};
 pub use read::{MAX_FILE, read_all};
-pub use run::{verify_run, verify_told, verify_watched};
-pub use telling::Telling;
+pub use run::{verify_run, verify_styled, verify_watched};

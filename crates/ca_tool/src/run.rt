@@ -8,8 +8,8 @@ ghost use Rattle.ca_tool.specs.Runs.{all_claims, IsReport, NeedsMemory, WritesRe
 ghost use Rattle.ca_tool.specs.inner.Judged.{WereJudged, IsReportPart, WereAllJudged};
 
 use crate::fault::ToolFault;
+use crate::finding::{Finding, ReportStyle, send_finding};
 use crate::printing::worse_status;
-use crate::telling::{Finding, Telling, send_finding};
 use ca_claims::{Claims, File, Judge, Observer};
 use ca_plane::Dev;
 use ca_run::Unwatched;
@@ -17,7 +17,7 @@ use std::alloc::Global;
 use std::io::Write;
 
 /// The lines of the answers alone.
-const PLAIN: Telling<'static> = Telling {
+const PLAIN: ReportStyle<'static> = ReportStyle {
     before: b"",
     explained: false,
 };
@@ -46,17 +46,17 @@ pub fn verify_run<W: Write>(
 }
 
 /// Does what `verify_watched` does, while nobody watches.
-pub fn verify_told<W: Write>(
+pub fn verify_styled<W: Write>(
     alloc: Global,
     claims: &Claims,
     files: &[File<'_>],
-    telling: &Telling<'_>,
+    style: &ReportStyle<'_>,
     device: &mut Dev<W>,
 ) -> Result<u8, ToolFault>
     ensures tells { WritesReport W.contents device.old device.new
-        (all_claims (contents files.now) claims.now) telling.now result }
+        (all_claims (contents files.now) claims.now) style.now result }
 {
-    verify_watched(alloc, claims, files, telling, device, &mut Unwatched)
+    verify_watched(alloc, claims, files, style, device, &mut Unwatched)
 }
 
 /// Judges each claim, in order, while someone watches, and writes the lines for it before the next is judged.
@@ -68,34 +68,34 @@ pub fn verify_watched<W: Write, O: Observer>(
     alloc: Global,
     claims: &Claims,
     files: &[File<'_>],
-    telling: &Telling<'_>,
+    style: &ReportStyle<'_>,
     device: &mut Dev<W>,
     observer: &mut O,
 ) -> Result<u8, ToolFault>
     ensures tells { WritesReport W.contents device.old device.new
-        (all_claims (contents files.now) claims.now) telling.now result }
+        (all_claims (contents files.now) claims.now) style.now result }
 {
     let Ok(mut judge) = Judge::new(alloc, claims, files) else {
         return Err(ToolFault::Memory);
     };
-    report_all(alloc, &mut judge, telling, device, observer)
+    report_all(alloc, &mut judge, style, device, observer)
 }
 
 // Judges the claims that are left, and writes the lines for each, up to a write that fails.
 fn report_all<W: Write, O: Observer>(
     alloc: Global,
     judge: &mut Judge<'_>,
-    telling: &Telling<'_>,
+    style: &ReportStyle<'_>,
     device: &mut Dev<W>,
     observer: &mut O,
 ) -> Result<u8, ToolFault>
-    ensures { WritesOneOf W.contents device.old device.new (IsReport judge.old telling.now)
-        (IsReportPart judge.old judge.new telling.now) (NeedsMemory judge.old) result }
+    ensures { WritesOneOf W.contents device.old device.new (IsReport judge.old style.now)
+        (IsReportPart judge.old judge.new style.now) (NeedsMemory judge.old) result }
 {
     let mut text = Vec::new(alloc);
     let mut code = 0;
     'claims: while let Some(finding) = next_finding(judge, observer) {
-        if send_finding(device, &mut text, telling, &finding).is_err() {
+        if send_finding(device, &mut text, style, &finding).is_err() {
             return Err(ToolFault::Write);
         }
         code = worse_status(code, finding.answer);

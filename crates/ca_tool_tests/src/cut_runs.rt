@@ -5,8 +5,8 @@ use crate::writers::{MACROCELL, RLE, write_macro, write_rle};
 use ca_claims::{ClaimFault, Claims, File, Target, read_claims};
 use ca_plane::{Dev, WriteFault};
 use ca_tool::{
-    Fault, InputFault, Telling, ToolFault, complain, complain_of, convert_run, show_run,
-    verify_run, verify_told,
+    Fault, InputFault, ReportStyle, ToolFault, complain, complain_with_path, convert_run, show_run,
+    verify_run, verify_styled,
 };
 use std::alloc::Global;
 use std::io::Read;
@@ -70,7 +70,7 @@ c: line 9: refused, bad pattern: rle syntax
 c:   bad: bad.rle, line 3
 ";
 
-const TELLING: Telling<'static> = Telling {
+const STYLE: ReportStyle<'static> = ReportStyle {
     before: b"c: ",
     explained: true,
 };
@@ -110,7 +110,7 @@ fn show(alloc: Global, out: &mut Dev<Narrow>) -> Result<u8, ToolFault> {
 fn end_of(alloc: Global, run: &Run<'_>, out: &mut Dev<Narrow>) -> Result<u8, ToolFault> {
     match run {
         Run::Verify(claims) => verify_run(alloc, claims, FILES, out),
-        Run::Explain(claims) => verify_told(alloc, claims, FILES, &TELLING, out),
+        Run::Explain(claims) => verify_styled(alloc, claims, FILES, &STYLE, out),
         Run::Show => show(alloc, out),
         Run::Convert(target) => convert_run(alloc, &mut Dev::new(RLE), *target, None, out),
         Run::ConvertByTable => convert_run(
@@ -121,7 +121,7 @@ fn end_of(alloc: Global, run: &Run<'_>, out: &mut Dev<Narrow>) -> Result<u8, Too
             out,
         ),
         Run::Complain(fault) => status_of(complain(fault, b"a.claims", out)),
-        Run::ComplainOf(fault) => status_of(complain_of(fault, b"a.claims", out)),
+        Run::ComplainOf(fault) => status_of(complain_with_path(fault, b"a.claims", out)),
         Run::Rle => status_of(write_rle(alloc, out)),
         Run::Macrocell => status_of(write_macro(alloc, out)),
     }

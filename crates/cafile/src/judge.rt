@@ -10,7 +10,8 @@ use crate::words::Extras;
 use ca_claims::{Claims, read_claims};
 use ca_plane::Memory;
 use ca_tool::{
-    Fault, InputFault, Telling, ToolFault, complain, complain_of, verify_told, verify_watched,
+    Fault, InputFault, ReportStyle, ToolFault, complain, complain_with_path, verify_styled,
+    verify_watched,
 };
 use std::alloc::Global;
 use std::io::IsTerminal;
@@ -47,7 +48,7 @@ pub fn verify_files<R: Files + Clock + AllocGlobal>(
 
 fn report_fault(fault: &Fault, path: &str, is_named: bool, streams: &mut Streams) {
     let _ = if is_named {
-        complain_of(fault, path.as_bytes(), &mut streams.errors)
+        complain_with_path(fault, path.as_bytes(), &mut streams.errors)
     } else {
         complain(fault, path.as_bytes(), &mut streams.errors)
     };
@@ -66,11 +67,11 @@ fn verify_text<R: Files + Clock + AllocGlobal>(
     let Ok(before) = line_prefix(rt.alloc(), path, is_named) else {
         return Err(Fault::Input(InputFault::Memory));
     };
-    let telling = Telling {
+    let style = ReportStyle {
         before: &before,
         explained: extras.explained,
     };
-    judge(rt, &claims, &telling, extras.progress, streams)
+    judge(rt, &claims, &style, extras.progress, streams)
 }
 
 // What stands before each line: the path of the text, where it is named.
@@ -90,7 +91,7 @@ fn line_prefix(alloc: Global, path: &str, is_named: bool) -> Result<Vec<u8>, Mem
 fn judge<R: Files + Clock + AllocGlobal>(
     rt: &R,
     claims: &Claims,
-    telling: &Telling<'_>,
+    style: &ReportStyle<'_>,
     progress: bool,
     streams: &mut Streams,
 ) -> Result<u8, Fault> {
@@ -103,10 +104,10 @@ fn judge<R: Files + Clock + AllocGlobal>(
     let is_watched = progress || streams.errors.inner().is_terminal();
     let output = &mut streams.output;
     let result = if is_watched {
-        let mut observer = Progress::new(rt, &mut streams.errors, telling.before);
-        verify_watched(rt.alloc(), claims, &files, telling, output, &mut observer)
+        let mut observer = Progress::new(rt, &mut streams.errors, style.before);
+        verify_watched(rt.alloc(), claims, &files, style, output, &mut observer)
     } else {
-        verify_told(rt.alloc(), claims, &files, telling, output)
+        verify_styled(rt.alloc(), claims, &files, style, output)
     };
     result.map_err(Fault::Tool)
 }

@@ -48,7 +48,8 @@ impl<'a> Reading<'a> {
         ensures ruled { OnOk result ((said : List (Option ClaimTextLine)) → IsClaimReading said self.old
             → IsClaimReading (said ++ Some (Rule path.now) ∷ []) self.new) }
         ensures fault { IfErr result
-            (λ f. (line : ℕ) (earlier : List ClaimTextLine) → HasClaimFault line earlier (codes "rule" ∷ path.now ∷ []) f) }
+            (λ f. (line : ℕ) (earlier : List ClaimTextLine)
+            → HasClaimFault line earlier (codes "rule" ∷ path.now ∷ []) f) }
     {
         let Ok(table) = self.paths.put(alloc, path) else {
             return Err(ClaimFault::Memory);
@@ -113,7 +114,7 @@ impl<'a> Reading<'a> {
     }
 
     /// The claim about the places of its names, where each is loaded.
-    fn placed(&self, claim: &Claim<&'a [u8]>) -> Option<Claim<Place>>
+    fn claim_at_places(&self, claim: &Claim<&'a [u8]>) -> Option<Claim<Place>>
         ensures { MatchOption result (AreKnownNames (place_of self.now.places) (claim_of claim.now) → ⊥)
             (λ c. AreKnownNames (place_of self.now.places) (claim_of claim.now)
             × (c ≡ at_places (place_of self.now.places) (claim_of claim.now))) }
@@ -141,7 +142,7 @@ impl<'a> Reading<'a> {
             → (words : List (List ℕ)) → IsKind words (kind.Claim claim.now)
             → HasClaimFault line (spoken said) words f) }
     {
-        let Some(claim) = self.placed(claim) else {
+        let Some(claim) = self.claim_at_places(claim) else {
             return Err(ClaimFault::UnknownName { line });
         };
         if self.claims.push(ClaimLine { line, claim }).is_err() {

@@ -38,8 +38,10 @@ impl<'a> Reading<'a> {
     /// A line says the rule text, the generation, or nothing.
     fn comment(&mut self, comment: Comment<'a>)
         ensures { (store : List Kept) (said : List MacrocellLine) (line : List ℕ)
-            → Every (λ b. not (is_line_end b)) line → MacrocellWordsSay (words_of line) (said_of comment.entry)
-            → IsMacrocellReading store said self.old → IsMacrocellReading store (said ++ said_of comment.entry ∷ []) self.new }
+            → Every (λ b. not (is_line_end b)) line
+            → MacrocellWordsSay (words_of line) (said_of comment.entry)
+            → IsMacrocellReading store said self.old
+            → IsMacrocellReading store (said ++ said_of comment.entry ∷ []) self.new }
     {
         match comment {
             Comment::Nothing => {}
@@ -57,9 +59,11 @@ impl<'a> Reading<'a> {
         requires line { Every (λ b. not (is_line_end b)) line.now }
         requires reading { (said : List MacrocellLine) × IsMacrocellReading store.old said self.old }
         ensures said { OnOk result ((said : List MacrocellLine) → IsMacrocellReading store.old said self.old
-            → (s : MacrocellLine) × MacrocellWordsSay (words_of line.now) s × IsAllowedNode (flat_map added said) s
+            → (s : MacrocellLine) × MacrocellWordsSay (words_of line.now) s
+            × IsAllowedNode (flat_map added said) s
             × IsMacrocellReading store.new (said ++ s ∷ []) self.new) }
-        ensures fault { IfErr result (λ f. (said : List MacrocellLine) → IsMacrocellReading store.old said self.old
+        ensures fault { IfErr result (λ f. (said : List MacrocellLine)
+            → IsMacrocellReading store.old said self.old
             → HasNodeFault f (flat_map added said) (words_of line.now)) }
         ensures grows { Grows store.old store.new }
     {

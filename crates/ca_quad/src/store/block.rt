@@ -126,13 +126,13 @@ fn place_in(point: Point, at: Spot) -> Option<usize>
     requires near { LiesNear 0 at }
     ensures { TellsPlace at point result }
 {
-    let x = way(at.x, point.x)?;
-    let y = way(at.y, point.y)?;
+    let x = offset_from(at.x, point.x)?;
+    let y = offset_from(at.y, point.y)?;
     Some(32 * y + x)
 }
 
 // How far the coordinate is from the first one, where it is not below it and less than 32 above it.
-fn way(first: i128, coordinate: i64) -> Option<usize>
+fn offset_from(first: i128, coordinate: i64) -> Option<usize>
     requires low { neg_ℤ (pos (2 ^ 64)) ≤ℤ first }
     requires high { (first +ℤ pos 0) ≤ℤ pos (2 ^ 64) }
     ensures { MatchOption result ((n : ℕ) → n < 32 → coordinate ≡ first +ℤ pos n → ⊥)

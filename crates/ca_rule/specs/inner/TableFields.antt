@@ -4,7 +4,7 @@ use Rattle.std.specs.List.{list_all}
 use Rattle.ca_plane.specs.Bytes.{is_blank, Every, rest}
 use Rattle.ca_rule.specs.declared.table.fields.FieldsLeft.{FieldsLeft}
 use Rattle.ca_rule.specs.declared.table.fields.FieldsLeft.TheVariants.{Between, Bytes}
-use Rattle.ca_rule.specs.TableLines.{behind, is_field, fields_between}
+use Rattle.ca_rule.specs.TableLines.{tail_after, is_field, fields_between}
 
 -- the fields that are left
 abbrev pub fields_left : FieldsLeft → List (List ℕ)
@@ -19,7 +19,7 @@ pub record AreTransitionFields (fields : List (List ℕ)) : Type 0 where
 
 -- what follows `=` and `{`, with blanks before either
 abbrev pub opened : List ℕ → Option (List ℕ)
-opened bytes = option_and_then (λ more. behind (codes "{") (rest is_blank more)) (behind (codes "=") (rest is_blank bytes))
+opened bytes = option_and_then (λ more. tail_after (codes "{") (rest is_blank more)) (tail_after (codes "=") (rest is_blank bytes))
 
 -- `=`, and then this in braces; blanks may be before `=` and `{`
 pub record IsBraced (bytes inside : List ℕ) : Type 0 where

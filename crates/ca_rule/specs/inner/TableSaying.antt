@@ -41,5 +41,5 @@ pub record IsBehindSaid (settings : Settings) (all left : List NumberedLine) (ke
 -- they are all statements of the section
 pub record AreAllSaid (settings : Settings) (all : List NumberedLine) (kept : Statements) : Type 0 where
   pub later : List NumberedLine
-  pub behind : IsBehindSaid settings all later kept
+  pub tail_after : IsBehindSaid settings all later kept
   pub ends : is_end_of_section later ≡ true

@@ -30,14 +30,14 @@ without_slash [] = []
 without_slash (b ∷ bs) = if b == 47 then bs else b ∷ bs
 
 -- the bytes after the letter with which they begin
-abbrev pub behind_letter : ℕ → List ℕ → Option (List ℕ)
-behind_letter upper [] = None
-behind_letter upper (b ∷ bs) = if is_rule_letter upper b then Some bs else None
+abbrev pub tail_after_letter : ℕ → List ℕ → Option (List ℕ)
+tail_after_letter upper [] = None
+tail_after_letter upper (b ∷ bs) = if is_rule_letter upper b then Some bs else None
 
 -- the bytes after the `/` with which they begin
-abbrev pub behind_slash : List ℕ → Option (List ℕ)
-behind_slash [] = None
-behind_slash (b ∷ bs) = if b == 47 then Some bs else None
+abbrev pub tail_after_slash : List ℕ → Option (List ℕ)
+tail_after_slash [] = None
+tail_after_slash (b ∷ bs) = if b == 47 then Some bs else None
 
 -- two lists of digits, where there is a second
 abbrev pub both : List ℕ → Option (List ℕ) → Option (List ℕ × List ℕ)
@@ -51,11 +51,11 @@ swapped (Some lists) = Some (lists.1, lists.0)
 
 -- digits, an optional `/`, the letter, and what follows it
 abbrev pub lists_around : ℕ → List ℕ → Option (List ℕ × List ℕ)
-lists_around upper bytes = both (front is_digit bytes) (behind_letter upper (without_slash (rest is_digit bytes)))
+lists_around upper bytes = both (front is_digit bytes) (tail_after_letter upper (without_slash (rest is_digit bytes)))
 
 -- digits, a `/`, and what follows it
 abbrev pub lists_around_slash : List ℕ → Option (List ℕ × List ℕ)
-lists_around_slash bytes = both (front is_digit bytes) (behind_slash (rest is_digit bytes))
+lists_around_slash bytes = both (front is_digit bytes) (tail_after_slash (rest is_digit bytes))
 
 -- the birth and the survival digits of a text without its suffix
 abbrev pub lists_of : List ℕ → Option (List ℕ × List ℕ)

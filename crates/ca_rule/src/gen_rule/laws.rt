@@ -28,8 +28,10 @@ pub fn one_generations_rule()
 pub fn generations_rule_or_fault()
     ensures rule_alone { (text : List ℕ) (rule : GenRule) (fault : RuleFault) → NamesGenerationsRule text rule
         → IsGenerationsRuleFault text fault → ⊥ }
-    ensures one_fault { (text : List ℕ) (f g : RuleFault) → IsGenerationsRuleFault text f → IsGenerationsRuleFault text g → f ≡ g }
-    ensures one_notation { (text survival birth : List ℕ) (states : ℕ) → SpellsGenerationsRule text survival birth states
+    ensures one_fault { (text : List ℕ) (f g : RuleFault) → IsGenerationsRuleFault text f
+        → IsGenerationsRuleFault text g → f ≡ g }
+    ensures one_notation { (text survival birth : List ℕ) (states : ℕ)
+        → SpellsGenerationsRule text survival birth states
         → bs_text.SpellsNoBsRule text }
 {}
 
@@ -77,14 +79,18 @@ pub fn generations_do_alike(a: &GenRule, b: &GenRule)
 pub fn worked_generations()
     ensures brians_brain_is_spelled { SpellsGenerationsRule (codes "/2/3") [] (codes "2") 3 }
     ensures star_wars_is_spelled { SpellsGenerationsRule (codes "345/2/4") (codes "345") (codes "2") 4 }
-    ensures digits_may_stand_in_any_order { SpellsGenerationsRule (codes "332/33/03") (codes "332") (codes "33") 3 }
+    ensures digits_may_stand_in_any_order { SpellsGenerationsRule (codes "332/33/03") (codes "332")
+        (codes "33") 3 }
     ensures slashes_may_stand_alone { SpellsGenerationsRule (codes "//256") [] [] 256 }
     ensures brians_brain_is_named { (rule : GenRule) → rule.survival ≡ counts_of []
         → rule.birth ≡ counts_of (codes "2") → rule.states ≡ 3 → NamesGenerationsRule (codes "/2/3") rule }
-    ensures brians_brain_is_printed { printed_generations_rule (counts_of []) (counts_of (codes "2")) 3 ≡ codes "/2/3" }
-    ensures star_wars_is_printed { printed_generations_rule (counts_of (codes "534")) (counts_of (codes "22")) 4
+    ensures brians_brain_is_printed { printed_generations_rule (counts_of []) (counts_of (codes "2")) 3
+        ≡ codes "/2/3" }
+    ensures star_wars_is_printed { printed_generations_rule (counts_of (codes "534"))
+        (counts_of (codes "22")) 4
         ≡ codes "345/2/4" }
-    ensures most_states_are_printed { printed_generations_rule (counts_of (codes "23")) (counts_of (codes "3")) 256
+    ensures most_states_are_printed { printed_generations_rule (counts_of (codes "23"))
+        (counts_of (codes "3")) 256
         ≡ codes "23/3/256" }
 {}
 

@@ -31,7 +31,7 @@ fn name_of<'a>(lines: &SaidLines<'a>) -> Result<(&'a [u8], SaidLines<'a>), Table
 }
 
 /// The lines after the first that begins a table.
-fn behind_table<'a>(lines: &SaidLines<'a>) -> Option<SaidLines<'a>>
+fn tail_after_table<'a>(lines: &SaidLines<'a>) -> Option<SaidLines<'a>>
     ensures found { MatchOption result (list_any begins_table (left_of lines.now) ≡ false)
         (λ r. IsBehindTable (left_of lines.now) (left_of r)) }
     ensures text { IfSome result (λ r. said_text r ≡ said_text lines.now) }
@@ -54,8 +54,8 @@ pub(crate) fn table_lines(text: &[u8]) -> Result<(&[u8], SaidLines<'_>), TableFa
     ensures fault { IfErr result (λ f. IsTableTextFault text.now f) }
 {
     let lines = SaidLines::of_text(text);
-    let (name, behind) = name_of(&lines)?;
-    let Some(left) = behind_table(&behind) else {
+    let (name, tail_after) = name_of(&lines)?;
+    let Some(left) = tail_after_table(&tail_after) else {
         let line = lines.last_line();
         return Err(TableFault::NoTable { line });
     };

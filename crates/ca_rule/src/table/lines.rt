@@ -3,7 +3,7 @@
 ghost use Rattle.std.specs.Prelude.{◌≡◌, ◌==◌, ℕ, not, None, Some, IfSome, MatchOption};
 ghost use Rattle.std.specs.List.{list_all, prefix_len};
 ghost use Rattle.ca_plane.specs.Bytes.{Every, IsWord, is_digit, is_blank, is_line_end};
-ghost use Rattle.ca_rule.specs.TableLines.{content_of, rule_name, begins_section, begins_table, behind};
+ghost use Rattle.ca_rule.specs.TableLines.{content_of, rule_name, begins_section, begins_table, tail_after};
 ghost use Rattle.ca_rule.specs.TableLines.{setting, begins_variable, is_name_byte, is_name};
 
 use ca_plane::bytes::{is_blank, next_word, split_blanks, strip, trim_blanks};
@@ -57,9 +57,9 @@ pub(crate) fn begins_table(content: &[u8]) -> bool
 }
 
 /// What follows the text with which the bytes begin.
-pub(crate) fn behind<'a>(text: &[u8], bytes: &'a [u8]) -> Option<&'a [u8]>
-    ensures { MatchOption result (behind text.now bytes.now ≡ None)
-        (λ r. behind text.now bytes.now ≡ Some r.now) }
+pub(crate) fn tail_after<'a>(text: &[u8], bytes: &'a [u8]) -> Option<&'a [u8]>
+    ensures { MatchOption result (tail_after text.now bytes.now ≡ None)
+        (λ r. tail_after text.now bytes.now ≡ Some r.now) }
 {
     strip(bytes, text)
 }
@@ -78,7 +78,7 @@ pub(crate) fn begins_section(content: &[u8]) -> bool
 pub(crate) fn begins_variable(content: &[u8]) -> bool
     ensures { (n : ℕ) → result ≡ begins_variable (n, content.now) }
 {
-    let Some(rest) = behind(b"var", content) else {
+    let Some(rest) = tail_after(b"var", content) else {
         return false;
     };
     let Some((first, _)) = rest.split_first() else {
@@ -93,8 +93,8 @@ pub(crate) fn setting<'a>(word: &[u8], content: &'a [u8]) -> Option<&'a [u8]>
         → MatchOption result (setting word.now (n, content.now) ≡ None)
         (λ r. setting word.now (n, content.now) ≡ Some r.now) }
 {
-    let (_, colon) = split_blanks(behind(word, content)?);
-    let (_, value) = split_blanks(behind(b":", colon)?);
+    let (_, colon) = split_blanks(tail_after(word, content)?);
+    let (_, value) = split_blanks(tail_after(b":", colon)?);
     Some(value)
 }
 

@@ -3,7 +3,7 @@
 ghost use Rattle.std.specs.Prelude.{◌≡◌, ◌≤◌, ◌++◌, ℕ, List, true, IfOk, IfErr};
 ghost use Rattle.ca_rule.specs.TableLines.{NumberedLine};
 ghost use Rattle.ca_rule.specs.TableText.{HasTable, Mean};
-ghost use Rattle.ca_rule.specs.TableFaults.{is_behind_settings, IsTableTextFault};
+ghost use Rattle.ca_rule.specs.TableFaults.{follows_settings, IsTableTextFault};
 ghost use Rattle.ca_rule.specs.inner.TableReading.{left_of};
 ghost use Rattle.ca_rule.specs.inner.TableSettings.{meaning_of};
 ghost use Rattle.ca_rule.specs.inner.TableSaying.{AreAllSaid};
@@ -25,7 +25,7 @@ pub(crate) fn read_statements<'a>(
     ensures found { IfOk result (AreAllSaid (meaning_of settings.now) (left_of lines.now)) }
     ensures fault { IfErr result (λ f. (bytes name : List ℕ) (head : List NumberedLine)
         → HasTable bytes name (head ++ left_of lines.now) → Mean head (meaning_of settings.now)
-        → is_behind_settings (left_of lines.now) ≡ true → IsTableTextFault bytes f) }
+        → follows_settings (left_of lines.now) ≡ true → IsTableTextFault bytes f) }
 {
     let mut statements = Statements::new(alloc);
     let mut left = *lines;

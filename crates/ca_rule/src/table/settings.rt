@@ -8,7 +8,7 @@ ghost use Rattle.ca_rule.specs.TableLines.{NumberedLine, neighbourhood_name, nei
 ghost use Rattle.ca_rule.specs.TableLines.{symmetry_named};
 ghost use Rattle.ca_rule.specs.TableOrders.{symmetries_of};
 ghost use Rattle.ca_rule.specs.TableText.{HasTable, Mean, are_settings};
-ghost use Rattle.ca_rule.specs.TableFaults.{is_behind_settings, HaveEnd, IsTableTextFault};
+ghost use Rattle.ca_rule.specs.TableFaults.{follows_settings, HaveEnd, IsTableTextFault};
 
 use crate::digits::state_count;
 use crate::table::fault::TableFault;
@@ -111,7 +111,8 @@ impl<'a> SettingValues<'a> {
     fn meaning(&self, line: u64) -> Result<TableSettings, TableFault>
         ensures mean { IfOk result (λ s. (good : List NumberedLine) → AreValuesOf good self.now
             → are_settings [] good ≡ true → Mean good (meaning_of s)) }
-        ensures fault { IfErr result (λ f. (bytes : List ℕ) (good : List NumberedLine) → AreValuesOf good self.now
+        ensures fault { IfErr result (λ f. (bytes : List ℕ) (good : List NumberedLine)
+            → AreValuesOf good self.now
             → HaveEnd bytes line good → IsTableTextFault bytes f) }
     {
         let Some(states) = self.states() else {
@@ -146,9 +147,10 @@ fn read_values<'a>(
 ) -> Result<(SettingValues<'a>, SaidLines<'a>), TableFault>
     ensures read { IfOk result (λ r. (all : List NumberedLine)
         → IsBehindSettings all values.entry (left_of lines.entry) → IsBehindSettings all r.0 (left_of r.1)) }
-    ensures ends { IfOk result (λ r. is_behind_settings (left_of r.1) ≡ true) }
+    ensures ends { IfOk result (λ r. follows_settings (left_of r.1) ≡ true) }
     ensures text { IfOk result (λ r. said_text r.1 ≡ said_text lines.entry) }
-    ensures fault { IfErr result (λ f. (bytes name : List ℕ) (all : List NumberedLine) → HasTable bytes name all
+    ensures fault { IfErr result (λ f. (bytes name : List ℕ) (all : List NumberedLine)
+        → HasTable bytes name all
         → IsBehindSettings all values.entry (left_of lines.entry) → IsTableTextFault bytes f) }
 {
     let Some((line, later)) = lines.next() else {
@@ -271,12 +273,13 @@ pub(crate) fn read_settings<'a>(
     lines: &SaidLines<'a>,
 ) -> Result<(TableSettings, SaidLines<'a>), TableFault>
     ensures found { IfOk result (λ r. IsBehindMeant (left_of lines.now) (meaning_of r.0) (left_of r.1)) }
-    ensures ends { IfOk result (λ r. is_behind_settings (left_of r.1) ≡ true) }
+    ensures ends { IfOk result (λ r. follows_settings (left_of r.1) ≡ true) }
     ensures text { IfOk result (λ r. said_text r.1 ≡ said_text lines.now) }
-    ensures fault { IfErr result (λ f. (name : List ℕ) → HasTable (said_text lines.now) name (left_of lines.now)
+    ensures fault { IfErr result (λ f. (name : List ℕ)
+        → HasTable (said_text lines.now) name (left_of lines.now)
         → IsTableTextFault (said_text lines.now) f) }
 {
-    let (values, behind) = read_values(SettingValues::none(), *lines)?;
-    let settings = values.meaning(behind.number())?;
-    Ok((settings, behind))
+    let (values, tail_after) = read_values(SettingValues::none(), *lines)?;
+    let settings = values.meaning(tail_after.number())?;
+    Ok((settings, tail_after))
 }

@@ -73,7 +73,7 @@ impl Sifted {
             if let Some(state) = sifted_outcome(sieve, &self.variables, left, orders, nine) {
                 return state;
             }
-            left = behind_64(left);
+            left = tail_after_64(left);
             sieves = later;
         }
         first_outcome(&self.variables, left, orders, nine)
@@ -94,13 +94,13 @@ fn sieves_of(
     let mut left = transitions;
     'sieves: while !left.is_empty() {
         sieves.push(Sieve::of(alloc, states, variables, left)?)?;
-        left = behind_64(left);
+        left = tail_after_64(left);
     }
     Ok(sieves)
 }
 
 /// The transitions after the first 64.
-fn behind_64(transitions: &[Transition]) -> &[Transition]
+fn tail_after_64(transitions: &[Transition]) -> &[Transition]
     ensures { result.now ≡ drop 64 transitions.now }
 {
     if transitions.len() <= 64 {

@@ -88,7 +88,8 @@ impl<'a> Statements<'a> {
             → KeepsStatements said self.old
             → (inputs : List SlotValue) × (becomes : SlotValue)
             × AllZip (StandsFor settings said) (fields_left fields.now) (inputs ++ becomes ∷ [])
-            × (is_bound becomes inputs ≡ true) × KeepsStatements (with_transition said inputs becomes) self.new) }
+            × (is_bound becomes inputs ≡ true)
+            × KeepsStatements (with_transition said inputs becomes) self.new) }
         ensures fault { IfErr result
             (IsFaultOfTransition states (number_in self.old.names) (fields_left fields.now)) }
     {

@@ -62,7 +62,7 @@ impl Transition {
             Orders::Every(neighbourhood) => {
                 let standing = as_it_stands(neighbourhood);
                 if fits(variables, &self.inputs, standing, nine) {
-                    return Some(given(self.result, &self.inputs, standing, nine));
+                    return Some(result_state(self.result, &self.inputs, standing, nine));
                 }
                 let choice = Choice::of_ring(neighbourhood);
                 if self.fits_at(variables, &choice, nine) {
@@ -113,7 +113,7 @@ impl Transition {
     {
         let (placement, later) = placements.split_first()?;
         if fits(variables, &self.inputs, placement, nine) {
-            return Some(given(self.result, &self.inputs, placement, nine));
+            return Some(result_state(self.result, &self.inputs, placement, nine));
         }
         self.listed_outcome(variables, later, nine)
     }
@@ -131,7 +131,7 @@ impl Transition {
     {
         let count = choice.free_count();
         if count == 0 {
-            return Some(given(self.result, &self.inputs, choice.taken(), nine));
+            return Some(result_state(self.result, &self.inputs, choice.taken(), nine));
         }
         let mut is_first = true;
         'places: for at in 0..count {
@@ -315,8 +315,9 @@ fn each_takes_one_cell(slots: &[Slot], places: &[u8], nine: &Nine) -> bool
 }
 
 /// The state that a result gives: its number, or the cell of its variable.
-fn given(becomes: Slot, slots: &[Slot], places: &[u8], nine: &Nine) -> u8
-    ensures { let all = zip slots.now (map (slice_index nine.now) places.now) in result ≡ result_state becomes all }
+fn result_state(becomes: Slot, slots: &[Slot], places: &[u8], nine: &Nine) -> u8
+    ensures { let all = zip slots.now (map (slice_index nine.now) places.now) in result
+        ≡ result_state becomes all }
 {
     match becomes {
         Slot::Number(state) => state,

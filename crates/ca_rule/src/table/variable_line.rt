@@ -7,7 +7,7 @@ ghost use Rattle.ca_rule.specs.TableLines.{is_name_byte, fields_between, IsVaria
 ghost use Rattle.ca_rule.specs.inner.TableFields.{opened, IsBraced};
 
 use crate::table::fields::FieldsLeft;
-use crate::table::lines::{begins_variable, behind, is_name, is_name_byte};
+use crate::table::lines::{begins_variable, is_name, is_name_byte, tail_after};
 use ca_plane::bytes::split_blanks;
 
 /// The line of a variable.
@@ -23,8 +23,8 @@ fn opened(bytes: &[u8]) -> Option<&[u8]>
     ensures { MatchOption result (opened bytes.now ≡ None) (λ r. opened bytes.now ≡ Some r.now) }
 {
     let (_, equals) = split_blanks(bytes);
-    let (_, brace) = split_blanks(behind(b"=", equals)?);
-    behind(b"{", brace)
+    let (_, brace) = split_blanks(tail_after(b"=", equals)?);
+    tail_after(b"{", brace)
 }
 
 /// The bytes before a `}` that comes last.
@@ -76,7 +76,7 @@ pub(crate) fn variable_line(content: &[u8]) -> Option<VariableLine<'_>>
     if !begins_variable(content) {
         return None;
     }
-    let (_, named) = split_blanks(behind(b"var", content)?);
+    let (_, named) = split_blanks(tail_after(b"var", content)?);
     let (name, later) = split_name(named);
     let inside = braced(later)?;
     if !is_name(name) {

@@ -32,7 +32,8 @@ impl<A: Automaton> Leaper<A> {
         watch: &mut W,
     ) -> Result<Option<Tree>, Memory>
         requires { IsTree self.old.nodes tree }
-        ensures advanced { IfOk result (λ found. IfSome found (IsAdvanced (A.next_of self.old.rule) self.old.nodes tree n self.new.nodes)) }
+        ensures advanced { IfOk result (λ found. IfSome found
+            (IsAdvanced (A.next_of self.old.rule) self.old.nodes tree n self.new.nodes)) }
         ensures none { n ≡ 0 → result ≡ Ok None }
         ensures goes_on { LeaperGrows A self.old self.new }
     {
@@ -75,7 +76,8 @@ impl<A: Automaton> Leaper<A> {
         requires { FitsGrid level n }
         ensures tree { IfOk result (IsTree self.new.nodes) }
         ensures level { IfOk result (λ t. t.level ≤ 124) }
-        ensures cells { (p : ℤ → ℤ → ℕ) → GridShows grid.now p (corner level n) (corner level n) → DiesBeyond (2 ^ (level + 3)) p
+        ensures cells { (p : ℤ → ℤ → ℕ) → GridShows grid.now p (corner level n) (corner level n)
+            → DiesBeyond (2 ^ (level + 3)) p
             → IfOk result (λ t. (x y : ℤ) → cell self.new.nodes t x y ≡ p x y) }
         ensures goes_on { LeaperGrows A self.old self.new }
     {
@@ -123,8 +125,10 @@ impl Grid {
         requires begins { Begins (A.next_of leaper.now.rule) masks self (cell leaper.now.nodes first.now) }
         requires narrow { IsAsNarrow (2 ^ 40) self }
         requires time { n ≤ 2 ^ 40 }
-        ensures { (next : List ℕ → ℕ) (p : ℤ → ℤ → ℕ) (a b : ℤ) → GoesBy next masks → next (replicate 9 0) ≡ 0 → GridShows self p a b
-            → IfOk result (λ grid. GridShows grid (cells_after next p n) (a -ℤ pos (8 * (n / 8 + 1))) (b -ℤ pos (8 * (n / 8 + 1)))) }
+        ensures { (next : List ℕ → ℕ) (p : ℤ → ℤ → ℕ) (a b : ℤ) → GoesBy next masks → next (replicate 9 0) ≡ 0
+            → GridShows self p a b
+            → IfOk result (λ grid. GridShows grid (cells_after next p n) (a -ℤ pos (8 * (n / 8 + 1)))
+            (b -ℤ pos (8 * (n / 8 + 1)))) }
     {
         let none = Grid::empty(alloc);
         let fours = n / 4;
@@ -150,8 +154,10 @@ impl Grid {
         requires narrow { IsAsNarrow (2 ^ 40) self }
         requires time { fours ≤ 2 ^ 40 }
         ensures narrow { IfOk result (IsAsNarrow (2 ^ 40 + fours)) }
-        ensures shows { (next : List ℕ → ℕ) (p : ℤ → ℤ → ℕ) (a b : ℤ) → GoesBy next masks → next (replicate 9 0) ≡ 0 → GridShows self p a b
-            → IfOk result (λ grid. GridShows grid (cells_after next p (4 * fours)) (a -ℤ pos (4 * fours)) (b -ℤ pos (4 * fours))) }
+        ensures shows { (next : List ℕ → ℕ) (p : ℤ → ℤ → ℕ) (a b : ℤ) → GoesBy next masks
+            → next (replicate 9 0) ≡ 0 → GridShows self p a b
+            → IfOk result (λ grid. GridShows grid (cells_after next p (4 * fours)) (a -ℤ pos (4 * fours))
+            (b -ℤ pos (4 * fours))) }
     {
         let mut before = Grid::empty(alloc);
         let mut after = Grid::empty(alloc);

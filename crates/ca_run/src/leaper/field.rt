@@ -46,8 +46,10 @@ impl Place {
     // Which words and rows there are so many to the east and to the south from here on: from the first to before the second.
     fn naturals(self, count: u32) -> ((usize, usize), (usize, usize))
         requires { IsNear count self }
-        ensures words { (u : ℕ) → self.i ≤ℤ pos u → pos u <ℤ (self.i +ℤ pos count) → (result.0.0 ≤ u) × (u < result.0.1) }
-        ensures rows { (v : ℕ) → self.j ≤ℤ pos v → pos v <ℤ (self.j +ℤ pos count) → (result.1.0 ≤ v) × (v < result.1.1) }
+        ensures words { (u : ℕ) → self.i ≤ℤ pos u → pos u <ℤ (self.i +ℤ pos count) → (result.0.0 ≤ u)
+            × (u < result.0.1) }
+        ensures rows { (v : ℕ) → self.j ≤ℤ pos v → pos v <ℤ (self.j +ℤ pos count) → (result.1.0 ≤ v)
+            × (v < result.1.1) }
     {
         (naturals(self.i, count), naturals(self.j, count))
     }
@@ -76,7 +78,8 @@ impl<A: Automaton> Leaper<A> {
     pub(super) fn grid(&self, alloc: Global, id: Id, grain: u8) -> Result<Option<Grid>, Memory>
         requires square { IsOf self.now.nodes id (suc (suc (suc grain))) }
         requires low { grain ≤ 20 }
-        ensures shows { (p : ℤ → ℤ → ℕ) (a b : ℤ) → ShowsAt self.now.nodes id (suc (suc (suc grain))) p a b → EndsAt (2 ^ suc (suc (suc grain))) p a b
+        ensures shows { (p : ℤ → ℤ → ℕ) (a b : ℤ) → ShowsAt self.now.nodes id (suc (suc (suc grain))) p a b
+            → EndsAt (2 ^ suc (suc (suc grain))) p a b
             → IfOk result (λ found. IfSome found (λ grid. GridShows grid p a b)) }
         ensures narrow { IfOk result (λ found. IfSome found (IsAsNarrow (2 ^ grain))) }
     {
@@ -95,7 +98,8 @@ impl<A: Automaton> Leaper<A> {
         requires square { IsOf self.now.nodes id (suc (suc (suc grain))) }
         requires low { grain ≤ 20 }
         requires place { suc j ≤ 2 ^ grain }
-        ensures shows { (p : ℤ → ℤ → ℕ) (a b : ℤ) → ShowsAt self.now.nodes id (suc (suc (suc grain))) p a b → EndsAt (2 ^ suc (suc (suc grain))) p a b
+        ensures shows { (p : ℤ → ℤ → ℕ) (a b : ℤ) → ShowsAt self.now.nodes id (suc (suc (suc grain))) p a b
+            → EndsAt (2 ^ suc (suc (suc grain))) p a b
             → IfOk result (λ found. IfSome found (λ line. LineShows line p a (b +ℤ eight (pos j)))) }
         ensures narrow { IfOk result (λ found. IfSome found (λ line. length line ≤ 2 ^ grain)) }
     {
@@ -116,7 +120,8 @@ impl<A: Automaton> Leaper<A> {
         requires low { grain ≤ 20 }
         requires place_x { suc i ≤ 2 ^ grain }
         requires place_y { suc j ≤ 2 ^ grain }
-        ensures { (p : ℤ → ℤ → ℕ) (a b : ℤ) → ShowsAt self.now.nodes id (suc (suc (suc grain))) p a b → IfSome result (λ word. WordShows word p (a +ℤ eight (pos i)) (b +ℤ eight (pos j))) }
+        ensures { (p : ℤ → ℤ → ℕ) (a b : ℤ) → ShowsAt self.now.nodes id (suc (suc (suc grain))) p a b
+            → IfSome result (λ word. WordShows word p (a +ℤ eight (pos i)) (b +ℤ eight (pos j))) }
     {
         if grain == 0 {
             return self.word(id);
@@ -133,7 +138,9 @@ impl<A: Automaton> Leaper<A> {
     pub(super) fn from_grid(&mut self, grid: &Grid, grain: u8, at: Place) -> Result<Id, Memory>
         requires low { grain ≤ 30 }
         requires near { IsNear (2 ^ grain) at }
-        ensures shows { (p : ℤ → ℤ → ℕ) (a b : ℤ) → GridShows grid.now p a b → IfOk result (λ id. ShowsAt self.new.nodes id (suc (suc (suc grain))) p (a +ℤ eight at.i) (b +ℤ eight at.j)) }
+        ensures shows { (p : ℤ → ℤ → ℕ) (a b : ℤ) → GridShows grid.now p a b
+            → IfOk result (λ id. ShowsAt self.new.nodes id (suc (suc (suc grain))) p (a +ℤ eight at.i)
+            (b +ℤ eight at.j)) }
         ensures square { IfOk result (λ id. IsOf self.new.nodes id (suc (suc (suc grain)))) }
         ensures goes_on { LeaperGrows A self.old self.new }
     {
@@ -153,7 +160,9 @@ impl<A: Automaton> Leaper<A> {
     fn from_parts(&mut self, grid: &Grid, grain: u8, at: Place) -> Result<Id, Memory>
         requires low { grain ≤ 29 }
         requires near { IsNear (2 ^ grain + 2 ^ grain) at }
-        ensures shows { (p : ℤ → ℤ → ℕ) (a b : ℤ) → GridShows grid.now p a b → IfOk result (λ id. ShowsAt self.new.nodes id (suc (suc (suc (suc grain)))) p (a +ℤ eight at.i) (b +ℤ eight at.j)) }
+        ensures shows { (p : ℤ → ℤ → ℕ) (a b : ℤ) → GridShows grid.now p a b
+            → IfOk result (λ id. ShowsAt self.new.nodes id (suc (suc (suc (suc grain)))) p (a +ℤ eight at.i)
+            (b +ℤ eight at.j)) }
         ensures square { IfOk result (λ id. IsOf self.new.nodes id (suc (suc (suc (suc grain))))) }
         ensures goes_on { LeaperGrows A self.old self.new }
     {
@@ -169,7 +178,9 @@ impl<A: Automaton> Leaper<A> {
     fn empty_square(&mut self, level: u8) -> Result<Id, Memory>
         requires least { 1 ≤ level }
         requires most { level ≤ 125 }
-        ensures shows { (p : ℤ → ℤ → ℕ) (a b : ℤ) → ((x y : ℕ) → x < 2 ^ level → y < 2 ^ level → p (a +ℤ pos x) (b +ℤ pos y) ≡ 0) → IfOk result (λ id. ShowsAt self.new.nodes id level p a b) }
+        ensures shows { (p : ℤ → ℤ → ℕ) (a b : ℤ)
+            → ((x y : ℕ) → x < 2 ^ level → y < 2 ^ level → p (a +ℤ pos x) (b +ℤ pos y) ≡ 0)
+            → IfOk result (λ id. ShowsAt self.new.nodes id level p a b) }
         ensures square { IfOk result (λ id. IsOf self.new.nodes id level) }
         ensures goes_on { LeaperGrows A self.old self.new }
     {

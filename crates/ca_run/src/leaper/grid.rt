@@ -66,7 +66,8 @@ impl Grid {
     /// Whether its rows from one place to before another begin and end so that all words there are empty, from one place
     /// to before another.
     pub(super) fn is_empty_between(&self, i: (usize, usize), j: (usize, usize)) -> bool
-        ensures { result ≡ true → (u v : ℕ) → i.0 ≤ u → u < i.1 → j.0 ≤ v → v < j.1 → word_in (row_in self.now (pos v)) (pos u) ≡ 0 }
+        ensures { result ≡ true → (u v : ℕ) → i.0 ≤ u → u < i.1 → j.0 ≤ v → v < j.1
+            → word_in (row_in self.now (pos v)) (pos u) ≡ 0 }
     {
         'rows: for v in j.0..j.1.min(self.lines.len()) {
             if !self.line(v).is_empty_between(i.0, i.1) {

@@ -204,7 +204,8 @@ impl Course<'_> {
         requires south { length self.now.here.south.now < 2 ^ 63 }
         requires kept { LineKeeps masks n self.now.before.north.now self.now.before.south.now self.now.after.now }
         ensures line { IfOk result (LineFollows masks n self.now.here.north.now self.now.here.south.now) }
-        ensures narrow { (most : ℕ) → length self.now.here.north.now ≤ most → length self.now.here.south.now ≤ most → IfOk result (λ line. length line ≤ suc most) }
+        ensures narrow { (most : ℕ) → length self.now.here.north.now ≤ most
+            → length self.now.here.south.now ≤ most → IfOk result (λ line. length line ≤ suc most) }
     {
         let start = self.here.start();
         let mut line = Line::empty(alloc, start);
@@ -226,7 +227,8 @@ impl Course<'_> {
     #[inline(always)]
     fn next_word(&self, i: usize, square: Words, old: Words, masks: (u16, u16), n: u8) -> u64
         requires few { n ≤ 4 }
-        requires old { old ≡ corner_words self.now.before.north.now self.now.before.south.now (pos i -ℤ pos 1) }
+        requires old { old ≡ corner_words self.now.before.north.now self.now.before.south.now
+            (pos i -ℤ pos 1) }
         requires kept { LineKeeps masks n self.now.before.north.now self.now.before.south.now self.now.after.now }
         ensures { IsMiddle masks n square result }
     {

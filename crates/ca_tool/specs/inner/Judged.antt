@@ -2,8 +2,8 @@
 use Rattle.std.specs.Prelude.{◌≡◌, ℕ, List, [], ◌++◌}
 use Rattle.ca_claims.specs.Text.{Claim}
 use Rattle.ca_claims.specs.Judging.{Judging}
-use Rattle.ca_tool.specs.declared.telling.Telling.{Telling}
-use Rattle.ca_tool.specs.declared.telling.Finding.{Finding}
+use Rattle.ca_tool.specs.declared.finding.ReportStyle.{ReportStyle}
+use Rattle.ca_tool.specs.declared.finding.Finding.{Finding}
 use Rattle.ca_tool.specs.Printed.{findings_text, status_of}
 use Rattle.ca_tool.specs.Runs.{with_claims, answers_of, AreFindings}
 
@@ -23,15 +23,15 @@ pub record NoneLeft (judging : Judging) : Type 0 where
   pub patterns : judging.patterns ≡ []
 
 -- claims were judged, the text is what is printed for them, and the code is the exit status of their answers
-pub record IsReportUpTo (old new : Judging) (telling : Telling) (text : List ℕ) (code : ℕ) : Type 0 where
+pub record IsReportUpTo (old new : Judging) (style : ReportStyle) (text : List ℕ) (code : ℕ) : Type 0 where
   pub findings : List Finding
   pub judged : WereJudged old new findings
-  pub lines : text ≡ findings_text telling findings
+  pub lines : text ≡ findings_text style findings
   pub status : code ≡ status_of (answers_of findings)
 
 -- the same with some exit status
-abbrev pub IsReportPart : Judging → Judging → Telling → List ℕ → Type 0
-IsReportPart old new telling text = (code : ℕ) × IsReportUpTo old new telling text code
+abbrev pub IsReportPart : Judging → Judging → ReportStyle → List ℕ → Type 0
+IsReportPart old new style text = (code : ℕ) × IsReportUpTo old new style text code
 
 -- all that was left was judged
 abbrev pub WereAllJudged : Judging → Judging → Type 0

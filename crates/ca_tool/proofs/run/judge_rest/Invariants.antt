@@ -1,5 +1,5 @@
 use Rattle.std.proofs.Common.{List, length}
-use Rattle.ca_tool.specs.declared.telling.Finding.{Finding}
+use Rattle.ca_tool.specs.declared.finding.Finding.{Finding}
 use Rattle.ca_tool.specs.inner.Judged.{WereJudged}
 use Rattle.ca_tool.proofs.run.judge_rest.Given as goal
 

@@ -17,7 +17,7 @@ pub returns-then-is_err : goal.returns-then-is_err
 returns-then-is_err g c = record {
   whole = tt;
   kept = tt;
-  front = λ is. report_in_part c.args.judge.now c.claims.judge c.next_finding.new.judge c.args.telling.now c.in-Some.finding (g.W.Write.contents c.args.device.now.inner) (g.W.Write.contents c.claims.device.inner)
+  front = λ is. report_in_part c.args.judge.now c.claims.judge c.next_finding.new.judge c.args.style.now c.in-Some.finding (g.W.Write.contents c.args.device.now.inner) (g.W.Write.contents c.claims.device.inner)
       (g.W.Write.contents c.send_finding.new.device.inner) c.claims.code c.claims.invariant.reported c.in-Some.ensures (search rules);
   counted = search rules;
   fault = search rules;
@@ -30,8 +30,8 @@ claims-preserved g c =
     let (text, so_far, sent) = c.claims.invariant.reported in
     record {
       reported = (
-        text ++ finding_text c.args.telling.now c.in-Some.finding,
-        report_more _ _ _ c.args.telling.now c.in-Some.finding text _ _ so_far c.in-Some.ensures (c.worse_status-code.ensures (answers_of so_far.findings) so_far.status),
+        text ++ finding_text c.args.style.now c.in-Some.finding,
+        report_more _ _ _ c.args.style.now c.in-Some.finding text _ _ so_far c.in-Some.ensures (c.worse_status-code.ensures (answers_of so_far.findings) so_far.status),
         sent_both _ _ _ text _ sent (search rules),
       );
       kept = search rules;

@@ -6,7 +6,7 @@ use Rattle.ca_tool.proofs.run.report_all.Given as goal
 -- the claims so far were judged and reported, no write failed, and the code is their status
 abbrev pub invariant-claims : goal.invariant-claims
 invariant-claims g l = record {
-  reported : (text : List ℕ) × IsReportUpTo l.fn.judge l.judge l.telling text l.code × Appends (g.W.Write.contents l.fn.device.inner) (g.W.Write.contents l.device.inner) text;
+  reported : (text : List ℕ) × IsReportUpTo l.fn.judge l.judge l.style text l.code × Appends (g.W.Write.contents l.fn.device.inner) (g.W.Write.contents l.device.inner) text;
   kept : l.device.failures ≡ l.fn.device.failures;
 }
 

@@ -9,7 +9,7 @@ use Rattle.ca_tool.proofs.run.verify_watched.Goals as goal
 pub returns : goal.returns
 returns g c =
     record {
-      tells = subst (λ (j : Judging). WritesReport g.W.Write.contents c.args.device.now c.report_all.new.device j c.args.telling.now c.report_all.result) c.in-Ok.ensures.judging
+      tells = subst (λ (j : Judging). WritesReport g.W.Write.contents c.args.device.now c.report_all.new.device j c.args.style.now c.report_all.result) c.in-Ok.ensures.judging
           (writes_weaker g.W.Write.contents _ _ _ _ _ _ _ c.report_all.result c.report_all.ensures (λ text code is. is)
           (λ part. let (text, begun, sent) = part in (text, report_on_first _ _ _ text begun, sent)));
     }

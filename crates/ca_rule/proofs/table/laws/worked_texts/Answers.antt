@@ -98,7 +98,7 @@ returns-clause-table_is_missing c = ((codes "Spread", refl, refl), refl)
 -- settings that end at the sixth line
 end_at_six : (states neighbourhood symmetry : List ℕ) → HasTable (file_with states neighbourhood symmetry (codes "0a000a")) (codes "Spread") (settings_with states neighbourhood symmetry ++ statements_with (codes "0a000a"))
     → are_settings [] (settings_with states neighbourhood symmetry) ≡ true → HaveEnd (file_with states neighbourhood symmetry (codes "0a000a")) 6 (settings_with states neighbourhood symmetry)
-end_at_six states neighbourhood symmetry has are = record { name = codes "Spread"; behind = statements_with (codes "0a000a"); has_table = has; once = are; ends = refl; number = refl }
+end_at_six states neighbourhood symmetry has are = record { name = codes "Spread"; tail_after = statements_with (codes "0a000a"); has_table = has; once = are; ends = refl; number = refl }
 
 pub returns-clause-one_state_is_too_few : goal.returns-clause-one_state_is_too_few
 returns-clause-one_state_is_too_few c = inl (_, end_at_six (codes "n_states:1") (codes "neighborhood:vonNeumann") (codes "symmetries:rotate4") (head _ _ refl) refl, refl)

@@ -6,5 +6,5 @@ use Rattle.ca_rule.proofs.table.sieve.Sieve.+passed_in.Goals as goal
 pub returns : goal.returns
 returns t c = λ variables ts sieve k few there zeros.
     let here = unfit variables (zip (inputs_at ts k) (map (slice_index c.args.nine.now) c.in-Some.placement.now.now)) (c.passed_at.ensures variables ts sieve k few there (first-bit c.passed_at.result c.passed_in.result k zeros)) in
-    let behind = c.passed_in.ensures variables ts sieve k few there (second-bit c.passed_at.result c.passed_in.result k zeros) in
-    rw c.in-Some.ensures.cases.0 (here, behind)
+    let tail_after = c.passed_in.ensures variables ts sieve k few there (second-bit c.passed_at.result c.passed_in.result k zeros) in
+    rw c.in-Some.ensures.cases.0 (here, tail_after)

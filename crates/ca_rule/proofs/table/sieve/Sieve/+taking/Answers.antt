@@ -11,8 +11,8 @@ pub returns : goal.returns
 returns t c = λ variables ts sieve k few there zeros.
     let small : c.from.result < 256 = omega arith in
     let here = first-bit (slice_index c.in-Some-get.row.now c.from.result) c.taking.result k zeros in
-    let behind = second-bit (slice_index c.in-Some-get.row.now c.from.result) c.taking.result k zeros in
+    let tail_after = second-bit (slice_index c.in-Some-get.row.now c.from.result) c.taking.result k zeros in
     one-more variables c.args.nine.now (drop c.args.slot (inputs_at ts k)) c.in-Some.place.now c.args.places.now c.in-Some.later.now c.in-Some.ensures.cases.0
     (told-here variables ts c.args.self.now c.deref.result.now c.args.slot c.in-Some-get.row.now c.from.result (slice_index c.args.nine.now c.in-Some.place.now) k sieve
     (c.deref.ensures.value ∙ c.self.view_is) c.in-Some-get.ensures.lookup.3.0 (c.in-Some-get.ensures.lookup.3.1 []) (c.from.ensures ∙ c.cell_at.ensures) small few there here)
-    (c.taking.ensures variables ts sieve k few there behind)
+    (c.taking.ensures variables ts sieve k few there tail_after)

@@ -27,7 +27,7 @@ returns-then-fits c =
     let same : c.deref-then-fits.result.now ≡ c.args.self.now.inputs = c.deref-then-fits.ensures.value ∙ ap (λ l. l.inputs) c.self.view_is in
     let fit : fits c.args.variables.now (taken_at c.args.nine.now c.args.self.now c.as_it_stands-standing.result.now) ≡ true
     = ap (λ s. fits c.args.variables.now (zip s cells)) (sym slots) ∙ sym c.fits.ensures ∙ c.if-fits.true in
-    let state : c.given.result ≡ result_state c.args.self.now.result (taken_at c.args.nine.now c.args.self.now c.as_it_stands-standing.result.now)
-    = c.given.ensures ∙ ap (λ s. result_state c.self.inside.result (zip s cells)) same ∙ ap (λ r. result_state r (zip c.args.self.now.inputs cells)) (ap (λ l. l.result) c.self.view_is) in
+    let state : c.result_state.result ≡ result_state c.args.self.now.result (taken_at c.args.nine.now c.args.self.now c.as_it_stands-standing.result.now)
+    = c.result_state.ensures ∙ ap (λ s. result_state c.self.inside.result (zip s cells)) same ∙ ap (λ r. result_state r (zip c.args.self.now.inputs cells)) (ap (λ l. l.result) c.self.view_is) in
     ap Some state ∙ sym (stands-first c.args.variables.now c.args.nine.now c.args.self.now c.in-Every.neighbourhood c.as_it_stands-standing.result.now c.as_it_stands-standing.ensures fit)
     ∙ ap (λ o. outcome_at c.args.variables.now c.args.nine.now c.args.self.now (placements_of o)) (sym c.in-Every.is)

@@ -1,7 +1,7 @@
 use Rattle.std.proofs.Common.{sym, ◌∙◌}
 use Rattle.ca_rule.specs.inner.TableReading.{left_of, said_line}
 use Rattle.ca_rule.proofs.TableHead.{one-skipped, table-begins}
-use Rattle.ca_rule.proofs.table.head.behind_table.Goals as goal
+use Rattle.ca_rule.proofs.table.head.tail_after_table.Goals as goal
 
 pub returns-then-begins_table-clause-found : goal.returns-then-begins_table-clause-found
 returns-then-begins_table-clause-found c =

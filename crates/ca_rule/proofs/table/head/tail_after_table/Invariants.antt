@@ -1,6 +1,6 @@
 use Rattle.std.proofs.Common.{◌≡◌, length}
 use Rattle.ca_rule.specs.inner.TableReading.{said_text, left_of, IsBehindSkipped}
-use Rattle.ca_rule.proofs.table.head.behind_table.Given as goal
+use Rattle.ca_rule.proofs.table.head.tail_after_table.Given as goal
 
 -- no line before those that are left begins a table
 abbrev pub invariant-lines : goal.invariant-lines

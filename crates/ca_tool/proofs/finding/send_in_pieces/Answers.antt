@@ -1,5 +1,5 @@
 use Rattle.ca_tool.proofs.InPieces.{sends_part, sends_later}
-use Rattle.ca_tool.proofs.telling.send_in_pieces.Goals as goal
+use Rattle.ca_tool.proofs.finding.send_in_pieces.Goals as goal
 
 -- the answer's line was sent in part
 pub returns-in-Err : goal.returns-in-Err

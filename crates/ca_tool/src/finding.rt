@@ -15,7 +15,7 @@ use std::io::Write;
 
 /// How the answers of a text are printed.
 #[derive(Clone, Copy, Debug)]
-pub struct Telling<'a> {
+pub struct ReportStyle<'a> {
     /// What stands before each line.
     pub before: &'a [u8],
     /// Whether an answer that isn't a yes gets a second line, where there is more to tell.
@@ -136,41 +136,41 @@ fn note_pieces<'a>(before: &'a [u8], verdict: Verdict, note: Note<'a>) -> [Piece
 }
 
 // The second line, where one is printed.
-fn second_pieces<'a>(telling: &Telling<'a>, finding: &Finding<'a>) -> [Piece<'a>; 15]
-    ensures { pieces_text result ≡ second_line telling.now finding.now }
+fn second_pieces<'a>(style: &ReportStyle<'a>, finding: &Finding<'a>) -> [Piece<'a>; 15]
+    ensures { pieces_text result ≡ second_line style.now finding.now }
 {
-    if !telling.explained {
+    if !style.explained {
         return [NOTHING; 15];
     }
-    note_pieces(telling.before, finding.answer.verdict, finding.note)
+    note_pieces(style.before, finding.answer.verdict, finding.note)
 }
 
 // Puts the lines for a claim in place of what `out` holds.
 fn put_finding(
     out: &mut Vec<u8>,
-    telling: &Telling<'_>,
+    style: &ReportStyle<'_>,
     finding: &Finding<'_>,
 ) -> Result<(), Memory>
-    ensures { OnOk result (out.new.items ≡ finding_text telling.now finding.now) }
+    ensures { OnOk result (out.new.items ≡ finding_text style.now finding.now) }
 {
     out.clear();
-    push_pieces(out, &answer_pieces(telling.before, &finding.answer))?;
-    push_pieces(out, &second_pieces(telling, finding))
+    push_pieces(out, &answer_pieces(style.before, &finding.answer))?;
+    push_pieces(out, &second_pieces(style, finding))
 }
 
 // Writes the lines for a claim in pieces, which takes no memory.
 fn send_in_pieces<W: Write>(
     device: &mut Dev<W>,
-    telling: &Telling<'_>,
+    style: &ReportStyle<'_>,
     finding: &Finding<'_>,
 ) -> Result<(), WriteFault>
     ensures { Sends W.contents device.old device.new
-        (finding_text telling.now finding.now) WriteFault.Write result }
+        (finding_text style.now finding.now) WriteFault.Write result }
 {
-    if let Err(fault) = send_pieces(device, &answer_pieces(telling.before, &finding.answer)) {
+    if let Err(fault) = send_pieces(device, &answer_pieces(style.before, &finding.answer)) {
         return Err(fault);
     }
-    send_pieces(device, &second_pieces(telling, finding))
+    send_pieces(device, &second_pieces(style, finding))
 }
 
 /// Writes the lines for a claim as one text, which is put together in `text`; where there is no memory for
@@ -180,14 +180,14 @@ fn send_in_pieces<W: Write>(
 pub(crate) fn send_finding<W: Write>(
     device: &mut Dev<W>,
     text: &mut Vec<u8>,
-    telling: &Telling<'_>,
+    style: &ReportStyle<'_>,
     finding: &Finding<'_>,
 ) -> Result<(), WriteFault>
     ensures { Sends W.contents device.old device.new
-        (finding_text telling.now finding.now) WriteFault.Write result }
+        (finding_text style.now finding.now) WriteFault.Write result }
 {
-    if put_finding(text, telling, finding).is_err() {
-        return send_in_pieces(device, telling, finding);
+    if put_finding(text, style, finding).is_err() {
+        return send_in_pieces(device, style, finding);
     }
     send(device, text)
 }
