@@ -5,10 +5,10 @@ ghost use Rattle.std.specs.Prelude.{◌≡◌, ◌↔◌, ℕ, List, [], ◌∷�
 ghost use Rattle.ca_plane.specs.Moore.{moore_next};
 ghost use Rattle.ca_rule.specs.Counts.{is_count, counts_of};
 ghost use Rattle.ca_rule.specs.Masks.{masks_by_hood};
+ghost use Rattle.ca_rule.specs.OneMeaning.{HasAtMostOne, NeverHasBoth};
 ghost use Rattle.ca_rule.specs.Spelling.{SpellsBsRule, NamesBsRule, IsBsRuleFault, printed_bs_rule};
 ghost use Rattle.ca_rule.specs.TableExamples.{digits, bs_cell};
 ghost use Rattle.ca_rule.specs.declared.bs_rule.BsRule.{BsRule};
-ghost use Rattle.ca_rule.specs.declared.fault.RuleFault.{RuleFault};
 ghost use Rattle.ca_rule.specs.declared.fault.RuleFault.TheVariants.{Bounded, Wakes, Unknown};
 ghost use Rattle.ca_rule.specs.declared.hood.Hood.TheVariants.{Moore, VonNeumann, Hex};
 
@@ -22,10 +22,8 @@ pub fn one_rule()
 
 /// A text that names a rule has no fault, and another has one fault at most.
 pub fn rule_or_fault()
-    ensures rule_alone { (text : List ℕ) (rule : BsRule) (fault : RuleFault) → NamesBsRule text rule
-        → IsBsRuleFault text fault → ⊥ }
-    ensures one_fault { (text : List ℕ) (f g : RuleFault) → IsBsRuleFault text f → IsBsRuleFault text g
-        → f ≡ g }
+    ensures rule_alone { NeverHasBoth NamesBsRule IsBsRuleFault }
+    ensures one_fault { HasAtMostOne IsBsRuleFault }
 {}
 
 /// The printed form of a rule names that rule.

@@ -7,10 +7,10 @@ ghost use Rattle.ca_rule.specs.Counts.{counts_of};
 ghost use Rattle.ca_rule.specs.Generations.{generations_next};
 ghost use Rattle.ca_rule.specs.GenerationsText.{SpellsGenerationsRule, NamesGenerationsRule, IsGenerationsRuleFault, printed_generations_rule};
 ghost use Rattle.ca_rule.specs.Next as bs;
+ghost use Rattle.ca_rule.specs.OneMeaning.{HasAtMostOne, NeverHasBoth};
 ghost use Rattle.ca_rule.specs.Spelling as bs_text;
 ghost use Rattle.ca_rule.specs.TableExamples.{generations_cell};
 ghost use Rattle.ca_rule.specs.declared.counts.Counts.{Counts};
-ghost use Rattle.ca_rule.specs.declared.fault.RuleFault.{RuleFault};
 ghost use Rattle.ca_rule.specs.declared.fault.RuleFault.TheVariants.{Bounded, Wakes, Unknown};
 ghost use Rattle.ca_rule.specs.declared.gen_rule.GenRule.{GenRule};
 ghost use Rattle.ca_rule.specs.declared.hood.Hood.TheVariants.{Moore};
@@ -26,10 +26,8 @@ pub fn one_generations_rule()
 /// A text that names a rule has no fault, and another has one fault at most. A text that spells a rule spells
 /// none in B/S notation.
 pub fn generations_rule_or_fault()
-    ensures rule_alone { (text : List ℕ) (rule : GenRule) (fault : RuleFault) → NamesGenerationsRule text rule
-        → IsGenerationsRuleFault text fault → ⊥ }
-    ensures one_fault { (text : List ℕ) (f g : RuleFault) → IsGenerationsRuleFault text f
-        → IsGenerationsRuleFault text g → f ≡ g }
+    ensures rule_alone { NeverHasBoth NamesGenerationsRule IsGenerationsRuleFault }
+    ensures one_fault { HasAtMostOne IsGenerationsRuleFault }
     ensures one_notation { (text survival birth : List ℕ) (states : ℕ)
         → SpellsGenerationsRule text survival birth states
         → bs_text.SpellsNoBsRule text }

@@ -2,6 +2,7 @@
 //! fault. These functions are of no use to a program: each has laws for its contract.
 
 ghost use Rattle.std.specs.Prelude.{◌≡◌, ◌≢◌, ◌⊎◌, ℕ, List, replicate};
+ghost use Rattle.ca_rule.specs.OneMeaning.{HasAtMostOne};
 ghost use Rattle.ca_rule.specs.TableNext.{TableRule, table_next};
 ghost use Rattle.ca_rule.specs.TableLines.{last_line};
 ghost use Rattle.ca_rule.specs.TableText.{IsTable};
@@ -11,7 +12,7 @@ ghost use Rattle.ca_rule.specs.declared.table.fault.TableFault.TheVariants.{Wake
 
 /// A text is the text of one table at most.
 pub fn one_table()
-    ensures { (bytes : List ℕ) (t u : TableRule) → IsTable bytes t → IsTable bytes u → t ≡ u }
+    ensures { HasAtMostOne IsTable }
 {}
 
 /// Every text is the text of a table that leaves nine zeros 0, or has a fault; the text of a table has no
