@@ -1,19 +1,20 @@
 -- What runs over pattern files write and answer.
 use Rattle.std.proofs.Common.{◌≡◌, ◌≢◌, ℕ, List, Option, Result, Ok, Err, inr, refl, subst, sym}
-use Rattle.std.specs.Prelude.{IfOk, IsErrOf}
+use Rattle.std.specs.Prelude.{IfOk}
 use Rattle.std.specs.Io.KnownBytes.{Appends}
 use Rattle.ca_plane.specs.Device.{Counted, AppendsPrefix}
 use Rattle.ca_rule.specs.TableNext.{TableRule}
 use Rattle.ca_claims.specs.declared.conversion.ConvertFault.{ConvertFault}
 use Rattle.ca_claims.specs.declared.conversion.ConvertFault.TheVariants as convert_fault
+use Rattle.ca_tool.specs.declared.fault.InputFault.TheVariants as inputs
 use Rattle.ca_tool.specs.declared.fault.ToolFault.{ToolFault}
 use Rattle.ca_tool.specs.declared.fault.ToolFault.TheVariants.{Input, BadTable, Convert, Write, Memory}
-use Rattle.ca_tool.specs.Runs.{ReadsAll, AreKnownTables, HoldsOfReadFile, IsRunFault}
+use Rattle.ca_tool.specs.Runs.{ReadsAll, AreKnownTables, HoldsOfReadFile, TakesFile, IsRunFault, RunsOver}
 use Rattle.ca_tool.specs.Writing.{Sends, WritesOneOf}
 use Rattle.ca_tool.specs.inner.Refusals.{TellsConvert}
 
 -- the pattern is refused, or memory is out for it
-pub convert_told : (old new rule : Option (List ℕ)) (IsFault : List ℕ → List TableRule → ConvertFault → Type 0) (fault : ConvertFault) (told : ToolFault) → TellsConvert fault told
+convert_told : (old new rule : Option (List ℕ)) (IsFault : List ℕ → List TableRule → ConvertFault → Type 0) (fault : ConvertFault) (told : ToolFault) → TellsConvert fault told
     → HoldsOfReadFile old new rule (λ bytes tables. IsFault bytes tables fault) → IsRunFault old new rule IsFault told
 convert_told old new rule IsFault fault (Input f) none of = absurd none
 convert_told old new rule IsFault fault (BadTable f) none of = absurd none
@@ -27,25 +28,30 @@ pub of_file : (old new rule : Option (List ℕ)) (Holds : List ℕ → List Tabl
 of_file old new rule Holds bytes these all tables read known same equal holds =
     record { bytes = bytes; tables = all; read = read; known = known; holds = subst (λ b. Holds b all) same (subst (λ t. Holds these t) equal holds) }
 
--- that isn't a failed write
-never_write : (fault : ConvertFault) (told : ToolFault) → TellsConvert fault told → IsErrOf {T = ℕ} (Err told) Write → ⊥
-never_write fault (Input f) tells is = tells
-never_write fault (BadTable f) tells is = tells
-never_write fault (Convert f) tells is = cc
-never_write fault Write tells is = tells
-never_write fault Memory tells is = cc
+-- that is no failed write and no failed read
+not_told : (fault : ConvertFault) (told : ToolFault) → TellsConvert fault told → (told ≢ Write) × (told ≢ Input inputs.Read)
+not_told fault (Input f) tells = absurd tells
+not_told fault (BadTable f) tells = absurd tells
+not_told fault (Convert f) tells = ((λ is. cc), (λ is. cc))
+not_told fault Write tells = absurd tells
+not_told fault Memory tells = ((λ is. cc), (λ is. cc))
 
--- where the pattern is refused, nothing is written
-pub nothing_written : {W : Type 0} (contents : W → Option (List ℕ)) (output : Counted W) (IsText : List ℕ → ℕ → Type 0) (IsBegun : List ℕ → Type 0) (old new rule : Option (List ℕ))
-    (IsFault : List ℕ → List TableRule → ConvertFault → Type 0) (fault : ConvertFault) (told : ToolFault) → TellsConvert fault told → HoldsOfReadFile old new rule (λ bytes tables. IsFault bytes tables fault)
-    → WritesOneOf contents output output IsText IsBegun (IsRunFault old new rule IsFault) (Err told)
-nothing_written contents output IsText IsBegun old new rule IsFault fault told tells of = record {
-  whole = tt;
-  kept = tt;
-  front = λ is. absurd (never_write fault told tells is);
-  counted = λ is. absurd (never_write fault told tells is);
-  fault = λ other. convert_told old new rule IsFault fault told tells of;
-  nothing = λ other. refl;
+-- where the file was read and the pattern is refused, the run tells that, and writes nothing
+pub refused : {R W T : Type 0} (remaining : R → Option (List ℕ)) (contents : W → Option (List ℕ)) (input read : Counted R) (rule : Option (List ℕ)) (output : Counted W)
+    (IsText : List ℕ → List TableRule → List ℕ → Type 0) (IsFault : List ℕ → List TableRule → ConvertFault → Type 0) (fault : ConvertFault) (told : ToolFault) (given : T)
+    → TakesFile remaining input read (Input inputs.Read) (Ok given) → TellsConvert fault told
+    → HoldsOfReadFile (remaining input.inner) (remaining read.inner) rule (λ bytes tables. IsFault bytes tables fault)
+    → RunsOver remaining contents input read rule output output IsText IsFault (Err told)
+refused remaining contents input read rule output IsText IsFault fault told given takes tells of = let (write, failed) = not_told fault told tells in record {
+  reads = record { bounded = takes.bounded; failed = λ is. absurd (failed cc); kept = λ other. takes.kept (λ is. cc) };
+  writes = record {
+    whole = tt;
+    kept = tt;
+    front = λ is. absurd (write cc);
+    counted = λ is. absurd (write cc);
+    fault = λ other. convert_told (remaining input.inner) (remaining read.inner) rule IsFault fault told tells of;
+    nothing = λ other. refl;
+  };
 }
 
 -- a text of the file was written, or a part of it

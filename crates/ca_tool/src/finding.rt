@@ -158,21 +158,6 @@ fn put_finding(
     push_pieces(out, &second_pieces(style, finding))
 }
 
-// Writes the lines for a claim in pieces, which takes no memory.
-fn send_in_pieces<W: Write>(
-    device: &mut Dev<W>,
-    style: &ReportStyle<'_>,
-    finding: &Finding<'_>,
-) -> Result<(), WriteFault>
-    ensures { Sends W.contents device.old device.new
-        (finding_text style.now finding.now) WriteFault.Write result }
-{
-    if let Err(fault) = send_pieces(device, &answer_pieces(style.before, &finding.answer)) {
-        return Err(fault);
-    }
-    send_pieces(device, &second_pieces(style, finding))
-}
-
 /// Writes the lines for a claim as one text, which is put together in `text`; where there is no memory for
 /// that, in pieces.
 ///
@@ -187,7 +172,10 @@ pub(crate) fn send_finding<W: Write>(
         (finding_text style.now finding.now) WriteFault.Write result }
 {
     if put_finding(text, style, finding).is_err() {
-        return send_in_pieces(device, style, finding);
+        if let Err(fault) = send_pieces(device, &answer_pieces(style.before, &finding.answer)) {
+            return Err(fault);
+        }
+        return send_pieces(device, &second_pieces(style, finding));
     }
     send(device, text)
 }
