@@ -28,6 +28,8 @@ pub mod Shown
 pub mod Middle
 pub mod Trims
 pub mod Copied
+pub mod Cuts
+pub mod Shifts
 pub mod Added
 pub mod Bits
 pub mod Words

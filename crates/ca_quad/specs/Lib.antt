@@ -3,6 +3,7 @@ pub mod Sound
 pub mod Trees
 pub mod Boxes
 pub mod Expanded
+pub mod Shifted
 pub mod Trimmed
 pub mod Added
 pub mod SquareValues

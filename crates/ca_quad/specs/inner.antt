@@ -17,3 +17,5 @@ pub mod Reach
 pub mod Block
 pub mod Copied
 pub mod Bits
+pub mod Cut
+pub mod Shifted

@@ -5,13 +5,14 @@ mod fault;
 mod id;
 pub mod laws;
 mod named;
+mod neighbours;
 mod node;
 mod square;
 mod square_map;
 mod store;
 mod tree;
 
-pub use fault::QuadFault;
+pub use fault::{QuadFault, ShiftFault};
 pub use id::Id;
 pub use square_map::SquareMap;
 pub use store::Store;

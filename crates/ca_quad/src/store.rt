@@ -10,6 +10,8 @@ ghost use Rattle.ca_quad.specs.inner.Whole.{IsWhole};
 mod bits;
 mod block;
 mod bounds;
+mod cut;
+mod cuts;
 mod difference;
 mod draw;
 mod extent;
@@ -24,6 +26,7 @@ mod population;
 mod read;
 mod resize;
 mod rows;
+mod shifted;
 mod to_plane;
 mod word;
 

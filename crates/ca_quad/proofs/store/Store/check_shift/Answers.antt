@@ -1,0 +1,20 @@
+use Rattle.std.proofs.Common.{MatchOption, refl, subst}
+use Rattle.ca_quad.specs.Trees.{cell}
+use Rattle.ca_quad.specs.Boxes.{IsDead, IsLeastWideBox}
+use Rattle.ca_quad.specs.Shifted.{shifted_cells}
+use Rattle.ca_quad.specs.inner.Shifted.{shifted_box}
+use Rattle.ca_quad.proofs.Reach.{box_leaves, box_fits}
+use Rattle.ca_quad.proofs.Shifts.{box_shifted}
+use Rattle.ca_quad.proofs.store.Store.check_shift.Goals as goal
+
+pub returns-then-not-stays_in_reach-clause-fault : goal.returns-then-not-stays_in_reach-clause-fault
+returns-then-not-stays_in_reach-clause-fault c =
+    let cells = cell c.args.self.now c.args.tree in
+    let least = subst (λ found. MatchOption found (IsDead cells) (IsLeastWideBox cells)) c.in-Some.is c.in_ok-bounds.ensures in
+    box_leaves (shifted_cells cells c.args.to.x c.args.to.y) (shifted_box c.in-Some.bounds c.args.to) (box_shifted cells c.in-Some.bounds c.args.to least) (c.if-not-stays_in_reach.ensures.no refl)
+
+pub returns-clause-fits : goal.returns-clause-fits
+returns-clause-fits c =
+    let cells = cell c.args.self.now c.args.tree in
+    let least = subst (λ found. MatchOption found (IsDead cells) (IsLeastWideBox cells)) c.in-Some.is c.in_ok-bounds.ensures in
+    box_fits (shifted_cells cells c.args.to.x c.args.to.y) (shifted_box c.in-Some.bounds c.args.to) (box_shifted cells c.in-Some.bounds c.args.to least) (c.if-not-stays_in_reach.ensures.yes refl)

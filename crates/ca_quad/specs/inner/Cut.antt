@@ -1,0 +1,49 @@
+-- Squares that are cut out of four that lie together.
+use Rattle.std.specs.Prelude.{◌≡◌, ℕ, ◌+◌, ◌*◌, ◌<◌, ◌^◌, ◌%◌, List, slice_index, Option, Some}
+use Rattle.std.specs.Map.{lookup}
+use Rattle.ca_quad.specs.declared.neighbours.Neighbours.{Neighbours}
+use Rattle.ca_quad.specs.declared.node.Node.{Node}
+use Rattle.ca_quad.specs.declared.store.cut.Way.{Way}
+use Rattle.ca_quad.specs.contracts.neighbours.NeighboursPartialEq.TheImpl.{eq-value}
+use Rattle.ca_quad.specs.Squares.{together, cell_of}
+use Rattle.ca_quad.specs.Trees.{AreFour}
+use Rattle.ca_quad.specs.inner.Window.{ShowsFrom}
+
+-- they are squares of this level
+abbrev pub AreNeighbours : List Node → ℕ → Neighbours → Type 0
+AreNeighbours nodes level four = AreFour nodes level four.nw four.ne four.sw four.se
+
+-- the cells of four squares of this level
+abbrev pub cells_of_four : List Node → ℕ → Neighbours → ℕ → ℕ → ℕ
+cells_of_four nodes level four = together (2 ^ level) (cell_of nodes level four.nw) (cell_of nodes level four.ne) (cell_of nodes level four.sw) (cell_of nodes level four.se)
+
+-- the square is as large as each of the four, and shows their cells from where the way's remainders by its side lead
+pub record IsCut (nodes : List Node) (way : Way) (squares : Neighbours) (id : ℕ) : Type 0 where
+  pub level : ℕ
+  pub four : AreNeighbours nodes level squares
+  pub shows : ShowsFrom nodes id level (cells_of_four nodes level squares) (way.x % 2 ^ level) (way.y % 2 ^ level)
+
+-- the square that is remembered for four, if there is one
+abbrev pub cut_value : List (Neighbours × ℕ) → Neighbours → Option ℕ
+cut_value values four = lookup (λ (other : Neighbours). (eq-value).it four other) values
+
+-- each is cut out of its four
+abbrev pub AreCuts : List Node → Way → List (Neighbours × ℕ) → Type 0
+AreCuts nodes way values = (four : Neighbours) (id : ℕ) → cut_value values four ≡ Some id → IsCut nodes way four id
+
+-- sixteen squares of this level, row by row, show cells side by side
+abbrev pub AreSixteen : List Node → ℕ → (ℕ → ℕ → ℕ) → List ℕ → Type 0
+AreSixteen nodes level cells ids = (x y : ℕ) → x < 4 → y < 4 → ShowsFrom nodes (slice_index ids (4 * y + x)) level cells (x * 2 ^ level) (y * 2 ^ level)
+
+-- sixteen cells, row by row
+abbrev pub AreSixteenCells : (ℕ → ℕ → ℕ) → List ℕ → Type 0
+AreSixteenCells cells states = (x y : ℕ) → x < 4 → y < 4 → slice_index states (4 * y + x) ≡ cells x y
+
+-- the four of sixteen, row by row, of which the north-western lies there
+abbrev pub neighbours_at : List ℕ → ℕ → ℕ → Neighbours
+neighbours_at ids x y = record {
+  nw = slice_index ids (4 * y + x);
+  ne = slice_index ids (4 * y + (x + 1));
+  sw = slice_index ids (4 * (y + 1) + x);
+  se = slice_index ids (4 * (y + 1) + (x + 1));
+}

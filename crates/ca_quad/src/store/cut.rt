@@ -1,0 +1,149 @@
+//! Squares that are cut out of four that lie together.
+
+ghost use Rattle.std.specs.Prelude.{◌≡◌, ℕ, suc, ◌+◌, ◌*◌, ◌<◌, ◌≤◌, ◌^◌, ◌%◌, IfOk, OnOk};
+ghost use Rattle.ca_quad.specs.Sound.{Grows};
+ghost use Rattle.ca_quad.specs.inner.Cut.{AreNeighbours, cells_of_four, neighbours_at, IsCut, AreCuts, AreSixteen, AreSixteenCells};
+ghost use Rattle.ca_quad.specs.inner.Window.{ShowsFrom};
+
+use super::Store;
+use super::cuts::Cuts;
+use super::read::half_side;
+use crate::id::Id;
+use crate::neighbours::Neighbours;
+use ca_plane::Memory;
+
+// A way to the right and downward.
+#[derive(Clone, Copy, Drop)]
+pub(crate) struct Way {
+    pub x: u128,
+    pub y: u128,
+}
+
+impl Store {
+    // The square as large as each of the four whose corner is so far from theirs as the way's remainders by its side tell,
+    // given some that were cut out on the same way.
+    pub(super) fn cut_out(
+        &mut self,
+        four: Neighbours,
+        way: Way,
+        cuts: &mut Cuts,
+    ) -> Result<Id, Memory>
+        requires four { (level : ℕ) × AreNeighbours self.old level four }
+        requires cuts { AreCuts self.old way cuts.old }
+        ensures cut { IfOk result (IsCut self.new way four) }
+        ensures cuts { OnOk result (AreCuts self.new way cuts.new) }
+        ensures grows { Grows self.old self.new }
+    {
+        let _ = &self.nodes;
+        let corner = four.nw;
+        let level = self.level(corner);
+        let half = half_side(level);
+        let place = rest(way, 2 * half);
+        if place.x == 0 && place.y == 0 {
+            return Ok(corner);
+        }
+        if level == 1 {
+            return self.cut_cells(four, place);
+        }
+        if let Some(cut) = cuts.get(&four) {
+            return Ok(cut);
+        }
+        let parts = self.sixteen_parts(four);
+        let x = half_of(place.x, half);
+        let y = half_of(place.y, half);
+        let north_west = neighbours_at(&parts, x, y);
+        let north_east = neighbours_at(&parts, x + 1, y);
+        let south_west = neighbours_at(&parts, x, y + 1);
+        let south_east = neighbours_at(&parts, x + 1, y + 1);
+        let nw = self.cut_out(north_west, way, cuts)?;
+        let ne = self.cut_out(north_east, way, cuts)?;
+        let sw = self.cut_out(south_west, way, cuts)?;
+        let se = self.cut_out(south_east, way, cuts)?;
+        let cut = self.join(nw, ne, sw, se)?;
+        cuts.put(four, cut)?;
+        Ok(cut)
+    }
+
+    // The same for squares of level 1.
+    fn cut_cells(&mut self, four: Neighbours, place: Way) -> Result<Id, Memory>
+        requires four { AreNeighbours self.old 1 four }
+        requires x { place.x < 2 }
+        requires y { place.y < 2 }
+        ensures shows { IfOk result (λ id.
+            ShowsFrom self.new id 1 (cells_of_four self.old 1 four) place.x place.y) }
+        ensures grows { Grows self.old self.new }
+    {
+        let cells = self.sixteen_cells(four);
+        let first = 4 * place.y as usize + place.x as usize;
+        self.leaf(
+            cells[first],
+            cells[first + 1],
+            cells[first + 4],
+            cells[first + 5],
+        )
+    }
+
+    // The cells of four squares of level 1, row by row.
+    fn sixteen_cells(&self, four: Neighbours) -> [u8; 16]
+        requires { AreNeighbours self.now 1 four }
+        ensures { AreSixteenCells (cells_of_four self.now 1 four) result }
+    {
+        let [a, b, e, f] = self.cells4(four.nw);
+        let [c, d, g, h] = self.cells4(four.ne);
+        let [i, j, m, n] = self.cells4(four.sw);
+        let [k, l, o, p] = self.cells4(four.se);
+        [a, b, c, d, e, f, g, h, i, j, k, l, m, n, o, p]
+    }
+
+    // The parts of four larger squares, row by row.
+    fn sixteen_parts(&self, four: Neighbours) -> [Id; 16]
+        requires { (level : ℕ) × AreNeighbours self.now (suc (suc level)) four }
+        ensures { (level : ℕ) → AreNeighbours self.now (suc level) four
+            → AreSixteen self.now level (cells_of_four self.now (suc level) four) result }
+    {
+        let [a, b, e, f] = self.children(four.nw);
+        let [c, d, g, h] = self.children(four.ne);
+        let [i, j, m, n] = self.children(four.sw);
+        let [k, l, o, p] = self.children(four.se);
+        [a, b, c, d, e, f, g, h, i, j, k, l, m, n, o, p]
+    }
+}
+
+// The remainders of a way by a side.
+fn rest(way: Way, side: u128) -> Way
+    requires { 1 ≤ side }
+    ensures x { result.x ≡ way.x % side }
+    ensures y { result.y ≡ way.y % side }
+{
+    Way {
+        x: way.x % side,
+        y: way.y % side,
+    }
+}
+
+// Which half of a side the place lies in: 0 or 1.
+fn half_of(place: u128, half: u128) -> usize
+    ensures first { place < half → result ≡ 0 }
+    ensures second { half ≤ place → result ≡ 1 }
+    ensures most { result ≤ 1 }
+{
+    if place < half {
+        return 0;
+    }
+    1
+}
+
+// The four of sixteen squares, row by row, of which the north-western lies there.
+fn neighbours_at(squares: &[Id; 16], x: usize, y: usize) -> Neighbours
+    requires x { x ≤ 2 }
+    requires y { y ≤ 2 }
+    ensures { result ≡ neighbours_at squares.now x y }
+{
+    let first = 4 * y + x;
+    Neighbours {
+        nw: squares[first],
+        ne: squares[first + 1],
+        sw: squares[first + 4],
+        se: squares[first + 5],
+    }
+}

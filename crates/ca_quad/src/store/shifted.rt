@@ -1,0 +1,174 @@
+//! Trees that are moved.
+
+ghost use Rattle.std.specs.Prelude.{◌≡◌, ℕ, ◌+◌, ◌≤◌, ◌^◌, ℤ, pos, ◌-ℤ◌, ◌≤ℤ◌, IsTrue, IsFalse, IfOk, IfErr, OnOk};
+ghost use Rattle.ca_quad.specs.Sound.{Grows};
+ghost use Rattle.ca_quad.specs.Trees.{IsTree, cell};
+ghost use Rattle.ca_quad.specs.Trimmed.{IsTrimmed};
+ghost use Rattle.ca_quad.specs.Expanded.{FitsPlane};
+ghost use Rattle.ca_quad.specs.Shifted.{shifted_cells, IsShiftRefused};
+ghost use Rattle.ca_quad.specs.inner.Reach.{IsBoxInReach, IsBoxOutOfReach};
+ghost use Rattle.ca_quad.specs.inner.Shifted.{IsNoFarther, IsShort, HasRoom, CanMove, shifted_box};
+
+use super::Store;
+use super::cut::Way;
+use super::cuts::Cuts;
+use super::read::half_side;
+use crate::fault::ShiftFault;
+use crate::neighbours::Neighbours;
+use crate::tree::{Spot, Tree, WideBounds};
+use ca_plane::Memory;
+use ca_plane::limits::REACH;
+
+impl Store {
+    /// The tree of the smallest level, at least 1, whose cell at (x, y) is the old one's at (x - dx, y - dy).
+    ///
+    /// # Errors
+    ///
+    /// `Range` where a live cell would leave the square in which a plane keeps its cells, that is, from -2^62 to 2^62 in
+    /// both directions, and `Memory` where a growth is refused. The store may then have more squares than before.
+    pub fn shifted(&mut self, tree: Tree, dx: i64, dy: i64) -> Result<Tree, ShiftFault>
+        requires { IsTree self.old tree }
+        ensures tree { IfOk result (IsTree self.new) }
+        ensures cells { IfOk result (λ t.
+            (x y : ℤ) → cell self.new t x y ≡ cell self.old tree (x -ℤ dx) (y -ℤ dy)) }
+        ensures fits { IfOk result (λ t. FitsPlane (cell self.new t)) }
+        ensures trimmed { IfOk result (IsTrimmed self.new) }
+        ensures level { IfOk result (λ t. t.level ≤ 64) }
+        ensures fault { IfErr result (IsShiftRefused (shifted_cells (cell self.old tree) dx dy)) }
+        ensures grows { Grows self.old self.new }
+    {
+        let _ = &self.nodes;
+        let to = spot(dx, dy);
+        let small = self.trim(tree)?;
+        self.check_shift(small, to)?;
+        let wide = self.with_room(small, farthest(to))?;
+        Ok(self.moved(wide, to)?)
+    }
+
+    // Looks whether the live cells of a tree, when its middle is moved there, lie in the square of a plane.
+    fn check_shift(&self, tree: Tree, to: Spot) -> Result<(), ShiftFault>
+        requires tree { IsTree self.now tree }
+        requires short { IsShort to }
+        ensures fits { OnOk result (FitsPlane (shifted_cells (cell self.now tree) to.x to.y)) }
+        ensures fault { IfErr result (IsShiftRefused (shifted_cells (cell self.now tree) to.x to.y)) }
+    {
+        let alloc = *self.nodes.allocator();
+        let Some(bounds) = self.bounds(alloc, tree)? else {
+            return Ok(());
+        };
+        if !stays_in_reach(bounds, to) {
+            return Err(ShiftFault::Range);
+        }
+        Ok(())
+    }
+
+    // The tree of at least two levels more with the same cells, an eighth of whose side is no less than the way.
+    fn with_room(&mut self, tree: Tree, way: u128) -> Result<Tree, Memory>
+        requires tree { IsTree self.old tree }
+        requires least { 1 ≤ tree.level }
+        requires low { tree.level ≤ 65 }
+        requires short { way ≤ 2 ^ 63 }
+        ensures room { IfOk result (HasRoom self.new (cell self.old tree) (tree.level + 2) way) }
+        ensures grows { Grows self.old self.new }
+    {
+        let wide = self.pad(tree)?;
+        let wider = self.pad(wide)?;
+        self.padded_for(wider, way)
+    }
+
+    // The same of at least the level of the tree.
+    fn padded_for(&mut self, tree: Tree, way: u128) -> Result<Tree, Memory>
+        requires tree { IsTree self.old tree }
+        requires least { 3 ≤ tree.level }
+        requires most { tree.level ≤ 67 }
+        requires short { way ≤ 2 ^ 63 }
+        ensures room { IfOk result (HasRoom self.new (cell self.old tree) tree.level way) }
+        ensures grows { Grows self.old self.new }
+    {
+        let _ = &self.nodes;
+        if way <= half_side(tree.level - 2) {
+            return Ok(tree);
+        }
+        let wide = self.pad(tree)?;
+        self.padded_for(wide, way)
+    }
+
+    // The tree whose middle is moved there.
+    fn moved(&mut self, tree: Tree, to: Spot) -> Result<Tree, Memory>
+        requires { CanMove self.old tree to }
+        ensures tree { IfOk result (IsTree self.new) }
+        ensures cells { IfOk result (λ t.
+            (x y : ℤ) → cell self.new t x y ≡ shifted_cells (cell self.old tree) to.x to.y x y) }
+        ensures trimmed { IfOk result (IsTrimmed self.new) }
+        ensures grows { Grows self.old self.new }
+    {
+        let alloc = *self.nodes.allocator();
+        let [nw, ne, sw, se] = self.children(tree.root);
+        let way = way_back(half_side(tree.level - 1), to);
+        let parts = Neighbours { nw, ne, sw, se };
+        let root = self.cut_out(parts, way, &mut Cuts::new(alloc))?;
+        self.trim(Tree {
+            root,
+            level: tree.level - 1,
+        })
+    }
+}
+
+// The place that lies so far to the right and downward.
+fn spot(dx: i64, dy: i64) -> Spot
+    ensures x { result.x ≡ dx }
+    ensures y { result.y ≡ dy }
+    ensures short { IsShort result }
+{
+    Spot {
+        x: i128::from(dx),
+        y: i128::from(dy),
+    }
+}
+
+// How far the place is from the origin, to a side.
+fn farthest(to: Spot) -> u128
+    requires { IsShort to }
+    ensures x { IsNoFarther result to.x }
+    ensures y { IsNoFarther result to.y }
+    ensures most { result ≤ 2 ^ 63 }
+{
+    to.x.unsigned_abs().max(to.y.unsigned_abs())
+}
+
+// The way from a place to that one on the diagonal.
+fn way_back(diagonal: u128, to: Spot) -> Way
+    requires most { diagonal ≤ 2 ^ 65 }
+    requires short { IsShort to }
+    requires near_x { to.x ≤ℤ pos diagonal }
+    requires near_y { to.y ≤ℤ pos diagonal }
+    ensures x { pos result.x ≡ pos diagonal -ℤ to.x }
+    ensures y { pos result.y ≡ pos diagonal -ℤ to.y }
+{
+    let place = diagonal as i128;
+    Way {
+        x: (place - to.x) as u128,
+        y: (place - to.y) as u128,
+    }
+}
+
+// Whether the box, when the origin is moved there, lies in the square in which a plane keeps its cells.
+fn stays_in_reach(bounds: WideBounds, to: Spot) -> bool
+    requires { IsShort to }
+    ensures yes { IsTrue result → IsBoxInReach (shifted_box bounds to) }
+    ensures no { IsFalse result → IsBoxOutOfReach (shifted_box bounds to) }
+{
+    if bounds.x0 < -REACH - to.x {
+        return false;
+    }
+    if bounds.x1 > REACH - to.x {
+        return false;
+    }
+    if bounds.y0 < -REACH - to.y {
+        return false;
+    }
+    if bounds.y1 > REACH - to.y {
+        return false;
+    }
+    true
+}
