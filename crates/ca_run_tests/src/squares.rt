@@ -1,11 +1,11 @@
-//! Trees of the highest levels, and squares that are copied from one store to another.
+//! Trees of the highest levels, trees that are moved, and squares that are copied from one store to another.
 
 ghost use Rattle.std.specs.Prelude.{◌≡◌, ◌≤◌, IsTrue, IfOk};
 ghost use Rattle.ca_quad.specs.Trees.{IsIn, IsTree};
 
 use crate::expected::{Cell, FAR, expect, plane_of, shows};
 use ca_plane::{Memory, Plane};
-use ca_quad::{Id, QuadFault, Spot, Store, Tree};
+use ca_quad::{Id, QuadFault, ShiftFault, Spot, Store, Tree};
 use std::alloc::Global;
 use std::test::*;
 
@@ -131,5 +131,62 @@ fn cells_at_the_corner_of_a_plane(rt: HostRuntime) {
             is_at(&found, wanted),
             "a cell at the corner of a plane",
         );
+    }
+}
+
+/// Cells, how far they are moved to the right and downward, and where they are then: none where one would leave a plane.
+const MOVES: &[(&[Cell], i64, i64, Option<&[Cell]>)] = &[
+    (&[], 5, -5, Some(&[])),
+    (GLIDER, 0, 0, Some(GLIDER)),
+    (
+        GLIDER,
+        1,
+        -1,
+        Some(&[(-1, 2, 1), (0, 3, 1), (1, 1, 1), (1, 2, 1), (1, 3, 1)]),
+    ),
+    (
+        &[(0, 0, 255), (0, 1, 1), (9, -14, 3)],
+        -5,
+        3,
+        Some(&[(3, -5, 255), (3, -4, 1), (12, -19, 3)]),
+    ),
+    (&[(0, 0, 7)], -FAR, FAR, Some(&[(FAR, -FAR, 7)])),
+    (&[(0, FAR, 1)], i64::MIN, 0, Some(&[(0, -FAR, 1)])),
+    (&[(0, FAR, 1)], 1, 0, None),
+    (&[(-FAR, 0, 2), (0, 0, 2)], 0, -1, None),
+    (GLIDER, i64::MIN, i64::MAX, None),
+];
+
+/// The plane of the moved tree of a plane of these cells.
+fn moved(
+    alloc: Global,
+    store: &mut Store,
+    cells: &[Cell],
+    dx: i64,
+    dy: i64,
+) -> Result<Plane, QuadFault> {
+    let tree = store.from_plane(&plane_of(alloc, cells)?)?;
+    match store.shifted(tree, dx, dy) {
+        Ok(tree) => store.to_plane(alloc, tree),
+        Err(ShiftFault::Memory) => Err(QuadFault::Memory),
+        Err(ShiftFault::Range) => Err(QuadFault::Range),
+    }
+}
+
+/// Whether a plane has these cells alone, or there is none since a cell is out of range.
+fn are_at(found: &Result<Plane, QuadFault>, cells: Option<&[Cell]>) -> bool {
+    match (found, cells) {
+        (Ok(plane), Some(cells)) => shows(plane, cells),
+        (Err(fault), None) => *fault == QuadFault::Range,
+        (_, _) => false,
+    }
+}
+
+#[test]
+fn trees_are_moved(rt: HostRuntime) {
+    'moves: for &(cells, dx, dy, wanted) in MOVES {
+        let mut store = Store::new(rt.alloc());
+        let found = moved(rt.alloc(), &mut store, cells, dx, dy);
+        expect(&rt, are_at(&found, wanted), "a moved tree");
     }
 }

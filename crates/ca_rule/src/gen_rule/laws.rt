@@ -42,7 +42,8 @@ pub fn two_states_do_as_bs()
 
 /// The printed form of a rule names that rule.
 pub fn generations_names_itself(rule: &GenRule)
-    ensures { NamesGenerationsRule (printed_generations_rule rule.now.survival rule.now.birth rule.now.states) rule.now }
+    ensures { NamesGenerationsRule
+        (printed_generations_rule rule.now.survival rule.now.birth rule.now.states) rule.now }
 {
     let _ = rule.survival.places();
     let _ = rule.birth.places();
