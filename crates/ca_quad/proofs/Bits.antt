@@ -12,13 +12,13 @@ no_more : (n k : ℕ) → n * 2 ^ k ≡ n * 2 ^ k + 0
 no_more n k = omega arith
 
 -- the bits of a number that is moved up, or down
-below_shift : (n k i : ℕ) → i < k → bit_at (n * 2 ^ k) i ≡ 0
+pub below_shift : (n k i : ℕ) → i < k → bit_at (n * 2 ^ k) i ≡ 0
 below_shift n k i h = rw (no_more n k) (bit_at_cat_low n k 0 i h ∙ bit_at-zero i)
 
-above_shift : (n k i : ℕ) → k ≤ i → bit_at (n * 2 ^ k) i ≡ bit_at n (i - k)
+pub above_shift : (n k i : ℕ) → k ≤ i → bit_at (n * 2 ^ k) i ≡ bit_at n (i - k)
 above_shift n k i h = rw (no_more n k) (bit_at_cat_high n k 0 i (pow_pos k) h)
 
-down_shift : (n k i : ℕ) → bit_at (n / 2 ^ k) i ≡ bit_at n (i + k)
+pub down_shift : (n k i : ℕ) → bit_at (n / 2 ^ k) i ≡ bit_at n (i + k)
 down_shift n k i = let e : k + i ≡ i + k = omega arith in ap (λ m. m % 2) (shr-shr n k i) ∙ ap (bit_at n) e
 
 -- the low bits that differ from those above them

@@ -1,7 +1,8 @@
 -- Squares that are cut out of four that lie together.
-use Rattle.std.proofs.Common.{◌≡◌, ℕ, zero, suc, zero-add, ◌+◌, ◌-◌, ◌*◌, ◌<◌, ◌≤◌, ◌^◌, ◌%◌, ◌/◌, ◌==◌, true, cond, inl, inr, Some, Result, Ok, Err, IfOk, OnOk, List, [], ◌∷◌, length, get_or, slice_index, refl, sym, ap, subst, ◌∙◌, arith}
+use Rattle.std.proofs.Common.{◌≡◌, ℕ, zero, suc, zero-add, ◌+◌, ◌-◌, ◌*◌, ◌<◌, ◌≤◌, ◌^◌, ◌%◌, ◌/◌, ◌==◌, true, false, nat_lt, cond, inl, inr, Some, Result, Ok, Err, IfOk, OnOk, List, [], ◌∷◌, length, get_or, slice_index, refl, sym, ap, subst, ◌∙◌, arith}
 use Rattle.std.proofs.Math.Nat.{two-pow-succ}
 use Rattle.std.proofs.lemmas.Bool.{cases_Bool, eqb-true, and_parts}
+use Rattle.std.proofs.lemmas.Bool.Decides.{nat_tests}
 use Rattle.std.proofs.lemmas.Nat.{mod_below, mod-pow-add}
 use Rattle.ca_quad.specs.declared.neighbours.Neighbours.{Neighbours}
 use Rattle.ca_quad.specs.declared.node.Node.{Node}
@@ -10,7 +11,7 @@ use Rattle.ca_quad.specs.contracts.neighbours.NeighboursPartialEq.TheImpl.{eq-va
 use Rattle.ca_quad.specs.Squares.{level_of, dot, together, cell_of}
 use Rattle.ca_quad.specs.Sound.{IsSoundStore, Grows}
 use Rattle.ca_quad.specs.Trees.{ShowsSquare, AreQuarters, AreCorners}
-use Rattle.ca_quad.specs.inner.Cut.{AreNeighbours, cells_of_four, neighbours_at, IsCut, AreCuts, AreSixteen, AreSixteenCells, cut_value}
+use Rattle.ca_quad.specs.inner.Cut.{AreNeighbours, cells_of_four, half_of, neighbours_at, IsCut, AreCuts, AreSixteen, AreSixteenCells, cut_value}
 use Rattle.ca_quad.specs.inner.Window.{ShowsFrom}
 use Rattle.ca_quad.proofs.Cells.{one_up, twice, at_nw, at_ne, at_sw, at_se, cells_stay, of_stays}
 use Rattle.ca_quad.proofs.Growth.{below_or_not}
@@ -273,7 +274,7 @@ cut_ok old new sound grows way four (Ok id) k are x y e f shows = cut_is old new
 cut_ok old new sound grows way four (Err g) k are x y e f shows = tt
 
 -- which half of a square the remainder lies in
-pub half_rest : (n k half u : ℕ) → 1 ≤ k → half ≡ 2 ^ (k - 1) → (half ≤ n % 2 ^ k → u ≡ 1) → (n % 2 ^ k < half → u ≡ 0) → u * 2 ^ (k - 1) + n % 2 ^ (k - 1) ≡ n % 2 ^ k
+half_rest : (n k half u : ℕ) → 1 ≤ k → half ≡ 2 ^ (k - 1) → (half ≤ n % 2 ^ k → u ≡ 1) → (n % 2 ^ k < half → u ≡ 0) → u * 2 ^ (k - 1) + n % 2 ^ (k - 1) ≡ n % 2 ^ k
 half_rest n k half u some is second first =
     let next : 1 + (k - 1) ≡ k = omega arith in
     let parts = mod-pow-add n 1 (k - 1) in
@@ -292,8 +293,20 @@ half_rest n k half u some is second first =
           rw z (sym e)
     ]
 
+pub half_most : (place half : ℕ) → half_of place half ≤ 1
+half_most place half = elim (cases_Bool (nat_lt place half)) [ inl e ↦ rw e (omega arith) | inr e ↦ rw e (omega arith) ]
+
+pub rest_in_half : (n k half place : ℕ) → 1 ≤ k → half ≡ 2 ^ (k - 1) → place ≡ n % 2 ^ k → half_of place half * 2 ^ (k - 1) + n % 2 ^ (k - 1) ≡ n % 2 ^ k
+rest_in_half n k half place some is e =
+    half_rest n k half (half_of place half) some is
+    (λ h. let f : nat_lt place half ≡ false = grind (arith, nat_tests) in rw f refl)
+    (λ h. let f : nat_lt place half ≡ true = grind (arith, nat_tests) in rw f refl)
+
 pub side_is : (k half : ℕ) → 1 ≤ k → half ≡ 2 ^ (k - 1) → 2 * half ≡ 2 ^ k
 side_is k half some is = omega (arith, twice k some)
+
+pub rest_low : (n k half place : ℕ) → 1 ≤ k → half ≡ 2 ^ (k - 1) → place ≡ n % (2 * half) → place < 2 ^ k
+rest_low n k half place some is e = rw e (subst (λ m. n % m < 2 ^ k) (sym (side_is k half some is)) (mod_below n (2 ^ k) (one_up k)))
 
 pub further : (x h r u : ℕ) → x * h + r ≡ u → (x + 1) * h + r ≡ u + h
 further x h r u e = omega (arith, one_further x h)

@@ -34,3 +34,4 @@ pub mod Added
 pub mod Bits
 pub mod Words
 pub mod MoreStates
+pub mod CutWords

@@ -11,6 +11,7 @@ mod bits;
 mod block;
 mod bounds;
 mod cut;
+mod cut_words;
 mod cuts;
 mod difference;
 mod draw;

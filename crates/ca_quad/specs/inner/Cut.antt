@@ -1,12 +1,12 @@
 -- Squares that are cut out of four that lie together.
-use Rattle.std.specs.Prelude.{◌≡◌, ℕ, ◌+◌, ◌*◌, ◌<◌, ◌^◌, ◌%◌, List, slice_index, Option, Some}
+use Rattle.std.specs.Prelude.{◌≡◌, ℕ, ◌+◌, ◌*◌, ◌<◌, ◌^◌, ◌%◌, nat_lt, if◌then◌else◌, List, slice_index, Option, Some}
 use Rattle.std.specs.Map.{lookup}
 use Rattle.ca_quad.specs.declared.neighbours.Neighbours.{Neighbours}
 use Rattle.ca_quad.specs.declared.node.Node.{Node}
 use Rattle.ca_quad.specs.declared.store.cut.Way.{Way}
 use Rattle.ca_quad.specs.contracts.neighbours.NeighboursPartialEq.TheImpl.{eq-value}
 use Rattle.ca_quad.specs.Squares.{together, cell_of}
-use Rattle.ca_quad.specs.Trees.{AreFour}
+use Rattle.ca_quad.specs.Trees.{AreFour, word_cells}
 use Rattle.ca_quad.specs.inner.Window.{ShowsFrom}
 
 -- they are squares of this level
@@ -47,3 +47,16 @@ neighbours_at ids x y = record {
   sw = slice_index ids (4 * (y + 1) + x);
   se = slice_index ids (4 * (y + 1) + (x + 1));
 }
+
+-- in which half of a side the place lies
+abbrev pub half_of : ℕ → ℕ → ℕ
+half_of place half = if nat_lt place half then 0 else 1
+
+-- the four overlapping fours of sixteen squares, of which the north-western lies there
+abbrev pub overlapping : List ℕ → ℕ → ℕ → Neighbours × Neighbours × Neighbours × Neighbours
+overlapping ids x y = (neighbours_at ids x y, neighbours_at ids (x + 1) y, neighbours_at ids x (y + 1), neighbours_at ids (x + 1) (y + 1))
+
+-- the word has the cells of four squares of level 3 from this place on
+pub record IsCutWord (nodes : List Node) (level : ℕ) (four : Neighbours) (place : Way) (word : ℕ) : Type 0 where
+  pub is_level : level ≡ 3
+  pub has_cells : (x y : ℕ) → x < 8 → y < 8 → word_cells word x y ≡ cells_of_four nodes 3 four (place.x + x) (place.y + y)

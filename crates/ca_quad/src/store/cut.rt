@@ -2,7 +2,8 @@
 
 ghost use Rattle.std.specs.Prelude.{◌≡◌, ℕ, suc, ◌+◌, ◌*◌, ◌<◌, ◌≤◌, ◌^◌, ◌%◌, IfOk, OnOk};
 ghost use Rattle.ca_quad.specs.Sound.{Grows};
-ghost use Rattle.ca_quad.specs.inner.Cut.{AreNeighbours, cells_of_four, neighbours_at, IsCut, AreCuts, AreSixteen, AreSixteenCells};
+ghost use Rattle.ca_quad.specs.inner.Cut.{AreNeighbours, cells_of_four, half_of, overlapping, neighbours_at};
+ghost use Rattle.ca_quad.specs.inner.Cut.{IsCut, AreCuts, AreSixteen, AreSixteenCells};
 ghost use Rattle.ca_quad.specs.inner.Window.{ShowsFrom};
 
 use super::Store;
@@ -45,16 +46,14 @@ impl Store {
         if level == 1 {
             return self.cut_cells(four, place);
         }
+        if let Some(word) = self.cut_word(level, four, place) {
+            return self.from_word(word);
+        }
         if let Some(cut) = cuts.get(&four) {
             return Ok(cut);
         }
         let parts = self.sixteen_parts(four);
-        let x = half_of(place.x, half);
-        let y = half_of(place.y, half);
-        let north_west = neighbours_at(&parts, x, y);
-        let north_east = neighbours_at(&parts, x + 1, y);
-        let south_west = neighbours_at(&parts, x, y + 1);
-        let south_east = neighbours_at(&parts, x + 1, y + 1);
+        let (north_west, north_east, south_west, south_east) = overlapping(&parts, place, half);
         let nw = self.cut_out(north_west, way, cuts)?;
         let ne = self.cut_out(north_east, way, cuts)?;
         let sw = self.cut_out(south_west, way, cuts)?;
@@ -123,14 +122,30 @@ fn rest(way: Way, side: u128) -> Way
 
 // Which half of a side the place lies in: 0 or 1.
 fn half_of(place: u128, half: u128) -> usize
-    ensures first { place < half → result ≡ 0 }
-    ensures second { half ≤ place → result ≡ 1 }
-    ensures most { result ≤ 1 }
+    ensures { result ≡ half_of place half }
 {
     if place < half {
         return 0;
     }
     1
+}
+
+// The fours of sixteen parts of which the cut ones make what is cut out of all, that far from their corner.
+fn overlapping(
+    parts: &[Id; 16],
+    place: Way,
+    half: u128,
+) -> (Neighbours, Neighbours, Neighbours, Neighbours)
+    ensures { result ≡ overlapping parts.now (half_of place.x half) (half_of place.y half) }
+{
+    let x = half_of(place.x, half);
+    let y = half_of(place.y, half);
+    (
+        neighbours_at(parts, x, y),
+        neighbours_at(parts, x + 1, y),
+        neighbours_at(parts, x, y + 1),
+        neighbours_at(parts, x + 1, y + 1),
+    )
 }
 
 // The four of sixteen squares, row by row, of which the north-western lies there.
