@@ -192,8 +192,8 @@ module _ (settings : Settings) (said : SaidStatements) (line : NumberedLine) whe
       ∙ ap (λ a. Ok a) (sym v.after_is)
   step-says after (inr t) =
       at-slots t.fields t.inputs t.result t.spelled t.stand
-      ∙ ap (said_if said line.0 t.inputs t.result) t.bound
-      ∙ ap (λ a. Ok a) (sym t.after_is)
+      ∙ ap (said_if said line.0 t.inputs t.result) t.holds.0
+      ∙ ap (λ a. Ok a) (sym t.holds.1)
 
   -- a line that says something is no setting, and begins no section
   pub says-no-setting : (after : SaidStatements) → Says after → is_setting line ≡ false
@@ -229,4 +229,4 @@ module _ (settings : Settings) (said : SaidStatements) (line : NumberedLine) whe
   pub step-unbound : HasUnbound settings said line → step_of settings said line ≡ Err (faults.Unbound line.0)
   step-unbound u =
       at-slots u.fields u.inputs u.result u.spelled u.stand
-      ∙ ap (said_if said line.0 u.inputs u.result) u.unbound
+      ∙ ap (said_if said line.0 u.inputs u.result) u.holds

@@ -24,7 +24,7 @@ variable-behind settings said line name fields kept is h =
 pub transition-behind : (settings : Settings) (said : SaidStatements) (line : NumberedLine) (fields : List (List ℕ)) (kept : Statements) → IsTransitionLine line (field_count settings) fields
     → (inputs : List Slot) × (becomes : Slot) × AllZip (StandsFor settings said) fields (inputs ++ becomes ∷ []) × (is_bound becomes inputs ≡ true) × KeepsStatements (with_transition said inputs becomes) kept → IsKeptBehind settings said line kept
 transition-behind settings said line fields kept is h =
-    (with_transition said h.0 h.1, inr (record { fields = fields; inputs = h.0; result = h.1; spelled = is; stand = h.2; bound = h.3; after_is = refl }), h.4)
+    (with_transition said h.0 h.1, inr (record { fields = fields; inputs = h.0; result = h.1; spelled = is; stand = h.2; holds = (h.3, refl) }), h.4)
 
 -- the first field that stands for nothing
 pub bad-field : (settings : Settings) (said : SaidStatements) (line : NumberedLine) (P : List ℕ → Type 0) (fields good later : List (List ℕ)) (slots : List Slot) (field : List ℕ) → HasFields settings line fields → fields ≡ good ++ field ∷ later
@@ -55,7 +55,7 @@ module _ (settings : Settings) (said : SaidStatements) (count : ℕ) (numbers : 
   pub transition-fault : (f : StatementFault) → IsTransitionLine line (field_count settings) fields → IsFaultOfTransition count numbers fields f → IsFaultOfLine settings said line f
   transition-fault Memory is h = (
     with_transition said h.inputs h.result,
-    inr (record { fields = fields; inputs = h.inputs; result = h.result; spelled = is; stand = all-stand settings said count numbers same named fields (h.inputs ++ h.result ∷ []) h.stand; bound = h.bound_is; after_is = refl }),
+    inr (record { fields = fields; inputs = h.inputs; result = h.result; spelled = is; stand = all-stand settings said count numbers same named fields (h.inputs ++ h.result ∷ []) h.stand; holds = (h.bound_is, refl) }),
   )
   transition-fault Unbound is h = record {
     fields = fields;
@@ -63,7 +63,7 @@ module _ (settings : Settings) (said : SaidStatements) (count : ℕ) (numbers : 
     result = h.result;
     spelled = is;
     stand = all-stand settings said count numbers same named fields (h.inputs ++ h.result ∷ []) h.stand;
-    unbound = h.bound_is;
+    holds = h.bound_is;
   }
   transition-fault Syntax is h = no-slot Syntax (inr is) h
   transition-fault State is h = no-slot State (inr is) h

@@ -123,8 +123,8 @@ module _ (settings : Settings) (said : SaidStatements) (line : NumberedLine) whe
 
   bound-or-bad : (fields : List (List ℕ)) (inputs : List Slot) (result : Slot) → IsTransitionLine line (field_count settings) fields → AllZip (StandsFor settings said) fields (inputs ++ result ∷ []) → SaysOrBad settings said line
   bound-or-bad fields inputs result t stand = elim (cases_Bool (is_bound result inputs)) [
-    | inl b ↦ inl (with_transition said inputs result, inr (record { fields = fields; inputs = inputs; result = result; spelled = t; stand = stand; bound = b; after_is = refl }))
-    | inr b ↦ inr (NoInput (record { fields = fields; inputs = inputs; result = result; spelled = t; stand = stand; unbound = b }))
+    | inl b ↦ inl (with_transition said inputs result, inr (record { fields = fields; inputs = inputs; result = result; spelled = t; stand = stand; holds = (b, refl) }))
+    | inr b ↦ inr (NoInput (record { fields = fields; inputs = inputs; result = result; spelled = t; stand = stand; holds = b }))
   ]
 
   transition-or-bad : (fields : List (List ℕ)) → IsTransitionLine line (field_count settings) fields → SaysOrBad settings said line

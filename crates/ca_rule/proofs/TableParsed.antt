@@ -56,7 +56,7 @@ module _ (settings : Settings) where
   line-below said after line below (inl v) = ap (λ (s : SaidStatements). list_all (λ t. is_below settings.states t.result) s.transitions) v.after_is ∙ below
   line-below said after line below (inr v) =
       let low = last-below said v.fields v.inputs v.result v.stand in
-      ap (λ (s : SaidStatements). list_all (λ t. is_below settings.states t.result) s.transitions) v.after_is
+      ap (λ (s : SaidStatements). list_all (λ t. is_below settings.states t.result) s.transitions) v.holds.1
       ∙ list_all-append (λ t. is_below settings.states t.result) said.transitions (record { inputs = v.inputs; result = v.result } ∷ [])
       ∙ rw below (rw low refl)
 

@@ -9,7 +9,7 @@ use Rattle.ca_rule.specs.declared.table.slot.Slot.{Slot}
 use Rattle.ca_rule.specs.TableNext.{TableRule, table_next}
 use Rattle.ca_rule.specs.Digits.{are_digits}
 use Rattle.ca_rule.specs.TableLines.{NumberedLine, lines_said, last_line, rule_name, begins_table, begins_section, is_setting, states_set, neighbourhood_set, symmetry_set, is_name, IsVariableLine, IsTransitionLine}
-use Rattle.ca_rule.specs.TableText.{HasTable, sets_again, are_settings, Settings, Mean, SaidStatements, nothing, number_of, StandsFor, SaysVariable, is_bound, field_count, SaysTransition, Say, IsTable}
+use Rattle.ca_rule.specs.TableText.{HasTable, sets_again, are_settings, Settings, Mean, SaidStatements, nothing, number_of, StandsFor, SaysVariable, is_bound, field_count, HasTransition, SaysTransition, Say, IsTable}
 
 -- the number of the first of the lines, or of the text's last where there is none
 abbrev pub number_at : List ℕ → List NumberedLine → ℕ
@@ -115,13 +115,8 @@ abbrev pub HasUnknownName : Settings → SaidStatements → NumberedLine → Typ
 HasUnknownName settings said line = HasBadField settings said line (λ field. (is_name field ≡ true) × (number_of 0 said.variables field ≡ None))
 
 -- a transition whose result is a variable that is no input
-pub record HasUnbound (settings : Settings) (said : SaidStatements) (line : NumberedLine) : Type 0 where
-  pub fields : List (List ℕ)
-  pub inputs : List Slot
-  pub result : Slot
-  pub spelled : IsTransitionLine line (field_count settings) fields
-  pub stand : AllZip (StandsFor settings said) fields (inputs ++ result ∷ [])
-  pub unbound : is_bound result inputs ≡ false
+abbrev pub HasUnbound : Settings → SaidStatements → NumberedLine → Type 0
+HasUnbound settings said line = HasTransition settings said line (λ inputs result. is_bound result inputs ≡ false)
 
 -- the line is a good statement
 abbrev pub SaysMore : Settings → SaidStatements → NumberedLine → Type 0

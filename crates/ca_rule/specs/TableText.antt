@@ -92,15 +92,19 @@ is_bound (Variable v) inputs = list_any (is_variable v) inputs
 abbrev pub field_count : Settings → ℕ
 field_count settings = ring_size settings.neighbourhood + 2
 
--- the line says one more transition
-pub record SaysTransition (settings : Settings) (said : SaidStatements) (line : NumberedLine) (after : SaidStatements) : Type 0 where
+-- the line is a transition, and this holds of its inputs and its result
+pub record HasTransition (settings : Settings) (said : SaidStatements) (line : NumberedLine) (P : List Slot → Slot → Type 0) : Type 0 where
   pub fields : List (List ℕ)
   pub inputs : List Slot
   pub result : Slot
   pub spelled : IsTransitionLine line (field_count settings) fields
   pub stand : AllZip (StandsFor settings said) fields (inputs ++ result ∷ [])
-  pub bound : is_bound result inputs ≡ true
-  pub after_is : after ≡ record said { transitions = said.transitions ++ record { inputs = inputs; result = result } ∷ [] }
+  pub holds : P inputs result
+
+-- the line says one more transition
+abbrev pub SaysTransition : Settings → SaidStatements → NumberedLine → SaidStatements → Type 0
+SaysTransition settings said line after = HasTransition settings said line (λ inputs result. (is_bound result inputs ≡ true)
+    × (after ≡ record said { transitions = said.transitions ++ record { inputs = inputs; result = result } ∷ [] }))
 
 -- the lines are statements, which say this, one after another, after what was said
 abbrev pub Say : Settings → SaidStatements → List NumberedLine → SaidStatements → Type 0

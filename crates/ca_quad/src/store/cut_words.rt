@@ -44,7 +44,8 @@ fn rows_from(north: u64, south: u64, row: u32) -> u64
 // The eight columns from this one on of two words that lie side by side.
 fn columns_from(west: u64, east: u64, column: u32) -> u64
     requires { column < 8 }
-    ensures west { (x y : ℕ) → column + x < 8 → y < 8 → word_cells result x y ≡ word_cells west (column + x) y }
+    ensures west { (x y : ℕ) → column + x < 8 → y < 8
+        → word_cells result x y ≡ word_cells west (column + x) y }
     ensures east { (x y : ℕ) → x < 8 → y < 8 → 8 ≤ column + x
         → word_cells result x y ≡ word_cells east (column + x - 8) y }
 {

@@ -55,8 +55,7 @@ says_both last is_spelled = record {
   result = a;
   spelled = is_spelled;
   stand = ((refl, refl, omega arith), ((refl, refl), ((refl, refl, omega arith), ((refl, refl, omega arith), ((refl, refl, omega arith), ((refl, refl), tt))))));
-  bound = refl;
-  after_is = refl;
+  holds = (refl, refl);
 }
 
 -- the rule file's head, and these lines after it
