@@ -1,13 +1,13 @@
--- What the least box of a tree tells of the square of a plane.
-use Rattle.std.proofs.Common.{◌≡◌, ℕ, ◌+◌, ◌-◌, ◌<◌, ◌≤◌, ◌^◌, inl, inr, ℤ, pos, neg_ℤ, ◌+ℤ◌, ◌≤ℤ◌, List, refl, arith}
+-- What the least box of a tree, or its level, tells of the square of a plane.
+use Rattle.std.proofs.Common.{ℕ, ◌+◌, ◌-◌, ◌≤◌, ◌^◌, inl, inr, ℤ, pos, ◌+ℤ◌, List, refl, arith}
 use Rattle.std.proofs.lemmas.Int.{ints}
 use Rattle.std.proofs.Math.Nat.{pow-le-pow_right}
-use Rattle.ca_plane.specs.Sparse.{reach}
 use Rattle.ca_quad.specs.declared.node.Node.{Node}
 use Rattle.ca_quad.specs.declared.tree.Tree.{Tree}
 use Rattle.ca_quad.specs.declared.tree.WideBounds.{WideBounds}
 use Rattle.ca_quad.specs.Trees.{cell}
 use Rattle.ca_quad.specs.Boxes.{IsDead, IsLeastWideBox}
+use Rattle.ca_quad.specs.Trimmed.{HoldsAll}
 use Rattle.ca_quad.specs.Expanded.{FitsPlane, HasCellOutsidePlane}
 use Rattle.ca_quad.specs.inner.Reach.{IsBoxInReach, IsBoxOutOfReach}
 use Rattle.ca_quad.proofs.Edges.{outside_x, outside_y}
@@ -29,24 +29,21 @@ module _ (cells : ℤ → ℤ → ℕ) where
         let k = least.all x y live in
         (omega (arith, ints), omega (arith, ints), omega (arith, ints), omega (arith, ints))
 
--- a tree of a low level lies in the square of a plane
-module _ (nodes : List Node) (tree : Tree) (some : 1 ≤ tree.level) (low : tree.level ≤ 63) where
-  half_low : 2 ^ (tree.level - 1) ≤ 2 ^ 62
-  half_low = pow-le-pow_right {n = 2} (omega arith) {i = tree.level - 1} {j = 62} (omega arith)
-
-  near : (half : ℕ) → half ≤ 2 ^ 62 → (u : ℤ) (n : ℕ) → u +ℤ pos half ≡ pos n → n < half + half → (neg_ℤ reach ≤ℤ u) × (u ≤ℤ reach)
-  near half h u n e l = (omega (arith, ints), omega (arith, ints))
-
-  pub low_fits : FitsPlane (cell nodes tree)
-  low_fits x y live =
-      let half = 2 ^ (tree.level - 1) in
-      elim (place_on (x +ℤ pos half) (half + half)) [
-        | inr off ↦ absurd (live (outside_x nodes tree half some refl x y off))
-        | inl (a, e, h) ↦ elim (place_on (y +ℤ pos half) (half + half)) [
-          | inr off ↦ absurd (live (outside_y nodes tree half some refl x y off))
-          | inl (b, f, i) ↦
-              let p = near half half_low x a e h in
-              let q = near half half_low y b f i in
-              (p.0, p.1, q.0, q.1)
-        ]
+-- a tree holds all its live cells, and so does a larger one
+pub tree_holds : (nodes : List Node) (tree : Tree) (level : ℕ) → 1 ≤ tree.level → tree.level ≤ level → HoldsAll level (cell nodes tree)
+tree_holds nodes tree level some low x y live =
+    let half = 2 ^ (tree.level - 1) in
+    let more : half ≤ 2 ^ (level - 1) = pow-le-pow_right {n = 2} (omega arith) {i = tree.level - 1} {j = level - 1} (omega arith) in
+    elim (place_on (x +ℤ pos half) (half + half)) [
+      | inr off ↦ absurd (live (outside_x nodes tree half some refl x y off))
+      | inl (a, e, h) ↦ elim (place_on (y +ℤ pos half) (half + half)) [
+        | inr off ↦ absurd (live (outside_y nodes tree half some refl x y off))
+        | inl (b, f, i) ↦ ((omega (arith, ints), omega (arith, ints)), (omega (arith, ints), omega (arith, ints)))
       ]
+    ]
+
+-- a tree of a low level lies in the square of a plane
+pub low_fits : (nodes : List Node) (tree : Tree) → 1 ≤ tree.level → tree.level ≤ 63 → FitsPlane (cell nodes tree)
+low_fits nodes tree some low x y live =
+    let k = tree_holds nodes tree 63 some low x y live in
+    (omega (arith, ints), omega (arith, ints), omega (arith, ints), omega (arith, ints))

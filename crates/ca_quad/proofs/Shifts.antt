@@ -27,6 +27,7 @@ use Rattle.ca_quad.proofs.Differ.{cell_at}
 use Rattle.ca_quad.proofs.Edges.{IsOff, outside_x, outside_y}
 use Rattle.ca_quad.proofs.Filled.{place_on}
 use Rattle.ca_quad.proofs.Growth.{below_or_not}
+use Rattle.ca_quad.proofs.Reach.{tree_holds}
 use Rattle.ca_quad.proofs.Views.{square_whole}
 
 -- the least box moves with the cells
@@ -79,18 +80,12 @@ some_level nodes sound tree is =
       | inr h ↦ h
     ]
 
--- a tree holds all its live cells, and so does a larger one
-pub tree_holds : (nodes : List Node) (tree : Tree) (level : ℕ) → 1 ≤ tree.level → tree.level ≤ level → HoldsAll level (cell nodes tree)
-tree_holds nodes tree level some low x y live =
-    let half = 2 ^ (tree.level - 1) in
-    let more : half ≤ 2 ^ (level - 1) = pow-le-pow_right {n = 2} (omega arith) {i = tree.level - 1} {j = level - 1} (omega arith) in
-    elim (place_on (x +ℤ pos half) (half + half)) [
-      | inr off ↦ absurd (live (outside_x nodes tree half some refl x y off))
-      | inl (a, e, h) ↦ elim (place_on (y +ℤ pos half) (half + half)) [
-        | inr off ↦ absurd (live (outside_y nodes tree half some refl x y off))
-        | inl (b, f, i) ↦ ((omega (arith, ints), omega (arith, ints)), (omega (arith, ints), omega (arith, ints)))
-      ]
-    ]
+-- a tree of a low level that moves a short way stays in the square of a plane
+pub short_fits : (nodes : List Node) → IsSoundStore nodes → (tree : Tree) → IsTree nodes tree → (to : Spot) → tree.level ≤ 62 → IsNoFarther (2 ^ 61) to.x → IsNoFarther (2 ^ 61) to.y
+    → FitsPlane (shifted_cells (cell nodes tree) to.x to.y)
+short_fits nodes sound tree is to low near_x near_y x y live =
+    let k = tree_holds nodes tree 62 (some_level nodes sound tree is) low (x -ℤ to.x) (y -ℤ to.y) live in
+    (omega (arith, ints), omega (arith, ints), omega (arith, ints), omega (arith, ints))
 
 pub holds_as : (level : ℕ) (p q : ℤ → ℤ → ℕ) → ((x y : ℤ) → q x y ≡ p x y) → HoldsAll level p → HoldsAll level q
 holds_as level p q same holds x y live = holds x y (λ z. live (same x y ∙ z))

@@ -19,6 +19,11 @@ use crate::tree::{Spot, Tree, WideBounds};
 use ca_plane::Memory;
 use ca_plane::limits::REACH;
 
+// A tree of this level that moves no farther than the margin stays in the square of a plane.
+const INNER: u8 = 62;
+
+const MARGIN: u128 = 1 << 61;
+
 impl Store {
     /// The tree of the smallest level, at least 1, whose cell at (x, y) is the old one's at (x - dx, y - dy).
     ///
@@ -52,6 +57,10 @@ impl Store {
         ensures fits { OnOk result (FitsPlane (shifted_cells (cell self.now tree) to.x to.y)) }
         ensures fault { IfErr result (IsShiftRefused (shifted_cells (cell self.now tree) to.x to.y)) }
     {
+        let _ = &self.nodes;
+        if tree.level <= INNER && farthest(to) <= MARGIN {
+            return Ok(());
+        }
         let alloc = *self.nodes.allocator();
         let Some(bounds) = self.bounds(alloc, tree)? else {
             return Ok(());
