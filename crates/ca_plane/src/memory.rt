@@ -1,4 +1,4 @@
-//! Out of memory, and why a text isn't written or a plane isn't moved.
+//! Out of memory, and why a text isn't written, or a plane or a tree isn't moved.
 
 ghost use Rattle.std.specs.Prelude.{◌≡◌};
 ghost use Rattle.ca_plane.specs.declared.memory.MoveFault.TheVariants.{Memory};
@@ -38,13 +38,13 @@ pub enum WriteFault {
     Write,
 }
 
-/// Why a plane was not moved.
+/// Why a plane or a tree was not moved.
 #[derive(Clone, Copy, Debug, PartialEq, Eq, Error)]
 pub enum MoveFault {
     /// A growth was refused.
     #[error("out of memory")]
     Memory,
-    /// A cell would leave the square in which a plane keeps its cells.
+    /// A live cell would leave the square in which a plane keeps its cells.
     #[error("a cell would leave the plane")]
     Range,
 }

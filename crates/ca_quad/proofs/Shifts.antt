@@ -3,8 +3,8 @@ use Rattle.std.proofs.Common.{◌≡◌, ◌≢◌, ℕ, suc, ◌+◌, ◌-◌, 
 use Rattle.std.proofs.lemmas.Bool.{cases_eq}
 use Rattle.std.proofs.lemmas.Int.{ints}
 use Rattle.std.proofs.Math.Nat.{pow-le-pow_right}
-use Rattle.ca_quad.specs.declared.fault.ShiftFault.{ShiftFault}
-use Rattle.ca_quad.specs.declared.fault.ShiftFault.TheVariants.{Memory, Range}
+use Rattle.ca_plane.specs.declared.memory.MoveFault.{MoveFault}
+use Rattle.ca_plane.specs.declared.memory.MoveFault.TheVariants.{Memory, Range}
 use Rattle.ca_quad.specs.declared.neighbours.Neighbours.{Neighbours}
 use Rattle.ca_quad.specs.declared.node.Node.{Node}
 use Rattle.ca_quad.specs.declared.store.cut.Way.{Way}
@@ -50,7 +50,7 @@ box_shifted cells box to least =
 pub fits_as : (p q : ℤ → ℤ → ℕ) → ((x y : ℤ) → q x y ≡ p x y) → FitsPlane p → FitsPlane q
 fits_as p q same fits x y live = fits x y (λ z. live (same x y ∙ z))
 
-pub refused_as : (p q : ℤ → ℤ → ℕ) → ((x y : ℤ) → q x y ≡ p x y) → (fault : ShiftFault) → IsShiftRefused p fault → IsShiftRefused q fault
+pub refused_as : (p q : ℤ → ℤ → ℕ) → ((x y : ℤ) → q x y ≡ p x y) → (fault : MoveFault) → IsShiftRefused p fault → IsShiftRefused q fault
 refused_as p q same Memory h = tt
 refused_as p q same Range (x, y, live, out) = (x, y, (λ z. live (sym (same x y) ∙ z)), out)
 

@@ -1,8 +1,7 @@
-//! Why a tree was not made a plane, or not moved.
+//! Why a tree was not made a plane.
 
 ghost use Rattle.std.specs.Prelude.{◌≡◌};
 ghost use Rattle.ca_quad.specs.declared.fault.QuadFault.TheVariants.{Memory as NoMemory};
-ghost use Rattle.ca_quad.specs.declared.fault.ShiftFault.TheVariants.{Memory as NoSpace};
 
 use ca_plane::Memory;
 use thiserror::Error;
@@ -26,24 +25,5 @@ impl From<Memory> for QuadFault {
 
     fn from(_refused: Memory) -> QuadFault {
         QuadFault::Memory
-    }
-}
-
-/// Why a tree was not moved.
-#[derive(Clone, Copy, Debug, PartialEq, Eq, Error)]
-pub enum ShiftFault {
-    /// A growth was refused.
-    #[error("out of memory")]
-    Memory,
-    /// A live cell would leave the square in which a plane keeps its cells.
-    #[error("a cell would leave the plane")]
-    Range,
-}
-
-impl From<Memory> for ShiftFault {
-    ghost from_gives = { λ _ f. f ≡ NoSpace };
-
-    fn from(_refused: Memory) -> ShiftFault {
-        ShiftFault::Memory
     }
 }

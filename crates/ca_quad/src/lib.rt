@@ -12,7 +12,7 @@ mod square_map;
 mod store;
 mod tree;
 
-pub use fault::{QuadFault, ShiftFault};
+pub use fault::QuadFault;
 pub use id::Id;
 pub use square_map::SquareMap;
 pub use store::Store;

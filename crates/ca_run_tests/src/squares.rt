@@ -4,8 +4,8 @@ ghost use Rattle.std.specs.Prelude.{◌≡◌, ◌≤◌, IsTrue, IfOk};
 ghost use Rattle.ca_quad.specs.Trees.{IsIn, IsTree};
 
 use crate::expected::{Cell, FAR, expect, plane_of, shows};
-use ca_plane::{Memory, Plane};
-use ca_quad::{Id, QuadFault, ShiftFault, Spot, Store, Tree};
+use ca_plane::{Memory, MoveFault, Plane};
+use ca_quad::{Id, QuadFault, Spot, Store, Tree};
 use std::alloc::Global;
 use std::test::*;
 
@@ -168,8 +168,8 @@ fn moved(
     let tree = store.from_plane(&plane_of(alloc, cells)?)?;
     match store.shifted(tree, dx, dy) {
         Ok(tree) => store.to_plane(alloc, tree),
-        Err(ShiftFault::Memory) => Err(QuadFault::Memory),
-        Err(ShiftFault::Range) => Err(QuadFault::Range),
+        Err(MoveFault::Memory) => Err(QuadFault::Memory),
+        Err(MoveFault::Range) => Err(QuadFault::Range),
     }
 }
 

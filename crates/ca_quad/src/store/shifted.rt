@@ -13,15 +13,15 @@ use super::Store;
 use super::cut::Way;
 use super::cuts::Cuts;
 use super::read::half_side;
-use crate::fault::ShiftFault;
 use crate::neighbours::Neighbours;
 use crate::tree::{Spot, Tree, WideBounds};
-use ca_plane::Memory;
 use ca_plane::limits::REACH;
+use ca_plane::{Memory, MoveFault};
 
 // A tree of this level that moves no farther than the margin stays in the square of a plane.
 const INNER: u8 = 62;
 
+// The smallest way from such a tree to the edge of the square.
 const MARGIN: u128 = 1 << 61;
 
 impl Store {
@@ -31,7 +31,7 @@ impl Store {
     ///
     /// `Range` where a live cell would leave the square in which a plane keeps its cells, that is, from -2^62 to 2^62 in
     /// both directions, and `Memory` where a growth is refused. The store may then have more squares than before.
-    pub fn shifted(&mut self, tree: Tree, dx: i64, dy: i64) -> Result<Tree, ShiftFault>
+    pub fn shifted(&mut self, tree: Tree, dx: i64, dy: i64) -> Result<Tree, MoveFault>
         requires { IsTree self.old tree }
         ensures tree { IfOk result (IsTree self.new) }
         ensures cells { IfOk result (λ t.
@@ -51,7 +51,7 @@ impl Store {
     }
 
     // Looks whether the live cells of a tree, when its middle is moved there, lie in the square of a plane.
-    fn check_shift(&self, tree: Tree, to: Spot) -> Result<(), ShiftFault>
+    fn check_shift(&self, tree: Tree, to: Spot) -> Result<(), MoveFault>
         requires tree { IsTree self.now tree }
         requires short { IsShort to }
         ensures fits { OnOk result (FitsPlane (shifted_cells (cell self.now tree) to.x to.y)) }
@@ -66,7 +66,7 @@ impl Store {
             return Ok(());
         };
         if !stays_in_reach(bounds, to) {
-            return Err(ShiftFault::Range);
+            return Err(MoveFault::Range);
         }
         Ok(())
     }
