@@ -8,13 +8,14 @@ use Rattle.ca_quad.specs.declared.neighbours.Neighbours.{Neighbours}
 use Rattle.ca_quad.specs.declared.node.Node.{Node}
 use Rattle.ca_quad.specs.declared.store.cut.Way.{Way}
 use Rattle.ca_quad.specs.contracts.neighbours.NeighboursPartialEq.TheImpl.{eq-value}
-use Rattle.ca_quad.specs.Squares.{level_of, dot, together, cell_of}
+use Rattle.ca_quad.specs.Squares.{IsOf, level_of, dot, together, cell_of}
 use Rattle.ca_quad.specs.Sound.{IsSoundStore, Grows}
-use Rattle.ca_quad.specs.Trees.{ShowsSquare, AreQuarters, AreCorners}
-use Rattle.ca_quad.specs.inner.Cut.{AreNeighbours, cells_of_four, half_of, neighbours_at, IsCut, AreCuts, AreSixteen, AreSixteenCells, cut_value}
+use Rattle.ca_quad.specs.Trees.{ShowsSquare, AreFour, AreQuarters, AreCorners}
+use Rattle.ca_quad.specs.inner.Cut.{AreNeighbours, cells_of_four, half_of, neighbours_at, overlapping, IsCut, AreCuts, AreSixteen, AreSixteenCells, cut_value}
 use Rattle.ca_quad.specs.inner.Window.{ShowsFrom}
-use Rattle.ca_quad.proofs.Cells.{one_up, twice, at_nw, at_ne, at_sw, at_se, cells_stay, of_stays}
-use Rattle.ca_quad.proofs.Growth.{below_or_not}
+use Rattle.ca_quad.proofs.Cells.{one_up, at_nw, at_ne, at_sw, at_se, cells_stay, of_stays}
+use Rattle.ca_quad.proofs.Growth.{below_or_not, grows_same, grows_on}
+use Rattle.ca_quad.proofs.Filled.{grows_three, grows_four, can_join, joined}
 use Rattle.ca_quad.proofs.Windows.{FourWindows, window_stays, four_windows, together_shows}
 
 -- a window at the same place
@@ -267,12 +268,6 @@ one_cut_more nodes way old new four id are is put other found h =
           are other found (sym f ∙ (sym (put other) ∙ h))
     ]
 
--- squares of level 1 that make one
-pub cut_ok : {E : Type 0} (old new : List Node) → IsSoundStore old → Grows old new → (way : Way) (four : Neighbours) (r : Result ℕ E) (k : ℕ) → AreNeighbours old k four → (x y : ℕ) → x ≡ way.x % 2 ^ k → y ≡ way.y % 2 ^ k
-    → IfOk r (λ id. ShowsFrom new id k (cells_of_four old k four) x y) → IfOk r (IsCut new way four)
-cut_ok old new sound grows way four (Ok id) k are x y e f shows = cut_is old new sound grows way four id k are x y e f shows
-cut_ok old new sound grows way four (Err g) k are x y e f shows = tt
-
 -- which half of a square the remainder lies in
 half_rest : (n k half u : ℕ) → 1 ≤ k → half ≡ 2 ^ (k - 1) → (half ≤ n % 2 ^ k → u ≡ 1) → (n % 2 ^ k < half → u ≡ 0) → u * 2 ^ (k - 1) + n % 2 ^ (k - 1) ≡ n % 2 ^ k
 half_rest n k half u some is second first =
@@ -302,49 +297,130 @@ rest_in_half n k half place some is e =
     (λ h. let f : nat_lt place half ≡ false = grind (arith, nat_tests) in rw f refl)
     (λ h. let f : nat_lt place half ≡ true = grind (arith, nat_tests) in rw f refl)
 
-pub side_is : (k half : ℕ) → 1 ≤ k → half ≡ 2 ^ (k - 1) → 2 * half ≡ 2 ^ k
-side_is k half some is = omega (arith, twice k some)
-
-pub rest_low : (n k half place : ℕ) → 1 ≤ k → half ≡ 2 ^ (k - 1) → place ≡ n % (2 * half) → place < 2 ^ k
-rest_low n k half place some is e = rw e (subst (λ m. n % m < 2 ^ k) (sym (side_is k half some is)) (mod_below n (2 ^ k) (one_up k)))
+pub rest_low : (n k place : ℕ) → place ≡ n % 2 ^ k → place < 2 ^ k
+rest_low n k place e = rw e (mod_below n (2 ^ k) (one_up k))
 
 pub further : (x h r u : ℕ) → x * h + r ≡ u → (x + 1) * h + r ≡ u + h
 further x h r u e = omega (arith, one_further x h)
 
--- the parts of four squares of level k, of which overlapping fours are cut
-module _ (old : List Node) (sound : IsSoundStore old) (k : ℕ) (large : 2 ≤ k) (four : Neighbours) (are : AreNeighbours old k four) (ids : List ℕ)
-    (sixteen : (l : ℕ) → AreNeighbours old (suc l) four → AreSixteen old l (cells_of_four old (suc l) four) ids) where
-  next : suc (k - 1) ≡ k
-  next = omega arith
+-- what is cut out of the group on the way shows the cells from (x, y) on, where the group's squares are of this level
+pub record LeadsTo (nodes : List Node) (level : ℕ) (cells : ℕ → ℕ → ℕ) (way : Way) (x y : ℕ) (group : Neighbours) : Type 0 where
+  pub left : ℕ
+  pub top : ℕ
+  pub windows : FourWindows nodes level cells left top group.nw group.ne group.sw group.se
+  pub is_x : left + way.x % 2 ^ level ≡ x
+  pub is_y : top + way.y % 2 ^ level ≡ y
 
-  parts_show : AreSixteen old (k - 1) (cells_of_four old k four) ids
-  parts_show = subst (λ l. AreSixteen old (k - 1) (cells_of_four old l four) ids) next (sixteen (k - 1) (subst (λ l. AreNeighbours old l four) (sym next) are))
+-- the four groups lead to the four parts of the square that shows the cells from (x, y) on
+pub record LeadToParts (nodes : List Node) (level : ℕ) (cells : ℕ → ℕ → ℕ) (way : Way) (x y : ℕ) (groups : Neighbours × Neighbours × Neighbours × Neighbours) : Type 0 where
+  pub nw : LeadsTo nodes level cells way x y groups.0
+  pub ne : LeadsTo nodes level cells way (x + 2 ^ level) y groups.1
+  pub sw : LeadsTo nodes level cells way x (y + 2 ^ level) groups.2
+  pub se : LeadsTo nodes level cells way (x + 2 ^ level) (y + 2 ^ level) groups.3
 
-  module _ (new : List Node) (grows : Grows old new) (x y : ℕ) (x_low : x ≤ 2) (y_low : y ≤ 2) (group : Neighbours) (is : group ≡ neighbours_at ids x y) where
-    part : (u v : ℕ) → u < 4 → v < 4 → ShowsFrom new (slice_index ids (4 * v + u)) (k - 1) (cells_of_four old k four) (u * 2 ^ (k - 1)) (v * 2 ^ (k - 1))
-    part u v i j = window_stays old new sound grows (slice_index ids (4 * v + u)) (k - 1) (u * 2 ^ (k - 1)) (v * 2 ^ (k - 1)) (cells_of_four old k four) (parts_show u v i j)
+-- one of them, when squares were added
+module _ (old new : List Node) (sound : IsSoundStore old) (grows : Grows old new) {level : ℕ} {cells : ℕ → ℕ → ℕ} {way : Way} {x y : ℕ} {group : Neighbours} (leads : LeadsTo old level cells way x y group) where
+  windows : FourWindows new level cells leads.left leads.top group.nw group.ne group.sw group.se
+  windows =
+      let w = leads.windows in
+      let stays : (id left top : ℕ) → ShowsFrom old id level cells left top → ShowsFrom new id level cells left top = λ id left top. window_stays old new sound grows id level left top cells in
+      record {
+        a = stays group.nw leads.left leads.top w.a;
+        b = stays group.ne (leads.left + 2 ^ level) leads.top w.b;
+        c = stays group.sw leads.left (leads.top + 2 ^ level) w.c;
+        d = stays group.se (leads.left + 2 ^ level) (leads.top + 2 ^ level) w.d;
+      }
 
-    windows : FourWindows new (k - 1) (cells_of_four old k four) (x * 2 ^ (k - 1)) (y * 2 ^ (k - 1)) group.nw group.ne group.sw group.se
-    windows =
-        let cells = cells_of_four old k four in
-        let h = 2 ^ (k - 1) in
+  pub group_stays : level ≤ 124 → (level_of new group.nw ≡ level) × ((k : ℕ) × AreNeighbours new k group)
+  group_stays low = (windows.a.is_square.is_level, (level, four_windows new level cells leads.left leads.top group.nw group.ne group.sw group.se windows low))
+
+  pub part_cut : (id : ℕ) → IsCut new way group id → ShowsFrom new id level cells x y
+  part_cut id cut =
+      window_at new id level cells (leads.left + way.x % 2 ^ level) (leads.top + way.y % 2 ^ level) x y leads.is_x leads.is_y
+      (cut_within new level cells leads.left leads.top way group id windows cut)
+
+-- four squares, and the place on them from which a square is cut out
+module _ (old : List Node) (sound : IsSoundStore old) (four : Neighbours) (way place : Way) (level : ℕ) (is_level : level ≡ level_of old four.nw) (squares : (k : ℕ) × AreNeighbours old k four)
+    (at_x : place.x ≡ way.x % 2 ^ level) (at_y : place.y ≡ way.y % 2 ^ level) where
+  pub are_four : AreNeighbours old level four
+  are_four = subst (λ k. AreNeighbours old k four) (sym squares.1.is_nw.is_level ∙ sym is_level) squares.1
+
+  pub first_cut : place.x ≡ 0 → place.y ≡ 0 → IsCut old way four four.nw
+  first_cut e f = cut_is old old sound (grows_same old sound) way four four.nw level are_four 0 0 (sym e ∙ at_x) (sym f ∙ at_y) (first_shows old level four are_four)
+
+  pub made_cut : {E : Type 0} (new : List Node) → Grows old new → (r : Result ℕ E) → IfOk r (λ id. ShowsFrom new id level (cells_of_four old level four) place.x place.y) → IfOk r (IsCut new way four)
+  made_cut new grows (Ok id) shows = cut_is old new sound grows way four id level are_four place.x place.y at_x at_y shows
+  made_cut new grows (Err e) shows = tt
+
+  -- the fours of their parts that lead to the parts of the square
+  module _ (large : 2 ≤ level) (ids : List ℕ) (sixteen : (l : ℕ) → AreNeighbours old (suc l) four → AreSixteen old l (cells_of_four old (suc l) four) ids)
+      (half : ℕ) (is_half : half ≡ 2 ^ (level - 1)) where
+    part : (x y : ℕ) → x < 4 → y < 4 → ShowsFrom old (slice_index ids (4 * y + x)) (level - 1) (cells_of_four old level four) (x * 2 ^ (level - 1)) (y * 2 ^ (level - 1))
+    part =
+        let next : suc (level - 1) ≡ level = omega arith in
+        subst (λ l. AreSixteen old (level - 1) (cells_of_four old l four) ids) next (sixteen (level - 1) (subst (λ l. AreNeighbours old l four) (sym next) are_four))
+
+    leads : (u v x y : ℕ) → u ≤ 2 → v ≤ 2 → u * 2 ^ (level - 1) + way.x % 2 ^ (level - 1) ≡ x → v * 2 ^ (level - 1) + way.y % 2 ^ (level - 1) ≡ y
+        → LeadsTo old (level - 1) (cells_of_four old level four) way x y (neighbours_at ids u v)
+    leads u v x y low_u low_v is_x is_y =
+        let cells = cells_of_four old level four in
+        let h = 2 ^ (level - 1) in
+        let group = neighbours_at ids u v in
+        record {
+          left = u * h;
+          top = v * h;
+          windows = record {
+            a = part u v (omega arith) (omega arith);
+            b = window_at old group.ne (level - 1) cells ((u + 1) * h) (v * h) (u * h + h) (v * h) (one_further u h) refl (part (u + 1) v (omega arith) (omega arith));
+            c = window_at old group.sw (level - 1) cells (u * h) ((v + 1) * h) (u * h) (v * h + h) refl (one_further v h) (part u (v + 1) (omega arith) (omega arith));
+            d = window_at old group.se (level - 1) cells ((u + 1) * h) ((v + 1) * h) (u * h + h) (v * h + h) (one_further u h) (one_further v h) (part (u + 1) (v + 1) (omega arith) (omega arith));
+          };
+          is_x = is_x;
+          is_y = is_y;
+        }
+
+    pub lead_to_parts : (groups : Neighbours × Neighbours × Neighbours × Neighbours) → groups ≡ overlapping ids (half_of place.x half) (half_of place.y half)
+        → LeadToParts old (level - 1) (cells_of_four old level four) way place.x place.y groups
+    lead_to_parts groups is =
+        let h = 2 ^ (level - 1) in
+        let u = half_of place.x half in
+        let v = half_of place.y half in
+        let low_u = half_most place.x half in
+        let low_v = half_most place.y half in
+        let is_x : u * h + way.x % h ≡ place.x = rest_in_half way.x level half place.x (omega arith) is_half at_x ∙ sym at_x in
+        let is_y : v * h + way.y % h ≡ place.y = rest_in_half way.y level half place.y (omega arith) is_half at_y ∙ sym at_y in
+        let to_x = further u h (way.x % h) place.x is_x in
+        let to_y = further v h (way.y % h) place.y is_y in
         rw is (record {
-          a = part x y (omega arith) (omega arith);
-          b = window_at new (neighbours_at ids x y).ne (k - 1) cells ((x + 1) * h) (y * h) (x * h + h) (y * h) (one_further x h) refl (part (x + 1) y (omega arith) (omega arith));
-          c = window_at new (neighbours_at ids x y).sw (k - 1) cells (x * h) ((y + 1) * h) (x * h) (y * h + h) refl (one_further y h) (part x (y + 1) (omega arith) (omega arith));
-          d = window_at new (neighbours_at ids x y).se (k - 1) cells ((x + 1) * h) ((y + 1) * h) (x * h + h) (y * h + h) (one_further x h) (one_further y h) (part (x + 1) (y + 1) (omega arith) (omega arith));
+          nw = leads u v place.x place.y (omega arith) (omega arith) is_x is_y;
+          ne = leads (u + 1) v (place.x + h) place.y (omega arith) (omega arith) to_x is_y;
+          sw = leads u (v + 1) place.x (place.y + h) (omega arith) (omega arith) is_x to_y;
+          se = leads (u + 1) (v + 1) (place.x + h) (place.y + h) (omega arith) (omega arith) to_x to_y;
         })
 
-    pub can_cut : (level : ℕ) × AreNeighbours new level group
-    can_cut = (k - 1, four_windows new (k - 1) (cells_of_four old k four) (x * 2 ^ (k - 1)) (y * 2 ^ (k - 1)) group.nw group.ne group.sw group.se windows (omega (arith, are.is_low)))
+-- the parts that were cut out, one after the other
+module _ (old s1 s2 s3 s4 : List Node) (sound : IsSoundStore old) (g1 : Grows old s1) (g2 : Grows s1 s2) (g3 : Grows s2 s3) (g4 : Grows s3 s4) (level : ℕ) (large : 2 ≤ level) {cells : ℕ → ℕ → ℕ} {way : Way} {x y : ℕ}
+    {groups : Neighbours × Neighbours × Neighbours × Neighbours} (leads : LeadToParts old (level - 1) cells way x y groups) (nw ne sw se : ℕ)
+    (a : IsCut s1 way groups.0 nw) (b : IsCut s2 way groups.1 ne) (c : IsCut s3 way groups.2 sw) (d : IsCut s4 way groups.3 se) where
+  abbrev h : ℕ
+  h = 2 ^ (level - 1)
 
-    pub falls : level_of new group.nw < level_of old four.nw
-    falls = omega (arith, windows.a.is_square.is_level, are.is_nw.is_level)
+  shows_nw : ShowsFrom s1 nw (level - 1) cells x y
+  shows_nw = part_cut old s1 sound g1 leads.nw nw a
 
-    -- what is cut out of such a four is a part of what is cut out of all
-    pub part_cut : (way : Way) (id : ℕ) → IsCut new way group id → (u v : ℕ) → x * 2 ^ (k - 1) + way.x % 2 ^ (k - 1) ≡ u → y * 2 ^ (k - 1) + way.y % 2 ^ (k - 1) ≡ v
-        → ShowsFrom new id (k - 1) (cells_of_four old k four) u v
-    part_cut way id cut u v e f =
-        let h = 2 ^ (k - 1) in
-        window_at new id (k - 1) (cells_of_four old k four) (x * h + way.x % h) (y * h + way.y % h) u v e f
-        (cut_within new (k - 1) (cells_of_four old k four) (x * h) (y * h) way group id windows cut)
+  shows_ne : ShowsFrom s2 ne (level - 1) cells (x + h) y
+  shows_ne = part_cut old s2 sound (grows_on old s1 s2 g1 g2) leads.ne ne b
+
+  shows_sw : ShowsFrom s3 sw (level - 1) cells x (y + h)
+  shows_sw = part_cut old s3 sound (grows_three old s1 s2 s3 g1 g2 g3) leads.sw sw c
+
+  shows_se : ShowsFrom s4 se (level - 1) cells (x + h) (y + h)
+  shows_se = part_cut old s4 sound (grows_four old s1 s2 s3 g1 g2 g3 s4 g4) leads.se se d
+
+  pub can_join_cuts : level ≤ 125 → AreFour s4 (level - 1) nw ne sw se
+  can_join_cuts = can_join s1 s2 s3 s4 g1.sound g2 g3 g4 level h large refl nw ne sw se cells x y shows_nw shows_ne shows_sw shows_se
+
+  pub cuts_joined : {E : Type 0} (new : List Node) (r : Result ℕ E)
+      → ((l : ℕ) → IsOf s4 nw l → IfOk r (λ id. ShowsSquare new id (suc l) (together (2 ^ l) (cell_of s4 l nw) (cell_of s4 l ne) (cell_of s4 l sw) (cell_of s4 l se))))
+      → IfOk r (λ id. ShowsFrom new id level cells x y)
+  cuts_joined = joined s1 s2 s3 s4 g1.sound g2 g3 g4 level h large refl nw ne sw se cells x y shows_nw shows_ne shows_sw shows_se

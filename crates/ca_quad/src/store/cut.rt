@@ -38,8 +38,7 @@ impl Store {
         let _ = &self.nodes;
         let corner = four.nw;
         let level = self.level(corner);
-        let half = half_side(level);
-        let place = rest(way, 2 * half);
+        let place = rest(way, level);
         if place.x == 0 && place.y == 0 {
             return Ok(corner);
         }
@@ -53,7 +52,11 @@ impl Store {
             return Ok(cut);
         }
         let parts = self.sixteen_parts(four);
-        let (north_west, north_east, south_west, south_east) = overlapping(&parts, place, half);
+        let (north_west, north_east, south_west, south_east) = overlapping(
+            &parts,
+            place,
+            half_side(level),
+        );
         let nw = self.cut_out(north_west, way, cuts)?;
         let ne = self.cut_out(north_east, way, cuts)?;
         let sw = self.cut_out(south_west, way, cuts)?;
@@ -108,12 +111,14 @@ impl Store {
     }
 }
 
-// The remainders of a way by a side.
-fn rest(way: Way, side: u128) -> Way
-    requires { 1 ≤ side }
-    ensures x { result.x ≡ way.x % side }
-    ensures y { result.y ≡ way.y % side }
+// The remainders of a way by the side of squares of this level.
+fn rest(way: Way, level: u8) -> Way
+    requires least { 1 ≤ level }
+    requires most { level ≤ 125 }
+    ensures x { result.x ≡ way.x % 2 ^ level }
+    ensures y { result.y ≡ way.y % 2 ^ level }
 {
+    let side = 2 * half_side(level);
     Way {
         x: way.x % side,
         y: way.y % side,
