@@ -51,12 +51,9 @@ impl Store {
         if let Some(cut) = cuts.get(&four) {
             return Ok(cut);
         }
+        let half = half_side(level);
         let parts = self.sixteen_parts(four);
-        let (north_west, north_east, south_west, south_east) = overlapping(
-            &parts,
-            place,
-            half_side(level),
-        );
+        let (north_west, north_east, south_west, south_east) = overlapping(&parts, place, half);
         let nw = self.cut_out(north_west, way, cuts)?;
         let ne = self.cut_out(north_east, way, cuts)?;
         let sw = self.cut_out(south_west, way, cuts)?;

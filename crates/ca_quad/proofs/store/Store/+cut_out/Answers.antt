@@ -50,28 +50,28 @@ sixteen_parts-parts-requires t c =
 pub cut_out-requires : goal.cut_out-requires
 cut_out-requires t c =
     let large : 2 ≤ c.level-level.result = grind (arith, nat_tests) in
-    let leads = lead_to_parts c.args.self.now (subst IsSoundStore c.self.view_is c.self.invariant) c.args.four c.args.way c.rest-place.result c.level-level.result c.level-level.ensures.level c.requires.four c.rest-place.ensures.x c.rest-place.ensures.y large c.sixteen_parts-parts.result c.sixteen_parts-parts.ensures c.half_side.result c.half_side.ensures.half c.overlapping.result c.overlapping.ensures in
+    let leads = lead_to_parts c.args.self.now (subst IsSoundStore c.self.view_is c.self.invariant) c.args.four c.args.way c.rest-place.result c.level-level.result c.level-level.ensures.level c.requires.four c.rest-place.ensures.x c.rest-place.ensures.y large c.sixteen_parts-parts.result c.sixteen_parts-parts.ensures c.half_side-half.result c.half_side-half.ensures.half c.overlapping.result c.overlapping.ensures in
     let group = group_stays c.args.self.now c.args.self.now (subst IsSoundStore c.self.view_is c.self.invariant) (grows_same c.args.self.now (subst IsSoundStore c.self.view_is c.self.invariant)) leads.nw (omega (arith, c.level-level.ensures.most)) in
     (omega (arith, c.decreases, c.level-level.ensures.level, group.0), (group.1, c.requires.cuts))
 
 pub cut_out-requires-2 : goal.cut_out-requires-2
 cut_out-requires-2 t c =
     let large : 2 ≤ c.level-level.result = grind (arith, nat_tests) in
-    let leads = lead_to_parts c.args.self.now (subst IsSoundStore c.self.view_is c.self.invariant) c.args.four c.args.way c.rest-place.result c.level-level.result c.level-level.ensures.level c.requires.four c.rest-place.ensures.x c.rest-place.ensures.y large c.sixteen_parts-parts.result c.sixteen_parts-parts.ensures c.half_side.result c.half_side.ensures.half c.overlapping.result c.overlapping.ensures in
+    let leads = lead_to_parts c.args.self.now (subst IsSoundStore c.self.view_is c.self.invariant) c.args.four c.args.way c.rest-place.result c.level-level.result c.level-level.ensures.level c.requires.four c.rest-place.ensures.x c.rest-place.ensures.y large c.sixteen_parts-parts.result c.sixteen_parts-parts.ensures c.half_side-half.result c.half_side-half.ensures.half c.overlapping.result c.overlapping.ensures in
     let group = group_stays c.args.self.now c.cut_out.new.self (subst IsSoundStore c.self.view_is c.self.invariant) (c.cut_out.ensures.grows) leads.ne (omega (arith, c.level-level.ensures.most)) in
     (omega (arith, c.decreases, c.level-level.ensures.level, group.0), (group.1, c.in_ok-nw.ensures.cuts))
 
 pub cut_out-requires-3 : goal.cut_out-requires-3
 cut_out-requires-3 t c =
     let large : 2 ≤ c.level-level.result = grind (arith, nat_tests) in
-    let leads = lead_to_parts c.args.self.now (subst IsSoundStore c.self.view_is c.self.invariant) c.args.four c.args.way c.rest-place.result c.level-level.result c.level-level.ensures.level c.requires.four c.rest-place.ensures.x c.rest-place.ensures.y large c.sixteen_parts-parts.result c.sixteen_parts-parts.ensures c.half_side.result c.half_side.ensures.half c.overlapping.result c.overlapping.ensures in
+    let leads = lead_to_parts c.args.self.now (subst IsSoundStore c.self.view_is c.self.invariant) c.args.four c.args.way c.rest-place.result c.level-level.result c.level-level.ensures.level c.requires.four c.rest-place.ensures.x c.rest-place.ensures.y large c.sixteen_parts-parts.result c.sixteen_parts-parts.ensures c.half_side-half.result c.half_side-half.ensures.half c.overlapping.result c.overlapping.ensures in
     let group = group_stays c.args.self.now c.cut_out-2.new.self (subst IsSoundStore c.self.view_is c.self.invariant) (grows_on c.args.self.now c.cut_out.new.self c.cut_out-2.new.self c.cut_out.ensures.grows c.cut_out-2.ensures.grows) leads.sw (omega (arith, c.level-level.ensures.most)) in
     (omega (arith, c.decreases, c.level-level.ensures.level, group.0), (group.1, c.in_ok-ne.ensures.cuts))
 
 pub cut_out-requires-4 : goal.cut_out-requires-4
 cut_out-requires-4 t c =
     let large : 2 ≤ c.level-level.result = grind (arith, nat_tests) in
-    let leads = lead_to_parts c.args.self.now (subst IsSoundStore c.self.view_is c.self.invariant) c.args.four c.args.way c.rest-place.result c.level-level.result c.level-level.ensures.level c.requires.four c.rest-place.ensures.x c.rest-place.ensures.y large c.sixteen_parts-parts.result c.sixteen_parts-parts.ensures c.half_side.result c.half_side.ensures.half c.overlapping.result c.overlapping.ensures in
+    let leads = lead_to_parts c.args.self.now (subst IsSoundStore c.self.view_is c.self.invariant) c.args.four c.args.way c.rest-place.result c.level-level.result c.level-level.ensures.level c.requires.four c.rest-place.ensures.x c.rest-place.ensures.y large c.sixteen_parts-parts.result c.sixteen_parts-parts.ensures c.half_side-half.result c.half_side-half.ensures.half c.overlapping.result c.overlapping.ensures in
     let group = group_stays c.args.self.now c.cut_out-3.new.self (subst IsSoundStore c.self.view_is c.self.invariant) (grows_three c.args.self.now c.cut_out.new.self c.cut_out-2.new.self c.cut_out-3.new.self c.cut_out.ensures.grows c.cut_out-2.ensures.grows c.cut_out-3.ensures.grows) leads.se (omega (arith, c.level-level.ensures.most)) in
     (omega (arith, c.decreases, c.level-level.ensures.level, group.0), (group.1, c.in_ok-sw.ensures.cuts))
 
@@ -91,13 +91,13 @@ returns-clause-grows t c = grows_five c.args.self.now c.cut_out.new.self c.cut_o
 pub join-requires : goal.join-requires
 join-requires t c =
     let large : 2 ≤ c.level-level.result = grind (arith, nat_tests) in
-    let leads = lead_to_parts c.args.self.now (subst IsSoundStore c.self.view_is c.self.invariant) c.args.four c.args.way c.rest-place.result c.level-level.result c.level-level.ensures.level c.requires.four c.rest-place.ensures.x c.rest-place.ensures.y large c.sixteen_parts-parts.result c.sixteen_parts-parts.ensures c.half_side.result c.half_side.ensures.half c.overlapping.result c.overlapping.ensures in
+    let leads = lead_to_parts c.args.self.now (subst IsSoundStore c.self.view_is c.self.invariant) c.args.four c.args.way c.rest-place.result c.level-level.result c.level-level.ensures.level c.requires.four c.rest-place.ensures.x c.rest-place.ensures.y large c.sixteen_parts-parts.result c.sixteen_parts-parts.ensures c.half_side-half.result c.half_side-half.ensures.half c.overlapping.result c.overlapping.ensures in
     (c.level-level.result - 1, can_join_cuts c.args.self.now c.cut_out.new.self c.cut_out-2.new.self c.cut_out-3.new.self c.cut_out-4.new.self (subst IsSoundStore c.self.view_is c.self.invariant) c.cut_out.ensures.grows c.cut_out-2.ensures.grows c.cut_out-3.ensures.grows c.cut_out-4.ensures.grows c.level-level.result large leads c.in_ok-nw.nw c.in_ok-ne.ne c.in_ok-sw.sw c.in_ok-se.se c.in_ok-nw.ensures.cut c.in_ok-ne.ensures.cut c.in_ok-sw.ensures.cut c.in_ok-se.ensures.cut c.level-level.ensures.most)
 
 pub returns-clause-cut : goal.returns-clause-cut
 returns-clause-cut t c =
     let large : 2 ≤ c.level-level.result = grind (arith, nat_tests) in
-    let leads = lead_to_parts c.args.self.now (subst IsSoundStore c.self.view_is c.self.invariant) c.args.four c.args.way c.rest-place.result c.level-level.result c.level-level.ensures.level c.requires.four c.rest-place.ensures.x c.rest-place.ensures.y large c.sixteen_parts-parts.result c.sixteen_parts-parts.ensures c.half_side.result c.half_side.ensures.half c.overlapping.result c.overlapping.ensures in
+    let leads = lead_to_parts c.args.self.now (subst IsSoundStore c.self.view_is c.self.invariant) c.args.four c.args.way c.rest-place.result c.level-level.result c.level-level.ensures.level c.requires.four c.rest-place.ensures.x c.rest-place.ensures.y large c.sixteen_parts-parts.result c.sixteen_parts-parts.ensures c.half_side-half.result c.half_side-half.ensures.half c.overlapping.result c.overlapping.ensures in
     let shows = cuts_joined c.args.self.now c.cut_out.new.self c.cut_out-2.new.self c.cut_out-3.new.self c.cut_out-4.new.self (subst IsSoundStore c.self.view_is c.self.invariant) c.cut_out.ensures.grows c.cut_out-2.ensures.grows c.cut_out-3.ensures.grows c.cut_out-4.ensures.grows c.level-level.result large leads c.in_ok-nw.nw c.in_ok-ne.ne c.in_ok-sw.sw c.in_ok-se.se c.in_ok-nw.ensures.cut c.in_ok-ne.ensures.cut c.in_ok-sw.ensures.cut c.in_ok-se.ensures.cut c.join.new.self c.join.result c.join.ensures.shows in
     subst (λ r. IfOk r (IsCut c.join.new.self c.args.way c.args.four)) c.in_ok-cut.was
     (made_cut c.args.self.now (subst IsSoundStore c.self.view_is c.self.invariant) c.args.four c.args.way c.rest-place.result c.level-level.result c.level-level.ensures.level c.requires.four c.rest-place.ensures.x c.rest-place.ensures.y c.join.new.self (grows_five c.args.self.now c.cut_out.new.self c.cut_out-2.new.self c.cut_out-3.new.self c.cut_out.ensures.grows c.cut_out-2.ensures.grows c.cut_out-3.ensures.grows c.cut_out-4.new.self c.join.new.self c.cut_out-4.ensures.grows c.join.ensures.grows) c.join.result shows)
