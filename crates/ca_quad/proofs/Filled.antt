@@ -2,7 +2,7 @@
 use Rattle.std.proofs.Common.{◌≡◌, ℕ, suc, ◌+◌, ◌-◌, ◌<◌, ◌≤◌, ◌^◌, ◌⊎◌, inl, inr, ℤ, pos, negsuc, neg_ℤ, ◌+ℤ◌, ◌<ℤ◌, ◌≤ℤ◌, Result, IfOk, List, [], ◌∷◌, get_or, length, slice_index, refl, sym, ap, subst, ◌∙◌, arith}
 use Rattle.std.proofs.lemmas.Bool.{cases_eq}
 use Rattle.std.proofs.lemmas.Int.{ints}
-use Rattle.std.proofs.Math.Nat.{two-pow-succ, pow-le-pow_right}
+use Rattle.std.proofs.Math.Nat.{pow-le-pow_right}
 use Rattle.ca_plane.specs.declared.point.Bounds.{Bounds}
 use Rattle.ca_plane.specs.Box.{IsLeastBox}
 use Rattle.ca_plane.specs.Plane.{Picture, cell}
@@ -160,29 +160,33 @@ pub place_on : (u : ℤ) (side : ℕ) → ((n : ℕ) × (u ≡ pos n) × (n < si
 place_on (pos n) side = elim (below_or_not n side) [ inl h ↦ inl (n, refl, h) | inr h ↦ inr (inr (omega (arith, ints))) ]
 place_on (negsuc n) side = inr (inl (omega (arith, ints)))
 
--- a tree whose root shows all cells shows the picture
-module _ (nodes : List Node) (tree : Tree) (p : Picture) (half : ℕ) (side : half ≡ 2 ^ (tree.level - 1)) (some : 1 ≤ tree.level) (at : Spot) (ex : at.x ≡ neg_ℤ (pos half)) (ey : at.y ≡ neg_ℤ (pos half))
-    (shows : ShowsFrom nodes tree.root tree.level (counted p at) 0 0) (holds : HoldsAll tree.level (cell p)) where
+-- a tree that holds all the cells, and whose root has them, has the cells
+module _ (nodes : List Node) (tree : Tree) (half : ℕ) (side : half ≡ 2 ^ (tree.level - 1)) (some : 1 ≤ tree.level) (cells : ℤ → ℤ → ℕ) (holds : HoldsAll tree.level cells)
+    (shows : (x y : ℤ) (a b : ℕ) → x +ℤ pos half ≡ pos a → y +ℤ pos half ≡ pos b → a < half + half → b < half + half → cell_of nodes tree.level tree.root a b ≡ cells x y) where
   off_live : (s : ℕ) (x : ℤ) → half ≡ s → IsOff (half + half) (x +ℤ pos half) → neg_ℤ (pos s) ≤ℤ x → x <ℤ pos s → ⊥
   off_live s x e (inl h) i j = omega (arith, ints)
   off_live s x e (inr h) i j = omega (arith, ints)
 
-  dead_x : (x y : ℤ) → IsOff (half + half) (x +ℤ pos half) → cell p x y ≡ 0
-  dead_x x y off = elim (cases_eq (cell p x y) 0) [ inl z ↦ z | inr live ↦ let h = holds x y live in absurd (off_live (2 ^ (tree.level - 1)) x side off h.0.0 h.0.1) ]
+  dead_x : (x y : ℤ) → IsOff (half + half) (x +ℤ pos half) → cells x y ≡ 0
+  dead_x x y off = elim (cases_eq (cells x y) 0) [ inl z ↦ z | inr live ↦ let h = holds x y live in absurd (off_live (2 ^ (tree.level - 1)) x side off h.0.0 h.0.1) ]
 
-  dead_y : (x y : ℤ) → IsOff (half + half) (y +ℤ pos half) → cell p x y ≡ 0
-  dead_y x y off = elim (cases_eq (cell p x y) 0) [ inl z ↦ z | inr live ↦ let h = holds x y live in absurd (off_live (2 ^ (tree.level - 1)) y side off h.1.0 h.1.1) ]
+  dead_y : (x y : ℤ) → IsOff (half + half) (y +ℤ pos half) → cells x y ≡ 0
+  dead_y x y off = elim (cases_eq (cells x y) 0) [ inl z ↦ z | inr live ↦ let h = holds x y live in absurd (off_live (2 ^ (tree.level - 1)) y side off h.1.0 h.1.1) ]
 
-  pub tree_filled : (x y : ℤ) → tree_cell nodes tree x y ≡ cell p x y
-  tree_filled x y =
-      let next : suc (tree.level - 1) ≡ tree.level = omega arith in
-      let whole : 2 ^ tree.level ≡ half + half = ap (λ n. 2 ^ n) (sym next) ∙ (two-pow-succ (tree.level - 1) ∙ ap (λ n. n + n) (sym side)) in
+  pub tree_shows : (x y : ℤ) → tree_cell nodes tree x y ≡ cells x y
+  tree_shows x y =
       elim (place_on (x +ℤ pos half) (half + half)) [
         | inr off ↦ outside_x nodes tree half some side x y off ∙ sym (dead_x x y off)
         | inl (a, e, h) ↦ elim (place_on (y +ℤ pos half) (half + half)) [
           | inr off ↦ outside_y nodes tree half some side x y off ∙ sym (dead_y x y off)
-          | inl (b, f, i) ↦
-              cell_at nodes tree half side x y a b e f
-              ∙ (shows.has_cells a b (omega (arith, whole)) (omega (arith, whole)) ∙ sym (counted_at p at x y (0 + a) (0 + b) (omega (arith, ints)) (omega (arith, ints))))
+          | inl (b, f, i) ↦ cell_at nodes tree half side x y a b e f ∙ shows x y a b e f h i
         ]
       ]
+
+-- a tree whose root shows all cells shows the picture
+pub tree_filled : (nodes : List Node) (tree : Tree) (p : Picture) (half : ℕ) → half ≡ 2 ^ (tree.level - 1) → 1 ≤ tree.level → (at : Spot) → at.x ≡ neg_ℤ (pos half) → at.y ≡ neg_ℤ (pos half)
+    → ShowsFrom nodes tree.root tree.level (counted p at) 0 0 → HoldsAll tree.level (cell p) → (x y : ℤ) → tree_cell nodes tree x y ≡ cell p x y
+tree_filled nodes tree p half side some at ex ey shows holds =
+    let whole = twice tree.level some in
+    tree_shows nodes tree half side some (cell p) holds
+    (λ x y a b e f h i. shows.has_cells a b (omega (arith, side, whole)) (omega (arith, side, whole)) ∙ sym (counted_at p at x y (0 + a) (0 + b) (omega (arith, ints)) (omega (arith, ints))))

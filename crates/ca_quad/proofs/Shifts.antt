@@ -1,6 +1,5 @@
 -- Trees that are moved.
 use Rattle.std.proofs.Common.{◌≡◌, ◌≢◌, ℕ, suc, ◌+◌, ◌-◌, ◌<◌, ◌≤◌, ◌^◌, ◌%◌, inl, inr, ℤ, pos, neg_ℤ, ◌+ℤ◌, ◌-ℤ◌, ◌<ℤ◌, ◌≤ℤ◌, List, [], ◌∷◌, length, mod-eq_of_lt, refl, sym, ap, subst, ◌∙◌, arith}
-use Rattle.std.proofs.lemmas.Bool.{cases_eq}
 use Rattle.std.proofs.lemmas.Int.{ints}
 use Rattle.std.proofs.Math.Nat.{pow-le-pow_right}
 use Rattle.ca_plane.specs.declared.memory.MoveFault.{MoveFault}
@@ -24,8 +23,7 @@ use Rattle.ca_quad.specs.inner.Window.{ShowsFrom}
 use Rattle.ca_quad.proofs.Cells.{one_up, twice, of_stays, no_level}
 use Rattle.ca_quad.proofs.Cuts.{window_at, same_four}
 use Rattle.ca_quad.proofs.Differ.{cell_at}
-use Rattle.ca_quad.proofs.Edges.{IsOff, outside_x, outside_y}
-use Rattle.ca_quad.proofs.Filled.{place_on}
+use Rattle.ca_quad.proofs.Filled.{tree_shows}
 use Rattle.ca_quad.proofs.Growth.{below_or_not}
 use Rattle.ca_quad.proofs.Reach.{tree_holds}
 use Rattle.ca_quad.proofs.Views.{square_whole}
@@ -124,43 +122,22 @@ module _ (old new : List Node) (wide : Tree) (to : Spot) (can : CanMove old wide
       let k = h x y live in
       subst (λ l. (neg_ℤ (pos (2 ^ l)) ≤ℤ x) × (x <ℤ pos (2 ^ l)) × (neg_ℤ (pos (2 ^ l)) ≤ℤ y) × (y <ℤ pos (2 ^ l))) e (k.0.0, k.0.1, k.1.0, k.1.1)
 
-  off_dead : (s t : ℕ) (u d : ℤ) → s ≡ t + t → IsNoFarther t d → IsOff (s + s) (u +ℤ pos s) → neg_ℤ (pos t) ≤ℤ (u -ℤ d) → (u -ℤ d) <ℤ pos t → ⊥
-  off_dead s t u d e near (inl h) i j = omega (arith, ints)
-  off_dead s t u d e near (inr h) i j = omega (arith, ints)
-
-  dead_x : (x y : ℤ) → IsOff (2 ^ (wide.level - 1 - 1) + 2 ^ (wide.level - 1 - 1)) (x +ℤ pos (2 ^ (wide.level - 1 - 1))) → cell old wide (x -ℤ to.x) (y -ℤ to.y) ≡ 0
-  dead_x x y off =
-      elim (cases_eq (cell old wide (x -ℤ to.x) (y -ℤ to.y)) 0) [
-        | inl z ↦ z
-        | inr live ↦ let k = held (x -ℤ to.x) (y -ℤ to.y) live in absurd (off_dead (2 ^ (wide.level - 1 - 1)) (2 ^ (wide.level - 3)) x to.x (eighth wide.level can.least) can.near_x off k.0 k.1)
-      ]
-
-  dead_y : (x y : ℤ) → IsOff (2 ^ (wide.level - 1 - 1) + 2 ^ (wide.level - 1 - 1)) (y +ℤ pos (2 ^ (wide.level - 1 - 1))) → cell old wide (x -ℤ to.x) (y -ℤ to.y) ≡ 0
-  dead_y x y off =
-      elim (cases_eq (cell old wide (x -ℤ to.x) (y -ℤ to.y)) 0) [
-        | inl z ↦ z
-        | inr live ↦ let k = held (x -ℤ to.x) (y -ℤ to.y) live in absurd (off_dead (2 ^ (wide.level - 1 - 1)) (2 ^ (wide.level - 3)) y to.y (eighth wide.level can.least) can.near_y off k.2 k.3)
-      ]
+  moved_held : HoldsAll (wide.level - 1) (shifted_cells (cell old wide) to.x to.y)
+  moved_held x y live =
+      let k = held (x -ℤ to.x) (y -ℤ to.y) live in
+      let side = eighth wide.level can.least in
+      ((omega (arith, ints, can.near_x, side), omega (arith, ints, can.near_x, side)), (omega (arith, ints, can.near_y, side), omega (arith, ints, can.near_y, side)))
 
   on : (u d : ℤ) (i c h : ℕ) → u +ℤ pos h ≡ pos i → pos c ≡ pos h -ℤ d → (u -ℤ d) +ℤ pos (h + h) ≡ pos (c + i)
   on u d i c h f g = omega (arith, ints)
 
   pub cut_moved : (x y : ℤ) → cell new (record { root = root; level = wide.level - 1 }) x y ≡ shifted_cells (cell old wide) to.x to.y x y
-  cut_moved x y =
-      let tree : Tree = record { root = root; level = wide.level - 1 } in
+  cut_moved =
       let half = 2 ^ (wide.level - 1 - 1) in
-      let some : 1 ≤ wide.level - 1 = omega (arith, can.least) in
       let side = quarter wide.level can.least in
-      elim (place_on (x +ℤ pos half) (half + half)) [
-        | inr off ↦ outside_x new tree half some refl x y off ∙ sym (dead_x x y off)
-        | inl (i, e, h) ↦ elim (place_on (y +ℤ pos half) (half + half)) [
-          | inr off ↦ outside_y new tree half some refl x y off ∙ sym (dead_y x y off)
-          | inl (j, f, l) ↦
-              cell_at new tree half refl x y i j e f
-              ∙ (shows.has_cells i j (omega (arith, side)) (omega (arith, side))
-              ∙ sym (cell_at old wide (half + half) (sym side) (x -ℤ to.x) (y -ℤ to.y) (a + i) (b + j) (on x to.x i a half e is_a) (on y to.y j b half f is_b)))
-        ]
-      ]
+      tree_shows new (record { root = root; level = wide.level - 1 }) half refl (omega (arith, can.least)) (shifted_cells (cell old wide) to.x to.y) moved_held
+      (λ x y i j e f h l. shows.has_cells i j (omega (arith, side)) (omega (arith, side))
+      ∙ sym (cell_at old wide (half + half) (sym side) (x -ℤ to.x) (y -ℤ to.y) (a + i) (b + j) (on x to.x i a half e is_a) (on y to.y j b half f is_b)))
 
 -- the quarters of a tree that is to be moved
 module _ (old : List Node) (wide : Tree) (to : Spot) (can : CanMove old wide to) where
