@@ -183,8 +183,12 @@ fn halves(
     let mut east = Vec::new(alloc);
     'rows: for &row in rows {
         let place = split(cells, row, at);
-        push_row(part_of(row, row.first, place), &mut west)?;
-        push_row(part_of(row, place, row.end), &mut east)?;
+        let mut west_row = row;
+        west_row.end = place;
+        let mut east_row = row;
+        east_row.first = place;
+        push_row(west_row, &mut west)?;
+        push_row(east_row, &mut east)?;
     }
     Ok((west, east))
 }
@@ -214,19 +218,6 @@ fn is_north(row: Row, at: Spot) -> bool
     ensures no { IsFalse result → at.y ≤ℤ row.y }
 {
     i128::from(row.y) < at.y
-}
-
-// These places of a row.
-fn part_of(row: Row, first: usize, end: usize) -> Row
-    ensures y { result.y ≡ row.y }
-    ensures first { result.first ≡ first }
-    ensures end { result.end ≡ end }
-{
-    Row {
-        y: row.y,
-        first,
-        end,
-    }
 }
 
 // Adds a row, where it has a cell.

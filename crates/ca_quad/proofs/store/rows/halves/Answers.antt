@@ -1,4 +1,4 @@
-use Rattle.std.proofs.Common.{inl, inr, arith}
+use Rattle.std.proofs.Common.{inl, inr, refl, arith}
 use Rattle.std.proofs.lemmas.Option.{slice_get-get_or}
 use Rattle.ca_quad.specs.inner.Rows.{IsPictureRow, IsWest, IsEast}
 use Rattle.ca_quad.proofs.Held.{all_at, row_cut, part_last, part_next}
@@ -12,17 +12,15 @@ rows-preserved c =
     let at = slice_get-get_or rows k _ c.rows-test.true in
     let is = all_at (IsPictureRow p) rows k _ at c.requires.rows in
     let cut = c.split-place.ensures in
-    let w = c.part_of.ensures in
-    let e = c.part_of-in-rows.ensures in
     let (west, east) = c.rows.invariant in (
       part_next p rows (IsWest c.args.at.x) c.rows.west.items c.push_row.new.rows.items k _ at west
-          (c.in_ok-push_row.ensures.rows p west.are (row_cut p c.requires.sparse _ c.part_of.result is w.y (omega (arith, w.first)) (omega (arith, w.first, w.end, cut.least)) (omega (arith, w.end, cut.most))))
+          (c.in_ok-push_row.ensures.rows p west.are (row_cut p c.requires.sparse _ _ is refl (omega arith) cut.least cut.most))
           (λ i h. c.in_ok-push_row.ensures.holds i (inl h))
-          (λ i h t. c.in_ok-push_row.ensures.holds i (inr (record { from = omega (arith, w.first, h.from); below = omega (arith, w.end, cut.west i h t) }))),
+          (λ i h t. c.in_ok-push_row.ensures.holds i (inr (record { from = h.from; below = cut.west i h t }))),
       part_next p rows (IsEast c.args.at.x) c.rows.east.items c.push_row-in-rows.new.rows.items k _ at east
-          (c.in_ok-push_row-2.ensures.rows p east.are (row_cut p c.requires.sparse _ c.part_of-in-rows.result is e.y (omega (arith, e.first, cut.least)) (omega (arith, e.first, e.end, cut.most)) (omega (arith, e.end))))
+          (c.in_ok-push_row-2.ensures.rows p east.are (row_cut p c.requires.sparse _ _ is refl cut.least cut.most (omega arith)))
           (λ i h. c.in_ok-push_row-2.ensures.holds i (inl h))
-          (λ i h t. c.in_ok-push_row-2.ensures.holds i (inr (record { from = omega (arith, e.first, cut.east i h t); below = omega (arith, e.end, h.below) }))),
+          (λ i h t. c.in_ok-push_row-2.ensures.holds i (inr (record { from = cut.east i h t; below = h.below }))),
     )
 
 pub returns-clause-west : goal.returns-clause-west
