@@ -1,0 +1,5 @@
+use Rattle.ca_run.proofs.Shown.{leaper_stays}
+use Rattle.ca_run.proofs.leaper.Leaper.shifted.Goals as goal
+
+pub invariant_of-self : goal.invariant_of-self
+invariant_of-self g c = leaper_stays c.self.invariant c.shifted.ensures.grows
