@@ -182,19 +182,13 @@ fn neighbourhood_name(neighbourhood: Neighbourhood) -> &'static [u8]
 fn neighbourhood_named(bytes: &[u8]) -> Option<Neighbourhood>
     ensures { result ≡ neighbourhood_named bytes.now }
 {
-    let mut left: &[Neighbourhood] = &[
+    let all: &[Neighbourhood] = &[
         Neighbourhood::VonNeumann,
         Neighbourhood::Moore,
         Neighbourhood::Hexagonal,
         Neighbourhood::OneDimensional,
     ];
-    'neighbourhoods: while let Some((neighbourhood, later)) = left.split_first() {
-        if neighbourhood_name(*neighbourhood) == bytes {
-            return Some(*neighbourhood);
-        }
-        left = later;
-    }
-    None
+    all.iter().copied().find(|neighbourhood| neighbourhood_name(*neighbourhood) == bytes)
 }
 
 /// How the symmetry is written.
@@ -258,14 +252,10 @@ fn symmetries_of(neighbourhood: Neighbourhood) -> &'static [Symmetry]
 fn symmetry_named(neighbourhood: Neighbourhood, bytes: &[u8]) -> Option<Symmetry>
     ensures { result ≡ symmetry_named neighbourhood bytes.now }
 {
-    let mut left = symmetries_of(neighbourhood);
-    'symmetries: while let Some((symmetry, later)) = left.split_first() {
-        if symmetry_name(*symmetry) == bytes {
-            return Some(*symmetry);
-        }
-        left = later;
-    }
-    None
+    symmetries_of(neighbourhood)
+        .iter()
+        .copied()
+        .find(|symmetry| symmetry_name(*symmetry) == bytes)
 }
 
 /// The settings of the table, and the lines after them.
