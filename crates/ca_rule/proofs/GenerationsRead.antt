@@ -124,7 +124,7 @@ named-or-wakes text s b u v n m h empty k wakes = false≢true (sym empty ∙ ap
 
 pub names-faultless : (text : List ℕ) (rule : GenRule) (fault : RuleFault) → NamesGenerationsRule text rule → IsGenerationsRuleFault text fault → ⊥
 names-faultless text rule Bounded h k = false≢true (sym (names-no_colon text rule h) ∙ k)
-names-faultless text rule Wakes h k = named-or-wakes text h.survival h.birth k.1 k.2 rule.states k.3 h.spells h.stays_empty k.4 k.5
+names-faultless text rule Wakes h k = named-or-wakes text h.survival h.birth k.1.0 k.1.1 rule.states k.1.2 h.spells h.stays_empty k.1.3 k.1.4
 names-faultless text rule Unknown h k = k.1 h.survival h.birth rule.states h.spells
 
 pub one-fault : (text : List ℕ) (f g : RuleFault) → IsGenerationsRuleFault text f → IsGenerationsRuleFault text g → f ≡ g
@@ -133,9 +133,9 @@ one-fault text Bounded Wakes a b = cc (a, b.0)
 one-fault text Bounded Unknown a b = cc (a, b.0)
 one-fault text Wakes Bounded a b = cc (a.0, b)
 one-fault text Wakes Wakes a b = refl
-one-fault text Wakes Unknown a b = absurd (b.1 a.1 a.2 a.3 a.4)
+one-fault text Wakes Unknown a b = absurd (b.1 a.1.0 a.1.1 a.1.2 a.1.3)
 one-fault text Unknown Bounded a b = cc (a.0, b)
-one-fault text Unknown Wakes a b = absurd (a.1 b.1 b.2 b.3 b.4)
+one-fault text Unknown Wakes a b = absurd (a.1 b.1.0 b.1.1 b.1.2 b.1.3)
 one-fault text Unknown Unknown a b = refl
 
 -- rules that are named by their printed forms are printed alike exactly where they are equal

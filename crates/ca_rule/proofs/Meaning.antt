@@ -33,8 +33,8 @@ names-once text r s h k =
 faultless : (text birth survival : List ℕ) (hood : Hood) (fault : RuleFault) → SpellsBsRule text birth survival hood → has_digit birth 0 ≡ false → IsBsRuleFault text fault → ⊥
 faultless text birth survival hood Bounded h w k = let n = (read text birth survival hood h).no_colon in cc
 faultless text birth survival hood Wakes h w k =
-    let same = spells-once text birth survival k.1 k.2 hood k.3 h k.4 in
-    let digit = ap (λ ds. has_digit ds 0) same.births in cc (digit, k.5)
+    let same = spells-once text birth survival k.1.0 k.1.1 hood k.1.2 h k.1.3 in
+    let digit = ap (λ ds. has_digit ds 0) same.births in cc (digit, k.1.4)
 faultless text birth survival hood Unknown h w k = k.1 birth survival hood h
 
 -- a text that names a rule has no fault

@@ -144,15 +144,15 @@ named-once text tables (Tab t) (Tab u) a b = ap (λ o. Tab (unwrap_or o t)) (sym
 pub named-faultless : (text : List ℕ) (tables : List TableRule) (rule : RuleValue) (fault : RuleFault) → NamesRule text tables rule → IsRuleFault text tables fault → ⊥
 named-faultless text tables (Bs r) Bounded a b = names-faultless text r Bounded a.1 b
 named-faultless text tables (Bs r) Wakes a (inl b) = names-faultless text r Wakes a.1 b
-named-faultless text tables (Bs r) Wakes a (inr b) = generations_read.other-notation text b.1 b.2 b.3 b.4 a.1.birth a.1.survival r.hood a.1.spells
+named-faultless text tables (Bs r) Wakes a (inr b) = generations_read.other-notation text b.1.0 b.1.1 b.1.2 b.1.3 a.1.birth a.1.survival r.hood a.1.spells
 named-faultless text tables (Bs r) Unknown a b = names-faultless text r Unknown a.1 b.0
 named-faultless text tables (Gen r) Bounded a b = generations_read.names-faultless text r Bounded a.1 b
-named-faultless text tables (Gen r) Wakes a (inl b) = generations_read.other-notation text a.1.survival a.1.birth r.states a.1.spells b.1 b.2 b.3 b.4
+named-faultless text tables (Gen r) Wakes a (inl b) = generations_read.other-notation text a.1.survival a.1.birth r.states a.1.spells b.1.0 b.1.1 b.1.2 b.1.3
 named-faultless text tables (Gen r) Wakes a (inr b) = generations_read.names-faultless text r Wakes a.1 b
 named-faultless text tables (Gen r) Unknown a b = generations_read.names-faultless text r Unknown a.1 b.1
 named-faultless text tables (Tab t) Bounded a b = cc (a.0, b)
-named-faultless text tables (Tab t) Wakes a (inl b) = a.1 b.1 b.2 b.3 b.4
-named-faultless text tables (Tab t) Wakes a (inr b) = a.2 b.1 b.2 b.3 b.4
+named-faultless text tables (Tab t) Wakes a (inl b) = a.1 b.1.0 b.1.1 b.1.2 b.1.3
+named-faultless text tables (Tab t) Wakes a (inr b) = a.2 b.1.0 b.1.1 b.1.2 b.1.3
 named-faultless text tables (Tab t) Unknown a b = cc (a.3, b.2)
 
 -- a rule that wakes the empty plane is spelled without `:`
@@ -161,8 +161,8 @@ wakes-spelled text tables (inl b) = b.0
 wakes-spelled text tables (inr b) = b.0
 
 wakes-or-unknown : (text : List ℕ) (tables : List TableRule) → IsRuleFault text tables Wakes → IsRuleFault text tables Unknown → ⊥
-wakes-or-unknown text tables (inl b) u = u.0.1 b.1 b.2 b.3 b.4
-wakes-or-unknown text tables (inr b) u = u.1.1 b.1 b.2 b.3 b.4
+wakes-or-unknown text tables (inl b) u = u.0.1 b.1.0 b.1.1 b.1.2 b.1.3
+wakes-or-unknown text tables (inr b) u = u.1.1 b.1.0 b.1.1 b.1.2 b.1.3
 
 -- and one alone
 pub one-rule-fault : (text : List ℕ) (tables : List TableRule) (f g : RuleFault) → IsRuleFault text tables f → IsRuleFault text tables g → f ≡ g

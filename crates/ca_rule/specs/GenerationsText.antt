@@ -1,14 +1,13 @@
 -- How a rule of the family Generations is spelled, `S/B/C` (Golly Help, Algorithms: Generations; that digits may stand in any
 -- order and repeated, and the limits of C, are our own), how it is printed (our own), and what is wrong with a text that
 -- spells none.
-use Rattle.std.specs.Prelude.{◌≡◌, ℕ, List, ◌++◌, true, false, IsTrue, Some, codes, decimal}
-use Rattle.ca_rule.specs.Counts.{has_digit, counts_of, are_digits_up_to}
+use Rattle.std.specs.Prelude.{◌≡◌, ℕ, List, ◌++◌, true, IsTrue, Some, codes, decimal}
+use Rattle.ca_rule.specs.Counts.{has_digit, are_digits_up_to}
 use Rattle.ca_rule.specs.Digits.{state_count}
-use Rattle.ca_rule.specs.Spelling.{has_colon, digits_of}
+use Rattle.ca_rule.specs.Spelling.{NamesCounts, IsSpellingFault, digits_of}
 use Rattle.ca_rule.specs.declared.counts.Counts.{Counts}
 use Rattle.ca_rule.specs.declared.gen_rule.GenRule.{GenRule}
 use Rattle.ca_rule.specs.declared.fault.RuleFault.{RuleFault}
-use Rattle.ca_rule.specs.declared.fault.RuleFault.TheVariants.{Bounded, Wakes, Unknown}
 
 -- the text spells a rule: survival digits, `/`, birth digits, `/`, and the number of states, as `345/2/4`
 pub record SpellsGenerationsRule (text survival birth : List ℕ) (states : ℕ) : Type 0 where
@@ -18,24 +17,21 @@ pub record SpellsGenerationsRule (text survival birth : List ℕ) (states : ℕ)
   pub number_is : state_count number ≡ Some states
   pub form : text ≡ survival ++ (codes "/" ++ (birth ++ (codes "/" ++ number)))
 
--- the text names the rule: it spells it, and leaves the empty plane empty
-pub record NamesGenerationsRule (text : List ℕ) (rule : GenRule) : Type 0 where
-  pub survival : List ℕ
-  pub birth : List ℕ
-  pub spells : SpellsGenerationsRule text survival birth rule.states
-  pub stays_empty : has_digit birth 0 ≡ false
-  pub survival_is : rule.survival ≡ counts_of survival
-  pub birth_is : rule.birth ≡ counts_of birth
+-- the text names the rule
+abbrev pub NamesGenerationsRule : List ℕ → GenRule → Type 0
+NamesGenerationsRule text rule = NamesCounts (λ birth survival. SpellsGenerationsRule text survival birth rule.states) rule.birth rule.survival
+
+-- the text spells a rule with birth on 0
+abbrev pub SpellsWakingGenerationsRule : List ℕ → Type 0
+SpellsWakingGenerationsRule text = (survival : List ℕ) × (birth : List ℕ) × (states : ℕ) × SpellsGenerationsRule text survival birth states × (has_digit birth 0 ≡ true)
 
 -- the text spells no rule, with birth on 0 or without
 abbrev pub SpellsNoGenerationsRule : List ℕ → Type 0
 SpellsNoGenerationsRule text = (survival birth : List ℕ) (states : ℕ) → SpellsGenerationsRule text survival birth states → ⊥
 
--- the fault of a text that names no rule: a bounded grid, else a rule that wakes the empty plane, else no spelling
+-- the fault of a text that names no rule
 abbrev pub IsGenerationsRuleFault : List ℕ → RuleFault → Type 0
-IsGenerationsRuleFault text Bounded = has_colon text ≡ true
-IsGenerationsRuleFault text Wakes = (has_colon text ≡ false) × (survival : List ℕ) × (birth : List ℕ) × (states : ℕ) × SpellsGenerationsRule text survival birth states × (has_digit birth 0 ≡ true)
-IsGenerationsRuleFault text Unknown = (has_colon text ≡ false) × SpellsNoGenerationsRule text
+IsGenerationsRuleFault text = IsSpellingFault (SpellsWakingGenerationsRule text) (SpellsNoGenerationsRule text) text
 
 -- the printed form: the survival digits, `/`, the birth digits, `/`, and the number of states
 abbrev pub printed_generations_rule : Counts → Counts → ℕ → List ℕ

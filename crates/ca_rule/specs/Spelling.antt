@@ -45,24 +45,36 @@ pub record SpellsBsRule (text birth survival : List ℕ) (hood : Hood) : Type 0 
 abbrev pub has_colon : List ℕ → Bool
 has_colon text = list_any (λ b. b == letter ":") text
 
--- the text names the rule: it spells it, and leaves the empty plane empty
-pub record NamesBsRule (text : List ℕ) (rule : BsRule) : Type 0 where
+-- a text that spells lists of birth and survival digits names a rule of these counts: it leaves the empty plane empty
+pub record NamesCounts (Spells : List ℕ → List ℕ → Type 0) (birth_counts survival_counts : Counts) : Type 0 where
   pub birth : List ℕ
   pub survival : List ℕ
-  pub spells : SpellsBsRule text birth survival rule.hood
+  pub spells : Spells birth survival
   pub stays_empty : has_digit birth 0 ≡ false
-  pub birth_is : rule.birth ≡ counts_of birth
-  pub survival_is : rule.survival ≡ counts_of survival
+  pub birth_is : birth_counts ≡ counts_of birth
+  pub survival_is : survival_counts ≡ counts_of survival
+
+-- the fault of a text that names no rule, by what it spells: a bounded grid, else a rule that wakes the empty plane, else none
+abbrev pub IsSpellingFault : Type 0 → Type 0 → List ℕ → RuleFault → Type 0
+IsSpellingFault SpellsWaking SpellsNone text Bounded = has_colon text ≡ true
+IsSpellingFault SpellsWaking SpellsNone text Wakes = (has_colon text ≡ false) × SpellsWaking
+IsSpellingFault SpellsWaking SpellsNone text Unknown = (has_colon text ≡ false) × SpellsNone
+
+-- the text names the rule
+abbrev pub NamesBsRule : List ℕ → BsRule → Type 0
+NamesBsRule text rule = NamesCounts (λ birth survival. SpellsBsRule text birth survival rule.hood) rule.birth rule.survival
+
+-- the text spells a rule with birth on 0
+abbrev pub SpellsWakingBsRule : List ℕ → Type 0
+SpellsWakingBsRule text = (birth : List ℕ) × (survival : List ℕ) × (hood : Hood) × SpellsBsRule text birth survival hood × (has_digit birth 0 ≡ true)
 
 -- the text spells no rule, with birth on 0 or without
 abbrev pub SpellsNoBsRule : List ℕ → Type 0
 SpellsNoBsRule text = (birth survival : List ℕ) (hood : Hood) → SpellsBsRule text birth survival hood → ⊥
 
--- the fault of a text that names no rule: a bounded grid, else a rule that wakes the empty plane, else no spelling
+-- the fault of a text that names no rule
 abbrev pub IsBsRuleFault : List ℕ → RuleFault → Type 0
-IsBsRuleFault text Bounded = has_colon text ≡ true
-IsBsRuleFault text Wakes = (has_colon text ≡ false) × (birth : List ℕ) × (survival : List ℕ) × (hood : Hood) × SpellsBsRule text birth survival hood × (has_digit birth 0 ≡ true)
-IsBsRuleFault text Unknown = (has_colon text ≡ false) × SpellsNoBsRule text
+IsBsRuleFault text = IsSpellingFault (SpellsWakingBsRule text) (SpellsNoBsRule text) text
 
 -- the digits of counts, rising, each once
 abbrev pub digits_of : Counts → List ℕ

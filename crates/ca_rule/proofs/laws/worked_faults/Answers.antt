@@ -5,11 +5,11 @@ use Rattle.ca_rule.proofs.laws.worked_faults.Goals as goal
 
 pub returns-clause-birth_on_none_wakes : goal.returns-clause-birth_on_none_wakes
 returns-clause-birth_on_none_wakes c =
-    (refl, codes "03", codes "23", Moore, record { birth_digits = refl; survival_digits = refl; form = inl (98, 115, [], [], inr refl, inr refl, inl refl, refl, refl) }, refl)
+    (refl, (codes "03", codes "23", Moore, record { birth_digits = refl; survival_digits = refl; form = inl (98, 115, [], [], inr refl, inr refl, inl refl, refl, refl) }, refl))
 
 pub returns-clause-birth_on_none_wakes_without_letters : goal.returns-clause-birth_on_none_wakes_without_letters
 returns-clause-birth_on_none_wakes_without_letters c =
-    (refl, codes "0", [], Moore, record { birth_digits = refl; survival_digits = refl; form = inr (inr ([], refl, refl)) }, refl)
+    (refl, (codes "0", [], Moore, record { birth_digits = refl; survival_digits = refl; form = inr (inr ([], refl, refl)) }, refl))
 
 pub returns-clause-names_of_rules_are_unknown : goal.returns-clause-names_of_rules_are_unknown
 returns-clause-names_of_rules_are_unknown c = (refl, spells-no_lists (codes "Life") (codes "Life") Moore refl refl refl)

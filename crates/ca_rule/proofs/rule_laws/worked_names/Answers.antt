@@ -39,13 +39,13 @@ returns-clause-empty_text_is_no_name c = ((refl, spells-no_lists [] [] Moore ref
 
 pub returns-clause-waking_rule_is_no_table : goal.returns-clause-waking_rule_is_no_table
 returns-clause-waking_rule_is_no_table c =
-    inl (refl, codes "03", codes "23", Moore, record { birth_digits = refl; survival_digits = refl; form = inl (98, 115, [], [], inr refl, inr refl, inl refl, refl, refl) }, refl)
+    inl (refl, (codes "03", codes "23", Moore, record { birth_digits = refl; survival_digits = refl; form = inl (98, 115, [], [], inr refl, inr refl, inl refl, refl, refl) }, refl))
 
 pub returns-clause-brians_brain_is_no_table : goal.returns-clause-brians_brain_is_no_table
 returns-clause-brians_brain_is_no_table c = λ rule survival birth states. (refl, read-named (codes "/2/3") ([], codes "2", 3) rule refl refl survival birth states)
 
 pub returns-clause-waking_generations_are_no_table : goal.returns-clause-waking_generations_are_no_table
-returns-clause-waking_generations_are_no_table c = inr (refl, codes "2", codes "0", 3, read-spelled (codes "2/0/3") (codes "2", codes "0", 3) refl, refl)
+returns-clause-waking_generations_are_no_table c = inr (refl, (codes "2", codes "0", 3, read-spelled (codes "2/0/3") (codes "2", codes "0", 3) refl, refl))
 
 pub returns-clause-too_many_states_may_be_a_name : goal.returns-clause-too_many_states_may_be_a_name
 returns-clause-too_many_states_may_be_a_name c =
