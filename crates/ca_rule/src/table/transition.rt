@@ -1,6 +1,7 @@
 //! Transitions of rule tables.
 
-ghost use Rattle.std.specs.Prelude.{◌≡◌, ◌==◌, ◌||◌, ◌%◌, ℕ, true, false, not, map, zip, slice_index};
+ghost use Rattle.std.specs.Prelude.{◌≡◌, ◌<◌, ◌==◌, ◌||◌, ◌%◌, ℕ, [], ◌∷◌, true, false, not, length, map, zip, slice_index};
+ghost use Rattle.std.specs.Prelude.{IfSome, MatchOption};
 ghost use Rattle.std.specs.Int.{bit_at};
 ghost use Rattle.std.specs.List.{list_all, list_any};
 ghost use Rattle.ca_rule.specs.inner.TableDistinct.{are_distinct};
@@ -194,6 +195,22 @@ pub(crate) fn is_variable(number: usize, slot: Slot) -> bool
     }
 }
 
+/// The first slot and the cell at its place, and the slots and the places after these.
+fn first_taken<'t>(
+    slots: &'t [Slot],
+    places: &'t [u8],
+    nine: &Nine,
+) -> Option<(Slot, u8, &'t [Slot], &'t [u8])>
+    ensures taken { MatchOption result (zip slots.now (map (slice_index nine.now) places.now) ≡ [])
+        (λ t. zip slots.now (map (slice_index nine.now) places.now)
+        ≡ (t.0, t.1) ∷ zip t.2.now (map (slice_index nine.now) t.3.now)) }
+    ensures shorter { IfSome result (λ t. length t.2.now < length slots.now) }
+{
+    let (slot, slots_later) = slots.split_first()?;
+    let (place, places_later) = places.split_first()?;
+    Some((*slot, cell_at(nine, *place), slots_later, places_later))
+}
+
 /// Whether each slot of the variable takes this cell, where each takes that at its place.
 pub(crate) fn takes_one_cell(
     number: usize,
@@ -206,38 +223,28 @@ pub(crate) fn takes_one_cell(
         ≡ list_all (λ (t : Taken). not (is_variable number t.0) || (t.1 == cell))
         (zip slots.now (map (slice_index nine.now) places.now)) }
 {
-    let mut slots_left = slots;
-    let mut places_left = places;
-    'slots: while let Some((slot, slots_later)) = slots_left.split_first() {
-        let Some((place, places_later)) = places_left.split_first() else {
-            return true;
-        };
-        if is_variable(number, *slot) && cell_at(nine, *place) != cell {
-            return false;
+    match first_taken(slots, places, nine) {
+        Some((slot, taken, slots_later, places_later)) => {
+            (!is_variable(number, slot) || taken == cell)
+                && takes_one_cell(number, cell, slots_later, places_later, nine)
         }
-        slots_left = slots_later;
-        places_left = places_later;
+        None => true,
     }
-    true
 }
 
 /// The cell that the variable takes.
 fn cell_of(number: usize, slots: &[Slot], places: &[u8], nine: &Nine) -> u8
     ensures { result ≡ taken_cell number (zip slots.now (map (slice_index nine.now) places.now)) }
 {
-    let mut slots_left = slots;
-    let mut places_left = places;
-    'slots: while let Some((slot, slots_later)) = slots_left.split_first() {
-        let Some((place, places_later)) = places_left.split_first() else {
-            return 0;
-        };
-        if is_variable(number, *slot) {
-            return cell_at(nine, *place);
+    match first_taken(slots, places, nine) {
+        Some((slot, cell, slots_later, places_later)) => {
+            if is_variable(number, slot) {
+                return cell;
+            }
+            cell_of(number, slots_later, places_later, nine)
         }
-        slots_left = slots_later;
-        places_left = places_later;
+        None => 0,
     }
-    0
 }
 
 /// Whether each slot admits the cell at its place, and all slots of one variable take one cell.
@@ -273,19 +280,12 @@ fn each_admits(variables: &[StateSet], slots: &[Slot], places: &[u8], nine: &Nin
         ≡ list_all (λ (t : Taken). admits variables.now t.0 t.1)
         (zip slots.now (map (slice_index nine.now) places.now)) }
 {
-    let mut slots_left = slots;
-    let mut places_left = places;
-    'slots: while let Some((slot, slots_later)) = slots_left.split_first() {
-        let Some((place, places_later)) = places_left.split_first() else {
-            return true;
-        };
-        if !admits(variables, *slot, cell_at(nine, *place)) {
-            return false;
+    match first_taken(slots, places, nine) {
+        Some((slot, cell, slots_later, places_later)) => {
+            admits(variables, slot, cell) && each_admits(variables, slots_later, places_later, nine)
         }
-        slots_left = slots_later;
-        places_left = places_later;
+        None => true,
     }
-    true
 }
 
 /// Whether all slots of one variable take one cell.
@@ -298,12 +298,12 @@ fn each_takes_one_cell(slots: &[Slot], places: &[u8], nine: &Nine) -> bool
     }
     let mut slots_left = slots;
     let mut places_left = places;
-    'slots: while let Some((slot, slots_later)) = slots_left.split_first() {
-        let Some((place, places_later)) = places_left.split_first() else {
-            return true;
-        };
-        if let Slot::Variable(number) = *slot {
-            let cell = cell_at(nine, *place);
+    'slots: while let Some((slot, cell, slots_later, places_later)) = first_taken(
+        slots_left,
+        places_left,
+        nine,
+    ) {
+        if let Slot::Variable(number) = slot {
             if !takes_one_cell(number, cell, slots, places, nine) {
                 return false;
             }
