@@ -239,9 +239,10 @@ fn cell_of(number: usize, slots: &[Slot], places: &[u8], nine: &Nine) -> u8
     match first_taken(slots, places, nine) {
         Some((slot, cell, slots_later, places_later)) => {
             if is_variable(number, slot) {
-                return cell;
+                cell
+            } else {
+                cell_of(number, slots_later, places_later, nine)
             }
-            cell_of(number, slots_later, places_later, nine)
         }
         None => 0,
     }
