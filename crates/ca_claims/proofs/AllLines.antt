@@ -8,7 +8,7 @@ use Rattle.ca_claims.specs.declared.claims.reading.Reading.{Reading}
 use Rattle.ca_claims.specs.declared.fault.ClaimFault.{ClaimFault}
 use Rattle.ca_claims.specs.declared.fault.ClaimFault.TheVariants.{Syntax, Number, UnknownName, NameTaken, Memory}
 use Rattle.ca_claims.specs.Text.{ClaimTextLine, ClaimLinesSay, spoken}
-use Rattle.ca_claims.specs.TextFaults.{HasClaimLine, AreMisspelledClaimWords, HaveBadNumber, AskUnknown, LoadTaken, AreAllowed, IsFirstClaimFault}
+use Rattle.ca_claims.specs.TextFaults.{HasClaimLine, AreMisspelledClaimWords, HaveBadNumber, AskUnknown, LoadTaken, NeedMemory, IsFirstClaimFault}
 use Rattle.ca_claims.specs.inner.Reading.{IsClaimReading, SaysNext, HasClaimFault}
 use Rattle.ca_claims.proofs.LinesSaid.{ClaimLinesSay-push, length_said}
 
@@ -75,7 +75,7 @@ module _ (bytes rest : List ℕ) (number : ℕ) (reading : Reading) (so_far : Ha
   fault_next line later next (Number n) h = next_line HaveBadNumber line later n next h.0 h.1
   fault_next line later next (UnknownName n) h = next_line AskUnknown line later n next h.0 h.1
   fault_next line later next (NameTaken n) h = next_line LoadTaken line later n next h.0 h.1
-  fault_next line later next Memory h = (number + 1, next_line AreAllowed line later (number + 1) next refl h)
+  fault_next line later next Memory h = (number + 1, next_line NeedMemory line later (number + 1) next refl h)
 
   -- so is the one that `?` passes on
   pub first_fault : {T : Type 0} (line later : List ℕ) → lines_of rest ≡ line ∷ lines_of later → (r : Result T ClaimFault) (f : ClaimFault) → IsErrAnd r (λ passed. passed ≡ f)

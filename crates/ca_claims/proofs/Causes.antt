@@ -1,7 +1,6 @@
 -- Why a claim isn't judged, and its verdict where it is, from the patterns of its files.
-use Rattle.std.proofs.Common.{◌≡◌, ℕ, zero, suc, ◌<◌, List, [], ◌∷◌, map, length, get_or, Bor, Bool, Option, Some, None, Result, refl, sym, ap, subst, ◌∙◌, inl, inr, arith}
-use Rattle.std.specs.Prelude.{◌≢◌, pos, IsTrue, IsFalse, ◌↔◌, MatchOption}
-use Rattle.std.proofs.lemmas.Bool.{true≢false}
+use Rattle.std.proofs.Common.{◌≡◌, ℕ, zero, suc, ◌<◌, List, [], ◌∷◌, map, length, get_or, Bor, Option, Some, None, Result, refl, sym, ap, subst, ◌∙◌, inl, inr, arith}
+use Rattle.std.specs.Prelude.{IfSome}
 use Rattle.std.specs.List.{AllByRecursion, AllZip}
 use Rattle.std.specs.Option.{option_copied}
 use Rattle.std.specs.Result.{MatchResult, IsErrAnd}
@@ -16,11 +15,11 @@ use Rattle.ca_rule.specs.declared.fault.RuleFault.{RuleFault}
 use Rattle.ca_rule.specs.Rule.{RuleValue, rule_value, next_of, IsSameRule, IsRuleFault}
 use Rattle.ca_rule.proofs.Rules.{same-refl}
 use Rattle.ca_claims.specs.declared.pattern.Loaded.{Loaded}
-use Rattle.ca_plane.specs.Sparse.{IsSparse}
 use Rattle.ca_claims.specs.declared.claims.line.Claim.{Claim as ClaimOf}
 use Rattle.ca_claims.specs.declared.claims.line.Kind.{Kind}
 use Rattle.ca_claims.specs.declared.claims.asks.Asks.{Asks}
-use Rattle.ca_claims.specs.declared.claims.asks.Barred.TheVariants.{Nothing, Anywhere}
+use Rattle.ca_claims.specs.declared.claims.asks.Wanted.{Wanted}
+use Rattle.ca_claims.specs.declared.claims.asks.Wanted.TheVariants.{Own, Other, NoCells}
 use Rattle.ca_claims.specs.declared.verdict.Cause.{Cause}
 use Rattle.ca_claims.specs.declared.verdict.Cause.TheVariants.{NoFile, BadTable, BadPattern, BadRule, StateTooLarge, MixedRules, TooManyCells, Memory}
 use Rattle.ca_claims.specs.declared.verdict.Verdict.{Verdict}
@@ -42,18 +41,17 @@ use Rattle.ca_claims.specs.declared.ruled.Ruled.{Ruled}
 use Rattle.ca_claims.specs.Text.{Claim, patterns_of, about, HasGoodNumbers}
 use Rattle.ca_claims.specs.Places.{path_at}
 use Rattle.ca_claims.specs.Means.{bytes_at, IsReadable, MayWantMemory}
-use Rattle.ca_claims.specs.Truth.{asks_of}
+use Rattle.ca_claims.specs.Truth.{asks_of, wanted_cells}
 use Rattle.ca_claims.specs.inner.Decided.{IsBounded, IsDecided}
-use Rattle.ca_claims.specs.Answers.{IsPatternFaultOn, IsBadPatternOn, AreTables, IsMissing, IsThere, IsReadableFile, HasRule, IsSmall, SomeOf, FirstIs, HaveOtherRules, HasCause, IsGoodPattern, AreGood, IsCounted, IsJudged, IsTrueVerdict, IsBadPattern, IsUnnamed, IsLarge, IsCrowded, WantsMemory}
-use Rattle.ca_claims.specs.inner.Cells.{IsPlaneOf}
-use Rattle.ca_claims.specs.inner.Subjects.{ShowsTree, IsPattern, AreShown, IsMovedBy, IsSubject}
-use Rattle.ca_claims.specs.inner.Prepared.{IsPrepared, IsFit, IsPlaneRefused, refusal_for, disagreement_refusal}
+use Rattle.ca_claims.specs.Answers.{IsPatternFaultOn, IsBadPatternOn, AreTables, IsMissing, IsThere, IsReadableFile, HasRule, IsSmall, SomeOf, FirstIs, HaveOtherRules, HasCause, IsGoodPattern, AreGood, IsJudged, IsTrueVerdict, IsBadPattern, IsUnnamed, IsLarge, IsCrowded, WantsMemory}
+use Rattle.ca_claims.specs.inner.Subjects.{ShowsTree, IsPattern, AreShown, IsSubject}
+use Rattle.ca_claims.specs.inner.Prepared.{IsPrepared, IsFit, AreFewCounted, IsCountRefused, wanted_tree, wanted_part, last_part, refusal_for, disagreement_refusal}
 use Rattle.ca_claims.specs.inner.Found.{IsFound}
 use Rattle.ca_claims.specs.inner.Refusals.{IsRefusal, IsOnVerdict, IsJudgedOn}
 use Rattle.ca_claims.specs.inner.Patterns.{items, IsEachOnce, FirstBadAt, IsReadFrom, IsUnreadFor, HasName, rule_of, IsRuledAs, ShowsLarge, ShowsSmall, AreOfOneRule, AreMixed, Disagree, AreBoth}
-use Rattle.ca_claims.proofs.ClaimKinds.{asks_bounded, asks_moved, paths_of}
-use Rattle.ca_claims.proofs.PatternsRead.{fault_on, IsReadAt, IsRuledAt, path_has_fault, path_has_rule, path_reads, ruled_path_reads, ruled_at, ruled_has_rule, ruled_is_good, ruled_is_large, ruled_is_many, ruled_is_small, ruled_picture, ruled_reads, tree_shows, wanted}
-use Rattle.ca_claims.proofs.Shown.{few_shown}
+use Rattle.ca_claims.proofs.ClaimKinds.{asks_bounded, paths_of}
+use Rattle.ca_claims.proofs.PatternsRead.{fault_on, IsReadAt, IsRuledAt, path_has_fault, path_has_rule, path_reads, ruled_path_reads, ruled_at, ruled_has_rule, ruled_is_good, ruled_is_large, ruled_is_small, ruled_picture, ruled_reads, tree_shows, wanted}
+use Rattle.ca_claims.proofs.Shown.{few_shown, many_shown, few_none, none_many}
 use Rattle.ca_claims.proofs.Told.{level_is_low}
 use Rattle.ca_claims.proofs.Parts.{first_part, zip_part}
 use Rattle.ca_claims.proofs.Zipped.{some_first, zip_left, zip_beside, zip_first, zip_front, zip_through}
@@ -95,9 +93,9 @@ module _ (files : List (List ℕ × List ℕ)) (paths : List (List ℕ)) (found 
   found_there (i ∷ is) (b ∷ bs) within at = (bytes_found files paths found i (Some b) same within.0 at.0, found_there is bs within.1 at.1)
 
   -- and where one is missing, no file has its path
-  pub found_missing : (rules : List (List ℕ)) (part : Part) (places : List ℕ) → AllByRecursion (λ i. i < length found) places
-      → FirstBadAt part places (IsFound found) (λ i. get_or found i None ≡ None) → IsRefusal files paths rules (map (path_at paths) places) (record { cause = NoFile; about = about.Pattern part None })
-  found_missing rules part places within bad =
+  pub found_missing : (rules : List (List ℕ)) (asks : Asks) (part : Part) (places : List ℕ) → AllByRecursion (λ i. i < length found) places
+      → FirstBadAt part places (IsFound found) (λ i. get_or found i None ≡ None) → IsRefusal files paths rules asks (map (path_at paths) places) (record { cause = NoFile; about = about.Pattern part None })
+  found_missing rules asks part places within bad =
       let at = missing part places within bad in
       record { holds = inl (some_first (IsThere files) (IsMissing files) (map (path_at paths) places) (first_part (IsThere files) (IsMissing files) part (map (path_at paths) places) at)); on = (refl, at) }
     where
@@ -116,8 +114,8 @@ module _ (files : List (List ℕ × List ℕ)) (tables : List TableRule) where
   judged_twice : (path : List ℕ) (cells other : Picture) (rule : RuleValue) → AreGood files tables (path ∷ []) cells other rule → AreGood files tables (path ∷ path ∷ []) cells other rule
   judged_twice path cells other rule one = (one.0, rule, subst (λ o. IsGoodPattern files tables path o rule) (sym one.1) one.0, same-refl rule)
 
-module _ (files : List (List ℕ × List ℕ)) (rules : List (List ℕ)) where
-  cause_twice : (path : List ℕ) (cause : Cause) → HasCause files rules (path ∷ []) cause → HasCause files rules (path ∷ path ∷ []) cause
+module _ (files : List (List ℕ × List ℕ)) (rules : List (List ℕ)) (asks : Asks) where
+  cause_twice : (path : List ℕ) (cause : Cause) → HasCause files rules asks (path ∷ []) cause → HasCause files rules asks (path ∷ path ∷ []) cause
   cause_twice path NoFile (inl (inl none)) = inl (inl none)
   cause_twice path NoFile (inl (inr none)) = absurd none
   cause_twice path NoFile (inr none) = inr none
@@ -134,9 +132,9 @@ module _ (files : List (List ℕ × List ℕ)) (rules : List (List ℕ)) where
   cause_twice path TooManyCells (cells, other, rule, (tables, are, good), some) = (cells, other, rule, (tables, are, judged_twice files tables path cells other rule good), some)
   cause_twice path Memory (tables, (are, all), first) = (tables, (are, (all.0, (all.0, tt))), first)
 
-  pub cause_of_all : (each all : List (List ℕ)) (cause : Cause) → IsEachOnce each all → HasCause files rules each cause → HasCause files rules all cause
-  cause_of_all each all cause (inl same) h = subst (λ l. HasCause files rules l cause) (sym same) h
-  cause_of_all each all cause (inr (x, e, d)) h = subst (λ l. HasCause files rules l cause) (sym d) (cause_twice x cause (subst (λ l. HasCause files rules l cause) e h))
+  pub cause_of_all : (each all : List (List ℕ)) (cause : Cause) → IsEachOnce each all → HasCause files rules asks each cause → HasCause files rules asks all cause
+  cause_of_all each all cause (inl same) h = subst (λ l. HasCause files rules asks l cause) (sym same) h
+  cause_of_all each all cause (inr (x, e, d)) h = subst (λ l. HasCause files rules asks l cause) (sym d) (cause_twice x cause (subst (λ l. HasCause files rules asks l cause) e h))
 
 -- what `?` passes on
 pub passed_on : {A E : Type 0} (Holds : A → Type 0) (Refuses : E → Type 0) (r : Result A E) (e : E) → IsErrAnd r (λ passed. passed ≡ e) → Refuses e → MatchResult r Holds Refuses
@@ -209,11 +207,11 @@ judged_of_all files tables each all cells other rule (inr (x, e, d)) h =
 reads_want : (files : List (List ℕ × List ℕ)) (path : List ℕ) → IsReadableFile files path → WantsMemory files path
 reads_want files path reads = (reads.0, reads.1, wanted reads.0 reads.2)
 
-module _ (files : List (List ℕ × List ℕ)) (every rules : List (List ℕ)) (tables : List TableRule) (are : AreTables files rules tables) where
+module _ (files : List (List ℕ × List ℕ)) (every rules : List (List ℕ)) (asks : Asks) (tables : List TableRule) (are : AreTables files rules tables) where
   module _ (each : List (List ℕ)) (there : List (Bor (List ℕ))) (at : AllZip (λ path b. bytes_at files path ≡ Some b.now) each there) (part : Part) where
     -- a file doesn't read
     unreadable : (fault : PatternFault) (line : Option ℕ) → FirstBadAt part there (λ b. IsReadable b.now) (λ b. IsPatternFaultOn b.now fault line)
-        → IsRefusal files every rules each (record { cause = BadPattern fault; about = about.Pattern part line })
+        → IsRefusal files every rules asks each (record { cause = BadPattern fault; about = about.Pattern part line })
     unreadable fault line bad = record {
       holds = (
         tables,
@@ -228,7 +226,7 @@ module _ (files : List (List ℕ × List ℕ)) (every rules : List (List ℕ)) (
     }
 
     -- or memory is needed for it
-    pub unread_for : (fault : PatternFault) (line : Option ℕ) → FirstBadAt part there (λ b. IsReadable b.now) (λ b. IsUnreadFor b.now fault line) → IsRefusal files every rules each (refusal_for part fault line)
+    pub unread_for : (fault : PatternFault) (line : Option ℕ) → FirstBadAt part there (λ b. IsReadable b.now) (λ b. IsUnreadFor b.now fault line) → IsRefusal files every rules asks each (refusal_for part fault line)
     unread_for (pattern_fault.Rle f) line bad = unreadable (pattern_fault.Rle f) line bad
     unread_for (pattern_fault.Macro f) line bad = unreadable (pattern_fault.Macro f) line bad
     unread_for pattern_fault.Memory line bad = record {
@@ -242,7 +240,7 @@ module _ (files : List (List ℕ × List ℕ)) (every rules : List (List ℕ)) (
     }
 
   -- memory is needed for patterns that were read
-  pub read_wanting : (paths : List (List ℕ)) → AllByRecursion (IsReadableFile files) paths → FirstIs (IsReadableFile files) paths → HasCause files rules paths Memory
+  pub read_wanting : (paths : List (List ℕ)) → AllByRecursion (IsReadableFile files) paths → FirstIs (IsReadableFile files) paths → HasCause files rules asks paths Memory
   read_wanting [] reads first = absurd first
   read_wanting (p ∷ paths) reads first = (tables, (are, there_all (p ∷ paths) reads), reads_want files p first)
     where
@@ -254,7 +252,7 @@ module _ (files : List (List ℕ × List ℕ)) (every rules : List (List ℕ)) (
     -- a rule text names no rule
     pub unnamed : (each : List (List ℕ)) (patterns : List Loaded) (part : Part) (fault : RuleFault) → AllZip (IsReadAt nodes files) each patterns
         → FirstBadAt part patterns (HasName tables) (λ p. IsRuleFault p.rule_text.items tables fault)
-        → IsRefusal files every rules each (record { cause = BadRule fault; about = about.Pattern part None })
+        → IsRefusal files every rules asks each (record { cause = BadRule fault; about = about.Pattern part None })
     unnamed each patterns part fault read bad =
         let at = zip_part (IsReadAt nodes files) (HasRule files tables) (IsUnnamed files tables fault) (HasName tables) (λ p. IsRuleFault p.rule_text.items tables fault)
         (λ path p at. path_has_rule nodes files path p at tables) (λ path p at. path_has_fault nodes files path p at tables fault) part each patterns read bad in
@@ -270,7 +268,7 @@ module _ (files : List (List ℕ × List ℕ)) (every rules : List (List ℕ)) (
     module _ (paths : List (List ℕ)) (patterns : List Ruled) (ruled : AllZip At paths patterns) where
       -- a state is too large
       too_large : (part : Part) → FirstBadAt part patterns (ShowsSmall nodes) (ShowsLarge nodes)
-          → IsRefusal files every rules paths (record { cause = StateTooLarge; about = about.Pattern part None })
+          → IsRefusal files every rules asks paths (record { cause = StateTooLarge; about = about.Pattern part None })
       too_large part bad =
           let at = zip_part At (IsSmall files tables) (IsLarge files tables) (ShowsSmall nodes) (ShowsLarge nodes) (λ path r is. ruled_is_small nodes files path tables r is)
           (λ path r is. ruled_is_large nodes files path tables r is) part paths patterns ruled bad in
@@ -309,7 +307,7 @@ module _ (files : List (List ℕ × List ℕ)) (every rules : List (List ℕ)) (
         )))
 
     -- memory is needed for patterns with rules
-    wanting : (paths : List (List ℕ)) (patterns : OneOrTwo Ruled) → AllZip At paths (items patterns) → HasCause files rules paths Memory
+    wanting : (paths : List (List ℕ)) (patterns : OneOrTwo Ruled) → AllZip At paths (items patterns) → HasCause files rules asks paths Memory
     wanting [] (One a) ruled = absurd ruled
     wanting [] (Two a b) ruled = absurd ruled
     wanting (p ∷ paths) (One a) ruled = let reads = all_read (p ∷ paths) (a ∷ []) ruled in read_wanting (p ∷ paths) reads reads.0
@@ -317,7 +315,7 @@ module _ (files : List (List ℕ × List ℕ)) (every rules : List (List ℕ)) (
 
     -- the patterns have no one rule under which their states are small
     pub disagreed : (paths : List (List ℕ)) (patterns : OneOrTwo Ruled) (why : Disagreement) → AllZip At paths (items patterns) → Disagree nodes (items patterns) why
-        → IsRefusal files every rules paths (disagreement_refusal why)
+        → IsRefusal files every rules asks paths (disagreement_refusal why)
     disagreed paths patterns (Large part) ruled h = too_large paths (items patterns) ruled part h
     disagreed paths patterns Mixed ruled h =
         record { holds = (tables, (are, all_small paths (items patterns) ruled h.0), other_rules paths (items patterns) ruled h.1); on = inl refl }
@@ -357,43 +355,6 @@ module _ (files : List (List ℕ × List ℕ)) (every rules : List (List ℕ)) (
       );
     }
 
-    -- where the tree of a claim's pattern has too many cells, so has a picture
-    too_many : (paths : List (List ℕ)) (patterns : OneOrTwo Ruled) (subject : Subject) (rule : RuleValue) (ruled : AllZip At paths (items patterns))
-        (small : AllByRecursion (ShowsSmall nodes) (items patterns)) (one : AreOfOneRule (items patterns) rule) → AreBoth (items patterns) subject
-        → HasTooManyCells (trees.cell nodes subject.pattern) → HasTooManyCells (cell (agreed paths patterns rule ruled small one).shown)
-    unfolding agreed
-    too_many [] (One a) subject rule ruled small one both many = absurd ruled
-    too_many (p ∷ q ∷ paths) (One a) subject rule ruled small one both many = absurd ruled.1
-    too_many (p ∷ []) (One a) subject rule ruled small one both many =
-        ruled_is_many nodes files p tables a ruled.0 (subst (λ t. HasTooManyCells (trees.cell nodes t)) both.0 many)
-    too_many [] (Two a b) subject rule ruled small one both many = absurd ruled
-    too_many (p ∷ []) (Two a b) subject rule ruled small one both many = absurd ruled.1
-    too_many (p ∷ q ∷ o ∷ paths) (Two a b) subject rule ruled small one both many = absurd ruled.1.1
-    too_many (p ∷ q ∷ []) (Two a b) subject rule ruled small one both many =
-        ruled_is_many nodes files p tables a ruled.0 (subst (λ t. HasTooManyCells (trees.cell nodes t)) both.0 many)
-
-    -- the first of good patterns has too many cells
-    first_crowded : (paths : List (List ℕ)) (cells other : Picture) (rule : RuleValue) → AreGood files tables paths cells other rule → HasTooManyCells (cell cells)
-        → FirstBadAt First paths (λ p. ⊥) (IsCrowded files tables)
-    first_crowded [] cells other rule good many = absurd good
-    first_crowded (p ∷ []) cells other rule good many = (cells, rule, good.0, many)
-    first_crowded (p ∷ q ∷ []) cells other rule good many = (cells, rule, good.0, many)
-    first_crowded (p ∷ q ∷ o ∷ paths) cells other rule good many = absurd good
-
-    -- so is why a tree isn't made a plane
-    pub crowded : (paths : List (List ℕ)) (patterns : OneOrTwo Ruled) (subject : Subject) (rule : RuleValue) (counted : Bool) (refusal : Refusal) → AllZip At paths (items patterns)
-        → AllByRecursion (ShowsSmall nodes) (items patterns) → AreOfOneRule (items patterns) rule → AreBoth (items patterns) subject
-        → IsPlaneRefused nodes subject.pattern counted refusal → IsRefusal files every rules paths refusal
-    crowded paths patterns subject rule counted refusal ruled small one both (inl memory) =
-        subst (IsRefusal files every rules paths) (sym memory) (record { holds = wanting paths patterns ruled; on = inr refl })
-    crowded paths patterns subject rule counted refusal ruled small one both (inr (many, some, crowd)) =
-        let all = agreed paths patterns rule ruled small one in
-        let cells = too_many paths patterns subject rule ruled small one both crowd in
-        subst (IsRefusal files every rules paths) (sym many) (record {
-          holds = (all.shown, all.other_shown, rule, (tables, are, all.good), cells);
-          on = (refl, tables, are, first_crowded paths all.shown all.other_shown rule all.good cells);
-        })
-
     -- ---- what is judged
 
     -- the tree of a pattern shows its file's picture
@@ -413,18 +374,63 @@ module _ (files : List (List ℕ × List ℕ)) (every rules : List (List ℕ)) (
     all_shown (p ∷ q ∷ o ∷ paths) (Two a b) subject rule ruled small one both = absurd ruled.1.1
     all_shown (p ∷ q ∷ []) (Two a b) subject rule ruled small one both = record { one = tree_shown p a ruled.0 subject.pattern both.0; two = tree_shown q b ruled.1.0 subject.other both.1 }
 
-    -- and not too many cells where they are counted
-    shown_few : (subject : Subject) (counted : Bool) (plane : Option Picture) (cells : Picture) → ShowsTree nodes subject.pattern cells
-        → MatchOption plane (IsFalse counted) (λ p. IsTrue counted × IsPlaneOf nodes subject.pattern p) → IsTrue counted → HasFewCells (cell cells)
-    shown_few subject counted None cells shows made some = absurd (true≢false (sym some ∙ made))
-    shown_few subject counted (Some p) cells shows made some =
-        few_shown (trees.cell nodes subject.pattern) (cell cells) (λ x y. sym (shows x y)) made.1.few
+    -- ---- the cells that are counted
 
-    -- so a leaper over them is prepared
-    pub all_prepared : (paths : List (List ℕ)) (patterns : OneOrTwo Ruled) (counted : Bool) (prepared : Prepared) → nodes ≡ prepared.leaper.nodes → (rule : RuleValue) → rule ≡ rule_value prepared.leaper.rule
+    some_is : {X : Type 0} {x y : X} → Some x ≡ Some y → x ≡ y
+    some_is e = cc
+
+    -- where the wanted tree's cells are too many, so are those that are wanted
+    many_wanted : (subject : Subject) (cells other : Picture) → AreShown nodes subject cells other → (wanted : Wanted) (tree : Tree) → wanted_tree wanted subject ≡ Some tree
+        → HasTooManyCells (trees.cell nodes tree) → HasTooManyCells (cell (wanted_cells wanted cells other))
+    many_wanted subject cells other shown Own tree is many =
+        many_shown (trees.cell nodes subject.pattern) (cell cells) (λ x y. sym (shown.one x y)) (subst (λ t. HasTooManyCells (trees.cell nodes t)) (sym (some_is is)) many)
+    many_wanted subject cells other shown Other tree is many =
+        many_shown (trees.cell nodes subject.other) (cell other) (λ x y. sym (shown.two x y)) (subst (λ t. HasTooManyCells (trees.cell nodes t)) (sym (some_is is)) many)
+    many_wanted subject cells other shown NoCells tree is many = let no : ⊥ = cc in absurd no
+
+    -- and where they are few
+    few_wanted : (subject : Subject) (cells other : Picture) → AreShown nodes subject cells other → (wanted : Wanted)
+        → IfSome (wanted_tree wanted subject) (λ tree. HasFewCells (trees.cell nodes tree)) → HasFewCells (cell (wanted_cells wanted cells other))
+    few_wanted subject cells other shown Own few = few_shown (trees.cell nodes subject.pattern) (cell cells) (λ x y. sym (shown.one x y)) few
+    few_wanted subject cells other shown Other few = few_shown (trees.cell nodes subject.other) (cell other) (λ x y. sym (shown.two x y)) few
+    few_wanted subject cells other shown NoCells few = few_none
+
+    -- that pattern is crowded
+    part_crowded : (paths : List (List ℕ)) (patterns : List Ruled) → AllZip At paths patterns → (cells other : Picture) (rule : RuleValue) → AreGood files tables paths cells other rule
+        → (wanted : Wanted) → HasTooManyCells (cell (wanted_cells wanted cells other)) → FirstBadAt (wanted_part wanted (last_part patterns)) paths (IsSmall files tables) (IsCrowded files tables)
+    part_crowded [] patterns ruled cells other rule good wanted many = absurd good
+    part_crowded (p ∷ paths) [] ruled cells other rule good wanted many = absurd ruled
+    part_crowded (p ∷ []) (a ∷ b ∷ patterns) ruled cells other rule good wanted many = absurd ruled.1
+    part_crowded (p ∷ q ∷ paths) (a ∷ []) ruled cells other rule good wanted many = absurd ruled.1
+    part_crowded (p ∷ q ∷ o ∷ paths) (a ∷ b ∷ patterns) ruled cells other rule good wanted many = absurd good
+    part_crowded (p ∷ []) (a ∷ []) ruled cells other rule good Own many = (cells, rule, good.0, many)
+    part_crowded (p ∷ []) (a ∷ []) ruled cells other rule good Other many = (cells, rule, good.0, subst (λ o. HasTooManyCells (cell o)) good.1 many)
+    part_crowded (p ∷ []) (a ∷ []) ruled cells other rule good NoCells many = absurd (none_many many)
+    part_crowded (p ∷ q ∷ []) (a ∷ b ∷ patterns) ruled cells other rule good Own many = (cells, rule, good.0, many)
+    part_crowded (p ∷ q ∷ []) (a ∷ b ∷ patterns) ruled cells other rule good Other many =
+        ((cells, rule, good.0.ruled, good.0.small), (other, good.1, good.2, many))
+    part_crowded (p ∷ q ∷ []) (a ∷ b ∷ patterns) ruled cells other rule good NoCells many = absurd (none_many many)
+
+    -- so is why cells aren't known to be few
+    pub crowded : (paths : List (List ℕ)) (patterns : OneOrTwo Ruled) (subject : Subject) (rule : RuleValue) (refusal : Refusal) → AllZip At paths (items patterns)
+        → AllByRecursion (ShowsSmall nodes) (items patterns) → AreOfOneRule (items patterns) rule → AreBoth (items patterns) subject
+        → IsCountRefused nodes asks subject (last_part (items patterns)) refusal → IsRefusal files every rules asks paths refusal
+    crowded paths patterns subject rule refusal ruled small one both (inl memory) =
+        subst (IsRefusal files every rules asks paths) (sym memory) (record { holds = wanting paths patterns ruled; on = inr refl })
+    crowded paths patterns subject rule refusal ruled small one both (inr (is, counted, tree, wanted, crowd)) =
+        let all = agreed paths patterns rule ruled small one in
+        let shown = all_shown paths patterns subject rule ruled small one both in
+        let cells = many_wanted subject all.shown all.other_shown shown asks.wanted tree wanted crowd in
+        subst (IsRefusal files every rules asks paths) (sym is) (record {
+          holds = (all.shown, all.other_shown, rule, (tables, are, all.good), (counted, cells));
+          on = (refl, tables, are, part_crowded paths (items patterns) ruled all.shown all.other_shown rule all.good asks.wanted cells);
+        })
+
+    -- a leaper over the trees is prepared
+    pub all_prepared : (paths : List (List ℕ)) (patterns : OneOrTwo Ruled) (prepared : Prepared) → nodes ≡ prepared.leaper.nodes → (rule : RuleValue) → rule ≡ rule_value prepared.leaper.rule
         → AllZip At paths (items patterns) → AllByRecursion (ShowsSmall nodes) (items patterns) → AreOfOneRule (items patterns) rule → AreBoth (items patterns) prepared.subject
-        → MatchOption prepared.plane (IsFalse counted) (λ p. IsTrue counted × IsPlaneOf nodes prepared.subject.pattern p) → IsPrepared files rules paths counted prepared
-    all_prepared paths patterns counted prepared same rule under ruled small one both made =
+        → AreFewCounted nodes asks prepared.subject → IsPrepared files rules asks paths prepared
+    all_prepared paths patterns prepared same rule under ruled small one both few =
         let all = agreed paths patterns rule ruled small one in
         let shown = all_shown paths patterns prepared.subject rule ruled small one both in
         record {
@@ -432,14 +438,14 @@ module _ (files : List (List ℕ × List ℕ)) (every rules : List (List ℕ)) (
           other = all.other_shown;
           shown = subst (λ n. AreShown n prepared.subject all.shown all.other_shown) same shown;
           agree = (tables, are, subst (AreGood files tables paths all.shown all.other_shown) under all.good);
-          few = shown_few prepared.subject counted prepared.plane all.shown shown.one made;
+          few = λ counted. few_wanted prepared.subject all.shown all.other_shown shown asks.wanted (few counted);
         }
 
   -- a claim that is judged may want memory
   good_reads : (path : List ℕ) (cells : Picture) (rule : RuleValue) → IsGoodPattern files tables path cells rule → IsReadableFile files path
   good_reads path cells rule good = ruled_path_reads files tables path cells rule good.ruled
 
-  memory_wanted : (paths : List (List ℕ)) (cells other : Picture) (rule : RuleValue) → AreGood files tables paths cells other rule → HasCause files rules paths Memory
+  memory_wanted : (paths : List (List ℕ)) (cells other : Picture) (rule : RuleValue) → AreGood files tables paths cells other rule → HasCause files rules asks paths Memory
   memory_wanted [] cells other rule judged = absurd judged
   memory_wanted (p ∷ []) cells other rule judged = let reads = good_reads p cells rule judged.0 in read_wanting (p ∷ []) (reads, tt) reads
   memory_wanted (p ∷ q ∷ []) cells other rule judged =
@@ -453,13 +459,8 @@ decided_true : (files : List (List ℕ × List ℕ)) (rules : List (List ℕ)) (
 decided_true files rules claim cells other rule Yes judged decided = (cells, other, rule, judged, decided)
 decided_true files rules claim cells other rule (No why) judged decided = (cells, other, rule, judged, decided)
 decided_true files rules claim cells other rule (Refused cause) judged decided =
-    let (tables, are, good) = judged.0 in (
-      subst (HasCause files rules (patterns_of claim)) (sym decided) (memory_wanted files rules rules tables are (patterns_of claim) cells other rule good),
-      λ many. absurd (memory_isn't_many (sym decided ∙ many)),
-    )
-  where
-    memory_isn't_many : Memory ≡ TooManyCells → ⊥
-    memory_isn't_many e = cc
+    let (tables, are, good) = judged.0 in
+    subst (HasCause files rules (asks_of claim.kind) (patterns_of claim)) (sym decided) (memory_wanted files rules rules (asks_of claim.kind) tables are (patterns_of claim) cells other rule good)
 
 -- where there is no memory to decide, that is about the claim
 decided_on : (files : List (List ℕ × List ℕ)) (paths rules patterns : List (List ℕ)) (next : List ℕ → ℕ) (cells other : Picture) (asks : Asks) (verdict : Verdict)
@@ -469,58 +470,32 @@ decided_on files paths rules patterns next cells other asks (No why) decided = t
 decided_on files paths rules patterns next cells other asks (Refused cause) decided = inr decided
 
 -- so it is one of a claim about paths of which each is given once
-pub true_verdict : (files : List (List ℕ × List ℕ)) (rules at : List (List ℕ)) (claim : ClaimOf ℕ) (paths : List (List ℕ)) (counted : Bool) (prepared : Prepared) (verdict : Verdict)
-    → IsEachOnce paths (patterns_of (about (path_at at) claim)) → (IsCounted (asks_of claim.kind) → IsTrue counted) → (is : IsPrepared files rules paths counted prepared)
+pub true_verdict : (files : List (List ℕ × List ℕ)) (rules at : List (List ℕ)) (claim : ClaimOf ℕ) (paths : List (List ℕ)) (prepared : Prepared) (verdict : Verdict)
+    → IsEachOnce paths (patterns_of (about (path_at at) claim)) → (is : IsPrepared files rules (asks_of claim.kind) paths prepared)
     → IsDecided (next_of (rule_value prepared.leaper.rule)) is.cells is.other (asks_of claim.kind) verdict → IsJudgedOn files at rules (about (path_at at) claim) verdict about.Claim
-true_verdict files rules at claim paths counted prepared verdict once counts is decided =
+true_verdict files rules at claim paths prepared verdict once is decided =
     let rule = rule_value prepared.leaper.rule in
     let (tables, are, good) = is.agree in
     record {
       holds =
           decided_true files rules (about (path_at at) claim) is.cells is.other rule verdict
-          ((tables, are, judged_of_all files tables paths (patterns_of (about (path_at at) claim)) is.cells is.other rule once good), λ counted. is.few (counts counted))
+          ((tables, are, judged_of_all files tables paths (patterns_of (about (path_at at) claim)) is.cells is.other rule once good), is.few)
           decided;
       on = decided_on files at rules (patterns_of (about (path_at at) claim)) (next_of rule) is.cells is.other (asks_of claim.kind) verdict decided;
     }
 
 -- ---- what is judged is fit for it
 
-module _ (nodes : List Node) (counted : Bool) where
-  -- a plane of a pattern's cells is sparse and shows them
-  plane_fit : (tree : Tree) (plane : Option Picture) → MatchOption plane (IsFalse counted) (λ p. IsTrue counted × IsPlaneOf nodes tree p)
-      → MatchOption plane (IsFalse counted) (λ p. IsTrue counted × IsSparse p × ShowsTree nodes tree p)
-  plane_fit tree None made = made
-  plane_fit tree (Some p) made = (made.0, made.1.sparse, made.1.shows)
-
+module _ (nodes : List Node) where
   pub all_fit : (patterns : List Ruled) (prepared : Prepared) → nodes ≡ prepared.leaper.nodes → AllByRecursion (λ r. IsPattern nodes r.pattern.tree) patterns → AreBoth patterns prepared.subject
-      → MatchOption prepared.plane (IsFalse counted) (λ p. IsTrue counted × IsPlaneOf nodes prepared.subject.pattern p) → IsFit counted prepared
-  all_fit patterns prepared same all both made =
+      → IsFit prepared
+  all_fit patterns prepared same all both =
       let each = both_are_patterns nodes patterns prepared.subject all both in
       record {
         pattern = subst (λ n. IsPattern n prepared.subject.pattern) same each.0;
         other = subst (λ n. IsPattern n prepared.subject.other) same each.1;
-        plane = subst (λ n. MatchOption prepared.plane (IsFalse counted) (λ p. IsTrue counted × IsSparse p × ShowsTree n prepared.subject.pattern p)) same (plane_fit prepared.subject.pattern prepared.plane made);
       }
 
 -- so is its subject for a claim
-pub is_subject : (kind : Kind) (asks : Asks) (counted : Bool) (prepared : Prepared) → asks ≡ asks_of kind → HasGoodNumbers kind → (IsTrue counted ↔ IsCounted asks) → IsFit counted prepared
-    → IsSubject prepared.leaper.nodes asks prepared.subject prepared.plane
-is_subject kind asks counted prepared same good counts fit = record { pattern = fit.pattern; other = fit.other; moved = moved prepared.plane fit.plane; bounded = bounded }
-  where
-    nothing_or_anywhere : Nothing ≡ Anywhere → ⊥
-    nothing_or_anywhere e = cc
-
-    bounded : IsBounded asks
-    bounded = subst IsBounded (sym same) (asks_bounded kind good)
-
-    uncounted : IsFalse counted → asks.barred ≢ Anywhere
-    uncounted never anywhere = true≢false (sym (counts.1 anywhere) ∙ never)
-
-    moved : (plane : Option Picture) → MatchOption plane (IsFalse counted) (λ p. IsTrue counted × IsSparse p × ShowsTree prepared.leaper.nodes prepared.subject.pattern p)
-        → IsMovedBy asks prepared.leaper.nodes prepared.subject.pattern plane
-    moved None made =
-        let unmoved = asks_moved kind (subst (λ a. a.barred ≢ Anywhere) same (uncounted made)) in
-        (subst (λ a. a.dx ≡ pos 0) (sym same) unmoved.0, subst (λ a. a.dy ≡ pos 0) (sym same) unmoved.1, uncounted made)
-    moved (Some p) made =
-        let anywhere = counts.0 made.0 in
-        (bounded.own (λ none. nothing_or_anywhere (sym none ∙ anywhere)), anywhere, made.1, made.2)
+pub is_subject : (kind : Kind) (asks : Asks) (prepared : Prepared) → asks ≡ asks_of kind → HasGoodNumbers kind → IsFit prepared → IsSubject prepared.leaper.nodes asks prepared.subject
+is_subject kind asks prepared same good fit = record { pattern = fit.pattern; other = fit.other; bounded = subst IsBounded (sym same) (asks_bounded kind good) }

@@ -1,16 +1,18 @@
 -- What holds of each kind of claim: a further kind adds its case here. And the claim about other patterns.
-use Rattle.std.proofs.Common.{◌≡◌, ◌≢◌, ◌∷◌, map, Option, None, Some, option_map, refl, ap, arith}
+use Rattle.std.proofs.Common.{◌≡◌, ◌∷◌, map, ◌≤◌, Option, None, Some, option_map, refl, sym, ap, subst, ◌∙◌, arith}
 use Rattle.std.specs.Prelude.{pos}
 use Rattle.std.specs.List.{AllByRecursion}
 use Rattle.std.specs.Option.{option_to_list}
 use Rattle.std.proofs.lemmas.Int.{ints}
 use Rattle.ca_claims.specs.declared.claims.line.Claim.{Claim as ClaimOf}
 use Rattle.ca_claims.specs.declared.claims.line.Kind.{Kind}
-use Rattle.ca_claims.specs.declared.claims.line.Kind.TheVariants.{Still, Oscillator, Spaceship, Becomes}
-use Rattle.ca_claims.specs.declared.claims.asks.Barred.TheVariants.{Anywhere}
-use Rattle.ca_claims.specs.Text.{patterns_of, about, IsShift, HasGoodNumbers}
+use Rattle.ca_claims.specs.declared.claims.line.Kind.TheVariants.{Still, Oscillator, Spaceship, Becomes, BecomesShifted, Dies}
+use Rattle.ca_claims.specs.declared.claims.asks.Asks.{Asks}
+use Rattle.ca_claims.specs.declared.claims.asks.Barred.{Barred}
+use Rattle.ca_claims.specs.declared.claims.asks.Barred.TheVariants.{Nothing, InPlace, Anywhere, EmptyPlane}
+use Rattle.ca_claims.specs.Text.{patterns_of, about, most_generations, IsShift, HasGoodNumbers}
 use Rattle.ca_claims.specs.Truth.{asks_of}
-use Rattle.ca_claims.specs.inner.Decided.{IsBounded}
+use Rattle.ca_claims.specs.inner.Decided.{BarsReturns, IsBounded}
 
 -- ---- the claim about other patterns
 
@@ -47,16 +49,62 @@ about_twice {P} f g claim = ap (λ o. record { pattern = g (f claim.pattern); ot
 no_shift : IsShift (pos 0)
 no_shift = (omega (arith, ints), omega (arith, ints))
 
--- only a spaceship is moved
-pub asks_moved : (kind : Kind) → (asks_of kind).barred ≢ Anywhere → ((asks_of kind).dx ≡ pos 0) × ((asks_of kind).dy ≡ pos 0)
-asks_moved Still unmoved = (refl, refl)
-asks_moved (Oscillator period) unmoved = (refl, refl)
-asks_moved (Spaceship period dx dy) unmoved = absurd (unmoved refl)
-asks_moved (Becomes generations) unmoved = (refl, refl)
+-- what bars a return bars no empty plane
+no_death : (barred : Barred) → BarsReturns barred → barred ≡ EmptyPlane → ⊥
+no_death barred returns death = subst BarsReturns death returns
 
--- a claim with good numbers asks for few generations, and for a live pattern where a return is barred
+-- a claim that bars nothing
+unbarred : (asks : Asks) → asks.barred ≡ Nothing → asks.generations ≤ most_generations → IsShift asks.dx → IsShift asks.dy → IsBounded asks
+unbarred asks nothing few right down = record {
+  few = few;
+  right = right;
+  down = down;
+  live = λ some. absurd (some nothing);
+  own = λ returns. absurd (subst BarsReturns nothing returns);
+  returns = λ returns. absurd (subst BarsReturns nothing returns);
+  short = λ returns. absurd (subst BarsReturns nothing returns);
+  none = λ death. absurd (no (sym nothing ∙ death));
+  some = λ death. absurd (no (sym nothing ∙ death));
+}
+  where
+    no : Nothing ≡ EmptyPlane → ⊥
+    no e = cc
+
+-- a claim with good numbers asks for few generations, and for a live pattern where something is barred
 pub asks_bounded : (kind : Kind) → HasGoodNumbers kind → IsBounded (asks_of kind)
-asks_bounded Still good = record { few = omega arith; right = no_shift; down = no_shift; live = λ _. refl; own = λ _. refl; short = λ _. omega arith }
-asks_bounded (Oscillator period) good = record { few = omega (arith, good.1); right = no_shift; down = no_shift; live = λ _. refl; own = λ _. refl; short = λ _. omega (arith, good.1) }
-asks_bounded (Spaceship period dx dy) good = record { few = omega (arith, good.1); right = good.2; down = good.3; live = λ _. refl; own = λ _. refl; short = λ _. omega (arith, good.1) }
-asks_bounded (Becomes generations) good = record { few = good; right = no_shift; down = no_shift; live = λ some. absurd (some refl); own = λ some. absurd (some refl); short = λ some. absurd (some refl) }
+asks_bounded Still good = unbarred (asks_of Still) refl (omega arith) no_shift no_shift
+asks_bounded (Oscillator period) good = record {
+  few = omega (arith, good.1);
+  right = no_shift;
+  down = no_shift;
+  live = λ _. refl;
+  own = λ _. refl;
+  returns = λ _. (refl, refl);
+  short = λ _. omega (arith, good.1);
+  none = λ death. absurd (no_death InPlace tt death);
+  some = λ death. absurd (no_death InPlace tt death);
+}
+asks_bounded (Spaceship period dx dy) good = record {
+  few = omega (arith, good.1);
+  right = good.2;
+  down = good.3;
+  live = λ _. refl;
+  own = λ _. refl;
+  returns = λ _. tt;
+  short = λ _. omega (arith, good.1);
+  none = λ death. absurd (no_death Anywhere tt death);
+  some = λ death. absurd (no_death Anywhere tt death);
+}
+asks_bounded (Becomes generations) good = unbarred (asks_of (Becomes generations)) refl good no_shift no_shift
+asks_bounded (BecomesShifted generations dx dy) good = unbarred (asks_of (BecomesShifted generations dx dy)) refl good.0 good.1 good.2
+asks_bounded (Dies generations) good = record {
+  few = good.1;
+  right = no_shift;
+  down = no_shift;
+  live = λ _. refl;
+  own = λ no. absurd no;
+  returns = λ no. absurd no;
+  short = λ no. absurd no;
+  none = λ _. refl;
+  some = λ _. good.0;
+}

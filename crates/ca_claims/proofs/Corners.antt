@@ -1,15 +1,13 @@
--- By which vector a tree can be a moved picture: the one between the corners of their least boxes.
+-- By which vector a tree can be another one, moved: the one between the corners of their least boxes.
 use Rattle.std.proofs.Common.{◌≡◌, ◌≢◌, ℕ, ◌^◌, sym, ap₂, ◌∙◌, inl, inr, arith}
 use Rattle.std.specs.Prelude.{ℤ, pos, ◌+ℤ◌, ◌-ℤ◌, ◌≤ℤ◌}
 use Rattle.std.proofs.lemmas.Bool.{cases_eq}
 use Rattle.std.proofs.lemmas.Int.{ints, by_lt_z}
-use Rattle.ca_plane.specs.declared.point.Bounds.{Bounds}
-use Rattle.ca_plane.specs.Plane.{Picture, cell, shifted}
-use Rattle.ca_plane.specs.Box.{IsLeastBox, LeavesPlane}
 use Rattle.ca_plane.specs.Sparse.{IsInPlane}
-use Rattle.ca_plane.proofs.Shifts.{cell-shifted}
 use Rattle.ca_quad.specs.declared.tree.WideBounds.{WideBounds}
 use Rattle.ca_quad.specs.Boxes as wide
+use Rattle.ca_quad.specs.Expanded.{FitsPlane, HasCellOutsidePlane}
+use Rattle.ca_quad.specs.Shifted.{shifted_cells}
 use Rattle.ca_macro.specs.Pattern.{AreInRange}
 use Rattle.ca_plane.specs.Limits.{IsInRange}
 use Rattle.ca_claims.specs.Text.{IsShift}
@@ -17,34 +15,37 @@ use Rattle.ca_claims.specs.inner.Returns.{IsWide}
 use Rattle.ca_claims.specs.inner.Subjects.{HasLive}
 use Rattle.ca_claims.proofs.Searches.{search_within}
 
--- cells in range are all 0, or one is live
-pub dead_or_live : (p : ℤ → ℤ → ℕ) → AreInRange p → (((x y : ℤ) → p x y ≡ 0) → ⊥) → HasLive p
-dead_or_live p range live =
-    elim (search_within p (λ _ _. 0) (2 ^ 60) (pos 0) (pos 0)) [
+-- no cell outside the square of a plane is live
+abbrev pub IsNear : (ℤ → ℤ → ℕ) → Type 0
+IsNear cells = (x y : ℤ) → (IsInPlane (record { y = y; x = x }) → ⊥) → cells x y ≡ 0
+
+-- cells in the square of a plane are all 0, or one is live
+pub dead_or_live : (p : ℤ → ℤ → ℕ) → IsNear p → (((x y : ℤ) → p x y ≡ 0) → ⊥) → HasLive p
+dead_or_live p near live =
+    elim (search_within p (λ _ _. 0) (2 ^ 62) (pos 0) (pos 0)) [
       | inr found ↦ found
       | inl none ↦ absurd (live (λ x y.
           elim (cases_eq (p x y) 0) [
             | inl zero ↦ zero
-            | inr some ↦
-                let here = range x y some in
-                absurd (some (none x y (omega (arith, ints, here), omega (arith, ints, here), omega (arith, ints, here), omega (arith, ints, here))))
+            | inr some ↦ absurd (some (near x y (λ in_plane.
+                some (none x y (omega (arith, ints, in_plane), omega (arith, ints, in_plane), omega (arith, ints, in_plane), omega (arith, ints, in_plane))))))
           ]))
     ]
 
-module _ (p : Picture) (q : ℤ → ℤ → ℕ) (dx dy : ℤ) (same : (x y : ℤ) → cell (shifted p dx dy) x y ≡ q x y) where
+module _ (p q : ℤ → ℤ → ℕ) (dx dy : ℤ) (same : (x y : ℤ) → q x y ≡ shifted_cells p dx dy x y) where
   -- a live cell is live after the move
-  pub live_after : (x y : ℤ) → cell p x y ≢ 0 → q (x +ℤ dx) (y +ℤ dy) ≢ 0
+  pub live_after : (x y : ℤ) → p x y ≢ 0 → q (x +ℤ dx) (y +ℤ dy) ≢ 0
   live_after x y live = λ z.
       let bx : (x +ℤ dx) -ℤ dx ≡ x = omega (arith, ints) in
       let by : (y +ℤ dy) -ℤ dy ≡ y = omega (arith, ints) in
-      live (sym (ap₂ (cell p) bx by) ∙ sym (cell-shifted p dx dy (x +ℤ dx) (y +ℤ dy)) ∙ same (x +ℤ dx) (y +ℤ dy) ∙ z)
+      live (sym (ap₂ p bx by) ∙ sym (same (x +ℤ dx) (y +ℤ dy)) ∙ z)
 
   -- and was live before it
-  live_before : (x y : ℤ) → q x y ≢ 0 → cell p (x -ℤ dx) (y -ℤ dy) ≢ 0
-  live_before x y live = λ z. live (sym (same x y) ∙ cell-shifted p dx dy x y ∙ z)
+  live_before : (x y : ℤ) → q x y ≢ 0 → p (x -ℤ dx) (y -ℤ dy) ≢ 0
+  live_before x y live = λ z. live (same x y ∙ z)
 
   -- so the vector is that from the one least box to the other
-  pub corner_moved : (box : Bounds) (box2 : WideBounds) → IsLeastBox p box → wide.IsLeastWideBox q box2 → (dx ≡ box2.x0 -ℤ box.x0) × (dy ≡ box2.y0 -ℤ box.y0)
+  pub corner_moved : (box box2 : WideBounds) → wide.IsLeastWideBox p box → wide.IsLeastWideBox q box2 → (dx ≡ box2.x0 -ℤ box.x0) × (dy ≡ box2.y0 -ℤ box.y0)
   corner_moved box box2 least least2 =
       let right = least2.all (box.x0 +ℤ dx) (least.left.0 +ℤ dy) (live_after box.x0 least.left.0 least.left.1) in
       let left = least.all (box2.x0 -ℤ dx) (least2.left.0 -ℤ dy) (live_before box2.x0 least2.left.0 least2.left.1) in
@@ -53,28 +54,36 @@ module _ (p : Picture) (q : ℤ → ℤ → ℕ) (dx dy : ℤ) (same : (x y : �
       (omega (arith, ints, right.0, left.0), omega (arith, ints, below.2, above.2))
 
   -- and no cell leaves the square of a plane, where the moved ones are in it
-  pub not_leaves : ((x y : ℤ) → (IsInPlane (record { y = y; x = x }) → ⊥) → q x y ≡ 0) → LeavesPlane p dx dy → ⊥
-  not_leaves near (x, y, live, out) = live_after x y live (near (x +ℤ dx) (y +ℤ dy) out)
+  pub not_leaves : IsNear q → HasCellOutsidePlane (shifted_cells p dx dy) → ⊥
+  not_leaves near (x, y, live, out) = live (sym (same x y) ∙ near x y out)
 
 -- no cell in range leaves the square of a plane by a shift
-pub leaves_none : (p : Picture) (dx dy : ℤ) → AreInRange (cell p) → IsShift dx → IsShift dy → LeavesPlane p dx dy → ⊥
+pub leaves_none : (p : ℤ → ℤ → ℕ) (dx dy : ℤ) → AreInRange p → IsShift dx → IsShift dy → HasCellOutsidePlane (shifted_cells p dx dy) → ⊥
 leaves_none p dx dy range across down (x, y, live, out) =
-    let here = range x y live in
+    let here = range (x -ℤ dx) (y -ℤ dy) live in
     out (omega (arith, ints, here, across, down), omega (arith, ints, here, across, down), omega (arith, ints, here, across, down), omega (arith, ints, here, across, down))
+
+-- cells that fit into the square of a plane are 0 elsewhere
+pub fits_near : (p : ℤ → ℤ → ℕ) → FitsPlane p → IsNear p
+fits_near p fits x y out =
+    elim (cases_eq (p x y) 0) [
+      | inl none ↦ none
+      | inr live ↦ absurd (out (fits x y live))
+    ]
 
 -- what isn't out of order is in order
 not_above : (a b : ℤ) → ((a ≤ℤ b → ⊥) → ⊥) → a ≤ℤ b
 not_above a b h = by_lt_z b a (λ less. absurd (h (λ le. omega (arith, ints, less, le)))) (λ other. omega (arith, ints, other))
 
 -- the corner of a least box lies where the live cells do: in range,
-corner_range : (p : Picture) (box : Bounds) → IsLeastBox p box → AreInRange (cell p) → IsInRange (record { y = box.y0; x = box.x0 })
+corner_range : (p : ℤ → ℤ → ℕ) (box : WideBounds) → wide.IsLeastWideBox p box → AreInRange p → IsInRange (record { y = box.y0; x = box.x0 })
 corner_range p box least range =
     let left = range box.x0 least.left.0 least.left.1 in
     let top = range least.top.0 box.y0 least.top.1 in
     (left.0, left.1, top.2, top.3)
 
 -- or in the square of a plane
-corner_near : (q : ℤ → ℤ → ℕ) (box : WideBounds) → wide.IsLeastWideBox q box → ((x y : ℤ) → (IsInPlane (record { y = y; x = x }) → ⊥) → q x y ≡ 0)
+corner_near : (q : ℤ → ℤ → ℕ) (box : WideBounds) → wide.IsLeastWideBox q box → IsNear q
     → IsInPlane (record { y = box.y0; x = box.x0 })
 corner_near q box least near = (
   not_above _ _ (λ out. least.left.1 (near box.x0 least.left.0 (λ a. out a.0))),
@@ -84,13 +93,13 @@ corner_near q box least near = (
 )
 
 -- so its coordinates are those of a shift
-pub corner_shift : (p : Picture) (box : Bounds) → IsLeastBox p box → AreInRange (cell p) → IsShift box.x0 × IsShift box.y0
+pub corner_shift : (p : ℤ → ℤ → ℕ) (box : WideBounds) → wide.IsLeastWideBox p box → AreInRange p → IsShift box.x0 × IsShift box.y0
 corner_shift p box least range =
     let here = corner_range p box least range in
     ((omega (arith, ints, here), omega (arith, ints, here)), (omega (arith, ints, here), omega (arith, ints, here)))
 
 -- or of the square of a plane
-pub corner_wide : (q : ℤ → ℤ → ℕ) (box : WideBounds) → wide.IsLeastWideBox q box → ((x y : ℤ) → (IsInPlane (record { y = y; x = x }) → ⊥) → q x y ≡ 0) → IsWide box.x0 × IsWide box.y0
+pub corner_wide : (q : ℤ → ℤ → ℕ) (box : WideBounds) → wide.IsLeastWideBox q box → IsNear q → IsWide box.x0 × IsWide box.y0
 corner_wide q box least near =
     let here = corner_near q box least near in
     ((omega (arith, ints, here), omega (arith, ints, here)), (omega (arith, ints, here), omega (arith, ints, here)))

@@ -1,75 +1,76 @@
 -- The first return of a pattern, looked for at the proper divisors of a time at which it's back.
 use Rattle.std.proofs.Common.{◌≡◌, ◌≢◌, ℕ, ◌+◌, ◌≤◌, ◌<◌, List, [], ◌∷◌, length, Option, Some, None, MatchOption, inl, inr, refl, sym, subst, ◌∙◌, arith}
-use Rattle.std.specs.Prelude.{ℤ, pos}
+use Rattle.std.specs.Prelude.{ℤ, pos, ◌-ℤ◌}
 use Rattle.std.specs.Int.{◌∣◌}
 use Rattle.std.proofs.Math.Nat.{dvd_trans}
 use Rattle.ca_plane.specs.Plane.{Picture, cell, shifted}
 use Rattle.ca_plane.specs.Generations.{after, IsAfter}
+use Rattle.ca_plane.proofs.Shifts.{cell-shifted}
 use Rattle.ca_quad.specs.declared.node.Node.{Node}
 use Rattle.ca_quad.specs.declared.tree.Tree.{Tree}
 use Rattle.ca_quad.specs.Trees as trees
 use Rattle.ca_quad.proofs.Growth.{below_or_not}
 use Rattle.ca_claims.specs.declared.verdict.Why.TheVariants.{Earlier}
 use Rattle.ca_claims.specs.declared.claims.asks.Barred.{Barred}
-use Rattle.ca_claims.specs.declared.claims.asks.Barred.TheVariants.{Nothing, InPlace, Anywhere}
-use Rattle.ca_claims.specs.Truth.{IsNotBack, MayReturnBy}
+use Rattle.ca_claims.specs.declared.claims.asks.Barred.TheVariants.{Nothing, InPlace, Anywhere, EmptyPlane}
+use Rattle.ca_claims.specs.Truth.{ShowsNothingBarred, MayReturnBy}
+use Rattle.ca_claims.specs.inner.Decided.{BarsReturns}
 use Rattle.ca_claims.specs.inner.Divisors.{AreDivisors}
-use Rattle.ca_claims.specs.inner.Returns.{IsNotBackBefore, IsFirstReturn}
+use Rattle.ca_claims.specs.inner.Returns.{IsSparedBefore, IsFirstReturn}
 use Rattle.ca_claims.specs.declared.decide.Case.{Case}
-use Rattle.ca_claims.specs.inner.Subjects.{ShowsTree, IsMovedBy, BarsReturn, IsEndTree, IsNoMove, AreLeft, IsBackBy}
+use Rattle.ca_claims.specs.inner.Subjects.{ShowsTree, BarsReturn, IsEndTree, IsMove, IsNoMove, AreLeft, IsBackBy}
 use Rattle.ca_claims.proofs.Times.{unmoved}
 use Rattle.ca_claims.proofs.Divided.{changed_before, nowhere_before}
-use Rattle.ca_claims.proofs.Leapt.{shows_after, both_shown}
+use Rattle.ca_claims.proofs.Leapt.{shows_after}
 
 -- a pattern that is back at n, and at no proper divisor of n, is back at no time before n
 not_before : (next : List ℕ → ℕ) (p : Picture) (barred : Barred) (n : ℕ) (u v : ℤ) → MayReturnBy barred u v → IsAfter next p n (shifted p u v)
-    → ((d : ℕ) → 1 ≤ d → d < n → d ∣ n → IsNotBack next p barred d) → IsNotBackBefore next p barred n
+    → ((d : ℕ) → 1 ≤ d → d < n → d ∣ n → ShowsNothingBarred next p barred d) → IsSparedBefore next p barred n
 not_before next p Nothing n u v may back tested = absurd may
 not_before next p InPlace n u v may back tested = λ k some less. changed_before next p n (λ x y. back x y ∙ unmoved p u v x y may.0 may.1) tested k k (omega arith) some less
+not_before next p EmptyPlane n u v may back tested = absurd may
 not_before next p Anywhere n u v may back tested = λ k some less. nowhere_before next p n u v back tested k k (omega arith) some less
 
 -- ---- the pattern at one time
 
 -- in its place
-in_place : (next : List ℕ → ℕ) (cells : Picture) (barred : Barred) (n : ℕ) (p q : ℤ → ℤ → ℕ) (back : Option (ℤ × ℤ)) → barred ≢ Nothing → barred ≢ Anywhere
+in_place : (next : List ℕ → ℕ) (cells : Picture) (barred : Barred) (n : ℕ) (p q : ℤ → ℤ → ℕ) (back : Option (ℤ × ℤ)) → BarsReturns barred → barred ≢ Anywhere
     → ((x y : ℤ) → after next cells n x y ≡ p x y) → ((x y : ℤ) → cell cells x y ≡ q x y)
     → MatchOption back ((x : ℤ) × (y : ℤ) × (p x y ≢ q x y)) (λ v. (v.0 ≡ pos 0) × (v.1 ≡ pos 0) × ((x y : ℤ) → p x y ≡ q x y))
-    → MatchOption back (IsNotBack next cells barred n) (IsBackBy next cells barred n)
-in_place next cells Nothing n p q back some place ends shows told = absurd (some refl)
+    → MatchOption back (ShowsNothingBarred next cells barred n) (IsBackBy next cells barred n)
+in_place next cells Nothing n p q back some place ends shows told = absurd some
+in_place next cells EmptyPlane n p q back some place ends shows told = absurd some
 in_place next cells Anywhere n p q back some place ends shows told = absurd (place refl)
 in_place next cells InPlace n p q None some place ends shows told = (told.0, told.1, λ e. told.2 (sym (ends told.0 told.1) ∙ e ∙ shows told.0 told.1))
 in_place next cells InPlace n p q (Some v) some place ends shows told =
     ((told.0, told.1), λ x y. ends x y ∙ told.2 x y ∙ sym (shows x y) ∙ sym (unmoved cells v.0 v.1 x y told.0 told.1))
 
 -- anywhere
-anywhere : (next : List ℕ → ℕ) (cells p : Picture) (n : ℕ) (q : ℤ → ℤ → ℕ) (back : Option (ℤ × ℤ)) → ((x y : ℤ) → after next cells n x y ≡ q x y)
-    → ((dx dy x y : ℤ) → cell (shifted cells dx dy) x y ≡ cell (shifted p dx dy) x y)
-    → MatchOption back ((dx dy : ℤ) → ((x y : ℤ) → cell (shifted p dx dy) x y ≡ q x y) → ⊥) (λ v. (x y : ℤ) → cell (shifted p v.0 v.1) x y ≡ q x y)
-    → MatchOption back (IsNotBack next cells Anywhere n) (IsBackBy next cells Anywhere n)
-anywhere next cells p n q None ends same told = λ dx dy is. told dx dy (λ x y. sym (same dx dy x y) ∙ sym (is x y) ∙ ends x y)
-anywhere next cells p n q (Some v) ends same told = (tt, λ x y. ends x y ∙ sym (told x y) ∙ sym (same v.0 v.1 x y))
+anywhere : (next : List ℕ → ℕ) (cells : Picture) (n : ℕ) (nodes : List Node) (end pattern : Tree) (back : Option (ℤ × ℤ)) → ((x y : ℤ) → after next cells n x y ≡ trees.cell nodes end x y)
+    → ShowsTree nodes pattern cells → MatchOption back (IsNoMove nodes end pattern) (λ v. IsMove nodes end pattern v.0 v.1)
+    → MatchOption back (ShowsNothingBarred next cells Anywhere n) (IsBackBy next cells Anywhere n)
+anywhere next cells n nodes end pattern None ends shows told =
+    λ dx dy is. told dx dy (λ x y. sym (ends x y) ∙ is x y ∙ cell-shifted cells dx dy x y ∙ shows (x -ℤ dx) (y -ℤ dy))
+anywhere next cells n nodes end pattern (Some v) ends shows told =
+    (tt, λ x y. ends x y ∙ told x y ∙ sym (shows (x -ℤ v.0) (y -ℤ v.1)) ∙ sym (cell-shifted cells v.0 v.1 x y))
 
 -- what is judged, of a plane some generations on
 module _ (next : List ℕ → ℕ) (s0 s1 : List Node) (case : Case) (bars : BarsReturn s0 case) (end : Tree) (m : ℕ) (is : IsEndTree next s0 case.subject.pattern m s1 end) (cells : Picture)
-    (shows : ShowsTree s0 case.subject.pattern cells) where
+    (shows : ShowsTree s0 case.subject.pattern cells) (pattern : Tree) (later : ShowsTree s1 pattern cells) (back : Option (ℤ × ℤ)) where
   ends : (x y : ℤ) → after next cells m x y ≡ trees.cell s1 end x y
   ends = shows_after next s0 s1 case.subject.pattern end m cells is shows
 
-  -- where the pattern isn't moved
-  pub back_here : case.plane ≡ None → (pattern : Tree) → ShowsTree s1 pattern cells → (back : Option (ℤ × ℤ))
+  -- where it may not be back in its place
+  pub back_here : case.asks.barred ≢ Anywhere
       → MatchOption back ((x : ℤ) × (y : ℤ) × (trees.cell s1 end x y ≢ trees.cell s1 pattern x y)) (λ v. (v.0 ≡ pos 0) × (v.1 ≡ pos 0) × ((x y : ℤ) → trees.cell s1 end x y ≡ trees.cell s1 pattern x y))
-      → MatchOption back (IsNotBack next cells case.asks.barred m) (IsBackBy next cells case.asks.barred m)
-  back_here none pattern later back told =
-      let moved = subst (IsMovedBy case.asks s0 case.subject.pattern) none bars.subject.moved in
-      in_place next cells case.asks.barred m (trees.cell s1 end) (trees.cell s1 pattern) back bars.barred moved.2 ends later told
+      → MatchOption back (ShowsNothingBarred next cells case.asks.barred m) (IsBackBy next cells case.asks.barred m)
+  back_here place told = in_place next cells case.asks.barred m (trees.cell s1 end) (trees.cell s1 pattern) back bars.barred place ends later told
 
-  -- and where it is
-  pub back_there : (p : Picture) → case.plane ≡ Some p → (back : Option (ℤ × ℤ)) → MatchOption back (IsNoMove s1 end p) (λ v. ShowsTree s1 end (shifted p v.0 v.1))
-      → MatchOption back (IsNotBack next cells case.asks.barred m) (IsBackBy next cells case.asks.barred m)
-  back_there p some back told =
-      let moved = subst (IsMovedBy case.asks s0 case.subject.pattern) some bars.subject.moved in
-      subst (λ b. MatchOption back (IsNotBack next cells b m) (IsBackBy next cells b m)) (sym moved.1)
-      (anywhere next cells p m (trees.cell s1 end) back ends (both_shown s0 case.subject.pattern cells p shows moved.3) told)
+  -- and where it may be back nowhere
+  pub back_there : case.asks.barred ≡ Anywhere → MatchOption back (IsNoMove s1 end pattern) (λ v. IsMove s1 end pattern v.0 v.1)
+      → MatchOption back (ShowsNothingBarred next cells case.asks.barred m) (IsBackBy next cells case.asks.barred m)
+  back_there place told =
+      subst (λ b. MatchOption back (ShowsNothingBarred next cells b m) (IsBackBy next cells b m)) (sym place) (anywhere next cells m s1 end pattern back ends later told)
 
 -- ---- the divisors of the time
 
@@ -84,7 +85,7 @@ module _ (next : List ℕ → ℕ) (nodes : List Node) (case : Case) where
   }
 
   -- one fewer is left where the pattern isn't back at the first
-  pub one_fewer : (d : ℕ) (left : List ℕ) → AreLeft next nodes case (d ∷ left) → ((cells : Picture) → ShowsTree nodes case.subject.pattern cells → IsNotBack next cells case.asks.barred d)
+  pub one_fewer : (d : ℕ) (left : List ℕ) → AreLeft next nodes case (d ∷ left) → ((cells : Picture) → ShowsTree nodes case.subject.pattern cells → ShowsNothingBarred next cells case.asks.barred d)
       → AreLeft next nodes case left
   one_fewer d left h tried = record {
     low = d + 1;
@@ -94,7 +95,7 @@ module _ (next : List ℕ → ℕ) (nodes : List Node) (case : Case) where
         elim (below_or_not e d) [
           | inr high ↦
               let same : d ≡ e = omega (arith, high, less) in
-              subst (IsNotBack next cells case.asks.barred) same (tried cells shows)
+              subst (ShowsNothingBarred next cells case.asks.barred) same (tried cells shows)
           | inl below ↦ elim (below_or_not e h.low) [
             | inl lower ↦ h.before cells shows e some lower divides
             | inr from ↦ absurd (h.are.3 e from below divides)
@@ -104,7 +105,7 @@ module _ (next : List ℕ → ℕ) (nodes : List Node) (case : Case) where
 
   -- where none is left, the pattern is back at no time before case.asks.generations
   pub none_left : (left : List ℕ) → length left ≡ 0 → AreLeft next nodes case left → (cells : Picture) → ShowsTree nodes case.subject.pattern cells → (u v : ℤ) → MayReturnBy case.asks.barred u v → IsAfter next cells case.asks.generations (shifted cells u v)
-      → IsNotBackBefore next cells case.asks.barred case.asks.generations
+      → IsSparedBefore next cells case.asks.barred case.asks.generations
   none_left (d ∷ left) none h cells shows u v may back = absurd (omega (arith, none))
   none_left [] none h cells shows u v may back =
       not_before next cells case.asks.barred case.asks.generations u v may back (λ d some less divides.

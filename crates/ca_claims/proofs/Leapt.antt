@@ -1,6 +1,6 @@
 -- Trees as a leaper goes on: what was known of them stays, and what the pictures that they show have after some generations.
-use Rattle.std.proofs.Common.{◌≡◌, ℕ, List, Option, Some, None, Result, Ok, Err, MatchOption, refl, sym, ap, ap₂, subst, ◌∙◌, inl, inr, arith}
-use Rattle.std.specs.Prelude.{ℤ, pos, ◌-ℤ◌, IfOk, IsNone}
+use Rattle.std.proofs.Common.{◌≡◌, ℕ, List, Option, Some, None, Result, Ok, Err, MatchOption, refl, sym, subst, ◌∙◌, inl, inr, arith}
+use Rattle.std.specs.Prelude.{ℤ, ◌-ℤ◌, IfOk, IsNone}
 use Rattle.std.proofs.lemmas.Bool.{cases_eq}
 use Rattle.std.proofs.lemmas.Int.{ints}
 use Rattle.ca_plane.specs.Plane.{Picture, shifted}
@@ -12,20 +12,18 @@ use Rattle.ca_quad.specs.declared.tree.Tree.{Tree}
 use Rattle.ca_quad.specs.declared.tree.Spot.{Spot}
 use Rattle.ca_quad.specs.Sound.{IsSoundStore, Grows}
 use Rattle.ca_quad.specs.Trees.{IsTree, cell}
+use Rattle.ca_quad.specs.Shifted.{shifted_cells}
 use Rattle.ca_quad.proofs.Cells.{of_stays}
 use Rattle.ca_quad.proofs.Trims.{trees_stay}
-use Rattle.ca_macro.specs.Pattern.{AreInRange}
 use Rattle.ca_run.proofs.After.{after_same}
 use Rattle.ca_claims.specs.declared.claims.asks.Asks.{Asks}
 use Rattle.ca_claims.specs.declared.claims.asks.Wanted.{Wanted}
-use Rattle.ca_claims.specs.declared.claims.asks.Wanted.TheVariants.{Own, Other}
 use Rattle.ca_claims.specs.declared.decide.Subject.{Subject}
 use Rattle.ca_claims.specs.declared.decide.Case.{Case}
 use Rattle.ca_claims.specs.declared.verdict.Why.{Why}
-use Rattle.ca_claims.specs.declared.verdict.Why.TheVariants.{Empty, Differs, Earlier}
+use Rattle.ca_claims.specs.declared.verdict.Why.TheVariants.{Empty, Differs, Earlier, Died}
 use Rattle.ca_claims.specs.Truth.{wanted_cells, claimed}
-use Rattle.ca_claims.specs.inner.Subjects.{ShowsTree, IsPattern, IsNearTree, IsMovedBy, IsCase, BarsReturn, AreShown, IsEndTree, IsDifference, wanted_tree}
-use Rattle.ca_claims.proofs.Times.{unmoved}
+use Rattle.ca_claims.specs.inner.Subjects.{ShowsTree, HasLive, IsPattern, IsNearTree, IsCase, BarsReturn, BarsDeath, AreShown, IsEndTree, IsDifference}
 
 -- the tree of a pattern has no live cell outside the square of a plane
 pub near_pattern : (nodes : List Node) (tree : Tree) → IsPattern nodes tree → IsNearTree nodes tree
@@ -40,11 +38,6 @@ near_pattern nodes tree h = record {
             absurd (out (omega (arith, ints, here), omega (arith, ints, here), omega (arith, ints, here), omega (arith, ints, here)))
       ];
 }
-
--- nor has that of the wanted cells
-pub wanted_near : (nodes : List Node) (wanted : Wanted) (subject : Subject) → IsPattern nodes subject.pattern → IsPattern nodes subject.other → IsNearTree nodes (wanted_tree wanted subject)
-wanted_near nodes Own subject one other = near_pattern nodes subject.pattern one
-wanted_near nodes Other subject one other = near_pattern nodes subject.other other
 
 -- ---- the store grows
 
@@ -66,23 +59,28 @@ module _ (old new : List Node) (sound : IsSoundStore old) (grows : Grows old new
     range = λ x y live. h.range x y (λ z. live (trees_stay old new sound grows tree h.is_tree x y ∙ z));
   }
 
-  moved_stays : (asks : Asks) (pattern : Tree) → IsTree old pattern → (cells : Option Picture) → IsMovedBy asks old pattern cells → IsMovedBy asks new pattern cells
-  moved_stays asks pattern is None h = h
-  moved_stays asks pattern is (Some p) h = (h.0, h.1, h.2, shows_stays pattern p is h.3)
-
   pub case_stays : (case : Case) → IsCase old case → IsCase new case
   case_stays case h = record {
     pattern = pattern_stays case.subject.pattern h.pattern;
     other = pattern_stays case.subject.other h.other;
-    moved = moved_stays case.asks case.subject.pattern h.pattern.is_tree case.plane h.moved;
     bounded = h.bounded;
   }
+
+  live_stays : (tree : Tree) → IsTree old tree → HasLive (cell old tree) → HasLive (cell new tree)
+  live_stays tree is live = (live.0, live.1, λ z. live.2 (sym (trees_stay old new sound grows tree is live.0 live.1) ∙ z))
 
   pub bars_stays : (case : Case) → BarsReturn old case → BarsReturn new case
   bars_stays case h = record {
     subject = case_stays case h.subject;
     barred = h.barred;
-    live = (h.live.0, h.live.1, λ z. h.live.2 (sym (trees_stay old new sound grows case.subject.pattern h.subject.pattern.is_tree h.live.0 h.live.1) ∙ z));
+    live = live_stays case.subject.pattern h.subject.pattern.is_tree h.live;
+  }
+
+  pub death_stays : (case : Case) → BarsDeath old case → BarsDeath new case
+  death_stays case h = record {
+    subject = case_stays case h.subject;
+    barred = h.barred;
+    live = live_stays case.subject.pattern h.subject.pattern.is_tree h.live;
   }
 
   pub shown_stays : (subject : Subject) → IsTree old subject.pattern → IsTree old subject.other → (cells other : Picture) → AreShown old subject cells other → AreShown new subject cells other
@@ -98,32 +96,15 @@ pub ok_as : {T E : Type 0} (r : Result T E) (P Q : T → Type 0) → ((t : T) �
 ok_as (Ok t) P Q turn h = turn t h
 ok_as (Err e) P Q turn h = tt
 
--- a picture of cells in range is in range
-pub range_shown : (nodes : List Node) (tree : Tree) (p : Picture) → ShowsTree nodes tree p → IsPattern nodes tree → AreInRange (plane.cell p)
-range_shown nodes tree p shows h = λ x y live. h.range x y (λ z. live (shows x y ∙ z))
+-- a tree that shows another one's cells, moved, shows a picture of that one, moved
+pub moved_shown : (old new : List Node) (other tree : Tree) (p : Picture) (dx dy : ℤ) → ShowsTree old other p → ((x y : ℤ) → cell new tree x y ≡ shifted_cells (cell old other) dx dy x y)
+    → ShowsTree new tree (shifted p dx dy)
+moved_shown old new other tree p dx dy shows is = λ x y. cell-shifted p dx dy x y ∙ shows (x -ℤ dx) (y -ℤ dy) ∙ sym (is x y)
 
--- two pictures of one tree show the same, also when they are moved
-pub both_shown : (nodes : List Node) (tree : Tree) (p q : Picture) → ShowsTree nodes tree p → ShowsTree nodes tree q → (dx dy x y : ℤ)
-    → plane.cell (shifted p dx dy) x y ≡ plane.cell (shifted q dx dy) x y
-both_shown nodes tree p q one two dx dy x y =
-    cell-shifted p dx dy x y ∙ one (x -ℤ dx) (y -ℤ dy) ∙ sym (two (x -ℤ dx) (y -ℤ dy)) ∙ sym (cell-shifted q dx dy x y)
-
--- the cells that are wanted, where they are the pattern's own
-pub wanted_moved : (nodes : List Node) (tree : Tree) (asks : Asks) (p cells other : Picture) (q : ℤ → ℤ → ℕ) (dx dy : ℤ) → ShowsTree nodes tree p → ShowsTree nodes tree cells
-    → asks.wanted ≡ Own → dx ≡ asks.dx → dy ≡ asks.dy → ((x y : ℤ) → q x y ≡ plane.cell (shifted p dx dy) x y) → (x y : ℤ) → plane.cell (claimed asks cells other) x y ≡ q x y
-wanted_moved nodes tree asks p cells other q dx dy one two own e f is x y =
-    ap (λ w. plane.cell (shifted (wanted_cells w cells other) asks.dx asks.dy) x y) own ∙ both_shown nodes tree cells p two one asks.dx asks.dy x y
-    ∙ ap₂ (λ a b. plane.cell (shifted p a b) x y) (sym e) (sym f) ∙ sym (is x y)
-
--- the cells that are wanted, where they aren't moved
-pub wanted_unmoved : (nodes : List Node) (asks : Asks) (subject : Subject) (cells other : Picture) → AreShown nodes subject cells other → asks.dx ≡ pos 0 → asks.dy ≡ pos 0
-    → ShowsTree nodes (wanted_tree asks.wanted subject) (claimed asks cells other)
-wanted_unmoved nodes asks subject cells other shown right down = λ x y.
-    unmoved (wanted_cells asks.wanted cells other) asks.dx asks.dy x y right down ∙ shows asks.wanted x y
-  where
-    shows : (wanted : Wanted) → ShowsTree nodes (wanted_tree wanted subject) (wanted_cells wanted cells other)
-    shows Own = shown.one
-    shows Other = shown.two
+-- the claimed cells are those that are wanted, moved
+pub claimed_shown : (nodes : List Node) (tree : Tree) (asks : Asks) (wanted : Wanted) (cells other : Picture) → asks.wanted ≡ wanted
+    → ShowsTree nodes tree (shifted (wanted_cells wanted cells other) asks.dx asks.dy) → ShowsTree nodes tree (claimed asks cells other)
+claimed_shown nodes tree asks wanted cells other is shows = subst (λ w. ShowsTree nodes tree (shifted (wanted_cells w cells other) asks.dx asks.dy)) (sym is) shows
 
 -- the tree some generations on shows what the picture has then
 pub shows_after : (next : List ℕ → ℕ) (old new : List Node) (pattern end : Tree) (n : ℕ) (cells : Picture) → IsEndTree next old pattern n new end → ShowsTree old pattern cells
@@ -138,6 +119,7 @@ difference_as p q r s n None e f same = λ x y. e x y ∙ same x y ∙ sym (f x 
 difference_as p q r s n (Some Empty) e f other = absurd other
 difference_as p q r s n (Some (Differs x y found claimed generations)) e f other = (other.0, e x y ∙ other.1, f x y ∙ other.2, other.3)
 difference_as p q r s n (Some (Earlier m dx dy)) e f other = absurd other
+difference_as p q r s n (Some (Died m)) e f other = absurd other
 
 -- what is found of the tree some generations on and of the claimed one is found of their pictures
 pub wrong_cell : (next : List ℕ → ℕ) (s0 s1 s2 : List Node) (pattern end wanted : Tree) (n : ℕ) → IsEndTree next s0 pattern n s1 end → Grows s0 s1 → Grows s1 s2 → (cells claimed_cells : Picture)

@@ -31,5 +31,7 @@ pub mod Nearby
 pub mod Leapt
 pub mod Empties
 pub mod Corners
+pub mod Deaths
 pub mod DividedReturns
 pub mod Reasoned
+pub mod LifeSpans

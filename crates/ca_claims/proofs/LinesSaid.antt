@@ -5,7 +5,7 @@ use Rattle.std.specs.Str.{bytes_eq}
 use Rattle.std.proofs.lemmas.Bool.{cases_Bool}
 use Rattle.std.proofs.lemmas.List.{append-nil}
 use Rattle.ca_plane.specs.Bytes.{words_of}
-use Rattle.ca_claims.specs.Text.{about, ClaimTextLine, Rule, Load, Claims, path_of, IsAllowedLine, ClaimLinesSay, spoken, rule_paths, file_paths, claims_from}
+use Rattle.ca_claims.specs.Text.{about, ClaimTextLine, Version, Rule, Load, Claims, path_of, ClaimWordsSay, IsAllowedLine, ClaimLinesSay, spoken, rule_paths, file_paths, claims_from}
 use Rattle.ca_claims.specs.inner.Reading.{SaysNext}
 
 -- what lines say and then more lines
@@ -18,6 +18,7 @@ spoken-append (Some line ∷ said) more = ap (λ l. line ∷ l) (spoken-append s
 pub rule_paths-append : (said more : List (Option ClaimTextLine)) → rule_paths (said ++ more) ≡ rule_paths said ++ rule_paths more
 rule_paths-append [] more = refl
 rule_paths-append (None ∷ said) more = rule_paths-append said more
+rule_paths-append (Some Version ∷ said) more = rule_paths-append said more
 rule_paths-append (Some (Rule path) ∷ said) more = ap (λ l. path ∷ l) (rule_paths-append said more)
 rule_paths-append (Some (Load name path) ∷ said) more = rule_paths-append said more
 rule_paths-append (Some (Claims claim) ∷ said) more = rule_paths-append said more
@@ -26,6 +27,7 @@ rule_paths-append (Some (Claims claim) ∷ said) more = rule_paths-append said m
 pub file_paths-append : (said more : List (Option ClaimTextLine)) → file_paths (said ++ more) ≡ file_paths said ++ file_paths more
 file_paths-append [] more = refl
 file_paths-append (None ∷ said) more = file_paths-append said more
+file_paths-append (Some Version ∷ said) more = file_paths-append said more
 file_paths-append (Some (Rule path) ∷ said) more = ap (λ l. path ∷ l) (file_paths-append said more)
 file_paths-append (Some (Load name path) ∷ said) more = ap (λ l. path ∷ l) (file_paths-append said more)
 file_paths-append (Some (Claims claim) ∷ said) more = file_paths-append said more
@@ -33,6 +35,7 @@ file_paths-append (Some (Claims claim) ∷ said) more = file_paths-append said m
 -- the path that they load a name from
 pub path_of-append : (lines more : List ClaimTextLine) (name : List ℕ) → path_of (lines ++ more) name ≡ option_or (path_of lines name) (path_of more name)
 path_of-append [] more name = refl
+path_of-append (Version ∷ lines) more name = path_of-append lines more name
 path_of-append (Rule path ∷ lines) more name = path_of-append lines more name
 path_of-append (Load loaded path ∷ lines) more name =
     let later = path_of-append lines more name in
@@ -53,6 +56,10 @@ claims_from-append n earlier [] more = ap (λ k. claims_from k earlier more) (om
 claims_from-append n earlier (None ∷ said) more =
     claims_from-append (n + 1) earlier said more
     ∙ ap (λ l. claims_from (n + 1) earlier said ++ l) (same_claims _ _ _ _ more (omega arith) refl)
+claims_from-append n earlier (Some Version ∷ said) more =
+    let line = Version in
+    claims_from-append (n + 1) (earlier ++ line ∷ []) said more
+    ∙ ap (λ l. claims_from (n + 1) (earlier ++ line ∷ []) said ++ l) (same_claims _ _ _ _ more (omega arith) (one_before earlier line (spoken said)))
 claims_from-append n earlier (Some (Rule path) ∷ said) more =
     let line = Rule path in
     claims_from-append (n + 1) (earlier ++ line ∷ []) said more
@@ -78,7 +85,8 @@ length_said earlier (l ∷ ls) (Some line ∷ said) h = ap suc (length_said (ear
 -- one more line
 pub ClaimLinesSay-push : (earlier : List ClaimTextLine) (lines : List (List ℕ)) (said : List (Option ClaimTextLine)) (l : List ℕ) (s : Option ClaimTextLine) → ClaimLinesSay earlier lines said → SaysNext (earlier ++ spoken said) (words_of l) s → ClaimLinesSay earlier (lines ++ l ∷ []) (said ++ s ∷ [])
 ClaimLinesSay-push earlier [] [] l None h next = (next, tt)
-ClaimLinesSay-push earlier [] [] l (Some line) h next = (next.0, next.1, subst (λ ls. IsAllowedLine ls line) (append-nil earlier) next.2, tt)
+ClaimLinesSay-push earlier [] [] l (Some line) h next =
+    (next.0, subst (λ ls. ClaimWordsSay ls (words_of l) line) (append-nil earlier) next.1, subst (λ ls. IsAllowedLine ls line) (append-nil earlier) next.2, tt)
 ClaimLinesSay-push earlier [] (s ∷ said) l t h next = absurd h
 ClaimLinesSay-push earlier (k ∷ ks) [] l t h next = absurd h
 ClaimLinesSay-push earlier (k ∷ ks) (None ∷ said) l t h next = (h.0, ClaimLinesSay-push earlier ks said l t h.1 next)

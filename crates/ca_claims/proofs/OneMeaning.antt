@@ -9,14 +9,14 @@ use Rattle.ca_rle.proofs.OneHeader.{one_integer}
 use Rattle.ca_claims.specs.declared.fault.ClaimFault.{ClaimFault}
 use Rattle.ca_claims.specs.declared.fault.ClaimFault.TheVariants.{Syntax, Number, UnknownName, NameTaken, Memory}
 use Rattle.ca_claims.specs.declared.claims.line.Kind.{Kind}
-use Rattle.ca_claims.specs.declared.claims.line.Kind.TheVariants.{Still, Oscillator, Spaceship, Becomes}
-use Rattle.ca_claims.specs.Text.{Claim, ClaimTextLine, Rule, Load, Claims, WordsClaim, ClaimWordsSay, HasGoodNumbers, IsAllowedLine, ClaimLinesSay, IsClaimText, spoken}
+use Rattle.ca_claims.specs.declared.claims.line.Kind.TheVariants.{Still, Oscillator, Spaceship, Becomes, BecomesShifted, Dies}
+use Rattle.ca_claims.specs.Text.{Claim, ClaimTextLine, Version, Rule, Load, Claims, WordsClaim, ClaimWordsSay, HasGoodNumbers, IsAllowedLine, ClaimLinesSay, IsClaimText, spoken}
 use Rattle.ca_claims.specs.TextFaults.{IsFirstClaimFault}
 use Rattle.ca_claims.specs.inner.Reading.{SaysNext, HasClaimFault}
 use Rattle.ca_claims.proofs.LinesSaid.{one_before}
 
 -- words make a claim of one kind, about the same patterns
-same_words : (words : List (List ℕ)) (n m : List ℕ) (o p : Option (List ℕ)) (a b : Kind) → WordsClaim words n o a → WordsClaim words m p b → (n ≡ m) × (o ≡ p) × (a ≡ b)
+pub same_words : (words : List (List ℕ)) (n m : List ℕ) (o p : Option (List ℕ)) (a b : Kind) → WordsClaim words n o a → WordsClaim words m p b → (n ≡ m) × (o ≡ p) × (a ≡ b)
 same_words words n m o p Still Still h k =
     let same = sym h.0 ∙ k.0 in
     (cc, h.1 ∙ sym k.1, refl)
@@ -38,14 +38,30 @@ same_words words n m o p (Becomes v) (Becomes w) h k =
     let number : h.0 ≡ k.0 = cc in
     let second : h.1 ≡ k.1 = cc in
     (cc, h.5 ∙ ap Some second ∙ sym k.5, ap Becomes (h.4 ∙ ap value number ∙ sym k.4))
+same_words words n m o p (BecomesShifted v dx dy) (BecomesShifted w x y) h k =
+    let same = sym h.4 ∙ k.4 in
+    let number : h.0 ≡ k.0 = cc in
+    let second : h.1 ≡ k.1 = cc in
+    let across : h.2 ≡ k.2 = cc in
+    let down : h.3 ≡ k.3 = cc in
+    let generations = h.6 ∙ ap value number ∙ sym k.6 in
+    let right = one_integer k.2 dx x (subst (λ l. IsInteger l dx) across h.7) k.7 in
+    let below = one_integer k.3 dy y (subst (λ l. IsInteger l dy) down h.8) k.8 in
+    (cc, h.9 ∙ ap Some second ∙ sym k.9, λ i. BecomesShifted (generations i) (right i) (below i))
+same_words words n m o p (Dies v) (Dies w) h k =
+    let same = sym h.1 ∙ k.1 in
+    let number : h.0 ≡ k.0 = cc in
+    (cc, h.4 ∙ sym k.4, ap Dies (h.3 ∙ ap value number ∙ sym k.3))
 same_words words n m o p Still b h k = cc
 same_words words n m o p (Oscillator v) b h k = cc
 same_words words n m o p (Spaceship v dx dy) b h k = cc
 same_words words n m o p (Becomes v) b h k = cc
+same_words words n m o p (BecomesShifted v dx dy) b h k = cc
+same_words words n m o p (Dies v) b h k = cc
 
-same_claim : (words : List (List ℕ)) (a b : Claim) → ClaimWordsSay words (Claims a) → ClaimWordsSay words (Claims b) → a ≡ b
-same_claim words a b h k =
-    let same = same_words words a.pattern b.pattern a.other b.other a.kind b.kind h k in
+same_claim : (earlier : List ClaimTextLine) (words : List (List ℕ)) (a b : Claim) → ClaimWordsSay earlier words (Claims a) → ClaimWordsSay earlier words (Claims b) → a ≡ b
+same_claim earlier words a b h k =
+    let same = same_words words a.pattern b.pattern a.other b.other a.kind b.kind h.0 k.0 in
     let pattern = same.0 in
     let other = same.1 in
     let kind = same.2 in
@@ -53,9 +69,9 @@ same_claim words a b h k =
 
 -- words begin as a claim's do
 abbrev pub begins_claim : List (List ℕ) → Bool
-begins_claim words = list_any (bytes_eq (get_or words 0 [])) (codes "still" ∷ codes "oscillator" ∷ codes "spaceship" ∷ codes "becomes" ∷ [])
+begins_claim words = list_any (bytes_eq (get_or words 0 [])) (codes "still" ∷ codes "oscillator" ∷ codes "spaceship" ∷ codes "becomes" ∷ codes "dies" ∷ [])
 
-pub claim_begins : (words : List (List ℕ)) (claim : Claim) → ClaimWordsSay words (Claims claim) → begins_claim words ≡ true
+pub claim_begins : (words : List (List ℕ)) (claim : Claim) → WordsClaim words claim.pattern claim.other claim.kind → begins_claim words ≡ true
 claim_begins words claim h = begins claim.pattern claim.other claim.kind h
   where
     begins : (n : List ℕ) (o : Option (List ℕ)) (kind : Kind) → WordsClaim words n o kind → begins_claim words ≡ true
@@ -63,33 +79,57 @@ claim_begins words claim h = begins claim.pattern claim.other claim.kind h
     begins n o (Oscillator v) w = ap begins_claim w.1
     begins n o (Spaceship v dx dy) w = ap begins_claim w.3
     begins n o (Becomes v) w = ap begins_claim w.2
+    begins n o (BecomesShifted v dx dy) w = ap begins_claim w.4
+    begins n o (Dies v) w = ap begins_claim w.1
 
 -- and no name is loaded by words that make a claim
-load_or_claim : (words : List (List ℕ)) (name path : List ℕ) (claim : Claim) → ClaimWordsSay words (Load name path) → ClaimWordsSay words (Claims claim) → ⊥
-load_or_claim words name path claim h k = false≢true (sym (ap begins_claim h) ∙ claim_begins words claim k)
+load_or_claim : (earlier : List ClaimTextLine) (words : List (List ℕ)) (name path : List ℕ) (claim : Claim) → ClaimWordsSay earlier words (Load name path) → ClaimWordsSay earlier words (Claims claim) → ⊥
+load_or_claim earlier words name path claim h k = false≢true (sym (ap begins_claim h) ∙ claim_begins words claim k.0)
 
 -- nor is a table
-rule_or_claim : (words : List (List ℕ)) (path : List ℕ) (claim : Claim) → ClaimWordsSay words (Rule path) → ClaimWordsSay words (Claims claim) → ⊥
-rule_or_claim words path claim h k = false≢true (sym (ap begins_claim h) ∙ claim_begins words claim k)
+rule_or_claim : (earlier : List ClaimTextLine) (words : List (List ℕ)) (path : List ℕ) (claim : Claim) → ClaimWordsSay earlier words (Rule path) → ClaimWordsSay earlier words (Claims claim) → ⊥
+rule_or_claim earlier words path claim h k = false≢true (sym (ap begins_claim h) ∙ claim_begins words claim k.0)
+
+-- nor do they tell the version
+version_or_claim : (earlier : List ClaimTextLine) (words : List (List ℕ)) (claim : Claim) → ClaimWordsSay earlier words Version → ClaimWordsSay earlier words (Claims claim) → ⊥
+version_or_claim earlier words claim h k = false≢true (sym (ap begins_claim h.0) ∙ claim_begins words claim k.0)
+
+-- equal lists of words have the same words after the first
+behind_keyword : (w : List ℕ) (vs ws : List (List ℕ)) → w ∷ vs ≡ w ∷ ws → vs ≡ ws
+behind_keyword w vs ws e = cc
+
+-- words whose keyword is `claims` tell the version or say nothing
+pub not_version : (earlier : List ClaimTextLine) (ws : List (List ℕ)) → (ws ≡ codes "2" ∷ [] → earlier ≡ [] → ⊥) → (line : ClaimTextLine) → ClaimWordsSay earlier (codes "claims" ∷ ws) line → ⊥
+not_version earlier ws none Version h = none (behind_keyword (codes "claims") ws (codes "2" ∷ []) h.0) h.1
+not_version earlier ws none (Rule path) h = false≢true (sym (ap (λ words. bytes_eq (get_or words 0 []) (codes "claims")) h) ∙ refl)
+not_version earlier ws none (Load name path) h = false≢true (sym (ap (λ words. bytes_eq (get_or words 0 []) (codes "claims")) h) ∙ refl)
+not_version earlier ws none (Claims claim) h = false≢true (claim_begins (codes "claims" ∷ ws) claim h.0)
 
 -- words say one thing
-pub same_line : (words : List (List ℕ)) (a b : ClaimTextLine) → ClaimWordsSay words a → ClaimWordsSay words b → a ≡ b
-same_line words (Rule p) (Rule q) h k = cc
-same_line words (Rule p) (Load m q) h k = cc
-same_line words (Rule p) (Claims b) h k = absurd (rule_or_claim words p b h k)
-same_line words (Load n p) (Rule q) h k = cc
-same_line words (Load n p) (Load m q) h k = cc
-same_line words (Load n p) (Claims b) h k = absurd (load_or_claim words n p b h k)
-same_line words (Claims a) (Rule q) h k = absurd (rule_or_claim words q a k h)
-same_line words (Claims a) (Load m q) h k = absurd (load_or_claim words m q a k h)
-same_line words (Claims a) (Claims b) h k = ap Claims (same_claim words a b h k)
+pub same_line : (earlier : List ClaimTextLine) (words : List (List ℕ)) (a b : ClaimTextLine) → ClaimWordsSay earlier words a → ClaimWordsSay earlier words b → a ≡ b
+same_line earlier words Version Version h k = refl
+same_line earlier words Version (Rule q) h k = let same = sym h.0 ∙ k in cc
+same_line earlier words Version (Load m q) h k = let same = sym h.0 ∙ k in cc
+same_line earlier words Version (Claims b) h k = absurd (version_or_claim earlier words b h k)
+same_line earlier words (Rule p) Version h k = let same = sym k.0 ∙ h in cc
+same_line earlier words (Rule p) (Rule q) h k = cc
+same_line earlier words (Rule p) (Load m q) h k = cc
+same_line earlier words (Rule p) (Claims b) h k = absurd (rule_or_claim earlier words p b h k)
+same_line earlier words (Load n p) Version h k = let same = sym k.0 ∙ h in cc
+same_line earlier words (Load n p) (Rule q) h k = cc
+same_line earlier words (Load n p) (Load m q) h k = cc
+same_line earlier words (Load n p) (Claims b) h k = absurd (load_or_claim earlier words n p b h k)
+same_line earlier words (Claims a) Version h k = absurd (version_or_claim earlier words a k h)
+same_line earlier words (Claims a) (Rule q) h k = absurd (rule_or_claim earlier words q a k h)
+same_line earlier words (Claims a) (Load m q) h k = absurd (load_or_claim earlier words m q a k h)
+same_line earlier words (Claims a) (Claims b) h k = ap Claims (same_claim earlier words a b h k)
 
 -- a next line says one thing
 pub same_next : (earlier : List ClaimTextLine) (words : List (List ℕ)) (s t : Option ClaimTextLine) → SaysNext earlier words s → SaysNext earlier words t → s ≡ t
 same_next earlier words None None h k = refl
 same_next earlier words None (Some b) h k = absurd (false≢true (sym k.0 ∙ h))
 same_next earlier words (Some a) None h k = absurd (false≢true (sym h.0 ∙ k))
-same_next earlier words (Some a) (Some b) h k = ap Some (same_line words a b h.1 k.1)
+same_next earlier words (Some a) (Some b) h k = ap Some (same_line earlier words a b h.1 k.1)
 
 -- what is said before the lines that follow the first
 after_first : List ClaimTextLine → Option ClaimTextLine → List ClaimTextLine
@@ -128,15 +168,15 @@ fault_says_none n earlier words (Syntax line) None ne h k = false≢true (sym h.
 fault_says_none n earlier words (Syntax line) (Some a) ne h k = h.1.1 a k.1
 fault_says_none n earlier words (Number line) None ne h k = false≢true (sym h.1.0 ∙ k)
 fault_says_none n earlier words (Number line) (Some a) ne h k =
-    let allowed = subst (IsAllowedLine earlier) (same_line words a (Claims h.1.1) k.1 h.1.2) k.2 in
+    let allowed = subst (IsAllowedLine earlier) (same_line earlier words a (Claims h.1.1) k.1 h.1.2) k.2 in
     h.1.3 allowed.0
 fault_says_none n earlier words (UnknownName line) None ne h k = false≢true (sym h.1.0 ∙ k)
 fault_says_none n earlier words (UnknownName line) (Some a) ne h k =
-    let allowed = subst (IsAllowedLine earlier) (same_line words a (Claims h.1.1) k.1 h.1.2) k.2 in
+    let allowed = subst (IsAllowedLine earlier) (same_line earlier words a (Claims h.1.1) k.1 h.1.2) k.2 in
     h.1.4 allowed.1
 fault_says_none n earlier words (NameTaken line) None ne h k = false≢true (sym h.1.0 ∙ k)
 fault_says_none n earlier words (NameTaken line) (Some a) ne h k =
-    let allowed = subst (IsAllowedLine earlier) (same_line words a (Load h.1.1 h.1.2) k.1 h.1.3) k.2 in
+    let allowed = subst (IsAllowedLine earlier) (same_line earlier words a (Load h.1.1 h.1.2) k.1 h.1.3) k.2 in
     false≢true (sym (ap is_some allowed) ∙ h.1.4)
 fault_says_none n earlier words Memory s ne h k = ne refl
 
@@ -148,15 +188,15 @@ same_fault n earlier words (Syntax a) (UnknownName b) x y h k = absurd (h.1.1 (C
 same_fault n earlier words (Syntax a) (NameTaken b) x y h k = absurd (h.1.1 (Load k.1.1 k.1.2) k.1.3)
 same_fault n earlier words (Number a) (Syntax b) x y h k = absurd (k.1.1 (Claims h.1.1) h.1.2)
 same_fault n earlier words (Number a) (Number b) x y h k = ap Number (h.0 ∙ sym k.0)
-same_fault n earlier words (Number a) (UnknownName b) x y h k = absurd (h.1.3 (subst (λ c. HasGoodNumbers c.kind) (same_claim words k.1.1 h.1.1 k.1.2 h.1.2) k.1.3))
-same_fault n earlier words (Number a) (NameTaken b) x y h k = absurd (load_or_claim words k.1.1 k.1.2 h.1.1 k.1.3 h.1.2)
+same_fault n earlier words (Number a) (UnknownName b) x y h k = absurd (h.1.3 (subst (λ c. HasGoodNumbers c.kind) (same_claim earlier words k.1.1 h.1.1 k.1.2 h.1.2) k.1.3))
+same_fault n earlier words (Number a) (NameTaken b) x y h k = absurd (load_or_claim earlier words k.1.1 k.1.2 h.1.1 k.1.3 h.1.2)
 same_fault n earlier words (UnknownName a) (Syntax b) x y h k = absurd (k.1.1 (Claims h.1.1) h.1.2)
-same_fault n earlier words (UnknownName a) (Number b) x y h k = absurd (k.1.3 (subst (λ c. HasGoodNumbers c.kind) (same_claim words h.1.1 k.1.1 h.1.2 k.1.2) h.1.3))
+same_fault n earlier words (UnknownName a) (Number b) x y h k = absurd (k.1.3 (subst (λ c. HasGoodNumbers c.kind) (same_claim earlier words h.1.1 k.1.1 h.1.2 k.1.2) h.1.3))
 same_fault n earlier words (UnknownName a) (UnknownName b) x y h k = ap UnknownName (h.0 ∙ sym k.0)
-same_fault n earlier words (UnknownName a) (NameTaken b) x y h k = absurd (load_or_claim words k.1.1 k.1.2 h.1.1 k.1.3 h.1.2)
+same_fault n earlier words (UnknownName a) (NameTaken b) x y h k = absurd (load_or_claim earlier words k.1.1 k.1.2 h.1.1 k.1.3 h.1.2)
 same_fault n earlier words (NameTaken a) (Syntax b) x y h k = absurd (k.1.1 (Load h.1.1 h.1.2) h.1.3)
-same_fault n earlier words (NameTaken a) (Number b) x y h k = absurd (load_or_claim words h.1.1 h.1.2 k.1.1 h.1.3 k.1.2)
-same_fault n earlier words (NameTaken a) (UnknownName b) x y h k = absurd (load_or_claim words h.1.1 h.1.2 k.1.1 h.1.3 k.1.2)
+same_fault n earlier words (NameTaken a) (Number b) x y h k = absurd (load_or_claim earlier words h.1.1 h.1.2 k.1.1 h.1.3 k.1.2)
+same_fault n earlier words (NameTaken a) (UnknownName b) x y h k = absurd (load_or_claim earlier words h.1.1 h.1.2 k.1.1 h.1.3 k.1.2)
 same_fault n earlier words (NameTaken a) (NameTaken b) x y h k = ap NameTaken (h.0 ∙ sym k.0)
 same_fault n earlier words Memory g x y h k = absurd (x refl)
 same_fault n earlier words f Memory x y h k = absurd (y refl)

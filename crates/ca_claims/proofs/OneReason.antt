@@ -1,17 +1,19 @@
--- A claim is false for one kind of reason at most, and there is one earlier return.
-use Rattle.std.proofs.Common.{◌≡◌, ℕ, ◌<◌, List, sym, ap, ap₂, ◌∙◌, inl, inr, arith}
+-- A claim is false for one kind of reason at most, and there is one earlier return or death.
+use Rattle.std.proofs.Common.{◌≡◌, ℕ, ◌<◌, List, sym, ap, ap₂, subst, ◌∙◌, inl, inr, arith}
 use Rattle.std.specs.Prelude.{ℤ, ◌+ℤ◌, ◌-ℤ◌}
 use Rattle.std.proofs.lemmas.Bool.{cases_order}
 use Rattle.std.proofs.lemmas.Int.{ints}
 use Rattle.ca_plane.specs.Plane.{Picture, cell, IsSame, shifted, IsLive}
-use Rattle.ca_plane.specs.Generations.{after}
+use Rattle.ca_plane.specs.Generations.{after, IsAfter}
 use Rattle.ca_plane.proofs.Shifts.{cell-shifted}
 use Rattle.ca_run.proofs.Vectors.{no_vector}
 use Rattle.ca_claims.specs.declared.verdict.Why.{Why}
-use Rattle.ca_claims.specs.declared.verdict.Why.TheVariants.{Empty, Differs, Earlier}
+use Rattle.ca_claims.specs.declared.verdict.Why.TheVariants.{Empty, Differs, Earlier, Died}
 use Rattle.ca_claims.specs.declared.claims.asks.Asks.{Asks}
-use Rattle.ca_claims.specs.Truth.{IsReason, IsSameReason}
-use Rattle.ca_claims.proofs.Verdicts.{back}
+use Rattle.ca_claims.specs.declared.claims.asks.Barred.{Barred}
+use Rattle.ca_claims.specs.declared.claims.asks.Barred.TheVariants.{EmptyPlane}
+use Rattle.ca_claims.specs.Truth.{claimed, MayReturnBy, IsReason, IsSameReason}
+use Rattle.ca_claims.proofs.Verdicts.{back, dead}
 
 -- ---- the vector of a return
 
@@ -48,27 +50,50 @@ one_time next cells other asks m n dx dy u v one two =
       | inr (inr more) ↦ absurd (no_earlier next cells other asks n m u v dx dy two one more)
     ]
 
+-- nor of two first deaths
+no_earlier_death : (next : List ℕ → ℕ) (cells other : Picture) (asks : Asks) (m n : ℕ) → IsReason next cells other asks (Died m) → IsReason next cells other asks (Died n) → m < n → ⊥
+no_earlier_death next cells other asks m n one two less = dead next cells asks.barred m one.4 one.5 (two.6 m one.2 less)
+
+one_death : (next : List ℕ → ℕ) (cells other : Picture) (asks : Asks) (m n : ℕ) → IsReason next cells other asks (Died m) → IsReason next cells other asks (Died n) → m ≡ n
+one_death next cells other asks m n one two =
+    elim (cases_order m n) [
+      | inl e ↦ e
+      | inr (inl less) ↦ absurd (no_earlier_death next cells other asks m n one two less)
+      | inr (inr more) ↦ absurd (no_earlier_death next cells other asks n m two one more)
+    ]
+
 -- ---- the kinds
 
 -- where a cell isn't the claimed one, the claimed cells don't stand
-not_both : (next : List ℕ → ℕ) (cells other : Picture) (asks : Asks) (x y : ℤ) (found wanted n m : ℕ) (dx dy : ℤ)
-    → IsReason next cells other asks (Differs x y found wanted n) → IsReason next cells other asks (Earlier m dx dy) → ⊥
-not_both next cells other asks x y found wanted n m dx dy differs earlier =
-    differs.4 (sym differs.2 ∙ ap (λ k. after next cells k x y) differs.1 ∙ earlier.1 x y ∙ differs.3)
+not_both : (next : List ℕ → ℕ) (cells other : Picture) (asks : Asks) (x y : ℤ) (found wanted n : ℕ)
+    → IsReason next cells other asks (Differs x y found wanted n) → IsAfter next cells asks.generations (claimed asks cells other) → ⊥
+not_both next cells other asks x y found wanted n differs stands =
+    differs.4 (sym differs.2 ∙ ap (λ k. after next cells k x y) differs.1 ∙ stands x y ∙ differs.3)
 
--- two reasons against a claim are of one kind, and two returns are one
+-- where a death is barred, no return is
+no_return : (barred : Barred) (dx dy : ℤ) → barred ≡ EmptyPlane → MayReturnBy barred dx dy → ⊥
+no_return barred dx dy is may = subst (λ b. MayReturnBy b dx dy) is may
+
+-- two reasons against a claim are of one kind, and two returns or deaths are one
 pub one_reason : (next : List ℕ → ℕ) (cells other : Picture) (asks : Asks) (one two : Why) → IsReason next cells other asks one
     → IsReason next cells other asks two → IsSameReason one two
 one_reason next cells other asks Empty Empty h k = tt
 one_reason next cells other asks Empty (Differs x y found wanted n) h k = h.1 (k.0 h.0)
 one_reason next cells other asks Empty (Earlier m dx dy) h k = h.1 k.0
+one_reason next cells other asks Empty (Died m) h k = h.1 k.0
 one_reason next cells other asks (Differs x y found wanted n) Empty h k = k.1 (h.0 k.0)
 one_reason next cells other asks (Differs x y found wanted n) (Differs u v shown asked m) h k = h.1 ∙ sym k.1
-one_reason next cells other asks (Differs x y found wanted n) (Earlier m dx dy) h k = not_both next cells other asks x y found wanted n m dx dy h k
+one_reason next cells other asks (Differs x y found wanted n) (Earlier m dx dy) h k = not_both next cells other asks x y found wanted n h k.1
+one_reason next cells other asks (Differs x y found wanted n) (Died m) h k = not_both next cells other asks x y found wanted n h k.1
 one_reason next cells other asks (Earlier m dx dy) Empty h k = k.1 h.0
-one_reason next cells other asks (Earlier m dx dy) (Differs x y found wanted n) h k = not_both next cells other asks x y found wanted n m dx dy k h
+one_reason next cells other asks (Earlier m dx dy) (Differs x y found wanted n) h k = not_both next cells other asks x y found wanted n k h.1
 one_reason next cells other asks (Earlier m dx dy) (Earlier n u v) h k =
     let time = one_time next cells other asks m n dx dy u v h k in
     let same : IsSame (shifted cells dx dy) (shifted cells u v) = λ x y. sym (h.5 x y) ∙ ap (λ t. after next cells t x y) time ∙ k.5 x y in
     let vector = one_vector cells dx dy u v h.0 same in
     (time, vector.0, vector.1)
+one_reason next cells other asks (Earlier m dx dy) (Died n) h k = no_return asks.barred dx dy k.4 h.4
+one_reason next cells other asks (Died m) Empty h k = k.1 h.0
+one_reason next cells other asks (Died m) (Differs x y found wanted n) h k = not_both next cells other asks x y found wanted n k h.1
+one_reason next cells other asks (Died m) (Earlier n dx dy) h k = no_return asks.barred dx dy h.4 k.4
+one_reason next cells other asks (Died m) (Died n) h k = one_death next cells other asks m n h k

@@ -1,5 +1,5 @@
 -- What is kept of the lines so far, after one more line.
-use Rattle.std.proofs.Common.{◌≡◌, ℕ, ◌+◌, ◌<◌, true, false, List, [], ◌∷◌, ◌++◌, map, slice_get, length, All, ◌≤◌, Option, Some, None, Result, Ok, Err, is_ok, OnOk, unwrap_or, is_some, IsSome, refl, sym, ap, subst, ◌∙◌, inl, inr, arith}
+use Rattle.std.proofs.Common.{◌≡◌, ℕ, ◌+◌, ◌<◌, true, false, List, [], ◌∷◌, ◌++◌, map, slice_get, length, All, ◌≤◌, Option, Some, None, Result, Ok, Err, is_ok, IfErr, OnOk, unwrap_or, is_some, IsSome, refl, sym, ap, subst, ◌∙◌, inl, inr, arith}
 use Rattle.std.specs.List.{AllByRecursion}
 use Rattle.std.specs.Map.{update}
 use Rattle.std.specs.Option.{option_or}
@@ -13,8 +13,10 @@ use Rattle.ca_claims.specs.declared.claims.line.Claim.{Claim as ClaimOf}
 use Rattle.ca_claims.specs.declared.claims.line.ClaimLine.{ClaimLine}
 use Rattle.ca_claims.specs.declared.claims.line.Place.{Place}
 use Rattle.ca_claims.specs.Places.{path_at, named_at, claim_with_names, IsNamed}
-use Rattle.ca_claims.specs.Text.{Claim, patterns_of, about, HasGoodNumbers, ClaimTextLine, Rule, Load, Claims, path_of, AreLoaded, IsAllowedLine, spoken, rule_paths, file_paths, paths_once, claims_from}
-use Rattle.ca_claims.specs.inner.Reading.{KeepsClaimLines, StandsAt, AreKnownNames, known_place, at_places, with_path}
+use Rattle.ca_claims.specs.Text.{Claim, patterns_of, about, HasGoodNumbers, ClaimTextLine, Version, Rule, Load, Claims, path_of, AreLoaded, IsAllowedLine, is_second, spoken, rule_paths, file_paths, paths_once, claims_from}
+use Rattle.ca_claims.specs.declared.claims.version.TextVersion.{TextVersion}
+use Rattle.ca_claims.specs.declared.claims.version.TextVersion.TheVariants.{Open, First, Second}
+use Rattle.ca_claims.specs.inner.Reading.{IsVersionAfter, KeepsClaimLines, StandsAt, AreKnownNames, known_place, at_places, with_path}
 use Rattle.ca_claims.proofs.ClaimKinds.{paths_of, about_same, about_twice}
 use Rattle.ca_claims.proofs.PathLists.{paths_once-push, stays_before, stands_last, kept_place, no_fewer}
 use Rattle.ca_claims.proofs.LinesSaid.{spoken-append, rule_paths-append, file_paths-append, path_of-append, claims_from-append}
@@ -128,13 +130,51 @@ loaded_now lines name path q none e =
 loaded_else : (lines : List ClaimTextLine) (name path q : List ℕ) → bytes_eq name q ≡ false → path_of (lines ++ Load name path ∷ []) q ≡ path_of lines q
 loaded_else lines name path q e = path_of-append lines (Load name path ∷ []) q ∙ rw e (option_or_none (path_of lines q))
 
--- a rule table loads nothing
+-- a line that tells the version loads nothing
+version_loads_none : (lines : List ClaimTextLine) (q : List ℕ) → path_of (lines ++ Version ∷ []) q ≡ path_of lines q
+version_loads_none lines q = path_of-append lines (Version ∷ []) q ∙ option_or_none (path_of lines q)
+
+-- nor does a rule table
 rule_loads_none : (lines : List ClaimTextLine) (path q : List ℕ) → path_of (lines ++ Rule path ∷ []) q ≡ path_of lines q
 rule_loads_none lines path q = path_of-append lines (Rule path ∷ []) q ∙ option_or_none (path_of lines q)
 
 -- nor does a claim
 claim_loads_none : (lines : List ClaimTextLine) (claim : Claim) (q : List ℕ) → path_of (lines ++ Claims claim ∷ []) q ≡ path_of lines q
 claim_loads_none lines claim q = path_of-append lines (Claims claim ∷ []) q ∙ option_or_none (path_of lines q)
+
+-- what is known of the version after one more line
+pub version_after : (said : List (Option ClaimTextLine)) (line : ClaimTextLine) (version : TextVersion) → IsVersionAfter (spoken said ++ line ∷ []) version
+    → IsVersionAfter (spoken (said ++ Some line ∷ [])) version
+version_after said line version h = subst (λ ls. IsVersionAfter ls version) (sym (spoken-append said (Some line ∷ []))) h
+
+-- and after one that says nothing
+pub version_stays : (said : List (Option ClaimTextLine)) (version : TextVersion) → IsVersionAfter (spoken said) version → IsVersionAfter (spoken (said ++ None ∷ [])) version
+version_stays said version h = subst (λ ls. IsVersionAfter ls version) (sym (spoken-append said (None ∷ []) ∙ append-nil (spoken said))) h
+
+-- what follows of an answer
+pub on_ok_as : {T E : Type 0} (r : Result T E) (P Q : Type 0) → (P → Q) → OnOk r P → OnOk r Q
+on_ok_as (Ok t) P Q turn h = turn h
+on_ok_as (Err e) P Q turn h = tt
+
+pub if_err_as : {T E : Type 0} (r : Result T E) (P Q : E → Type 0) → ((e : E) → P e → Q e) → IfErr r P → IfErr r Q
+if_err_as (Ok t) P Q turn h = tt
+if_err_as (Err e) P Q turn h = turn e h
+
+-- for each version there are lines after which it is known
+pub lines_of_version : TextVersion → List ClaimTextLine
+lines_of_version Open = []
+lines_of_version First = Rule [] ∷ []
+lines_of_version Second = Version ∷ []
+
+pub version_of_lines : (version : TextVersion) → IsVersionAfter (lines_of_version version) version
+unfolding lines_of_version
+version_of_lines Open = refl
+version_of_lines First = ((λ e. cc), refl)
+version_of_lines Second = refl
+
+-- the version is known where no other line has said anything
+pub version_told : (said : List (Option ClaimTextLine)) → spoken said ≡ [] → is_second (spoken (said ++ Some Version ∷ [])) ≡ true
+version_told said none = ap is_second (spoken-append said (Some Version ∷ []) ∙ ap (λ ls. ls ++ Version ∷ []) none)
 
 module _ (said : List (Option ClaimTextLine)) (names paths : List (List ℕ)) (rules : List ℕ) (claims : List (ClaimLine Place)) (places : List ℕ → Option Place) (read : KeepsClaimLines said names paths rules claims places) where
   -- a line that says nothing
@@ -148,6 +188,19 @@ module _ (said : List (Option ClaimTextLine)) (names paths : List (List ℕ)) (r
         asked = read.asked ∙ sym (claims_from-append 1 [] said (None ∷ []) ∙ append-nil (claims_from 1 [] said));
         good = read.good;
         known = λ q. subst (λ ls. StandsAt names paths q (places q) (path_of ls q)) (sym same) (read.known q);
+      }
+
+  -- a line that tells the version
+  pub read_version : KeepsClaimLines (said ++ Some Version ∷ []) names paths rules claims places
+  read_version =
+      let s : Option ClaimTextLine = Some Version in
+      record {
+        once = read.once ∙ ap paths_once (sym (file_paths-append said (s ∷ []) ∙ append-nil (file_paths said)));
+        ruled = read.ruled ∙ sym (rule_paths-append said (s ∷ []) ∙ append-nil (rule_paths said));
+        placed = read.placed;
+        asked = read.asked ∙ sym (claims_from-append 1 [] said (s ∷ []) ∙ append-nil (claims_from 1 [] said));
+        good = read.good;
+        known = λ q. subst (StandsAt names paths q (places q)) (sym (ap (λ ls. path_of ls q) (spoken-append said (s ∷ [])) ∙ version_loads_none (spoken said) q)) (read.known q);
       }
 
   -- the paths after a line with one more

@@ -1,5 +1,5 @@
 -- What is told of a claim by the cells that differ and by the first return.
-use Rattle.std.proofs.Common.{◌≡◌, ◌≢◌, ℕ, List, Option, Some, None, MatchOption, refl, sym, ap, subst, ◌∙◌}
+use Rattle.std.proofs.Common.{◌≡◌, ◌≢◌, ℕ, List, [], Option, Some, None, MatchOption, refl, sym, ap, subst, ◌∙◌}
 use Rattle.std.specs.Prelude.{IsTrue}
 use Rattle.ca_plane.specs.Plane.{Picture, cell, shifted, IsLive}
 use Rattle.ca_plane.specs.Generations.{after, IsAfter}
@@ -7,28 +7,30 @@ use Rattle.ca_quad.specs.declared.node.Node.{Node}
 use Rattle.ca_quad.specs.declared.tree.Tree.{Tree}
 use Rattle.ca_quad.specs.Trees as trees
 use Rattle.ca_claims.specs.declared.verdict.Why.{Why}
-use Rattle.ca_claims.specs.declared.verdict.Why.TheVariants.{Empty, Differs, Earlier}
+use Rattle.ca_claims.specs.declared.verdict.Why.TheVariants.{Empty, Differs, Earlier, Died}
 use Rattle.ca_claims.specs.declared.claims.asks.Asks.{Asks}
-use Rattle.ca_claims.specs.declared.claims.asks.Wanted.TheVariants.{Own}
+use Rattle.ca_claims.specs.declared.claims.asks.Wanted.TheVariants.{Own, NoCells}
 use Rattle.ca_claims.specs.declared.claims.asks.Barred.{Barred}
-use Rattle.ca_claims.specs.declared.claims.asks.Barred.TheVariants.{Nothing, InPlace, Anywhere}
-use Rattle.ca_claims.specs.Truth.{wanted_cells, claimed, IsNotBack, MayReturnBy, IsTrueClaim, IsReason}
-use Rattle.ca_claims.specs.inner.Returns.{IsNotBackBefore, IsFirstReturn}
-use Rattle.ca_claims.specs.inner.Subjects.{ShowsTree, HasLive, IsMovedBy, IsDifference}
+use Rattle.ca_claims.specs.declared.claims.asks.Barred.TheVariants.{Nothing, InPlace, Anywhere, EmptyPlane}
+use Rattle.ca_claims.specs.Truth.{wanted_cells, claimed, ShowsNothingBarred, IsTrueClaim, IsReason}
+use Rattle.ca_claims.specs.inner.Decided.{BarsReturns}
+use Rattle.ca_claims.specs.inner.Returns.{IsSparedBefore, IsFirstReturn, IsFirstDeath}
+use Rattle.ca_claims.specs.inner.Subjects.{ShowsTree, HasLive, IsDifference}
 
 -- a picture of a live tree is live
 pub live_shown : (nodes : List Node) (tree : Tree) (cells : Picture) → HasLive (trees.cell nodes tree) → ShowsTree nodes tree cells → IsLive cells
 live_shown nodes tree cells live shows = (live.0, live.1, λ z. live.2 (sym (shows live.0 live.1) ∙ z))
 
--- the vector of a claim that bars a return is one by which it is barred
-pub may_return : (asks : Asks) (nodes : List Node) (pattern : Tree) (plane : Option Picture) → asks.barred ≢ Nothing → IsMovedBy asks nodes pattern plane → MayReturnBy asks.barred asks.dx asks.dy
-may_return asks nodes pattern (Some p) some moved = subst (λ b. MayReturnBy b asks.dx asks.dy) (sym moved.1) tt
-may_return asks nodes pattern None some moved = unmoved asks.barred some
-  where
-    unmoved : (barred : Barred) → barred ≢ Nothing → MayReturnBy barred asks.dx asks.dy
-    unmoved Nothing other = absurd (other refl)
-    unmoved InPlace other = (moved.0, moved.1)
-    unmoved Anywhere other = tt
+-- an empty plane that is barred is something
+pub death_is_some : (barred : Barred) → barred ≡ EmptyPlane → barred ≢ Nothing
+death_is_some barred death nothing = let no : ⊥ = cc in no
+
+-- what is barred is nothing, an empty plane, or a return
+pub bars_returns : (barred : Barred) → barred ≢ Nothing → barred ≢ EmptyPlane → BarsReturns barred
+bars_returns Nothing some other = absurd (some refl)
+bars_returns InPlace some other = tt
+bars_returns Anywhere some other = tt
+bars_returns EmptyPlane some other = absurd (other refl)
 
 module _ (next : List ℕ → ℕ) (cells other : Picture) (asks : Asks) (live : IsTrue asks.live → IsLive cells) where
   -- cells that differ make a claim false
@@ -36,6 +38,7 @@ module _ (next : List ℕ → ℕ) (cells other : Picture) (asks : Asks) (live :
   difference_reason Empty told = absurd told
   difference_reason (Differs x y found wanted generations) told = (live, told.0, ap (λ n. after next cells n x y) told.0 ∙ told.1, told.2, told.3)
   difference_reason (Earlier m dx dy) told = absurd told
+  difference_reason (Died m) told = absurd told
 
   module _ (stands : IsAfter next cells asks.generations (claimed asks cells other)) where
     -- where the claimed cells stand and nothing is barred, a claim is true
@@ -43,17 +46,32 @@ module _ (next : List ℕ → ℕ) (cells other : Picture) (asks : Asks) (live :
     true_at_once free = record {
       live = live;
       stands = stands;
-      least = λ m some less. subst (λ b. IsNotBack next cells b m) (sym free) tt;
+      least = λ m some less. subst (λ b. ShowsNothingBarred next cells b m) (sym free) tt;
     }
 
     -- else an earlier return tells
-    pub earlier_tells : IsTrue asks.live → (why : Option Why) → MatchOption why (IsNotBackBefore next cells asks.barred asks.generations) (IsFirstReturn next cells asks.barred asks.generations)
+    pub earlier_tells : IsTrue asks.live → (why : Option Why) → MatchOption why (IsSparedBefore next cells asks.barred asks.generations) (IsFirstReturn next cells asks.barred asks.generations)
         → MatchOption why (IsTrueClaim next cells other asks) (IsReason next cells other asks)
     earlier_tells wants None told = record { live = live; stands = stands; least = told }
     earlier_tells wants (Some Empty) told = absurd told
     earlier_tells wants (Some (Differs x y found wanted generations)) told = absurd told
     earlier_tells wants (Some (Earlier m dx dy)) told = (live wants, stands, told.0, told.1, told.2, told.3, told.4)
+    earlier_tells wants (Some (Died m)) told = absurd told
+
+    -- and an earlier death does
+    pub death_tells : IsTrue asks.live → asks.barred ≡ EmptyPlane → (why : Option Why) → MatchOption why (IsSparedBefore next cells EmptyPlane asks.generations) (IsFirstDeath next cells asks.generations)
+        → MatchOption why (IsTrueClaim next cells other asks) (IsReason next cells other asks)
+    death_tells wants barred None told = record { live = live; stands = stands; least = subst (λ b. IsSparedBefore next cells b asks.generations) (sym barred) told }
+    death_tells wants barred (Some Empty) told = absurd told
+    death_tells wants barred (Some (Differs x y found wanted generations)) told = absurd told
+    death_tells wants barred (Some (Earlier m dx dy)) told = absurd told
+    death_tells wants barred (Some (Died m)) told =
+        (live wants, stands, told.0, told.1, barred, told.2, subst (λ b. IsSparedBefore next cells b m) (sym barred) told.3)
 
 -- the claimed cells are the pattern's own, moved
 pub own_stand : (next : List ℕ → ℕ) (cells other : Picture) (asks : Asks) → asks.wanted ≡ Own → IsAfter next cells asks.generations (claimed asks cells other) → IsAfter next cells asks.generations (shifted cells asks.dx asks.dy)
 own_stand next cells other asks own stands = subst (λ w. IsAfter next cells asks.generations (shifted (wanted_cells w cells other) asks.dx asks.dy)) own stands
+
+-- where no cells are wanted, the plane is empty
+pub none_stand : (next : List ℕ → ℕ) (cells other : Picture) (asks : Asks) → asks.wanted ≡ NoCells → IsAfter next cells asks.generations (claimed asks cells other) → IsAfter next cells asks.generations []
+none_stand next cells other asks none stands = subst (λ w. IsAfter next cells asks.generations (shifted (wanted_cells w cells other) asks.dx asks.dy)) none stands

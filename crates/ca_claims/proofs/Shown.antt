@@ -1,8 +1,9 @@
 -- What holds of cells holds of other cells that are the same at every x and y.
-use Rattle.std.proofs.Common.{◌≡◌, ◌≢◌, ℕ, ◌≤◌, ◌<◌, List, [], ◌∷◌, sym, subst, ◌∙◌}
+use Rattle.std.proofs.Common.{◌≡◌, ◌≢◌, ℕ, ◌≤◌, ◌<◌, List, [], ◌∷◌, length, refl, sym, subst, ◌∙◌, arith, rules}
 use Rattle.std.specs.Prelude.{ℤ}
 use Rattle.std.specs.List.{AllByRecursion}
 use Rattle.ca_plane.specs.declared.point.Point.{Point}
+use Rattle.ca_plane.specs.Plane.{cell}
 use Rattle.ca_plane.specs.Population.{AreLivePlaces, HasPopulation, HasFewCells, HasTooManyCells}
 use Rattle.ca_rule.specs.Rule.{RuleValue, states_of}
 use Rattle.ca_claims.specs.Answers.{HasLargeState, HasSmallStates}
@@ -33,3 +34,19 @@ module _ (f g : ℤ → ℤ → ℕ) (same : (x y : ℤ) → f x y ≡ g x y) wh
 
   pub many_shown : HasTooManyCells f → HasTooManyCells g
   many_shown many = (many.0, population_shown many.0 many.1, many.2)
+
+-- no cell of an empty picture is live
+none_live : AreLivePlaces (cell []) []
+none_live = record { once = search rules; live = tt; all = λ x y live. absurd (live refl) }
+
+-- so they are few,
+pub few_none : HasFewCells (cell [])
+few_none = (0, ([], none_live, refl), omega arith)
+
+-- and not too many
+pub none_many : HasTooManyCells (cell []) → ⊥
+none_many (count, (places, are, long), many) = no places are.live (sym long)
+  where
+    no : (ps : List Point) → AllByRecursion (λ p. cell [] p.x p.y ≢ 0) ps → length ps ≡ count → ⊥
+    no [] live same = let nothing : count ≡ 0 = sym same in omega (arith, nothing, many)
+    no (p ∷ ps) live same = live.0 refl

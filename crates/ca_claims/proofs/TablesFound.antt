@@ -5,6 +5,7 @@ use Rattle.std.specs.Option.{option_copied}
 use Rattle.ca_rule.specs.TableNext.{TableRule}
 use Rattle.ca_claims.specs.declared.verifier.tables.FaultyTable.{FaultyTable}
 use Rattle.ca_claims.specs.declared.verdict.Cause.TheVariants.{NoFile, BadTable}
+use Rattle.ca_claims.specs.declared.claims.asks.Asks.{Asks}
 use Rattle.ca_claims.specs.Places.{path_at}
 use Rattle.ca_claims.specs.Means.{bytes_at}
 use Rattle.ca_claims.specs.Answers.{IsMissing, IsThere, HoldsTable, AreTables, IsBadTable, SomeOf, FirstBad}
@@ -77,10 +78,10 @@ module _ (files : List (List ℕ × List ℕ)) (paths : List (List ℕ)) (found 
     first_at places within faulty first,
   )
 
-module _ (files : List (List ℕ × List ℕ)) (paths rules patterns : List (List ℕ)) where
+module _ (files : List (List ℕ × List ℕ)) (paths rules : List (List ℕ)) (asks : Asks) (patterns : List (List ℕ)) where
   -- where a rule line's file is missing, no claim is judged
   pub refused_missing : (place : ℕ) → place < length paths → AllByRecursion (IsThere files) patterns → FirstBad (IsThere files) (λ p. (p ≡ path_at paths place) × IsMissing files p) rules
-      → IsRefusal files paths rules patterns (record { cause = NoFile; about = about.RuleFile place })
+      → IsRefusal files paths rules asks patterns (record { cause = NoFile; about = about.RuleFile place })
   refused_missing place within there first = record {
     holds = inr (some_first (IsThere files) (IsMissing files) rules (first_weaker (IsThere files) (λ p. (p ≡ path_at paths place) × IsMissing files p) (IsMissing files) (λ p h. h.1) rules first));
     on = (within, (there, first));
@@ -88,7 +89,7 @@ module _ (files : List (List ℕ × List ℕ)) (paths rules patterns : List (Lis
 
   -- nor where one is faulty
   pub refused_faulty : (faulty : FaultyTable) → faulty.place < length paths → AllByRecursion (IsThere files) patterns → AllByRecursion (IsThere files) rules
-      → FirstBad (HoldsTable files) (IsFaultyAt files paths faulty) rules → IsRefusal files paths rules patterns (record { cause = BadTable faulty.fault; about = about.RuleFile faulty.place })
+      → FirstBad (HoldsTable files) (IsFaultyAt files paths faulty) rules → IsRefusal files paths rules asks patterns (record { cause = BadTable faulty.fault; about = about.RuleFile faulty.place })
   refused_faulty faulty within there all first = record {
     holds = ((there, all), first_weaker (HoldsTable files) (IsFaultyAt files paths faulty) (IsBadTable files faulty.fault) (λ p h. h.1) rules first);
     on = (within, first);

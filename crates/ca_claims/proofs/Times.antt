@@ -1,10 +1,11 @@
 -- Pictures that are moved by (0, 0), and the vectors of claims.
-use Rattle.std.proofs.Common.{◌≡◌, refl, sym, ap₂, subst, ◌∙◌, arith, w64, to_z, of_z}
+use Rattle.std.proofs.Common.{◌≡◌, ℕ, refl, sym, ap, ap₂, subst, ◌∙◌, arith, w64, to_z, of_z}
 use Rattle.std.specs.Int.{w128}
 use Rattle.std.specs.Prelude.{ℤ, pos, ◌-ℤ◌, FitsSigned}
 use Rattle.std.proofs.lemmas.Int.{ints, to_z-of_z}
 use Rattle.ca_plane.specs.Plane.{Picture, cell, shifted}
 use Rattle.ca_plane.proofs.Shifts.{cell-shifted}
+use Rattle.ca_quad.specs.Shifted.{shifted_cells}
 use Rattle.ca_claims.specs.Text.{IsShift}
 use Rattle.ca_claims.specs.inner.Returns.{IsWide}
 
@@ -22,6 +23,17 @@ cell_shifted_0 p x y = unmoved p (pos 0) (pos 0) x y refl refl
 pub shift_reads : (d : ℤ) → IsShift d → to_z w64 (of_z w64 d) ≡ d
 shift_reads d shift = let fits : FitsSigned w64 d = omega (arith, ints, shift) in to_z-of_z w64 d fits
 
+-- one that reads as 0 is none
+pub no_shift_reads : (d : ℤ) → IsShift d → of_z w64 d ≡ 0 → d ≡ pos 0
+no_shift_reads d shift none = sym (shift_reads d shift) ∙ ap (to_z w64) none
+
+-- cells that are moved by (0, 0)
+pub moved_nowhere : (p : ℤ → ℤ → ℕ) (dx dy x y : ℤ) → dx ≡ pos 0 → dy ≡ pos 0 → p x y ≡ shifted_cells p dx dy x y
+moved_nowhere p dx dy x y e f =
+    let a : x ≡ x -ℤ dx = omega (arith, ints) in
+    let b : y ≡ y -ℤ dy = omega (arith, ints) in
+    ap₂ p a b
+
 pub shift_again : (d : ℤ) → IsShift d → IsShift (to_z w64 (of_z w64 d))
 shift_again d shift = subst IsShift (sym (shift_reads d shift)) shift
 
@@ -32,9 +44,16 @@ wide_reads n wide = let fits : FitsSigned w128 n = omega (arith, ints, wide) in 
 pub wide_again : (n : ℤ) → IsWide n → IsWide (to_z w128 (of_z w128 n))
 wide_again n wide = subst IsWide (sym (wide_reads n wide)) wide
 
--- and the distance to it of a shift as an `i64`
-pub distance_reads : (from to d result : ℤ) → IsShift from → IsWide to → result ≡ to_z w128 (of_z w128 to) -ℤ to_z w64 (of_z w64 from) → d ≡ to -ℤ from → d ≡ to_z w64 (of_z w64 result)
+-- so does a shift
+shift_wide : (d : ℤ) → IsShift d → IsWide d
+shift_wide d shift = (omega (arith, ints, shift), omega (arith, ints, shift))
+
+pub wide_shift_again : (d : ℤ) → IsShift d → IsShift (to_z w128 (of_z w128 d))
+wide_shift_again d shift = subst IsShift (sym (wide_reads d (shift_wide d shift))) shift
+
+-- and the distance between them as an `i64`
+pub distance_reads : (from to d result : ℤ) → IsShift from → IsWide to → result ≡ to_z w128 (of_z w128 to) -ℤ to_z w128 (of_z w128 from) → d ≡ to -ℤ from → d ≡ to_z w64 (of_z w64 result)
 distance_reads from to d result shift wide is e =
-    let far : result ≡ to -ℤ from = is ∙ ap₂ (λ a b. a -ℤ b) (wide_reads to wide) (shift_reads from shift) in
+    let far : result ≡ to -ℤ from = is ∙ ap₂ (λ a b. a -ℤ b) (wide_reads to wide) (wide_reads from (shift_wide from shift)) in
     let fits : FitsSigned w64 result = omega (arith, ints, far, shift, wide) in
     e ∙ sym far ∙ sym (to_z-of_z w64 result fits)

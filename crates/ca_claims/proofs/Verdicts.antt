@@ -1,5 +1,5 @@
 -- A file has one meaning, and a claim one kind of true verdict.
-use Rattle.std.proofs.Common.{◌≡◌, ◌≢◌, ℕ, zero, suc, ◌+◌, ◌-◌, ◌≤◌, ◌<◌, List, [], ◌∷◌, refl, sym, ap, subst, ◌∙◌, inl, inr, arith}
+use Rattle.std.proofs.Common.{◌≡◌, ◌≢◌, ℕ, zero, suc, ◌+◌, ◌-◌, ◌≤◌, ◌<◌, List, [], ◌∷◌, refl, sym, ap, ap₂, subst, ◌∙◌, inl, inr, arith}
 use Rattle.std.specs.Prelude.{ℤ}
 use Rattle.std.specs.List.{AllByRecursion}
 use Rattle.std.proofs.lemmas.Bool.{cases_order}
@@ -17,34 +17,40 @@ use Rattle.ca_rle.proofs.OneFile as rle_file
 use Rattle.ca_rle.proofs.OneFault as rle_fault
 use Rattle.ca_macro.specs.Shown as macrocell_shown
 use Rattle.ca_macro.proofs.OneMeaning as macrocell
-use Rattle.ca_plane.specs.Population.{HasFewCells}
 use Rattle.ca_plane.proofs.Populations.{not_both}
 use Rattle.ca_claims.proofs.Times.{unmoved}
 use Rattle.ca_claims.specs.declared.verdict.Why.{Why}
-use Rattle.ca_claims.specs.declared.verdict.Why.TheVariants.{Empty, Differs, Earlier}
+use Rattle.ca_claims.specs.declared.verdict.Why.TheVariants.{Empty, Differs, Earlier, Died}
 use Rattle.ca_claims.specs.declared.verdict.PatternFault.{PatternFault}
 use Rattle.ca_claims.specs.declared.verdict.PatternFault.TheVariants as pattern_fault
 use Rattle.ca_claims.specs.declared.verdict.Cause.{Cause}
 use Rattle.ca_claims.specs.declared.verdict.Cause.TheVariants.{NoFile, BadTable, BadPattern, BadRule, StateTooLarge, MixedRules, TooManyCells, Memory}
 use Rattle.ca_claims.specs.declared.claims.asks.Asks.{Asks}
 use Rattle.ca_claims.specs.declared.claims.asks.Barred.{Barred}
-use Rattle.ca_claims.specs.declared.claims.asks.Barred.TheVariants.{Nothing, InPlace, Anywhere}
+use Rattle.ca_claims.specs.declared.claims.asks.Barred.TheVariants.{Nothing, InPlace, Anywhere, EmptyPlane}
 use Rattle.ca_claims.specs.declared.format.Format.{Format}
 use Rattle.ca_claims.specs.declared.format.Format.TheVariants as formats
 use Rattle.ca_claims.specs.Means.{format_of, MeansAs, Means, IsReadableAs, IsReadable, HoldsRuledPattern, HasRuleFault}
 use Rattle.ca_claims.specs.Text.{Claim, patterns_of}
-use Rattle.ca_claims.specs.Truth.{IsNotBack, MayReturnBy, IsTrueClaim, IsReason}
-use Rattle.ca_claims.specs.Answers.{IsPatternFault, IsQuietTable, IsTableFault, HasLargeState, HasSmallStates, HoldsOfFile, IsTableAt, AreTables, IsRuled, IsMissing, IsThere, HoldsTable, IsReadableFile, HasRule, IsSmall, SomeOf, FirstBad, HaveOtherRules, FilesAreThere, TablesAreGood, PatternsAreRead, PatternsHaveRules, StatesAreSmall, AgreeOn, HasCause, IsCauseFor, IsGoodPattern, AreGood, IsJudged, IsBadTable, IsBadPattern, IsUnnamed, IsLarge}
+use Rattle.ca_claims.specs.Truth.{asks_of, wanted_cells, ShowsNothingBarred, MayReturnBy, IsTrueClaim, IsReason}
+use Rattle.ca_claims.specs.Answers.{IsPatternFault, IsQuietTable, IsTableFault, HasLargeState, HasSmallStates, HoldsOfFile, IsTableAt, AreTables, IsRuled, IsMissing, IsThere, HoldsTable, IsReadableFile, HasRule, IsSmall, SomeOf, FirstBad, HaveOtherRules, FilesAreThere, TablesAreGood, PatternsAreRead, PatternsHaveRules, StatesAreSmall, AgreeOn, HasFewCounted, HasCause, IsCauseFor, IsGoodPattern, AreGood, IsJudged, IsBadTable, IsBadPattern, IsUnnamed, IsLarge}
 use Rattle.ca_claims.proofs.PatternsRead.{ruled_path_reads}
 use Rattle.ca_claims.proofs.Zipped.{zip_left}
 
 -- ---- a claim is true or there is a reason against it, not both
 
 -- a pattern that is back by a vector that counts is back
-pub back : (next : List ℕ → ℕ) (cells : Picture) (barred : Barred) (m : ℕ) (dx dy : ℤ) → MayReturnBy barred dx dy → IsAfter next cells m (shifted cells dx dy) → IsNotBack next cells barred m → ⊥
+pub back : (next : List ℕ → ℕ) (cells : Picture) (barred : Barred) (m : ℕ) (dx dy : ℤ) → MayReturnBy barred dx dy → IsAfter next cells m (shifted cells dx dy) → ShowsNothingBarred next cells barred m → ⊥
 back next cells Nothing m dx dy may h not = may
 back next cells InPlace m dx dy may h not = not.2 (h not.0 not.1 ∙ unmoved cells dx dy not.0 not.1 may.0 may.1)
 back next cells Anywhere m dx dy may h not = not dx dy h
+back next cells EmptyPlane m dx dy may h not = may
+
+-- a plane that is empty, where that is barred, shows what is barred
+pub dead : (next : List ℕ → ℕ) (cells : Picture) (barred : Barred) (m : ℕ) → barred ≡ EmptyPlane → IsAfter next cells m [] → ShowsNothingBarred next cells barred m → ⊥
+dead next cells barred m is empty not =
+    let live = subst (λ b. ShowsNothingBarred next cells b m) is not in
+    live.2 (empty live.0 live.1)
 
 -- where there is a reason against a claim, it isn't true
 pub false_from_reason : (next : List ℕ → ℕ) (cells other : Picture) (asks : Asks) (why : Why) → IsReason next cells other asks why → IsTrueClaim next cells other asks → ⊥
@@ -52,6 +58,7 @@ false_from_reason next cells other asks Empty reason true = reason.1 (true.live 
 false_from_reason next cells other asks (Differs x y found wanted generations) reason true =
     reason.4 (sym reason.2 ∙ ap (λ n. after next cells n x y) reason.1 ∙ true.stands x y ∙ reason.3)
 false_from_reason next cells other asks (Earlier m dx dy) reason true = back next cells asks.barred m dx dy reason.4 reason.5 (true.least m reason.2 reason.3)
+false_from_reason next cells other asks (Died m) reason true = dead next cells asks.barred m reason.4 reason.5 (true.least m reason.2 reason.3)
 
 -- ---- one meaning
 
@@ -310,7 +317,7 @@ IsPast files rules paths (suc (suc (suc (suc (suc zero))))) = (tables : List Tab
 IsPast files rules paths (suc (suc (suc (suc (suc (suc n)))))) =
     (tables : List TableRule) × StatesAreSmall files rules paths tables × (SomeOf (λ p. SomeOf (HaveOtherRules files tables p) paths) paths → ⊥)
 
-module _ (files : List (List ℕ × List ℕ)) (rules paths : List (List ℕ)) where
+module _ (files : List (List ℕ × List ℕ)) (rules : List (List ℕ)) (asks : Asks) (paths : List (List ℕ)) where
   -- nor one fewer
   past_one_fewer : (n : ℕ) → IsPast files rules paths (suc n) → IsPast files rules paths n
   past_one_fewer zero h = tt
@@ -337,7 +344,7 @@ module _ (files : List (List ℕ × List ℕ)) (rules paths : List (List ℕ)) w
   past_agreed cells other rule (tables, are, good) = let one = none_mixed files tables paths cells other rule good in (tables, (are, one.0), one.1)
 
   -- a cause comes past those before it
-  past_before : (cause : Cause) → cause ≢ Memory → HasCause files rules paths cause → IsPast files rules paths (place cause)
+  past_before : (cause : Cause) → cause ≢ Memory → HasCause files rules asks paths cause → IsPast files rules paths (place cause)
   past_before NoFile m h = tt
   past_before (BadTable fault) m h = h.0
   past_before TooManyCells m (cells, other, rule, agree, some) = past_agreed cells other rule agree
@@ -350,7 +357,7 @@ module _ (files : List (List ℕ × List ℕ)) (rules paths : List (List ℕ)) w
       all_or_first (HoldsTable files) (IsBadTable files fault) (λ p. table_or_fault files p fault) rules (zip_left (IsTableAt files) (HoldsTable files) (λ path table at. (table, at)) rules tables are) first
 
   -- a cause before the one that counts cells isn't past itself
-  not_past : (cause : Cause) → suc (place cause) ≤ 6 → HasCause files rules paths cause → IsPast files rules paths (suc (place cause)) → ⊥
+  not_past : (cause : Cause) → suc (place cause) ≤ 6 → HasCause files rules asks paths cause → IsPast files rules paths (suc (place cause)) → ⊥
   not_past NoFile m (inl none) past = all_or_some (IsThere files) (IsMissing files) (there_or_none files) paths past.0 none
   not_past NoFile m (inr none) past = all_or_some (IsThere files) (IsMissing files) (there_or_none files) rules past.1 none
   not_past (BadTable fault) m h (tables, (are, past)) = tables_or_fault fault tables are h.1
@@ -367,7 +374,7 @@ module _ (files : List (List ℕ × List ℕ)) (rules paths : List (List ℕ)) w
   not_past Memory m h past = let no : ⊥ = omega arith in no
 
   -- causes at one place are one
-  same_place : (c d : Cause) → c ≢ Memory → d ≢ Memory → place c ≡ place d → HasCause files rules paths c → HasCause files rules paths d → c ≡ d
+  same_place : (c d : Cause) → c ≢ Memory → d ≢ Memory → place c ≡ place d → HasCause files rules asks paths c → HasCause files rules asks paths d → c ≡ d
   same_place Memory d m n e h k = absurd (m refl)
   same_place c Memory m n e h k = absurd (n refl)
   same_place NoFile NoFile m n e h k = refl
@@ -386,7 +393,7 @@ module _ (files : List (List ℕ × List ℕ)) (rules paths : List (List ℕ)) w
   same_place c d m n e h k = let no : ⊥ = omega arith in absurd no
 
   -- a claim has one cause, out of memory apart
-  pub one_cause : (c d : Cause) → c ≢ Memory → d ≢ Memory → HasCause files rules paths c → HasCause files rules paths d → c ≡ d
+  pub one_cause : (c d : Cause) → c ≢ Memory → d ≢ Memory → HasCause files rules asks paths c → HasCause files rules asks paths d → c ≡ d
   one_cause c d m n h k =
       elim (cases_order (place c) (place d)) [
         | inl e ↦ same_place c d m n e h k
@@ -395,45 +402,46 @@ module _ (files : List (List ℕ × List ℕ)) (rules paths : List (List ℕ)) w
       ]
 
   -- a file that isn't there goes before out of memory
-  pub no_file_or_memory : HasCause files rules paths NoFile → HasCause files rules paths Memory → ⊥
+  pub no_file_or_memory : HasCause files rules asks paths NoFile → HasCause files rules asks paths Memory → ⊥
   no_file_or_memory none (tables, (are, all), first) = not_past NoFile (omega arith) none (all, tables_there files rules tables are)
 
   -- and so does a bad table
-  pub bad_table_or_memory : (fault : TableFault) → HasCause files rules paths (BadTable fault) → HasCause files rules paths Memory → ⊥
+  pub bad_table_or_memory : (fault : TableFault) → HasCause files rules asks paths (BadTable fault) → HasCause files rules asks paths Memory → ⊥
   bad_table_or_memory fault bad (tables, (are, all), first) = tables_or_fault fault tables are bad.1
 
 -- ---- judged claims
 
-module _ (files : List (List ℕ × List ℕ)) (rules paths : List (List ℕ)) where
+module _ (files : List (List ℕ × List ℕ)) (rules : List (List ℕ)) (asks : Asks) (paths : List (List ℕ)) where
   -- a claim's patterns agree in one way
   one_agreed : (p q o v : Picture) (r s : RuleValue) → AgreeOn files rules paths p o r → AgreeOn files rules paths q v s → (p ≡ q) × (o ≡ v) × (r ≡ s)
   one_agreed p q o v r s (tables, are, good) (others, there, too) =
       one_good files tables paths p q o v r s good (of_these files rules (λ t. AreGood files t paths q v s) tables others are there too)
 
   -- where they agree, no cause holds before the one that counts cells
-  agreed_or_early : (cells other : Picture) (rule : RuleValue) (cause : Cause) → suc (place cause) ≤ 6 → AgreeOn files rules paths cells other rule → HasCause files rules paths cause → ⊥
+  agreed_or_early : (cells other : Picture) (rule : RuleValue) (cause : Cause) → suc (place cause) ≤ 6 → AgreeOn files rules paths cells other rule → HasCause files rules asks paths cause → ⊥
   agreed_or_early cells other rule cause early agree h =
-      not_past files rules paths cause early h (past_below files rules paths (suc (place cause)) 6 early (past_agreed files rules paths cells other rule agree))
+      not_past files rules asks paths cause early h (past_below files rules asks paths (suc (place cause)) 6 early (past_agreed files rules asks paths cells other rule agree))
 
-  -- nor that one, where the cells aren't too many
+  -- nor that one, where the cells that are counted aren't too many
   pub agreed_or_cause : (cells other : Picture) (rule : RuleValue) (cause : Cause) → cause ≢ Memory → AgreeOn files rules paths cells other rule
-      → (cause ≡ TooManyCells → HasFewCells (cell cells)) → HasCause files rules paths cause → ⊥
+      → HasFewCounted asks cells other → HasCause files rules asks paths cause → ⊥
   agreed_or_cause cells other rule TooManyCells m agree few (p, o, r, same, many) =
       let one = one_agreed cells p other o rule r agree same in
-      not_both (cell cells) (cell p) (λ x y. ap (λ l. cell l x y) one.0) (few refl) many
+      not_both (cell (wanted_cells asks.wanted cells other)) (cell (wanted_cells asks.wanted p o))
+      (λ x y. ap (λ l. cell l x y) (ap₂ (wanted_cells asks.wanted) one.0 one.1)) (few many.0) many.1
   agreed_or_cause cells other rule Memory m agree few h = m refl
   agreed_or_cause cells other rule cause m agree few h = agreed_or_early cells other rule cause (omega arith) agree h
 
 module _ (files : List (List ℕ × List ℕ)) (rules : List (List ℕ)) (claim : Claim) where
   -- a claim is judged or refused for a cause, not both, out of memory apart
   pub judged_or_cause : (cells other : Picture) (rule : RuleValue) (cause : Cause) → cause ≢ Memory → IsJudged files rules claim cells other rule → IsCauseFor files rules claim cause → ⊥
-  judged_or_cause cells other rule cause m judged h = agreed_or_cause files rules (patterns_of claim) cells other rule cause m judged.0 (λ e. judged.1 (h.1 e)) h.0
+  judged_or_cause cells other rule cause m judged h = agreed_or_cause files rules (asks_of claim.kind) (patterns_of claim) cells other rule cause m judged.0 judged.1 h
 
   -- a claim that is judged is true or false, not both
   pub yes_or_no : (asks : Asks) (why : Why) (p q o v : Picture) (r s : RuleValue) → IsJudged files rules claim p o r → IsJudged files rules claim q v s
       → IsTrueClaim (next_of r) p o asks → IsReason (next_of s) q v asks why → ⊥
   yes_or_no asks why p q o v r s a b true reason =
-      let one = one_agreed files rules (patterns_of claim) p q o v r s a.0 b.0 in
+      let one = one_agreed files rules (asks_of claim.kind) (patterns_of claim) p q o v r s a.0 b.0 in
       let by_rule = subst (λ u. IsTrueClaim (next_of u) p o asks) one.2 true in
       let by_cells = subst (λ c. IsTrueClaim (next_of s) c o asks) one.0 by_rule in
       false_from_reason (next_of s) q v asks why reason (subst (λ c. IsTrueClaim (next_of s) q c asks) one.1 by_cells)

@@ -1,5 +1,5 @@
 -- True answers: what a yes, a no and a refusal say of the files that were handed in, and what a refusal is about.
-use Rattle.std.specs.Prelude.{◌≡◌, ◌≢◌, ℕ, ◌≤◌, ◌<◌, ℤ, List, [], ◌∷◌, replicate, Option, Some, None, ◌⊎◌}
+use Rattle.std.specs.Prelude.{◌≡◌, ◌≢◌, ℕ, ◌≤◌, ◌<◌, ℤ, IsTrue, List, [], ◌∷◌, replicate, Option, Some, None, ◌⊎◌}
 use Rattle.std.specs.List.{AllZip, AllByRecursion}
 use Rattle.ca_plane.specs.Plane.{Picture, cell}
 use Rattle.ca_plane.specs.Population.{HasFewCells, HasTooManyCells}
@@ -24,10 +24,9 @@ use Rattle.ca_claims.specs.declared.verdict.PatternFault.TheVariants as pattern_
 use Rattle.ca_claims.specs.declared.verdict.Cause.{Cause}
 use Rattle.ca_claims.specs.declared.verdict.Cause.TheVariants.{NoFile, BadTable, BadPattern, BadRule, StateTooLarge, MixedRules, TooManyCells, Memory}
 use Rattle.ca_claims.specs.declared.claims.asks.Asks.{Asks}
-use Rattle.ca_claims.specs.declared.claims.asks.Barred.TheVariants.{Anywhere}
 use Rattle.ca_claims.specs.Text.{Claim, patterns_of}
 use Rattle.ca_claims.specs.Means.{bytes_at, format_of, IsReadable, HoldsRuledPattern, HasRuleFault, MayWantMemory}
-use Rattle.ca_claims.specs.Truth.{asks_of, IsTrueClaim, IsReason}
+use Rattle.ca_claims.specs.Truth.{asks_of, wanted_cells, IsTrueClaim, IsReason}
 
 -- the fault for which the bytes of a pattern aren't read; out of memory is none of them
 abbrev pub IsPatternFault : List ℕ → PatternFault → Type 0
@@ -185,22 +184,33 @@ StatesAreSmall files rules paths tables = AreTables files rules tables × AllByR
 abbrev pub AgreeOn : List (List ℕ × List ℕ) → (rules paths : List (List ℕ)) → Picture → Picture → RuleValue → Type 0
 AgreeOn files rules paths cells other rule = (tables : List TableRule) × AreTables files rules tables × AreGood files tables paths cells other rule
 
+-- cells are counted where the claim moves them: a spaceship's own, and those of a pattern that another becomes, moved
+abbrev pub IsCounted : Asks → Type 0
+IsCounted asks = IsTrue asks.moved
+
+-- cells are counted, and are too many; and where they are counted, they aren't
+abbrev pub HasTooManyCounted : Asks → Picture → Picture → Type 0
+HasTooManyCounted asks cells other = IsCounted asks × HasTooManyCells (cell (wanted_cells asks.wanted cells other))
+
+abbrev pub HasFewCounted : Asks → Picture → Picture → Type 0
+HasFewCounted asks cells other = IsCounted asks → HasFewCells (cell (wanted_cells asks.wanted cells other))
+
 -- the cause of a refusal: a claim gets through these stages, and this is wrong at the next. Out of memory comes at any stage
--- after the second, and only where the first of the patterns may need memory
-abbrev pub HasCause : List (List ℕ × List ℕ) → (rules paths : List (List ℕ)) → Cause → Type 0
-HasCause files rules paths NoFile = SomeOf (IsMissing files) paths ⊎ SomeOf (IsMissing files) rules
-HasCause files rules paths (BadTable fault) = FilesAreThere files rules paths × FirstBad (HoldsTable files) (IsBadTable files fault) rules
-HasCause files rules paths (BadPattern fault) =
+-- after the second, and only where the first of the patterns may need memory. The claim asks this, of patterns at these paths
+abbrev pub HasCause : List (List ℕ × List ℕ) → List (List ℕ) → Asks → (paths : List (List ℕ)) → Cause → Type 0
+HasCause files rules asks paths NoFile = SomeOf (IsMissing files) paths ⊎ SomeOf (IsMissing files) rules
+HasCause files rules asks paths (BadTable fault) = FilesAreThere files rules paths × FirstBad (HoldsTable files) (IsBadTable files fault) rules
+HasCause files rules asks paths (BadPattern fault) =
     (tables : List TableRule) × TablesAreGood files rules paths tables × FirstBad (IsReadableFile files) (IsBadPattern files fault) paths
-HasCause files rules paths (BadRule fault) =
+HasCause files rules asks paths (BadRule fault) =
     (tables : List TableRule) × PatternsAreRead files rules paths tables × FirstBad (HasRule files tables) (IsUnnamed files tables fault) paths
-HasCause files rules paths StateTooLarge =
+HasCause files rules asks paths StateTooLarge =
     (tables : List TableRule) × PatternsHaveRules files rules paths tables × SomeOf (IsLarge files tables) paths
-HasCause files rules paths MixedRules =
+HasCause files rules asks paths MixedRules =
     (tables : List TableRule) × StatesAreSmall files rules paths tables × SomeOf (λ p. SomeOf (HaveOtherRules files tables p) paths) paths
-HasCause files rules paths TooManyCells =
-    (cells : Picture) × (other : Picture) × (rule : RuleValue) × AgreeOn files rules paths cells other rule × HasTooManyCells (cell cells)
-HasCause files rules paths Memory = (tables : List TableRule) × TablesAreGood files rules paths tables × FirstIs (WantsMemory files) paths
+HasCause files rules asks paths TooManyCells =
+    (cells : Picture) × (other : Picture) × (rule : RuleValue) × AgreeOn files rules paths cells other rule × HasTooManyCounted asks cells other
+HasCause files rules asks paths Memory = (tables : List TableRule) × TablesAreGood files rules paths tables × FirstIs (WantsMemory files) paths
 
 -- What a cause is about, beside what it says. The claim as a whole: its patterns' rules differ, or memory is out
 abbrev pub IsOfClaim : Cause → Type 0
@@ -216,7 +226,7 @@ IsOfPattern files rules (BadRule fault) First line =
 IsOfPattern files rules StateTooLarge First line =
     (line ≡ None) × (tables : List TableRule) × AreTables files rules tables × First (IsSmall files tables) (IsLarge files tables)
 IsOfPattern files rules TooManyCells First line =
-    (line ≡ None) × (tables : List TableRule) × AreTables files rules tables × First (λ p. ⊥) (IsCrowded files tables)
+    (line ≡ None) × (tables : List TableRule) × AreTables files rules tables × First (IsSmall files tables) (IsCrowded files tables)
 IsOfPattern files rules cause First line = ⊥
 
 -- a rule line's file, which has this path: it is the first that is missing, where all patterns' files are there; or the first that is no
@@ -228,17 +238,13 @@ IsOfRuleFile files rules patterns (BadTable fault) path =
     FirstBad (HoldsTable files) (λ r. (r ≡ path) × IsBadTable files fault r) rules
 IsOfRuleFile files rules patterns cause path = ⊥
 
--- cells are counted only of a pattern that may be back anywhere, that of a spaceship
-abbrev pub IsCounted : Asks → Type 0
-IsCounted asks = asks.barred ≡ Anywhere
-
--- the cause is that of a claim that asks this: it holds of the claim's patterns, and too many cells only where they are counted
+-- the cause is that of the claim
 abbrev pub IsCauseFor : List (List ℕ × List ℕ) → List (List ℕ) → Claim → Cause → Type 0
-IsCauseFor files rules claim cause = HasCause files rules (patterns_of claim) cause × (cause ≡ TooManyCells → IsCounted (asks_of claim.kind))
+IsCauseFor files rules claim cause = HasCause files rules (asks_of claim.kind) (patterns_of claim) cause
 
--- no cause but out of memory is that of the claim: besides its pattern hasn't too many cells, where they are counted
+-- no cause but out of memory is that of the claim: its patterns agree, and the cells that are counted aren't too many
 abbrev pub IsJudged : List (List ℕ × List ℕ) → List (List ℕ) → Claim → Picture → Picture → RuleValue → Type 0
-IsJudged files rules claim cells other rule = AgreeOn files rules (patterns_of claim) cells other rule × (IsCounted (asks_of claim.kind) → HasFewCells (cell cells))
+IsJudged files rules claim cells other rule = AgreeOn files rules (patterns_of claim) cells other rule × HasFewCounted (asks_of claim.kind) cells other
 
 -- a verdict is true: a yes of a claim that is true of the planes that the files mean, a no of one that is false, with the
 -- reason, and a refusal with its cause; a yes and a no come only where no cause but out of memory holds

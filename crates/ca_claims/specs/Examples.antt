@@ -5,8 +5,8 @@ use Rattle.ca_rule.specs.Counts.{counts_of}
 use Rattle.ca_rule.specs.Next.{bs_next}
 use Rattle.ca_rule.specs.declared.hood.Hood.TheVariants.{Moore}
 use Rattle.ca_claims.specs.declared.claims.line.Kind.{Kind}
-use Rattle.ca_claims.specs.declared.claims.line.Kind.TheVariants.{Still, Oscillator, Spaceship, Becomes}
-use Rattle.ca_claims.specs.Text.{Claim, ClaimTextLine, Rule, Load, Claims, ClaimText}
+use Rattle.ca_claims.specs.declared.claims.line.Kind.TheVariants.{Still, Oscillator, Spaceship, Becomes, BecomesShifted, Dies}
+use Rattle.ca_claims.specs.Text.{Claim, ClaimTextLine, Version, Rule, Load, Claims, ClaimText}
 
 -- a claim about one pattern
 abbrev pub of_one : List ℕ → Kind → Claim
@@ -130,6 +130,35 @@ no_shift_text = text_of (codes "load a p" ∷ codes "spaceship a 4 0 0" ∷ [])
 -- a period that is no oscillator's, of a name that isn't loaded
 abbrev pub no_period_text : List ℕ
 no_period_text = codes "oscillator b 1"
+
+-- a text of the second version, with both claims that came with it
+abbrev pub second_text : List ℕ
+second_text = text_of (codes "# a comment" ∷ codes "claims 2" ∷ codes "load a p" ∷ codes "becomes a 0 a shift -1 2" ∷ codes "dies a 3" ∷ [])
+
+-- what its lines say
+abbrev pub second_said : List (Option ClaimTextLine)
+second_said =
+    None ∷ Some Version ∷ Some (Load (codes "a") (codes "p"))
+    ∷ Some (Claims (record { pattern = codes "a"; other = Some (codes "a"); kind = BecomesShifted 0 (neg_ℤ (pos 1)) (pos 2) }))
+    ∷ Some (Claims (of_one (codes "a") (Dies 3))) ∷ []
+
+-- a version after another line, one that is told twice, and one that isn't known
+abbrev pub late_version_text : List ℕ
+late_version_text = text_of (codes "load a p" ∷ codes "claims 2" ∷ [])
+
+abbrev pub two_versions_text : List ℕ
+two_versions_text = text_of (codes "claims 2" ∷ codes "claims 2" ∷ [])
+
+abbrev pub third_version_text : List ℕ
+third_version_text = codes "claims 3"
+
+-- a claim of the second version in a text of the first
+abbrev pub early_claim_text : List ℕ
+early_claim_text = text_of (codes "load a p" ∷ codes "dies a 1" ∷ [])
+
+-- a pattern that dies at once
+abbrev pub no_life_text : List ℕ
+no_life_text = text_of (codes "claims 2" ∷ codes "dies a 0" ∷ [])
 
 -- the next state under Conway's Life, `B3/S23`
 abbrev pub life : List ℕ → ℕ

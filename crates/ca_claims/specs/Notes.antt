@@ -4,7 +4,7 @@ use Rattle.ca_claims.specs.declared.note.Note.{Note}
 use Rattle.ca_claims.specs.declared.note.Note.TheVariants.{Nothing, Cell, Pattern, RuleFile}
 use Rattle.ca_claims.specs.declared.verdict.Verdict.{Verdict}
 use Rattle.ca_claims.specs.declared.verdict.Verdict.TheVariants.{Yes, No, Refused}
-use Rattle.ca_claims.specs.declared.verdict.Why.TheVariants.{Empty, Differs, Earlier}
+use Rattle.ca_claims.specs.declared.verdict.Why.TheVariants.{Empty, Differs, Earlier, Died}
 use Rattle.ca_claims.specs.declared.verdict.Cause.{Cause}
 use Rattle.ca_claims.specs.Answers.{FirstBad, FirstIs, IsOfClaim, IsOfPattern, IsOfRuleFile}
 
@@ -27,6 +27,7 @@ HasNote Yes = ⊥
 HasNote (No Empty) = ⊥
 HasNote (No (Differs x y found wanted generations)) = Unit {0}
 HasNote (No (Earlier m dx dy)) = ⊥
+HasNote (No (Died m)) = ⊥
 HasNote (Refused cause) = IsOfClaim cause → ⊥
 
 -- where the verdict has a note, it is given

@@ -1,30 +1,33 @@
 -- Which claims are true of pictures under a rule, and what a verdict has to show (our own; docs/CLAIMS.md).
-use Rattle.std.specs.Prelude.{◌≡◌, ◌≢◌, ℕ, ◌≤◌, ◌<◌, ℤ, pos, List, true, false, IsTrue}
+use Rattle.std.specs.Prelude.{◌≡◌, ◌≢◌, ℕ, ◌≤◌, ◌<◌, ℤ, pos, List, [], true, false, IsTrue}
 use Rattle.ca_plane.specs.Plane.{Picture, cell, shifted, IsLive}
 use Rattle.ca_plane.specs.Generations.{after, IsAfter}
 use Rattle.ca_claims.specs.declared.claims.line.Kind.{Kind}
-use Rattle.ca_claims.specs.declared.claims.line.Kind.TheVariants.{Still, Oscillator, Spaceship, Becomes}
+use Rattle.ca_claims.specs.declared.claims.line.Kind.TheVariants.{Still, Oscillator, Spaceship, Becomes, BecomesShifted, Dies}
 use Rattle.ca_claims.specs.declared.claims.asks.Asks.{Asks}
 use Rattle.ca_claims.specs.declared.claims.asks.Wanted.{Wanted}
-use Rattle.ca_claims.specs.declared.claims.asks.Wanted.TheVariants.{Own, Other}
+use Rattle.ca_claims.specs.declared.claims.asks.Wanted.TheVariants.{Own, Other, NoCells}
 use Rattle.ca_claims.specs.declared.claims.asks.Barred.{Barred}
-use Rattle.ca_claims.specs.declared.claims.asks.Barred.TheVariants.{Nothing, InPlace, Anywhere}
+use Rattle.ca_claims.specs.declared.claims.asks.Barred.TheVariants.{Nothing, InPlace, Anywhere, EmptyPlane}
 use Rattle.ca_claims.specs.declared.verdict.Why.{Why}
-use Rattle.ca_claims.specs.declared.verdict.Why.TheVariants.{Empty, Differs, Earlier}
+use Rattle.ca_claims.specs.declared.verdict.Why.TheVariants.{Empty, Differs, Earlier, Died}
 
--- what each kind of claim asks: whether the pattern must be live; after how many generations which cells are wanted,
--- the pattern's own or the other's, moved by (dx, dy); and what no earlier time, starting at 1, may show: nothing is
--- barred, or the pattern in its place, or the pattern anywhere
+-- what each kind of claim asks: whether the pattern must be live; after how many generations which cells are wanted, the pattern's own,
+-- the other's or none, moved by (dx, dy); whether the claim moves them; and what no earlier time, starting at 1, may show: nothing is
+-- barred, or the pattern in its place, or the pattern anywhere, or an empty plane
 abbrev pub asks_of : Kind → Asks
-asks_of Still = record { live = true; generations = 1; wanted = Own; dx = pos 0; dy = pos 0; barred = Nothing }
-asks_of (Oscillator period) = record { live = true; generations = period; wanted = Own; dx = pos 0; dy = pos 0; barred = InPlace }
-asks_of (Spaceship period dx dy) = record { live = true; generations = period; wanted = Own; dx = dx; dy = dy; barred = Anywhere }
-asks_of (Becomes generations) = record { live = false; generations = generations; wanted = Other; dx = pos 0; dy = pos 0; barred = Nothing }
+asks_of Still = record { live = true; generations = 1; wanted = Own; dx = pos 0; dy = pos 0; moved = false; barred = Nothing }
+asks_of (Oscillator period) = record { live = true; generations = period; wanted = Own; dx = pos 0; dy = pos 0; moved = false; barred = InPlace }
+asks_of (Spaceship period dx dy) = record { live = true; generations = period; wanted = Own; dx = dx; dy = dy; moved = true; barred = Anywhere }
+asks_of (Becomes generations) = record { live = false; generations = generations; wanted = Other; dx = pos 0; dy = pos 0; moved = false; barred = Nothing }
+asks_of (BecomesShifted generations dx dy) = record { live = false; generations = generations; wanted = Other; dx = dx; dy = dy; moved = true; barred = Nothing }
+asks_of (Dies generations) = record { live = true; generations = generations; wanted = NoCells; dx = pos 0; dy = pos 0; moved = false; barred = EmptyPlane }
 
--- the cells that are wanted: the pattern's own, or the other's
+-- the cells that are wanted: the pattern's own, the other's, or none
 abbrev pub wanted_cells : Wanted → Picture → Picture → Picture
 wanted_cells Own cells other = cells
 wanted_cells Other cells other = other
+wanted_cells NoCells cells other = []
 
 -- the claimed cells: those that are wanted, moved by the vector
 abbrev pub claimed : Asks → Picture → Picture → Picture
@@ -38,27 +41,34 @@ IsChanged next cells n = (x : ℤ) × (y : ℤ) × (after next cells n x y ≢ c
 abbrev pub IsNowhere : (List ℕ → ℕ) → Picture → ℕ → Type 0
 IsNowhere next cells n = (dx dy : ℤ) → IsAfter next cells n (shifted cells dx dy) → ⊥
 
--- after n generations nothing is shown that is barred: the pattern in its place, or the pattern anywhere
-abbrev pub IsNotBack : (List ℕ → ℕ) → Picture → Barred → ℕ → Type 0
-IsNotBack next cells Nothing n = Unit {0}
-IsNotBack next cells InPlace n = IsChanged next cells n
-IsNotBack next cells Anywhere n = IsNowhere next cells n
+-- after n generations some cell is live
+abbrev pub IsLiveAfter : (List ℕ → ℕ) → Picture → ℕ → Type 0
+IsLiveAfter next cells n = (x : ℤ) × (y : ℤ) × (after next cells n x y ≢ 0)
+
+-- after n generations nothing is shown that is barred: the pattern in its place, the pattern anywhere, or an empty plane
+abbrev pub ShowsNothingBarred : (List ℕ → ℕ) → Picture → Barred → ℕ → Type 0
+ShowsNothingBarred next cells Nothing n = Unit {0}
+ShowsNothingBarred next cells InPlace n = IsChanged next cells n
+ShowsNothingBarred next cells Anywhere n = IsNowhere next cells n
+ShowsNothingBarred next cells EmptyPlane n = IsLiveAfter next cells n
 
 -- a claim that asks this is true: the pattern is live where it must be, the claimed cells stand after the claimed generations,
 -- and no earlier time, starting at 1, shows what is barred
 pub record IsTrueClaim (next : List ℕ → ℕ) (cells other : Picture) (asks : Asks) : Type 0 where
   pub live : IsTrue asks.live → IsLive cells
   pub stands : IsAfter next cells asks.generations (claimed asks cells other)
-  pub least : (m : ℕ) → 1 ≤ m → m < asks.generations → IsNotBack next cells asks.barred m
+  pub least : (m : ℕ) → 1 ≤ m → m < asks.generations → ShowsNothingBarred next cells asks.barred m
 
--- the vector by which an earlier return is barred: (0, 0) in its place, and any anywhere
+-- the vector by which an earlier return is barred: (0, 0) in its place, any anywhere, and else none
 abbrev pub MayReturnBy : Barred → ℤ → ℤ → Type 0
 MayReturnBy Nothing dx dy = ⊥
 MayReturnBy InPlace dx dy = (dx ≡ pos 0) × (dy ≡ pos 0)
 MayReturnBy Anywhere dx dy = Unit {0}
+MayReturnBy EmptyPlane dx dy = ⊥
 
 -- a claim that asks this is false for this reason: the pattern must be live and isn't; or a cell after the claimed generations
--- isn't the claimed one; or the claimed cells stand, but the pattern is back at an earlier time, and at no time before that
+-- isn't the claimed one; or the claimed cells stand, but what is barred is shown at an earlier time, and at no time before that: the pattern
+-- is back, or the plane is empty
 abbrev pub IsReason : (List ℕ → ℕ) → Picture → Picture → Asks → Why → Type 0
 IsReason next cells other asks Empty = IsTrue asks.live × (IsLive cells → ⊥)
 IsReason next cells other asks (Differs x y found wanted generations) = (IsTrue asks.live → IsLive cells)
@@ -67,16 +77,17 @@ IsReason next cells other asks (Differs x y found wanted generations) = (IsTrue 
 IsReason next cells other asks (Earlier m dx dy) = IsLive cells
     × IsAfter next cells asks.generations (claimed asks cells other) × (1 ≤ m) × (m < asks.generations)
     × MayReturnBy asks.barred dx dy × IsAfter next cells m (shifted cells dx dy)
-    × ((k : ℕ) → 1 ≤ k → k < m → IsNotBack next cells asks.barred k)
+    × ((k : ℕ) → 1 ≤ k → k < m → ShowsNothingBarred next cells asks.barred k)
+IsReason next cells other asks (Died m) = IsLive cells
+    × IsAfter next cells asks.generations (claimed asks cells other) × (1 ≤ m) × (m < asks.generations)
+    × (asks.barred ≡ EmptyPlane) × IsAfter next cells m []
+    × ((k : ℕ) → 1 ≤ k → k < m → ShowsNothingBarred next cells asks.barred k)
 
--- two reasons are of one kind: both want of live cells; or both cells that differ, after as many generations; or one earlier return
+-- two reasons are of one kind: both want of live cells; or both cells that differ, after as many generations; or one earlier return, or one
+-- earlier death
 abbrev pub IsSameReason : Why → Why → Type 0
 IsSameReason Empty Empty = Unit {0}
 IsSameReason (Differs x y found wanted g) (Differs u v shown asked h) = g ≡ h
 IsSameReason (Earlier m dx dy) (Earlier n u v) = (m ≡ n) × (dx ≡ u) × (dy ≡ v)
-IsSameReason Empty (Differs x y found wanted g) = ⊥
-IsSameReason Empty (Earlier m dx dy) = ⊥
-IsSameReason (Differs x y found wanted g) Empty = ⊥
-IsSameReason (Differs x y found wanted g) (Earlier m dx dy) = ⊥
-IsSameReason (Earlier m dx dy) Empty = ⊥
-IsSameReason (Earlier m dx dy) (Differs x y found wanted g) = ⊥
+IsSameReason (Died m) (Died n) = m ≡ n
+IsSameReason one two = ⊥

@@ -1,13 +1,14 @@
 //! What is judged of the cells of a tree.
 
-ghost use Rattle.std.specs.Prelude.{IsTrue, IsFalse, IfOk, MatchOption};
+ghost use Rattle.std.specs.Prelude.{◌≤◌, IsTrue, IsFalse, IfOk, MatchOption};
 ghost use Rattle.ca_quad.specs.Trees.{IsTree, cell};
 ghost use Rattle.ca_macro.specs.Pattern.{AreInRange};
-ghost use Rattle.ca_plane.specs.Population.{HasTooManyCells};
+ghost use Rattle.ca_plane.specs.Population.{HasFewCells, HasTooManyCells};
 ghost use Rattle.ca_rule.specs.Rule.{rule_value};
 ghost use Rattle.ca_claims.specs.Answers.{HasLargeState, HasSmallStates};
 ghost use Rattle.ca_claims.specs.inner.Cells.{IsPlaneOf};
 
+use ca_plane::limits::MOST_CELLS;
 use ca_plane::{Automaton, Memory, Plane};
 use ca_quad::{QuadFault, Store, Tree};
 use ca_rule::Rule;
@@ -28,6 +29,17 @@ pub(crate) fn has_large_state(
 {
     let greatest = store.greatest_state(alloc, tree)?;
     Ok(u16::from(greatest) >= rule.states())
+}
+
+/// Whether more cells of the tree, whose level is at most 63, are live than are handled one by one.
+pub(crate) fn has_too_many_cells(alloc: Global, store: &Store, tree: Tree) -> Result<bool, Memory>
+    requires tree { IsTree store.now tree }
+    requires level { tree.level ≤ 63 }
+    ensures many { IfOk result (λ many. IsTrue many → HasTooManyCells (cell store.now tree)) }
+    ensures few { IfOk result (λ many. IsFalse many → HasFewCells (cell store.now tree)) }
+{
+    let count = store.population(alloc, tree)?;
+    Ok(count > u128::from(MOST_CELLS))
 }
 
 /// The plane with the cells of the tree. None where it has too many.

@@ -16,6 +16,7 @@ mod marks;
 mod numbers;
 mod paths;
 mod reading;
+mod version;
 mod words;
 
 use crate::verifier::OneOrTwo;

@@ -3,15 +3,16 @@
 ghost use Rattle.std.specs.Prelude.{◌≡◌, ◌≢◌, ◌≤◌, ◌^◌, ℤ, None, IfOk, IfSome, IsTrue, IsFalse, MatchOption};
 ghost use Rattle.ca_plane.specs.Plane.{Picture, cell as plane_cell};
 ghost use Rattle.ca_plane.specs.Generations.{after, IsAfter};
-ghost use Rattle.ca_plane.specs.Box.{LeavesPlane};
 ghost use Rattle.ca_quad.specs.Boxes.{IsDead};
 ghost use Rattle.ca_quad.specs.Trees.{cell};
 ghost use Rattle.ca_run.specs.Leaping.{LeaperGrows};
+ghost use Rattle.ca_claims.specs.Text.{IsShift};
 ghost use Rattle.ca_claims.specs.Truth.{claimed, IsTrueClaim, IsReason};
 ghost use Rattle.ca_claims.specs.inner.Decided.{IsDecided};
 ghost use Rattle.ca_claims.specs.inner.Subjects.{ShowsTree, IsPattern, IsNearTree, IsCase, AreShown, HasLive};
-ghost use Rattle.ca_claims.specs.inner.Subjects.{IsEndTree, IsMoved, IsDifference, wanted_tree};
+ghost use Rattle.ca_claims.specs.inner.Subjects.{IsEndTree, IsMoved, IsDifference};
 
+mod deaths;
 mod divisors;
 mod returns;
 
@@ -21,6 +22,7 @@ use crate::verdict::{Cause, Verdict, Why};
 use ca_plane::{Automaton, Memory, MoveFault, Plane};
 use ca_quad::{Spot, Store, Tree};
 use ca_run::{LeapFault, Leaper};
+use deaths::first_death;
 use returns::first_return;
 use std::alloc::Global;
 
@@ -33,13 +35,11 @@ pub(crate) struct Subject {
     pub(crate) other: Tree,
 }
 
-/// What is judged: the trees of a claim's patterns, the plane of the first one where the claim moves it, and
-/// what the claim asks.
+/// What is judged: the trees of a claim's patterns, and what the claim asks.
 #[derive(Drop)]
 pub(crate) struct Case {
     pub(crate) alloc: Global,
     pub(crate) subject: Subject,
-    pub(crate) plane: Option<Plane>,
     pub(crate) asks: Asks,
 }
 
@@ -82,6 +82,7 @@ fn why_not<A: Automaton, O: Observer>(
     }
     match case.asks.barred {
         Barred::Nothing => Ok(None),
+        Barred::EmptyPlane => first_death(leaper, case, observer),
         _ => first_return(leaper, case, observer),
     }
 }
@@ -97,13 +98,13 @@ fn is_wrongly_dead<A: Automaton>(leaper: &Leaper<A>, case: &Case) -> bool
     case.asks.live && is_dead(leaper.store(), &case.subject.pattern)
 }
 
-// Whether no cell of a pattern's tree is live.
-fn is_dead(store: &Store, pattern: &Tree) -> bool
-    requires { IsPattern store.now pattern.now }
-    ensures dead { IsTrue result → IsDead (cell store.now pattern.now) }
-    ensures live { IsFalse result → HasLive (cell store.now pattern.now) }
+// Whether no cell of a tree is live.
+fn is_dead(store: &Store, tree: &Tree) -> bool
+    requires { IsNearTree store.now tree.now }
+    ensures dead { IsTrue result → IsDead (cell store.now tree.now) }
+    ensures live { IsFalse result → HasLive (cell store.now tree.now) }
 {
-    store.is_empty(pattern.root)
+    store.is_empty(tree.root)
 }
 
 // Where the cells after the claim's generations aren't the claimed ones, if they aren't.
@@ -138,26 +139,46 @@ fn claimed_tree<A: Automaton>(leaper: &mut Leaper<A>, case: &Case) -> Result<Tre
         → IfOk result (λ tree. ShowsTree leaper.new.nodes tree (claimed case.now.asks cells other)) }
     ensures goes_on { LeaperGrows A leaper.old leaper.new }
 {
-    // Says what holds of every leaper.
-    let _ = leaper.store();
     let asks = case.asks;
-    let Some(plane) = &case.plane else {
-        return Ok(wanted_tree(asks.wanted, &case.subject));
-    };
-    let Some(moved) = moved_tree(case.alloc, leaper, plane, asks.dx, asks.dy)? else {
-        unreachable!();
-    };
-    Ok(moved)
+    match asks.wanted {
+        Wanted::Own => moved_tree(leaper, copy(&case.subject.pattern), asks.dx, asks.dy),
+        Wanted::Other => moved_tree(leaper, copy(&case.subject.other), asks.dx, asks.dy),
+        Wanted::NoCells => empty_tree(case.alloc, leaper),
+    }
 }
 
-// The tree whose cells are wanted.
-fn wanted_tree(wanted: Wanted, subject: &Subject) -> Tree
-    ensures { result ≡ wanted_tree wanted subject.now }
+// The tree of a pattern, moved by a shift.
+fn moved_tree<A: Automaton>(
+    leaper: &mut Leaper<A>,
+    pattern: Tree,
+    dx: i64,
+    dy: i64,
+) -> Result<Tree, Memory>
+    requires pattern { IsPattern leaper.old.nodes pattern }
+    requires right { IsShift dx }
+    requires down { IsShift dy }
+    ensures moved { IfOk result (IsMoved leaper.old.nodes pattern dx dy leaper.new.nodes) }
+    ensures goes_on { LeaperGrows A leaper.old leaper.new }
 {
-    match wanted {
-        Wanted::Own => copy(&subject.pattern),
-        Wanted::Other => copy(&subject.other),
+    // Says what holds of every leaper.
+    let _ = leaper.store();
+    if dx == 0 && dy == 0 {
+        return Ok(pattern);
     }
+    match leaper.shifted(pattern, dx, dy) {
+        Ok(moved) => Ok(moved),
+        Err(MoveFault::Memory) => Err(Memory),
+        Err(MoveFault::Range) => unreachable!(),
+    }
+}
+
+// The tree of an empty plane.
+fn empty_tree<A: Automaton>(alloc: Global, leaper: &mut Leaper<A>) -> Result<Tree, Memory>
+    ensures near { IfOk result (IsNearTree leaper.new.nodes) }
+    ensures dead { IfOk result (λ tree. IsDead (cell leaper.new.nodes tree)) }
+    ensures goes_on { LeaperGrows A leaper.old leaper.new }
+{
+    leaper.load_plane(&Plane::new(alloc))
 }
 
 // The same tree.
@@ -260,27 +281,4 @@ fn difference_at(store: &Store, end: Tree, wanted: Tree, at: Spot, gens: u64) ->
         claimed,
         gens,
     }
-}
-
-// The tree of a moved plane. None where a live cell would leave the square of a plane.
-pub(crate) fn moved_tree<A: Automaton>(
-    alloc: Global,
-    leaper: &mut Leaper<A>,
-    plane: &Plane,
-    dx: i64,
-    dy: i64,
-) -> Result<Option<Tree>, Memory>
-    ensures moved { IfOk result
-        (λ tree. MatchOption tree (LeavesPlane plane.now dx dy) (IsMoved plane.now dx dy leaper.new.nodes)) }
-    ensures goes_on { LeaperGrows A leaper.old leaper.new }
-{
-    // Says what holds of every leaper.
-    let _ = leaper.store();
-    let moved = match plane.translated(alloc, dx, dy) {
-        Ok(moved) => moved,
-        Err(MoveFault::Memory) => return Err(Memory),
-        Err(MoveFault::Range) => return Ok(None),
-    };
-    let tree = leaper.load_plane(&moved)?;
-    Ok(Some(tree))
 }

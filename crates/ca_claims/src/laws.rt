@@ -8,7 +8,9 @@ ghost use Rattle.ca_claims.specs.Examples.{block_text, block_said, block_asked, 
 ghost use Rattle.ca_claims.specs.Examples.{every_asked, rule_line_text, table_said, tables_text, tables_said};
 ghost use Rattle.ca_claims.specs.Examples.{tables_asked, spare_said, two_tables_text, unknown_text};
 ghost use Rattle.ca_claims.specs.Examples.{other_unknown_text, taken_text, misspelled_text, no_number_text};
-ghost use Rattle.ca_claims.specs.Examples.{no_shift_text, no_period_text};
+ghost use Rattle.ca_claims.specs.Examples.{no_shift_text, no_period_text, second_text, second_said};
+ghost use Rattle.ca_claims.specs.Examples.{late_version_text, two_versions_text, third_version_text};
+ghost use Rattle.ca_claims.specs.Examples.{early_claim_text, no_life_text};
 ghost use Rattle.ca_claims.specs.declared.fault.ClaimFault.{ClaimFault};
 ghost use Rattle.ca_claims.specs.declared.fault.ClaimFault.TheVariants as fault;
 
@@ -63,4 +65,11 @@ pub fn worked_examples()
     ensures no_shift { IsFirstClaimFault no_shift_text (fault.Number 2) }
     // A number comes before an unknown name.
     ensures no_period { IsFirstClaimFault no_period_text (fault.Number 1) }
+    // The second version, which is told once, before all others, and needed by the claims that came with it.
+    ensures second { IsClaimText second_text second_said }
+    ensures late_version { IsFirstClaimFault late_version_text (fault.Syntax 2) }
+    ensures two_versions { IsFirstClaimFault two_versions_text (fault.Syntax 2) }
+    ensures third_version { IsFirstClaimFault third_version_text (fault.Syntax 1) }
+    ensures early_claim { IsFirstClaimFault early_claim_text (fault.Syntax 2) }
+    ensures no_life { IsFirstClaimFault no_life_text (fault.Number 2) }
 {}

@@ -9,7 +9,7 @@ pub trait Observer: Watch {
     fn begins(&mut self, line: u64);
 
     /// The cells of its pattern are looked for after so many generations: those of the claim, or an earlier
-    /// time at which the pattern may be back.
+    /// time at which the pattern may be back or dead.
     fn goes_to(&mut self, generations: u64);
 
     /// The claim is judged.

@@ -27,6 +27,11 @@ pub enum Why {
         dx: i64,
         dy: i64,
     },
+    /// The plane is empty after the claimed generations, but after `m` generations, fewer than that, it was
+    /// already; and after no fewer.
+    Died {
+        m: u64,
+    },
 }
 
 /// Why a pattern wasn't read.
@@ -68,7 +73,8 @@ pub enum Cause {
     /// The two patterns have different rules.
     #[error("mixed rules")]
     MixedRules,
-    /// A pattern has more than 16777216 live cells.
+    /// A pattern whose cells the claim moves has more than 16777216 live cells: a spaceship's, or the one that
+    /// another becomes, with a shift.
     #[error("too many cells")]
     TooManyCells,
     /// A growth was refused.

@@ -2,19 +2,20 @@
 //! one shows; a no means that the claim is false, and it's false for one kind of reason; a file has one
 //! meaning; and, out of memory apart, only one kind of verdict is true of a claim.
 
-ghost use Rattle.std.specs.Prelude.{◌≡◌, ◌≢◌, ℕ, ◌≤◌, ◌<◌, ◌↔◌, ℤ, List, pos, negsuc};
+ghost use Rattle.std.specs.Prelude.{◌≡◌, ◌≢◌, ℕ, suc, ◌≤◌, ◌<◌, ◌↔◌, ℤ, List, [], replicate, pos, negsuc};
 ghost use Rattle.ca_plane.specs.Plane.{Picture, cell, shifted, IsLive};
 ghost use Rattle.ca_plane.specs.Generations.{after, IsAfter};
 ghost use Rattle.ca_claims.specs.declared.claims.line.Kind.{Kind};
 ghost use Rattle.ca_claims.specs.declared.claims.line.Kind.TheVariants.{Still, Oscillator, Spaceship};
-ghost use Rattle.ca_claims.specs.declared.claims.line.Kind.TheVariants.{Becomes};
+ghost use Rattle.ca_claims.specs.declared.claims.line.Kind.TheVariants.{Becomes, BecomesShifted, Dies};
 ghost use Rattle.ca_claims.specs.Text.{Claim};
 ghost use Rattle.ca_claims.specs.Means.{Means};
-ghost use Rattle.ca_claims.specs.Truth.{asks_of, IsChanged, IsNowhere, IsTrueClaim, IsReason, IsSameReason};
+ghost use Rattle.ca_claims.specs.Truth.{asks_of, IsChanged, IsNowhere, IsLiveAfter, IsTrueClaim};
+ghost use Rattle.ca_claims.specs.Truth.{IsReason, IsSameReason};
 ghost use Rattle.ca_claims.specs.Answers.{IsTrueVerdict};
 ghost use Rattle.ca_claims.specs.Examples.{life, blinker, block};
 ghost use Rattle.ca_claims.specs.declared.verdict.Why.{Why};
-ghost use Rattle.ca_claims.specs.declared.verdict.Why.TheVariants.{Empty, Differs, Earlier};
+ghost use Rattle.ca_claims.specs.declared.verdict.Why.TheVariants.{Empty, Differs, Earlier, Died};
 ghost use Rattle.ca_claims.specs.declared.verdict.Verdict.TheVariants.{Yes, No, Refused};
 ghost use Rattle.ca_claims.specs.declared.verdict.Cause.{Cause};
 ghost use Rattle.ca_claims.specs.declared.verdict.Cause.TheVariants.{NoFile, BadTable, Memory};
@@ -35,11 +36,28 @@ pub fn true_claims()
     ensures becomes { (next : List ℕ → ℕ) (cells other : Picture) (generations : ℕ)
         → IsTrueClaim next cells other (asks_of (Becomes generations))
         ↔ IsAfter next cells generations other }
+    ensures becomes_shifted { (next : List ℕ → ℕ) (cells other : Picture) (generations : ℕ) (dx dy : ℤ)
+        → IsTrueClaim next cells other (asks_of (BecomesShifted generations dx dy))
+        ↔ IsAfter next cells generations (shifted other dx dy) }
+    ensures dies { (next : List ℕ → ℕ) (cells other : Picture) (generations : ℕ)
+        → IsTrueClaim next cells other (asks_of (Dies generations))
+        ↔ (IsLive cells × IsAfter next cells generations []
+        × ((m : ℕ) → 1 ≤ m → m < generations → IsLiveAfter next cells m)) }
+{}
+
+/// Under a rule that doesn't wake it an empty plane stays empty. So a pattern dies after some generations, at
+/// least 1, exactly where the plane is empty then, and one generation before some cell is live.
+pub fn death_by_the_last_generation()
+    ensures empty_stays { (next : List ℕ → ℕ) (cells : Picture) → next (replicate 9 0) ≡ 0
+        → (m n : ℕ) → m ≤ n → IsAfter next cells m [] → IsAfter next cells n [] }
+    ensures dies { (next : List ℕ → ℕ) (cells other : Picture) → next (replicate 9 0) ≡ 0 → (n : ℕ)
+        → IsTrueClaim next cells other (asks_of (Dies (suc n)))
+        ↔ (IsAfter next cells (suc n) [] × IsLiveAfter next cells n) }
 {}
 
 /// What it means that there is a reason against a claim of each kind: no cell is live, a cell after the
-/// claimed generations isn't the claimed one, or the claimed cells stand and the pattern is back at an
-/// earlier time, and at none before that.
+/// claimed generations isn't the claimed one, or the claimed cells stand and the pattern is back, or the plane
+/// empty, at an earlier time, and at none before that.
 pub fn false_claims()
     ensures still_empty { (next : List ℕ → ℕ) (cells other : Picture)
         → IsReason next cells other (asks_of Still) Empty ↔ (IsLive cells → ⊥) }
@@ -82,6 +100,31 @@ pub fn false_claims()
         × (found ≢ wanted)) }
     ensures becomes_earlier { (next : List ℕ → ℕ) (cells other : Picture) (generations m : ℕ) (dx dy : ℤ)
         → IsReason next cells other (asks_of (Becomes generations)) (Earlier m dx dy) → ⊥ }
+    ensures shifted_empty { (next : List ℕ → ℕ) (cells other : Picture) (generations : ℕ) (dx dy : ℤ)
+        → IsReason next cells other (asks_of (BecomesShifted generations dx dy)) Empty → ⊥ }
+    ensures shifted_differs { (next : List ℕ → ℕ) (cells other : Picture) (generations : ℕ) (dx dy x y : ℤ)
+        (found wanted n : ℕ)
+        → IsReason next cells other (asks_of (BecomesShifted generations dx dy)) (Differs x y found wanted n)
+        ↔ ((n ≡ generations) × (after next cells generations x y ≡ found)
+        × (cell (shifted other dx dy) x y ≡ wanted) × (found ≢ wanted)) }
+    ensures shifted_earlier { (next : List ℕ → ℕ) (cells other : Picture) (generations m : ℕ)
+        (dx dy u v : ℤ)
+        → IsReason next cells other (asks_of (BecomesShifted generations dx dy)) (Earlier m u v) → ⊥ }
+    ensures dies_empty { (next : List ℕ → ℕ) (cells other : Picture) (generations : ℕ)
+        → IsReason next cells other (asks_of (Dies generations)) Empty ↔ (IsLive cells → ⊥) }
+    ensures dies_differs { (next : List ℕ → ℕ) (cells other : Picture) (generations : ℕ) (x y : ℤ)
+        (found wanted n : ℕ)
+        → IsReason next cells other (asks_of (Dies generations)) (Differs x y found wanted n)
+        ↔ (IsLive cells × (n ≡ generations) × (after next cells generations x y ≡ found) × (wanted ≡ 0)
+        × (found ≢ wanted)) }
+    ensures dies_earlier { (next : List ℕ → ℕ) (cells other : Picture) (generations m : ℕ) (dx dy : ℤ)
+        → IsReason next cells other (asks_of (Dies generations)) (Earlier m dx dy) → ⊥ }
+    ensures dies_died { (next : List ℕ → ℕ) (cells other : Picture) (generations m : ℕ)
+        → IsReason next cells other (asks_of (Dies generations)) (Died m)
+        ↔ (IsLive cells × IsAfter next cells generations [] × (1 ≤ m) × (m < generations)
+        × IsAfter next cells m [] × ((k : ℕ) → 1 ≤ k → k < m → IsLiveAfter next cells k)) }
+    ensures only_dies_died { (next : List ℕ → ℕ) (cells other : Picture) (kind : Kind) (m : ℕ)
+        → IsReason next cells other (asks_of kind) (Died m) → (n : ℕ) × (kind ≡ Dies n) }
 {}
 
 /// Where there is a reason against a claim, the claim isn't true.
@@ -91,7 +134,7 @@ pub fn no_is_false()
 {}
 
 /// A claim is false for one kind of reason at most: two reasons are both want of live cells, or both cells
-/// that differ after the claimed generations (which cells is open), or the same earlier return.
+/// that differ after the claimed generations (which cells is open), or the same earlier return or death.
 pub fn one_reason()
     ensures { (next : List ℕ → ℕ) (cells other : Picture) (kind : Kind) (one two : Why)
         → IsReason next cells other (asks_of kind) one

@@ -18,10 +18,10 @@ ghost use Rattle.ca_claims.specs.inner.Refusals.{IsJudgedOn};
 ghost use Rattle.ca_claims.specs.inner.Tables.{AreRead};
 
 mod agreement;
+mod counts;
 mod library;
 mod one_or_two;
 mod patterns;
-mod planes;
 mod prepared;
 mod tables;
 
@@ -35,7 +35,6 @@ use crate::verdict::{Answer, Cause, Verdict};
 use ca_plane::Memory;
 pub(crate) use library::Library;
 pub(crate) use one_or_two::OneOrTwo;
-use planes::counts_cells;
 use prepared::{Prepared, prepare};
 use std::alloc::Global;
 pub(crate) use tables::Tables;
@@ -155,14 +154,7 @@ fn judge<'a, O: Observer>(
         (λ r. IsJudgedOn files paths rules (about (path_at paths) claim.now) (Refused r.cause) r.about) }
 {
     let asks = claim.kind.asks();
-    let prepared = prepare(
-        alloc,
-        library,
-        &places_of(claim),
-        counts_cells(asks),
-        found,
-        tables,
-    )?;
+    let prepared = prepare(alloc, library, &places_of(claim), asks, found, tables)?;
     Ok(decide_on(alloc, prepared, asks, observer))
 }
 
@@ -173,7 +165,7 @@ fn decide_on<O: Observer>(
     asks: Asks,
     observer: &mut O,
 ) -> Verdict
-    requires { IsSubject prepared.leaper.nodes asks prepared.subject prepared.plane }
+    requires { IsSubject prepared.leaper.nodes asks prepared.subject }
     ensures { (cells other : Picture)
         → AreShown prepared.entry.leaper.nodes prepared.entry.subject cells other
         → IsDecided (next_of (rule_value prepared.entry.leaper.rule)) cells other asks result }
@@ -181,12 +173,10 @@ fn decide_on<O: Observer>(
     let Prepared {
         mut leaper,
         subject,
-        plane,
     } = prepared;
     let case = Case {
         alloc,
         subject,
-        plane,
         asks,
     };
     decide(&mut leaper, &case, observer)

@@ -17,7 +17,7 @@ use Rattle.ca_claims.specs.declared.verdict.Answer.{Answer}
 use Rattle.ca_claims.specs.declared.verdict.Verdict.{Verdict}
 use Rattle.ca_claims.specs.declared.verdict.Verdict.TheVariants.{Yes, No, Refused}
 use Rattle.ca_claims.specs.declared.verdict.Why.{Why}
-use Rattle.ca_claims.specs.declared.verdict.Why.TheVariants.{Empty, Differs, Earlier}
+use Rattle.ca_claims.specs.declared.verdict.Why.TheVariants.{Empty, Differs, Earlier, Died}
 use Rattle.ca_claims.specs.declared.verdict.PatternFault.{PatternFault}
 use Rattle.ca_claims.specs.declared.verdict.PatternFault.TheVariants as patterns
 use Rattle.ca_claims.specs.declared.verdict.Cause.{Cause}
@@ -47,6 +47,7 @@ abbrev pub why_text : Why → List ℕ
 why_text Empty = codes "empty"
 why_text (Differs x y found claimed gens) = codes "cells differ after " ++ decimal gens
 why_text (Earlier m dx dy) = return_text m dx dy
+why_text (Died m) = codes "empty after " ++ decimal m
 
 -- why a text names no rule
 abbrev pub rule_fault_text : RuleFault → List ℕ
@@ -213,6 +214,7 @@ cell_line before name (Differs x y found claimed gens) =
     before ++ (codes "  " ++ (name ++ (codes " at " ++ (signed_decimal x ++ (codes "," ++ (signed_decimal y ++ (codes ": " ++ (decimal found
     ++ (codes " after " ++ (decimal gens ++ (generations_word gens ++ (codes ", claimed " ++ (decimal claimed ++ 10 ∷ [])))))))))))))
 cell_line before name (Earlier m dx dy) = []
+cell_line before name (Died m) = []
 
 -- on which line a file is faulty, where it has such a line
 abbrev pub at_line : Option ℕ → List ℕ

@@ -46,6 +46,10 @@ fn why_pieces<'a>(why: Why) -> [Piece<'a>; 6]
             pieces[1] = Piece::Number(gens);
         }
         Why::Earlier { m, dx, dy } => return return_pieces(m, dx, dy),
+        Why::Died { m } => {
+            pieces[0] = Piece::Text(b"empty after ");
+            pieces[1] = Piece::Number(m);
+        }
     }
     pieces
 }

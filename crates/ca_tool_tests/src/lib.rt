@@ -4,6 +4,8 @@
 #![tactic(auto)]
 
 #[cfg(test)]
+mod answer_texts;
+#[cfg(test)]
 mod callers;
 #[cfg(test)]
 mod cut_runs;
@@ -15,7 +17,5 @@ mod failed_reads;
 mod many;
 #[cfg(test)]
 mod rules;
-#[cfg(test)]
-mod told;
 #[cfg(test)]
 mod writers;

@@ -39,6 +39,8 @@ Examples:
   cat examples/macrocell/gun.mc | cafile convert - --to rle";
 
 pub const VERIFY: &str = "Each line of a claim text is one of these. An example stands below each.
+  claims 2                the first line of a text that has one of the last two
+      claims 2
   rule PATH               the rule file at PATH holds a table that a pattern's rule may name
       rule examples/tables/spread.rule
   load NAME PATH          NAME stands for the pattern in the file at PATH, RLE or macrocell
@@ -52,6 +54,12 @@ pub const VERIFY: &str = "Each line of a claim text is one of these. An example 
       spaceship glider 4 1 1
   becomes NAME N NAME2    after N generations the first pattern is the second, cell for cell and in place
       becomes blinker 1 blinker_1
+  becomes NAME N NAME2 shift DX DY
+                          after N generations the first pattern is the second, moved by DX to the right and DY
+                          down
+      becomes glider 400 glider shift 100 100
+  dies NAME N             some cell is live, after N generations none is, and before that some cell is
+      dies diehard 130
 Blank lines, and lines that begin with #, say nothing. A name is loaded before it is used. Paths are
 relative to the working directory and hold no blanks.
 
@@ -71,5 +79,6 @@ fault. A text that can't be read or is faulty is told on standard error, and the
 Examples:
   cafile verify examples/block.claims examples/pulsar.claims
   cafile verify --explain examples/several.claims
+  cafile verify examples/reactions.claims
   cafile verify --progress examples/published.claims
   cat examples/block.claims | cafile verify -";

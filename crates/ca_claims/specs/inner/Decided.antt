@@ -5,20 +5,32 @@ use Rattle.ca_claims.specs.declared.verdict.Verdict.{Verdict}
 use Rattle.ca_claims.specs.declared.verdict.Verdict.TheVariants.{Yes, No, Refused}
 use Rattle.ca_claims.specs.declared.verdict.Cause.TheVariants.{Memory}
 use Rattle.ca_claims.specs.declared.claims.asks.Asks.{Asks}
-use Rattle.ca_claims.specs.declared.claims.asks.Barred.TheVariants.{Nothing}
-use Rattle.ca_claims.specs.declared.claims.asks.Wanted.TheVariants.{Own}
+use Rattle.ca_claims.specs.declared.claims.asks.Barred.{Barred}
+use Rattle.ca_claims.specs.declared.claims.asks.Barred.TheVariants.{Nothing, InPlace, Anywhere, EmptyPlane}
+use Rattle.ca_claims.specs.declared.claims.asks.Wanted.TheVariants.{Own, NoCells}
 use Rattle.ca_claims.specs.Text.{most_generations, longest_period, IsShift}
-use Rattle.ca_claims.specs.Truth.{IsTrueClaim, IsReason}
+use Rattle.ca_claims.specs.Truth.{MayReturnBy, IsTrueClaim, IsReason}
 
--- what a claim with good numbers asks: few generations and a shift within its limits; where a return is barred, a live pattern, that
--- its own cells stand, and a period that isn't too long
+-- a return of the pattern is barred, in its place or anywhere
+abbrev pub BarsReturns : Barred → Type 0
+BarsReturns Nothing = ⊥
+BarsReturns InPlace = Unit {0}
+BarsReturns Anywhere = Unit {0}
+BarsReturns EmptyPlane = ⊥
+
+-- what a claim with good numbers asks: few generations and a shift within its limits; a live pattern, where anything is barred; where a
+-- return is, that its own cells stand, by a vector that is barred, and a period that isn't too long; where an empty plane is, that the
+-- plane is empty after some generations
 pub record IsBounded (asks : Asks) : Type 0 where
   pub few : asks.generations ≤ most_generations
   pub right : IsShift asks.dx
   pub down : IsShift asks.dy
   pub live : asks.barred ≢ Nothing → IsTrue asks.live
-  pub own : asks.barred ≢ Nothing → asks.wanted ≡ Own
-  pub short : asks.barred ≢ Nothing → asks.generations ≤ longest_period
+  pub own : BarsReturns asks.barred → asks.wanted ≡ Own
+  pub returns : BarsReturns asks.barred → MayReturnBy asks.barred asks.dx asks.dy
+  pub short : BarsReturns asks.barred → asks.generations ≤ longest_period
+  pub none : asks.barred ≡ EmptyPlane → asks.wanted ≡ NoCells
+  pub some : asks.barred ≡ EmptyPlane → 1 ≤ asks.generations
 
 -- a yes of a claim that is true, or a no with a reason, and no refusal but out of memory
 abbrev pub IsDecided : (List ℕ → ℕ) → Picture → Picture → Asks → Verdict → Type 0

@@ -1,19 +1,22 @@
 -- What a claim is judged on, once its patterns are read.
-use Rattle.std.specs.Prelude.{◌≡◌, ℕ, List, Bool, IsTrue, IsFalse, Option, None, MatchOption, ◌⊎◌}
-use Rattle.ca_plane.specs.Plane.{Picture, cell}
+use Rattle.std.specs.Prelude.{◌≡◌, ℕ, List, [], ◌∷◌, Option, Some, None, IfSome, ◌⊎◌}
+use Rattle.ca_plane.specs.Plane.{Picture}
 use Rattle.ca_plane.specs.Population.{HasFewCells, HasTooManyCells}
-use Rattle.ca_plane.specs.Sparse.{IsSparse}
 use Rattle.ca_quad.specs.declared.node.Node.{Node}
 use Rattle.ca_quad.specs.declared.tree.Tree.{Tree}
 use Rattle.ca_quad.specs.Trees as trees
 use Rattle.ca_rule.specs.Rule.{rule_value}
+use Rattle.ca_claims.specs.declared.claims.asks.Asks.{Asks}
+use Rattle.ca_claims.specs.declared.claims.asks.Wanted.{Wanted}
+use Rattle.ca_claims.specs.declared.claims.asks.Wanted.TheVariants.{Own, Other, NoCells}
+use Rattle.ca_claims.specs.declared.decide.Subject.{Subject}
 use Rattle.ca_claims.specs.declared.refusal.About.TheVariants as about
 use Rattle.ca_claims.specs.declared.refusal.Part.{Part}
-use Rattle.ca_claims.specs.declared.refusal.Part.TheVariants.{First}
+use Rattle.ca_claims.specs.declared.refusal.Part.TheVariants.{First, Second}
 use Rattle.ca_claims.specs.declared.refusal.Refusal.{Refusal}
+use Rattle.ca_claims.specs.declared.ruled.Ruled.{Ruled}
 use Rattle.ca_claims.specs.declared.verdict.PatternFault.{PatternFault}
 use Rattle.ca_claims.specs.declared.verdict.PatternFault.TheVariants as pattern_fault
-use Rattle.ca_claims.specs.declared.verdict.Cause.{Cause}
 use Rattle.ca_claims.specs.declared.verdict.Cause.TheVariants.{BadPattern, StateTooLarge, MixedRules, TooManyCells}
 use Rattle.ca_claims.specs.declared.verdict.Cause.TheVariants as cause
 use Rattle.ca_claims.specs.declared.verifier.agreement.Disagreement.{Disagreement}
@@ -21,25 +24,48 @@ use Rattle.ca_claims.specs.declared.verifier.agreement.Disagreement.TheVariants.
 use Rattle.ca_claims.specs.declared.verifier.agreement.Disagreement.TheVariants as disagreement
 use Rattle.ca_claims.specs.declared.verifier.patterns.Unread.{Unread}
 use Rattle.ca_claims.specs.declared.verifier.prepared.Prepared.{Prepared}
-use Rattle.ca_claims.specs.Answers.{AgreeOn}
-use Rattle.ca_claims.specs.inner.Subjects.{ShowsTree, IsPattern, AreShown}
+use Rattle.ca_claims.specs.Answers.{AgreeOn, IsCounted, HasFewCounted}
+use Rattle.ca_claims.specs.inner.Subjects.{IsPattern, AreShown}
 
--- the trees show what the files of these paths mean, under one rule, and not too many cells where they are counted
-pub record IsPrepared (files : List (List ℕ × List ℕ)) (rules paths : List (List ℕ)) (counted : Bool) (prepared : Prepared) : Type 0 where
+-- the trees show what the files of these paths mean, under one rule, and not too many cells where they are counted; the claim asks this
+pub record IsPrepared (files : List (List ℕ × List ℕ)) (rules : List (List ℕ)) (asks : Asks) (paths : List (List ℕ)) (prepared : Prepared) : Type 0 where
   pub cells : Picture
   pub other : Picture
   pub shown : AreShown prepared.leaper.nodes prepared.subject cells other
   pub agree : AgreeOn files rules paths cells other (rule_value prepared.leaper.rule)
-  pub few : IsTrue counted → HasFewCells (cell cells)
+  pub few : HasFewCounted asks cells other
 
--- too many cells are the cause only where cells are counted
-abbrev pub MayBe : Bool → Cause → Type 0
-MayBe counted cause = cause ≡ TooManyCells → IsTrue counted
+-- the tree of the pattern whose cells are wanted, where some are
+abbrev pub wanted_tree : Wanted → Subject → Option Tree
+wanted_tree Own subject = Some subject.pattern
+wanted_tree Other subject = Some subject.other
+wanted_tree NoCells subject = None
 
--- a pattern's cells aren't made a plane: no memory, or too many of them where they are counted
-abbrev pub IsPlaneRefused : List Node → Tree → Bool → Refusal → Type 0
-IsPlaneRefused nodes tree counted refusal = (refusal ≡ record { cause = cause.Memory; about = about.Claim })
-    ⊎ ((refusal ≡ record { cause = TooManyCells; about = about.Pattern First None }) × IsTrue counted × HasTooManyCells (trees.cell nodes tree))
+-- the other of a claim's patterns is the last one
+abbrev pub last_part : List Ruled → Part
+last_part [] = First
+last_part (a ∷ []) = First
+last_part (a ∷ b ∷ patterns) = Second
+
+-- which of a claim's patterns has the cells that are wanted
+abbrev pub wanted_part : Wanted → Part → Part
+wanted_part Own other = First
+wanted_part Other other = other
+wanted_part NoCells other = First
+
+-- the cells that are counted aren't too many
+abbrev pub AreFewCounted : List Node → Asks → Subject → Type 0
+AreFewCounted nodes asks subject = IsCounted asks → IfSome (wanted_tree asks.wanted subject) (λ tree. HasFewCells (trees.cell nodes tree))
+
+-- the refusal of a claim with a pattern that has too many cells
+abbrev pub refusal_for_count : Part → Refusal
+refusal_for_count part = record { cause = TooManyCells; about = about.Pattern part None }
+
+-- why they aren't known to be few: no memory, or there are too many
+abbrev pub IsCountRefused : List Node → Asks → Subject → Part → Refusal → Type 0
+IsCountRefused nodes asks subject other refusal = (refusal ≡ record { cause = cause.Memory; about = about.Claim })
+    ⊎ ((refusal ≡ refusal_for_count (wanted_part asks.wanted other)) × IsCounted asks
+    × (tree : Tree) × (wanted_tree asks.wanted subject ≡ Some tree) × HasTooManyCells (trees.cell nodes tree))
 
 -- the refusal of a claim with a pattern that isn't read
 abbrev pub refusal_for : Part → PatternFault → Option ℕ → Refusal
@@ -56,8 +82,7 @@ disagreement_refusal (Large part) = record { cause = StateTooLarge; about = abou
 disagreement_refusal Mixed = record { cause = MixedRules; about = about.Claim }
 disagreement_refusal disagreement.Memory = record { cause = cause.Memory; about = about.Claim }
 
--- the trees are low ones in range, and there is a plane of the pattern's where its cells are counted
-pub record IsFit (counted : Bool) (prepared : Prepared) : Type 0 where
+-- the trees are low ones in range
+pub record IsFit (prepared : Prepared) : Type 0 where
   pub pattern : IsPattern prepared.leaper.nodes prepared.subject.pattern
   pub other : IsPattern prepared.leaper.nodes prepared.subject.other
-  pub plane : MatchOption prepared.plane (IsFalse counted) (λ p. IsTrue counted × IsSparse p × ShowsTree prepared.leaper.nodes prepared.subject.pattern p)

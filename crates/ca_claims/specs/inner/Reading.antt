@@ -1,5 +1,5 @@
 -- How a claim text is read, a line at a time.
-use Rattle.std.specs.Prelude.{◌≡◌, ℕ, ◌<◌, ◌^◌, ℤ, pos, neg_ℤ, ◌≤ℤ◌, ◌<ℤ◌, List, [], ◌∷◌, ◌++◌, map, slice_get, length, All, true, false, Option, None, Some, IsSome, unwrap_or, if◌then◌else◌}
+use Rattle.std.specs.Prelude.{◌≡◌, ℕ, ◌<◌, ◌^◌, ℤ, pos, neg_ℤ, ◌≤ℤ◌, ◌<ℤ◌, ◌↔◌, ◌≢◌, List, [], ◌∷◌, ◌++◌, map, slice_get, length, All, true, false, Option, None, Some, IsSome, unwrap_or, if◌then◌else◌}
 use Rattle.std.specs.Borrow.{Bor}
 use Rattle.std.specs.HashMap.{HashMap, get_by}
 use Rattle.std.specs.List.{list_any, AllByRecursion}
@@ -10,12 +10,14 @@ use Rattle.ca_claims.specs.declared.claims.line.Kind.{Kind}
 use Rattle.ca_claims.specs.declared.claims.line.Place.{Place}
 use Rattle.ca_claims.specs.declared.claims.reading.Reading.{Reading}
 use Rattle.ca_claims.specs.declared.claims.words.LineKind.{LineKind}
-use Rattle.ca_claims.specs.declared.claims.words.LineKind.TheVariants.{Skipped, Rule, Load, Claim, OutsideLimits, Misspelled}
+use Rattle.ca_claims.specs.declared.claims.words.LineKind.TheVariants.{Skipped, Version, Rule, Load, Claim, OutsideLimits, Misspelled}
+use Rattle.ca_claims.specs.declared.claims.version.TextVersion.{TextVersion}
+use Rattle.ca_claims.specs.declared.claims.version.TextVersion.TheVariants.{Open, First, Second}
 use Rattle.ca_claims.specs.declared.fault.ClaimFault.{ClaimFault}
 use Rattle.ca_claims.specs.declared.fault.ClaimFault.TheVariants.{Syntax, Number, UnknownName, NameTaken, Memory}
 use Rattle.ca_claims.specs.Places.{path_at, claim_with_names, IsNamed}
 use Rattle.ca_claims.specs.Text as text
-use Rattle.ca_claims.specs.TextFaults.{AreMisspelledClaimWords, HaveBadNumber, AskUnknown, LoadTaken, AreAllowed}
+use Rattle.ca_claims.specs.TextFaults.{AreMisspelledClaimWords, HaveBadNumber, AskUnknown, LoadTaken, NeedMemory}
 
 -- the paths, with this one after them where it isn't one of them
 abbrev pub with_path : List (List ℕ) → List ℕ → List (List ℕ)
@@ -32,24 +34,37 @@ pub record IsHeldShift (n held : ℤ) : Type 0 where
   pub least : neg_ℤ (pos (2 ^ 63)) ≤ℤ held
   pub greatest : held <ℤ pos (2 ^ 63)
 
--- a kind of claim is held with numbers of 64 bits: as itself where either of them has good numbers
+-- what is known of a text's version once lines have said this
+abbrev pub IsVersionAfter : List text.ClaimTextLine → TextVersion → Type 0
+IsVersionAfter earlier Open = earlier ≡ []
+IsVersionAfter earlier First = (earlier ≢ []) × (text.is_second earlier ≡ false)
+IsVersionAfter earlier Second = text.is_second earlier ≡ true
+
+-- a kind of claim is held with numbers of 64 bits: as itself where either of them has good numbers; and it came with the same version
 pub record IsHeldKind (kind held : Kind) : Type 0 where
   pub exact : text.HasGoodNumbers kind → kind ≡ held
   pub sound : text.HasGoodNumbers held → kind ≡ held
+  pub after : (earlier : List text.ClaimTextLine) → text.IsKindAfter earlier kind ↔ text.IsKindAfter earlier held
+
+-- no claim has these words
+abbrev pub MakeNoClaim : List (List ℕ) → Type 0
+MakeNoClaim words = (claim : text.Claim) → text.WordsClaim words claim.pattern claim.other claim.kind → ⊥
 
 -- the words make a claim, which is held so
 abbrev pub MakesClaim : List (List ℕ) → ClaimOf (Bor (List ℕ)) → Type 0
 MakesClaim words held = (kind : Kind) × text.WordsClaim words (claim_of held).pattern (claim_of held).other kind × IsHeldKind kind held.kind
 
--- the kind of a line with these words
-abbrev pub IsKind : List (List ℕ) → LineKind → Type 0
-IsKind words Skipped = text.is_skipped words ≡ true
-IsKind words (Rule path) = (text.is_skipped words ≡ false) × text.ClaimWordsSay words (text.Rule path.now)
-IsKind words (Load name path) = (text.is_skipped words ≡ false) × text.ClaimWordsSay words (text.Load name.now path.now)
-IsKind words (Claim held) = (text.is_skipped words ≡ false) × text.ClaimWordsSay words (text.Claims (claim_of held)) × text.HasGoodNumbers held.kind
-IsKind words OutsideLimits =
-    (text.is_skipped words ≡ false) × (claim : text.Claim) × text.ClaimWordsSay words (text.Claims claim) × (text.HasGoodNumbers claim.kind → ⊥)
-IsKind words Misspelled = (text.is_skipped words ≡ false) × ((line : text.ClaimTextLine) → text.ClaimWordsSay words line → ⊥)
+-- the kind of a line with these words, after what earlier lines say
+abbrev pub IsKind : List text.ClaimTextLine → List (List ℕ) → LineKind → Type 0
+IsKind earlier words Skipped = text.is_skipped words ≡ true
+IsKind earlier words Version = (text.is_skipped words ≡ false) × text.ClaimWordsSay earlier words text.Version
+IsKind earlier words (Rule path) = (text.is_skipped words ≡ false) × text.ClaimWordsSay earlier words (text.Rule path.now)
+IsKind earlier words (Load name path) = (text.is_skipped words ≡ false) × text.ClaimWordsSay earlier words (text.Load name.now path.now)
+IsKind earlier words (Claim held) =
+    (text.is_skipped words ≡ false) × text.ClaimWordsSay earlier words (text.Claims (claim_of held)) × text.HasGoodNumbers held.kind
+IsKind earlier words OutsideLimits =
+    (text.is_skipped words ≡ false) × (claim : text.Claim) × text.ClaimWordsSay earlier words (text.Claims claim) × (text.HasGoodNumbers claim.kind → ⊥)
+IsKind earlier words Misspelled = AreMisspelledClaimWords earlier words
 
 -- the indices of a name and of its path
 abbrev pub place_of : {S : Type 0} → HashMap (Bor (List ℕ)) Place S → List ℕ → Option Place
@@ -84,12 +99,14 @@ pub record KeepsClaimLines (said : List (Option text.ClaimTextLine)) (names path
 
 -- what is kept once the lines have said this
 abbrev pub IsClaimReading : List (Option text.ClaimTextLine) → Reading → Type 0
-IsClaimReading said reading = KeepsClaimLines said (map (λ name. name.items) reading.names.items) reading.paths reading.rules.items reading.claims.items (place_of reading.places)
+IsClaimReading said reading =
+    KeepsClaimLines said (map (λ name. name.items) reading.names.items) reading.paths reading.rules.items reading.claims.items (place_of reading.places)
+    × IsVersionAfter (text.spoken said) reading.version
 
 -- the next line says this, after what earlier lines say
 abbrev pub SaysNext : List text.ClaimTextLine → List (List ℕ) → Option text.ClaimTextLine → Type 0
 SaysNext earlier words None = text.is_skipped words ≡ true
-SaysNext earlier words (Some line) = (text.is_skipped words ≡ false) × text.ClaimWordsSay words line × text.IsAllowedLine earlier line
+SaysNext earlier words (Some line) = (text.is_skipped words ≡ false) × text.ClaimWordsSay earlier words line × text.IsAllowedLine earlier line
 
 -- the n-th line has this fault, after what earlier lines say
 abbrev pub HasClaimFault : ℕ → List text.ClaimTextLine → List (List ℕ) → ClaimFault → Type 0
@@ -97,4 +114,4 @@ HasClaimFault n earlier words (Syntax line) = (line ≡ n) × AreMisspelledClaim
 HasClaimFault n earlier words (Number line) = (line ≡ n) × HaveBadNumber earlier words
 HasClaimFault n earlier words (UnknownName line) = (line ≡ n) × AskUnknown earlier words
 HasClaimFault n earlier words (NameTaken line) = (line ≡ n) × LoadTaken earlier words
-HasClaimFault n earlier words Memory = AreAllowed earlier words
+HasClaimFault n earlier words Memory = NeedMemory earlier words

@@ -1,5 +1,6 @@
 -- What the cause of a refusal is about.
 use Rattle.std.specs.Prelude.{ℕ, ◌<◌, List, length}
+use Rattle.ca_claims.specs.declared.claims.asks.Asks.{Asks}
 use Rattle.ca_claims.specs.declared.refusal.About.{About}
 use Rattle.ca_claims.specs.declared.refusal.About.TheVariants as about
 use Rattle.ca_claims.specs.declared.refusal.Refusal.{Refusal}
@@ -18,9 +19,9 @@ IsOn files paths rules patterns cause about.Claim = IsOfClaim cause
 IsOn files paths rules patterns cause (about.Pattern part line) = IsOfPattern files rules cause (FirstBadAt part patterns) line
 IsOn files paths rules patterns cause (about.RuleFile place) = (place < length paths) × IsOfRuleFile files rules patterns cause (path_at paths place)
 
--- a claim about these patterns is refused for this cause, which is about this
-pub record IsRefusal (files : List (List ℕ × List ℕ)) (paths rules patterns : List (List ℕ)) (refusal : Refusal) : Type 0 where
-  pub holds : HasCause files rules patterns refusal.cause
+-- a claim that asks this of these patterns is refused for this cause, which is about this
+pub record IsRefusal (files : List (List ℕ × List ℕ)) (paths rules : List (List ℕ)) (asks : Asks) (patterns : List (List ℕ)) (refusal : Refusal) : Type 0 where
+  pub holds : HasCause files rules asks patterns refusal.cause
   pub on : IsOn files paths rules patterns refusal.cause refusal.about
 
 -- the cause of a verdict is about this, where it is a refusal

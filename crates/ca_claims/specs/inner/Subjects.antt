@@ -1,25 +1,24 @@
 -- What a claim is judged on: squares of a leaper's store, and how the verdict follows from them.
-use Rattle.std.specs.Prelude.{◌≡◌, ◌≢◌, ℕ, ◌≤◌, ◌<◌, ℤ, pos, List, Option, Some, None}
+use Rattle.std.specs.Prelude.{◌≡◌, ◌≢◌, ℕ, ◌≤◌, ◌<◌, ℤ, List, []}
 use Rattle.std.specs.Int.{◌∣◌}
 use Rattle.ca_plane.specs.Plane.{Picture, shifted}
 use Rattle.ca_plane.specs.Plane as plane
 use Rattle.ca_plane.specs.Generations.{IsAfter, cells_after}
-use Rattle.ca_plane.specs.Sparse.{IsInPlane, IsSparse}
+use Rattle.ca_plane.specs.Sparse.{IsInPlane}
 use Rattle.ca_quad.specs.declared.node.Node.{Node}
 use Rattle.ca_quad.specs.declared.tree.Tree.{Tree}
 use Rattle.ca_quad.specs.Trees.{IsTree, cell}
+use Rattle.ca_quad.specs.Shifted.{shifted_cells}
 use Rattle.ca_macro.specs.Pattern.{AreInRange}
 use Rattle.ca_claims.specs.declared.claims.asks.Asks.{Asks}
 use Rattle.ca_claims.specs.declared.claims.asks.Barred.{Barred}
-use Rattle.ca_claims.specs.declared.claims.asks.Barred.TheVariants.{Nothing, Anywhere}
-use Rattle.ca_claims.specs.declared.claims.asks.Wanted.{Wanted}
-use Rattle.ca_claims.specs.declared.claims.asks.Wanted.TheVariants.{Own, Other}
+use Rattle.ca_claims.specs.declared.claims.asks.Barred.TheVariants.{EmptyPlane}
 use Rattle.ca_claims.specs.declared.decide.Subject.{Subject}
 use Rattle.ca_claims.specs.declared.decide.Case.{Case}
 use Rattle.ca_claims.specs.declared.verdict.Why.{Why}
-use Rattle.ca_claims.specs.declared.verdict.Why.TheVariants.{Empty, Differs, Earlier}
-use Rattle.ca_claims.specs.Truth.{MayReturnBy, IsNotBack}
-use Rattle.ca_claims.specs.inner.Decided.{IsBounded}
+use Rattle.ca_claims.specs.declared.verdict.Why.TheVariants.{Empty, Differs, Earlier, Died}
+use Rattle.ca_claims.specs.Truth.{MayReturnBy, IsLiveAfter, ShowsNothingBarred}
+use Rattle.ca_claims.specs.inner.Decided.{BarsReturns, IsBounded}
 use Rattle.ca_claims.specs.inner.Divisors.{AreDivisors}
 
 -- a picture shows the cells of a tree
@@ -29,7 +28,7 @@ ShowsTree nodes tree cells = (x y : ℤ) → plane.cell cells x y ≡ cell nodes
 -- the tree of a pattern: a low one, whose live cells are in range
 pub record IsPattern (nodes : List Node) (tree : Tree) : Type 0 where
   pub is_tree : IsTree nodes tree
-  pub low : tree.level ≤ 64
+  pub low : tree.level ≤ 63
   pub range : AreInRange (cell nodes tree)
 
 -- a tree with no live cell outside the square of a plane
@@ -38,31 +37,20 @@ pub record IsNearTree (nodes : List Node) (tree : Tree) : Type 0 where
   pub low : tree.level ≤ 124
   pub near : (x y : ℤ) → (IsInPlane (record { y = y; x = x }) → ⊥) → cell nodes tree x y ≡ 0
 
--- the plane of a claim's pattern, where the claim moves it, and none where it is judged in its place
-abbrev pub IsMovedBy : Asks → List Node → Tree → Option Picture → Type 0
-IsMovedBy asks nodes pattern None = (asks.dx ≡ pos 0) × (asks.dy ≡ pos 0) × (asks.barred ≢ Anywhere)
-IsMovedBy asks nodes pattern (Some cells) = (asks.wanted ≡ Own) × (asks.barred ≡ Anywhere) × IsSparse cells × ShowsTree nodes pattern cells
-
 -- what a claim that asks this is judged on, as a store's squares show it
-pub record IsSubject (nodes : List Node) (asks : Asks) (subject : Subject) (plane : Option Picture) : Type 0 where
+pub record IsSubject (nodes : List Node) (asks : Asks) (subject : Subject) : Type 0 where
   pub pattern : IsPattern nodes subject.pattern
   pub other : IsPattern nodes subject.other
-  pub moved : IsMovedBy asks nodes subject.pattern plane
   pub bounded : IsBounded asks
 
 -- what is judged
 abbrev pub IsCase : List Node → Case → Type 0
-IsCase nodes case = IsSubject nodes case.asks case.subject case.plane
+IsCase nodes case = IsSubject nodes case.asks case.subject
 
 -- the pictures show the cells of a claim's trees
 pub record AreShown (nodes : List Node) (subject : Subject) (cells other : Picture) : Type 0 where
   pub one : ShowsTree nodes subject.pattern cells
   pub two : ShowsTree nodes subject.other other
-
--- the tree whose cells are wanted: the pattern's own, or the other's
-abbrev pub wanted_tree : Wanted → Subject → Tree
-wanted_tree Own subject = subject.pattern
-wanted_tree Other subject = subject.other
 
 -- some cell is live
 abbrev pub HasLive : (ℤ → ℤ → ℕ) → Type 0
@@ -71,32 +59,50 @@ HasLive cells = (x : ℤ) × (y : ℤ) × (cells x y ≢ 0)
 -- what is judged, of a live pattern that may not be back early
 pub record BarsReturn (nodes : List Node) (case : Case) : Type 0 where
   pub subject : IsCase nodes case
-  pub barred : case.asks.barred ≢ Nothing
+  pub barred : BarsReturns case.asks.barred
   pub live : HasLive (cell nodes case.subject.pattern)
 
--- no vector moves the picture onto the tree's cells
-abbrev pub IsNoMove : List Node → Tree → Picture → Type 0
-IsNoMove nodes tree cells = (dx dy : ℤ) → ShowsTree nodes tree (shifted cells dx dy) → ⊥
+-- what is judged, of a live pattern that may not die early
+pub record BarsDeath (nodes : List Node) (case : Case) : Type 0 where
+  pub subject : IsCase nodes case
+  pub barred : case.asks.barred ≡ EmptyPlane
+  pub live : HasLive (cell nodes case.subject.pattern)
 
--- no vector but this one moves the picture onto the tree's cells
-abbrev pub IsOnlyMove : List Node → Tree → Picture → ℤ × ℤ → Type 0
-IsOnlyMove nodes tree cells v = (dx dy : ℤ) → ShowsTree nodes tree (shifted cells dx dy) → (dx ≡ v.0) × (dy ≡ v.1)
+-- a tree shows the cells of another one, moved by (dx, dy)
+abbrev pub IsMove : List Node → (tree other : Tree) → ℤ → ℤ → Type 0
+IsMove nodes tree other dx dy = (x y : ℤ) → cell nodes tree x y ≡ shifted_cells (cell nodes other) dx dy x y
+
+-- no vector moves the other tree's cells onto the tree's
+abbrev pub IsNoMove : List Node → (tree other : Tree) → Type 0
+IsNoMove nodes tree other = (dx dy : ℤ) → IsMove nodes tree other dx dy → ⊥
+
+-- no vector but this one does
+abbrev pub IsOnlyMove : List Node → (tree other : Tree) → ℤ × ℤ → Type 0
+IsOnlyMove nodes tree other v = (dx dy : ℤ) → IsMove nodes tree other dx dy → (dx ≡ v.0) × (dy ≡ v.1)
 
 -- the tree shows the plane n generations after another tree's
 pub record IsEndTree (next : List ℕ → ℕ) (old : List Node) (pattern : Tree) (n : ℕ) (nodes : List Node) (end : Tree) : Type 0 where
   pub near : IsNearTree nodes end
   pub shows : (x y : ℤ) → cell nodes end x y ≡ cells_after next (cell old pattern) n x y
 
--- the tree shows a picture, moved by (dx, dy)
-pub record IsMoved (cells : Picture) (dx dy : ℤ) (nodes : List Node) (tree : Tree) : Type 0 where
+-- the tree shows another's cells, moved by (dx, dy)
+pub record IsMoved (old : List Node) (other : Tree) (dx dy : ℤ) (nodes : List Node) (tree : Tree) : Type 0 where
   pub near : IsNearTree nodes tree
-  pub shows : (x y : ℤ) → cell nodes tree x y ≡ plane.cell (shifted cells dx dy) x y
+  pub shows : (x y : ℤ) → cell nodes tree x y ≡ shifted_cells (cell old other) dx dy x y
 
 -- a cell that one plane has after n generations, and another hasn't
 abbrev pub IsDifference : (ℤ → ℤ → ℕ) → (ℤ → ℤ → ℕ) → ℕ → Why → Type 0
 IsDifference end wanted n Empty = ⊥
 IsDifference end wanted n (Differs x y found claimed generations) = (generations ≡ n) × (end x y ≡ found) × (wanted x y ≡ claimed) × (found ≢ claimed)
 IsDifference end wanted n (Earlier m dx dy) = ⊥
+IsDifference end wanted n (Died m) = ⊥
+
+-- one time at which some cell is live, and a later one after which the plane is empty, where it is after the claim's generations
+pub record AreLifeBounds (next : List ℕ → ℕ) (nodes : List Node) (case : Case) (low high : ℕ) : Type 0 where
+  pub order : low < high
+  pub within : high ≤ case.asks.generations
+  pub holds : (cells : Picture) → ShowsTree nodes case.subject.pattern cells → IsAfter next cells case.asks.generations []
+      → IsLiveAfter next cells low × IsAfter next cells high []
 
 -- after n generations the pattern is there again, by this vector, which is barred
 abbrev pub IsBackBy : (List ℕ → ℕ) → Picture → Barred → ℕ → ℤ × ℤ → Type 0
@@ -108,4 +114,4 @@ pub record AreLeft (next : List ℕ → ℕ) (nodes : List Node) (case : Case) (
   pub some : 1 ≤ low
   pub are : AreDivisors case.asks.generations low case.asks.generations left
   pub before : (cells : Picture) → ShowsTree nodes case.subject.pattern cells → (d : ℕ) → 1 ≤ d → d < low → d ∣ case.asks.generations
-      → IsNotBack next cells case.asks.barred d
+      → ShowsNothingBarred next cells case.asks.barred d

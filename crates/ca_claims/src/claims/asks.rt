@@ -1,6 +1,7 @@
 //! What a claim asks, in one shape for all kinds of claims.
 
 ghost use Rattle.std.specs.Prelude.{◌≡◌};
+ghost use Rattle.ca_claims.specs.declared.claims.line.Kind.TheVariants.{Becomes};
 ghost use Rattle.ca_claims.specs.Truth.{asks_of};
 
 use super::line::Kind;
@@ -12,6 +13,8 @@ pub(crate) enum Wanted {
     Own,
     /// Those of the other pattern that the claim names.
     Other,
+    /// No cells: the plane is to be empty.
+    NoCells,
 }
 
 /// What no earlier time may show.
@@ -23,6 +26,8 @@ pub(crate) enum Barred {
     InPlace,
     /// The pattern, moved by any vector.
     Anywhere,
+    /// The empty plane.
+    EmptyPlane,
 }
 
 /// What a claim asks.
@@ -38,43 +43,72 @@ pub(crate) struct Asks {
     pub(crate) dx: i64,
     /// How far down they are moved.
     pub(crate) dy: i64,
+    /// Whether the claim moves them, by (0, 0) too. Of cells that are moved there may not be too many.
+    pub(crate) moved: bool,
     /// What no earlier time, starting at 1, may show.
     pub(crate) barred: Barred,
 }
+
+// What a claim of a still life asks.
+const STILL: Asks = Asks {
+    live: true,
+    generations: 1,
+    wanted: Wanted::Own,
+    dx: 0,
+    dy: 0,
+    moved: false,
+    barred: Barred::Nothing,
+};
 
 impl Kind {
     /// What a claim of this kind asks.
     pub(crate) fn asks(self) -> Asks
         ensures { result ≡ asks_of self }
     {
-        let still = Asks {
-            live: true,
-            generations: 1,
-            wanted: Wanted::Own,
-            dx: 0,
-            dy: 0,
-            barred: Barred::Nothing,
-        };
         match self {
-            Kind::Still => still,
+            Kind::Still => STILL,
             Kind::Oscillator { period } => Asks {
                 generations: period,
                 barred: Barred::InPlace,
-                ..still
+                ..STILL
             },
             Kind::Spaceship { period, dx, dy } => Asks {
                 generations: period,
                 dx,
                 dy,
+                moved: true,
                 barred: Barred::Anywhere,
-                ..still
+                ..STILL
             },
-            Kind::Becomes { generations } => Asks {
-                live: false,
+            Kind::Becomes { generations } => becomes(generations),
+            Kind::BecomesShifted {
                 generations,
-                wanted: Wanted::Other,
-                ..still
+                dx,
+                dy,
+            } => Asks {
+                dx,
+                dy,
+                moved: true,
+                ..becomes(generations)
+            },
+            Kind::Dies { generations } => Asks {
+                generations,
+                wanted: Wanted::NoCells,
+                barred: Barred::EmptyPlane,
+                ..STILL
             },
         }
+    }
+}
+
+// What a claim asks of a pattern that becomes another.
+fn becomes(generations: u64) -> Asks
+    ensures { result ≡ asks_of (Becomes generations) }
+{
+    Asks {
+        live: false,
+        generations,
+        wanted: Wanted::Other,
+        ..STILL
     }
 }

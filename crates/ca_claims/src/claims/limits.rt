@@ -22,6 +22,12 @@ impl Kind {
             Kind::Oscillator { period } => is_period(2, period),
             Kind::Spaceship { period, dx, dy } => is_period(1, period) && is_move(dx, dy),
             Kind::Becomes { generations } => generations <= MOST_GENERATIONS,
+            Kind::BecomesShifted {
+                generations,
+                dx,
+                dy,
+            } => generations <= MOST_GENERATIONS && is_shift(dx) && is_shift(dy),
+            Kind::Dies { generations } => 1 <= generations && generations <= MOST_GENERATIONS,
         }
     }
 }

@@ -28,6 +28,10 @@ pub(crate) enum Kind {
     Spaceship { period: u64, dx: i64, dy: i64 },
     /// After the generations the pattern's plane is that of the other pattern, cell for cell.
     Becomes { generations: u64 },
+    /// After the generations the pattern's plane is that of the other pattern, moved by the shift.
+    BecomesShifted { generations: u64, dx: i64, dy: i64 },
+    /// The pattern is live, after the generations its plane is empty, and at no earlier time it is.
+    Dies { generations: u64 },
 }
 
 /// The index of a pattern's name among the text's names, and that of its path among the paths.

@@ -13,6 +13,7 @@ ghost use Rattle.ca_claims.specs.inner.Reading.{AreKnownNames, at_places};
 use super::Claims;
 use super::line::{Claim, ClaimLine, Place};
 use super::paths::Paths;
+use super::version::TextVersion;
 use super::words::{LineKind, line_kind};
 use crate::ClaimFault;
 use ca_plane::bytes::next_line;
@@ -27,6 +28,7 @@ struct Reading<'a> {
     places: HashMap<&'a [u8], Place>,
     rules: Vec<usize>,
     claims: Vec<ClaimLine<Place>>,
+    version: TextVersion,
 }
 
 impl<'a> Reading<'a> {
@@ -40,6 +42,7 @@ impl<'a> Reading<'a> {
             places: HashMap::new(alloc),
             rules: Vec::new(alloc),
             claims: Vec::new(alloc),
+            version: TextVersion::Open,
         }
     }
 
@@ -57,6 +60,7 @@ impl<'a> Reading<'a> {
         if self.rules.push(table).is_err() {
             return Err(ClaimFault::Memory);
         }
+        self.version = self.version.after_line();
         Ok(())
     }
 
@@ -103,6 +107,7 @@ impl<'a> Reading<'a> {
         };
         self.names.push(kept)?;
         self.places.insert(name, place)?;
+        self.version = self.version.after_line();
         Ok(())
     }
 
@@ -139,7 +144,7 @@ impl<'a> Reading<'a> {
             → IsAllowedLine (spoken said) (Claiming (claim_of claim.now))
             × IsClaimReading (said ++ Some (Claiming (claim_of claim.now)) ∷ []) self.new) }
         ensures fault { IfErr result (λ f. (said : List (Option ClaimTextLine)) → IsClaimReading said self.old
-            → (words : List (List ℕ)) → IsKind words (kind.Claim claim.now)
+            → (words : List (List ℕ)) → IsKind (spoken said) words (kind.Claim claim.now)
             → HasClaimFault line (spoken said) words f) }
     {
         let Some(claim) = self.claim_at_places(claim) else {
@@ -148,6 +153,7 @@ impl<'a> Reading<'a> {
         if self.claims.push(ClaimLine { line, claim }).is_err() {
             return Err(ClaimFault::Memory);
         }
+        self.version = self.version.after_line();
         Ok(())
     }
 
@@ -161,8 +167,12 @@ impl<'a> Reading<'a> {
         ensures fault { IfErr result (λ f. (said : List (Option ClaimTextLine)) → IsClaimReading said self.old
             → HasClaimFault number (spoken said) (words_of line.now) f) }
     {
-        match line_kind(line) {
+        match line_kind(line, self.version) {
             LineKind::Skipped => Ok(()),
+            LineKind::Version => {
+                self.version = TextVersion::Second;
+                Ok(())
+            }
             LineKind::Rule { path } => self.rule(alloc, path),
             LineKind::Load { name, path } => self.load(alloc, number, name, path),
             LineKind::Claim(claim) => self.claim(number, &claim),

@@ -2,11 +2,12 @@
 
 ghost use Rattle.std.specs.Prelude.{◌≡◌, ◌≢◌, ℕ, ◌<◌, List, [], ◌∷◌, not, length, codes, MatchOption};
 ghost use Rattle.ca_plane.specs.Bytes.{Every, is_line_end, words_of};
-ghost use Rattle.ca_claims.specs.Text.{Claim as TextClaim, Claims, ClaimWordsSay, is_skipped};
-ghost use Rattle.ca_claims.specs.inner.Reading.{IsKind, MakesClaim};
+ghost use Rattle.ca_claims.specs.Text.{ClaimTextLine, is_skipped};
+ghost use Rattle.ca_claims.specs.inner.Reading.{IsKind, IsVersionAfter, MakesClaim, MakeNoClaim};
 
 use super::line::{Claim, Kind};
 use super::numbers::integer_of;
+use super::version::TextVersion;
 use ca_plane::bytes::{next_word, whole_number};
 
 /// The word of a line's bytes, where they have one and no other.
@@ -55,11 +56,41 @@ fn four_words(bytes: &[u8]) -> Option<(&[u8], &[u8], &[u8], &[u8])>
     Some((first, second, third, fourth))
 }
 
-/// What a line says, by its words alone.
+/// The two words after `shift`, where a line's bytes have these three words and no other.
+fn words_of_shift(bytes: &[u8]) -> Option<(&[u8], &[u8])>
+    requires { Every (λ b. not (is_line_end b)) bytes.now }
+    ensures { MatchOption result ((x y : List ℕ) → words_of bytes.now ≢ codes "shift" ∷ x ∷ y ∷ [])
+        (λ w. words_of bytes.now ≡ codes "shift" ∷ w.0.now ∷ w.1.now ∷ []) }
+{
+    let (keyword, dx, dy) = three_words(bytes)?;
+    if keyword != b"shift".as_slice() {
+        return None;
+    }
+    Some((dx, dy))
+}
+
+/// The first three words of a line's bytes and the two after `shift`, where no other words are there.
+fn three_words_and_shift(bytes: &[u8]) -> Option<((&[u8], &[u8], &[u8]), (&[u8], &[u8]))>
+    requires { Every (λ b. not (is_line_end b)) bytes.now }
+    ensures { MatchOption result
+        ((a b c x y : List ℕ) → words_of bytes.now ≢ a ∷ b ∷ c ∷ codes "shift" ∷ x ∷ y ∷ [])
+        (λ w. words_of bytes.now
+        ≡ w.0.0.now ∷ w.0.1.now ∷ w.0.2.now ∷ codes "shift" ∷ w.1.0.now ∷ w.1.1.now ∷ []) }
+{
+    let (first, rest) = next_word(bytes)?;
+    let (second, rest) = next_word(rest)?;
+    let (third, rest) = next_word(rest)?;
+    let shift = words_of_shift(rest)?;
+    Some(((first, second, third), shift))
+}
+
+/// What a line says, by its words and what is known of the text's version.
 #[derive(Clone, Copy)]
 pub(crate) enum LineKind<'a> {
     /// No words, or a first word that begins with `#`.
     Skipped,
+    /// `claims 2`, before all others.
+    Version,
     /// `rule PATH`.
     Rule { path: &'a [u8] },
     /// `load NAME PATH`.
@@ -80,16 +111,20 @@ fn begins_comment(word: &[u8]) -> bool
     word.starts_with(b"#")
 }
 
-/// What the line says.
-pub(crate) fn line_kind(line: &[u8]) -> LineKind<'_>
+/// What the line says, in a text of whose version this is known.
+pub(crate) fn line_kind(line: &[u8], version: TextVersion) -> LineKind<'_>
     requires { Every (λ b. not (is_line_end b)) line.now }
-    ensures { IsKind (words_of line.now) result }
+    ensures { (earlier : List ClaimTextLine) → IsVersionAfter earlier version
+        → IsKind earlier (words_of line.now) result }
 {
     let Some((keyword, rest)) = next_word(line) else {
         return LineKind::Skipped;
     };
     if begins_comment(keyword) {
         return LineKind::Skipped;
+    }
+    if keyword == b"claims".as_slice() {
+        return claims(rest, version);
     }
     if keyword == b"rule".as_slice() {
         return rule(rest);
@@ -100,16 +135,37 @@ pub(crate) fn line_kind(line: &[u8]) -> LineKind<'_>
     let Some(claim) = claim(keyword, rest) else {
         return LineKind::Misspelled;
     };
+    if !version.allows(claim.kind) {
+        return LineKind::Misspelled;
+    }
     if !claim.kind.has_good_numbers() {
         return LineKind::OutsideLimits;
     }
     LineKind::Claim(claim)
 }
 
+/// What a line says whose keyword is `claims`, by the words after it.
+fn claims(words: &[u8], version: TextVersion) -> LineKind<'_>
+    requires { Every (λ b. not (is_line_end b)) words.now }
+    ensures { (earlier : List ClaimTextLine) → IsVersionAfter earlier version
+        → IsKind earlier (codes "claims" ∷ words_of words.now) result }
+{
+    let Some(number) = one_word(words) else {
+        return LineKind::Misspelled;
+    };
+    if !version.is_open() {
+        return LineKind::Misspelled;
+    }
+    if number != b"2".as_slice() {
+        return LineKind::Misspelled;
+    }
+    LineKind::Version
+}
+
 /// What a line says whose keyword is `rule`, by the words after it.
 fn rule(words: &[u8]) -> LineKind<'_>
     requires { Every (λ b. not (is_line_end b)) words.now }
-    ensures { IsKind (codes "rule" ∷ words_of words.now) result }
+    ensures { (earlier : List ClaimTextLine) → IsKind earlier (codes "rule" ∷ words_of words.now) result }
 {
     match one_word(words) {
         Some(path) => LineKind::Rule { path },
@@ -120,7 +176,7 @@ fn rule(words: &[u8]) -> LineKind<'_>
 /// What a line says whose keyword is `load`, by the words after it.
 fn load(words: &[u8]) -> LineKind<'_>
     requires { Every (λ b. not (is_line_end b)) words.now }
-    ensures { IsKind (codes "load" ∷ words_of words.now) result }
+    ensures { (earlier : List ClaimTextLine) → IsKind earlier (codes "load" ∷ words_of words.now) result }
 {
     match two_words(words) {
         Some((name, path)) => LineKind::Load { name, path },
@@ -131,8 +187,7 @@ fn load(words: &[u8]) -> LineKind<'_>
 /// The claim that a keyword and the words after it make.
 fn claim<'a>(keyword: &[u8], words: &'a [u8]) -> Option<Claim<&'a [u8]>>
     requires { Every (λ b. not (is_line_end b)) words.now }
-    ensures { MatchOption result
-        ((c : TextClaim) → ClaimWordsSay (keyword.now ∷ words_of words.now) (Claims c) → ⊥)
+    ensures { MatchOption result (MakeNoClaim (keyword.now ∷ words_of words.now))
         (λ c. MakesClaim (keyword.now ∷ words_of words.now) c) }
 {
     if keyword == b"still".as_slice() {
@@ -147,14 +202,16 @@ fn claim<'a>(keyword: &[u8], words: &'a [u8]) -> Option<Claim<&'a [u8]>>
     if keyword == b"becomes".as_slice() {
         return becomes(words);
     }
+    if keyword == b"dies".as_slice() {
+        return dies(words);
+    }
     None
 }
 
 /// The claim of a line whose keyword is `still`, by the words after it.
 fn still(words: &[u8]) -> Option<Claim<&[u8]>>
     requires { Every (λ b. not (is_line_end b)) words.now }
-    ensures { MatchOption result
-        ((c : TextClaim) → ClaimWordsSay (codes "still" ∷ words_of words.now) (Claims c) → ⊥)
+    ensures { MatchOption result (MakeNoClaim (codes "still" ∷ words_of words.now))
         (λ c. MakesClaim (codes "still" ∷ words_of words.now) c) }
 {
     let name = one_word(words)?;
@@ -168,8 +225,7 @@ fn still(words: &[u8]) -> Option<Claim<&[u8]>>
 /// The claim of a line whose keyword is `oscillator`, by the words after it.
 fn oscillator(words: &[u8]) -> Option<Claim<&[u8]>>
     requires { Every (λ b. not (is_line_end b)) words.now }
-    ensures { MatchOption result
-        ((c : TextClaim) → ClaimWordsSay (codes "oscillator" ∷ words_of words.now) (Claims c) → ⊥)
+    ensures { MatchOption result (MakeNoClaim (codes "oscillator" ∷ words_of words.now))
         (λ c. MakesClaim (codes "oscillator" ∷ words_of words.now) c) }
 {
     let (name, period) = two_words(words)?;
@@ -184,8 +240,7 @@ fn oscillator(words: &[u8]) -> Option<Claim<&[u8]>>
 /// The claim of a line whose keyword is `spaceship`, by the words after it.
 fn spaceship(words: &[u8]) -> Option<Claim<&[u8]>>
     requires { Every (λ b. not (is_line_end b)) words.now }
-    ensures { MatchOption result
-        ((c : TextClaim) → ClaimWordsSay (codes "spaceship" ∷ words_of words.now) (Claims c) → ⊥)
+    ensures { MatchOption result (MakeNoClaim (codes "spaceship" ∷ words_of words.now))
         (λ c. MakesClaim (codes "spaceship" ∷ words_of words.now) c) }
 {
     let (name, period, dx, dy) = four_words(words)?;
@@ -202,15 +257,53 @@ fn spaceship(words: &[u8]) -> Option<Claim<&[u8]>>
 /// The claim of a line whose keyword is `becomes`, by the words after it.
 fn becomes(words: &[u8]) -> Option<Claim<&[u8]>>
     requires { Every (λ b. not (is_line_end b)) words.now }
-    ensures { MatchOption result
-        ((c : TextClaim) → ClaimWordsSay (codes "becomes" ∷ words_of words.now) (Claims c) → ⊥)
+    ensures { MatchOption result (MakeNoClaim (codes "becomes" ∷ words_of words.now))
         (λ c. MakesClaim (codes "becomes" ∷ words_of words.now) c) }
 {
-    let (name, generations, other) = three_words(words)?;
+    let Some((name, generations, other)) = three_words(words) else {
+        return becomes_shifted(words);
+    };
     let generations = whole_number(generations)?;
     Some(Claim {
         pattern: name,
         other: Some(other),
         kind: Kind::Becomes { generations },
+    })
+}
+
+/// The claim of a line whose keyword is `becomes` and that has more or fewer than three words after it.
+fn becomes_shifted(words: &[u8]) -> Option<Claim<&[u8]>>
+    requires line { Every (λ b. not (is_line_end b)) words.now }
+    requires more { (a b c : List ℕ) → words_of words.now ≢ a ∷ b ∷ c ∷ [] }
+    ensures { MatchOption result (MakeNoClaim (codes "becomes" ∷ words_of words.now))
+        (λ c. MakesClaim (codes "becomes" ∷ words_of words.now) c) }
+{
+    let ((name, generations, other), (dx, dy)) = three_words_and_shift(words)?;
+    let generations = whole_number(generations)?;
+    let dx = integer_of(dx)?;
+    let dy = integer_of(dy)?;
+    Some(Claim {
+        pattern: name,
+        other: Some(other),
+        kind: Kind::BecomesShifted {
+            generations,
+            dx,
+            dy,
+        },
+    })
+}
+
+/// The claim of a line whose keyword is `dies`, by the words after it.
+fn dies(words: &[u8]) -> Option<Claim<&[u8]>>
+    requires { Every (λ b. not (is_line_end b)) words.now }
+    ensures { MatchOption result (MakeNoClaim (codes "dies" ∷ words_of words.now))
+        (λ c. MakesClaim (codes "dies" ∷ words_of words.now) c) }
+{
+    let (name, generations) = two_words(words)?;
+    let generations = whole_number(generations)?;
+    Some(Claim {
+        pattern: name,
+        other: None,
+        kind: Kind::Dies { generations },
     })
 }

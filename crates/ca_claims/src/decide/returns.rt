@@ -1,22 +1,22 @@
 //! When a pattern is there again before a claim's generations are over.
 
 ghost use Rattle.std.specs.Prelude.{◌≡◌, ◌≢◌, ◌≤◌, ◌^◌, ℤ, pos, ◌-ℤ◌, IfOk, MatchOption};
-ghost use Rattle.ca_plane.specs.Plane.{Picture, cell as plane_cell, shifted, IsLive};
+ghost use Rattle.ca_plane.specs.Plane.{Picture, shifted};
 ghost use Rattle.ca_plane.specs.Generations.{IsAfter};
 ghost use Rattle.ca_quad.specs.Trees.{cell};
 ghost use Rattle.ca_run.specs.Leaping.{LeaperGrows};
-ghost use Rattle.ca_macro.specs.Pattern.{AreInRange};
 ghost use Rattle.ca_claims.specs.Text.{IsShift};
-ghost use Rattle.ca_claims.specs.Truth.{MayReturnBy, IsNotBack};
-ghost use Rattle.ca_claims.specs.inner.Returns.{IsNotBackBefore, IsFirstReturn, IsWide};
-ghost use Rattle.ca_claims.specs.inner.Subjects.{ShowsTree, IsNearTree, BarsReturn, IsNoMove, IsOnlyMove};
-ghost use Rattle.ca_claims.specs.inner.Subjects.{IsBackBy};
+ghost use Rattle.ca_claims.specs.Truth.{MayReturnBy, ShowsNothingBarred};
+ghost use Rattle.ca_claims.specs.inner.Returns.{IsSparedBefore, IsFirstReturn, IsWide};
+ghost use Rattle.ca_claims.specs.inner.Subjects.{ShowsTree, IsNearTree, IsPattern, BarsReturn, HasLive};
+ghost use Rattle.ca_claims.specs.inner.Subjects.{IsMove, IsNoMove, IsOnlyMove, IsBackBy};
 
 use super::divisors::proper_divisors;
-use super::{Case, copy, moved_tree, tree_after};
+use super::{Case, copy, tree_after};
+use crate::claims::Barred;
 use crate::observer::Observer;
 use crate::verdict::Why;
-use ca_plane::{Automaton, Memory, Plane};
+use ca_plane::{Automaton, Memory, MoveFault};
 use ca_quad::{Store, Tree};
 use ca_run::Leaper;
 use std::alloc::Global;
@@ -33,7 +33,7 @@ pub(super) fn first_return<A: Automaton, O: Observer>(
         → MayReturnBy case.now.asks.barred u v
         → IsAfter (A.next_of leaper.old.rule) cells case.now.asks.generations (shifted cells u v)
         → IfOk result (λ why. MatchOption why
-        (IsNotBackBefore (A.next_of leaper.old.rule) cells case.now.asks.barred case.now.asks.generations)
+        (IsSparedBefore (A.next_of leaper.old.rule) cells case.now.asks.barred case.now.asks.generations)
         (IsFirstReturn (A.next_of leaper.old.rule) cells case.now.asks.barred case.now.asks.generations)) }
 {
     // Says what holds of every leaper.
@@ -61,16 +61,17 @@ fn return_at<A: Automaton, O: Observer>(
     requires few { m ≤ 2 ^ 60 }
     ensures back { (cells : Picture) → ShowsTree leaper.old.nodes case.now.subject.pattern cells
         → IfOk result (λ back. MatchOption back
-        (IsNotBack (A.next_of leaper.old.rule) cells case.now.asks.barred m)
+        (ShowsNothingBarred (A.next_of leaper.old.rule) cells case.now.asks.barred m)
         (IsBackBy (A.next_of leaper.old.rule) cells case.now.asks.barred m)) }
     ensures goes_on { LeaperGrows A leaper.old leaper.new }
 {
     // Says what holds of every leaper.
     let _ = leaper.store();
     let end = tree_after(leaper, &case.subject.pattern, m, observer)?;
-    match &case.plane {
-        None => return_in_place(leaper, end, copy(&case.subject.pattern)),
-        Some(plane) => return_anywhere(case.alloc, leaper, end, plane),
+    let pattern = copy(&case.subject.pattern);
+    match case.asks.barred {
+        Barred::Anywhere => return_anywhere(case.alloc, leaper, end, pattern),
+        _ => return_in_place(leaper, end, pattern),
     }
 }
 
@@ -94,25 +95,28 @@ fn return_in_place<A: Automaton>(
     }
 }
 
-// The vector by which a tree shows a plane's cells moved, if there is one.
+// The vector by which a tree shows a live pattern's cells moved, if there is one.
 fn return_anywhere<A: Automaton>(
     alloc: Global,
     leaper: &mut Leaper<A>,
     end: Tree,
-    plane: &Plane,
+    pattern: Tree,
 ) -> Result<Option<(i64, i64)>, Memory>
     requires end { IsNearTree leaper.old.nodes end }
-    requires range { AreInRange (plane_cell plane.now) }
-    requires live { IsLive plane.now }
-    ensures back { IfOk result (λ back. MatchOption back (IsNoMove leaper.old.nodes end plane.now)
-        (λ v. ShowsTree leaper.old.nodes end (shifted plane.now v.0 v.1))) }
+    requires pattern { IsPattern leaper.old.nodes pattern }
+    requires live { HasLive (cell leaper.old.nodes pattern) }
+    ensures back { IfOk result (λ back. MatchOption back (IsNoMove leaper.old.nodes end pattern)
+        (λ v. IsMove leaper.old.nodes end pattern v.0 v.1)) }
     ensures goes_on { LeaperGrows A leaper.old leaper.new }
 {
-    let Some((dx, dy)) = corner_vector(alloc, leaper.store(), copy(&end), plane)? else {
+    let store = leaper.store();
+    let Some((dx, dy)) = corner_vector(alloc, store, copy(&end), copy(&pattern))? else {
         return Ok(None);
     };
-    let Some(moved) = moved_tree(alloc, leaper, plane, dx, dy)? else {
-        return Ok(None);
+    let moved = match leaper.shifted(pattern, dx, dy) {
+        Ok(moved) => moved,
+        Err(MoveFault::Memory) => return Err(Memory),
+        Err(MoveFault::Range) => return Ok(None),
     };
     match leaper.difference(end, moved)? {
         None => Ok(Some((dx, dy))),
@@ -120,22 +124,22 @@ fn return_anywhere<A: Automaton>(
     }
 }
 
-// The vector from the corner of a plane's least box to that of a tree's, where the tree isn't empty: no other
-// can move the plane onto the tree.
+// The vector from the corner of a live pattern's least box to that of a tree's, where the tree isn't empty: no
+// other can move the pattern onto the tree.
 fn corner_vector(
     alloc: Global,
     store: &Store,
     end: Tree,
-    plane: &Plane,
+    pattern: Tree,
 ) -> Result<Option<(i64, i64)>, Memory>
     requires end { IsNearTree store.now end }
-    requires range { AreInRange (plane_cell plane.now) }
-    requires live { IsLive plane.now }
+    requires pattern { IsPattern store.now pattern }
+    requires live { HasLive (cell store.now pattern) }
     ensures { IfOk result
-        (λ vector. MatchOption vector (IsNoMove store.now end plane.now)
-        (IsOnlyMove store.now end plane.now)) }
+        (λ vector. MatchOption vector (IsNoMove store.now end pattern)
+        (IsOnlyMove store.now end pattern)) }
 {
-    let Some(from) = plane.bounds() else {
+    let Some(from) = store.bounds(alloc, pattern)? else {
         unreachable!();
     };
     let Some(to) = store.bounds(alloc, end)? else {
@@ -145,12 +149,12 @@ fn corner_vector(
 }
 
 // How far it is from one coordinate to another.
-fn distance(from: i64, to: i128) -> i64
+fn distance(from: i128, to: i128) -> i64
     requires from { IsShift from }
     requires to { IsWide to }
     ensures { result ≡ to -ℤ from }
 {
-    let Ok(distance) = i64::try_from(to - i128::from(from)) else {
+    let Ok(distance) = i64::try_from(to - from) else {
         unreachable!();
     };
     distance

@@ -10,59 +10,55 @@ ghost use Rattle.ca_claims.specs.Answers.{AreTables};
 ghost use Rattle.ca_claims.specs.declared.refusal.About.TheVariants as abouts;
 ghost use Rattle.ca_claims.specs.inner.Found.{IsFound};
 ghost use Rattle.ca_claims.specs.inner.Patterns.{items, FirstBadAt};
-ghost use Rattle.ca_claims.specs.inner.Prepared.{IsPrepared, MayBe, IsFit, reading_refusal};
+ghost use Rattle.ca_claims.specs.inner.Prepared.{IsPrepared, IsFit, reading_refusal};
 ghost use Rattle.ca_claims.specs.inner.Prepared.{disagreement_refusal};
 ghost use Rattle.ca_claims.specs.inner.Refusals.{IsRefusal};
 ghost use Rattle.ca_claims.specs.inner.Tables.{AreRead};
 
 use super::agreement::{Disagreement, agreed_rule};
+use super::counts::{OUT_OF_MEMORY, check_count, last_part, subject_of};
 use super::library::Library;
 use super::one_or_two::OneOrTwo;
 use super::patterns::{Unread, read_each, with_rules};
-use super::planes::{OUT_OF_MEMORY, counted_plane, subject_of};
 use super::tables::Tables;
+use crate::claims::Asks;
 use crate::decide::Subject;
 use crate::refusal::{About, Part, Refusal};
 use crate::verdict::{Cause, PatternFault};
-use ca_plane::Plane;
 use ca_quad::Store;
 use ca_rule::{Rule, Table};
 use ca_run::Leaper;
 use std::alloc::Global;
 
-/// A leaper over the squares of a claim's patterns, under their one rule; their trees; and the plane of the
-/// claim's pattern, where its cells are counted.
+/// A leaper over the squares of a claim's patterns, under their one rule, and their trees.
 #[derive(Drop)]
 pub(crate) struct Prepared<'t> {
     pub(crate) leaper: Leaper<Rule<'t>>,
     pub(crate) subject: Subject,
-    pub(crate) plane: Option<Plane>,
 }
 
-/// What a claim about the patterns at these places is judged on, or why it isn't judged. `counted` tells
-/// whether the cells of its pattern are.
+/// What a claim that asks this of the patterns at these places is judged on, or why it isn't judged.
 pub(crate) fn prepare<'a, 't>(
     alloc: Global,
     library: &mut Library<'a>,
     places: &OneOrTwo<usize>,
-    counted: bool,
+    asks: Asks,
     found: &[Option<&'a [u8]>],
     tables: &'t Tables,
 ) -> Result<Prepared<'t>, Refusal>
     requires { AllByRecursion (λ i. i < length found.now) (items places.now) }
     ensures prepared { (files : List (List ℕ × List ℕ)) (paths rules : List (List ℕ))
         → map option_copied found.now ≡ map (bytes_at files) paths → AreRead files paths rules tables.now
-        → MatchResult result (IsPrepared files rules (map (path_at paths) (items places.now)) counted)
-        (IsRefusal files paths rules (map (path_at paths) (items places.now))) }
-    ensures counted { IfErr result (λ r. MayBe counted r.cause) }
-    ensures fit { IfOk result (IsFit counted) }
+        → MatchResult result (IsPrepared files rules asks (map (path_at paths) (items places.now)))
+        (IsRefusal files paths rules asks (map (path_at paths) (items places.now))) }
+    ensures fit { IfOk result IsFit }
 {
     let files = match files_at(places, found) {
         Ok(files) => files,
         Err(part) => return Err(of_pattern(Cause::NoFile, part, None)),
     };
     let tables = tables.all()?;
-    prepare_by(alloc, library, &files, counted, tables)
+    prepare_by(alloc, library, &files, asks, tables)
 }
 
 /// What a claim about the patterns whose files have these bytes is judged on, or why it isn't judged under
@@ -71,15 +67,14 @@ fn prepare_by<'a, 't>(
     alloc: Global,
     library: &mut Library<'a>,
     there: &OneOrTwo<&'a [u8]>,
-    counted: bool,
+    asks: Asks,
     tables: &'t [Table],
 ) -> Result<Prepared<'t>, Refusal>
     ensures prepared { (files : List (List ℕ × List ℕ)) (paths rules each : List (List ℕ))
         → AllZip (λ path b. bytes_at files path ≡ Some b.now) each (items there.now)
         → AreTables files rules tables.now
-        → MatchResult result (IsPrepared files rules each counted) (IsRefusal files paths rules each) }
-    ensures counted { IfErr result (λ r. MayBe counted r.cause) }
-    ensures fit { IfOk result (IsFit counted) }
+        → MatchResult result (IsPrepared files rules asks each) (IsRefusal files paths rules asks each) }
+    ensures fit { IfOk result IsFit }
 {
     let mut store = Store::new(alloc);
     let patterns = match read_each(alloc, library, &mut store, there) {
@@ -95,11 +90,10 @@ fn prepare_by<'a, 't>(
         Err(disagreement) => return Err(disagreement_refusal(disagreement)),
     };
     let subject = subject_of(&patterns);
-    let plane = counted_plane(alloc, &store, subject.pattern, counted)?;
+    check_count(alloc, &store, &subject, asks, last_part(&patterns))?;
     Ok(Prepared {
         leaper: Leaper::new(alloc, store, rule),
         subject,
-        plane,
     })
 }
 

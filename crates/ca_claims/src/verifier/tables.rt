@@ -6,7 +6,7 @@ ghost use Rattle.std.specs.List.{AllByRecursion, AllZip};
 ghost use Rattle.std.specs.Option.{option_copied};
 ghost use Rattle.ca_rule.specs.TableNext.{TableRule};
 ghost use Rattle.ca_rule.specs.declared.table.fault.TableFault.TheVariants as table_fault;
-ghost use Rattle.ca_claims.specs.declared.verdict.Cause.TheVariants as causes;
+ghost use Rattle.ca_claims.specs.declared.claims.asks.Asks.{Asks};
 ghost use Rattle.ca_claims.specs.Places.{path_at};
 ghost use Rattle.ca_claims.specs.Means.{bytes_at};
 ghost use Rattle.ca_claims.specs.Answers.{IsThere, AreTables, FirstBad};
@@ -71,10 +71,10 @@ impl Tables {
     pub(crate) fn all(&self) -> Result<&[Table], Refusal>
         ensures tables { (files : List (List ℕ × List ℕ)) (paths rules : List (List ℕ))
             → AreRead files paths rules self.now → IfOk result (λ tables. AreTables files rules tables.now) }
-        ensures refusal { (files : List (List ℕ × List ℕ)) (paths rules patterns : List (List ℕ))
-            → AreRead files paths rules self.now → AllByRecursion (IsThere files) patterns
-            → IfErr result (IsRefusal files paths rules patterns) }
-        ensures kind { IfErr result (λ r. r.cause ≢ causes.TooManyCells) }
+        ensures refusal { (files : List (List ℕ × List ℕ)) (paths rules : List (List ℕ)) (asks : Asks)
+            (patterns : List (List ℕ)) → AreRead files paths rules self.now
+            → AllByRecursion (IsThere files) patterns
+            → IfErr result (IsRefusal files paths rules asks patterns) }
     {
         match self {
             Tables::Missing(place) => Err(Refusal {

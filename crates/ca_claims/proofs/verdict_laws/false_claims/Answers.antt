@@ -2,6 +2,10 @@ use Rattle.std.proofs.Common.{◌≡◌, ◌≢◌, ℕ, List, refl, sym, ap, �
 use Rattle.std.specs.Prelude.{ℤ, pos, ◌↔◌}
 use Rattle.ca_plane.specs.Plane.{Picture, cell, shifted}
 use Rattle.ca_plane.specs.Generations.{after, IsAfter}
+use Rattle.ca_claims.specs.declared.claims.line.Kind.{Kind}
+use Rattle.ca_claims.specs.declared.claims.line.Kind.TheVariants.{Still, Oscillator, Spaceship, Becomes, BecomesShifted, Dies}
+use Rattle.ca_claims.specs.declared.claims.asks.Barred.TheVariants.{EmptyPlane}
+use Rattle.ca_claims.specs.Truth.{asks_of}
 use Rattle.ca_claims.proofs.Times.{cell_shifted_0, unmoved}
 use Rattle.ca_claims.proofs.verdict_laws.false_claims.Goals as goal
 
@@ -71,3 +75,45 @@ returns-clause-becomes_differs c = λ next cells other generations x y found wan
 
 pub returns-clause-becomes_earlier : goal.returns-clause-becomes_earlier
 returns-clause-becomes_earlier c = λ next cells other generations m dx dy h. h.4
+
+pub returns-clause-shifted_empty : goal.returns-clause-shifted_empty
+returns-clause-shifted_empty c = λ next cells other generations dx dy h. cc
+
+pub returns-clause-shifted_differs : goal.returns-clause-shifted_differs
+returns-clause-shifted_differs c = λ next cells other generations dx dy x y found wanted n. (
+  λ h. (h.1, ap (λ k. after next cells k x y) (sym h.1) ∙ h.2, h.3, h.4),
+  λ h. (λ no. cc, h.0, ap (λ k. after next cells k x y) h.0 ∙ h.1, h.2, h.3),
+)
+
+pub returns-clause-shifted_earlier : goal.returns-clause-shifted_earlier
+returns-clause-shifted_earlier c = λ next cells other generations m dx dy u v h. h.4
+
+pub returns-clause-dies_empty : goal.returns-clause-dies_empty
+returns-clause-dies_empty c = λ next cells other generations. (λ h. h.1, λ h. (refl, h))
+
+pub returns-clause-dies_differs : goal.returns-clause-dies_differs
+returns-clause-dies_differs c = λ next cells other generations x y found wanted n. (
+  λ h. (h.0 refl, h.1, ap (λ k. after next cells k x y) (sym h.1) ∙ h.2, sym h.3, h.4),
+  λ h. (λ _. h.0, h.1, ap (λ k. after next cells k x y) h.1 ∙ h.2, sym h.3, h.4),
+)
+
+pub returns-clause-dies_earlier : goal.returns-clause-dies_earlier
+returns-clause-dies_earlier c = λ next cells other generations m dx dy h. h.4
+
+pub returns-clause-dies_died : goal.returns-clause-dies_died
+returns-clause-dies_died c = λ next cells other generations m. (
+  λ h. (h.0, h.1, h.2, h.3, h.5, h.6),
+  λ h. (h.0, h.1, h.2, h.3, refl, h.4, h.5),
+)
+
+-- only where an empty plane is barred an early death is a reason
+death_barred : (kind : Kind) → (asks_of kind).barred ≡ EmptyPlane → (n : ℕ) × (kind ≡ Dies n)
+death_barred Still is = cc
+death_barred (Oscillator period) is = cc
+death_barred (Spaceship period dx dy) is = cc
+death_barred (Becomes generations) is = cc
+death_barred (BecomesShifted generations dx dy) is = cc
+death_barred (Dies generations) is = (generations, refl)
+
+pub returns-clause-only_dies_died : goal.returns-clause-only_dies_died
+returns-clause-only_dies_died c = λ next cells other kind m h. death_barred kind h.4

@@ -13,10 +13,10 @@ pub returns-clause-no_or_refused : goal.returns-clause-no_or_refused
 returns-clause-no_or_refused c = λ files rules claim why cause no n r. judged_or_cause files rules claim n.0 n.1 n.2 cause no n.3 r
 
 pub returns-clause-one_cause : goal.returns-clause-one_cause
-returns-clause-one_cause c = λ files rules claim one two m n h k. one_cause files rules (patterns_of claim) one two m n h.0 k.0
+returns-clause-one_cause c = λ files rules claim one two m n h k. one_cause files rules (asks_of claim.kind) (patterns_of claim) one two m n h k
 
 pub returns-clause-no_file_or_memory : goal.returns-clause-no_file_or_memory
-returns-clause-no_file_or_memory c = λ files rules claim h k. no_file_or_memory files rules (patterns_of claim) h.0 k.0
+returns-clause-no_file_or_memory c = λ files rules claim h k. no_file_or_memory files rules (asks_of claim.kind) (patterns_of claim) h k
 
 pub returns-clause-bad_table_or_memory : goal.returns-clause-bad_table_or_memory
-returns-clause-bad_table_or_memory c = λ files rules claim fault h k. bad_table_or_memory files rules (patterns_of claim) fault h.0 k.0
+returns-clause-bad_table_or_memory c = λ files rules claim fault h k. bad_table_or_memory files rules (asks_of claim.kind) (patterns_of claim) fault h k

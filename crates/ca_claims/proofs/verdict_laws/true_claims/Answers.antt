@@ -36,3 +36,15 @@ returns-clause-becomes c = λ next cells other generations. (
   λ true. in_place next cells other generations true.stands,
   λ h. record { live = λ no. cc; stands = moved_by_none next cells other generations h; least = λ m low high. tt },
 )
+
+pub returns-clause-becomes_shifted : goal.returns-clause-becomes_shifted
+returns-clause-becomes_shifted c = λ next cells other generations dx dy. (
+  λ true. true.stands,
+  λ h. record { live = λ no. cc; stands = h; least = λ m low high. tt },
+)
+
+pub returns-clause-dies : goal.returns-clause-dies
+returns-clause-dies c = λ next cells other generations. (
+  λ true. (true.live refl, true.stands, true.least),
+  λ h. record { live = λ _. h.0; stands = h.1; least = h.2 },
+)

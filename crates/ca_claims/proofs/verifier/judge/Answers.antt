@@ -1,13 +1,14 @@
-use Rattle.std.proofs.Common.{◌<◌, length, map, subst, sym}
+use Rattle.std.proofs.Common.{◌<◌, length, map, subst}
 use Rattle.ca_rule.specs.Rule.{rule_value, next_of}
 use Rattle.ca_claims.specs.Text.{patterns_of, about}
 use Rattle.ca_claims.specs.Places.{path_at}
 use Rattle.ca_claims.specs.declared.refusal.About.TheVariants.{Claim}
 use Rattle.ca_claims.specs.declared.verdict.Verdict.TheVariants.{Refused}
-use Rattle.ca_claims.specs.Answers.{IsCounted}
+use Rattle.ca_claims.specs.Answers.{HasCause}
 use Rattle.ca_claims.specs.inner.Refusals.{IsJudgedOn}
 use Rattle.ca_claims.specs.inner.Patterns.{items}
 use Rattle.ca_claims.specs.inner.Decided.{IsDecided}
+use Rattle.ca_claims.specs.inner.Prepared.{IsPrepared}
 use Rattle.ca_claims.proofs.Causes.{once_paths, once_all, cause_of_all, passed_on, is_subject, true_verdict}
 use Rattle.ca_claims.proofs.Parts.{on_all}
 use Rattle.ca_claims.proofs.verifier.judge.Goals as goal
@@ -24,13 +25,13 @@ returns-in_err-prepared g c = λ files paths rules e read.
     let refused = c.in_err-prepared.ensures.prepared files paths rules e read in
     passed_on (λ verdict. IsJudgedOn files paths rules claim verdict Claim) (λ r. IsJudgedOn files paths rules claim (Refused r.cause) r.about) c.from_residual.result refusal c.from_residual.ensures.1
     (record {
-      holds = (cause_of_all files rules each (patterns_of claim) refusal.cause once refused.holds, λ many. subst IsCounted c.asks-asks.ensures (c.counts_cells.ensures.0 (c.in_err-prepared.ensures.counted many)));
+      holds = subst (λ asks. HasCause files rules asks (patterns_of claim) refusal.cause) c.asks-asks.ensures (cause_of_all files rules c.asks-asks.result each (patterns_of claim) refusal.cause once refused.holds);
       on = on_all files rules paths each (patterns_of claim) once refusal.cause refusal.about refused.on;
     })
 
 pub decide_on-requires : goal.decide_on-requires
 decide_on-requires g c =
-    is_subject c.args.claim.now.kind c.asks-asks.result c.counts_cells.result c.in_ok-prepared.prepared c.asks-asks.ensures c.requires.numbers c.counts_cells.ensures c.in_ok-prepared.ensures.fit
+    is_subject c.args.claim.now.kind c.asks-asks.result c.in_ok-prepared.prepared c.asks-asks.ensures c.requires.numbers c.in_ok-prepared.ensures.fit
 
 pub returns : goal.returns
 returns g c = λ files paths rules e read.
@@ -38,6 +39,6 @@ returns g c = λ files paths rules e read.
     let each = map (path_at paths) (items c.places_of.result) in
     let once = once_paths paths claim (items c.places_of.result) c.places_of.ensures in
     let prepared = c.in_ok-prepared.prepared in
-    let is = c.in_ok-prepared.ensures.prepared files paths rules e read in
-    true_verdict files rules paths claim each c.counts_cells.result prepared c.decide_on.result once (λ counts. c.counts_cells.ensures.1 (subst IsCounted (sym c.asks-asks.ensures) counts)) is
+    let is = subst (λ asks. IsPrepared files rules asks each prepared) c.asks-asks.ensures (c.in_ok-prepared.ensures.prepared files paths rules e read) in
+    true_verdict files rules paths claim each prepared c.decide_on.result once is
     (subst (λ asks. IsDecided (next_of (rule_value prepared.leaper.rule)) is.cells is.other asks c.decide_on.result) c.asks-asks.ensures (c.decide_on.ensures is.cells is.other is.shown))

@@ -6,7 +6,7 @@ use Rattle.ca_claims.proofs.claims.words.becomes.Goals as goal
 
 pub returns : goal.returns
 returns c =
-    let n = c.in_ok-name.generations.now in
-    let other = c.in_ok-name.other.now in
+    let n = c.in-Some.generations.now in
+    let other = c.in-Some.other.now in
     let number = c.in_ok-generations.ensures in
-    (Becomes (value n), (n, other, ap (λ ws. codes "becomes" ∷ ws) c.in_ok-name.ensures, number.0, refl, refl), held_becomes (value n) c.in_ok-generations.generations number.1)
+    (Becomes (value n), (n, other, ap (λ ws. codes "becomes" ∷ ws) c.in-Some.ensures, number.0, refl, refl), held_becomes (value n) c.in_ok-generations.generations number.1)

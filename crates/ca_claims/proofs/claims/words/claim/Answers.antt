@@ -3,17 +3,16 @@ use Rattle.ca_claims.specs.declared.claims.line.Claim.{Claim as ClaimOf}
 use Rattle.std.specs.Str.{bytes_eq}
 use Rattle.std.proofs.lemmas.Slice.Eq.{bytes_eq-Decides}
 use Rattle.ca_plane.specs.Bytes.{words_of}
-use Rattle.ca_claims.specs.Text.{Claim, Claims, ClaimWordsSay}
-use Rattle.ca_claims.specs.inner.Reading.{MakesClaim}
+use Rattle.ca_claims.specs.inner.Reading.{MakesClaim, MakeNoClaim}
 use Rattle.ca_claims.proofs.claims.words.claim.Goals as goal
 
 -- the claim of a keyword
 of_keyword : (keyword spelled slice words : List ℕ) (result : Option (ClaimOf (Bor (List ℕ)))) → slice ≡ spelled → true ≡ bytes_eq keyword slice
-    → MatchOption result ((o : Claim) → ClaimWordsSay (spelled ∷ words_of words) (Claims o) → ⊥) (λ o. MakesClaim (spelled ∷ words_of words) o)
-    → MatchOption result ((o : Claim) → ClaimWordsSay (keyword ∷ words_of words) (Claims o) → ⊥) (λ o. MakesClaim (keyword ∷ words_of words) o)
+    → MatchOption result (MakeNoClaim (spelled ∷ words_of words)) (λ o. MakesClaim (spelled ∷ words_of words) o)
+    → MatchOption result (MakeNoClaim (keyword ∷ words_of words)) (λ o. MakesClaim (keyword ∷ words_of words) o)
 of_keyword keyword spelled slice words result e test made =
     let same : keyword ≡ spelled = (bytes_eq-Decides keyword spelled).0 (ap (bytes_eq keyword) (sym e) ∙ sym test) in
-    subst (λ k. MatchOption result ((o : Claim) → ClaimWordsSay (k ∷ words_of words) (Claims o) → ⊥) (λ o. MakesClaim (k ∷ words_of words) o)) (sym same) made
+    subst (λ k. MatchOption result (MakeNoClaim (k ∷ words_of words)) (λ o. MakesClaim (k ∷ words_of words) o)) (sym same) made
 
 pub returns-then-eq : goal.returns-then-eq
 returns-then-eq c = of_keyword c.args.keyword.now (codes "still") c.as_slice.result.now c.args.words.now c.still.result c.as_slice.ensures c.if-eq.ensures c.still.ensures
@@ -26,3 +25,6 @@ returns-then-eq-3 c = of_keyword c.args.keyword.now (codes "spaceship") c.as_sli
 
 pub returns-then-eq-4 : goal.returns-then-eq-4
 returns-then-eq-4 c = of_keyword c.args.keyword.now (codes "becomes") c.as_slice-4.result.now c.args.words.now c.becomes.result c.as_slice-4.ensures c.if-eq-4.ensures c.becomes.ensures
+
+pub returns-then-eq-5 : goal.returns-then-eq-5
+returns-then-eq-5 c = of_keyword c.args.keyword.now (codes "dies") c.as_slice-5.result.now c.args.words.now c.dies.result c.as_slice-5.ensures c.if-eq-5.ensures c.dies.ensures

@@ -2,7 +2,7 @@ use Rattle.std.proofs.Common.{rules, subst, w64, SFits}
 use Rattle.std.specs.Prelude.{ℤ}
 use Rattle.std.proofs.lemmas.Int.{to_z-of_z}
 use Rattle.ca_run.proofs.Shown.{goes_on_again}
-use Rattle.ca_claims.specs.Truth.{IsNotBack}
+use Rattle.ca_claims.specs.Truth.{ShowsNothingBarred}
 use Rattle.ca_claims.specs.inner.Subjects.{AreLeft, IsBackBy}
 use Rattle.ca_claims.proofs.Leapt.{bars_stays, shows_stays}
 use Rattle.ca_claims.proofs.DividedReturns.{one_fewer, none_left, found_first}
@@ -36,7 +36,7 @@ divisors-preserved g c =
       goes_on = goes_on_again _ c.args.leaper.now c.divisors.leaper c.return_at.new.leaper inv.goes_on c.in_ok-dx.ensures.goes_on;
       left = one_fewer (next c.args.leaper.now.rule) s0 case c.in-Some.first.now c.in-Some.later.now (subst (AreLeft (next c.args.leaper.now.rule) s0 case) c.in-Some.ensures.cases.0 inv.left) (λ cells shows.
           let later = shows_stays s0 c.divisors.leaper.nodes c.store.ensures.sound inv.goes_on.grows case.subject.pattern cells c.requires.subject.pattern.is_tree shows in
-          subst (λ r. IsNotBack (next r) cells case.asks.barred c.in-Some.first.now) inv.goes_on.rule (rw c.in_default-2.is at (c.in_ok-dx.ensures.back cells later)));
+          subst (λ r. ShowsNothingBarred (next r) cells case.asks.barred c.in-Some.first.now) inv.goes_on.rule (rw c.in_default-2.is at (c.in_ok-dx.ensures.back cells later)));
     }
 
 pub returns : goal.returns

@@ -34,6 +34,10 @@ const ANSWERS: &[Answer] = &[
         }),
     },
     Answer {
+        line: 9,
+        verdict: Verdict::No(Why::Died { m: u64::MAX }),
+    },
+    Answer {
         line: 14,
         verdict: Verdict::Refused(Cause::BadPattern(PatternFault::Rle(RleFault::Memory))),
     },
@@ -54,6 +58,7 @@ const ANSWERS: &[Answer] = &[
 const LINES: &[u8] = b"line 0: yes
 line 18446744073709551615: no, cells differ after 4294967295
 line 13: no, the same after 4294967294, shifted by -9223372036854775808,-1
+line 9: no, empty after 18446744073709551615
 line 14: refused, memory
 line 15: refused, memory
 line 16: refused, memory

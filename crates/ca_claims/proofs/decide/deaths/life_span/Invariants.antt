@@ -1,0 +1,14 @@
+use Rattle.std.proofs.Common.{◌-◌}
+use Rattle.ca_run.specs.Leaping.{LeaperGrows}
+use Rattle.ca_claims.specs.inner.Subjects.{AreLifeBounds}
+use Rattle.ca_claims.proofs.decide.deaths.life_span.Given as goal
+
+-- times between which the pattern dies
+abbrev pub invariant-halves : goal.invariant-halves
+invariant-halves g l = record {
+  goes_on : LeaperGrows _ l.fn.leaper l.leaper;
+  bounds : AreLifeBounds (g.A.Automaton.next_of l.fn.leaper.rule) l.fn.leaper.nodes l.fn.case l.low l.high;
+}
+
+abbrev pub decreases-halves : goal.decreases-halves
+decreases-halves g l = l.high - l.low

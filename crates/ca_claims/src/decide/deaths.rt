@@ -1,0 +1,64 @@
+//! When a pattern is dead before a claim's generations are over.
+
+ghost use Rattle.std.specs.Prelude.{◌≤◌, [], IfOk, MatchOption};
+ghost use Rattle.ca_plane.specs.Plane.{Picture};
+ghost use Rattle.ca_plane.specs.Generations.{IsAfter};
+ghost use Rattle.ca_claims.specs.declared.claims.asks.Barred.TheVariants.{EmptyPlane};
+ghost use Rattle.ca_claims.specs.inner.Returns.{IsSparedBefore, IsFirstDeath, IsLifeSpan};
+ghost use Rattle.ca_claims.specs.inner.Subjects.{ShowsTree, BarsDeath};
+
+use super::{Case, is_dead, tree_after};
+use crate::observer::Observer;
+use crate::verdict::Why;
+use ca_plane::{Automaton, Memory};
+use ca_run::Leaper;
+
+/// The least time after which the plane is empty, where it is before the claim's generations are over.
+pub(super) fn first_death<A: Automaton, O: Observer>(
+    leaper: &mut Leaper<A>,
+    case: &Case,
+    observer: &mut O,
+) -> Result<Option<Why>, Memory>
+    requires { BarsDeath leaper.old.nodes case.now }
+    ensures { (cells : Picture) → ShowsTree leaper.old.nodes case.now.subject.pattern cells
+        → IsAfter (A.next_of leaper.old.rule) cells case.now.asks.generations []
+        → IfOk result (λ why. MatchOption why
+        (IsSparedBefore (A.next_of leaper.old.rule) cells EmptyPlane case.now.asks.generations)
+        (IsFirstDeath (A.next_of leaper.old.rule) cells case.now.asks.generations)) }
+{
+    let m = life_span(leaper, case, observer)?;
+    if m == case.asks.generations {
+        return Ok(None);
+    }
+    Ok(Some(Why::Died { m }))
+}
+
+// After how many generations a live pattern's plane is empty first, where it's empty after the claim's. An
+// empty plane stays empty, so the time is found by halves.
+fn life_span<A: Automaton, O: Observer>(
+    leaper: &mut Leaper<A>,
+    case: &Case,
+    observer: &mut O,
+) -> Result<u64, Memory>
+    requires { BarsDeath leaper.old.nodes case.now }
+    ensures some { IfOk result (λ m. 1 ≤ m) }
+    ensures most { IfOk result (λ m. m ≤ case.now.asks.generations) }
+    ensures span { (cells : Picture) → ShowsTree leaper.old.nodes case.now.subject.pattern cells
+        → IsAfter (A.next_of leaper.old.rule) cells case.now.asks.generations []
+        → IfOk result (IsLifeSpan (A.next_of leaper.old.rule) cells) }
+{
+    // Says what holds of every leaper.
+    let _ = leaper.store();
+    let mut low: u64 = 0;
+    let mut high = case.asks.generations;
+    'halves: while high - low > 1 {
+        let middle = low + (high - low) / 2;
+        let plane = tree_after(leaper, &case.subject.pattern, middle, observer)?;
+        if is_dead(leaper.store(), &plane) {
+            high = middle;
+        } else {
+            low = middle;
+        }
+    }
+    Ok(high)
+}

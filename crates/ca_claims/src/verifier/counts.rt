@@ -1,0 +1,115 @@
+//! What a claim is judged on, and whether the cells that it moves are too many.
+
+ghost use Rattle.std.specs.Prelude.{◌≡◌, OnOk, IfErr, Some};
+ghost use Rattle.ca_claims.specs.declared.refusal.About.TheVariants as abouts;
+ghost use Rattle.ca_claims.specs.declared.verdict.Cause.TheVariants as causes;
+ghost use Rattle.ca_claims.specs.inner.Patterns.{items, AreBoth};
+ghost use Rattle.ca_claims.specs.inner.Prepared.{AreFewCounted, IsCountRefused, last_part, wanted_part};
+ghost use Rattle.ca_claims.specs.inner.Prepared.{wanted_tree, refusal_for_count};
+ghost use Rattle.ca_claims.specs.inner.Subjects.{IsPattern};
+
+use super::one_or_two::OneOrTwo;
+use crate::cells::has_too_many_cells;
+use crate::claims::{Asks, Wanted};
+use crate::decide::Subject;
+use crate::refusal::{About, Part, Refusal};
+use crate::ruled::Ruled;
+use crate::verdict::Cause;
+use ca_quad::{Store, Tree};
+use std::alloc::Global;
+
+/// No memory for a claim.
+pub(crate) const OUT_OF_MEMORY: Refusal = Refusal {
+    cause: Cause::Memory,
+    about: About::Claim,
+};
+
+/// The trees of a claim's pattern and of the other one, which is the same where there is one.
+pub(crate) fn subject_of(patterns: &OneOrTwo<Ruled<'_>>) -> Subject
+    ensures { AreBoth (items patterns.now) result }
+{
+    match patterns {
+        OneOrTwo::One(only) => Subject {
+            pattern: only.pattern.tree,
+            other: only.pattern.tree,
+        },
+        OneOrTwo::Two(first, second) => Subject {
+            pattern: first.pattern.tree,
+            other: second.pattern.tree,
+        },
+    }
+}
+
+/// Which of a claim's patterns is the other one.
+pub(crate) fn last_part(patterns: &OneOrTwo<Ruled<'_>>) -> Part
+    ensures { result ≡ last_part (items patterns.now) }
+{
+    match patterns {
+        OneOrTwo::One(_) => Part::First,
+        OneOrTwo::Two(_, _) => Part::Second,
+    }
+}
+
+/// Looks whether the cells that a claim moves are few: its pattern's, or those of the other one, which is this
+/// of its patterns.
+pub(crate) fn check_count(
+    alloc: Global,
+    store: &Store,
+    subject: &Subject,
+    asks: Asks,
+    other: Part,
+) -> Result<(), Refusal>
+    requires pattern { IsPattern store.now subject.now.pattern }
+    requires other { IsPattern store.now subject.now.other }
+    ensures few { OnOk result (AreFewCounted store.now asks subject.now) }
+    ensures many { IfErr result (IsCountRefused store.now asks subject.now other) }
+{
+    if !asks.moved {
+        return Ok(());
+    }
+    let Some(tree) = wanted_tree(asks.wanted, subject) else {
+        return Ok(());
+    };
+    match has_too_many_cells(alloc, store, tree) {
+        Ok(false) => Ok(()),
+        Ok(true) => Err(refusal_for_count(wanted_part(asks.wanted, other))),
+        Err(_) => Err(OUT_OF_MEMORY),
+    }
+}
+
+/// The tree of the pattern whose cells are wanted, where some are.
+fn wanted_tree(wanted: Wanted, subject: &Subject) -> Option<Tree>
+    ensures { result ≡ wanted_tree wanted subject.now }
+{
+    match wanted {
+        Wanted::Own => Some(Tree {
+            root: subject.pattern.root,
+            level: subject.pattern.level,
+        }),
+        Wanted::Other => Some(Tree {
+            root: subject.other.root,
+            level: subject.other.level,
+        }),
+        Wanted::NoCells => None,
+    }
+}
+
+/// Which of a claim's patterns that is; the other one is this of them.
+fn wanted_part(wanted: Wanted, other: Part) -> Part
+    ensures { result ≡ wanted_part wanted other }
+{
+    match wanted {
+        Wanted::Own | Wanted::NoCells => Part::First,
+        Wanted::Other => other,
+    }
+}
+
+/// This pattern of a claim has too many cells.
+fn refusal_for_count(part: Part) -> Refusal
+    ensures { result ≡ refusal_for_count part }
+{
+    Refusal {
+        cause: Cause::TooManyCells,
+        about: About::Pattern { part, line: None },
+    }
+}
