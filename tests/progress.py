@@ -38,6 +38,16 @@ def fours(count):
     return count, list(range(0, count + 1, 4))
 
 
+def halves(count, span):
+    """The runs of a claim that a pattern dies after so many generations, where it does after this span: the claim's own, and those of the times half-way."""
+    runs, low, high = [digits(count)], 0, count
+    while high - low > 1:
+        middle = (low + high) // 2
+        runs.append(digits(middle))
+        low, high = (low, middle) if middle >= span else (middle, high)
+    return runs
+
+
 class Watched(ClaimText):
     """A claim text, and what each claim's run goes through."""
 
@@ -73,11 +83,13 @@ def shown_of(line, runs, milliseconds, before):
 def claims(files):
     """A claim text whose claims go through some runs."""
     text = Watched(files)
+    text.lines.append(b"claims 2")
     text.load_path("r", PENTOMINO)
     text.load_path("s", "examples/r_pentomino_1103.rle")
     text.load_path("blinker", "examples/blinker.rle")
     text.load_path("block", "examples/block.rle")
     text.load_path("glider", "examples/glider.rle")
+    text.load_path("diehard", "examples/reactions/diehard.rle")
     text.load("empty", "x = 1, y = 1\n!")
     text.long_claim("still block", "yes", digits(1))
     text.long_claim("becomes r 1103 s", "yes", digits(1103))
@@ -89,6 +101,11 @@ def claims(files):
     text.long_claim("oscillator blinker 2", "yes", digits(2), digits(1))
     text.long_claim("spaceship glider 4 1 1", "yes", digits(4), digits(1), digits(2))
     text.long_claim("spaceship glider 4 1 0", "no, cells differ after 4", digits(4))
+    text.long_claim("becomes glider 4 glider shift 1 1", "yes", digits(4))
+    # and those of times at which it may be dead
+    text.long_claim("dies diehard 130", "yes", *halves(130, 130))
+    text.long_claim("dies diehard 1000", "no, empty after 130", *halves(1000, 130))
+    text.long_claim("dies diehard 129", "no, cells differ after 129", digits(129))
     text.long_claim("still empty", "no, empty")
     for line in (999, 1000, 1001, 65536, 100000, 131073):
         text.on_line(line)

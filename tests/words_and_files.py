@@ -14,7 +14,7 @@ MAX_FILE = 67108864
 HELP = {
     "show": ("--rule", "format macrocell", "rule B3/S23", "gen 4", "cells 5", "box 1 2 3 3", "- is standard input", "The status is 0, or 2"),
     "convert": ("--to", "--rule", "rle, mc", "- is standard input", "The status is 0, or 2"),
-    "verify": ("CLAIMS", "--explain", "--progress", "rule PATH", "load NAME PATH", "still NAME", "oscillator NAME P", "spaceship NAME P DX DY", "becomes NAME N NAME2",
+    "verify": ("CLAIMS", "--explain", "--progress", "rule PATH", "load NAME PATH", "still NAME", "oscillator NAME P", "spaceship NAME P DX DY", "becomes NAME N NAME2", "becomes NAME N NAME2 shift DX DY", "dies NAME N", "claims 2",
                "relative to the working directory", "hold no blanks", "- is standard input", "The status is 0", "1 where", "2 where"),
 }
 
@@ -30,11 +30,12 @@ def try_help(tally):
     for text in [run(["--help"]).printed, *(it.printed for it in helps.values())]:
         for line in re.findall(r"^  (?:cat .* \| )?cafile .*$", text.decode(), re.M):
             ran = subprocess.run(["sh", "-c", line.replace("cafile ", '"$0" '), PROGRAM], cwd=ROOT, capture_output=True, timeout=MOST_WAITING, check=False)
-            wanted = 2 if "several" in line else 1 if "pulsar" in line else 0
+            wanted = 2 if "several" in line else 1 if "pulsar" in line or "reactions" in line else 0
             tally.tell(f"in the help: {line.strip()}", [] if ran.stdout and not ran.stderr and ran.returncode == wanted else [str(ran)])
     claims = re.findall(r"^      (\w.*)$", helps["verify"].printed.decode(), re.M)
-    loads = [f"load {name} examples/{name}.rle" for name in ("block", "pulsar", "blinker", "blinker_1")]
-    tally.expect(f"in the help: {claims}", run(["verify", "-"], input="\n".join([*loads, *claims]).encode()), lines_outcome([(at, "yes") for at in (7, 8, 9, 10)]))
+    loads = [f"load {os.path.basename(name)} examples/{name}.rle" for name in ("block", "pulsar", "blinker", "blinker_1", "reactions/diehard")]
+    lines = [claims[0], *loads, *claims[1:]]
+    tally.expect(f"in the help: {claims}", run(["verify", "-"], input="\n".join(lines).encode()), lines_outcome([(at, "yes") for at in range(9, 15)]))
 
 
 def try_words(tally):
