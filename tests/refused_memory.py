@@ -28,7 +28,7 @@ from sizes import BLOCK, long_text, spelled
 # Claim texts of examples/, and how many allocations are passed over between two that are refused.
 EXAMPLES = {"block": 1, "glider": 1, "several": 1, "bad_patterns": 1, "rules": 1, "mixed_rules": 1, "states": 1, "pulsar": 1, "number": 1, "syntax": 1,
             "unknown_name": 1, "table_causes": 1, "bad_table": 1, "slide": 1, "tables": 5, "r_pentomino": 11, "soup": 11, "macrocells": 11,
-            "bad_macrocells": 5, "generations": 11, "reactions": 11}
+            "bad_macrocells": 5, "generations": 11, "reactions": 11, "every_kind": 1}
 
 # Examples of `show` and `convert`, in both formats, with a rule file and without, and with a fault.
 WORDS = {"show_rle": 1, "show_macrocell": 1, "show_table": 1, "show_no_table": 1, "show_bad_table": 1, "show_timeline": 1, "show_full_square": 7,
