@@ -6,7 +6,7 @@ use Rattle.ca_quad.specs.declared.node.Node.{Node}
 use Rattle.ca_quad.specs.declared.tree.Tree.{Tree}
 use Rattle.ca_quad.specs.declared.tree.WideBounds.{WideBounds}
 use Rattle.ca_quad.specs.Trees.{cell}
-use Rattle.ca_quad.specs.Boxes.{IsDead, IsLeastWideBox}
+use Rattle.ca_quad.specs.Boxes.{IsLeastWideBox}
 use Rattle.ca_quad.specs.Trimmed.{HoldsAll}
 use Rattle.ca_quad.specs.Expanded.{FitsPlane, HasCellOutsidePlane}
 use Rattle.ca_quad.specs.inner.Reach.{IsBoxInReach, IsBoxOutOfReach}
@@ -14,9 +14,6 @@ use Rattle.ca_quad.proofs.Edges.{outside_x, outside_y}
 use Rattle.ca_quad.proofs.Filled.{place_on}
 
 module _ (cells : ℤ → ℤ → ℕ) where
-  pub dead_fits : IsDead cells → FitsPlane cells
-  dead_fits dead x y h = absurd (h (dead x y))
-
   module _ (box : WideBounds) (least : IsLeastWideBox cells box) where
     pub box_leaves : IsBoxOutOfReach box → HasCellOutsidePlane cells
     box_leaves (inl h) = (box.x0, least.left.0, least.left.1, λ i. absurd (omega (arith, ints, i.0)))

@@ -2,8 +2,6 @@
 use Rattle.std.proofs.Common.{◌≡◌, ◌≢◌, ℕ, suc, ◌+◌, ◌-◌, ◌<◌, ◌≤◌, ◌^◌, ◌%◌, inl, inr, ℤ, pos, neg_ℤ, ◌+ℤ◌, ◌-ℤ◌, ◌<ℤ◌, ◌≤ℤ◌, List, [], ◌∷◌, length, mod-eq_of_lt, refl, sym, ap, subst, ◌∙◌, arith}
 use Rattle.std.proofs.lemmas.Int.{ints}
 use Rattle.std.proofs.Math.Nat.{pow-le-pow_right}
-use Rattle.ca_plane.specs.declared.memory.MoveFault.{MoveFault}
-use Rattle.ca_plane.specs.declared.memory.MoveFault.TheVariants.{Memory, Range}
 use Rattle.ca_quad.specs.declared.neighbours.Neighbours.{Neighbours}
 use Rattle.ca_quad.specs.declared.node.Node.{Node}
 use Rattle.ca_quad.specs.declared.store.cut.Way.{Way}
@@ -12,7 +10,7 @@ use Rattle.ca_quad.specs.declared.tree.Tree.{Tree}
 use Rattle.ca_quad.specs.declared.tree.WideBounds.{WideBounds}
 use Rattle.ca_quad.specs.Boxes.{IsLeastWideBox}
 use Rattle.ca_quad.specs.Expanded.{FitsPlane}
-use Rattle.ca_quad.specs.Shifted.{shifted_cells, IsShiftRefused}
+use Rattle.ca_quad.specs.Shifted.{shifted_cells}
 use Rattle.ca_quad.specs.Sound.{IsSoundStore, Grows}
 use Rattle.ca_quad.specs.Squares.{square_of, IsOf, cell_of}
 use Rattle.ca_quad.specs.Trees.{IsTree, AreFour, AreQuarters, cell}
@@ -47,10 +45,6 @@ box_shifted cells box to least =
 -- the same cells in other words
 pub fits_as : (p q : ℤ → ℤ → ℕ) → ((x y : ℤ) → q x y ≡ p x y) → FitsPlane p → FitsPlane q
 fits_as p q same fits x y live = fits x y (λ z. live (same x y ∙ z))
-
-pub refused_as : (p q : ℤ → ℤ → ℕ) → ((x y : ℤ) → q x y ≡ p x y) → (fault : MoveFault) → IsShiftRefused p fault → IsShiftRefused q fault
-refused_as p q same Memory h = tt
-refused_as p q same Range (x, y, live, out) = (x, y, (λ z. live (sym (same x y) ∙ z)), out)
 
 -- the levels of trees of the least level
 pub fits_level : (nodes : List Node) (tree : Tree) → IsTrimmed nodes tree → FitsPlane (cell nodes tree) → tree.level ≤ 64
