@@ -80,15 +80,17 @@ first_bad_word (w ∷ ws) (o ∷ os) word other later after (s ∷ ss) (t ∷ ts
 
 -- a line with a bad word isn't good
 pub bad_line : (bytes : List ℕ) (f : RleFault) (h : HasBadWord bytes f) → IsGood h.line → ⊥
-bad_line bytes f h (comment, (said, good)) = no_bad_among h.good h.word h.later said f (subst (λ (l : List (List ℕ)). AllZip Says l said) h.words good) h.bad
+bad_line bytes f h (comment, (said, good)) = no_bad_among h.among.good h.among.word h.among.later said f (subst (λ (l : List (List ℕ)). AllZip Says l said) h.among.words_are good) h.among.bad
 
 -- the place of a line with a bad word
 pub bad_word_place : (bytes : List ℕ) (f : RleFault) (h : HasBadWord bytes f) → EndsPreamble bytes h.lines h.line h.more
 bad_word_place bytes f h = record { said = h.said; follows = h.follows; bad_or_last = λ good. absurd (bad_line bytes f h good) }
 
 -- a text's first bad word is one, and stands at one place
-pub one_bad_word : (bytes : List ℕ) (f g : RleFault) (p : HasBadWord bytes f) (q : HasBadWord bytes g) → (p.lines ≡ q.lines) × (p.line ≡ q.line) × (p.good ≡ q.good) × (p.word ≡ q.word) × (f ≡ g)
+pub one_bad_word : (bytes : List ℕ) (f g : RleFault) (p : HasBadWord bytes f) (q : HasBadWord bytes g) → (p.lines ≡ q.lines) × (p.line ≡ q.line) × (p.among.good ≡ q.among.good) × (p.among.word ≡ q.among.word) × (f ≡ g)
 one_bad_word bytes f g p q =
     let place = one_place bytes p.lines q.lines p.line q.line p.more q.more (bad_word_place bytes f p) (bad_word_place bytes g q) in
-    let words = first_bad_word p.good q.good p.word q.word p.later q.later p.good_said q.good_said f g p.good_words p.bad q.good_words q.bad (sym p.words ∙ ap extended_words place.1 ∙ q.words) in
-    (place.0, place.1, words.0, words.1, one_word_fault q.word f g (subst (λ (w : List ℕ). IsBadWord w f) words.1 p.bad) q.bad)
+    let a = p.among in
+    let b = q.among in
+    let words = first_bad_word a.good b.good a.word b.word a.later b.later a.good_said b.good_said f g a.good_words a.bad b.good_words b.bad (sym a.words_are ∙ ap extended_words place.1 ∙ b.words_are) in
+    (place.0, place.1, words.0, words.1, one_word_fault b.word f g (subst (λ (w : List ℕ). IsBadWord w f) words.1 a.bad) b.bad)

@@ -56,16 +56,10 @@ bad_word line word more fault l e comment words bad = record {
   lines = [];
   said = [];
   line = line;
-  good = [];
-  good_said = [];
-  word = word;
-  later = [];
   more = more;
   follows = line_follows [] [] line more no_lines l e;
   comment = comment;
-  words = words;
-  good_words = tt;
-  bad = bad;
+  among = record { good = []; good_said = []; word = word; later = []; words_are = words; good_words = tt; bad = bad };
 }
 
 -- after these lines the header is missing

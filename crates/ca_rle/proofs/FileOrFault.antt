@@ -115,7 +115,7 @@ first_from_item bytes f b = bad_item_first bytes f (item_fault_kind b.bad f b.fa
 pub first_from_word : (bytes : List ℕ) (f : RleFault) → HasBadWord bytes f → IsFirstRleFault bytes f
 first_from_word bytes Syntax b = inl b
 first_from_word bytes GenTooLarge b = b
-first_from_word bytes f b = absurd b.bad
+first_from_word bytes f b = absurd b.among.bad
 
 -- ---- a text
 
@@ -187,7 +187,7 @@ comment_or_fault bytes lines said left p e c next =
     let s = first_split bytes lines said left (rest in_line left) p e refl in
     elim (all_say_or_bad (extended_words (front in_line left))) [
       | inl w ↦ good_line bytes lines said left (rest in_line left) w.0 p e refl c w.1 (λ later. next later w.0)
-      | inr b ↦ inr (b.0, first_from_word bytes b.0 (record { lines = lines; said = said; line = front in_line left; good = b.1.good; good_said = b.1.said; word = b.1.word; later = b.1.later; more = rest in_line left; follows = s; comment = c; words = b.1.words_are; good_words = b.1.good_words; bad = b.1.bad }))
+      | inr b ↦ inr (b.0, first_from_word bytes b.0 (record { lines = lines; said = said; line = front in_line left; more = rest in_line left; follows = s; comment = c; among = b.1 }))
     ]
 
 lines_within : (n : ℕ) (bytes : List ℕ) (lines : List (List ℕ)) (said : List CxrleWord) (left : List ℕ) → length left < n → IsPreamble lines said → bytes ≡ flat_map ended lines ++ left → FileOrFault bytes

@@ -10,9 +10,8 @@ use Rattle.ca_rle.specs.declared.fault.RleFault.{RleFault}
 use Rattle.ca_rle.specs.declared.fault.RleFault.TheVariants.{Syntax, GenTooLarge}
 use Rattle.ca_rle.specs.Header.{is_front_line, extended_words, CxrleWord, Says}
 use Rattle.ca_rle.specs.File.{IsLine, ended, IsPreamble, FollowsPreamble}
-use Rattle.ca_rle.specs.Faults.{HasBadWord, HasNoHeader}
+use Rattle.ca_rle.specs.Faults.{HasBadWordAmong, HasBadWord, HasNoHeader}
 use Rattle.ca_rle.specs.FaultyLine.{HasNoHeaderAt, IsFirstFaultAt}
-use Rattle.ca_rle.specs.inner.FrontParts.{HasBadWordAmong}
 use Rattle.ca_rle.proofs.OneHeader.{no_comment}
 
 -- the bytes of a line
@@ -66,21 +65,7 @@ next_line_follows bytes more line after lines said p e f r = record {
 
 module _ (bytes line after : List ℕ) (lines : List (List ℕ)) (said : List CxrleWord) (follows : FollowsPreamble bytes lines said line after) (comment : is_front_line line ≡ true) where
   bad_word : (f : RleFault) → HasBadWordAmong (extended_words line) f → HasBadWord bytes f
-  bad_word f h = record {
-    lines = lines;
-    said = said;
-    line = line;
-    good = h.good;
-    good_said = h.good_said;
-    word = h.word;
-    later = h.later;
-    more = after;
-    follows = follows;
-    comment = comment;
-    words = h.words_are;
-    good_words = h.good_words;
-    bad = h.bad;
-  }
+  bad_word f h = record { lines = lines; said = said; line = line; more = after; follows = follows; comment = comment; among = h }
 
   -- a bad word in the line is the text's fault
   pub word_fault : (f : RleFault) → HasBadWordAmong (extended_words line) f → IsFirstFaultAt bytes f (line ++ after)

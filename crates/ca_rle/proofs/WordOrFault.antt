@@ -8,7 +8,7 @@ use Rattle.ca_plane.specs.Bytes.{is_digit, is_end_or, front, rest, AreDigits, Is
 use Rattle.ca_rle.specs.declared.fault.RleFault.{RleFault}
 use Rattle.ca_rle.specs.declared.fault.RleFault.TheVariants.{Syntax, GenTooLarge}
 use Rattle.ca_rle.specs.Header.{CxrleWord, Corner, Generation, Nothing, Says}
-use Rattle.ca_rle.specs.Faults.{IsBadWord}
+use Rattle.ca_rle.specs.Faults.{IsBadWord, HasBadWordAmong}
 use Rattle.ca_rle.proofs.OneHeader.{no_comma, integer_has_no_comma}
 use Rattle.ca_plane.proofs.Fronts.{front_append, rest_append, front_then_rest}
 
@@ -119,23 +119,13 @@ says_or_bad word =
       ]
     ]
 
--- some words, the first bad one of which has this fault
-pub record HasBadAmong (words : List (List ℕ)) (f : RleFault) : Type 0 where
-  pub good : List (List ℕ)
-  pub said : List CxrleWord
-  pub word : List ℕ
-  pub later : List (List ℕ)
-  pub good_words : AllZip Says good said
-  pub bad : IsBadWord word f
-  pub words_are : words ≡ good ++ word ∷ later
-
 -- what words say, or the fault of the first bad one
 abbrev pub AllSayOrBad : List (List ℕ) → Type 0
-AllSayOrBad words = ((said : List CxrleWord) × AllZip Says words said) ⊎ ((f : RleFault) × HasBadAmong words f)
+AllSayOrBad words = ((said : List CxrleWord) × AllZip Says words said) ⊎ ((f : RleFault) × HasBadWordAmong words f)
 
 with_word : (w : List ℕ) (ws : List (List ℕ)) (s : CxrleWord) → Says w s → AllSayOrBad ws → AllSayOrBad (w ∷ ws)
 with_word w ws s h (inl (ss, hs)) = inl (s ∷ ss, (h, hs))
-with_word w ws s h (inr (f, b)) = inr (f, record { good = w ∷ b.good; said = s ∷ b.said; word = b.word; later = b.later; good_words = (h, b.good_words); bad = b.bad; words_are = ap (λ (l : List (List ℕ)). w ∷ l) b.words_are })
+with_word w ws s h (inr (f, b)) = inr (f, record { good = w ∷ b.good; good_said = s ∷ b.good_said; word = b.word; later = b.later; good_words = (h, b.good_words); bad = b.bad; words_are = ap (λ (l : List (List ℕ)). w ∷ l) b.words_are })
 
 -- each of some words says something, or one of them is the first bad one
 pub all_say_or_bad : (words : List (List ℕ)) → AllSayOrBad words
@@ -143,5 +133,5 @@ all_say_or_bad [] = inl ([], tt)
 all_say_or_bad (w ∷ ws) =
     elim (says_or_bad w) [
       | inl s ↦ with_word w ws s.0 s.1 (all_say_or_bad ws)
-      | inr b ↦ inr (b.0, record { good = []; said = []; word = w; later = ws; good_words = tt; bad = b.1; words_are = refl })
+      | inr b ↦ inr (b.0, record { good = []; good_said = []; word = w; later = ws; good_words = tt; bad = b.1; words_are = refl })
     ]

@@ -21,21 +21,25 @@ IsBadWord word Syntax =
 IsBadWord word GenTooLarge = (digits : List ℕ) × (word ≡ codes "Gen=" ++ digits) × AreDigits digits × (generation_limit ≤ value digits)
 IsBadWord word fault = ⊥
 
--- a bad word stands after good lines and good words
-pub record HasBadWord (bytes : List ℕ) (fault : RleFault) : Type 0 where
-  pub lines : List (List ℕ)
-  pub said : List CxrleWord
-  pub line : List ℕ
+-- a bad word stands after good ones
+pub record HasBadWordAmong (words : List (List ℕ)) (fault : RleFault) : Type 0 where
   pub good : List (List ℕ)
   pub good_said : List CxrleWord
   pub word : List ℕ
   pub later : List (List ℕ)
+  pub words_are : words ≡ good ++ word ∷ later
+  pub good_words : AllZip Says good good_said
+  pub bad : IsBadWord word fault
+
+-- a line with a bad word stands after good lines
+pub record HasBadWord (bytes : List ℕ) (fault : RleFault) : Type 0 where
+  pub lines : List (List ℕ)
+  pub said : List CxrleWord
+  pub line : List ℕ
   pub more : List ℕ
   pub follows : FollowsPreamble bytes lines said line more
   pub comment : is_front_line line ≡ true
-  pub words : extended_words line ≡ good ++ word ∷ later
-  pub good_words : AllZip Says good good_said
-  pub bad : IsBadWord word fault
+  pub among : HasBadWordAmong (extended_words line) fault
 
 -- a line that is neither a comment nor a header stands after good lines, or the bytes end
 pub record HasNoHeader (bytes : List ℕ) : Type 0 where

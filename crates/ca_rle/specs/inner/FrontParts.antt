@@ -4,7 +4,6 @@ use Rattle.std.specs.Option.{option_copied}
 use Rattle.std.specs.List.{AllZip, AllByRecursion}
 use Rattle.ca_plane.specs.declared.point.Point.{Point}
 use Rattle.ca_plane.specs.Bytes.{IsInteger}
-use Rattle.ca_rle.specs.declared.fault.RleFault.{RleFault}
 use Rattle.ca_rle.specs.declared.front.words.Start.{Start}
 use Rattle.ca_rle.specs.declared.front.lines.Preamble.{Preamble}
 use Rattle.ca_rle.specs.declared.front.Front.{Front}
@@ -13,7 +12,6 @@ use Rattle.ca_rle.specs.File.{RleFile, IsRleFile, IsPreamble, IsHeaded, corner_o
 use Rattle.ca_rle.specs.Items.{Items}
 use Rattle.ca_rle.specs.Limits.{IsWithinLimits}
 use Rattle.ca_plane.specs.Limits.{range, default_rule}
-use Rattle.ca_rle.specs.Faults.{IsBadWord}
 use Rattle.ca_rle.specs.inner.BodyFaults.{KeepsCorner}
 
 -- a coordinate in range
@@ -42,16 +40,6 @@ pub record IsStart (said : List CxrleWord) (start : Start) : Type 0 where
 -- after what was said, these words lead from one start to another
 abbrev pub Leads : List (List ℕ) → Start → Start → Type 0
 Leads words old new = (more : List CxrleWord) × AllZip Says words more × ((said : List CxrleWord) → IsStart said old → IsStart (said ++ more) new)
-
--- a bad word stands after good ones
-pub record HasBadWordAmong (words : List (List ℕ)) (fault : RleFault) : Type 0 where
-  pub good : List (List ℕ)
-  pub good_said : List CxrleWord
-  pub word : List ℕ
-  pub later : List (List ℕ)
-  pub words_are : words ≡ good ++ word ∷ later
-  pub good_words : AllZip Says good good_said
-  pub bad : IsBadWord word fault
 
 -- one of the lines gives XLife's rule
 abbrev pub HasXlifeLine : List (List ℕ) → Type 0

@@ -3,8 +3,8 @@
 ghost use Rattle.std.specs.Prelude.{◌≡◌, ℕ, List, [], ◌∷◌, ◌++◌, not, codes, MatchOption, IfOk, IfErr, ℤ};
 ghost use Rattle.ca_plane.specs.Bytes.{Every, is_line_end, IsInteger, words_of};
 ghost use Rattle.ca_rle.specs.Header.{Says, Generation as SaidGeneration};
-ghost use Rattle.ca_rle.specs.Faults.{IsBadWord};
-ghost use Rattle.ca_rle.specs.inner.FrontParts.{Writes, WritesPair, Leads, HasBadWordAmong};
+ghost use Rattle.ca_rle.specs.Faults.{IsBadWord, HasBadWordAmong};
+ghost use Rattle.ca_rle.specs.inner.FrontParts.{Writes, WritesPair, Leads};
 
 use crate::fault::RleFault;
 use ca_plane::Point;
