@@ -18,8 +18,8 @@ pub record IsNextOffset (i : Item) (at next : Offset) : Type 0 where
 -- the extent grown by i, which begins at an offset
 pub record IsGrownBy (i : Item) (at : Offset) (old new : Extent) : Type 0 where
   pub longest : new.longest ≡ max old.longest i.count
-  pub right : new.right ≡ max old.right (if tag_state i.tag == 0 then 0 else kept_number (at.columns + i.count))
-  pub bottom : new.bottom ≡ max old.bottom (if tag_state i.tag == 0 then 0 else kept_number (at.rows + 1))
+  pub right : new.reach.columns ≡ max old.reach.columns (if tag_state i.tag == 0 then 0 else kept_number (at.columns + i.count))
+  pub bottom : new.reach.rows ≡ max old.reach.rows (if tag_state i.tag == 0 then 0 else kept_number (at.rows + 1))
   pub cells : new.cells ≡ kept_number (old.cells + live_count_of_item i)
 
 -- sums of kept numbers, by a test or not

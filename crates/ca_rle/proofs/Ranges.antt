@@ -117,12 +117,12 @@ near corner n m low e h = omega (arith, ints, low, e, h)
 -- items whose extent is in range are
 pub within_range : (corner : Point) (items : List Item) (e : Extent) → AllByRecursion (λ i. 0 < i.count) items → IsItemsExtent items e → IsExtentInRange e corner → IsRleWithinRange (bare_file corner items)
 within_range corner items e low reach range =
-    let right = near corner.x e.right (right_after [] items) range.start.0 reach.right range.right in
-    let bottom = near corner.y e.bottom (bottom_after [] items) range.start.2 reach.bottom range.bottom in
+    let right = near corner.x e.reach.columns (right_after [] items) range.start.0 reach.right range.right in
+    let bottom = near corner.y e.reach.rows (bottom_after [] items) range.start.2 reach.bottom range.bottom in
     record {
       counts = counts_from (2 ^ 62) items (omega (arith, reach.longest, range.counts));
       corner = range.start;
-      cells = cells_in_range corner [] items e.right e.bottom range.start range.right range.bottom low (omega (arith, right)) (omega (arith, bottom));
+      cells = cells_in_range corner [] items e.reach.columns e.reach.rows range.start range.right range.bottom low (omega (arith, right)) (omega (arith, bottom));
     }
 
 -- a kept number is no more than the number
@@ -135,8 +135,8 @@ extent_in_range corner items e low reach range =
     record {
       counts = let longest = longest_from (2 ^ 62) items range.counts in omega (arith, reach.longest, longest);
       start = range.corner;
-      right = kept-le corner.x e.right (right_after [] items) reach.right (right_in_range corner [] items range.corner low range.cells);
-      bottom = kept-le corner.y e.bottom (bottom_after [] items) reach.bottom (bottom_in_range corner [] items range.corner low range.cells);
+      right = kept-le corner.x e.reach.columns (right_after [] items) reach.right (right_in_range corner [] items range.corner low range.cells);
+      bottom = kept-le corner.y e.reach.rows (bottom_after [] items) reach.bottom (bottom_in_range corner [] items range.corner low range.cells);
     }
 
 -- ---- how many cells there are

@@ -78,10 +78,8 @@ impl Offset {
 pub(crate) struct Extent {
     /// The greatest count.
     pub(crate) longest: u64,
-    /// The columns from the corner on that live cells take.
-    pub(crate) right: u64,
-    /// The rows from the corner on that live cells take.
-    pub(crate) bottom: u64,
+    /// The rows and columns from the corner on that live cells take.
+    pub(crate) reach: Offset,
     /// How many live cells there are.
     pub(crate) cells: u64,
 }
@@ -93,8 +91,7 @@ impl Extent {
     {
         Extent {
             longest: 0,
-            right: 0,
-            bottom: 0,
+            reach: Offset::start(),
             cells: 0,
         }
     }
@@ -102,9 +99,9 @@ impl Extent {
     /// The extent with one more item, which begins at an offset.
     fn grown(self, at: Offset, item: Item) -> Extent
         ensures longest { result.longest ≡ max self.longest item.count }
-        ensures right { result.right ≡ max self.right (if tag_state item.tag == 0 then 0
+        ensures right { result.reach.columns ≡ max self.reach.columns (if tag_state item.tag == 0 then 0
             else kept_number (at.columns + item.count)) }
-        ensures bottom { result.bottom ≡ max self.bottom (if tag_state item.tag == 0 then 0
+        ensures bottom { result.reach.rows ≡ max self.reach.rows (if tag_state item.tag == 0 then 0
             else kept_number (at.rows + 1)) }
         ensures cells { result.cells ≡ kept_number (self.cells + live_count_of_item item) }
     {
@@ -112,10 +109,13 @@ impl Extent {
         if item.tag.state() == 0 {
             return Extent { longest, ..self };
         }
+        let Offset { rows, columns } = self.reach;
         Extent {
             longest,
-            right: self.right.max(at.columns.saturating_add(item.count)),
-            bottom: self.bottom.max(at.rows.saturating_add(1)),
+            reach: Offset {
+                rows: rows.max(at.rows.saturating_add(1)),
+                columns: columns.max(at.columns.saturating_add(item.count)),
+            },
             cells: self.cells.saturating_add(item.count),
         }
     }
@@ -124,7 +124,9 @@ impl Extent {
     pub(crate) fn is_in_range(self, corner: Point) -> bool
         ensures { IsTrue result ↔ IsExtentInRange self corner }
     {
-        self.longest <= LONGEST && has_room(corner.x, self.right) && has_room(corner.y, self.bottom)
+        self.longest <= LONGEST
+            && has_room(corner.x, self.reach.columns)
+            && has_room(corner.y, self.reach.rows)
     }
 }
 

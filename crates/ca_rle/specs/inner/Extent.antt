@@ -60,16 +60,16 @@ pub record IsOffsetOf (items : List Item) (offset : Offset) : Type 0 where
 -- how far these items reach
 pub record IsItemsExtent (items : List Item) (extent : Extent) : Type 0 where
   pub longest : extent.longest ≡ kept_number (longest_of items)
-  pub right : extent.right ≡ kept_number (right_after [] items)
-  pub bottom : extent.bottom ≡ kept_number (bottom_after [] items)
+  pub right : extent.reach.columns ≡ kept_number (right_after [] items)
+  pub bottom : extent.reach.rows ≡ kept_number (bottom_after [] items)
   pub cells : extent.cells ≡ kept_number (live_count_of_items items)
 
 -- items of this extent are in range from this corner
 pub record IsExtentInRange (extent : Extent) (corner : Point) : Type 0 where
   pub counts : extent.longest ≤ most_count
   pub start : IsInRange corner
-  pub right : (corner.x +ℤ pos extent.right) ≤ℤ pos range
-  pub bottom : (corner.y +ℤ pos extent.bottom) ≤ℤ pos range
+  pub right : (corner.x +ℤ pos extent.reach.columns) ≤ℤ pos range
+  pub bottom : (corner.y +ℤ pos extent.reach.rows) ≤ℤ pos range
 
 -- ---- how an item is drawn
 
