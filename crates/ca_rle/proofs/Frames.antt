@@ -9,7 +9,13 @@ use Rattle.ca_plane.specs.Box.{IsLeastBox}
 use Rattle.ca_plane.proofs.Pictures.{Contains-cell}
 use Rattle.ca_plane.specs.Limits.{IsInRange}
 use Rattle.ca_rle.specs.Tidy.{IsFrame}
-use Rattle.ca_rle.specs.inner.Written.{IsBoxInRange}
+
+-- the corners of a box are in range, and its sides in order
+pub record IsBoxInRange (box : Bounds) : Type 0 where
+  pub upper : IsInRange (record { y = box.y0; x = box.x0 })
+  pub lower : IsInRange (record { y = box.y1; x = box.x1 })
+  pub wide : box.x0 ≤ℤ box.x1
+  pub high : box.y0 ≤ℤ box.y1
 
 -- the place of a live cell is in range
 live_in_range : (p : Picture) (x y : ℤ) → All (λ e. IsInRange e.0) p → cell p x y ≢ 0 → IsInRange (record { y = y; x = x })

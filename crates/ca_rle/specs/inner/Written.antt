@@ -1,21 +1,12 @@
 -- How a tidy text is put together: its frame, the items of a plane from cell to cell, and the lines from item to item.
-use Rattle.std.specs.Prelude.{◌≡◌, ℕ, ◌+◌, ◌<◌, ◌≤◌, ℤ, pos, ◌+ℤ◌, ◌≤ℤ◌, List, [], ◌∷◌, ◌++◌, length, ◌==◌, ◌⊎◌, if◌then◌else◌}
+use Rattle.std.specs.Prelude.{◌≡◌, ℕ, ◌+◌, ◌<◌, ◌≤◌, ℤ, pos, ◌+ℤ◌, List, [], ◌∷◌, ◌++◌, length, ◌==◌, ◌⊎◌, if◌then◌else◌}
 use Rattle.std.specs.List.{flat_map, concat}
 use Rattle.ca_plane.specs.declared.point.Point.{Point}
-use Rattle.ca_plane.specs.declared.point.Bounds.{Bounds}
-use Rattle.ca_plane.specs.Limits.{IsInRange}
 use Rattle.ca_rle.specs.declared.item.Item.{Item}
 use Rattle.ca_rle.specs.declared.item.Tag.{Tag}
 use Rattle.ca_rle.specs.declared.item.Tag.TheVariants.{Cell, RowEnd}
 use Rattle.ca_rle.specs.File.{ended}
 use Rattle.ca_rle.specs.Tidy.{AreLines}
-
--- the corners of a box are in range, and its sides in order
-pub record IsBoxInRange (box : Bounds) : Type 0 where
-  pub upper : IsInRange (record { y = box.y0; x = box.x0 })
-  pub lower : IsInRange (record { y = box.y1; x = box.x1 })
-  pub wide : box.x0 ≤ℤ box.x1
-  pub high : box.y0 ≤ℤ box.y1
 
 -- so many of a tag, as items; none where there are 0
 abbrev pub some_of : Tag → ℕ → List Item

@@ -2,13 +2,10 @@
 
 ghost use Rattle.std.specs.Prelude.{◌≡◌, ◌≤ℤ◌, ◌+ℤ◌, pos};
 ghost use Rattle.std.specs.List.{All};
-ghost use Rattle.ca_plane.specs.Plane.{Picture};
-ghost use Rattle.ca_plane.specs.Box.{IsLeastBox};
 ghost use Rattle.ca_plane.specs.Limits.{IsInRange};
 ghost use Rattle.ca_rle.specs.Tidy.{IsFrame};
-ghost use Rattle.ca_rle.specs.inner.Written.{IsBoxInRange};
 
-use ca_plane::{Bounds, Plane, Point};
+use ca_plane::{Plane, Point};
 
 /// The upper left corner of the smallest box round the live cells, and the box's size.
 #[derive(Clone, Copy)]
@@ -26,22 +23,6 @@ pub(super) fn distance(from: i64, to: i64) -> u64
     to.abs_diff(from)
 }
 
-/// The frame of cells whose least box is this.
-fn frame_of(bounds: Bounds) -> Frame
-    requires { IsBoxInRange bounds }
-    ensures { (cells : Picture) → IsLeastBox cells bounds
-        → IsFrame cells result.corner result.width result.height }
-{
-    Frame {
-        corner: Point {
-            y: bounds.y0,
-            x: bounds.x0,
-        },
-        width: distance(bounds.x0, bounds.x1) + 1,
-        height: distance(bounds.y0, bounds.y1) + 1,
-    }
-}
-
 /// The frame of the live cells: (0, 0) and 0 by 0 where there are none.
 pub(super) fn of(cells: &Plane) -> Frame
     requires { All (λ e. IsInRange e.0) cells.now }
@@ -54,5 +35,12 @@ pub(super) fn of(cells: &Plane) -> Frame
             height: 0,
         };
     };
-    frame_of(bounds)
+    Frame {
+        corner: Point {
+            y: bounds.y0,
+            x: bounds.x0,
+        },
+        width: distance(bounds.x0, bounds.x1) + 1,
+        height: distance(bounds.y0, bounds.y1) + 1,
+    }
 }
