@@ -48,7 +48,7 @@ read-spelled text p e =
 
 -- a text of which nothing is read spells no rule
 pub none-spelled : (text : List ℕ) → parts_in text ≡ None → SpellsNoGenerationsRule text
-none-spelled text none s b n h = none-some (s, b, n) (sym none ∙ spelled-read text s b n h)
+none-spelled text none b s n h = none-some (s, b, n) (sym none ∙ spelled-read text s b n h)
 
 -- so it is unknown, if it has no `:`
 unread : (colon : Bool) (parts : Option Parts) → (not colon && not (is_some parts)) ≡ true → (colon ≡ false) × (parts ≡ None)
@@ -124,8 +124,8 @@ named-or-wakes text s b u v n m h empty k wakes = false≢true (sym empty ∙ ap
 
 pub names-faultless : (text : List ℕ) (rule : GenRule) (fault : RuleFault) → NamesGenerationsRule text rule → IsGenerationsRuleFault text fault → ⊥
 names-faultless text rule Bounded h k = false≢true (sym (names-no_colon text rule h) ∙ k)
-names-faultless text rule Wakes h k = named-or-wakes text h.survival h.birth k.1.0 k.1.1 rule.states k.1.2 h.spells h.stays_empty k.1.3 k.1.4
-names-faultless text rule Unknown h k = k.1 h.survival h.birth rule.states h.spells
+names-faultless text rule Wakes h k = named-or-wakes text h.survival h.birth k.1.1 k.1.0 rule.states k.1.2 h.spells h.stays_empty k.1.3 k.1.4
+names-faultless text rule Unknown h k = k.1 h.birth h.survival rule.states h.spells
 
 pub one-fault : (text : List ℕ) (f g : RuleFault) → IsGenerationsRuleFault text f → IsGenerationsRuleFault text g → f ≡ g
 one-fault text Bounded Bounded a b = refl

@@ -135,16 +135,16 @@ named-once text tables (Bs r) (Gen s) a b = absurd (bs-or-generations text r s a
 named-once text tables (Bs r) (Tab u) a b = absurd (b.1 a.1.birth a.1.survival r.hood a.1.spells)
 named-once text tables (Gen r) (Gen s) a b = ap Gen (equal-generations r s (generations_read.names-once text r s a.1 b.1))
 named-once text tables (Gen r) (Bs s) a b = absurd (bs-or-generations text s r b.1 a.1)
-named-once text tables (Gen r) (Tab u) a b = absurd (b.2 a.1.survival a.1.birth r.states a.1.spells)
+named-once text tables (Gen r) (Tab u) a b = absurd (b.2 a.1.birth a.1.survival r.states a.1.spells)
 named-once text tables (Tab t) (Bs s) a b = absurd (a.1 b.1.birth b.1.survival s.hood b.1.spells)
-named-once text tables (Tab t) (Gen s) a b = absurd (a.2 b.1.survival b.1.birth s.states b.1.spells)
+named-once text tables (Tab t) (Gen s) a b = absurd (a.2 b.1.birth b.1.survival s.states b.1.spells)
 named-once text tables (Tab t) (Tab u) a b = ap (λ o. Tab (unwrap_or o t)) (sym a.3 ∙ b.3)
 
 -- or it has a fault
 pub named-faultless : (text : List ℕ) (tables : List TableRule) (rule : RuleValue) (fault : RuleFault) → NamesRule text tables rule → IsRuleFault text tables fault → ⊥
 named-faultless text tables (Bs r) Bounded a b = names-faultless text r Bounded a.1 b
 named-faultless text tables (Bs r) Wakes a (inl b) = names-faultless text r Wakes a.1 b
-named-faultless text tables (Bs r) Wakes a (inr b) = generations_read.other-notation text b.1.0 b.1.1 b.1.2 b.1.3 a.1.birth a.1.survival r.hood a.1.spells
+named-faultless text tables (Bs r) Wakes a (inr b) = generations_read.other-notation text b.1.1 b.1.0 b.1.2 b.1.3 a.1.birth a.1.survival r.hood a.1.spells
 named-faultless text tables (Bs r) Unknown a b = names-faultless text r Unknown a.1 b.0
 named-faultless text tables (Gen r) Bounded a b = generations_read.names-faultless text r Bounded a.1 b
 named-faultless text tables (Gen r) Wakes a (inl b) = generations_read.other-notation text a.1.survival a.1.birth r.states a.1.spells b.1.0 b.1.1 b.1.2 b.1.3

@@ -54,27 +54,31 @@ pub record NamesCounts (Spells : List ℕ → List ℕ → Type 0) (birth_counts
   pub birth_is : birth_counts ≡ counts_of birth
   pub survival_is : survival_counts ≡ counts_of survival
 
+-- a text that spells birth digits, survival digits and one thing more spells a rule with birth on 0
+abbrev pub SpellsWaking : {A : Type 0} → (List ℕ → List ℕ → A → Type 0) → Type 0
+SpellsWaking {A} Spells = (birth : List ℕ) × (survival : List ℕ) × (more : A) × Spells birth survival more × (has_digit birth 0 ≡ true)
+
+-- it spells no rule, with birth on 0 or without
+abbrev pub SpellsNone : {A : Type 0} → (List ℕ → List ℕ → A → Type 0) → Type 0
+SpellsNone {A} Spells = (birth survival : List ℕ) (more : A) → Spells birth survival more → ⊥
+
 -- the fault of a text that names no rule, by what it spells: a bounded grid, else a rule that wakes the empty plane, else none
-abbrev pub IsSpellingFault : Type 0 → Type 0 → List ℕ → RuleFault → Type 0
-IsSpellingFault SpellsWaking SpellsNone text Bounded = has_colon text ≡ true
-IsSpellingFault SpellsWaking SpellsNone text Wakes = (has_colon text ≡ false) × SpellsWaking
-IsSpellingFault SpellsWaking SpellsNone text Unknown = (has_colon text ≡ false) × SpellsNone
+abbrev pub IsSpellingFault : {A : Type 0} → (List ℕ → List ℕ → A → Type 0) → List ℕ → RuleFault → Type 0
+IsSpellingFault Spells text Bounded = has_colon text ≡ true
+IsSpellingFault Spells text Wakes = (has_colon text ≡ false) × SpellsWaking Spells
+IsSpellingFault Spells text Unknown = (has_colon text ≡ false) × SpellsNone Spells
 
 -- the text names the rule
 abbrev pub NamesBsRule : List ℕ → BsRule → Type 0
 NamesBsRule text rule = NamesCounts (λ birth survival. SpellsBsRule text birth survival rule.hood) rule.birth rule.survival
 
--- the text spells a rule with birth on 0
-abbrev pub SpellsWakingBsRule : List ℕ → Type 0
-SpellsWakingBsRule text = (birth : List ℕ) × (survival : List ℕ) × (hood : Hood) × SpellsBsRule text birth survival hood × (has_digit birth 0 ≡ true)
-
 -- the text spells no rule, with birth on 0 or without
 abbrev pub SpellsNoBsRule : List ℕ → Type 0
-SpellsNoBsRule text = (birth survival : List ℕ) (hood : Hood) → SpellsBsRule text birth survival hood → ⊥
+SpellsNoBsRule text = SpellsNone (SpellsBsRule text)
 
 -- the fault of a text that names no rule
 abbrev pub IsBsRuleFault : List ℕ → RuleFault → Type 0
-IsBsRuleFault text = IsSpellingFault (SpellsWakingBsRule text) (SpellsNoBsRule text) text
+IsBsRuleFault text = IsSpellingFault (SpellsBsRule text) text
 
 -- the digits of counts, rising, each once
 abbrev pub digits_of : Counts → List ℕ

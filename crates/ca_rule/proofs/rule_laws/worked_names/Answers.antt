@@ -45,7 +45,7 @@ pub returns-clause-brians_brain_is_no_table : goal.returns-clause-brians_brain_i
 returns-clause-brians_brain_is_no_table c = λ rule survival birth states. (refl, read-named (codes "/2/3") ([], codes "2", 3) rule refl refl survival birth states)
 
 pub returns-clause-waking_generations_are_no_table : goal.returns-clause-waking_generations_are_no_table
-returns-clause-waking_generations_are_no_table c = inr (refl, (codes "2", codes "0", 3, read-spelled (codes "2/0/3") (codes "2", codes "0", 3) refl, refl))
+returns-clause-waking_generations_are_no_table c = inr (refl, (codes "0", codes "2", 3, read-spelled (codes "2/0/3") (codes "2", codes "0", 3) refl, refl))
 
 pub returns-clause-too_many_states_may_be_a_name : goal.returns-clause-too_many_states_may_be_a_name
 returns-clause-too_many_states_may_be_a_name c =

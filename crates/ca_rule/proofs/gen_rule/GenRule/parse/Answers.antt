@@ -11,7 +11,7 @@ returns-then-contains-2-clause-fault c =
     let text = c.args.text.now in
     let parts = c.in-Some.spelled in
     let spells = read-spelled text (parts.survival.now, parts.birth.now, parts.states) c.in-Some.ensures in
-    (spelled-no_colon text parts.survival.now parts.birth.now parts.states spells, (parts.survival.now, parts.birth.now, parts.states, spells, sym (c.if-contains-2.ensures ∙ ap (λ counts. is_count counts 0) c.of_digits-birth.ensures)))
+    (spelled-no_colon text parts.survival.now parts.birth.now parts.states spells, (parts.birth.now, parts.survival.now, parts.states, spells, sym (c.if-contains-2.ensures ∙ ap (λ counts. is_count counts 0) c.of_digits-birth.ensures)))
 
 pub returns-clause-found : goal.returns-clause-found
 returns-clause-found c =
