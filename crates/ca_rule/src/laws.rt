@@ -2,6 +2,7 @@
 //! functions are of no use to a program: each has a law for its contract.
 
 ghost use Rattle.std.specs.Prelude.{◌≡◌, ◌↔◌, ℕ, List, [], ◌∷◌, true, false, codes, Some, None};
+ghost use Rattle.std.specs.List.{AllByRecursion};
 ghost use Rattle.ca_plane.specs.Moore.{moore_next};
 ghost use Rattle.ca_rule.specs.Counts.{is_count, counts_of};
 ghost use Rattle.ca_rule.specs.Masks.{masks_by_hood};
@@ -63,18 +64,15 @@ pub fn worked_examples()
         ≡ codes "B6/S6H" }
 {}
 
-/// Some texts that name no rule.
+/// Some texts that name no rule: some wake the empty plane, with letters and without; one is of a torus, and
+/// a `:` alone bounds a grid too. Of the others one is a rule's name and one is empty, and some have a count
+/// above the number of neighbours, with birth on 0 or without.
 pub fn worked_faults()
-    ensures birth_on_none_wakes { IsBsRuleFault (codes "b03s23") Wakes }
-    ensures birth_on_none_wakes_without_letters { IsBsRuleFault (codes "/0") Wakes }
-    ensures torus_is_bounded { IsBsRuleFault (codes "B3/S23:T30,20") Bounded }
-    ensures colon_alone_is_bounded { IsBsRuleFault (codes "B0:") Bounded }
-    ensures names_of_rules_are_unknown { IsBsRuleFault (codes "Life") Unknown }
-    ensures empty_text_is_unknown { IsBsRuleFault [] Unknown }
-    ensures nine_neighbours_are_unknown { IsBsRuleFault (codes "B9/S") Unknown }
-    ensures five_of_four_neighbours_are_unknown { IsBsRuleFault (codes "B5/SV") Unknown }
-    ensures seven_of_six_neighbours_are_unknown { IsBsRuleFault (codes "B7/SH") Unknown }
-    ensures unknown_even_with_birth_on_none { IsBsRuleFault (codes "B08/S9") Unknown }
+    ensures wakes { AllByRecursion (λ text. IsBsRuleFault text Wakes) (codes "b03s23" ∷ codes "/0" ∷ []) }
+    ensures bounded { AllByRecursion (λ text. IsBsRuleFault text Bounded)
+        (codes "B3/S23:T30,20" ∷ codes "B0:" ∷ []) }
+    ensures unknown { AllByRecursion (λ text. IsBsRuleFault text Unknown)
+        (codes "Life" ∷ [] ∷ codes "B9/S" ∷ codes "B5/SV" ∷ codes "B7/SH" ∷ codes "B08/S9" ∷ []) }
 {}
 
 /// Some counts, and some cells under B/S rules.
