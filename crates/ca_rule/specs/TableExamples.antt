@@ -40,9 +40,9 @@ table_of of under lines = record {
   transitions = lines;
 }
 
--- the next cell under such a table
-abbrev pub table_cell : Neighbourhood → Symmetry → List Transition → List ℕ → ℕ
-table_cell of under lines nine = table_next (table_of of under lines) (digits nine)
+-- the next cells under such a table, each with its nine cells, with blanks between them
+abbrev pub table_cells : Neighbourhood → Symmetry → List Transition → List ℕ → List ℕ
+table_cells of under lines text = map (table_next (table_of of under lines)) (digit_lists text)
 
 -- one of another name, without transitions
 abbrev pub table_named : List ℕ → TableRule
@@ -95,11 +95,11 @@ second_of_two = record { inputs = Number 0 ∷ Number 0 ∷ Number 1 ∷ []; res
 abbrev pub text_of : List (List ℕ) → List ℕ
 text_of lines = flat_map (λ l. l ++ codes "\n") lines
 
--- a rule file of seven lines, of which the table's settings are given
+-- a rule file of seven lines, of which the values of the table's settings and the last line are given
 abbrev pub file_with : List ℕ → List ℕ → List ℕ → List ℕ → List ℕ
 file_with states neighbourhood symmetry last =
-    text_of (codes "@RULE Spread" ∷ codes "@TABLE" ∷ states ∷ neighbourhood ∷ symmetry ∷ codes "var a={1,2}" ∷ last ∷ [])
+    text_of (codes "@RULE Spread" ∷ codes "@TABLE" ∷ (codes "n_states:" ++ states) ∷ (codes "neighborhood:" ++ neighbourhood) ∷ (codes "symmetries:" ++ symmetry) ∷ codes "var a={1,2}" ∷ last ∷ [])
 
 -- one whose settings are good
 abbrev pub file_of : List ℕ → List ℕ
-file_of last = file_with (codes "n_states:3") (codes "neighborhood:vonNeumann") (codes "symmetries:rotate4") last
+file_of last = file_with (codes "3") (codes "vonNeumann") (codes "rotate4") last

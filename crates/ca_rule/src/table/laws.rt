@@ -10,7 +10,7 @@ ghost use Rattle.ca_rule.specs.TableFaults.{IsTableTextFault};
 ghost use Rattle.ca_rule.specs.declared.table.fault.TableFault.TheVariants.{NoRuleLine, NoTable, States};
 ghost use Rattle.ca_rule.specs.declared.table.fault.TableFault.TheVariants.{Neighborhood, Symmetries};
 ghost use Rattle.ca_rule.specs.TableNext.{TableRule};
-ghost use Rattle.ca_rule.specs.TableExamples.{text_of, file_with, file_of, digit_lists, table_cell};
+ghost use Rattle.ca_rule.specs.TableExamples.{text_of, file_with, file_of, digits, digit_lists, table_cells};
 ghost use Rattle.ca_rule.specs.TableExamples.{one_neighbour, two_neighbours, like_neighbours, north_of_one};
 ghost use Rattle.ca_rule.specs.TableExamples.{second_of_eight, second_of_six, second_of_two};
 ghost use Rattle.ca_rule.specs.declared.table.neighbourhood.Neighbourhood.TheVariants.{VonNeumann, Moore};
@@ -61,54 +61,44 @@ pub fn worked_orders()
     ensures quarters_are_not_of_six { orders Hexagonal Rotate4 ≡ [] }
 {}
 
-/// Some cells under small tables.
+/// Some cells under small tables. What one neighbour does: each of the four spreads, corners don't count,
+/// two are too many, and where no order fits the centre stays. Without turns only the north spreads.
 pub fn worked_cells()
-    ensures north_spreads { table_cell VonNeumann Rotate4 (one_neighbour ∷ []) (codes "020000000") ≡ 2 }
-    ensures east_spreads { table_cell VonNeumann Rotate4 (one_neighbour ∷ []) (codes "000001000") ≡ 1 }
-    ensures south_spreads { table_cell VonNeumann Rotate4 (one_neighbour ∷ []) (codes "000000010") ≡ 1 }
-    ensures west_spreads { table_cell VonNeumann Rotate4 (one_neighbour ∷ []) (codes "000200000") ≡ 2 }
-    ensures corners_do_not_count_among_four { table_cell VonNeumann Rotate4 (one_neighbour ∷ [])
-        (codes "120000201") ≡ 2 }
-    ensures two_are_too_many { table_cell VonNeumann Rotate4 (one_neighbour ∷ []) (codes "010100000") ≡ 0 }
-    ensures only_the_north_spreads_without_turns { table_cell VonNeumann Identity (one_neighbour ∷ [])
-        (codes "000001000") ≡ 0 }
-    ensures centre_stays_where_none_fits { table_cell VonNeumann Rotate4 (one_neighbour ∷ [])
-        (codes "010020000") ≡ 2 }
-    ensures centre_stays_without_transitions { table_cell VonNeumann Rotate4 [] (codes "111121111") ≡ 2 }
+    ensures each_neighbour_spreads { table_cells VonNeumann Rotate4 (one_neighbour ∷ [])
+        (codes "020000000 000001000 000000010 000200000") ≡ digits (codes "2112") }
+    ensures one_neighbour_alone_spreads { table_cells VonNeumann Rotate4 (one_neighbour ∷ [])
+        (codes "120000201 010100000 010020000") ≡ digits (codes "202") }
+    ensures only_the_north_spreads_without_turns { table_cells VonNeumann Identity (one_neighbour ∷ [])
+        (codes "020000000 000001000 000000010 000200000") ≡ digits (codes "2000") }
+    ensures centre_stays_without_transitions { table_cells VonNeumann Rotate4 []
+        (codes "111121111 111101111") ≡ digits (codes "20") }
 
-    ensures least_order_decides { table_cell VonNeumann Rotate4Reflect (two_neighbours ∷ [])
-        (codes "010200000") ≡ 1 }
-    ensures the_other_order_without_mirrors { table_cell VonNeumann Rotate4 (two_neighbours ∷ [])
-        (codes "010200000") ≡ 2 }
-    ensures least_order_of_all_decides { table_cell VonNeumann Permute (two_neighbours ∷ [])
-        (codes "000102000") ≡ 2 }
-    ensures opposite_cells_are_only_permuted { table_cell VonNeumann Rotate4Reflect (two_neighbours ∷ [])
-        (codes "000102000") ≡ 0 }
+    // The smallest order decides, of the four, of those mirrored too, and of all. Opposite cells are only
+    // permuted.
+    ensures four_orders { table_cells VonNeumann Rotate4 (two_neighbours ∷ [])
+        (codes "010200000 000102000") ≡ digits (codes "20") }
+    ensures eight_orders { table_cells VonNeumann Rotate4Reflect (two_neighbours ∷ [])
+        (codes "010200000 000102000") ≡ digits (codes "10") }
+    ensures all_orders { table_cells VonNeumann Permute (two_neighbours ∷ [])
+        (codes "010200000 000102000") ≡ digits (codes "12") }
 {}
 
 /// Some cells where a variable, the first line that fits or the neighbourhood's ring decides.
 pub fn worked_transitions()
-    ensures variable_has_one_cell { table_cell VonNeumann Permute (like_neighbours ∷ [])
-        (codes "000102000") ≡ 0 }
-    ensures variable_has_one_cell_twice { table_cell VonNeumann Permute (like_neighbours ∷ [])
-        (codes "000202000") ≡ 2 }
-    ensures first_line_decides { table_cell VonNeumann Identity (one_neighbour ∷ north_of_one ∷ [])
-        (codes "010000000") ≡ 1 }
-    ensures first_line_decides_turned_round { table_cell VonNeumann Identity
-        (north_of_one ∷ one_neighbour ∷ []) (codes "010000000") ≡ 2 }
-    ensures later_line_where_the_first_does_not_fit { table_cell VonNeumann Identity
-        (north_of_one ∷ one_neighbour ∷ []) (codes "020000000") ≡ 2 }
+    ensures variable_has_one_cell { table_cells VonNeumann Permute (like_neighbours ∷ [])
+        (codes "000102000 000202000") ≡ digits (codes "02") }
+    ensures first_line_decides { table_cells VonNeumann Identity (one_neighbour ∷ north_of_one ∷ [])
+        (codes "010000000 020000000") ≡ digits (codes "12") }
+    ensures first_line_that_fits_decides { table_cells VonNeumann Identity
+        (north_of_one ∷ one_neighbour ∷ []) (codes "010000000 020000000") ≡ digits (codes "22") }
 
-    ensures second_of_eight_is_north_east { table_cell Moore Identity (second_of_eight ∷ [])
-        (codes "001000000") ≡ 1 }
-    ensures second_of_six_is_east { table_cell Hexagonal Identity (second_of_six ∷ [])
-        (codes "000001000") ≡ 1 }
-    ensures north_east_is_not_among_six { table_cell Hexagonal Identity (second_of_six ∷ [])
-        (codes "001001100") ≡ 1 }
-    ensures second_of_two_is_east { table_cell OneDimensional Identity (second_of_two ∷ [])
-        (codes "000001000") ≡ 1 }
-    ensures rows_above_and_below_do_not_count { table_cell OneDimensional Identity (second_of_two ∷ [])
-        (codes "111001111") ≡ 1 }
+    ensures second_of_eight_is_north_east { table_cells Moore Identity (second_of_eight ∷ [])
+        (codes "001000000") ≡ digits (codes "1") }
+    // The cell to the north-east is not among six, and neither row beside the cell's own is among two.
+    ensures second_of_six_is_east { table_cells Hexagonal Identity (second_of_six ∷ [])
+        (codes "000001000 001001100") ≡ digits (codes "11") }
+    ensures second_of_two_is_east { table_cells OneDimensional Identity (second_of_two ∷ [])
+        (codes "000001000 111001111") ≡ digits (codes "11") }
 {}
 
 /// Some lines and texts of rule tables.
@@ -141,12 +131,9 @@ pub fn worked_texts()
     ensures table_is_missing { IsTableTextFault
         (text_of (codes "@RULE Spread" ∷ codes "@TABLES" ∷ codes "n_states:3" ∷ [])) (NoTable 3) }
     ensures one_state_is_too_few { IsTableTextFault
-        (file_with (codes "n_states:1") (codes "neighborhood:vonNeumann") (codes "symmetries:rotate4")
-        (codes "0a000a")) (States 6) }
+        (file_with (codes "1") (codes "vonNeumann") (codes "rotate4") (codes "0a000a")) (States 6) }
     ensures neighbourhood_is_unknown { IsTableTextFault
-        (file_with (codes "n_states:3") (codes "neighborhood:Margolus") (codes "symmetries:rotate4")
-        (codes "0a000a")) (Neighborhood 6) }
+        (file_with (codes "3") (codes "Margolus") (codes "rotate4") (codes "0a000a")) (Neighborhood 6) }
     ensures symmetry_is_unknown { IsTableTextFault
-        (file_with (codes "n_states:3") (codes "neighborhood:vonNeumann") (codes "symmetries:rotate8")
-        (codes "0a000a")) (Symmetries 6) }
+        (file_with (codes "3") (codes "vonNeumann") (codes "rotate8") (codes "0a000a")) (Symmetries 6) }
 {}

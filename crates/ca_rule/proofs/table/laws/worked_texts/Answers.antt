@@ -30,9 +30,9 @@ one_said = record { variables = (codes "a", 1 ∷ 2 ∷ []) ∷ []; transitions 
 abbrev both_said : SaidStatements
 both_said = record { variables = (codes "a", 1 ∷ 2 ∷ []) ∷ []; transitions = one_neighbour ∷ [] }
 
--- the lines of the settings, and those after them
+-- the lines of the settings with these values, and those after them
 abbrev settings_with : List ℕ → List ℕ → List ℕ → List NumberedLine
-settings_with states neighbourhood symmetry = (3, states) ∷ (4, neighbourhood) ∷ (5, symmetry) ∷ []
+settings_with states neighbourhood symmetry = (3, codes "n_states:" ++ states) ∷ (4, codes "neighborhood:" ++ neighbourhood) ∷ (5, codes "symmetries:" ++ symmetry) ∷ []
 
 abbrev statements_with : List ℕ → List NumberedLine
 statements_with last = (6, codes "var a={1,2}") ∷ (7, last) ∷ []
@@ -63,7 +63,7 @@ head : (bytes : List ℕ) (lines : List NumberedLine) → lines_said bytes ≡ (
 head bytes lines said = record { rule_line = (1, codes "@RULE Spread"); skipped = []; table_line = (2, codes "@TABLE"); named = refl; no_table = refl; begins = refl; whole = said }
 
 abbrev good : List NumberedLine
-good = settings_with (codes "n_states:3") (codes "neighborhood:vonNeumann") (codes "symmetries:rotate4")
+good = settings_with (codes "3") (codes "vonNeumann") (codes "rotate4")
 
 is_read : (last : List ℕ) → HasTable (file_of last) (codes "Spread") (good ++ (statements_with last ++ [])) → IsTransitionLine (7, last) 6 (codes "0" ∷ codes "a" ∷ codes "0" ∷ codes "0" ∷ codes "0" ∷ codes "a" ∷ [])
     → (table : TableRule) × IsTable (file_of last) table × (table.transitions ≡ one_neighbour ∷ [])
@@ -100,10 +100,10 @@ end_at_six : (states neighbourhood symmetry : List ℕ) → HasTable (file_with 
 end_at_six states neighbourhood symmetry has are = record { name = codes "Spread"; tail_after = statements_with (codes "0a000a"); has_table = has; once = are; ends = refl; number = refl }
 
 pub returns-clause-one_state_is_too_few : goal.returns-clause-one_state_is_too_few
-returns-clause-one_state_is_too_few c = inl (_, end_at_six (codes "n_states:1") (codes "neighborhood:vonNeumann") (codes "symmetries:rotate4") (head _ _ refl) refl, refl)
+returns-clause-one_state_is_too_few c = inl (_, end_at_six (codes "1") (codes "vonNeumann") (codes "rotate4") (head _ _ refl) refl, refl)
 
 pub returns-clause-neighbourhood_is_unknown : goal.returns-clause-neighbourhood_is_unknown
-returns-clause-neighbourhood_is_unknown c = (_, end_at_six (codes "n_states:3") (codes "neighborhood:Margolus") (codes "symmetries:rotate4") (head _ _ refl) refl, (3, refl, refl))
+returns-clause-neighbourhood_is_unknown c = (_, end_at_six (codes "3") (codes "Margolus") (codes "rotate4") (head _ _ refl) refl, (3, refl, refl))
 
 pub returns-clause-symmetry_is_unknown : goal.returns-clause-symmetry_is_unknown
-returns-clause-symmetry_is_unknown c = (_, end_at_six (codes "n_states:3") (codes "neighborhood:vonNeumann") (codes "symmetries:rotate8") (head _ _ refl) refl, (3, VonNeumann, refl, refl, refl))
+returns-clause-symmetry_is_unknown c = (_, end_at_six (codes "3") (codes "vonNeumann") (codes "rotate8") (head _ _ refl) refl, (3, VonNeumann, refl, refl, refl))
