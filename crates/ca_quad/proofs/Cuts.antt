@@ -355,31 +355,33 @@ module _ (old : List Node) (sound : IsSoundStore old) (four : Neighbours) (way p
   -- the fours of their parts that lead to the parts of the square
   module _ (large : 2 ≤ level) (ids : List ℕ) (sixteen : (l : ℕ) → AreNeighbours old (suc l) four → AreSixteen old l (cells_of_four old (suc l) four) ids)
       (half : ℕ) (is_half : half ≡ 2 ^ (level - 1)) where
-    part : (x y : ℕ) → x < 4 → y < 4 → ShowsFrom old (slice_index ids (4 * y + x)) (level - 1) (cells_of_four old level four) (x * 2 ^ (level - 1)) (y * 2 ^ (level - 1))
-    part =
+    part : (x y n : ℕ) → 4 * y + x ≡ n → x < 4 → y < 4 → ShowsFrom old (slice_index ids n) (level - 1) (cells_of_four old level four) (x * 2 ^ (level - 1)) (y * 2 ^ (level - 1))
+    part x y n e low_x low_y =
+        let cells = cells_of_four old level four in
         let next : suc (level - 1) ≡ level = omega arith in
-        subst (λ l. AreSixteen old (level - 1) (cells_of_four old l four) ids) next (sixteen (level - 1) (subst (λ l. AreNeighbours old l four) (sym next) are_four))
+        let all : AreSixteen old (level - 1) cells ids = subst (λ l. AreSixteen old (level - 1) (cells_of_four old l four) ids) next (sixteen (level - 1) (subst (λ l. AreNeighbours old l four) (sym next) are_four)) in
+        subst (λ m. ShowsFrom old (slice_index ids m) (level - 1) cells (x * 2 ^ (level - 1)) (y * 2 ^ (level - 1))) e (all x y low_x low_y)
 
-    leads : (u v x y : ℕ) → u ≤ 2 → v ≤ 2 → u * 2 ^ (level - 1) + way.x % 2 ^ (level - 1) ≡ x → v * 2 ^ (level - 1) + way.y % 2 ^ (level - 1) ≡ y
-        → LeadsTo old (level - 1) (cells_of_four old level four) way x y (neighbours_at ids u v)
-    leads u v x y low_u low_v is_x is_y =
+    leads : (u v n x y : ℕ) → 4 * v + u ≡ n → u ≤ 2 → v ≤ 2 → u * 2 ^ (level - 1) + way.x % 2 ^ (level - 1) ≡ x → v * 2 ^ (level - 1) + way.y % 2 ^ (level - 1) ≡ y
+        → LeadsTo old (level - 1) (cells_of_four old level four) way x y (neighbours_at ids n)
+    leads u v n x y e low_u low_v is_x is_y =
         let cells = cells_of_four old level four in
         let h = 2 ^ (level - 1) in
-        let group = neighbours_at ids u v in
+        let group = neighbours_at ids n in
         record {
           left = u * h;
           top = v * h;
           windows = record {
-            a = part u v (omega arith) (omega arith);
-            b = window_at old group.ne (level - 1) cells ((u + 1) * h) (v * h) (u * h + h) (v * h) (one_further u h) refl (part (u + 1) v (omega arith) (omega arith));
-            c = window_at old group.sw (level - 1) cells (u * h) ((v + 1) * h) (u * h) (v * h + h) refl (one_further v h) (part u (v + 1) (omega arith) (omega arith));
-            d = window_at old group.se (level - 1) cells ((u + 1) * h) ((v + 1) * h) (u * h + h) (v * h + h) (one_further u h) (one_further v h) (part (u + 1) (v + 1) (omega arith) (omega arith));
+            a = part u v n e (omega arith) (omega arith);
+            b = window_at old group.ne (level - 1) cells ((u + 1) * h) (v * h) (u * h + h) (v * h) (one_further u h) refl (part (u + 1) v (n + 1) (omega arith) (omega arith) (omega arith));
+            c = window_at old group.sw (level - 1) cells (u * h) ((v + 1) * h) (u * h) (v * h + h) refl (one_further v h) (part u (v + 1) (n + 4) (omega arith) (omega arith) (omega arith));
+            d = window_at old group.se (level - 1) cells ((u + 1) * h) ((v + 1) * h) (u * h + h) (v * h + h) (one_further u h) (one_further v h) (part (u + 1) (v + 1) (n + 5) (omega arith) (omega arith) (omega arith));
           };
           is_x = is_x;
           is_y = is_y;
         }
 
-    pub lead_to_parts : (groups : Neighbours × Neighbours × Neighbours × Neighbours) → groups ≡ overlapping ids (half_of place.x half) (half_of place.y half)
+    pub lead_to_parts : (groups : Neighbours × Neighbours × Neighbours × Neighbours) → groups ≡ overlapping ids (4 * half_of place.y half + half_of place.x half)
         → LeadToParts old (level - 1) (cells_of_four old level four) way place.x place.y groups
     lead_to_parts groups is =
         let h = 2 ^ (level - 1) in
@@ -392,10 +394,10 @@ module _ (old : List Node) (sound : IsSoundStore old) (four : Neighbours) (way p
         let to_x = further u h (way.x % h) place.x is_x in
         let to_y = further v h (way.y % h) place.y is_y in
         rw is (record {
-          nw = leads u v place.x place.y (omega arith) (omega arith) is_x is_y;
-          ne = leads (u + 1) v (place.x + h) place.y (omega arith) (omega arith) to_x is_y;
-          sw = leads u (v + 1) place.x (place.y + h) (omega arith) (omega arith) is_x to_y;
-          se = leads (u + 1) (v + 1) (place.x + h) (place.y + h) (omega arith) (omega arith) to_x to_y;
+          nw = leads u v (4 * v + u) place.x place.y refl (omega arith) (omega arith) is_x is_y;
+          ne = leads (u + 1) v (4 * v + u + 1) (place.x + h) place.y (omega arith) (omega arith) (omega arith) to_x is_y;
+          sw = leads u (v + 1) (4 * v + u + 4) place.x (place.y + h) (omega arith) (omega arith) (omega arith) is_x to_y;
+          se = leads (u + 1) (v + 1) (4 * v + u + 5) (place.x + h) (place.y + h) (omega arith) (omega arith) (omega arith) to_x to_y;
         })
 
 -- the parts that were cut out, one after the other

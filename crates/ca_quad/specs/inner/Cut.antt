@@ -39,22 +39,22 @@ AreSixteen nodes level cells ids = (x y : ℕ) → x < 4 → y < 4 → ShowsFrom
 abbrev pub AreSixteenCells : (ℕ → ℕ → ℕ) → List ℕ → Type 0
 AreSixteenCells cells states = (x y : ℕ) → x < 4 → y < 4 → slice_index states (4 * y + x) ≡ cells x y
 
--- the four of sixteen, row by row, of which the north-western lies there
-abbrev pub neighbours_at : List ℕ → ℕ → ℕ → Neighbours
-neighbours_at ids x y = record {
-  nw = slice_index ids (4 * y + x);
-  ne = slice_index ids (4 * y + (x + 1));
-  sw = slice_index ids (4 * (y + 1) + x);
-  se = slice_index ids (4 * (y + 1) + (x + 1));
+-- the four of sixteen, row by row, of which this one is the north-western
+abbrev pub neighbours_at : List ℕ → ℕ → Neighbours
+neighbours_at ids first = record {
+  nw = slice_index ids first;
+  ne = slice_index ids (first + 1);
+  sw = slice_index ids (first + 4);
+  se = slice_index ids (first + 5);
 }
 
 -- in which half of a side the place lies
 abbrev pub half_of : ℕ → ℕ → ℕ
 half_of place half = if nat_lt place half then 0 else 1
 
--- the four overlapping fours of sixteen squares, of which the north-western lies there
-abbrev pub overlapping : List ℕ → ℕ → ℕ → Neighbours × Neighbours × Neighbours × Neighbours
-overlapping ids x y = (neighbours_at ids x y, neighbours_at ids (x + 1) y, neighbours_at ids x (y + 1), neighbours_at ids (x + 1) (y + 1))
+-- four overlapping fours of sixteen squares, the north-western of which begins with this one
+abbrev pub overlapping : List ℕ → ℕ → Neighbours × Neighbours × Neighbours × Neighbours
+overlapping ids first = (neighbours_at ids first, neighbours_at ids (first + 1), neighbours_at ids (first + 4), neighbours_at ids (first + 5))
 
 -- the word has the cells of four squares of level 3 from this place on
 pub record IsCutWord (nodes : List Node) (level : ℕ) (four : Neighbours) (place : Way) (word : ℕ) : Type 0 where

@@ -138,25 +138,22 @@ fn overlapping(
     place: Way,
     half: u128,
 ) -> (Neighbours, Neighbours, Neighbours, Neighbours)
-    ensures { result ≡ overlapping parts.now (half_of place.x half) (half_of place.y half) }
+    ensures { result ≡ overlapping parts.now (4 * half_of place.y half + half_of place.x half) }
 {
-    let x = half_of(place.x, half);
-    let y = half_of(place.y, half);
+    let first = 4 * half_of(place.y, half) + half_of(place.x, half);
     (
-        neighbours_at(parts, x, y),
-        neighbours_at(parts, x + 1, y),
-        neighbours_at(parts, x, y + 1),
-        neighbours_at(parts, x + 1, y + 1),
+        neighbours_at(parts, first),
+        neighbours_at(parts, first + 1),
+        neighbours_at(parts, first + 4),
+        neighbours_at(parts, first + 5),
     )
 }
 
-// The four of sixteen squares, row by row, of which the north-western lies there.
-fn neighbours_at(squares: &[Id; 16], x: usize, y: usize) -> Neighbours
-    requires x { x ≤ 2 }
-    requires y { y ≤ 2 }
-    ensures { result ≡ neighbours_at squares.now x y }
+// The four of sixteen squares, row by row, of which this one is the north-western.
+fn neighbours_at(squares: &[Id; 16], first: usize) -> Neighbours
+    requires { first ≤ 10 }
+    ensures { result ≡ neighbours_at squares.now first }
 {
-    let first = 4 * y + x;
     Neighbours {
         nw: squares[first],
         ne: squares[first + 1],
