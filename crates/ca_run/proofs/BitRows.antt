@@ -4,6 +4,7 @@ use Rattle.std.specs.Prelude.{bit_and, bit_or, bit_xor, replicate}
 use Rattle.std.specs.List.{range_with_len}
 use Rattle.std.specs.Int.{bit_at}
 use Rattle.std.proofs.Math.ListN.{get_or-append}
+use Rattle.std.proofs.lemmas.Nat.{div-add-mod'}
 use Rattle.std.proofs.lemmas.List.{get_or-replicate}
 use Rattle.std.proofs.lemmas.Nat.Bits.{bit_at-zero, bit_at-suc, bit_at_and, bit_at_or, bit_at_xor, bit_at_cat_low, bit_at_ones}
 use Rattle.std.specs.Simd.Lanes.{zip2, pick_l}
@@ -30,18 +31,22 @@ bits_xor ps qs l m = zipped bit_xor (λ a b. (a + b) % 2) bit_at_xor refl ps qs 
 
 -- ---- rows moved by one to the west or the east
 
-doubled_bit : (a x : ℕ) → x < 15 → bit_at (a * 2 % 65536) (suc x) ≡ bit_at a x
-doubled_bit a x h =
-    let half : a * 2 % 65536 / 2 ≡ a % 32768 = omega arith in
-    let whole : a / 32768 * 2 ^ 15 + a % 32768 ≡ a = omega arith in
-    bit_at-suc (a * 2 % 65536) x ∙ ap (λ n. bit_at n x) half ∙ sym (bit_at_cat_low (a / 32768) 15 (a % 32768) x h) ∙ ap (λ n. bit_at n x) whole
+-- the low bits of a number
+pub bit_low : (n k i : ℕ) → i < k → bit_at (n % 2 ^ k) i ≡ bit_at n i
+bit_low n k i h = sym (ap (λ m. bit_at m i) (sym (div-add-mod' n (2 ^ k))) ∙ bit_at_cat_low (n / 2 ^ k) k (n % 2 ^ k) i h)
+
+-- the bits of a number that is doubled, in a row of n bits
+pub doubled_bit : (n a x : ℕ) → suc x < n → bit_at (a * 2 % 2 ^ n) (suc x) ≡ bit_at a x
+doubled_bit n a x h =
+    let half : a * 2 / 2 ≡ a = omega arith in
+    bit_low (a * 2) n (suc x) h ∙ bit_at-suc (a * 2) x ∙ ap (λ m. bit_at m x) half
 
 pub bits_west : (f : ℕ → ℕ → ℕ) → ((a : ℕ) → f a 1 ≡ a * 2 % 65536) → (n : ℕ) (rows : List ℕ) → length rows ≡ n
     → (x y : ℕ) → x < 15 → row_cells (zip2 f rows (replicate n 1)) (suc x) y ≡ row_cells rows x y
 bits_west f is zero [] e x y h = bit_at-zero (suc x) ∙ sym (bit_at-zero x)
 bits_west f is (suc n) [] e x y h = absurd (omega arith)
 bits_west f is zero (r ∷ rs) e x y h = absurd (omega arith)
-bits_west f is (suc n) (r ∷ rs) e x zero h = ap (λ n. bit_at n (suc x)) (is r) ∙ doubled_bit r x h
+bits_west f is (suc n) (r ∷ rs) e x zero h = ap (λ n. bit_at n (suc x)) (is r) ∙ doubled_bit 16 r x (omega arith)
 bits_west f is (suc n) (r ∷ rs) e x (suc y) h = let l : length rs ≡ n = omega arith in bits_west f is n rs l x y h
 
 pub bits_east : (f : ℕ → ℕ → ℕ) → ((a : ℕ) → f a 1 ≡ a / 2) → (n : ℕ) (rows : List ℕ) → length rows ≡ n

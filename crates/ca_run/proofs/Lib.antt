@@ -2,7 +2,6 @@ pub mod After
 pub mod Looks
 pub mod Tiles
 pub mod Words
-pub mod LineWords
 pub mod Lanes
 pub mod Shown
 pub mod Bases
@@ -21,4 +20,18 @@ pub mod Reached
 pub mod BitRows
 pub mod NextStates
 pub mod TileCells
-pub mod Grids
+pub mod BrickMargins
+pub mod Framed
+pub mod BrickLists
+pub mod LaterWalls
+pub mod WallBricks
+pub mod BrickBits
+pub mod BrickRows
+pub mod BrickRounds
+pub mod BrickQueues
+pub mod BrickWaking
+pub mod BrickPlaces
+pub mod BrickEdges
+pub mod BrickWords
+pub mod Walls
+pub mod DenseRuns

@@ -7,7 +7,7 @@ use Rattle.std.proofs.lemmas.Int.{ints}
 use Rattle.std.proofs.lemmas.Bool.{cond_below, cond_above}
 use Rattle.std.proofs.Math.Nat.{pow-suc}
 use Rattle.std.proofs.lemmas.Grind.{or_before_shift}
-use Rattle.std.proofs.lemmas.Nat.{pow-add, shr-shr, div-add-mod', mod_below, le_bytes_8}
+use Rattle.std.proofs.lemmas.Nat.{pow-add, shr-shr, mod_below, le_bytes_8}
 use Rattle.std.proofs.lemmas.Nat.Bits.{bit_at-lt, bit_at_cat_low, bit_at_cat_high}
 use Rattle.std.proofs.lemmas.List.FromFn.{get_or-map-range_with_len, length-map-range_with_len}
 use Rattle.std.proofs.lemmas.List.{get_or_past, get_or-replicate}
@@ -26,6 +26,7 @@ use Rattle.ca_run.specs.inner.Words.{WordShows, WordsShow, TileShows, byte_of, w
 use Rattle.ca_run.specs.Masks.{GoesBy}
 use Rattle.ca_run.specs.Later.{IsWithin}
 use Rattle.ca_run.proofs.After.{around-same, around-nine_states}
+use Rattle.ca_run.proofs.BitRows.{bit_low}
 use Rattle.ca_run.proofs.Looks.{looks_together}
 
 -- ---- bits
@@ -34,13 +35,13 @@ use Rattle.ca_run.proofs.Looks.{looks_together}
 bit_shifted : (n k i : ℕ) → bit_at (n / 2 ^ k) i ≡ bit_at n (k + i)
 bit_shifted n k i = ap (λ m. m % 2) (shr-shr n k i)
 
--- the low bits of a number
-bit_low : (n k i : ℕ) → i < k → bit_at (n % 2 ^ k) i ≡ bit_at n i
-bit_low n k i h = sym (ap (λ m. bit_at m i) (sym (div-add-mod' n (2 ^ k))) ∙ bit_at_cat_low (n / 2 ^ k) k (n % 2 ^ k) i h)
+-- the bits of a word's byte
+pub byte_bit_at : (word y x : ℕ) → x < 8 → bit_at (byte_of word y) x ≡ bit_at word (8 * y + x)
+byte_bit_at word y x h = bit_low (word / 2 ^ (8 * y)) 8 x h ∙ bit_shifted word (8 * y) x
 
--- the bits of a word's byte are cells of one row
-byte_bit : (word y x : ℕ) → x < 8 → bit_at (byte_of word y) x ≡ word_cells word x y
-byte_bit word y x h = bit_low (word / 2 ^ (8 * y)) 8 x h ∙ bit_shifted word (8 * y) x ∙ cond_below x 8 (bit_at word (8 * y + x)) 0 h
+-- they are cells of one row
+pub byte_bit : (word y x : ℕ) → x < 8 → bit_at (byte_of word y) x ≡ word_cells word x y
+byte_bit word y x h = byte_bit_at word y x h ∙ cond_below x 8 (bit_at word (8 * y + x)) 0 h
 
 -- ---- the bytes of words
 
@@ -92,7 +93,7 @@ bit_west e w x h = bit_at_cat_low e 8 w x h
 bit_east : (e w x : ℕ) → w < 256 → 8 ≤ x → bit_at (e * 256 + w) x ≡ bit_at e (x - 8)
 bit_east e w x low h = bit_at_cat_high e 8 w x low h
 
-byte_low : (word y : ℕ) → byte_of word y < 256
+pub byte_low : (word y : ℕ) → byte_of word y < 256
 byte_low word y = mod_below (word / 2 ^ (8 * y)) 256 (omega arith)
 
 -- the rows of four words show their cells
@@ -151,32 +152,35 @@ joined_shows f g is_or is_up words west east l m are_west are_east = tile_shows 
 
 -- ---- the middle of a tile
 
--- the bytes in the middle are bytes
-inner_low : (rows : List ℕ) (i : ℕ) → get_or (map (inner_byte rows) (range_with_len 0 8)) i 0 < 256
-inner_low rows i =
-    elim (below_or_not i 8) [
-      | inl l ↦
-          let e = get_or-map-range_with_len (inner_byte rows) 0 8 i i 0 l (omega arith) in
-          let f : inner_byte rows i < 256 = mod_below (slice_index rows (4 + i) / 16) 256 (omega arith) in
-          omega (arith, e, f)
-      | inr l ↦
-          let e = get_or_past (map (inner_byte rows) (range_with_len 0 8)) i 0 (omega (arith, length-map-range_with_len (inner_byte rows) 0 8)) in
-          omega (arith, e)
-    ]
-
 -- the bytes of a word that is made of eight
 word_bytes : (word : ℕ) → to_le_bytes w64 word ≡ map (byte_of word) (range_with_len 0 8)
 word_bytes word =
     let e : word % 256 ≡ byte_of word 0 = omega arith in
     cc
 
+-- eight bytes that are given by their places are bytes
+bytes_fit : (f : ℕ → ℕ) → ((i : ℕ) → f i < 256) → (i : ℕ) → get_or (map f (range_with_len 0 8)) i 0 < 256
+bytes_fit f fit i =
+    elim (below_or_not i 8) [
+      | inl l ↦
+          let e = get_or-map-range_with_len f 0 8 i i 0 l (omega arith) in
+          omega (arith, e, fit i)
+      | inr l ↦
+          let e = get_or_past (map f (range_with_len 0 8)) i 0 (omega (arith, length-map-range_with_len f 0 8)) in
+          omega (arith, e)
+    ]
+
+-- and so they are those of the word that is made of them
+pub made_byte : (f : ℕ → ℕ) → ((i : ℕ) → f i < 256) → (bytes : List ℕ) (word y : ℕ) → bytes ≡ map f (range_with_len 0 8) → word ≡ from_le_bytes w64 bytes → y < 8 → byte_of word y ≡ f y
+made_byte f fit bytes word y e made j =
+    let all = map f (range_with_len 0 8) in
+    let g : to_le_bytes w64 word ≡ all = le_bytes_8 all word refl (bytes_fit f fit) (made ∙ ap (from_le_bytes w64) e) in
+    sym (get_or-map-range_with_len (byte_of word) 0 8 y y 0 j (omega arith)) ∙ ap (λ l. get_or l y 0) (sym (word_bytes word) ∙ g)
+    ∙ get_or-map-range_with_len f 0 8 y y 0 j (omega arith)
+
 -- a word that is made of the bytes in the middle of a tile shows the cells there
 middle_byte : (rows bytes : List ℕ) (word y : ℕ) → bytes ≡ map (inner_byte rows) (range_with_len 0 8) → word ≡ from_le_bytes w64 bytes → y < 8 → byte_of word y ≡ inner_byte rows y
-middle_byte rows bytes word y e f j =
-    let inner = map (inner_byte rows) (range_with_len 0 8) in
-    let g : to_le_bytes w64 word ≡ inner = le_bytes_8 inner word refl (inner_low rows) (f ∙ ap (from_le_bytes w64) e) in
-    sym (get_or-map-range_with_len (byte_of word) 0 8 y y 0 j (omega arith)) ∙ ap (λ l. get_or l y 0) (sym (word_bytes word) ∙ g)
-    ∙ get_or-map-range_with_len (inner_byte rows) 0 8 y y 0 j (omega arith)
+middle_byte rows = made_byte (inner_byte rows) (λ i. mod_below (slice_index rows (4 + i) / 16) 256 (omega arith))
 
 middle_cells : (rows bytes : List ℕ) (word : ℕ) → bytes ≡ map (inner_byte rows) (range_with_len 0 8) → word ≡ from_le_bytes w64 bytes → (x y : ℕ) → x < 8 → y < 8
     → word_cells word x y ≡ row_cells rows (4 + x) (4 + y)

@@ -17,7 +17,7 @@ use Rattle.ca_quad.proofs.Edges.{outside_x, outside_y}
 use Rattle.ca_run.specs.Centre.{IsCentre}
 use Rattle.ca_run.specs.inner.Shown.{ShowsAt, side}
 use Rattle.ca_run.specs.inner.Padded.{IsPadded}
-use Rattle.ca_run.specs.inner.Grid.{IsBeyond, DiesBeyond}
+use Rattle.ca_run.specs.inner.Beyond.{IsBeyond, DiesBeyond}
 use Rattle.ca_run.proofs.After.{after_same, after_dead, after_again}
 use Rattle.ca_run.proofs.Shown.{at_from, centre_at}
 
@@ -110,13 +110,13 @@ leap_cells next quiet s0 s1 s2 sound grows tree wide half k j root some low time
     let later_dead_out = later_dies next quiet p (2 ^ (tree.level - 1)) (2 ^ j) (2 ^ k) (powers_fit tree.level j k some low time) dies in
     tree_at s2 root k (cells_after next p (2 ^ j)) centred later_dead_out half e f x y ∙ after_same next p (cell s0 tree) (2 ^ j) same x y
 
--- one binary digit more: the tree after the digits so far, and then after this one
-pub one_digit : (next : List ℕ → ℕ) (s0 s1 s2 : List Node) (tree now more : Tree) (n j : ℕ) → n / 2 ^ j % 2 ≡ 1 → ((x y : ℤ) → cell s1 now x y ≡ cells_after next (cell s0 tree) (n % 2 ^ j) x y)
-    → ((x y : ℤ) → cell s2 more x y ≡ cells_after next (cell s1 now) (2 ^ j) x y) → (x y : ℤ) → cell s2 more x y ≡ cells_after next (cell s0 tree) (n % 2 ^ (1 + j)) x y
-one_digit next s0 s1 s2 tree now more n j digit so_far leap x y =
+-- one binary digit more: the plane after the digits so far, and then after this one
+pub one_digit : (next : List ℕ → ℕ) (p : ℤ → ℤ → ℕ) (s1 s2 : List Node) (now more : Tree) (n j : ℕ) → n / 2 ^ j % 2 ≡ 1 → ((x y : ℤ) → cell s1 now x y ≡ cells_after next p (n % 2 ^ j) x y)
+    → ((x y : ℤ) → cell s2 more x y ≡ cells_after next (cell s1 now) (2 ^ j) x y) → (x y : ℤ) → cell s2 more x y ≡ cells_after next p (n % 2 ^ (1 + j)) x y
+one_digit next p s1 s2 now more n j digit so_far leap x y =
     let sum : n % 2 ^ j + 2 ^ j ≡ n % 2 ^ (1 + j) = sym (mod-pow-add n 1 j ∙ (ap (λ d. d * 2 ^ j + n % 2 ^ j) digit ∙ omega arith)) in
-    leap x y ∙ after_same next (cell s1 now) (cells_after next (cell s0 tree) (n % 2 ^ j)) (2 ^ j) so_far x y ∙ after_again next (cell s0 tree) (n % 2 ^ j) (2 ^ j) x y
-    ∙ ap (λ m. cells_after next (cell s0 tree) m x y) sum
+    leap x y ∙ after_same next (cell s1 now) (cells_after next p (n % 2 ^ j)) (2 ^ j) so_far x y ∙ after_again next p (n % 2 ^ j) (2 ^ j) x y
+    ∙ ap (λ m. cells_after next p m x y) sum
 
 -- and none where the digit is 0
 pub no_digit : (n j : ℕ) → n / 2 ^ j % 2 ≡ 0 → n % 2 ^ j ≡ n % 2 ^ (1 + j)

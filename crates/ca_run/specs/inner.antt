@@ -8,5 +8,8 @@ pub mod Shown
 pub mod Padded
 pub mod Words
 pub mod Centres
-pub mod Grid
+pub mod Beyond
 pub mod Tiles
+pub mod Bricks
+pub mod Frames
+pub mod Dense

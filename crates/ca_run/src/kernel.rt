@@ -121,7 +121,7 @@ fn with_count(next: Bits, alive: Bits, which: Bits, born: bool, stays: bool) -> 
 
 // Whether n is in the mask.
 #[inline(always)]
-fn is_in(mask: u16, n: u8) -> bool
+pub(crate) fn is_in(mask: u16, n: u8) -> bool
     requires { n < 16 }
     ensures { result ≡ (bit_at mask n == 1) }
 {

@@ -1,6 +1,7 @@
 //! Generations of a plane under a rule, by steps and by leaps, and laws of the plane after n generations.
 #![tactic(auto)]
 
+mod bricks;
 mod fault;
 mod generations;
 mod kernel;

@@ -59,3 +59,7 @@ word_bytes_at north south place = if nat_lt place 8 then byte_of north place els
 -- the eight cells in the middle of a tile's row
 abbrev pub inner_byte : List ℕ → ℕ → ℕ
 inner_byte rows y = slice_index rows (4 + y) / 16 % 256
+
+-- eight cells for each word
+abbrev pub eight : ℤ → ℤ
+eight i = i +ℤ i +ℤ i +ℤ i +ℤ i +ℤ i +ℤ i +ℤ i

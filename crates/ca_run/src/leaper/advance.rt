@@ -7,6 +7,7 @@ ghost use Rattle.ca_run.specs.Advanced.{CanAdvance, IsAdvanced, Advances};
 ghost use Rattle.ca_run.specs.Leaping.{LeaperGrows};
 ghost use Rattle.ca_run.specs.inner.Padded.{IsPadded};
 
+use super::dense::Reached;
 use super::{Leaper, Milestone};
 use crate::fault::LeapFault;
 use crate::watch::{Unwatched, Watch};
@@ -45,18 +46,20 @@ impl<A: Automaton> Leaper<A> {
         ensures { Advances A (A.next_of self.old.rule) self.old tree n self.new result }
     {
         let _ = &self.store;
-        if let Some(later) = self.step_dense(tree, n, watch)? {
-            return Ok(later);
-        }
-        if n == MOST_GENERATIONS {
-            return Ok(self.leap(tree, 60)?);
+        let Reached {
+            tree: mut now,
+            generations,
+        } = self.step_dense(&tree, n, watch)?;
+        let left = n - generations;
+        if left == MOST_GENERATIONS {
+            return Ok(self.leap(now, 60)?);
         }
         // By a leap for each binary digit.
-        let mut now = tree;
         'digits: for j in 0..60 {
-            if (n >> j) % 2 == 1 {
+            if (left >> j) % 2 == 1 {
                 now = self.leap(now, j)?;
-                watch.reached(Milestone::with_tree(self, &tree, &now, n % (2 << j)));
+                let reached = generations + left % (2 << j);
+                watch.reached(Milestone::with_tree(self, &tree, &now, reached));
             }
         }
         Ok(now)

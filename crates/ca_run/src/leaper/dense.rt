@@ -1,174 +1,149 @@
-//! Planes that are stepped word by word: those of few generations beside their size, of squares that hardly repeat.
+//! Planes that are stepped brick by brick: those of squares that hardly repeat.
 
-ghost use Rattle.std.specs.Prelude.{◌≡◌, ℕ, ◌+◌, ◌*◌, ◌/◌, ◌%◌, ◌≤◌, ◌<◌, ◌^◌, ℤ, pos, neg_ℤ, ◌+ℤ◌, ◌-ℤ◌, ◌≤ℤ◌, ◌-◌, List, true, Ok, None, replicate, IfOk, IfSome};
-ghost use Rattle.ca_plane.specs.Generations.{cells_after};
+ghost use Rattle.std.specs.Prelude.{◌≡◌, ℕ, ◌+◌, ◌<◌, ◌≤◌, ◌^◌, length, Ok, None, IfOk, IsOk, IfSome};
 ghost use Rattle.ca_quad.specs.Trees.{IsTree, cell};
-ghost use Rattle.ca_run.specs.Advanced.{IsAdvanced};
 ghost use Rattle.ca_run.specs.Leaping.{LeaperGrows};
 ghost use Rattle.ca_run.specs.Masks.{GoesBy};
-ghost use Rattle.ca_run.specs.inner.Grid.{FitsGrid, GridShows, Begins, IsAsNarrow, corner, DiesBeyond};
+ghost use Rattle.ca_run.specs.inner.Bricks.{WallShows, LiesNear, IsAligned};
+ghost use Rattle.ca_run.specs.inner.Dense.{HasReached};
 
-use super::grid::{Grid, Place};
-use super::{Leaper, Milestone};
+use super::Leaper;
+use crate::bricks::{Wall, frame_of};
 use crate::watch::Watch;
 use ca_plane::{Automaton, Memory};
 use ca_quad::Tree;
 use std::alloc::Global;
 
-// The fewest generations for which it pays to read all words.
+// The fewest generations for which it pays to read all bricks.
 const FEWEST: u64 = 32;
 
-// The levels of the squares that are read.
-const LEAST: u8 = 6;
+// The levels of trees of which bricks are read.
+const LEAST: u8 = 7;
 
-const GREATEST: u8 = 16;
+const GREATEST: u8 = 62;
+
+// For how many generations a wall has a margin.
+const AT_A_TIME: u64 = 1024;
+
+// How many walls are made at most, one after the other.
+const MOST_WALLS: u64 = 64;
+
+/// A tree that a run has reached, and after how many generations.
+#[derive(Clone, Copy)]
+pub(super) struct Reached {
+    pub(super) tree: Tree,
+    pub(super) generations: u64,
+}
+
+// What is reached by one wall, and how many of its bricks were stepped in a generation.
+#[derive(Clone, Copy)]
+struct Stretch {
+    reached: Reached,
+    work: u64,
+}
 
 impl<A: Automaton> Leaper<A> {
-    // The tree n generations on, where to step all its words likely takes less time than to leap.
+    // What is reached of n generations by stepping all bricks, as far as that likely takes less time than to leap.
     pub(super) fn step_dense<W: Watch>(
         &mut self,
-        tree: Tree,
+        tree: &Tree,
         n: u64,
         watch: &mut W,
-    ) -> Result<Option<Tree>, Memory>
-        requires { IsTree self.old.nodes tree }
-        ensures advanced { IfOk result (λ found. IfSome found
-            (IsAdvanced (A.next_of self.old.rule) self.old.nodes tree n self.new.nodes)) }
-        ensures none { n ≡ 0 → result ≡ Ok None }
+    ) -> Result<Reached, Memory>
+        requires tree { IsTree self.old.nodes tree.now }
+        requires level { tree.now.level ≤ 64 }
+        requires time { n ≤ 2 ^ 60 }
+        ensures reached { IfOk result (HasReached (A.next_of self.old.rule) self.old.nodes tree.now n self.new.nodes) }
+        ensures none { n ≡ 0 → IfOk result (λ reached. reached.tree ≡ tree.now) }
+        ensures calm { n ≡ 0 → IsOk result }
         ensures goes_on { LeaperGrows A self.old self.new }
     {
         let _ = &self.store;
-        let Some(masks) = self.masks else {
-            return Ok(None);
+        let mut reached = Reached {
+            tree: *tree,
+            generations: 0,
         };
-        if !self.is_dense(tree, n) {
-            return Ok(None);
+        let Some(masks) = self.masks else {
+            return Ok(reached);
+        };
+        if n < FEWEST || !self.full_leaps.is_empty() {
+            return Ok(reached);
         }
-        let alloc = self.recent_centres.allocator();
-        match self.grid(alloc, tree.root, tree.level - 3)? {
-            None => Ok(None),
-            Some(grid) => {
-                let later = grid.last_rows(alloc, masks, n, self, &tree, watch)?;
-                Ok(Some(self.centred_tree(&later, tree.level, n)?))
+        let mut most = 0;
+        'walls: for _ in 0..MOST_WALLS {
+            let Some(stretch) = self.step_wall(masks, tree, &reached, n, watch)? else {
+                return Ok(reached);
+            };
+            let Stretch {
+                reached: next,
+                work,
+            } = stretch;
+            reached = next;
+            most = work.max(most);
+            if work < most / 4 {
+                return Ok(reached);
             }
         }
+        Ok(reached)
     }
 
-    // Whether to step all words likely takes less time than to leap: the generations are few beside the side of the tree,
-    // nothing was leapt over yet, and its squares hardly repeat.
-    fn is_dense(&self, tree: Tree, n: u64) -> bool
-        ensures fits { result ≡ true → FitsGrid tree.level n }
-        ensures some { result ≡ true → 32 ≤ n }
-    {
-        if tree.level < LEAST
-            || tree.level > GREATEST
-            || n < FEWEST
-            || !self.full_leaps.is_empty()
-        {
-            return false;
-        }
-        let words = 1 << (2 * (tree.level - 3));
-        n <= 4 << tree.level && self.store.count() >= words / 4
-    }
-
-    // The tree of a grid that came of one of this level in n generations.
-    fn centred_tree(&mut self, grid: &Grid, level: u8, n: u64) -> Result<Tree, Memory>
-        requires { FitsGrid level n }
-        ensures tree { IfOk result (IsTree self.new.nodes) }
-        ensures level { IfOk result (λ t. t.level ≤ 124) }
-        ensures cells { (p : ℤ → ℤ → ℕ) → GridShows grid.now p (corner level n) (corner level n)
-            → DiesBeyond (2 ^ (level + 3)) p
-            → IfOk result (λ t. (x y : ℤ) → cell self.new.nodes t x y ≡ p x y) }
+    // What is reached by one wall more, where the plane is dense.
+    fn step_wall<W: Watch>(
+        &mut self,
+        masks: (u16, u16),
+        first: &Tree,
+        reached: &Reached,
+        n: u64,
+        watch: &mut W,
+    ) -> Result<Option<Stretch>, Memory>
+        requires first { IsTree self.old.nodes first.now }
+        requires time { n ≤ 2 ^ 60 }
+        requires masks { GoesBy (A.next_of self.old.rule) masks }
+        requires reached { HasReached (A.next_of self.old.rule) self.old.nodes first.now n self.old.nodes reached.now }
+        ensures reached { IfOk result (λ found. IfSome found (λ stretch. HasReached (A.next_of self.old.rule)
+            self.old.nodes first.now n self.new.nodes stretch.reached)) }
+        ensures none { reached.now.generations ≡ n → IfOk result (λ found. found ≡ None) }
         ensures goes_on { LeaperGrows A self.old self.new }
     {
-        let place = place_of_corner(level, n);
-        let root = self.from_grid(grid, level + 1, Place { i: place, j: place })?;
-        Ok(Tree {
-            root,
-            level: level + 4,
-        })
-    }
-}
-
-// Where the corner of a tree of four levels more lies among the words of a grid that came of one of this level in n
-// generations.
-fn place_of_corner(level: u8, n: u64) -> i64
-    requires { FitsGrid level n }
-    ensures value { result ≡ (pos (2 ^ (level - 4)) +ℤ pos (n / 8 + 1)) -ℤ pos (2 ^ level) }
-    ensures least { neg_ℤ (pos (2 ^ 40)) ≤ℤ result }
-    ensures greatest { result ≤ℤ pos (2 ^ 40 - 2 ^ (level + 1)) }
-{
-    distance(n / 8 + 1 + (1 << (level - 4)), 1 << level)
-}
-
-// How far one number lies beyond another.
-fn distance(far: u64, near: u64) -> i64
-    requires far { far ≤ 2 ^ 62 }
-    requires near { near ≤ 2 ^ 62 }
-    ensures { result ≡ pos far -ℤ pos near }
-{
-    far as i64 - near as i64
-}
-
-impl Grid {
-    // The rows n generations on: they begin n / 8 + 1 words further to the north and to the west. The run began with a tree
-    // that they show.
-    fn last_rows<A: Automaton, W: Watch>(
-        self,
-        alloc: Global,
-        masks: (u16, u16),
-        n: u64,
-        leaper: &Leaper<A>,
-        first: &Tree,
-        watch: &mut W,
-    ) -> Result<Grid, Memory>
-        requires begins { Begins (A.next_of leaper.now.rule) masks self (cell leaper.now.nodes first.now) }
-        requires narrow { IsAsNarrow (2 ^ 40) self }
-        requires time { n ≤ 2 ^ 40 }
-        ensures { (next : List ℕ → ℕ) (p : ℤ → ℤ → ℕ) (a b : ℤ) → GoesBy next masks → next (replicate 9 0) ≡ 0
-            → GridShows self p a b
-            → IfOk result (λ grid. GridShows grid (cells_after next p n) (a -ℤ pos (8 * (n / 8 + 1)))
-            (b -ℤ pos (8 * (n / 8 + 1)))) }
-    {
-        let none = Grid::empty(alloc);
-        let fours = n / 4;
-        let grid = self.step_by_fours(alloc, masks, fours, leaper, first, watch)?;
-        let grid = grid.next(alloc, &none, &none, masks, (n % 4) as u8)?;
-        if fours % 2 == 1 {
-            return Ok(grid);
-        }
-        grid.next(alloc, &none, &none, masks, 0)
+        let alloc = self.recent_centres.allocator();
+        let left = (n - reached.generations).min(AT_A_TIME);
+        let Some(wall) = self.dense_wall(alloc, &reached.tree, left)? else {
+            return Ok(None);
+        };
+        let later = wall.later(alloc, masks, left, self, first, reached.generations, watch)?;
+        let tree = self.tree_of(&later)?;
+        Ok(Some(Stretch {
+            reached: Reached {
+                tree,
+                generations: reached.generations + left,
+            },
+            work: later.work / left,
+        }))
     }
 
-    // The rows so many times four generations on: as many times they begin four cells further to the north and to the west.
-    fn step_by_fours<A: Automaton, W: Watch>(
-        self,
-        alloc: Global,
-        masks: (u16, u16),
-        fours: u64,
-        leaper: &Leaper<A>,
-        first: &Tree,
-        watch: &mut W,
-    ) -> Result<Grid, Memory>
-        requires begins { Begins (A.next_of leaper.now.rule) masks self (cell leaper.now.nodes first.now) }
-        requires narrow { IsAsNarrow (2 ^ 40) self }
-        requires time { fours ≤ 2 ^ 40 }
-        ensures narrow { IfOk result (IsAsNarrow (2 ^ 40 + fours)) }
-        ensures shows { (next : List ℕ → ℕ) (p : ℤ → ℤ → ℕ) (a b : ℤ) → GoesBy next masks
-            → next (replicate 9 0) ≡ 0 → GridShows self p a b
-            → IfOk result (λ grid. GridShows grid (cells_after next p (4 * fours)) (a -ℤ pos (4 * fours))
-            (b -ℤ pos (4 * fours))) }
+    // The wall of a tree with a margin of so many cells, where its squares hardly repeat and it is not too large.
+    fn dense_wall(&self, alloc: Global, tree: &Tree, margin: u64) -> Result<Option<Wall>, Memory>
+        requires tree { IsTree self.now.nodes tree.now }
+        requires margin { margin ≤ 2 ^ 60 }
+        ensures shows { IfOk result (λ found. IfSome found
+            (λ wall. WallShows wall margin (cell self.now.nodes tree.now))) }
+        ensures near { IfOk result (λ found. IfSome found LiesNear) }
+        ensures aligned { IfOk result (λ found. IfSome found IsAligned) }
+        ensures room { IfOk result (λ found. IfSome found (λ wall. wall.across + length wall.bricks.items < 2 ^ 63)) }
+        ensures some { margin ≡ 0 → result ≡ Ok None }
     {
-        let mut before = Grid::empty(alloc);
-        let mut after = Grid::empty(alloc);
-        let mut now = self;
-        'steps: for step in 0..fours {
-            let next = now.next(alloc, &before, &after, masks, 4)?;
-            before = after;
-            after = now;
-            now = next;
-            watch.reached(Milestone::with_grid(leaper, first, &now, 4 * (step + 1)));
+        if margin == 0 || tree.level < LEAST || tree.level > GREATEST {
+            return Ok(None);
         }
-        Ok(now)
+        let Some(bounds) = self.store.bounds(alloc, *tree)? else {
+            return Ok(None);
+        };
+        let Some(frame) = frame_of(bounds, margin as usize) else {
+            return Ok(None);
+        };
+        if self.store.count() / 8 < frame.held() {
+            return Ok(None);
+        }
+        self.wall_of(alloc, tree, &frame)
     }
 }

@@ -3,10 +3,10 @@
 ghost use Rattle.std.specs.Prelude.{◌≡◌, ℤ};
 ghost use Rattle.ca_plane.specs.Generations.{cells_after};
 ghost use Rattle.ca_quad.specs.Trees.{cell};
-ghost use Rattle.ca_run.specs.inner.Grid.{IsShown};
+ghost use Rattle.ca_run.specs.inner.Bricks.{WallShows};
 
 use super::Leaper;
-use super::grid::Grid;
+use crate::bricks::Wall;
 use ca_plane::Automaton;
 use ca_quad::Tree;
 use std::marker::Model;
@@ -54,14 +54,14 @@ impl Milestone {
         Milestone { generations }
     }
 
-    // What a run has reached that began with a tree and holds a grid.
-    pub(super) fn with_grid<A: Automaton>(
+    // What a run has reached that began with a tree and holds a wall.
+    pub(crate) fn with_wall<A: Automaton>(
         leaper: &Leaper<A>,
         first: &Tree,
-        held: &Grid,
+        held: &Wall,
         generations: u64,
     ) -> Milestone
-        requires { IsShown held.now
+        requires { WallShows held.now 0
             (cells_after (A.next_of leaper.now.rule) (cell leaper.now.nodes first.now) generations) }
         ensures { result ≡ generations }
     {

@@ -2,7 +2,6 @@
 
 ghost use Rattle.std.specs.Prelude.{◌≡◌, ◌↔◌, true, ℕ, ◌≤◌, ℤ, pos, ◌+ℤ◌, List};
 ghost use Rattle.ca_plane.specs.Generations.{cells_after};
-ghost use Rattle.ca_run.specs.inner.Grid.{HasNone};
 ghost use Rattle.ca_run.specs.inner.Words.{WordShows, WordsShow};
 ghost use Rattle.ca_run.specs.Masks.{GoesBy};
 
@@ -18,14 +17,6 @@ pub(crate) struct Words {
 }
 
 impl Words {
-    // Whether no cell is live.
-    #[inline(always)]
-    pub(super) fn is_empty(&self) -> bool
-        ensures { result ≡ true ↔ HasNone self.now }
-    {
-        self.nw == 0 && self.ne == 0 && self.sw == 0 && self.se == 0
-    }
-
     // The 8 by 8 cells in the middle, so many generations on, at most 4. The rule goes by these masks.
     pub(super) fn centre(&self, masks: (u16, u16), n: u8) -> u64
         requires { n ≤ 4 }

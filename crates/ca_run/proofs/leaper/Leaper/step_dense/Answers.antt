@@ -1,41 +1,62 @@
-use Rattle.std.proofs.Common.{◌≡◌, ◌-◌, ◌≤◌, ◌^◌, IfSome, refl, subst, arith}
-use Rattle.std.specs.Prelude.{pos, neg_ℤ, replicate}
-use Rattle.ca_plane.specs.Generations.{cells_after}
-use Rattle.ca_quad.specs.Trees.{cell}
-use Rattle.ca_run.specs.Masks.{GoesBy}
-use Rattle.ca_run.specs.inner.Grid.{GridShows}
-use Rattle.ca_run.proofs.Lanes.{goes_by_masks}
-use Rattle.ca_run.proofs.Grids.{tree_rows, dense_dies}
+use Rattle.std.proofs.Common.{IfSome, subst}
+use Rattle.ca_quad.specs.Sound.{IsSoundStore}
+use Rattle.ca_quad.proofs.Cells.{of_stays}
+use Rattle.ca_run.specs.inner.Dense.{HasReached}
+use Rattle.ca_run.proofs.DenseRuns.{reached_now, reached_before, reached_stays}
+use Rattle.ca_run.proofs.Shown.{goes_on_again}
 use Rattle.ca_run.proofs.leaper.Leaper.step_dense.Goals as goal
 
-pub last_rows-requires-clause-begins : goal.last_rows-requires-clause-begins
-last_rows-requires-clause-begins g c =
-    let p = cell c.args.self.now.nodes c.args.tree in
-    let half = neg_ℤ (pos (2 ^ (c.args.tree.level - 1))) in
+pub returns-in_default-2-clause-reached : goal.returns-in_default-2-clause-reached
+returns-in_default-2-clause-reached g c =
+    let next = g.A.Automaton.next_of c.args.self.now.rule in
+    let s0 = c.args.self.now.nodes in
+    let s1 = c.walls.self.nodes in
+    let s2 = c.step_wall.new.self.nodes in
+    let tree = c.args.tree.now in
+    let inv = c.walls.invariant in
+    let sound = subst (λ l. IsSoundStore l.nodes) c.self.view_is c.self.invariant.squares in
+    let on = goes_on_again _ c.args.self.now c.walls.self c.step_wall.new.self inv.goes_on c.in_ok-stretch.ensures.goes_on in
+    let first = of_stays s0 s1 sound inv.goes_on.grows tree.root tree.level c.requires.tree in
+    reached_before next s0 s2 s2 tree c.args.n c.walls.reached sound on.grows c.requires.tree
+    (reached_stays next s1 s2 tree c.args.n c.walls.reached inv.goes_on.grows.sound c.in_ok-stretch.ensures.goes_on.grows first inv.reached)
+
+pub returns-then-work-most-clause-reached : goal.returns-then-work-most-clause-reached
+returns-then-work-most-clause-reached g c =
+    let next = g.A.Automaton.next_of in
+    let s0 = c.args.self.now.nodes in
+    let s1 = c.walls.self.nodes in
+    let s2 = c.step_wall.new.self.nodes in
+    let tree = c.args.tree.now in
+    let reached = c.in-Some-2.stretch.reached in
+    let inv = c.walls.invariant in
+    let sound = subst (λ l. IsSoundStore l.nodes) c.self.view_is c.self.invariant.squares in
+    let made = subst (λ found. IfSome found (λ stretch. HasReached (next c.walls.self.rule) s1 tree c.args.n s2 stretch.reached)) c.in-Some-2.is c.in_ok-stretch.ensures.reached in
+    subst (λ r. HasReached (next r) s0 tree c.args.n s2 reached) inv.goes_on.rule
+    (reached_before (next c.walls.self.rule) s0 s1 s2 tree c.args.n reached sound inv.goes_on.grows c.requires.tree made)
+
+pub returns-then-work-most-clause-goes_on : goal.returns-then-work-most-clause-goes_on
+returns-then-work-most-clause-goes_on g c = goes_on_again _ c.args.self.now c.walls.self c.step_wall.new.self c.walls.invariant.goes_on c.in_ok-stretch.ensures.goes_on
+
+pub walls-preserved : goal.walls-preserved
+walls-preserved g c =
+    let next = g.A.Automaton.next_of in
+    let s1 = c.walls.self.nodes in
+    let s2 = c.step_wall.new.self.nodes in
+    let tree = c.args.tree.now in
+    let reached = c.in-Some-2.stretch.reached in
+    let inv = c.walls.invariant in
+    let sound = subst (λ l. IsSoundStore l.nodes) c.self.view_is c.self.invariant.squares in
+    let first = of_stays c.args.self.now.nodes s1 sound inv.goes_on.grows tree.root tree.level c.requires.tree in
+    let made = subst (λ found. IfSome found (λ stretch. HasReached (next c.walls.self.rule) s1 tree c.args.n s2 stretch.reached)) c.in-Some-2.is c.in_ok-stretch.ensures.reached in
     record {
-      by_masks = subst (λ l. GoesBy (g.A.Automaton.next_of l.rule) c.in-Some.masks) c.self.view_is (goes_by_masks (g.A.Automaton.next_of c.self.inside.rule) c.self.inside.masks c.in-Some.masks c.self.invariant.by_masks c.in-Some.is);
-      quiet = subst (λ l. g.A.Automaton.next_of l.rule (replicate 9 0) ≡ 0) c.self.view_is (g.met.A.Automaton.quiet c.self.inside.rule c.self.invariant.rule);
-      shows = (
-        half,
-        half,
-        subst (λ found. IfSome found (λ rows. GridShows rows p half half)) c.in-Some-2.is (tree_rows c.args.self.now.nodes c.args.tree _ c.requires (c.if-not-is_dense.ensures.fits refl).least c.in_ok-grid.ensures.shows),
-      );
+      reached = subst (λ r. HasReached (next r) s2 tree c.args.n s2 reached) inv.goes_on.rule
+          (reached_now (next c.walls.self.rule) s1 s2 tree c.args.n reached inv.goes_on.grows.sound c.in_ok-stretch.ensures.goes_on.grows first made);
+      goes_on = goes_on_again _ c.args.self.now c.walls.self c.step_wall.new.self inv.goes_on c.in_ok-stretch.ensures.goes_on;
     }
 
-pub returns-in_ok-centred_tree-in-Some-2-clause-advanced : goal.returns-in_ok-centred_tree-in-Some-2-clause-advanced
-returns-in_ok-centred_tree-in-Some-2-clause-advanced g c =
-    let tree = c.args.tree in
-    let next = g.A.Automaton.next_of c.args.self.now.rule in
-    let p = cell c.args.self.now.nodes tree in
-    let quiet = subst (λ l. g.A.Automaton.next_of l.rule (replicate 9 0) ≡ 0) c.self.view_is (g.met.A.Automaton.quiet c.self.inside.rule c.self.invariant.rule) in
-    let goes_by = subst (λ l. GoesBy (g.A.Automaton.next_of l.rule) c.in-Some.masks) c.self.view_is (goes_by_masks (g.A.Automaton.next_of c.self.inside.rule) c.self.inside.masks c.in-Some.masks c.self.invariant.by_masks c.in-Some.is) in
-    let fits = c.if-not-is_dense.ensures.fits refl in
-    let some : 1 ≤ tree.level = omega (arith, fits.least) in
-    let half = neg_ℤ (pos (2 ^ (tree.level - 1))) in
-    let before = subst (λ found. IfSome found (λ rows. GridShows rows p half half)) c.in-Some-2.is (tree_rows c.args.self.now.nodes tree _ c.requires fits.least c.in_ok-grid.ensures.shows) in
-    let after = c.in_ok-later-in-Some-2.ensures next p half half goes_by quiet before in
-    record {
-      is_tree = c.in_ok-centred_tree-in-Some-2.ensures.tree;
-      level = c.in_ok-centred_tree-in-Some-2.ensures.level;
-      cells = c.in_ok-centred_tree-in-Some-2.ensures.cells (cells_after next p c.args.n) after (dense_dies next quiet c.args.self.now.nodes tree c.args.n some fits.time);
-    }
+pub returns-clause-reached : goal.returns-clause-reached
+returns-clause-reached g c =
+    let s0 = c.args.self.now.nodes in
+    let inv = c.walls.invariant in
+    let sound = subst (λ l. IsSoundStore l.nodes) c.self.view_is c.self.invariant.squares in
+    reached_before (g.A.Automaton.next_of c.args.self.now.rule) s0 c.walls.self.nodes c.walls.self.nodes c.args.tree.now c.args.n c.walls.reached sound inv.goes_on.grows c.requires.tree inv.reached

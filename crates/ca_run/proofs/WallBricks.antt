@@ -1,0 +1,147 @@
+-- Trees read as walls: where bricks lie in a tree, and which of them are blank.
+use Rattle.std.proofs.Common.{◌≡◌, ℕ, suc, ◌+◌, ◌-◌, ◌*◌, ◌/◌, ◌%◌, ◌<◌, ◌≤◌, ◌^◌, inl, inr, ◌⊎◌, List, [], ◌∷◌, ◌++◌, length, get_or, slice_index, slice_set, sym, ap, subst, ◌∙◌, arith, w64, to_z, of_z}
+use Rattle.std.specs.Prelude.{ℤ, pos, ◌+ℤ◌, ◌-ℤ◌, replicate}
+use Rattle.std.specs.Prelude.{FitsSigned}
+use Rattle.std.proofs.lemmas.Int.{ints, to_z-of_z}
+use Rattle.std.proofs.lemmas.Bool.{cases_eq}
+use Rattle.std.proofs.lemmas.Grind.{get_or-set_at}
+use Rattle.std.proofs.lemmas.List.{get_or-set_other, get_or_append_left}
+use Rattle.std.proofs.Math.Seq.{get_or-append_seam}
+use Rattle.std.proofs.Math.Nat.{mul_comm, mul_assoc, two-pow-succ, div-mul-le_self, mul-le-mul_right}
+use Rattle.ca_quad.proofs.Growth.{below_or_not}
+use Rattle.ca_run.specs.declared.bricks.frame.Span.{Span}
+use Rattle.ca_run.specs.declared.bricks.frame.Frame.{Frame}
+use Rattle.ca_run.specs.declared.bricks.wall.Wall.{Wall}
+use Rattle.ca_run.specs.inner.Beyond.{DiesBeyond}
+use Rattle.ca_run.specs.inner.Words.{WordShows}
+use Rattle.ca_run.specs.inner.Bricks.{BrickShows, WallShows, LiesNear, IsAligned}
+use Rattle.ca_run.specs.inner.Frames.{IsOutOf, IsFrame, IsFramed, piece_start, row_start}
+use Rattle.ca_run.proofs.BrickLists.{zeros_blank}
+use Rattle.ca_run.proofs.ReadWords.{side_words}
+use Rattle.ca_run.proofs.Words.{word_from}
+
+-- what holds of the first of a list and of what is written at the next place holds of one more
+pub set_more : (P : ℕ → ℕ → Type 0) (list : List ℕ) (k word : ℕ) → k < length list → ((m : ℕ) → m < k → P m (slice_index list m)) → P k word
+    → (m : ℕ) → m < k + 1 → P m (slice_index (slice_set list k word) m)
+set_more P list k word long so_far one m h = elim (cases_eq m k) [
+  | inl e ↦ subst (P m) (sym (get_or-set_at list k m word 0 e long)) (subst (λ n. P n word) (sym e) one)
+  | inr n ↦ subst (P m) (sym (get_or-set_other list k m word 0 n)) (so_far m (omega arith))
+]
+
+-- and of what is put at the end
+pub push_more : (P : ℕ → List ℕ → Type 0) (list : List (List ℕ)) (t : ℕ) (rows : List ℕ) → length list ≡ t → ((m : ℕ) → m < t → P m (get_or list m [])) → P t rows
+    → (m : ℕ) → m < t + 1 → P m (get_or (list ++ rows ∷ []) m [])
+push_more P list t rows size so_far one m h = elim (below_or_not m t) [
+  | inl near ↦ subst (P m) (sym (get_or_append_left list (rows ∷ []) [] m (omega (arith, size, near)))) (so_far m near)
+  | inr far ↦
+      let last : m ≡ length list = omega (arith, size, h, far) in
+      let here : t ≡ m = omega (arith, h, far) in
+      subst (P m) (sym (ap (λ n. get_or (list ++ rows ∷ []) n []) last ∙ get_or-append_seam list rows [] [])) (subst (λ n. P n rows) here one)
+]
+
+-- a blank brick shows a plane that is dead there
+pub blank_shows : (p : ℤ → ℤ → ℕ) (a b : ℤ) → ((x y : ℕ) → x < 64 → y < 16 → p (a +ℤ pos x) (b +ℤ pos y) ≡ 0) → BrickShows (replicate 16 0) p a b
+blank_shows p a b dead = record { looks = λ x y h k. zeros_blank x y h k ∙ sym (dead x y h k) }
+
+-- a brick shows the plane at a place by another name
+pub brick_from : (rows : List ℕ) (p : ℤ → ℤ → ℕ) (a b c d : ℤ) → a ≡ c → b ≡ d → BrickShows rows p a b → BrickShows rows p c d
+brick_from rows p a b c d e f shows = subst (λ x. BrickShows rows p x d) e (subst (BrickShows rows p a) f shows)
+
+-- six powers of two more
+pub sixty_four_times : (k : ℕ) → 2 ^ (k + 6) ≡ 64 * 2 ^ k
+sixty_four_times k =
+    let six : k + 6 ≡ suc (suc (suc (suc (suc (suc k))))) = omega arith in
+    let a = side_words (suc (suc (suc k))) in
+    let b = side_words k in
+    ap (λ m. 2 ^ m) six ∙ a ∙ omega (arith, b)
+
+pub sixteen_times : (k : ℕ) → 2 ^ (k + 4) ≡ 16 * 2 ^ k
+sixteen_times k =
+    let four : k + 4 ≡ suc (suc (suc (suc k))) = omega arith in
+    let a = side_words (suc k) in
+    let b : 2 ^ suc k ≡ 2 * 2 ^ k = two-pow-succ k ∙ omega arith in
+    ap (λ m. 2 ^ m) four ∙ a ∙ omega (arith, b)
+
+-- a column that lies beside all bricks of a tree shows nothing
+pub column_dead : (p : ℤ → ℤ → ℕ) (way half column : ℕ) → 64 * half ≡ way → half ≤ 2 ^ 55 → DiesBeyond way p → (column < 2 ^ 56 - half) ⊎ (2 ^ 56 - half + 2 * half ≤ column)
+    → (x : ℕ) → x < 64 → (y : ℤ) → p (piece_start column +ℤ pos x) y ≡ 0
+column_dead p way half column e most dies (inl west) x h y = dies _ y (inl (inl (omega (arith, ints, e, most, west, h))))
+column_dead p way half column e most dies (inr east) x h y = dies _ y (inl (inr (omega (arith, ints, e, most, east, h))))
+
+-- and neither does a row
+pub row_dead : (p : ℤ → ℤ → ℕ) (way half row : ℕ) → 64 * half ≡ way → half ≤ 2 ^ 55 → DiesBeyond way p → (row < 2 ^ 58 - 4 * half) ⊎ (2 ^ 58 - 4 * half + 8 * half ≤ row)
+    → (y : ℕ) → y < 16 → (x : ℤ) → p x (row_start row +ℤ pos y) ≡ 0
+row_dead p way half row e most dies (inl north) y h x = dies x _ (inr (inl (omega (arith, ints, e, most, north, h))))
+row_dead p way half row e most dies (inr south) y h x = dies x _ (inr (inr (omega (arith, ints, e, most, south, h))))
+
+-- a column that isn't one of those of a box lies out of it
+pub column_out : (span : Span) (column : ℕ) → (span.low ≤ column → column ≤ span.high → ⊥) → (x : ℕ) → x < 64 → IsOutOf span (piece_start column +ℤ pos x)
+column_out span column out x h = elim (below_or_not column span.low) [
+  | inl west ↦ inl (omega (arith, ints, west, h))
+  | inr here ↦ elim (below_or_not span.high column) [ inl east ↦ inr (omega (arith, ints, east, h)) | inr low ↦ absurd (out here low) ]
+]
+
+pub row_out : (span : Span) (row : ℕ) → (span.low ≤ row / 4 → row / 4 ≤ span.high → ⊥) → (y : ℕ) → y < 16 → IsOutOf span (row_start row +ℤ pos y)
+row_out span row out y h = elim (below_or_not (row / 4) span.low) [
+  | inl north ↦ inl (omega (arith, ints, north, h))
+  | inr here ↦ elim (below_or_not span.high (row / 4)) [ inl south ↦ inr (omega (arith, ints, south, h)) | inr low ↦ absurd (out here low) ]
+]
+
+-- as many bricks as in the rows of four for each piece
+pub pieces_of_four : (across rows : ℕ) → 4 * (across * rows) ≡ (4 * rows) * across
+pieces_of_four across rows = ap (λ n. 4 * n) (mul_comm across rows) ∙ sym (mul_assoc 4 rows across)
+
+-- eight words that are found at one place are found at another name of it
+pub eight_from : (words : List ℕ) (p : ℤ → ℤ → ℕ) (f : ℕ → ℤ) (a b d : ℤ) → ((k : ℕ) → k < 8 → f k ≡ a +ℤ pos (8 * k)) → b ≡ d
+    → ((k : ℕ) → k < 8 → WordShows (slice_index words k) p (f k) b) → (k : ℕ) → k < 8 → WordShows (slice_index words k) p (a +ℤ pos (8 * k)) d
+eight_from words p f a b d e g shows k h = word_from (slice_index words k) p (f k) b (a +ℤ pos (8 * k)) d (e k h) g (shows k h)
+
+-- the row of a brick is one of four for each piece
+pub row_of_bricks : (across rows t : ℕ) → 0 < across → t < 4 * (across * rows) → t / across < 4 * rows
+row_of_bricks across rows t some h = elim (below_or_not (t / across) (4 * rows)) [
+  | inl low ↦ low
+  | inr high ↦
+      let more : (4 * rows) * across ≤ t / across * across = mul-le-mul_right across high in
+      absurd (omega (arith, h, more, pieces_of_four across rows, div-mul-le_self t across))
+]
+
+piece_further : (first k : ℕ) → piece_start (first + k) ≡ piece_start first +ℤ pos (64 * k)
+piece_further first k = omega (arith, ints)
+
+row_further : (first k : ℕ) → row_start (4 * first + k) ≡ piece_start first +ℤ pos (16 * k)
+row_further first k = omega (arith, ints)
+
+-- bricks that show a plane where those of a frame round it lie make a wall that shows it
+pub framed_wall : (wall : Wall) (frame : Frame) (m : ℕ) (p : ℤ → ℤ → ℕ) → IsFrame frame → IsFramed m frame p
+    → wall.x ≡ piece_start frame.columns.first → wall.y ≡ piece_start frame.rows.first → wall.across ≡ frame.columns.count → wall.down ≡ 4 * frame.rows.count
+    → length wall.bricks.items ≡ 4 * (frame.columns.count * frame.rows.count)
+    → ((t : ℕ) → t < length wall.bricks.items
+    → BrickShows (get_or wall.bricks.items t []) p (piece_start (frame.columns.first + t % frame.columns.count)) (row_start (4 * frame.rows.first + t / frame.columns.count)))
+    → WallShows wall m p
+framed_wall wall frame m p is framed x y across down size shown = rw (x, y, across, down) (record {
+  is_wall = record { wide = is.columns.wide; high = omega (arith, is.rows.wide); size = size ∙ pieces_of_four frame.columns.count frame.rows.count };
+  bricks = λ t h.
+      brick_from (get_or wall.bricks.items t []) p _ _ _ _ (piece_further frame.columns.first (t % frame.columns.count)) (row_further frame.rows.first (t / frame.columns.count)) (shown t h);
+  margin = framed.margin;
+})
+
+-- and it lies near the origin
+pub near_wall : (wall : Wall) (frame : Frame) → IsFrame frame → wall.x ≡ piece_start frame.columns.first → wall.y ≡ piece_start frame.rows.first → wall.across ≡ frame.columns.count → wall.down ≡ 4 * frame.rows.count
+    → LiesNear wall
+near_wall wall frame is x y across down = rw (x, y, across, down) (record {
+  west = omega (arith, ints);
+  north = omega (arith, ints);
+  east = omega (arith, ints, is.columns.far);
+  south = omega (arith, ints, is.rows.far);
+})
+
+-- a whole number of words from it
+pub aligned_wall : (wall : Wall) (frame : Frame) → wall.x ≡ piece_start frame.columns.first → wall.y ≡ piece_start frame.rows.first → IsAligned wall
+aligned_wall wall frame x y = record {
+  x = (pos (8 * frame.columns.first) -ℤ pos (2 ^ 59), omega (arith, ints, x));
+  y = (pos (8 * frame.rows.first) -ℤ pos (2 ^ 59), omega (arith, ints, y));
+}
+
+-- where a piece begins is read back as it was written
+pub start_reads : (first : ℕ) (z : ℤ) → first ≤ 2 ^ 57 → z ≡ piece_start first → to_z w64 (of_z w64 z) ≡ piece_start first
+start_reads first z low e = let fits : FitsSigned w64 z = omega (arith, ints, low, e) in to_z-of_z w64 z fits ∙ e

@@ -1,0 +1,82 @@
+use Rattle.std.proofs.Common.{◌≡◌, ℕ, ◌+◌, ◌-◌, length, refl, sym, ap, subst, ◌∙◌, arith}
+use Rattle.std.specs.Prelude.{nat_eq}
+use Rattle.std.proofs.lemmas.Bool.Decides.{nat_tests}
+use Rattle.ca_plane.specs.Generations.{cells_after}
+use Rattle.ca_quad.specs.Trees.{cell}
+use Rattle.ca_run.specs.inner.Bricks.{WallShows, HasNeighbours, AllHaveNeighbours, IsNotIn, IsNextBrick, Rest, HasBlankEdge}
+use Rattle.ca_run.proofs.BrickMargins.{wall_less}
+use Rattle.ca_run.proofs.LaterWalls.{edge_blank, wall_later, wall_seen, by_first, queue_inside}
+use Rattle.ca_run.proofs.bricks.wall.Wall.later.Goals as goal
+
+pub generations-init : goal.generations-init
+generations-init g c =
+    let begins = c.requires.begins in
+    let across = c.args.self.across in
+    let bricks = c.args.self.bricks.items in
+    let count : c.len-count.result ≡ length bricks = omega (arith, c.len-count.ensures, c.args.self.bricks.ok.0) in
+    let all : (t : ℕ) → HasNeighbours across (length bricks) t → IsNotIn c.in_ok-awake.awake.items t → ⊥
+    = λ t has. c.in_ok-awake.ensures.all t (subst (λ n. HasNeighbours across n t) (sym count) has) in
+    let p = cells_after (g.A.Automaton.next_of c.args.leaper.now.rule) (cell c.args.leaper.now.nodes c.args.first.now) in
+    let n : c.args.n ≡ c.args.n - 0 = omega arith in
+    let r : c.args.reached ≡ c.args.reached + 0 = omega arith in
+    record {
+      shows = subst (λ m. WallShows c.args.self m (p (c.args.reached + 0))) n (subst (λ k. WallShows c.args.self c.args.n (p k)) r begins.shows);
+      place = record { x = refl; y = refl; across = refl; down = refl };
+      count = refl;
+      size = c.in_ok-before.ensures.length ∙ count;
+      inside = subst (λ n. AllHaveNeighbours across n c.in_ok-awake.awake.items) count c.in_ok-awake.ensures.inside;
+      empty = c.in_ok-queue.ensures;
+      rest = λ t has not_in. absurd (all t has not_in);
+      next = λ h t has. absurd (omega (arith, h));
+      edge = edge_blank c.args.self c.args.n (p c.args.reached) begins.shows;
+      edge_before = c.in_ok-before.ensures.blank across;
+      all = λ _. all;
+    }
+
+pub generations-preserved : goal.generations-preserved
+generations-preserved g c =
+    let begins = c.requires.begins in
+    let inv = c.generations.invariant in
+    let k = c.generations.k in
+    let across = c.generations.self.across in
+    let old = c.generations.self.bricks.items in
+    let new = c.generation.new.now.items in
+    let before = c.generation.new.before.items in
+    let made = c.in_ok-generation.ensures in
+    let has_old = λ (t : ℕ) (has : HasNeighbours across (length new) t). subst (λ n. HasNeighbours across n t) made.size has in
+    let p = cell c.args.leaper.now.nodes c.args.first.now in
+    record {
+      shows = wall_later (g.A.Automaton.next_of c.args.leaper.now.rule) c.args.masks begins.by_masks begins.quiet c.generations.self _ c.args.n k c.args.reached p (omega (arith, c.generations-test.true))
+          inv.shows (record { x = refl; y = refl; across = refl; down = refl }) made.size made.next (made.edge inv.edge_before);
+      place = record { x = inv.place.x; y = inv.place.y; across = inv.place.across; down = inv.place.down };
+      count = made.size ∙ inv.count;
+      size = ap length made.before ∙ sym made.size;
+      inside = by_first (AllHaveNeighbours across (length new)) (nat_eq k 0) _ _ _ c.wake_next.ensures.awake
+          (λ _. subst (λ n. AllHaveNeighbours across n c.generations.awake.items) (sym made.size) inv.inside)
+          (λ _. subst (λ n. AllHaveNeighbours across n c.generation.new.queue) (sym made.size) (queue_inside across (length old) c.generations.queue c.generation.new.queue inv.empty made.grows));
+      empty = c.wake_next.ensures.empty;
+      rest = by_first (Rest c.args.masks across new before) (nat_eq k 0) _ _ _ c.wake_next.ensures.awake
+          (λ e t has not_in. absurd (inv.all (grind (arith, nat_tests, e)) t (has_old t has) not_in))
+          (λ e. subst (λ l. Rest c.args.masks across new l c.generation.new.queue) (sym made.before) (made.rest (inv.next (grind (arith, nat_tests, e)))));
+      next = λ _ t has. subst (λ l. IsNextBrick c.args.masks across l new t) (sym made.before) (made.next t (has_old t has));
+      edge = made.edge inv.edge_before;
+      edge_before = subst (λ l. HasBlankEdge across l) (sym made.before) inv.edge;
+      all = λ e. absurd (omega (arith, e));
+    }
+
+pub with_wall-requires : goal.with_wall-requires
+with_wall-requires g c =
+    let begins = c.requires.begins in
+    let inv = c.generations.invariant in
+    let made = c.in_ok-generation.ensures in
+    wall_seen (g.A.Automaton.next_of c.args.leaper.now.rule) c.args.masks begins.by_masks begins.quiet c.generations.self _ c.args.n c.generations.k c.args.reached
+    (cell c.args.leaper.now.nodes c.args.first.now) (omega (arith, c.generations-test.true)) inv.shows (record { x = refl; y = refl; across = refl; down = refl }) made.size made.next (made.edge inv.edge_before)
+
+pub returns-clause-shows : goal.returns-clause-shows
+returns-clause-shows g c =
+    let next = g.A.Automaton.next_of c.args.leaper.now.rule in
+    let p = cell c.args.leaper.now.nodes c.args.first.now in
+    let all : c.generations.k ≡ c.args.n = grind (arith, nat_tests) in
+    let time : c.args.reached + c.generations.k ≡ c.args.reached + c.args.n = omega (arith, all) in
+    wall_less c.generations.self (c.args.n - c.generations.k) 0 (cells_after next p (c.args.reached + c.args.n)) (omega arith)
+    (subst (λ r. WallShows c.generations.self (c.args.n - c.generations.k) (cells_after next p r)) time c.generations.invariant.shows)

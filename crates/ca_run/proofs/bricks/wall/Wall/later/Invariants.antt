@@ -1,0 +1,21 @@
+use Rattle.std.proofs.Common.{◌≡◌, ℕ, ◌+◌, ◌-◌, ◌≤◌, length, []}
+use Rattle.ca_plane.specs.Generations.{cells_after}
+use Rattle.ca_quad.specs.Trees.{cell}
+use Rattle.ca_run.specs.inner.Bricks.{WallShows, IsInPlace, AllHaveNeighbours, HasNeighbours, IsNotIn, IsNextBrick, Rest, HasBlankEdge}
+use Rattle.ca_run.proofs.bricks.wall.Wall.later.Given as goal
+
+-- the wall so many generations on, and which of its bricks are awake: all of them before the first generation and after it
+abbrev pub invariant-generations : goal.invariant-generations
+invariant-generations g l = record {
+  shows : WallShows l.self (l.fn.n - l.k) (cells_after (g.A.Automaton.next_of l.fn.leaper.rule) (cell l.fn.leaper.nodes l.fn.first) (l.fn.reached + l.k));
+  place : IsInPlace l.fn.self l.self;
+  count : length l.self.bricks.items ≡ length l.fn.self.bricks.items;
+  size : length l.before.items ≡ length l.self.bricks.items;
+  inside : AllHaveNeighbours l.self.across (length l.self.bricks.items) l.awake.items;
+  empty : l.queue ≡ [];
+  rest : Rest l.fn.masks l.self.across l.self.bricks.items l.before.items l.awake.items;
+  next : 1 ≤ l.k → (t : ℕ) → HasNeighbours l.self.across (length l.self.bricks.items) t → IsNextBrick l.fn.masks l.self.across l.before.items l.self.bricks.items t;
+  edge : HasBlankEdge l.self.across l.self.bricks.items;
+  edge_before : HasBlankEdge l.self.across l.before.items;
+  all : l.k ≡ 0 → (t : ℕ) → HasNeighbours l.self.across (length l.self.bricks.items) t → IsNotIn l.awake.items t → ⊥;
+}

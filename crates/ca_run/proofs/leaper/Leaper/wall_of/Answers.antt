@@ -1,0 +1,49 @@
+use Rattle.std.proofs.Common.{◌≡◌, ◌+◌, ◌*◌, ◌/◌, ◌%◌, [], ◌∷◌, get_or, length, refl, sym, ap, subst, ◌∙◌, arith}
+use Rattle.std.proofs.lemmas.List.{length-append}
+use Rattle.ca_quad.specs.Trees.{cell}
+use Rattle.ca_run.specs.inner.Bricks.{BrickShows}
+use Rattle.ca_run.specs.inner.Frames.{piece_start, row_start}
+use Rattle.ca_run.proofs.WallBricks.{push_more, row_of_bricks, framed_wall, near_wall, aligned_wall, start_reads}
+use Rattle.ca_run.proofs.leaper.Leaper.wall_of.Goals as goal
+
+pub brick_in-requires-clause-row : goal.brick_in-requires-clause-row
+brick_in-requires-clause-row g c = row_of_bricks c.args.frame.now.columns.count c.args.frame.now.rows.count c.bricks.t (omega (arith, c.requires.frame.columns.wide)) c.bricks-test.true
+
+pub bricks-preserved : goal.bricks-preserved
+bricks-preserved g c =
+    let inv = c.bricks.invariant in
+    let frame = c.args.frame.now in
+    let p = cell c.args.self.now.nodes c.args.tree.now in
+    let list = c.bricks.bricks.items in
+    let t = c.bricks.t in
+    let rows = c.in-Some.brick in
+    let items = c.in_ok-push.ensures.items in
+    record {
+      size = ap length items ∙ omega (arith, inv.size, length-append list (rows ∷ []));
+      shown = λ m framed k h.
+          subst (λ l. BrickShows (get_or l k []) p (piece_start (frame.columns.first + k % frame.columns.count)) (row_start (4 * frame.rows.first + k / frame.columns.count))) (sym items)
+          (push_more (λ k brick. BrickShows brick p (piece_start (frame.columns.first + k % frame.columns.count)) (row_start (4 * frame.rows.first + k / frame.columns.count))) list t rows inv.size
+          (inv.shown m framed) (c.in-Some.ensures m framed) k h);
+    }
+
+pub returns-clause-shows : goal.returns-clause-shows
+returns-clause-shows g c = λ m framed.
+    let frame = c.args.frame.now in
+    let inv = c.bricks.invariant in
+    let all : c.bricks.t ≡ 4 * (frame.columns.count * frame.rows.count) = omega (arith, c.bricks-test.false, c.bricks.auto.t-end) in
+    framed_wall _ frame m (cell c.args.self.now.nodes c.args.tree.now) c.requires.frame framed
+    (start_reads frame.columns.first c.start.result (omega (arith, c.requires.frame.columns.far)) c.start.ensures)
+    (start_reads frame.rows.first c.start-2.result (omega (arith, c.requires.frame.rows.far)) c.start-2.ensures) refl refl (inv.size ∙ all)
+    (λ t h. inv.shown m framed t (omega (arith, inv.size, h)))
+
+pub returns-clause-near : goal.returns-clause-near
+returns-clause-near g c =
+    let frame = c.args.frame.now in
+    near_wall _ frame c.requires.frame (start_reads frame.columns.first c.start.result (omega (arith, c.requires.frame.columns.far)) c.start.ensures)
+    (start_reads frame.rows.first c.start-2.result (omega (arith, c.requires.frame.rows.far)) c.start-2.ensures) refl refl
+
+pub returns-clause-aligned : goal.returns-clause-aligned
+returns-clause-aligned g c =
+    let frame = c.args.frame.now in
+    aligned_wall _ frame (start_reads frame.columns.first c.start.result (omega (arith, c.requires.frame.columns.far)) c.start.ensures)
+    (start_reads frame.rows.first c.start-2.result (omega (arith, c.requires.frame.rows.far)) c.start-2.ensures)

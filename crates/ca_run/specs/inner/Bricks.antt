@@ -1,0 +1,198 @@
+-- Bricks: 64 by 16 cells of two states, sixteen rows from the top, of which bit 0 is the western-most cell (our own). They lie side by side
+-- in rows of as many, and each has a number: first those of the northern-most row from the west, then those of the next.
+use Rattle.std.specs.Prelude.{◌≡◌, ℕ, zero, suc, ◌+◌, ◌-◌, ◌*◌, ◌/◌, ◌%◌, ◌<◌, ◌≤◌, ℤ, pos, ◌+ℤ◌, ◌≤ℤ◌, ◌<ℤ◌, ◌^◌, neg_ℤ, List, [], length, replicate, get_or, if◌then◌else◌, nat_lt, ◌⊎◌, slice_index}
+use Rattle.std.specs.Int.{bit_at}
+use Rattle.ca_plane.specs.Generations.{cells_after}
+use Rattle.ca_quad.specs.Trees.{row_cells}
+use Rattle.ca_run.specs.declared.bricks.round.Round.{Round}
+use Rattle.ca_run.specs.declared.bricks.wall.Wall.{Wall}
+use Rattle.ca_run.specs.declared.bricks.word.WordCount.{WordCount}
+use Rattle.ca_run.specs.declared.bricks.word.WordPair.{WordPair}
+use Rattle.ca_run.specs.declared.bricks.wall.WordPlace.{WordPlace}
+use Rattle.ca_run.specs.inner.Words.{eight}
+use Rattle.ca_run.specs.inner.Tiles.{next_by_count}
+use Rattle.ca_run.specs.Masks.{GoesBy}
+
+-- ---- bricks on the plane
+
+-- sixteen rows of words show the plane from (a, b) on
+pub record BrickShows (rows : List ℕ) (p : ℤ → ℤ → ℕ) (a b : ℤ) : Type 0 where
+  pub looks : (x y : ℕ) → x < 64 → y < 16 → row_cells rows x y ≡ p (a +ℤ pos x) (b +ℤ pos y)
+
+-- where the brick of this number begins, of those of which so many lie side by side and the first begins at (a, b)
+abbrev pub brick_x : ℕ → ℤ → ℕ → ℤ
+brick_x across a t = a +ℤ pos (64 * (t % across))
+
+abbrev pub brick_y : ℕ → ℤ → ℕ → ℤ
+brick_y across b t = b +ℤ pos (16 * (t / across))
+
+-- the bricks show the plane, the first from (a, b) on
+abbrev pub BricksShow : ℕ → List (List ℕ) → (ℤ → ℤ → ℕ) → ℤ → ℤ → Type 0
+BricksShow across bricks p a b = (t : ℕ) → t < length bricks → BrickShows (get_or bricks t []) p (brick_x across a t) (brick_y across b t)
+
+-- the coordinate lies in the first of so many bricks from a on, in the last or within m cells of them, or beyond; a brick is so many cells long
+abbrev pub IsNearEnd : (long m count : ℕ) → (a x : ℤ) → Type 0
+IsNearEnd long m count a x = (x <ℤ (a +ℤ pos (long + m))) ⊎ ((a +ℤ pos (long * count)) ≤ℤ (x +ℤ pos (long + m)))
+
+-- all is dead in the bricks of the ring at the edge, within m cells of them, and beyond
+abbrev pub HasMargin : (m across down : ℕ) → (ℤ → ℤ → ℕ) → ℤ → ℤ → Type 0
+HasMargin m across down p a b = (x y : ℤ) → IsNearEnd 64 m across a x ⊎ IsNearEnd 16 m down b y → p x y ≡ 0
+
+-- the wall has so many rows of so many bricks, two of each at least
+pub record IsWall (wall : Wall) : Type 0 where
+  pub wide : 2 ≤ wall.across
+  pub high : 2 ≤ wall.down
+  pub size : length wall.bricks.items ≡ wall.down * wall.across
+
+-- the bricks of the wall show the plane, and all is dead in its ring at the edge, within m cells of it, and beyond
+pub record WallShows (wall : Wall) (m : ℕ) (p : ℤ → ℤ → ℕ) : Type 0 where
+  pub is_wall : IsWall wall
+  pub bricks : BricksShow wall.across wall.bricks.items p wall.x wall.y
+  pub margin : HasMargin m wall.across wall.down p wall.x wall.y
+
+-- the wall lies where the other one lies, and has as many bricks
+pub record IsInPlace (before later : Wall) : Type 0 where
+  pub x : later.x ≡ before.x
+  pub y : later.y ≡ before.y
+  pub across : later.across ≡ before.across
+  pub down : later.down ≡ before.down
+
+-- a wall shows what came of the first cells after so many generations, under a rule that goes by the masks, and has a
+-- margin for n more
+pub record CanGoOn (next : List ℕ → ℕ) (masks : ℕ × ℕ) (first : ℤ → ℤ → ℕ) (reached n : ℕ) (wall : Wall) : Type 0 where
+  pub by_masks : GoesBy next masks
+  pub quiet : next (replicate 9 0) ≡ 0
+  pub shows : WallShows wall n (cells_after next first reached)
+  pub room : wall.across + length wall.bricks.items < 2 ^ 63
+
+-- the place, and so many words to the east and to the south of it, lie near the first word of the wall
+pub record IsNearWall (words : ℕ) (at : WordPlace) : Type 0 where
+  pub west : neg_ℤ (pos (2 ^ 61)) ≤ℤ at.i
+  pub north : neg_ℤ (pos (2 ^ 61)) ≤ℤ at.j
+  pub east : (at.i +ℤ pos words) ≤ℤ pos (2 ^ 61)
+  pub south : (at.j +ℤ pos words) ≤ℤ pos (2 ^ 61)
+
+-- all bricks lie within a way from the origin
+pub record LiesWithin (way : ℕ) (wall : Wall) : Type 0 where
+  pub west : neg_ℤ (pos way) ≤ℤ wall.x
+  pub north : neg_ℤ (pos way) ≤ℤ wall.y
+  pub east : (wall.x +ℤ pos (64 * wall.across)) ≤ℤ pos way
+  pub south : (wall.y +ℤ pos (16 * wall.down)) ≤ℤ pos way
+
+-- and the way is at most 2 ^ 62
+abbrev pub LiesNear : Wall → Type 0
+LiesNear wall = LiesWithin (2 ^ 62) wall
+
+-- the wall begins a whole number of words from the origin
+pub record IsAligned (wall : Wall) : Type 0 where
+  pub x : (k : ℤ) × (wall.x ≡ eight k)
+  pub y : (k : ℤ) × (wall.y ≡ eight k)
+
+-- ---- a brick and the cells round it
+
+-- a bit of a word, of the one in the west of it, or of the one in the east of it: bit 0 is the last of the western one
+abbrev pub wide_bit : (west row east : ℕ) → ℕ → ℕ
+wide_bit west row east zero = bit_at west 63
+wide_bit west row east (suc x) = if nat_lt x 64 then bit_at row x else bit_at east 0
+
+-- the rows of a brick and those beside it: row 0 is the last of the brick in the north, then come those of the brick, and the first of the one in the south
+abbrev pub column_at : ℕ → List (List ℕ) → ℕ → ℕ → ℕ
+column_at across bricks t zero = slice_index (get_or bricks (t - across) []) 15
+column_at across bricks t (suc y) = if nat_lt y 16 then slice_index (get_or bricks t []) y else slice_index (get_or bricks (t + across) []) 0
+
+-- the cells of a brick and those round it: (1, 1) is the brick's first
+abbrev pub round_at : ℕ → List (List ℕ) → ℕ → ℕ → ℕ → ℕ
+round_at across bricks t x y = wide_bit (column_at across bricks (t - 1) y) (column_at across bricks t y) (column_at across bricks (t + 1) y) x
+
+-- the sum of three cells side by side, from (x, y) on, and that of the two outer ones
+abbrev pub sum_of_three : (ℕ → ℕ → ℕ) → ℕ → ℕ → ℕ
+sum_of_three at x y = at x y + at (suc x) y + at (suc (suc x)) y
+
+abbrev pub sum_of_two : (ℕ → ℕ → ℕ) → ℕ → ℕ → ℕ
+sum_of_two at x y = at x y + at (suc (suc x)) y
+
+-- the sum of the eight cells round (x + 1, y + 1)
+abbrev pub sum_round : (ℕ → ℕ → ℕ) → ℕ → ℕ → ℕ
+sum_round at x y = sum_of_three at x y + sum_of_two at x (suc y) + sum_of_three at x (suc (suc y))
+
+-- the number at a place of a word, in binary
+abbrev pub pair_at : WordPair → ℕ → ℕ
+pair_at n x = bit_at n.ones x + 2 * bit_at n.twos x
+
+abbrev pub count_at : WordCount → ℕ → ℕ
+count_at n x = bit_at n.ones x + 2 * bit_at n.twos x + 4 * bit_at n.fours x + 8 * bit_at n.eights x
+
+-- the cells of three columns of words, where (1, 1) is the first cell of the brick in the middle
+abbrev pub round_cells : Round → ℕ → ℕ → ℕ
+round_cells round x y = wide_bit (slice_index round.west y) (slice_index round.here y) (slice_index round.east y) x
+
+-- the next state of the cell at (x + 1, y + 1)
+abbrev pub next_at : ℕ × ℕ → (ℕ → ℕ → ℕ) → ℕ → ℕ → ℕ
+next_at masks at x y = next_by_count masks.0 masks.1 (at (suc x) (suc y)) (sum_round at x y)
+
+-- ---- generations
+
+-- the brick has others on all sides; those in the first and the last column are beside each other, one row off
+pub record HasNeighbours (across count t : ℕ) : Type 0 where
+  pub before : across < t
+  pub behind : t + across + 1 < count
+
+-- the brick of the new ones is the next generation of the one there and of those round it
+pub record IsNextBrick (masks : ℕ × ℕ) (across : ℕ) (old new : List (List ℕ)) (t : ℕ) : Type 0 where
+  pub cells : (x y : ℕ) → x < 64 → y < 16 → row_cells (get_or new t []) x y ≡ next_at masks (round_at across old t) x y
+
+-- the brick and the cells round it are the same
+pub record IsSameRound (across : ℕ) (old new : List (List ℕ)) (t : ℕ) : Type 0 where
+  pub cells : (x y : ℕ) → x < 66 → y < 18 → round_at across new t x y ≡ round_at across old t x y
+
+-- what changed of brick s isn't seen from brick t: not in it and not beside it
+pub record IsUnseen (across s : ℕ) (old new : List ℕ) (t : ℕ) : Type 0 where
+  pub here : t ≡ s → (y : ℕ) → y < 16 → slice_index new y ≡ slice_index old y
+  pub north : t - across ≡ s → slice_index new 15 ≡ slice_index old 15
+  pub south : t + across ≡ s → slice_index new 0 ≡ slice_index old 0
+  pub west : t - 1 ≡ s → (y : ℕ) → y < 16 → bit_at (slice_index new y) 63 ≡ bit_at (slice_index old y) 63
+  pub east : t + 1 ≡ s → (y : ℕ) → y < 16 → bit_at (slice_index new y) 0 ≡ bit_at (slice_index old y) 0
+  pub north_west : t - 1 - across ≡ s → bit_at (slice_index new 15) 63 ≡ bit_at (slice_index old 15) 63
+  pub north_east : t + 1 - across ≡ s → bit_at (slice_index new 15) 0 ≡ bit_at (slice_index old 15) 0
+  pub south_west : t - 1 + across ≡ s → bit_at (slice_index new 0) 63 ≡ bit_at (slice_index old 0) 63
+  pub south_east : t + 1 + across ≡ s → bit_at (slice_index new 0) 0 ≡ bit_at (slice_index old 0) 0
+
+-- no cell of the brick is live
+abbrev pub IsBlank : List ℕ → Type 0
+IsBlank rows = (x y : ℕ) → x < 64 → y < 16 → row_cells rows x y ≡ 0
+
+-- each brick that has no others on some side is blank
+abbrev pub HasBlankEdge : ℕ → List (List ℕ) → Type 0
+HasBlankEdge across bricks = (t : ℕ) → (HasNeighbours across (length bricks) t → ⊥) → IsBlank (get_or bricks t [])
+
+-- ---- bricks that are awake
+
+-- the brick isn't in the list
+abbrev pub IsNotIn : List ℕ → ℕ → Type 0
+IsNotIn list t = (k : ℕ) → k < length list → slice_index list k ≡ t → ⊥
+
+-- it isn't in the list from place n on
+abbrev pub IsNotAhead : List ℕ → ℕ → ℕ → Type 0
+IsNotAhead list n t = (k : ℕ) → n ≤ k → k < length list → slice_index list k ≡ t → ⊥
+
+-- all bricks of the list have others on all sides
+abbrev pub AllHaveNeighbours : (across count : ℕ) → List ℕ → Type 0
+AllHaveNeighbours across count list = (k : ℕ) → k < length list → HasNeighbours across count (slice_index list k)
+
+-- nothing was taken from the list, and what was put in are bricks that have others on all sides
+pub record QueueGrows (across count : ℕ) (old new : List ℕ) : Type 0 where
+  pub not_in : (t : ℕ) → IsNotIn new t → IsNotIn old t
+  pub all : AllHaveNeighbours across count old → AllHaveNeighbours across count new
+
+-- each brick with this mark is in the list
+abbrev pub AreMarked : List ℕ → ℕ → List ℕ → Type 0
+AreMarked marks mark list = (t : ℕ) → t < length marks → slice_index marks t ≡ mark → IsNotIn list t → ⊥
+
+-- the bricks with this mark are in the list, and no mark is above it
+pub record HasMarks (marks : List ℕ) (mark : ℕ) (list : List ℕ) : Type 0 where
+  pub all : AreMarked marks mark list
+  pub most : (t : ℕ) → slice_index marks t ≤ mark
+
+-- the bricks that aren't in the list rest: what they were before is what they will be next
+abbrev pub Rest : ℕ × ℕ → ℕ → (now before : List (List ℕ)) → List ℕ → Type 0
+Rest masks across now before list = (t : ℕ) → HasNeighbours across (length now) t → IsNotIn list t → IsNextBrick masks across now before t

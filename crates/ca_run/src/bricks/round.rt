@@ -1,0 +1,48 @@
+//! A brick and the cells round it.
+
+ghost use Rattle.std.specs.Prelude.{◌≡◌, ◌<◌, ℕ, suc};
+ghost use Rattle.ca_quad.specs.Trees.{row_cells};
+ghost use Rattle.ca_run.specs.inner.Bricks.{round_cells, sum_of_three, sum_of_two, pair_at, next_at};
+
+use super::word::{WordCount, WordSums, next_word};
+
+// Three columns of 18 words: in the middle the rows of a brick with the one above them and the one below, and beside
+// them those of the bricks in the west and in the east.
+#[derive(Clone, Copy)]
+pub(super) struct Round {
+    pub(super) west: [u64; 18],
+    pub(super) here: [u64; 18],
+    pub(super) east: [u64; 18],
+}
+
+impl Round {
+    // The rows of the brick one generation on, under the rule that goes by these masks.
+    #[inline(always)]
+    pub(super) fn next(&self, masks: (u16, u16)) -> [u64; 16]
+        ensures { (x y : ℕ) → x < 64 → y < 16
+            → row_cells result x y ≡ next_at masks (round_cells self.now) x y }
+    {
+        let (birth, survive) = masks;
+        let mut next = [0; 16];
+        let mut above = self.sums(0);
+        let mut here = self.sums(1);
+        'rows: for y in 0..16 {
+            let below = self.sums(y + 2);
+            let count = WordCount::neighbours(above, here, below);
+            next[y] = next_word(self.here[y + 1], count, birth, survive);
+            above = here;
+            here = below;
+        }
+        next
+    }
+
+    // The sums of a row.
+    #[inline(always)]
+    fn sums(&self, y: usize) -> WordSums
+        requires { y < 18 }
+        ensures three { (x : ℕ) → x < 64 → pair_at result.three x ≡ sum_of_three (round_cells self.now) x y }
+        ensures two { (x : ℕ) → x < 64 → pair_at result.two x ≡ sum_of_two (round_cells self.now) x y }
+    {
+        WordSums::of(self.west[y], self.here[y], self.east[y])
+    }
+}

@@ -1,0 +1,88 @@
+//! Generations of a wall.
+
+ghost use Rattle.std.specs.Prelude.{◌≡◌, ℕ, ◌+◌, ◌<◌, ◌≤◌, ◌^◌, List, [], length, if◌then◌else◌, OnOk, IfOk};
+ghost use Rattle.ca_plane.specs.Generations.{cells_after};
+ghost use Rattle.ca_quad.specs.Trees.{cell};
+ghost use Rattle.ca_run.specs.inner.Bricks.{WallShows, HasNeighbours, IsNotIn, AllHaveNeighbours, CanGoOn, IsInPlace, HasBlankEdge};
+
+use super::queue::Queue;
+use super::step::generation;
+use super::wall::Wall;
+use crate::leaper::{Leaper, Milestone};
+use crate::watch::Watch;
+use ca_plane::{Automaton, Memory};
+use ca_quad::Tree;
+use std::alloc::Global;
+
+// The bricks that have others on all sides.
+fn inner_bricks(alloc: Global, across: usize, count: usize) -> Result<Vec<usize>, Memory>
+    requires { across + count < 2 ^ 63 }
+    ensures inside { IfOk result (λ list. AllHaveNeighbours across count list.items) }
+    ensures all { IfOk result (λ list. (t : ℕ) → HasNeighbours across count t → IsNotIn list.items t → ⊥) }
+{
+    let mut list = Vec::new(alloc);
+    'bricks: for t in across + 1..count.saturating_sub(across + 1) {
+        list.push(t)?;
+    }
+    Ok(list)
+}
+
+// So many bricks without a live cell.
+fn blank_bricks(alloc: Global, count: usize) -> Result<Vec<[u64; 16]>, Memory>
+    ensures length { IfOk result (λ bricks. length bricks.items ≡ count) }
+    ensures blank { (across : ℕ) → IfOk result (λ bricks. HasBlankEdge across bricks.items) }
+{
+    Ok(vec![in alloc; [0; 16]; count]?)
+}
+
+// Says which bricks are awake next: after the first generation of a run all of them again, since nothing is known of the
+// one before it, and then those of the queue, which is empty afterwards.
+fn wake_next(is_first: bool, alloc: Global, queue: &mut Queue, awake: &mut Vec<usize>)
+    ensures empty { queue.new ≡ [] }
+    ensures awake { awake.new.items ≡ (if is_first then awake.old.items else queue.old) }
+{
+    if is_first {
+        queue.take(&mut Vec::new(alloc));
+    } else {
+        queue.take(awake);
+    }
+}
+
+impl Wall {
+    /// The wall n generations on. The run began with a tree, so many generations before.
+    pub(crate) fn later<A: Automaton, W: Watch>(
+        mut self,
+        alloc: Global,
+        masks: (u16, u16),
+        n: u64,
+        leaper: &Leaper<A>,
+        first: &Tree,
+        reached: u64,
+        watch: &mut W,
+    ) -> Result<Wall, Memory>
+        requires begins { CanGoOn (A.next_of leaper.now.rule) masks (cell leaper.now.nodes first.now) reached n self }
+        requires time { reached + n ≤ 2 ^ 60 }
+        ensures shows { IfOk result (λ later. WallShows later 0
+            (cells_after (A.next_of leaper.now.rule) (cell leaper.now.nodes first.now) (reached + n))) }
+        ensures place { IfOk result (IsInPlace self) }
+    {
+        let count = self.bricks.len();
+        let mut awake = inner_bricks(alloc, self.across, count)?;
+        let mut queue = Queue::new(alloc, count)?;
+        let mut before = blank_bricks(alloc, count)?;
+        'generations: for k in 0..n {
+            self.work = self.work.saturating_add(awake.len() as u64);
+            generation(
+                self.across,
+                &mut self.bricks,
+                &mut before,
+                &awake,
+                &mut queue,
+                masks,
+            )?;
+            wake_next(k == 0, alloc, &mut queue, &mut awake);
+            watch.reached(Milestone::with_wall(leaper, first, &self, reached + k + 1));
+        }
+        Ok(self)
+    }
+}

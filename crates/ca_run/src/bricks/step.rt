@@ -1,0 +1,138 @@
+//! One generation of bricks, where those that rest are left as they are.
+
+ghost use Rattle.std.specs.Prelude.{◌≡◌, ◌+◌, ◌<◌, ◌≤◌, ◌^◌, ℕ, [], length, slice_index, get_or, OnOk};
+ghost use Rattle.std.specs.Int.{bit_at};
+ghost use Rattle.ca_run.specs.inner.Bricks.{HasNeighbours, AllHaveNeighbours, HasBlankEdge, IsNotIn, IsNextBrick, IsSameRound, IsUnseen, QueueGrows, Rest, column_at, round_at, round_cells};
+
+use super::queue::Queue;
+use super::round::Round;
+use ca_plane::Memory;
+
+// One generation: what was now is then before. Those bricks of the list are stepped which may have changed.
+pub(super) fn generation(
+    across: usize,
+    now: &mut Vec<[u64; 16]>,
+    before: &mut Vec<[u64; 16]>,
+    awake: &[usize],
+    queue: &mut Queue,
+    masks: (u16, u16),
+) -> Result<(), Memory>
+    requires room { across + length now.old.items < 2 ^ 63 }
+    requires size { length before.old.items ≡ length now.old.items }
+    requires inside { AllHaveNeighbours across (length now.old.items) awake.now }
+    requires rest { Rest masks across now.old.items before.old.items awake.now }
+    ensures before { OnOk result (before.new.items ≡ now.old.items) }
+    ensures size { OnOk result (length now.new.items ≡ length now.old.items) }
+    ensures next { OnOk result ((t : ℕ) → HasNeighbours across (length now.old.items) t
+        → IsNextBrick masks across now.old.items now.new.items t) }
+    ensures rest { ((t : ℕ) → HasNeighbours across (length now.old.items) t
+        → IsNextBrick masks across before.old.items now.old.items t)
+        → OnOk result (Rest masks across now.new.items now.old.items queue.new) }
+    ensures grows { OnOk result (QueueGrows across (length now.old.items) queue.old queue.new) }
+    ensures edge { HasBlankEdge across before.old.items → OnOk result (HasBlankEdge across now.new.items) }
+{
+    step(across, now, before, awake, queue, masks)?;
+    std::mem::swap(now, before);
+    Ok(())
+}
+
+// Steps the bricks of the list. The others rest: the rows that they had before are the next ones too.
+fn step(
+    across: usize,
+    now: &[[u64; 16]],
+    old: &mut [[u64; 16]],
+    awake: &[usize],
+    queue: &mut Queue,
+    masks: (u16, u16),
+) -> Result<(), Memory>
+    requires room { across + length now.now < 2 ^ 63 }
+    requires size { length old.old ≡ length now.now }
+    requires inside { AllHaveNeighbours across (length now.now) awake.now }
+    requires rest { Rest masks across now.now old.old awake.now }
+    ensures next { OnOk result ((t : ℕ) → HasNeighbours across (length now.now) t
+        → IsNextBrick masks across now.now old.new t) }
+    ensures same { OnOk result ((t : ℕ) → HasNeighbours across (length now.now) t → IsNotIn queue.new t
+        → IsSameRound across old.old old.new t) }
+    ensures grows { OnOk result (QueueGrows across (length now.now) queue.old queue.new) }
+    ensures others { OnOk result ((t : ℕ) → (HasNeighbours across (length now.now) t → ⊥)
+        → get_or old.new t [] ≡ get_or old.old t []) }
+{
+    'bricks: for &s in awake {
+        let next = round_of(now, across, s).next(masks);
+        wake_round(queue, s, across, now.len(), &next, &old[s])?;
+        old[s] = next;
+    }
+    Ok(())
+}
+
+// A brick and the cells round it.
+#[inline(always)]
+fn round_of(bricks: &[[u64; 16]], across: usize, t: usize) -> Round
+    requires { HasNeighbours across (length bricks.now) t }
+    ensures { (x y : ℕ) → y < 18 → round_cells result x y ≡ round_at across bricks.now t x y }
+{
+    Round {
+        west: column(bricks, across, t - 1),
+        here: column(bricks, across, t),
+        east: column(bricks, across, t + 1),
+    }
+}
+
+// The rows of a brick, the one above them and the one below.
+#[inline(always)]
+fn column(bricks: &[[u64; 16]], across: usize, t: usize) -> [u64; 18]
+    requires before { across ≤ t }
+    requires behind { t + across < length bricks.now }
+    ensures { (y : ℕ) → y < 18 → slice_index result y ≡ column_at across bricks.now t y }
+{
+    let here = &bricks[t];
+    let mut column = [0; 18];
+    'rows: for y in 0..16 {
+        column[y + 1] = here[y];
+    }
+    column[0] = bricks[t - across][15];
+    column[17] = bricks[t + across][0];
+    column
+}
+
+// Wakes the bricks that see what changed of brick s.
+fn wake_round(
+    queue: &mut Queue,
+    s: usize,
+    across: usize,
+    count: usize,
+    new: &[u64; 16],
+    old: &[u64; 16],
+) -> Result<(), Memory>
+    requires room { across + count < 2 ^ 63 }
+    requires inside { HasNeighbours across count s }
+    ensures grows { OnOk result (QueueGrows across count queue.old queue.new) }
+    ensures unseen { OnOk result ((t : ℕ) → HasNeighbours across count t → IsNotIn queue.new t
+        → IsUnseen across s old.now new.now t) }
+{
+    let any = changed_bits(new, old);
+    let top = new[0] ^ old[0];
+    let bottom = new[15] ^ old[15];
+    queue.wake_if(any, s, across, count)?;
+    queue.wake_if(any & 1, s - 1, across, count)?;
+    queue.wake_if(any >> 63, s + 1, across, count)?;
+    queue.wake_if(top, s - across, across, count)?;
+    queue.wake_if(top & 1, s - across - 1, across, count)?;
+    queue.wake_if(top >> 63, s - across + 1, across, count)?;
+    queue.wake_if(bottom, s + across, across, count)?;
+    queue.wake_if(bottom & 1, s + across - 1, across, count)?;
+    queue.wake_if(bottom >> 63, s + across + 1, across, count)?;
+    Ok(())
+}
+
+// Where one of the words changed, bit for bit.
+fn changed_bits(new: &[u64; 16], old: &[u64; 16]) -> u64
+    ensures { (x y : ℕ) → y < 16 → bit_at result x ≡ 0
+        → bit_at (slice_index new.now y) x ≡ bit_at (slice_index old.now y) x }
+{
+    let mut all = 0;
+    'rows: for y in 0..16 {
+        all |= new[y] ^ old[y];
+    }
+    all
+}

@@ -1,0 +1,239 @@
+//! Squares and trees made of walls of bricks.
+
+ghost use Rattle.std.specs.Prelude.{◌≡◌, true, ℕ, suc, ◌+◌, ◌*◌, ◌<◌, ◌≤◌, ◌^◌, ℤ, pos, neg_ℤ, ◌+ℤ◌, ◌<ℤ◌, ◌≤ℤ◌, IfOk};
+ghost use Rattle.ca_quad.specs.Squares.{IsOf};
+ghost use Rattle.ca_quad.specs.Trees.{IsTree, cell};
+ghost use Rattle.ca_run.specs.Leaping.{LeaperGrows};
+ghost use Rattle.ca_run.specs.inner.Shown.{ShowsAt};
+ghost use Rattle.ca_run.specs.inner.Bricks.{IsWall, WallShows, IsNearWall, LiesWithin, LiesNear, IsAligned};
+ghost use Rattle.ca_run.specs.inner.Words.{eight};
+
+use super::Leaper;
+use crate::bricks::{Wall, WordPlace};
+use ca_plane::{Automaton, Memory};
+use ca_quad::{Id, Tree};
+
+// The least of which 2 to its power is a tree's reach, and the greatest.
+const LEAST: u8 = 6;
+
+const GREATEST: u8 = 62;
+
+// How many words the side of a square of this grain has.
+fn width(grain: u8) -> u64
+    requires { grain ≤ 61 }
+    ensures { result ≡ 2 ^ grain }
+{
+    1 << grain
+}
+
+// The whole numbers that aren't below 0 among so many from one on: from the first to before the second.
+fn naturals(from: i64, count: u64) -> (usize, usize)
+    requires least { neg_ℤ (pos (2 ^ 61)) ≤ℤ from }
+    requires most { (from +ℤ pos count) ≤ℤ pos (2 ^ 61) }
+    ensures { (u : ℕ) → from ≤ℤ pos u → pos u <ℤ (from +ℤ pos count) → (result.0 ≤ u) × (u < result.1) }
+{
+    let to = from + count as i64;
+    (
+        usize::try_from(from).unwrap_or(0),
+        usize::try_from(to).unwrap_or(0),
+    )
+}
+
+// The places of three quarters of a square.
+#[derive(Clone, Copy)]
+struct Quarters {
+    ne: WordPlace,
+    sw: WordPlace,
+    se: WordPlace,
+}
+
+impl WordPlace {
+    // Which words and rows there are so many to the east and to the south from here on: from the first to before
+    // the second.
+    fn naturals(self, count: u64) -> ((usize, usize), (usize, usize))
+        requires { IsNearWall count self }
+        ensures words { (u : ℕ) → self.i ≤ℤ pos u → pos u <ℤ (self.i +ℤ pos count) → (result.0.0 ≤ u)
+            × (u < result.0.1) }
+        ensures rows { (v : ℕ) → self.j ≤ℤ pos v → pos v <ℤ (self.j +ℤ pos count) → (result.1.0 ≤ v)
+            × (v < result.1.1) }
+    {
+        (naturals(self.i, count), naturals(self.j, count))
+    }
+
+    // The places of the quarters of a square that begins here, each so many words wide.
+    fn quarters(self, half: u64) -> Quarters
+        requires { IsNearWall (half + half) self }
+        ensures ne { (result.ne.i ≡ self.i +ℤ pos half) × (result.ne.j ≡ self.j) }
+        ensures sw { (result.sw.i ≡ self.i) × (result.sw.j ≡ self.j +ℤ pos half) }
+        ensures se { (result.se.i ≡ self.i +ℤ pos half) × (result.se.j ≡ self.j +ℤ pos half) }
+    {
+        let WordPlace { i, j } = self;
+        let east = i + half as i64;
+        let south = j + half as i64;
+        Quarters {
+            ne: WordPlace { i: east, j },
+            sw: WordPlace { i, j: south },
+            se: WordPlace { i: east, j: south },
+        }
+    }
+}
+
+impl<A: Automaton> Leaper<A> {
+    // The tree of a wall: of the smallest level from 7 on that holds all its bricks.
+    pub(super) fn tree_of(&mut self, wall: &Wall) -> Result<Tree, Memory>
+        requires wall { IsWall wall.now }
+        requires place { LiesNear wall.now }
+        requires aligned { IsAligned wall.now }
+        ensures tree { IfOk result (IsTree self.new.nodes) }
+        ensures level { IfOk result (λ tree. tree.level ≤ 64) }
+        ensures cells { (m : ℕ) (p : ℤ → ℤ → ℕ) → WallShows wall.now m p
+            → IfOk result (λ tree. (x y : ℤ) → cell self.new.nodes tree x y ≡ p x y) }
+        ensures goes_on { LeaperGrows A self.old self.new }
+    {
+        let reach = wall.reach();
+        let root = self.from_wall(wall, reach - 2, wall.corner(reach))?;
+        Ok(Tree {
+            root,
+            level: reach + 1,
+        })
+    }
+
+    // The square of the words of a wall from a place on. A square's grain is the number of times that its side of
+    // words can be halved: its level is that and 3.
+    #[cycle(from_wall)]
+    pub(super) fn from_wall(&mut self, wall: &Wall, grain: u8, at: WordPlace) -> Result<Id, Memory>
+        requires wall { IsWall wall.now }
+        requires low { grain ≤ 61 }
+        requires near { IsNearWall (2 ^ grain) at }
+        ensures shows { (m : ℕ) (p : ℤ → ℤ → ℕ) → WallShows wall.now m p
+            → IfOk result (λ id. ShowsAt self.new.nodes id (suc (suc (suc grain))) p
+            (wall.now.x +ℤ eight at.i) (wall.now.y +ℤ eight at.j)) }
+        ensures square { IfOk result (λ id. IsOf self.new.nodes id (suc (suc (suc grain)))) }
+        ensures goes_on { LeaperGrows A self.old self.new }
+    {
+        if grain == 0 {
+            return self.from_word(wall.word(at));
+        }
+        let count = width(grain);
+        let (words, rows) = at.naturals(count);
+        if wall.is_blank_between(words, rows) {
+            return self.empty_square(grain + 3);
+        }
+        self.from_wall_parts(wall, grain - 1, at)
+    }
+
+    // The same where it has parts: the grain is theirs.
+    #[cycle(from_wall)]
+    fn from_wall_parts(&mut self, wall: &Wall, grain: u8, at: WordPlace) -> Result<Id, Memory>
+        requires wall { IsWall wall.now }
+        requires low { grain ≤ 60 }
+        requires near { IsNearWall (2 ^ grain + 2 ^ grain) at }
+        ensures shows { (m : ℕ) (p : ℤ → ℤ → ℕ) → WallShows wall.now m p
+            → IfOk result (λ id. ShowsAt self.new.nodes id (suc (suc (suc (suc grain)))) p
+            (wall.now.x +ℤ eight at.i) (wall.now.y +ℤ eight at.j)) }
+        ensures square { IfOk result (λ id. IsOf self.new.nodes id (suc (suc (suc (suc grain))))) }
+        ensures goes_on { LeaperGrows A self.old self.new }
+    {
+        let places = at.quarters(width(grain));
+        let nw = self.from_wall(wall, grain, at)?;
+        let ne = self.from_wall(wall, grain, places.ne)?;
+        let sw = self.from_wall(wall, grain, places.sw)?;
+        let se = self.from_wall(wall, grain, places.se)?;
+        self.join(nw, ne, sw, se, grain + 2)
+    }
+
+    // The empty square of a level.
+    fn empty_square(&mut self, level: u8) -> Result<Id, Memory>
+        requires least { 1 ≤ level }
+        requires most { level ≤ 125 }
+        ensures shows { (p : ℤ → ℤ → ℕ) (a b : ℤ)
+            → ((x y : ℕ) → x < 2 ^ level → y < 2 ^ level → p (a +ℤ pos x) (b +ℤ pos y) ≡ 0)
+            → IfOk result (λ id. ShowsAt self.new.nodes id level p a b) }
+        ensures square { IfOk result (λ id. IsOf self.new.nodes id level) }
+        ensures goes_on { LeaperGrows A self.old self.new }
+    {
+        self.store.empty(level)
+    }
+}
+
+impl Wall {
+    // The smallest number from 6 on so that all its bricks lie within 2 to its power from the origin.
+    fn reach(&self) -> u8
+        requires wall { IsWall self.now }
+        requires place { LiesNear self.now }
+        ensures least { 6 ≤ result }
+        ensures most { result ≤ 62 }
+        ensures within { LiesWithin (2 ^ result) self.now }
+    {
+        'powers: for power in LEAST..GREATEST {
+            if self.lies_within(power) {
+                return power;
+            }
+        }
+        GREATEST
+    }
+
+    // Whether all its bricks lie within a power of two from the origin.
+    fn lies_within(&self, power: u8) -> bool
+        requires wall { IsWall self.now }
+        requires place { LiesNear self.now }
+        requires power { power ≤ 62 }
+        ensures { result ≡ true → LiesWithin (2 ^ power) self.now }
+    {
+        lies_within(self.x, 64 * self.across as u64, power)
+            && lies_within(self.y, 16 * self.down as u64, power)
+    }
+
+    // Where among its words a tree begins whose reach is a power of two.
+    fn corner(&self, power: u8) -> WordPlace
+        requires wall { IsWall self.now }
+        requires least { 6 ≤ power }
+        requires most { power ≤ 62 }
+        requires within { LiesWithin (2 ^ power) self.now }
+        requires aligned { IsAligned self.now }
+        ensures x { self.now.x +ℤ eight result.i ≡ neg_ℤ (pos (2 ^ power)) }
+        ensures y { self.now.y +ℤ eight result.j ≡ neg_ℤ (pos (2 ^ power)) }
+    {
+        WordPlace {
+            i: words_back(self.x, power),
+            j: words_back(self.y, power),
+        }
+    }
+}
+
+// Two to a power.
+fn reach_of(power: u8) -> i64
+    requires { power ≤ 62 }
+    ensures value { result ≡ pos (2 ^ power) }
+    ensures most { result ≤ℤ pos (2 ^ 62) }
+{
+    (1u64 << power) as i64
+}
+
+// Whether so many cells from a coordinate on lie within a power of two from 0.
+fn lies_within(from: i64, count: u64, power: u8) -> bool
+    requires power { power ≤ 62 }
+    requires some { 1 ≤ count }
+    requires least { neg_ℤ (pos (2 ^ 62)) ≤ℤ from }
+    requires most { (from +ℤ pos count) ≤ℤ pos (2 ^ 62) }
+    ensures { result ≡ true → (neg_ℤ (pos (2 ^ power)) ≤ℤ from) × ((from +ℤ pos count) ≤ℤ pos (2 ^ power)) }
+{
+    let way = reach_of(power);
+    if from < -way {
+        return false;
+    }
+    (from + way) as u64 + count <= 2 * way as u64
+}
+
+// How many words a power of two to the west of 0 lies to the east of a coordinate.
+fn words_back(from: i64, power: u8) -> i64
+    requires least { 6 ≤ power }
+    requires most { power ≤ 62 }
+    requires low { neg_ℤ (pos (2 ^ power)) ≤ℤ from }
+    requires high { from <ℤ pos (2 ^ power) }
+    requires aligned { (k : ℤ) × (from ≡ eight k) }
+    ensures { from +ℤ eight result ≡ neg_ℤ (pos (2 ^ power)) }
+{
+    let beyond = (from + reach_of(power)) as u64 / 8;
+    -(beyond as i64)
+}
