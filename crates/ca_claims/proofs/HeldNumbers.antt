@@ -1,59 +1,65 @@
--- The words of a claim that has a shift, and how claims are held with numbers of 64 bits.
-use Rattle.std.proofs.Common.{◌≡◌, ℕ, Option, ◌-◌, ◌^◌, ◌<◌, min, List, [], ◌∷◌, codes, refl, sym, ap, subst, ◌∙◌, arith, w64, to_z, of_z}
+-- The words of a claim that has numbers, and how claims are held with numbers of 64 bits.
+use Rattle.std.proofs.Common.{◌≡◌, ◌≢◌, ℕ, Option, ◌-◌, ◌^◌, ◌<◌, min, List, [], ◌∷◌, codes, refl, sym, ap, subst, ◌∙◌, arith, w64, to_z, of_z}
 use Rattle.std.specs.Prelude.{ℤ, FitsSigned}
 use Rattle.std.proofs.lemmas.Int.{ints, to_z-of_z}
-use Rattle.ca_plane.specs.Bytes.{IsInteger}
+use Rattle.ca_plane.specs.Bytes.{AreDigits, IsInteger}
 use Rattle.ca_claims.specs.declared.claims.line.Kind.{Kind}
 use Rattle.ca_claims.specs.declared.claims.line.Kind.TheVariants.{Still, Oscillator, Spaceship, Becomes, BecomesShifted, Dies}
-use Rattle.ca_claims.specs.Text.{WordsClaim}
+use Rattle.ca_claims.specs.Text.{WordsClaim, HasGoodNumbers, IsShift, ClaimTextLine, IsKindAfter}
 use Rattle.ca_claims.specs.inner.Reading.{IsHeldShift, IsHeldKind, MakeNoClaim}
 
 -- what stands after a word that begins equal words
 behind_word : (w : List ℕ) (vs ws : List (List ℕ)) → w ∷ vs ≡ w ∷ ws → vs ≡ ws
 behind_word w vs ws e = cc
 
--- words of a spaceship's claim have integers where its shift stands
-shift_words : (words : List (List ℕ)) (name p x y : List ℕ) → words ≡ name ∷ p ∷ x ∷ y ∷ [] → (n : List ℕ) (other : Option (List ℕ)) (kind : Kind) → WordsClaim (codes "spaceship" ∷ words) n other kind
-    → (dx : ℤ) × (dy : ℤ) × IsInteger x dx × IsInteger y dy
-shift_words words name p x y e n other Still h = let same = h.0 in cc
-shift_words words name p x y e n other (Oscillator v) h = let same = h.1 in cc
-shift_words words name p x y e n other (Spaceship v dx dy) h =
+-- words that aren't a name and a number make no claim that has these two alone
+pub not_numbered : (keyword : List ℕ) (words : List (List ℕ)) → keyword ≢ codes "still" → keyword ≢ codes "spaceship" → keyword ≢ codes "becomes"
+    → ((a n : List ℕ) → words ≡ a ∷ n ∷ [] → AreDigits n → ⊥) → MakeNoClaim (keyword ∷ words)
+not_numbered keyword words still spaceship becomes none claim made = no_kind claim.pattern claim.other claim.kind made
+  where
+    no_kind : (n : List ℕ) (other : Option (List ℕ)) (kind : Kind) → WordsClaim (keyword ∷ words) n other kind → ⊥
+    no_kind n other Still h = let same = h.0 in still (cc)
+    no_kind n other (Oscillator v) h = let same = h.1 in none n h.0 (cc) h.2
+    no_kind n other (Spaceship v dx dy) h = let same = h.3 in spaceship (cc)
+    no_kind n other (Becomes v) h = let same = h.2 in becomes (cc)
+    no_kind n other (BecomesShifted v dx dy) h = let same = h.4 in becomes (cc)
+    no_kind n other (Dies v) h = let same = h.1 in none n h.0 (cc) h.2
+
+-- words without integers where a spaceship's shift stands make no claim
+no_ship : (words : List (List ℕ)) (name p x y : List ℕ) → words ≡ name ∷ p ∷ x ∷ y ∷ [] → ((dx dy : ℤ) → IsInteger x dx → IsInteger y dy → ⊥)
+    → (n : List ℕ) (other : Option (List ℕ)) (kind : Kind) → WordsClaim (codes "spaceship" ∷ words) n other kind → ⊥
+no_ship words name p x y e none n other Still h = let same = h.0 in cc
+no_ship words name p x y e none n other (Oscillator v) h = let same = h.1 in cc
+no_ship words name p x y e none n other (Spaceship v dx dy) h =
     let same = sym (behind_word (codes "spaceship") words (n ∷ h.0 ∷ h.1 ∷ h.2 ∷ []) h.3) ∙ e in
     let across : h.1 ≡ x = cc in
     let down : h.2 ≡ y = cc in
-    (dx, dy, subst (λ l. IsInteger l dx) across h.6, subst (λ l. IsInteger l dy) down h.7)
-shift_words words name p x y e n other (Becomes v) h = let same = h.2 in cc
-shift_words words name p x y e n other (BecomesShifted v dx dy) h = let same = h.4 in cc
-shift_words words name p x y e n other (Dies v) h = let same = h.1 in cc
+    none dx dy (subst (λ l. IsInteger l dx) across h.6) (subst (λ l. IsInteger l dy) down h.7)
+no_ship words name p x y e none n other (Becomes v) h = let same = h.2 in cc
+no_ship words name p x y e none n other (BecomesShifted v dx dy) h = let same = h.4 in cc
+no_ship words name p x y e none n other (Dies v) h = let same = h.1 in cc
 
--- so words without them make none
-pub no_right : (words : List (List ℕ)) (name p x y : List ℕ) → words ≡ name ∷ p ∷ x ∷ y ∷ [] → ((n : ℤ) → IsInteger x n → ⊥) → MakeNoClaim (codes "spaceship" ∷ words)
-no_right words name p x y e none claim h = let s = shift_words words name p x y e claim.pattern claim.other claim.kind h in none s.0 s.2
+pub no_spaceship : (words : List (List ℕ)) (name p x y : List ℕ) → words ≡ name ∷ p ∷ x ∷ y ∷ [] → ((dx dy : ℤ) → IsInteger x dx → IsInteger y dy → ⊥)
+    → MakeNoClaim (codes "spaceship" ∷ words)
+no_spaceship words name p x y e none claim h = no_ship words name p x y e none claim.pattern claim.other claim.kind h
 
-pub no_down : (words : List (List ℕ)) (name p x y : List ℕ) → words ≡ name ∷ p ∷ x ∷ y ∷ [] → ((n : ℤ) → IsInteger y n → ⊥) → MakeNoClaim (codes "spaceship" ∷ words)
-no_down words name p x y e none claim h = let s = shift_words words name p x y e claim.pattern claim.other claim.kind h in none s.1 s.3
-
--- so have those of a shifted pattern's claim
-number_words : (words : List (List ℕ)) (name p second x y : List ℕ) → words ≡ name ∷ p ∷ second ∷ codes "shift" ∷ x ∷ y ∷ [] → (n : List ℕ) (other : Option (List ℕ)) (kind : Kind)
-    → WordsClaim (codes "becomes" ∷ words) n other kind → (dx : ℤ) × (dy : ℤ) × IsInteger x dx × IsInteger y dy
-number_words words name p second x y e n other Still h = let same = h.0 in cc
-number_words words name p second x y e n other (Oscillator v) h = let same = h.1 in cc
-number_words words name p second x y e n other (Spaceship v dx dy) h = let same = h.3 in cc
-number_words words name p second x y e n other (Becomes v) h = let same = h.2 in cc
-number_words words name p second x y e n other (BecomesShifted v dx dy) h =
+-- nor do words without them where a shifted pattern's stands
+no_move : (words : List (List ℕ)) (name p second x y : List ℕ) → words ≡ name ∷ p ∷ second ∷ codes "shift" ∷ x ∷ y ∷ [] → ((dx dy : ℤ) → IsInteger x dx → IsInteger y dy → ⊥)
+    → (n : List ℕ) (other : Option (List ℕ)) (kind : Kind) → WordsClaim (codes "becomes" ∷ words) n other kind → ⊥
+no_move words name p second x y e none n other Still h = let same = h.0 in cc
+no_move words name p second x y e none n other (Oscillator v) h = let same = h.1 in cc
+no_move words name p second x y e none n other (Spaceship v dx dy) h = let same = h.3 in cc
+no_move words name p second x y e none n other (Becomes v) h = let same = h.2 in cc
+no_move words name p second x y e none n other (BecomesShifted v dx dy) h =
     let same = sym (behind_word (codes "becomes") words (n ∷ h.0 ∷ h.1 ∷ codes "shift" ∷ h.2 ∷ h.3 ∷ []) h.4) ∙ e in
     let across : h.2 ≡ x = cc in
     let down : h.3 ≡ y = cc in
-    (dx, dy, subst (λ l. IsInteger l dx) across h.7, subst (λ l. IsInteger l dy) down h.8)
-number_words words name p second x y e n other (Dies v) h = let same = h.1 in cc
+    none dx dy (subst (λ l. IsInteger l dx) across h.7) (subst (λ l. IsInteger l dy) down h.8)
+no_move words name p second x y e none n other (Dies v) h = let same = h.1 in cc
 
--- so words without them make none
-module _ (words : List (List ℕ)) (name p second x y : List ℕ) (e : words ≡ name ∷ p ∷ second ∷ codes "shift" ∷ x ∷ y ∷ []) where
-  pub not_across : ((n : ℤ) → IsInteger x n → ⊥) → MakeNoClaim (codes "becomes" ∷ words)
-  not_across none claim h = let s = number_words words name p second x y e claim.pattern claim.other claim.kind h in none s.0 s.2
-
-  pub not_down : ((n : ℤ) → IsInteger y n → ⊥) → MakeNoClaim (codes "becomes" ∷ words)
-  not_down none claim h = let s = number_words words name p second x y e claim.pattern claim.other claim.kind h in none s.1 s.3
+pub no_shifted : (words : List (List ℕ)) (name p second x y : List ℕ) → words ≡ name ∷ p ∷ second ∷ codes "shift" ∷ x ∷ y ∷ [] → ((dx dy : ℤ) → IsInteger x dx → IsInteger y dy → ⊥)
+    → MakeNoClaim (codes "becomes" ∷ words)
+no_shifted words name p second x y e none claim h = no_move words name p second x y e none claim.pattern claim.other claim.kind h
 
 -- a number below 2^61 is held as itself
 held_number : (n held : ℕ) → held ≡ min n (2 ^ 64 - 1) → (n < 2 ^ 61 → n ≡ held) × (held < 2 ^ 61 → n ≡ held)
@@ -63,12 +69,23 @@ held_number n held e = (λ h. omega arith, λ h. omega arith)
 pub held_same : (kind : Kind) → IsHeldKind kind kind
 held_same kind = record { exact = λ h. refl; sound = λ h. refl; after = λ earlier. (λ h. h, λ h. h) }
 
+-- so is a kind with such a number
+module _ (kind : ℕ → Kind) (few : (n : ℕ) → HasGoodNumbers (kind n) → n < 2 ^ 61) (stays : (n m : ℕ) (earlier : List ClaimTextLine) → IsKindAfter earlier (kind n) → IsKindAfter earlier (kind m)) where
+  held_kind : (n held : ℕ) → held ≡ min n (2 ^ 64 - 1) → IsHeldKind (kind n) (kind held)
+  held_kind n held e = record {
+    exact = λ good. ap kind ((held_number n held e).0 (few n good));
+    sound = λ good. ap kind ((held_number n held e).1 (few held good));
+    after = λ earlier. (stays n held earlier, stays held n earlier);
+  }
+
 pub held_oscillator : (n held : ℕ) → held ≡ min n (2 ^ 64 - 1) → IsHeldKind (Oscillator n) (Oscillator held)
-held_oscillator n held e = record {
-  exact = λ good. ap Oscillator ((held_number n held e).0 (omega arith));
-  sound = λ good. ap Oscillator ((held_number n held e).1 (omega arith));
-  after = λ earlier. (λ h. h, λ h. h);
-}
+held_oscillator = held_kind Oscillator (λ n good. omega arith) (λ n m earlier h. h)
+
+pub held_becomes : (n held : ℕ) → held ≡ min n (2 ^ 64 - 1) → IsHeldKind (Becomes n) (Becomes held)
+held_becomes = held_kind Becomes (λ n good. omega arith) (λ n m earlier h. h)
+
+pub held_dies : (n held : ℕ) → held ≡ min n (2 ^ 64 - 1) → IsHeldKind (Dies n) (Dies held)
+held_dies = held_kind Dies (λ n good. omega arith) (λ n m earlier h. h)
 
 -- what is held reads so as an `i64`
 as_read : (n held : ℤ) → IsHeldShift n held → to_z w64 (of_z w64 held) ≡ held
@@ -78,40 +95,23 @@ as_read n held h =
     let fits : FitsSigned w64 held = omega (arith, ints) in
     to_z-of_z w64 held fits
 
--- two spaceships with the same numbers
-same_spaceship : (n m : ℕ) (dx dy x y : ℤ) → n ≡ m → dx ≡ x → dy ≡ y → Spaceship n dx dy ≡ Spaceship m x y
-same_spaceship n m dx dy x y e f g = λ i. Spaceship (e i) (f i) (g i)
+-- a kind with a number and a shift is held as itself where these are
+module _ (kind : ℕ → ℤ → ℤ → Kind) (few : (n : ℕ) (x y : ℤ) → HasGoodNumbers (kind n x y) → (n < 2 ^ 61) × IsShift x × IsShift y)
+    (stays : (n m : ℕ) (dx dy x y : ℤ) (earlier : List ClaimTextLine) → IsKindAfter earlier (kind n dx dy) → IsKindAfter earlier (kind m x y)) where
+  same_kind : (n m : ℕ) (dx dy x y : ℤ) → n ≡ m → dx ≡ x → dy ≡ y → kind n dx dy ≡ kind m x y
+  same_kind n m dx dy x y e f g = λ i. kind (e i) (f i) (g i)
+
+  held_move : (n held : ℕ) (dx dy x y : ℤ) → held ≡ min n (2 ^ 64 - 1) → IsHeldShift dx x → IsHeldShift dy y → IsHeldKind (kind n dx dy) (kind held (to_z w64 (of_z w64 x)) (to_z w64 (of_z w64 y)))
+  held_move n held dx dy x y e f g = rw (as_read dx x f, as_read dy y g) record {
+    exact = λ good. let fit = few n dx dy good in same_kind n held dx dy x y ((held_number n held e).0 fit.0) (f.exact fit.1) (g.exact fit.2);
+    sound = λ good. let fit = few held x y good in same_kind n held dx dy x y ((held_number n held e).1 fit.0) (f.sound fit.1) (g.sound fit.2);
+    after = λ earlier. (stays n held dx dy x y earlier, stays held n x y dx dy earlier);
+  }
 
 pub held_spaceship : (n held : ℕ) (dx dy x y : ℤ) → held ≡ min n (2 ^ 64 - 1) → IsHeldShift dx x → IsHeldShift dy y
     → IsHeldKind (Spaceship n dx dy) (Spaceship held (to_z w64 (of_z w64 x)) (to_z w64 (of_z w64 y)))
-held_spaceship n held dx dy x y e f g = rw (as_read dx x f, as_read dy y g) record {
-  exact = λ good. same_spaceship n held dx dy x y ((held_number n held e).0 (omega arith)) (f.exact good.2) (g.exact good.3);
-  sound = λ good. same_spaceship n held dx dy x y ((held_number n held e).1 (omega arith)) (f.sound good.2) (g.sound good.3);
-  after = λ earlier. (λ h. h, λ h. h);
-}
-
-pub held_becomes : (n held : ℕ) → held ≡ min n (2 ^ 64 - 1) → IsHeldKind (Becomes n) (Becomes held)
-held_becomes n held e = record {
-  exact = λ good. ap Becomes ((held_number n held e).0 (omega arith));
-  sound = λ good. ap Becomes ((held_number n held e).1 (omega arith));
-  after = λ earlier. (λ h. h, λ h. h);
-}
-
--- two shifted patterns' claims with the same numbers
-same_shifted : (n m : ℕ) (dx dy x y : ℤ) → n ≡ m → dx ≡ x → dy ≡ y → BecomesShifted n dx dy ≡ BecomesShifted m x y
-same_shifted n m dx dy x y e f g = λ i. BecomesShifted (e i) (f i) (g i)
+held_spaceship = held_move Spaceship (λ n x y good. (omega arith, good.2, good.3)) (λ n m dx dy x y earlier h. h)
 
 pub held_shifted : (n held : ℕ) (dx dy x y : ℤ) → held ≡ min n (2 ^ 64 - 1) → IsHeldShift dx x → IsHeldShift dy y
     → IsHeldKind (BecomesShifted n dx dy) (BecomesShifted held (to_z w64 (of_z w64 x)) (to_z w64 (of_z w64 y)))
-held_shifted n held dx dy x y e f g = rw (as_read dx x f, as_read dy y g) record {
-  exact = λ good. same_shifted n held dx dy x y ((held_number n held e).0 (omega arith)) (f.exact good.1) (g.exact good.2);
-  sound = λ good. same_shifted n held dx dy x y ((held_number n held e).1 (omega arith)) (f.sound good.1) (g.sound good.2);
-  after = λ earlier. (λ h. h, λ h. h);
-}
-
-pub held_dies : (n held : ℕ) → held ≡ min n (2 ^ 64 - 1) → IsHeldKind (Dies n) (Dies held)
-held_dies n held e = record {
-  exact = λ good. ap Dies ((held_number n held e).0 (omega arith));
-  sound = λ good. ap Dies ((held_number n held e).1 (omega arith));
-  after = λ earlier. (λ h. h, λ h. h);
-}
+held_shifted = held_move BecomesShifted (λ n x y good. (omega arith, good.1, good.2)) (λ n m dx dy x y earlier h. h)

@@ -1,5 +1,5 @@
 -- How a claim text is read, a line at a time.
-use Rattle.std.specs.Prelude.{◌≡◌, ℕ, ◌<◌, ◌^◌, ℤ, pos, neg_ℤ, ◌≤ℤ◌, ◌<ℤ◌, ◌↔◌, ◌≢◌, List, [], ◌∷◌, ◌++◌, map, slice_get, length, All, true, false, Option, None, Some, IsSome, unwrap_or, if◌then◌else◌}
+use Rattle.std.specs.Prelude.{◌≡◌, ℕ, ◌<◌, ◌^◌, ℤ, pos, neg_ℤ, ◌≤ℤ◌, ◌<ℤ◌, ◌↔◌, ◌≢◌, List, [], ◌∷◌, ◌++◌, map, slice_get, length, All, MatchOption, true, false, Option, None, Some, IsSome, unwrap_or, if◌then◌else◌}
 use Rattle.std.specs.Borrow.{Bor}
 use Rattle.std.specs.HashMap.{HashMap, get_by}
 use Rattle.std.specs.List.{list_any, AllByRecursion}
@@ -53,6 +53,10 @@ MakeNoClaim words = (claim : text.Claim) → text.WordsClaim words claim.pattern
 -- the words make a claim, which is held so
 abbrev pub MakesClaim : List (List ℕ) → ClaimOf (Bor (List ℕ)) → Type 0
 MakesClaim words held = (kind : Kind) × text.WordsClaim words (claim_of held).pattern (claim_of held).other kind × IsHeldKind kind held.kind
+
+-- the claim that the words make, or that they make none
+abbrev pub IsClaimOfWords : List (List ℕ) → Option (ClaimOf (Bor (List ℕ))) → Type 0
+IsClaimOfWords words result = MatchOption result (MakeNoClaim words) (λ held. MakesClaim words held)
 
 -- the kind of a line with these words, after what earlier lines say
 abbrev pub IsKind : List text.ClaimTextLine → List (List ℕ) → LineKind → Type 0

@@ -1,12 +1,13 @@
 //! The lines of a claim text, and the words of a line.
 
-ghost use Rattle.std.specs.Prelude.{◌≡◌, ◌≢◌, ℕ, ◌<◌, List, [], ◌∷◌, not, length, codes, MatchOption};
-ghost use Rattle.ca_plane.specs.Bytes.{Every, is_line_end, words_of};
+ghost use Rattle.std.specs.Prelude.{◌≡◌, ◌≢◌, ℕ, ◌-◌, ◌<◌, ◌^◌, min, List, [], ◌∷◌, not, length, codes};
+ghost use Rattle.std.specs.Prelude.{None, MatchOption};
+ghost use Rattle.ca_plane.specs.Bytes.{Every, is_line_end, words_of, AreDigits, value};
 ghost use Rattle.ca_claims.specs.Text.{ClaimTextLine, is_skipped};
-ghost use Rattle.ca_claims.specs.inner.Reading.{IsKind, IsVersionAfter, MakesClaim, MakeNoClaim};
+ghost use Rattle.ca_claims.specs.inner.Reading.{IsKind, IsVersionAfter, IsClaimOfWords};
 
 use super::line::{Claim, Kind};
-use super::numbers::integer_of;
+use super::numbers::shift_of;
 use super::version::TextVersion;
 use ca_plane::bytes::{next_word, whole_number};
 
@@ -82,6 +83,29 @@ fn three_words_and_shift(bytes: &[u8]) -> Option<((&[u8], &[u8], &[u8]), (&[u8],
     let (third, rest) = next_word(rest)?;
     let shift = words_of_shift(rest)?;
     Some(((first, second, third), shift))
+}
+
+/// The word and the number that a line's bytes are, where they are these two and no more.
+fn name_and_number(bytes: &[u8]) -> Option<(&[u8], u64)>
+    requires { Every (λ b. not (is_line_end b)) bytes.now }
+    ensures { MatchOption result ((a n : List ℕ) → words_of bytes.now ≡ a ∷ n ∷ [] → AreDigits n → ⊥)
+        (λ w. (n : List ℕ) × (words_of bytes.now ≡ w.0.now ∷ n ∷ []) × AreDigits n
+        × (w.1 ≡ min (value n) (2 ^ 64 - 1))) }
+{
+    let (name, digits) = two_words(bytes)?;
+    let number = whole_number(digits)?;
+    Some((name, number))
+}
+
+/// A claim about one pattern.
+fn about_one(name: &[u8], kind: Kind) -> Claim<&[u8]>
+    ensures { result ≡ record { pattern = name.entry; other = None; kind = kind } }
+{
+    Claim {
+        pattern: name,
+        other: None,
+        kind,
+    }
 }
 
 /// What a line says, by its words and what is known of the text's version.
@@ -187,8 +211,7 @@ fn load(words: &[u8]) -> LineKind<'_>
 /// The claim that a keyword and the words after it make.
 fn claim<'a>(keyword: &[u8], words: &'a [u8]) -> Option<Claim<&'a [u8]>>
     requires { Every (λ b. not (is_line_end b)) words.now }
-    ensures { MatchOption result (MakeNoClaim (keyword.now ∷ words_of words.now))
-        (λ c. MakesClaim (keyword.now ∷ words_of words.now) c) }
+    ensures { IsClaimOfWords (keyword.now ∷ words_of words.now) result }
 {
     if keyword == b"still".as_slice() {
         return still(words);
@@ -211,54 +234,36 @@ fn claim<'a>(keyword: &[u8], words: &'a [u8]) -> Option<Claim<&'a [u8]>>
 /// The claim of a line whose keyword is `still`, by the words after it.
 fn still(words: &[u8]) -> Option<Claim<&[u8]>>
     requires { Every (λ b. not (is_line_end b)) words.now }
-    ensures { MatchOption result (MakeNoClaim (codes "still" ∷ words_of words.now))
-        (λ c. MakesClaim (codes "still" ∷ words_of words.now) c) }
+    ensures { IsClaimOfWords (codes "still" ∷ words_of words.now) result }
 {
     let name = one_word(words)?;
-    Some(Claim {
-        pattern: name,
-        other: None,
-        kind: Kind::Still,
-    })
+    Some(about_one(name, Kind::Still))
 }
 
 /// The claim of a line whose keyword is `oscillator`, by the words after it.
 fn oscillator(words: &[u8]) -> Option<Claim<&[u8]>>
     requires { Every (λ b. not (is_line_end b)) words.now }
-    ensures { MatchOption result (MakeNoClaim (codes "oscillator" ∷ words_of words.now))
-        (λ c. MakesClaim (codes "oscillator" ∷ words_of words.now) c) }
+    ensures { IsClaimOfWords (codes "oscillator" ∷ words_of words.now) result }
 {
-    let (name, period) = two_words(words)?;
-    let period = whole_number(period)?;
-    Some(Claim {
-        pattern: name,
-        other: None,
-        kind: Kind::Oscillator { period },
-    })
+    let (name, period) = name_and_number(words)?;
+    Some(about_one(name, Kind::Oscillator { period }))
 }
 
 /// The claim of a line whose keyword is `spaceship`, by the words after it.
 fn spaceship(words: &[u8]) -> Option<Claim<&[u8]>>
     requires { Every (λ b. not (is_line_end b)) words.now }
-    ensures { MatchOption result (MakeNoClaim (codes "spaceship" ∷ words_of words.now))
-        (λ c. MakesClaim (codes "spaceship" ∷ words_of words.now) c) }
+    ensures { IsClaimOfWords (codes "spaceship" ∷ words_of words.now) result }
 {
     let (name, period, dx, dy) = four_words(words)?;
     let period = whole_number(period)?;
-    let dx = integer_of(dx)?;
-    let dy = integer_of(dy)?;
-    Some(Claim {
-        pattern: name,
-        other: None,
-        kind: Kind::Spaceship { period, dx, dy },
-    })
+    let (dx, dy) = shift_of(dx, dy)?;
+    Some(about_one(name, Kind::Spaceship { period, dx, dy }))
 }
 
 /// The claim of a line whose keyword is `becomes`, by the words after it.
 fn becomes(words: &[u8]) -> Option<Claim<&[u8]>>
     requires { Every (λ b. not (is_line_end b)) words.now }
-    ensures { MatchOption result (MakeNoClaim (codes "becomes" ∷ words_of words.now))
-        (λ c. MakesClaim (codes "becomes" ∷ words_of words.now) c) }
+    ensures { IsClaimOfWords (codes "becomes" ∷ words_of words.now) result }
 {
     let Some((name, generations, other)) = three_words(words) else {
         return becomes_shifted(words);
@@ -275,13 +280,11 @@ fn becomes(words: &[u8]) -> Option<Claim<&[u8]>>
 fn becomes_shifted(words: &[u8]) -> Option<Claim<&[u8]>>
     requires line { Every (λ b. not (is_line_end b)) words.now }
     requires more { (a b c : List ℕ) → words_of words.now ≢ a ∷ b ∷ c ∷ [] }
-    ensures { MatchOption result (MakeNoClaim (codes "becomes" ∷ words_of words.now))
-        (λ c. MakesClaim (codes "becomes" ∷ words_of words.now) c) }
+    ensures { IsClaimOfWords (codes "becomes" ∷ words_of words.now) result }
 {
     let ((name, generations, other), (dx, dy)) = three_words_and_shift(words)?;
     let generations = whole_number(generations)?;
-    let dx = integer_of(dx)?;
-    let dy = integer_of(dy)?;
+    let (dx, dy) = shift_of(dx, dy)?;
     Some(Claim {
         pattern: name,
         other: Some(other),
@@ -296,14 +299,8 @@ fn becomes_shifted(words: &[u8]) -> Option<Claim<&[u8]>>
 /// The claim of a line whose keyword is `dies`, by the words after it.
 fn dies(words: &[u8]) -> Option<Claim<&[u8]>>
     requires { Every (λ b. not (is_line_end b)) words.now }
-    ensures { MatchOption result (MakeNoClaim (codes "dies" ∷ words_of words.now))
-        (λ c. MakesClaim (codes "dies" ∷ words_of words.now) c) }
+    ensures { IsClaimOfWords (codes "dies" ∷ words_of words.now) result }
 {
-    let (name, generations) = two_words(words)?;
-    let generations = whole_number(generations)?;
-    Some(Claim {
-        pattern: name,
-        other: None,
-        kind: Kind::Dies { generations },
-    })
+    let (name, generations) = name_and_number(words)?;
+    Some(about_one(name, Kind::Dies { generations }))
 }

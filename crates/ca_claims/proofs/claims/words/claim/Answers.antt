@@ -1,18 +1,17 @@
-use Rattle.std.proofs.Common.{◌≡◌, ℕ, true, List, ◌∷◌, Bor, Option, codes, MatchOption, sym, ap, subst, ◌∙◌}
+use Rattle.std.proofs.Common.{◌≡◌, ℕ, true, List, ◌∷◌, Bor, Option, codes, sym, ap, subst, ◌∙◌}
 use Rattle.ca_claims.specs.declared.claims.line.Claim.{Claim as ClaimOf}
 use Rattle.std.specs.Str.{bytes_eq}
 use Rattle.std.proofs.lemmas.Slice.Eq.{bytes_eq-Decides}
 use Rattle.ca_plane.specs.Bytes.{words_of}
-use Rattle.ca_claims.specs.inner.Reading.{MakesClaim, MakeNoClaim}
+use Rattle.ca_claims.specs.inner.Reading.{IsClaimOfWords}
 use Rattle.ca_claims.proofs.claims.words.claim.Goals as goal
 
 -- the claim of a keyword
 of_keyword : (keyword spelled slice words : List ℕ) (result : Option (ClaimOf (Bor (List ℕ)))) → slice ≡ spelled → true ≡ bytes_eq keyword slice
-    → MatchOption result (MakeNoClaim (spelled ∷ words_of words)) (λ o. MakesClaim (spelled ∷ words_of words) o)
-    → MatchOption result (MakeNoClaim (keyword ∷ words_of words)) (λ o. MakesClaim (keyword ∷ words_of words) o)
+    → IsClaimOfWords (spelled ∷ words_of words) result → IsClaimOfWords (keyword ∷ words_of words) result
 of_keyword keyword spelled slice words result e test made =
     let same : keyword ≡ spelled = (bytes_eq-Decides keyword spelled).0 (ap (bytes_eq keyword) (sym e) ∙ sym test) in
-    subst (λ k. MatchOption result (MakeNoClaim (k ∷ words_of words)) (λ o. MakesClaim (k ∷ words_of words) o)) (sym same) made
+    subst (λ k. IsClaimOfWords (k ∷ words_of words) result) (sym same) made
 
 pub returns-then-eq : goal.returns-then-eq
 returns-then-eq c = of_keyword c.args.keyword.now (codes "still") c.as_slice.result.now c.args.words.now c.still.result c.as_slice.ensures c.if-eq.ensures c.still.ensures

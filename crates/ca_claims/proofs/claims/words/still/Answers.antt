@@ -4,4 +4,4 @@ use Rattle.ca_claims.proofs.HeldNumbers.{held_same}
 use Rattle.ca_claims.proofs.claims.words.still.Goals as goal
 
 pub returns : goal.returns
-returns c = (Still, (ap (λ ws. codes "still" ∷ ws) c.in_ok-name.ensures, refl), held_same Still)
+returns c = rw c.about_one.ensures (Still, (ap (λ ws. codes "still" ∷ ws) c.in_ok-name.ensures, refl), held_same Still)
