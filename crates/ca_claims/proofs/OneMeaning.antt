@@ -1,5 +1,5 @@
 -- A text's lines say one thing, or one of them is the first that is faulty.
-use Rattle.std.proofs.Common.{◌≡◌, ◌≢◌, ℕ, suc, ◌+◌, List, [], ◌∷◌, ◌++◌, length, get_or, Bool, true, Option, Some, None, is_some, codes, ◌⊎◌, inl, inr, refl, sym, ap, subst, ◌∙◌, arith}
+use Rattle.std.proofs.Common.{◌≡◌, ◌≢◌, ℕ, ℤ, suc, ◌+◌, List, [], ◌∷◌, ◌++◌, length, get_or, Bool, true, Option, Some, None, is_some, codes, ◌⊎◌, inl, inr, refl, sym, ap, subst, ◌∙◌, arith}
 use Rattle.std.specs.List.{list_any}
 use Rattle.std.specs.Str.{bytes_eq}
 use Rattle.std.proofs.lemmas.Bool.{false≢true}
@@ -15,6 +15,14 @@ use Rattle.ca_claims.specs.TextFaults.{IsFirstClaimFault}
 use Rattle.ca_claims.specs.inner.Reading.{SaysNext, HasClaimFault}
 use Rattle.ca_claims.proofs.LinesSaid.{one_before}
 
+-- equal words are one number
+one_number : (p q : List ℕ) (v w : ℕ) → p ≡ q → v ≡ value p → w ≡ value q → v ≡ w
+one_number p q v w e h k = h ∙ ap value e ∙ sym k
+
+-- and one integer
+same_integer : (a b : List ℕ) (d x : ℤ) → a ≡ b → IsInteger a d → IsInteger b x → d ≡ x
+same_integer a b d x e h k = one_integer b d x (subst (λ l. IsInteger l d) e h) k
+
 -- words make a claim of one kind, about the same patterns
 pub same_words : (words : List (List ℕ)) (n m : List ℕ) (o p : Option (List ℕ)) (a b : Kind) → WordsClaim words n o a → WordsClaim words m p b → (n ≡ m) × (o ≡ p) × (a ≡ b)
 same_words words n m o p Still Still h k =
@@ -22,36 +30,27 @@ same_words words n m o p Still Still h k =
     (cc, h.1 ∙ sym k.1, refl)
 same_words words n m o p (Oscillator v) (Oscillator w) h k =
     let same = sym h.1 ∙ k.1 in
-    let number : h.0 ≡ k.0 = cc in
-    (cc, h.4 ∙ sym k.4, ap Oscillator (h.3 ∙ ap value number ∙ sym k.3))
+    (cc, h.4 ∙ sym k.4, ap Oscillator (one_number h.0 k.0 v w (cc) h.3 k.3))
 same_words words n m o p (Spaceship v dx dy) (Spaceship w x y) h k =
     let same = sym h.3 ∙ k.3 in
-    let number : h.0 ≡ k.0 = cc in
-    let across : h.1 ≡ k.1 = cc in
-    let down : h.2 ≡ k.2 = cc in
-    let period = h.5 ∙ ap value number ∙ sym k.5 in
-    let right = one_integer k.1 dx x (subst (λ l. IsInteger l dx) across h.6) k.6 in
-    let below = one_integer k.2 dy y (subst (λ l. IsInteger l dy) down h.7) k.7 in
-    (cc, h.8 ∙ sym k.8, λ i. Spaceship (period i) (right i) (below i))
+    let period = one_number h.0 k.0 v w (cc) h.5 k.5 in
+    let right = same_integer h.1 k.1 dx x (cc) h.6 k.6 in
+    let down = same_integer h.2 k.2 dy y (cc) h.7 k.7 in
+    (cc, h.8 ∙ sym k.8, λ i. Spaceship (period i) (right i) (down i))
 same_words words n m o p (Becomes v) (Becomes w) h k =
     let same = sym h.2 ∙ k.2 in
-    let number : h.0 ≡ k.0 = cc in
     let second : h.1 ≡ k.1 = cc in
-    (cc, h.5 ∙ ap Some second ∙ sym k.5, ap Becomes (h.4 ∙ ap value number ∙ sym k.4))
+    (cc, h.5 ∙ ap Some second ∙ sym k.5, ap Becomes (one_number h.0 k.0 v w (cc) h.4 k.4))
 same_words words n m o p (BecomesShifted v dx dy) (BecomesShifted w x y) h k =
     let same = sym h.4 ∙ k.4 in
-    let number : h.0 ≡ k.0 = cc in
     let second : h.1 ≡ k.1 = cc in
-    let across : h.2 ≡ k.2 = cc in
-    let down : h.3 ≡ k.3 = cc in
-    let generations = h.6 ∙ ap value number ∙ sym k.6 in
-    let right = one_integer k.2 dx x (subst (λ l. IsInteger l dx) across h.7) k.7 in
-    let below = one_integer k.3 dy y (subst (λ l. IsInteger l dy) down h.8) k.8 in
-    (cc, h.9 ∙ ap Some second ∙ sym k.9, λ i. BecomesShifted (generations i) (right i) (below i))
+    let generations = one_number h.0 k.0 v w (cc) h.6 k.6 in
+    let right = same_integer h.2 k.2 dx x (cc) h.7 k.7 in
+    let down = same_integer h.3 k.3 dy y (cc) h.8 k.8 in
+    (cc, h.9 ∙ ap Some second ∙ sym k.9, λ i. BecomesShifted (generations i) (right i) (down i))
 same_words words n m o p (Dies v) (Dies w) h k =
     let same = sym h.1 ∙ k.1 in
-    let number : h.0 ≡ k.0 = cc in
-    (cc, h.4 ∙ sym k.4, ap Dies (h.3 ∙ ap value number ∙ sym k.3))
+    (cc, h.4 ∙ sym k.4, ap Dies (one_number h.0 k.0 v w (cc) h.3 k.3))
 same_words words n m o p Still b h k = cc
 same_words words n m o p (Oscillator v) b h k = cc
 same_words words n m o p (Spaceship v dx dy) b h k = cc

@@ -160,6 +160,10 @@ pub if_err_as : {T E : Type 0} (r : Result T E) (P Q : E → Type 0) → ((e : E
 if_err_as (Ok t) P Q turn h = tt
 if_err_as (Err e) P Q turn h = turn e h
 
+-- an empty list adds nothing
+adds_none : {X : Type 0} {ys : List X} (xs : List X) → ys ≡ [] → xs ++ ys ≡ xs
+adds_none xs e = ap (λ l. xs ++ l) e ∙ append-nil xs
+
 -- for each version there are lines after which it is known
 pub lines_of_version : TextVersion → List ClaimTextLine
 lines_of_version Open = []
@@ -177,31 +181,25 @@ pub version_told : (said : List (Option ClaimTextLine)) → spoken said ≡ [] �
 version_told said none = ap is_second (spoken-append said (Some Version ∷ []) ∙ ap (λ ls. ls ++ Version ∷ []) none)
 
 module _ (said : List (Option ClaimTextLine)) (names paths : List (List ℕ)) (rules : List ℕ) (claims : List (ClaimLine Place)) (places : List ℕ → Option Place) (read : KeepsClaimLines said names paths rules claims places) where
+  -- a line that says nothing of paths, names or claims
+  read_other : (s : Option ClaimTextLine) → file_paths (s ∷ []) ≡ [] → rule_paths (s ∷ []) ≡ [] → claims_from (1 + length said) (spoken said) (s ∷ []) ≡ []
+      → ((q : List ℕ) → path_of (spoken (said ++ s ∷ [])) q ≡ path_of (spoken said) q) → KeepsClaimLines (said ++ s ∷ []) names paths rules claims places
+  read_other s files tables asks loads = record {
+    once = read.once ∙ ap paths_once (sym (file_paths-append said (s ∷ []) ∙ adds_none (file_paths said) files));
+    ruled = read.ruled ∙ sym (rule_paths-append said (s ∷ []) ∙ adds_none (rule_paths said) tables);
+    placed = read.placed;
+    asked = read.asked ∙ sym (claims_from-append 1 [] said (s ∷ []) ∙ adds_none (claims_from 1 [] said) asks);
+    good = read.good;
+    known = λ q. subst (StandsAt names paths q (places q)) (sym (loads q)) (read.known q);
+  }
+
   -- a line that says nothing
   pub read_none : KeepsClaimLines (said ++ None ∷ []) names paths rules claims places
-  read_none =
-      let same : spoken (said ++ None ∷ []) ≡ spoken said = spoken-append said (None ∷ []) ∙ append-nil (spoken said) in
-      record {
-        once = read.once ∙ ap paths_once (sym (file_paths-append said (None ∷ []) ∙ append-nil (file_paths said)));
-        ruled = read.ruled ∙ sym (rule_paths-append said (None ∷ []) ∙ append-nil (rule_paths said));
-        placed = read.placed;
-        asked = read.asked ∙ sym (claims_from-append 1 [] said (None ∷ []) ∙ append-nil (claims_from 1 [] said));
-        good = read.good;
-        known = λ q. subst (λ ls. StandsAt names paths q (places q) (path_of ls q)) (sym same) (read.known q);
-      }
+  read_none = read_other None refl refl refl (λ q. ap (λ ls. path_of ls q) (spoken-append said (None ∷ []) ∙ append-nil (spoken said)))
 
   -- a line that tells the version
   pub read_version : KeepsClaimLines (said ++ Some Version ∷ []) names paths rules claims places
-  read_version =
-      let s : Option ClaimTextLine = Some Version in
-      record {
-        once = read.once ∙ ap paths_once (sym (file_paths-append said (s ∷ []) ∙ append-nil (file_paths said)));
-        ruled = read.ruled ∙ sym (rule_paths-append said (s ∷ []) ∙ append-nil (rule_paths said));
-        placed = read.placed;
-        asked = read.asked ∙ sym (claims_from-append 1 [] said (s ∷ []) ∙ append-nil (claims_from 1 [] said));
-        good = read.good;
-        known = λ q. subst (StandsAt names paths q (places q)) (sym (ap (λ ls. path_of ls q) (spoken-append said (s ∷ [])) ∙ version_loads_none (spoken said) q)) (read.known q);
-      }
+  read_version = read_other (Some Version) refl refl refl (λ q. ap (λ ls. path_of ls q) (spoken-append said (Some Version ∷ [])) ∙ version_loads_none (spoken said) q)
 
   -- the paths after a line with one more
   once_more : (path : List ℕ) (line : ClaimTextLine) → file_paths (Some line ∷ []) ≡ path ∷ [] → with_path paths path ≡ paths_once (file_paths (said ++ Some line ∷ []))

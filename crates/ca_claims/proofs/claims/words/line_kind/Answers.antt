@@ -37,23 +37,19 @@ returns-then-eq-3 c = λ earlier known.
     rw (c.in-Some.ensures.words, same) (c.load.ensures earlier)
 
 -- words with another keyword say nothing where they make no claim that may stand there
-says_none : (earlier : List ClaimTextLine) (keyword : List ℕ) (ws : List (List ℕ)) → (keyword ≡ codes "claims" → ⊥) → (keyword ≡ codes "rule" → ⊥) → (keyword ≡ codes "load" → ⊥)
+says_none : (earlier : List ClaimTextLine) (keyword : List ℕ) (ws : List (List ℕ)) (claims rule load : List ℕ) → claims ≡ codes "claims" → rule ≡ codes "rule" → load ≡ codes "load"
+    → false ≡ bytes_eq keyword claims → false ≡ bytes_eq keyword rule → false ≡ bytes_eq keyword load
     → ((claim : Claim) → ClaimWordsSay earlier (keyword ∷ ws) (Claims claim) → ⊥) → (line : ClaimTextLine) → ClaimWordsSay earlier (keyword ∷ ws) line → ⊥
-says_none earlier keyword ws claims rule load none Version h = claims (same_keyword _ _ _ _ h.0)
-says_none earlier keyword ws claims rule load none (Rule path) h = rule (same_keyword _ _ _ _ h)
-says_none earlier keyword ws claims rule load none (Load name path) h = load (same_keyword _ _ _ _ h)
-says_none earlier keyword ws claims rule load none (Claims claim) h = none claim h
+says_none earlier keyword ws claims rule load c r l x y z none Version h = other_keyword keyword (codes "claims") claims c x (same_keyword _ _ _ _ h.0)
+says_none earlier keyword ws claims rule load c r l x y z none (Rule path) h = other_keyword keyword (codes "rule") rule r y (same_keyword _ _ _ _ h)
+says_none earlier keyword ws claims rule load c r l x y z none (Load name path) h = other_keyword keyword (codes "load") load l z (same_keyword _ _ _ _ h)
+says_none earlier keyword ws claims rule load c r l x y z none (Claims claim) h = none claim h
 
 pub returns-in_default-claim : goal.returns-in_default-claim
 returns-in_default-claim c = λ earlier known.
-    let words = c.in-Some.ensures.words in
-    let keyword = c.in-Some.keyword.now in
-    rw words (
+    rw c.in-Some.ensures.words (
       sym c.begins_comment.ensures ∙ c.if-begins_comment.false,
-      says_none earlier keyword (words_of c.in-Some.rest.now)
-          (other_keyword keyword (codes "claims") c.as_slice.result.now c.as_slice.ensures c.if-eq.ensures)
-          (other_keyword keyword (codes "rule") c.as_slice-2.result.now c.as_slice-2.ensures c.if-eq-2.ensures)
-          (other_keyword keyword (codes "load") c.as_slice-3.result.now c.as_slice-3.ensures c.if-eq-3.ensures)
+      says_none earlier c.in-Some.keyword.now (words_of c.in-Some.rest.now) _ _ _ c.as_slice.ensures c.as_slice-2.ensures c.as_slice-3.ensures c.if-eq.ensures c.if-eq-2.ensures c.if-eq-3.ensures
           (λ claim h. c.in_default-claim.ensures claim h.0),
     )
 
@@ -62,15 +58,10 @@ pub returns-then-not-allows : goal.returns-then-not-allows
 returns-then-not-allows c = λ earlier known.
     let made = c.in-Some-claim.ensures in
     let held = claim_of c.in-Some-claim.claim in
-    let words = c.in-Some.ensures.words in
-    let keyword = c.in-Some.keyword.now in
-    let all = keyword ∷ words_of c.in-Some.rest.now in
-    rw words (
+    let all = c.in-Some.keyword.now ∷ words_of c.in-Some.rest.now in
+    rw c.in-Some.ensures.words (
       sym c.begins_comment.ensures ∙ c.if-begins_comment.false,
-      says_none earlier keyword (words_of c.in-Some.rest.now)
-          (other_keyword keyword (codes "claims") c.as_slice.result.now c.as_slice.ensures c.if-eq.ensures)
-          (other_keyword keyword (codes "rule") c.as_slice-2.result.now c.as_slice-2.ensures c.if-eq-2.ensures)
-          (other_keyword keyword (codes "load") c.as_slice-3.result.now c.as_slice-3.ensures c.if-eq-3.ensures)
+      says_none earlier c.in-Some.keyword.now (words_of c.in-Some.rest.now) _ _ _ c.as_slice.ensures c.as_slice-2.ensures c.as_slice-3.ensures c.if-eq.ensures c.if-eq-2.ensures c.if-eq-3.ensures
           (λ claim h.
           let same = (same_words all claim.pattern held.pattern claim.other held.other claim.kind made.0 h.0 made.1).2 in
           let stands = (made.2.after earlier).0 (subst (IsKindAfter earlier) same h.1) in

@@ -1,9 +1,15 @@
-use Rattle.std.proofs.Common.{None, Some, refl, sym, subst}
+use Rattle.std.proofs.Common.{◌≡◌, ℕ, List, [], ◌∷◌, ◌++◌, false, Option, None, Some, refl, sym, subst}
 use Rattle.ca_plane.specs.Bytes.{words_of}
-use Rattle.ca_claims.specs.Text.{Version, Rule, Load, Claims, spoken}
-use Rattle.ca_claims.specs.inner.Reading.{HasClaimFault, claim_of}
+use Rattle.ca_claims.specs.declared.claims.reading.Reading.{Reading}
+use Rattle.ca_claims.specs.Text.{ClaimTextLine, Version, Rule, Load, Claims, is_skipped, ClaimWordsSay, IsAllowedLine, spoken}
+use Rattle.ca_claims.specs.inner.Reading.{HasClaimFault, SaysNext, IsClaimReading, claim_of}
 use Rattle.ca_claims.proofs.ReadOn.{read_none, read_version, version_stays, version_told, on_ok_as, if_err_as, lines_of_version, version_of_lines}
 use Rattle.ca_claims.proofs.claims.reading.Reading.read.Goals as goal
+
+-- what a line says that isn't skipped, and what is kept once it has said it
+line_said : (said : List (Option ClaimTextLine)) (words : List (List ℕ)) (line : ClaimTextLine) (reading : Reading) → is_skipped words ≡ false → ClaimWordsSay (spoken said) words line
+    → IsAllowedLine (spoken said) line × IsClaimReading (said ++ Some line ∷ []) reading → (s : Option ClaimTextLine) × SaysNext (spoken said) words s × IsClaimReading (said ++ s ∷ []) reading
+line_said said words line reading some says after = (Some line, (some, says, after.0), after.1)
 
 pub returns-in-Skipped-clause-said : goal.returns-in-Skipped-clause-said
 returns-in-Skipped-clause-said c = λ said r number.
@@ -20,7 +26,7 @@ claim-requires c = (c.in-Claim.ensures (lines_of_version c.args.self.now.version
 pub returns-in-Rule-clause-said : goal.returns-in-Rule-clause-said
 returns-in-Rule-clause-said c =
     on_ok_as c.rule.result _ _
-    (λ ruled said r number. let kind = c.in-Rule.ensures (spoken said) r.1 in (Some (Rule c.in-Rule.path.now), (kind.0, kind.1, tt), ruled said r))
+    (λ ruled said r number. let kind = c.in-Rule.ensures (spoken said) r.1 in line_said said (words_of c.args.line.now) (Rule c.in-Rule.path.now) c.rule.new.self kind.0 kind.1 (tt, ruled said r))
     c.rule.ensures.ruled
 
 pub returns-in-Rule-clause-fault : goal.returns-in-Rule-clause-fault
@@ -32,10 +38,7 @@ returns-in-Rule-clause-fault c =
 pub returns-in-Load-clause-said : goal.returns-in-Load-clause-said
 returns-in-Load-clause-said c =
     on_ok_as c.load.result _ _
-    (λ loaded said r number.
-    let kind = c.in-Load.ensures (spoken said) r.1 in
-    let line = loaded said r in
-    (Some (Load c.in-Load.name.now c.in-Load.path.now), (kind.0, kind.1, line.0), line.1))
+    (λ loaded said r number. let kind = c.in-Load.ensures (spoken said) r.1 in line_said said (words_of c.args.line.now) (Load c.in-Load.name.now c.in-Load.path.now) c.load.new.self kind.0 kind.1 (loaded said r))
     c.load.ensures.loaded
 
 pub returns-in-Load-clause-fault : goal.returns-in-Load-clause-fault
@@ -47,10 +50,7 @@ returns-in-Load-clause-fault c =
 pub returns-in-Claim-clause-said : goal.returns-in-Claim-clause-said
 returns-in-Claim-clause-said c =
     on_ok_as c.claim.result _ _
-    (λ claimed said r number.
-    let kind = c.in-Claim.ensures (spoken said) r.1 in
-    let line = claimed said r number in
-    (Some (Claims (claim_of c.in-Claim.claim)), (kind.0, kind.1, line.0), line.1))
+    (λ claimed said r number. let kind = c.in-Claim.ensures (spoken said) r.1 in line_said said (words_of c.args.line.now) (Claims (claim_of c.in-Claim.claim)) c.claim.new.self kind.0 kind.1 (claimed said r number))
     c.claim.ensures.claimed
 
 pub returns-in-Claim-clause-fault : goal.returns-in-Claim-clause-fault
