@@ -45,6 +45,10 @@ module _ (old new : List Node) (sound : IsSoundStore old) (grows : Grows old new
   pub shows_stays : (tree : Tree) (p : Picture) → IsTree old tree → ShowsTree old tree p → ShowsTree new tree p
   shows_stays tree p is shows = λ x y. shows x y ∙ sym (trees_stay old new sound grows tree is x y)
 
+  -- so does another tree that is the same one
+  pub copy_shows : (tree copy : Tree) (p : Picture) → copy ≡ tree → IsTree old tree → ShowsTree old tree p → ShowsTree new copy p
+  copy_shows tree copy p e is shows = subst (λ t. ShowsTree new t p) (sym e) (shows_stays tree p is shows)
+
   pub near_stays : (tree : Tree) → IsNearTree old tree → IsNearTree new tree
   near_stays tree h = record {
     is_tree = of_stays old new sound grows tree.root tree.level h.is_tree;

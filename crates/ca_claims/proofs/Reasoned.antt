@@ -1,10 +1,11 @@
 -- What is told of a claim by the cells that differ and by the first return.
 use Rattle.std.proofs.Common.{◌≡◌, ◌≢◌, ℕ, List, [], Option, Some, None, MatchOption, refl, sym, ap, subst, ◌∙◌}
-use Rattle.std.specs.Prelude.{IsTrue}
+use Rattle.std.specs.Prelude.{ℤ, Result, IfOk, IsTrue}
 use Rattle.ca_plane.specs.Plane.{Picture, cell, shifted, IsLive}
 use Rattle.ca_plane.specs.Generations.{after, IsAfter}
 use Rattle.ca_quad.specs.declared.node.Node.{Node}
 use Rattle.ca_quad.specs.declared.tree.Tree.{Tree}
+use Rattle.ca_quad.specs.Sound.{IsSoundStore, Grows}
 use Rattle.ca_quad.specs.Trees as trees
 use Rattle.ca_claims.specs.declared.verdict.Why.{Why}
 use Rattle.ca_claims.specs.declared.verdict.Why.TheVariants.{Empty, Differs, Earlier, Died}
@@ -12,10 +13,12 @@ use Rattle.ca_claims.specs.declared.claims.asks.Asks.{Asks}
 use Rattle.ca_claims.specs.declared.claims.asks.Wanted.TheVariants.{Own, NoCells}
 use Rattle.ca_claims.specs.declared.claims.asks.Barred.{Barred}
 use Rattle.ca_claims.specs.declared.claims.asks.Barred.TheVariants.{Nothing, InPlace, Anywhere, EmptyPlane}
-use Rattle.ca_claims.specs.Truth.{wanted_cells, claimed, ShowsNothingBarred, IsTrueClaim, IsReason}
+use Rattle.ca_claims.specs.declared.decide.Case.{Case}
+use Rattle.ca_claims.specs.Truth.{wanted_cells, claimed, ShowsNothingBarred, MayReturnBy, IsTrueClaim, IsReason}
 use Rattle.ca_claims.specs.inner.Decided.{BarsReturns}
 use Rattle.ca_claims.specs.inner.Returns.{IsSparedBefore, IsFirstReturn, IsFirstDeath}
-use Rattle.ca_claims.specs.inner.Subjects.{ShowsTree, HasLive, IsDifference}
+use Rattle.ca_claims.specs.inner.Subjects.{ShowsTree, HasLive, IsCase, AreShown, IsDifference}
+use Rattle.ca_claims.proofs.Leapt.{shows_stays, ok_as}
 
 -- a picture of a live tree is live
 pub live_shown : (nodes : List Node) (tree : Tree) (cells : Picture) → HasLive (trees.cell nodes tree) → ShowsTree nodes tree cells → IsLive cells
@@ -75,3 +78,37 @@ own_stand next cells other asks own stands = subst (λ w. IsAfter next cells ask
 -- where no cells are wanted, the plane is empty
 pub none_stand : (next : List ℕ → ℕ) (cells other : Picture) (asks : Asks) → asks.wanted ≡ NoCells → IsAfter next cells asks.generations (claimed asks cells other) → IsAfter next cells asks.generations []
 none_stand next cells other asks none stands = subst (λ w. IsAfter next cells asks.generations (shifted (wanted_cells w cells other) asks.dx asks.dy)) none stands
+
+-- the claim's pattern is live where it must be
+pub live_case : (nodes : List Node) (case : Case) (cells other : Picture) → AreShown nodes case.subject cells other → (IsTrue case.asks.live → HasLive (trees.cell nodes case.subject.pattern))
+    → IsTrue case.asks.live → IsLive cells
+live_case nodes case cells other shown live wants = live_shown nodes case.subject.pattern cells (live wants) shown.one
+
+-- where the claimed cells stand and something is barred, what is found of earlier times tells of the claim
+module _ {R E : Type 0} (next_of : R → List ℕ → ℕ) (rule later : R) (same : later ≡ rule) (s0 s1 : List Node) (sound : IsSoundStore s0) (grows : Grows s0 s1) (case : Case) (is : IsCase s0 case)
+    (live : IsTrue case.asks.live → HasLive (trees.cell s0 case.subject.pattern)) (cells other : Picture) (shown : AreShown s0 case.subject cells other)
+    (stands : IsAfter (next_of rule) cells case.asks.generations (claimed case.asks cells other)) (found : Result (Option Why) E) where
+  shows_later : ShowsTree s1 case.subject.pattern cells
+  shows_later = shows_stays s0 s1 sound grows case.subject.pattern cells is.pattern.is_tree shown.one
+
+  pub by_death : case.asks.barred ≡ EmptyPlane
+      → ((p : Picture) → ShowsTree s1 case.subject.pattern p → IsAfter (next_of later) p case.asks.generations []
+      → IfOk found (λ why. MatchOption why (IsSparedBefore (next_of later) p EmptyPlane case.asks.generations) (IsFirstDeath (next_of later) p case.asks.generations)))
+      → IfOk found (λ why. MatchOption why (IsTrueClaim (next_of rule) cells other case.asks) (IsReason (next_of rule) cells other case.asks))
+  by_death barred told =
+      ok_as found _ _
+      (death_tells (next_of rule) cells other case.asks (live_case s0 case cells other shown live) stands (is.bounded.live (death_is_some case.asks.barred barred)) barred)
+      (subst (λ r. IsAfter (next_of r) cells case.asks.generations [] → IfOk found (λ why. MatchOption why (IsSparedBefore (next_of r) cells EmptyPlane case.asks.generations) (IsFirstDeath (next_of r) cells case.asks.generations)))
+      same (told cells shows_later) (none_stand (next_of rule) cells other case.asks (is.bounded.none barred) stands))
+
+  pub by_return : case.asks.barred ≢ Nothing → case.asks.barred ≢ EmptyPlane
+      → ((p : Picture) → ShowsTree s1 case.subject.pattern p → (u v : ℤ) → MayReturnBy case.asks.barred u v → IsAfter (next_of later) p case.asks.generations (shifted p u v)
+      → IfOk found (λ why. MatchOption why (IsSparedBefore (next_of later) p case.asks.barred case.asks.generations) (IsFirstReturn (next_of later) p case.asks.barred case.asks.generations)))
+      → IfOk found (λ why. MatchOption why (IsTrueClaim (next_of rule) cells other case.asks) (IsReason (next_of rule) cells other case.asks))
+  by_return some other_than told =
+      let returns = bars_returns case.asks.barred some other_than in
+      let asks = case.asks in
+      ok_as found _ _
+      (earlier_tells (next_of rule) cells other asks (live_case s0 case cells other shown live) stands (is.bounded.live some))
+      (subst (λ r. IsAfter (next_of r) cells asks.generations (shifted cells asks.dx asks.dy) → IfOk found (λ why. MatchOption why (IsSparedBefore (next_of r) cells asks.barred asks.generations) (IsFirstReturn (next_of r) cells asks.barred asks.generations)))
+      same (told cells shows_later asks.dx asks.dy (is.bounded.returns returns)) (own_stand (next_of rule) cells other asks (is.bounded.own returns) stands))

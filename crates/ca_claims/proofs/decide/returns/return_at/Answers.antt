@@ -1,8 +1,8 @@
 use Rattle.std.proofs.Common.{sym, subst}
 use Rattle.ca_quad.specs.Trees.{cell}
 use Rattle.ca_run.proofs.Shown.{goes_on_again}
-use Rattle.ca_claims.specs.inner.Subjects.{ShowsTree, HasLive, IsPattern, IsNearTree}
-use Rattle.ca_claims.proofs.Leapt.{bars_stays, near_pattern, near_stays, pattern_stays, shows_stays, ok_as}
+use Rattle.ca_claims.specs.inner.Subjects.{HasLive, IsPattern, IsNearTree}
+use Rattle.ca_claims.proofs.Leapt.{bars_stays, copy_shows, near_pattern, near_stays, pattern_stays, ok_as}
 use Rattle.ca_claims.proofs.DividedReturns.{back_here, back_there}
 use Rattle.ca_claims.proofs.decide.returns.return_at.Goals as goal
 
@@ -27,27 +27,19 @@ return_in_place-requires-clause-pattern g c =
 
 pub returns-in-Anywhere-clause-back : goal.returns-in-Anywhere-clause-back
 returns-in-Anywhere-clause-back g c = λ cells shows.
-    let s0 = c.args.leaper.now.nodes in
-    let s1 = c.tree_after.new.leaper.nodes in
-    let case = c.args.case.now in
-    let later = shows_stays s0 s1 c.store.ensures.sound c.in_ok-end.ensures.goes_on.grows case.subject.pattern cells c.requires.case.subject.pattern.is_tree shows in
     ok_as c.return_anywhere.result _ _
     (λ back told.
-    back_there (g.A.Automaton.next_of c.args.leaper.now.rule) s0 s1 case c.requires.case c.in_ok-end.end c.args.m c.in_ok-end.ensures.end cells shows
-    c.copy-pattern.result (subst (λ t. ShowsTree s1 t cells) (sym c.copy-pattern.ensures) later) back c.in-Anywhere.is told)
+    back_there (g.A.Automaton.next_of c.args.leaper.now.rule) _ _ c.args.case.now c.requires.case c.in_ok-end.end c.args.m c.in_ok-end.ensures.end cells shows c.copy-pattern.result
+    (copy_shows _ _ c.store.ensures.sound c.in_ok-end.ensures.goes_on.grows _ _ cells c.copy-pattern.ensures c.requires.case.subject.pattern.is_tree shows) back c.in-Anywhere.is told)
     c.return_anywhere.ensures.back
 
 pub returns-in_default : goal.returns-in_default
 returns-in_default g c = record {
   back = λ cells shows.
-      let s0 = c.args.leaper.now.nodes in
-      let s1 = c.tree_after.new.leaper.nodes in
-      let case = c.args.case.now in
-      let later = shows_stays s0 s1 c.store.ensures.sound c.in_ok-end.ensures.goes_on.grows case.subject.pattern cells c.requires.case.subject.pattern.is_tree shows in
       ok_as c.return_in_place.result _ _
       (λ back told.
-      back_here (g.A.Automaton.next_of c.args.leaper.now.rule) s0 s1 case c.requires.case c.in_ok-end.end c.args.m c.in_ok-end.ensures.end cells shows
-      c.copy-pattern.result (subst (λ t. ShowsTree s1 t cells) (sym c.copy-pattern.ensures) later) back c.in_default.not-Anywhere told)
+      back_here (g.A.Automaton.next_of c.args.leaper.now.rule) _ _ c.args.case.now c.requires.case c.in_ok-end.end c.args.m c.in_ok-end.ensures.end cells shows c.copy-pattern.result
+      (copy_shows _ _ c.store.ensures.sound c.in_ok-end.ensures.goes_on.grows _ _ cells c.copy-pattern.ensures c.requires.case.subject.pattern.is_tree shows) back c.in_default.not-Anywhere told)
       c.return_in_place.ensures.back;
   goes_on = goes_on_again _ c.args.leaper.now c.tree_after.new.leaper c.return_in_place.new.leaper c.in_ok-end.ensures.goes_on c.return_in_place.ensures.goes_on;
 }
