@@ -6,7 +6,9 @@ use Rattle.ca_rule.specs.Next.{bs_next}
 use Rattle.ca_rule.specs.declared.hood.Hood.TheVariants.{Moore}
 use Rattle.ca_claims.specs.declared.claims.line.Kind.{Kind}
 use Rattle.ca_claims.specs.declared.claims.line.Kind.TheVariants.{Still, Oscillator, Spaceship, Becomes, BecomesShifted, Dies}
+use Rattle.ca_claims.specs.declared.fault.ClaimFault.{ClaimFault}
 use Rattle.ca_claims.specs.Text.{Claim, ClaimTextLine, Version, Rule, Load, Claims, ClaimText}
+use Rattle.ca_claims.specs.TextFaults.{IsFirstClaimFault}
 
 -- a claim about one pattern
 abbrev pub of_one : List ℕ → Kind → Claim
@@ -24,6 +26,10 @@ becomes_of pattern generations other = record { pattern = pattern; other = Some 
 abbrev pub text_of : List (List ℕ) → List ℕ
 text_of [] = []
 text_of (l ∷ ls) = l ++ 10 ∷ text_of ls
+
+-- the text of these lines has this first fault
+abbrev pub HaveFault : List (List ℕ) → ClaimFault → Type 0
+HaveFault lines fault = IsFirstClaimFault (text_of lines) fault
 
 -- a comment, a blank line, a name and a claim
 abbrev pub block_text : List ℕ
@@ -99,38 +105,6 @@ tables_asked = record {
 abbrev pub spare_said : List (Option ClaimTextLine)
 spare_said = Some (Load (codes "a") (codes "p")) ∷ Some (Load (codes "b") (codes "q")) ∷ Some (Claims (still_of (codes "a"))) ∷ []
 
--- two paths where there may be one
-abbrev pub two_tables_text : List ℕ
-two_tables_text = text_of (codes "rule r" ∷ codes "rule r q" ∷ [])
-
--- a claim about a name that isn't loaded
-abbrev pub unknown_text : List ℕ
-unknown_text = codes "still q"
-
--- a claim whose second name isn't loaded
-abbrev pub other_unknown_text : List ℕ
-other_unknown_text = text_of (codes "load a p" ∷ codes "becomes a 1 b" ∷ [])
-
--- a name that is loaded twice
-abbrev pub taken_text : List ℕ
-taken_text = text_of (codes "load a p" ∷ codes "load a q" ∷ [])
-
--- a keyword that isn't one, after a line that loads a name
-abbrev pub misspelled_text : List ℕ
-misspelled_text = text_of (codes "load a p" ∷ codes "gun a" ∷ [])
-
--- a word that is no number where there must be one
-abbrev pub no_number_text : List ℕ
-no_number_text = text_of (codes "load a p" ∷ codes "oscillator a x" ∷ [])
-
--- a spaceship that stays where it is
-abbrev pub no_shift_text : List ℕ
-no_shift_text = text_of (codes "load a p" ∷ codes "spaceship a 4 0 0" ∷ [])
-
--- a period that is no oscillator's, of a name that isn't loaded
-abbrev pub no_period_text : List ℕ
-no_period_text = codes "oscillator b 1"
-
 -- a text of the second version, with both claims that came with it
 abbrev pub second_text : List ℕ
 second_text = text_of (codes "# a comment" ∷ codes "claims 2" ∷ codes "load a p" ∷ codes "becomes a 0 a shift -1 2" ∷ codes "dies a 3" ∷ [])
@@ -141,24 +115,6 @@ second_said =
     None ∷ Some Version ∷ Some (Load (codes "a") (codes "p"))
     ∷ Some (Claims (record { pattern = codes "a"; other = Some (codes "a"); kind = BecomesShifted 0 (neg_ℤ (pos 1)) (pos 2) }))
     ∷ Some (Claims (of_one (codes "a") (Dies 3))) ∷ []
-
--- a version after another line, one that is told twice, and one that isn't known
-abbrev pub late_version_text : List ℕ
-late_version_text = text_of (codes "load a p" ∷ codes "claims 2" ∷ [])
-
-abbrev pub two_versions_text : List ℕ
-two_versions_text = text_of (codes "claims 2" ∷ codes "claims 2" ∷ [])
-
-abbrev pub third_version_text : List ℕ
-third_version_text = codes "claims 3"
-
--- a claim of the second version in a text of the first
-abbrev pub early_claim_text : List ℕ
-early_claim_text = text_of (codes "load a p" ∷ codes "dies a 1" ∷ [])
-
--- a pattern that dies at once
-abbrev pub no_life_text : List ℕ
-no_life_text = text_of (codes "claims 2" ∷ codes "dies a 0" ∷ [])
 
 -- the next state under Conway's Life, `B3/S23`
 abbrev pub life : List ℕ → ℕ

@@ -6,11 +6,7 @@ ghost use Rattle.ca_claims.specs.Needed.{IsNeeded};
 ghost use Rattle.ca_claims.specs.TextFaults.{IsFirstClaimFault};
 ghost use Rattle.ca_claims.specs.Examples.{block_text, block_said, block_asked, every_text, every_said};
 ghost use Rattle.ca_claims.specs.Examples.{every_asked, rule_line_text, table_said, tables_text, tables_said};
-ghost use Rattle.ca_claims.specs.Examples.{tables_asked, spare_said, two_tables_text, unknown_text};
-ghost use Rattle.ca_claims.specs.Examples.{other_unknown_text, taken_text, misspelled_text, no_number_text};
-ghost use Rattle.ca_claims.specs.Examples.{no_shift_text, no_period_text, second_text, second_said};
-ghost use Rattle.ca_claims.specs.Examples.{late_version_text, two_versions_text, third_version_text};
-ghost use Rattle.ca_claims.specs.Examples.{early_claim_text, no_life_text};
+ghost use Rattle.ca_claims.specs.Examples.{tables_asked, spare_said, second_text, second_said, HaveFault};
 ghost use Rattle.ca_claims.specs.declared.fault.ClaimFault.{ClaimFault};
 ghost use Rattle.ca_claims.specs.declared.fault.ClaimFault.TheVariants as fault;
 
@@ -56,20 +52,20 @@ pub fn worked_examples()
     // No lines.
     ensures empty { IsClaimText [] [] }
     // Each fault, with the number of its line.
-    ensures unknown { IsFirstClaimFault unknown_text (fault.UnknownName 1) }
-    ensures taken { IsFirstClaimFault taken_text (fault.NameTaken 2) }
-    ensures other_unknown { IsFirstClaimFault other_unknown_text (fault.UnknownName 2) }
-    ensures misspelled { IsFirstClaimFault misspelled_text (fault.Syntax 2) }
-    ensures two_tables { IsFirstClaimFault two_tables_text (fault.Syntax 2) }
-    ensures no_number { IsFirstClaimFault no_number_text (fault.Syntax 2) }
-    ensures no_shift { IsFirstClaimFault no_shift_text (fault.Number 2) }
+    ensures unknown { IsFirstClaimFault (codes "still q") (fault.UnknownName 1) }
+    ensures taken { HaveFault (codes "load a p" ∷ codes "load a q" ∷ []) (fault.NameTaken 2) }
+    ensures other_unknown { HaveFault (codes "load a p" ∷ codes "becomes a 1 b" ∷ []) (fault.UnknownName 2) }
+    ensures misspelled { HaveFault (codes "load a p" ∷ codes "gun a" ∷ []) (fault.Syntax 2) }
+    ensures two_tables { HaveFault (codes "rule r" ∷ codes "rule r q" ∷ []) (fault.Syntax 2) }
+    ensures no_number { HaveFault (codes "load a p" ∷ codes "oscillator a x" ∷ []) (fault.Syntax 2) }
+    ensures no_shift { HaveFault (codes "load a p" ∷ codes "spaceship a 4 0 0" ∷ []) (fault.Number 2) }
     // A number comes before an unknown name.
-    ensures no_period { IsFirstClaimFault no_period_text (fault.Number 1) }
+    ensures no_period { IsFirstClaimFault (codes "oscillator b 1") (fault.Number 1) }
     // The second version, which is told once, before all others, and needed by the claims that came with it.
     ensures second { IsClaimText second_text second_said }
-    ensures late_version { IsFirstClaimFault late_version_text (fault.Syntax 2) }
-    ensures two_versions { IsFirstClaimFault two_versions_text (fault.Syntax 2) }
-    ensures third_version { IsFirstClaimFault third_version_text (fault.Syntax 1) }
-    ensures early_claim { IsFirstClaimFault early_claim_text (fault.Syntax 2) }
-    ensures no_life { IsFirstClaimFault no_life_text (fault.Number 2) }
+    ensures late_version { HaveFault (codes "load a p" ∷ codes "claims 2" ∷ []) (fault.Syntax 2) }
+    ensures two_versions { HaveFault (codes "claims 2" ∷ codes "claims 2" ∷ []) (fault.Syntax 2) }
+    ensures third_version { IsFirstClaimFault (codes "claims 3") (fault.Syntax 1) }
+    ensures early_claim { HaveFault (codes "load a p" ∷ codes "dies a 1" ∷ []) (fault.Syntax 2) }
+    ensures no_life { HaveFault (codes "claims 2" ∷ codes "dies a 0" ∷ []) (fault.Number 2) }
 {}
