@@ -15,7 +15,7 @@ use crate::note::Note;
 use crate::noting::note_on;
 use crate::observer::Observer;
 use crate::verdict::Answer;
-use crate::verifier::{Library, Tables, find_files, verdict_on};
+use crate::verifier::{Library, Needed, Tables, find_files, verdict_on};
 use ca_plane::Memory;
 use ca_run::Unwatched;
 use std::alloc::Global;
@@ -28,8 +28,7 @@ pub struct Judge<'a> {
     alloc: Global,
     files: &'a [File<'a>],
     claims: &'a Claims,
-    found: Vec<Option<&'a [u8]>>,
-    tables: Tables,
+    needed: Needed<'a>,
     library: Library<'a>,
     index: usize,
 }
@@ -43,7 +42,8 @@ impl<'a> Model for Judge<'a> {
 
     ghost view = { λ j. left_from (contents j.files.now) j.claims.now j.index };
 
-    ghost invariant = { λ j. IsKeptOf (contents j.files.now) j.claims.now j.found.items j.tables j.index };
+    ghost invariant = { λ j. IsKeptOf (contents j.files.now) j.claims.now
+        j.needed.found.items j.needed.tables j.index };
 }
 
 impl<'a> Judge<'a> {
@@ -67,13 +67,12 @@ impl<'a> Judge<'a> {
         }) }
         ensures memory { OnErr result (claims.now.claims ≢ []) }
     {
-        let Needed { found, tables } = look_up(alloc, claims, files)?;
+        let needed = look_up(alloc, claims, files)?;
         Ok(Judge {
             alloc,
             files,
             claims,
-            found,
-            tables,
+            needed,
             library: library_for(alloc, claims),
             index: 0,
         })
@@ -120,20 +119,12 @@ impl<'a> Judge<'a> {
             &mut self.library,
             self.claims,
             self.index,
-            &self.found,
-            &self.tables,
+            &self.needed,
             observer,
         );
         self.index += 1;
         Some(noted)
     }
-}
-
-/// The bytes of each path of a text, and its rule tables: what its claims need.
-#[derive(Drop)]
-struct Needed<'a> {
-    found: Vec<Option<&'a [u8]>>,
-    tables: Tables,
 }
 
 /// What the claims of a text need of these files. A text without claims needs nothing.
@@ -165,20 +156,19 @@ fn answer_to<'a, 'f, O: Observer>(
     library: &mut Library<'f>,
     claims: &'a Claims,
     index: usize,
-    found: &[Option<&'f [u8]>],
-    tables: &Tables,
+    needed: &Needed<'f>,
     observer: &mut O,
 ) -> (Answer, Note<'a>)
     requires index { index < length claims.now.claims }
-    requires found { length found.now ≡ length claims.now.paths }
+    requires found { length needed.now.found.items ≡ length claims.now.paths }
     ensures { (files : List (List ℕ × List ℕ))
-        → map option_copied found.now ≡ map (bytes_at files) claims.now.paths
-        → AreRead files claims.now.paths claims.now.rules tables.now
+        → map option_copied needed.now.found.items ≡ map (bytes_at files) claims.now.paths
+        → AreRead files claims.now.paths claims.now.rules needed.now.tables
         → IsAnswerTo files claims.now index result.0 result.1 }
 {
     let asked = claims.claim(index);
     observer.begins(asked.line);
-    let judged = verdict_on(alloc, library, &asked.claim, found, tables, observer);
+    let judged = verdict_on(alloc, library, &asked.claim, needed, observer);
     observer.ends();
     let answer = Answer {
         line: asked.line,

@@ -20,6 +20,7 @@ ghost use Rattle.ca_claims.specs.inner.Tables.{AreRead};
 mod agreement;
 mod counts;
 mod library;
+mod needed;
 mod one_or_two;
 mod patterns;
 mod prepared;
@@ -34,6 +35,7 @@ use crate::refusal::{About, Judged, Refusal};
 use crate::verdict::{Answer, Cause, Verdict};
 use ca_plane::Memory;
 pub(crate) use library::Library;
+pub(crate) use needed::Needed;
 pub(crate) use one_or_two::OneOrTwo;
 use prepared::{Prepared, prepare};
 use std::alloc::Global;
@@ -86,29 +88,23 @@ pub(crate) fn verdict_on<'a, O: Observer>(
     alloc: Global,
     library: &mut Library<'a>,
     claim: &Claim<usize>,
-    found: &[Option<&'a [u8]>],
-    tables: &Tables,
+    needed: &Needed<'a>,
     observer: &mut O,
 ) -> Judged
-    requires within { AllByRecursion (λ i. i < length found.now) (patterns_of claim.now) }
+    requires within { AllByRecursion (λ i. i < length needed.now.found.items) (patterns_of claim.now) }
     requires numbers { HasGoodNumbers claim.now.kind }
     ensures { (files : List (List ℕ × List ℕ)) (paths rules : List (List ℕ))
-        → map option_copied found.now ≡ map (bytes_at files) paths → AreRead files paths rules tables.now
+        → map option_copied needed.now.found.items ≡ map (bytes_at files) paths
+        → AreRead files paths rules needed.now.tables
         → IsJudgedOn files paths rules (about (path_at paths) claim.now) result.verdict result.about }
 {
-    let judged = as_judged(judge(alloc, library, claim, found, tables, observer));
+    let judged = as_judged(judge(alloc, library, claim, needed, observer));
     if library.is_empty() || !wants_memory(&judged.verdict) {
         return judged;
     }
     library.clear();
-    as_judged(judge(
-        alloc,
-        &mut Library::new(alloc, false),
-        claim,
-        found,
-        tables,
-        observer,
-    ))
+    let mut empty = Library::new(alloc, false);
+    as_judged(judge(alloc, &mut empty, claim, needed, observer))
 }
 
 /// Whether a verdict is that there is no memory.
@@ -141,20 +137,21 @@ fn judge<'a, O: Observer>(
     alloc: Global,
     library: &mut Library<'a>,
     claim: &Claim<usize>,
-    found: &[Option<&'a [u8]>],
-    tables: &Tables,
+    needed: &Needed<'a>,
     observer: &mut O,
 ) -> Result<Verdict, Refusal>
-    requires within { AllByRecursion (λ i. i < length found.now) (patterns_of claim.now) }
+    requires within { AllByRecursion (λ i. i < length needed.now.found.items) (patterns_of claim.now) }
     requires numbers { HasGoodNumbers claim.now.kind }
     ensures { (files : List (List ℕ × List ℕ)) (paths rules : List (List ℕ))
-        → map option_copied found.now ≡ map (bytes_at files) paths → AreRead files paths rules tables.now
+        → map option_copied needed.now.found.items ≡ map (bytes_at files) paths
+        → AreRead files paths rules needed.now.tables
         → MatchResult result
         (λ verdict. IsJudgedOn files paths rules (about (path_at paths) claim.now) verdict abouts.Claim)
         (λ r. IsJudgedOn files paths rules (about (path_at paths) claim.now) (Refused r.cause) r.about) }
 {
     let asks = claim.kind.asks();
-    let prepared = prepare(alloc, library, &places_of(claim), asks, found, tables)?;
+    let places = places_of(claim);
+    let prepared = prepare(alloc, library, &places, asks, &needed.found, &needed.tables)?;
     Ok(decide_on(alloc, prepared, asks, observer))
 }
 

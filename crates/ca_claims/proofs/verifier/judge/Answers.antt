@@ -1,7 +1,10 @@
-use Rattle.std.proofs.Common.{◌<◌, length, map, subst}
+use Rattle.std.proofs.Common.{◌≡◌, ◌<◌, length, map, sym, subst}
+use Rattle.std.specs.List.{AllByRecursion}
+use Rattle.std.specs.Option.{option_copied}
 use Rattle.ca_rule.specs.Rule.{rule_value, next_of}
 use Rattle.ca_claims.specs.Text.{patterns_of, about}
 use Rattle.ca_claims.specs.Places.{path_at}
+use Rattle.ca_claims.specs.Means.{bytes_at}
 use Rattle.ca_claims.specs.declared.refusal.About.TheVariants.{Claim}
 use Rattle.ca_claims.specs.declared.verdict.Verdict.TheVariants.{Refused}
 use Rattle.ca_claims.specs.Answers.{HasCause}
@@ -14,15 +17,17 @@ use Rattle.ca_claims.proofs.Parts.{on_all}
 use Rattle.ca_claims.proofs.verifier.judge.Goals as goal
 
 pub prepare-requires : goal.prepare-requires
-prepare-requires g c = once_all (λ i. i < length c.args.found.now) (items c.places_of.result) (patterns_of c.args.claim.now) c.places_of.ensures c.requires.within
+prepare-requires g c =
+    subst (λ l. AllByRecursion (λ i. i < length l) (items c.places_of-places.result)) (sym c.deref.ensures.value)
+    (once_all (λ i. i < length c.args.needed.now.found.items) (items c.places_of-places.result) (patterns_of c.args.claim.now) c.places_of-places.ensures c.requires.within)
 
 pub returns-in_err-prepared : goal.returns-in_err-prepared
 returns-in_err-prepared g c = λ files paths rules e read.
     let claim = about (path_at paths) c.args.claim.now in
-    let each = map (path_at paths) (items c.places_of.result) in
-    let once = once_paths paths c.args.claim.now (items c.places_of.result) c.places_of.ensures in
+    let each = map (path_at paths) (items c.places_of-places.result) in
+    let once = once_paths paths c.args.claim.now (items c.places_of-places.result) c.places_of-places.ensures in
     let refusal = c.in_err-prepared.field-0.0 in
-    let refused = c.in_err-prepared.ensures.prepared files paths rules e read in
+    let refused = c.in_err-prepared.ensures.prepared files paths rules (subst (λ l. map option_copied l ≡ map (bytes_at files) paths) (sym c.deref.ensures.value) e) read in
     passed_on (λ verdict. IsJudgedOn files paths rules claim verdict Claim) (λ r. IsJudgedOn files paths rules claim (Refused r.cause) r.about) c.from_residual.result refusal c.from_residual.ensures.1
     (record {
       holds = subst (λ asks. HasCause files rules asks (patterns_of claim) refusal.cause) c.asks-asks.ensures (cause_of_all files rules c.asks-asks.result each (patterns_of claim) refusal.cause once refused.holds);
@@ -36,9 +41,9 @@ decide_on-requires g c =
 pub returns : goal.returns
 returns g c = λ files paths rules e read.
     let claim = c.args.claim.now in
-    let each = map (path_at paths) (items c.places_of.result) in
-    let once = once_paths paths claim (items c.places_of.result) c.places_of.ensures in
+    let each = map (path_at paths) (items c.places_of-places.result) in
+    let once = once_paths paths claim (items c.places_of-places.result) c.places_of-places.ensures in
     let prepared = c.in_ok-prepared.prepared in
-    let is = subst (λ asks. IsPrepared files rules asks each prepared) c.asks-asks.ensures (c.in_ok-prepared.ensures.prepared files paths rules e read) in
+    let is = subst (λ asks. IsPrepared files rules asks each prepared) c.asks-asks.ensures (c.in_ok-prepared.ensures.prepared files paths rules (subst (λ l. map option_copied l ≡ map (bytes_at files) paths) (sym c.deref.ensures.value) e) read) in
     true_verdict files rules paths claim each prepared c.decide_on.result once is
     (subst (λ asks. IsDecided (next_of (rule_value prepared.leaper.rule)) is.cells is.other asks c.decide_on.result) c.asks-asks.ensures (c.decide_on.ensures is.cells is.other is.shown))

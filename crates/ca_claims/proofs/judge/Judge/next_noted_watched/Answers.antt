@@ -1,6 +1,5 @@
-use Rattle.std.proofs.Common.{◌≡◌, ◌≢◌, ◌+◌, [], map, length, arith, sym, ap, subst}
-use Rattle.std.specs.Option.{option_copied}
-use Rattle.ca_claims.specs.Means.{contents, bytes_at}
+use Rattle.std.proofs.Common.{◌≡◌, ◌≢◌, ◌+◌, [], length, arith, ap, subst}
+use Rattle.ca_claims.specs.Means.{contents}
 use Rattle.ca_claims.specs.Judging.{JudgesAndNotes}
 use Rattle.ca_claims.specs.inner.Kept.{left_from}
 use Rattle.ca_claims.proofs.Answered.{judged_and_noted}
@@ -14,9 +13,8 @@ returns g c =
     let count : c.claim_count.result ≡ length asked.claims = c.claim_count.ensures.claims in
     let some : asked.claims ≢ [] = λ none. (let empty : length asked.claims ≡ 0 = ap length none in omega (arith, empty, count, c.self.invariant.within, c.if-self-claim_count.false)) in
     let kept = c.self.invariant.kept some in
-    let found_at = subst (λ l. map option_copied l ≡ map (bytes_at files) asked.paths) (sym c.deref.ensures.value) kept.found_at in
     let noted = c.answer_to-noted.result in
-    let answered = c.answer_to-noted.ensures files found_at kept.read in
+    let answered = c.answer_to-noted.ensures files kept.found_at kept.read in
     record {
       noted = subst (λ old. JudgesAndNotes old (left_from files asked (index + 1)) noted.0 noted.1) c.self.view_is (judged_and_noted files asked index noted.0 noted.1 answered);
       given = answered.given;
