@@ -22,7 +22,8 @@ use Rattle.ca_claims.specs.declared.verdict.Cause.TheVariants as cause
 use Rattle.ca_claims.specs.declared.verifier.agreement.Disagreement.{Disagreement}
 use Rattle.ca_claims.specs.declared.verifier.agreement.Disagreement.TheVariants.{Large, Mixed}
 use Rattle.ca_claims.specs.declared.verifier.agreement.Disagreement.TheVariants as disagreement
-use Rattle.ca_claims.specs.declared.verifier.patterns.Unread.{Unread}
+use Rattle.ca_claims.specs.declared.read.BadPattern.{BadPattern as Unread}
+use Rattle.ca_claims.specs.declared.verifier.patterns.BadPart.{BadPart}
 use Rattle.ca_claims.specs.declared.verifier.prepared.Prepared.{Prepared}
 use Rattle.ca_claims.specs.Answers.{AgreeOn, IsCounted, HasFewCounted}
 use Rattle.ca_claims.specs.inner.Subjects.{IsPattern, AreShown}
@@ -73,8 +74,8 @@ refusal_for part (pattern_fault.Rle fault) line = record { cause = BadPattern (p
 refusal_for part (pattern_fault.Macro fault) line = record { cause = BadPattern (pattern_fault.Macro fault); about = about.Pattern part line }
 refusal_for part pattern_fault.Memory line = record { cause = cause.Memory; about = about.Claim }
 
-abbrev pub reading_refusal : Unread → Refusal
-reading_refusal unread = refusal_for unread.part unread.bad.fault unread.bad.line
+abbrev pub reading_refusal : BadPart Unread → Refusal
+reading_refusal unread = refusal_for unread.part unread.why.fault unread.why.line
 
 -- the refusal of a claim whose patterns have no one rule under which their states are small
 abbrev pub disagreement_refusal : Disagreement → Refusal

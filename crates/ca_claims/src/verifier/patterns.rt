@@ -16,18 +16,11 @@ use ca_quad::Store;
 use ca_rule::{RuleFault, Table};
 use std::alloc::Global;
 
-/// Which of a claim's patterns isn't read, and why.
+/// Which of a claim's patterns is bad, and why.
 #[derive(Clone, Copy)]
-pub(crate) struct Unread {
+pub(crate) struct BadPart<W> {
     pub(crate) part: Part,
-    pub(crate) bad: BadPattern,
-}
-
-/// Which of a claim's patterns has a rule text that names no rule, and why.
-#[derive(Clone, Copy)]
-pub(crate) struct Unnamed {
-    pub(crate) part: Part,
-    pub(crate) fault: RuleFault,
+    pub(crate) why: W,
 }
 
 /// The patterns of files with these bytes, put into the store by the library, or the first that isn't read.
@@ -36,35 +29,35 @@ pub(crate) fn read_each<'a>(
     library: &mut Library<'a>,
     store: &mut Store,
     files: &OneOrTwo<&'a [u8]>,
-) -> Result<OneOrTwo<Loaded>, Unread>
+) -> Result<OneOrTwo<Loaded>, BadPart<BadPattern>>
     ensures read { IfOk result
         (λ patterns. AllZip (λ b p. IsReadFrom store.new b.now p) (items files.now) (items patterns)) }
-    ensures unread { IfErr result
-        (λ u. FirstBadAt u.part (items files.now) (λ b. IsReadable b.now) (λ b. IsUnread b.now u.bad)) }
+    ensures unread { IfErr result (λ bad. FirstBadAt bad.part (items files.now)
+        (λ b. IsReadable b.now) (λ b. IsUnread b.now bad.why)) }
 {
     match *files {
         OneOrTwo::One(only) => match library.pattern(alloc, store, only) {
             Ok(only) => Ok(OneOrTwo::One(only)),
-            Err(bad) => Err(Unread {
+            Err(why) => Err(BadPart {
                 part: Part::First,
-                bad,
+                why,
             }),
         },
         OneOrTwo::Two(first, second) => {
             let first = match library.pattern(alloc, store, first) {
                 Ok(first) => first,
-                Err(bad) => {
-                    return Err(Unread {
+                Err(why) => {
+                    return Err(BadPart {
                         part: Part::First,
-                        bad,
+                        why,
                     });
                 }
             };
             match library.pattern(alloc, store, second) {
                 Ok(second) => Ok(OneOrTwo::Two(first, second)),
-                Err(bad) => Err(Unread {
+                Err(why) => Err(BadPart {
                     part: Part::Second,
-                    bad,
+                    why,
                 }),
             }
         }
@@ -76,35 +69,35 @@ pub(crate) fn read_each<'a>(
 pub(crate) fn with_rules<'t>(
     patterns: OneOrTwo<Loaded>,
     tables: &'t [Table],
-) -> Result<OneOrTwo<Ruled<'t>>, Unnamed>
+) -> Result<OneOrTwo<Ruled<'t>>, BadPart<RuleFault>>
     ensures named { IfOk result (λ ruled. AllZip (IsRuledAs tables.now) (items patterns) (items ruled)) }
     ensures unnamed { IfErr result
-        (λ u. FirstBadAt u.part (items patterns) (HasName tables.now)
-        (λ p. IsRuleFault p.rule_text.items tables.now u.fault)) }
+        (λ bad. FirstBadAt bad.part (items patterns) (HasName tables.now)
+        (λ p. IsRuleFault p.rule_text.items tables.now bad.why)) }
 {
     match patterns {
         OneOrTwo::One(only) => match with_rule(only, tables) {
             Ok(only) => Ok(OneOrTwo::One(only)),
-            Err(fault) => Err(Unnamed {
+            Err(why) => Err(BadPart {
                 part: Part::First,
-                fault,
+                why,
             }),
         },
         OneOrTwo::Two(first, second) => {
             let first = match with_rule(first, tables) {
                 Ok(first) => first,
-                Err(fault) => {
-                    return Err(Unnamed {
+                Err(why) => {
+                    return Err(BadPart {
                         part: Part::First,
-                        fault,
+                        why,
                     });
                 }
             };
             match with_rule(second, tables) {
                 Ok(second) => Ok(OneOrTwo::Two(first, second)),
-                Err(fault) => Err(Unnamed {
+                Err(why) => Err(BadPart {
                     part: Part::Second,
-                    fault,
+                    why,
                 }),
             }
         }

@@ -19,10 +19,11 @@ use super::agreement::{Disagreement, agreed_rule};
 use super::counts::{OUT_OF_MEMORY, check_count, last_part, subject_of};
 use super::library::Library;
 use super::one_or_two::OneOrTwo;
-use super::patterns::{Unread, read_each, with_rules};
+use super::patterns::{BadPart, read_each, with_rules};
 use super::tables::Tables;
 use crate::claims::Asks;
 use crate::decide::Subject;
+use crate::read::BadPattern;
 use crate::refusal::{About, Part, Refusal};
 use crate::verdict::{Cause, PatternFault};
 use ca_quad::Store;
@@ -83,7 +84,7 @@ fn prepare_by<'a, 't>(
     };
     let patterns = match with_rules(patterns, tables) {
         Ok(patterns) => patterns,
-        Err(unnamed) => return Err(of_pattern(Cause::BadRule(unnamed.fault), unnamed.part, None)),
+        Err(unnamed) => return Err(of_pattern(Cause::BadRule(unnamed.why), unnamed.part, None)),
     };
     let rule = match agreed_rule(alloc, &store, &patterns) {
         Ok(rule) => rule,
@@ -108,12 +109,12 @@ fn of_pattern(cause: Cause, part: Part, line: Option<u64>) -> Refusal
 }
 
 /// The refusal of a claim with a pattern that isn't read.
-fn reading_refusal(unread: Unread) -> Refusal
+fn reading_refusal(unread: BadPart<BadPattern>) -> Refusal
     ensures { result ≡ reading_refusal unread }
 {
-    match unread.bad.fault {
+    match unread.why.fault {
         PatternFault::Memory => OUT_OF_MEMORY,
-        fault => of_pattern(Cause::BadPattern(fault), unread.part, unread.bad.line),
+        fault => of_pattern(Cause::BadPattern(fault), unread.part, unread.why.line),
     }
 }
 

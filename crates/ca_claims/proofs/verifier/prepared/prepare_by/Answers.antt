@@ -10,7 +10,7 @@ pub returns-in-Err-clause-prepared : goal.returns-in-Err-clause-prepared
 returns-in-Err-clause-prepared c = λ files paths rules each there are.
     let unread = c.in-Err.unread in
     subst (IsRefusal files paths rules c.args.asks each) (sym c.reading_refusal.ensures)
-    (unread_for files paths rules c.args.asks c.args.tables.now are each (items c.args.there.now) there unread.part unread.bad.fault unread.bad.line c.in-Err.ensures.unread)
+    (unread_for files paths rules c.args.asks c.args.tables.now are each (items c.args.there.now) there unread.part unread.why.fault unread.why.line c.in-Err.ensures.unread)
 
 pub returns-in-Err-with_rules-clause-prepared : goal.returns-in-Err-with_rules-clause-prepared
 returns-in-Err-with_rules-clause-prepared c = λ files paths rules each there are.
@@ -19,7 +19,7 @@ returns-in-Err-with_rules-clause-prepared c = λ files paths rules each there ar
     let unnamed_one = c.in-Err-with_rules.unnamed in
     let read = read_at nodes files each (items c.args.there.now) patterns there c.in-Ok.ensures.read in
     subst (IsRefusal files paths rules c.args.asks each) (sym c.of_pattern.ensures)
-    (unnamed files paths rules c.args.asks c.args.tables.now are nodes each patterns unnamed_one.part unnamed_one.fault read c.in-Err-with_rules.ensures.unnamed)
+    (unnamed files paths rules c.args.asks c.args.tables.now are nodes each patterns unnamed_one.part unnamed_one.why read c.in-Err-with_rules.ensures.unnamed)
 
 pub agreed_rule-requires : goal.agreed_rule-requires
 agreed_rule-requires c =
