@@ -3,7 +3,7 @@
 use crate::devices::expect;
 use ca_claims::{Answer, Cause, ClaimFault, ConvertFault, PatternFault, Verdict, Why};
 use ca_macro::MacroFault;
-use ca_plane::Dev;
+use ca_plane::{Dev, Memory};
 use ca_rle::RleFault;
 use ca_rule::{RuleFault, TableFault};
 use ca_tool::{Fault, InputFault, ToolFault, complain, lines};
@@ -37,67 +37,64 @@ const ANSWERS: &[Answer] = &[
         line: 9,
         verdict: Verdict::No(Why::Died { m: u64::MAX }),
     },
-    Answer {
-        line: 14,
-        verdict: Verdict::Refused(Cause::BadPattern(PatternFault::Rle(RleFault::Memory))),
-    },
-    Answer {
-        line: 15,
-        verdict: Verdict::Refused(Cause::BadPattern(PatternFault::Memory)),
-    },
-    Answer {
-        line: 16,
-        verdict: Verdict::Refused(Cause::BadPattern(PatternFault::Macro(MacroFault::Memory))),
-    },
-    Answer {
-        line: 17,
-        verdict: Verdict::Refused(Cause::BadTable(TableFault::Memory)),
-    },
 ];
 
 const LINES: &[u8] = b"line 0: yes
 line 18446744073709551615: no, cells differ after 4294967295
 line 13: no, the same after 4294967294, shifted by -9223372036854775808,-1
 line 9: no, empty after 18446744073709551615
-line 14: refused, memory
-line 15: refused, memory
-line 16: refused, memory
-line 17: refused, memory
 ";
+
+/// Causes in which memory is out.
+const CAUSES_OF_MEMORY: &[Cause] = &[
+    Cause::Memory,
+    Cause::BadPattern(PatternFault::Rle(RleFault::Memory)),
+    Cause::BadPattern(PatternFault::Memory),
+    Cause::BadPattern(PatternFault::Macro(MacroFault::Memory)),
+    Cause::BadTable(TableFault::Memory),
+];
+
+/// Whether out of memory is all that is told of a claim that was refused for this.
+fn is_refused_for_memory(alloc: Global, cause: Cause) -> Result<bool, Memory> {
+    let answer = Answer {
+        line: 14,
+        verdict: Verdict::Refused(cause),
+    };
+    let text = lines(alloc, &[answer])?;
+    Ok(text.as_slice() == b"line 14: refused, memory\n".as_slice())
+}
 
 #[test]
 fn a_line_for_each_answer(rt: HostRuntime) -> Result<(), Fail> {
     let text = lines(rt.alloc(), ANSWERS)?;
     expect(&rt, text.as_slice() == LINES, "lines");
+    'causes: for &cause in CAUSES_OF_MEMORY {
+        expect(&rt, is_refused_for_memory(rt.alloc(), cause)?, "memory");
+    }
     Ok(())
 }
 
-/// Faults, and the line that is written for each.
+/// Faults in which memory is out.
+const FAULTS_OF_MEMORY: &[Fault] = &[
+    Fault::Input(InputFault::Memory),
+    Fault::Claims(ClaimFault::Memory),
+    Fault::Tool(ToolFault::Memory),
+    Fault::Tool(ToolFault::BadTable(TableFault::Memory)),
+    Fault::Tool(ToolFault::Convert(ConvertFault::Memory)),
+    Fault::Tool(ToolFault::Convert(ConvertFault::BadPattern(PatternFault::Macro(
+        MacroFault::Memory,
+    )))),
+];
+
+/// Other faults, and the line that is written for each.
 const COMPLAINTS: &[(Fault, &str)] = &[
-    (Fault::Input(InputFault::Memory), "cafile: memory\n"),
-    (Fault::Claims(ClaimFault::Memory), "cafile: memory\n"),
-    (Fault::Tool(ToolFault::Memory), "cafile: memory\n"),
     (
         Fault::Tool(ToolFault::Input(InputFault::TooLong)),
         "cafile: too long p\n",
     ),
     (
-        Fault::Tool(ToolFault::BadTable(TableFault::Memory)),
-        "cafile: memory\n",
-    ),
-    (
         Fault::Tool(ToolFault::BadTable(TableFault::Wakes { line: u64::MAX })),
         "cafile: bad table: line 18446744073709551615 wakes\n",
-    ),
-    (
-        Fault::Tool(ToolFault::Convert(ConvertFault::Memory)),
-        "cafile: memory\n",
-    ),
-    (
-        Fault::Tool(ToolFault::Convert(ConvertFault::BadPattern(PatternFault::Macro(
-            MacroFault::Memory,
-        )))),
-        "cafile: memory\n",
     ),
     (
         Fault::Tool(ToolFault::Convert(ConvertFault::BadPattern(PatternFault::Macro(
@@ -118,6 +115,13 @@ fn complains(alloc: Global, fault: &Fault, line: &str) -> bool {
 
 #[test]
 fn a_line_for_each_fault(rt: HostRuntime) {
+    'memory: for fault in FAULTS_OF_MEMORY {
+        expect(
+            &rt,
+            complains(rt.alloc(), fault, "cafile: memory\n"),
+            "memory",
+        );
+    }
     'faults: for (fault, line) in COMPLAINTS {
         expect(&rt, complains(rt.alloc(), fault, line), "a line");
     }
@@ -154,7 +158,20 @@ fn is_fault(alloc: Global, fault: &Fault, text: &str) -> Result<bool, AllocError
     Ok(format!(in alloc; "{fault}")?.as_str() == text)
 }
 
-/// Causes in the words of their crates.
+/// The faults of RLE texts, and the words of the causes that they are.
+const RLE_FAULTS: &[(RleFault, &str)] = &[
+    (RleFault::Syntax, "rle: syntax"),
+    (RleFault::Header, "rle: no header"),
+    (RleFault::XlifeRule, "rle: a rule in XLife's way"),
+    (RleFault::NoEnd, "rle: no end"),
+    (RleFault::BadState, "rle: a state above 255"),
+    (RleFault::Range, "rle: out of range"),
+    (RleFault::TooManyCells, "rle: too many cells"),
+    (RleFault::GenTooLarge, "rle: the generation is too large"),
+    (RleFault::Memory, "rle: out of memory"),
+];
+
+/// Other causes in the words of their crates.
 const CAUSES: &[(Cause, &str)] = &[
     (Cause::NoFile, "no file"),
     (
@@ -164,42 +181,6 @@ const CAUSES: &[(Cause, &str)] = &[
     (
         Cause::BadTable(TableFault::Memory),
         "rule table: out of memory",
-    ),
-    (
-        Cause::BadPattern(PatternFault::Rle(RleFault::Syntax)),
-        "rle: syntax",
-    ),
-    (
-        Cause::BadPattern(PatternFault::Rle(RleFault::Header)),
-        "rle: no header",
-    ),
-    (
-        Cause::BadPattern(PatternFault::Rle(RleFault::XlifeRule)),
-        "rle: a rule in XLife's way",
-    ),
-    (
-        Cause::BadPattern(PatternFault::Rle(RleFault::NoEnd)),
-        "rle: no end",
-    ),
-    (
-        Cause::BadPattern(PatternFault::Rle(RleFault::BadState)),
-        "rle: a state above 255",
-    ),
-    (
-        Cause::BadPattern(PatternFault::Rle(RleFault::Range)),
-        "rle: out of range",
-    ),
-    (
-        Cause::BadPattern(PatternFault::Rle(RleFault::TooManyCells)),
-        "rle: too many cells",
-    ),
-    (
-        Cause::BadPattern(PatternFault::Rle(RleFault::GenTooLarge)),
-        "rle: the generation is too large",
-    ),
-    (
-        Cause::BadPattern(PatternFault::Rle(RleFault::Memory)),
-        "rle: out of memory",
     ),
     (
         Cause::BadPattern(PatternFault::Macro(MacroFault::Level)),
@@ -229,6 +210,10 @@ fn is_cause(alloc: Global, cause: &Cause, text: &str) -> Result<bool, AllocError
 fn faults_and_causes_tell_why(rt: HostRuntime) -> Result<(), Fail> {
     'faults: for (fault, text) in FAULTS {
         expect(&rt, is_fault(rt.alloc(), fault, text)?, "a fault");
+    }
+    'rle_faults: for &(fault, text) in RLE_FAULTS {
+        let cause = Cause::BadPattern(PatternFault::Rle(fault));
+        expect(&rt, is_cause(rt.alloc(), &cause, text)?, "an RLE's fault");
     }
     'causes: for (cause, text) in CAUSES {
         expect(&rt, is_cause(rt.alloc(), cause, text)?, "a cause");
