@@ -1,12 +1,12 @@
 -- The words of a claim that has numbers, and how claims are held with numbers of 64 bits.
-use Rattle.std.proofs.Common.{◌≡◌, ◌≢◌, ℕ, Option, ◌-◌, ◌^◌, ◌<◌, min, List, [], ◌∷◌, codes, refl, sym, ap, subst, ◌∙◌, arith, w64, to_z, of_z}
+use Rattle.std.proofs.Common.{◌≡◌, ◌≢◌, ℕ, Bor, Option, None, ◌-◌, ◌^◌, ◌<◌, min, List, [], ◌∷◌, codes, refl, sym, ap, subst, ◌∙◌, arith, w64, to_z, of_z}
 use Rattle.std.specs.Prelude.{ℤ, FitsSigned}
 use Rattle.std.proofs.lemmas.Int.{ints, to_z-of_z}
-use Rattle.ca_plane.specs.Bytes.{AreDigits, IsInteger}
+use Rattle.ca_plane.specs.Bytes.{AreDigits, IsInteger, value}
 use Rattle.ca_claims.specs.declared.claims.line.Kind.{Kind}
 use Rattle.ca_claims.specs.declared.claims.line.Kind.TheVariants.{Still, Oscillator, Spaceship, Becomes, BecomesShifted, Dies}
 use Rattle.ca_claims.specs.Text.{WordsClaim, HasGoodNumbers, IsShift, ClaimTextLine, IsKindAfter}
-use Rattle.ca_claims.specs.inner.Reading.{IsHeldShift, IsHeldKind, MakeNoClaim}
+use Rattle.ca_claims.specs.inner.Reading.{IsHeldShift, IsHeldKind, MakeNoClaim, MakesClaim}
 
 -- what stands after a word that begins equal words
 behind_word : (w : List ℕ) (vs ws : List (List ℕ)) → w ∷ vs ≡ w ∷ ws → vs ≡ ws
@@ -78,13 +78,13 @@ module _ (kind : ℕ → Kind) (few : (n : ℕ) → HasGoodNumbers (kind n) → 
     after = λ earlier. (stays n held earlier, stays held n earlier);
   }
 
-pub held_oscillator : (n held : ℕ) → held ≡ min n (2 ^ 64 - 1) → IsHeldKind (Oscillator n) (Oscillator held)
+held_oscillator : (n held : ℕ) → held ≡ min n (2 ^ 64 - 1) → IsHeldKind (Oscillator n) (Oscillator held)
 held_oscillator = held_kind Oscillator (λ n good. omega arith) (λ n m earlier h. h)
 
 pub held_becomes : (n held : ℕ) → held ≡ min n (2 ^ 64 - 1) → IsHeldKind (Becomes n) (Becomes held)
 held_becomes = held_kind Becomes (λ n good. omega arith) (λ n m earlier h. h)
 
-pub held_dies : (n held : ℕ) → held ≡ min n (2 ^ 64 - 1) → IsHeldKind (Dies n) (Dies held)
+held_dies : (n held : ℕ) → held ≡ min n (2 ^ 64 - 1) → IsHeldKind (Dies n) (Dies held)
 held_dies = held_kind Dies (λ n good. omega arith) (λ n m earlier h. h)
 
 -- what is held reads so as an `i64`
@@ -115,3 +115,11 @@ held_spaceship = held_move Spaceship (λ n x y good. (omega arith, good.2, good.
 pub held_shifted : (n held : ℕ) (dx dy x y : ℤ) → held ≡ min n (2 ^ 64 - 1) → IsHeldShift dx x → IsHeldShift dy y
     → IsHeldKind (BecomesShifted n dx dy) (BecomesShifted held (to_z w64 (of_z w64 x)) (to_z w64 (of_z w64 y)))
 held_shifted = held_move BecomesShifted (λ n x y good. (omega arith, good.1, good.2)) (λ n m dx dy x y earlier h. h)
+
+-- a name and a number make an oscillator's claim after its keyword, and that of a pattern that dies after its own
+module _ (words : List (List ℕ)) (name : Bor (List ℕ)) (held : ℕ) (h : (n : List ℕ) × (words ≡ name.now ∷ n ∷ []) × AreDigits n × (held ≡ min (value n) (2 ^ 64 - 1))) where
+  pub makes_oscillator : MakesClaim (codes "oscillator" ∷ words) (record { pattern = name; other = None; kind = Oscillator held })
+  makes_oscillator = (Oscillator (value h.0), (h.0, ap (λ ws. codes "oscillator" ∷ ws) h.1, h.2, refl, refl), held_oscillator (value h.0) held h.3)
+
+  pub makes_dying : MakesClaim (codes "dies" ∷ words) (record { pattern = name; other = None; kind = Dies held })
+  makes_dying = (Dies (value h.0), (h.0, ap (λ ws. codes "dies" ∷ ws) h.1, h.2, refl, refl), held_dies (value h.0) held h.3)
