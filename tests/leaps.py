@@ -323,8 +323,8 @@ def try_many_squares(claims):
         claims.judge(f"{side} by {side} cells without order, {rule}", text)
 
 
-# Planes whose squares of 16 by 16 cells are all different: how many leaves each part of these may be. Their levels are 8 to 12: a dense plane is stepped for
-# as many generations as four times its side. One of level 14 has more than a million squares, and some millions of cells.
+# Planes whose squares of 16 by 16 cells are all different: how many leaves each part of these may be. Their levels are 8 to 12, and the
+# times of their claims are up to four times their side. One of level 14 has more than a million squares, and some millions of cells.
 DENSE = ((4, 4, 4, 4), (8, 8, 4, 4), (8, 8, 8, 8), (16, 16, 8, 8), (16, 16, 16, 16))
 LARGE = (32, 32, 32, 32)
 
@@ -359,7 +359,7 @@ def try_a_million_squares(claims):
 
 
 def try_dense_beside_sparse(claims):
-    """Far gliders are leapt over, however few the generations are beside the side of their square: stepped word by word they take a thousand times as long."""
+    """Far gliders are leapt over, however few the generations are beside the side of their square: stepped cell by cell they take a thousand times as long."""
     text = claims.text()
     for name, dx in (("before", -20000), ("after", -10000)):
         text.load(name, f"#CXRLE Pos={dx},{dx}\nx = 1, y = 1, rule = B3/S23\nbo39998bo$2bo39998bo$3o39996b3o!\n")

@@ -30,8 +30,8 @@ impl<A: Automaton> Leaper<A> {
     }
 
     /// The same, while someone watches, who sees after most leaps how many generations are reached. Where n
-    /// is 2^60, there is one leap, and nothing is seen after it. Where the plane is stepped, it is after each
-    /// four generations.
+    /// is 2^60, there may be one leap, and nothing is seen after it. Where the plane is stepped, it is after
+    /// each generation.
     ///
     /// # Errors
     ///

@@ -26,7 +26,7 @@ const GREATEST: u8 = 62;
 const AT_A_TIME: u64 = 1024;
 
 // How many walls are made at most, one after the other.
-const MOST_WALLS: u64 = 16;
+const MOST_WALLS: u64 = 8;
 
 /// A tree that a run has reached, and after how many generations.
 #[derive(Clone, Copy)]
@@ -141,7 +141,7 @@ impl<A: Automaton> Leaper<A> {
         let Some(frame) = frame_of(bounds, margin as usize) else {
             return Ok(None);
         };
-        if self.store.count() / 32 < frame.held() {
+        if self.store.count() / 16 < frame.held() {
             return Ok(None);
         }
         self.wall_of(alloc, tree, &frame)

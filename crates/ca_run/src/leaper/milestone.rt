@@ -11,9 +11,9 @@ use ca_plane::Automaton;
 use ca_quad::Tree;
 use std::marker::Model;
 
-/// A number of generations that a run reports. It is made in this module's crate alone, with a tree or rows
-/// that show the plane of some tree after that many generations. That this is the tree with which the run
-/// began is tested.
+/// A number of generations that a run reports. It is made in this module's crate alone, with a tree or a
+/// wall of bricks that shows the plane of some tree after that many generations. That this is the tree with
+/// which the run began is tested.
 #[derive(Clone, Copy)]
 pub struct Milestone {
     generations: u64,
