@@ -1,5 +1,5 @@
 -- The least box round live cells is in range just where they are.
-use Rattle.std.proofs.Common.{◌≡◌, ℕ, ◌≤◌, ℤ, pos, neg_ℤ, ◌<ℤ◌, ◌≤ℤ◌, [], ◌∷◌, ◌&&◌, inl, inr, arith, refl, sym, subst, ◌∙◌}
+use Rattle.std.proofs.Common.{◌≡◌, ℕ, ◌≤◌, ℤ, pos, neg_ℤ, ◌<ℤ◌, ◌≤ℤ◌, [], ◌∷◌, List, ◌&&◌, inl, inr, arith, refl, sym, subst, ◌∙◌}
 use Rattle.std.specs.Ordering.{int_eq}
 use Rattle.std.proofs.lemmas.Bool.{cases_Bool}
 use Rattle.std.proofs.lemmas.List.Elements.{All-head, All-tail}
@@ -10,6 +10,10 @@ use Rattle.std.proofs.lemmas.Int.{ints}
 use Rattle.ca_plane.specs.Limits.{range, IsInRange}
 use Rattle.ca_quad.specs.declared.tree.WideBounds.{WideBounds}
 use Rattle.ca_quad.specs.Boxes.{IsLeastWideBox}
+use Rattle.ca_quad.specs.declared.node.Node.{Node}
+use Rattle.ca_quad.specs.declared.tree.Tree.{Tree}
+use Rattle.ca_quad.specs.Trees as trees
+use Rattle.ca_quad.proofs.Reach.{tree_holds}
 use Rattle.ca_macro.specs.Pattern.{AreInRange}
 
 -- a box is in range
@@ -55,3 +59,7 @@ cells_in_range (e ∷ es) h x y live =
 -- the same of cells that are those of a picture
 pub range_as : (f g : ℤ → ℤ → ℕ) → ((x y : ℤ) → f x y ≡ g x y) → AreInRange f → AreInRange g
 range_as f g same h x y live = h x y (λ z. live (sym (same x y) ∙ z))
+
+-- a tree of level 61 at most reaches no further than the range
+pub low_in_range : (nodes : List Node) (tree : Tree) → 1 ≤ tree.level → tree.level ≤ 61 → AreInRange (trees.cell nodes tree)
+low_in_range nodes tree some low x y live = let held = tree_holds nodes tree 61 some low x y live in (held.0.0, held.0.1, held.1.0, held.1.1)

@@ -15,6 +15,9 @@ use std::alloc::Global;
 /// Coordinates of live cells are from -2^60 to 2^60 - 1.
 const RANGE: i128 = ca_plane::limits::RANGE;
 
+/// The level of the largest tree that reaches no further.
+const LEVEL_OF_RANGE: u8 = 61;
+
 fn is_in_range(cells: WideBounds) -> bool
     ensures { IsTrue result ↔ ((neg_ℤ (pos range) ≤ℤ cells.x0) × (cells.x1 <ℤ pos range)
         × (neg_ℤ (pos range) ≤ℤ cells.y0) × (cells.y1 <ℤ pos range)) }
@@ -27,13 +30,16 @@ fn is_in_range(cells: WideBounds) -> bool
 /// # Errors
 ///
 /// `Range` where a live cell isn't, and `Memory` where a growth is refused.
-fn check_range(alloc: Global, store: &Store, tree: Tree) -> Result<(), MacroFault>
-    requires { IsTree store.now tree }
-    ensures good { OnOk result (AreInRange (cell store.now tree)) }
+fn check_range(alloc: Global, store: &Store, tree: &Tree) -> Result<(), MacroFault>
+    requires { IsTree store.now tree.now }
+    ensures good { OnOk result (AreInRange (cell store.now tree.now)) }
     ensures fault { IfErr result (λ f. (f ≡ Memory)
-        ⊎ ((f ≡ Range) × (AreInRange (cell store.now tree) → ⊥))) }
+        ⊎ ((f ≡ Range) × (AreInRange (cell store.now tree.now) → ⊥))) }
 {
-    let Some(cells) = store.bounds(alloc, tree)? else {
+    if store.level(tree.root) <= LEVEL_OF_RANGE {
+        return Ok(());
+    }
+    let Some(cells) = store.bounds(alloc, *tree)? else {
         return Ok(());
     };
     if !is_in_range(cells) {
@@ -61,8 +67,7 @@ pub(crate) fn trim_in_range(
         ⊎ ((f ≡ Range) × (AreInRange (cell store.old tree) → ⊥))) }
     ensures grows { Grows store.old store.new }
 {
-    // Says what holds of every store.
-    let _ = store.count();
-    check_range(alloc, store, tree)?;
-    Ok(store.trim(tree)?)
+    let trimmed = store.trim(tree)?;
+    check_range(alloc, store, &trimmed)?;
+    Ok(trimmed)
 }
