@@ -33,5 +33,6 @@ pub mod Shifts
 pub mod Added
 pub mod Bits
 pub mod Words
+pub mod WordExtents
 pub mod MoreStates
 pub mod CutWords

@@ -2,6 +2,7 @@
 pub mod Whole
 pub mod Named
 pub mod Window
+pub mod WordExtent
 pub mod Population
 pub mod Measure
 pub mod Greatest

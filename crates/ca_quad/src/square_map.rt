@@ -1,6 +1,6 @@
 //! Values that belong to squares, by the squares' names.
 
-ghost use Rattle.std.specs.Prelude.{◌≡◌, ℕ, ◌==◌, OnOk, None, Some, cond};
+ghost use Rattle.std.specs.Prelude.{◌≡◌, ℕ, ◌==◌, OnOk, None, Some, cond, length};
 ghost use Rattle.ca_quad.specs.SquareValues.{square_value};
 
 use crate::id::Id;
@@ -31,6 +31,13 @@ impl<V: Copy> SquareMap<V> {
         SquareMap {
             values: HashMap::new(alloc),
         }
+    }
+
+    /// How many squares have a value.
+    pub fn count(&self) -> usize
+        ensures { result ≡ length self.now }
+    {
+        self.values.len()
     }
 
     /// The value of a square, if it has one.

@@ -30,6 +30,7 @@ mod rows;
 mod shifted;
 mod to_plane;
 mod word;
+mod word_extent;
 
 use crate::id::Id;
 use crate::named::Named;

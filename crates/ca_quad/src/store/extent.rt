@@ -3,7 +3,12 @@
 ghost use Rattle.std.specs.Prelude.{◌≡◌, ℕ, ◌+◌, ◌-◌, ◌≤◌, ◌^◌, min};
 ghost use Rattle.ca_quad.specs.inner.Extent.{beside, turned, IsSquareExtent};
 
+use super::bits::rows;
 use super::measure::Measure;
+use super::word_extent::word_extent;
+
+// A number from here on is that of 8 by 8 cells.
+const LEAST_BLOCK: u64 = 65536;
 
 // The least box round the live cells of a square, counted from its corner, both ends included.
 #[derive(Clone, Copy, Drop)]
@@ -41,8 +46,11 @@ impl Measure for Option<Extent> {
         turned(beside(side, turned(north), turned(south)))
     }
 
-    fn of_number(_cells: u64) -> Option<Option<Extent>> {
-        None
+    fn of_number(cells: u64) -> Option<Option<Extent>> {
+        if cells < LEAST_BLOCK {
+            return None;
+        }
+        Some(word_extent(rows(cells)))
     }
 }
 

@@ -29,6 +29,20 @@ impl Store {
         self.live_cells(alloc, tree.root)
     }
 
+    /// How many squares of a tree are looked at to count its live cells: those of 16 by 16 cells and more, and those
+    /// of 4 by 4 and 8 by 8 that have cells of more states. It tells how alike the squares are, and no contract says it.
+    ///
+    /// # Errors
+    ///
+    /// Fails where there is no memory to remember them.
+    pub fn looked_at(&self, alloc: Global, tree: Tree) -> Result<usize, Memory>
+        requires { IsTree self.now tree }
+    {
+        let mut counts = SquareMap::new(alloc);
+        let _: Population = self.measure(tree.root, &mut counts)?;
+        Ok(counts.count())
+    }
+
     // How many cells of a square are live, or the greatest u128 where they are more.
     pub(super) fn live_cells(&self, alloc: Global, id: Id) -> Result<u128, Memory>
         requires { IsIn self.now id }
