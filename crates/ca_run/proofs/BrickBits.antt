@@ -1,12 +1,13 @@
 -- The bits of words that are moved by one, and sums of bits.
-use Rattle.std.proofs.Common.{◌≡◌, ℕ, zero, suc, ◌+◌, ◌-◌, ◌*◌, ◌/◌, ◌%◌, ◌^◌, ◌<◌, min, max, inl, inr, refl, sym, ap, ap₂, ◌∙◌, arith, if◌then◌else◌, nat_lt, Bool}
+use Rattle.std.proofs.Common.{◌≡◌, ℕ, zero, suc, ◌+◌, ◌-◌, ◌*◌, ◌/◌, ◌%◌, ◌^◌, ◌<◌, max, inl, inr, refl, sym, ap, ap₂, ◌∙◌, arith, if◌then◌else◌, nat_lt, Bool, true, false, ◌≤◌, ◌==◌, slice_index}
 use Rattle.std.specs.Prelude.{bit_and, bit_or, bit_xor}
 use Rattle.std.specs.Int.{bit_at}
 use Rattle.std.proofs.lemmas.Bool.{cond_below, cond_above}
 use Rattle.std.proofs.lemmas.Nat.Bits.{bit_at-zero, bit_at-suc, bit_at-lt, bit_at_and, bit_at_or, bit_at_xor, bit_at_cat_low, bit_at_cat_high, bit_at_above, bit_at_ones}
 use Rattle.ca_quad.proofs.Growth.{below_or_not}
-use Rattle.ca_run.specs.inner.Tiles.{lives_next}
-use Rattle.ca_run.specs.inner.Bricks.{wide_bit}
+use Rattle.ca_run.specs.inner.Tiles.{next_by_count}
+use Rattle.ca_run.specs.declared.bricks.word.WordMasks.{WordMasks}
+use Rattle.ca_run.specs.inner.Bricks.{wide_bit, AreWords}
 use Rattle.ca_run.proofs.BitRows.{doubled_bit}
 
 -- ---- sums of bits
@@ -60,12 +61,38 @@ east_bit row east x low h =
 pub middle_bit : (west row east x : ℕ) → x < 64 → wide_bit west row east (suc x) ≡ bit_at row x
 middle_bit west row east x h = sym (cond_below x 64 (bit_at row x) (bit_at east 0) h)
 
--- bits for the cells that are born and for those that stay
-pub lives_next_bits : (born stays : Bool) (n w a b s r : ℕ) → a < 2 → w < 2 → b ≡ (if born then 1 else 0) → s ≡ (if stays then 1 else 0) → r ≡ max (max n (min w b - a)) (min (min w s) a)
-    → r ≡ max n (min w (lives_next born stays a))
-lives_next_bits born stays n w zero b s r low few h k e = omega arith
-lives_next_bits born stays n w (suc zero) b s r low few h k e = omega arith
-lives_next_bits born stays n w (suc (suc a)) b s r low few h k e = absurd (omega arith)
+-- ---- bits that are chosen
+
+pick : (which there elsewhere bit : ℕ) → which < 2 → (which ≡ 0 → bit ≡ elsewhere) → (which ≡ 1 → bit ≡ there) → bit ≡ (if which == 0 then elsewhere else there)
+pick zero there elsewhere bit low none one = none refl
+pick (suc zero) there elsewhere bit low none one = one refl
+pick (suc (suc which)) there elsewhere bit low none one = absurd (omega arith)
+
+pub chosen_bit : (which there elsewhere x : ℕ)
+    → bit_at (bit_xor elsewhere (bit_and which (bit_xor there elsewhere))) x ≡ (if bit_at which x == 0 then bit_at elsewhere x else bit_at there x)
+chosen_bit which there elsewhere x =
+    let outer = bit_at_xor elsewhere (bit_and which (bit_xor there elsewhere)) x in
+    let middle = bit_at_and which (bit_xor there elsewhere) x in
+    let inner = bit_at_xor there elsewhere x in
+    pick (bit_at which x) (bit_at there x) (bit_at elsewhere x) _ (bit_at-lt which x)
+    (λ none. omega (arith, none, outer, middle, inner, bit_at-lt there x, bit_at-lt elsewhere x))
+    (λ one. omega (arith, one, outer, middle, inner, bit_at-lt there x, bit_at-lt elsewhere x))
+
+-- where the bit of a number tells which of two others it is, what is chosen by the bit is told by the number
+pub told_by_bit : (told : ℕ → ℕ) (which low high n there elsewhere bit : ℕ) → which < 2 → bit ≡ (if which == 0 then elsewhere else there)
+    → elsewhere ≡ told low → there ≡ told high → (which ≡ 0 → low ≡ n) → (which ≡ 1 → high ≡ n) → bit ≡ told n
+told_by_bit told zero low high n there elsewhere bit h is e t none one = is ∙ e ∙ ap told (none refl)
+told_by_bit told (suc zero) low high n there elsewhere bit h is e t none one = is ∙ t ∙ ap told (one refl)
+told_by_bit told (suc (suc which)) low high n there elsewhere bit h is e t none one = absurd (omega arith)
+
+-- two words of the masks tell what the masks do
+pub words_tell : (words : WordMasks) (masks : ℕ × ℕ) (centre n x : ℕ) → AreWords words masks → n ≤ 8 → x < 64
+    → (if centre == 0 then bit_at (slice_index words.born n) x else bit_at (slice_index words.stays n) x) ≡ next_by_count masks.0 masks.1 centre n
+words_tell words masks centre n x are low h = ap₂ (λ b s. if centre == 0 then b else s) (are.born n x low h) (are.stays n x low h) ∙ either (centre == 0)
+  where
+    either : (dead : Bool) → (if dead then bit_at masks.0 n else bit_at masks.1 n) ≡ bit_at (if dead then masks.0 else masks.1) n
+    either true = refl
+    either false = refl
 
 -- all bits are 1
 pub ones_bit : (x : ℕ) → x < 64 → bit_at 18446744073709551615 x ≡ 1

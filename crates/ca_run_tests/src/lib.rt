@@ -2,14 +2,4 @@
 #![tactic(auto)]
 
 #[cfg(test)]
-mod bytes;
-#[cfg(test)]
-mod devices;
-#[cfg(test)]
-mod expected;
-#[cfg(test)]
-mod generations;
-#[cfg(test)]
-mod planes;
-#[cfg(test)]
-mod squares;
+mod tests;

@@ -1,12 +1,13 @@
 -- Bricks: 64 by 16 cells of two states, sixteen rows from the top, of which bit 0 is the western-most cell (our own). They lie side by side
 -- in rows of as many, and each has a number: first those of the northern-most row from the west, then those of the next.
-use Rattle.std.specs.Prelude.{◌≡◌, ℕ, zero, suc, ◌+◌, ◌-◌, ◌*◌, ◌/◌, ◌%◌, ◌<◌, ◌≤◌, ℤ, pos, ◌+ℤ◌, ◌≤ℤ◌, ◌<ℤ◌, ◌^◌, neg_ℤ, List, [], length, replicate, get_or, if◌then◌else◌, nat_lt, ◌⊎◌, slice_index}
+use Rattle.std.specs.Prelude.{◌≡◌, ℕ, zero, suc, ◌+◌, ◌-◌, ◌*◌, ◌/◌, ◌%◌, ◌<◌, ◌≤◌, ℤ, pos, ◌+ℤ◌, ◌≤ℤ◌, ◌<ℤ◌, ◌^◌, neg_ℤ, List, [], length, replicate, get_or, if◌then◌else◌, nat_lt, ◌⊎◌, slice_index, bit_and, bit_or}
 use Rattle.std.specs.Int.{bit_at}
 use Rattle.ca_plane.specs.Generations.{cells_after}
 use Rattle.ca_quad.specs.Trees.{row_cells}
 use Rattle.ca_run.specs.declared.bricks.round.Round.{Round}
 use Rattle.ca_run.specs.declared.bricks.wall.Wall.{Wall}
 use Rattle.ca_run.specs.declared.bricks.word.WordCount.{WordCount}
+use Rattle.ca_run.specs.declared.bricks.word.WordMasks.{WordMasks}
 use Rattle.ca_run.specs.declared.bricks.word.WordPair.{WordPair}
 use Rattle.ca_run.specs.declared.bricks.wall.WordPlace.{WordPlace}
 use Rattle.ca_run.specs.inner.Words.{eight}
@@ -129,6 +130,21 @@ round_cells round x y = wide_bit (slice_index round.west y) (slice_index round.h
 -- the next state of the cell at (x + 1, y + 1)
 abbrev pub next_at : ℕ × ℕ → (ℕ → ℕ → ℕ) → ℕ → ℕ → ℕ
 next_at masks at x y = next_by_count masks.0 masks.1 (at (suc x) (suc y)) (sum_round at x y)
+
+-- ---- masks as words
+
+-- for each number up to 8 a word with the bit of the mask at each place
+abbrev pub IsWordOfEach : ℕ → List ℕ → Type 0
+IsWordOfEach mask words = (n x : ℕ) → n ≤ 8 → x < 64 → bit_at (slice_index words n) x ≡ bit_at mask n
+
+-- the words of both masks
+pub record AreWords (words : WordMasks) (masks : ℕ × ℕ) : Type 0 where
+  pub born : IsWordOfEach masks.0 words.born
+  pub stays : IsWordOfEach masks.1 words.stays
+
+-- neither mask has a number but 2 and 3: 499 is the mask of the others up to 8
+abbrev pub HasTwoAndThreeAlone : ℕ × ℕ → Type 0
+HasTwoAndThreeAlone masks = bit_and (bit_or masks.0 masks.1) 499 ≡ 0
 
 -- ---- generations
 

@@ -45,18 +45,6 @@ impl Span {
     {
         self.low <= piece && piece <= self.high
     }
-
-    // How many hold a part of the box.
-    fn held(&self) -> usize {
-        self.high.saturating_sub(self.low).saturating_add(1)
-    }
-}
-
-impl Frame {
-    /// How many pieces hold a part of the box, as far as numbers go.
-    pub(crate) fn held(&self) -> usize {
-        self.columns.held().saturating_mul(self.rows.held())
-    }
 }
 
 // The pieces of a side of a box, with a margin of so many cells and a piece beyond it at both ends: none, where they are too

@@ -4,7 +4,7 @@ ghost use Rattle.std.specs.Prelude.{◌≡◌, ◌<◌, ℕ, suc};
 ghost use Rattle.ca_quad.specs.Trees.{row_cells};
 ghost use Rattle.ca_run.specs.inner.Bricks.{round_cells, sum_of_three, sum_of_two, pair_at, next_at};
 
-use super::word::{WordCount, WordSums, next_word};
+use super::word::{NextCells, WordCount, WordSums};
 
 // Three columns of 18 words: in the middle the rows of a brick with the one above them and the one below, and beside
 // them those of the bricks in the west and in the east.
@@ -16,20 +16,19 @@ pub(super) struct Round {
 }
 
 impl Round {
-    // The rows of the brick one generation on, under the rule that goes by these masks.
+    // The rows of the brick one generation on.
     #[inline(always)]
-    pub(super) fn next(&self, masks: (u16, u16)) -> [u64; 16]
-        ensures { (x y : ℕ) → x < 64 → y < 16
+    pub(super) fn next<N: NextCells>(&self, cells: &N) -> [u64; 16]
+        ensures { (masks : ℕ × ℕ) (x y : ℕ) → N.goes_by cells.now masks → x < 64 → y < 16
             → row_cells result x y ≡ next_at masks (round_cells self.now) x y }
     {
-        let (birth, survive) = masks;
         let mut next = [0; 16];
         let mut above = self.sums(0);
         let mut here = self.sums(1);
         'rows: for y in 0..16 {
             let below = self.sums(y + 2);
             let count = WordCount::neighbours(above, here, below);
-            next[y] = next_word(self.here[y + 1], count, birth, survive);
+            next[y] = cells.next_word(self.here[y + 1], count);
             above = here;
             here = below;
         }

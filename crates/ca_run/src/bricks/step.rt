@@ -6,6 +6,7 @@ ghost use Rattle.ca_run.specs.inner.Bricks.{HasNeighbours, AllHaveNeighbours, Ha
 
 use super::queue::Queue;
 use super::round::Round;
+use super::word::{ByAll, ByTwoAndThree, NextCells, has_two_and_three_alone};
 use ca_plane::Memory;
 
 // One generation: what was now is then before. Those bricks of the list are stepped which may have changed.
@@ -57,8 +58,37 @@ fn step(
     ensures others { OnOk result ((t : ℕ) → (HasNeighbours across (length now.now) t → ⊥)
         → get_or old.new t [] ≡ get_or old.old t []) }
 {
+    if has_two_and_three_alone(masks) {
+        return step_by::<ByTwoAndThree>(across, now, old, awake, queue, masks);
+    }
+    step_by::<ByAll>(across, now, old, awake, queue, masks)
+}
+
+// The same, where the masks suit how next cells are told.
+fn step_by<N: NextCells>(
+    across: usize,
+    now: &[[u64; 16]],
+    old: &mut [[u64; 16]],
+    awake: &[usize],
+    queue: &mut Queue,
+    masks: (u16, u16),
+) -> Result<(), Memory>
+    requires room { across + length now.now < 2 ^ 63 }
+    requires size { length old.old ≡ length now.now }
+    requires inside { AllHaveNeighbours across (length now.now) awake.now }
+    requires rest { Rest masks across now.now old.old awake.now }
+    requires suits { N.suits masks }
+    ensures next { OnOk result ((t : ℕ) → HasNeighbours across (length now.now) t
+        → IsNextBrick masks across now.now old.new t) }
+    ensures same { OnOk result ((t : ℕ) → HasNeighbours across (length now.now) t → IsNotIn queue.new t
+        → IsSameRound across old.old old.new t) }
+    ensures grows { OnOk result (QueueGrows across (length now.now) queue.old queue.new) }
+    ensures others { OnOk result ((t : ℕ) → (HasNeighbours across (length now.now) t → ⊥)
+        → get_or old.new t [] ≡ get_or old.old t []) }
+{
+    let cells = N::of(masks);
     'bricks: for &s in awake {
-        let next = round_of(now, across, s).next(masks);
+        let next = round_of(now, across, s).next(&cells);
         wake_round(queue, s, across, now.len(), &next, &old[s])?;
         old[s] = next;
     }

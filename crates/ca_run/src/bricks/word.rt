@@ -1,9 +1,9 @@
 //! Words of 64 cells side by side: sums of their bits, and the next state of each cell.
 
-ghost use Rattle.std.specs.Prelude.{◌≡◌, ◌+◌, ◌-◌, ◌<◌, ◌≤◌, ℕ, suc, min, max, ◌==◌, if◌then◌else◌};
+ghost use Rattle.std.specs.Prelude.{◌≡◌, ◌↔◌, ◌+◌, ◌-◌, ◌*◌, ◌<◌, ◌≤◌, ℕ, suc, ⊤, IsTrue, ◌==◌, if◌then◌else◌};
 ghost use Rattle.std.specs.Int.{bit_at};
-ghost use Rattle.ca_run.specs.inner.Bricks.{wide_bit, pair_at, count_at};
-ghost use Rattle.ca_run.specs.inner.Tiles.{lives_next, next_by_count};
+ghost use Rattle.ca_run.specs.inner.Bricks.{wide_bit, pair_at, count_at, IsWordOfEach, AreWords, HasTwoAndThreeAlone};
+ghost use Rattle.ca_run.specs.inner.Tiles.{next_by_count};
 
 use crate::kernel::is_in;
 
@@ -128,69 +128,152 @@ fn all_bits(set: bool) -> u64
     if set { u64::MAX } else { 0 }
 }
 
-// The next state of each cell, from the number of live cells round it.
+// At each place the bit of `there` where `which` has one, else that of `elsewhere`.
 #[inline(always)]
-pub(super) fn next_word(alive: u64, count: WordCount, birth: u16, survive: u16) -> u64
-    ensures { (x : ℕ) → x < 64 → count_at count x ≤ 8
-        → bit_at result x ≡ next_by_count birth survive (bit_at alive x) (count_at count x) }
+fn chosen(which: u64, there: u64, elsewhere: u64) -> u64
+    ensures { (x : ℕ) → bit_at result x
+        ≡ (if bit_at which x == 0 then bit_at elsewhere x else bit_at there x) }
 {
-    let WordCount {
-        ones,
-        twos,
-        fours,
-        eights,
-    } = count;
-    let two_or_three = and_not(twos, fours);
-    let next = with_pair(0, alive, ones, two_or_three, birth, survive, 2);
-    if (birth | survive) & FEW_OR_MANY == 0 {
-        return next;
+    elsewhere ^ which & (there ^ elsewhere)
+}
+
+// For each number of live cells round a cell a word of ones where a dead cell is born then, and one where a live cell
+// stays, else words of zeros.
+#[derive(Clone, Copy)]
+struct WordMasks {
+    born: [u64; 9],
+    stays: [u64; 9],
+}
+
+impl WordMasks {
+    // The words of the masks.
+    fn of(masks: (u16, u16)) -> WordMasks
+        ensures { AreWords result masks }
+    {
+        WordMasks {
+            born: words_of(masks.0),
+            stays: words_of(masks.1),
+        }
     }
-    let none_or_one = and_not(u64::MAX, twos | fours | eights);
-    let next = with_pair(next, alive, ones, none_or_one, birth, survive, 0);
-    let four_or_five = and_not(fours, twos);
-    let next = with_pair(next, alive, ones, four_or_five, birth, survive, 4);
-    let six_or_seven = fours & twos;
-    let next = with_pair(next, alive, ones, six_or_seven, birth, survive, 6);
-    with_count(next, alive, eights, is_in(birth, 8), is_in(survive, 8))
+
+    // The next states of cells that have so many live cells round them.
+    #[inline(always)]
+    fn next(&self, alive: u64, n: usize) -> u64
+        requires { n ≤ 8 }
+        ensures { (masks : ℕ × ℕ) (x : ℕ) → AreWords self.now masks → x < 64
+            → bit_at result x ≡ next_by_count masks.0 masks.1 (bit_at alive x) n }
+    {
+        chosen(alive, self.stays[n], self.born[n])
+    }
+
+    // The next states of cells that have so many live cells round them, or one more where `ones` tells it.
+    #[inline(always)]
+    fn next_of_two(&self, alive: u64, ones: u64, n: usize) -> u64
+        requires { n ≤ 7 }
+        ensures { (masks : ℕ × ℕ) (x : ℕ) → AreWords self.now masks → x < 64
+            → bit_at result x ≡ next_by_count masks.0 masks.1 (bit_at alive x) (n + bit_at ones x) }
+    {
+        chosen(ones, self.next(alive, n + 1), self.next(alive, n))
+    }
+
+    // The next states of cells that have so many live cells round them, and as many more as the two lowest digits of
+    // the counts tell.
+    #[inline(always)]
+    fn next_of_four(&self, alive: u64, count: WordCount, n: usize) -> u64
+        requires { n ≤ 5 }
+        ensures { (masks : ℕ × ℕ) (x : ℕ) → AreWords self.now masks → x < 64
+            → bit_at result x ≡ next_by_count masks.0 masks.1 (bit_at alive x)
+            (n + bit_at count.ones x + 2 * bit_at count.twos x) }
+    {
+        chosen(
+            count.twos,
+            self.next_of_two(alive, count.ones, n + 2),
+            self.next_of_two(alive, count.ones, n),
+        )
+    }
 }
 
-// These bits, and the next states of those cells which have `least` live cells round them, or one more where
-// `ones` tells it.
-#[inline(always)]
-fn with_pair(
-    next: u64,
-    alive: u64,
-    ones: u64,
-    which: u64,
-    birth: u16,
-    survive: u16,
-    least: u8,
-) -> u64
-    requires { least < 8 }
-    ensures { (x : ℕ) → x < 64 → bit_at result x ≡ max (bit_at next x)
-        (min (bit_at which x) (next_by_count birth survive (bit_at alive x) (least + bit_at ones x))) }
+// For each number a word of ones where the mask has it, else of zeros.
+fn words_of(mask: u16) -> [u64; 9]
+    ensures { IsWordOfEach mask result }
 {
-    let next = with_count(
-        next,
-        alive,
-        and_not(which, ones),
-        is_in(birth, least),
-        is_in(survive, least),
-    );
-    with_count(
-        next,
-        alive,
-        which & ones,
-        is_in(birth, least + 1),
-        is_in(survive, least + 1),
-    )
+    let mut words = [0; 9];
+    'numbers: for n in 0..9u8 {
+        words[usize::from(n)] = all_bits(is_in(mask, n));
+    }
+    words
 }
 
-// These bits, and those of `which` for the cells that are born or stay.
-#[inline(always)]
-fn with_count(next: u64, alive: u64, which: u64, born: bool, stays: bool) -> u64
-    ensures { (x : ℕ) → x < 64 → bit_at result x ≡ max (bit_at next x)
-        (min (bit_at which x) (lives_next born stays (bit_at alive x))) }
+// How the next states of 64 cells are told.
+pub(super) trait NextCells: Copy {
+    // The masks that it can go by.
+    ghost suits: { ℕ × ℕ → Type 0 };
+    // Whether it goes by the masks.
+    ghost goes_by: { Self → ℕ × ℕ → Type 0 };
+
+    // That which goes by these masks.
+    fn of(masks: (u16, u16)) -> Self
+        requires { suits masks }
+        ensures { goes_by result masks };
+
+    // The next state of each cell, from the number of live cells round it.
+    fn next_word(&self, alive: u64, count: WordCount) -> u64
+        ensures { (masks : ℕ × ℕ) (x : ℕ) → goes_by self.now masks → x < 64 → count_at count x ≤ 8
+            → bit_at result x ≡ next_by_count masks.0 masks.1 (bit_at alive x) (count_at count x) };
+}
+
+// By the words for 2 and 3, where no cell is live next by another number.
+#[derive(Clone, Copy)]
+pub(super) struct ByTwoAndThree {
+    words: WordMasks,
+}
+
+impl NextCells for ByTwoAndThree {
+    ghost suits = { HasTwoAndThreeAlone };
+
+    ghost goes_by = { λ by masks. HasTwoAndThreeAlone masks × AreWords by.words masks };
+
+    fn of(masks: (u16, u16)) -> ByTwoAndThree {
+        ByTwoAndThree {
+            words: WordMasks::of(masks),
+        }
+    }
+
+    #[inline(always)]
+    fn next_word(&self, alive: u64, count: WordCount) -> u64 {
+        and_not(count.twos, count.fours) & self.words.next_of_two(alive, count.ones, 2)
+    }
+}
+
+// By the words for all numbers.
+#[derive(Clone, Copy)]
+pub(super) struct ByAll {
+    words: WordMasks,
+}
+
+impl NextCells for ByAll {
+    ghost suits = { λ masks. ⊤ };
+
+    ghost goes_by = { λ by masks. AreWords by.words masks };
+
+    fn of(masks: (u16, u16)) -> ByAll {
+        ByAll {
+            words: WordMasks::of(masks),
+        }
+    }
+
+    #[inline(always)]
+    fn next_word(&self, alive: u64, count: WordCount) -> u64 {
+        let below = self.words.next_of_four(alive, count, 0);
+        let above = self.words.next_of_four(alive, count, 4);
+        let low = chosen(count.fours, above, below);
+        chosen(count.eights, self.words.next(alive, 8), low)
+    }
+}
+
+// Whether no cell is live next by another number than 2 and 3.
+pub(super) fn has_two_and_three_alone(masks: (u16, u16)) -> bool
+    ensures { IsTrue result ↔ HasTwoAndThreeAlone masks }
 {
-    next | and_not(which & all_bits(born), alive) | which & all_bits(stays) & alive
+    (masks.0 | masks.1) & FEW_OR_MANY == 0
 }

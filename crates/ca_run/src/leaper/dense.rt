@@ -11,11 +11,14 @@ use super::Leaper;
 use crate::bricks::{Wall, frame_of};
 use crate::watch::Watch;
 use ca_plane::{Automaton, Memory};
-use ca_quad::Tree;
+use ca_quad::{Tree, WideBounds};
 use std::alloc::Global;
 
 // The fewest generations for which it pays to read all bricks.
 const FEWEST: u64 = 32;
+
+// The fewest squares of a tree whose bricks are stepped.
+const FEWEST_SQUARES: usize = 16;
 
 // The levels of trees of which bricks are read.
 const LEAST: u8 = 7;
@@ -28,6 +31,9 @@ const AT_A_TIME: u64 = 1024;
 // How many walls are made at most, one after the other.
 const MOST_WALLS: u64 = 8;
 
+// How many bricks a wall has at most for each that is stepped in a generation.
+const MOST_RESTING: u64 = 128;
+
 /// A tree that a run has reached, and after how many generations.
 #[derive(Clone, Copy)]
 pub(super) struct Reached {
@@ -35,15 +41,16 @@ pub(super) struct Reached {
     pub(super) generations: u64,
 }
 
-// What is reached by one wall, and how many of its bricks were stepped in a generation.
+// What is reached by one wall, how many bricks it has, and how many of them were stepped in a generation.
 #[derive(Clone, Copy)]
 struct Stretch {
     reached: Reached,
+    bricks: u64,
     work: u64,
 }
 
 impl<A: Automaton> Leaper<A> {
-    // What is reached of n generations by stepping all bricks, as far as that likely takes less time than to leap.
+    // What is reached of n generations by stepping bricks, as far as that likely takes less time than to leap.
     pub(super) fn step_dense<W: Watch>(
         &mut self,
         tree: &Tree,
@@ -69,6 +76,9 @@ impl<A: Automaton> Leaper<A> {
         if n < FEWEST || !self.full_leaps.is_empty() {
             return Ok(reached);
         }
+        if !self.is_dense(tree)? {
+            return Ok(reached);
+        }
         let mut most = 0;
         'walls: for _ in 0..MOST_WALLS {
             let Some(stretch) = self.step_wall(masks, tree, &reached, n, watch)? else {
@@ -76,18 +86,37 @@ impl<A: Automaton> Leaper<A> {
             };
             let Stretch {
                 reached: next,
+                bricks,
                 work,
             } = stretch;
             reached = next;
             most = work.max(most);
-            if work < most / 4 {
+            let least = (most / 4).max(bricks / MOST_RESTING);
+            if work < least {
                 return Ok(reached);
             }
         }
         Ok(reached)
     }
 
-    // What is reached by one wall more, where the plane is dense.
+    // Whether the squares of a tree hardly repeat: in a box of squares of 16 by 16 cells that are all unlike there are
+    // a third as many larger ones.
+    fn is_dense(&self, tree: &Tree) -> Result<bool, Memory>
+        requires { IsTree self.now.nodes tree.now }
+    {
+        let alloc = self.recent_centres.allocator();
+        let squares = self.store.looked_at(alloc, *tree)?;
+        if squares < FEWEST_SQUARES {
+            return Ok(false);
+        }
+        let Some(bounds) = self.store.bounds(alloc, *tree)? else {
+            return Ok(false);
+        };
+        let room = room_in(bounds);
+        Ok(squares as i128 >= room.saturating_add(room / 5))
+    }
+
+    // What is reached by one wall more, where the plane is not too large.
     fn step_wall<W: Watch>(
         &mut self,
         masks: (u16, u16),
@@ -117,11 +146,12 @@ impl<A: Automaton> Leaper<A> {
                 tree,
                 generations: reached.generations + left,
             },
+            bricks: later.bricks.len() as u64,
             work: later.work / left,
         }))
     }
 
-    // The wall of a tree with a margin of so many cells, where its squares hardly repeat and it is not too large.
+    // The wall of a tree with a margin of so many cells, where it is not too large.
     fn dense_wall(&self, alloc: Global, tree: &Tree, margin: u64) -> Result<Option<Wall>, Memory>
         requires tree { IsTree self.now.nodes tree.now }
         requires margin { margin ≤ 2 ^ 60 }
@@ -141,9 +171,15 @@ impl<A: Automaton> Leaper<A> {
         let Some(frame) = frame_of(bounds, margin as usize) else {
             return Ok(None);
         };
-        if self.store.count() / 16 < frame.held() {
-            return Ok(None);
-        }
         self.wall_of(alloc, tree, &frame)
     }
+}
+
+// For how many squares of 16 by 16 cells there is room in a box.
+fn room_in(bounds: WideBounds) -> i128 {
+    let columns = bounds.x1.saturating_sub(bounds.x0) / 16;
+    let rows = bounds.y1.saturating_sub(bounds.y0) / 16;
+    columns
+        .saturating_add(1)
+        .saturating_mul(rows.saturating_add(1))
 }

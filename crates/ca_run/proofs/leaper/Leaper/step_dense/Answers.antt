@@ -20,8 +20,8 @@ returns-in_default-2-clause-reached g c =
     reached_before next s0 s2 s2 tree c.args.n c.walls.reached sound on.grows c.requires.tree
     (reached_stays next s1 s2 tree c.args.n c.walls.reached inv.goes_on.grows.sound c.in_ok-stretch.ensures.goes_on.grows first inv.reached)
 
-pub returns-then-work-most-clause-reached : goal.returns-then-work-most-clause-reached
-returns-then-work-most-clause-reached g c =
+pub returns-then-work-least-clause-reached : goal.returns-then-work-least-clause-reached
+returns-then-work-least-clause-reached g c =
     let next = g.A.Automaton.next_of in
     let s0 = c.args.self.now.nodes in
     let s1 = c.walls.self.nodes in
@@ -34,8 +34,8 @@ returns-then-work-most-clause-reached g c =
     subst (λ r. HasReached (next r) s0 tree c.args.n s2 reached) inv.goes_on.rule
     (reached_before (next c.walls.self.rule) s0 s1 s2 tree c.args.n reached sound inv.goes_on.grows c.requires.tree made)
 
-pub returns-then-work-most-clause-goes_on : goal.returns-then-work-most-clause-goes_on
-returns-then-work-most-clause-goes_on g c = goes_on_again _ c.args.self.now c.walls.self c.step_wall.new.self c.walls.invariant.goes_on c.in_ok-stretch.ensures.goes_on
+pub returns-then-work-least-clause-goes_on : goal.returns-then-work-least-clause-goes_on
+returns-then-work-least-clause-goes_on g c = goes_on_again _ c.args.self.now c.walls.self c.step_wall.new.self c.walls.invariant.goes_on c.in_ok-stretch.ensures.goes_on
 
 pub walls-preserved : goal.walls-preserved
 walls-preserved g c =

@@ -5,7 +5,7 @@ use Rattle.ca_run.proofs.BrickRows.{rows_grow, row_made}
 use Rattle.ca_run.proofs.bricks.round.Round.next.Goals as goal
 
 pub rows-preserved : goal.rows-preserved
-rows-preserved c =
+rows-preserved g c =
     let y = c.rows.y in
     let word = c.next_word.result in
     let at = round_cells c.args.self.now in
@@ -16,10 +16,12 @@ rows-preserved c =
     let counted : (x : ℕ) → x < 64 → count_at c.neighbours-count.result x ≡ sum_round at x y = λ x h.
     let last = c.sums-below.ensures.three x h ∙ ap (sum_of_three at x) below in
     omega (arith, c.neighbours-count.ensures x, inv.above x h, inv.here_two x h, last) in
-    let f = λ (x : ℕ) (j : ℕ). next_at c.args.masks at x j in
-    let made = row_made c.args.self.now c.args.masks.0 c.args.masks.1 y word (slice_index c.args.self.now.here (y + 1)) (count_at c.neighbours-count.result) f (ap (slice_index c.args.self.now.here) one) counted c.next_word.ensures in
     record {
-      made = rows_grow f c.rows.next y word (omega (arith, inv.size, c.rows-test.true)) inv.made made;
+      made = λ masks x j by.
+          let f = next_at masks at in
+          let row = row_made c.args.self.now masks.0 masks.1 y word (slice_index c.args.self.now.here (y + 1)) (count_at c.neighbours-count.result) f (ap (slice_index c.args.self.now.here) one)
+          counted (λ x. c.next_word.ensures masks x by) in
+          rows_grow f c.rows.next y word (omega (arith, inv.size, c.rows-test.true)) (λ x j. inv.made masks x j by) row x j;
       size = length-set c.rows.next y word ∙ inv.size;
       above = λ x h. inv.here_three x h ∙ ap (sum_of_three at x) (sym one);
       here_two = λ x h. c.sums-below.ensures.two x h ∙ ap (sum_of_two at x) more;
@@ -27,4 +29,4 @@ rows-preserved c =
     }
 
 pub returns : goal.returns
-returns c = λ x y h k. c.rows.invariant.made x y h (omega (arith, c.rows-test.false, k))
+returns g c = λ masks x y by h k. c.rows.invariant.made masks x y by h (omega (arith, c.rows-test.false, k))

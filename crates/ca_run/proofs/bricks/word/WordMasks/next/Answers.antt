@@ -1,0 +1,7 @@
+use Rattle.std.proofs.Common.{◌∙◌}
+use Rattle.std.specs.Int.{bit_at}
+use Rattle.ca_run.proofs.BrickBits.{words_tell}
+use Rattle.ca_run.proofs.bricks.word.WordMasks.next.Goals as goal
+
+pub returns : goal.returns
+returns c = λ masks x are h. c.chosen.ensures x ∙ words_tell c.args.self.now masks (bit_at c.args.alive x) c.args.n x are c.requires h

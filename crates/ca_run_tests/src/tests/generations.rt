@@ -1,0 +1,206 @@
+//! Planes after generations that were worked out by hand, by steps and by leaps.
+
+ghost use Rattle.std.specs.Prelude.{◌≡◌, ◌+◌, ◌==◌, ◌&&◌, ◌||◌, if◌then◌else◌, slice_index, ◌<◌, IsTrue};
+ghost use Rattle.std.specs.List.{All};
+ghost use Rattle.std.proofs.Common.{rules, arith};
+ghost use Rattle.std.proofs.lemmas.Bool.Decides.{nat_tests};
+
+use super::expected::{Cell, expect, plane_of, shows};
+use ca_plane::{Automaton, Memory, Nine, Plane};
+use ca_quad::Store;
+use ca_run::{LeapFault, Leaper, RunFault, kernel16, step, steps};
+use std::alloc::Global;
+use std::process::Abort;
+use std::test::*;
+
+/// Conway's game of life: of a cell and its eight neighbours three are live, or four with the cell itself.
+#[derive(Drop)]
+struct Life;
+
+impl Automaton for Life {
+    ghost state_count = { λ _. 2 };
+
+    ghost next_of = { λ _ nine. let count = slice_index nine 0 + slice_index nine 1 + slice_index nine 2 + slice_index nine 3 + slice_index nine 4 + slice_index nine 5 + slice_index nine 6 + slice_index nine 7 + slice_index nine 8 in if (count == 3) || ((count == 4) && (slice_index nine 4 == 1)) then 1 else 0 };
+
+    ghost sound = { λ _. Unit {0} };
+
+    fn states(&self) -> u16 {
+        2
+    }
+
+    fn next(&self, nine: &Nine) -> u8 {
+        let upper = u16::from(nine[0]) + u16::from(nine[1]) + u16::from(nine[2]);
+        let middle = u16::from(nine[3]) + u16::from(nine[4]) + u16::from(nine[5]);
+        let lower = u16::from(nine[6]) + u16::from(nine[7]) + u16::from(nine[8]);
+        let count = upper + middle + lower;
+        u8::from(count == 3 || (count == 4 && nine[4] == 1))
+    }
+
+    ghost closed = { λ rule nine _ _ _. Prim.grind (arith, nat_tests) };
+
+    ghost quiet = { Prim.search rules };
+}
+
+/// Whether no cell of a plane has a state above 1.
+fn has_two_states(plane: &Plane) -> bool
+    ensures { IsTrue result → All (λ e. e.1 < 2) plane.now }
+{
+    'cells: for (_, state) in plane.cells() {
+        if state >= 2 {
+            return false;
+        }
+    }
+    true
+}
+
+/// The greatest coordinate of a cell from which a step is taken.
+const REACH: i64 = 4611686018427387902;
+
+const ROW: &[Cell] = &[(0, 0, 1), (0, 1, 1), (0, 2, 1)];
+
+const COLUMN: &[Cell] = &[(-1, 1, 1), (0, 1, 1), (1, 1, 1)];
+
+const GLIDER: &[Cell] = &[(0, 1, 1), (1, 2, 1), (2, 0, 1), (2, 1, 1), (2, 2, 1)];
+
+/// A glider after 4000 generations.
+const GLIDER_4000: &[Cell] = &[
+    (1000, 1001, 1),
+    (1001, 1002, 1),
+    (1002, 1000, 1),
+    (1002, 1001, 1),
+    (1002, 1002, 1),
+];
+
+const EDGE_ROW: &[Cell] = &[(REACH, 5, 1), (REACH, 6, 1), (REACH, 7, 1)];
+
+/// Cells, a number of generations, and the cells after them, where none left the reach of a step.
+const LATER: &[(&[Cell], u64, Option<&[Cell]>)] = &[
+    (ROW, 1, Some(COLUMN)),
+    (ROW, 2, Some(ROW)),
+    (GLIDER, 0, Some(GLIDER)),
+    (
+        GLIDER,
+        1,
+        Some(&[(1, 0, 1), (1, 2, 1), (2, 1, 1), (2, 2, 1), (3, 1, 1)]),
+    ),
+    (GLIDER, 4000, Some(GLIDER_4000)),
+    (&[(-REACH, REACH, 1), (REACH, -REACH, 1)], 1, Some(&[])),
+    (&[(0, 0, 1), (0, REACH + 1, 1)], 1, None),
+    (&[(0, -REACH - 1, 1), (0, 0, 1)], 1, None),
+    (&[(0, 0, 1), (REACH + 1, 0, 1)], 1, None),
+    (&[(-REACH - 1, 0, 1), (0, 0, 1)], 1, None),
+    (&[(-REACH - 1, 0, 1)], 0, Some(&[(-REACH - 1, 0, 1)])),
+    (
+        EDGE_ROW,
+        1,
+        Some(&[(REACH - 1, 6, 1), (REACH, 6, 1), (REACH + 1, 6, 1)]),
+    ),
+    (EDGE_ROW, 2, None),
+];
+
+/// Whether a plane shows these cells, or was left without any.
+fn is_later(found: &Result<Plane, RunFault>, cells: Option<&[Cell]>) -> bool {
+    match (found, cells) {
+        (Ok(plane), Some(cells)) => shows(plane, cells),
+        (Err(fault), None) => *fault == RunFault::Range,
+        (_, _) => false,
+    }
+}
+
+/// Whether so many steps come to these cells, or leave the reach, and one step where it is one.
+fn comes_to(alloc: Global, plane: &Plane, n: u64, later: Option<&[Cell]>) -> bool {
+    has_two_states(plane)
+        && is_later(&steps(alloc, &Life, plane, n), later)
+        && (n != 1 || is_later(&step(alloc, &Life, plane), later))
+}
+
+#[test]
+fn generations_by_steps(rt: HostRuntime) -> Result<(), Fail> {
+    'planes: for &(cells, n, later) in LATER {
+        let plane = plane_of(rt.alloc(), cells)?;
+        expect(
+            &rt,
+            comes_to(rt.alloc(), &plane, n, later),
+            "a plane after steps",
+        );
+    }
+    Ok(())
+}
+
+/// Cells scattered over 400 rows of 700 columns, three of eight.
+fn scattered(alloc: Global) -> Result<Vec<Cell>, Memory> {
+    let mut cells = Vec::new(alloc);
+    let mut mixed = 1u32;
+    'cells: for number in 0..280_000u32 {
+        mixed = mixed.wrapping_mul(1664525).wrapping_add(1013904223);
+        if mixed >> 29 < 3 {
+            cells.push((i64::from(number / 700), i64::from(number % 700), 1))?;
+        }
+    }
+    Ok(cells)
+}
+
+/// Whether leaps of n generations come to another plane.
+fn leaps_to(
+    leaper: &mut Leaper<Life>,
+    plane: &Plane,
+    n: u64,
+    later: &Plane,
+) -> Result<bool, LeapFault> {
+    let tree = leaper.load_plane(plane)?;
+    let found = leaper.advance(tree, n.min(1 << 60))?;
+    let wanted = leaper.load_plane(later)?;
+    Ok(leaper.difference(found, wanted)?.is_none())
+}
+
+/// Whether leaps of 24 generations come to what steps do.
+fn leaps_are_steps(alloc: Global, plane: &Plane) -> Result<bool, LeapFault> {
+    if !has_two_states(plane) {
+        return Ok(false);
+    }
+    let Ok(later) = steps(alloc, &Life, plane, 24) else {
+        return Ok(false);
+    };
+    let mut leaper = Leaper::new(alloc, Store::new(alloc), Life);
+    leaps_to(&mut leaper, plane, 24, &later)
+}
+
+#[test]
+fn a_hundred_thousand_cells_leap(rt: HostRuntime) -> Result<(), Fail> {
+    let plane = plane_of(rt.alloc(), &scattered(rt.alloc())?)?;
+    expect(&rt, plane.len() > 100_000, "a hundred thousand cells");
+    let found = leaps_are_steps(rt.alloc(), &plane);
+    expect(&rt, found == Ok(true), "leaps beside steps");
+    Ok(())
+}
+
+/// The masks of Conway's game of life.
+const BIRTH: u16 = 8;
+
+const SURVIVAL: u16 = 12;
+
+const TILE_ROW: [u16; 16] = [0, 0, 0, 0, 0, 0, 0, 448, 0, 0, 0, 0, 0, 0, 0, 0];
+
+const TILE_COLUMN: [u16; 16] = [0, 0, 0, 0, 0, 0, 128, 128, 128, 0, 0, 0, 0, 0, 0, 0];
+
+const FULL: [u16; 16] = [u16::MAX; 16];
+
+const INNER: [u16; 16] = [
+    0, 32766, 32766, 32766, 32766, 32766, 32766, 32766, 32766, 32766, 32766, 32766, 32766, 32766,
+    32766, 0,
+];
+
+/// Tiles, their masks, and the tiles after a generation.
+const TILES: &[(&[u16; 16], u16, u16, &[u16; 16])] = &[
+    (&TILE_ROW, BIRTH, SURVIVAL, &TILE_COLUMN),
+    (&TILE_COLUMN, BIRTH, SURVIVAL, &TILE_ROW),
+    (&FULL, BIRTH, SURVIVAL, &[0; 16]),
+    (&FULL, 0, 256, &INNER),
+];
+
+#[test]
+fn a_tile_after_a_generation(rt: HostRuntime) {
+    'tiles: for &(tile, birth, survival, later) in TILES {
+        expect(&rt, kernel16(tile, birth, survival) == *later, "a tile");
+    }
+}
