@@ -52,7 +52,7 @@ use Rattle.ca_claims.specs.inner.Patterns.{items, IsEachOnce, FirstBadAt, IsRead
 use Rattle.ca_claims.proofs.ClaimKinds.{asks_bounded, paths_of}
 use Rattle.ca_claims.proofs.PatternsRead.{fault_on, IsReadAt, IsRuledAt, path_has_fault, path_has_rule, path_reads, ruled_path_reads, ruled_at, ruled_has_rule, ruled_is_good, ruled_is_large, ruled_is_small, ruled_picture, ruled_reads, tree_shows, wanted}
 use Rattle.ca_claims.proofs.Shown.{few_shown, many_shown, few_none, none_many}
-use Rattle.ca_claims.proofs.Told.{level_is_low}
+use Rattle.ca_claims.proofs.Told.{read_pattern}
 use Rattle.ca_claims.proofs.Parts.{first_part, zip_part}
 use Rattle.ca_claims.proofs.Zipped.{some_first, zip_left, zip_beside, zip_first, zip_front, zip_through}
 
@@ -183,11 +183,7 @@ module _ (nodes : List Node) (there : List (Bor (List ℕ))) (tables : List Tabl
 
   -- low ones, whose live cells are in range
   pub are_patterns : AllByRecursion (λ r. IsPattern nodes r.pattern.tree) ruled
-  are_patterns = right_all (λ b r. IsReadFrom nodes b.now r.pattern) (λ r. IsPattern nodes r.pattern.tree) (λ b r is. record {
-    is_tree = is.loaded.tree;
-    low = let low = level_is_low nodes r.pattern.tree is.loaded.trimmed is.range in omega (arith, low);
-    range = is.range;
-  }) there ruled read_ruled
+  are_patterns = right_all (λ b r. IsReadFrom nodes b.now r.pattern) (λ r. IsPattern nodes r.pattern.tree) (λ b r is. read_pattern nodes b.now r.pattern is) there ruled read_ruled
 
 -- so are those that a claim is judged on
 pub both_are_patterns : (nodes : List Node) (patterns : List Ruled) (subject : Subject) → AllByRecursion (λ r. IsPattern nodes r.pattern.tree) patterns → AreBoth patterns subject

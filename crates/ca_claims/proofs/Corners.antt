@@ -1,18 +1,21 @@
 -- By which vector a tree can be another one, moved: the one between the corners of their least boxes.
-use Rattle.std.proofs.Common.{◌≡◌, ◌≢◌, ℕ, ◌^◌, sym, ap₂, ◌∙◌, inl, inr, arith}
+use Rattle.std.proofs.Common.{◌≡◌, ◌≢◌, ℕ, ◌^◌, List, Option, Some, None, MatchOption, sym, ap₂, ◌∙◌, inl, inr, arith}
 use Rattle.std.specs.Prelude.{ℤ, pos, ◌+ℤ◌, ◌-ℤ◌, ◌≤ℤ◌}
 use Rattle.std.proofs.lemmas.Bool.{cases_eq}
 use Rattle.std.proofs.lemmas.Int.{ints, by_lt_z}
 use Rattle.ca_plane.specs.Sparse.{IsInPlane}
+use Rattle.ca_quad.specs.declared.node.Node.{Node}
+use Rattle.ca_quad.specs.declared.tree.Tree.{Tree}
 use Rattle.ca_quad.specs.declared.tree.WideBounds.{WideBounds}
 use Rattle.ca_quad.specs.Boxes as wide
 use Rattle.ca_quad.specs.Expanded.{FitsPlane, HasCellOutsidePlane}
 use Rattle.ca_quad.specs.Shifted.{shifted_cells}
+use Rattle.ca_quad.specs.Trees.{cell}
 use Rattle.ca_macro.specs.Pattern.{AreInRange}
 use Rattle.ca_plane.specs.Limits.{IsInRange}
 use Rattle.ca_claims.specs.Text.{IsShift}
 use Rattle.ca_claims.specs.inner.Returns.{IsWide}
-use Rattle.ca_claims.specs.inner.Subjects.{HasLive}
+use Rattle.ca_claims.specs.inner.Subjects.{HasLive, IsMove, IsNoMove, IsOnlyMove}
 use Rattle.ca_claims.proofs.Searches.{search_within}
 
 -- no cell outside the square of a plane is live
@@ -56,6 +59,17 @@ module _ (p q : ℤ → ℤ → ℕ) (dx dy : ℤ) (same : (x y : ℤ) → q x y
   -- and no cell leaves the square of a plane, where the moved ones are in it
   pub not_leaves : IsNear q → HasCellOutsidePlane (shifted_cells p dx dy) → ⊥
   not_leaves near (x, y, live, out) = live (sym (same x y) ∙ near x y out)
+
+-- where one vector alone may move the other tree's cells onto the tree's, it does, or none does
+pub moved_or_none : (nodes : List Node) (tree other : Tree) (dx dy : ℤ) (now moved : ℤ → ℤ → ℕ) (back : Option (ℤ × ℤ)) → IsOnlyMove nodes tree other (dx, dy)
+    → ((x y : ℤ) → now x y ≡ cell nodes tree x y) → ((x y : ℤ) → moved x y ≡ shifted_cells (cell nodes other) dx dy x y)
+    → MatchOption back ((x : ℤ) × (y : ℤ) × (now x y ≢ moved x y)) (λ v. (v.0 ≡ dx) × (v.1 ≡ dy) × ((x y : ℤ) → now x y ≡ moved x y))
+    → MatchOption back (IsNoMove nodes tree other) (λ v. IsMove nodes tree other v.0 v.1)
+moved_or_none nodes tree other dx dy now moved None only stays shows told = λ a b is.
+    let at = only a b is in
+    told.2 (stays told.0 told.1 ∙ is told.0 told.1 ∙ ap₂ (λ u v. shifted_cells (cell nodes other) u v told.0 told.1) at.0 at.1 ∙ sym (shows told.0 told.1))
+moved_or_none nodes tree other dx dy now moved (Some v) only stays shows told = λ x y.
+    sym (stays x y) ∙ told.2 x y ∙ shows x y ∙ ap₂ (λ a b. shifted_cells (cell nodes other) a b x y) (sym told.0) (sym told.1)
 
 -- no cell in range leaves the square of a plane by a shift
 pub leaves_none : (p : ℤ → ℤ → ℕ) (dx dy : ℤ) → AreInRange p → IsShift dx → IsShift dy → HasCellOutsidePlane (shifted_cells p dx dy) → ⊥

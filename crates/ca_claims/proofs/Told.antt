@@ -10,6 +10,7 @@ use Rattle.ca_quad.specs.Trimmed.{IsTrimmed}
 use Rattle.ca_rule.specs.TableNext.{TableRule}
 use Rattle.ca_rule.specs.Rule.{NamesRule}
 use Rattle.ca_macro.specs.Pattern.{AreInRange}
+use Rattle.ca_claims.specs.declared.pattern.Loaded.{Loaded}
 use Rattle.ca_claims.specs.declared.pattern.Summary.{Summary}
 use Rattle.ca_claims.specs.declared.ruled.Ruled.{Ruled}
 use Rattle.ca_claims.specs.declared.format.Format.{Format}
@@ -20,16 +21,21 @@ use Rattle.ca_claims.specs.Converted.{IsSummary, IsConvertFault}
 use Rattle.ca_claims.specs.inner.Glance.{IsTold}
 use Rattle.ca_claims.specs.inner.Patterns.{IsReadFrom, rule_of}
 use Rattle.ca_claims.specs.inner.Ready.{IsReady, IsUnwritten}
+use Rattle.ca_claims.specs.inner.Subjects.{IsPattern}
 use Rattle.ca_claims.proofs.PatternsRead.{wanted}
 use Rattle.ca_claims.proofs.Shown.{small_shown, many_shown, population_shown}
 
 -- a tree of the least level whose live cells are in range has a low level
-pub level_is_low : (nodes : List Node) (tree : Tree) → IsTrimmed nodes tree → AreInRange (trees.cell nodes tree) → tree.level ≤ 63
+level_is_low : (nodes : List Node) (tree : Tree) → IsTrimmed nodes tree → AreInRange (trees.cell nodes tree) → tree.level ≤ 63
 level_is_low nodes tree trimmed range = elim (cases_order tree.level 61) [
   | inl low ↦ omega (arith, low)
   | inr (inl same) ↦ omega (arith, same)
   | inr (inr high) ↦ absurd (trimmed 61 (omega arith) high (λ x y live. let at = range x y live in ((at.0, at.1), (at.2, at.3))))
 ]
+
+-- so one that is read from a file is that of a pattern
+pub read_pattern : (nodes : List Node) (bytes : List ℕ) (pattern : Loaded) → IsReadFrom nodes bytes pattern → IsPattern nodes pattern.tree
+read_pattern nodes bytes pattern read = record { is_tree = read.loaded.tree; low = level_is_low nodes pattern.tree read.loaded.trimmed read.range; range = read.range }
 
 -- a file holds the pattern that was read of it, with the rule that its rule text names
 pub holds_ruled : (nodes : List Node) (bytes : List ℕ) (tables : List TableRule) (ruled : Ruled) (read : IsReadFrom nodes bytes ruled.pattern) → NamesRule ruled.pattern.rule_text.items tables (rule_of ruled)

@@ -2,15 +2,12 @@
 
 ghost use Rattle.std.specs.Prelude.{◌≡◌, ℤ, ◌≤ℤ◌, pos, negsuc, IfOk, IfErr, MatchOption};
 ghost use Rattle.ca_plane.specs.Bytes.{IsWord};
-ghost use Rattle.ca_plane.specs.Plane.{Picture, IsLive};
-ghost use Rattle.ca_plane.specs.Plane as plane;
+ghost use Rattle.ca_plane.specs.Plane.{Picture, IsLive, cell as plane_cell};
 ghost use Rattle.ca_plane.specs.Box.{IsLeastBox};
-ghost use Rattle.ca_plane.specs.Population.{HasPopulation};
-ghost use Rattle.ca_quad.specs.Trees.{IsTree, cell};
-ghost use Rattle.ca_quad.specs.Trimmed.{IsTrimmed};
-ghost use Rattle.ca_macro.specs.Pattern.{AreInRange};
+ghost use Rattle.ca_quad.specs.Trees.{cell};
 ghost use Rattle.ca_claims.specs.Converted.{IsSummary, IsSummaryFault};
 ghost use Rattle.ca_claims.specs.inner.Glance.{AreNearBounds, IsTold};
+ghost use Rattle.ca_claims.specs.inner.Subjects.{IsPattern};
 
 use crate::conversion::ConvertFault;
 use crate::pattern::Summary;
@@ -40,9 +37,7 @@ pub fn summary(alloc: Global, bytes: &[u8], tables: &[Table]) -> Result<Summary,
 
 /// The summary of a pattern.
 fn sum_up(alloc: Global, store: &Store, ruled: &Ruled<'_>) -> Result<Summary, Memory>
-    requires tree { IsTree store.now ruled.now.pattern.tree }
-    requires trimmed { IsTrimmed store.now ruled.now.pattern.tree }
-    requires range { AreInRange (cell store.now ruled.now.pattern.tree) }
+    requires { IsPattern store.now ruled.now.pattern.tree }
     ensures told { IfOk result (IsTold store.now ruled.now) }
     ensures word { IfOk result (λ s. IsWord s.rule_text.items) }
 {
@@ -60,9 +55,8 @@ fn sum_up(alloc: Global, store: &Store, ruled: &Ruled<'_>) -> Result<Summary, Me
 
 /// The least box round the live cells of a tree, where there are any.
 fn bounds_of(alloc: Global, store: &Store, tree: Tree) -> Result<Option<Bounds>, Memory>
-    requires tree { IsTree store.now tree }
-    requires range { AreInRange (cell store.now tree) }
-    ensures { (cells : Picture) → ((x y : ℤ) → cell store.now tree x y ≡ plane.cell cells x y)
+    requires { IsPattern store.now tree }
+    ensures { (cells : Picture) → ((x y : ℤ) → cell store.now tree x y ≡ plane_cell cells x y)
         → IfOk result (λ found. MatchOption found (IsLive cells → ⊥) (IsLeastBox cells)) }
 {
     match store.bounds(alloc, tree)? {

@@ -7,9 +7,7 @@ use Rattle.ca_rule.specs.declared.fault.RuleFault.{RuleFault}
 use Rattle.ca_rule.specs.declared.fault.RuleFault.TheVariants as rules
 use Rattle.ca_rule.specs.declared.table.fault.TableFault.{TableFault}
 use Rattle.ca_rule.specs.declared.table.fault.TableFault.TheVariants as tables
-use Rattle.ca_rle.specs.declared.fault.RleFault.{RleFault}
 use Rattle.ca_rle.specs.declared.fault.RleFault.TheVariants as rle
-use Rattle.ca_macro.specs.declared.fault.MacroFault.{MacroFault}
 use Rattle.ca_macro.specs.declared.fault.MacroFault.TheVariants as macrocell
 use Rattle.ca_claims.specs.declared.fault.ClaimFault.{ClaimFault}
 use Rattle.ca_claims.specs.declared.fault.ClaimFault.TheVariants as claims
@@ -89,33 +87,26 @@ table_fault_text fault = table_text (λ line. codes "bad table:") fault
 abbrev pub rule_file_text : TableFault → List ℕ
 rule_file_text fault = table_text (λ line. codes "bad table: line " ++ decimal line) fault
 
--- why a pattern's file wasn't read
-abbrev pub rle_fault_text : RleFault → List ℕ
-rle_fault_text rle.Syntax = codes "bad pattern: rle syntax"
-rle_fault_text rle.Header = codes "bad pattern: rle header"
-rle_fault_text rle.XlifeRule = codes "bad pattern: rle xlife rule"
-rle_fault_text rle.NoEnd = codes "bad pattern: rle no end"
-rle_fault_text rle.BadState = codes "bad pattern: rle bad state"
-rle_fault_text rle.Range = codes "bad pattern: rle range"
-rle_fault_text rle.TooManyCells = codes "bad pattern: rle too many cells"
-rle_fault_text rle.GenTooLarge = codes "bad pattern: rle gen too large"
-rle_fault_text rle.Memory = codes "memory"
-
-abbrev pub macro_fault_text : MacroFault → List ℕ
-macro_fault_text macrocell.NotMacro = codes "bad pattern: macrocell not macro"
-macro_fault_text macrocell.Timeline = codes "bad pattern: macrocell timeline"
-macro_fault_text macrocell.Syntax = codes "bad pattern: macrocell syntax"
-macro_fault_text macrocell.Forward = codes "bad pattern: macrocell forward"
-macro_fault_text macrocell.Level = codes "bad pattern: macrocell level"
-macro_fault_text macrocell.LeafSize = codes "bad pattern: macrocell leaf size"
-macro_fault_text macrocell.Range = codes "bad pattern: macrocell range"
-macro_fault_text macrocell.GenTooLarge = codes "bad pattern: macrocell gen too large"
-macro_fault_text macrocell.Memory = codes "memory"
-
--- out of memory inside another fault is told alone
+-- why a pattern's file wasn't read; out of memory inside another fault is told alone
 abbrev pub pattern_fault_text : PatternFault → List ℕ
-pattern_fault_text (patterns.Rle fault) = rle_fault_text fault
-pattern_fault_text (patterns.Macro fault) = macro_fault_text fault
+pattern_fault_text (patterns.Rle rle.Syntax) = codes "bad pattern: rle syntax"
+pattern_fault_text (patterns.Rle rle.Header) = codes "bad pattern: rle header"
+pattern_fault_text (patterns.Rle rle.XlifeRule) = codes "bad pattern: rle xlife rule"
+pattern_fault_text (patterns.Rle rle.NoEnd) = codes "bad pattern: rle no end"
+pattern_fault_text (patterns.Rle rle.BadState) = codes "bad pattern: rle bad state"
+pattern_fault_text (patterns.Rle rle.Range) = codes "bad pattern: rle range"
+pattern_fault_text (patterns.Rle rle.TooManyCells) = codes "bad pattern: rle too many cells"
+pattern_fault_text (patterns.Rle rle.GenTooLarge) = codes "bad pattern: rle gen too large"
+pattern_fault_text (patterns.Rle rle.Memory) = codes "memory"
+pattern_fault_text (patterns.Macro macrocell.NotMacro) = codes "bad pattern: macrocell not macro"
+pattern_fault_text (patterns.Macro macrocell.Timeline) = codes "bad pattern: macrocell timeline"
+pattern_fault_text (patterns.Macro macrocell.Syntax) = codes "bad pattern: macrocell syntax"
+pattern_fault_text (patterns.Macro macrocell.Forward) = codes "bad pattern: macrocell forward"
+pattern_fault_text (patterns.Macro macrocell.Level) = codes "bad pattern: macrocell level"
+pattern_fault_text (patterns.Macro macrocell.LeafSize) = codes "bad pattern: macrocell leaf size"
+pattern_fault_text (patterns.Macro macrocell.Range) = codes "bad pattern: macrocell range"
+pattern_fault_text (patterns.Macro macrocell.GenTooLarge) = codes "bad pattern: macrocell gen too large"
+pattern_fault_text (patterns.Macro macrocell.Memory) = codes "memory"
 pattern_fault_text patterns.Memory = codes "memory"
 
 -- why a claim isn't judged

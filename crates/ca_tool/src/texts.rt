@@ -2,8 +2,7 @@
 
 ghost use Rattle.std.specs.Prelude.{◌≡◌, ◌≢◌, ℕ, List, ◌++◌};
 ghost use Rattle.ca_rule.specs.declared.table.fault.TableFault.TheVariants as table_fault;
-ghost use Rattle.ca_tool.specs.Printed.{table_text, table_line, rule_fault_text, rle_fault_text};
-ghost use Rattle.ca_tool.specs.Printed.{macro_fault_text, pattern_fault_text};
+ghost use Rattle.ca_tool.specs.Printed.{table_text, table_line, rule_fault_text, pattern_fault_text};
 
 use ca_claims::PatternFault;
 use ca_macro::MacroFault;
@@ -63,40 +62,24 @@ pub(crate) fn pattern_fault_bytes<'a>(fault: PatternFault) -> &'a [u8]
     ensures { result.now ≡ pattern_fault_text fault }
 {
     match fault {
-        PatternFault::Rle(fault) => rle_fault_bytes(fault),
-        PatternFault::Macro(fault) => macro_fault_bytes(fault),
-        PatternFault::Memory => b"memory",
-    }
-}
-
-fn rle_fault_bytes(fault: RleFault) -> &'static [u8]
-    ensures { result.now ≡ rle_fault_text fault }
-{
-    match fault {
-        RleFault::Syntax => b"bad pattern: rle syntax",
-        RleFault::Header => b"bad pattern: rle header",
-        RleFault::XlifeRule => b"bad pattern: rle xlife rule",
-        RleFault::NoEnd => b"bad pattern: rle no end",
-        RleFault::BadState => b"bad pattern: rle bad state",
-        RleFault::Range => b"bad pattern: rle range",
-        RleFault::TooManyCells => b"bad pattern: rle too many cells",
-        RleFault::GenTooLarge => b"bad pattern: rle gen too large",
-        RleFault::Memory => b"memory",
-    }
-}
-
-fn macro_fault_bytes(fault: MacroFault) -> &'static [u8]
-    ensures { result.now ≡ macro_fault_text fault }
-{
-    match fault {
-        MacroFault::NotMacro => b"bad pattern: macrocell not macro",
-        MacroFault::Timeline => b"bad pattern: macrocell timeline",
-        MacroFault::Syntax => b"bad pattern: macrocell syntax",
-        MacroFault::Forward => b"bad pattern: macrocell forward",
-        MacroFault::Level => b"bad pattern: macrocell level",
-        MacroFault::LeafSize => b"bad pattern: macrocell leaf size",
-        MacroFault::Range => b"bad pattern: macrocell range",
-        MacroFault::GenTooLarge => b"bad pattern: macrocell gen too large",
-        MacroFault::Memory => b"memory",
+        PatternFault::Rle(RleFault::Syntax) => b"bad pattern: rle syntax",
+        PatternFault::Rle(RleFault::Header) => b"bad pattern: rle header",
+        PatternFault::Rle(RleFault::XlifeRule) => b"bad pattern: rle xlife rule",
+        PatternFault::Rle(RleFault::NoEnd) => b"bad pattern: rle no end",
+        PatternFault::Rle(RleFault::BadState) => b"bad pattern: rle bad state",
+        PatternFault::Rle(RleFault::Range) => b"bad pattern: rle range",
+        PatternFault::Rle(RleFault::TooManyCells) => b"bad pattern: rle too many cells",
+        PatternFault::Rle(RleFault::GenTooLarge) => b"bad pattern: rle gen too large",
+        PatternFault::Macro(MacroFault::NotMacro) => b"bad pattern: macrocell not macro",
+        PatternFault::Macro(MacroFault::Timeline) => b"bad pattern: macrocell timeline",
+        PatternFault::Macro(MacroFault::Syntax) => b"bad pattern: macrocell syntax",
+        PatternFault::Macro(MacroFault::Forward) => b"bad pattern: macrocell forward",
+        PatternFault::Macro(MacroFault::Level) => b"bad pattern: macrocell level",
+        PatternFault::Macro(MacroFault::LeafSize) => b"bad pattern: macrocell leaf size",
+        PatternFault::Macro(MacroFault::Range) => b"bad pattern: macrocell range",
+        PatternFault::Macro(MacroFault::GenTooLarge) => b"bad pattern: macrocell gen too large",
+        PatternFault::Rle(RleFault::Memory)
+        | PatternFault::Macro(MacroFault::Memory)
+        | PatternFault::Memory => b"memory",
     }
 }

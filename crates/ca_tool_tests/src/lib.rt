@@ -4,18 +4,4 @@
 #![tactic(auto)]
 
 #[cfg(test)]
-mod answer_texts;
-#[cfg(test)]
-mod callers;
-#[cfg(test)]
-mod cut_runs;
-#[cfg(test)]
-mod devices;
-#[cfg(test)]
-mod failed_reads;
-#[cfg(test)]
-mod many;
-#[cfg(test)]
-mod rules;
-#[cfg(test)]
-mod writers;
+mod tests;

@@ -106,26 +106,25 @@ fn show_command<'a>(alloc: Global) -> Result<Command<'a>, AllocError> {
             "Prints the format, the rule, the generation, the number of live cells and their box",
         )
         .after_help(texts::SHOW)
-        .arg(file_word(alloc))?
-        .arg(rule_word(alloc))
+        .args(vec![in alloc; file_word(alloc), rule_word(alloc)]?)
 }
 
 fn convert_command<'a>(alloc: Global) -> Result<Command<'a>, AllocError> {
     Command::new(alloc, "convert")
         .about("Writes the pattern of a file in a format to standard output")
         .after_help(texts::CONVERT)
-        .arg(file_word(alloc))?
-        .arg(target_word(alloc))?
-        .arg(rule_word(alloc))
+        .args(vec![in alloc; file_word(alloc), target_word(alloc), rule_word(alloc)]?)
 }
 
 fn verify_command<'a>(alloc: Global) -> Result<Command<'a>, AllocError> {
     Command::new(alloc, "verify")
         .about("Prints a verdict for each claim of a text: yes, no or refused")
         .after_help(texts::VERIFY)
-        .arg(claims_word(alloc))?
-        .arg(explain_word(alloc))?
-        .arg(progress_word(alloc))
+        .args(vec![in alloc;
+            claims_word(alloc),
+            explain_word(alloc),
+            progress_word(alloc),
+        ]?)
 }
 
 fn file_word<'a>(alloc: Global) -> Arg<'a> {

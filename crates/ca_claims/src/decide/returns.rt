@@ -1,6 +1,6 @@
 //! When a pattern is there again before a claim's generations are over.
 
-ghost use Rattle.std.specs.Prelude.{◌≡◌, ◌≢◌, ◌≤◌, ◌^◌, ℤ, pos, ◌-ℤ◌, IfOk, MatchOption};
+ghost use Rattle.std.specs.Prelude.{◌≡◌, ◌≢◌, ◌≤◌, ◌^◌, ℤ, ◌-ℤ◌, IfOk, MatchOption};
 ghost use Rattle.ca_plane.specs.Plane.{Picture, shifted};
 ghost use Rattle.ca_plane.specs.Generations.{IsAfter};
 ghost use Rattle.ca_quad.specs.Trees.{cell};
@@ -71,26 +71,28 @@ fn return_at<A: Automaton, O: Observer>(
     let pattern = copy(&case.subject.pattern);
     match case.asks.barred {
         Barred::Anywhere => return_anywhere(case.alloc, leaper, end, pattern),
-        _ => return_in_place(leaper, end, pattern),
+        _ => vector_if_same(leaper, end, pattern, 0, 0),
     }
 }
 
-// (0, 0), where a tree shows the cells of another.
-fn return_in_place<A: Automaton>(
+// The vector, where two trees show the same cells.
+fn vector_if_same<A: Automaton>(
     leaper: &mut Leaper<A>,
     end: Tree,
-    pattern: Tree,
+    moved: Tree,
+    dx: i64,
+    dy: i64,
 ) -> Result<Option<(i64, i64)>, Memory>
     requires end { IsNearTree leaper.old.nodes end }
-    requires pattern { IsNearTree leaper.old.nodes pattern }
+    requires moved { IsNearTree leaper.old.nodes moved }
     ensures back { IfOk result (λ back. MatchOption back
-        ((x : ℤ) × (y : ℤ) × (cell leaper.old.nodes end x y ≢ cell leaper.old.nodes pattern x y))
-        (λ v. (v.0 ≡ pos 0) × (v.1 ≡ pos 0)
-        × ((x y : ℤ) → cell leaper.old.nodes end x y ≡ cell leaper.old.nodes pattern x y))) }
+        ((x : ℤ) × (y : ℤ) × (cell leaper.old.nodes end x y ≢ cell leaper.old.nodes moved x y))
+        (λ v. (v.0 ≡ dx) × (v.1 ≡ dy)
+        × ((x y : ℤ) → cell leaper.old.nodes end x y ≡ cell leaper.old.nodes moved x y))) }
     ensures goes_on { LeaperGrows A leaper.old leaper.new }
 {
-    match leaper.difference(end, pattern)? {
-        None => Ok(Some((0, 0))),
+    match leaper.difference(end, moved)? {
+        None => Ok(Some((dx, dy))),
         Some(_) => Ok(None),
     }
 }
@@ -113,14 +115,10 @@ fn return_anywhere<A: Automaton>(
     let Some((dx, dy)) = corner_vector(alloc, store, copy(&end), copy(&pattern))? else {
         return Ok(None);
     };
-    let moved = match leaper.shifted(pattern, dx, dy) {
-        Ok(moved) => moved,
-        Err(MoveFault::Memory) => return Err(Memory),
-        Err(MoveFault::Range) => return Ok(None),
-    };
-    match leaper.difference(end, moved)? {
-        None => Ok(Some((dx, dy))),
-        Some(_) => Ok(None),
+    match leaper.shifted(pattern, dx, dy) {
+        Ok(moved) => vector_if_same(leaper, end, moved, dx, dy),
+        Err(MoveFault::Memory) => Err(Memory),
+        Err(MoveFault::Range) => Ok(None),
     }
 }
 

@@ -33,7 +33,7 @@ pub(crate) fn read_statements<'a>(
         if begins_section(line.content) {
             return Ok(statements);
         }
-        if let Err(fault) = statements.add(alloc, settings, line.content) {
+        if let Err(fault) = statements.add(settings, line.content) {
             return Err(fault.at(line.number));
         }
         left = later;

@@ -46,12 +46,7 @@ impl<'a> Statements<'a> {
     }
 
     /// The line says one more variable, in a table with this many states.
-    fn add_variable(
-        &mut self,
-        alloc: Global,
-        states: u16,
-        line: &VariableLine<'a>,
-    ) -> Result<(), StatementFault>
+    fn add_variable(&mut self, states: u16, line: &VariableLine<'a>) -> Result<(), StatementFault>
         requires low { states ≤ 256 }
         requires fields { list_all is_field (fields_between line.now.inside.now) ≡ true }
         ensures said { OnOk result ((settings : Settings) (said : SaidStatements) → settings.states ≡ states
@@ -63,6 +58,7 @@ impl<'a> Statements<'a> {
             (IsFaultAmong states (number_in self.old.names) (fields_between line.now.inside.now)) }
     {
         let fields = FieldsLeft::inside(line.inside);
+        let alloc = *self.variables.allocator();
         let slots = self.names.slots(alloc, states, &fields)?;
         let set = states_among(states, &self.variables, &slots);
         let number = self.variables.len();
@@ -76,12 +72,7 @@ impl<'a> Statements<'a> {
     }
 
     /// The fields say one more transition, in a table with this many states.
-    fn add_transition(
-        &mut self,
-        alloc: Global,
-        states: u16,
-        fields: &FieldsLeft<'_>,
-    ) -> Result<(), StatementFault>
+    fn add_transition(&mut self, states: u16, fields: &FieldsLeft<'_>) -> Result<(), StatementFault>
         requires low { states ≤ 256 }
         requires fields { AreTransitionFields (fields_left fields.now) }
         ensures said { OnOk result ((settings : Settings) (said : SaidStatements) → settings.states ≡ states
@@ -101,7 +92,7 @@ impl<'a> Statements<'a> {
         if !is_bound(*becomes, inputs) {
             return Err(StatementFault::Unbound);
         }
-        let Ok(inputs) = inputs.to_vec(alloc) else {
+        let Ok(inputs) = inputs.to_vec(*self.transitions.allocator()) else {
             return Err(StatementFault::Memory);
         };
         let transition = Transition::new(inputs, *becomes);
@@ -114,7 +105,6 @@ impl<'a> Statements<'a> {
     /// The line says one more variable or transition.
     pub(crate) fn add(
         &mut self,
-        alloc: Global,
         settings: &TableSettings,
         content: &'a [u8],
     ) -> Result<(), StatementFault>
@@ -129,8 +119,8 @@ impl<'a> Statements<'a> {
             return Err(StatementFault::Syntax);
         };
         match statement {
-            Statement::Variable(line) => self.add_variable(alloc, settings.states, &line),
-            Statement::Transition(fields) => self.add_transition(alloc, settings.states, &fields),
+            Statement::Variable(line) => self.add_variable(settings.states, &line),
+            Statement::Transition(fields) => self.add_transition(settings.states, &fields),
         }
     }
 

@@ -18,8 +18,8 @@ return_anywhere-requires-clause-live g c =
     let s1 = c.tree_after.new.leaper.nodes in
     subst (λ t. HasLive (cell s1 t)) (sym c.copy-pattern.ensures) (bars_stays s0 s1 c.store.ensures.sound c.in_ok-end.ensures.goes_on.grows c.args.case.now c.requires.case).live
 
-pub return_in_place-requires-clause-pattern : goal.return_in_place-requires-clause-pattern
-return_in_place-requires-clause-pattern g c =
+pub vector_if_same-requires-clause-moved : goal.vector_if_same-requires-clause-moved
+vector_if_same-requires-clause-moved g c =
     let s0 = c.args.leaper.now.nodes in
     let s1 = c.tree_after.new.leaper.nodes in
     let pattern = c.args.case.now.subject.pattern in
@@ -33,13 +33,16 @@ returns-in-Anywhere-clause-back g c = λ cells shows.
     (copy_shows _ _ c.store.ensures.sound c.in_ok-end.ensures.goes_on.grows _ _ cells c.copy-pattern.ensures c.requires.case.subject.pattern.is_tree shows) back c.in-Anywhere.is told)
     c.return_anywhere.ensures.back
 
+pub returns-in-Anywhere-clause-goes_on : goal.returns-in-Anywhere-clause-goes_on
+returns-in-Anywhere-clause-goes_on g c = goes_on_again _ c.args.leaper.now c.tree_after.new.leaper c.return_anywhere.new.leaper c.in_ok-end.ensures.goes_on c.return_anywhere.ensures.goes_on
+
 pub returns-in_default : goal.returns-in_default
 returns-in_default g c = record {
   back = λ cells shows.
-      ok_as c.return_in_place.result _ _
+      ok_as c.vector_if_same.result _ _
       (λ back told.
       back_here (g.A.Automaton.next_of c.args.leaper.now.rule) _ _ c.args.case.now c.requires.case c.in_ok-end.end c.args.m c.in_ok-end.ensures.end cells shows c.copy-pattern.result
       (copy_shows _ _ c.store.ensures.sound c.in_ok-end.ensures.goes_on.grows _ _ cells c.copy-pattern.ensures c.requires.case.subject.pattern.is_tree shows) back c.in_default.not-Anywhere told)
-      c.return_in_place.ensures.back;
-  goes_on = goes_on_again _ c.args.leaper.now c.tree_after.new.leaper c.return_in_place.new.leaper c.in_ok-end.ensures.goes_on c.return_in_place.ensures.goes_on;
+      c.vector_if_same.ensures.back;
+  goes_on = goes_on_again _ c.args.leaper.now c.tree_after.new.leaper c.vector_if_same.new.leaper c.in_ok-end.ensures.goes_on c.vector_if_same.ensures.goes_on;
 }

@@ -1,6 +1,6 @@
 //! The callers that the libraries' pages show, and what a text says and no verdict shows.
 
-use crate::devices::expect;
+use super::devices::expect;
 use ca_claims::{Answer, ClaimFault, File, Verdict, Why, read_claims, verify};
 use ca_macro::{MacroFault, read_macro};
 use ca_plane::{Automaton, Dev};

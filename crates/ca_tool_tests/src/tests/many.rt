@@ -1,6 +1,6 @@
 //! A text of many claims, which no call refuses where memory is ample.
 
-use crate::devices::expect;
+use super::devices::expect;
 use ca_claims::{Claims, File, read_claims, verify};
 use ca_plane::Dev;
 use ca_tool::{lines, verify_run};

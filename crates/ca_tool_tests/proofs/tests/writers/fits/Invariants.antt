@@ -1,7 +1,7 @@
 use Rattle.std.proofs.Common.{◌<◌}
 use Rattle.std.specs.List.{All}
 use Rattle.ca_plane.specs.Limits.{IsInRange}
-use Rattle.ca_tool_tests.proofs.writers.fits.Given as goal
+use Rattle.ca_tool_tests.proofs.tests.writers.fits.Given as goal
 
 -- the cells so far may be written
 abbrev pub invariant-cells : goal.invariant-cells

@@ -1,6 +1,6 @@
 //! Rules through their public calls: what no claim asks of them.
 
-use crate::devices::expect;
+use super::devices::expect;
 use ca_plane::{Automaton, Nine};
 use ca_rule::{BsRule, Counts, GenRule, RuleFault, resolve};
 use std::alloc::Global;

@@ -1,7 +1,7 @@
 //! Runs that write their texts in pieces, the whole of it or a first part, since a write is refused.
 
-use crate::devices::{Narrow, Refusal, expect};
-use crate::writers::{MACROCELL, RLE, write_macro, write_rle};
+use super::devices::{Narrow, Refusal, expect};
+use super::writers::{MACROCELL, RLE, write_macro, write_rle};
 use ca_claims::{ClaimFault, Claims, File, Target, read_claims};
 use ca_plane::{Dev, WriteFault};
 use ca_tool::{

@@ -1,6 +1,6 @@
 //! Lines of answers and faults that no text causes, and causes and faults in the words of their crates.
 
-use crate::devices::expect;
+use super::devices::expect;
 use ca_claims::{Answer, Cause, ClaimFault, ConvertFault, PatternFault, Verdict, Why};
 use ca_macro::MacroFault;
 use ca_plane::{Dev, Memory};

@@ -1,6 +1,6 @@
 //! Files whose reader fails.
 
-use crate::devices::{Faulty, expect};
+use super::devices::{Faulty, expect};
 use ca_claims::Target;
 use ca_plane::Dev;
 use ca_tool::{InputFault, ToolFault, convert_run, read_all, show_run};

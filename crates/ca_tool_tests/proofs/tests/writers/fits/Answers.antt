@@ -3,7 +3,7 @@ use Rattle.std.specs.List.{All}
 use Rattle.ca_plane.specs.Plane.{Picture}
 use Rattle.ca_plane.proofs.Pictures.{cells_end}
 use Rattle.ca_plane.specs.Limits.{IsInRange}
-use Rattle.ca_tool_tests.proofs.writers.fits.Goals as goal
+use Rattle.ca_tool_tests.proofs.tests.writers.fits.Goals as goal
 
 -- at the end all cells have come
 pub returns-clause-range : goal.returns-clause-range

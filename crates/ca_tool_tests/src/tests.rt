@@ -1,0 +1,10 @@
+//! The tests, by what they try.
+
+mod answer_texts;
+mod callers;
+mod cut_runs;
+mod devices;
+mod failed_reads;
+mod many;
+mod rules;
+mod writers;
