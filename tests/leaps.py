@@ -14,13 +14,14 @@ from lib import macrocell
 from lib.claim_text import ClaimText, outcome
 from lib.planes import distinct_squares
 from lib.program import ROOT, Folder, Tally, contents
+from lib.rows import Rows, text_of
 from lib.work import excess, timed
 
 # How many times the known work a run may take.
 BOUND = 400
 
 # The bytes of address space that a run has which is to want memory.
-SPACE = 50_000_000
+SPACE = 25_000_000
 
 LEAPS, TABLES = "tests/leaps", "examples/tables"
 
@@ -304,20 +305,14 @@ def parity_after(rows, places, generations):
     return rows
 
 
-def parity_file(rule, corner, rows):
-    """The file of such rows, whose upper left place is at the corner."""
-    lines = ("".join("bo"[int(bit)] for bit in reversed(f"{row:b}")) for row in rows)
-    return f"#CXRLE Pos={corner},{corner}\nx = 1, y = 1, rule = {rule}\n{'$'.join(lines)}!\n"
-
-
 def try_many_squares(claims):
     """Planes without order, of some hundred thousand squares and more: what becomes of them is known, since each generation is a sum."""
     for rule, places, side, generations, before in PARITIES:
         chance = random.Random(side)
         rows = [0] * generations + [chance.getrandbits(side) << generations for _ in range(side)] + [0] * generations
-        text = claims.text()
-        text.load("soup", parity_file(rule, -generations - before, rows))
-        text.load("later", parity_file(rule, -generations - before, parity_after(rows, places, generations)))
+        text, corner = claims.text(), -generations - before
+        text.load("soup", text_of(rule, Rows(corner, corner, rows)))
+        text.load("later", text_of(rule, Rows(corner, corner, parity_after(rows, places, generations))))
         text.claim(f"becomes soup {generations} later", "yes")
         text.claim(f"becomes soup {generations - 1} later", f"no, cells differ after {generations - 1}")
         claims.judge(f"{side} by {side} cells without order, {rule}", text)

@@ -1,0 +1,251 @@
+#!/usr/bin/env -S python3 -B
+"""What dense planes become, beside the naive steps of lib/rows.py: soups under rules of few and of many counts, by fewer and more generations than are stepped
+at a time, at borders of bricks, in all quarters of the plane and at its far ends; planes at rest that gliders wake; soups that die; and large soups.
+
+Each plane is claimed to become what it does, which is true, and the same with one cell changed, where the verdict has to name that cell.
+"""
+import random
+import tempfile
+
+from lib import rows
+from lib.claim_text import ClaimText, outcome
+from lib.program import Folder, Tally, run
+
+# Cells of files lie from -EDGE to EDGE - 1. A brick has so many columns and rows, and a plane is stepped for so many generations at a time.
+EDGE, WIDE, HIGH, AT_A_TIME = 1 << 60, 64, 16, 1024
+
+SHORT = (1, 2, 3, 31, 32, 33, 63, 64, 65, 127, 128, 129, 255, 256, 257)
+LONG = tuple(many + more for many in (AT_A_TIME, AT_A_TIME + 32, 2 * AT_A_TIME) for more in (-1, 0, 1))
+
+# Rules, the side of a soup under each, and the generations that it goes. Under B2/S and B1357/S1357 it grows by a cell each generation on all sides.
+RULES = (
+    ("B3/S23", 100, SHORT + LONG),
+    ("B36/S23", 90, SHORT + LONG),
+    ("B3678/S34678", 130, SHORT + LONG),
+    ("B378/S238", 80, SHORT + LONG),
+    ("B368/S245", 100, SHORT + LONG),
+    ("B4678/S35678", 100, SHORT + LONG),
+    ("B38/S12378", 70, SHORT + LONG[:2]),
+    ("B3/S012345678", 70, SHORT + LONG[:2]),
+    ("B2/S", 60, SHORT),
+    ("B1357/S1357", 60, SHORT),
+    ("B12345678/S012345678", 60, SHORT),
+    ("B8/S8", 70, SHORT),
+    ("B/S8", 70, SHORT),
+    ("B2/S", 30, (AT_A_TIME + 33,)),
+)
+
+# The upper left corners of soups: at each alignment of some to bricks in each quarter, round the origin, and far away.
+ALIGNMENTS = ((0, 0), (1, 15), (31, 8), (63, 1), (62, 14))
+CORNERS = (
+    *((WIDE * i + x, HIGH * j + y) for i, j in ((5, 9), (-7, 3), (2, -11), (-6, -8)) for x, y in ALIGNMENTS),
+    *((x, y) for x in (-64, -35, -1) for y in (-50, -16, -1)),
+    *((x << 59, y << 59) for x in (-1, 0, 1) for y in (-1, 0, 1)),
+)
+PLACED = (("B3/S23", 32), ("B36/S23", 65), ("B3678/S34678", 129), ("B3/S23", AT_A_TIME + 1), ("B2/S", 63), ("B1357/S1357", 33), ("B38/S12378", 64))
+
+# A glider that goes down and to the right, and what rests beside others: still lifes and oscillators of period 2, each in all its phases and ways to lie.
+GLIDER = rows.Rows(0, 0, (0b010, 0b100, 0b111))
+RESTING = tuple(rows.Rows(0, 0, it) for it in (
+    (3, 3), (7,), (1, 1, 1), (6, 9, 6), (2, 5, 5, 2), (2, 5, 2), (3, 5, 2), (6, 9, 10, 4), (3, 3, 12, 12), (3, 1, 8, 12), (7, 14), (4, 9, 9, 2)))
+
+# The directions of gliders.
+WAYS = ((1, 1), (-1, 1), (1, -1), (-1, -1))
+
+# How soups of 60 by 60 cells lie that are apart, and those of 300 by 300: the first at the origin, the other so far to the right and down.
+APART = ((130, 0), (0, 170), (300, 0), (0, 1000), (-900, 200), (5000, -5000), (1 << 20, 3), (-(1 << 59), 1 << 59))
+
+NEAR = ((370, 0), (-20, -380))
+
+# Soups of as many columns and rows, and the generations that they go.
+LARGE = (("B3/S23", 700, 700, (64, 65)), ("B3/S23", 700, 700, (321,)), ("B36/S23", 512, 512, (200,)), ("B3678/S34678", 700, 700, (64, 129)),
+         ("B2/S", 700, 700, (65,)), ("B3/S23", 5000, 20, (129,)), ("B3/S23", 20, 5000, (129,)), ("B3/S012345678", 640, 640, (99,)))
+
+# Rules under which soups of as many cells a side die.
+DEADLY = (("B3/S", 100), ("B35/S", 100), ("B678/S5678", 100), ("B5678/S5678", 100), ("B35678/S5678", 33), ("B35678/S5678", 60), ("B35678/S5678", 54),
+          ("B35678/S5678", 66))
+
+
+def place_of_change(chance, plane):
+    """A place that a file has: one of a live cell, or any of the plane or beside it."""
+    live = [at for at, row in enumerate(plane.rows) if row]
+    if live and chance.random() < 0.5:
+        y = chance.choice(live)
+        return plane.x + chance.choice([x for x in range(plane.width()) if plane.rows[y] >> x & 1]), plane.y + y
+    x, y = plane.x + chance.randint(-1, plane.width()), plane.y + chance.randint(-1, len(plane.rows))
+    return max(-EDGE, min(EDGE - 1, x)), max(-EDGE, min(EDGE - 1, y))
+
+
+class Text(ClaimText):
+    """A claim text about planes that are given by their rows."""
+
+    def __init__(self, files, chance):
+        super().__init__(files)
+        self.chance = chance
+        self.lines.append(b"claims 2")
+
+    def plane(self, rule, *planes):
+        """Loads the live cells of planes, and gives their name."""
+        name = f"p{len(self.lines)}"
+        self.load(name, rows.text_of(rule, *planes))
+        return name
+
+    def becomes(self, before, rule, count, *later):
+        """Claims that what was loaded becomes these planes, and that it becomes others: a cell is changed of the last."""
+        x, y = place_of_change(self.chance, later[-1])
+        changed, state = later[-1].with_changed(x, y)
+        name, other = self.plane(rule, *later), self.plane(rule, *later[:-1], changed)
+        self.claim(f"becomes {before} {count} {name}", "yes")
+        note = f"{before} at {x},{y}: {state} after {count} generation{'s' * (count != 1)}, claimed {1 - state}"
+        self.claim(f"becomes {before} {count} {other}", f"no, cells differ after {count}", note)
+
+    def judge(self, tally, name):
+        """Expects the verdicts, and the notes of those that are no."""
+        came, wanted = run(["verify", "--explain", self.write()]), outcome(self.answers, True)
+        pairs = zip(came.printed.splitlines(), wanted.printed.splitlines())
+        others = [f"wanted {right.decode()}, got {line.decode()}" for line, right in pairs if line != right]
+        tally.tell(f"{name}: {len(self.answers)} claims", others or ([] if came == wanted else [str(came)]))
+
+
+def try_rules(tally, files):
+    """Soups under each rule, at random places, by each number of generations."""
+    for rule, side, generations in RULES:
+        chance = random.Random(side)
+        text, before = Text(files, chance), rows.soup(chance, side, side).moved(chance.randint(-200, 100), chance.randint(-200, 100))
+        name, later, done = text.plane(rule, before), before, 0
+        for count in generations:
+            later, done = later.after(rule, count - done), count
+            text.becomes(name, rule, count, later)
+        text.judge(tally, f"{side} by {side} cells, {rule}")
+
+
+def at_edges(before, later):
+    """The vectors that move both planes to a corner of the places that files have, so far that one of them reaches its edges."""
+    x0, y0, x1, y1 = (pick(parts) for pick, parts in zip((min, min, max, max), zip(*(
+        (it.x, it.y, it.x + it.width(), it.y + len(it.rows)) for it in (before, later)))))
+    return [(x, y) for x in (-EDGE - x0, EDGE - x1) for y in (-EDGE - y0, EDGE - y1)]
+
+
+def try_places(tally, files):
+    """Soups at all corners, and where they, or what they become, reach the ends of files."""
+    for rule, count in PLACED:
+        chance = random.Random(count)
+        text, before = Text(files, chance), rows.soup(chance, 80, 60)
+        later = before.after(rule, count)
+        for corner in (*CORNERS, *at_edges(before, later)):
+            text.becomes(text.plane(rule, before.moved(*corner)), rule, count, later.moved(*corner))
+        text.judge(tally, f"soups at all places, {rule} by {count}")
+
+
+def resting(chance, across, down):
+    """So many things across and down that rest, each at a random place of 8 by 8 cells and far enough from the others."""
+    places = [(8 * x + chance.randint(1, 2), 8 * y + chance.randint(1, 2)) for x in range(across) for y in range(down)]
+    return rows.united([chance.choice(RESTING).turned(*chance.choice(WAYS)).moved(*place) for place in places])
+
+
+def cleared(plane, x, y, wide, high):
+    """The plane without its live cells in a box."""
+    hole = ((1 << wide) - 1) << (x - plane.x)
+    return rows.Rows(plane.x, plane.y, tuple(row & ~hole if y <= at < y + high else row for at, row in enumerate(plane.rows, plane.y)))
+
+
+def try_rest(tally, files):
+    """Planes at rest are what they were two generations before, and oscillators of no longer period."""
+    chance = random.Random(8)
+    for x, y in ((0, 0), (-300, -77), (EDGE - 400, -EDGE)):
+        text, before = Text(files, chance), resting(chance, 40, 25).moved(x, y)
+        name = text.plane("B3/S23", before)
+        for count in (1, 2, 32, 33, AT_A_TIME + 1, AT_A_TIME + 34, 3 * AT_A_TIME + 1):
+            text.becomes(name, "B3/S23", count, before.after("B3/S23", count % 2))
+        text.claim(f"oscillator {name} 64", "no, the same after 2, shifted by 0,0")
+        text.claim(f"oscillator {name} 2", "yes")
+        text.judge(tally, f"at rest, {x},{y}")
+
+
+def try_waking(tally, files):
+    """A glider comes to a corner of four bricks that sleep, in each direction and a little beside the corner, and goes on or meets what rests there."""
+    chance = random.Random(9)
+    corner_x, corner_y, reach = WIDE, 4 * HIGH, 24
+    for dx, dy in WAYS:
+        text, glider = Text(files, chance), GLIDER.turned(dx, dy)
+        for beside in range(-4, 5):
+            for far in (reach, 0):
+                # the hole ends at the corner, or so far beyond
+                west, north = (at - (reach if step > 0 else far) for at, step in ((corner_x, dx), (corner_y, dy)))
+                field = cleared(resting(chance, 24, 16), west, north, reach + far, reach + far)
+                before = rows.united([field, glider.moved(corner_x - 1 - 12 * dx + beside, corner_y - 1 - 12 * dy)])
+                name = text.plane("B3/S23", before)
+                later = before.after("B3/S23", 49)
+                text.becomes(name, "B3/S23", 49, later)
+                text.becomes(name, "B3/S23", 130, later.after("B3/S23", 81))
+        text.judge(tally, f"a glider by {dx},{dy} over a corner")
+
+
+def try_gliders(tally, files):
+    """Gliders at all alignments to bricks, all in one direction."""
+    for dx, dy in WAYS:
+        chance, phases = random.Random(10), [GLIDER.turned(dx, dy).after("B3/S23", count) for count in range(4)]
+        # 9 times 0 to 63 are all columns of a brick, and 9 times 0 to 15 all its rows; closer together they would meet, and farther apart be leapt
+        before = rows.united([chance.choice(phases).moved(9 * i, 9 * j) for i in range(WIDE) for j in range(HIGH)]).moved(-700, -chance.randint(0, 300))
+        text = Text(files, chance)
+        name = text.plane("B3/S23", before)
+        for count in (32, 35, 64, 129, AT_A_TIME + 32):
+            text.becomes(name, "B3/S23", count, before.after("B3/S23", count % 4).moved(count // 4 * dx, count // 4 * dy))
+        text.claim(f"spaceship {name} 64 {16 * dx} {16 * dy}", f"no, the same after 4, shifted by {dx},{dy}")
+        text.claim(f"becomes {name} 64 {name} shift {16 * dx} {16 * dy}", "yes")
+        text.judge(tally, f"gliders by {dx},{dy}")
+
+
+def try_deaths(tally, files):
+    """Soups that die: after as many generations as that takes, and not before."""
+    for rule, side in DEADLY:
+        chance = random.Random(side)
+        text, before = Text(files, chance), rows.soup(chance, side, side).moved(chance.randint(-100, 0), chance.randint(-100, 0))
+        later, span = before, 0
+        while later.rows:
+            last, later, span = later, later.after(rule, 1), span + 1
+        name = text.plane(rule, before)
+        text.claim(f"dies {name} {span}", "yes")
+        for count in (span + 1, max(32, span + 9), AT_A_TIME + 33, EDGE):
+            text.claim(f"dies {name} {count}", f"no, empty after {span}")
+        text.becomes(name, rule, span - 1, last)
+        for count in (span, 33 + span, AT_A_TIME + span):
+            text.becomes(name, rule, count, later)
+        text.judge(tally, f"{rule} dies after {span}")
+
+
+def try_apart(tally, files):
+    """Two soups apart in one file, which go no further than half-way to each other. Large ones that lie near are stepped, the others are leapt."""
+    for rule in ("B3/S23", "B36/S23"):
+        chance = random.Random(11)
+        text = Text(files, chance)
+        for side, vector in (*((60, it) for it in APART), *((300, it) for it in NEAR)):
+            soups = [rows.soup(chance, side, side), rows.soup(chance, side, side).moved(*vector)]
+            name, most = text.plane(rule, *soups), (max(map(abs, vector)) - side) // 2
+            for count in {min(most, it) for it in (33, 130, AT_A_TIME + 1)}:
+                text.becomes(name, rule, count, *(it.after(rule, count) for it in soups))
+        text.judge(tally, f"two soups apart, {rule}")
+
+
+def try_large(tally, files):
+    """Large soups: memory is enough for them."""
+    for rule, wide, high, generations in LARGE:
+        chance = random.Random(wide)
+        text, before = Text(files, chance), rows.soup(chance, wide, high).moved(-wide // 2, -high // 3)
+        name, later, done = text.plane(rule, before), before, 0
+        for count in generations:
+            later, done = later.after(rule, count - done), count
+            text.becomes(name, rule, count, later)
+        text.judge(tally, f"{wide} by {high} cells, {rule}, from {before.population()} live cells to {later.population()}")
+
+
+def main():
+    tally = Tally()
+    with tempfile.TemporaryDirectory() as folder:
+        for it in (try_rules, try_places, try_rest, try_waking, try_gliders, try_deaths, try_apart, try_large):
+            it(tally, Folder(folder))
+    tally.finish()
+
+
+if __name__ == "__main__":
+    main()
