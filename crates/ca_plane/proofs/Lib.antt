@@ -1,3 +1,4 @@
+pub mod BitPlanes
 pub mod Boxes
 pub mod FirstWords
 pub mod Compared

@@ -6,6 +6,7 @@ pub mod Sparse
 pub mod Bytes
 pub mod Device
 pub mod Box
+pub mod BitPlane
 pub mod Limits
 pub mod Population
 pub mod inner

@@ -1,3 +1,4 @@
 -- What only private contracts speak of.
 pub mod Moves
 pub mod Places
+pub mod BitRuns

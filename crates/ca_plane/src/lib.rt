@@ -3,6 +3,7 @@
 #![tactic(auto)]
 
 mod automaton;
+mod bit_plane;
 pub mod bytes;
 mod device;
 pub mod limits;
@@ -14,6 +15,7 @@ mod sending;
 pub mod text;
 
 pub use automaton::Automaton;
+pub use bit_plane::{BitPlane, CellWord};
 pub use device::{Dev, Failed};
 pub use memory::{Memory, MoveFault, WriteFault};
 pub use plane::{Cells, Plane};

@@ -1,5 +1,6 @@
 //! The tests, by what they try.
 
+mod bit_planes;
 mod bytes;
 mod devices;
 mod expected;
