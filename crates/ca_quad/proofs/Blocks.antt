@@ -12,7 +12,7 @@ use Rattle.ca_quad.specs.inner.Block.{block_cells, IsCell, IsPut, IsRight}
 use Rattle.ca_quad.specs.inner.Filled.{counted}
 
 -- a block of zeros is right where no cell is live
-pub zeros_right : (p : Picture) (at : Spot) (x y : ℕ) → x < 32 → y < 32 → counted p at x y ≡ 0 → IsRight p at (replicate 1024 0) x y
+pub zeros_right : (p : Picture) (at : Spot) (x y : ℕ) → x < 32 → y < 32 → counted (cell p) at x y ≡ 0 → IsRight p at (replicate 1024 0) x y
 zeros_right p at x y i j z = get_or-replicate 1024 (32 * y + x) 0 0 (omega arith) ∙ sym z
 
 -- a point is one cell of a block at most
@@ -44,4 +44,4 @@ module _ (p : Picture) (sparse : IsSparse p) (at : Spot) (i : ℕ) (low : i < le
 
   pub put_keeps : (x y : ℕ) → x < 32 → y < 32 → IsRight p at old x y → IsRight p at new x y
   put_keeps x y a b h =
-      elim (cases_eq (block_cells new x y) (counted p at x y)) [ inl e ↦ e | inr differs ↦ put.other x y a b (λ c. differs (put_right x y c)) ∙ h ]
+      elim (cases_eq (block_cells new x y) (counted (cell p) at x y)) [ inl e ↦ e | inr differs ↦ put.other x y a b (λ c. differs (put_right x y c)) ∙ h ]

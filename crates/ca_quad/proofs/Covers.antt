@@ -35,9 +35,9 @@ place_of p x y live =
     (k, low, ap (λ (q : Point). q.x) at, ap (λ (q : Point). q.y) at)
 
 -- where no row holds anything, nothing is live
-pub covered_none : (p : Picture) (rows : List Row) (side : ℕ) (at : Spot) → rows ≡ [] → Cover p rows side at → (x y : ℕ) → x < side → y < side → counted p at x y ≡ 0
+pub covered_none : (p : Picture) (rows : List Row) (side : ℕ) (at : Spot) → rows ≡ [] → Cover p rows side at → (x y : ℕ) → x < side → y < side → counted (cell p) at x y ≡ 0
 covered_none p rows side at e cover x y i j =
-    elim (cases_eq (counted p at x y) 0) [
+    elim (cases_eq (counted (cell p) at x y) 0) [
       | inl z ↦ z
       | inr live ↦
           let (k, low, ex, ey) = place_of p (at.x +ℤ pos x) (at.y +ℤ pos y) live in
@@ -48,7 +48,7 @@ no_rows : (rows : List Row) → length rows ≡ 0 → rows ≡ []
 no_rows [] e = refl
 no_rows (r ∷ rs) e = absurd (omega arith)
 
-pub shows_none : (nodes : List Node) (id level : ℕ) (p : Picture) (rows : List Row) (at : Spot) → length rows ≡ 0 → Cover p rows (2 ^ level) at → ShowsSquare nodes id level none → ShowsFrom nodes id level (counted p at) 0 0
+pub shows_none : (nodes : List Node) (id level : ℕ) (p : Picture) (rows : List Row) (at : Spot) → length rows ≡ 0 → Cover p rows (2 ^ level) at → ShowsSquare nodes id level none → ShowsFrom nodes id level (counted (cell p) at) 0 0
 shows_none nodes id level p rows at e cover h = record {
   is_square = h.is_square;
   has_cells = λ x y i j. h.has_cells x y ∙ sym (covered_none p rows (2 ^ level) at (no_rows rows e) cover (0 + x) (0 + y) (omega arith) (omega arith));

@@ -8,11 +8,15 @@ use Rattle.ca_quad.specs.Trees.{ShowsSquare, row_cells, word_cells}
 use Rattle.ca_quad.proofs.Windows.{rows_end}
 use Rattle.ca_quad.proofs.Words.{are_word_cells}
 
--- the bits of a byte
+-- the bits of a part of a number
+pub part_bit : (n first size i : ℕ) → i < size → bit_at (n / 2 ^ first % 2 ^ size) i ≡ bit_at n (first + i)
+part_bit n first size i h =
+    let m = n / 2 ^ first in
+    sym (bit_at_cat_low (m / 2 ^ size) size (m % 2 ^ size) i h) ∙ ap (λ l. bit_at l i) (shr_split m size) ∙ ap (λ l. l % 2) (shr-shr n first i)
+
+-- those of a byte
 byte_bit : (n y x : ℕ) → x < 8 → bit_at (n / 2 ^ (8 * y) % 256) x ≡ bit_at n (8 * y + x)
-byte_bit n y x h =
-    let m = n / 2 ^ (8 * y) in
-    sym (bit_at_cat_low (m / 256) 8 (m % 256) x h) ∙ ap (λ l. bit_at l x) (shr_split m 8) ∙ ap (λ l. l % 2) (shr-shr n (8 * y) x)
+byte_bit n y x h = part_bit n (8 * y) 8 x h
 
 byte_bits : (n x y : ℕ) → x < 8 → y < 8 → bit_at (slice_index (to_le_bytes w64 n) y) x ≡ bit_at n (8 * y + x)
 byte_bits n x zero h i = let e : n / 1 ≡ n = omega arith in subst (λ m. bit_at (m % 256) x ≡ bit_at n (8 * 0 + x)) e (byte_bit n 0 x h)

@@ -27,8 +27,8 @@ use Rattle.ca_quad.proofs.Walks.{nw_empty}
 use Rattle.ca_quad.proofs.Windows.{FourWindows, gathered, four_windows, window_joined}
 
 -- a cell, counted from a place
-pub counted_at : (p : Picture) (at : Spot) (x y : ℤ) (a b : ℕ) → x ≡ at.x +ℤ pos a → y ≡ at.y +ℤ pos b → cell p x y ≡ counted p at a b
-counted_at p at x y a b e f = ap (λ n. cell p n y) e ∙ ap (λ n. cell p (at.x +ℤ pos a) n) f
+pub counted_at : (p : ℤ → ℤ → ℕ) (at : Spot) (x y : ℤ) (a b : ℕ) → x ≡ at.x +ℤ pos a → y ≡ at.y +ℤ pos b → p x y ≡ counted p at a b
+counted_at p at x y a b e f = ap (λ n. p n y) e ∙ ap (λ n. p (at.x +ℤ pos a) n) f
 
 -- the first quarter of an empty square is empty
 none_first : (nodes : List Node) → IsSoundStore nodes → (id k : ℕ) (parts : List ℕ) (d : ℕ) → length parts ≡ 4 → ShowsSquare nodes id (suc k) none → AreQuarters nodes id k parts → ShowsSquare nodes (get_or parts 0 d) k none
@@ -97,7 +97,7 @@ near_first level half at least most side ex ey =
     record { left = omega (arith, ints); right = omega (arith, ints); top = omega (arith, ints); bottom = omega (arith, ints) }
 
 -- cells that were counted from another place
-window_to : (nodes : List Node) (id k : ℕ) (p : Picture) (from at : Spot) (dx dy : ℕ) → from.x ≡ at.x +ℤ pos dx → from.y ≡ at.y +ℤ pos dy
+window_to : (nodes : List Node) (id k : ℕ) (p : ℤ → ℤ → ℕ) (from at : Spot) (dx dy : ℕ) → from.x ≡ at.x +ℤ pos dx → from.y ≡ at.y +ℤ pos dy
     → ShowsFrom nodes id k (counted p from) 0 0 → ShowsFrom nodes id k (counted p at) dx dy
 window_to nodes id k p from at dx dy ex ey h = record {
   is_square = h.is_square;
@@ -129,7 +129,7 @@ module _ (s1 s2 s3 s4 : List Node) (sound : IsSoundStore s1) (g2 : Grows s1 s2) 
         subst (λ l. IfOk u (λ id. ShowsFrom new id l cells x y)) next (window_joined s4 (level - 1) cells x y nw ne sw se quarters new u (join (level - 1) quarters.a.is_square))
 
   -- the same of squares that were filled, each from its own corner on
-  module _ (at : Spot) (cs : Corners) (are : ArePartCorners at half cs) (cells : Picture)
+  module _ (at : Spot) (cs : Corners) (are : ArePartCorners at half cs) (cells : ℤ → ℤ → ℕ)
       (p : ShowsFrom s1 nw (level - 1) (counted cells at) 0 0) (q : ShowsFrom s2 ne (level - 1) (counted cells cs.ne) 0 0) (r : ShowsFrom s3 sw (level - 1) (counted cells cs.sw) 0 0) (s : ShowsFrom s4 se (level - 1) (counted cells cs.se) 0 0)
     where
       to_ne : ShowsFrom s2 ne (level - 1) (counted cells at) (0 + half) 0
@@ -184,9 +184,9 @@ module _ (nodes : List Node) (tree : Tree) (half : ℕ) (side : half ≡ 2 ^ (tr
       ]
 
 -- a tree whose root shows all cells shows the picture
-pub tree_filled : (nodes : List Node) (tree : Tree) (p : Picture) (half : ℕ) → half ≡ 2 ^ (tree.level - 1) → 1 ≤ tree.level → (at : Spot) → at.x ≡ neg_ℤ (pos half) → at.y ≡ neg_ℤ (pos half)
-    → ShowsFrom nodes tree.root tree.level (counted p at) 0 0 → HoldsAll tree.level (cell p) → (x y : ℤ) → tree_cell nodes tree x y ≡ cell p x y
+pub tree_filled : (nodes : List Node) (tree : Tree) (p : ℤ → ℤ → ℕ) (half : ℕ) → half ≡ 2 ^ (tree.level - 1) → 1 ≤ tree.level → (at : Spot) → at.x ≡ neg_ℤ (pos half) → at.y ≡ neg_ℤ (pos half)
+    → ShowsFrom nodes tree.root tree.level (counted p at) 0 0 → HoldsAll tree.level p → (x y : ℤ) → tree_cell nodes tree x y ≡ p x y
 tree_filled nodes tree p half side some at ex ey shows holds =
     let whole = twice tree.level some in
-    tree_shows nodes tree half side some (cell p) holds
+    tree_shows nodes tree half side some p holds
     (λ x y a b e f h i. shows.has_cells a b (omega (arith, side, whole)) (omega (arith, side, whole)) ∙ sym (counted_at p at x y (0 + a) (0 + b) (omega (arith, ints)) (omega (arith, ints))))

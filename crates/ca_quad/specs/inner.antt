@@ -17,6 +17,7 @@ pub mod Rows
 pub mod Reach
 pub mod Block
 pub mod Copied
+pub mod BitParts
 pub mod Bits
 pub mod Cut
 pub mod Shifted

@@ -7,6 +7,7 @@ ghost use Rattle.ca_quad.specs.Sound.{IsSoundStore, IsStorable, Grows, AddsOnly}
 ghost use Rattle.ca_quad.specs.Trees.{IsIn};
 ghost use Rattle.ca_quad.specs.inner.Whole.{IsWhole};
 
+mod bit_block;
 mod bits;
 mod block;
 mod bounds;
@@ -16,7 +17,9 @@ mod cuts;
 mod difference;
 mod draw;
 mod extent;
+mod from_bits;
 mod from_plane;
+mod gather;
 mod greatest;
 mod import;
 mod leaf8;

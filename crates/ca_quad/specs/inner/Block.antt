@@ -1,7 +1,7 @@
 -- The states of a block of cells: 32 rows of 32, from the top.
 use Rattle.std.specs.Prelude.{◌≡◌, ℕ, ◌+◌, ◌*◌, ◌<◌, pos, ◌+ℤ◌, List, slice_index, Option, MatchOption}
 use Rattle.ca_plane.specs.declared.point.Point.{Point}
-use Rattle.ca_plane.specs.Plane.{Picture}
+use Rattle.ca_plane.specs.Plane.{Picture, cell}
 use Rattle.ca_quad.specs.declared.tree.Spot.{Spot}
 use Rattle.ca_quad.specs.inner.Filled.{counted}
 
@@ -27,4 +27,4 @@ pub record IsPut (at : Spot) (point : Point) (state : ℕ) (old new : List ℕ) 
 
 -- the block shows the picture's cell
 abbrev pub IsRight : Picture → Spot → List ℕ → ℕ → ℕ → Type 0
-IsRight p at states x y = block_cells states x y ≡ counted p at x y
+IsRight p at states x y = block_cells states x y ≡ counted (cell p) at x y

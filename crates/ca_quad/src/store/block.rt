@@ -1,6 +1,8 @@
 //! Blocks of 32 by 32 cells or less, which are read at once.
 
 ghost use Rattle.std.specs.Prelude.{◌≡◌, ℕ, ◌+◌, ◌<◌, ◌≤◌, ◌^◌, pos, neg_ℤ, ◌+ℤ◌, ◌≤ℤ◌, IfOk, MatchOption};
+ghost use Rattle.std.proofs.Common.{arith};
+ghost use Rattle.ca_plane.specs.Plane.{cell};
 ghost use Rattle.ca_plane.specs.Sparse.{IsSparse};
 ghost use Rattle.ca_quad.specs.Sound.{Grows};
 ghost use Rattle.ca_quad.specs.inner.Block.{block_cells, IsCell, TellsPlace, IsPut, IsRight};
@@ -9,7 +11,7 @@ ghost use Rattle.ca_quad.specs.inner.Rows.{point_at, IsInRow, IsPictureRow, AreR
 ghost use Rattle.ca_quad.specs.inner.Window.{ShowsFrom};
 
 use super::Store;
-use super::read::half_side;
+use super::gather::Block;
 use super::rows::Row;
 use crate::id::Id;
 use crate::tree::Spot;
@@ -28,47 +30,35 @@ impl Store {
         requires least { 1 ≤ level }
         requires most { level ≤ 5 }
         requires rows { AreRowsOf level cells.now rows.now at }
-        ensures shows { IfOk result (λ id. ShowsFrom self.new id level (counted cells.now at) 0 0) }
+        ensures shows { IfOk result (λ id. ShowsFrom self.new id level (counted (cell cells.now) at) 0 0) }
         ensures grows { Grows self.old self.new }
     {
         let states = states_of(cells, rows, at);
         self.gather(&states, level, 0, 0)
     }
+}
 
-    // The square of this level with the cells of a block from a place on.
-    fn gather(&mut self, states: &[u8; 1024], level: u8, x: usize, y: usize) -> Result<Id, Memory>
-        requires least { 1 ≤ level }
-        requires most { level ≤ 5 }
-        requires x { x + 2 ^ level ≤ 32 }
-        requires y { y + 2 ^ level ≤ 32 }
-        ensures shows { IfOk result (λ id. ShowsFrom self.new id level (block_cells states.now) x y) }
-        ensures grows { Grows self.old self.new }
-    {
-        if level == 1 {
-            return self.gather_leaf(states, x, y);
-        }
-        let half = half_side(level) as usize;
-        let nw = self.gather(states, level - 1, x, y)?;
-        let ne = self.gather(states, level - 1, x + half, y)?;
-        let sw = self.gather(states, level - 1, x, y + half)?;
-        let se = self.gather(states, level - 1, x + half, y + half)?;
-        self.join(nw, ne, sw, se)
-    }
+impl Block for [u8; 1024] {
+    const LEAST: u8 = 1;
 
-    // The 2 by 2 square with the cells of a block from a place on.
-    fn gather_leaf(&mut self, states: &[u8; 1024], x: usize, y: usize) -> Result<Id, Memory>
-        requires x { x ≤ 30 }
-        requires y { y ≤ 30 }
-        ensures shows { IfOk result (λ id. ShowsFrom self.new id 1 (block_cells states.now) x y) }
-        ensures grows { Grows self.old self.new }
-    {
-        self.leaf(
-            block_cell(states, x, y),
-            block_cell(states, x + 1, y),
-            block_cell(states, x, y + 1),
-            block_cell(states, x + 1, y + 1),
+    ghost LEAST = { 1 };
+
+    ghost side = { 32 };
+
+    ghost cells = { block_cells };
+
+    fn least_square(&self, store: &mut Store, x: usize, y: usize) -> Result<Id, Memory> {
+        store.leaf(
+            block_cell(self, x, y),
+            block_cell(self, x + 1, y),
+            block_cell(self, x, y + 1),
+            block_cell(self, x + 1, y + 1),
         )
     }
+
+    ghost some = { omega arith };
+
+    ghost small = { omega arith };
 }
 
 // The state of a block's cell.

@@ -63,7 +63,7 @@ impl Store {
         requires most { level ≤ 65 }
         requires empty { ShowsSquare self.old empty level none }
         requires rows { AreRowsOf level cells.now rows.now at }
-        ensures shows { IfOk result (λ id. ShowsFrom self.new id level (counted cells.now at) 0 0) }
+        ensures shows { IfOk result (λ id. ShowsFrom self.new id level (counted (plane_cell cells.now) at) 0 0) }
         ensures grows { Grows self.old self.new }
     {
         let _ = &self.nodes;
@@ -109,11 +109,12 @@ fn level_for(plane: &Plane) -> u8
 }
 
 // The least level from this one on, up to 65, of a tree that holds the box.
-fn level_from(bounds: Bounds, level: u8) -> u8
+pub(super) fn level_from(bounds: Bounds, level: u8) -> u8
     requires least { 4 ≤ level }
     requires most { level ≤ 65 }
     ensures least { 4 ≤ result }
     ensures most { result ≤ 65 }
+    ensures from { level ≤ result }
     ensures holds { HoldsBox (2 ^ (result - 1)) bounds }
 {
     if level == LARGEST {

@@ -1,5 +1,6 @@
 use Rattle.std.proofs.Common.{◌≡◌, ℕ, ◌≤◌, ◌-◌, List, get_or, length, sym, subst, ◌∙◌, arith}
 use Rattle.std.proofs.lemmas.Bool.{eqb-true}
+use Rattle.ca_plane.specs.Plane.{cell}
 use Rattle.ca_quad.specs.declared.node.Node.{Node}
 use Rattle.ca_quad.specs.declared.store.rows.Row.{Row}
 use Rattle.ca_quad.specs.declared.tree.Spot.{Spot}
@@ -61,7 +62,7 @@ join-requires t c =
     let large : 2 ≤ c.args.level = omega (arith, c.requires.least) in (
       _,
       can_join_filled c.fill.new.self c.fill-2.new.self c.fill-3.new.self c.fill-4.new.self c.fill.ensures.grows.sound c.fill-2.ensures.grows c.fill-3.ensures.grows c.fill-4.ensures.grows
-          c.args.level c.half_side.result large c.half_side.ensures.half c.in_ok-nw.nw c.in_ok-ne.ne c.in_ok-sw.sw c.in_ok-se.se c.args.at c.part_corners-corners.result c.part_corners-corners.ensures c.args.cells.now
+          c.args.level c.half_side.result large c.half_side.ensures.half c.in_ok-nw.nw c.in_ok-ne.ne c.in_ok-sw.sw c.in_ok-se.se c.args.at c.part_corners-corners.result c.part_corners-corners.ensures (cell c.args.cells.now)
           c.in_ok-nw.ensures.shows c.in_ok-ne.ensures.shows c.in_ok-sw.ensures.shows c.in_ok-se.ensures.shows (omega (arith, c.requires.most)),
     )
 
@@ -69,7 +70,7 @@ pub returns-clause-shows : goal.returns-clause-shows
 returns-clause-shows t c =
     let large : 2 ≤ c.args.level = omega (arith, c.requires.least) in
     filled_joined c.fill.new.self c.fill-2.new.self c.fill-3.new.self c.fill-4.new.self c.fill.ensures.grows.sound c.fill-2.ensures.grows c.fill-3.ensures.grows c.fill-4.ensures.grows
-    c.args.level c.half_side.result large c.half_side.ensures.half c.in_ok-nw.nw c.in_ok-ne.ne c.in_ok-sw.sw c.in_ok-se.se c.args.at c.part_corners-corners.result c.part_corners-corners.ensures c.args.cells.now
+    c.args.level c.half_side.result large c.half_side.ensures.half c.in_ok-nw.nw c.in_ok-ne.ne c.in_ok-sw.sw c.in_ok-se.se c.args.at c.part_corners-corners.result c.part_corners-corners.ensures (cell c.args.cells.now)
     c.in_ok-nw.ensures.shows c.in_ok-ne.ensures.shows c.in_ok-sw.ensures.shows c.in_ok-se.ensures.shows c.join.new.self c.join.result c.join.ensures.shows
 
 pub returns-clause-grows : goal.returns-clause-grows

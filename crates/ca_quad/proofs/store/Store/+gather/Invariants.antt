@@ -1,4 +1,4 @@
 use Rattle.ca_quad.proofs.store.Store.+gather.Given as goal
 
 abbrev pub decreases-gather : goal.decreases-gather
-decreases-gather l = l.level
+decreases-gather g l = l.level

@@ -19,6 +19,6 @@ returns-clause-cells c =
     let tree : Tree = record { root = c.in_ok-root.root; level = c.level_for-level.result } in
     let at = c.first_corner-corner.result in
     cells_as c.trim.new.self c.trim.result (cell c.fill.new.self tree) (plane_cell plane)
-    (tree_filled c.fill.new.self tree plane c.half_side.result c.half_side.ensures.half (omega (arith, c.level_for-level.ensures.least)) at c.first_corner-corner.ensures.x c.first_corner-corner.ensures.y
-    (subst (λ (p : Picture). ShowsFrom c.fill.new.self tree.root tree.level (counted p at) 0 0) c.as_slice-cells.ensures.all c.in_ok-root.ensures.shows) c.level_for-level.ensures.holds)
+    (tree_filled c.fill.new.self tree (plane_cell plane) c.half_side.result c.half_side.ensures.half (omega (arith, c.level_for-level.ensures.least)) at c.first_corner-corner.ensures.x c.first_corner-corner.ensures.y
+    (subst (λ (p : Picture). ShowsFrom c.fill.new.self tree.root tree.level (counted (plane_cell p) at) 0 0) c.as_slice-cells.ensures.all c.in_ok-root.ensures.shows) c.level_for-level.ensures.holds)
     c.trim.ensures.cells

@@ -2,6 +2,7 @@ use Rattle.std.proofs.Common.{inl, inr, subst, arith, pos, ◌+ℤ◌}
 use Rattle.std.proofs.lemmas.Bool.{cases_eq}
 use Rattle.std.proofs.lemmas.List.{drop_all}
 use Rattle.std.proofs.lemmas.Option.{slice_get-get_or}
+use Rattle.ca_plane.specs.Plane.{cell}
 use Rattle.ca_quad.specs.inner.Filled.{counted}
 use Rattle.ca_quad.specs.inner.Rows.{Hold}
 use Rattle.ca_quad.proofs.Blocks.{zeros_right}
@@ -10,7 +11,7 @@ use Rattle.ca_quad.proofs.Held.{rest_at}
 use Rattle.ca_quad.proofs.store.block.states_of.Goals as goal
 
 pub rows-init : goal.rows-init
-rows-init c = (λ x y i j z. zeros_right c.args.cells.now c.args.at x y i j z, λ i x y held cell. inr held)
+rows-init c = (λ x y i j z. zeros_right c.args.cells.now c.args.at x y i j z, λ i x y held is_cell. inr held)
 
 pub rows-preserved : goal.rows-preserved
 rows-preserved c =
@@ -19,9 +20,9 @@ rows-preserved c =
     let at = slice_get-get_or rows k _ c.rows-test.true in
     let (zero, right) = c.rows.invariant in (
       λ x y i j z. c.put_row.ensures.kept x y i j (zero x y i j z),
-      λ i x y held cell. elim (right i x y held cell) [
-        | inl r ↦ inl (c.put_row.ensures.kept x y cell.low_x cell.low_y r)
-        | inr h ↦ elim (subst (λ rs. Hold rs i) (rest_at rows k _ at) h) [ inl here ↦ inl (c.put_row.ensures.put i x y here cell) | inr rest ↦ inr rest ]
+      λ i x y held is_cell. elim (right i x y held is_cell) [
+        | inl r ↦ inl (c.put_row.ensures.kept x y is_cell.low_x is_cell.low_y r)
+        | inr h ↦ elim (subst (λ rs. Hold rs i) (rest_at rows k _ at) h) [ inl here ↦ inl (c.put_row.ensures.put i x y here is_cell) | inr rest ↦ inr rest ]
       ],
     )
 
@@ -31,7 +32,7 @@ returns c = λ side small cover x y i j.
     let at = c.args.at in
     let rows = c.args.rows.now in
     let (zero, right) = c.rows.invariant in
-    elim (cases_eq (counted p at x y) 0) [
+    elim (cases_eq (counted (cell p) at x y) 0) [
       | inl z ↦ zero x y (omega arith) (omega arith) z
       | inr live ↦
           let (k, low, ex, ey) = place_of p (at.x +ℤ pos x) (at.y +ℤ pos y) live in
