@@ -3,6 +3,7 @@ use Rattle.std.proofs.Common.{◌≡◌, ◌≢◌, ◌==◌, ◌<◌, ◌≤◌
 use Rattle.std.specs.Prelude.{filter, max, bit_or, slice_index}
 use Rattle.std.specs.Int.{bit_at}
 use Rattle.std.specs.List.{range_with_len}
+use Rattle.std.proofs.Math.Bool.{or-true, or-false, and-false}
 use Rattle.std.proofs.lemmas.Bool.{cases_Bool, false≢true}
 use Rattle.std.proofs.lemmas.Bool.Decides.{nat_tests}
 use Rattle.std.proofs.lemmas.List.{get_or-set_other}
@@ -39,18 +40,6 @@ all-below p q a (suc m) n h =
       | inr e ↦ rw (here ∙ e) (rw e more)
     ] in
     ap (λ k. filter q (range_with_len a k)) (suc-plus m n) ∙ both
-
-or-true : (b : Bool) → (b || true) ≡ true
-or-true true = refl
-or-true false = refl
-
-or-false : (b : Bool) → (b || false) ≡ b
-or-false true = refl
-or-false false = refl
-
-and-false : (b : Bool) → (b && false) ≡ false
-and-false true = refl
-and-false false = refl
 
 below-too : (t s : ℕ) → (t == s) ≡ false → nat_lt t (s + 1) ≡ nat_lt t s
 below-too t s v = elim (cases_Bool (nat_lt t s)) [

@@ -2,7 +2,7 @@
 use Rattle.std.proofs.Common.{◌≡◌, ℕ, ◌%◌, ◌/◌, ◌<◌, ◌≤◌, List, [], ◌∷◌, ◌++◌, map, zip, length, drop, Bool, true, false, not, ◌==◌, ◌&&◌, ◌||◌, slice_index, refl, ap, sym, ◌∙◌, subst, None, arith, inl, inr}
 use Rattle.std.specs.Prelude.{cond}
 use Rattle.std.specs.List.{count_by, list_all}
-use Rattle.std.proofs.lemmas.Bool.{cases_Bool}
+use Rattle.std.proofs.lemmas.Bool.{cases_Bool, and_parts, or_right}
 use Rattle.std.proofs.lemmas.Bool.Decides.{nat_tests}
 use Rattle.std.proofs.lemmas.List.{length-map}
 use Rattle.std.proofs.lemmas.List.Folds.{list_all-append}
@@ -19,11 +19,7 @@ use Rattle.ca_rule.proofs.Shuffled.{Alike, count-cons, length-alike, orders-alik
 use Rattle.ca_rule.proofs.Repeated.{counted, none-of-unfit}
 
 all-back : (p : Taken → Bool) (xs ys : List Taken) → list_all p (xs ++ ys) ≡ true → list_all p ys ≡ true
-all-back p xs ys e =
-    elim (cases_Bool (list_all p xs)) [
-      | inl h ↦ let k = list_all-append p xs ys in let m = rw h at k in sym m ∙ e
-      | inr h ↦ let k = list_all-append p xs ys in let m = rw h at k in cc
-    ]
+all-back p xs ys e = (and_parts (list_all p xs) (list_all p ys) (sym (list_all-append p xs ys) ∙ e)).1
 
 -- the slots of a variable have a cell each, where they all take that cell
 like-cells : (v c : ℕ) (ss : List Slot) (cells : List ℕ) → length ss ≤ length cells
@@ -85,7 +81,7 @@ module _ (variables : List States) (nine : List ℕ) (left : List Slot) (free : 
         | inr h ↦ let k = rw h at may in cc
       ] in
       let later : list_all (λ (t : Taken). may_take variables nine taken left free t.0 t.1) (zip ss cells) ≡ true = rw here at may in
-      let rest = enough taken ss cells (set / 2) q (omega arith) later (λ d e. into d (or-right (set % 2 == 1 && may_take variables nine taken left free s d) _ e)) in
+      let rest = enough taken ss cells (set / 2) q (omega arith) later (λ d e. into d (or_right (set % 2 == 1 && may_take variables nine taken left free s d) _ e)) in
       elim (cases_Bool (set % 2 == 1)) [
         | inl e ↦ let one : q c ≡ true = into c (rw (e, here) refl) in
             let counts : cond {A = ℕ} (q c) 1 0 ≡ 1 = rw one refl in
@@ -93,10 +89,6 @@ module _ (variables : List States) (nine : List ℕ) (left : List Slot) (free : 
             omega (arith, rest, bit, counts, count-cons q c cells)
         | inr e ↦ let bit : set % 2 ≡ 0 = grind (arith, nat_tests) in omega (arith, rest, bit, count-cons q c cells)
       ]
-    where
-      or-right : (a b : Bool) → b ≡ true → a || b ≡ true
-      or-right true b e = refl
-      or-right false b e = e
 
 -- no order of the free places fits
 module _ (variables : List States) (nine : List ℕ) (t : Transition) (taken free : List ℕ) where

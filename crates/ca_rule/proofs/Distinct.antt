@@ -1,9 +1,10 @@
 -- Where no variable comes twice among slots, all slots of one variable take one cell.
-use Rattle.std.proofs.Common.{◌≡◌, ◌==◌, ◌%◌, ◌*◌, ◌^◌, ◌<◌, ℕ, List, [], ◌∷◌, ◌++◌, Bool, true, false, not, ◌||◌, zip, refl, ap, sym, subst, ◌∙◌, inl, inr, arith, eq-eqb, append_assoc, bit_or}
+use Rattle.std.proofs.Common.{◌≡◌, ◌==◌, ◌%◌, ◌*◌, ◌^◌, ◌<◌, ℕ, List, [], ◌∷◌, ◌++◌, true, false, not, ◌||◌, zip, refl, ap, sym, subst, ◌∙◌, inl, inr, arith, eq-eqb, append_assoc, bit_or}
 use Rattle.std.specs.Int.{bit_at}
 use Rattle.std.specs.List.{list_all, list_any}
 use Rattle.std.proofs.Math.Pow.{pow-lt}
 use Rattle.std.proofs.Math.Nat.{mod-eq_of_lt}
+use Rattle.std.proofs.Math.Bool.{or-true}
 use Rattle.std.proofs.lemmas.Bool.{cases_Bool, false≢true}
 use Rattle.std.proofs.lemmas.Bool.Decides.{nat_tests}
 use Rattle.std.proofs.lemmas.List.Folds.{list_all-append}
@@ -40,10 +41,6 @@ apart-more v before t apart other = list_all-append (λ (x : Taken). not (is_var
 
 same-cell : (c : ℕ) → (c == c) ≡ true
 same-cell c = eq-eqb c c refl
-
-or-true : (b : Bool) → (b || true) ≡ true
-or-true true = refl
-or-true false = refl
 
 -- a slot takes one cell, apart from those before and after it
 alone : (w d : ℕ) (before : List Taken) (ss : List Slot) (ds : List ℕ) → IsApart w before → list_any (is_variable w) ss ≡ false

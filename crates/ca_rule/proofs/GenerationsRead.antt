@@ -1,5 +1,5 @@
 -- What is read from a text of the family Generations is what it spells, and nothing else.
-use Rattle.std.proofs.Common.{◌≡◌, ◌↔◌, ◌&&◌, ℕ, List, [], ◌∷◌, ◌++◌, Bool, true, false, not, nat_le, length, get_or, Option, Some, None, is_some, option_map, option_and_then, if◌then◌else◌, refl, ap, sym, subst, ◌∙◌, append-nil}
+use Rattle.std.proofs.Common.{◌≡◌, ◌&&◌, ℕ, List, [], ◌∷◌, ◌++◌, Bool, true, false, not, nat_le, length, get_or, Option, Some, None, is_some, option_map, option_and_then, if◌then◌else◌, refl, ap, sym, subst, ◌∙◌, append-nil}
 use Rattle.std.specs.List.{list_all, All}
 use Rattle.std.proofs.lemmas.Bool.{and_parts, and_from, false≢true}
 use Rattle.std.proofs.lemmas.List.Sums.{AllPass-from_list_all}
@@ -8,16 +8,17 @@ use Rattle.ca_plane.specs.Bytes.{Every, is_digit, value}
 use Rattle.ca_plane.proofs.Fronts.{every_append, every_right}
 use Rattle.ca_rule.specs.Counts.{has_digit, counts_of, are_digits_up_to}
 use Rattle.ca_rule.specs.Digits.{are_digits, state_count}
-use Rattle.ca_rule.specs.GenerationsText.{SpellsGenerationsRule, SpellsNoGenerationsRule, NamesGenerationsRule, IsGenerationsRuleFault, printed_generations_rule}
+use Rattle.ca_rule.specs.GenerationsText.{SpellsGenerationsRule, SpellsNoGenerationsRule, NamesGenerationsRule, IsGenerationsRuleFault}
 use Rattle.ca_rule.specs.Spelling as bs
 use Rattle.ca_rule.specs.inner.GenerationsParts.{Parts, parts_after, parts_around, parts_in}
 use Rattle.ca_rule.specs.inner.TextParts.{lists_around_slash, lists_of, swapped}
 use Rattle.ca_rule.specs.declared.fault.RuleFault.{RuleFault}
-use Rattle.ca_rule.specs.declared.fault.RuleFault.TheVariants.{Bounded, Wakes, Unknown}
+use Rattle.ca_rule.specs.declared.fault.RuleFault.TheVariants.{Unknown}
 use Rattle.ca_rule.specs.declared.gen_rule.GenRule.{GenRule}
 use Rattle.ca_rule.specs.declared.hood.Hood.TheVariants.{Moore}
 use Rattle.ca_rule.proofs.Ends.{is_plain, split, no_colon}
 use Rattle.ca_rule.proofs.Formed.{around_slash-from, first_list}
+use Rattle.ca_rule.proofs.Meaning.{counts-once, counts-faultless}
 use Rattle.ca_rule.proofs.OneSpelling.{then-some, map-some, if-some}
 use Rattle.ca_rule.proofs.ReadInwards.{digits-of, plain-digits, around_slash, lists-no_letter, read}
 
@@ -73,10 +74,10 @@ read-named text p rule read empty s b n = record {
 }
 
 -- a text spells one rule at most
-pub spelled-once : (text s b u v : List ℕ) (n m : ℕ) → SpellsGenerationsRule text s b n → SpellsGenerationsRule text u v m → (s ≡ u) × (b ≡ v) × (n ≡ m)
-spelled-once text s b u v n m h k =
-    let same : (s, b, n) ≡ (u, v, m) = same_Some (s, b, n) (u, v, m) (sym (spelled-read text s b n h) ∙ spelled-read text u v m k) in
-    (ap (λ (p : Parts). p.0) same, ap (λ (p : Parts). p.1) same, ap (λ (p : Parts). p.2) same)
+spelled-once : (text b s c t : List ℕ) (n m : ℕ) → SpellsGenerationsRule text s b n → SpellsGenerationsRule text t c m → (b ≡ c) × (s ≡ t) × (n ≡ m)
+spelled-once text b s c t n m h k =
+    let same : (s, b, n) ≡ (t, c, m) = same_Some (s, b, n) (t, c, m) (sym (spelled-read text s b n h) ∙ spelled-read text t c m k) in
+    (ap (λ (p : Parts). p.1) same, ap (λ (p : Parts). p.0) same, ap (λ (p : Parts). p.2) same)
 
 -- ---- such a text is no B/S spelling, and has no `:`
 
@@ -112,36 +113,11 @@ other-notation text s b n h d v hood k =
 
 pub names-once : (text : List ℕ) (r s : GenRule) → NamesGenerationsRule text r → NamesGenerationsRule text s → (r.survival ≡ s.survival) × (r.birth ≡ s.birth) × (r.states ≡ s.states)
 names-once text r s h k =
-    let one = spelled-once text h.survival h.birth k.survival k.birth r.states s.states h.spells k.spells in
-    (h.survival_is ∙ ap counts_of one.0 ∙ sym k.survival_is, h.birth_is ∙ ap counts_of one.1 ∙ sym k.birth_is, one.2)
+    let one = counts-once (λ b s. SpellsGenerationsRule text s b) (spelled-once text) r.birth r.survival s.birth s.survival r.states s.states h k in (one.1, one.0, one.2)
 
 pub names-no_colon : (text : List ℕ) (rule : GenRule) → NamesGenerationsRule text rule → bs.has_colon text ≡ false
 names-no_colon text rule h = spelled-no_colon text h.survival h.birth rule.states h.spells
 
--- one that wakes the empty plane is not named
-named-or-wakes : (text s b u v : List ℕ) (n m : ℕ) → SpellsGenerationsRule text s b n → has_digit b 0 ≡ false → SpellsGenerationsRule text u v m → has_digit v 0 ≡ true → ⊥
-named-or-wakes text s b u v n m h empty k wakes = false≢true (sym empty ∙ ap (λ ds. has_digit ds 0) (spelled-once text s b u v n m h k).1 ∙ wakes)
-
 pub names-faultless : (text : List ℕ) (rule : GenRule) (fault : RuleFault) → NamesGenerationsRule text rule → IsGenerationsRuleFault text fault → ⊥
-names-faultless text rule Bounded h k = false≢true (sym (names-no_colon text rule h) ∙ k)
-names-faultless text rule Wakes h k = named-or-wakes text h.survival h.birth k.1.1 k.1.0 rule.states k.1.2 h.spells h.stays_empty k.1.3 k.1.4
-names-faultless text rule Unknown h k = k.1 h.birth h.survival rule.states h.spells
-
-pub one-fault : (text : List ℕ) (f g : RuleFault) → IsGenerationsRuleFault text f → IsGenerationsRuleFault text g → f ≡ g
-one-fault text Bounded Bounded a b = refl
-one-fault text Bounded Wakes a b = cc (a, b.0)
-one-fault text Bounded Unknown a b = cc (a, b.0)
-one-fault text Wakes Bounded a b = cc (a.0, b)
-one-fault text Wakes Wakes a b = refl
-one-fault text Wakes Unknown a b = absurd (b.1 a.1.0 a.1.1 a.1.2 a.1.3)
-one-fault text Unknown Bounded a b = cc (a.0, b)
-one-fault text Unknown Wakes a b = absurd (a.1 b.1.0 b.1.1 b.1.2 b.1.3)
-one-fault text Unknown Unknown a b = refl
-
--- rules that are named by their printed forms are printed alike exactly where they are equal
-pub alike : (a b : GenRule) → NamesGenerationsRule (printed_generations_rule a.survival a.birth a.states) a → NamesGenerationsRule (printed_generations_rule b.survival b.birth b.states) b
-    → (printed_generations_rule a.survival a.birth a.states ≡ printed_generations_rule b.survival b.birth b.states) ↔ ((a.survival ≡ b.survival) × (a.birth ≡ b.birth) × (a.states ≡ b.states))
-alike a b h k = (
-  λ e. names-once (printed_generations_rule b.survival b.birth b.states) a b (subst (λ text. NamesGenerationsRule text a) e h) k,
-  λ e. ap (λ x. printed_generations_rule x a.birth a.states) e.0 ∙ ap (λ x. printed_generations_rule b.survival x a.states) e.1 ∙ ap (λ x. printed_generations_rule b.survival b.birth x) e.2,
-)
+names-faultless text rule fault h =
+    counts-faultless (λ b s. SpellsGenerationsRule text s b) (spelled-once text) text rule.birth rule.survival rule.states fault (names-no_colon text rule h) h

@@ -4,7 +4,7 @@ use Rattle.std.specs.List.{list_all, list_any}
 use Rattle.std.proofs.lemmas.Bool.{cases_Bool, or_cases, and_parts, and_from, or_from, or_left, or_right, false≢true, cond-true, cond-false}
 use Rattle.std.proofs.lemmas.Bool.Decides.{nat_tests}
 use Rattle.ca_plane.specs.Bytes.{is_blank, is_digit, front, rest, without_last_blanks, trimmed, with_front}
-use Rattle.ca_plane.proofs.Fronts.{front_then_rest, every_right}
+use Rattle.ca_plane.proofs.Fronts.{front_then_rest, every_right, every_wider}
 use Rattle.ca_rule.specs.Digits.{are_digits}
 use Rattle.ca_rule.specs.TableLines.{NumberedLine, tail_after, setting, setting_words, is_setting, begins_with, begins_section, begins_variable, is_name_byte, is_name, is_field, comma_parts, fields_between, fields_of, IsVariableLine, IsTransitionLine}
 use Rattle.ca_rule.specs.inner.TableFields.{opened}
@@ -148,16 +148,10 @@ digit-stands b e = or_right (is_blank b) _ (or_right (b == 44) _ (or_left (is_di
 name-stands : (b : ℕ) → is_name_byte b ≡ true → stands_in_one b ≡ true
 name-stands b e = or_right (is_blank b) _ (or_right (b == 44) _ (or_right (is_digit b) (is_name_byte b) e))
 
-every-stands : (test : ℕ → Bool) (bytes : List ℕ) → ((b : ℕ) → test b ≡ true → stands_in_one b ≡ true) → list_all test bytes ≡ true → list_all stands_in_one bytes ≡ true
-every-stands test [] one all = refl
-every-stands test (b ∷ bs) one all =
-    let parts = and_parts (test b) (list_all test bs) all in
-    and_from (stands_in_one b) (list_all stands_in_one bs) (one b parts.0) (every-stands test bs one parts.1)
-
 field-stands : (field : List ℕ) → is_field field ≡ true → list_all stands_in_one field ≡ true
 field-stands field e = elim (or_cases (are_digits field) (is_name field) e) [
-  | inl d ↦ every-stands is_digit field digit-stands (and_parts _ (list_all is_digit field) d).1
-  | inr n ↦ every-stands is_name_byte field name-stands (and_parts _ (list_all is_name_byte field) n).1
+  | inl d ↦ every_wider is_digit stands_in_one digit-stands field (and_parts _ (list_all is_digit field) d).1
+  | inr n ↦ every_wider is_name_byte stands_in_one name-stands field (and_parts _ (list_all is_name_byte field) n).1
 ]
 
 -- blanks may be there too
@@ -171,7 +165,7 @@ tail_after-blanks (b ∷ bs) all = elim (cases_Bool (is_blank b)) [
 before-blanks : (bytes : List ℕ) → list_all stands_in_one (without_last_blanks bytes) ≡ true → list_all stands_in_one bytes ≡ true
 before-blanks [] all = refl
 before-blanks (b ∷ bs) all = elim (cases_Bool (list_all is_blank (b ∷ bs))) [
-  | inl t ↦ every-stands is_blank (b ∷ bs) (λ c e. or_left (is_blank c) _ e) t
+  | inl t ↦ every_wider is_blank stands_in_one (λ c e. or_left (is_blank c) _ e) (b ∷ bs) t
   | inr t ↦
       let k : list_all stands_in_one (b ∷ without_last_blanks bs) ≡ true = ap (λ v. list_all stands_in_one (if v then [] else b ∷ without_last_blanks bs)) (sym t) ∙ all in
       let parts = and_parts (stands_in_one b) (list_all stands_in_one (without_last_blanks bs)) k in

@@ -1,6 +1,7 @@
 -- Rules of every kind: a text names one or has one fault, and rules that are the same do the same.
-use Rattle.std.proofs.Common.{◌≡◌, ◌≤◌, ℕ, List, [], ◌∷◌, length, false, Some, unwrap_or, refl, sym, ap, subst, ◌∙◌, inl, inr}
+use Rattle.std.proofs.Common.{◌≡◌, ◌≤◌, ℕ, List, [], ◌∷◌, length, false, Some, unwrap_or, refl, sym, ap, subst, ◌∙◌, rules, inl, inr}
 use Rattle.std.specs.Str.{bytes_eq}
+use mathlib.Core.HLevel.{is_prop→PathP}
 use Rattle.std.proofs.lemmas.Bool.{cases_Bool}
 use Rattle.std.proofs.Props.{props}
 use Rattle.std.proofs.lemmas.Slice.Eq.{bytes_eq-Decides}
@@ -12,16 +13,13 @@ use Rattle.ca_rule.specs.Next as bs
 use Rattle.ca_rule.specs.Spelling.{has_colon, NamesBsRule, printed_bs_rule}
 use Rattle.ca_rule.specs.TableNext.{TableRule}
 use Rattle.ca_rule.specs.declared.bs_rule.BsRule.{BsRule}
-use Rattle.ca_rule.specs.declared.counts.Counts.{Counts}
 use Rattle.ca_rule.specs.declared.gen_rule.GenRule.{GenRule}
-use Rattle.ca_rule.specs.declared.hood.Hood.{Hood}
 use Rattle.ca_rule.specs.declared.fault.RuleFault.{RuleFault}
 use Rattle.ca_rule.specs.declared.fault.RuleFault.TheVariants.{Bounded, Wakes, Unknown}
 use Rattle.ca_rule.proofs.GenerationsPrinted as generations_printed
 use Rattle.ca_rule.proofs.GenerationsRead as generations_read
-use Rattle.ca_rule.proofs.Meaning.{names-once, names-faultless}
+use Rattle.ca_rule.proofs.Meaning.{names-once, names-no_colon, names-faultless}
 use Rattle.ca_rule.proofs.Printed.{names_itself}
-use Rattle.ca_rule.proofs.ReadInwards.{read}
 
 -- ---- rules that are the same
 
@@ -31,32 +29,10 @@ same-refl (Gen r) = (refl, refl, refl)
 same-refl (Tab t) = refl
 
 pub same-sym : (r s : RuleValue) → IsSameRule r s → IsSameRule s r
-same-sym (Bs r) (Bs s) a = (sym a.0, sym a.1, sym a.2)
-same-sym (Bs r) (Gen s) a = absurd a
-same-sym (Bs r) (Tab u) a = absurd a
-same-sym (Gen r) (Gen s) a = (sym a.0, sym a.1, sym a.2)
-same-sym (Gen r) (Bs s) a = absurd a
-same-sym (Gen r) (Tab u) a = absurd a
-same-sym (Tab t) (Bs s) a = absurd a
-same-sym (Tab t) (Gen s) a = absurd a
-same-sym (Tab t) (Tab u) a = sym a
+same-sym = search rules
 
 pub same-trans : (r s t : RuleValue) → IsSameRule r s → IsSameRule s t → IsSameRule r t
-same-trans (Bs r) (Bs s) (Bs t) a b = (a.0 ∙ b.0, a.1 ∙ b.1, a.2 ∙ b.2)
-same-trans (Bs r) (Bs s) (Gen t) a b = absurd b
-same-trans (Bs r) (Bs s) (Tab u) a b = absurd b
-same-trans (Bs r) (Gen s) c a b = absurd a
-same-trans (Bs r) (Tab t) c a b = absurd a
-same-trans (Gen r) (Gen s) (Gen t) a b = (a.0 ∙ b.0, a.1 ∙ b.1, a.2 ∙ b.2)
-same-trans (Gen r) (Gen s) (Bs t) a b = absurd b
-same-trans (Gen r) (Gen s) (Tab u) a b = absurd b
-same-trans (Gen r) (Bs s) c a b = absurd a
-same-trans (Gen r) (Tab t) c a b = absurd a
-same-trans (Tab t) (Bs s) c a b = absurd a
-same-trans (Tab t) (Gen s) c a b = absurd a
-same-trans (Tab t) (Tab u) (Bs s) a b = absurd b
-same-trans (Tab t) (Tab u) (Gen s) a b = absurd b
-same-trans (Tab t) (Tab u) (Tab v) a b = a ∙ b
+same-trans = search rules
 
 -- B/S rules that are the same have the same next cells
 pub same-next : (r s : BsRule) → IsSameRule (Bs r) (Bs s) → next_of (Bs r) ≡ next_of (Bs s)
@@ -66,54 +42,29 @@ same-next r s a = λ i. bs.bs_next (a.0 i) (a.1 i) (a.2 i)
 pub same-next_generations : (r s : GenRule) → IsSameRule (Gen r) (Gen s) → next_of (Gen r) ≡ next_of (Gen s)
 same-next_generations r s a = λ i. generations.generations_next (a.0 i) (a.1 i) (a.2 i)
 
--- the rule of these parts
-abbrev rule_of : (hood : Hood) (birth survival : Counts) → is_count birth 0 ≡ false → FitsHood birth hood → FitsHood survival hood → BsRule
-rule_of h b s e f g = record { hood = h; birth = b; survival = s; stays_empty = e; birth_fits = f; survival_fits = g }
-
--- rules of the same parts are one, however it was shown that they are rules
-one_of : (h : Hood) (b s : Counts) (e e2 : is_count b 0 ≡ false) (f f2 : FitsHood b h) (g g2 : FitsHood s h) → rule_of h b s e f g ≡ rule_of h b s e2 f2 g2
-one_of h b s e e2 f f2 g g2 =
-    let p : IsProp (is_count b 0 ≡ false) = hlevel props in
-    let q : IsProp (FitsHood b h) = hlevel props in
-    let r : IsProp (FitsHood s h) = hlevel props in
-    λ i. rule_of h b s (p e e2 i) (q f f2 i) (r g g2 i)
-
--- B/S rules that are the same are equal
+-- B/S rules that are the same are equal, however it was shown that they are rules
 pub same-equal : (r s : BsRule) → IsSameRule (Bs r) (Bs s) → r ≡ s
-same-equal r s a =
-    let own : (e : is_count r.birth 0 ≡ false) (f : FitsHood r.birth r.hood) (g : FitsHood r.survival r.hood) → r ≡ rule_of r.hood r.birth r.survival e f g
-    = λ e f g. one_of r.hood r.birth r.survival r.stays_empty e r.birth_fits f r.survival_fits g in
-    let by_hood = subst (λ h. (e : is_count r.birth 0 ≡ false) (f : FitsHood r.birth h) (g : FitsHood r.survival h) → r ≡ rule_of h r.birth r.survival e f g) a.0 own in
-    let by_birth = subst (λ b. (e : is_count b 0 ≡ false) (f : FitsHood b s.hood) (g : FitsHood r.survival s.hood) → r ≡ rule_of s.hood b r.survival e f g) a.1 by_hood in
-    let by_survival = subst (λ v. (e : is_count s.birth 0 ≡ false) (f : FitsHood s.birth s.hood) (g : FitsHood v s.hood) → r ≡ rule_of s.hood s.birth v e f g) a.2 by_birth in
-    by_survival s.stays_empty s.birth_fits s.survival_fits
+same-equal r s a = λ i. record {
+  hood = a.0 i;
+  birth = a.1 i;
+  survival = a.2 i;
+  stays_empty = is_prop→PathP (λ j. is_count (a.1 j) 0 ≡ false) (λ j. hlevel props) r.stays_empty s.stays_empty i;
+  birth_fits = is_prop→PathP (λ j. FitsHood (a.1 j) (a.0 j)) (λ j. hlevel props) r.birth_fits s.birth_fits i;
+  survival_fits = is_prop→PathP (λ j. FitsHood (a.2 j) (a.0 j)) (λ j. hlevel props) r.survival_fits s.survival_fits i;
+}
 
--- the Generations rule of these parts, however it was shown that it is one
-abbrev generations_of : (survival birth : Counts) (states : ℕ) → is_count birth 0 ≡ false → 2 ≤ states → states ≤ 256 → GenRule
-generations_of s b n e l h = record { survival = s; birth = b; states = n; stays_empty = e; low = l; high = h }
-
-one_generations_of : (s b : Counts) (n : ℕ) (e e2 : is_count b 0 ≡ false) (l l2 : 2 ≤ n) (h h2 : n ≤ 256) → generations_of s b n e l h ≡ generations_of s b n e2 l2 h2
-one_generations_of s b n e e2 l l2 h h2 =
-    let p : IsProp (is_count b 0 ≡ false) = hlevel props in
-    let q : IsProp (2 ≤ n) = hlevel props in
-    let r : IsProp (n ≤ 256) = hlevel props in
-    λ i. generations_of s b n (p e e2 i) (q l l2 i) (r h h2 i)
-
--- Generations rules that are the same are equal
+-- so are Generations rules
 pub equal-generations : (r s : GenRule) → IsSameRule (Gen r) (Gen s) → r ≡ s
-equal-generations r s a =
-    let own : (e : is_count r.birth 0 ≡ false) (l : 2 ≤ r.states) (h : r.states ≤ 256) → r ≡ generations_of r.survival r.birth r.states e l h
-    = λ e l h. one_generations_of r.survival r.birth r.states r.stays_empty e r.low l r.high h in
-    let by_states = subst (λ n. (e : is_count r.birth 0 ≡ false) (l : 2 ≤ n) (h : n ≤ 256) → r ≡ generations_of r.survival r.birth n e l h) a.2 own in
-    let by_birth = subst (λ b. (e : is_count b 0 ≡ false) (l : 2 ≤ s.states) (h : s.states ≤ 256) → r ≡ generations_of r.survival b s.states e l h) a.1 by_states in
-    let by_survival = subst (λ v. (e : is_count s.birth 0 ≡ false) (l : 2 ≤ s.states) (h : s.states ≤ 256) → r ≡ generations_of v s.birth s.states e l h) a.0 by_birth in
-    by_survival s.stays_empty s.low s.high
+equal-generations r s a = λ i. record {
+  survival = a.0 i;
+  birth = a.1 i;
+  states = a.2 i;
+  stays_empty = is_prop→PathP (λ j. is_count (a.1 j) 0 ≡ false) (λ j. hlevel props) r.stays_empty s.stays_empty i;
+  low = is_prop→PathP (λ j. 2 ≤ a.2 j) (λ j. hlevel props) r.low s.low i;
+  high = is_prop→PathP (λ j. a.2 j ≤ 256) (λ j. hlevel props) r.high s.high i;
+}
 
 -- ---- what a text names
-
--- a text that spells a rule has no `:`
-pub names-no_colon : (text : List ℕ) (rule : BsRule) → NamesBsRule text rule → has_colon text ≡ false
-names-no_colon text rule named = (read text named.birth named.survival rule.hood named.spells).no_colon
 
 -- the first table of a name has that name
 pub first-named : (name : List ℕ) (tables : List TableRule) (table : TableRule) → first_named name tables ≡ Some table → table.name ≡ name
@@ -166,15 +117,7 @@ wakes-or-unknown text tables (inr b) u = u.1.1 b.1.0 b.1.1 b.1.2 b.1.3
 
 -- and one alone
 pub one-rule-fault : (text : List ℕ) (tables : List TableRule) (f g : RuleFault) → IsRuleFault text tables f → IsRuleFault text tables g → f ≡ g
-one-rule-fault text tables Bounded Bounded a b = refl
-one-rule-fault text tables Bounded Wakes a b = let no = wakes-spelled text tables b in cc (a, no)
-one-rule-fault text tables Bounded Unknown a b = cc (a, b.0.0)
-one-rule-fault text tables Wakes Bounded a b = let no = wakes-spelled text tables a in cc (no, b)
-one-rule-fault text tables Wakes Wakes a b = refl
-one-rule-fault text tables Wakes Unknown a b = absurd (wakes-or-unknown text tables a b)
-one-rule-fault text tables Unknown Bounded a b = cc (a.0.0, b)
-one-rule-fault text tables Unknown Wakes a b = absurd (wakes-or-unknown text tables b a)
-one-rule-fault text tables Unknown Unknown a b = refl
+one-rule-fault = search (rules, wakes-spelled, wakes-or-unknown)
 
 -- the printed form of a rule that is named names it too
 pub printed_bs_rule-names : (text : List ℕ) (tables : List TableRule) (rule : RuleValue) → NamesRule text tables rule → NamesRule (printed_form rule) tables rule

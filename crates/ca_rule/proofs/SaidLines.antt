@@ -2,9 +2,10 @@
 use Rattle.std.proofs.Common.{◌≡◌, ◌==◌, ◌<◌, ◌≤◌, ℕ, ◌+◌, Bool, true, false, not, List, [], ◌∷◌, length, map, refl, ap, ◌∙◌, arith, inl, inr}
 use Rattle.std.specs.List.{list_all, enumerate_from}
 use Rattle.std.specs.Prelude.{filter, if◌then◌else◌}
-use Rattle.std.proofs.lemmas.Bool.{cases_Bool}
+use Rattle.std.proofs.lemmas.Bool.{cases_Bool, and_parts, and_from}
 use Rattle.std.proofs.lemmas.Bool.Decides.{nat_tests}
 use Rattle.ca_plane.specs.Bytes.{is_blank, is_line_end, Every, front, rest, without_last_blanks, lines_of}
+use Rattle.ca_plane.proofs.Fronts.{front_then_rest, every_left, every_rest}
 use Rattle.ca_rule.specs.TableLines.{content_of, says_something}
 use Rattle.ca_rule.specs.declared.table.said_lines.SaidLines.{SaidLines}
 use Rattle.ca_rule.specs.inner.TableReading.{said_from, left_of}
@@ -29,44 +30,20 @@ next-silent n bytes line later e none =
     ap (λ ls. filter says_something (enumerate_from n (map content_of ls))) e
     ∙ ap (λ v. if v then (n, content_of line) ∷ said_from (n + 1) later else said_from (n + 1) later) says
 
--- bytes that all pass a test: so do those before one, those after blanks, and those before the last blanks
-module _ (test : ℕ → Bool) where
-  front-every : (stop : ℕ → Bool) (bytes : List ℕ) → list_all test bytes ≡ true → list_all test (front stop bytes) ≡ true
-  front-every stop [] h = refl
-  front-every stop (b ∷ bs) h =
-      elim (cases_Bool (test b)) [
-        | inl t ↦ elim (cases_Bool (stop b)) [
-          | inl s ↦ rw s (rw t (front-every stop bs (let k = rw t at h in k)))
-          | inr s ↦ rw s refl
-        ]
-        | inr t ↦ let k = rw t at h in cc
-      ]
-
-  rest-every : (stop : ℕ → Bool) (bytes : List ℕ) → list_all test bytes ≡ true → list_all test (rest stop bytes) ≡ true
-  rest-every stop [] h = refl
-  rest-every stop (b ∷ bs) h =
-      elim (cases_Bool (test b)) [
-        | inl t ↦ elim (cases_Bool (stop b)) [
-          | inl s ↦ rw s (rest-every stop bs (let k = rw t at h in k))
-          | inr s ↦ rw s h
-        ]
-        | inr t ↦ let k = rw t at h in cc
-      ]
-
-  ends-every : (bytes : List ℕ) → list_all test bytes ≡ true → list_all test (without_last_blanks bytes) ≡ true
-  ends-every [] h = refl
-  ends-every (b ∷ bs) h =
-      elim (cases_Bool (test b)) [
-        | inl t ↦ elim (cases_Bool (list_all is_blank (b ∷ bs))) [
-          | inl s ↦ rw s refl
-          | inr s ↦ rw s (rw t (ends-every bs (let k = rw t at h in k)))
-        ]
-        | inr t ↦ let k = rw t at h in cc
-      ]
+-- bytes that all pass a test do so before the last blanks too
+ends-every : (test : ℕ → Bool) (bytes : List ℕ) → Every test bytes → Every test (without_last_blanks bytes)
+ends-every test [] h = refl
+ends-every test (b ∷ bs) h =
+    let parts = and_parts (test b) (list_all test bs) h in
+    elim (cases_Bool (list_all is_blank (b ∷ bs))) [
+      | inl s ↦ rw s refl
+      | inr s ↦ rw s (and_from (test b) (list_all test (without_last_blanks bs)) parts.0 (ends-every test bs parts.1))
+    ]
 
 -- what a line says has no line end
 pub content-every : (line : List ℕ) → Every (λ b. not (is_line_end b)) line → Every (λ b. not (is_line_end b)) (content_of line)
 content-every line h =
     let test : ℕ → Bool = λ b. not (is_line_end b) in
-    let all = front-every test (λ b. not (b == 35)) line h in
-    ends-every test (rest is_blank (front (λ b. not (b == 35)) line)) (rest-every test is_blank (front (λ b. not (b == 35)) line) all)
+    let said : ℕ → Bool = λ b. not (b == 35) in
+    let all = every_left test (front said line) (rest said line) (ap (list_all test) (front_then_rest said line) ∙ h) in
+    ends-every test (rest is_blank (front said line)) (every_rest is_blank test (front said line) all)

@@ -1,5 +1,5 @@
 -- Sets of counts are compared place by place.
-use Rattle.std.proofs.Common.{◌≡◌, ◌==◌, ℕ, Bool, true, false, not, length, refl, ap, sym, ◌∙◌, true≢false, arith}
+use Rattle.std.proofs.Common.{◌≡◌, ◌==◌, ℕ, Bool, true, length, ap, sym, ◌∙◌}
 use Rattle.std.specs.List.{list_any}
 use Rattle.std.specs.Bool.{Decides}
 use Rattle.std.specs.Cmp.{booleans_Decides}
@@ -15,13 +15,6 @@ use Rattle.ca_rule.proofs.Printed.{numbers, nine_cells, map_same}
 pub same_counts : (a b : Counts) (r : Bool) → r ≡ pointwise beq a.holds b.holds → Decides r (a ≡ b)
 same_counts a b r e =
     Decides-like {P = a.holds ≡ b.holds} r (λ s i. record { holds = s i }) (ap (λ c. c.holds)) (slice_eq-Decides booleans_Decides a.holds b.holds r e)
-
--- they are where a test that they differ fails, and not where it holds
-pub equal_counts : (a b : Counts) → false ≡ not (pointwise beq a.holds b.holds) → a ≡ b
-equal_counts a b e = (same_counts a b (pointwise beq a.holds b.holds) refl).0 (grind arith)
-
-pub unlike_counts : (a b : Counts) → true ≡ not (pointwise beq a.holds b.holds) → a ≡ b → ⊥
-unlike_counts a b e same = true≢false (e ∙ ap not ((same_counts a b (pointwise beq a.holds b.holds) refl).1 same))
 
 -- and where the same numbers from 0 to 8 are counts in both
 pub alike_counts : (a b : Counts) → length a.holds ≡ 9 → length b.holds ≡ 9 → ((n : ℕ) → list_any (λ m. m == n) numbers ≡ true → is_count a n ≡ is_count b n) → a ≡ b

@@ -1,7 +1,8 @@
 -- The settings of a rule table, a line at a time.
-use Rattle.std.proofs.Common.{◌≡◌, ℕ, Bool, true, false, not, ◌&&◌, ◌||◌, List, [], ◌∷◌, ◌++◌, Option, Some, None, codes, refl, sym, ap, subst, ◌∙◌, append_assoc, inl, inr, ◌⊎◌, Bor}
+use Rattle.std.proofs.Common.{◌≡◌, ℕ, Bool, true, false, not, ◌&&◌, ◌||◌, List, [], ◌∷◌, ◌++◌, Option, Some, None, codes, refl, sym, ap, subst, ◌∙◌, append_assoc, inl, inr, ◌⊎◌, Bor, arith}
 use Rattle.std.specs.Prelude.{is_some, MatchOption, Result, IfErr}
 use Rattle.std.specs.Result.{IsErrAnd}
+use Rattle.std.proofs.lemmas.Bool.{and_parts, and_from}
 use Rattle.std.proofs.lemmas.Result.{err_from_is_err_and}
 use Rattle.std.specs.Option.{option_or}
 use Rattle.std.proofs.lemmas.List.{append-nil}
@@ -17,10 +18,10 @@ pub matched : (value : Option (Bor (List ℕ))) (is : Option (List ℕ)) → Mat
 matched None is h = h
 matched (Some r) is h = h
 
--- the bytes are there where the value is
-some-bytes : (value : Option (Bor (List ℕ))) → is_some (bytes_of value) ≡ is_some value
-some-bytes None = refl
-some-bytes (Some r) = refl
+-- they are there where the value is
+same-some : (value : Option (Bor (List ℕ))) (is : Option (List ℕ)) → is ≡ bytes_of value → is_some value ≡ is_some is
+same-some None is e = sym (ap is_some e)
+same-some (Some r) is e = sym (ap is_some e)
 
 -- the first of two values
 or-bytes : (one other : Option (Bor (List ℕ))) → bytes_of (option_or one other) ≡ option_or (bytes_of one) (bytes_of other)
@@ -37,26 +38,10 @@ cases_Option (Some r) = inr (r, refl)
 
 -- three tests of which one holds, and two that both hold
 any-of : (a b c x y z : Bool) → a ≡ x → b ≡ y → c ≡ z → ((a || b) || c) ≡ (x || (y || (z || false)))
-any-of true b c x y z e f g = rw (sym e) refl
-any-of false true c x y z e f g = rw (sym e) (rw (sym f) refl)
-any-of false false true x y z e f g = rw (sym e) (rw (sym f) (rw (sym g) refl))
-any-of false false false x y z e f g = rw (sym e) (rw (sym f) (rw (sym g) refl))
+any-of a b c x y z e f g = grind arith
 
 both-of : (a b x y : Bool) → a ≡ x → b ≡ y → (a && b) ≡ (y && x)
-both-of true true x y e f = rw (sym e) (rw (sym f) refl)
-both-of true false x y e f = rw (sym e) (rw (sym f) refl)
-both-of false true x y e f = rw (sym e) (rw (sym f) refl)
-both-of false false x y e f = rw (sym e) (rw (sym f) refl)
-
-and-parts : (a b : Bool) → (a && b) ≡ true → (a ≡ true) × (b ≡ true)
-and-parts true true h = (refl, refl)
-and-parts true false h = cc
-and-parts false b h = cc
-
-and-both : (a b : Bool) → a ≡ true → b ≡ true → (a && b) ≡ true
-and-both true true e f = refl
-and-both true false e f = cc
-and-both false b e f = cc
+both-of a b x y e f = grind arith
 
 -- the value that one more line gives
 value-snoc : (word : List ℕ) (ls : List NumberedLine) (l : NumberedLine) → value_of word (ls ++ l ∷ []) ≡ option_or (value_of word ls) (setting word l)
@@ -66,34 +51,27 @@ value-snoc word (x ∷ xs) l = elim (cases_Option (setting word x)) [
   | inr s ↦ rw s.1 refl
 ]
 
+bytes-snoc : (word : List ℕ) (ls : List NumberedLine) (l : NumberedLine) (value given : Option (Bor (List ℕ))) → value_of word ls ≡ bytes_of value → setting word l ≡ bytes_of given → value_of word (ls ++ l ∷ []) ≡ bytes_of (option_or value given)
+bytes-snoc word ls l value given e f = value-snoc word ls l ∙ ap (λ o. option_or o (setting word l)) e ∙ ap (option_or (bytes_of value)) f ∙ sym (or-bytes value given)
+
 module _ (line : NumberedLine) (given : SettingValues) (are : AreGivenBy line given) where
-  -- whether a word's setting is given
-  given-states : is_some given.states ≡ is_some (setting (codes "n_states") line)
-  given-states = sym (some-bytes given.states) ∙ ap is_some (sym are.states_are)
-
-  given-neighbourhood : is_some given.neighbourhood ≡ is_some (setting (codes "neighborhood") line)
-  given-neighbourhood = sym (some-bytes given.neighbourhood) ∙ ap is_some (sym are.neighbourhood_is)
-
-  given-symmetry : is_some given.symmetry ≡ is_some (setting (codes "symmetries") line)
-  given-symmetry = sym (some-bytes given.symmetry) ∙ ap is_some (sym are.symmetry_is)
-
   -- a line that gives a value is a setting
   pub is-setting : has_some given ≡ is_setting line
-  is-setting = any-of _ _ _ _ _ _ given-states given-neighbourhood given-symmetry
+  is-setting = any-of _ _ _ _ _ _ (same-some given.states _ are.states_are) (same-some given.neighbourhood _ are.neighbourhood_is) (same-some given.symmetry _ are.symmetry_is)
 
   -- one that gives a value again sets again
   pub is-again : (lines : List NumberedLine) (values : SettingValues) → AreValuesOf lines values → have_one values given ≡ sets_again lines line
   is-again lines values of = any-of _ _ _ _ _ _
-      (both-of _ _ _ _ (sym (some-bytes values.states) ∙ ap is_some (sym of.states_are)) given-states)
-      (both-of _ _ _ _ (sym (some-bytes values.neighbourhood) ∙ ap is_some (sym of.neighbourhood_is)) given-neighbourhood)
-      (both-of _ _ _ _ (sym (some-bytes values.symmetry) ∙ ap is_some (sym of.symmetry_is)) given-symmetry)
+      (both-of _ _ _ _ (same-some values.states _ of.states_are) (same-some given.states _ are.states_are))
+      (both-of _ _ _ _ (same-some values.neighbourhood _ of.neighbourhood_is) (same-some given.neighbourhood _ are.neighbourhood_is))
+      (both-of _ _ _ _ (same-some values.symmetry _ of.symmetry_is) (same-some given.symmetry _ are.symmetry_is))
 
   -- and the values with this line's
   pub values-snoc : (lines : List NumberedLine) (values : SettingValues) → AreValuesOf lines values → AreValuesOf (lines ++ line ∷ []) (joined_settings values given)
   values-snoc lines values of = record {
-    states_are = value-snoc (codes "n_states") lines line ∙ ap (λ o. option_or o (setting (codes "n_states") line)) of.states_are ∙ ap (option_or (bytes_of values.states)) are.states_are ∙ sym (or-bytes values.states given.states);
-    neighbourhood_is = value-snoc (codes "neighborhood") lines line ∙ ap (λ o. option_or o (setting (codes "neighborhood") line)) of.neighbourhood_is ∙ ap (option_or (bytes_of values.neighbourhood)) are.neighbourhood_is ∙ sym (or-bytes values.neighbourhood given.neighbourhood);
-    symmetry_is = value-snoc (codes "symmetries") lines line ∙ ap (λ o. option_or o (setting (codes "symmetries") line)) of.symmetry_is ∙ ap (option_or (bytes_of values.symmetry)) are.symmetry_is ∙ sym (or-bytes values.symmetry given.symmetry);
+    states_are = bytes-snoc (codes "n_states") lines line values.states given.states of.states_are are.states_are;
+    neighbourhood_is = bytes-snoc (codes "neighborhood") lines line values.neighbourhood given.neighbourhood of.neighbourhood_is are.neighbourhood_is;
+    symmetry_is = bytes-snoc (codes "symmetries") lines line values.symmetry given.symmetry of.symmetry_is are.symmetry_is;
   }
 
 -- one more setting that isn't set again
@@ -102,9 +80,9 @@ settings-snoc earlier [] l once is fresh =
     let none : sets_again earlier l ≡ false = subst (λ e. sets_again e l ≡ false) (append-nil earlier) fresh in
     rw is (rw none refl)
 settings-snoc earlier (x ∷ xs) l once is fresh =
-    let parts = and-parts (is_setting x && not (sets_again earlier x)) (are_settings (earlier ++ x ∷ []) xs) once in
+    let parts = and_parts (is_setting x && not (sets_again earlier x)) (are_settings (earlier ++ x ∷ []) xs) once in
     let fresher : sets_again ((earlier ++ x ∷ []) ++ xs) l ≡ false = subst (λ e. sets_again e l ≡ false) (sym (append_assoc earlier (x ∷ []) xs)) fresh in
-    and-both _ _ parts.0 (settings-snoc (earlier ++ x ∷ []) xs l parts.1 is fresher)
+    and_from _ _ parts.0 (settings-snoc (earlier ++ x ∷ []) xs l parts.1 is fresher)
 
 -- before the first line
 pub no-settings : (all : List NumberedLine) (values : SettingValues) → AreValuesOf [] values → IsBehindSettings all values all

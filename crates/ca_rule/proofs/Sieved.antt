@@ -5,6 +5,7 @@ use Rattle.std.specs.List.{list_all}
 use Rattle.std.proofs.Math.Pow.{pow-lt}
 use Rattle.std.proofs.Math.Nat.{mod-eq_of_lt}
 use Rattle.std.proofs.lemmas.List.{drop-drop, drop_all, length-drop}
+use Rattle.std.proofs.Math.Bool.{and-false}
 use Rattle.std.proofs.lemmas.Bool.{cases_Bool, false≢true}
 use Rattle.std.proofs.lemmas.Bool.Decides.{nat_tests}
 use Rattle.std.proofs.lemmas.Nat.Bits.{bit_at_and, bit_at_or, bit_at_ones, bit_at-pow_same}
@@ -35,10 +36,6 @@ other-bit a b k none some =
     let set : bit_at a k ≢ 0 = λ e. false≢true (sym some ∙ eq-eqb (bit_at a k) 0 e) in
     omega arith
 
-and-not : (b : Bool) → (b && false) ≡ false
-and-not true = refl
-and-not false = refl
-
 -- of two numbers of bits, the first tells of this slot and the second of those after it
 pub here-or-later : (variables : List States) (nine : List ℕ) (slots : List Slot) (slot place : ℕ) (places later : List ℕ) (a b k : ℕ) → places ≡ place ∷ later
     → bit_at (bit_and a b) k ≡ 0
@@ -51,7 +48,7 @@ here-or-later variables nine slots slot place places later a b k e none here tai
     ∙ elim (cases_Bool (bit_at a k == 0)) [
       | inl z ↦ let zeros : bit_at a k ≡ 0 = grind (arith, nat_tests) in rw (here zeros) refl
       | inr z ↦ ap (λ n. slots_admit variables (slice_index nine place) (drop slot slots) && each variables (zip (drop n slots) (map (slice_index nine) later))) (next-slot slot)
-          ∙ ap (λ b. slots_admit variables (slice_index nine place) (drop slot slots) && b) (tail_after (other-bit a b k none z)) ∙ and-not (slots_admit variables (slice_index nine place) (drop slot slots))
+          ∙ ap (λ b. slots_admit variables (slice_index nine place) (drop slot slots) && b) (tail_after (other-bit a b k none z)) ∙ and-false (slots_admit variables (slice_index nine place) (drop slot slots))
     ]
 
 pub here : (variables : List States) (nine : List ℕ) (slots : List Slot) (slot place : ℕ) (places later : List ℕ) → places ≡ place ∷ later

@@ -10,7 +10,7 @@ ghost use Rattle.std.proofs.lemmas.Bool.Decides.{nat_tests};
 use crate::counts::Counts;
 use crate::fault::RuleFault;
 use crate::hood::Hood;
-use crate::spelling::spelling_of;
+use crate::notation::counts_named;
 use ca_plane::{Automaton, Memory, Nine};
 use std::alloc::Global;
 
@@ -36,18 +36,7 @@ impl BsRule {
         ensures found { IfOk result (λ rule. NamesBsRule text.now rule) }
         ensures fault { IfErr result (λ f. IsBsRuleFault text.now f) }
     {
-        if text.contains(&b':') {
-            return Err(RuleFault::Bounded);
-        }
-        let Some(digits) = spelling_of(text) else {
-            return Err(RuleFault::Unknown);
-        };
-        let birth = Counts::of_digits(digits.birth);
-        if birth.contains(0) {
-            return Err(RuleFault::Wakes);
-        }
-        let survival = Counts::of_digits(digits.survival);
-        let hood = digits.hood;
+        let (birth, survival, hood) = counts_named::<BsRule>(text)?;
         Ok(BsRule {
             birth,
             survival,
@@ -73,18 +62,13 @@ impl BsRule {
 
     /// Whether the other rule is the same: it counts the same neighbours, and has the same counts for birth
     /// and for survival. Nothing here takes memory.
+    #[tactic(auto, using(crate::proofs::SameCounts::same_counts))]
     pub fn same(&self, other: &BsRule) -> bool
         ensures { IsTrue result
             ↔ ((self.now.hood ≡ other.now.hood) × (self.now.birth ≡ other.now.birth)
             × (self.now.survival ≡ other.now.survival)) }
     {
-        if self.hood != other.hood {
-            return false;
-        }
-        if self.birth != other.birth {
-            return false;
-        }
-        self.survival == other.survival
+        self.birth == other.birth && self.survival == other.survival && self.hood == other.hood
     }
 }
 

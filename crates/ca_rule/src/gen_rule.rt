@@ -13,6 +13,7 @@ mod spelling;
 use crate::counts::Counts;
 use crate::fault::RuleFault;
 use crate::hood::Hood;
+use crate::notation::counts_named;
 use ca_plane::text::push_number;
 use ca_plane::{Automaton, Memory, Nine};
 pub use laws::{
@@ -20,7 +21,6 @@ pub use laws::{
     one_generations_rule, two_states_do_as_bs, worked_generations, worked_generations_cells,
     worked_generations_faults,
 };
-use spelling::spelling_of;
 use std::alloc::Global;
 
 /// A rule of the family Generations (Golly Help, Algorithms: Generations): a dead cell with a birth count of
@@ -50,18 +50,7 @@ impl GenRule {
         ensures found { IfOk result (λ rule. NamesGenerationsRule text.now rule) }
         ensures fault { IfErr result (λ f. IsGenerationsRuleFault text.now f) }
     {
-        if text.contains(&b':') {
-            return Err(RuleFault::Bounded);
-        }
-        let Some(spelled) = spelling_of(text) else {
-            return Err(RuleFault::Unknown);
-        };
-        let birth = Counts::of_digits(spelled.birth);
-        if birth.contains(0) {
-            return Err(RuleFault::Wakes);
-        }
-        let survival = Counts::of_digits(spelled.survival);
-        let states = spelled.states;
+        let (birth, survival, states) = counts_named::<GenRule>(text)?;
         Ok(GenRule {
             survival,
             birth,
@@ -91,18 +80,13 @@ impl GenRule {
 
     /// Whether the other rule is the same: it has the same counts for survival and for birth, and as many
     /// states. Nothing here takes memory.
+    #[tactic(auto, using(crate::proofs::SameCounts::same_counts))]
     pub fn same(&self, other: &GenRule) -> bool
         ensures { IsTrue result
             ↔ ((self.now.survival ≡ other.now.survival) × (self.now.birth ≡ other.now.birth)
             × (self.now.states ≡ other.now.states)) }
     {
-        if self.survival != other.survival {
-            return false;
-        }
-        if self.birth != other.birth {
-            return false;
-        }
-        self.states == other.states
+        self.survival == other.survival && self.birth == other.birth && self.states == other.states
     }
 
     /// The state after this one: the next, or 0 where that reaches the number of states.

@@ -8,6 +8,7 @@ mod fault;
 mod gen_rule;
 mod hood;
 mod laws;
+mod notation;
 mod rule;
 mod rule_laws;
 mod spelling;

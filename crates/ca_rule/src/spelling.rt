@@ -1,22 +1,15 @@
 //! How a rule is spelled in B/S notation.
 
-ghost use Rattle.std.specs.Prelude.{◌≡◌, ◌≤◌, List, ℕ, None, Some, IfSome, IfNone, MatchOption};
+ghost use Rattle.std.specs.Prelude.{◌≡◌, ◌≤◌, None, Some, MatchOption};
 ghost use Rattle.ca_rule.specs.Counts.{are_digits_up_to};
 ghost use Rattle.ca_rule.specs.inner.TextParts.{is_rule_letter, hood_of, body_of, without_slash, tail_after_letter};
 ghost use Rattle.ca_rule.specs.inner.TextParts.{tail_after_slash, lists_around, lists_around_slash, lists_of};
 ghost use Rattle.ca_rule.specs.Spelling.{SpellsBsRule};
-ghost use Rattle.ca_rule.specs.declared.hood.Hood.{Hood};
 
+use crate::bs_rule::BsRule;
 use crate::hood::Hood;
+use crate::notation::Notation;
 use ca_plane::bytes::split_digits;
-
-/// The digits and the neighbourhood of a spelled rule.
-#[derive(Clone, Copy)]
-pub(crate) struct Spelled<'t> {
-    pub(crate) birth: &'t [u8],
-    pub(crate) survival: &'t [u8],
-    pub(crate) hood: Hood,
-}
 
 /// Whether the byte is this letter, which is given in upper case, of either case.
 fn is_letter(byte: u8, upper: u8) -> bool
@@ -123,21 +116,19 @@ pub(crate) fn are_digits_up_to(most: u8, digits: &[u8]) -> bool
         .all(|digit| b'0' <= *digit && *digit <= b'0' + most)
 }
 
-/// The digits and the neighbourhood that the text spells.
-pub(crate) fn spelling_of(text: &[u8]) -> Option<Spelled<'_>>
-    ensures found { IfSome result (λ s. SpellsBsRule text.now s.birth.now s.survival.now s.hood) }
-    ensures none { IfNone result ((birth survival : List ℕ) (hood : Hood)
-        → SpellsBsRule text.now birth survival hood → ⊥) }
-{
-    let (body, hood) = split_suffix(text);
-    let (birth, survival) = lists_of(body)?;
-    let most = hood.most();
-    if !are_digits_up_to(most, birth) || !are_digits_up_to(most, survival) {
-        return None;
+impl Notation for BsRule {
+    type More = Hood;
+
+    ghost spells = { SpellsBsRule };
+
+    /// The digits and the neighbourhood that the text spells.
+    fn spelling_of(text: &[u8]) -> Option<(&[u8], &[u8], Hood)> {
+        let (body, hood) = split_suffix(text);
+        let (birth, survival) = lists_of(body)?;
+        let most = hood.most();
+        if !are_digits_up_to(most, birth) || !are_digits_up_to(most, survival) {
+            return None;
+        }
+        Some((birth, survival, hood))
     }
-    Some(Spelled {
-        birth,
-        survival,
-        hood,
-    })
 }

@@ -6,7 +6,6 @@ ghost use Rattle.ca_rule.specs.inner.TablePlaces.{places};
 ghost use Rattle.ca_rule.specs.declared.table.neighbourhood.Neighbourhood.TheVariants.{VonNeumann, Moore};
 ghost use Rattle.ca_rule.specs.declared.table.neighbourhood.Neighbourhood.TheVariants.{Hexagonal};
 ghost use Rattle.ca_rule.specs.declared.table.neighbourhood.Neighbourhood.TheVariants.{OneDimensional};
-ghost use Rattle.ca_rule.specs.declared.table.neighbourhood.Symmetry.TheVariants.{Rotate8, Rotate8Reflect};
 ghost use Rattle.ca_rule.specs.declared.table.neighbourhood.Symmetry.TheVariants.{Permute};
 
 use crate::table::neighbourhood::{Neighbourhood, Symmetry};
@@ -46,9 +45,9 @@ pub(crate) fn as_it_stands(neighbourhood: Neighbourhood) -> &'static [u8]
     ensures { result.now ≡ 4 ∷ ring neighbourhood }
 {
     match neighbourhood {
-        Neighbourhood::VonNeumann => &[4, 1, 5, 7, 3],
-        Neighbourhood::Moore => &[4, 1, 2, 5, 8, 7, 6, 3, 0],
-        Neighbourhood::Hexagonal => &[4, 1, 5, 8, 7, 3, 0],
+        Neighbourhood::VonNeumann => FOUR[0],
+        Neighbourhood::Moore => EIGHT[0],
+        Neighbourhood::Hexagonal => SIX[0],
         Neighbourhood::OneDimensional => &[4, 3, 5],
     }
 }
@@ -67,105 +66,86 @@ fn placements(neighbourhood: Neighbourhood, symmetry: Symmetry) -> &'static [&'s
     }
 }
 
+/// The places round a ring of four, the centre's first, in each turned or mirrored order, the least first.
+const FOUR: [&[u8]; 8] = [
+    &[4, 1, 5, 7, 3],
+    &[4, 1, 3, 7, 5],
+    &[4, 5, 1, 3, 7],
+    &[4, 5, 7, 3, 1],
+    &[4, 7, 5, 1, 3],
+    &[4, 7, 3, 1, 5],
+    &[4, 3, 1, 5, 7],
+    &[4, 3, 7, 5, 1],
+];
+
 /// Those round a ring of four.
 fn placements_of_four(symmetry: Symmetry) -> &'static [&'static [u8]]
     ensures { symmetry ≢ Permute
         → map (λ p. p.now) result.now ≡ map (places VonNeumann) (orders VonNeumann symmetry) }
 {
     match symmetry {
-        Symmetry::Identity => &[&[4, 1, 5, 7, 3]],
-        Symmetry::Rotate4 => &[
-            &[4, 1, 5, 7, 3],
-            &[4, 5, 7, 3, 1],
-            &[4, 7, 3, 1, 5],
-            &[4, 3, 1, 5, 7],
-        ],
-        Symmetry::Rotate4Reflect => &[
-            &[4, 1, 5, 7, 3],
-            &[4, 1, 3, 7, 5],
-            &[4, 5, 1, 3, 7],
-            &[4, 5, 7, 3, 1],
-            &[4, 7, 5, 1, 3],
-            &[4, 7, 3, 1, 5],
-            &[4, 3, 1, 5, 7],
-            &[4, 3, 7, 5, 1],
-        ],
-        Symmetry::ReflectHorizontal => &[&[4, 1, 5, 7, 3], &[4, 1, 3, 7, 5]],
+        Symmetry::Identity => &[FOUR[0]],
+        Symmetry::Rotate4 => &[FOUR[0], FOUR[3], FOUR[5], FOUR[6]],
+        Symmetry::Rotate4Reflect => &FOUR,
+        Symmetry::ReflectHorizontal => &[FOUR[0], FOUR[1]],
         _ => &[],
     }
 }
+
+/// The places round a ring of eight, the centre's first, in each turned or mirrored order, the least first.
+const EIGHT: [&[u8]; 16] = [
+    &[4, 1, 2, 5, 8, 7, 6, 3, 0],
+    &[4, 1, 0, 3, 6, 7, 8, 5, 2],
+    &[4, 2, 1, 0, 3, 6, 7, 8, 5],
+    &[4, 2, 5, 8, 7, 6, 3, 0, 1],
+    &[4, 5, 2, 1, 0, 3, 6, 7, 8],
+    &[4, 5, 8, 7, 6, 3, 0, 1, 2],
+    &[4, 8, 5, 2, 1, 0, 3, 6, 7],
+    &[4, 8, 7, 6, 3, 0, 1, 2, 5],
+    &[4, 7, 8, 5, 2, 1, 0, 3, 6],
+    &[4, 7, 6, 3, 0, 1, 2, 5, 8],
+    &[4, 6, 7, 8, 5, 2, 1, 0, 3],
+    &[4, 6, 3, 0, 1, 2, 5, 8, 7],
+    &[4, 3, 6, 7, 8, 5, 2, 1, 0],
+    &[4, 3, 0, 1, 2, 5, 8, 7, 6],
+    &[4, 0, 1, 2, 5, 8, 7, 6, 3],
+    &[4, 0, 3, 6, 7, 8, 5, 2, 1],
+];
 
 /// Those round a ring of eight.
 fn placements_of_eight(symmetry: Symmetry) -> &'static [&'static [u8]]
     ensures { symmetry ≢ Permute → map (λ p. p.now) result.now ≡ map (places Moore) (orders Moore symmetry) }
 {
     match symmetry {
-        Symmetry::Identity => &[&[4, 1, 2, 5, 8, 7, 6, 3, 0]],
-        Symmetry::Rotate4 => &[
-            &[4, 1, 2, 5, 8, 7, 6, 3, 0],
-            &[4, 5, 8, 7, 6, 3, 0, 1, 2],
-            &[4, 7, 6, 3, 0, 1, 2, 5, 8],
-            &[4, 3, 0, 1, 2, 5, 8, 7, 6],
-        ],
+        Symmetry::Identity => &[EIGHT[0]],
+        Symmetry::Rotate4 => &[EIGHT[0], EIGHT[5], EIGHT[9], EIGHT[13]],
         Symmetry::Rotate4Reflect => &[
-            &[4, 1, 2, 5, 8, 7, 6, 3, 0],
-            &[4, 1, 0, 3, 6, 7, 8, 5, 2],
-            &[4, 5, 2, 1, 0, 3, 6, 7, 8],
-            &[4, 5, 8, 7, 6, 3, 0, 1, 2],
-            &[4, 7, 8, 5, 2, 1, 0, 3, 6],
-            &[4, 7, 6, 3, 0, 1, 2, 5, 8],
-            &[4, 3, 6, 7, 8, 5, 2, 1, 0],
-            &[4, 3, 0, 1, 2, 5, 8, 7, 6],
+            EIGHT[0], EIGHT[1], EIGHT[4], EIGHT[5], EIGHT[8], EIGHT[9], EIGHT[12], EIGHT[13],
         ],
-        Symmetry::ReflectHorizontal => &[
-            &[4, 1, 2, 5, 8, 7, 6, 3, 0],
-            &[4, 1, 0, 3, 6, 7, 8, 5, 2],
+        Symmetry::ReflectHorizontal => &[EIGHT[0], EIGHT[1]],
+        Symmetry::Rotate8 => &[
+            EIGHT[0], EIGHT[3], EIGHT[5], EIGHT[7], EIGHT[9], EIGHT[11], EIGHT[13], EIGHT[14],
         ],
-        Symmetry::Rotate8 => by_eighths(),
-        Symmetry::Rotate8Reflect => by_eighths_and_mirrored(),
+        Symmetry::Rotate8Reflect => &EIGHT,
         _ => &[],
     }
 }
 
-/// Those round a ring of eight that is turned by eighths.
-fn by_eighths() -> &'static [&'static [u8]]
-    ensures { map (λ p. p.now) result.now ≡ map (places Moore) (orders Moore Rotate8) }
-{
-    &[
-        &[4, 1, 2, 5, 8, 7, 6, 3, 0],
-        &[4, 2, 5, 8, 7, 6, 3, 0, 1],
-        &[4, 5, 8, 7, 6, 3, 0, 1, 2],
-        &[4, 8, 7, 6, 3, 0, 1, 2, 5],
-        &[4, 7, 6, 3, 0, 1, 2, 5, 8],
-        &[4, 6, 3, 0, 1, 2, 5, 8, 7],
-        &[4, 3, 0, 1, 2, 5, 8, 7, 6],
-        &[4, 0, 1, 2, 5, 8, 7, 6, 3],
-    ]
-}
-
-/// Those round a ring of eight that is turned by eighths, and mirrored.
-fn by_eighths_and_mirrored() -> &'static [&'static [u8]]
-    ensures { map (λ p. p.now) result.now ≡ map (places Moore) (orders Moore Rotate8Reflect) }
-{
-    &[
-        &[4, 1, 2, 5, 8, 7, 6, 3, 0],
-        &[4, 1, 0, 3, 6, 7, 8, 5, 2],
-        &[4, 2, 1, 0, 3, 6, 7, 8, 5],
-        &[4, 2, 5, 8, 7, 6, 3, 0, 1],
-        &[4, 5, 2, 1, 0, 3, 6, 7, 8],
-        &[4, 5, 8, 7, 6, 3, 0, 1, 2],
-        &[4, 8, 5, 2, 1, 0, 3, 6, 7],
-        &[4, 8, 7, 6, 3, 0, 1, 2, 5],
-        &[4, 7, 8, 5, 2, 1, 0, 3, 6],
-        &[4, 7, 6, 3, 0, 1, 2, 5, 8],
-        &[4, 6, 7, 8, 5, 2, 1, 0, 3],
-        &[4, 6, 3, 0, 1, 2, 5, 8, 7],
-        &[4, 3, 6, 7, 8, 5, 2, 1, 0],
-        &[4, 3, 0, 1, 2, 5, 8, 7, 6],
-        &[4, 0, 1, 2, 5, 8, 7, 6, 3],
-        &[4, 0, 3, 6, 7, 8, 5, 2, 1],
-    ]
-}
+/// The places round a ring of six, the centre's first, in each turned or mirrored order, the least first.
+const SIX: [&[u8]; 12] = [
+    &[4, 1, 5, 8, 7, 3, 0],
+    &[4, 1, 0, 3, 7, 8, 5],
+    &[4, 5, 1, 0, 3, 7, 8],
+    &[4, 5, 8, 7, 3, 0, 1],
+    &[4, 8, 5, 1, 0, 3, 7],
+    &[4, 8, 7, 3, 0, 1, 5],
+    &[4, 7, 8, 5, 1, 0, 3],
+    &[4, 7, 3, 0, 1, 5, 8],
+    &[4, 3, 7, 8, 5, 1, 0],
+    &[4, 3, 0, 1, 5, 8, 7],
+    &[4, 0, 1, 5, 8, 7, 3],
+    &[4, 0, 3, 7, 8, 5, 1],
+];
 
 /// Those round a ring of six.
 fn placements_of_six(symmetry: Symmetry) -> &'static [&'static [u8]]
@@ -173,35 +153,11 @@ fn placements_of_six(symmetry: Symmetry) -> &'static [&'static [u8]]
         → map (λ p. p.now) result.now ≡ map (places Hexagonal) (orders Hexagonal symmetry) }
 {
     match symmetry {
-        Symmetry::Identity => &[&[4, 1, 5, 8, 7, 3, 0]],
-        Symmetry::Rotate2 => &[&[4, 1, 5, 8, 7, 3, 0], &[4, 7, 3, 0, 1, 5, 8]],
-        Symmetry::Rotate3 => &[
-            &[4, 1, 5, 8, 7, 3, 0],
-            &[4, 8, 7, 3, 0, 1, 5],
-            &[4, 3, 0, 1, 5, 8, 7],
-        ],
-        Symmetry::Rotate6 => &[
-            &[4, 1, 5, 8, 7, 3, 0],
-            &[4, 5, 8, 7, 3, 0, 1],
-            &[4, 8, 7, 3, 0, 1, 5],
-            &[4, 7, 3, 0, 1, 5, 8],
-            &[4, 3, 0, 1, 5, 8, 7],
-            &[4, 0, 1, 5, 8, 7, 3],
-        ],
-        Symmetry::Rotate6Reflect => &[
-            &[4, 1, 5, 8, 7, 3, 0],
-            &[4, 1, 0, 3, 7, 8, 5],
-            &[4, 5, 1, 0, 3, 7, 8],
-            &[4, 5, 8, 7, 3, 0, 1],
-            &[4, 8, 5, 1, 0, 3, 7],
-            &[4, 8, 7, 3, 0, 1, 5],
-            &[4, 7, 8, 5, 1, 0, 3],
-            &[4, 7, 3, 0, 1, 5, 8],
-            &[4, 3, 7, 8, 5, 1, 0],
-            &[4, 3, 0, 1, 5, 8, 7],
-            &[4, 0, 1, 5, 8, 7, 3],
-            &[4, 0, 3, 7, 8, 5, 1],
-        ],
+        Symmetry::Identity => &[SIX[0]],
+        Symmetry::Rotate2 => &[SIX[0], SIX[7]],
+        Symmetry::Rotate3 => &[SIX[0], SIX[5], SIX[9]],
+        Symmetry::Rotate6 => &[SIX[0], SIX[3], SIX[5], SIX[7], SIX[9], SIX[10]],
+        Symmetry::Rotate6Reflect => &SIX,
         _ => &[],
     }
 }

@@ -1,4 +1,4 @@
-use Rattle.ca_rule.proofs.Rules.{names-no_colon}
+use Rattle.ca_rule.proofs.Meaning.{names-no_colon}
 use Rattle.ca_rule.proofs.rule.resolve.Goals as goal
 
 pub returns-in-Ok-clause-found : goal.returns-in-Ok-clause-found
