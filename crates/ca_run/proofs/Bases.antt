@@ -7,12 +7,13 @@ use Rattle.ca_plane.specs.Generations.{cells_after}
 use Rattle.ca_quad.specs.declared.node.Node.{Node}
 use Rattle.ca_quad.specs.Squares.{IsOf, dot, together, cell_of}
 use Rattle.ca_quad.specs.Sound.{IsSoundStore, Grows}
-use Rattle.ca_quad.specs.Trees.{ShowsSquare, AreQuarters, AreCorners, IsEmpty, from_corner}
+use Rattle.ca_quad.specs.Trees.{ShowsSquare, AreFour, AreQuarters, AreCorners, IsEmpty, from_corner}
 use Rattle.ca_run.specs.Centre.{IsCentre}
+use Rattle.ca_run.specs.RecentLeaps.{IsLeap}
 use Rattle.ca_run.specs.inner.Shown.{Looks, ShowsAt, sixteen}
 use Rattle.ca_run.proofs.After.{after_same, after_none}
-use Rattle.ca_run.proofs.Looks.{looks_together}
-use Rattle.ca_run.proofs.Shown.{is_centre_at}
+use Rattle.ca_run.proofs.Looks.{looks_together, looks_centre}
+use Rattle.ca_run.proofs.Shown.{is_centre_at, four_was, four_go}
 
 -- the cells of a square of four squares of four cells
 sixteen_cells : (nodes : List Node) (id : ℕ) (parts nw ne sw se : List ℕ) → AreQuarters nodes id 1 parts → AreCorners nodes (slice_index parts 0) nw → AreCorners nodes (slice_index parts 1) ne
@@ -39,6 +40,32 @@ sixteen_cells nodes id parts nw ne sw se are a b c d =
     let e13 : f 1 3 ≡ slice_index sw 3 = are.has_cells 1 3 ∙ c.has_cells 1 1 in
     let e23 : f 2 3 ≡ slice_index se 2 = are.has_cells 2 3 ∙ d.has_cells 0 1 in
     let e33 : f 3 3 ≡ slice_index se 3 = are.has_cells 3 3 ∙ d.has_cells 1 1 in
+    cc
+
+-- the cells of four squares of four cells
+pub four_cells : (nodes : List Node) (w x y z : ℕ) (nw ne sw se : List ℕ) → AreCorners nodes w nw → AreCorners nodes x ne → AreCorners nodes y sw → AreCorners nodes z se
+    → slice_index nw 0 ∷ slice_index nw 1 ∷ slice_index ne 0 ∷ slice_index ne 1
+    ∷ slice_index nw 2 ∷ slice_index nw 3 ∷ slice_index ne 2 ∷ slice_index ne 3
+    ∷ slice_index sw 0 ∷ slice_index sw 1 ∷ slice_index se 0 ∷ slice_index se 1
+    ∷ slice_index sw 2 ∷ slice_index sw 3 ∷ slice_index se 2 ∷ slice_index se 3 ∷ [] ≡ sixteen (together 2 (cell_of nodes 1 w) (cell_of nodes 1 x) (cell_of nodes 1 y) (cell_of nodes 1 z))
+four_cells nodes w x y z nw ne sw se a b c d =
+    let f = together 2 (cell_of nodes 1 w) (cell_of nodes 1 x) (cell_of nodes 1 y) (cell_of nodes 1 z) in
+    let e00 : f 0 0 ≡ slice_index nw 0 = a.has_cells 0 0 in
+    let e10 : f 1 0 ≡ slice_index nw 1 = a.has_cells 1 0 in
+    let e20 : f 2 0 ≡ slice_index ne 0 = b.has_cells 0 0 in
+    let e30 : f 3 0 ≡ slice_index ne 1 = b.has_cells 1 0 in
+    let e01 : f 0 1 ≡ slice_index nw 2 = a.has_cells 0 1 in
+    let e11 : f 1 1 ≡ slice_index nw 3 = a.has_cells 1 1 in
+    let e21 : f 2 1 ≡ slice_index ne 2 = b.has_cells 0 1 in
+    let e31 : f 3 1 ≡ slice_index ne 3 = b.has_cells 1 1 in
+    let e02 : f 0 2 ≡ slice_index sw 0 = c.has_cells 0 0 in
+    let e12 : f 1 2 ≡ slice_index sw 1 = c.has_cells 1 0 in
+    let e22 : f 2 2 ≡ slice_index se 0 = d.has_cells 0 0 in
+    let e32 : f 3 2 ≡ slice_index se 1 = d.has_cells 1 0 in
+    let e03 : f 0 3 ≡ slice_index sw 2 = c.has_cells 0 1 in
+    let e13 : f 1 3 ≡ slice_index sw 3 = c.has_cells 1 1 in
+    let e23 : f 2 3 ≡ slice_index se 2 = d.has_cells 0 1 in
+    let e33 : f 3 3 ≡ slice_index se 3 = d.has_cells 1 1 in
     cc
 
 pub sixteen_known : (inside nodes : List Node) → inside ≡ nodes → (id : ℕ) (parts : List ℕ) (p q r s : ℕ) (nw ne sw se : List ℕ) → length parts ≡ 4 → AreQuarters inside id 1 parts
@@ -112,6 +139,44 @@ next_four_centre next old new sound grows r id cells nw ne sw se square e a b c 
     centre_of : {E : Type 0} (r : Result ℕ E) → IfOk r (λ half. ShowsAt new half 1 q (pos 0 +ℤ pos 1) (pos 0 +ℤ pos 1)) → IfOk r (IsCentre next new id 0 0)
     centre_of (Err f) shows = tt
     centre_of (Ok half) shows = is_centre_at next old new sound grows id 0 0 0 1 half square (omega arith) refl shows
+
+-- the next states of the four in the middle of four squares are what these leap to
+pub next_inner_leap : {E : Type 0} (next : List ℕ → ℕ) (old new : List Node) → IsSoundStore old → Grows old new → (r : Result ℕ E) (nw ne sw se : ℕ) (cells : List ℕ) (s t u v : ℕ) → AreFour old 1 nw ne sw se
+    → cells ≡ sixteen (together 2 (cell_of old 1 nw) (cell_of old 1 ne) (cell_of old 1 sw) (cell_of old 1 se))
+    → s ≡ next (slice_index cells 0 ∷ slice_index cells 1 ∷ slice_index cells 2 ∷ slice_index cells 4 ∷ slice_index cells 5 ∷ slice_index cells 6 ∷ slice_index cells 8 ∷ slice_index cells 9 ∷ slice_index cells 10 ∷ [])
+    → t ≡ next (slice_index cells 1 ∷ slice_index cells 2 ∷ slice_index cells 3 ∷ slice_index cells 5 ∷ slice_index cells 6 ∷ slice_index cells 7 ∷ slice_index cells 9 ∷ slice_index cells 10 ∷ slice_index cells 11 ∷ [])
+    → u ≡ next (slice_index cells 4 ∷ slice_index cells 5 ∷ slice_index cells 6 ∷ slice_index cells 8 ∷ slice_index cells 9 ∷ slice_index cells 10 ∷ slice_index cells 12 ∷ slice_index cells 13 ∷ slice_index cells 14 ∷ [])
+    → v ≡ next (slice_index cells 5 ∷ slice_index cells 6 ∷ slice_index cells 7 ∷ slice_index cells 9 ∷ slice_index cells 10 ∷ slice_index cells 11 ∷ slice_index cells 13 ∷ slice_index cells 14 ∷ slice_index cells 15 ∷ [])
+    → IfOk r (λ half. ShowsSquare new half 1 (together 1 (dot s) (dot t) (dot u) (dot v))) → IfOk r (IsLeap next new 0 nw ne sw se)
+next_inner_leap next old new sound grows r nw ne sw se cells s t u v four e a b c d made = leap_of r (dots_at new r s t u v q (pos 0 +ℤ pos 1) (pos 0 +ℤ pos 1)
+    (subst (λ l. s ≡ next (slice_index l 0 ∷ slice_index l 1 ∷ slice_index l 2 ∷ slice_index l 4 ∷ slice_index l 5 ∷ slice_index l 6 ∷ slice_index l 8 ∷ slice_index l 9 ∷ slice_index l 10 ∷ [])) e a)
+    (subst (λ l. t ≡ next (slice_index l 1 ∷ slice_index l 2 ∷ slice_index l 3 ∷ slice_index l 5 ∷ slice_index l 6 ∷ slice_index l 7 ∷ slice_index l 9 ∷ slice_index l 10 ∷ slice_index l 11 ∷ [])) e b)
+    (subst (λ l. u ≡ next (slice_index l 4 ∷ slice_index l 5 ∷ slice_index l 6 ∷ slice_index l 8 ∷ slice_index l 9 ∷ slice_index l 10 ∷ slice_index l 12 ∷ slice_index l 13 ∷ slice_index l 14 ∷ [])) e c)
+    (subst (λ l. v ≡ next (slice_index l 5 ∷ slice_index l 6 ∷ slice_index l 7 ∷ slice_index l 9 ∷ slice_index l 10 ∷ slice_index l 11 ∷ slice_index l 13 ∷ slice_index l 14 ∷ slice_index l 15 ∷ [])) e d) made)
+  where
+    f : ℕ → ℕ → ℕ
+    f = together 2 (cell_of old 1 nw) (cell_of old 1 ne) (cell_of old 1 sw) (cell_of old 1 se)
+
+    q : ℤ → ℤ → ℕ
+    q = cells_after next (from_corner f) 1
+
+    leap_of : {E : Type 0} (r : Result ℕ E) → IfOk r (λ half. ShowsAt new half 1 q (pos 0 +ℤ pos 1) (pos 0 +ℤ pos 1)) → IfOk r (IsLeap next new 0 nw ne sw se)
+    leap_of (Err f) shows = tt
+    leap_of (Ok half) shows = record {
+      are_four = four_go old new sound grows 1 nw ne sw se four;
+      is_half = shows.is_square;
+      shows = λ p a b show.
+          let was = four_was old new sound grows 1 nw ne sw se p a b four show in
+          record {
+            is_square = shows.is_square;
+            looks = looks_centre next 1 1 f (cell_of new 1 half) p a b (omega arith)
+                (looks_together 2 (cell_of old 1 nw) (cell_of old 1 ne) (cell_of old 1 sw) (cell_of old 1 se) p a b was.at_nw.looks was.at_ne.looks was.at_sw.looks was.at_se.looks)
+                (λ x y i j.
+                let ax : (pos 0 +ℤ pos 1) +ℤ pos x ≡ pos (1 + x) = omega (arith, ints) in
+                let by : (pos 0 +ℤ pos 1) +ℤ pos y ≡ pos (1 + y) = omega (arith, ints) in
+                shows.looks x y i j ∙ ap₂ q ax by);
+          };
+    }
 
 -- ---- empty squares
 

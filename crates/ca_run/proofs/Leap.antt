@@ -7,14 +7,15 @@ use Rattle.ca_plane.specs.Generations.{cells_after}
 use Rattle.ca_quad.specs.declared.node.Node.{Node}
 use Rattle.ca_quad.specs.Squares.{IsOf, cell_of}
 use Rattle.ca_quad.specs.Sound.{IsSoundStore, Grows}
-use Rattle.ca_quad.specs.Trees.{from_corner}
+use Rattle.ca_quad.specs.Trees.{AreFour, from_corner}
 use Rattle.ca_quad.proofs.Growth.{grows_same, grows_on}
 use Rattle.ca_run.specs.declared.leaper.trio.Trio.{Trio}
 use Rattle.ca_run.specs.declared.leaper.trio.Rows.{Rows}
 use Rattle.ca_run.specs.Centre.{IsCentre}
 use Rattle.ca_run.specs.Leaping.{LeaperView, LeaperGrows}
+use Rattle.ca_run.specs.RecentLeaps.{IsLeap}
 use Rattle.ca_run.specs.inner.Shown.{ShowsAt, FourShow, ThreeShow, TwoShow, NineShow, side}
-use Rattle.ca_run.proofs.Shown.{at_stays, three_stay, at_from, centre_at, is_centre_at, at_corner}
+use Rattle.ca_run.proofs.Shown.{at_stays, three_stay, four_was, four_stay, four_go, at_from, centre_at, is_centre_at, at_corner}
 
 -- a leaper that does nothing goes on
 pub goes_on_same : (Rule : Type 0) (l : LeaperView Rule) → IsSoundStore l.nodes → LeaperGrows Rule l l
@@ -25,6 +26,28 @@ pub centre_ok : {E : Type 0} (next : List ℕ → ℕ) (old new : List Node) →
     → IfOk r (IsCentre next new id k j) → IfOk r (λ half. ShowsAt new half (suc k) (cells_after next p (2 ^ j)) (a +ℤ side k) (b +ℤ side k))
 centre_ok next old new sound grows (Err e) id k j p a b shows is_centre = tt
 centre_ok next old new sound grows (Ok half) id k j p a b shows is_centre = centre_at next old new sound grows id k j half p a b shows is_centre
+
+-- the square that a leap of four gives shows the plane later
+pub leap_shows : {E : Type 0} (next : List ℕ → ℕ) (old new : List Node) → IsSoundStore old → Grows old new → (r : Result ℕ E) (k nw ne sw se : ℕ) (p : ℤ → ℤ → ℕ) (a b : ℤ) → FourShow old (suc k) nw ne sw se p a b
+    → IfOk r (IsLeap next new k nw ne sw se) → IfOk r (λ half. ShowsAt new half (suc k) (cells_after next p (2 ^ k)) (a +ℤ side k) (b +ℤ side k))
+leap_shows next old new sound grows (Err e) k nw ne sw se p a b four leap = tt
+leap_shows next old new sound grows (Ok half) k nw ne sw se p a b four leap = leap.shows p a b (four_stay old new sound grows (suc k) nw ne sw se p a b four)
+
+pub leap_square : {E : Type 0} (next : List ℕ → ℕ) (new : List Node) (r : Result ℕ E) (k nw ne sw se : ℕ) → IfOk r (IsLeap next new k nw ne sw se) → IfOk r (λ half. IsOf new half (suc k))
+leap_square next new (Err e) k nw ne sw se leap = tt
+leap_square next new (Ok half) k nw ne sw se leap = leap.is_half
+
+-- the centre of the square of four is the one in their middle
+pub leap_of_join : {E : Type 0} (next : List ℕ → ℕ) (old mid new : List Node) → IsSoundStore old → Grows old mid → Grows mid new → (r : Result ℕ E) (id k nw ne sw se : ℕ) → AreFour old (suc k) nw ne sw se
+    → ((p : ℤ → ℤ → ℕ) (a b : ℤ) → FourShow old (suc k) nw ne sw se p a b → ShowsAt mid id (suc (suc k)) p a b) → IfOk r (IsCentre next new id k k) → IfOk r (IsLeap next new k nw ne sw se)
+leap_of_join next old mid new sound g h (Err e) id k nw ne sw se four joined centre = tt
+leap_of_join next old mid new sound g h (Ok half) id k nw ne sw se four joined centre =
+    let grows = grows_on old mid new g h in
+    record {
+      are_four = four_go old new sound grows (suc k) nw ne sw se four;
+      is_half = centre.is_half;
+      shows = λ p a b show. centre_at next mid new g.sound h id k k half p a b (joined p a b (four_was old new sound grows (suc k) nw ne sw se p a b four show)) centre;
+    }
 
 -- what shows a square's own cells later is its centre
 pub nine_centre : {E : Type 0} (next : List ℕ → ℕ) (old new : List Node) → IsSoundStore old → Grows old new → (r : Result ℕ E) (id below k m n j : ℕ) → suc below ≡ k → IsOf old id (suc (suc k)) → j ≤ k → m + n ≡ 2 ^ j

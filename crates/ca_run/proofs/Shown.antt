@@ -1,6 +1,7 @@
 -- Squares that show a plane: they go on to do so, and so do their parts, joins and centres.
 use Rattle.std.proofs.Common.{◌≡◌, ℕ, ◌⊎◌, inl, inr, suc, ◌+◌, ◌<◌, ◌≤◌, ◌^◌, Option, Some, None, Result, Ok, Err, IfOk, IfSome, List, length, get_or, slice_index, refl, sym, ap, ap₂, subst, ◌∙◌, arith}
 use Rattle.std.specs.Prelude.{ℤ, pos, ◌+ℤ◌}
+use Rattle.std.specs.List.{Contains}
 use Rattle.std.proofs.lemmas.Int.{ints}
 use Rattle.std.proofs.lemmas.List.{get_or_default}
 use Rattle.std.proofs.Math.Nat.{two-pow-succ}
@@ -19,6 +20,7 @@ use Rattle.ca_run.specs.inner.Shown.{Looks, ShowsAt, FourShow, ThreeShow, TwoSho
 use Rattle.ca_run.specs.Memo.{memo_result, AreCentres, IsLeaper}
 use Rattle.ca_run.specs.FullLeaps.{HasFullLeap, AreFullLeaps}
 use Rattle.ca_run.specs.RecentCentres.{HasRecent, AreRecentCentres}
+use Rattle.ca_run.specs.RecentLeaps.{IsLeap, AreRecentLeaps}
 use Rattle.ca_run.proofs.After.{after_again}
 use Rattle.ca_run.proofs.Looks.{looks_from, looks_together, looks_nw, looks_ne, looks_sw, looks_se, looks_centre}
 
@@ -78,19 +80,65 @@ module _ (old new : List Node) (sound : IsSoundStore old) (grows : Grows old new
       let there = h id j half e in
       (there.0, centre_stays next id there.0 j half there.1)
 
+  -- what an old square shows now it showed before
+  at_was : (id level : ℕ) (p : ℤ → ℤ → ℕ) (a b : ℤ) → IsOf old id level → ShowsAt new id level p a b → ShowsAt old id level p a b
+  at_was id level p a b square h = record {
+    is_square = square;
+    looks = λ x y i j. ap (λ f. f x y) (sym (cells_stay old new sound grows level id square)) ∙ h.looks x y i j;
+  }
+
+  pub four_was : (k nw ne sw se : ℕ) (p : ℤ → ℤ → ℕ) (a b : ℤ) → AreFour old k nw ne sw se → FourShow new k nw ne sw se p a b → FourShow old k nw ne sw se p a b
+  four_was k nw ne sw se p a b are h = record {
+    at_nw = at_was nw k p a b are.is_nw h.at_nw;
+    at_ne = at_was ne k p (a +ℤ side k) b are.is_ne h.at_ne;
+    at_sw = at_was sw k p a (b +ℤ side k) are.is_sw h.at_sw;
+    at_se = at_was se k p (a +ℤ side k) (b +ℤ side k) are.is_se h.at_se;
+  }
+
+  pub four_stay : (k nw ne sw se : ℕ) (p : ℤ → ℤ → ℕ) (a b : ℤ) → FourShow old k nw ne sw se p a b → FourShow new k nw ne sw se p a b
+  four_stay k nw ne sw se p a b h = record {
+    at_nw = at_stays nw k p a b h.at_nw;
+    at_ne = at_stays ne k p (a +ℤ side k) b h.at_ne;
+    at_sw = at_stays sw k p a (b +ℤ side k) h.at_sw;
+    at_se = at_stays se k p (a +ℤ side k) (b +ℤ side k) h.at_se;
+  }
+
+  pub four_go : (k nw ne sw se : ℕ) → AreFour old k nw ne sw se → AreFour new k nw ne sw se
+  four_go k nw ne sw se h = record {
+    is_low = h.is_low;
+    is_nw = of_stays old new sound grows nw k h.is_nw;
+    is_ne = of_stays old new sound grows ne k h.is_ne;
+    is_sw = of_stays old new sound grows sw k h.is_sw;
+    is_se = of_stays old new sound grows se k h.is_se;
+  }
+
+  leap_stays : (next : List ℕ → ℕ) (k nw ne sw se half : ℕ) → IsLeap next old k nw ne sw se half → IsLeap next new k nw ne sw se half
+  leap_stays next k nw ne sw se half h = record {
+    are_four = four_go (suc k) nw ne sw se h.are_four;
+    is_half = of_stays old new sound grows half (suc k) h.is_half;
+    shows = λ p a b four.
+        at_stays half (suc k) (cells_after next p (2 ^ k)) (a +ℤ side k) (b +ℤ side k) (h.shows p a b (four_was (suc k) nw ne sw se p a b h.are_four four));
+  }
+
+  pub recent_leaps_stay : (next : List ℕ → ℕ) (slots : List (Option (ℕ × ℕ × ℕ × ℕ × ℕ))) → AreRecentLeaps next old slots → AreRecentLeaps next new slots
+  recent_leaps_stay next slots h nw ne sw se half e =
+      let there = h nw ne sw se half e in
+      (there.0, leap_stays next there.0 nw ne sw se half there.1)
+
   pub full_leaps_stay : (next : List ℕ → ℕ) (halves : List (Option ℕ)) → AreFullLeaps next old halves → AreFullLeaps next new halves
   full_leaps_stay next halves h id half e =
       let there = h id half e in
       (there.0, centre_stays next id there.0 there.0 half there.1)
 
 -- a leaper stays one as its store grows
-pub leaper_stays : {old new : List Node} {next : List ℕ → ℕ} {S : Type 0} {results : List ((ℕ × ℕ) × ℕ)} {slots : List (Option (ℕ × ℕ × ℕ))} {halves : List (Option ℕ)} {masks : Option (ℕ × ℕ)}
-    → IsLeaper next S old results slots halves masks → Grows old new → IsLeaper next S new results slots halves masks
+pub leaper_stays : {old new : List Node} {next : List ℕ → ℕ} {S : Type 0} {results : List ((ℕ × ℕ) × ℕ)} {slots : List (Option (ℕ × ℕ × ℕ))} {leaps : List (Option (ℕ × ℕ × ℕ × ℕ × ℕ))} {halves : List (Option ℕ)} {masks : Option (ℕ × ℕ)}
+    → IsLeaper next S old results slots leaps halves masks → Grows old new → IsLeaper next S new results slots leaps halves masks
 leaper_stays h grows = record {
   rule = h.rule;
   squares = grows.sound;
   centres = centres_stay _ _ h.squares grows _ _ h.centres;
   recent_centres = kept_centres_stay _ _ h.squares grows _ _ h.recent_centres;
+  recent_leaps = recent_leaps_stay _ _ h.squares grows _ _ h.recent_leaps;
   full_leaps = full_leaps_stay _ _ h.squares grows _ _ h.full_leaps;
   by_masks = h.by_masks;
 }
@@ -241,6 +289,27 @@ kept_more next nodes old new id k j half all this more other time centre h = eli
     k,
     subst (λ x. IsCentre next nodes other k time x) (sym same.2)
         (subst (λ x. IsCentre next nodes other k x half) (sym same.1) (subst (λ x. IsCentre next nodes x k j half) (sym same.0) this)),
+  )
+]
+
+-- what a slot has for four squares is the one in their middle
+pub leap_recalled : (next : List ℕ → ℕ) (nodes : List Node) (slots : List (Option (ℕ × ℕ × ℕ × ℕ × ℕ))) (k nw ne sw se : ℕ) (found : Option ℕ) → AreRecentLeaps next nodes slots → AreFour nodes (suc k) nw ne sw se
+    → IfSome found (λ half. Contains slots (Some (nw, ne, sw, se, half))) → IfSome found (IsLeap next nodes k nw ne sw se)
+leap_recalled next nodes slots k nw ne sw se None all four e = tt
+leap_recalled next nodes slots k nw ne sw se (Some half) all four e =
+    let there = all nw ne sw se half e in
+    let same : there.0 ≡ k = omega (arith, there.1.are_four.is_nw.is_level, four.is_nw.is_level) in
+    subst (λ l. IsLeap next nodes l nw ne sw se half) same there.1
+
+-- and so after a write
+pub leaps_more : (next : List ℕ → ℕ) (nodes : List Node) (old new : List (Option (ℕ × ℕ × ℕ × ℕ × ℕ))) (k nw ne sw se half : ℕ) → AreRecentLeaps next nodes old → IsLeap next nodes k nw ne sw se half
+    → ((a b c d e : ℕ) → Contains new (Some (a, b, c, d, e)) → Contains old (Some (a, b, c, d, e)) ⊎ ((a ≡ nw) × (b ≡ ne) × (c ≡ sw) × (d ≡ se) × (e ≡ half))) → AreRecentLeaps next nodes new
+leaps_more next nodes old new k nw ne sw se half all this more a b c d e h = elim (more a b c d e h) [
+  | inl i ↦ all a b c d e i
+  | inr same ↦ (
+    k,
+    subst (λ x. IsLeap next nodes k x b c d e) (sym same.0) (subst (λ x. IsLeap next nodes k nw x c d e) (sym same.1) (subst (λ x. IsLeap next nodes k nw ne x d e) (sym same.2)
+        (subst (λ x. IsLeap next nodes k nw ne sw x e) (sym same.3) (subst (λ x. IsLeap next nodes k nw ne sw se x) (sym same.4) this)))),
   )
 ]
 

@@ -8,5 +8,6 @@ pub mod Lanes
 pub mod Masks
 pub mod FullLeaps
 pub mod RecentCentres
+pub mod RecentLeaps
 pub mod Memo
 pub mod inner

@@ -7,6 +7,7 @@ ghost use Rattle.ca_quad.specs.Trees.{AreFour, ShowsSquare};
 ghost use Rattle.ca_run.specs.Centre.{IsCentre};
 ghost use Rattle.ca_run.specs.Leaping.{LeaperGrows};
 ghost use Rattle.ca_run.specs.Masks.{GoesBy};
+ghost use Rattle.ca_run.specs.RecentLeaps.{IsLeap};
 ghost use Rattle.ca_run.specs.inner.Shown.{ShowsAt, FourShow};
 
 mod advance;
@@ -21,6 +22,7 @@ mod milestone;
 mod parts;
 mod planes;
 mod recent_centres;
+mod recent_leaps;
 mod squares;
 mod tile;
 mod to_wall;
@@ -34,6 +36,7 @@ use full_leaps::FullLeaps;
 use memo::Memo;
 pub use milestone::Milestone;
 use recent_centres::RecentCentres;
+use recent_leaps::RecentLeaps;
 use std::alloc::Global;
 use std::marker::Model;
 
@@ -45,6 +48,7 @@ pub struct Leaper<A: Automaton> {
     masks: Option<(u16, u16)>,
     memo: Memo,
     recent_centres: RecentCentres,
+    recent_leaps: RecentLeaps,
     full_leaps: FullLeaps,
 }
 
@@ -57,7 +61,7 @@ impl<A: Automaton> Model for Leaper<A> {
     ghost view = { λ l. record { rule = l.rule; nodes = l.store } };
 
     ghost invariant = { λ l. IsLeaper (A.next_of l.rule) (A.sound l.rule) l.store l.memo l.recent_centres
-        l.full_leaps l.masks };
+        l.recent_leaps l.full_leaps l.masks };
 }
 
 impl<A: Automaton> Leaper<A> {
@@ -75,6 +79,7 @@ impl<A: Automaton> Leaper<A> {
             masks,
             memo: Memo::new(alloc),
             recent_centres: RecentCentres::new(alloc),
+            recent_leaps: RecentLeaps::new(alloc),
             full_leaps: FullLeaps::new(alloc),
         }
     }
@@ -123,6 +128,24 @@ impl<A: Automaton> Leaper<A> {
             return Ok(());
         }
         self.memo.put(id, j, half)
+    }
+
+    // What is remembered for four squares.
+    fn recall_leap(&self, nw: Id, ne: Id, sw: Id, se: Id, grain: u8) -> Option<Id>
+        requires { AreFour self.now.nodes (suc grain) nw ne sw se }
+        ensures { IfSome result (IsLeap (A.next_of self.now.rule) self.now.nodes grain nw ne sw se) }
+    {
+        let _ = grain;
+        self.recent_leaps.get(nw, ne, sw, se)
+    }
+
+    // Remembers the square in the middle of four.
+    fn remember_leap(&mut self, nw: Id, ne: Id, sw: Id, se: Id, grain: u8, half: Id)
+        requires { IsLeap (A.next_of self.old.rule) self.old.nodes grain nw ne sw se half }
+        ensures { self.new ≡ self.old }
+    {
+        let _ = grain;
+        self.recent_leaps.put(nw, ne, sw, se, half);
     }
 
     // Whether the centre of a square is worked out on words, which costs little.

@@ -1,9 +1,11 @@
-//! Squares of 4 by 4 cells.
+//! Squares of 4 by 4 cells, and of four squares of 2 by 2.
 
 ghost use Rattle.std.specs.Prelude.{◌≡◌, IfOk};
-ghost use Rattle.ca_quad.specs.Squares.{IsOf, cell_of};
+ghost use Rattle.ca_quad.specs.Squares.{IsOf, cell_of, together};
+ghost use Rattle.ca_quad.specs.Trees.{AreFour};
 ghost use Rattle.ca_run.specs.Centre.{IsCentre};
 ghost use Rattle.ca_run.specs.Leaping.{LeaperGrows};
+ghost use Rattle.ca_run.specs.RecentLeaps.{IsLeap};
 ghost use Rattle.ca_run.specs.inner.Shown.{sixteen};
 
 use super::Leaper;
@@ -31,6 +33,33 @@ impl<A: Automaton> Leaper<A> {
         ensures goes_on { LeaperGrows A self.old self.new }
     {
         let [a, b, c, d, e, f, g, h, i, j, k, l, m, n, o, p] = self.cells16(id);
+        let nw = self.rule.next(&[a, b, c, e, f, g, i, j, k]);
+        let ne = self.rule.next(&[b, c, d, f, g, h, j, k, l]);
+        let sw = self.rule.next(&[e, f, g, i, j, k, m, n, o]);
+        let se = self.rule.next(&[f, g, h, j, k, l, n, o, p]);
+        self.leaf(nw, ne, sw, se)
+    }
+
+    // The sixteen cells of four squares of 2 by 2, row by row.
+    fn cells_of_four(&self, nw: Id, ne: Id, sw: Id, se: Id) -> [u8; 16]
+        requires { AreFour self.now.nodes 1 nw ne sw se }
+        ensures { result ≡ sixteen (together 2 (cell_of self.now.nodes 1 nw) (cell_of self.now.nodes 1 ne)
+            (cell_of self.now.nodes 1 sw) (cell_of self.now.nodes 1 se)) }
+    {
+        let [a, b, e, f] = self.store.cells4(nw);
+        let [c, d, g, h] = self.store.cells4(ne);
+        let [i, j, m, n] = self.store.cells4(sw);
+        let [k, l, o, p] = self.store.cells4(se);
+        [a, b, c, d, e, f, g, h, i, j, k, l, m, n, o, p]
+    }
+
+    // The four cells in the middle of four squares of 2 by 2, one generation on.
+    pub(super) fn next_inner(&mut self, nw: Id, ne: Id, sw: Id, se: Id) -> Result<Id, Memory>
+        requires { AreFour self.old.nodes 1 nw ne sw se }
+        ensures leap { IfOk result (IsLeap (A.next_of self.old.rule) self.new.nodes 0 nw ne sw se) }
+        ensures goes_on { LeaperGrows A self.old self.new }
+    {
+        let [a, b, c, d, e, f, g, h, i, j, k, l, m, n, o, p] = self.cells_of_four(nw, ne, sw, se);
         let nw = self.rule.next(&[a, b, c, e, f, g, i, j, k]);
         let ne = self.rule.next(&[b, c, d, f, g, h, j, k, l]);
         let sw = self.rule.next(&[e, f, g, i, j, k, m, n, o]);

@@ -6,6 +6,7 @@ ghost use Rattle.ca_quad.specs.Squares.{IsOf};
 ghost use Rattle.ca_quad.specs.Trees.{AreFour};
 ghost use Rattle.ca_run.specs.Centre.{IsCentre};
 ghost use Rattle.ca_run.specs.Leaping.{LeaperGrows};
+ghost use Rattle.ca_run.specs.RecentLeaps.{IsLeap};
 ghost use Rattle.ca_run.specs.inner.Centres.{HasCentre};
 ghost use Rattle.ca_run.specs.inner.Shown.{ShowsAt, FourShow, TwoShow, ThreeShow, NineShow, AreThree};
 ghost use Rattle.ca_run.specs.inner.Shown.{AreNine, side, generations, IsTimely};
@@ -112,9 +113,7 @@ impl<A: Automaton> Leaper<A> {
     {
         let (nw, ne, sw, se) = self.quarters(id, grain + 1);
         let north = self.trio(nw, ne, grain, first)?;
-        let west = self.middle_of_column(nw, sw, grain)?;
-        let east = self.middle_of_column(ne, se, grain)?;
-        let middle = self.trio(west, east, grain, first)?;
+        let middle = self.middle_trio(nw, ne, sw, se, grain, first)?;
         let south = self.trio(sw, se, grain, first)?;
         Ok(Rows {
             north,
@@ -138,11 +137,73 @@ impl<A: Automaton> Leaper<A> {
         ensures goes_on { LeaperGrows A self.old self.new }
     {
         let _ = &self.store;
-        let middle = self.middle_of_row(west, east, grain)?;
+        let (_, nw, _, sw) = self.quarters(west, grain);
+        let (ne, _, se, _) = self.quarters(east, grain);
         let west = self.first_centre(west, grain, first)?;
-        let middle = self.first_centre(middle, grain, first)?;
+        let middle = self.first_inner(nw, ne, sw, se, grain, first)?;
         let east = self.first_centre(east, grain, first)?;
         Ok(Trio { west, middle, east })
+    }
+
+    // The centres of the three squares in the middle row of four squares: each lies half in the north.
+    #[cycle(leap)]
+    fn middle_trio(
+        &mut self,
+        nw: Id,
+        ne: Id,
+        sw: Id,
+        se: Id,
+        grain: u8,
+        first: Option<u8>,
+    ) -> Result<Trio, Memory>
+        requires four { AreFour self.old.nodes (suc (suc grain)) nw ne sw se }
+        requires low { grain ≤ 122 }
+        requires first { IsTimely grain first }
+        ensures shows { (next : List ℕ → ℕ) (p : ℤ → ℤ → ℕ) (a b : ℤ) → next ≡ A.next_of self.old.rule
+            → FourShow self.old.nodes (suc (suc grain)) nw ne sw se p a b
+            → IfOk result (λ three. ThreeShow self.new.nodes (suc grain) three
+            (cells_after next p (generations first)) (a +ℤ side grain)
+            ((b +ℤ side (suc grain)) +ℤ side grain)) }
+        ensures squares { IfOk result (AreThree self.new.nodes (suc grain)) }
+        ensures goes_on { LeaperGrows A self.old self.new }
+    {
+        let _ = &self.store;
+        let (_, _, a, b) = self.quarters(nw, grain);
+        let (_, _, c, d) = self.quarters(ne, grain);
+        let (e, f, _, _) = self.quarters(sw, grain);
+        let (g, h, _, _) = self.quarters(se, grain);
+        let west = self.first_inner(a, b, e, f, grain, first)?;
+        let middle = self.first_inner(b, c, f, g, grain, first)?;
+        let east = self.first_inner(c, d, g, h, grain, first)?;
+        Ok(Trio { west, middle, east })
+    }
+
+    // The square in the middle of four as it is, or after 2^j generations.
+    #[cycle(leap)]
+    fn first_inner(
+        &mut self,
+        nw: Id,
+        ne: Id,
+        sw: Id,
+        se: Id,
+        grain: u8,
+        first: Option<u8>,
+    ) -> Result<Id, Memory>
+        requires four { AreFour self.old.nodes (suc grain) nw ne sw se }
+        requires low { grain ≤ 122 }
+        requires first { IsTimely grain first }
+        ensures shows { (next : List ℕ → ℕ) (p : ℤ → ℤ → ℕ) (a b : ℤ) → next ≡ A.next_of self.old.rule
+            → FourShow self.old.nodes (suc grain) nw ne sw se p a b
+            → IfOk result (λ half. ShowsAt self.new.nodes half (suc grain)
+            (cells_after next p (generations first)) (a +ℤ side grain) (b +ℤ side grain)) }
+        ensures square { IfOk result (λ half. IsOf self.new.nodes half (suc grain)) }
+        ensures goes_on { LeaperGrows A self.old self.new }
+    {
+        let _ = &self.store;
+        match first {
+            None => self.inner_of_four(nw, ne, sw, se, grain),
+            Some(j) => self.joined_centre(nw, ne, sw, se, grain, j),
+        }
     }
 
     // The centre of a square as it is, or after 2^j generations.
@@ -222,7 +283,44 @@ impl<A: Automaton> Leaper<A> {
         ensures square { IfOk result (λ half. IsOf self.new.nodes half (suc grain)) }
         ensures goes_on { LeaperGrows A self.old self.new }
     {
+        let _ = &self.store;
+        if j == grain && self.masks.is_none() {
+            return self.leap_of_four(nw, ne, sw, se, grain);
+        }
         let id = self.join(nw, ne, sw, se, grain)?;
         self.centre(id, grain, j)
+    }
+
+    // The square in the middle of four, as far on as it can be known.
+    #[cycle(leap)]
+    fn leap_of_four(&mut self, nw: Id, ne: Id, sw: Id, se: Id, grain: u8) -> Result<Id, Memory>
+        requires four { AreFour self.old.nodes (suc grain) nw ne sw se }
+        requires low { grain ≤ 122 }
+        ensures leap { IfOk result (IsLeap (A.next_of self.old.rule) self.new.nodes grain nw ne sw se) }
+        ensures goes_on { LeaperGrows A self.old self.new }
+    {
+        let _ = &self.store;
+        if let Some(half) = self.recall_leap(nw, ne, sw, se, grain) {
+            return Ok(half);
+        }
+        let half = self.new_leap(nw, ne, sw, se, grain)?;
+        self.remember_leap(nw, ne, sw, se, grain, half);
+        Ok(half)
+    }
+
+    // The same where it isn't remembered.
+    #[cycle(leap)]
+    fn new_leap(&mut self, nw: Id, ne: Id, sw: Id, se: Id, grain: u8) -> Result<Id, Memory>
+        requires four { AreFour self.old.nodes (suc grain) nw ne sw se }
+        requires low { grain ≤ 122 }
+        ensures leap { IfOk result (IsLeap (A.next_of self.old.rule) self.new.nodes grain nw ne sw se) }
+        ensures goes_on { LeaperGrows A self.old self.new }
+    {
+        let _ = &self.store;
+        if grain == 0 {
+            return self.next_inner(nw, ne, sw, se);
+        }
+        let id = self.join(nw, ne, sw, se, grain)?;
+        self.centre(id, grain, grain)
     }
 }

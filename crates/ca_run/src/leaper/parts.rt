@@ -3,6 +3,7 @@
 ghost use Rattle.std.specs.Prelude.{◌≡◌, ℕ, suc, ◌≤◌, ◌^◌, ℤ, pos, ◌+ℤ◌, IfOk};
 ghost use Rattle.ca_quad.specs.Squares.{IsOf};
 ghost use Rattle.ca_quad.specs.Sound.{IsSoundStore};
+ghost use Rattle.ca_quad.specs.Trees.{AreFour};
 ghost use Rattle.ca_run.specs.Leaping.{LeaperGrows};
 ghost use Rattle.ca_run.specs.inner.Shown.{ShowsAt, FourShow, TwoShow, side};
 
@@ -28,35 +29,25 @@ impl<A: Automaton> Leaper<A> {
         (nw, ne, sw, se)
     }
 
-    // The square in the middle between two that lie side by side.
-    pub(super) fn middle_of_row(&mut self, west: Id, east: Id, grain: u8) -> Result<Id, Memory>
-        requires west { IsOf self.old.nodes west (suc (suc grain)) }
-        requires east { IsOf self.old.nodes east (suc (suc grain)) }
-        requires low { grain ≤ 123 }
-        ensures shows { (p : ℤ → ℤ → ℕ) (a b : ℤ) → TwoShow self.old.nodes (suc (suc grain)) west east p a b
-            → IfOk result (λ id. ShowsAt self.new.nodes id (suc (suc grain)) p (a +ℤ side (suc grain)) b) }
-        ensures square { IfOk result (λ id. IsOf self.new.nodes id (suc (suc grain))) }
+    // The square in the middle of four.
+    pub(super) fn inner_of_four(
+        &mut self,
+        nw: Id,
+        ne: Id,
+        sw: Id,
+        se: Id,
+        grain: u8,
+    ) -> Result<Id, Memory>
+        requires four { AreFour self.old.nodes (suc grain) nw ne sw se }
+        requires low { grain ≤ 122 }
+        ensures shows { (p : ℤ → ℤ → ℕ) (a b : ℤ) → FourShow self.old.nodes (suc grain) nw ne sw se p a b
+            → IfOk result (λ half. ShowsAt self.new.nodes half (suc grain) p
+            (a +ℤ side grain) (b +ℤ side grain)) }
+        ensures square { IfOk result (λ half. IsOf self.new.nodes half (suc grain)) }
         ensures goes_on { LeaperGrows A self.old self.new }
     {
-        let (_, nw, _, sw) = self.quarters(west, grain);
-        let (ne, _, se, _) = self.quarters(east, grain);
-        self.join(nw, ne, sw, se, grain)
-    }
-
-    // The square in the middle between two of which one lies over the other.
-    pub(super) fn middle_of_column(&mut self, north: Id, south: Id, grain: u8) -> Result<Id, Memory>
-        requires north { IsOf self.old.nodes north (suc (suc grain)) }
-        requires south { IsOf self.old.nodes south (suc (suc grain)) }
-        requires low { grain ≤ 123 }
-        ensures shows { (p : ℤ → ℤ → ℕ) (a b : ℤ) → ShowsAt self.old.nodes north (suc (suc grain)) p a b
-            → ShowsAt self.old.nodes south (suc (suc grain)) p a (b +ℤ side (suc (suc grain)))
-            → IfOk result (λ id. ShowsAt self.new.nodes id (suc (suc grain)) p a (b +ℤ side (suc grain))) }
-        ensures square { IfOk result (λ id. IsOf self.new.nodes id (suc (suc grain))) }
-        ensures goes_on { LeaperGrows A self.old self.new }
-    {
-        let (_, _, nw, ne) = self.quarters(north, grain);
-        let (sw, se, _, _) = self.quarters(south, grain);
-        self.join(nw, ne, sw, se, grain)
+        let id = self.join(nw, ne, sw, se, grain)?;
+        self.inner_square(id, grain)
     }
 
     // The middle of a square, half its side wide.

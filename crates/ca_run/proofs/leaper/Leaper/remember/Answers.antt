@@ -10,6 +10,7 @@ invariant_of-self g c = record {
   squares = c.self.invariant.squares;
   centres = c.self.invariant.centres;
   recent_centres = c.self.invariant.recent_centres;
+  recent_leaps = c.self.invariant.recent_leaps;
   full_leaps = full_leaps_more (g.A.Automaton.next_of c.self.inside.rule) c.self.inside.store c.self.inside.full_leaps c.put.new.self c.args.id c.args.grain c.args.j c.args.half (grind (arith, nat_tests)) c.self.invariant.full_leaps
       (subst (λ l. IsCentre (g.A.Automaton.next_of l.rule) l.nodes c.args.id c.args.grain c.args.j c.args.half) (sym c.self.view_is) c.requires) c.put.ensures;
   by_masks = c.self.invariant.by_masks;
@@ -22,6 +23,7 @@ invariant_of-self-then-is_cheap g c = record {
   centres = c.self.invariant.centres;
   recent_centres = kept_more (g.A.Automaton.next_of c.self.inside.rule) c.self.inside.store c.self.inside.recent_centres c.put-then-is_cheap.new.self c.args.id c.args.grain c.args.j c.args.half c.self.invariant.recent_centres
       (subst (λ l. IsCentre (g.A.Automaton.next_of l.rule) l.nodes c.args.id c.args.grain c.args.j c.args.half) (sym c.self.view_is) c.requires) c.put-then-is_cheap.ensures;
+  recent_leaps = c.self.invariant.recent_leaps;
   full_leaps = c.self.invariant.full_leaps;
   by_masks = c.self.invariant.by_masks;
 }
