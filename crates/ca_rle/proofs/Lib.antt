@@ -47,3 +47,5 @@ pub mod Laid
 pub mod ItemTexts
 pub mod WholeTexts
 pub mod FileParts
+pub mod Drawn
+pub mod ReadParts

@@ -8,7 +8,7 @@ use Rattle.ca_rle.specs.Items.{Run}
 use Rattle.ca_rle.specs.Shown.{ends_row, tag_state, row_count, columns_of}
 use Rattle.ca_rle.specs.inner.BodyFaults.{with_capped_count, IsItemAtFront}
 use Rattle.ca_rle.specs.inner.Extent.{kept_number, live_count_of_item, columns_to, rows_to, IsOffsetOf, IsItemsExtent}
-use Rattle.ca_rle.proofs.Pushed.{row_count-push, columns_of-push, longest_of-push, greatest_of-push, live_count_of_items-push, Run-push}
+use Rattle.ca_rle.proofs.Pushed.{row_count-push, columns_of-push, longest_of-push, greatest_state-push, greatest_of-push, live_count_of_items-push, Run-push}
 
 -- where the item after i begins
 pub record IsNextOffset (i : Item) (at next : Offset) : Type 0 where
@@ -21,6 +21,7 @@ pub record IsGrownBy (i : Item) (at : Offset) (old new : Extent) : Type 0 where
   pub right : new.reach.columns ≡ max old.reach.columns (if tag_state i.tag == 0 then 0 else kept_number (at.columns + i.count))
   pub bottom : new.reach.rows ≡ max old.reach.rows (if tag_state i.tag == 0 then 0 else kept_number (at.rows + 1))
   pub cells : new.cells ≡ kept_number (old.cells + live_count_of_item i)
+  pub greatest : new.greatest ≡ max old.greatest (tag_state i.tag)
 
 -- sums of kept numbers, by a test or not
 kept_sum : (t : Bool) (a b x y n : ℕ) → n ≡ kept_number (x + (if t then y else 0)) → x ≡ kept_number a → y ≡ kept_number b → n ≡ kept_number (a + (if t then b else 0))
@@ -62,6 +63,7 @@ extent_more items j at old new o e g = record {
       let here = kept_live (tag_state j.tag == 0) j.count in
       let push = live_count_of_items-push items j in
       omega (arith, g.cells, e.cells, here, push);
+  greatest = omega (arith, g.greatest, e.greatest, greatest_state-push items j);
 }
 
 -- these items were read and measured, and the next begins at an offset

@@ -1,8 +1,7 @@
 -- Items drawn one after another, from any corner: what the plane shows.
-use Rattle.std.proofs.Common.{◌≡◌, ℕ, ◌+◌, ◌≤◌, ◌<◌, ◌≢◌, ℤ, pos, ◌+ℤ◌, ◌≤ℤ◌, ◌<ℤ◌, ◌&&◌, ◌==◌, ◌^◌, ne_eqb, List, [], ◌∷◌, ◌++◌, ◌⊎◌, inl, inr, refl, sym, ap, subst, ◌∙◌, arith}
+use Rattle.std.proofs.Common.{◌≡◌, ℕ, ◌+◌, ◌≤◌, ◌<◌, ◌≢◌, ℤ, pos, ◌+ℤ◌, ◌≤ℤ◌, ◌<ℤ◌, ◌==◌, ◌^◌, ne_eqb, List, [], ◌∷◌, ◌++◌, ◌⊎◌, inl, inr, refl, sym, ap, subst, ◌∙◌, arith}
 use Rattle.std.specs.Prelude.{if◌then◌else◌}
 use Rattle.std.specs.List.{AllByRecursion}
-use Rattle.std.specs.Ordering.{int_eq}
 use Rattle.std.proofs.lemmas.Bool.{cases_Bool, eqb-false}
 use Rattle.std.proofs.lemmas.Int.{ints}
 use Rattle.std.proofs.lemmas.List.{append-nil}
@@ -15,12 +14,13 @@ use Rattle.ca_rle.specs.declared.item.Item.{Item}
 use Rattle.ca_rle.specs.declared.item.Tag.{Tag}
 use Rattle.ca_rle.specs.declared.item.Tag.TheVariants.{Cell, RowEnd}
 use Rattle.ca_rle.specs.Items.{Run, IsEnd, Items}
-use Rattle.ca_rle.specs.Shown.{ends_row, tag_state, row_count, columns_of, place_after, item_cells, picture_after, picture_of_items}
+use Rattle.ca_rle.specs.Shown.{ends_row, tag_state, greatest_state, row_count, columns_of, place_after, item_cells, picture_after, picture_of_items}
 use Rattle.ca_rle.specs.Limits.{IsRleWithinRange}
 use Rattle.ca_plane.specs.Limits.{IsInRange}
 use Rattle.ca_rle.specs.inner.BodyFaults.{bare_file, with_capped_count, IsItemAtFront}
-use Rattle.ca_rle.specs.inner.Extent.{IsOffsetOf, point_from, HasRoom, cells_from}
-use Rattle.ca_rle.proofs.Pushed.{row_count-push, columns_of-push, picture_after-push, picture_after-append, Run-push, counts_low}
+use Rattle.ca_rle.specs.inner.Extent.{IsOffsetOf, point_from, HasRoom, cells_from, over}
+use Rattle.ca_rle.proofs.Pushed.{greatest_state-append, greatest_state-push, row_count-push, columns_of-push, picture_after-push, picture_after-append, Run-push, counts_low}
+use Rattle.ca_rle.proofs.Drawn.{over_picture}
 use Rattle.ca_rle.proofs.Measured.{IsNextOffset, offset_more}
 use Rattle.ca_rle.proofs.Ranges.{all_parts, run_has_room}
 use Rattle.ca_rle.proofs.Prefixes.{items_left, items_done, item_state_low}
@@ -46,11 +46,6 @@ place_after-push corner is i =
           let column : columns_of (is ++ i ∷ []) ≡ columns_of is + i.count = rw (columns_of-push, e) refl in
           rw (row, column, e) (point-same _ _ (omega (arith, ints)) (omega (arith, ints)))
     ]
-
--- the same cells in front of pictures that are the same
-same_after : (r p q : Picture) → IsSame p q → IsSame (r ++ p) (r ++ q)
-same_after [] p q same x y = same x y
-same_after (e ∷ es) p q same x y = ap (λ s. if int_eq y e.0.y && int_eq x e.0.x then e.1 else s) (same_after es p q same x y)
 
 -- an item's cells may stand before a picture that is clear ahead of them, or after it
 item_after : (p : Picture) (at : Point) (i : Item) → IsPicture p → ((x y : ℤ) → IsAhead at x y → cell p x y ≡ 0) → IsSame (cells_from at i ++ p) (p ++ cells_from at i)
@@ -93,10 +88,11 @@ tag_ahead corner at n RowEnd x y some (inr right) = inl (omega (arith, ints, rig
 -- ---- the next item
 
 -- what the next item of a body within range is, and where it stands
-pub record IsNext (corner : Point) (items : List Item) (at : Offset) (i j : Item) : Type 0 where
+pub record IsNext (top : ℕ) (corner : Point) (items : List Item) (at : Offset) (i j : Item) : Type 0 where
   pub same : i ≡ with_capped_count j
   pub some : 0 < j.count
   pub state : tag_state j.tag ≤ 255
+  pub most : tag_state i.tag ≤ top
   pub room : tag_state i.tag ≢ 0 → HasRoom (point_from corner at) i.count
   pub cells : cells_from (point_from corner at) i ≡ item_cells corner items j
 
@@ -113,9 +109,9 @@ next_cells p q m n t place count =
     ]
 
 -- the next item
-pub next_is : (corner : Point) (bytes rest more : List ℕ) (at : Offset) (all items : List Item) (i : Item) → Items bytes all → IsRleWithinRange (bare_file corner all) → Run bytes items rest → IsOffsetOf items at
-    → (item : IsItemAtFront rest i more) → IsNext corner items at i item.0
-next_is corner bytes rest more at all items i spelled range run offset (j, item, same) =
+pub next_is : (most : ℕ) (corner : Point) (bytes rest more : List ℕ) (at : Offset) (all items : List Item) (i : Item) → Items bytes all → IsRleWithinRange (bare_file corner all) → greatest_state all ≤ most → Run bytes items rest → IsOffsetOf items at
+    → (item : IsItemAtFront rest i more) → IsNext most corner items at i item.0
+next_is most corner bytes rest more at all items i spelled range low run offset (j, item, same) =
     let left = items_left bytes more all (items ++ j ∷ []) spelled (Run-push bytes items j rest more run item) in
     let counts = all_parts (λ i. i.count ≤ 2 ^ 62) (items ++ j ∷ []) left.0 (subst (λ l. AllByRecursion (λ i. i.count ≤ 2 ^ 62) l) left.2 range.counts) in
     let count : j.count ≤ 2 ^ 62 = (all_parts (λ i. i.count ≤ 2 ^ 62) items (j ∷ []) counts.0).1.0 in
@@ -132,6 +128,12 @@ next_is corner bytes rest more at all items i spelled range run offset (j, item,
       same = same;
       some = some;
       state = item_state_low rest j more item;
+      most = rw exact (
+          let whole = ap greatest_state left.2 in
+          let parts = greatest_state-append (items ++ j ∷ []) left.0 in
+          let last = greatest_state-push items j in
+          omega (arith, low, whole, parts, last)
+          );
       room = rw exact (λ ne. subst (λ p. HasRoom p j.count) (sym (place ne)) (live ne));
       cells = rw exact (next_cells (point_from corner at) (place_after corner items) j.count j.count j.tag place refl);
     }
@@ -142,17 +144,17 @@ next_is corner bytes rest more at all items i spelled range run offset (j, item,
 -- ---- all items
 
 -- these items were read and drawn, and the next begins at an offset
-pub record IsDrawn (corner : Point) (bytes after : List ℕ) (at : Offset) (plane : Picture) (items : List Item) : Type 0 where
+pub record IsDrawn (corner : Point) (bytes after : List ℕ) (at : Offset) (shown : ℤ → ℤ → ℕ) (items : List Item) : Type 0 where
   pub run : Run bytes items after
   pub offset : IsOffsetOf items at
-  pub cells : IsSame plane (picture_of_items corner items)
+  pub cells : (x y : ℤ) → shown x y ≡ cell (picture_of_items corner items) x y
   pub states : IsPicture (picture_of_items corner items)
   pub ahead : (x y : ℤ) → IsAhead (place_after corner items) x y → cell (picture_of_items corner items) x y ≡ 0
 
 -- one more item
-pub drawn_more : (corner : Point) (bytes rest more : List ℕ) (at next : Offset) (plane new : Picture) (items : List Item) (i : Item) → IsDrawn corner bytes rest at plane items → (item : IsItemAtFront rest i more)
-    → IsNext corner items at i item.0 → IsNextOffset i at next → IsSame new (cells_from (point_from corner at) i ++ plane) → IsDrawn corner bytes more next new (items ++ item.0 ∷ [])
-drawn_more corner bytes rest more at next plane new items i d (j, item, same) n o drawn =
+pub drawn_more : (most : ℕ) (corner : Point) (bytes rest more : List ℕ) (at next : Offset) (old new : ℤ → ℤ → ℕ) (items : List Item) (i : Item) → IsDrawn corner bytes rest at old items → (item : IsItemAtFront rest i more)
+    → IsNext most corner items at i item.0 → IsNextOffset i at next → ((x y : ℤ) → new x y ≡ over (cells_from (point_from corner at) i) old x y) → IsDrawn corner bytes more next new (items ++ item.0 ∷ [])
+drawn_more most corner bytes rest more at next below new items i d (j, item, same) n o drawn =
     let old = picture_of_items corner items in
     let here = item_cells corner items j in
     let whole : picture_of_items corner (items ++ j ∷ []) ≡ old ++ here = picture_after-push corner [] items j in
@@ -161,7 +163,7 @@ drawn_more corner bytes rest more at next plane new items i d (j, item, same) n 
       run = Run-push bytes items j rest more d.run item;
       offset = offset_more items j at next d.offset (subst (λ i. IsNextOffset i at next) same o);
       cells = λ x y.
-          drawn x y ∙ ap (λ c. cell (c ++ plane) x y) n.cells ∙ same_after here plane old d.cells x y ∙ item_after old (place_after corner items) j d.states d.ahead x y ∙ ap (λ p. cell p x y) (sym whole);
+          drawn x y ∙ ap (λ c. over c below x y) n.cells ∙ over_picture here below old d.cells x y ∙ item_after old (place_after corner items) j d.states d.ahead x y ∙ ap (λ p. cell p x y) (sym whole);
       states = rw whole (All-append (λ e. (1 ≤ e.1) × (e.1 ≤ 255)) old here d.states (item_states (place_after corner items) j n.state));
       ahead = λ x y h.
           let after = subst (λ p. IsAhead p x y) place h in
@@ -171,7 +173,7 @@ drawn_more corner bytes rest more at next plane new items i d (j, item, same) n 
     }
 
 -- drawn to the end, the plane shows the picture of all the body's items
-pub drawn_all : (corner : Point) (bytes rest : List ℕ) (at : Offset) (plane : Picture) (items all : List Item) → IsDrawn corner bytes rest at plane items → IsEnd rest → Items bytes all
-    → IsSame plane (picture_of_items corner all) × IsPicture (picture_of_items corner all)
-drawn_all corner bytes rest at plane items all d end spelled =
-    subst (λ l. IsSame plane (picture_of_items corner l) × IsPicture (picture_of_items corner l)) (sym (items_done bytes rest all items spelled d.run end)) (d.cells, d.states)
+pub drawn_all : (corner : Point) (bytes rest : List ℕ) (at : Offset) (shown : ℤ → ℤ → ℕ) (items all : List Item) → IsDrawn corner bytes rest at shown items → IsEnd rest → Items bytes all
+    → ((x y : ℤ) → shown x y ≡ cell (picture_of_items corner all) x y) × IsPicture (picture_of_items corner all)
+drawn_all corner bytes rest at shown items all d end spelled =
+    subst (λ l. ((x y : ℤ) → shown x y ≡ cell (picture_of_items corner l) x y) × IsPicture (picture_of_items corner l)) (sym (items_done bytes rest all items spelled d.run end)) (d.cells, d.states)

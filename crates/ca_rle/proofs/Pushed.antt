@@ -8,7 +8,7 @@ use Rattle.std.proofs.lemmas.List.Sums.{sum_by_push, prefix_len-le-length}
 use Rattle.ca_plane.specs.declared.point.Point.{Point}
 use Rattle.ca_rle.specs.declared.item.Item.{Item}
 use Rattle.ca_rle.specs.Items.{tag_of, IsCount, Run}
-use Rattle.ca_rle.specs.Shown.{ends_row, row_count, columns_of, item_cells, picture_after}
+use Rattle.ca_rle.specs.Shown.{ends_row, tag_state, greatest_state, row_count, columns_of, item_cells, picture_after}
 use Rattle.ca_rle.specs.inner.Extent.{longest_of, live_count_of_item, live_count_of_items, greatest_of}
 
 -- one more element at the end begins anew, or stands after what was there
@@ -65,6 +65,14 @@ picture_after-append corner before (i ∷ is) js =
 pub longest_of-push : (is : List Item) (i : Item) → longest_of (is ++ i ∷ []) ≡ max (longest_of is) i.count
 longest_of-push [] i = omega arith
 longest_of-push (j ∷ js) i = let more = longest_of-push js i in omega (arith, more)
+
+-- the greatest state of two lists of items
+pub greatest_state-append : (is js : List Item) → greatest_state (is ++ js) ≡ max (greatest_state is) (greatest_state js)
+greatest_state-append [] js = omega arith
+greatest_state-append (i ∷ is) js = let more = greatest_state-append is js in omega (arith, more)
+
+pub greatest_state-push : (is : List Item) (i : Item) → greatest_state (is ++ i ∷ []) ≡ max (greatest_state is) (tag_state i.tag)
+greatest_state-push is i = let parts = greatest_state-append is (i ∷ []) in omega (arith, parts)
 
 -- the greatest of some numbers of items, with one more item
 pub greatest_of-push : (number : List Item → Item → ℕ) (before is : List Item) (i : Item) → greatest_of number before (is ++ i ∷ []) ≡ max (greatest_of number before is) (number (before ++ is) i)

@@ -1,24 +1,45 @@
 -- Texts that are read, and the patterns that they hold.
-use Rattle.std.specs.Prelude.{◌≡◌, ℕ, ◌<◌, List}
+use Rattle.std.specs.Prelude.{◌≡◌, ℕ, ◌<◌, ◌≤◌, ℤ, List}
 use Rattle.ca_plane.specs.Bytes.{IsWord}
-use Rattle.ca_plane.specs.Plane.{IsPicture, IsSame}
+use Rattle.ca_plane.specs.BitPlane.{bit_cell}
+use Rattle.ca_plane.specs.Plane.{IsPicture, cell}
 use Rattle.ca_plane.specs.Sparse.{IsSparse}
 use Rattle.ca_plane.specs.Limits.{generation_limit}
+use Rattle.ca_rle.specs.declared.pattern.PackedCells.{PackedCells}
+use Rattle.ca_rle.specs.declared.pattern.PackedCells.TheVariants.{Words, States}
+use Rattle.ca_rle.specs.declared.pattern.PackedPattern.{PackedPattern}
 use Rattle.ca_rle.specs.declared.pattern.Pattern.{Pattern}
 use Rattle.ca_rle.specs.File.{RleFile, IsRleFile}
 use Rattle.ca_rle.specs.Limits.{IsWithinLimits}
-use Rattle.ca_rle.specs.Shown.{picture_of_items}
+use Rattle.ca_rle.specs.Shown.{greatest_state, picture_of_items}
 
--- the pattern has the file's cells, rule text and generation; its plane is sparse, the file's picture has states from 1 to 255, the
--- generation is below the limit, and the rule text is a word
-pub record IsRlePattern (file : RleFile) (pattern : Pattern) : Type 0 where
-  pub cells : IsSame pattern.cells (picture_of_items file.corner file.items)
+-- cells, a rule text and a generation are the file's; its picture has states from 1 to 255, the generation is below the
+-- limit, and the rule text is a word
+pub record HasFileParts (file : RleFile) (cells : ℤ → ℤ → ℕ) (rule_text : List ℕ) (generation : ℕ) : Type 0 where
+  pub cells_are : (x y : ℤ) → cells x y ≡ cell (picture_of_items file.corner file.items) x y
   pub states : IsPicture (picture_of_items file.corner file.items)
-  pub rule_text : pattern.rule_text.items ≡ file.rule_text
-  pub generation : pattern.generation ≡ file.generation
-  pub sparse : IsSparse pattern.cells
-  pub low_generation : pattern.generation < generation_limit
-  pub is_word : IsWord pattern.rule_text.items
+  pub rule_text_is : rule_text ≡ file.rule_text
+  pub generation_is : generation ≡ file.generation
+  pub low_generation : generation < generation_limit
+  pub is_word : IsWord rule_text
+
+-- the pattern has the file's parts, and its plane is sparse
+abbrev pub IsRlePattern : RleFile → Pattern → Type 0
+IsRlePattern file pattern = HasFileParts file (cell pattern.cells) pattern.rule_text.items pattern.generation × IsSparse pattern.cells
+
+-- the state of a cell of packed cells
+abbrev pub packed_cell : PackedCells → ℤ → ℤ → ℕ
+packed_cell (Words plane) x y = bit_cell plane x y
+packed_cell (States plane) x y = cell plane x y
+
+-- words where no state is above 1, else a sparse plane
+abbrev pub ArePacked : ℕ → PackedCells → Type 0
+ArePacked greatest (Words plane) = greatest ≤ 1
+ArePacked greatest (States plane) = (1 < greatest) × IsSparse plane
+
+-- the pattern has the file's parts, and its cells are packed
+abbrev pub IsPackedRlePattern : RleFile → PackedPattern → Type 0
+IsPackedRlePattern file pattern = HasFileParts file (packed_cell pattern.cells) pattern.rule_text.items pattern.generation × ArePacked (greatest_state file.items) pattern.cells
 
 -- the text is a file that passes no limit
 abbrev pub IsReadableRle : List ℕ → Type 0
@@ -27,3 +48,7 @@ IsReadableRle bytes = (file : RleFile) × IsRleFile bytes file × IsWithinLimits
 -- it is one, and this is its pattern
 abbrev pub HoldsRlePattern : List ℕ → Pattern → Type 0
 HoldsRlePattern bytes pattern = (file : RleFile) × IsRleFile bytes file × IsWithinLimits file × IsRlePattern file pattern
+
+-- the same of a pattern whose cells are packed
+abbrev pub HoldsPackedRlePattern : List ℕ → PackedPattern → Type 0
+HoldsPackedRlePattern bytes pattern = (file : RleFile) × IsRleFile bytes file × IsWithinLimits file × IsPackedRlePattern file pattern

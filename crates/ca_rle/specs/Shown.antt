@@ -1,5 +1,5 @@
 -- The picture of a list of items, by sums over the items before each (Golly Help, File Formats: Extended RLE format).
-use Rattle.std.specs.Prelude.{ℕ, pos, ◌+ℤ◌, List, [], ◌∷◌, ◌++◌, map, Bool, true, false, ◌==◌, if◌then◌else◌}
+use Rattle.std.specs.Prelude.{ℕ, max, pos, ◌+ℤ◌, List, [], ◌∷◌, ◌++◌, map, Bool, true, false, ◌==◌, if◌then◌else◌}
 use Rattle.std.specs.List.{sum_by, after_last, range_with_len}
 use Rattle.ca_plane.specs.declared.point.Point.{Point}
 use Rattle.ca_plane.specs.Plane.{Picture}
@@ -16,6 +16,11 @@ ends_row RowEnd = true
 abbrev pub tag_state : Tag → ℕ
 tag_state (Cell state) = state
 tag_state RowEnd = 0
+
+-- the greatest state of any item's cells, 0 where there are none
+abbrev pub greatest_state : List Item → ℕ
+greatest_state [] = 0
+greatest_state (i ∷ is) = max (tag_state i.tag) (greatest_state is)
 
 -- how many rows down the items lead: the sum of the counts of all row ends
 abbrev pub row_count : List Item → ℕ

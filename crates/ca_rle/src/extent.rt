@@ -82,6 +82,8 @@ pub(crate) struct Extent {
     pub(crate) reach: Offset,
     /// How many live cells there are.
     pub(crate) cells: u64,
+    /// The greatest state of a cell.
+    pub(crate) greatest: u8,
 }
 
 impl Extent {
@@ -93,6 +95,7 @@ impl Extent {
             longest: 0,
             reach: Offset::start(),
             cells: 0,
+            greatest: 0,
         }
     }
 
@@ -104,9 +107,11 @@ impl Extent {
         ensures bottom { result.reach.rows ≡ max self.reach.rows (if tag_state item.tag == 0 then 0
             else kept_number (at.rows + 1)) }
         ensures cells { result.cells ≡ kept_number (self.cells + live_count_of_item item) }
+        ensures greatest { result.greatest ≡ max self.greatest (tag_state item.tag) }
     {
         let longest = self.longest.max(item.count);
-        if item.tag.state() == 0 {
+        let state = item.tag.state();
+        if state == 0 {
             return Extent { longest, ..self };
         }
         let Offset { rows, columns } = self.reach;
@@ -117,6 +122,7 @@ impl Extent {
                 columns: columns.max(at.columns.saturating_add(item.count)),
             },
             cells: self.cells.saturating_add(item.count),
+            greatest: self.greatest.max(state),
         }
     }
 

@@ -7,21 +7,30 @@ ghost use Rattle.ca_rle.specs.declared.fault.RleFault.TheVariants.{Memory};
 ghost use Rattle.ca_rle.specs.File.{RleFile};
 ghost use Rattle.ca_rle.specs.Faults.{IsFirstRleFault};
 ghost use Rattle.ca_rle.specs.FaultyLine.{IsRleFaultOn, IsFaultyRleLine};
-ghost use Rattle.ca_rle.specs.inner.FrontParts.{IsFrontOf};
+ghost use Rattle.ca_rle.specs.inner.FrontParts.{IsGoodText};
 
 use crate::extent::measure;
 use crate::fault::{LineFault, RleFault};
 use crate::front::{Front, read_front};
 use ca_plane::limits::MOST_CELLS;
 
-/// What stands before the items of a text without a fault.
+/// A text without a fault.
+#[derive(Clone, Copy)]
+pub(crate) struct GoodText<'a> {
+    /// What stands before its items.
+    pub(crate) front: Front<'a>,
+    /// The greatest state of a cell.
+    pub(crate) greatest: u8,
+}
+
+/// Judges a text.
 ///
 /// # Errors
 ///
 /// The first fault of the text's spelling; else `Range` where a count, the corner or a live cell is out of
 /// range; else `TooManyCells`.
-pub(crate) fn good_front(bytes: &[u8]) -> Result<Front<'_>, LineFault>
-    ensures found { IfOk result (λ f. (file : RleFile) × IsFrontOf bytes.now file f) }
+pub(crate) fn good_text(bytes: &[u8]) -> Result<GoodText<'_>, LineFault>
+    ensures found { IfOk result (λ t. (file : RleFile) × IsGoodText bytes.now file t) }
     ensures fault { IfErr result (λ f. IsRleFaultOn bytes.now f.fault f.line) }
     ensures no_memory { IfErr result (λ f. f.fault ≢ Memory) }
 {
@@ -45,7 +54,10 @@ pub(crate) fn good_front(bytes: &[u8]) -> Result<Front<'_>, LineFault>
             line: None,
         });
     }
-    Ok(front)
+    Ok(GoodText {
+        front,
+        greatest: extent.greatest,
+    })
 }
 
 /// The number, counted from 1, of the line on which the first fault in a text's spelling stands. None where
@@ -62,7 +74,7 @@ pub fn faulty_line(bytes: &[u8]) -> Option<u64>
     ensures { MatchOption result ((f : RleFault) → IsFirstRleFault bytes.now f → ⊥)
         (IsFaultyRleLine bytes.now) }
 {
-    match good_front(bytes) {
+    match good_text(bytes) {
         Ok(_) => None,
         Err(found) => found.line,
     }

@@ -19,6 +19,6 @@ mod write;
 pub use fault::{LineFault, RleFault};
 pub use fault_line::faulty_line;
 pub use item::{Item, Tag};
-pub use pattern::Pattern;
-pub use read::{read_rle, read_rle_with_line};
+pub use pattern::{PackedCells, PackedPattern, Pattern};
+pub use read::{read_packed_rle, read_rle, read_rle_with_line};
 pub use write::{write_rle, write_rle_to};

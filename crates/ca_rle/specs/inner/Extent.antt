@@ -1,12 +1,13 @@
 -- How far the items of an RLE text reach from the corner, and how the reader keeps that: each number is at most 2^64 - 1.
-use Rattle.std.specs.Prelude.{◌≡◌, ℕ, ◌+◌, ◌-◌, ◌^◌, ◌≤◌, min, max, pos, ◌+ℤ◌, ◌≤ℤ◌, List, [], ◌∷◌, ◌++◌, ◌==◌, if◌then◌else◌}
+use Rattle.std.specs.Prelude.{◌≡◌, ℕ, ◌+◌, ◌-◌, ◌^◌, ◌≤◌, min, max, ℤ, pos, ◌+ℤ◌, ◌≤ℤ◌, List, [], ◌∷◌, ◌++◌, ◌==◌, ◌&&◌, if◌then◌else◌}
 use Rattle.std.specs.List.{sum_by}
+use Rattle.std.specs.Ordering.{int_eq}
 use Rattle.ca_plane.specs.declared.point.Point.{Point}
 use Rattle.ca_plane.specs.Plane.{Picture}
 use Rattle.ca_rle.specs.declared.item.Item.{Item}
 use Rattle.ca_rle.specs.declared.extent.Extent.{Extent}
 use Rattle.ca_rle.specs.declared.extent.Offset.{Offset}
-use Rattle.ca_rle.specs.Shown.{tag_state, row_count, columns_of, run_of}
+use Rattle.ca_rle.specs.Shown.{tag_state, greatest_state, row_count, columns_of, run_of}
 use Rattle.ca_rle.specs.Limits.{most_count}
 use Rattle.ca_plane.specs.Limits.{IsInRange, range}
 
@@ -63,6 +64,7 @@ pub record IsItemsExtent (items : List Item) (extent : Extent) : Type 0 where
   pub right : extent.reach.columns ≡ kept_number (right_after [] items)
   pub bottom : extent.reach.rows ≡ kept_number (bottom_after [] items)
   pub cells : extent.cells ≡ kept_number (live_count_of_items items)
+  pub greatest : extent.greatest ≡ greatest_state items
 
 -- items of this extent are in range from this corner
 pub record IsExtentInRange (extent : Extent) (corner : Point) : Type 0 where
@@ -84,3 +86,8 @@ HasRoom at count = IsInRange at × ((at.x +ℤ pos count) ≤ℤ pos range)
 -- the cells of an item that begins at a point
 abbrev pub cells_from : Point → Item → Picture
 cells_from at i = if tag_state i.tag == 0 then [] else run_of (tag_state i.tag) at i.count
+
+-- the states of a plane over which the cells of a picture were drawn
+abbrev pub over : Picture → (ℤ → ℤ → ℕ) → ℤ → ℤ → ℕ
+over [] below x y = below x y
+over (e ∷ es) below x y = if int_eq y e.0.y && int_eq x e.0.x then e.1 else over es below x y

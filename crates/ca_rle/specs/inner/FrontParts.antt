@@ -7,10 +7,12 @@ use Rattle.ca_plane.specs.Bytes.{IsInteger}
 use Rattle.ca_rle.specs.declared.front.words.Start.{Start}
 use Rattle.ca_rle.specs.declared.front.lines.Preamble.{Preamble}
 use Rattle.ca_rle.specs.declared.front.Front.{Front}
+use Rattle.ca_rle.specs.declared.fault_line.GoodText.{GoodText}
 use Rattle.ca_rle.specs.Header.{CxrleWord, Says, extended_words, IsXlifeLine}
 use Rattle.ca_rle.specs.File.{RleFile, IsRleFile, IsPreamble, IsHeaded, corner_of, generation_of}
 use Rattle.ca_rle.specs.Items.{Items}
 use Rattle.ca_rle.specs.Limits.{IsWithinLimits}
+use Rattle.ca_rle.specs.Shown.{greatest_state}
 use Rattle.ca_plane.specs.Limits.{range, default_rule}
 use Rattle.ca_rle.specs.inner.BodyFaults.{KeepsCorner}
 
@@ -62,11 +64,12 @@ abbrev pub IsFront : List ℕ → Front → Type 0
 IsFront bytes front = (said : List CxrleWord) × (rule : Option (List ℕ)) × IsHeaded bytes said rule front.body.now
     × (option_copied front.rule ≡ rule) × KeepsCorner (corner_of said) front.corner × (front.generation ≡ generation_of said)
 
--- a text holds this file, which passes no limit, and this is its front
-pub record IsFrontOf (bytes : List ℕ) (file : RleFile) (front : Front) : Type 0 where
+-- the bytes hold this file, which passes no limit, and this is what the reader keeps of them
+pub record IsGoodText (bytes : List ℕ) (file : RleFile) (text : GoodText) : Type 0 where
   pub is_file : IsRleFile bytes file
   pub within : IsWithinLimits file
-  pub items : Items front.body.now file.items
-  pub corner : front.corner ≡ file.corner
-  pub rule_text : unwrap_or (option_copied front.rule) default_rule ≡ file.rule_text
-  pub generation : front.generation ≡ file.generation
+  pub items : Items text.front.body.now file.items
+  pub corner : text.front.corner ≡ file.corner
+  pub rule_text : unwrap_or (option_copied text.front.rule) default_rule ≡ file.rule_text
+  pub generation : text.front.generation ≡ file.generation
+  pub greatest : text.greatest ≡ greatest_state file.items

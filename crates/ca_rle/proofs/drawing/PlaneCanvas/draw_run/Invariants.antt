@@ -2,10 +2,10 @@ use Rattle.std.proofs.Common.{◌++◌}
 use Rattle.ca_plane.specs.Plane.{IsSame}
 use Rattle.ca_plane.specs.Sparse.{IsSparse}
 use Rattle.ca_rle.specs.Shown.{run_of}
-use Rattle.ca_rle.proofs.drawing.set_run.Given as goal
+use Rattle.ca_rle.proofs.drawing.PlaneCanvas.draw_run.Given as goal
 
 abbrev pub invariant-cells : goal.invariant-cells
 invariant-cells l = record {
-  shown : IsSame l.plane (run_of l.state l.at l.step ++ l.initial.plane);
-  sparse : IsSparse l.initial.plane → IsSparse l.plane;
+  shown : IsSame l.self (run_of l.state l.at l.step ++ l.initial.self);
+  sparse : IsSparse l.initial.self → IsSparse l.self;
 }

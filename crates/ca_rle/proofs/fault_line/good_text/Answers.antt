@@ -2,7 +2,7 @@ use Rattle.std.proofs.Common.{ap, unwrap_or}
 use Rattle.ca_plane.specs.Limits.{default_rule}
 use Rattle.ca_rle.proofs.FaultAt.{body_fault_at}
 use Rattle.ca_rle.proofs.Judged.{file, is_file, too_far, same_corner, too_many, within_limits}
-use Rattle.ca_rle.proofs.fault_line.good_front.Goals as goal
+use Rattle.ca_rle.proofs.fault_line.good_text.Goals as goal
 
 pub in_text-requires-in-Err-measure : goal.in_text-requires-in-Err-measure
 in_text-requires-in-Err-measure c =
@@ -36,5 +36,6 @@ returns-clause-found c =
         corner = same_corner bytes front.0 front.1 _ _ _ front.2 front.4 found.0 found.1 found.2 range;
         rule_text = ap (λ o. unwrap_or o default_rule) front.3;
         generation = front.5;
+        greatest = found.2.greatest;
       },
     )
