@@ -24,6 +24,7 @@ pub mod OneReason
 pub mod FewListed
 pub mod OneConversion
 pub mod OneText
+pub mod RleFiles
 pub mod Searches
 pub mod Divided
 pub mod DivisorLists

@@ -6,6 +6,7 @@ use Rattle.ca_plane.specs.declared.point.Point.{Point}
 use Rattle.ca_plane.specs.Plane.{Picture, cell}
 use Rattle.ca_plane.specs.Population.{HasTooManyCells}
 use Rattle.ca_plane.specs.Limits.{IsInRange}
+use Rattle.ca_plane.specs.Sparse.{IsSparse}
 use Rattle.ca_plane.proofs.Pictures.{cell-listed}
 use Rattle.ca_quad.specs.declared.node.Node.{Node}
 use Rattle.ca_quad.specs.Sound.{IsSoundStore, Grows}
@@ -25,7 +26,6 @@ use Rattle.ca_claims.specs.Means.{bytes_at, format_of, IsReadableAs, IsReadable,
 use Rattle.ca_claims.specs.declared.verdict.PatternFault.{PatternFault}
 use Rattle.ca_claims.specs.declared.verdict.PatternFault.TheVariants as pattern_fault
 use Rattle.ca_claims.specs.Answers.{IsPatternFault, IsPatternFaultOn, IsRuled, HasSmallStates, IsReadableFile, HasRule, IsSmall, IsLarge, IsUnnamed, IsGoodPattern}
-use Rattle.ca_claims.specs.inner.Cells.{IsPlaneOf}
 use Rattle.ca_claims.specs.inner.Patterns.{IsReadFrom, IsUnreadFor, HasName, rule_of, IsRuledAs, ShowsLarge, ShowsSmall}
 use Rattle.ca_claims.proofs.Shown.{small_shown, large_shown, many_shown}
 
@@ -151,15 +151,15 @@ module _ (nodes : List Node) (files : List (List ℕ × List ℕ)) (path : List 
       pub ruled_is_many : HasTooManyCells (trees.cell nodes ruled.pattern.tree) → HasTooManyCells (cell ruled_picture)
       ruled_is_many = many_shown (trees.cell nodes ruled.pattern.tree) (cell ruled_picture) tree_shows
 
--- each listed state of a plane is small where the tree's are
-pub listed_small : (nodes : List Node) (ruled : Ruled) (plane : Picture) → IsPlaneOf nodes ruled.pattern.tree plane → ShowsSmall nodes ruled → All (λ e. e.1 < states_of (rule_of ruled)) plane
-listed_small nodes ruled plane shown small = λ k d l.
-    let at : Point = (get_or plane k d).0 in
-    subst (λ s. s < states_of (rule_of ruled)) (sym (shown.shows at.x at.y) ∙ cell-listed plane shown.sparse k d l) (small at.x at.y)
+-- each listed state of a plane is small where all states are
+pub listed_small : (rule : RuleValue) (p : Picture) → IsSparse p → HasSmallStates rule (cell p) → All (λ e. e.1 < states_of rule) p
+listed_small rule p sparse small = λ k d l.
+    let at : Point = (get_or p k d).0 in
+    subst (λ s. s < states_of rule) (cell-listed p sparse k d l) (small at.x at.y)
 
--- and each listed cell is in range
-pub listed_in_range : (nodes : List Node) (ruled : Ruled) (plane : Picture) → IsPlaneOf nodes ruled.pattern.tree plane → AreInRange (trees.cell nodes ruled.pattern.tree) → All (λ e. IsInRange e.0) plane
-listed_in_range nodes ruled plane shown range = λ k d l.
-    let at : Point = (get_or plane k d).0 in
-    let low : 1 ≤ (get_or plane k d).1 = (shown.sparse.states k d l).0 in
-    range at.x at.y (λ e. let none : (get_or plane k d).1 ≡ 0 = sym (cell-listed plane shown.sparse k d l) ∙ shown.shows at.x at.y ∙ e in omega arith)
+-- and each listed cell is in range where all live cells are
+pub listed_in_range : (p : Picture) → IsSparse p → AreInRange (cell p) → All (λ e. IsInRange e.0) p
+listed_in_range p sparse range = λ k d l.
+    let at : Point = (get_or p k d).0 in
+    let low : 1 ≤ (get_or p k d).1 = (sparse.states k d l).0 in
+    range at.x at.y (λ e. let none : (get_or p k d).1 ≡ 0 = sym (cell-listed p sparse k d l) ∙ e in omega arith)

@@ -1,6 +1,7 @@
 -- Patterns that are written in another form or summed up, from their files.
 use Rattle.std.proofs.Common.{ℕ, ◌≤◌, List, Result, Ok, Err, sym, subst, ◌∙◌, inl, inr, arith}
-use Rattle.std.specs.Result.{IfErr}
+use Rattle.std.specs.Prelude.{ℤ}
+use Rattle.std.specs.Result.{IfOk, IfErr}
 use Rattle.std.proofs.lemmas.Bool.{cases_order}
 use Rattle.ca_plane.specs.Plane.{cell}
 use Rattle.ca_quad.specs.declared.node.Node.{Node}
@@ -8,7 +9,7 @@ use Rattle.ca_quad.specs.declared.tree.Tree.{Tree}
 use Rattle.ca_quad.specs.Trees as trees
 use Rattle.ca_quad.specs.Trimmed.{IsTrimmed}
 use Rattle.ca_rule.specs.TableNext.{TableRule}
-use Rattle.ca_rule.specs.Rule.{NamesRule}
+use Rattle.ca_rule.specs.Rule.{RuleValue, NamesRule}
 use Rattle.ca_macro.specs.Pattern.{AreInRange}
 use Rattle.ca_claims.specs.declared.pattern.Loaded.{Loaded}
 use Rattle.ca_claims.specs.declared.pattern.Summary.{Summary}
@@ -16,11 +17,12 @@ use Rattle.ca_claims.specs.declared.ruled.Ruled.{Ruled}
 use Rattle.ca_claims.specs.declared.format.Format.{Format}
 use Rattle.ca_claims.specs.declared.conversion.ConvertFault.{ConvertFault}
 use Rattle.ca_claims.specs.declared.conversion.ConvertFault.TheVariants.{BadPattern, BadRule, StateTooLarge, TooManyCells, Memory}
-use Rattle.ca_claims.specs.Means.{HoldsRuledPattern}
-use Rattle.ca_claims.specs.Converted.{IsSummary, IsConvertFault}
+use Rattle.ca_claims.specs.Means.{format_of, HoldsRuledPattern}
+use Rattle.ca_claims.specs.Answers.{HasSmallStates}
+use Rattle.ca_claims.specs.Converted.{IsConverted, IsSummary, IsConvertFault}
 use Rattle.ca_claims.specs.inner.Glance.{IsTold}
 use Rattle.ca_claims.specs.inner.Patterns.{IsReadFrom, rule_of}
-use Rattle.ca_claims.specs.inner.Ready.{IsReady, IsUnwritten}
+use Rattle.ca_claims.specs.inner.Ready.{IsReady, HoldsCells, IsWrittenAs, AreUnwritten}
 use Rattle.ca_claims.specs.inner.Subjects.{IsPattern}
 use Rattle.ca_claims.proofs.PatternsRead.{wanted}
 use Rattle.ca_claims.proofs.Shown.{small_shown, many_shown, population_shown}
@@ -42,43 +44,55 @@ pub holds_ruled : (nodes : List Node) (bytes : List ℕ) (tables : List TableRul
     → HoldsRuledPattern bytes tables read.cells (rule_of ruled) ruled.pattern.generation
 holds_ruled nodes bytes tables ruled read names = record { rule_text = ruled.pattern.rule_text.items; holds = read.loaded.holds; names = names }
 
-module _ (nodes : List Node) (bytes : List ℕ) (tables : List TableRule) (ruled : Ruled) (ready : IsReady nodes bytes tables ruled) where
+-- so it is a file of the tree's cells
+pub ready_file : (nodes : List Node) (bytes : List ℕ) (tables : List TableRule) (ruled : Ruled) → IsReady nodes bytes tables ruled → HoldsCells bytes tables (trees.cell nodes ruled.pattern.tree) (rule_of ruled) ruled.pattern.generation
+ready_file nodes bytes tables ruled ready =
+    record { picture = ready.read.cells; holds = holds_ruled nodes bytes tables ruled ready.read ready.names; shows = ready.read.loaded.shows; small = ready.small }
+
+module _ (bytes : List ℕ) (tables : List TableRule) (f : ℤ → ℤ → ℕ) (rule : RuleValue) (generation : ℕ) (file : HoldsCells bytes tables f rule generation) where
+  small : HasSmallStates rule (cell file.picture)
+  small = small_shown f (cell file.picture) file.shows rule file.small
+
   -- why it isn't written is why its file isn't converted
-  unwritten : (target : Format) (fault : ConvertFault) → IsUnwritten target nodes ruled fault → IsConvertFault bytes tables target fault
+  unwritten : (target : Format) (fault : ConvertFault) → AreUnwritten target f fault → IsConvertFault bytes tables target fault
   unwritten target (BadPattern fault) h = absurd h
   unwritten target (BadRule fault) h = absurd h
   unwritten target StateTooLarge h = absurd h
-  unwritten target TooManyCells h =
-      let read = ready.read in
-      let shows = read.loaded.shows in
-      let tree = trees.cell nodes ruled.pattern.tree in (
-        h.0,
-        read.cells,
-        rule_of ruled,
-        ruled.pattern.generation,
-        holds_ruled nodes bytes tables ruled read ready.names,
-        small_shown tree (cell read.cells) shows (rule_of ruled) ready.small,
-        many_shown tree (cell read.cells) shows h.1,
-      )
-  unwritten target Memory h = wanted bytes ready.read.loaded.holds.readable
+  unwritten target TooManyCells h = (h.0, file.picture, rule, generation, file.holds, small, many_shown f (cell file.picture) file.shows h.1)
+  unwritten target Memory h = wanted bytes file.holds.holds.readable
 
-  pub unconverted : (A : Type 0) (target : Format) (r : Result A ConvertFault) → IfErr r (IsUnwritten target nodes ruled) → IfErr r (IsConvertFault bytes tables target)
+  pub unconverted : (A : Type 0) (target : Format) (r : Result A ConvertFault) → IfErr r (AreUnwritten target f) → IfErr r (IsConvertFault bytes tables target)
   unconverted A target (Ok a) h = h
   unconverted A target (Err e) h = unwritten target e h
 
+  -- what is written of it is what its file is converted to
+  converted : (target : Format) (text : List ℕ) → IsWrittenAs target f rule generation text → IsConverted bytes tables target text
+  converted target text written = record {
+    cells = file.picture;
+    rule = rule;
+    generation = generation;
+    holds = file.holds;
+    small = small;
+    shown = written.shown;
+    same = λ x y. sym (file.shows x y) ∙ written.same x y;
+    format = written.format;
+    text_holds = written.holds;
+    tidy = written.tidy;
+  }
+
+  pub converted_ok : {A : Type 0} (items : A → List ℕ) (target : Format) (r : Result A ConvertFault) → IfOk r (λ a. IsWrittenAs target f rule generation (items a)) → IfOk r (λ a. IsConverted bytes tables target (items a))
+  converted_ok items target (Ok a) written = converted target (items a) written
+  converted_ok items target (Err e) written = written
+
   -- what is told of it is the summary of its file
-  pub summed_up : (summary : Summary) → IsTold nodes ruled summary → IsSummary bytes tables summary
-  summed_up summary told =
-      let read = ready.read in
-      let shows = read.loaded.shows in
-      let tree = trees.cell nodes ruled.pattern.tree in
-      record {
-        cells = read.cells;
-        rule = rule_of ruled;
-        holds = subst (HoldsRuledPattern bytes tables read.cells (rule_of ruled)) (sym told.generation) (holds_ruled nodes bytes tables ruled read ready.names);
-        small = small_shown tree (cell read.cells) shows (rule_of ruled) ready.small;
-        kind = told.kind ∙ read.loaded.kind;
-        printed = told.printed;
-        population = population_shown tree (cell read.cells) shows summary.cells told.population;
-        bounds = told.bounds read.cells shows;
-      }
+  pub summed_up : (summary : Summary) → IsTold (format_of bytes) f rule generation summary → IsSummary bytes tables summary
+  summed_up summary told = record {
+    cells = file.picture;
+    rule = rule;
+    holds = subst (HoldsRuledPattern bytes tables file.picture rule) (sym told.generation_is) file.holds;
+    small = small;
+    kind = told.kind_is;
+    printed = told.printed;
+    population = population_shown f (cell file.picture) file.shows summary.cells told.population;
+    bounds = told.bounds file.picture file.shows;
+  }

@@ -1,6 +1,7 @@
-//! What is judged of the cells of a tree.
+//! What is judged of cells, those of a tree or of a plane.
 
 ghost use Rattle.std.specs.Prelude.{◌≤◌, IsTrue, IsFalse, IfOk, MatchOption};
+ghost use Rattle.ca_plane.specs.Plane.{cell as plane_cell};
 ghost use Rattle.ca_quad.specs.Trees.{IsTree, cell};
 ghost use Rattle.ca_macro.specs.Pattern.{AreInRange};
 ghost use Rattle.ca_plane.specs.Population.{HasFewCells, HasTooManyCells};
@@ -29,6 +30,20 @@ pub(crate) fn has_large_state(
 {
     let greatest = store.greatest_state(alloc, tree)?;
     Ok(u16::from(greatest) >= rule.states())
+}
+
+/// Whether some cell of the plane has a state that the rule doesn't have.
+pub(crate) fn has_large_cell(cells: &Plane, rule: &Rule<'_>) -> bool
+    ensures large { IsTrue result → HasLargeState (rule_value rule.now) (plane_cell cells.now) }
+    ensures small { IsFalse result → HasSmallStates (rule_value rule.now) (plane_cell cells.now) }
+{
+    let states = rule.states();
+    'cells: for (_, state) in cells.cells() {
+        if u16::from(state) >= states {
+            return true;
+        }
+    }
+    false
 }
 
 /// Whether more cells of the tree, whose level is at most 63, are live than are handled one by one.

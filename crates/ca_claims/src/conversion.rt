@@ -1,19 +1,24 @@
 //! Patterns that are written in another form.
 
 ghost use Rattle.std.specs.Prelude.{IfOk, IfErr};
+ghost use Rattle.ca_plane.specs.Plane.{cell as plane_cell};
+ghost use Rattle.ca_quad.specs.Trees.{IsTree, cell};
+ghost use Rattle.ca_rule.specs.Rule.{rule_value};
 ghost use Rattle.ca_claims.specs.declared.format.Format.TheVariants.{Rle, Mc};
 ghost use Rattle.ca_claims.specs.Converted.{IsConverted, IsConvertFault};
-ghost use Rattle.ca_claims.specs.inner.Ready.{IsWritable, IsWrittenAs, IsUnwritten};
+ghost use Rattle.ca_claims.specs.inner.Patterns.{rule_of};
+ghost use Rattle.ca_claims.specs.inner.Ready.{AreWritable, IsWritablePlane, IsWrittenAs, AreUnwritten};
 
 use crate::cells::plane_of;
 use crate::format::Format;
-use crate::ruled::{Ruled, read_ruled};
+use crate::read::format_of;
+use crate::ruled::{Ruled, read_ruled, read_ruled_plane};
 use crate::verdict::PatternFault;
 use ca_macro::write_macro;
-use ca_plane::Automaton;
+use ca_plane::{Automaton, Plane};
 use ca_quad::Store;
 use ca_rle::write_rle;
-use ca_rule::{RuleFault, Table};
+use ca_rule::{Rule, RuleFault, Table};
 use std::alloc::Global;
 use thiserror::Error;
 
@@ -56,40 +61,85 @@ pub fn convert(
     ensures converted { IfOk result (λ text. IsConverted bytes.now tables.now target text.items) }
     ensures fault { IfErr result (IsConvertFault bytes.now tables.now target) }
 {
-    let mut store = Store::new(alloc);
-    let ruled = read_ruled(alloc, &mut store, bytes, tables)?;
     match target {
-        Format::Rle => rle_of(alloc, &store, &ruled),
-        Format::Mc => macro_of(alloc, &mut store, &ruled),
+        Format::Rle => to_rle(alloc, bytes, tables),
+        Format::Mc => to_macro(alloc, bytes, tables),
     }
 }
 
-/// The tidy RLE of a pattern, where it hasn't too many cells.
-fn rle_of(alloc: Global, store: &Store, ruled: &Ruled<'_>) -> Result<Vec<u8>, ConvertFault>
-    requires { IsWritable store.now ruled.now }
-    ensures written { IfOk result (λ text. IsWrittenAs Rle store.now ruled.now text.items) }
-    ensures fault { IfErr result (IsUnwritten Rle store.now ruled.now) }
+/// The tidy RLE that a file is converted to. An RLE is written from the plane of its cells, without squares.
+fn to_rle(alloc: Global, bytes: &[u8], tables: &[Table]) -> Result<Vec<u8>, ConvertFault>
+    ensures converted { IfOk result (λ text. IsConverted bytes.now tables.now Rle text.items) }
+    ensures fault { IfErr result (IsConvertFault bytes.now tables.now Rle) }
 {
-    let cells = match plane_of(alloc, store, ruled.pattern.tree) {
-        Ok(Some(cells)) => cells,
-        Ok(None) => return Err(ConvertFault::TooManyCells),
-        Err(_) => return Err(ConvertFault::Memory),
-    };
-    let Ok(rule_text) = ruled.rule.text(alloc) else {
+    match format_of(bytes) {
+        Format::Rle => {
+            let ruled = read_ruled_plane(alloc, bytes, tables)?;
+            rle_of_plane(alloc, &ruled.cells, &ruled.rule, ruled.generation)
+        }
+        Format::Mc => {
+            let mut store = Store::new(alloc);
+            let ruled = read_ruled(alloc, &mut store, bytes, tables)?;
+            rle_of_tree(alloc, &store, &ruled)
+        }
+    }
+}
+
+/// The tidy macrocell that a file is converted to.
+fn to_macro(alloc: Global, bytes: &[u8], tables: &[Table]) -> Result<Vec<u8>, ConvertFault>
+    ensures converted { IfOk result (λ text. IsConverted bytes.now tables.now Mc text.items) }
+    ensures fault { IfErr result (IsConvertFault bytes.now tables.now Mc) }
+{
+    let mut store = Store::new(alloc);
+    let ruled = read_ruled(alloc, &mut store, bytes, tables)?;
+    macro_of(alloc, &mut store, &ruled)
+}
+
+/// The tidy RLE of the cells of a plane.
+fn rle_of_plane(
+    alloc: Global,
+    cells: &Plane,
+    rule: &Rule<'_>,
+    generation: u64,
+) -> Result<Vec<u8>, ConvertFault>
+    requires { IsWritablePlane cells.now (rule_value rule.now) generation }
+    ensures written { IfOk result (λ text.
+        IsWrittenAs Rle (plane_cell cells.now) (rule_value rule.now) generation text.items) }
+    ensures fault { IfErr result (AreUnwritten Rle (plane_cell cells.now)) }
+{
+    let Ok(rule_text) = rule.text(alloc) else {
         return Err(ConvertFault::Memory);
     };
-    let generation = ruled.pattern.generation;
-    match write_rle(alloc, &cells, &rule_text, generation, ruled.rule.states()) {
+    match write_rle(alloc, cells, &rule_text, generation, rule.states()) {
         Ok(text) => Ok(text),
         Err(_) => Err(ConvertFault::Memory),
     }
 }
 
-/// The tidy macrocell of a pattern.
+/// The tidy RLE of a tree, where it hasn't too many cells.
+fn rle_of_tree(alloc: Global, store: &Store, ruled: &Ruled<'_>) -> Result<Vec<u8>, ConvertFault>
+    requires tree { IsTree store.now ruled.now.pattern.tree }
+    requires writable { AreWritable (cell store.now ruled.now.pattern.tree) (rule_of ruled.now)
+        ruled.now.pattern.generation }
+    ensures written { IfOk result (λ text. IsWrittenAs Rle (cell store.now ruled.now.pattern.tree)
+        (rule_of ruled.now) ruled.now.pattern.generation text.items) }
+    ensures fault { IfErr result (AreUnwritten Rle (cell store.now ruled.now.pattern.tree)) }
+{
+    match plane_of(alloc, store, ruled.pattern.tree) {
+        Ok(Some(cells)) => rle_of_plane(alloc, &cells, &ruled.rule, ruled.pattern.generation),
+        Ok(None) => Err(ConvertFault::TooManyCells),
+        Err(_) => Err(ConvertFault::Memory),
+    }
+}
+
+/// The tidy macrocell of a tree.
 fn macro_of(alloc: Global, store: &mut Store, ruled: &Ruled<'_>) -> Result<Vec<u8>, ConvertFault>
-    requires { IsWritable store.old ruled.now }
-    ensures written { IfOk result (λ text. IsWrittenAs Mc store.old ruled.now text.items) }
-    ensures fault { IfErr result (IsUnwritten Mc store.old ruled.now) }
+    requires tree { IsTree store.old ruled.now.pattern.tree }
+    requires writable { AreWritable (cell store.old ruled.now.pattern.tree) (rule_of ruled.now)
+        ruled.now.pattern.generation }
+    ensures written { IfOk result (λ text. IsWrittenAs Mc (cell store.old ruled.now.pattern.tree)
+        (rule_of ruled.now) ruled.now.pattern.generation text.items) }
+    ensures fault { IfErr result (AreUnwritten Mc (cell store.old ruled.now.pattern.tree)) }
 {
     let Ok(rule_text) = ruled.rule.text(alloc) else {
         return Err(ConvertFault::Memory);

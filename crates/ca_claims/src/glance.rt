@@ -5,13 +5,18 @@ ghost use Rattle.ca_plane.specs.Bytes.{IsWord};
 ghost use Rattle.ca_plane.specs.Plane.{Picture, IsLive, cell as plane_cell};
 ghost use Rattle.ca_plane.specs.Box.{IsLeastBox};
 ghost use Rattle.ca_quad.specs.Trees.{cell};
+ghost use Rattle.ca_claims.specs.declared.format.Format.TheVariants.{Rle, Mc};
 ghost use Rattle.ca_claims.specs.Converted.{IsSummary, IsSummaryFault};
+ghost use Rattle.ca_claims.specs.Means.{format_of};
 ghost use Rattle.ca_claims.specs.inner.Glance.{AreNearBounds, IsTold};
+ghost use Rattle.ca_claims.specs.inner.Patterns.{rule_of};
 ghost use Rattle.ca_claims.specs.inner.Subjects.{IsPattern};
 
 use crate::conversion::ConvertFault;
+use crate::format::Format;
 use crate::pattern::Summary;
-use crate::ruled::{Ruled, read_ruled};
+use crate::read::format_of;
+use crate::ruled::{Ruled, read_ruled, read_ruled_plane};
 use ca_plane::{Bounds, Memory};
 use ca_quad::{Store, Tree, WideBounds};
 use ca_rule::Table;
@@ -27,6 +32,39 @@ pub fn summary(alloc: Global, bytes: &[u8], tables: &[Table]) -> Result<Summary,
     ensures word { IfOk result (λ s. IsWord s.rule_text.items) }
     ensures fault { IfErr result (IsSummaryFault bytes.now tables.now) }
 {
+    match format_of(bytes) {
+        Format::Rle => rle_summary(alloc, bytes, tables),
+        Format::Mc => macro_summary(alloc, bytes, tables),
+    }
+}
+
+/// The summary of an RLE file, from the plane of its cells, without squares.
+fn rle_summary(alloc: Global, bytes: &[u8], tables: &[Table]) -> Result<Summary, ConvertFault>
+    requires { format_of bytes.now ≡ Rle }
+    ensures summary { IfOk result (IsSummary bytes.now tables.now) }
+    ensures word { IfOk result (λ s. IsWord s.rule_text.items) }
+    ensures fault { IfErr result (IsSummaryFault bytes.now tables.now) }
+{
+    let ruled = read_ruled_plane(alloc, bytes, tables)?;
+    let Ok(rule_text) = ruled.rule.text(alloc) else {
+        return Err(ConvertFault::Memory);
+    };
+    Ok(Summary {
+        kind: Format::Rle,
+        rule_text,
+        generation: ruled.generation,
+        cells: ruled.cells.len() as u128,
+        bounds: ruled.cells.bounds(),
+    })
+}
+
+/// The summary of a macrocell file, from its squares.
+fn macro_summary(alloc: Global, bytes: &[u8], tables: &[Table]) -> Result<Summary, ConvertFault>
+    requires { format_of bytes.now ≡ Mc }
+    ensures summary { IfOk result (IsSummary bytes.now tables.now) }
+    ensures word { IfOk result (λ s. IsWord s.rule_text.items) }
+    ensures fault { IfErr result (IsSummaryFault bytes.now tables.now) }
+{
     let mut store = Store::new(alloc);
     let ruled = read_ruled(alloc, &mut store, bytes, tables)?;
     match sum_up(alloc, &store, &ruled) {
@@ -38,7 +76,8 @@ pub fn summary(alloc: Global, bytes: &[u8], tables: &[Table]) -> Result<Summary,
 /// The summary of a pattern.
 fn sum_up(alloc: Global, store: &Store, ruled: &Ruled<'_>) -> Result<Summary, Memory>
     requires { IsPattern store.now ruled.now.pattern.tree }
-    ensures told { IfOk result (IsTold store.now ruled.now) }
+    ensures told { IfOk result (IsTold ruled.now.pattern.kind (cell store.now ruled.now.pattern.tree) (rule_of ruled.now)
+        ruled.now.pattern.generation) }
     ensures word { IfOk result (λ s. IsWord s.rule_text.items) }
 {
     let cells = store.population(alloc, ruled.pattern.tree)?;

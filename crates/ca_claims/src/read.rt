@@ -1,12 +1,14 @@
 //! Pattern files of both formats, read into a store of squares.
 
-ghost use Rattle.std.specs.Prelude.{◌≡◌, ◌≢◌, ◌<◌, IfOk, IfErr, IsErrOf, MatchResult};
+ghost use Rattle.std.specs.Prelude.{◌≡◌, ◌≢◌, ◌<◌, ℤ, IfOk, IfErr, IsErrOf, MatchResult};
 ghost use Rattle.ca_plane.specs.Plane.{Picture};
 ghost use Rattle.ca_plane.specs.Bytes.{IsWord};
 ghost use Rattle.ca_plane.specs.Limits.{generation_limit};
 ghost use Rattle.ca_quad.specs.Sound.{Grows};
-ghost use Rattle.ca_quad.specs.Trees.{cell};
+ghost use Rattle.ca_quad.specs.Trees.{IsTree, cell};
+ghost use Rattle.ca_quad.specs.Trimmed.{IsTrimmed};
 ghost use Rattle.ca_macro.specs.Pattern.{AreInRange};
+ghost use Rattle.ca_rle.specs.Pattern.{packed_cell};
 ghost use Rattle.ca_claims.specs.declared.format.Format.TheVariants.{Rle, Mc};
 ghost use Rattle.ca_claims.specs.declared.verdict.PatternFault.TheVariants as pattern_fault;
 ghost use Rattle.ca_claims.specs.Means.{format_of, MayWantMemory};
@@ -18,8 +20,9 @@ use crate::format::Format;
 use crate::pattern::Loaded;
 use crate::verdict::PatternFault;
 use ca_macro::{LineFault as MacroLineFault, MacroFault, read_macro_with_line};
-use ca_quad::Store;
-use ca_rle::{LineFault as RleLineFault, Pattern, RleFault, read_rle_with_line};
+use ca_plane::Memory;
+use ca_quad::{Store, Tree};
+use ca_rle::{LineFault as RleLineFault, PackedCells, PackedPattern, RleFault, read_packed_rle};
 use std::alloc::Global;
 
 /// Reads a pattern file into the store: bytes that begin with `[M2]` as macrocell, and all others as RLE.
@@ -92,7 +95,11 @@ fn load_rle(alloc: Global, store: &mut Store, bytes: &[u8]) -> Result<Loaded, Ba
     ensures grows { Grows store.old store.new }
 {
     let _ = store.count();
-    let pattern = match read_rle_with_line(alloc, bytes) {
+    let PackedPattern {
+        cells,
+        rule_text,
+        generation,
+    } = match read_packed_rle(alloc, bytes) {
         Ok(pattern) => pattern,
         Err(
             RleLineFault {
@@ -107,20 +114,28 @@ fn load_rle(alloc: Global, store: &mut Store, bytes: &[u8]) -> Result<Loaded, Ba
             });
         }
     };
-    let Ok(tree) = store.from_plane(&pattern.cells) else {
+    let Ok(tree) = tree_of(store, cells) else {
         return Err(OUT_OF_MEMORY);
     };
-    let Pattern {
-        rule_text,
-        generation,
-        ..
-    } = pattern;
     Ok(Loaded {
         kind: Format::Rle,
         tree,
         rule_text,
         generation,
     })
+}
+
+/// The tree of packed cells.
+fn tree_of(store: &mut Store, cells: PackedCells) -> Result<Tree, Memory>
+    ensures tree { IfOk result (IsTree store.new) }
+    ensures cells { IfOk result (λ t. (x y : ℤ) → cell store.new t x y ≡ packed_cell cells x y) }
+    ensures trimmed { IfOk result (IsTrimmed store.new) }
+    ensures grows { Grows store.old store.new }
+{
+    match cells {
+        PackedCells::Words(plane) => store.from_bits(plane),
+        PackedCells::States(plane) => store.from_plane(&plane),
+    }
 }
 
 /// Reads a macrocell file into the store.

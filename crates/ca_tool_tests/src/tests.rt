@@ -6,5 +6,6 @@ mod cut_runs;
 mod devices;
 mod failed_reads;
 mod many;
+mod packed;
 mod rules;
 mod writers;

@@ -1,17 +1,14 @@
--- What is told of a pattern in a store.
-use Rattle.std.specs.Prelude.{◌≡◌, ℤ, pos, neg_ℤ, ◌≤ℤ◌, ◌<ℤ◌, List, MatchOption}
+-- What is told of a pattern.
+use Rattle.std.specs.Prelude.{◌≡◌, ℕ, ℤ, pos, neg_ℤ, ◌≤ℤ◌, ◌<ℤ◌, MatchOption}
 use Rattle.ca_plane.specs.Plane.{Picture, IsLive}
 use Rattle.ca_plane.specs.Plane as plane
 use Rattle.ca_plane.specs.Box.{IsLeastBox}
 use Rattle.ca_plane.specs.Limits.{range}
 use Rattle.ca_plane.specs.Population.{HasPopulation}
-use Rattle.ca_quad.specs.declared.node.Node.{Node}
 use Rattle.ca_quad.specs.declared.tree.WideBounds.{WideBounds}
-use Rattle.ca_quad.specs.Trees.{cell}
-use Rattle.ca_rule.specs.Rule.{printed_form}
+use Rattle.ca_rule.specs.Rule.{RuleValue, printed_form}
 use Rattle.ca_claims.specs.declared.pattern.Summary.{Summary}
-use Rattle.ca_claims.specs.declared.ruled.Ruled.{Ruled}
-use Rattle.ca_claims.specs.inner.Patterns.{rule_of}
+use Rattle.ca_claims.specs.declared.format.Format.{Format}
 
 -- a coordinate of a live cell
 abbrev pub IsCoordinate : ℤ → Type 0
@@ -24,11 +21,10 @@ pub record AreNearBounds (bounds : WideBounds) : Type 0 where
   pub x1 : IsCoordinate bounds.x1
   pub y1 : IsCoordinate bounds.y1
 
--- the summary is that of the pattern
-pub record IsTold (nodes : List Node) (ruled : Ruled) (summary : Summary) : Type 0 where
-  pub kind : summary.kind ≡ ruled.pattern.kind
-  pub printed : summary.rule_text.items ≡ printed_form (rule_of ruled)
-  pub generation : summary.generation ≡ ruled.pattern.generation
-  pub population : HasPopulation (cell nodes ruled.pattern.tree) summary.cells
-  pub bounds : (cells : Picture) → ((x y : ℤ) → cell nodes ruled.pattern.tree x y ≡ plane.cell cells x y)
-      → MatchOption summary.bounds (IsLive cells → ⊥) (IsLeastBox cells)
+-- the summary is that of a file of this format, with these cells, this rule and this generation
+pub record IsTold (kind : Format) (cells : ℤ → ℤ → ℕ) (rule : RuleValue) (generation : ℕ) (summary : Summary) : Type 0 where
+  pub kind_is : summary.kind ≡ kind
+  pub printed : summary.rule_text.items ≡ printed_form rule
+  pub generation_is : summary.generation ≡ generation
+  pub population : HasPopulation cells summary.cells
+  pub bounds : (picture : Picture) → ((x y : ℤ) → cells x y ≡ plane.cell picture x y) → MatchOption summary.bounds (IsLive picture → ⊥) (IsLeastBox picture)

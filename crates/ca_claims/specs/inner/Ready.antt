@@ -1,20 +1,22 @@
 -- Patterns that are ready to be written and told of, and what is written.
-use Rattle.std.specs.Prelude.{◌≡◌, ℕ, ◌<◌, ℤ, List}
+use Rattle.std.specs.Prelude.{◌≡◌, ℕ, ◌<◌, ◌≤◌, ℤ, List, length}
 use Rattle.ca_plane.specs.Plane.{Picture}
 use Rattle.ca_plane.specs.Plane as plane
-use Rattle.ca_plane.specs.Limits.{generation_limit}
+use Rattle.ca_plane.specs.Limits.{generation_limit, most_cells}
 use Rattle.ca_plane.specs.Population.{HasTooManyCells}
+use Rattle.ca_plane.specs.Sparse.{IsSparse}
 use Rattle.ca_quad.specs.declared.node.Node.{Node}
-use Rattle.ca_quad.specs.Trees.{IsTree, cell}
+use Rattle.ca_quad.specs.Trees.{cell}
 use Rattle.ca_macro.specs.Pattern.{AreInRange}
 use Rattle.ca_rule.specs.TableNext.{TableRule}
-use Rattle.ca_rule.specs.Rule.{states_of, printed_form, NamesRule}
+use Rattle.ca_rule.specs.Rule.{RuleValue, rule_value, states_of, printed_form, NamesRule}
 use Rattle.ca_claims.specs.declared.ruled.Ruled.{Ruled}
+use Rattle.ca_claims.specs.declared.ruled.RuledPlane.{RuledPlane}
 use Rattle.ca_claims.specs.declared.format.Format.{Format}
 use Rattle.ca_claims.specs.declared.format.Format.TheVariants.{Rle}
 use Rattle.ca_claims.specs.declared.conversion.ConvertFault.{ConvertFault}
 use Rattle.ca_claims.specs.declared.conversion.ConvertFault.TheVariants.{BadPattern, BadRule, StateTooLarge, TooManyCells, Memory}
-use Rattle.ca_claims.specs.Means.{format_of, HoldsPattern}
+use Rattle.ca_claims.specs.Means.{format_of, HoldsPattern, HoldsRuledPattern}
 use Rattle.ca_claims.specs.Answers.{HasSmallStates}
 use Rattle.ca_claims.specs.Converted.{IsTidyAs}
 use Rattle.ca_claims.specs.inner.Patterns.{IsReadFrom, rule_of}
@@ -26,25 +28,42 @@ pub record IsReady (nodes : List Node) (bytes : List ℕ) (tables : List TableRu
   pub names : NamesRule ruled.pattern.rule_text.items tables (rule_of ruled)
   pub small : HasSmallStates (rule_of ruled) (cell nodes ruled.pattern.tree)
 
--- a pattern that may be written: in range, of small states under its rule, at a generation below the limit
-pub record IsWritable (nodes : List Node) (ruled : Ruled) : Type 0 where
-  pub tree : IsTree nodes ruled.pattern.tree
-  pub range : AreInRange (cell nodes ruled.pattern.tree)
-  pub small : HasSmallStates (rule_of ruled) (cell nodes ruled.pattern.tree)
-  pub generation : ruled.pattern.generation < generation_limit
+-- the bytes are a file of cells whose states are small under the rule that its rule text names, at this generation
+pub record HoldsCells (bytes : List ℕ) (tables : List TableRule) (cells : ℤ → ℤ → ℕ) (rule : RuleValue) (generation : ℕ) : Type 0 where
+  pub picture : Picture
+  pub holds : HoldsRuledPattern bytes tables picture rule generation
+  pub shows : (x y : ℤ) → cells x y ≡ plane.cell picture x y
+  pub small : HasSmallStates rule cells
 
--- the text is the tidy one of a format with the pattern's cells, the printed form of its rule, and its generation
-pub record IsWrittenAs (target : Format) (nodes : List Node) (ruled : Ruled) (text : List ℕ) : Type 0 where
+-- cells that may be written: in range, of small states under the rule, at a generation below the limit
+pub record AreWritable (cells : ℤ → ℤ → ℕ) (rule : RuleValue) (generation : ℕ) : Type 0 where
+  pub range : AreInRange cells
+  pub small : HasSmallStates rule cells
+  pub low : generation < generation_limit
+
+-- the same of the cells of a plane, which aren't too many
+pub record IsWritablePlane (picture : Picture) (rule : RuleValue) (generation : ℕ) : Type 0 where
+  pub sparse : IsSparse picture
+  pub writable : AreWritable (plane.cell picture) rule generation
+  pub short : length picture ≤ most_cells
+
+-- the bytes are a file of this plane's cells under its rule, which may be written
+pub record IsReadyPlane (bytes : List ℕ) (tables : List TableRule) (ruled : RuledPlane) : Type 0 where
+  pub file : HoldsCells bytes tables (plane.cell ruled.cells) (rule_value ruled.rule) ruled.generation
+  pub writable : IsWritablePlane ruled.cells (rule_value ruled.rule) ruled.generation
+
+-- the text is the tidy one of a format with these cells, the printed form of the rule, and the generation
+pub record IsWrittenAs (target : Format) (cells : ℤ → ℤ → ℕ) (rule : RuleValue) (generation : ℕ) (text : List ℕ) : Type 0 where
   pub shown : Picture
-  pub same : (x y : ℤ) → cell nodes ruled.pattern.tree x y ≡ plane.cell shown x y
+  pub same : (x y : ℤ) → cells x y ≡ plane.cell shown x y
   pub format : format_of text ≡ target
-  pub holds : HoldsPattern text shown (printed_form (rule_of ruled)) ruled.pattern.generation
-  pub tidy : IsTidyAs target text shown (printed_form (rule_of ruled)) ruled.pattern.generation (states_of (rule_of ruled))
+  pub holds : HoldsPattern text shown (printed_form rule) generation
+  pub tidy : IsTidyAs target text shown (printed_form rule) generation (states_of rule)
 
--- why the pattern isn't written in a format: an RLE may not have too many cells
-abbrev pub IsUnwritten : Format → List Node → Ruled → ConvertFault → Type 0
-IsUnwritten target nodes ruled (BadPattern fault) = ⊥
-IsUnwritten target nodes ruled (BadRule fault) = ⊥
-IsUnwritten target nodes ruled StateTooLarge = ⊥
-IsUnwritten target nodes ruled TooManyCells = (target ≡ Rle) × HasTooManyCells (cell nodes ruled.pattern.tree)
-IsUnwritten target nodes ruled Memory = Unit {0}
+-- why cells aren't written in a format: an RLE may not have too many
+abbrev pub AreUnwritten : Format → (ℤ → ℤ → ℕ) → ConvertFault → Type 0
+AreUnwritten target cells (BadPattern fault) = ⊥
+AreUnwritten target cells (BadRule fault) = ⊥
+AreUnwritten target cells StateTooLarge = ⊥
+AreUnwritten target cells TooManyCells = (target ≡ Rle) × HasTooManyCells cells
+AreUnwritten target cells Memory = Unit {0}
