@@ -17,18 +17,11 @@ const TWO_STATES: &[(&[u8], &[(u64, u64, u64)])] = &[
     (b"x = 3, y = 1\n3b$!", &[]),
     (
         b"x = 3, y = 3\nbo$2bo$3o!",
-        &[
-            (ROW, COLUMN, 2),
-            (ROW + 1, COLUMN, 4),
-            (ROW + 2, COLUMN, 7),
-        ],
+        &[(ROW, COLUMN, 2), (ROW + 1, COLUMN, 4), (ROW + 2, COLUMN, 7)],
     ),
     (
         b"#CXRLE Pos=-1,-2\nx = 2, y = 1, rule = B36/S23\n2A!",
-        &[
-            (ROW - 2, COLUMN - 1, 1 << 63),
-            (ROW - 2, COLUMN, 1),
-        ],
+        &[(ROW - 2, COLUMN - 1, 1 << 63), (ROW - 2, COLUMN, 1)],
     ),
     (
         b"x = 70, y = 1, rule = 345/2/4\n60.o9.A!",
@@ -46,11 +39,7 @@ const MORE_STATES: (&[u8], &[(i64, i64, u8)]) = (
 const FAULTY: &[(&[u8], RleFault, Option<u64>)] = &[
     (b"x = 1, y = 1\n\no?!", RleFault::Syntax, Some(3)),
     (b"x = 1, y = 1\n2o", RleFault::NoEnd, Some(2)),
-    (
-        b"x = 1, y = 1\n16777217o!",
-        RleFault::TooManyCells,
-        None,
-    ),
+    (b"x = 1, y = 1\n16777217o!", RleFault::TooManyCells, None),
 ];
 
 fn are_words(words: &[CellWord], expected: &[(u64, u64, u64)]) -> bool {
@@ -59,12 +48,15 @@ fn are_words(words: &[CellWord], expected: &[(u64, u64, u64)]) -> bool {
         && pairs.all(|(word, &wanted)| (word.row, word.column, word.bits) == wanted)
 }
 
+/// The cells of a text, if it is good.
+fn cells_of(alloc: Global, text: &[u8]) -> Option<PackedCells> {
+    let PackedPattern { cells, .. } = read_packed_rle(alloc, text).ok()?;
+    Some(cells)
+}
+
 fn has_words(alloc: Global, text: &[u8], expected: &[(u64, u64, u64)]) -> bool {
-    match read_packed_rle(alloc, text) {
-        Ok(PackedPattern {
-            cells: PackedCells::Words(plane),
-            ..
-        }) => are_words(&plane.into_words(), expected),
+    match cells_of(alloc, text) {
+        Some(PackedCells::Words(plane)) => are_words(&plane.into_words(), expected),
         _ => false,
     }
 }
@@ -77,11 +69,8 @@ fn two_states_are_words(rt: HostRuntime) {
 }
 
 fn has_cells(alloc: Global, text: &[u8], expected: &[(i64, i64, u8)]) -> bool {
-    match read_packed_rle(alloc, text) {
-        Ok(PackedPattern {
-            cells: PackedCells::States(plane),
-            ..
-        }) => {
+    match cells_of(alloc, text) {
+        Some(PackedCells::States(plane)) => {
             let mut cells = expected.iter();
             plane.len() == expected.len()
                 && cells.all(|&(x, y, state)| plane.get(Point { x, y }) == state)
@@ -112,11 +101,8 @@ fn faults_have_lines(rt: HostRuntime) {
 
 /// How many words a text has, if its cells are words.
 fn count_of_words(alloc: Global, text: &[u8]) -> Option<usize> {
-    match read_packed_rle(alloc, text) {
-        Ok(PackedPattern {
-            cells: PackedCells::Words(plane),
-            ..
-        }) => Some(plane.into_words().len()),
+    match cells_of(alloc, text) {
+        Some(PackedCells::Words(plane)) => Some(plane.into_words().len()),
         _ => None,
     }
 }
