@@ -1,46 +1,18 @@
 -- Squares of 4 by 4 cells, and empty squares.
-use Rattle.std.proofs.Common.{◌≡◌, ℕ, zero, suc, ◌+◌, ◌≤◌, ◌^◌, Result, Ok, Err, IfOk, List, [], ◌∷◌, length, get_or, slice_index, refl, sym, ap, ap₂, subst, ◌∙◌, arith}
+use Rattle.std.proofs.Common.{◌≡◌, ℕ, zero, suc, ◌+◌, ◌≤◌, ◌^◌, Result, Ok, Err, IfOk, List, [], ◌∷◌, slice_index, refl, sym, ap, ap₂, subst, ◌∙◌, arith}
 use Rattle.std.specs.Prelude.{ℤ, pos, negsuc, ◌+ℤ◌, replicate}
 use Rattle.std.proofs.lemmas.Int.{ints}
-use Rattle.std.proofs.lemmas.List.{get_or_default}
 use Rattle.ca_plane.specs.Generations.{cells_after}
 use Rattle.ca_quad.specs.declared.node.Node.{Node}
 use Rattle.ca_quad.specs.Squares.{IsOf, dot, together, cell_of}
 use Rattle.ca_quad.specs.Sound.{IsSoundStore, Grows}
-use Rattle.ca_quad.specs.Trees.{ShowsSquare, AreFour, AreQuarters, AreCorners, IsEmpty, from_corner}
+use Rattle.ca_quad.specs.Trees.{ShowsSquare, AreFour, AreCorners, IsEmpty, from_corner}
 use Rattle.ca_run.specs.Centre.{IsCentre}
 use Rattle.ca_run.specs.RecentLeaps.{IsLeap}
-use Rattle.ca_run.specs.inner.Shown.{Looks, ShowsAt, sixteen}
+use Rattle.ca_run.specs.inner.Shown.{Looks, ShowsAt, FourShow, sixteen}
 use Rattle.ca_run.proofs.After.{after_same, after_none}
 use Rattle.ca_run.proofs.Looks.{looks_together, looks_centre}
-use Rattle.ca_run.proofs.Shown.{is_centre_at, four_was, four_go}
-
--- the cells of a square of four squares of four cells
-sixteen_cells : (nodes : List Node) (id : ℕ) (parts nw ne sw se : List ℕ) → AreQuarters nodes id 1 parts → AreCorners nodes (slice_index parts 0) nw → AreCorners nodes (slice_index parts 1) ne
-    → AreCorners nodes (slice_index parts 2) sw → AreCorners nodes (slice_index parts 3) se
-    → slice_index nw 0 ∷ slice_index nw 1 ∷ slice_index ne 0 ∷ slice_index ne 1
-    ∷ slice_index nw 2 ∷ slice_index nw 3 ∷ slice_index ne 2 ∷ slice_index ne 3
-    ∷ slice_index sw 0 ∷ slice_index sw 1 ∷ slice_index se 0 ∷ slice_index se 1
-    ∷ slice_index sw 2 ∷ slice_index sw 3 ∷ slice_index se 2 ∷ slice_index se 3 ∷ [] ≡ sixteen (cell_of nodes 2 id)
-sixteen_cells nodes id parts nw ne sw se are a b c d =
-    let f = cell_of nodes 2 id in
-    let e00 : f 0 0 ≡ slice_index nw 0 = are.has_cells 0 0 ∙ a.has_cells 0 0 in
-    let e10 : f 1 0 ≡ slice_index nw 1 = are.has_cells 1 0 ∙ a.has_cells 1 0 in
-    let e20 : f 2 0 ≡ slice_index ne 0 = are.has_cells 2 0 ∙ b.has_cells 0 0 in
-    let e30 : f 3 0 ≡ slice_index ne 1 = are.has_cells 3 0 ∙ b.has_cells 1 0 in
-    let e01 : f 0 1 ≡ slice_index nw 2 = are.has_cells 0 1 ∙ a.has_cells 0 1 in
-    let e11 : f 1 1 ≡ slice_index nw 3 = are.has_cells 1 1 ∙ a.has_cells 1 1 in
-    let e21 : f 2 1 ≡ slice_index ne 2 = are.has_cells 2 1 ∙ b.has_cells 0 1 in
-    let e31 : f 3 1 ≡ slice_index ne 3 = are.has_cells 3 1 ∙ b.has_cells 1 1 in
-    let e02 : f 0 2 ≡ slice_index sw 0 = are.has_cells 0 2 ∙ c.has_cells 0 0 in
-    let e12 : f 1 2 ≡ slice_index sw 1 = are.has_cells 1 2 ∙ c.has_cells 1 0 in
-    let e22 : f 2 2 ≡ slice_index se 0 = are.has_cells 2 2 ∙ d.has_cells 0 0 in
-    let e32 : f 3 2 ≡ slice_index se 1 = are.has_cells 3 2 ∙ d.has_cells 1 0 in
-    let e03 : f 0 3 ≡ slice_index sw 2 = are.has_cells 0 3 ∙ c.has_cells 0 1 in
-    let e13 : f 1 3 ≡ slice_index sw 3 = are.has_cells 1 3 ∙ c.has_cells 1 1 in
-    let e23 : f 2 3 ≡ slice_index se 2 = are.has_cells 2 3 ∙ d.has_cells 0 1 in
-    let e33 : f 3 3 ≡ slice_index se 3 = are.has_cells 3 3 ∙ d.has_cells 1 1 in
-    cc
+use Rattle.ca_run.proofs.Shown.{is_centre_at, four_was, four_go, four_stay, at_corner}
 
 -- the cells of four squares of four cells
 pub four_cells : (nodes : List Node) (w x y z : ℕ) (nw ne sw se : List ℕ) → AreCorners nodes w nw → AreCorners nodes x ne → AreCorners nodes y sw → AreCorners nodes z se
@@ -68,21 +40,6 @@ four_cells nodes w x y z nw ne sw se a b c d =
     let e33 : f 3 3 ≡ slice_index se 3 = d.has_cells 1 1 in
     cc
 
-pub sixteen_known : (inside nodes : List Node) → inside ≡ nodes → (id : ℕ) (parts : List ℕ) (p q r s : ℕ) (nw ne sw se : List ℕ) → length parts ≡ 4 → AreQuarters inside id 1 parts
-    → AreCorners inside (get_or parts 0 p) nw → AreCorners inside (get_or parts 1 q) ne → AreCorners inside (get_or parts 2 r) sw → AreCorners inside (get_or parts 3 s) se
-    → slice_index nw 0 ∷ slice_index nw 1 ∷ slice_index ne 0 ∷ slice_index ne 1
-    ∷ slice_index nw 2 ∷ slice_index nw 3 ∷ slice_index ne 2 ∷ slice_index ne 3
-    ∷ slice_index sw 0 ∷ slice_index sw 1 ∷ slice_index se 0 ∷ slice_index se 1
-    ∷ slice_index sw 2 ∷ slice_index sw 3 ∷ slice_index se 2 ∷ slice_index se 3 ∷ [] ≡ sixteen (cell_of nodes 2 id)
-sixteen_known inside nodes same id parts p q r s nw ne sw se four are a b c d =
-    subst (λ n. slice_index nw 0 ∷ slice_index nw 1 ∷ slice_index ne 0 ∷ slice_index ne 1
-    ∷ slice_index nw 2 ∷ slice_index nw 3 ∷ slice_index ne 2 ∷ slice_index ne 3
-    ∷ slice_index sw 0 ∷ slice_index sw 1 ∷ slice_index se 0 ∷ slice_index se 1
-    ∷ slice_index sw 2 ∷ slice_index sw 3 ∷ slice_index se 2 ∷ slice_index se 3 ∷ [] ≡ sixteen (cell_of n 2 id)) same
-    (sixteen_cells inside id parts nw ne sw se are
-    (subst (λ i. AreCorners inside i nw) (get_or_default parts 0 p 0 (omega arith)) a) (subst (λ i. AreCorners inside i ne) (get_or_default parts 1 q 0 (omega arith)) b)
-    (subst (λ i. AreCorners inside i sw) (get_or_default parts 2 r 0 (omega arith)) c) (subst (λ i. AreCorners inside i se) (get_or_default parts 3 s 0 (omega arith)) d))
-
 -- ---- 2 by 2 squares
 
 dot_looks : (state : ℕ) (p : ℤ → ℤ → ℕ) (a b : ℤ) → state ≡ p a b → Looks 1 (dot state) p a b
@@ -107,38 +64,20 @@ dots_at new (Ok id) s t u v p a b f g h i shows = record {
   looks = λ x y l m. shows.has_cells x y ∙ dots_look s t u v p a b f g h i x y l m;
 }
 
--- the middle of sixteen cells
-pub inner_cells_at : {E : Type 0} (old new : List Node) (r : Result ℕ E) (id : ℕ) (cells : List ℕ) (p : ℤ → ℤ → ℕ) (a b : ℤ) → cells ≡ sixteen (cell_of old 2 id) → ShowsAt old id 2 p a b
+-- the middle of four squares of four cells
+pub inner_cells_at : {E : Type 0} (old new : List Node) (r : Result ℕ E) (nw ne sw se : ℕ) (cells : List ℕ) (p : ℤ → ℤ → ℕ) (a b : ℤ)
+    → cells ≡ sixteen (together 2 (cell_of old 1 nw) (cell_of old 1 ne) (cell_of old 1 sw) (cell_of old 1 se)) → FourShow old 1 nw ne sw se p a b
     → IfOk r (λ half. ShowsSquare new half 1 (together 1 (dot (slice_index cells 5)) (dot (slice_index cells 6)) (dot (slice_index cells 9)) (dot (slice_index cells 10))))
     → IfOk r (λ half. ShowsAt new half 1 p (a +ℤ pos 1) (b +ℤ pos 1))
-inner_cells_at old new r id cells p a b e shows made =
+inner_cells_at old new r nw ne sw se cells p a b e show made =
     let ax : a +ℤ pos 2 ≡ (a +ℤ pos 1) +ℤ pos 1 = omega (arith, ints) in
     let by : b +ℤ pos 2 ≡ (b +ℤ pos 1) +ℤ pos 1 = omega (arith, ints) in
+    let looks = looks_together 2 (cell_of old 1 nw) (cell_of old 1 ne) (cell_of old 1 sw) (cell_of old 1 se) p a b show.at_nw.looks show.at_ne.looks show.at_sw.looks show.at_se.looks in
     dots_at new r (slice_index cells 5) (slice_index cells 6) (slice_index cells 9) (slice_index cells 10) p (a +ℤ pos 1) (b +ℤ pos 1)
-    (ap (λ l. slice_index l 5) e ∙ shows.looks 1 1 (omega arith) (omega arith))
-    (ap (λ l. slice_index l 6) e ∙ shows.looks 2 1 (omega arith) (omega arith) ∙ ap (λ x. p x (b +ℤ pos 1)) ax)
-    (ap (λ l. slice_index l 9) e ∙ shows.looks 1 2 (omega arith) (omega arith) ∙ ap (λ y. p (a +ℤ pos 1) y) by)
-    (ap (λ l. slice_index l 10) e ∙ shows.looks 2 2 (omega arith) (omega arith) ∙ ap₂ p ax by) made
-
--- the next states of the four in the middle are the centre after one generation
-pub next_four_centre : {E : Type 0} (next : List ℕ → ℕ) (old new : List Node) → IsSoundStore old → Grows old new → (r : Result ℕ E) (id : ℕ) (cells : List ℕ) (nw ne sw se : ℕ) → IsOf old id 2 → cells ≡ sixteen (cell_of old 2 id)
-    → nw ≡ next (slice_index cells 0 ∷ slice_index cells 1 ∷ slice_index cells 2 ∷ slice_index cells 4 ∷ slice_index cells 5 ∷ slice_index cells 6 ∷ slice_index cells 8 ∷ slice_index cells 9 ∷ slice_index cells 10 ∷ [])
-    → ne ≡ next (slice_index cells 1 ∷ slice_index cells 2 ∷ slice_index cells 3 ∷ slice_index cells 5 ∷ slice_index cells 6 ∷ slice_index cells 7 ∷ slice_index cells 9 ∷ slice_index cells 10 ∷ slice_index cells 11 ∷ [])
-    → sw ≡ next (slice_index cells 4 ∷ slice_index cells 5 ∷ slice_index cells 6 ∷ slice_index cells 8 ∷ slice_index cells 9 ∷ slice_index cells 10 ∷ slice_index cells 12 ∷ slice_index cells 13 ∷ slice_index cells 14 ∷ [])
-    → se ≡ next (slice_index cells 5 ∷ slice_index cells 6 ∷ slice_index cells 7 ∷ slice_index cells 9 ∷ slice_index cells 10 ∷ slice_index cells 11 ∷ slice_index cells 13 ∷ slice_index cells 14 ∷ slice_index cells 15 ∷ [])
-    → IfOk r (λ half. ShowsSquare new half 1 (together 1 (dot nw) (dot ne) (dot sw) (dot se))) → IfOk r (IsCentre next new id 0 0)
-next_four_centre next old new sound grows r id cells nw ne sw se square e a b c d made = centre_of r (dots_at new r nw ne sw se q (pos 0 +ℤ pos 1) (pos 0 +ℤ pos 1)
-    (subst (λ l. nw ≡ next (slice_index l 0 ∷ slice_index l 1 ∷ slice_index l 2 ∷ slice_index l 4 ∷ slice_index l 5 ∷ slice_index l 6 ∷ slice_index l 8 ∷ slice_index l 9 ∷ slice_index l 10 ∷ [])) e a)
-    (subst (λ l. ne ≡ next (slice_index l 1 ∷ slice_index l 2 ∷ slice_index l 3 ∷ slice_index l 5 ∷ slice_index l 6 ∷ slice_index l 7 ∷ slice_index l 9 ∷ slice_index l 10 ∷ slice_index l 11 ∷ [])) e b)
-    (subst (λ l. sw ≡ next (slice_index l 4 ∷ slice_index l 5 ∷ slice_index l 6 ∷ slice_index l 8 ∷ slice_index l 9 ∷ slice_index l 10 ∷ slice_index l 12 ∷ slice_index l 13 ∷ slice_index l 14 ∷ [])) e c)
-    (subst (λ l. se ≡ next (slice_index l 5 ∷ slice_index l 6 ∷ slice_index l 7 ∷ slice_index l 9 ∷ slice_index l 10 ∷ slice_index l 11 ∷ slice_index l 13 ∷ slice_index l 14 ∷ slice_index l 15 ∷ [])) e d) made)
-  where
-    q : ℤ → ℤ → ℕ
-    q = cells_after next (from_corner (cell_of old 2 id)) 1
-
-    centre_of : {E : Type 0} (r : Result ℕ E) → IfOk r (λ half. ShowsAt new half 1 q (pos 0 +ℤ pos 1) (pos 0 +ℤ pos 1)) → IfOk r (IsCentre next new id 0 0)
-    centre_of (Err f) shows = tt
-    centre_of (Ok half) shows = is_centre_at next old new sound grows id 0 0 0 1 half square (omega arith) refl shows
+    (ap (λ l. slice_index l 5) e ∙ looks 1 1 (omega arith) (omega arith))
+    (ap (λ l. slice_index l 6) e ∙ looks 2 1 (omega arith) (omega arith) ∙ ap (λ x. p x (b +ℤ pos 1)) ax)
+    (ap (λ l. slice_index l 9) e ∙ looks 1 2 (omega arith) (omega arith) ∙ ap (λ y. p (a +ℤ pos 1) y) by)
+    (ap (λ l. slice_index l 10) e ∙ looks 2 2 (omega arith) (omega arith) ∙ ap₂ p ax by) made
 
 -- the next states of the four in the middle of four squares are what these leap to
 pub next_inner_leap : {E : Type 0} (next : List ℕ → ℕ) (old new : List Node) → IsSoundStore old → Grows old new → (r : Result ℕ E) (nw ne sw se : ℕ) (cells : List ℕ) (s t u v : ℕ) → AreFour old 1 nw ne sw se
@@ -177,6 +116,15 @@ next_inner_leap next old new sound grows r nw ne sw se cells s t u v four e a b 
                 shows.looks x y i j ∙ ap₂ q ax by);
           };
     }
+
+-- what the quarters of a square leap to is its centre
+pub centre_of_leap : {E : Type 0} (next : List ℕ → ℕ) (old new : List Node) → IsSoundStore old → Grows old new → (r : Result ℕ E) (id nw ne sw se : ℕ) → IsOf old id 2
+    → ((p : ℤ → ℤ → ℕ) (a b : ℤ) → ShowsAt old id 2 p a b → FourShow old 1 nw ne sw se p a b) → IfOk r (IsLeap next new 0 nw ne sw se) → IfOk r (IsCentre next new id 0 0)
+centre_of_leap next old new sound grows (Err f) id nw ne sw se square quarters leap = tt
+centre_of_leap next old new sound grows (Ok half) id nw ne sw se square quarters leap =
+    let q = from_corner (cell_of old 2 id) in
+    is_centre_at next old new sound grows id 0 0 0 1 half square (omega arith) refl
+    (leap.shows q (pos 0) (pos 0) (four_stay old new sound grows 1 nw ne sw se q (pos 0) (pos 0) (quarters q (pos 0) (pos 0) (at_corner old id 2 square))))
 
 -- ---- empty squares
 

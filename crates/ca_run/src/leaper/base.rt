@@ -1,4 +1,4 @@
-//! Squares of 4 by 4 cells, and of four squares of 2 by 2.
+//! Four squares of 2 by 2 cells, and squares of 4 by 4.
 
 ghost use Rattle.std.specs.Prelude.{◌≡◌, IfOk};
 ghost use Rattle.ca_quad.specs.Squares.{IsOf, cell_of, together};
@@ -13,35 +13,8 @@ use ca_plane::{Automaton, Memory};
 use ca_quad::Id;
 
 impl<A: Automaton> Leaper<A> {
-    // The sixteen cells of a square, row by row.
-    pub(super) fn cells16(&self, id: Id) -> [u8; 16]
-        requires { IsOf self.now.nodes id 2 }
-        ensures { result ≡ sixteen (cell_of self.now.nodes 2 id) }
-    {
-        let [nw, ne, sw, se] = self.store.children(id);
-        let [a, b, e, f] = self.store.cells4(nw);
-        let [c, d, g, h] = self.store.cells4(ne);
-        let [i, j, m, n] = self.store.cells4(sw);
-        let [k, l, o, p] = self.store.cells4(se);
-        [a, b, c, d, e, f, g, h, i, j, k, l, m, n, o, p]
-    }
-
-    // The four cells in its middle, one generation on.
-    pub(super) fn next_four(&mut self, id: Id) -> Result<Id, Memory>
-        requires { IsOf self.old.nodes id 2 }
-        ensures centre { IfOk result (IsCentre (A.next_of self.old.rule) self.new.nodes id 0 0) }
-        ensures goes_on { LeaperGrows A self.old self.new }
-    {
-        let [a, b, c, d, e, f, g, h, i, j, k, l, m, n, o, p] = self.cells16(id);
-        let nw = self.rule.next(&[a, b, c, e, f, g, i, j, k]);
-        let ne = self.rule.next(&[b, c, d, f, g, h, j, k, l]);
-        let sw = self.rule.next(&[e, f, g, i, j, k, m, n, o]);
-        let se = self.rule.next(&[f, g, h, j, k, l, n, o, p]);
-        self.leaf(nw, ne, sw, se)
-    }
-
     // The sixteen cells of four squares of 2 by 2, row by row.
-    fn cells_of_four(&self, nw: Id, ne: Id, sw: Id, se: Id) -> [u8; 16]
+    pub(super) fn cells16(&self, nw: Id, ne: Id, sw: Id, se: Id) -> [u8; 16]
         requires { AreFour self.now.nodes 1 nw ne sw se }
         ensures { result ≡ sixteen (together 2 (cell_of self.now.nodes 1 nw) (cell_of self.now.nodes 1 ne)
             (cell_of self.now.nodes 1 sw) (cell_of self.now.nodes 1 se)) }
@@ -59,11 +32,21 @@ impl<A: Automaton> Leaper<A> {
         ensures leap { IfOk result (IsLeap (A.next_of self.old.rule) self.new.nodes 0 nw ne sw se) }
         ensures goes_on { LeaperGrows A self.old self.new }
     {
-        let [a, b, c, d, e, f, g, h, i, j, k, l, m, n, o, p] = self.cells_of_four(nw, ne, sw, se);
+        let [a, b, c, d, e, f, g, h, i, j, k, l, m, n, o, p] = self.cells16(nw, ne, sw, se);
         let nw = self.rule.next(&[a, b, c, e, f, g, i, j, k]);
         let ne = self.rule.next(&[b, c, d, f, g, h, j, k, l]);
         let sw = self.rule.next(&[e, f, g, i, j, k, m, n, o]);
         let se = self.rule.next(&[f, g, h, j, k, l, n, o, p]);
         self.leaf(nw, ne, sw, se)
+    }
+
+    // The four cells in the middle of a square of 4 by 4, one generation on.
+    pub(super) fn next_four(&mut self, id: Id) -> Result<Id, Memory>
+        requires { IsOf self.old.nodes id 2 }
+        ensures centre { IfOk result (IsCentre (A.next_of self.old.rule) self.new.nodes id 0 0) }
+        ensures goes_on { LeaperGrows A self.old self.new }
+    {
+        let (nw, ne, sw, se) = self.quarters(id, 0);
+        self.next_inner(nw, ne, sw, se)
     }
 }

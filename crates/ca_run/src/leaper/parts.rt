@@ -38,37 +38,34 @@ impl<A: Automaton> Leaper<A> {
         se: Id,
         grain: u8,
     ) -> Result<Id, Memory>
-        requires four { AreFour self.old.nodes (suc grain) nw ne sw se }
-        requires low { grain ≤ 122 }
+        requires { AreFour self.old.nodes (suc grain) nw ne sw se }
         ensures shows { (p : ℤ → ℤ → ℕ) (a b : ℤ) → FourShow self.old.nodes (suc grain) nw ne sw se p a b
             → IfOk result (λ half. ShowsAt self.new.nodes half (suc grain) p
             (a +ℤ side grain) (b +ℤ side grain)) }
         ensures square { IfOk result (λ half. IsOf self.new.nodes half (suc grain)) }
         ensures goes_on { LeaperGrows A self.old self.new }
     {
-        let id = self.join(nw, ne, sw, se, grain)?;
-        self.inner_square(id, grain)
+        if grain == 0 {
+            let [_, _, _, _, _, nw, ne, _, _, sw, se, _, _, _, _, _] = self.cells16(nw, ne, sw, se);
+            return self.leaf(nw, ne, sw, se);
+        }
+        let (_, _, _, nw) = self.quarters(nw, grain - 1);
+        let (_, _, ne, _) = self.quarters(ne, grain - 1);
+        let (_, sw, _, _) = self.quarters(sw, grain - 1);
+        let (se, _, _, _) = self.quarters(se, grain - 1);
+        self.join(nw, ne, sw, se, grain - 1)
     }
 
     // The middle of a square, half its side wide.
     pub(super) fn inner_square(&mut self, id: Id, grain: u8) -> Result<Id, Memory>
-        requires square { IsOf self.old.nodes id (suc (suc grain)) }
-        requires low { grain ≤ 123 }
+        requires { IsOf self.old.nodes id (suc (suc grain)) }
         ensures shows { (p : ℤ → ℤ → ℕ) (a b : ℤ) → ShowsAt self.old.nodes id (suc (suc grain)) p a b
             → IfOk result (λ half. ShowsAt self.new.nodes half (suc grain) p
             (a +ℤ side grain) (b +ℤ side grain)) }
         ensures square { IfOk result (λ half. IsOf self.new.nodes half (suc grain)) }
         ensures goes_on { LeaperGrows A self.old self.new }
     {
-        if grain == 0 {
-            let [_, _, _, _, _, nw, ne, _, _, sw, se, _, _, _, _, _] = self.cells16(id);
-            return self.leaf(nw, ne, sw, se);
-        }
         let (nw, ne, sw, se) = self.quarters(id, grain);
-        let (_, _, _, nw) = self.quarters(nw, grain - 1);
-        let (_, _, ne, _) = self.quarters(ne, grain - 1);
-        let (_, sw, _, _) = self.quarters(sw, grain - 1);
-        let (se, _, _, _) = self.quarters(se, grain - 1);
-        self.join(nw, ne, sw, se, grain - 1)
+        self.inner_of_four(nw, ne, sw, se, grain)
     }
 }

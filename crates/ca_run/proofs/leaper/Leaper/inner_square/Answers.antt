@@ -1,34 +1,4 @@
-use Rattle.std.proofs.Common.{◌≡◌, suc, ◌-◌, IfOk, sym, subst, arith}
-use Rattle.std.specs.Prelude.{◌+ℤ◌}
-use Rattle.std.proofs.lemmas.Bool.Decides.{nat_tests}
-use Rattle.ca_quad.specs.Squares.{IsOf}
-use Rattle.ca_run.specs.inner.Shown.{ShowsAt, FourShow, side}
-use Rattle.ca_run.proofs.Bases.{inner_cells_at}
-use Rattle.ca_run.proofs.Shown.{four_inner}
 use Rattle.ca_run.proofs.leaper.Leaper.inner_square.Goals as goal
 
-pub returns-then-grain-eq0-clause-shows : goal.returns-then-grain-eq0-clause-shows
-returns-then-grain-eq0-clause-shows g c = λ p a b shows.
-    let none : 0 ≡ c.args.grain = grind (arith, nat_tests) in
-    let old = c.args.self.now.nodes in
-    let new = c.leaf.new.self.nodes in
-    subst (λ k. IfOk c.leaf.result (λ half. ShowsAt new half (suc k) p (a +ℤ side k) (b +ℤ side k))) none
-    (inner_cells_at old new c.leaf.result c.args.id c.cells16.result p a b c.cells16.ensures
-    (subst (λ k. ShowsAt old c.args.id (suc (suc k)) p a b) (sym none) shows) c.leaf.ensures.shows)
-
 pub returns-clause-shows : goal.returns-clause-shows
-returns-clause-shows g c = λ p a b shows.
-    let up : suc (c.args.grain - 1) ≡ c.args.grain = grind (arith, nat_tests) in
-    let nodes = c.args.self.now.nodes in
-    let q = c.quarters-nw.result in
-    let parts = subst (λ k. FourShow nodes (suc k) q.0 q.1 q.2 q.3 p a b) (sym up) (c.quarters-nw.ensures.shows p a b shows) in
-    subst (λ k. IfOk c.join.result (λ half. ShowsAt c.join.new.self.nodes half (suc k) p (a +ℤ side k) (b +ℤ side k))) up
-    (c.join.ensures.shows p _ _
-    (four_inner nodes (suc (c.args.grain - 1)) _ _ _ _ _ _ _ _ _ _ _ _ _ _ _ _ p a b
-    (c.quarters-nw-2.ensures.shows p _ _ parts.at_nw) (c.quarters-ne.ensures.shows p _ _ parts.at_ne)
-    (c.quarters-sw.ensures.shows p _ _ parts.at_sw) (c.quarters-se.ensures.shows p _ _ parts.at_se)))
-
-pub returns-clause-square : goal.returns-clause-square
-returns-clause-square g c =
-    let up : suc (c.args.grain - 1) ≡ c.args.grain = grind (arith, nat_tests) in
-    subst (λ k. IfOk c.join.result (λ half. IsOf c.join.new.self.nodes half (suc k))) up c.join.ensures.square
+returns-clause-shows g c = λ p a b shows. c.inner_of_four.ensures.shows p a b (c.quarters-nw.ensures.shows p a b shows)

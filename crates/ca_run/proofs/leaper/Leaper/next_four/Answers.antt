@@ -1,10 +1,7 @@
-use Rattle.std.proofs.Common.{sym, subst}
-use Rattle.ca_quad.specs.Sound.{IsSoundStore}
-use Rattle.ca_run.proofs.Bases.{next_four_centre}
+use Rattle.ca_run.proofs.Bases.{centre_of_leap}
 use Rattle.ca_run.proofs.leaper.Leaper.next_four.Goals as goal
 
 pub returns-clause-centre : goal.returns-clause-centre
 returns-clause-centre g c =
-    next_four_centre (g.A.Automaton.next_of c.args.self.now.rule) c.args.self.now.nodes c.leaf.new.self.nodes (subst (λ l. IsSoundStore l.nodes) c.self.view_is c.self.invariant.squares) c.leaf.ensures.goes_on.grows
-    c.leaf.result c.args.id c.cells16.result c.next-nw.result c.next-ne.result c.next-sw.result c.next-se.result c.requires c.cells16.ensures
-    (rw (sym c.self.view_is) c.next-nw.ensures) (rw (sym c.self.view_is) c.next-ne.ensures) (rw (sym c.self.view_is) c.next-sw.ensures) (rw (sym c.self.view_is) c.next-se.ensures) c.leaf.ensures.shows
+    centre_of_leap (g.A.Automaton.next_of c.args.self.now.rule) c.args.self.now.nodes c.next_inner.new.self.nodes c.quarters-nw.ensures.sound c.next_inner.ensures.goes_on.grows
+    c.next_inner.result c.args.id c.quarters-nw.result.0 c.quarters-nw.result.1 c.quarters-nw.result.2 c.quarters-nw.result.3 c.requires c.quarters-nw.ensures.shows c.next_inner.ensures.leap
