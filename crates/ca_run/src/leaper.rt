@@ -23,6 +23,7 @@ mod parts;
 mod planes;
 mod recent_centres;
 mod recent_leaps;
+mod slots;
 mod squares;
 mod tile;
 mod to_wall;

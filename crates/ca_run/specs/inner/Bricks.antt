@@ -212,3 +212,20 @@ pub record HasMarks (marks : List ℕ) (mark : ℕ) (list : List ℕ) : Type 0 w
 -- the bricks that aren't in the list rest: what they were before is what they will be next
 abbrev pub Rest : ℕ × ℕ → ℕ → (now before : List (List ℕ)) → List ℕ → Type 0
 Rest masks across now before list = (t : ℕ) → HasNeighbours across (length now) t → IsNotIn list t → IsNextBrick masks across now before t
+
+-- ---- a generation of bricks
+
+-- there are as many bricks before as now, those of the list have others on all sides, and those that aren't in it rest
+pub record CanStep (masks : ℕ × ℕ) (across : ℕ) (now before : List (List ℕ)) (awake : List ℕ) : Type 0 where
+  pub room : across + length now < 2 ^ 63
+  pub size : length before ≡ length now
+  pub inside : AllHaveNeighbours across (length now) awake
+  pub rest : Rest masks across now before awake
+
+-- each brick with others on all sides is one generation on, the others are as before, and the queue has those that see other cells
+-- than two generations before
+pub record AreStepped (masks : ℕ × ℕ) (across : ℕ) (now before later : List (List ℕ)) (old new : List ℕ) : Type 0 where
+  pub next : (t : ℕ) → HasNeighbours across (length now) t → IsNextBrick masks across now later t
+  pub same : (t : ℕ) → HasNeighbours across (length now) t → IsNotIn new t → IsSameRound across before later t
+  pub grows : QueueGrows across (length now) old new
+  pub others : (t : ℕ) → (HasNeighbours across (length now) t → ⊥) → get_or later t [] ≡ get_or before t []

@@ -2,7 +2,7 @@
 
 ghost use Rattle.std.specs.Prelude.{◌≡◌, ◌+◌, ◌<◌, ◌≤◌, ◌^◌, ℕ, [], length, slice_index, get_or, OnOk};
 ghost use Rattle.std.specs.Int.{bit_at};
-ghost use Rattle.ca_run.specs.inner.Bricks.{HasNeighbours, AllHaveNeighbours, HasBlankEdge, IsNotIn, IsNextBrick, IsSameRound, IsUnseen, QueueGrows, Rest, column_at, round_at, round_cells};
+ghost use Rattle.ca_run.specs.inner.Bricks.{CanStep, AreStepped, HasNeighbours, AllHaveNeighbours, HasBlankEdge, IsNotIn, IsNextBrick, IsSameRound, IsUnseen, QueueGrows, Rest, column_at, round_at, round_cells};
 
 use super::queue::Queue;
 use super::round::Round;
@@ -46,17 +46,8 @@ fn step(
     queue: &mut Queue,
     masks: (u16, u16),
 ) -> Result<(), Memory>
-    requires room { across + length now.now < 2 ^ 63 }
-    requires size { length old.old ≡ length now.now }
-    requires inside { AllHaveNeighbours across (length now.now) awake.now }
-    requires rest { Rest masks across now.now old.old awake.now }
-    ensures next { OnOk result ((t : ℕ) → HasNeighbours across (length now.now) t
-        → IsNextBrick masks across now.now old.new t) }
-    ensures same { OnOk result ((t : ℕ) → HasNeighbours across (length now.now) t → IsNotIn queue.new t
-        → IsSameRound across old.old old.new t) }
-    ensures grows { OnOk result (QueueGrows across (length now.now) queue.old queue.new) }
-    ensures others { OnOk result ((t : ℕ) → (HasNeighbours across (length now.now) t → ⊥)
-        → get_or old.new t [] ≡ get_or old.old t []) }
+    requires { CanStep masks across now.now old.old awake.now }
+    ensures { OnOk result (AreStepped masks across now.now old.old old.new queue.old queue.new) }
 {
     if has_two_and_three_alone(masks) {
         return step_by::<ByTwoAndThree>(across, now, old, awake, queue, masks);
@@ -73,18 +64,9 @@ fn step_by<N: NextCells>(
     queue: &mut Queue,
     masks: (u16, u16),
 ) -> Result<(), Memory>
-    requires room { across + length now.now < 2 ^ 63 }
-    requires size { length old.old ≡ length now.now }
-    requires inside { AllHaveNeighbours across (length now.now) awake.now }
-    requires rest { Rest masks across now.now old.old awake.now }
+    requires can_step { CanStep masks across now.now old.old awake.now }
     requires suits { N.suits masks }
-    ensures next { OnOk result ((t : ℕ) → HasNeighbours across (length now.now) t
-        → IsNextBrick masks across now.now old.new t) }
-    ensures same { OnOk result ((t : ℕ) → HasNeighbours across (length now.now) t → IsNotIn queue.new t
-        → IsSameRound across old.old old.new t) }
-    ensures grows { OnOk result (QueueGrows across (length now.now) queue.old queue.new) }
-    ensures others { OnOk result ((t : ℕ) → (HasNeighbours across (length now.now) t → ⊥)
-        → get_or old.new t [] ≡ get_or old.old t []) }
+    ensures { OnOk result (AreStepped masks across now.now old.old old.new queue.old queue.new) }
 {
     let cells = N::of(masks);
     'bricks: for &s in awake {

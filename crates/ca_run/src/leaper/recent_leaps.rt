@@ -3,22 +3,18 @@
 ghost use Rattle.std.specs.Prelude.{◌≡◌, ℕ, ◌⊎◌, [], Some, IfSome};
 ghost use Rattle.std.specs.List.{Contains};
 
+use super::slots::Slots;
 use ca_quad::Id;
 use std::alloc::Global;
 use std::marker::Model;
 
-// How many slots there are at first, and at most. Both are powers of two.
-const FIRST: usize = 1024;
-
+// How many results are kept at most.
 const MOST: usize = 65536;
 
-/// The squares in the middle of four, as far on as they can be known. Four squares and the one in their middle
-/// have the slot of the hash of the four until others come there.
+/// Four squares, and the one in their middle as far on as it can be known.
 #[derive(Drop)]
 pub(crate) struct RecentLeaps {
-    slots: Vec<Option<(Id, Id, Id, Id, Id)>>,
-    // How many results may come before there are to be more slots.
-    left: usize,
+    slots: Slots<(Id, Id, Id, Id, Id)>,
 }
 
 impl Model for RecentLeaps {
@@ -26,7 +22,7 @@ impl Model for RecentLeaps {
 
     ghost Value = { List (Option (ℕ × ℕ × ℕ × ℕ × ℕ)) };
 
-    ghost view = { λ r. r.slots.items };
+    ghost view = { λ r. r.slots };
 }
 
 impl RecentLeaps {
@@ -35,8 +31,7 @@ impl RecentLeaps {
         ensures { result ≡ [] }
     {
         RecentLeaps {
-            slots: Vec::new(alloc),
-            left: 0,
+            slots: Slots::new(alloc, MOST),
         }
     }
 
@@ -44,11 +39,9 @@ impl RecentLeaps {
     pub(crate) fn get(&self, nw: Id, ne: Id, sw: Id, se: Id) -> Option<Id>
         ensures { IfSome result (λ half. Contains self.now (Some (nw, ne, sw, se, half))) }
     {
-        let place = self.place(nw, ne, sw, se);
-        if place >= self.slots.len() {
-            return None;
-        }
-        let (north_west, north_east, south_west, south_east, half) = self.slots[place]?;
+        let (north_west, north_east, south_west, south_east, half) = self
+            .slots
+            .get(hash_of(nw, ne, sw, se))?;
         if north_west != nw || north_east != ne || south_west != sw || south_east != se {
             return None;
         }
@@ -61,47 +54,16 @@ impl RecentLeaps {
             → Contains self.old (Some (a, b, c, d, e))
             ⊎ ((a ≡ nw) × (b ≡ ne) × (c ≡ sw) × (d ≡ se) × (e ≡ half)) }
     {
-        self.count_one();
-        let place = self.place(nw, ne, sw, se);
-        if place < self.slots.len() {
-            self.slots[place] = Some((nw, ne, sw, se, half));
-        }
+        self.slots
+            .put(hash_of(nw, ne, sw, se), (nw, ne, sw, se, half));
     }
+}
 
-    // Where the result for four squares belongs, where there are slots.
-    fn place(&self, nw: Id, ne: Id, sw: Id, se: Id) -> usize {
-        let north = nw.number() as u64 | (ne.number() as u64) << 32;
-        let south = sw.number() as u64 | (se.number() as u64) << 32;
-        let mixed = north.wrapping_mul(FACTOR) ^ south.wrapping_mul(OTHER).rotate_left(32);
-        let hash = (mixed ^ (mixed >> 32)).wrapping_mul(FACTOR);
-        (hash >> 32) as usize & self.slots.len().wrapping_sub(1)
-    }
-
-    // Counts a result that comes: where as many came as there are slots, there shall be more.
-    fn count_one(&mut self)
-        ensures { (a b c d e : ℕ) → Contains self.new (Some (a, b, c, d, e))
-            → Contains self.old (Some (a, b, c, d, e)) }
-    {
-        if self.left == 0 {
-            self.grow();
-            self.left = self.slots.len();
-        } else {
-            self.left -= 1;
-        }
-    }
-
-    // Four times as many slots, where that isn't too many and there is memory. Most of what is kept isn't
-    // found any more.
-    fn grow(&mut self)
-        ensures { (a b c d e : ℕ) → Contains self.new (Some (a, b, c, d, e))
-            → Contains self.old (Some (a, b, c, d, e)) }
-    {
-        let slots = self.slots.len();
-        if slots >= MOST {
-            return;
-        }
-        let _ = self.slots.resize((4 * slots).max(FIRST), None);
-    }
+fn hash_of(nw: Id, ne: Id, sw: Id, se: Id) -> u64 {
+    let north = nw.number() as u64 | (ne.number() as u64) << 32;
+    let south = sw.number() as u64 | (se.number() as u64) << 32;
+    let mixed = north.wrapping_mul(FACTOR) ^ south.wrapping_mul(OTHER).rotate_left(32);
+    (mixed ^ (mixed >> 32)).wrapping_mul(FACTOR) >> 32
 }
 
 // Odd numbers whose bits are mixed well.

@@ -7,11 +7,11 @@ use Rattle.ca_run.proofs.bricks.step.step_by.Goals as goal
 
 pub bricks-init : goal.bricks-init
 bricks-init g c = record {
-  next = λ t has done. c.requires.rest t has (λ k h e. done k (omega arith) h e);
+  next = λ t has done. c.requires.can_step.rest t has (λ k h e. done k (omega arith) h e);
   same = λ t _ _. record { cells = λ x y _ _. refl };
   grows = grows_by_none _ _ _;
   others = λ t _. refl;
-  size = c.requires.size;
+  size = c.requires.can_step.size;
 }
 
 pub bricks-preserved : goal.bricks-preserved
@@ -22,7 +22,7 @@ bricks-preserved g c =
     let mid = c.bricks.old in
     let s = slice_index c.args.awake.now k in
     let rows = c.next-next.result in
-    let inside : HasNeighbours c.args.across (length now) s = c.requires.inside k c.bricks-test.true in
+    let inside : HasNeighbours c.args.across (length now) s = c.requires.can_step.inside k c.bricks-test.true in
     let long : s < length mid = omega (arith, inside.behind, inv.size) in
     record {
       next = next_more c.args.masks c.args.across now mid c.args.awake.now k s (length now) rows long refl
@@ -35,5 +35,10 @@ bricks-preserved g c =
       size = length-set mid s rows ∙ inv.size;
     }
 
-pub returns-clause-next : goal.returns-clause-next
-returns-clause-next g c = λ t has. c.bricks.invariant.next t has (λ k low high e. omega (arith, c.bricks-test.false, low, high))
+pub returns : goal.returns
+returns g c = record {
+  next = λ t has. c.bricks.invariant.next t has (λ k low high e. omega (arith, c.bricks-test.false, low, high));
+  same = c.bricks.invariant.same;
+  grows = c.bricks.invariant.grows;
+  others = c.bricks.invariant.others;
+}
