@@ -14,7 +14,7 @@ Of an explained run one claim may also be without its note, or a macrocell's not
 rule file is bad, the note is always given. Of a run over several texts one text may be told as out of
 memory and have no lines. A run of `show` or `convert` prints all that it prints with ample memory, or nothing and `cafile: memory`.
 
-Of runs with many allocations some are tried. At the end memory is refused by the system itself, to a pattern that is too large for it, and the claims round it are answered.
+Of claims with many allocations some are tried, of `show` and `convert` all. At the end memory is refused by the system itself, to a pattern that is too large for it, and the claims round it are answered.
 """
 import itertools
 import os
@@ -28,13 +28,13 @@ from sizes import BLOCK, long_text, spelled
 # Claim texts of examples/, and how many allocations are passed over between two that are refused.
 EXAMPLES = {"block": 1, "glider": 1, "several": 1, "bad_patterns": 1, "rules": 1, "mixed_rules": 1, "states": 1, "pulsar": 1, "number": 1, "syntax": 1,
             "unknown_name": 1, "table_causes": 1, "bad_table": 1, "slide": 1, "tables": 5, "r_pentomino": 11, "soup": 11, "macrocells": 11,
-            "bad_macrocells": 5, "generations": 11, "reactions": 11, "every_kind": 1}
+            "bad_macrocells": 5, "generations": 11, "reactions": 11, "every_kind": 1, "three_planes": 1}
 
 # Examples of `show` and `convert`, in both formats, with a rule file and without, and with a fault.
-WORDS = {"show_rle": 1, "show_macrocell": 1, "show_table": 1, "show_no_table": 1, "show_bad_table": 1, "show_timeline": 1, "show_full_square": 7,
-         "convert_to_macrocell": 1, "convert_to_rle": 1, "convert_both_leaves": 1, "convert_table_to_macrocell": 1, "convert_table_to_rle": 1,
-         "convert_empty_to_macrocell": 1, "convert_too_many_cells": 7, "convert_full_square": 7, "convert_gun_to_macrocell": 3,
-         "show_generations": 1, "convert_generations_to_macrocell": 1}
+WORDS = ("show_rle", "show_macrocell", "show_table", "show_no_table", "show_bad_table", "show_timeline", "show_full_square", "show_generations",
+         "convert_to_macrocell", "convert_to_rle", "convert_tidy_rle", "convert_both_leaves", "convert_table_to_macrocell", "convert_table_to_rle",
+         "convert_empty_to_macrocell", "convert_too_many_cells", "convert_full_square", "convert_gun_to_macrocell", "convert_gun_to_rle",
+         "convert_generations_to_macrocell")
 
 # Examples of `verify` with notes, each of one text, and runs over several texts, each with the examples that its texts give by themselves.
 EXPLAINED = {"explain_several": 1, "explain_bad_patterns": 1, "explain_bad_macrocells": 3, "explain_bad_table": 1, "explain_no_rule_file": 1, "explain_causes": 1}
@@ -43,6 +43,9 @@ SEVERAL = (
     (("verify",), {"no_claims": "no_claims", "states": "states", "block": "block"}),
     (("verify", "--explain"), {"several": "explain_several", "bad_table": "explain_bad_table"}),
 )
+
+# Files of larger patterns, a soup in both formats, of which each allocation of `show` and of `convert` to either format is refused.
+LARGER = ("examples/soup/soup.rle", "examples/soup/soup_40.mc")
 
 NO_MEMORY = fault("memory")
 
@@ -203,13 +206,25 @@ def wrong_ones(ample, outcomes):
     return [f"allocation {number}: {it}" for number, it in outcomes.items() if it not in (ample, NO_MEMORY)]
 
 
+def tell_words(tally, refusing, words, ample, name):
+    """Tells whether all is printed as with ample memory, or nothing, of a run of which each allocation in turn is refused."""
+    outcomes = refusing.sweep(words, itertools.count(1))
+    complaints = wrong_ones(ample, outcomes) or ([] if NO_MEMORY in outcomes.values() else ["no run met out of memory"])
+    tally.tell(f"refused memory, {name}: {len(outcomes)} allocations refused", complaints)
+
+
 def try_words(tally, refusing):
-    """Each allocation of some runs of `show` and `convert` in turn: all is printed as with ample memory, or nothing."""
-    for name, step in WORDS.items():
-        words, ample = example_words(f"{name}.words"), example(name)
-        outcomes = refusing.sweep(words, itertools.count(1, step))
-        complaints = wrong_ones(ample, outcomes) or ([] if NO_MEMORY in outcomes.values() else ["no run met out of memory"])
-        tally.tell(f"refused memory, examples/{name}.words: {len(outcomes)} allocations refused", complaints)
+    """Each allocation of some examples of `show` and `convert` in turn."""
+    for name in WORDS:
+        tell_words(tally, refusing, example_words(f"{name}.words"), example(name), f"examples/{name}.words")
+
+
+def try_larger(tally, refusing):
+    """Each allocation in turn of `show` and `convert` on larger patterns, which with ample memory print something."""
+    for path, words in itertools.product(LARGER, (["show"], ["convert", "--to", "rle"], ["convert", "--to", "mc"])):
+        ample = run([*words, path])
+        tally.tell(f"ample memory, {' '.join(words)} {path}", [] if ample.printed and (ample.complaint, ample.status) == (b"", 0) else [str(ample)])
+        tell_words(tally, refusing, [*words, path], ample, f"{' '.join(words)} {path}")
 
 
 def try_large(tally, refusing, folder):
@@ -279,7 +294,7 @@ def main():
     tally = Tally()
     with refusing_program(tally, "refused memory") as (folder, refusing):
         if refusing:
-            for it in (try_examples, try_explained, try_several, try_words, try_for_good):
+            for it in (try_examples, try_explained, try_several, try_words, try_larger, try_for_good):
                 it(tally, refusing)
             try_large(tally, refusing, folder)
         try_a_limit(tally, folder)
