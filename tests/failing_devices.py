@@ -11,7 +11,7 @@
 import os
 import re
 
-from lib.program import Folder, Outcome, Tally, ample, fault, run
+from lib.program import ROOT, Folder, Outcome, Tally, ample, example, example_words, fault, run
 from lib.refusing import refusing_program
 
 RULE = "@RULE S\n@TABLE\nn_states:3\nneighborhood:oneDimensional\nsymmetries:none\n"
@@ -20,6 +20,12 @@ MACROCELL = "[M2]\n*$\n4 0 0 0 1\n"
 
 # The bytes of a usual read.
 PIECE = 8192
+
+# Of texts with fewer bytes each byte in turn can't be written, of the others some.
+MOST_WHOLE = 3000
+
+# Examples of `show` and `convert` that print or read some hundred bytes.
+EXAMPLES = ("show_full_square", "convert_gun_to_macrocell", "convert_gun_to_rle", "convert_full_square")
 
 
 # What the claim text prints, without notes and with them. Which of the two cells that differ the last note names is open; this is the program's choice.
@@ -57,6 +63,7 @@ def printing_runs(files):
         (["verify", text], Outcome(PLAIN, b"", 1)), (["verify", "--explain", text], Outcome(EXPLAINED, b"", 1)),
         (["verify", "--explain", text, lost], Outcome(both, b"", 2)), (["show", dot], SHOWN), (["show", macrocell], SHOWN_MACROCELL),
         (["show", state, "--rule", rule], SHOWN_TABLE), (["convert", dot, "--to", "mc"], AS_MACROCELL), (["convert", macrocell, "--to", "rle"], AS_RLE),
+        *((example_words(f"{name}.words"), example(name)) for name in EXAMPLES),
         *((words, ample(run(words).printed)) for words in (["--version"], ["verify", "--help"])),
     )
 
@@ -93,7 +100,7 @@ def try_output(tally, refusing, files):
     """Each byte of standard output in turn can't be written."""
     for words, outcome in printing_runs(files):
         wanted, whole = outcome.printed, len(outcome.printed)
-        numbers = range(1, whole + 2) if whole < 200 else [*range(1, 20), *range(20, whole, whole // 20), whole, whole + 1]
+        numbers = range(1, whole + 2) if whole < MOST_WHOLE else [*range(1, 20), *range(20, whole, whole // 20), whole, whole + 1]
         for name in ("WRITE_FAILS", "WRITE_TAKES_NONE"):
             complaints = [] if whole else ["nothing was printed"]
             for number in numbers:
@@ -170,6 +177,9 @@ def try_reads(tally, refusing, files):
     macrocell = files.path("dot.mc", MACROCELL)
     for words, whole in ((["show", macrocell], SHOWN_MACROCELL), (["convert", macrocell, "--to", "rle"], AS_RLE), (["show", dot], SHOWN)):
         expect_reads(tally, refusing, words, whole, ((os.path.getsize(words[1]), fault(f"cannot read {words[1]}")),))
+    for name in EXAMPLES:
+        words = example_words(f"{name}.words")
+        expect_reads(tally, refusing, words, example(name), ((os.path.getsize(os.path.join(ROOT, words[1])), fault(f"cannot read {words[1]}")),))
 
 
 def try_several(tally, refusing, files):
