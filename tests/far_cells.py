@@ -12,7 +12,7 @@ from lib.claim_text import ClaimText, outcome
 from lib.program import Folder, Outcome, Tally, ample, fault, run
 
 # How many cells, the bytes of address space, and those for which the squares are enough.
-CELLS, SPACE, AMPLE = 100000, 60_000_000, 2_000_000_000
+CELLS, SPACE, AMPLE = 50000, 60_000_000, 2_000_000_000
 
 # Cells of files lie from -FAR to FAR - 1.
 FAR = 1 << 60

@@ -1,0 +1,165 @@
+#!/usr/bin/env -S python3 -B
+"""A limit of address space, as a service sets it by `ulimit -v`, and files of each kind that need more.
+
+- Where the squares of a claim need more, that claim is refused for lack of memory, and those round it are judged: of a large RLE, of a large macrocell and
+  of a long run over a small file.
+- Where a file's bytes, a rule file's table or a claim text need more, the text is out of memory, and other texts are judged.
+- `show` and `convert` of such files print nothing and are out of memory, on standard input too.
+- Under an ample limit all is judged, and under each limit between, no line is another than the ample one, except that it may be refused for lack of memory.
+"""
+import os
+import random
+import resource
+import tempfile
+
+import far_cells
+from lib import rle
+from lib.claim_text import ClaimText, outcome, printed
+from lib.program import Folder, Outcome, Tally, ample, fault, run
+from macrocell_sizes import distinct_leaves, figures, header
+from refused_memory import NO_MEMORY, answers_in, consists_of
+from table_sizes import DOT, table, transitions
+
+# The bytes of address space that are too few for what is large, and those that are enough. A small claim takes less than 4 million.
+SPACE, AMPLE = 9_000_000, 1_000_000_000
+
+# The limits between, from one under which the program starts.
+LEAST, RATIO = 4_000_000, 1.8
+
+# Cells that lie far from each other, the side of a soup, the generations of a small one, leaves, transitions and claims.
+FAR_CELLS, SIDE, GENERATIONS, LEAVES, TRANSITIONS, CLAIMS = 10000, 2500, 700, 81920, 60000, 120000
+
+
+def within(space):
+    """How a run is started that has this much address space."""
+    return {"preexec_fn": lambda: resource.setrlimit(resource.RLIMIT_AS, (space, space))}
+
+
+def soup(side, rule):
+    """An RLE of a random square, and the number of its live cells."""
+    chance = random.Random(side)
+    rows = [format(chance.getrandbits(side), f"0{side}b") for _ in range(side)]
+    body = "$\n".join(rows).translate({ord("0"): "b", ord("1"): "o"})
+    return f"x = {side}, y = {side}, rule = {rule}\n{body}!\n", sum(row.count("1") for row in rows)
+
+
+def spread_cells():
+    """An RLE of cells all over the plane."""
+    chance = random.Random(0)
+    return rle.tidy({(chance.randrange(-far_cells.FAR, far_cells.FAR), chance.randrange(-far_cells.FAR, far_cells.FAR)): 1 for _ in range(FAR_CELLS)}, "B3/S23", 0, 2)
+
+
+def many_nodes():
+    """A macrocell of leaves that are all different, and what `show` prints of it."""
+    lines, cells = distinct_leaves(LEAVES, 12)
+    return header("mc") + ("\n".join(lines) + "\n").encode(), figures(0, cells, "-2048 -2048 3070 2044")
+
+
+def claims_round(files, name, claim, verdict):
+    """A claim text of claims on small files, round one on a large file: its path, and its answers under too little space and with enough of it."""
+    answers = []
+    for told in ("refused, memory", verdict):
+        text = ClaimText(files)
+        for small in ("block", "glider", "empty"):
+            text.load_path(small, f"examples/{small}.rle")
+        text.load_path("large", files.path(name))
+        text.load("none", "x = 0, y = 0, rule = B2/S\n!\n")
+        text.claim("still block", "yes")
+        text.claim(claim, told)
+        text.claim("spaceship glider 4 1 1", "yes")
+        text.claim(claim, told)
+        text.claim("becomes empty 5 empty", "yes")
+        answers.append(text.answers)
+    return text.write(f"{name}.claims"), *answers
+
+
+def between(tally, name, path, answers):
+    """Runs under limits that grow until all is judged: nothing else is told than what is known, but for lack of memory."""
+    whole, complaints, space, outcomes = outcome(answers, False), [], LEAST, []
+    while space < AMPLE and whole not in outcomes:
+        outcomes.append(run(["verify", path], **within(int(space))))
+        if outcomes[-1] not in (whole, NO_MEMORY) and not consists_of([(b"", answers_in(whole.printed))], outcomes[-1]):
+            complaints.append(f"{int(space)} bytes: {outcomes[-1]}")
+        space *= RATIO
+    if whole not in outcomes[1:]:
+        complaints.append("wanted some limits under which not all is judged, and one under which all is")
+    tally.tell(f"{name}, {len(outcomes)} limits", complaints)
+
+
+def try_claims(tally, files):
+    """Claims whose squares need more, between claims on small files."""
+    files.path("far.rle", spread_cells())
+    files.path("nodes.mc", many_nodes()[0])
+    files.path("run.rle", soup(32, "B2/S")[0])
+    for name, claim, verdict in (
+        ("far.rle", "becomes large 0 large", "yes"), ("nodes.mc", "still large", "no, cells differ after 1"),
+        ("run.rle", f"becomes large {GENERATIONS} none", f"no, cells differ after {GENERATIONS}"),
+    ):
+        path, less, whole = claims_round(files, name, claim, verdict)
+        tally.expect(f"a claim on {name}, too little space", run(["verify", path], **within(SPACE)), outcome(less, False))
+        tally.expect(f"a claim on {name}, explained, too little space", run(["verify", "--explain", path], **within(SPACE)), outcome(less, True))
+        tally.expect(f"a claim on {name}, ample space", run(["verify", path], **within(AMPLE)), outcome(whole, False))
+        between(tally, f"a claim on {name}", path, whole)
+
+
+def large_texts(files):
+    """Claim texts that are out of memory as a whole, and the answers to each with ample memory: a file's bytes, a table or the text itself are large."""
+    soup_text, rule_text, long_text = ClaimText(files), ClaimText(files), ClaimText(files)
+    for text, claim, verdict, count in ((soup_text, "becomes large 0 large", "yes", 1), (rule_text, "still large", "no, cells differ after 1", 1),
+                                        (long_text, "still block", "yes", CLAIMS)):
+        if text is rule_text:
+            text.rule_path(files.path("wide.rule"))
+        text.load_path("block", "examples/block.rle")
+        text.load_path("large", files.path("dot.rle" if text is rule_text else "soup.rle"))
+        text.claim("still block", "yes")
+        for _ in range(count):
+            text.claim(claim, verdict)
+    return {name: (text.write(f"{name}.claims"), text.answers) for name, text in (("soup", soup_text), ("rule", rule_text), ("long", long_text))}
+
+
+def try_texts(tally, files):
+    """Texts that are out of memory as a whole, alone and with a small one before or after them."""
+    small, small_path = ClaimText(files), files.path("small.claims")
+    small.load_path("block", "examples/block.rle")
+    small.claim("still block", "yes")
+    small.write("small.claims")
+    for name, (path, answers) in large_texts(files).items():
+        lines, told = printed(small.answers, False, f"{small_path}: ".encode()), f"cafile: {path}: memory\n".encode()
+        tally.expect(f"{name}, too little space", run(["verify", path], **within(SPACE)), NO_MEMORY)
+        for paths in ((path, small_path), (small_path, path)):
+            tally.expect(f"{name}, with a small text", run(["verify", *paths], **within(SPACE)), Outcome(lines, told, 2))
+        tally.expect(f"{name}, ample space", run(["verify", path], **within(AMPLE)), outcome(answers, False))
+        between(tally, name, path, answers)
+
+
+def try_shown(tally, files, cells):
+    """`show` and `convert` of large files, which are known with ample space."""
+    soup_shown = figures(0, cells, f"0 0 {SIDE} {SIDE}", "rle")
+    state = ample(b"format rle\nrule Wide\ngen 0\ncells 1\nbox 0 0 1 1\n")
+    rule = ["--rule", files.path("wide.rule")]
+    for name, wanted, more in (("soup.rle", soup_shown, []), ("nodes.mc", many_nodes()[1], []), ("dot.rle", state, rule)):
+        path = files.path(name)
+        for words in (["show", path], ["convert", path, "--to", "mc"], ["convert", path, "--to", "rle"]):
+            tally.expect(f"{words[0]} {name}, too little space", run([*words, *more], **within(SPACE)), NO_MEMORY)
+        with open(path, "rb") as file:
+            tally.expect(f"show {name} on standard input, too little space", run(["show", "-", *more], stdin=file, **within(SPACE)), NO_MEMORY)
+        tally.expect(f"show {name}, ample space", run(["show", path, *more], **within(AMPLE)), wanted)
+
+
+def main():
+    tally = Tally()
+    with tempfile.TemporaryDirectory() as folder:
+        files = Folder(folder)
+        text, cells = soup(SIDE, "B3/S23")
+        for name, content in (("soup.rle", text), ("wide.rule", table(transitions(TRANSITIONS))), ("dot.rle", DOT)):
+            files.path(name, content)
+        try_claims(tally, files)
+        try_texts(tally, files)
+        try_shown(tally, files, cells)
+        missing = os.path.join(folder, "missing")
+        tally.expect("a file that isn't there, too little space", run(["show", missing], **within(SPACE)), fault(f"cannot read {missing}"))
+    tally.finish()
+
+
+if __name__ == "__main__":
+    main()
