@@ -14,12 +14,11 @@ Of an explained run one claim may also be without its note, or a macrocell's not
 rule file is bad, the note is always given. Of a run over several texts one text may be told as out of
 memory and have no lines. A run of `show` or `convert` prints all that it prints with ample memory, or nothing and `cafile: memory`.
 
-Of claims with many allocations some are tried, of `show` and `convert` all. At the end memory is refused by the system itself, to a pattern that is too large for it, and the claims round it are answered.
+Of claims with many allocations some are tried, of `show` and `convert` all. tests/address_space.py has memory that is refused by the system itself.
 """
 import itertools
 import os
 import re
-import resource
 
 from lib.program import Outcome, Tally, example, example_words, fault, lines_outcome, run
 from lib.refusing import refusing_program
@@ -52,10 +51,6 @@ NO_MEMORY = fault("memory")
 # The lines after which a note is always given where it is asked for, and those whose note may lack its faulty line.
 ALWAYS_NOTED = re.compile(rb"line [0-9]+: (no, cells differ|refused, no file|refused, bad table: )")
 MAY_LACK_LINE = re.compile(rb"line [0-9]+: refused, bad pattern: macrocell ")
-
-# A block and a row of 16777216 cells are read under this limit of a run's address space, in bytes. The block takes less than 5 million bytes, and the row
-# more than 400 million, at 24 bytes a cell: the limit stands about half-way between the two in their ratio.
-LIMIT = 50_000_000
 
 
 def by_eighths():
@@ -274,22 +269,6 @@ def try_for_good(tally, refusing):
         tally.tell(f"memory refused for good, {' '.join([*words, *names])}: {len(outcomes)} runs", wrong if outcomes else ["no allocation was refused"])
 
 
-def try_a_limit(tally, folder):
-    """A pattern that is too large for the memory that the system gives, between two that aren't, and by itself."""
-    large, claims = os.path.join(folder, "large.rle"), os.path.join(folder, "large.claims")
-    with open(large, "w", encoding="ascii") as file:
-        file.write("x = 16777216, y = 1, rule = B3/S23\n16777216o!\n")
-    with open(claims, "w", encoding="ascii") as file:
-        file.write(f"load block examples/block.rle\nload large {large}\nstill block\nstill large\nstill block\n")
-    def limit():
-        resource.setrlimit(resource.RLIMIT_AS, (LIMIT, LIMIT))
-
-    outcome = run(["verify", claims], preexec_fn=limit)
-    tally.expect("memory refused by the system", outcome, lines_outcome([(3, "yes"), (4, "refused, memory"), (5, "yes")]))
-    for words in (["show", large], ["convert", large, "--to", "mc"]):
-        tally.expect(f"memory refused by the system, {words[0]}", run(words, preexec_fn=limit), NO_MEMORY)
-
-
 def main():
     tally = Tally()
     with refusing_program(tally, "refused memory") as (folder, refusing):
@@ -297,7 +276,6 @@ def main():
             for it in (try_examples, try_explained, try_several, try_words, try_larger, try_for_good):
                 it(tally, refusing)
             try_large(tally, refusing, folder)
-        try_a_limit(tally, folder)
     tally.finish()
 
 
