@@ -2,8 +2,9 @@
 """What the pages show: README.md the files and outputs that it quotes, and each crate's README.md the lines of a test."""
 import os
 import re
+import subprocess
 
-from lib.program import ROOT, Tally, contents, run
+from lib.program import MOST_WAITING, PROGRAM, ROOT, Tally, contents, run
 
 # A paragraph, and the block of text that follows it.
 QUOTED = re.compile(r"^([^\n]+)\n\n```(\w*)\n(.*?)^```$", re.MULTILINE | re.DOTALL)
@@ -13,11 +14,18 @@ def page(*names):
     return contents(os.path.join(ROOT, *names)).decode()
 
 
+def in_shell(command):
+    """What a command in brackets prints, such as one under limits."""
+    command = command.replace("./cafile", '"$0"')
+    return subprocess.run(["bash", "-c", command, PROGRAM], cwd=ROOT, capture_output=True, timeout=MOST_WAITING, check=False).stdout
+
+
 def try_output(tally, said, block):
     """The first command that the paragraph names prints the block, or begins with it; or the file that it names holds the block."""
-    command = re.search(r"`\./cafile ([^`]*)`", said)
+    command = re.search(r"`(\([^`]*)?\./cafile ([^`]*)`", said)
     if command:
-        tally.tell(f"./cafile {command[1]}", [] if run(command[1].split()).printed.startswith(block.encode()) else [f"doesn't print {block!r}"])
+        printed = in_shell(command[0].strip("`")) if command[1] else run(command[2].split()).printed
+        tally.tell(command[0], [] if printed.startswith(block.encode()) else [f"doesn't print {block!r}"])
         return
     file = re.search(r"`(examples/[^`]*)`", said)[1]
     tally.tell(f"README.md: {file}", [] if page(file) == block else ["is another text"])
