@@ -1,11 +1,12 @@
 #!/usr/bin/env -S python3 -B
 """A limit of address space, as a service sets it by `ulimit -v`, and files of each kind that need more.
 
-- Where the squares of a claim need more, that claim is refused for lack of memory, and those round it are judged: of a large RLE, of a large macrocell and
-  of a long run over a small file.
+- Where the squares of a claim need more, that claim is refused for lack of memory, and those round it are judged: of a large RLE, of a large
+  macrocell and of a long run over a small file.
 - Where a file's bytes, a rule file's table or a claim text need more, the text is out of memory, and other texts are judged.
 - `show` and `convert` of such files print nothing and are out of memory, on standard input too.
-- Under an ample limit all is judged, and under each limit between, no line is another than the ample one, except that it may be refused for lack of memory.
+- Under an ample limit all is judged, and under each limit between, a line is the ample one or refused for lack of memory, or the text is out of
+  memory.
 """
 import os
 import random
@@ -45,8 +46,8 @@ def soup(side, rule):
 
 def spread_cells():
     """An RLE of cells all over the plane."""
-    chance = random.Random(0)
-    return rle.tidy({(chance.randrange(-far_cells.FAR, far_cells.FAR), chance.randrange(-far_cells.FAR, far_cells.FAR)): 1 for _ in range(FAR_CELLS)}, "B3/S23", 0, 2)
+    chance, far = random.Random(0), far_cells.FAR
+    return rle.tidy({(chance.randrange(-far, far), chance.randrange(-far, far)): 1 for _ in range(FAR_CELLS)}, "B3/S23", 0, 2)
 
 
 def many_nodes():
@@ -102,34 +103,38 @@ def try_claims(tally, files):
         between(tally, f"a claim on {name}", path, whole)
 
 
-def large_texts(files):
-    """Claim texts that are out of memory as a whole, and the answers to each with ample memory: a file's bytes, a table or the text itself are large."""
-    soup_text, rule_text, long_text = ClaimText(files), ClaimText(files), ClaimText(files)
-    for text, claim, verdict, count in ((soup_text, "becomes large 0 large", "yes", 1), (rule_text, "still large", "no, cells differ after 1", 1),
-                                        (long_text, "still block", "yes", CLAIMS)):
-        if text is rule_text:
-            text.rule_path(files.path("wide.rule"))
-        text.load_path("block", "examples/block.rle")
-        text.load_path("large", files.path("dot.rle" if text is rule_text else "soup.rle"))
-        text.claim("still block", "yes")
-        for _ in range(count):
-            text.claim(claim, verdict)
-    return {name: (text.write(f"{name}.claims"), text.answers) for name, text in (("soup", soup_text), ("rule", rule_text), ("long", long_text))}
+def large_text(files, name, claims, rule=None):
+    """A claim text on a block and a file of this name, perhaps with a rule file, its path and its answers with ample memory."""
+    text = ClaimText(files)
+    text.load_path("block", "examples/block.rle")
+    text.load_path("large", files.path(name))
+    if rule:
+        text.rule_path(files.path(rule))
+    for claim, verdict in (("still block", "yes"), *claims):
+        text.claim(claim, verdict)
+    return text.write(f"of_{name}.claims"), text.answers
+
+
+def tell_text(tally, files, path, answers):
+    """Runs over a text that is out of memory as a whole, alone and with a small one before or after it."""
+    small, name = ClaimText(files), os.path.basename(path)
+    small.load_path("block", "examples/block.rle")
+    small.claim("still block", "yes")
+    small_path = small.write("small.claims")
+    lines, told = printed(small.answers, False, f"{small_path}: ".encode()), f"cafile: {path}: memory\n".encode()
+    tally.expect(f"{name}, too little space", run(["verify", path], **within(SPACE)), NO_MEMORY)
+    for paths in ((path, small_path), (small_path, path)):
+        tally.expect(f"{name}, with a small text", run(["verify", *paths], **within(SPACE)), Outcome(lines, told, 2))
+    tally.expect(f"{name}, ample space", run(["verify", path], **within(AMPLE)), outcome(answers, False))
+    between(tally, name, path, answers)
 
 
 def try_texts(tally, files):
-    """Texts that are out of memory as a whole, alone and with a small one before or after them."""
-    small, small_path = ClaimText(files), files.path("small.claims")
-    small.load_path("block", "examples/block.rle")
-    small.claim("still block", "yes")
-    small.write("small.claims")
-    for name, (path, answers) in large_texts(files).items():
-        lines, told = printed(small.answers, False, f"{small_path}: ".encode()), f"cafile: {path}: memory\n".encode()
-        tally.expect(f"{name}, too little space", run(["verify", path], **within(SPACE)), NO_MEMORY)
-        for paths in ((path, small_path), (small_path, path)):
-            tally.expect(f"{name}, with a small text", run(["verify", *paths], **within(SPACE)), Outcome(lines, told, 2))
-        tally.expect(f"{name}, ample space", run(["verify", path], **within(AMPLE)), outcome(answers, False))
-        between(tally, name, path, answers)
+    """Texts that are out of memory as a whole, since a file's bytes, a table or the text itself are large."""
+    files.path("block.rle", "x = 2, y = 2\n2o$2o!\n")
+    tell_text(tally, files, *large_text(files, "soup.rle", [("becomes large 0 large", "yes")]))
+    tell_text(tally, files, *large_text(files, "dot.rle", [("still large", "no, cells differ after 1")], "wide.rule"))
+    tell_text(tally, files, *large_text(files, "block.rle", [("still large", "yes")] * CLAIMS))
 
 
 def try_shown(tally, files, cells):

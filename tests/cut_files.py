@@ -1,6 +1,6 @@
 #!/usr/bin/env -S python3 -B
-"""Files of each kind that are cut after each of their bytes, beside the RLE and the macrocell that tests/macrocell.py cuts; numbers at their limits, as `show`
-tells them; and pipes that give bytes for ever, which end a run within seconds. What each comes to was worked out by hand.
+"""Files of each kind that are cut after each of their bytes, beside the RLE and the macrocell that tests/macrocell.py cuts; numbers at their limits,
+as `show` tells them; and pipes that give bytes for ever, of which a run ends within seconds. What each comes to was worked out by hand.
 """
 import os
 import tempfile
@@ -25,16 +25,17 @@ WIDE = "@RULE Wide\n@TABLE\nn_states:256\nneighborhood:Moore\nsymmetries:none\n"
 # A rule file, and the lengths up to which it has each fault; None where it has none.
 TABLE = b"@RULE Spread\n@TABLE\nn_states:3\nneighborhood:vonNeumann\nsymmetries:rotate4\nvar a={1,2}\n0,a,0,0,0,a\n"
 TABLE_FAULTS = (
-    (6, "line 1 no rule line"), (13, "line 1 no table"), (18, "line 2 no table"), (20, "line 2 states"), (29, "line 3 states"), (31, "line 3 neighborhood"),
-    (53, "line 4 neighborhood"), (55, "line 4 symmetries"), (72, "line 5 symmetries"), (74, None), (84, "line 6 syntax"), (86, None), (96, "line 7 syntax"),
-    (98, None),
+    (6, "line 1 no rule line"), (13, "line 1 no table"), (18, "line 2 no table"), (20, "line 2 states"), (29, "line 3 states"),
+    (31, "line 3 neighborhood"), (53, "line 4 neighborhood"), (55, "line 4 symmetries"), (72, "line 5 symmetries"), (74, None), (84, "line 6 syntax"),
+    (86, None), (96, "line 7 syntax"), (98, None),
 )
 
 # A claim text, and the lengths up to which it has a fault in a line, or so many answers.
 CLAIMS = b"claims 2\nload b examples/block.rle\nload e examples/empty.rle\nstill b\nbecomes b 12 e shift 1 0\ndies b 3\n"
 ANSWERS = [(4, "yes"), (5, "no, cells differ after 12"), (6, "no, cells differ after 3")]
 CLAIM_FAULTS = (
-    (0, 0), (7, "1"), (9, 0), (16, "2"), (35, 0), (42, "3"), (61, 0), (67, "4"), (69, 1), (82, "5"), (84, 2), (92, "5"), (94, 2), (101, "6"), (103, 3),
+    (0, 0), (7, "1"), (9, 0), (16, "2"), (35, 0), (42, "3"), (61, 0), (67, "4"), (69, 1), (82, "5"), (84, 2), (92, "5"), (94, 2), (101, "6"),
+    (103, 3),
 )
 
 # One cell in the corner of squares up to level 119, and that square as the south-east part of the root.
@@ -42,15 +43,19 @@ DEEP = (chain(CELL, "{} 0 0 0", 119) + "120 0 0 0 117\n").encode()
 
 HEADER = "x = 3, y = 3, rule = B3/S23\n"
 
+# The numbers of rows after which a file goes on, which are as great as counts may be.
+FAR_DOWN = f"{HEADER}{4 * EDGE}${4 * EDGE}$"
+
 # Files with numbers at limits or beyond, and what `show` comes to.
 SHOWN = (
-    (f"{HEADER}{4 * EDGE}${4 * EDGE}$!", figures(0, 0, "none", "rle")), (f"{HEADER}{4 * EDGE}${4 * EDGE}$o!", fault("bad pattern: rle range")),
-    (f"{HEADER}{4 * EDGE}${4 * EDGE}$o", fault("bad pattern: rle no end")), (f"{HEADER}{4 * EDGE}${4 * EDGE}$", fault("bad pattern: rle no end")),
+    (f"{FAR_DOWN}!", figures(0, 0, "none", "rle")), (f"{FAR_DOWN}o!", fault("bad pattern: rle range")),
+    (f"{FAR_DOWN}o", fault("bad pattern: rle no end")), (FAR_DOWN, fault("bad pattern: rle no end")),
     (f"#CXRLE Gen={'0' * 30}1\nx = {'9' * 40}, y = 1\no!", figures(1, 1, "0 0 1 1", "rle")),
     (f"#CXRLE Gen={EDGE * 8 - 1}\nx = 1, y = {'9' * 40}\no!", figures(EDGE * 8 - 1, 1, "0 0 1 1", "rle")),
-    *((DEEP.decode() + line, fault("bad pattern: macrocell level")) for line in ("121 118 0 0 0\n", "121 0 0 0 118", "119 118 0 0 0", "120 118 0 0 0")),
-    (DEEP.decode() + "121 0 0 0\n", fault("bad pattern: macrocell syntax")), (DEEP.decode() + "120 117 0 0 117\n", fault("bad pattern: macrocell range")),
-    (DEEP.decode() + "120 0 0 0 118\n", fault("bad pattern: macrocell level")), (DEEP.decode() + "120 0 0 0 119\n", fault("bad pattern: macrocell forward")),
+    *((DEEP.decode() + line, fault(f"bad pattern: macrocell {kind}")) for line, kind in (
+        ("121 118 0 0 0\n", "level"), ("121 0 0 0 118", "level"), ("119 118 0 0 0", "level"), ("120 118 0 0 0", "level"), ("121 0 0 0\n", "syntax"),
+        ("120 117 0 0 117\n", "range"), ("120 0 0 0 118\n", "level"), ("120 0 0 0 119\n", "forward"),
+    )),
 )
 
 
@@ -95,20 +100,23 @@ def cut_deep(length):
     return figures(0, 1, f"{-(1 << level - 1)} {-(1 << level - 1)} 1 1") if level <= 61 else fault("bad pattern: macrocell range")
 
 
+def tell_cut(tally, files, name, text, words, wanted):
+    """Tells what is wrong with runs over a text that is cut after each of its bytes."""
+    complaints = []
+    for length in range(len(text) + 1):
+        path = files.path("cut", text[:length])
+        got = run([path if it == "CUT" else it for it in words])
+        if got != wanted(length):
+            complaints.append(f"{length} bytes, {text[:length][-60:]!r}: wanted {wanted(length)}, got {got}")
+    tally.tell(f"{name} cut after each of {len(text)} bytes", complaints)
+
+
 def try_cut(tally, files):
     """Each file, cut after each of its bytes."""
-    wide = files.path("wide.rule", WIDE)
-    for name, text, words, wanted in (
-        ("an RLE", ITEMS, ["show", "CUT", "--rule", wide], cut_items), ("a rule file", TABLE, ["show", "examples/block.rle", "--rule", "CUT"], cut_table),
-        ("a claim text", CLAIMS, ["verify", "CUT"], cut_claims), ("a macrocell of 120 levels", DEEP, ["show", "CUT"], cut_deep),
-    ):
-        complaints = []
-        for length in range(len(text) + 1):
-            path = files.path("cut", text[:length])
-            got = run([path if it == "CUT" else it for it in words])
-            if got != wanted(length):
-                complaints.append(f"{length} bytes, {text[:length][-60:]!r}: wanted {wanted(length)}, got {got}")
-        tally.tell(f"{name} cut after each of {len(text)} bytes", complaints)
+    tell_cut(tally, files, "an RLE", ITEMS, ["show", "CUT", "--rule", files.path("wide.rule", WIDE)], cut_items)
+    tell_cut(tally, files, "a rule file", TABLE, ["show", "examples/block.rle", "--rule", "CUT"], cut_table)
+    tell_cut(tally, files, "a claim text", CLAIMS, ["verify", "CUT"], cut_claims)
+    tell_cut(tally, files, "a macrocell of 120 levels", DEEP, ["show", "CUT"], cut_deep)
 
 
 def try_shown(tally, files):
@@ -140,7 +148,8 @@ def expect_end(tally, words, begin, more, wanted):
     complaints = [] if got == wanted else [f"wanted: {wanted}", f"got:    {got}"]
     if not MAX_FILE < sum(given) <= MAX_FILE + MOST_BEYOND:
         complaints.append(f"it took {sum(given)} bytes")
-    tally.tell(f"{' '.join(map(os.path.basename, words))}, {begin + more[:8]!r} without end: {seconds:.2f} s", complaints + excess(seconds, BOUND))
+    name = f"{' '.join(map(os.path.basename, words))}, {begin + more[:8]!r} without end"
+    tally.tell(f"{name}: {seconds:.2f} s", complaints + excess(seconds, BOUND))
 
 
 def try_endless(tally, files):

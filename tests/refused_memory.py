@@ -122,6 +122,7 @@ def try_examples(tally, refusing):
         outcomes = refusing.sweep(words, itertools.count(1, step))
         for_good = refusing.sweep(words, itertools.count(1), goes_on=True) if step == 1 else None
         complaints, told = judged(example(name), outcomes, for_good)
+        complaints += wrong_for_good(example(name), for_good or {})
         tally.tell(f"refused memory, examples/{name}.claims: {told}", complaints if outcomes else ["no allocation was refused"])
 
 
@@ -253,6 +254,13 @@ def consists_of(texts, outcome):
     told = b"".join(b"cafile: " + before + b"memory\n" for before in lost)
     status = 2 if told or b": refused, " in outcome.printed else int(b": no, " in outcome.printed)
     return not rest and (outcome.complaint, outcome.status) == (told, status)
+
+
+def wrong_for_good(ample, outcomes):
+    """What is wrong with the outcomes of a sweep that goes on, over one text: each is the ample one, out of memory, or has claims that are."""
+    answers = answers_in(ample.printed)
+    return [f"from allocation {number} on: {it}" for number, it in outcomes.items()
+            if it not in (ample, NO_MEMORY) and not consists_of([(b"", answers)], it)]
 
 
 def try_for_good(tally, refusing):
