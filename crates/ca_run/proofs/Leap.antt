@@ -15,11 +15,11 @@ use Rattle.ca_run.specs.Centre.{IsCentre}
 use Rattle.ca_run.specs.Leaping.{LeaperView, LeaperGrows}
 use Rattle.ca_run.specs.RecentLeaps.{IsLeap}
 use Rattle.ca_run.specs.inner.Shown.{ShowsAt, FourShow, ThreeShow, TwoShow, NineShow, side}
-use Rattle.ca_run.proofs.Shown.{at_stays, three_stay, four_was, four_stay, four_go, at_from, centre_at, is_centre_at, at_corner}
+use Rattle.ca_run.proofs.Shown.{spends_same, at_stays, three_stay, four_was, four_stay, four_go, at_from, centre_at, is_centre_at, at_corner}
 
 -- a leaper that does nothing goes on
 pub goes_on_same : (Rule : Type 0) (l : LeaperView Rule) → IsSoundStore l.nodes → LeaperGrows Rule l l
-goes_on_same Rule l sound = record { rule = refl; grows = grows_same l.nodes sound }
+goes_on_same Rule l sound = record { rule = refl; grows = grows_same l.nodes sound; memo = refl; spends = spends_same l.spent }
 
 -- the centre that a call gives shows the plane later
 pub centre_ok : {E : Type 0} (next : List ℕ → ℕ) (old new : List Node) → IsSoundStore old → Grows old new → (r : Result ℕ E) (id k j : ℕ) (p : ℤ → ℤ → ℕ) (a b : ℤ) → ShowsAt old id (suc (suc k)) p a b

@@ -35,3 +35,5 @@ pub mod BrickEdges
 pub mod BrickWords
 pub mod Walls
 pub mod DenseRuns
+pub mod OrdersOfUse
+pub mod MemoKeys

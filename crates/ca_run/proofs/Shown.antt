@@ -15,10 +15,12 @@ use Rattle.ca_quad.proofs.Growth.{grows_on}
 use Rattle.ca_quad.proofs.Cells.{cells_stay, of_stays}
 use Rattle.ca_run.specs.declared.leaper.trio.Trio.{Trio}
 use Rattle.ca_run.specs.Centre.{centre, IsCentre}
+use Rattle.ca_run.specs.Spent.{Spent, Spends}
 use Rattle.ca_run.specs.Leaping.{LeaperView, LeaperGrows}
 use Rattle.ca_run.specs.inner.Shown.{Looks, ShowsAt, FourShow, ThreeShow, TwoShow, AreThree, side}
-use Rattle.ca_run.specs.Memo.{memo_result, AreCentres, IsLeaper}
-use Rattle.ca_run.specs.FullLeaps.{HasFullLeap, AreFullLeaps}
+use Rattle.ca_run.specs.Pages.{MemoView, HasFullLeap, HasSingle, RemembersNoMore}
+use Rattle.ca_run.specs.Slots.{SlotsView}
+use Rattle.ca_run.specs.Memo.{AreFullLeaps, AreSingles, IsLeaper}
 use Rattle.ca_run.specs.RecentCentres.{HasRecent, AreRecentCentres}
 use Rattle.ca_run.specs.RecentLeaps.{IsLeap, AreRecentLeaps}
 use Rattle.ca_run.proofs.After.{after_again}
@@ -26,8 +28,21 @@ use Rattle.ca_run.proofs.Looks.{looks_from, looks_together, looks_nw, looks_ne, 
 
 -- ---- growth
 
+-- work is done, and then more
+pub spends_again : {old mid new : Spent} → Spends old mid → Spends mid new → Spends old new
+spends_again g h = record { limit = h.limit ∙ g.limit; rises = omega (arith, g.rises, h.rises) }
+
+-- nothing is done
+pub spends_same : (spent : Spent) → Spends spent spent
+spends_same spent = record { limit = refl; rises = omega arith }
+
 pub goes_on_again : (Rule : Type 0) (old mid new : LeaperView Rule) → LeaperGrows Rule old mid → LeaperGrows Rule mid new → LeaperGrows Rule old new
-goes_on_again Rule old mid new g h = record { rule = h.rule ∙ g.rule; grows = grows_on old.nodes mid.nodes new.nodes g.grows h.grows }
+goes_on_again Rule old mid new g h = record {
+  rule = h.rule ∙ g.rule;
+  grows = grows_on old.nodes mid.nodes new.nodes g.grows h.grows;
+  memo = h.memo ∙ g.memo;
+  spends = spends_again g.spends h.spends;
+}
 
 -- four calls, one after another
 pub four_go_on : {Rule : Type 0} {l0 l1 l2 l3 l4 : LeaperView Rule} → LeaperGrows Rule l0 l1 → LeaperGrows Rule l1 l2 → LeaperGrows Rule l2 l3 → LeaperGrows Rule l3 l4 → LeaperGrows Rule l0 l4
@@ -70,8 +85,8 @@ module _ (old new : List Node) (sound : IsSoundStore old) (grows : Grows old new
         ∙ (h.has_cells u v s t ∙ ap (λ f. centre next f (2 ^ k) (2 ^ j) u v) (sym (cells_stay old new sound grows (suc (suc k)) id h.is_square)));
   }
 
-  pub centres_stay : (next : List ℕ → ℕ) (results : List ((ℕ × ℕ) × ℕ)) → AreCentres next old results → AreCentres next new results
-  centres_stay next results h id j half e =
+  pub singles_stay : (next : List ℕ → ℕ) (memo : MemoView) → AreSingles next old memo → AreSingles next new memo
+  singles_stay next memo h id j half e =
       let there = h id j half e in
       (there.0, centre_stays next id there.0 j half there.1)
 
@@ -125,21 +140,22 @@ module _ (old new : List Node) (sound : IsSoundStore old) (grows : Grows old new
       let there = h nw ne sw se half e in
       (there.0, leap_stays next there.0 nw ne sw se half there.1)
 
-  pub full_leaps_stay : (next : List ℕ → ℕ) (halves : List (Option ℕ)) → AreFullLeaps next old halves → AreFullLeaps next new halves
-  full_leaps_stay next halves h id half e =
+  pub full_leaps_stay : (next : List ℕ → ℕ) (memo : MemoView) → AreFullLeaps next old memo → AreFullLeaps next new memo
+  full_leaps_stay next memo h id half e =
       let there = h id half e in
       (there.0, centre_stays next id there.0 there.0 half there.1)
 
 -- a leaper stays one as its store grows
-pub leaper_stays : {old new : List Node} {next : List ℕ → ℕ} {S : Type 0} {results : List ((ℕ × ℕ) × ℕ)} {slots : List (Option (ℕ × ℕ × ℕ))} {leaps : List (Option (ℕ × ℕ × ℕ × ℕ × ℕ))} {halves : List (Option ℕ)} {masks : Option (ℕ × ℕ)}
-    → IsLeaper next S old results slots leaps halves masks → Grows old new → IsLeaper next S new results slots leaps halves masks
-leaper_stays h grows = record {
+pub leaper_stays : {old new : List Node} {next : List ℕ → ℕ} {S : Type 0} {memo : MemoView} {slots : SlotsView (ℕ × ℕ × ℕ)} {leaps : SlotsView (ℕ × ℕ × ℕ × ℕ × ℕ)} {capacity : ℕ} {masks : Option (ℕ × ℕ)}
+    → IsLeaper next S old memo slots leaps capacity masks → Grows old new → IsLeaper next S new memo slots leaps capacity masks
+leaper_stays {memo} h grows = record {
   rule = h.rule;
   squares = grows.sound;
-  centres = centres_stay _ _ h.squares grows _ _ h.centres;
+  singles = singles_stay _ _ h.squares grows _ memo h.singles;
   recent_centres = kept_centres_stay _ _ h.squares grows _ _ h.recent_centres;
   recent_leaps = recent_leaps_stay _ _ h.squares grows _ _ h.recent_leaps;
-  full_leaps = full_leaps_stay _ _ h.squares grows _ _ h.full_leaps;
+  full_leaps = full_leaps_stay _ _ h.squares grows _ memo h.full_leaps;
+  within = h.within;
   by_masks = h.by_masks;
 }
 
@@ -269,10 +285,10 @@ centre_of next nodes id k j half there square =
     subst (λ l. IsCentre next nodes id l j half) same there.1
 
 -- what is remembered for a square is its centre
-pub recalled : (next : List ℕ → ℕ) (nodes : List Node) (results : List ((ℕ × ℕ) × ℕ)) (id k j : ℕ) (found : Option ℕ) → AreCentres next nodes results → IsOf nodes id (suc (suc k))
-    → found ≡ memo_result results id j → IfSome found (IsCentre next nodes id k j)
-recalled next nodes results id k j None all square e = tt
-recalled next nodes results id k j (Some half) all square e = centre_of next nodes id k j half (all id j half (sym e)) square
+pub recalled : (next : List ℕ → ℕ) (nodes : List Node) (memo : MemoView) (id k j : ℕ) (found : Option ℕ) → AreSingles next nodes memo → IsOf nodes id (suc (suc k))
+    → IfSome found (HasSingle memo id j) → IfSome found (IsCentre next nodes id k j)
+recalled next nodes memo id k j None all square e = tt
+recalled next nodes memo id k j (Some half) all square e = centre_of next nodes id k j half (all id j half e) square
 
 -- and so is what a slot has for it
 pub kept_recalled : (next : List ℕ → ℕ) (nodes : List Node) (slots : List (Option (ℕ × ℕ × ℕ))) (id k j : ℕ) (found : Option ℕ) → AreRecentCentres next nodes slots → IsOf nodes id (suc (suc k))
@@ -313,17 +329,17 @@ leaps_more next nodes old new k nw ne sw se half all this more a b c d e h = eli
   )
 ]
 
--- what the slot of a square has is its centre
-pub full_leap_recalled : (next : List ℕ → ℕ) (nodes : List Node) (halves : List (Option ℕ)) (id k j : ℕ) (found : Option ℕ) → j ≡ k → AreFullLeaps next nodes halves → IsOf nodes id (suc (suc k))
-    → IfSome found (HasFullLeap halves id) → IfSome found (IsCentre next nodes id k j)
-full_leap_recalled next nodes halves id k j None time all square e = tt
-full_leap_recalled next nodes halves id k j (Some half) time all square e =
+-- what its page has for a square is its centre
+pub full_leap_recalled : (next : List ℕ → ℕ) (nodes : List Node) (memo : MemoView) (id k j : ℕ) (found : Option ℕ) → j ≡ k → AreFullLeaps next nodes memo → IsOf nodes id (suc (suc k))
+    → IfSome found (HasFullLeap memo id) → IfSome found (IsCentre next nodes id k j)
+full_leap_recalled next nodes memo id k j None time all square e = tt
+full_leap_recalled next nodes memo id k j (Some half) time all square e =
     let there = all id half e in
     let same : there.0 ≡ k = omega (arith, there.1.is_square.is_level, square.is_level) in
     subst (λ t. IsCentre next nodes id k t half) (sym time) (subst (λ l. IsCentre next nodes id l l half) same there.1)
 
 -- and so after a write
-pub full_leaps_more : (next : List ℕ → ℕ) (nodes : List Node) (old new : List (Option ℕ)) (id k j half : ℕ) → j ≡ k → AreFullLeaps next nodes old → IsCentre next nodes id k j half
+pub full_leaps_more : (next : List ℕ → ℕ) (nodes : List Node) (old new : MemoView) (id k j half : ℕ) → j ≡ k → AreFullLeaps next nodes old → IsCentre next nodes id k j half
     → ((other centre : ℕ) → HasFullLeap new other centre → HasFullLeap old other centre ⊎ ((other ≡ id) × (centre ≡ half))) → AreFullLeaps next nodes new
 full_leaps_more next nodes old new id k j half time all this more other centre h = elim (more other centre h) [
   | inl e ↦ all other centre e
@@ -333,6 +349,32 @@ full_leaps_more next nodes old new id k j half time all this more other centre h
         (subst (λ x. IsCentre next nodes other k j x) (sym same.1) (subst (λ x. IsCentre next nodes x k j half) (sym same.0) this)),
   )
 ]
+
+-- and so is a single one after a write
+pub singles_more : (next : List ℕ → ℕ) (nodes : List Node) (old new : MemoView) (id k j half : ℕ) → AreSingles next nodes old → IsCentre next nodes id k j half
+    → ((other time centre : ℕ) → HasSingle new other time centre → HasSingle old other time centre ⊎ ((other ≡ id) × (time ≡ j) × (centre ≡ half))) → AreSingles next nodes new
+singles_more next nodes old new id k j half all this more other time centre h = elim (more other time centre h) [
+  | inl e ↦ all other time centre e
+  | inr same ↦ (
+    k,
+    subst (λ x. IsCentre next nodes other k time x) (sym same.2)
+        (subst (λ x. IsCentre next nodes other k x half) (sym same.1) (subst (λ x. IsCentre next nodes x k j half) (sym same.0) this)),
+  )
+]
+
+-- what a look-up leaves
+pub leaper_looked : {next : List ℕ → ℕ} {S : Type 0} {nodes : List Node} {old new : MemoView} {slots : SlotsView (ℕ × ℕ × ℕ)} {leaps : SlotsView (ℕ × ℕ × ℕ × ℕ × ℕ)} {capacity : ℕ} {masks : Option (ℕ × ℕ)}
+    → RemembersNoMore old new → IsLeaper next S nodes old slots leaps capacity masks → IsLeaper next S nodes new slots leaps capacity masks
+leaper_looked {old} {new} {slots} {leaps} f h = record {
+  rule = h.rule;
+  squares = h.squares;
+  full_leaps = λ id half e. h.full_leaps id half (f.full_leaps id half e);
+  singles = λ id j half e. h.singles id j half (f.singles id j half e);
+  recent_centres = h.recent_centres;
+  recent_leaps = h.recent_leaps;
+  within = omega (arith, f.capacity, h.within);
+  by_masks = h.by_masks;
+}
 
 -- ---- parts
 

@@ -4,7 +4,9 @@ use Rattle.ca_plane.specs.Generations.{cells_after}
 use Rattle.ca_quad.specs.declared.node.Node.{Node}
 use Rattle.ca_quad.specs.declared.tree.Tree.{Tree}
 use Rattle.ca_quad.specs.Trees.{IsTree, cell}
+use Rattle.ca_run.specs.declared.fault.LeapFault.{LeapFault}
 use Rattle.ca_run.specs.Leaping.{LeaperView, LeaperGrows}
+use Rattle.ca_run.specs.Spent.{EndsAtLimit}
 
 -- a tree that can be advanced by n generations: of at most 2^64 cells a side, by at most 2^60 generations
 pub record CanAdvance (nodes : List Node) (tree : Tree) (n : ℕ) : Type 0 where
@@ -20,9 +22,10 @@ pub record IsAdvanced (next : List ℕ → ℕ) (old : List Node) (first : Tree)
   pub cells : (x y : ℤ) → cell new tree x y ≡ cells_after next (cell old first) n x y
 
 -- what a call comes to that takes a tree n generations on: Ok with the later tree, which is the same one where n is 0;
--- and what a leaper had stays
-pub record Advances {E : Type 0} (Rule : Type 0) (next : List ℕ → ℕ) (old : LeaperView Rule)
-    (tree : Tree) (n : ℕ) (new : LeaperView Rule) (result : Result Tree E) : Type 0 where
+-- want of work is told only at its limit; and what a leaper had stays
+pub record Advances (Rule : Type 0) (next : List ℕ → ℕ) (old : LeaperView Rule)
+    (tree : Tree) (n : ℕ) (new : LeaperView Rule) (result : Result Tree LeapFault) : Type 0 where
   pub advanced : IfOk result (IsAdvanced next old.nodes tree n new.nodes)
   pub none : n ≡ 0 → result ≡ Ok tree
+  pub work : EndsAtLimit new.spent result
   pub goes_on : LeaperGrows Rule old new

@@ -31,6 +31,9 @@ pub enum LeapFault {
     /// A growth was refused.
     #[error("out of memory")]
     Memory,
+    /// As much work was done as may be.
+    #[error("out of work")]
+    Work,
 }
 
 impl From<ca_plane::Memory> for LeapFault {

@@ -1,6 +1,6 @@
 //! Leaps by powers of two over shared squares (Gosper, "Exploiting regularities in large cellular spaces").
 
-ghost use Rattle.std.specs.Prelude.{◌≡◌, ℕ, suc, ℤ, IfOk, IfSome};
+ghost use Rattle.std.specs.Prelude.{◌≡◌, ℕ, suc, ◌≤◌, ℤ, IfOk, IfSome};
 ghost use Rattle.ca_quad.specs.Squares.{IsOf, dot, together};
 ghost use Rattle.ca_quad.specs.Sound.{IsSoundStore};
 ghost use Rattle.ca_quad.specs.Trees.{AreFour, ShowsSquare};
@@ -8,6 +8,7 @@ ghost use Rattle.ca_run.specs.Centre.{IsCentre};
 ghost use Rattle.ca_run.specs.Leaping.{LeaperGrows};
 ghost use Rattle.ca_run.specs.Masks.{GoesBy};
 ghost use Rattle.ca_run.specs.RecentLeaps.{IsLeap};
+ghost use Rattle.ca_run.specs.Spent.{EndsAtLimit};
 ghost use Rattle.ca_run.specs.inner.Shown.{ShowsAt, FourShow};
 
 mod advance;
@@ -15,10 +16,11 @@ mod base;
 mod centres;
 mod dense;
 mod from_wall;
-mod full_leaps;
+mod key;
 mod lanes;
 mod memo;
 mod milestone;
+mod page;
 mod parts;
 mod planes;
 mod recent_centres;
@@ -31,15 +33,17 @@ mod trio;
 mod wide_square;
 mod words;
 
+use crate::fault::LeapFault;
+use crate::work::Work;
 use ca_plane::{Automaton, Memory};
 use ca_quad::{Id, Store};
-use full_leaps::FullLeaps;
 use memo::Memo;
 pub use milestone::Milestone;
 use recent_centres::RecentCentres;
 use recent_leaps::RecentLeaps;
 use std::alloc::Global;
 use std::marker::Model;
+use std::num::NonZeroUsize;
 
 /// A store of squares, a rule, and the centres of squares that were worked out so far.
 #[derive(Drop)]
@@ -50,7 +54,9 @@ pub struct Leaper<A: Automaton> {
     memo: Memo,
     recent_centres: RecentCentres,
     recent_leaps: RecentLeaps,
-    full_leaps: FullLeaps,
+    // How many results may be remembered.
+    capacity: usize,
+    work: Work,
 }
 
 impl<A: Automaton> Model for Leaper<A> {
@@ -59,30 +65,75 @@ impl<A: Automaton> Model for Leaper<A> {
 
     ghost Value = { LeaperView A };
 
-    ghost view = { λ l. record { rule = l.rule; nodes = l.store } };
+    ghost view = { λ l. record { rule = l.rule; nodes = l.store; memo = l.capacity; spent = l.work } };
 
     ghost invariant = { λ l. IsLeaper (A.next_of l.rule) (A.sound l.rule) l.store l.memo l.recent_centres
-        l.recent_leaps l.full_leaps l.masks };
+        l.recent_leaps l.capacity l.masks };
 }
 
 impl<A: Automaton> Leaper<A> {
-    /// A leaper over the squares of a store, which has worked out nothing yet.
-    pub fn new(alloc: Global, store: Store, rule: A) -> Leaper<A>
-        ensures store { result.nodes ≡ store }
-        ensures rule { result.rule ≡ rule }
+    /// A leaper over the squares of a store, which has worked out nothing yet, and may work out so many results.
+    pub fn new(alloc: Global, store: Store, rule: A, memo: usize, work: u64) -> Result<Leaper<A>, Memory>
+    where
+        A: Drop,
+        requires least { 1 ≤ memo }
+        requires most { memo ≤ 16777216 }
+        ensures store { IfOk result (λ l. l.nodes ≡ store) }
+        ensures rule { IfOk result (λ l. l.rule ≡ rule) }
+        ensures memo { IfOk result (λ l. l.memo ≡ memo) }
+        ensures used { IfOk result (λ l. l.spent.used ≡ 0) }
+        ensures limit { IfOk result (λ l. l.spent.limit ≡ work) }
     {
+
         let _states = rule.states();
         let _squares = store.count();
         let masks = rule.masks();
-        Leaper {
+        // A quarter for results that cost little, an eighth for those by the parts of squares.
+        let centres = memo / 4;
+        let leaps = memo / 8;
+        let entries = NonZeroUsize::new(memo - (centres + leaps)).unwrap_or(NonZeroUsize::MIN);
+        Ok(Leaper {
             store,
             rule,
             masks,
-            memo: Memo::new(alloc),
-            recent_centres: RecentCentres::new(alloc),
-            recent_leaps: RecentLeaps::new(alloc),
-            full_leaps: FullLeaps::new(alloc),
-        }
+            memo: Memo::new(alloc, entries)?,
+            recent_centres: RecentCentres::new(alloc, centres),
+            recent_leaps: RecentLeaps::new(alloc, leaps),
+            capacity: memo,
+            work: Work::new(work),
+        })
+    }
+
+    /// How many results were worked out so far: no more than may be. A result is the centre of a square that isn't
+    /// empty, after some generations, that wasn't remembered; or a brick of a plane that is stepped, one generation on.
+    pub fn used(&self) -> u64
+        ensures value { result ≡ self.now.spent.used }
+        ensures most { result ≤ self.now.spent.limit }
+    {
+        let _ = &self.store;
+        self.work.used()
+    }
+
+    /// How many entries the memo has, and slots for more: no more than were asked for. An entry is one result, or up to 16
+    /// results at full leap of squares with neighbouring numbers.
+    pub fn remembered(&self) -> usize
+        ensures { result ≤ self.now.memo }
+    {
+        let _ = &self.store;
+        self.memo
+            .len()
+            .saturating_add(self.recent_centres.len())
+            .saturating_add(self.recent_leaps.len())
+    }
+
+    // Counts a result before it is worked out.
+    fn charge(&mut self, units: u64) -> Result<(), LeapFault>
+        ensures goes_on { LeaperGrows A self.old self.new }
+        ensures same { self.new.nodes ≡ self.old.nodes }
+        ensures work { EndsAtLimit self.new.spent result }
+    {
+        let _ = &self.store;
+        self.work.charge(units)
     }
 
     /// The store of the squares.
@@ -103,17 +154,21 @@ impl<A: Automaton> Leaper<A> {
     }
 
     // What is remembered for a square.
-    fn recall(&self, id: Id, grain: u8, j: u8) -> Option<Id>
-        requires { IsOf self.now.nodes id (suc (suc grain)) }
-        ensures { IfSome result (IsCentre (A.next_of self.now.rule) self.now.nodes id grain j) }
+    fn recall(&mut self, id: Id, grain: u8, j: u8) -> Option<Id>
+        requires { IsOf self.old.nodes id (suc (suc grain)) }
+        ensures centre { IfSome result (IsCentre (A.next_of self.old.rule) self.old.nodes id grain j) }
+        ensures same { self.new ≡ self.old }
     {
+        if self.is_tile(grain) {
+            return None;
+        }
         if j == grain {
-            return self.full_leaps.get(id);
+            return self.memo.full_leap(id);
         }
         if self.is_cheap(grain) {
             return self.recent_centres.get(id, j);
         }
-        self.memo.get(id, j)
+        self.memo.single(id, j)
     }
 
     // Remembers the centre of a square.
@@ -121,14 +176,17 @@ impl<A: Automaton> Leaper<A> {
         requires { IsCentre (A.next_of self.old.rule) self.old.nodes id grain j half }
         ensures { self.new ≡ self.old }
     {
+        if self.is_tile(grain) {
+            return Ok(());
+        }
         if j == grain {
-            return self.full_leaps.put(id, half);
+            return self.memo.put_full_leap(id, half);
         }
         if self.is_cheap(grain) {
             self.recent_centres.put(id, j, half);
             return Ok(());
         }
-        self.memo.put(id, j, half)
+        self.memo.put_single(id, j, half)
     }
 
     // What is remembered for four squares.
@@ -147,6 +205,11 @@ impl<A: Automaton> Leaper<A> {
     {
         let _ = grain;
         self.recent_leaps.put(nw, ne, sw, se, half);
+    }
+
+    // Whether a square is a tile, whose centre costs less to work out again than to remember.
+    fn is_tile(&self, grain: u8) -> bool {
+        grain == 2 && self.masks.is_some()
     }
 
     // Whether the centre of a square is worked out on words, which costs little.

@@ -11,6 +11,7 @@ mod points;
 mod row;
 mod watch;
 mod window;
+mod work;
 
 pub use fault::{LeapFault, RunFault};
 pub use generations::{step, steps};

@@ -3,13 +3,16 @@
 ghost use Rattle.std.specs.Prelude.{◌≡◌, ℕ, ◌+◌, ◌<◌, ◌≤◌, ◌^◌, List, [], length, if◌then◌else◌, OnOk, IfOk};
 ghost use Rattle.ca_plane.specs.Generations.{cells_after};
 ghost use Rattle.ca_quad.specs.Trees.{cell};
+ghost use Rattle.ca_run.specs.Spent.{Spends, EndsAtLimit};
 ghost use Rattle.ca_run.specs.inner.Bricks.{WallShows, HasNeighbours, IsNotIn, AllHaveNeighbours, CanGoOn, IsInPlace, HasBlankEdge};
 
 use super::queue::Queue;
 use super::step::generation;
 use super::wall::Wall;
+use crate::fault::LeapFault;
 use crate::leaper::{Leaper, Milestone};
 use crate::watch::Watch;
+use crate::work::Work;
 use ca_plane::{Automaton, Memory};
 use ca_quad::Tree;
 use std::alloc::Global;
@@ -49,7 +52,8 @@ fn wake_next(is_first: bool, alloc: Global, queue: &mut Queue, awake: &mut Vec<u
 }
 
 impl Wall {
-    /// The wall n generations on. The run began with a tree, so many generations before.
+    /// The wall n generations on. The run began with a tree, so many generations before. Each brick that is stepped is
+    /// counted before.
     pub(crate) fn later<A: Automaton, W: Watch>(
         mut self,
         alloc: Global,
@@ -58,20 +62,25 @@ impl Wall {
         leaper: &Leaper<A>,
         first: &Tree,
         reached: u64,
+        work: &mut Work,
         watch: &mut W,
-    ) -> Result<Wall, Memory>
+    ) -> Result<Wall, LeapFault>
         requires begins { CanGoOn (A.next_of leaper.now.rule) masks (cell leaper.now.nodes first.now) reached n self }
         requires time { reached + n ≤ 2 ^ 60 }
         ensures shows { IfOk result (λ later. WallShows later 0
             (cells_after (A.next_of leaper.now.rule) (cell leaper.now.nodes first.now) (reached + n))) }
         ensures place { IfOk result (IsInPlace self) }
+        ensures spends { Spends work.old work.new }
+        ensures work { EndsAtLimit work.new result }
     {
         let count = self.bricks.len();
         let mut awake = inner_bricks(alloc, self.across, count)?;
         let mut queue = Queue::new(alloc, count)?;
         let mut before = blank_bricks(alloc, count)?;
         'generations: for k in 0..n {
-            self.work = self.work.saturating_add(awake.len() as u64);
+            let steps = awake.len() as u64;
+            work.charge(steps)?;
+            self.work = self.work.saturating_add(steps);
             generation(
                 self.across,
                 &mut self.bricks,

@@ -5,6 +5,7 @@ ghost use Rattle.ca_quad.specs.Sound.{IsSoundStore};
 ghost use Rattle.ca_quad.specs.Trees.{IsTree};
 ghost use Rattle.ca_run.specs.Advanced.{CanAdvance, IsAdvanced, Advances};
 ghost use Rattle.ca_run.specs.Leaping.{LeaperGrows};
+ghost use Rattle.ca_run.specs.Spent.{EndsAtLimit};
 ghost use Rattle.ca_run.specs.inner.Padded.{IsPadded};
 
 use super::dense::Reached;
@@ -20,8 +21,8 @@ impl<A: Automaton> Leaper<A> {
     ///
     /// # Errors
     ///
-    /// Fails where there is no memory for more squares or results. Every tree stays as it was, and later
-    /// calls go on with what was worked out so far.
+    /// `Memory` where there is no memory for more squares or results, and `Work` where as many results were worked
+    /// out as may be. Every tree stays as it was, and later calls go on with what was worked out so far.
     pub fn advance(&mut self, tree: Tree, n: u64) -> Result<Tree, LeapFault>
         requires { CanAdvance self.old.nodes tree n }
         ensures { Advances A (A.next_of self.old.rule) self.old tree n self.new result }
@@ -52,7 +53,8 @@ impl<A: Automaton> Leaper<A> {
         } = self.step_dense(&tree, n, watch)?;
         let left = n - generations;
         if left == MOST_GENERATIONS {
-            return Ok(self.leap(now, 60)?);
+            let end = self.leap(now, 60)?;
+            return Ok(end);
         }
         // By a leap for each binary digit.
         'digits: for j in 0..60 {
@@ -66,7 +68,7 @@ impl<A: Automaton> Leaper<A> {
     }
 
     // The tree 2^j generations on.
-    fn leap(&mut self, tree: Tree, j: u8) -> Result<Tree, Memory>
+    fn leap(&mut self, tree: Tree, j: u8) -> Result<Tree, LeapFault>
         requires tree { IsTree self.old.nodes tree }
         requires level { tree.level ≤ 123 }
         requires time { j ≤ 60 }
@@ -74,6 +76,7 @@ impl<A: Automaton> Leaper<A> {
             (IsAdvanced (A.next_of self.old.rule) self.old.nodes tree (2 ^ j) self.new.nodes) }
         ensures level { IfOk result (λ t. t.level ≡ max tree.level (j + 1) + 1) }
         ensures goes_on { LeaperGrows A self.old self.new }
+        ensures work { EndsAtLimit self.new.spent result }
     {
         // So all that is live 2^j generations on lies in the centre.
         let grain = self.store.level(tree.root).max(j + 1);

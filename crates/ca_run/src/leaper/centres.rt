@@ -7,34 +7,36 @@ ghost use Rattle.ca_quad.specs.Trees.{AreFour};
 ghost use Rattle.ca_run.specs.Centre.{IsCentre};
 ghost use Rattle.ca_run.specs.Leaping.{LeaperGrows};
 ghost use Rattle.ca_run.specs.RecentLeaps.{IsLeap};
+ghost use Rattle.ca_run.specs.Spent.{EndsAtLimit};
 ghost use Rattle.ca_run.specs.inner.Centres.{HasCentre};
 ghost use Rattle.ca_run.specs.inner.Shown.{ShowsAt, FourShow, TwoShow, ThreeShow, NineShow, AreThree};
 ghost use Rattle.ca_run.specs.inner.Shown.{AreNine, side, generations, IsTimely};
 
 use super::Leaper;
 use super::trio::{Rows, Trio};
-use ca_plane::{Automaton, Memory};
+use crate::fault::LeapFault;
+use ca_plane::Automaton;
 use ca_quad::Id;
 
 // A square's grain is the level of its sixteen parts: its own level is that and 2.
 impl<A: Automaton> Leaper<A> {
     // The centre of a square after 2^j generations.
     #[cycle(leap)]
-    pub(super) fn centre(&mut self, id: Id, grain: u8, j: u8) -> Result<Id, Memory>
+    pub(super) fn centre(&mut self, id: Id, grain: u8, j: u8) -> Result<Id, LeapFault>
         requires centre { HasCentre self.old.nodes id grain j }
         requires low { grain ≤ 123 }
         ensures centre { IfOk result (IsCentre (A.next_of self.old.rule) self.new.nodes id grain j) }
         ensures goes_on { LeaperGrows A self.old self.new }
+        ensures work { EndsAtLimit self.new.spent result }
     {
         let _ = &self.store;
-        if grain == 2 {
-            if let Some(words) = self.centre_words(id, grain, j) {
-                return self.from_centre_words(id, grain, j, words);
-            }
+        if let Some(half) = self.empty_centre(id, grain, j) {
+            return Ok(half);
         }
         if let Some(half) = self.recall(id, grain, j) {
             return Ok(half);
         }
+        self.charge(1)?;
         let half = self.new_centre(id, grain, j)?;
         self.remember(id, grain, j, half)?;
         Ok(half)
@@ -55,21 +57,19 @@ impl<A: Automaton> Leaper<A> {
 
     // The centre of a square that isn't remembered.
     #[cycle(leap)]
-    fn new_centre(&mut self, id: Id, grain: u8, j: u8) -> Result<Id, Memory>
+    fn new_centre(&mut self, id: Id, grain: u8, j: u8) -> Result<Id, LeapFault>
         requires centre { HasCentre self.old.nodes id grain j }
         requires low { grain ≤ 123 }
         ensures centre { IfOk result (IsCentre (A.next_of self.old.rule) self.new.nodes id grain j) }
         ensures goes_on { LeaperGrows A self.old self.new }
+        ensures work { EndsAtLimit self.new.spent result }
     {
         let _ = &self.store;
-        if let Some(half) = self.empty_centre(id, grain, j) {
-            return Ok(half);
-        }
         if grain == 0 {
-            return self.next_four(id);
+            return Ok(self.next_four(id)?);
         }
         if let Some(words) = self.centre_words(id, grain, j) {
-            return self.from_centre_words(id, grain, j, words);
+            return Ok(self.from_centre_words(id, grain, j, words)?);
         }
         if j == grain {
             return self.centre_of_nine(id, grain - 1, Some(j - 1), j - 1);
@@ -80,7 +80,7 @@ impl<A: Automaton> Leaper<A> {
     // The centre of a square by nine squares that overlap, each half as wide: their centres make four
     // squares, and the centres of these are the result.
     #[cycle(leap)]
-    fn centre_of_nine(&mut self, id: Id, grain: u8, first: Option<u8>, j: u8) -> Result<Id, Memory>
+    fn centre_of_nine(&mut self, id: Id, grain: u8, first: Option<u8>, j: u8) -> Result<Id, LeapFault>
         requires square { IsOf self.old.nodes id (suc (suc (suc grain))) }
         requires low { grain ≤ 122 }
         requires first { IsTimely grain first }
@@ -91,16 +91,17 @@ impl<A: Automaton> Leaper<A> {
             (cells_after next (cells_after next p (generations first)) (2 ^ j))
             (a +ℤ side (suc grain)) (b +ℤ side (suc grain))) }
         ensures goes_on { LeaperGrows A self.old self.new }
+        ensures work { EndsAtLimit self.new.spent result }
     {
         let rows = self.nine(id, grain, first)?;
         let (nw, ne) = self.pair(&rows.north, &rows.middle, grain, j)?;
         let (sw, se) = self.pair(&rows.middle, &rows.south, grain, j)?;
-        self.join(nw, ne, sw, se, grain)
+        Ok(self.join(nw, ne, sw, se, grain)?)
     }
 
     // The centres of the nine squares.
     #[cycle(leap)]
-    fn nine(&mut self, id: Id, grain: u8, first: Option<u8>) -> Result<Rows, Memory>
+    fn nine(&mut self, id: Id, grain: u8, first: Option<u8>) -> Result<Rows, LeapFault>
         requires square { IsOf self.old.nodes id (suc (suc (suc grain))) }
         requires low { grain ≤ 122 }
         requires first { IsTimely grain first }
@@ -110,6 +111,7 @@ impl<A: Automaton> Leaper<A> {
             (cells_after next p (generations first)) (a +ℤ side grain) (b +ℤ side grain)) }
         ensures squares { IfOk result (AreNine self.new.nodes (suc grain)) }
         ensures goes_on { LeaperGrows A self.old self.new }
+        ensures work { EndsAtLimit self.new.spent result }
     {
         let (nw, ne, sw, se) = self.quarters(id, grain + 1);
         let north = self.trio(nw, ne, grain, first)?;
@@ -124,7 +126,7 @@ impl<A: Automaton> Leaper<A> {
 
     // The centres of two squares side by side, and of the one between them.
     #[cycle(leap)]
-    fn trio(&mut self, west: Id, east: Id, grain: u8, first: Option<u8>) -> Result<Trio, Memory>
+    fn trio(&mut self, west: Id, east: Id, grain: u8, first: Option<u8>) -> Result<Trio, LeapFault>
         requires west { IsOf self.old.nodes west (suc (suc grain)) }
         requires east { IsOf self.old.nodes east (suc (suc grain)) }
         requires low { grain ≤ 122 }
@@ -135,6 +137,7 @@ impl<A: Automaton> Leaper<A> {
             (cells_after next p (generations first)) (a +ℤ side grain) (b +ℤ side grain)) }
         ensures squares { IfOk result (AreThree self.new.nodes (suc grain)) }
         ensures goes_on { LeaperGrows A self.old self.new }
+        ensures work { EndsAtLimit self.new.spent result }
     {
         let _ = &self.store;
         let (_, nw, _, sw) = self.quarters(west, grain);
@@ -155,7 +158,7 @@ impl<A: Automaton> Leaper<A> {
         se: Id,
         grain: u8,
         first: Option<u8>,
-    ) -> Result<Trio, Memory>
+    ) -> Result<Trio, LeapFault>
         requires four { AreFour self.old.nodes (suc (suc grain)) nw ne sw se }
         requires low { grain ≤ 122 }
         requires first { IsTimely grain first }
@@ -166,6 +169,7 @@ impl<A: Automaton> Leaper<A> {
             ((b +ℤ side (suc grain)) +ℤ side grain)) }
         ensures squares { IfOk result (AreThree self.new.nodes (suc grain)) }
         ensures goes_on { LeaperGrows A self.old self.new }
+        ensures work { EndsAtLimit self.new.spent result }
     {
         let _ = &self.store;
         let (_, _, a, b) = self.quarters(nw, grain);
@@ -188,7 +192,7 @@ impl<A: Automaton> Leaper<A> {
         se: Id,
         grain: u8,
         first: Option<u8>,
-    ) -> Result<Id, Memory>
+    ) -> Result<Id, LeapFault>
         requires four { AreFour self.old.nodes (suc grain) nw ne sw se }
         requires low { grain ≤ 122 }
         requires first { IsTimely grain first }
@@ -198,17 +202,18 @@ impl<A: Automaton> Leaper<A> {
             (cells_after next p (generations first)) (a +ℤ side grain) (b +ℤ side grain)) }
         ensures square { IfOk result (λ half. IsOf self.new.nodes half (suc grain)) }
         ensures goes_on { LeaperGrows A self.old self.new }
+        ensures work { EndsAtLimit self.new.spent result }
     {
         let _ = &self.store;
         match first {
-            None => self.inner_of_four(nw, ne, sw, se, grain),
+            None => Ok(self.inner_of_four(nw, ne, sw, se, grain)?),
             Some(j) => self.joined_centre(nw, ne, sw, se, grain, j),
         }
     }
 
     // The centre of a square as it is, or after 2^j generations.
     #[cycle(leap)]
-    fn first_centre(&mut self, id: Id, grain: u8, first: Option<u8>) -> Result<Id, Memory>
+    fn first_centre(&mut self, id: Id, grain: u8, first: Option<u8>) -> Result<Id, LeapFault>
         requires square { IsOf self.old.nodes id (suc (suc grain)) }
         requires low { grain ≤ 122 }
         requires first { IsTimely grain first }
@@ -218,17 +223,18 @@ impl<A: Automaton> Leaper<A> {
             (cells_after next p (generations first)) (a +ℤ side grain) (b +ℤ side grain)) }
         ensures square { IfOk result (λ half. IsOf self.new.nodes half (suc grain)) }
         ensures goes_on { LeaperGrows A self.old self.new }
+        ensures work { EndsAtLimit self.new.spent result }
     {
         let _ = &self.store;
         match first {
-            None => self.inner_square(id, grain),
+            None => Ok(self.inner_square(id, grain)?),
             Some(j) => self.centre(id, grain, j),
         }
     }
 
     // The centres after 2^j generations of two squares that overlap by half, made of two rows of three.
     #[cycle(leap)]
-    fn pair(&mut self, north: &Trio, south: &Trio, grain: u8, j: u8) -> Result<(Id, Id), Memory>
+    fn pair(&mut self, north: &Trio, south: &Trio, grain: u8, j: u8) -> Result<(Id, Id), LeapFault>
         requires north { AreThree self.old.nodes (suc grain) north.now }
         requires south { AreThree self.old.nodes (suc grain) south.now }
         requires low { grain ≤ 122 }
@@ -241,6 +247,7 @@ impl<A: Automaton> Leaper<A> {
         ensures west { IfOk result (λ two. IsOf self.new.nodes two.0 (suc grain)) }
         ensures east { IfOk result (λ two. IsOf self.new.nodes two.1 (suc grain)) }
         ensures goes_on { LeaperGrows A self.old self.new }
+        ensures work { EndsAtLimit self.new.spent result }
     {
         let _ = &self.store;
         let west = self.joined_centre(
@@ -272,7 +279,7 @@ impl<A: Automaton> Leaper<A> {
         se: Id,
         grain: u8,
         j: u8,
-    ) -> Result<Id, Memory>
+    ) -> Result<Id, LeapFault>
         requires four { AreFour self.old.nodes (suc grain) nw ne sw se }
         requires low { grain ≤ 122 }
         requires time { j ≤ grain }
@@ -282,6 +289,7 @@ impl<A: Automaton> Leaper<A> {
             (a +ℤ side grain) (b +ℤ side grain)) }
         ensures square { IfOk result (λ half. IsOf self.new.nodes half (suc grain)) }
         ensures goes_on { LeaperGrows A self.old self.new }
+        ensures work { EndsAtLimit self.new.spent result }
     {
         let _ = &self.store;
         if j == grain && self.masks.is_none() {
@@ -293,11 +301,12 @@ impl<A: Automaton> Leaper<A> {
 
     // The square in the middle of four, as far on as it can be known.
     #[cycle(leap)]
-    fn leap_of_four(&mut self, nw: Id, ne: Id, sw: Id, se: Id, grain: u8) -> Result<Id, Memory>
+    fn leap_of_four(&mut self, nw: Id, ne: Id, sw: Id, se: Id, grain: u8) -> Result<Id, LeapFault>
         requires four { AreFour self.old.nodes (suc grain) nw ne sw se }
         requires low { grain ≤ 122 }
         ensures leap { IfOk result (IsLeap (A.next_of self.old.rule) self.new.nodes grain nw ne sw se) }
         ensures goes_on { LeaperGrows A self.old self.new }
+        ensures work { EndsAtLimit self.new.spent result }
     {
         let _ = &self.store;
         if let Some(half) = self.recall_leap(nw, ne, sw, se, grain) {
@@ -310,17 +319,42 @@ impl<A: Automaton> Leaper<A> {
 
     // The same where it isn't remembered.
     #[cycle(leap)]
-    fn new_leap(&mut self, nw: Id, ne: Id, sw: Id, se: Id, grain: u8) -> Result<Id, Memory>
+    fn new_leap(&mut self, nw: Id, ne: Id, sw: Id, se: Id, grain: u8) -> Result<Id, LeapFault>
         requires four { AreFour self.old.nodes (suc grain) nw ne sw se }
         requires low { grain ≤ 122 }
         ensures leap { IfOk result (IsLeap (A.next_of self.old.rule) self.new.nodes grain nw ne sw se) }
         ensures goes_on { LeaperGrows A self.old self.new }
+        ensures work { EndsAtLimit self.new.spent result }
     {
         let _ = &self.store;
         if grain == 0 {
-            return self.next_inner(nw, ne, sw, se);
+            return self.counted_inner(nw, ne, sw, se);
         }
         let id = self.join(nw, ne, sw, se, grain)?;
         self.centre(id, grain, grain)
+    }
+
+    // The four cells in the middle of four squares of 2 by 2, one generation on: a result, if the squares aren't empty.
+    fn counted_inner(&mut self, nw: Id, ne: Id, sw: Id, se: Id) -> Result<Id, LeapFault>
+        requires { AreFour self.old.nodes 1 nw ne sw se }
+        ensures leap { IfOk result (IsLeap (A.next_of self.old.rule) self.new.nodes 0 nw ne sw se) }
+        ensures goes_on { LeaperGrows A self.old self.new }
+        ensures work { EndsAtLimit self.new.spent result }
+    {
+        if !self.are_empty(nw, ne, sw, se) {
+            self.charge(1)?;
+        }
+        Ok(self.next_inner(nw, ne, sw, se)?)
+    }
+
+    // Whether four squares are empty.
+    fn are_empty(&self, nw: Id, ne: Id, sw: Id, se: Id) -> bool
+        requires { AreFour self.now.nodes 1 nw ne sw se }
+    {
+        let _ = &self.rule;
+        self.store.is_empty(nw)
+            && self.store.is_empty(ne)
+            && self.store.is_empty(sw)
+            && self.store.is_empty(se)
     }
 }

@@ -4,11 +4,13 @@ ghost use Rattle.std.specs.Prelude.{◌≡◌, ℕ, ◌+◌, ◌<◌, ◌≤◌,
 ghost use Rattle.ca_quad.specs.Trees.{IsTree, cell};
 ghost use Rattle.ca_run.specs.Leaping.{LeaperGrows};
 ghost use Rattle.ca_run.specs.Masks.{GoesBy};
+ghost use Rattle.ca_run.specs.Spent.{EndsAtLimit};
 ghost use Rattle.ca_run.specs.inner.Bricks.{WallShows, LiesNear, IsAligned};
 ghost use Rattle.ca_run.specs.inner.Dense.{HasReached};
 
 use super::Leaper;
 use crate::bricks::{Wall, frame_of};
+use crate::fault::LeapFault;
 use crate::watch::Watch;
 use ca_plane::{Automaton, Memory};
 use ca_quad::{Tree, WideBounds};
@@ -56,7 +58,7 @@ impl<A: Automaton> Leaper<A> {
         tree: &Tree,
         n: u64,
         watch: &mut W,
-    ) -> Result<Reached, Memory>
+    ) -> Result<Reached, LeapFault>
         requires tree { IsTree self.old.nodes tree.now }
         requires level { tree.now.level ≤ 64 }
         requires time { n ≤ 2 ^ 60 }
@@ -64,6 +66,7 @@ impl<A: Automaton> Leaper<A> {
         ensures none { n ≡ 0 → IfOk result (λ reached. reached.tree ≡ tree.now) }
         ensures calm { n ≡ 0 → IsOk result }
         ensures goes_on { LeaperGrows A self.old self.new }
+        ensures work { EndsAtLimit self.new.spent result }
     {
         let _ = &self.store;
         let mut reached = Reached {
@@ -73,7 +76,7 @@ impl<A: Automaton> Leaper<A> {
         let Some(masks) = self.masks else {
             return Ok(reached);
         };
-        if n < FEWEST || !self.full_leaps.is_empty() {
+        if n < FEWEST || !self.memo.is_empty() {
             return Ok(reached);
         }
         if !self.is_dense(tree)? {
@@ -124,7 +127,7 @@ impl<A: Automaton> Leaper<A> {
         reached: &Reached,
         n: u64,
         watch: &mut W,
-    ) -> Result<Option<Stretch>, Memory>
+    ) -> Result<Option<Stretch>, LeapFault>
         requires first { IsTree self.old.nodes first.now }
         requires time { n ≤ 2 ^ 60 }
         requires masks { GoesBy (A.next_of self.old.rule) masks }
@@ -133,13 +136,27 @@ impl<A: Automaton> Leaper<A> {
             self.old.nodes first.now n self.new.nodes stretch.reached)) }
         ensures none { reached.now.generations ≡ n → IfOk result (λ found. found ≡ None) }
         ensures goes_on { LeaperGrows A self.old self.new }
+        ensures work { EndsAtLimit self.new.spent result }
     {
         let alloc = self.recent_centres.allocator();
         let left = (n - reached.generations).min(AT_A_TIME);
         let Some(wall) = self.dense_wall(alloc, &reached.tree, left)? else {
             return Ok(None);
         };
-        let later = wall.later(alloc, masks, left, self, first, reached.generations, watch)?;
+        let mut spent = self.work;
+        let later = wall.later(
+            alloc,
+            masks,
+            left,
+            self,
+            first,
+            reached.generations,
+            &mut spent,
+            watch,
+        );
+        self.work = spent;
+        let later = later?;
+        self.charge(later.bricks.len() as u64)?;
         let tree = self.tree_of(&later)?;
         Ok(Some(Stretch {
             reached: Reached {

@@ -1,52 +1,230 @@
-//! The results that a leaper remembers.
+//! The results that a leaper remembers: a bounded number of pages and of single ones.
 
-ghost use Rattle.std.specs.Prelude.{◌≡◌, ℕ, ◌==◌, ◌&&◌, None, Some, cond, OnOk, OnErr};
-ghost use Rattle.ca_run.specs.Memo.{memo_result};
+ghost use Rattle.std.specs.Prelude.{◌≡◌, ◌⊎◌, ◌<◌, ◌^◌, ◌≤◌, ℕ, [], length, IfSome, IfOk, OnOk, Some, Option, slice_get};
+ghost use Rattle.std.specs.NonZero.{non_zero_usize_get};
+ghost use Rattle.ca_run.specs.Pages.{HasPageKey, HasFullLeap, HasSingle, RemembersNoMore, IsBlankMemo};
+ghost use Rattle.ca_run.specs.declared.leaper.page.Page.{Page};
+ghost use Rattle.ca_run.specs.declared.leaper.key.Key.TheVariants.{Page as OfPage, Single};
 
+use super::key::Key;
+use super::page::Page;
 use ca_plane::Memory;
 use ca_quad::Id;
+use lru::LruCache;
 use std::alloc::Global;
-use std::collections::HashMap;
 use std::marker::Model;
+use std::mem;
+use std::num::NonZeroUsize;
 
-/// The centres of squares after 2^j generations, by square and j. A forgotten one costs only time.
+// How many pages may be spared at one put, since they were used.
+const SPARED: u32 = 64;
+
+/// The centres of squares after 2^j generations. Those at full leap, which are asked for most, are found without a
+/// search, in the slots of their squares' numbers: 16 neighbouring slots are a page. The cache holds the keys of all
+/// pages that stand, and the other results, and so bounds both; the least recently used one goes. A forgotten result
+/// costs only time.
 #[derive(Drop)]
 pub(crate) struct Memo {
-    results: HashMap<(Id, u8), Id>,
+    pages: Vec<Option<Page>>,
+    order: LruCache<Key, Option<Id>>,
 }
 
 impl Model for Memo {
-    ghost use Rattle.std.specs.Prelude.{ℕ, List};
+    ghost use Rattle.ca_run.specs.Pages.{MemoView, IsBounded};
 
-    ghost Value = { List ((ℕ × ℕ) × ℕ) };
+    ghost Value = { MemoView };
 
-    ghost view = { λ m. m.results.entries };
+    ghost view = { λ m. record { pages = m.pages.items; order = m.order } };
+
+    ghost invariant = { λ m. IsBounded m.pages.items m.order };
 }
 
 impl Memo {
-    /// Nothing yet.
-    pub(crate) fn new(alloc: Global) -> Memo
-        ensures { (id j : ℕ) → memo_result result id j ≡ None }
+    /// Nothing yet: at most so many pages and single results.
+    pub(crate) fn new(alloc: Global, most: NonZeroUsize) -> Result<Memo, Memory>
+        ensures blank { IfOk result IsBlankMemo }
+        ensures most { IfOk result (λ m. m.order.cap ≡ non_zero_usize_get most) }
     {
-        Memo {
-            results: HashMap::new(alloc),
+        let order = LruCache::sparse(alloc, most)?;
+        Ok(Memo {
+            pages: Vec::new(alloc),
+            order,
+        })
+    }
+
+    /// How many pages and single results there are: no more than may be.
+    pub(crate) fn len(&self) -> usize
+        ensures value { result ≡ length self.now.order.entries }
+        ensures most { result ≤ self.now.order.cap }
+    {
+        let _ = &self.pages;
+        self.order.len()
+    }
+
+    /// Whether no result at full leap was remembered yet.
+    pub(crate) fn is_empty(&self) -> bool {
+        self.pages.is_empty()
+    }
+
+    /// What is remembered for a square at full leap.
+    pub(crate) fn full_leap(&mut self, id: Id) -> Option<Id>
+        ensures found { IfSome result (HasFullLeap self.old id) }
+        ensures no_more { RemembersNoMore self.old self.new }
+    {
+        let place = id.number();
+        let number = place / 16;
+        if number >= self.pages.len() {
+            return None;
+        }
+        let page = self.pages[number].as_mut()?;
+        page.used = true;
+        page.slots[place % 16]
+    }
+
+    /// What is remembered for a square and another time.
+    pub(crate) fn single(&self, id: Id, j: u8) -> Option<Id>
+        ensures { IfSome result (HasSingle self.now id j) }
+    {
+        *self.order.peek(&Key::Single(id, j))?
+    }
+
+    /// Remembers a result at full leap.
+    pub(crate) fn put_full_leap(&mut self, id: Id, half: Id) -> Result<(), Memory>
+        ensures full_leaps { (other centre : ℕ) → HasFullLeap self.new other centre
+            → HasFullLeap self.old other centre ⊎ ((other ≡ id) × (centre ≡ half)) }
+        ensures singles { (other j centre : ℕ) → HasSingle self.new other j centre → HasSingle self.old other j centre }
+        ensures capacity { self.new.order.cap ≡ self.old.order.cap }
+    {
+        self.open(id)?;
+        self.write(id, half);
+        Ok(())
+    }
+
+    /// Remembers another result.
+    pub(crate) fn put_single(&mut self, id: Id, j: u8, half: Id) -> Result<(), Memory>
+        ensures full_leaps { (other centre : ℕ) → HasFullLeap self.new other centre → HasFullLeap self.old other centre }
+        ensures singles { (other time centre : ℕ) → HasSingle self.new other time centre
+            → HasSingle self.old other time centre ⊎ ((other ≡ id) × (time ≡ j) × (centre ≡ half)) }
+        ensures capacity { self.new.order.cap ≡ self.old.order.cap }
+    {
+        self.admit(Key::Single(id, j), Some(half))
+    }
+
+    // Sees that the page of a square stands.
+    fn open(&mut self, id: Id) -> Result<(), Memory>
+        ensures { RemembersNoMore self.old self.new }
+    {
+        let number = id.number() / 16;
+        self.make_room(number)?;
+        if self.pages[number].is_none() {
+            self.admit(Key::Page(number as u32), None)?;
+            self.pages[number] = Some(Page::empty());
+        }
+        Ok(())
+    }
+
+    // Writes a result into the page of a square, where it stands.
+    fn write(&mut self, id: Id, half: Id)
+        ensures full_leaps { (other centre : ℕ) → HasFullLeap self.new other centre
+            → HasFullLeap self.old other centre ⊎ ((other ≡ id) × (centre ≡ half)) }
+        ensures order { self.new.order ≡ self.old.order }
+    {
+        let place = id.number();
+        let number = place / 16;
+        if number >= self.pages.len() {
+            return;
+        }
+        if let Some(page) = &mut self.pages[number] {
+            page.slots[place % 16] = Some(half);
         }
     }
 
-    /// What is remembered for a square.
-    pub(crate) fn get(&self, id: Id, j: u8) -> Option<Id>
-        ensures { result ≡ memo_result self.now id j }
+    // Makes as many places for pages that this is one of them.
+    fn make_room(&mut self, page: usize) -> Result<(), Memory>
+        requires { page < 2 ^ 32 }
+        ensures room { OnOk result (page < length self.new.pages) }
+        ensures no_more { RemembersNoMore self.old self.new }
     {
-        self.results.get(&(id, j)).copied()
+        if page < self.pages.len() {
+            return Ok(());
+        }
+        self.pages.resize(page + page / 2 + 1, None)?;
+        Ok(())
     }
 
-    /// Remembers the centre of a square.
-    pub(crate) fn put(&mut self, id: Id, j: u8, centre: Id) -> Result<(), Memory>
-        ensures ok { OnOk result ((other time : ℕ) → memo_result self.new other time
-            ≡ cond ((id == other) && (j == time)) (Some centre) (memo_result self.old other time)) }
-        ensures err { OnErr result (self.new ≡ self.old) }
+    // Makes a key the most recently used one.
+    fn promote(&mut self, key: Key)
+        ensures no_more { RemembersNoMore self.old self.new }
+        ensures room { length self.new.pages ≡ length self.old.pages }
     {
-        self.results.insert((id, j), centre)?;
+        self.order.promote(&key);
+        // No more than before.
+        let _keys = self.order.len();
+    }
+
+    // Whether a page was used since it was last spared: now it wasn't.
+    fn take_use(&mut self, page: u32) -> bool
+        ensures no_more { RemembersNoMore self.old self.new }
+        ensures order { self.new.order ≡ self.old.order }
+        ensures room { length self.new.pages ≡ length self.old.pages }
+    {
+        let number = page as usize;
+        if number >= self.pages.len() {
+            return false;
+        }
+        match &mut self.pages[number] {
+            Some(page) => mem::replace(&mut page.used, false),
+            None => false,
+        }
+    }
+
+    // Puts a key that is to be the most recently used one. Where there are as many as may be, another goes.
+    fn admit(&mut self, key: Key, half: Option<Id>) -> Result<(), Memory>
+        ensures full_leaps { (other centre : ℕ) → HasFullLeap self.new other centre → HasFullLeap self.old other centre }
+        ensures singles { (other j centre : ℕ) → HasSingle self.new other j centre
+            → HasSingle self.old other j centre ⊎ ((key ≡ Single other j) × (half ≡ Some centre)) }
+        ensures there { OnOk result ((page : ℕ) → key ≡ OfPage page → HasPageKey self.new.order.entries page) }
+        ensures capacity { self.new.order.cap ≡ self.old.order.cap }
+        ensures room { length self.new.pages ≡ length self.old.pages }
+    {
+        self.spare_used();
+        let gone = self.order.push(key, half)?;
+        let _keys = self.order.len();
+        close(&mut self.pages, gone);
         Ok(())
+    }
+
+    // Before one goes: makes pages that were used since they were last spared the most recently used ones.
+    fn spare_used(&mut self)
+        ensures no_more { RemembersNoMore self.old self.new }
+        ensures room { length self.new.pages ≡ length self.old.pages }
+    {
+        if self.order.len() < self.order.cap().get() {
+            return;
+        }
+        'pages: for _ in 0..SPARED {
+            let Some((&Key::Page(page), _)) = self.order.peek_lru() else {
+                return;
+            };
+            if !self.take_use(page) {
+                return;
+            }
+            self.promote(Key::Page(page));
+        }
+    }
+}
+
+// Where a page goes from the order, its results go.
+fn close(pages: &mut Vec<Option<Page>>, gone: Option<(Key, Option<Id>)>)
+    ensures room { length pages.new.items ≡ length pages.old.items }
+    ensures rest { (n : ℕ) (page : Page) → slice_get pages.new.items n ≡ Some (Some page)
+        → (slice_get pages.old.items n ≡ Some (Some page)) × ((v : Option ℕ) → gone ≡ Some (OfPage n, v) → ⊥) }
+{
+    let Some((Key::Page(number), _)) = gone else {
+        return;
+    };
+    let number = number as usize;
+    if number < pages.len() {
+        pages[number] = None;
     }
 }

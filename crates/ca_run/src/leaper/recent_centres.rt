@@ -1,6 +1,6 @@
 //! Results that cost little: a table of bounded size remembers them, and may drop any.
 
-ghost use Rattle.std.specs.Prelude.{◌≡◌, ℕ, ◌⊎◌, [], IfSome};
+ghost use Rattle.std.specs.Prelude.{◌≡◌, ℕ, ◌⊎◌, ◌≤◌, [], IfSome};
 ghost use Rattle.ca_run.specs.RecentCentres.{HasRecent};
 
 use super::slots::Slots;
@@ -9,9 +9,6 @@ use std::alloc::Global;
 use std::hash::{BuildHasher, BuildHasherDefault, FoldHasher};
 use std::marker::Model;
 
-// How many results are kept at most.
-const MOST: usize = 262144;
-
 /// Centres of squares after 2^j generations: a square, the j and its centre.
 #[derive(Drop)]
 pub(crate) struct RecentCentres {
@@ -19,21 +16,29 @@ pub(crate) struct RecentCentres {
 }
 
 impl Model for RecentCentres {
-    ghost use Rattle.std.specs.Prelude.{ℕ, List, Option};
+    ghost use Rattle.std.specs.Prelude.{ℕ};
+    ghost use Rattle.ca_run.specs.Slots.{SlotsView};
 
-    ghost Value = { List (Option (ℕ × ℕ × ℕ)) };
+    ghost Value = { SlotsView (ℕ × ℕ × ℕ) };
 
     ghost view = { λ r. r.slots };
 }
 
 impl RecentCentres {
-    /// Nothing yet, and no memory is taken.
-    pub(crate) fn new(alloc: Global) -> RecentCentres
-        ensures { result ≡ [] }
+    /// Nothing yet, and no memory is taken. At most so many results may be kept.
+    pub(crate) fn new(alloc: Global, most: usize) -> RecentCentres
+        ensures { result ≡ record { slots = []; most = most } }
     {
         RecentCentres {
-            slots: Slots::new(alloc, MOST),
+            slots: Slots::new(alloc, most),
         }
+    }
+
+    /// For how many results there is room: no more than may be.
+    pub(crate) fn len(&self) -> usize
+        ensures { result ≤ self.now.most }
+    {
+        self.slots.len()
     }
 
     /// Where its memory comes from.
@@ -43,7 +48,7 @@ impl RecentCentres {
 
     /// What is remembered for a square.
     pub(crate) fn get(&self, id: Id, j: u8) -> Option<Id>
-        ensures { IfSome result (HasRecent self.now id j) }
+        ensures { IfSome result (HasRecent self.now.slots id j) }
     {
         let (other, time, half) = self.slots.get(hash_of(id, j))?;
         if other != id || time != j {
@@ -54,8 +59,9 @@ impl RecentCentres {
 
     /// Remembers the centre of a square, if there is memory for any.
     pub(crate) fn put(&mut self, id: Id, j: u8, half: Id)
-        ensures { (other time centre : ℕ) → HasRecent self.new other time centre
-            → HasRecent self.old other time centre ⊎ ((other ≡ id) × (time ≡ j) × (centre ≡ half)) }
+        ensures results { (other time centre : ℕ) → HasRecent self.new.slots other time centre
+            → HasRecent self.old.slots other time centre ⊎ ((other ≡ id) × (time ≡ j) × (centre ≡ half)) }
+        ensures most { self.new.most ≡ self.old.most }
     {
         self.slots.put(hash_of(id, j), (id, j, half));
     }

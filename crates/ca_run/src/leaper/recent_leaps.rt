@@ -1,15 +1,12 @@
 //! Results of leaps by the parts of their squares: a table of bounded size remembers them, and may drop any.
 
-ghost use Rattle.std.specs.Prelude.{◌≡◌, ℕ, ◌⊎◌, [], Some, IfSome};
+ghost use Rattle.std.specs.Prelude.{◌≡◌, ℕ, ◌⊎◌, ◌≤◌, [], Some, IfSome};
 ghost use Rattle.std.specs.List.{Contains};
 
 use super::slots::Slots;
 use ca_quad::Id;
 use std::alloc::Global;
 use std::marker::Model;
-
-// How many results are kept at most.
-const MOST: usize = 65536;
 
 /// Four squares, and the one in their middle as far on as it can be known.
 #[derive(Drop)]
@@ -18,26 +15,34 @@ pub(crate) struct RecentLeaps {
 }
 
 impl Model for RecentLeaps {
-    ghost use Rattle.std.specs.Prelude.{ℕ, List, Option};
+    ghost use Rattle.std.specs.Prelude.{ℕ};
+    ghost use Rattle.ca_run.specs.Slots.{SlotsView};
 
-    ghost Value = { List (Option (ℕ × ℕ × ℕ × ℕ × ℕ)) };
+    ghost Value = { SlotsView (ℕ × ℕ × ℕ × ℕ × ℕ) };
 
     ghost view = { λ r. r.slots };
 }
 
 impl RecentLeaps {
-    /// Nothing yet, and no memory is taken.
-    pub(crate) fn new(alloc: Global) -> RecentLeaps
-        ensures { result ≡ [] }
+    /// Nothing yet, and no memory is taken. At most so many results may be kept.
+    pub(crate) fn new(alloc: Global, most: usize) -> RecentLeaps
+        ensures { result ≡ record { slots = []; most = most } }
     {
         RecentLeaps {
-            slots: Slots::new(alloc, MOST),
+            slots: Slots::new(alloc, most),
         }
+    }
+
+    /// For how many results there is room: no more than may be.
+    pub(crate) fn len(&self) -> usize
+        ensures { result ≤ self.now.most }
+    {
+        self.slots.len()
     }
 
     /// What is remembered for four squares.
     pub(crate) fn get(&self, nw: Id, ne: Id, sw: Id, se: Id) -> Option<Id>
-        ensures { IfSome result (λ half. Contains self.now (Some (nw, ne, sw, se, half))) }
+        ensures { IfSome result (λ half. Contains self.now.slots (Some (nw, ne, sw, se, half))) }
     {
         let (north_west, north_east, south_west, south_east, half) = self
             .slots
@@ -50,9 +55,10 @@ impl RecentLeaps {
 
     /// Remembers the square in the middle of four, if there is memory for any.
     pub(crate) fn put(&mut self, nw: Id, ne: Id, sw: Id, se: Id, half: Id)
-        ensures { (a b c d e : ℕ) → Contains self.new (Some (a, b, c, d, e))
-            → Contains self.old (Some (a, b, c, d, e))
+        ensures results { (a b c d e : ℕ) → Contains self.new.slots (Some (a, b, c, d, e))
+            → Contains self.old.slots (Some (a, b, c, d, e))
             ⊎ ((a ≡ nw) × (b ≡ ne) × (c ≡ sw) × (d ≡ se) × (e ≡ half)) }
+        ensures most { self.new.most ≡ self.old.most }
     {
         self.slots
             .put(hash_of(nw, ne, sw, se), (nw, ne, sw, se, half));

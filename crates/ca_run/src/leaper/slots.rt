@@ -1,6 +1,6 @@
 //! Tables of bounded size that may drop any entry.
 
-ghost use Rattle.std.specs.Prelude.{◌≡◌, ℕ, ◌⊎◌, [], Some, IfSome};
+ghost use Rattle.std.specs.Prelude.{◌≡◌, ℕ, ◌⊎◌, ◌≤◌, [], Some, IfSome};
 ghost use Rattle.std.specs.List.{Contains};
 
 use std::alloc::Global;
@@ -13,24 +13,27 @@ const FIRST: usize = 1024;
 #[derive(Drop)]
 pub(crate) struct Slots<T: Copy> {
     slots: Vec<Option<T>>,
-    // How many slots there may be: 1024, and four times as many as often as one likes.
+    // How many slots there may be.
     most: usize,
     // How many entries may come before there are to be more slots.
     left: usize,
 }
 
 impl<T: Copy> Model for Slots<T> {
-    ghost use Rattle.std.specs.Prelude.{List, Option};
+    ghost use Rattle.std.specs.Prelude.{◌≤◌, length};
+    ghost use Rattle.ca_run.specs.Slots.{SlotsView};
 
-    ghost Value = { List (Option T) };
+    ghost Value = { SlotsView T };
 
-    ghost view = { λ s. s.slots.items };
+    ghost view = { λ s. record { slots = s.slots.items; most = s.most } };
+
+    ghost invariant = { λ s. length s.slots.items ≤ s.most };
 }
 
 impl<T: Copy> Slots<T> {
-    /// Nothing yet, and no memory is taken.
+    /// Nothing yet, and no memory is taken. There may be so many slots.
     pub(crate) fn new(alloc: Global, most: usize) -> Slots<T>
-        ensures { result ≡ [] }
+        ensures { result ≡ record { slots = []; most = most } }
     {
         Slots {
             slots: Vec::new(alloc),
@@ -44,9 +47,16 @@ impl<T: Copy> Slots<T> {
         *self.slots.allocator()
     }
 
+    /// How many slots there are: no more than may be.
+    pub(crate) fn len(&self) -> usize
+        ensures { result ≤ self.now.most }
+    {
+        self.slots.len()
+    }
+
     /// What came last with a hash that has the slot of this one.
     pub(crate) fn get(&self, hash: u64) -> Option<T>
-        ensures { IfSome result (λ entry. Contains self.now (Some entry)) }
+        ensures { IfSome result (λ entry. Contains self.now.slots (Some entry)) }
     {
         let place = self.place(hash);
         if place >= self.slots.len() {
@@ -57,8 +67,9 @@ impl<T: Copy> Slots<T> {
 
     /// Keeps an entry, if there is memory for any.
     pub(crate) fn put(&mut self, hash: u64, entry: T)
-        ensures { (other : T) → Contains self.new (Some other)
-            → Contains self.old (Some other) ⊎ (other ≡ entry) }
+        ensures entries { (other : T) → Contains self.new.slots (Some other)
+            → Contains self.old.slots (Some other) ⊎ (other ≡ entry) }
+        ensures most { self.new.most ≡ self.old.most }
     {
         self.count_one();
         let place = self.place(hash);
@@ -74,7 +85,8 @@ impl<T: Copy> Slots<T> {
 
     // Counts an entry that comes: where as many came as there are slots, there shall be more.
     fn count_one(&mut self)
-        ensures { (entry : T) → Contains self.new (Some entry) → Contains self.old (Some entry) }
+        ensures entries { (entry : T) → Contains self.new.slots (Some entry) → Contains self.old.slots (Some entry) }
+        ensures most { self.new.most ≡ self.old.most }
     {
         if self.left == 0 {
             self.grow();
@@ -87,10 +99,11 @@ impl<T: Copy> Slots<T> {
     // Four times as many slots, where that isn't too many and there is memory. Most of what is kept isn't
     // found any more.
     fn grow(&mut self)
-        ensures { (entry : T) → Contains self.new (Some entry) → Contains self.old (Some entry) }
+        ensures entries { (entry : T) → Contains self.new.slots (Some entry) → Contains self.old.slots (Some entry) }
+        ensures most { self.new.most ≡ self.old.most }
     {
         let slots = self.slots.len();
-        if slots >= self.most || slots > usize::MAX / 4 {
+        if slots > self.most / 4 || FIRST > self.most {
             return;
         }
         let _ = self.slots.resize((4 * slots).max(FIRST), None);

@@ -15,11 +15,8 @@ use Rattle.ca_run.proofs.Shown.{goes_on_again, four_go_on, at_stays, three_stay,
 use Rattle.ca_run.proofs.Leap.{goes_on_same, leap_shows, leap_square, leap_of_join, centre_ok, nine_centre, west_four, east_four, pair_at, trio_at, nine_at, four_at}
 use Rattle.ca_run.proofs.leaper.Leaper.+leap.Goals as goal
 
-pub centre-returns-in-Some-recall-clause-goes_on : goal.centre-returns-in-Some-recall-clause-goes_on
-centre-returns-in-Some-recall-clause-goes_on g t c = goes_on_same _ c.args.self.now (subst (λ l. IsSoundStore l.nodes) c.self.view_is c.self.invariant.squares)
-
-pub new_centre-returns-in-Some-clause-goes_on : goal.new_centre-returns-in-Some-clause-goes_on
-new_centre-returns-in-Some-clause-goes_on g t c = goes_on_same _ c.args.self.now (subst (λ l. IsSoundStore l.nodes) c.self.view_is c.self.invariant.squares)
+pub centre-returns-in-Some-clause-goes_on : goal.centre-returns-in-Some-clause-goes_on
+centre-returns-in-Some-clause-goes_on g t c = goes_on_same _ c.args.self.now (subst (λ l. IsSoundStore l.nodes) c.self.view_is c.self.invariant.squares)
 
 pub first_centre-returns-in-Some-clause-shows : goal.first_centre-returns-in-Some-clause-shows
 first_centre-returns-in-Some-clause-shows g t c = λ next p a b e shows.
@@ -189,8 +186,20 @@ middle_trio-returns-clause-goes_on g t c =
 pub first_inner-returns-in-Some-clause-shows : goal.first_inner-returns-in-Some-clause-shows
 first_inner-returns-in-Some-clause-shows g t c = λ next p a b e four. rw c.in-Some.is (c.joined_centre.ensures.shows next p a b e four)
 
-pub first_inner-returns-in-None-clause-shows : goal.first_inner-returns-in-None-clause-shows
-first_inner-returns-in-None-clause-shows g t c = λ next p a b e four. rw c.in-None.is (c.inner_of_four.ensures.shows p a b four)
+pub first_inner-returns-in_ok-inner_of_four-in-None-clause-shows : goal.first_inner-returns-in_ok-inner_of_four-in-None-clause-shows
+first_inner-returns-in_ok-inner_of_four-in-None-clause-shows g t c = λ next p a b e four. rw c.in-None.is (c.in_ok-inner_of_four-in-None.ensures.shows p a b four)
+
+pub first_centre-returns-in_ok-inner_square-in-None-clause-shows : goal.first_centre-returns-in_ok-inner_square-in-None-clause-shows
+first_centre-returns-in_ok-inner_square-in-None-clause-shows g t c = λ next p a b e shows. rw c.in-None.is (c.in_ok-inner_square-in-None.ensures.shows p a b shows)
+
+pub new_centre-returns-then-grain-eq0-clause-centre : goal.new_centre-returns-then-grain-eq0-clause-centre
+new_centre-returns-then-grain-eq0-clause-centre g t c =
+    let least : 0 ≡ c.args.grain = omega (arith, c.if-grain-eq0.true) in
+    let now : 0 ≡ c.args.j = omega (arith, c.if-grain-eq0.true, c.requires.centre.in_time) in
+    let next = g.A.Automaton.next_of c.args.self.now.rule in
+    let new = c.next_four.new.self.nodes in
+    let half = c.in_ok-next_four.field-0 in
+    subst (λ j. IsCentre next new c.args.id c.args.grain j half) now (subst (λ k. IsCentre next new c.args.id k 0 half) least c.in_ok-next_four.ensures.centre)
 
 pub joined_centre-returns-then-is_none-clause-shows : goal.joined_centre-returns-then-is_none-clause-shows
 joined_centre-returns-then-is_none-clause-shows g t c = λ next p a b e four.
@@ -357,7 +366,7 @@ centre_of_nine-returns-clause-shows g t c = λ next p a b e shows.
     let south = c.in_ok-sw.ensures.shows next mid x (y +ℤ side (suc k)) e2
     (three_stay s1 s2 g1.grows.sound g2.grows (suc k) rows.middle mid x (y +ℤ side (suc k)) nine.at_middle)
     (three_stay s1 s2 g1.grows.sound g2.grows (suc k) rows.south mid x (y +ℤ side (suc k) +ℤ side (suc k)) nine.at_south) in
-    c.join.ensures.shows last (a +ℤ side (suc k)) (b +ℤ side (suc k)) (four_at k s2 s3 g2.grows.sound g3.grows c.in_ok-nw.nw c.in_ok-nw.ne c.in_ok-sw.sw c.in_ok-sw.se last a b north south)
+    c.in_ok-join.ensures.shows last (a +ℤ side (suc k)) (b +ℤ side (suc k)) (four_at k s2 s3 g2.grows.sound g3.grows c.in_ok-nw.nw c.in_ok-nw.ne c.in_ok-sw.sw c.in_ok-sw.se last a b north south)
 
 pub centre_of_nine-returns-clause-goes_on : goal.centre_of_nine-returns-clause-goes_on
 centre_of_nine-returns-clause-goes_on g t c =

@@ -30,16 +30,17 @@ returns-then-left-eq-MOST_GENERATIONS g c =
     let next = g.A.Automaton.next_of c.args.self.now.rule in
     let run = c.in_ok-now.ensures.reached in
     let on = c.in_ok-now.ensures.goes_on in
-    let leapt = subst (λ r. (x y : ℤ) → cell s2 c.in_ok-leap.field-0 x y ≡ cells_after (g.A.Automaton.next_of r) (cell s1 c.in_ok-now.field-0.tree) (2 ^ 60) x y) on.rule c.in_ok-leap.ensures.advanced.cells in
+    let leapt = subst (λ r. (x y : ℤ) → cell s2 c.in_ok-end.end x y ≡ cells_after (g.A.Automaton.next_of r) (cell s1 c.in_ok-now.field-0.tree) (2 ^ 60) x y) on.rule c.in_ok-end.ensures.advanced.cells in
     record {
       advanced = record {
-        is_tree = c.in_ok-leap.ensures.advanced.is_tree;
-        level = c.in_ok-leap.ensures.advanced.level;
+        is_tree = c.in_ok-end.ensures.advanced.is_tree;
+        level = c.in_ok-end.ensures.advanced.level;
         cells = λ x y. in_all next (cell s0 tree) _ reached (2 ^ 60) c.args.n x y (omega (arith, e, run.most))
             (leapt x y ∙ after_same next (cell s1 c.in_ok-now.field-0.tree) (cells_after next (cell s0 tree) reached) (2 ^ 60) run.cells x y);
       };
       none = λ z. absurd (omega (arith, e, z));
-      goes_on = goes_on_again _ _ _ _ on c.in_ok-leap.ensures.goes_on;
+      work = tt;
+      goes_on = goes_on_again _ _ _ _ on c.in_ok-end.ensures.goes_on;
     }
 
 pub digits-init : goal.digits-init
@@ -138,5 +139,6 @@ returns g c =
         cells = λ x y. in_all next p _ reached (left % 2 ^ c.digits.j) c.args.n x y time (inv.cells x y);
       };
       none = λ z. ap Ok (inv.none z);
+      work = tt;
       goes_on = inv.goes_on;
     }

@@ -2,23 +2,26 @@ use Rattle.std.proofs.Common.{arith, suc, sym, subst, IfSome}
 use Rattle.std.proofs.lemmas.Bool.Decides.{nat_tests}
 use Rattle.ca_quad.specs.Squares.{IsOf}
 use Rattle.ca_run.specs.Centre.{IsCentre}
-use Rattle.ca_run.proofs.Shown.{recalled, kept_recalled, full_leap_recalled}
+use Rattle.ca_run.proofs.Shown.{recalled, kept_recalled, full_leap_recalled, leaper_looked}
 use Rattle.ca_run.proofs.leaper.Leaper.recall.Goals as goal
 
-pub returns-then-j-grain : goal.returns-then-j-grain
-returns-then-j-grain g c =
+pub invariant_of-self : goal.invariant_of-self
+invariant_of-self g c = leaper_looked c.full_leap.ensures.no_more c.self.invariant
+
+pub returns-then-j-grain-clause-centre : goal.returns-then-j-grain-clause-centre
+returns-then-j-grain-clause-centre g c =
+    subst (λ l. IfSome c.full_leap.result (IsCentre (g.A.Automaton.next_of l.rule) l.nodes c.args.id c.args.grain c.args.j)) c.self.view_is
+    (full_leap_recalled (g.A.Automaton.next_of c.self.inside.rule) c.self.inside.store c.self.inside.memo c.args.id c.args.grain c.args.j c.full_leap.result (grind (arith, nat_tests)) c.self.invariant.full_leaps
+    (subst (λ l. IsOf l.nodes c.args.id (suc (suc c.args.grain))) (sym c.self.view_is) c.requires) c.full_leap.ensures.found)
+
+pub returns-then-is_cheap-clause-centre : goal.returns-then-is_cheap-clause-centre
+returns-then-is_cheap-clause-centre g c =
     subst (λ l. IfSome c.get.result (IsCentre (g.A.Automaton.next_of l.rule) l.nodes c.args.id c.args.grain c.args.j)) c.self.view_is
-    (full_leap_recalled (g.A.Automaton.next_of c.self.inside.rule) c.self.inside.store c.self.inside.full_leaps c.args.id c.args.grain c.args.j c.get.result (grind (arith, nat_tests)) c.self.invariant.full_leaps
+    (kept_recalled (g.A.Automaton.next_of c.self.inside.rule) c.self.inside.store c.self.inside.recent_centres.slots c.args.id c.args.grain c.args.j c.get.result c.self.invariant.recent_centres
     (subst (λ l. IsOf l.nodes c.args.id (suc (suc c.args.grain))) (sym c.self.view_is) c.requires) c.get.ensures)
 
-pub returns-then-is_cheap : goal.returns-then-is_cheap
-returns-then-is_cheap g c =
-    subst (λ l. IfSome c.get-then-is_cheap.result (IsCentre (g.A.Automaton.next_of l.rule) l.nodes c.args.id c.args.grain c.args.j)) c.self.view_is
-    (kept_recalled (g.A.Automaton.next_of c.self.inside.rule) c.self.inside.store c.self.inside.recent_centres c.args.id c.args.grain c.args.j c.get-then-is_cheap.result c.self.invariant.recent_centres
-    (subst (λ l. IsOf l.nodes c.args.id (suc (suc c.args.grain))) (sym c.self.view_is) c.requires) c.get-then-is_cheap.ensures)
-
-pub returns : goal.returns
-returns g c =
-    subst (λ l. IfSome c.get-2.result (IsCentre (g.A.Automaton.next_of l.rule) l.nodes c.args.id c.args.grain c.args.j)) c.self.view_is
-    (recalled (g.A.Automaton.next_of c.self.inside.rule) c.self.inside.store c.self.inside.memo c.args.id c.args.grain c.args.j c.get-2.result c.self.invariant.centres
-    (subst (λ l. IsOf l.nodes c.args.id (suc (suc c.args.grain))) (sym c.self.view_is) c.requires) c.get-2.ensures)
+pub returns-clause-centre : goal.returns-clause-centre
+returns-clause-centre g c =
+    subst (λ l. IfSome c.single.result (IsCentre (g.A.Automaton.next_of l.rule) l.nodes c.args.id c.args.grain c.args.j)) c.self.view_is
+    (recalled (g.A.Automaton.next_of c.self.inside.rule) c.self.inside.store c.self.inside.memo c.args.id c.args.grain c.args.j c.single.result c.self.invariant.singles
+    (subst (λ l. IsOf l.nodes c.args.id (suc (suc c.args.grain))) (sym c.self.view_is) c.requires) c.single.ensures)

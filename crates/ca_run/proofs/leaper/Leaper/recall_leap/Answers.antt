@@ -7,5 +7,5 @@ use Rattle.ca_run.proofs.leaper.Leaper.recall_leap.Goals as goal
 pub returns : goal.returns
 returns g c =
     subst (λ l. IfSome c.get.result (IsLeap (g.A.Automaton.next_of l.rule) l.nodes c.args.grain c.args.nw c.args.ne c.args.sw c.args.se)) c.self.view_is
-    (leap_recalled (g.A.Automaton.next_of c.self.inside.rule) c.self.inside.store c.self.inside.recent_leaps c.args.grain c.args.nw c.args.ne c.args.sw c.args.se c.get.result c.self.invariant.recent_leaps
+    (leap_recalled (g.A.Automaton.next_of c.self.inside.rule) c.self.inside.store c.self.inside.recent_leaps.slots c.args.grain c.args.nw c.args.ne c.args.sw c.args.se c.get.result c.self.invariant.recent_leaps
     (subst (λ l. AreFour l.nodes (suc c.args.grain) c.args.nw c.args.ne c.args.sw c.args.se) (sym c.self.view_is) c.requires) c.get.ensures)

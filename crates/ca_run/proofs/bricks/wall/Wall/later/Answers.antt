@@ -5,6 +5,7 @@ use Rattle.ca_plane.specs.Generations.{cells_after}
 use Rattle.ca_quad.specs.Trees.{cell}
 use Rattle.ca_run.specs.inner.Bricks.{WallShows, HasNeighbours, AllHaveNeighbours, IsNotIn, IsNextBrick, Rest, HasBlankEdge}
 use Rattle.ca_run.proofs.BrickMargins.{wall_less}
+use Rattle.ca_run.proofs.Shown.{spends_same, spends_again}
 use Rattle.ca_run.proofs.LaterWalls.{edge_blank, wall_later, wall_seen, by_first, queue_inside}
 use Rattle.ca_run.proofs.bricks.wall.Wall.later.Goals as goal
 
@@ -31,6 +32,7 @@ generations-init g c =
       edge = edge_blank c.args.self c.args.n (p c.args.reached) begins.shows;
       edge_before = c.in_ok-before.ensures.blank across;
       all = λ _. all;
+      spends = spends_same c.args.work.now;
     }
 
 pub generations-preserved : goal.generations-preserved
@@ -62,7 +64,17 @@ generations-preserved g c =
       edge = made.edge inv.edge_before;
       edge_before = subst (λ l. HasBlankEdge across l) (sym made.before) inv.edge;
       all = λ e. absurd (omega (arith, e));
+      spends = spends_again inv.spends c.charge.ensures.spends;
     }
+
+pub returns-in_err-charge-clause-spends : goal.returns-in_err-charge-clause-spends
+returns-in_err-charge-clause-spends g c = spends_again c.generations.invariant.spends c.charge.ensures.spends
+
+pub returns-in_err-generation-clause-spends : goal.returns-in_err-generation-clause-spends
+returns-in_err-generation-clause-spends g c = spends_again c.generations.invariant.spends c.charge.ensures.spends
+
+pub returns-clause-spends : goal.returns-clause-spends
+returns-clause-spends g c = c.generations.invariant.spends
 
 pub with_wall-requires : goal.with_wall-requires
 with_wall-requires g c =

@@ -1,6 +1,7 @@
 use Rattle.std.proofs.Common.{◌≡◌, ℕ, ◌+◌, ◌-◌, ◌≤◌, length, []}
 use Rattle.ca_plane.specs.Generations.{cells_after}
 use Rattle.ca_quad.specs.Trees.{cell}
+use Rattle.ca_run.specs.Spent.{Spends}
 use Rattle.ca_run.specs.inner.Bricks.{WallShows, IsInPlace, AllHaveNeighbours, HasNeighbours, IsNotIn, IsNextBrick, Rest, HasBlankEdge}
 use Rattle.ca_run.proofs.bricks.wall.Wall.later.Given as goal
 
@@ -18,4 +19,5 @@ invariant-generations g l = record {
   edge : HasBlankEdge l.self.across l.self.bricks.items;
   edge_before : HasBlankEdge l.self.across l.before.items;
   all : l.k ≡ 0 → (t : ℕ) → HasNeighbours l.self.across (length l.self.bricks.items) t → IsNotIn l.awake.items t → ⊥;
+  spends : Spends l.fn.work l.work;
 }

@@ -1,0 +1,54 @@
+-- What a leaper's memo keeps: pages of results, single results, and the order in which they were used.
+use Rattle.std.specs.Prelude.{◌≡◌, ℕ, ◌≤◌, ◌/◌, ◌%◌, List, [], Option, Some, length, slice_get}
+use Rattle.std.specs.List.{Contains}
+use Rattle.lru.specs.LruCache.{LruCache}
+use Rattle.ca_run.specs.declared.leaper.key.Key.{Key}
+use Rattle.ca_run.specs.declared.leaper.key.Key.TheVariants.{Page as OfPage, Single}
+use Rattle.ca_run.specs.declared.leaper.page.Page.{Page}
+
+-- pages by number, and the keys of pages and of single results in the order of their use
+pub record MemoView : Type 0 where
+  pub pages : List (Option Page)
+  pub order : LruCache Key (Option ℕ)
+
+-- a page is among the keys
+abbrev pub HasPageKey : List (Key × Option ℕ) → ℕ → Type 0
+HasPageKey entries n = (v : Option ℕ) × Contains entries (OfPage n, v)
+
+-- each page that stands is among the keys
+abbrev pub ArePagesKept : List (Option Page) → List (Key × Option ℕ) → Type 0
+ArePagesKept pages entries = (n : ℕ) (page : Page) → slice_get pages n ≡ Some (Some page) → HasPageKey entries n
+
+-- each page that stands is among the keys, and there are no more keys than there may be
+pub record IsBounded (pages : List (Option Page)) (order : LruCache Key (Option ℕ)) : Type 0 where
+  pub held : ArePagesKept pages order.entries
+  pub most : length order.entries ≤ order.cap
+
+-- a slot of a page has a result
+abbrev pub HasSlot : Page → ℕ → ℕ → Type 0
+HasSlot page i half = slice_get page.slots i ≡ Some (Some half)
+
+-- the page of a square has its result at full leap
+abbrev pub HasFullLeapIn : List (Option Page) → ℕ → ℕ → Type 0
+HasFullLeapIn pages id half = (page : Page) × (slice_get pages (id / 16) ≡ Some (Some page)) × HasSlot page (id % 16) half
+
+abbrev pub HasFullLeap : MemoView → ℕ → ℕ → Type 0
+HasFullLeap memo id half = HasFullLeapIn memo.pages id half
+
+-- there is a single result of a square after 2 ^ j generations
+abbrev pub HasSingleIn : List (Key × Option ℕ) → ℕ → ℕ → ℕ → Type 0
+HasSingleIn entries id j half = Contains entries (Single id j, Some half)
+
+abbrev pub HasSingle : MemoView → ℕ → ℕ → ℕ → Type 0
+HasSingle memo id j half = HasSingleIn memo.order.entries id j half
+
+-- nothing is remembered that wasn't, and as much may be
+pub record RemembersNoMore (old new : MemoView) : Type 0 where
+  pub full_leaps : (id half : ℕ) → HasFullLeap new id half → HasFullLeap old id half
+  pub singles : (id j half : ℕ) → HasSingle new id j half → HasSingle old id j half
+  pub capacity : new.order.cap ≡ old.order.cap
+
+-- nothing is remembered
+pub record IsBlankMemo (memo : MemoView) : Type 0 where
+  pub pages : memo.pages ≡ []
+  pub entries : memo.order.entries ≡ []

@@ -1,0 +1,59 @@
+//! Work that is counted.
+
+ghost use Rattle.std.specs.Prelude.{◌≡◌, ◌+◌, ◌≤◌, OnOk};
+ghost use Rattle.ca_run.specs.Spent.{Spends, EndsAtLimit};
+
+use crate::fault::LeapFault;
+use std::marker::Model;
+
+/// How many units of work are used up, and how many may be.
+#[derive(Clone, Copy)]
+pub(crate) struct Work {
+    used: u64,
+    limit: u64,
+}
+
+impl Model for Work {
+    ghost use Rattle.std.specs.Prelude.{◌≤◌};
+    ghost use Rattle.ca_run.specs.Spent.{Spent};
+
+    ghost Value = { Spent };
+
+    ghost view = { λ w. record { used = w.used; limit = w.limit } };
+
+    ghost inverse = { λ s. record { used = s.used; limit = s.limit } };
+
+    ghost invariant = { λ w. w.used ≤ w.limit };
+}
+
+impl Work {
+    /// Nothing is used up yet.
+    pub(crate) fn new(limit: u64) -> Work
+        ensures { result ≡ record { used = 0; limit = limit } }
+    {
+        Work { used: 0, limit }
+    }
+
+    /// How much is used up: no more than may be.
+    pub(crate) fn used(&self) -> u64
+        ensures value { result ≡ self.now.used }
+        ensures most { result ≤ self.now.limit }
+    {
+        self.used
+    }
+
+    /// Counts so many units before they are worked out. Where fewer are left, all are used up, and nothing is to be
+    /// worked out.
+    pub(crate) fn charge(&mut self, units: u64) -> Result<(), LeapFault>
+        ensures counts { OnOk result (self.new.used ≡ self.old.used + units) }
+        ensures spends { Spends self.old self.new }
+        ensures work { EndsAtLimit self.new result }
+    {
+        if self.limit - self.used < units {
+            self.used = self.limit;
+            return Err(LeapFault::Work);
+        }
+        self.used += units;
+        Ok(())
+    }
+}
