@@ -36,4 +36,5 @@ pub mod BrickWords
 pub mod Walls
 pub mod DenseRuns
 pub mod OrdersOfUse
+pub mod Costs
 pub mod MemoKeys

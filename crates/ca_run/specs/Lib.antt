@@ -3,6 +3,7 @@ pub mod Later
 pub mod Centre
 pub mod Spent
 pub mod Leaping
+pub mod Costs
 pub mod Advanced
 pub mod Stepped
 pub mod Lanes

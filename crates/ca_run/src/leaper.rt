@@ -1,10 +1,11 @@
 //! Leaps by powers of two over shared squares (Gosper, "Exploiting regularities in large cellular spaces").
 
-ghost use Rattle.std.specs.Prelude.{◌≡◌, ℕ, suc, ◌≤◌, ℤ, IfOk, IfSome};
+ghost use Rattle.std.specs.Prelude.{◌≡◌, ℕ, suc, ◌+◌, ◌≤◌, ℤ, OnOk, IfOk, IfSome};
 ghost use Rattle.ca_quad.specs.Squares.{IsOf, dot, together};
 ghost use Rattle.ca_quad.specs.Sound.{IsSoundStore};
 ghost use Rattle.ca_quad.specs.Trees.{AreFour, ShowsSquare};
 ghost use Rattle.ca_run.specs.Centre.{IsCentre};
+ghost use Rattle.ca_run.specs.Costs.{Costs};
 ghost use Rattle.ca_run.specs.Leaping.{LeaperGrows};
 ghost use Rattle.ca_run.specs.Masks.{GoesBy};
 ghost use Rattle.ca_run.specs.RecentLeaps.{IsLeap};
@@ -73,7 +74,13 @@ impl<A: Automaton> Model for Leaper<A> {
 
 impl<A: Automaton> Leaper<A> {
     /// A leaper over the squares of a store, which has worked out nothing yet, and may work out so many results.
-    pub fn new(alloc: Global, store: Store, rule: A, memo: usize, work: u64) -> Result<Leaper<A>, Memory>
+    pub fn new(
+        alloc: Global,
+        store: Store,
+        rule: A,
+        memo: usize,
+        work: u64,
+    ) -> Result<Leaper<A>, Memory>
     where
         A: Drop,
         requires least { 1 ≤ memo }
@@ -84,7 +91,6 @@ impl<A: Automaton> Leaper<A> {
         ensures used { IfOk result (λ l. l.spent.used ≡ 0) }
         ensures limit { IfOk result (λ l. l.spent.limit ≡ work) }
     {
-
         let _states = rule.states();
         let _squares = store.count();
         let masks = rule.masks();
@@ -130,6 +136,8 @@ impl<A: Automaton> Leaper<A> {
     fn charge(&mut self, units: u64) -> Result<(), LeapFault>
         ensures goes_on { LeaperGrows A self.old self.new }
         ensures same { self.new.nodes ≡ self.old.nodes }
+        ensures counts { OnOk result (self.new.spent.used ≡ self.old.spent.used + units) }
+        ensures costs { Costs A self.old self.new units 0 }
         ensures work { EndsAtLimit self.new.spent result }
     {
         let _ = &self.store;
@@ -222,6 +230,7 @@ impl<A: Automaton> Leaper<A> {
         ensures shows { IfOk result (λ id. ShowsSquare self.new.nodes id 1
             (together 1 (dot nw) (dot ne) (dot sw) (dot se))) }
         ensures goes_on { LeaperGrows A self.old self.new }
+        ensures costs { Costs A self.old self.new 0 1 }
     {
         self.store.leaf(nw, ne, sw, se)
     }
@@ -233,6 +242,7 @@ impl<A: Automaton> Leaper<A> {
             → IfOk result (λ id. ShowsAt self.new.nodes id (suc (suc grain)) p a b) }
         ensures square { IfOk result (λ id. IsOf self.new.nodes id (suc (suc grain))) }
         ensures goes_on { LeaperGrows A self.old self.new }
+        ensures costs { Costs A self.old self.new 0 1 }
     {
         let _ = grain;
         self.store.join(nw, ne, sw, se)

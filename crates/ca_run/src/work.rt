@@ -46,6 +46,7 @@ impl Work {
     /// worked out.
     pub(crate) fn charge(&mut self, units: u64) -> Result<(), LeapFault>
         ensures counts { OnOk result (self.new.used ≡ self.old.used + units) }
+        ensures most { self.new.used ≤ self.old.used + units }
         ensures spends { Spends self.old self.new }
         ensures work { EndsAtLimit self.new result }
     {

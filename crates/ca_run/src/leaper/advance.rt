@@ -1,9 +1,10 @@
 //! Trees after n generations.
 
-ghost use Rattle.std.specs.Prelude.{◌≡◌, ◌+◌, ◌≤◌, ◌^◌, max, Ok, IfOk};
+ghost use Rattle.std.specs.Prelude.{◌≡◌, ◌+◌, ◌≤◌, ◌^◌, max, Ok, IfOk, ◌*◌, ◌-◌};
 ghost use Rattle.ca_quad.specs.Sound.{IsSoundStore};
 ghost use Rattle.ca_quad.specs.Trees.{IsTree};
 ghost use Rattle.ca_run.specs.Advanced.{CanAdvance, IsAdvanced, Advances};
+ghost use Rattle.ca_run.specs.Costs.{Costs};
 ghost use Rattle.ca_run.specs.Leaping.{LeaperGrows};
 ghost use Rattle.ca_run.specs.Spent.{EndsAtLimit};
 ghost use Rattle.ca_run.specs.inner.Padded.{IsPadded};
@@ -76,6 +77,7 @@ impl<A: Automaton> Leaper<A> {
             (IsAdvanced (A.next_of self.old.rule) self.old.nodes tree (2 ^ j) self.new.nodes) }
         ensures level { IfOk result (λ t. t.level ≡ max tree.level (j + 1) + 1) }
         ensures goes_on { LeaperGrows A self.old self.new }
+        ensures costs { Costs A self.old self.new (14 ^ max tree.level (j + 1)) 16250 }
         ensures work { EndsAtLimit self.new.spent result }
     {
         // So all that is live 2^j generations on lies in the centre.
@@ -95,6 +97,7 @@ impl<A: Automaton> Leaper<A> {
         requires most { level ≤ 125 }
         ensures padded { IfOk result (IsPadded self.old.nodes tree level self.new.nodes) }
         ensures goes_on { LeaperGrows A self.old self.new }
+        ensures costs { Costs A self.old self.new 0 (130 * (level - tree.level)) }
         ensures sound { IsSoundStore self.old.nodes }
     {
         let _ = &self.store;
@@ -111,6 +114,7 @@ impl<A: Automaton> Leaper<A> {
         requires low { tree.level ≤ 124 }
         ensures padded { IfOk result (IsPadded self.old.nodes tree (tree.level + 1) self.new.nodes) }
         ensures goes_on { LeaperGrows A self.old self.new }
+        ensures costs { Costs A self.old self.new 0 130 }
     {
         self.store.pad(tree)
     }

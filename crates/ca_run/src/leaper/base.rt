@@ -4,6 +4,7 @@ ghost use Rattle.std.specs.Prelude.{◌≡◌, IfOk};
 ghost use Rattle.ca_quad.specs.Squares.{IsOf, cell_of, together};
 ghost use Rattle.ca_quad.specs.Trees.{AreFour};
 ghost use Rattle.ca_run.specs.Centre.{IsCentre};
+ghost use Rattle.ca_run.specs.Costs.{Costs};
 ghost use Rattle.ca_run.specs.Leaping.{LeaperGrows};
 ghost use Rattle.ca_run.specs.RecentLeaps.{IsLeap};
 ghost use Rattle.ca_run.specs.inner.Shown.{sixteen};
@@ -31,6 +32,7 @@ impl<A: Automaton> Leaper<A> {
         requires { AreFour self.old.nodes 1 nw ne sw se }
         ensures leap { IfOk result (IsLeap (A.next_of self.old.rule) self.new.nodes 0 nw ne sw se) }
         ensures goes_on { LeaperGrows A self.old self.new }
+        ensures costs { Costs A self.old self.new 0 1 }
     {
         let [a, b, c, d, e, f, g, h, i, j, k, l, m, n, o, p] = self.cells16(nw, ne, sw, se);
         let nw = self.rule.next(&[a, b, c, e, f, g, i, j, k]);
@@ -45,6 +47,7 @@ impl<A: Automaton> Leaper<A> {
         requires { IsOf self.old.nodes id 2 }
         ensures centre { IfOk result (IsCentre (A.next_of self.old.rule) self.new.nodes id 0 0) }
         ensures goes_on { LeaperGrows A self.old self.new }
+        ensures costs { Costs A self.old self.new 0 1 }
     {
         let (nw, ne, sw, se) = self.quarters(id, 0);
         self.next_inner(nw, ne, sw, se)

@@ -1,10 +1,11 @@
 //! The centres of squares after 2^j generations.
 
-ghost use Rattle.std.specs.Prelude.{◌≡◌, ℕ, suc, ◌≤◌, ◌^◌, ℤ, pos, ◌+ℤ◌, List, Option, IfOk, IfSome};
+ghost use Rattle.std.specs.Prelude.{◌≡◌, ℕ, suc, ◌≤◌, ◌^◌, ℤ, pos, ◌+ℤ◌, List, Option, IfOk, IfSome, ◌*◌, ◌-◌};
 ghost use Rattle.ca_plane.specs.Generations.{cells_after};
 ghost use Rattle.ca_quad.specs.Squares.{IsOf};
 ghost use Rattle.ca_quad.specs.Trees.{AreFour};
 ghost use Rattle.ca_run.specs.Centre.{IsCentre};
+ghost use Rattle.ca_run.specs.Costs.{Costs};
 ghost use Rattle.ca_run.specs.Leaping.{LeaperGrows};
 ghost use Rattle.ca_run.specs.RecentLeaps.{IsLeap};
 ghost use Rattle.ca_run.specs.Spent.{EndsAtLimit};
@@ -27,6 +28,7 @@ impl<A: Automaton> Leaper<A> {
         requires low { grain ≤ 123 }
         ensures centre { IfOk result (IsCentre (A.next_of self.old.rule) self.new.nodes id grain j) }
         ensures goes_on { LeaperGrows A self.old self.new }
+        ensures costs { Costs A self.old self.new (14 ^ grain) 0 }
         ensures work { EndsAtLimit self.new.spent result }
     {
         let _ = &self.store;
@@ -62,6 +64,7 @@ impl<A: Automaton> Leaper<A> {
         requires low { grain ≤ 123 }
         ensures centre { IfOk result (IsCentre (A.next_of self.old.rule) self.new.nodes id grain j) }
         ensures goes_on { LeaperGrows A self.old self.new }
+        ensures costs { Costs A self.old self.new (14 ^ grain - 1) 19 }
         ensures work { EndsAtLimit self.new.spent result }
     {
         let _ = &self.store;
@@ -80,7 +83,13 @@ impl<A: Automaton> Leaper<A> {
     // The centre of a square by nine squares that overlap, each half as wide: their centres make four
     // squares, and the centres of these are the result.
     #[cycle(leap)]
-    fn centre_of_nine(&mut self, id: Id, grain: u8, first: Option<u8>, j: u8) -> Result<Id, LeapFault>
+    fn centre_of_nine(
+        &mut self,
+        id: Id,
+        grain: u8,
+        first: Option<u8>,
+        j: u8,
+    ) -> Result<Id, LeapFault>
         requires square { IsOf self.old.nodes id (suc (suc (suc grain))) }
         requires low { grain ≤ 122 }
         requires first { IsTimely grain first }
@@ -91,6 +100,7 @@ impl<A: Automaton> Leaper<A> {
             (cells_after next (cells_after next p (generations first)) (2 ^ j))
             (a +ℤ side (suc grain)) (b +ℤ side (suc grain))) }
         ensures goes_on { LeaperGrows A self.old self.new }
+        ensures costs { Costs A self.old self.new (13 * 14 ^ grain) 19 }
         ensures work { EndsAtLimit self.new.spent result }
     {
         let rows = self.nine(id, grain, first)?;
@@ -111,6 +121,7 @@ impl<A: Automaton> Leaper<A> {
             (cells_after next p (generations first)) (a +ℤ side grain) (b +ℤ side grain)) }
         ensures squares { IfOk result (AreNine self.new.nodes (suc grain)) }
         ensures goes_on { LeaperGrows A self.old self.new }
+        ensures costs { Costs A self.old self.new (9 * 14 ^ grain) 9 }
         ensures work { EndsAtLimit self.new.spent result }
     {
         let (nw, ne, sw, se) = self.quarters(id, grain + 1);
@@ -137,6 +148,7 @@ impl<A: Automaton> Leaper<A> {
             (cells_after next p (generations first)) (a +ℤ side grain) (b +ℤ side grain)) }
         ensures squares { IfOk result (AreThree self.new.nodes (suc grain)) }
         ensures goes_on { LeaperGrows A self.old self.new }
+        ensures costs { Costs A self.old self.new (3 * 14 ^ grain) 3 }
         ensures work { EndsAtLimit self.new.spent result }
     {
         let _ = &self.store;
@@ -169,6 +181,7 @@ impl<A: Automaton> Leaper<A> {
             ((b +ℤ side (suc grain)) +ℤ side grain)) }
         ensures squares { IfOk result (AreThree self.new.nodes (suc grain)) }
         ensures goes_on { LeaperGrows A self.old self.new }
+        ensures costs { Costs A self.old self.new (3 * 14 ^ grain) 3 }
         ensures work { EndsAtLimit self.new.spent result }
     {
         let _ = &self.store;
@@ -202,6 +215,7 @@ impl<A: Automaton> Leaper<A> {
             (cells_after next p (generations first)) (a +ℤ side grain) (b +ℤ side grain)) }
         ensures square { IfOk result (λ half. IsOf self.new.nodes half (suc grain)) }
         ensures goes_on { LeaperGrows A self.old self.new }
+        ensures costs { Costs A self.old self.new (14 ^ grain) 1 }
         ensures work { EndsAtLimit self.new.spent result }
     {
         let _ = &self.store;
@@ -223,6 +237,7 @@ impl<A: Automaton> Leaper<A> {
             (cells_after next p (generations first)) (a +ℤ side grain) (b +ℤ side grain)) }
         ensures square { IfOk result (λ half. IsOf self.new.nodes half (suc grain)) }
         ensures goes_on { LeaperGrows A self.old self.new }
+        ensures costs { Costs A self.old self.new (14 ^ grain) 1 }
         ensures work { EndsAtLimit self.new.spent result }
     {
         let _ = &self.store;
@@ -247,6 +262,7 @@ impl<A: Automaton> Leaper<A> {
         ensures west { IfOk result (λ two. IsOf self.new.nodes two.0 (suc grain)) }
         ensures east { IfOk result (λ two. IsOf self.new.nodes two.1 (suc grain)) }
         ensures goes_on { LeaperGrows A self.old self.new }
+        ensures costs { Costs A self.old self.new (2 * 14 ^ grain) 2 }
         ensures work { EndsAtLimit self.new.spent result }
     {
         let _ = &self.store;
@@ -289,6 +305,7 @@ impl<A: Automaton> Leaper<A> {
             (a +ℤ side grain) (b +ℤ side grain)) }
         ensures square { IfOk result (λ half. IsOf self.new.nodes half (suc grain)) }
         ensures goes_on { LeaperGrows A self.old self.new }
+        ensures costs { Costs A self.old self.new (14 ^ grain) 1 }
         ensures work { EndsAtLimit self.new.spent result }
     {
         let _ = &self.store;
@@ -306,6 +323,7 @@ impl<A: Automaton> Leaper<A> {
         requires low { grain ≤ 122 }
         ensures leap { IfOk result (IsLeap (A.next_of self.old.rule) self.new.nodes grain nw ne sw se) }
         ensures goes_on { LeaperGrows A self.old self.new }
+        ensures costs { Costs A self.old self.new (14 ^ grain) 1 }
         ensures work { EndsAtLimit self.new.spent result }
     {
         let _ = &self.store;
@@ -324,6 +342,7 @@ impl<A: Automaton> Leaper<A> {
         requires low { grain ≤ 122 }
         ensures leap { IfOk result (IsLeap (A.next_of self.old.rule) self.new.nodes grain nw ne sw se) }
         ensures goes_on { LeaperGrows A self.old self.new }
+        ensures costs { Costs A self.old self.new (14 ^ grain) 1 }
         ensures work { EndsAtLimit self.new.spent result }
     {
         let _ = &self.store;
@@ -339,6 +358,7 @@ impl<A: Automaton> Leaper<A> {
         requires { AreFour self.old.nodes 1 nw ne sw se }
         ensures leap { IfOk result (IsLeap (A.next_of self.old.rule) self.new.nodes 0 nw ne sw se) }
         ensures goes_on { LeaperGrows A self.old self.new }
+        ensures costs { Costs A self.old self.new 1 1 }
         ensures work { EndsAtLimit self.new.spent result }
     {
         if !self.are_empty(nw, ne, sw, se) {

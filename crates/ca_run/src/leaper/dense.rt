@@ -156,7 +156,6 @@ impl<A: Automaton> Leaper<A> {
         );
         self.work = spent;
         let later = later?;
-        self.charge(later.bricks.len() as u64)?;
         let tree = self.tree_of(&later)?;
         Ok(Some(Stretch {
             reached: Reached {

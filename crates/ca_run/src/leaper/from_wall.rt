@@ -3,13 +3,16 @@
 ghost use Rattle.std.specs.Prelude.{◌≡◌, true, ℕ, suc, ◌+◌, ◌*◌, ◌<◌, ◌≤◌, ◌^◌, ℤ, pos, neg_ℤ, ◌+ℤ◌, ◌<ℤ◌, ◌≤ℤ◌, IfOk};
 ghost use Rattle.ca_quad.specs.Squares.{IsOf};
 ghost use Rattle.ca_quad.specs.Trees.{IsTree, cell};
+ghost use Rattle.ca_run.specs.Costs.{Costs};
 ghost use Rattle.ca_run.specs.Leaping.{LeaperGrows};
+ghost use Rattle.ca_run.specs.Spent.{EndsAtLimit};
 ghost use Rattle.ca_run.specs.inner.Shown.{ShowsAt};
 ghost use Rattle.ca_run.specs.inner.Bricks.{IsWall, WallShows, IsNearWall, LiesWithin, LiesNear, IsAligned};
 ghost use Rattle.ca_run.specs.inner.Words.{eight};
 
 use super::Leaper;
 use crate::bricks::{Wall, WordPlace};
+use crate::fault::LeapFault;
 use ca_plane::{Automaton, Memory};
 use ca_quad::{Id, Tree};
 
@@ -80,7 +83,7 @@ impl WordPlace {
 
 impl<A: Automaton> Leaper<A> {
     // The tree of a wall: of the smallest level from 7 on that holds all its bricks.
-    pub(super) fn tree_of(&mut self, wall: &Wall) -> Result<Tree, Memory>
+    pub(super) fn tree_of(&mut self, wall: &Wall) -> Result<Tree, LeapFault>
         requires wall { IsWall wall.now }
         requires place { LiesNear wall.now }
         requires aligned { IsAligned wall.now }
@@ -89,6 +92,7 @@ impl<A: Automaton> Leaper<A> {
         ensures cells { (m : ℕ) (p : ℤ → ℤ → ℕ) → WallShows wall.now m p
             → IfOk result (λ tree. (x y : ℤ) → cell self.new.nodes tree x y ≡ p x y) }
         ensures goes_on { LeaperGrows A self.old self.new }
+        ensures work { EndsAtLimit self.new.spent result }
     {
         let reach = wall.reach();
         let root = self.from_wall(wall, reach - 2, wall.corner(reach))?;
@@ -101,7 +105,12 @@ impl<A: Automaton> Leaper<A> {
     // The square of the words of a wall from a place on. A square's grain is the number of times that its side of
     // words can be halved: its level is that and 3.
     #[cycle(from_wall)]
-    pub(super) fn from_wall(&mut self, wall: &Wall, grain: u8, at: WordPlace) -> Result<Id, Memory>
+    pub(super) fn from_wall(
+        &mut self,
+        wall: &Wall,
+        grain: u8,
+        at: WordPlace,
+    ) -> Result<Id, LeapFault>
         requires wall { IsWall wall.now }
         requires low { grain ≤ 61 }
         requires near { IsNearWall (2 ^ grain) at }
@@ -110,21 +119,23 @@ impl<A: Automaton> Leaper<A> {
             (wall.now.x +ℤ eight at.i) (wall.now.y +ℤ eight at.j)) }
         ensures square { IfOk result (λ id. IsOf self.new.nodes id (suc (suc (suc grain)))) }
         ensures goes_on { LeaperGrows A self.old self.new }
+        ensures costs { Costs A self.old self.new (14 ^ grain) 125 }
+        ensures work { EndsAtLimit self.new.spent result }
     {
         if grain == 0 {
-            return self.from_word(wall.word(at));
+            return Ok(self.from_word(wall.word(at))?);
         }
         let count = width(grain);
         let (words, rows) = at.naturals(count);
         if wall.is_blank_between(words, rows) {
-            return self.empty_square(grain + 3);
+            return Ok(self.empty_square(grain + 3)?);
         }
         self.from_wall_parts(wall, grain - 1, at)
     }
 
-    // The same where it has parts: the grain is theirs.
+    // The same where it has parts: the grain is theirs. Each is counted before it is made.
     #[cycle(from_wall)]
-    fn from_wall_parts(&mut self, wall: &Wall, grain: u8, at: WordPlace) -> Result<Id, Memory>
+    fn from_wall_parts(&mut self, wall: &Wall, grain: u8, at: WordPlace) -> Result<Id, LeapFault>
         requires wall { IsWall wall.now }
         requires low { grain ≤ 60 }
         requires near { IsNearWall (2 ^ grain + 2 ^ grain) at }
@@ -133,13 +144,16 @@ impl<A: Automaton> Leaper<A> {
             (wall.now.x +ℤ eight at.i) (wall.now.y +ℤ eight at.j)) }
         ensures square { IfOk result (λ id. IsOf self.new.nodes id (suc (suc (suc (suc grain))))) }
         ensures goes_on { LeaperGrows A self.old self.new }
+        ensures costs { Costs A self.old self.new (4 + 4 * 14 ^ grain) 0 }
+        ensures work { EndsAtLimit self.new.spent result }
     {
         let places = at.quarters(width(grain));
+        self.charge(4)?;
         let nw = self.from_wall(wall, grain, at)?;
         let ne = self.from_wall(wall, grain, places.ne)?;
         let sw = self.from_wall(wall, grain, places.sw)?;
         let se = self.from_wall(wall, grain, places.se)?;
-        self.join(nw, ne, sw, se, grain + 2)
+        Ok(self.join(nw, ne, sw, se, grain + 2)?)
     }
 
     // The empty square of a level.
@@ -151,6 +165,7 @@ impl<A: Automaton> Leaper<A> {
             → IfOk result (λ id. ShowsAt self.new.nodes id level p a b) }
         ensures square { IfOk result (λ id. IsOf self.new.nodes id level) }
         ensures goes_on { LeaperGrows A self.old self.new }
+        ensures costs { Costs A self.old self.new 0 125 }
     {
         self.store.empty(level)
     }

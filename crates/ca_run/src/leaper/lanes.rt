@@ -2,6 +2,7 @@
 
 ghost use Rattle.std.specs.Prelude.{◌≡◌, ◌+◌, ◌≤◌, ◌^◌, IfOk, IfSome};
 ghost use Rattle.ca_run.specs.Centre.{IsCentre};
+ghost use Rattle.ca_run.specs.Costs.{Costs};
 ghost use Rattle.ca_run.specs.Leaping.{LeaperGrows};
 ghost use Rattle.ca_run.specs.inner.Centres.{HasCentre, ShowsCentre};
 
@@ -52,6 +53,7 @@ impl<A: Automaton> Leaper<A> {
         requires words { ShowsCentre (A.next_of self.old.rule) self.old.nodes id grain j words }
         ensures centre { IfOk result (IsCentre (A.next_of self.old.rule) self.new.nodes id grain j) }
         ensures goes_on { LeaperGrows A self.old self.new }
+        ensures costs { Costs A self.old self.new 0 5 }
     {
         let _ = &self.store;
         let _ = (id, grain, j);

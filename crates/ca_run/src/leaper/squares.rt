@@ -2,6 +2,7 @@
 
 ghost use Rattle.std.specs.Prelude.{ℕ, ℤ, IfOk, IfSome};
 ghost use Rattle.ca_quad.specs.Squares.{IsOf};
+ghost use Rattle.ca_run.specs.Costs.{Costs};
 ghost use Rattle.ca_run.specs.Leaping.{LeaperGrows};
 ghost use Rattle.ca_run.specs.inner.Shown.{ShowsAt};
 ghost use Rattle.ca_run.specs.inner.Words.{WordShows, WordsShow, WideSquareShows};
@@ -58,6 +59,7 @@ impl<A: Automaton> Leaper<A> {
             → IfOk result (λ id. ShowsAt self.new.nodes id 3 p a b) }
         ensures square { IfOk result (λ id. IsOf self.new.nodes id 3) }
         ensures goes_on { LeaperGrows A self.old self.new }
+        ensures costs { Costs A self.old self.new 0 1 }
     {
         self.store.from_word(word)
     }
@@ -68,6 +70,7 @@ impl<A: Automaton> Leaper<A> {
             → IfOk result (λ id. ShowsAt self.new.nodes id 4 p a b) }
         ensures square { IfOk result (λ id. IsOf self.new.nodes id 4) }
         ensures goes_on { LeaperGrows A self.old self.new }
+        ensures costs { Costs A self.old self.new 0 5 }
     {
         let nw = self.from_word(words.nw)?;
         let ne = self.from_word(words.ne)?;

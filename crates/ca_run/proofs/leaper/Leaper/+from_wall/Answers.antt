@@ -1,4 +1,4 @@
-use Rattle.std.proofs.Common.{rules, ◌≡◌, ℕ, suc, ◌+◌, ◌-◌, ◌*◌, ◌<◌, ◌^◌, IfOk, sym, ap, subst, ◌∙◌, arith}
+use Rattle.std.proofs.Common.{rules, ◌≡◌, ℕ, suc, ◌+◌, ◌-◌, ◌*◌, ◌<◌, ◌≤◌, ◌^◌, IfOk, sym, ap, subst, ◌∙◌, arith}
 use Rattle.std.specs.Prelude.{ℤ, pos, ◌+ℤ◌}
 use Rattle.std.proofs.lemmas.Int.{ints}
 use Rattle.std.proofs.Math.Nat.{two-pow-succ}
@@ -8,6 +8,7 @@ use Rattle.ca_run.specs.inner.Words.{eight}
 use Rattle.ca_run.proofs.Shown.{goes_on_again, four_go_on, four_made, four_are, at_from}
 use Rattle.ca_run.proofs.ReadWords.{side_words}
 use Rattle.ca_run.proofs.Walls.{near_wall_at, near_wall_as, blank_square}
+use Rattle.ca_run.proofs.Costs.{costs_more, four_and_four}
 use Rattle.ca_run.proofs.leaper.Leaper.+from_wall.Goals as goal
 
 up : (k : ℕ) → k + 3 ≡ suc (suc (suc k))
@@ -18,7 +19,7 @@ from_wall-returns-then-grain-eq0-clause-shows g t c = λ m p shows.
     let none : 0 ≡ c.args.grain = omega (arith, c.if-grain-eq0.true) in
     let a = c.args.wall.now.x +ℤ eight c.args.at.i in
     let b = c.args.wall.now.y +ℤ eight c.args.at.j in
-    subst (λ k. IfOk c.from_word.result (λ id. ShowsAt c.from_word.new.self.nodes id (suc (suc (suc k))) p a b)) none (c.from_word.ensures.shows p a b (c.word.ensures m p shows))
+    subst (λ k. ShowsAt c.from_word.new.self.nodes c.in_ok-from_word.field-0 (suc (suc (suc k))) p a b) none (c.in_ok-from_word.ensures.shows p a b (c.word.ensures m p shows))
 
 pub from_wall-returns-then-is_blank_between-clause-shows : goal.from_wall-returns-then-is_blank_between-clause-shows
 from_wall-returns-then-is_blank_between-clause-shows g t c = λ m p shows.
@@ -28,8 +29,8 @@ from_wall-returns-then-is_blank_between-clause-shows g t c = λ m p shows.
     let n = c.width-count.result in
     let none = blank_square wall m p shows i j n c.naturals.result.0 c.naturals.result.1 c.naturals.ensures.words c.naturals.ensures.rows (c.is_blank_between.ensures c.if-is_blank_between.true m p shows) in
     let wide : 2 ^ (c.args.grain + 3) ≡ 8 * n = ap (λ k. 2 ^ k) (up c.args.grain) ∙ side_words c.args.grain ∙ ap (λ n. 8 * n) (sym c.width-count.ensures) in
-    subst (λ k. IfOk c.empty_square.result (λ id. ShowsAt c.empty_square.new.self.nodes id k p (wall.x +ℤ eight i) (wall.y +ℤ eight j))) (up c.args.grain)
-    (c.empty_square.ensures.shows p (wall.x +ℤ eight i) (wall.y +ℤ eight j) (λ x y low_x low_y. none x y (subst (λ m. x < m) wide low_x) (subst (λ m. y < m) wide low_y)))
+    subst (λ k. ShowsAt c.empty_square.new.self.nodes c.in_ok-empty_square.field-0 k p (wall.x +ℤ eight i) (wall.y +ℤ eight j)) (up c.args.grain)
+    (c.in_ok-empty_square.ensures.shows p (wall.x +ℤ eight i) (wall.y +ℤ eight j) (λ x y low_x low_y. none x y (subst (λ m. x < m) wide low_x) (subst (λ m. y < m) wide low_y)))
 
 pub from_wall-from_wall_parts-requires : goal.from_wall-from_wall_parts-requires
 from_wall-from_wall_parts-requires g t c κs within =
@@ -44,8 +45,21 @@ from_wall-returns-clause-shows g t c = λ m p shows.
     subst (λ k. IfOk c.from_wall_parts.result (λ id. ShowsAt c.from_wall_parts.new.self.nodes id (suc (suc (suc k))) p (c.args.wall.now.x +ℤ eight c.args.at.i) (c.args.wall.now.y +ℤ eight c.args.at.j))) next
     (c.from_wall_parts.ensures.shows m p shows)
 
+pub from_wall-returns-clause-costs : goal.from_wall-returns-clause-costs
+from_wall-returns-clause-costs g t c =
+    let next : suc (c.args.grain - 1) ≡ c.args.grain = omega (arith, c.if-grain-eq0.false) in
+    let few : 4 + 4 * 14 ^ (c.args.grain - 1) ≤ 14 ^ c.args.grain = subst (λ k. 4 + 4 * 14 ^ (c.args.grain - 1) ≤ 14 ^ k) next (four_and_four (c.args.grain - 1)) in
+    costs_more c.from_wall_parts.ensures.costs few (omega arith)
+
 up2 : (k : ℕ) → suc (k + 2) ≡ suc (suc (suc k))
 up2 k = omega arith
+
+pub from_wall_parts-from_wall-requires-2 : goal.from_wall_parts-from_wall-requires-2
+from_wall_parts-from_wall-requires-2 g t c κs within =
+    let h = 2 ^ c.args.grain in
+    let there = c.quarters-places.ensures.ne in
+    let near = near_wall_at h h 0 c.args.at c.quarters-places.result.ne c.requires.near (omega arith) (omega arith) (omega (arith, ints, there.0, c.width.ensures)) (omega (arith, ints, there.1)) in
+    search rules
 
 pub from_wall_parts-from_wall-requires-3 : goal.from_wall_parts-from_wall-requires-3
 from_wall_parts-from_wall-requires-3 g t c κs within =
@@ -82,8 +96,8 @@ from_wall_parts-returns-clause-shows g t c = λ m p shows.
     let south : (v : ℤ) → v ≡ j +ℤ pos c.width.result → b +ℤ eight v ≡ y +ℤ side k = λ v e. omega (arith, ints, e, wide) in
     let same_x : (u : ℤ) → u ≡ i → a +ℤ eight u ≡ x = λ u e. ap (λ u. a +ℤ eight u) e in
     let same_y : (v : ℤ) → v ≡ j → b +ℤ eight v ≡ y = λ v e. ap (λ v. b +ℤ eight v) e in
-    subst (λ k. IfOk c.join.result (λ id. ShowsAt c.join.new.self.nodes id (suc k) p x y)) (up2 c.args.grain)
-    (c.join.ensures.shows p x y (subst (λ k. FourShow c.from_wall-4.new.self.nodes k c.in_ok-nw.nw c.in_ok-ne.ne c.in_ok-sw.sw c.in_ok-se.se p x y) (sym (up2 c.args.grain))
+    subst (λ k. ShowsAt c.join.new.self.nodes c.in_ok-join.field-0 (suc k) p x y) (up2 c.args.grain)
+    (c.in_ok-join.ensures.shows p x y (subst (λ k. FourShow c.from_wall-4.new.self.nodes k c.in_ok-nw.nw c.in_ok-ne.ne c.in_ok-sw.sw c.in_ok-se.se p x y) (sym (up2 c.args.grain))
     (four_made _ _ _ _ c.in_ok-nw.ensures.goes_on.grows.sound c.in_ok-ne.ensures.goes_on.grows c.in_ok-sw.ensures.goes_on.grows c.in_ok-se.ensures.goes_on.grows k _ _ _ _ p x y
     (c.in_ok-nw.ensures.shows m p shows)
     (at_from _ _ k p _ _ _ _ (east _ places.ne.0) (same_y _ places.ne.1) (c.in_ok-ne.ensures.shows m p shows))
@@ -92,4 +106,5 @@ from_wall_parts-returns-clause-shows g t c = λ m p shows.
 
 pub from_wall_parts-returns-clause-goes_on : goal.from_wall_parts-returns-clause-goes_on
 from_wall_parts-returns-clause-goes_on g t c =
-    goes_on_again _ _ _ _ (four_go_on c.in_ok-nw.ensures.goes_on c.in_ok-ne.ensures.goes_on c.in_ok-sw.ensures.goes_on c.in_ok-se.ensures.goes_on) c.join.ensures.goes_on
+    goes_on_again _ _ _ _ c.in_ok-charge.ensures.goes_on
+    (goes_on_again _ _ _ _ (four_go_on c.in_ok-nw.ensures.goes_on c.in_ok-ne.ensures.goes_on c.in_ok-sw.ensures.goes_on c.in_ok-se.ensures.goes_on) c.join.ensures.goes_on)

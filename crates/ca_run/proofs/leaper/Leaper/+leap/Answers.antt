@@ -1,4 +1,4 @@
-use Rattle.std.proofs.Common.{rules, ◌≡◌, suc, ◌+◌, ◌-◌, ◌≤◌, ◌^◌, IfOk, refl, sym, ap, subst, ◌∙◌, arith}
+use Rattle.std.proofs.Common.{rules, ◌≡◌, suc, ◌+◌, ◌-◌, ◌*◌, ◌≤◌, ◌^◌, IfOk, refl, sym, ap, subst, ◌∙◌, arith}
 use Rattle.std.specs.Prelude.{◌+ℤ◌}
 use Rattle.std.proofs.lemmas.Bool.Decides.{nat_tests}
 use Rattle.std.proofs.Math.Nat.{two-pow-succ}
@@ -10,9 +10,11 @@ use Rattle.ca_quad.proofs.Growth.{grows_on}
 use Rattle.ca_quad.proofs.Cells.{of_stays}
 use Rattle.ca_run.specs.Centre.{IsCentre}
 use Rattle.ca_run.specs.RecentLeaps.{IsLeap}
+use Rattle.ca_run.specs.Costs.{Costs}
 use Rattle.ca_run.specs.inner.Shown.{ShowsAt, FourShow, AreThree, side, generations}
 use Rattle.ca_run.proofs.Shown.{goes_on_again, four_go_on, at_stays, three_stay, three_are, four_stay, four_between, four_halfway, four_inner}
 use Rattle.ca_run.proofs.Leap.{goes_on_same, leap_shows, leap_square, leap_of_join, centre_ok, nine_centre, west_four, east_four, pair_at, trio_at, nine_at, four_at}
+use Rattle.ca_run.proofs.Costs.{costs_paid, costs_more, power_some, thirteen}
 use Rattle.ca_run.proofs.leaper.Leaper.+leap.Goals as goal
 
 pub centre-returns-in-Some-clause-goes_on : goal.centre-returns-in-Some-clause-goes_on
@@ -230,6 +232,20 @@ middle_trio-returns-clause-squares g t c =
       east = c.in_ok-east.ensures.square;
     }
 
+pub trio-returns-clause-squares : goal.trio-returns-clause-squares
+trio-returns-clause-squares g t c =
+    let k = suc c.args.grain in
+    let s1 = c.first_centre.new.self.nodes in
+    let s2 = c.first_inner.new.self.nodes in
+    let s3 = c.first_centre-2.new.self.nodes in
+    let g2 = c.in_ok-middle.ensures.goes_on.grows in
+    let g3 = c.in_ok-east.ensures.goes_on.grows in
+    record {
+      west = of_stays s1 s3 c.in_ok-west.ensures.goes_on.grows.sound (grows_on s1 s2 s3 g2 g3) c.in_ok-west.west k c.in_ok-west.ensures.square;
+      middle = of_stays s2 s3 g2.sound g3 c.in_ok-middle.middle k c.in_ok-middle.ensures.square;
+      east = c.in_ok-east.ensures.square;
+    }
+
 pub leap_of_four-returns-in-Some-clause-goes_on : goal.leap_of_four-returns-in-Some-clause-goes_on
 leap_of_four-returns-in-Some-clause-goes_on g t c = goes_on_same _ c.args.self.now (subst (λ l. IsSoundStore l.nodes) c.self.view_is c.self.invariant.squares)
 
@@ -371,3 +387,39 @@ centre_of_nine-returns-clause-shows g t c = λ next p a b e shows.
 pub centre_of_nine-returns-clause-goes_on : goal.centre_of_nine-returns-clause-goes_on
 centre_of_nine-returns-clause-goes_on g t c =
     four_go_on c.in_ok-rows.ensures.goes_on c.in_ok-nw.ensures.goes_on c.in_ok-sw.ensures.goes_on c.join.ensures.goes_on
+
+pub centre-returns-in_err-charge-clause-costs : goal.centre-returns-in_err-charge-clause-costs
+centre-returns-in_err-charge-clause-costs g t c =
+    subst (λ l. Costs _ l c.charge.new.self (14 ^ c.args.grain) 0) c.recall.ensures.same (costs_more c.charge.ensures.costs (power_some c.args.grain) (omega arith))
+
+pub centre-returns-in_err-half-clause-costs : goal.centre-returns-in_err-half-clause-costs
+centre-returns-in_err-half-clause-costs g t c =
+    let some = power_some c.args.grain in
+    let paid = costs_paid {a = c.recall.new.self} {b = c.charge.new.self} 1 c.in_ok-charge.ensures.counts c.in_ok-charge.ensures.same c.new_centre.ensures.costs (omega (arith, some)) (omega arith) in
+    subst (λ l. Costs _ l c.new_centre.new.self (14 ^ c.args.grain) 0) c.recall.ensures.same paid
+
+pub centre-returns-in_err-remember-clause-costs : goal.centre-returns-in_err-remember-clause-costs
+centre-returns-in_err-remember-clause-costs g t c =
+    let some = power_some c.args.grain in
+    let paid = costs_paid {a = c.recall.new.self} {b = c.charge.new.self} 1 c.in_ok-charge.ensures.counts c.in_ok-charge.ensures.same c.new_centre.ensures.costs (omega (arith, some)) (omega arith) in
+    subst (λ l. Costs _ c.args.self.now l (14 ^ c.args.grain) 0) (sym c.remember.ensures) (subst (λ l. Costs _ l c.new_centre.new.self (14 ^ c.args.grain) 0) c.recall.ensures.same paid)
+
+pub centre-returns-clause-costs : goal.centre-returns-clause-costs
+centre-returns-clause-costs g t c =
+    let some = power_some c.args.grain in
+    let paid = costs_paid {a = c.recall.new.self} {b = c.charge.new.self} 1 c.in_ok-charge.ensures.counts c.in_ok-charge.ensures.same c.new_centre.ensures.costs (omega (arith, some)) (omega arith) in
+    subst (λ l. Costs _ c.args.self.now l (14 ^ c.args.grain) 0) (sym c.remember.ensures) (subst (λ l. Costs _ l c.new_centre.new.self (14 ^ c.args.grain) 0) c.recall.ensures.same paid)
+
+pub new_centre-returns-then-j-grain-clause-costs : goal.new_centre-returns-then-j-grain-clause-costs
+new_centre-returns-then-j-grain-clause-costs g t c =
+    let most = thirteen (c.args.grain - 1) in
+    let up : suc (c.args.grain - 1) ≡ c.args.grain = grind (arith, nat_tests, c.if-grain-eq0.false) in
+    let few : suc (13 * 14 ^ (c.args.grain - 1)) ≤ 14 ^ c.args.grain = subst (λ g. suc (13 * 14 ^ (c.args.grain - 1)) ≤ 14 ^ g) up most in
+    costs_more c.centre_of_nine.ensures.costs (omega (arith, few)) (omega arith)
+
+pub new_centre-returns-clause-costs : goal.new_centre-returns-clause-costs
+new_centre-returns-clause-costs g t c =
+    let most = thirteen (c.args.grain - 1) in
+    let up : suc (c.args.grain - 1) ≡ c.args.grain = grind (arith, nat_tests, c.if-grain-eq0.false) in
+    let few : suc (13 * 14 ^ (c.args.grain - 1)) ≤ 14 ^ c.args.grain = subst (λ g. suc (13 * 14 ^ (c.args.grain - 1)) ≤ 14 ^ g) up most in
+    costs_more c.centre_of_nine-2.ensures.costs (omega (arith, few)) (omega arith)
