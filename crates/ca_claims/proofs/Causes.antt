@@ -21,7 +21,7 @@ use Rattle.ca_claims.specs.declared.claims.asks.Asks.{Asks}
 use Rattle.ca_claims.specs.declared.claims.asks.Wanted.{Wanted}
 use Rattle.ca_claims.specs.declared.claims.asks.Wanted.TheVariants.{Own, Other, NoCells}
 use Rattle.ca_claims.specs.declared.verdict.Cause.{Cause}
-use Rattle.ca_claims.specs.declared.verdict.Cause.TheVariants.{NoFile, BadTable, BadPattern, BadRule, StateTooLarge, MixedRules, TooManyCells, Memory}
+use Rattle.ca_claims.specs.declared.verdict.Cause.TheVariants.{NoFile, BadTable, BadPattern, BadRule, StateTooLarge, MixedRules, TooManyCells, Work, Memory}
 use Rattle.ca_claims.specs.declared.verdict.Verdict.{Verdict}
 use Rattle.ca_claims.specs.declared.verdict.Verdict.TheVariants.{Yes, No, Refused}
 use Rattle.ca_claims.specs.declared.verifier.one_or_two.OneOrTwo.{OneOrTwo}
@@ -130,6 +130,7 @@ module _ (files : List (List ℕ × List ℕ)) (rules : List (List ℕ)) (asks :
   cause_twice path MixedRules (tables, (are, all), inl (inr none)) = absurd none
   cause_twice path MixedRules (tables, (are, all), inr none) = absurd none
   cause_twice path TooManyCells (cells, other, rule, (tables, are, good), some) = (cells, other, rule, (tables, are, judged_twice files tables path cells other rule good), some)
+  cause_twice path Work (cells, other, rule, (tables, are, good), few) = (cells, other, rule, (tables, are, judged_twice files tables path cells other rule good), few)
   cause_twice path Memory (tables, (are, all), first) = (tables, (are, (all.0, (all.0, tt))), first)
 
   pub cause_of_all : (each all : List (List ℕ)) (cause : Cause) → IsEachOnce each all → HasCause files rules asks each cause → HasCause files rules asks all cause
@@ -232,7 +233,7 @@ module _ (files : List (List ℕ × List ℕ)) (every rules : List (List ℕ)) (
         zip_front (λ path b. bytes_at files path ≡ Some b.now) (WantsMemory files) (λ b. IsReadable b.now) (λ b. MayWantMemory b.now)
             (λ path b e reads. (b.now, e, wanted b.now reads)) (λ path b e wants. (b.now, e, wants)) each there at (first_part (λ b. IsReadable b.now) (λ b. MayWantMemory b.now) part there bad),
       );
-      on = inr refl;
+      on = inr (inr refl);
     }
 
   -- memory is needed for patterns that were read
@@ -309,13 +310,18 @@ module _ (files : List (List ℕ × List ℕ)) (every rules : List (List ℕ)) (
     wanting (p ∷ paths) (One a) ruled = let reads = all_read (p ∷ paths) (a ∷ []) ruled in read_wanting (p ∷ paths) reads reads.0
     wanting (p ∷ paths) (Two a b) ruled = let reads = all_read (p ∷ paths) (a ∷ b ∷ []) ruled in read_wanting (p ∷ paths) reads reads.0
 
+    -- so a claim about them is refused where there is none
+    pub no_memory : (paths : List (List ℕ)) (patterns : OneOrTwo Ruled) → AllZip At paths (items patterns)
+        → IsRefusal files every rules asks paths (record { cause = Memory; about = about.Claim })
+    no_memory paths patterns ruled = record { holds = wanting paths patterns ruled; on = inr (inr refl) }
+
     -- the patterns have no one rule under which their states are small
     pub disagreed : (paths : List (List ℕ)) (patterns : OneOrTwo Ruled) (why : Disagreement) → AllZip At paths (items patterns) → Disagree nodes (items patterns) why
         → IsRefusal files every rules asks paths (disagreement_refusal why)
     disagreed paths patterns (Large part) ruled h = too_large paths (items patterns) ruled part h
     disagreed paths patterns Mixed ruled h =
         record { holds = (tables, (are, all_small paths (items patterns) ruled h.0), other_rules paths (items patterns) ruled h.1); on = inl refl }
-    disagreed paths patterns disagreement.Memory ruled h = record { holds = wanting paths patterns ruled; on = inr refl }
+    disagreed paths patterns disagreement.Memory ruled h = record { holds = wanting paths patterns ruled; on = inr (inr refl) }
 
     -- ---- the pictures that the files mean
 
@@ -412,7 +418,7 @@ module _ (files : List (List ℕ × List ℕ)) (every rules : List (List ℕ)) (
         → AllByRecursion (ShowsSmall nodes) (items patterns) → AreOfOneRule (items patterns) rule → AreBoth (items patterns) subject
         → IsCountRefused nodes asks subject (last_part (items patterns)) refusal → IsRefusal files every rules asks paths refusal
     crowded paths patterns subject rule refusal ruled small one both (inl memory) =
-        subst (IsRefusal files every rules asks paths) (sym memory) (record { holds = wanting paths patterns ruled; on = inr refl })
+        subst (IsRefusal files every rules asks paths) (sym memory) (record { holds = wanting paths patterns ruled; on = inr (inr refl) })
     crowded paths patterns subject rule refusal ruled small one both (inr (is, counted, tree, wanted, crowd)) =
         let all = agreed paths patterns rule ruled small one in
         let shown = all_shown paths patterns subject rule ruled small one both in
@@ -454,11 +460,13 @@ decided_true : (files : List (List ℕ × List ℕ)) (rules : List (List ℕ)) (
     → IsJudged files rules claim cells other rule → IsDecided (next_of rule) cells other (asks_of claim.kind) verdict → IsTrueVerdict files rules claim verdict
 decided_true files rules claim cells other rule Yes judged decided = (cells, other, rule, judged, decided)
 decided_true files rules claim cells other rule (No why) judged decided = (cells, other, rule, judged, decided)
-decided_true files rules claim cells other rule (Refused cause) judged decided =
+decided_true files rules claim cells other rule (Refused cause) judged (inl work) =
+    subst (HasCause files rules (asks_of claim.kind) (patterns_of claim)) (sym work) (cells, other, rule, judged.0, judged.1)
+decided_true files rules claim cells other rule (Refused cause) judged (inr decided) =
     let (tables, are, good) = judged.0 in
     subst (HasCause files rules (asks_of claim.kind) (patterns_of claim)) (sym decided) (memory_wanted files rules rules (asks_of claim.kind) tables are (patterns_of claim) cells other rule good)
 
--- where there is no memory to decide, that is about the claim
+-- where there is no work or memory to decide, that is about the claim
 decided_on : (files : List (List ℕ × List ℕ)) (paths rules patterns : List (List ℕ)) (next : List ℕ → ℕ) (cells other : Picture) (asks : Asks) (verdict : Verdict)
     → IsDecided next cells other asks verdict → IsOnVerdict files paths rules patterns verdict about.Claim
 decided_on files paths rules patterns next cells other asks Yes decided = tt

@@ -24,7 +24,7 @@ use Rattle.ca_claims.specs.declared.verdict.Why.TheVariants.{Empty, Differs, Ear
 use Rattle.ca_claims.specs.declared.verdict.PatternFault.{PatternFault}
 use Rattle.ca_claims.specs.declared.verdict.PatternFault.TheVariants as pattern_fault
 use Rattle.ca_claims.specs.declared.verdict.Cause.{Cause}
-use Rattle.ca_claims.specs.declared.verdict.Cause.TheVariants.{NoFile, BadTable, BadPattern, BadRule, StateTooLarge, MixedRules, TooManyCells, Memory}
+use Rattle.ca_claims.specs.declared.verdict.Cause.TheVariants.{NoFile, BadTable, BadPattern, BadRule, StateTooLarge, MixedRules, TooManyCells, Work, Memory}
 use Rattle.ca_claims.specs.declared.claims.asks.Asks.{Asks}
 use Rattle.ca_claims.specs.declared.claims.asks.Barred.{Barred}
 use Rattle.ca_claims.specs.declared.claims.asks.Barred.TheVariants.{Nothing, InPlace, Anywhere, EmptyPlane}
@@ -33,7 +33,7 @@ use Rattle.ca_claims.specs.declared.format.Format.TheVariants as formats
 use Rattle.ca_claims.specs.Means.{format_of, MeansAs, Means, IsReadableAs, IsReadable, HoldsRuledPattern, HasRuleFault}
 use Rattle.ca_claims.specs.Text.{Claim, patterns_of}
 use Rattle.ca_claims.specs.Truth.{asks_of, wanted_cells, ShowsNothingBarred, MayReturnBy, IsTrueClaim, IsReason}
-use Rattle.ca_claims.specs.Answers.{IsPatternFault, IsQuietTable, IsTableFault, HasLargeState, HasSmallStates, HoldsOfFile, IsTableAt, AreTables, IsRuled, IsMissing, IsThere, HoldsTable, IsReadableFile, HasRule, IsSmall, SomeOf, FirstBad, HaveOtherRules, FilesAreThere, TablesAreGood, PatternsAreRead, PatternsHaveRules, StatesAreSmall, AgreeOn, HasFewCounted, HasCause, IsCauseFor, IsGoodPattern, AreGood, IsJudged, IsBadTable, IsBadPattern, IsUnnamed, IsLarge}
+use Rattle.ca_claims.specs.Answers.{IsPatternFault, IsQuietTable, IsTableFault, HasLargeState, HasSmallStates, HoldsOfFile, IsTableAt, AreTables, IsRuled, IsMissing, IsThere, HoldsTable, IsReadableFile, HasRule, IsSmall, SomeOf, FirstBad, HaveOtherRules, FilesAreThere, TablesAreGood, PatternsAreRead, PatternsHaveRules, StatesAreSmall, AgreeOn, HasFewCounted, HasTooManyCounted, HasCause, IsCauseFor, IsGoodPattern, AreGood, IsJudged, IsBadTable, IsBadPattern, IsUnnamed, IsLarge}
 use Rattle.ca_claims.proofs.PatternsRead.{ruled_path_reads}
 use Rattle.ca_claims.proofs.Zipped.{zip_left}
 
@@ -295,11 +295,8 @@ place (BadRule fault) = 3
 place StateTooLarge = 4
 place MixedRules = 5
 place TooManyCells = 6
-place Memory = 7
-
-place_within : (cause : Cause) → cause ≢ Memory → suc (place cause) ≤ 7
-place_within Memory m = absurd (m refl)
-place_within cause m = omega arith
+place Work = 7
+place Memory = 8
 
 -- what holds of tables holds of those that are the same
 of_these : (files : List (List ℕ × List ℕ)) (rules : List (List ℕ)) (Holds : List TableRule → Type 0) (tables others : List TableRule) → AreTables files rules tables → AreTables files rules others
@@ -318,6 +315,18 @@ IsPast files rules paths (suc (suc (suc (suc (suc (suc n)))))) =
     (tables : List TableRule) × StatesAreSmall files rules paths tables × (SomeOf (λ p. SomeOf (HaveOtherRules files tables p) paths) paths → ⊥)
 
 module _ (files : List (List ℕ × List ℕ)) (rules : List (List ℕ)) (asks : Asks) (paths : List (List ℕ)) where
+  -- a claim's patterns agree in one way
+  one_agreed : (p q o v : Picture) (r s : RuleValue) → AgreeOn files rules paths p o r → AgreeOn files rules paths q v s → (p ≡ q) × (o ≡ v) × (r ≡ s)
+  one_agreed p q o v r s (tables, are, good) (others, there, too) =
+      one_good files tables paths p q o v r s good (of_these files rules (λ t. AreGood files t paths q v s) tables others are there too)
+
+  -- and not both few and too many cells are counted
+  few_or_many : (p q o v : Picture) (r s : RuleValue) → AgreeOn files rules paths p o r → AgreeOn files rules paths q v s → HasFewCounted asks p o → HasTooManyCounted asks q v → ⊥
+  few_or_many p q o v r s agree same few many =
+      let one = one_agreed p q o v r s agree same in
+      not_both (cell (wanted_cells asks.wanted p o)) (cell (wanted_cells asks.wanted q v))
+      (λ x y. ap (λ l. cell l x y) (ap₂ (wanted_cells asks.wanted) one.0 one.1)) (few many.0) many.1
+
   -- nor one fewer
   past_one_fewer : (n : ℕ) → IsPast files rules paths (suc n) → IsPast files rules paths n
   past_one_fewer zero h = tt
@@ -348,6 +357,7 @@ module _ (files : List (List ℕ × List ℕ)) (rules : List (List ℕ)) (asks :
   past_before NoFile m h = tt
   past_before (BadTable fault) m h = h.0
   past_before TooManyCells m (cells, other, rule, agree, some) = past_agreed cells other rule agree
+  past_before Work m (cells, other, rule, agree, few) = past_agreed cells other rule agree
   past_before Memory m h = absurd (m refl)
   past_before cause m h = (h.0, h.1)
 
@@ -371,6 +381,7 @@ module _ (files : List (List ℕ × List ℕ)) (rules : List (List ℕ)) (asks :
   not_past MixedRules m (tables, (are, all), some) (others, (there, past), one) =
       of_these files rules (λ t. SomeOf (λ p. SomeOf (HaveOtherRules files t p) paths) paths → ⊥) tables others are there one some
   not_past TooManyCells m h past = let no : ⊥ = omega arith in no
+  not_past Work m h past = let no : ⊥ = omega arith in no
   not_past Memory m h past = let no : ⊥ = omega arith in no
 
   -- causes at one place are one
@@ -390,15 +401,22 @@ module _ (files : List (List ℕ × List ℕ)) (rules : List (List ℕ)) (asks :
   same_place StateTooLarge StateTooLarge m n e h k = refl
   same_place MixedRules MixedRules m n e h k = refl
   same_place TooManyCells TooManyCells m n e h k = refl
+  same_place Work Work m n e h k = refl
   same_place c d m n e h k = let no : ⊥ = omega arith in absurd no
+
+  -- of two causes one comes before the other, and then not both hold
+  before_or_after : (c d : Cause) → d ≢ Memory → suc (place c) ≤ place d → HasCause files rules asks paths c → HasCause files rules asks paths d → ⊥
+  before_or_after c Memory n less h k = n refl
+  before_or_after TooManyCells Work n less (p, o, r, agree, many) (q, v, s, same, few) = few_or_many q p v o s r same agree few many
+  before_or_after c d n less h k = not_past c (omega arith) h (past_below (suc (place c)) (place d) less (past_before d n k))
 
   -- a claim has one cause, out of memory apart
   pub one_cause : (c d : Cause) → c ≢ Memory → d ≢ Memory → HasCause files rules asks paths c → HasCause files rules asks paths d → c ≡ d
   one_cause c d m n h k =
       elim (cases_order (place c) (place d)) [
         | inl e ↦ same_place c d m n e h k
-        | inr (inl e) ↦ absurd (not_past c (omega (arith, place_within d n)) h (past_below (suc (place c)) (place d) (omega arith) (past_before d n k)))
-        | inr (inr e) ↦ absurd (not_past d (omega (arith, place_within c m)) k (past_below (suc (place d)) (place c) (omega arith) (past_before c m h)))
+        | inr (inl e) ↦ absurd (before_or_after c d n (omega arith) h k)
+        | inr (inr e) ↦ absurd (before_or_after d c m (omega arith) k h)
       ]
 
   -- a file that isn't there goes before out of memory
@@ -412,30 +430,23 @@ module _ (files : List (List ℕ × List ℕ)) (rules : List (List ℕ)) (asks :
 -- ---- judged claims
 
 module _ (files : List (List ℕ × List ℕ)) (rules : List (List ℕ)) (asks : Asks) (paths : List (List ℕ)) where
-  -- a claim's patterns agree in one way
-  one_agreed : (p q o v : Picture) (r s : RuleValue) → AgreeOn files rules paths p o r → AgreeOn files rules paths q v s → (p ≡ q) × (o ≡ v) × (r ≡ s)
-  one_agreed p q o v r s (tables, are, good) (others, there, too) =
-      one_good files tables paths p q o v r s good (of_these files rules (λ t. AreGood files t paths q v s) tables others are there too)
-
   -- where they agree, no cause holds before the one that counts cells
   agreed_or_early : (cells other : Picture) (rule : RuleValue) (cause : Cause) → suc (place cause) ≤ 6 → AgreeOn files rules paths cells other rule → HasCause files rules asks paths cause → ⊥
   agreed_or_early cells other rule cause early agree h =
       not_past files rules asks paths cause early h (past_below files rules asks paths (suc (place cause)) 6 early (past_agreed files rules asks paths cells other rule agree))
 
   -- nor that one, where the cells that are counted aren't too many
-  pub agreed_or_cause : (cells other : Picture) (rule : RuleValue) (cause : Cause) → cause ≢ Memory → AgreeOn files rules paths cells other rule
+  pub agreed_or_cause : (cells other : Picture) (rule : RuleValue) (cause : Cause) → cause ≢ Memory → cause ≢ Work → AgreeOn files rules paths cells other rule
       → HasFewCounted asks cells other → HasCause files rules asks paths cause → ⊥
-  agreed_or_cause cells other rule TooManyCells m agree few (p, o, r, same, many) =
-      let one = one_agreed cells p other o rule r agree same in
-      not_both (cell (wanted_cells asks.wanted cells other)) (cell (wanted_cells asks.wanted p o))
-      (λ x y. ap (λ l. cell l x y) (ap₂ (wanted_cells asks.wanted) one.0 one.1)) (few many.0) many.1
-  agreed_or_cause cells other rule Memory m agree few h = m refl
-  agreed_or_cause cells other rule cause m agree few h = agreed_or_early cells other rule cause (omega arith) agree h
+  agreed_or_cause cells other rule TooManyCells m w agree few (p, o, r, same, many) = few_or_many files rules asks paths cells p other o rule r agree same few many
+  agreed_or_cause cells other rule Work m w agree few h = w refl
+  agreed_or_cause cells other rule Memory m w agree few h = m refl
+  agreed_or_cause cells other rule cause m w agree few h = agreed_or_early cells other rule cause (omega arith) agree h
 
 module _ (files : List (List ℕ × List ℕ)) (rules : List (List ℕ)) (claim : Claim) where
-  -- a claim is judged or refused for a cause, not both, out of memory apart
-  pub judged_or_cause : (cells other : Picture) (rule : RuleValue) (cause : Cause) → cause ≢ Memory → IsJudged files rules claim cells other rule → IsCauseFor files rules claim cause → ⊥
-  judged_or_cause cells other rule cause m judged h = agreed_or_cause files rules (asks_of claim.kind) (patterns_of claim) cells other rule cause m judged.0 judged.1 h
+  -- a claim is judged or refused for a cause, not both, out of work and memory apart
+  pub judged_or_cause : (cells other : Picture) (rule : RuleValue) (cause : Cause) → cause ≢ Memory → cause ≢ Work → IsJudged files rules claim cells other rule → IsCauseFor files rules claim cause → ⊥
+  judged_or_cause cells other rule cause m w judged h = agreed_or_cause files rules (asks_of claim.kind) (patterns_of claim) cells other rule cause m w judged.0 judged.1 h
 
   -- a claim that is judged is true or false, not both
   pub yes_or_no : (asks : Asks) (why : Why) (p q o v : Picture) (r s : RuleValue) → IsJudged files rules claim p o r → IsJudged files rules claim q v s

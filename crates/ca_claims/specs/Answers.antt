@@ -22,7 +22,7 @@ use Rattle.ca_claims.specs.declared.verdict.Verdict.TheVariants.{Yes, No, Refuse
 use Rattle.ca_claims.specs.declared.verdict.PatternFault.{PatternFault}
 use Rattle.ca_claims.specs.declared.verdict.PatternFault.TheVariants as pattern_fault
 use Rattle.ca_claims.specs.declared.verdict.Cause.{Cause}
-use Rattle.ca_claims.specs.declared.verdict.Cause.TheVariants.{NoFile, BadTable, BadPattern, BadRule, StateTooLarge, MixedRules, TooManyCells, Memory}
+use Rattle.ca_claims.specs.declared.verdict.Cause.TheVariants.{NoFile, BadTable, BadPattern, BadRule, StateTooLarge, MixedRules, TooManyCells, Work, Memory}
 use Rattle.ca_claims.specs.declared.claims.asks.Asks.{Asks}
 use Rattle.ca_claims.specs.Text.{Claim, patterns_of}
 use Rattle.ca_claims.specs.Means.{bytes_at, format_of, IsReadable, HoldsRuledPattern, HasRuleFault, MayWantMemory}
@@ -195,8 +195,8 @@ HasTooManyCounted asks cells other = IsCounted asks × HasTooManyCells (cell (wa
 abbrev pub HasFewCounted : Asks → Picture → Picture → Type 0
 HasFewCounted asks cells other = IsCounted asks → HasFewCells (cell (wanted_cells asks.wanted cells other))
 
--- the cause of a refusal: a claim gets through these stages, and this is wrong at the next. Out of memory comes at any stage
--- after the second, and only where the first of the patterns may need memory. The claim asks this, of patterns at these paths
+-- the cause of a refusal: a claim gets through these stages, and this is wrong at the next. Out of work comes after them all. Out of
+-- memory comes at any stage after the second, and only where the first of the patterns may need memory. The claim asks this, of patterns at these paths
 abbrev pub HasCause : List (List ℕ × List ℕ) → List (List ℕ) → Asks → (paths : List (List ℕ)) → Cause → Type 0
 HasCause files rules asks paths NoFile = SomeOf (IsMissing files) paths ⊎ SomeOf (IsMissing files) rules
 HasCause files rules asks paths (BadTable fault) = FilesAreThere files rules paths × FirstBad (HoldsTable files) (IsBadTable files fault) rules
@@ -210,11 +210,13 @@ HasCause files rules asks paths MixedRules =
     (tables : List TableRule) × StatesAreSmall files rules paths tables × SomeOf (λ p. SomeOf (HaveOtherRules files tables p) paths) paths
 HasCause files rules asks paths TooManyCells =
     (cells : Picture) × (other : Picture) × (rule : RuleValue) × AgreeOn files rules paths cells other rule × HasTooManyCounted asks cells other
+HasCause files rules asks paths Work =
+    (cells : Picture) × (other : Picture) × (rule : RuleValue) × AgreeOn files rules paths cells other rule × HasFewCounted asks cells other
 HasCause files rules asks paths Memory = (tables : List TableRule) × TablesAreGood files rules paths tables × FirstIs (WantsMemory files) paths
 
--- What a cause is about, beside what it says. The claim as a whole: its patterns' rules differ, or memory is out
+-- What a cause is about, beside what it says. The claim as a whole: its patterns' rules differ, or work or memory is out
 abbrev pub IsOfClaim : Cause → Type 0
-IsOfClaim cause = (cause ≡ MixedRules) ⊎ (cause ≡ Memory)
+IsOfClaim cause = (cause ≡ MixedRules) ⊎ ((cause ≡ Work) ⊎ (cause ≡ Memory))
 
 -- one of the claim's patterns: what `First` tells of it, by what is good of the paths before it and what is bad of its own. Only a file
 -- that isn't read has a line; `rules` are the paths of the text's rule lines
@@ -242,12 +244,12 @@ IsOfRuleFile files rules patterns cause path = ⊥
 abbrev pub IsCauseFor : List (List ℕ × List ℕ) → List (List ℕ) → Claim → Cause → Type 0
 IsCauseFor files rules claim cause = HasCause files rules (asks_of claim.kind) (patterns_of claim) cause
 
--- no cause but out of memory is that of the claim: its patterns agree, and the cells that are counted aren't too many
+-- no cause but out of work or memory is that of the claim: its patterns agree, and the cells that are counted aren't too many
 abbrev pub IsJudged : List (List ℕ × List ℕ) → List (List ℕ) → Claim → Picture → Picture → RuleValue → Type 0
 IsJudged files rules claim cells other rule = AgreeOn files rules (patterns_of claim) cells other rule × HasFewCounted (asks_of claim.kind) cells other
 
 -- a verdict is true: a yes of a claim that is true of the planes that the files mean, a no of one that is false, with the
--- reason, and a refusal with its cause; a yes and a no come only where no cause but out of memory holds
+-- reason, and a refusal with its cause; a yes, a no and out of work come only where no other cause but out of memory holds
 abbrev pub IsTrueVerdict : List (List ℕ × List ℕ) → List (List ℕ) → Claim → Verdict → Type 0
 IsTrueVerdict files rules claim Yes = (cells : Picture) × (other : Picture) × (rule : RuleValue) × IsJudged files rules claim cells other rule
     × IsTrueClaim (next_of rule) cells other (asks_of claim.kind)

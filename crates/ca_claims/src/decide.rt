@@ -1,6 +1,6 @@
 //! Whether a claim is true of patterns that stand in a leaper's store, by leaps.
 
-ghost use Rattle.std.specs.Prelude.{◌≡◌, ◌≢◌, ◌≤◌, ◌^◌, ℤ, None, IfOk, IfSome, IsTrue, IsFalse, MatchOption};
+ghost use Rattle.std.specs.Prelude.{◌≡◌, ◌≢◌, ◌≤◌, ◌^◌, ◌⊎◌, ℤ, None, IfOk, IfSome, IsTrue, IsFalse, MatchOption};
 ghost use Rattle.ca_plane.specs.Plane.{Picture, cell as plane_cell};
 ghost use Rattle.ca_plane.specs.Generations.{after, IsAfter};
 ghost use Rattle.ca_quad.specs.Boxes.{IsDead};
@@ -8,6 +8,7 @@ ghost use Rattle.ca_quad.specs.Trees.{cell};
 ghost use Rattle.ca_run.specs.Leaping.{LeaperGrows};
 ghost use Rattle.ca_claims.specs.Text.{IsShift};
 ghost use Rattle.ca_claims.specs.Truth.{claimed, IsTrueClaim, IsReason};
+ghost use Rattle.ca_claims.specs.declared.verdict.Cause.TheVariants.{Work, Memory as NoMemory};
 ghost use Rattle.ca_claims.specs.inner.Decided.{IsDecided};
 ghost use Rattle.ca_claims.specs.inner.Subjects.{ShowsTree, IsPattern, IsNearTree, IsCase, AreShown, HasLive};
 ghost use Rattle.ca_claims.specs.inner.Subjects.{IsEndTree, IsMoved, IsDifference};
@@ -56,7 +57,17 @@ pub(crate) fn decide<A: Automaton, O: Observer>(
     match why_not(leaper, case, observer) {
         Ok(None) => Verdict::Yes,
         Ok(Some(why)) => Verdict::No(why),
-        Err(Memory) => Verdict::Refused(Cause::Memory),
+        Err(fault) => Verdict::Refused(cause_of(fault)),
+    }
+}
+
+// The cause of a refusal where leaps came to no end.
+fn cause_of(fault: LeapFault) -> Cause
+    ensures { (result ≡ Work) ⊎ (result ≡ NoMemory) }
+{
+    match fault {
+        LeapFault::Memory => Cause::Memory,
+        LeapFault::Work => Cause::Work,
     }
 }
 
@@ -65,7 +76,7 @@ fn why_not<A: Automaton, O: Observer>(
     leaper: &mut Leaper<A>,
     case: &Case,
     observer: &mut O,
-) -> Result<Option<Why>, Memory>
+) -> Result<Option<Why>, LeapFault>
     requires { IsCase leaper.old.nodes case.now }
     ensures { (cells other : Picture) → AreShown leaper.old.nodes case.now.subject cells other
         → IfOk result (λ why. MatchOption why
@@ -112,7 +123,7 @@ fn find_wrong_cell<A: Automaton, O: Observer>(
     leaper: &mut Leaper<A>,
     case: &Case,
     observer: &mut O,
-) -> Result<Option<Why>, Memory>
+) -> Result<Option<Why>, LeapFault>
     requires { IsCase leaper.old.nodes case.now }
     ensures wrong { (cells other : Picture) → AreShown leaper.old.nodes case.now.subject cells other
         → IfOk result (λ why. MatchOption why
@@ -197,7 +208,7 @@ pub(crate) fn tree_after<A: Automaton, O: Observer>(
     pattern: &Tree,
     generations: u64,
     observer: &mut O,
-) -> Result<Tree, Memory>
+) -> Result<Tree, LeapFault>
     requires pattern { IsPattern leaper.old.nodes pattern.now }
     requires few { generations ≤ 2 ^ 60 }
     ensures end { IfOk result
@@ -207,10 +218,8 @@ pub(crate) fn tree_after<A: Automaton, O: Observer>(
     // Says what holds of every leaper.
     let _ = leaper.store();
     observer.goes_to(generations);
-    match leaper.advance_watched(copy(pattern), generations, observer) {
-        Ok(end) => Ok(end),
-        Err(LeapFault::Memory) => Err(Memory),
-    }
+    let end = leaper.advance_watched(copy(pattern), generations, observer)?;
+    Ok(end)
 }
 
 // Where one tree isn't as another one, if it isn't.
@@ -219,7 +228,7 @@ fn find_difference<A: Automaton>(
     end: Tree,
     wanted: Tree,
     gens: u64,
-) -> Result<Option<Why>, Memory>
+) -> Result<Option<Why>, LeapFault>
     requires end { IsNearTree leaper.old.nodes end }
     requires wanted { IsNearTree leaper.old.nodes wanted }
     ensures difference { IfOk result (λ why. MatchOption why

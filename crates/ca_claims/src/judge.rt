@@ -5,12 +5,14 @@ ghost use Rattle.std.specs.Prelude.{MatchOption};
 ghost use Rattle.std.specs.Option.{option_copied};
 ghost use Rattle.ca_claims.specs.Means.{contents, bytes_at};
 ghost use Rattle.ca_claims.specs.Judging.{Judges, JudgesAndNotes, IsDone};
+ghost use Rattle.ca_claims.specs.Limited.{AreGoodLimits};
 ghost use Rattle.ca_claims.specs.Notes.{HasItsNote};
 ghost use Rattle.ca_claims.specs.inner.Kept.{AreFound, IsAnswerTo};
 ghost use Rattle.ca_claims.specs.inner.Tables.{AreRead};
 
 use crate::claims::Claims;
 use crate::file::File;
+use crate::limits::Limits;
 use crate::note::Note;
 use crate::noting::note_on;
 use crate::observer::Observer;
@@ -30,6 +32,7 @@ pub struct Judge<'a> {
     claims: &'a Claims,
     needed: Needed<'a>,
     library: Library<'a>,
+    limits: Limits,
     index: usize,
 }
 
@@ -43,11 +46,11 @@ impl<'a> Model for Judge<'a> {
     ghost view = { λ j. left_from (contents j.files.now) j.claims.now j.index };
 
     ghost invariant = { λ j. IsKeptOf (contents j.files.now) j.claims.now
-        j.needed.found.items j.needed.tables j.index };
+        j.needed.found.items j.needed.tables j.index j.limits };
 }
 
 impl<'a> Judge<'a> {
-    /// A judge of all claims of a text. Of two files with one path the first counts. The rule tables are read
+    /// A judge of all claims of a text, each of which may take as much as the limits say. Of two files with one path the first counts. The rule tables are read
     /// once for all claims; of two tables with one name that of the first rule line counts.
     ///
     /// # Errors
@@ -58,7 +61,9 @@ impl<'a> Judge<'a> {
         alloc: Global,
         claims: &'a Claims,
         files: &'a [File<'a>],
+        limits: Limits,
     ) -> Result<Judge<'a>, Memory>
+        requires limits { AreGoodLimits limits }
         ensures judging { IfOk result (λ j. j ≡ record {
           files = contents files.now;
           rules = claims.now.rules;
@@ -74,6 +79,7 @@ impl<'a> Judge<'a> {
             claims,
             needed,
             library: library_for(alloc, claims),
+            limits,
             index: 0,
         })
     }
@@ -120,6 +126,7 @@ impl<'a> Judge<'a> {
             self.claims,
             self.index,
             &self.needed,
+            self.limits,
             observer,
         );
         self.index += 1;
@@ -157,8 +164,10 @@ fn answer_to<'a, 'f, O: Observer>(
     claims: &'a Claims,
     index: usize,
     needed: &Needed<'f>,
+    limits: Limits,
     observer: &mut O,
 ) -> (Answer, Note<'a>)
+    requires limits { AreGoodLimits limits }
     requires index { index < length claims.now.claims }
     requires found { length needed.now.found.items ≡ length claims.now.paths }
     ensures { (files : List (List ℕ × List ℕ))
@@ -168,7 +177,7 @@ fn answer_to<'a, 'f, O: Observer>(
 {
     let asked = claims.claim(index);
     observer.begins(asked.line);
-    let judged = verdict_on(alloc, library, &asked.claim, needed, observer);
+    let judged = verdict_on(alloc, library, &asked.claim, needed, limits, observer);
     observer.ends();
     let answer = Answer {
         line: asked.line,

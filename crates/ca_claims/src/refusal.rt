@@ -12,7 +12,7 @@ pub(crate) struct Refusal {
 /// What the cause of a refusal is about.
 #[derive(Clone, Copy)]
 pub(crate) enum About {
-    /// The claim as a whole: its patterns' rules differ, or memory is out.
+    /// The claim as a whole: its patterns' rules differ, or work or memory is out.
     Claim,
     /// One of its patterns. Where the cause is a fault that stands on a line of the file, this is the line.
     Pattern { part: Part, line: Option<u64> },

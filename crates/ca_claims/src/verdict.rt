@@ -77,6 +77,9 @@ pub enum Cause {
     /// another becomes, with a shift.
     #[error("too many cells")]
     TooManyCells,
+    /// As much work was done on the claim as may be.
+    #[error("out of work")]
+    Work,
     /// A growth was refused.
     #[error("out of memory")]
     Memory,

@@ -1,6 +1,6 @@
 //! Laws of verdicts, which no call needs to run: what a true claim of each kind is, and what a reason against
 //! one shows; a no means that the claim is false, and it's false for one kind of reason; a file has one
-//! meaning; and, out of memory apart, only one kind of verdict is true of a claim.
+//! meaning; and, out of work and memory apart, only one kind of verdict is true of a claim.
 
 ghost use Rattle.std.specs.Prelude.{◌≡◌, ◌≢◌, ℕ, suc, ◌≤◌, ◌<◌, ◌↔◌, ℤ, List, [], replicate, pos, negsuc};
 ghost use Rattle.ca_plane.specs.Plane.{Picture, cell, shifted, IsLive};
@@ -18,7 +18,7 @@ ghost use Rattle.ca_claims.specs.declared.verdict.Why.{Why};
 ghost use Rattle.ca_claims.specs.declared.verdict.Why.TheVariants.{Empty, Differs, Earlier, Died};
 ghost use Rattle.ca_claims.specs.declared.verdict.Verdict.TheVariants.{Yes, No, Refused};
 ghost use Rattle.ca_claims.specs.declared.verdict.Cause.{Cause};
-ghost use Rattle.ca_claims.specs.declared.verdict.Cause.TheVariants.{NoFile, BadTable, Memory};
+ghost use Rattle.ca_claims.specs.declared.verdict.Cause.TheVariants.{NoFile, BadTable, Work, Memory};
 ghost use Rattle.ca_rule.specs.declared.table.fault.TableFault.{TableFault};
 
 /// What it means that a claim of each kind is true.
@@ -147,18 +147,21 @@ pub fn one_meaning_of_a_file()
         → Means bytes q u h → (p ≡ q) × (t ≡ u) × (g ≡ h) }
 {}
 
-/// A yes and a no aren't both true of a claim, nor is one of them and a refusal, nor are refusals for two
-/// causes; out of memory apart. Nor are out of memory and a file that isn't there, or out of memory and a bad
-/// table.
+/// A yes and a no aren't both true of a claim, nor is one of them and a refusal, out of work and memory apart.
+/// Nor are refusals for two causes, out of memory apart: so out of work, as a yes and a no, comes only where no
+/// other cause is. Nor are out of memory and a file that isn't there, or out of memory and a bad table.
 pub fn one_kind_of_verdict()
     ensures yes_or_no { (files : List (List ℕ × List ℕ)) (rules : List (List ℕ)) (claim : Claim) (why : Why)
         → IsTrueVerdict files rules claim Yes → IsTrueVerdict files rules claim (No why) → ⊥ }
     ensures yes_or_refused { (files : List (List ℕ × List ℕ)) (rules : List (List ℕ)) (claim : Claim)
-        (cause : Cause) → cause ≢ Memory
+        (cause : Cause) → cause ≢ Memory → cause ≢ Work
         → IsTrueVerdict files rules claim Yes → IsTrueVerdict files rules claim (Refused cause) → ⊥ }
     ensures no_or_refused { (files : List (List ℕ × List ℕ)) (rules : List (List ℕ)) (claim : Claim)
-        (why : Why) (cause : Cause) → cause ≢ Memory
+        (why : Why) (cause : Cause) → cause ≢ Memory → cause ≢ Work
         → IsTrueVerdict files rules claim (No why) → IsTrueVerdict files rules claim (Refused cause) → ⊥ }
+    ensures work_or_refused { (files : List (List ℕ × List ℕ)) (rules : List (List ℕ)) (claim : Claim)
+        (cause : Cause) → cause ≢ Memory → cause ≢ Work
+        → IsTrueVerdict files rules claim (Refused Work) → IsTrueVerdict files rules claim (Refused cause) → ⊥ }
     ensures one_cause { (files : List (List ℕ × List ℕ)) (rules : List (List ℕ)) (claim : Claim)
         (one two : Cause) → one ≢ Memory → two ≢ Memory
         → IsTrueVerdict files rules claim (Refused one) → IsTrueVerdict files rules claim (Refused two)

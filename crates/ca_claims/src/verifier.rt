@@ -9,6 +9,7 @@ ghost use Rattle.ca_claims.specs.Means.{contents, bytes_at};
 ghost use Rattle.ca_claims.specs.declared.refusal.About.TheVariants as abouts;
 ghost use Rattle.ca_claims.specs.declared.verdict.Verdict.TheVariants.{Refused};
 ghost use Rattle.ca_claims.specs.Answers.{AreTrueAnswers};
+ghost use Rattle.ca_claims.specs.Limited.{AreGoodLimits};
 ghost use Rattle.ca_plane.specs.Plane.{Picture};
 ghost use Rattle.ca_rule.specs.Rule.{rule_value, next_of};
 ghost use Rattle.ca_claims.specs.inner.Decided.{IsDecided};
@@ -30,6 +31,7 @@ use crate::claims::{Asks, Claim, Claims};
 use crate::decide::{Case, decide};
 use crate::file::File;
 use crate::judge::Judge;
+use crate::limits::Limits;
 use crate::observer::Observer;
 use crate::refusal::{About, Judged, Refusal};
 use crate::verdict::{Answer, Cause, Verdict};
@@ -41,20 +43,27 @@ use prepared::{Prepared, prepare};
 use std::alloc::Global;
 pub(crate) use tables::Tables;
 
-/// One answer for each claim, in the order of their lines. Of two files with one path the first counts. The
+/// One answer for each claim, in the order of their lines. Each claim may take as much as the limits say: where it
+/// needs more work, that claim alone is refused. Of two files with one path the first counts. The
 /// rule tables are read once for all claims; of two tables with one name that of the first rule line counts.
 ///
 /// # Errors
 ///
 /// Fails where there is no memory for the answers, the list of the files or the rule tables. A text without
 /// claims needs none of these. Where there is no memory to judge a claim, that claim alone is refused.
-pub fn verify(alloc: Global, claims: &Claims, files: &[File<'_>]) -> Result<Vec<Answer>, Memory>
+pub fn verify(
+    alloc: Global,
+    claims: &Claims,
+    files: &[File<'_>],
+    limits: Limits,
+) -> Result<Vec<Answer>, Memory>
+    requires limits { AreGoodLimits limits }
     ensures answers { IfOk result
         (λ v. AreTrueAnswers (contents files.now) claims.now.rules claims.now.claims v.items) }
     ensures memory { OnErr result (claims.now.claims ≢ []) }
 {
     let mut answers = Vec::with_capacity(alloc, claims.claim_count())?;
-    let mut judge = Judge::new(alloc, claims, files)?;
+    let mut judge = Judge::new(alloc, claims, files, limits)?;
     'claims: while let Some(answer) = judge.next() {
         answers.push(answer)?;
     }
@@ -89,8 +98,10 @@ pub(crate) fn verdict_on<'a, O: Observer>(
     library: &mut Library<'a>,
     claim: &Claim<usize>,
     needed: &Needed<'a>,
+    limits: Limits,
     observer: &mut O,
 ) -> Judged
+    requires limits { AreGoodLimits limits }
     requires within { AllByRecursion (λ i. i < length needed.now.found.items) (patterns_of claim.now) }
     requires numbers { HasGoodNumbers claim.now.kind }
     ensures { (files : List (List ℕ × List ℕ)) (paths rules : List (List ℕ))
@@ -98,13 +109,13 @@ pub(crate) fn verdict_on<'a, O: Observer>(
         → AreRead files paths rules needed.now.tables
         → IsJudgedOn files paths rules (about (path_at paths) claim.now) result.verdict result.about }
 {
-    let judged = as_judged(judge(alloc, library, claim, needed, observer));
+    let judged = as_judged(judge(alloc, library, claim, needed, limits, observer));
     if library.is_empty() || !wants_memory(&judged.verdict) {
         return judged;
     }
     library.clear();
     let mut empty = Library::new(alloc, false);
-    as_judged(judge(alloc, &mut empty, claim, needed, observer))
+    as_judged(judge(alloc, &mut empty, claim, needed, limits, observer))
 }
 
 /// Whether a verdict is that there is no memory.
@@ -138,8 +149,10 @@ fn judge<'a, O: Observer>(
     library: &mut Library<'a>,
     claim: &Claim<usize>,
     needed: &Needed<'a>,
+    limits: Limits,
     observer: &mut O,
 ) -> Result<Verdict, Refusal>
+    requires limits { AreGoodLimits limits }
     requires within { AllByRecursion (λ i. i < length needed.now.found.items) (patterns_of claim.now) }
     requires numbers { HasGoodNumbers claim.now.kind }
     ensures { (files : List (List ℕ × List ℕ)) (paths rules : List (List ℕ))
@@ -151,7 +164,7 @@ fn judge<'a, O: Observer>(
 {
     let asks = claim.kind.asks();
     let places = places_of(claim);
-    let prepared = prepare(alloc, library, &places, asks, &needed.found, &needed.tables)?;
+    let prepared = prepare(alloc, library, &places, asks, &needed.found, &needed.tables, limits)?;
     Ok(decide_on(alloc, prepared, asks, observer))
 }
 

@@ -118,6 +118,7 @@ cause_text (causes.BadRule fault) = codes "bad rule: " ++ rule_fault_text fault
 cause_text causes.StateTooLarge = codes "state too large"
 cause_text causes.MixedRules = codes "mixed rules"
 cause_text causes.TooManyCells = codes "too many cells"
+cause_text causes.Work = codes "work"
 cause_text causes.Memory = codes "memory"
 
 -- what is said of a claim

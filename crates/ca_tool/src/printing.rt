@@ -77,6 +77,7 @@ fn cause_pieces<'a>(cause: Cause) -> [Piece<'a>; 2]
         Cause::StateTooLarge => padded_text(b"state too large"),
         Cause::MixedRules => padded_text(b"mixed rules"),
         Cause::TooManyCells => padded_text(b"too many cells"),
+        Cause::Work => padded_text(b"work"),
         Cause::Memory => padded_text(b"memory"),
     }
 }

@@ -3,6 +3,7 @@
 ghost use Rattle.std.specs.Prelude.{MatchOption, ◌∷◌, []};
 ghost use Rattle.ca_claims.specs.Means.{contents};
 ghost use Rattle.ca_claims.specs.Judging.{IsDone};
+ghost use Rattle.ca_claims.specs.Limited.{AreGoodLimits};
 ghost use Rattle.ca_tool.specs.Writing.{WritesOneOf};
 ghost use Rattle.ca_tool.specs.Runs.{all_claims, IsReport, NeedsMemory, WritesReport, WritesPlainReport};
 ghost use Rattle.ca_tool.specs.inner.Judged.{WereJudged, IsReportPart, WereAllJudged};
@@ -10,7 +11,7 @@ ghost use Rattle.ca_tool.specs.inner.Judged.{WereJudged, IsReportPart, WereAllJu
 use crate::fault::ToolFault;
 use crate::finding::{Finding, ReportStyle, send_finding};
 use crate::printing::worse_status;
-use ca_claims::{Claims, File, Judge, Observer};
+use ca_claims::{Claims, File, Judge, Limits, Observer};
 use ca_plane::Dev;
 use ca_run::Unwatched;
 use std::alloc::Global;
@@ -22,8 +23,8 @@ const PLAIN: ReportStyle<'static> = ReportStyle {
     explained: false,
 };
 
-/// Judges each claim, in order, and writes the line of its answer before the next is judged. It answers the
-/// exit status: 2 where a claim is refused, else 1 where one is false, else 0.
+/// Judges each claim, in order and within the limits, and writes the line of its answer before the next is
+/// judged. It answers the exit status: 2 where a claim is refused, else 1 where one is false, else 0.
 ///
 /// Where memory is refused to the list of the files or to the rule tables, nothing is written. A text without
 /// claims needs neither. After a failed write the other claims are judged all the same, and nothing more is
@@ -32,12 +33,14 @@ pub fn verify_run<W: Write>(
     alloc: Global,
     claims: &Claims,
     files: &[File<'_>],
+    limits: Limits,
     device: &mut Dev<W>,
 ) -> Result<u8, ToolFault>
+    requires limits { AreGoodLimits limits }
     ensures answers { WritesPlainReport W.contents device.old device.new
         (all_claims (contents files.now) claims.now) result }
 {
-    let Ok(mut judge) = Judge::new(alloc, claims, files) else {
+    let Ok(mut judge) = Judge::new(alloc, claims, files, limits) else {
         return Err(ToolFault::Memory);
     };
     let result = report_all(alloc, &mut judge, &PLAIN, device, &mut Unwatched);
@@ -50,17 +53,19 @@ pub fn verify_styled<W: Write>(
     alloc: Global,
     claims: &Claims,
     files: &[File<'_>],
+    limits: Limits,
     style: &ReportStyle<'_>,
     device: &mut Dev<W>,
 ) -> Result<u8, ToolFault>
+    requires limits { AreGoodLimits limits }
     ensures tells { WritesReport W.contents device.old device.new
         (all_claims (contents files.now) claims.now) style.now result }
 {
-    verify_watched(alloc, claims, files, style, device, &mut Unwatched)
+    verify_watched(alloc, claims, files, limits, style, device, &mut Unwatched)
 }
 
-/// Judges each claim, in order, while someone watches, and writes the lines for it before the next is judged.
-/// It answers the exit status: 2 where a claim is refused, else 1 where one is false, else 0.
+/// Judges each claim, in order and within the limits, while someone watches, and writes the lines for it before
+/// the next is judged. It answers the exit status: 2 where a claim is refused, else 1 where one is false, else 0.
 ///
 /// Where memory is refused to the list of the files or to the rule tables, nothing is written. A text without
 /// claims needs neither. After a failed write no other claim is judged.
@@ -68,14 +73,16 @@ pub fn verify_watched<W: Write, O: Observer>(
     alloc: Global,
     claims: &Claims,
     files: &[File<'_>],
+    limits: Limits,
     style: &ReportStyle<'_>,
     device: &mut Dev<W>,
     observer: &mut O,
 ) -> Result<u8, ToolFault>
+    requires limits { AreGoodLimits limits }
     ensures tells { WritesReport W.contents device.old device.new
         (all_claims (contents files.now) claims.now) style.now result }
 {
-    let Ok(mut judge) = Judge::new(alloc, claims, files) else {
+    let Ok(mut judge) = Judge::new(alloc, claims, files, limits) else {
         return Err(ToolFault::Memory);
     };
     report_all(alloc, &mut judge, style, device, observer)

@@ -71,7 +71,7 @@ fn verify_text<R: Files + Clock + AllocGlobal>(
         before: &before,
         explained: extras.explained,
     };
-    judge(rt, &claims, &style, extras.progress, streams)
+    judge(rt, &claims, &style, extras, streams)
 }
 
 // What stands before each line: the path of the text, where it is named.
@@ -92,7 +92,7 @@ fn judge<R: Files + Clock + AllocGlobal>(
     rt: &R,
     claims: &Claims,
     style: &ReportStyle<'_>,
-    progress: bool,
+    extras: Extras,
     streams: &mut Streams,
 ) -> Result<u8, Fault> {
     let Ok(loaded) = load_needed(rt, claims) else {
@@ -101,13 +101,22 @@ fn judge<R: Files + Clock + AllocGlobal>(
     let Ok(files) = views(rt.alloc(), &loaded) else {
         return Err(Fault::Input(InputFault::Memory));
     };
-    let is_watched = progress || streams.errors.inner().is_terminal();
+    let is_watched = extras.progress || streams.errors.inner().is_terminal();
+    let limits = extras.limits();
     let output = &mut streams.output;
     let result = if is_watched {
         let mut observer = Progress::new(rt, &mut streams.errors, style.before);
-        verify_watched(rt.alloc(), claims, &files, style, output, &mut observer)
+        verify_watched(
+            rt.alloc(),
+            claims,
+            &files,
+            limits,
+            style,
+            output,
+            &mut observer,
+        )
     } else {
-        verify_styled(rt.alloc(), claims, &files, style, output)
+        verify_styled(rt.alloc(), claims, &files, limits, style, output)
     };
     result.map_err(Fault::Tool)
 }

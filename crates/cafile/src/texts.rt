@@ -73,6 +73,14 @@ On a terminal, a line on standard error shows how far a claim is that takes over
 `line 3: 904 of 5000 generations`. It is wiped before the verdict's line is printed. --progress shows it also
 where standard error is no terminal.
 
+--memo N gives each claim's memo N entries. An entry is one result, or up to 16 results at full leap of squares
+with neighbouring numbers; a quarter and an eighth of the entries are kept for results that cost little. A
+smaller memo takes less memory, and a claim may take longer. No verdict depends on it.
+
+--work N refuses a claim that needs more than N units of work: `line 2: refused, work`. A unit is the centre of
+one square after some generations that wasn't remembered, or one brick of 64 by 16 cells of a dense plane, one
+generation on. Each claim has its own count and its own memo.
+
 The status is 0 where every verdict is yes, 1 where some are no, and 2 where some are refused or there is a
 fault. A text that can't be read or is faulty is told on standard error, and the others are judged.
 
@@ -81,4 +89,5 @@ Examples:
   cafile verify --explain examples/several.claims
   cafile verify examples/reactions.claims
   cafile verify --progress examples/published.claims
+  cafile verify --work 100000 examples/published.claims
   cat examples/block.claims | cafile verify -";

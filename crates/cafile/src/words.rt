@@ -1,9 +1,11 @@
 //! The words that the program is started with.
 
+ghost use Rattle.ca_claims.specs.Limited.{AreGoodLimits};
+
 use crate::texts;
-use ca_claims::Target;
+use ca_claims::{Limits, MOST_MEMO, Target};
 use clap::error::ErrorKind;
-use clap::{Arg, ArgAction, ArgMatches, Command, Error};
+use clap::{Arg, ArgAction, ArgMatches, Command, Error, value_parser};
 use std::alloc::{AllocError, Global};
 use std::rt::Env;
 use std::{env, io};
@@ -41,6 +43,23 @@ pub struct Extras {
     pub explained: bool,
     /// How far a long claim is.
     pub progress: bool,
+    /// How many entries the memo of each claim may have, where that is set.
+    pub memo: Option<usize>,
+    /// How much work each claim may take, where that is set.
+    pub work: Option<u64>,
+}
+
+impl Extras {
+    /// The limits of each claim. The words keep a memo within its limits, and one outside is brought within.
+    pub fn limits(self) -> Limits
+        ensures { AreGoodLimits result }
+    {
+        let usual = Limits::default();
+        Limits {
+            memo: self.memo.unwrap_or(usual.memo).clamp(1, MOST_MEMO),
+            work: self.work.unwrap_or(usual.work),
+        }
+    }
 }
 
 /// Why the words ask for nothing.
@@ -124,6 +143,8 @@ fn verify_command<'a>(alloc: Global) -> Result<Command<'a>, AllocError> {
             claims_word(alloc),
             explain_word(alloc),
             progress_word(alloc),
+            memo_word(alloc),
+            work_word(alloc),
         ]?)
 }
 
@@ -171,6 +192,22 @@ fn progress_word<'a>(alloc: Global) -> Arg<'a> {
         .help("Show how far a long claim is, also where standard error is no terminal")
 }
 
+fn memo_word<'a>(alloc: Global) -> Arg<'a> {
+    Arg::new(alloc, "memo")
+        .long("memo")
+        .value_name("N")
+        .value_parser(value_parser!(u64).range(1..=16777216))
+        .help("How many entries each claim's memo may have: 1 to 16777216; unless set, 262144")
+}
+
+fn work_word<'a>(alloc: Global) -> Arg<'a> {
+    Arg::new(alloc, "work")
+        .long("work")
+        .value_name("N")
+        .value_parser(value_parser!(u64))
+        .help("How many units of work each claim may take; unless set, 18446744073709551615")
+}
+
 // The command and its words are required, so that clap finds them wherever it finds no fault.
 fn request_of(alloc: Global, matches: &ArgMatches<'_>) -> Result<Request, WordsFault> {
     if let Some(words) = matches.subcommand_matches("show") {
@@ -189,6 +226,8 @@ fn request_of(alloc: Global, matches: &ArgMatches<'_>) -> Result<Request, WordsF
         let extras = Extras {
             explained: words.get_flag("explain"),
             progress: words.get_flag("progress"),
+            memo: words.get_one("memo"),
+            work: words.get_one("work"),
         };
         return Ok(Request::Verify { paths, extras });
     }

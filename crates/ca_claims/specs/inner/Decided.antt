@@ -1,9 +1,9 @@
 -- What a verdict says of a claim about cells that are at hand.
-use Rattle.std.specs.Prelude.{◌≡◌, ◌≢◌, ℕ, ◌≤◌, List, IsTrue}
+use Rattle.std.specs.Prelude.{◌≡◌, ◌≢◌, ℕ, ◌≤◌, List, IsTrue, ◌⊎◌}
 use Rattle.ca_plane.specs.Plane.{Picture}
 use Rattle.ca_claims.specs.declared.verdict.Verdict.{Verdict}
 use Rattle.ca_claims.specs.declared.verdict.Verdict.TheVariants.{Yes, No, Refused}
-use Rattle.ca_claims.specs.declared.verdict.Cause.TheVariants.{Memory}
+use Rattle.ca_claims.specs.declared.verdict.Cause.TheVariants.{Work, Memory}
 use Rattle.ca_claims.specs.declared.claims.asks.Asks.{Asks}
 use Rattle.ca_claims.specs.declared.claims.asks.Barred.{Barred}
 use Rattle.ca_claims.specs.declared.claims.asks.Barred.TheVariants.{Nothing, InPlace, Anywhere, EmptyPlane}
@@ -32,8 +32,8 @@ pub record IsBounded (asks : Asks) : Type 0 where
   pub none : asks.barred ≡ EmptyPlane → asks.wanted ≡ NoCells
   pub some : asks.barred ≡ EmptyPlane → 1 ≤ asks.generations
 
--- a yes of a claim that is true, or a no with a reason, and no refusal but out of memory
+-- a yes of a claim that is true, or a no with a reason, and no refusal but out of work or memory
 abbrev pub IsDecided : (List ℕ → ℕ) → Picture → Picture → Asks → Verdict → Type 0
 IsDecided next cells other asks Yes = IsTrueClaim next cells other asks
 IsDecided next cells other asks (No why) = IsReason next cells other asks why
-IsDecided next cells other asks (Refused cause) = cause ≡ Memory
+IsDecided next cells other asks (Refused cause) = (cause ≡ Work) ⊎ (cause ≡ Memory)

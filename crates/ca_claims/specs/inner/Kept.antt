@@ -4,6 +4,8 @@ use Rattle.std.specs.Borrow.{Bor}
 use Rattle.std.specs.Option.{option_copied}
 use Rattle.ca_claims.specs.declared.verifier.tables.Tables.{Tables}
 use Rattle.ca_claims.specs.declared.verdict.Answer.{Answer}
+use Rattle.ca_claims.specs.declared.limits.Limits.{Limits}
+use Rattle.ca_claims.specs.Limited.{AreGoodLimits}
 use Rattle.ca_claims.specs.Text.{ClaimText, Claim}
 use Rattle.ca_claims.specs.Means.{bytes_at}
 use Rattle.ca_claims.specs.Answers.{IsTrueAnswer}
@@ -17,10 +19,11 @@ pub record AreFound (files : List (List ℕ × List ℕ)) (asked : ClaimText) (f
   pub found_at : map option_copied found ≡ map (bytes_at files) asked.paths
   pub read : AreRead files asked.paths asked.rules tables
 
--- these are kept, if the text makes a claim; and the claim with this index is the next, or all are judged
-pub record IsKeptOf (files : List (List ℕ × List ℕ)) (asked : ClaimText) (found : List (Option (Bor (List ℕ)))) (tables : Tables) (index : ℕ) : Type 0 where
+-- these are kept, if the text makes a claim; the claim with this index is the next, or all are judged; and the limits are good
+pub record IsKeptOf (files : List (List ℕ × List ℕ)) (asked : ClaimText) (found : List (Option (Bor (List ℕ)))) (tables : Tables) (index : ℕ) (limits : Limits) : Type 0 where
   pub kept : asked.claims ≢ [] → AreFound files asked found tables
   pub within : index ≤ length asked.claims
+  pub limited : AreGoodLimits limits
 
 -- what is left to be judged of these files and claims, from the claim with this index on
 abbrev pub left_from : List (List ℕ × List ℕ) → ClaimText → ℕ → Judging

@@ -10,15 +10,15 @@ ghost use Rattle.ca_claims.specs.inner.Subjects.{ShowsTree, BarsDeath};
 use super::{Case, is_dead, tree_after};
 use crate::observer::Observer;
 use crate::verdict::Why;
-use ca_plane::{Automaton, Memory};
-use ca_run::Leaper;
+use ca_plane::Automaton;
+use ca_run::{LeapFault, Leaper};
 
 /// The least time after which the plane is empty, where it is before the claim's generations are over.
 pub(super) fn first_death<A: Automaton, O: Observer>(
     leaper: &mut Leaper<A>,
     case: &Case,
     observer: &mut O,
-) -> Result<Option<Why>, Memory>
+) -> Result<Option<Why>, LeapFault>
     requires { BarsDeath leaper.old.nodes case.now }
     ensures { (cells : Picture) → ShowsTree leaper.old.nodes case.now.subject.pattern cells
         → IsAfter (A.next_of leaper.old.rule) cells case.now.asks.generations []
@@ -39,7 +39,7 @@ fn life_span<A: Automaton, O: Observer>(
     leaper: &mut Leaper<A>,
     case: &Case,
     observer: &mut O,
-) -> Result<u64, Memory>
+) -> Result<u64, LeapFault>
     requires { BarsDeath leaper.old.nodes case.now }
     ensures some { IfOk result (λ m. 1 ≤ m) }
     ensures most { IfOk result (λ m. m ≤ case.now.asks.generations) }

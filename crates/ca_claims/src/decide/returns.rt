@@ -18,7 +18,7 @@ use crate::observer::Observer;
 use crate::verdict::Why;
 use ca_plane::{Automaton, Memory, MoveFault};
 use ca_quad::{Store, Tree};
-use ca_run::Leaper;
+use ca_run::{LeapFault, Leaper};
 use std::alloc::Global;
 
 /// The first return of the pattern before the claim's generations are over. Where the pattern is back then,
@@ -27,7 +27,7 @@ pub(super) fn first_return<A: Automaton, O: Observer>(
     leaper: &mut Leaper<A>,
     case: &Case,
     observer: &mut O,
-) -> Result<Option<Why>, Memory>
+) -> Result<Option<Why>, LeapFault>
     requires { BarsReturn leaper.old.nodes case.now }
     ensures { (cells : Picture) → ShowsTree leaper.old.nodes case.now.subject.pattern cells → (u v : ℤ)
         → MayReturnBy case.now.asks.barred u v
@@ -56,7 +56,7 @@ fn return_at<A: Automaton, O: Observer>(
     case: &Case,
     m: u64,
     observer: &mut O,
-) -> Result<Option<(i64, i64)>, Memory>
+) -> Result<Option<(i64, i64)>, LeapFault>
     requires case { BarsReturn leaper.old.nodes case.now }
     requires few { m ≤ 2 ^ 60 }
     ensures back { (cells : Picture) → ShowsTree leaper.old.nodes case.now.subject.pattern cells
@@ -82,7 +82,7 @@ fn vector_if_same<A: Automaton>(
     moved: Tree,
     dx: i64,
     dy: i64,
-) -> Result<Option<(i64, i64)>, Memory>
+) -> Result<Option<(i64, i64)>, LeapFault>
     requires end { IsNearTree leaper.old.nodes end }
     requires moved { IsNearTree leaper.old.nodes moved }
     ensures back { IfOk result (λ back. MatchOption back
@@ -103,7 +103,7 @@ fn return_anywhere<A: Automaton>(
     leaper: &mut Leaper<A>,
     end: Tree,
     pattern: Tree,
-) -> Result<Option<(i64, i64)>, Memory>
+) -> Result<Option<(i64, i64)>, LeapFault>
     requires end { IsNearTree leaper.old.nodes end }
     requires pattern { IsPattern leaper.old.nodes pattern }
     requires live { HasLive (cell leaper.old.nodes pattern) }
@@ -117,7 +117,7 @@ fn return_anywhere<A: Automaton>(
     };
     match leaper.shifted(pattern, dx, dy) {
         Ok(moved) => vector_if_same(leaper, end, moved, dx, dy),
-        Err(MoveFault::Memory) => Err(Memory),
+        Err(MoveFault::Memory) => Err(LeapFault::Memory),
         Err(MoveFault::Range) => Ok(None),
     }
 }

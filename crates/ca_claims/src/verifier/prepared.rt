@@ -7,6 +7,7 @@ ghost use Rattle.std.specs.Option.{option_copied};
 ghost use Rattle.ca_claims.specs.Places.{path_at};
 ghost use Rattle.ca_claims.specs.Means.{bytes_at};
 ghost use Rattle.ca_claims.specs.Answers.{AreTables};
+ghost use Rattle.ca_claims.specs.Limited.{AreGoodLimits};
 ghost use Rattle.ca_claims.specs.declared.refusal.About.TheVariants as abouts;
 ghost use Rattle.ca_claims.specs.inner.Found.{IsFound};
 ghost use Rattle.ca_claims.specs.inner.Patterns.{items, FirstBadAt};
@@ -23,6 +24,7 @@ use super::patterns::{BadPart, read_each, with_rules};
 use super::tables::Tables;
 use crate::claims::Asks;
 use crate::decide::Subject;
+use crate::limits::Limits;
 use crate::read::BadPattern;
 use crate::refusal::{About, Part, Refusal};
 use crate::verdict::{Cause, PatternFault};
@@ -46,8 +48,10 @@ pub(crate) fn prepare<'a, 't>(
     asks: Asks,
     found: &[Option<&'a [u8]>],
     tables: &'t Tables,
+    limits: Limits,
 ) -> Result<Prepared<'t>, Refusal>
-    requires { AllByRecursion (λ i. i < length found.now) (items places.now) }
+    requires limits { AreGoodLimits limits }
+    requires within { AllByRecursion (λ i. i < length found.now) (items places.now) }
     ensures prepared { (files : List (List ℕ × List ℕ)) (paths rules : List (List ℕ))
         → map option_copied found.now ≡ map (bytes_at files) paths → AreRead files paths rules tables.now
         → MatchResult result (IsPrepared files rules asks (map (path_at paths) (items places.now)))
@@ -59,7 +63,7 @@ pub(crate) fn prepare<'a, 't>(
         Err(part) => return Err(of_pattern(Cause::NoFile, part, None)),
     };
     let tables = tables.all()?;
-    prepare_by(alloc, library, &files, asks, tables)
+    prepare_by(alloc, library, &files, asks, tables, limits)
 }
 
 /// What a claim about the patterns whose files have these bytes is judged on, or why it isn't judged under
@@ -70,7 +74,9 @@ fn prepare_by<'a, 't>(
     there: &OneOrTwo<&'a [u8]>,
     asks: Asks,
     tables: &'t [Table],
+    limits: Limits,
 ) -> Result<Prepared<'t>, Refusal>
+    requires limits { AreGoodLimits limits }
     ensures prepared { (files : List (List ℕ × List ℕ)) (paths rules each : List (List ℕ))
         → AllZip (λ path b. bytes_at files path ≡ Some b.now) each (items there.now)
         → AreTables files rules tables.now
@@ -92,10 +98,10 @@ fn prepare_by<'a, 't>(
     };
     let subject = subject_of(&patterns);
     check_count(alloc, &store, &subject, asks, last_part(&patterns))?;
-    Ok(Prepared {
-        leaper: Leaper::new(alloc, store, rule),
-        subject,
-    })
+    let Ok(leaper) = Leaper::new(alloc, store, rule, limits.memo, limits.work) else {
+        return Err(OUT_OF_MEMORY);
+    };
+    Ok(Prepared { leaper, subject })
 }
 
 /// A refusal for one of the claim's patterns.

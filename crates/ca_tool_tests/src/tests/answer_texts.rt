@@ -199,6 +199,7 @@ const CAUSES: &[(Cause, &str)] = &[
     (Cause::StateTooLarge, "state too large"),
     (Cause::MixedRules, "mixed rules"),
     (Cause::TooManyCells, "too many cells"),
+    (Cause::Work, "out of work"),
     (Cause::Memory, "out of memory"),
 ];
 

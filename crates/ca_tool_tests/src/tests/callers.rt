@@ -1,7 +1,7 @@
 //! The callers that the libraries' pages show, and what a text says and no verdict shows.
 
 use super::devices::expect;
-use ca_claims::{Answer, ClaimFault, File, Verdict, Why, read_claims, verify};
+use ca_claims::{Answer, Cause, ClaimFault, File, Limits, Verdict, Why, read_claims, verify};
 use ca_macro::{MacroFault, read_macro};
 use ca_plane::{Automaton, Dev};
 use ca_quad::{Spot, Store};
@@ -130,10 +130,16 @@ const ANSWERS: &[Answer] = &[
     },
 ];
 
-/// Whether the answers are these.
-fn are_answers(alloc: Global, text: &[u8], wanted: &[Answer]) -> Result<bool, ClaimFault> {
+/// Whether these are the answers, where a claim may take so much work.
+fn are_answers(
+    alloc: Global,
+    text: &[u8],
+    work: u64,
+    wanted: &[Answer],
+) -> Result<bool, ClaimFault> {
+    let limits = Limits { memo: 1, work };
     let claims = read_claims(alloc, text)?;
-    let Ok(answers) = verify(alloc, &claims, FILES) else {
+    let Ok(answers) = verify(alloc, &claims, FILES, limits) else {
         return Ok(false);
     };
     Ok(answers.as_slice() == wanted)
@@ -142,15 +148,42 @@ fn are_answers(alloc: Global, text: &[u8], wanted: &[Answer]) -> Result<bool, Cl
 #[test]
 fn the_first_file_of_a_path_counts(rt: HostRuntime) {
     let text = b"load e empty.rle\nload b block.rle\nstill b\nstill e\n";
-    let found = are_answers(rt.alloc(), text, ANSWERS);
+    let found = are_answers(rt.alloc(), text, u64::MAX, ANSWERS);
     expect(&rt, found == Ok(true), "the first file of a path");
+}
+
+/// Without work a claim with cells to be worked out is refused, and the others are judged.
+const WORKLESS_ANSWERS: &[Answer] = &[
+    Answer {
+        line: 3,
+        verdict: Verdict::Refused(Cause::Work),
+    },
+    Answer {
+        line: 4,
+        verdict: Verdict::No(Why::Empty),
+    },
+    Answer {
+        line: 5,
+        verdict: Verdict::Yes,
+    },
+    Answer {
+        line: 6,
+        verdict: Verdict::Yes,
+    },
+];
+
+#[test]
+fn a_claim_is_refused_for_want_of_work(rt: HostRuntime) {
+    let text = b"load e empty.rle\nload b block.rle\nstill b\nstill e\nbecomes b 0 b\nbecomes e 5 e\n";
+    let found = are_answers(rt.alloc(), text, 0, WORKLESS_ANSWERS);
+    expect(&rt, found == Ok(true), "no work");
 }
 
 /// Whether a claim about a file that isn't handed in is refused.
 fn is_refused(alloc: Global) -> Result<bool, ClaimFault> {
     let claims = read_claims(alloc, b"load b block.rle\nstill b\n")?;
     let mut out = Dev::new(Vec::new(alloc));
-    let end = verify_run(alloc, &claims, &[], &mut out);
+    let end = verify_run(alloc, &claims, &[], Limits::default(), &mut out);
     Ok(end == Ok(2) && out.inner().as_slice() == b"line 2: refused, no file\n".as_slice())
 }
 

@@ -2,7 +2,7 @@
 
 use super::devices::{Narrow, Refusal, expect};
 use super::writers::{MACROCELL, RLE, write_macro, write_rle};
-use ca_claims::{ClaimFault, Claims, File, Target, read_claims};
+use ca_claims::{ClaimFault, Claims, File, Limits, Target, read_claims};
 use ca_plane::{Dev, WriteFault};
 use ca_tool::{
     Fault, InputFault, ReportStyle, ToolFault, complain, complain_with_path, convert_run, show_run,
@@ -109,8 +109,10 @@ fn show(alloc: Global, out: &mut Dev<Narrow>) -> Result<u8, ToolFault> {
 /// How a run ends on this device.
 fn end_of(alloc: Global, run: &Run<'_>, out: &mut Dev<Narrow>) -> Result<u8, ToolFault> {
     match run {
-        Run::Verify(claims) => verify_run(alloc, claims, FILES, out),
-        Run::Explain(claims) => verify_styled(alloc, claims, FILES, &STYLE, out),
+        Run::Verify(claims) => verify_run(alloc, claims, FILES, Limits::default(), out),
+        Run::Explain(claims) => {
+            verify_styled(alloc, claims, FILES, Limits::default(), &STYLE, out)
+        }
         Run::Show => show(alloc, out),
         Run::Convert(target) => convert_run(alloc, &mut Dev::new(RLE), *target, None, out),
         Run::ConvertByTable => convert_run(

@@ -1,7 +1,7 @@
 //! A text of many claims, which no call refuses where memory is ample.
 
 use super::devices::expect;
-use ca_claims::{Claims, File, read_claims, verify};
+use ca_claims::{Claims, File, Limits, read_claims, verify};
 use ca_plane::Dev;
 use ca_tool::{lines, verify_run};
 use std::alloc::{AllocError, Global};
@@ -35,7 +35,7 @@ fn lines_of_many(alloc: Global) -> Result<Vec<u8>, AllocError> {
 
 /// Whether all claims are answered, and their answers printed as these lines.
 fn are_answered(alloc: Global, claims: &Claims, wanted: &[u8]) -> bool {
-    let Ok(answers) = verify(alloc, claims, FILES) else {
+    let Ok(answers) = verify(alloc, claims, FILES, Limits::default()) else {
         return false;
     };
     let Ok(text) = lines(alloc, answers.as_slice()) else {
@@ -47,7 +47,7 @@ fn are_answered(alloc: Global, claims: &Claims, wanted: &[u8]) -> bool {
 /// Whether a run on the claims writes these lines.
 fn are_written(alloc: Global, claims: &Claims, wanted: &[u8]) -> bool {
     let mut out = Dev::new(Vec::new(alloc));
-    let end = verify_run(alloc, claims, FILES, &mut out);
+    let end = verify_run(alloc, claims, FILES, Limits::default(), &mut out);
     end == Ok(0) && out.inner().as_slice() == wanted
 }
 

@@ -5,13 +5,13 @@ use Rattle.ca_quad.specs.Trees.{cell}
 use Rattle.ca_claims.proofs.Nearby.{end_outside}
 use Rattle.ca_claims.proofs.decide.tree_after.Goals as goal
 
-pub returns-in-Ok-clause-end : goal.returns-in-Ok-clause-end
-returns-in-Ok-clause-end g c =
+pub returns-clause-end : goal.returns-clause-end
+returns-clause-end g c =
     let next = g.A.Automaton.next_of c.args.leaper.now.rule in
     let quiet = g.met.A.Automaton.quiet c.args.leaper.now.rule c.store.ensures.rule in
-    let end = c.in-Ok.ensures.advanced in
+    let end = c.in_ok-end.ensures.advanced in
     let before = cell c.args.leaper.now.nodes in
-    let after = cell c.advance_watched.new.self.nodes c.in-Ok.end in
+    let after = cell c.advance_watched.new.self.nodes c.in_ok-end.end in
     let cells = subst (λ t. (x y : ℤ) → after x y ≡ cells_after next (before t) c.args.generations x y) c.copy.ensures end.cells in
     record {
       near = record {

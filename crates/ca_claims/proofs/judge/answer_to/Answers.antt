@@ -8,6 +8,7 @@ use Rattle.ca_claims.proofs.judge.answer_to.Goals as goal
 
 pub verdict_on-judged-requires : goal.verdict_on-judged-requires
 verdict_on-judged-requires g c = record {
+  limits = c.requires.limits;
   within = subst (λ n. AllByRecursion (λ i. i < n) (patterns_of c.claim-asked.result.claim)) (sym c.requires.found) c.claim-asked.ensures.asked.within;
   numbers = c.claim-asked.ensures.asked.numbers;
 }

@@ -16,8 +16,8 @@ use Rattle.ca_claims.proofs.Causes.{once_paths, once_all, cause_of_all, passed_o
 use Rattle.ca_claims.proofs.Parts.{on_all}
 use Rattle.ca_claims.proofs.verifier.judge.Goals as goal
 
-pub prepare-requires : goal.prepare-requires
-prepare-requires g c =
+pub prepare-requires-clause-within : goal.prepare-requires-clause-within
+prepare-requires-clause-within g c =
     subst (λ l. AllByRecursion (λ i. i < length l) (items c.places_of-places.result)) (sym c.deref.ensures.value)
     (once_all (λ i. i < length c.args.needed.now.found.items) (items c.places_of-places.result) (patterns_of c.args.claim.now) c.places_of-places.ensures c.requires.within)
 

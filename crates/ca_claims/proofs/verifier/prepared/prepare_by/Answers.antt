@@ -3,7 +3,7 @@ use Rattle.ca_rule.specs.Rule.{rule_value}
 use Rattle.ca_claims.specs.inner.Patterns.{items}
 use Rattle.ca_claims.specs.inner.Prepared.{IsPrepared, IsCountRefused}
 use Rattle.ca_claims.specs.inner.Refusals.{IsRefusal}
-use Rattle.ca_claims.proofs.Causes.{read_at, ruled_each, are_trees, are_patterns, both_are_patterns, unread_for, unnamed, disagreed, crowded, passed_on, all_prepared, all_fit}
+use Rattle.ca_claims.proofs.Causes.{read_at, ruled_each, are_trees, are_patterns, both_are_patterns, unread_for, unnamed, disagreed, crowded, no_memory, passed_on, all_prepared, all_fit}
 use Rattle.ca_claims.proofs.verifier.prepared.prepare_by.Goals as goal
 
 pub returns-in-Err-clause-prepared : goal.returns-in-Err-clause-prepared
@@ -57,6 +57,15 @@ returns-in_err-check_count-clause-prepared c = λ files paths rules each there a
     (crowded files paths rules c.args.asks tables are nodes each c.in-Ok-with_rules.patterns c.subject_of-subject.result (rule_value c.in-Ok-agreed_rule.rule) refusal ruled c.in-Ok-agreed_rule.ensures.small c.in-Ok-agreed_rule.ensures.rule
     c.subject_of-subject.ensures (subst (λ part. IsCountRefused nodes c.args.asks c.subject_of-subject.result part refusal) c.last_part.ensures c.in_err-check_count.ensures.many))
 
+pub returns-in_default-clause-prepared : goal.returns-in_default-clause-prepared
+returns-in_default-clause-prepared c = λ files paths rules each there are.
+    let tables = c.args.tables.now in
+    let nodes = c.read_each.new.store in
+    let patterns = items c.in-Ok.patterns in
+    let read = read_at nodes files each (items c.args.there.now) patterns there c.in-Ok.ensures.read in
+    let ruled = ruled_each nodes files tables each patterns (items c.in-Ok-with_rules.patterns) read c.in-Ok-with_rules.ensures.named in
+    no_memory files paths rules c.args.asks tables are nodes each c.in-Ok-with_rules.patterns ruled
+
 pub returns-clause-prepared : goal.returns-clause-prepared
 returns-clause-prepared c = λ files paths rules each there are.
     let tables = c.args.tables.now in
@@ -64,10 +73,10 @@ returns-clause-prepared c = λ files paths rules each there are.
     let patterns = items c.in-Ok.patterns in
     let read = read_at nodes files each (items c.args.there.now) patterns there c.in-Ok.ensures.read in
     let ruled = ruled_each nodes files tables each patterns (items c.in-Ok-with_rules.patterns) read c.in-Ok-with_rules.ensures.named in
-    all_prepared files paths rules c.args.asks tables are nodes each c.in-Ok-with_rules.patterns _ (sym c.new.ensures.store) (rule_value c.in-Ok-agreed_rule.rule) (sym (ap rule_value c.new.ensures.rule)) ruled c.in-Ok-agreed_rule.ensures.small c.in-Ok-agreed_rule.ensures.rule c.subject_of-subject.ensures c.in_ok-check_count.ensures.few
+    all_prepared files paths rules c.args.asks tables are nodes each c.in-Ok-with_rules.patterns _ (sym c.in-Ok-new.ensures.store) (rule_value c.in-Ok-agreed_rule.rule) (sym (ap rule_value c.in-Ok-new.ensures.rule)) ruled c.in-Ok-agreed_rule.ensures.small c.in-Ok-agreed_rule.ensures.rule c.subject_of-subject.ensures c.in_ok-check_count.ensures.few
 
 pub returns-clause-fit : goal.returns-clause-fit
 returns-clause-fit c =
     let nodes = c.read_each.new.store in
     let trees = are_patterns nodes (items c.args.there.now) c.args.tables.now (items c.in-Ok.patterns) (items c.in-Ok-with_rules.patterns) c.in-Ok.ensures.read c.in-Ok-with_rules.ensures.named in
-    all_fit nodes (items c.in-Ok-with_rules.patterns) _ (sym c.new.ensures.store) trees c.subject_of-subject.ensures
+    all_fit nodes (items c.in-Ok-with_rules.patterns) _ (sym c.in-Ok-new.ensures.store) trees c.subject_of-subject.ensures

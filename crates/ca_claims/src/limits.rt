@@ -1,0 +1,37 @@
+//! How much may be spent on the judgement of a claim.
+
+ghost use Rattle.std.specs.Prelude.{◌≡◌};
+ghost use Rattle.ca_claims.specs.Limited.{AreGoodLimits};
+
+/// The most entries that a claim's memo may have.
+pub const MOST_MEMO: usize = 16777216;
+
+/// How many entries a claim's memo may have, unless it is set.
+pub const USUAL_MEMO: usize = 262144;
+
+/// How much each claim of a text may take. Each has a memo of its own, and a count of its own.
+#[derive(Clone, Copy, Debug, PartialEq, Eq)]
+pub struct Limits {
+    /// How many entries the memo may have: 1 to 16777216. An entry is one result, or up to 16 results at full leap
+    /// of squares with neighbouring numbers; a quarter and an eighth of the entries are kept for results that cost
+    /// little. A smaller memo takes less memory, and a claim may then take longer; its verdict is the same.
+    pub memo: usize,
+    /// How many units of work may be done, from 0 up. A unit is the centre of one square that isn't empty after some
+    /// generations, that wasn't remembered; or one brick of 64 by 16 cells of a dense plane, one generation on. A
+    /// claim that needs more is refused.
+    pub work: u64,
+}
+
+impl Limits {
+    /// A memo of 262144 entries, and as much work as can be counted.
+    pub fn default() -> Limits
+        ensures memo { result.memo ≡ 262144 }
+        ensures work { result.work ≡ 18446744073709551615 }
+        ensures good { AreGoodLimits result }
+    {
+        Limits {
+            memo: USUAL_MEMO,
+            work: u64::MAX,
+        }
+    }
+}
