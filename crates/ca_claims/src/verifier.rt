@@ -164,7 +164,15 @@ fn judge<'a, O: Observer>(
 {
     let asks = claim.kind.asks();
     let places = places_of(claim);
-    let prepared = prepare(alloc, library, &places, asks, &needed.found, &needed.tables, limits)?;
+    let prepared = prepare(
+        alloc,
+        library,
+        &places,
+        asks,
+        &needed.found,
+        &needed.tables,
+        limits,
+    )?;
     Ok(decide_on(alloc, prepared, asks, observer))
 }
 

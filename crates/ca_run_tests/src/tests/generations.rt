@@ -161,7 +161,7 @@ fn leaps_are_steps(alloc: Global, plane: &Plane) -> Result<bool, LeapFault> {
     let Ok(later) = steps(alloc, &Life, plane, 24) else {
         return Ok(false);
     };
-    let mut leaper = Leaper::new(alloc, Store::new(alloc), Life);
+    let mut leaper = Leaper::new(alloc, Store::new(alloc), Life, 262144, u64::MAX)?;
     leaps_to(&mut leaper, plane, 24, &later)
 }
 
@@ -172,6 +172,55 @@ fn a_hundred_thousand_cells_leap(rt: HostRuntime) -> Result<(), Fail> {
     let found = leaps_are_steps(rt.alloc(), &plane);
     expect(&rt, found == Ok(true), "leaps beside steps");
     Ok(())
+}
+
+/// A glider after 64 generations.
+const GLIDER_64: &[Cell] = &[
+    (16, 17, 1),
+    (17, 18, 1),
+    (18, 16, 1),
+    (18, 17, 1),
+    (18, 18, 1),
+];
+
+/// Whether a leaper that may remember and work out so much takes a glider 64 generations on, and how much it works out.
+fn glider_by(alloc: Global, memo: usize, work: u64) -> Result<(bool, u64), LeapFault> {
+    let (Ok(plane), Ok(later)) = (plane_of(alloc, GLIDER), plane_of(alloc, GLIDER_64)) else {
+        return Err(LeapFault::Memory);
+    };
+    if !has_two_states(&plane) || !has_two_states(&later) {
+        return Ok((false, 0));
+    }
+    let memo = memo.clamp(1, 16777216);
+    let mut leaper = Leaper::new(alloc, Store::new(alloc), Life, memo, work)?;
+    let is_there = leaps_to(&mut leaper, &plane, 64, &later)?;
+    Ok((is_there, leaper.used()))
+}
+
+#[test]
+fn a_leaper_of_one_entry(rt: HostRuntime) {
+    let found = glider_by(rt.alloc(), 1, u64::MAX);
+    expect(&rt, matches!(found, Ok((true, 1..))), "a memo of one entry");
+}
+
+#[test]
+fn a_leaper_that_may_do_no_work(rt: HostRuntime) {
+    let found = glider_by(rt.alloc(), 262144, 0);
+    expect(&rt, found == Err(LeapFault::Work), "no work");
+}
+
+/// Whether an empty plane stays empty for as long as one may ask for, without any work.
+fn nothing_comes_of_nothing(alloc: Global) -> Result<bool, LeapFault> {
+    let plane = Plane::new(alloc);
+    let mut leaper = Leaper::new(alloc, Store::new(alloc), Life, 1, 0)?;
+    let is_there = leaps_to(&mut leaper, &plane, 1 << 60, &plane)?;
+    Ok(is_there && leaper.used() == 0)
+}
+
+#[test]
+fn an_empty_plane_needs_no_work(rt: HostRuntime) {
+    let found = nothing_comes_of_nothing(rt.alloc());
+    expect(&rt, found == Ok(true), "an empty plane without work");
 }
 
 /// The masks of Conway's game of life.

@@ -174,7 +174,8 @@ const WORKLESS_ANSWERS: &[Answer] = &[
 
 #[test]
 fn a_claim_is_refused_for_want_of_work(rt: HostRuntime) {
-    let text = b"load e empty.rle\nload b block.rle\nstill b\nstill e\nbecomes b 0 b\nbecomes e 5 e\n";
+    let text =
+        b"load e empty.rle\nload b block.rle\nstill b\nstill e\nbecomes b 0 b\nbecomes e 5 e\n";
     let found = are_answers(rt.alloc(), text, 0, WORKLESS_ANSWERS);
     expect(&rt, found == Ok(true), "no work");
 }
