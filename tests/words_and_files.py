@@ -14,7 +14,7 @@ MAX_FILE = 67108864
 HELP = {
     "show": ("--rule", "format macrocell", "rule B3/S23", "gen 4", "cells 5", "box 1 2 3 3", "- is standard input", "The status is 0, or 2"),
     "convert": ("--to", "--rule", "rle, mc", "- is standard input", "The status is 0, or 2"),
-    "verify": ("CLAIMS", "--explain", "--progress", "rule PATH", "load NAME PATH", "still NAME", "oscillator NAME P", "spaceship NAME P DX DY", "becomes NAME N NAME2", "becomes NAME N NAME2 shift DX DY", "dies NAME N", "claims 2",
+    "verify": ("CLAIMS", "--explain", "--progress", "--memo", "--work", "rule PATH", "load NAME PATH", "still NAME", "oscillator NAME P", "spaceship NAME P DX DY", "becomes NAME N NAME2", "becomes NAME N NAME2 shift DX DY", "dies NAME N", "claims 2",
                "relative to the working directory", "hold no blanks", "- is standard input", "The status is 0", "1 where", "2 where"),
 }
 

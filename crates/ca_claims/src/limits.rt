@@ -12,13 +12,13 @@ pub const USUAL_MEMO: usize = 262144;
 /// How much each claim of a text may take. Each has a memo of its own, and a count of its own.
 #[derive(Clone, Copy, Debug, PartialEq, Eq)]
 pub struct Limits {
-    /// How many entries the memo may have: 1 to 16777216. An entry is one result, or up to 16 results at full leap
-    /// of squares with neighbouring numbers; a quarter and an eighth of the entries are kept for results that cost
-    /// little. A smaller memo takes less memory, and a claim may then take longer; its verdict is the same.
+    /// How many entries the memo may have: 1 to 16777216. An entry is one result, or up to 16 results at full
+    /// leap of squares with neighbouring numbers; a quarter and an eighth of the entries are kept for results
+    /// that cost little. With fewer entries a claim may take longer, and more work.
     pub memo: usize,
-    /// How many units of work may be done, from 0 up. A unit is the centre of one square that isn't empty after some
-    /// generations, that wasn't remembered; or one brick of 64 by 16 cells of a dense plane, one generation on. A
-    /// claim that needs more is refused.
+    /// How many units of work may be done. A unit is the centre of one square, not empty, after some
+    /// generations, that wasn't remembered; or one brick of 64 by 16 cells of a dense plane, one generation on.
+    /// A claim that needs more is refused.
     pub work: u64,
 }
 

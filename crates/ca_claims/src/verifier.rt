@@ -43,14 +43,14 @@ use prepared::{Prepared, prepare};
 use std::alloc::Global;
 pub(crate) use tables::Tables;
 
-/// One answer for each claim, in the order of their lines. Each claim may take as much as the limits say: where it
-/// needs more work, that claim alone is refused. Of two files with one path the first counts. The
+/// One answer for each claim, in the order of their lines. Of two files with one path the first counts. The
 /// rule tables are read once for all claims; of two tables with one name that of the first rule line counts.
+/// Each claim may take as much as the limits say, whatever the others took.
 ///
 /// # Errors
 ///
 /// Fails where there is no memory for the answers, the list of the files or the rule tables. A text without
-/// claims needs none of these. Where there is no memory to judge a claim, that claim alone is refused.
+/// claims needs none of these. Where there is no memory or work to judge a claim, that claim alone is refused.
 pub fn verify(
     alloc: Global,
     claims: &Claims,
