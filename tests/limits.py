@@ -48,9 +48,10 @@ FAULTS = (
 AMPLE_WORK = 1000
 
 
-def claim_text(folder, patterns):
-    """A claim text in a folder of its own that loads these patterns."""
+def claim_text(folder, patterns, first=()):
+    """A claim text in a folder of its own that begins with these lines and loads these patterns."""
     text = ClaimText(Folder(tempfile.mkdtemp(dir=folder)))
+    text.lines += first
     for name, content in patterns.items():
         text.load(name, content)
     return text
@@ -59,7 +60,7 @@ def claim_text(folder, patterns):
 def try_claims(tally, folder):
     """One claim within some limits. There is no note on a refusal for want of work."""
     for options, patterns, claim, verdict in CLAIMS:
-        text = claim_text(folder, patterns)
+        text = claim_text(folder, patterns, (b"claims 2",))
         text.claim(claim, verdict)
         tally.expect(f"{' '.join(options)}: {claim}", run(["verify", *options, text.write()]), outcome(text.answers, False))
     text = claim_text(folder, {"b": BLOCK})
