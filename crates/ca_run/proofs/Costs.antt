@@ -1,8 +1,9 @@
 -- How the costs of calls add up.
 use Rattle.std.proofs.Common.{◌≡◌, ℕ, zero, suc, ◌+◌, ◌-◌, ◌*◌, ◌/◌, ◌%◌, ◌^◌, ◌<◌, ◌≤◌, ◌⊎◌, inl, inr, min, max, length, refl, sym, ap, subst, arith}
-use Rattle.std.proofs.Math.Nat.{pow-succ', one-le-pow, pow-le-pow_right, div-eq_of_lt}
+use Rattle.std.proofs.Math.Nat.{pow-succ', one-le-pow, pow-le-pow_right, div-eq_of_lt, mod-le, mod-lt, mul-le-mul, mul-le-mul_right}
 use Rattle.std.proofs.Math.Pow.{pow_mono}
 use Rattle.std.proofs.lemmas.Bool.Decides.{leb_tells}
+use Rattle.ca_quad.proofs.Growth.{below_or_not}
 use Rattle.ca_run.specs.Leaping.{LeaperView}
 use Rattle.ca_run.specs.Costs.{Costs}
 
@@ -10,6 +11,9 @@ module _ {Rule : Type 0} where
   -- one call after another
   pub costs_then : {a b d : LeaperView Rule} {u v s t w r : ℕ} → Costs Rule a b u s → Costs Rule b d v t → u + v ≤ w → s + t ≤ r → Costs Rule a d w r
   costs_then h g n m = record { most = omega (arith, h.most, g.most, n); made = omega (arith, h.made, g.made, m) }
+
+  pub costs_none : {a : LeaperView Rule} {w r : ℕ} → Costs Rule a a w r
+  costs_none = record { most = omega arith; made = omega arith }
 
   pub costs_more : {a b : LeaperView Rule} {u s w r : ℕ} → Costs Rule a b u s → u ≤ w → s ≤ r → Costs Rule a b w r
   costs_more h n m = record { most = omega (arith, h.most, n); made = omega (arith, h.made, m) }
@@ -42,3 +46,91 @@ four_and_four g =
     let e = power_suc g in
     let s = power_some g in
     omega (arith, e, s)
+
+-- ---- a leap for each digit
+
+power_twice : (g : ℕ) → 14 ^ g + 14 ^ g ≤ 14 ^ suc g
+power_twice g =
+    let e = power_suc g in
+    omega (arith, e)
+
+pub one_more : (j x y : ℕ) → y ≤ x → j * x + y ≤ (j + 1) * x
+one_more j x y low = omega (arith, low)
+
+-- a binary digit that is 1 stands before the number's end
+pub digit_below : (n j d : ℕ) → n / 2 ^ j % 2 ≡ 1 → n < 2 ^ d → j < d
+digit_below n j d one less = elim (below_or_not j d) [
+  | inl below ↦ below
+  | inr above ↦
+      let most : 2 ^ d ≤ 2 ^ j = pow_mono above in
+      let small : n < 2 ^ j = omega (arith, most, less) in
+      let none = div-eq_of_lt small in
+      absurd (omega (arith, one, none))
+]
+
+-- the digits before one of them are a number below its power of two, and no more than all of them
+pub first_digits : (reached left j : ℕ) → reached ≡ 0 → reached + left % 2 ^ j < 2 ^ j
+first_digits reached left j none =
+    let less = mod-lt left (one-le-pow j 2 (omega arith)) in
+    omega (arith, less, none)
+
+pub all_digits : (reached left n j d : ℕ) → reached + left ≡ n → n < 2 ^ d → reached + left % 2 ^ j < 2 ^ d
+all_digits reached left n j d sum time =
+    let most = mod-le left (2 ^ j) in
+    omega (arith, most, sum, time)
+
+module _ (k d j level : ℕ) (digit : j < d) where
+  -- a tree of level k that leaps from its first generation on: all before cost as much as the leap of a digit
+  pub rising_cost : 1 ≤ k → level ≤ max k (suc j) + 1 → 14 ^ (k + min d j + 1) + 14 ^ max level (j + 1) ≤ 14 ^ (k + min d (j + 1) + 1)
+  rising_cost some low =
+      let here : k + min d j + 1 ≡ k + j + 1 = omega (arith, digit) in
+      let next : k + min d (j + 1) + 1 ≡ suc (k + j + 1) = omega (arith, digit) in
+      let high : max level (j + 1) ≤ k + j + 1 = omega (arith, low, some) in
+      let most = power_more (max level (j + 1)) (k + j + 1) high in
+      let twice = power_twice (k + j + 1) in
+      rw (here, next) (omega (arith, most, twice))
+
+  -- one that leaps later: each leap costs no more than one of the largest tree
+  pub level_cost : level ≤ max k (suc d) + 1 → j * 14 ^ (max k d + 2) + 14 ^ max level (j + 1) ≤ (j + 1) * 14 ^ (max k d + 2)
+  level_cost low =
+      let high : max level (j + 1) ≤ max k d + 2 = omega (arith, low, digit) in
+      one_more j (14 ^ (max k d + 2)) (14 ^ max level (j + 1)) (power_more (max level (j + 1)) (max k d + 2) high)
+
+-- ---- dense planes
+
+pub six_digits : (n d : ℕ) → 32 ≤ n → n < 2 ^ d → 6 ≤ d
+six_digits n d many time = elim (below_or_not d 6) [
+  | inl few ↦
+      let low : d ≤ 5 = omega (arith, few) in
+      let most : 2 ^ d ≤ 2 ^ 5 = pow_mono low in
+      absurd (omega (arith, most, many, time))
+  | inr e ↦ e
+]
+
+-- bricks that are stepped
+pub bricks_cost : (n count k : ℕ) → n ≤ 1024 → count ≤ 2 ^ 18 → 7 ≤ k → n * count ≤ 14 ^ (k + 4)
+bricks_cost n count k time few least =
+    let most : n * count ≤ 1024 * 2 ^ 18 = mul-le-mul time few in
+    let power = power_more 8 (k + 4) (omega (arith, least)) in
+    omega (arith, most, power)
+
+-- eight walls
+pub walls_cost : (i k : ℕ) → i ≤ 8 → i * (2 * 14 ^ (k + 4)) ≤ 14 ^ (k + 6)
+walls_cost i k few =
+    let most : i * (2 * 14 ^ (k + 4)) ≤ 8 * (2 * 14 ^ (k + 4)) = mul-le-mul_right (2 * 14 ^ (k + 4)) few in
+    let e = power_suc (k + 4) in
+    let f = power_suc (suc (k + 4)) in
+    let same : k + 6 ≡ suc (suc (k + 4)) = omega arith in
+    rw same (omega (arith, most, e, f))
+
+-- and all leaps after them
+pub dense_cost : (k d : ℕ) → 7 ≤ k → 6 ≤ d → 14 ^ (k + 6) + 61 * 14 ^ (max k d + 2) ≤ 14 ^ (k + d + 2)
+dense_cost k d least many =
+    let top = max k d + 2 in
+    let walls = power_more (k + 6) (k + d) (omega (arith, many)) in
+    let leaps = power_more (suc (suc top)) (k + d) (omega (arith, least, many)) in
+    let e = power_suc top in
+    let f = power_suc (suc top) in
+    let twice = power_twice (k + d) in
+    let all = power_more (suc (k + d)) (k + d + 2) (omega arith) in
+    omega (arith, walls, leaps, e, f, twice, all)

@@ -1,14 +1,22 @@
 -- What a run has reached, as its squares grow.
-use Rattle.std.proofs.Common.{◌≡◌, ℕ, List, sym, ◌∙◌}
+use Rattle.std.proofs.Common.{◌≡◌, ℕ, suc, ◌+◌, ◌-◌, ◌*◌, ◌<◌, ◌≤◌, ◌^◌, ◌⊎◌, inl, inr, max, Result, Ok, Err, IfOk, List, refl, sym, subst, ◌∙◌, arith}
 use Rattle.std.specs.Prelude.{ℤ}
 use Rattle.ca_quad.specs.declared.node.Node.{Node}
 use Rattle.ca_quad.specs.declared.tree.Tree.{Tree}
 use Rattle.ca_quad.specs.Sound.{IsSoundStore, Grows}
 use Rattle.ca_quad.specs.Trees.{IsTree, cell}
 use Rattle.ca_quad.proofs.Cells.{of_stays}
+use Rattle.ca_quad.proofs.Growth.{grows_same}
 use Rattle.ca_run.specs.declared.leaper.dense.Reached.{Reached}
-use Rattle.ca_run.specs.inner.Dense.{HasReached}
+use Rattle.ca_run.specs.declared.fault.LeapFault.{LeapFault}
+use Rattle.ca_run.specs.Advanced.{IsAdvanced}
+use Rattle.ca_run.specs.Costs.{Costs}
+use Rattle.ca_run.specs.Leaping.{LeaperView, LeaperGrows}
+use Rattle.ca_run.specs.Spent.{Spent, Spends}
+use Rattle.ca_run.specs.inner.Dense.{HasReached, IsIdle, IsDense}
 use Rattle.ca_run.proofs.After.{after_same}
+use Rattle.ca_run.proofs.Costs.{costs_then, costs_more, power_more, one_more, six_digits, bricks_cost, walls_cost, dense_cost}
+use Rattle.ca_run.proofs.Levels.{low_stays}
 use Rattle.ca_run.proofs.Trees.{tree_stays}
 
 -- a run of a tree is one of another with the same cells
@@ -17,6 +25,7 @@ reached_as : (next : List ℕ → ℕ) (a b new : List Node) (first : Tree) (n :
 reached_as next a b new first n reached same run = record {
   is_tree = run.is_tree;
   level = run.level;
+  low = run.low;
   most = run.most;
   cells = λ x y. run.cells x y ∙ after_same next (cell a first) (cell b first) reached.generations same x y;
 }
@@ -37,8 +46,72 @@ pub reached_stays : (next : List ℕ → ℕ) (old new : List Node) (first : Tre
 reached_stays next old new first n reached sound grows is_tree run = record {
   is_tree = of_stays old new sound grows reached.tree.root reached.tree.level run.is_tree;
   level = run.level;
+  low = low_stays old new reached.tree first.level (tree_stays old new sound grows reached.tree run.is_tree) run.low;
   most = run.most;
   cells = λ x y.
       tree_stays old new sound grows reached.tree run.is_tree x y ∙ run.cells x y
       ∙ after_same next (cell old first) (cell new first) reached.generations (λ u v. sym (tree_stays old new sound grows first is_tree u v)) x y;
 }
+
+-- what a run ends with, of the first tree as it was before
+pub advanced_before : {E : Type 0} (next : List ℕ → ℕ) (old mid new : List Node) (first : Tree) (n : ℕ) (r : Result Tree E) → IsSoundStore old → Grows old mid → IsTree old first
+    → IfOk r (IsAdvanced next mid first n new) → IfOk r (IsAdvanced next old first n new)
+advanced_before next old mid new first n (Err e) sound grows is_tree advanced = tt
+advanced_before next old mid new first n (Ok tree) sound grows is_tree advanced = record {
+  is_tree = advanced.is_tree;
+  level = advanced.level;
+  cells = λ x y. advanced.cells x y ∙ after_same next (cell mid first) (cell old first) n (tree_stays old mid sound grows first is_tree) x y;
+}
+
+module _ {Rule : Type 0} {old mid : LeaperView Rule} (first : Tree) (n d : ℕ) (time : n < 2 ^ d) where
+  -- what a run costs that ends among its steps
+  pub stepped_cost : (r : Result Reached LeapFault) → IsIdle Rule old mid r ⊎ IsDense Rule old first n mid → Costs Rule old mid (14 ^ (first.level + d + 2)) 1048576
+  stepped_cost r (inl idle) = costs_more idle.costs (omega arith) (omega arith)
+  stepped_cost r (inr dense) =
+      let many = six_digits n d dense.many time in
+      costs_more dense.costs (power_more (first.level + 6) (first.level + d + 2) (omega (arith, many))) (omega arith)
+
+  -- and one that leaps after them
+  pub whole_cost : {new : LeaperView Rule} (reached : Reached) → IsIdle Rule old mid (Ok reached) ⊎ IsDense Rule old first n mid
+      → (reached.generations ≡ 0 → Costs Rule mid new (14 ^ (first.level + d + 1)) 999180) → Costs Rule mid new (61 * 14 ^ (max first.level d + 2)) 999180
+      → Costs Rule old new (14 ^ (first.level + d + 2)) 1048576
+  whole_cost reached (inl idle) rising even =
+      let more = power_more (first.level + d + 1) (first.level + d + 2) (omega arith) in
+      costs_then idle.costs (rising idle.none) (omega (arith, more)) (omega arith)
+  whole_cost reached (inr dense) rising even = costs_then dense.costs even (dense_cost first.level d dense.least (six_digits n d dense.many time)) (omega arith)
+
+-- ---- what walls cost
+
+module _ {Rule : Type 0} {a b d : LeaperView Rule} (same : a ≡ b) where
+  -- what is said of a leaper is said of the same one
+  pub costs_of_same : {u s : ℕ} → Costs Rule a d u s → Costs Rule b d u s
+  costs_of_same {u} {s} h = subst (λ l. Costs Rule l d u s) same h
+
+  pub goes_on_of_same : LeaperGrows Rule a d → LeaperGrows Rule b d
+  goes_on_of_same h = subst (λ l. LeaperGrows Rule l d) same h
+
+module _ {Rule : Type 0} (l : LeaperView Rule) (spent : Spent) (spends : Spends l.spent spent) where
+  -- work is counted, and nothing else is done
+  pub spent_on : IsSoundStore l.nodes → LeaperGrows Rule l (record { rule = l.rule; nodes = l.nodes; memo = l.memo; spent = spent })
+  spent_on sound = record { rule = refl; grows = grows_same l.nodes sound; memo = refl; spends = spends }
+
+  -- bricks are stepped
+  pub stepping_cost : (n count k : ℕ) → n ≤ 1024 → count ≤ 2 ^ 18 → 7 ≤ k → spent.used ≤ l.spent.used + n * count → Costs Rule l (record { rule = l.rule; nodes = l.nodes; memo = l.memo; spent = spent }) (14 ^ (k + 4)) 0
+  stepping_cost n count k time few least most =
+      let cost = bricks_cost n count k time few least in
+      record { most = omega (arith, most, cost); made = omega (arith, spends.rises) }
+
+-- and the wall becomes a tree
+pub wall_cost : {Rule : Type 0} {a b d : LeaperView Rule} (k reach : ℕ) → reach ≤ k + 6 → Costs Rule a b (14 ^ (k + 4)) 0 → Costs Rule b d (14 ^ (reach - 2)) 125 → Costs Rule a d (2 * 14 ^ (k + 4)) 125
+wall_cost k reach near h g =
+    let more = power_more (reach - 2) (k + 4) (omega (arith, near)) in
+    costs_then h g (omega (arith, more)) (omega arith)
+
+module _ {Rule : Type 0} {old mid new : LeaperView Rule} (first : Tree) (i : ℕ) (before : Costs Rule old mid (i * (2 * 14 ^ (first.level + 4))) (255 * i)) (now : Costs Rule mid new (2 * 14 ^ (first.level + 4)) 255) where
+  -- one wall after others
+  pub wall_more : Costs Rule old new ((i + 1) * (2 * 14 ^ (first.level + 4))) (255 * (i + 1))
+  wall_more = costs_then before now (one_more i (2 * 14 ^ (first.level + 4)) (2 * 14 ^ (first.level + 4)) (omega arith)) (omega arith)
+
+-- and all walls are no more than eight
+pub walls_done : {Rule : Type 0} {old new : LeaperView Rule} (first : Tree) (n i : ℕ) → 7 ≤ first.level → 32 ≤ n → i ≤ 8 → Costs Rule old new (i * (2 * 14 ^ (first.level + 4))) (255 * i) → IsDense Rule old first n new
+walls_done first n i least many few costs = record { least = least; many = many; costs = costs_more costs (walls_cost i first.level few) (omega (arith, few)) }

@@ -6,6 +6,7 @@ pub mod Lanes
 pub mod Shown
 pub mod Bases
 pub mod Leap
+pub mod Levels
 pub mod Trees
 pub mod Loaded
 pub mod Spreading

@@ -80,7 +80,7 @@ module _ (nodes : List Node) (root k : ℕ) (q : ℤ → ℤ → ℕ) (shows : S
 -- ---- a leap
 
 -- two parts of a sum of two halves
-powers_fit : (l j k : ℕ) → 1 ≤ l → l ≤ k → j + 1 ≤ k → 2 ^ (l - 1) + 2 ^ j ≤ 2 ^ k
+pub powers_fit : (l j k : ℕ) → 1 ≤ l → l ≤ k → j + 1 ≤ k → 2 ^ (l - 1) + 2 ^ j ≤ 2 ^ k
 powers_fit l j k some low time =
     let next : suc (k - 1) ≡ k = omega arith in
     let up : 2 ^ k ≡ 2 ^ (k - 1) + 2 ^ (k - 1) = ap (λ n. 2 ^ n) (sym next) ∙ two-pow-succ (k - 1) in
@@ -111,11 +111,12 @@ leap_cells next quiet s0 s1 s2 sound grows tree wide half k j root some low time
     tree_at s2 root k (cells_after next p (2 ^ j)) centred later_dead_out half e f x y ∙ after_same next p (cell s0 tree) (2 ^ j) same x y
 
 -- one binary digit more: the plane after the digits so far, and then after this one
-pub one_digit : (next : List ℕ → ℕ) (p : ℤ → ℤ → ℕ) (s1 s2 : List Node) (now more : Tree) (n j : ℕ) → n / 2 ^ j % 2 ≡ 1 → ((x y : ℤ) → cell s1 now x y ≡ cells_after next p (n % 2 ^ j) x y)
-    → ((x y : ℤ) → cell s2 more x y ≡ cells_after next (cell s1 now) (2 ^ j) x y) → (x y : ℤ) → cell s2 more x y ≡ cells_after next p (n % 2 ^ (1 + j)) x y
-one_digit next p s1 s2 now more n j digit so_far leap x y =
-    let sum : n % 2 ^ j + 2 ^ j ≡ n % 2 ^ (1 + j) = sym (mod-pow-add n 1 j ∙ (ap (λ d. d * 2 ^ j + n % 2 ^ j) digit ∙ omega arith)) in
-    leap x y ∙ after_same next (cell s1 now) (cells_after next p (n % 2 ^ j)) (2 ^ j) so_far x y ∙ after_again next p (n % 2 ^ j) (2 ^ j) x y
+pub one_digit : (next : List ℕ → ℕ) (p : ℤ → ℤ → ℕ) (s1 s2 : List Node) (now more : Tree) (reached n j : ℕ) → n / 2 ^ j % 2 ≡ 1 → ((x y : ℤ) → cell s1 now x y ≡ cells_after next p (reached + n % 2 ^ j) x y)
+    → ((x y : ℤ) → cell s2 more x y ≡ cells_after next (cell s1 now) (2 ^ j) x y) → (x y : ℤ) → cell s2 more x y ≡ cells_after next p (reached + n % 2 ^ (1 + j)) x y
+one_digit next p s1 s2 now more reached n j digit so_far leap x y =
+    let digits : n % 2 ^ j + 2 ^ j ≡ n % 2 ^ (1 + j) = sym (mod-pow-add n 1 j ∙ (ap (λ d. d * 2 ^ j + n % 2 ^ j) digit ∙ omega arith)) in
+    let sum : (reached + n % 2 ^ j) + 2 ^ j ≡ reached + n % 2 ^ (1 + j) = omega (arith, digits) in
+    leap x y ∙ after_same next (cell s1 now) (cells_after next p (reached + n % 2 ^ j)) (2 ^ j) so_far x y ∙ after_again next p (reached + n % 2 ^ j) (2 ^ j) x y
     ∙ ap (λ m. cells_after next p m x y) sum
 
 -- and none where the digit is 0
@@ -140,7 +141,7 @@ both_padded s0 s1 s2 sound grows more a b wide_a wide_b level padded_a is_b padd
 )
 
 -- a shifted two is a power of two, where no bit is lost
-pub shifted_two : (j : ℕ) → j < 60 → 2 * 2 ^ j % 18446744073709551616 ≡ 2 ^ (1 + j)
+pub shifted_two : (j : ℕ) → j < 61 → 2 * 2 ^ j % 18446744073709551616 ≡ 2 ^ (1 + j)
 shifted_two j h =
     let low : 2 ^ j ≤ 2 ^ 60 = pow-le-pow_right {n = 2} (omega arith) {i = j} {j = 60} (omega arith) in
     let one : 1 + j ≡ suc j = omega arith in

@@ -1,10 +1,11 @@
 -- Trees some generations on.
-use Rattle.std.specs.Prelude.{◌≡◌, ℕ, ◌≤◌, ◌^◌, ℤ, List, Result, Ok, IfOk}
+use Rattle.std.specs.Prelude.{◌≡◌, ℕ, ◌+◌, ◌<◌, ◌≤◌, ◌^◌, ℤ, List, Result, Ok, IfOk}
 use Rattle.ca_plane.specs.Generations.{cells_after}
 use Rattle.ca_quad.specs.declared.node.Node.{Node}
 use Rattle.ca_quad.specs.declared.tree.Tree.{Tree}
 use Rattle.ca_quad.specs.Trees.{IsTree, cell}
 use Rattle.ca_run.specs.declared.fault.LeapFault.{LeapFault}
+use Rattle.ca_run.specs.Costs.{Costs}
 use Rattle.ca_run.specs.Leaping.{LeaperView, LeaperGrows}
 use Rattle.ca_run.specs.Spent.{EndsAtLimit}
 
@@ -22,10 +23,12 @@ pub record IsAdvanced (next : List ℕ → ℕ) (old : List Node) (first : Tree)
   pub cells : (x y : ℤ) → cell new tree x y ≡ cells_after next (cell old first) n x y
 
 -- what a call comes to that takes a tree n generations on: Ok with the later tree, which is the same one where n is 0;
--- want of work is told only at its limit; and what a leaper had stays
+-- want of work is told only at its limit; what a leaper had stays; and where n has at most d binary digits, Ok or not,
+-- it costs no more than 14 to the power of the tree's level, d and 2
 pub record Advances (Rule : Type 0) (next : List ℕ → ℕ) (old : LeaperView Rule)
     (tree : Tree) (n : ℕ) (new : LeaperView Rule) (result : Result Tree LeapFault) : Type 0 where
   pub advanced : IfOk result (IsAdvanced next old.nodes tree n new.nodes)
   pub none : n ≡ 0 → result ≡ Ok tree
   pub work : EndsAtLimit new.spent result
   pub goes_on : LeaperGrows Rule old new
+  pub costs : (d : ℕ) → n < 2 ^ d → Costs Rule old new (14 ^ (tree.level + d + 2)) 1048576

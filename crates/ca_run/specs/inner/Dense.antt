@@ -1,14 +1,35 @@
 -- What a run over generations has reached by steps (our own).
-use Rattle.std.specs.Prelude.{◌≡◌, ℕ, ◌≤◌, ℤ, List}
+use Rattle.std.specs.Prelude.{◌≡◌, ℕ, ◌+◌, ◌≤◌, ◌^◌, ℤ, List, Result, IfOk}
 use Rattle.ca_plane.specs.Generations.{cells_after}
 use Rattle.ca_quad.specs.declared.node.Node.{Node}
 use Rattle.ca_quad.specs.Trees.{IsTree, cell}
 use Rattle.ca_quad.specs.declared.tree.Tree.{Tree}
+use Rattle.ca_quad.specs.Trimmed.{HoldsAll}
+use Rattle.ca_run.specs.declared.fault.LeapFault.{LeapFault}
+use Rattle.ca_run.specs.Costs.{Costs}
+use Rattle.ca_run.specs.Leaping.{LeaperView}
 use Rattle.ca_run.specs.declared.leaper.dense.Reached.{Reached}
 
--- of n generations of the first tree the run has reached as many as it says, and has the tree after them, of at most 2^64 cells a side
+-- the tree's level is at most any that holds all its live cells, from some level on
+abbrev pub IsLow : ℕ → List Node → Tree → Type 0
+IsLow least nodes tree = (level : ℕ) → least ≤ level → HoldsAll level (cell nodes tree) → tree.level ≤ level
+
+-- of n generations of the first tree the run has reached as many as it says, and has the tree after them, of at most 2^64 cells a side,
+-- and of no more than its cells or the first tree need
 pub record HasReached (next : List ℕ → ℕ) (old : List Node) (first : Tree) (n : ℕ) (new : List Node) (reached : Reached) : Type 0 where
   pub is_tree : IsTree new reached.tree
   pub level : reached.tree.level ≤ 64
+  pub low : IsLow first.level new reached.tree
   pub most : reached.generations ≤ n
   pub cells : (x y : ℤ) → cell new reached.tree x y ≡ cells_after next (cell old first) reached.generations x y
+
+-- nothing was stepped, and nothing was worked out
+pub record IsIdle (Rule : Type 0) (old new : LeaperView Rule) (result : Result Reached LeapFault) : Type 0 where
+  pub none : IfOk result (λ reached. reached.generations ≡ 0)
+  pub costs : Costs Rule old new 0 0
+
+-- bricks were to be stepped, of a tree of at least 2^7 cells a side by at least 32 generations, at no more than this cost
+pub record IsDense (Rule : Type 0) (old : LeaperView Rule) (first : Tree) (n : ℕ) (new : LeaperView Rule) : Type 0 where
+  pub least : 7 ≤ first.level
+  pub many : 32 ≤ n
+  pub costs : Costs Rule old new (14 ^ (first.level + 6)) 2040

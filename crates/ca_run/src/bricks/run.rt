@@ -1,6 +1,6 @@
 //! Generations of a wall.
 
-ghost use Rattle.std.specs.Prelude.{◌≡◌, ℕ, ◌+◌, ◌<◌, ◌≤◌, ◌^◌, List, [], length, if◌then◌else◌, OnOk, IfOk};
+ghost use Rattle.std.specs.Prelude.{◌≡◌, ℕ, ◌+◌, ◌*◌, ◌<◌, ◌≤◌, ◌^◌, List, [], length, if◌then◌else◌, OnOk, IfOk};
 ghost use Rattle.ca_plane.specs.Generations.{cells_after};
 ghost use Rattle.ca_quad.specs.Trees.{cell};
 ghost use Rattle.ca_run.specs.Spent.{Spends, EndsAtLimit};
@@ -53,7 +53,7 @@ fn wake_next(is_first: bool, alloc: Global, queue: &mut Queue, awake: &mut Vec<u
 
 impl Wall {
     /// The wall n generations on. The run began with a tree, so many generations before. Each brick that is stepped is
-    /// counted before.
+    /// counted before: no more in a generation than there are.
     pub(crate) fn later<A: Automaton, W: Watch>(
         mut self,
         alloc: Global,
@@ -71,6 +71,7 @@ impl Wall {
             (cells_after (A.next_of leaper.now.rule) (cell leaper.now.nodes first.now) (reached + n))) }
         ensures place { IfOk result (IsInPlace self) }
         ensures spends { Spends work.old work.new }
+        ensures most { work.new.used ≤ work.old.used + n * length self.bricks.items }
         ensures work { EndsAtLimit work.new result }
     {
         let count = self.bricks.len();
@@ -78,7 +79,7 @@ impl Wall {
         let mut queue = Queue::new(alloc, count)?;
         let mut before = blank_bricks(alloc, count)?;
         'generations: for k in 0..n {
-            let steps = awake.len() as u64;
+            let steps = awake.len().min(count) as u64;
             work.charge(steps)?;
             self.work = self.work.saturating_add(steps);
             generation(

@@ -1,19 +1,20 @@
 //! Trees after n generations.
 
-ghost use Rattle.std.specs.Prelude.{◌≡◌, ◌+◌, ◌≤◌, ◌^◌, max, Ok, IfOk, ◌*◌, ◌-◌};
+ghost use Rattle.std.specs.Prelude.{◌≡◌, ℕ, ℤ, ◌+◌, ◌<◌, ◌≤◌, ◌^◌, max, Ok, IfOk, ◌*◌, ◌-◌};
 ghost use Rattle.ca_quad.specs.Sound.{IsSoundStore};
-ghost use Rattle.ca_quad.specs.Trees.{IsTree};
+ghost use Rattle.ca_quad.specs.Trees.{IsTree, cell};
+ghost use Rattle.ca_quad.specs.Trimmed.{IsTrimmed};
 ghost use Rattle.ca_run.specs.Advanced.{CanAdvance, IsAdvanced, Advances};
 ghost use Rattle.ca_run.specs.Costs.{Costs};
 ghost use Rattle.ca_run.specs.Leaping.{LeaperGrows};
 ghost use Rattle.ca_run.specs.Spent.{EndsAtLimit};
+ghost use Rattle.ca_run.specs.inner.Dense.{HasReached};
 ghost use Rattle.ca_run.specs.inner.Padded.{IsPadded};
 
 use super::dense::Reached;
 use super::{Leaper, Milestone};
 use crate::fault::LeapFault;
 use crate::watch::{Unwatched, Watch};
-use ca_plane::limits::MOST_GENERATIONS;
 use ca_plane::{Automaton, Memory};
 use ca_quad::Tree;
 
@@ -31,9 +32,8 @@ impl<A: Automaton> Leaper<A> {
         self.advance_watched(tree, n, &mut Unwatched)
     }
 
-    /// The same, while someone watches, who sees after most leaps how many generations are reached. Where n
-    /// is 2^60, there may be one leap, and nothing is seen after it. Where the plane is stepped, it is after
-    /// each generation.
+    /// The same, while someone watches, who sees after each leap how many generations are reached, and where the plane
+    /// is stepped, after each generation.
     ///
     /// # Errors
     ///
@@ -48,46 +48,79 @@ impl<A: Automaton> Leaper<A> {
         ensures { Advances A (A.next_of self.old.rule) self.old tree n self.new result }
     {
         let _ = &self.store;
+        let reached = self.step_dense(&tree, n, watch)?;
+        self.leap_on(&tree, reached, n, watch)
+    }
+
+    // The tree n generations on, from one that was reached on the way: by a leap for each binary digit of those that
+    // are left. Each tree is trimmed, so that its level is no more than what n generations may need.
+    fn leap_on<W: Watch>(
+        &mut self,
+        first: &Tree,
+        reached: Reached,
+        n: u64,
+        watch: &mut W,
+    ) -> Result<Tree, LeapFault>
+        requires first { CanAdvance self.old.nodes first.now n }
+        requires reached { HasReached (A.next_of self.old.rule) self.old.nodes first.now n self.old.nodes reached }
+        ensures advanced { IfOk result (IsAdvanced (A.next_of self.old.rule) self.old.nodes first.now n self.new.nodes) }
+        ensures none { n ≡ 0 → result ≡ Ok reached.tree }
+        ensures goes_on { LeaperGrows A self.old self.new }
+        ensures costs { reached.generations ≡ 0 → (d : ℕ) → n < 2 ^ d
+            → Costs A self.old self.new (14 ^ (first.now.level + d + 1)) 999180 }
+        ensures dense { (d : ℕ) → n < 2 ^ d → Costs A self.old self.new (61 * 14 ^ (max first.now.level d + 2)) 999180 }
+        ensures work { EndsAtLimit self.new.spent result }
+    {
+        let _ = &self.store;
         let Reached {
             tree: mut now,
             generations,
-        } = self.step_dense(&tree, n, watch)?;
+        } = reached;
         let left = n - generations;
-        if left == MOST_GENERATIONS {
-            let end = self.leap(now, 60)?;
-            return Ok(end);
-        }
-        // By a leap for each binary digit.
-        'digits: for j in 0..60 {
+        'digits: for j in 0..61 {
             if (left >> j) % 2 == 1 {
                 now = self.leap(now, j)?;
                 let reached = generations + left % (2 << j);
-                watch.reached(Milestone::with_tree(self, &tree, &now, reached));
+                watch.reached(Milestone::with_tree(self, first, &now, reached));
             }
         }
         Ok(now)
     }
 
-    // The tree 2^j generations on.
+    // The tree 2^j generations on, of the smallest level.
     fn leap(&mut self, tree: Tree, j: u8) -> Result<Tree, LeapFault>
         requires tree { IsTree self.old.nodes tree }
         requires level { tree.level ≤ 123 }
         requires time { j ≤ 60 }
         ensures advanced { IfOk result
             (IsAdvanced (A.next_of self.old.rule) self.old.nodes tree (2 ^ j) self.new.nodes) }
-        ensures level { IfOk result (λ t. t.level ≡ max tree.level (j + 1) + 1) }
+        ensures trimmed { IfOk result (IsTrimmed self.new.nodes) }
         ensures goes_on { LeaperGrows A self.old self.new }
-        ensures costs { Costs A self.old self.new (14 ^ max tree.level (j + 1)) 16250 }
+        ensures costs { Costs A self.old self.new (14 ^ max tree.level (j + 1)) 16380 }
         ensures work { EndsAtLimit self.new.spent result }
     {
         // So all that is live 2^j generations on lies in the centre.
         let grain = self.store.level(tree.root).max(j + 1);
         let wide = self.padded_tree(tree, grain + 2)?;
         let root = self.centre(wide.root, grain, j)?;
-        Ok(Tree {
+        let later = Tree {
             root,
             level: grain + 1,
-        })
+        };
+        Ok(self.trim(later)?)
+    }
+
+    // The tree of the smallest level that shows the same cells.
+    pub(super) fn trim(&mut self, tree: Tree) -> Result<Tree, Memory>
+        requires tree { IsTree self.old.nodes tree }
+        ensures tree { IfOk result (IsTree self.new.nodes) }
+        ensures level { IfOk result (λ t. t.level ≤ tree.level) }
+        ensures cells { IfOk result (λ t. (x y : ℤ) → cell self.new.nodes t x y ≡ cell self.old.nodes tree x y) }
+        ensures trimmed { IfOk result (IsTrimmed self.new.nodes) }
+        ensures goes_on { LeaperGrows A self.old self.new }
+        ensures costs { Costs A self.old self.new 0 130 }
+    {
+        self.store.trim(tree)
     }
 
     // The tree of this level that shows the same cells.

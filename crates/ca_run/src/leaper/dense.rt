@@ -1,12 +1,13 @@
 //! Planes that are stepped brick by brick: those of squares that hardly repeat.
 
-ghost use Rattle.std.specs.Prelude.{◌≡◌, ℕ, ◌+◌, ◌<◌, ◌≤◌, ◌^◌, length, Ok, None, IfOk, IsOk, IfSome};
+ghost use Rattle.std.specs.Prelude.{◌≡◌, ℕ, ◌+◌, ◌*◌, ◌<◌, ◌≤◌, ◌^◌, ◌⊎◌, length, Ok, None, IfOk, IsOk, IfSome};
 ghost use Rattle.ca_quad.specs.Trees.{IsTree, cell};
+ghost use Rattle.ca_run.specs.Costs.{Costs};
 ghost use Rattle.ca_run.specs.Leaping.{LeaperGrows};
 ghost use Rattle.ca_run.specs.Masks.{GoesBy};
 ghost use Rattle.ca_run.specs.Spent.{EndsAtLimit};
 ghost use Rattle.ca_run.specs.inner.Bricks.{WallShows, LiesNear, IsAligned};
-ghost use Rattle.ca_run.specs.inner.Dense.{HasReached};
+ghost use Rattle.ca_run.specs.inner.Dense.{HasReached, IsIdle, IsDense};
 
 use super::Leaper;
 use crate::bricks::{Wall, frame_of};
@@ -32,6 +33,9 @@ const AT_A_TIME: u64 = 1024;
 
 // How many walls are made at most, one after the other.
 const MOST_WALLS: u64 = 8;
+
+// How many levels more than the first tree the tree of a wall has at most, as a reach.
+const MOST_GROWTH: u8 = 6;
 
 // How many bricks a wall has at most for each that is stepped in a generation.
 const MOST_RESTING: u64 = 128;
@@ -66,6 +70,7 @@ impl<A: Automaton> Leaper<A> {
         ensures none { n ≡ 0 → IfOk result (λ reached. reached.tree ≡ tree.now) }
         ensures calm { n ≡ 0 → IsOk result }
         ensures goes_on { LeaperGrows A self.old self.new }
+        ensures costs { IsIdle A self.old self.new result ⊎ IsDense A self.old tree.now n self.new }
         ensures work { EndsAtLimit self.new.spent result }
     {
         let _ = &self.store;
@@ -76,7 +81,7 @@ impl<A: Automaton> Leaper<A> {
         let Some(masks) = self.masks else {
             return Ok(reached);
         };
-        if n < FEWEST || !self.memo.is_empty() {
+        if n < FEWEST || tree.level < LEAST || !self.memo.is_empty() {
             return Ok(reached);
         }
         if !self.is_dense(tree)? {
@@ -129,6 +134,7 @@ impl<A: Automaton> Leaper<A> {
         watch: &mut W,
     ) -> Result<Option<Stretch>, LeapFault>
         requires first { IsTree self.old.nodes first.now }
+        requires least { 7 ≤ first.now.level }
         requires time { n ≤ 2 ^ 60 }
         requires masks { GoesBy (A.next_of self.old.rule) masks }
         requires reached { HasReached (A.next_of self.old.rule) self.old.nodes first.now n self.old.nodes reached.now }
@@ -136,6 +142,7 @@ impl<A: Automaton> Leaper<A> {
             self.old.nodes first.now n self.new.nodes stretch.reached)) }
         ensures none { reached.now.generations ≡ n → IfOk result (λ found. found ≡ None) }
         ensures goes_on { LeaperGrows A self.old self.new }
+        ensures costs { Costs A self.old self.new (2 * 14 ^ (first.now.level + 4)) 255 }
         ensures work { EndsAtLimit self.new.spent result }
     {
         let alloc = self.recent_centres.allocator();
@@ -143,6 +150,10 @@ impl<A: Automaton> Leaper<A> {
         let Some(wall) = self.dense_wall(alloc, &reached.tree, left)? else {
             return Ok(None);
         };
+        let reach = wall.reach();
+        if reach > first.level + MOST_GROWTH {
+            return Ok(None);
+        }
         let mut spent = self.work;
         let later = wall.later(
             alloc,
@@ -156,7 +167,8 @@ impl<A: Automaton> Leaper<A> {
         );
         self.work = spent;
         let later = later?;
-        let tree = self.tree_of(&later)?;
+        let tree = self.tree_of(&later, reach)?;
+        let tree = self.trim(tree)?;
         Ok(Some(Stretch {
             reached: Reached {
                 tree,
@@ -176,6 +188,7 @@ impl<A: Automaton> Leaper<A> {
         ensures near { IfOk result (λ found. IfSome found LiesNear) }
         ensures aligned { IfOk result (λ found. IfSome found IsAligned) }
         ensures room { IfOk result (λ found. IfSome found (λ wall. wall.across + length wall.bricks.items < 2 ^ 63)) }
+        ensures few { IfOk result (λ found. IfSome found (λ wall. length wall.bricks.items ≤ 2 ^ 18)) }
         ensures some { margin ≡ 0 → result ≡ Ok None }
     {
         if margin == 0 || tree.level < LEAST || tree.level > GREATEST {

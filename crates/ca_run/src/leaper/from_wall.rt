@@ -1,6 +1,6 @@
 //! Squares and trees made of walls of bricks.
 
-ghost use Rattle.std.specs.Prelude.{◌≡◌, true, ℕ, suc, ◌+◌, ◌*◌, ◌<◌, ◌≤◌, ◌^◌, ℤ, pos, neg_ℤ, ◌+ℤ◌, ◌<ℤ◌, ◌≤ℤ◌, IfOk};
+ghost use Rattle.std.specs.Prelude.{◌≡◌, true, ℕ, suc, ◌+◌, ◌-◌, ◌*◌, ◌<◌, ◌≤◌, ◌^◌, ℤ, pos, neg_ℤ, ◌+ℤ◌, ◌<ℤ◌, ◌≤ℤ◌, IfOk};
 ghost use Rattle.ca_quad.specs.Squares.{IsOf};
 ghost use Rattle.ca_quad.specs.Trees.{IsTree, cell};
 ghost use Rattle.ca_run.specs.Costs.{Costs};
@@ -82,19 +82,21 @@ impl WordPlace {
 }
 
 impl<A: Automaton> Leaper<A> {
-    // The tree of a wall: of the smallest level from 7 on that holds all its bricks.
-    pub(super) fn tree_of(&mut self, wall: &Wall) -> Result<Tree, LeapFault>
+    // The tree of a wall of which all bricks lie within 2 to this power from the origin.
+    pub(super) fn tree_of(&mut self, wall: &Wall, reach: u8) -> Result<Tree, LeapFault>
         requires wall { IsWall wall.now }
-        requires place { LiesNear wall.now }
+        requires least { 6 ≤ reach }
+        requires most { reach ≤ 62 }
+        requires within { LiesWithin (2 ^ reach) wall.now }
         requires aligned { IsAligned wall.now }
         ensures tree { IfOk result (IsTree self.new.nodes) }
         ensures level { IfOk result (λ tree. tree.level ≤ 64) }
+        ensures costs { Costs A self.old self.new (14 ^ (reach - 2)) 125 }
         ensures cells { (m : ℕ) (p : ℤ → ℤ → ℕ) → WallShows wall.now m p
             → IfOk result (λ tree. (x y : ℤ) → cell self.new.nodes tree x y ≡ p x y) }
         ensures goes_on { LeaperGrows A self.old self.new }
         ensures work { EndsAtLimit self.new.spent result }
     {
-        let reach = wall.reach();
         let root = self.from_wall(wall, reach - 2, wall.corner(reach))?;
         Ok(Tree {
             root,
@@ -173,7 +175,7 @@ impl<A: Automaton> Leaper<A> {
 
 impl Wall {
     // The smallest number from 6 on so that all its bricks lie within 2 to its power from the origin.
-    fn reach(&self) -> u8
+    pub(super) fn reach(&self) -> u8
         requires wall { IsWall self.now }
         requires place { LiesNear self.now }
         ensures least { 6 ≤ result }

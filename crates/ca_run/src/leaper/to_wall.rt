@@ -129,6 +129,7 @@ impl<A: Automaton> Leaper<A> {
         ensures near { IfOk result (λ found. IfSome found LiesNear) }
         ensures aligned { IfOk result (λ found. IfSome found IsAligned) }
         ensures room { IfOk result (λ found. IfSome found (λ wall. wall.across + length wall.bricks.items < 2 ^ 63)) }
+        ensures few { IfOk result (λ found. IfSome found (λ wall. length wall.bricks.items ≤ 2 ^ 18)) }
     {
         let across = frame.columns.count;
         let mut bricks = Vec::new(alloc);

@@ -1,6 +1,7 @@
 use Rattle.std.proofs.Common.{◌≡◌, suc, ◌+◌, ◌≤◌, refl, sym, subst, ◌∙◌, arith}
 use Rattle.std.specs.Prelude.{replicate}
 use Rattle.ca_quad.specs.Squares.{IsOf}
+use Rattle.ca_quad.specs.declared.tree.Tree.{Tree}
 use Rattle.ca_quad.specs.Trees.{IsTree}
 use Rattle.ca_run.specs.Centre.{IsCentre}
 use Rattle.ca_run.specs.inner.Padded.{IsPadded}
@@ -25,11 +26,14 @@ returns-clause-advanced g c =
     let s0 = c.args.self.now.nodes in
     let s1 = c.padded_tree.new.self.nodes in
     let s2 = c.centre.new.self.nodes in
+    let s3 = c.trim.new.self.nodes in
+    let half : Tree = record { root = root; level = k + 1 } in
+    let trimmed = c.in_ok-trim.ensures in
     let padded = subst (λ l. IsPadded s0 tree l s1 wide) two c.in_ok-wide.ensures.padded in
     let centred = subst (λ r. IsCentre (g.A.Automaton.next_of r) s2 wide.root k j root) c.in_ok-wide.ensures.goes_on.rule c.in_ok-root.ensures.centre in
     record {
-      is_tree = subst (IsOf s2 root) (sym one) centred.is_half;
-      level = omega (arith, same, c.max-grain.ensures, c.requires.level, c.requires.time);
-      cells = leap_cells next quiet s0 s1 s2 c.in_ok-wide.ensures.goes_on.grows.sound c.in_ok-root.ensures.goes_on.grows tree wide _ k j root
-          some low time padded centred refl one;
+      is_tree = trimmed.tree;
+      level = omega (arith, same, trimmed.level, c.max-grain.ensures, c.requires.level, c.requires.time);
+      cells = λ x y. trimmed.cells x y ∙ leap_cells next quiet s0 s1 s2 c.in_ok-wide.ensures.goes_on.grows.sound c.in_ok-root.ensures.goes_on.grows tree wide half k j root
+          some low time padded centred refl one x y;
     }

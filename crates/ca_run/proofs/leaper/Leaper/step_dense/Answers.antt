@@ -1,8 +1,8 @@
-use Rattle.std.proofs.Common.{IfSome, subst}
+use Rattle.std.proofs.Common.{◌+◌, inr, IfSome, subst, arith}
 use Rattle.ca_quad.specs.Sound.{IsSoundStore}
 use Rattle.ca_quad.proofs.Cells.{of_stays}
 use Rattle.ca_run.specs.inner.Dense.{HasReached}
-use Rattle.ca_run.proofs.DenseRuns.{reached_now, reached_before, reached_stays}
+use Rattle.ca_run.proofs.DenseRuns.{reached_now, reached_before, reached_stays, wall_more, walls_done}
 use Rattle.ca_run.proofs.Shown.{goes_on_again}
 use Rattle.ca_run.proofs.leaper.Leaper.step_dense.Goals as goal
 
@@ -52,6 +52,7 @@ walls-preserved g c =
       reached = subst (λ r. HasReached (next r) s2 tree c.args.n s2 reached) inv.goes_on.rule
           (reached_now (next c.walls.self.rule) s1 s2 tree c.args.n reached inv.goes_on.grows.sound c.in_ok-stretch.ensures.goes_on.grows first made);
       goes_on = goes_on_again _ c.args.self.now c.walls.self c.step_wall.new.self inv.goes_on c.in_ok-stretch.ensures.goes_on;
+      costs = wall_more c.args.tree.now c.walls.counter inv.costs c.in_ok-stretch.ensures.costs;
     }
 
 pub returns-clause-reached : goal.returns-clause-reached
@@ -60,3 +61,25 @@ returns-clause-reached g c =
     let inv = c.walls.invariant in
     let sound = subst (λ l. IsSoundStore l.nodes) c.self.view_is c.self.invariant.squares in
     reached_before (g.A.Automaton.next_of c.args.self.now.rule) s0 c.walls.self.nodes c.walls.self.nodes c.args.tree.now c.args.n c.walls.reached sound inv.goes_on.grows c.requires.tree inv.reached
+
+pub returns-in_err-stretch-clause-costs : goal.returns-in_err-stretch-clause-costs
+returns-in_err-stretch-clause-costs g c =
+    let i = c.walls.counter in
+    inr (walls_done c.args.tree.now c.args.n (i + 1) (omega (arith, c.if-tree-lt-LEAST.false)) (omega (arith, c.if-n-lt-FEWEST.false)) (omega (arith, c.walls-test.true))
+    (wall_more c.args.tree.now i c.walls.invariant.costs c.in_err-stretch.ensures.costs))
+
+pub returns-in_default-2-clause-costs : goal.returns-in_default-2-clause-costs
+returns-in_default-2-clause-costs g c =
+    let i = c.walls.counter in
+    inr (walls_done c.args.tree.now c.args.n (i + 1) (omega (arith, c.if-tree-lt-LEAST.false)) (omega (arith, c.if-n-lt-FEWEST.false)) (omega (arith, c.walls-test.true))
+    (wall_more c.args.tree.now i c.walls.invariant.costs c.in_ok-stretch.ensures.costs))
+
+pub returns-then-work-least-clause-costs : goal.returns-then-work-least-clause-costs
+returns-then-work-least-clause-costs g c =
+    let i = c.walls.counter in
+    inr (walls_done c.args.tree.now c.args.n (i + 1) (omega (arith, c.if-tree-lt-LEAST.false)) (omega (arith, c.if-n-lt-FEWEST.false)) (omega (arith, c.walls-test.true))
+    (wall_more c.args.tree.now i c.walls.invariant.costs c.in_ok-stretch.ensures.costs))
+
+pub returns-clause-costs : goal.returns-clause-costs
+returns-clause-costs g c =
+    inr (walls_done c.args.tree.now c.args.n c.walls.counter (omega (arith, c.if-tree-lt-LEAST.false)) (omega (arith, c.if-n-lt-FEWEST.false)) (omega (arith, c.walls.auto.counter-end)) c.walls.invariant.costs)

@@ -47,3 +47,9 @@ returns-clause-aligned g c =
     let frame = c.args.frame.now in
     aligned_wall _ frame (start_reads frame.columns.first c.start.result (omega (arith, c.requires.frame.columns.far)) c.start.ensures)
     (start_reads frame.rows.first c.start-2.result (omega (arith, c.requires.frame.rows.far)) c.start-2.ensures)
+
+pub returns-clause-few : goal.returns-clause-few
+returns-clause-few g c =
+    let frame = c.args.frame.now in
+    let all : c.bricks.t ≡ 4 * (frame.columns.count * frame.rows.count) = omega (arith, c.bricks-test.false, c.bricks.auto.t-end) in
+    omega (arith, c.bricks.invariant.size, all, c.requires.frame.few)

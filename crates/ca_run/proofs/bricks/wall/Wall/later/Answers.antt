@@ -1,13 +1,21 @@
-use Rattle.std.proofs.Common.{◌≡◌, ℕ, ◌+◌, ◌-◌, length, refl, sym, ap, subst, ◌∙◌, arith}
+use Rattle.std.proofs.Common.{◌≡◌, ℕ, ◌+◌, ◌-◌, ◌*◌, ◌<◌, ◌≤◌, length, refl, sym, ap, subst, ◌∙◌, arith}
 use Rattle.std.specs.Prelude.{nat_eq}
+use Rattle.std.proofs.Math.Nat.{mul-le-mul_right}
 use Rattle.std.proofs.lemmas.Bool.Decides.{nat_tests}
 use Rattle.ca_plane.specs.Generations.{cells_after}
 use Rattle.ca_quad.specs.Trees.{cell}
 use Rattle.ca_run.specs.inner.Bricks.{WallShows, HasNeighbours, AllHaveNeighbours, IsNotIn, IsNextBrick, Rest, HasBlankEdge}
 use Rattle.ca_run.proofs.BrickMargins.{wall_less}
+use Rattle.ca_run.proofs.Costs.{one_more}
 use Rattle.ca_run.proofs.Shown.{spends_same, spends_again}
 use Rattle.ca_run.proofs.LaterWalls.{edge_blank, wall_later, wall_seen, by_first, queue_inside}
 use Rattle.ca_run.proofs.bricks.wall.Wall.later.Goals as goal
+
+-- one generation more is charged: no more than all bricks
+bricks_charged : (first old new k count steps : ℕ) → old ≤ first + k * count → new ≤ old + steps → steps ≤ count → new ≤ first + (k + 1) * count
+bricks_charged first old new k count steps was charged few =
+    let more = one_more k count steps few in
+    omega (arith, was, charged, more)
 
 pub generations-init : goal.generations-init
 generations-init g c =
@@ -33,6 +41,7 @@ generations-init g c =
       edge_before = c.in_ok-before.ensures.blank across;
       all = λ _. all;
       spends = spends_same c.args.work.now;
+      most = omega arith;
     }
 
 pub generations-preserved : goal.generations-preserved
@@ -65,7 +74,30 @@ generations-preserved g c =
       edge_before = subst (λ l. HasBlankEdge across l) (sym made.before) inv.edge;
       all = λ e. absurd (omega (arith, e));
       spends = spends_again inv.spends c.charge.ensures.spends;
+      most = bricks_charged _ _ _ k (length c.args.self.bricks.items) c.min-steps.result inv.most c.charge.ensures.most (omega (arith, c.min-steps.ensures, c.len-count.ensures, c.args.self.bricks.ok.0));
     }
+
+-- what is charged of a run that ends within it
+charged_within : (n k count steps first old new : ℕ) → k < n → steps ≤ count → old ≤ first + k * count → new ≤ old + steps → new ≤ first + n * count
+charged_within n k count steps first old new early few was charged =
+    let most = bricks_charged first old new k count steps was charged few in
+    let all : (k + 1) * count ≤ n * count = mul-le-mul_right count (omega (arith, early)) in
+    omega (arith, most, all)
+
+pub returns-in_err-charge-clause-most : goal.returns-in_err-charge-clause-most
+returns-in_err-charge-clause-most g c =
+    charged_within c.args.n c.generations.k (length c.args.self.bricks.items) c.min-steps.result _ _ _ (omega (arith, c.generations-test.true))
+    (omega (arith, c.min-steps.ensures, c.len-count.ensures, c.args.self.bricks.ok.0)) c.generations.invariant.most c.charge.ensures.most
+
+pub returns-in_err-generation-clause-most : goal.returns-in_err-generation-clause-most
+returns-in_err-generation-clause-most g c =
+    charged_within c.args.n c.generations.k (length c.args.self.bricks.items) c.min-steps.result _ _ _ (omega (arith, c.generations-test.true))
+    (omega (arith, c.min-steps.ensures, c.len-count.ensures, c.args.self.bricks.ok.0)) c.generations.invariant.most c.charge.ensures.most
+
+pub returns-clause-most : goal.returns-clause-most
+returns-clause-most g c =
+    let all : c.generations.k ≡ c.args.n = grind (arith, nat_tests) in
+    subst (λ n. c.generations.work.used ≤ c.args.work.now.used + n * length c.args.self.bricks.items) all c.generations.invariant.most
 
 pub returns-in_err-charge-clause-spends : goal.returns-in_err-charge-clause-spends
 returns-in_err-charge-clause-spends g c = spends_again c.generations.invariant.spends c.charge.ensures.spends

@@ -1,4 +1,4 @@
-use Rattle.std.proofs.Common.{◌≡◌, ℕ, ◌+◌, ◌-◌, ◌≤◌, length, []}
+use Rattle.std.proofs.Common.{◌≡◌, ℕ, ◌+◌, ◌-◌, ◌*◌, ◌≤◌, length, []}
 use Rattle.ca_plane.specs.Generations.{cells_after}
 use Rattle.ca_quad.specs.Trees.{cell}
 use Rattle.ca_run.specs.Spent.{Spends}
@@ -20,4 +20,5 @@ invariant-generations g l = record {
   edge_before : HasBlankEdge l.self.across l.before.items;
   all : l.k ≡ 0 → (t : ℕ) → HasNeighbours l.self.across (length l.self.bricks.items) t → IsNotIn l.awake.items t → ⊥;
   spends : Spends l.fn.work l.work;
+  most : l.work.used ≤ l.fn.work.used + l.k * length l.fn.self.bricks.items;
 }

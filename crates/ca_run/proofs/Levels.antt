@@ -1,0 +1,60 @@
+-- How large trees become over generations.
+use Rattle.std.proofs.Common.{◌≡◌, ℕ, suc, ◌+◌, ◌-◌, ◌<◌, ◌≤◌, ◌^◌, inl, inr, max, Result, Ok, Err, IfOk, List, refl, sym, subst, ◌∙◌, arith}
+use Rattle.std.specs.Prelude.{ℤ, pos, ◌+ℤ◌, replicate}
+use Rattle.std.proofs.lemmas.Int.{ints}
+use Rattle.ca_plane.specs.Generations.{cells_after}
+use Rattle.ca_quad.specs.declared.node.Node.{Node}
+use Rattle.ca_quad.specs.declared.tree.Tree.{Tree}
+use Rattle.ca_quad.specs.Trees.{cell}
+use Rattle.ca_quad.specs.Trimmed.{IsWithinLevel, HoldsAll, IsTrimmed}
+use Rattle.ca_quad.proofs.Filled.{place_on}
+use Rattle.ca_quad.proofs.Growth.{below_or_not}
+use Rattle.ca_quad.proofs.Reach.{tree_holds}
+use Rattle.ca_run.specs.inner.Beyond.{IsBeyond, DiesBeyond}
+use Rattle.ca_run.specs.inner.Dense.{IsLow}
+use Rattle.ca_run.proofs.Trees.{tree_dies, later_dies, powers_fit}
+
+-- what isn't beyond half the side of a level lies within it
+within_level : (level : ℕ) (x : ℤ) → (IsBeyond (2 ^ (level - 1)) x → ⊥) → IsWithinLevel level x
+within_level level x near =
+    let half = 2 ^ (level - 1) in
+    elim (place_on (x +ℤ pos half) (half + half)) [
+      | inl on ↦ let place = on.1 in let low = on.2 in (omega (arith, ints, place, low), omega (arith, ints, place, low))
+      | inr (inl west) ↦ absurd (near (inl (omega (arith, ints, west))))
+      | inr (inr east) ↦ absurd (near (inr (omega (arith, ints, east))))
+    ]
+
+-- a level holds all that is live, where all is dead beyond half its side
+level_holds : (level : ℕ) (p : ℤ → ℤ → ℕ) → DiesBeyond (2 ^ (level - 1)) p → HoldsAll level p
+level_holds level p dies x y live = (within_level level x (λ out. live (dies x y (inl out))), within_level level y (λ out. live (dies x y (inr out))))
+
+module _ (next : List ℕ → ℕ) (quiet : next (replicate 9 0) ≡ 0) (old : List Node) (first : Tree) (some : 1 ≤ first.level) (n d : ℕ) (time : n < 2 ^ d) where
+  -- the level that holds the cells of a tree after fewer generations than two to a power
+  later_holds : HoldsAll (max first.level (suc d) + 1) (cells_after next (cell old first) n)
+  later_holds =
+      let top = max first.level (suc d) in
+      let half : top + 1 - 1 ≡ top = omega arith in
+      let fit = powers_fit first.level d top some (omega arith) (omega arith) in
+      level_holds (top + 1) (cells_after next (cell old first) n)
+      (subst (λ h. DiesBeyond (2 ^ h) (cells_after next (cell old first) n)) (sym half)
+      (later_dies next quiet (cell old first) (2 ^ (first.level - 1)) n (2 ^ top) (omega (arith, fit, time)) (tree_dies old first some)))
+
+  -- a tree of them that is low has no higher one
+  pub later_level : (new : List Node) (now : Tree) → IsLow first.level new now → ((x y : ℤ) → cell new now x y ≡ cells_after next (cell old first) n x y) → now.level ≤ max first.level (suc d) + 1
+  later_level new now low same = low (max first.level (suc d) + 1) (omega arith) (λ x y live. later_holds x y (λ none. live (same x y ∙ none)))
+
+-- a trimmed tree is low
+pub trimmed_low : (nodes : List Node) (tree : Tree) (least : ℕ) → 1 ≤ least → IsTrimmed nodes tree → IsLow least nodes tree
+trimmed_low nodes tree least some trimmed level more holds = elim (below_or_not level tree.level) [ inl less ↦ absurd (trimmed level (omega arith) less holds) | inr most ↦ most ]
+
+-- and stays so
+pub low_stays : (old new : List Node) (tree : Tree) (least : ℕ) → ((x y : ℤ) → cell new tree x y ≡ cell old tree x y) → IsLow least old tree → IsLow least new tree
+low_stays old new tree least same low level more holds = low level more (λ x y live. holds x y (λ none. live (sym (same x y) ∙ none)))
+
+-- trimming makes no tree larger
+pub trim_level : {E : Type 0} (r : Result Tree E) (old new : List Node) (tree : Tree) → 1 ≤ tree.level → IfOk r (λ t. (x y : ℤ) → cell new t x y ≡ cell old tree x y) → IfOk r (IsTrimmed new) → IfOk r (λ t. t.level ≤ tree.level)
+trim_level (Err e) old new tree some same trimmed = tt
+trim_level (Ok t) old new tree some same trimmed = elim (below_or_not tree.level t.level) [
+  | inl less ↦ absurd (trimmed tree.level some less (λ x y live. tree_holds old tree tree.level some (omega arith) x y (λ none. live (same x y ∙ none))))
+  | inr most ↦ most
+]
