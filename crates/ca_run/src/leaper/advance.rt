@@ -130,6 +130,7 @@ impl<A: Automaton> Leaper<A> {
         requires most { level ≤ 125 }
         ensures padded { IfOk result (IsPadded self.old.nodes tree level self.new.nodes) }
         ensures goes_on { LeaperGrows A self.old self.new }
+        ensures spent { self.new.spent ≡ self.old.spent }
         ensures costs { Costs A self.old self.new 0 (130 * (level - tree.level)) }
         ensures sound { IsSoundStore self.old.nodes }
     {
@@ -147,6 +148,7 @@ impl<A: Automaton> Leaper<A> {
         requires low { tree.level ≤ 124 }
         ensures padded { IfOk result (IsPadded self.old.nodes tree (tree.level + 1) self.new.nodes) }
         ensures goes_on { LeaperGrows A self.old self.new }
+        ensures spent { self.new.spent ≡ self.old.spent }
         ensures costs { Costs A self.old self.new 0 130 }
     {
         self.store.pad(tree)

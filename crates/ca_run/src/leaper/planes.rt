@@ -24,6 +24,7 @@ impl<A: Automaton> Leaper<A> {
         ensures trimmed { IfOk result (IsTrimmed self.new.nodes) }
         ensures level { IfOk result (λ t. t.level ≤ 64) }
         ensures goes_on { LeaperGrows A self.old self.new }
+        ensures spent { self.new.spent ≡ self.old.spent }
     {
         let _count = plane.len();
         self.store.from_plane(plane)
@@ -46,6 +47,7 @@ impl<A: Automaton> Leaper<A> {
         ensures level { IfOk result (λ t. t.level ≤ 64) }
         ensures fault { IfErr result (IsShiftRefused (shifted_cells (cell self.old.nodes tree) dx dy)) }
         ensures goes_on { LeaperGrows A self.old self.new }
+        ensures spent { self.new.spent ≡ self.old.spent }
     {
         self.store.shifted(tree, dx, dy)
     }
@@ -65,6 +67,7 @@ impl<A: Automaton> Leaper<A> {
         ensures some { IfOk result (λ found. IfSome found
             (λ at. cell self.old.nodes a at.x at.y ≢ cell self.old.nodes b at.x at.y)) }
         ensures goes_on { LeaperGrows A self.old self.new }
+        ensures spent { self.new.spent ≡ self.old.spent }
     {
         let level = a.level.max(b.level);
         let a = self.padded_tree(a, level)?;
