@@ -43,6 +43,7 @@ use Rattle.ca_claims.specs.Places.{path_at}
 use Rattle.ca_claims.specs.Means.{bytes_at, IsReadable, MayWantMemory}
 use Rattle.ca_claims.specs.Truth.{asks_of, wanted_cells}
 use Rattle.ca_claims.specs.inner.Decided.{IsBounded, IsDecided}
+use Rattle.ca_claims.specs.Limited.{IsNoMoreThan}
 use Rattle.ca_claims.specs.Answers.{IsPatternFaultOn, IsBadPatternOn, AreTables, IsMissing, IsThere, IsReadableFile, HasRule, IsSmall, SomeOf, FirstIs, HaveOtherRules, HasCause, IsGoodPattern, AreGood, IsJudged, IsTrueVerdict, IsBadPattern, IsUnnamed, IsLarge, IsCrowded, WantsMemory}
 use Rattle.ca_claims.specs.inner.Subjects.{ShowsTree, IsPattern, AreShown, IsSubject}
 use Rattle.ca_claims.specs.inner.Prepared.{IsPrepared, IsFit, AreFewCounted, IsCountRefused, wanted_tree, wanted_part, last_part, refusal_for, disagreement_refusal}
@@ -52,6 +53,7 @@ use Rattle.ca_claims.specs.inner.Patterns.{items, IsEachOnce, FirstBadAt, IsRead
 use Rattle.ca_claims.proofs.ClaimKinds.{asks_bounded, paths_of}
 use Rattle.ca_claims.proofs.PatternsRead.{fault_on, IsReadAt, IsRuledAt, path_has_fault, path_has_rule, path_reads, ruled_path_reads, ruled_at, ruled_has_rule, ruled_is_good, ruled_is_large, ruled_is_small, ruled_picture, ruled_reads, tree_shows, wanted}
 use Rattle.ca_claims.proofs.Shown.{few_shown, many_shown, few_none, none_many}
+use Rattle.ca_claims.proofs.Spending.{used_up}
 use Rattle.ca_claims.proofs.Told.{read_pattern}
 use Rattle.ca_claims.proofs.Parts.{first_part, zip_part}
 use Rattle.ca_claims.proofs.Zipped.{some_first, zip_left, zip_beside, zip_first, zip_front, zip_through}
@@ -97,7 +99,7 @@ module _ (files : List (List ℕ × List ℕ)) (paths : List (List ℕ)) (found 
       → FirstBadAt part places (IsFound found) (λ i. get_or found i None ≡ None) → IsRefusal files paths rules asks (map (path_at paths) places) (record { cause = NoFile; about = about.Pattern part None })
   found_missing rules asks part places within bad =
       let at = missing part places within bad in
-      record { holds = inl (some_first (IsThere files) (IsMissing files) (map (path_at paths) places) (first_part (IsThere files) (IsMissing files) part (map (path_at paths) places) at)); on = (refl, at) }
+      record { holds = inl (some_first (IsThere files) (IsMissing files) (map (path_at paths) places) (first_part (IsThere files) (IsMissing files) part (map (path_at paths) places) at)); idle = λ e. cc; on = (refl, at) }
     where
       missing : (p : Part) (is : List ℕ) → AllByRecursion (λ i. i < length found) is → FirstBadAt p is (IsFound found) (λ i. get_or found i None ≡ None)
           → FirstBadAt p (map (path_at paths) is) (IsThere files) (IsMissing files)
@@ -217,6 +219,7 @@ module _ (files : List (List ℕ × List ℕ)) (every rules : List (List ℕ)) (
             (λ path b e reads. (b.now, e, reads)) (λ path b e wrong. (b.now, e, fault_on b.now fault line wrong)) each there at
             (first_part (λ b. IsReadable b.now) (λ b. IsPatternFaultOn b.now fault line) part there bad),
       );
+      idle = λ e. cc;
       on = zip_part (λ path b. bytes_at files path ≡ Some b.now) (IsReadableFile files) (IsBadPatternOn files fault line)
           (λ b. IsReadable b.now) (λ b. IsPatternFaultOn b.now fault line)
           (λ path b e reads. (b.now, e, reads)) (λ path b e wrong. (b.now, e, wrong)) part each there at bad;
@@ -233,6 +236,7 @@ module _ (files : List (List ℕ × List ℕ)) (every rules : List (List ℕ)) (
         zip_front (λ path b. bytes_at files path ≡ Some b.now) (WantsMemory files) (λ b. IsReadable b.now) (λ b. MayWantMemory b.now)
             (λ path b e reads. (b.now, e, wanted b.now reads)) (λ path b e wants. (b.now, e, wants)) each there at (first_part (λ b. IsReadable b.now) (λ b. MayWantMemory b.now) part there bad),
       );
+      idle = λ e. cc;
       on = inr (inr refl);
     }
 
@@ -255,6 +259,7 @@ module _ (files : List (List ℕ × List ℕ)) (every rules : List (List ℕ)) (
         (λ path p at. path_has_rule nodes files path p at tables) (λ path p at. path_has_fault nodes files path p at tables fault) part each patterns read bad in
         record {
           holds = (tables, (are, zip_left (IsReadAt nodes files) (IsReadableFile files) (path_reads nodes files) each patterns read), first_part (HasRule files tables) (IsUnnamed files tables fault) part each at);
+          idle = λ e. cc;
           on = (refl, tables, are, at);
         }
 
@@ -275,6 +280,7 @@ module _ (files : List (List ℕ × List ℕ)) (every rules : List (List ℕ)) (
               (are, zip_left At (HasRule files tables) (λ path r is. ruled_has_rule nodes files path tables r is) paths patterns ruled),
               some_first (IsSmall files tables) (IsLarge files tables) paths (first_part (IsSmall files tables) (IsLarge files tables) part paths at),
             );
+            idle = λ e. cc;
             on = (refl, tables, are, at);
           }
 
@@ -313,15 +319,15 @@ module _ (files : List (List ℕ × List ℕ)) (every rules : List (List ℕ)) (
     -- so a claim about them is refused where there is none
     pub no_memory : (paths : List (List ℕ)) (patterns : OneOrTwo Ruled) → AllZip At paths (items patterns)
         → IsRefusal files every rules asks paths (record { cause = Memory; about = about.Claim })
-    no_memory paths patterns ruled = record { holds = wanting paths patterns ruled; on = inr (inr refl) }
+    no_memory paths patterns ruled = record { holds = wanting paths patterns ruled; idle = λ e. cc; on = inr (inr refl) }
 
     -- the patterns have no one rule under which their states are small
     pub disagreed : (paths : List (List ℕ)) (patterns : OneOrTwo Ruled) (why : Disagreement) → AllZip At paths (items patterns) → Disagree nodes (items patterns) why
         → IsRefusal files every rules asks paths (disagreement_refusal why)
     disagreed paths patterns (Large part) ruled h = too_large paths (items patterns) ruled part h
     disagreed paths patterns Mixed ruled h =
-        record { holds = (tables, (are, all_small paths (items patterns) ruled h.0), other_rules paths (items patterns) ruled h.1); on = inl refl }
-    disagreed paths patterns disagreement.Memory ruled h = record { holds = wanting paths patterns ruled; on = inr (inr refl) }
+        record { holds = (tables, (are, all_small paths (items patterns) ruled h.0), other_rules paths (items patterns) ruled h.1); idle = λ e. cc; on = inl refl }
+    disagreed paths patterns disagreement.Memory ruled h = record { holds = wanting paths patterns ruled; idle = λ e. cc; on = inr (inr refl) }
 
     -- ---- the pictures that the files mean
 
@@ -418,13 +424,14 @@ module _ (files : List (List ℕ × List ℕ)) (every rules : List (List ℕ)) (
         → AllByRecursion (ShowsSmall nodes) (items patterns) → AreOfOneRule (items patterns) rule → AreBoth (items patterns) subject
         → IsCountRefused nodes asks subject (last_part (items patterns)) refusal → IsRefusal files every rules asks paths refusal
     crowded paths patterns subject rule refusal ruled small one both (inl memory) =
-        subst (IsRefusal files every rules asks paths) (sym memory) (record { holds = wanting paths patterns ruled; on = inr (inr refl) })
+        subst (IsRefusal files every rules asks paths) (sym memory) (record { holds = wanting paths patterns ruled; idle = λ e. cc; on = inr (inr refl) })
     crowded paths patterns subject rule refusal ruled small one both (inr (is, counted, tree, wanted, crowd)) =
         let all = agreed paths patterns rule ruled small one in
         let shown = all_shown paths patterns subject rule ruled small one both in
         let cells = many_wanted subject all.shown all.other_shown shown asks.wanted tree wanted crowd in
         subst (IsRefusal files every rules asks paths) (sym is) (record {
           holds = (all.shown, all.other_shown, rule, (tables, are, all.good), (counted, cells));
+          idle = λ e. cc;
           on = (refl, tables, are, part_crowded paths (items patterns) ruled all.shown all.other_shown rule all.good asks.wanted cells);
         })
 
@@ -474,17 +481,17 @@ decided_on files paths rules patterns next cells other asks (No why) decided = t
 decided_on files paths rules patterns next cells other asks (Refused cause) decided = inr decided
 
 -- so it is one of a claim about paths of which each is given once
-pub true_verdict : (files : List (List ℕ × List ℕ)) (rules at : List (List ℕ)) (claim : ClaimOf ℕ) (paths : List (List ℕ)) (prepared : Prepared) (verdict : Verdict)
+pub true_verdict : (files : List (List ℕ × List ℕ)) (rules at : List (List ℕ)) (work : ℕ) (claim : ClaimOf ℕ) (paths : List (List ℕ)) (prepared : Prepared) (verdict : Verdict)
     → IsEachOnce paths (patterns_of (about (path_at at) claim)) → (is : IsPrepared files rules (asks_of claim.kind) paths prepared)
-    → IsDecided (next_of (rule_value prepared.leaper.rule)) is.cells is.other (asks_of claim.kind) verdict → IsJudgedOn files at rules (about (path_at at) claim) verdict about.Claim
-true_verdict files rules at claim paths prepared verdict once is decided =
+    → IsFit work prepared → (verdict ≡ Refused Work → IsNoMoreThan work (asks_of claim.kind) prepared.subject.pattern.level)
+    → IsDecided (next_of (rule_value prepared.leaper.rule)) is.cells is.other (asks_of claim.kind) verdict → IsJudgedOn files at rules work (about (path_at at) claim) verdict about.Claim
+true_verdict files rules at work claim paths prepared verdict once is fit spent decided =
     let rule = rule_value prepared.leaper.rule in
     let (tables, are, good) = is.agree in
+    let judged : IsJudged files rules (about (path_at at) claim) is.cells is.other rule = ((tables, are, judged_of_all files tables paths (patterns_of (about (path_at at) claim)) is.cells is.other rule once good), is.few) in
     record {
-      holds =
-          decided_true files rules (about (path_at at) claim) is.cells is.other rule verdict
-          ((tables, are, judged_of_all files tables paths (patterns_of (about (path_at at) claim)) is.cells is.other rule once good), is.few)
-          decided;
+      holds = decided_true files rules (about (path_at at) claim) is.cells is.other rule verdict judged decided;
+      within = λ out. (is.cells, is.other, rule, judged, used_up prepared.leaper.nodes prepared.subject.pattern is.cells work (asks_of claim.kind) fit.pattern.trimmed is.shown.one (spent out));
       on = decided_on files at rules (patterns_of (about (path_at at) claim)) (next_of rule) is.cells is.other (asks_of claim.kind) verdict decided;
     }
 
@@ -492,14 +499,16 @@ true_verdict files rules at claim paths prepared verdict once is decided =
 
 module _ (nodes : List Node) where
   pub all_fit : (patterns : List Ruled) (prepared : Prepared) → nodes ≡ prepared.leaper.nodes → AllByRecursion (λ r. IsPattern nodes r.pattern.tree) patterns → AreBoth patterns prepared.subject
-      → IsFit prepared
-  all_fit patterns prepared same all both =
+      → prepared.leaper.spent.used ≡ 0 → IsFit prepared.leaper.spent.limit prepared
+  all_fit patterns prepared same all both none =
       let each = both_are_patterns nodes patterns prepared.subject all both in
       record {
         pattern = subst (λ n. IsPattern n prepared.subject.pattern) same each.0;
         other = subst (λ n. IsPattern n prepared.subject.other) same each.1;
+        fresh = none;
+        allowed = refl;
       }
 
 -- so is its subject for a claim
-pub is_subject : (kind : Kind) (asks : Asks) (prepared : Prepared) → asks ≡ asks_of kind → HasGoodNumbers kind → IsFit prepared → IsSubject prepared.leaper.nodes asks prepared.subject
-is_subject kind asks prepared same good fit = record { pattern = fit.pattern; other = fit.other; bounded = subst IsBounded (sym same) (asks_bounded kind good) }
+pub is_subject : (work : ℕ) (kind : Kind) (asks : Asks) (prepared : Prepared) → asks ≡ asks_of kind → HasGoodNumbers kind → IsFit work prepared → IsSubject prepared.leaper.nodes asks prepared.subject
+is_subject work kind asks prepared same good fit = record { pattern = fit.pattern; other = fit.other; bounded = subst IsBounded (sym same) (asks_bounded kind good) }

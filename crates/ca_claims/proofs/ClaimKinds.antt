@@ -64,7 +64,7 @@ unbarred asks nothing few right down = record {
   returns = λ returns. absurd (subst BarsReturns nothing returns);
   short = λ returns. absurd (subst BarsReturns nothing returns);
   none = λ death. absurd (no (sym nothing ∙ death));
-  some = λ death. absurd (no (sym nothing ∙ death));
+  some = λ some. absurd (some nothing);
 }
   where
     no : Nothing ≡ EmptyPlane → ⊥
@@ -82,7 +82,7 @@ asks_bounded (Oscillator period) good = record {
   returns = λ _. (refl, refl);
   short = λ _. omega (arith, good.1);
   none = λ death. absurd (no_death InPlace tt death);
-  some = λ death. absurd (no_death InPlace tt death);
+  some = λ _. omega (arith, good.0);
 }
 asks_bounded (Spaceship period dx dy) good = record {
   few = omega (arith, good.1);
@@ -93,7 +93,7 @@ asks_bounded (Spaceship period dx dy) good = record {
   returns = λ _. tt;
   short = λ _. omega (arith, good.1);
   none = λ death. absurd (no_death Anywhere tt death);
-  some = λ death. absurd (no_death Anywhere tt death);
+  some = λ _. good.0;
 }
 asks_bounded (Becomes generations) good = unbarred (asks_of (Becomes generations)) refl good no_shift no_shift
 asks_bounded (BecomesShifted generations dx dy) good = unbarred (asks_of (BecomesShifted generations dx dy)) refl good.0 good.1 good.2

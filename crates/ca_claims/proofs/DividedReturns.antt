@@ -84,6 +84,10 @@ module _ (next : List ℕ → ℕ) (nodes : List Node) (case : Case) where
     before = λ cells shows d some less _. absurd (omega (arith, some, less));
   }
 
+  pub all_left_from : (left : List ℕ) (are : AreDivisors case.asks.generations 1 case.asks.generations left) → (all_left left are).low ≡ 1
+  unfolding all_left
+  all_left_from left are = refl
+
   -- one fewer is left where the pattern isn't back at the first
   pub one_fewer : (d : ℕ) (left : List ℕ) → AreLeft next nodes case (d ∷ left) → ((cells : Picture) → ShowsTree nodes case.subject.pattern cells → ShowsNothingBarred next cells case.asks.barred d)
       → AreLeft next nodes case left
@@ -102,6 +106,11 @@ module _ (next : List ℕ → ℕ) (nodes : List Node) (case : Case) where
           ]
         ];
   }
+
+  pub one_fewer_from : (d : ℕ) (left : List ℕ) (h : AreLeft next nodes case (d ∷ left))
+      (tried : (cells : Picture) → ShowsTree nodes case.subject.pattern cells → ShowsNothingBarred next cells case.asks.barred d) → (one_fewer d left h tried).low ≡ d + 1
+  unfolding one_fewer
+  one_fewer_from d left h tried = refl
 
   -- where none is left, the pattern is back at no time before case.asks.generations
   pub none_left : (left : List ℕ) → length left ≡ 0 → AreLeft next nodes case left → (cells : Picture) → ShowsTree nodes case.subject.pattern cells → (u v : ℤ) → MayReturnBy case.asks.barred u v → IsAfter next cells case.asks.generations (shifted cells u v)

@@ -60,6 +60,7 @@ module _ (old new : List Node) (sound : IsSoundStore old) (grows : Grows old new
   pattern_stays tree h = record {
     is_tree = of_stays old new sound grows tree.root tree.level h.is_tree;
     low = h.low;
+    trimmed = λ level some less holds. h.trimmed level some less (λ x y live. holds x y (λ z. live (sym (trees_stay old new sound grows tree h.is_tree x y) ∙ z)));
     range = λ x y live. h.range x y (λ z. live (trees_stay old new sound grows tree h.is_tree x y ∙ z));
   }
 

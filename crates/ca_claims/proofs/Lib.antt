@@ -4,6 +4,7 @@ pub mod PathLists
 pub mod HeldNumbers
 pub mod Zipped
 pub mod Shown
+pub mod Spending
 pub mod PatternsRead
 pub mod Parts
 pub mod Causes

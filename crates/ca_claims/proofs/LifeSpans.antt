@@ -13,13 +13,13 @@ use Rattle.ca_claims.specs.inner.Returns.{IsLifeSpan}
 use Rattle.ca_claims.specs.inner.Subjects.{ShowsTree, HasLive, BarsDeath, IsEndTree, AreLifeBounds}
 use Rattle.ca_claims.proofs.Deaths.{live_at_all}
 use Rattle.ca_claims.proofs.Leapt.{shows_after, shows_stays}
-use Rattle.ca_claims.proofs.Reasoned.{live_shown}
+use Rattle.ca_claims.proofs.Reasoned.{live_shown, death_is_some}
 
 module _ (next : List ℕ → ℕ) (nodes : List Node) (case : Case) where
   -- it lives at first, and is dead at last
   pub whole_life : BarsDeath nodes case → AreLifeBounds next nodes case 0 case.asks.generations
   whole_life bars = record {
-    order = let some = bars.subject.bounded.some bars.barred in omega (arith, some);
+    order = let some = bars.subject.bounded.some (death_is_some case.asks.barred bars.barred) in omega (arith, some);
     within = omega arith;
     holds = λ cells shows empty. (live_shown nodes case.subject.pattern cells bars.live shows, empty);
   }

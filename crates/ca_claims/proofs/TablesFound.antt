@@ -84,6 +84,7 @@ module _ (files : List (List ℕ × List ℕ)) (paths rules : List (List ℕ)) (
       → IsRefusal files paths rules asks patterns (record { cause = NoFile; about = about.RuleFile place })
   refused_missing place within there first = record {
     holds = inr (some_first (IsThere files) (IsMissing files) rules (first_weaker (IsThere files) (λ p. (p ≡ path_at paths place) × IsMissing files p) (IsMissing files) (λ p h. h.1) rules first));
+    idle = λ e. cc;
     on = (within, (there, first));
   }
 
@@ -92,5 +93,6 @@ module _ (files : List (List ℕ × List ℕ)) (paths rules : List (List ℕ)) (
       → FirstBad (HoldsTable files) (IsFaultyAt files paths faulty) rules → IsRefusal files paths rules asks patterns (record { cause = BadTable faulty.fault; about = about.RuleFile faulty.place })
   refused_faulty faulty within there all first = record {
     holds = ((there, all), first_weaker (HoldsTable files) (IsFaultyAt files paths faulty) (IsBadTable files faulty.fault) (λ p h. h.1) rules first);
+    idle = λ e. cc;
     on = (within, first);
   }

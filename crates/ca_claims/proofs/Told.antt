@@ -37,7 +37,7 @@ level_is_low nodes tree trimmed range = elim (cases_order tree.level 61) [
 
 -- so one that is read from a file is that of a pattern
 pub read_pattern : (nodes : List Node) (bytes : List ℕ) (pattern : Loaded) → IsReadFrom nodes bytes pattern → IsPattern nodes pattern.tree
-read_pattern nodes bytes pattern read = record { is_tree = read.loaded.tree; low = level_is_low nodes pattern.tree read.loaded.trimmed read.range; range = read.range }
+read_pattern nodes bytes pattern read = record { is_tree = read.loaded.tree; low = level_is_low nodes pattern.tree read.loaded.trimmed read.range; trimmed = read.loaded.trimmed; range = read.range }
 
 -- a file holds the pattern that was read of it, with the rule that its rule text names
 pub holds_ruled : (nodes : List Node) (bytes : List ℕ) (tables : List TableRule) (ruled : Ruled) (read : IsReadFrom nodes bytes ruled.pattern) → NamesRule ruled.pattern.rule_text.items tables (rule_of ruled)

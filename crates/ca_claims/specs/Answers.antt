@@ -24,6 +24,7 @@ use Rattle.ca_claims.specs.declared.verdict.PatternFault.TheVariants as pattern_
 use Rattle.ca_claims.specs.declared.verdict.Cause.{Cause}
 use Rattle.ca_claims.specs.declared.verdict.Cause.TheVariants.{NoFile, BadTable, BadPattern, BadRule, StateTooLarge, MixedRules, TooManyCells, Work, Memory}
 use Rattle.ca_claims.specs.declared.claims.asks.Asks.{Asks}
+use Rattle.ca_claims.specs.Limited.{MayBeUsedUp}
 use Rattle.ca_claims.specs.Text.{Claim, patterns_of}
 use Rattle.ca_claims.specs.Means.{bytes_at, format_of, IsReadable, HoldsRuledPattern, HasRuleFault, MayWantMemory}
 use Rattle.ca_claims.specs.Truth.{asks_of, wanted_cells, IsTrueClaim, IsReason}
@@ -247,6 +248,19 @@ IsCauseFor files rules claim cause = HasCause files rules (asks_of claim.kind) (
 -- no cause but out of work or memory is that of the claim: its patterns agree, and the cells that are counted aren't too many
 abbrev pub IsJudged : List (List ℕ × List ℕ) → List (List ℕ) → Claim → Picture → Picture → RuleValue → Type 0
 IsJudged files rules claim cells other rule = AgreeOn files rules (patterns_of claim) cells other rule × HasFewCounted (asks_of claim.kind) cells other
+
+-- the work that a claim may take is no more than it may need: its patterns agree, and mean cells for which so much may be used up
+abbrev pub MayUseUp : List (List ℕ × List ℕ) → List (List ℕ) → (work : ℕ) → Claim → Type 0
+MayUseUp files rules work claim = (cells : Picture) × (other : Picture) × (rule : RuleValue) × IsJudged files rules claim cells other rule
+    × MayBeUsedUp work (asks_of claim.kind) (cell cells)
+
+-- a claim is out of work only there
+abbrev pub IsWithinWork : List (List ℕ × List ℕ) → List (List ℕ) → (work : ℕ) → Claim → Verdict → Type 0
+IsWithinWork files rules work claim verdict = verdict ≡ Refused Work → MayUseUp files rules work claim
+
+-- so are all claims that are out of work
+abbrev pub AreWithinWork : List (List ℕ × List ℕ) → List (List ℕ) → (work : ℕ) → List (ℕ × Claim) → List Answer → Type 0
+AreWithinWork files rules work claims answers = AllZip (λ numbered answer. IsWithinWork files rules work numbered.1 answer.verdict) claims answers
 
 -- a verdict is true: a yes of a claim that is true of the planes that the files mean, a no of one that is false, with the
 -- reason, and a refusal with its cause; a yes, a no and out of work come only where no other cause but out of memory holds

@@ -3,26 +3,29 @@ use Rattle.std.specs.Prelude.{◌≡◌, ℕ, List, [], ◌∷◌}
 use Rattle.ca_claims.specs.declared.verdict.Answer.{Answer}
 use Rattle.ca_claims.specs.declared.note.Note.{Note}
 use Rattle.ca_claims.specs.Text.{Claim}
-use Rattle.ca_claims.specs.Answers.{IsTrueAnswer}
+use Rattle.ca_claims.specs.Answers.{IsTrueAnswer, IsWithinWork}
 use Rattle.ca_claims.specs.Notes.{IsNote}
 
 -- the paths and bytes of the files that were handed in; the paths of the text's rule lines; the claims that are left, with the numbers of their
--- lines; and for each of these the names and paths of its patterns
+-- lines; for each of these the names and paths of its patterns; and how much work each may take
 pub record Judging : Type 0 where
   pub files : List (List ℕ × List ℕ)
   pub rules : List (List ℕ)
   pub claims : List (ℕ × Claim)
   pub patterns : List (List (List ℕ × List ℕ))
+  pub work : ℕ
 
--- the first claim left was judged, by a true answer, and the others are left
+-- the first claim left was judged, by a true answer, which is out of work only within the work that a claim may take, and the others are left
 pub record Judges (old new : Judging) (answer : Answer) : Type 0 where
   pub files : new.files ≡ old.files
   pub rules : new.rules ≡ old.rules
+  pub work : new.work ≡ old.work
   pub claim : ℕ × Claim
   pub claims : old.claims ≡ claim ∷ new.claims
   pub its_patterns : List (List ℕ × List ℕ)
   pub patterns : old.patterns ≡ its_patterns ∷ new.patterns
   pub holds : IsTrueAnswer old.files old.rules claim answer
+  pub within : IsWithinWork old.files old.rules old.work claim.1 answer.verdict
 
 -- and the note is true of its verdict
 pub record JudgesAndNotes (old new : Judging) (answer : Answer) (note : Note) : Type 0 where

@@ -1,8 +1,29 @@
 -- How much may be spent on the judgement of a claim.
-use Rattle.std.specs.Prelude.{◌≤◌}
+use Rattle.std.specs.Prelude.{ℕ, ◌+◌, ◌*◌, ◌<◌, ◌≤◌, ◌^◌, ℤ}
+use Rattle.ca_quad.specs.Trimmed.{HoldsAll}
+use Rattle.ca_claims.specs.declared.claims.asks.Asks.{Asks}
+use Rattle.ca_claims.specs.declared.claims.asks.Barred.{Barred}
+use Rattle.ca_claims.specs.declared.claims.asks.Barred.TheVariants.{Nothing, InPlace, Anywhere, EmptyPlane}
 use Rattle.ca_claims.specs.declared.limits.Limits.{Limits}
 
 -- the memo has an entry at least, and 16777216 at most; any work may be allowed
 pub record AreGoodLimits (limits : Limits) : Type 0 where
   pub least : 1 ≤ limits.memo
   pub most : limits.memo ≤ 16777216
+
+-- how often a pattern may be taken some generations on for a claim that asks this: once, and where something is barred at earlier times,
+-- no more often than it claims generations
+abbrev pub most_runs : Barred → (generations : ℕ) → ℕ
+most_runs Nothing generations = 1
+most_runs InPlace generations = generations
+most_runs Anywhere generations = generations
+most_runs EmptyPlane generations = generations
+
+-- the work is no more than so many runs may need of a tree of this level: 14 to the power of the level, the binary digits of the
+-- generations, and 2
+abbrev pub IsNoMoreThan : ℕ → Asks → (level : ℕ) → Type 0
+IsNoMoreThan work asks level = (digits : ℕ) → asks.generations < 2 ^ digits → work ≤ most_runs asks.barred asks.generations * 14 ^ (level + digits + 2)
+
+-- the same of any level that holds these cells
+abbrev pub MayBeUsedUp : ℕ → Asks → (ℤ → ℤ → ℕ) → Type 0
+MayBeUsedUp work asks cells = (level : ℕ) → 1 ≤ level → HoldsAll level cells → IsNoMoreThan work asks level

@@ -10,6 +10,7 @@ pub mod Reading
 pub mod Ready
 pub mod Refusals
 pub mod Returns
+pub mod Spending
 pub mod Tables
 pub mod Divisors
 pub mod Subjects

@@ -6,9 +6,14 @@ ghost use Rattle.ca_plane.specs.Generations.{after, IsAfter};
 ghost use Rattle.ca_quad.specs.Boxes.{IsDead};
 ghost use Rattle.ca_quad.specs.Trees.{cell};
 ghost use Rattle.ca_run.specs.Leaping.{LeaperGrows};
+ghost use Rattle.ca_run.specs.Spent.{EndsAtLimit};
+ghost use Rattle.ca_run.specs.declared.fault.LeapFault.TheVariants as leap_fault;
+ghost use Rattle.ca_claims.specs.Limited.{most_runs, IsNoMoreThan};
 ghost use Rattle.ca_claims.specs.Text.{IsShift};
 ghost use Rattle.ca_claims.specs.Truth.{claimed, IsTrueClaim, IsReason};
 ghost use Rattle.ca_claims.specs.declared.verdict.Cause.TheVariants.{Work, Memory as NoMemory};
+ghost use Rattle.ca_claims.specs.declared.verdict.Verdict.TheVariants.{Refused};
+ghost use Rattle.ca_claims.specs.inner.Spending.{Takes};
 ghost use Rattle.ca_claims.specs.inner.Decided.{IsDecided};
 ghost use Rattle.ca_claims.specs.inner.Subjects.{ShowsTree, IsPattern, IsNearTree, IsCase, AreShown, HasLive};
 ghost use Rattle.ca_claims.specs.inner.Subjects.{IsEndTree, IsMoved, IsDifference};
@@ -44,15 +49,18 @@ pub(crate) struct Case {
     pub(crate) asks: Asks,
 }
 
-/// Whether the claim is true of the patterns under the leaper's rule.
+/// Whether the claim is true of the patterns under the leaper's rule. It is out of work only where all that the leaper
+/// may use is used up.
 pub(crate) fn decide<A: Automaton, O: Observer>(
     leaper: &mut Leaper<A>,
     case: &Case,
     observer: &mut O,
 ) -> Verdict
     requires { IsCase leaper.old.nodes case.now }
-    ensures { (cells other : Picture) → AreShown leaper.old.nodes case.now.subject cells other
+    ensures decided { (cells other : Picture) → AreShown leaper.old.nodes case.now.subject cells other
         → IsDecided (A.next_of leaper.old.rule) cells other case.now.asks result }
+    ensures work { leaper.old.spent.used ≡ 0 → result ≡ Refused Work
+        → IsNoMoreThan leaper.old.spent.limit case.now.asks case.now.subject.pattern.level }
 {
     match why_not(leaper, case, observer) {
         Ok(None) => Verdict::Yes,
@@ -63,7 +71,8 @@ pub(crate) fn decide<A: Automaton, O: Observer>(
 
 // The cause of a refusal where leaps came to no end.
 fn cause_of(fault: LeapFault) -> Cause
-    ensures { (result ≡ Work) ⊎ (result ≡ NoMemory) }
+    ensures cause { (result ≡ Work) ⊎ (result ≡ NoMemory) }
+    ensures work { result ≡ Work → fault ≡ leap_fault.Work }
 {
     match fault {
         LeapFault::Memory => Cause::Memory,
@@ -78,10 +87,14 @@ fn why_not<A: Automaton, O: Observer>(
     observer: &mut O,
 ) -> Result<Option<Why>, LeapFault>
     requires { IsCase leaper.old.nodes case.now }
-    ensures { (cells other : Picture) → AreShown leaper.old.nodes case.now.subject cells other
+    ensures why { (cells other : Picture) → AreShown leaper.old.nodes case.now.subject cells other
         → IfOk result (λ why. MatchOption why
         (IsTrueClaim (A.next_of leaper.old.rule) cells other case.now.asks)
         (IsReason (A.next_of leaper.old.rule) cells other case.now.asks)) }
+    ensures goes_on { LeaperGrows A leaper.old leaper.new }
+    ensures takes { Takes leaper.old.spent.used leaper.new.spent.used (most_runs case.now.asks.barred case.now.asks.generations)
+        case.now.subject.pattern.level case.now.asks.generations }
+    ensures work { EndsAtLimit leaper.new.spent result }
 {
     // Says what holds of every leaper.
     let _ = leaper.store();
@@ -133,6 +146,8 @@ fn find_wrong_cell<A: Automaton, O: Observer>(
         (plane_cell (claimed case.now.asks cells other))
         case.now.asks.generations)) }
     ensures goes_on { LeaperGrows A leaper.old leaper.new }
+    ensures takes { Takes leaper.old.spent.used leaper.new.spent.used 1 case.now.subject.pattern.level case.now.asks.generations }
+    ensures work { EndsAtLimit leaper.new.spent result }
 {
     // Says what holds of every leaper.
     let _ = leaper.store();
@@ -149,6 +164,7 @@ fn claimed_tree<A: Automaton>(leaper: &mut Leaper<A>, case: &Case) -> Result<Tre
     ensures shows { (cells other : Picture) → AreShown leaper.old.nodes case.now.subject cells other
         → IfOk result (λ tree. ShowsTree leaper.new.nodes tree (claimed case.now.asks cells other)) }
     ensures goes_on { LeaperGrows A leaper.old leaper.new }
+    ensures spent { leaper.new.spent ≡ leaper.old.spent }
 {
     let asks = case.asks;
     match asks.wanted {
@@ -170,6 +186,7 @@ fn moved_tree<A: Automaton>(
     requires down { IsShift dy }
     ensures moved { IfOk result (IsMoved leaper.old.nodes pattern dx dy leaper.new.nodes) }
     ensures goes_on { LeaperGrows A leaper.old leaper.new }
+    ensures spent { leaper.new.spent ≡ leaper.old.spent }
 {
     // Says what holds of every leaper.
     let _ = leaper.store();
@@ -188,6 +205,7 @@ fn empty_tree<A: Automaton>(alloc: Global, leaper: &mut Leaper<A>) -> Result<Tre
     ensures near { IfOk result (IsNearTree leaper.new.nodes) }
     ensures dead { IfOk result (λ tree. IsDead (cell leaper.new.nodes tree)) }
     ensures goes_on { LeaperGrows A leaper.old leaper.new }
+    ensures spent { leaper.new.spent ≡ leaper.old.spent }
 {
     leaper.load_plane(&Plane::new(alloc))
 }
@@ -214,6 +232,8 @@ pub(crate) fn tree_after<A: Automaton, O: Observer>(
     ensures end { IfOk result
         (IsEndTree (A.next_of leaper.old.rule) leaper.old.nodes pattern.now generations leaper.new.nodes) }
     ensures goes_on { LeaperGrows A leaper.old leaper.new }
+    ensures takes { Takes leaper.old.spent.used leaper.new.spent.used 1 pattern.now.level generations }
+    ensures work { EndsAtLimit leaper.new.spent result }
 {
     // Says what holds of every leaper.
     let _ = leaper.store();
@@ -235,6 +255,8 @@ fn find_difference<A: Automaton>(
         ((x y : ℤ) → cell leaper.old.nodes end x y ≡ cell leaper.old.nodes wanted x y)
         (IsDifference (cell leaper.old.nodes end) (cell leaper.old.nodes wanted) gens)) }
     ensures goes_on { LeaperGrows A leaper.old leaper.new }
+    ensures spent { leaper.new.spent ≡ leaper.old.spent }
+    ensures work { EndsAtLimit leaper.new.spent result }
 {
     // Says what holds of every leaper.
     let _ = leaper.store();

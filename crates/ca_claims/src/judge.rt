@@ -43,7 +43,7 @@ impl<'a> Model for Judge<'a> {
 
     ghost Value = { Judging };
 
-    ghost view = { λ j. left_from (contents j.files.now) j.claims.now j.index };
+    ghost view = { λ j. left_from (contents j.files.now) j.claims.now j.index j.limits.work };
 
     ghost invariant = { λ j. IsKeptOf (contents j.files.now) j.claims.now
         j.needed.found.items j.needed.tables j.index j.limits };
@@ -70,6 +70,7 @@ impl<'a> Judge<'a> {
           rules = claims.now.rules;
           claims = claims.now.claims;
           patterns = claims.now.patterns;
+          work = limits.work;
         }) }
         ensures memory { OnErr result (claims.now.claims ≢ []) }
     {
@@ -174,7 +175,7 @@ fn answer_to<'a, 'f, O: Observer>(
     ensures { (files : List (List ℕ × List ℕ))
         → map option_copied needed.now.found.items ≡ map (bytes_at files) claims.now.paths
         → AreRead files claims.now.paths claims.now.rules needed.now.tables
-        → IsAnswerTo files claims.now index result.0 result.1 }
+        → IsAnswerTo files claims.now index limits.work result.0 result.1 }
 {
     let asked = claims.claim(index);
     observer.begins(asked.line);

@@ -8,8 +8,9 @@ ghost use Rattle.ca_claims.specs.Places.{path_at};
 ghost use Rattle.ca_claims.specs.Means.{contents, bytes_at};
 ghost use Rattle.ca_claims.specs.declared.refusal.About.TheVariants as abouts;
 ghost use Rattle.ca_claims.specs.declared.verdict.Verdict.TheVariants.{Refused};
-ghost use Rattle.ca_claims.specs.Answers.{AreTrueAnswers};
-ghost use Rattle.ca_claims.specs.Limited.{AreGoodLimits};
+ghost use Rattle.ca_claims.specs.declared.verdict.Cause.TheVariants.{Work};
+ghost use Rattle.ca_claims.specs.Answers.{AreTrueAnswers, AreWithinWork};
+ghost use Rattle.ca_claims.specs.Limited.{AreGoodLimits, IsNoMoreThan};
 ghost use Rattle.ca_plane.specs.Plane.{Picture};
 ghost use Rattle.ca_rule.specs.Rule.{rule_value, next_of};
 ghost use Rattle.ca_claims.specs.inner.Decided.{IsDecided};
@@ -60,6 +61,8 @@ pub fn verify(
     requires limits { AreGoodLimits limits }
     ensures answers { IfOk result
         (λ v. AreTrueAnswers (contents files.now) claims.now.rules claims.now.claims v.items) }
+    ensures work { IfOk result
+        (λ v. AreWithinWork (contents files.now) claims.now.rules limits.work claims.now.claims v.items) }
     ensures memory { OnErr result (claims.now.claims ≢ []) }
 {
     let mut answers = Vec::with_capacity(alloc, claims.claim_count())?;
@@ -107,7 +110,7 @@ pub(crate) fn verdict_on<'a, O: Observer>(
     ensures { (files : List (List ℕ × List ℕ)) (paths rules : List (List ℕ))
         → map option_copied needed.now.found.items ≡ map (bytes_at files) paths
         → AreRead files paths rules needed.now.tables
-        → IsJudgedOn files paths rules (about (path_at paths) claim.now) result.verdict result.about }
+        → IsJudgedOn files paths rules limits.work (about (path_at paths) claim.now) result.verdict result.about }
 {
     let judged = as_judged(judge(alloc, library, claim, needed, limits, observer));
     if library.is_empty() || !wants_memory(&judged.verdict) {
@@ -125,10 +128,10 @@ fn wants_memory(verdict: &Verdict) -> bool {
 
 /// The verdict that was reached, or the refusal.
 fn as_judged(judged: Result<Verdict, Refusal>) -> Judged
-    ensures { (files : List (List ℕ × List ℕ)) (paths rules : List (List ℕ)) (claim : TextClaim)
-        → MatchResult judged (λ verdict. IsJudgedOn files paths rules claim verdict abouts.Claim)
-        (λ r. IsJudgedOn files paths rules claim (Refused r.cause) r.about)
-        → IsJudgedOn files paths rules claim result.verdict result.about }
+    ensures { (files : List (List ℕ × List ℕ)) (paths rules : List (List ℕ)) (work : ℕ) (claim : TextClaim)
+        → MatchResult judged (λ verdict. IsJudgedOn files paths rules work claim verdict abouts.Claim)
+        (λ r. IsJudgedOn files paths rules work claim (Refused r.cause) r.about)
+        → IsJudgedOn files paths rules work claim result.verdict result.about }
 {
     match judged {
         Ok(verdict) => Judged {
@@ -159,8 +162,8 @@ fn judge<'a, O: Observer>(
         → map option_copied needed.now.found.items ≡ map (bytes_at files) paths
         → AreRead files paths rules needed.now.tables
         → MatchResult result
-        (λ verdict. IsJudgedOn files paths rules (about (path_at paths) claim.now) verdict abouts.Claim)
-        (λ r. IsJudgedOn files paths rules (about (path_at paths) claim.now) (Refused r.cause) r.about) }
+        (λ verdict. IsJudgedOn files paths rules limits.work (about (path_at paths) claim.now) verdict abouts.Claim)
+        (λ r. IsJudgedOn files paths rules limits.work (about (path_at paths) claim.now) (Refused r.cause) r.about) }
 {
     let asks = claim.kind.asks();
     let places = places_of(claim);
@@ -184,9 +187,11 @@ fn decide_on<O: Observer>(
     observer: &mut O,
 ) -> Verdict
     requires { IsSubject prepared.leaper.nodes asks prepared.subject }
-    ensures { (cells other : Picture)
+    ensures decided { (cells other : Picture)
         → AreShown prepared.entry.leaper.nodes prepared.entry.subject cells other
         → IsDecided (next_of (rule_value prepared.entry.leaper.rule)) cells other asks result }
+    ensures work { prepared.entry.leaper.spent.used ≡ 0 → result ≡ Refused Work
+        → IsNoMoreThan prepared.entry.leaper.spent.limit asks prepared.entry.subject.pattern.level }
 {
     let Prepared {
         mut leaper,

@@ -8,7 +8,8 @@ use Rattle.std.proofs.lemmas.Slice.Zip.{AllZip-long}
 use Rattle.ca_plane.specs.Device.{AppendsPrefix}
 use Rattle.ca_plane.proofs.Sends.{prefix_of_first, prefix_of_second}
 use Rattle.ca_claims.specs.Text.{Claim}
-use Rattle.ca_claims.specs.Answers.{IsTrueAnswer, AreTrueAnswers}
+use Rattle.ca_claims.specs.declared.verdict.Answer.{Answer}
+use Rattle.ca_claims.specs.Answers.{IsTrueAnswer, AreTrueAnswers, IsWithinWork, AreWithinWork}
 use Rattle.ca_claims.specs.Notes.{IsNote, HasItsNote}
 use Rattle.ca_claims.specs.Judging.{Judging, JudgesAndNotes}
 use Rattle.ca_tool.specs.declared.finding.ReportStyle.{ReportStyle}
@@ -35,30 +36,33 @@ front [] ys n e = rw e refl
 front (x ∷ xs) ys n e = rw e (ap (λ l. x ∷ l) (front xs ys (length xs) refl))
 
 -- findings on some claims, and then on others
-findings_then : (files : List (List ℕ × List ℕ)) (rules : List (List ℕ)) (claims more : List (ℕ × Claim)) (patterns others : List (List (List ℕ × List ℕ))) (xs ys : List Finding)
-    → AreFindings (record { files = files; rules = rules; claims = claims; patterns = patterns }) xs → AreFindings (record { files = files; rules = rules; claims = more; patterns = others }) ys
-    → AreFindings (record { files = files; rules = rules; claims = claims ++ more; patterns = patterns ++ others }) (xs ++ ys)
-findings_then files rules claims more patterns others xs ys first second = record {
+findings_then : (files : List (List ℕ × List ℕ)) (rules : List (List ℕ)) (work : ℕ) (claims more : List (ℕ × Claim)) (patterns others : List (List (List ℕ × List ℕ))) (xs ys : List Finding)
+    → AreFindings (record { files = files; rules = rules; claims = claims; patterns = patterns; work = work }) xs → AreFindings (record { files = files; rules = rules; claims = more; patterns = others; work = work }) ys
+    → AreFindings (record { files = files; rules = rules; claims = claims ++ more; patterns = patterns ++ others; work = work }) (xs ++ ys)
+findings_then files rules work claims more patterns others xs ys first second = record {
   answers = subst (AreTrueAnswers files rules (claims ++ more)) (sym (map-append (λ (f : Finding). f.answer) xs ys))
       (zip_append (IsTrueAnswer files rules) claims (answers_of xs) more (answers_of ys) first.answers second.answers);
+  within = subst (AreWithinWork files rules work (claims ++ more)) (sym (map-append (λ (f : Finding). f.answer) xs ys))
+      (zip_append (λ (c : ℕ × Claim) (a : Answer). IsWithinWork files rules work c.1 a.verdict) claims (answers_of xs) more (answers_of ys) first.within second.within);
   notes = zip_append (λ its (f : Finding). IsNote files rules its f.answer.verdict f.note) patterns xs others ys first.notes second.notes;
   given = all_append (λ (f : Finding). HasItsNote f.answer.verdict f.note) xs ys first.given second.given;
 }
 
 -- no claim was judged yet
 pub judged_none : (judging : Judging) → WereJudged judging judging []
-judged_none judging = record { files = refl; rules = refl; judged = []; claims = refl; theirs = []; patterns = refl; holds = record { answers = tt; notes = tt; given = tt } }
+judged_none judging = record { files = refl; rules = refl; work = refl; judged = []; claims = refl; theirs = []; patterns = refl; holds = record { answers = tt; within = tt; notes = tt; given = tt } }
 
 -- one was
 pub judged_one : (old new : Judging) (finding : Finding) → JudgesAndNotes old new finding.answer finding.note → HasItsNote finding.answer.verdict finding.note → WereJudged old new (finding ∷ [])
 judged_one old new finding one given = record {
   files = one.judges.files;
   rules = one.judges.rules;
+  work = one.judges.work;
   judged = one.judges.claim ∷ [];
   claims = one.judges.claims;
   theirs = one.judges.its_patterns ∷ [];
   patterns = one.judges.patterns;
-  holds = record { answers = (one.judges.holds, tt); notes = (one.noted, tt); given = (given, tt) };
+  holds = record { answers = (one.judges.holds, tt); within = (one.judges.within, tt); notes = (one.noted, tt); given = (given, tt) };
 }
 
 -- some were, and then others
@@ -66,13 +70,15 @@ pub judged_then : (old mid new : Judging) (xs ys : List Finding) → WereJudged 
 judged_then old mid new xs ys first second = record {
   files = second.files ∙ first.files;
   rules = second.rules ∙ first.rules;
+  work = second.work ∙ first.work;
   judged = first.judged ++ second.judged;
   claims = first.claims ∙ ap (λ l. first.judged ++ l) second.claims ∙ sym (append_assoc first.judged second.judged new.claims);
   theirs = first.theirs ++ second.theirs;
   patterns = first.patterns ∙ ap (λ l. first.theirs ++ l) second.patterns ∙ sym (append_assoc first.theirs second.theirs new.patterns);
-  holds = findings_then old.files old.rules first.judged second.judged first.theirs second.theirs xs ys first.holds
-      (subst (λ f. AreFindings (record { files = f; rules = old.rules; claims = second.judged; patterns = second.theirs }) ys) first.files
-      (subst (λ r. AreFindings (record { files = mid.files; rules = r; claims = second.judged; patterns = second.theirs }) ys) first.rules second.holds));
+  holds = findings_then old.files old.rules old.work first.judged second.judged first.theirs second.theirs xs ys first.holds
+      (subst (λ f. AreFindings (record { files = f; rules = old.rules; claims = second.judged; patterns = second.theirs; work = old.work }) ys) first.files
+      (subst (λ r. AreFindings (record { files = mid.files; rules = r; claims = second.judged; patterns = second.theirs; work = old.work }) ys) first.rules
+      (subst (λ w. AreFindings (record { files = mid.files; rules = mid.rules; claims = second.judged; patterns = second.theirs; work = w }) ys) first.work second.holds)));
 }
 
 -- what is printed for some claims and for one more
@@ -103,6 +109,7 @@ report_in_part old mid new style finding before between after code (text, so_far
 all_judged : (old new : Judging) (findings : List Finding) → WereJudged old new findings → NoneLeft new → AreFindings old findings
 all_judged old new findings judged none = record {
   answers = subst (λ cs. AreTrueAnswers old.files old.rules cs (answers_of findings)) (sym (judged.claims ∙ ap (λ l. judged.judged ++ l) none.claims ∙ append-nil judged.judged)) judged.holds.answers;
+  within = subst (λ cs. AreWithinWork old.files old.rules old.work cs (answers_of findings)) (sym (judged.claims ∙ ap (λ l. judged.judged ++ l) none.claims ∙ append-nil judged.judged)) judged.holds.within;
   notes = subst (λ ps. AreTrueNotes old.files old.rules ps findings) (sym (judged.patterns ∙ ap (λ l. judged.theirs ++ l) none.patterns ∙ append-nil judged.theirs)) judged.holds.notes;
   given = judged.holds.given;
 }
@@ -126,6 +133,7 @@ report_on_first old new style text (code, report) =
         findings = findings;
         holds = record {
           answers = subst (λ cs. AreTrueAnswers old.files old.rules cs (answers_of findings)) (sym (ap (take (length findings)) judged.claims ∙ front judged.judged new.claims (length findings) answers)) judged.holds.answers;
+          within = subst (λ cs. AreWithinWork old.files old.rules old.work cs (answers_of findings)) (sym (ap (take (length findings)) judged.claims ∙ front judged.judged new.claims (length findings) answers)) judged.holds.within;
           notes = subst (λ ps. AreTrueNotes old.files old.rules ps findings) (sym (ap (take (length findings)) judged.patterns ∙ front judged.theirs new.patterns (length findings) notes)) judged.holds.notes;
           given = judged.holds.given;
         };
@@ -147,7 +155,7 @@ plain_text style (finding ∷ findings) none off =
 -- so the report is a plain one
 pub plain_report : (judging : Judging) (style : ReportStyle) (text : List ℕ) (code : ℕ) → style.before.now ≡ [] → style.explained ≡ false → IsReport judging style text code → IsPlainReport judging text code
 plain_report judging style text code none off report =
-    record { answers = answers_of report.findings; holds = report.holds.answers; lines = report.lines ∙ plain_text style report.findings none off; status = report.status }
+    record { answers = answers_of report.findings; holds = report.holds.answers; within = report.holds.within; lines = report.lines ∙ plain_text style report.findings none off; status = report.status }
 
 -- and where the other claims were judged too, a part of it is one of a plain report on all
 pub plain_part : (old mid new : Judging) (style : ReportStyle) (before after : Option (List ℕ)) → style.before.now ≡ [] → style.explained ≡ false → WereAllJudged mid new
@@ -157,4 +165,4 @@ plain_part old mid new style before after none off (others, later, left) (text, 
     let all = all_judged old new findings (judged_then old mid new report.findings others report.judged later) left in
     let lines : findings_text style report.findings ++ findings_text style others ≡ answer_lines (answers_of findings) = sym (flat_map-append (finding_text style) report.findings others) ∙ plain_text style findings none off in
     let more = prefix_of_first before after (findings_text style report.findings) (findings_text style others) (subst (AppendsPrefix before after) report.lines sent) in
-    (answer_lines (answers_of findings), (_, record { answers = answers_of findings; holds = all.answers; lines = refl; status = refl }), subst (AppendsPrefix before after) lines more)
+    (answer_lines (answers_of findings), (_, record { answers = answers_of findings; holds = all.answers; within = all.within; lines = refl; status = refl }), subst (AppendsPrefix before after) lines more)

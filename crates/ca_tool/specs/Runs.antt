@@ -10,7 +10,7 @@ use Rattle.ca_rule.specs.TableNext.{TableRule}
 use Rattle.ca_rule.specs.TableFaults as table_faults
 use Rattle.ca_rule.specs.declared.table.fault.TableFault.{TableFault}
 use Rattle.ca_rule.specs.declared.table.fault.TableFault.TheVariants as table_fault
-use Rattle.ca_claims.specs.Answers.{AreTrueAnswers, IsQuietTable}
+use Rattle.ca_claims.specs.Answers.{AreTrueAnswers, AreWithinWork, IsQuietTable}
 use Rattle.ca_claims.specs.Converted.{IsSummary}
 use Rattle.ca_claims.specs.declared.verdict.Answer.{Answer}
 use Rattle.ca_claims.specs.declared.pattern.Summary.{Summary}
@@ -53,22 +53,23 @@ pub record TakesFile {R T E : Type 0} (remaining : R → Option (List ℕ)) (old
   pub failed : IsErrOf result failure → Rises old.failures new.failures
   pub kept : result ≢ Err failure → new.failures ≡ old.failures
 
--- some claims with their patterns, over the files and the rule lines of others
+-- some claims with their patterns, over the files and the rule lines of others, and with as much work
 abbrev pub with_claims : Judging → List (ℕ × Claim) → List (List (List ℕ × List ℕ)) → Judging
-with_claims judging claims patterns = record { files = judging.files; rules = judging.rules; claims = claims; patterns = patterns }
+with_claims judging claims patterns = record { files = judging.files; rules = judging.rules; claims = claims; patterns = patterns; work = judging.work }
 
--- all claims of a text, over these files
-abbrev pub all_claims : List (List ℕ × List ℕ) → ClaimText → Judging
-all_claims files asked = record { files = files; rules = asked.rules; claims = asked.claims; patterns = asked.patterns }
+-- all claims of a text, over these files, each of which may take so much work
+abbrev pub all_claims : List (List ℕ × List ℕ) → ClaimText → (work : ℕ) → Judging
+all_claims files asked work = record { files = files; rules = asked.rules; claims = asked.claims; patterns = asked.patterns; work = work }
 
 -- the first n of some claims
 abbrev pub first_claims : ℕ → Judging → Judging
 first_claims n judging = with_claims judging (take n judging.claims) (take n judging.patterns)
 
--- a plain report on these claims: the text is the lines of true answers to them, and the code is the exit status of the answers
+-- a plain report on these claims: the text is the lines of true answers to them, out of work only within what each may take, and the code is the exit status of the answers
 pub record IsPlainReport (judging : Judging) (text : List ℕ) (code : ℕ) : Type 0 where
   pub answers : List Answer
   pub holds : AreTrueAnswers judging.files judging.rules judging.claims answers
+  pub within : AreWithinWork judging.files judging.rules judging.work judging.claims answers
   pub lines : text ≡ answer_lines answers
   pub status : code ≡ status_of answers
 
@@ -80,9 +81,10 @@ answers_of findings = map (λ finding. finding.answer) findings
 abbrev pub AreTrueNotes : List (List ℕ × List ℕ) → List (List ℕ) → List (List (List ℕ × List ℕ)) → List Finding → Type 0
 AreTrueNotes files rules patterns findings = AllZip (λ its finding. IsNote files rules its finding.answer.verdict finding.note) patterns findings
 
--- findings on these claims: true answers to them, and true notes on the answers, where each verdict that has a note is given with it
+-- findings on these claims: true answers to them, out of work only within what each may take, and true notes on the answers, where each verdict that has a note is given with it
 pub record AreFindings (judging : Judging) (findings : List Finding) : Type 0 where
   pub answers : AreTrueAnswers judging.files judging.rules judging.claims (answers_of findings)
+  pub within : AreWithinWork judging.files judging.rules judging.work judging.claims (answers_of findings)
   pub notes : AreTrueNotes judging.files judging.rules judging.patterns findings
   pub given : AllByRecursion (λ finding. HasItsNote finding.answer.verdict finding.note) findings
 

@@ -38,7 +38,7 @@ pub fn verify_run<W: Write>(
 ) -> Result<u8, ToolFault>
     requires limits { AreGoodLimits limits }
     ensures answers { WritesPlainReport W.contents device.old device.new
-        (all_claims (contents files.now) claims.now) result }
+        (all_claims (contents files.now) claims.now limits.work) result }
 {
     let Ok(mut judge) = Judge::new(alloc, claims, files, limits) else {
         return Err(ToolFault::Memory);
@@ -59,7 +59,7 @@ pub fn verify_styled<W: Write>(
 ) -> Result<u8, ToolFault>
     requires limits { AreGoodLimits limits }
     ensures tells { WritesReport W.contents device.old device.new
-        (all_claims (contents files.now) claims.now) style.now result }
+        (all_claims (contents files.now) claims.now limits.work) style.now result }
 {
     verify_watched(alloc, claims, files, limits, style, device, &mut Unwatched)
 }
@@ -80,7 +80,7 @@ pub fn verify_watched<W: Write, O: Observer>(
 ) -> Result<u8, ToolFault>
     requires limits { AreGoodLimits limits }
     ensures tells { WritesReport W.contents device.old device.new
-        (all_claims (contents files.now) claims.now) style.now result }
+        (all_claims (contents files.now) claims.now limits.work) style.now result }
 {
     let Ok(mut judge) = Judge::new(alloc, claims, files, limits) else {
         return Err(ToolFault::Memory);

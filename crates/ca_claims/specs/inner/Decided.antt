@@ -18,7 +18,7 @@ BarsReturns InPlace = Unit {0}
 BarsReturns Anywhere = Unit {0}
 BarsReturns EmptyPlane = ⊥
 
--- what a claim with good numbers asks: few generations and a shift within its limits; a live pattern, where anything is barred; where a
+-- what a claim with good numbers asks: few generations and a shift within its limits; a live pattern and some generation, where anything is barred; where a
 -- return is, that its own cells stand, by a vector that is barred, and a period that isn't too long; where an empty plane is, that the
 -- plane is empty after some generations
 pub record IsBounded (asks : Asks) : Type 0 where
@@ -30,7 +30,7 @@ pub record IsBounded (asks : Asks) : Type 0 where
   pub returns : BarsReturns asks.barred → MayReturnBy asks.barred asks.dx asks.dy
   pub short : BarsReturns asks.barred → asks.generations ≤ longest_period
   pub none : asks.barred ≡ EmptyPlane → asks.wanted ≡ NoCells
-  pub some : asks.barred ≡ EmptyPlane → 1 ≤ asks.generations
+  pub some : asks.barred ≢ Nothing → 1 ≤ asks.generations
 
 -- a yes of a claim that is true, or a no with a reason, and no refusal but out of work or memory
 abbrev pub IsDecided : (List ℕ → ℕ) → Picture → Picture → Asks → Verdict → Type 0

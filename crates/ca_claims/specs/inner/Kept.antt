@@ -8,7 +8,7 @@ use Rattle.ca_claims.specs.declared.limits.Limits.{Limits}
 use Rattle.ca_claims.specs.Limited.{AreGoodLimits}
 use Rattle.ca_claims.specs.Text.{ClaimText, Claim}
 use Rattle.ca_claims.specs.Means.{bytes_at}
-use Rattle.ca_claims.specs.Answers.{IsTrueAnswer}
+use Rattle.ca_claims.specs.Answers.{IsTrueAnswer, IsWithinWork}
 use Rattle.ca_claims.specs.Judging.{Judging}
 use Rattle.ca_claims.specs.Notes.{IsNote, HasItsNote}
 use Rattle.ca_claims.specs.declared.note.Note.{Note}
@@ -25,20 +25,22 @@ pub record IsKeptOf (files : List (List ℕ × List ℕ)) (asked : ClaimText) (f
   pub within : index ≤ length asked.claims
   pub limited : AreGoodLimits limits
 
--- what is left to be judged of these files and claims, from the claim with this index on
-abbrev pub left_from : List (List ℕ × List ℕ) → ClaimText → ℕ → Judging
-left_from files asked index = record {
+-- what is left to be judged of these files and claims, from the claim with this index on, each of which may take so much work
+abbrev pub left_from : List (List ℕ × List ℕ) → ClaimText → (index work : ℕ) → Judging
+left_from files asked index work = record {
   files = files;
   rules = asked.rules;
   claims = drop index asked.claims;
   patterns = drop index asked.patterns;
+  work = work;
 }
 
 -- the answer to the claim with this index is true, and so is the note on it, which is given where the verdict has one
-pub record IsAnswerTo (files : List (List ℕ × List ℕ)) (asked : ClaimText) (index : ℕ) (answer : Answer) (note : Note) : Type 0 where
+pub record IsAnswerTo (files : List (List ℕ × List ℕ)) (asked : ClaimText) (index work : ℕ) (answer : Answer) (note : Note) : Type 0 where
   pub claim : ℕ × Claim
   pub at : slice_get asked.claims index ≡ Some claim
   pub holds : IsTrueAnswer files asked.rules claim answer
+  pub within : IsWithinWork files asked.rules work claim.1 answer.verdict
   pub patterns : List (List ℕ × List ℕ)
   pub named : slice_get asked.patterns index ≡ Some patterns
   pub noted : IsNote files asked.rules patterns answer.verdict note

@@ -83,7 +83,9 @@ disagreement_refusal (Large part) = record { cause = StateTooLarge; about = abou
 disagreement_refusal Mixed = record { cause = MixedRules; about = about.Claim }
 disagreement_refusal disagreement.Memory = record { cause = cause.Memory; about = about.Claim }
 
--- the trees are low ones in range
-pub record IsFit (prepared : Prepared) : Type 0 where
+-- the trees are low ones in range, and no work is done of so much that may be
+pub record IsFit (work : ℕ) (prepared : Prepared) : Type 0 where
   pub pattern : IsPattern prepared.leaper.nodes prepared.subject.pattern
   pub other : IsPattern prepared.leaper.nodes prepared.subject.other
+  pub fresh : prepared.leaper.spent.used ≡ 0
+  pub allowed : prepared.leaper.spent.limit ≡ work

@@ -1,15 +1,16 @@
 -- What the cause of a refusal is about.
-use Rattle.std.specs.Prelude.{ℕ, ◌<◌, List, length}
+use Rattle.std.specs.Prelude.{◌≢◌, ℕ, ◌<◌, List, length}
 use Rattle.ca_claims.specs.declared.claims.asks.Asks.{Asks}
 use Rattle.ca_claims.specs.declared.refusal.About.{About}
 use Rattle.ca_claims.specs.declared.refusal.About.TheVariants as about
 use Rattle.ca_claims.specs.declared.refusal.Refusal.{Refusal}
 use Rattle.ca_claims.specs.declared.verdict.Cause.{Cause}
+use Rattle.ca_claims.specs.declared.verdict.Cause.TheVariants.{Work}
 use Rattle.ca_claims.specs.declared.verdict.Verdict.{Verdict}
 use Rattle.ca_claims.specs.declared.verdict.Verdict.TheVariants.{Yes, No, Refused}
 use Rattle.ca_claims.specs.Text.{Claim, patterns_of}
 use Rattle.ca_claims.specs.Places.{path_at}
-use Rattle.ca_claims.specs.Answers.{HasCause, IsOfClaim, IsOfPattern, IsOfRuleFile, IsTrueVerdict}
+use Rattle.ca_claims.specs.Answers.{HasCause, IsOfClaim, IsOfPattern, IsOfRuleFile, IsTrueVerdict, IsWithinWork}
 use Rattle.ca_claims.specs.inner.Patterns.{FirstBadAt}
 
 -- the cause of a refusal is about this; `paths` are all paths of the text, `rules` those of its rule lines, and `patterns` those of the
@@ -19,9 +20,10 @@ IsOn files paths rules patterns cause about.Claim = IsOfClaim cause
 IsOn files paths rules patterns cause (about.Pattern part line) = IsOfPattern files rules cause (FirstBadAt part patterns) line
 IsOn files paths rules patterns cause (about.RuleFile place) = (place < length paths) × IsOfRuleFile files rules patterns cause (path_at paths place)
 
--- a claim that asks this of these patterns is refused for this cause, which is about this
+-- a claim that asks this of these patterns is refused for this cause, which is about this, before any work is done
 pub record IsRefusal (files : List (List ℕ × List ℕ)) (paths rules : List (List ℕ)) (asks : Asks) (patterns : List (List ℕ)) (refusal : Refusal) : Type 0 where
   pub holds : HasCause files rules asks patterns refusal.cause
+  pub idle : refusal.cause ≢ Work
   pub on : IsOn files paths rules patterns refusal.cause refusal.about
 
 -- the cause of a verdict is about this, where it is a refusal
@@ -30,7 +32,8 @@ IsOnVerdict files paths rules patterns Yes about = Unit {0}
 IsOnVerdict files paths rules patterns (No why) about = Unit {0}
 IsOnVerdict files paths rules patterns (Refused cause) about = IsOn files paths rules patterns cause about
 
--- the verdict is true, and its cause is about this
-pub record IsJudgedOn (files : List (List ℕ × List ℕ)) (paths rules : List (List ℕ)) (claim : Claim) (verdict : Verdict) (about : About) : Type 0 where
+-- the verdict is true, out of work only within the work that the claim may take, and its cause is about this
+pub record IsJudgedOn (files : List (List ℕ × List ℕ)) (paths rules : List (List ℕ)) (work : ℕ) (claim : Claim) (verdict : Verdict) (about : About) : Type 0 where
   pub holds : IsTrueVerdict files rules claim verdict
+  pub within : IsWithinWork files rules work claim verdict
   pub on : IsOnVerdict files paths rules (patterns_of claim) verdict about

@@ -9,6 +9,7 @@ use Rattle.ca_quad.specs.declared.node.Node.{Node}
 use Rattle.ca_quad.specs.declared.tree.Tree.{Tree}
 use Rattle.ca_quad.specs.Trees.{IsTree, cell}
 use Rattle.ca_quad.specs.Shifted.{shifted_cells}
+use Rattle.ca_quad.specs.Trimmed.{IsTrimmed}
 use Rattle.ca_macro.specs.Pattern.{AreInRange}
 use Rattle.ca_claims.specs.declared.claims.asks.Asks.{Asks}
 use Rattle.ca_claims.specs.declared.claims.asks.Barred.{Barred}
@@ -25,10 +26,11 @@ use Rattle.ca_claims.specs.inner.Divisors.{AreDivisors}
 abbrev pub ShowsTree : List Node → Tree → Picture → Type 0
 ShowsTree nodes tree cells = (x y : ℤ) → plane.cell cells x y ≡ cell nodes tree x y
 
--- the tree of a pattern: a low one, whose live cells are in range
+-- the tree of a pattern: a low one, no larger than it need be, whose live cells are in range
 pub record IsPattern (nodes : List Node) (tree : Tree) : Type 0 where
   pub is_tree : IsTree nodes tree
   pub low : tree.level ≤ 63
+  pub trimmed : IsTrimmed nodes tree
   pub range : AreInRange (cell nodes tree)
 
 -- a tree with no live cell outside the square of a plane

@@ -1,9 +1,12 @@
 //! When a pattern is dead before a claim's generations are over.
 
-ghost use Rattle.std.specs.Prelude.{◌≤◌, [], IfOk, MatchOption};
+ghost use Rattle.std.specs.Prelude.{◌-◌, ◌≤◌, [], IfOk, MatchOption};
 ghost use Rattle.ca_plane.specs.Plane.{Picture};
 ghost use Rattle.ca_plane.specs.Generations.{IsAfter};
 ghost use Rattle.ca_claims.specs.declared.claims.asks.Barred.TheVariants.{EmptyPlane};
+ghost use Rattle.ca_run.specs.Leaping.{LeaperGrows};
+ghost use Rattle.ca_run.specs.Spent.{EndsAtLimit};
+ghost use Rattle.ca_claims.specs.inner.Spending.{Takes};
 ghost use Rattle.ca_claims.specs.inner.Returns.{IsSparedBefore, IsFirstDeath, IsLifeSpan};
 ghost use Rattle.ca_claims.specs.inner.Subjects.{ShowsTree, BarsDeath};
 
@@ -20,11 +23,14 @@ pub(super) fn first_death<A: Automaton, O: Observer>(
     observer: &mut O,
 ) -> Result<Option<Why>, LeapFault>
     requires { BarsDeath leaper.old.nodes case.now }
-    ensures { (cells : Picture) → ShowsTree leaper.old.nodes case.now.subject.pattern cells
+    ensures why { (cells : Picture) → ShowsTree leaper.old.nodes case.now.subject.pattern cells
         → IsAfter (A.next_of leaper.old.rule) cells case.now.asks.generations []
         → IfOk result (λ why. MatchOption why
         (IsSparedBefore (A.next_of leaper.old.rule) cells EmptyPlane case.now.asks.generations)
         (IsFirstDeath (A.next_of leaper.old.rule) cells case.now.asks.generations)) }
+    ensures goes_on { LeaperGrows A leaper.old leaper.new }
+    ensures takes { Takes leaper.old.spent.used leaper.new.spent.used (case.now.asks.generations - 1) case.now.subject.pattern.level case.now.asks.generations }
+    ensures work { EndsAtLimit leaper.new.spent result }
 {
     let m = life_span(leaper, case, observer)?;
     if m == case.asks.generations {
@@ -46,6 +52,9 @@ fn life_span<A: Automaton, O: Observer>(
     ensures span { (cells : Picture) → ShowsTree leaper.old.nodes case.now.subject.pattern cells
         → IsAfter (A.next_of leaper.old.rule) cells case.now.asks.generations []
         → IfOk result (IsLifeSpan (A.next_of leaper.old.rule) cells) }
+    ensures goes_on { LeaperGrows A leaper.old leaper.new }
+    ensures takes { Takes leaper.old.spent.used leaper.new.spent.used (case.now.asks.generations - 1) case.now.subject.pattern.level case.now.asks.generations }
+    ensures work { EndsAtLimit leaper.new.spent result }
 {
     // Says what holds of every leaper.
     let _ = leaper.store();

@@ -1,10 +1,12 @@
 //! When a pattern is there again before a claim's generations are over.
 
-ghost use Rattle.std.specs.Prelude.{◌≡◌, ◌≢◌, ◌≤◌, ◌^◌, ℤ, ◌-ℤ◌, IfOk, MatchOption};
+ghost use Rattle.std.specs.Prelude.{◌≡◌, ◌≢◌, ◌-◌, ◌≤◌, ◌^◌, ℤ, ◌-ℤ◌, IfOk, MatchOption};
 ghost use Rattle.ca_plane.specs.Plane.{Picture, shifted};
 ghost use Rattle.ca_plane.specs.Generations.{IsAfter};
 ghost use Rattle.ca_quad.specs.Trees.{cell};
 ghost use Rattle.ca_run.specs.Leaping.{LeaperGrows};
+ghost use Rattle.ca_run.specs.Spent.{EndsAtLimit};
+ghost use Rattle.ca_claims.specs.inner.Spending.{Takes};
 ghost use Rattle.ca_claims.specs.Text.{IsShift};
 ghost use Rattle.ca_claims.specs.Truth.{MayReturnBy, ShowsNothingBarred};
 ghost use Rattle.ca_claims.specs.inner.Returns.{IsSparedBefore, IsFirstReturn, IsWide};
@@ -29,12 +31,15 @@ pub(super) fn first_return<A: Automaton, O: Observer>(
     observer: &mut O,
 ) -> Result<Option<Why>, LeapFault>
     requires { BarsReturn leaper.old.nodes case.now }
-    ensures { (cells : Picture) → ShowsTree leaper.old.nodes case.now.subject.pattern cells → (u v : ℤ)
+    ensures why { (cells : Picture) → ShowsTree leaper.old.nodes case.now.subject.pattern cells → (u v : ℤ)
         → MayReturnBy case.now.asks.barred u v
         → IsAfter (A.next_of leaper.old.rule) cells case.now.asks.generations (shifted cells u v)
         → IfOk result (λ why. MatchOption why
         (IsSparedBefore (A.next_of leaper.old.rule) cells case.now.asks.barred case.now.asks.generations)
         (IsFirstReturn (A.next_of leaper.old.rule) cells case.now.asks.barred case.now.asks.generations)) }
+    ensures goes_on { LeaperGrows A leaper.old leaper.new }
+    ensures takes { Takes leaper.old.spent.used leaper.new.spent.used (case.now.asks.generations - 1) case.now.subject.pattern.level case.now.asks.generations }
+    ensures work { EndsAtLimit leaper.new.spent result }
 {
     // Says what holds of every leaper.
     let _ = leaper.store();
@@ -64,6 +69,8 @@ fn return_at<A: Automaton, O: Observer>(
         (ShowsNothingBarred (A.next_of leaper.old.rule) cells case.now.asks.barred m)
         (IsBackBy (A.next_of leaper.old.rule) cells case.now.asks.barred m)) }
     ensures goes_on { LeaperGrows A leaper.old leaper.new }
+    ensures takes { Takes leaper.old.spent.used leaper.new.spent.used 1 case.now.subject.pattern.level m }
+    ensures work { EndsAtLimit leaper.new.spent result }
 {
     // Says what holds of every leaper.
     let _ = leaper.store();
@@ -90,6 +97,8 @@ fn vector_if_same<A: Automaton>(
         (λ v. (v.0 ≡ dx) × (v.1 ≡ dy)
         × ((x y : ℤ) → cell leaper.old.nodes end x y ≡ cell leaper.old.nodes moved x y))) }
     ensures goes_on { LeaperGrows A leaper.old leaper.new }
+    ensures spent { leaper.new.spent ≡ leaper.old.spent }
+    ensures work { EndsAtLimit leaper.new.spent result }
 {
     match leaper.difference(end, moved)? {
         None => Ok(Some((dx, dy))),
@@ -110,6 +119,8 @@ fn return_anywhere<A: Automaton>(
     ensures back { IfOk result (λ back. MatchOption back (IsNoMove leaper.old.nodes end pattern)
         (λ v. IsMove leaper.old.nodes end pattern v.0 v.1)) }
     ensures goes_on { LeaperGrows A leaper.old leaper.new }
+    ensures spent { leaper.new.spent ≡ leaper.old.spent }
+    ensures work { EndsAtLimit leaper.new.spent result }
 {
     let store = leaper.store();
     let Some((dx, dy)) = corner_vector(alloc, store, copy(&end), copy(&pattern))? else {

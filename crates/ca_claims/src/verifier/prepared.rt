@@ -56,7 +56,7 @@ pub(crate) fn prepare<'a, 't>(
         → map option_copied found.now ≡ map (bytes_at files) paths → AreRead files paths rules tables.now
         → MatchResult result (IsPrepared files rules asks (map (path_at paths) (items places.now)))
         (IsRefusal files paths rules asks (map (path_at paths) (items places.now))) }
-    ensures fit { IfOk result IsFit }
+    ensures fit { IfOk result (IsFit limits.work) }
 {
     let files = match files_at(places, found) {
         Ok(files) => files,
@@ -81,7 +81,7 @@ fn prepare_by<'a, 't>(
         → AllZip (λ path b. bytes_at files path ≡ Some b.now) each (items there.now)
         → AreTables files rules tables.now
         → MatchResult result (IsPrepared files rules asks each) (IsRefusal files paths rules asks each) }
-    ensures fit { IfOk result IsFit }
+    ensures fit { IfOk result (IsFit limits.work) }
 {
     let mut store = Store::new(alloc);
     let patterns = match read_each(alloc, library, &mut store, there) {

@@ -11,6 +11,7 @@ use Rattle.ca_tool.specs.Runs.{with_claims, answers_of, AreFindings}
 pub record WereJudged (old new : Judging) (findings : List Finding) : Type 0 where
   pub files : new.files ≡ old.files
   pub rules : new.rules ≡ old.rules
+  pub work : new.work ≡ old.work
   pub judged : List (ℕ × Claim)
   pub claims : old.claims ≡ judged ++ new.claims
   pub theirs : List (List (List ℕ × List ℕ))

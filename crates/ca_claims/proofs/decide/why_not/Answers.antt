@@ -1,15 +1,16 @@
-use Rattle.std.proofs.Common.{refl}
+use Rattle.std.proofs.Common.{◌-◌, refl}
 use Rattle.ca_claims.proofs.Leapt.{bars_stays, death_stays}
 use Rattle.ca_claims.proofs.Reasoned.{live_case, death_is_some, bars_returns, difference_reason, true_at_once, by_death, by_return}
+use Rattle.ca_claims.proofs.Spending.{takes_fewer, takes_then, some_runs, all_runs}
 use Rattle.ca_claims.proofs.decide.why_not.Goals as goal
 
-pub returns-in-Some : goal.returns-in-Some
-returns-in-Some g c = λ cells other shown.
+pub returns-in-Some-clause-why : goal.returns-in-Some-clause-why
+returns-in-Some-clause-why g c = λ cells other shown.
     difference_reason (g.A.Automaton.next_of c.args.leaper.now.rule) cells other c.args.case.now.asks
     (live_case c.args.leaper.now.nodes c.args.case.now cells other shown (c.if-is_wrongly_dead.ensures.live refl)) c.in-Some.why (rw c.in-Some.is at (c.in_ok-why.ensures.wrong cells other shown))
 
-pub returns-in-Nothing : goal.returns-in-Nothing
-returns-in-Nothing g c = λ cells other shown.
+pub returns-in-Nothing-clause-why : goal.returns-in-Nothing-clause-why
+returns-in-Nothing-clause-why g c = λ cells other shown.
     true_at_once (g.A.Automaton.next_of c.args.leaper.now.rule) cells other c.args.case.now.asks
     (live_case c.args.leaper.now.nodes c.args.case.now cells other shown (c.if-is_wrongly_dead.ensures.live refl)) (rw c.in_default.is at (c.in_ok-why.ensures.wrong cells other shown)) c.in-Nothing.is
 
@@ -19,10 +20,10 @@ first_death-requires g c =
     death_stays c.args.leaper.now.nodes c.find_wrong_cell.new.leaper.nodes c.store.ensures.sound c.in_ok-why.ensures.goes_on.grows c.args.case.now
     (record { subject = c.requires; barred = barred; live = c.if-is_wrongly_dead.ensures.live refl (c.requires.bounded.live (death_is_some c.args.case.now.asks.barred barred)) })
 
-pub returns-in-EmptyPlane : goal.returns-in-EmptyPlane
-returns-in-EmptyPlane g c = λ cells other shown.
+pub returns-in-EmptyPlane-clause-why : goal.returns-in-EmptyPlane-clause-why
+returns-in-EmptyPlane-clause-why g c = λ cells other shown.
     by_death g.A.Automaton.next_of _ _ c.in_ok-why.ensures.goes_on.rule _ _ c.store.ensures.sound c.in_ok-why.ensures.goes_on.grows c.args.case.now c.requires
-    (c.if-is_wrongly_dead.ensures.live refl) cells other shown (rw c.in_default.is at (c.in_ok-why.ensures.wrong cells other shown)) c.first_death.result c.in-EmptyPlane.is c.first_death.ensures
+    (c.if-is_wrongly_dead.ensures.live refl) cells other shown (rw c.in_default.is at (c.in_ok-why.ensures.wrong cells other shown)) c.first_death.result c.in-EmptyPlane.is c.first_death.ensures.why
 
 pub first_return-requires : goal.first_return-requires
 first_return-requires g c =
@@ -31,8 +32,24 @@ first_return-requires g c =
     bars_stays c.args.leaper.now.nodes c.find_wrong_cell.new.leaper.nodes c.store.ensures.sound c.in_ok-why.ensures.goes_on.grows c.args.case.now
     (record { subject = c.requires; barred = bars_returns asks.barred other.not-Nothing other.not-EmptyPlane; live = c.if-is_wrongly_dead.ensures.live refl (c.requires.bounded.live other.not-Nothing) })
 
-pub returns-in_default-barred : goal.returns-in_default-barred
-returns-in_default-barred g c = λ cells other shown.
+pub returns-in_default-barred-clause-why : goal.returns-in_default-barred-clause-why
+returns-in_default-barred-clause-why g c = λ cells other shown.
     by_return g.A.Automaton.next_of _ _ c.in_ok-why.ensures.goes_on.rule _ _ c.store.ensures.sound c.in_ok-why.ensures.goes_on.grows c.args.case.now c.requires
     (c.if-is_wrongly_dead.ensures.live refl) cells other shown (rw c.in_default.is at (c.in_ok-why.ensures.wrong cells other shown)) c.first_return.result
-    c.in_default-barred.not-Nothing c.in_default-barred.not-EmptyPlane c.first_return.ensures
+    c.in_default-barred.not-Nothing c.in_default-barred.not-EmptyPlane c.first_return.ensures.why
+
+pub returns-in_err-why-clause-takes : goal.returns-in_err-why-clause-takes
+returns-in_err-why-clause-takes g c =
+    let asks = c.args.case.now.asks in
+    takes_fewer _ _ 1 _ c.args.case.now.subject.pattern.level asks.generations (some_runs asks.barred asks.generations c.requires.bounded.some) c.find_wrong_cell.ensures.takes
+
+pub returns-in-Some-clause-takes : goal.returns-in-Some-clause-takes
+returns-in-Some-clause-takes g c =
+    let asks = c.args.case.now.asks in
+    takes_fewer _ _ 1 _ c.args.case.now.subject.pattern.level asks.generations (some_runs asks.barred asks.generations c.requires.bounded.some) c.find_wrong_cell.ensures.takes
+
+pub returns-in_default-barred-clause-takes : goal.returns-in_default-barred-clause-takes
+returns-in_default-barred-clause-takes g c =
+    let asks = c.args.case.now.asks in
+    takes_then _ _ _ _ c.args.case.now.subject.pattern.level asks.generations 1 (asks.generations - 1) (all_runs asks.barred asks.generations c.in_default-barred.not-Nothing c.requires.bounded.some)
+    c.find_wrong_cell.ensures.takes c.first_return.ensures.takes

@@ -26,6 +26,7 @@ returns g c = λ files e read.
       claim = (c.claim-asked.result.line, claim);
       at = c.claim-asked.ensures.claim;
       holds = (refl, judged.holds);
+      within = judged.within;
       patterns = map (named_path paths) (items c.patterns.result);
       named = c.patterns.ensures.patterns;
       noted = noted.0;

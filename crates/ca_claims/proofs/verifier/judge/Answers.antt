@@ -7,6 +7,8 @@ use Rattle.ca_claims.specs.Places.{path_at}
 use Rattle.ca_claims.specs.Means.{bytes_at}
 use Rattle.ca_claims.specs.declared.refusal.About.TheVariants.{Claim}
 use Rattle.ca_claims.specs.declared.verdict.Verdict.TheVariants.{Refused}
+use Rattle.ca_claims.specs.declared.verdict.Cause.TheVariants.{Work}
+use Rattle.ca_claims.specs.Limited.{IsNoMoreThan}
 use Rattle.ca_claims.specs.Answers.{HasCause}
 use Rattle.ca_claims.specs.inner.Refusals.{IsJudgedOn}
 use Rattle.ca_claims.specs.inner.Patterns.{items}
@@ -28,15 +30,16 @@ returns-in_err-prepared g c = λ files paths rules e read.
     let once = once_paths paths c.args.claim.now (items c.places_of-places.result) c.places_of-places.ensures in
     let refusal = c.in_err-prepared.field-0.0 in
     let refused = c.in_err-prepared.ensures.prepared files paths rules (subst (λ l. map option_copied l ≡ map (bytes_at files) paths) (sym c.deref.ensures.value) e) read in
-    passed_on (λ verdict. IsJudgedOn files paths rules claim verdict Claim) (λ r. IsJudgedOn files paths rules claim (Refused r.cause) r.about) c.from_residual.result refusal c.from_residual.ensures.1
+    passed_on (λ verdict. IsJudgedOn files paths rules c.args.limits.work claim verdict Claim) (λ r. IsJudgedOn files paths rules c.args.limits.work claim (Refused r.cause) r.about) c.from_residual.result refusal c.from_residual.ensures.1
     (record {
       holds = subst (λ asks. HasCause files rules asks (patterns_of claim) refusal.cause) c.asks-asks.ensures (cause_of_all files rules c.asks-asks.result each (patterns_of claim) refusal.cause once refused.holds);
+      within = λ out. let is : refusal.cause ≡ Work = cc in absurd (refused.idle is);
       on = on_all files rules paths each (patterns_of claim) once refusal.cause refusal.about refused.on;
     })
 
 pub decide_on-requires : goal.decide_on-requires
 decide_on-requires g c =
-    is_subject c.args.claim.now.kind c.asks-asks.result c.in_ok-prepared.prepared c.asks-asks.ensures c.requires.numbers c.in_ok-prepared.ensures.fit
+    is_subject c.args.limits.work c.args.claim.now.kind c.asks-asks.result c.in_ok-prepared.prepared c.asks-asks.ensures c.requires.numbers c.in_ok-prepared.ensures.fit
 
 pub returns : goal.returns
 returns g c = λ files paths rules e read.
@@ -45,5 +48,8 @@ returns g c = λ files paths rules e read.
     let once = once_paths paths claim (items c.places_of-places.result) c.places_of-places.ensures in
     let prepared = c.in_ok-prepared.prepared in
     let is = subst (λ asks. IsPrepared files rules asks each prepared) c.asks-asks.ensures (c.in_ok-prepared.ensures.prepared files paths rules (subst (λ l. map option_copied l ≡ map (bytes_at files) paths) (sym c.deref.ensures.value) e) read) in
-    true_verdict files rules paths claim each prepared c.decide_on.result once is
-    (subst (λ asks. IsDecided (next_of (rule_value prepared.leaper.rule)) is.cells is.other asks c.decide_on.result) c.asks-asks.ensures (c.decide_on.ensures is.cells is.other is.shown))
+    let fit = c.in_ok-prepared.ensures.fit in
+    true_verdict files rules paths c.args.limits.work claim each prepared c.decide_on.result once is fit
+    (λ out. subst (λ asks. IsNoMoreThan c.args.limits.work asks prepared.subject.pattern.level) c.asks-asks.ensures
+    (subst (λ work. IsNoMoreThan work c.asks-asks.result prepared.subject.pattern.level) fit.allowed (c.decide_on.ensures.work fit.fresh out)))
+    (subst (λ asks. IsDecided (next_of (rule_value prepared.leaper.rule)) is.cells is.other asks c.decide_on.result) c.asks-asks.ensures (c.decide_on.ensures.decided is.cells is.other is.shown))

@@ -5,7 +5,7 @@ use Rattle.ca_claims.proofs.verifier.verify.Given as goal
 
 -- the claims that are judged have true answers, and the others are left
 abbrev pub invariant-claims : goal.invariant-claims
-invariant-claims l = IsAnswered (contents l.fn.files) l.fn.claims.rules l.fn.claims.claims l.judge l.answers.items
+invariant-claims l = IsAnswered (contents l.fn.files) l.fn.claims.rules l.fn.limits.work l.fn.claims.claims l.judge l.answers.items
 
 abbrev pub decreases-claims : goal.decreases-claims
 decreases-claims l = length l.judge.claims

@@ -1,6 +1,7 @@
-use Rattle.std.proofs.Common.{refl}
+use Rattle.std.proofs.Common.{◌-◌, refl, arith}
 use Rattle.ca_run.proofs.Shown.{goes_on_again}
 use Rattle.ca_claims.proofs.Leapt.{pattern_stays}
+use Rattle.ca_claims.proofs.Spending.{takes_one_more, takes_fewer}
 use Rattle.ca_claims.proofs.LifeSpans.{dead_by_middle, lives_at_middle, span_found}
 use Rattle.ca_claims.proofs.decide.deaths.life_span.Goals as goal
 
@@ -13,6 +14,7 @@ halves-preserved-then-is_dead g c = record {
   goes_on = goes_on_again _ c.args.leaper.now c.halves.leaper c.tree_after.new.leaper c.halves.invariant.goes_on c.in_ok-plane.ensures.goes_on;
   bounds = dead_by_middle g.A.Automaton.next_of _ _ c.halves.invariant.goes_on.rule _ _ _ _ _ c.store.ensures.sound c.halves.invariant.goes_on.grows c.store-in-halves.ensures.nodes
       c.requires _ _ c.halves.invariant.bounds c.halves-test.true _ c.in_ok-plane.ensures.end (c.if-is_dead.ensures.dead refl);
+  takes = takes_one_more _ _ _ _ c.args.case.now.subject.pattern.level c.args.case.now.asks.generations _ _ (omega (arith, c.halves-test.true, c.halves.invariant.bounds.order, c.halves.invariant.bounds.within)) (omega (arith, c.halves-test.true, c.halves.invariant.bounds.order, c.halves.invariant.bounds.within)) c.halves.invariant.takes c.in_ok-plane.ensures.takes;
 }
 
 pub halves-preserved : goal.halves-preserved
@@ -20,9 +22,16 @@ halves-preserved g c = record {
   goes_on = goes_on_again _ c.args.leaper.now c.halves.leaper c.tree_after.new.leaper c.halves.invariant.goes_on c.in_ok-plane.ensures.goes_on;
   bounds = lives_at_middle g.A.Automaton.next_of _ _ c.halves.invariant.goes_on.rule _ _ _ _ _ c.store.ensures.sound c.halves.invariant.goes_on.grows c.store-in-halves.ensures.nodes
       c.requires _ _ c.halves.invariant.bounds c.halves-test.true _ c.in_ok-plane.ensures.end (c.if-is_dead.ensures.live refl);
+  takes = takes_one_more _ _ _ _ c.args.case.now.subject.pattern.level c.args.case.now.asks.generations _ _ (omega (arith, c.halves-test.true, c.halves.invariant.bounds.order, c.halves.invariant.bounds.within)) (omega (arith, c.halves-test.true, c.halves.invariant.bounds.order, c.halves.invariant.bounds.within)) c.halves.invariant.takes c.in_ok-plane.ensures.takes;
 }
 
 pub returns-clause-span : goal.returns-clause-span
 returns-clause-span g c = λ cells shows empty.
     span_found (g.A.Automaton.next_of c.args.leaper.now.rule) c.args.leaper.now.nodes c.args.case.now (g.met.A.Automaton.quiet c.args.leaper.now.rule c.store.ensures.rule)
     c.halves.low c.halves.high c.halves.invariant.bounds c.halves-test.false cells shows empty
+
+pub returns-in_err-plane-clause-takes : goal.returns-in_err-plane-clause-takes
+returns-in_err-plane-clause-takes g c = takes_one_more _ _ _ _ c.args.case.now.subject.pattern.level c.args.case.now.asks.generations _ _ (omega (arith, c.halves-test.true, c.halves.invariant.bounds.order, c.halves.invariant.bounds.within)) (omega (arith, c.halves-test.true, c.halves.invariant.bounds.order, c.halves.invariant.bounds.within)) c.halves.invariant.takes c.tree_after.ensures.takes
+
+pub returns-clause-takes : goal.returns-clause-takes
+returns-clause-takes g c = takes_fewer _ _ _ (c.args.case.now.asks.generations - 1) c.args.case.now.subject.pattern.level c.args.case.now.asks.generations (omega (arith, c.halves-test.false, c.halves.invariant.bounds.order)) c.halves.invariant.takes

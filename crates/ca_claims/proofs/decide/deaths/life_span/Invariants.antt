@@ -1,13 +1,15 @@
 use Rattle.std.proofs.Common.{◌-◌}
 use Rattle.ca_run.specs.Leaping.{LeaperGrows}
+use Rattle.ca_claims.specs.inner.Spending.{Takes}
 use Rattle.ca_claims.specs.inner.Subjects.{AreLifeBounds}
 use Rattle.ca_claims.proofs.decide.deaths.life_span.Given as goal
 
--- times between which the pattern dies
+-- times between which the pattern dies, and what it took to find them
 abbrev pub invariant-halves : goal.invariant-halves
 invariant-halves g l = record {
   goes_on : LeaperGrows _ l.fn.leaper l.leaper;
   bounds : AreLifeBounds (g.A.Automaton.next_of l.fn.leaper.rule) l.fn.leaper.nodes l.fn.case l.low l.high;
+  takes : Takes l.fn.leaper.spent.used l.leaper.spent.used (l.fn.case.asks.generations - (l.high - l.low)) l.fn.case.subject.pattern.level l.fn.case.asks.generations;
 }
 
 abbrev pub decreases-halves : goal.decreases-halves

@@ -4,6 +4,7 @@ use Rattle.ca_run.proofs.Shown.{goes_on_again}
 use Rattle.ca_claims.specs.inner.Subjects.{HasLive, IsPattern, IsNearTree}
 use Rattle.ca_claims.proofs.Leapt.{bars_stays, copy_shows, near_pattern, near_stays, pattern_stays, ok_as}
 use Rattle.ca_claims.proofs.DividedReturns.{back_here, back_there}
+use Rattle.ca_claims.proofs.Spending.{takes_before}
 use Rattle.ca_claims.proofs.decide.returns.return_at.Goals as goal
 
 pub return_anywhere-requires-clause-pattern : goal.return_anywhere-requires-clause-pattern
@@ -45,4 +46,6 @@ returns-in_default g c = record {
       (copy_shows _ _ c.store.ensures.sound c.in_ok-end.ensures.goes_on.grows _ _ cells c.copy-pattern.ensures c.requires.case.subject.pattern.is_tree shows) back c.in_default.not-Anywhere told)
       c.vector_if_same.ensures.back;
   goes_on = goes_on_again _ c.args.leaper.now c.tree_after.new.leaper c.vector_if_same.new.leaper c.in_ok-end.ensures.goes_on c.vector_if_same.ensures.goes_on;
+  takes = takes_before _ _ _ 1 c.args.case.now.subject.pattern.level c.args.m c.vector_if_same.ensures.spent c.in_ok-end.ensures.takes;
+  work = c.vector_if_same.ensures.work;
 }

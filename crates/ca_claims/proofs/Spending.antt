@@ -1,0 +1,90 @@
+-- How what calls take of a leaper's work adds up.
+use Rattle.std.proofs.Common.{◌≡◌, ◌≢◌, ℕ, ◌+◌, ◌-◌, ◌*◌, ◌<◌, ◌≤◌, ◌^◌, inl, inr, List, refl, sym, ap, ◌∙◌, arith}
+use Rattle.std.proofs.Math.Nat.{mul-le-mul_left, mul-le-mul_right}
+use Rattle.ca_plane.specs.Plane.{Picture, cell}
+use Rattle.ca_quad.specs.declared.node.Node.{Node}
+use Rattle.ca_quad.specs.declared.tree.Tree.{Tree}
+use Rattle.ca_quad.specs.Trimmed.{HoldsAll, IsTrimmed}
+use Rattle.ca_quad.proofs.Growth.{below_or_not}
+use Rattle.ca_run.specs.Costs.{Costs}
+use Rattle.ca_run.specs.Leaping.{LeaperView}
+use Rattle.ca_run.specs.Spent.{Spent}
+use Rattle.ca_run.proofs.Costs.{power_more}
+use Rattle.ca_claims.specs.declared.claims.asks.Asks.{Asks}
+use Rattle.ca_claims.specs.declared.claims.asks.Barred.{Barred}
+use Rattle.ca_claims.specs.declared.claims.asks.Barred.TheVariants.{Nothing, InPlace, Anywhere, EmptyPlane}
+use Rattle.ca_claims.specs.Limited.{most_runs, IsNoMoreThan, MayBeUsedUp}
+use Rattle.ca_claims.specs.inner.Subjects.{ShowsTree}
+use Rattle.ca_claims.specs.inner.Spending.{Takes}
+
+-- one run
+pub takes_one : {Rule : Type 0} (old new : LeaperView Rule) (level n : ℕ) → ((d : ℕ) → n < 2 ^ d → Costs Rule old new (14 ^ (level + d + 2)) 1048576) → Takes old.spent.used new.spent.used 1 level n
+takes_one old new level n costs d less =
+    let most = (costs d less).most in
+    omega (arith, most)
+
+-- none
+pub takes_none : (old new : Spent) (runs level n : ℕ) → new ≡ old → Takes old.used new.used runs level n
+takes_none old new runs level n same d less =
+    let used : new.used ≡ old.used = ap (λ (s : Spent). s.used) same in
+    omega (arith, used)
+
+module _ (old mid new runs level n : ℕ) where
+  -- some after others
+  pub takes_then : (i j : ℕ) → i + j ≤ runs → Takes old mid i level n → Takes mid new j level n → Takes old new runs level n
+  takes_then i j few before now d less =
+      let power = 14 ^ (level + d + 2) in
+      let a = before d less in
+      let b = now d less in
+      let sum : i * power + j * power ≡ (i + j) * power = omega arith in
+      let most : (i + j) * power ≤ runs * power = mul-le-mul_right power few in
+      omega (arith, a, b, sum, most)
+
+  -- one run more, of fewer generations
+  pub takes_one_more : (i m : ℕ) → i + 1 ≤ runs → m ≤ n → Takes old mid i level n → Takes mid new 1 level m → Takes old new runs level n
+  takes_one_more i m few sooner before now = takes_then i 1 few before (λ d less. now d (omega (arith, sooner, less)))
+
+-- more may be allowed
+pub takes_fewer : (old new i runs level n : ℕ) → i ≤ runs → Takes old new i level n → Takes old new runs level n
+takes_fewer old new i runs level n few takes d less =
+    let power = 14 ^ (level + d + 2) in
+    let most : i * power ≤ runs * power = mul-le-mul_right power few in
+    let a = takes d less in
+    omega (arith, a, most)
+
+-- and then nothing
+pub takes_before : (old : ℕ) (mid new : Spent) (runs level n : ℕ) → new ≡ mid → Takes old mid.used runs level n → Takes old new.used runs level n
+takes_before old mid new runs level n same takes d less =
+    let used : new.used ≡ mid.used = ap (λ (s : Spent). s.used) same in
+    let most = takes d less in
+    omega (arith, used, most)
+
+-- what is no more than a tree may need is no more than a larger one may
+larger : (work : ℕ) (asks : Asks) (low level : ℕ) → low ≤ level → IsNoMoreThan work asks low → IsNoMoreThan work asks level
+larger work asks low level more most d less =
+    let runs = most_runs asks.barred asks.generations in
+    let power = power_more (low + d + 2) (level + d + 2) (omega (arith, more)) in
+    let all : runs * 14 ^ (low + d + 2) ≤ runs * 14 ^ (level + d + 2) = mul-le-mul_left runs power in
+    let few = most d less in
+    omega (arith, few, all)
+
+-- no level that holds the cells of a trimmed tree is below its own
+pub used_up : (nodes : List Node) (tree : Tree) (cells : Picture) (work : ℕ) (asks : Asks) → IsTrimmed nodes tree → ShowsTree nodes tree cells → IsNoMoreThan work asks tree.level → MayBeUsedUp work asks (cell cells)
+used_up nodes tree cells work asks trimmed shows most level some holds = elim (below_or_not level tree.level) [
+  | inl less ↦ absurd (trimmed level some less (λ x y live. holds x y (λ none. live (sym (shows x y) ∙ none))))
+  | inr high ↦ larger work asks tree.level level high most
+]
+
+-- a claim takes one run at least
+pub some_runs : (barred : Barred) (n : ℕ) → (barred ≢ Nothing → 1 ≤ n) → 1 ≤ most_runs barred n
+some_runs Nothing n some = omega arith
+some_runs InPlace n some = some (λ e. cc)
+some_runs Anywhere n some = some (λ e. cc)
+some_runs EmptyPlane n some = some (λ e. cc)
+
+-- and where something is barred, one and one for each earlier time
+pub all_runs : (barred : Barred) (n : ℕ) → barred ≢ Nothing → (barred ≢ Nothing → 1 ≤ n) → 1 + (n - 1) ≤ most_runs barred n
+all_runs Nothing n other some = absurd (other refl)
+all_runs InPlace n other some = let least = some other in omega (arith, least)
+all_runs Anywhere n other some = let least = some other in omega (arith, least)
+all_runs EmptyPlane n other some = let least = some other in omega (arith, least)
