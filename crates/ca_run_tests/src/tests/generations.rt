@@ -127,14 +127,15 @@ fn generations_by_steps(rt: HostRuntime) -> Result<(), Fail> {
     Ok(())
 }
 
-/// Cells scattered over 400 rows of 700 columns, three of eight.
-fn scattered(alloc: Global) -> Result<Vec<Cell>, Memory> {
+/// Cells scattered over so many places in rows of so many columns, three of eight.
+fn scattered(alloc: Global, places: u32, columns: u32) -> Result<Vec<Cell>, Memory> {
     let mut cells = Vec::new(alloc);
     let mut mixed = 1u32;
-    'cells: for number in 0..280_000u32 {
+    let columns = columns.max(1);
+    'cells: for number in 0..places {
         mixed = mixed.wrapping_mul(1664525).wrapping_add(1013904223);
         if mixed >> 29 < 3 {
-            cells.push((i64::from(number / 700), i64::from(number % 700), 1))?;
+            cells.push((i64::from(number / columns), i64::from(number % columns), 1))?;
         }
     }
     Ok(cells)
@@ -167,7 +168,7 @@ fn leaps_are_steps(alloc: Global, plane: &Plane) -> Result<bool, LeapFault> {
 
 #[test]
 fn a_hundred_thousand_cells_leap(rt: HostRuntime) -> Result<(), Fail> {
-    let plane = plane_of(rt.alloc(), &scattered(rt.alloc())?)?;
+    let plane = plane_of(rt.alloc(), &scattered(rt.alloc(), 280_000, 700)?)?;
     expect(&rt, plane.len() > 100_000, "a hundred thousand cells");
     let found = leaps_are_steps(rt.alloc(), &plane);
     expect(&rt, found == Ok(true), "leaps beside steps");
@@ -221,6 +222,80 @@ fn nothing_comes_of_nothing(alloc: Global) -> Result<bool, LeapFault> {
 fn an_empty_plane_needs_no_work(rt: HostRuntime) {
     let found = nothing_comes_of_nothing(rt.alloc());
     expect(&rt, found == Ok(true), "an empty plane without work");
+}
+
+/// How much a leaper that may do so much work uses up for n generations of a plane, and how many squares it adds.
+fn spent_by(alloc: Global, plane: &Plane, n: u64, work: u64) -> Result<(u64, usize), LeapFault> {
+    let mut leaper = Leaper::new(alloc, Store::new(alloc), Life, 262144, work)?;
+    let tree = leaper.load_plane(plane)?;
+    let before = leaper.store().count();
+    let _end = leaper.advance(tree, n.min(1 << 60))?;
+    let after = leaper.store().count();
+    Ok((leaper.used(), after.saturating_sub(before)))
+}
+
+/// Generations of a soup of 100 by 100 cells, which is stepped brick by brick, how much work may be done, and how much is
+/// used up at least, where that is enough. No two bricks hold it, and the tree that is made of them at the end takes some
+/// hundred units alone.
+const SOUPS: &[(u64, u64, Result<u64, LeapFault>)] = &[
+    (40, u64::MAX, Ok(800)),
+    (40, 800, Err(LeapFault::Work)),
+    (1000, u64::MAX, Ok(20000)),
+    (1000, 20000, Err(LeapFault::Work)),
+    (40, 0, Err(LeapFault::Work)),
+];
+
+/// Whether at least so much is used up, or there is the same fault.
+fn is_spent(found: &Result<(u64, usize), LeapFault>, wanted: &Result<u64, LeapFault>) -> bool {
+    match (found, wanted) {
+        (Ok((used, _)), Ok(least)) => used >= least,
+        (Err(fault), Err(other)) => fault == other,
+        (_, _) => false,
+    }
+}
+
+#[test]
+fn bricks_are_counted(rt: HostRuntime) -> Result<(), Fail> {
+    let plane = plane_of(rt.alloc(), &scattered(rt.alloc(), 10_000, 100)?)?;
+    'soups: for (n, work, wanted) in SOUPS {
+        let found = spent_by(rt.alloc(), &plane, *n, *work);
+        expect(&rt, is_spent(&found, wanted), "the work of a soup");
+    }
+    Ok(())
+}
+
+const R_PENTOMINO: &[Cell] = &[(0, 1, 1), (0, 2, 1), (1, 0, 1), (1, 1, 1), (2, 1, 1)];
+
+#[test]
+fn squares_are_made_by_work(rt: HostRuntime) -> Result<(), Fail> {
+    let plane = plane_of(rt.alloc(), R_PENTOMINO)?;
+    let holds = match spent_by(rt.alloc(), &plane, 4096, u64::MAX) {
+        Ok((used, made)) => made as u64 <= used.saturating_mul(4096).saturating_add(1 << 20),
+        Err(_) => false,
+    };
+    expect(&rt, holds, "squares that work adds");
+    Ok(())
+}
+
+/// Whether a glider's leap comes to what it has to, and where it is refused memory, when it is asked for again.
+fn goes_on(alloc: Global) -> Result<bool, LeapFault> {
+    let plane = plane_of(alloc, GLIDER)?;
+    let later = plane_of(alloc, GLIDER_64)?;
+    let mut leaper = Leaper::new(alloc, Store::new(alloc), Life, 262144, u64::MAX)?;
+    match leaps_to(&mut leaper, &plane, 64, &later) {
+        Err(LeapFault::Memory) => leaps_to(&mut leaper, &plane, 64, &later),
+        found => found,
+    }
+}
+
+/// `tests/refused_leaps.py` runs it with each of its allocations refused: before there is a leaper, all is begun anew.
+#[test]
+fn a_refused_leap_goes_on(rt: HostRuntime) {
+    let found = match goes_on(rt.alloc()) {
+        Err(LeapFault::Memory) => goes_on(rt.alloc()),
+        found => found,
+    };
+    expect(&rt, found == Ok(true), "a leap after a refusal");
 }
 
 /// The masks of Conway's game of life.
