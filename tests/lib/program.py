@@ -71,13 +71,13 @@ def example(name):
     return Outcome(contents(f"{path}.stdout"), contents(f"{path}.stderr"), int(contents(f"{path}.status")))
 
 
-def run(words, **how):
-    """Runs the program at the root of the repository. A run that doesn't end fails the test."""
+def run(words, program=PROGRAM, **how):
+    """Runs the program, or another one, at the root of the repository. A run that doesn't end fails the test."""
     if "input" not in how:
         how = {"stdin": subprocess.DEVNULL, **how}
     how = {"cwd": ROOT, "timeout": MOST_WAITING, "stdout": subprocess.PIPE, "stderr": subprocess.PIPE, **how}
     try:
-        ran = subprocess.run([PROGRAM, *words], check=False, **how)
+        ran = subprocess.run([program, *words], check=False, **how)
     except subprocess.TimeoutExpired as late:
         return Outcome(late.stdout or b"", b"(no end after %d seconds)" % how["timeout"], -1)
     return Outcome(ran.stdout or b"", ran.stderr or b"", ran.returncode)
