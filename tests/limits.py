@@ -10,7 +10,7 @@ from lib.program import Folder, Tally, lines_outcome, run
 BLOCK = "x = 2, y = 2, rule = B3/S23\n2o$2o!\n"
 EMPTY = "x = 0, y = 0, rule = B3/S23\n!\n"
 GLIDER = "x = 3, y = 3, rule = B3/S23\nbo$2bo$3o!\n"
-GLIDER_AT_8 = "#CXRLE Pos=8,8\n" + GLIDER
+GLIDER_AT_8, GLIDER_FAR = (f"#CXRLE Pos={way},{way}\n" + GLIDER for way in (8, 1 << 58))
 SOUP = rows.text_of("B3/S23", rows.Rows(0, 0, tuple(random.Random(1).getrandbits(200) for _ in range(200))))
 
 MOST_WORK, MOST_MEMO = (1 << 64) - 1, 1 << 24
@@ -31,6 +31,9 @@ CLAIMS = (
     (("--work", "0"), {"b": "x = 1, y = 1\nz!\n"}, "still b", "refused, bad pattern: rle syntax"),
     (("--work", "537825"), {"b": BLOCK}, "still b", "yes"),
     (("--work", str(MOST_WORK)), {"b": BLOCK}, "still b", "yes"),
+    (("--work", "100000"), {"b": BLOCK}, f"becomes b {1 << 60} b", "yes"),
+    (("--work", "100000"), {"g": GLIDER, "h": GLIDER_FAR}, f"becomes g {1 << 60} h", "yes"),
+    (("--work", "100000"), {"g": GLIDER}, f"spaceship g {(1 << 32) - 4} {(1 << 30) - 1} {(1 << 30) - 1}", "no, the same after 4, shifted by 1,1"),
     (("--memo", "1"), {"b": BLOCK}, "still b", "yes"),
     (("--memo", "1"), {"g": GLIDER, "h": GLIDER_AT_8}, "becomes g 32 h", "yes"),
     (("--memo", "1"), {"g": GLIDER}, "spaceship g 8 2 2", "no, the same after 4, shifted by 1,1"),
