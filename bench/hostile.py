@@ -23,6 +23,9 @@ LIMIT = 100
 # Cells of files lie from -FAR to FAR - 1.
 FAR = 1 << 60
 
+# The runs over claims: without limits, and with those within which each is to end in 10 seconds and 2 GiB.
+CLAIMS = ("verify TEXT", "verify --work 1000000 TEXT")
+
 TASKS = []
 
 
@@ -114,25 +117,25 @@ def alike_nodes(chance):
         yield "".join(f"4 {' '.join(map(str, parts))} {last}\n" for last in range(1, 51))
 
 
-@task("claims on one pattern", "verify TEXT")
+@task("claims on one pattern", *CLAIMS)
 def claims(chance):
     yield f"load b {EXAMPLES}/block.rle\n"
     yield from repeated("still b\n")
 
 
-@task("claims that are false", "verify TEXT")
+@task("claims that are false", *CLAIMS)
 def false_claims(chance):
     yield f"load g {EXAMPLES}/glider.rle\n"
     yield from repeated("oscillator g 3491888400\n")
 
 
-@task("a period of many divisors, 18 times", "verify TEXT")
+@task("a period of many divisors, 18 times", *CLAIMS)
 def divisors(chance):
     tables = f"{EXAMPLES}/tables/cycles"
     yield f"rule {tables}.rule\nload c {tables}.rle\noscillator c {18 * 223092870}\n"
 
 
-@task("a soup by 2^60 generations", "verify TEXT")
+@task("a soup by 2^60 generations", *CLAIMS)
 def endless(chance):
     path = os.path.join(tempfile.gettempdir(), "hostile_soup.rle")
     write(path, soup(chance), 20000)
