@@ -1,5 +1,5 @@
 -- Small rule tables, and cells under them and under other rules, for the worked examples.
-use Rattle.std.specs.Prelude.{ℕ, ◌-◌, List, [], ◌∷◌, ◌++◌, map, flat_map, codes}
+use Rattle.std.specs.Prelude.{◌≡◌, ℕ, ◌-◌, List, [], ◌∷◌, ◌++◌, map, flat_map, codes}
 use Rattle.ca_rule.specs.declared.table.neighbourhood.Neighbourhood.{Neighbourhood}
 use Rattle.ca_rule.specs.declared.table.neighbourhood.Neighbourhood.TheVariants.{VonNeumann}
 use Rattle.ca_rule.specs.declared.table.neighbourhood.Symmetry.{Symmetry}
@@ -12,6 +12,7 @@ use Rattle.ca_rule.specs.Counts.{counts_of}
 use Rattle.ca_rule.specs.Next as bs
 use Rattle.ca_rule.specs.Generations as generations
 use Rattle.ca_rule.specs.TableNext.{Transition, TableRule, table_next}
+use Rattle.ca_rule.specs.TableOrders.{orders}
 
 -- numbers below ten, as digits
 abbrev pub digits : List ℕ → List ℕ
@@ -20,6 +21,10 @@ digits text = map (λ b. b - 48) text
 -- lists of digits with blanks between them
 abbrev pub digit_lists : List ℕ → List (List ℕ)
 digit_lists text = map digits (words_of text)
+
+-- the orders of the symmetry are those that the text lists
+abbrev pub HasOrders : Neighbourhood → Symmetry → List ℕ → Type 0
+HasOrders of under text = orders of under ≡ digit_lists text
 
 -- the next cell under a B/S rule of these birth and survival digits
 abbrev pub bs_cell : Hood → List ℕ → List ℕ → List ℕ → ℕ
@@ -43,6 +48,10 @@ table_of of under lines = record {
 -- the next cells under such a table, each with its nine cells, with blanks between them
 abbrev pub table_cells : Neighbourhood → Symmetry → List Transition → List ℕ → List ℕ
 table_cells of under lines text = map (table_next (table_of of under lines)) (digit_lists text)
+
+-- the next cells where the table has one transition and its inputs are taken as they stand
+abbrev pub unturned_cells : Neighbourhood → Transition → List ℕ → List ℕ
+unturned_cells of line text = table_cells of Identity (line ∷ []) text
 
 -- one of another name, without transitions
 abbrev pub table_named : List ℕ → TableRule
@@ -74,6 +83,18 @@ like_neighbours = line (Number 0) a a (Number 0) (Number 0) a
 -- `0,1,0,0,0,2`
 abbrev pub north_of_one : Transition
 north_of_one = line (Number 0) (Number 1) (Number 0) (Number 0) (Number 0) (Number 2)
+
+-- the next cells where one neighbour spreads, of four whose one live neighbour is to the north, east, south and west
+abbrev pub cells_by_one : Symmetry → List ℕ
+cells_by_one under = table_cells VonNeumann under (one_neighbour ∷ []) (codes "020000000 000001000 000000010 000200000")
+
+-- the next cells where two neighbours spread, of one with two that meet, and of one with two that lie opposite
+abbrev pub cells_by_two : Symmetry → List ℕ
+cells_by_two under = table_cells VonNeumann under (two_neighbours ∷ []) (codes "010200000 000102000")
+
+-- the next cells of the one south of a 1 and of the one south of a 2, where inputs are taken as they stand
+abbrev pub cells_south : List Transition → List ℕ
+cells_south lines = table_cells VonNeumann Identity lines (codes "010000000 020000000")
 
 -- `0,0,1,0,0,0,0,0,0,1`, `0,0,1,0,0,0,0,1`, `0,0,1,1`: a live cell at the second position of the ring
 abbrev pub second_of_eight : Transition

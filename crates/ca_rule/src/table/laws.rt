@@ -11,7 +11,8 @@ ghost use Rattle.ca_rule.specs.declared.table.fault.TableFault.TheVariants.{NoRu
 ghost use Rattle.ca_rule.specs.declared.table.fault.TableFault.TheVariants.{Neighborhood, Symmetries};
 ghost use Rattle.ca_rule.specs.TableNext.{TableRule};
 ghost use Rattle.ca_rule.specs.TableExamples.{text_of, file_with, file_of, digits, digit_lists, table_cells};
-ghost use Rattle.ca_rule.specs.TableExamples.{one_neighbour, two_neighbours, like_neighbours, north_of_one};
+ghost use Rattle.ca_rule.specs.TableExamples.{HasOrders, unturned_cells, cells_by_one, cells_by_two, cells_south};
+ghost use Rattle.ca_rule.specs.TableExamples.{one_neighbour, like_neighbours, north_of_one};
 ghost use Rattle.ca_rule.specs.TableExamples.{second_of_eight, second_of_six, second_of_two};
 ghost use Rattle.ca_rule.specs.declared.table.neighbourhood.Neighbourhood.TheVariants.{VonNeumann, Moore};
 ghost use Rattle.ca_rule.specs.declared.table.neighbourhood.Neighbourhood.TheVariants.{Hexagonal};
@@ -26,78 +27,66 @@ ghost use Rattle.ca_rule.specs.declared.table.neighbourhood.Symmetry.TheVariants
 
 /// The orders of each symmetry.
 pub fn worked_orders()
-    ensures four_as_they_stand { orders VonNeumann Identity ≡ digit_lists (codes "0123") }
-    ensures four_by_quarters { orders VonNeumann Rotate4 ≡ digit_lists (codes "0123 1230 2301 3012") }
-    ensures four_by_quarters_and_mirrored { orders VonNeumann Rotate4Reflect ≡
-        digit_lists (codes "0123 0321 1032 1230 2103 2301 3012 3210") }
-    ensures four_with_east_and_west_exchanged { orders VonNeumann ReflectHorizontal ≡
-        digit_lists (codes "0123 0321") }
+    ensures four_as_they_stand { HasOrders VonNeumann Identity (codes "0123") }
+    ensures four_by_quarters { HasOrders VonNeumann Rotate4 (codes "0123 1230 2301 3012") }
+    ensures four_by_quarters_and_mirrored { HasOrders VonNeumann Rotate4Reflect
+        (codes "0123 0321 1032 1230 2103 2301 3012 3210") }
+    ensures four_with_east_and_west_exchanged { HasOrders VonNeumann ReflectHorizontal (codes "0123 0321") }
     ensures four_permuted { orders VonNeumann Permute ≡
         digit_lists (codes "0123 0132 0213 0231 0312 0321 1023 1032 1203 1230 1302 1320")
         ++ digit_lists (codes "2013 2031 2103 2130 2301 2310 3012 3021 3102 3120 3201 3210") }
-    ensures eight_as_they_stand { orders Moore Identity ≡ digit_lists (codes "01234567") }
-    ensures eight_by_quarters { orders Moore Rotate4 ≡
-        digit_lists (codes "01234567 23456701 45670123 67012345") }
-    ensures eight_by_quarters_and_mirrored { orders Moore Rotate4Reflect ≡
-        digit_lists (codes "01234567 07654321 21076543 23456701 43210765 45670123 65432107 67012345") }
-    ensures eight_with_east_and_west_exchanged { orders Moore ReflectHorizontal ≡
-        digit_lists (codes "01234567 07654321") }
-    ensures eight_by_eighths { orders Moore Rotate8 ≡
-        digit_lists (codes "01234567 12345670 23456701 34567012 45670123 56701234 67012345 70123456") }
+    ensures eight_as_they_stand { HasOrders Moore Identity (codes "01234567") }
+    ensures eight_by_quarters { HasOrders Moore Rotate4 (codes "01234567 23456701 45670123 67012345") }
+    ensures eight_by_quarters_and_mirrored { HasOrders Moore Rotate4Reflect
+        (codes "01234567 07654321 21076543 23456701 43210765 45670123 65432107 67012345") }
+    ensures eight_with_east_and_west_exchanged { HasOrders Moore ReflectHorizontal (codes "01234567 07654321") }
+    ensures eight_by_eighths { HasOrders Moore Rotate8
+        (codes "01234567 12345670 23456701 34567012 45670123 56701234 67012345 70123456") }
     ensures eight_by_eighths_and_mirrored { orders Moore Rotate8Reflect ≡
         digit_lists (codes "01234567 07654321 10765432 12345670 21076543 23456701 32107654 34567012")
         ++ digit_lists (codes "43210765 45670123 54321076 56701234 65432107 67012345 70123456 76543210") }
-    ensures six_as_they_stand { orders Hexagonal Identity ≡ digit_lists (codes "012345") }
-    ensures six_by_halves { orders Hexagonal Rotate2 ≡ digit_lists (codes "012345 345012") }
-    ensures six_by_thirds { orders Hexagonal Rotate3 ≡ digit_lists (codes "012345 234501 450123") }
-    ensures six_by_sixths { orders Hexagonal Rotate6 ≡
-        digit_lists (codes "012345 123450 234501 345012 450123 501234") }
-    ensures six_by_sixths_and_mirrored { orders Hexagonal Rotate6Reflect ≡
-        digit_lists (codes "012345 054321 105432 123450 210543 234501")
-        ++ digit_lists (codes "321054 345012 432105 450123 501234 543210") }
-    ensures two_as_they_stand { orders OneDimensional Identity ≡ digit_lists (codes "01") }
-    ensures two_exchanged { orders OneDimensional Reflect ≡ digit_lists (codes "01 10") }
-    ensures two_permuted { orders OneDimensional Permute ≡ digit_lists (codes "01 10") }
+    ensures six_as_they_stand { HasOrders Hexagonal Identity (codes "012345") }
+    ensures six_by_halves { HasOrders Hexagonal Rotate2 (codes "012345 345012") }
+    ensures six_by_thirds { HasOrders Hexagonal Rotate3 (codes "012345 234501 450123") }
+    ensures six_by_sixths { HasOrders Hexagonal Rotate6 (codes "012345 123450 234501 345012 450123 501234") }
+    ensures six_by_sixths_and_mirrored { HasOrders Hexagonal Rotate6Reflect
+        (codes "012345 054321 105432 123450 210543 234501 321054 345012 432105 450123 501234 543210") }
+    ensures two_as_they_stand { HasOrders OneDimensional Identity (codes "01") }
+    ensures two_exchanged { HasOrders OneDimensional Reflect (codes "01 10") }
+    ensures two_permuted { HasOrders OneDimensional Permute (codes "01 10") }
     ensures quarters_are_not_of_six { orders Hexagonal Rotate4 ≡ [] }
 {}
 
 /// Some cells under small tables. What one neighbour does: each of the four spreads, corners don't count,
 /// two are too many, and where no order fits the centre stays. Without turns only the north spreads.
 pub fn worked_cells()
-    ensures each_neighbour_spreads { table_cells VonNeumann Rotate4 (one_neighbour ∷ [])
-        (codes "020000000 000001000 000000010 000200000") ≡ digits (codes "2112") }
+    ensures each_neighbour_spreads { cells_by_one Rotate4 ≡ digits (codes "2112") }
     ensures one_neighbour_alone_spreads { table_cells VonNeumann Rotate4 (one_neighbour ∷ [])
         (codes "120000201 010100000 010020000") ≡ digits (codes "202") }
-    ensures only_the_north_spreads_without_turns { table_cells VonNeumann Identity (one_neighbour ∷ [])
-        (codes "020000000 000001000 000000010 000200000") ≡ digits (codes "2000") }
+    ensures only_the_north_spreads_without_turns { cells_by_one Identity ≡ digits (codes "2000") }
     ensures centre_stays_without_transitions { table_cells VonNeumann Rotate4 []
         (codes "111121111 111101111") ≡ digits (codes "20") }
 
     // The smallest order decides, of the four, of those mirrored too, and of all. Opposite cells are only
     // permuted.
-    ensures four_orders { table_cells VonNeumann Rotate4 (two_neighbours ∷ [])
-        (codes "010200000 000102000") ≡ digits (codes "20") }
-    ensures eight_orders { table_cells VonNeumann Rotate4Reflect (two_neighbours ∷ [])
-        (codes "010200000 000102000") ≡ digits (codes "10") }
-    ensures all_orders { table_cells VonNeumann Permute (two_neighbours ∷ [])
-        (codes "010200000 000102000") ≡ digits (codes "12") }
+    ensures four_orders { cells_by_two Rotate4 ≡ digits (codes "20") }
+    ensures eight_orders { cells_by_two Rotate4Reflect ≡ digits (codes "10") }
+    ensures all_orders { cells_by_two Permute ≡ digits (codes "12") }
 {}
 
 /// Some cells where a variable, the first line that fits or the neighbourhood's ring decides.
 pub fn worked_transitions()
     ensures variable_has_one_cell { table_cells VonNeumann Permute (like_neighbours ∷ [])
         (codes "000102000 000202000") ≡ digits (codes "02") }
-    ensures first_line_decides { table_cells VonNeumann Identity (one_neighbour ∷ north_of_one ∷ [])
-        (codes "010000000 020000000") ≡ digits (codes "12") }
-    ensures first_line_that_fits_decides { table_cells VonNeumann Identity
-        (north_of_one ∷ one_neighbour ∷ []) (codes "010000000 020000000") ≡ digits (codes "22") }
+    ensures first_line_decides { cells_south (one_neighbour ∷ north_of_one ∷ []) ≡ digits (codes "12") }
+    ensures first_line_that_fits_decides { cells_south (north_of_one ∷ one_neighbour ∷ []) ≡ digits (codes "22") }
 
-    ensures second_of_eight_is_north_east { table_cells Moore Identity (second_of_eight ∷ [])
+    ensures second_of_eight_is_north_east { unturned_cells Moore second_of_eight
         (codes "001000000") ≡ digits (codes "1") }
     // The cell to the north-east is not among six, and neither row beside the cell's own is among two.
-    ensures second_of_six_is_east { table_cells Hexagonal Identity (second_of_six ∷ [])
+    ensures second_of_six_is_east { unturned_cells Hexagonal second_of_six
         (codes "000001000 001001100") ≡ digits (codes "11") }
-    ensures second_of_two_is_east { table_cells OneDimensional Identity (second_of_two ∷ [])
+    ensures second_of_two_is_east { unturned_cells OneDimensional second_of_two
         (codes "000001000 111001111") ≡ digits (codes "11") }
 {}
 
