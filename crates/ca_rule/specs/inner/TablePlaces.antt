@@ -1,13 +1,18 @@
 -- Where the slots of a transition take their cells.
-use Rattle.std.specs.Prelude.{ℕ, Bool, true, false, ◌==◌, List, [], ◌∷◌, Option, Some, None, unwrap_or, slice_index, map, zip, if◌then◌else◌}
+use Rattle.std.specs.Prelude.{◌≡◌, ℕ, Bool, true, false, ◌==◌, List, [], ◌∷◌, Option, Some, None, unwrap_or, slice_index, map, zip, if◌then◌else◌}
 use Rattle.ca_rule.specs.declared.table.neighbourhood.Neighbourhood.{Neighbourhood}
+use Rattle.ca_rule.specs.declared.table.neighbourhood.Symmetry.{Symmetry}
 use Rattle.ca_rule.specs.declared.table.slot.Slot.{Slot}
-use Rattle.ca_rule.specs.TableOrders.{ring}
+use Rattle.ca_rule.specs.TableOrders.{ring, orders}
 use Rattle.ca_rule.specs.TableNext.{States, Transition, Taken, admits, fits, result_state}
 
 -- the places among nine cells of the cells that the slots take under an order, the centre's first
 abbrev pub places : Neighbourhood → List ℕ → List ℕ
 places neighbourhood order = 4 ∷ map (slice_index (ring neighbourhood)) order
+
+-- these are the places in each order of the symmetry
+abbrev pub ArePlacesOf : Neighbourhood → Symmetry → List (List ℕ) → Type 0
+ArePlacesOf neighbourhood symmetry lists = lists ≡ map (places neighbourhood) (orders neighbourhood symmetry)
 
 -- the slots of a transition with the cells at those places
 abbrev pub taken_at : List ℕ → Transition → List ℕ → List Taken

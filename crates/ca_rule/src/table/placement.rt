@@ -1,8 +1,8 @@
 //! Where the slots of a transition take their cells.
 
 ghost use Rattle.std.specs.Prelude.{◌≡◌, ◌≢◌, ◌∷◌, map};
-ghost use Rattle.ca_rule.specs.TableOrders.{ring, orders};
-ghost use Rattle.ca_rule.specs.inner.TablePlaces.{places};
+ghost use Rattle.ca_rule.specs.TableOrders.{ring};
+ghost use Rattle.ca_rule.specs.inner.TablePlaces.{ArePlacesOf};
 ghost use Rattle.ca_rule.specs.declared.table.neighbourhood.Neighbourhood.TheVariants.{VonNeumann, Moore};
 ghost use Rattle.ca_rule.specs.declared.table.neighbourhood.Neighbourhood.TheVariants.{Hexagonal};
 ghost use Rattle.ca_rule.specs.declared.table.neighbourhood.Neighbourhood.TheVariants.{OneDimensional};
@@ -20,17 +20,15 @@ pub(crate) enum Orders {
 }
 
 impl Orders {
-    ghost use Rattle.std.specs.Prelude.{◌≡◌, true, map};
+    ghost use Rattle.std.specs.Prelude.{◌≡◌, true};
     ghost use Rattle.std.specs.List.{list_all};
-    ghost use Rattle.ca_rule.specs.TableOrders.{orders};
-    ghost use Rattle.ca_rule.specs.inner.TablePlaces.{begins_at_centre, places};
+    ghost use Rattle.ca_rule.specs.inner.TablePlaces.{begins_at_centre, ArePlacesOf};
     ghost use Rattle.ca_rule.specs.inner.TableSearch.{placements_of};
 
     /// The orders of a symmetry of the neighbourhood.
     #[tactic(auto, using(crate::proofs::Permuted::every_order_placed))]
     pub(crate) fn of(neighbourhood: Neighbourhood, symmetry: Symmetry) -> Orders
-        ensures placements { placements_of result
-            ≡ map (places neighbourhood) (orders neighbourhood symmetry) }
+        ensures placements { ArePlacesOf neighbourhood symmetry (placements_of result) }
         ensures centred { list_all begins_at_centre (placements_of result) ≡ true }
     {
         match symmetry {
@@ -55,8 +53,7 @@ pub(crate) fn as_it_stands(neighbourhood: Neighbourhood) -> &'static [u8]
 /// For each order of the symmetry, except `permute`: the places of the slots' cells among nine, the centre's
 /// first. A symmetry that the neighbourhood doesn't have has none.
 fn placements(neighbourhood: Neighbourhood, symmetry: Symmetry) -> &'static [&'static [u8]]
-    ensures { symmetry ≢ Permute
-        → map (λ p. p.now) result.now ≡ map (places neighbourhood) (orders neighbourhood symmetry) }
+    ensures { symmetry ≢ Permute → ArePlacesOf neighbourhood symmetry (map (λ p. p.now) result.now) }
 {
     match neighbourhood {
         Neighbourhood::VonNeumann => placements_of_four(symmetry),
@@ -80,8 +77,7 @@ const FOUR: [&[u8]; 8] = [
 
 /// Those round a ring of four.
 fn placements_of_four(symmetry: Symmetry) -> &'static [&'static [u8]]
-    ensures { symmetry ≢ Permute
-        → map (λ p. p.now) result.now ≡ map (places VonNeumann) (orders VonNeumann symmetry) }
+    ensures { symmetry ≢ Permute → ArePlacesOf VonNeumann symmetry (map (λ p. p.now) result.now) }
 {
     match symmetry {
         Symmetry::Identity => &[FOUR[0]],
@@ -114,7 +110,7 @@ const EIGHT: [&[u8]; 16] = [
 
 /// Those round a ring of eight.
 fn placements_of_eight(symmetry: Symmetry) -> &'static [&'static [u8]]
-    ensures { symmetry ≢ Permute → map (λ p. p.now) result.now ≡ map (places Moore) (orders Moore symmetry) }
+    ensures { symmetry ≢ Permute → ArePlacesOf Moore symmetry (map (λ p. p.now) result.now) }
 {
     match symmetry {
         Symmetry::Identity => &[EIGHT[0]],
@@ -149,8 +145,7 @@ const SIX: [&[u8]; 12] = [
 
 /// Those round a ring of six.
 fn placements_of_six(symmetry: Symmetry) -> &'static [&'static [u8]]
-    ensures { symmetry ≢ Permute
-        → map (λ p. p.now) result.now ≡ map (places Hexagonal) (orders Hexagonal symmetry) }
+    ensures { symmetry ≢ Permute → ArePlacesOf Hexagonal symmetry (map (λ p. p.now) result.now) }
 {
     match symmetry {
         Symmetry::Identity => &[SIX[0]],
@@ -164,8 +159,7 @@ fn placements_of_six(symmetry: Symmetry) -> &'static [&'static [u8]]
 
 /// Those of two cells.
 fn placements_of_two(symmetry: Symmetry) -> &'static [&'static [u8]]
-    ensures { symmetry ≢ Permute
-        → map (λ p. p.now) result.now ≡ map (places OneDimensional) (orders OneDimensional symmetry) }
+    ensures { symmetry ≢ Permute → ArePlacesOf OneDimensional symmetry (map (λ p. p.now) result.now) }
 {
     match symmetry {
         Symmetry::Identity => &[&[4, 3, 5]],
