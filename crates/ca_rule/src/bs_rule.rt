@@ -28,6 +28,7 @@ pub struct BsRule {
 }
 
 impl BsRule {
+    ghost use Rattle.ca_rule.specs.Rule.{Bs, IsSameRule};
     ghost use Rattle.ca_rule.specs.Spelling.{NamesBsRule, IsBsRuleFault, printed_bs_rule};
 
     /// The rule that the text names, as `B3/S23`, `s23b3` and `23/3` name Conway's Life. Nothing here takes
@@ -64,9 +65,7 @@ impl BsRule {
     /// and for survival. Nothing here takes memory.
     #[tactic(auto, using(crate::proofs::SameCounts::same_counts))]
     pub fn same(&self, other: &BsRule) -> bool
-        ensures { IsTrue result
-            ↔ ((self.now.hood ≡ other.now.hood) × (self.now.birth ≡ other.now.birth)
-            × (self.now.survival ≡ other.now.survival)) }
+        ensures { IsTrue result ↔ IsSameRule (Bs self.now) (Bs other.now) }
     {
         self.birth == other.birth && self.survival == other.survival && self.hood == other.hood
     }

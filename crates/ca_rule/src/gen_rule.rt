@@ -39,6 +39,7 @@ pub struct GenRule {
 
 impl GenRule {
     ghost use Rattle.ca_rule.specs.Generations.{older};
+    ghost use Rattle.ca_rule.specs.Rule.{Gen, IsSameRule};
     ghost use Rattle.ca_rule.specs.GenerationsText.{NamesGenerationsRule, IsGenerationsRuleFault, printed_generations_rule};
 
     /// The rule that the text names, as `/2/3` names Brian's Brain. Nothing here takes memory.
@@ -82,9 +83,7 @@ impl GenRule {
     /// states. Nothing here takes memory.
     #[tactic(auto, using(crate::proofs::SameCounts::same_counts))]
     pub fn same(&self, other: &GenRule) -> bool
-        ensures { IsTrue result
-            ↔ ((self.now.survival ≡ other.now.survival) × (self.now.birth ≡ other.now.birth)
-            × (self.now.states ≡ other.now.states)) }
+        ensures { IsTrue result ↔ IsSameRule (Gen self.now) (Gen other.now) }
     {
         self.survival == other.survival && self.birth == other.birth && self.states == other.states
     }

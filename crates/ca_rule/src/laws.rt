@@ -7,6 +7,7 @@ ghost use Rattle.ca_plane.specs.Moore.{moore_next};
 ghost use Rattle.ca_rule.specs.Counts.{is_count, counts_of};
 ghost use Rattle.ca_rule.specs.Masks.{masks_by_hood};
 ghost use Rattle.ca_rule.specs.OneMeaning.{HasAtMostOne, NeverHasBoth};
+ghost use Rattle.ca_rule.specs.Rule.{Bs, IsSameRule, printed_form};
 ghost use Rattle.ca_rule.specs.Spelling.{SpellsBsRule, NamesBsRule, IsBsRuleFault, printed_bs_rule};
 ghost use Rattle.ca_rule.specs.TableExamples.{digits, bs_cell};
 ghost use Rattle.ca_rule.specs.declared.bs_rule.BsRule.{BsRule};
@@ -18,7 +19,7 @@ use crate::bs_rule::BsRule;
 /// A text names one rule at most.
 pub fn one_rule()
     ensures { (text : List ℕ) (r s : BsRule) → NamesBsRule text r → NamesBsRule text s
-        → (r.hood ≡ s.hood) × (r.birth ≡ s.birth) × (r.survival ≡ s.survival) }
+        → IsSameRule (Bs r) (Bs s) }
 {}
 
 /// A text that names a rule has no fault, and another has one fault at most.
@@ -29,7 +30,7 @@ pub fn rule_or_fault()
 
 /// The printed form of a rule names that rule.
 pub fn names_itself(rule: &BsRule)
-    ensures { NamesBsRule (printed_bs_rule rule.now.hood rule.now.birth rule.now.survival) rule.now }
+    ensures { NamesBsRule (printed_form (Bs rule.now)) rule.now }
 {
     let _ = rule.birth.places();
     let _ = rule.survival.places();
@@ -37,9 +38,7 @@ pub fn names_itself(rule: &BsRule)
 
 /// Two rules are printed alike exactly where they are equal.
 pub fn alike(a: &BsRule, b: &BsRule)
-    ensures { (printed_bs_rule a.now.hood a.now.birth a.now.survival
-        ≡ printed_bs_rule b.now.hood b.now.birth b.now.survival)
-        ↔ ((a.now.hood ≡ b.now.hood) × (a.now.birth ≡ b.now.birth) × (a.now.survival ≡ b.now.survival)) }
+    ensures { (printed_form (Bs a.now) ≡ printed_form (Bs b.now)) ↔ IsSameRule (Bs a.now) (Bs b.now) }
 {
     names_itself(a);
     names_itself(b);

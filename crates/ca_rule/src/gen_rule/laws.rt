@@ -8,6 +8,7 @@ ghost use Rattle.ca_rule.specs.Generations.{generations_next};
 ghost use Rattle.ca_rule.specs.GenerationsText.{SpellsGenerationsRule, NamesGenerationsRule, IsGenerationsRuleFault, printed_generations_rule};
 ghost use Rattle.ca_rule.specs.Next as bs;
 ghost use Rattle.ca_rule.specs.OneMeaning.{HasAtMostOne, NeverHasBoth};
+ghost use Rattle.ca_rule.specs.Rule.{Gen, IsSameRule, next_of, printed_form};
 ghost use Rattle.ca_rule.specs.Spelling as bs_text;
 ghost use Rattle.ca_rule.specs.TableExamples.{generations_cell};
 ghost use Rattle.ca_rule.specs.declared.counts.Counts.{Counts};
@@ -20,7 +21,7 @@ use crate::gen_rule::GenRule;
 /// A text names one rule at most.
 pub fn one_generations_rule()
     ensures { (text : List ℕ) (r s : GenRule) → NamesGenerationsRule text r → NamesGenerationsRule text s
-        → (r.survival ≡ s.survival) × (r.birth ≡ s.birth) × (r.states ≡ s.states) }
+        → IsSameRule (Gen r) (Gen s) }
 {}
 
 /// A text that names a rule has no fault, and another has one fault at most. A text that spells a rule spells
@@ -42,8 +43,7 @@ pub fn two_states_do_as_bs()
 
 /// The printed form of a rule names that rule.
 pub fn generations_names_itself(rule: &GenRule)
-    ensures { NamesGenerationsRule
-        (printed_generations_rule rule.now.survival rule.now.birth rule.now.states) rule.now }
+    ensures { NamesGenerationsRule (printed_form (Gen rule.now)) rule.now }
 {
     let _ = rule.survival.places();
     let _ = rule.birth.places();
@@ -51,9 +51,7 @@ pub fn generations_names_itself(rule: &GenRule)
 
 /// Two rules are printed alike exactly where they are equal.
 pub fn generations_alike(a: &GenRule, b: &GenRule)
-    ensures { (printed_generations_rule a.now.survival a.now.birth a.now.states
-        ≡ printed_generations_rule b.now.survival b.now.birth b.now.states)
-        ↔ ((a.now.survival ≡ b.now.survival) × (a.now.birth ≡ b.now.birth) × (a.now.states ≡ b.now.states)) }
+    ensures { (printed_form (Gen a.now) ≡ printed_form (Gen b.now)) ↔ IsSameRule (Gen a.now) (Gen b.now) }
 {
     generations_names_itself(a);
     generations_names_itself(b);
@@ -64,9 +62,7 @@ pub fn generations_alike(a: &GenRule, b: &GenRule)
 pub fn generations_do_alike(a: &GenRule, b: &GenRule)
     ensures { ((a.now.states ≡ b.now.states)
         × ((nine : List ℕ) → length nine ≡ 9 → All (λ s. s < a.now.states) nine
-        → generations_next a.now.survival a.now.birth a.now.states nine
-        ≡ generations_next b.now.survival b.now.birth b.now.states nine))
-        ↔ ((a.now.survival ≡ b.now.survival) × (a.now.birth ≡ b.now.birth) × (a.now.states ≡ b.now.states)) }
+        → next_of (Gen a.now) nine ≡ next_of (Gen b.now) nine)) ↔ IsSameRule (Gen a.now) (Gen b.now) }
 {
     let _ = a.survival.places();
     let _ = a.birth.places();
