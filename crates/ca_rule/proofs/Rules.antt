@@ -1,6 +1,7 @@
 -- Rules of every kind: a text names one or has one fault, and rules that are the same do the same.
 use Rattle.std.proofs.Common.{◌≡◌, ◌≤◌, ℕ, List, [], ◌∷◌, length, false, Some, unwrap_or, refl, sym, ap, subst, ◌∙◌, rules, inl, inr}
 use Rattle.std.specs.Str.{bytes_eq}
+use Rattle.std.proofs.Math.Path.{PathP}
 use mathlib.Core.HLevel.{is_prop→PathP}
 use Rattle.std.proofs.lemmas.Bool.{cases_Bool}
 use Rattle.std.proofs.Props.{props}
@@ -13,6 +14,8 @@ use Rattle.ca_rule.specs.Next as bs
 use Rattle.ca_rule.specs.Spelling.{has_colon, NamesBsRule, printed_bs_rule}
 use Rattle.ca_rule.specs.TableNext.{TableRule}
 use Rattle.ca_rule.specs.declared.bs_rule.BsRule.{BsRule}
+use Rattle.ca_rule.specs.declared.counts.Counts.{Counts}
+use Rattle.ca_rule.specs.declared.hood.Hood.{Hood}
 use Rattle.ca_rule.specs.declared.gen_rule.GenRule.{GenRule}
 use Rattle.ca_rule.specs.declared.fault.RuleFault.{RuleFault}
 use Rattle.ca_rule.specs.declared.fault.RuleFault.TheVariants.{Bounded, Wakes, Unknown}
@@ -42,15 +45,23 @@ same-next r s a = λ i. bs.bs_next (a.0 i) (a.1 i) (a.2 i)
 pub same-next_generations : (r s : GenRule) → IsSameRule (Gen r) (Gen s) → next_of (Gen r) ≡ next_of (Gen s)
 same-next_generations r s a = λ i. generations.generations_next (a.0 i) (a.1 i) (a.2 i)
 
+-- of equal counts, that 0 is none of them is shown in one way
+empty-over : {b c : Counts} (e : b ≡ c) (of_b : is_count b 0 ≡ false) (of_c : is_count c 0 ≡ false) → PathP (λ j. is_count (e j) 0 ≡ false) of_b of_c
+empty-over e of_b of_c = is_prop→PathP (λ j. is_count (e j) 0 ≡ false) (λ j. hlevel props) of_b of_c
+
+-- so is that they fit, of equal neighbourhoods
+fits-over : {b c : Counts} {h k : Hood} (e : b ≡ c) (f : h ≡ k) (of_b : FitsHood b h) (of_c : FitsHood c k) → PathP (λ j. FitsHood (e j) (f j)) of_b of_c
+fits-over e f of_b of_c = is_prop→PathP (λ j. FitsHood (e j) (f j)) (λ j. hlevel props) of_b of_c
+
 -- B/S rules that are the same are equal, however it was shown that they are rules
 pub same-equal : (r s : BsRule) → IsSameRule (Bs r) (Bs s) → r ≡ s
 same-equal r s a = λ i. record {
   hood = a.0 i;
   birth = a.1 i;
+  stays_empty = empty-over a.1 r.stays_empty s.stays_empty i;
+  birth_fits = fits-over a.1 a.0 r.birth_fits s.birth_fits i;
   survival = a.2 i;
-  stays_empty = is_prop→PathP (λ j. is_count (a.1 j) 0 ≡ false) (λ j. hlevel props) r.stays_empty s.stays_empty i;
-  birth_fits = is_prop→PathP (λ j. FitsHood (a.1 j) (a.0 j)) (λ j. hlevel props) r.birth_fits s.birth_fits i;
-  survival_fits = is_prop→PathP (λ j. FitsHood (a.2 j) (a.0 j)) (λ j. hlevel props) r.survival_fits s.survival_fits i;
+  survival_fits = fits-over a.2 a.0 r.survival_fits s.survival_fits i;
 }
 
 -- so are Generations rules
@@ -58,8 +69,8 @@ pub equal-generations : (r s : GenRule) → IsSameRule (Gen r) (Gen s) → r ≡
 equal-generations r s a = λ i. record {
   survival = a.0 i;
   birth = a.1 i;
+  stays_empty = empty-over a.1 r.stays_empty s.stays_empty i;
   states = a.2 i;
-  stays_empty = is_prop→PathP (λ j. is_count (a.1 j) 0 ≡ false) (λ j. hlevel props) r.stays_empty s.stays_empty i;
   low = is_prop→PathP (λ j. 2 ≤ a.2 j) (λ j. hlevel props) r.low s.low i;
   high = is_prop→PathP (λ j. a.2 j ≤ 256) (λ j. hlevel props) r.high s.high i;
 }
