@@ -7,7 +7,7 @@ use Rattle.ca_plane.specs.declared.point.Point.{Point}
 use Rattle.ca_plane.specs.Plane.{Picture, cell}
 use Rattle.ca_plane.proofs.Pictures.{Contains-cell}
 use Rattle.ca_quad.specs.declared.node.Node.{Node}
-use Rattle.ca_quad.specs.declared.store.rows.Quarters.{Quarters}
+use Rattle.ca_quad.specs.declared.store.quarters.Quarters.{Quarters}
 use Rattle.ca_quad.specs.declared.store.rows.Row.{Row}
 use Rattle.ca_quad.specs.declared.store.to_plane.Corners.{Corners}
 use Rattle.ca_quad.specs.declared.tree.Spot.{Spot}
@@ -56,7 +56,7 @@ shows_none nodes id level p rows at e cover h = record {
 
 -- the quarters of a square
 module _ (level half : ℕ) (large : 2 ≤ level) (side : half ≡ 2 ^ (level - 1)) (at : Spot) (cs : Corners) (are : ArePartCorners at half cs) (p : Picture) (rows : List Row) (of : AreRowsOf level p rows at)
-    (parts : Quarters) (round : AreParts p rows cs.se parts) where
+    (parts : Quarters Row) (round : AreParts p rows cs.se parts) where
   two : 2 ^ level ≡ 2 ^ (level - 1) + 2 ^ (level - 1)
   two = twice level (omega arith)
 

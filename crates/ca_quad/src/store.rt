@@ -27,6 +27,7 @@ mod make;
 mod measure;
 mod numbered;
 mod population;
+mod quarters;
 mod read;
 mod resize;
 mod rows;

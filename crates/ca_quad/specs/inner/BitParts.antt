@@ -5,7 +5,7 @@ use Rattle.ca_plane.specs.declared.bit_plane.CellWord.{CellWord}
 use Rattle.ca_plane.specs.declared.point.Bounds.{Bounds}
 use Rattle.ca_plane.specs.BitPlane.{bit_cell}
 use Rattle.ca_plane.specs.Sparse.{reach}
-use Rattle.ca_quad.specs.declared.store.from_bits.WordQuarters.{WordQuarters}
+use Rattle.ca_quad.specs.declared.store.quarters.Quarters.{Quarters}
 use Rattle.ca_quad.specs.declared.store.to_plane.Corners.{Corners}
 use Rattle.ca_quad.specs.declared.tree.Spot.{Spot}
 use Rattle.ca_quad.specs.Trees.{row_cells}
@@ -20,7 +20,7 @@ pub record HaveCells (words part : List CellWord) (at : Spot) (side : ℕ) : Typ
   pub same : (x y : ℕ) → x < side → y < side → counted (bit_cell part) at x y ≡ counted (bit_cell words) at x y
 
 -- the same for the four parts of a square
-pub record AreWordQuarters (words : List CellWord) (at : Spot) (corners : Corners) (side : ℕ) (parts : WordQuarters) : Type 0 where
+pub record AreWordQuarters (words : List CellWord) (at : Spot) (corners : Corners) (side : ℕ) (parts : Quarters CellWord) : Type 0 where
   pub nw : HaveCells words parts.nw.items at side
   pub ne : HaveCells words parts.ne.items corners.ne side
   pub sw : HaveCells words parts.sw.items corners.sw side

@@ -3,7 +3,7 @@ use Rattle.std.specs.Prelude.{◌≡◌, ℕ, ◌<◌, ◌≤◌, ◌⊎◌, ℤ
 use Rattle.std.specs.List.{All}
 use Rattle.ca_plane.specs.declared.point.Point.{Point}
 use Rattle.ca_plane.specs.Plane.{Picture}
-use Rattle.ca_quad.specs.declared.store.rows.Quarters.{Quarters}
+use Rattle.ca_quad.specs.declared.store.quarters.Quarters.{Quarters}
 use Rattle.ca_quad.specs.declared.store.rows.Row.{Row}
 use Rattle.ca_quad.specs.declared.tree.Spot.{Spot}
 
@@ -61,7 +61,7 @@ abbrev pub IsSouth : ℤ → Point → Type 0
 IsSouth y point = y ≤ℤ point.y
 
 -- those of the rows that lie round a spot
-pub record AreParts (p : Picture) (rows : List Row) (at : Spot) (quarters : Quarters) : Type 0 where
+pub record AreParts (p : Picture) (rows : List Row) (at : Spot) (quarters : Quarters Row) : Type 0 where
   pub nw : IsPartOfRows p rows (λ q. IsWest at.x q × IsNorth at.y q) quarters.nw.items
   pub ne : IsPartOfRows p rows (λ q. IsEast at.x q × IsNorth at.y q) quarters.ne.items
   pub sw : IsPartOfRows p rows (λ q. IsWest at.x q × IsSouth at.y q) quarters.sw.items

@@ -13,6 +13,7 @@ ghost use Rattle.ca_quad.specs.inner.Window.{ShowsFrom};
 use super::Store;
 use super::bit_block::{first_x, first_y};
 use super::from_plane::level_from;
+use super::quarters::Quarters;
 use super::read::half_side;
 use super::to_plane::{Corners, first_corner, part_corners};
 use crate::id::Id;
@@ -83,15 +84,6 @@ impl Store {
     }
 }
 
-// The words of the four parts of a square.
-#[derive(Drop)]
-pub(crate) struct WordQuarters {
-    pub nw: Vec<CellWord>,
-    pub ne: Vec<CellWord>,
-    pub sw: Vec<CellWord>,
-    pub se: Vec<CellWord>,
-}
-
 // The words of the four parts of a square, whose corners are given and which have this side.
 fn quarters_of(
     alloc: Global,
@@ -99,14 +91,14 @@ fn quarters_of(
     at: Spot,
     corners: Corners,
     side: u128,
-) -> Result<WordQuarters, Memory>
+) -> Result<Quarters<CellWord>, Memory>
     requires nw { LiesNear side at }
     requires ne { LiesNear side corners.ne }
     requires sw { LiesNear side corners.sw }
     requires se { LiesNear side corners.se }
     ensures { IfOk result (AreWordQuarters words.items at corners side) }
 {
-    Ok(WordQuarters {
+    Ok(Quarters {
         nw: words_in(alloc, &words, at, side)?,
         ne: words_in(alloc, &words, corners.ne, side)?,
         sw: words_in(alloc, &words, corners.sw, side)?,

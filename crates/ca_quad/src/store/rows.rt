@@ -7,6 +7,7 @@ ghost use Rattle.ca_plane.specs.Sparse.{IsSparse};
 ghost use Rattle.ca_quad.specs.inner.Rows.{point_at, ComesBefore, IsInRow, IsPictureRow, AreRows, Hold, IsPartOfRows};
 ghost use Rattle.ca_quad.specs.inner.Rows.{AreParts, IsWest, IsEast, IsNorth, IsSouth};
 
+use super::quarters::Quarters;
 use crate::tree::Spot;
 use ca_plane::limits::REACH;
 use ca_plane::{Memory, Point};
@@ -141,22 +142,13 @@ fn split(cells: &[(Point, u8)], row: Row, at: Spot) -> usize
     search(cells, row.first, row.end, place)
 }
 
-// The rows of the cells of four squares that lie round a spot.
-#[derive(Drop)]
-pub(crate) struct Quarters {
-    pub nw: Vec<Row>,
-    pub ne: Vec<Row>,
-    pub sw: Vec<Row>,
-    pub se: Vec<Row>,
-}
-
-// The cells of rows, by the side of a spot on which they lie.
+// The cells of rows, by the square of four round a spot in which they lie.
 pub(super) fn parts_round(
     alloc: Global,
     cells: &[(Point, u8)],
     rows: &[Row],
     at: Spot,
-) -> Result<Quarters, Memory>
+) -> Result<Quarters<Row>, Memory>
     requires sparse { IsSparse cells.now }
     requires rows { AreRows cells.now rows.now }
     ensures { IfOk result (AreParts cells.now rows.now at) }
