@@ -109,6 +109,18 @@ window_to nodes id k p from at dx dy ex ey h = record {
       ∙ counted_at p at (from.x +ℤ pos x) (from.y +ℤ pos y) (dx + x) (dy + y) (omega (arith, ints)) (omega (arith, ints));
 }
 
+-- four squares side by side can be joined, and their join shows them
+module _ (nodes : List Node) (level : ℕ) (large : 2 ≤ level) (cells : ℕ → ℕ → ℕ) (x y nw ne sw se : ℕ) (four : FourWindows nodes (level - 1) cells x y nw ne sw se) where
+  pub can_join_four : level ≤ 125 → AreFour nodes (level - 1) nw ne sw se
+  can_join_four low = four_windows nodes (level - 1) cells x y nw ne sw se four (omega arith)
+
+  pub four_joined : {E : Type 0} (new : List Node) (u : Result ℕ E)
+      → ((l : ℕ) → IsOf nodes nw l → IfOk u (λ id. ShowsSquare new id (suc l) (together (2 ^ l) (cell_of nodes l nw) (cell_of nodes l ne) (cell_of nodes l sw) (cell_of nodes l se))))
+      → IfOk u (λ id. ShowsFrom new id level cells x y)
+  four_joined new u join =
+      let next : suc (level - 1) ≡ level = omega arith in
+      subst (λ l. IfOk u (λ id. ShowsFrom new id l cells x y)) next (window_joined nodes (level - 1) cells x y nw ne sw se four new u (join (level - 1) four.a.is_square))
+
 -- four quarters that are made one after the other
 module _ (s1 s2 s3 s4 : List Node) (sound : IsSoundStore s1) (g2 : Grows s1 s2) (g3 : Grows s2 s3) (g4 : Grows s3 s4) (level half : ℕ) (large : 2 ≤ level) (side : half ≡ 2 ^ (level - 1)) (nw ne sw se : ℕ) where
   module _ (cells : ℕ → ℕ → ℕ) (x y : ℕ) (p : ShowsFrom s1 nw (level - 1) cells x y) (q : ShowsFrom s2 ne (level - 1) cells (x + half) y) (r : ShowsFrom s3 sw (level - 1) cells x (y + half)) (s : ShowsFrom s4 se (level - 1) cells (x + half) (y + half)) where
@@ -119,14 +131,12 @@ module _ (s1 s2 s3 s4 : List Node) (sound : IsSoundStore s1) (g2 : Grows s1 s2) 
         (subst (λ n. ShowsFrom s2 ne k cells (x + n) y) side q) (subst (λ n. ShowsFrom s3 sw k cells x (y + n)) side r) (subst (λ n. ShowsFrom s4 se k cells (x + n) (y + n)) side s)
 
     pub can_join : level ≤ 125 → AreFour s4 (level - 1) nw ne sw se
-    can_join low = four_windows s4 (level - 1) cells x y nw ne sw se quarters (omega arith)
+    can_join = can_join_four s4 level large cells x y nw ne sw se quarters
 
     pub joined : {E : Type 0} (new : List Node) (u : Result ℕ E)
         → ((l : ℕ) → IsOf s4 nw l → IfOk u (λ id. ShowsSquare new id (suc l) (together (2 ^ l) (cell_of s4 l nw) (cell_of s4 l ne) (cell_of s4 l sw) (cell_of s4 l se))))
         → IfOk u (λ id. ShowsFrom new id level cells x y)
-    joined new u join =
-        let next : suc (level - 1) ≡ level = omega arith in
-        subst (λ l. IfOk u (λ id. ShowsFrom new id l cells x y)) next (window_joined s4 (level - 1) cells x y nw ne sw se quarters new u (join (level - 1) quarters.a.is_square))
+    joined = four_joined s4 level large cells x y nw ne sw se quarters
 
   -- the same of squares that were filled, each from its own corner on
   module _ (at : Spot) (cs : Corners) (are : ArePartCorners at half cs) (cells : ℤ → ℤ → ℕ)
@@ -141,13 +151,8 @@ module _ (s1 s2 s3 s4 : List Node) (sound : IsSoundStore s1) (g2 : Grows s1 s2) 
       to_se : ShowsFrom s4 se (level - 1) (counted cells at) (0 + half) (0 + half)
       to_se = window_to s4 se (level - 1) cells cs.se at (0 + half) (0 + half) (omega (arith, ints, are.se_x)) (omega (arith, ints, are.se_y)) s
 
-      pub can_join_filled : level ≤ 125 → AreFour s4 (level - 1) nw ne sw se
-      can_join_filled = can_join (counted cells at) 0 0 p to_ne to_sw to_se
-
-      pub filled_joined : {E : Type 0} (new : List Node) (u : Result ℕ E)
-          → ((l : ℕ) → IsOf s4 nw l → IfOk u (λ id. ShowsSquare new id (suc l) (together (2 ^ l) (cell_of s4 l nw) (cell_of s4 l ne) (cell_of s4 l sw) (cell_of s4 l se))))
-          → IfOk u (λ id. ShowsFrom new id level (counted cells at) 0 0)
-      filled_joined = joined (counted cells at) 0 0 p to_ne to_sw to_se
+      pub four_filled : FourWindows s4 (level - 1) (counted cells at) 0 0 nw ne sw se
+      four_filled = quarters (counted cells at) 0 0 p to_ne to_sw to_se
 
 -- a tree that holds the box of all live cells holds these
 pub holds_all : (p : Picture) (box : Bounds) (level : ℕ) → IsLeastBox p box → HoldsBox (2 ^ (level - 1)) box → HoldsAll level (cell p)

@@ -6,13 +6,14 @@ use Rattle.ca_quad.specs.declared.store.rows.Row.{Row}
 use Rattle.ca_quad.specs.declared.tree.Spot.{Spot}
 use Rattle.ca_quad.specs.Sound.{IsSoundStore, Grows}
 use Rattle.ca_quad.specs.Trees.{ShowsSquare}
-use Rattle.ca_quad.specs.inner.Filled.{AreRowsOf}
+use Rattle.ca_quad.specs.inner.Filled.{counted, AreRowsOf}
 use Rattle.ca_quad.specs.inner.Ring.{none}
 use Rattle.ca_quad.proofs.Covers.{shows_none, rows_four}
-use Rattle.ca_quad.proofs.Filled.{part_none, grows_three, grows_five, can_join_filled, filled_joined}
+use Rattle.ca_quad.proofs.Filled.{part_none, grows_three, grows_five, four_filled, can_join_four, four_joined}
 use Rattle.ca_quad.proofs.Growth.{grows_same, grows_on}
+use Rattle.ca_quad.proofs.Windows.{FourWindows}
 use Rattle.ca_quad.proofs.store.Store.+fill.Goals as goal
-use Rattle.ca_quad.proofs.store.Store.+fill.Goals.{In_ok-parts}
+use Rattle.ca_quad.proofs.store.Store.+fill.Goals.{In_ok-parts, In_ok-se}
 
 pub returns-then-is_empty-clause-shows : goal.returns-then-is_empty-clause-shows
 returns-then-is_empty-clause-shows t c = shows_none c.args.self.now c.args.empty c.args.level c.args.cells.now c.args.rows.now c.args.at (eqb-true (length c.args.rows.now) 0 (sym c.is_empty.ensures ∙ c.if-is_empty.true)) c.requires.rows.cover c.requires.empty
@@ -57,21 +58,23 @@ fill-requires-4 t c =
     let a = (goal.at.fill-requires-4 t c).In_ok-parts in
     (omega (arith, c.decreases, large t a), can_fill t a _ (grows_three _ _ _ _ c.fill.ensures.grows c.fill-2.ensures.grows c.fill-3.ensures.grows) _ _ _ c.deref-4.ensures.value (rows t a).3)
 
+-- the four parts show the cells
+module _ (t : ℕ) (c : In_ok-se t) where
+  four : FourWindows c.fill-4.new.self (c.args.level - 1) (counted (cell c.args.cells.now) c.args.at) 0 0 c.in_ok-nw.nw c.in_ok-ne.ne c.in_ok-sw.sw c.in_ok-se.se
+  four =
+      four_filled c.fill.new.self c.fill-2.new.self c.fill-3.new.self c.fill-4.new.self c.fill.ensures.grows.sound c.fill-2.ensures.grows c.fill-3.ensures.grows c.fill-4.ensures.grows
+      c.args.level c.half_side.result (omega (arith, c.requires.least)) c.half_side.ensures.half c.in_ok-nw.nw c.in_ok-ne.ne c.in_ok-sw.sw c.in_ok-se.se c.args.at c.part_corners-corners.result c.part_corners-corners.ensures (cell c.args.cells.now)
+      c.in_ok-nw.ensures.shows c.in_ok-ne.ensures.shows c.in_ok-sw.ensures.shows c.in_ok-se.ensures.shows
+
 pub join-requires : goal.join-requires
-join-requires t c =
-    let large : 2 ≤ c.args.level = omega (arith, c.requires.least) in (
-      _,
-      can_join_filled c.fill.new.self c.fill-2.new.self c.fill-3.new.self c.fill-4.new.self c.fill.ensures.grows.sound c.fill-2.ensures.grows c.fill-3.ensures.grows c.fill-4.ensures.grows
-          c.args.level c.half_side.result large c.half_side.ensures.half c.in_ok-nw.nw c.in_ok-ne.ne c.in_ok-sw.sw c.in_ok-se.se c.args.at c.part_corners-corners.result c.part_corners-corners.ensures (cell c.args.cells.now)
-          c.in_ok-nw.ensures.shows c.in_ok-ne.ensures.shows c.in_ok-sw.ensures.shows c.in_ok-se.ensures.shows (omega (arith, c.requires.most)),
-    )
+join-requires t c = (
+  _,
+  can_join_four c.fill-4.new.self c.args.level (omega (arith, c.requires.least)) _ 0 0 c.in_ok-nw.nw c.in_ok-ne.ne c.in_ok-sw.sw c.in_ok-se.se (four t (goal.at.join-requires t c).In_ok-se) (omega (arith, c.requires.most)),
+)
 
 pub returns-clause-shows : goal.returns-clause-shows
 returns-clause-shows t c =
-    let large : 2 ≤ c.args.level = omega (arith, c.requires.least) in
-    filled_joined c.fill.new.self c.fill-2.new.self c.fill-3.new.self c.fill-4.new.self c.fill.ensures.grows.sound c.fill-2.ensures.grows c.fill-3.ensures.grows c.fill-4.ensures.grows
-    c.args.level c.half_side.result large c.half_side.ensures.half c.in_ok-nw.nw c.in_ok-ne.ne c.in_ok-sw.sw c.in_ok-se.se c.args.at c.part_corners-corners.result c.part_corners-corners.ensures (cell c.args.cells.now)
-    c.in_ok-nw.ensures.shows c.in_ok-ne.ensures.shows c.in_ok-sw.ensures.shows c.in_ok-se.ensures.shows c.join.new.self c.join.result c.join.ensures.shows
+    four_joined c.fill-4.new.self c.args.level (omega (arith, c.requires.least)) _ 0 0 c.in_ok-nw.nw c.in_ok-ne.ne c.in_ok-sw.sw c.in_ok-se.se (four t (goal.at.returns-clause-shows t c).In_ok-se) c.join.new.self c.join.result c.join.ensures.shows
 
 pub returns-clause-grows : goal.returns-clause-grows
 returns-clause-grows t c = grows_five c.args.self.now c.fill.new.self c.fill-2.new.self c.fill-3.new.self c.fill.ensures.grows c.fill-2.ensures.grows c.fill-3.ensures.grows c.fill-4.new.self c.join.new.self c.fill-4.ensures.grows c.join.ensures.grows
