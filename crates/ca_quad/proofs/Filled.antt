@@ -110,7 +110,7 @@ window_to nodes id k p from at dx dy ex ey h = record {
 }
 
 -- four squares side by side can be joined, and their join shows them
-module _ (nodes : List Node) (level : ℕ) (large : 2 ≤ level) (cells : ℕ → ℕ → ℕ) (x y nw ne sw se : ℕ) (four : FourWindows nodes (level - 1) cells x y nw ne sw se) where
+module _ {nodes : List Node} (level : ℕ) {cells : ℕ → ℕ → ℕ} {x y nw ne sw se : ℕ} (large : 2 ≤ level) (four : FourWindows nodes (level - 1) cells x y nw ne sw se) where
   pub can_join_four : level ≤ 125 → AreFour nodes (level - 1) nw ne sw se
   can_join_four low = four_windows nodes (level - 1) cells x y nw ne sw se four (omega arith)
 
@@ -131,12 +131,12 @@ module _ (s1 s2 s3 s4 : List Node) (sound : IsSoundStore s1) (g2 : Grows s1 s2) 
         (subst (λ n. ShowsFrom s2 ne k cells (x + n) y) side q) (subst (λ n. ShowsFrom s3 sw k cells x (y + n)) side r) (subst (λ n. ShowsFrom s4 se k cells (x + n) (y + n)) side s)
 
     pub can_join : level ≤ 125 → AreFour s4 (level - 1) nw ne sw se
-    can_join = can_join_four s4 level large cells x y nw ne sw se quarters
+    can_join = can_join_four level large quarters
 
     pub joined : {E : Type 0} (new : List Node) (u : Result ℕ E)
         → ((l : ℕ) → IsOf s4 nw l → IfOk u (λ id. ShowsSquare new id (suc l) (together (2 ^ l) (cell_of s4 l nw) (cell_of s4 l ne) (cell_of s4 l sw) (cell_of s4 l se))))
         → IfOk u (λ id. ShowsFrom new id level cells x y)
-    joined = four_joined s4 level large cells x y nw ne sw se quarters
+    joined = four_joined level large quarters
 
   -- the same of squares that were filled, each from its own corner on
   module _ (at : Spot) (cs : Corners) (are : ArePartCorners at half cs) (cells : ℤ → ℤ → ℕ)

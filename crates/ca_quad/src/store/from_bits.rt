@@ -50,6 +50,7 @@ impl Store {
 
     // The square of this level, from 6 to 65, whose corner lies there and which shows the cells of the words,
     // given the empty one.
+    #[tactic(auto, using(crate::proofs::Filled::grows_five))]
     fn fill_words(
         &mut self,
         alloc: Global,

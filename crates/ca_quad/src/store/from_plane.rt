@@ -50,6 +50,7 @@ impl Store {
 
     // The square of this level, from 4 to 65, whose corner lies there and which shows the cells, given the
     // empty one. The rows hold all cells that lie there.
+    #[tactic(auto, using(crate::proofs::Filled::grows_five))]
     fn fill(
         &mut self,
         alloc: Global,

@@ -8,7 +8,7 @@ use Rattle.ca_quad.specs.Trees.{ShowsSquare}
 use Rattle.ca_quad.specs.inner.Filled.{counted, LiesNear}
 use Rattle.ca_quad.specs.inner.Ring.{none}
 use Rattle.ca_quad.proofs.BitWords.{window_of_part}
-use Rattle.ca_quad.proofs.Filled.{part_none, grows_three, grows_five, near_nw, near_ne, near_sw, near_se, four_filled, can_join_four, four_joined}
+use Rattle.ca_quad.proofs.Filled.{part_none, grows_three, near_nw, near_ne, near_sw, near_se, four_filled, can_join_four, four_joined}
 use Rattle.ca_quad.proofs.Growth.{grows_same, grows_on}
 use Rattle.ca_quad.proofs.Windows.{FourWindows}
 use Rattle.ca_quad.proofs.store.Store.+fill_words.Goals as goal
@@ -67,14 +67,8 @@ module _ (t : ℕ) (c : In_ok-se t) where
       (window_of_part c.fill_words-4.new.self c.in_ok-se.se k words parts.se.items cs.se half side have.se c.in_ok-se.ensures.shows)
 
 pub join-requires : goal.join-requires
-join-requires t c = (
-  _,
-  can_join_four c.fill_words-4.new.self c.args.level (omega (arith, c.requires.least)) _ 0 0 c.in_ok-nw.nw c.in_ok-ne.ne c.in_ok-sw.sw c.in_ok-se.se (four t (goal.at.join-requires t c).In_ok-se) (omega (arith, c.requires.most)),
-)
+join-requires t c = (_, can_join_four c.args.level (omega (arith, c.requires.least)) (four t (goal.at.join-requires t c).In_ok-se) (omega (arith, c.requires.most)))
 
 pub returns-clause-shows : goal.returns-clause-shows
 returns-clause-shows t c =
-    four_joined c.fill_words-4.new.self c.args.level (omega (arith, c.requires.least)) _ 0 0 c.in_ok-nw.nw c.in_ok-ne.ne c.in_ok-sw.sw c.in_ok-se.se (four t (goal.at.returns-clause-shows t c).In_ok-se) c.join.new.self c.join.result c.join.ensures.shows
-
-pub returns-clause-grows : goal.returns-clause-grows
-returns-clause-grows t c = grows_five c.args.self.now c.fill_words.new.self c.fill_words-2.new.self c.fill_words-3.new.self c.fill_words.ensures.grows c.fill_words-2.ensures.grows c.fill_words-3.ensures.grows c.fill_words-4.new.self c.join.new.self c.fill_words-4.ensures.grows c.join.ensures.grows
+    four_joined c.args.level (omega (arith, c.requires.least)) (four t (goal.at.returns-clause-shows t c).In_ok-se) c.join.new.self c.join.result c.join.ensures.shows
