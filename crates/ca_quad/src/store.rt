@@ -1,8 +1,8 @@
 //! The store of squares.
 
-ghost use Rattle.std.specs.Prelude.{◌≡◌, ◌+◌, ◌≤◌, ◌<◌, [], length, IfOk, OnErr};
+ghost use Rattle.std.specs.Prelude.{◌≡◌, ◌+◌, ◌≤◌, ◌<◌, [], ◌∷◌, length, IfOk, OnErr};
 ghost use Rattle.ca_quad.specs.declared.node.Node.TheVariants.{Block};
-ghost use Rattle.ca_quad.specs.Squares.{node_square, shown_cells4, square_of};
+ghost use Rattle.ca_quad.specs.Squares.{digit, node_square, shown_cells4, square_of};
 ghost use Rattle.ca_quad.specs.Sound.{IsSoundStore, IsStorable, Grows, AddsOnly};
 ghost use Rattle.ca_quad.specs.Trees.{IsIn};
 ghost use Rattle.ca_quad.specs.inner.Whole.{IsWhole};
@@ -129,12 +129,13 @@ impl Store {
 fn parts_of_cells4(n: u16) -> Square
     ensures { result ≡ shown_cells4 n }
 {
+    let [nw, ne, sw, se] = four_digits(u64::from(n), 16);
     Square::Parts(
         2,
-        Id::cells2((n % 16) as u8),
-        Id::cells2((n / 16 % 16) as u8),
-        Id::cells2((n / 256 % 16) as u8),
-        Id::cells2((n / 4096) as u8),
+        Id::cells2(nw as u8),
+        Id::cells2(ne as u8),
+        Id::cells2(sw as u8),
+        Id::cells2(se as u8),
     )
 }
 
@@ -142,13 +143,30 @@ fn parts_of_cells4(n: u16) -> Square
 fn parts_of_block(n: u64) -> Square
     ensures { result ≡ node_square (Block n) }
 {
+    let [nw, ne, sw, se] = four_digits(n, 65536);
     Square::Parts(
         3,
-        Id::cells4((n % 65536) as u16),
-        Id::cells4((n / 65536 % 65536) as u16),
-        Id::cells4((n / 4294967296 % 65536) as u16),
-        Id::cells4((n / 281474976710656) as u16),
+        Id::cells4(nw as u16),
+        Id::cells4(ne as u16),
+        Id::cells4(sw as u16),
+        Id::cells4(se as u16),
     )
+}
+
+// The four lowest digits of a number in this base, the lowest first.
+#[inline(always)]
+fn four_digits(n: u64, base: u64) -> [u64; 4]
+    requires least { 2 ≤ base }
+    requires most { base ≤ 65536 }
+    ensures { result ≡ digit base n 0 ∷ digit base n 1 ∷ digit base n 2 ∷ digit base n 3 ∷ [] }
+{
+    let square = base * base;
+    [
+        n % base,
+        n / base % base,
+        n / square % base,
+        n / (base * square) % base,
+    ]
 }
 
 // What a kept node looks like.
