@@ -12,5 +12,6 @@ pub mod Refusals
 pub mod Returns
 pub mod Spending
 pub mod Tables
+pub mod Tasks
 pub mod Divisors
 pub mod Subjects

@@ -17,7 +17,7 @@ use crate::note::Note;
 use crate::noting::note_on;
 use crate::observer::Observer;
 use crate::verdict::Answer;
-use crate::verifier::{Library, Needed, Tables, find_files, verdict_on};
+use crate::verifier::{Library, Needed, Tables, Task, find_files, verdict_on};
 use ca_plane::Memory;
 use ca_run::Unwatched;
 use std::alloc::Global;
@@ -179,7 +179,12 @@ fn answer_to<'a, 'f, O: Observer>(
 {
     let asked = claims.claim(index);
     observer.begins(asked.line);
-    let judged = verdict_on(alloc, library, &asked.claim, needed, limits, observer);
+    let task = Task {
+        claim: &asked.claim,
+        needed,
+        limits,
+    };
+    let judged = verdict_on(alloc, library, &task, observer);
     observer.ends();
     let answer = Answer {
         line: asked.line,

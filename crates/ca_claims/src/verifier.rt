@@ -1,9 +1,8 @@
 //! Verdicts on the claims of a text, each on its own.
 
-ghost use Rattle.std.specs.Prelude.{◌≡◌, ◌≢◌, ℕ, ◌<◌, List, [], ◌∷◌, map, length, IfOk, OnErr, MatchResult};
-ghost use Rattle.std.specs.List.{AllByRecursion};
+ghost use Rattle.std.specs.Prelude.{◌≡◌, ◌≢◌, ℕ, List, [], ◌∷◌, map, IfOk, OnErr, MatchResult};
 ghost use Rattle.std.specs.Option.{option_copied};
-ghost use Rattle.ca_claims.specs.Text.{Claim as TextClaim, patterns_of, about, HasGoodNumbers};
+ghost use Rattle.ca_claims.specs.Text.{Claim as TextClaim, patterns_of, about};
 ghost use Rattle.ca_claims.specs.Places.{path_at};
 ghost use Rattle.ca_claims.specs.Means.{contents, bytes_at};
 ghost use Rattle.ca_claims.specs.declared.refusal.About.TheVariants as abouts;
@@ -17,7 +16,7 @@ ghost use Rattle.ca_claims.specs.inner.Decided.{IsDecided};
 ghost use Rattle.ca_claims.specs.inner.Subjects.{IsSubject, AreShown};
 ghost use Rattle.ca_claims.specs.inner.Patterns.{items, IsEachOnce};
 ghost use Rattle.ca_claims.specs.inner.Refusals.{IsJudgedOn};
-ghost use Rattle.ca_claims.specs.inner.Tables.{AreRead};
+ghost use Rattle.ca_claims.specs.inner.Tasks.{CanBeJudged, IsOnFiles};
 
 mod agreement;
 mod counts;
@@ -27,6 +26,7 @@ mod one_or_two;
 mod patterns;
 mod prepared;
 mod tables;
+mod task;
 
 use crate::claims::{Asks, Claim, Claims};
 use crate::decide::{Case, decide};
@@ -43,6 +43,7 @@ pub(crate) use one_or_two::OneOrTwo;
 use prepared::{Prepared, prepare};
 use std::alloc::Global;
 pub(crate) use tables::Tables;
+pub(crate) use task::Task;
 
 /// One answer for each claim, in the order of their lines. Of two files with one path the first counts. The
 /// rule tables are read once for all claims; of two tables with one name that of the first rule line counts.
@@ -93,32 +94,24 @@ pub(crate) fn find_files<'a>(
     Ok(found)
 }
 
-/// The verdict on a claim, where these are the bytes of the files with the paths of the text and what its
-/// rule lines' files hold. Where there is no memory to judge it beside what the library keeps, that is let
-/// go.
+/// The verdict on a claim. Where there is no memory to judge it beside what the library keeps, that is let go.
 pub(crate) fn verdict_on<'a, O: Observer>(
     alloc: Global,
     library: &mut Library<'a>,
-    claim: &Claim<usize>,
-    needed: &Needed<'a>,
-    limits: Limits,
+    task: &Task<'_, 'a>,
     observer: &mut O,
 ) -> Judged
-    requires limits { AreGoodLimits limits }
-    requires within { AllByRecursion (λ i. i < length needed.now.found.items) (patterns_of claim.now) }
-    requires numbers { HasGoodNumbers claim.now.kind }
-    ensures { (files : List (List ℕ × List ℕ)) (paths rules : List (List ℕ))
-        → map option_copied needed.now.found.items ≡ map (bytes_at files) paths
-        → AreRead files paths rules needed.now.tables
-        → IsJudgedOn files paths rules limits.work (about (path_at paths) claim.now) result.verdict result.about }
+    requires { CanBeJudged task.now }
+    ensures { (files : List (List ℕ × List ℕ)) (paths rules : List (List ℕ)) → IsOnFiles files paths rules task.now
+        → IsJudgedOn files paths rules task.now.limits.work (about (path_at paths) task.now.claim.now) result.verdict result.about }
 {
-    let judged = as_judged(judge(alloc, library, claim, needed, limits, observer));
+    let judged = as_judged(judge(alloc, library, task, observer));
     if library.is_empty() || !wants_memory(&judged.verdict) {
         return judged;
     }
     library.clear();
     let mut empty = Library::new(alloc, false);
-    as_judged(judge(alloc, &mut empty, claim, needed, limits, observer))
+    as_judged(judge(alloc, &mut empty, task, observer))
 }
 
 /// Whether a verdict is that there is no memory.
@@ -145,36 +138,29 @@ fn as_judged(judged: Result<Verdict, Refusal>) -> Judged
     }
 }
 
-/// The verdict on a claim, where these are the bytes of the files with the paths of the text and what its
-/// rule lines' files hold, or why there is none.
+/// The verdict on a claim, or why there is none.
 fn judge<'a, O: Observer>(
     alloc: Global,
     library: &mut Library<'a>,
-    claim: &Claim<usize>,
-    needed: &Needed<'a>,
-    limits: Limits,
+    task: &Task<'_, 'a>,
     observer: &mut O,
 ) -> Result<Verdict, Refusal>
-    requires limits { AreGoodLimits limits }
-    requires within { AllByRecursion (λ i. i < length needed.now.found.items) (patterns_of claim.now) }
-    requires numbers { HasGoodNumbers claim.now.kind }
-    ensures { (files : List (List ℕ × List ℕ)) (paths rules : List (List ℕ))
-        → map option_copied needed.now.found.items ≡ map (bytes_at files) paths
-        → AreRead files paths rules needed.now.tables
+    requires { CanBeJudged task.now }
+    ensures { (files : List (List ℕ × List ℕ)) (paths rules : List (List ℕ)) → IsOnFiles files paths rules task.now
         → MatchResult result
-        (λ verdict. IsJudgedOn files paths rules limits.work (about (path_at paths) claim.now) verdict abouts.Claim)
-        (λ r. IsJudgedOn files paths rules limits.work (about (path_at paths) claim.now) (Refused r.cause) r.about) }
+        (λ verdict. IsJudgedOn files paths rules task.now.limits.work (about (path_at paths) task.now.claim.now) verdict abouts.Claim)
+        (λ r. IsJudgedOn files paths rules task.now.limits.work (about (path_at paths) task.now.claim.now) (Refused r.cause) r.about) }
 {
-    let asks = claim.kind.asks();
-    let places = places_of(claim);
+    let asks = task.claim.kind.asks();
+    let places = places_of(task.claim);
     let prepared = prepare(
         alloc,
         library,
         &places,
         asks,
-        &needed.found,
-        &needed.tables,
-        limits,
+        &task.needed.found,
+        &task.needed.tables,
+        task.limits,
     )?;
     Ok(decide_on(alloc, prepared, asks, observer))
 }

@@ -18,7 +18,7 @@ returns g c = λ files e read.
     let paths = c.args.claims.now.paths in
     let rules = c.args.claims.now.rules in
     let claim = about (path_at paths) c.claim-asked.result.claim in
-    let judged = c.verdict_on-judged.ensures files paths rules e read in
+    let judged = c.verdict_on-judged.ensures files paths rules (record { found = e; read = read }) in
     let same = c.patterns.ensures.claim (c.claim-asked.result.line, claim) c.claim-asked.ensures.claim in
     let noted = c.note_on.ensures files
     (subst (λ ps. IsOnVerdict files paths rules ps c.verdict_on-judged.result.verdict c.verdict_on-judged.result.about) same judged.on) in
