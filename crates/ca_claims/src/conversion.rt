@@ -2,12 +2,12 @@
 
 ghost use Rattle.std.specs.Prelude.{IfOk, IfErr};
 ghost use Rattle.ca_plane.specs.Plane.{cell as plane_cell};
-ghost use Rattle.ca_quad.specs.Trees.{IsTree, cell};
+ghost use Rattle.ca_quad.specs.Trees.{cell};
 ghost use Rattle.ca_rule.specs.Rule.{rule_value};
 ghost use Rattle.ca_claims.specs.declared.format.Format.TheVariants.{Rle, Mc};
 ghost use Rattle.ca_claims.specs.Converted.{IsConverted, IsConvertFault};
-ghost use Rattle.ca_claims.specs.inner.Patterns.{rule_of};
-ghost use Rattle.ca_claims.specs.inner.Ready.{AreWritable, IsWritablePlane, IsWrittenAs, AreUnwritten};
+ghost use Rattle.ca_claims.specs.inner.Ready.{IsWritableTree, IsWritablePlane, IsTreeWrittenAs, IsWrittenAs};
+ghost use Rattle.ca_claims.specs.inner.Ready.{AreUnwritten};
 
 use crate::cells::plane_of;
 use crate::format::Format;
@@ -118,11 +118,8 @@ fn rle_of_plane(
 
 /// The tidy RLE of a tree, where it hasn't too many cells.
 fn rle_of_tree(alloc: Global, store: &Store, ruled: &Ruled<'_>) -> Result<Vec<u8>, ConvertFault>
-    requires tree { IsTree store.now ruled.now.pattern.tree }
-    requires writable { AreWritable (cell store.now ruled.now.pattern.tree) (rule_of ruled.now)
-        ruled.now.pattern.generation }
-    ensures written { IfOk result (λ text. IsWrittenAs Rle (cell store.now ruled.now.pattern.tree)
-        (rule_of ruled.now) ruled.now.pattern.generation text.items) }
+    requires { IsWritableTree store.now ruled.now }
+    ensures written { IfOk result (λ text. IsTreeWrittenAs Rle store.now ruled.now text.items) }
     ensures fault { IfErr result (AreUnwritten Rle (cell store.now ruled.now.pattern.tree)) }
 {
     match plane_of(alloc, store, ruled.pattern.tree) {
@@ -134,11 +131,8 @@ fn rle_of_tree(alloc: Global, store: &Store, ruled: &Ruled<'_>) -> Result<Vec<u8
 
 /// The tidy macrocell of a tree.
 fn macro_of(alloc: Global, store: &mut Store, ruled: &Ruled<'_>) -> Result<Vec<u8>, ConvertFault>
-    requires tree { IsTree store.old ruled.now.pattern.tree }
-    requires writable { AreWritable (cell store.old ruled.now.pattern.tree) (rule_of ruled.now)
-        ruled.now.pattern.generation }
-    ensures written { IfOk result (λ text. IsWrittenAs Mc (cell store.old ruled.now.pattern.tree)
-        (rule_of ruled.now) ruled.now.pattern.generation text.items) }
+    requires { IsWritableTree store.old ruled.now }
+    ensures written { IfOk result (λ text. IsTreeWrittenAs Mc store.old ruled.now text.items) }
     ensures fault { IfErr result (AreUnwritten Mc (cell store.old ruled.now.pattern.tree)) }
 {
     let Ok(rule_text) = ruled.rule.text(alloc) else {
