@@ -22,7 +22,7 @@ use crate::verdict::PatternFault;
 use ca_macro::{LineFault as MacroLineFault, MacroFault, read_macro_with_line};
 use ca_plane::Memory;
 use ca_quad::{Store, Tree};
-use ca_rle::{LineFault as RleLineFault, PackedCells, PackedPattern, RleFault, read_packed_rle};
+use ca_rle::{LineFault as RleLineFault, PackedCells, RleFault, read_packed_rle};
 use std::alloc::Global;
 
 /// Reads a pattern file into the store: bytes that begin with `[M2]` as macrocell, and all others as RLE.
@@ -95,11 +95,7 @@ fn load_rle(alloc: Global, store: &mut Store, bytes: &[u8]) -> Result<Loaded, Ba
     ensures grows { Grows store.old store.new }
 {
     let _ = store.count();
-    let PackedPattern {
-        cells,
-        rule_text,
-        generation,
-    } = match read_packed_rle(alloc, bytes) {
+    let pattern = match read_packed_rle(alloc, bytes) {
         Ok(pattern) => pattern,
         Err(
             RleLineFault {
@@ -114,14 +110,14 @@ fn load_rle(alloc: Global, store: &mut Store, bytes: &[u8]) -> Result<Loaded, Ba
             });
         }
     };
-    let Ok(tree) = tree_of(store, cells) else {
+    let Ok(tree) = tree_of(store, pattern.cells) else {
         return Err(OUT_OF_MEMORY);
     };
     Ok(Loaded {
         kind: Format::Rle,
         tree,
-        rule_text,
-        generation,
+        rule_text: pattern.rule_text,
+        generation: pattern.generation,
     })
 }
 
