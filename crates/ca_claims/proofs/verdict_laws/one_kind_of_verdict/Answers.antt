@@ -1,4 +1,3 @@
-use Rattle.std.proofs.Common.{sym}
 use Rattle.ca_claims.specs.declared.verdict.Cause.TheVariants.{Work}
 use Rattle.ca_claims.specs.Text.{patterns_of}
 use Rattle.ca_claims.specs.Truth.{asks_of}
