@@ -15,7 +15,7 @@ use Rattle.ca_quad.specs.Sound.{IsSoundStore, Grows}
 use Rattle.ca_quad.specs.Trees.{ShowsSquare, AreFour, AreQuarters, cell as tree_cell}
 use Rattle.ca_quad.specs.Trimmed.{HoldsAll}
 use Rattle.ca_quad.specs.inner.Drawn.{ArePartCorners}
-use Rattle.ca_quad.specs.inner.Filled.{counted, LiesNear, HoldsBox}
+use Rattle.ca_quad.specs.inner.Filled.{counted, IsEmptyOf, LiesNear, HoldsBox}
 use Rattle.ca_quad.specs.inner.Ring.{none}
 use Rattle.ca_quad.specs.inner.Window.{ShowsFrom}
 use Rattle.ca_quad.proofs.Cells.{twice}
@@ -39,12 +39,16 @@ none_first nodes sound id k (p ∷ ps) d four h q = record {
 }
 
 -- and stays so
-pub part_none : (old new : List Node) → IsSoundStore old → Grows old new → (id level : ℕ) (parts : List ℕ) (d : ℕ) → length parts ≡ 4 → 2 ≤ level → ShowsSquare old id level none
-    → ((l : ℕ) → IsOf old id (suc l) → AreQuarters old id l parts) → ShowsSquare new (get_or parts 0 d) (level - 1) none
-part_none old new sound grows id level parts d four large shows quarters =
+pub part_empty : (old new : List Node) → IsSoundStore old → Grows old new → (least level id : ℕ) (parts : List ℕ) (d : ℕ) → length parts ≡ 4 → 1 ≤ least → suc least ≤ level → IsEmptyOf old least level id
+    → ((l : ℕ) → IsOf old id (suc l) → AreQuarters old id l parts) → IsEmptyOf new least (level - 1) (get_or parts 0 d)
+part_empty old new sound grows least level id parts d four some above empty quarters =
     let next : level ≡ suc (level - 1) = omega arith in
-    let h : ShowsSquare old id (suc (level - 1)) none = subst (λ l. ShowsSquare old id l none) next shows in
-    shows_stays old new sound grows (get_or parts 0 d) (level - 1) none (none_first old sound id (level - 1) parts d four h (quarters (level - 1) h.is_square))
+    let h : ShowsSquare old id (suc (level - 1)) none = subst (λ l. ShowsSquare old id l none) next empty.shows in
+    record {
+      low = omega arith;
+      high = omega (arith, empty.high);
+      shows = shows_stays old new sound grows (get_or parts 0 d) (level - 1) none (none_first old sound id (level - 1) parts d four h (quarters (level - 1) h.is_square));
+    }
 
 -- squares that are made one after the other
 module _ (s0 s1 s2 s3 : List Node) (g1 : Grows s0 s1) (g2 : Grows s1 s2) (g3 : Grows s2 s3) where

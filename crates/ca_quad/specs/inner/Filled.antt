@@ -1,15 +1,24 @@
 -- Cells of a plane that are gathered into squares.
-use Rattle.std.specs.Prelude.{ℕ, ℤ, ◌^◌, pos, neg_ℤ, ◌+ℤ◌, ◌<ℤ◌, ◌≤ℤ◌, List}
+use Rattle.std.specs.Prelude.{ℕ, ◌≤◌, ℤ, ◌^◌, pos, neg_ℤ, ◌+ℤ◌, ◌<ℤ◌, ◌≤ℤ◌, List}
 use Rattle.ca_plane.specs.declared.point.Bounds.{Bounds}
 use Rattle.ca_plane.specs.Plane.{Picture}
 use Rattle.ca_plane.specs.Sparse.{IsSparse}
+use Rattle.ca_quad.specs.declared.node.Node.{Node}
 use Rattle.ca_quad.specs.declared.store.rows.Row.{Row}
 use Rattle.ca_quad.specs.declared.tree.Spot.{Spot}
+use Rattle.ca_quad.specs.Trees.{ShowsSquare}
+use Rattle.ca_quad.specs.inner.Ring.{none}
 use Rattle.ca_quad.specs.inner.Rows.{AreRows, Cover}
 
 -- the cells of a plane, counted from this place
 abbrev pub counted : (ℤ → ℤ → ℕ) → Spot → ℕ → ℕ → ℕ
 counted cells at x y = cells (at.x +ℤ pos x) (at.y +ℤ pos y)
+
+-- this is the empty square of the level, which is from the least one to 65
+pub record IsEmptyOf (nodes : List Node) (least level id : ℕ) : Type 0 where
+  pub low : least ≤ level
+  pub high : level ≤ 65
+  pub shows : ShowsSquare nodes id level none
 
 -- a square of this side that lies there is far from the ends of an i128
 pub record LiesNear (side : ℕ) (at : Spot) : Type 0 where

@@ -3,11 +3,10 @@
 ghost use Rattle.std.specs.Prelude.{◌≡◌, ℕ, ◌-◌, ◌<◌, ◌≤◌, ◌*◌, ◌^◌, ℤ, IsTrue, IsFalse, IfOk};
 ghost use Rattle.ca_plane.specs.BitPlane.{bit_cell, AreNearWords, IsNearWord};
 ghost use Rattle.ca_quad.specs.Sound.{Grows};
-ghost use Rattle.ca_quad.specs.Trees.{IsTree, ShowsSquare, cell};
+ghost use Rattle.ca_quad.specs.Trees.{IsTree, cell};
 ghost use Rattle.ca_quad.specs.Trimmed.{HoldsAll, IsTrimmed};
 ghost use Rattle.ca_quad.specs.inner.BitParts.{AreApart, AreWordQuarters, HasNoCell, HaveCells, IsBoxOfWord};
-ghost use Rattle.ca_quad.specs.inner.Filled.{counted, LiesNear};
-ghost use Rattle.ca_quad.specs.inner.Ring.{none};
+ghost use Rattle.ca_quad.specs.inner.Filled.{counted, IsEmptyOf, LiesNear};
 ghost use Rattle.ca_quad.specs.inner.Window.{ShowsFrom};
 
 use super::Store;
@@ -59,9 +58,7 @@ impl Store {
         level: u8,
         at: Spot,
     ) -> Result<Id, Memory>
-        requires least { 6 ≤ level }
-        requires most { level ≤ 65 }
-        requires empty { ShowsSquare self.old empty level none }
+        requires empty { IsEmptyOf self.old 6 level empty }
         requires near { LiesNear (2 ^ level) at }
         ensures shows { IfOk result (λ id. ShowsFrom self.new id level (counted (bit_cell words.items) at) 0 0) }
         ensures grows { Grows self.old self.new }

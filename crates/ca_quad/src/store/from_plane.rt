@@ -3,10 +3,9 @@
 ghost use Rattle.std.specs.Prelude.{◌≡◌, ℕ, ◌-◌, ◌≤◌, ◌^◌, ℤ, IsTrue, IsFalse, IfOk};
 ghost use Rattle.ca_plane.specs.Plane.{cell as plane_cell};
 ghost use Rattle.ca_quad.specs.Sound.{Grows};
-ghost use Rattle.ca_quad.specs.Trees.{IsTree, ShowsSquare, cell};
+ghost use Rattle.ca_quad.specs.Trees.{IsTree, cell};
 ghost use Rattle.ca_quad.specs.Trimmed.{HoldsAll, IsTrimmed};
-ghost use Rattle.ca_quad.specs.inner.Filled.{counted, AreRowsOf, HoldsBox};
-ghost use Rattle.ca_quad.specs.inner.Ring.{none};
+ghost use Rattle.ca_quad.specs.inner.Filled.{counted, AreRowsOf, HoldsBox, IsEmptyOf};
 ghost use Rattle.ca_quad.specs.inner.Window.{ShowsFrom};
 
 use super::Store;
@@ -60,9 +59,7 @@ impl Store {
         level: u8,
         at: Spot,
     ) -> Result<Id, Memory>
-        requires least { 4 ≤ level }
-        requires most { level ≤ 65 }
-        requires empty { ShowsSquare self.old empty level none }
+        requires empty { IsEmptyOf self.old 4 level empty }
         requires rows { AreRowsOf level cells.now rows.now at }
         ensures shows { IfOk result (λ id. ShowsFrom self.new id level (counted (plane_cell cells.now) at) 0 0) }
         ensures grows { Grows self.old self.new }

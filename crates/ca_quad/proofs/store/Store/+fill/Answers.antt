@@ -5,18 +5,16 @@ use Rattle.ca_quad.specs.declared.node.Node.{Node}
 use Rattle.ca_quad.specs.declared.store.rows.Row.{Row}
 use Rattle.ca_quad.specs.declared.tree.Spot.{Spot}
 use Rattle.ca_quad.specs.Sound.{IsSoundStore, Grows}
-use Rattle.ca_quad.specs.Trees.{ShowsSquare}
-use Rattle.ca_quad.specs.inner.Filled.{counted, AreRowsOf}
-use Rattle.ca_quad.specs.inner.Ring.{none}
+use Rattle.ca_quad.specs.inner.Filled.{counted, IsEmptyOf, AreRowsOf}
 use Rattle.ca_quad.proofs.Covers.{shows_none, rows_four}
-use Rattle.ca_quad.proofs.Filled.{part_none, grows_three, four_filled, can_join_four, four_joined}
+use Rattle.ca_quad.proofs.Filled.{part_empty, grows_three, four_filled, can_join_four, four_joined}
 use Rattle.ca_quad.proofs.Growth.{grows_same, grows_on}
 use Rattle.ca_quad.proofs.Windows.{FourWindows}
 use Rattle.ca_quad.proofs.store.Store.+fill.Goals as goal
 use Rattle.ca_quad.proofs.store.Store.+fill.Goals.{In_ok-parts, In_ok-se}
 
 pub returns-then-is_empty-clause-shows : goal.returns-then-is_empty-clause-shows
-returns-then-is_empty-clause-shows t c = shows_none c.args.self.now c.args.empty c.args.level c.args.cells.now c.args.rows.now c.args.at (eqb-true (length c.args.rows.now) 0 (sym c.is_empty.ensures ∙ c.if-is_empty.true)) c.requires.rows.cover c.requires.empty
+returns-then-is_empty-clause-shows t c = shows_none c.args.self.now c.args.empty c.args.level c.args.cells.now c.args.rows.now c.args.at (eqb-true (length c.args.rows.now) 0 (sym c.is_empty.ensures ∙ c.if-is_empty.true)) c.requires.rows.cover c.requires.empty.shows
 
 -- what the four calls share
 module _ (t : ℕ) (c : In_ok-parts t) where
@@ -30,13 +28,12 @@ module _ (t : ℕ) (c : In_ok-parts t) where
       c.in_ok-parts.parts c.in_ok-parts.ensures
 
   can_fill : (new : List Node) → Grows c.args.self.now new → (now part : List Row) (at : Spot) → now ≡ part → AreRowsOf (c.args.level - 1) c.args.cells.now part at
-      → 4 ≤ c.args.level - 1 × (c.args.level - 1 ≤ 65 × (ShowsSquare new (get_or c.children.result 0 c.index-children-0.result) (c.args.level - 1) none × AreRowsOf (c.args.level - 1) c.args.cells.now now at))
-  can_fill new grows now part at e of =
-      let empty =
-      part_none c.args.self.now new (subst IsSoundStore c.self.view_is c.self.invariant) grows c.args.empty c.args.level c.children.result c.index-children-0.result (omega (arith, c.children.type_inv)) (omega (arith, large))
-      c.requires.empty c.children.ensures.quarters
-      in
-      (omega (arith, large), (omega (arith, c.requires.most), (empty, rw e of)))
+      → IsEmptyOf new 4 (c.args.level - 1) (get_or c.children.result 0 c.index-children-0.result) × AreRowsOf (c.args.level - 1) c.args.cells.now now at
+  can_fill new grows now part at e of = (
+    part_empty c.args.self.now new (subst IsSoundStore c.self.view_is c.self.invariant) grows 4 c.args.level c.args.empty c.children.result c.index-children-0.result (omega (arith, c.children.type_inv)) (omega arith) (omega (arith, large))
+        c.requires.empty c.children.ensures.quarters,
+    rw e of,
+  )
 
 pub fill-requires : goal.fill-requires
 fill-requires t c =
@@ -63,12 +60,12 @@ module _ (t : ℕ) (c : In_ok-se t) where
   four : FourWindows c.fill-4.new.self (c.args.level - 1) (counted (cell c.args.cells.now) c.args.at) 0 0 c.in_ok-nw.nw c.in_ok-ne.ne c.in_ok-sw.sw c.in_ok-se.se
   four =
       four_filled c.fill.new.self c.fill-2.new.self c.fill-3.new.self c.fill-4.new.self c.fill.ensures.grows.sound c.fill-2.ensures.grows c.fill-3.ensures.grows c.fill-4.ensures.grows
-      c.args.level c.half_side.result (omega (arith, c.requires.least)) c.half_side.ensures.half c.in_ok-nw.nw c.in_ok-ne.ne c.in_ok-sw.sw c.in_ok-se.se c.args.at c.part_corners-corners.result c.part_corners-corners.ensures (cell c.args.cells.now)
+      c.args.level c.half_side.result (omega (arith, c.requires.empty.low)) c.half_side.ensures.half c.in_ok-nw.nw c.in_ok-ne.ne c.in_ok-sw.sw c.in_ok-se.se c.args.at c.part_corners-corners.result c.part_corners-corners.ensures (cell c.args.cells.now)
       c.in_ok-nw.ensures.shows c.in_ok-ne.ensures.shows c.in_ok-sw.ensures.shows c.in_ok-se.ensures.shows
 
 pub join-requires : goal.join-requires
-join-requires t c = (_, can_join_four c.args.level (omega (arith, c.requires.least)) (four t (goal.at.join-requires t c).In_ok-se) (omega (arith, c.requires.most)))
+join-requires t c = (_, can_join_four c.args.level (omega (arith, c.requires.empty.low)) (four t (goal.at.join-requires t c).In_ok-se) (omega (arith, c.requires.empty.high)))
 
 pub returns-clause-shows : goal.returns-clause-shows
 returns-clause-shows t c =
-    four_joined c.args.level (omega (arith, c.requires.least)) (four t (goal.at.returns-clause-shows t c).In_ok-se) c.join.new.self c.join.result c.join.ensures.shows
+    four_joined c.args.level (omega (arith, c.requires.empty.low)) (four t (goal.at.returns-clause-shows t c).In_ok-se) c.join.new.self c.join.result c.join.ensures.shows

@@ -4,11 +4,9 @@ use Rattle.ca_plane.specs.BitPlane.{bit_cell}
 use Rattle.ca_quad.specs.declared.node.Node.{Node}
 use Rattle.ca_quad.specs.declared.tree.Spot.{Spot}
 use Rattle.ca_quad.specs.Sound.{IsSoundStore, Grows}
-use Rattle.ca_quad.specs.Trees.{ShowsSquare}
-use Rattle.ca_quad.specs.inner.Filled.{counted, LiesNear}
-use Rattle.ca_quad.specs.inner.Ring.{none}
+use Rattle.ca_quad.specs.inner.Filled.{counted, IsEmptyOf, LiesNear}
 use Rattle.ca_quad.proofs.BitWords.{window_of_part}
-use Rattle.ca_quad.proofs.Filled.{part_none, grows_three, near_nw, near_ne, near_sw, near_se, four_filled, can_join_four, four_joined}
+use Rattle.ca_quad.proofs.Filled.{part_empty, grows_three, near_nw, near_ne, near_sw, near_se, four_filled, can_join_four, four_joined}
 use Rattle.ca_quad.proofs.Growth.{grows_same, grows_on}
 use Rattle.ca_quad.proofs.Windows.{FourWindows}
 use Rattle.ca_quad.proofs.store.Store.+fill_words.Goals as goal
@@ -17,16 +15,15 @@ use Rattle.ca_quad.proofs.store.Store.+fill_words.Goals.{In_ok-parts, In_ok-se}
 -- what the four calls share
 module _ (t : ℕ) (c : In_ok-parts t) where
   large : 7 ≤ c.args.level
-  large = grind (arith, nat_tests, c.requires.least, c.if-level-eq-BLOCK.false)
+  large = grind (arith, nat_tests, c.requires.empty.low, c.if-level-eq-BLOCK.false)
 
   can_fill : (new : List Node) → Grows c.args.self.now new → (at : Spot) → LiesNear (2 ^ (c.args.level - 1)) at
-      → 6 ≤ c.args.level - 1 × (c.args.level - 1 ≤ 65 × (ShowsSquare new (get_or c.children.result 0 c.index-children-0.result) (c.args.level - 1) none × LiesNear (2 ^ (c.args.level - 1)) at))
-  can_fill new grows at near =
-      let empty =
-      part_none c.args.self.now new (subst IsSoundStore c.self.view_is c.self.invariant) grows c.args.empty c.args.level c.children.result c.index-children-0.result (omega (arith, c.children.type_inv)) (omega (arith, large))
-      c.requires.empty c.children.ensures.quarters
-      in
-      (omega (arith, large), (omega (arith, c.requires.most), (empty, near)))
+      → IsEmptyOf new 6 (c.args.level - 1) (get_or c.children.result 0 c.index-children-0.result) × LiesNear (2 ^ (c.args.level - 1)) at
+  can_fill new grows at near = (
+    part_empty c.args.self.now new (subst IsSoundStore c.self.view_is c.self.invariant) grows 6 c.args.level c.args.empty c.children.result c.index-children-0.result (omega (arith, c.children.type_inv)) (omega arith) (omega (arith, large))
+        c.requires.empty c.children.ensures.quarters,
+    near,
+  )
 
 pub fill_words-requires : goal.fill_words-requires
 fill_words-requires t c =
@@ -60,15 +57,15 @@ module _ (t : ℕ) (c : In_ok-se t) where
       let side = c.half_side-half.ensures.half in
       let k = c.args.level - 1 in
       four_filled c.fill_words.new.self c.fill_words-2.new.self c.fill_words-3.new.self c.fill_words-4.new.self c.fill_words.ensures.grows.sound c.fill_words-2.ensures.grows c.fill_words-3.ensures.grows c.fill_words-4.ensures.grows
-      c.args.level half (omega (arith, c.requires.least)) side c.in_ok-nw.nw c.in_ok-ne.ne c.in_ok-sw.sw c.in_ok-se.se c.args.at cs c.part_corners-corners.ensures (bit_cell words)
+      c.args.level half (omega (arith, c.requires.empty.low)) side c.in_ok-nw.nw c.in_ok-ne.ne c.in_ok-sw.sw c.in_ok-se.se c.args.at cs c.part_corners-corners.ensures (bit_cell words)
       (window_of_part c.fill_words.new.self c.in_ok-nw.nw k words parts.nw.items c.args.at half side have.nw c.in_ok-nw.ensures.shows)
       (window_of_part c.fill_words-2.new.self c.in_ok-ne.ne k words parts.ne.items cs.ne half side have.ne c.in_ok-ne.ensures.shows)
       (window_of_part c.fill_words-3.new.self c.in_ok-sw.sw k words parts.sw.items cs.sw half side have.sw c.in_ok-sw.ensures.shows)
       (window_of_part c.fill_words-4.new.self c.in_ok-se.se k words parts.se.items cs.se half side have.se c.in_ok-se.ensures.shows)
 
 pub join-requires : goal.join-requires
-join-requires t c = (_, can_join_four c.args.level (omega (arith, c.requires.least)) (four t (goal.at.join-requires t c).In_ok-se) (omega (arith, c.requires.most)))
+join-requires t c = (_, can_join_four c.args.level (omega (arith, c.requires.empty.low)) (four t (goal.at.join-requires t c).In_ok-se) (omega (arith, c.requires.empty.high)))
 
 pub returns-clause-shows : goal.returns-clause-shows
 returns-clause-shows t c =
-    four_joined c.args.level (omega (arith, c.requires.least)) (four t (goal.at.returns-clause-shows t c).In_ok-se) c.join.new.self c.join.result c.join.ensures.shows
+    four_joined c.args.level (omega (arith, c.requires.empty.low)) (four t (goal.at.returns-clause-shows t c).In_ok-se) c.join.new.self c.join.result c.join.ensures.shows
