@@ -296,10 +296,10 @@ pub kept_recalled : (next : List ℕ → ℕ) (nodes : List Node) (slots : List 
 kept_recalled next nodes slots id k j None all square e = tt
 kept_recalled next nodes slots id k j (Some half) all square e = centre_of next nodes id k j half (all id j half e) square
 
--- after a write, what a slot has is still the centre of its square
-pub kept_more : (next : List ℕ → ℕ) (nodes : List Node) (old new : List (Option (ℕ × ℕ × ℕ))) (id k j half : ℕ) → AreRecentCentres next nodes old → IsCentre next nodes id k j half
-    → ((other time centre : ℕ) → HasRecent new other time centre → HasRecent old other time centre ⊎ ((other ≡ id) × (time ≡ j) × (centre ≡ half))) → AreRecentCentres next nodes new
-kept_more next nodes old new id k j half all this more other time centre h = elim (more other time centre h) [
+-- after a write, what is remembered by squares and times are still their centres
+centres_more : (next : List ℕ → ℕ) (nodes : List Node) (Was Is : ℕ → ℕ → ℕ → Type 0) (id k j half : ℕ) → ((other time centre : ℕ) → Was other time centre → (l : ℕ) × IsCentre next nodes other l time centre) → IsCentre next nodes id k j half
+    → ((other time centre : ℕ) → Is other time centre → Was other time centre ⊎ ((other ≡ id) × (time ≡ j) × (centre ≡ half))) → (other time centre : ℕ) → Is other time centre → (l : ℕ) × IsCentre next nodes other l time centre
+centres_more next nodes Was Is id k j half all this more other time centre h = elim (more other time centre h) [
   | inl e ↦ all other time centre e
   | inr same ↦ (
     k,
@@ -307,6 +307,11 @@ kept_more next nodes old new id k j half all this more other time centre h = eli
         (subst (λ x. IsCentre next nodes other k x half) (sym same.1) (subst (λ x. IsCentre next nodes x k j half) (sym same.0) this)),
   )
 ]
+
+-- so is what a slot has
+pub kept_more : (next : List ℕ → ℕ) (nodes : List Node) (old new : List (Option (ℕ × ℕ × ℕ))) (id k j half : ℕ) → AreRecentCentres next nodes old → IsCentre next nodes id k j half
+    → ((other time centre : ℕ) → HasRecent new other time centre → HasRecent old other time centre ⊎ ((other ≡ id) × (time ≡ j) × (centre ≡ half))) → AreRecentCentres next nodes new
+kept_more next nodes old new id k j half all this more = centres_more next nodes (HasRecent old) (HasRecent new) id k j half all this more
 
 -- what a slot has for four squares is the one in their middle
 pub leap_recalled : (next : List ℕ → ℕ) (nodes : List Node) (slots : List (Option (ℕ × ℕ × ℕ × ℕ × ℕ))) (k nw ne sw se : ℕ) (found : Option ℕ) → AreRecentLeaps next nodes slots → AreFour nodes (suc k) nw ne sw se
@@ -353,14 +358,7 @@ full_leaps_more next nodes old new id k j half time all this more other centre h
 -- and so is a single one after a write
 pub singles_more : (next : List ℕ → ℕ) (nodes : List Node) (old new : MemoView) (id k j half : ℕ) → AreSingles next nodes old → IsCentre next nodes id k j half
     → ((other time centre : ℕ) → HasSingle new other time centre → HasSingle old other time centre ⊎ ((other ≡ id) × (time ≡ j) × (centre ≡ half))) → AreSingles next nodes new
-singles_more next nodes old new id k j half all this more other time centre h = elim (more other time centre h) [
-  | inl e ↦ all other time centre e
-  | inr same ↦ (
-    k,
-    subst (λ x. IsCentre next nodes other k time x) (sym same.2)
-        (subst (λ x. IsCentre next nodes other k x half) (sym same.1) (subst (λ x. IsCentre next nodes x k j half) (sym same.0) this)),
-  )
-]
+singles_more next nodes old new id k j half all this more = centres_more next nodes (HasSingle old) (HasSingle new) id k j half all this more
 
 -- what a look-up leaves
 pub leaper_looked : {next : List ℕ → ℕ} {S : Type 0} {nodes : List Node} {old new : MemoView} {slots : SlotsView (ℕ × ℕ × ℕ)} {leaps : SlotsView (ℕ × ℕ × ℕ × ℕ × ℕ)} {capacity : ℕ} {masks : Option (ℕ × ℕ)}

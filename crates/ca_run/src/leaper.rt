@@ -120,18 +120,6 @@ impl<A: Automaton> Leaper<A> {
         self.work.used()
     }
 
-    /// How many entries the memo has, and slots for more: no more than were asked for. An entry is one result, or up to 16
-    /// results at full leap of squares with neighbouring numbers.
-    pub fn remembered(&self) -> usize
-        ensures { result ≤ self.now.memo }
-    {
-        let _ = &self.store;
-        self.memo
-            .len()
-            .saturating_add(self.recent_centres.len())
-            .saturating_add(self.recent_leaps.len())
-    }
-
     // Counts a result before it is worked out.
     fn charge(&mut self, units: u64) -> Result<(), LeapFault>
         ensures goes_on { LeaperGrows A self.old self.new }

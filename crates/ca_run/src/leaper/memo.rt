@@ -52,15 +52,6 @@ impl Memo {
         })
     }
 
-    /// How many pages and single results there are: no more than may be.
-    pub(crate) fn len(&self) -> usize
-        ensures value { result ≡ length self.now.order.entries }
-        ensures most { result ≤ self.now.order.cap }
-    {
-        let _ = &self.pages;
-        self.order.len()
-    }
-
     /// Whether no result at full leap was remembered yet.
     pub(crate) fn is_empty(&self) -> bool {
         self.pages.is_empty()

@@ -34,13 +34,6 @@ impl RecentCentres {
         }
     }
 
-    /// For how many results there is room: no more than may be.
-    pub(crate) fn len(&self) -> usize
-        ensures { result ≤ self.now.most }
-    {
-        self.slots.len()
-    }
-
     /// Where its memory comes from.
     pub(crate) fn allocator(&self) -> Global {
         self.slots.allocator()

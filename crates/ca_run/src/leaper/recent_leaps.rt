@@ -33,13 +33,6 @@ impl RecentLeaps {
         }
     }
 
-    /// For how many results there is room: no more than may be.
-    pub(crate) fn len(&self) -> usize
-        ensures { result ≤ self.now.most }
-    {
-        self.slots.len()
-    }
-
     /// What is remembered for four squares.
     pub(crate) fn get(&self, nw: Id, ne: Id, sw: Id, se: Id) -> Option<Id>
         ensures { IfSome result (λ half. Contains self.now.slots (Some (nw, ne, sw, se, half))) }

@@ -47,13 +47,6 @@ impl<T: Copy> Slots<T> {
         *self.slots.allocator()
     }
 
-    /// How many slots there are: no more than may be.
-    pub(crate) fn len(&self) -> usize
-        ensures { result ≤ self.now.most }
-    {
-        self.slots.len()
-    }
-
     /// What came last with a hash that has the slot of this one.
     pub(crate) fn get(&self, hash: u64) -> Option<T>
         ensures { IfSome result (λ entry. Contains self.now.slots (Some entry)) }
