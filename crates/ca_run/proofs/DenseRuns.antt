@@ -1,5 +1,5 @@
 -- What a run has reached, as its squares grow.
-use Rattle.std.proofs.Common.{◌≡◌, ℕ, suc, ◌+◌, ◌-◌, ◌*◌, ◌<◌, ◌≤◌, ◌^◌, ◌⊎◌, inl, inr, max, Result, Ok, Err, IfOk, List, refl, sym, subst, ◌∙◌, arith}
+use Rattle.std.proofs.Common.{◌≡◌, ℕ, suc, ◌+◌, ◌-◌, ◌*◌, ◌<◌, ◌≤◌, ◌^◌, ◌⊎◌, inl, inr, min, max, Result, Ok, Err, IfOk, List, refl, sym, subst, ◌∙◌, arith}
 use Rattle.std.specs.Prelude.{ℤ}
 use Rattle.ca_quad.specs.declared.node.Node.{Node}
 use Rattle.ca_quad.specs.declared.tree.Tree.{Tree}
@@ -13,7 +13,7 @@ use Rattle.ca_run.specs.Advanced.{IsAdvanced}
 use Rattle.ca_run.specs.Costs.{Costs}
 use Rattle.ca_run.specs.Leaping.{LeaperView, LeaperGrows}
 use Rattle.ca_run.specs.Spent.{Spent, Spends}
-use Rattle.ca_run.specs.inner.Dense.{HasReached, IsIdle, IsDense}
+use Rattle.ca_run.specs.inner.Dense.{HasReached, IsIdle, IsDense, HasLeapt}
 use Rattle.ca_run.proofs.After.{after_same}
 use Rattle.ca_run.proofs.Costs.{costs_then, costs_more, power_more, one_more, six_digits, bricks_cost, walls_cost, dense_cost}
 use Rattle.ca_run.proofs.Levels.{low_stays}
@@ -73,12 +73,11 @@ module _ {Rule : Type 0} {old mid : LeaperView Rule} (first : Tree) (n d : ℕ) 
 
   -- and one that leaps after them
   pub whole_cost : {new : LeaperView Rule} (reached : Reached) → IsIdle Rule old mid (Ok reached) ⊎ IsDense Rule old first n mid
-      → (reached.generations ≡ 0 → Costs Rule mid new (14 ^ (first.level + d + 1)) 999180) → Costs Rule mid new (61 * 14 ^ (max first.level d + 2)) 999180
-      → Costs Rule old new (14 ^ (first.level + d + 2)) 1048576
-  whole_cost reached (inl idle) rising even =
-      let more = power_more (first.level + d + 1) (first.level + d + 2) (omega arith) in
-      costs_then idle.costs (rising idle.none) (omega (arith, more)) (omega arith)
-  whole_cost reached (inr dense) rising even = costs_then dense.costs even (dense_cost first.level d dense.least (six_digits n d dense.many time)) (omega arith)
+      → HasLeapt Rule mid first reached.generations n 61 new → Costs Rule old new (14 ^ (first.level + d + 2)) 1048576
+  whole_cost reached (inl idle) leapt =
+      let more = power_more (first.level + min d 61 + 1) (first.level + d + 2) (omega arith) in
+      costs_then idle.costs (leapt.rising idle.none d time) (omega (arith, more)) (omega arith)
+  whole_cost reached (inr dense) leapt = costs_then dense.costs (leapt.later d time) (dense_cost first.level d dense.least (six_digits n d dense.many time)) (omega arith)
 
 -- ---- what walls cost
 

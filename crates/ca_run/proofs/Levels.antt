@@ -1,6 +1,7 @@
 -- How large trees become over generations.
-use Rattle.std.proofs.Common.{◌≡◌, ℕ, suc, ◌+◌, ◌-◌, ◌<◌, ◌≤◌, ◌^◌, inl, inr, max, Result, Ok, Err, IfOk, List, refl, sym, subst, ◌∙◌, arith}
+use Rattle.std.proofs.Common.{◌≡◌, ℕ, suc, ◌+◌, ◌-◌, ◌*◌, ◌/◌, ◌%◌, ◌<◌, ◌≤◌, ◌^◌, inl, inr, min, max, Result, Ok, Err, IfOk, List, refl, sym, subst, ◌∙◌, arith}
 use Rattle.std.specs.Prelude.{ℤ, pos, ◌+ℤ◌, replicate}
+use Rattle.std.proofs.Math.Nat.{mul-le-mul_right}
 use Rattle.std.proofs.lemmas.Int.{ints}
 use Rattle.ca_plane.specs.Generations.{cells_after}
 use Rattle.ca_quad.specs.declared.node.Node.{Node}
@@ -11,7 +12,10 @@ use Rattle.ca_quad.proofs.Filled.{place_on}
 use Rattle.ca_quad.proofs.Growth.{below_or_not}
 use Rattle.ca_quad.proofs.Reach.{tree_holds}
 use Rattle.ca_run.specs.inner.Beyond.{IsBeyond, DiesBeyond}
-use Rattle.ca_run.specs.inner.Dense.{IsLow}
+use Rattle.ca_run.specs.Costs.{Costs}
+use Rattle.ca_run.specs.Leaping.{LeaperView}
+use Rattle.ca_run.specs.inner.Dense.{IsLow, HasLeapt}
+use Rattle.ca_run.proofs.Costs.{costs_none, costs_then, costs_more, power_more, digit_below, rising_cost, level_cost, first_digits, all_digits}
 use Rattle.ca_run.proofs.Trees.{tree_dies, later_dies, powers_fit}
 
 -- what isn't beyond half the side of a level lies within it
@@ -58,3 +62,33 @@ trim_level (Ok t) old new tree some same trimmed = elim (below_or_not tree.level
   | inl less ↦ absurd (trimmed tree.level some less (λ x y live. tree_holds old tree tree.level some (omega arith) x y (λ none. live (same x y ∙ none))))
   | inr most ↦ most
 ]
+
+-- ---- what leaps cost
+
+module _ {Rule : Type 0} (old : LeaperView Rule) (first : Tree) (reached n : ℕ) where
+  -- nothing, before the first
+  pub none_leapt : HasLeapt Rule old first reached n 0 old
+  none_leapt = record { rising = λ _ d less. costs_none; later = λ d less. costs_none }
+
+  -- no more than for more digits
+  pub leapt_more : {new : LeaperView Rule} (j i : ℕ) → j ≤ i → HasLeapt Rule old first reached n j new → HasLeapt Rule old first reached n i new
+  leapt_more j i more leapt = record {
+    rising = λ none d less. costs_more (leapt.rising none d less) (power_more (first.level + min d j + 1) (first.level + min d i + 1) (omega (arith, more))) (omega (arith, more));
+    later = λ d less. costs_more (leapt.later d less) (mul-le-mul_right (14 ^ (max first.level d + 2)) more) (omega (arith, more));
+  }
+
+  -- and for one that is 1 as much as a leap of the tree that is reached
+  module _ (next : List ℕ → ℕ) (quiet : next (replicate 9 0) ≡ 0) (s0 s1 : List Node) (some : 1 ≤ first.level) (now : Tree) (low : IsLow first.level s1 now) (left j : ℕ) (sum : reached + left ≡ n)
+      (digit : left / 2 ^ j % 2 ≡ 1) (cells : (x y : ℤ) → cell s1 now x y ≡ cells_after next (cell s0 first) (reached + left % 2 ^ j) x y) where
+    level : (d : ℕ) → reached + left % 2 ^ j < 2 ^ d → now.level ≤ max first.level (suc d) + 1
+    level d time = later_level next quiet s0 first some (reached + left % 2 ^ j) d time s1 now low cells
+
+    pub one_leapt : {mid new : LeaperView Rule} → HasLeapt Rule old first reached n j mid → Costs Rule mid new (14 ^ max now.level (j + 1)) 16380 → HasLeapt Rule old first reached n (j + 1) new
+    one_leapt leapt leap = record {
+      rising = λ none d less.
+          costs_then (leapt.rising none d less) leap
+          (rising_cost first.level d j now.level (digit_below left j d digit (omega (arith, less, sum))) some (level j (first_digits reached left j none))) (omega arith);
+      later = λ d less.
+          costs_then (leapt.later d less) leap
+          (level_cost first.level d j now.level (digit_below left j d digit (omega (arith, less, sum))) (level d (all_digits reached left n j d sum less))) (omega arith);
+    }

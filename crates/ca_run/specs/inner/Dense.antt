@@ -1,5 +1,5 @@
 -- What a run over generations has reached by steps (our own).
-use Rattle.std.specs.Prelude.{◌≡◌, ℕ, ◌+◌, ◌≤◌, ◌^◌, ℤ, List, Result, IfOk}
+use Rattle.std.specs.Prelude.{◌≡◌, ℕ, ◌+◌, ◌*◌, ◌<◌, ◌≤◌, ◌^◌, min, max, ℤ, List, Result, IfOk}
 use Rattle.ca_plane.specs.Generations.{cells_after}
 use Rattle.ca_quad.specs.declared.node.Node.{Node}
 use Rattle.ca_quad.specs.Trees.{IsTree, cell}
@@ -33,3 +33,9 @@ pub record IsDense (Rule : Type 0) (old : LeaperView Rule) (first : Tree) (n : �
   pub least : 7 ≤ first.level
   pub many : 32 ≤ n
   pub costs : Costs Rule old new (14 ^ (first.level + 6)) 2040
+
+-- leaps for the first j binary digits of what is left of n generations cost no more than this: where nothing was reached before them, as much
+-- as one leap for the next digit; and in any case as much as j leaps of the largest tree
+pub record HasLeapt (Rule : Type 0) (old : LeaperView Rule) (first : Tree) (reached n j : ℕ) (new : LeaperView Rule) : Type 0 where
+  pub rising : reached ≡ 0 → (d : ℕ) → n < 2 ^ d → Costs Rule old new (14 ^ (first.level + min d j + 1)) (16380 * j)
+  pub later : (d : ℕ) → n < 2 ^ d → Costs Rule old new (j * 14 ^ (max first.level d + 2)) (16380 * j)

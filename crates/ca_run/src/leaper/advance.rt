@@ -8,7 +8,7 @@ ghost use Rattle.ca_run.specs.Advanced.{CanAdvance, IsAdvanced, Advances};
 ghost use Rattle.ca_run.specs.Costs.{Costs};
 ghost use Rattle.ca_run.specs.Leaping.{LeaperGrows};
 ghost use Rattle.ca_run.specs.Spent.{EndsAtLimit};
-ghost use Rattle.ca_run.specs.inner.Dense.{HasReached};
+ghost use Rattle.ca_run.specs.inner.Dense.{HasReached, HasLeapt};
 ghost use Rattle.ca_run.specs.inner.Padded.{IsPadded};
 
 use super::dense::Reached;
@@ -66,9 +66,7 @@ impl<A: Automaton> Leaper<A> {
         ensures advanced { IfOk result (IsAdvanced (A.next_of self.old.rule) self.old.nodes first.now n self.new.nodes) }
         ensures none { n ≡ 0 → result ≡ Ok reached.tree }
         ensures goes_on { LeaperGrows A self.old self.new }
-        ensures costs { reached.generations ≡ 0 → (d : ℕ) → n < 2 ^ d
-            → Costs A self.old self.new (14 ^ (first.now.level + d + 1)) 999180 }
-        ensures dense { (d : ℕ) → n < 2 ^ d → Costs A self.old self.new (61 * 14 ^ (max first.now.level d + 2)) 999180 }
+        ensures costs { HasLeapt A self.old first.now reached.generations n 61 self.new }
         ensures work { EndsAtLimit self.new.spent result }
     {
         let _ = &self.store;

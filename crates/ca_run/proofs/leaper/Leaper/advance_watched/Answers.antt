@@ -54,5 +54,5 @@ returns g c =
       none = λ z. c.leap_on.ensures.none z ∙ ap Ok (c.in_ok-reached.ensures.none z);
       work = c.leap_on.ensures.work;
       goes_on = goes_on_again _ c.args.self.now c.step_dense.new.self c.leap_on.new.self on c.leap_on.ensures.goes_on;
-      costs = λ d less. whole_cost tree c.args.n d less c.in_ok-reached.reached c.in_ok-reached.ensures.costs (λ none. c.leap_on.ensures.costs none d less) (c.leap_on.ensures.dense d less);
+      costs = λ d less. whole_cost tree c.args.n d less c.in_ok-reached.reached c.in_ok-reached.ensures.costs c.leap_on.ensures.costs;
     }

@@ -1,15 +1,14 @@
 use Rattle.std.proofs.Common.{◌≡◌, ℕ, suc, ◌+◌, ◌-◌, ◌*◌, ◌/◌, ◌%◌, ◌<◌, ◌≤◌, ◌^◌, min, max, List, Ok, refl, sym, ap, subst, ◌∙◌, arith}
 use Rattle.std.specs.Prelude.{ℤ, replicate}
-use Rattle.std.proofs.Math.Nat.{mod-le, mul-le-mul_right}
+use Rattle.std.proofs.Math.Nat.{mod-le}
 use Rattle.std.proofs.lemmas.Bool.Decides.{nat_tests}
 use Rattle.std.proofs.lemmas.Nat.Bits.{bit_at-zero}
 use Rattle.ca_plane.specs.Generations.{cells_after}
 use Rattle.ca_quad.specs.Sound.{IsSoundStore}
 use Rattle.ca_quad.specs.Trees.{cell}
 use Rattle.ca_quad.proofs.Shifts.{some_level}
-use Rattle.ca_run.proofs.Costs.{costs_none, costs_then, costs_more, power_more, digit_below, rising_cost, level_cost, first_digits, all_digits}
 use Rattle.ca_run.proofs.Leap.{goes_on_same}
-use Rattle.ca_run.proofs.Levels.{later_level, trimmed_low}
+use Rattle.ca_run.proofs.Levels.{later_level, trimmed_low, none_leapt, one_leapt, leapt_more}
 use Rattle.ca_run.proofs.Shown.{goes_on_again}
 use Rattle.ca_run.proofs.After.{after_same}
 use Rattle.ca_run.proofs.Trees.{tree_stays, one_digit, no_digit, shifted_two}
@@ -33,8 +32,7 @@ digits-init g c =
       cells = λ x y. run.cells x y ∙ ap (λ m. cells_after next (cell c.args.self.now.nodes c.args.first.now) m x y) none;
       none = λ _. refl;
       goes_on = goes_on_same _ c.args.self.now sound;
-      costs = λ _ d less. costs_none;
-      dense = λ d less. costs_none;
+      costs = none_leapt c.args.self.now c.args.first.now reached c.args.n;
     }
 
 pub leap-requires-clause-level : goal.leap-requires-clause-level
@@ -71,7 +69,6 @@ digits-preserved g c =
           let some = some_level s0 sound first c.requires.first.is_tree in
           let digit : left / 2 ^ j % 2 ≡ 1 = grind (arith, nat_tests, w.if-left-j-eq1.true) in
           let leapt = subst (λ r. (x y : ℤ) → cell s2 more x y ≡ cells_after (g.A.Automaton.next_of r) (cell s1 c.digits.now) (2 ^ j) x y) inv.goes_on.rule w.in_ok-now.ensures.advanced.cells in
-          let level = λ (d : ℕ) (time : reached + left % 2 ^ j < 2 ^ d). later_level next quiet s0 first some (reached + left % 2 ^ j) d time s1 c.digits.now inv.low inv.cells in
           rw (w.self-is, w.now-is)
           (record {
             tree = w.in_ok-now.ensures.advanced.is_tree;
@@ -83,12 +80,7 @@ digits-preserved g c =
                 let b : 0 / 2 ^ j % 2 ≡ 0 = bit_at-zero j in
                 absurd (omega (arith, a, b));
             goes_on = goes_on_again _ c.args.self.now c.digits.self w.leap.new.self inv.goes_on w.in_ok-now.ensures.goes_on;
-            costs = λ z d less.
-                costs_then (inv.costs z d less) w.leap.ensures.costs
-                (rising_cost first.level d j c.digits.now.level (digit_below left j d digit (omega (arith, less))) some (level j (first_digits reached left j z))) (omega arith);
-            dense = λ d less.
-                costs_then (inv.dense d less) w.leap.ensures.costs
-                (level_cost first.level d j c.digits.now.level (digit_below left j d digit (omega (arith, less))) (level d (all_digits reached left c.args.n j d (omega (arith, c.requires.reached.most)) less))) (omega arith);
+            costs = one_leapt c.args.self.now first reached c.args.n next quiet s0 s1 some c.digits.now inv.low left j (omega (arith, c.requires.reached.most)) digit inv.cells inv.costs w.in_ok-now.ensures.costs;
           })
       | else-left-j-eq1 w ↦
           let digit : left / 2 ^ j % 2 ≡ 0 = grind (arith, nat_tests, w.if-left-j-eq1.false) in
@@ -99,44 +91,24 @@ digits-preserved g c =
             cells = λ x y. same_time (cell s1 c.digits.now x y) (λ m. cells_after next p (reached + m) x y) (left % 2 ^ j) (left % 2 ^ (j + 1)) (no_digit left j digit ∙ ap (λ m. left % 2 ^ m) one) (inv.cells x y);
             none = inv.none;
             goes_on = inv.goes_on;
-            costs = λ z d less. costs_more (inv.costs z d less) (power_more (first.level + min d j + 1) (first.level + min d (j + 1) + 1) (omega arith)) (omega arith);
-            dense = λ d less. costs_more (inv.dense d less) (mul-le-mul_right (14 ^ (max first.level d + 2)) (omega arith)) (omega arith);
+            costs = leapt_more c.args.self.now first reached c.args.n j (j + 1) (omega arith) inv.costs;
           })
     ]
 
 pub returns-in_err-now-clause-costs : goal.returns-in_err-now-clause-costs
-returns-in_err-now-clause-costs g c = λ z d less.
+returns-in_err-now-clause-costs g c =
     let s0 = c.args.self.now.nodes in
     let first = c.args.first.now in
     let reached = c.args.reached.generations in
     let left = c.args.n - reached in
-    let j = c.digits.j in
     let inv = c.digits.invariant in
     let sound = subst (λ l. IsSoundStore l.nodes) c.self.view_is c.self.invariant.squares in
     let quiet = subst (λ l. g.A.Automaton.next_of l.rule (replicate 9 0) ≡ 0) c.self.view_is (g.met.A.Automaton.quiet c.self.inside.rule c.self.invariant.rule) in
     let some = some_level s0 sound first c.requires.first.is_tree in
-    let digit : left / 2 ^ j % 2 ≡ 1 = grind (arith, nat_tests, c.if-left-j-eq1.true) in
-    let low = later_level (g.A.Automaton.next_of c.args.self.now.rule) quiet s0 first some (reached + left % 2 ^ j) j (first_digits reached left j z) c.digits.self.nodes c.digits.now inv.low inv.cells in
-    let more = power_more (first.level + min d (j + 1) + 1) (first.level + d + 1) (omega arith) in
-    let most = rising_cost first.level d j c.digits.now.level (digit_below left j d digit (omega (arith, less))) some low in
-    costs_then (inv.costs z d less) c.leap.ensures.costs (omega (arith, most, more)) (omega (arith, c.digits-test.true))
-
-pub returns-in_err-now-clause-dense : goal.returns-in_err-now-clause-dense
-returns-in_err-now-clause-dense g c = λ d less.
-    let s0 = c.args.self.now.nodes in
-    let first = c.args.first.now in
-    let reached = c.args.reached.generations in
-    let left = c.args.n - reached in
-    let j = c.digits.j in
-    let inv = c.digits.invariant in
-    let sound = subst (λ l. IsSoundStore l.nodes) c.self.view_is c.self.invariant.squares in
-    let quiet = subst (λ l. g.A.Automaton.next_of l.rule (replicate 9 0) ≡ 0) c.self.view_is (g.met.A.Automaton.quiet c.self.inside.rule c.self.invariant.rule) in
-    let some = some_level s0 sound first c.requires.first.is_tree in
-    let digit : left / 2 ^ j % 2 ≡ 1 = grind (arith, nat_tests, c.if-left-j-eq1.true) in
-    let low = later_level (g.A.Automaton.next_of c.args.self.now.rule) quiet s0 first some (reached + left % 2 ^ j) d (all_digits reached left c.args.n j d (omega (arith, c.requires.reached.most)) less) c.digits.self.nodes c.digits.now inv.low inv.cells in
-    let more : (j + 1) * 14 ^ (max first.level d + 2) ≤ 61 * 14 ^ (max first.level d + 2) = mul-le-mul_right (14 ^ (max first.level d + 2)) (omega (arith, c.digits-test.true)) in
-    let most = level_cost first.level d j c.digits.now.level (digit_below left j d digit (omega (arith, less))) low in
-    costs_then (inv.dense d less) c.leap.ensures.costs (omega (arith, most, more)) (omega (arith, c.digits-test.true))
+    let digit : left / 2 ^ c.digits.j % 2 ≡ 1 = grind (arith, nat_tests, c.if-left-j-eq1.true) in
+    leapt_more c.args.self.now first reached c.args.n (c.digits.j + 1) 61 (omega (arith, c.digits-test.true))
+    (one_leapt c.args.self.now first reached c.args.n (g.A.Automaton.next_of c.args.self.now.rule) quiet s0 c.digits.self.nodes some c.digits.now inv.low left c.digits.j (omega (arith, c.requires.reached.most)) digit inv.cells inv.costs
+    c.leap.ensures.costs)
 
 pub with_tree-requires : goal.with_tree-requires
 with_tree-requires g c = λ x y.
@@ -187,10 +159,4 @@ pub returns-clause-none : goal.returns-clause-none
 returns-clause-none g c = λ z. ap Ok (c.digits.invariant.none z)
 
 pub returns-clause-costs : goal.returns-clause-costs
-returns-clause-costs g c = λ z d less.
-    let k = c.args.first.now.level in
-    costs_more (c.digits.invariant.costs z d less) (power_more (k + min d c.digits.j + 1) (k + d + 1) (omega arith)) (omega (arith, c.digits.auto.j-end))
-
-pub returns-clause-dense : goal.returns-clause-dense
-returns-clause-dense g c = λ d less.
-    costs_more (c.digits.invariant.dense d less) (mul-le-mul_right (14 ^ (max c.args.first.now.level d + 2)) (omega (arith, c.digits.auto.j-end))) (omega (arith, c.digits.auto.j-end))
+returns-clause-costs g c = leapt_more c.args.self.now c.args.first.now c.args.reached.generations c.args.n c.digits.j 61 (omega (arith, c.digits.auto.j-end)) c.digits.invariant.costs
