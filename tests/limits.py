@@ -27,6 +27,8 @@ CLAIMS = (
     (("--work", "0"), {"e": EMPTY}, "still e", "no, empty"),
     (("--work", "0"), {"b": BLOCK, "g": GLIDER}, "becomes b 0 g", "no, cells differ after 0"),
     (("--work", "0"), {"s": SOUP}, "becomes s 100 s", "refused, work"),
+    (("--work", "20000"), {"s": SOUP}, "becomes s 1000 s", "refused, work"),
+    (("--work", "1000000"), {"s": SOUP}, "becomes s 1000 s", "no, cells differ after 1000"),
     (("--work", "0"), {"b": BLOCK, "o": "x = 1, y = 1, rule = B36/S23\no!\n"}, "becomes b 1 o", "refused, mixed rules"),
     (("--work", "0"), {"b": "x = 1, y = 1\nz!\n"}, "still b", "refused, bad pattern: rle syntax"),
     (("--work", "537825"), {"b": BLOCK}, "still b", "yes"),
