@@ -1,16 +1,18 @@
 #!/usr/bin/env -S python3 -B
 """A leap that is refused memory, and is asked for again then on the same leaper: it comes to what it has to.
 
-The tests of ca_run_tests have it, which `rt ci` or `rt test` has built. It is run with each of its allocations refused in turn, by tests/refuse.c, until a
-run meets no refusal.
+The tests of ca_run_tests have it, which are built where they aren't yet. It is run with each of its allocations refused in turn, by tests/refuse.c, until a run
+meets no refusal.
 """
 import itertools
 import os
+import subprocess
 
 from lib.program import ROOT, Tally
 from lib.refusing import refusing_program
 
-TESTS = os.path.join(ROOT, "crates", "ca_run_tests", "out", "ca_run_tests_tests")
+CRATE = os.path.join(ROOT, "crates", "ca_run_tests")
+TESTS = os.path.join(CRATE, "out", "ca_run_tests_tests")
 TEST = "tests::generations::a_refused_leap_goes_on"
 
 # No run has fewer allocations: the leaper's memo, its store, its trees and its slots take more.
@@ -26,13 +28,20 @@ def try_leap(tally, refusing):
     tally.tell(f"a leap goes on after a refusal: {len(outcomes)} allocations refused", complaints)
 
 
+def are_built():
+    """Whether the tests are there, or could be built."""
+    if not os.access(TESTS, os.X_OK):
+        subprocess.run(["rt", "test"], cwd=CRATE, stdin=subprocess.DEVNULL, stdout=subprocess.DEVNULL, stderr=subprocess.DEVNULL, check=False)
+    return os.access(TESTS, os.X_OK)
+
+
 def main():
     tally = Tally()
     with refusing_program(tally, "refused leaps") as (_, refusing):
-        if refusing and os.access(TESTS, os.X_OK):
+        if refusing and are_built():
             try_leap(tally, refusing)
         elif refusing:
-            tally.tell("refused leaps", ["the tests of ca_run_tests are not built: `rt test` in crates/ca_run_tests does that"])
+            tally.tell("refused leaps", ["the tests of ca_run_tests could not be built"])
     tally.finish()
 
 

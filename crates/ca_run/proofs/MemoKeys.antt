@@ -1,15 +1,14 @@
 -- Keys of pages and of single results.
-use Rattle.std.proofs.Common.{◌≡◌, ℕ, zero, suc, ◌-◌, ◌<◌, ◌≤◌, Bool, true, false, ◌⊎◌, List, [], ◌∷◌, length, take, slice_get, slice_set, ◌/◌, ◌%◌, Contains, Option, Some, None, IfSome, refl, sym, ap, subst, inl, inr, arith}
-use Rattle.std.specs.Option.{option_map_or}
+use Rattle.std.proofs.Common.{◌≡◌, ℕ, zero, suc, ◌-◌, ◌≤◌, Bool, true, ◌⊎◌, List, [], ◌∷◌, length, take, slice_get, slice_set, ◌/◌, ◌%◌, Contains, Option, Some, None, IfSome, refl, sym, ap, subst, inl, inr, arith}
 use Rattle.std.proofs.lemmas.Grind.{common_steps}
 use Rattle.std.specs.Map.{lookup, lookup_entry, remove_entry}
-use Rattle.lru.specs.LruCache.{LruCache, lru_cache, promoted, put_entries, displaced}
-use Rattle.lru.proofs.CallerLemmas.{Contains-lookup, Contains-lookup_entry, Contains-promoted, Contains-put_entries}
+use Rattle.lru.specs.LruCache.{LruCache, promoted, put_entries, displaced}
+use Rattle.lru.proofs.CallerLemmas.{Contains-lookup, Contains-lookup_entry, Contains-put_entries}
 use Rattle.lru.proofs.Splits.{Contains-head}
 use Rattle.ca_run.specs.declared.leaper.key.Key.{Key}
 use Rattle.ca_run.specs.declared.leaper.key.Key.TheVariants.{Page as OfPage, Single}
 use Rattle.ca_run.specs.declared.leaper.page.Page.{Page}
-use Rattle.ca_run.specs.Pages.{MemoView, HasPageKey, ArePagesKept, HasSlot, HasFullLeapIn, HasSingleIn}
+use Rattle.ca_run.specs.Pages.{HasPageKey, ArePagesKept, HasSlot, HasFullLeapIn, HasSingleIn}
 use Rattle.ca_run.specs.contracts.leaper.key.KeyPartialEq.TheImpl as eq
 use Rattle.ca_run.proofs.OrdersOfUse.{promoted-Contains, put_entries-key, after}
 

@@ -1,6 +1,5 @@
-use Rattle.std.proofs.Common.{◌≡◌, IfOk, sym, subst}
-use Rattle.std.specs.Prelude.{ℤ}
-use Rattle.ca_quad.specs.Trees.{IsTree, cell}
+use Rattle.std.proofs.Common.{sym, subst}
+use Rattle.ca_quad.specs.Trees.{IsTree}
 use Rattle.ca_quad.proofs.Shifts.{some_level}
 use Rattle.ca_run.proofs.Levels.{trim_level}
 use Rattle.ca_run.proofs.Shown.{leaper_stays}

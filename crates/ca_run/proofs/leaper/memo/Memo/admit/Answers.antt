@@ -1,4 +1,4 @@
-use Rattle.std.proofs.Common.{◌≡◌, subst, sym, ◌∙◌, ◌⊎◌, inl, inr, ap}
+use Rattle.std.proofs.Common.{subst, ◌∙◌, inl, inr}
 use Rattle.ca_run.specs.Pages.{HasSingle}
 use Rattle.ca_run.proofs.MemoKeys.{put-held, put-near, put-there}
 use Rattle.ca_run.proofs.leaper.memo.Memo.admit.Goals as goal

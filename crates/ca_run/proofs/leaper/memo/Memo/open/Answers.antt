@@ -1,4 +1,4 @@
-use Rattle.std.proofs.Common.{◌≡◌, refl, subst, sym, arith, ◌/◌}
+use Rattle.std.proofs.Common.{refl, subst, sym, arith, ◌/◌}
 use Rattle.ca_run.specs.Pages.{MemoView, HasPageKey, HasFullLeap, HasSingle}
 use Rattle.ca_run.proofs.MemoKeys.{opened-held, opened-far, none-put}
 use Rattle.ca_run.proofs.leaper.memo.Memo.open.Goals as goal

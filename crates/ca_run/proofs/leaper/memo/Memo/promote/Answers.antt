@@ -1,4 +1,4 @@
-use Rattle.std.proofs.Common.{◌≡◌, arith, sym}
+use Rattle.std.proofs.Common.{arith, sym}
 use Rattle.ca_run.proofs.MemoKeys.{promoted-held, same}
 use Rattle.lru.proofs.CallerLemmas.{Contains-promoted}
 use Rattle.ca_run.proofs.leaper.memo.Memo.promote.Goals as goal

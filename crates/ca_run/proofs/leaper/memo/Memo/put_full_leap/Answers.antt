@@ -1,4 +1,4 @@
-use Rattle.std.proofs.Common.{◌≡◌, ◌⊎◌, inl, inr}
+use Rattle.std.proofs.Common.{inl, inr}
 use Rattle.ca_run.proofs.leaper.memo.Memo.put_full_leap.Goals as goal
 
 pub returns-clause-full_leaps : goal.returns-clause-full_leaps

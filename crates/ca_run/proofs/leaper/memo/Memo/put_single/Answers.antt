@@ -1,4 +1,4 @@
-use Rattle.std.proofs.Common.{◌≡◌, ◌⊎◌, inl, inr}
+use Rattle.std.proofs.Common.{inl, inr}
 use Rattle.ca_run.proofs.MemoKeys.{single-is}
 use Rattle.ca_run.proofs.leaper.memo.Memo.put_single.Goals as goal
 

@@ -1,4 +1,4 @@
-use Rattle.std.proofs.Common.{◌≡◌, sym, ◌∙◌, ap}
+use Rattle.std.proofs.Common.{sym, ◌∙◌, ap}
 use Rattle.std.specs.Option.{option_copied}
 use Rattle.ca_run.proofs.MemoKeys.{near-found}
 use Rattle.ca_run.proofs.leaper.memo.Memo.single.Goals as goal
