@@ -11,7 +11,8 @@ BLOCK = "x = 2, y = 2, rule = B3/S23\n2o$2o!\n"
 EMPTY = "x = 0, y = 0, rule = B3/S23\n!\n"
 GLIDER = "x = 3, y = 3, rule = B3/S23\nbo$2bo$3o!\n"
 GLIDER_AT_8, GLIDER_FAR = (f"#CXRLE Pos={way},{way}\n" + GLIDER for way in (8, 1 << 58))
-SOUP = rows.text_of("B3/S23", rows.Rows(0, 0, tuple(random.Random(1).getrandbits(200) for _ in range(200))))
+CHANCE = random.Random(1)
+SOUP = rows.text_of("B3/S23", rows.Rows(0, 0, tuple(CHANCE.getrandbits(200) for _ in range(200))))
 
 MOST_WORK, MOST_MEMO = (1 << 64) - 1, 1 << 24
 

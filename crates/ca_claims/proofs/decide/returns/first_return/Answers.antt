@@ -1,4 +1,4 @@
-use Rattle.std.proofs.Common.{◌≡◌, ◌+◌, ◌-◌, rules, arith, refl, sym, subst, w64, SFits}
+use Rattle.std.proofs.Common.{◌-◌, rules, arith, refl, sym, subst, w64, SFits}
 use Rattle.std.specs.Prelude.{ℤ}
 use Rattle.std.proofs.lemmas.Int.{to_z-of_z}
 use Rattle.ca_run.proofs.Leap.{goes_on_same}
