@@ -7,6 +7,7 @@ where a claim begins, and then wherever it may show a line. One run has the cloc
 """
 import os
 import pty
+import random
 import re
 import subprocess
 import time
@@ -226,6 +227,27 @@ def try_terminal(tally, refusing, files):
         tally.tell(f"on a terminal, {step}", [] if got == wanted else [f"wanted {wanted}, got {got}"])
 
 
+def try_results(tally, refusing, files):
+    """While one leap lasts, what was worked out is told about twice a second, and no generation that isn't reached. A soup whose squares hardly repeat
+    is leapt over under a rule of four states."""
+    chance = random.Random(2)
+    rows = "$".join("".join(chance.choice(".A") for _ in range(200)) for _ in range(200))
+    text = Watched(files)
+    text.load("soup", f"x = 200, y = 200, rule = 345/2/4\n{rows}!\n")
+    text.claim("becomes soup 1024 soup", "no, cells differ after 1024")
+    printed = b"line 2: no, cells differ after 1024\n"
+    line = re.compile(rb"line 2: (\d+) of 1024 generations(?:, (\d+)\.(\d) million results, (\d+)\.(\d) million squares)?")
+    shown = {}
+    for step in (1000, 100):
+        got, _ = refusing.run(["verify", "--progress", text.write()], {"CLOCK_STEP": step})
+        told = [line.fullmatch(it) for it in got.complaint.split(WIPE)[1:-1]]
+        results = [10 * int(it[2]) + int(it[3]) for it in told if it and it[2]]
+        well = got.printed == printed and all(told) and [int(it[1]) for it in told] == [0] * (len(told) - 1) + [1024] and results == sorted(results) and results[-1] > 2
+        shown[step] = len(results)
+        tally.tell(f"results of one leap, {step}", [] if well else [f"{got}"])
+    tally.tell("shown at most twice a second", [] if 4 * shown[100] < shown[1000] < 6 * shown[100] + 6 else [f"{shown}"])
+
+
 def try_the_clock(tally, _, files):
     """By the machine's own clock nothing is shown before a second is over. The claim is far longer, and is ended where it has shown something."""
     content, _ = distinct_squares((16, 16, 16, 16), "B3/S23")
@@ -253,7 +275,7 @@ def try_quick(tally, refusing, _):
 def main():
     tally = Tally()
     with refusing_program(tally, "progress") as (folder, refusing):
-        for it in (try_claims, try_notes, try_dense, try_order, try_closed, try_terminal, try_the_clock, try_quick) if refusing else ():
+        for it in (try_claims, try_notes, try_dense, try_order, try_closed, try_terminal, try_results, try_the_clock, try_quick) if refusing else ():
             inner = os.path.join(folder, it.__name__)
             os.mkdir(inner)
             it(tally, refusing, Folder(inner))

@@ -35,6 +35,7 @@ mod wide_square;
 mod words;
 
 use crate::fault::LeapFault;
+use crate::watch::Watch;
 use crate::work::Work;
 use ca_plane::{Automaton, Memory};
 use ca_quad::{Id, Store};
@@ -45,6 +46,9 @@ use recent_leaps::RecentLeaps;
 use std::alloc::Global;
 use std::marker::Model;
 use std::num::NonZeroUsize;
+
+// After how many units of work one who watches hears of it.
+const TOLD: u64 = 65536;
 
 /// A store of squares, a rule, and the centres of squares that were worked out so far.
 #[derive(Drop)]
@@ -130,6 +134,22 @@ impl<A: Automaton> Leaper<A> {
     {
         let _ = &self.store;
         self.work.charge(units)
+    }
+
+    // The same for one result, while someone watches, who hears of it now and then.
+    fn charge_watched<W: Watch>(&mut self, watch: &mut W) -> Result<(), LeapFault>
+        ensures goes_on { LeaperGrows A self.old self.new }
+        ensures same { self.new.nodes ≡ self.old.nodes }
+        ensures counts { OnOk result (self.new.spent.used ≡ self.old.spent.used + 1) }
+        ensures costs { Costs A self.old self.new 1 0 }
+        ensures work { EndsAtLimit self.new.spent result }
+    {
+        self.charge(1)?;
+        let used = self.work.used();
+        if used % TOLD == 0 {
+            watch.works(used, self.store.count());
+        }
+        Ok(())
     }
 
     /// The store of the squares.

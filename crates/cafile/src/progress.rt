@@ -10,8 +10,14 @@ use std::time::Instant;
 /// Goes back to the line's begin, and erases the line.
 const WIPE: &[u8] = b"\r\x1b[K";
 
-/// Shows which claim is judged and how far it is, once it has taken a second, and wipes that when the claim
-/// is judged.
+// How many milliseconds a claim has taken before anything is shown, and how many go by before what is worked out is
+// shown again.
+const FIRST: u128 = 1000;
+
+const AGAIN: u128 = 500;
+
+/// Shows which claim is judged, how far it is and what was worked out, once it has taken a second, and wipes that when
+/// the claim is judged.
 #[derive(Drop)]
 pub struct Progress<'a, R> {
     rt: &'a R,
@@ -19,8 +25,12 @@ pub struct Progress<'a, R> {
     prefix: &'a [u8],
     line: u64,
     goal: u64,
+    generations: u64,
+    results: u64,
+    squares: u64,
     start: Option<Instant>,
-    is_shown: bool,
+    // When something was shown last, in milliseconds from the start.
+    shown: Option<u128>,
 }
 
 impl<'a, R: Clock + AllocGlobal> Progress<'a, R> {
@@ -32,47 +42,64 @@ impl<'a, R: Clock + AllocGlobal> Progress<'a, R> {
             prefix,
             line: 0,
             goal: 0,
+            generations: 0,
+            results: 0,
+            squares: 0,
             start: None,
-            is_shown: false,
+            shown: None,
         }
     }
 
-    // Shows how many generations are reached, where the claim has taken a second. Out of memory shows
-    // nothing.
-    fn show(&mut self, generations: u64) {
-        if !self.is_long() {
+    // Shows how far the claim is, where it has taken so many milliseconds. Out of memory shows nothing.
+    fn show_from(&mut self, least: u128) {
+        let Some(time) = self.time() else {
+            return;
+        };
+        if time < least {
             return;
         }
-        if let Ok(text) = self.text(generations) {
+        if let Ok(text) = self.text() {
             let _ = send(self.errors, &text);
-            self.is_shown = true;
+            self.shown = Some(time);
         }
     }
 
-    // A clock that can't be read tells no time.
-    fn is_long(&self) -> bool {
-        let Some(start) = self.start else {
-            return false;
-        };
-        match start.elapsed(self.rt) {
-            Ok(time) => time.as_secs() > 0,
-            Err(_) => false,
+    // How many milliseconds the claim has taken. A clock that can't be read tells no time.
+    fn time(&self) -> Option<u128> {
+        match self.start?.elapsed(self.rt) {
+            Ok(time) => Some(time.as_millis()),
+            Err(_) => None,
         }
     }
 
-    fn text(&self, generations: u64) -> Result<Vec<u8>, Memory> {
+    fn text(&self) -> Result<Vec<u8>, Memory> {
         let mut text = Vec::new(self.rt.alloc());
         push_text(&mut text, WIPE)?;
         push_text(&mut text, self.prefix)?;
         push_text(&mut text, b"line ")?;
         push_number(&mut text, self.line)?;
         push_text(&mut text, b": ")?;
-        push_number(&mut text, generations)?;
+        push_number(&mut text, self.generations)?;
         push_text(&mut text, b" of ")?;
         push_number(&mut text, self.goal)?;
         push_text(&mut text, generations_word(self.goal))?;
+        if self.results > 0 {
+            push_text(&mut text, b", ")?;
+            push_millions(&mut text, self.results)?;
+            push_text(&mut text, b" results, ")?;
+            push_millions(&mut text, self.squares)?;
+            push_text(&mut text, b" squares")?;
+        }
         Ok(text)
     }
+}
+
+// Puts a number in millions, with one decimal, which is cut and not rounded.
+fn push_millions(text: &mut Vec<u8>, number: u64) -> Result<(), Memory> {
+    push_number(text, number / 1000000)?;
+    push_text(text, b".")?;
+    push_number(text, number / 100000 % 10)?;
+    push_text(text, b" million")
 }
 
 fn generations_word<'a>(generations: u64) -> &'a [u8] {
@@ -84,25 +111,33 @@ fn generations_word<'a>(generations: u64) -> &'a [u8] {
 
 impl<R: Clock + AllocGlobal> Watch for Progress<'_, R> {
     fn reached(&mut self, run: Milestone) {
-        self.show(run.generations());
+        self.generations = run.generations();
+        self.show_from(FIRST);
+    }
+
+    fn works(&mut self, used: u64, squares: usize) {
+        self.results = used;
+        self.squares = squares as u64;
+        self.show_from(self.shown.map_or(FIRST, |last| last + AGAIN));
     }
 }
 
 impl<R: Clock + AllocGlobal> Observer for Progress<'_, R> {
     fn begins(&mut self, line: u64) {
         self.line = line;
+        self.results = 0;
         self.start = Instant::now(self.rt).ok();
     }
 
     fn goes_to(&mut self, generations: u64) {
         self.goal = generations;
-        self.show(0);
+        self.generations = 0;
+        self.show_from(FIRST);
     }
 
     fn ends(&mut self) {
-        if self.is_shown {
+        if self.shown.take().is_some() {
             let _ = send(self.errors, WIPE);
-            self.is_shown = false;
         }
     }
 }

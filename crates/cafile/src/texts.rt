@@ -70,8 +70,9 @@ reason. Where several texts are given, the text's path stands before that.
 differs, or with its file and the line of the fault; or the rule file.
 
 On a terminal, a line on standard error shows how far a claim is that takes over a second, as
-`line 3: 904 of 5000 generations`. It is wiped before the verdict's line is printed. --progress shows it also
-where standard error is no terminal.
+`line 3: 904 of 5000 generations`, and where it takes much work how much was done, as `, 1.2 million results, 5.1
+million squares`. It is wiped before the verdict's line is printed. --progress shows it also where standard error
+is no terminal.
 
 --memo N gives each claim's memo N entries. An entry is one result, or up to 16 results at full leap of squares
 with neighbouring numbers; a quarter and an eighth of the entries are kept for results that cost little. A

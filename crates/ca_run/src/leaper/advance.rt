@@ -77,7 +77,7 @@ impl<A: Automaton> Leaper<A> {
         let left = n - generations;
         'digits: for j in 0..61 {
             if (left >> j) % 2 == 1 {
-                now = self.leap(now, j)?;
+                now = self.leap(now, j, watch)?;
                 let reached = generations + left % (2 << j);
                 watch.reached(Milestone::with_tree(self, first, &now, reached));
             }
@@ -86,7 +86,7 @@ impl<A: Automaton> Leaper<A> {
     }
 
     // The tree 2^j generations on, of the smallest level.
-    fn leap(&mut self, tree: Tree, j: u8) -> Result<Tree, LeapFault>
+    fn leap<W: Watch>(&mut self, tree: Tree, j: u8, watch: &mut W) -> Result<Tree, LeapFault>
         requires tree { IsTree self.old.nodes tree }
         requires level { tree.level ≤ 123 }
         requires time { j ≤ 60 }
@@ -100,7 +100,7 @@ impl<A: Automaton> Leaper<A> {
         // So all that is live 2^j generations on lies in the centre.
         let grain = self.store.level(tree.root).max(j + 1);
         let wide = self.padded_tree(tree, grain + 2)?;
-        let root = self.centre(wide.root, grain, j)?;
+        let root = self.centre(wide.root, grain, j, watch)?;
         let later = Tree {
             root,
             level: grain + 1,

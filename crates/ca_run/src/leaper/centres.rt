@@ -16,6 +16,7 @@ ghost use Rattle.ca_run.specs.inner.Shown.{AreNine, side, generations, IsTimely}
 use super::Leaper;
 use super::trio::{Rows, Trio};
 use crate::fault::LeapFault;
+use crate::watch::Watch;
 use ca_plane::Automaton;
 use ca_quad::Id;
 
@@ -23,7 +24,13 @@ use ca_quad::Id;
 impl<A: Automaton> Leaper<A> {
     // The centre of a square after 2^j generations.
     #[cycle(leap)]
-    pub(super) fn centre(&mut self, id: Id, grain: u8, j: u8) -> Result<Id, LeapFault>
+    pub(super) fn centre<W: Watch>(
+        &mut self,
+        id: Id,
+        grain: u8,
+        j: u8,
+        watch: &mut W,
+    ) -> Result<Id, LeapFault>
         requires centre { HasCentre self.old.nodes id grain j }
         requires low { grain ≤ 123 }
         ensures centre { IfOk result (IsCentre (A.next_of self.old.rule) self.new.nodes id grain j) }
@@ -38,8 +45,8 @@ impl<A: Automaton> Leaper<A> {
         if let Some(half) = self.recall(id, grain, j) {
             return Ok(half);
         }
-        self.charge(1)?;
-        let half = self.new_centre(id, grain, j)?;
+        self.charge_watched(watch)?;
+        let half = self.new_centre(id, grain, j, watch)?;
         self.remember(id, grain, j, half)?;
         Ok(half)
     }
@@ -59,7 +66,13 @@ impl<A: Automaton> Leaper<A> {
 
     // The centre of a square that isn't remembered.
     #[cycle(leap)]
-    fn new_centre(&mut self, id: Id, grain: u8, j: u8) -> Result<Id, LeapFault>
+    fn new_centre<W: Watch>(
+        &mut self,
+        id: Id,
+        grain: u8,
+        j: u8,
+        watch: &mut W,
+    ) -> Result<Id, LeapFault>
         requires centre { HasCentre self.old.nodes id grain j }
         requires low { grain ≤ 123 }
         ensures centre { IfOk result (IsCentre (A.next_of self.old.rule) self.new.nodes id grain j) }
@@ -75,20 +88,21 @@ impl<A: Automaton> Leaper<A> {
             return Ok(self.from_centre_words(id, grain, j, words)?);
         }
         if j == grain {
-            return self.centre_of_nine(id, grain - 1, Some(j - 1), j - 1);
+            return self.centre_of_nine(id, grain - 1, Some(j - 1), j - 1, watch);
         }
-        self.centre_of_nine(id, grain - 1, None, j)
+        self.centre_of_nine(id, grain - 1, None, j, watch)
     }
 
     // The centre of a square by nine squares that overlap, each half as wide: their centres make four
     // squares, and the centres of these are the result.
     #[cycle(leap)]
-    fn centre_of_nine(
+    fn centre_of_nine<W: Watch>(
         &mut self,
         id: Id,
         grain: u8,
         first: Option<u8>,
         j: u8,
+        watch: &mut W,
     ) -> Result<Id, LeapFault>
         requires square { IsOf self.old.nodes id (suc (suc (suc grain))) }
         requires low { grain ≤ 122 }
@@ -103,15 +117,21 @@ impl<A: Automaton> Leaper<A> {
         ensures costs { Costs A self.old self.new (13 * 14 ^ grain) 19 }
         ensures work { EndsAtLimit self.new.spent result }
     {
-        let rows = self.nine(id, grain, first)?;
-        let (nw, ne) = self.pair(&rows.north, &rows.middle, grain, j)?;
-        let (sw, se) = self.pair(&rows.middle, &rows.south, grain, j)?;
+        let rows = self.nine(id, grain, first, watch)?;
+        let (nw, ne) = self.pair(&rows.north, &rows.middle, grain, j, watch)?;
+        let (sw, se) = self.pair(&rows.middle, &rows.south, grain, j, watch)?;
         Ok(self.join(nw, ne, sw, se, grain)?)
     }
 
     // The centres of the nine squares.
     #[cycle(leap)]
-    fn nine(&mut self, id: Id, grain: u8, first: Option<u8>) -> Result<Rows, LeapFault>
+    fn nine<W: Watch>(
+        &mut self,
+        id: Id,
+        grain: u8,
+        first: Option<u8>,
+        watch: &mut W,
+    ) -> Result<Rows, LeapFault>
         requires square { IsOf self.old.nodes id (suc (suc (suc grain))) }
         requires low { grain ≤ 122 }
         requires first { IsTimely grain first }
@@ -125,9 +145,9 @@ impl<A: Automaton> Leaper<A> {
         ensures work { EndsAtLimit self.new.spent result }
     {
         let (nw, ne, sw, se) = self.quarters(id, grain + 1);
-        let north = self.trio(nw, ne, grain, first)?;
-        let middle = self.middle_trio(nw, ne, sw, se, grain, first)?;
-        let south = self.trio(sw, se, grain, first)?;
+        let north = self.trio(nw, ne, grain, first, watch)?;
+        let middle = self.middle_trio(nw, ne, sw, se, grain, first, watch)?;
+        let south = self.trio(sw, se, grain, first, watch)?;
         Ok(Rows {
             north,
             middle,
@@ -137,7 +157,14 @@ impl<A: Automaton> Leaper<A> {
 
     // The centres of two squares side by side, and of the one between them.
     #[cycle(leap)]
-    fn trio(&mut self, west: Id, east: Id, grain: u8, first: Option<u8>) -> Result<Trio, LeapFault>
+    fn trio<W: Watch>(
+        &mut self,
+        west: Id,
+        east: Id,
+        grain: u8,
+        first: Option<u8>,
+        watch: &mut W,
+    ) -> Result<Trio, LeapFault>
         requires west { IsOf self.old.nodes west (suc (suc grain)) }
         requires east { IsOf self.old.nodes east (suc (suc grain)) }
         requires low { grain ≤ 122 }
@@ -154,15 +181,15 @@ impl<A: Automaton> Leaper<A> {
         let _ = &self.store;
         let (_, nw, _, sw) = self.quarters(west, grain);
         let (ne, _, se, _) = self.quarters(east, grain);
-        let west = self.first_centre(west, grain, first)?;
-        let middle = self.first_inner(nw, ne, sw, se, grain, first)?;
-        let east = self.first_centre(east, grain, first)?;
+        let west = self.first_centre(west, grain, first, watch)?;
+        let middle = self.first_inner(nw, ne, sw, se, grain, first, watch)?;
+        let east = self.first_centre(east, grain, first, watch)?;
         Ok(Trio { west, middle, east })
     }
 
     // The centres of the three squares in the middle row of four squares: each lies half in the north.
     #[cycle(leap)]
-    fn middle_trio(
+    fn middle_trio<W: Watch>(
         &mut self,
         nw: Id,
         ne: Id,
@@ -170,6 +197,7 @@ impl<A: Automaton> Leaper<A> {
         se: Id,
         grain: u8,
         first: Option<u8>,
+        watch: &mut W,
     ) -> Result<Trio, LeapFault>
         requires four { AreFour self.old.nodes (suc (suc grain)) nw ne sw se }
         requires low { grain ≤ 122 }
@@ -189,15 +217,15 @@ impl<A: Automaton> Leaper<A> {
         let (_, _, c, d) = self.quarters(ne, grain);
         let (e, f, _, _) = self.quarters(sw, grain);
         let (g, h, _, _) = self.quarters(se, grain);
-        let west = self.first_inner(a, b, e, f, grain, first)?;
-        let middle = self.first_inner(b, c, f, g, grain, first)?;
-        let east = self.first_inner(c, d, g, h, grain, first)?;
+        let west = self.first_inner(a, b, e, f, grain, first, watch)?;
+        let middle = self.first_inner(b, c, f, g, grain, first, watch)?;
+        let east = self.first_inner(c, d, g, h, grain, first, watch)?;
         Ok(Trio { west, middle, east })
     }
 
     // The square in the middle of four as it is, or after 2^j generations.
     #[cycle(leap)]
-    fn first_inner(
+    fn first_inner<W: Watch>(
         &mut self,
         nw: Id,
         ne: Id,
@@ -205,6 +233,7 @@ impl<A: Automaton> Leaper<A> {
         se: Id,
         grain: u8,
         first: Option<u8>,
+        watch: &mut W,
     ) -> Result<Id, LeapFault>
         requires four { AreFour self.old.nodes (suc grain) nw ne sw se }
         requires low { grain ≤ 122 }
@@ -221,13 +250,19 @@ impl<A: Automaton> Leaper<A> {
         let _ = &self.store;
         match first {
             None => Ok(self.inner_of_four(nw, ne, sw, se, grain)?),
-            Some(j) => self.joined_centre(nw, ne, sw, se, grain, j),
+            Some(j) => self.joined_centre(nw, ne, sw, se, grain, j, watch),
         }
     }
 
     // The centre of a square as it is, or after 2^j generations.
     #[cycle(leap)]
-    fn first_centre(&mut self, id: Id, grain: u8, first: Option<u8>) -> Result<Id, LeapFault>
+    fn first_centre<W: Watch>(
+        &mut self,
+        id: Id,
+        grain: u8,
+        first: Option<u8>,
+        watch: &mut W,
+    ) -> Result<Id, LeapFault>
         requires square { IsOf self.old.nodes id (suc (suc grain)) }
         requires low { grain ≤ 122 }
         requires first { IsTimely grain first }
@@ -243,13 +278,20 @@ impl<A: Automaton> Leaper<A> {
         let _ = &self.store;
         match first {
             None => Ok(self.inner_square(id, grain)?),
-            Some(j) => self.centre(id, grain, j),
+            Some(j) => self.centre(id, grain, j, watch),
         }
     }
 
     // The centres after 2^j generations of two squares that overlap by half, made of two rows of three.
     #[cycle(leap)]
-    fn pair(&mut self, north: &Trio, south: &Trio, grain: u8, j: u8) -> Result<(Id, Id), LeapFault>
+    fn pair<W: Watch>(
+        &mut self,
+        north: &Trio,
+        south: &Trio,
+        grain: u8,
+        j: u8,
+        watch: &mut W,
+    ) -> Result<(Id, Id), LeapFault>
         requires north { AreThree self.old.nodes (suc grain) north.now }
         requires south { AreThree self.old.nodes (suc grain) south.now }
         requires low { grain ≤ 122 }
@@ -273,6 +315,7 @@ impl<A: Automaton> Leaper<A> {
             south.middle,
             grain,
             j,
+            watch,
         )?;
         let east = self.joined_centre(
             north.middle,
@@ -281,13 +324,14 @@ impl<A: Automaton> Leaper<A> {
             south.east,
             grain,
             j,
+            watch,
         )?;
         Ok((west, east))
     }
 
     // The centre after 2^j generations of the square of these four.
     #[cycle(leap)]
-    fn joined_centre(
+    fn joined_centre<W: Watch>(
         &mut self,
         nw: Id,
         ne: Id,
@@ -295,6 +339,7 @@ impl<A: Automaton> Leaper<A> {
         se: Id,
         grain: u8,
         j: u8,
+        watch: &mut W,
     ) -> Result<Id, LeapFault>
         requires four { AreFour self.old.nodes (suc grain) nw ne sw se }
         requires low { grain ≤ 122 }
@@ -310,15 +355,23 @@ impl<A: Automaton> Leaper<A> {
     {
         let _ = &self.store;
         if j == grain && self.masks.is_none() {
-            return self.leap_of_four(nw, ne, sw, se, grain);
+            return self.leap_of_four(nw, ne, sw, se, grain, watch);
         }
         let id = self.join(nw, ne, sw, se, grain)?;
-        self.centre(id, grain, j)
+        self.centre(id, grain, j, watch)
     }
 
     // The square in the middle of four, as far on as it can be known.
     #[cycle(leap)]
-    fn leap_of_four(&mut self, nw: Id, ne: Id, sw: Id, se: Id, grain: u8) -> Result<Id, LeapFault>
+    fn leap_of_four<W: Watch>(
+        &mut self,
+        nw: Id,
+        ne: Id,
+        sw: Id,
+        se: Id,
+        grain: u8,
+        watch: &mut W,
+    ) -> Result<Id, LeapFault>
         requires four { AreFour self.old.nodes (suc grain) nw ne sw se }
         requires low { grain ≤ 122 }
         ensures leap { IfOk result (IsLeap (A.next_of self.old.rule) self.new.nodes grain nw ne sw se) }
@@ -330,14 +383,22 @@ impl<A: Automaton> Leaper<A> {
         if let Some(half) = self.recall_leap(nw, ne, sw, se, grain) {
             return Ok(half);
         }
-        let half = self.new_leap(nw, ne, sw, se, grain)?;
+        let half = self.new_leap(nw, ne, sw, se, grain, watch)?;
         self.remember_leap(nw, ne, sw, se, grain, half);
         Ok(half)
     }
 
     // The same where it isn't remembered.
     #[cycle(leap)]
-    fn new_leap(&mut self, nw: Id, ne: Id, sw: Id, se: Id, grain: u8) -> Result<Id, LeapFault>
+    fn new_leap<W: Watch>(
+        &mut self,
+        nw: Id,
+        ne: Id,
+        sw: Id,
+        se: Id,
+        grain: u8,
+        watch: &mut W,
+    ) -> Result<Id, LeapFault>
         requires four { AreFour self.old.nodes (suc grain) nw ne sw se }
         requires low { grain ≤ 122 }
         ensures leap { IfOk result (IsLeap (A.next_of self.old.rule) self.new.nodes grain nw ne sw se) }
@@ -347,14 +408,21 @@ impl<A: Automaton> Leaper<A> {
     {
         let _ = &self.store;
         if grain == 0 {
-            return self.counted_inner(nw, ne, sw, se);
+            return self.counted_inner(nw, ne, sw, se, watch);
         }
         let id = self.join(nw, ne, sw, se, grain)?;
-        self.centre(id, grain, grain)
+        self.centre(id, grain, grain, watch)
     }
 
     // The four cells in the middle of four squares of 2 by 2, one generation on: a result, if the squares aren't empty.
-    fn counted_inner(&mut self, nw: Id, ne: Id, sw: Id, se: Id) -> Result<Id, LeapFault>
+    fn counted_inner<W: Watch>(
+        &mut self,
+        nw: Id,
+        ne: Id,
+        sw: Id,
+        se: Id,
+        watch: &mut W,
+    ) -> Result<Id, LeapFault>
         requires { AreFour self.old.nodes 1 nw ne sw se }
         ensures leap { IfOk result (IsLeap (A.next_of self.old.rule) self.new.nodes 0 nw ne sw se) }
         ensures goes_on { LeaperGrows A self.old self.new }
@@ -362,7 +430,7 @@ impl<A: Automaton> Leaper<A> {
         ensures work { EndsAtLimit self.new.spent result }
     {
         if !self.are_empty(nw, ne, sw, se) {
-            self.charge(1)?;
+            self.charge_watched(watch)?;
         }
         Ok(self.next_inner(nw, ne, sw, se)?)
     }

@@ -388,26 +388,26 @@ pub centre_of_nine-returns-clause-goes_on : goal.centre_of_nine-returns-clause-g
 centre_of_nine-returns-clause-goes_on g t c =
     four_go_on c.in_ok-rows.ensures.goes_on c.in_ok-nw.ensures.goes_on c.in_ok-sw.ensures.goes_on c.join.ensures.goes_on
 
-pub centre-returns-in_err-charge-clause-costs : goal.centre-returns-in_err-charge-clause-costs
-centre-returns-in_err-charge-clause-costs g t c =
-    subst (λ l. Costs _ l c.charge.new.self (14 ^ c.args.grain) 0) c.recall.ensures.same (costs_more c.charge.ensures.costs (power_some c.args.grain) (omega arith))
+pub centre-returns-in_err-charge_watched-clause-costs : goal.centre-returns-in_err-charge_watched-clause-costs
+centre-returns-in_err-charge_watched-clause-costs g t c =
+    subst (λ l. Costs _ l c.charge_watched.new.self (14 ^ c.args.grain) 0) c.recall.ensures.same (costs_more c.charge_watched.ensures.costs (power_some c.args.grain) (omega arith))
 
 pub centre-returns-in_err-half-clause-costs : goal.centre-returns-in_err-half-clause-costs
 centre-returns-in_err-half-clause-costs g t c =
     let some = power_some c.args.grain in
-    let paid = costs_paid {a = c.recall.new.self} {b = c.charge.new.self} 1 c.in_ok-charge.ensures.counts c.in_ok-charge.ensures.same c.new_centre.ensures.costs (omega (arith, some)) (omega arith) in
+    let paid = costs_paid {a = c.recall.new.self} {b = c.charge_watched.new.self} 1 c.in_ok-charge_watched.ensures.counts c.in_ok-charge_watched.ensures.same c.new_centre.ensures.costs (omega (arith, some)) (omega arith) in
     subst (λ l. Costs _ l c.new_centre.new.self (14 ^ c.args.grain) 0) c.recall.ensures.same paid
 
 pub centre-returns-in_err-remember-clause-costs : goal.centre-returns-in_err-remember-clause-costs
 centre-returns-in_err-remember-clause-costs g t c =
     let some = power_some c.args.grain in
-    let paid = costs_paid {a = c.recall.new.self} {b = c.charge.new.self} 1 c.in_ok-charge.ensures.counts c.in_ok-charge.ensures.same c.new_centre.ensures.costs (omega (arith, some)) (omega arith) in
+    let paid = costs_paid {a = c.recall.new.self} {b = c.charge_watched.new.self} 1 c.in_ok-charge_watched.ensures.counts c.in_ok-charge_watched.ensures.same c.new_centre.ensures.costs (omega (arith, some)) (omega arith) in
     subst (λ l. Costs _ c.args.self.now l (14 ^ c.args.grain) 0) (sym c.remember.ensures) (subst (λ l. Costs _ l c.new_centre.new.self (14 ^ c.args.grain) 0) c.recall.ensures.same paid)
 
 pub centre-returns-clause-costs : goal.centre-returns-clause-costs
 centre-returns-clause-costs g t c =
     let some = power_some c.args.grain in
-    let paid = costs_paid {a = c.recall.new.self} {b = c.charge.new.self} 1 c.in_ok-charge.ensures.counts c.in_ok-charge.ensures.same c.new_centre.ensures.costs (omega (arith, some)) (omega arith) in
+    let paid = costs_paid {a = c.recall.new.self} {b = c.charge_watched.new.self} 1 c.in_ok-charge_watched.ensures.counts c.in_ok-charge_watched.ensures.same c.new_centre.ensures.costs (omega (arith, some)) (omega arith) in
     subst (λ l. Costs _ c.args.self.now l (14 ^ c.args.grain) 0) (sym c.remember.ensures) (subst (λ l. Costs _ l c.new_centre.new.self (14 ^ c.args.grain) 0) c.recall.ensures.same paid)
 
 pub new_centre-returns-then-j-grain-clause-costs : goal.new_centre-returns-then-j-grain-clause-costs
