@@ -118,7 +118,11 @@ impl<R: Clock + AllocGlobal> Watch for Progress<'_, R> {
     fn works(&mut self, used: u64, squares: usize) {
         self.results = used;
         self.squares = squares as u64;
-        self.show_from(self.shown.map_or(FIRST, |last| last + AGAIN));
+        let least = match self.shown {
+            Some(last) => last.saturating_add(AGAIN),
+            None => FIRST,
+        };
+        self.show_from(least);
     }
 }
 
