@@ -245,6 +245,11 @@ def try_results(tally, refusing, files):
         well = got.printed == printed and all(told) and [int(it[1]) for it in told] == [0] * (len(told) - 1) + [1024] and results == sorted(results) and results[-1] > 2
         shown[step] = len(results)
         tally.tell(f"results of one leap, {step}", [] if well else [f"{got}"])
+    # what is told last is nearly what the claim needs: a limit just below it is too small, and one a little above it isn't
+    least = 100000 * results[-1]
+    for limit, verdict in ((least - 1, b"refused, work"), (least + 100000 + 65536, b"no, cells differ after 1024")):
+        got = run(["verify", "--work", str(limit), text.write()])
+        tally.tell(f"as many results as a claim needs, {verdict.decode()}", [] if got.printed == b"line 2: " + verdict + b"\n" else [f"{got}"])
     tally.tell("shown at most twice a second", [] if 4 * shown[100] < shown[1000] < 6 * shown[100] + 6 else [f"{shown}"])
 
 
