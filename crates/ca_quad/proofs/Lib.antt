@@ -31,6 +31,7 @@ pub mod Copied
 pub mod Cuts
 pub mod Shifts
 pub mod Added
+pub mod Counted
 pub mod BitWords
 pub mod Bits
 pub mod Words

@@ -1,8 +1,8 @@
 //! Trees of another store.
 
-ghost use Rattle.std.specs.Prelude.{◌≡◌, ℕ, ℤ, IfOk, OnOk};
+ghost use Rattle.std.specs.Prelude.{◌≡◌, ◌≤◌, ◌+◌, ℕ, ℤ, length, IfOk, OnOk};
 ghost use Rattle.ca_quad.specs.Squares.{level_of};
-ghost use Rattle.ca_quad.specs.Sound.{Grows};
+ghost use Rattle.ca_quad.specs.Sound.{IsSoundStore, Grows};
 ghost use Rattle.ca_quad.specs.Trees.{IsIn, IsTree, cell};
 ghost use Rattle.ca_quad.specs.Trimmed.{IsTrimmed};
 ghost use Rattle.ca_quad.specs.Added.{IsCopy, AddsCopies};
@@ -20,6 +20,8 @@ impl Store {
     ///
     /// Each square of the tree is looked at once, however often it lies there, and no other is.
     ///
+    /// No more squares are added than the other store keeps.
+    ///
     /// # Errors
     ///
     /// Fails where there is no memory for more squares. The store may then have more squares than before:
@@ -31,6 +33,7 @@ impl Store {
         ensures cells { IfOk result (λ t. (x y : ℤ) → cell self.new t x y ≡ cell from.now tree x y) }
         ensures trimmed { IsTrimmed from.now tree → IfOk result (IsTrimmed self.new) }
         ensures added { AddsCopies from.now tree.root self.old self.new }
+        ensures count { length self.new ≤ length self.old + length from.now }
         ensures grows { Grows self.old self.new }
     {
         let alloc = *self.nodes.allocator();
@@ -49,6 +52,7 @@ impl Store {
         ensures copies { OnOk result (AreCopies from.now self.new copies.new) }
         ensures added { AddsCopies from.now id self.old self.new }
         ensures grows { Grows self.old self.new }
+        ensures sound { IsSoundStore from.now }
     {
         let _ = &self.nodes;
         match from.square(id) {
