@@ -1,5 +1,5 @@
 -- How the costs of calls add up.
-use Rattle.std.proofs.Common.{◌≡◌, ℕ, suc, ◌+◌, ◌*◌, ◌/◌, ◌%◌, ◌^◌, ◌<◌, ◌≤◌, inl, inr, min, max, length, ap, arith}
+use Rattle.std.proofs.Common.{◌≡◌, ℕ, suc, ◌+◌, ◌-◌, ◌*◌, ◌/◌, ◌%◌, ◌^◌, ◌<◌, ◌≤◌, inl, inr, min, max, length, ap, arith}
 use Rattle.std.proofs.Math.Nat.{pow-succ', one-le-pow, pow-le-pow_right, div-eq_of_lt, mod-le, mod-lt, mul-le-mul, mul-le-mul_right}
 use Rattle.std.proofs.Math.Pow.{pow_mono}
 use Rattle.ca_quad.proofs.Growth.{below_or_not}
@@ -133,3 +133,23 @@ dense_cost k d least many =
     let twice = power_twice (k + d) in
     let all = power_more (suc (k + d)) (k + d + 2) (omega arith) in
     omega (arith, walls, leaps, e, f, twice, all)
+
+-- ---- runs in a store of their own
+
+-- a number that isn't less than a power of two has as many digits
+pub long_run : (n k d : ℕ) → k ≤ 14 → 1 ≤ n / 2 ^ (14 - k) → n < 2 ^ d → 15 ≤ k + d
+long_run n k d low some time = elim (below_or_not d (15 - k)) [
+  | inl few ↦
+      let fewer : d ≤ 14 - k = omega (arith, few, low) in
+      let most : 2 ^ d ≤ 2 ^ (14 - k) = pow_mono fewer in
+      let small : n < 2 ^ (14 - k) = omega (arith, most, time) in
+      let none = div-eq_of_lt small in
+      absurd (omega (arith, some, none))
+  | inr e ↦ omega (arith, e, low)
+]
+
+-- what can be counted is less than 14 to the power of 17
+pub countable_cost : (k d used : ℕ) → 15 ≤ k + d → used < 2 ^ 64 → used ≤ 14 ^ (k + d + 2)
+countable_cost k d used long few =
+    let power = power_more 17 (k + d + 2) (omega (arith, long)) in
+    omega (arith, power, few)

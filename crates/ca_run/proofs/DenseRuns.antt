@@ -1,10 +1,12 @@
 -- What a run has reached, as its squares grow.
-use Rattle.std.proofs.Common.{◌≡◌, ℕ, ◌+◌, ◌-◌, ◌*◌, ◌<◌, ◌≤◌, ◌^◌, ◌⊎◌, inl, inr, min, Result, Ok, Err, IfOk, List, refl, sym, subst, ◌∙◌, arith}
-use Rattle.std.specs.Prelude.{ℤ}
+use Rattle.std.proofs.Common.{◌≡◌, ℕ, ◌+◌, ◌-◌, ◌*◌, ◌<◌, ◌≤◌, ◌^◌, ◌⊎◌, inl, inr, min, Result, Ok, Err, IfOk, List, refl, sym, ap, subst, ◌∙◌, arith}
+use Rattle.std.specs.Prelude.{ℤ, replicate}
+use Rattle.ca_plane.specs.Generations.{cells_after}
 use Rattle.ca_quad.specs.declared.node.Node.{Node}
 use Rattle.ca_quad.specs.declared.tree.Tree.{Tree}
 use Rattle.ca_quad.specs.Sound.{IsSoundStore, Grows}
 use Rattle.ca_quad.specs.Trees.{IsTree, cell}
+use Rattle.ca_quad.specs.Trimmed.{IsTrimmed}
 use Rattle.ca_quad.proofs.Cells.{of_stays}
 use Rattle.ca_quad.proofs.Growth.{grows_same}
 use Rattle.ca_run.specs.declared.leaper.dense.Reached.{Reached}
@@ -13,10 +15,11 @@ use Rattle.ca_run.specs.Advanced.{IsAdvanced}
 use Rattle.ca_run.specs.Costs.{Costs}
 use Rattle.ca_run.specs.Leaping.{LeaperView, LeaperGrows}
 use Rattle.ca_run.specs.Spent.{Spent, Spends}
-use Rattle.ca_run.specs.inner.Dense.{HasReached, IsIdle, IsDense, HasLeapt}
-use Rattle.ca_run.proofs.After.{after_same}
-use Rattle.ca_run.proofs.Costs.{costs_then, costs_more, power_more, one_more, six_digits, bricks_cost, walls_cost, dense_cost}
-use Rattle.ca_run.proofs.Levels.{low_stays}
+use Rattle.ca_run.specs.inner.Apart.{IsMoved}
+use Rattle.ca_run.specs.inner.Dense.{HasReached, IsIdle, IsDense, HasLeapt, HasParted}
+use Rattle.ca_run.proofs.After.{after_same, after_again}
+use Rattle.ca_run.proofs.Costs.{costs_then, costs_more, power_more, one_more, six_digits, bricks_cost, walls_cost, dense_cost, countable_cost}
+use Rattle.ca_run.proofs.Levels.{low_stays, later_level, trimmed_low}
 use Rattle.ca_run.proofs.Trees.{tree_stays}
 
 -- a run of a tree is one of another with the same cells
@@ -24,7 +27,6 @@ reached_as : (next : List ℕ → ℕ) (a b new : List Node) (first : Tree) (n :
     → HasReached next a first n new reached → HasReached next b first n new reached
 reached_as next a b new first n reached same run = record {
   is_tree = run.is_tree;
-  level = run.level;
   low = run.low;
   most = run.most;
   cells = λ x y. run.cells x y ∙ after_same next (cell a first) (cell b first) reached.generations same x y;
@@ -45,13 +47,60 @@ pub reached_stays : (next : List ℕ → ℕ) (old new : List Node) (first : Tre
     → HasReached next old first n old reached → HasReached next new first n new reached
 reached_stays next old new first n reached sound grows is_tree run = record {
   is_tree = of_stays old new sound grows reached.tree.root reached.tree.level run.is_tree;
-  level = run.level;
   low = low_stays old new reached.tree first.level (tree_stays old new sound grows reached.tree run.is_tree) run.low;
   most = run.most;
   cells = λ x y.
       tree_stays old new sound grows reached.tree run.is_tree x y ∙ run.cells x y
       ∙ after_same next (cell old first) (cell new first) reached.generations (λ u v. sym (tree_stays old new sound grows first is_tree u v)) x y;
 }
+
+-- and as more squares come
+pub reached_kept : (next : List ℕ → ℕ) (old mid new : List Node) (first : Tree) (n : ℕ) (reached : Reached) → IsSoundStore mid → Grows mid new
+    → HasReached next old first n mid reached → HasReached next old first n new reached
+reached_kept next old mid new first n reached sound grows run = record {
+  is_tree = of_stays mid new sound grows reached.tree.root reached.tree.level run.is_tree;
+  low = low_stays mid new reached.tree first.level (tree_stays mid new sound grows reached.tree run.is_tree) run.low;
+  most = run.most;
+  cells = λ x y. tree_stays mid new sound grows reached.tree run.is_tree x y ∙ run.cells x y;
+}
+
+module _ (next : List ℕ → ℕ) (s0 s1 : List Node) (first : Tree) (n : ℕ) (reached : Reached) (run : HasReached next s0 first n s1 reached) where
+  -- what is reached has a low level
+  pub reached_level : next (replicate 9 0) ≡ 0 → 1 ≤ first.level → first.level ≤ 64 → n ≤ 2 ^ 60 → reached.tree.level ≤ 123
+  reached_level quiet some most time =
+      let low = later_level next quiet s0 first some reached.generations 61 (omega (arith, run.most, time)) s1 reached.tree run.low run.cells in
+      omega (arith, low, most)
+
+  -- one leap more
+  pub leapt_on : (s2 : List Node) (more : Tree) (m k : ℕ) → 1 ≤ first.level → reached.generations + m ≡ k → k ≤ n → IsTree s2 more → IsTrimmed s2 more
+      → ((x y : ℤ) → cell s2 more x y ≡ cells_after next (cell s1 reached.tree) m x y) → HasReached next s0 first n s2 (record { tree = more; generations = k })
+  leapt_on s2 more m k some sum most is_tree trimmed leapt =
+      let p = cell s0 first in
+      record {
+        is_tree = is_tree;
+        low = trimmed_low s2 more first.level some trimmed;
+        most = most;
+        cells = λ x y.
+            leapt x y ∙ after_same next (cell s1 reached.tree) (cells_after next p reached.generations) m run.cells x y ∙ after_again next p reached.generations m x y
+            ∙ ap (λ t. cells_after next p t x y) sum;
+      }
+
+  -- the same tree in another store
+  pub reached_moved : (s2 : List Node) (copy : Tree) → IsMoved s1 reached.tree s2 copy → HasReached next s0 first n s2 (record { tree = copy; generations = reached.generations })
+  reached_moved s2 copy moved = record {
+    is_tree = moved.is_tree;
+    low = λ level more holds. omega (arith, moved.level, run.low level more (λ x y live. holds x y (λ none. live (sym (moved.cells x y) ∙ none))));
+    most = run.most;
+    cells = λ x y. moved.cells x y ∙ run.cells x y;
+  }
+
+  -- where all generations are reached, the tree is the last
+  pub advanced_at : reached.generations ≡ n → reached.tree.level ≤ 123 → IsAdvanced next s0 first n s1 reached.tree
+  advanced_at all low = record {
+    is_tree = run.is_tree;
+    level = omega (arith, low);
+    cells = λ x y. run.cells x y ∙ ap (λ t. cells_after next (cell s0 first) t x y) all;
+  }
 
 -- what a run ends with, of the first tree as it was before
 pub advanced_before : {E : Type 0} (next : List ℕ → ℕ) (old mid new : List Node) (first : Tree) (n : ℕ) (r : Result Tree E) → IsSoundStore old → Grows old mid → IsTree old first
@@ -78,6 +127,18 @@ module _ {Rule : Type 0} {old mid : LeaperView Rule} (first : Tree) (n d : ℕ) 
       let more = power_more (first.level + min d 61 + 1) (first.level + d + 2) (omega arith) in
       costs_then idle.costs (leapt.rising idle.none d time) (omega (arith, more)) (omega arith)
   whole_cost reached (inr dense) leapt = costs_then dense.costs (leapt.later d time) (dense_cost first.level d dense.least (six_digits n d dense.many time)) (omega arith)
+
+  -- and one that went on in a store of its own
+  pub parted_cost : {new : LeaperView Rule} (r : Result Reached LeapFault) → IsIdle Rule old mid r ⊎ IsDense Rule old first n mid
+      → HasParted Rule mid first n new → Costs Rule old new (14 ^ (first.level + d + 2)) 1048576
+  parted_cost r (inl idle) parted = record {
+    most = omega (arith, countable_cost first.level d _ (parted.long d time) parted.used);
+    made = omega (arith, idle.costs.made, parted.made);
+  }
+  parted_cost r (inr dense) parted = record {
+    most = omega (arith, countable_cost first.level d _ (parted.long d time) parted.used);
+    made = omega (arith, dense.costs.made, parted.made);
+  }
 
 -- ---- what walls cost
 

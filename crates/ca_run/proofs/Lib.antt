@@ -1,4 +1,5 @@
 pub mod After
+pub mod Apart
 pub mod Looks
 pub mod Tiles
 pub mod Words

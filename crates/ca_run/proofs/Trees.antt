@@ -110,14 +110,9 @@ leap_cells next quiet s0 s1 s2 sound grows tree wide half k j root some low time
     let later_dead_out = later_dies next quiet p (2 ^ (tree.level - 1)) (2 ^ j) (2 ^ k) (powers_fit tree.level j k some low time) dies in
     tree_at s2 root k (cells_after next p (2 ^ j)) centred later_dead_out half e f x y ∙ after_same next p (cell s0 tree) (2 ^ j) same x y
 
--- one binary digit more: the plane after the digits so far, and then after this one
-pub one_digit : (next : List ℕ → ℕ) (p : ℤ → ℤ → ℕ) (s1 s2 : List Node) (now more : Tree) (reached n j : ℕ) → n / 2 ^ j % 2 ≡ 1 → ((x y : ℤ) → cell s1 now x y ≡ cells_after next p (reached + n % 2 ^ j) x y)
-    → ((x y : ℤ) → cell s2 more x y ≡ cells_after next (cell s1 now) (2 ^ j) x y) → (x y : ℤ) → cell s2 more x y ≡ cells_after next p (reached + n % 2 ^ (1 + j)) x y
-one_digit next p s1 s2 now more reached n j digit so_far leap x y =
-    let digits : n % 2 ^ j + 2 ^ j ≡ n % 2 ^ (1 + j) = sym (mod-pow-add n 1 j ∙ (ap (λ d. d * 2 ^ j + n % 2 ^ j) digit ∙ omega arith)) in
-    let sum : (reached + n % 2 ^ j) + 2 ^ j ≡ reached + n % 2 ^ (1 + j) = omega (arith, digits) in
-    leap x y ∙ after_same next (cell s1 now) (cells_after next p (reached + n % 2 ^ j)) (2 ^ j) so_far x y ∙ after_again next p (reached + n % 2 ^ j) (2 ^ j) x y
-    ∙ ap (λ m. cells_after next p m x y) sum
+-- a binary digit that is 1 adds its power of two to those before it
+pub digit_adds : (n j : ℕ) → n / 2 ^ j % 2 ≡ 1 → n % 2 ^ j + 2 ^ j ≡ n % 2 ^ (1 + j)
+digit_adds n j digit = sym (mod-pow-add n 1 j ∙ (ap (λ d. d * 2 ^ j + n % 2 ^ j) digit ∙ omega arith))
 
 -- and none where the digit is 0
 pub no_digit : (n j : ℕ) → n / 2 ^ j % 2 ≡ 0 → n % 2 ^ j ≡ n % 2 ^ (1 + j)
@@ -147,6 +142,11 @@ shifted_two j h =
     let one : 1 + j ≡ suc j = omega arith in
     let power : 2 ^ (1 + j) ≡ 2 ^ j + 2 ^ j = ap (λ m. 2 ^ m) one ∙ two-pow-succ j in
     omega (arith, low, power)
+
+pub shifted_one : (j : ℕ) → j ≤ 60 → 1 * 2 ^ j % 18446744073709551616 ≡ 2 ^ j
+shifted_one j h =
+    let low : 2 ^ j ≤ 2 ^ 60 = pow-le-pow_right {n = 2} (omega arith) {i = j} {j = 60} h in
+    omega (arith, low)
 
 -- what holds of a place holds in other words
 pub some_as : {X : Type 0} (r : Option X) (P Q : X → Type 0) → ((x : X) → P x → Q x) → IfSome r P → IfSome r Q

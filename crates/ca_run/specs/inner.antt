@@ -13,3 +13,4 @@ pub mod Tiles
 pub mod Bricks
 pub mod Frames
 pub mod Dense
+pub mod Apart

@@ -13,6 +13,7 @@ ghost use Rattle.ca_run.specs.Spent.{EndsAtLimit};
 ghost use Rattle.ca_run.specs.inner.Shown.{ShowsAt, FourShow};
 
 mod advance;
+mod apart;
 mod base;
 mod centres;
 mod dense;
@@ -21,6 +22,7 @@ mod key;
 mod lanes;
 mod memo;
 mod milestone;
+mod pace;
 mod page;
 mod parts;
 mod planes;
@@ -62,6 +64,8 @@ pub struct Leaper<A: Automaton> {
     // How many results may be remembered.
     capacity: usize,
     work: Work,
+    // With how many squares a leap is given up.
+    room: usize,
 }
 
 impl<A: Automaton> Model for Leaper<A> {
@@ -111,11 +115,13 @@ impl<A: Automaton> Leaper<A> {
             recent_leaps: RecentLeaps::new(alloc, leaps),
             capacity: memo,
             work: Work::new(work),
+            room: usize::MAX,
         })
     }
 
     /// How many results were worked out so far: no more than may be. A result is the centre of a square that isn't
     /// empty, after some generations, that wasn't remembered; or a brick of a plane that is stepped, one generation on.
+    /// As one result counts what is copied of up to 4096 squares, where a run needed a store of its own.
     pub fn used(&self) -> u64
         ensures value { result ≡ self.now.spent.used }
         ensures most { result ≤ self.now.spent.limit }
@@ -136,7 +142,8 @@ impl<A: Automaton> Leaper<A> {
         self.work.charge(units)
     }
 
-    // The same for one result, while someone watches, who hears of it now and then.
+    // The same for one result of a leap, which is given up where there are too many squares, while someone watches, who
+    // hears of it now and then.
     fn charge_watched<W: Watch>(&mut self, watch: &mut W) -> Result<(), LeapFault>
         ensures goes_on { LeaperGrows A self.old self.new }
         ensures same { self.new.nodes ≡ self.old.nodes }
@@ -144,12 +151,30 @@ impl<A: Automaton> Leaper<A> {
         ensures costs { Costs A self.old self.new 1 0 }
         ensures work { EndsAtLimit self.new.spent result }
     {
+        if self.is_full() {
+            return Err(LeapFault::Memory);
+        }
         self.charge(1)?;
         let used = self.work.used();
         if used % TOLD == 0 {
             watch.works(used, self.store.count());
         }
         Ok(())
+    }
+
+    // Whether there are too many squares for a leap.
+    fn is_full(&self) -> bool
+        ensures { IsSoundStore self.now.nodes }
+    {
+        self.store.count() >= self.room
+    }
+
+    // Has leaps given up where there are so many squares.
+    fn set_room(&mut self, room: usize)
+        ensures { self.new ≡ self.old }
+    {
+        let _ = &self.store;
+        self.room = room;
     }
 
     /// The store of the squares.

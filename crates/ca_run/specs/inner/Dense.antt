@@ -1,5 +1,5 @@
 -- What a run over generations has reached by steps (our own).
-use Rattle.std.specs.Prelude.{◌≡◌, ℕ, ◌+◌, ◌*◌, ◌<◌, ◌≤◌, ◌^◌, min, max, ℤ, List, Result, IfOk}
+use Rattle.std.specs.Prelude.{◌≡◌, ℕ, ◌+◌, ◌*◌, ◌<◌, ◌≤◌, ◌^◌, min, max, ℤ, List, length, Result, IfOk}
 use Rattle.ca_plane.specs.Generations.{cells_after}
 use Rattle.ca_quad.specs.declared.node.Node.{Node}
 use Rattle.ca_quad.specs.Trees.{IsTree, cell}
@@ -14,11 +14,10 @@ use Rattle.ca_run.specs.declared.leaper.dense.Reached.{Reached}
 abbrev pub IsLow : ℕ → List Node → Tree → Type 0
 IsLow least nodes tree = (level : ℕ) → least ≤ level → HoldsAll level (cell nodes tree) → tree.level ≤ level
 
--- of n generations of the first tree the run has reached as many as it says, and has the tree after them, of at most 2^64 cells a side,
--- and of no more than its cells or the first tree need
+-- of n generations of the first tree the run has reached as many as it says, and has the tree after them, of a level no more than its
+-- cells or the first tree need
 pub record HasReached (next : List ℕ → ℕ) (old : List Node) (first : Tree) (n : ℕ) (new : List Node) (reached : Reached) : Type 0 where
   pub is_tree : IsTree new reached.tree
-  pub level : reached.tree.level ≤ 64
   pub low : IsLow first.level new reached.tree
   pub most : reached.generations ≤ n
   pub cells : (x y : ℤ) → cell new reached.tree x y ≡ cells_after next (cell old first) reached.generations x y
@@ -39,3 +38,10 @@ pub record IsDense (Rule : Type 0) (old : LeaperView Rule) (first : Tree) (n : �
 pub record HasLeapt (Rule : Type 0) (old : LeaperView Rule) (first : Tree) (reached n j : ℕ) (new : LeaperView Rule) : Type 0 where
   pub rising : reached ≡ 0 → (d : ℕ) → n < 2 ^ d → Costs Rule old new (14 ^ (first.level + min d j + 1)) (16380 * j)
   pub later : (d : ℕ) → n < 2 ^ d → Costs Rule old new (j * 14 ^ (max first.level d + 2)) (16380 * j)
+
+-- a run from a tree of this level by so many generations that the cells may be 2^14 times as wide and as many generations on went on in a
+-- store of its own: it cost no more work than can be counted, and at most so many squares
+pub record HasParted (Rule : Type 0) (old : LeaperView Rule) (first : Tree) (n : ℕ) (new : LeaperView Rule) : Type 0 where
+  pub long : (d : ℕ) → n < 2 ^ d → 15 ≤ first.level + d
+  pub used : new.spent.used < 2 ^ 64
+  pub made : length new.nodes + 4096 * old.spent.used ≤ length old.nodes + 4096 * new.spent.used + 16380 * 61

@@ -1,6 +1,6 @@
 //! Trees after n generations.
 
-ghost use Rattle.std.specs.Prelude.{◌≡◌, ℕ, ℤ, ◌+◌, ◌<◌, ◌≤◌, ◌^◌, max, Ok, IfOk, ◌*◌, ◌-◌};
+ghost use Rattle.std.specs.Prelude.{◌≡◌, ℕ, ℤ, ◌+◌, ◌<◌, ◌≤◌, ◌^◌, max, Ok, IsOk, IfOk, OnOk, ◌*◌, ◌-◌, ◌⊎◌};
 ghost use Rattle.ca_quad.specs.Sound.{IsSoundStore};
 ghost use Rattle.ca_quad.specs.Trees.{IsTree, cell};
 ghost use Rattle.ca_quad.specs.Trimmed.{IsTrimmed};
@@ -8,10 +8,11 @@ ghost use Rattle.ca_run.specs.Advanced.{CanAdvance, IsAdvanced, Advances};
 ghost use Rattle.ca_run.specs.Costs.{Costs};
 ghost use Rattle.ca_run.specs.Leaping.{LeaperGrows};
 ghost use Rattle.ca_run.specs.Spent.{EndsAtLimit};
-ghost use Rattle.ca_run.specs.inner.Dense.{HasReached, HasLeapt};
+ghost use Rattle.ca_run.specs.inner.Dense.{HasReached, HasLeapt, HasParted};
 ghost use Rattle.ca_run.specs.inner.Padded.{IsPadded};
 
 use super::dense::Reached;
+use super::pace::{self, is_long};
 use super::{Leaper, Milestone};
 use crate::fault::LeapFault;
 use crate::watch::{Unwatched, Watch};
@@ -49,12 +50,12 @@ impl<A: Automaton> Leaper<A> {
     {
         let _ = &self.store;
         let reached = self.step_dense(&tree, n, watch)?;
-        self.leap_on(&tree, reached, n, watch)
+        self.go_on(&tree, reached, n, watch)
     }
 
-    // The tree n generations on, from one that was reached on the way: by a leap for each binary digit of those that
-    // are left. Each tree is trimmed, so that its level is no more than what n generations may need.
-    fn leap_on<W: Watch>(
+    // The tree n generations on, from one that was reached on the way, by leaps. Where a run is long and makes too many
+    // squares, it goes on in a store of its own.
+    fn go_on<W: Watch>(
         &mut self,
         first: &Tree,
         reached: Reached,
@@ -66,27 +67,70 @@ impl<A: Automaton> Leaper<A> {
         ensures advanced { IfOk result (IsAdvanced (A.next_of self.old.rule) self.old.nodes first.now n self.new.nodes) }
         ensures none { n ≡ 0 → result ≡ Ok reached.tree }
         ensures goes_on { LeaperGrows A self.old self.new }
-        ensures costs { HasLeapt A self.old first.now reached.generations n 61 self.new }
+        ensures costs { HasLeapt A self.old first.now reached.generations n 61 self.new
+            ⊎ HasParted A self.old first.now n self.new }
         ensures work { EndsAtLimit self.new.spent result }
     {
         let _ = &self.store;
-        let Reached {
-            tree: mut now,
-            generations,
-        } = reached;
-        let left = n - generations;
+        let mut reached = reached;
+        let long = is_long(first.level, n);
+        let room = if long {
+            pace::room_beside(self.store.count())
+        } else {
+            usize::MAX
+        };
+        self.set_room(room);
+        match self.leap_on(first, &mut reached, n, watch) {
+            Ok(()) => Ok(reached.tree),
+            Err(LeapFault::Memory) if long && self.is_full() => {
+                let end = self.leap_apart(first, reached, n, watch);
+                // No more than can be counted.
+                let _used = self.used();
+                end
+            }
+            Err(fault) => Err(fault),
+        }
+    }
+
+    // Goes on from what was reached of n generations, by a leap for each binary digit of those that are left. Each tree is
+    // trimmed, so that its level is no more than what n generations may need.
+    fn leap_on<W: Watch>(
+        &mut self,
+        first: &Tree,
+        reached: &mut Reached,
+        n: u64,
+        watch: &mut W,
+    ) -> Result<(), LeapFault>
+        requires first { CanAdvance self.old.nodes first.now n }
+        requires reached { HasReached (A.next_of self.old.rule) self.old.nodes first.now n self.old.nodes reached.old }
+        ensures reached { HasReached (A.next_of self.old.rule) self.old.nodes first.now n self.new.nodes reached.new }
+        ensures all { OnOk result (reached.new.generations ≡ n) }
+        ensures none { n ≡ 0 → IsOk result × (reached.new.tree ≡ reached.old.tree) }
+        ensures goes_on { LeaperGrows A self.old self.new }
+        ensures costs { HasLeapt A self.old first.now reached.old.generations n 61 self.new }
+        ensures work { EndsAtLimit self.new.spent result }
+    {
+        let _ = &self.store;
+        let begun = reached.generations;
+        let left = n - begun;
         'digits: for j in 0..61 {
             if (left >> j) % 2 == 1 {
-                now = self.leap(now, j, watch)?;
-                let reached = generations + left % (2 << j);
-                watch.reached(Milestone::with_tree(self, first, &now, reached));
+                let tree = self.leap(reached.tree, j, watch)?;
+                let generations = begun + left % (2 << j);
+                watch.reached(Milestone::with_tree(self, first, &tree, generations));
+                *reached = Reached { tree, generations };
             }
         }
-        Ok(now)
+        Ok(())
     }
 
     // The tree 2^j generations on, of the smallest level.
-    fn leap<W: Watch>(&mut self, tree: Tree, j: u8, watch: &mut W) -> Result<Tree, LeapFault>
+    pub(super) fn leap<W: Watch>(
+        &mut self,
+        tree: Tree,
+        j: u8,
+        watch: &mut W,
+    ) -> Result<Tree, LeapFault>
         requires tree { IsTree self.old.nodes tree }
         requires level { tree.level ≤ 123 }
         requires time { j ≤ 60 }

@@ -57,6 +57,16 @@ impl Memo {
         self.pages.is_empty()
     }
 
+    /// Forgets all, so that as much may be remembered as at first.
+    pub(crate) fn forget(&mut self)
+        ensures blank { IsBlankMemo self.new }
+        ensures capacity { self.new.order.cap ≡ self.old.order.cap }
+    {
+        let alloc = *self.pages.allocator();
+        self.pages = Vec::new(alloc);
+        self.order.clear();
+    }
+
     /// What is remembered for a square at full leap.
     pub(crate) fn full_leap(&mut self, id: Id) -> Option<Id>
         ensures found { IfSome result (HasFullLeap self.old id) }

@@ -8,7 +8,7 @@ ghost use Rattle.ca_run.specs.inner.Bricks.{WallShows};
 use super::Leaper;
 use crate::bricks::Wall;
 use ca_plane::Automaton;
-use ca_quad::Tree;
+use ca_quad::{Store, Tree};
 use std::marker::Model;
 
 /// A number of generations that a run reports. It is made in this module's crate alone, with a tree or a
@@ -49,6 +49,25 @@ impl Milestone {
         ensures { result ≡ generations }
     {
         let _ = leaper;
+        let _ = first;
+        let _ = held;
+        Milestone { generations }
+    }
+
+    // What a run has reached that began with the first tree, of another store, and holds the other.
+    pub(super) fn with_tree_apart<A: Automaton>(
+        leaper: &Leaper<A>,
+        origin: &Store,
+        first: &Tree,
+        held: &Tree,
+        generations: u64,
+    ) -> Milestone
+        requires { (x y : ℤ) → cell leaper.now.nodes held.now x y
+            ≡ cells_after (A.next_of leaper.now.rule) (cell origin.now first.now) generations x y }
+        ensures { result ≡ generations }
+    {
+        let _ = leaper;
+        let _ = origin;
         let _ = first;
         let _ = held;
         Milestone { generations }

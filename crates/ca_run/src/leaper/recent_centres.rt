@@ -34,6 +34,13 @@ impl RecentCentres {
         }
     }
 
+    /// Forgets all.
+    pub(crate) fn forget(&mut self)
+        ensures { self.new ≡ record { slots = []; most = self.old.most } }
+    {
+        self.slots.forget();
+    }
+
     /// Where its memory comes from.
     pub(crate) fn allocator(&self) -> Global {
         self.slots.allocator()

@@ -33,6 +33,13 @@ impl RecentLeaps {
         }
     }
 
+    /// Forgets all.
+    pub(crate) fn forget(&mut self)
+        ensures { self.new ≡ record { slots = []; most = self.old.most } }
+    {
+        self.slots.forget();
+    }
+
     /// What is remembered for four squares.
     pub(crate) fn get(&self, nw: Id, ne: Id, sw: Id, se: Id) -> Option<Id>
         ensures { IfSome result (λ half. Contains self.now.slots (Some (nw, ne, sw, se, half))) }

@@ -42,6 +42,13 @@ impl<T: Copy> Slots<T> {
         }
     }
 
+    /// Forgets all, and gives its memory back.
+    pub(crate) fn forget(&mut self)
+        ensures { self.new ≡ record { slots = []; most = self.old.most } }
+    {
+        *self = Slots::new(self.allocator(), self.most);
+    }
+
     /// Where its memory comes from.
     pub(crate) fn allocator(&self) -> Global {
         *self.slots.allocator()

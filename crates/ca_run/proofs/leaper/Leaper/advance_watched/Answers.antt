@@ -1,16 +1,16 @@
-use Rattle.std.proofs.Common.{◌≡◌, true, false, Ok, IfOk, IsOk, sym, ap, subst, ◌∙◌}
+use Rattle.std.proofs.Common.{◌≡◌, true, false, inl, inr, Ok, IfOk, IsOk, sym, ap, subst, ◌∙◌}
 use Rattle.std.proofs.lemmas.Result.{err_from_is_err_and}
 use Rattle.ca_quad.specs.Sound.{IsSoundStore}
 use Rattle.ca_quad.proofs.Cells.{of_stays}
 use Rattle.ca_run.specs.Advanced.{IsAdvanced}
 use Rattle.ca_run.specs.Spent.{EndsAtLimit}
 use Rattle.ca_run.specs.inner.Dense.{HasReached}
-use Rattle.ca_run.proofs.DenseRuns.{reached_now, advanced_before, stepped_cost, whole_cost}
+use Rattle.ca_run.proofs.DenseRuns.{reached_now, advanced_before, stepped_cost, whole_cost, parted_cost}
 use Rattle.ca_run.proofs.Shown.{goes_on_again}
 use Rattle.ca_run.proofs.leaper.Leaper.advance_watched.Goals as goal
 
-pub leap_on-requires-clause-first : goal.leap_on-requires-clause-first
-leap_on-requires-clause-first g c =
+pub go_on-requires-clause-first : goal.go_on-requires-clause-first
+go_on-requires-clause-first g c =
     let sound = subst (λ l. IsSoundStore l.nodes) c.self.view_is c.self.invariant.squares in
     record {
       is_tree = of_stays c.args.self.now.nodes c.step_dense.new.self.nodes sound c.in_ok-reached.ensures.goes_on.grows c.args.tree.root c.args.tree.level c.requires.is_tree;
@@ -18,8 +18,8 @@ leap_on-requires-clause-first g c =
       time = c.requires.time;
     }
 
-pub leap_on-requires-clause-reached : goal.leap_on-requires-clause-reached
-leap_on-requires-clause-reached g c =
+pub go_on-requires-clause-reached : goal.go_on-requires-clause-reached
+go_on-requires-clause-reached g c =
     let sound = subst (λ l. IsSoundStore l.nodes) c.self.view_is c.self.invariant.squares in
     let on = c.in_ok-reached.ensures.goes_on in
     let s1 = c.step_dense.new.self.nodes in
@@ -46,13 +46,16 @@ returns g c =
     let next = g.A.Automaton.next_of in
     let s0 = c.args.self.now.nodes in
     let s1 = c.step_dense.new.self.nodes in
-    let s2 = c.leap_on.new.self.nodes in
+    let s2 = c.go_on.new.self.nodes in
     let tree = c.args.tree in
-    let advanced = subst (λ r. IfOk c.leap_on.result (IsAdvanced (next r) s1 tree c.args.n s2)) on.rule c.leap_on.ensures.advanced in
+    let advanced = subst (λ r. IfOk c.go_on.result (IsAdvanced (next r) s1 tree c.args.n s2)) on.rule c.go_on.ensures.advanced in
     record {
-      advanced = advanced_before (next c.args.self.now.rule) s0 s1 s2 tree c.args.n c.leap_on.result sound on.grows c.requires.is_tree advanced;
-      none = λ z. c.leap_on.ensures.none z ∙ ap Ok (c.in_ok-reached.ensures.none z);
-      work = c.leap_on.ensures.work;
-      goes_on = goes_on_again _ c.args.self.now c.step_dense.new.self c.leap_on.new.self on c.leap_on.ensures.goes_on;
-      costs = λ d less. whole_cost tree c.args.n d less c.in_ok-reached.reached c.in_ok-reached.ensures.costs c.leap_on.ensures.costs;
+      advanced = advanced_before (next c.args.self.now.rule) s0 s1 s2 tree c.args.n c.go_on.result sound on.grows c.requires.is_tree advanced;
+      none = λ z. c.go_on.ensures.none z ∙ ap Ok (c.in_ok-reached.ensures.none z);
+      work = c.go_on.ensures.work;
+      goes_on = goes_on_again _ c.args.self.now c.step_dense.new.self c.go_on.new.self on c.go_on.ensures.goes_on;
+      costs = λ d less. elim c.go_on.ensures.costs [
+        | inl leapt ↦ whole_cost tree c.args.n d less c.in_ok-reached.reached c.in_ok-reached.ensures.costs leapt
+        | inr parted ↦ parted_cost tree c.args.n d less _ c.in_ok-reached.ensures.costs parted
+      ];
     }

@@ -16,7 +16,6 @@ returns-clause-reached g c =
     let later = cells_after (g.A.Automaton.next_of c.args.self.now.rule) (cell c.args.self.now.nodes c.args.first.now) (c.args.reached.now.generations + c.min-left.result) in
     record {
       is_tree = c.in_ok-tree-2.ensures.tree;
-      level = omega (arith, c.in_ok-tree.ensures.level, c.in_ok-tree-2.ensures.level);
       low = trimmed_low c.trim.new.self.nodes c.in_ok-tree-2.tree c.args.first.now.level (omega (arith, c.requires.least)) c.in_ok-tree-2.ensures.trimmed;
       most = omega (arith, c.requires.reached.most, c.min-left.ensures);
       cells = λ x y. c.in_ok-tree-2.ensures.cells x y ∙ c.in_ok-tree.ensures.cells 0 later c.in_ok-later.ensures.shows x y;

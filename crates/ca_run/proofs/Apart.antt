@@ -1,0 +1,35 @@
+-- Runs in a store of their own.
+use Rattle.std.proofs.Common.{◌≡◌, ℕ, ◌+◌, Result, Ok, Err, IfOk, List, sym, subst, ◌∙◌, arith}
+use Rattle.std.specs.Prelude.{ℤ}
+use Rattle.ca_quad.specs.declared.node.Node.{Node}
+use Rattle.ca_quad.specs.declared.tree.Tree.{Tree}
+use Rattle.ca_quad.specs.Sound.{IsSoundStore, Grows}
+use Rattle.ca_quad.proofs.Growth.{grows_same}
+use Rattle.ca_run.specs.Advanced.{IsAdvanced}
+use Rattle.ca_run.specs.Leaping.{LeaperView, LeaperGrows}
+use Rattle.ca_run.specs.inner.Apart.{IsMoved, KeepsOn}
+use Rattle.ca_run.proofs.Shown.{spends_again}
+
+module _ {Rule : Type 0} where
+  -- one call after another
+  pub keeps_then : {a b d : LeaperView Rule} → KeepsOn Rule a b → KeepsOn Rule b d → KeepsOn Rule a d
+  keeps_then h g = record { rule = g.rule ∙ h.rule; memo = g.memo ∙ h.memo; sound = g.sound; spends = spends_again h.spends g.spends }
+
+  -- a leaper that comes back to the squares that it had goes on
+  pub back_again : {a d : LeaperView Rule} → KeepsOn Rule a d → d.nodes ≡ a.nodes → IsSoundStore a.nodes → LeaperGrows Rule a d
+  back_again {a} {d} keeps same sound = record {
+    rule = keeps.rule;
+    grows = subst (λ nodes. Grows a.nodes nodes) (sym same) (grows_same a.nodes sound);
+    memo = keeps.memo;
+    spends = keeps.spends;
+  }
+
+-- a tree that is taken from another store shows the same plane
+pub advanced_moved : {E : Type 0} (next : List ℕ → ℕ) (s0 s1 s2 : List Node) (first : Tree) (n : ℕ) (tree : Tree) (r : Result Tree E) → IsAdvanced next s0 first n s1 tree
+    → IfOk r (IsMoved s1 tree s2) → IfOk r (IsAdvanced next s0 first n s2)
+advanced_moved next s0 s1 s2 first n tree (Err e) advanced moved = tt
+advanced_moved next s0 s1 s2 first n tree (Ok copy) advanced moved = record {
+  is_tree = moved.is_tree;
+  level = omega (arith, moved.level, advanced.level);
+  cells = λ x y. moved.cells x y ∙ advanced.cells x y;
+}

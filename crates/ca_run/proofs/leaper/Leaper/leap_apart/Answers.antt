@@ -1,0 +1,44 @@
+use Rattle.std.proofs.Common.{◌≡◌, IfOk, sym, subst, ◌∙◌}
+use Rattle.ca_quad.specs.Sound.{IsSoundStore}
+use Rattle.ca_run.specs.Advanced.{IsAdvanced}
+use Rattle.ca_run.specs.inner.Apart.{IsMoved}
+use Rattle.ca_run.specs.inner.Dense.{HasReached}
+use Rattle.ca_run.proofs.Apart.{keeps_then, back_again, advanced_moved}
+use Rattle.ca_run.proofs.DenseRuns.{reached_moved}
+use Rattle.ca_run.proofs.Shown.{goes_on_again}
+use Rattle.ca_run.proofs.leaper.Leaper.leap_apart.Goals as goal
+
+pub leap_until-end-requires-clause-reached : goal.leap_until-end-requires-clause-reached
+leap_until-end-requires-clause-reached g c =
+    let next = g.A.Automaton.next_of in
+    let s0 = c.args.self.now.nodes in
+    let s1 = c.part.new.self.nodes in
+    let first = c.args.first.now in
+    let ensured = c.in_ok-tree.ensures in
+    let run = reached_moved (next c.args.self.now.rule) s0 s0 first c.args.n c.args.reached c.requires.reached s1 c.in_ok-tree.tree ensured.moved in
+    let there = subst (λ o. HasReached (next c.args.self.now.rule) o first c.args.n s1 (record { tree = c.in_ok-tree.tree; generations = c.args.reached.generations })) (sym ensured.before) run in
+    subst (λ r. HasReached (next r) c.in_ok-tree.origin first c.args.n s1 (record { tree = c.in_ok-tree.tree; generations = c.args.reached.generations })) (sym ensured.keeps.rule) there
+
+pub returns-in_err-end-clause-goes_on : goal.returns-in_err-end-clause-goes_on
+returns-in_err-end-clause-goes_on g c =
+    let sound = subst (λ l. IsSoundStore l.nodes) c.self.view_is c.self.invariant.squares in
+    back_again (keeps_then (keeps_then c.in_ok-tree.ensures.keeps c.leap_until-end.ensures.keeps) c.exchange-apart.ensures.keeps) (c.exchange-apart.ensures.nodes ∙ c.in_ok-tree.ensures.before) sound
+
+pub returns-clause-goes_on : goal.returns-clause-goes_on
+returns-clause-goes_on g c =
+    let sound = subst (λ l. IsSoundStore l.nodes) c.self.view_is c.self.invariant.squares in
+    let back = back_again (keeps_then (keeps_then c.in_ok-tree.ensures.keeps c.leap_until-end.ensures.keeps) c.exchange-apart.ensures.keeps) (c.exchange-apart.ensures.nodes ∙ c.in_ok-tree.ensures.before) sound in
+    goes_on_again _ c.args.self.now c.exchange-apart.new.self c.take.new.self back c.take.ensures.goes_on
+
+pub returns-clause-advanced : goal.returns-clause-advanced
+returns-clause-advanced g c =
+    let next = g.A.Automaton.next_of in
+    let s0 = c.args.self.now.nodes in
+    let s2 = c.leap_until-end.new.self.nodes in
+    let s3 = c.take.new.self.nodes in
+    let first = c.args.first.now in
+    let end = c.in_ok-end.field-0 in
+    let there = subst (λ o. IsAdvanced (next c.part.new.self.rule) o first c.args.n s2 end) c.in_ok-tree.ensures.before c.in_ok-end.ensures.advanced in
+    let advanced = subst (λ r. IsAdvanced (next r) s0 first c.args.n s2 end) c.in_ok-tree.ensures.keeps.rule there in
+    let moved = subst (λ s. IfOk c.take.result (IsMoved s end s3)) c.exchange-apart.ensures.before c.take.ensures.moved in
+    advanced_moved (next c.args.self.now.rule) s0 s2 s3 first c.args.n end c.take.result advanced moved

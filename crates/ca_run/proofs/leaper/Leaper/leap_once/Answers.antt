@@ -1,0 +1,50 @@
+use Rattle.std.proofs.Common.{◌≡◌, ℕ, ◌+◌, ◌*◌, ◌%◌, ◌≤◌, ◌^◌, sym, ap, subst, ◌∙◌, arith}
+use Rattle.std.specs.Prelude.{ℤ, replicate}
+use Rattle.ca_plane.specs.Generations.{cells_after}
+use Rattle.ca_quad.specs.Sound.{IsSoundStore, Grows}
+use Rattle.ca_quad.specs.Trees.{cell}
+use Rattle.ca_quad.proofs.Shifts.{some_level}
+use Rattle.ca_run.specs.inner.Dense.{HasReached}
+use Rattle.ca_run.proofs.DenseRuns.{reached_kept, reached_level, reached_moved, leapt_on}
+use Rattle.ca_run.proofs.Trees.{shifted_one}
+use Rattle.ca_run.proofs.leaper.Leaper.leap_once.Goals as goal
+
+pub leap-requires-clause-level : goal.leap-requires-clause-level
+leap-requires-clause-level g c =
+    let quiet = subst (λ l. g.A.Automaton.next_of l.rule (replicate 9 0) ≡ 0) c.self.view_is (g.met.A.Automaton.quiet c.self.inside.rule c.self.invariant.rule) in
+    let some = some_level c.args.origin.now c.count-known.ensures.sound c.args.first.now c.requires.first.is_tree in
+    reached_level (g.A.Automaton.next_of c.args.self.now.rule) c.args.origin.now c.args.self.now.nodes c.args.first.now c.args.n c.args.reached c.requires.reached quiet some c.requires.first.level c.requires.first.time
+
+pub with_tree_apart-requires : goal.with_tree_apart-requires
+with_tree_apart-requires g c = λ x y.
+    let j = c.digit-digit.result in
+    let k = c.args.reached.generations + 1 * 2 ^ j % 18446744073709551616 in
+    let leapt = subst (λ l. (x y : ℤ) → cell c.leap.new.self.nodes c.in-Ok.tree x y ≡ cells_after (g.A.Automaton.next_of l.rule) (cell l.nodes c.args.reached.tree) (2 ^ j) x y) c.set_room.ensures c.in-Ok.ensures.advanced.cells in
+    let power = shifted_one j c.digit-digit.ensures.low in
+    let sum : c.args.reached.generations + 2 ^ j ≡ k = omega (arith, power) in
+    let most : k ≤ c.args.n = omega (arith, sum, c.digit-digit.ensures.fits, c.requires.more) in
+    let some = some_level c.args.origin.now c.count-known.ensures.sound c.args.first.now c.requires.first.is_tree in
+    let run = leapt_on (g.A.Automaton.next_of c.args.self.now.rule) c.args.origin.now c.args.self.now.nodes c.args.first.now c.args.n c.args.reached c.requires.reached c.leap.new.self.nodes c.in-Ok.tree (2 ^ j) k some sum most
+    c.in-Ok.ensures.advanced.is_tree c.in-Ok.ensures.trimmed leapt in
+    subst (λ r. cell c.leap.new.self.nodes c.in-Ok.tree x y ≡ cells_after (g.A.Automaton.next_of r) (cell c.args.origin.now c.args.first.now) k x y) (sym (c.in-Ok.ensures.goes_on.rule ∙ ap (λ l. l.rule) c.set_room.ensures)) (run.cells x y)
+
+pub returns-in-Ok-clause-reached : goal.returns-in-Ok-clause-reached
+returns-in-Ok-clause-reached g c =
+    let j = c.digit-digit.result in
+    let k = c.args.reached.generations + 1 * 2 ^ j % 18446744073709551616 in
+    let leapt = subst (λ l. (x y : ℤ) → cell c.leap.new.self.nodes c.in-Ok.tree x y ≡ cells_after (g.A.Automaton.next_of l.rule) (cell l.nodes c.args.reached.tree) (2 ^ j) x y) c.set_room.ensures c.in-Ok.ensures.advanced.cells in
+    let power = shifted_one j c.digit-digit.ensures.low in
+    let sum : c.args.reached.generations + 2 ^ j ≡ k = omega (arith, power) in
+    let most : k ≤ c.args.n = omega (arith, sum, c.digit-digit.ensures.fits, c.requires.more) in
+    let some = some_level c.args.origin.now c.count-known.ensures.sound c.args.first.now c.requires.first.is_tree in
+    leapt_on (g.A.Automaton.next_of c.args.self.now.rule) c.args.origin.now c.args.self.now.nodes c.args.first.now c.args.n c.args.reached c.requires.reached c.leap.new.self.nodes c.in-Ok.tree (2 ^ j) k some sum most
+    c.in-Ok.ensures.advanced.is_tree c.in-Ok.ensures.trimmed leapt
+
+pub returns-in_ok-tree-in-Err-Memory-clause-reached : goal.returns-in_ok-tree-in-Err-Memory-clause-reached
+returns-in_ok-tree-in-Err-Memory-clause-reached g c =
+    let next = g.A.Automaton.next_of c.args.self.now.rule in
+    let s0 = c.args.origin.now in
+    let first = c.args.first.now in
+    let mid = c.leap.new.self.nodes in
+    let kept = reached_kept next s0 c.args.self.now.nodes mid first c.args.n c.args.reached (subst (λ l. IsSoundStore l.nodes) c.self.view_is c.self.invariant.squares) (subst (λ l. Grows l.nodes mid) c.set_room.ensures c.in-Err-Memory.ensures.goes_on.grows) c.requires.reached in
+    reached_moved next s0 mid first c.args.n c.args.reached kept c.leave_squares.new.self.nodes c.in_ok-tree-in-Err-Memory.tree c.in_ok-tree-in-Err-Memory.ensures.moved

@@ -1,0 +1,11 @@
+use Rattle.std.proofs.Common.{◌≡◌}
+use Rattle.ca_run.specs.inner.Apart.{KeepsOn}
+use Rattle.ca_run.specs.inner.Dense.{HasReached}
+use Rattle.ca_run.proofs.leaper.Leaper.leap_until.Given as goal
+
+-- what is reached so far
+abbrev pub invariant-leaps : goal.invariant-leaps
+invariant-leaps g l = record {
+  reached : HasReached (g.A.Automaton.next_of l.fn.self.rule) l.origin l.first l.n l.self.nodes l.reached;
+  keeps : KeepsOn _ l.fn.self l.self;
+}

@@ -1,0 +1,175 @@
+//! Runs that make too many squares for the leaper's store: they go on in a store of their own, whose squares are left behind
+//! from time to time but for those of the tree.
+
+ghost use Rattle.std.specs.Prelude.{◌≡◌, ℕ, ◌+◌, ◌*◌, ◌≤◌, ◌<◌, ◌^◌, ℤ, length, IfOk, OnErr};
+ghost use Rattle.ca_quad.specs.Trees.{IsTree, cell};
+ghost use Rattle.ca_run.specs.Advanced.{CanAdvance, IsAdvanced};
+ghost use Rattle.ca_run.specs.Leaping.{LeaperGrows};
+ghost use Rattle.ca_run.specs.Spent.{Spends, EndsAtLimit};
+ghost use Rattle.ca_run.specs.inner.Apart.{IsMoved, KeepsOn};
+ghost use Rattle.ca_run.specs.inner.Dense.{HasReached, HasParted};
+
+use super::dense::Reached;
+use super::pace::Pace;
+use super::{Leaper, Milestone};
+use crate::fault::LeapFault;
+use crate::watch::Watch;
+use ca_plane::{Automaton, Memory};
+use ca_quad::{Store, Tree};
+use std::mem;
+
+// How many squares that are copied cost as much as a result.
+const A_UNIT: usize = 4096;
+
+// More leaps than any run can make in a lifetime.
+const MOST_LEAPS: u64 = 1 << 62;
+
+impl<A: Automaton> Leaper<A> {
+    // The tree n generations on, from one that was reached on the way, by leaps in a store of its own.
+    pub(super) fn leap_apart<W: Watch>(
+        &mut self,
+        first: &Tree,
+        reached: Reached,
+        n: u64,
+        watch: &mut W,
+    ) -> Result<Tree, LeapFault>
+        requires first { CanAdvance self.old.nodes first.now n }
+        requires reached { HasReached (A.next_of self.old.rule) self.old.nodes first.now n self.old.nodes reached }
+        ensures advanced { IfOk result (IsAdvanced (A.next_of self.old.rule) self.old.nodes first.now n self.new.nodes) }
+        ensures goes_on { LeaperGrows A self.old self.new }
+        ensures made { length self.new.nodes + 4096 * self.old.spent.used
+            ≤ length self.old.nodes + 4096 * self.new.spent.used }
+        ensures work { EndsAtLimit self.new.spent result }
+    {
+        let _ = &self.store;
+        let (tree, origin) = self.part(reached.tree)?;
+        let generations = reached.generations;
+        let end = self.leap_until(&origin, first, Reached { tree, generations }, n, watch);
+        let apart = self.exchange(origin);
+        self.take(&apart, end?)
+    }
+
+    // The same tree in a new store, which takes the place of the one before, and that one.
+    fn part(&mut self, tree: Tree) -> Result<(Tree, Store), Memory>
+        requires { IsTree self.old.nodes tree }
+        ensures moved { IfOk result (λ both. IsMoved self.old.nodes tree self.new.nodes both.0) }
+        ensures before { IfOk result (λ both. both.1 ≡ self.old.nodes) }
+        ensures keeps { KeepsOn A self.old self.new }
+        ensures spent { self.new.spent ≡ self.old.spent }
+        ensures err { OnErr result (self.new ≡ self.old) }
+    {
+        let alloc = self.recent_centres.allocator();
+        let mut apart = Store::new(alloc);
+        let copy = apart.import(&self.store, tree)?;
+        Ok((copy, self.exchange(apart)))
+    }
+
+    // Goes over to another store, of whose squares nothing is remembered yet, and gives the one before.
+    fn exchange(&mut self, store: Store) -> Store
+        ensures nodes { self.new.nodes ≡ store }
+        ensures before { result ≡ self.old.nodes }
+        ensures keeps { KeepsOn A self.old self.new }
+        ensures spent { self.new.spent ≡ self.old.spent }
+    {
+        let _squares = store.count();
+        self.memo.forget();
+        self.recent_centres.forget();
+        self.recent_leaps.forget();
+        mem::replace(&mut self.store, store)
+    }
+
+    // The tree of another store, whose squares are counted before they are copied.
+    fn take(&mut self, from: &Store, tree: Tree) -> Result<Tree, LeapFault>
+        requires { IsTree from.now tree }
+        ensures moved { IfOk result (IsMoved from.now tree self.new.nodes) }
+        ensures goes_on { LeaperGrows A self.old self.new }
+        ensures made { length self.new.nodes + 4096 * self.old.spent.used
+            ≤ length self.old.nodes + 4096 * self.new.spent.used }
+        ensures work { EndsAtLimit self.new.spent result }
+    {
+        self.charge((from.count() / A_UNIT + 1) as u64)?;
+        Ok(self.store.import(from, tree)?)
+    }
+
+    // The tree n generations on of the first one, which lies in another store.
+    fn leap_until<W: Watch>(
+        &mut self,
+        origin: &Store,
+        first: &Tree,
+        reached: Reached,
+        n: u64,
+        watch: &mut W,
+    ) -> Result<Tree, LeapFault>
+        requires first { CanAdvance origin.now first.now n }
+        requires reached { HasReached (A.next_of self.old.rule) origin.now first.now n self.old.nodes reached }
+        ensures advanced { IfOk result (IsAdvanced (A.next_of self.old.rule) origin.now first.now n self.new.nodes) }
+        ensures keeps { KeepsOn A self.old self.new }
+        ensures work { EndsAtLimit self.new.spent result }
+    {
+        let _known = origin.count();
+        let mut reached = reached;
+        let mut pace = Pace::new(self.store.count());
+        'leaps: for _ in 0..MOST_LEAPS {
+            if reached.generations == n {
+                return Ok(reached.tree);
+            }
+            reached = self.leap_once(origin, first, reached, n, &mut pace, watch)?;
+            if pace.is_late(self.store.count()) {
+                reached.tree = self.leave_squares(reached.tree, &mut pace)?;
+            }
+        }
+        Err(LeapFault::Memory)
+    }
+
+    // What is reached after one leap more. Where it made too many squares, it is given up, and they are left behind.
+    fn leap_once<W: Watch>(
+        &mut self,
+        origin: &Store,
+        first: &Tree,
+        reached: Reached,
+        n: u64,
+        pace: &mut Pace,
+        watch: &mut W,
+    ) -> Result<Reached, LeapFault>
+        requires first { CanAdvance origin.now first.now n }
+        requires reached { HasReached (A.next_of self.old.rule) origin.now first.now n self.old.nodes reached }
+        requires more { reached.generations < n }
+        ensures reached { IfOk result (HasReached (A.next_of self.old.rule) origin.now first.now n self.new.nodes) }
+        ensures keeps { KeepsOn A self.old self.new }
+        ensures work { EndsAtLimit self.new.spent result }
+    {
+        let _known = origin.count();
+        let before = self.store.count();
+        let digit = pace.digit(n - reached.generations);
+        self.set_room(pace.room());
+        match self.leap(reached.tree, digit, watch) {
+            Ok(tree) => {
+                let generations = reached.generations + (1 << digit);
+                watch.reached(Milestone::with_tree_apart(self, origin, first, &tree, generations));
+                pace.went(digit, self.store.count() - before);
+                Ok(Reached { tree, generations })
+            }
+            Err(LeapFault::Memory) if self.is_full() => {
+                pace.gave_up();
+                let tree = self.leave_squares(reached.tree, pace)?;
+                Ok(Reached {
+                    tree,
+                    generations: reached.generations,
+                })
+            }
+            Err(fault) => Err(fault),
+        }
+    }
+
+    // The same tree in a new store: all other squares are left behind.
+    fn leave_squares(&mut self, tree: Tree, pace: &mut Pace) -> Result<Tree, Memory>
+        requires { IsTree self.old.nodes tree }
+        ensures moved { IfOk result (IsMoved self.old.nodes tree self.new.nodes) }
+        ensures keeps { KeepsOn A self.old self.new }
+        ensures spent { self.new.spent ≡ self.old.spent }
+    {
+        let (copy, _left) = self.part(tree)?;
+        pace.left(self.store.count());
+        Ok(copy)
+    }
+}
