@@ -32,6 +32,7 @@ pub mod Cuts
 pub mod Shifts
 pub mod Added
 pub mod Counted
+pub mod Firsts
 pub mod BitWords
 pub mod Bits
 pub mod Words

@@ -1,10 +1,8 @@
 -- Runs in a store of their own.
-use Rattle.std.proofs.Common.{◌≡◌, ℕ, ◌+◌, Result, Ok, Err, IfOk, List, sym, subst, ◌∙◌, arith}
-use Rattle.std.specs.Prelude.{ℤ}
+use Rattle.std.proofs.Common.{ℕ, Result, Ok, Err, IfOk, List, ◌∙◌, arith}
 use Rattle.ca_quad.specs.declared.node.Node.{Node}
 use Rattle.ca_quad.specs.declared.tree.Tree.{Tree}
-use Rattle.ca_quad.specs.Sound.{IsSoundStore, Grows}
-use Rattle.ca_quad.proofs.Growth.{grows_same}
+use Rattle.ca_quad.specs.Sound.{Grows}
 use Rattle.ca_run.specs.Advanced.{IsAdvanced}
 use Rattle.ca_run.specs.Leaping.{LeaperView, LeaperGrows}
 use Rattle.ca_run.specs.inner.Apart.{IsMoved, KeepsOn}
@@ -15,14 +13,13 @@ module _ {Rule : Type 0} where
   pub keeps_then : {a b d : LeaperView Rule} → KeepsOn Rule a b → KeepsOn Rule b d → KeepsOn Rule a d
   keeps_then h g = record { rule = g.rule ∙ h.rule; memo = g.memo ∙ h.memo; sound = g.sound; spends = spends_again h.spends g.spends }
 
-  -- a leaper that comes back to the squares that it had goes on
-  pub back_again : {a d : LeaperView Rule} → KeepsOn Rule a d → d.nodes ≡ a.nodes → IsSoundStore a.nodes → LeaperGrows Rule a d
-  back_again {a} {d} keeps same sound = record {
-    rule = keeps.rule;
-    grows = subst (λ nodes. Grows a.nodes nodes) (sym same) (grows_same a.nodes sound);
-    memo = keeps.memo;
-    spends = keeps.spends;
-  }
+  -- a leaper that has the squares of before goes on
+  pub back_again : {a d : LeaperView Rule} → KeepsOn Rule a d → Grows a.nodes d.nodes → LeaperGrows Rule a d
+  back_again keeps grows = record { rule = keeps.rule; grows = grows; memo = keeps.memo; spends = keeps.spends }
+
+  -- and one that goes on keeps on
+  pub keeps_of : {a d : LeaperView Rule} → LeaperGrows Rule a d → KeepsOn Rule a d
+  keeps_of on = record { rule = on.rule; memo = on.memo; sound = on.grows.sound; spends = on.spends }
 
 -- a tree that is taken from another store shows the same plane
 pub advanced_moved : {E : Type 0} (next : List ℕ → ℕ) (s0 s1 s2 : List Node) (first : Tree) (n : ℕ) (tree : Tree) (r : Result Tree E) → IsAdvanced next s0 first n s1 tree

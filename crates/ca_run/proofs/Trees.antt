@@ -18,7 +18,7 @@ use Rattle.ca_run.specs.Centre.{IsCentre}
 use Rattle.ca_run.specs.inner.Shown.{ShowsAt, side}
 use Rattle.ca_run.specs.inner.Padded.{IsPadded}
 use Rattle.ca_run.specs.inner.Beyond.{IsBeyond, DiesBeyond}
-use Rattle.ca_run.proofs.After.{after_same, after_dead, after_again}
+use Rattle.ca_run.proofs.After.{after_same, after_dead}
 use Rattle.ca_run.proofs.Shown.{at_from, centre_at}
 
 -- a tree is empty beyond half its side

@@ -1,6 +1,6 @@
-//! Trees of another store.
+//! Trees of another store, and the squares that a store had at first.
 
-ghost use Rattle.std.specs.Prelude.{◌≡◌, ◌≤◌, ◌+◌, ℕ, ℤ, length, IfOk, OnOk};
+ghost use Rattle.std.specs.Prelude.{◌≡◌, ◌≤◌, ◌+◌, ℕ, ℤ, length, take, IfOk, OnOk};
 ghost use Rattle.ca_quad.specs.Squares.{level_of};
 ghost use Rattle.ca_quad.specs.Sound.{IsSoundStore, Grows};
 ghost use Rattle.ca_quad.specs.Trees.{IsIn, IsTree, cell};
@@ -42,6 +42,15 @@ impl Store {
             root,
             level: tree.level,
         })
+    }
+
+    /// Keeps the squares that came first, so many of them, and gives the memory of the others back. The id of one that is
+    /// gone names none from then on, or one that comes later.
+    pub fn keep_first(&mut self, count: usize)
+        ensures { self.new ≡ take count self.old }
+    {
+        self.nodes.truncate(count);
+        self.nodes.shrink_to_fit();
     }
 
     // The square of the same level and cells as one of another store, given those of some of its squares.

@@ -74,16 +74,13 @@ impl<A: Automaton> Leaper<A> {
         let _ = &self.store;
         let mut reached = reached;
         let long = is_long(first.level, n);
-        let room = if long {
-            pace::room_beside(self.store.count())
-        } else {
-            usize::MAX
-        };
-        self.set_room(room);
+        let squares = self.store.count();
+        let room = pace::room_beside(squares);
+        self.set_room(if long { room } else { usize::MAX });
         match self.leap_on(first, &mut reached, n, watch) {
             Ok(()) => Ok(reached.tree),
             Err(LeapFault::Memory) if long && self.is_full() => {
-                let end = self.leap_apart(first, reached, n, watch);
+                let end = self.leap_apart(first, reached, squares, n, watch);
                 // No more than can be counted.
                 let _used = self.used();
                 end

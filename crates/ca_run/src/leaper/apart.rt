@@ -1,7 +1,8 @@
 //! Runs that make too many squares for the leaper's store: they go on in a store of their own, whose squares are left behind
 //! from time to time but for those of the tree.
 
-ghost use Rattle.std.specs.Prelude.{◌≡◌, ℕ, ◌+◌, ◌*◌, ◌≤◌, ◌<◌, ◌^◌, ℤ, length, IfOk, OnErr};
+ghost use Rattle.std.specs.Prelude.{◌≡◌, ℕ, ◌+◌, ◌*◌, ◌≤◌, ◌<◌, ◌^◌, ℤ, length, take, IfOk, OnErr};
+ghost use Rattle.ca_quad.specs.Sound.{Grows};
 ghost use Rattle.ca_quad.specs.Trees.{IsTree, cell};
 ghost use Rattle.ca_run.specs.Advanced.{CanAdvance, IsAdvanced};
 ghost use Rattle.ca_run.specs.Leaping.{LeaperGrows};
@@ -25,35 +26,40 @@ const A_UNIT: usize = 4096;
 const MOST_LEAPS: u64 = 1 << 62;
 
 impl<A: Automaton> Leaper<A> {
-    // The tree n generations on, from one that was reached on the way, by leaps in a store of its own.
+    // The tree n generations on, from one that was reached on the way, by leaps in a store of its own. Of the squares that
+    // there are, only so many of the first ones stay.
     pub(super) fn leap_apart<W: Watch>(
         &mut self,
         first: &Tree,
         reached: Reached,
+        squares: usize,
         n: u64,
         watch: &mut W,
     ) -> Result<Tree, LeapFault>
-        requires first { CanAdvance self.old.nodes first.now n }
-        requires reached { HasReached (A.next_of self.old.rule) self.old.nodes first.now n self.old.nodes reached }
-        ensures advanced { IfOk result (IsAdvanced (A.next_of self.old.rule) self.old.nodes first.now n self.new.nodes) }
-        ensures goes_on { LeaperGrows A self.old self.new }
+        requires first { CanAdvance (take squares self.old.nodes) first.now n }
+        requires reached { HasReached (A.next_of self.old.rule) (take squares self.old.nodes) first.now n
+            self.old.nodes reached }
+        ensures advanced { IfOk result
+            (IsAdvanced (A.next_of self.old.rule) (take squares self.old.nodes) first.now n self.new.nodes) }
+        ensures keeps { KeepsOn A self.old self.new }
+        ensures grows { Grows (take squares self.old.nodes) self.new.nodes }
         ensures made { length self.new.nodes + 4096 * self.old.spent.used
             ≤ length self.old.nodes + 4096 * self.new.spent.used }
         ensures work { EndsAtLimit self.new.spent result }
     {
         let _ = &self.store;
-        let (tree, origin) = self.part(reached.tree)?;
+        let (tree, origin) = self.part(reached.tree, squares)?;
         let generations = reached.generations;
         let end = self.leap_until(&origin, first, Reached { tree, generations }, n, watch);
         let apart = self.exchange(origin);
         self.take(&apart, end?)
     }
 
-    // The same tree in a new store, which takes the place of the one before, and that one.
-    fn part(&mut self, tree: Tree) -> Result<(Tree, Store), Memory>
+    // The same tree in a new store, which takes the place of the one before, and the first squares of that one.
+    fn part(&mut self, tree: Tree, squares: usize) -> Result<(Tree, Store), Memory>
         requires { IsTree self.old.nodes tree }
         ensures moved { IfOk result (λ both. IsMoved self.old.nodes tree self.new.nodes both.0) }
-        ensures before { IfOk result (λ both. both.1 ≡ self.old.nodes) }
+        ensures before { IfOk result (λ both. both.1 ≡ take squares self.old.nodes) }
         ensures keeps { KeepsOn A self.old self.new }
         ensures spent { self.new.spent ≡ self.old.spent }
         ensures err { OnErr result (self.new ≡ self.old) }
@@ -61,7 +67,9 @@ impl<A: Automaton> Leaper<A> {
         let alloc = self.recent_centres.allocator();
         let mut apart = Store::new(alloc);
         let copy = apart.import(&self.store, tree)?;
-        Ok((copy, self.exchange(apart)))
+        let mut before = self.exchange(apart);
+        before.keep_first(squares);
+        Ok((copy, before))
     }
 
     // Goes over to another store, of whose squares nothing is remembered yet, and gives the one before.
@@ -168,7 +176,7 @@ impl<A: Automaton> Leaper<A> {
         ensures keeps { KeepsOn A self.old self.new }
         ensures spent { self.new.spent ≡ self.old.spent }
     {
-        let (copy, _left) = self.part(tree)?;
+        let (copy, _none) = self.part(tree, 0)?;
         pace.left(self.store.count());
         Ok(copy)
     }

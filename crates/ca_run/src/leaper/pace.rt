@@ -3,7 +3,7 @@
 ghost use Rattle.std.specs.Prelude.{◌≡◌, ℕ, ◌+◌, ◌<◌, ◌≤◌, ◌^◌, true};
 
 // How many squares a store may have, and how many more than at first.
-const ROOM: usize = 3 << 20;
+const ROOM: usize = 4 << 20;
 
 const MORE: usize = 1 << 20;
 

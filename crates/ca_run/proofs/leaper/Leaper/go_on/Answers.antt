@@ -1,14 +1,26 @@
-use Rattle.std.proofs.Common.{◌≡◌, ◌+◌, ◌*◌, ◌<◌, ◌≤◌, ◌^◌, inr, length, IfOk, sym, subst, arith}
+use Rattle.std.proofs.Common.{◌≡◌, ℕ, inr, List, length, take, IfOk, sym, subst, arith}
 use Rattle.std.specs.Prelude.{replicate}
-use Rattle.std.proofs.lemmas.Bool.Decides.{nat_tests}
-use Rattle.ca_quad.specs.Sound.{IsSoundStore}
+use Rattle.ca_quad.specs.declared.node.Node.{Node}
+use Rattle.ca_quad.specs.Sound.{IsSoundStore, Grows}
+use Rattle.ca_quad.proofs.Firsts.{grown_firsts}
 use Rattle.ca_quad.proofs.Shifts.{some_level}
-use Rattle.ca_run.specs.Advanced.{IsAdvanced}
+use Rattle.ca_run.specs.Advanced.{CanAdvance, IsAdvanced}
 use Rattle.ca_run.specs.Leaping.{LeaperGrows}
 use Rattle.ca_run.specs.inner.Dense.{HasReached, HasLeapt}
-use Rattle.ca_run.proofs.DenseRuns.{reached_now, reached_level, advanced_at, advanced_before}
-use Rattle.ca_run.proofs.Shown.{goes_on_again}
+use Rattle.ca_run.proofs.Apart.{keeps_then, keeps_of, back_again}
+use Rattle.ca_run.proofs.DenseRuns.{reached_level, advanced_at}
 use Rattle.ca_run.proofs.leaper.Leaper.go_on.Goals as goal
+
+-- the squares that there were at first are those that came first
+were_first : (old new : List Node) (squares : ℕ) → squares ≡ length old → Grows old new → take squares new ≡ old
+were_first old new squares count grows = subst (λ k. take k new ≡ old) (sym count) (grown_firsts old new grows)
+
+pub leap_apart-end-requires-clause-first : goal.leap_apart-end-requires-clause-first
+leap_apart-end-requires-clause-first g c =
+    let on = subst (λ l. LeaperGrows _ l c.leap_on.new.self) c.set_room.ensures c.in-Err-Memory.ensures.goes_on in
+    let count = subst (λ l. c.count-squares.result ≡ length l.nodes) c.self.view_is c.count-squares.ensures.count in
+    let firsts = were_first c.args.self.now.nodes c.leap_on.new.self.nodes c.count-squares.result count on.grows in
+    subst (λ nodes. CanAdvance nodes c.args.first.now c.args.n) (sym firsts) c.requires.first
 
 pub leap_apart-end-requires-clause-reached : goal.leap_apart-end-requires-clause-reached
 leap_apart-end-requires-clause-reached g c =
@@ -17,11 +29,12 @@ leap_apart-end-requires-clause-reached g c =
     let s1 = c.leap_on.new.self.nodes in
     let first = c.args.first.now in
     let reached = c.leap_on.new.reached in
-    let sound = subst (λ l. IsSoundStore l.nodes) c.self.view_is c.self.invariant.squares in
     let on = subst (λ l. LeaperGrows _ l c.leap_on.new.self) c.set_room.ensures c.in-Err-Memory.ensures.goes_on in
+    let count = subst (λ l. c.count-squares.result ≡ length l.nodes) c.self.view_is c.count-squares.ensures.count in
+    let firsts = were_first s0 s1 c.count-squares.result count on.grows in
     let run = subst (λ l. HasReached (next l.rule) l.nodes first c.args.n s1 reached) c.set_room.ensures c.in-Err-Memory.ensures.reached in
-    subst (λ r. HasReached (next r) s1 first c.args.n s1 reached) (sym on.rule)
-    (reached_now (next c.args.self.now.rule) s0 s1 first c.args.n reached sound on.grows c.requires.first.is_tree run)
+    let here = subst (λ nodes. HasReached (next c.args.self.now.rule) nodes first c.args.n s1 reached) (sym firsts) run in
+    subst (λ r. HasReached (next r) (take c.count-squares.result s1) first c.args.n s1 reached) (sym on.rule) here
 
 pub returns-in-Ok-clause-advanced : goal.returns-in-Ok-clause-advanced
 returns-in-Ok-clause-advanced g c =
@@ -45,15 +58,20 @@ returns-in-Err-Memory-clause-advanced g c =
     let s2 = c.leap_apart-end.new.self.nodes in
     let first = c.args.first.now in
     let r = c.leap_apart-end.result in
-    let sound = subst (λ l. IsSoundStore l.nodes) c.self.view_is c.self.invariant.squares in
     let on = subst (λ l. LeaperGrows _ l c.leap_on.new.self) c.set_room.ensures c.in-Err-Memory.ensures.goes_on in
-    let advanced = subst (λ rule. IfOk r (IsAdvanced (next rule) s1 first c.args.n s2)) on.rule c.leap_apart-end.ensures.advanced in
-    advanced_before (next c.args.self.now.rule) s0 s1 s2 first c.args.n r sound on.grows c.requires.first.is_tree advanced
+    let count = subst (λ l. c.count-squares.result ≡ length l.nodes) c.self.view_is c.count-squares.ensures.count in
+    let firsts = were_first s0 s1 c.count-squares.result count on.grows in
+    let advanced = subst (λ nodes. IfOk r (IsAdvanced (next c.leap_on.new.self.rule) nodes first c.args.n s2)) firsts c.leap_apart-end.ensures.advanced in
+    subst (λ rule. IfOk r (IsAdvanced (next rule) s0 first c.args.n s2)) on.rule advanced
 
 pub returns-in-Err-Memory-clause-goes_on : goal.returns-in-Err-Memory-clause-goes_on
 returns-in-Err-Memory-clause-goes_on g c =
+    let s0 = c.args.self.now.nodes in
+    let s1 = c.leap_on.new.self.nodes in
     let on = subst (λ l. LeaperGrows _ l c.leap_on.new.self) c.set_room.ensures c.in-Err-Memory.ensures.goes_on in
-    goes_on_again _ c.args.self.now c.leap_on.new.self c.leap_apart-end.new.self on c.leap_apart-end.ensures.goes_on
+    let count = subst (λ l. c.count-squares.result ≡ length l.nodes) c.self.view_is c.count-squares.ensures.count in
+    let firsts = were_first s0 s1 c.count-squares.result count on.grows in
+    back_again (keeps_then (keeps_of on) c.leap_apart-end.ensures.keeps) (subst (λ nodes. Grows nodes c.leap_apart-end.new.self.nodes) firsts c.leap_apart-end.ensures.grows)
 
 pub returns-in-Err-Memory-clause-costs : goal.returns-in-Err-Memory-clause-costs
 returns-in-Err-Memory-clause-costs g c =

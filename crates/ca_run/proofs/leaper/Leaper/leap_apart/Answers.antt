@@ -1,39 +1,38 @@
-use Rattle.std.proofs.Common.{◌≡◌, IfOk, sym, subst, ◌∙◌}
-use Rattle.ca_quad.specs.Sound.{IsSoundStore}
+use Rattle.std.proofs.Common.{IfOk, take, sym, subst, ◌∙◌}
+use Rattle.ca_quad.specs.Sound.{IsSoundStore, Grows}
+use Rattle.ca_quad.proofs.Firsts.{firsts_sound}
+use Rattle.ca_quad.proofs.Growth.{grows_same}
 use Rattle.ca_run.specs.Advanced.{IsAdvanced}
 use Rattle.ca_run.specs.inner.Apart.{IsMoved}
 use Rattle.ca_run.specs.inner.Dense.{HasReached}
-use Rattle.ca_run.proofs.Apart.{keeps_then, back_again, advanced_moved}
+use Rattle.ca_run.proofs.Apart.{advanced_moved}
 use Rattle.ca_run.proofs.DenseRuns.{reached_moved}
-use Rattle.ca_run.proofs.Shown.{goes_on_again}
 use Rattle.ca_run.proofs.leaper.Leaper.leap_apart.Goals as goal
 
 pub leap_until-end-requires-clause-reached : goal.leap_until-end-requires-clause-reached
 leap_until-end-requires-clause-reached g c =
     let next = g.A.Automaton.next_of in
-    let s0 = c.args.self.now.nodes in
+    let s0 = take c.args.squares c.args.self.now.nodes in
     let s1 = c.part.new.self.nodes in
     let first = c.args.first.now in
     let ensured = c.in_ok-tree.ensures in
-    let run = reached_moved (next c.args.self.now.rule) s0 s0 first c.args.n c.args.reached c.requires.reached s1 c.in_ok-tree.tree ensured.moved in
+    let run = reached_moved (next c.args.self.now.rule) s0 c.args.self.now.nodes first c.args.n c.args.reached c.requires.reached s1 c.in_ok-tree.tree ensured.moved in
     let there = subst (λ o. HasReached (next c.args.self.now.rule) o first c.args.n s1 (record { tree = c.in_ok-tree.tree; generations = c.args.reached.generations })) (sym ensured.before) run in
     subst (λ r. HasReached (next r) c.in_ok-tree.origin first c.args.n s1 (record { tree = c.in_ok-tree.tree; generations = c.args.reached.generations })) (sym ensured.keeps.rule) there
 
-pub returns-in_err-end-clause-goes_on : goal.returns-in_err-end-clause-goes_on
-returns-in_err-end-clause-goes_on g c =
+pub returns-in_err-end-clause-grows : goal.returns-in_err-end-clause-grows
+returns-in_err-end-clause-grows g c =
     let sound = subst (λ l. IsSoundStore l.nodes) c.self.view_is c.self.invariant.squares in
-    back_again (keeps_then (keeps_then c.in_ok-tree.ensures.keeps c.leap_until-end.ensures.keeps) c.exchange-apart.ensures.keeps) (c.exchange-apart.ensures.nodes ∙ c.in_ok-tree.ensures.before) sound
+    let s0 = take c.args.squares c.args.self.now.nodes in
+    subst (Grows s0) (sym (c.exchange-apart.ensures.nodes ∙ c.in_ok-tree.ensures.before)) (grows_same s0 (firsts_sound c.args.squares c.args.self.now.nodes sound))
 
-pub returns-clause-goes_on : goal.returns-clause-goes_on
-returns-clause-goes_on g c =
-    let sound = subst (λ l. IsSoundStore l.nodes) c.self.view_is c.self.invariant.squares in
-    let back = back_again (keeps_then (keeps_then c.in_ok-tree.ensures.keeps c.leap_until-end.ensures.keeps) c.exchange-apart.ensures.keeps) (c.exchange-apart.ensures.nodes ∙ c.in_ok-tree.ensures.before) sound in
-    goes_on_again _ c.args.self.now c.exchange-apart.new.self c.take.new.self back c.take.ensures.goes_on
+pub returns-clause-grows : goal.returns-clause-grows
+returns-clause-grows g c = subst (λ nodes. Grows nodes c.take.new.self.nodes) (c.exchange-apart.ensures.nodes ∙ c.in_ok-tree.ensures.before) c.take.ensures.goes_on.grows
 
 pub returns-clause-advanced : goal.returns-clause-advanced
 returns-clause-advanced g c =
     let next = g.A.Automaton.next_of in
-    let s0 = c.args.self.now.nodes in
+    let s0 = take c.args.squares c.args.self.now.nodes in
     let s2 = c.leap_until-end.new.self.nodes in
     let s3 = c.take.new.self.nodes in
     let first = c.args.first.now in

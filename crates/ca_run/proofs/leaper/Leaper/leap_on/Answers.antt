@@ -1,4 +1,4 @@
-use Rattle.std.proofs.Common.{◌≡◌, ℕ, ◌+◌, ◌-◌, ◌*◌, ◌/◌, ◌%◌, ◌<◌, ◌^◌, List, refl, sym, ap, subst, ◌∙◌, arith}
+use Rattle.std.proofs.Common.{◌≡◌, ℕ, ◌+◌, ◌-◌, ◌*◌, ◌/◌, ◌%◌, ◌<◌, ◌^◌, List, sym, ap, subst, ◌∙◌, arith}
 use Rattle.std.specs.Prelude.{ℤ, replicate}
 use Rattle.std.proofs.Math.Nat.{mod-le}
 use Rattle.std.proofs.lemmas.Bool.Decides.{nat_tests}
@@ -7,10 +7,8 @@ use Rattle.ca_plane.specs.Generations.{cells_after}
 use Rattle.ca_quad.specs.Sound.{IsSoundStore}
 use Rattle.ca_quad.specs.Trees.{cell}
 use Rattle.ca_quad.proofs.Shifts.{some_level}
-use Rattle.ca_run.specs.inner.Dense.{HasReached}
 use Rattle.ca_run.proofs.DenseRuns.{reached_kept, reached_level, leapt_on}
-use Rattle.ca_run.proofs.Leap.{goes_on_same}
-use Rattle.ca_run.proofs.Levels.{none_leapt, one_leapt, leapt_more}
+use Rattle.ca_run.proofs.Levels.{one_leapt, leapt_more}
 use Rattle.ca_run.proofs.Shown.{goes_on_again}
 use Rattle.ca_run.proofs.After.{after_same}
 use Rattle.ca_run.proofs.Trees.{tree_stays, digit_adds, no_digit, shifted_two}
