@@ -1,0 +1,26 @@
+//! Laws of pictures, over the definitions alone.
+
+ghost use Rattle.std.specs.Prelude.{◌≡◌, ◌≢◌, ℕ, ℤ, ◌↔◌};
+ghost use Rattle.ca_draw.specs.declared.mark.Mark.{Mark};
+ghost use Rattle.ca_draw.specs.declared.mark.Mark.TheVariants.{Dead, Live, State};
+ghost use Rattle.ca_draw.specs.Marks.{mark_of, letter, grey, IsBlank, HasLive};
+
+/// What is drawn of a square is true of its cells.
+pub fn true_marks()
+    // Dead exactly where every cell of the square is 0.
+    ensures dead { (cells : ℤ → ℤ → ℕ) (states scale : ℕ) (column row : ℤ)
+        → (mark_of cells states scale column row ≡ Dead) ↔ IsBlank cells scale column row }
+    // Live only where some cell of it isn't.
+    ensures live { (cells : ℤ → ℤ → ℕ) (states scale : ℕ) (column row : ℤ)
+        → mark_of cells states scale column row ≡ Live → HasLive cells scale column row }
+    // A state only at scale 0, where it is that of the one cell.
+    ensures state { (cells : ℤ → ℤ → ℕ) (states scale : ℕ) (column row : ℤ) (state : ℕ)
+        → mark_of cells states scale column row ≡ State state
+        → (scale ≡ 0) × (cells column row ≡ state) × (state ≢ 0) }
+{}
+
+/// The character `.` and the white of an image are those of squares without live cells alone.
+pub fn dead_is_seen()
+    ensures letter { (mark : Mark) → letter mark ≡ 46 → mark ≡ Dead }
+    ensures grey { (states : ℕ) (mark : Mark) → grey states mark ≡ 255 → mark ≡ Dead }
+{}
