@@ -1,8 +1,8 @@
 //! Whether a square of a tree has a live cell.
 
 ghost use Rattle.std.specs.Prelude.{◌≡◌, ℕ, suc, ◌+◌, ◌-◌, ◌<◌, ◌≤◌, ◌^◌, ◌↔◌, ◌⊎◌, pos, ◌+ℤ◌, ◌<ℤ◌, ◌≤ℤ◌, IsTrue, IfSome, IfNone};
-ghost use Rattle.ca_quad.specs.Squares.{level_of, IsOf, cell_of};
-ghost use Rattle.ca_quad.specs.Trees.{IsIn, IsTree, cell};
+ghost use Rattle.ca_quad.specs.Squares.{IsOf, cell_of};
+ghost use Rattle.ca_quad.specs.Trees.{IsTree, cell};
 ghost use Rattle.ca_draw.specs.Marks.{has_live, mark_of};
 ghost use Rattle.ca_draw.specs.inner.Blanks.{IsBlankIn, LiesInPart};
 
@@ -41,49 +41,50 @@ fn has_live(store: &Store, tree: &Tree, scale: u8, column: i128, row: i128) -> b
     requires { IsTree store.now tree.now }
     ensures { result ≡ has_live (cell store.now tree.now) scale column row }
 {
-    let quarter = store.level(tree.root) - 1;
-    let scale = scale.min(quarter);
+    let level = store.level(tree.root);
+    let scale = scale.min(level - 1);
     if scale == 0 {
         return store.cell(*tree, Spot { x: column, y: row }) != 0;
     }
-    let half = squares_in(quarter - scale);
+    let half = squares_in(level - 1 - scale);
     let Some(x) = from_edge(half, column) else {
         return false;
     };
     let Some(y) = from_edge(half, row) else {
         return false;
     };
-    !is_blank_in(store, tree.root, scale, x, y)
+    !is_blank_in(store, tree.root, level, scale, x, y)
 }
 
 // Whether every cell of one of a square's squares is 0. They have 2^scale cells a side, and their columns and rows are
 // counted from its corner.
-fn is_blank_in(store: &Store, id: Id, scale: u8, column: u128, row: u128) -> bool
-    requires known { IsIn store.now id }
+fn is_blank_in(store: &Store, id: Id, level: u8, scale: u8, column: u128, row: u128) -> bool
+    requires square { IsOf store.now id level }
     requires least { 1 ≤ scale }
-    requires most { scale ≤ level_of store.now id }
-    requires column { column < 2 ^ (level_of store.now id - scale) }
-    requires row { row < 2 ^ (level_of store.now id - scale) }
-    ensures { (level : ℕ) → IsOf store.now id level
-        → IsTrue result ↔ IsBlankIn (cell_of store.now level id) scale column row }
+    requires most { scale ≤ level }
+    requires size { level ≤ 125 }
+    requires column { column < 2 ^ (level - scale) }
+    requires row { row < 2 ^ (level - scale) }
+    ensures { IsTrue result ↔ IsBlankIn (cell_of store.now level id) scale column row }
 {
-    if store.level(id) == scale {
+    if level == scale {
         return store.is_empty(id);
     }
-    let part = part_at(store, id, scale, column, row);
-    is_blank_in(store, part.id, scale, part.column, part.row)
+    let part = part_at(store, id, level, scale, column, row);
+    is_blank_in(store, part.id, level - 1, scale, part.column, part.row)
 }
 
 // The part of a larger square in which one of its squares lies, and where it lies in that.
-fn part_at(store: &Store, id: Id, scale: u8, column: u128, row: u128) -> Part
-    requires known { IsIn store.now id }
+fn part_at(store: &Store, id: Id, level: u8, scale: u8, column: u128, row: u128) -> Part
+    requires square { IsOf store.now id level }
     requires least { 1 ≤ scale }
-    requires most { scale < level_of store.now id }
-    requires column { column < 2 ^ (level_of store.now id - scale) }
-    requires row { row < 2 ^ (level_of store.now id - scale) }
-    ensures { LiesInPart store.now id scale column row result }
+    requires most { scale < level }
+    requires size { level ≤ 125 }
+    requires column { column < 2 ^ (level - scale) }
+    requires row { row < 2 ^ (level - scale) }
+    ensures { LiesInPart store.now id (level - 1) scale column row result }
 {
-    let half = squares_in(store.level(id) - scale - 1);
+    let half = squares_in(level - scale - 1);
     let [nw, ne, sw, se] = store.children(id);
     if row < half {
         if column < half {
