@@ -39,7 +39,7 @@ off_strip k n (pos m) (inr h) =
     inr (omega (arith, ints))
 off_strip k n (negsuc m) h = inl (omega (arith, ints))
 
-off_or_not : (n : ℕ) (w : ℤ) → IsOff n w ⊎ ((pos 0 ≤ℤ w) × (w <ℤ pos n))
+pub off_or_not : (n : ℕ) (w : ℤ) → IsOff n w ⊎ ((pos 0 ≤ℤ w) × (w <ℤ pos n))
 off_or_not n (pos m) = elim (below_or_not m n) [ inl h ↦ inr (omega (arith, ints), omega (arith, ints)) | inr h ↦ inl (inr (omega (arith, ints))) ]
 off_or_not n (negsuc m) = inl (inl (omega (arith, ints)))
 

@@ -1,9 +1,15 @@
 //! Laws of pictures, over the definitions alone.
 
 ghost use Rattle.std.specs.Prelude.{◌≡◌, ◌≢◌, ℕ, ℤ, ◌↔◌};
+ghost use Rattle.ca_quad.specs.declared.tree.WideBounds.{WideBounds as Box};
+ghost use Rattle.ca_quad.specs.Trees.{IsTree, cell};
+ghost use Rattle.ca_quad.specs.Boxes.{IsLeastWideBox};
 ghost use Rattle.ca_draw.specs.declared.mark.Mark.{Mark};
 ghost use Rattle.ca_draw.specs.declared.mark.Mark.TheVariants.{Dead, Live, State};
 ghost use Rattle.ca_draw.specs.Marks.{mark_of, letter, grey, IsBlank, HasLive};
+ghost use Rattle.ca_draw.specs.Windows.{IsBox, IsInReach};
+
+use ca_quad::{Store, Tree};
 
 /// What is drawn of a square is true of its cells.
 pub fn true_marks()
@@ -18,6 +24,15 @@ pub fn true_marks()
         → mark_of cells states scale column row ≡ State state
         → (scale ≡ 0) × (cells column row ≡ state) × (state ≢ 0) }
 {}
+
+/// The least box round a tree's live cells has cells, and lies in the reach of the largest tree, so that it fits
+/// into any two columns and rows.
+pub fn least_boxes(store: &Store, tree: Tree)
+    requires { IsTree store.now tree }
+    ensures { (box : Box) → IsLeastWideBox (cell store.now tree) box → IsBox box × IsInReach box }
+{
+    let _level = store.level(tree.root);
+}
 
 /// The character `.` and the white of an image are those of squares without live cells alone.
 pub fn dead_is_seen()

@@ -1,7 +1,7 @@
 //! Windows of the plane.
 
-ghost use Rattle.std.specs.Prelude.{◌≡◌, ℕ, ℤ, pos, neg_ℤ, ◌+ℤ◌, ◌-ℤ◌, ◌≤ℤ◌, ◌<ℤ◌, ◌^◌, ◌≤◌, ◌<◌, ◌↔◌, IsTrue, IfSome, IfNone};
-ghost use Rattle.ca_draw.specs.Windows.{strip_of, IsInSquare, IsWindow, IsBox, ShowsBox, window_at};
+ghost use Rattle.std.specs.Prelude.{◌≡◌, ℕ, ℤ, pos, neg_ℤ, ◌+ℤ◌, ◌-ℤ◌, ◌≤ℤ◌, ◌<ℤ◌, ◌^◌, ◌≤◌, ◌<◌, ◌↔◌, IsTrue, IfSome, IfNone, IsSome};
+ghost use Rattle.ca_draw.specs.Windows.{strip_of, IsInSquare, IsWindow, IsBox, IsInReach, ShowsBox, window_at};
 ghost use Rattle.ca_draw.specs.inner.Spans.{IsSpan, Spans};
 
 use ca_quad::{Spot, WideBounds};
@@ -71,7 +71,8 @@ impl Window {
     }
 
     /// The window of the smallest scale that shows a whole box in so many columns and rows at most. It has no
-    /// column and no row without a cell of the box. A box of a tree's cells fits into any two columns and rows.
+    /// column and no row without a cell of the box. A box of a tree's cells fits into any two columns and rows
+    /// (`laws::least_boxes`). One with cells on both sides of x = 0 fits into no single column.
     pub fn fitting(bounds: WideBounds, columns: u16, rows: u16) -> Option<Window>
         requires { IsBox bounds }
         // It shows every cell of the box.
@@ -83,8 +84,9 @@ impl Window {
         // No window of a smaller scale shows the box.
         ensures least { IfSome result (λ w. (other : Window) → ShowsBox bounds columns rows other
             → w.scale ≤ other.scale) }
-        // None does at all.
+        // None does at all, which can't be where two columns and rows are allowed and the box is one of a tree.
         ensures none { IfNone result ((other : Window) → ShowsBox bounds columns rows other → ⊥) }
+        ensures some { IsInReach bounds → 2 ≤ columns → 2 ≤ rows → IsSome result }
     {
         'scales: for scale in 0..MOST_SCALE + 1 {
             if let Some(window) = at_scale(bounds, columns, rows, scale) {
