@@ -6,3 +6,4 @@ pub mod Edges
 pub mod Boxes
 pub mod Marks
 pub mod Rows
+pub mod Seen

@@ -1,12 +1,12 @@
 //! Laws of pictures, over the definitions alone.
 
-ghost use Rattle.std.specs.Prelude.{◌≡◌, ◌≢◌, ℕ, ℤ, ◌↔◌};
+ghost use Rattle.std.specs.Prelude.{◌≡◌, ◌≢◌, ◌<◌, ◌≤◌, ℕ, ℤ, ◌↔◌};
 ghost use Rattle.ca_quad.specs.declared.tree.WideBounds.{WideBounds as Box};
 ghost use Rattle.ca_quad.specs.Trees.{IsTree, cell};
 ghost use Rattle.ca_quad.specs.Boxes.{IsLeastWideBox};
 ghost use Rattle.ca_draw.specs.declared.mark.Mark.{Mark};
 ghost use Rattle.ca_draw.specs.declared.mark.Mark.TheVariants.{Dead, Live, State};
-ghost use Rattle.ca_draw.specs.Marks.{mark_of, letter, grey, IsBlank, HasLive};
+ghost use Rattle.ca_draw.specs.Marks.{mark_of, state_mark, letter, grey, IsBlank, HasLive};
 ghost use Rattle.ca_draw.specs.Windows.{IsBox, IsInReach};
 
 use ca_quad::{Store, Tree};
@@ -38,4 +38,11 @@ pub fn least_boxes(store: &Store, tree: Tree)
 pub fn dead_is_seen()
     ensures letter { (mark : Mark) → letter mark ≡ 46 → mark ≡ Dead }
     ensures grey { (states : ℕ) (mark : Mark) → grey states mark ≡ 255 → mark ≡ Dead }
+{}
+
+/// At scale 0 the characters tell states up to 48 apart, and the greys all states of a rule.
+pub fn states_are_seen()
+    ensures letters { (a b : ℕ) → a < 49 → b < 49 → letter (state_mark a) ≡ letter (state_mark b) → a ≡ b }
+    ensures greys { (states a b : ℕ) → 3 ≤ states → states ≤ 256 → a < states → b < states
+        → grey states (state_mark a) ≡ grey states (state_mark b) → a ≡ b }
 {}
