@@ -1,0 +1,4 @@
+pub mod Windows
+pub mod Marks
+pub mod Drawings
+pub mod inner

@@ -1,0 +1,140 @@
+//! Pictures of windows.
+
+ghost use Rattle.std.specs.Prelude.{◌≡◌, ℕ, ◌<◌, ◌++◌, ◌∷◌, [], pos, ◌+ℤ◌, IfOk, OnOk};
+ghost use Rattle.ca_plane.specs.Puts.{Puts};
+ghost use Rattle.ca_quad.specs.Trees.{IsTree, cell};
+ghost use Rattle.ca_draw.specs.Windows.{IsWindow};
+ghost use Rattle.ca_draw.specs.Marks.{mark_of};
+ghost use Rattle.ca_draw.specs.Drawings.{byte_of, front, row_end, row_of, drawing};
+
+use crate::mark::Mark;
+use crate::squares::mark_at;
+use crate::window::Window;
+use ca_plane::Memory;
+use ca_plane::text::{push_number, push_text};
+use ca_quad::{Store, Tree};
+use std::alloc::Global;
+
+/// What a picture is written as.
+#[derive(Clone, Copy, Debug, PartialEq, Eq)]
+pub enum Format {
+    /// Lines of characters, each ended by LF: `.` for a square without live cells, and `o` for one with some.
+    /// States that are told apart are `A` to `X` for 1 to 24, `a` to `x` for 25 to 48, and `*` above that.
+    Text,
+    /// A grey image (netpbm's page on PGM), a byte a square: 255, white, for a square without live cells, and
+    /// 0, black, for one with some. States that are told apart go from 0 for 1 to lighter greys.
+    Pgm,
+}
+
+/// How squares are drawn.
+#[derive(Clone, Copy, Debug, PartialEq, Eq)]
+pub struct Style {
+    pub format: Format,
+    /// A rule's number of states. Where it is above 2, they are told apart at scale 0.
+    pub states: u16,
+}
+
+/// A picture of a window of a tree's cells: a character or byte for each of its squares, row by row from the
+/// north, and from the west in each. It tells whether a cell of the square is live, or at scale 0 which state
+/// its cell has.
+///
+/// Each square goes down the tree once, so the work doesn't grow with the scale.
+///
+/// # Errors
+///
+/// Fails where there is no memory for the picture.
+pub fn draw(
+    alloc: Global,
+    store: &Store,
+    tree: Tree,
+    window: Window,
+    style: Style,
+) -> Result<Vec<u8>, Memory>
+    requires tree { IsTree store.now tree }
+    requires window { IsWindow window }
+    ensures { IfOk result (λ v. v.items ≡ drawing style (cell store.now tree) window) }
+{
+    let mut out = Vec::new(alloc);
+    push_front(&mut out, window, style.format)?;
+    'rows: for row in 0..window.height {
+        push_row(&mut out, store, &tree, window, style, row)?;
+    }
+    Ok(out)
+}
+
+// Puts what stands before the first row.
+fn push_front(out: &mut Vec<u8>, window: Window, format: Format) -> Result<(), Memory>
+    ensures { OnOk result (Puts out.old.items out.new.items (front format window)) }
+{
+    match format {
+        Format::Text => Ok(()),
+        Format::Pgm => push_sizes(out, window),
+    }
+}
+
+// Puts the first lines of an image.
+fn push_sizes(out: &mut Vec<u8>, window: Window) -> Result<(), Memory>
+    ensures { OnOk result (Puts out.old.items out.new.items (front Format.Pgm window)) }
+{
+    push_text(out, b"P5\n")?;
+    push_number(out, u64::from(window.width))?;
+    push_text(out, b" ")?;
+    push_number(out, u64::from(window.height))?;
+    push_text(out, b"\n255\n")
+}
+
+// Puts a row of a window, counted from its first one.
+fn push_row(
+    out: &mut Vec<u8>,
+    store: &Store,
+    tree: &Tree,
+    window: Window,
+    style: Style,
+    row: u16,
+) -> Result<(), Memory>
+    requires tree { IsTree store.now tree.now }
+    requires window { IsWindow window }
+    requires row { row < window.height }
+    ensures { OnOk result (Puts out.old.items out.new.items (row_of style (cell store.now tree.now) window row)) }
+{
+    'columns: for column in 0..window.width {
+        push_text(out, &[byte_at(store, tree, window, style, column, row)])?;
+    }
+    push_end(out, style.format)
+}
+
+// The byte of a square of a window, whose column and row are counted from its first ones.
+fn byte_at(store: &Store, tree: &Tree, window: Window, style: Style, column: u16, row: u16) -> u8
+    requires tree { IsTree store.now tree.now }
+    requires window { IsWindow window }
+    requires column { column < window.width }
+    requires row { row < window.height }
+    ensures { result ≡ byte_of style (mark_of (cell store.now tree.now) style.states window.scale
+        (window.column +ℤ pos column) (window.row +ℤ pos row)) }
+{
+    let column = window.column + i128::from(column);
+    let row = window.row + i128::from(row);
+    style.byte(mark_at(store, tree, style.states, window.scale, column, row))
+}
+
+// Puts what ends a row.
+fn push_end(out: &mut Vec<u8>, format: Format) -> Result<(), Memory>
+    ensures { OnOk result (Puts out.old.items out.new.items (row_end format)) }
+{
+    match format {
+        Format::Text => push_text(out, b"\n"),
+        Format::Pgm => Ok(()),
+    }
+}
+
+impl Style {
+    // The character or byte of a mark.
+    fn byte(self, mark: Mark) -> u8
+        ensures { result ≡ byte_of self mark }
+    {
+        match self.format {
+            Format::Text => mark.letter(),
+            Format::Pgm => mark.grey(self.states),
+        }
+    }
+}

@@ -1,0 +1,11 @@
+//! Pictures of windows of a plane that is kept as a tree of shared squares.
+#![tactic(auto)]
+
+mod drawing;
+pub mod laws;
+mod mark;
+mod squares;
+mod window;
+
+pub use drawing::{Format, Style, draw};
+pub use window::{MOST_SCALE, MOST_SIDE, Window};
