@@ -40,16 +40,16 @@ const OUT_OF_MEMORY: Unidentified = Unidentified {
     line: None,
 };
 
-/// What the pattern of a file is, under the rule that its rule text names, B/S or among the tables: of the claims
-/// about it alone, `still`, `oscillator`, `spaceship` and `dies`, the one that is true, or that none is whose time is
-/// from 1 to the limit. The limit is from 1 to 4294967295 generations. An observer sees each generation that is
-/// looked at, and is told of no line.
+/// What the pattern of a file is, under the rule that its rule text names, B/S or among the tables: the one
+/// claim about it that is true of those that name one pattern (`still`, `oscillator`, `spaceship`, `dies`);
+/// or that none is whose period or generations are from 1 to the limit. The limit is from 1 to 4294967295
+/// generations. The observer sees each generation that is looked at, and no line.
 ///
 /// # Errors
 ///
-/// The first cause that holds: that the file doesn't read, that its rule text names no rule, that a state isn't below
-/// the number of its rule's states, or that as much work was done as may be. Out of memory may come before them, where
-/// the file needs memory. Only a fault in the spelling of the file has a line.
+/// The first cause that holds: that the file doesn't read, that its rule text names no rule, that a state
+/// isn't below the number of its rule's states, or that as much work was done as may be. Out of memory may
+/// come before them, where the file needs memory. Only a fault in the spelling of the file has a line.
 pub fn identify<O: Observer>(
     alloc: Global,
     bytes: &[u8],
@@ -84,8 +84,8 @@ fn of_file(cause: Cause) -> Unidentified
     Unidentified { cause, line: None }
 }
 
-/// Reads a pattern file into the store: a pattern of small states under a rule that its rule text names among the
-/// tables.
+/// Reads a pattern file into the store: a pattern of small states under a rule that its rule text names among
+/// the tables.
 fn read_small<'t>(
     alloc: Global,
     store: &mut Store,

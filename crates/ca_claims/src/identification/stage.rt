@@ -42,7 +42,8 @@ pub(super) fn stage_of<A: Automaton>(
 ) -> Result<Stage, LeapFault>
     requires first { IsFirst leaper.old.nodes first.now }
     requires now { IsNearTree leaper.old.nodes now.now }
-    ensures stage { IfOk result (IsStage (cell leaper.old.nodes first.now.tree) (cell leaper.old.nodes now.now)) }
+    ensures stage { IfOk result
+        (IsStage (cell leaper.old.nodes first.now.tree) (cell leaper.old.nodes now.now)) }
     ensures goes_on { LeaperGrows A leaper.old leaper.new }
     ensures spent { leaper.new.spent ≡ leaper.old.spent }
     ensures work { EndsAtLimit leaper.new.spent result }
@@ -59,8 +60,8 @@ pub(super) fn stage_of<A: Automaton>(
     }
 }
 
-// The vector from the corner of one box to that of another one, where they have the same size: no other can move
-// cells with the one smallest box onto cells with the other.
+// The vector from the corner of one box to that of another one, where they have the same size: no other can
+// move cells with the one smallest box onto cells with the other.
 fn vector_between(from: &WideBounds, to: &WideBounds) -> Option<(i64, i64)>
     requires from { IsFirstBox from.now }
     requires to { IsWideBox to.now }
