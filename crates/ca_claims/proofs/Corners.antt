@@ -1,6 +1,6 @@
 -- By which vector a tree can be another one, moved: the one between the corners of their least boxes.
 use Rattle.std.proofs.Common.{◌≡◌, ◌≢◌, ℕ, ◌^◌, List, Option, Some, None, MatchOption, sym, ap₂, ◌∙◌, inl, inr, arith}
-use Rattle.std.specs.Prelude.{ℤ, pos, ◌+ℤ◌, ◌-ℤ◌, ◌≤ℤ◌}
+use Rattle.std.specs.Prelude.{ℤ, pos, neg_ℤ, ◌+ℤ◌, ◌-ℤ◌, ◌≤ℤ◌}
 use Rattle.std.proofs.lemmas.Bool.{cases_eq}
 use Rattle.std.proofs.lemmas.Int.{ints, by_lt_z}
 use Rattle.ca_plane.specs.Sparse.{IsInPlane}
@@ -15,12 +15,9 @@ use Rattle.ca_macro.specs.Pattern.{AreInRange}
 use Rattle.ca_plane.specs.Limits.{IsInRange}
 use Rattle.ca_claims.specs.Text.{IsShift}
 use Rattle.ca_claims.specs.inner.Returns.{IsWide}
+use Rattle.ca_claims.specs.inner.Stages.{IsNear}
 use Rattle.ca_claims.specs.inner.Subjects.{HasLive, IsMove, IsNoMove, IsOnlyMove}
 use Rattle.ca_claims.proofs.Searches.{search_within}
-
--- no cell outside the square of a plane is live
-abbrev pub IsNear : (ℤ → ℤ → ℕ) → Type 0
-IsNear cells = (x y : ℤ) → (IsInPlane (record { y = y; x = x }) → ⊥) → cells x y ≡ 0
 
 -- cells in the square of a plane are all 0, or one is live
 pub dead_or_live : (p : ℤ → ℤ → ℕ) → IsNear p → (((x y : ℤ) → p x y ≡ 0) → ⊥) → HasLive p
@@ -56,6 +53,15 @@ module _ (p q : ℤ → ℤ → ℕ) (dx dy : ℤ) (same : (x y : ℤ) → q x y
       let above = least.all (least2.top.0 -ℤ dx) (box2.y0 -ℤ dy) (live_before least2.top.0 box2.y0 least2.top.1) in
       (omega (arith, ints, right.0, left.0), omega (arith, ints, below.2, above.2))
 
+  -- and that between the opposite corners
+  pub far_corner_moved : (box box2 : WideBounds) → wide.IsLeastWideBox p box → wide.IsLeastWideBox q box2 → (dx ≡ box2.x1 -ℤ box.x1) × (dy ≡ box2.y1 -ℤ box.y1)
+  far_corner_moved box box2 least least2 =
+      let right = least2.all (box.x1 +ℤ dx) (least.right.0 +ℤ dy) (live_after box.x1 least.right.0 least.right.1) in
+      let left = least.all (box2.x1 -ℤ dx) (least2.right.0 -ℤ dy) (live_before box2.x1 least2.right.0 least2.right.1) in
+      let below = least2.all (least.bottom.0 +ℤ dx) (box.y1 +ℤ dy) (live_after least.bottom.0 box.y1 least.bottom.1) in
+      let above = least.all (least2.bottom.0 -ℤ dx) (box2.y1 -ℤ dy) (live_before least2.bottom.0 box2.y1 least2.bottom.1) in
+      (omega (arith, ints, right.1, left.1), omega (arith, ints, below.3, above.3))
+
   -- and no cell leaves the square of a plane, where the moved ones are in it
   pub not_leaves : IsNear q → HasCellOutsidePlane (shifted_cells p dx dy) → ⊥
   not_leaves near (x, y, live, out) = live (sym (same x y) ∙ near x y out)
@@ -86,7 +92,7 @@ fits_near p fits x y out =
     ]
 
 -- what isn't out of order is in order
-not_above : (a b : ℤ) → ((a ≤ℤ b → ⊥) → ⊥) → a ≤ℤ b
+pub not_above : (a b : ℤ) → ((a ≤ℤ b → ⊥) → ⊥) → a ≤ℤ b
 not_above a b h = by_lt_z b a (λ less. absurd (h (λ le. omega (arith, ints, less, le)))) (λ other. omega (arith, ints, other))
 
 -- the corner of a least box lies where the live cells do: in range,
@@ -117,3 +123,12 @@ pub corner_wide : (q : ℤ → ℤ → ℕ) (box : WideBounds) → wide.IsLeastW
 corner_wide q box least near =
     let here = corner_near q box least near in
     ((omega (arith, ints, here), omega (arith, ints, here)), (omega (arith, ints, here), omega (arith, ints, here)))
+
+-- the opposite corner lies there too
+pub far_corner_wide : (q : ℤ → ℤ → ℕ) (box : WideBounds) → wide.IsLeastWideBox q box → IsNear q → IsWide box.x1 × IsWide box.y1
+far_corner_wide q box least near =
+    let left : neg_ℤ (pos (2 ^ 62)) ≤ℤ box.x1 = not_above _ _ (λ out. least.right.1 (near box.x1 least.right.0 (λ a. out a.0))) in
+    let right : box.x1 ≤ℤ pos (2 ^ 62) = not_above _ _ (λ out. least.right.1 (near box.x1 least.right.0 (λ a. out a.1))) in
+    let top : neg_ℤ (pos (2 ^ 62)) ≤ℤ box.y1 = not_above _ _ (λ out. least.bottom.1 (near least.bottom.0 box.y1 (λ a. out a.2))) in
+    let bottom : box.y1 ≤ℤ pos (2 ^ 62) = not_above _ _ (λ out. least.bottom.1 (near least.bottom.0 box.y1 (λ a. out a.3))) in
+    ((left, right), (top, bottom))

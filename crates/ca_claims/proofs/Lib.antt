@@ -37,3 +37,5 @@ pub mod Deaths
 pub mod DividedReturns
 pub mod Reasoned
 pub mod LifeSpans
+pub mod Stages
+pub mod Identities

@@ -38,14 +38,14 @@ pub shift_again : (d : ℤ) → IsShift d → IsShift (to_z w64 (of_z w64 d))
 shift_again d shift = subst IsShift (sym (shift_reads d shift)) shift
 
 -- a coordinate in the square of a plane reads so as an `i128`
-wide_reads : (n : ℤ) → IsWide n → to_z w128 (of_z w128 n) ≡ n
+pub wide_reads : (n : ℤ) → IsWide n → to_z w128 (of_z w128 n) ≡ n
 wide_reads n wide = let fits : FitsSigned w128 n = omega (arith, ints, wide) in to_z-of_z w128 n fits
 
 pub wide_again : (n : ℤ) → IsWide n → IsWide (to_z w128 (of_z w128 n))
 wide_again n wide = subst IsWide (sym (wide_reads n wide)) wide
 
 -- so does a shift
-shift_wide : (d : ℤ) → IsShift d → IsWide d
+pub shift_wide : (d : ℤ) → IsShift d → IsWide d
 shift_wide d shift = (omega (arith, ints, shift), omega (arith, ints, shift))
 
 pub wide_shift_again : (d : ℤ) → IsShift d → IsShift (to_z w128 (of_z w128 d))
@@ -57,3 +57,9 @@ distance_reads from to d result shift wide is e =
     let far : result ≡ to -ℤ from = is ∙ ap₂ (λ a b. a -ℤ b) (wide_reads to wide) (wide_reads from (shift_wide from shift)) in
     let fits : FitsSigned w64 result = omega (arith, ints, far, shift, wide) in
     e ∙ sym far ∙ sym (to_z-of_z w64 result fits)
+
+-- what is as far from one coordinate as from another is so as an `i128`
+pub same_far : (a b c d far : ℤ) → IsWide a → IsWide b → IsWide c → IsWide d → far ≡ a -ℤ b → far ≡ c -ℤ d
+    → of_z w128 (to_z w128 (of_z w128 a) -ℤ to_z w128 (of_z w128 b)) ≡ of_z w128 (to_z w128 (of_z w128 c) -ℤ to_z w128 (of_z w128 d))
+same_far a b c d far wide_a wide_b wide_c wide_d one two =
+    ap (of_z w128) (ap₂ (λ u v. u -ℤ v) (wide_reads a wide_a) (wide_reads b wide_b) ∙ sym one ∙ two ∙ sym (ap₂ (λ u v. u -ℤ v) (wide_reads c wide_c) (wide_reads d wide_d)))

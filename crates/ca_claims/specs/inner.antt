@@ -11,6 +11,7 @@ pub mod Ready
 pub mod Refusals
 pub mod Returns
 pub mod Spending
+pub mod Stages
 pub mod Tables
 pub mod Tasks
 pub mod Divisors

@@ -30,6 +30,7 @@ use ca_quad::{Spot, Store, Tree};
 use ca_run::{LeapFault, Leaper};
 use deaths::first_death;
 use returns::first_return;
+pub(crate) use returns::{distance, vector_if_same};
 use std::alloc::Global;
 
 /// The trees that a claim is judged on.
@@ -210,8 +211,8 @@ fn empty_tree<A: Automaton>(alloc: Global, leaper: &mut Leaper<A>) -> Result<Tre
     leaper.load_plane(&Plane::new(alloc))
 }
 
-// The same tree.
-fn copy(tree: &Tree) -> Tree
+/// The same tree.
+pub(crate) fn copy(tree: &Tree) -> Tree
     ensures { result ≡ tree.now }
 {
     Tree {

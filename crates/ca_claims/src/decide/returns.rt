@@ -82,8 +82,8 @@ fn return_at<A: Automaton, O: Observer>(
     }
 }
 
-// The vector, where two trees show the same cells.
-fn vector_if_same<A: Automaton>(
+/// The vector, where two trees show the same cells.
+pub(crate) fn vector_if_same<A: Automaton>(
     leaper: &mut Leaper<A>,
     end: Tree,
     moved: Tree,
@@ -157,8 +157,8 @@ fn corner_vector(
     Ok(Some((distance(from.x0, to.x0), distance(from.y0, to.y0))))
 }
 
-// How far it is from one coordinate to another.
-fn distance(from: i128, to: i128) -> i64
+/// How far it is from one coordinate to another.
+pub(crate) fn distance(from: i128, to: i128) -> i64
     requires from { IsShift from }
     requires to { IsWide to }
     ensures { result ≡ to -ℤ from }

@@ -1,0 +1,221 @@
+-- What a live pattern's plane shows some generations on: which vectors may move the pattern there, and how far they are.
+use Rattle.std.proofs.Common.{◌≡◌, ◌≢◌, ℕ, ◌+◌, ◌*◌, ◌^◌, ◌≤◌, ◌<◌, List, inl, inr, refl, sym, subst, ◌∙◌, arith}
+use Rattle.std.proofs.Math.Nat.{mul-le-mul_right}
+use Rattle.std.specs.Prelude.{ℤ, pos, neg_ℤ, ◌+ℤ◌, ◌-ℤ◌, ◌≤ℤ◌, replicate}
+use Rattle.std.proofs.lemmas.Bool.{cases_eq}
+use Rattle.std.proofs.lemmas.Int.{ints}
+use Rattle.ca_plane.specs.Generations.{cells_after}
+use Rattle.ca_plane.specs.Sparse.{IsInPlane}
+use Rattle.ca_quad.specs.declared.node.Node.{Node}
+use Rattle.ca_quad.specs.declared.tree.Tree.{Tree}
+use Rattle.ca_quad.specs.declared.tree.WideBounds.{WideBounds}
+use Rattle.ca_macro.specs.Pattern.{AreInRange}
+use Rattle.ca_quad.specs.Sound.{IsSoundStore, Grows}
+use Rattle.ca_quad.specs.Boxes.{IsLeastWideBox, IsInWideBox}
+use Rattle.ca_quad.specs.Trees.{cell}
+use Rattle.ca_quad.specs.Trimmed.{IsTrimmed}
+use Rattle.ca_quad.proofs.Growth.{below_or_not}
+use Rattle.ca_quad.proofs.Trims.{trees_stay}
+use Rattle.ca_run.specs.Later.{IsWithin}
+use Rattle.ca_run.proofs.After.{after_dead, after_same, after_again}
+use Rattle.ca_run.proofs.Costs.{power_more}
+use Rattle.ca_claims.specs.Identified.{MayNeedWork}
+use Rattle.ca_claims.specs.Text.{longest_period}
+use Rattle.ca_claims.specs.declared.identification.stage.First.{First}
+use Rattle.ca_claims.specs.declared.identification.stage.Stage.{Stage}
+use Rattle.ca_claims.specs.declared.identification.stage.Stage.TheVariants.{Empty, Back, Other}
+use Rattle.ca_claims.specs.inner.Stages.{IsNear, IsFirst, AreMoved, AreMovedNowhere, IsStage, IsLaterTree, AreOtherUpTo, TakesSteps}
+use Rattle.ca_claims.specs.inner.Subjects.{IsPattern}
+use Rattle.ca_claims.proofs.Corners.{live_after, not_above}
+use Rattle.ca_claims.proofs.Leapt.{near_pattern, near_stays, pattern_stays}
+use Rattle.ca_claims.proofs.Nearby.{later_outside}
+use Rattle.ca_claims.proofs.Searches.{search_within}
+use Rattle.ca_claims.proofs.Times.{moved_nowhere}
+
+-- later cells that the first ones are moved onto by no vector differ from them somewhere
+pub changes : (p q : ℤ → ℤ → ℕ) → IsNear p → IsNear q → AreMovedNowhere p q → (x : ℤ) × (y : ℤ) × (q x y ≢ p x y)
+changes p q near near_later nowhere =
+    elim (search_within q p (2 ^ 62) (pos 0) (pos 0)) [
+      | inr found ↦ found
+      | inl same ↦ absurd (nowhere (pos 0) (pos 0) (λ x y.
+          elim (cases_eq (q x y) (p x y)) [
+            | inl e ↦ e ∙ moved_nowhere p (pos 0) (pos 0) x y refl refl
+            | inr other ↦
+                let out : IsInPlane (record { y = y; x = x }) → ⊥ = λ in_plane.
+                other (same x y (omega (arith, ints, in_plane), omega (arith, ints, in_plane), omega (arith, ints, in_plane), omega (arith, ints, in_plane))) in
+                absurd (other (near_later x y out ∙ sym (near x y out)))
+          ]))
+    ]
+
+-- ---- how far a pattern moves
+
+module _ (next : List ℕ → ℕ) (quiet : next (replicate 9 0) ≡ 0) (p : ℤ → ℤ → ℕ) (box : WideBounds) (least : IsLeastWideBox p box) (n : ℕ) where
+  -- what holds where a cell that was live at first is within n of one that lives after n generations
+  near_live : (x y : ℤ) → cells_after next p n x y ≢ 0 → (a b : ℤ) → ((u v : ℤ) → IsWithin n x y u v → IsInWideBox box u v → a ≤ℤ b) → a ≤ℤ b
+  near_live x y live a b tells =
+      not_above a b (λ out. live (after_dead next p quiet n x y (λ u v within.
+      elim (cases_eq (p u v) 0) [
+        | inl none ↦ none
+        | inr alive ↦ absurd (out (tells u v within (least.all u v alive)))
+      ])))
+
+  module _ (dx dy : ℤ) (moved : AreMoved p (cells_after next p n) dx dy) where
+    -- no farther to the left than n
+    pub least_right : neg_ℤ (pos n) ≤ℤ dx
+    least_right = near_live (box.x0 +ℤ dx) (least.left.0 +ℤ dy) (live_after p (cells_after next p n) dx dy moved box.x0 least.left.0 least.left.1) _ _
+        (λ u v within inside. omega (arith, ints, within, inside))
+
+    -- nor to the right
+    pub most_right : dx ≤ℤ pos n
+    most_right = near_live (box.x1 +ℤ dx) (least.right.0 +ℤ dy) (live_after p (cells_after next p n) dx dy moved box.x1 least.right.0 least.right.1) _ _
+        (λ u v within inside. omega (arith, ints, within, inside))
+
+    -- nor up
+    pub least_down : neg_ℤ (pos n) ≤ℤ dy
+    least_down = near_live (least.top.0 +ℤ dx) (box.y0 +ℤ dy) (live_after p (cells_after next p n) dx dy moved least.top.0 box.y0 least.top.1) _ _
+        (λ u v within inside. omega (arith, ints, within, inside))
+
+    -- nor down
+    pub most_down : dy ≤ℤ pos n
+    most_down = near_live (least.bottom.0 +ℤ dx) (box.y1 +ℤ dy) (live_after p (cells_after next p n) dx dy moved least.bottom.0 box.y1 least.bottom.1) _ _
+        (λ u v within inside. omega (arith, ints, within, inside))
+
+-- ---- cells that are the same at every x and y
+
+-- they have one least box
+least_as : (p q : ℤ → ℤ → ℕ) (box : WideBounds) → ((x y : ℤ) → p x y ≡ q x y) → IsLeastWideBox p box → IsLeastWideBox q box
+least_as p q box same least = record {
+  all = λ x y live. least.all x y (λ none. live (sym (same x y) ∙ none));
+  left = (least.left.0, λ none. least.left.1 (same _ _ ∙ none));
+  right = (least.right.0, λ none. least.right.1 (same _ _ ∙ none));
+  top = (least.top.0, λ none. least.top.1 (same _ _ ∙ none));
+  bottom = (least.bottom.0, λ none. least.bottom.1 (same _ _ ∙ none));
+}
+
+-- and show the same of the same first ones
+pub stage_as : (p q f g : ℤ → ℤ → ℕ) → ((x y : ℤ) → p x y ≡ f x y) → ((x y : ℤ) → q x y ≡ g x y) → (stage : Stage) → IsStage p q stage → IsStage f g stage
+stage_as p q f g first later Empty dead = λ x y. sym (later x y) ∙ dead x y
+stage_as p q f g first later (Back dx dy) moved = λ x y. sym (later x y) ∙ moved x y ∙ first (x -ℤ dx) (y -ℤ dy)
+stage_as p q f g first later Other told = (
+  (told.0.0, told.0.1, λ none. told.0.2 (later told.0.0 told.0.1 ∙ none)),
+  λ dx dy is. told.1 dx dy (λ x y. later x y ∙ is x y ∙ sym (first (x -ℤ dx) (y -ℤ dy))),
+)
+
+-- a tree of later cells is one of those of the same first ones
+pub later_as : (next : List ℕ → ℕ) (p q : ℤ → ℤ → ℕ) (n : ℕ) (nodes : List Node) (tree : Tree) → ((x y : ℤ) → p x y ≡ q x y) → IsLaterTree next p n nodes tree → IsLaterTree next q n nodes tree
+later_as next p q n nodes tree same is = record { near = is.near; low = is.low; trimmed = is.trimmed; shows = λ x y. is.shows x y ∙ after_same next p q n same x y }
+
+-- and stays one
+pub later_stays : (next : List ℕ → ℕ) (p : ℤ → ℤ → ℕ) (n : ℕ) (old new : List Node) → IsSoundStore old → Grows old new → (tree : Tree) → IsLaterTree next p n old tree → IsLaterTree next p n new tree
+later_stays next p n old new sound grows tree is =
+    let same = trees_stay old new sound grows tree is.near.is_tree in
+    record {
+      near = near_stays old new sound grows tree is.near;
+      low = is.low;
+      trimmed = λ level some less holds. is.trimmed level some less (λ x y live. holds x y (λ none. live (sym (same x y) ∙ none)));
+      shows = λ x y. same x y ∙ is.shows x y;
+    }
+
+-- so does a first pattern
+pub first_stays : (old new : List Node) → IsSoundStore old → Grows old new → (first : First) → IsFirst old first → IsFirst new first
+first_stays old new sound grows first is = record {
+  pattern = pattern_stays old new sound grows first.tree is.pattern;
+  box = least_as (cell old first.tree) (cell new first.tree) first.bounds (λ x y. sym (trees_stay old new sound grows first.tree is.pattern.is_tree x y)) is.box;
+}
+
+-- ---- one generation on
+
+-- no generation on
+pub first_tree : (next : List ℕ → ℕ) (nodes : List Node) (tree now : Tree) → now ≡ tree → IsPattern nodes tree → IsLaterTree next (cell nodes tree) 0 nodes now
+first_tree next nodes tree now same is =
+    subst (IsLaterTree next (cell nodes tree) 0 nodes) (sym same)
+    (record { near = near_pattern nodes tree is; low = let low = is.low in omega (arith, low); trimmed = is.trimmed; shows = λ x y. refl })
+
+module _ (next : List ℕ → ℕ) (p : ℤ → ℤ → ℕ) (n : ℕ) (nodes : List Node) (now : Tree) (is : IsLaterTree next p n nodes now) where
+  one_on : (x y : ℤ) → cells_after next (cell nodes now) 1 x y ≡ cells_after next p (n + 1) x y
+  one_on x y = after_same next (cell nodes now) (cells_after next p n) 1 is.shows x y ∙ after_again next p n 1 x y
+
+  -- few generations after cells in range none lies outside the square of a plane
+  pub near_next : next (replicate 9 0) ≡ 0 → AreInRange p → n < longest_period → IsNear (cells_after next (cell nodes now) 1)
+  near_next quiet range few = λ x y out. one_on x y ∙ later_outside next p (n + 1) quiet range (omega (arith, few)) x y out
+
+  -- the tree that is one generation on from this one
+  pub later_next : (new : List Node) (tree : Tree) → IsLaterTree next (cell nodes now) 1 new tree → IsLaterTree next p (n + 1) new tree
+  later_next new tree later = record { near = later.near; low = later.low; trimmed = later.trimmed; shows = λ x y. later.shows x y ∙ one_on x y }
+
+-- after none of no generations,
+pub others_at_first : (next : List ℕ → ℕ) (p : ℤ → ℤ → ℕ) → AreOtherUpTo next p 0
+others_at_first next p m some within = absurd (omega (arith, some, within))
+
+-- and after one more
+pub one_more_other : (next : List ℕ → ℕ) (p : ℤ → ℤ → ℕ) (n : ℕ) → AreOtherUpTo next p n → IsStage p (cells_after next p (n + 1)) Other → AreOtherUpTo next p (n + 1)
+one_more_other next p n before now m some within =
+    elim (below_or_not m (n + 1)) [
+      | inl less ↦ before m some (omega (arith, less))
+      | inr from ↦ let same : n + 1 ≡ m = omega (arith, from, within) in subst (λ k. IsStage p (cells_after next p k) Other) same now
+    ]
+
+-- ---- what a step tells of a leaper's first store and rule
+
+module _ {R : Type 0} (next_of : R → List ℕ → ℕ) (rule later : R) (same : later ≡ rule) (s0 s : List Node) (sound : IsSoundStore s0) (grows : Grows s0 s) (first : First) (is : IsFirst s0 first) (n : ℕ) where
+  first_same : (x y : ℤ) → cell s first.tree x y ≡ cell s0 first.tree x y
+  first_same = trees_stay s0 s sound grows first.tree is.pattern.is_tree
+
+  -- the tree from which it goes on
+  pub step_from : (now : Tree) → IsLaterTree (next_of rule) (cell s0 first.tree) n s now → IsLaterTree (next_of later) (cell s first.tree) n s now
+  step_from now tree =
+      subst (λ r. IsLaterTree (next_of r) (cell s first.tree) n s now) (sym same)
+      (later_as (next_of rule) (cell s0 first.tree) (cell s first.tree) n s now (λ x y. sym (first_same x y)) tree)
+
+  -- the tree that it gives
+  pub step_to : (new : List Node) (tree : Tree) → IsLaterTree (next_of later) (cell s first.tree) n new tree → IsLaterTree (next_of rule) (cell s0 first.tree) n new tree
+  step_to new tree told =
+      later_as (next_of rule) (cell s first.tree) (cell s0 first.tree) n new tree first_same (subst (λ r. IsLaterTree (next_of r) (cell s first.tree) n new tree) same told)
+
+  -- and what that shows
+  pub stage_to : (stage : Stage) → IsStage (cell s first.tree) (cells_after (next_of later) (cell s first.tree) n) stage
+      → IsStage (cell s0 first.tree) (cells_after (next_of rule) (cell s0 first.tree) n) stage
+  stage_to stage told =
+      stage_as (cell s first.tree) (cells_after (next_of rule) (cell s first.tree) n) (cell s0 first.tree) (cells_after (next_of rule) (cell s0 first.tree) n)
+      first_same (λ x y. after_same (next_of rule) (cell s first.tree) (cell s0 first.tree) n first_same x y) stage
+      (subst (λ r. IsStage (cell s first.tree) (cells_after (next_of r) (cell s first.tree) n) stage) same told)
+
+-- ---- the work that steps take
+
+-- none
+pub no_step : (old new : ℕ) (stages : ℕ → ℤ → ℤ → ℕ) (limit : ℕ) → new ≡ old → TakesSteps old new stages limit 0
+no_step old new stages limit same level some holds = omega (arith, same)
+
+-- one
+pub one_step : (old new level : ℕ) → new ≤ old + 14 ^ (level + 1 + 2) → new ≤ old + 14 ^ (level + 3)
+one_step old new level takes = let same : level + 1 + 2 ≡ level + 3 = omega arith in subst (λ e. new ≤ old + 14 ^ e) same takes
+
+-- one more, from a trimmed tree of the live cells before it
+pub one_more_step : (old mid new : ℕ) (stages : ℕ → ℤ → ℤ → ℕ) (limit n : ℕ) (nodes : List Node) (tree : Tree) → IsTrimmed nodes tree → ((x y : ℤ) → cell nodes tree x y ≡ stages n x y)
+    → n < limit → TakesSteps old mid stages limit n → new ≤ mid + 14 ^ (tree.level + 3) → TakesSteps old new stages limit (n + 1)
+one_more_step old mid new stages limit n nodes tree trimmed shows less before takes level some holds =
+    elim (below_or_not level tree.level) [
+      | inl low ↦ absurd (trimmed level some low (λ x y live. holds n less x y (λ none. live (shows x y ∙ none))))
+      | inr high ↦
+          let most = before level some holds in
+          let power = power_more (tree.level + 3) (level + 3) (omega (arith, high)) in
+          let sum : (n + 1) * 14 ^ (level + 3) ≡ n * 14 ^ (level + 3) + 14 ^ (level + 3) = omega arith in
+          omega (arith, most, power, sum, takes)
+    ]
+
+-- more may be allowed
+pub fewer_steps : (old new : ℕ) (stages : ℕ → ℤ → ℤ → ℕ) (limit n : ℕ) → n ≤ limit → TakesSteps old new stages limit n → TakesSteps old new stages limit limit
+fewer_steps old new stages limit n few takes level some holds =
+    let most = takes level some holds in
+    let all : n * 14 ^ (level + 3) ≤ limit * 14 ^ (level + 3) = mul-le-mul_right (14 ^ (level + 3)) few in
+    omega (arith, most, all)
+
+-- so all the work that may be done is no more than steps may need
+pub steps_need : (old new work : ℕ) (stages : ℕ → ℤ → ℤ → ℕ) (limit : ℕ) → old ≡ 0 → new ≡ work → TakesSteps old new stages limit limit → MayNeedWork work stages limit
+steps_need old new work stages limit none all takes level some holds =
+    let most = takes level some holds in
+    omega (arith, none, all, most)
+
+-- the same of cells that are the same at every x and y
+pub need_as : (work : ℕ) (f g : ℕ → ℤ → ℤ → ℕ) (limit : ℕ) → ((n : ℕ) (x y : ℤ) → f n x y ≡ g n x y) → MayNeedWork work f limit → MayNeedWork work g limit
+need_as work f g limit same need level some holds = need level some (λ n less x y live. holds n less x y (λ none. live (same n x y ∙ none)))

@@ -1,0 +1,41 @@
+use Rattle.std.proofs.Common.{◌+◌}
+use Rattle.ca_plane.specs.Generations.{cells_after}
+use Rattle.ca_quad.specs.Trees.{cell}
+use Rattle.ca_quad.proofs.Trims.{trees_stay}
+use Rattle.ca_run.proofs.Shown.{goes_on_again}
+use Rattle.ca_claims.proofs.Stages.{near_next, later_next, later_stays, first_stays, stage_as}
+use Rattle.ca_claims.proofs.identification.search.step.Goals as goal
+
+pub next_tree-requires-clause-near : goal.next_tree-requires-clause-near
+next_tree-requires-clause-near g c =
+    let nodes = c.args.leaper.now.nodes in
+    near_next (g.A.Automaton.next_of c.args.leaper.now.rule) (cell nodes c.args.first.now.tree) c.args.generations nodes c.args.now c.requires.now
+    (g.met.A.Automaton.quiet c.args.leaper.now.rule c.store.ensures.rule) c.requires.first.pattern.range c.requires.few
+
+pub stage_of-requires-clause-first : goal.stage_of-requires-clause-first
+stage_of-requires-clause-first g c =
+    first_stays c.args.leaper.now.nodes c.next_tree.new.leaper.nodes c.store.ensures.sound c.in_ok-tree.ensures.goes_on.grows c.args.first.now c.requires.first
+
+pub returns-clause-tree : goal.returns-clause-tree
+returns-clause-tree g c =
+    let next = g.A.Automaton.next_of c.args.leaper.now.rule in
+    let s0 = c.args.leaper.now.nodes in
+    let s1 = c.next_tree.new.leaper.nodes in
+    let first = cell s0 c.args.first.now.tree in
+    let n = c.args.generations in
+    later_stays next first (n + 1) s1 c.stage_of.new.leaper.nodes c.in_ok-tree.ensures.goes_on.grows.sound c.in_ok-stage.ensures.goes_on.grows c.in_ok-tree.tree
+    (later_next next first n s0 c.args.now c.requires.now s1 c.in_ok-tree.tree c.in_ok-tree.ensures.later)
+
+pub returns-clause-stage : goal.returns-clause-stage
+returns-clause-stage g c =
+    let next = g.A.Automaton.next_of c.args.leaper.now.rule in
+    let s0 = c.args.leaper.now.nodes in
+    let s1 = c.next_tree.new.leaper.nodes in
+    let first = cell s0 c.args.first.now.tree in
+    let n = c.args.generations in
+    let later = later_next next first n s0 c.args.now c.requires.now s1 c.in_ok-tree.tree c.in_ok-tree.ensures.later in
+    stage_as (cell s1 c.args.first.now.tree) (cell s1 c.in_ok-tree.tree) first (cells_after next first (n + 1))
+    (trees_stay s0 s1 c.store.ensures.sound c.in_ok-tree.ensures.goes_on.grows c.args.first.now.tree c.requires.first.pattern.is_tree) later.shows c.in_ok-stage.stage c.in_ok-stage.ensures.stage
+
+pub returns-clause-goes_on : goal.returns-clause-goes_on
+returns-clause-goes_on g c = goes_on_again _ c.args.leaper.now c.next_tree.new.leaper c.stage_of.new.leaper c.in_ok-tree.ensures.goes_on c.in_ok-stage.ensures.goes_on

@@ -1,0 +1,85 @@
+-- What a live pattern's plane shows after one generation after the other.
+use Rattle.std.specs.Prelude.{◌≡◌, ℕ, ◌+◌, ◌*◌, ◌^◌, ◌≤◌, ◌<◌, ℤ, List}
+use Rattle.ca_plane.specs.Plane.{Picture, IsLive, shifted}
+use Rattle.ca_plane.specs.Generations.{cells_after, IsAfter}
+use Rattle.ca_plane.specs.Sparse.{IsInPlane}
+use Rattle.ca_quad.specs.declared.node.Node.{Node}
+use Rattle.ca_quad.specs.declared.tree.Tree.{Tree}
+use Rattle.ca_quad.specs.declared.tree.WideBounds.{WideBounds}
+use Rattle.ca_quad.specs.Boxes.{IsDead, IsLeastWideBox}
+use Rattle.ca_quad.specs.Shifted.{shifted_cells}
+use Rattle.ca_quad.specs.Trees.{cell}
+use Rattle.ca_quad.specs.Trimmed.{IsTrimmed, HoldsAll}
+use Rattle.ca_claims.specs.declared.identification.stage.First.{First}
+use Rattle.ca_claims.specs.declared.identification.stage.Stage.{Stage}
+use Rattle.ca_claims.specs.declared.identification.stage.Stage.TheVariants.{Empty, Back, Other}
+use Rattle.ca_claims.specs.Text.{IsShift}
+use Rattle.ca_claims.specs.Truth.{IsChanged, IsNowhere}
+use Rattle.ca_claims.specs.inner.Returns.{IsWide}
+use Rattle.ca_claims.specs.inner.Subjects.{IsPattern, IsNearTree, HasLive}
+
+-- no live cell lies outside the square of a plane
+abbrev pub IsNear : (ℤ → ℤ → ℕ) → Type 0
+IsNear cells = (x y : ℤ) → (IsInPlane (record { y = y; x = x }) → ⊥) → cells x y ≡ 0
+
+-- a live pattern's tree, and the least box round its cells
+pub record IsFirst (nodes : List Node) (first : First) : Type 0 where
+  pub pattern : IsPattern nodes first.tree
+  pub box : IsLeastWideBox (cell nodes first.tree) first.bounds
+
+-- the sides of the box lie in the square of a plane, and its corner is as near as a shift
+pub record IsFirstBox (box : WideBounds) : Type 0 where
+  pub left : IsShift box.x0
+  pub top : IsShift box.y0
+  pub right : IsWide box.x1
+  pub bottom : IsWide box.y1
+
+-- the sides of the box lie in the square of a plane
+pub record IsWideBox (box : WideBounds) : Type 0 where
+  pub left : IsWide box.x0
+  pub top : IsWide box.y0
+  pub right : IsWide box.x1
+  pub bottom : IsWide box.y1
+
+-- later cells are the first ones, moved by (dx, dy)
+abbrev pub AreMoved : (first later : ℤ → ℤ → ℕ) → ℤ → ℤ → Type 0
+AreMoved first later dx dy = (x y : ℤ) → later x y ≡ shifted_cells first dx dy x y
+
+-- they are under no vector
+abbrev pub AreMovedNowhere : (first later : ℤ → ℤ → ℕ) → Type 0
+AreMovedNowhere first later = (dx dy : ℤ) → AreMoved first later dx dy → ⊥
+
+-- they are under no vector but this one
+abbrev pub AreMovedOnlyBy : (first later : ℤ → ℤ → ℕ) → ℤ × ℤ → Type 0
+AreMovedOnlyBy first later v = (dx dy : ℤ) → AreMoved first later dx dy → (dx ≡ v.0) × (dy ≡ v.1)
+
+-- what later cells are: all dead; the first ones, moved; or live, and the first ones moved by no vector
+abbrev pub IsStage : (first later : ℤ → ℤ → ℕ) → Stage → Type 0
+IsStage first later Empty = IsDead later
+IsStage first later (Back dx dy) = AreMoved first later dx dy
+IsStage first later Other = HasLive later × AreMovedNowhere first later
+
+-- the tree of the cells n generations after the first ones: no larger than it need be, and with no live cell outside the square of a plane
+pub record IsLaterTree (next : List ℕ → ℕ) (first : ℤ → ℤ → ℕ) (n : ℕ) (nodes : List Node) (tree : Tree) : Type 0 where
+  pub near : IsNearTree nodes tree
+  pub low : tree.level ≤ 64
+  pub trimmed : IsTrimmed nodes tree
+  pub shows : (x y : ℤ) → cell nodes tree x y ≡ cells_after next first n x y
+
+-- after none of the generations from 1 to n are the cells dead or the first ones, moved
+abbrev pub AreOtherUpTo : (List ℕ → ℕ) → (ℤ → ℤ → ℕ) → ℕ → Type 0
+AreOtherUpTo next first n = (m : ℕ) → 1 ≤ m → m ≤ n → IsStage first (cells_after next first m) Other
+
+-- from the old count of work to the new one it is at most n steps of a tree of a level that holds the live cells before each of them
+abbrev pub TakesSteps : (old new : ℕ) → (stages : ℕ → ℤ → ℤ → ℕ) → (limit n : ℕ) → Type 0
+TakesSteps old new stages limit n = (level : ℕ) → 1 ≤ level → ((m : ℕ) → m < limit → HoldsAll level (stages m)) → new ≤ old + n * 14 ^ (level + 3)
+
+-- a live pattern is back for the first time after so many generations, by this vector
+pub record IsReturn (next : List ℕ → ℕ) (cells : Picture) (generations : ℕ) (dx dy : ℤ) : Type 0 where
+  pub live : IsLive cells
+  pub some : 1 ≤ generations
+  pub right : IsShift dx
+  pub down : IsShift dy
+  pub stands : IsAfter next cells generations (shifted cells dx dy)
+  pub changed : (m : ℕ) → 1 ≤ m → m < generations → IsChanged next cells m
+  pub nowhere : (m : ℕ) → 1 ≤ m → m < generations → IsNowhere next cells m

@@ -1,0 +1,136 @@
+//! The first generation after which a pattern is back or dead.
+
+ghost use Rattle.std.specs.Prelude.{◌≡◌, ℕ, ◌+◌, ◌≤◌, ◌<◌, ◌^◌, List, IfOk};
+ghost use Rattle.ca_plane.specs.Plane.{Picture};
+ghost use Rattle.ca_plane.specs.Generations.{cells_after};
+ghost use Rattle.ca_quad.specs.Trees.{IsTree, cell};
+ghost use Rattle.ca_run.specs.Leaping.{LeaperGrows};
+ghost use Rattle.ca_run.specs.Spent.{EndsAtLimit};
+ghost use Rattle.ca_claims.specs.Identified.{IsIdentity};
+ghost use Rattle.ca_claims.specs.Text.{longest_period};
+ghost use Rattle.ca_claims.specs.inner.Subjects.{ShowsTree};
+ghost use Rattle.ca_claims.specs.inner.Stages.{IsNear, IsFirst, IsStage, IsLaterTree, IsReturn};
+ghost use Rattle.ca_claims.specs.inner.Stages.{TakesSteps};
+
+use super::stage::{First, Stage, stage_of};
+use crate::decide::copy;
+use crate::identity::Identity;
+use crate::observer::Observer;
+use ca_plane::{Automaton, MoveFault};
+use ca_quad::Tree;
+use ca_run::{LeapFault, Leaper};
+use std::alloc::Global;
+
+/// What a live pattern is, within so many generations.
+pub(super) fn search<A: Automaton, O: Observer>(
+    alloc: Global,
+    leaper: &mut Leaper<A>,
+    first: &First,
+    limit: u64,
+    observer: &mut O,
+) -> Result<Identity, LeapFault>
+    requires first { IsFirst leaper.old.nodes first.now }
+    requires some { 1 ≤ limit }
+    requires most { limit ≤ longest_period }
+    ensures identity { (cells : Picture) → ShowsTree leaper.old.nodes first.now.tree cells
+        → IfOk result (IsIdentity (A.next_of leaper.old.rule) cells limit) }
+    ensures goes_on { LeaperGrows A leaper.old leaper.new }
+    ensures takes { TakesSteps leaper.old.spent.used leaper.new.spent.used
+        (cells_after (A.next_of leaper.old.rule) (cell leaper.old.nodes first.now.tree)) limit limit }
+    ensures work { EndsAtLimit leaper.new.spent result }
+{
+    // Says what holds of every leaper.
+    let _ = leaper.store();
+    let mut now = copy(&first.tree);
+    let mut generations: u64 = 0;
+    'generations: while generations < limit {
+        observer.goes_to(generations + 1);
+        let later = step(alloc, leaper, first, now, generations)?;
+        now = later.tree;
+        generations += 1;
+        match later.stage {
+            Stage::Empty => return Ok(Identity::Dies { generations }),
+            Stage::Back { dx, dy } => return Ok(returning(generations, dx, dy)),
+            Stage::Other => {}
+        }
+    }
+    Ok(Identity::Unknown)
+}
+
+// A tree, and what it shows of the pattern.
+#[derive(Drop)]
+struct Later {
+    tree: Tree,
+    stage: Stage,
+}
+
+// One generation on from the tree so many generations after the pattern.
+fn step<A: Automaton>(
+    alloc: Global,
+    leaper: &mut Leaper<A>,
+    first: &First,
+    now: Tree,
+    generations: u64,
+) -> Result<Later, LeapFault>
+    requires first { IsFirst leaper.old.nodes first.now }
+    requires few { generations < longest_period }
+    requires now { IsLaterTree (A.next_of leaper.old.rule) (cell leaper.old.nodes first.now.tree) generations
+        leaper.old.nodes now }
+    ensures tree { IfOk result
+        (λ later. IsLaterTree (A.next_of leaper.old.rule) (cell leaper.old.nodes first.now.tree)
+        (generations + 1) leaper.new.nodes later.tree) }
+    ensures stage { IfOk result (λ later. IsStage (cell leaper.old.nodes first.now.tree)
+        (cells_after (A.next_of leaper.old.rule) (cell leaper.old.nodes first.now.tree) (generations + 1))
+        later.stage) }
+    ensures goes_on { LeaperGrows A leaper.old leaper.new }
+    ensures takes { leaper.new.spent.used ≤ leaper.old.spent.used + 14 ^ (now.level + 3) }
+    ensures work { EndsAtLimit leaper.new.spent result }
+{
+    // Says what holds of every leaper.
+    let _ = leaper.store();
+    let _ = generations;
+    let tree = next_tree(leaper, now)?;
+    let stage = stage_of(alloc, leaper, first, &tree)?;
+    Ok(Later { tree, stage })
+}
+
+// The tree one generation on, of the smallest level.
+fn next_tree<A: Automaton>(leaper: &mut Leaper<A>, tree: Tree) -> Result<Tree, LeapFault>
+    requires tree { IsTree leaper.old.nodes tree }
+    requires low { tree.level ≤ 64 }
+    requires near { IsNear (cells_after (A.next_of leaper.old.rule) (cell leaper.old.nodes tree) 1) }
+    ensures later { IfOk result
+        (IsLaterTree (A.next_of leaper.old.rule) (cell leaper.old.nodes tree) 1 leaper.new.nodes) }
+    ensures goes_on { LeaperGrows A leaper.old leaper.new }
+    ensures takes { leaper.new.spent.used ≤ leaper.old.spent.used + 14 ^ (tree.level + 3) }
+    ensures work { EndsAtLimit leaper.new.spent result }
+{
+    // Says what holds of every leaper.
+    let _ = leaper.store();
+    let later = leaper.advance(tree, 1)?;
+    match leaper.shifted(later, 0, 0) {
+        Ok(trimmed) => Ok(trimmed),
+        Err(MoveFault::Memory) => Err(LeapFault::Memory),
+        Err(MoveFault::Range) => unreachable!(),
+    }
+}
+
+// What a pattern is that is back for the first time after so many generations, by this vector.
+fn returning(generations: u64, dx: i64, dy: i64) -> Identity
+    ensures { (next : List ℕ → ℕ) (cells : Picture) (limit : ℕ) → generations ≤ limit → limit ≤ longest_period
+        → IsReturn next cells generations dx dy → IsIdentity next cells limit result }
+{
+    if dx != 0 || dy != 0 {
+        return Identity::Spaceship {
+            period: generations,
+            dx,
+            dy,
+        };
+    }
+    if generations == 1 {
+        return Identity::StillLife;
+    }
+    Identity::Oscillator {
+        period: generations,
+    }
+}

@@ -1,0 +1,106 @@
+//! What a pattern's plane shows some generations on.
+
+ghost use Rattle.std.specs.Prelude.{◌≡◌, ℕ, ℤ, IfOk, MatchOption};
+ghost use Rattle.ca_quad.specs.Boxes.{IsLeastWideBox};
+ghost use Rattle.ca_quad.specs.Trees.{cell};
+ghost use Rattle.ca_run.specs.Leaping.{LeaperGrows};
+ghost use Rattle.ca_run.specs.Spent.{EndsAtLimit};
+ghost use Rattle.ca_claims.specs.inner.Subjects.{IsNearTree, IsPattern, IsMove, IsNoMove, IsOnlyMove};
+ghost use Rattle.ca_claims.specs.inner.Stages.{IsFirst, IsFirstBox, IsWideBox, IsStage};
+ghost use Rattle.ca_claims.specs.inner.Stages.{AreMovedNowhere, AreMovedOnlyBy};
+
+use crate::decide::{copy, distance, vector_if_same};
+use ca_plane::{Automaton, MoveFault};
+use ca_quad::{Tree, WideBounds};
+use ca_run::{LeapFault, Leaper};
+use std::alloc::Global;
+
+/// A live pattern, and the smallest box round its cells.
+#[derive(Drop)]
+pub(super) struct First {
+    pub(super) tree: Tree,
+    pub(super) bounds: WideBounds,
+}
+
+/// What a live pattern's plane shows some generations on.
+#[derive(Clone, Copy)]
+pub(super) enum Stage {
+    /// No cell is live.
+    Empty,
+    /// The pattern is there again, moved by this vector.
+    Back { dx: i64, dy: i64 },
+    /// Some cell is live, and the pattern is there under no vector.
+    Other,
+}
+
+/// What a tree shows of a live pattern. Nothing is moved or compared where the boxes have different sizes.
+pub(super) fn stage_of<A: Automaton>(
+    alloc: Global,
+    leaper: &mut Leaper<A>,
+    first: &First,
+    now: &Tree,
+) -> Result<Stage, LeapFault>
+    requires first { IsFirst leaper.old.nodes first.now }
+    requires now { IsNearTree leaper.old.nodes now.now }
+    ensures stage { IfOk result
+        (IsStage (cell leaper.old.nodes first.now.tree) (cell leaper.old.nodes now.now)) }
+    ensures goes_on { LeaperGrows A leaper.old leaper.new }
+    ensures spent { leaper.new.spent ≡ leaper.old.spent }
+    ensures work { EndsAtLimit leaper.new.spent result }
+{
+    let Some(bounds) = leaper.store().bounds(alloc, copy(now))? else {
+        return Ok(Stage::Empty);
+    };
+    let Some((dx, dy)) = vector_between(&first.bounds, &bounds) else {
+        return Ok(Stage::Other);
+    };
+    match vector_if_back(leaper, copy(now), copy(&first.tree), dx, dy)? {
+        Some((dx, dy)) => Ok(Stage::Back { dx, dy }),
+        None => Ok(Stage::Other),
+    }
+}
+
+// The vector from the corner of one box to that of another one, where they have the same size: no other can
+// move cells with the one smallest box onto cells with the other.
+fn vector_between(from: &WideBounds, to: &WideBounds) -> Option<(i64, i64)>
+    requires from { IsFirstBox from.now }
+    requires to { IsWideBox to.now }
+    ensures { (p q : ℤ → ℤ → ℕ) → IsLeastWideBox p from.now → IsLeastWideBox q to.now
+        → MatchOption result (AreMovedNowhere p q) (AreMovedOnlyBy p q) }
+{
+    if to.x1 - from.x1 != to.x0 - from.x0 {
+        return None;
+    }
+    if to.y1 - from.y1 != to.y0 - from.y0 {
+        return None;
+    }
+    Some((distance(from.x0, to.x0), distance(from.y0, to.y0)))
+}
+
+// The vector, where a tree shows a pattern's cells moved by it. No other vector can move them there.
+fn vector_if_back<A: Automaton>(
+    leaper: &mut Leaper<A>,
+    now: Tree,
+    first: Tree,
+    dx: i64,
+    dy: i64,
+) -> Result<Option<(i64, i64)>, LeapFault>
+    requires now { IsNearTree leaper.old.nodes now }
+    requires first { IsPattern leaper.old.nodes first }
+    requires only { IsOnlyMove leaper.old.nodes now first (dx, dy) }
+    ensures back { IfOk result (λ back. MatchOption back (IsNoMove leaper.old.nodes now first)
+        (λ v. IsMove leaper.old.nodes now first v.0 v.1)) }
+    ensures goes_on { LeaperGrows A leaper.old leaper.new }
+    ensures spent { leaper.new.spent ≡ leaper.old.spent }
+    ensures work { EndsAtLimit leaper.new.spent result }
+{
+    let _ = leaper.store();
+    if dx == 0 && dy == 0 {
+        return vector_if_same(leaper, now, first, 0, 0);
+    }
+    match leaper.shifted(first, dx, dy) {
+        Ok(moved) => vector_if_same(leaper, now, moved, dx, dy),
+        Err(MoveFault::Memory) => Err(LeapFault::Memory),
+        Err(MoveFault::Range) => Ok(None),
+    }
+}

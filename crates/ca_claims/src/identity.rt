@@ -1,0 +1,34 @@
+//! What a pattern is.
+
+use crate::verdict::Cause;
+
+/// What a pattern is found to be, by what its plane shows after one generation after the other, up to a
+/// limit. One of these holds of each pattern, and no other.
+#[derive(Clone, Copy, Debug, PartialEq, Eq)]
+pub enum Identity {
+    /// No cell is live, so that none of the others can be claimed.
+    Empty,
+    /// The pattern is live, and one generation on it is what it was.
+    StillLife,
+    /// The pattern is live and is back in its place after the period, which is at least 2, and at no earlier
+    /// time, starting at 1.
+    Oscillator { period: u64 },
+    /// The pattern is live, and after the period it is moved by the shift, which isn't (0, 0). At no earlier
+    /// time, starting at 1, is it back, however moved.
+    Spaceship { period: u64, dx: i64, dy: i64 },
+    /// The pattern is live, after the generations its plane is empty, and at no earlier time it is.
+    Dies { generations: u64 },
+    /// The pattern is live, and it is none of these within the limit.
+    Unknown,
+}
+
+/// Why it isn't found out what a pattern is.
+#[derive(Clone, Copy, Debug, PartialEq, Eq)]
+pub struct Unidentified {
+    /// The cause: that the file doesn't read, that its rule text names no rule, that a state is too large, or
+    /// that work or memory is out.
+    pub cause: Cause,
+    /// Where the cause is a fault that stands on a line of the file, this is the line. Lines are counted from
+    /// 1.
+    pub line: Option<u64>,
+}
