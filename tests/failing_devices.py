@@ -58,11 +58,12 @@ def printing_runs(files):
     lost = files.path("lost.claims", "load lost nowhere.rle\nstill lost\n")
     rule, state = files.path("s.rule", RULE), files.path("state.rle", "x = 1, y = 1, rule = S\nB!")
     macrocell = files.path("dot.mc", MACROCELL)
+    files.path("S.rule", RULE)
     both = after_path(text, EXPLAINED) + after_path(lost, b"line 2: refused, no file\n  lost: nowhere.rle\n")
     return (
         (["verify", text], Outcome(PLAIN, b"", 1)), (["verify", "--explain", text], Outcome(EXPLAINED, b"", 1)),
         (["verify", "--explain", text, lost], Outcome(both, b"", 2)), (["show", dot], SHOWN), (["show", macrocell], SHOWN_MACROCELL),
-        (["show", state, "--rule", rule], SHOWN_TABLE), (["convert", dot, "--to", "mc"], AS_MACROCELL), (["convert", macrocell, "--to", "rle"], AS_RLE),
+        (["show", state, "--rule", rule], SHOWN_TABLE), (["show", state, "--rules", files.folder], SHOWN_TABLE), (["convert", dot, "--to", "mc"], AS_MACROCELL), (["convert", macrocell, "--to", "rle"], AS_RLE),
         *((example_words(f"{name}.words"), example(name)) for name in EXAMPLES),
         *((words, ample(run(words).printed)) for words in (["--version"], ["verify", "--help"])),
     )
@@ -73,10 +74,13 @@ def complaining_runs(files):
     text, _ = claim_text(files)
     bad, worse = files.path("bad.claims", "gun\n"), files.path("worse.claims", "still a\n")
     rule, z = files.path("r.rule", "@RULE R\n@TABLE\nn_states:1\n"), files.path("z.rle", "x = 1, y = 1\nz!")
+    noted = {"bad pattern: rle syntax": f"{z}, line 2", "bad table: line 3 states": f"rule file: {rule}, line 3"}
+    noted = {told: Outcome(b"", f"cafile: {told}\n  {note}\n".encode(), 2) for told, note in noted.items()}
     several = f"cafile: {bad}: claims line 1: syntax\ncafile: {worse}: claims line 1: unknown name\n"
     return (
         (["show", "nowhere"], fault("cannot read nowhere")), (["convert", z, "--to", "mc"], fault("bad pattern: rle syntax")),
-        (["show", z, "--rule", rule], fault("bad table: line 3 states")), (["verify", bad], fault("claims line 1: syntax")),
+        (["show", z, "--rule", rule], fault("bad table: line 3 states")), (["show", "--explain", z], noted["bad pattern: rle syntax"]),
+        (["convert", z, "--to", "mc", "--explain", "--rule", rule], noted["bad table: line 3 states"]), (["verify", bad], fault("claims line 1: syntax")),
         (["verify", bad, text, worse], Outcome(after_path(text, PLAIN), several.encode(), 2)),
         *((words, Outcome(b"", run(words).complaint, 2)) for words in (["verfy"], ["verify"])),
     )
@@ -174,6 +178,9 @@ def try_reads(tally, refusing, files):
     rule, state = files.path("s.rule", RULE), files.path("state.rle", "x = 1, y = 1, rule = S\nB!")
     for words, whole in ((["show", state, "--rule", rule], SHOWN_TABLE), (["convert", state, "--rule", rule, "--to", "mc"], TABLE_AS_MACROCELL)):
         expect_reads(tally, refusing, words, whole, ((len(RULE), fault(f"cannot read {rule}")), (os.path.getsize(state), fault(f"cannot read {state}"))))
+    files.path("S.rule", RULE)
+    for words, whole in ((["show", state, "--rules", files.folder], SHOWN_TABLE), (["convert", state, "--rules", files.folder, "--to", "mc"], TABLE_AS_MACROCELL)):
+        expect_reads(tally, refusing, words, whole, ((os.path.getsize(state), fault(f"cannot read {state}")), (len(RULE), fault("bad rule: unknown"))))
     macrocell = files.path("dot.mc", MACROCELL)
     for words, whole in ((["show", macrocell], SHOWN_MACROCELL), (["convert", macrocell, "--to", "rle"], AS_RLE), (["show", dot], SHOWN)):
         expect_reads(tally, refusing, words, whole, ((os.path.getsize(words[1]), fault(f"cannot read {words[1]}")),))

@@ -12,7 +12,8 @@ Of each run either nothing changed, or it ended with `cafile: memory` and printe
 
 Of an explained run one claim may also be without its note, or a macrocell's note without the faulty line; but where cells differ, a file is missing or a
 rule file is bad, the note is always given. Of a run over several texts one text may be told as out of
-memory and have no lines. A run of `show` or `convert` prints all that it prints with ample memory, or nothing and `cafile: memory`.
+memory and have no lines. A run of `show` or `convert` prints all that it prints with ample memory, or nothing and `cafile: memory`; where it is explained,
+its note may be without the faulty line or the rule.
 
 Of claims with many allocations some are tried, of `show` and `convert` all. tests/address_space.py has memory that is refused by the system itself.
 """
@@ -33,7 +34,10 @@ EXAMPLES = {"block": 1, "glider": 1, "several": 1, "bad_patterns": 1, "rules": 1
 WORDS = ("show_rle", "show_macrocell", "show_table", "show_no_table", "show_bad_table", "show_timeline", "show_full_square", "show_generations",
          "convert_to_macrocell", "convert_to_rle", "convert_tidy_rle", "convert_both_leaves", "convert_table_to_macrocell", "convert_table_to_rle",
          "convert_empty_to_macrocell", "convert_too_many_cells", "convert_full_square", "convert_gun_to_macrocell", "convert_gun_to_rle",
-         "convert_generations_to_macrocell")
+         "convert_generations_to_macrocell", "show_rules", "convert_rules", "show_rules_bad_table", "convert_explain_bad_table")
+
+# The same with a note on the pattern's file, which may be without its faulty line or its rule.
+NOTED = ("show_explain_syntax", "show_explain_forward", "show_rules_unknown", "convert_explain_unknown", "convert_explain_too_many_cells")
 
 # Examples of `verify` with notes, each of one text, and runs over several texts, each with the examples that its texts give by themselves.
 EXPLAINED = {"explain_several": 1, "explain_bad_patterns": 1, "explain_bad_macrocells": 3, "explain_bad_table": 1, "explain_no_rule_file": 1, "explain_causes": 1}
@@ -202,10 +206,11 @@ def wrong_ones(ample, outcomes):
     return [f"allocation {number}: {it}" for number, it in outcomes.items() if it not in (ample, NO_MEMORY)]
 
 
-def tell_words(tally, refusing, words, ample, name):
-    """Tells whether all is printed as with ample memory, or nothing, of a run of which each allocation in turn is refused."""
+def tell_words(tally, refusing, words, ample, name, less=None):
+    """Tells whether all is printed as with ample memory, or nothing, of a run of which each allocation in turn is refused; or what is less, where that is
+    given."""
     outcomes = refusing.sweep(words, itertools.count(1))
-    complaints = wrong_ones(ample, outcomes) or ([] if NO_MEMORY in outcomes.values() else ["no run met out of memory"])
+    complaints = wrong_ones(ample, {number: it for number, it in outcomes.items() if it != less}) or ([] if NO_MEMORY in outcomes.values() else ["no run met out of memory"])
     tally.tell(f"refused memory, {name}: {len(outcomes)} allocations refused", complaints)
 
 
@@ -213,6 +218,10 @@ def try_words(tally, refusing):
     """Each allocation of some examples of `show` and `convert` in turn."""
     for name in WORDS:
         tell_words(tally, refusing, example_words(f"{name}.words"), example(name), f"examples/{name}.words")
+    for name in NOTED:
+        ample = example(name)
+        less = Outcome(b"", re.sub(rb"(?m)^(  \S+?)(, line [0-9]+|: rule .*)$", rb"\1", ample.complaint), ample.status)
+        tell_words(tally, refusing, example_words(f"{name}.words"), ample, f"examples/{name}.words", less)
 
 
 def try_larger(tally, refusing):

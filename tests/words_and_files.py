@@ -12,8 +12,8 @@ MAX_FILE = 67108864
 
 # What the help of each command tells.
 HELP = {
-    "show": ("--rule", "format macrocell", "rule B3/S23", "gen 4", "cells 5", "box 1 2 3 3", "- is standard input", "The status is 0, or 2"),
-    "convert": ("--to", "--rule", "rle, mc", "- is standard input", "The status is 0, or 2"),
+    "show": ("--rule", "--rules", "--explain", "DIR/NAME.rule", "format macrocell", "rule B3/S23", "gen 4", "cells 5", "box 1 2 3 3", "- is standard input", "The status is 0, or 2"),
+    "convert": ("--to", "--rule", "--rules", "--explain", "DIR/NAME.rule", "rle, mc", "- is standard input", "The status is 0, or 2"),
     "verify": ("CLAIMS", "--explain", "--progress", "--memo", "--work", "rule PATH", "load NAME PATH", "still NAME", "oscillator NAME P", "spaceship NAME P DX DY", "becomes NAME N NAME2", "becomes NAME N NAME2 shift DX DY", "dies NAME N", "claims 2",
                "relative to the working directory", "hold no blanks", "- is standard input", "The status is 0", "1 where", "2 where"),
 }
@@ -44,7 +44,9 @@ def try_words(tally):
     for words in (
         [], ["verify"], ["check", "examples/block.claims"], ["verify", "--fast", "examples/block.claims"], ["verify", "--explain"], ["verify", "--progress"],
         ["verify", "--explain", "--explain", "examples/block.claims"], ["verify", "--explain=yes", "examples/block.claims"], ["verify", "-e", "examples/block.claims"],
-        ["show", "-", "-"], ["show", "--explain", block], ["convert", "--explain", block, "--to", "rle"], ["verify", "examples/block.claims", "--to", "rle"],
+        ["show", "-", "-"], ["show", "--explain"], ["show", "--explain", "--explain", block], ["show", "--explain=yes", block], ["convert", "--explain", "--to", "rle"],
+        ["show", "--progress", block], ["show", block, "--rules"], ["show", block, "--rules", "a", "--rules", "b"], ["convert", block, "--to", "rle", "--rules"],
+        ["verify", "examples/block.claims", "--rules", "examples/rules"], ["verify", "examples/block.claims", "--to", "rle"],
         ["show"], ["show", block, block], ["show", block, "--rule"], ["show", block, "--to", "rle"], ["show", block, "--fast"], ["Show", block],
         ["show", "--rule", block], ["show", block, "--rule", block, "--rule", block], ["verify", "examples/block.claims", "--rule", block],
         ["convert"], ["convert", block], ["convert", "--to", "rle"], ["convert", block, "--to"], ["convert", block, "--to", "life"],
@@ -54,7 +56,7 @@ def try_words(tally):
         outcome = run(words)
         well = outcome.complaint and (outcome.printed, outcome.status) == (b"", 2)
         tally.tell(f"faulty words: {' '.join(words)}", [] if well else [str(outcome)])
-    for words in (["verify", b"\xff.claims"], ["show", b"\xff.rle"], ["show", block, "--rule", b"\xff"], ["convert", block, "--to", b"\xff"]):
+    for words in (["verify", b"\xff.claims"], ["show", b"\xff.rle"], ["show", block, "--rule", b"\xff"], ["show", block, "--rules", b"\xff"], ["convert", block, "--to", b"\xff"]):
         tally.expect(f"words that aren't UTF-8, {words[0]}", run(words), fault("usage"))
 
 

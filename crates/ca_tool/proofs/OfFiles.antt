@@ -1,5 +1,5 @@
 -- What runs over pattern files write and answer.
-use Rattle.std.proofs.Common.{◌≡◌, ◌≢◌, ℕ, List, Option, Result, Ok, Err, inr, refl, subst, sym}
+use Rattle.std.proofs.Common.{◌≡◌, ◌≢◌, ℕ, List, Option, Result, Ok, Err, inl, inr, refl, subst, sym}
 use Rattle.std.specs.Prelude.{IfOk}
 use Rattle.std.specs.Io.KnownBytes.{Appends}
 use Rattle.ca_plane.specs.Device.{Counted, AppendsPrefix}
@@ -9,58 +9,49 @@ use Rattle.ca_claims.specs.declared.conversion.ConvertFault.TheVariants as conve
 use Rattle.ca_tool.specs.declared.fault.InputFault.TheVariants as inputs
 use Rattle.ca_tool.specs.declared.fault.ToolFault.{ToolFault}
 use Rattle.ca_tool.specs.declared.fault.ToolFault.TheVariants.{Input, BadTable, Convert, Write, Memory}
-use Rattle.ca_tool.specs.Runs.{ReadsAll, AreKnownTables, HoldsOfReadFile, TakesFile, IsRunFault, RunsOver}
-use Rattle.ca_tool.specs.Writing.{Sends, WritesOneOf}
+use Rattle.ca_tool.specs.Runs.{ReadsAll, AreKnownTables, HoldsOfTables, HoldsOfReadFile, TakesFile, IsBytesFault, IsRunFault, WritesUnder, RunsOver}
+use Rattle.ca_tool.specs.Writing.{Sends}
 use Rattle.ca_tool.specs.inner.Refusals.{TellsConvert}
 
+-- what holds of the tables that are known
+pub of_tables : (rule : Option (List ℕ)) (Holds : List TableRule → Type 0) (all tables : List TableRule) → AreKnownTables rule all → tables ≡ all → Holds tables → HoldsOfTables rule Holds
+of_tables rule Holds all tables known equal holds = record { tables = all; known = known; holds = subst Holds equal holds }
+
 -- the pattern is refused, or memory is out for it
-convert_told : (old new rule : Option (List ℕ)) (IsFault : List ℕ → List TableRule → ConvertFault → Type 0) (fault : ConvertFault) (told : ToolFault) → TellsConvert fault told
-    → HoldsOfReadFile old new rule (λ bytes tables. IsFault bytes tables fault) → IsRunFault old new rule IsFault told
-convert_told old new rule IsFault fault (Input f) none of = absurd none
-convert_told old new rule IsFault fault (BadTable f) none of = absurd none
-convert_told old new rule IsFault fault (Convert f) (other, same) of = (subst (λ g. g ≢ convert_fault.Memory) (sym same) other, subst (λ g. HoldsOfReadFile old new rule (λ bytes tables. IsFault bytes tables g)) (sym same) of)
-convert_told old new rule IsFault fault Write none of = absurd none
-convert_told old new rule IsFault fault Memory same of = inr (subst (λ g. HoldsOfReadFile old new rule (λ bytes tables. IsFault bytes tables g)) same of)
+convert_told : (rule : Option (List ℕ)) (IsFault : List TableRule → ConvertFault → Type 0) (fault : ConvertFault) (told : ToolFault) → TellsConvert fault told
+    → HoldsOfTables rule (λ tables. IsFault tables fault) → IsBytesFault rule IsFault told
+convert_told rule IsFault fault (Input f) none of = absurd none
+convert_told rule IsFault fault (BadTable f) none of = absurd none
+convert_told rule IsFault fault (Convert f) (other, same) of = (subst (λ g. g ≢ convert_fault.Memory) (sym same) other, subst (λ g. HoldsOfTables rule (λ tables. IsFault tables g)) (sym same) of)
+convert_told rule IsFault fault Write none of = absurd none
+convert_told rule IsFault fault Memory same of = inr (subst (λ g. HoldsOfTables rule (λ tables. IsFault tables g)) same of)
 
--- what holds of the bytes that were read, and of the tables that are known
-pub of_file : (old new rule : Option (List ℕ)) (Holds : List ℕ → List TableRule → Type 0) (bytes these : List ℕ) (all tables : List TableRule) → ReadsAll old new bytes → AreKnownTables rule all
-    → these ≡ bytes → tables ≡ all → Holds these tables → HoldsOfReadFile old new rule Holds
-of_file old new rule Holds bytes these all tables read known same equal holds =
-    record { bytes = bytes; tables = all; read = read; known = known; holds = subst (λ b. Holds b all) same (subst (λ t. Holds these t) equal holds) }
+-- that is no failed write
+not_write : (fault : ConvertFault) (told : ToolFault) → TellsConvert fault told → told ≢ Write
+not_write fault (Input f) tells = absurd tells
+not_write fault (BadTable f) tells = absurd tells
+not_write fault (Convert f) tells = λ is. cc
+not_write fault Write tells = absurd tells
+not_write fault Memory tells = λ is. cc
 
--- that is no failed write and no failed read
-not_told : (fault : ConvertFault) (told : ToolFault) → TellsConvert fault told → (told ≢ Write) × (told ≢ Input inputs.Read)
-not_told fault (Input f) tells = absurd tells
-not_told fault (BadTable f) tells = absurd tells
-not_told fault (Convert f) tells = ((λ is. cc), (λ is. cc))
-not_told fault Write tells = absurd tells
-not_told fault Memory tells = ((λ is. cc), (λ is. cc))
-
--- where the file was read and the pattern is refused, the run tells that, and writes nothing
-pub refused : {R W T : Type 0} (remaining : R → Option (List ℕ)) (contents : W → Option (List ℕ)) (input read : Counted R) (rule : Option (List ℕ)) (output : Counted W)
-    (IsText : List ℕ → List TableRule → List ℕ → Type 0) (IsFault : List ℕ → List TableRule → ConvertFault → Type 0) (fault : ConvertFault) (told : ToolFault) (given : T)
-    → TakesFile remaining input read (Input inputs.Read) (Ok given) → TellsConvert fault told
-    → HoldsOfReadFile (remaining input.inner) (remaining read.inner) rule (λ bytes tables. IsFault bytes tables fault)
-    → RunsOver remaining contents input read rule output output IsText IsFault (Err told)
-refused remaining contents input read rule output IsText IsFault fault told given takes tells of = let (write, failed) = not_told fault told tells in record {
-  reads = record { bounded = takes.bounded; failed = λ is. absurd (failed cc); kept = λ other. takes.kept (λ is. cc) };
-  writes = record {
-    whole = tt;
-    kept = tt;
-    front = λ is. absurd (write cc);
-    counted = λ is. absurd (write cc);
-    fault = λ other. convert_told (remaining input.inner) (remaining read.inner) rule IsFault fault told tells of;
-    nothing = λ other. refl;
-  };
+-- where the pattern is refused, the run tells that, and writes nothing
+pub refused : {W : Type 0} (contents : W → Option (List ℕ)) (output : Counted W) (rule : Option (List ℕ)) (IsText : List TableRule → List ℕ → Type 0)
+    (IsFault : List TableRule → ConvertFault → Type 0) (fault : ConvertFault) (told : ToolFault) → TellsConvert fault told → HoldsOfTables rule (λ tables. IsFault tables fault)
+    → WritesUnder contents output output rule IsText IsFault (Err told)
+refused contents output rule IsText IsFault fault told tells of = let write = not_write fault told tells in record {
+  whole = tt;
+  kept = tt;
+  front = λ is. absurd (write cc);
+  counted = λ is. absurd (write cc);
+  fault = λ other. convert_told rule IsFault fault told tells of;
+  nothing = λ other. refl;
 }
 
--- a text of the file was written, or a part of it
-pub text_written : {W : Type 0} (contents : W → Option (List ℕ)) (output written : Counted W) (old new rule : Option (List ℕ)) (IsText : List ℕ → List TableRule → List ℕ → Type 0)
-    (IsFault : List ℕ → List TableRule → ConvertFault → Type 0) (text sent : List ℕ) (result : Result ℕ ToolFault) → HoldsOfReadFile old new rule (λ bytes tables. IsText bytes tables text) → sent ≡ text
-    → IfOk result (λ status. status ≡ 0) → Sends contents output written sent Write result
-    → WritesOneOf contents output written (λ text status. (status ≡ 0) × HoldsOfReadFile old new rule (λ bytes tables. IsText bytes tables text)) (λ text. HoldsOfReadFile old new rule (λ bytes tables. IsText bytes tables text))
-    (IsRunFault old new rule IsFault) result
-text_written contents output written old new rule IsText IsFault text sent (Ok status) of same zero sends = record {
+-- a text of the bytes was written, or a part of it
+pub text_written : {W : Type 0} (contents : W → Option (List ℕ)) (output written : Counted W) (rule : Option (List ℕ)) (IsText : List TableRule → List ℕ → Type 0)
+    (IsFault : List TableRule → ConvertFault → Type 0) (text sent : List ℕ) (result : Result ℕ ToolFault) → HoldsOfTables rule (λ tables. IsText tables text) → sent ≡ text
+    → IfOk result (λ status. status ≡ 0) → Sends contents output written sent Write result → WritesUnder contents output written rule IsText IsFault result
+text_written contents output written rule IsText IsFault text sent (Ok status) of same zero sends = record {
   whole = (text, (zero, of), subst (Appends (contents output.inner) (contents written.inner)) same sends.all);
   kept = sends.kept;
   front = λ is. cc;
@@ -68,7 +59,7 @@ text_written contents output written old new rule IsText IsFault text sent (Ok s
   fault = tt;
   nothing = tt;
 }
-text_written contents output written old new rule IsText IsFault text sent (Err fault) of same zero sends = record {
+text_written contents output written rule IsText IsFault text sent (Err fault) of same zero sends = record {
   whole = tt;
   kept = tt;
   front = λ is. (text, of, subst (AppendsPrefix (contents output.inner) (contents written.inner)) same sends.front);
@@ -76,3 +67,57 @@ text_written contents output written old new rule IsText IsFault text sent (Err 
   fault = λ other. absurd (other sends.fault);
   nothing = λ other. absurd (other sends.fault);
 }
+
+-- what holds of a file's bytes that were read, and of the tables
+of_file : (old new rule : Option (List ℕ)) (Holds : List ℕ → List TableRule → Type 0) (bytes : List ℕ) → ReadsAll old new bytes → HoldsOfTables rule (Holds bytes)
+    → HoldsOfReadFile old new rule Holds
+of_file old new rule Holds bytes read of = record { bytes = bytes; tables = of.tables; read = read; known = of.known; holds = of.holds }
+
+-- a fault of a run over the bytes that were read is one of the run over the file
+fault_of_file : (old new rule : Option (List ℕ)) (IsFault : List ℕ → List TableRule → ConvertFault → Type 0) (bytes : List ℕ) (told : ToolFault) → ReadsAll old new bytes
+    → IsBytesFault rule (IsFault bytes) told → IsRunFault old new rule IsFault told
+fault_of_file old new rule IsFault bytes (Input f) read none = absurd none
+fault_of_file old new rule IsFault bytes (BadTable f) read (other, is) = (other, (bytes, read), is)
+fault_of_file old new rule IsFault bytes (Convert f) read (other, of) = (other, of_file old new rule (λ these tables. IsFault these tables f) bytes read of)
+fault_of_file old new rule IsFault bytes Write read none = absurd none
+fault_of_file old new rule IsFault bytes Memory read (inl is) = inl ((bytes, read), is)
+fault_of_file old new rule IsFault bytes Memory read (inr of) = inr (of_file old new rule (λ these tables. IsFault these tables convert_fault.Memory) bytes read of)
+
+-- and it is no failed read
+not_read : (rule : Option (List ℕ)) (IsFault : List TableRule → ConvertFault → Type 0) (told : ToolFault) → (told ≢ Write → IsBytesFault rule IsFault told) → told ≢ Input inputs.Read
+not_read rule IsFault (Input f) fault = λ is. fault (λ write. cc)
+not_read rule IsFault (BadTable f) fault = λ is. cc
+not_read rule IsFault (Convert f) fault = λ is. cc
+not_read rule IsFault Write fault = λ is. cc
+not_read rule IsFault Memory fault = λ is. cc
+
+-- the file was read, and then there was a run over its bytes
+pub over_file : {R W T : Type 0} (remaining : R → Option (List ℕ)) (contents : W → Option (List ℕ)) (input read : Counted R) (rule : Option (List ℕ)) (output written : Counted W)
+    (IsText : List ℕ → List TableRule → List ℕ → Type 0) (IsFault : List ℕ → List TableRule → ConvertFault → Type 0) (bytes these : List ℕ) (given : T) (result : Result ℕ ToolFault)
+    → TakesFile remaining input read (Input inputs.Read) (Ok given) → ReadsAll (remaining input.inner) (remaining read.inner) bytes → these ≡ bytes
+    → WritesUnder contents output written rule (IsText these) (IsFault these) result
+    → RunsOver remaining contents input read rule output written IsText IsFault result
+over_file remaining contents input read rule output written IsText IsFault bytes these given (Ok status) takes reads same writes = record {
+  reads = record { bounded = takes.bounded; failed = λ is. cc; kept = λ other. takes.kept (λ is. cc) };
+  writes = record {
+    whole = let (text, (zero, of), sent) = writes.whole in
+        (text, (zero, of_file (remaining input.inner) (remaining read.inner) rule (λ it tables. IsText it tables text) these (subst (ReadsAll (remaining input.inner) (remaining read.inner)) (sym same) reads) of), sent);
+    kept = writes.kept;
+    front = λ is. cc;
+    counted = λ is. cc;
+    fault = tt;
+    nothing = tt;
+  };
+}
+over_file remaining contents input read rule output written IsText IsFault bytes these given (Err told) takes reads same writes =
+    let all = subst (ReadsAll (remaining input.inner) (remaining read.inner)) (sym same) reads in record {
+      reads = record { bounded = takes.bounded; failed = λ is. absurd (not_read rule (IsFault these) told writes.fault cc); kept = λ other. takes.kept (λ is. cc) };
+      writes = record {
+        whole = tt;
+        kept = tt;
+        front = λ is. let (text, of, sent) = writes.front is in (text, of_file (remaining input.inner) (remaining read.inner) rule (λ it tables. IsText it tables text) these all of, sent);
+        counted = writes.counted;
+        fault = λ other. fault_of_file (remaining input.inner) (remaining read.inner) rule IsFault these told all (writes.fault other);
+        nothing = writes.nothing;
+      };
+    }

@@ -33,6 +33,9 @@ use Rattle.ca_tool.specs.declared.fault.InputFault.{InputFault}
 use Rattle.ca_tool.specs.declared.fault.InputFault.TheVariants as inputs
 use Rattle.ca_tool.specs.declared.fault.ToolFault.{ToolFault}
 use Rattle.ca_tool.specs.declared.fault.ToolFault.TheVariants as tools
+use Rattle.ca_tool.specs.declared.detail.Detail.{Detail}
+use Rattle.ca_tool.specs.declared.detail.Detail.TheVariants as details
+use Rattle.ca_tool.specs.declared.explanation.RunPaths.{RunPaths}
 use Rattle.ca_tool.specs.declared.finding.ReportStyle.{ReportStyle}
 use Rattle.ca_tool.specs.declared.finding.Finding.{Finding}
 
@@ -253,6 +256,25 @@ finding_text style finding = (style.before.now ++ answer_line finding.answer) ++
 -- what is printed for all claims, in order
 abbrev pub findings_text : ReportStyle → List Finding → List ℕ
 findings_text style findings = flat_map (finding_text style) findings
+
+-- what is told of a pattern file after its path: the line of its fault, or its rule text
+abbrev pub detail_text : Detail → List ℕ
+detail_text details.Nothing = []
+detail_text (details.Line line) = at_line (Some line)
+detail_text (details.Rule text) = codes ": rule " ++ text.items
+
+-- the line about a pattern file
+abbrev pub pattern_line : List ℕ → Detail → List ℕ
+pattern_line path detail = codes "  " ++ (path ++ (detail_text detail ++ 10 ∷ []))
+
+-- the line that explains a fault of a run over a pattern file: it names the rule file or the pattern file. A fault that names its file, or is about none,
+-- has no such line
+abbrev pub explanation : ToolFault → Detail → RunPaths → List ℕ
+explanation (tools.Input fault) detail paths = []
+explanation (tools.BadTable fault) detail paths = file_line [] (codes "rule file") paths.rule.now (Some (table_line fault))
+explanation (tools.Convert fault) detail paths = pattern_line paths.pattern.now detail
+explanation tools.Write detail paths = []
+explanation tools.Memory detail paths = []
 
 -- the name of a format
 abbrev pub format_name : Format → List ℕ

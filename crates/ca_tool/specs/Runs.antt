@@ -128,6 +128,12 @@ abbrev pub AreKnownTables : Option (List ℕ) → List TableRule → Type 0
 AreKnownTables None tables = tables ≡ []
 AreKnownTables (Some rule) tables = (table : TableRule) × IsQuietTable rule table × (tables ≡ table ∷ [])
 
+-- the rule file is a table, and this holds of the tables
+pub record HoldsOfTables (rule : Option (List ℕ)) (Holds : List TableRule → Type 0) : Type 0 where
+  pub tables : List TableRule
+  pub known : AreKnownTables rule tables
+  pub holds : Holds tables
+
 -- the file was read whole, the rule file is a table, and this holds of the file's bytes and the tables
 pub record HoldsOfReadFile (old new rule : Option (List ℕ)) (Holds : List ℕ → List TableRule → Type 0) : Type 0 where
   pub bytes : List ℕ
@@ -149,6 +155,24 @@ WasRead old new = (bytes : List ℕ) × ReadsAll old new bytes
 -- what is wrong with the rule file, or that its table may be out of memory
 abbrev pub IsRuleFileFault : Option (List ℕ) → TableFault → Type 0
 IsRuleFileFault rule fault = (text : List ℕ) × (rule ≡ Some text) × table_faults.IsTableTextFault text fault
+
+-- why a run over bytes wrote nothing, where IsFault says why they are refused under some tables: the rule file is no good table; or it is, and
+-- the pattern is refused; or memory is out, for the table or for the pattern
+abbrev pub IsBytesFault : Option (List ℕ) → (List TableRule → ConvertFault → Type 0) → ToolFault → Type 0
+IsBytesFault rule IsFault (Input fault) = ⊥
+IsBytesFault rule IsFault (BadTable fault) = (fault ≢ table_fault.Memory) × IsRuleFileFault rule fault
+IsBytesFault rule IsFault (Convert fault) = (fault ≢ convert_fault.Memory) × HoldsOfTables rule (λ tables. IsFault tables fault)
+IsBytesFault rule IsFault Write = ⊥
+IsBytesFault rule IsFault Memory = IsRuleFileFault rule table_fault.Memory ⊎ HoldsOfTables rule (λ tables. IsFault tables convert_fault.Memory)
+
+-- a run over the bytes of a pattern file, and over the text of a rule file, if there is one: a text that IsText of them is written, with the status
+-- 0; or a first part of such a text, and then a write fails; or nothing, for a fault that holds
+abbrev pub WritesUnder : {W : Type 0} → (W → Option (List ℕ)) → Counted W → Counted W → Option (List ℕ) → (List TableRule → List ℕ → Type 0)
+    → (List TableRule → ConvertFault → Type 0) → Result ℕ ToolFault → Type 0
+WritesUnder contents old new rule IsText IsFault result = WritesOneOf contents old new
+    (λ text status. (status ≡ 0) × HoldsOfTables rule (λ tables. IsText tables text))
+    (λ text. HoldsOfTables rule (λ tables. IsText tables text))
+    (IsBytesFault rule IsFault) result
 
 -- why a run wrote nothing, where IsFault says why bytes under some tables are refused: the file isn't read; or it is, and the rule file is no
 -- good table; or it is, and the pattern is refused; or memory is out, for the table or for the pattern

@@ -80,8 +80,8 @@ fn at_pieces<'a>(line: Option<u64>) -> [Piece<'a>; 2]
     }
 }
 
-// The line about a file, with the name of what it holds.
-fn file_pieces<'a>(
+/// The line about a file, with the name of what it holds.
+pub(crate) fn file_pieces<'a>(
     before: &'a [u8],
     name: &'a [u8],
     path: &'a [u8],

@@ -6,7 +6,8 @@ ghost use Rattle.ca_claims.specs.Converted.{IsConverted, IsSummaryFault, IsConve
 ghost use Rattle.ca_tool.specs.declared.fault.InputFault.TheVariants as inputs;
 ghost use Rattle.ca_tool.specs.Writing.{Sends};
 ghost use Rattle.ca_tool.specs.Runs.{ReadsAll, TakesFile, AreKnownTables, IsShown, IsRuleFileFault, RunsOver};
-ghost use Rattle.ca_tool.specs.inner.Refusals.{TellsTable, TellsConvert, IsReadingFault};
+ghost use Rattle.ca_tool.specs.Runs.{WritesUnder};
+ghost use Rattle.ca_tool.specs.inner.Refusals.{TellsTable, TellsConvert, IsReadingFault, IsTableRefusal};
 
 use crate::fault::ToolFault;
 use crate::read::read_all;
@@ -32,8 +33,22 @@ pub fn show_run<R: Read, W: Write>(
     ensures runs { RunsOver R.remaining W.contents input.old input.new (option_copied table.entry)
         output.old output.new IsShown IsSummaryFault result }
 {
-    let (bytes, table) = read_and_parse(alloc, input, table)?;
-    let text = match file_summary(alloc, &bytes, tables_of(&table)) {
+    let bytes = read(alloc, input)?;
+    show_bytes(alloc, &bytes, table, output)
+}
+
+/// The same over the bytes of a pattern file that was read.
+pub fn show_bytes<W: Write>(
+    alloc: Global,
+    bytes: &[u8],
+    table: Option<&[u8]>,
+    output: &mut Dev<W>,
+) -> Result<u8, ToolFault>
+    ensures writes { WritesUnder W.contents output.old output.new (option_copied table.entry)
+        (IsShown bytes.now) (IsSummaryFault bytes.now) result }
+{
+    let table = known_table(alloc, table)?;
+    let text = match file_summary(alloc, bytes, tables_of(&table)) {
         Ok(text) => text,
         Err(fault) => return Err(convert_refusal(fault)),
     };
@@ -57,33 +72,50 @@ pub fn convert_run<R: Read, W: Write>(
         output.old output.new (λ bytes tables text. IsConverted bytes tables target text)
         (λ bytes tables fault. IsConvertFault bytes tables target fault) result }
 {
-    let (bytes, table) = read_and_parse(alloc, input, table)?;
-    let text = match convert(alloc, &bytes, target, tables_of(&table)) {
+    let source = read(alloc, input)?;
+    convert_bytes(alloc, &source, target, table, output)
+}
+
+/// The same over the bytes of a pattern file that was read.
+pub fn convert_bytes<W: Write>(
+    alloc: Global,
+    bytes: &[u8],
+    target: Target,
+    table: Option<&[u8]>,
+    output: &mut Dev<W>,
+) -> Result<u8, ToolFault>
+    ensures writes { WritesUnder W.contents output.old output.new (option_copied table.entry)
+        (λ tables text. IsConverted bytes.now tables target text)
+        (λ tables fault. IsConvertFault bytes.now tables target fault) result }
+{
+    let table = known_table(alloc, table)?;
+    let text = match convert(alloc, bytes, target, tables_of(&table)) {
         Ok(text) => text,
         Err(fault) => return Err(convert_refusal(fault)),
     };
     write(output, &text)
 }
 
-// All bytes of the file, and then the table of the rule file's text, if there is one.
-fn read_and_parse<R: Read>(
-    alloc: Global,
-    input: &mut Dev<R>,
-    rule: Option<&[u8]>,
-) -> Result<(Vec<u8>, Option<Table>), ToolFault>
-    ensures read { IfOk result (λ r.
-        ReadsAll (R.remaining input.old.inner) (R.remaining input.new.inner) r.0.items) }
-    ensures known { IfOk result (λ r. AreKnownTables (option_copied rule.entry) (option_to_list r.1)) }
-    ensures fault { IfErr result (IsReadingFault (R.remaining input.old.inner) (R.remaining input.new.inner)
-        (option_copied rule.entry)) }
+// All bytes of the file.
+fn read<R: Read>(alloc: Global, input: &mut Dev<R>) -> Result<Vec<u8>, ToolFault>
+    ensures read { IfOk result (λ v.
+        ReadsAll (R.remaining input.old.inner) (R.remaining input.new.inner) v.items) }
+    ensures fault { IfErr result (IsReadingFault (R.remaining input.old.inner) (R.remaining input.new.inner)) }
     ensures takes { TakesFile R.remaining input.old input.new (ToolFault.Input inputs.Read) result }
 {
-    let bytes = match read_all(alloc, input) {
-        Ok(bytes) => bytes,
-        Err(fault) => return Err(ToolFault::Input(fault)),
-    };
+    match read_all(alloc, input) {
+        Ok(bytes) => Ok(bytes),
+        Err(fault) => Err(ToolFault::Input(fault)),
+    }
+}
+
+// The table of the rule file's text, if there is one, or what a run answers where it is no good table.
+fn known_table(alloc: Global, rule: Option<&[u8]>) -> Result<Option<Table>, ToolFault>
+    ensures known { IfOk result (λ table. AreKnownTables (option_copied rule.entry) (option_to_list table)) }
+    ensures fault { IfErr result (IsTableRefusal (option_copied rule.entry)) }
+{
     match rule_table(alloc, rule) {
-        Ok(table) => Ok((bytes, table)),
+        Ok(table) => Ok(table),
         Err(fault) => Err(table_refusal(fault)),
     }
 }

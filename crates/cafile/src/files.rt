@@ -5,17 +5,30 @@ ghost use Rattle.std.specs.Prelude.{◌≡◌, ◌≢◌, [], map, IfOk, OnErr};
 use crate::streams::Source;
 use ca_claims::{Claims, File};
 use ca_plane::{Dev, Memory};
-use ca_tool::{InputFault, read_all};
+use ca_tool::{InputFault, read_all, rule_path, rule_text_of};
 use std::alloc::Global;
 use std::fs;
 use std::io::ErrorKind;
 use std::rt::{Files, Stdin};
 
-/// A file that a claim text names, and that could be read.
+/// A file that was read: one that a claim text names, or a rule file.
 #[derive(Drop)]
 pub struct LoadedFile {
     path: Vec<u8>,
     bytes: Vec<u8>,
+}
+
+impl LoadedFile {
+    /// The path and the bytes, which stay here.
+    pub fn view(&self) -> File<'_>
+        ensures path { result.path.now ≡ self.now.path.items }
+        ensures bytes { result.bytes.now ≡ self.now.bytes.items }
+    {
+        File {
+            path: self.path.as_slice(),
+            bytes: self.bytes.as_slice(),
+        }
+    }
 }
 
 /// The file of a path, or standard input where the path is `-`. A file that can't be opened can't be read.
@@ -76,24 +89,47 @@ pub fn load_needed<R: Files + AllocGlobal>(
     Ok(all)
 }
 
-// Adds the file of a path, if the path is UTF-8, and the file can be read and isn't too long.
+// Adds the file of a path, if it can be read.
 fn add_file<R: Files + AllocGlobal>(
     rt: &R,
     path: &[u8],
     all: &mut Vec<LoadedFile>,
 ) -> Result<(), Memory> {
+    if let Some(file) = load_file(rt, path)? {
+        all.push(file)?;
+    }
+    Ok(())
+}
+
+// The file of a path, if the path is UTF-8, and the file can be read and isn't too long.
+fn load_file<R: Files + AllocGlobal>(rt: &R, path: &[u8]) -> Result<Option<LoadedFile>, Memory> {
     let Ok(text) = str::from_utf8(path) else {
-        return Ok(());
+        return Ok(None);
     };
     match read_file(rt, text) {
         Ok(bytes) => {
             let path = Vec::from_slice(rt.alloc(), path)?;
-            all.push(LoadedFile { path, bytes })?;
-            Ok(())
+            Ok(Some(LoadedFile { path, bytes }))
         }
         Err(InputFault::Memory) => Err(Memory),
-        Err(InputFault::Read | InputFault::TooLong) => Ok(()),
+        Err(InputFault::Read | InputFault::TooLong) => Ok(None),
     }
+}
+
+/// The rule file in a folder that has the name of a pattern's rule, if it can be read; these are the bytes of
+/// the pattern's file.
+pub fn load_named_rule<R: Files + AllocGlobal>(
+    rt: &R,
+    folder: &str,
+    pattern: &[u8],
+) -> Result<Option<LoadedFile>, Memory> {
+    let Some(name) = rule_text_of(rt.alloc(), pattern)? else {
+        return Ok(None);
+    };
+    let Some(path) = rule_path(rt.alloc(), folder.as_bytes(), &name)? else {
+        return Ok(None);
+    };
+    load_file(rt, &path)
 }
 
 /// The files as `verify` takes them. It takes memory only where there are some.
@@ -106,10 +142,7 @@ pub fn views<'a>(alloc: Global, loaded: &'a [LoadedFile]) -> Result<Vec<File<'a>
 {
     let mut views = Vec::new(alloc);
     'files: for file in loaded {
-        views.push(File {
-            path: file.path.as_slice(),
-            bytes: file.bytes.as_slice(),
-        })?;
+        views.push(file.view())?;
     }
     Ok(views)
 }

@@ -15,13 +15,18 @@ pub const SHOW: &str = "Five lines are printed, for example:
   box 1 2 3 3        the least box round them: left column, top row, width and height; or none
 
 --rule is for a pattern whose rule is a table: it names the rule file with that table, in Golly NAME.rule.
-A pattern under a rule such as B3/S23 or 345/2/4 needs none.
+A pattern under a rule such as B3/S23 or 345/2/4 needs none. --rules names a folder, such as Golly's Rules: where
+the rule is NAME, and --rule doesn't give its table, the rule file is looked for there as DIR/NAME.rule.
+
+--explain adds a line to a refusal: the file with the line of its fault, or the rule that isn't known, as in
+`  codd.rle: rule Codd`.
 
 The status is 0, or 2 where the pattern can't be shown. Then standard error says why.
 
 Examples:
   cafile show examples/glider.rle
   cafile show examples/tables/spread.rle --rule examples/tables/spread.rule
+  cafile show examples/tables/spread.rle --rules examples/rules
   cat examples/glider.rle | cafile show -";
 
 pub const CONVERT: &str =
@@ -29,13 +34,18 @@ pub const CONVERT: &str =
 the generation.
 
 --rule is for a pattern whose rule is a table: it names the rule file with that table, in Golly NAME.rule.
-A pattern under a rule such as B3/S23 or 345/2/4 needs none.
+A pattern under a rule such as B3/S23 or 345/2/4 needs none. --rules names a folder, such as Golly's Rules: where
+the rule is NAME, and --rule doesn't give its table, the rule file is looked for there as DIR/NAME.rule.
+
+--explain adds a line to a refusal: the file with the line of its fault, or the rule that isn't known, as in
+`  codd.rle: rule Codd`.
 
 The status is 0, or 2 where the pattern can't be converted. Then standard error says why.
 
 Examples:
   cafile convert examples/glider.rle --to mc
   cafile convert examples/tables/spread_1.rle --to mc --rule examples/tables/spread.rule
+  cafile convert examples/tables/spread_1.rle --to mc --rules examples/rules
   cat examples/macrocell/gun.mc | cafile convert - --to rle";
 
 pub const VERIFY: &str = "Each line of a claim text is one of these. An example stands below each.

@@ -13,17 +13,16 @@ use std::{env, io};
 /// What the words ask for.
 #[derive(Drop)]
 pub enum Request {
-    /// What the pattern file at this path holds, with the table of the rule file, if one is named.
+    /// What the pattern file at this path holds.
     Show {
         path: String,
-        rule: Option<String>,
+        extras: PatternExtras,
     },
-    /// The pattern file at this path in the target's format, with the table of the rule file, if one is
-    /// named.
+    /// The pattern file at this path in the target's format.
     Convert {
         path: String,
         target: Target,
-        rule: Option<String>,
+        extras: PatternExtras,
     },
     /// A verdict for each claim of the texts at these paths, and what more is asked for.
     Verify {
@@ -34,6 +33,17 @@ pub enum Request {
     Help {
         text: String,
     },
+}
+
+/// What a run of `show` or `convert` is given and asked for besides its pattern file.
+#[derive(Drop)]
+pub struct PatternExtras {
+    /// The path of a rule file with the table that the pattern's rule may name.
+    pub rule: Option<String>,
+    /// The path of a folder where a rule file is looked for by the name of the pattern's rule.
+    pub folder: Option<String>,
+    /// What more there is to tell of a refusal.
+    pub explained: bool,
 }
 
 /// What a run of `verify` is asked for besides verdicts.
@@ -125,14 +135,25 @@ fn show_command<'a>(alloc: Global) -> Result<Command<'a>, AllocError> {
             "Prints the format, the rule, the generation, the number of live cells and their box",
         )
         .after_help(texts::SHOW)
-        .args(vec![in alloc; file_word(alloc), rule_word(alloc)]?)
+        .args(vec![in alloc;
+            file_word(alloc),
+            rule_word(alloc),
+            folder_word(alloc),
+            refusal_word(alloc),
+        ]?)
 }
 
 fn convert_command<'a>(alloc: Global) -> Result<Command<'a>, AllocError> {
     Command::new(alloc, "convert")
         .about("Writes the pattern of a file in a format to standard output")
         .after_help(texts::CONVERT)
-        .args(vec![in alloc; file_word(alloc), target_word(alloc), rule_word(alloc)]?)
+        .args(vec![in alloc;
+            file_word(alloc),
+            target_word(alloc),
+            rule_word(alloc),
+            folder_word(alloc),
+            refusal_word(alloc),
+        ]?)
 }
 
 fn verify_command<'a>(alloc: Global) -> Result<Command<'a>, AllocError> {
@@ -159,6 +180,20 @@ fn rule_word<'a>(alloc: Global) -> Arg<'a> {
         .long("rule")
         .value_name("RULEFILE")
         .help("The path of the rule file with the table that the pattern's rule names")
+}
+
+fn folder_word<'a>(alloc: Global) -> Arg<'a> {
+    Arg::new(alloc, "rules")
+        .long("rules")
+        .value_name("DIR")
+        .help("The folder where NAME.rule is looked for, if the pattern's rule is the name NAME")
+}
+
+fn refusal_word<'a>(alloc: Global) -> Arg<'a> {
+    Arg::new(alloc, "explain")
+        .long("explain")
+        .action(ArgAction::SetTrue)
+        .help("Tell also which file and line a refusal is about, and which rule isn't known")
 }
 
 fn target_word<'a>(alloc: Global) -> Arg<'a> {
@@ -212,14 +247,18 @@ fn work_word<'a>(alloc: Global) -> Arg<'a> {
 fn request_of(alloc: Global, matches: &ArgMatches<'_>) -> Result<Request, WordsFault> {
     if let Some(words) = matches.subcommand_matches("show") {
         let path = word_of(alloc, words, "FILE")?;
-        let rule = rule_of(alloc, words)?;
-        return Ok(Request::Show { path, rule });
+        let extras = pattern_extras(alloc, words)?;
+        return Ok(Request::Show { path, extras });
     }
     if let Some(words) = matches.subcommand_matches("convert") {
         let path = word_of(alloc, words, "FILE")?;
         let target = target_of(words)?;
-        let rule = rule_of(alloc, words)?;
-        return Ok(Request::Convert { path, target, rule });
+        let extras = pattern_extras(alloc, words)?;
+        return Ok(Request::Convert {
+            path,
+            target,
+            extras,
+        });
     }
     if let Some(words) = matches.subcommand_matches("verify") {
         let paths = words_of(alloc, words, "CLAIMS")?;
@@ -261,11 +300,24 @@ fn copy_word(alloc: Global, word: &str) -> Result<String, WordsFault> {
     Ok(text)
 }
 
-fn rule_of(alloc: Global, words: &ArgMatches<'_>) -> Result<Option<String>, WordsFault> {
-    if !words.contains_id("rule") {
+fn pattern_extras(alloc: Global, words: &ArgMatches<'_>) -> Result<PatternExtras, WordsFault> {
+    Ok(PatternExtras {
+        rule: path_of(alloc, words, "rule")?,
+        folder: path_of(alloc, words, "rules")?,
+        explained: words.get_flag("explain"),
+    })
+}
+
+// The path that is given after a word, where that stands there.
+fn path_of(
+    alloc: Global,
+    words: &ArgMatches<'_>,
+    name: &str,
+) -> Result<Option<String>, WordsFault> {
+    if !words.contains_id(name) {
         return Ok(None);
     }
-    let path = word_of(alloc, words, "rule")?;
+    let path = word_of(alloc, words, name)?;
     Ok(Some(path))
 }
 

@@ -1,9 +1,8 @@
-use Rattle.ca_tool.proofs.OfFiles.{of_file, refused}
+use Rattle.ca_tool.proofs.OfFiles.{over_file}
 use Rattle.ca_tool.proofs.pattern_run.convert_run.Goals as goal
 
--- the pattern is refused
-pub returns-in-Err : goal.returns-in-Err
-returns-in-Err g c = record {
-  runs = refused g.R.Read.remaining g.W.Write.contents _ _ _ _ _ _ c.in-Err.fault _ _ c.in_ok-bytes.ensures.takes c.convert_refusal.ensures
-      (of_file _ _ _ _ _ _ _ _ c.in_ok-bytes.ensures.read c.in_ok-bytes.ensures.known c.deref.ensures.value c.tables_of.ensures c.in-Err.ensures.fault);
+-- the file was read, and its bytes were gone through
+pub returns : goal.returns
+returns g c = record {
+  runs = over_file g.R.Read.remaining g.W.Write.contents _ _ _ _ _ _ _ _ _ _ c.convert_bytes.result c.in_ok-source.ensures.takes c.in_ok-source.ensures.read c.deref.ensures.value c.convert_bytes.ensures.writes;
 }

@@ -1,0 +1,58 @@
+//! Rule files that are looked for in a folder.
+
+ghost use Rattle.std.specs.Prelude.{◌≡◌, true, false, IfOk, OnOk, OnErr, MatchOption};
+ghost use Rattle.ca_plane.specs.Puts.{Puts};
+ghost use Rattle.ca_tool.specs.RulePaths.{has_two_dots, is_file_name, rule_path};
+
+use ca_plane::Memory;
+use ca_plane::text::push_text;
+use std::alloc::Global;
+
+// Whether two dots stand side by side in a name.
+fn has_two_dots(name: &[u8]) -> bool
+    ensures { result ≡ has_two_dots name.now }
+{
+    let mut left = name;
+    'bytes: while let Some((_, later)) = left.split_first() {
+        if left.starts_with(b"..") {
+            return true;
+        }
+        left = later;
+    }
+    false
+}
+
+// Whether a file of a folder may have this name: one that isn't empty and has no `/`, no NUL and no `..`.
+fn is_file_name(name: &[u8]) -> bool
+    ensures { result ≡ is_file_name name.now }
+{
+    !name.is_empty() && !name.contains(&b'/') && !name.contains(&0) && !has_two_dots(name)
+}
+
+/// The path of the rule file with this name in a folder, `FOLDER/NAME.rule`. None where the name is empty or has
+/// a `/`, a NUL or `..`: so the file stands in the folder itself.
+///
+/// # Errors
+///
+/// Fails where there is no memory for the path.
+pub fn rule_path(alloc: Global, folder: &[u8], name: &[u8]) -> Result<Option<Vec<u8>>, Memory>
+    ensures path { IfOk result (λ found. MatchOption found (is_file_name name.now ≡ false)
+        (λ path. (is_file_name name.now ≡ true) × (path.items ≡ rule_path folder.now name.now))) }
+    ensures memory { OnErr result (is_file_name name.now ≡ true) }
+{
+    if !is_file_name(name) {
+        return Ok(None);
+    }
+    let mut path = Vec::new(alloc);
+    push_path(&mut path, folder, name)?;
+    Ok(Some(path))
+}
+
+fn push_path(out: &mut Vec<u8>, folder: &[u8], name: &[u8]) -> Result<(), Memory>
+    ensures { OnOk result (Puts out.old.items out.new.items (rule_path folder.now name.now)) }
+{
+    push_text(out, folder)?;
+    push_text(out, b"/")?;
+    push_text(out, name)?;
+    push_text(out, b".rule")
+}
