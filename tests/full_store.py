@@ -7,12 +7,12 @@ import tempfile
 
 from lib import rows
 from lib.claim_text import ClaimText
-from lib.program import Folder, Tally, lines_outcome, run
+from lib.program import Folder, Tally, run
 
 RULE = "B2/S"
 
-# By how many generations, and how many squares there may be at a time.
-GENERATIONS, MOST_SQUARES = 640, 4000000
+# By how many generations, and how many squares there may be at a time, nearly.
+GENERATIONS, MOST_SQUARES = 1500, 4600000
 
 CHANCE = random.Random(1)
 
@@ -29,19 +29,16 @@ def main():
     later = plane.after(RULE, GENERATIONS)
     other, _ = later.with_changed(later.x, later.y)
     with tempfile.TemporaryDirectory() as folder:
-        text = ClaimText(Folder(folder))
-        for name, it in (("first", plane), ("later", later), ("other", other)):
-            text.load(name, rows.text_of(RULE, it))
-        for name, verdict in (("later", "yes"), ("other", f"no, cells differ after {GENERATIONS}")):
-            text.claim(f"becomes first {GENERATIONS} {name}", verdict)
-        words = text.write()
-        got = run(["verify", words])
-        tally.expect("the plane after a long run", got, lines_outcome([(it.line, it.verdict) for it in text.answers]))
-        watched = run(["verify", "--progress", words])
-        squares = [10 * int(it[1]) + int(it[2]) for it in re.finditer(rb"(\d+)\.(\d) million squares", watched.complaint)]
-        results = [10 * int(it[1]) + int(it[2]) for it in re.finditer(rb"(\d+)\.(\d) million results", watched.complaint)]
-        well = watched.printed == got.printed and results and 100000 * max(squares) <= MOST_SQUARES < 100000 * max(results)
-        tally.tell("no more squares than there may be", [] if well else [f"{watched}, squares {squares}, results {results}"])
+        for name, it, verdict in (("yes", later, "yes"), ("no", other, f"no, cells differ after {GENERATIONS}")):
+            text = ClaimText(Folder(folder))
+            text.load("first", rows.text_of(RULE, plane))
+            text.load("later", rows.text_of(RULE, it))
+            text.claim(f"becomes first {GENERATIONS} later", verdict)
+            got = run(["verify", "--progress", text.write()])
+            squares = [10 * int(it[1]) + int(it[2]) for it in re.finditer(rb"(\d+)\.(\d) million squares", got.complaint)]
+            # some are left behind, so later there are fewer
+            well = got.printed == f"line 3: {verdict}\n".encode() and squares != sorted(squares) and 100000 * max(squares) <= MOST_SQUARES
+            tally.tell(f"a long run, {name}", [] if well else [f"{got}, squares {squares}"])
     tally.finish()
 
 
