@@ -5,6 +5,7 @@ mod callers;
 mod cut_runs;
 mod devices;
 mod failed_reads;
+mod identities;
 mod many;
 mod packed;
 mod rules;

@@ -1,0 +1,95 @@
+//! What patterns are, found out from their files. Periods and life spans are those of the field's collections.
+
+use super::devices::expect;
+use ca_claims::{Cause, Identity, Limits, Unidentified, identify};
+use ca_run::Unwatched;
+use std::alloc::Global;
+use std::test::*;
+
+/// A pattern that is an oscillator of period 15.
+const PENTADECATHLON: &[u8] = b"x = 10, y = 3\n2bo4bo$2ob4ob2o$2bo4bo!";
+
+/// A pattern that dies after 130 generations.
+const DIEHARD: &[u8] = b"x = 8, y = 3\n6bo$2o$bo3b3o!";
+
+const GLIDER: &[u8] = b"x = 3, y = 3\nbo$2bo$3o!";
+
+/// Patterns, limits of generations, and what they are.
+const IDENTITIES: &[(&[u8], u64, Identity)] = &[
+    (b"x = 0, y = 0\n!", 1, Identity::Empty),
+    (b"x = 2, y = 2\n2o$2o!", 1, Identity::StillLife),
+    (b"x = 2, y = 2\n2o$2o!", 4294967295, Identity::StillLife),
+    (b"x = 3, y = 1\n3o!", 1, Identity::Unknown),
+    (b"x = 3, y = 1\n3o!", 2, Identity::Oscillator { period: 2 }),
+    (PENTADECATHLON, 14, Identity::Unknown),
+    (PENTADECATHLON, 15, Identity::Oscillator { period: 15 }),
+    (PENTADECATHLON, 65536, Identity::Oscillator { period: 15 }),
+    (GLIDER, 3, Identity::Unknown),
+    (
+        GLIDER,
+        4,
+        Identity::Spaceship {
+            period: 4,
+            dx: 1,
+            dy: 1,
+        },
+    ),
+    (
+        b"x = 5, y = 4\nbo2bo$o$o3bo$4o!",
+        65536,
+        Identity::Spaceship {
+            period: 4,
+            dx: -2,
+            dy: 0,
+        },
+    ),
+    (b"x = 1, y = 1\no!", 1, Identity::Dies { generations: 1 }),
+    (DIEHARD, 129, Identity::Unknown),
+    (DIEHARD, 130, Identity::Dies { generations: 130 }),
+    (b"x = 3, y = 3\nb2o$2o$bo!", 100, Identity::Unknown),
+];
+
+/// What a pattern is, where the limit is a good one.
+fn identity_of(
+    alloc: Global,
+    text: &[u8],
+    limits: Limits,
+    limit: u64,
+) -> Option<Result<Identity, Unidentified>> {
+    if limit == 0 || limit > 4294967295 || limits.memo == 0 || limits.memo > 16777216 {
+        return None;
+    }
+    Some(identify(alloc, text, &[], limits, limit, &mut Unwatched))
+}
+
+#[test]
+fn patterns_are_identified(rt: HostRuntime) {
+    'patterns: for &(text, limit, identity) in IDENTITIES {
+        let found = identity_of(rt.alloc(), text, Limits::default(), limit);
+        expect(&rt, found == Some(Ok(identity)), "what a pattern is");
+    }
+}
+
+#[test]
+fn a_refused_pattern_has_its_cause(rt: HostRuntime) {
+    let large = b"x = 1, y = 1, rule = B3/S23\nB!";
+    let found = identity_of(rt.alloc(), large, Limits::default(), 1);
+    let wanted = Unidentified {
+        cause: Cause::StateTooLarge,
+        line: None,
+    };
+    expect(&rt, found == Some(Err(wanted)), "a state that is too large");
+    let limits = Limits { memo: 1, work: 0 };
+    let found = identity_of(rt.alloc(), GLIDER, limits, 65536);
+    let wanted = Unidentified {
+        cause: Cause::Work,
+        line: None,
+    };
+    expect(&rt, found == Some(Err(wanted)), "no work");
+    let found = identity_of(rt.alloc(), b"x = 1, y = 1\no\nq!", Limits::default(), 1);
+    let line = match found {
+        Some(Err(Unidentified { line, .. })) => line,
+        _ => None,
+    };
+    expect(&rt, line == Some(3), "the line of a fault");
+}
