@@ -1,6 +1,6 @@
 #!/usr/bin/env -S python3 -B
-"""`verify --explain`: after each no and each refusal that has more to tell one more line, with the cell, the pattern, its file or the faulty line; and the
-lines of the verdicts are those of a run that isn't explained."""
+"""`verify --explain`: after each no and each refusal that has more to tell one more line, with the cell, the pattern, its file, the faulty line or the
+rule that isn't known; and the lines of the verdicts are those of a run that isn't explained."""
 import os
 import random
 import re
@@ -138,8 +138,11 @@ def try_patterns(texts):
     paths["not_utf_8"] = text.load_path("not_utf_8", b"\xff.rle")
     paths[b"\xfe\xff"] = text.load_path(b"\xfe\xff", texts.files.path("third.rle"))
 
+    rules = {"unknown": b"Life", "wakes": b"B0/S", "bounded": b"B3/S23:T9,9", "large_life": b"Life"}
+
     def refused(claim, cause, name, line=None):
-        text.claim(claim, f"refused, {cause}", b"%s: %s" % (name if isinstance(name, bytes) else name.encode(), where(paths[name], line)))
+        told = b": rule " + rules[name] if cause.startswith("bad rule") else b""
+        text.claim(claim, f"refused, {cause}", b"%s: %s%s" % (name if isinstance(name, bytes) else name.encode(), where(paths[name], line), told))
 
     for name in ("lost", "gone", "folder", "not_utf_8"):
         refused(f"still {name}", "no file", name)

@@ -227,7 +227,8 @@ def try_claims(tally, files):
         if note is None:
             unpinned.claim(claim, verdict)
         else:
-            text.claim(claim, verdict, f"{note}: {paths[note].decode()}" if note in paths else note)
+            told = f": rule {OTHERS[note][0]}" if verdict.startswith("refused, bad rule") else ""
+            text.claim(claim, verdict, f"{note}: {paths[note].decode()}{told}" if note in paths else note)
     texts.judge("claims that were worked out by hand", text)
     for claim, verdict in (("still ship", 1), ("oscillator ship 2", 2), ("oscillator wheel 2", 2), ("oscillator wheel 4294967294", 4294967294),
                            ("spaceship ship 1 0 1", 1), ("still wheel", 1)):

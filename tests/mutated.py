@@ -187,7 +187,8 @@ class Rules:
             return None if printed == wanted.encode() and is_within else f"wanted {wanted!r}"
         if self.printed_rule(trial):
             return None if TABLE_VERDICTS.fullmatch(printed) else "its table has to be known and either good or faulty"
-        wanted = "".join(f"line {at}: refused, bad rule: unknown\n  p: {trial.name('rle')}\n" for at in (3, 4)).encode()
+        told = b"%s: rule %s" % (trial.name("rle").encode(), self.pattern_rule(trial))
+        wanted = b"".join(b"line %d: refused, bad rule: unknown\n  p: %s\n" % (at, told) for at in (3, 4))
         return None if printed == wanted else "its table has another name"
 
     def alone(self, trial):

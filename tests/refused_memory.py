@@ -10,7 +10,7 @@ Of each run either nothing changed, or it ended with `cafile: memory` and printe
 - a claim whose file, or a rule file, is missing, or whose rule file or RLE doesn't read, is refused for that in every run;
 - claims are refused in their order, and no run ends whole once a claim was judged.
 
-Of an explained run one claim may also be without its note, or a macrocell's note without the faulty line; but where cells differ, a file is missing or a
+Of an explained run one claim may also be without its note, or a macrocell's note without the faulty line, or one without its rule; but where cells differ, a file is missing or a
 rule file is bad, the note is always given. Of a run over several texts one text may be told as out of
 memory and have no lines. A run of `show` or `convert` prints all that it prints with ample memory, or nothing and `cafile: memory`; where it is explained,
 its note may be without the faulty line or the rule.
@@ -143,13 +143,15 @@ def answers_in(printed):
 
 def lesser(answer):
     """What may be told in place of an answer where memory is refused: that, and unless the note is promised the line without it, or the note without its
-    faulty line."""
+    faulty line or its rule."""
     line, note = answer
     told = {(line.split(b":")[0] + b": refused, memory\n", b"")}
     if not ALWAYS_NOTED.match(line):
         told.add((line, b""))
     if MAY_LACK_LINE.match(line):
         told.add((line, re.sub(rb", line [0-9]+\n$", b"\n", note)))
+    if b": refused, bad rule: " in line:
+        told.add((line, re.sub(rb": rule .*\n$", b"\n", note)))
     return told
 
 

@@ -232,22 +232,32 @@ no_note_text before why (notes.Cell name) = cell_line before name.now why
 no_note_text before why (notes.Pattern name path line) = []
 no_note_text before why (notes.RuleFile path) = []
 
+-- what is told of a pattern file after its path: the line of its fault, or its rule text
+abbrev pub detail_text : Detail → List ℕ
+detail_text details.Nothing = []
+detail_text (details.Line line) = at_line (Some line)
+detail_text (details.Rule text) = codes ": rule " ++ text.items
+
+-- the line about the file of a pattern with this name: where it is faulty, and what more is told of it
+abbrev pub noted_line : List ℕ → List ℕ → List ℕ → Option ℕ → Detail → List ℕ
+noted_line before name path line detail = before ++ (codes "  " ++ (name ++ (codes ": " ++ (path ++ (at_line line ++ (detail_text detail ++ 10 ∷ []))))))
+
 -- the line of a note on a refusal
-abbrev pub refusal_note_text : List ℕ → Cause → Note → List ℕ
-refusal_note_text before cause notes.Nothing = []
-refusal_note_text before cause (notes.Cell name) = []
-refusal_note_text before cause (notes.Pattern name path line) = file_line before name.now path.now line
-refusal_note_text before cause (notes.RuleFile path) = file_line before (codes "rule file") path.now (cause_line cause)
+abbrev pub refusal_note_text : List ℕ → Cause → Note → Detail → List ℕ
+refusal_note_text before cause notes.Nothing detail = []
+refusal_note_text before cause (notes.Cell name) detail = []
+refusal_note_text before cause (notes.Pattern name path line) detail = noted_line before name.now path.now line detail
+refusal_note_text before cause (notes.RuleFile path) detail = file_line before (codes "rule file") path.now (cause_line cause)
 
 -- the second line, of a note on a verdict, where there is something to tell
-abbrev pub note_text : List ℕ → Verdict → Note → List ℕ
-note_text before Yes note = []
-note_text before (No why) note = no_note_text before why note
-note_text before (Refused cause) note = refusal_note_text before cause note
+abbrev pub note_text : List ℕ → Verdict → Note → Detail → List ℕ
+note_text before Yes note detail = []
+note_text before (No why) note detail = no_note_text before why note
+note_text before (Refused cause) note detail = refusal_note_text before cause note detail
 
 -- the second line for a claim, where answers are explained
 abbrev pub second_line : ReportStyle → Finding → List ℕ
-second_line style finding = if style.explained then note_text style.before.now finding.answer.verdict finding.note else []
+second_line style finding = if style.explained then note_text style.before.now finding.answer.verdict finding.note finding.detail else []
 
 -- what is printed for a claim: the line of its answer, and where answers are explained the second line
 abbrev pub finding_text : ReportStyle → Finding → List ℕ
@@ -256,12 +266,6 @@ finding_text style finding = (style.before.now ++ answer_line finding.answer) ++
 -- what is printed for all claims, in order
 abbrev pub findings_text : ReportStyle → List Finding → List ℕ
 findings_text style findings = flat_map (finding_text style) findings
-
--- what is told of a pattern file after its path: the line of its fault, or its rule text
-abbrev pub detail_text : Detail → List ℕ
-detail_text details.Nothing = []
-detail_text (details.Line line) = at_line (Some line)
-detail_text (details.Rule text) = codes ": rule " ++ text.items
 
 -- the line about a pattern file
 abbrev pub pattern_line : List ℕ → Detail → List ℕ

@@ -1,12 +1,15 @@
 //! What more there is to tell of a pattern file that is refused.
 
-ghost use Rattle.std.specs.Prelude.{IfOk, OnErr, MatchOption};
+ghost use Rattle.std.specs.Prelude.{◌≡◌, IfOk, OnErr, MatchOption};
 ghost use Rattle.ca_macro.specs.Faults.{HasNodeLine};
 ghost use Rattle.ca_claims.specs.Means.{MayWantMemory};
 ghost use Rattle.ca_tool.specs.Details.{IsRuleText, IsUnread, IsRleDetail, IsMacrocellDetail, IsRuleDetail};
 ghost use Rattle.ca_tool.specs.Details.{IsDetail, MayLackMemory};
+ghost use Rattle.ca_tool.specs.Printed.{detail_text};
+ghost use Rattle.ca_tool.specs.inner.Pieces.{pieces_text};
 
 use crate::fault::ToolFault;
+use crate::pieces::{NOTHING, Piece};
 use ca_claims::{ConvertFault, PatternFault, read_pattern};
 use ca_plane::Memory;
 use ca_quad::Store;
@@ -91,5 +94,16 @@ pub fn rule_text_of(alloc: Global, bytes: &[u8]) -> Result<Option<Vec<u8>>, Memo
         Ok(pattern) => Ok(Some(pattern.rule_text)),
         Err(PatternFault::Memory) => Err(Memory),
         Err(_) => Ok(None),
+    }
+}
+
+/// What is told of a pattern file after its path.
+pub(crate) fn detail_pieces<'a>(detail: &'a Detail) -> [Piece<'a>; 2]
+    ensures { pieces_text result ≡ detail_text detail.now }
+{
+    match detail {
+        Detail::Nothing => [NOTHING; 2],
+        Detail::Line { line } => [Piece::Text(b", line "), Piece::Number(*line)],
+        Detail::Rule { text } => [Piece::Text(b": rule "), Piece::Text(text)],
     }
 }

@@ -5,7 +5,7 @@ ghost use Rattle.ca_tool.specs.Printed.{pattern_line, explanation};
 ghost use Rattle.ca_tool.specs.Writing.{Sends};
 ghost use Rattle.ca_tool.specs.inner.Pieces.{pieces_text};
 
-use crate::detail::Detail;
+use crate::detail::{Detail, detail_pieces};
 use crate::fault::ToolFault;
 use crate::finding::file_pieces;
 use crate::pieces::{NOTHING, Piece, send_pieces};
@@ -24,20 +24,12 @@ pub struct RunPaths<'a> {
 fn pattern_pieces<'a>(path: &'a [u8], detail: &'a Detail) -> [Piece<'a>; 15]
     ensures { pieces_text result ≡ pattern_line path.now detail.now }
 {
+    let [word, text] = detail_pieces(detail);
     let mut pieces = [NOTHING; 15];
     pieces[0] = Piece::Text(b"  ");
     pieces[1] = Piece::Text(path);
-    match detail {
-        Detail::Nothing => {}
-        Detail::Line { line } => {
-            pieces[2] = Piece::Text(b", line ");
-            pieces[3] = Piece::Number(*line);
-        }
-        Detail::Rule { text } => {
-            pieces[2] = Piece::Text(b": rule ");
-            pieces[3] = Piece::Text(text);
-        }
-    }
+    pieces[2] = word;
+    pieces[3] = text;
     pieces[4] = Piece::Text(b"\n");
     pieces
 }

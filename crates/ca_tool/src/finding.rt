@@ -1,11 +1,12 @@
 //! What is printed for a claim: the line of its answer, and a second line that explains it.
 
 ghost use Rattle.std.specs.Prelude.{◌≡◌, OnOk, codes};
-ghost use Rattle.ca_tool.specs.Printed.{generations_word, cell_line, at_line, file_line, cause_line};
+ghost use Rattle.ca_tool.specs.Printed.{generations_word, cell_line, at_line, file_line, noted_line, cause_line};
 ghost use Rattle.ca_tool.specs.Printed.{note_text, second_line, finding_text};
 ghost use Rattle.ca_tool.specs.Writing.{Sends};
 ghost use Rattle.ca_tool.specs.inner.Pieces.{pieces_text};
 
+use crate::detail::{Detail, detail_pieces};
 use crate::pieces::{NOTHING, Piece, push_pieces, send_pieces};
 use crate::printing::answer_pieces;
 use crate::texts::table_line;
@@ -22,11 +23,12 @@ pub struct ReportStyle<'a> {
     pub explained: bool,
 }
 
-/// An answer, and the note on it.
-#[derive(Clone, Copy)]
+/// An answer, the note on it, and what more is known of the pattern that the note names.
+#[derive(Drop)]
 pub(crate) struct Finding<'a> {
     pub(crate) answer: Answer,
     pub(crate) note: Note<'a>,
+    pub(crate) detail: Detail,
 }
 
 fn generations_word<'a>(generations: u64) -> &'a [u8]
@@ -109,6 +111,37 @@ pub(crate) fn file_pieces<'a>(
     ]
 }
 
+// The line about the file of a pattern, with the pattern's name.
+fn noted_pieces<'a>(
+    before: &'a [u8],
+    name: &'a [u8],
+    path: &'a [u8],
+    line: Option<u64>,
+    detail: &'a Detail,
+) -> [Piece<'a>; 15]
+    ensures { pieces_text result ≡ noted_line before.now name.now path.now line detail.now }
+{
+    let [at, number] = at_pieces(line);
+    let [word, text] = detail_pieces(detail);
+    [
+        Piece::Text(before),
+        Piece::Text(b"  "),
+        Piece::Text(name),
+        Piece::Text(b": "),
+        Piece::Text(path),
+        at,
+        number,
+        word,
+        text,
+        Piece::Text(b"\n"),
+        NOTHING,
+        NOTHING,
+        NOTHING,
+        NOTHING,
+        NOTHING,
+    ]
+}
+
 // The faulty line of a rule line's file.
 fn cause_line(cause: Cause) -> Option<u64>
     ensures { result ≡ cause_line cause }
@@ -120,13 +153,18 @@ fn cause_line(cause: Cause) -> Option<u64>
 }
 
 // The line of a note on a verdict, where there is something to tell.
-fn note_pieces<'a>(before: &'a [u8], verdict: Verdict, note: Note<'a>) -> [Piece<'a>; 15]
-    ensures { pieces_text result ≡ note_text before.now verdict note.entry }
+fn note_pieces<'a>(
+    before: &'a [u8],
+    verdict: Verdict,
+    note: Note<'a>,
+    detail: &'a Detail,
+) -> [Piece<'a>; 15]
+    ensures { pieces_text result ≡ note_text before.now verdict note.entry detail.now }
 {
     match (verdict, note) {
         (Verdict::No(why), Note::Cell { name }) => cell_pieces(before, name, why),
         (Verdict::Refused(_), Note::Pattern { name, path, line }) => {
-            file_pieces(before, name, path, line)
+            noted_pieces(before, name, path, line, detail)
         }
         (Verdict::Refused(cause), Note::RuleFile { path }) => {
             file_pieces(before, b"rule file", path, cause_line(cause))
@@ -136,13 +174,18 @@ fn note_pieces<'a>(before: &'a [u8], verdict: Verdict, note: Note<'a>) -> [Piece
 }
 
 // The second line, where one is printed.
-fn second_pieces<'a>(style: &ReportStyle<'a>, finding: &Finding<'a>) -> [Piece<'a>; 15]
+fn second_pieces<'a>(style: &ReportStyle<'a>, finding: &'a Finding<'a>) -> [Piece<'a>; 15]
     ensures { pieces_text result ≡ second_line style.now finding.now }
 {
     if !style.explained {
         return [NOTHING; 15];
     }
-    note_pieces(style.before, finding.answer.verdict, finding.note)
+    note_pieces(
+        style.before,
+        finding.answer.verdict,
+        finding.note,
+        &finding.detail,
+    )
 }
 
 // Puts the lines for a claim in place of what `out` holds.

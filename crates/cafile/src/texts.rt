@@ -77,7 +77,7 @@ For each claim a line is printed, as `line 2: yes`: the number of its line, and 
 reason. Where several texts are given, the text's path stands before that.
 
 --explain adds a line after a no or a refusal that has more to tell: the pattern's name with a cell that
-differs, or with its file and the line of the fault; or the rule file.
+differs, or with its file and the line of the fault, or the rule that isn't known; or the rule file.
 
 On a terminal, a line on standard error shows how far a claim is that takes over a second, as
 `line 3: 904 of 5000 generations`, and where it takes much work how much was done, as `, 1.2 million results, 5.1

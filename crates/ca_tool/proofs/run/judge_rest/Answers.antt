@@ -1,5 +1,6 @@
 use Rattle.std.proofs.Common.{[], ◌∷◌, ◌++◌}
-use Rattle.ca_tool.proofs.Judged.{judged_none, judged_then}
+use Rattle.ca_tool.specs.declared.detail.Detail.TheVariants.{Nothing}
+use Rattle.ca_tool.proofs.Judged.{judged_none, judged_one, judged_then}
 use Rattle.ca_tool.proofs.run.judge_rest.Goals as goal
 
 pub claims-init : goal.claims-init
@@ -8,5 +9,8 @@ claims-init c = ([], judged_none _)
 -- one claim more was judged
 pub claims-preserved : goal.claims-preserved
 claims-preserved c =
-    let so_far = c.claims.invariant in
-    (so_far.0 ++ _ ∷ [], judged_then _ _ _ so_far.0 _ so_far.1 c.in-Some.ensures)
+    let so_far = c.claims.invariant in (
+      so_far.0 ++ _ ∷ [],
+      judged_then _ _ _ so_far.0 _ so_far.1
+          (judged_one _ _ (record { answer = _; note = _; detail = Nothing }) c.in-Some.ensures.noted c.in-Some.ensures.given tt),
+    )

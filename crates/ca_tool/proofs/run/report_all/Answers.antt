@@ -1,4 +1,4 @@
-use Rattle.std.proofs.Common.{◌++◌, rules, [], refl}
+use Rattle.std.proofs.Common.{◌++◌, ◌∙◌, rules, [], refl}
 use Rattle.std.proofs.KnownBytes.{Appends-nil}
 use Rattle.ca_plane.proofs.Sends.{sent_both}
 use Rattle.ca_tool.specs.Printed.{finding_text}
@@ -10,6 +10,7 @@ pub claims-init : goal.claims-init
 claims-init g c = record {
   reported = ([], record { findings = []; judged = judged_none _; lines = refl; status = refl }, Appends-nil _);
   kept = refl;
+  files = c.requires;
 }
 
 -- one claim more was reported in part
@@ -25,6 +26,20 @@ returns-then-is_err g c = record {
 }
 
 -- one claim more was reported
+pub claims-preserved-else-is_err : goal.claims-preserved-else-is_err
+claims-preserved-else-is_err g c =
+    let (text, so_far, sent) = c.claims.invariant.reported in
+    record {
+      reported = (
+        text ++ finding_text c.args.style.now c.in-Some.finding,
+        report_more _ _ _ c.args.style.now c.in-Some.finding text _ _ so_far c.in-Some.ensures (c.worse_status-code.ensures (answers_of so_far.findings) so_far.status),
+        sent_both _ _ _ text _ sent (search rules),
+      );
+      kept = search rules;
+      files = c.in-Some.ensures.files ∙ c.claims.invariant.files;
+    }
+
+-- the same, on the other way
 pub claims-preserved : goal.claims-preserved
 claims-preserved g c =
     let (text, so_far, sent) = c.claims.invariant.reported in
@@ -35,4 +50,5 @@ claims-preserved g c =
         sent_both _ _ _ text _ sent (search rules),
       );
       kept = search rules;
+      files = c.in-Some.ensures.files ∙ c.claims.invariant.files;
     }
