@@ -3,6 +3,7 @@
 mod bit_planes;
 mod bytes;
 mod devices;
+mod drawing;
 mod expected;
 mod generations;
 mod planes;
