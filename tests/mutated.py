@@ -130,9 +130,9 @@ class Patterns:
         """What is wrong with what was printed of a text."""
         file = trial.file
         if file.cause:
-            note = f"  p: {trial.name('pattern')}" + (f", line {file.line}" if file.line else "")
-            wanted = [it.encode() for at in (2, 3) for it in (f"line {at}: refused, {file.cause}", note)]
-            return None if trial.printed == wanted and not trial.faults else f"it has to be {file.cause}, line {file.line}"
+            note = b"  p: " + trial.name("pattern").encode() + file.told()
+            wanted = [it for at in (2, 3) for it in (f"line {at}: refused, {file.cause}".encode(), note)]
+            return None if trial.printed == wanted and not trial.faults else f"it has to be {file.cause}, and {note!r}"
         forms = rb"yes|no, cells differ after 1\n  p at -?\d+,-?\d+: \d+ after 1 generation, claimed \d+" if file.population() else rb"no, empty"
         is_right = re.fullmatch(rb"line 2: yes\nline 3: (?:%s)" % forms, b"\n".join(trial.printed)) and not trial.faults
         return None if is_right else "it is a good pattern"

@@ -36,7 +36,7 @@ KINDS = (
     ("becomes nothing 7 dot", "no, cells differ after 7", "nothing at 0,0: 0 after 7 generations, claimed 1"), ("oscillator blinker 2", "yes", None),
     ("oscillator block 2", "no, the same after 1, shifted by 0,0", None), ("spaceship nothing 4 1 1", "no, empty", None),
     ("still lost", "refused, no file", "lost: {lost}"), ("becomes block 1 lost", "refused, no file", "lost: {lost}"),
-    ("still bad", "refused, bad pattern: rle syntax", "bad: {bad}, line 2"), ("becomes block 0 life", "refused, bad rule: unknown", "life: {life}"),
+    ("still bad", "refused, bad pattern: rle syntax", "bad: {bad}, line 2"), ("becomes block 0 life", "refused, bad rule: unknown", "life: {life}: rule Life"),
     ("still state", "refused, state too large", "state: {state}"), ("becomes block 0 high", "refused, mixed rules", None),
     ("spaceship full 1 1 0", "refused, too many cells", "full: {full}"),
 )

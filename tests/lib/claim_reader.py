@@ -196,7 +196,7 @@ class Judge:
             for name, path in claim.patterns:
                 file = self.file(path)
                 if file.cause.startswith(kind):
-                    return file.cause, name + b": " + path + (b", line %d" % file.line if file.line else b"")
+                    return file.cause, name + b": " + path + file.told()
         return ("mixed rules", b"") if len({self.file(path).rule for _, path in claim.patterns}) > 1 else None
 
     def verdict(self, claim, rules):

@@ -238,3 +238,9 @@ class PatternFile:
         """What the file holds as a tree, with the printed form of its rule."""
         tree = self.held.tree if self.is_macrocell else macrocell.tree_of(self.held.cells())
         return macrocell.Pattern(tree, self.rule, self.held.generation)
+
+    def told(self):
+        """What an explained run tells of the cause after the file's path: the line of its fault, or the rule text that isn't known."""
+        if self.cause.startswith("bad rule"):
+            return b": rule " + (self.held.rule.encode("latin-1") if self.is_macrocell else self.held.rule)
+        return b", line %d" % self.line if self.line else b""
