@@ -183,6 +183,40 @@ fn are_drawn(alloc: Global, drawings: &[Drawing]) -> bool {
     true
 }
 
+/// The picture of the glider's place in a window of a million squares.
+fn large_picture(alloc: Global) -> Result<Vec<u8>, Memory> {
+    let mut store = Store::new(alloc);
+    let tree = store.from_plane(&plane_of(alloc, GLIDER)?)?;
+    let corner = Spot { x: -4096, y: -64 };
+    let Some(window) = Window::at(corner, 0, 8192, 128) else {
+        return Err(Memory);
+    };
+    let style = Style {
+        format: Format::Text,
+        states: 2,
+    };
+    draw(alloc, &store, tree, window, style)
+}
+
+/// How many bytes of a text are this one.
+fn count_of(text: &[u8], wanted: u8) -> usize {
+    text.iter().filter(|&&byte| byte == wanted).count()
+}
+
+#[test]
+fn a_large_picture_is_drawn(rt: HostRuntime) {
+    let Ok(found) = large_picture(rt.alloc()) else {
+        return expect(&rt, false, "a picture of a million squares");
+    };
+    expect(&rt, count_of(&found, b'o') == 5, "its live squares");
+    expect(
+        &rt,
+        count_of(&found, b'.') == 8192 * 128 - 5,
+        "its dead squares",
+    );
+    expect(&rt, count_of(&found, b'\n') == 128, "its rows");
+}
+
 #[test]
 fn pictures_are_drawn(rt: HostRuntime) {
     expect(

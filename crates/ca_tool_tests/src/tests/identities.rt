@@ -14,6 +14,14 @@ const DIEHARD: &[u8] = b"x = 8, y = 3\n6bo$2o$bo3b3o!";
 
 const GLIDER: &[u8] = b"x = 3, y = 3\nbo$2bo$3o!";
 
+/// Oscillators of the periods 8, 9, 5, 14 and 46, each a million places from the next.
+const PERIOD_57960: &[u8] = b"x = 4000029, y = 4000011\n\
+3o$3o$3o$3b3o$3b3o$3b3o999995$\n\
+1000000b2o12b2o$1000001bo12bo$1000001bobo8bobo$1000002b2o8b2o2$1000005b6o2$1000002b2o8b2o$1000001bobo8bobo$1000001bo12bo$1000000b2o12b2o999990$\n\
+2000003b2o$2000002bo2bo$2000001bo4bo$2000000bo6bo$2000000bo6bo$2000001bo4bo$2000002bo2bo$2000003b2o999993$\n\
+3000001bo5bo$3000000bobo3bobo$3000000bo2bobo2bo$3000002bo3bo$3000002b2ob2o999996$\n\
+4000017b2o$4000000b2o15bobo7b2o$4000000b2o17bo7b2o$4000017b3o4$4000017b3o$4000000b2o17bo7b2o$4000000b2o15bobo7b2o$4000017b2o!";
+
 /// Patterns, limits of generations, and what they are.
 const IDENTITIES: &[(&[u8], u64, Identity)] = &[
     (b"x = 0, y = 0\n!", 1, Identity::Empty),
@@ -47,6 +55,7 @@ const IDENTITIES: &[(&[u8], u64, Identity)] = &[
     (DIEHARD, 129, Identity::Unknown),
     (DIEHARD, 130, Identity::Dies { generations: 130 }),
     (b"x = 3, y = 3\nb2o$2o$bo!", 100, Identity::Unknown),
+    (PERIOD_57960, 65536, Identity::Oscillator { period: 57960 }),
 ];
 
 /// What a pattern is, where the limit is a good one.
