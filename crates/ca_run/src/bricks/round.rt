@@ -6,8 +6,8 @@ ghost use Rattle.ca_run.specs.inner.Bricks.{round_cells, sum_of_three, sum_of_tw
 
 use super::word::{NextCells, WordCount, WordSums};
 
-// Three columns of 18 words: in the middle the rows of a brick with the one above them and the one below, and beside
-// them those of the bricks in the west and in the east.
+// Three columns of 18 words: in the middle the rows of a brick with the one above them and the one below, and
+// beside them those of the bricks in the west and in the east.
 #[derive(Clone, Copy)]
 pub(super) struct Round {
     pub(super) west: [u64; 18],

@@ -1,8 +1,10 @@
 //! Words of 64 cells side by side: sums of their bits, and the next state of each cell.
 
-ghost use Rattle.std.specs.Prelude.{◌≡◌, ◌↔◌, ◌+◌, ◌-◌, ◌*◌, ◌<◌, ◌≤◌, ℕ, suc, ⊤, IsTrue, ◌==◌, if◌then◌else◌};
+ghost use Rattle.std.specs.Prelude.{◌≡◌, ◌↔◌, ◌+◌, ◌-◌, ◌*◌, ◌<◌, ◌≤◌, ℕ};
+ghost use Rattle.std.specs.Prelude.{suc, ⊤, IsTrue, ◌==◌, if◌then◌else◌};
 ghost use Rattle.std.specs.Int.{bit_at};
-ghost use Rattle.ca_run.specs.inner.Bricks.{wide_bit, pair_at, count_at, IsWordOfEach, AreWords, HasTwoAndThreeAlone};
+ghost use Rattle.ca_run.specs.inner.Bricks.{wide_bit, pair_at, count_at};
+ghost use Rattle.ca_run.specs.inner.Bricks.{IsWordOfEach, AreWords, HasTwoAndThreeAlone};
 ghost use Rattle.ca_run.specs.inner.Tiles.{next_by_count};
 
 use crate::kernel::is_in;
@@ -137,8 +139,8 @@ fn chosen(which: u64, there: u64, elsewhere: u64) -> u64
     elsewhere ^ which & (there ^ elsewhere)
 }
 
-// For each number of live cells round a cell a word of ones where a dead cell is born then, and one where a live cell
-// stays, else words of zeros.
+// For each number of live cells round a cell a word of ones where a dead cell is born then, and one where a
+// live cell stays, else words of zeros.
 #[derive(Clone, Copy)]
 struct WordMasks {
     born: [u64; 9],
@@ -176,8 +178,8 @@ impl WordMasks {
         chosen(ones, self.next(alive, n + 1), self.next(alive, n))
     }
 
-    // The next states of cells that have so many live cells round them, and as many more as the two lowest digits of
-    // the counts tell.
+    // The next states of cells that have so many live cells round them, and as many more as the two lowest
+    // digits of the counts tell.
     #[inline(always)]
     fn next_of_four(&self, alive: u64, count: WordCount, n: usize) -> u64
         requires { n ≤ 5 }

@@ -1,6 +1,7 @@
 //! Planes that are stepped brick by brick: those of squares that hardly repeat.
 
-ghost use Rattle.std.specs.Prelude.{◌≡◌, ℕ, ◌+◌, ◌*◌, ◌<◌, ◌≤◌, ◌^◌, ◌⊎◌, length, Ok, None, IfOk, IsOk, IfSome};
+ghost use Rattle.std.specs.Prelude.{◌≡◌, ℕ, ◌+◌, ◌*◌, ◌<◌, ◌≤◌, ◌^◌, ◌⊎◌};
+ghost use Rattle.std.specs.Prelude.{length, Ok, None, IfOk, IsOk, IfSome};
 ghost use Rattle.ca_quad.specs.Trees.{IsTree, cell};
 ghost use Rattle.ca_run.specs.Costs.{Costs};
 ghost use Rattle.ca_run.specs.Leaping.{LeaperGrows};
@@ -56,7 +57,8 @@ struct Stretch {
 }
 
 impl<A: Automaton> Leaper<A> {
-    // What is reached of n generations by stepping bricks, as far as that likely takes less time than to leap.
+    // What is reached of n generations by stepping bricks, as far as that likely takes less time than to
+    // leap.
     pub(super) fn step_dense<W: Watch>(
         &mut self,
         tree: &Tree,
@@ -66,7 +68,8 @@ impl<A: Automaton> Leaper<A> {
         requires tree { IsTree self.old.nodes tree.now }
         requires level { tree.now.level ≤ 64 }
         requires time { n ≤ 2 ^ 60 }
-        ensures reached { IfOk result (HasReached (A.next_of self.old.rule) self.old.nodes tree.now n self.new.nodes) }
+        ensures reached { IfOk result (HasReached (A.next_of self.old.rule)
+            self.old.nodes tree.now n self.new.nodes) }
         ensures none { n ≡ 0 → IfOk result (λ reached. reached.tree ≡ tree.now) }
         ensures calm { n ≡ 0 → IsOk result }
         ensures goes_on { LeaperGrows A self.old self.new }
@@ -107,8 +110,8 @@ impl<A: Automaton> Leaper<A> {
         Ok(reached)
     }
 
-    // Whether the squares of a tree hardly repeat: in a box of squares of 16 by 16 cells that are all unlike there are
-    // a third as many larger ones.
+    // Whether the squares of a tree hardly repeat: in a box of squares of 16 by 16 cells that are all unlike
+    // there are a third as many larger ones.
     fn is_dense(&self, tree: &Tree) -> Result<bool, Memory>
         requires { IsTree self.now.nodes tree.now }
     {
@@ -137,7 +140,8 @@ impl<A: Automaton> Leaper<A> {
         requires least { 7 ≤ first.now.level }
         requires time { n ≤ 2 ^ 60 }
         requires masks { GoesBy (A.next_of self.old.rule) masks }
-        requires reached { HasReached (A.next_of self.old.rule) self.old.nodes first.now n self.old.nodes reached.now }
+        requires reached { HasReached (A.next_of self.old.rule)
+            self.old.nodes first.now n self.old.nodes reached.now }
         ensures reached { IfOk result (λ found. IfSome found (λ stretch. HasReached (A.next_of self.old.rule)
             self.old.nodes first.now n self.new.nodes stretch.reached)) }
         ensures none { reached.now.generations ≡ n → IfOk result (λ found. found ≡ None) }
@@ -187,7 +191,8 @@ impl<A: Automaton> Leaper<A> {
             (λ wall. WallShows wall margin (cell self.now.nodes tree.now))) }
         ensures near { IfOk result (λ found. IfSome found LiesNear) }
         ensures aligned { IfOk result (λ found. IfSome found IsAligned) }
-        ensures room { IfOk result (λ found. IfSome found (λ wall. wall.across + length wall.bricks.items < 2 ^ 63)) }
+        ensures room { IfOk result (λ found. IfSome found
+            (λ wall. wall.across + length wall.bricks.items < 2 ^ 63)) }
         ensures few { IfOk result (λ found. IfSome found (λ wall. length wall.bricks.items ≤ 2 ^ 18)) }
         ensures some { margin ≡ 0 → result ≡ Ok None }
     {

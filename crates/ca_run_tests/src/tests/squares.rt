@@ -134,7 +134,8 @@ fn cells_at_the_corner_of_a_plane(rt: HostRuntime) {
     }
 }
 
-/// Cells, how far they are moved to the right and downward, and where they are then: none where one would leave a plane.
+/// Cells, how far they are moved to the right and downward, and where they are then: none where one would
+/// leave a plane.
 const MOVES: &[(&[Cell], i64, i64, Option<&[Cell]>)] = &[
     (&[], 5, -5, Some(&[])),
     (GLIDER, 0, 0, Some(GLIDER)),
