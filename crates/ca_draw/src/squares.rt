@@ -8,7 +8,7 @@ ghost use Rattle.ca_draw.specs.Marks.{has_live, mark_of};
 ghost use Rattle.ca_draw.specs.inner.Blanks.{IsBlankIn, LiesInPart};
 
 use crate::mark::Mark;
-use ca_quad::{Id, Spot, Store, Tree};
+use ca_quad::{Id, Spot, Store, Tree, edge_distance};
 
 // One of the four parts of a square, and a column and a row of squares in it.
 #[derive(Clone, Copy)]
@@ -53,10 +53,10 @@ fn has_live(store: &Store, tree: &Tree, scale: u8, column: i128, row: i128) -> b
     if scale == 0 {
         return store.cell(*tree, Spot { x: column, y: row }) != 0;
     }
-    let Some(x) = from_edge(half, column) else {
+    let Some(x) = edge_distance(half, column) else {
         return false;
     };
-    let Some(y) = from_edge(half, row) else {
+    let Some(y) = edge_distance(half, row) else {
         return false;
     };
     !is_blank_in(store, tree.root, tree.level, scale, x, y)
@@ -144,20 +144,4 @@ fn squares_in(levels: u8) -> u128
     ensures low { result ≤ 2 ^ 124 }
 {
     1 << levels
-}
-
-// A column or row, counted from the edge of a tree, where it lies in the tree.
-fn from_edge(half: u128, at: i128) -> Option<u128>
-    requires { half ≤ 2 ^ 124 }
-    ensures inside { IfSome result (λ n. (at +ℤ pos half ≡ pos n) × (n < half + half)) }
-    ensures outside { IfNone result (((at +ℤ pos half) <ℤ pos 0) ⊎ (pos (half + half) ≤ℤ (at +ℤ pos half))) }
-{
-    let half = half as i128;
-    if at < -half {
-        return None;
-    }
-    if at >= half {
-        return None;
-    }
-    Some((at + half) as u128)
 }
