@@ -2,12 +2,13 @@
 
 ghost use Rattle.std.specs.Prelude.{◌≡◌, ℕ, ◌+◌, ◌*◌, ◌<◌, ◌≤◌, ◌^◌, ◌⊎◌};
 ghost use Rattle.std.specs.Prelude.{length, Ok, None, IfOk, IsOk, IfSome};
+ghost use Rattle.ca_plane.specs.Generations.{cells_after};
 ghost use Rattle.ca_quad.specs.Trees.{IsTree, cell};
 ghost use Rattle.ca_run.specs.Costs.{Costs};
 ghost use Rattle.ca_run.specs.Leaping.{LeaperGrows};
 ghost use Rattle.ca_run.specs.Masks.{GoesBy};
 ghost use Rattle.ca_run.specs.Spent.{EndsAtLimit};
-ghost use Rattle.ca_run.specs.inner.Bricks.{WallShows, LiesNear, IsAligned};
+ghost use Rattle.ca_run.specs.inner.Bricks.{WallShows, IsInPlace, LiesNear, IsAligned};
 ghost use Rattle.ca_run.specs.inner.Dense.{HasReached, IsIdle, IsDense};
 
 use super::Leaper;
@@ -158,19 +159,7 @@ impl<A: Automaton> Leaper<A> {
         if reach > first.level + MOST_GROWTH {
             return Ok(None);
         }
-        let mut spent = self.work;
-        let later = wall.later(
-            alloc,
-            masks,
-            left,
-            self,
-            first,
-            reached.generations,
-            &mut spent,
-            watch,
-        );
-        self.work = spent;
-        let later = later?;
+        let later = self.later_wall(wall, masks, left, first, reached.generations, watch)?;
         let tree = self.tree_of(&later, reach)?;
         let tree = self.trim(tree)?;
         Ok(Some(Stretch {
@@ -181,6 +170,49 @@ impl<A: Automaton> Leaper<A> {
             bricks: later.bricks.len() as u64,
             work: later.work / left,
         }))
+    }
+
+    // The wall some generations on. The run began with a tree, so many generations before. The bricks that are
+    // stepped are counted.
+    fn later_wall<W: Watch>(
+        &mut self,
+        wall: Wall,
+        masks: (u16, u16),
+        generations: u64,
+        first: &Tree,
+        reached: u64,
+        watch: &mut W,
+    ) -> Result<Wall, LeapFault>
+        requires masks { GoesBy (A.next_of self.old.rule) masks }
+        requires shows { WallShows wall generations
+            (cells_after (A.next_of self.old.rule) (cell self.old.nodes first.now) reached) }
+        requires room { wall.across + length wall.bricks.items < 2 ^ 63 }
+        requires few { length wall.bricks.items ≤ 2 ^ 18 }
+        requires least { 7 ≤ first.now.level }
+        requires margin { generations ≤ 1024 }
+        requires time { reached + generations ≤ 2 ^ 60 }
+        ensures shows { IfOk result (λ later. WallShows later 0 (cells_after (A.next_of self.old.rule)
+            (cell self.old.nodes first.now) (reached + generations))) }
+        ensures place { IfOk result (IsInPlace wall) }
+        ensures same { self.new.nodes ≡ self.old.nodes }
+        ensures goes_on { LeaperGrows A self.old self.new }
+        ensures costs { Costs A self.old self.new (14 ^ (first.now.level + 4)) 0 }
+        ensures work { EndsAtLimit self.new.spent result }
+    {
+        let alloc = self.recent_centres.allocator();
+        let mut spent = self.work;
+        let later = wall.later(
+            alloc,
+            masks,
+            generations,
+            self,
+            first,
+            reached,
+            &mut spent,
+            watch,
+        );
+        self.work = spent;
+        later
     }
 
     // The wall of a tree with a margin of so many cells, where it is not too large.
