@@ -119,7 +119,7 @@ impl<A: Automaton> Leaper<A> {
             if (left >> j) % 2 == 1 {
                 let tree = self.leap(reached.tree, j, watch)?;
                 let generations = begun + left % (2 << j);
-                watch.reached(Milestone::with_tree(self, first, &tree, generations));
+                watch.reached(Milestone::with_tree(self, &self.store, first, &tree, generations));
                 *reached = Reached { tree, generations };
             }
         }

@@ -159,7 +159,7 @@ impl<A: Automaton> Leaper<A> {
         match self.leap(reached.tree, digit, watch) {
             Ok(tree) => {
                 let generations = reached.generations + (1 << digit);
-                watch.reached(Milestone::with_tree_apart(self, origin, first, &tree, generations));
+                watch.reached(Milestone::with_tree(self, origin, first, &tree, generations));
                 pace.went(digit, self.store.count() - before);
                 Ok(Reached { tree, generations })
             }

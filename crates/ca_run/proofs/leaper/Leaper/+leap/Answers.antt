@@ -80,7 +80,7 @@ pub trio-first_inner-requires : goal.trio-first_inner-requires
 trio-first_inner-requires g t c κs within =
     let sound = subst (λ l. IsSoundStore l.nodes) c.self.view_is c.self.invariant.squares in
     let four = four_go _ _ sound c.in_ok-west.ensures.goes_on.grows (suc c.args.grain) _ _ _ _
-        (four_of (omega (arith, c.requires.low)) c.quarters-nw.ensures.ne c.quarters-ne.ensures.nw c.quarters-nw.ensures.se c.quarters-ne.ensures.sw) in
+    (four_of (omega (arith, c.requires.low)) c.quarters-nw.ensures.ne c.quarters-ne.ensures.nw c.quarters-nw.ensures.se c.quarters-ne.ensures.sw) in
     search rules
 
 pub trio-returns-clause-shows : goal.trio-returns-clause-shows
@@ -105,7 +105,7 @@ pub middle_trio-first_inner-requires-2 : goal.middle_trio-first_inner-requires-2
 middle_trio-first_inner-requires-2 g t c κs within =
     let sound = subst (λ l. IsSoundStore l.nodes) c.self.view_is c.self.invariant.squares in
     let four = four_go _ _ sound c.in_ok-west.ensures.goes_on.grows (suc c.args.grain) _ _ _ _
-        (four_of (omega (arith, c.requires.low)) c.quarters-a.ensures.se c.quarters-c.ensures.sw c.quarters-e.ensures.ne c.quarters-g.ensures.nw) in
+    (four_of (omega (arith, c.requires.low)) c.quarters-a.ensures.se c.quarters-c.ensures.sw c.quarters-e.ensures.ne c.quarters-g.ensures.nw) in
     search rules
 
 pub middle_trio-first_inner-requires-3 : goal.middle_trio-first_inner-requires-3
@@ -113,7 +113,7 @@ middle_trio-first_inner-requires-3 g t c κs within =
     let sound = subst (λ l. IsSoundStore l.nodes) c.self.view_is c.self.invariant.squares in
     let grows = grows_on _ _ _ c.in_ok-west.ensures.goes_on.grows c.in_ok-middle.ensures.goes_on.grows in
     let four = four_go _ _ sound grows (suc c.args.grain) _ _ _ _
-        (four_of (omega (arith, c.requires.low)) c.quarters-c.ensures.sw c.quarters-c.ensures.se c.quarters-g.ensures.nw c.quarters-g.ensures.ne) in
+    (four_of (omega (arith, c.requires.low)) c.quarters-c.ensures.sw c.quarters-c.ensures.se c.quarters-g.ensures.nw c.quarters-g.ensures.ne) in
     search rules
 
 pub middle_trio-returns-clause-shows : goal.middle_trio-returns-clause-shows

@@ -28,12 +28,12 @@ leap-requires-clause-level g c =
     let some = some_level c.args.origin.now c.count-known.ensures.sound c.args.first.now c.requires.first.is_tree in
     reached_level (g.A.Automaton.next_of c.args.self.now.rule) c.args.origin.now c.args.self.now.nodes c.args.first.now c.args.n c.args.reached c.requires.reached quiet some c.requires.first.level c.requires.first.time
 
-pub with_tree_apart-requires : goal.with_tree_apart-requires
-with_tree_apart-requires g c = λ x y.
+pub with_tree-requires : goal.with_tree-requires
+with_tree-requires g c = λ x y.
     let leapt = subst (λ l. (x y : ℤ) → cell c.leap.new.self.nodes c.in-Ok.tree x y ≡ cells_after (g.A.Automaton.next_of l.rule) (cell l.nodes c.args.reached.tree) (2 ^ c.digit-digit.result) x y) c.set_room.ensures c.in-Ok.ensures.advanced.cells in
     let some = some_level c.args.origin.now c.count-known.ensures.sound c.args.first.now c.requires.first.is_tree in
     let run = with_leap (g.A.Automaton.next_of c.args.self.now.rule) c.args.origin.now c.args.self.now.nodes c.leap.new.self.nodes c.args.first.now c.args.n c.args.reached c.requires.reached some c.in-Ok.tree c.digit-digit.result
-        c.digit-digit.ensures.low c.digit-digit.ensures.fits c.requires.more c.in-Ok.ensures.advanced.is_tree c.in-Ok.ensures.trimmed leapt in
+    c.digit-digit.ensures.low c.digit-digit.ensures.fits c.requires.more c.in-Ok.ensures.advanced.is_tree c.in-Ok.ensures.trimmed leapt in
     subst (λ r. cell c.leap.new.self.nodes c.in-Ok.tree x y ≡ cells_after (g.A.Automaton.next_of r) (cell c.args.origin.now c.args.first.now) (c.args.reached.generations + 1 * 2 ^ c.digit-digit.result % 18446744073709551616) x y)
     (sym (c.in-Ok.ensures.goes_on.rule ∙ ap (λ l. l.rule) c.set_room.ensures)) (run.cells x y)
 
