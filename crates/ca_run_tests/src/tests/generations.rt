@@ -5,7 +5,7 @@ ghost use Rattle.std.specs.List.{All};
 ghost use Rattle.std.proofs.Common.{rules, arith};
 ghost use Rattle.std.proofs.lemmas.Bool.Decides.{nat_tests};
 
-use super::expected::{Cell, expect, plane_of, shows};
+use super::expected::{Cell, GLIDER, expect, plane_of, shows};
 use ca_plane::{Automaton, Memory, Nine, Plane};
 use ca_quad::Store;
 use ca_run::{LeapFault, Leaper, RunFault, kernel16, step, steps};
@@ -59,8 +59,6 @@ const REACH: i64 = 4611686018427387902;
 const ROW: &[Cell] = &[(0, 0, 1), (0, 1, 1), (0, 2, 1)];
 
 const COLUMN: &[Cell] = &[(-1, 1, 1), (0, 1, 1), (1, 1, 1)];
-
-const GLIDER: &[Cell] = &[(0, 1, 1), (1, 2, 1), (2, 0, 1), (2, 1, 1), (2, 2, 1)];
 
 /// A glider after 4000 generations.
 const GLIDER_4000: &[Cell] = &[
