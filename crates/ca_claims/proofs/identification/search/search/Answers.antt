@@ -37,50 +37,44 @@ returns-in_err-later-clause-takes g c =
     last_step _ _ _ (cells_after (g.A.Automaton.next_of c.args.leaper.now.rule) (cell c.args.leaper.now.nodes c.args.first.now.tree)) c.args.limit c.generations.generations
     c.generations.leaper.nodes c.generations.now inv.now.trimmed inv.now.shows (omega (arith, c.generations-test.true)) inv.takes c.step.ensures.takes
 
-pub returns-in-Empty-clause-identity : goal.returns-in-Empty-clause-identity
-returns-in-Empty-clause-identity g c = λ cells shows.
+pub returns-in-Empty : goal.returns-in-Empty
+returns-in-Empty g c =
     let inv = c.generations.invariant in
     let n = c.generations.generations in
     let told = stage_to g.A.Automaton.next_of inv.goes_on.rule c.store.ensures.sound inv.goes_on.grows c.requires.first (n + 1) c.in_ok-later.later.stage c.in_ok-later.ensures.stage in
     let next = g.A.Automaton.next_of c.args.leaper.now.rule in
     let p = cell c.args.leaper.now.nodes c.args.first.now.tree in
-    found_death next (g.met.A.Automaton.quiet c.args.leaper.now.rule c.store.ensures.rule) c.args.leaper.now.nodes c.args.first.now c.requires.first cells shows n inv.others c.args.limit
-    (omega (arith, c.generations-test.true)) c.requires.most (subst (IsStage p (cells_after next p (n + 1))) c.in-Empty.is told)
+    record {
+      identity = λ cells shows.
+          found_death next (g.met.A.Automaton.quiet c.args.leaper.now.rule c.store.ensures.rule) c.args.leaper.now.nodes c.args.first.now c.requires.first cells shows n inv.others c.args.limit
+          (omega (arith, c.generations-test.true)) c.requires.most (subst (IsStage p (cells_after next p (n + 1))) c.in-Empty.is told);
+      goes_on = goes_on_again _ c.args.leaper.now c.generations.leaper c.step.new.leaper inv.goes_on c.in_ok-later.ensures.goes_on;
+      takes = last_step _ _ _ (cells_after next p) c.args.limit n c.generations.leaper.nodes c.generations.now inv.now.trimmed inv.now.shows (omega (arith, c.generations-test.true)) inv.takes c.step.ensures.takes;
+      work = search rules;
+    }
 
-pub returns-in-Empty-clause-goes_on : goal.returns-in-Empty-clause-goes_on
-returns-in-Empty-clause-goes_on g c = goes_on_again _ c.args.leaper.now c.generations.leaper c.step.new.leaper c.generations.invariant.goes_on c.in_ok-later.ensures.goes_on
-
-pub returns-in-Empty-clause-takes : goal.returns-in-Empty-clause-takes
-returns-in-Empty-clause-takes g c =
-    let inv = c.generations.invariant in
-    last_step _ _ _ (cells_after (g.A.Automaton.next_of c.args.leaper.now.rule) (cell c.args.leaper.now.nodes c.args.first.now.tree)) c.args.limit c.generations.generations
-    c.generations.leaper.nodes c.generations.now inv.now.trimmed inv.now.shows (omega (arith, c.generations-test.true)) inv.takes c.step.ensures.takes
-
-pub returns-in-Back-clause-identity : goal.returns-in-Back-clause-identity
-returns-in-Back-clause-identity g c = λ cells shows.
+pub returns-in-Back : goal.returns-in-Back
+returns-in-Back g c =
     let inv = c.generations.invariant in
     let n = c.generations.generations in
     let told = stage_to g.A.Automaton.next_of inv.goes_on.rule c.store.ensures.sound inv.goes_on.grows c.requires.first (n + 1) c.in_ok-later.later.stage c.in_ok-later.ensures.stage in
+    let next = g.A.Automaton.next_of c.args.leaper.now.rule in
+    let p = cell c.args.leaper.now.nodes c.args.first.now.tree in
     let dx = c.in-Back.dx in
     let dy = c.in-Back.dy in
     let fits_x : SFits w64 dx = search rules in
     let fits_y : SFits w64 dy = search rules in
-    let next = g.A.Automaton.next_of c.args.leaper.now.rule in
-    let p = cell c.args.leaper.now.nodes c.args.first.now.tree in
-    let back = found_return next (g.met.A.Automaton.quiet c.args.leaper.now.rule c.store.ensures.rule) c.args.leaper.now.nodes c.args.first.now c.requires.first cells shows n inv.others c.args.limit
-        (omega (arith, c.generations-test.true)) c.requires.most dx dy (subst (IsStage p (cells_after next p (n + 1))) c.in-Back.is told) in
-    c.returning.ensures next cells c.args.limit (omega (arith, c.generations-test.true)) c.requires.most
-    (subst (λ a. IsReturn next cells (n + 1) a (to_z w64 (of_z w64 dy))) (sym (to_z-of_z w64 dx fits_x))
-    (subst (λ b. IsReturn next cells (n + 1) dx b) (sym (to_z-of_z w64 dy fits_y)) back))
-
-pub returns-in-Back-clause-goes_on : goal.returns-in-Back-clause-goes_on
-returns-in-Back-clause-goes_on g c = goes_on_again _ c.args.leaper.now c.generations.leaper c.step.new.leaper c.generations.invariant.goes_on c.in_ok-later.ensures.goes_on
-
-pub returns-in-Back-clause-takes : goal.returns-in-Back-clause-takes
-returns-in-Back-clause-takes g c =
-    let inv = c.generations.invariant in
-    last_step _ _ _ (cells_after (g.A.Automaton.next_of c.args.leaper.now.rule) (cell c.args.leaper.now.nodes c.args.first.now.tree)) c.args.limit c.generations.generations
-    c.generations.leaper.nodes c.generations.now inv.now.trimmed inv.now.shows (omega (arith, c.generations-test.true)) inv.takes c.step.ensures.takes
+    record {
+      identity = λ cells shows.
+          let back = found_return next (g.met.A.Automaton.quiet c.args.leaper.now.rule c.store.ensures.rule) c.args.leaper.now.nodes c.args.first.now c.requires.first cells shows n inv.others c.args.limit
+              (omega (arith, c.generations-test.true)) c.requires.most dx dy (subst (IsStage p (cells_after next p (n + 1))) c.in-Back.is told) in
+          c.returning.ensures next cells c.args.limit (omega (arith, c.generations-test.true)) c.requires.most
+          (subst (λ a. IsReturn next cells (n + 1) a (to_z w64 (of_z w64 dy))) (sym (to_z-of_z w64 dx fits_x))
+          (subst (λ b. IsReturn next cells (n + 1) dx b) (sym (to_z-of_z w64 dy fits_y)) back));
+      goes_on = goes_on_again _ c.args.leaper.now c.generations.leaper c.step.new.leaper inv.goes_on c.in_ok-later.ensures.goes_on;
+      takes = last_step _ _ _ (cells_after next p) c.args.limit n c.generations.leaper.nodes c.generations.now inv.now.trimmed inv.now.shows (omega (arith, c.generations-test.true)) inv.takes c.step.ensures.takes;
+      work = search rules;
+    }
 
 pub generations-preserved : goal.generations-preserved
 generations-preserved g c =
