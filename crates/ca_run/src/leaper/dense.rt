@@ -172,8 +172,8 @@ impl<A: Automaton> Leaper<A> {
         }))
     }
 
-    // The wall some generations on. The run began with a tree, so many generations before. The bricks that are
-    // stepped are counted.
+    // The wall some generations on. The run began with a tree, so many generations before. The bricks that
+    // are stepped are counted.
     fn later_wall<W: Watch>(
         &mut self,
         wall: Wall,

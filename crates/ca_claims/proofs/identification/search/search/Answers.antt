@@ -67,7 +67,7 @@ returns-in-Back g c =
     record {
       identity = λ cells shows.
           let back = found_return next (g.met.A.Automaton.quiet c.args.leaper.now.rule c.store.ensures.rule) c.args.leaper.now.nodes c.args.first.now c.requires.first cells shows n inv.others c.args.limit
-              (omega (arith, c.generations-test.true)) c.requires.most dx dy (subst (IsStage p (cells_after next p (n + 1))) c.in-Back.is told) in
+          (omega (arith, c.generations-test.true)) c.requires.most dx dy (subst (IsStage p (cells_after next p (n + 1))) c.in-Back.is told) in
           c.returning.ensures next cells c.args.limit (omega (arith, c.generations-test.true)) c.requires.most
           (subst (λ a. IsReturn next cells (n + 1) a (to_z w64 (of_z w64 dy))) (sym (to_z-of_z w64 dx fits_x))
           (subst (λ b. IsReturn next cells (n + 1) dx b) (sym (to_z-of_z w64 dy fits_y)) back));

@@ -1,4 +1,4 @@
-use Rattle.std.proofs.Common.{◌≡◌, ap, sym, subst, arith}
+use Rattle.std.proofs.Common.{◌≡◌, subst}
 use Rattle.std.specs.Prelude.{replicate}
 use Rattle.ca_run.specs.Leaping.{LeaperView}
 use Rattle.ca_run.proofs.DenseRuns.{costs_of_same, goes_on_of_same, spent_on, stepping_cost}
