@@ -157,7 +157,7 @@ one_more_other next p n before now m some within =
 
 -- ---- what a step tells of a leaper's first store and rule
 
-module _ {R : Type 0} (next_of : R → List ℕ → ℕ) (rule later : R) (same : later ≡ rule) (s0 s : List Node) (sound : IsSoundStore s0) (grows : Grows s0 s) (first : First) (is : IsFirst s0 first) (n : ℕ) where
+module _ {R : Type 0} (next_of : R → List ℕ → ℕ) {rule later : R} (same : later ≡ rule) {s0 s : List Node} (sound : IsSoundStore s0) (grows : Grows s0 s) {first : First} (is : IsFirst s0 first) (n : ℕ) where
   first_same : (x y : ℤ) → cell s first.tree x y ≡ cell s0 first.tree x y
   first_same = trees_stay s0 s sound grows first.tree is.pattern.is_tree
 
@@ -209,6 +209,12 @@ fewer_steps old new stages limit n few takes level some holds =
     let most = takes level some holds in
     let all : n * 14 ^ (level + 3) ≤ limit * 14 ^ (level + 3) = mul-le-mul_right (14 ^ (level + 3)) few in
     omega (arith, most, all)
+
+-- the last one: those that aren't made may be allowed too
+pub last_step : (old mid new : ℕ) (stages : ℕ → ℤ → ℤ → ℕ) (limit n : ℕ) (nodes : List Node) (tree : Tree) → IsTrimmed nodes tree → ((x y : ℤ) → cell nodes tree x y ≡ stages n x y)
+    → n < limit → TakesSteps old mid stages limit n → new ≤ mid + 14 ^ (tree.level + 3) → TakesSteps old new stages limit limit
+last_step old mid new stages limit n nodes tree trimmed shows less before takes =
+    fewer_steps old new stages limit (n + 1) (omega (arith, less)) (one_more_step old mid new stages limit n nodes tree trimmed shows less before takes)
 
 -- so all the work that may be done is no more than steps may need
 pub steps_need : (old new work : ℕ) (stages : ℕ → ℤ → ℤ → ℕ) (limit : ℕ) → old ≡ 0 → new ≡ work → TakesSteps old new stages limit limit → MayNeedWork work stages limit

@@ -1,6 +1,7 @@
 //! Whether a claim is true of patterns that stand in a leaper's store, by leaps.
 
-ghost use Rattle.std.specs.Prelude.{◌≡◌, ◌≢◌, ◌≤◌, ◌^◌, ◌⊎◌, ℤ, None, IfOk, IfSome, IsTrue, IsFalse, MatchOption};
+ghost use Rattle.std.specs.Prelude.{◌≡◌, ◌≢◌, ◌≤◌, ◌^◌, ◌⊎◌, ℤ, None, IfOk};
+ghost use Rattle.std.specs.Prelude.{IfSome, IsTrue, IsFalse, MatchOption};
 ghost use Rattle.ca_plane.specs.Plane.{Picture, cell as plane_cell};
 ghost use Rattle.ca_plane.specs.Generations.{after, IsAfter};
 ghost use Rattle.ca_quad.specs.Boxes.{IsDead};
@@ -50,8 +51,8 @@ pub(crate) struct Case {
     pub(crate) asks: Asks,
 }
 
-/// Whether the claim is true of the patterns under the leaper's rule. It is out of work only where all that the leaper
-/// may use is used up.
+/// Whether the claim is true of the patterns under the leaper's rule. It is out of work only where all that
+/// the leaper may use is used up.
 pub(crate) fn decide<A: Automaton, O: Observer>(
     leaper: &mut Leaper<A>,
     case: &Case,
@@ -93,7 +94,8 @@ fn why_not<A: Automaton, O: Observer>(
         (IsTrueClaim (A.next_of leaper.old.rule) cells other case.now.asks)
         (IsReason (A.next_of leaper.old.rule) cells other case.now.asks)) }
     ensures goes_on { LeaperGrows A leaper.old leaper.new }
-    ensures takes { Takes leaper.old.spent.used leaper.new.spent.used (most_runs case.now.asks.barred case.now.asks.generations)
+    ensures takes { Takes leaper.old.spent.used leaper.new.spent.used
+        (most_runs case.now.asks.barred case.now.asks.generations)
         case.now.subject.pattern.level case.now.asks.generations }
     ensures work { EndsAtLimit leaper.new.spent result }
 {
@@ -147,7 +149,8 @@ fn find_wrong_cell<A: Automaton, O: Observer>(
         (plane_cell (claimed case.now.asks cells other))
         case.now.asks.generations)) }
     ensures goes_on { LeaperGrows A leaper.old leaper.new }
-    ensures takes { Takes leaper.old.spent.used leaper.new.spent.used 1 case.now.subject.pattern.level case.now.asks.generations }
+    ensures takes { Takes leaper.old.spent.used leaper.new.spent.used 1 case.now.subject.pattern.level
+        case.now.asks.generations }
     ensures work { EndsAtLimit leaper.new.spent result }
 {
     // Says what holds of every leaper.

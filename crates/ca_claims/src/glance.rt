@@ -76,7 +76,8 @@ fn macro_summary(alloc: Global, bytes: &[u8], tables: &[Table]) -> Result<Summar
 /// The summary of a pattern.
 fn sum_up(alloc: Global, store: &Store, ruled: &Ruled<'_>) -> Result<Summary, Memory>
     requires { IsPattern store.now ruled.now.pattern.tree }
-    ensures told { IfOk result (IsTold ruled.now.pattern.kind (cell store.now ruled.now.pattern.tree) (rule_of ruled.now)
+    ensures told { IfOk result (IsTold ruled.now.pattern.kind (cell store.now ruled.now.pattern.tree)
+        (rule_of ruled.now)
         ruled.now.pattern.generation) }
     ensures word { IfOk result (λ s. IsWord s.rule_text.items) }
 {

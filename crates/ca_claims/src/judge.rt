@@ -50,9 +50,9 @@ impl<'a> Model for Judge<'a> {
 }
 
 impl<'a> Judge<'a> {
-    /// A judge of all claims of a text, each of which may take as much as the limits say. Of two files with one
-    /// path the first counts. The rule tables are read once for all claims; of two tables with one name that of
-    /// the first rule line counts.
+    /// A judge of all claims of a text, each of which may take as much as the limits say. Of two files with
+    /// one path the first counts. The rule tables are read once for all claims; of two tables with one name
+    /// that of the first rule line counts.
     ///
     /// # Errors
     ///

@@ -12,9 +12,9 @@ pub enum Note<'a> {
         name: &'a [u8],
     },
     /// The claim is refused for the pattern with this name, whose file is at this path. It is the first of
-    /// the claim's patterns of which the cause holds; where the other pattern is moved and has too many cells,
-    /// one that has too many. Where the file doesn't read, the line is that on which its fault stands, if it
-    /// stands on one.
+    /// the claim's patterns of which the cause holds; where the other pattern is moved and has too many
+    /// cells, one that has too many. Where the file doesn't read, the line is that on which its fault stands,
+    /// if it stands on one.
     Pattern {
         name: &'a [u8],
         path: &'a [u8],

@@ -70,8 +70,8 @@ pub(crate) struct RuledPlane<'t> {
     pub generation: u64,
 }
 
-/// Reads an RLE file into a plane, without squares: a pattern of small states under a rule that its rule text names
-/// among the tables.
+/// Reads an RLE file into a plane, without squares: a pattern of small states under a rule that its rule text
+/// names among the tables.
 pub(crate) fn read_ruled_plane<'t>(
     alloc: Global,
     bytes: &[u8],

@@ -73,8 +73,8 @@ pub enum Cause {
     /// The two patterns have different rules.
     #[error("mixed rules")]
     MixedRules,
-    /// A pattern whose cells the claim moves has more than 16777216 live cells: a spaceship's, or the one that
-    /// another becomes, with a shift.
+    /// A pattern whose cells the claim moves has more than 16777216 live cells: a spaceship's, or the one
+    /// that another becomes, with a shift.
     #[error("too many cells")]
     TooManyCells,
     /// As much work was done on the claim as may be.

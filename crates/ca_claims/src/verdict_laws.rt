@@ -56,8 +56,8 @@ pub fn death_by_the_last_generation()
 {}
 
 /// What it means that there is a reason against a claim of each kind: no cell is live, a cell after the
-/// claimed generations isn't the claimed one, or the claimed cells stand and the pattern is back, or the plane
-/// empty, at an earlier time, and at none before that.
+/// claimed generations isn't the claimed one, or the claimed cells stand and the pattern is back, or the
+/// plane empty, at an earlier time, and at none before that.
 pub fn false_claims()
     ensures still_empty { (next : List ℕ → ℕ) (cells other : Picture)
         → IsReason next cells other (asks_of Still) Empty ↔ (IsLive cells → ⊥) }
@@ -147,9 +147,10 @@ pub fn one_meaning_of_a_file()
         → Means bytes q u h → (p ≡ q) × (t ≡ u) × (g ≡ h) }
 {}
 
-/// A yes and a no aren't both true of a claim, nor is one of them and a refusal, out of work and memory apart.
-/// Nor are refusals for two causes, out of memory apart: so out of work, as a yes and a no, comes only where no
-/// other cause is. Nor are out of memory and a file that isn't there, or out of memory and a bad table.
+/// A yes and a no aren't both true of a claim, nor is one of them and a refusal, out of work and memory
+/// apart. Nor are refusals for two causes, out of memory apart: so out of work, as a yes and a no, comes only
+/// where no other cause is. Nor are out of memory and a file that isn't there, or out of memory and a bad
+/// table.
 pub fn one_kind_of_verdict()
     ensures yes_or_no { (files : List (List ℕ × List ℕ)) (rules : List (List ℕ)) (claim : Claim) (why : Why)
         → IsTrueVerdict files rules claim Yes → IsTrueVerdict files rules claim (No why) → ⊥ }
@@ -161,7 +162,8 @@ pub fn one_kind_of_verdict()
         → IsTrueVerdict files rules claim (No why) → IsTrueVerdict files rules claim (Refused cause) → ⊥ }
     ensures work_or_refused { (files : List (List ℕ × List ℕ)) (rules : List (List ℕ)) (claim : Claim)
         (cause : Cause) → cause ≢ Memory → cause ≢ Work
-        → IsTrueVerdict files rules claim (Refused Work) → IsTrueVerdict files rules claim (Refused cause) → ⊥ }
+        → IsTrueVerdict files rules claim (Refused Work) → IsTrueVerdict files rules claim (Refused cause)
+        → ⊥ }
     ensures one_cause { (files : List (List ℕ × List ℕ)) (rules : List (List ℕ)) (claim : Claim)
         (one two : Cause) → one ≢ Memory → two ≢ Memory
         → IsTrueVerdict files rules claim (Refused one) → IsTrueVerdict files rules claim (Refused two)

@@ -52,7 +52,8 @@ pub(crate) use task::Task;
 /// # Errors
 ///
 /// Fails where there is no memory for the answers, the list of the files or the rule tables. A text without
-/// claims needs none of these. Where there is no memory or work to judge a claim, that claim alone is refused.
+/// claims needs none of these. Where there is no memory or work to judge a claim, that claim alone is
+/// refused.
 pub fn verify(
     alloc: Global,
     claims: &Claims,
@@ -94,7 +95,8 @@ pub(crate) fn find_files<'a>(
     Ok(found)
 }
 
-/// The verdict on a claim. Where there is no memory to judge it beside what the library keeps, that is let go.
+/// The verdict on a claim. Where there is no memory to judge it beside what the library keeps, that is let
+/// go.
 pub(crate) fn verdict_on<'a, O: Observer>(
     alloc: Global,
     library: &mut Library<'a>,
@@ -102,8 +104,10 @@ pub(crate) fn verdict_on<'a, O: Observer>(
     observer: &mut O,
 ) -> Judged
     requires { CanBeJudged task.now }
-    ensures { (files : List (List ℕ × List ℕ)) (paths rules : List (List ℕ)) → IsOnFiles files paths rules task.now
-        → IsJudgedOn files paths rules task.now.limits.work (about (path_at paths) task.now.claim.now) result.verdict result.about }
+    ensures { (files : List (List ℕ × List ℕ)) (paths rules : List (List ℕ))
+        → IsOnFiles files paths rules task.now
+        → IsJudgedOn files paths rules task.now.limits.work
+        (about (path_at paths) task.now.claim.now) result.verdict result.about }
 {
     let judged = as_judged(judge(alloc, library, task, observer));
     if library.is_empty() || !wants_memory(&judged.verdict) {
@@ -146,10 +150,13 @@ fn judge<'a, O: Observer>(
     observer: &mut O,
 ) -> Result<Verdict, Refusal>
     requires { CanBeJudged task.now }
-    ensures { (files : List (List ℕ × List ℕ)) (paths rules : List (List ℕ)) → IsOnFiles files paths rules task.now
+    ensures { (files : List (List ℕ × List ℕ)) (paths rules : List (List ℕ))
+        → IsOnFiles files paths rules task.now
         → MatchResult result
-        (λ verdict. IsJudgedOn files paths rules task.now.limits.work (about (path_at paths) task.now.claim.now) verdict abouts.Claim)
-        (λ r. IsJudgedOn files paths rules task.now.limits.work (about (path_at paths) task.now.claim.now) (Refused r.cause) r.about) }
+        (λ verdict. IsJudgedOn files paths rules task.now.limits.work
+        (about (path_at paths) task.now.claim.now) verdict abouts.Claim)
+        (λ r. IsJudgedOn files paths rules task.now.limits.work (about (path_at paths) task.now.claim.now)
+        (Refused r.cause) r.about) }
 {
     let asks = task.claim.kind.asks();
     let places = places_of(task.claim);

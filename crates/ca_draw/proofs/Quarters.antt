@@ -1,25 +1,42 @@
 -- The part in which a square of a larger square lies.
-use Rattle.std.proofs.Common.{◌≡◌, ℕ, suc, ◌+◌, ◌-◌, ◌*◌, ◌<◌, ◌≤◌, ◌^◌, ◌↔◌, Bool, true, List, [], ◌∷◌, sym, ap, subst, ◌∙◌, arith}
+use Rattle.std.proofs.Common.{◌≡◌, ℕ, suc, ◌+◌, ◌-◌, ◌*◌, ◌<◌, ◌≤◌, ◌^◌, ◌↔◌, Bool, true, List, [], ◌∷◌, length, get_or, sym, ap, subst, ◌∙◌, arith}
 use Rattle.std.proofs.lemmas.Nat.{pow-add}
 use Rattle.std.proofs.Math.Nat.{two-pow-succ}
 use Rattle.ca_quad.specs.declared.node.Node.{Node}
 use Rattle.ca_quad.specs.Squares.{IsOf, together, cell_of}
 use Rattle.ca_quad.specs.Trees.{IsEmpty, AreQuarters}
+use Rattle.ca_quad.proofs.Cuts.{quarters_at}
 use Rattle.ca_draw.specs.declared.squares.Part.{Part}
 use Rattle.ca_draw.specs.inner.Blanks.{IsBlankIn, LiesInPart}
 use Rattle.ca_draw.proofs.Blanks.{blank_whole, blank_nw, blank_ne, blank_sw, blank_se}
 
-module _ (nodes : List Node) (id scale column row half m nw ne sw se : ℕ) (q : AreQuarters nodes id m (nw ∷ ne ∷ sw ∷ se ∷ []))
-    (low : scale ≤ m) (is_half : half ≡ 2 ^ (m - scale)) (column_in : column < 2 ^ (suc m - scale)) (row_in : row < 2 ^ (suc m - scale)) where
+-- the parts that a call gives of a square
+pub parts_of : (nodes : List Node) (id level : ℕ) (quarters : List ℕ) (d0 d1 d2 d3 : ℕ) → 1 ≤ level → IsOf nodes id level → length quarters ≡ 4
+    → ((m : ℕ) → IsOf nodes id (suc m) → AreQuarters nodes id m quarters)
+    → AreQuarters nodes id (level - 1) (get_or quarters 0 d0 ∷ get_or quarters 1 d1 ∷ get_or quarters 2 d2 ∷ get_or quarters 3 d3 ∷ [])
+parts_of nodes id level quarters d0 d1 d2 d3 some is four are =
+    let next : level ≡ suc (level - 1) = omega arith in
+    quarters_at nodes id (level - 1) quarters d0 d1 d2 d3 four (are (level - 1) (subst (IsOf nodes id) next is))
+
+module _ (nodes : List Node) (id scale column row half level nw ne sw se : ℕ) (q : AreQuarters nodes id (level - 1) (nw ∷ ne ∷ sw ∷ se ∷ []))
+    (low : scale < level) (is_half : half ≡ 2 ^ (level - scale - 1)) (column_in : column < 2 ^ (level - scale)) (row_in : row < 2 ^ (level - scale)) where
+  abbrev m : ℕ
+  m = level - 1
+
   whole : 2 ^ m ≡ half * 2 ^ scale
   whole =
-      let e : m ≡ (m - scale) + scale = omega arith in
-      ap (λ k. 2 ^ k) e ∙ pow-add 2 (m - scale) scale ∙ ap (λ n. n * 2 ^ scale) (sym is_half)
+      let e : m ≡ (level - scale - 1) + scale = omega arith in
+      ap (λ k. 2 ^ k) e ∙ pow-add 2 (level - scale - 1) scale ∙ ap (λ n. n * 2 ^ scale) (sym is_half)
 
-  double : 2 ^ (suc m - scale) ≡ half + half
+  double : 2 ^ (level - scale) ≡ half + half
   double =
-      let e : suc m - scale ≡ suc (m - scale) = omega arith in
-      ap (λ k. 2 ^ k) e ∙ two-pow-succ (m - scale) ∙ ap (λ n. n + n) (sym is_half)
+      let e : level - scale ≡ suc (level - scale - 1) = omega arith in
+      ap (λ k. 2 ^ k) e ∙ two-pow-succ (level - scale - 1) ∙ ap (λ n. n + n) (sym is_half)
+
+  across : half ≡ 2 ^ (m - scale)
+  across =
+      let e : level - scale - 1 ≡ m - scale = omega arith in
+      is_half ∙ ap (λ k. 2 ^ k) e
 
   abbrev four : ℕ → ℕ → ℕ
   four = together (half * 2 ^ scale) (cell_of nodes m nw) (cell_of nodes m ne) (cell_of nodes m sw) (cell_of nodes m se)
@@ -31,8 +48,8 @@ module _ (nodes : List Node) (id scale column row half m nw ne sw se : ℕ) (q :
       → LiesInPart nodes id m scale column row (record { id = part; column = c; row = r })
   lies part c r is i j b = record {
     is_square = is;
-    column_in = omega arith;
-    row_in = omega arith;
+    column_in = subst (λ n. c < n) across i;
+    row_in = subst (λ n. r < n) across j;
     blank = (λ blank x y k l. same x y ∙ b.0 blank x y k l, λ blank. b.1 (λ x y k l. sym (same x y) ∙ blank x y k l));
   }
 

@@ -95,7 +95,8 @@ fn push_row(
     requires tree { IsTree store.now tree.now }
     requires window { IsWindow window }
     requires row { row < window.height }
-    ensures { OnOk result (Puts out.old.items out.new.items (row_of style (cell store.now tree.now) window row)) }
+    ensures { OnOk result (Puts out.old.items out.new.items
+        (row_of style (cell store.now tree.now) window row)) }
 {
     'columns: for column in 0..window.width {
         push_text(out, &[byte_at(store, tree, window, style, column, row)])?;

@@ -25,8 +25,8 @@ pub fn true_marks()
         → (scale ≡ 0) × (cells column row ≡ state) × (state ≢ 0) }
 {}
 
-/// The least box round a tree's live cells has cells, and lies in the reach of the largest tree, so that it fits
-/// into any two columns and rows.
+/// The least box round a tree's live cells has cells, and lies in the reach of the largest tree, so that it
+/// fits into any two columns and rows.
 pub fn least_boxes(store: &Store, tree: Tree)
     requires { IsTree store.now tree }
     ensures { (box : Box) → IsLeastWideBox (cell store.now tree) box → IsBox box × IsInReach box }

@@ -1,13 +1,14 @@
 //! Whether a square of a tree has a live cell.
 
-ghost use Rattle.std.specs.Prelude.{◌≡◌, ℕ, suc, ◌+◌, ◌-◌, ◌<◌, ◌≤◌, ◌^◌, ◌↔◌, ◌⊎◌, pos, ◌+ℤ◌, ◌<ℤ◌, ◌≤ℤ◌, IsTrue, IfSome, IfNone};
+ghost use Rattle.std.specs.Prelude.{◌≡◌, ℕ, suc, ◌+◌, ◌-◌, ◌<◌, ◌≤◌, ◌^◌, ◌↔◌, ◌⊎◌};
+ghost use Rattle.std.specs.Prelude.{pos, ◌+ℤ◌, ◌<ℤ◌, ◌≤ℤ◌, min, IsTrue, IfSome, IfNone};
 ghost use Rattle.ca_quad.specs.Squares.{IsOf, cell_of};
 ghost use Rattle.ca_quad.specs.Trees.{IsTree, cell};
 ghost use Rattle.ca_draw.specs.Marks.{has_live, mark_of};
 ghost use Rattle.ca_draw.specs.inner.Blanks.{IsBlankIn, LiesInPart};
 
 use crate::mark::Mark;
-use ca_quad::{Id, Spot, Store, Tree};
+use ca_quad::{Id, Spot, Store, Tree, edge_distance};
 
 // One of the four parts of a square, and a column and a row of squares in it.
 #[derive(Clone, Copy)]
@@ -15,6 +16,13 @@ struct Part {
     id: Id,
     column: u128,
     row: u128,
+}
+
+// The squares that a tree is asked for: their scale, and how many lie beside each other in half of it.
+#[derive(Clone, Copy)]
+struct Grid {
+    scale: u8,
+    half: u128,
 }
 
 /// What is drawn of the square at a column and row, where so many states are told apart.
@@ -35,29 +43,44 @@ pub(crate) fn mark_at(
     Mark::of_live(has_live(store, tree, scale, column, row))
 }
 
-// Whether a cell of the square at a column and row is live. A tree that lies in four squares at most is asked at the
-// scale at which these are its quarters: larger squares there have no further live cells.
+// Whether a cell of the square at a column and row is live. A tree that lies in four squares at most is asked
+// at the scale at which these are its quarters: larger squares there have no further live cells.
 fn has_live(store: &Store, tree: &Tree, scale: u8, column: i128, row: i128) -> bool
     requires { IsTree store.now tree.now }
     ensures { result ≡ has_live (cell store.now tree.now) scale column row }
 {
-    let level = store.level(tree.root);
-    let scale = scale.min(level - 1);
+    let Grid { scale, half } = grid_of(store, tree, scale);
     if scale == 0 {
         return store.cell(*tree, Spot { x: column, y: row }) != 0;
     }
-    let half = squares_in(level - 1 - scale);
-    let Some(x) = from_edge(half, column) else {
+    let Some(x) = edge_distance(half, column) else {
         return false;
     };
-    let Some(y) = from_edge(half, row) else {
+    let Some(y) = edge_distance(half, row) else {
         return false;
     };
-    !is_blank_in(store, tree.root, level, scale, x, y)
+    !is_blank_in(store, tree.root, tree.level, scale, x, y)
 }
 
-// Whether every cell of one of a square's squares is 0. They have 2^scale cells a side, and their columns and rows are
-// counted from its corner.
+// The squares that a tree is asked for, where those of this scale are wanted.
+fn grid_of(store: &Store, tree: &Tree, scale: u8) -> Grid
+    requires { IsTree store.now tree.now }
+    ensures some { 1 ≤ tree.now.level }
+    ensures most { tree.now.level ≤ 125 }
+    ensures scale { result.scale ≡ min scale (tree.now.level - 1) }
+    ensures half { result.half ≡ 2 ^ (tree.now.level - 1 - result.scale) }
+    ensures low { result.half ≤ 2 ^ 124 }
+{
+    let level = store.level(tree.root);
+    let scale = scale.min(level - 1);
+    Grid {
+        scale,
+        half: squares_in(level - 1 - scale),
+    }
+}
+
+// Whether every cell of one of a square's squares is 0. They have 2^scale cells a side, and their columns and
+// rows are counted from its corner.
 fn is_blank_in(store: &Store, id: Id, level: u8, scale: u8, column: u128, row: u128) -> bool
     requires square { IsOf store.now id level }
     requires least { 1 ≤ scale }
@@ -121,20 +144,4 @@ fn squares_in(levels: u8) -> u128
     ensures low { result ≤ 2 ^ 124 }
 {
     1 << levels
-}
-
-// A column or row, counted from the edge of a tree, where it lies in the tree.
-fn from_edge(half: u128, at: i128) -> Option<u128>
-    requires { half ≤ 2 ^ 124 }
-    ensures inside { IfSome result (λ n. (at +ℤ pos half ≡ pos n) × (n < half + half)) }
-    ensures outside { IfNone result (((at +ℤ pos half) <ℤ pos 0) ⊎ (pos (half + half) ≤ℤ (at +ℤ pos half))) }
-{
-    let half = half as i128;
-    if at < -half {
-        return None;
-    }
-    if at >= half {
-        return None;
-    }
-    Some((at + half) as u128)
 }

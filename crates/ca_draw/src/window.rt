@@ -1,7 +1,9 @@
 //! Windows of the plane.
 
-ghost use Rattle.std.specs.Prelude.{◌≡◌, ℕ, ℤ, pos, neg_ℤ, ◌+ℤ◌, ◌-ℤ◌, ◌≤ℤ◌, ◌<ℤ◌, ◌^◌, ◌≤◌, ◌<◌, ◌↔◌, IsTrue, IfSome, IfNone, IsSome};
-ghost use Rattle.ca_draw.specs.Windows.{strip_of, IsInSquare, IsWindow, IsBox, IsInReach, ShowsBox, window_at};
+ghost use Rattle.std.specs.Prelude.{◌≡◌, ℕ, ℤ, pos, neg_ℤ, ◌+ℤ◌, ◌-ℤ◌, ◌≤ℤ◌, ◌<ℤ◌, ◌^◌};
+ghost use Rattle.std.specs.Prelude.{◌≤◌, ◌<◌, ◌↔◌, IsTrue, IfSome, IfNone, IsSome};
+ghost use Rattle.ca_draw.specs.Windows.{strip_of, IsInSquare, IsWindow, IsBox};
+ghost use Rattle.ca_draw.specs.Windows.{IsInReach, ShowsBox, window_at};
 ghost use Rattle.ca_draw.specs.inner.Spans.{IsSpan, Spans};
 
 use ca_quad::{Spot, WideBounds};
@@ -15,9 +17,9 @@ pub const MOST_SCALE: u8 = 124;
 // How far from 0 the columns and rows of a window may be.
 const REACH: i128 = 1 << 124;
 
-/// A window of the plane, which shows squares of 2^`scale` by 2^`scale` cells. The square at column c and row r
-/// has the cells whose x and y, divided by 2^`scale` and rounded down, are c and r. Columns are counted to the
-/// right, and rows downward.
+/// A window of the plane, which shows squares of 2^`scale` by 2^`scale` cells. The square at column c and row
+/// r has the cells whose x and y, divided by 2^`scale` and rounded down, are c and r. Columns are counted to
+/// the right, and rows downward.
 #[derive(Clone, Copy, Debug, PartialEq, Eq)]
 pub struct Window {
     /// From 0 to `MOST_SCALE`.
@@ -71,8 +73,8 @@ impl Window {
     }
 
     /// The window of the smallest scale that shows a whole box in so many columns and rows at most. It has no
-    /// column and no row without a cell of the box. A box of a tree's cells fits into any two columns and rows
-    /// (`laws::least_boxes`). One with cells on both sides of x = 0 fits into no single column.
+    /// column and no row without a cell of the box. A box of a tree's cells fits into any two columns and
+    /// rows (`laws::least_boxes`). One with cells on both sides of x = 0 fits into no single column.
     pub fn fitting(bounds: WideBounds, columns: u16, rows: u16) -> Option<Window>
         requires { IsBox bounds }
         // It shows every cell of the box.
@@ -84,7 +86,8 @@ impl Window {
         // No window of a smaller scale shows the box.
         ensures least { IfSome result (λ w. (other : Window) → ShowsBox bounds columns rows other
             → w.scale ≤ other.scale) }
-        // None does at all, which can't be where two columns and rows are allowed and the box is one of a tree.
+        // None does at all, which can't be where two columns and rows are allowed and the box is one of a
+        // tree.
         ensures none { IfNone result ((other : Window) → ShowsBox bounds columns rows other → ⊥) }
         ensures some { IsInReach bounds → 2 ≤ columns → 2 ≤ rows → IsSome result }
     {

@@ -7,7 +7,8 @@ ghost use Rattle.ca_macro.specs.File.{MacrocellLine};
 ghost use Rattle.ca_macro.specs.Limits.{IsMacrocellWithinRange, IsMacrocellOutOfRange};
 ghost use Rattle.ca_macro.specs.Faults.{IsMacrocellFault, IsMacrocellFaultOn};
 ghost use Rattle.ca_macro.specs.Pattern.{IsMacrocellPattern, HoldsMacrocellPattern};
-ghost use Rattle.ca_macro.specs.inner.Reading.{HoldsReading, IsMacrocellReading, IsMacrocellReadingFault, file_of};
+ghost use Rattle.ca_macro.specs.inner.Reading.{HoldsReading, IsMacrocellReading};
+ghost use Rattle.ca_macro.specs.inner.Reading.{IsMacrocellReadingFault, file_of};
 
 mod empties;
 mod range;

@@ -1,6 +1,7 @@
 //! Planes of two states as words of 64 cells.
 
-ghost use Rattle.std.specs.Prelude.{◌≡◌, ℕ, ◌+◌, ◌<◌, ◌≤◌, ◌/◌, ◌^◌, pos, neg_ℤ, ◌+ℤ◌, ◌≤ℤ◌, [], IsTrue, IfSome, OnOk};
+ghost use Rattle.std.specs.Prelude.{◌≡◌, ℕ, ◌+◌, ◌<◌, ◌≤◌, ◌/◌, ◌^◌, pos, neg_ℤ};
+ghost use Rattle.std.specs.Prelude.{◌+ℤ◌, ◌≤ℤ◌, [], IsTrue, IfSome, OnOk};
 ghost use Rattle.ca_plane.specs.BitPlane.{AddsRun, AreNearWords, IsNearWord};
 ghost use Rattle.ca_plane.specs.Sparse.{reach};
 ghost use Rattle.ca_plane.specs.inner.BitRuns.{AddsWord, AreBitsOf, HaveSameCells, IsPlaceOf, IsWordOfRun};
@@ -16,9 +17,9 @@ const SIDE: u64 = 64;
 
 /// 64 cells in a row, each of state 0 or 1.
 ///
-/// Rows and columns are counted from (-2^62, -2^62), which is the corner of the square in which planes keep their
-/// cells: the word has the cells of the row `row` in the columns from `64 * column` on, and bit 0 is the
-/// western-most of them.
+/// Rows and columns are counted from (-2^62, -2^62), which is the corner of the square in which planes keep
+/// their cells: the word has the cells of the row `row` in the columns from `64 * column` on, and bit 0 is
+/// the western-most of them.
 #[derive(Clone, Copy, Debug, PartialEq, Eq)]
 pub struct CellWord {
     pub row: u64,
@@ -35,8 +36,8 @@ impl CellWord {
     }
 }
 
-/// A plane of the states 0 and 1 that is put together from runs of live cells. It takes some bytes for each word,
-/// where a sparse plane takes as many for each cell.
+/// A plane of the states 0 and 1 that is put together from runs of live cells. It takes some bytes for each
+/// word, where a sparse plane takes as many for each cell.
 #[derive(Drop)]
 pub struct BitPlane {
     words: Vec<CellWord>,

@@ -16,4 +16,4 @@ pub use fault::QuadFault;
 pub use id::Id;
 pub use square_map::SquareMap;
 pub use store::Store;
-pub use tree::{Spot, Tree, WideBounds};
+pub use tree::{Spot, Tree, WideBounds, edge_distance};

@@ -9,7 +9,8 @@ ghost use Rattle.ca_rle.specs.Faults.{after_white, item_fault};
 ghost use Rattle.ca_rle.specs.Shown.{ends_row, tag_state};
 ghost use Rattle.ca_plane.specs.Limits.{IsInRange, range};
 ghost use Rattle.ca_rle.specs.inner.BodyFaults.{IsItemAtFront, HasBadUnitAt};
-ghost use Rattle.ca_rle.specs.inner.Extent.{kept_number, live_count_of_item, IsOffsetOf, IsItemsExtent, IsExtentInRange};
+ghost use Rattle.ca_rle.specs.inner.Extent.{kept_number, live_count_of_item};
+ghost use Rattle.ca_rle.specs.inner.Extent.{IsOffsetOf, IsItemsExtent, IsExtentInRange};
 ghost use Rattle.ca_rle.specs.inner.Extent.{point_from};
 
 use crate::faulty::Faulty;

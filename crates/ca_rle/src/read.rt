@@ -8,7 +8,8 @@ ghost use Rattle.ca_rle.specs.declared.fault.RleFault.TheVariants.{Memory};
 ghost use Rattle.ca_rle.specs.Faults.{IsRleFault};
 ghost use Rattle.ca_rle.specs.File.{RleFile};
 ghost use Rattle.ca_rle.specs.FaultyLine.{IsRleFaultOn};
-ghost use Rattle.ca_rle.specs.Pattern.{IsReadableRle, HoldsRlePattern, HoldsPackedRlePattern, ArePacked, packed_cell};
+ghost use Rattle.ca_rle.specs.Pattern.{IsReadableRle, HoldsRlePattern};
+ghost use Rattle.ca_rle.specs.Pattern.{HoldsPackedRlePattern, ArePacked, packed_cell};
 ghost use Rattle.ca_rle.specs.Shown.{picture_of_items};
 ghost use Rattle.ca_rle.specs.inner.FrontParts.{IsGoodText};
 
@@ -49,8 +50,8 @@ pub fn read_rle_with_line(alloc: Global, bytes: &[u8]) -> Result<Pattern, LineFa
     })
 }
 
-/// Reads an extended RLE text as `read_rle_with_line` does, and packs its cells: where no state is above 1, it
-/// takes some bytes for each 64 cells side by side, and not for each cell.
+/// Reads an extended RLE text as `read_rle_with_line` does, and packs its cells: where no state is above 1,
+/// it takes some bytes for each 64 cells side by side, and not for each cell.
 ///
 /// # Errors
 ///

@@ -1,5 +1,5 @@
 -- How the costs of calls add up.
-use Rattle.std.proofs.Common.{◌≡◌, ℕ, suc, ◌+◌, ◌-◌, ◌*◌, ◌/◌, ◌%◌, ◌^◌, ◌<◌, ◌≤◌, inl, inr, min, max, length, ap, arith}
+use Rattle.std.proofs.Common.{◌≡◌, ℕ, suc, ◌+◌, ◌-◌, ◌*◌, ◌/◌, ◌%◌, ◌^◌, ◌<◌, ◌≤◌, inl, inr, min, max, length, ap, subst, arith}
 use Rattle.std.proofs.Math.Nat.{pow-succ', one-le-pow, pow-le-pow_right, div-eq_of_lt, mod-le, mod-lt, mul-le-mul, mul-le-mul_right}
 use Rattle.std.proofs.Math.Pow.{pow_mono}
 use Rattle.ca_quad.proofs.Growth.{below_or_not}
@@ -38,6 +38,20 @@ thirteen g =
     let e = power_suc g in
     let s = power_some g in
     omega (arith, e, s)
+
+module _ {Rule : Type 0} where
+  -- the centre of a square that has parts
+  pub nine_costs : {a b : LeaperView Rule} (grain : ℕ) → 1 ≤ grain → Costs Rule a b (13 * 14 ^ (grain - 1)) 19 → Costs Rule a b (14 ^ grain - 1) 19
+  nine_costs grain some h =
+      let up : suc (grain - 1) ≡ grain = omega arith in
+      let few = subst (λ g. suc (13 * 14 ^ (grain - 1)) ≤ 14 ^ g) up (thirteen (grain - 1)) in
+      costs_more h (omega (arith, few)) (omega arith)
+
+  -- the same, which is counted first
+  pub centre_costs : {a b d : LeaperView Rule} (grain : ℕ) → b.spent.used ≡ a.spent.used + 1 → b.nodes ≡ a.nodes → Costs Rule b d (14 ^ grain - 1) 19 → Costs Rule a d (14 ^ grain) 0
+  centre_costs {a} {b} grain e same h =
+      let some = power_some grain in
+      costs_paid {a = a} {b = b} 1 e same h (omega (arith, some)) (omega arith)
 
 -- the four parts of a wall's square, and a unit for each
 pub four_and_four : (g : ℕ) → 4 + 4 * 14 ^ g ≤ 14 ^ suc g

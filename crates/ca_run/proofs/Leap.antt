@@ -1,5 +1,5 @@
 -- The steps of a leap by nine squares: which squares show which places.
-use Rattle.std.proofs.Common.{◌≡◌, ℕ, suc, ◌+◌, ◌≤◌, ◌^◌, Result, Ok, Err, IfOk, List, refl, ap, subst, arith}
+use Rattle.std.proofs.Common.{◌≡◌, ℕ, suc, ◌+◌, ◌≤◌, ◌^◌, Result, Ok, Err, IfOk, List, refl, sym, ap, subst, ◌∙◌, arith}
 use Rattle.std.specs.Prelude.{ℤ, pos, ◌+ℤ◌}
 use Rattle.std.proofs.lemmas.Int.{ints}
 use Rattle.std.proofs.Math.Nat.{two-pow-succ}
@@ -9,13 +9,14 @@ use Rattle.ca_quad.specs.Squares.{IsOf, cell_of}
 use Rattle.ca_quad.specs.Sound.{IsSoundStore, Grows}
 use Rattle.ca_quad.specs.Trees.{AreFour, from_corner}
 use Rattle.ca_quad.proofs.Growth.{grows_same, grows_on}
+use Rattle.ca_quad.proofs.Cells.{of_stays}
 use Rattle.ca_run.specs.declared.leaper.trio.Trio.{Trio}
 use Rattle.ca_run.specs.declared.leaper.trio.Rows.{Rows}
 use Rattle.ca_run.specs.Centre.{IsCentre}
 use Rattle.ca_run.specs.Leaping.{LeaperView, LeaperGrows}
 use Rattle.ca_run.specs.RecentLeaps.{IsLeap}
-use Rattle.ca_run.specs.inner.Shown.{ShowsAt, FourShow, ThreeShow, TwoShow, NineShow, side}
-use Rattle.ca_run.proofs.Shown.{spends_same, at_stays, three_stay, four_was, four_stay, four_go, at_from, centre_at, is_centre_at, at_corner}
+use Rattle.ca_run.specs.inner.Shown.{ShowsAt, FourShow, AreThree, ThreeShow, TwoShow, AreNine, NineShow, side}
+use Rattle.ca_run.proofs.Shown.{spends_same, at_stays, three_stay, three_are, four_was, four_stay, four_go, at_from, centre_at, is_centre_at, at_corner}
 
 -- a leaper that does nothing goes on
 pub goes_on_same : (Rule : Type 0) (l : LeaperView Rule) → IsSoundStore l.nodes → LeaperGrows Rule l l
@@ -62,6 +63,26 @@ nine_centre next old new sound grows r id below k m n j up square few sum shows 
     given (Err e) h = tt
     given (Ok half) h = is_centre_at next old new sound grows id k j m n half square few sum h
 
+-- the rule stays what it was
+pub rule_on : {Rule : Type 0} {old new : LeaperView Rule} {next : List ℕ → ℕ} (next_of : Rule → List ℕ → ℕ) → next ≡ next_of old.rule → LeaperGrows Rule old new → next ≡ next_of new.rule
+rule_on next_of e on = e ∙ sym (ap next_of on.rule)
+
+-- three squares that were made one after another are there
+pub trio_are : {s0 s1 s2 s3 : List Node} → Grows s0 s1 → Grows s1 s2 → Grows s2 s3 → (k : ℕ) (three : Trio) → IsOf s1 three.west k → IsOf s2 three.middle k → IsOf s3 three.east k → AreThree s3 k three
+trio_are f g h k three west middle east = record {
+  west = of_stays _ _ f.sound (grows_on _ _ _ g h) three.west k west;
+  middle = of_stays _ _ g.sound h three.middle k middle;
+  east = east;
+}
+
+-- and nine, row by row
+pub nine_are : {s0 s1 s2 s3 : List Node} → Grows s0 s1 → Grows s1 s2 → Grows s2 s3 → (k : ℕ) (rows : Rows) → AreThree s1 k rows.north → AreThree s2 k rows.middle → AreThree s3 k rows.south → AreNine s3 k rows
+nine_are f g h k rows north middle south = record {
+  north = three_are _ _ f.sound (grows_on _ _ _ g h) k rows.north north;
+  middle = three_are _ _ g.sound h k rows.middle middle;
+  south = south;
+}
+
 module _ (nodes : List Node) (level : ℕ) where
   -- three squares from a place by another name
   pub three_from : (three : Trio) (p : ℤ → ℤ → ℕ) (a b c d : ℤ) → a ≡ c → b ≡ d → ThreeShow nodes level three p a b → ThreeShow nodes level three p c d
@@ -98,42 +119,42 @@ module _ (k : ℕ) where
       omega (arith, ints, up)
 
   -- centres of two squares that lie side by side and overlap by half
-  pub pair_at : (mid new : List Node) → IsSoundStore mid → Grows mid new → (west east : ℕ) (p : ℤ → ℤ → ℕ) (a b c : ℤ) → ShowsAt mid west (suc k) p (a +ℤ side k) c → ShowsAt new east (suc k) p ((a +ℤ side (suc k)) +ℤ side k) c
+  pub pair_at : {old mid new : List Node} → Grows old mid → Grows mid new → (west east : ℕ) (p : ℤ → ℤ → ℕ) (a b c : ℤ) → ShowsAt mid west (suc k) p (a +ℤ side k) c → ShowsAt new east (suc k) p ((a +ℤ side (suc k)) +ℤ side k) c
       → TwoShow new (suc k) west east p (a +ℤ side k) c
-  pair_at mid new sound grows west east p a b c w e = record {
-    at_west = at_stays mid new sound grows west (suc k) p (a +ℤ side k) c w;
-    at_east = at_from new east (suc k) p ((a +ℤ side (suc k)) +ℤ side k) c ((a +ℤ side k) +ℤ side (suc k)) c (side_turn a) refl e;
+  pair_at f g west east p a b c w e = record {
+    at_west = at_stays _ _ f.sound g west (suc k) p (a +ℤ side k) c w;
+    at_east = at_from _ east (suc k) p ((a +ℤ side (suc k)) +ℤ side k) c ((a +ℤ side k) +ℤ side (suc k)) c (side_turn a) refl e;
   }
 
   -- and of three
-  pub trio_at : (s2 s3 s4 : List Node) → IsSoundStore s2 → IsSoundStore s3 → Grows s2 s3 → Grows s3 s4 → (three : Trio) (p : ℤ → ℤ → ℕ) (a c : ℤ) → ShowsAt s2 three.west (suc k) p (a +ℤ side k) c
+  pub trio_at : {s1 s2 s3 s4 : List Node} → Grows s1 s2 → Grows s2 s3 → Grows s3 s4 → (three : Trio) (p : ℤ → ℤ → ℕ) (a c : ℤ) → ShowsAt s2 three.west (suc k) p (a +ℤ side k) c
       → ShowsAt s3 three.middle (suc k) p ((a +ℤ side (suc k)) +ℤ side k) c → ShowsAt s4 three.east (suc k) p ((a +ℤ side (suc (suc k))) +ℤ side k) c → ThreeShow s4 (suc k) three p (a +ℤ side k) c
-  trio_at s2 s3 s4 sound2 sound3 g h three p a c w m e = record {
-    at_west = at_stays s2 s4 sound2 (grows_on s2 s3 s4 g h) three.west (suc k) p (a +ℤ side k) c w;
-    at_middle = at_from s4 three.middle (suc k) p ((a +ℤ side (suc k)) +ℤ side k) c ((a +ℤ side k) +ℤ side (suc k)) c (side_turn a) refl (at_stays s3 s4 sound3 h three.middle (suc k) p ((a +ℤ side (suc k)) +ℤ side k) c m);
-    at_east = at_from s4 three.east (suc k) p ((a +ℤ side (suc (suc k))) +ℤ side k) c ((a +ℤ side k) +ℤ side (suc k) +ℤ side (suc k)) c (side_far a) refl e;
+  trio_at f g h three p a c w m e = record {
+    at_west = at_stays _ _ f.sound (grows_on _ _ _ g h) three.west (suc k) p (a +ℤ side k) c w;
+    at_middle = at_from _ three.middle (suc k) p ((a +ℤ side (suc k)) +ℤ side k) c ((a +ℤ side k) +ℤ side (suc k)) c (side_turn a) refl (at_stays _ _ g.sound h three.middle (suc k) p ((a +ℤ side (suc k)) +ℤ side k) c m);
+    at_east = at_from _ three.east (suc k) p ((a +ℤ side (suc (suc k))) +ℤ side k) c ((a +ℤ side k) +ℤ side (suc k) +ℤ side (suc k)) c (side_far a) refl e;
   }
 
   -- and of nine
-  pub nine_at : (s1 s4 s5 : List Node) → IsSoundStore s1 → IsSoundStore s4 → Grows s1 s4 → Grows s4 s5 → (rows : Rows) (p : ℤ → ℤ → ℕ) (c b : ℤ) → ThreeShow s1 (suc k) rows.north p c (b +ℤ side k)
+  pub nine_at : {s0 s1 s4 s5 : List Node} → Grows s0 s1 → Grows s1 s4 → Grows s4 s5 → (rows : Rows) (p : ℤ → ℤ → ℕ) (c b : ℤ) → ThreeShow s1 (suc k) rows.north p c (b +ℤ side k)
       → ThreeShow s4 (suc k) rows.middle p c ((b +ℤ side (suc k)) +ℤ side k) → ThreeShow s5 (suc k) rows.south p c ((b +ℤ side (suc (suc k))) +ℤ side k) → NineShow s5 (suc k) rows p c (b +ℤ side k)
-  nine_at s1 s4 s5 sound1 sound4 g h rows p c b n m s = record {
-    at_north = three_stay s1 s5 sound1 (grows_on s1 s4 s5 g h) (suc k) rows.north p c (b +ℤ side k) n;
-    at_middle = three_from s5 (suc k) rows.middle p c ((b +ℤ side (suc k)) +ℤ side k) c ((b +ℤ side k) +ℤ side (suc k)) refl (side_turn b) (three_stay s4 s5 sound4 h (suc k) rows.middle p c ((b +ℤ side (suc k)) +ℤ side k) m);
-    at_south = three_from s5 (suc k) rows.south p c ((b +ℤ side (suc (suc k))) +ℤ side k) c ((b +ℤ side k) +ℤ side (suc k) +ℤ side (suc k)) refl (side_far b) s;
+  nine_at f g h rows p c b n m s = record {
+    at_north = three_stay _ _ f.sound (grows_on _ _ _ g h) (suc k) rows.north p c (b +ℤ side k) n;
+    at_middle = three_from _ (suc k) rows.middle p c ((b +ℤ side (suc k)) +ℤ side k) c ((b +ℤ side k) +ℤ side (suc k)) refl (side_turn b) (three_stay _ _ g.sound h (suc k) rows.middle p c ((b +ℤ side (suc k)) +ℤ side k) m);
+    at_south = three_from _ (suc k) rows.south p c ((b +ℤ side (suc (suc k))) +ℤ side k) c ((b +ℤ side k) +ℤ side (suc k) +ℤ side (suc k)) refl (side_far b) s;
   }
 
   -- the four centres lie together
-  pub four_at : (s2 s3 : List Node) → IsSoundStore s2 → Grows s2 s3 → (nw ne sw se : ℕ) (p : ℤ → ℤ → ℕ) (a b : ℤ) → TwoShow s2 (suc k) nw ne p ((a +ℤ side k) +ℤ side k) ((b +ℤ side k) +ℤ side k)
+  pub four_at : {s1 s2 s3 : List Node} → Grows s1 s2 → Grows s2 s3 → (nw ne sw se : ℕ) (p : ℤ → ℤ → ℕ) (a b : ℤ) → TwoShow s2 (suc k) nw ne p ((a +ℤ side k) +ℤ side k) ((b +ℤ side k) +ℤ side k)
       → TwoShow s3 (suc k) sw se p ((a +ℤ side k) +ℤ side k) (((b +ℤ side k) +ℤ side (suc k)) +ℤ side k) → FourShow s3 (suc k) nw ne sw se p (a +ℤ side (suc k)) (b +ℤ side (suc k))
-  four_at s2 s3 sound grows nw ne sw se p a b n s =
+  four_at f g nw ne sw se p a b n s =
       let x = side_twice a in
       let y = side_twice b in
       let z = side_last b in
       let xx = ap (λ i. i +ℤ side (suc k)) x in
       record {
-        at_nw = at_from s3 nw (suc k) p _ _ _ _ x y (at_stays s2 s3 sound grows nw (suc k) p _ _ n.at_west);
-        at_ne = at_from s3 ne (suc k) p _ _ _ _ xx y (at_stays s2 s3 sound grows ne (suc k) p _ _ n.at_east);
-        at_sw = at_from s3 sw (suc k) p _ _ _ _ x z s.at_west;
-        at_se = at_from s3 se (suc k) p _ _ _ _ xx z s.at_east;
+        at_nw = at_from _ nw (suc k) p _ _ _ _ x y (at_stays _ _ f.sound g nw (suc k) p _ _ n.at_west);
+        at_ne = at_from _ ne (suc k) p _ _ _ _ xx y (at_stays _ _ f.sound g ne (suc k) p _ _ n.at_east);
+        at_sw = at_from _ sw (suc k) p _ _ _ _ x z s.at_west;
+        at_se = at_from _ se (suc k) p _ _ _ _ xx z s.at_east;
       }

@@ -1,4 +1,5 @@
-//! Planes of two states as bricks of 64 by 16 cells, which are stepped one generation at a time. Those that rest sleep.
+//! Planes of two states as bricks of 64 by 16 cells, which are stepped one generation at a time. Those that
+//! rest sleep.
 
 mod cut;
 mod frame;

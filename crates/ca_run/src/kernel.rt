@@ -10,8 +10,9 @@ ghost use Rattle.ca_quad.specs.Trees.{row_cells};
 ghost use Rattle.ca_run.specs.Lanes.{tile_cell, IsWithinEdge, IsNextTile};
 ghost use Rattle.ca_run.specs.inner.Tiles.{lives_next, next_by_count, number};
 
+use crate::count::Count;
 pub(crate) use bits::Bits;
-use count::Count;
+use count::neighbours;
 use std::simd::prelude::*;
 
 // All cells but those on the edge.
@@ -20,8 +21,8 @@ const INNER: [u16; 16] = [
     0x7ffe, 0x7ffe, 0x7ffe, 0,
 ];
 
-// The mask of all numbers of live cells but 2 and 3.
-const FEW_OR_MANY: u16 = 0b1_1111_0011;
+/// The mask of all numbers of live cells but 2 and 3.
+pub(crate) const FEW_OR_MANY: u16 = 0b1_1111_0011;
 
 /// The next generation of a tile, under the rule that goes by these masks (`Automaton::masks`). Bit x of a
 /// row is its cell at x. The cells on the edge have neighbours outside the tile, so they are 0 in the result.
@@ -40,12 +41,12 @@ pub fn kernel16(rows: &[u16; 16], birth: u16, survive: u16) -> [u16; 16]
 pub(crate) fn next_tile(alive: Bits, birth: u16, survive: u16) -> Bits
     ensures { IsNextTile birth survive alive.rows result.rows }
 {
-    next_bits(alive, Count::neighbours(alive), birth, survive)
+    next_bits(alive, neighbours(alive), birth, survive)
 }
 
 // The next state of each cell, from the number of live cells round it.
 #[inline(always)]
-fn next_bits(alive: Bits, count: Count, birth: u16, survive: u16) -> Bits
+fn next_bits(alive: Bits, count: Count<Bits>, birth: u16, survive: u16) -> Bits
     ensures { (x y : ℕ) → x < 16 → y < 16 → number count x y ≤ 8
         → row_cells result.rows x y
         ≡ next_by_count birth survive (row_cells alive.rows x y) (number count x y) }

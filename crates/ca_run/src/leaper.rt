@@ -81,7 +81,8 @@ impl<A: Automaton> Model for Leaper<A> {
 }
 
 impl<A: Automaton> Leaper<A> {
-    /// A leaper over the squares of a store, which has worked out nothing yet, and may work out so many results.
+    /// A leaper over the squares of a store, which has worked out nothing yet, and may work out so many
+    /// results.
     pub fn new(
         alloc: Global,
         store: Store,
@@ -119,9 +120,10 @@ impl<A: Automaton> Leaper<A> {
         })
     }
 
-    /// How many results were worked out so far: no more than may be. A result is the centre of a square that isn't
-    /// empty, after some generations, that wasn't remembered; or a brick of a plane that is stepped, one generation on.
-    /// As one result counts what is copied of up to 4096 squares, where a run needed a store of its own.
+    /// How many results were worked out so far: no more than may be. A result is the centre of a square that
+    /// isn't empty, after some generations, that wasn't remembered; or a brick of a plane that is stepped,
+    /// one generation on. As one result counts what is copied of up to 4096 squares, where a run needed a
+    /// store of its own.
     pub fn used(&self) -> u64
         ensures value { result ≡ self.now.spent.used }
         ensures most { result ≤ self.now.spent.limit }
@@ -142,8 +144,8 @@ impl<A: Automaton> Leaper<A> {
         self.work.charge(units)
     }
 
-    // The same for one result of a leap, which is given up where there are too many squares, while someone watches, who
-    // hears of it now and then.
+    // The same for one result of a leap, which is given up where there are too many squares, while someone
+    // watches, who hears of it now and then.
     fn charge_watched<W: Watch>(&mut self, watch: &mut W) -> Result<(), LeapFault>
         ensures goes_on { LeaperGrows A self.old self.new }
         ensures same { self.new.nodes ≡ self.old.nodes }

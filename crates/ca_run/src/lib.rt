@@ -2,6 +2,7 @@
 #![tactic(auto)]
 
 mod bricks;
+mod count;
 mod fault;
 mod generations;
 mod kernel;

@@ -7,8 +7,8 @@ pub trait Watch {
     /// The run has reached this many of the generations that were asked for.
     fn reached(&mut self, run: Milestone);
 
-    /// The run goes on: so many units of work were done so far, and so many squares are kept. It is told after each 65536
-    /// results or so.
+    /// The run goes on: so many units of work were done so far, and so many squares are kept. It is told
+    /// after each 65536 results or so.
     fn works(&mut self, used: u64, squares: usize);
 }
 

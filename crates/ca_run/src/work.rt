@@ -42,8 +42,8 @@ impl Work {
         self.used
     }
 
-    /// Counts so many units before they are worked out. Where fewer are left, all are used up, and nothing is to be
-    /// worked out.
+    /// Counts so many units before they are worked out. Where fewer are left, all are used up, and nothing is
+    /// to be worked out.
     pub(crate) fn charge(&mut self, units: u64) -> Result<(), LeapFault>
         ensures counts { OnOk result (self.new.used ≡ self.old.used + units) }
         ensures most { self.new.used ≤ self.old.used + units }

@@ -3,11 +3,13 @@
 ghost use Rattle.std.specs.Prelude.{◌≡◌, ℕ, ◌+◌, ◌∷◌, [], ◌++◌, List, Option, Some, None, not, codes, length};
 ghost use Rattle.std.specs.Prelude.{is_some, OnOk, IfOk, IfErr, MatchOption};
 ghost use Rattle.ca_plane.specs.Bytes.{Every, is_line_end, words_of};
-ghost use Rattle.ca_claims.specs.Text.{ClaimTextLine, Rule, Load, Claims as Claiming, HasGoodNumbers, IsAllowedLine};
+ghost use Rattle.ca_claims.specs.Text.{ClaimTextLine, Rule, Load};
+ghost use Rattle.ca_claims.specs.Text.{Claims as Claiming, HasGoodNumbers, IsAllowedLine};
 ghost use Rattle.ca_claims.specs.Text.{IsClaimText, spoken, asked_by};
 ghost use Rattle.ca_claims.specs.TextFaults.{IsFirstClaimFault};
 ghost use Rattle.ca_claims.specs.declared.claims.words.LineKind.TheVariants as kind;
-ghost use Rattle.ca_claims.specs.inner.Reading.{IsKind, IsClaimReading, SaysNext, HasClaimFault, place_of, claim_of};
+ghost use Rattle.ca_claims.specs.inner.Reading.{IsKind, IsClaimReading, SaysNext};
+ghost use Rattle.ca_claims.specs.inner.Reading.{HasClaimFault, place_of, claim_of};
 ghost use Rattle.ca_claims.specs.inner.Reading.{AreKnownNames, at_places};
 
 use super::Claims;

@@ -29,7 +29,8 @@ pub(super) fn first_death<A: Automaton, O: Observer>(
         (IsSparedBefore (A.next_of leaper.old.rule) cells EmptyPlane case.now.asks.generations)
         (IsFirstDeath (A.next_of leaper.old.rule) cells case.now.asks.generations)) }
     ensures goes_on { LeaperGrows A leaper.old leaper.new }
-    ensures takes { Takes leaper.old.spent.used leaper.new.spent.used (case.now.asks.generations - 1) case.now.subject.pattern.level case.now.asks.generations }
+    ensures takes { Takes leaper.old.spent.used leaper.new.spent.used
+        (case.now.asks.generations - 1) case.now.subject.pattern.level case.now.asks.generations }
     ensures work { EndsAtLimit leaper.new.spent result }
 {
     let m = life_span(leaper, case, observer)?;
@@ -53,7 +54,8 @@ fn life_span<A: Automaton, O: Observer>(
         → IsAfter (A.next_of leaper.old.rule) cells case.now.asks.generations []
         → IfOk result (IsLifeSpan (A.next_of leaper.old.rule) cells) }
     ensures goes_on { LeaperGrows A leaper.old leaper.new }
-    ensures takes { Takes leaper.old.spent.used leaper.new.spent.used (case.now.asks.generations - 1) case.now.subject.pattern.level case.now.asks.generations }
+    ensures takes { Takes leaper.old.spent.used leaper.new.spent.used
+        (case.now.asks.generations - 1) case.now.subject.pattern.level case.now.asks.generations }
     ensures work { EndsAtLimit leaper.new.spent result }
 {
     // Says what holds of every leaper.

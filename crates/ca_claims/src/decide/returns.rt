@@ -38,7 +38,8 @@ pub(super) fn first_return<A: Automaton, O: Observer>(
         (IsSparedBefore (A.next_of leaper.old.rule) cells case.now.asks.barred case.now.asks.generations)
         (IsFirstReturn (A.next_of leaper.old.rule) cells case.now.asks.barred case.now.asks.generations)) }
     ensures goes_on { LeaperGrows A leaper.old leaper.new }
-    ensures takes { Takes leaper.old.spent.used leaper.new.spent.used (case.now.asks.generations - 1) case.now.subject.pattern.level case.now.asks.generations }
+    ensures takes { Takes leaper.old.spent.used leaper.new.spent.used
+        (case.now.asks.generations - 1) case.now.subject.pattern.level case.now.asks.generations }
     ensures work { EndsAtLimit leaper.new.spent result }
 {
     // Says what holds of every leaper.
@@ -133,8 +134,8 @@ fn return_anywhere<A: Automaton>(
     }
 }
 
-// The vector from the corner of a live pattern's least box to that of a tree's, where the tree isn't empty: no
-// other can move the pattern onto the tree.
+// The vector from the corner of a live pattern's least box to that of a tree's, where the tree isn't empty:
+// no other can move the pattern onto the tree.
 fn corner_vector(
     alloc: Global,
     store: &Store,

@@ -50,8 +50,8 @@ pub(crate) fn last_part(patterns: &OneOrTwo<Ruled<'_>>) -> Part
     }
 }
 
-/// Looks whether the cells that a claim moves are few: its pattern's, or those of the other one, which is this
-/// of its patterns.
+/// Looks whether the cells that a claim moves are few: its pattern's, or those of the other one, which is
+/// this of its patterns.
 pub(crate) fn check_count(
     alloc: Global,
     store: &Store,

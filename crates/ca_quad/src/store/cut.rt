@@ -21,8 +21,8 @@ pub(crate) struct Way {
 }
 
 impl Store {
-    // The square as large as each of the four whose corner is so far from theirs as the way's remainders by its side tell,
-    // given some that were cut out on the same way.
+    // The square as large as each of the four whose corner is so far from theirs as the way's remainders by
+    // its side tell, given some that were cut out on the same way.
     pub(super) fn cut_out(
         &mut self,
         four: Neighbours,

@@ -9,8 +9,8 @@ use super::cut::Way;
 use crate::neighbours::Neighbours;
 
 impl Store {
-    // The cells of the square that is cut out of four so far from their corner. It is told where the squares have level 3
-    // and no cell has a state above 1.
+    // The cells of the square that is cut out of four so far from their corner. It is told where the squares
+    // have level 3 and no cell has a state above 1.
     pub(super) fn cut_word(&self, level: u8, four: Neighbours, place: Way) -> Option<u64>
         requires four { AreNeighbours self.now level four }
         requires x { place.x < 2 ^ level }

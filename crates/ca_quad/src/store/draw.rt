@@ -6,7 +6,8 @@ ghost use Rattle.ca_quad.specs.Trees.{IsIn, IsTree, cell};
 ghost use Rattle.ca_quad.specs.Expanded.{FitsPlane};
 ghost use Rattle.ca_plane.specs.Plane.{cell as plane_cell};
 ghost use Rattle.ca_plane.specs.Sparse.{IsSparse};
-ghost use Rattle.ca_quad.specs.inner.Drawn.{placed, CanDraw, Agrees, IsLiveAt, IsReadyToDraw, AreReady, placed_cells};
+ghost use Rattle.ca_quad.specs.inner.Drawn.{placed, CanDraw, Agrees, IsLiveAt};
+ghost use Rattle.ca_quad.specs.inner.Drawn.{IsReadyToDraw, AreReady, placed_cells};
 ghost use Rattle.ca_quad.specs.inner.Drawn.{IsLiveIn, IsLiveInRow, Paints, IsAdded, ArePushed, AreHalves};
 
 use super::Store;

@@ -60,7 +60,8 @@ impl Store {
     ) -> Result<Id, Memory>
         requires empty { IsEmptyOf self.old 6 level empty }
         requires near { LiesNear (2 ^ level) at }
-        ensures shows { IfOk result (λ id. ShowsFrom self.new id level (counted (bit_cell words.items) at) 0 0) }
+        ensures shows { IfOk result (λ id. ShowsFrom self.new id level
+            (counted (bit_cell words.items) at) 0 0) }
         ensures grows { Grows self.old self.new }
     {
         let _ = &self.nodes;

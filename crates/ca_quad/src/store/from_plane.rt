@@ -61,7 +61,8 @@ impl Store {
     ) -> Result<Id, Memory>
         requires empty { IsEmptyOf self.old 4 level empty }
         requires rows { AreRowsOf level cells.now rows.now at }
-        ensures shows { IfOk result (λ id. ShowsFrom self.new id level (counted (plane_cell cells.now) at) 0 0) }
+        ensures shows { IfOk result (λ id. ShowsFrom self.new id level
+            (counted (plane_cell cells.now) at) 0 0) }
         ensures grows { Grows self.old self.new }
     {
         let _ = &self.nodes;

@@ -44,8 +44,8 @@ impl Store {
         })
     }
 
-    /// Keeps the squares that came first, so many of them, and gives the memory of the others back. The id of one that is
-    /// gone names none from then on, or one that comes later.
+    /// Keeps the squares that came first, so many of them, and gives the memory of the others back. The id of
+    /// one that is gone names none from then on, or one that comes later.
     pub fn keep_first(&mut self, count: usize)
         ensures { self.new ≡ take count self.old }
     {

@@ -1,8 +1,9 @@
 //! The one walk over a square that looks at each square in it once.
 
-ghost use Rattle.std.specs.Prelude.{ℕ, ◌≤◌, ◌^◌, List, IfSome, IfOk, OnOk};
+ghost use Rattle.std.specs.Prelude.{◌≡◌, ℕ, ◌≤◌, ◌^◌, List, IfSome, IfOk, OnOk};
 ghost use Rattle.ca_quad.specs.declared.node.Node.{Node as Kept};
-ghost use Rattle.ca_quad.specs.Squares.{dot};
+ghost use Rattle.ca_quad.specs.declared.square.Square.TheVariants.{Four};
+ghost use Rattle.ca_quad.specs.Squares.{dot, square_of};
 ghost use Rattle.ca_quad.specs.Sound.{IsSoundStore};
 ghost use Rattle.ca_quad.specs.Trees.{IsIn};
 ghost use Rattle.ca_quad.specs.inner.Measure.{IsJoined, IsMeasureOf, AreMeasures};
@@ -52,13 +53,7 @@ impl Store {
             return Ok(measure);
         }
         match self.square(id) {
-            Square::Four(nw, ne, sw, se) => Ok(M::of_four(
-                1,
-                M::of_cell(nw),
-                M::of_cell(ne),
-                M::of_cell(sw),
-                M::of_cell(se),
-            )),
+            Square::Four(nw, ne, sw, se) => Ok(measure_of_cells(nw, ne, sw, se)),
             Square::Parts(level, nw, ne, sw, se) => {
                 if let Some(measure) = measures.get(id) {
                     return Ok(measure);
@@ -82,4 +77,18 @@ impl Store {
         let cells = self.number(id)?;
         M::of_number(cells)
     }
+}
+
+// What is found out of a square of four cells.
+fn measure_of_cells<M: Measure>(nw: u8, ne: u8, sw: u8, se: u8) -> M
+    ensures { (nodes : List Kept) (id : ℕ) → Four nw ne sw se ≡ square_of nodes id
+        → IsMeasureOf M.is nodes id result }
+{
+    M::of_four(
+        1,
+        M::of_cell(nw),
+        M::of_cell(ne),
+        M::of_cell(sw),
+        M::of_cell(se),
+    )
 }

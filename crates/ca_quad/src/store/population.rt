@@ -29,8 +29,9 @@ impl Store {
         self.live_cells(alloc, tree.root)
     }
 
-    /// How many squares of a tree are looked at to count its live cells: those of 16 by 16 cells and more, and those
-    /// of 4 by 4 and 8 by 8 that have cells of more states. It tells how alike the squares are, and no contract says it.
+    /// How many squares of a tree are looked at to count its live cells: those of 16 by 16 cells and more,
+    /// and those of 4 by 4 and 8 by 8 that have cells of more states. It tells how alike the squares are, and
+    /// no contract says it.
     ///
     /// # Errors
     ///

@@ -1,14 +1,13 @@
 //! What squares hold.
 
-ghost use Rattle.std.specs.Prelude.{◌≡◌, ℕ, suc, ◌+◌, ◌-◌, ◌<◌, ◌≤◌, ◌^◌, ◌↔◌, ◌⊎◌, pos, ◌+ℤ◌, ◌<ℤ◌, ◌≤ℤ◌};
-ghost use Rattle.std.specs.Prelude.{IsTrue, IfSome, IfNone};
+ghost use Rattle.std.specs.Prelude.{◌≡◌, ℕ, suc, ◌-◌, ◌<◌, ◌≤◌, ◌^◌, ◌↔◌, pos, ◌+ℤ◌, IsTrue};
 ghost use Rattle.ca_quad.specs.Squares.{level_of, square_of, IsOf, dot, together, cell_of};
 ghost use Rattle.ca_quad.specs.Trees.{IsIn, IsEmpty, IsTree, AreCorners, AreQuarters, corners, parts, cell};
 
 use super::Store;
 use crate::id::Id;
 use crate::square::Square;
-use crate::tree::{Spot, Tree};
+use crate::tree::{Spot, Tree, edge_distance};
 
 impl Store {
     /// The level of a square: it has 2^level cells a side.
@@ -72,10 +71,10 @@ impl Store {
         ensures { result ≡ cell self.now tree at.x at.y }
     {
         let half = half_side(self.level(tree.root));
-        let Some(x) = from_edge(half, at.x) else {
+        let Some(x) = edge_distance(half, at.x) else {
             return 0;
         };
-        let Some(y) = from_edge(half, at.y) else {
+        let Some(y) = edge_distance(half, at.y) else {
             return 0;
         };
         self.cell_in(tree.root, x, y)
@@ -115,22 +114,6 @@ pub(crate) fn half_side(level: u8) -> u128
     ensures low { result ≤ 2 ^ 124 }
 {
     1 << (level - 1)
-}
-
-// The way of a place from the edge of a tree, where it lies in the tree.
-fn from_edge(half: u128, at: i128) -> Option<u128>
-    requires { half ≤ 2 ^ 124 }
-    ensures inside { IfSome result (λ n. (at +ℤ pos half ≡ pos n) × (n < half + half)) }
-    ensures outside { IfNone result (((at +ℤ pos half) <ℤ pos 0) ⊎ (pos (half + half) ≤ℤ (at +ℤ pos half))) }
-{
-    let half = half as i128;
-    if at < -half {
-        return None;
-    }
-    if at >= half {
-        return None;
-    }
-    Some((at + half) as u128)
 }
 
 // The place that lies this way from the edge of a tree.

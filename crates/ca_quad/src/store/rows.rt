@@ -4,7 +4,8 @@ ghost use Rattle.std.specs.Prelude.{◌≡◌, ℕ, ◌+◌, ◌-◌, ◌<◌, �
 ghost use Rattle.std.specs.Prelude.{IfOk, OnOk};
 ghost use Rattle.ca_plane.specs.Plane.{Picture};
 ghost use Rattle.ca_plane.specs.Sparse.{IsSparse};
-ghost use Rattle.ca_quad.specs.inner.Rows.{point_at, ComesBefore, IsInRow, IsPictureRow, AreRows, Hold, IsPartOfRows};
+ghost use Rattle.ca_quad.specs.inner.Rows.{point_at, ComesBefore, IsInRow};
+ghost use Rattle.ca_quad.specs.inner.Rows.{IsPictureRow, AreRows, Hold, IsPartOfRows};
 ghost use Rattle.ca_quad.specs.inner.Rows.{AreParts, IsWest, IsEast, IsNorth, IsSouth};
 
 use super::quarters::Quarters;

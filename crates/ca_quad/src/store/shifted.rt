@@ -1,6 +1,7 @@
 //! Trees that are moved.
 
-ghost use Rattle.std.specs.Prelude.{◌≡◌, ℕ, ◌+◌, ◌≤◌, ◌^◌, ℤ, pos, ◌-ℤ◌, ◌≤ℤ◌, IsTrue, IsFalse, IfOk, IfErr, OnOk};
+ghost use Rattle.std.specs.Prelude.{◌≡◌, ℕ, ◌+◌, ◌≤◌, ◌^◌, ℤ, pos, ◌-ℤ◌, ◌≤ℤ◌};
+ghost use Rattle.std.specs.Prelude.{IsTrue, IsFalse, IfOk, IfErr, OnOk};
 ghost use Rattle.ca_quad.specs.Sound.{Grows};
 ghost use Rattle.ca_quad.specs.Trees.{IsTree, cell};
 ghost use Rattle.ca_quad.specs.Trimmed.{IsTrimmed};
@@ -29,8 +30,9 @@ impl Store {
     ///
     /// # Errors
     ///
-    /// `Range` where a live cell would leave the square in which a plane keeps its cells, that is, from -2^62 to 2^62 in
-    /// both directions, and `Memory` where a growth is refused. The store may then have more squares than before.
+    /// `Range` where a live cell would leave the square in which a plane keeps its cells, that is, from -2^62
+    /// to 2^62 in both directions, and `Memory` where a growth is refused. The store may then have more
+    /// squares than before.
     pub fn shifted(&mut self, tree: Tree, dx: i64, dy: i64) -> Result<Tree, MoveFault>
         requires { IsTree self.old tree }
         ensures tree { IfOk result (IsTree self.new) }
@@ -71,7 +73,8 @@ impl Store {
         Ok(())
     }
 
-    // The tree of at least two levels more with the same cells, an eighth of whose side is no less than the way.
+    // The tree of at least two levels more with the same cells, an eighth of whose side is no less than the
+    // way.
     fn with_room(&mut self, tree: Tree, way: u128) -> Result<Tree, Memory>
         requires tree { IsTree self.old tree }
         requires least { 1 ≤ tree.level }

@@ -5,7 +5,8 @@ ghost use Rattle.std.specs.Prelude.{◌≡◌, ◌↔◌, ◌<◌, ℕ, List, []
 ghost use Rattle.std.specs.List.{All};
 ghost use Rattle.ca_rule.specs.Counts.{counts_of};
 ghost use Rattle.ca_rule.specs.Generations.{generations_next};
-ghost use Rattle.ca_rule.specs.GenerationsText.{SpellsGenerationsRule, NamesGenerationsRule, IsGenerationsRuleFault, printed_generations_rule};
+ghost use Rattle.ca_rule.specs.GenerationsText.{SpellsGenerationsRule, NamesGenerationsRule};
+ghost use Rattle.ca_rule.specs.GenerationsText.{IsGenerationsRuleFault, printed_generations_rule};
 ghost use Rattle.ca_rule.specs.Next as bs;
 ghost use Rattle.ca_rule.specs.OneMeaning.{HasAtMostOne, NeverHasBoth};
 ghost use Rattle.ca_rule.specs.Rule.{Gen, IsSameRule, next_of, printed_form};

@@ -11,7 +11,8 @@ ghost use Rattle.ca_rule.specs.declared.table.fault.TableFault.TheVariants.{NoRu
 ghost use Rattle.ca_rule.specs.declared.table.fault.TableFault.TheVariants.{Neighborhood, Symmetries};
 ghost use Rattle.ca_rule.specs.TableNext.{TableRule};
 ghost use Rattle.ca_rule.specs.TableExamples.{text_of, file_with, file_of, digits, digit_lists, table_cells};
-ghost use Rattle.ca_rule.specs.TableExamples.{HasOrders, unturned_cells, cells_by_one, cells_by_two, cells_south};
+ghost use Rattle.ca_rule.specs.TableExamples.{HasOrders, unturned_cells};
+ghost use Rattle.ca_rule.specs.TableExamples.{cells_by_one, cells_by_two, cells_south};
 ghost use Rattle.ca_rule.specs.TableExamples.{one_neighbour, like_neighbours, north_of_one};
 ghost use Rattle.ca_rule.specs.TableExamples.{second_of_eight, second_of_six, second_of_two};
 ghost use Rattle.ca_rule.specs.declared.table.neighbourhood.Neighbourhood.TheVariants.{VonNeumann, Moore};
@@ -39,7 +40,8 @@ pub fn worked_orders()
     ensures eight_by_quarters { HasOrders Moore Rotate4 (codes "01234567 23456701 45670123 67012345") }
     ensures eight_by_quarters_and_mirrored { HasOrders Moore Rotate4Reflect
         (codes "01234567 07654321 21076543 23456701 43210765 45670123 65432107 67012345") }
-    ensures eight_with_east_and_west_exchanged { HasOrders Moore ReflectHorizontal (codes "01234567 07654321") }
+    ensures eight_with_east_and_west_exchanged { HasOrders Moore ReflectHorizontal
+        (codes "01234567 07654321") }
     ensures eight_by_eighths { HasOrders Moore Rotate8
         (codes "01234567 12345670 23456701 34567012 45670123 56701234 67012345 70123456") }
     ensures eight_by_eighths_and_mirrored { orders Moore Rotate8Reflect ≡
@@ -79,7 +81,8 @@ pub fn worked_transitions()
     ensures variable_has_one_cell { table_cells VonNeumann Permute (like_neighbours ∷ [])
         (codes "000102000 000202000") ≡ digits (codes "02") }
     ensures first_line_decides { cells_south (one_neighbour ∷ north_of_one ∷ []) ≡ digits (codes "12") }
-    ensures first_line_that_fits_decides { cells_south (north_of_one ∷ one_neighbour ∷ []) ≡ digits (codes "22") }
+    ensures first_line_that_fits_decides { cells_south (north_of_one ∷ one_neighbour ∷ [])
+        ≡ digits (codes "22") }
 
     ensures second_of_eight_is_north_east { unturned_cells Moore second_of_eight
         (codes "001000000") ≡ digits (codes "1") }

@@ -4,7 +4,8 @@ ghost use Rattle.std.specs.Prelude.{◌≡◌, ◌&&◌, ℕ, [], List, true, is
 ghost use Rattle.ca_rule.specs.inner.TableReading.{said_text, left_of};
 ghost use Rattle.ca_rule.specs.inner.TableSettings.{IsBehindSettings, IsBehindMeant, meaning_of};
 ghost use Rattle.ca_rule.specs.Digits.{state_count};
-ghost use Rattle.ca_rule.specs.TableLines.{NumberedLine, neighbourhood_name, neighbourhood_named, symmetry_name};
+ghost use Rattle.ca_rule.specs.TableLines.{NumberedLine, neighbourhood_name};
+ghost use Rattle.ca_rule.specs.TableLines.{neighbourhood_named, symmetry_name};
 ghost use Rattle.ca_rule.specs.TableLines.{symmetry_named};
 ghost use Rattle.ca_rule.specs.TableOrders.{symmetries_of};
 ghost use Rattle.ca_rule.specs.TableText.{HasTable, Mean, are_settings};

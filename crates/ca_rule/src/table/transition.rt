@@ -1,11 +1,13 @@
 //! Transitions of rule tables.
 
-ghost use Rattle.std.specs.Prelude.{◌≡◌, ◌<◌, ◌==◌, ◌||◌, ◌%◌, ℕ, [], ◌∷◌, true, false, not, length, map, zip, slice_index};
+ghost use Rattle.std.specs.Prelude.{◌≡◌, ◌<◌, ◌==◌, ◌||◌, ◌%◌, ℕ, [], ◌∷◌, true};
+ghost use Rattle.std.specs.Prelude.{false, not, length, map, zip, slice_index};
 ghost use Rattle.std.specs.Prelude.{IfSome, MatchOption};
 ghost use Rattle.std.specs.Int.{bit_at};
 ghost use Rattle.std.specs.List.{list_all, list_any};
 ghost use Rattle.ca_rule.specs.inner.TableDistinct.{are_distinct};
-ghost use Rattle.ca_rule.specs.TableNext.{Taken, is_variable, admits, take_one_cell, taken_cell, fits, result_state};
+ghost use Rattle.ca_rule.specs.TableNext.{Taken, is_variable, admits};
+ghost use Rattle.ca_rule.specs.TableNext.{take_one_cell, taken_cell, fits, result_state};
 
 use crate::table::choice::{Choice, cell_at};
 use crate::table::crowd::has_crowd;

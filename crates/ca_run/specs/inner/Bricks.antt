@@ -6,7 +6,7 @@ use Rattle.ca_plane.specs.Generations.{cells_after}
 use Rattle.ca_quad.specs.Trees.{row_cells}
 use Rattle.ca_run.specs.declared.bricks.round.Round.{Round}
 use Rattle.ca_run.specs.declared.bricks.wall.Wall.{Wall}
-use Rattle.ca_run.specs.declared.bricks.word.WordCount.{WordCount}
+use Rattle.ca_run.specs.declared.count.Count.{Count}
 use Rattle.ca_run.specs.declared.bricks.word.WordMasks.{WordMasks}
 use Rattle.ca_run.specs.declared.bricks.word.WordPair.{WordPair}
 use Rattle.ca_run.specs.declared.bricks.wall.WordPlace.{WordPlace}
@@ -120,7 +120,7 @@ sum_round at x y = sum_of_three at x y + sum_of_two at x (suc y) + sum_of_three 
 abbrev pub pair_at : WordPair → ℕ → ℕ
 pair_at n x = bit_at n.ones x + 2 * bit_at n.twos x
 
-abbrev pub count_at : WordCount → ℕ → ℕ
+abbrev pub count_at : Count ℕ → ℕ → ℕ
 count_at n x = bit_at n.ones x + 2 * bit_at n.twos x + 4 * bit_at n.fours x + 8 * bit_at n.eights x
 
 -- the cells of three columns of words, where (1, 1) is the first cell of the brick in the middle

@@ -47,8 +47,8 @@ impl Span {
     }
 }
 
-// The pieces of a side of a box, with a margin of so many cells and a piece beyond it at both ends: none, where they are too
-// many. Places are counted from the first piece of all.
+// The pieces of a side of a box, with a margin of so many cells and a piece beyond it at both ends: none,
+// where they are too many. Places are counted from the first piece of all.
 fn span_of(low: usize, high: usize, margin: usize) -> Option<Span>
     requires least { 2 ^ 61 ≤ low }
     requires order { low ≤ high }
@@ -70,8 +70,8 @@ fn span_of(low: usize, high: usize, margin: usize) -> Option<Span>
     })
 }
 
-/// Where the bricks of a box lie, with a margin of so many cells and a ring of bricks round it: nowhere, where they are
-/// too many.
+/// Where the bricks of a box lie, with a margin of so many cells and a ring of bricks round it: nowhere,
+/// where they are too many.
 pub(crate) fn frame_of(bounds: WideBounds, margin: usize) -> Option<Frame>
     requires near { IsNearBox bounds }
     requires margin { margin ≤ 2 ^ 60 }

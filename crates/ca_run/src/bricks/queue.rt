@@ -67,8 +67,8 @@ impl Queue {
         Ok(())
     }
 
-    // Gives its list away for another, and is empty then. The mark rises; where it can't, all marks are thrown away,
-    // and bricks may then stand in the list twice.
+    // Gives its list away for another, and is empty then. The mark rises; where it can't, all marks are
+    // thrown away, and bricks may then stand in the list twice.
     pub(super) fn take(&mut self, list: &mut Vec<usize>)
         ensures list { list.new.items ≡ self.old }
         ensures empty { self.new ≡ [] }

@@ -4,10 +4,10 @@ ghost use Rattle.std.specs.Prelude.{◌≡◌, ◌<◌, ℕ, suc};
 ghost use Rattle.ca_quad.specs.Trees.{row_cells};
 ghost use Rattle.ca_run.specs.inner.Bricks.{round_cells, sum_of_three, sum_of_two, pair_at, next_at};
 
-use super::word::{NextCells, WordCount, WordSums};
+use super::word::{NextCells, WordSums, neighbours};
 
-// Three columns of 18 words: in the middle the rows of a brick with the one above them and the one below, and beside
-// them those of the bricks in the west and in the east.
+// Three columns of 18 words: in the middle the rows of a brick with the one above them and the one below, and
+// beside them those of the bricks in the west and in the east.
 #[derive(Clone, Copy)]
 pub(super) struct Round {
     pub(super) west: [u64; 18],
@@ -27,7 +27,7 @@ impl Round {
         let mut here = self.sums(1);
         'rows: for y in 0..16 {
             let below = self.sums(y + 2);
-            let count = WordCount::neighbours(above, here, below);
+            let count = neighbours(above, here, below);
             next[y] = cells.next_word(self.here[y + 1], count);
             above = here;
             here = below;

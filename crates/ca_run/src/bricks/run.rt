@@ -1,10 +1,12 @@
 //! Generations of a wall.
 
-ghost use Rattle.std.specs.Prelude.{◌≡◌, ℕ, ◌+◌, ◌*◌, ◌<◌, ◌≤◌, ◌^◌, List, [], length, if◌then◌else◌, OnOk, IfOk};
+ghost use Rattle.std.specs.Prelude.{◌≡◌, ℕ, ◌+◌, ◌*◌, ◌<◌, ◌≤◌, ◌^◌, List, []};
+ghost use Rattle.std.specs.Prelude.{length, if◌then◌else◌, OnOk, IfOk};
 ghost use Rattle.ca_plane.specs.Generations.{cells_after};
 ghost use Rattle.ca_quad.specs.Trees.{cell};
 ghost use Rattle.ca_run.specs.Spent.{Spends, EndsAtLimit};
-ghost use Rattle.ca_run.specs.inner.Bricks.{WallShows, HasNeighbours, IsNotIn, AllHaveNeighbours, CanGoOn, IsInPlace, HasBlankEdge};
+ghost use Rattle.ca_run.specs.inner.Bricks.{WallShows, HasNeighbours, IsNotIn};
+ghost use Rattle.ca_run.specs.inner.Bricks.{AllHaveNeighbours, CanGoOn, IsInPlace, HasBlankEdge};
 
 use super::queue::Queue;
 use super::step::generation;
@@ -38,8 +40,8 @@ fn blank_bricks(alloc: Global, count: usize) -> Result<Vec<[u64; 16]>, Memory>
     Ok(vec![in alloc; [0; 16]; count]?)
 }
 
-// Says which bricks are awake next: after the first generation of a run all of them again, since nothing is known of the
-// one before it, and then those of the queue, which is empty afterwards.
+// Says which bricks are awake next: after the first generation of a run all of them again, since nothing is
+// known of the one before it, and then those of the queue, which is empty afterwards.
 fn wake_next(is_first: bool, alloc: Global, queue: &mut Queue, awake: &mut Vec<usize>)
     ensures empty { queue.new ≡ [] }
     ensures awake { awake.new.items ≡ (if is_first then awake.old.items else queue.old) }
@@ -52,8 +54,8 @@ fn wake_next(is_first: bool, alloc: Global, queue: &mut Queue, awake: &mut Vec<u
 }
 
 impl Wall {
-    /// The wall n generations on. The run began with a tree, so many generations before. Each brick that is stepped is
-    /// counted before: no more in a generation than there are.
+    /// The wall n generations on. The run began with a tree, so many generations before. Each brick that is
+    /// stepped is counted before: no more in a generation than there are.
     pub(crate) fn later<A: Automaton, W: Watch>(
         mut self,
         alloc: Global,
@@ -65,7 +67,8 @@ impl Wall {
         work: &mut Work,
         watch: &mut W,
     ) -> Result<Wall, LeapFault>
-        requires begins { CanGoOn (A.next_of leaper.now.rule) masks (cell leaper.now.nodes first.now) reached n self }
+        requires begins { CanGoOn (A.next_of leaper.now.rule) masks
+            (cell leaper.now.nodes first.now) reached n self }
         requires time { reached + n ≤ 2 ^ 60 }
         ensures shows { IfOk result (λ later. WallShows later 0
             (cells_after (A.next_of leaper.now.rule) (cell leaper.now.nodes first.now) (reached + n))) }

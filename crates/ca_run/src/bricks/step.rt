@@ -2,7 +2,9 @@
 
 ghost use Rattle.std.specs.Prelude.{◌≡◌, ◌+◌, ◌<◌, ◌≤◌, ◌^◌, ℕ, [], length, slice_index, get_or, OnOk};
 ghost use Rattle.std.specs.Int.{bit_at};
-ghost use Rattle.ca_run.specs.inner.Bricks.{CanStep, AreStepped, HasNeighbours, AllHaveNeighbours, HasBlankEdge, IsNotIn, IsNextBrick, IsSameRound, IsUnseen, QueueGrows, Rest, column_at, round_at, round_cells};
+ghost use Rattle.ca_run.specs.inner.Bricks.{CanStep, AreStepped, HasNeighbours, AllHaveNeighbours};
+ghost use Rattle.ca_run.specs.inner.Bricks.{HasBlankEdge, IsNotIn, IsNextBrick, IsSameRound, IsUnseen};
+ghost use Rattle.ca_run.specs.inner.Bricks.{QueueGrows, Rest, column_at, round_at, round_cells};
 
 use super::queue::Queue;
 use super::round::Round;

@@ -1,29 +1,20 @@
 //! Words of 64 cells side by side: sums of their bits, and the next state of each cell.
 
-ghost use Rattle.std.specs.Prelude.{◌≡◌, ◌↔◌, ◌+◌, ◌-◌, ◌*◌, ◌<◌, ◌≤◌, ℕ, suc, ⊤, IsTrue, ◌==◌, if◌then◌else◌};
+ghost use Rattle.std.specs.Prelude.{◌≡◌, ◌↔◌, ◌+◌, ◌-◌, ◌*◌, ◌<◌, ◌≤◌, ℕ};
+ghost use Rattle.std.specs.Prelude.{suc, ⊤, IsTrue, ◌==◌, if◌then◌else◌};
 ghost use Rattle.std.specs.Int.{bit_at};
-ghost use Rattle.ca_run.specs.inner.Bricks.{wide_bit, pair_at, count_at, IsWordOfEach, AreWords, HasTwoAndThreeAlone};
+ghost use Rattle.ca_run.specs.inner.Bricks.{wide_bit, pair_at, count_at};
+ghost use Rattle.ca_run.specs.inner.Bricks.{IsWordOfEach, AreWords, HasTwoAndThreeAlone};
 ghost use Rattle.ca_run.specs.inner.Tiles.{next_by_count};
 
-use crate::kernel::is_in;
-
-// The mask of all numbers of live cells but 2 and 3.
-const FEW_OR_MANY: u16 = 0b1_1111_0011;
+use crate::count::Count;
+use crate::kernel::{FEW_OR_MANY, is_in};
 
 // A number for each cell, up to 3, in binary.
 #[derive(Clone, Copy)]
 pub(super) struct WordPair {
     pub(super) ones: u64,
     pub(super) twos: u64,
-}
-
-// A number for each cell, up to 15, in binary.
-#[derive(Clone, Copy)]
-pub(super) struct WordCount {
-    pub(super) ones: u64,
-    pub(super) twos: u64,
-    pub(super) fours: u64,
-    pub(super) eights: u64,
 }
 
 // For each cell the sum of three cells side by side, and that of the two outer ones.
@@ -52,24 +43,22 @@ impl WordSums {
     }
 }
 
-impl WordCount {
-    // The number of live cells among the eight round each cell of the row in the middle of three.
-    #[inline(always)]
-    pub(super) fn neighbours(above: WordSums, here: WordSums, below: WordSums) -> WordCount
-        ensures { (x : ℕ) → count_at result x
-            ≡ pair_at above.three x + pair_at here.two x + pair_at below.three x }
-    {
-        let ones = add3(above.three.ones, here.two.ones, below.three.ones);
-        let outer = add2(above.three.twos, below.three.twos);
-        let inner = add2(here.two.twos, ones.twos);
-        let twos = add2(outer.ones, inner.ones);
-        let fours = add3(outer.twos, inner.twos, twos.twos);
-        WordCount {
-            ones: ones.ones,
-            twos: twos.ones,
-            fours: fours.ones,
-            eights: fours.twos,
-        }
+// The number of live cells among the eight round each cell of the row in the middle of three.
+#[inline(always)]
+pub(super) fn neighbours(above: WordSums, here: WordSums, below: WordSums) -> Count<u64>
+    ensures { (x : ℕ) → count_at result x
+        ≡ pair_at above.three x + pair_at here.two x + pair_at below.three x }
+{
+    let ones = add3(above.three.ones, here.two.ones, below.three.ones);
+    let outer = add2(above.three.twos, below.three.twos);
+    let inner = add2(here.two.twos, ones.twos);
+    let twos = add2(outer.ones, inner.ones);
+    let fours = add3(outer.twos, inner.twos, twos.twos);
+    Count {
+        ones: ones.ones,
+        twos: twos.ones,
+        fours: fours.ones,
+        eights: fours.twos,
     }
 }
 
@@ -137,8 +126,8 @@ fn chosen(which: u64, there: u64, elsewhere: u64) -> u64
     elsewhere ^ which & (there ^ elsewhere)
 }
 
-// For each number of live cells round a cell a word of ones where a dead cell is born then, and one where a live cell
-// stays, else words of zeros.
+// For each number of live cells round a cell a word of ones where a dead cell is born then, and one where a
+// live cell stays, else words of zeros.
 #[derive(Clone, Copy)]
 struct WordMasks {
     born: [u64; 9],
@@ -176,10 +165,10 @@ impl WordMasks {
         chosen(ones, self.next(alive, n + 1), self.next(alive, n))
     }
 
-    // The next states of cells that have so many live cells round them, and as many more as the two lowest digits of
-    // the counts tell.
+    // The next states of cells that have so many live cells round them, and as many more as the two lowest
+    // digits of the counts tell.
     #[inline(always)]
-    fn next_of_four(&self, alive: u64, count: WordCount, n: usize) -> u64
+    fn next_of_four(&self, alive: u64, count: Count<u64>, n: usize) -> u64
         requires { n ≤ 5 }
         ensures { (masks : ℕ × ℕ) (x : ℕ) → AreWords self.now masks → x < 64
             → bit_at result x ≡ next_by_count masks.0 masks.1 (bit_at alive x)
@@ -217,7 +206,7 @@ pub(super) trait NextCells: Copy {
         ensures { goes_by result masks };
 
     // The next state of each cell, from the number of live cells round it.
-    fn next_word(&self, alive: u64, count: WordCount) -> u64
+    fn next_word(&self, alive: u64, count: Count<u64>) -> u64
         ensures { (masks : ℕ × ℕ) (x : ℕ) → goes_by self.now masks → x < 64 → count_at count x ≤ 8
             → bit_at result x ≡ next_by_count masks.0 masks.1 (bit_at alive x) (count_at count x) };
 }
@@ -240,7 +229,7 @@ impl NextCells for ByTwoAndThree {
     }
 
     #[inline(always)]
-    fn next_word(&self, alive: u64, count: WordCount) -> u64 {
+    fn next_word(&self, alive: u64, count: Count<u64>) -> u64 {
         and_not(count.twos, count.fours) & self.words.next_of_two(alive, count.ones, 2)
     }
 }
@@ -263,7 +252,7 @@ impl NextCells for ByAll {
     }
 
     #[inline(always)]
-    fn next_word(&self, alive: u64, count: WordCount) -> u64 {
+    fn next_word(&self, alive: u64, count: Count<u64>) -> u64 {
         let below = self.words.next_of_four(alive, count, 0);
         let above = self.words.next_of_four(alive, count, 4);
         let low = chosen(count.fours, above, below);

@@ -5,37 +5,27 @@ ghost use Rattle.ca_quad.specs.Trees.{row_cells};
 ghost use Rattle.ca_run.specs.inner.Tiles.{number, neighbour_sum};
 
 use super::bits::Bits;
+use crate::count::Count;
 
-// A number for each cell, in binary.
-#[derive(Clone, Copy)]
-pub(super) struct Count {
-    pub(super) ones: Bits,
-    pub(super) twos: Bits,
-    pub(super) fours: Bits,
-    pub(super) eights: Bits,
-}
-
-impl Count {
-    // The number of live cells among the eight round each cell that isn't on the edge.
-    #[inline(always)]
-    pub(super) fn neighbours(alive: Bits) -> Count
-        ensures { (x y : ℕ) → x < 14 → y < 14 → number result (suc x) (suc y) ≡ neighbour_sum alive.rows x y }
-    {
-        let west = alive.west();
-        let east = alive.east();
-        let (sides, two_sides) = add2(west, east);
-        let (row, two_rows) = add3(west, east, alive);
-        let (ones, carried) = add3(row.north(), sides, row.south());
-        let (a, two_a) = add2(two_rows.north(), two_rows.south());
-        let (b, two_b) = add2(two_sides, carried);
-        let (twos, two_c) = add2(a, b);
-        let (fours, eights) = add3(two_a, two_b, two_c);
-        Count {
-            ones,
-            twos,
-            fours,
-            eights,
-        }
+// The number of live cells among the eight round each cell that isn't on the edge.
+#[inline(always)]
+pub(super) fn neighbours(alive: Bits) -> Count<Bits>
+    ensures { (x y : ℕ) → x < 14 → y < 14 → number result (suc x) (suc y) ≡ neighbour_sum alive.rows x y }
+{
+    let west = alive.west();
+    let east = alive.east();
+    let (sides, two_sides) = add2(west, east);
+    let (row, two_rows) = add3(west, east, alive);
+    let (ones, carried) = add3(row.north(), sides, row.south());
+    let (a, two_a) = add2(two_rows.north(), two_rows.south());
+    let (b, two_b) = add2(two_sides, carried);
+    let (twos, two_c) = add2(a, b);
+    let (fours, eights) = add3(two_a, two_b, two_c);
+    Count {
+        ones,
+        twos,
+        fours,
+        eights,
     }
 }
 

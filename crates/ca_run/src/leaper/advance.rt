@@ -24,8 +24,9 @@ impl<A: Automaton> Leaper<A> {
     ///
     /// # Errors
     ///
-    /// `Memory` where there is no memory for more squares or results, and `Work` where as many results were worked
-    /// out as may be. Every tree stays as it was, and later calls go on with what was worked out so far.
+    /// `Memory` where there is no memory for more squares or results, and `Work` where as many results were
+    /// worked out as may be. Every tree stays as it was, and later calls go on with what was worked out so
+    /// far.
     pub fn advance(&mut self, tree: Tree, n: u64) -> Result<Tree, LeapFault>
         requires { CanAdvance self.old.nodes tree n }
         ensures { Advances A (A.next_of self.old.rule) self.old tree n self.new result }
@@ -33,8 +34,8 @@ impl<A: Automaton> Leaper<A> {
         self.advance_watched(tree, n, &mut Unwatched)
     }
 
-    /// The same, while someone watches, who sees after each leap how many generations are reached, and where the plane
-    /// is stepped, after each generation.
+    /// The same, while someone watches, who sees after each leap how many generations are reached, and where
+    /// the plane is stepped, after each generation.
     ///
     /// # Errors
     ///
@@ -53,8 +54,8 @@ impl<A: Automaton> Leaper<A> {
         self.go_on(&tree, reached, n, watch)
     }
 
-    // The tree n generations on, from one that was reached on the way, by leaps. Where a run is long and makes too many
-    // squares, it goes on in a store of its own.
+    // The tree n generations on, from one that was reached on the way, by leaps. Where a run is long and
+    // makes too many squares, it goes on in a store of its own.
     fn go_on<W: Watch>(
         &mut self,
         first: &Tree,
@@ -63,8 +64,10 @@ impl<A: Automaton> Leaper<A> {
         watch: &mut W,
     ) -> Result<Tree, LeapFault>
         requires first { CanAdvance self.old.nodes first.now n }
-        requires reached { HasReached (A.next_of self.old.rule) self.old.nodes first.now n self.old.nodes reached }
-        ensures advanced { IfOk result (IsAdvanced (A.next_of self.old.rule) self.old.nodes first.now n self.new.nodes) }
+        requires reached { HasReached (A.next_of self.old.rule)
+            self.old.nodes first.now n self.old.nodes reached }
+        ensures advanced { IfOk result (IsAdvanced (A.next_of self.old.rule)
+            self.old.nodes first.now n self.new.nodes) }
         ensures none { n ≡ 0 → result ≡ Ok reached.tree }
         ensures goes_on { LeaperGrows A self.old self.new }
         ensures costs { HasLeapt A self.old first.now reached.generations n 61 self.new
@@ -89,8 +92,8 @@ impl<A: Automaton> Leaper<A> {
         }
     }
 
-    // Goes on from what was reached of n generations, by a leap for each binary digit of those that are left. Each tree is
-    // trimmed, so that its level is no more than what n generations may need.
+    // Goes on from what was reached of n generations, by a leap for each binary digit of those that are left.
+    // Each tree is trimmed, so that its level is no more than what n generations may need.
     fn leap_on<W: Watch>(
         &mut self,
         first: &Tree,
@@ -99,8 +102,10 @@ impl<A: Automaton> Leaper<A> {
         watch: &mut W,
     ) -> Result<(), LeapFault>
         requires first { CanAdvance self.old.nodes first.now n }
-        requires reached { HasReached (A.next_of self.old.rule) self.old.nodes first.now n self.old.nodes reached.old }
-        ensures reached { HasReached (A.next_of self.old.rule) self.old.nodes first.now n self.new.nodes reached.new }
+        requires reached { HasReached (A.next_of self.old.rule)
+            self.old.nodes first.now n self.old.nodes reached.old }
+        ensures reached { HasReached (A.next_of self.old.rule)
+            self.old.nodes first.now n self.new.nodes reached.new }
         ensures all { OnOk result (reached.new.generations ≡ n) }
         ensures none { n ≡ 0 → IsOk result × (reached.new.tree ≡ reached.old.tree) }
         ensures goes_on { LeaperGrows A self.old self.new }
@@ -114,7 +119,7 @@ impl<A: Automaton> Leaper<A> {
             if (left >> j) % 2 == 1 {
                 let tree = self.leap(reached.tree, j, watch)?;
                 let generations = begun + left % (2 << j);
-                watch.reached(Milestone::with_tree(self, first, &tree, generations));
+                watch.reached(Milestone::with_tree(self, &self.store, first, &tree, generations));
                 *reached = Reached { tree, generations };
             }
         }
@@ -154,7 +159,8 @@ impl<A: Automaton> Leaper<A> {
         requires tree { IsTree self.old.nodes tree }
         ensures tree { IfOk result (IsTree self.new.nodes) }
         ensures level { IfOk result (λ t. t.level ≤ tree.level) }
-        ensures cells { IfOk result (λ t. (x y : ℤ) → cell self.new.nodes t x y ≡ cell self.old.nodes tree x y) }
+        ensures cells { IfOk result (λ t. (x y : ℤ)
+            → cell self.new.nodes t x y ≡ cell self.old.nodes tree x y) }
         ensures trimmed { IfOk result (IsTrimmed self.new.nodes) }
         ensures goes_on { LeaperGrows A self.old self.new }
         ensures costs { Costs A self.old self.new 0 130 }

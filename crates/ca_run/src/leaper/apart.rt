@@ -1,5 +1,5 @@
-//! Runs that make too many squares for the leaper's store: they go on in a store of their own, whose squares are left behind
-//! from time to time but for those of the tree.
+//! Runs that make too many squares for the leaper's store: they go on in a store of their own, whose squares
+//! are left behind from time to time but for those of the tree.
 
 ghost use Rattle.std.specs.Prelude.{◌≡◌, ℕ, ◌+◌, ◌*◌, ◌≤◌, ◌<◌, ◌^◌, ℤ, length, take, IfOk, OnErr};
 ghost use Rattle.ca_quad.specs.Sound.{Grows};
@@ -26,8 +26,8 @@ const A_UNIT: usize = 4096;
 const MOST_LEAPS: u64 = 1 << 62;
 
 impl<A: Automaton> Leaper<A> {
-    // The tree n generations on, from one that was reached on the way, by leaps in a store of its own. Of the squares that
-    // there are, only so many of the first ones stay.
+    // The tree n generations on, from one that was reached on the way, by leaps in a store of its own. Of the
+    // squares that there are, only so many of the first ones stay.
     pub(super) fn leap_apart<W: Watch>(
         &mut self,
         first: &Tree,
@@ -55,7 +55,8 @@ impl<A: Automaton> Leaper<A> {
         self.take(&apart, end?)
     }
 
-    // The same tree in a new store, which takes the place of the one before, and the first squares of that one.
+    // The same tree in a new store, which takes the place of the one before, and the first squares of that
+    // one.
     fn part(&mut self, tree: Tree, squares: usize) -> Result<(Tree, Store), Memory>
         requires { IsTree self.old.nodes tree }
         ensures moved { IfOk result (λ both. IsMoved self.old.nodes tree self.new.nodes both.0) }
@@ -109,8 +110,10 @@ impl<A: Automaton> Leaper<A> {
         watch: &mut W,
     ) -> Result<Tree, LeapFault>
         requires first { CanAdvance origin.now first.now n }
-        requires reached { HasReached (A.next_of self.old.rule) origin.now first.now n self.old.nodes reached }
-        ensures advanced { IfOk result (IsAdvanced (A.next_of self.old.rule) origin.now first.now n self.new.nodes) }
+        requires reached { HasReached (A.next_of self.old.rule)
+            origin.now first.now n self.old.nodes reached }
+        ensures advanced { IfOk result (IsAdvanced (A.next_of self.old.rule)
+            origin.now first.now n self.new.nodes) }
         ensures keeps { KeepsOn A self.old self.new }
         ensures work { EndsAtLimit self.new.spent result }
     {
@@ -129,7 +132,8 @@ impl<A: Automaton> Leaper<A> {
         Err(LeapFault::Memory)
     }
 
-    // What is reached after one leap more. Where it made too many squares, it is given up, and they are left behind.
+    // What is reached after one leap more. Where it made too many squares, it is given up, and they are left
+    // behind.
     fn leap_once<W: Watch>(
         &mut self,
         origin: &Store,
@@ -140,9 +144,11 @@ impl<A: Automaton> Leaper<A> {
         watch: &mut W,
     ) -> Result<Reached, LeapFault>
         requires first { CanAdvance origin.now first.now n }
-        requires reached { HasReached (A.next_of self.old.rule) origin.now first.now n self.old.nodes reached }
+        requires reached { HasReached (A.next_of self.old.rule)
+            origin.now first.now n self.old.nodes reached }
         requires more { reached.generations < n }
-        ensures reached { IfOk result (HasReached (A.next_of self.old.rule) origin.now first.now n self.new.nodes) }
+        ensures reached { IfOk result (HasReached (A.next_of self.old.rule)
+            origin.now first.now n self.new.nodes) }
         ensures keeps { KeepsOn A self.old self.new }
         ensures work { EndsAtLimit self.new.spent result }
     {
@@ -153,7 +159,7 @@ impl<A: Automaton> Leaper<A> {
         match self.leap(reached.tree, digit, watch) {
             Ok(tree) => {
                 let generations = reached.generations + (1 << digit);
-                watch.reached(Milestone::with_tree_apart(self, origin, first, &tree, generations));
+                watch.reached(Milestone::with_tree(self, origin, first, &tree, generations));
                 pace.went(digit, self.store.count() - before);
                 Ok(Reached { tree, generations })
             }

@@ -1,6 +1,7 @@
 //! The centres of squares after 2^j generations.
 
-ghost use Rattle.std.specs.Prelude.{◌≡◌, ℕ, suc, ◌≤◌, ◌^◌, ℤ, pos, ◌+ℤ◌, List, Option, IfOk, IfSome, ◌*◌, ◌-◌};
+ghost use Rattle.std.specs.Prelude.{◌≡◌, ℕ, suc, ◌≤◌, ◌^◌, ℤ, pos, ◌+ℤ◌};
+ghost use Rattle.std.specs.Prelude.{List, Option, IfOk, IfSome, ◌*◌, ◌-◌};
 ghost use Rattle.ca_plane.specs.Generations.{cells_after};
 ghost use Rattle.ca_quad.specs.Squares.{IsOf};
 ghost use Rattle.ca_quad.specs.Trees.{AreFour};
@@ -414,7 +415,8 @@ impl<A: Automaton> Leaper<A> {
         self.centre(id, grain, grain, watch)
     }
 
-    // The four cells in the middle of four squares of 2 by 2, one generation on: a result, if the squares aren't empty.
+    // The four cells in the middle of four squares of 2 by 2, one generation on: a result, if the squares
+    // aren't empty.
     fn counted_inner<W: Watch>(
         &mut self,
         nw: Id,

@@ -1,12 +1,14 @@
 //! Planes that are stepped brick by brick: those of squares that hardly repeat.
 
-ghost use Rattle.std.specs.Prelude.{◌≡◌, ℕ, ◌+◌, ◌*◌, ◌<◌, ◌≤◌, ◌^◌, ◌⊎◌, length, Ok, None, IfOk, IsOk, IfSome};
+ghost use Rattle.std.specs.Prelude.{◌≡◌, ℕ, ◌+◌, ◌*◌, ◌<◌, ◌≤◌, ◌^◌, ◌⊎◌};
+ghost use Rattle.std.specs.Prelude.{length, Ok, None, IfOk, IsOk, IfSome};
+ghost use Rattle.ca_plane.specs.Generations.{cells_after};
 ghost use Rattle.ca_quad.specs.Trees.{IsTree, cell};
 ghost use Rattle.ca_run.specs.Costs.{Costs};
 ghost use Rattle.ca_run.specs.Leaping.{LeaperGrows};
 ghost use Rattle.ca_run.specs.Masks.{GoesBy};
 ghost use Rattle.ca_run.specs.Spent.{EndsAtLimit};
-ghost use Rattle.ca_run.specs.inner.Bricks.{WallShows, LiesNear, IsAligned};
+ghost use Rattle.ca_run.specs.inner.Bricks.{WallShows, IsInPlace, LiesNear, IsAligned};
 ghost use Rattle.ca_run.specs.inner.Dense.{HasReached, IsIdle, IsDense};
 
 use super::Leaper;
@@ -56,7 +58,8 @@ struct Stretch {
 }
 
 impl<A: Automaton> Leaper<A> {
-    // What is reached of n generations by stepping bricks, as far as that likely takes less time than to leap.
+    // What is reached of n generations by stepping bricks, as far as that likely takes less time than to
+    // leap.
     pub(super) fn step_dense<W: Watch>(
         &mut self,
         tree: &Tree,
@@ -66,7 +69,8 @@ impl<A: Automaton> Leaper<A> {
         requires tree { IsTree self.old.nodes tree.now }
         requires level { tree.now.level ≤ 64 }
         requires time { n ≤ 2 ^ 60 }
-        ensures reached { IfOk result (HasReached (A.next_of self.old.rule) self.old.nodes tree.now n self.new.nodes) }
+        ensures reached { IfOk result (HasReached (A.next_of self.old.rule)
+            self.old.nodes tree.now n self.new.nodes) }
         ensures none { n ≡ 0 → IfOk result (λ reached. reached.tree ≡ tree.now) }
         ensures calm { n ≡ 0 → IsOk result }
         ensures goes_on { LeaperGrows A self.old self.new }
@@ -107,8 +111,8 @@ impl<A: Automaton> Leaper<A> {
         Ok(reached)
     }
 
-    // Whether the squares of a tree hardly repeat: in a box of squares of 16 by 16 cells that are all unlike there are
-    // a third as many larger ones.
+    // Whether the squares of a tree hardly repeat: in a box of squares of 16 by 16 cells that are all unlike
+    // there are a third as many larger ones.
     fn is_dense(&self, tree: &Tree) -> Result<bool, Memory>
         requires { IsTree self.now.nodes tree.now }
     {
@@ -137,7 +141,8 @@ impl<A: Automaton> Leaper<A> {
         requires least { 7 ≤ first.now.level }
         requires time { n ≤ 2 ^ 60 }
         requires masks { GoesBy (A.next_of self.old.rule) masks }
-        requires reached { HasReached (A.next_of self.old.rule) self.old.nodes first.now n self.old.nodes reached.now }
+        requires reached { HasReached (A.next_of self.old.rule)
+            self.old.nodes first.now n self.old.nodes reached.now }
         ensures reached { IfOk result (λ found. IfSome found (λ stretch. HasReached (A.next_of self.old.rule)
             self.old.nodes first.now n self.new.nodes stretch.reached)) }
         ensures none { reached.now.generations ≡ n → IfOk result (λ found. found ≡ None) }
@@ -154,19 +159,7 @@ impl<A: Automaton> Leaper<A> {
         if reach > first.level + MOST_GROWTH {
             return Ok(None);
         }
-        let mut spent = self.work;
-        let later = wall.later(
-            alloc,
-            masks,
-            left,
-            self,
-            first,
-            reached.generations,
-            &mut spent,
-            watch,
-        );
-        self.work = spent;
-        let later = later?;
+        let later = self.later_wall(wall, masks, left, first, reached.generations, watch)?;
         let tree = self.tree_of(&later, reach)?;
         let tree = self.trim(tree)?;
         Ok(Some(Stretch {
@@ -179,6 +172,49 @@ impl<A: Automaton> Leaper<A> {
         }))
     }
 
+    // The wall some generations on. The run began with a tree, so many generations before. The bricks that
+    // are stepped are counted.
+    fn later_wall<W: Watch>(
+        &mut self,
+        wall: Wall,
+        masks: (u16, u16),
+        generations: u64,
+        first: &Tree,
+        reached: u64,
+        watch: &mut W,
+    ) -> Result<Wall, LeapFault>
+        requires masks { GoesBy (A.next_of self.old.rule) masks }
+        requires shows { WallShows wall generations
+            (cells_after (A.next_of self.old.rule) (cell self.old.nodes first.now) reached) }
+        requires room { wall.across + length wall.bricks.items < 2 ^ 63 }
+        requires few { length wall.bricks.items ≤ 2 ^ 18 }
+        requires least { 7 ≤ first.now.level }
+        requires margin { generations ≤ 1024 }
+        requires time { reached + generations ≤ 2 ^ 60 }
+        ensures shows { IfOk result (λ later. WallShows later 0 (cells_after (A.next_of self.old.rule)
+            (cell self.old.nodes first.now) (reached + generations))) }
+        ensures place { IfOk result (IsInPlace wall) }
+        ensures same { self.new.nodes ≡ self.old.nodes }
+        ensures goes_on { LeaperGrows A self.old self.new }
+        ensures costs { Costs A self.old self.new (14 ^ (first.now.level + 4)) 0 }
+        ensures work { EndsAtLimit self.new.spent result }
+    {
+        let alloc = self.recent_centres.allocator();
+        let mut spent = self.work;
+        let later = wall.later(
+            alloc,
+            masks,
+            generations,
+            self,
+            first,
+            reached,
+            &mut spent,
+            watch,
+        );
+        self.work = spent;
+        later
+    }
+
     // The wall of a tree with a margin of so many cells, where it is not too large.
     fn dense_wall(&self, alloc: Global, tree: &Tree, margin: u64) -> Result<Option<Wall>, Memory>
         requires tree { IsTree self.now.nodes tree.now }
@@ -187,7 +223,8 @@ impl<A: Automaton> Leaper<A> {
             (λ wall. WallShows wall margin (cell self.now.nodes tree.now))) }
         ensures near { IfOk result (λ found. IfSome found LiesNear) }
         ensures aligned { IfOk result (λ found. IfSome found IsAligned) }
-        ensures room { IfOk result (λ found. IfSome found (λ wall. wall.across + length wall.bricks.items < 2 ^ 63)) }
+        ensures room { IfOk result (λ found. IfSome found
+            (λ wall. wall.across + length wall.bricks.items < 2 ^ 63)) }
         ensures few { IfOk result (λ found. IfSome found (λ wall. length wall.bricks.items ≤ 2 ^ 18)) }
         ensures some { margin ≡ 0 → result ≡ Ok None }
     {

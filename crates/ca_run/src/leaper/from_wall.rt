@@ -1,6 +1,7 @@
 //! Squares and trees made of walls of bricks.
 
-ghost use Rattle.std.specs.Prelude.{◌≡◌, true, ℕ, suc, ◌+◌, ◌-◌, ◌*◌, ◌<◌, ◌≤◌, ◌^◌, ℤ, pos, neg_ℤ, ◌+ℤ◌, ◌<ℤ◌, ◌≤ℤ◌, IfOk};
+ghost use Rattle.std.specs.Prelude.{◌≡◌, true, ℕ, suc, ◌+◌, ◌-◌, ◌*◌, ◌<◌, ◌≤◌, ◌^◌};
+ghost use Rattle.std.specs.Prelude.{ℤ, pos, neg_ℤ, ◌+ℤ◌, ◌<ℤ◌, ◌≤ℤ◌, IfOk};
 ghost use Rattle.ca_quad.specs.Squares.{IsOf};
 ghost use Rattle.ca_quad.specs.Trees.{IsTree, cell};
 ghost use Rattle.ca_run.specs.Costs.{Costs};
@@ -51,8 +52,8 @@ struct Quarters {
 }
 
 impl WordPlace {
-    // Which words and rows there are so many to the east and to the south from here on: from the first to before
-    // the second.
+    // Which words and rows there are so many to the east and to the south from here on: from the first to
+    // before the second.
     fn naturals(self, count: u64) -> ((usize, usize), (usize, usize))
         requires { IsNearWall count self }
         ensures words { (u : ℕ) → self.i ≤ℤ pos u → pos u <ℤ (self.i +ℤ pos count) → (result.0.0 ≤ u)
@@ -104,8 +105,8 @@ impl<A: Automaton> Leaper<A> {
         })
     }
 
-    // The square of the words of a wall from a place on. A square's grain is the number of times that its side of
-    // words can be halved: its level is that and 3.
+    // The square of the words of a wall from a place on. A square's grain is the number of times that its
+    // side of words can be halved: its level is that and 3.
     #[cycle(from_wall)]
     pub(super) fn from_wall(
         &mut self,

@@ -2,8 +2,8 @@
 
 use ca_quad::Id;
 
-/// Results that are forgotten together: those at full leap of 16 squares with neighbouring numbers, or a single
-/// other one, of a square after 2^j generations.
+/// Results that are forgotten together: those at full leap of 16 squares with neighbouring numbers, or a
+/// single other one, of a square after 2^j generations.
 #[derive(Clone, Copy, Debug, PartialEq, Eq, Hash, Drop)]
 pub(crate) enum Key {
     Page(u32),

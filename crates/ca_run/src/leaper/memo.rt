@@ -1,6 +1,7 @@
 //! The results that a leaper remembers: a bounded number of pages and of single ones.
 
-ghost use Rattle.std.specs.Prelude.{◌≡◌, ◌⊎◌, ◌<◌, ◌^◌, ◌≤◌, ℕ, [], length, IfSome, IfOk, OnOk, Some, Option, slice_get};
+ghost use Rattle.std.specs.Prelude.{◌≡◌, ◌⊎◌, ◌<◌, ◌^◌, ◌≤◌, ℕ, [], length};
+ghost use Rattle.std.specs.Prelude.{IfSome, IfOk, OnOk, Some, Option, slice_get};
 ghost use Rattle.std.specs.NonZero.{non_zero_usize_get};
 ghost use Rattle.ca_run.specs.Pages.{HasPageKey, HasFullLeap, HasSingle, RemembersNoMore, IsBlankMemo};
 ghost use Rattle.ca_run.specs.declared.leaper.page.Page.{Page};
@@ -19,10 +20,10 @@ use std::num::NonZeroUsize;
 // How many pages may be spared at one put, since they were used.
 const SPARED: u32 = 64;
 
-/// The centres of squares after 2^j generations. Those at full leap, which are asked for most, are found without a
-/// search, in the slots of their squares' numbers: 16 neighbouring slots are a page. The cache holds the keys of all
-/// pages that stand, and the other results, and so bounds both; the least recently used one goes. A forgotten result
-/// costs only time.
+/// The centres of squares after 2^j generations. Those at full leap, which are asked for most, are found
+/// without a search, in the slots of their squares' numbers: 16 neighbouring slots are a page. The cache
+/// holds the keys of all pages that stand, and the other results, and so bounds both; the least recently used
+/// one goes. A forgotten result costs only time.
 #[derive(Drop)]
 pub(crate) struct Memo {
     pages: Vec<Option<Page>>,
@@ -93,7 +94,8 @@ impl Memo {
     pub(crate) fn put_full_leap(&mut self, id: Id, half: Id) -> Result<(), Memory>
         ensures full_leaps { (other centre : ℕ) → HasFullLeap self.new other centre
             → HasFullLeap self.old other centre ⊎ ((other ≡ id) × (centre ≡ half)) }
-        ensures singles { (other j centre : ℕ) → HasSingle self.new other j centre → HasSingle self.old other j centre }
+        ensures singles { (other j centre : ℕ) → HasSingle self.new other j centre
+            → HasSingle self.old other j centre }
         ensures capacity { self.new.order.cap ≡ self.old.order.cap }
     {
         self.open(id)?;
@@ -103,7 +105,8 @@ impl Memo {
 
     /// Remembers another result.
     pub(crate) fn put_single(&mut self, id: Id, j: u8, half: Id) -> Result<(), Memory>
-        ensures full_leaps { (other centre : ℕ) → HasFullLeap self.new other centre → HasFullLeap self.old other centre }
+        ensures full_leaps { (other centre : ℕ) → HasFullLeap self.new other centre
+            → HasFullLeap self.old other centre }
         ensures singles { (other time centre : ℕ) → HasSingle self.new other time centre
             → HasSingle self.old other time centre ⊎ ((other ≡ id) × (time ≡ j) × (centre ≡ half)) }
         ensures capacity { self.new.order.cap ≡ self.old.order.cap }
@@ -181,10 +184,12 @@ impl Memo {
 
     // Puts a key that is to be the most recently used one. Where there are as many as may be, another goes.
     fn admit(&mut self, key: Key, half: Option<Id>) -> Result<(), Memory>
-        ensures full_leaps { (other centre : ℕ) → HasFullLeap self.new other centre → HasFullLeap self.old other centre }
+        ensures full_leaps { (other centre : ℕ) → HasFullLeap self.new other centre
+            → HasFullLeap self.old other centre }
         ensures singles { (other j centre : ℕ) → HasSingle self.new other j centre
             → HasSingle self.old other j centre ⊎ ((key ≡ Single other j) × (half ≡ Some centre)) }
-        ensures there { OnOk result ((page : ℕ) → key ≡ OfPage page → HasPageKey self.new.order.entries page) }
+        ensures there { OnOk result ((page : ℕ) → key ≡ OfPage page
+            → HasPageKey self.new.order.entries page) }
         ensures capacity { self.new.order.cap ≡ self.old.order.cap }
         ensures room { length self.new.pages ≡ length self.old.pages }
     {
@@ -219,7 +224,8 @@ impl Memo {
 fn close(pages: &mut Vec<Option<Page>>, gone: Option<(Key, Option<Id>)>)
     ensures room { length pages.new.items ≡ length pages.old.items }
     ensures rest { (n : ℕ) (page : Page) → slice_get pages.new.items n ≡ Some (Some page)
-        → (slice_get pages.old.items n ≡ Some (Some page)) × ((v : Option ℕ) → gone ≡ Some (OfPage n, v) → ⊥) }
+        → (slice_get pages.old.items n ≡ Some (Some page))
+        × ((v : Option ℕ) → gone ≡ Some (OfPage n, v) → ⊥) }
 {
     let Some((Key::Page(number), _)) = gone else {
         return;

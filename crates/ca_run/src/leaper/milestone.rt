@@ -37,25 +37,8 @@ impl Milestone {
         self.generations
     }
 
-    // What a run has reached that began with the first tree and holds the other.
+    // What a run has reached that began with the first tree, of some store, and holds the other.
     pub(super) fn with_tree<A: Automaton>(
-        leaper: &Leaper<A>,
-        first: &Tree,
-        held: &Tree,
-        generations: u64,
-    ) -> Milestone
-        requires { (x y : ℤ) → cell leaper.now.nodes held.now x y
-            ≡ cells_after (A.next_of leaper.now.rule) (cell leaper.now.nodes first.now) generations x y }
-        ensures { result ≡ generations }
-    {
-        let _ = leaper;
-        let _ = first;
-        let _ = held;
-        Milestone { generations }
-    }
-
-    // What a run has reached that began with the first tree, of another store, and holds the other.
-    pub(super) fn with_tree_apart<A: Automaton>(
         leaper: &Leaper<A>,
         origin: &Store,
         first: &Tree,

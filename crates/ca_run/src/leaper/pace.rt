@@ -19,7 +19,8 @@ pub(super) fn is_long(level: u8, n: u64) -> bool
     level > 14 || n >> (14 - level) > 0
 }
 
-/// By how many generations a run leaps in a store of its own, as a power of two, and how many squares there may be.
+/// By how many generations a run leaps in a store of its own, as a power of two, and how many squares there
+/// may be.
 #[derive(Clone, Copy)]
 pub(super) struct Pace {
     digit: u8,
@@ -49,7 +50,8 @@ impl Pace {
         fitting(self.digit.min(60), left)
     }
 
-    /// After a leap that made so many squares, by so many generations as a power of two: twice as long where they are few.
+    /// After a leap that made so many squares, by so many generations as a power of two: twice as long where
+    /// they are few.
     pub(super) fn went(&mut self, digit: u8, made: usize) {
         if digit == self.digit && digit < 60 && made < self.room / 8 {
             self.digit += 1;

@@ -30,13 +30,14 @@ impl<A: Automaton> Leaper<A> {
         self.store.from_plane(plane)
     }
 
-    /// The tree of the smallest level, at least 1, whose cell at (x, y) is the old one's at (x - dx, y - dy). The
-    /// level is at most 64.
+    /// The tree of the smallest level, at least 1, whose cell at (x, y) is the old one's at (x - dx, y - dy).
+    /// The level is at most 64.
     ///
     /// # Errors
     ///
-    /// `Range` where a live cell would leave the square in which a plane keeps its cells, that is, from -2^62 to 2^62 in
-    /// both directions, and `Memory` where there is no memory for more squares. Every tree stays as it was.
+    /// `Range` where a live cell would leave the square in which a plane keeps its cells, that is, from -2^62
+    /// to 2^62 in both directions, and `Memory` where there is no memory for more squares. Every tree stays
+    /// as it was.
     pub fn shifted(&mut self, tree: Tree, dx: i64, dy: i64) -> Result<Tree, MoveFault>
         requires { IsTree self.old.nodes tree }
         ensures tree { IfOk result (IsTree self.new.nodes) }

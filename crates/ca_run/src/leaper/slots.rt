@@ -85,7 +85,8 @@ impl<T: Copy> Slots<T> {
 
     // Counts an entry that comes: where as many came as there are slots, there shall be more.
     fn count_one(&mut self)
-        ensures entries { (entry : T) → Contains self.new.slots (Some entry) → Contains self.old.slots (Some entry) }
+        ensures entries { (entry : T) → Contains self.new.slots (Some entry)
+            → Contains self.old.slots (Some entry) }
         ensures most { self.new.most ≡ self.old.most }
     {
         if self.left == 0 {
@@ -99,7 +100,8 @@ impl<T: Copy> Slots<T> {
     // Four times as many slots, where that isn't too many and there is memory. Most of what is kept isn't
     // found any more.
     fn grow(&mut self)
-        ensures entries { (entry : T) → Contains self.new.slots (Some entry) → Contains self.old.slots (Some entry) }
+        ensures entries { (entry : T) → Contains self.new.slots (Some entry)
+            → Contains self.old.slots (Some entry) }
         ensures most { self.new.most ≡ self.old.most }
     {
         let slots = self.slots.len();

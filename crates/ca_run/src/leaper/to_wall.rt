@@ -1,6 +1,7 @@
 //! Trees of two states as walls of bricks.
 
-ghost use Rattle.std.specs.Prelude.{◌≡◌, ℕ, suc, ◌+◌, ◌*◌, ◌-◌, ◌<◌, ◌≤◌, ◌^◌, ◌⊎◌, MatchOption, ℤ, pos, ◌+ℤ◌, slice_index, length, IfOk, IfSome};
+ghost use Rattle.std.specs.Prelude.{◌≡◌, ℕ, suc, ◌+◌, ◌*◌, ◌-◌, ◌<◌, ◌≤◌, ◌^◌, ◌⊎◌};
+ghost use Rattle.std.specs.Prelude.{MatchOption, ℤ, pos, ◌+ℤ◌, slice_index, length, IfOk, IfSome};
 ghost use Rattle.ca_quad.specs.Squares.{IsOf};
 ghost use Rattle.ca_quad.specs.Trees.{cell};
 ghost use Rattle.ca_run.specs.inner.Shown.{ShowsAt};
@@ -94,7 +95,8 @@ impl<A: Automaton> Leaper<A> {
         Some(brick_of(&north, &south))
     }
 
-    // The brick of a place of a wall, counted from the wall's first: none but those that hold a part of the box is looked at.
+    // The brick of a place of a wall, counted from the wall's first: none but those that hold a part of the
+    // box is looked at.
     fn brick_in(&self, tree: &Tree, frame: &Frame, i: usize, j: usize) -> Option<[u64; 16]>
         requires tree { IsReadable self.now.nodes tree.now }
         requires frame { IsFrame frame.now }
@@ -128,7 +130,8 @@ impl<A: Automaton> Leaper<A> {
             → IfOk result (λ found. IfSome found (λ wall. WallShows wall m (cell self.now.nodes tree.now))) }
         ensures near { IfOk result (λ found. IfSome found LiesNear) }
         ensures aligned { IfOk result (λ found. IfSome found IsAligned) }
-        ensures room { IfOk result (λ found. IfSome found (λ wall. wall.across + length wall.bricks.items < 2 ^ 63)) }
+        ensures room { IfOk result (λ found. IfSome found
+            (λ wall. wall.across + length wall.bricks.items < 2 ^ 63)) }
         ensures few { IfOk result (λ found. IfSome found (λ wall. length wall.bricks.items ≤ 2 ^ 18)) }
     {
         let across = frame.columns.count;

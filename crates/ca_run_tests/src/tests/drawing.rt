@@ -1,16 +1,12 @@
 //! Pictures of small planes, in small trees and in the largest one, and windows that are fitted.
 
-ghost use Rattle.std.specs.Prelude.{◌≡◌, ◌≤◌, IsTrue, IfOk};
-ghost use Rattle.ca_quad.specs.Trees.{IsTree};
-
-use super::expected::{Cell, expect, plane_of};
+use super::expected::{Cell, GLIDER, expect, plane_of};
+use super::squares::raised;
 use ca_draw::{Format, Style, Window, draw};
 use ca_plane::Memory;
-use ca_quad::{Spot, Store, Tree, WideBounds};
+use ca_quad::{Spot, Store, WideBounds};
 use std::alloc::Global;
 use std::test::*;
-
-const GLIDER: &[Cell] = &[(0, 1, 1), (1, 2, 1), (2, 0, 1), (2, 1, 1), (2, 2, 1)];
 
 const BLOCK: &[Cell] = &[(-1, -1, 1), (-1, 0, 1), (0, -1, 1), (0, 0, 1)];
 
@@ -29,138 +25,76 @@ const PAIR: &[Cell] = &[
     (999999999999, 999999999999, 1),
 ];
 
-/// Cells, the least level of their tree, a place with the scale, the width and the height of the window that
-/// begins there, the style, and the picture.
-type Drawing = (
-    &'static [Cell],
-    u8,
-    (i128, i128, u8, u16, u16),
-    (Format, u16),
-    &'static [u8],
-);
+/// The least level of a tree, a place with the scale, the width and the height of the window that begins
+/// there, and the picture.
+type View = (u8, (i128, i128, u8, u16, u16), &'static [u8]);
 
-const DRAWINGS: &[Drawing] = &[
-    (
-        GLIDER,
-        1,
-        (0, 0, 0, 3, 3),
-        (Format::Text, 2),
-        b".o.\n..o\nooo\n",
-    ),
-    (GLIDER, 1, (0, 0, 1, 2, 2), (Format::Text, 2), b"oo\noo\n"),
-    (
-        GLIDER,
-        1,
-        (-1, -1, 0, 5, 5),
-        (Format::Text, 2),
-        b".....\n..o..\n...o.\n.ooo.\n.....\n",
-    ),
-    (
-        GLIDER,
-        1,
-        (-5, -5, 2, 4, 4),
-        (Format::Text, 2),
-        b"....\n....\n..o.\n....\n",
-    ),
-    (
-        GLIDER,
-        125,
-        (-5, -5, 2, 4, 4),
-        (Format::Text, 2),
-        b"....\n....\n..o.\n....\n",
-    ),
-    (
-        GLIDER,
-        125,
-        (-1, -1, 124, 2, 2),
-        (Format::Text, 2),
-        b"..\n.o\n",
-    ),
-    (
-        GLIDER,
-        1,
-        (-1, -1, 124, 2, 2),
-        (Format::Text, 2),
-        b"..\n.o\n",
-    ),
-    (
-        GLIDER,
-        1,
-        (0, 0, 0, 3, 3),
-        (Format::Pgm, 2),
-        b"P5\n3 3\n255\n\xff\x00\xff\xff\xff\x00\x00\x00\x00",
-    ),
-    (
-        BLOCK,
-        1,
-        (-2, -2, 0, 4, 4),
-        (Format::Text, 2),
-        b"....\n.oo.\n.oo.\n....\n",
-    ),
-    (BLOCK, 1, (-2, -2, 1, 2, 2), (Format::Text, 2), b"oo\noo\n"),
-    (
-        BLOCK,
-        1,
-        (-4, -4, 1, 4, 4),
-        (Format::Text, 2),
-        b"....\n.oo.\n.oo.\n....\n",
-    ),
-    (
-        STATES,
-        1,
-        (0, 0, 0, 4, 2),
-        (Format::Text, 256),
-        b"ABX.\nax**\n",
-    ),
-    (
-        STATES,
-        1,
-        (0, 0, 0, 4, 2),
-        (Format::Text, 2),
-        b"ooo.\noooo\n",
-    ),
-    (STATES, 1, (0, 0, 1, 2, 1), (Format::Text, 256), b"oo\n"),
-    (
-        STATES,
-        1,
-        (0, 0, 0, 4, 2),
-        (Format::Pgm, 256),
-        b"P5\n4 2\n255\n\x00\x01\x17\xff\x18\x2f\x30\xfe",
-    ),
-    (
-        STATES,
-        1,
-        (0, 0, 0, 2, 1),
-        (Format::Pgm, 3),
-        b"P5\n2 1\n255\n\x00\x7f",
-    ),
-    (
-        PAIR,
-        1,
-        (-1000000000000, -1000000000000, 39, 4, 4),
-        (Format::Text, 2),
-        b"o...\n....\n....\n...o\n",
-    ),
+/// Cells, how they are drawn, and pictures of them.
+type Drawing = (&'static [Cell], (Format, u16), &'static [View]);
+
+const GLIDER_TEXTS: &[View] = &[
+    (1, (0, 0, 0, 3, 3), b".o.\n..o\nooo\n"),
+    (1, (0, 0, 1, 2, 2), b"oo\noo\n"),
+    (1, (-1, -1, 0, 5, 5), b".....\n..o..\n...o.\n.ooo.\n.....\n"),
+    (1, (-5, -5, 2, 4, 4), b"....\n....\n..o.\n....\n"),
+    (125, (-5, -5, 2, 4, 4), b"....\n....\n..o.\n....\n"),
+    (125, (-1, -1, 124, 2, 2), b"..\n.o\n"),
+    (1, (-1, -1, 124, 2, 2), b"..\n.o\n"),
 ];
 
-/// The tree with its level raised to this one, at most 125.
-fn raised(store: &mut Store, tree: Tree, level: u8) -> Result<Tree, Memory>
-    requires { IsTree store.old tree }
-    ensures { IfOk result (IsTree store.new) }
-{
-    let mut larger = tree;
-    'levels: for _ in 0..125u8 {
-        if larger.level > 124 || larger.level >= level {
-            return Ok(larger);
-        }
-        larger = store.pad(larger)?;
-    }
-    Ok(larger)
-}
+const GLIDER_IMAGES: &[View] = &[(
+    1,
+    (0, 0, 0, 3, 3),
+    b"P5\n3 3\n255\n\xff\x00\xff\xff\xff\x00\x00\x00\x00",
+)];
 
-/// The picture of these cells.
-fn picture(alloc: Global, drawing: &Drawing) -> Result<Vec<u8>, Memory> {
-    let &(cells, level, (x, y, scale, width, height), (format, states), _) = drawing;
+const BLOCK_TEXTS: &[View] = &[
+    (1, (-2, -2, 0, 4, 4), b"....\n.oo.\n.oo.\n....\n"),
+    (1, (-2, -2, 1, 2, 2), b"oo\noo\n"),
+    (1, (-4, -4, 1, 4, 4), b"....\n.oo.\n.oo.\n....\n"),
+];
+
+const STATE_TEXTS: &[View] = &[
+    (1, (0, 0, 0, 4, 2), b"ABX.\nax**\n"),
+    (1, (0, 0, 1, 2, 1), b"oo\n"),
+];
+
+const LIVE_TEXTS: &[View] = &[(1, (0, 0, 0, 4, 2), b"ooo.\noooo\n")];
+
+const STATE_IMAGES: &[View] = &[(
+    1,
+    (0, 0, 0, 4, 2),
+    b"P5\n4 2\n255\n\x00\x01\x17\xff\x18\x2f\x30\xfe",
+)];
+
+const THREE_STATE_IMAGES: &[View] = &[(1, (0, 0, 0, 2, 1), b"P5\n2 1\n255\n\x00\x7f")];
+
+const PAIR_TEXTS: &[View] = &[(
+    1,
+    (-1000000000000, -1000000000000, 39, 4, 4),
+    b"o...\n....\n....\n...o\n",
+)];
+
+const DRAWINGS: &[Drawing] = &[
+    (GLIDER, (Format::Text, 2), GLIDER_TEXTS),
+    (GLIDER, (Format::Pgm, 2), GLIDER_IMAGES),
+    (BLOCK, (Format::Text, 2), BLOCK_TEXTS),
+    (STATES, (Format::Text, 256), STATE_TEXTS),
+    (STATES, (Format::Text, 2), LIVE_TEXTS),
+    (STATES, (Format::Pgm, 256), STATE_IMAGES),
+    (STATES, (Format::Pgm, 3), THREE_STATE_IMAGES),
+    (PAIR, (Format::Text, 2), PAIR_TEXTS),
+];
+
+/// The picture of these cells in a view.
+fn picture(
+    alloc: Global,
+    cells: &[Cell],
+    style: (Format, u16),
+    view: &View,
+) -> Result<Vec<u8>, Memory> {
+    let (format, states) = style;
+    let &(level, (x, y, scale, width, height), _) = view;
     let mut store = Store::new(alloc);
     let small = store.from_plane(&plane_of(alloc, cells)?)?;
     let tree = raised(&mut store, small, level)?;
@@ -170,13 +104,24 @@ fn picture(alloc: Global, drawing: &Drawing) -> Result<Vec<u8>, Memory> {
     draw(alloc, &store, tree, window, Style { format, states })
 }
 
+/// Whether the cells are drawn so in each view.
+fn shows_views(alloc: Global, drawing: &Drawing) -> bool {
+    let &(cells, style, views) = drawing;
+    'views: for view in views {
+        let Ok(found) = picture(alloc, cells, style, view) else {
+            return false;
+        };
+        if found.as_slice() != view.2 {
+            return false;
+        }
+    }
+    true
+}
+
 /// Whether each of them is drawn so.
 fn are_drawn(alloc: Global, drawings: &[Drawing]) -> bool {
     'drawings: for drawing in drawings {
-        let Ok(found) = picture(alloc, drawing) else {
-            return false;
-        };
-        if found.as_slice() != drawing.4 {
+        if !shows_views(alloc, drawing) {
             return false;
         }
     }

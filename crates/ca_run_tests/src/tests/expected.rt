@@ -11,6 +11,8 @@ use std::test::*;
 /// A cell by its y, its x and its state.
 pub(crate) type Cell = (i64, i64, u8);
 
+pub(crate) const GLIDER: &[Cell] = &[(0, 1, 1), (1, 2, 1), (2, 0, 1), (2, 1, 1), (2, 2, 1)];
+
 /// The greatest coordinate of a plane's cells.
 pub(crate) const FAR: i64 = 1 << 62;
 

@@ -5,7 +5,7 @@ ghost use Rattle.std.specs.List.{All};
 ghost use Rattle.std.proofs.Common.{rules, arith};
 ghost use Rattle.std.proofs.lemmas.Bool.Decides.{nat_tests};
 
-use super::expected::{Cell, expect, plane_of, shows};
+use super::expected::{Cell, GLIDER, expect, plane_of, shows};
 use ca_plane::{Automaton, Memory, Nine, Plane};
 use ca_quad::Store;
 use ca_run::{LeapFault, Leaper, RunFault, kernel16, step, steps};
@@ -59,8 +59,6 @@ const REACH: i64 = 4611686018427387902;
 const ROW: &[Cell] = &[(0, 0, 1), (0, 1, 1), (0, 2, 1)];
 
 const COLUMN: &[Cell] = &[(-1, 1, 1), (0, 1, 1), (1, 1, 1)];
-
-const GLIDER: &[Cell] = &[(0, 1, 1), (1, 2, 1), (2, 0, 1), (2, 1, 1), (2, 2, 1)];
 
 /// A glider after 4000 generations.
 const GLIDER_4000: &[Cell] = &[
@@ -184,7 +182,8 @@ const GLIDER_64: &[Cell] = &[
     (18, 18, 1),
 ];
 
-/// Whether a leaper that may remember and work out so much takes a glider 64 generations on, and how much it works out.
+/// Whether a leaper that may remember and work out so much takes a glider 64 generations on, and how much it
+/// works out.
 fn glider_by(alloc: Global, memo: usize, work: u64) -> Result<(bool, u64), LeapFault> {
     let (Ok(plane), Ok(later)) = (plane_of(alloc, GLIDER), plane_of(alloc, GLIDER_64)) else {
         return Err(LeapFault::Memory);
@@ -224,7 +223,8 @@ fn an_empty_plane_needs_no_work(rt: HostRuntime) {
     expect(&rt, found == Ok(true), "an empty plane without work");
 }
 
-/// How much a leaper that may do so much work uses up for n generations of a plane, and how many squares it adds.
+/// How much a leaper that may do so much work uses up for n generations of a plane, and how many squares it
+/// adds.
 fn spent_by(alloc: Global, plane: &Plane, n: u64, work: u64) -> Result<(u64, usize), LeapFault> {
     let mut leaper = Leaper::new(alloc, Store::new(alloc), Life, 262144, work)?;
     let tree = leaper.load_plane(plane)?;
@@ -234,8 +234,9 @@ fn spent_by(alloc: Global, plane: &Plane, n: u64, work: u64) -> Result<(u64, usi
     Ok((leaper.used(), after.saturating_sub(before)))
 }
 
-/// Generations of a soup of 100 by 100 cells, how much work may be done, and how much is used up at least, where that is
-/// enough. It is leapt over, since `Life` tells no masks: `tests/limits.py` has one that is stepped brick by brick.
+/// Generations of a soup of 100 by 100 cells, how much work may be done, and how much is used up at least,
+/// where that is enough. It is leapt over, since `Life` tells no masks: `tests/limits.py` has one that is
+/// stepped brick by brick.
 const SOUPS: &[(u64, u64, Result<u64, LeapFault>)] = &[
     (40, u64::MAX, Ok(800)),
     (40, 800, Err(LeapFault::Work)),
@@ -276,7 +277,8 @@ fn squares_are_made_by_work(rt: HostRuntime) -> Result<(), Fail> {
     Ok(())
 }
 
-/// Whether a glider's leap comes to what it has to, and where it is refused memory, when it is asked for again.
+/// Whether a glider's leap comes to what it has to, and where it is refused memory, when it is asked for
+/// again.
 fn goes_on(alloc: Global) -> Result<bool, LeapFault> {
     let plane = plane_of(alloc, GLIDER)?;
     let later = plane_of(alloc, GLIDER_64)?;
@@ -287,7 +289,8 @@ fn goes_on(alloc: Global) -> Result<bool, LeapFault> {
     }
 }
 
-/// `tests/refused_leaps.py` runs it with each of its allocations refused: before there is a leaper, all is begun anew.
+/// `tests/refused_leaps.py` runs it with each of its allocations refused: before there is a leaper, all is
+/// begun anew.
 #[test]
 fn a_refused_leap_goes_on(rt: HostRuntime) {
     let found = match goes_on(rt.alloc()) {

@@ -3,13 +3,11 @@
 ghost use Rattle.std.specs.Prelude.{◌≡◌, ◌≤◌, IsTrue, IfOk};
 ghost use Rattle.ca_quad.specs.Trees.{IsIn, IsTree};
 
-use super::expected::{Cell, FAR, expect, plane_of, shows};
+use super::expected::{Cell, FAR, GLIDER, expect, plane_of, shows};
 use ca_plane::{Memory, MoveFault, Plane};
 use ca_quad::{Id, QuadFault, Spot, Store, Tree};
 use std::alloc::Global;
 use std::test::*;
-
-const GLIDER: &[Cell] = &[(0, 1, 1), (1, 2, 1), (2, 0, 1), (2, 1, 1), (2, 2, 1)];
 
 /// A square of level 1 that no glider has.
 fn put_another(store: &mut Store) -> Result<(), Memory> {
@@ -36,7 +34,7 @@ fn nothing_else_is_imported(rt: HostRuntime) {
 }
 
 /// The tree with its level raised to this one, at most 125.
-fn raised(store: &mut Store, tree: Tree, level: u8) -> Result<Tree, Memory>
+pub(crate) fn raised(store: &mut Store, tree: Tree, level: u8) -> Result<Tree, Memory>
     requires { IsTree store.old tree }
     ensures { IfOk result (IsTree store.new) }
 {
@@ -134,7 +132,8 @@ fn cells_at_the_corner_of_a_plane(rt: HostRuntime) {
     }
 }
 
-/// Cells, how far they are moved to the right and downward, and where they are then: none where one would leave a plane.
+/// Cells, how far they are moved to the right and downward, and where they are then: none where one would
+/// leave a plane.
 const MOVES: &[(&[Cell], i64, i64, Option<&[Cell]>)] = &[
     (&[], 5, -5, Some(&[])),
     (GLIDER, 0, 0, Some(GLIDER)),

@@ -27,8 +27,8 @@ returns-in_default-span_of-clause-none c = λ other same shows.
     (subst (λ k. other.row ≤ℤ strip_of k c.args.bounds.y0) same first.north)
     (subst (λ k. strip_of k c.args.bounds.y1 <ℤ (other.row +ℤ pos other.height)) same last.south)
 
-pub returns-clause-shows : goal.returns-clause-shows
-returns-clause-shows c =
+pub returns : goal.returns
+returns c =
     let f : FitsSigned w128 c.in-Some.across.first = search rules in
     let g : FitsSigned w128 c.in-Some-span_of.down.first = search rules in
     let p : FitsSigned w128 c.args.bounds.x0 = search rules in
@@ -37,20 +37,16 @@ returns-clause-shows c =
     let s : FitsSigned w128 c.args.bounds.y1 = search rules in
     let across = simp (to_z-of_z, p, q) at c.in-Some.ensures.span in
     let down = simp (to_z-of_z, r, s) at c.in-Some-span_of.ensures.span in
-    simp (to_z-of_z, f, g)
-    (shows_box c.args.bounds c.requires.order c.args.columns c.args.rows c.args.scale c.requires.scale c.in-Some.across.first c.in-Some-span_of.down.first
-    c.in-Some.across.count c.in-Some-span_of.down.count across.0 down.0 across.1 down.1)
-
-pub returns-clause-ends : goal.returns-clause-ends
-returns-clause-ends c =
-    let f : FitsSigned w128 c.in-Some.across.first = search rules in
-    let g : FitsSigned w128 c.in-Some-span_of.down.first = search rules in
-    let p : FitsSigned w128 c.args.bounds.x0 = search rules in
-    let q : FitsSigned w128 c.args.bounds.x1 = search rules in
-    let r : FitsSigned w128 c.args.bounds.y0 = search rules in
-    let s : FitsSigned w128 c.args.bounds.y1 = search rules in
-    let across = simp (to_z-of_z, p, q) at c.in-Some.ensures.span in
-    let down = simp (to_z-of_z, r, s) at c.in-Some-span_of.ensures.span in
-    simp (to_z-of_z, f, g)
-    (last_square c.args.bounds c.requires.order c.args.columns c.args.rows c.args.scale c.requires.scale c.in-Some.across.first c.in-Some-span_of.down.first
-    c.in-Some.across.count c.in-Some-span_of.down.count across.0 down.0)
+    record {
+      shows =
+          simp (to_z-of_z, f, g)
+          (shows_box c.args.bounds c.requires.order c.args.columns c.args.rows c.args.scale c.requires.scale c.in-Some.across.first c.in-Some-span_of.down.first
+          c.in-Some.across.count c.in-Some-span_of.down.count across.0 down.0 across.1 down.1);
+      begins = search rules;
+      ends =
+          simp (to_z-of_z, f, g)
+          (last_square c.args.bounds c.requires.order c.args.columns c.args.rows c.args.scale c.requires.scale c.in-Some.across.first c.in-Some-span_of.down.first
+          c.in-Some.across.count c.in-Some-span_of.down.count across.0 down.0);
+      scale = search rules;
+      none = search rules;
+    }

@@ -6,7 +6,7 @@ use Rattle.ca_run.proofs.Leap.{goes_on_same}
 use Rattle.ca_run.proofs.Shown.{goes_on_again}
 use Rattle.ca_claims.specs.inner.Stages.{IsStage, IsReturn}
 use Rattle.ca_claims.proofs.Identities.{found_none, found_death, found_return}
-use Rattle.ca_claims.proofs.Stages.{first_tree, first_stays, others_at_first, one_more_other, step_from, step_to, stage_to, no_step, one_more_step, fewer_steps}
+use Rattle.ca_claims.proofs.Stages.{first_tree, first_stays, others_at_first, one_more_other, step_from, step_to, stage_to, no_step, one_more_step, last_step}
 use Rattle.ca_claims.proofs.identification.search.search.Goals as goal
 
 pub generations-init : goal.generations-init
@@ -29,86 +29,65 @@ step-requires-clause-first g c =
 pub step-requires-clause-now : goal.step-requires-clause-now
 step-requires-clause-now g c =
     let inv = c.generations.invariant in
-    step_from g.A.Automaton.next_of c.args.leaper.now.rule c.generations.leaper.rule inv.goes_on.rule c.args.leaper.now.nodes c.generations.leaper.nodes c.store.ensures.sound inv.goes_on.grows
-    c.args.first.now c.requires.first c.generations.generations c.generations.now inv.now
+    step_from g.A.Automaton.next_of inv.goes_on.rule c.store.ensures.sound inv.goes_on.grows c.requires.first c.generations.generations c.generations.now inv.now
 
 pub returns-in_err-later-clause-takes : goal.returns-in_err-later-clause-takes
 returns-in_err-later-clause-takes g c =
     let inv = c.generations.invariant in
-    let stages = cells_after (g.A.Automaton.next_of c.args.leaper.now.rule) (cell c.args.leaper.now.nodes c.args.first.now.tree) in
-    let n = c.generations.generations in
-    fewer_steps _ _ stages c.args.limit (n + 1) (omega (arith, c.generations-test.true))
-    (one_more_step _ _ _ stages c.args.limit n c.generations.leaper.nodes c.generations.now inv.now.trimmed inv.now.shows (omega (arith, c.generations-test.true)) inv.takes c.step.ensures.takes)
+    last_step _ _ _ (cells_after (g.A.Automaton.next_of c.args.leaper.now.rule) (cell c.args.leaper.now.nodes c.args.first.now.tree)) c.args.limit c.generations.generations
+    c.generations.leaper.nodes c.generations.now inv.now.trimmed inv.now.shows (omega (arith, c.generations-test.true)) inv.takes c.step.ensures.takes
 
-pub returns-in-Empty-clause-identity : goal.returns-in-Empty-clause-identity
-returns-in-Empty-clause-identity g c = λ cells shows.
+pub returns-in-Empty : goal.returns-in-Empty
+returns-in-Empty g c =
     let inv = c.generations.invariant in
+    let n = c.generations.generations in
+    let told = stage_to g.A.Automaton.next_of inv.goes_on.rule c.store.ensures.sound inv.goes_on.grows c.requires.first (n + 1) c.in_ok-later.later.stage c.in_ok-later.ensures.stage in
     let next = g.A.Automaton.next_of c.args.leaper.now.rule in
-    let s0 = c.args.leaper.now.nodes in
-    let first = c.args.first.now in
-    let n = c.generations.generations in
-    let told = stage_to g.A.Automaton.next_of c.args.leaper.now.rule c.generations.leaper.rule inv.goes_on.rule s0 c.generations.leaper.nodes c.store.ensures.sound inv.goes_on.grows
-    first c.requires.first (n + 1) c.in_ok-later.later.stage c.in_ok-later.ensures.stage in
-    found_death next (g.met.A.Automaton.quiet c.args.leaper.now.rule c.store.ensures.rule) s0 first c.requires.first cells shows n inv.others c.args.limit (omega (arith, c.generations-test.true)) c.requires.most
-    (subst (IsStage (cell s0 first.tree) (cells_after next (cell s0 first.tree) (n + 1))) c.in-Empty.is told)
+    let p = cell c.args.leaper.now.nodes c.args.first.now.tree in
+    record {
+      identity = λ cells shows.
+          found_death next (g.met.A.Automaton.quiet c.args.leaper.now.rule c.store.ensures.rule) c.args.leaper.now.nodes c.args.first.now c.requires.first cells shows n inv.others c.args.limit
+          (omega (arith, c.generations-test.true)) c.requires.most (subst (IsStage p (cells_after next p (n + 1))) c.in-Empty.is told);
+      goes_on = goes_on_again _ c.args.leaper.now c.generations.leaper c.step.new.leaper inv.goes_on c.in_ok-later.ensures.goes_on;
+      takes = last_step _ _ _ (cells_after next p) c.args.limit n c.generations.leaper.nodes c.generations.now inv.now.trimmed inv.now.shows (omega (arith, c.generations-test.true)) inv.takes c.step.ensures.takes;
+      work = search rules;
+    }
 
-pub returns-in-Empty-clause-goes_on : goal.returns-in-Empty-clause-goes_on
-returns-in-Empty-clause-goes_on g c = goes_on_again _ c.args.leaper.now c.generations.leaper c.step.new.leaper c.generations.invariant.goes_on c.in_ok-later.ensures.goes_on
-
-pub returns-in-Empty-clause-takes : goal.returns-in-Empty-clause-takes
-returns-in-Empty-clause-takes g c =
+pub returns-in-Back : goal.returns-in-Back
+returns-in-Back g c =
     let inv = c.generations.invariant in
-    let stages = cells_after (g.A.Automaton.next_of c.args.leaper.now.rule) (cell c.args.leaper.now.nodes c.args.first.now.tree) in
     let n = c.generations.generations in
-    fewer_steps _ _ stages c.args.limit (n + 1) (omega (arith, c.generations-test.true))
-    (one_more_step _ _ _ stages c.args.limit n c.generations.leaper.nodes c.generations.now inv.now.trimmed inv.now.shows (omega (arith, c.generations-test.true)) inv.takes c.step.ensures.takes)
-
-pub returns-in-Back-clause-identity : goal.returns-in-Back-clause-identity
-returns-in-Back-clause-identity g c = λ cells shows.
-    let inv = c.generations.invariant in
+    let told = stage_to g.A.Automaton.next_of inv.goes_on.rule c.store.ensures.sound inv.goes_on.grows c.requires.first (n + 1) c.in_ok-later.later.stage c.in_ok-later.ensures.stage in
     let next = g.A.Automaton.next_of c.args.leaper.now.rule in
-    let s0 = c.args.leaper.now.nodes in
-    let first = c.args.first.now in
-    let n = c.generations.generations in
+    let p = cell c.args.leaper.now.nodes c.args.first.now.tree in
     let dx = c.in-Back.dx in
     let dy = c.in-Back.dy in
     let fits_x : SFits w64 dx = search rules in
     let fits_y : SFits w64 dy = search rules in
-    let told = stage_to g.A.Automaton.next_of c.args.leaper.now.rule c.generations.leaper.rule inv.goes_on.rule s0 c.generations.leaper.nodes c.store.ensures.sound inv.goes_on.grows
-    first c.requires.first (n + 1) c.in_ok-later.later.stage c.in_ok-later.ensures.stage in
-    let back = found_return next (g.met.A.Automaton.quiet c.args.leaper.now.rule c.store.ensures.rule) s0 first c.requires.first cells shows n inv.others c.args.limit (omega (arith, c.generations-test.true)) c.requires.most
-    dx dy (subst (IsStage (cell s0 first.tree) (cells_after next (cell s0 first.tree) (n + 1))) c.in-Back.is told) in
-    c.returning.ensures next cells c.args.limit (omega (arith, c.generations-test.true)) c.requires.most
-    (subst (λ a. IsReturn next cells (n + 1) a (to_z w64 (of_z w64 dy))) (sym (to_z-of_z w64 dx fits_x))
-    (subst (λ b. IsReturn next cells (n + 1) dx b) (sym (to_z-of_z w64 dy fits_y)) back))
-
-pub returns-in-Back-clause-goes_on : goal.returns-in-Back-clause-goes_on
-returns-in-Back-clause-goes_on g c = goes_on_again _ c.args.leaper.now c.generations.leaper c.step.new.leaper c.generations.invariant.goes_on c.in_ok-later.ensures.goes_on
-
-pub returns-in-Back-clause-takes : goal.returns-in-Back-clause-takes
-returns-in-Back-clause-takes g c =
-    let inv = c.generations.invariant in
-    let stages = cells_after (g.A.Automaton.next_of c.args.leaper.now.rule) (cell c.args.leaper.now.nodes c.args.first.now.tree) in
-    let n = c.generations.generations in
-    fewer_steps _ _ stages c.args.limit (n + 1) (omega (arith, c.generations-test.true))
-    (one_more_step _ _ _ stages c.args.limit n c.generations.leaper.nodes c.generations.now inv.now.trimmed inv.now.shows (omega (arith, c.generations-test.true)) inv.takes c.step.ensures.takes)
+    record {
+      identity = λ cells shows.
+          let back = found_return next (g.met.A.Automaton.quiet c.args.leaper.now.rule c.store.ensures.rule) c.args.leaper.now.nodes c.args.first.now c.requires.first cells shows n inv.others c.args.limit
+          (omega (arith, c.generations-test.true)) c.requires.most dx dy (subst (IsStage p (cells_after next p (n + 1))) c.in-Back.is told) in
+          c.returning.ensures next cells c.args.limit (omega (arith, c.generations-test.true)) c.requires.most
+          (subst (λ a. IsReturn next cells (n + 1) a (to_z w64 (of_z w64 dy))) (sym (to_z-of_z w64 dx fits_x))
+          (subst (λ b. IsReturn next cells (n + 1) dx b) (sym (to_z-of_z w64 dy fits_y)) back));
+      goes_on = goes_on_again _ c.args.leaper.now c.generations.leaper c.step.new.leaper inv.goes_on c.in_ok-later.ensures.goes_on;
+      takes = last_step _ _ _ (cells_after next p) c.args.limit n c.generations.leaper.nodes c.generations.now inv.now.trimmed inv.now.shows (omega (arith, c.generations-test.true)) inv.takes c.step.ensures.takes;
+      work = search rules;
+    }
 
 pub generations-preserved : goal.generations-preserved
 generations-preserved g c =
     let inv = c.generations.invariant in
-    let next = g.A.Automaton.next_of c.args.leaper.now.rule in
-    let s0 = c.args.leaper.now.nodes in
-    let s = c.generations.leaper.nodes in
-    let first = c.args.first.now in
-    let stages = cells_after next (cell s0 first.tree) in
     let n = c.generations.generations in
-    let told = stage_to g.A.Automaton.next_of c.args.leaper.now.rule c.generations.leaper.rule inv.goes_on.rule s0 s c.store.ensures.sound inv.goes_on.grows
-    first c.requires.first (n + 1) c.in_ok-later.later.stage c.in_ok-later.ensures.stage in
+    let told = stage_to g.A.Automaton.next_of inv.goes_on.rule c.store.ensures.sound inv.goes_on.grows c.requires.first (n + 1) c.in_ok-later.later.stage c.in_ok-later.ensures.stage in
+    let s = c.generations.leaper.nodes in
+    let p = cell c.args.leaper.now.nodes c.args.first.now.tree in
+    let stages = cells_after (g.A.Automaton.next_of c.args.leaper.now.rule) p in
     record {
       goes_on = goes_on_again _ c.args.leaper.now c.generations.leaper c.step.new.leaper inv.goes_on c.in_ok-later.ensures.goes_on;
-      now = step_to g.A.Automaton.next_of c.args.leaper.now.rule c.generations.leaper.rule inv.goes_on.rule s0 s c.store.ensures.sound inv.goes_on.grows
-          first c.requires.first (n + 1) c.step.new.leaper.nodes c.in_ok-later.later.tree c.in_ok-later.ensures.tree;
-      others = one_more_other next (cell s0 first.tree) n inv.others (subst (IsStage (cell s0 first.tree) (stages (n + 1))) c.in-Other.is told);
+      now = step_to g.A.Automaton.next_of inv.goes_on.rule c.store.ensures.sound inv.goes_on.grows c.requires.first (n + 1) c.step.new.leaper.nodes c.in_ok-later.later.tree c.in_ok-later.ensures.tree;
+      others = one_more_other (g.A.Automaton.next_of c.args.leaper.now.rule) p n inv.others (subst (IsStage p (stages (n + 1))) c.in-Other.is told);
       within = omega (arith, c.generations-test.true);
       takes = one_more_step _ _ _ stages c.args.limit n s c.generations.now inv.now.trimmed inv.now.shows (omega (arith, c.generations-test.true)) inv.takes c.step.ensures.takes;
     }

@@ -18,24 +18,16 @@ stage_of-requires-clause-first g c =
 
 pub returns-clause-tree : goal.returns-clause-tree
 returns-clause-tree g c =
-    let next = g.A.Automaton.next_of c.args.leaper.now.rule in
-    let s0 = c.args.leaper.now.nodes in
-    let s1 = c.next_tree.new.leaper.nodes in
-    let first = cell s0 c.args.first.now.tree in
-    let n = c.args.generations in
-    later_stays next first (n + 1) s1 c.stage_of.new.leaper.nodes c.in_ok-tree.ensures.goes_on.grows.sound c.in_ok-stage.ensures.goes_on.grows c.in_ok-tree.tree
-    (later_next next first n s0 c.args.now c.requires.now s1 c.in_ok-tree.tree c.in_ok-tree.ensures.later)
+    let later = later_next _ _ _ _ _ c.requires.now c.next_tree.new.leaper.nodes c.in_ok-tree.tree c.in_ok-tree.ensures.later in
+    later_stays _ _ _ _ c.stage_of.new.leaper.nodes c.in_ok-tree.ensures.goes_on.grows.sound c.in_ok-stage.ensures.goes_on.grows c.in_ok-tree.tree later
 
 pub returns-clause-stage : goal.returns-clause-stage
 returns-clause-stage g c =
-    let next = g.A.Automaton.next_of c.args.leaper.now.rule in
-    let s0 = c.args.leaper.now.nodes in
+    let later = later_next _ _ _ _ _ c.requires.now c.next_tree.new.leaper.nodes c.in_ok-tree.tree c.in_ok-tree.ensures.later in
     let s1 = c.next_tree.new.leaper.nodes in
-    let first = cell s0 c.args.first.now.tree in
-    let n = c.args.generations in
-    let later = later_next next first n s0 c.args.now c.requires.now s1 c.in_ok-tree.tree c.in_ok-tree.ensures.later in
-    stage_as (cell s1 c.args.first.now.tree) (cell s1 c.in_ok-tree.tree) first (cells_after next first (n + 1))
-    (trees_stay s0 s1 c.store.ensures.sound c.in_ok-tree.ensures.goes_on.grows c.args.first.now.tree c.requires.first.pattern.is_tree) later.shows c.in_ok-stage.stage c.in_ok-stage.ensures.stage
+    let first = cell c.args.leaper.now.nodes c.args.first.now.tree in
+    stage_as (cell s1 c.args.first.now.tree) (cell s1 c.in_ok-tree.tree) first (cells_after (g.A.Automaton.next_of c.args.leaper.now.rule) first (c.args.generations + 1))
+    (trees_stay _ s1 c.store.ensures.sound c.in_ok-tree.ensures.goes_on.grows c.args.first.now.tree c.requires.first.pattern.is_tree) later.shows c.in_ok-stage.stage c.in_ok-stage.ensures.stage
 
 pub returns-clause-goes_on : goal.returns-clause-goes_on
 returns-clause-goes_on g c = goes_on_again _ c.args.leaper.now c.next_tree.new.leaper c.stage_of.new.leaper c.in_ok-tree.ensures.goes_on c.in_ok-stage.ensures.goes_on

@@ -1,11 +1,9 @@
 use Rattle.ca_quad.specs.inner.Measure.{IsMeasureOf}
-use Rattle.ca_quad.proofs.Measures.{measure_four, measure_parts, one_more}
+use Rattle.ca_quad.proofs.Measures.{measure_parts, one_more}
 use Rattle.ca_quad.proofs.store.Store.+measure.Goals as goal
 
 pub returns-in-Four-clause-measure : goal.returns-in-Four-clause-measure
-returns-in-Four-clause-measure g t c =
-    measure_four g.M.Measure.is c.args.self.now c.args.id c.in-Four.nw c.in-Four.ne c.in-Four.sw c.in-Four.se c.in-Four.ensures.shows
-    c.of_cell.result c.of_cell-in-Four.result c.of_cell-in-Four-2.result c.of_cell-in-Four-3.result c.of_four.result c.of_cell.ensures c.of_cell-in-Four.ensures c.of_cell-in-Four-2.ensures c.of_cell-in-Four-3.ensures c.of_four.ensures
+returns-in-Four-clause-measure g t c = c.measure_of_cells.ensures c.args.self.now c.args.id c.in-Four.ensures.shows
 
 pub returns-in_ok-put-in-Parts-clause-measure : goal.returns-in_ok-put-in-Parts-clause-measure
 returns-in_ok-put-in-Parts-clause-measure g t c =

@@ -38,17 +38,12 @@ leap_apart-end-requires-clause-reached g c =
 
 pub returns-in-Ok-clause-advanced : goal.returns-in-Ok-clause-advanced
 returns-in-Ok-clause-advanced g c =
-    let next = g.A.Automaton.next_of in
-    let s0 = c.args.self.now.nodes in
-    let s1 = c.leap_on.new.self.nodes in
-    let first = c.args.first.now in
-    let reached = c.leap_on.new.reached in
     let sound = subst (λ l. IsSoundStore l.nodes) c.self.view_is c.self.invariant.squares in
-    let quiet = subst (λ l. next l.rule (replicate 9 0) ≡ 0) c.self.view_is (g.met.A.Automaton.quiet c.self.inside.rule c.self.invariant.rule) in
-    let some = some_level s0 sound first c.requires.first.is_tree in
-    let run = subst (λ l. HasReached (next l.rule) l.nodes first c.args.n s1 reached) c.set_room.ensures c.in-Ok.ensures.reached in
-    let low = reached_level (next c.args.self.now.rule) s0 s1 first c.args.n reached run quiet some c.requires.first.level c.requires.first.time in
-    advanced_at (next c.args.self.now.rule) s0 s1 first c.args.n reached run c.in-Ok.ensures.all low
+    let quiet = subst (λ l. g.A.Automaton.next_of l.rule (replicate 9 0) ≡ 0) c.self.view_is (g.met.A.Automaton.quiet c.self.inside.rule c.self.invariant.rule) in
+    let some = some_level c.args.self.now.nodes sound c.args.first.now c.requires.first.is_tree in
+    let run = subst (λ l. HasReached (g.A.Automaton.next_of l.rule) l.nodes c.args.first.now c.args.n c.leap_on.new.self.nodes c.leap_on.new.reached) c.set_room.ensures c.in-Ok.ensures.reached in
+    let low = reached_level _ _ _ _ _ _ run quiet some c.requires.first.level c.requires.first.time in
+    advanced_at _ _ _ _ _ _ run c.in-Ok.ensures.all low
 
 pub returns-in-Err-Memory-clause-advanced : goal.returns-in-Err-Memory-clause-advanced
 returns-in-Err-Memory-clause-advanced g c =

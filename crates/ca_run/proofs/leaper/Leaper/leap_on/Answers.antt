@@ -78,7 +78,8 @@ with_tree-requires g c = λ x y.
     let run = leapt_on rule s0 c.digits.self.nodes first c.args.n c.digits.reached inv.reached s2 more (2 ^ j) k some sum (omega (arith, less, c.requires.reached.most)) c.in_ok-tree.ensures.advanced.is_tree c.in_ok-tree.ensures.trimmed leapt in
     let on = goes_on_again _ c.args.self.now c.digits.self c.leap.new.self inv.goes_on c.in_ok-tree.ensures.goes_on in
     let same = after_same rule (cell s0 first) (cell s2 first) k (λ u v. sym (tree_stays s0 s2 sound on.grows first c.requires.first.is_tree u v)) x y in
-    subst (λ r. cell s2 more x y ≡ cells_after (next r) (cell s2 first) k x y) (sym on.rule) (run.cells x y ∙ same)
+    let here = subst (λ r. cell s2 more x y ≡ cells_after (next r) (cell s2 first) k x y) (sym on.rule) (run.cells x y ∙ same) in
+    subst (λ l. cell s2 more x y ≡ cells_after (next c.leap.new.self.rule) (cell l.nodes first) k x y) (sym c.self-then-left-j-eq1.view_is) here
 
 pub digits-preserved : goal.digits-preserved
 digits-preserved g c =

@@ -1,12 +1,26 @@
-use Rattle.std.proofs.Common.{◌≡◌, ◌+◌, ◌*◌, ◌%◌, ◌≤◌, ◌^◌, sym, ap, subst, ◌∙◌, arith}
+use Rattle.std.proofs.Common.{◌≡◌, ℕ, ◌+◌, ◌-◌, ◌*◌, ◌%◌, ◌<◌, ◌≤◌, ◌^◌, List, sym, ap, subst, ◌∙◌, arith}
 use Rattle.std.specs.Prelude.{ℤ, replicate}
 use Rattle.ca_plane.specs.Generations.{cells_after}
 use Rattle.ca_quad.specs.Sound.{IsSoundStore, Grows}
-use Rattle.ca_quad.specs.Trees.{cell}
+use Rattle.ca_quad.specs.Trees.{IsTree, cell}
+use Rattle.ca_quad.specs.Trimmed.{IsTrimmed}
+use Rattle.ca_quad.specs.declared.node.Node.{Node}
+use Rattle.ca_quad.specs.declared.tree.Tree.{Tree}
 use Rattle.ca_quad.proofs.Shifts.{some_level}
+use Rattle.ca_run.specs.declared.leaper.dense.Reached.{Reached}
+use Rattle.ca_run.specs.inner.Dense.{HasReached}
 use Rattle.ca_run.proofs.DenseRuns.{reached_kept, reached_level, reached_moved, leapt_on}
 use Rattle.ca_run.proofs.Trees.{shifted_one}
 use Rattle.ca_run.proofs.leaper.Leaper.leap_once.Goals as goal
+
+-- what is reached by a leap more, of 2 ^ j generations
+with_leap : (next : List ℕ → ℕ) (s0 s1 s2 : List Node) (first : Tree) (n : ℕ) (reached : Reached) → HasReached next s0 first n s1 reached → 1 ≤ first.level → (more : Tree) (j : ℕ) → j ≤ 60 → 2 ^ j ≤ n - reached.generations
+    → reached.generations < n → IsTree s2 more → IsTrimmed s2 more → ((x y : ℤ) → cell s2 more x y ≡ cells_after next (cell s1 reached.tree) (2 ^ j) x y)
+    → HasReached next s0 first n s2 (record { tree = more; generations = reached.generations + 1 * 2 ^ j % 18446744073709551616 })
+with_leap next s0 s1 s2 first n reached run some more j low fits left is_tree trimmed leapt =
+    let power = shifted_one j low in
+    let sum : reached.generations + 2 ^ j ≡ reached.generations + 1 * 2 ^ j % 18446744073709551616 = omega (arith, power) in
+    leapt_on next s0 s1 first n reached run s2 more (2 ^ j) (reached.generations + 1 * 2 ^ j % 18446744073709551616) some sum (omega (arith, sum, fits, left)) is_tree trimmed leapt
 
 pub leap-requires-clause-level : goal.leap-requires-clause-level
 leap-requires-clause-level g c =
@@ -14,30 +28,21 @@ leap-requires-clause-level g c =
     let some = some_level c.args.origin.now c.count-known.ensures.sound c.args.first.now c.requires.first.is_tree in
     reached_level (g.A.Automaton.next_of c.args.self.now.rule) c.args.origin.now c.args.self.now.nodes c.args.first.now c.args.n c.args.reached c.requires.reached quiet some c.requires.first.level c.requires.first.time
 
-pub with_tree_apart-requires : goal.with_tree_apart-requires
-with_tree_apart-requires g c = λ x y.
-    let j = c.digit-digit.result in
-    let k = c.args.reached.generations + 1 * 2 ^ j % 18446744073709551616 in
-    let leapt = subst (λ l. (x y : ℤ) → cell c.leap.new.self.nodes c.in-Ok.tree x y ≡ cells_after (g.A.Automaton.next_of l.rule) (cell l.nodes c.args.reached.tree) (2 ^ j) x y) c.set_room.ensures c.in-Ok.ensures.advanced.cells in
-    let power = shifted_one j c.digit-digit.ensures.low in
-    let sum : c.args.reached.generations + 2 ^ j ≡ k = omega (arith, power) in
-    let most : k ≤ c.args.n = omega (arith, sum, c.digit-digit.ensures.fits, c.requires.more) in
+pub with_tree-requires : goal.with_tree-requires
+with_tree-requires g c = λ x y.
+    let leapt = subst (λ l. (x y : ℤ) → cell c.leap.new.self.nodes c.in-Ok.tree x y ≡ cells_after (g.A.Automaton.next_of l.rule) (cell l.nodes c.args.reached.tree) (2 ^ c.digit-digit.result) x y) c.set_room.ensures c.in-Ok.ensures.advanced.cells in
     let some = some_level c.args.origin.now c.count-known.ensures.sound c.args.first.now c.requires.first.is_tree in
-    let run = leapt_on (g.A.Automaton.next_of c.args.self.now.rule) c.args.origin.now c.args.self.now.nodes c.args.first.now c.args.n c.args.reached c.requires.reached c.leap.new.self.nodes c.in-Ok.tree (2 ^ j) k some sum most
-    c.in-Ok.ensures.advanced.is_tree c.in-Ok.ensures.trimmed leapt in
-    subst (λ r. cell c.leap.new.self.nodes c.in-Ok.tree x y ≡ cells_after (g.A.Automaton.next_of r) (cell c.args.origin.now c.args.first.now) k x y) (sym (c.in-Ok.ensures.goes_on.rule ∙ ap (λ l. l.rule) c.set_room.ensures)) (run.cells x y)
+    let run = with_leap (g.A.Automaton.next_of c.args.self.now.rule) c.args.origin.now c.args.self.now.nodes c.leap.new.self.nodes c.args.first.now c.args.n c.args.reached c.requires.reached some c.in-Ok.tree c.digit-digit.result
+    c.digit-digit.ensures.low c.digit-digit.ensures.fits c.requires.more c.in-Ok.ensures.advanced.is_tree c.in-Ok.ensures.trimmed leapt in
+    subst (λ r. cell c.leap.new.self.nodes c.in-Ok.tree x y ≡ cells_after (g.A.Automaton.next_of r) (cell c.args.origin.now c.args.first.now) (c.args.reached.generations + 1 * 2 ^ c.digit-digit.result % 18446744073709551616) x y)
+    (sym (c.in-Ok.ensures.goes_on.rule ∙ ap (λ l. l.rule) c.set_room.ensures)) (run.cells x y)
 
 pub returns-in-Ok-clause-reached : goal.returns-in-Ok-clause-reached
 returns-in-Ok-clause-reached g c =
-    let j = c.digit-digit.result in
-    let k = c.args.reached.generations + 1 * 2 ^ j % 18446744073709551616 in
-    let leapt = subst (λ l. (x y : ℤ) → cell c.leap.new.self.nodes c.in-Ok.tree x y ≡ cells_after (g.A.Automaton.next_of l.rule) (cell l.nodes c.args.reached.tree) (2 ^ j) x y) c.set_room.ensures c.in-Ok.ensures.advanced.cells in
-    let power = shifted_one j c.digit-digit.ensures.low in
-    let sum : c.args.reached.generations + 2 ^ j ≡ k = omega (arith, power) in
-    let most : k ≤ c.args.n = omega (arith, sum, c.digit-digit.ensures.fits, c.requires.more) in
+    let leapt = subst (λ l. (x y : ℤ) → cell c.leap.new.self.nodes c.in-Ok.tree x y ≡ cells_after (g.A.Automaton.next_of l.rule) (cell l.nodes c.args.reached.tree) (2 ^ c.digit-digit.result) x y) c.set_room.ensures c.in-Ok.ensures.advanced.cells in
     let some = some_level c.args.origin.now c.count-known.ensures.sound c.args.first.now c.requires.first.is_tree in
-    leapt_on (g.A.Automaton.next_of c.args.self.now.rule) c.args.origin.now c.args.self.now.nodes c.args.first.now c.args.n c.args.reached c.requires.reached c.leap.new.self.nodes c.in-Ok.tree (2 ^ j) k some sum most
-    c.in-Ok.ensures.advanced.is_tree c.in-Ok.ensures.trimmed leapt
+    with_leap (g.A.Automaton.next_of c.args.self.now.rule) c.args.origin.now c.args.self.now.nodes c.leap.new.self.nodes c.args.first.now c.args.n c.args.reached c.requires.reached some c.in-Ok.tree c.digit-digit.result
+    c.digit-digit.ensures.low c.digit-digit.ensures.fits c.requires.more c.in-Ok.ensures.advanced.is_tree c.in-Ok.ensures.trimmed leapt
 
 pub returns-in_ok-tree-in-Err-Memory-clause-reached : goal.returns-in_ok-tree-in-Err-Memory-clause-reached
 returns-in_ok-tree-in-Err-Memory-clause-reached g c =

@@ -8,49 +8,33 @@ use Rattle.ca_run.proofs.leaper.Leaper.step_dense.Goals as goal
 
 pub returns-in_default-2-clause-reached : goal.returns-in_default-2-clause-reached
 returns-in_default-2-clause-reached g c =
-    let next = g.A.Automaton.next_of c.args.self.now.rule in
-    let s0 = c.args.self.now.nodes in
-    let s1 = c.walls.self.nodes in
-    let s2 = c.step_wall.new.self.nodes in
-    let tree = c.args.tree.now in
     let inv = c.walls.invariant in
     let sound = subst (λ l. IsSoundStore l.nodes) c.self.view_is c.self.invariant.squares in
     let on = goes_on_again _ c.args.self.now c.walls.self c.step_wall.new.self inv.goes_on c.in_ok-stretch.ensures.goes_on in
-    let first = of_stays s0 s1 sound inv.goes_on.grows tree.root tree.level c.requires.tree in
-    reached_before next s0 s2 s2 tree c.args.n c.walls.reached sound on.grows c.requires.tree
-    (reached_stays next s1 s2 tree c.args.n c.walls.reached inv.goes_on.grows.sound c.in_ok-stretch.ensures.goes_on.grows first inv.reached)
+    let first = of_stays _ _ sound inv.goes_on.grows c.args.tree.now.root c.args.tree.now.level c.requires.tree in
+    let kept = reached_stays _ _ _ c.args.tree.now c.args.n c.walls.reached inv.goes_on.grows.sound c.in_ok-stretch.ensures.goes_on.grows first inv.reached in
+    reached_before _ _ _ _ c.args.tree.now c.args.n c.walls.reached sound on.grows c.requires.tree kept
 
 pub returns-then-work-least-clause-reached : goal.returns-then-work-least-clause-reached
 returns-then-work-least-clause-reached g c =
-    let next = g.A.Automaton.next_of in
-    let s0 = c.args.self.now.nodes in
-    let s1 = c.walls.self.nodes in
-    let s2 = c.step_wall.new.self.nodes in
-    let tree = c.args.tree.now in
-    let reached = c.in-Some-2.stretch.reached in
     let inv = c.walls.invariant in
     let sound = subst (λ l. IsSoundStore l.nodes) c.self.view_is c.self.invariant.squares in
-    let made = subst (λ found. IfSome found (λ stretch. HasReached (next c.walls.self.rule) s1 tree c.args.n s2 stretch.reached)) c.in-Some-2.is c.in_ok-stretch.ensures.reached in
-    subst (λ r. HasReached (next r) s0 tree c.args.n s2 reached) inv.goes_on.rule
-    (reached_before (next c.walls.self.rule) s0 s1 s2 tree c.args.n reached sound inv.goes_on.grows c.requires.tree made)
+    let made = subst (λ found. IfSome found (λ stretch. HasReached (g.A.Automaton.next_of c.walls.self.rule) c.walls.self.nodes c.args.tree.now c.args.n c.step_wall.new.self.nodes stretch.reached)) c.in-Some-2.is c.in_ok-stretch.ensures.reached in
+    subst (λ r. HasReached (g.A.Automaton.next_of r) c.args.self.now.nodes c.args.tree.now c.args.n c.step_wall.new.self.nodes c.in-Some-2.stretch.reached) inv.goes_on.rule
+    (reached_before _ _ _ _ c.args.tree.now c.args.n _ sound inv.goes_on.grows c.requires.tree made)
 
 pub returns-then-work-least-clause-goes_on : goal.returns-then-work-least-clause-goes_on
 returns-then-work-least-clause-goes_on g c = goes_on_again _ c.args.self.now c.walls.self c.step_wall.new.self c.walls.invariant.goes_on c.in_ok-stretch.ensures.goes_on
 
 pub walls-preserved : goal.walls-preserved
 walls-preserved g c =
-    let next = g.A.Automaton.next_of in
-    let s1 = c.walls.self.nodes in
-    let s2 = c.step_wall.new.self.nodes in
-    let tree = c.args.tree.now in
-    let reached = c.in-Some-2.stretch.reached in
     let inv = c.walls.invariant in
     let sound = subst (λ l. IsSoundStore l.nodes) c.self.view_is c.self.invariant.squares in
-    let first = of_stays c.args.self.now.nodes s1 sound inv.goes_on.grows tree.root tree.level c.requires.tree in
-    let made = subst (λ found. IfSome found (λ stretch. HasReached (next c.walls.self.rule) s1 tree c.args.n s2 stretch.reached)) c.in-Some-2.is c.in_ok-stretch.ensures.reached in
+    let made = subst (λ found. IfSome found (λ stretch. HasReached (g.A.Automaton.next_of c.walls.self.rule) c.walls.self.nodes c.args.tree.now c.args.n c.step_wall.new.self.nodes stretch.reached)) c.in-Some-2.is c.in_ok-stretch.ensures.reached in
+    let first = of_stays _ _ sound inv.goes_on.grows c.args.tree.now.root c.args.tree.now.level c.requires.tree in
     record {
-      reached = subst (λ r. HasReached (next r) s2 tree c.args.n s2 reached) inv.goes_on.rule
-          (reached_now (next c.walls.self.rule) s1 s2 tree c.args.n reached inv.goes_on.grows.sound c.in_ok-stretch.ensures.goes_on.grows first made);
+      reached = subst (λ r. HasReached (g.A.Automaton.next_of r) c.step_wall.new.self.nodes c.args.tree.now c.args.n c.step_wall.new.self.nodes c.in-Some-2.stretch.reached) inv.goes_on.rule
+          (reached_now _ _ _ c.args.tree.now c.args.n _ inv.goes_on.grows.sound c.in_ok-stretch.ensures.goes_on.grows first made);
       goes_on = goes_on_again _ c.args.self.now c.walls.self c.step_wall.new.self inv.goes_on c.in_ok-stretch.ensures.goes_on;
       costs = wall_more c.args.tree.now c.walls.counter inv.costs c.in_ok-stretch.ensures.costs;
     }

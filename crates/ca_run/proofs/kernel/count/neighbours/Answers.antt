@@ -1,5 +1,5 @@
 use Rattle.std.proofs.Common.{suc, ◌<◌, arith}
-use Rattle.ca_run.proofs.kernel.count.Count.neighbours.Goals as goal
+use Rattle.ca_run.proofs.kernel.count.neighbours.Goals as goal
 
 -- three rows of three, added by columns, and then in binary
 pub returns : goal.returns
