@@ -14,7 +14,7 @@ use Rattle.ca_claims.specs.Means.{format_of}
 pub in_format : (P : Format → Type 0) (bytes : List ℕ) (format : Format) → format_of bytes ≡ format → P format → P (format_of bytes)
 in_format P bytes format is h = subst P (sym is) h
 
-All-each : {X : Type 0} (P : X → Type 0) (xs : List X) → AllByRecursion P xs → All P xs
+pub All-each : {X : Type 0} (P : X → Type 0) (xs : List X) → AllByRecursion P xs → All P xs
 All-each P [] h = All-nil P
 All-each P (x ∷ xs) h = All-cons P x xs h.0 (All-each P xs h.1)
 

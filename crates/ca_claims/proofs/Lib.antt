@@ -39,3 +39,8 @@ pub mod Reasoned
 pub mod LifeSpans
 pub mod Stages
 pub mod Identities
+pub mod UnknownRules
+pub mod AddedTables
+pub mod RuleLines
+pub mod LaterPlanes
+pub mod ReachedFiles

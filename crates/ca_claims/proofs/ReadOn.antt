@@ -68,7 +68,7 @@ text_kept : (old new : List (List ℕ)) → Grown old new → (i : ℕ) → i < 
 text_kept old new grown i lt = ap (λ o. unwrap_or o []) (grown.stays i lt)
 
 -- rules keep their tables
-rules_kept : (paths more : List (List ℕ)) → Grown paths more → (rules : List ℕ) → All (λ i. i < length paths) rules → map (path_at more) rules ≡ map (path_at paths) rules
+pub rules_kept : (paths more : List (List ℕ)) → Grown paths more → (rules : List ℕ) → All (λ i. i < length paths) rules → map (path_at more) rules ≡ map (path_at paths) rules
 rules_kept paths more grown [] h = refl
 rules_kept paths more grown (i ∷ is) h =
     let first = text_kept paths more grown i (All-head (λ k. k < length paths) i is h) in
@@ -76,7 +76,7 @@ rules_kept paths more grown (i ∷ is) h =
     λ j. first j ∷ others j
 
 -- and their places within the paths
-places_kept : (paths more : List (List ℕ)) → Grown paths more → (rules : List ℕ) → All (λ i. i < length paths) rules → All (λ i. i < length more) rules
+pub places_kept : (paths more : List (List ℕ)) → Grown paths more → (rules : List ℕ) → All (λ i. i < length paths) rules → All (λ i. i < length more) rules
 places_kept paths more grown rules h = All-weaker (λ i. i < length paths) (λ i. i < length more) (λ i lt. omega (arith, grown.no_shorter)) rules h
 
 module _ (names after paths more : List (List ℕ)) (grown : Grown names after) (longer : Grown paths more) where
@@ -103,14 +103,14 @@ module _ (names after paths more : List (List ℕ)) (grown : Grown names after) 
   }
 
   -- so do all claims
-  all_kept : (claims : List (ClaimLine Place)) → All (λ l. IsNamed names paths l.claim) claims → map (claim_with_names after more) claims ≡ map (claim_with_names names paths) claims
+  pub all_kept : (claims : List (ClaimLine Place)) → All (λ l. IsNamed names paths l.claim) claims → map (claim_with_names after more) claims ≡ map (claim_with_names names paths) claims
   all_kept [] h = refl
   all_kept (l ∷ ls) h =
       let first = claim_kept l (All-head (λ k. IsNamed names paths k.claim) l ls h) in
       let others = all_kept ls (All-tail (λ k. IsNamed names paths k.claim) l ls h) in
       λ i. first i ∷ others i
 
-  all_there : (claims : List (ClaimLine Place)) → All (λ l. IsNamed names paths l.claim) claims → All (λ l. IsNamed after more l.claim) claims
+  pub all_there : (claims : List (ClaimLine Place)) → All (λ l. IsNamed names paths l.claim) claims → All (λ l. IsNamed after more l.claim) claims
   all_there claims h = All-weaker (λ l. IsNamed names paths l.claim) (λ l. IsNamed after more l.claim) (λ l. named_there l.claim) claims h
 
   -- and each name

@@ -193,7 +193,7 @@ module _ (files : List (List ℕ × List ℕ)) (path : List ℕ) where
         small_or_large bytes tables cells others rule other_rule one.0 two.0 one.1 small two.1 large
 
 -- the files of paths are one list of tables
-one_tables : (files : List (List ℕ × List ℕ)) (rules : List (List ℕ)) (ts us : List TableRule) → AreTables files rules ts → AreTables files rules us → ts ≡ us
+pub one_tables : (files : List (List ℕ × List ℕ)) (rules : List (List ℕ)) (ts us : List TableRule) → AreTables files rules ts → AreTables files rules us → ts ≡ us
 one_tables files [] [] [] a b = refl
 one_tables files [] [] (u ∷ us) a b = absurd b
 one_tables files (r ∷ rs) (t ∷ ts) [] a b = absurd b

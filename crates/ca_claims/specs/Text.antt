@@ -193,3 +193,12 @@ asked_by said = record {
   claims = map by_path (claims_from 1 [] said);
   patterns = map named_patterns (claims_from 1 [] said);
 }
+
+-- what the text asks with one more line at its end, which says that a rule table is at the path
+abbrev pub with_rule_line : ClaimText → List ℕ → ClaimText
+with_rule_line asked path = record {
+  paths = paths_once (asked.paths ++ path ∷ []);
+  rules = asked.rules ++ path ∷ [];
+  claims = asked.claims;
+  patterns = asked.patterns;
+}

@@ -16,3 +16,4 @@ pub mod Tables
 pub mod Tasks
 pub mod Divisors
 pub mod Subjects
+pub mod Unknown

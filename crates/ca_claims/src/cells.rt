@@ -7,11 +7,12 @@ ghost use Rattle.ca_macro.specs.Pattern.{AreInRange};
 ghost use Rattle.ca_plane.specs.Population.{HasFewCells, HasTooManyCells};
 ghost use Rattle.ca_rule.specs.Rule.{rule_value};
 ghost use Rattle.ca_claims.specs.Answers.{HasLargeState, HasSmallStates};
-ghost use Rattle.ca_claims.specs.inner.Cells.{IsPlaneOf};
+ghost use Rattle.ca_claims.specs.Ahead.{HasCellOutOfRange};
+ghost use Rattle.ca_claims.specs.inner.Cells.{IsBoxInRange, IsBoxOutOfRange, IsPlaneOf};
 
-use ca_plane::limits::MOST_CELLS;
+use ca_plane::limits::{MOST_CELLS, RANGE};
 use ca_plane::{Automaton, Memory, Plane};
-use ca_quad::{QuadFault, Store, Tree};
+use ca_quad::{QuadFault, Store, Tree, WideBounds};
 use ca_rule::Rule;
 use std::alloc::Global;
 
@@ -55,6 +56,26 @@ pub(crate) fn has_too_many_cells(alloc: Global, store: &Store, tree: Tree) -> Re
 {
     let count = store.population(alloc, tree)?;
     Ok(count > u128::from(MOST_CELLS))
+}
+
+/// Whether every live cell of the tree is where a file may have it.
+pub(crate) fn are_in_range(alloc: Global, store: &Store, tree: Tree) -> Result<bool, Memory>
+    requires { IsTree store.now tree }
+    ensures within { IfOk result (λ within. IsTrue within → AreInRange (cell store.now tree)) }
+    ensures out { IfOk result (λ within. IsFalse within → HasCellOutOfRange (cell store.now tree)) }
+{
+    match store.bounds(alloc, tree)? {
+        Some(bounds) => Ok(is_in_range(bounds)),
+        None => Ok(true),
+    }
+}
+
+/// Whether a box is where a file may have live cells.
+fn is_in_range(bounds: WideBounds) -> bool
+    ensures within { IsTrue result → IsBoxInRange bounds }
+    ensures out { IsFalse result → IsBoxOutOfRange bounds }
+{
+    -RANGE <= bounds.x0 && bounds.x1 < RANGE && -RANGE <= bounds.y0 && bounds.y1 < RANGE
 }
 
 /// The plane with the cells of the tree. None where it has too many.

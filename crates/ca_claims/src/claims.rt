@@ -7,7 +7,7 @@ ghost use Rattle.std.specs.Str.{bytes_eq};
 ghost use Rattle.ca_claims.specs.Places.{path_at, claim_with_paths, named_path, IsAsked};
 ghost use Rattle.ca_claims.specs.inner.Patterns.{items};
 ghost use Rattle.ca_claims.specs.Needed.{IsNeeded};
-ghost use Rattle.ca_claims.specs.Text.{Claim as TextClaim, patterns_of};
+ghost use Rattle.ca_claims.specs.Text.{Claim as TextClaim, patterns_of, with_rule_line};
 
 mod asks;
 mod limits;
@@ -24,7 +24,7 @@ pub(crate) use asks::{Asks, Barred, Wanted};
 use ca_plane::Memory;
 pub(crate) use line::{Claim, ClaimLine, Named, Place};
 use marks::{mark_claims, mark_each};
-use paths::Paths;
+pub(crate) use paths::Paths;
 pub use reading::read_claims;
 use std::alloc::Global;
 use std::marker::Model;
@@ -109,6 +109,21 @@ impl Claims {
         mark_each(&mut needed, &self.rules);
         mark_claims(&mut needed, &self.claims);
         Ok(needed)
+    }
+
+    /// The claims of the same text with one more line at its end, which says that a rule table is at the path.
+    ///
+    /// # Errors
+    ///
+    /// Fails where there is no memory for the path. Then the claims are gone.
+    pub fn with_rule(mut self, alloc: Global, path: &[u8]) -> Result<Claims, Memory>
+        ensures { IfOk result (λ claims. claims ≡ with_rule_line self path.now) }
+    {
+        // Says that no two of the paths are equal.
+        let _ = self.path_count();
+        let table = self.paths.put(alloc, path)?;
+        self.rules.push(table)?;
+        Ok(self)
     }
 
     /// The index of the path, where the text names it.

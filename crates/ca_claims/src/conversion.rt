@@ -6,17 +6,16 @@ ghost use Rattle.ca_quad.specs.Trees.{cell};
 ghost use Rattle.ca_rule.specs.Rule.{rule_value};
 ghost use Rattle.ca_claims.specs.declared.format.Format.TheVariants.{Rle, Mc};
 ghost use Rattle.ca_claims.specs.Converted.{IsConverted, IsConvertFault};
-ghost use Rattle.ca_claims.specs.inner.Ready.{IsWritableTree, IsWritablePlane, IsTreeWrittenAs, IsWrittenAs};
-ghost use Rattle.ca_claims.specs.inner.Ready.{AreUnwritten};
+ghost use Rattle.ca_claims.specs.inner.Ready.{IsWritableTree, IsWritablePlane, IsWrittenAs, AreUnwritten};
 
 use crate::cells::plane_of;
 use crate::format::Format;
 use crate::read::format_of;
-use crate::ruled::{Ruled, read_ruled, read_ruled_plane};
+use crate::ruled::{read_ruled, read_ruled_plane};
 use crate::verdict::PatternFault;
 use ca_macro::write_macro;
 use ca_plane::{Automaton, Plane};
-use ca_quad::Store;
+use ca_quad::{Store, Tree};
 use ca_rle::write_rle;
 use ca_rule::{Rule, RuleFault, Table};
 use std::alloc::Global;
@@ -80,7 +79,8 @@ fn to_rle(alloc: Global, bytes: &[u8], tables: &[Table]) -> Result<Vec<u8>, Conv
         Format::Mc => {
             let mut store = Store::new(alloc);
             let ruled = read_ruled(alloc, &mut store, bytes, tables)?;
-            rle_of_tree(alloc, &store, &ruled)
+            let pattern = &ruled.pattern;
+            rle_of_tree(alloc, &store, pattern.tree, &ruled.rule, pattern.generation)
         }
     }
 }
@@ -92,7 +92,14 @@ fn to_macro(alloc: Global, bytes: &[u8], tables: &[Table]) -> Result<Vec<u8>, Co
 {
     let mut store = Store::new(alloc);
     let ruled = read_ruled(alloc, &mut store, bytes, tables)?;
-    macro_of(alloc, &mut store, &ruled)
+    let pattern = &ruled.pattern;
+    macro_of(
+        alloc,
+        &mut store,
+        pattern.tree,
+        &ruled.rule,
+        pattern.generation,
+    )
 }
 
 /// The tidy RLE of the cells of a plane.
@@ -117,37 +124,42 @@ fn rle_of_plane(
 }
 
 /// The tidy RLE of a tree, where it hasn't too many cells.
-fn rle_of_tree(alloc: Global, store: &Store, ruled: &Ruled<'_>) -> Result<Vec<u8>, ConvertFault>
-    requires { IsWritableTree store.now ruled.now }
-    ensures written { IfOk result (λ text. IsTreeWrittenAs Rle store.now ruled.now text.items) }
-    ensures fault { IfErr result (AreUnwritten Rle (cell store.now ruled.now.pattern.tree)) }
+pub(crate) fn rle_of_tree(
+    alloc: Global,
+    store: &Store,
+    tree: Tree,
+    rule: &Rule<'_>,
+    generation: u64,
+) -> Result<Vec<u8>, ConvertFault>
+    requires { IsWritableTree store.now tree (rule_value rule.now) generation }
+    ensures written { IfOk result (λ text.
+        IsWrittenAs Rle (cell store.now tree) (rule_value rule.now) generation text.items) }
+    ensures fault { IfErr result (AreUnwritten Rle (cell store.now tree)) }
 {
-    match plane_of(alloc, store, ruled.pattern.tree) {
-        Ok(Some(cells)) => rle_of_plane(alloc, &cells, &ruled.rule, ruled.pattern.generation),
+    match plane_of(alloc, store, tree) {
+        Ok(Some(cells)) => rle_of_plane(alloc, &cells, rule, generation),
         Ok(None) => Err(ConvertFault::TooManyCells),
         Err(_) => Err(ConvertFault::Memory),
     }
 }
 
 /// The tidy macrocell of a tree.
-fn macro_of(alloc: Global, store: &mut Store, ruled: &Ruled<'_>) -> Result<Vec<u8>, ConvertFault>
-    requires { IsWritableTree store.old ruled.now }
-    ensures written { IfOk result (λ text. IsTreeWrittenAs Mc store.old ruled.now text.items) }
-    ensures fault { IfErr result (AreUnwritten Mc (cell store.old ruled.now.pattern.tree)) }
+pub(crate) fn macro_of(
+    alloc: Global,
+    store: &mut Store,
+    tree: Tree,
+    rule: &Rule<'_>,
+    generation: u64,
+) -> Result<Vec<u8>, ConvertFault>
+    requires { IsWritableTree store.old tree (rule_value rule.now) generation }
+    ensures written { IfOk result (λ text.
+        IsWrittenAs Mc (cell store.old tree) (rule_value rule.now) generation text.items) }
+    ensures fault { IfErr result (AreUnwritten Mc (cell store.old tree)) }
 {
-    let Ok(rule_text) = ruled.rule.text(alloc) else {
+    let Ok(rule_text) = rule.text(alloc) else {
         return Err(ConvertFault::Memory);
     };
-    let tree = ruled.pattern.tree;
-    let generation = ruled.pattern.generation;
-    match write_macro(
-        alloc,
-        store,
-        tree,
-        &rule_text,
-        generation,
-        ruled.rule.states(),
-    ) {
+    match write_macro(alloc, store, tree, &rule_text, generation, rule.states()) {
         Ok(text) => Ok(text),
         Err(_) => Err(ConvertFault::Memory),
     }

@@ -5,21 +5,21 @@ ghost use Rattle.ca_plane.specs.Bytes.{IsWord};
 ghost use Rattle.ca_plane.specs.Plane.{Picture, IsLive, cell as plane_cell};
 ghost use Rattle.ca_plane.specs.Box.{IsLeastBox};
 ghost use Rattle.ca_quad.specs.Trees.{cell};
+ghost use Rattle.ca_rule.specs.Rule.{rule_value};
 ghost use Rattle.ca_claims.specs.declared.format.Format.TheVariants.{Rle, Mc};
 ghost use Rattle.ca_claims.specs.Converted.{IsSummary, IsSummaryFault};
 ghost use Rattle.ca_claims.specs.Means.{format_of};
-ghost use Rattle.ca_claims.specs.inner.Glance.{AreNearBounds, IsTold};
-ghost use Rattle.ca_claims.specs.inner.Patterns.{rule_of};
-ghost use Rattle.ca_claims.specs.inner.Subjects.{IsPattern};
+ghost use Rattle.ca_claims.specs.inner.Glance.{AreNearBounds, IsLowTree, IsTold};
 
 use crate::conversion::ConvertFault;
+use crate::decide::copy;
 use crate::format::Format;
 use crate::pattern::Summary;
 use crate::read::format_of;
-use crate::ruled::{Ruled, read_ruled, read_ruled_plane};
+use crate::ruled::{read_ruled, read_ruled_plane};
 use ca_plane::{Bounds, Memory};
 use ca_quad::{Store, Tree, WideBounds};
-use ca_rule::Table;
+use ca_rule::{Rule, Table};
 use std::alloc::Global;
 
 /// The summary of a pattern file. No cell is counted out, so that a macrocell may have any number of them.
@@ -67,27 +67,40 @@ fn macro_summary(alloc: Global, bytes: &[u8], tables: &[Table]) -> Result<Summar
 {
     let mut store = Store::new(alloc);
     let ruled = read_ruled(alloc, &mut store, bytes, tables)?;
-    match sum_up(alloc, &store, &ruled) {
+    let pattern = &ruled.pattern;
+    match sum_up(
+        alloc,
+        &store,
+        &pattern.tree,
+        pattern.kind,
+        &ruled.rule,
+        pattern.generation,
+    ) {
         Ok(summary) => Ok(summary),
         Err(_) => Err(ConvertFault::Memory),
     }
 }
 
-/// The summary of a pattern.
-fn sum_up(alloc: Global, store: &Store, ruled: &Ruled<'_>) -> Result<Summary, Memory>
-    requires { IsPattern store.now ruled.now.pattern.tree }
-    ensures told { IfOk result (IsTold ruled.now.pattern.kind (cell store.now ruled.now.pattern.tree)
-        (rule_of ruled.now)
-        ruled.now.pattern.generation) }
+/// The summary of the plane of a tree: of a file of this kind, under this rule, and at this generation.
+pub(crate) fn sum_up(
+    alloc: Global,
+    store: &Store,
+    tree: &Tree,
+    kind: Format,
+    rule: &Rule<'_>,
+    generation: u64,
+) -> Result<Summary, Memory>
+    requires { IsLowTree store.now tree.now }
+    ensures told { IfOk result (IsTold kind (cell store.now tree.now) (rule_value rule.now) generation) }
     ensures word { IfOk result (λ s. IsWord s.rule_text.items) }
 {
-    let cells = store.population(alloc, ruled.pattern.tree)?;
-    let bounds = bounds_of(alloc, store, ruled.pattern.tree)?;
-    let rule_text = ruled.rule.text(alloc)?;
+    let cells = store.population(alloc, copy(tree))?;
+    let bounds = bounds_of(alloc, store, copy(tree))?;
+    let rule_text = rule.text(alloc)?;
     Ok(Summary {
-        kind: ruled.pattern.kind,
+        kind,
         rule_text,
-        generation: ruled.pattern.generation,
+        generation,
         cells,
         bounds,
     })
@@ -95,10 +108,12 @@ fn sum_up(alloc: Global, store: &Store, ruled: &Ruled<'_>) -> Result<Summary, Me
 
 /// The least box round the live cells of a tree, where there are any.
 fn bounds_of(alloc: Global, store: &Store, tree: Tree) -> Result<Option<Bounds>, Memory>
-    requires { IsPattern store.now tree }
+    requires { IsLowTree store.now tree }
     ensures { (cells : Picture) → ((x y : ℤ) → cell store.now tree x y ≡ plane_cell cells x y)
         → IfOk result (λ found. MatchOption found (IsLive cells → ⊥) (IsLeastBox cells)) }
 {
+    // Says what holds of every store.
+    let _ = store.count();
     match store.bounds(alloc, tree)? {
         Some(bounds) => Ok(Some(narrowed(bounds))),
         None => Ok(None),

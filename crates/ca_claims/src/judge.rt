@@ -137,7 +137,11 @@ impl<'a> Judge<'a> {
 }
 
 /// What the claims of a text need of these files. A text without claims needs nothing.
-fn look_up<'a>(alloc: Global, claims: &Claims, files: &[File<'a>]) -> Result<Needed<'a>, Memory>
+pub(crate) fn look_up<'a>(
+    alloc: Global,
+    claims: &Claims,
+    files: &[File<'a>],
+) -> Result<Needed<'a>, Memory>
     ensures found { IfOk result
         (λ n. claims.now.claims ≢ [] → AreFound (contents files.now) claims.now n.found.items n.tables) }
     ensures memory { OnErr result (claims.now.claims ≢ []) }

@@ -2,6 +2,7 @@
 //! are converted.
 #![tactic(auto)]
 
+mod ahead;
 mod cells;
 mod claims;
 mod conversion;
@@ -20,13 +21,17 @@ mod note;
 mod noting;
 mod observer;
 mod pattern;
+mod reached;
 mod read;
 mod refusal;
+mod rule_names;
 mod ruled;
+mod unknown;
 mod verdict;
 pub mod verdict_laws;
 mod verifier;
 
+pub use ahead::{convert_after, run_on, summary_after};
 pub use claims::{Claims, read_claims};
 pub use conversion::{ConvertFault, convert};
 pub use fault::ClaimFault;
@@ -41,6 +46,9 @@ pub use limits::{Limits, MOST_MEMO, USUAL_MEMO};
 pub use note::Note;
 pub use observer::Observer;
 pub use pattern::{Loaded, Summary};
+pub use reached::{ReachFault, Reached};
 pub use read::read_pattern;
+pub use rule_names::RuleNames;
+pub use unknown::{is_table_named, unknown_rules};
 pub use verdict::{Answer, Cause, PatternFault, Verdict, Why};
 pub use verifier::verify;

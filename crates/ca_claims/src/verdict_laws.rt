@@ -1,8 +1,10 @@
 //! Laws of verdicts, which no call needs to run: what a true claim of each kind is, and what a reason against
 //! one shows; a no means that the claim is false, and it's false for one kind of reason; a file has one
-//! meaning; and, out of work and memory apart, only one kind of verdict is true of a claim.
+//! meaning; out of work and memory apart, only one kind of verdict is true of a claim; and rule lines that are added
+//! change no verdict but that a rule isn't known.
 
-ghost use Rattle.std.specs.Prelude.{◌≡◌, ◌≢◌, ℕ, suc, ◌≤◌, ◌<◌, ◌↔◌, ℤ, List, [], replicate, pos, negsuc};
+ghost use Rattle.std.specs.Prelude.{◌≡◌, ◌≢◌, ℕ, suc, ◌≤◌, ◌<◌, ◌↔◌, ℤ, List, [], ◌++◌, replicate, pos, negsuc};
+ghost use Rattle.std.specs.List.{AllByRecursion};
 ghost use Rattle.ca_plane.specs.Plane.{Picture, cell, shifted, IsLive};
 ghost use Rattle.ca_plane.specs.Generations.{after, IsAfter};
 ghost use Rattle.ca_claims.specs.declared.claims.line.Kind.{Kind};
@@ -12,13 +14,15 @@ ghost use Rattle.ca_claims.specs.Text.{Claim};
 ghost use Rattle.ca_claims.specs.Means.{Means};
 ghost use Rattle.ca_claims.specs.Truth.{asks_of, IsChanged, IsNowhere, IsLiveAfter, IsTrueClaim};
 ghost use Rattle.ca_claims.specs.Truth.{IsReason, IsSameReason};
-ghost use Rattle.ca_claims.specs.Answers.{IsTrueVerdict};
+ghost use Rattle.ca_claims.specs.Answers.{IsTrueVerdict, HoldsTable};
 ghost use Rattle.ca_claims.specs.Examples.{life, blinker, block};
 ghost use Rattle.ca_claims.specs.declared.verdict.Why.{Why};
 ghost use Rattle.ca_claims.specs.declared.verdict.Why.TheVariants.{Empty, Differs, Earlier, Died};
+ghost use Rattle.ca_claims.specs.declared.verdict.Verdict.{Verdict};
 ghost use Rattle.ca_claims.specs.declared.verdict.Verdict.TheVariants.{Yes, No, Refused};
 ghost use Rattle.ca_claims.specs.declared.verdict.Cause.{Cause};
-ghost use Rattle.ca_claims.specs.declared.verdict.Cause.TheVariants.{NoFile, BadTable, Work, Memory};
+ghost use Rattle.ca_claims.specs.declared.verdict.Cause.TheVariants.{NoFile, BadTable, BadRule, Work, Memory};
+ghost use Rattle.ca_rule.specs.declared.fault.RuleFault.TheVariants.{Unknown};
 ghost use Rattle.ca_rule.specs.declared.table.fault.TableFault.{TableFault};
 
 /// What it means that a claim of each kind is true.
@@ -175,6 +179,14 @@ pub fn one_kind_of_verdict()
         (fault : TableFault)
         → IsTrueVerdict files rules claim (Refused (BadTable fault))
         → IsTrueVerdict files rules claim (Refused Memory) → ⊥ }
+{}
+
+/// With more rule lines at the text's end, whose files are good tables, a true verdict stays true, but for one that
+/// a pattern's rule isn't known: so they change no other claim.
+pub fn added_rules_change_no_verdict()
+    ensures { (files : List (List ℕ × List ℕ)) (rules more : List (List ℕ)) (claim : Claim) (verdict : Verdict)
+        → AllByRecursion (HoldsTable files) more → verdict ≢ Refused (BadRule Unknown)
+        → IsTrueVerdict files rules claim verdict → IsTrueVerdict files (rules ++ more) claim verdict }
 {}
 
 /// Cells of the blinker and the block under Conway's Life.

@@ -1,18 +1,26 @@
 -- What is told of a pattern.
-use Rattle.std.specs.Prelude.{◌≡◌, ℕ, ℤ, pos, neg_ℤ, ◌≤ℤ◌, ◌<ℤ◌, MatchOption}
+use Rattle.std.specs.Prelude.{◌≡◌, ℕ, ◌≤◌, ℤ, neg_ℤ, ◌≤ℤ◌, List, MatchOption}
 use Rattle.ca_plane.specs.Plane.{Picture, IsLive}
 use Rattle.ca_plane.specs.Plane as plane
 use Rattle.ca_plane.specs.Box.{IsLeastBox}
-use Rattle.ca_plane.specs.Limits.{range}
 use Rattle.ca_plane.specs.Population.{HasPopulation}
+use Rattle.ca_plane.specs.Sparse.{reach}
+use Rattle.ca_quad.specs.declared.node.Node.{Node}
+use Rattle.ca_quad.specs.declared.tree.Tree.{Tree}
 use Rattle.ca_quad.specs.declared.tree.WideBounds.{WideBounds}
+use Rattle.ca_quad.specs.Trees.{IsTree}
 use Rattle.ca_rule.specs.Rule.{RuleValue, printed_form}
 use Rattle.ca_claims.specs.declared.pattern.Summary.{Summary}
 use Rattle.ca_claims.specs.declared.format.Format.{Format}
 
+-- a tree of at most 2^63 cells a side
+pub record IsLowTree (nodes : List Node) (tree : Tree) : Type 0 where
+  pub is_tree : IsTree nodes tree
+  pub low : tree.level ≤ 63
+
 -- a coordinate of a live cell
 abbrev pub IsCoordinate : ℤ → Type 0
-IsCoordinate n = (neg_ℤ (pos range) ≤ℤ n) × (n <ℤ pos range)
+IsCoordinate n = (neg_ℤ reach ≤ℤ n) × (n ≤ℤ reach)
 
 -- the sides of the box are those of live cells
 pub record AreNearBounds (bounds : WideBounds) : Type 0 where

@@ -6,6 +6,7 @@ use Rattle.ca_plane.specs.Limits.{generation_limit, most_cells}
 use Rattle.ca_plane.specs.Population.{HasTooManyCells}
 use Rattle.ca_plane.specs.Sparse.{IsSparse}
 use Rattle.ca_quad.specs.declared.node.Node.{Node}
+use Rattle.ca_quad.specs.declared.tree.Tree.{Tree}
 use Rattle.ca_quad.specs.Trees.{IsTree, cell}
 use Rattle.ca_macro.specs.Pattern.{AreInRange}
 use Rattle.ca_rule.specs.TableNext.{TableRule}
@@ -41,10 +42,10 @@ pub record AreWritable (cells : ℤ → ℤ → ℕ) (rule : RuleValue) (generat
   pub small : HasSmallStates rule cells
   pub low : generation < generation_limit
 
--- a tree whose cells may be written under the pattern's rule
-pub record IsWritableTree (nodes : List Node) (ruled : Ruled) : Type 0 where
-  pub tree : IsTree nodes ruled.pattern.tree
-  pub writable : AreWritable (cell nodes ruled.pattern.tree) (rule_of ruled) ruled.pattern.generation
+-- a tree whose cells may be written under the rule at this generation
+pub record IsWritableTree (nodes : List Node) (tree : Tree) (rule : RuleValue) (generation : ℕ) : Type 0 where
+  pub is_tree : IsTree nodes tree
+  pub writable : AreWritable (cell nodes tree) rule generation
 
 -- the same of the cells of a plane, which aren't too many
 pub record IsWritablePlane (picture : Picture) (rule : RuleValue) (generation : ℕ) : Type 0 where
@@ -64,10 +65,6 @@ pub record IsWrittenAs (target : Format) (cells : ℤ → ℤ → ℕ) (rule : R
   pub format : format_of text ≡ target
   pub holds : HoldsPattern text shown (printed_form rule) generation
   pub tidy : IsTidyAs target text shown (printed_form rule) generation (states_of rule)
-
--- the same of the cells of a tree
-abbrev pub IsTreeWrittenAs : Format → List Node → Ruled → List ℕ → Type 0
-IsTreeWrittenAs target nodes ruled text = IsWrittenAs target (cell nodes ruled.pattern.tree) (rule_of ruled) ruled.pattern.generation text
 
 -- why cells aren't written in a format: an RLE may not have too many
 abbrev pub AreUnwritten : Format → (ℤ → ℤ → ℕ) → ConvertFault → Type 0

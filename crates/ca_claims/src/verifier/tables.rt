@@ -67,6 +67,19 @@ impl Tables {
         }
     }
 
+    /// The tables, where all files are there and good.
+    pub(crate) fn good(&self) -> Option<&[Table]>
+        ensures { (files : List (List ℕ × List ℕ)) (paths rules : List (List ℕ))
+            → AreRead files paths rules self.now
+            → MatchOption result ((tables : List TableRule) → AreTables files rules tables → ⊥)
+            (λ tables. AreTables files rules tables.now) }
+    {
+        let Tables::Read(tables) = self else {
+            return None;
+        };
+        Some(tables)
+    }
+
     /// The tables, or why no claim is judged without them.
     pub(crate) fn all(&self) -> Result<&[Table], Refusal>
         ensures tables { (files : List (List ℕ × List ℕ)) (paths rules : List (List ℕ))

@@ -14,4 +14,6 @@ returns-in-Ok-clause-summary c =
     (subst (λ k. IsTold k (cell nodes ruled.pattern.tree) (rule_of ruled) ruled.pattern.generation c.in-Ok.summary) ready.read.loaded.kind c.in-Ok.ensures.told)
 
 pub sum_up-requires : goal.sum_up-requires
-sum_up-requires c = read_pattern c.read_ruled.new.store c.args.bytes.now c.in_ok-ruled.ruled.pattern c.in_ok-ruled.ensures.ready.read
+sum_up-requires c =
+    let pattern = read_pattern c.read_ruled.new.store c.args.bytes.now c.in_ok-ruled.ruled.pattern c.in_ok-ruled.ensures.ready.read in
+    record { is_tree = pattern.is_tree; low = pattern.low }

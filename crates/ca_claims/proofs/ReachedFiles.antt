@@ -1,0 +1,165 @@
+-- What is reached some generations on, from the file that it began with; and what is told and written of it.
+use Rattle.std.proofs.Common.{◌≡◌, ℕ, ◌+◌, ◌<◌, ◌≤◌, List, sym, subst, ◌∙◌, inl, inr, arith}
+use Rattle.std.specs.Prelude.{ℤ}
+use Rattle.ca_plane.specs.Plane.{Picture}
+use Rattle.ca_plane.specs.Plane as plane
+use Rattle.ca_plane.specs.Generations.{after}
+use Rattle.ca_plane.specs.Limits.{generation_limit}
+use Rattle.ca_quad.specs.declared.node.Node.{Node}
+use Rattle.ca_quad.specs.declared.tree.Tree.{Tree}
+use Rattle.ca_quad.specs.Trees as trees
+use Rattle.ca_quad.proofs.Growth.{below_or_not}
+use Rattle.ca_rule.specs.TableNext.{TableRule}
+use Rattle.ca_rule.specs.Rule.{RuleValue, rule_value, next_of}
+use Rattle.ca_macro.specs.Pattern.{AreInRange}
+use Rattle.ca_run.proofs.After.{after_same}
+use Rattle.ca_run.proofs.Costs.{power_more}
+use Rattle.ca_claims.specs.declared.conversion.ConvertFault.{ConvertFault}
+use Rattle.ca_claims.specs.declared.conversion.ConvertFault.TheVariants.{BadPattern, BadRule, StateTooLarge, TooManyCells, Memory}
+use Rattle.ca_claims.specs.declared.format.Format.{Format}
+use Rattle.ca_claims.specs.declared.pattern.Summary.{Summary}
+use Rattle.ca_claims.specs.declared.reached.Reached.{Reached}
+use Rattle.ca_claims.specs.declared.reached.ReachFault.{ReachFault}
+use Rattle.ca_claims.specs.declared.reached.ReachFault.TheVariants.{Convert, GenTooLarge, Work, Range}
+use Rattle.ca_claims.specs.declared.ruled.Ruled.{Ruled}
+use Rattle.ca_claims.specs.Ahead.{Begins, IsReached, MayNeedRun, IsReachFault, IsAhead, IsSummaryAfter, IsConvertedAfter, HasCellOutOfRange, IsConvertFaultAfter}
+use Rattle.ca_claims.specs.Answers.{HasSmallStates}
+use Rattle.ca_claims.specs.Means.{MayWantMemory}
+use Rattle.ca_claims.specs.inner.Glance.{IsLowTree, IsTold}
+use Rattle.ca_claims.specs.inner.Patterns.{rule_of}
+use Rattle.ca_claims.specs.inner.Ready.{IsReady, IsWritableTree, IsWrittenAs, AreUnwritten}
+use Rattle.ca_claims.specs.inner.Spending.{Takes}
+use Rattle.ca_claims.specs.inner.Stages.{IsLaterTree}
+use Rattle.ca_claims.proofs.LaterPlanes.{picture_of, range_shown, out_shown}
+use Rattle.ca_claims.proofs.PatternsRead.{wanted}
+use Rattle.ca_claims.proofs.Shown.{small_shown, many_shown, population_shown}
+use Rattle.ca_claims.proofs.Told.{holds_ruled}
+
+-- ---- from the file
+
+module _ (nodes : List Node) (bytes : List ℕ) (tables : List TableRule) (ruled : Ruled) (ready : IsReady nodes bytes tables ruled) where
+  abbrev pub first : ℤ → ℤ → ℕ
+  first = trees.cell nodes ruled.pattern.tree
+
+  -- it begins with the cells that its tree shows
+  pub file_begins : Begins bytes tables ready.read.cells (rule_of ruled) ruled.pattern.generation
+  file_begins = record {
+    holds = holds_ruled nodes bytes tables ruled ready.read ready.names;
+    small = small_shown first (plane.cell ready.read.cells) ready.read.loaded.shows (rule_of ruled) ready.small;
+  }
+
+  module _ (n : ℕ) where
+    pub file_reaches : (generation : ℕ) → generation ≡ ruled.pattern.generation + n → generation < generation_limit → (store : List Node) (tree : Tree) → tree.level ≤ 62
+        → IsLaterTree (next_of (rule_of ruled)) first n store tree → HasSmallStates (rule_of ruled) (trees.cell store tree)
+        → IsReached bytes tables n (record { store = store; tree = tree; kind = ruled.pattern.kind; rule = ruled.rule; generation = generation })
+    file_reaches generation added low store tree level later small = record {
+      cells = ready.read.cells;
+      begun = ruled.pattern.generation;
+      begins = file_begins;
+      kind_is = ready.read.loaded.kind;
+      added = added;
+      low = low;
+      is_tree = later.near.is_tree;
+      level = level;
+      trimmed = later.trimmed;
+      shows = λ x y. later.shows x y ∙ after_same (next_of (rule_of ruled)) first (plane.cell ready.read.cells) n ready.read.loaded.shows x y;
+      small = small;
+    }
+
+    -- where all work is used up, a run may need so much
+    pub file_needs_run : (old new work : ℕ) → old ≡ 0 → new ≡ work → Takes old new 1 ruled.pattern.tree.level n → MayNeedRun work n (plane.cell ready.read.cells)
+    file_needs_run old new work none all takes level digits some holds short =
+        let tree = ruled.pattern.tree in
+        elim (below_or_not level tree.level) [
+          | inl less ↦ absurd (ready.read.loaded.trimmed level some less (λ x y live. holds x y (λ dead. live (ready.read.loaded.shows x y ∙ dead))))
+          | inr high ↦
+              let most = takes digits short in
+              let power = power_more (tree.level + digits + 2) (level + digits + 2) (omega (arith, high)) in
+              omega (arith, none, all, most, power)
+        ]
+
+    pub file_is_late : generation_limit ≤ ruled.pattern.generation + n → (work : ℕ) → IsReachFault bytes tables n work GenTooLarge
+    file_is_late late work = (ready.read.cells, rule_of ruled, ruled.pattern.generation, file_begins, late)
+
+    pub file_wants_work : ruled.pattern.generation + n < generation_limit → (work : ℕ) → MayNeedRun work n (plane.cell ready.read.cells) → IsReachFault bytes tables n work Work
+    file_wants_work low work need = (ready.read.cells, rule_of ruled, ruled.pattern.generation, file_begins, low, need)
+
+  pub file_wants_memory : MayWantMemory bytes
+  file_wants_memory = wanted bytes ready.read.loaded.holds.readable
+
+-- why it isn't reached is why it isn't written
+pub unreached : (bytes : List ℕ) (tables : List TableRule) (n work : ℕ) (target : Format) (fault : ReachFault) → IsReachFault bytes tables n work fault → IsConvertFaultAfter bytes tables n work target fault
+unreached bytes tables n work target (Convert (BadPattern fault)) h = h
+unreached bytes tables n work target (Convert (BadRule fault)) h = h
+unreached bytes tables n work target (Convert StateTooLarge) h = h
+unreached bytes tables n work target (Convert TooManyCells) h = absurd h
+unreached bytes tables n work target (Convert Memory) h = h
+unreached bytes tables n work target GenTooLarge h = h
+unreached bytes tables n work target Work h = h
+unreached bytes tables n work target Range h = absurd h
+
+-- ---- what is reached
+
+module _ (bytes : List ℕ) (tables : List TableRule) (n : ℕ) (reached : Reached) (is : IsReached bytes tables n reached) where
+  abbrev rule : RuleValue
+  rule = rule_value reached.rule
+
+  abbrev f : ℤ → ℤ → ℕ
+  f = trees.cell reached.store reached.tree
+
+  -- can be told of,
+  pub reached_is_low : IsLowTree reached.store reached.tree
+  reached_is_low = record { is_tree = is.is_tree; low = let level = is.level in omega (arith, level) }
+
+  -- and written where its live cells are in range
+  pub reached_is_writable : AreInRange (trees.cell reached.store reached.tree) → IsWritableTree reached.store reached.tree (rule_value reached.rule) reached.generation
+  reached_is_writable range = record { is_tree = is.is_tree; writable = record { range = range; small = is.small; low = is.low } }
+
+  is_ahead : (later : Picture) → ((x y : ℤ) → f x y ≡ plane.cell later x y) → IsAhead bytes tables n later rule reached.generation
+  is_ahead later shows = record { cells = is.cells; begun = is.begun; begins = is.begins; stands = λ x y. sym (is.shows x y) ∙ shows x y; added = is.added; low = is.low }
+
+  -- what is told of it is the summary
+  pub reached_told : (summary : Summary) → IsTold reached.kind (trees.cell reached.store reached.tree) (rule_value reached.rule) reached.generation summary → IsSummaryAfter bytes tables n summary
+  reached_told summary told =
+      let (later, shows) = picture_of f summary.cells told.population in
+      record {
+        later = later;
+        rule = rule;
+        ahead = subst (IsAhead bytes tables n later rule) (sym told.generation_is) (is_ahead later shows);
+        kind = told.kind_is ∙ is.kind_is;
+        printed = told.printed;
+        population = population_shown f (plane.cell later) shows summary.cells told.population;
+        bounds = told.bounds later shows;
+      }
+
+  -- what is written of it is its text
+  pub reached_written : (target : Format) (text : List ℕ) → IsWrittenAs target (trees.cell reached.store reached.tree) (rule_value reached.rule) reached.generation text → IsConvertedAfter bytes tables n target text
+  reached_written target text written = record {
+    later = written.shown;
+    rule = rule;
+    generation = reached.generation;
+    ahead = is_ahead written.shown written.same;
+    format = written.format;
+    text_holds = written.holds;
+    tidy = written.tidy;
+  }
+
+  low : is.begun + n < generation_limit
+  low = let below = is.low in let added = is.added in omega (arith, below, added)
+
+  pub reached_wants_memory : MayWantMemory bytes
+  reached_wants_memory = wanted bytes is.begins.holds.holds.readable
+
+  -- and why it isn't written
+  pub reached_is_out : (work : ℕ) (target : Format) → HasCellOutOfRange (trees.cell reached.store reached.tree) → IsConvertFaultAfter bytes tables n work target Range
+  reached_is_out work target out = (is.cells, rule, is.begun, is.begins, low, out_shown f (after (next_of rule) is.cells n) is.shows out)
+
+  pub reached_unwritten : (work : ℕ) (target : Format) → AreInRange (trees.cell reached.store reached.tree) → (fault : ConvertFault) → AreUnwritten target (trees.cell reached.store reached.tree) fault
+      → IsConvertFaultAfter bytes tables n work target (Convert fault)
+  reached_unwritten work target range (BadPattern fault) h = absurd h
+  reached_unwritten work target range (BadRule fault) h = absurd h
+  reached_unwritten work target range StateTooLarge h = absurd h
+  reached_unwritten work target range TooManyCells h =
+      let later = after (next_of rule) is.cells n in
+      (h.0, is.cells, rule, is.begun, is.begins, low, range_shown f later is.shows range, many_shown f later is.shows h.1)
+  reached_unwritten work target range Memory h = reached_wants_memory

@@ -1,0 +1,38 @@
+-- Rule texts that name no rule, and tables that would give them one.
+use Rattle.std.specs.Prelude.{◌≡◌, ◌↔◌, ℕ, List, Some, IsTrue, slice_get}
+use Rattle.std.specs.List.{list_any}
+use Rattle.std.specs.Str.{bytes_eq}
+use Rattle.ca_plane.specs.Plane.{Picture}
+use Rattle.ca_rule.specs.TableNext.{TableRule}
+use Rattle.ca_rule.specs.Rule.{IsRuleFault}
+use Rattle.ca_rule.specs.declared.fault.RuleFault.TheVariants.{Unknown}
+use Rattle.ca_claims.specs.Text.{ClaimText}
+use Rattle.ca_claims.specs.Needed.{IsNeeded}
+use Rattle.ca_claims.specs.Means.{HoldsPattern}
+use Rattle.ca_claims.specs.Answers.{AreTables, HoldsOfFile, IsQuietTable}
+
+-- the bytes are a pattern file that is read, and this is its rule text
+abbrev pub HoldsRuleText : (text bytes : List ℕ) → Type 0
+HoldsRuleText text bytes = (cells : Picture) × (generation : ℕ) × HoldsPattern bytes cells text generation
+
+-- and it is a name: no rule of its own, and no table's
+abbrev pub HoldsUnknownRule : List TableRule → (name bytes : List ℕ) → Type 0
+HoldsUnknownRule tables name bytes = HoldsRuleText name bytes × IsRuleFault name tables Unknown
+
+-- the files of the text's rule lines are tables, and the file of a path of the text that its claims need is such a pattern file
+pub record IsUnknownRule (files : List (List ℕ × List ℕ)) (asked : ClaimText) (name : List ℕ) : Type 0 where
+  pub tables : List TableRule
+  pub known : AreTables files asked.rules tables
+  pub index : ℕ
+  pub path : List ℕ
+  pub at : slice_get asked.paths index ≡ Some path
+  pub needed : IsNeeded asked path
+  pub holds : HoldsOfFile files (HoldsUnknownRule tables name) path
+
+-- the names are all of these
+abbrev pub AreUnknownRules : List (List ℕ × List ℕ) → ClaimText → List (List ℕ) → Type 0
+AreUnknownRules files asked names = (name : List ℕ) → IsTrue (list_any (bytes_eq name) names) ↔ IsUnknownRule files asked name
+
+-- the text of a rule file is a good table of this name
+abbrev pub HoldsTableNamed : (name bytes : List ℕ) → Type 0
+HoldsTableNamed name bytes = (table : TableRule) × IsQuietTable bytes table × (table.name ≡ name)

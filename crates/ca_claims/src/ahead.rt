@@ -1,0 +1,221 @@
+//! Patterns that are taken some generations on.
+
+ghost use Rattle.std.specs.Prelude.{◌≡◌, ◌≤◌, ◌<◌, ◌+◌, ℤ, IfOk, IfErr, MatchOption};
+ghost use Rattle.ca_plane.specs.Bytes.{IsWord};
+ghost use Rattle.ca_plane.specs.Limits.{generation_limit};
+ghost use Rattle.ca_quad.specs.Trees.{cell};
+ghost use Rattle.ca_rule.specs.Rule.{rule_value};
+ghost use Rattle.ca_run.specs.Leaping.{LeaperGrows};
+ghost use Rattle.ca_run.specs.Spent.{EndsAtLimit};
+ghost use Rattle.ca_claims.specs.Ahead.{IsReached, IsReachFault, IsSummaryAfter, IsConvertedAfter};
+ghost use Rattle.ca_claims.specs.Ahead.{IsConvertFaultAfter};
+ghost use Rattle.ca_claims.specs.Limited.{AreGoodLimits};
+ghost use Rattle.ca_claims.specs.Text.{most_generations};
+ghost use Rattle.ca_claims.specs.inner.Ready.{IsWritableTree, IsWrittenAs, AreUnwritten};
+ghost use Rattle.ca_claims.specs.inner.Spending.{Takes};
+ghost use Rattle.ca_claims.specs.inner.Stages.{IsLaterTree};
+ghost use Rattle.ca_claims.specs.inner.Subjects.{IsPattern};
+
+use crate::cells::are_in_range;
+use crate::conversion::{ConvertFault, macro_of, rle_of_tree};
+use crate::decide::tree_after;
+use crate::format::Format;
+use crate::glance::sum_up;
+use crate::limits::Limits;
+use crate::observer::Observer;
+use crate::pattern::Summary;
+use crate::reached::{ReachFault, Reached};
+use crate::ruled::read_ruled;
+use ca_plane::Automaton;
+use ca_plane::limits::GENERATION_LIMIT;
+use ca_quad::{Store, Tree};
+use ca_rule::Table;
+use ca_run::{LeapFault, Leaper};
+use std::alloc::Global;
+
+/// No memory to reach a plane, or to tell of it.
+const OUT_OF_MEMORY: ReachFault = ReachFault::Convert(ConvertFault::Memory);
+
+/// The plane of a pattern file so many generations on, at most 1152921504606846976, under the rule that its
+/// rule text names, in its own notation or among the tables. The observer sees how far the run is, and no line.
+///
+/// # Errors
+///
+/// The first fault of `ReachFault` that holds, but for too many cells and `Range`: a plane that is reached may
+/// have any number of cells, and may lie anywhere.
+pub fn run_on<'t, O: Observer>(
+    alloc: Global,
+    bytes: &[u8],
+    tables: &'t [Table],
+    generations: u64,
+    limits: Limits,
+    observer: &mut O,
+) -> Result<Reached<'t>, ReachFault>
+    requires limits { AreGoodLimits limits }
+    requires few { generations ≤ most_generations }
+    ensures reached { IfOk result (IsReached bytes.now tables.now generations) }
+    ensures fault { IfErr result (IsReachFault bytes.now tables.now generations limits.work) }
+{
+    let mut store = Store::new(alloc);
+    let ruled = match read_ruled(alloc, &mut store, bytes, tables) {
+        Ok(ruled) => ruled,
+        Err(fault) => return Err(ReachFault::Convert(fault)),
+    };
+    let Some(generation) = later_generation(ruled.pattern.generation, generations) else {
+        return Err(ReachFault::GenTooLarge);
+    };
+    let Ok(mut leaper) = Leaper::new(alloc, store, ruled.rule, limits.memo, limits.work) else {
+        return Err(OUT_OF_MEMORY);
+    };
+    match end_of(
+        alloc,
+        &mut leaper,
+        &ruled.pattern.tree,
+        generations,
+        observer,
+    ) {
+        Ok(End { store, tree }) => Ok(Reached {
+            store,
+            tree,
+            kind: ruled.pattern.kind,
+            rule: ruled.rule,
+            generation,
+        }),
+        Err(LeapFault::Memory) => Err(OUT_OF_MEMORY),
+        Err(LeapFault::Work) => Err(ReachFault::Work),
+    }
+}
+
+/// The summary of the plane of a pattern file so many generations on.
+///
+/// # Errors
+///
+/// As for `run_on`.
+pub fn summary_after<O: Observer>(
+    alloc: Global,
+    bytes: &[u8],
+    tables: &[Table],
+    generations: u64,
+    limits: Limits,
+    observer: &mut O,
+) -> Result<Summary, ReachFault>
+    requires limits { AreGoodLimits limits }
+    requires few { generations ≤ most_generations }
+    ensures summary { IfOk result (IsSummaryAfter bytes.now tables.now generations) }
+    ensures word { IfOk result (λ s. IsWord s.rule_text.items) }
+    ensures fault { IfErr result (IsReachFault bytes.now tables.now generations limits.work) }
+{
+    let reached = run_on(alloc, bytes, tables, generations, limits, observer)?;
+    match sum_up(
+        alloc,
+        &reached.store,
+        &reached.tree,
+        reached.kind,
+        &reached.rule,
+        reached.generation,
+    ) {
+        Ok(summary) => Ok(summary),
+        Err(_) => Err(OUT_OF_MEMORY),
+    }
+}
+
+/// The tidy text of the target's format that means the plane of a pattern file so many generations on: its
+/// cells at every x and y, the printed form of the rule, and the file's generation and the generations
+/// together.
+///
+/// # Errors
+///
+/// The first fault of `ReachFault` that holds.
+pub fn convert_after<O: Observer>(
+    alloc: Global,
+    bytes: &[u8],
+    target: Format,
+    tables: &[Table],
+    generations: u64,
+    limits: Limits,
+    observer: &mut O,
+) -> Result<Vec<u8>, ReachFault>
+    requires limits { AreGoodLimits limits }
+    requires few { generations ≤ most_generations }
+    ensures converted { IfOk result
+        (λ text. IsConvertedAfter bytes.now tables.now generations target text.items) }
+    ensures fault { IfErr result (IsConvertFaultAfter bytes.now tables.now generations limits.work target) }
+{
+    let reached = run_on(alloc, bytes, tables, generations, limits, observer)?;
+    match are_in_range(alloc, &reached.store, reached.tree) {
+        Ok(true) => {}
+        Ok(false) => return Err(ReachFault::Range),
+        Err(_) => return Err(OUT_OF_MEMORY),
+    }
+    match text_of(alloc, reached, target) {
+        Ok(text) => Ok(text),
+        Err(fault) => Err(ReachFault::Convert(fault)),
+    }
+}
+
+/// The generation so many generations later, where a file may name it.
+fn later_generation(generation: u64, generations: u64) -> Option<u64>
+    ensures { MatchOption result (generation_limit ≤ generation + generations)
+        (λ later. (later ≡ generation + generations) × (later < generation_limit)) }
+{
+    let later = generation.checked_add(generations)?;
+    if later >= GENERATION_LIMIT {
+        return None;
+    }
+    Some(later)
+}
+
+/// A tree, and the store of its squares.
+#[derive(Drop)]
+struct End {
+    store: Store,
+    tree: Tree,
+}
+
+/// The tree so many generations on, of the smallest level, in a store of its own.
+fn end_of<A: Automaton, O: Observer>(
+    alloc: Global,
+    leaper: &mut Leaper<A>,
+    pattern: &Tree,
+    generations: u64,
+    observer: &mut O,
+) -> Result<End, LeapFault>
+    requires pattern { IsPattern leaper.old.nodes pattern.now }
+    requires few { generations ≤ most_generations }
+    ensures end { IfOk result (λ end. IsLaterTree (A.next_of leaper.old.rule)
+        (cell leaper.old.nodes pattern.now) generations end.store end.tree) }
+    ensures level { IfOk result (λ end. end.tree.level ≤ 62) }
+    ensures small { ((x y : ℤ) → cell leaper.old.nodes pattern.now x y < A.state_count leaper.old.rule)
+        → IfOk result (λ end. (x y : ℤ) → cell end.store end.tree x y < A.state_count leaper.old.rule) }
+    ensures goes_on { LeaperGrows A leaper.old leaper.new }
+    ensures takes { Takes leaper.old.spent.used leaper.new.spent.used 1 pattern.now.level generations }
+    ensures work { EndsAtLimit leaper.new.spent result }
+{
+    // Says what holds of every leaper.
+    let _ = leaper.store();
+    let end = tree_after(leaper, pattern, generations, observer)?;
+    let mut store = Store::new(alloc);
+    let copy = store.import(leaper.store(), end)?;
+    let tree = store.trim(copy)?;
+    Ok(End { store, tree })
+}
+
+/// The tidy text of what is reached, whose live cells are in range.
+fn text_of(alloc: Global, reached: Reached<'_>, target: Format) -> Result<Vec<u8>, ConvertFault>
+    requires { IsWritableTree reached.store reached.tree (rule_value reached.rule) reached.generation }
+    ensures written { IfOk result (λ text. IsWrittenAs target (cell reached.entry.store reached.entry.tree)
+        (rule_value reached.entry.rule) reached.entry.generation text.items) }
+    ensures fault { IfErr result (AreUnwritten target (cell reached.entry.store reached.entry.tree)) }
+{
+    let Reached {
+        mut store,
+        tree,
+        rule,
+        generation,
+        ..
+    } = reached;
+    match target {
+        Format::Rle => rle_of_tree(alloc, &store, tree, &rule, generation),
+        Format::Mc => macro_of(alloc, &mut store, tree, &rule, generation),
+    }
+}

@@ -1,0 +1,152 @@
+//! The rules that a text's patterns name and that aren't known, and tables that may give them.
+
+ghost use Rattle.std.specs.Prelude.{◌≡◌, ◌≢◌, ◌↔◌, ℕ, ◌<◌, List, [], length, IsTrue, IfOk, OnOk, OnErr};
+ghost use Rattle.std.specs.Prelude.{MatchOption};
+ghost use Rattle.ca_rule.specs.Rule.{IsRuleFault};
+ghost use Rattle.ca_rule.specs.TableFaults.{IsTableTextFault};
+ghost use Rattle.ca_rule.specs.declared.fault.RuleFault.TheVariants as rule_fault;
+ghost use Rattle.ca_rule.specs.declared.table.fault.TableFault.TheVariants as table_fault;
+ghost use Rattle.ca_claims.specs.Means.{contents, MayWantMemory};
+ghost use Rattle.ca_claims.specs.Unknown.{HoldsRuleText, HoldsUnknownRule, AreUnknownRules, HoldsTableNamed};
+ghost use Rattle.ca_claims.specs.inner.Unknown.{IsUnreadFile, AreAskedBefore, AddsAsked};
+
+use crate::claims::Claims;
+use crate::file::File;
+use crate::judge::look_up;
+use crate::read::read_pattern;
+use crate::rule_names::RuleNames;
+use crate::verdict::PatternFault;
+use ca_plane::Memory;
+use ca_quad::Store;
+use ca_rule::{RuleFault, Table, TableFault, resolve};
+use std::alloc::Global;
+
+/// The rule texts of the patterns that the text's claims need, of those whose files were handed in and are read,
+/// where they name no rule: none in B/S notation or of the family Generations, nor a table of a rule line. There
+/// are none where a rule line's file is missing or faulty: no claim is judged then. Each pattern file is read
+/// for this.
+///
+/// # Errors
+///
+/// Fails where there is no memory for the list of the files, the rule tables, a pattern or the names, of a text
+/// that makes a claim.
+pub fn unknown_rules(
+    alloc: Global,
+    claims: &Claims,
+    files: &[File<'_>],
+) -> Result<RuleNames, Memory>
+    ensures names { IfOk result (AreUnknownRules (contents files.now) claims.now) }
+    ensures memory { OnErr result (claims.now.claims ≢ []) }
+{
+    if claims.claim_count() == 0 {
+        return Ok(RuleNames::new(alloc));
+    }
+    let marks = claims.needed(alloc)?;
+    let needed = look_up(alloc, claims, files)?;
+    let Some(tables) = needed.tables.good() else {
+        return Ok(RuleNames::new(alloc));
+    };
+    names_of(alloc, &marks, &needed.found, tables)
+}
+
+/// The names that the files ask for that were found and are needed.
+fn names_of(
+    alloc: Global,
+    needed: &[bool],
+    found: &[Option<&[u8]>],
+    tables: &[Table],
+) -> Result<RuleNames, Memory>
+    requires { length needed.now ≡ length found.now }
+    ensures { IfOk result (AreAskedBefore tables.now needed.now found.now (length found.now)) }
+{
+    let mut names = RuleNames::new(alloc);
+    'files: for index in 0..found.len() {
+        add_name(alloc, needed[index], found[index], tables, &mut names)?;
+    }
+    Ok(names)
+}
+
+/// Adds the name that a file asks for, if it asks for one.
+fn add_name(
+    alloc: Global,
+    is_needed: bool,
+    file: Option<&[u8]>,
+    tables: &[Table],
+    names: &mut RuleNames,
+) -> Result<(), Memory>
+    ensures { OnOk result (AddsAsked tables.now is_needed file.entry names.old names.new) }
+{
+    let Some(bytes) = file else {
+        return Ok(());
+    };
+    if !is_needed {
+        return Ok(());
+    }
+    let found = unknown_rule(alloc, bytes, tables)?;
+    match found {
+        Some(name) => names.put(alloc, &name),
+        None => Ok(()),
+    }
+}
+
+/// The rule text of a pattern file that is read, where it names no rule.
+fn unknown_rule(alloc: Global, bytes: &[u8], tables: &[Table]) -> Result<Option<Vec<u8>>, Memory>
+    ensures name { IfOk result
+        (λ found. MatchOption found ((name : List ℕ) → HoldsUnknownRule tables.now name bytes.now → ⊥)
+        (λ name. HoldsUnknownRule tables.now name.items bytes.now)) }
+    ensures memory { OnErr result (MayWantMemory bytes.now) }
+{
+    let found = rule_text_of(alloc, bytes)?;
+    let Some(text) = found else {
+        return Ok(None);
+    };
+    if is_unknown(&text, tables) {
+        return Ok(Some(text));
+    }
+    Ok(None)
+}
+
+/// The rule text of a pattern file that is read.
+fn rule_text_of(alloc: Global, bytes: &[u8]) -> Result<Option<Vec<u8>>, Memory>
+    ensures text { IfOk result (λ found. MatchOption found (IsUnreadFile bytes.now)
+        (λ text. HoldsRuleText text.items bytes.now)) }
+    ensures memory { OnErr result (MayWantMemory bytes.now) }
+{
+    let mut store = Store::new(alloc);
+    match read_pattern(alloc, &mut store, bytes) {
+        Ok(pattern) => Ok(Some(pattern.rule_text)),
+        Err(PatternFault::Memory) => Err(Memory),
+        Err(_) => Ok(None),
+    }
+}
+
+/// Whether the text names no rule, neither one of its own nor one of these tables.
+fn is_unknown(text: &[u8], tables: &[Table]) -> bool
+    ensures { IsTrue result ↔ IsRuleFault text.now tables.now rule_fault.Unknown }
+{
+    match resolve(text, tables) {
+        Ok(_) => false,
+        Err(fault) => match fault {
+            RuleFault::Unknown => true,
+            _ => false,
+        },
+    }
+}
+
+/// Whether the text of a rule file is a good table of this name.
+///
+/// # Errors
+///
+/// Fails where there is no memory for the table.
+pub fn is_table_named(alloc: Global, name: &[u8], text: &[u8]) -> Result<bool, Memory>
+    ensures named { IfOk result (λ yes. IsTrue yes ↔ HoldsTableNamed name.now text.now) }
+    ensures memory { OnErr result (IsTableTextFault text.now table_fault.Memory) }
+{
+    match Table::parse(alloc, text) {
+        Ok(table) => Ok(table.name() == name),
+        Err(fault) => match fault {
+            TableFault::Memory => Err(Memory),
+            _ => Ok(false),
+        },
+    }
+}
