@@ -7,3 +7,4 @@ pub mod Boxes
 pub mod Marks
 pub mod Rows
 pub mod Seen
+pub mod SameCells

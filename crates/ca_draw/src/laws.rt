@@ -8,6 +8,9 @@ ghost use Rattle.ca_draw.specs.declared.mark.Mark.{Mark};
 ghost use Rattle.ca_draw.specs.declared.mark.Mark.TheVariants.{Dead, Live, State};
 ghost use Rattle.ca_draw.specs.Marks.{mark_of, state_mark, letter, grey, IsBlank, HasLive};
 ghost use Rattle.ca_draw.specs.Windows.{IsBox, IsInReach};
+ghost use Rattle.ca_draw.specs.declared.drawing.Style.{Style};
+ghost use Rattle.ca_draw.specs.declared.window.Window.{Window};
+ghost use Rattle.ca_draw.specs.Drawings.{drawing};
 
 use ca_quad::{Store, Tree};
 
@@ -23,6 +26,12 @@ pub fn true_marks()
     ensures state { (cells : ℤ → ℤ → ℕ) (states scale : ℕ) (column row : ℤ) (state : ℕ)
         → mark_of cells states scale column row ≡ State state
         → (scale ≡ 0) × (cells column row ≡ state) × (state ≢ 0) }
+{}
+
+/// Cells that are the same everywhere have the same picture.
+pub fn same_pictures()
+    ensures { (style : Style) (one other : ℤ → ℤ → ℕ) (window : Window)
+        → ((x y : ℤ) → one x y ≡ other x y) → drawing style one window ≡ drawing style other window }
 {}
 
 /// The least box round a tree's live cells has cells, and lies in the reach of the largest tree, so that it

@@ -98,6 +98,25 @@ impl Window {
         }
         None
     }
+
+    /// The window of this scale that shows a whole box in so many columns and rows at most, where there is one.
+    /// As a fitting window, it has no column and no row without a cell of the box.
+    pub fn fitting_at(bounds: WideBounds, columns: u16, rows: u16, scale: u8) -> Option<Window>
+        requires { IsBox bounds }
+        ensures shows { IfSome result (ShowsBox bounds columns rows) }
+        ensures begins { IfSome result (λ w. IsInSquare w.scale w.column w.row bounds.x0 bounds.y0) }
+        ensures ends { IfSome result (λ w. IsInSquare w.scale ((w.column +ℤ pos w.width) -ℤ pos 1)
+            ((w.row +ℤ pos w.height) -ℤ pos 1) bounds.x1 bounds.y1) }
+        ensures scale { IfSome result (λ w. w.scale ≡ scale) }
+        // No window of the scale does.
+        ensures none { IfNone result ((other : Window) → other.scale ≡ scale
+            → ShowsBox bounds columns rows other → ⊥) }
+    {
+        if scale <= MOST_SCALE {
+            return at_scale(bounds, columns, rows, scale);
+        }
+        None
+    }
 }
 
 // Whether so many columns or rows from this one on may be those of a window.

@@ -5,7 +5,7 @@ use Rattle.ca_claims.specs.declared.verdict.Answer.{Answer}
 use Rattle.ca_tool.specs.Printed.{status_of, is_refusal, is_no}
 
 -- whether it holds of one of some elements or of one more
-any_more : {X : Type 0} (p : X → Bool) (xs : List X) (x : X) → list_any p (xs ++ x ∷ []) ≡ (list_any p xs || list_any p (x ∷ []))
+pub any_more : {X : Type 0} (p : X → Bool) (xs : List X) (x : X) → list_any p (xs ++ x ∷ []) ≡ (list_any p xs || list_any p (x ∷ []))
 any_more p [] x = refl
 any_more p (y ∷ ys) x = ap (λ b. p y || b) (any_more p ys x) ∙ sym (or_assoc (p y) (list_any p ys) (list_any p (x ∷ [])))
   where

@@ -31,6 +31,8 @@ use Rattle.ca_tool.specs.declared.fault.Fault.{Fault}
 use Rattle.ca_tool.specs.declared.fault.Fault.TheVariants as faults
 use Rattle.ca_tool.specs.declared.fault.InputFault.{InputFault}
 use Rattle.ca_tool.specs.declared.fault.InputFault.TheVariants as inputs
+use Rattle.ca_tool.specs.declared.view.WindowFault.{WindowFault}
+use Rattle.ca_tool.specs.declared.view.WindowFault.TheVariants as windows
 use Rattle.ca_tool.specs.declared.fault.ToolFault.{ToolFault}
 use Rattle.ca_tool.specs.declared.fault.ToolFault.TheVariants as tools
 use Rattle.ca_tool.specs.declared.detail.Detail.{Detail}
@@ -176,11 +178,20 @@ convert_fault_text converts.StateTooLarge = codes "state too large"
 convert_fault_text converts.TooManyCells = codes "too many cells"
 convert_fault_text converts.Memory = codes "memory"
 
+-- why there is no window as it is asked for
+abbrev pub window_fault_text : WindowFault → List ℕ
+window_fault_text windows.Range = codes "window out of range"
+window_fault_text windows.TooLarge = codes "window too large"
+
 -- a run that failed, over the file of this path
 abbrev pub tool_fault_text : ToolFault → List ℕ → List ℕ
 tool_fault_text (tools.Input fault) path = input_fault_text fault path
 tool_fault_text (tools.BadTable fault) path = rule_file_text fault
 tool_fault_text (tools.Convert fault) path = convert_fault_text fault
+tool_fault_text tools.GenTooLarge path = codes "gen too large"
+tool_fault_text tools.Work path = codes "work"
+tool_fault_text tools.Range path = codes "range"
+tool_fault_text (tools.Window fault) path = window_fault_text fault
 tool_fault_text tools.Write path = codes "write"
 tool_fault_text tools.Memory path = codes "memory"
 
@@ -189,6 +200,7 @@ abbrev pub fault_text : Fault → List ℕ → List ℕ
 fault_text (faults.Input fault) path = input_fault_text fault path
 fault_text (faults.Claims fault) path = claim_fault_text fault
 fault_text (faults.Tool fault) path = tool_fault_text fault path
+fault_text faults.Unnameable path = codes "no claim text can name " ++ path
 
 -- the line that tells a fault
 abbrev pub complaint : Fault → List ℕ → List ℕ
@@ -277,6 +289,10 @@ abbrev pub explanation : ToolFault → Detail → RunPaths → List ℕ
 explanation (tools.Input fault) detail paths = []
 explanation (tools.BadTable fault) detail paths = file_line [] (codes "rule file") paths.rule.now (Some (table_line fault))
 explanation (tools.Convert fault) detail paths = pattern_line paths.pattern.now detail
+explanation tools.GenTooLarge detail paths = pattern_line paths.pattern.now detail
+explanation tools.Work detail paths = pattern_line paths.pattern.now detail
+explanation tools.Range detail paths = pattern_line paths.pattern.now detail
+explanation (tools.Window fault) detail paths = pattern_line paths.pattern.now detail
 explanation tools.Write detail paths = []
 explanation tools.Memory detail paths = []
 

@@ -14,14 +14,17 @@ use Rattle.ca_claims.specs.Answers.{AreTrueAnswers, AreWithinWork, IsQuietTable,
 use Rattle.ca_claims.specs.declared.note.Note.{Note}
 use Rattle.ca_claims.specs.declared.note.Note.TheVariants as notes
 use Rattle.ca_claims.specs.Converted.{IsSummary}
+use Rattle.ca_claims.specs.Ahead.{IsSummaryAfter}
 use Rattle.ca_claims.specs.declared.verdict.Answer.{Answer}
 use Rattle.ca_claims.specs.declared.pattern.Summary.{Summary}
 use Rattle.ca_claims.specs.declared.conversion.ConvertFault.{ConvertFault}
 use Rattle.ca_claims.specs.declared.conversion.ConvertFault.TheVariants as convert_fault
+use Rattle.ca_claims.specs.declared.reached.ReachFault.{ReachFault}
+use Rattle.ca_claims.specs.declared.reached.ReachFault.TheVariants as reach_fault
 use Rattle.ca_tool.specs.declared.fault.InputFault.{InputFault}
 use Rattle.ca_tool.specs.declared.fault.InputFault.TheVariants as inputs
 use Rattle.ca_tool.specs.declared.fault.ToolFault.{ToolFault}
-use Rattle.ca_tool.specs.declared.fault.ToolFault.TheVariants.{Input, BadTable, Convert, Write, Memory}
+use Rattle.ca_tool.specs.declared.fault.ToolFault.TheVariants.{Input, BadTable, Convert, GenTooLarge, Work, Range, Window, Write, Memory}
 use Rattle.ca_tool.specs.declared.detail.Detail.{Detail}
 use Rattle.ca_tool.specs.declared.detail.Detail.TheVariants as details
 use Rattle.ca_tool.specs.Details.{IsRuleText}
@@ -172,12 +175,28 @@ WasRead old new = (bytes : List ℕ) × ReadsAll old new bytes
 abbrev pub IsRuleFileFault : Option (List ℕ) → TableFault → Type 0
 IsRuleFileFault rule fault = (text : List ℕ) × (rule ≡ Some text) × table_faults.IsTableTextFault text fault
 
+-- why the rule file is no good table, or that memory is out for that table
+abbrev pub IsTableRefusal : Option (List ℕ) → ToolFault → Type 0
+IsTableRefusal rule (Input fault) = ⊥
+IsTableRefusal rule (BadTable fault) = (fault ≢ table_fault.Memory) × IsRuleFileFault rule fault
+IsTableRefusal rule (Convert fault) = ⊥
+IsTableRefusal rule GenTooLarge = ⊥
+IsTableRefusal rule Work = ⊥
+IsTableRefusal rule Range = ⊥
+IsTableRefusal rule (Window told) = ⊥
+IsTableRefusal rule Write = ⊥
+IsTableRefusal rule Memory = IsRuleFileFault rule table_fault.Memory
+
 -- why a run over bytes wrote nothing, where IsFault says why they are refused under some tables: the rule file is no good table; or it is, and
 -- the pattern is refused; or memory is out, for the table or for the pattern
 abbrev pub IsBytesFault : Option (List ℕ) → (List TableRule → ConvertFault → Type 0) → ToolFault → Type 0
 IsBytesFault rule IsFault (Input fault) = ⊥
 IsBytesFault rule IsFault (BadTable fault) = (fault ≢ table_fault.Memory) × IsRuleFileFault rule fault
 IsBytesFault rule IsFault (Convert fault) = (fault ≢ convert_fault.Memory) × HoldsOfTables rule (λ tables. IsFault tables fault)
+IsBytesFault rule IsFault GenTooLarge = ⊥
+IsBytesFault rule IsFault Work = ⊥
+IsBytesFault rule IsFault Range = ⊥
+IsBytesFault rule IsFault (Window fault) = ⊥
 IsBytesFault rule IsFault Write = ⊥
 IsBytesFault rule IsFault Memory = IsRuleFileFault rule table_fault.Memory ⊎ HoldsOfTables rule (λ tables. IsFault tables convert_fault.Memory)
 
@@ -190,12 +209,45 @@ WritesUnder contents old new rule IsText IsFault result = WritesOneOf contents o
     (λ text. HoldsOfTables rule (λ tables. IsText tables text))
     (IsBytesFault rule IsFault) result
 
+-- the text is the five lines of a summary that is true of the plane of the bytes' pattern n generations on
+pub record IsShownAfter (bytes : List ℕ) (tables : List TableRule) (n : ℕ) (text : List ℕ) : Type 0 where
+  pub summary : Summary
+  pub holds : IsSummaryAfter bytes tables n summary
+  pub lines : text ≡ summary_text summary
+
+-- why a run over bytes some generations on wrote nothing, where IsFault says why the plane isn't reached or told under some tables: the rule file is
+-- no good table; or it is, and that holds; or memory is out, for the table or for the plane
+abbrev pub IsFaultAfter : Option (List ℕ) → (List TableRule → ReachFault → Type 0) → ToolFault → Type 0
+IsFaultAfter rule IsFault (Input fault) = ⊥
+IsFaultAfter rule IsFault (BadTable fault) = (fault ≢ table_fault.Memory) × IsRuleFileFault rule fault
+IsFaultAfter rule IsFault (Convert fault) = (fault ≢ convert_fault.Memory) × HoldsOfTables rule (λ tables. IsFault tables (reach_fault.Convert fault))
+IsFaultAfter rule IsFault GenTooLarge = HoldsOfTables rule (λ tables. IsFault tables reach_fault.GenTooLarge)
+IsFaultAfter rule IsFault Work = HoldsOfTables rule (λ tables. IsFault tables reach_fault.Work)
+IsFaultAfter rule IsFault Range = HoldsOfTables rule (λ tables. IsFault tables reach_fault.Range)
+IsFaultAfter rule IsFault (Window fault) = ⊥
+IsFaultAfter rule IsFault Write = ⊥
+IsFaultAfter rule IsFault Memory =
+    IsRuleFileFault rule table_fault.Memory ⊎ HoldsOfTables rule (λ tables. IsFault tables (reach_fault.Convert convert_fault.Memory))
+
+-- a run over the bytes of a pattern file some generations on, and over the text of a rule file, if there is one: a text that IsText of them is written,
+-- with the status 0; or a first part of such a text, and then a write fails; or nothing, for a fault that holds
+abbrev pub WritesAfter : {W : Type 0} → (W → Option (List ℕ)) → Counted W → Counted W → Option (List ℕ) → (List TableRule → List ℕ → Type 0)
+    → (List TableRule → ReachFault → Type 0) → Result ℕ ToolFault → Type 0
+WritesAfter contents old new rule IsText IsFault result = WritesOneOf contents old new
+    (λ text status. (status ≡ 0) × HoldsOfTables rule (λ tables. IsText tables text))
+    (λ text. HoldsOfTables rule (λ tables. IsText tables text))
+    (IsFaultAfter rule IsFault) result
+
 -- why a run wrote nothing, where IsFault says why bytes under some tables are refused: the file isn't read; or it is, and the rule file is no
 -- good table; or it is, and the pattern is refused; or memory is out, for the table or for the pattern
 abbrev pub IsRunFault : Option (List ℕ) → Option (List ℕ) → Option (List ℕ) → (List ℕ → List TableRule → ConvertFault → Type 0) → ToolFault → Type 0
 IsRunFault old new rule IsFault (Input fault) = IsInputFault old new fault
 IsRunFault old new rule IsFault (BadTable fault) = (fault ≢ table_fault.Memory) × WasRead old new × IsRuleFileFault rule fault
 IsRunFault old new rule IsFault (Convert fault) = (fault ≢ convert_fault.Memory) × HoldsOfReadFile old new rule (λ bytes tables. IsFault bytes tables fault)
+IsRunFault old new rule IsFault GenTooLarge = ⊥
+IsRunFault old new rule IsFault Work = ⊥
+IsRunFault old new rule IsFault Range = ⊥
+IsRunFault old new rule IsFault (Window fault) = ⊥
 IsRunFault old new rule IsFault Write = ⊥
 IsRunFault old new rule IsFault Memory = (WasRead old new × IsRuleFileFault rule table_fault.Memory)
     ⊎ HoldsOfReadFile old new rule (λ bytes tables. IsFault bytes tables convert_fault.Memory)

@@ -9,6 +9,7 @@ ghost use Rattle.ca_tool.specs.inner.Pieces.{pieces_text};
 use crate::fault::{Fault, InputFault, ToolFault};
 use crate::pieces::{NOTHING, Piece, send_pieces};
 use crate::texts::{pattern_fault_bytes, rule_fault_bytes, table_kind, table_line};
+use crate::view::WindowFault;
 use ca_claims::{ClaimFault, ConvertFault};
 use ca_plane::{Dev, WriteFault};
 use ca_rule::TableFault;
@@ -30,8 +31,18 @@ fn fault_pieces<'a>(fault: &Fault, path: &'a [u8]) -> [Piece<'a>; 3]
         Fault::Claims(fault) => claim_pieces(fault),
         Fault::Tool(ToolFault::BadTable(fault)) => table_pieces(fault),
         Fault::Tool(ToolFault::Convert(fault)) => convert_pieces(fault),
+        Fault::Tool(ToolFault::GenTooLarge) => padded_text(b"gen too large"),
+        Fault::Tool(ToolFault::Work) => padded_text(b"work"),
+        Fault::Tool(ToolFault::Range) => padded_text(b"range"),
+        Fault::Tool(ToolFault::Window(WindowFault::Range)) => padded_text(b"window out of range"),
+        Fault::Tool(ToolFault::Window(WindowFault::TooLarge)) => padded_text(b"window too large"),
         Fault::Tool(ToolFault::Write) => padded_text(b"write"),
         Fault::Tool(ToolFault::Memory) => padded_text(b"memory"),
+        Fault::Unnameable => [
+            Piece::Text(b"no claim text can name "),
+            Piece::Text(path),
+            NOTHING,
+        ],
     }
 }
 

@@ -46,7 +46,11 @@ fn explanation_pieces<'a>(
         ToolFault::BadTable(fault) => {
             file_pieces(b"", b"rule file", paths.rule, Some(table_line(fault)))
         }
-        ToolFault::Convert(_) => pattern_pieces(paths.pattern, detail),
+        ToolFault::Convert(_)
+        | ToolFault::GenTooLarge
+        | ToolFault::Work
+        | ToolFault::Range
+        | ToolFault::Window(_) => pattern_pieces(paths.pattern, detail),
         _ => [NOTHING; 15],
     }
 }

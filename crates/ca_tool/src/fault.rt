@@ -1,5 +1,6 @@
 //! Faults of the program.
 
+use crate::view::WindowFault;
 use ca_claims::{ClaimFault, ConvertFault};
 use ca_rule::TableFault;
 use thiserror::Error;
@@ -31,6 +32,18 @@ pub enum ToolFault {
     /// The pattern isn't shown or converted. Its fault is never `Memory` here.
     #[error("{0}")]
     Convert(ConvertFault),
+    /// The file's generation and those on are together more than 2^63 - 1. Only runs some generations on have it.
+    #[error("the generation is too large")]
+    GenTooLarge,
+    /// As much work was done as may be. Only runs some generations on have it.
+    #[error("out of work")]
+    Work,
+    /// A cell is live in the end where no file may have one. Only runs some generations on have it.
+    #[error("out of range")]
+    Range,
+    /// There is no window of the plane as it is asked for.
+    #[error("{0}")]
+    Window(WindowFault),
     /// A write failed or took no byte; a first part of the text was written, but not all of it.
     #[error("writing failed")]
     Write,
@@ -51,4 +64,7 @@ pub enum Fault {
     /// The run failed.
     #[error("{0}")]
     Tool(ToolFault),
+    /// A claim text that is to be written can't name the rule file of this path.
+    #[error("a path that no claim text can name")]
+    Unnameable,
 }

@@ -31,7 +31,7 @@ pub(crate) struct Finding<'a> {
     pub(crate) detail: Detail,
 }
 
-fn generations_word<'a>(generations: u64) -> &'a [u8]
+pub(crate) fn generations_word<'a>(generations: u64) -> &'a [u8]
     ensures { result.now ≡ generations_word generations }
 {
     if generations == 1 {
@@ -73,7 +73,7 @@ fn cell_pieces<'a>(before: &'a [u8], name: &'a [u8], why: Why) -> [Piece<'a>; 15
     ]
 }
 
-fn at_pieces<'a>(line: Option<u64>) -> [Piece<'a>; 2]
+pub(crate) fn at_pieces<'a>(line: Option<u64>) -> [Piece<'a>; 2]
     ensures { pieces_text result ≡ at_line line }
 {
     match line {

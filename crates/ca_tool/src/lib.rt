@@ -1,11 +1,17 @@
 //! Runs over devices, and the texts that they print.
 #![tactic(auto)]
 
+mod ahead_run;
+mod catalog;
 mod complaint;
 mod detail;
+mod drawing;
+mod entry;
+mod entry_lines;
 mod explanation;
 mod fault;
 mod finding;
+mod names;
 mod pattern_run;
 mod pieces;
 mod printing;
@@ -14,14 +20,21 @@ mod rule_folder;
 mod run;
 mod summary;
 mod texts;
+mod view;
 
+pub use ahead_run::{convert_bytes_after, show_after};
+pub use catalog::{identify_run, says_its_claims};
 pub use complaint::{complain, complain_with_path};
 pub use detail::{Detail, detail_of, rule_text_of};
+pub use drawing::{DrawRequest, draw_bytes};
+pub use entry::{Content, Subject};
 pub use explanation::{RunPaths, explain};
 pub use fault::{Fault, InputFault, ToolFault};
 pub use finding::ReportStyle;
+pub use names::is_claim_path;
 pub use pattern_run::{convert_bytes, convert_run, show_bytes, show_run};
 pub use printing::{lines, status};
 pub use read::{MAX_FILE, read_all};
 pub use rule_folder::rule_path;
 pub use run::{verify_run, verify_styled, verify_watched};
+pub use view::{Size, View, WindowFault};

@@ -6,8 +6,8 @@ ghost use Rattle.ca_claims.specs.Converted.{IsConverted, IsSummaryFault, IsConve
 ghost use Rattle.ca_tool.specs.declared.fault.InputFault.TheVariants as inputs;
 ghost use Rattle.ca_tool.specs.Writing.{Sends};
 ghost use Rattle.ca_tool.specs.Runs.{ReadsAll, TakesFile, AreKnownTables, IsShown, IsRuleFileFault, RunsOver};
-ghost use Rattle.ca_tool.specs.Runs.{WritesUnder};
-ghost use Rattle.ca_tool.specs.inner.Refusals.{TellsTable, TellsConvert, IsReadingFault, IsTableRefusal};
+ghost use Rattle.ca_tool.specs.Runs.{WritesUnder, IsTableRefusal};
+ghost use Rattle.ca_tool.specs.inner.Refusals.{TellsTable, TellsConvert, IsReadingFault};
 
 use crate::fault::ToolFault;
 use crate::read::read_all;
@@ -109,8 +109,8 @@ fn read<R: Read>(alloc: Global, input: &mut Dev<R>) -> Result<Vec<u8>, ToolFault
     }
 }
 
-// The table of the rule file's text, if there is one, or what a run answers where it is no good table.
-fn known_table(alloc: Global, rule: Option<&[u8]>) -> Result<Option<Table>, ToolFault>
+/// The table of the rule file's text, if there is one, or what a run answers where it is no good table.
+pub(crate) fn known_table(alloc: Global, rule: Option<&[u8]>) -> Result<Option<Table>, ToolFault>
     ensures known { IfOk result (λ table. AreKnownTables (option_copied rule.entry) (option_to_list table)) }
     ensures fault { IfErr result (IsTableRefusal (option_copied rule.entry)) }
 {
@@ -132,7 +132,8 @@ fn rule_table(alloc: Global, rule: Option<&[u8]>) -> Result<Option<Table>, Table
     Ok(Some(table))
 }
 
-fn tables_of(table: &Option<Table>) -> &[Table]
+/// The table, if there is one, as a list.
+pub(crate) fn tables_of(table: &Option<Table>) -> &[Table]
     ensures { result.now ≡ option_to_list table.now }
 {
     table.as_slice()
@@ -148,8 +149,8 @@ fn table_refusal(fault: TableFault) -> ToolFault
     }
 }
 
-// What a run answers where the pattern is refused.
-fn convert_refusal(fault: ConvertFault) -> ToolFault
+/// What a run answers where the pattern is refused.
+pub(crate) fn convert_refusal(fault: ConvertFault) -> ToolFault
     ensures { TellsConvert fault result }
 {
     match fault {
@@ -170,8 +171,8 @@ fn file_summary(alloc: Global, bytes: &[u8], tables: &[Table]) -> Result<Vec<u8>
     Ok(text)
 }
 
-// Writes the whole text, and answers the exit status.
-fn write<W: Write>(output: &mut Dev<W>, text: &[u8]) -> Result<u8, ToolFault>
+/// Writes the whole text, and answers the exit status.
+pub(crate) fn write<W: Write>(output: &mut Dev<W>, text: &[u8]) -> Result<u8, ToolFault>
     ensures status { IfOk result (λ status. status ≡ 0) }
     ensures sends { Sends W.contents output.old output.new text.now ToolFault.Write result }
 {

@@ -63,7 +63,7 @@ fn table_fault_pieces<'a>(fault: TableFault) -> [Piece<'a>; 2]
     [Piece::Text(b"bad table:"), Piece::Text(table_kind(fault))]
 }
 
-fn cause_pieces<'a>(cause: Cause) -> [Piece<'a>; 2]
+pub(crate) fn cause_pieces<'a>(cause: Cause) -> [Piece<'a>; 2]
     ensures { pieces_text result ≡ cause_text cause }
 {
     match cause {

@@ -6,7 +6,7 @@ use ca_macro::MacroFault;
 use ca_plane::{Dev, Memory};
 use ca_rle::RleFault;
 use ca_rule::{RuleFault, TableFault};
-use ca_tool::{Fault, InputFault, ToolFault, complain, lines};
+use ca_tool::{Fault, InputFault, ToolFault, WindowFault, complain, lines};
 use std::alloc::{AllocError, Global};
 use std::test::*;
 
@@ -149,6 +149,16 @@ const FAULTS: &[(Fault, &str)] = &[
             MacroFault::Timeline,
         )))),
         "macrocell: a timeline",
+    ),
+    (Fault::Tool(ToolFault::GenTooLarge), "generation too large"),
+    (Fault::Tool(ToolFault::Work), "out of work"),
+    (
+        Fault::Tool(ToolFault::Window(WindowFault::Range)),
+        "window out of range",
+    ),
+    (
+        Fault::Tool(ToolFault::Window(WindowFault::TooLarge)),
+        "window too large",
     ),
     (Fault::Tool(ToolFault::Write), "writing failed"),
     (Fault::Tool(ToolFault::Memory), "out of memory"),

@@ -1,0 +1,114 @@
+//! Runs of `show` and of `convert` some generations on, over the bytes of a pattern file.
+
+ghost use Rattle.std.specs.Prelude.{◌≤◌, IfOk, IfErr};
+ghost use Rattle.std.specs.Option.{option_copied};
+ghost use Rattle.ca_claims.specs.Ahead.{IsReachFault, IsConvertedAfter, IsConvertFaultAfter};
+ghost use Rattle.ca_claims.specs.Limited.{AreGoodLimits};
+ghost use Rattle.ca_claims.specs.Text.{most_generations};
+ghost use Rattle.ca_tool.specs.Runs.{IsShownAfter, WritesAfter};
+ghost use Rattle.ca_tool.specs.inner.Refusals.{TellsReach};
+
+use crate::fault::ToolFault;
+use crate::pattern_run::{convert_refusal, known_table, tables_of, write};
+use crate::summary::summary_lines;
+use ca_claims::{ConvertFault, Limits, ReachFault, Target, convert_after, summary_after};
+use ca_plane::Dev;
+use ca_rule::Table;
+use ca_run::Unwatched;
+use std::alloc::Global;
+use std::io::Write;
+
+/// Writes the five lines that are shown of the plane of a pattern file so many generations on, at most
+/// 1152921504606846976, under the table of the rule file, if there is one. It answers the exit status 0.
+/// Nothing is written before all is judged.
+pub fn show_after<W: Write>(
+    alloc: Global,
+    bytes: &[u8],
+    table: Option<&[u8]>,
+    generations: u64,
+    limits: Limits,
+    output: &mut Dev<W>,
+) -> Result<u8, ToolFault>
+    requires limits { AreGoodLimits limits }
+    requires few { generations ≤ most_generations }
+    // The lines of a true summary are written, or a first part of them and then a write fails, or none for
+    // another fault.
+    ensures writes { WritesAfter W.contents output.old output.new (option_copied table.entry)
+        (λ tables text. IsShownAfter bytes.now tables generations text)
+        (λ tables fault. IsReachFault bytes.now tables generations limits.work fault) result }
+{
+    let table = known_table(alloc, table)?;
+    let text = match summary_text_after(alloc, bytes, tables_of(&table), generations, limits) {
+        Ok(text) => text,
+        Err(fault) => return Err(reach_refusal(fault)),
+    };
+    write(output, &text)
+}
+
+/// Writes the file of the target's format of the plane of a pattern file so many generations on, at most
+/// 1152921504606846976, under the table of the rule file, if there is one. It answers the exit status 0.
+/// Nothing is written before all is judged.
+pub fn convert_bytes_after<W: Write>(
+    alloc: Global,
+    bytes: &[u8],
+    target: Target,
+    table: Option<&[u8]>,
+    generations: u64,
+    limits: Limits,
+    output: &mut Dev<W>,
+) -> Result<u8, ToolFault>
+    requires limits { AreGoodLimits limits }
+    requires few { generations ≤ most_generations }
+    // That file is written, or a first part of it and then a write fails, or nothing for another fault.
+    ensures writes { WritesAfter W.contents output.old output.new (option_copied table.entry)
+        (λ tables text. IsConvertedAfter bytes.now tables generations target text)
+        (λ tables fault. IsConvertFaultAfter bytes.now tables generations limits.work target fault) result }
+{
+    let table = known_table(alloc, table)?;
+    let tables = tables_of(&table);
+    let text = match convert_after(
+        alloc,
+        bytes,
+        target,
+        tables,
+        generations,
+        limits,
+        &mut Unwatched,
+    ) {
+        Ok(text) => text,
+        Err(fault) => return Err(reach_refusal(fault)),
+    };
+    write(output, &text)
+}
+
+// The lines of the summary of a plane some generations on.
+fn summary_text_after(
+    alloc: Global,
+    bytes: &[u8],
+    tables: &[Table],
+    generations: u64,
+    limits: Limits,
+) -> Result<Vec<u8>, ReachFault>
+    requires limits { AreGoodLimits limits }
+    requires few { generations ≤ most_generations }
+    ensures shown { IfOk result (λ text. IsShownAfter bytes.now tables.now generations text.items) }
+    ensures fault { IfErr result (IsReachFault bytes.now tables.now generations limits.work) }
+{
+    let summary = summary_after(alloc, bytes, tables, generations, limits, &mut Unwatched)?;
+    let Ok(text) = summary_lines(alloc, &summary) else {
+        return Err(ReachFault::Convert(ConvertFault::Memory));
+    };
+    Ok(text)
+}
+
+/// What a run answers where a plane isn't reached or told.
+pub(crate) fn reach_refusal(fault: ReachFault) -> ToolFault
+    ensures { TellsReach fault result }
+{
+    match fault {
+        ReachFault::Convert(fault) => convert_refusal(fault),
+        ReachFault::GenTooLarge => ToolFault::GenTooLarge,
+        ReachFault::Work => ToolFault::Work,
+        ReachFault::Range => ToolFault::Range,
+    }
+}

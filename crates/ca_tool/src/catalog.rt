@@ -1,0 +1,276 @@
+//! Runs of `identify`: pattern files in, a claim text out with the claims that are true of them.
+
+ghost use Rattle.std.specs.Prelude.{◌≡◌, ◌≢◌, ℕ, ◌≤◌, ◌++◌, ◌∷◌, [], IfOk, IfErr, OnOk, OnErr, ◌⊎◌};
+ghost use Rattle.std.specs.List.{list_any, flat_map};
+ghost use Rattle.ca_plane.specs.Puts.{Puts};
+ghost use Rattle.ca_rule.specs.TableNext.{TableRule};
+ghost use Rattle.ca_rule.specs.declared.table.fault.TableFault.TheVariants as table_fault;
+ghost use Rattle.ca_claims.specs.Answers.{IsQuietTable, IsTableFault, FirstBad};
+ghost use Rattle.ca_claims.specs.Limited.{AreGoodLimits};
+ghost use Rattle.ca_claims.specs.Text.{longest_period};
+ghost use Rattle.ca_tool.specs.Catalog.{is_death, is_refused, version_line, rule_line, entry_lines, catalog_text};
+ghost use Rattle.ca_tool.specs.Catalog.{catalog_status, IsContentOutcome, IsOutcome, IsEntry, AreEntries};
+ghost use Rattle.ca_tool.specs.Catalog.{AreRuleTables, IsCatalog, IsCatalogFault};
+ghost use Rattle.ca_tool.specs.CatalogSays.{SaysItsClaims};
+ghost use Rattle.ca_tool.specs.Writing.{WritesOneOf};
+
+use crate::entry::{Content, Entry, Outcome, Subject};
+use crate::entry_lines::{push_entry, push_rule};
+use crate::fault::ToolFault;
+use crate::names::{Names, is_claim_path};
+use ca_claims::{File, Identity, Limits, Observer, Unidentified, identify};
+use ca_plane::text::push_text;
+use ca_plane::{Dev, Memory, send};
+use ca_rule::{Table, TableFault};
+use std::alloc::Global;
+use std::io::Write;
+
+/// Identifies the patterns of files, and writes a claim text: for each file, in order, a `load` line and the claim
+/// that is true of its pattern, or a comment. It answers the exit status: 2 where a file isn't identified, else 0.
+///
+/// The patterns are looked at for as many generations as the limit says, from 1 to 4294967295, and each within the
+/// limits. Rules are looked for among the tables of the rule files, which the text names too. No two files have
+/// one name in the text. The observer hears of each file by its number, counted from 1, in place of a line.
+///
+/// # Errors
+///
+/// Fails for the first rule file that is no good table, and where there is no memory for the tables, the names or
+/// the text. Then nothing is written. Nothing is written before all files are identified.
+pub fn identify_run<W: Write, O: Observer>(
+    alloc: Global,
+    subjects: &[Subject<'_>],
+    rules: &[File<'_>],
+    limits: Limits,
+    limit: u64,
+    device: &mut Dev<W>,
+    observer: &mut O,
+) -> Result<u8, ToolFault>
+    requires limits { AreGoodLimits limits }
+    requires some { 1 ≤ limit }
+    requires most { limit ≤ longest_period }
+    ensures writes { WritesOneOf W.contents device.old device.new
+        (IsCatalog subjects.now rules.now limits.work limit)
+        (λ text. (code : ℕ) × IsCatalog subjects.now rules.now limits.work limit text code)
+        (IsCatalogFault subjects.now rules.now) result }
+{
+    let tables = match tables_of(alloc, rules) {
+        Ok(tables) => tables,
+        Err(TableFault::Memory) => return Err(ToolFault::Memory),
+        Err(fault) => return Err(ToolFault::BadTable(fault)),
+    };
+    let Ok(entries) = entries_of(alloc, subjects, &tables, limits, limit, observer) else {
+        return Err(ToolFault::Memory);
+    };
+    let Ok(text) = catalog_text(alloc, limit, rules, &entries) else {
+        return Err(ToolFault::Memory);
+    };
+    if send(device, &text).is_err() {
+        return Err(ToolFault::Write);
+    }
+    Ok(catalog_status(&entries))
+}
+
+// The tables of the rule files, or the fault of the first that is no good table.
+fn tables_of(alloc: Global, rules: &[File<'_>]) -> Result<Vec<Table>, TableFault>
+    ensures known { IfOk result (λ tables. AreRuleTables rules.now tables.items) }
+    ensures fault { IfErr result (λ fault. fault ≢ table_fault.Memory
+        → FirstBad (λ file. (table : TableRule) × IsQuietTable file.bytes.now table)
+        (λ file. IsTableFault file.bytes.now fault) rules.now) }
+    ensures memory { OnErr result (rules.now ≢ []) }
+{
+    let mut tables = Vec::new(alloc);
+    'rules: for file in rules {
+        let table = match Table::parse(alloc, file.bytes) {
+            Ok(table) => table,
+            Err(fault) => return Err(fault),
+        };
+        if tables.push(table).is_err() {
+            return Err(TableFault::Memory);
+        }
+    }
+    Ok(tables)
+}
+
+// The entries on the files, in order.
+fn entries_of<'a, O: Observer>(
+    alloc: Global,
+    subjects: &[Subject<'a>],
+    tables: &[Table],
+    limits: Limits,
+    limit: u64,
+    observer: &mut O,
+) -> Result<Vec<Entry<'a>>, Memory>
+    requires limits { AreGoodLimits limits }
+    requires some { 1 ≤ limit }
+    requires most { limit ≤ longest_period }
+    ensures entries { IfOk result
+        (λ entries. AreEntries tables.now limits.work limit [] subjects.now entries.items) }
+    ensures memory { OnErr result (subjects.now ≢ []) }
+{
+    let mut names = Names::new(alloc);
+    let mut entries = Vec::new(alloc);
+    'subjects: for subject in subjects {
+        observer.begins((entries.len() as u64).saturating_add(1));
+        let entry = entry_of(alloc, &mut names, subject, tables, limits, limit, observer)?;
+        observer.ends();
+        if entries.push(entry).is_err() {
+            return Err(Memory);
+        }
+    }
+    Ok(entries)
+}
+
+// The entry on a file, under a name that is put after the others.
+fn entry_of<'a, O: Observer>(
+    alloc: Global,
+    names: &mut Names,
+    subject: &Subject<'a>,
+    tables: &[Table],
+    limits: Limits,
+    limit: u64,
+    observer: &mut O,
+) -> Result<Entry<'a>, Memory>
+    requires limits { AreGoodLimits limits }
+    requires some { 1 ≤ limit }
+    requires most { limit ≤ longest_period }
+    ensures entry { IfOk result (IsEntry tables.now limits.work limit names.old subject.now) }
+    ensures names { IfOk result (λ entry. names.new ≡ names.old ++ entry.name.items ∷ []) }
+{
+    let outcome = outcome_of(alloc, subject, tables, limits, limit, observer);
+    let name = names.add(alloc, subject.path)?;
+    Ok(Entry {
+        name,
+        path: subject.path,
+        outcome,
+    })
+}
+
+// What comes of a file.
+fn outcome_of<O: Observer>(
+    alloc: Global,
+    subject: &Subject<'_>,
+    tables: &[Table],
+    limits: Limits,
+    limit: u64,
+    observer: &mut O,
+) -> Outcome
+    requires limits { AreGoodLimits limits }
+    requires some { 1 ≤ limit }
+    requires most { limit ≤ longest_period }
+    ensures { IsOutcome tables.now limits.work limit subject.now result }
+{
+    if !is_claim_path(subject.path) {
+        return Outcome::Unnameable;
+    }
+    content_outcome(alloc, subject.content, tables, limits, limit, observer)
+}
+
+// What comes of a file that gave this.
+fn content_outcome<O: Observer>(
+    alloc: Global,
+    content: Content<'_>,
+    tables: &[Table],
+    limits: Limits,
+    limit: u64,
+    observer: &mut O,
+) -> Outcome
+    requires limits { AreGoodLimits limits }
+    requires some { 1 ≤ limit }
+    requires most { limit ≤ longest_period }
+    ensures { IsContentOutcome tables.now limits.work limit content.entry result }
+{
+    let bytes = match content {
+        Content::Bytes(bytes) => bytes,
+        Content::Missing(cause) => return Outcome::Refused(Unidentified { cause, line: None }),
+    };
+    match identify(alloc, bytes, tables, limits, limit, observer) {
+        Ok(identity) => Outcome::Identified(identity),
+        Err(why) => Outcome::Refused(why),
+    }
+}
+
+fn is_death(outcome: &Outcome) -> bool
+    ensures { result ≡ is_death outcome.now }
+{
+    matches!(outcome, Outcome::Identified(Identity::Dies { .. }))
+}
+
+fn has_death(entries: &[Entry<'_>]) -> bool
+    ensures { result ≡ list_any (λ entry. is_death entry.outcome) entries.now }
+{
+    entries.iter().any(|entry| is_death(&entry.outcome))
+}
+
+fn is_refused(outcome: &Outcome) -> bool
+    ensures { result ≡ is_refused outcome.now }
+{
+    matches!(outcome, Outcome::Unnameable | Outcome::Refused(_))
+}
+
+fn has_refused(entries: &[Entry<'_>]) -> bool
+    ensures { result ≡ list_any (λ entry. is_refused entry.outcome) entries.now }
+{
+    entries.iter().any(|entry| is_refused(&entry.outcome))
+}
+
+// The exit status: 2 where a file isn't identified, else 0.
+fn catalog_status(entries: &[Entry<'_>]) -> u8
+    ensures { result ≡ catalog_status entries.now }
+{
+    if has_refused(entries) { 2 } else { 0 }
+}
+
+// The whole claim text.
+fn catalog_text(
+    alloc: Global,
+    limit: u64,
+    rules: &[File<'_>],
+    entries: &[Entry<'_>],
+) -> Result<Vec<u8>, Memory>
+    ensures text { IfOk result (λ text. text.items ≡ catalog_text limit rules.now entries.now) }
+    ensures memory { OnErr result ((entries.now ≢ []) ⊎ (rules.now ≢ [])) }
+{
+    let mut text = Vec::new(alloc);
+    push_version(&mut text, entries)?;
+    push_rules(&mut text, rules)?;
+    push_entries(&mut text, limit, entries)?;
+    Ok(text)
+}
+
+// Puts the line of the version, where a text with these entries needs the second one.
+fn push_version(out: &mut Vec<u8>, entries: &[Entry<'_>]) -> Result<(), Memory>
+    ensures puts { OnOk result (Puts out.old.items out.new.items (version_line entries.now)) }
+    ensures memory { OnErr result (entries.now ≢ []) }
+{
+    if has_death(entries) {
+        push_text(out, b"claims 2\n")?;
+    }
+    Ok(())
+}
+
+fn push_rules(out: &mut Vec<u8>, rules: &[File<'_>]) -> Result<(), Memory>
+    ensures puts { OnOk result (Puts out.old.items out.new.items (flat_map rule_line rules.now)) }
+    ensures memory { OnErr result (rules.now ≢ []) }
+{
+    'rules: for file in rules {
+        push_rule(out, file)?;
+    }
+    Ok(())
+}
+
+fn push_entries(out: &mut Vec<u8>, limit: u64, entries: &[Entry<'_>]) -> Result<(), Memory>
+    ensures puts { OnOk result (Puts out.old.items out.new.items (flat_map (entry_lines limit) entries.now)) }
+    ensures memory { OnErr result (entries.now ≢ []) }
+{
+    'entries: for entry in entries {
+        push_entry(out, limit, entry)?;
+    }
+    Ok(())
+}
+
+/// A law: the text that `identify_run` writes is a claim text. Read as one, as `ca_claims::read_claims` reads it, it
+/// says just the names of the files that are identified and the claims that are true of them, and the rule files,
+/// whose paths have to be words; and no line of it is faulty.
+pub fn says_its_claims()
+    ensures { SaysItsClaims }
+{}

@@ -1,0 +1,39 @@
+//! Files that are to be identified, and what came of them.
+
+use ca_claims::{Cause, Identity, Unidentified};
+
+/// What a file that is to be identified gave.
+#[derive(Clone, Copy, Debug)]
+pub enum Content<'a> {
+    /// Its bytes.
+    Bytes(&'a [u8]),
+    /// Nothing that is to be identified, for this cause: it can't be read, or the rule file that its rule text
+    /// names isn't good.
+    Missing(Cause),
+}
+
+/// A file that is to be identified: its path, and what it gave.
+#[derive(Clone, Copy, Debug)]
+pub struct Subject<'a> {
+    pub path: &'a [u8],
+    pub content: Content<'a>,
+}
+
+/// What came of a file that is to be identified.
+#[derive(Clone, Copy)]
+pub(crate) enum Outcome {
+    /// No claim text can name its path.
+    Unnameable,
+    /// It isn't found out what its pattern is, for this reason.
+    Refused(Unidentified),
+    /// Its pattern is this.
+    Identified(Identity),
+}
+
+/// A file of a claim text: its name there, its path, and what came of it.
+#[derive(Drop)]
+pub(crate) struct Entry<'a> {
+    pub(crate) name: Vec<u8>,
+    pub(crate) path: &'a [u8],
+    pub(crate) outcome: Outcome,
+}

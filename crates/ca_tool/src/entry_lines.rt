@@ -1,0 +1,190 @@
+//! The lines of a claim text on the files that were to be identified.
+
+ghost use Rattle.std.specs.Prelude.{◌≡◌, ◌++◌, ◌∷◌, [], map, codes, decimal, OnOk};
+ghost use Rattle.std.specs.Fmt.{signed_decimal};
+ghost use Rattle.ca_claims.specs.declared.identity.Identity.TheVariants.{Unknown};
+ghost use Rattle.ca_tool.specs.declared.entry.Outcome.TheVariants.{Identified};
+ghost use Rattle.ca_plane.specs.Puts.{Puts};
+ghost use Rattle.ca_tool.specs.Catalog.{load_line, identity_line, refused_line, line_byte, unnameable_line};
+ghost use Rattle.ca_tool.specs.Catalog.{outcome_lines, entry_lines, rule_line};
+ghost use Rattle.ca_tool.specs.inner.Pieces.{pieces_text};
+
+use crate::entry::{Entry, Outcome};
+use crate::finding::{at_pieces, generations_word};
+use crate::pieces::{NOTHING, Piece, push_pieces};
+use crate::printing::cause_pieces;
+use ca_claims::{File, Identity, Unidentified};
+use ca_plane::Memory;
+use ca_plane::text::push_text;
+
+fn load_pieces<'a>(name: &'a [u8], path: &'a [u8]) -> [Piece<'a>; 5]
+    ensures { pieces_text result ≡ load_line name.now path.now }
+{
+    [
+        Piece::Text(b"load "),
+        Piece::Text(name),
+        Piece::Text(b" "),
+        Piece::Text(path),
+        Piece::Text(b"\n"),
+    ]
+}
+
+// The line of a claim about one number of generations in pieces.
+fn number_pieces<'a>(word: &'a [u8], name: &'a [u8], number: u64) -> [Piece<'a>; 9]
+    ensures { pieces_text result ≡ word.now ++ (name.now ++ (32 ∷ (decimal number ++ 10 ∷ []))) }
+{
+    let mut pieces = [NOTHING; 9];
+    pieces[0] = Piece::Text(word);
+    pieces[1] = Piece::Text(name);
+    pieces[2] = Piece::Text(b" ");
+    pieces[3] = Piece::Number(number);
+    pieces[4] = Piece::Text(b"\n");
+    pieces
+}
+
+// A line of a word, a name and a text in pieces.
+fn word_pieces<'a>(word: &'a [u8], name: &'a [u8], text: &'a [u8]) -> [Piece<'a>; 9]
+    ensures { pieces_text result ≡ word.now ++ (name.now ++ (text.now ++ 10 ∷ [])) }
+{
+    let mut pieces = [NOTHING; 9];
+    pieces[0] = Piece::Text(word);
+    pieces[1] = Piece::Text(name);
+    pieces[2] = Piece::Text(text);
+    pieces[3] = Piece::Text(b"\n");
+    pieces
+}
+
+fn unknown_pieces<'a>(limit: u64, name: &'a [u8]) -> [Piece<'a>; 9]
+    ensures { pieces_text result ≡ identity_line limit name.now Unknown }
+{
+    let mut pieces = [NOTHING; 9];
+    pieces[0] = Piece::Text(b"# ");
+    pieces[1] = Piece::Text(name);
+    pieces[2] = Piece::Text(b": none of these within ");
+    pieces[3] = Piece::Number(limit);
+    pieces[4] = Piece::Text(generations_word(limit));
+    pieces[5] = Piece::Text(b"\n");
+    pieces
+}
+
+fn spaceship_pieces<'a>(name: &'a [u8], period: u64, dx: i64, dy: i64) -> [Piece<'a>; 9]
+    ensures { pieces_text result ≡ codes "spaceship " ++ (name.now ++ (32 ∷ (decimal period ++ (32 ∷ (signed_decimal dx ++ (32 ∷ (signed_decimal dy ++ 10 ∷ []))))))) }
+{
+    [
+        Piece::Text(b"spaceship "),
+        Piece::Text(name),
+        Piece::Text(b" "),
+        Piece::Number(period),
+        Piece::Text(b" "),
+        Piece::Integer(dx),
+        Piece::Text(b" "),
+        Piece::Integer(dy),
+        Piece::Text(b"\n"),
+    ]
+}
+
+// The line of what a pattern is found to be in pieces.
+fn identity_pieces<'a>(limit: u64, name: &'a [u8], identity: Identity) -> [Piece<'a>; 9]
+    ensures { pieces_text result ≡ identity_line limit name.now identity }
+{
+    match identity {
+        Identity::Empty => word_pieces(b"# ", name, b": no cell is live"),
+        Identity::StillLife => word_pieces(b"still ", name, b""),
+        Identity::Oscillator { period } => number_pieces(b"oscillator ", name, period),
+        Identity::Spaceship { period, dx, dy } => spaceship_pieces(name, period, dx, dy),
+        Identity::Dies { generations } => number_pieces(b"dies ", name, generations),
+        Identity::Unknown => unknown_pieces(limit, name),
+    }
+}
+
+// The comment on a file that is refused in pieces.
+fn refused_pieces<'a>(name: &'a [u8], path: &'a [u8], why: Unidentified) -> [Piece<'a>; 10]
+    ensures { pieces_text result ≡ refused_line name.now path.now why }
+{
+    let [first, second] = cause_pieces(why.cause);
+    let [at, number] = at_pieces(why.line);
+    [
+        Piece::Text(b"# "),
+        Piece::Text(name),
+        Piece::Text(b": "),
+        Piece::Text(path),
+        Piece::Text(b": "),
+        first,
+        second,
+        at,
+        number,
+        Piece::Text(b"\n"),
+    ]
+}
+
+// A byte of a line, or `_` in place of LF.
+fn line_byte(byte: u8) -> u8
+    ensures { result ≡ line_byte byte }
+{
+    if byte == b'\n' { b'_' } else { byte }
+}
+
+fn push_line_bytes(out: &mut Vec<u8>, bytes: &[u8]) -> Result<(), Memory>
+    ensures { OnOk result (Puts out.old.items out.new.items (map line_byte bytes.now)) }
+{
+    'bytes: for byte in bytes {
+        out.push(line_byte(*byte))?;
+    }
+    Ok(())
+}
+
+// Puts the comment on a file whose path can't be in a claim text.
+fn push_unnameable(out: &mut Vec<u8>, name: &[u8], path: &[u8]) -> Result<(), Memory>
+    ensures { OnOk result (Puts out.old.items out.new.items (unnameable_line name.now path.now)) }
+{
+    push_text(out, b"# ")?;
+    push_text(out, name)?;
+    push_text(out, b": ")?;
+    push_line_bytes(out, path)?;
+    push_text(out, b": no claim text can name this path\n")
+}
+
+// Puts the lines on a file that is identified.
+fn push_identity(
+    out: &mut Vec<u8>,
+    limit: u64,
+    name: &[u8],
+    path: &[u8],
+    identity: Identity,
+) -> Result<(), Memory>
+    ensures { OnOk result (Puts out.old.items out.new.items
+        (outcome_lines limit name.now path.now (Identified identity))) }
+{
+    push_pieces(out, &load_pieces(name, path))?;
+    push_pieces(out, &identity_pieces(limit, name, identity))
+}
+
+/// Puts the lines on a file after what `out` holds; `limit` is the number of generations that were looked at.
+///
+/// # Errors
+///
+/// Fails where there is no memory for them.
+pub(crate) fn push_entry(out: &mut Vec<u8>, limit: u64, entry: &Entry<'_>) -> Result<(), Memory>
+    ensures { OnOk result (Puts out.old.items out.new.items (entry_lines limit entry.now)) }
+{
+    match entry.outcome {
+        Outcome::Unnameable => push_unnameable(out, &entry.name, entry.path),
+        Outcome::Refused(why) => push_pieces(out, &refused_pieces(&entry.name, entry.path, why)),
+        Outcome::Identified(identity) => {
+            push_identity(out, limit, &entry.name, entry.path, identity)
+        }
+    }
+}
+
+/// Puts the line that gives the table of a rule file to the text.
+///
+/// # Errors
+///
+/// Fails where there is no memory for it.
+pub(crate) fn push_rule(out: &mut Vec<u8>, file: &File<'_>) -> Result<(), Memory>
+    ensures { OnOk result (Puts out.old.items out.new.items (rule_line file.now)) }
+{
+    push_text(out, b"rule ")?;
+    push_text(out, file.path)?;
+    push_text(out, b"\n")
+}
