@@ -1,5 +1,5 @@
 #!/usr/bin/env -S python3 -B
-"""`show --explain` and `convert --explain`: after each refusal that is about a file one more line on standard error, with the file and the line of its fault,
+"""`show --explain`, `convert --explain` and `draw --explain`: after each refusal that is about a file one more line on standard error, with the file and the line of its fault,
 or the rule that isn't known; and all else is as in a run that isn't explained."""
 import itertools
 import os

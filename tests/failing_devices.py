@@ -24,8 +24,8 @@ PIECE = 8192
 # Of texts with fewer bytes each byte in turn can't be written, of the others some.
 MOST_WHOLE = 3000
 
-# Examples of `show` and `convert` that print or read some hundred bytes.
-EXAMPLES = ("show_full_square", "convert_gun_to_macrocell", "convert_gun_to_rle", "convert_full_square")
+# Examples of `show`, `convert` and `draw` that print or read some hundred bytes.
+EXAMPLES = ("show_full_square", "convert_gun_to_macrocell", "convert_gun_to_rle", "convert_full_square", "draw_full_square", "draw_pgm", "draw_window", "show_after", "convert_after")
 
 
 # What the claim text prints, without notes and with them. Which of the two cells that differ the last note names is open; this is the program's choice.
@@ -33,11 +33,16 @@ PLAIN = b"line 3: no, cells differ after 1\nline 4: yes\nline 5: no, cells diffe
 EXPLAINED = (b"line 3: no, cells differ after 1\n  dot at 0,0: 0 after 1 generation, claimed 1\nline 4: yes\n"
              b"line 5: no, cells differ after 0\n  row at 1,0: 1 after 0 generations, claimed 0\n")
 
+# What the dot, the row and the dot as macrocell are, and what is told of a file that isn't identified, with the row.
+IDENTIFIED = ("claims 2\nload dot {dot}\ndies dot 1\nload row {row}\noscillator row 2\nload dot-2 {macrocell}\ndies dot-2 1\n")
+NOT_IDENTIFIED = "# z: {bad}: bad pattern: rle syntax, line 2\nload row {row}\noscillator row 2\n"
+
 # What comes of the dot and of the cell under a table.
 SHOWN, SHOWN_MACROCELL, SHOWN_TABLE = (
     ample(b"format %s\nrule %s\ngen 0\ncells 1\nbox 0 0 1 1\n" % it) for it in ((b"rle", b"B3/S23"), (b"macrocell", b"B3/S23"), (b"rle", b"S")))
 AS_MACROCELL, AS_RLE = ample(b"[M2] (cafile)\n#R B3/S23\n*$$$$$$$$\n4 0 0 0 1\n"), ample(b"#CXRLE Pos=0,0\nx = 1, y = 1, rule = B3/S23\no!\n")
 TABLE_AS_MACROCELL = ample(b"[M2] (cafile)\n#R S\n1 0 0 0 2\n")
+DRAWN_TABLE = ample(b"B\n")
 
 
 def claim_text(files):
@@ -54,16 +59,24 @@ def after_path(path, lines):
 
 def printing_runs(files):
     """The words of runs of each kind that print something, each with what comes of it. Of the version and the help the text is the program's own."""
-    text, (dot, _) = claim_text(files)
+    text, (dot, row) = claim_text(files)
     lost = files.path("lost.claims", "load lost nowhere.rle\nstill lost\n")
     rule, state = files.path("s.rule", RULE), files.path("state.rle", "x = 1, y = 1, rule = S\nB!")
     macrocell = files.path("dot.mc", MACROCELL)
     files.path("S.rule", RULE)
+    unknown = files.path("unknown.rle", "x = 1, y = 1, rule = Z\nB!")
+    files.path("Z.rule", "faulty")
+    named = files.path("named.claims", f"load s {state}\nload z {unknown}\nstill s\nstill z\n")
+    found = f"line 3: yes\nline 4: refused, bad rule: unknown\n  z: {unknown}: rule Z\n".encode()
     both = after_path(text, EXPLAINED) + after_path(lost, b"line 2: refused, no file\n  lost: nowhere.rle\n")
     return (
         (["verify", text], Outcome(PLAIN, b"", 1)), (["verify", "--explain", text], Outcome(EXPLAINED, b"", 1)),
-        (["verify", "--explain", text, lost], Outcome(both, b"", 2)), (["show", dot], SHOWN), (["show", macrocell], SHOWN_MACROCELL),
-        (["show", state, "--rule", rule], SHOWN_TABLE), (["show", state, "--rules", files.folder], SHOWN_TABLE), (["convert", dot, "--to", "mc"], AS_MACROCELL), (["convert", macrocell, "--to", "rle"], AS_RLE),
+        (["verify", "--explain", text, lost], Outcome(both, b"", 2)), (["verify", "--explain", "--rules", files.folder, named], Outcome(found, b"", 2)), (["show", dot], SHOWN), (["show", macrocell], SHOWN_MACROCELL),
+        (["identify", dot, row, macrocell], ample(IDENTIFIED.format(dot=dot, row=row, macrocell=macrocell).encode())),
+        (["identify", "--explain", files.path("z.rle", "x = 1, y = 1\nz!"), row], Outcome(NOT_IDENTIFIED.format(bad=files.path("z.rle"), row=row).encode(), f"  {files.path('z.rle')}, line 2\n".encode(), 2)),
+        (["show", dot, "--after", "0"], SHOWN), (["convert", dot, "--to", "mc", "--after", "0"], AS_MACROCELL),
+        (["show", state, "--rule", rule], SHOWN_TABLE), (["show", state, "--rules", files.folder], SHOWN_TABLE),
+        (["draw", state, "--rule", rule], DRAWN_TABLE), (["draw", state, "--rules", files.folder], DRAWN_TABLE), (["convert", dot, "--to", "mc"], AS_MACROCELL), (["convert", macrocell, "--to", "rle"], AS_RLE),
         *((example_words(f"{name}.words"), example(name)) for name in EXAMPLES),
         *((words, ample(run(words).printed)) for words in (["--version"], ["verify", "--help"])),
     )
@@ -78,7 +91,8 @@ def complaining_runs(files):
     noted = {told: Outcome(b"", f"cafile: {told}\n  {note}\n".encode(), 2) for told, note in noted.items()}
     several = f"cafile: {bad}: claims line 1: syntax\ncafile: {worse}: claims line 1: unknown name\n"
     return (
-        (["show", "nowhere"], fault("cannot read nowhere")), (["convert", z, "--to", "mc"], fault("bad pattern: rle syntax")),
+        (["show", "nowhere", "--after", "1"], fault("cannot read nowhere")), (["show", text, "--after", "1"], fault("bad pattern: rle header")),
+        (["show", "nowhere"], fault("cannot read nowhere")), (["draw", "nowhere"], fault("cannot read nowhere")), (["convert", z, "--to", "mc"], fault("bad pattern: rle syntax")),
         (["show", z, "--rule", rule], fault("bad table: line 3 states")), (["show", "--explain", z], noted["bad pattern: rle syntax"]),
         (["convert", z, "--to", "mc", "--explain", "--rule", rule], noted["bad table: line 3 states"]), (["verify", bad], fault("claims line 1: syntax")),
         (["verify", bad, text, worse], Outcome(after_path(text, PLAIN), several.encode(), 2)),
@@ -176,11 +190,18 @@ def try_reads(tally, refusing, files):
     expect_reads(tally, refusing, ["verify", "--explain", text], Outcome(EXPLAINED, b"", 1), (
         (size, fault(f"cannot read {text}")), (len(DOT), Outcome(no_dot, b"", 2)), (len(ROW), Outcome(before + no_row, b"", 2))))
     rule, state = files.path("s.rule", RULE), files.path("state.rle", "x = 1, y = 1, rule = S\nB!")
-    for words, whole in ((["show", state, "--rule", rule], SHOWN_TABLE), (["convert", state, "--rule", rule, "--to", "mc"], TABLE_AS_MACROCELL)):
+    for words, whole in ((["show", state, "--rule", rule], SHOWN_TABLE), (["draw", state, "--rule", rule], DRAWN_TABLE),
+                         (["convert", state, "--rule", rule, "--to", "mc"], TABLE_AS_MACROCELL)):
         expect_reads(tally, refusing, words, whole, ((len(RULE), fault(f"cannot read {rule}")), (os.path.getsize(state), fault(f"cannot read {state}"))))
     files.path("S.rule", RULE)
-    for words, whole in ((["show", state, "--rules", files.folder], SHOWN_TABLE), (["convert", state, "--rules", files.folder, "--to", "mc"], TABLE_AS_MACROCELL)):
+    for words, whole in ((["show", state, "--rules", files.folder], SHOWN_TABLE), (["draw", state, "--rules", files.folder], DRAWN_TABLE),
+                         (["convert", state, "--rules", files.folder, "--to", "mc"], TABLE_AS_MACROCELL)):
         expect_reads(tally, refusing, words, whole, ((os.path.getsize(state), fault(f"cannot read {state}")), (len(RULE), fault("bad rule: unknown"))))
+    named = f"load s {state}\nstill s\n"
+    words = ["verify", "--rules", files.folder, files.path("named.claims", named)]
+    expect_reads(tally, refusing, words, ample(b"line 2: yes\n"), (
+        (len(named), fault(f"cannot read {words[-1]}")), (os.path.getsize(state), Outcome(b"line 2: refused, no file\n", b"", 2)),
+        (len(RULE), Outcome(b"line 2: refused, bad rule: unknown\n", b"", 2))))
     macrocell = files.path("dot.mc", MACROCELL)
     for words, whole in ((["show", macrocell], SHOWN_MACROCELL), (["convert", macrocell, "--to", "rle"], AS_RLE), (["show", dot], SHOWN)):
         expect_reads(tally, refusing, words, whole, ((os.path.getsize(words[1]), fault(f"cannot read {words[1]}")),))

@@ -20,6 +20,7 @@ from functools import cached_property
 from lib import claim_reader, macrocell, rle
 from lib.claim_reader import Judge
 from lib.mutations import KINDS, Mutator
+from lib.pictures import drawn
 from lib.program import Folder, Outcome, Tally, ample, fault
 from lib.rle_reader import Fault, PatternFile, WORD, lines_of, rule_of
 from lib.work import excess, timed
@@ -142,14 +143,15 @@ class Patterns:
         """Runs over this text alone, with what each has to come to."""
         path, file = trial.name("pattern"), trial.file
         if file.cause:
-            return [(words, fault(file.cause)) for words in (["show", path], ["convert", path, "--to", "mc"])]
+            return [(words, fault(file.cause)) for words in (["show", path], ["convert", path, "--to", "mc"], ["draw", path])]
         if file.population() > WRITTEN:
             return []
         pattern = file.pattern()
         shown = pattern.shown(kind="macrocell" if file.is_macrocell else "rle")
-        tidy = rle.tidy(pattern.tree.cells(), file.rule, file.held.generation, file.states)
+        cells = pattern.tree.cells()
+        tidy = rle.tidy(cells, file.rule, file.held.generation, file.states)
         return [(["show", path], ample(shown)), (["convert", path, "--to", "rle"], ample(tidy)),
-                (["convert", path, "--to", "mc"], ample(macrocell.tidy(pattern, file.states)))]
+                (["convert", path, "--to", "mc"], ample(macrocell.tidy(pattern, file.states))), (["draw", path], ample(drawn(cells, file.states)))]
 
 
 class Rules:

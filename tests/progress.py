@@ -176,6 +176,36 @@ def try_order(tally, refusing, files):
     tally.expect("wiped before the verdict", got, Outcome(wanted, b"", 1))
 
 
+def identified_shown(path, limit, generations, milliseconds):
+    """What `identify` shows of a file, which it looks at for so many generations: the first look is before the first of them."""
+    lines, last = [], None
+    for reached in range(generations):
+        time_now = (reached + 1) * milliseconds
+        if time_now >= (1000 if last is None else last + 500):
+            lines.append(f"{path}: {reached} of {limit} generations".encode())
+            last = time_now
+    return b"".join(WIPE + it for it in lines) + (WIPE if lines else b"")
+
+
+def try_identify(tally, refusing, files):
+    """`identify` shows the file's path and the generations that were looked at, at most twice a second."""
+    looked_at = {"examples/glider.rle": (4, "load glider examples/glider.rle\nspaceship glider 4 1 1\n"), "examples/empty.rle": (0, "load empty examples/empty.rle\n# empty: no cell is live\n"),
+                 "examples/pentadecathlon.rle": (15, "load pentadecathlon examples/pentadecathlon.rle\noscillator pentadecathlon 15\n"),
+                 PENTOMINO: (20, f"load r_pentomino {PENTOMINO}\n# r_pentomino: none of these within 20 generations\n"), "my block.rle": (0, "# my_block: my block.rle: no claim text can name this path\n"),
+                 "examples/lost.rle": (0, "# lost: examples/lost.rle: no file\n"), "examples/block.rle": (1, "load block examples/block.rle\nstill block\n")}
+    words, printed = ["identify", "--limit", "20", *looked_at], "".join(it for _, it in looked_at.values()).encode()
+    for step in STEPS:
+        shown = b"".join(identified_shown(path, 20, generations, step) for path, (generations, _) in looked_at.items())
+        got, _ = refusing.run([*words, "--progress"], {"CLOCK_STEP": step})
+        tally.expect(f"identify, {step}", got, Outcome(printed, shown, 2))
+        got, _ = refusing.run(words, {"CLOCK_STEP": step})
+        tally.expect(f"identify without the word, {step}", got, Outcome(printed, b"", 2))
+        got = on_a_terminal(refusing, words, {"CLOCK_STEP": step})
+        tally.tell(f"identify on a terminal, {step}", [] if got == (printed, shown) else [f"wanted {(printed, shown)}, got {got}"])
+    got, _ = refusing.run([*words, "--progress"], {"CLOCK_FAILS": 1})
+    tally.expect("identify, no clock", got, Outcome(printed, b"", 2))
+
+
 def try_closed(tally, refusing, files):
     """Where standard error takes nothing, or not every byte, the verdicts are the same."""
     text = claims(files)
@@ -280,7 +310,7 @@ def try_quick(tally, refusing, _):
 def main():
     tally = Tally()
     with refusing_program(tally, "progress") as (folder, refusing):
-        for it in (try_claims, try_notes, try_dense, try_order, try_closed, try_terminal, try_results, try_the_clock, try_quick) if refusing else ():
+        for it in (try_claims, try_identify, try_notes, try_dense, try_order, try_closed, try_terminal, try_results, try_the_clock, try_quick) if refusing else ():
             inner = os.path.join(folder, it.__name__)
             os.mkdir(inner)
             it(tally, refusing, Folder(inner))

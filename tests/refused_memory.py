@@ -10,12 +10,14 @@ Of each run either nothing changed, or it ended with `cafile: memory` and printe
 - a claim whose file, or a rule file, is missing, or whose rule file or RLE doesn't read, is refused for that in every run;
 - claims are refused in their order, and no run ends whole once a claim was judged.
 
+A run of `identify` prints all that it prints with ample memory, or nothing and `cafile: memory`, or of one file that memory is out.
+
 Of an explained run one claim may also be without its note, or a macrocell's note without the faulty line, or one without its rule; but where cells differ, a file is missing or a
 rule file is bad, the note is always given. Of a run over several texts one text may be told as out of
-memory and have no lines. A run of `show` or `convert` prints all that it prints with ample memory, or nothing and `cafile: memory`; where it is explained,
+memory and have no lines. A run of `show`, `convert` or `draw` prints all that it prints with ample memory, or nothing and `cafile: memory`; where it is explained,
 its note may be without the faulty line or the rule.
 
-Of claims with many allocations some are tried, of `show` and `convert` all. tests/address_space.py has memory that is refused by the system itself.
+Of claims with many allocations some are tried, of `show`, `convert` and `draw` all. tests/address_space.py has memory that is refused by the system itself.
 """
 import itertools
 import os
@@ -30,24 +32,30 @@ EXAMPLES = {"block": 1, "glider": 1, "several": 1, "bad_patterns": 1, "rules": 1
             "unknown_name": 1, "table_causes": 1, "bad_table": 1, "slide": 1, "tables": 5, "r_pentomino": 11, "soup": 11, "macrocells": 11,
             "bad_macrocells": 5, "generations": 11, "reactions": 11, "every_kind": 1, "three_planes": 1}
 
-# Examples of `show` and `convert`, in both formats, with a rule file and without, and with a fault.
+# Examples of `show`, `convert` and `draw`, in both formats, with a rule file and without, and with a fault.
 WORDS = ("show_rle", "show_macrocell", "show_table", "show_no_table", "show_bad_table", "show_timeline", "show_full_square", "show_generations",
          "convert_to_macrocell", "convert_to_rle", "convert_tidy_rle", "convert_both_leaves", "convert_table_to_macrocell", "convert_table_to_rle",
          "convert_empty_to_macrocell", "convert_too_many_cells", "convert_full_square", "convert_gun_to_macrocell", "convert_gun_to_rle",
-         "convert_generations_to_macrocell", "show_rules", "convert_rules", "show_rules_bad_table", "convert_explain_bad_table")
+         "convert_generations_to_macrocell", "identify_bad_table", "show_rules", "convert_rules", "show_rules_bad_table", "convert_explain_bad_table",
+         "draw_glider", "draw_window", "draw_after", "draw_generations", "draw_table", "draw_full_square", "draw_empty", "draw_pgm", "draw_too_large",
+         "draw_out_of_range",
+         "show_after", "show_after_long", "show_after_work", "convert_after", "convert_after_gen_too_large")
 
 # The same with a note on the pattern's file, which may be without its faulty line or its rule.
-NOTED = ("show_explain_syntax", "show_explain_forward", "show_rules_unknown", "convert_explain_unknown", "convert_explain_too_many_cells")
+NOTED = ("show_explain_syntax", "show_explain_forward", "show_rules_unknown", "convert_explain_unknown", "convert_explain_too_many_cells",
+         "draw_explain_unknown")
 
 # Examples of `verify` with notes, each of one text, and runs over several texts, each with the examples that its texts give by themselves.
-EXPLAINED = {"explain_several": 1, "explain_bad_patterns": 1, "explain_bad_macrocells": 3, "explain_bad_table": 1, "explain_no_rule_file": 1, "explain_causes": 1}
+EXPLAINED = {"explain_several": 1, "explain_bad_patterns": 1, "explain_bad_macrocells": 3, "explain_bad_table": 1, "explain_no_rule_file": 1, "explain_causes": 1, "verify_rules": 1,
+             "explain_rules": 1}
 SEVERAL = (
     (("verify",), {"block": "block", "several": "several"}),
     (("verify",), {"no_claims": "no_claims", "states": "states", "block": "block"}),
     (("verify", "--explain"), {"several": "explain_several", "bad_table": "explain_bad_table"}),
+    (("verify", "--explain", "--rules", "examples/rules"), {"rules/named": "verify_rules", "several": "explain_several", "rules/slow": "explain_rules"}),
 )
 
-# Files of larger patterns, a soup in both formats, of which each allocation of `show` and of `convert` to either format is refused.
+# Files of larger patterns, a soup in both formats, of which each allocation of `show`, of `convert` to either format and of `draw` is refused.
 LARGER = ("examples/soup/soup.rle", "examples/soup/soup_40.mc")
 
 NO_MEMORY = fault("memory")
@@ -217,7 +225,7 @@ def tell_words(tally, refusing, words, ample, name, less=None):
 
 
 def try_words(tally, refusing):
-    """Each allocation of some examples of `show` and `convert` in turn."""
+    """Each allocation of some examples of `show`, `convert` and `draw` in turn."""
     for name in WORDS:
         tell_words(tally, refusing, example_words(f"{name}.words"), example(name), f"examples/{name}.words")
     for name in NOTED:
@@ -226,9 +234,34 @@ def try_words(tally, refusing):
         tell_words(tally, refusing, example_words(f"{name}.words"), ample, f"examples/{name}.words", less)
 
 
+def with_version(lines):
+    """The text of `identify` with these lines on its files, and the outcome of a run that prints it."""
+    text = "".join(("claims 2\n" * any("\ndies " in it for it in lines), *lines))
+    return Outcome(text.encode(), b"", 2 if any(re.search("^# .*: .*: ", it, re.M) for it in lines) else 0)
+
+
+def try_identify(tally, refusing):
+    """Each allocation of some runs of `identify` in turn: all is printed, or of one file that memory is out, or nothing."""
+    files = {"glider": ("examples/glider.rle", "spaceship glider 4 1 1"), "diehard": ("examples/reactions/diehard.rle", "dies diehard 130"),
+             "empty": ("examples/empty.rle", "# empty: no cell is live"), "blocks": ("examples/macrocell/blocks.mc", "still blocks")}
+    lines = [f"load {name} {path}\n{told}\n" for name, (path, told) in files.items()]
+    lines.append("# syntax: examples/bad/syntax.rle: bad pattern: rle syntax, line 2\n")
+    paths = [*(path for path, _ in files.values()), "examples/bad/syntax.rle"]
+    clock = "examples/tables/wireworld_clock.rle"
+    rule = "rule examples/tables/wireworld.rule\n"
+    for words, names, wanted in ((["identify", *paths], [*files, "syntax"], lines),
+                                 (["identify", "--rule", "examples/tables/wireworld.rule", clock], ["wireworld_clock"], [f"{rule}load wireworld_clock {clock}\noscillator wireworld_clock 6\n"])):
+        memory = [f"{rule * ('--rule' in words)}# {name}: {path}: memory\n" for name, path in zip(names, [it for it in words if it.endswith((".rle", ".mc"))])]
+        refused = [with_version([*wanted[:at], memory[at], *wanted[at + 1:]]) for at in range(len(wanted))]
+        outcomes = refusing.sweep(words, itertools.count(1))
+        complaints = [f"allocation {number}: {it}" for number, it in outcomes.items() if it not in (with_version(wanted), NO_MEMORY, *refused)]
+        complaints += [f"never met: {it}" for it in (NO_MEMORY, *refused) if it not in outcomes.values()]
+        tally.tell(f"refused memory, identify {' '.join(names)}: {len(outcomes)} allocations refused", complaints)
+
+
 def try_larger(tally, refusing):
-    """Each allocation in turn of `show` and `convert` on larger patterns, which with ample memory print something."""
-    for path, words in itertools.product(LARGER, (["show"], ["convert", "--to", "rle"], ["convert", "--to", "mc"])):
+    """Each allocation in turn of `show`, `convert` and `draw` on larger patterns, which with ample memory print something."""
+    for path, words in itertools.product(LARGER, (["show"], ["convert", "--to", "rle"], ["convert", "--to", "mc"], ["draw"], ["draw", "--to", "pgm", "--after", "1"])):
         ample = run([*words, path])
         tally.tell(f"ample memory, {' '.join(words)} {path}", [] if ample.printed and (ample.complaint, ample.status) == (b"", 0) else [str(ample)])
         tell_words(tally, refusing, [*words, path], ample, f"{' '.join(words)} {path}")
@@ -277,11 +310,12 @@ def wrong_for_good(ample, outcomes):
 def try_for_good(tally, refusing):
     """All allocations from one on: the complaint itself takes none, and the claims that were judged before are told."""
     for words in (["verify", "examples/syntax.claims"], ["verify", "examples/lost"], ["--help"], ["verify"],
-                  ["show", "examples/macrocell/glider.mc"], ["convert", "examples/glider.rle", "--to", "mc"], ["show", "examples/lost"]):
+                  ["identify", "examples/lost"], ["draw", "examples/glider.rle"], ["show", "examples/macrocell/glider.mc"], ["convert", "examples/glider.rle", "--to", "mc"], ["show", "examples/lost"]):
         ample, outcomes = run(words), refusing.sweep(words, itertools.count(1), goes_on=True)
         wrong = wrong_ones(ample, outcomes)
         tally.tell(f"memory refused for good, {' '.join(words)}: {len(outcomes)} runs", wrong if outcomes else ["no allocation was refused"])
-    for words, names in ((("verify",), {"several": "several"}), (("verify", "--explain"), {"several": "explain_several"}), *SEVERAL):
+    for words, names in ((("verify",), {"several": "several"}), (("verify", "--explain"), {"several": "explain_several"}),
+                         (("verify", "--explain", "--rules", "examples/rules"), {"rules/slow": "explain_rules"}), *SEVERAL):
         texts = [(f"examples/{name}.claims: ".encode() if len(names) > 1 else b"", answers_in(example(alone).printed)) for name, alone in names.items()]
         outcomes = refusing.sweep([*words, *(f"examples/{name}.claims" for name in names)], itertools.count(1), goes_on=True)
         wrong = [f"allocation {number}: {it}" for number, it in outcomes.items() if it != NO_MEMORY and not consists_of(texts, it)]
@@ -292,7 +326,7 @@ def main():
     tally = Tally()
     with refusing_program(tally, "refused memory") as (folder, refusing):
         if refusing:
-            for it in (try_examples, try_explained, try_several, try_words, try_larger, try_for_good):
+            for it in (try_examples, try_explained, try_several, try_words, try_identify, try_larger, try_for_good):
                 it(tally, refusing)
             try_large(tally, refusing, folder)
     tally.finish()

@@ -1,11 +1,12 @@
 #!/usr/bin/env -S python3 -B
-"""`show --rules DIR` and `convert --rules DIR`: a rule that is neither in B/S notation nor a table of `--rule` is looked for as DIR/NAME.rule; which names
+"""`show --rules DIR`, `convert --rules DIR` and `draw --rules DIR`: a rule that is neither in B/S notation nor a table of `--rule` is looked for as DIR/NAME.rule; which names
 are looked for, and which files are opened."""
 import os
 import tempfile
 
 from explained_patterns import explained
 from lib import macrocell, rle
+from lib.pictures import drawn
 from lib.program import Tally, ample, fault, run
 from show_and_convert import COMMANDS, GOOD, MAX_FILE, PATTERNS, SPREAD, TABLES, Files, with_file
 
@@ -47,7 +48,7 @@ def try_found(files):
     for name, (text, kind, rule, states, cells) in GOOD.items():
         path = files.path(name, text)
         pattern = macrocell.Pattern(macrocell.tree_of(cells), rule, 0)
-        for command, wanted in zip(COMMANDS, (pattern.shown(kind=kind), macrocell.tidy(pattern, states), rle.tidy(cells, rule, 0, states))):
+        for command, wanted in zip(COMMANDS, (pattern.shown(kind=kind), macrocell.tidy(pattern, states), rle.tidy(cells, rule, 0, states), drawn(cells, states))):
             for words in (with_file(command, path, "--rules", files.rules), [command[0], "--rules", files.rules + "/", *command[1:], path],
                           with_file(command, path, "--rules", files.rules, "--explain")):
                 files.expect("found", words, ample(wanted))

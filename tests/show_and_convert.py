@@ -1,11 +1,12 @@
 #!/usr/bin/env -S python3 -B
-"""`show` and `convert`: files that can't be read, faulty rule files and patterns, and which of two faults is told. Where there is one, nothing stands on
+"""`show`, `convert` and `draw`: files that can't be read, faulty rule files and patterns, and which of two faults is told. Where there is one, nothing stands on
 standard output."""
 import itertools
 import os
 import tempfile
 
 from lib import macrocell, rle
+from lib.pictures import drawn
 from lib.program import Tally, ample, fault, run
 
 MAX_FILE = 67108864
@@ -62,7 +63,7 @@ TABLES = {
     "empty": ("", "line 1 no rule line"),
 }
 
-COMMANDS = (("show",), ("convert", "--to", "mc"), ("convert", "--to", "rle"))
+COMMANDS = (("show",), ("convert", "--to", "mc"), ("convert", "--to", "rle"), ("draw",))
 
 
 class Files:
@@ -110,7 +111,7 @@ def try_good(files):
     for name, (text, kind, rule, states, cells) in GOOD.items():
         path = files.path(name, text)
         pattern = macrocell.Pattern(macrocell.tree_of(cells), rule, 0)
-        for command, wanted in zip(COMMANDS, (pattern.shown(kind=kind), macrocell.tidy(pattern, states), rle.tidy(cells, rule, 0, states))):
+        for command, wanted in zip(COMMANDS, (pattern.shown(kind=kind), macrocell.tidy(pattern, states), rle.tidy(cells, rule, 0, states), drawn(cells, states))):
             files.expect("no fault", with_file(command, path, "--rule", spread), ample(wanted))
             files.expect("no fault", [command[0], "--rule", spread, *command[1:], path], ample(wanted))
             if rule != "Spread":

@@ -3,7 +3,7 @@
 ghost use Rattle.std.specs.Prelude.{◌≡◌, ◌≢◌, [], map, IfOk, OnErr};
 
 use crate::streams::Source;
-use ca_claims::{Claims, File};
+use ca_claims::{Claims, File, RuleNames, is_table_named, unknown_rules};
 use ca_plane::{Dev, Memory};
 use ca_tool::{InputFault, read_all, rule_path, rule_text_of};
 use std::alloc::Global;
@@ -19,6 +19,12 @@ pub struct LoadedFile {
 }
 
 impl LoadedFile {
+    /// A file with this path and these bytes.
+    pub fn new(alloc: Global, path: &[u8], bytes: Vec<u8>) -> Result<LoadedFile, Memory> {
+        let path = Vec::from_slice(alloc, path)?;
+        Ok(LoadedFile { path, bytes })
+    }
+
     /// The path and the bytes, which stay here.
     pub fn view(&self) -> File<'_>
         ensures path { result.path.now ≡ self.now.path.items }
@@ -107,10 +113,7 @@ fn load_file<R: Files + AllocGlobal>(rt: &R, path: &[u8]) -> Result<Option<Loade
         return Ok(None);
     };
     match read_file(rt, text) {
-        Ok(bytes) => {
-            let path = Vec::from_slice(rt.alloc(), path)?;
-            Ok(Some(LoadedFile { path, bytes }))
-        }
+        Ok(bytes) => Ok(Some(LoadedFile::new(rt.alloc(), path, bytes)?)),
         Err(InputFault::Memory) => Err(Memory),
         Err(InputFault::Read | InputFault::TooLong) => Ok(None),
     }
@@ -126,10 +129,82 @@ pub fn load_named_rule<R: Files + AllocGlobal>(
     let Some(name) = rule_text_of(rt.alloc(), pattern)? else {
         return Ok(None);
     };
-    let Some(path) = rule_path(rt.alloc(), folder.as_bytes(), &name)? else {
+    load_rule_file(rt, folder, &name)
+}
+
+/// The rule file with this name in a folder, if a file can have the name and it can be read.
+pub fn load_rule_file<R: Files + AllocGlobal>(
+    rt: &R,
+    folder: &str,
+    name: &[u8],
+) -> Result<Option<LoadedFile>, Memory> {
+    let Some(path) = rule_path(rt.alloc(), folder.as_bytes(), name)? else {
         return Ok(None);
     };
     load_file(rt, &path)
+}
+
+/// The claims and the files with the rule files of a folder that the claims' patterns name and no rule line
+/// gives: each whose table has the name that was looked for stands on a rule line at the text's end. One that is
+/// read is among the files in any case, and one that can't be read is as none.
+pub fn with_named_rules<R: Files + AllocGlobal>(
+    rt: &R,
+    folder: &str,
+    mut claims: Claims,
+    mut files: Vec<LoadedFile>,
+) -> Result<(Claims, Vec<LoadedFile>), Memory> {
+    let names = unknown_names(rt.alloc(), &claims, &files)?;
+    for index in 0..names.len() {
+        let name = names.name(index);
+        if let Some(path) = rule_path(rt.alloc(), folder.as_bytes(), name)? {
+            load_once(rt, &path, &mut files)?;
+            if holds_table(rt.alloc(), name, &path, &files)? {
+                claims = claims.with_rule(rt.alloc(), &path)?;
+            }
+        }
+    }
+    Ok((claims, files))
+}
+
+// The rule texts of the claims' patterns that name no rule.
+fn unknown_names(
+    alloc: Global,
+    claims: &Claims,
+    loaded: &[LoadedFile],
+) -> Result<RuleNames, Memory> {
+    let files = views(alloc, loaded)?;
+    unknown_rules(alloc, claims, &files)
+}
+
+// Adds the file of a path, if it isn't there yet and can be read.
+fn load_once<R: Files + AllocGlobal>(
+    rt: &R,
+    path: &[u8],
+    files: &mut Vec<LoadedFile>,
+) -> Result<(), Memory> {
+    if bytes_at(files, path).is_some() {
+        return Ok(());
+    }
+    add_file(rt, path, files)
+}
+
+// Whether the file of a path is there, and is a good table of this name.
+fn holds_table(
+    alloc: Global,
+    name: &[u8],
+    path: &[u8],
+    files: &[LoadedFile],
+) -> Result<bool, Memory> {
+    match bytes_at(files, path) {
+        Some(bytes) => is_table_named(alloc, name, bytes),
+        None => Ok(false),
+    }
+}
+
+// The bytes of the first file with this path.
+fn bytes_at<'a>(files: &'a [LoadedFile], path: &[u8]) -> Option<&'a [u8]> {
+    let file = files.iter().find(|file| file.path.as_slice() == path)?;
+    Some(file.bytes.as_slice())
 }
 
 /// The files as `verify` takes them. It takes memory only where there are some.

@@ -3,8 +3,8 @@
 ghost use Rattle.std.specs.Prelude.{◌≡◌, ◌++◌, [], codes, IfOk, OnErr, IsTrue, if◌then◌else◌};
 
 use crate::FAULT;
-use crate::files::{load_needed, read_source, views};
-use crate::progress::Progress;
+use crate::files::{LoadedFile, load_needed, read_source, views, with_named_rules};
+use crate::progress::{Heading, Progress};
 use crate::streams::Streams;
 use crate::words::Extras;
 use ca_claims::{Claims, read_claims};
@@ -19,11 +19,13 @@ use std::rt::{Clock, Files};
 
 /// Judges the claim texts of these paths, one after another, and answers the greatest of their exit statuses.
 ///
-/// A text that can't be read or has a fault is reported on standard error, and the others are still judged.
-/// Nothing more is judged after a failed write.
+/// Rule files that no rule line gives are looked for in the folder, if there is one. A text that can't be read or
+/// has a fault is reported on standard error, and the others are still judged. Nothing more is judged after a
+/// failed write.
 pub fn verify_files<R: Files + Clock + AllocGlobal>(
     rt: &R,
     paths: &[String],
+    folder: &Option<String>,
     extras: Extras,
     streams: &mut Streams,
 ) -> u8 {
@@ -31,7 +33,7 @@ pub fn verify_files<R: Files + Clock + AllocGlobal>(
     let mut greatest = 0;
     'paths: for path in paths {
         let path = path.as_str();
-        match verify_text(rt, path, are_named, extras, streams) {
+        match verify_text(rt, path, are_named, folder, extras, streams) {
             Ok(status) => greatest = greatest.max(status),
             Err(Fault::Tool(ToolFault::Write)) => {
                 let _ = complain(&Fault::Tool(ToolFault::Write), b"", &mut streams.errors);
@@ -59,6 +61,7 @@ fn verify_text<R: Files + Clock + AllocGlobal>(
     rt: &R,
     path: &str,
     is_named: bool,
+    folder: &Option<String>,
     extras: Extras,
     streams: &mut Streams,
 ) -> Result<u8, Fault> {
@@ -71,7 +74,23 @@ fn verify_text<R: Files + Clock + AllocGlobal>(
         before: &before,
         explained: extras.explained,
     };
-    judge(rt, &claims, &style, extras, streams)
+    let Ok((claims, loaded)) = load(rt, claims, folder) else {
+        return Err(Fault::Input(InputFault::Memory));
+    };
+    judge(rt, &claims, &loaded, &style, extras, streams)
+}
+
+// The claims, and the files that they need. Where there is a folder, rules are looked for there.
+fn load<R: Files + AllocGlobal>(
+    rt: &R,
+    claims: Claims,
+    folder: &Option<String>,
+) -> Result<(Claims, Vec<LoadedFile>), Memory> {
+    let loaded = load_needed(rt, &claims)?;
+    match folder {
+        Some(folder) => with_named_rules(rt, folder.as_str(), claims, loaded),
+        None => Ok((claims, loaded)),
+    }
 }
 
 // What stands before each line: the path of the text, where it is named.
@@ -87,25 +106,26 @@ fn line_prefix(alloc: Global, path: &str, is_named: bool) -> Result<Vec<u8>, Mem
     Ok(before)
 }
 
-// Reads the files that the claims need, and judges the claims.
+// Judges the claims over the files.
 fn judge<R: Files + Clock + AllocGlobal>(
     rt: &R,
     claims: &Claims,
+    loaded: &[LoadedFile],
     style: &ReportStyle<'_>,
     extras: Extras,
     streams: &mut Streams,
 ) -> Result<u8, Fault> {
-    let Ok(loaded) = load_needed(rt, claims) else {
-        return Err(Fault::Input(InputFault::Memory));
-    };
-    let Ok(files) = views(rt.alloc(), &loaded) else {
+    let Ok(files) = views(rt.alloc(), loaded) else {
         return Err(Fault::Input(InputFault::Memory));
     };
     let is_watched = extras.progress || streams.errors.inner().is_terminal();
     let limits = extras.limits();
     let output = &mut streams.output;
     let result = if is_watched {
-        let mut observer = Progress::new(rt, &mut streams.errors, style.before);
+        let heading = Heading::Claims {
+            before: style.before,
+        };
+        let mut observer = Progress::new(rt, &mut streams.errors, heading);
         verify_watched(
             rt.alloc(),
             claims,

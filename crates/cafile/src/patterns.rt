@@ -1,15 +1,19 @@
-//! The commands `show` and `convert`.
+//! The commands `show`, `convert` and `draw`.
+
+ghost use Rattle.ca_claims.specs.Limited.{AreGoodLimits};
 
 use crate::FAULT;
 use crate::files::{LoadedFile, load_named_rule, open_source, read_file};
 use crate::streams::Streams;
-use crate::words::PatternExtras;
-use ca_claims::{ConvertFault, File, Target};
+use crate::words::{DrawWords, PatternExtras};
+use ca_claims::{ConvertFault, File, Limits, Target};
+use ca_plane::limits::MOST_GENERATIONS;
 use ca_plane::{Dev, Memory};
 use ca_rule::RuleFault;
+use ca_run::Unwatched;
 use ca_tool::{
-    Detail, Fault, InputFault, RunPaths, ToolFault, complain, convert_bytes, detail_of, explain,
-    read_all, show_bytes,
+    Detail, Fault, InputFault, RunPaths, ToolFault, complain, convert_bytes, convert_bytes_after,
+    detail_of, draw_bytes, explain, read_all, show_after, show_bytes,
 };
 use std::alloc::Global;
 use std::rt::{Files, Stderr, Stdin, Stdout};
@@ -21,6 +25,8 @@ pub enum Form {
     Summary,
     /// A file of this format.
     File(Target),
+    /// The picture that these words ask for.
+    Picture(DrawWords),
 }
 
 /// Writes what is asked of the pattern file of a path, and answers the exit status.
@@ -43,11 +49,11 @@ pub fn write_pattern<R: Files + AllocGlobal>(
         bytes: bytes.as_slice(),
     };
     let rule = rule_file(&extras.rule, &rule);
-    let first = run(rt.alloc(), form, pattern, rule, &mut streams.output);
+    let first = run(rt.alloc(), form, pattern, rule, extras, &mut streams.output);
     match named_rule(rt, first, pattern, extras) {
         Ok(Some(found)) => {
             let rule = Some(found.view());
-            let second = run(rt.alloc(), form, pattern, rule, &mut streams.output);
+            let second = run(rt.alloc(), form, pattern, rule, extras, &mut streams.output);
             exit_status(rt.alloc(), second, pattern, rule, extras, streams)
         }
         Ok(None) => exit_status(rt.alloc(), first, pattern, rule, extras, streams),
@@ -114,15 +120,64 @@ fn run(
     form: Form,
     pattern: File<'_>,
     rule: Option<File<'_>>,
+    extras: &PatternExtras,
     output: &mut Dev<Stdout>,
 ) -> Result<u8, ToolFault> {
     let table = match rule {
         Some(rule) => Some(rule.bytes),
         None => None,
     };
+    if let Some(generations) = extras.after {
+        return run_after(
+            alloc,
+            form,
+            pattern.bytes,
+            table,
+            generations,
+            extras.limits(),
+            output,
+        );
+    }
     match form {
         Form::Summary => show_bytes(alloc, pattern.bytes, table, output),
         Form::File(target) => convert_bytes(alloc, pattern.bytes, target, table, output),
+        Form::Picture(words) => draw_bytes(
+            alloc,
+            pattern.bytes,
+            words.request(0, extras.limits()),
+            table,
+            &mut Unwatched,
+            output,
+        ),
+    }
+}
+
+// The same some generations on. The words keep these within their limit, and more are brought within.
+fn run_after(
+    alloc: Global,
+    form: Form,
+    bytes: &[u8],
+    table: Option<&[u8]>,
+    generations: u64,
+    limits: Limits,
+    output: &mut Dev<Stdout>,
+) -> Result<u8, ToolFault>
+    requires { AreGoodLimits limits }
+{
+    let generations = generations.min(MOST_GENERATIONS);
+    match form {
+        Form::Summary => show_after(alloc, bytes, table, generations, limits, output),
+        Form::File(target) => {
+            convert_bytes_after(alloc, bytes, target, table, generations, limits, output)
+        }
+        Form::Picture(words) => draw_bytes(
+            alloc,
+            bytes,
+            words.request(generations, limits),
+            table,
+            &mut Unwatched,
+            output,
+        ),
     }
 }
 

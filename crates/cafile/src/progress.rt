@@ -16,13 +16,23 @@ const FIRST: u128 = 1000;
 
 const AGAIN: u128 = 500;
 
-/// Shows which claim is judged, how far it is and what was worked out, once it has taken a second, and wipes that when
-/// the claim is judged.
+/// What a line of progress is about.
+#[derive(Clone, Copy)]
+pub enum Heading<'a> {
+    /// The claims of a text. This stands before each of its lines.
+    Claims { before: &'a [u8] },
+    /// The files of these paths, of which each is looked at for so many generations. They have numbers, counted
+    /// from 1, in place of lines.
+    Files { paths: &'a [String], limit: u64 },
+}
+
+/// Shows which claim is judged or which file is identified, how far that is and what was worked out, once it has taken
+/// a second, and wipes that when it is done.
 #[derive(Drop)]
 pub struct Progress<'a, R> {
     rt: &'a R,
     errors: &'a mut Dev<Stderr>,
-    prefix: &'a [u8],
+    heading: Heading<'a>,
     line: u64,
     goal: u64,
     generations: u64,
@@ -34,12 +44,12 @@ pub struct Progress<'a, R> {
 }
 
 impl<'a, R: Clock + AllocGlobal> Progress<'a, R> {
-    /// Nothing is shown yet. What stands before a verdict's line stands before this one too.
-    pub fn new(rt: &'a R, errors: &'a mut Dev<Stderr>, prefix: &'a [u8]) -> Progress<'a, R> {
+    /// Nothing is shown yet.
+    pub fn new(rt: &'a R, errors: &'a mut Dev<Stderr>, heading: Heading<'a>) -> Progress<'a, R> {
         Progress {
             rt,
             errors,
-            prefix,
+            heading,
             line: 0,
             goal: 0,
             generations: 0,
@@ -64,6 +74,15 @@ impl<'a, R: Clock + AllocGlobal> Progress<'a, R> {
         }
     }
 
+    // Shows how far it is, where nothing was shown for a while.
+    fn show_again(&mut self) {
+        let least = match self.shown {
+            Some(last) => last.saturating_add(AGAIN),
+            None => FIRST,
+        };
+        self.show_from(least);
+    }
+
     // How many milliseconds the claim has taken. A clock that can't be read tells no time.
     fn time(&self) -> Option<u128> {
         match self.start?.elapsed(self.rt) {
@@ -75,9 +94,7 @@ impl<'a, R: Clock + AllocGlobal> Progress<'a, R> {
     fn text(&self) -> Result<Vec<u8>, Memory> {
         let mut text = Vec::new(self.rt.alloc());
         push_text(&mut text, WIPE)?;
-        push_text(&mut text, self.prefix)?;
-        push_text(&mut text, b"line ")?;
-        push_number(&mut text, self.line)?;
+        self.push_heading(&mut text)?;
         push_text(&mut text, b": ")?;
         push_number(&mut text, self.generations)?;
         push_text(&mut text, b" of ")?;
@@ -91,6 +108,21 @@ impl<'a, R: Clock + AllocGlobal> Progress<'a, R> {
             push_text(&mut text, b" squares")?;
         }
         Ok(text)
+    }
+
+    // Puts which claim or file it is.
+    fn push_heading(&self, text: &mut Vec<u8>) -> Result<(), Memory> {
+        match self.heading {
+            Heading::Claims { before } => {
+                push_text(text, before)?;
+                push_text(text, b"line ")?;
+                push_number(text, self.line)
+            }
+            Heading::Files { paths, .. } => match paths.get(self.line.saturating_sub(1) as usize) {
+                Some(path) => push_text(text, path.as_bytes()),
+                None => Ok(()),
+            },
+        }
     }
 }
 
@@ -118,11 +150,7 @@ impl<R: Clock + AllocGlobal> Watch for Progress<'_, R> {
     fn works(&mut self, used: u64, squares: usize) {
         self.results = used;
         self.squares = squares as u64;
-        let least = match self.shown {
-            Some(last) => last.saturating_add(AGAIN),
-            None => FIRST,
-        };
-        self.show_from(least);
+        self.show_again();
     }
 }
 
@@ -134,9 +162,18 @@ impl<R: Clock + AllocGlobal> Observer for Progress<'_, R> {
     }
 
     fn goes_to(&mut self, generations: u64) {
-        self.goal = generations;
-        self.generations = 0;
-        self.show_from(FIRST);
+        match self.heading {
+            Heading::Claims { .. } => {
+                self.goal = generations;
+                self.generations = 0;
+                self.show_from(FIRST);
+            }
+            Heading::Files { limit, .. } => {
+                self.goal = limit;
+                self.generations = generations.saturating_sub(1);
+                self.show_again();
+            }
+        }
     }
 
     fn ends(&mut self) {

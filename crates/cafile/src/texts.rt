@@ -2,7 +2,10 @@
 
 pub const EXAMPLES: &str = "Examples:
   cafile show examples/glider.rle
+  cafile identify examples/glider.rle examples/blinker.rle
   cafile convert examples/glider.rle --to mc
+  cafile draw examples/glider.rle
+  cafile convert examples/gun.rle --after 1000 --to mc
   cafile verify --explain examples/several.claims
 
 `cafile verify --help` tells how claims are written.";
@@ -21,10 +24,14 @@ the rule is NAME, and --rule doesn't give its table, the rule file is looked for
 --explain adds a line to a refusal: the file with the line of its fault, or the rule that isn't known, as in
 `  codd.rle: rule Codd`.
 
+--after N shows the pattern as it is N generations on, and adds N to its generation. --memo and --work bound what
+that takes, as `cafile verify --help` tells for claims.
+
 The status is 0, or 2 where the pattern can't be shown. Then standard error says why.
 
 Examples:
   cafile show examples/glider.rle
+  cafile show examples/glider.rle --after 1000000
   cafile show examples/tables/spread.rle --rule examples/tables/spread.rule
   cafile show examples/tables/spread.rle --rules examples/rules
   cat examples/glider.rle | cafile show -";
@@ -40,13 +47,53 @@ the rule is NAME, and --rule doesn't give its table, the rule file is looked for
 --explain adds a line to a refusal: the file with the line of its fault, or the rule that isn't known, as in
 `  codd.rle: rule Codd`.
 
+--after N writes the pattern as it is N generations on, and adds N to its generation. --memo and --work bound what
+that takes, as `cafile verify --help` tells for claims.
+
 The status is 0, or 2 where the pattern can't be converted. Then standard error says why.
 
 Examples:
   cafile convert examples/glider.rle --to mc
+  cafile convert examples/gun.rle --after 1000 --to mc
   cafile convert examples/tables/spread_1.rle --to mc --rule examples/tables/spread.rule
   cafile convert examples/tables/spread_1.rle --to mc --rules examples/rules
   cat examples/macrocell/gun.mc | cafile convert - --to rle";
+
+pub const DRAW: &str =
+    "The plane is drawn row by row: `.` where no cell is live, and `o` where one is. At scale K each character
+stands for 2^K by 2^K cells, and is `o` if one of them is live; the squares begin at multiples of 2^K. At scale
+0 the states of a rule with more than two are letters: A to X for 1 to 24, a to x for 25 to 48, and * above.
+
+  without words   all live cells, at the smallest scale at which they fit into 80 by 40 characters
+  --size W,H      all live cells, at the smallest scale at which they fit into W by H
+  --scale K       all live cells at scale K, in at most 8192 by 8192; with --size, in at most W by H
+  --at X,Y        80 by 40 characters at scale 0, with the cell X,Y in the upper left one; with --size, W by H;
+                  with --scale, at scale K. X grows to the right, and Y downward.
+An empty plane is drawn as the cell 0,0 alone. `window too large` says that the cells don't fit, and `window
+out of range` that the window reaches beyond the columns and rows from -2^124 to 2^124 - 1 of its scale.
+
+--to pgm writes an image that most viewers open: all live cells in at most 1024 by 1024 pixels, or 1024 by 1024
+with --at. White is no live cell, black is a live one, and states above 1 are lighter greys.
+
+--after N draws the plane N generations later. --memo and --work are limits for that, as for verify: a run that
+needs more than --work units of work ends as `work`.
+
+--rule is for a pattern whose rule is a table: it names the rule file with that table, in Golly NAME.rule.
+A pattern under a rule such as B3/S23 or 345/2/4 needs none. --rules names a folder, such as Golly's Rules: where
+the rule is NAME, and --rule doesn't give its table, the rule file is looked for there as DIR/NAME.rule.
+
+--explain adds a line to a refusal: the file with the line of its fault, or the rule that isn't known, as in
+`  codd.rle: rule Codd`.
+
+The status is 0, or 2 where the pattern can't be drawn. Then standard error says why.
+
+Examples:
+  cafile draw examples/glider.rle
+  cafile draw examples/gun.rle --after 300 --size 60,30
+  cafile draw examples/glider.rle --at -2,-2 --size 10,6
+  cafile draw examples/tables/wireworld_clock.rle --rule examples/tables/wireworld.rule
+  cafile draw examples/macrocell/gun.mc --to pgm --scale 0 --after 1000
+  cat examples/glider.rle | cafile draw -";
 
 pub const VERIFY: &str = "Each line of a claim text is one of these. An example stands below each.
   claims 2                the first line of a text that has one of the last two
@@ -76,6 +123,9 @@ relative to the working directory and hold no blanks.
 For each claim a line is printed, as `line 2: yes`: the number of its line, and yes, no or refused, with the
 reason. Where several texts are given, the text's path stands before that.
 
+--rules names a folder, such as Golly's Rules: where a pattern's rule is NAME, and no `rule` line gives its table,
+the rule file is looked for there as DIR/NAME.rule. A faulty one refuses the claims on patterns that name it.
+
 --explain adds a line after a no or a refusal that has more to tell: the pattern's name with a cell that
 differs, or with its file and the line of the fault, or the rule that isn't known; or the rule file.
 
@@ -101,4 +151,42 @@ Examples:
   cafile verify examples/reactions.claims
   cafile verify --progress examples/published.claims
   cafile verify --work 100000 examples/published.claims
+  cafile verify --rules examples/rules examples/rules/named.claims
   cat examples/block.claims | cafile verify -";
+
+pub const IDENTIFY: &str =
+    "What is printed is a claim text. So `cafile identify *.rle > mine.claims; cafile verify mine.claims` proves a whole
+folder. For each file the text has a line `load NAME PATH`, and the claim that is true of the pattern:
+  still NAME              some cell is live, and a generation later no cell has changed
+  oscillator NAME P       P is the first number of generations after which the pattern is back
+  spaceship NAME P DX DY  P is the first after which it is back, moved by DX to the right and DY down
+  dies NAME N             N is the first after which no cell is live; the text then begins with `claims 2`
+or else a comment:
+  # NAME: no cell is live
+  # NAME: none of these within 65536 generations
+  # NAME: PATH: bad pattern: rle no end
+The last one is of a file that can't be identified, with the reason as `cafile verify` tells it.
+
+NAME is the file's name without its ending, with _ for blanks and for a # that it begins with. Where that is taken,
+it is followed by -2, -3 and so on. A path with a blank, and -, can't be in a claim text: such a file has a comment
+that says so.
+
+--limit N looks at N generations of each pattern. --memo N and --work N are as for verify, for each pattern.
+
+--rule is for patterns whose rule is a table: it names the rule file with that table, in Golly NAME.rule. --rules
+names a folder, such as Golly's Rules: where a rule is NAME, and isn't known, the rule file is looked for there as
+DIR/NAME.rule. The text has a `rule` line for each rule file.
+
+--explain tells on standard error of each file that is faulty which one it is, with the line of its fault, or the rule
+that isn't known, as in `  codd.rle: rule Codd`.
+
+On a terminal, a line on standard error shows how far a file is that takes over a second, as
+`glider.rle: 904 of 65536 generations`. --progress shows it also where standard error is no terminal.
+
+The text is printed when all files are identified. The status is 0, or 2 where some file isn't, or nothing could be
+printed; then standard error says why.
+
+Examples:
+  cafile identify examples/glider.rle examples/blinker.rle examples/reactions/diehard.rle
+  cafile identify --limit 1000 examples/r_pentomino.rle
+  cafile identify --rule examples/tables/wireworld.rule examples/tables/wireworld_clock.rle";

@@ -1,0 +1,391 @@
+//! The command `identify`.
+
+use crate::FAULT;
+use crate::files::{LoadedFile, load_rule_file, read_file, views};
+use crate::progress::{Heading, Progress};
+use crate::streams::Streams;
+use crate::words::IdentifyExtras;
+use ca_claims::{Cause, ConvertFault, File, summary};
+use ca_plane::{Dev, Memory};
+use ca_rule::{RuleFault, Table, TableFault, resolve};
+use ca_run::Unwatched;
+use ca_tool::{
+    Content, Detail, Fault, InputFault, RunPaths, Subject, ToolFault, complain, detail_of, explain,
+    identify_run, is_claim_path, rule_text_of,
+};
+use std::alloc::Global;
+use std::io::IsTerminal;
+use std::rt::{Clock, Files, Stderr};
+
+// What the file of a path gave.
+#[derive(Drop)]
+enum FileContent {
+    Bytes(Vec<u8>),
+    Missing(Cause),
+    // The rule file at this path, which has the name of its rule, isn't good.
+    BadRuleFile { path: Vec<u8>, fault: TableFault },
+}
+
+// The rule files that the text names, and their tables.
+#[derive(Drop)]
+struct RuleFiles {
+    files: Vec<LoadedFile>,
+    tables: Vec<Table>,
+}
+
+// Why no claim text is written, and the path of the file that this is about.
+#[derive(Clone, Copy)]
+struct Failure<'a> {
+    fault: Fault,
+    path: &'a str,
+}
+
+impl<'a> Failure<'a> {
+    fn of(fault: Fault) -> Failure<'a> {
+        Failure { fault, path: "" }
+    }
+}
+
+const OUT_OF_MEMORY: Fault = Fault::Tool(ToolFault::Memory);
+
+/// Identifies the patterns of the files of these paths, writes the claim text on them, and answers the exit status.
+pub fn identify_files<R: Files + Clock + AllocGlobal>(
+    rt: &R,
+    paths: &[String],
+    extras: &IdentifyExtras,
+    streams: &mut Streams,
+) -> u8 {
+    match write_claims(rt, paths, extras, streams) {
+        Ok(status) => status,
+        Err(Failure { fault, path }) => {
+            let _ = complain(&fault, path.as_bytes(), &mut streams.errors);
+            if extras.extras.explained {
+                explain_failure(fault, &extras.rule, &mut streams.errors);
+            }
+            FAULT
+        }
+    }
+}
+
+// Reads the files, writes the claim text, and explains what is refused, where that is asked for.
+fn write_claims<'a, R: Files + Clock + AllocGlobal>(
+    rt: &R,
+    paths: &[String],
+    extras: &'a IdentifyExtras,
+    streams: &mut Streams,
+) -> Result<u8, Failure<'a>> {
+    if let Some(folder) = &extras.folder {
+        check_path(folder.as_str())?;
+    }
+    let mut rules = given_rules(rt, &extras.rule)?;
+    let Ok(mut contents) = load_contents(rt, paths) else {
+        return Err(Failure::of(OUT_OF_MEMORY));
+    };
+    if let Some(folder) = &extras.folder {
+        find_rules(rt, folder.as_str(), &mut contents, &mut rules);
+    }
+    let status = match run(rt, paths, &contents, &rules, extras, streams) {
+        Ok(status) => status,
+        Err(fault) => return Err(Failure::of(Fault::Tool(fault))),
+    };
+    if extras.extras.explained && status != 0 {
+        explain_all(
+            rt.alloc(),
+            paths,
+            &contents,
+            &rules.tables,
+            &mut streams.errors,
+        );
+    }
+    Ok(status)
+}
+
+// A path of a rule file, or of a folder of such, is one that a claim text can name.
+fn check_path(path: &str) -> Result<(), Failure<'_>> {
+    if is_claim_path(path.as_bytes()) {
+        return Ok(());
+    }
+    let fault = Fault::Unnameable;
+    Err(Failure { fault, path })
+}
+
+// The rule file that is named, if there is one, and its table.
+fn given_rules<'a, R: Files + AllocGlobal>(
+    rt: &R,
+    rule: &'a Option<String>,
+) -> Result<RuleFiles, Failure<'a>> {
+    let mut rules = RuleFiles {
+        files: Vec::new(rt.alloc()),
+        tables: Vec::new(rt.alloc()),
+    };
+    let Some(path) = rule else {
+        return Ok(rules);
+    };
+    let path = path.as_str();
+    check_path(path)?;
+    let bytes = match read_file(rt, path) {
+        Ok(bytes) => bytes,
+        Err(fault) => {
+            let fault = Fault::Input(fault);
+            return Err(Failure { fault, path });
+        }
+    };
+    let table = match Table::parse(rt.alloc(), &bytes) {
+        Ok(table) => table,
+        Err(fault) => return Err(Failure::of(table_fault(fault))),
+    };
+    let Ok(file) = LoadedFile::new(rt.alloc(), path.as_bytes(), bytes) else {
+        return Err(Failure::of(OUT_OF_MEMORY));
+    };
+    if rules.add(file, table).is_err() {
+        return Err(Failure::of(OUT_OF_MEMORY));
+    }
+    Ok(rules)
+}
+
+fn table_fault(fault: TableFault) -> Fault {
+    match fault {
+        TableFault::Memory => OUT_OF_MEMORY,
+        _ => Fault::Tool(ToolFault::BadTable(fault)),
+    }
+}
+
+impl RuleFiles {
+    fn add(&mut self, file: LoadedFile, table: Table) -> Result<(), Memory> {
+        self.files.push(file)?;
+        self.tables.push(table)?;
+        Ok(())
+    }
+
+    // Takes away the last file and its table.
+    fn drop_last(&mut self) {
+        let _ = self.files.pop();
+        let _ = self.tables.pop();
+    }
+
+    // Whether the text names no rule that is known.
+    fn is_unknown(&self, text: &[u8]) -> bool {
+        matches!(resolve(text, &self.tables), Err(RuleFault::Unknown))
+    }
+}
+
+// What the files of the paths gave, in order. A file that no claim text can name isn't opened.
+fn load_contents<R: Files + AllocGlobal>(
+    rt: &R,
+    paths: &[String],
+) -> Result<Vec<FileContent>, Memory> {
+    let mut contents = Vec::new(rt.alloc());
+    'paths: for path in paths {
+        contents.push(load_content(rt, path.as_str()))?;
+    }
+    Ok(contents)
+}
+
+fn load_content<R: Files + AllocGlobal>(rt: &R, path: &str) -> FileContent {
+    if !is_claim_path(path.as_bytes()) {
+        return FileContent::Missing(Cause::NoFile);
+    }
+    match read_file(rt, path) {
+        Ok(bytes) => FileContent::Bytes(bytes),
+        Err(InputFault::Memory) => FileContent::Missing(Cause::Memory),
+        Err(InputFault::Read | InputFault::TooLong) => FileContent::Missing(Cause::NoFile),
+    }
+}
+
+// Looks in a folder for the rule files of those patterns whose rules aren't known. One that is found and good is
+// put after the others; where one is faulty, the file that names it gives that fault in place of its bytes.
+fn find_rules<R: Files + AllocGlobal>(
+    rt: &R,
+    folder: &str,
+    contents: &mut [FileContent],
+    rules: &mut RuleFiles,
+) {
+    for index in 0..contents.len() {
+        if let Some(fault) = find_rule(rt, folder, &contents[index], rules) {
+            contents[index] = fault;
+        }
+    }
+}
+
+// Looks for the rule file of one pattern, and answers what its file gives where that is faulty, or memory is out.
+fn find_rule<R: Files + AllocGlobal>(
+    rt: &R,
+    folder: &str,
+    content: &FileContent,
+    rules: &mut RuleFiles,
+) -> Option<FileContent> {
+    let FileContent::Bytes(bytes) = content else {
+        return None;
+    };
+    match add_rule(rt, folder, bytes, rules) {
+        Ok(fault) => fault,
+        Err(_) => Some(FileContent::Missing(Cause::Memory)),
+    }
+}
+
+fn add_rule<R: Files + AllocGlobal>(
+    rt: &R,
+    folder: &str,
+    bytes: &[u8],
+    rules: &mut RuleFiles,
+) -> Result<Option<FileContent>, Memory> {
+    let Some(text) = rule_text_of(rt.alloc(), bytes)? else {
+        return Ok(None);
+    };
+    if !rules.is_unknown(&text) {
+        return Ok(None);
+    }
+    let Some(file) = load_rule_file(rt, folder, &text)? else {
+        return Ok(None);
+    };
+    let view = file.view();
+    if !is_claim_path(view.path) {
+        return Ok(None);
+    }
+    let table = match Table::parse(rt.alloc(), view.bytes) {
+        Ok(table) => table,
+        Err(TableFault::Memory) => return Err(Memory),
+        Err(fault) => {
+            let path = Vec::from_slice(rt.alloc(), view.path)?;
+            return Ok(Some(FileContent::BadRuleFile { path, fault }));
+        }
+    };
+    rules.add(file, table)?;
+    if rules.is_unknown(&text) {
+        rules.drop_last();
+    }
+    Ok(None)
+}
+
+// Writes the claim text, and answers the exit status.
+fn run<R: Files + Clock + AllocGlobal>(
+    rt: &R,
+    paths: &[String],
+    contents: &[FileContent],
+    rules: &RuleFiles,
+    extras: &IdentifyExtras,
+    streams: &mut Streams,
+) -> Result<u8, ToolFault> {
+    let Ok(subjects) = subjects(rt.alloc(), paths, contents) else {
+        return Err(ToolFault::Memory);
+    };
+    let Ok(files) = views(rt.alloc(), &rules.files) else {
+        return Err(ToolFault::Memory);
+    };
+    let is_watched = extras.extras.progress || streams.errors.inner().is_terminal();
+    let limits = extras.extras.limits();
+    let limit = extras.limit();
+    let output = &mut streams.output;
+    if is_watched {
+        let heading = Heading::Files { paths, limit };
+        let mut observer = Progress::new(rt, &mut streams.errors, heading);
+        identify_run(
+            rt.alloc(),
+            &subjects,
+            &files,
+            limits,
+            limit,
+            output,
+            &mut observer,
+        )
+    } else {
+        identify_run(
+            rt.alloc(),
+            &subjects,
+            &files,
+            limits,
+            limit,
+            output,
+            &mut Unwatched,
+        )
+    }
+}
+
+// The files as `identify_run` takes them.
+fn subjects<'a>(
+    alloc: Global,
+    paths: &'a [String],
+    contents: &'a [FileContent],
+) -> Result<Vec<Subject<'a>>, Memory> {
+    let mut subjects = Vec::new(alloc);
+    'paths: for (path, content) in paths.iter().zip(contents.iter()) {
+        let content = match content {
+            FileContent::Bytes(bytes) => Content::Bytes(bytes),
+            FileContent::Missing(cause) => Content::Missing(*cause),
+            FileContent::BadRuleFile { fault, .. } => Content::Missing(Cause::BadTable(*fault)),
+        };
+        subjects.push(Subject {
+            path: path.as_bytes(),
+            content,
+        })?;
+    }
+    Ok(subjects)
+}
+
+// Tells the line of a faulty rule file that the words name.
+fn explain_failure(fault: Fault, rule: &Option<String>, errors: &mut Dev<Stderr>) {
+    if let (Fault::Tool(fault), Some(rule)) = (fault, rule) {
+        let paths = RunPaths {
+            pattern: b"",
+            rule: rule.as_bytes(),
+        };
+        let _ = explain(fault, &Detail::Nothing, &paths, errors);
+    }
+}
+
+// Tells of each file that is refused for what it or its rule file holds which file that is, and where it is faulty.
+fn explain_all(
+    alloc: Global,
+    paths: &[String],
+    contents: &[FileContent],
+    tables: &[Table],
+    errors: &mut Dev<Stderr>,
+) {
+    'paths: for (path, content) in paths.iter().zip(contents.iter()) {
+        explain_content(alloc, path.as_bytes(), content, tables, errors);
+    }
+}
+
+fn explain_content(
+    alloc: Global,
+    path: &[u8],
+    content: &FileContent,
+    tables: &[Table],
+    errors: &mut Dev<Stderr>,
+) {
+    match content {
+        FileContent::Bytes(bytes) => {
+            explain_bytes(alloc, File { path, bytes }, tables, errors);
+        }
+        FileContent::Missing(_) => {}
+        FileContent::BadRuleFile { path: rule, fault } => {
+            let paths = RunPaths {
+                pattern: path,
+                rule,
+            };
+            let _ = explain(
+                ToolFault::BadTable(*fault),
+                &Detail::Nothing,
+                &paths,
+                errors,
+            );
+        }
+    }
+}
+
+// Where there is no memory for the detail, the file alone is told.
+fn explain_bytes(alloc: Global, file: File<'_>, tables: &[Table], errors: &mut Dev<Stderr>) {
+    let fault = match summary(alloc, file.bytes, tables) {
+        Ok(_) | Err(ConvertFault::Memory) => return,
+        Err(fault) => ToolFault::Convert(fault),
+    };
+    let detail = match detail_of(alloc, file.bytes, fault) {
+        Ok(detail) => detail,
+        Err(_) => Detail::Nothing,
+    };
+    let paths = RunPaths {
+        pattern: file.path,
+        rule: b"",
+    };
+    let _ = explain(fault, &detail, &paths, errors);
+}

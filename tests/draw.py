@@ -1,0 +1,243 @@
+#!/usr/bin/env -S python3 -B
+"""`draw`: pictures of windows, held against pictures that are made here cell by cell, apart from the program; pictures that were drawn by hand; what no window
+shows; and faults."""
+import glob
+import os
+import random
+import tempfile
+
+from lib import macrocell, planes, rows
+from lib.claim_reader import next_cells
+from lib.pictures import box_of, cells_squares, drawn, picture, squares_of, wanted_window
+from lib.program import EXAMPLES, ROOT, Folder, Outcome, Tally, ample, contents, fault, run
+from lib.rle_reader import PatternFile
+
+# How far from 0 the columns and rows of a window may be.
+REACH = 1 << 124
+
+GLIDER = "x = 3, y = 3, rule = B3/S23\nbo$2bo$3o!\n"
+BLINKER = "#CXRLE Pos=-1,0\nx = 3, y = 1, rule = B3/S23\n3o!\n"
+BRAIN = "x = 4, y = 4, rule = /2/3\n2.A$A2B$.2BA$.A!\n"
+GATE = "examples/tables/wireworld_or.rle"
+WIREWORLD = ["--rule", "examples/tables/wireworld.rule"]
+FULL, NOTHING = "examples/macrocell/full_square.mc", "examples/empty.rle"
+PAIR = f"#CXRLE Pos=-9,-9\nx = 1, y = 1, rule = B3/S23\no{10**9}$$o!\n"
+
+# Patterns, words, and the picture, drawn by hand.
+BY_HAND = (
+    (GLIDER, [], ".o.\n..o\nooo\n"),
+    (GLIDER, ["--scale", "0"], ".o.\n..o\nooo\n"),
+    (GLIDER, ["--scale", "1"], "oo\noo\n"),
+    (GLIDER, ["--scale", "2"], "o\n"),
+    (GLIDER, ["--scale", "124"], "o\n"),
+    (GLIDER, ["--size", "3,3"], ".o.\n..o\nooo\n"),
+    (GLIDER, ["--size", "2,3"], "oo\noo\n"),
+    (GLIDER, ["--size", "3,2"], "oo\noo\n"),
+    (GLIDER, ["--size", "1,1"], "o\n"),
+    (GLIDER, ["--size", "2,2", "--scale", "1"], "oo\noo\n"),
+    (GLIDER, ["--at", "-1,-1", "--size", "5,5"], ".....\n..o..\n...o.\n.ooo.\n.....\n"),
+    (GLIDER, ["--at", "1,0", "--size", "2,1"], "o.\n"),
+    (GLIDER, ["--at", "0,1", "--size", "1,2"], ".\no\n"),
+    (GLIDER, ["--at", "-5,-5", "--size", "4,3", "--scale", "2"], "....\n....\n..o.\n"),
+    (GLIDER, ["--at", "-1,-1", "--size", "2,2", "--scale", "124"], "..\n.o\n"),
+    (GLIDER, ["--at", "0,0"], ".o" + "." * 78 + "\n" + "..o" + "." * 77 + "\n" + "ooo" + "." * 77 + "\n" + ("." * 80 + "\n") * 37),
+    (GLIDER, ["--at", "-79,-39"], ("." * 80 + "\n") * 40),
+    (GLIDER, ["--at=-78,-39"], ("." * 80 + "\n") * 39 + "." * 79 + "o\n"),
+    (GLIDER, ["--after", "2"], "..o\no.o\n.oo\n"),
+    (GLIDER, ["--after", "4"], ".o.\n..o\nooo\n"),
+    (GLIDER, ["--after", "4", "--at", "0,0", "--size", "4,4"], "....\n..o.\n...o\n.ooo\n"),
+    (GLIDER, ["--after", "1152921504606846976", "--at", "288230376151711744,288230376151711744", "--size", "3,3"], ".o.\n..o\nooo\n"),
+    (GLIDER, ["--after", "4", "--work", "1000", "--memo", "1"], ".o.\n..o\nooo\n"),
+    (BLINKER, [], "ooo\n"),
+    (BLINKER, ["--scale", "1"], "oo\n"),
+    (BLINKER, ["--after", "1"], "o\no\no\n"),
+    (BLINKER, ["--after", "1", "--scale", "1"], "o\no\n"),
+    (BRAIN, [], "..A.\nABB.\n.BBA\n.A..\n"),
+    (BRAIN, ["--scale", "1"], "oo\noo\n"),
+    (BRAIN, ["--at", "-2,0", "--size", "3,2", "--scale", "1"], ".oo\n.oo\n"),
+    (GATE, WIREWORLD, "BA......\n..C.....\n.CCCCCCC\n..C.....\nCC......\n"),
+    (GATE, [*WIREWORLD, "--scale", "1"], "oo..\noooo\no...\n"),
+    (GATE, [*WIREWORLD, "--after", "1"], "CB......\n..A.....\n.CCCCCCC\n..C.....\nCC......\n"),
+    (NOTHING, [], ".\n"),
+    (NOTHING, ["--size", "5,5"], ".\n"),
+    (NOTHING, ["--scale", "3"], ".\n"),
+    (NOTHING, ["--at", "3,3", "--size", "2,1"], "..\n"),
+    (FULL, [], ("o" * 32 + "\n") * 32),
+    (FULL, ["--scale", "59"], "oooo\n" * 4),
+    (FULL, ["--size", "2,8"], "oo\noo\n"),
+    (FULL, ["--at", "1152921504606846974,0", "--size", "4,1"], "oo..\n"),
+)
+
+# The same as images: the width, the height, and the bytes of the pixels.
+IMAGES = (
+    (GLIDER, [], 3, 3, [255, 0, 255, 255, 255, 0, 0, 0, 0]),
+    (GLIDER, ["--at", "-1,0", "--size", "3,2"], 3, 2, [255, 255, 0, 255, 255, 255]),
+    (GLIDER, ["--at", "0,0"], 1024, 1024, [255, 0] + [255] * 1022 + [255, 255, 0] + [255] * 1021 + [0, 0, 0] + [255] * 1021 + [255] * 1024 * 1021),
+    (BRAIN, [], 4, 4, [255, 255, 0, 255, 0, 127, 127, 255, 255, 127, 127, 0, 255, 0, 255, 255]),
+    (BRAIN, ["--scale", "1"], 2, 2, [0, 0, 0, 0]),
+    (NOTHING, [], 1, 1, [255]),
+    (FULL, [], 1024, 1024, [0] * 1024 * 1024),
+)
+
+# Patterns and words of which there is no window, and why.
+NO_WINDOW = (
+    (BLINKER, ["--size", "1,1"], "too large"), (BLINKER, ["--size", "1,40"], "too large"), (GLIDER, ["--size", "2,2", "--scale", "0"], "too large"),
+    (FULL, ["--scale", "0"], "too large"), (FULL, ["--scale", "47"], "too large"), (FULL, ["--size", "1,8192"], "too large"), (PAIR, ["--scale", "0", "--to", "pgm"], "too large"),
+    (GLIDER, ["--at", f"{REACH},0", "--size", "1,1"], "out of range"), (GLIDER, ["--at", f"0,{-REACH - 1}", "--size", "1,1"], "out of range"),
+    (GLIDER, ["--at", f"{REACH - 79},0"], "out of range"), (GLIDER, ["--at", f"0,{REACH - 1}", "--size", "1,2"], "out of range"),
+    (GLIDER, ["--at", f"{(1 << 127) - 1},0", "--size", "1,1", "--scale", "2"], "out of range"),
+)
+
+# Words that ask for nothing.
+FAULTY = (
+    ["--at"], ["--at", ""], ["--at", "5"], ["--at", "5,"], ["--at", ",5"], ["--at", "5,x"], ["--at", "1,2,3"], ["--at", "1, 2"], ["--at", "1 2"], ["--at", "1", "2"], ["--at", "1.5,2"],
+    ["--at", f"{1 << 127},0"], ["--at", "1,1", "--at", "2,2"], ["--at", "--size", "5,5"], ["--size"], ["--size", "5"], ["--size", "0,5"], ["--size", "5,0"], ["--size", "8193,1"],
+    ["--size", "1,8193"], ["--size", "-5,5"], ["--size=-5,5"], ["--size", "5x5"], ["--size", f"{1 << 64},5"], ["--scale"], ["--scale", "-1"], ["--scale=-1"], ["--scale", "125"], ["--scale", "x"],
+    ["--scale", ""], ["--scale", "256"], ["--to"], ["--to", "png"], ["--to", "PGM"], ["--to", "rle"], ["--after"], ["--after", "-1"], ["--after", "x"], ["--after", "1152921504606846977"],
+    ["--memo", "0"], ["--memo", "16777217"], ["--work", "-1"], ["--work", "x"], ["--progress"], ["--explain=yes"], ["--rule"], ["--rules"], ["examples/block.rle"],
+)
+
+
+def words_of(at=None, size=None, scale=None, to=None):
+    """The words that ask for a window."""
+    said = {"--at": at and ",".join(map(str, at)), "--size": size and ",".join(map(str, size)), "--scale": scale, "--to": to}
+    return [word for name, value in said.items() if value is not None for word in (name, str(value))]
+
+
+def path_of(files, pattern):
+    """The path of an example, or of a file that is written with these contents."""
+    return pattern if pattern.startswith("examples/") else files.path("pattern.rle", pattern)
+
+
+def try_by_hand(tally, files):
+    """Pictures that were drawn by hand."""
+    for pattern, words, text in BY_HAND:
+        path = path_of(files, pattern)
+        for more in ([], ["--to", "text"], ["--explain"]):
+            tally.expect(f"draw {os.path.basename(path)} {' '.join([*words, *more])}", run(["draw", path, *words, *more]), ample(text.encode()))
+    for pattern, words, width, height, pixels in IMAGES:
+        path = path_of(files, pattern)
+        tally.expect(f"draw {os.path.basename(path)} {' '.join(words)} --to pgm", run(["draw", path, "--to", "pgm", *words]), ample(b"P5\n%d %d\n255\n" % (width, height) + bytes(pixels)))
+    tally.expect("standard input", run(["draw", "-"], input=GLIDER.encode()), ample(b".o.\n..o\nooo\n"))
+
+
+def windows_of(chance, box):
+    """Words for some windows of a plane with this box, in and around it."""
+    x0, y0, wide, high = box or (0, 0, 1, 1)
+    yield {}
+    yield {"to": "pgm"}
+    yield {"size": (chance.randint(2, 60), chance.randint(2, 60))}
+    scale = max(wide, high).bit_length() - 3
+    yield {"scale": max(scale, 0)}
+    for _ in range(4):
+        at = x0 + chance.randint(-wide // 4 - 2, wide), y0 + chance.randint(-high // 4 - 2, high)
+        yield {"at": at, "size": (chance.randint(1, 50), chance.randint(1, 30)), "scale": chance.randint(0, max(scale, 0) + 2), "to": chance.choice(("text", "pgm"))}
+    yield {"at": (x0 - 3, y0 - 2)}
+    yield {"at": (x0, y0), "size": (chance.randint(1, 20), chance.randint(1, 20))}
+
+
+def try_tree(tally, name, path, tree, states, chance, words=()):
+    """Some windows of the plane of a tree."""
+    complaints, count = [], 0
+    for said in windows_of(chance, tree.box()):
+        window = wanted_window(tree.box(), **said)
+        if window is None:
+            wanted = fault("window too large")
+        else:
+            wanted = ample(picture(squares_of(tree, window), window, states, said.get("to", "text")))
+        got, count = run(["draw", path, *words_of(**said), *words]), count + 1
+        if got != wanted:
+            complaints.append(f"{words_of(**said)}: wanted {wanted}, got {got}")
+    tally.tell(f"{name}: {count} windows", complaints)
+
+
+def try_examples(tally, _):
+    """Some windows of each pattern of examples/ whose rule is no table."""
+    chance = random.Random(7)
+    for path in sorted(it for kind in ("rle", "mc") for it in glob.glob(os.path.join(EXAMPLES, "**", f"*.{kind}"), recursive=True)):
+        file = PatternFile(contents(path))
+        name = os.path.relpath(path, ROOT)
+        if file.cause:
+            told = fault(file.cause)
+            tally.expect(f"draw {name}", run(["draw", name]), told)
+        elif file.population() < 100000 or file.is_macrocell:
+            try_tree(tally, f"draw {name}", name, file.pattern().tree, file.states, chance)
+
+
+def try_large(tally, files):
+    """Some windows of planes of very many cells."""
+    chance = random.Random(8)
+    for counts in ((8, 8, 8, 8), (4, 16, 64, 64)):
+        text, _ = planes.distinct_squares(counts, "B3/S23")
+        path = files.path("large.mc", text)
+        try_tree(tally, f"a plane of {counts}", path, macrocell.read(text.encode()).tree, 2, chance)
+    lines = ["[M2]", "#R /2/255", "1 0 1 2 3", "1 253 0 254 127"]
+    lines += [f"{level} {2 * level - 3} {2 * level - 2} {2 * level - 2} {2 * level - 3}\n{level} 0 {2 * level - 2} {2 * level - 3} 0" for level in range(2, 61)]
+    text = "\n".join([*lines, "61 119 120 119 119", ""])
+    try_tree(tally, "a plane of 2^60 cells a side with 255 states", files.path("states.mc", text), macrocell.read(text.encode()).tree, 255, chance)
+
+
+def try_after(tally, files):
+    """Planes some generations on."""
+    chance = random.Random(9)
+    plane = rows.soup(chance, 70, 50)
+    path = files.path("soup.rle", rows.text_of("B3/S23", plane))
+    for generations in (1, 7, 100, 500):
+        later = plane.after("B3/S23", generations)
+        cells = {(later.x + x, later.y + y): 1 for y, row in enumerate(later.rows) for x in range(row.bit_length()) if row >> x & 1}
+        for said in ({}, {"scale": 0}, {"at": (0, 0), "size": (30, 30)}, {"size": (9, 9)}, {"scale": 3, "to": "pgm"}):
+            window = wanted_window(box_of(cells), **said)
+            wanted = picture(cells_squares(cells, window), window, 2, said.get("to", "text"))
+            tally.expect(f"a soup after {generations}, {said}", run(["draw", path, "--after", str(generations), *words_of(**said)]), ample(wanted))
+    cells = frozenset((chance.randrange(20), chance.randrange(20)) for _ in range(150))
+    tree = macrocell.tree_of(dict.fromkeys(cells, 1))
+    path = files.path("odd.mc", macrocell.tidy(macrocell.Pattern(tree, "B36/S125", 17), 2))
+    for _ in range(3):
+        cells = next_cells(cells, (3, 6), (1, 2, 5))
+    tally.expect("another rule after 3", run(["draw", path, "--after", "3"]), ample(drawn(dict.fromkeys(cells, 1), 2)))
+    late = files.path("late.rle", f"#CXRLE Gen={(1 << 63) - 5}\n" + GLIDER)
+    tally.expect("the last generation", run(["draw", late, "--after", "4"]), ample(b".o.\n..o\nooo\n"))
+    tally.expect("a generation too large", run(["draw", late, "--after", "5"]), fault("gen too large"))
+    tally.expect("work", run(["draw", "examples/soup/soup.rle", "--after", "1000", "--work", "100"]), fault("work"))
+    tally.expect("no work", run(["draw", "examples/glider.rle", "--work", "0"]), ample(b".o.\n..o\nooo\n"))
+
+
+def try_faults(tally, files):
+    """Windows that aren't there, and words that ask for nothing."""
+    for pattern, words, told in NO_WINDOW:
+        path = path_of(files, pattern)
+        tally.expect(f"draw {os.path.basename(path)} {' '.join(words)}", run(["draw", path, *words]), fault(f"window {told}"))
+        note = f"cafile: window {told}\n  {path}\n".encode()
+        tally.expect(f"draw {os.path.basename(path)} {' '.join(words)} --explain", run(["draw", path, "--explain", *words]), Outcome(b"", note, 2))
+    for words in FAULTY:
+        outcome = run(["draw", "examples/glider.rle", *words])
+        well = outcome.complaint and b"--help" in outcome.complaint and (outcome.printed, outcome.status) == (b"", 2)
+        tally.tell(f"faulty words: {words}", [] if well else [str(outcome)])
+    for words, told in ((["--at", "5"], "'5' for '--at <X,Y>': not two whole numbers with a comma between them"),
+                        (["--size", "0,1"], "'0,1' for '--size <W,H>': not two numbers from 1 to 8192 with a comma between them")):
+        text = f"error: invalid value {told}\n\nFor more information, try '--help'.\n"
+        tally.expect(f"what is told of {words}", run(["draw", "examples/glider.rle", *words]), Outcome(b"", text.encode(), 2))
+    tally.expect("a file that isn't there", run(["draw", "examples/nowhere"]), fault("cannot read examples/nowhere"))
+    tally.expect("no window of a bad file", run(["draw", "examples/bad/syntax.mc", "--at", f"{REACH},0"]), fault("bad pattern: macrocell syntax"))
+
+
+def try_tables(tally, _):
+    """Rule files that are given, or found by the rule's name."""
+    spread, wanted = "examples/tables/spread.rle", run(["draw", "examples/tables/spread.rle", "--rule", "examples/tables/spread.rule"])
+    tally.tell("a table's pattern", [] if wanted.printed and (wanted.complaint, wanted.status) == (b"", 0) else [str(wanted)])
+    tally.expect("a rule file by its name", run(["draw", spread, "--rules", "examples/rules"]), wanted)
+    tally.expect("no table", run(["draw", spread]), fault("bad rule: unknown"))
+    explained = Outcome(b"", f"cafile: bad rule: unknown\n  {spread}: rule Spread\n".encode(), 2)
+    tally.expect("no table, explained", run(["draw", spread, "--explain"]), explained)
+
+
+def main():
+    tally = Tally()
+    with tempfile.TemporaryDirectory() as folder:
+        for it in (try_by_hand, try_examples, try_large, try_after, try_faults, try_tables):
+            it(tally, Folder(folder))
+    tally.finish()
+
+
+if __name__ == "__main__":
+    main()

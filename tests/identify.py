@@ -1,0 +1,355 @@
+#!/usr/bin/env -S python3 -B
+"""`identify`: the claim text that it prints, of files whose claims are known, of soups that are run here, and of all files of examples/, whose text is proved by
+`verify`; names, paths and rule files; files that are refused; and how far it looks."""
+import os
+import re
+import tempfile
+
+from lib import rle
+from lib.claim_reader import next_cells
+from lib.program import EXAMPLES, ROOT, Folder, Outcome, Tally, ample, fault, run
+
+# Patterns of examples/ whose claims are known from elsewhere: the field's names for them, or docs/CLAIMS.md.
+KNOWN = {
+    "block.rle": "still", "beehive.rle": "still", "loaf.rle": "still", "blinker.rle": "oscillator 2", "toad.rle": "oscillator 2", "pulsar.rle": "oscillator 3",
+    "pentadecathlon.rle": "oscillator 15", "queen_bee_shuttle.rle": "oscillator 30", "glider.rle": "spaceship 4 1 1", "reactions/diehard.rle": "dies 130",
+    "reactions/eater.rle": "still", "generations/brians_brain_oscillator.rle": "oscillator 3",
+}
+
+BLOCK, DOT, EMPTY = "x = 2, y = 2\n2o$2o!\n", "x = 1, y = 1\no!\n", "x = 0, y = 0\n!\n"
+GLIDER = "x = 3, y = 3\nbob$2bo$3o!\n"
+SPREAD = "@RULE Spread\n@TABLE\nn_states:3\nneighborhood:vonNeumann\nsymmetries:none\n0,0,0,0,1,1\n"
+
+
+def claim_of(name, told):
+    """The line of a claim, whose first word and numbers are told."""
+    word, *numbers = told.split()
+    return " ".join([word, name, *numbers])
+
+
+def entry(name, path, told):
+    """The lines on a file of which this is told: its claim, or after `#` its comment."""
+    if told.startswith("# "):
+        return f"load {name} {path}\n# {name}: {told[2:]}\n"
+    return f"load {name} {path}\n{claim_of(name, told)}\n"
+
+
+def none_within(limit):
+    """The comment on a pattern of which no claim is true within a limit."""
+    return f"# none of these within {limit} generation{'s' * (limit != 1)}"
+
+
+def base_name(path):
+    """The name for a file of this path, where it isn't taken."""
+    own = path.rsplit("/", 1)[-1]
+    own = own.rsplit(".", 1)[0] if "." in own else own
+    own = re.sub(r"[ \t\r\n]", "_", own)
+    return re.sub("^#", "_", own) or "_"
+
+
+def names_of(paths):
+    """The names for files of these paths."""
+    names = []
+    for path in paths:
+        base = base_name(path)
+        tries = [base, *(f"{base}-{number}" for number in range(2, len(paths) + 2))]
+        names.append(next(it for it in tries if it not in names))
+    return names
+
+
+def try_known(tally):
+    """Files whose claims are known, each alone and all together."""
+    paths = [f"examples/{name}" for name in KNOWN]
+    entries = [entry(name, path, told) for name, path, told in zip(names_of(paths), paths, KNOWN.values())]
+    for path, told, lines in zip(paths, KNOWN.values(), entries):
+        version = "claims 2\n" * told.startswith("dies")
+        tally.expect(f"{path}: {told}", run(["identify", path]), ample((version + lines).encode()))
+    tally.expect("all of these", run(["identify", *paths]), ample(("claims 2\n" + "".join(entries)).encode()))
+
+
+def true_claims():
+    """The claims of examples/ about one pattern that are true, as the files beside the texts say: for each path, and the rule files of its text, what is told."""
+    claims = {}
+    for file in sorted(it for it in os.listdir(EXAMPLES) if it.endswith(".claims")):
+        with open(os.path.join(EXAMPLES, file), encoding="utf-8", errors="replace") as text, open(os.path.join(EXAMPLES, f"{file[:-7]}.stdout"), encoding="utf-8") as told:
+            lines = [line.split() for line in text]
+            yes = [int(found[1]) for found in (re.match(r"line (\d+): yes$", line) for line in told) if found]
+        rules = tuple(words[1] for words in lines if words[:1] == ["rule"])
+        paths = {words[1]: words[2] for words in lines if words[:1] == ["load"]}
+        for number in yes:
+            word, name, *numbers = lines[number - 1]
+            if word in ("still", "oscillator", "spaceship", "dies"):
+                claims.setdefault((rules, paths[name]), set()).add(" ".join([word, *numbers]))
+    return claims
+
+
+def try_true_claims(tally):
+    """What is true of a pattern of examples/ is what is found."""
+    claims = true_claims()
+    complaints = [f"{key}: {told}" for key, told in claims.items() if len(told) != 1]
+    for (rules, path), told in claims.items():
+        told = next(iter(told))
+        words = [word for rule in rules for word in ("--rule", rule)]
+        if len(rules) > 1 or int((told.split() + ["1"])[1] if told != "still" else 1) > 65536:
+            continue
+        version = "claims 2\n" * told.startswith("dies")
+        lines = version + "".join(f"rule {rule}\n" for rule in rules) + entry(base_name(path), path, told)
+        got = run(["identify", path, *words])
+        if got != ample(lines.encode()):
+            complaints.append(f"{path}: wanted {lines!r}, {got}")
+    tally.tell(f"{len(claims)} patterns of examples/ whose claims are true", complaints if len(claims) > 40 else ["too few claims"])
+
+
+def cells_of(text):
+    """The cells of a soup's rows."""
+    return frozenset((x, y) for y, row in enumerate(text) for x, it in enumerate(row) if it == "o")
+
+
+def told_of(cells, birth, survival, limit):
+    """What a pattern is, by running it here."""
+    if not cells:
+        return "# no cell is live"
+    left, top = min(x for x, _ in cells), min(y for _, y in cells)
+    first, now = frozenset((x - left, y - top) for x, y in cells), cells
+    for generation in range(1, limit + 1):
+        now = next_cells(now, birth, survival)
+        if not now:
+            return f"dies {generation}"
+        west, north = min(x for x, _ in now), min(y for _, y in now)
+        if frozenset((x - west, y - north) for x, y in now) == first:
+            if (west, north) == (left, top):
+                return "still" if generation == 1 else f"oscillator {generation}"
+            return f"spaceship {generation} {west - left} {north - top}"
+    return none_within(limit)
+
+
+def try_squares(tally, files):
+    """The live patterns of 3 by 3 cells under three rules, run here; of the third rule, whose patterns grow fast, those of two rows and a cell."""
+    limit = 40
+    for birth, survival, count, least in (({3}, {2, 3}, 512, 5), ({3, 6}, {2, 3}, 512, 5), ({2}, set(), 128, 3)):
+        rule = f"B{''.join(map(str, sorted(birth)))}/S{''.join(map(str, sorted(survival)))}"
+        paths, tolds = [], []
+        for number in range(1, count):
+            cells = {(place % 3, place // 3) for place in range(9) if number >> place & 1}
+            paths.append(files.path(f"square_{number}.rle", rle.tidy({it: 1 for it in cells}, rule, 0, 2)))
+            tolds.append(told_of(frozenset(cells), birth, survival, limit))
+        lines = "".join(entry(name, path, told) for name, path, told in zip(names_of(paths), paths, tolds))
+        version = "claims 2\n" * any(it.startswith("dies") for it in tolds)
+        kinds = {it.split()[0] if it[0] != "#" else it for it in tolds}
+        complaints = [] if len(kinds) >= least else [f"only {kinds}"]
+        got = run(["identify", "--limit", str(limit), *paths])
+        tally.tell(f"{count - 1} squares under {rule}: {sorted(kinds)}", complaints + ([] if got == ample((version + lines).encode()) else [f"wanted {version + lines!r}", str(got)]))
+
+
+def try_limits(tally):
+    """A period that is the limit is found, and one that is one more isn't."""
+    for path, told, limit in (("pulsar.rle", "oscillator 3", 3), ("glider.rle", "spaceship 4 1 1", 4), ("reactions/diehard.rle", "dies 130", 130), ("block.rle", "still", 1),
+                              ("blinker.rle", "oscillator 2", 2), ("pentadecathlon.rle", "oscillator 15", 15), ("period_57960.rle", "oscillator 57960", 57960)):
+        path = f"examples/{path}"
+        version = "claims 2\n" * told.startswith("dies")
+        tally.expect(f"{path}, as far as {limit}", run(["identify", path, "--limit", str(limit)]), ample((version + entry(base_name(path), path, told)).encode()))
+        if limit > 1:
+            tally.expect(f"{path}, as far as {limit - 1}", run(["identify", path, "--limit", str(limit - 1)]),
+                         ample(entry(base_name(path), path, none_within(limit - 1)).encode()))
+    path = "examples/r_pentomino.rle"
+    tally.expect("the R-pentomino, as far as 1000", run(["identify", path, "--limit", "1000"]), ample(entry("r_pentomino", path, none_within(1000)).encode()))
+    path = "examples/blinker.rle"
+    tally.expect("as far as can be", run(["identify", path, "--limit", "4294967295"]), ample(entry("blinker", path, "oscillator 2").encode()))
+
+
+def refusals_by_verify(files, paths, rules):
+    """Why `verify` refuses a claim on each of these files, with the line of its fault, as the comments of `identify` tell it; None where it doesn't."""
+    lines = [*(f"rule {rule}" for rule in rules), *(f"load {number} {path}" for number, path in enumerate(paths))]
+    first = len(lines) + 1
+    lines += [f"still {number}" for number in range(len(paths))]
+    told = run(["verify", "--explain", files.path("refused.claims", "\n".join([*lines, ""]))]).printed.decode()
+    refusals = [None] * len(paths)
+    for number, cause, note in re.findall(r"^line (\d+): refused, (.*)\n((?:  .*\n)?)", told, re.M):
+        at = re.search(r"(, line \d+)$", note.rstrip("\n"))
+        refusals[int(number) - first] = cause + (at[1] if at and cause.startswith("bad pattern") else "")
+    return refusals
+
+
+def all_examples():
+    """The pattern files of examples/, in order."""
+    found = (os.path.join(folder, name) for folder, _, names in os.walk(EXAMPLES) for name in names if name.endswith((".rle", ".mc")))
+    return sorted(os.path.relpath(it, ROOT) for it in found)
+
+
+def rule_files(files):
+    """A folder with the rule files of examples/ under the names of their rules."""
+    folder = os.path.join(files.folder, "rules")
+    os.mkdir(folder)
+    for name in sorted(os.listdir(os.path.join(EXAMPLES, "tables"))):
+        if name.endswith(".rule"):
+            with open(os.path.join(EXAMPLES, "tables", name), encoding="utf-8") as file:
+                text = file.read()
+            named = re.search(r"^@RULE\s+(\S+)", text, re.M)
+            if named and "/" not in named[1] and "@TABLE" in text:
+                files.path(os.path.join("rules", f"{named[1]}.rule"), text)
+    return folder
+
+
+def try_all(tally, files):
+    """All pattern files of examples/ at once: the text is proved by `verify`, its names are different, and each file has its lines, in order; those that are refused
+    are refused for what `verify` refuses them."""
+    paths, rules = all_examples(), rule_files(files)
+    limit = 300
+    got = run(["identify", "--limit", str(limit), "--rules", rules, *paths])
+    lines = got.printed.decode().splitlines()
+    text = files.path("mine.claims", got.printed)
+    judged = run(["verify", text])
+    answers = judged.printed.decode().splitlines()
+    claims = [line for line in lines if line.split()[0] in ("still", "oscillator", "spaceship", "dies")]
+    complaints = [str(it) for it in (got, judged) if it.complaint] + [line for line in answers if not line.endswith(": yes")]
+    if (got.status, judged.status, len(answers)) != (2, 0, len(claims)) or len(claims) < 60:
+        complaints.append(f"status {got.status}, judged with {judged.status}: {len(claims)} claims, {len(answers)} answers")
+    rule_lines = [line.split()[1] for line in lines if line.startswith("rule ")]
+    refusals = refusals_by_verify(files, paths, rule_lines)
+    rest = [line for line in lines if not line.startswith(("rule ", "claims "))]
+    for name, path, refusal in zip(names_of(paths), paths, refusals):
+        first = rest.pop(0)
+        if refusal:
+            complaints += [] if first == f"# {name}: {path}: {refusal}" else [f"{first}: {refusal}"]
+            continue
+        second = rest.pop(0)
+        right = (f"# {name}: no cell is live", f"# {name}: none of these within {limit} generations")
+        if first != f"load {name} {path}" or not (second in right or second.split()[:2] in ([word, name] for word in ("still", "oscillator", "spaceship", "dies"))):
+            complaints.append(f"{path}: {first}; {second}")
+    tally.tell(f"all {len(paths)} pattern files of examples/: {len(claims)} claims are proved, {sum(map(bool, refusals))} files are refused", complaints + rest)
+    whole = [it for it in (f"examples/{name}" for name in os.listdir(EXAMPLES)) if it.endswith(".rle")]
+    again = run(["identify", "--limit", "4", *whole])
+    tally.expect("the patterns right in examples/, from standard input to `verify`", run(["verify", "-"], input=again.printed),
+                 ample("".join(f"line {at}: yes\n" for at, line in enumerate(again.printed.decode().splitlines(), 1)
+                               if line.split()[0] in ("still", "oscillator", "spaceship", "dies")).encode()))
+
+
+def try_names(tally, files):
+    """Names, and paths that a claim text can't name."""
+    for name in ("one", "two", "three"):
+        os.mkdir(os.path.join(files.folder, name))
+    made = ("one/block.rle", "two/block.rle", "three/block.mc.rle", "one/block-2.rle", "block.v2", "three/.rle", "one/#1.rle", "two/##.rle", "#", ".hidden", "no_ending", "a.b.c.rle", "two/x.rle",
+            "two/é.rle", "a-2.rle", "one/a.rle", "two/a.rle", "load.rle", "two/-.rle", "2.rle", "...", "one/..rle")
+    paths = [files.path(name, BLOCK) for name in made]
+    got = run(["identify", *paths, paths[0], paths[0]])
+    names = names_of([*paths, paths[0], paths[0]])
+    lines = "".join(entry(name, path, "still") for name, path in zip(names, [*paths, paths[0], paths[0]]))
+    tally.expect(f"names: {' '.join(names)}", got, ample(lines.encode()))
+    wanted = ["block", "block-2", "block.mc", "block-2-2", "block-3", "_", "_1", "_#", "_-2", "_-3", "no_ending", "a.b.c", "x", "é", "a-2", "a", "a-3", "load", "-", "2", "..", ".", "block-4", "block-5"]
+    tally.tell("these are the names", [] if names == wanted else [f"{names}", f"{wanted}"])
+    tally.expect("and verify proves them", run(["verify", files.path("names.claims", got.printed)]),
+                 ample("".join(f"line {at}: yes\n" for at in range(2, 2 * len(names) + 1, 2)).encode()))
+    blanks = [files.path(name, BLOCK) for name in ("my block.rle", "two/a\tb.rle", "one/c\rd.rle", "one/e\nf.rle")] + [os.path.join(files.folder, "lost one.rle"), "-", "", " "]
+    shown = [it.replace("\n", "_") for it in blanks]
+    names = ["my_block", "a_b", "c_d", "e_f", "lost_one", "-", "_", "_-2"]
+    lines = "".join(f"# {name}: {path}: no claim text can name this path\n" for name, path in zip(names, shown))
+    got = run(["identify", *blanks, paths[0]], input=BLOCK.encode())
+    tally.expect("paths that a claim text can't name", got, Outcome((lines + entry("block", paths[0], "still")).encode(), b"", 2))
+    tally.expect("and verify reads the text", run(["verify", "-"], input=got.printed), ample(f"line {lines.count(chr(10)) + 2}: yes\n".encode()))
+    os.chdir(files.folder)
+    try:
+        tally.expect("a file that is called -", run(["identify", "./-.rle"], cwd=os.path.join(files.folder, "two")), ample(b"load - ./-.rle\nstill -\n"))
+    finally:
+        os.chdir(ROOT)
+
+
+def try_refused(tally, files):
+    """Files that are refused, among others: their comments, and the status."""
+    bad = {"lost.rle": (None, "no file"), "syntax.rle": ("x = 1, y = 1\nz!", "bad pattern: rle syntax, line 2"), "end.rle": ("x = 1, y = 1\no", "bad pattern: rle no end, line 2"),
+           "life.rle": ("x = 1, y = 1, rule = Life\no!", "bad rule: unknown"), "grid.rle": ("x = 1, y = 1, rule = B3/S23:T30\no!", "bad rule: bounded"),
+           "wakes.rle": ("x = 1, y = 1, rule = B0/S\no!", "bad rule: wakes"), "large.rle": ("x = 1, y = 1\nB!", "state too large"), "m.mc": ("[M2]\nz\n", "bad pattern: macrocell syntax, line 2")}
+    good = files.path("good.rle", BLOCK)
+    paths = [files.path(name, text) for name, (text, _) in bad.items()]
+    comments = [f"# {base_name(path)}: {path}: {cause}\n" for path, (_, cause) in zip(paths, bad.values())]
+    for path, comment in zip(paths, comments):
+        tally.expect(f"{comment.split(': ', 2)[2].strip()}", run(["identify", good, path]), Outcome((entry("good", good, "still") + comment).encode(), b"", 2))
+    tally.expect("a refused file, and then a good one", run(["identify", paths[1], good]), Outcome((comments[1] + entry("good", good, "still")).encode(), b"", 2))
+    tally.expect("all of them", run(["identify", *paths]), Outcome("".join(comments).encode(), b"", 2))
+    notes = [(paths[1], ", line 2"), (paths[2], ", line 2"), (paths[3], ": rule Life"), (paths[4], ": rule B3/S23:T30"), (paths[5], ": rule B0/S"), (paths[6], ""), (paths[7], ", line 2")]
+    explained = "".join(f"  {path}{note}\n" for path, note in notes)
+    tally.expect("all of them, explained", run(["identify", "--explain", good, *paths]), Outcome((entry("good", good, "still") + "".join(comments)).encode(), explained.encode(), 2))
+    tally.expect("good files, explained", run(["identify", "--explain", good]), ample(entry("good", good, "still").encode()))
+    tally.expect("a folder", run(["identify", files.folder]), Outcome(f"# {base_name(files.folder)}: {files.folder}: no file\n".encode(), b"", 2))
+    long = files.path("long.rle", BLOCK.encode().ljust(67108865))
+    tally.expect("a file that is too long", run(["identify", long]), Outcome(f"# long: {long}: no file\n".encode(), b"", 2))
+    path = "examples/r_pentomino.rle"
+    tally.expect("no work", run(["identify", "--work", "0", path, good]), Outcome(f"# r_pentomino: {path}: work\n# good: {good}: work\n".encode(), b"", 2))
+    empty = files.path("empty.rle", EMPTY)
+    tally.expect("no live cell", run(["identify", "--work", "0", empty]), ample(entry("empty", empty, "# no cell is live").encode()))
+    for memo in (1, 1000, 16777216):
+        tally.expect(f"a memo of {memo}", run(["identify", "--memo", str(memo), "examples/pulsar.rle"]), ample(entry("pulsar", "examples/pulsar.rle", "oscillator 3").encode()))
+
+
+def rule_text(name, states=3):
+    """A rule file of this name under which nothing changes."""
+    return f"@RULE {name}\n@TABLE\nn_states:{states}\nneighborhood:vonNeumann\nsymmetries:none\n"
+
+
+def pattern_of(rule):
+    """A pattern under this rule."""
+    return f"x = 2, y = 1, rule = {rule}\nB.A!\n"
+
+
+def try_rules(tally, files):
+    """Rule files, by `--rule` and `--rules`: the lines that name them, and what `verify` makes of the text."""
+    folder = os.path.join(files.folder, "tables")
+    os.mkdir(folder)
+
+    def table(name, text):
+        return files.path(os.path.join("tables", name), text)
+
+    def both(name, words, text, status=0, complaint=b""):
+        """Expects a text, whose claims `verify` proves."""
+        got = run(["identify", *words])
+        tally.expect(name, got, Outcome(text.encode(), complaint, status))
+        yes = [at for at, line in enumerate(text.splitlines(), 1) if line.startswith(("still", "oscillator"))]
+        tally.expect(f"{name}, judged", run(["verify", "-"], input=got.printed), ample("".join(f"line {at}: yes\n" for at in yes).encode()))
+
+    a, b = (files.path(f"of_{name}.rle", pattern_of(name)) for name in ("A", "B"))
+    block = files.path("plain.rle", BLOCK)
+    given, one, two = files.path("given.rule", rule_text("A")), table("A.rule", rule_text("A")), table("B.rule", rule_text("B"))
+    still = {path: entry(base_name(path), path, "still") for path in (a, b, block)}
+    both("a rule file", ["--rule", given, a, block], f"rule {given}\n{still[a]}{still[block]}")
+    both("a rule file that isn't needed", [block, "--rule", given], f"rule {given}\n{still[block]}")
+    both("a rule that isn't in the rule file", ["--rule", given, b, a], f"rule {given}\n# of_B: {b}: bad rule: unknown\n{still[a]}", 2)
+    both("a folder", ["--rules", folder, b, a, b, block], f"rule {two}\nrule {one}\n{still[b]}{still[a]}{still[b].replace('of_B ', 'of_B-2 ').replace('still of_B', 'still of_B-2')}{still[block]}")
+    both("a folder that isn't needed", ["--rules", folder, block], still[block])
+    both("a rule file and a folder", ["--rule", given, "--rules", folder, a, b], f"rule {given}\nrule {two}\n{still[a]}{still[b]}")
+    table("C.rule", "@RULE C\n@TABLE\nn_states:1\n")
+    c = files.path("of_C.rle", pattern_of("C"))
+    both("a faulty rule file of a folder", ["--rules", folder, c, a], f"rule {one}\n# of_C: {c}: bad table: states\n{still[a]}", 2)
+    noted = f"  rule file: {os.path.join(folder, 'C.rule')}, line 3\n".encode()
+    both("a faulty rule file of a folder, explained", ["--explain", "--rules", folder, c, a], f"rule {one}\n# of_C: {c}: bad table: states\n{still[a]}", 2, noted)
+    table("D.rule", rule_text("A"))
+    d = files.path("of_D.rle", pattern_of("D"))
+    both("a rule file of another name", ["--rules", folder, d, a], f"rule {one}\n# of_D: {d}: bad rule: unknown\n{still[a]}", 2)
+    e = files.path("of_E.rle", pattern_of("E"))
+    both("a rule file that isn't there, explained", ["--rules", folder, "--explain", e], f"# of_E: {e}: bad rule: unknown\n", 2, f"  {e}: rule E\n".encode())
+    bad = os.path.join(folder, "C.rule")
+    tally.expect("a faulty rule file", run(["identify", "--rule", bad, a]), fault("bad table: line 3 states"))
+    tally.expect("a faulty rule file, explained", run(["identify", "--explain", "--rule", bad, a]),
+                 Outcome(b"", f"cafile: bad table: line 3 states\n  rule file: {bad}, line 3\n".encode(), 2))
+    tally.expect("a rule file that isn't there", run(["identify", "--rule", "nowhere.rule", a]), fault("cannot read nowhere.rule"))
+    for path in (files.path("my table.rule", rule_text("A")), "-", ""):
+        tally.expect(f"a rule file that a claim text can't name: {os.path.basename(path)}", run(["identify", "--rule", path, a]), fault(f"no claim text can name {path}"))
+    os.mkdir(os.path.join(files.folder, "my tables"))
+    for path in (os.path.join(files.folder, "my tables"), "-", ""):
+        tally.expect(f"a folder that a claim text can't name: {os.path.basename(path)}", run(["identify", "--rules", path, a]), fault(f"no claim text can name {path}"))
+    table("F G.rule", rule_text("F G"))
+    f = files.path("of_F_G.mc", "[M2]\n#R F G\n1 0 0 0 1\n")
+    tally.expect("a rule with a blank in its name", run(["identify", "--rules", folder, f]), Outcome(f"# of_F_G: {f}: bad rule: unknown\n".encode(), b"", 2))
+
+
+def main():
+    tally = Tally()
+    try_known(tally)
+    try_true_claims(tally)
+    try_limits(tally)
+    for trial in (try_squares, try_all, try_names, try_refused, try_rules):
+        with tempfile.TemporaryDirectory() as folder:
+            trial(tally, Folder(folder))
+    tally.finish()
+
+
+if __name__ == "__main__":
+    main()

@@ -1,0 +1,323 @@
+#!/usr/bin/env -S python3 -B
+"""`verify --rules DIR`: a rule that is neither in B/S notation nor a table of a rule line is looked for as DIR/NAME.rule; which names are looked for, which
+files are opened, and which claims a faulty rule file refuses."""
+import os
+import tempfile
+
+from lib.claim_text import ClaimText, outcome, printed, status_of
+from lib.program import Folder, Outcome, Tally, fault, run
+
+# Tables under which every state stays, and under which each 1 becomes a 2.
+STILL = "@RULE NAME\n@TABLE\nn_states:3\nneighborhood:oneDimensional\nsymmetries:none\n"
+TURN = STILL + "var a={0,1,2}\nvar b={0,1,2}\n1,a,b,2\n"
+
+MAX_FILE = 67108864
+
+# The seconds in which a run that opens no pipe ends.
+SOON = 60
+
+UNKNOWN = "refused, bad rule: unknown"
+
+
+def rle_of(name, state="A"):
+    """An RLE of one cell of this state, and the rule's name."""
+    return b"x = 1, y = 1, rule = %s\n%s!\n" % (name.encode() if isinstance(name, str) else name, state.encode())
+
+
+def macrocell_of(name, state=1):
+    """The same as macrocell, whose cell stands at (0, 0) too."""
+    return f"[M2]\n#R {name}\n1 0 0 0 {state}\n"
+
+
+class Rules(Folder):
+    """A folder for the files of a test, with a folder of rules below it."""
+
+    def __init__(self, folder):
+        super().__init__(tempfile.mkdtemp(dir=folder))
+        self.rules = os.path.join(self.folder, "rules")
+        os.mkdir(self.rules)
+        self.count, self.complaints = 0, []
+
+    def rule(self, name, text):
+        """Writes a rule file of the folder of rules, and gives its path."""
+        return self.path(os.path.join("rules", name), text)
+
+    def table(self, name, text=STILL):
+        """Writes the rule file of a table with this name, and gives its path."""
+        return self.rule(f"{name}.rule", text.replace("NAME", name))
+
+    def pipe(self, name):
+        """A rule file that is a pipe which nobody writes: a run that opens it doesn't end."""
+        os.mkfifo(os.path.join(self.rules, f"{name}.rule"))
+
+    def text(self):
+        """A new claim text, whose files stand in a folder of their own."""
+        return ClaimText(Folder(tempfile.mkdtemp(dir=self.folder)))
+
+    def check(self, name, words, wanted, **how):
+        """The run comes to this."""
+        self.count += 1
+        got = run(words, **{"timeout": SOON, **how})
+        if got != wanted:
+            self.complaints.append(f"{name}: wanted {wanted}, got {got}")
+
+    def judge(self, name, text, folder=None):
+        """The text's answers come with the folder of rules, in each order of the words, with notes and without."""
+        path, folder = text.write(), self.rules if folder is None else folder
+        for words in (["verify", "--rules", folder, path], ["verify", path, "--rules", folder]):
+            self.check(name, words, outcome(text.answers, False))
+        self.check(f"{name}, explained", ["verify", "--explain", "--rules", folder, path], outcome(text.answers, True))
+
+
+def unknown(text, name, content, told):
+    """Loads a pattern of a rule that isn't known, and claims that it is still."""
+    path = text.load(name, content)
+    text.claim(f"still {name}", UNKNOWN, name.encode() + b": " + path + b": rule " + told)
+
+
+def try_found(files):
+    """Rules that are found by their names, in both formats, beside rules that need no table."""
+    for name in ("Spread", "a", "A", "Life-2", "x.y", "~", "-", "--rule", "é", "n" * 200, "*", "%2F", "Spread.rule", ".hidden"):
+        files.table(name)
+        for content in (rle_of(name), macrocell_of(name)):
+            text = files.text()
+            text.load("found", content)
+            text.load("block", "x = 2, y = 2\n2o$2o!\n")
+            text.load("dead", "x = 1, y = 1, rule = 345/2/4\nA!\n")
+            text.claim("still found", "yes")
+            text.claim("still block", "yes")
+            text.claim("still dead", "no, cells differ after 1", "dead at 0,0: 2 after 1 generation, claimed 1")
+            text.claim("becomes found 5 found", "yes")
+            files.judge(f"found, {name}", text)
+            files.judge(f"found, {name}, folder with a slash", text, files.rules + "/")
+    text = files.text()
+    text.load("first", rle_of("Spread"))
+    path = text.write()
+    for words in (["verify", path, "--rules", files.rules], ["verify", path]):
+        files.check("no claims", words, Outcome(b"", b"", 0))
+    text.claim("still first", "yes")
+    with open(text.write(), "rb") as file:
+        files.check("standard input", ["verify", "-", "--rules", files.rules], outcome(text.answers, False), stdin=file)
+
+
+def try_several(files):
+    """Several texts with the same folder: each looks for its own rules."""
+    files.table("S")
+    files.table("T", TURN)
+    texts = []
+    for name, other, verdict, note in (("S", "T", "yes", ""), ("T", "S", "no, cells differ after 1", "own at 0,0: 2 after 1 generation, claimed 1"), ("S", "lost", "yes", "")):
+        text = files.text()
+        text.load("own", rle_of(name))
+        text.load("other", rle_of(other))
+        text.claim("still own", verdict, note)
+        texts.append((text.write(), text))
+    for explained in (False, True):
+        words = ["verify", "--rules", files.rules, *["--explain"] * explained, *[path for path, _ in texts]]
+        wanted = b"".join(printed(text.answers, explained, path.encode() + b": ") for path, text in texts)
+        files.check("several texts", words, Outcome(wanted, b"", max(status_of(text.answers) for _, text in texts)))
+        missing = files.path("missing.claims")
+        got = Outcome(wanted, f"cafile: {missing}: cannot read {missing}\n".encode(), 2)
+        files.check("one is missing", [*words, missing], got)
+
+
+def try_names(files):
+    """Names that are never looked for, though there is such a file."""
+    os.mkdir(os.path.join(files.rules, "sub"))
+    files.path("rules/sub/Inner.rule", STILL.replace("NAME", "sub/Inner"))
+    files.path("Outer.rule", STILL.replace("NAME", "../Outer"))
+    for name in ("a..b", "..", "...", "..a", "b..", "Cut"):
+        files.table(name)
+    absolute = os.path.join(files.rules, "Cut")
+    for name in ("sub/Inner", "../Outer", "../rules/Cut", "./Cut", "/Cut", "Cut/", absolute, "a..b", "..", "...", "..a", "b..", "n" * 5000, "lost", "cut", "CUT", "Cut.rule"):
+        text = files.text()
+        unknown(text, "p", rle_of(name), name.encode())
+        files.judge(f"the name {name}", text)
+    for name in (b"Cut\x00", b"\x00", b"Cut\x00.rule", b"\xff", b"\xc3"):
+        with open(os.path.join(files.rules.encode(), name.replace(b"\x00", b"") + b".rule"), "wb") as file:
+            file.write(STILL.replace("NAME", "Cut").encode())
+        text = files.text()
+        unknown(text, "p", rle_of(name), name)
+        files.judge(f"the name {name}", text)
+
+
+def try_faulty(files):
+    """A faulty rule file refuses the claims on patterns that name it, and no other claim; a table of another name is of no use."""
+    files.table("Good")
+    for name, content in (("Empty", ""), ("No", "@RULE No\n"), ("States", STILL.replace("n_states:3", "n_states:1").replace("NAME", "States")),
+                          ("Bad", STILL.replace("NAME", "Bad") + "1,0,0,\n"), ("Wakes", STILL.replace("NAME", "Wakes") + "0,0,0,1\n")):
+        files.rule(f"{name}.rule", content)
+        text = files.text()
+        text.load("good", rle_of("Good"))
+        text.load("block", "x = 2, y = 2\n2o$2o!\n")
+        bad = text.load("bad", rle_of(name))
+        note = b"bad: " + bad + b": rule " + name.encode()
+        text.claim("still good", "yes")
+        text.claim("still bad", UNKNOWN, note)
+        text.claim("still block", "yes")
+        text.claim("becomes good 1 bad", UNKNOWN, note)
+        text.claim("becomes bad 1 good", UNKNOWN, note)
+        text.claim("becomes good 3 good", "yes")
+        files.judge(f"faulty, {name}", text)
+    files.rule("Other.rule", STILL.replace("NAME", "Good"))
+    files.rule("Moved.rule", TURN.replace("NAME", "Good"))
+    text = files.text()
+    text.load("good", rle_of("Good"))
+    unknown(text, "other", rle_of("Other"), b"Other")
+    unknown(text, "moved", rle_of("Moved"), b"Moved")
+    text.claim("still good", "yes")
+    files.judge("tables of other names", text)
+    text = files.text()
+    large = text.load("large", rle_of("Good", "C"))
+    text.claim("still large", "refused, state too large", b"large: " + large)
+    files.judge("a state too large", text)
+    for grid in ("T10,10", "P8"):
+        text = files.text()
+        bounded = text.load("bounded", rle_of(f"Good:{grid}"))
+        text.claim("still bounded", "refused, bad rule: bounded", b"bounded: " + bounded + b": rule Good:" + grid.encode())
+        files.judge("a grid", text)
+
+
+def try_unread(files):
+    """A folder or a rule file that isn't there, or can't be read, is as none."""
+    os.mkdir(os.path.join(files.rules, "Folder.rule"))
+    os.symlink("nowhere", os.path.join(files.rules, "Link.rule"))
+    files.rule("Longer.rule", STILL.replace("NAME", "Longer").encode().ljust(MAX_FILE + 1))
+    files.rule("Longest.rule", STILL.replace("NAME", "Longest").encode().ljust(MAX_FILE))
+    text = files.text()
+    for name in ("Folder", "Link", "Longer"):
+        unknown(text, name, rle_of(name), name.encode())
+    text.load("longest", rle_of("Longest"))
+    text.claim("still longest", "yes")
+    files.judge("rule files that aren't read", text)
+    text = files.text()
+    unknown(text, "p", rle_of("Longest"), b"Longest")
+    for folder in (os.path.join(files.folder, "missing"), os.path.join(files.rules, "Longest.rule"), ""):
+        files.judge(f"the folder {folder!r}", text, folder)
+    text = files.text()
+    text.load_path("lost", files.path("lost.rle"))
+    text.load("good", rle_of("Longest"))
+    text.claim("still lost", "refused, no file", f"lost: {files.path('lost.rle')}")
+    text.claim("becomes good 1 lost", "refused, no file", f"lost: {files.path('lost.rle')}")
+    text.claim("still good", "yes")
+    files.judge("a pattern that is missing", text)
+
+
+def try_rule_lines(files):
+    """The tables of rule lines go before the folder; a faulty one refuses all claims, and then nothing is looked for."""
+    files.table("S", TURN)
+    files.table("T", TURN)
+    for name in ("Life", "Unused"):
+        files.pipe(name)
+    turned = "no, cells differ after 1"
+    for both in (False, True):
+        text = files.text()
+        text.rule(STILL.replace("NAME", "S"))
+        if both:
+            text.rule(TURN.replace("NAME", "S"))
+        text.load("s", rle_of("S"))
+        text.load("t", rle_of("T"))
+        text.claim("still s", "yes")
+        text.claim("still t", turned, "t at 0,0: 2 after 1 generation, claimed 1")
+        text.claim("becomes s 0 t", "refused, mixed rules")
+        files.judge("a rule line and the folder", text)
+    text = files.text()
+    path = text.rule_path(os.path.join(files.rules, "S.rule"))
+    text.load("s", rle_of("S"))
+    text.claim("still s", turned, "s at 0,0: 2 after 1 generation, claimed 1")
+    files.judge("a rule line of the folder's file", text)
+    for content, told in (("faulty", "refused, bad table: no rule line"), (None, "refused, no file")):
+        text = files.text()
+        path = text.rule(content) if content else text.rule_path(files.path("nowhere.rule"))
+        text.load("life", rle_of("Life"))
+        text.claim("still life", told, b"rule file: " + path + b", line 1" * bool(content))
+        files.judge("a faulty rule line", text)
+    text = files.text()
+    path = text.load_path("table", files.table("T"))
+    text.load("t", rle_of("T"))
+    text.claim("still t", "yes")
+    text.claim("still table", "refused, bad pattern: rle header", b"table: " + path + b", line 1")
+    text.claim("becomes t 9 t", "yes")
+    files.judge("a rule file that is loaded as a pattern", text)
+
+
+def try_pairs(files):
+    """Claims on two patterns: of one found table, of two, and of one whose table isn't found."""
+    files.table("S", TURN)
+    files.table("T")
+    text = files.text()
+    text.load("one", rle_of("S"))
+    text.load("two", rle_of("S", "B"))
+    text.load("mc", macrocell_of("S", 2))
+    text.load("other", rle_of("T", "B"))
+    lost = text.load("lost", rle_of("Lost"))
+    note = b"lost: " + lost + b": rule Lost"
+    text.claim("becomes one 1 two", "yes")
+    text.claim("becomes one 7 mc", "yes")
+    text.claim("becomes one 0 two", "no, cells differ after 0", "one at 0,0: 1 after 0 generations, claimed 2")
+    text.claim("becomes two 1 other", "refused, mixed rules")
+    text.claim("becomes other 1 two", "refused, mixed rules")
+    text.claim("becomes one 1 lost", UNKNOWN, note)
+    text.claim("becomes lost 1 one", UNKNOWN, note)
+    text.claim("still other", "yes")
+    text.claim("still two", "yes")
+    files.judge("pairs", text)
+
+
+def try_unneeded(files):
+    """No file is opened but those of rules that aren't known of patterns that some claim is about: a run that opens a pipe doesn't end."""
+    for name in ("Loaded", "B3S23", "b3s23", "Given", "Broken", "Grid"):
+        files.pipe(name)
+    files.table("Used")
+    text = files.text()
+    text.rule(STILL.replace("NAME", "Given"))
+    text.load("used", rle_of("Used"))
+    text.load("loaded", rle_of("Loaded"))
+    text.load("given", rle_of("Given"))
+    text.load("life", rle_of("B3S23"))
+    broken = text.load("broken", "x = 1, y = 1, rule = Broken\nA")
+    grid = text.load("grid", rle_of("Grid:T1,1"))
+    text.claim("still used", "yes")
+    text.claim("still given", "yes")
+    text.claim("oscillator life 2", "no, cells differ after 2", "life at 0,0: 0 after 2 generations, claimed 1")
+    text.claim("still broken", "refused, bad pattern: rle no end", b"broken: " + broken + b", line 2")
+    text.claim("still grid", "refused, bad rule: bounded", b"grid: " + grid + b": rule Grid:T1,1")
+    files.judge("not needed", text)
+    text = files.text()
+    text.load("loaded", rle_of("Loaded"))
+    path = text.write()
+    files.check("without claims", ["verify", path, "--rules", files.rules], Outcome(b"", b"", 0))
+    text.lines.append(b"faulty")
+    path = text.write()
+    files.check("a faulty text", ["verify", path, "--rules", files.rules], fault("claims line 2: syntax"))
+
+
+def try_layout(files):
+    """Rule files as Golly has them: sections before and after the table, CR LF, and colours and icons that no rule is."""
+    golly = "@RULE NAME\r\n\r\nBy somebody.\r\n\r\n" + STILL.split("\n", 1)[1].replace("\n", "\r\n") + "\r\n@COLORS\r\n\r\n1 255 0 0\r\n\r\n@ICONS\r\n\r\nXPM\r\n"
+    files.table("Golly", golly)
+    text = files.text()
+    text.load("golly", rle_of("Golly"))
+    text.claim("still golly", "yes")
+    files.judge("Golly's sections", text)
+    for rank in range(200):
+        files.table(f"R{rank}", TURN if rank % 2 else STILL)
+    text = files.text()
+    for rank in range(200):
+        text.load(f"p{rank}", rle_of(f"R{rank}"))
+        text.claim(f"still p{rank}", *(("no, cells differ after 1", f"p{rank} at 0,0: 2 after 1 generation, claimed 1") if rank % 2 else ("yes",)))
+    files.judge("two hundred rules", text)
+
+
+def main():
+    tally = Tally()
+    with tempfile.TemporaryDirectory() as folder:
+        for name, it in (("found", try_found), ("several texts", try_several), ("names", try_names), ("faulty", try_faulty), ("not read", try_unread),
+                         ("beside rule lines", try_rule_lines), ("two patterns", try_pairs), ("not needed", try_unneeded), ("Golly's files", try_layout)):
+            files = Rules(folder)
+            it(files)
+            tally.tell(f"verify with a folder of rules, {name}: {files.count} runs", files.complaints)
+    tally.finish()
+
+
+if __name__ == "__main__":
+    main()
