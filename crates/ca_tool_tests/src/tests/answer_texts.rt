@@ -150,8 +150,12 @@ const FAULTS: &[(Fault, &str)] = &[
         )))),
         "macrocell: a timeline",
     ),
-    (Fault::Tool(ToolFault::GenTooLarge), "generation too large"),
+    (
+        Fault::Tool(ToolFault::GenTooLarge),
+        "the generation is too large",
+    ),
     (Fault::Tool(ToolFault::Work), "out of work"),
+    (Fault::Tool(ToolFault::Range), "out of range"),
     (
         Fault::Tool(ToolFault::Window(WindowFault::Range)),
         "window out of range",
