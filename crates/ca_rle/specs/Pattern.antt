@@ -1,17 +1,19 @@
--- Texts that are read, and the patterns that they hold.
-use Rattle.std.specs.Prelude.{◌≡◌, ℕ, ◌<◌, ◌≤◌, ℤ, List}
+-- Texts that are read and the patterns that they hold, and planes that can be written as texts.
+use Rattle.std.specs.Prelude.{◌≡◌, ℕ, ◌<◌, ◌≤◌, ℤ, List, length}
+use Rattle.std.specs.List.{All}
 use Rattle.ca_plane.specs.Bytes.{IsWord}
 use Rattle.ca_plane.specs.BitPlane.{bit_cell}
-use Rattle.ca_plane.specs.Plane.{IsPicture, cell}
+use Rattle.ca_plane.specs.Plane.{Picture, IsPicture, cell}
 use Rattle.ca_plane.specs.Sparse.{IsSparse}
-use Rattle.ca_plane.specs.Limits.{generation_limit}
+use Rattle.ca_plane.specs.Limits.{IsInRange, generation_limit, most_cells}
 use Rattle.ca_rle.specs.declared.pattern.PackedCells.{PackedCells}
 use Rattle.ca_rle.specs.declared.pattern.PackedCells.TheVariants.{Words, States}
 use Rattle.ca_rle.specs.declared.pattern.PackedPattern.{PackedPattern}
 use Rattle.ca_rle.specs.declared.pattern.Pattern.{Pattern}
 use Rattle.ca_rle.specs.File.{RleFile, IsRleFile}
-use Rattle.ca_rle.specs.Limits.{IsWithinLimits}
+use Rattle.ca_rle.specs.Limits.{IsRleWithinRange, IsWithinLimits}
 use Rattle.ca_rle.specs.Shown.{greatest_state, picture_of_items}
+use Rattle.ca_rle.specs.Tidy.{IsTidyRle}
 
 -- cells, a rule text and a generation are the file's; its picture has states from 1 to 255, the generation is below the
 -- limit, and the rule text is a word
@@ -52,3 +54,24 @@ HoldsRlePattern bytes pattern = (file : RleFile) × IsRleFile bytes file × IsWi
 -- the same of a pattern whose cells are packed
 abbrev pub HoldsPackedRlePattern : List ℕ → PackedPattern → Type 0
 HoldsPackedRlePattern bytes pattern = (file : RleFile) × IsRleFile bytes file × IsWithinLimits file × IsPackedRlePattern file pattern
+
+-- a plane can be written with this rule text and generation, under a rule of so many states
+pub record IsWritableRle (cells : Picture) (rule_text : List ℕ) (generation states : ℕ) : Type 0 where
+  pub range : All (λ e. IsInRange e.0) cells
+  pub low_states : All (λ e. e.1 < states) cells
+  pub is_word : IsWord rule_text
+  pub low_generation : generation < generation_limit
+
+-- the text is a file whose cells are in range, and it means the plane, its cells one by one in their order, this rule
+-- text and this generation
+abbrev pub IsRleOf : List ℕ → Picture → List ℕ → ℕ → Type 0
+IsRleOf text cells rule_text generation =
+    (file : RleFile) × IsRleFile text file × IsRleWithinRange file × (picture_of_items file.corner file.items ≡ cells)
+    × (file.rule_text ≡ rule_text) × (file.generation ≡ generation)
+
+-- what is written of a plane: its tidy text, which means it, and which the reader takes where the plane has at most
+-- 16777216 live cells
+pub record IsWrittenRle (text : List ℕ) (cells : Picture) (rule_text : List ℕ) (generation states : ℕ) : Type 0 where
+  pub tidy : IsTidyRle text cells rule_text generation states
+  pub means : IsRleOf text cells rule_text generation
+  pub limits : length cells ≤ most_cells → (file : RleFile) → IsRleFile text file → IsWithinLimits file

@@ -1,14 +1,9 @@
 //! The writer of extended RLE: one tidy text for a plane.
 
-ghost use Rattle.std.specs.Prelude.{◌≡◌, ℕ, ◌<◌, ◌≤◌, List, length, OnOk, IfOk, IsErrOf};
-ghost use Rattle.std.specs.List.{All};
+ghost use Rattle.std.specs.Prelude.{◌≡◌, ℕ, List, OnOk, IfOk, IsErrOf};
 ghost use Rattle.std.specs.Io.KnownBytes.{Appends};
-ghost use Rattle.ca_plane.specs.Bytes.{IsWord};
 ghost use Rattle.ca_plane.specs.Device.{Rises, AppendsPrefix};
-ghost use Rattle.ca_plane.specs.Limits.{IsInRange, generation_limit, most_cells};
-ghost use Rattle.ca_rle.specs.File.{RleFile, IsRleFile};
-ghost use Rattle.ca_rle.specs.Limits.{IsRleWithinRange, IsWithinLimits};
-ghost use Rattle.ca_rle.specs.Shown.{picture_of_items};
+ghost use Rattle.ca_rle.specs.Pattern.{IsWritableRle, IsWrittenRle};
 ghost use Rattle.ca_rle.specs.Tidy.{IsTidyRle};
 
 use ca_plane::{Dev, Memory, Plane, WriteFault, send};
@@ -42,19 +37,9 @@ pub fn write_rle(
     generation: u64,
     states: u16,
 ) -> Result<Vec<u8>, Memory>
-    requires range { All (λ e. IsInRange e.0) cells.now }
-    requires states { All (λ e. e.1 < states) cells.now }
-    requires rule { IsWord rule_text.now }
-    requires generation { generation < generation_limit }
-    ensures tidy { IfOk result (λ text. IsTidyRle text.items cells.now rule_text.now generation states) }
-    // It means the plane, its cells one by one in their order, the rule text and the generation, and is in
-    // the reader's range.
-    ensures means { IfOk result (λ text. (file : RleFile) × IsRleFile text.items file × IsRleWithinRange file
-        × (picture_of_items file.corner file.items ≡ cells.now) × (file.rule_text ≡ rule_text.now)
-        × (file.generation ≡ generation)) }
-    // The reader takes it where the plane has at most 16777216 live cells.
-    ensures limits { length cells.now ≤ most_cells → IfOk result
-        (λ text. (file : RleFile) → IsRleFile text.items file → IsWithinLimits file) }
+    requires { IsWritableRle cells.now rule_text.now generation states }
+    ensures { IfOk result (λ text.
+        IsWrittenRle text.items cells.now rule_text.now generation states) }
 {
     let frame = frame::of(cells);
     let mut text = Vec::new(alloc);
@@ -79,17 +64,12 @@ pub fn write_rle_to<W: Write>(
     states: u16,
     out: &mut Dev<W>,
 ) -> Result<(), WriteFault>
-    requires range { All (λ e. IsInRange e.0) cells.now }
-    requires states { All (λ e. e.1 < states) cells.now }
-    requires rule { IsWord rule_text.now }
-    requires generation { generation < generation_limit }
-    // The tidy text is written whole, and no failure is counted.
-    ensures all { OnOk result ((text : List ℕ) × IsTidyRle text cells.now rule_text.now generation states
+    requires { IsWritableRle cells.now rule_text.now generation states }
+    // The text that `write_rle` gives is written whole.
+    ensures all { OnOk result ((text : List ℕ)
+        × IsWrittenRle text cells.now rule_text.now generation states
         × Appends (W.contents out.old.inner) (W.contents out.new.inner) text) }
-    // The reader takes what is written where the plane has at most 16777216 live cells.
-    ensures limits { length cells.now ≤ most_cells → OnOk result
-        ((text : List ℕ) × Appends (W.contents out.old.inner) (W.contents out.new.inner) text
-        × ((file : RleFile) → IsRleFile text file → IsWithinLimits file)) }
+    // No failure is counted.
     ensures kept { OnOk result (out.new.failures ≡ out.old.failures) }
     // Without memory the device is as it was.
     ensures memory { IsErrOf result WriteFault.Memory → out.new ≡ out.old }

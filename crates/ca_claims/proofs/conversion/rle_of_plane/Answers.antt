@@ -1,17 +1,19 @@
 use Rattle.std.proofs.Common.{◌<◌, subst, sym, ◌∙◌}
 use Rattle.std.specs.List.{All}
+use Rattle.ca_plane.specs.Bytes.{IsWord}
 use Rattle.ca_rle.specs.Tidy.{IsTidyRle}
 use Rattle.ca_rule.specs.Rule.{rule_value}
 use Rattle.ca_claims.proofs.PatternsRead.{listed_in_range, listed_small}
 use Rattle.ca_claims.proofs.Written.{written_rle}
 use Rattle.ca_claims.proofs.conversion.rle_of_plane.Goals as goal
 
-pub write_rle-requires-clause-range : goal.write_rle-requires-clause-range
-write_rle-requires-clause-range c = listed_in_range c.args.cells.now c.requires.sparse c.requires.writable.range
-
-pub write_rle-requires-clause-states : goal.write_rle-requires-clause-states
-write_rle-requires-clause-states c =
-    subst (λ n. All (λ e. e.1 < n) c.args.cells.now) (sym c.states.ensures.value) (listed_small (rule_value c.args.rule.now) c.args.cells.now c.requires.sparse c.requires.writable.small)
+pub write_rle-requires : goal.write_rle-requires
+write_rle-requires c = record {
+  range = listed_in_range c.args.cells.now c.requires.sparse c.requires.writable.range;
+  low_states = subst (λ n. All (λ e. e.1 < n) c.args.cells.now) (sym c.states.ensures.value) (listed_small (rule_value c.args.rule.now) c.args.cells.now c.requires.sparse c.requires.writable.small);
+  is_word = subst IsWord (sym c.deref.ensures.value) c.in-Ok.ensures.word;
+  low_generation = c.requires.writable.low;
+}
 
 pub returns-in-Ok-write_rle-clause-written : goal.returns-in-Ok-write_rle-clause-written
 returns-in-Ok-write_rle-clause-written c =

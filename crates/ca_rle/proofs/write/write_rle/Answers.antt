@@ -8,9 +8,9 @@ pub returns : goal.returns
 returns c =
     let tidy = tidy_text _ _ _ _ _ c.args.cells.now c.args.generation c.args.states c.of-frame.result.corner c.of-frame.result.width c.of-frame.result.height c.in_ok-items.items.items _
     c.new-text.ensures.items c.in_ok-push_corner_line.ensures c.in_ok-push_header_line.ensures c.deref.ensures.value c.in_ok-push_items.ensures c.of-frame.ensures
-    c.in_ok-items.ensures.shown c.in_ok-items.ensures.tidy (c.in_ok-items.ensures.states _ c.requires.states) in
+    c.in_ok-items.ensures.shown c.in_ok-items.ensures.tidy (c.in_ok-items.ensures.states _ c.requires.low_states) in
     let within = listed_range c.args.cells.now c.requires.range in
-    let file = file_in_range _ _ _ _ _ tidy c.requires.rule c.requires.generation within in
+    let file = file_in_range _ _ _ _ _ tidy c.requires.is_word c.requires.low_generation within in
     let range = tidy_within_range _ _ _ _ _ tidy within in
     record {
       tidy = tidy;
