@@ -9,8 +9,8 @@ use Rattle.ca_quad.specs.Boxes.{IsLeastWideBox}
 use Rattle.ca_quad.specs.Trees.{cell}
 use Rattle.ca_quad.proofs.Edges.{outside_x, outside_y}
 use Rattle.ca_draw.specs.declared.window.Window.{Window}
-use Rattle.ca_draw.specs.Windows.{strip_of, IsInSquare, IsInWindow, IsBox, IsInReach, ShowsBox}
-use Rattle.ca_draw.specs.inner.Spans.{IsSpan, Spans}
+use Rattle.ca_draw.specs.Windows.{strip_of, IsInSquare, IsInWindow, IsBox, IsTreeBox, ShowsBox}
+use Rattle.ca_draw.specs.inner.Strips.{AreStrips, AreStripsBetween}
 use Rattle.ca_draw.proofs.Edges.{off_or_not}
 use Rattle.ca_draw.proofs.Strips.{strip_mono}
 
@@ -22,27 +22,27 @@ module _ (box : WideBounds) (order : IsBox box) (columns rows : ℕ) (w : Window
   pub last_corner : IsInWindow w box.x1 box.y1
   last_corner = s.all box.x1 box.y1 (order.x, omega (arith, ints), order.y, omega (arith, ints))
 
-  pub span_x : IsSpan w.column w.width
+  pub span_x : AreStrips w.column w.width
   span_x = record { some = s.is_window.some_columns; most = s.is_window.most_columns; begins = s.is_window.west; ends = s.is_window.east }
 
-  pub span_y : IsSpan w.row w.height
+  pub span_y : AreStrips w.row w.height
   span_y = record { some = s.is_window.some_rows; most = s.is_window.most_rows; begins = s.is_window.north; ends = s.is_window.south }
 
 -- two spans make a window
 module _ (box : WideBounds) (order : IsBox box) (columns rows scale : ℕ) (low : scale ≤ 124) (column row : ℤ) (width height : ℕ)
-    (across : Spans scale box.x0 box.x1 column width) (down : Spans scale box.y0 box.y1 row height) where
+    (across : AreStripsBetween scale box.x0 box.x1 column width) (down : AreStripsBetween scale box.y0 box.y1 row height) where
   pub shows_box : width ≤ columns → height ≤ rows → ShowsBox box columns rows (record { scale = scale; column = column; row = row; width = width; height = height })
   shows_box i j = record {
     is_window = record {
       scale = low;
-      some_columns = across.is_span.some;
-      most_columns = across.is_span.most;
-      west = across.is_span.begins;
-      east = across.is_span.ends;
-      some_rows = down.is_span.some;
-      most_rows = down.is_span.most;
-      north = down.is_span.begins;
-      south = down.is_span.ends;
+      some_columns = across.are_strips.some;
+      most_columns = across.are_strips.most;
+      west = across.are_strips.begins;
+      east = across.are_strips.ends;
+      some_rows = down.are_strips.some;
+      most_rows = down.are_strips.most;
+      north = down.are_strips.begins;
+      south = down.are_strips.ends;
     };
     width = i;
     height = j;
@@ -63,7 +63,7 @@ module _ (box : WideBounds) (order : IsBox box) (columns rows scale : ℕ) (low 
   last_square = record { is_column = omega (arith, ints, across.ends); is_row = omega (arith, ints, down.ends) }
 
 -- four squares show all that lies in reach
-module _ (box : WideBounds) (reach : IsInReach box) (columns rows : ℕ) where
+module _ (box : WideBounds) (reach : IsTreeBox box) (columns rows : ℕ) where
   low_strip : (n : ℤ) → neg_ℤ (pos (2 ^ 124)) ≤ℤ n → neg_ℤ (pos 1) ≤ℤ strip_of 124 n
   low_strip (pos m) h =
       let goal : neg_ℤ (pos 1) ≤ℤ pos (m / 2 ^ 124) = omega (arith, ints) in
@@ -132,7 +132,7 @@ module _ (nodes : List Node) (tree : Tree) (some : 1 ≤ tree.level) (most : tre
         | inr i ↦ (omega (arith, ints, half_most), omega (arith, ints, half_most))
       ]
 
-  pub least_in_reach : (box : WideBounds) → IsLeastWideBox (cell nodes tree) box → IsBox box × IsInReach box
+  pub least_in_reach : (box : WideBounds) → IsLeastWideBox (cell nodes tree) box → IsBox box × IsTreeBox box
   least_in_reach box least =
       let left = least.left in
       let right = least.right in

@@ -12,7 +12,7 @@ use Rattle.ca_quad.specs.Trees.{from_corner, cell}
 use Rattle.ca_quad.proofs.Growth.{below_or_not}
 use Rattle.ca_quad.proofs.Edges.{IsOff, outside_x, outside_y}
 use Rattle.ca_draw.specs.Windows.{strip_of}
-use Rattle.ca_draw.specs.Marks.{IsBlank, has_live}
+use Rattle.ca_draw.specs.Marks.{IsBlankSquare, has_live}
 use Rattle.ca_draw.specs.inner.Blanks.{IsBlankIn}
 use Rattle.ca_draw.proofs.Strips.{strip_shift}
 use Rattle.ca_draw.proofs.Lives.{blank_there, none_there}
@@ -58,7 +58,7 @@ not_zero zero = refl
 not_zero (suc s) = grind (arith, nat_tests)
 
 -- two squares that are blank together
-same_live : (cells : ℤ → ℤ → ℕ) (a b : ℕ) (column row : ℤ) → (IsBlank cells a column row → IsBlank cells b column row) → (IsBlank cells b column row → IsBlank cells a column row)
+same_live : (cells : ℤ → ℤ → ℕ) (a b : ℕ) (column row : ℤ) → (IsBlankSquare cells a column row → IsBlankSquare cells b column row) → (IsBlankSquare cells b column row → IsBlankSquare cells a column row)
     → has_live cells a column row ≡ has_live cells b column row
 same_live cells a b column row f g =
     elim (cases_Bool (has_live cells a column row)) [
@@ -74,7 +74,7 @@ module _ (nodes : List Node) (tree : Tree) (some : 1 ≤ tree.level) where
   quarter = tree.level - 1
 
   -- larger squares than the tree's quarters show no more than these
-  larger : (a b : ℕ) (column row : ℤ) → quarter ≤ a → quarter ≤ b → IsBlank (cell nodes tree) a column row → IsBlank (cell nodes tree) b column row
+  larger : (a b : ℕ) (column row : ℤ) → quarter ≤ a → quarter ≤ b → IsBlankSquare (cell nodes tree) a column row → IsBlankSquare (cell nodes tree) b column row
   larger a b column row h i blank x y in_b =
       elim (off_or_not (2 ^ quarter + 2 ^ quarter) (x +ℤ pos (2 ^ quarter))) [
         | inl off ↦ outside_x nodes tree (2 ^ quarter) some refl x y off
@@ -131,7 +131,7 @@ module _ (nodes : List Node) (tree : Tree) (some : 1 ≤ tree.level) where
           let g : pos (m / 2 ^ scale) ≡ strip_of scale x +ℤ pos half = sym (ap (strip_of scale) back) ∙ moved x in
           omega (arith, ints)
 
-      to_blank_in : IsBlank (cell nodes tree) scale column row → IsBlankIn (cell_of nodes tree.level tree.root) scale u v
+      to_blank_in : IsBlankSquare (cell nodes tree) scale column row → IsBlankIn (cell_of nodes tree.level tree.root) scale u v
       to_blank_in blank m n e f =
           let x = pos m -ℤ pos (2 ^ quarter) in
           let y = pos n -ℤ pos (2 ^ quarter) in
@@ -140,7 +140,7 @@ module _ (nodes : List Node) (tree : Tree) (some : 1 ≤ tree.level) where
           sym (ap₂ (from_corner (cell_of nodes tree.level tree.root)) back_x back_y)
           ∙ blank x y (record { is_column = strip_in m u column at_u e; is_row = strip_in n v row at_v f })
 
-      from_blank_in : IsBlankIn (cell_of nodes tree.level tree.root) scale u v → IsBlank (cell nodes tree) scale column row
+      from_blank_in : IsBlankIn (cell_of nodes tree.level tree.root) scale u v → IsBlankSquare (cell nodes tree) scale column row
       from_blank_in blank x y h =
           let a = from_0 scale (x +ℤ pos (2 ^ quarter)) u (moved x ∙ (ap (λ s. s +ℤ pos half) h.is_column ∙ at_u)) in
           let b = from_0 scale (y +ℤ pos (2 ^ quarter)) v (moved y ∙ (ap (λ s. s +ℤ pos half) h.is_row ∙ at_v)) in

@@ -3,7 +3,7 @@ use Rattle.std.proofs.Common.{◌≡◌, ◌≢◌, ℕ, zero, suc, ◌⊎◌, i
 use Rattle.std.proofs.lemmas.Bool.{cases_Bool, or_cases, or_parts}
 use Rattle.std.proofs.lemmas.Bool.Decides.{nat_tests}
 use Rattle.ca_draw.specs.Windows.{strip_of, IsInSquare}
-use Rattle.ca_draw.specs.Marks.{IsBlank, HasLive, has_live}
+use Rattle.ca_draw.specs.Marks.{IsBlankSquare, IsLiveSquare, has_live}
 use Rattle.ca_draw.proofs.Strips.{strip-zero, strip-suc, half_cases, half_even, half_odd}
 
 live_cell : (s : ℕ) → nat_lt 0 s ≡ true → s ≢ 0
@@ -38,7 +38,7 @@ module _ (k : ℕ) (column row : ℤ) where
 
 module _ (cells : ℤ → ℤ → ℕ) where
   -- a live cell where there is said to be one
-  pub live_there : (k : ℕ) (column row : ℤ) → has_live cells k column row ≡ true → HasLive cells k column row
+  pub live_there : (k : ℕ) (column row : ℤ) → has_live cells k column row ≡ true → IsLiveSquare cells k column row
   live_there zero column row e = (column, row, record { is_column = strip-zero column; is_row = strip-zero row }, live_cell (cells column row) e)
   live_there (suc k) column row e =
       let x = column +ℤ column in
@@ -57,7 +57,7 @@ module _ (cells : ℤ → ℤ → ℕ) where
       ]
 
   -- and none where there is not
-  pub blank_there : (k : ℕ) (column row : ℤ) → has_live cells k column row ≡ false → IsBlank cells k column row
+  pub blank_there : (k : ℕ) (column row : ℤ) → has_live cells k column row ≡ false → IsBlankSquare cells k column row
   blank_there zero column row e x y h =
       let a : x ≡ column = sym (strip-zero x) ∙ h.is_column in
       let b : y ≡ row = sym (strip-zero y) ∙ h.is_row in
@@ -82,7 +82,7 @@ module _ (cells : ℤ → ℤ → ℕ) where
       ]
 
   -- a square that is blank has none
-  pub none_there : (k : ℕ) (column row : ℤ) → IsBlank cells k column row → has_live cells k column row ≡ false
+  pub none_there : (k : ℕ) (column row : ℤ) → IsBlankSquare cells k column row → has_live cells k column row ≡ false
   none_there k column row h =
       elim (cases_Bool (has_live cells k column row)) [
         | inl e ↦ let l = live_there k column row e in absurd (l.3 (h l.0 l.1 l.2))

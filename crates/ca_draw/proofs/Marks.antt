@@ -2,7 +2,7 @@
 use Rattle.std.proofs.Common.{◌≡◌, ℕ, zero, suc, ◌==◌, ◌&&◌, ◌↔◌, Bool, true, false, nat_lt, inl, inr, ℤ, refl, sym, ap, subst, ◌∙◌, arith}
 use Rattle.std.proofs.lemmas.Bool.{cases_Bool, eqb-true, and_parts}
 use Rattle.ca_draw.specs.declared.mark.Mark.TheVariants.{Dead, Live}
-use Rattle.ca_draw.specs.Marks.{IsBlank, HasLive, has_live, live_mark, state_mark, mark_of}
+use Rattle.ca_draw.specs.Marks.{IsBlankSquare, IsLiveSquare, has_live, live_mark, state_mark, mark_of}
 use Rattle.ca_draw.proofs.Strips.{strip-zero}
 use Rattle.ca_draw.proofs.Lives.{live_there, blank_there, none_there}
 
@@ -23,7 +23,7 @@ no_live_state zero e = grind arith
 no_live_state (suc s) e = grind arith
 
 -- a square at scale 0 is one cell
-one_cell : (cells : ℤ → ℤ → ℕ) (column row : ℤ) → cells column row ≡ 0 → IsBlank cells 0 column row
+one_cell : (cells : ℤ → ℤ → ℕ) (column row : ℤ) → cells column row ≡ 0 → IsBlankSquare cells 0 column row
 one_cell cells column row e x y h =
     let a : x ≡ column = sym (strip-zero x) ∙ h.is_column in
     let b : y ≡ row = sym (strip-zero y) ∙ h.is_row in
@@ -35,12 +35,12 @@ of_state cells states scale column row t = (eqb-true _ _ (and_parts (scale == 0)
 of_live : (cells : ℤ → ℤ → ℕ) (states scale : ℕ) (column row : ℤ) → ((scale == 0) && nat_lt 2 states) ≡ false → mark_of cells states scale column row ≡ live_mark (has_live cells scale column row)
 of_live cells states scale column row t = rw t refl
 
-pub dead_iff_blank : (cells : ℤ → ℤ → ℕ) (states scale : ℕ) (column row : ℤ) → (mark_of cells states scale column row ≡ Dead) ↔ IsBlank cells scale column row
+pub dead_iff_blank : (cells : ℤ → ℤ → ℕ) (states scale : ℕ) (column row : ℤ) → (mark_of cells states scale column row ≡ Dead) ↔ IsBlankSquare cells scale column row
 dead_iff_blank cells states scale column row =
     elim (cases_Bool ((scale == 0) && nat_lt 2 states)) [
       | inl t ↦
           let s = of_state cells states scale column row t in (
-            λ e. subst (λ k. IsBlank cells k column row) (sym s.0) (one_cell cells column row (dead_state (cells column row) (sym s.1 ∙ e))),
+            λ e. subst (λ k. IsBlankSquare cells k column row) (sym s.0) (one_cell cells column row (dead_state (cells column row) (sym s.1 ∙ e))),
             λ b. s.1 ∙ ap state_mark (b column row (record { is_column = rw s.0 (strip-zero column); is_row = rw s.0 (strip-zero row) })),
           )
       | inr t ↦
@@ -50,7 +50,7 @@ dead_iff_blank cells states scale column row =
           )
     ]
 
-pub live_mark_there : (cells : ℤ → ℤ → ℕ) (states scale : ℕ) (column row : ℤ) → mark_of cells states scale column row ≡ Live → HasLive cells scale column row
+pub live_mark_there : (cells : ℤ → ℤ → ℕ) (states scale : ℕ) (column row : ℤ) → mark_of cells states scale column row ≡ Live → IsLiveSquare cells scale column row
 live_mark_there cells states scale column row e =
     elim (cases_Bool ((scale == 0) && nat_lt 2 states)) [
       | inl t ↦

@@ -4,16 +4,16 @@ use Rattle.std.proofs.lemmas.Bool.Decides.{nat_tests}
 use Rattle.std.proofs.lemmas.Nat.{le-div, div_below}
 use Rattle.std.proofs.Math.Nat.{div-mul-le_self, suc-mul}
 use Rattle.ca_quad.proofs.Growth.{below_or_not}
-use Rattle.ca_draw.specs.Marks.{state_mark, state_grey, letter, grey}
+use Rattle.ca_draw.specs.Marks.{state_mark, state_grey, mark_letter, mark_grey}
 
 -- the letters of three kinds of states
-low_letter : (a : ℕ) → suc a < 25 → letter (state_mark (suc a)) ≡ 64 + suc a
+low_letter : (a : ℕ) → suc a < 25 → mark_letter (state_mark (suc a)) ≡ 64 + suc a
 low_letter a h = grind (arith, nat_tests)
 
-high_letter : (a : ℕ) → 25 ≤ suc a → suc a < 49 → letter (state_mark (suc a)) ≡ 72 + suc a
+high_letter : (a : ℕ) → 25 ≤ suc a → suc a < 49 → mark_letter (state_mark (suc a)) ≡ 72 + suc a
 high_letter a h i = grind (arith, nat_tests)
 
-letter_cases : (a : ℕ) → a < 49 → ((a ≡ 0) × (letter (state_mark a) ≡ 46)) ⊎ (((1 ≤ a) × (a < 25) × (letter (state_mark a) ≡ 64 + a)) ⊎ ((25 ≤ a) × (letter (state_mark a) ≡ 72 + a)))
+letter_cases : (a : ℕ) → a < 49 → ((a ≡ 0) × (mark_letter (state_mark a) ≡ 46)) ⊎ (((1 ≤ a) × (a < 25) × (mark_letter (state_mark a) ≡ 64 + a)) ⊎ ((25 ≤ a) × (mark_letter (state_mark a) ≡ 72 + a)))
 letter_cases zero h = inl (refl, refl)
 letter_cases (suc a) h =
     elim (below_or_not (suc a) 25) [
@@ -21,7 +21,7 @@ letter_cases (suc a) h =
       | inr i ↦ inr (inr (i, high_letter a i h))
     ]
 
-pub letters_apart : (a b : ℕ) → a < 49 → b < 49 → letter (state_mark a) ≡ letter (state_mark b) → a ≡ b
+pub letters_apart : (a b : ℕ) → a < 49 → b < 49 → mark_letter (state_mark a) ≡ mark_letter (state_mark b) → a ≡ b
 letters_apart a b h i e =
     elim (letter_cases a h) [
       | inl p ↦ elim (letter_cases b i) [ inl q ↦ omega arith | inr q ↦ elim q [ inl r ↦ omega arith | inr r ↦ omega arith ] ]
@@ -31,7 +31,7 @@ letters_apart a b h i e =
       ]
     ]
 
-grey_suc : (states a : ℕ) → grey states (state_mark (suc a)) ≡ state_grey states (suc a)
+grey_suc : (states a : ℕ) → mark_grey states (state_mark (suc a)) ≡ state_grey states (suc a)
 grey_suc states a = grind (arith, nat_tests)
 
 -- the greys of a rule's states
@@ -42,7 +42,7 @@ module _ (states : ℕ) (least : 3 ≤ states) (most : states ≤ 256) where
   is_low : (a : ℕ) → suc a < states → 255 * a / steps < 255
   is_low a h = div_below (255 * a) steps 255 (omega arith) (omega arith)
 
-  grey_is : (a : ℕ) → suc a < states → grey states (state_mark (suc a)) ≡ 255 * a / steps
+  grey_is : (a : ℕ) → suc a < states → mark_grey states (state_mark (suc a)) ≡ 255 * a / steps
   grey_is a h =
       let low = is_low a h in
       let e : suc a - 1 ≡ a = omega arith in
@@ -57,7 +57,7 @@ module _ (states : ℕ) (least : 3 ≤ states) (most : states ≤ 256) where
       let f : suc q ≤ 255 * b / steps = le-div (suc q) (255 * b) steps (omega arith) (omega arith) in
       omega arith
 
-  pub greys_apart : (a b : ℕ) → a < states → b < states → grey states (state_mark a) ≡ grey states (state_mark b) → a ≡ b
+  pub greys_apart : (a b : ℕ) → a < states → b < states → mark_grey states (state_mark a) ≡ mark_grey states (state_mark b) → a ≡ b
   greys_apart zero zero h i e = refl
   greys_apart zero (suc b) h i e =
       let low = is_low b i in

@@ -5,12 +5,12 @@ use Rattle.ca_draw.specs.declared.mark.Mark.TheVariants.{Dead, Live, State}
 use Rattle.ca_draw.specs.Windows.{IsInSquare}
 
 -- every cell of the square at this column and row is 0
-abbrev pub IsBlank : (ℤ → ℤ → ℕ) → ℕ → ℤ → ℤ → Type 0
-IsBlank cells scale column row = (x y : ℤ) → IsInSquare scale column row x y → cells x y ≡ 0
+abbrev pub IsBlankSquare : (ℤ → ℤ → ℕ) → ℕ → ℤ → ℤ → Type 0
+IsBlankSquare cells scale column row = (x y : ℤ) → IsInSquare scale column row x y → cells x y ≡ 0
 
 -- some cell of it isn't
-abbrev pub HasLive : (ℤ → ℤ → ℕ) → ℕ → ℤ → ℤ → Type 0
-HasLive cells scale column row = (x : ℤ) × (y : ℤ) × IsInSquare scale column row x y × (cells x y ≢ 0)
+abbrev pub IsLiveSquare : (ℤ → ℤ → ℕ) → ℕ → ℤ → ℤ → Type 0
+IsLiveSquare cells scale column row = (x : ℤ) × (y : ℤ) × IsInSquare scale column row x y × (cells x y ≢ 0)
 
 -- whether some cell of it isn't 0: at scale 0 its one cell, and above that one in the four squares that make it.
 -- A law says that this is so exactly where it isn't blank
@@ -38,10 +38,10 @@ abbrev pub state_letter : ℕ → ℕ
 state_letter state = if nat_lt state 25 then 64 + state else (if nat_lt state 49 then 72 + state else 42)
 
 -- the character that is drawn: `.`, `o`, or a state's letter
-abbrev pub letter : Mark → ℕ
-letter Dead = 46
-letter Live = 111
-letter (State state) = state_letter state
+abbrev pub mark_letter : Mark → ℕ
+mark_letter Dead = 46
+mark_letter Live = 111
+mark_letter (State state) = state_letter state
 
 -- the grey of a state (our own): black for 1, and lighter in even steps after that, so that each of a rule's states
 -- has another one, none of them white
@@ -49,7 +49,7 @@ abbrev pub state_grey : ℕ → ℕ → ℕ
 state_grey states state = min (255 * (state - 1) / (max states 2 - 1)) 254
 
 -- the grey that is drawn, from 0, black, to 255, white
-abbrev pub grey : ℕ → Mark → ℕ
-grey states Dead = 255
-grey states Live = 0
-grey states (State state) = state_grey states state
+abbrev pub mark_grey : ℕ → Mark → ℕ
+mark_grey states Dead = 255
+mark_grey states Live = 0
+mark_grey states (State state) = state_grey states state

@@ -50,8 +50,8 @@ pub record IsBox (box : WideBounds) : Type 0 where
   pub x : box.x0 ≤ℤ box.x1
   pub y : box.y0 ≤ℤ box.y1
 
--- it lies as near to 0 as the largest tree's cells
-pub record IsInReach (box : WideBounds) : Type 0 where
+-- it is a box that a tree's cells may have: it lies as near to 0 as the largest tree's cells
+pub record IsTreeBox (box : WideBounds) : Type 0 where
   pub west : neg_ℤ (pos (2 ^ 124)) ≤ℤ box.x0
   pub east : box.x1 <ℤ pos (2 ^ 124)
   pub north : neg_ℤ (pos (2 ^ 124)) ≤ℤ box.y0

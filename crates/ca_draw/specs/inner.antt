@@ -1,3 +1,3 @@
 -- What only private contracts speak of.
-pub mod Spans
+pub mod Strips
 pub mod Blanks

@@ -5,7 +5,7 @@ ghost use Rattle.ca_plane.specs.Puts.{Puts};
 ghost use Rattle.ca_quad.specs.Trees.{IsTree, cell};
 ghost use Rattle.ca_draw.specs.Windows.{IsWindow};
 ghost use Rattle.ca_draw.specs.Marks.{mark_of};
-ghost use Rattle.ca_draw.specs.Drawings.{byte_of, front, row_end, row_of, drawing};
+ghost use Rattle.ca_draw.specs.Drawings.{byte_of_mark, drawing_front, row_end, drawing_row, drawing};
 
 use crate::mark::Mark;
 use crate::squares::mark_at;
@@ -17,7 +17,7 @@ use std::alloc::Global;
 
 /// What a picture is written as.
 #[derive(Clone, Copy, Debug, PartialEq, Eq)]
-pub enum Format {
+pub enum ImageFormat {
     /// Lines of characters, each ended by LF: `.` for a square without live cells, and `o` for one with some.
     /// States that are told apart are `A` to `X` for 1 to 24, `a` to `x` for 25 to 48, and `*` above that.
     Text,
@@ -29,7 +29,7 @@ pub enum Format {
 /// How squares are drawn.
 #[derive(Clone, Copy, Debug, PartialEq, Eq)]
 pub struct Style {
-    pub format: Format,
+    pub format: ImageFormat,
     /// A rule's number of states. Where it is above 2, they are told apart at scale 0.
     pub states: u16,
 }
@@ -63,18 +63,18 @@ pub fn draw(
 }
 
 // Puts what stands before the first row.
-fn push_front(out: &mut Vec<u8>, window: Window, format: Format) -> Result<(), Memory>
-    ensures { OnOk result (Puts out.old.items out.new.items (front format window)) }
+fn push_front(out: &mut Vec<u8>, window: Window, format: ImageFormat) -> Result<(), Memory>
+    ensures { OnOk result (Puts out.old.items out.new.items (drawing_front format window)) }
 {
     match format {
-        Format::Text => Ok(()),
-        Format::Pgm => push_sizes(out, window),
+        ImageFormat::Text => Ok(()),
+        ImageFormat::Pgm => push_sizes(out, window),
     }
 }
 
 // Puts the first lines of an image.
 fn push_sizes(out: &mut Vec<u8>, window: Window) -> Result<(), Memory>
-    ensures { OnOk result (Puts out.old.items out.new.items (front Format.Pgm window)) }
+    ensures { OnOk result (Puts out.old.items out.new.items (drawing_front ImageFormat.Pgm window)) }
 {
     push_text(out, b"P5\n")?;
     push_number(out, u64::from(window.width))?;
@@ -96,7 +96,7 @@ fn push_row(
     requires window { IsWindow window }
     requires row { row < window.height }
     ensures { OnOk result (Puts out.old.items out.new.items
-        (row_of style (cell store.now tree.now) window row)) }
+        (drawing_row style (cell store.now tree.now) window row)) }
 {
     'columns: for column in 0..window.width {
         push_text(out, &[byte_at(store, tree, window, style, column, row)])?;
@@ -110,7 +110,7 @@ fn byte_at(store: &Store, tree: &Tree, window: Window, style: Style, column: u16
     requires window { IsWindow window }
     requires column { column < window.width }
     requires row { row < window.height }
-    ensures { result ≡ byte_of style (mark_of (cell store.now tree.now) style.states window.scale
+    ensures { result ≡ byte_of_mark style (mark_of (cell store.now tree.now) style.states window.scale
         (window.column +ℤ pos column) (window.row +ℤ pos row)) }
 {
     let column = window.column + i128::from(column);
@@ -119,23 +119,23 @@ fn byte_at(store: &Store, tree: &Tree, window: Window, style: Style, column: u16
 }
 
 // Puts what ends a row.
-fn push_end(out: &mut Vec<u8>, format: Format) -> Result<(), Memory>
+fn push_end(out: &mut Vec<u8>, format: ImageFormat) -> Result<(), Memory>
     ensures { OnOk result (Puts out.old.items out.new.items (row_end format)) }
 {
     match format {
-        Format::Text => push_text(out, b"\n"),
-        Format::Pgm => Ok(()),
+        ImageFormat::Text => push_text(out, b"\n"),
+        ImageFormat::Pgm => Ok(()),
     }
 }
 
 impl Style {
     // The character or byte of a mark.
     fn byte(self, mark: Mark) -> u8
-        ensures { result ≡ byte_of self mark }
+        ensures { result ≡ byte_of_mark self mark }
     {
         match self.format {
-            Format::Text => mark.letter(),
-            Format::Pgm => mark.grey(self.states),
+            ImageFormat::Text => mark.letter(),
+            ImageFormat::Pgm => mark.grey(self.states),
         }
     }
 }

@@ -6,8 +6,9 @@ ghost use Rattle.ca_quad.specs.Trees.{IsTree, cell};
 ghost use Rattle.ca_quad.specs.Boxes.{IsLeastWideBox};
 ghost use Rattle.ca_draw.specs.declared.mark.Mark.{Mark};
 ghost use Rattle.ca_draw.specs.declared.mark.Mark.TheVariants.{Dead, Live, State};
-ghost use Rattle.ca_draw.specs.Marks.{mark_of, state_mark, letter, grey, IsBlank, HasLive};
-ghost use Rattle.ca_draw.specs.Windows.{IsBox, IsInReach};
+ghost use Rattle.ca_draw.specs.Marks.{mark_of, state_mark, mark_letter, mark_grey};
+ghost use Rattle.ca_draw.specs.Marks.{IsBlankSquare, IsLiveSquare};
+ghost use Rattle.ca_draw.specs.Windows.{IsBox, IsTreeBox};
 ghost use Rattle.ca_draw.specs.declared.drawing.Style.{Style};
 ghost use Rattle.ca_draw.specs.declared.window.Window.{Window};
 ghost use Rattle.ca_draw.specs.Drawings.{drawing};
@@ -18,10 +19,10 @@ use ca_quad::{Store, Tree};
 pub fn true_marks()
     // Dead exactly where every cell of the square is 0.
     ensures dead { (cells : ℤ → ℤ → ℕ) (states scale : ℕ) (column row : ℤ)
-        → (mark_of cells states scale column row ≡ Dead) ↔ IsBlank cells scale column row }
+        → (mark_of cells states scale column row ≡ Dead) ↔ IsBlankSquare cells scale column row }
     // Live only where some cell of it isn't.
     ensures live { (cells : ℤ → ℤ → ℕ) (states scale : ℕ) (column row : ℤ)
-        → mark_of cells states scale column row ≡ Live → HasLive cells scale column row }
+        → mark_of cells states scale column row ≡ Live → IsLiveSquare cells scale column row }
     // A state only at scale 0, where it is that of the one cell.
     ensures state { (cells : ℤ → ℤ → ℕ) (states scale : ℕ) (column row : ℤ) (state : ℕ)
         → mark_of cells states scale column row ≡ State state
@@ -38,20 +39,21 @@ pub fn same_pictures()
 /// fits into any two columns and rows.
 pub fn least_boxes(store: &Store, tree: Tree)
     requires { IsTree store.now tree }
-    ensures { (box : Box) → IsLeastWideBox (cell store.now tree) box → IsBox box × IsInReach box }
+    ensures { (box : Box) → IsLeastWideBox (cell store.now tree) box → IsBox box × IsTreeBox box }
 {
     let _level = store.level(tree.root);
 }
 
 /// The character `.` and the white of an image are those of squares without live cells alone.
 pub fn dead_is_seen()
-    ensures letter { (mark : Mark) → letter mark ≡ 46 → mark ≡ Dead }
-    ensures grey { (states : ℕ) (mark : Mark) → grey states mark ≡ 255 → mark ≡ Dead }
+    ensures letter { (mark : Mark) → mark_letter mark ≡ 46 → mark ≡ Dead }
+    ensures grey { (states : ℕ) (mark : Mark) → mark_grey states mark ≡ 255 → mark ≡ Dead }
 {}
 
 /// At scale 0 the characters tell states up to 48 apart, and the greys all states of a rule.
 pub fn states_are_seen()
-    ensures letters { (a b : ℕ) → a < 49 → b < 49 → letter (state_mark a) ≡ letter (state_mark b) → a ≡ b }
+    ensures letters { (a b : ℕ) → a < 49 → b < 49
+        → mark_letter (state_mark a) ≡ mark_letter (state_mark b) → a ≡ b }
     ensures greys { (states a b : ℕ) → 3 ≤ states → states ≤ 256 → a < states → b < states
-        → grey states (state_mark a) ≡ grey states (state_mark b) → a ≡ b }
+        → mark_grey states (state_mark a) ≡ mark_grey states (state_mark b) → a ≡ b }
 {}

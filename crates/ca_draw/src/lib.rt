@@ -7,5 +7,5 @@ mod mark;
 mod squares;
 mod window;
 
-pub use drawing::{Format, Style, draw};
+pub use drawing::{ImageFormat, Style, draw};
 pub use window::{MOST_SCALE, MOST_SIDE, Window};

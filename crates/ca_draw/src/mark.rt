@@ -1,7 +1,8 @@
 //! What is drawn of one square, and its letters and greys.
 
 ghost use Rattle.std.specs.Prelude.{◌≡◌, ◌≤◌};
-ghost use Rattle.ca_draw.specs.Marks.{state_mark, live_mark, state_letter, state_grey, letter, grey};
+ghost use Rattle.ca_draw.specs.Marks.{state_mark, live_mark, state_letter, state_grey};
+ghost use Rattle.ca_draw.specs.Marks.{mark_letter, mark_grey};
 
 /// What is drawn of a square of cells.
 #[derive(Clone, Copy, Drop)]
@@ -37,7 +38,7 @@ impl Mark {
 
     /// The character that is drawn.
     pub(crate) fn letter(self) -> u8
-        ensures { result ≡ letter self }
+        ensures { result ≡ mark_letter self }
     {
         match self {
             Mark::Dead => b'.',
@@ -48,7 +49,7 @@ impl Mark {
 
     /// The grey that is drawn, where so many states are told apart.
     pub(crate) fn grey(self, states: u16) -> u8
-        ensures { result ≡ grey states self }
+        ensures { result ≡ mark_grey states self }
     {
         match self {
             Mark::Dead => 255,

@@ -3,8 +3,8 @@
 ghost use Rattle.std.specs.Prelude.{◌≡◌, ℕ, ℤ, pos, neg_ℤ, ◌+ℤ◌, ◌-ℤ◌, ◌≤ℤ◌, ◌<ℤ◌, ◌^◌};
 ghost use Rattle.std.specs.Prelude.{◌≤◌, ◌<◌, ◌↔◌, IsTrue, IfSome, IfNone, IsSome};
 ghost use Rattle.ca_draw.specs.Windows.{strip_of, IsInSquare, IsWindow, IsBox};
-ghost use Rattle.ca_draw.specs.Windows.{IsInReach, ShowsBox, window_at};
-ghost use Rattle.ca_draw.specs.inner.Spans.{IsSpan, Spans};
+ghost use Rattle.ca_draw.specs.Windows.{IsTreeBox, ShowsBox, window_at};
+ghost use Rattle.ca_draw.specs.inner.Strips.{AreStrips, AreStripsBetween};
 
 use ca_quad::{Spot, WideBounds};
 
@@ -36,7 +36,7 @@ pub struct Window {
 
 // Columns or rows, one beside the other.
 #[derive(Clone, Copy)]
-struct Span {
+struct Strips {
     first: i128,
     count: u16,
 }
@@ -47,8 +47,8 @@ impl Window {
         ensures { IsTrue result ↔ IsWindow self }
     {
         self.scale <= MOST_SCALE
-            && is_span(self.column, self.width)
-            && is_span(self.row, self.height)
+            && are_strips(self.column, self.width)
+            && are_strips(self.row, self.height)
     }
 
     /// The window whose square in the north-west has this cell, where it is within the limits.
@@ -89,7 +89,7 @@ impl Window {
         // None does at all, which can't be where two columns and rows are allowed and the box is one of a
         // tree.
         ensures none { IfNone result ((other : Window) → ShowsBox bounds columns rows other → ⊥) }
-        ensures some { IsInReach bounds → 2 ≤ columns → 2 ≤ rows → IsSome result }
+        ensures some { IsTreeBox bounds → 2 ≤ columns → 2 ≤ rows → IsSome result }
     {
         'scales: for scale in 0..MOST_SCALE + 1 {
             if let Some(window) = at_scale(bounds, columns, rows, scale) {
@@ -120,18 +120,18 @@ impl Window {
 }
 
 // Whether so many columns or rows from this one on may be those of a window.
-fn is_span(first: i128, count: u16) -> bool
-    ensures { IsTrue result ↔ IsSpan first count }
+fn are_strips(first: i128, count: u16) -> bool
+    ensures { IsTrue result ↔ AreStrips first count }
 {
     1 <= count && count <= MOST_SIDE && -REACH <= first && first <= REACH - i128::from(count)
 }
 
 // The columns from that of an x to that of another, or the rows of two y, where they are at most so many.
-fn span_of(scale: u8, from: i128, to: i128, most: u16) -> Option<Span>
+fn strips_between(scale: u8, from: i128, to: i128, most: u16) -> Option<Strips>
     requires scale { scale ≤ 124 }
     requires order { from ≤ℤ to }
-    ensures span { IfSome result (λ s. Spans scale from to s.first s.count × (s.count ≤ most)) }
-    ensures none { IfNone result ((first : ℤ) (count : ℕ) → IsSpan first count → count ≤ most
+    ensures span { IfSome result (λ s. AreStripsBetween scale from to s.first s.count × (s.count ≤ most)) }
+    ensures none { IfNone result ((first : ℤ) (count : ℕ) → AreStrips first count → count ≤ most
         → first ≤ℤ strip_of scale from → strip_of scale to <ℤ (first +ℤ pos count) → ⊥) }
 {
     let first = strip(scale, from);
@@ -143,7 +143,7 @@ fn span_of(scale: u8, from: i128, to: i128, most: u16) -> Option<Span>
     if count > u128::from(most.min(MOST_SIDE)) {
         return None;
     }
-    Some(Span {
+    Some(Strips {
         first,
         count: count as u16,
     })
@@ -179,10 +179,10 @@ fn at_scale(bounds: WideBounds, columns: u16, rows: u16, scale: u8) -> Option<Wi
     ensures none { IfNone result ((other : Window) → other.scale ≡ scale
         → ShowsBox bounds columns rows other → ⊥) }
 {
-    let Some(across) = span_of(scale, bounds.x0, bounds.x1, columns) else {
+    let Some(across) = strips_between(scale, bounds.x0, bounds.x1, columns) else {
         return None;
     };
-    let Some(down) = span_of(scale, bounds.y0, bounds.y1, rows) else {
+    let Some(down) = strips_between(scale, bounds.y0, bounds.y1, rows) else {
         return None;
     };
     Some(Window {

@@ -5,7 +5,7 @@ use Rattle.std.proofs.lemmas.Bool.{cases_Bool, eqb-true}
 use Rattle.std.proofs.lemmas.Grind.{flat_map-append}
 use Rattle.std.proofs.lemmas.List.{take_all}
 use Rattle.ca_plane.specs.Puts.{Puts}
-use Rattle.ca_macro.specs.Nodes.{mark_of}
+use Rattle.ca_macro.specs.Nodes.{leaf_mark}
 use Rattle.ca_macro.specs.declared.write.written.Written.{Written}
 use Rattle.ca_macro.specs.Tidy.{node_text}
 use Rattle.ca_macro.specs.inner.Written.{row_of, node_of}
@@ -21,9 +21,9 @@ pub lines_as : (ns : List Written) → flat_map (λ n. node_text (node_of n) ++ 
 lines_as [] = refl
 lines_as (n ∷ ns) = ap (λ l. (node_text (node_of n) ++ 10 ∷ []) ++ l) (lines_as ns)
 
-pub rows_as : (rows : List ℕ) → flat_map (λ (row : ℕ). map mark_of (row_of 8 row) ++ 36 ∷ []) rows ≡ flat_map (λ row. map mark_of row ++ 36 ∷ []) (map (row_of 8) rows)
+pub rows_as : (rows : List ℕ) → flat_map (λ (row : ℕ). map leaf_mark (row_of 8 row) ++ 36 ∷ []) rows ≡ flat_map (λ row. map leaf_mark row ++ 36 ∷ []) (map (row_of 8) rows)
 rows_as [] = refl
-rows_as (r ∷ rs) = ap (λ l. (map mark_of (row_of 8 r) ++ 36 ∷ []) ++ l) (rows_as rs)
+rows_as (r ∷ rs) = ap (λ l. (map leaf_mark (row_of 8 r) ++ 36 ∷ []) ++ l) (rows_as rs)
 
 abbrev ended : List ℕ → List ℕ
 ended line = line ++ 10 ∷ []
@@ -40,7 +40,7 @@ pub unequal : (a b : ℕ) → (a ≡ b → ⊥) → (a == b) ≡ false
 unequal a b h = elim (cases_Bool (a == b)) [ inl e ↦ absurd (h (eqb-true a b e)) | inr e ↦ e ]
 
 -- a row's first cell, and the others
-pub row_step : (width bits : ℕ) (more : List ℕ) → (width ≡ 0 → ⊥) → (bits ≡ 0 → ⊥) → mark_of (bits % 2 == 1) ∷ (map mark_of (row_of (width - 1) (bits / 2)) ++ more) ≡ map mark_of (row_of width bits) ++ more
+pub row_step : (width bits : ℕ) (more : List ℕ) → (width ≡ 0 → ⊥) → (bits ≡ 0 → ⊥) → leaf_mark (bits % 2 == 1) ∷ (map leaf_mark (row_of (width - 1) (bits / 2)) ++ more) ≡ map leaf_mark (row_of width bits) ++ more
 row_step zero bits more w b = absurd (w refl)
 row_step (suc width) bits more w b =
     let e : suc width - 1 ≡ width = omega arith in

@@ -7,7 +7,7 @@ use Rattle.ca_plane.specs.Bytes.{Every, is_blank, is_line_end, is_digit, is_word
 use Rattle.ca_plane.proofs.Fronts.{every_append, every_wider, every_digit, every_word_byte}
 use Rattle.ca_plane.proofs.FirstWords.{word_from}
 use Rattle.ca_plane.proofs.Lines.{lines_ahead, words_ahead, words_next}
-use Rattle.ca_macro.specs.Nodes.{Node, Leaf, Cells, Parts, mark_of, leaf_rows, MayFollow}
+use Rattle.ca_macro.specs.Nodes.{Node, Leaf, Cells, Parts, leaf_mark, leaf_rows, MayFollow}
 use Rattle.ca_macro.specs.File.{Adds, Rule, Generation, IsNumber, MacrocellWordsSay}
 use Rattle.ca_macro.specs.Tidy.{HasForm, numbers_text, node_text}
 use Rattle.ca_plane.proofs.Decimals.{decimal_writes}
@@ -61,31 +61,31 @@ numbers_line (n ∷ m ∷ ns) a =
 -- ---- leaves
 
 abbrev leaf_text : List (List Bool) → List ℕ
-leaf_text rows = flat_map (λ row. map mark_of row ++ 36 ∷ []) rows
+leaf_text rows = flat_map (λ row. map leaf_mark row ++ 36 ∷ []) rows
 
-row_before : (row : List Bool) (more : List ℕ) → leaf_rows ((map mark_of row ++ 36 ∷ []) ++ more) ≡ map mark_of row ∷ leaf_rows more
+row_before : (row : List Bool) (more : List ℕ) → leaf_rows ((map leaf_mark row ++ 36 ∷ []) ++ more) ≡ map leaf_mark row ∷ leaf_rows more
 row_before [] more = refl
 row_before (true ∷ row) more = ap (with_front 42) (row_before row more)
 row_before (false ∷ row) more = ap (with_front 46) (row_before row more)
 
-rows_read : (rows : List (List Bool)) → leaf_rows (leaf_text rows) ≡ map (map mark_of) rows
+rows_read : (rows : List (List Bool)) → leaf_rows (leaf_text rows) ≡ map (map leaf_mark) rows
 rows_read [] = refl
-rows_read (row ∷ rows) = row_before row (leaf_text rows) ∙ ap (λ l. map mark_of row ∷ l) (rows_read rows)
+rows_read (row ∷ rows) = row_before row (leaf_text rows) ∙ ap (λ l. map leaf_mark row ∷ l) (rows_read rows)
 
-row_bytes : (row : List Bool) → Every is_word_byte (map mark_of row ++ 36 ∷ [])
+row_bytes : (row : List Bool) → Every is_word_byte (map leaf_mark row ++ 36 ∷ [])
 row_bytes [] = refl
 row_bytes (true ∷ row) = row_bytes row
 row_bytes (false ∷ row) = row_bytes row
 
 leaf_bytes : (rows : List (List Bool)) → Every is_word_byte (leaf_text rows)
 leaf_bytes [] = refl
-leaf_bytes (row ∷ rows) = every_append is_word_byte (map mark_of row ++ 36 ∷ []) (leaf_text rows) (row_bytes row) (leaf_bytes rows)
+leaf_bytes (row ∷ rows) = every_append is_word_byte (map leaf_mark row ++ 36 ∷ []) (leaf_text rows) (row_bytes row) (leaf_bytes rows)
 
 leaf_some : (rows : List (List Bool)) → 0 < length rows → 0 < length (leaf_text rows)
 leaf_some [] h = h
 leaf_some (row ∷ rows) h =
-    let e = length-append (map mark_of row ++ 36 ∷ []) (leaf_text rows) in
-    let f = length-append (map mark_of row) (36 ∷ []) in
+    let e = length-append (map leaf_mark row ++ 36 ∷ []) (leaf_text rows) in
+    let f = length-append (map leaf_mark row) (36 ∷ []) in
     omega arith
 
 -- ---- nodes

@@ -18,8 +18,8 @@ node_level (Cells nw ne sw se) = 1
 node_level (Parts level nw ne sw se) = level
 
 -- how a cell of a leaf is written: `*` is live, `.` is dead
-abbrev pub mark_of : Bool → ℕ
-mark_of live = if live then letter "*" else letter "."
+abbrev pub leaf_mark : Bool → ℕ
+leaf_mark live = if live then letter "*" else letter "."
 
 -- the rows that bytes give: `$` ends a row; after the last row it may be left out (our own)
 abbrev pub leaf_rows : List ℕ → List (List ℕ)
@@ -28,7 +28,7 @@ leaf_rows (b ∷ bs) = if b == letter "$" then [] ∷ leaf_rows bs else with_fro
 
 -- the bytes are those of a leaf: at most eight rows of at most eight cells
 pub record IsLeaf (bytes : List ℕ) (rows : List (List Bool)) : Type 0 where
-  pub marks : leaf_rows bytes ≡ map (map mark_of) rows
+  pub marks : leaf_rows bytes ≡ map (map leaf_mark) rows
   pub height : length rows ≤ 8
   pub width : AllByRecursion (λ row. length row ≤ 8) rows
 

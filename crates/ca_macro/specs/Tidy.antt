@@ -4,7 +4,7 @@ use Rattle.std.specs.List.{flat_map, list_all, AllByRecursion, AllPairs, last_or
 use Rattle.ca_plane.specs.Bytes.{letter}
 use Rattle.ca_plane.specs.Plane.{cell}
 use Rattle.ca_quad.specs.Trimmed.{HoldsAll}
-use Rattle.ca_macro.specs.Nodes.{Node, Leaf, Cells, Parts, node_level, mark_of, MayFollow}
+use Rattle.ca_macro.specs.Nodes.{Node, Leaf, Cells, Parts, node_level, leaf_mark, MayFollow}
 use Rattle.ca_macro.specs.Shown.{numbered_square, picture_of_nodes}
 
 -- the least level of a root
@@ -67,7 +67,7 @@ numbers_text numbers = join_with_byte (letter " ") (map decimal numbers)
 
 -- a node as it is written
 abbrev pub node_text : Node → List ℕ
-node_text (Leaf rows) = flat_map (λ row. map mark_of row ++ codes "$") rows
+node_text (Leaf rows) = flat_map (λ row. map leaf_mark row ++ codes "$") rows
 node_text (Cells nw ne sw se) = numbers_text (1 ∷ nw ∷ ne ∷ sw ∷ se ∷ [])
 node_text (Parts level nw ne sw se) = numbers_text (level ∷ nw ∷ ne ∷ sw ∷ se ∷ [])
 

@@ -3,8 +3,8 @@ use Rattle.std.specs.Prelude.{◌≡◌, ◌⊎◌, ℕ, ◌≤◌, ℤ, pos, �
 use Rattle.ca_quad.specs.declared.tree.Spot.{Spot}
 use Rattle.ca_quad.specs.declared.tree.WideBounds.{WideBounds}
 use Rattle.ca_quad.specs.Boxes.{IsDead, IsLeastWideBox}
-use Rattle.ca_draw.specs.declared.drawing.Format.{Format}
-use Rattle.ca_draw.specs.declared.drawing.Format.TheVariants.{Text, Pgm}
+use Rattle.ca_draw.specs.declared.drawing.ImageFormat.{ImageFormat}
+use Rattle.ca_draw.specs.declared.drawing.ImageFormat.TheVariants.{Text, Pgm}
 use Rattle.ca_draw.specs.declared.window.Window.{Window}
 use Rattle.ca_draw.specs.Windows.{IsInSquare, IsWindow, ShowsBox, window_at}
 use Rattle.ca_tool.specs.declared.view.Size.{Size}
@@ -18,7 +18,7 @@ IsBoxShown cells box = IsLeastWideBox cells box
     ⊎ (IsDead cells × (box ≡ record { x0 = pos 0; y0 = pos 0; x1 = pos 0; y1 = pos 0 }))
 
 -- the size that is taken where none is asked for (our own): 80 by 40 characters, or 1024 by 1024 pixels
-abbrev pub usual_size : Format → Size
+abbrev pub usual_size : ImageFormat → Size
 usual_size Text = record { width = 80; height = 40 }
 usual_size Pgm = record { width = 1024; height = 1024 }
 
@@ -27,13 +27,13 @@ abbrev pub most_size : Size
 most_size = record { width = 8192; height = 8192 }
 
 -- the same for a corner and a scale, where these are asked for: a whole box at a given scale may be as large as any
-abbrev pub other_size : Option Spot → Option ℕ → Format → Size
+abbrev pub other_size : Option Spot → Option ℕ → ImageFormat → Size
 other_size None (Some scale) format = most_size
 other_size None None format = usual_size format
 other_size (Some corner) scale format = usual_size format
 
 -- the size that a window has, or at most has
-abbrev pub size_of : View → Format → Size
+abbrev pub size_of : View → ImageFormat → Size
 size_of view format = unwrap_or view.size (other_size view.corner view.scale format)
 
 -- the window shows the whole box in a size at most, and has no column and no row without a cell of the box
@@ -61,7 +61,7 @@ abbrev pub IsWindowFrom : Option Spot → Option ℕ → Size → WideBounds →
 IsWindowFrom (Some corner) scale size box window = (window ≡ window_from corner scale size) × IsWindow window
 IsWindowFrom None scale size box window = ShowsWhole box size window × HasScale scale box size window
 
-abbrev pub IsWindowFor : View → Format → WideBounds → Window → Type 0
+abbrev pub IsWindowFor : View → ImageFormat → WideBounds → Window → Type 0
 IsWindowFor view format box window = IsWindowFrom view.corner view.scale (size_of view format) box window
 
 -- why there is no such window: the one that begins with the corner isn't within the limits; or the whole box doesn't fit into the size
@@ -71,5 +71,5 @@ IsNoWindowFrom (Some corner) scale size box TooLarge = ⊥
 IsNoWindowFrom None scale size box Range = ⊥
 IsNoWindowFrom None scale size box TooLarge = HasNoScale scale box size
 
-abbrev pub IsNoWindowFor : View → Format → WideBounds → WindowFault → Type 0
+abbrev pub IsNoWindowFor : View → ImageFormat → WideBounds → WindowFault → Type 0
 IsNoWindowFor view format box fault = IsNoWindowFrom view.corner view.scale (size_of view format) box fault

@@ -16,7 +16,7 @@ use crate::pattern_run::{known_table, tables_of, write};
 use crate::view::View;
 use ca_claims::{Limits, Observer, run_on};
 use ca_draw::laws::least_boxes;
-use ca_draw::{Format, Style, draw};
+use ca_draw::{ImageFormat, Style, draw};
 use ca_plane::{Automaton, Dev, Memory};
 use ca_quad::{Store, Tree, WideBounds};
 use ca_rule::Table;
@@ -29,7 +29,7 @@ pub struct DrawRequest {
     /// The window.
     pub view: View,
     /// What the picture is written as.
-    pub format: Format,
+    pub format: ImageFormat,
     /// How many generations the pattern is taken on before it is drawn: at most 2^60.
     pub generations: u64,
     /// How much that may take.

@@ -5,7 +5,7 @@ ghost use Rattle.ca_draw.specs.Windows.{IsBox};
 ghost use Rattle.ca_tool.specs.Views.{usual_size, other_size, size_of, IsWindowFor, IsNoWindowFor};
 ghost use Rattle.ca_tool.specs.Views.{IsWindowFrom, IsNoWindowFrom};
 
-use ca_draw::{Format, MOST_SIDE, Window};
+use ca_draw::{ImageFormat, MOST_SIDE, Window};
 use ca_quad::{Spot, WideBounds};
 use thiserror::Error;
 
@@ -51,7 +51,7 @@ impl View {
     /// # Errors
     ///
     /// `Range` where there is a corner, and `TooLarge` where there is none.
-    pub fn window(self, format: Format, bounds: WideBounds) -> Result<Window, WindowFault>
+    pub fn window(self, format: ImageFormat, bounds: WideBounds) -> Result<Window, WindowFault>
         requires { IsBox bounds }
         ensures { MatchResult result (IsWindowFor self format bounds) (IsNoWindowFor self format bounds) }
     {
@@ -63,7 +63,7 @@ impl View {
     }
 
     // The size that a window has, or at most has.
-    fn size(self, format: Format) -> Size
+    fn size(self, format: ImageFormat) -> Size
         ensures { result ≡ size_of self format }
     {
         self.size
@@ -72,7 +72,7 @@ impl View {
 }
 
 // The size that is taken where none is asked for.
-fn other_size(corner: Option<Spot>, scale: Option<u8>, format: Format) -> Size
+fn other_size(corner: Option<Spot>, scale: Option<u8>, format: ImageFormat) -> Size
     ensures { result ≡ other_size corner scale format }
 {
     match (corner, scale) {
@@ -84,15 +84,15 @@ fn other_size(corner: Option<Spot>, scale: Option<u8>, format: Format) -> Size
     }
 }
 
-fn usual_size(format: Format) -> Size
+fn usual_size(format: ImageFormat) -> Size
     ensures { result ≡ usual_size format }
 {
     match format {
-        Format::Text => Size {
+        ImageFormat::Text => Size {
             width: 80,
             height: 40,
         },
-        Format::Pgm => Size {
+        ImageFormat::Pgm => Size {
             width: 1024,
             height: 1024,
         },

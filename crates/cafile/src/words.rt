@@ -6,7 +6,7 @@ ghost use Rattle.ca_claims.specs.Text.{longest_period};
 
 use crate::texts;
 use ca_claims::{Limits, MOST_MEMO, Target};
-use ca_draw::{Format, MOST_SIDE};
+use ca_draw::{ImageFormat, MOST_SIDE};
 use ca_quad::Spot;
 use ca_tool::{DrawRequest, Size, View};
 use clap::error::ErrorKind;
@@ -90,7 +90,7 @@ pub struct DrawWords {
     /// The window.
     pub view: View,
     /// What the picture is written as.
-    pub format: Format,
+    pub format: ImageFormat,
 }
 
 impl DrawWords {
@@ -588,8 +588,8 @@ fn draw_words(alloc: Global, words: &ArgMatches<'_>) -> Result<DrawWords, WordsF
         scale,
     };
     let format = match words.get_str("to") {
-        Some("pgm") => Format::Pgm,
-        _ => Format::Text,
+        Some("pgm") => ImageFormat::Pgm,
+        _ => ImageFormat::Text,
     };
     Ok(DrawWords { view, format })
 }

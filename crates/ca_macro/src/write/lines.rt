@@ -3,7 +3,7 @@
 ghost use Rattle.std.specs.Prelude.{◌≡◌, ◌++◌, ◌∷◌, [], ℕ, List, map, codes, decimal, OnOk};
 ghost use Rattle.std.specs.List.{flat_map};
 ghost use Rattle.ca_plane.specs.Puts.{Puts};
-ghost use Rattle.ca_macro.specs.Nodes.{mark_of};
+ghost use Rattle.ca_macro.specs.Nodes.{leaf_mark};
 ghost use Rattle.ca_macro.specs.Tidy.{numbers_text, node_text, generation_lines, tidy_lines};
 ghost use Rattle.ca_macro.specs.inner.Written.{row_of, node_of};
 
@@ -13,7 +13,7 @@ use ca_plane::text::{push_number, push_text};
 
 /// How a cell of a leaf is written.
 fn mark(live: bool) -> u8
-    ensures { result ≡ mark_of live }
+    ensures { result ≡ leaf_mark live }
 {
     if live {
         return b'*';
@@ -23,7 +23,7 @@ fn mark(live: bool) -> u8
 
 /// Puts the cells of a row after what `out` holds, and `$`.
 fn push_row(out: &mut Vec<u8>, row: u8, width: u8) -> Result<(), Memory>
-    ensures { OnOk result (Puts out.old.items out.new.items (map mark_of (row_of width row) ++ codes "$")) }
+    ensures { OnOk result (Puts out.old.items out.new.items (map leaf_mark (row_of width row) ++ codes "$")) }
 {
     if width == 0 || row == 0 {
         return push_text(out, b"$");
@@ -34,7 +34,7 @@ fn push_row(out: &mut Vec<u8>, row: u8, width: u8) -> Result<(), Memory>
 
 fn push_rows(out: &mut Vec<u8>, rows: &[u8; 8]) -> Result<(), Memory>
     ensures { OnOk result (Puts out.old.items out.new.items
-        (flat_map (λ row. map mark_of row ++ codes "$") (map (row_of 8) rows.now))) }
+        (flat_map (λ row. map leaf_mark row ++ codes "$") (map (row_of 8) rows.now))) }
 {
     'rows: for row in rows {
         push_row(out, *row, 8)?;

@@ -2,7 +2,7 @@
 
 use super::expected::{Cell, GLIDER, expect, plane_of};
 use super::squares::raised;
-use ca_draw::{Format, Style, Window, draw};
+use ca_draw::{ImageFormat, Style, Window, draw};
 use ca_plane::Memory;
 use ca_quad::{Spot, Store, WideBounds};
 use std::alloc::Global;
@@ -30,7 +30,7 @@ const PAIR: &[Cell] = &[
 type View = (u8, (i128, i128, u8, u16, u16), &'static [u8]);
 
 /// Cells, how they are drawn, and pictures of them.
-type Drawing = (&'static [Cell], (Format, u16), &'static [View]);
+type Drawing = (&'static [Cell], (ImageFormat, u16), &'static [View]);
 
 const GLIDER_TEXTS: &[View] = &[
     (1, (0, 0, 0, 3, 3), b".o.\n..o\nooo\n"),
@@ -76,21 +76,21 @@ const PAIR_TEXTS: &[View] = &[(
 )];
 
 const DRAWINGS: &[Drawing] = &[
-    (GLIDER, (Format::Text, 2), GLIDER_TEXTS),
-    (GLIDER, (Format::Pgm, 2), GLIDER_IMAGES),
-    (BLOCK, (Format::Text, 2), BLOCK_TEXTS),
-    (STATES, (Format::Text, 256), STATE_TEXTS),
-    (STATES, (Format::Text, 2), LIVE_TEXTS),
-    (STATES, (Format::Pgm, 256), STATE_IMAGES),
-    (STATES, (Format::Pgm, 3), THREE_STATE_IMAGES),
-    (PAIR, (Format::Text, 2), PAIR_TEXTS),
+    (GLIDER, (ImageFormat::Text, 2), GLIDER_TEXTS),
+    (GLIDER, (ImageFormat::Pgm, 2), GLIDER_IMAGES),
+    (BLOCK, (ImageFormat::Text, 2), BLOCK_TEXTS),
+    (STATES, (ImageFormat::Text, 256), STATE_TEXTS),
+    (STATES, (ImageFormat::Text, 2), LIVE_TEXTS),
+    (STATES, (ImageFormat::Pgm, 256), STATE_IMAGES),
+    (STATES, (ImageFormat::Pgm, 3), THREE_STATE_IMAGES),
+    (PAIR, (ImageFormat::Text, 2), PAIR_TEXTS),
 ];
 
 /// The picture of these cells in a view.
 fn picture(
     alloc: Global,
     cells: &[Cell],
-    style: (Format, u16),
+    style: (ImageFormat, u16),
     view: &View,
 ) -> Result<Vec<u8>, Memory> {
     let (format, states) = style;
@@ -137,7 +137,7 @@ fn large_picture(alloc: Global) -> Result<Vec<u8>, Memory> {
         return Err(Memory);
     };
     let style = Style {
-        format: Format::Text,
+        format: ImageFormat::Text,
         states: 2,
     };
     draw(alloc, &store, tree, window, style)

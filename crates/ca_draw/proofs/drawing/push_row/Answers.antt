@@ -2,7 +2,7 @@ use Rattle.std.proofs.Common.{[], ◌∷◌, ap, arith}
 use Rattle.std.proofs.lemmas.Result.{on_ok_weaker}
 use Rattle.ca_plane.specs.Puts.{Puts}
 use Rattle.ca_quad.specs.Trees.{cell}
-use Rattle.ca_draw.specs.Drawings.{row_of, row_end}
+use Rattle.ca_draw.specs.Drawings.{drawing_row, row_end}
 use Rattle.ca_draw.proofs.Rows.{texts_more, texts_all}
 use Rattle.ca_draw.proofs.drawing.push_row.Goals as goal
 
@@ -14,5 +14,5 @@ returns c =
     let start = c.args.out.now.items in
     let now = c.columns.out.items in
     let new = c.push_end.new.out.items in
-    on_ok_weaker {P = Puts now new (row_end c.args.style.format)} {Q = Puts start new (row_of c.args.style (cell c.args.store.now c.args.tree.now) c.args.window c.args.row)} c.push_end.result
+    on_ok_weaker {P = Puts now new (row_end c.args.style.format)} {Q = Puts start new (drawing_row c.args.style (cell c.args.store.now c.args.tree.now) c.args.window c.args.row)} c.push_end.result
     (λ p. texts_all start now new (row_end c.args.style.format) c.columns.column c.args.window.width _ (omega arith) (omega arith) c.columns.invariant p) c.push_end.ensures

@@ -2,7 +2,7 @@ use Rattle.std.proofs.Common.{FitsSigned, ◌≤ℤ◌, sym, arith, rules}
 use Rattle.std.specs.Int.{w128}
 use Rattle.std.proofs.lemmas.Int.{to_z-of_z, ints}
 use Rattle.ca_draw.proofs.Strips.{strip_mono}
-use Rattle.ca_draw.proofs.window.span_of.Goals as goal
+use Rattle.ca_draw.proofs.window.strips_between.Goals as goal
 
 pub count_of-count-requires-clause-order : goal.count_of-count-requires-clause-order
 count_of-count-requires-clause-order c =
@@ -26,7 +26,7 @@ returns-clause-span c =
     let order : c.strip-first.result ≤ℤ c.strip-last.result = rw (a, b) (strip_mono c.args.scale c.args.from c.args.to c.requires.order) in
     simp (to_z-of_z, f) (
       record {
-        is_span = record { some = omega (arith, ints); most = omega (arith, ints); begins = omega (arith, ints); ends = omega (arith, ints) };
+        are_strips = record { some = omega (arith, ints); most = omega (arith, ints); begins = omega (arith, ints); ends = omega (arith, ints) };
         begins = sym a;
         ends = omega (arith, ints, b);
       },
