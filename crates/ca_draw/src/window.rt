@@ -92,15 +92,15 @@ impl Window {
         ensures some { IsTreeBox bounds → 2 ≤ columns → 2 ≤ rows → IsSome result }
     {
         'scales: for scale in 0..MOST_SCALE + 1 {
-            if let Some(window) = at_scale(bounds, columns, rows, scale) {
+            if let Some(window) = Window::fitting_at(bounds, columns, rows, scale) {
                 return Some(window);
             }
         }
         None
     }
 
-    /// The window of this scale that shows a whole box in so many columns and rows at most, where there is one.
-    /// As a fitting window, it has no column and no row without a cell of the box.
+    /// The window of this scale that shows a whole box in so many columns and rows at most, where there is
+    /// one. As a fitting window, it has no column and no row without a cell of the box.
     pub fn fitting_at(bounds: WideBounds, columns: u16, rows: u16, scale: u8) -> Option<Window>
         requires { IsBox bounds }
         ensures shows { IfSome result (ShowsBox bounds columns rows) }
@@ -112,10 +112,22 @@ impl Window {
         ensures none { IfNone result ((other : Window) → other.scale ≡ scale
             → ShowsBox bounds columns rows other → ⊥) }
     {
-        if scale <= MOST_SCALE {
-            return at_scale(bounds, columns, rows, scale);
+        if scale > MOST_SCALE {
+            return None;
         }
-        None
+        let Some(across) = strips_between(scale, bounds.x0, bounds.x1, columns) else {
+            return None;
+        };
+        let Some(down) = strips_between(scale, bounds.y0, bounds.y1, rows) else {
+            return None;
+        };
+        Some(Window {
+            scale,
+            column: across.first,
+            row: down.first,
+            width: across.count,
+            height: down.count,
+        })
     }
 }
 
@@ -165,31 +177,4 @@ fn strip(scale: u8, n: i128) -> i128
     ensures { result ≡ strip_of scale n }
 {
     n >> scale
-}
-
-// The window of this scale that shows a whole box in so many columns and rows at most.
-fn at_scale(bounds: WideBounds, columns: u16, rows: u16, scale: u8) -> Option<Window>
-    requires order { IsBox bounds }
-    requires scale { scale ≤ 124 }
-    ensures shows { IfSome result (ShowsBox bounds columns rows) }
-    ensures begins { IfSome result (λ w. IsInSquare w.scale w.column w.row bounds.x0 bounds.y0) }
-    ensures ends { IfSome result (λ w. IsInSquare w.scale ((w.column +ℤ pos w.width) -ℤ pos 1)
-        ((w.row +ℤ pos w.height) -ℤ pos 1) bounds.x1 bounds.y1) }
-    ensures scale { IfSome result (λ w. w.scale ≡ scale) }
-    ensures none { IfNone result ((other : Window) → other.scale ≡ scale
-        → ShowsBox bounds columns rows other → ⊥) }
-{
-    let Some(across) = strips_between(scale, bounds.x0, bounds.x1, columns) else {
-        return None;
-    };
-    let Some(down) = strips_between(scale, bounds.y0, bounds.y1, rows) else {
-        return None;
-    };
-    Some(Window {
-        scale,
-        column: across.first,
-        row: down.first,
-        width: across.count,
-        height: down.count,
-    })
 }
