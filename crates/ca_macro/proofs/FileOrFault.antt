@@ -15,7 +15,7 @@ use Rattle.ca_macro.specs.Nodes.{Node, Leaf, Cells, Parts, NamesPart, IsLevel}
 use Rattle.ca_macro.specs.File.{MacrocellLine, Nothing, Rule, Generation, Adds, AreNumbers, MacrocellWordsSay, added, IsAllowedNode, MacrocellLinesSay, MacrocellFile, begins_macro, IsMacrocellFile}
 use Rattle.ca_macro.specs.Faults.{HasMacrocellLine, is_leaf_byte, HasBadPart, AreFaulty, IsFirstMacrocellFault}
 use Rattle.ca_macro.specs.inner.Leaves.{leaf_fault, leaf_cells, IsLeafFault}
-use Rattle.ca_macro.specs.inner.Reading.{file_of}
+use Rattle.ca_macro.specs.inner.Reading.{file_of_lines}
 use Rattle.ca_macro.proofs.Leaves.{leaf_found}
 use Rattle.ca_macro.proofs.LeafLines.{fault_none, fault_found}
 use Rattle.ca_macro.proofs.Verdicts.{are_digits, digits_from_test, digits_test, states_from_test, states_test, names, names_from_test, names_test}
@@ -295,7 +295,7 @@ first_fault bytes Memory h = absurd h.holds
 first_fault bytes f h = h
 
 -- a text whose lines say this is a file
-pub said_file : (bytes first : List ℕ) (lines : List (List ℕ)) (said : List MacrocellLine) → begins_macro bytes ≡ true → lines_of bytes ≡ first ∷ lines → MacrocellLinesSay [] lines said → IsMacrocellFile bytes (file_of said)
+pub said_file : (bytes first : List ℕ) (lines : List (List ℕ)) (said : List MacrocellLine) → begins_macro bytes ≡ true → lines_of bytes ≡ first ∷ lines → MacrocellLinesSay [] lines said → IsMacrocellFile bytes (file_of_lines said)
 said_file bytes first lines said begins are say = record { first = first; lines = lines; said = said; begins = begins; lines_are = are; say = say; nodes = refl; rule_text = refl; generation = refl }
 
 -- a text is a file or has a first fault
@@ -306,7 +306,7 @@ begun : (bytes first : List ℕ) (lines : List (List ℕ)) → begins_macro byte
 begun bytes first lines begins are =
     elim (lines_judged [] lines) [
       | inl h ↦
-          inl (file_of h.0, said_file bytes first lines h.0 begins are h.1)
+          inl (file_of_lines h.0, said_file bytes first lines h.0 begins are h.1)
       | inr bad ↦ inr (bad.fault, first_fault bytes bad.fault (has_line bytes first lines begins are bad))
     ]
 

@@ -20,7 +20,7 @@ use Rattle.ca_macro.specs.declared.write.written.Written.{Written}
 use Rattle.ca_macro.specs.Nodes.{Node, Leaf, Cells, Parts, node_level, NamesPart, MayFollow}
 use Rattle.ca_macro.specs.Shown.{numbered_square, row_from, rows_from, leaf_state, node_picture, squares_of}
 use Rattle.ca_macro.specs.Tidy.{AreInPlace, HasForm, is_empty}
-use Rattle.ca_macro.specs.inner.Written.{node_of, kept_cells, IsPictureOf, IsWrittenNumber, IsNodeOf, IsGathered}
+use Rattle.ca_macro.specs.inner.Written.{node_of, kept_cells, IsPictureOfSquare, IsWrittenNumber, IsNodeOf, IsGathered}
 use Rattle.ca_macro.proofs.Following.{square_stays, square_last, all_append}
 
 -- ---- places in lists of nodes
@@ -95,13 +95,13 @@ square_at ns i d h low =
 
 -- ---- squares with one picture are one
 
-same_shown : (p : Picture) (f g : ℕ → ℕ → ℕ) → IsPictureOf p f → IsPictureOf p g → (x y : ℕ) → f x y ≡ g x y
+same_shown : (p : Picture) (f g : ℕ → ℕ → ℕ) → IsPictureOfSquare p f → IsPictureOfSquare p g → (x y : ℕ) → f x y ≡ g x y
 same_shown p f g a b x y = sym (a (pos x) (pos y)) ∙ b (pos x) (pos y)
 
-one_square : (kept : List Kept) → IsSoundStore kept → (a b : ℕ) → IsIn kept a → IsIn kept b → squares.level_of kept a ≡ squares.level_of kept b → (p : Picture) → IsPictureOf p (kept_cells kept a) → IsPictureOf p (kept_cells kept b) → a ≡ b
+one_square : (kept : List Kept) → IsSoundStore kept → (a b : ℕ) → IsIn kept a → IsIn kept b → squares.level_of kept a ≡ squares.level_of kept b → (p : Picture) → IsPictureOfSquare p (kept_cells kept a) → IsPictureOfSquare p (kept_cells kept b) → a ≡ b
 one_square kept sound a b h i same p f g =
     let level = squares.level_of kept a in
-    let at : IsPictureOf p (squares.cell_of kept level b) = subst (λ l. IsPictureOf p (squares.cell_of kept l b)) (sym same) g in
+    let at : IsPictureOfSquare p (squares.cell_of kept level b) = subst (λ l. IsPictureOfSquare p (squares.cell_of kept l b)) (sym same) g in
     same_cells kept sound level a b (record { before = h; is_level = refl }) (record { before = i; is_level = sym same })
     (same_shown p (kept_cells kept a) (squares.cell_of kept level b) f at)
 
@@ -137,7 +137,7 @@ corner_zero f h (pos x) (negsuc y) = refl
 corner_zero f h (negsuc x) (pos y) = refl
 corner_zero f h (negsuc x) (negsuc y) = refl
 
-live_node : (earlier : List Picture) (node : Node) (f : ℕ → ℕ → ℕ) → IsPictureOf (node_picture earlier node) f → (IsEmpty f → ⊥) → is_empty node ≡ false
+live_node : (earlier : List Picture) (node : Node) (f : ℕ → ℕ → ℕ) → IsPictureOfSquare (node_picture earlier node) f → (IsEmpty f → ⊥) → is_empty node ≡ false
 live_node earlier node f shows live =
     elim (cases_Bool (is_empty node)) [
       | inl e ↦ absurd (live (λ x y. sym (shows (pos x) (pos y)) ∙ ap (λ p. cell p (pos x) (pos y)) (dead_square earlier node e)))
@@ -150,14 +150,14 @@ pub number_goes_on : (kept : List Kept) (ns ms : List Node) (id n : ℕ) → IsW
 number_goes_on kept ns ms id n h = record {
   at_most = let e = length-append ns ms in let f = h.at_most in omega arith;
   names = names_stay ns ms (squares.level_of kept id) n h.names;
-  shows = subst (λ p. IsPictureOf p (kept_cells kept id)) (sym (square_stays ns ms n h.at_most)) h.shows;
+  shows = subst (λ p. IsPictureOfSquare p (kept_cells kept id)) (sym (square_stays ns ms n h.at_most)) h.shows;
 }
 
 pub last_number : (kept : List Kept) (states : ℕ) (ns : List Node) (id : ℕ) (node : Node) → IsNodeOf kept states ns id node → IsWrittenNumber kept (ns ++ node ∷ []) id (suc (length ns))
 last_number kept states ns id node h = record {
   at_most = let e = length-append ns (node ∷ []) in omega arith;
   names = ap (option_map node_level) (get_last ns node) ∙ ap Some h.level;
-  shows = subst (λ p. IsPictureOf p (kept_cells kept id)) (sym (square_last ns node)) h.shows;
+  shows = subst (λ p. IsPictureOfSquare p (kept_cells kept id)) (sym (square_last ns node)) h.shows;
 }
 
 -- ---- a node is put after the others
@@ -183,7 +183,7 @@ module _ (kept : List Kept) (sound : IsSoundStore kept) (states : ℕ) (ns : Lis
       let level : squares.level_of kept other ≡ squares.level_of kept id =
       sym (names_level ns (squares.level_of kept other) i d f.1.names) ∙ ap node_level same ∙ is.level in
       let picture : numbered_square (squares_of ns) (suc i) ≡ node_picture (squares_of ns) node = square_at ns i d gathered.in_place low ∙ ap (node_picture (squares_of ns)) same in
-      let one : other ≡ id = one_square kept sound other id f.0 known level (node_picture (squares_of ns) node) (subst (λ p. IsPictureOf p (kept_cells kept other)) picture f.1.shows) is.shows in
+      let one : other ≡ id = one_square kept sound other id f.0 known level (node_picture (squares_of ns) node) (subst (λ p. IsPictureOfSquare p (kept_cells kept other)) picture f.1.shows) is.shows in
       let some : square_value old id ≡ Some (suc i) = ap (square_value old) (sym one) ∙ e.1 in
       absurd (let z = sym none ∙ some in cc)
 

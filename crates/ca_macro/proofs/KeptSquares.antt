@@ -18,7 +18,7 @@ use Rattle.ca_macro.specs.Nodes.{Node, Leaf, Cells, Parts, node_level, NamesPart
 use Rattle.ca_macro.specs.Shown.{leaf_state, rows_from, joined, numbered_square, node_picture, squares_after, squares_of, centred, rooted, picture_of_nodes}
 use Rattle.ca_macro.specs.Faults.{HasBadPart}
 use Rattle.ca_macro.specs.inner.Leaves.{leaf_bits}
-use Rattle.ca_macro.specs.inner.Numbers.{kept_of}
+use Rattle.ca_plane.specs.Bytes.{nearest_u64}
 use Rattle.ca_macro.specs.inner.Reading.{Draws, AreDrawn, AreEmpties, AreSquares, IsNodePart}
 use Rattle.ca_macro.proofs.Drawings.{AreStates, rows_states, rows_cell, from_corner_same, in_rows, four_cells, leaf_cell, leaf_states, shifted_states, joined_states, joined_cell}
 
@@ -111,7 +111,7 @@ drawn_at store (n ∷ ns) (p ∷ ps) (u ∷ ts) (suc i) t h e =
     let later = drawn_at store ns ps ts i t h.2 e in
     record { node = later.node; stands = later.stands; level = later.level; draws = later.draws }
 
-module _ (store : List Kept) (nodes : List Node) (squares : Squares) (h : AreSquares store nodes squares) (few : length squares.squares.items < 2 ^ 64 - 1) (level n kept : ℕ) (e : kept ≡ kept_of n) where
+module _ (store : List Kept) (nodes : List Node) (squares : Squares) (h : AreSquares store nodes squares) (few : length squares.squares.items < 2 ^ 64 - 1) (level n kept : ℕ) (e : kept ≡ nearest_u64 n) where
   same_length : length nodes ≡ length squares.squares.items
   same_length = drawn_length store nodes (squares_of nodes) squares.squares.items h.drawn
 

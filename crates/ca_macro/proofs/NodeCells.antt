@@ -11,7 +11,7 @@ use Rattle.ca_quad.proofs.Cells.{together_ends, same_nw, same_ne, same_sw, same_
 use Rattle.ca_macro.specs.Nodes.{Node, Leaf, Cells, Parts, node_level, NamesPart, MayFollow}
 use Rattle.ca_macro.specs.Shown.{numbered_square, node_picture, squares_of, leaf_state}
 use Rattle.ca_macro.specs.Tidy.{AreInPlace, HasForm, is_empty}
-use Rattle.ca_macro.specs.inner.Written.{IsPictureOf}
+use Rattle.ca_macro.specs.inner.Written.{IsPictureOfSquare}
 use Rattle.ca_macro.proofs.Pictures.{rows_show, four_show, four_end, joined_show, picture_as}
 use Rattle.ca_macro.proofs.Gathering.{corner_zero, in_place_at, names_level, names_low, names_stay, split_at, square_at}
 use Rattle.ca_macro.proofs.WrittenNodes.{live_at}
@@ -88,7 +88,7 @@ node_cells ns (Parts level nw ne sw se) = together (2 ^ (level - 1)) (cells_at n
 
 -- the picture with a number shows its cells alone, which end with the side of its level
 pub record IsShown (ns : List Node) (level n : ℕ) : Type 0 where
-  pub shows : IsPictureOf (numbered_square (squares_of ns) n) (cells_at ns n)
+  pub shows : IsPictureOfSquare (numbered_square (squares_of ns) n) (cells_at ns n)
   pub ends : Ends (2 ^ level) (cells_at ns n)
 
 none_right : (row : List Bool) (x : ℕ) → length row ≤ x → slice_index (map leaf_state row) x ≡ 0
@@ -114,14 +114,14 @@ none_ends : (side : ℕ) → Ends side (λ x y. 0)
 none_ends side x y h = refl
 
 -- a picture of some cells is one of its own
-own_shows : (ns : List Node) (level n : ℕ) (f : ℕ → ℕ → ℕ) → IsPictureOf (numbered_square (squares_of ns) n) f → Ends (2 ^ level) f → IsShown ns level n
+own_shows : (ns : List Node) (level n : ℕ) (f : ℕ → ℕ → ℕ) → IsPictureOfSquare (numbered_square (squares_of ns) n) f → Ends (2 ^ level) f → IsShown ns level n
 own_shows ns level n f shows ends = record {
   shows = picture_as (numbered_square (squares_of ns) n) f (cells_at ns n) (λ x y. sym (shows (pos x) (pos y))) shows;
   ends = λ x y h. shows (pos x) (pos y) ∙ ends x y h;
 }
 
 pub parts_show : (ns : List Node) (level nw ne sw se : ℕ) → IsShown ns (level - 1) nw → IsShown ns (level - 1) ne → IsShown ns (level - 1) sw → IsShown ns (level - 1) se
-    → IsPictureOf (node_picture (squares_of ns) (Parts level nw ne sw se)) (node_cells ns (Parts level nw ne sw se))
+    → IsPictureOfSquare (node_picture (squares_of ns) (Parts level nw ne sw se)) (node_cells ns (Parts level nw ne sw se))
 parts_show ns level nw ne sw se a b c d =
     joined_show (2 ^ (level - 1)) (cells_at ns nw) (cells_at ns ne) (cells_at ns sw) (cells_at ns se) a.ends b.ends c.ends
     (numbered_square (squares_of ns) nw) (numbered_square (squares_of ns) ne) (numbered_square (squares_of ns) sw) (numbered_square (squares_of ns) se)
@@ -137,7 +137,7 @@ parts_end ns level nw ne sw se large a b c d =
 
 -- a node shows its cells, where its parts show theirs
 node_shown : (states : ℕ) (ns : List Node) (i : ℕ) (node : Node) → ((level n : ℕ) → n ≤ i → NamesPart ns level n → IsShown ns level n) → Follows ns i node → HasForm states node
-    → IsPictureOf (node_picture (squares_of ns) node) (node_cells ns node) × Ends (2 ^ node_level node) (node_cells ns node)
+    → IsPictureOfSquare (node_picture (squares_of ns) node) (node_cells ns node) × Ends (2 ^ node_level node) (node_cells ns node)
 node_shown states ns i (Leaf rows) part follows form = (rows_show (map (map leaf_state) rows) (in_leaf rows) (λ x y. refl), leaf_ends rows form.1 form.2)
 node_shown states ns i (Cells nw ne sw se) part follows form = (four_show nw ne sw se (node_cells ns (Cells nw ne sw se)) (λ x y. refl), four_end nw ne sw se)
 node_shown states ns i (Parts level nw ne sw se) part follows form =
@@ -163,7 +163,7 @@ module _ (states : ℕ) (ns : List Node) (well : AreWell states ns) where
       let at = is_named level i named in
       let node = is_node states ns well i at.0 in
       let both = node_shown states ns i (node_at ns i) (λ l n k. shown_below most l n (omega arith)) node.follows node.form in
-      own_shows ns level (suc i) (node_cells ns (node_at ns i)) (subst (λ p. IsPictureOf p (node_cells ns (node_at ns i))) (sym node.square) both.0)
+      own_shows ns level (suc i) (node_cells ns (node_at ns i)) (subst (λ p. IsPictureOfSquare p (node_cells ns (node_at ns i))) (sym node.square) both.0)
       (subst (λ l. Ends (2 ^ l) (node_cells ns (node_at ns i))) at.1 both.1)
 
   pub shown : (level n : ℕ) → NamesPart ns level n → IsShown ns level n

@@ -1,13 +1,13 @@
 -- Five numbers, of each of which something is kept.
 use Rattle.std.proofs.Common.{◌≡◌, ◌≢◌, ℕ, ◌≤◌, inr, sym, List, [], ◌∷◌, map, length, slice_index_or, refl, ap₂, subst, arith, ◌∙◌, ap}
 use Rattle.std.specs.List.{AllZip, AllByRecursion}
-use Rattle.ca_plane.specs.Bytes.{value}
+use Rattle.ca_plane.specs.Bytes.{nearest_u64, value}
 use Rattle.ca_macro.specs.declared.line.numbers.Numbers.{Numbers}
 use Rattle.ca_macro.specs.File.{IsNumber, AreNumbers}
 use Rattle.ca_macro.specs.Faults.{AreMisspelledNodeWords}
-use Rattle.ca_macro.specs.inner.Numbers.{kept_of, Keeps, AreKept}
+use Rattle.ca_macro.specs.inner.Numbers.{Keeps, AreKept}
 
-numbers_kept : (words : List (List ℕ)) (kept : List ℕ) → AllZip Keeps words kept → AllZip IsNumber words (map value words) × (kept ≡ map kept_of (map value words)) × (length (map value words) ≡ length kept)
+numbers_kept : (words : List (List ℕ)) (kept : List ℕ) → AllZip Keeps words kept → AllZip IsNumber words (map value words) × (kept ≡ map nearest_u64 (map value words)) × (length (map value words) ≡ length kept)
 numbers_kept [] [] h = (tt, refl, refl)
 numbers_kept [] (k ∷ ks) h = absurd h
 numbers_kept (w ∷ ws) [] h = absurd h
@@ -33,15 +33,15 @@ five_kept words kept n h =
     let all = numbers_kept words kept h in
     let count = all.2 in
     let five = five_items (map value words) (omega arith) in
-    let same = all.1 ∙ ap (map kept_of) five.5 in
-    let at : (i : ℕ) → slice_index_or kept i 0 ≡ slice_index_or (map kept_of (five.0 ∷ five.1 ∷ five.2 ∷ five.3 ∷ five.4 ∷ [])) i 0 = λ i. ap (λ ks. slice_index_or ks i 0) same in
+    let same = all.1 ∙ ap (map nearest_u64) five.5 in
+    let at : (i : ℕ) → slice_index_or kept i 0 ≡ slice_index_or (map nearest_u64 (five.0 ∷ five.1 ∷ five.2 ∷ five.3 ∷ five.4 ∷ [])) i 0 = λ i. ap (λ ks. slice_index_or ks i 0) same in
     (five.0, five.1, five.2, five.3, five.4, subst (AllZip IsNumber words) five.5 all.0, at 0, at 1, at 2, at 3, at 4)
 
 -- a number that isn't large is kept as it is
-kept_small : (n : ℕ) → n ≤ 255 → kept_of n ≤ 255
+kept_small : (n : ℕ) → n ≤ 255 → nearest_u64 n ≤ 255
 kept_small n h = omega arith
 
-kept_one : (n : ℕ) → kept_of n ≤ 1 → kept_of n ≢ 0 → 1 ≡ n
+kept_one : (n : ℕ) → nearest_u64 n ≤ 1 → nearest_u64 n ≢ 0 → 1 ≡ n
 kept_one n h z = omega arith
 
 -- numbers of level 1, of which a state is too large

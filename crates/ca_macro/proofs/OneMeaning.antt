@@ -10,7 +10,7 @@ use Rattle.ca_macro.specs.Nodes.{Node}
 use Rattle.ca_macro.specs.File.{MacrocellLine, added, MacrocellLinesSay, last_rule, last_line_generation, MacrocellFile, begins_macro, IsMacrocellFile}
 use Rattle.ca_macro.specs.Limits.{IsMacrocellWithinRange, IsMacrocellOutOfRange}
 use Rattle.ca_macro.specs.Faults.{HasMacrocellLine, AreFaulty, IsFirstMacrocellFault, IsFirstMacrocellFaultOn, IsFaultyMacrocellLine, IsMacrocellFault, IsMacrocellFaultOn}
-use Rattle.ca_macro.specs.inner.Reading.{HasFaultOn, IsMacrocellReadingFault, file_of}
+use Rattle.ca_macro.specs.inner.Reading.{HasFaultOn, IsMacrocellReadingFault, file_of_lines}
 use Rattle.ca_macro.proofs.Verdicts.{Verdict, verdict, said_told, fault_told}
 
 -- ---- the verdict on lines
@@ -109,9 +109,9 @@ not_memory bytes Memory n other h = absurd (other refl)
 not_memory bytes f n other h = h
 
 -- a text that is a file, but is refused
-pub refused : (bytes : List ℕ) (said : List MacrocellLine) (f : MacroFault) → IsMacrocellFile bytes (file_of said) → (f ≡ Memory) ⊎ ((f ≡ Range) × IsMacrocellOutOfRange (file_of said)) → IsMacrocellFaultOn bytes f None
-refused bytes said f is (inl memory) = subst (λ g. IsMacrocellFaultOn bytes g None) (sym memory) (inr (file_of said, is), λ p. p)
-refused bytes said f is (inr (range, out)) = subst (λ g. IsMacrocellFaultOn bytes g None) (sym range) ((file_of said, is, out), λ p. p)
+pub refused : (bytes : List ℕ) (said : List MacrocellLine) (f : MacroFault) → IsMacrocellFile bytes (file_of_lines said) → (f ≡ Memory) ⊎ ((f ≡ Range) × IsMacrocellOutOfRange (file_of_lines said)) → IsMacrocellFaultOn bytes f None
+refused bytes said f is (inl memory) = subst (λ g. IsMacrocellFaultOn bytes g None) (sym memory) (inr (file_of_lines said, is), λ p. p)
+refused bytes said f is (inr (range, out)) = subst (λ g. IsMacrocellFaultOn bytes g None) (sym range) ((file_of_lines said, is, out), λ p. p)
 
 -- ---- the laws
 
@@ -130,14 +130,14 @@ make nodes rule_text generation = record { nodes = nodes; rule_text = rule_text;
 same_file : (n m : List Node) (r s : List ℕ) (g k : ℕ) → n ≡ m → r ≡ s → g ≡ k → make n r g ≡ make m s k
 same_file n m r s g k a b c = rw (a, b, c) refl
 
-file_is : (bytes : List ℕ) (file : MacrocellFile) (h : IsMacrocellFile bytes file) → file ≡ file_of h.said
+file_is : (bytes : List ℕ) (file : MacrocellFile) (h : IsMacrocellFile bytes file) → file ≡ file_of_lines h.said
 file_is bytes file h =
     same_file file.nodes (flat_map added h.said) file.rule_text (last_rule default_rule h.said) file.generation (last_line_generation 0 h.said) h.nodes h.rule_text h.generation
 
 pub one_file : (bytes : List ℕ) (f g : MacrocellFile) → IsMacrocellFile bytes f → IsMacrocellFile bytes g → f ≡ g
 one_file bytes f g h k =
     let same = same_ok (of_text bytes) h.said k.said (file_judged bytes f h) (file_judged bytes g k) in
-    file_is bytes f h ∙ (ap file_of same ∙ sym (file_is bytes g k))
+    file_is bytes f h ∙ (ap file_of_lines same ∙ sym (file_is bytes g k))
 
 one_fault_on : (bytes : List ℕ) (f g : MacroFault) (m n : ℕ) → IsFirstMacrocellFaultOn bytes f m → IsFirstMacrocellFaultOn bytes g n → ◌≡◌ {A = MacroFault × ℕ} (f, m) (g, n)
 one_fault_on bytes f g m n h k = same_err (of_text bytes) (f, m) (g, n) (fault_judged bytes f m h) (fault_judged bytes g n k)

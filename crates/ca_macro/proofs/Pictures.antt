@@ -16,7 +16,7 @@ use Rattle.ca_quad.specs.inner.Measure.{Ends}
 use Rattle.ca_quad.proofs.Cells.{in_nw, in_ne, in_sw, in_se, dot_ends, together_ends}
 use Rattle.ca_quad.proofs.Growth.{below_or_not}
 use Rattle.ca_macro.specs.Shown.{row_from, rows_from, leaf_state, joined}
-use Rattle.ca_macro.specs.inner.Written.{row_of, IsPictureOf}
+use Rattle.ca_macro.specs.inner.Written.{row_of, IsPictureOfSquare}
 use Rattle.ca_macro.proofs.Following.{all_append}
 
 -- ---- one picture after another
@@ -145,7 +145,7 @@ rows_cell (r ∷ rs) top x y =
     ]
 
 -- rows show cells that are theirs
-pub rows_show : (rows : List (List ℕ)) (cells : ℕ → ℕ → ℕ) → ((x y : ℕ) → slice_index (slice_index_or rows y []) x ≡ cells x y) → IsPictureOf (rows_from (pos 0) rows) cells
+pub rows_show : (rows : List (List ℕ)) (cells : ℕ → ℕ → ℕ) → ((x y : ℕ) → slice_index (slice_index_or rows y []) x ≡ cells x y) → IsPictureOfSquare (rows_from (pos 0) rows) cells
 rows_show rows cells same = λ x y. rows_cell rows (pos 0) x y ∙ ap (in_rows rows x) (from y) ∙ at x y
   where
     from : (y : ℤ) → y -ℤ pos 0 ≡ y
@@ -185,7 +185,7 @@ rows_at (b ∷ bs) zero = refl
 rows_at (b ∷ bs) (suc j) = rows_at bs j
 
 pub leaf_shows : (bytes : List ℕ) (cells : ℕ → ℕ → ℕ) → ((y : ℕ) → slice_index bytes y < 256) → ((x y : ℕ) → cells x y ≡ row_cells bytes x y)
-    → IsPictureOf (rows_from (pos 0) (map (map leaf_state) (map (row_of 8) bytes))) cells
+    → IsPictureOfSquare (rows_from (pos 0) (map (map leaf_state) (map (row_of 8) bytes))) cells
 leaf_shows bytes cells low same =
     rows_show (map (map leaf_state) (map (row_of 8) bytes)) cells (λ x y. ap (λ r. slice_index r x) (rows_at bytes y) ∙ row_bit 8 (slice_index bytes y) x (low y) ∙ sym (same x y))
 
@@ -206,7 +206,7 @@ four_at nw ne sw se (suc (suc x)) (suc zero) = sym (four_end nw ne sw se (suc (s
 four_at nw ne sw se x (suc (suc y)) = sym (four_end nw ne sw se x (suc (suc y)) (inr (omega arith)))
 
 pub four_show : (nw ne sw se : ℕ) (cells : ℕ → ℕ → ℕ) → ((x y : ℕ) → cells x y ≡ together 1 (dot nw) (dot ne) (dot sw) (dot se) x y)
-    → IsPictureOf (rows_from (pos 0) ((nw ∷ ne ∷ []) ∷ (sw ∷ se ∷ []) ∷ [])) cells
+    → IsPictureOfSquare (rows_from (pos 0) ((nw ∷ ne ∷ []) ∷ (sw ∷ se ∷ []) ∷ [])) cells
 four_show nw ne sw se cells same = rows_show ((nw ∷ ne ∷ []) ∷ (sw ∷ se ∷ []) ∷ []) cells (λ x y. four_at nw ne sw se x y ∙ sym (same x y))
 
 -- ---- four squares
@@ -235,7 +235,7 @@ corner_same f g same (negsuc x) (pos y) = refl
 corner_same f g same (negsuc x) (negsuc y) = refl
 
 -- a picture shows all that is the same cell by cell
-pub picture_as : (p : Picture) (f g : ℕ → ℕ → ℕ) → ((x y : ℕ) → f x y ≡ g x y) → IsPictureOf p f → IsPictureOf p g
+pub picture_as : (p : Picture) (f g : ℕ → ℕ → ℕ) → ((x y : ℕ) → f x y ≡ g x y) → IsPictureOfSquare p f → IsPictureOfSquare p g
 picture_as p f g same h = λ x y. h x y ∙ corner_same f g same x y
 
 -- the first of four states that isn't 0
@@ -289,8 +289,8 @@ module _ (half : ℕ) (p q r s : ℕ → ℕ → ℕ) (ends_p : Ends half p) (en
       laid_as (negsuc i) (negsuc j) 0 0 0 0 0 refl (left_of q (negsuc i -ℤ pos half) (negsuc j -ℤ pos 0) (omega (arith, ints))) (left_of r (negsuc i -ℤ pos 0) (negsuc j -ℤ pos half) (omega (arith, ints))) (left_of s (negsuc i -ℤ pos half) (negsuc j -ℤ pos half) (omega (arith, ints))) refl
 
   -- four pictures that are joined show their cells together
-  pub joined_show : (a b c d : Picture) → NoneDead a → NoneDead b → NoneDead c → IsPictureOf a p → IsPictureOf b q → IsPictureOf c r → IsPictureOf d s
-      → IsPictureOf (joined half a b c d) (together half p q r s)
+  pub joined_show : (a b c d : Picture) → NoneDead a → NoneDead b → NoneDead c → IsPictureOfSquare a p → IsPictureOfSquare b q → IsPictureOfSquare c r → IsPictureOfSquare d s
+      → IsPictureOfSquare (joined half a b c d) (together half p q r s)
   joined_show a b c d u v w e f g h = λ x y.
       cell-append a _ x y u
       ∙ ap₂ or_else (e x y)

@@ -21,7 +21,7 @@ use Rattle.ca_macro.specs.Nodes.{Node, Cells, Parts, node_level}
 use Rattle.ca_macro.specs.Shown.{numbered_square, squares_of, centred, rooted, picture_of_nodes}
 use Rattle.ca_macro.specs.Pattern.{AreInRange}
 use Rattle.ca_macro.specs.Tidy.{lowest_level, Fits, IsLeastLevel, walks_after, numbers_once, AreTidyNodes}
-use Rattle.ca_macro.specs.inner.Written.{kept_cells, IsPictureOf, IsWrittenNumber, IsGathered, KeepsFirstOrder, empty_root}
+use Rattle.ca_macro.specs.inner.Written.{kept_cells, IsPictureOfSquare, IsWrittenNumber, IsGathered, KeepsFirstOrder, empty_root}
 use Rattle.ca_macro.proofs.Gathering.{corner_zero}
 
 -- ---- where the live cells of a tree are
@@ -161,7 +161,7 @@ last_node (n ∷ m ∷ ns) (suc i) d h = last_node (m ∷ ns) i (Some n) (omega 
 back : (x : ℤ) (half : ℕ) → x -ℤ neg_ℤ (pos half) ≡ x +ℤ pos half
 back x half = omega (arith, ints)
 
-root_shown : (kept : List Kept) (t : Tree) (square : Picture) → IsPictureOf square (squares.cell_of kept t.level t.root) → (x y : ℤ) → cell kept t x y ≡ plane.cell (centred t.level square) x y
+root_shown : (kept : List Kept) (t : Tree) (square : Picture) → IsPictureOfSquare square (squares.cell_of kept t.level t.root) → (x y : ℤ) → cell kept t x y ≡ plane.cell (centred t.level square) x y
 root_shown kept t square shows x y =
     let half = 2 ^ (t.level - 1) in
     let shift = neg_ℤ (pos half) in
@@ -175,8 +175,8 @@ module _ (kept : List Kept) (t : Tree) (is_tree : IsTree kept t) (states : ℕ) 
       let root = last_node ns i None (sym last) in
       let named : Some (node_level root.0) ≡ Some (squares.level_of kept t.root) = sym (ap (option_map node_level) root.2) ∙ number.names in
       let is_level : node_level root.0 ≡ t.level = same_Some (node_level root.0) (squares.level_of kept t.root) named ∙ is_tree.is_level in
-      let shows : IsPictureOf (numbered_square (squares_of ns) (length ns)) (squares.cell_of kept t.level t.root) =
-      subst (λ l. IsPictureOf (numbered_square (squares_of ns) (length ns)) (squares.cell_of kept l t.root)) is_tree.is_level (subst (λ k. IsPictureOf (numbered_square (squares_of ns) k) (kept_cells kept t.root)) last number.shows) in
+      let shows : IsPictureOfSquare (numbered_square (squares_of ns) (length ns)) (squares.cell_of kept t.level t.root) =
+      subst (λ l. IsPictureOfSquare (numbered_square (squares_of ns) (length ns)) (squares.cell_of kept l t.root)) is_tree.is_level (subst (λ k. IsPictureOfSquare (numbered_square (squares_of ns) k) (kept_cells kept t.root)) last number.shows) in
       let picture : picture_of_nodes ns ≡ centred t.level (numbered_square (squares_of ns) (length ns)) = ap (λ o. rooted o (numbered_square (squares_of ns) (length ns))) root.1 ∙ ap (λ l. centred l (numbered_square (squares_of ns) (length ns))) is_level in
       record {
         root = root.0;

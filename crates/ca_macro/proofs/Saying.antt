@@ -19,7 +19,7 @@ use Rattle.ca_macro.specs.Nodes.{Node, Parts, IsLevel}
 use Rattle.ca_macro.specs.File.{MacrocellLine, Nothing, Rule, Generation, Adds, MacrocellWordsSay, added, IsAllowedNode, last_rule, last_line_generation}
 use Rattle.ca_macro.specs.Faults.{AreFaulty, HasBadPart}
 use Rattle.ca_macro.specs.inner.Comments.{said_of}
-use Rattle.ca_macro.specs.inner.Reading.{AreSquares, IsBadNumber, HaveFault, HasNodeFault, IsMacrocellReading}
+use Rattle.ca_macro.specs.inner.Reading.{AreSquares, IsBadNumber, HaveNumberFault, HasNodeFault, IsMacrocellReading}
 use Rattle.ca_macro.proofs.LinesRead.{added-push}
 
 -- ---- a fault that `?` passes on
@@ -153,13 +153,13 @@ faulty_line Memory earlier words h = absurd h
 faulty_line f earlier words h = h
 
 -- parts of which one is bad
-pub bad_parts : (f : MacroFault) (nodes : List Node) (level nw ne sw se : ℕ) → HasBadPart nodes (level - 1) (nw ∷ ne ∷ sw ∷ se ∷ []) (IsBadNumber f nodes (level - 1)) → HaveFault f nodes level nw ne sw se
+pub bad_parts : (f : MacroFault) (nodes : List Node) (level nw ne sw se : ℕ) → HasBadPart nodes (level - 1) (nw ∷ ne ∷ sw ∷ se ∷ []) (IsBadNumber f nodes (level - 1)) → HaveNumberFault f nodes level nw ne sw se
 bad_parts Memory nodes level nw ne sw se h = absurd h.holds
 bad_parts f nodes level nw ne sw se h = h
 
 -- the fault of a line that gives a square by its parts
 pub parts_fault : (f : MacroFault) (earlier : List Node) (words : List (List ℕ)) (level nw ne sw se : ℕ) → MacrocellWordsSay words (Adds (Parts level nw ne sw se)) → IsLevel level
-    → HaveFault f earlier level nw ne sw se → HasNodeFault f earlier words
+    → HaveNumberFault f earlier level nw ne sw se → HasNodeFault f earlier words
 parts_fault Forward earlier words level nw ne sw se says l h = (level, nw, ne, sw, se, says, l, record { good = h.good; number = h.number; more = h.more; spelled = h.spelled; named = h.named; holds = h.holds })
 parts_fault Level earlier words level nw ne sw se says l h = inr (level, nw, ne, sw, se, says, l, record { good = h.good; number = h.number; more = h.more; spelled = h.spelled; named = h.named; holds = h.holds })
 parts_fault Memory earlier words level nw ne sw se says l h = (Parts level nw ne sw se, says, h)

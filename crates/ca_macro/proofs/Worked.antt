@@ -4,7 +4,7 @@ use Rattle.std.specs.List.{AllByRecursion, AllPairs, AllZip, list_all, join_with
 use Rattle.std.specs.Ordering.{int_eq}
 use Rattle.std.proofs.lemmas.Bool.{and_parts, cases_Bool}
 use Rattle.std.proofs.lemmas.Fmt.{decimal_digit}
-use Rattle.ca_plane.specs.Bytes.{AreDigits, is_digit, value, lines_of, words_of}
+use Rattle.ca_plane.specs.Bytes.{AreDigits, is_digit, value, lines_of, text_of, words_of}
 use Rattle.ca_plane.specs.Plane.{Picture, cell}
 use Rattle.ca_plane.proofs.Pictures.{place-from_true}
 use Rattle.ca_quad.specs.Trimmed.{IsWithinLevel}
@@ -14,7 +14,6 @@ use Rattle.ca_macro.specs.File.{Adds, IsNumber, begins_macro}
 use Rattle.ca_macro.specs.Faults.{HasMacrocellLine, HasBadByte, AreMisspelledNodeWords, AreFaulty}
 use Rattle.ca_macro.specs.Shown.{picture_of_nodes}
 use Rattle.ca_macro.specs.Tidy.{Fits, IsLeastLevel, AreInPlace, HasForm, is_empty, walk_of, numbers_once, numbers_text, tidy_lines, IsTidyMacrocell}
-use Rattle.ca_macro.specs.Examples.{text_of}
 use Rattle.ca_macro.specs.inner.Leaves.{is_leaf, is_live}
 use Rattle.ca_macro.proofs.Leaves.{leaf_found, no_leaf}
 

@@ -16,7 +16,7 @@ use Rattle.ca_quad.proofs.Cells.{cell_ends, at_nw, at_ne, at_sw, at_se}
 use Rattle.ca_quad.proofs.Growth.{below_or_not}
 use Rattle.ca_macro.specs.Nodes.{Node, Leaf, Cells, Parts, NamesPart}
 use Rattle.ca_macro.specs.Shown.{numbered_square, joined, node_picture, squares_after, squares_of, leaf_state}
-use Rattle.ca_macro.specs.inner.Written.{row_of, kept_cells, IsPictureOf, IsWrittenNumber, IsNodeOf, Extends, KeepsFirstOrder, leaf_level, HasFitParts}
+use Rattle.ca_macro.specs.inner.Written.{row_of, kept_cells, IsPictureOfSquare, IsWrittenNumber, IsNodeOf, Extends, KeepsFirstOrder, leaf_level, HasFitParts}
 use Rattle.ca_macro.proofs.Lines.{unequal}
 use Rattle.ca_macro.proofs.Following.{all_append}
 use Rattle.ca_macro.proofs.Pictures.{NoneDead, rows_live, shifted_live, leaf_shows, four_show, joined_show, picture_as}
@@ -192,8 +192,8 @@ module _ (kept : List Kept) (id k level : ℕ) (qs : List ℕ) (next : suc k ≡
     name : (p n : ℕ) → IsOf kept p k → IsWrittenNumber kept ns p n → NamesPart ns (level - 1) n
     name p n is h = let e : k ≡ level - 1 = omega arith in subst (λ l. NamesPart ns l n) (is.is_level ∙ e) h.names
 
-    shown : (p n : ℕ) → IsOf kept p k → IsWrittenNumber kept ns p n → IsPictureOf (numbered_square (squares_of ns) n) (squares.cell_of kept k p)
-    shown p n is h = subst (λ l. IsPictureOf (numbered_square (squares_of ns) n) (squares.cell_of kept l p)) is.is_level h.shows
+    shown : (p n : ℕ) → IsOf kept p k → IsWrittenNumber kept ns p n → IsPictureOfSquare (numbered_square (squares_of ns) n) (squares.cell_of kept k p)
+    shown p n is h = subst (λ l. IsPictureOfSquare (numbered_square (squares_of ns) n) (squares.cell_of kept l p)) is.is_level h.shows
 
     pub parts_node : IsNodeOf kept states ns id (Parts level a b c d)
     unfolding part
@@ -206,9 +206,9 @@ module _ (kept : List Kept) (id k level : ℕ) (qs : List ℕ) (next : suc k ≡
           in_place = ((large, most), (name _ a q.is_nw na, (name _ b q.is_ne nb, (name _ c q.is_sw nc, (name _ d q.is_se nd, tt)))));
           form = form;
           level = sym is_level;
-          shows = subst (λ l. IsPictureOf (node_picture (squares_of ns) (Parts level a b c d)) (kept_cells kept id)) e
+          shows = subst (λ l. IsPictureOfSquare (node_picture (squares_of ns) (Parts level a b c d)) (kept_cells kept id)) e
               (picture_as (node_picture (squares_of ns) (Parts level a b c d)) (together (2 ^ k) (part 0) (part 1) (part 2) (part 3)) (kept_cells kept id) (λ x y. sym (whole x y))
-              (subst (λ l. IsPictureOf (joined (2 ^ l) (numbered_square (squares_of ns) a) (numbered_square (squares_of ns) b) (numbered_square (squares_of ns) c) (numbered_square (squares_of ns) d)) (together (2 ^ k) (part 0) (part 1) (part 2) (part 3))) e all));
+              (subst (λ l. IsPictureOfSquare (joined (2 ^ l) (numbered_square (squares_of ns) a) (numbered_square (squares_of ns) b) (numbered_square (squares_of ns) c) (numbered_square (squares_of ns) d)) (together (2 ^ k) (part 0) (part 1) (part 2) (part 3))) e all));
         }
 
 -- a square that is no leaf is written by its four parts

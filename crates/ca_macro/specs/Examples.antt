@@ -1,13 +1,9 @@
 -- Small macrocell texts, for which the definitions are worked out.
-use Rattle.std.specs.Prelude.{ℕ, ℤ, pos, negsuc, ◌+ℤ◌, List, [], ◌∷◌, ◌++◌, true, false, codes}
-use Rattle.std.specs.List.{flat_map}
+use Rattle.std.specs.Prelude.{ℕ, ℤ, pos, negsuc, ◌+ℤ◌, List, [], ◌∷◌, true, false, codes}
+use Rattle.ca_plane.specs.Bytes.{text_of}
 use Rattle.ca_plane.specs.Plane.{Picture}
 use Rattle.ca_macro.specs.Nodes.{Node, Leaf, Cells, Parts}
 use Rattle.ca_macro.specs.File.{MacrocellFile}
-
--- lines, each ended by LF
-abbrev pub text_of : List (List ℕ) → List ℕ
-text_of lines = flat_map (λ line. line ++ 10 ∷ []) lines
 
 -- `[M2]`, and a line after it
 abbrev pub after_first : List ℕ → List ℕ

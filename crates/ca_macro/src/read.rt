@@ -8,7 +8,7 @@ ghost use Rattle.ca_macro.specs.Limits.{IsMacrocellWithinRange, IsMacrocellOutOf
 ghost use Rattle.ca_macro.specs.Faults.{IsMacrocellFault, IsMacrocellFaultOn};
 ghost use Rattle.ca_macro.specs.Pattern.{IsMacrocellPattern, HoldsMacrocellPattern};
 ghost use Rattle.ca_macro.specs.inner.Reading.{HoldsReading, IsMacrocellReading};
-ghost use Rattle.ca_macro.specs.inner.Reading.{IsMacrocellReadingFault, file_of};
+ghost use Rattle.ca_macro.specs.inner.Reading.{IsMacrocellReadingFault, file_of_lines};
 
 mod empties;
 mod range;
@@ -70,10 +70,10 @@ fn pattern_of(
     requires { (said : List MacrocellLine) × IsMacrocellReading store.old said reading.now }
     ensures found { IfOk result (λ p. (said : List MacrocellLine)
         → IsMacrocellReading store.old said reading.now
-        → IsMacrocellWithinRange (file_of said) × IsMacrocellPattern store.new (file_of said) p) }
+        → IsMacrocellWithinRange (file_of_lines said) × IsMacrocellPattern store.new (file_of_lines said) p) }
     ensures fault { IfErr result (λ f. (said : List MacrocellLine)
         → IsMacrocellReading store.old said reading.now
-        → (f ≡ Memory) ⊎ ((f ≡ Range) × IsMacrocellOutOfRange (file_of said))) }
+        → (f ≡ Memory) ⊎ ((f ≡ Range) × IsMacrocellOutOfRange (file_of_lines said))) }
     ensures grows { Grows store.old store.new }
 {
     let root = reading.squares.root(store)?;

@@ -30,10 +30,14 @@ pub record AddsRun (first : Point) (length : ℕ) (old new : List CellWord) : Ty
   pub run : (n : ℕ) → n < length → bit_cell new (first.x +ℤ pos n) first.y ≡ 1
   pub other : (x y : ℤ) → ((n : ℕ) → n < length → x ≡ first.x +ℤ pos n → y ≡ first.y → ⊥) → bit_cell new x y ≡ bit_cell old x y
 
+-- how many columns, and how many rows, the square has from its corner to its far edge: twice the reach
+abbrev pub plane_side : ℕ
+plane_side = 2 ^ 63
+
 -- the word lies in the square in which planes keep their cells, or reaches over its border by less than 64 cells
 pub record IsNearWord (word : CellWord) : Type 0 where
-  pub row : word.row ≤ 2 ^ 63
-  pub column : word.column ≤ 2 ^ 57
+  pub row : word.row ≤ plane_side
+  pub column : word.column ≤ plane_side / 64
 
 -- all words do
 abbrev pub AreNearWords : List CellWord → Type 0

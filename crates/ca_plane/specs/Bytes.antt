@@ -1,7 +1,7 @@
 -- Bytes, lines, words and numbers, as every format of the project reads them (our own choice where Golly Help is silent).
-use Rattle.std.specs.Prelude.{◌≡◌, ℕ, ◌+◌, ◌-◌, ◌*◌, ℤ, pos, neg_ℤ, List, [], ◌∷◌, ◌++◌, Bool, true, false, not, ◌&&◌, ◌||◌, ◌==◌, nat_le, IsTrue, if◌then◌else◌, ◌⊎◌, codes, slice_index}
+use Rattle.std.specs.Prelude.{◌≡◌, ℕ, ◌+◌, ◌-◌, ◌*◌, ◌^◌, min, ℤ, pos, neg_ℤ, List, [], ◌∷◌, ◌++◌, Bool, true, false, not, ◌&&◌, ◌||◌, ◌==◌, nat_le, IsTrue, if◌then◌else◌, ◌⊎◌, codes, slice_index}
 use Prim.Native.String.{String}
-use Rattle.std.specs.List.{list_all}
+use Rattle.std.specs.List.{flat_map, list_all}
 use Rattle.std.specs.Int.{w64, saturate_signed}
 
 -- the number of the first of some characters: `letter "B"` is 66
@@ -48,6 +48,10 @@ with_front b (l ∷ ls) = (b ∷ l) ∷ ls
 abbrev pub lines_of : List ℕ → List (List ℕ)
 lines_of [] = []
 lines_of (b ∷ bs) = if is_line_end b then [] ∷ lines_of bs else with_front b (lines_of bs)
+
+-- the text of lines, each ended by LF
+abbrev pub text_of : List (List ℕ) → List ℕ
+text_of lines = flat_map (λ line. line ++ 10 ∷ []) lines
 
 -- a line without the one CR that may be before its end
 abbrev pub without_cr : List ℕ → List ℕ
@@ -97,6 +101,10 @@ abbrev pub IsInteger : List ℕ → ℤ → Type 0
 IsInteger bytes n =
     (AreDigits bytes × (n ≡ pos (value bytes)))
     ⊎ ((digits : List ℕ) × (bytes ≡ codes "-" ++ digits) × AreDigits digits × (n ≡ neg_ℤ (pos (value digits))))
+
+-- the `u64` that is nearest to a number: the number itself, or the greatest `u64` where it is greater
+abbrev pub nearest_u64 : ℕ → ℕ
+nearest_u64 n = min n (2 ^ 64 - 1)
 
 -- the `i64` that is nearest to an integer: the integer itself, where it is one
 abbrev pub nearest_i64 : ℤ → ℤ

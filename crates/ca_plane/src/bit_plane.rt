@@ -2,7 +2,7 @@
 
 ghost use Rattle.std.specs.Prelude.{◌≡◌, ℕ, ◌+◌, ◌<◌, ◌≤◌, ◌/◌, ◌^◌, pos, neg_ℤ};
 ghost use Rattle.std.specs.Prelude.{◌+ℤ◌, ◌≤ℤ◌, [], IsTrue, IfSome, OnOk};
-ghost use Rattle.ca_plane.specs.BitPlane.{AddsRun, AreNearWords, IsNearWord};
+ghost use Rattle.ca_plane.specs.BitPlane.{AddsRun, AreNearWords, IsNearWord, plane_side};
 ghost use Rattle.ca_plane.specs.Sparse.{reach};
 ghost use Rattle.ca_plane.specs.inner.BitRuns.{AddsWord, AreBitsOf, HaveSameCells, IsPlaceOf, IsWordOfRun};
 
@@ -133,7 +133,7 @@ fn from_corner(coordinate: i64) -> u64
 // Where a run that goes on to the end ends in the word of this column.
 fn end_of_word(first: u64, end: u64) -> u64
     requires some { first < end }
-    requires most { end ≤ 2 ^ 63 }
+    requires most { end ≤ plane_side }
     ensures more { first < result }
     ensures most { result ≤ end }
     ensures word { (column : ℕ) → first ≤ column → column < result → column / 64 ≡ first / 64 }
@@ -143,9 +143,9 @@ fn end_of_word(first: u64, end: u64) -> u64
 
 // The word of the cells of a row from this column on, below the end, which lie in one word.
 fn word_of_run(row: u64, first: u64, end: u64) -> CellWord
-    requires row { row ≤ 2 ^ 63 }
+    requires row { row ≤ plane_side }
     requires some { first < end }
-    requires most { end ≤ 2 ^ 63 }
+    requires most { end ≤ plane_side }
     requires word { (column : ℕ) → first ≤ column → column < end → column / 64 ≡ first / 64 }
     ensures near { IsNearWord result }
     ensures run { IsWordOfRun result row first end }

@@ -1,11 +1,11 @@
 //! Blanks, words, numbers and lines: what every reader of bytes begins with. Nothing here takes memory.
 
-ghost use Rattle.std.specs.Prelude.{◌≡◌, ◌≢◌, ◌⊎◌, ℕ, ◌-◌, ◌<◌, ◌^◌, ◌++◌, List, ◌∷◌, [], length, not, min};
+ghost use Rattle.std.specs.Prelude.{◌≡◌, ◌≢◌, ◌⊎◌, ℕ, ◌-◌, ◌<◌, ◌++◌, List, ◌∷◌, [], length, not};
 ghost use Rattle.std.specs.Prelude.{ℤ, ◌==◌, MatchOption, IfSome};
 ghost use Rattle.std.specs.List.{prefix_len, list_all};
 ghost use Rattle.ca_plane.specs.Bytes.{is_blank, is_line_end, is_digit, is_word_byte, Every, front, rest};
 ghost use Rattle.ca_plane.specs.Bytes.{trimmed, value, AreDigits, IsInteger, nearest_i64, IsWord, lines_of};
-ghost use Rattle.ca_plane.specs.Bytes.{words_of};
+ghost use Rattle.ca_plane.specs.Bytes.{nearest_u64, words_of};
 
 /// Whether the byte is a blank: a space, a tab or a CR.
 pub fn is_blank(byte: u8) -> bool
@@ -153,7 +153,7 @@ pub fn strip<'a>(bytes: &'a [u8], text: &[u8]) -> Option<&'a [u8]>
 /// The number that the digits write, or the greatest `u64` where it is greater. Any count of digits will do.
 pub fn number(digits: &[u8]) -> u64
     requires { Every is_digit digits.now }
-    ensures { result ≡ min (value digits.now) (2 ^ 64 - 1) }
+    ensures { result ≡ nearest_u64 (value digits.now) }
 {
     let mut number: u64 = 0;
     'digits: for digit in digits {
@@ -174,7 +174,7 @@ fn all_digits(bytes: &[u8]) -> bool
 /// more digits.
 pub fn whole_number(bytes: &[u8]) -> Option<u64>
     ensures { MatchOption result (AreDigits bytes.now → ⊥)
-        (λ n. AreDigits bytes.now × (n ≡ min (value bytes.now) (2 ^ 64 - 1))) }
+        (λ n. AreDigits bytes.now × (n ≡ nearest_u64 (value bytes.now))) }
 {
     if bytes.is_empty() {
         return None;

@@ -18,7 +18,7 @@ use Rattle.ca_rle.specs.Shown.{ends_row, tag_state, greatest_state, row_count, c
 use Rattle.ca_rle.specs.Limits.{IsRleWithinRange}
 use Rattle.ca_plane.specs.Limits.{IsInRange}
 use Rattle.ca_rle.specs.inner.BodyFaults.{bare_file, with_capped_count, IsItemAtFront}
-use Rattle.ca_rle.specs.inner.Extent.{IsOffsetOf, point_from, HasRoom, cells_from, over}
+use Rattle.ca_rle.specs.inner.Extent.{IsOffsetOf, point_from, HasRoomRight, cells_from, over}
 use Rattle.ca_rle.proofs.Pushed.{greatest_state-append, greatest_state-push, row_count-push, columns_of-push, picture_after-push, picture_after-append, Run-push, counts_low}
 use Rattle.ca_rle.proofs.Drawn.{over_picture}
 use Rattle.ca_rle.proofs.Measured.{IsNextOffset, offset_more}
@@ -93,7 +93,7 @@ pub record IsNext (top : ℕ) (corner : Point) (items : List Item) (at : Offset)
   pub some : 0 < j.count
   pub state : tag_state j.tag ≤ 255
   pub most : tag_state i.tag ≤ top
-  pub room : tag_state i.tag ≢ 0 → HasRoom (point_from corner at) i.count
+  pub room : tag_state i.tag ≢ 0 → HasRoomRight (point_from corner at) i.count
   pub cells : cells_from (point_from corner at) i ≡ item_cells corner items j
 
 -- a kept offset is the offset, where the place is in range
@@ -122,7 +122,7 @@ next_is most corner bytes rest more at all items i spelled range low run offset 
     let here : AllByRecursion (λ e. IsInRange e.0) (item_cells corner items j) = (all_parts (λ e. IsInRange e.0) (picture_of_items corner items) (item_cells corner items j) cells.0).1 in
     let some : 0 < j.count = (counts_low rest (j ∷ []) more item).0 in
     let exact : i ≡ j = same ∙ kept_is j count in
-    let live : tag_state j.tag ≢ 0 → HasRoom (place_after corner items) j.count = λ ne. run_has_room (tag_state j.tag) (place_after corner items) j.count some (rw (ne_eqb (tag_state j.tag) 0 ne) at here) in
+    let live : tag_state j.tag ≢ 0 → HasRoomRight (place_after corner items) j.count = λ ne. run_has_room (tag_state j.tag) (place_after corner items) j.count some (rw (ne_eqb (tag_state j.tag) 0 ne) at here) in
     let place : tag_state j.tag ≢ 0 → point_from corner at ≡ place_after corner items = λ ne. offset_is corner items at range.corner offset (live ne).0 in
     record {
       same = same;
@@ -134,7 +134,7 @@ next_is most corner bytes rest more at all items i spelled range low run offset 
           let last = greatest_state-push items j in
           omega (arith, low, whole, parts, last)
           );
-      room = rw exact (λ ne. subst (λ p. HasRoom p j.count) (sym (place ne)) (live ne));
+      room = rw exact (λ ne. subst (λ p. HasRoomRight p j.count) (sym (place ne)) (live ne));
       cells = rw exact (next_cells (point_from corner at) (place_after corner items) j.count j.count j.tag place refl);
     }
   where

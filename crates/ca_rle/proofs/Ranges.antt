@@ -11,7 +11,8 @@ use Rattle.ca_rle.specs.Shown.{tag_state, row_count, columns_of, run_of, place_a
 use Rattle.ca_rle.specs.Limits.{IsRleWithinRange}
 use Rattle.ca_plane.specs.Limits.{IsInRange}
 use Rattle.ca_rle.specs.inner.BodyFaults.{bare_file}
-use Rattle.ca_rle.specs.inner.Extent.{longest_of, live_count_of_item, live_count_of_items, columns_to, rows_to, right_after, bottom_after, kept_number, IsItemsExtent, IsExtentInRange, HasRoom}
+use Rattle.ca_plane.specs.Bytes.{nearest_u64}
+use Rattle.ca_rle.specs.inner.Extent.{longest_of, live_count_of_item, live_count_of_items, columns_to, rows_to, right_after, bottom_after, IsItemsExtent, IsExtentInRange, HasRoomRight}
 use Rattle.ca_rle.proofs.Spans.{all_run, all_append, length_run}
 
 -- ---- counts
@@ -43,26 +44,26 @@ at_run P f a (suc n) k low high (here, later) =
     ]
 
 -- a run that has room is in range
-run_in_range : (state : ℕ) (at : Point) (n : ℕ) → HasRoom at n → AllByRecursion (λ e. IsInRange e.0) (run_of state at n)
+run_in_range : (state : ℕ) (at : Point) (n : ℕ) → HasRoomRight at n → AllByRecursion (λ e. IsInRange e.0) (run_of state at n)
 run_in_range state at n (start, room) =
     all_run (λ e. IsInRange e.0) _ 0 n (λ k l. (omega (arith, ints, start.0), omega (arith, ints, room), start.2, start.3))
 
 -- one in range has room, if it isn't empty
-pub run_has_room : (state : ℕ) (at : Point) (n : ℕ) → 0 < n → AllByRecursion (λ e. IsInRange e.0) (run_of state at n) → HasRoom at n
+pub run_has_room : (state : ℕ) (at : Point) (n : ℕ) → 0 < n → AllByRecursion (λ e. IsInRange e.0) (run_of state at n) → HasRoomRight at n
 run_has_room state at n some all =
     let first = at_run (λ e. IsInRange e.0) _ 0 n 0 (omega arith) (omega arith) all in
     let last = at_run (λ e. IsInRange e.0) _ 0 n (n - 1) (omega arith) (omega arith) all in
     ((omega (arith, ints, first.0), omega (arith, ints, first.1), first.2, first.3), omega (arith, ints, last.1))
 
 -- an item whose live cells have room is in range
-item_in_range : (at : Point) (i : Item) (live : Bool) → (live ≡ false → HasRoom at i.count) → AllByRecursion (λ e. IsInRange e.0) (cond live [] (run_of (tag_state i.tag) at i.count))
+item_in_range : (at : Point) (i : Item) (live : Bool) → (live ≡ false → HasRoomRight at i.count) → AllByRecursion (λ e. IsInRange e.0) (cond live [] (run_of (tag_state i.tag) at i.count))
 item_in_range at i true room = tt
 item_in_range at i false room = run_in_range (tag_state i.tag) at i.count (room refl)
 
 -- the place of an item has room for its cells, where they don't pass these columns and rows
 has_room : (corner : Point) (before : List Item) (i : Item) (right bottom : ℕ) → IsInRange corner
     → (corner.x +ℤ pos right) ≤ℤ pos (2 ^ 60) → (corner.y +ℤ pos bottom) ≤ℤ pos (2 ^ 60) → (tag_state i.tag == 0) ≡ false → 0 < i.count → columns_to before i ≤ right → rows_to before i ≤ bottom
-    → HasRoom (place_after corner before) i.count
+    → HasRoomRight (place_after corner before) i.count
 has_room corner before i right bottom start x y live some columns rows =
     let c : columns_of before + i.count ≤ right = rw live at columns in
     let r : row_count before + 1 ≤ bottom = rw live at rows in
@@ -88,7 +89,7 @@ limit-max : (corner : ℤ) (a b : ℕ) → (corner +ℤ pos a) ≤ℤ pos (2 ^ 6
 limit-max corner a b h k = omega (arith, ints, h, k)
 
 -- an item in range has room for its live cells
-room_from : (corner : Point) (before : List Item) (i : Item) → 0 < i.count → AllByRecursion (λ e. IsInRange e.0) (item_cells corner before i) → (tag_state i.tag == 0) ≡ false → HasRoom (place_after corner before) i.count
+room_from : (corner : Point) (before : List Item) (i : Item) → 0 < i.count → AllByRecursion (λ e. IsInRange e.0) (item_cells corner before i) → (tag_state i.tag == 0) ≡ false → HasRoomRight (place_after corner before) i.count
 room_from corner before i some all live = run_has_room (tag_state i.tag) (place_after corner before) i.count some (rw live at all)
 
 -- the columns and rows of cells in range
@@ -111,7 +112,7 @@ bottom_in_range corner before (i ∷ is) start (some, low) all =
 -- ---- the extent
 
 -- what is kept as a number that is in range is that number
-near : (corner : ℤ) (n m : ℕ) → neg_ℤ (pos (2 ^ 60)) ≤ℤ corner → n ≡ kept_number m → (corner +ℤ pos n) ≤ℤ pos (2 ^ 60) → m ≡ n
+near : (corner : ℤ) (n m : ℕ) → neg_ℤ (pos (2 ^ 60)) ≤ℤ corner → n ≡ nearest_u64 m → (corner +ℤ pos n) ≤ℤ pos (2 ^ 60) → m ≡ n
 near corner n m low e h = omega (arith, ints, low, e, h)
 
 -- items whose extent is in range are
@@ -126,7 +127,7 @@ within_range corner items e low reach range =
     }
 
 -- a kept number is no more than the number
-kept-le : (corner : ℤ) (n m : ℕ) → n ≡ kept_number m → (corner +ℤ pos m) ≤ℤ pos (2 ^ 60) → (corner +ℤ pos n) ≤ℤ pos (2 ^ 60)
+kept-le : (corner : ℤ) (n m : ℕ) → n ≡ nearest_u64 m → (corner +ℤ pos m) ≤ℤ pos (2 ^ 60) → (corner +ℤ pos n) ≤ℤ pos (2 ^ 60)
 kept-le corner n m e h = omega (arith, ints, e, h)
 
 -- and those that are in range have such an extent

@@ -13,7 +13,7 @@ ghost use Rattle.ca_rle.specs.Shown.{tag_state, greatest_state, run_of, picture_
 ghost use Rattle.ca_rle.specs.Limits.{IsRleWithinRange};
 ghost use Rattle.ca_plane.specs.Limits.{IsInRange};
 ghost use Rattle.ca_rle.specs.inner.BodyFaults.{IsItemAtFront, bare_file};
-ghost use Rattle.ca_rle.specs.inner.Extent.{point_from, HasRoom, cells_from, over};
+ghost use Rattle.ca_rle.specs.inner.Extent.{point_from, HasRoomRight, cells_from, over};
 
 use crate::extent::Offset;
 use crate::item::Item;
@@ -37,7 +37,7 @@ pub(crate) trait Canvas: Drop {
 
     /// Gives so many cells a state, from a point to the right.
     fn draw_run(&mut self, at: Point, count: u64, state: u8) -> Result<(), Memory>
-        requires room { HasRoom at count }
+        requires room { HasRoomRight at count }
         requires least { 1 ≤ state }
         requires most { state ≤ most }
         ensures cells { OnOk result ((x y : ℤ) → shown self.new x y
@@ -89,7 +89,7 @@ impl Canvas for BitPlane {
 /// Draws the cells of an item that begins at an offset from the corner.
 fn draw_item<C: Canvas>(canvas: &mut C, corner: Point, at: Offset, item: Item) -> Result<(), Memory>
     requires corner { IsInRange corner }
-    requires room { tag_state item.tag ≢ 0 → HasRoom (point_from corner at) item.count }
+    requires room { tag_state item.tag ≢ 0 → HasRoomRight (point_from corner at) item.count }
     requires most { tag_state item.tag ≤ C.most }
     ensures cells { OnOk result ((x y : ℤ) → C.shown canvas.new x y
         ≡ over (cells_from (point_from corner at) item) (C.shown canvas.old) x y) }

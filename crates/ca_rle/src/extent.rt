@@ -9,7 +9,8 @@ ghost use Rattle.ca_rle.specs.Faults.{after_white, item_fault};
 ghost use Rattle.ca_rle.specs.Shown.{ends_row, tag_state};
 ghost use Rattle.ca_plane.specs.Limits.{IsInRange, range};
 ghost use Rattle.ca_rle.specs.inner.BodyFaults.{IsItemAtFront, HasBadUnitAt};
-ghost use Rattle.ca_rle.specs.inner.Extent.{kept_number, live_count_of_item};
+ghost use Rattle.ca_plane.specs.Bytes.{nearest_u64};
+ghost use Rattle.ca_rle.specs.inner.Extent.{live_count_of_item};
 ghost use Rattle.ca_rle.specs.inner.Extent.{IsOffsetOf, IsItemsExtent, IsExtentInRange};
 ghost use Rattle.ca_rle.specs.inner.Extent.{point_from};
 
@@ -45,9 +46,9 @@ impl Offset {
 
     /// Where the item after this one begins.
     pub(crate) fn after_item(self, item: Item) -> Offset
-        ensures rows { result.rows ≡ kept_number (self.rows + (if ends_row item.tag then item.count else 0)) }
+        ensures rows { result.rows ≡ nearest_u64 (self.rows + (if ends_row item.tag then item.count else 0)) }
         ensures columns { result.columns ≡ (if ends_row item.tag then 0
-            else kept_number (self.columns + item.count)) }
+            else nearest_u64 (self.columns + item.count)) }
     {
         match item.tag {
             Tag::Cell(_) => Offset {
@@ -104,10 +105,10 @@ impl Extent {
     fn grown(self, at: Offset, item: Item) -> Extent
         ensures longest { result.longest ≡ max self.longest item.count }
         ensures right { result.reach.columns ≡ max self.reach.columns (if tag_state item.tag == 0 then 0
-            else kept_number (at.columns + item.count)) }
+            else nearest_u64 (at.columns + item.count)) }
         ensures bottom { result.reach.rows ≡ max self.reach.rows (if tag_state item.tag == 0 then 0
-            else kept_number (at.rows + 1)) }
-        ensures cells { result.cells ≡ kept_number (self.cells + live_count_of_item item) }
+            else nearest_u64 (at.rows + 1)) }
+        ensures cells { result.cells ≡ nearest_u64 (self.cells + live_count_of_item item) }
         ensures greatest { result.greatest ≡ max self.greatest (tag_state item.tag) }
     {
         let longest = self.longest.max(item.count);

@@ -1,8 +1,8 @@
 //! One item of an RLE text, read from the front of its bytes. Nothing here takes memory.
 
-ghost use Rattle.std.specs.Prelude.{◌≡◌, ℕ, ◌<◌, ◌≤◌, ◌-◌, ◌^◌, min, List, [], ◌∷◌, ◌++◌, Some, false, not};
+ghost use Rattle.std.specs.Prelude.{◌≡◌, ℕ, ◌<◌, ◌≤◌, ◌-◌, List, [], ◌∷◌, ◌++◌, Some, false, not};
 ghost use Rattle.std.specs.Prelude.{length, MatchOption, MatchResult, IsTrue};
-ghost use Rattle.ca_plane.specs.Bytes.{is_blank, is_digit, is_end_or, Every, value};
+ghost use Rattle.ca_plane.specs.Bytes.{is_blank, is_digit, is_end_or, nearest_u64, Every, value};
 ghost use Rattle.ca_rle.specs.declared.item.Item.{Item};
 ghost use Rattle.ca_rle.specs.Items.{AtStart, InLine, is_letter, is_prefix, prefixed_state, tag_of, IsEnd};
 ghost use Rattle.ca_rle.specs.Faults.{after_white, letter_fault, tag_fault, item_fault};
@@ -104,7 +104,7 @@ fn split_count(bytes: &[u8]) -> (&[u8], &[u8])
 fn count(digits: &[u8]) -> Option<u64>
     requires { Every is_digit digits.now }
     ensures { MatchOption result (value digits.now ≡ 0)
-        (λ n. (0 < value digits.now) × (n ≡ min (value digits.now) (2 ^ 64 - 1))) }
+        (λ n. (0 < value digits.now) × (n ≡ nearest_u64 (value digits.now))) }
 {
     let count = number(digits);
     if count == 0 {

@@ -1,12 +1,12 @@
 -- Small rule tables, and cells under them and under other rules, for the worked examples.
-use Rattle.std.specs.Prelude.{◌≡◌, ℕ, ◌-◌, List, [], ◌∷◌, ◌++◌, map, flat_map, codes}
+use Rattle.std.specs.Prelude.{◌≡◌, ℕ, ◌-◌, List, [], ◌∷◌, ◌++◌, map, codes}
 use Rattle.ca_rule.specs.declared.table.neighbourhood.Neighbourhood.{Neighbourhood}
 use Rattle.ca_rule.specs.declared.table.neighbourhood.Neighbourhood.TheVariants.{VonNeumann}
 use Rattle.ca_rule.specs.declared.table.neighbourhood.Symmetry.{Symmetry}
 use Rattle.ca_rule.specs.declared.table.neighbourhood.Symmetry.TheVariants.{Identity}
 use Rattle.ca_rule.specs.declared.table.slot.Slot.{Slot}
 use Rattle.ca_rule.specs.declared.table.slot.Slot.TheVariants.{Number, Variable}
-use Rattle.ca_plane.specs.Bytes.{words_of}
+use Rattle.ca_plane.specs.Bytes.{text_of, words_of}
 use Rattle.ca_rule.specs.declared.hood.Hood.{Hood}
 use Rattle.ca_rule.specs.Counts.{counts_of}
 use Rattle.ca_rule.specs.Next as bs
@@ -111,10 +111,6 @@ second_of_six = record {
 
 abbrev pub second_of_two : Transition
 second_of_two = record { inputs = Number 0 ∷ Number 0 ∷ Number 1 ∷ []; result = Number 1 }
-
--- lines, each with its LF
-abbrev pub text_of : List (List ℕ) → List ℕ
-text_of lines = flat_map (λ l. l ++ codes "\n") lines
 
 -- a rule file of seven lines, of which the values of the table's settings and the last line are given
 abbrev pub file_with : List ℕ → List ℕ → List ℕ → List ℕ → List ℕ

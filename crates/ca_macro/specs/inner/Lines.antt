@@ -7,7 +7,7 @@ use Rattle.ca_macro.specs.Nodes as nodes
 use Rattle.ca_macro.specs.File.{Adds, MacrocellWordsSay}
 use Rattle.ca_macro.specs.inner.Comments.{said_of}
 use Rattle.ca_macro.specs.inner.Leaves.{leaf_bits}
-use Rattle.ca_macro.specs.inner.Numbers.{kept_of}
+use Rattle.ca_plane.specs.Bytes.{nearest_u64}
 
 -- what is read of a line of these words is what they say: of a leaf the bits of its rows, and of the numbers of nodes what is kept
 abbrev pub ReadsLines : List (List ℕ) → Line → Type 0
@@ -16,4 +16,4 @@ ReadsLines words (Leaf bits) = (rows : List (List Bool)) × MacrocellWordsSay wo
 ReadsLines words (Cells states) = (nw : ℕ) × (ne : ℕ) × (sw : ℕ) × (se : ℕ) × MacrocellWordsSay words (Adds (nodes.Cells nw ne sw se))
     × AllByRecursion (λ state. state ≤ 255) (nw ∷ ne ∷ sw ∷ se ∷ []) × (states ≡ nw ∷ ne ∷ sw ∷ se ∷ [])
 ReadsLines words (Parts kept) = (nw : ℕ) × (ne : ℕ) × (sw : ℕ) × (se : ℕ) × MacrocellWordsSay words (Adds (nodes.Parts kept.level nw ne sw se))
-    × nodes.IsLevel kept.level × (kept.nw ≡ kept_of nw) × (kept.ne ≡ kept_of ne) × (kept.sw ≡ kept_of sw) × (kept.se ≡ kept_of se)
+    × nodes.IsLevel kept.level × (kept.nw ≡ nearest_u64 nw) × (kept.ne ≡ nearest_u64 ne) × (kept.sw ≡ nearest_u64 sw) × (kept.se ≡ nearest_u64 se)

@@ -2,7 +2,7 @@
 use Rattle.std.specs.Prelude.{◌≡◌, ℕ, suc, ◌-◌, ◌<◌, ◌≤◌, ℤ, List, [], ◌∷◌, length, slice_index, Option, None, Some, IfSome, MatchOption, unwrap_or}
 use Rattle.std.specs.List.{flat_map}
 use Rattle.std.specs.Option.{option_copied}
-use Rattle.ca_plane.specs.Bytes.{IsWord}
+use Rattle.ca_plane.specs.Bytes.{nearest_u64, IsWord}
 use Rattle.ca_plane.specs.Limits.{generation_limit, default_rule}
 use Rattle.ca_plane.specs.Plane.{Picture, IsPicture, cell}
 use Rattle.ca_quad.specs.declared.node.Node.{Node as Kept}
@@ -19,7 +19,6 @@ use Rattle.ca_macro.specs.Nodes.{Node, Parts, node_level, NamesPart, MayFollow}
 use Rattle.ca_macro.specs.File.{MacrocellLine, MacrocellFile, IsMacrocellFile, added, last_rule, last_line_generation}
 use Rattle.ca_macro.specs.Shown.{numbered_square, squares_of}
 use Rattle.ca_macro.specs.Faults.{AreFaulty, HasBadPart, AddNode, HasNodeLine, IsFirstMacrocellFaultOn}
-use Rattle.ca_macro.specs.inner.Numbers.{kept_of}
 
 -- the square shows the cells of a picture, counted from its upper left corner
 pub record Draws (store : List Kept) (square : Tree) (picture : Picture) : Type 0 where
@@ -60,15 +59,15 @@ IsBadNumber fault nodes level number = ⊥
 
 -- of these numbers this is kept
 pub record KeepsParts (kept : Numbers) (nw ne sw se : ℕ) : Type 0 where
-  pub is_nw : kept.nw ≡ kept_of nw
-  pub is_ne : kept.ne ≡ kept_of ne
-  pub is_sw : kept.sw ≡ kept_of sw
-  pub is_se : kept.se ≡ kept_of se
+  pub is_nw : kept.nw ≡ nearest_u64 nw
+  pub is_ne : kept.ne ≡ nearest_u64 ne
+  pub is_sw : kept.sw ≡ nearest_u64 sw
+  pub is_se : kept.se ≡ nearest_u64 se
 
 -- four numbers can't be a square's parts, or there is no memory for the square
-abbrev pub HaveFault : MacroFault → List Node → (level nw ne sw se : ℕ) → Type 0
-HaveFault Memory nodes level nw ne sw se = MayFollow nodes (Parts level nw ne sw se)
-HaveFault f nodes level nw ne sw se = HasBadPart nodes (level - 1) (nw ∷ ne ∷ sw ∷ se ∷ []) (IsBadNumber f nodes (level - 1))
+abbrev pub HaveNumberFault : MacroFault → List Node → (level nw ne sw se : ℕ) → Type 0
+HaveNumberFault Memory nodes level nw ne sw se = MayFollow nodes (Parts level nw ne sw se)
+HaveNumberFault f nodes level nw ne sw se = HasBadPart nodes (level - 1) (nw ∷ ne ∷ sw ∷ se ∷ []) (IsBadNumber f nodes (level - 1))
 
 -- the fault of a line with these words that follows earlier nodes
 abbrev pub HasNodeFault : MacroFault → List Node → List (List ℕ) → Type 0
@@ -94,9 +93,9 @@ pub record IsMacrocellReading (store : List Kept) (said : List MacrocellLine) (r
   pub limit : reading.generation < generation_limit
 
 -- the file of lines that say this
-abbrev pub file_of : List MacrocellLine → MacrocellFile
-file_of said = record { nodes = flat_map added said; rule_text = last_rule default_rule said; generation = last_line_generation 0 said }
+abbrev pub file_of_lines : List MacrocellLine → MacrocellFile
+file_of_lines said = record { nodes = flat_map added said; rule_text = last_rule default_rule said; generation = last_line_generation 0 said }
 
 -- the text is a file, and this is what is kept of its lines
 abbrev pub HoldsReading : List Kept → List ℕ → Reading → Type 0
-HoldsReading store bytes reading = (said : List MacrocellLine) × IsMacrocellFile bytes (file_of said) × IsMacrocellReading store said reading
+HoldsReading store bytes reading = (said : List MacrocellLine) × IsMacrocellFile bytes (file_of_lines said) × IsMacrocellReading store said reading

@@ -29,8 +29,8 @@ abbrev pub kept_cells : List Kept → ℕ → ℕ → ℕ → ℕ
 kept_cells kept id = squares.cell_of kept (squares.level_of kept id) id
 
 -- a picture shows a square, its upper left cell at (0, 0)
-abbrev pub IsPictureOf : Picture → (ℕ → ℕ → ℕ) → Type 0
-IsPictureOf picture cells = (x y : ℤ) → cell picture x y ≡ from_corner cells x y
+abbrev pub IsPictureOfSquare : Picture → (ℕ → ℕ → ℕ) → Type 0
+IsPictureOfSquare picture cells = (x y : ℤ) → cell picture x y ≡ from_corner cells x y
 
 -- the level of the squares that are written without parts
 abbrev pub leaf_level : ℕ → ℕ
@@ -47,14 +47,14 @@ pub record HasFitParts (kept : List Kept) (states id : ℕ) (parts : List ℕ) :
 pub record IsWrittenNumber (kept : List Kept) (ns : List Node) (id number : ℕ) : Type 0 where
   pub at_most : number ≤ length ns
   pub names : NamesPart ns (squares.level_of kept id) number
-  pub shows : IsPictureOf (numbered_square (squares_of ns) number) (kept_cells kept id)
+  pub shows : IsPictureOfSquare (numbered_square (squares_of ns) number) (kept_cells kept id)
 
 -- the node may be written for this square after these nodes
 pub record IsNodeOf (kept : List Kept) (states : ℕ) (ns : List Node) (id : ℕ) (node : Node) : Type 0 where
   pub in_place : MayFollow ns node
   pub form : HasForm states node
   pub level : node_level node ≡ squares.level_of kept id
-  pub shows : IsPictureOf (node_picture (squares_of ns) node) (kept_cells kept id)
+  pub shows : IsPictureOfSquare (node_picture (squares_of ns) node) (kept_cells kept id)
 
 -- what has been gathered: nodes as they are written, each that of a square, and the squares' numbers
 pub record IsGathered (kept : List Kept) (states : ℕ) (ns : List Node) (numbers : List (ℕ × ℕ)) : Type 0 where

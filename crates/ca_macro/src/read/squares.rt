@@ -10,8 +10,9 @@ ghost use Rattle.ca_macro.specs.Nodes.{Node, Leaf, Cells, Parts, IsLevel, MayFol
 ghost use Rattle.ca_macro.specs.Shown.{picture_of_nodes};
 ghost use Rattle.ca_macro.specs.Faults.{HasBadPart};
 ghost use Rattle.ca_macro.specs.inner.Leaves.{leaf_bits};
-ghost use Rattle.ca_macro.specs.inner.Numbers.{kept_of};
-ghost use Rattle.ca_macro.specs.inner.Reading.{AreSquares, IsNodePart, IsBadNumber, KeepsParts, HaveFault};
+ghost use Rattle.ca_plane.specs.Bytes.{nearest_u64};
+ghost use Rattle.ca_macro.specs.inner.Reading.{AreSquares, IsNodePart, IsBadNumber, KeepsParts};
+ghost use Rattle.ca_macro.specs.inner.Reading.{HaveNumberFault};
 
 use crate::fault::MacroFault;
 use crate::line::Numbers;
@@ -54,10 +55,10 @@ impl Squares {
     /// `Forward` where no earlier node has the number, and `Level` where the node has another level.
     fn part(&self, level: u8, number: u64) -> Result<Option<Id>, MacroFault>
         ensures part { IfOk result (λ p. (store : List Kept) (nodes : List Node) (n : ℕ)
-            → AreSquares store nodes self.now → number ≡ kept_of n
+            → AreSquares store nodes self.now → number ≡ nearest_u64 n
             → IsNodePart store nodes level n p) }
         ensures fault { IfErr result (λ f. (store : List Kept) (nodes : List Node) (n : ℕ)
-            → AreSquares store nodes self.now → number ≡ kept_of n
+            → AreSquares store nodes self.now → number ≡ nearest_u64 n
             → IsBadNumber f nodes level n) }
     {
         if number == 0 {
@@ -139,7 +140,7 @@ impl Squares {
             × AreSquares store.new (nodes ++ Parts numbers.level nw ne sw se ∷ []) self.new) }
         ensures fault { IfErr result (λ f. (nodes : List Node) (nw ne sw se : ℕ)
             → AreSquares store.old nodes self.old → KeepsParts numbers nw ne sw se
-            → HaveFault f nodes numbers.level nw ne sw se) }
+            → HaveNumberFault f nodes numbers.level nw ne sw se) }
         ensures grows { Grows store.old store.new }
     {
         let level = numbers.level as u8;

@@ -1,6 +1,7 @@
 -- How an RLE text is read: what stands after its header, and the corner as the reader keeps it.
-use Rattle.std.specs.Prelude.{◌≡◌, ℕ, ◌^◌, ◌-◌, min, List, [], ◌∷◌, Some, ◌⊎◌}
+use Rattle.std.specs.Prelude.{◌≡◌, ℕ, List, [], ◌∷◌, Some, ◌⊎◌}
 use Rattle.ca_plane.specs.declared.point.Point.{Point}
+use Rattle.ca_plane.specs.Bytes.{nearest_u64}
 use Rattle.ca_plane.specs.Sparse.{IsInPlane}
 use Rattle.ca_rle.specs.declared.fault.RleFault.{RleFault}
 use Rattle.ca_rle.specs.declared.item.Item.{Item}
@@ -11,7 +12,7 @@ use Rattle.ca_rle.specs.Faults.{item_fault}
 
 -- the item as the code keeps it: its count is at most 2^64 - 1
 abbrev pub with_capped_count : Item → Item
-with_capped_count item = record { count = min item.count (2 ^ 64 - 1); tag = item.tag }
+with_capped_count item = record { count = nearest_u64 item.count; tag = item.tag }
 
 -- an item stands at the front, before these bytes, and this is kept of it
 abbrev pub IsItemAtFront : List ℕ → Item → List ℕ → Type 0

@@ -1,8 +1,9 @@
 -- How far the items of an RLE text reach from the corner, and how the reader keeps that: each number is at most 2^64 - 1.
-use Rattle.std.specs.Prelude.{◌≡◌, ℕ, ◌+◌, ◌-◌, ◌^◌, ◌≤◌, min, max, ℤ, pos, ◌+ℤ◌, ◌≤ℤ◌, List, [], ◌∷◌, ◌++◌, ◌==◌, ◌&&◌, if◌then◌else◌}
+use Rattle.std.specs.Prelude.{◌≡◌, ℕ, ◌+◌, ◌≤◌, max, ℤ, pos, ◌+ℤ◌, ◌≤ℤ◌, List, [], ◌∷◌, ◌++◌, ◌==◌, ◌&&◌, if◌then◌else◌}
 use Rattle.std.specs.List.{sum_by}
 use Rattle.std.specs.Ordering.{int_eq}
 use Rattle.ca_plane.specs.declared.point.Point.{Point}
+use Rattle.ca_plane.specs.Bytes.{nearest_u64}
 use Rattle.ca_plane.specs.Plane.{Picture}
 use Rattle.ca_rle.specs.declared.item.Item.{Item}
 use Rattle.ca_rle.specs.declared.extent.Extent.{Extent}
@@ -49,21 +50,17 @@ bottom_after before is = greatest_of rows_to before is
 
 -- ---- how it is kept
 
--- a number as the code keeps it
-abbrev pub kept_number : ℕ → ℕ
-kept_number n = min n (2 ^ 64 - 1)
-
 -- where the item after these begins
 pub record IsOffsetOf (items : List Item) (offset : Offset) : Type 0 where
-  pub rows : offset.rows ≡ kept_number (row_count items)
-  pub columns : offset.columns ≡ kept_number (columns_of items)
+  pub rows : offset.rows ≡ nearest_u64 (row_count items)
+  pub columns : offset.columns ≡ nearest_u64 (columns_of items)
 
 -- how far these items reach
 pub record IsItemsExtent (items : List Item) (extent : Extent) : Type 0 where
-  pub longest : extent.longest ≡ kept_number (longest_of items)
-  pub right : extent.reach.columns ≡ kept_number (right_after [] items)
-  pub bottom : extent.reach.rows ≡ kept_number (bottom_after [] items)
-  pub cells : extent.cells ≡ kept_number (live_count_of_items items)
+  pub longest : extent.longest ≡ nearest_u64 (longest_of items)
+  pub right : extent.reach.columns ≡ nearest_u64 (right_after [] items)
+  pub bottom : extent.reach.rows ≡ nearest_u64 (bottom_after [] items)
+  pub cells : extent.cells ≡ nearest_u64 (live_count_of_items items)
   pub greatest : extent.greatest ≡ greatest_state items
 
 -- items of this extent are in range from this corner
@@ -80,8 +77,8 @@ abbrev pub point_from : Point → Offset → Point
 point_from corner offset = record { y = corner.y +ℤ pos offset.rows; x = corner.x +ℤ pos offset.columns }
 
 -- so many cells from a point to the right are in range
-abbrev pub HasRoom : Point → ℕ → Type 0
-HasRoom at count = IsInRange at × ((at.x +ℤ pos count) ≤ℤ pos range)
+abbrev pub HasRoomRight : Point → ℕ → Type 0
+HasRoomRight at count = IsInRange at × ((at.x +ℤ pos count) ≤ℤ pos range)
 
 -- the cells of an item that begins at a point
 abbrev pub cells_from : Point → Item → Picture

@@ -1,9 +1,10 @@
 -- How what stands before the items of an RLE text is read: numbers, words and lines, one after another.
-use Rattle.std.specs.Prelude.{◌≡◌, ℕ, ℤ, ◌^◌, ◌≤ℤ◌, ◌<ℤ◌, pos, neg_ℤ, List, [], ◌∷◌, ◌++◌, true, false, Option, unwrap_or, ◌⊎◌}
+use Rattle.std.specs.Prelude.{◌≡◌, ℕ, ℤ, ◌≤ℤ◌, ◌<ℤ◌, pos, neg_ℤ, List, [], ◌∷◌, ◌++◌, true, false, Option, unwrap_or, ◌⊎◌}
 use Rattle.std.specs.Option.{option_copied}
 use Rattle.std.specs.List.{AllZip, AllByRecursion}
 use Rattle.ca_plane.specs.declared.point.Point.{Point}
 use Rattle.ca_plane.specs.Bytes.{IsInteger}
+use Rattle.ca_plane.specs.Sparse.{reach}
 use Rattle.ca_rle.specs.declared.front.words.Start.{Start}
 use Rattle.ca_rle.specs.declared.front.lines.Preamble.{Preamble}
 use Rattle.ca_rle.specs.declared.front.Front.{Front}
@@ -20,10 +21,10 @@ use Rattle.ca_rle.specs.inner.BodyFaults.{KeepsCorner}
 abbrev pub IsNearCoordinate : ℤ → Type 0
 IsNearCoordinate n = (neg_ℤ (pos range) ≤ℤ n) × (n <ℤ pos range)
 
--- the reader keeps the number itself, or, where that is out of range, some number within 2^62 that is out of range too
+-- the reader keeps the number itself, or, where that is out of range, some number within a plane's reach that is out of range too
 pub record KeepsNumber (number kept : ℤ) : Type 0 where
-  pub low : neg_ℤ (pos (2 ^ 62)) ≤ℤ kept
-  pub high : kept ≤ℤ pos (2 ^ 62)
+  pub low : neg_ℤ reach ≤ℤ kept
+  pub high : kept ≤ℤ reach
   pub same : (kept ≡ number) ⊎ ((IsNearCoordinate number → ⊥) × (IsNearCoordinate kept → ⊥))
 
 -- the bytes write a number that is kept so

@@ -1,6 +1,6 @@
 //! The tidy items of a plane, run by run.
 
-ghost use Rattle.std.specs.Prelude.{◌≡◌, ◌≢◌, ℕ, ℤ, ◌<◌, ◌^◌, ◌≤ℤ◌, ◌+ℤ◌, pos, ◌++◌, List, OnOk, IfOk};
+ghost use Rattle.std.specs.Prelude.{◌≡◌, ◌≢◌, ℕ, ℤ, ◌<◌, ◌≤ℤ◌, ◌+ℤ◌, pos, ◌++◌, List, OnOk, IfOk};
 ghost use Rattle.std.specs.Prelude.{IsTrue, IsFalse};
 ghost use Rattle.std.specs.List.{All};
 ghost use Rattle.ca_rle.specs.declared.item.Item.{Item};
@@ -9,6 +9,7 @@ ghost use Rattle.ca_rle.specs.Shown.{picture_of_items};
 ghost use Rattle.ca_rle.specs.Tidy.{AreTidy, HaveStates};
 ghost use Rattle.ca_rle.specs.inner.Written.{some_of, IsItemGap};
 ghost use Rattle.ca_plane.specs.Plane.{cell};
+ghost use Rattle.ca_plane.specs.Sparse.{reach};
 
 use super::frame::distance;
 use crate::item::{Item, Tag};
@@ -26,7 +27,7 @@ struct Run {
 impl Run {
     /// The run of one cell.
     fn of(point: Point, state: u8) -> Run
-        requires { point.x ≤ℤ pos (2 ^ 62) }
+        requires { point.x ≤ℤ reach }
         ensures from { result.from ≡ point }
         ensures past { result.past ≡ point.x +ℤ pos 1 }
         ensures state { result.state ≡ state }
