@@ -78,7 +78,7 @@ impl<A: Automaton> Leaper<A> {
         ensures work { EndsAtLimit self.new.spent result }
     {
         let _ = &self.store;
-        let mut reached = Reached {
+        let reached = Reached {
             tree: *tree,
             generations: 0,
         };
@@ -91,9 +91,35 @@ impl<A: Automaton> Leaper<A> {
         if !self.is_dense(tree)? {
             return Ok(reached);
         }
+        self.step_walls(masks, tree, reached, n, watch)
+    }
+
+    // What is reached by one wall after another, until few of the bricks of one are stepped.
+    fn step_walls<W: Watch>(
+        &mut self,
+        masks: (u16, u16),
+        first: &Tree,
+        mut reached: Reached,
+        n: u64,
+        watch: &mut W,
+    ) -> Result<Reached, LeapFault>
+        requires first { IsTree self.old.nodes first.now }
+        requires least { 7 ≤ first.now.level }
+        requires many { 32 ≤ n }
+        requires time { n ≤ 2 ^ 60 }
+        requires masks { GoesBy (A.next_of self.old.rule) masks }
+        requires reached { HasReached (A.next_of self.old.rule)
+            self.old.nodes first.now n self.old.nodes reached }
+        ensures reached { IfOk result (HasReached (A.next_of self.old.rule)
+            self.old.nodes first.now n self.new.nodes) }
+        ensures goes_on { LeaperGrows A self.old self.new }
+        ensures costs { IsDense A self.old first.now n self.new }
+        ensures work { EndsAtLimit self.new.spent result }
+    {
+        let _ = &self.store;
         let mut most = 0;
         'walls: for _ in 0..MOST_WALLS {
-            let Some(stretch) = self.step_wall(masks, tree, &reached, n, watch)? else {
+            let Some(stretch) = self.step_wall(masks, first, &reached, n, watch)? else {
                 return Ok(reached);
             };
             let Stretch {

@@ -2,12 +2,12 @@ use Rattle.std.proofs.Common.{◌+◌, ◌*◌, ◌^◌}
 use Rattle.ca_run.specs.Costs.{Costs}
 use Rattle.ca_run.specs.Leaping.{LeaperGrows}
 use Rattle.ca_run.specs.inner.Dense.{HasReached}
-use Rattle.ca_run.proofs.leaper.Leaper.step_dense.Given as goal
+use Rattle.ca_run.proofs.leaper.Leaper.step_walls.Given as goal
 
 -- what is reached so far, and what it cost
 abbrev pub invariant-walls : goal.invariant-walls
 invariant-walls g l = record {
-  reached : HasReached (g.A.Automaton.next_of l.fn.self.rule) l.self.nodes l.tree l.n l.self.nodes l.reached;
+  reached : HasReached (g.A.Automaton.next_of l.fn.self.rule) l.self.nodes l.first l.n l.self.nodes l.reached;
   goes_on : LeaperGrows _ l.fn.self l.self;
-  costs : Costs _ l.fn.self l.self (l.counter * (2 * 14 ^ (l.tree.level + 4))) (255 * l.counter);
+  costs : Costs _ l.fn.self l.self (l.counter * (2 * 14 ^ (l.first.level + 4))) (255 * l.counter);
 }
