@@ -1,7 +1,6 @@
 -- Squares that show a plane: they go on to do so, and so do their parts, joins and centres.
 use Rattle.std.proofs.Common.{◌≡◌, ℕ, ◌⊎◌, inl, inr, suc, ◌+◌, ◌<◌, ◌≤◌, ◌^◌, Option, Some, None, Result, Ok, Err, IfOk, IfSome, List, length, get_or, slice_index, refl, sym, ap, ap₂, subst, ◌∙◌, arith}
 use Rattle.std.specs.Prelude.{ℤ, pos, ◌+ℤ◌}
-use Rattle.std.specs.List.{Contains}
 use Rattle.std.proofs.lemmas.Int.{ints}
 use Rattle.std.proofs.lemmas.List.{get_or_default}
 use Rattle.std.proofs.Math.Nat.{two-pow-succ}
@@ -19,9 +18,9 @@ use Rattle.ca_run.specs.Spent.{Spent, Spends}
 use Rattle.ca_run.specs.Leaping.{LeaperView, LeaperGrows}
 use Rattle.ca_run.specs.inner.Shown.{Looks, ShowsAt, FourShow, ThreeShow, TwoShow, AreThree, side}
 use Rattle.ca_run.specs.Pages.{MemoView, HasFullLeap, HasSingle, RemembersNoMore}
-use Rattle.ca_run.specs.Slots.{SlotsView}
+use Rattle.ca_run.specs.Slots.{SlotsView, HasRecent}
 use Rattle.ca_run.specs.Memo.{AreFullLeaps, AreSingles, IsLeaper}
-use Rattle.ca_run.specs.RecentCentres.{HasRecent, AreRecentCentres}
+use Rattle.ca_run.specs.RecentCentres.{AreRecentCentres}
 use Rattle.ca_run.specs.RecentLeaps.{IsLeap, AreRecentLeaps}
 use Rattle.ca_run.proofs.After.{after_again}
 use Rattle.ca_run.proofs.Looks.{looks_from, looks_together, looks_nw, looks_ne, looks_sw, looks_se, looks_centre}
@@ -98,7 +97,7 @@ module _ (old new : List Node) (sound : IsSoundStore old) (grows : Grows old new
       let there = h id j half e in
       (there.0, centre_stays next id there.0 j half there.1)
 
-  pub kept_centres_stay : (next : List ℕ → ℕ) (slots : List (Option (ℕ × ℕ × ℕ))) → AreRecentCentres next old slots → AreRecentCentres next new slots
+  pub kept_centres_stay : (next : List ℕ → ℕ) (slots : List (Option ((ℕ × ℕ) × ℕ))) → AreRecentCentres next old slots → AreRecentCentres next new slots
   kept_centres_stay next slots h id j half e =
       let there = h id j half e in
       (there.0, centre_stays next id there.0 j half there.1)
@@ -143,7 +142,7 @@ module _ (old new : List Node) (sound : IsSoundStore old) (grows : Grows old new
         at_stays half (suc k) (cells_after next p (2 ^ k)) (a +ℤ side k) (b +ℤ side k) (h.shows p a b (four_was (suc k) nw ne sw se p a b h.are_four four));
   }
 
-  pub recent_leaps_stay : (next : List ℕ → ℕ) (slots : List (Option (ℕ × ℕ × ℕ × ℕ × ℕ))) → AreRecentLeaps next old slots → AreRecentLeaps next new slots
+  pub recent_leaps_stay : (next : List ℕ → ℕ) (slots : List (Option ((ℕ × ℕ × ℕ × ℕ) × ℕ))) → AreRecentLeaps next old slots → AreRecentLeaps next new slots
   recent_leaps_stay next slots h nw ne sw se half e =
       let there = h nw ne sw se half e in
       (there.0, leap_stays next there.0 nw ne sw se half there.1)
@@ -154,7 +153,7 @@ module _ (old new : List Node) (sound : IsSoundStore old) (grows : Grows old new
       (there.0, centre_stays next id there.0 there.0 half there.1)
 
 -- a leaper stays one as its store grows
-pub leaper_stays : {old new : List Node} {next : List ℕ → ℕ} {S : Type 0} {memo : MemoView} {slots : SlotsView (ℕ × ℕ × ℕ)} {leaps : SlotsView (ℕ × ℕ × ℕ × ℕ × ℕ)} {capacity : ℕ} {masks : Option (ℕ × ℕ)}
+pub leaper_stays : {old new : List Node} {next : List ℕ → ℕ} {S : Type 0} {memo : MemoView} {slots : SlotsView (ℕ × ℕ)} {leaps : SlotsView (ℕ × ℕ × ℕ × ℕ)} {capacity : ℕ} {masks : Option (ℕ × ℕ)}
     → IsLeaper next S old memo slots leaps capacity masks → Grows old new → IsLeaper next S new memo slots leaps capacity masks
 leaper_stays {memo} h grows = record {
   rule = h.rule;
@@ -299,8 +298,8 @@ recalled next nodes memo id k j None all square e = tt
 recalled next nodes memo id k j (Some half) all square e = centre_of next nodes id k j half (all id j half e) square
 
 -- and so is what a slot has for it
-pub kept_recalled : (next : List ℕ → ℕ) (nodes : List Node) (slots : List (Option (ℕ × ℕ × ℕ))) (id k j : ℕ) (found : Option ℕ) → AreRecentCentres next nodes slots → IsOf nodes id (suc (suc k))
-    → IfSome found (HasRecent slots id j) → IfSome found (IsCentre next nodes id k j)
+pub kept_recalled : (next : List ℕ → ℕ) (nodes : List Node) (slots : List (Option ((ℕ × ℕ) × ℕ))) (id k j : ℕ) (found : Option ℕ) → AreRecentCentres next nodes slots → IsOf nodes id (suc (suc k))
+    → IfSome found (HasRecent slots (id, j)) → IfSome found (IsCentre next nodes id k j)
 kept_recalled next nodes slots id k j None all square e = tt
 kept_recalled next nodes slots id k j (Some half) all square e = centre_of next nodes id k j half (all id j half e) square
 
@@ -316,14 +315,23 @@ centres_more next nodes Was Is id k j half all this more other time centre h = e
   )
 ]
 
--- so is what a slot has
-pub kept_more : (next : List ℕ → ℕ) (nodes : List Node) (old new : List (Option (ℕ × ℕ × ℕ))) (id k j half : ℕ) → AreRecentCentres next nodes old → IsCentre next nodes id k j half
-    → ((other time centre : ℕ) → HasRecent new other time centre → HasRecent old other time centre ⊎ ((other ≡ id) × (time ≡ j) × (centre ≡ half))) → AreRecentCentres next nodes new
-kept_more next nodes old new id k j half all this more = centres_more next nodes (HasRecent old) (HasRecent new) id k j half all this more
+-- after a write, what holds of the results in slots and of the new one holds of all
+results_more : {Key : Type 0} (Holds : Key → ℕ → Type 0) (old new : List (Option (Key × ℕ))) (key : Key) (square : ℕ) → ((other : Key) (any : ℕ) → HasRecent old other any → Holds other any) → Holds key square
+    → ((other : Key) (any : ℕ) → HasRecent new other any → HasRecent old other any ⊎ ((other ≡ key) × (any ≡ square))) → (other : Key) (any : ℕ) → HasRecent new other any → Holds other any
+results_more Holds old new key square all this more other any h = elim (more other any h) [
+  | inl was ↦ all other any was
+  | inr same ↦ subst (λ k. Holds k any) (sym same.0) (subst (λ s. Holds key s) (sym same.1) this)
+]
+
+-- they are still centres
+pub kept_more : (next : List ℕ → ℕ) (nodes : List Node) (old new : List (Option ((ℕ × ℕ) × ℕ))) (id k j half : ℕ) → AreRecentCentres next nodes old → IsCentre next nodes id k j half
+    → ((key : ℕ × ℕ) (any : ℕ) → HasRecent new key any → HasRecent old key any ⊎ ((key ≡ (id, j)) × (any ≡ half))) → AreRecentCentres next nodes new
+kept_more next nodes old new id k j half all this more other time =
+    results_more (λ key any. (l : ℕ) × IsCentre next nodes key.0 l key.1 any) old new (id, j) half (λ key. all key.0 key.1) (k, this) more (other, time)
 
 -- what a slot has for four squares is the one in their middle
-pub leap_recalled : (next : List ℕ → ℕ) (nodes : List Node) (slots : List (Option (ℕ × ℕ × ℕ × ℕ × ℕ))) (k nw ne sw se : ℕ) (found : Option ℕ) → AreRecentLeaps next nodes slots → AreFour nodes (suc k) nw ne sw se
-    → IfSome found (λ half. Contains slots (Some (nw, ne, sw, se, half))) → IfSome found (IsLeap next nodes k nw ne sw se)
+pub leap_recalled : (next : List ℕ → ℕ) (nodes : List Node) (slots : List (Option ((ℕ × ℕ × ℕ × ℕ) × ℕ))) (k nw ne sw se : ℕ) (found : Option ℕ) → AreRecentLeaps next nodes slots → AreFour nodes (suc k) nw ne sw se
+    → IfSome found (HasRecent slots (nw, ne, sw, se)) → IfSome found (IsLeap next nodes k nw ne sw se)
 leap_recalled next nodes slots k nw ne sw se None all four e = tt
 leap_recalled next nodes slots k nw ne sw se (Some half) all four e =
     let there = all nw ne sw se half e in
@@ -331,16 +339,10 @@ leap_recalled next nodes slots k nw ne sw se (Some half) all four e =
     subst (λ l. IsLeap next nodes l nw ne sw se half) same there.1
 
 -- and so after a write
-pub leaps_more : (next : List ℕ → ℕ) (nodes : List Node) (old new : List (Option (ℕ × ℕ × ℕ × ℕ × ℕ))) (k nw ne sw se half : ℕ) → AreRecentLeaps next nodes old → IsLeap next nodes k nw ne sw se half
-    → ((a b c d e : ℕ) → Contains new (Some (a, b, c, d, e)) → Contains old (Some (a, b, c, d, e)) ⊎ ((a ≡ nw) × (b ≡ ne) × (c ≡ sw) × (d ≡ se) × (e ≡ half))) → AreRecentLeaps next nodes new
-leaps_more next nodes old new k nw ne sw se half all this more a b c d e h = elim (more a b c d e h) [
-  | inl i ↦ all a b c d e i
-  | inr same ↦ (
-    k,
-    subst (λ x. IsLeap next nodes k x b c d e) (sym same.0) (subst (λ x. IsLeap next nodes k nw x c d e) (sym same.1) (subst (λ x. IsLeap next nodes k nw ne x d e) (sym same.2)
-        (subst (λ x. IsLeap next nodes k nw ne sw x e) (sym same.3) (subst (λ x. IsLeap next nodes k nw ne sw se x) (sym same.4) this)))),
-  )
-]
+pub leaps_more : (next : List ℕ → ℕ) (nodes : List Node) (old new : List (Option ((ℕ × ℕ × ℕ × ℕ) × ℕ))) (k nw ne sw se half : ℕ) → AreRecentLeaps next nodes old → IsLeap next nodes k nw ne sw se half
+    → ((key : ℕ × ℕ × ℕ × ℕ) (any : ℕ) → HasRecent new key any → HasRecent old key any ⊎ ((key ≡ (nw, ne, sw, se)) × (any ≡ half))) → AreRecentLeaps next nodes new
+leaps_more next nodes old new k nw ne sw se half all this more a b c d =
+    results_more (λ key any. (l : ℕ) × IsLeap next nodes l key.0 key.1 key.2 key.3 any) old new (nw, ne, sw, se) half (λ key. all key.0 key.1 key.2 key.3) (k, this) more (a, b, c, d)
 
 -- what its page has for a square is its centre
 pub full_leap_recalled : (next : List ℕ → ℕ) (nodes : List Node) (memo : MemoView) (id k j : ℕ) (found : Option ℕ) → j ≡ k → AreFullLeaps next nodes memo → IsOf nodes id (suc (suc k))
@@ -369,7 +371,7 @@ pub singles_more : (next : List ℕ → ℕ) (nodes : List Node) (old new : Memo
 singles_more next nodes old new id k j half all this more = centres_more next nodes (HasSingle old) (HasSingle new) id k j half all this more
 
 -- what a look-up leaves
-pub leaper_looked : {next : List ℕ → ℕ} {S : Type 0} {nodes : List Node} {old new : MemoView} {slots : SlotsView (ℕ × ℕ × ℕ)} {leaps : SlotsView (ℕ × ℕ × ℕ × ℕ × ℕ)} {capacity : ℕ} {masks : Option (ℕ × ℕ)}
+pub leaper_looked : {next : List ℕ → ℕ} {S : Type 0} {nodes : List Node} {old new : MemoView} {slots : SlotsView (ℕ × ℕ)} {leaps : SlotsView (ℕ × ℕ × ℕ × ℕ)} {capacity : ℕ} {masks : Option (ℕ × ℕ)}
     → RemembersNoMore old new → IsLeaper next S nodes old slots leaps capacity masks → IsLeaper next S nodes new slots leaps capacity masks
 leaper_looked {old} {new} {slots} {leaps} f h = record {
   rule = h.rule;

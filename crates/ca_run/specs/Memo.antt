@@ -18,13 +18,13 @@ abbrev pub AreSingles : (List ℕ → ℕ) → List Node → MemoView → Type 0
 AreSingles next nodes memo = (id j half : ℕ) → HasSingle memo id j half → (k : ℕ) × IsCentre next nodes id k j half
 
 -- all that is remembered is no more than may be: the entries of the memo, and the slots of the two tables
-abbrev pub IsWithin : MemoView → SlotsView (ℕ × ℕ × ℕ) → SlotsView (ℕ × ℕ × ℕ × ℕ × ℕ) → ℕ → Type 0
+abbrev pub IsWithin : MemoView → SlotsView (ℕ × ℕ) → SlotsView (ℕ × ℕ × ℕ × ℕ) → ℕ → Type 0
 IsWithin memo centres leaps capacity = memo.order.cap + (centres.most + leaps.most) ≤ capacity
 
 -- the rule and the squares are sound, what is remembered are centres and no more than may be, and the rule goes by the
 -- masks, if there are some
 pub record IsLeaper (next : List ℕ → ℕ) (RuleIsSound : Type 0) (nodes : List Node) (memo : MemoView)
-    (centres : SlotsView (ℕ × ℕ × ℕ)) (leaps : SlotsView (ℕ × ℕ × ℕ × ℕ × ℕ)) (capacity : ℕ)
+    (centres : SlotsView (ℕ × ℕ)) (leaps : SlotsView (ℕ × ℕ × ℕ × ℕ)) (capacity : ℕ)
     (masks : Option (ℕ × ℕ)) : Type 0 where
   pub rule : RuleIsSound
   pub squares : IsSoundStore nodes

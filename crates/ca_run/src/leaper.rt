@@ -26,8 +26,7 @@ mod pace;
 mod page;
 mod parts;
 mod planes;
-mod recent_centres;
-mod recent_leaps;
+mod slot_key;
 mod slots;
 mod squares;
 mod tile;
@@ -43,8 +42,7 @@ use ca_plane::{Automaton, Memory};
 use ca_quad::{Id, Store};
 use memo::Memo;
 pub use milestone::Milestone;
-use recent_centres::RecentCentres;
-use recent_leaps::RecentLeaps;
+use slots::Slots;
 use std::alloc::Global;
 use std::marker::Model;
 use std::num::NonZeroUsize;
@@ -59,8 +57,10 @@ pub struct Leaper<A: Automaton> {
     rule: A,
     masks: Option<(u16, u16)>,
     memo: Memo,
-    recent_centres: RecentCentres,
-    recent_leaps: RecentLeaps,
+    // Centres of squares after 2^j generations, by the square and the j.
+    recent_centres: Slots<(Id, u8)>,
+    // Squares in the middle of four, as far on as they can be known.
+    recent_leaps: Slots<(Id, Id, Id, Id)>,
     // How many results may be remembered.
     capacity: usize,
     work: Work,
@@ -112,8 +112,8 @@ impl<A: Automaton> Leaper<A> {
             rule,
             masks,
             memo: Memo::new(alloc, entries)?,
-            recent_centres: RecentCentres::new(alloc, centres),
-            recent_leaps: RecentLeaps::new(alloc, leaps),
+            recent_centres: Slots::new(alloc, centres),
+            recent_leaps: Slots::new(alloc, leaps),
             capacity: memo,
             work: Work::new(work),
             room: usize::MAX,
@@ -209,7 +209,7 @@ impl<A: Automaton> Leaper<A> {
             return self.memo.full_leap(id);
         }
         if self.is_cheap(grain) {
-            return self.recent_centres.get(id, j);
+            return self.recent_centres.get((id, j));
         }
         self.memo.single(id, j)
     }
@@ -226,7 +226,7 @@ impl<A: Automaton> Leaper<A> {
             return self.memo.put_full_leap(id, half);
         }
         if self.is_cheap(grain) {
-            self.recent_centres.put(id, j, half);
+            self.recent_centres.put((id, j), half);
             return Ok(());
         }
         self.memo.put_single(id, j, half)
@@ -238,7 +238,7 @@ impl<A: Automaton> Leaper<A> {
         ensures { IfSome result (IsLeap (A.next_of self.now.rule) self.now.nodes grain nw ne sw se) }
     {
         let _ = grain;
-        self.recent_leaps.get(nw, ne, sw, se)
+        self.recent_leaps.get((nw, ne, sw, se))
     }
 
     // Remembers the square in the middle of four.
@@ -247,7 +247,7 @@ impl<A: Automaton> Leaper<A> {
         ensures { self.new ≡ self.old }
     {
         let _ = grain;
-        self.recent_leaps.put(nw, ne, sw, se, half);
+        self.recent_leaps.put((nw, ne, sw, se), half);
     }
 
     // Whether a square is a tile, whose centre costs less to work out again than to remember.

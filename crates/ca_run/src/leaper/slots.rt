@@ -1,38 +1,40 @@
-//! Tables of bounded size that may drop any entry.
+//! Results that cost little: tables of bounded size remember them, and may drop any.
 
-ghost use Rattle.std.specs.Prelude.{◌≡◌, ℕ, ◌⊎◌, ◌≤◌, [], Some, IfSome};
-ghost use Rattle.std.specs.List.{Contains};
+ghost use Rattle.std.specs.Prelude.{◌≡◌, ℕ, ◌⊎◌, ◌≤◌, [], IfSome};
+ghost use Rattle.ca_run.specs.Slots.{HasRecent};
 
+use super::slot_key::SlotKey;
+use ca_quad::Id;
 use std::alloc::Global;
 use std::marker::Model;
 
 // How many slots there are at first.
 const FIRST: usize = 1024;
 
-/// An entry has the slot of its hash until another comes there.
+/// Squares that are results, by their keys. A result has the slot of its key's hash until another comes there.
 #[derive(Drop)]
-pub(crate) struct Slots<T: Copy> {
-    slots: Vec<Option<T>>,
+pub(crate) struct Slots<K: SlotKey> {
+    slots: Vec<Option<(K, Id)>>,
     // How many slots there may be.
     most: usize,
-    // How many entries may come before there are to be more slots.
+    // How many results may come before there are to be more slots.
     left: usize,
 }
 
-impl<T: Copy> Model for Slots<T> {
+impl<K: SlotKey> Model for Slots<K> {
     ghost use Rattle.std.specs.Prelude.{◌≤◌, length};
     ghost use Rattle.ca_run.specs.Slots.{SlotsView};
 
-    ghost Value = { SlotsView T };
+    ghost Value = { SlotsView K };
 
     ghost view = { λ s. record { slots = s.slots.items; most = s.most } };
 
     ghost invariant = { λ s. length s.slots.items ≤ s.most };
 }
 
-impl<T: Copy> Slots<T> {
+impl<K: SlotKey> Slots<K> {
     /// Nothing yet, and no memory is taken. There may be so many slots.
-    pub(crate) fn new(alloc: Global, most: usize) -> Slots<T>
+    pub(crate) fn new(alloc: Global, most: usize) -> Slots<K>
         ensures { result ≡ record { slots = []; most = most } }
     {
         Slots {
@@ -54,39 +56,43 @@ impl<T: Copy> Slots<T> {
         *self.slots.allocator()
     }
 
-    /// What came last with a hash that has the slot of this one.
-    pub(crate) fn get(&self, hash: u64) -> Option<T>
-        ensures { IfSome result (λ entry. Contains self.now.slots (Some entry)) }
+    /// What is remembered for a key.
+    pub(crate) fn get(&self, key: K) -> Option<Id>
+        ensures { IfSome result (HasRecent self.now.slots key) }
     {
-        let place = self.place(hash);
+        let place = self.place(key);
         if place >= self.slots.len() {
             return None;
         }
-        self.slots[place]
+        let (other, square) = self.slots[place]?;
+        if !key.is(other) {
+            return None;
+        }
+        Some(square)
     }
 
-    /// Keeps an entry, if there is memory for any.
-    pub(crate) fn put(&mut self, hash: u64, entry: T)
-        ensures entries { (other : T) → Contains self.new.slots (Some other)
-            → Contains self.old.slots (Some other) ⊎ (other ≡ entry) }
+    /// Remembers a result, if there is memory for any.
+    pub(crate) fn put(&mut self, key: K, square: Id)
+        ensures results { (other : K) (any : ℕ) → HasRecent self.new.slots other any
+            → HasRecent self.old.slots other any ⊎ ((other ≡ key) × (any ≡ square)) }
         ensures most { self.new.most ≡ self.old.most }
     {
         self.count_one();
-        let place = self.place(hash);
+        let place = self.place(key);
         if place < self.slots.len() {
-            self.slots[place] = Some(entry);
+            self.slots[place] = Some((key, square));
         }
     }
 
-    // The slot of a hash, where there are slots.
-    fn place(&self, hash: u64) -> usize {
-        hash as usize & self.slots.len().wrapping_sub(1)
+    // The slot of a key, where there are slots.
+    fn place(&self, key: K) -> usize {
+        key.slot_hash() as usize & self.slots.len().wrapping_sub(1)
     }
 
-    // Counts an entry that comes: where as many came as there are slots, there shall be more.
+    // Counts a result that comes: where as many came as there are slots, there shall be more.
     fn count_one(&mut self)
-        ensures entries { (entry : T) → Contains self.new.slots (Some entry)
-            → Contains self.old.slots (Some entry) }
+        ensures results { (key : K) (square : ℕ) → HasRecent self.new.slots key square
+            → HasRecent self.old.slots key square }
         ensures most { self.new.most ≡ self.old.most }
     {
         if self.left == 0 {
@@ -100,8 +106,8 @@ impl<T: Copy> Slots<T> {
     // Four times as many slots, where that isn't too many and there is memory. Most of what is kept isn't
     // found any more.
     fn grow(&mut self)
-        ensures entries { (entry : T) → Contains self.new.slots (Some entry)
-            → Contains self.old.slots (Some entry) }
+        ensures results { (key : K) (square : ℕ) → HasRecent self.new.slots key square
+            → HasRecent self.old.slots key square }
         ensures most { self.new.most ≡ self.old.most }
     {
         let slots = self.slots.len();
