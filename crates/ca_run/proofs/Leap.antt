@@ -39,15 +39,16 @@ leap_square next new (Err e) k nw ne sw se leap = tt
 leap_square next new (Ok half) k nw ne sw se leap = leap.is_half
 
 -- the centre of the square of four is the one in their middle
-pub leap_of_join : {E : Type 0} (next : List ℕ → ℕ) (old mid new : List Node) → IsSoundStore old → Grows old mid → Grows mid new → (r : Result ℕ E) (id k nw ne sw se : ℕ) → AreFour old (suc k) nw ne sw se
-    → ((p : ℤ → ℤ → ℕ) (a b : ℤ) → FourShow old (suc k) nw ne sw se p a b → ShowsAt mid id (suc (suc k)) p a b) → IfOk r (IsCentre next new id k k) → IfOk r (IsLeap next new k nw ne sw se)
-leap_of_join next old mid new sound g h (Err e) id k nw ne sw se four joined centre = tt
-leap_of_join next old mid new sound g h (Ok half) id k nw ne sw se four joined centre =
-    let grows = grows_on old mid new g h in
+pub leap_of_join : {Rule : Type 0} (next_of : Rule → List ℕ → ℕ) (old mid new : LeaperView Rule) → IsSoundStore old.nodes → LeaperGrows Rule old mid → LeaperGrows Rule mid new → (id half k nw ne sw se : ℕ) → AreFour old.nodes (suc k) nw ne sw se
+    → ((p : ℤ → ℤ → ℕ) (a b : ℤ) → FourShow old.nodes (suc k) nw ne sw se p a b → ShowsAt mid.nodes id (suc (suc k)) p a b) → IsCentre (next_of mid.rule) new.nodes id k k half → IsLeap (next_of old.rule) new.nodes k nw ne sw se half
+leap_of_join next_of old mid new sound g h id half k nw ne sw se four joined is =
+    let next = next_of old.rule in
+    let centre = subst (λ f. IsCentre f new.nodes id k k half) (ap next_of g.rule) is in
+    let grows = grows_on old.nodes mid.nodes new.nodes g.grows h.grows in
     record {
-      are_four = four_go old new sound grows (suc k) nw ne sw se four;
+      are_four = four_go old.nodes new.nodes sound grows (suc k) nw ne sw se four;
       is_half = centre.is_half;
-      shows = λ p a b show. centre_at next mid new g.sound h id k k half p a b (joined p a b (four_was old new sound grows (suc k) nw ne sw se p a b four show)) centre;
+      shows = λ p a b show. centre_at next mid.nodes new.nodes g.grows.sound h.grows id k k half p a b (joined p a b (four_was old.nodes new.nodes sound grows (suc k) nw ne sw se p a b four show)) centre;
     }
 
 -- what shows a square's own cells later is its centre

@@ -251,7 +251,13 @@ impl<A: Automaton> Leaper<A> {
         let _ = &self.store;
         match first {
             None => Ok(self.inner_of_four(nw, ne, sw, se, grain)?),
-            Some(j) => self.joined_centre(nw, ne, sw, se, grain, j, watch),
+            Some(j) => {
+                if j == grain && self.masks.is_none() {
+                    return self.leap_of_four(nw, ne, sw, se, grain, watch);
+                }
+                let id = self.join(nw, ne, sw, se, grain)?;
+                self.centre(id, grain, j, watch)
+            }
         }
     }
 
@@ -309,57 +315,25 @@ impl<A: Automaton> Leaper<A> {
         ensures work { EndsAtLimit self.new.spent result }
     {
         let _ = &self.store;
-        let west = self.joined_centre(
+        let west = self.first_inner(
             north.west,
             north.middle,
             south.west,
             south.middle,
             grain,
-            j,
+            Some(j),
             watch,
         )?;
-        let east = self.joined_centre(
+        let east = self.first_inner(
             north.middle,
             north.east,
             south.middle,
             south.east,
             grain,
-            j,
+            Some(j),
             watch,
         )?;
         Ok((west, east))
-    }
-
-    // The centre after 2^j generations of the square of these four.
-    #[cycle(leap)]
-    fn joined_centre<W: Watch>(
-        &mut self,
-        nw: Id,
-        ne: Id,
-        sw: Id,
-        se: Id,
-        grain: u8,
-        j: u8,
-        watch: &mut W,
-    ) -> Result<Id, LeapFault>
-        requires four { AreFour self.old.nodes (suc grain) nw ne sw se }
-        requires low { grain ≤ 122 }
-        requires time { j ≤ grain }
-        ensures shows { (next : List ℕ → ℕ) (p : ℤ → ℤ → ℕ) (a b : ℤ) → next ≡ A.next_of self.old.rule
-            → FourShow self.old.nodes (suc grain) nw ne sw se p a b
-            → IfOk result (λ half. ShowsAt self.new.nodes half (suc grain) (cells_after next p (2 ^ j))
-            (a +ℤ side grain) (b +ℤ side grain)) }
-        ensures square { IfOk result (λ half. IsOf self.new.nodes half (suc grain)) }
-        ensures goes_on { LeaperGrows A self.old self.new }
-        ensures costs { Costs A self.old self.new (14 ^ grain) 1 }
-        ensures work { EndsAtLimit self.new.spent result }
-    {
-        let _ = &self.store;
-        if j == grain && self.masks.is_none() {
-            return self.leap_of_four(nw, ne, sw, se, grain, watch);
-        }
-        let id = self.join(nw, ne, sw, se, grain)?;
-        self.centre(id, grain, j, watch)
     }
 
     // The square in the middle of four, as far on as it can be known.
@@ -384,39 +358,17 @@ impl<A: Automaton> Leaper<A> {
         if let Some(half) = self.recall_leap(nw, ne, sw, se, grain) {
             return Ok(half);
         }
-        let half = self.new_leap(nw, ne, sw, se, grain, watch)?;
-        self.remember_leap(nw, ne, sw, se, grain, half);
-        Ok(half)
-    }
-
-    // The same where it isn't remembered.
-    #[cycle(leap)]
-    fn new_leap<W: Watch>(
-        &mut self,
-        nw: Id,
-        ne: Id,
-        sw: Id,
-        se: Id,
-        grain: u8,
-        watch: &mut W,
-    ) -> Result<Id, LeapFault>
-        requires four { AreFour self.old.nodes (suc grain) nw ne sw se }
-        requires low { grain ≤ 122 }
-        ensures leap { IfOk result (IsLeap (A.next_of self.old.rule) self.new.nodes grain nw ne sw se) }
-        ensures goes_on { LeaperGrows A self.old self.new }
-        ensures costs { Costs A self.old self.new (14 ^ grain) 1 }
-        ensures work { EndsAtLimit self.new.spent result }
-    {
-        let _ = &self.store;
         if grain == 0 {
             return self.counted_inner(nw, ne, sw, se, watch);
         }
         let id = self.join(nw, ne, sw, se, grain)?;
-        self.centre(id, grain, grain, watch)
+        let half = self.centre(id, grain, grain, watch)?;
+        self.remember_leap(nw, ne, sw, se, grain, half);
+        Ok(half)
     }
 
-    // The four cells in the middle of four squares of 2 by 2, one generation on: a result, if the squares
-    // aren't empty.
+    // The four cells in the middle of four squares of 2 by 2, one generation on, which are remembered: a
+    // result, if the squares aren't empty.
     fn counted_inner<W: Watch>(
         &mut self,
         nw: Id,
@@ -434,7 +386,9 @@ impl<A: Automaton> Leaper<A> {
         if !self.are_empty(nw, ne, sw, se) {
             self.charge_watched(watch)?;
         }
-        Ok(self.next_inner(nw, ne, sw, se)?)
+        let half = self.next_inner(nw, ne, sw, se)?;
+        self.remember_leap(nw, ne, sw, se, 0, half);
+        Ok(half)
     }
 
     // Whether four squares are empty.

@@ -11,6 +11,7 @@ use Rattle.ca_quad.proofs.Cells.{of_stays}
 use Rattle.ca_run.specs.Centre.{IsCentre}
 use Rattle.ca_run.specs.RecentLeaps.{IsLeap}
 use Rattle.ca_run.specs.Costs.{Costs}
+use Rattle.ca_run.specs.Leaping.{LeaperGrows}
 use Rattle.ca_run.specs.inner.Shown.{ShowsAt, FourShow, side, generations}
 use Rattle.ca_run.proofs.Shown.{goes_on_again, three_go_on, four_go_on, at_stays, three_stay, three_are, four_of, four_go, four_stay, four_between, four_halfway, four_inner}
 use Rattle.ca_run.proofs.Leap.{goes_on_same, rule_on, leap_shows, leap_square, leap_of_join, centre_ok, nine_centre, trio_are, nine_are, west_four, east_four, pair_at, trio_at, nine_at, four_at}
@@ -27,17 +28,6 @@ first_centre-returns-in-Some-clause-shows g t c = λ next p a b e shows.
     rw c.in-Some.is
     (centre_ok next c.args.self.now.nodes new sound c.centre.ensures.goes_on.grows c.centre.result c.args.id c.args.grain c.in-Some.j p a b shows
     (subst (λ f. IfOk c.centre.result (IsCentre f new c.args.id c.args.grain c.in-Some.j)) (sym e) c.centre.ensures.centre))
-
-pub joined_centre-returns-clause-shows : goal.joined_centre-returns-clause-shows
-joined_centre-returns-clause-shows g t c = λ next p a b e four.
-    let joined = c.in_ok-id.ensures.goes_on in
-    let same = e ∙ sym (ap (g.A.Automaton.next_of) joined.rule) in
-    let new = c.centre.new.self.nodes in
-    centre_ok next c.join.new.self.nodes new joined.grows.sound c.centre.ensures.goes_on.grows c.centre.result c.in_ok-id.id c.args.grain c.args.j p a b (c.in_ok-id.ensures.shows p a b four)
-    (subst (λ f. IfOk c.centre.result (IsCentre f new c.in_ok-id.id c.args.grain c.args.j)) (sym same) c.centre.ensures.centre)
-
-pub joined_centre-returns-clause-goes_on : goal.joined_centre-returns-clause-goes_on
-joined_centre-returns-clause-goes_on g t c = goes_on_again _ c.args.self.now c.join.new.self c.centre.new.self c.in_ok-id.ensures.goes_on c.centre.ensures.goes_on
 
 pub new_centre-returns-then-j-grain-clause-centre : goal.new_centre-returns-then-j-grain-clause-centre
 new_centre-returns-then-j-grain-clause-centre g t c =
@@ -74,7 +64,7 @@ pair-returns-clause-shows g t c = λ next p a b e north south.
     pair_at k g1.grows c.in_ok-east.ensures.goes_on.grows c.in_ok-west.west c.in_ok-east.east (cells_after next p (2 ^ c.args.j)) a b (b +ℤ side k) west east
 
 pub pair-returns-clause-goes_on : goal.pair-returns-clause-goes_on
-pair-returns-clause-goes_on g t c = goes_on_again _ c.args.self.now c.joined_centre.new.self c.joined_centre-2.new.self c.in_ok-west.ensures.goes_on c.in_ok-east.ensures.goes_on
+pair-returns-clause-goes_on g t c = goes_on_again _ c.args.self.now c.first_inner.new.self c.first_inner-2.new.self c.in_ok-west.ensures.goes_on c.in_ok-east.ensures.goes_on
 
 pub trio-first_inner-requires : goal.trio-first_inner-requires
 trio-first_inner-requires g t c κs within =
@@ -141,12 +131,6 @@ middle_trio-returns-clause-shows g t c = λ next p a b e four.
 pub middle_trio-returns-clause-goes_on : goal.middle_trio-returns-clause-goes_on
 middle_trio-returns-clause-goes_on g t c = three_go_on c.in_ok-west.ensures.goes_on c.in_ok-middle.ensures.goes_on c.in_ok-east.ensures.goes_on
 
-pub first_inner-returns-in-Some-clause-shows : goal.first_inner-returns-in-Some-clause-shows
-first_inner-returns-in-Some-clause-shows g t c = λ next p a b e four. rw c.in-Some.is (c.joined_centre.ensures.shows next p a b e four)
-
-pub first_inner-returns-in_ok-inner_of_four-in-None-clause-shows : goal.first_inner-returns-in_ok-inner_of_four-in-None-clause-shows
-first_inner-returns-in_ok-inner_of_four-in-None-clause-shows g t c = λ next p a b e four. rw c.in-None.is (c.in_ok-inner_of_four-in-None.ensures.shows p a b four)
-
 pub first_centre-returns-in_ok-inner_square-in-None-clause-shows : goal.first_centre-returns-in_ok-inner_square-in-None-clause-shows
 first_centre-returns-in_ok-inner_square-in-None-clause-shows g t c = λ next p a b e shows. rw c.in-None.is (c.in_ok-inner_square-in-None.ensures.shows p a b shows)
 
@@ -158,21 +142,6 @@ new_centre-returns-then-grain-eq0-clause-centre g t c =
     let new = c.next_four.new.self.nodes in
     let half = c.in_ok-next_four.field-0 in
     subst (λ j. IsCentre next new c.args.id c.args.grain j half) now (subst (λ k. IsCentre next new c.args.id k 0 half) least c.in_ok-next_four.ensures.centre)
-
-pub joined_centre-returns-then-is_none-clause-shows : goal.joined_centre-returns-then-is_none-clause-shows
-joined_centre-returns-then-is_none-clause-shows g t c = λ next p a b e four.
-    let k = c.args.grain in
-    let all : k ≡ c.args.j = grind (arith, nat_tests) in
-    let sound = subst (λ l. IsSoundStore l.nodes) c.self.view_is c.self.invariant.squares in
-    let new = c.leap_of_four.new.self.nodes in
-    let r = c.leap_of_four.result in
-    subst (λ j. IfOk r (λ half. ShowsAt new half (suc k) (cells_after next p (2 ^ j)) (a +ℤ side k) (b +ℤ side k))) all
-    (leap_shows next c.args.self.now.nodes new sound c.leap_of_four.ensures.goes_on.grows r k c.args.nw c.args.ne c.args.sw c.args.se p a b four
-    (subst (λ f. IfOk r (IsLeap f new k c.args.nw c.args.ne c.args.sw c.args.se)) (sym e) c.leap_of_four.ensures.leap))
-
-pub joined_centre-returns-then-is_none-clause-square : goal.joined_centre-returns-then-is_none-clause-square
-joined_centre-returns-then-is_none-clause-square g t c =
-    leap_square (g.A.Automaton.next_of c.args.self.now.rule) c.leap_of_four.new.self.nodes c.leap_of_four.result c.args.grain c.args.nw c.args.ne c.args.sw c.args.se c.leap_of_four.ensures.leap
 
 pub middle_trio-returns-clause-squares : goal.middle_trio-returns-clause-squares
 middle_trio-returns-clause-squares g t c =
@@ -186,19 +155,6 @@ trio-returns-clause-squares g t c =
 
 pub leap_of_four-returns-in-Some-clause-goes_on : goal.leap_of_four-returns-in-Some-clause-goes_on
 leap_of_four-returns-in-Some-clause-goes_on g t c = goes_on_same _ c.args.self.now (subst (λ l. IsSoundStore l.nodes) c.self.view_is c.self.invariant.squares)
-
-pub new_leap-returns-clause-leap : goal.new_leap-returns-clause-leap
-new_leap-returns-clause-leap g t c =
-    let joined = c.in_ok-id.ensures.goes_on in
-    let s1 = c.join.new.self.nodes in
-    let s2 = c.centre.new.self.nodes in
-    let sound = subst (λ l. IsSoundStore l.nodes) c.self.view_is c.self.invariant.squares in
-    leap_of_join (g.A.Automaton.next_of c.args.self.now.rule) c.args.self.now.nodes s1 s2 sound joined.grows c.centre.ensures.goes_on.grows c.centre.result c.in_ok-id.id c.args.grain c.args.nw c.args.ne c.args.sw c.args.se c.requires.four
-    (λ p a b four. c.in_ok-id.ensures.shows p a b four)
-    (subst (λ f. IfOk c.centre.result (IsCentre f s2 c.in_ok-id.id c.args.grain c.args.grain)) (ap (g.A.Automaton.next_of) joined.rule) c.centre.ensures.centre)
-
-pub new_leap-returns-clause-goes_on : goal.new_leap-returns-clause-goes_on
-new_leap-returns-clause-goes_on g t c = goes_on_again _ c.args.self.now c.join.new.self c.centre.new.self c.in_ok-id.ensures.goes_on c.centre.ensures.goes_on
 
 pub nine-middle_trio-requires : goal.nine-middle_trio-requires
 nine-middle_trio-requires g t c κs within =
@@ -311,3 +267,58 @@ new_centre-returns-then-j-grain-clause-costs g t c = nine_costs c.args.grain (gr
 
 pub new_centre-returns-clause-costs : goal.new_centre-returns-clause-costs
 new_centre-returns-clause-costs g t c = nine_costs c.args.grain (grind (arith, nat_tests, c.if-grain-eq0.false)) c.centre_of_nine-2.ensures.costs
+
+pub first_inner-returns-in_ok-inner_of_four-in-None-clause-shows : goal.first_inner-returns-in_ok-inner_of_four-in-None-clause-shows
+first_inner-returns-in_ok-inner_of_four-in-None-clause-shows g t c = λ next p a b e four. rw c.in-None.is (c.in_ok-inner_of_four-in-None.ensures.shows p a b four)
+
+pub first_inner-returns-in_ok-id-in-Some-clause-shows : goal.first_inner-returns-in_ok-id-in-Some-clause-shows
+first_inner-returns-in_ok-id-in-Some-clause-shows g t c = λ next p a b e four.
+    let joined = c.in_ok-id-in-Some.ensures.goes_on in
+    let same = e ∙ sym (ap (g.A.Automaton.next_of) joined.rule) in
+    let new = c.centre.new.self.nodes in
+    rw c.in-Some.is
+    (centre_ok next c.join.new.self.nodes new joined.grows.sound c.centre.ensures.goes_on.grows c.centre.result c.in_ok-id-in-Some.id c.args.grain c.in-Some.j p a b (c.in_ok-id-in-Some.ensures.shows p a b four)
+    (subst (λ f. IfOk c.centre.result (IsCentre f new c.in_ok-id-in-Some.id c.args.grain c.in-Some.j)) (sym same) c.centre.ensures.centre))
+
+pub first_inner-returns-in_ok-id-in-Some-clause-goes_on : goal.first_inner-returns-in_ok-id-in-Some-clause-goes_on
+first_inner-returns-in_ok-id-in-Some-clause-goes_on g t c = goes_on_again _ c.args.self.now c.join.new.self c.centre.new.self c.in_ok-id-in-Some.ensures.goes_on c.centre.ensures.goes_on
+
+pub first_inner-returns-then-is_none-clause-shows : goal.first_inner-returns-then-is_none-clause-shows
+first_inner-returns-then-is_none-clause-shows g t c = λ next p a b e four.
+    let k = c.args.grain in
+    let all : k ≡ c.in-Some.j = grind (arith, nat_tests) in
+    let sound = subst (λ l. IsSoundStore l.nodes) c.self.view_is c.self.invariant.squares in
+    let new = c.leap_of_four.new.self.nodes in
+    let r = c.leap_of_four.result in
+    rw c.in-Some.is
+    (subst (λ j. IfOk r (λ half. ShowsAt new half (suc k) (cells_after next p (2 ^ j)) (a +ℤ side k) (b +ℤ side k))) all
+    (leap_shows next c.args.self.now.nodes new sound c.leap_of_four.ensures.goes_on.grows r k c.args.nw c.args.ne c.args.sw c.args.se p a b four
+    (subst (λ f. IfOk r (IsLeap f new k c.args.nw c.args.ne c.args.sw c.args.se)) (sym e) c.leap_of_four.ensures.leap)))
+
+pub first_inner-returns-then-is_none-clause-square : goal.first_inner-returns-then-is_none-clause-square
+first_inner-returns-then-is_none-clause-square g t c =
+    leap_square (g.A.Automaton.next_of c.args.self.now.rule) c.leap_of_four.new.self.nodes c.leap_of_four.result c.args.grain c.args.nw c.args.ne c.args.sw c.args.se c.leap_of_four.ensures.leap
+
+pub leap_of_four-remember_leap-requires : goal.leap_of_four-remember_leap-requires
+leap_of_four-remember_leap-requires g t c =
+    let sound = subst (λ l. IsSoundStore l.nodes) c.self.view_is c.self.invariant.squares in
+    let joined = c.in_ok-id.ensures.goes_on in
+    let on = c.in_ok-half.ensures.goes_on in
+    subst (λ r. IsLeap (g.A.Automaton.next_of r) c.centre.new.self.nodes c.args.grain c.args.nw c.args.ne c.args.sw c.args.se c.in_ok-half.half) (sym (on.rule ∙ joined.rule))
+    (leap_of_join (g.A.Automaton.next_of) c.args.self.now c.join.new.self c.centre.new.self sound joined on c.in_ok-id.id c.in_ok-half.half c.args.grain c.args.nw c.args.ne c.args.sw c.args.se
+    c.requires.four c.in_ok-id.ensures.shows c.in_ok-half.ensures.centre)
+
+pub leap_of_four-returns-clause-leap : goal.leap_of_four-returns-clause-leap
+leap_of_four-returns-clause-leap g t c =
+    let sound = subst (λ l. IsSoundStore l.nodes) c.self.view_is c.self.invariant.squares in
+    subst (λ l. IsLeap (g.A.Automaton.next_of c.args.self.now.rule) l.nodes c.args.grain c.args.nw c.args.ne c.args.sw c.args.se c.in_ok-half.half) (sym c.remember_leap.ensures)
+    (leap_of_join (g.A.Automaton.next_of) c.args.self.now c.join.new.self c.centre.new.self sound c.in_ok-id.ensures.goes_on c.in_ok-half.ensures.goes_on c.in_ok-id.id c.in_ok-half.half c.args.grain c.args.nw c.args.ne c.args.sw c.args.se
+    c.requires.four c.in_ok-id.ensures.shows c.in_ok-half.ensures.centre)
+
+pub leap_of_four-returns-in_err-half-clause-goes_on : goal.leap_of_four-returns-in_err-half-clause-goes_on
+leap_of_four-returns-in_err-half-clause-goes_on g t c = goes_on_again _ c.args.self.now c.join.new.self c.centre.new.self c.in_ok-id.ensures.goes_on c.in_err-half.ensures.goes_on
+
+pub leap_of_four-returns-clause-goes_on : goal.leap_of_four-returns-clause-goes_on
+leap_of_four-returns-clause-goes_on g t c =
+    subst (λ l. LeaperGrows _ c.args.self.now l) (sym c.remember_leap.ensures)
+    (goes_on_again _ c.args.self.now c.join.new.self c.centre.new.self c.in_ok-id.ensures.goes_on c.in_ok-half.ensures.goes_on)

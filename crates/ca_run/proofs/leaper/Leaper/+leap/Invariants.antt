@@ -20,7 +20,7 @@ abbrev pub decreases-middle_trio : goal.decreases-middle_trio
 decreases-middle_trio g l = 10 * l.grain + 10
 
 abbrev pub decreases-first_inner : goal.decreases-first_inner
-decreases-first_inner g l = 10 * l.grain + 9
+decreases-first_inner g l = 10 * l.grain + 8
 
 abbrev pub decreases-first_centre : goal.decreases-first_centre
 decreases-first_centre g l = 10 * l.grain + 6
@@ -28,11 +28,5 @@ decreases-first_centre g l = 10 * l.grain + 6
 abbrev pub decreases-pair : goal.decreases-pair
 decreases-pair g l = 10 * l.grain + 9
 
-abbrev pub decreases-joined_centre : goal.decreases-joined_centre
-decreases-joined_centre g l = 10 * l.grain + 8
-
 abbrev pub decreases-leap_of_four : goal.decreases-leap_of_four
 decreases-leap_of_four g l = 10 * l.grain + 7
-
-abbrev pub decreases-new_leap : goal.decreases-new_leap
-decreases-new_leap g l = 10 * l.grain + 6
