@@ -1,12 +1,12 @@
 -- Rule lines that are added after others: verdicts stay.
-use Rattle.std.proofs.Common.{◌≡◌, ◌≢◌, ℕ, ℤ, List, [], ◌∷◌, ◌++◌, Some, inl, inr, refl, sym, ap, subst, ◌∙◌}
-use Rattle.std.specs.List.{AllByRecursion, AllZip}
+use Rattle.std.proofs.Common.{◌≡◌, ◌≢◌, ℕ, List, [], ◌∷◌, ◌++◌, Some, inl, inr, refl, ap, ◌∙◌}
+use Rattle.std.specs.List.{AllByRecursion}
 use Rattle.std.specs.Str.{bytes_eq}
 use Rattle.std.specs.Option.{option_or}
 use Rattle.std.proofs.lemmas.List.Folds.{find-append}
 use Rattle.ca_plane.specs.Plane.{Picture}
 use Rattle.ca_rule.specs.TableNext.{TableRule}
-use Rattle.ca_rule.specs.Rule.{RuleValue, Bs, Gen, Tab, NamesRule, IsRuleFault, first_named, IsSameRule}
+use Rattle.ca_rule.specs.Rule.{RuleValue, Bs, Gen, Tab, NamesRule, IsRuleFault, first_named}
 use Rattle.ca_rule.specs.declared.fault.RuleFault.{RuleFault}
 use Rattle.ca_rule.specs.declared.fault.RuleFault.TheVariants.{Bounded, Wakes, Unknown}
 use Rattle.ca_claims.specs.declared.claims.asks.Asks.{Asks}
@@ -14,10 +14,9 @@ use Rattle.ca_claims.specs.declared.verdict.Verdict.{Verdict}
 use Rattle.ca_claims.specs.declared.verdict.Verdict.TheVariants.{Yes, No, Refused}
 use Rattle.ca_claims.specs.declared.verdict.Cause.{Cause}
 use Rattle.ca_claims.specs.declared.verdict.Cause.TheVariants.{NoFile, BadTable, BadPattern, BadRule, StateTooLarge, MixedRules, TooManyCells, Work, Memory}
-use Rattle.ca_claims.specs.Means.{HoldsRuledPattern, HasRuleFault}
 use Rattle.ca_claims.specs.Text.{Claim, patterns_of}
 use Rattle.ca_claims.specs.Truth.{asks_of}
-use Rattle.ca_claims.specs.Answers.{IsTableAt, AreTables, IsRuled, IsMissing, IsThere, HoldsTable, HasRule, IsSmall, SomeOf, FirstBad, HaveOtherRules, FilesAreThere, AgreeOn, HasCause, IsGoodPattern, AreGood, IsJudged, IsBadTable, IsUnnamed, IsLarge, IsTrueVerdict}
+use Rattle.ca_claims.specs.Answers.{AreTables, IsRuled, IsMissing, IsThere, HoldsTable, HasRule, IsSmall, SomeOf, FirstBad, HaveOtherRules, FilesAreThere, AgreeOn, HasCause, IsGoodPattern, AreGood, IsJudged, IsBadTable, IsUnnamed, IsLarge, IsTrueVerdict}
 
 -- ---- lists
 

@@ -11,8 +11,7 @@ use Rattle.ca_quad.specs.declared.node.Node.{Node}
 use Rattle.ca_quad.specs.declared.tree.Tree.{Tree}
 use Rattle.ca_quad.specs.Trees as trees
 use Rattle.ca_rule.specs.TableNext.{TableRule}
-use Rattle.ca_rule.specs.declared.fault.RuleFault.{RuleFault}
-use Rattle.ca_rule.specs.Rule.{RuleValue, rule_value, next_of, IsSameRule, IsRuleFault}
+use Rattle.ca_rule.specs.Rule.{RuleValue, rule_value, next_of, IsSameRule}
 use Rattle.ca_rule.proofs.Rules.{same-refl}
 use Rattle.ca_claims.specs.declared.pattern.Loaded.{Loaded}
 use Rattle.ca_claims.specs.declared.claims.line.Claim.{Claim as ClaimOf}
@@ -38,20 +37,21 @@ use Rattle.ca_claims.specs.declared.refusal.Part.TheVariants.{First, Second}
 use Rattle.ca_claims.specs.declared.refusal.Refusal.{Refusal}
 use Rattle.ca_claims.specs.declared.decide.Subject.{Subject}
 use Rattle.ca_claims.specs.declared.ruled.Ruled.{Ruled}
+use Rattle.ca_claims.specs.declared.ruled.Unnamed.{Unnamed}
 use Rattle.ca_claims.specs.Text.{Claim, patterns_of, about, HasGoodNumbers}
 use Rattle.ca_claims.specs.Places.{path_at}
 use Rattle.ca_claims.specs.Means.{bytes_at, IsReadable, MayWantMemory}
 use Rattle.ca_claims.specs.Truth.{asks_of, wanted_cells}
 use Rattle.ca_claims.specs.inner.Decided.{IsBounded, IsDecided}
 use Rattle.ca_claims.specs.Limited.{IsNoMoreThan}
-use Rattle.ca_claims.specs.Answers.{IsPatternFaultOn, IsBadPatternOn, AreTables, IsMissing, IsThere, IsReadableFile, HasRule, IsSmall, SomeOf, FirstIs, HaveOtherRules, HasCause, IsGoodPattern, AreGood, IsJudged, IsTrueVerdict, IsBadPattern, IsUnnamed, IsLarge, IsCrowded, WantsMemory}
+use Rattle.ca_claims.specs.Answers.{IsPatternFaultOn, IsBadPatternOn, AreTables, IsMissing, IsThere, IsReadableFile, HasRule, IsSmall, SomeOf, FirstIs, HaveOtherRules, HasCause, IsGoodPattern, AreGood, IsJudged, IsTrueVerdict, IsBadPattern, IsUnnamed, IsUnnamedBy, IsLarge, IsCrowded, WantsMemory}
 use Rattle.ca_claims.specs.inner.Subjects.{ShowsTree, IsPattern, AreShown, IsSubject}
 use Rattle.ca_claims.specs.inner.Prepared.{IsPrepared, IsFit, AreFewCounted, IsCountRefused, wanted_tree, wanted_part, last_part, refusal_for, disagreement_refusal}
 use Rattle.ca_claims.specs.inner.Found.{IsFound}
 use Rattle.ca_claims.specs.inner.Refusals.{IsRefusal, IsOnVerdict, IsJudgedOn}
-use Rattle.ca_claims.specs.inner.Patterns.{items, IsEachOnce, FirstBadAt, IsReadFrom, IsUnreadFor, HasName, rule_of, IsRuledAs, ShowsLarge, ShowsSmall, AreOfOneRule, AreMixed, Disagree, AreBoth}
+use Rattle.ca_claims.specs.inner.Patterns.{items, IsEachOnce, FirstBadAt, IsReadFrom, IsUnreadFor, HasName, IsUnnamedFor, rule_of, IsRuledAs, ShowsLarge, ShowsSmall, AreOfOneRule, AreMixed, Disagree, AreBoth}
 use Rattle.ca_claims.proofs.ClaimKinds.{asks_bounded, paths_of}
-use Rattle.ca_claims.proofs.PatternsRead.{fault_on, IsReadAt, IsRuledAt, path_has_fault, path_has_rule, path_reads, ruled_path_reads, ruled_at, ruled_has_rule, ruled_is_good, ruled_is_large, ruled_is_small, ruled_picture, ruled_reads, tree_shows, wanted}
+use Rattle.ca_claims.proofs.PatternsRead.{fault_on, IsReadAt, IsRuledAt, path_has_fault, path_has_rule, path_is_unnamed, path_reads, ruled_path_reads, ruled_at, ruled_has_rule, ruled_is_good, ruled_is_large, ruled_is_small, ruled_picture, ruled_reads, tree_shows, wanted}
 use Rattle.ca_claims.proofs.Shown.{few_shown, many_shown, few_none, none_many}
 use Rattle.ca_claims.proofs.Spending.{used_up}
 use Rattle.ca_claims.proofs.Told.{read_pattern}
@@ -96,10 +96,10 @@ module _ (files : List (List ℕ × List ℕ)) (paths : List (List ℕ)) (found 
 
   -- and where one is missing, no file has its path
   pub found_missing : (rules : List (List ℕ)) (asks : Asks) (part : Part) (places : List ℕ) → AllByRecursion (λ i. i < length found) places
-      → FirstBadAt part places (IsFound found) (λ i. get_or found i None ≡ None) → IsRefusal files paths rules asks (map (path_at paths) places) (record { cause = NoFile; about = about.Pattern part None })
+      → FirstBadAt part places (IsFound found) (λ i. get_or found i None ≡ None) → IsRefusal files paths rules asks (map (path_at paths) places) (record { cause = NoFile; about = about.Pattern part None None })
   found_missing rules asks part places within bad =
       let at = missing part places within bad in
-      record { holds = inl (some_first (IsThere files) (IsMissing files) (map (path_at paths) places) (first_part (IsThere files) (IsMissing files) part (map (path_at paths) places) at)); idle = λ e. cc; on = (refl, at) }
+      record { holds = inl (some_first (IsThere files) (IsMissing files) (map (path_at paths) places) (first_part (IsThere files) (IsMissing files) part (map (path_at paths) places) at)); idle = λ e. cc; on = (refl, refl, at) }
     where
       missing : (p : Part) (is : List ℕ) → AllByRecursion (λ i. i < length found) is → FirstBadAt p is (IsFound found) (λ i. get_or found i None ≡ None)
           → FirstBadAt p (map (path_at paths) is) (IsThere files) (IsMissing files)
@@ -210,7 +210,7 @@ module _ (files : List (List ℕ × List ℕ)) (every rules : List (List ℕ)) (
   module _ (each : List (List ℕ)) (there : List (Bor (List ℕ))) (at : AllZip (λ path b. bytes_at files path ≡ Some b.now) each there) (part : Part) where
     -- a file doesn't read
     unreadable : (fault : PatternFault) (line : Option ℕ) → FirstBadAt part there (λ b. IsReadable b.now) (λ b. IsPatternFaultOn b.now fault line)
-        → IsRefusal files every rules asks each (record { cause = BadPattern fault; about = about.Pattern part line })
+        → IsRefusal files every rules asks each (record { cause = BadPattern fault; about = about.Pattern part line None })
     unreadable fault line bad = record {
       holds = (
         tables,
@@ -220,9 +220,12 @@ module _ (files : List (List ℕ × List ℕ)) (every rules : List (List ℕ)) (
             (first_part (λ b. IsReadable b.now) (λ b. IsPatternFaultOn b.now fault line) part there bad),
       );
       idle = λ e. cc;
-      on = zip_part (λ path b. bytes_at files path ≡ Some b.now) (IsReadableFile files) (IsBadPatternOn files fault line)
-          (λ b. IsReadable b.now) (λ b. IsPatternFaultOn b.now fault line)
-          (λ path b e reads. (b.now, e, reads)) (λ path b e wrong. (b.now, e, wrong)) part each there at bad;
+      on = (
+        refl,
+        zip_part (λ path b. bytes_at files path ≡ Some b.now) (IsReadableFile files) (IsBadPatternOn files fault line)
+            (λ b. IsReadable b.now) (λ b. IsPatternFaultOn b.now fault line)
+            (λ path b e reads. (b.now, e, reads)) (λ path b e wrong. (b.now, e, wrong)) part each there at bad,
+      );
     }
 
     -- or memory is needed for it
@@ -251,16 +254,18 @@ module _ (files : List (List ℕ × List ℕ)) (every rules : List (List ℕ)) (
 
   module _ (nodes : List Node) where
     -- a rule text names no rule
-    pub unnamed : (each : List (List ℕ)) (patterns : List Loaded) (part : Part) (fault : RuleFault) → AllZip (IsReadAt nodes files) each patterns
-        → FirstBadAt part patterns (HasName tables) (λ p. IsRuleFault p.rule_text.items tables fault)
-        → IsRefusal files every rules asks each (record { cause = BadRule fault; about = about.Pattern part None })
-    unnamed each patterns part fault read bad =
-        let at = zip_part (IsReadAt nodes files) (HasRule files tables) (IsUnnamed files tables fault) (HasName tables) (λ p. IsRuleFault p.rule_text.items tables fault)
-        (λ path p at. path_has_rule nodes files path p at tables) (λ path p at. path_has_fault nodes files path p at tables fault) part each patterns read bad in
+    pub unnamed : (each : List (List ℕ)) (patterns : List Loaded) (part : Part) (wrong : Unnamed) → AllZip (IsReadAt nodes files) each patterns
+        → FirstBadAt part patterns (HasName tables) (λ p. IsUnnamedFor tables p wrong)
+        → IsRefusal files every rules asks each (record { cause = BadRule wrong.fault; about = about.Pattern part None (Some wrong.rule_text) })
+    unnamed each patterns part wrong read bad =
+        let at = zip_part (IsReadAt nodes files) (HasRule files tables) (IsUnnamed files tables wrong.fault) (HasName tables) (λ p. IsUnnamedFor tables p wrong)
+        (λ path p at. path_has_rule nodes files path p at tables) (λ path p at is. path_has_fault nodes files path p at tables wrong.fault is.1) part each patterns read bad in
+        let by = zip_part (IsReadAt nodes files) (HasRule files tables) (IsUnnamedBy files tables wrong.fault (Some wrong.rule_text)) (HasName tables) (λ p. IsUnnamedFor tables p wrong)
+        (λ path p at. path_has_rule nodes files path p at tables) (λ path p at. path_is_unnamed nodes files path p at tables wrong) part each patterns read bad in
         record {
-          holds = (tables, (are, zip_left (IsReadAt nodes files) (IsReadableFile files) (path_reads nodes files) each patterns read), first_part (HasRule files tables) (IsUnnamed files tables fault) part each at);
+          holds = (tables, (are, zip_left (IsReadAt nodes files) (IsReadableFile files) (path_reads nodes files) each patterns read), first_part (HasRule files tables) (IsUnnamed files tables wrong.fault) part each at);
           idle = λ e. cc;
-          on = (refl, tables, are, at);
+          on = (refl, tables, are, by);
         }
 
     -- the pattern is that of the file with a path, with its rule
@@ -270,7 +275,7 @@ module _ (files : List (List ℕ × List ℕ)) (every rules : List (List ℕ)) (
     module _ (paths : List (List ℕ)) (patterns : List Ruled) (ruled : AllZip At paths patterns) where
       -- a state is too large
       too_large : (part : Part) → FirstBadAt part patterns (ShowsSmall nodes) (ShowsLarge nodes)
-          → IsRefusal files every rules asks paths (record { cause = StateTooLarge; about = about.Pattern part None })
+          → IsRefusal files every rules asks paths (record { cause = StateTooLarge; about = about.Pattern part None None })
       too_large part bad =
           let at = zip_part At (IsSmall files tables) (IsLarge files tables) (ShowsSmall nodes) (ShowsLarge nodes) (λ path r is. ruled_is_small nodes files path tables r is)
           (λ path r is. ruled_is_large nodes files path tables r is) part paths patterns ruled bad in
@@ -281,7 +286,7 @@ module _ (files : List (List ℕ × List ℕ)) (every rules : List (List ℕ)) (
               some_first (IsSmall files tables) (IsLarge files tables) paths (first_part (IsSmall files tables) (IsLarge files tables) part paths at),
             );
             idle = λ e. cc;
-            on = (refl, tables, are, at);
+            on = (refl, refl, tables, are, at);
           }
 
       all_small : AllByRecursion (ShowsSmall nodes) patterns → AllByRecursion (IsSmall files tables) paths
@@ -432,7 +437,7 @@ module _ (files : List (List ℕ × List ℕ)) (every rules : List (List ℕ)) (
         subst (IsRefusal files every rules asks paths) (sym is) (record {
           holds = (all.shown, all.other_shown, rule, (tables, are, all.good), (counted, cells));
           idle = λ e. cc;
-          on = (refl, tables, are, part_crowded paths (items patterns) ruled all.shown all.other_shown rule all.good asks.wanted cells);
+          on = (refl, refl, tables, are, part_crowded paths (items patterns) ruled all.shown all.other_shown rule all.good asks.wanted cells);
         })
 
     -- a leaper over the trees is prepared

@@ -11,10 +11,11 @@ use Rattle.ca_quad.specs.Boxes as wide
 use Rattle.ca_quad.specs.Expanded.{FitsPlane, HasCellOutsidePlane}
 use Rattle.ca_quad.specs.Shifted.{shifted_cells}
 use Rattle.ca_quad.specs.Trees.{cell}
+use Rattle.ca_quad.specs.Trimmed.{HoldsAll}
 use Rattle.ca_macro.specs.Pattern.{AreInRange}
 use Rattle.ca_plane.specs.Limits.{IsInRange}
 use Rattle.ca_claims.specs.Text.{IsShift}
-use Rattle.ca_claims.specs.inner.Returns.{IsWide}
+use Rattle.ca_claims.specs.inner.Returns.{IsBroad, IsWide}
 use Rattle.ca_claims.specs.inner.Stages.{IsNear}
 use Rattle.ca_claims.specs.inner.Subjects.{HasLive, IsMove, IsNoMove, IsOnlyMove}
 use Rattle.ca_claims.proofs.Searches.{search_within}
@@ -117,6 +118,13 @@ pub corner_shift : (p : ℤ → ℤ → ℕ) (box : WideBounds) → wide.IsLeast
 corner_shift p box least range =
     let here = corner_range p box least range in
     ((omega (arith, ints, here), omega (arith, ints, here)), (omega (arith, ints, here), omega (arith, ints, here)))
+
+-- or at most half as far as the square of a plane goes
+pub corner_broad : (p : ℤ → ℤ → ℕ) (box : WideBounds) → wide.IsLeastWideBox p box → HoldsAll 62 p → IsBroad box.x0 × IsBroad box.y0
+corner_broad p box least within =
+    let left = within box.x0 least.left.0 least.left.1 in
+    let top = within least.top.0 box.y0 least.top.1 in
+    ((omega (arith, ints, left), omega (arith, ints, left)), (omega (arith, ints, top), omega (arith, ints, top)))
 
 -- or of the square of a plane
 pub corner_wide : (q : ℤ → ℤ → ℕ) (box : WideBounds) → wide.IsLeastWideBox q box → IsNear q → IsWide box.x0 × IsWide box.y0

@@ -1,32 +1,32 @@
 -- Which claims are true of pictures, by what their planes show after one generation after the other.
-use Rattle.std.proofs.Common.{◌≡◌, ◌≢◌, ℕ, ◌+◌, ◌≤◌, ◌<◌, List, [], sym, subst, ◌∙◌, arith}
-use Rattle.std.specs.Prelude.{ℤ, pos, ◌-ℤ◌, replicate}
+use Rattle.std.proofs.Common.{◌≡◌, ◌≢◌, ℕ, ◌+◌, ◌≤◌, ◌<◌, List, [], Result, sym, subst, ◌∙◌, arith}
+use Rattle.std.specs.Prelude.{ℤ, pos, ◌-ℤ◌, replicate, IfOk}
 use Rattle.std.proofs.lemmas.Int.{ints}
 use Rattle.ca_plane.specs.Plane.{Picture, shifted, IsLive}
 use Rattle.ca_plane.specs.Plane as plane
 use Rattle.ca_plane.specs.Generations.{after, cells_after, IsAfter}
 use Rattle.ca_plane.proofs.Shifts.{cell-shifted}
 use Rattle.ca_quad.specs.declared.node.Node.{Node}
+use Rattle.ca_quad.specs.declared.tree.Tree.{Tree}
 use Rattle.ca_quad.specs.Boxes.{IsDead}
 use Rattle.ca_quad.specs.Trees as trees
-use Rattle.ca_rule.specs.TableNext.{TableRule}
-use Rattle.ca_rule.specs.Rule.{next_of}
+use Rattle.ca_run.specs.declared.fault.LeapFault.{LeapFault}
 use Rattle.ca_run.proofs.After.{after_same}
 use Rattle.ca_claims.specs.declared.claims.line.Kind.TheVariants as kind
 use Rattle.ca_claims.specs.declared.identification.stage.First.{First}
 use Rattle.ca_claims.specs.declared.identification.stage.Stage.TheVariants.{Other}
-use Rattle.ca_claims.specs.declared.ruled.Ruled.{Ruled}
-use Rattle.ca_claims.specs.Identified.{IsTrueWithin, HasNoTrueClaim, HoldsSmallPattern, MayNeedWork}
+use Rattle.ca_claims.specs.declared.identity.Growth.{Growth}
+use Rattle.ca_claims.specs.declared.identity.Identity.{Identity}
+use Rattle.ca_claims.specs.declared.identity.Identity.TheVariants.{Unknown}
+use Rattle.ca_claims.specs.Identified.{IsIdentity, IsIdentityAfter, IsTrueWithin, HasNoTrueClaim}
 use Rattle.ca_claims.specs.Text.{longest_period}
 use Rattle.ca_claims.specs.Truth.{IsChanged, IsNowhere, IsLiveAfter}
-use Rattle.ca_claims.specs.inner.Patterns.{rule_of}
-use Rattle.ca_claims.specs.inner.Ready.{IsReady}
-use Rattle.ca_claims.specs.inner.Stages.{IsFirst, IsStage, IsReturn, AreMoved, AreMovedNowhere, AreOtherUpTo}
+use Rattle.ca_claims.specs.inner.Stages.{IsFirst, IsStage, IsReturn, IsLaterTree, IsGrowthOf, AreMoved, AreMovedNowhere, AreOtherUpTo}
 use Rattle.ca_claims.specs.inner.Subjects.{ShowsTree, HasLive}
-use Rattle.ca_claims.proofs.Leapt.{near_pattern}
-use Rattle.ca_claims.proofs.Nearby.{later_outside}
-use Rattle.ca_claims.proofs.Shown.{small_shown}
-use Rattle.ca_claims.proofs.Stages.{need_as, changes, least_right, most_right, least_down, most_down}
+use Rattle.ca_claims.proofs.LaterPlanes.{tree_picture}
+use Rattle.ca_claims.proofs.Leapt.{ok_as}
+use Rattle.ca_claims.proofs.Starts.{near_start, start_near, picture_after}
+use Rattle.ca_claims.proofs.Stages.{changes, least_right, most_right, least_down, most_down}
 
 -- ---- a picture of the first cells
 
@@ -112,6 +112,12 @@ module _ (next : List ℕ → ℕ) (cells : Picture) (limit n : ℕ) (dx dy : �
     holds = record { live = λ _. is.live; stands = is.stands; least = is.nowhere };
   }
 
+-- where none of some generations is dead, the tree of the last one is live
+pub last_live : (next : List ℕ → ℕ) (p : ℤ → ℤ → ℕ) (n : ℕ) (nodes : List Node) (now : Tree) → IsLaterTree next p n nodes now → AreOtherUpTo next p n → 1 ≤ n → HasLive (trees.cell nodes now)
+last_live next p n nodes now is others some =
+    let live = (others n some (omega arith)).0 in
+    (live.0, live.1, λ none. live.2 (sym (is.shows live.0 live.1) ∙ none))
+
 -- ---- a live pattern's tree, none of whose first n generations is dead or the pattern, moved
 
 module _ (next : List ℕ → ℕ) (quiet : next (replicate 9 0) ≡ 0) (nodes : List Node) (first : First) (is : IsFirst nodes first) (cells : Picture) (shows : ShowsTree nodes first.tree cells) where
@@ -121,9 +127,16 @@ module _ (next : List ℕ → ℕ) (quiet : next (replicate 9 0) ≡ 0) (nodes :
   first_live : HasLive p
   first_live = (first.bounds.x0, is.box.left.0, is.box.left.1)
 
-  -- where none of all generations is, nothing is true of it
-  pub found_none : (limit : ℕ) → AreOtherUpTo next p limit → IsLive cells × HasNoTrueClaim next cells limit
-  found_none limit others = (picture_live next p cells shows first_live, none_true next p cells shows limit others)
+  -- where none of all generations is, nothing is true of it, and the growth is that of the last one
+  pub found_none : (limit : ℕ) → AreOtherUpTo next p limit → (new : List Node) (now : Tree) → IsLaterTree next p limit new now → (growth : Growth) → IsGrowthOf new now growth
+      → IsIdentity next cells limit (Unknown growth)
+  found_none limit others new now is growth (last, shown, grown) = (
+    picture_live next p cells shows first_live,
+    none_true next p cells shows limit others,
+    last,
+    (λ x y. later next p cells shows limit x y ∙ sym (is.shows x y) ∙ sym (shown x y)),
+    grown,
+  )
 
   module _ (n : ℕ) (others : AreOtherUpTo next p n) (limit : ℕ) (less : n < limit) (short : limit ≤ longest_period) where
     -- where the next one is dead, it dies then
@@ -137,7 +150,7 @@ module _ (next : List ℕ → ℕ) (quiet : next (replicate 9 0) ≡ 0) (nodes :
         let right = most_right next quiet p first.bounds is.box (n + 1) dx dy moved in
         let up = least_down next quiet p first.bounds is.box (n + 1) dx dy moved in
         let down = most_down next quiet p first.bounds is.box (n + 1) dx dy moved in
-        let near = (near_pattern nodes first.tree is.pattern).near in
+        let near = (near_start nodes first.tree is.start).near in
         record {
           live = picture_live next p cells shows first_live;
           some = omega arith;
@@ -145,28 +158,17 @@ module _ (next : List ℕ → ℕ) (quiet : next (replicate 9 0) ≡ 0) (nodes :
           down = (omega (arith, ints, up, less, short), omega (arith, ints, down, less, short));
           stands = picture_moved next p cells shows (n + 1) dx dy moved;
           changed = λ m some before. picture_changed next p cells shows m
-              (changes p (cells_after next p m) near (later_outside next p m quiet is.pattern.range (omega (arith, before, less, short))) (others m some (omega (arith, before))).1);
+              (changes p (cells_after next p m) near (start_near next p m quiet is.start.within (omega (arith, before, less, short))) (others m some (omega (arith, before))).1);
           nowhere = λ m some before. picture_nowhere next p cells shows m (others m some (omega (arith, before))).1;
         }
 
--- ---- the file
+-- ---- a plane some generations on
 
-module _ (nodes : List Node) (bytes : List ℕ) (tables : List TableRule) (ruled : Ruled) (ready : IsReady nodes bytes tables ruled) where
-  -- it means the cells that its tree shows
-  pub file_shows : ShowsTree nodes ruled.pattern.tree ready.read.cells
-  file_shows = λ x y. sym (ready.read.loaded.shows x y)
-
-  -- which are of small states
-  pub file_holds : HoldsSmallPattern bytes tables ready.read.cells (rule_of ruled)
-  file_holds = record {
-    generation = ruled.pattern.generation;
-    holds = record { rule_text = ruled.pattern.rule_text.items; holds = ready.read.loaded.holds; names = ready.names };
-    small = small_shown (trees.cell nodes ruled.pattern.tree) (plane.cell ready.read.cells) ready.read.loaded.shows (rule_of ruled) ready.small;
-  }
-
-  -- and for which steps may need so much work
-  pub file_needs : (work limit : ℕ) → MayNeedWork work (cells_after (next_of (rule_of ruled)) (trees.cell nodes ruled.pattern.tree)) limit → MayNeedWork work (after (next_of (rule_of ruled)) ready.read.cells) limit
-  file_needs work limit need =
-      let next = next_of (rule_of ruled) in
-      let tree = trees.cell nodes ruled.pattern.tree in
-      need_as work (cells_after next tree) (after next ready.read.cells) limit (λ n x y. after_same next tree (plane.cell ready.read.cells) n ready.read.loaded.shows x y) need
+-- what is found of its tree is found of the plane
+pub found_later : (next : List ℕ → ℕ) (p : ℤ → ℤ → ℕ) (cells : Picture) (n : ℕ) (nodes : List Node) (start : Tree) (limit : ℕ) (result : Result Identity LeapFault)
+    → ((x y : ℤ) → plane.cell cells x y ≡ p x y) → IsLaterTree next p n nodes start
+    → ((later : Picture) → ShowsTree nodes start later → IfOk result (IsIdentity next later limit)) → IfOk result (IsIdentityAfter next cells n limit)
+found_later next p cells n nodes start limit result shows is told =
+    let (last, same) = tree_picture nodes start in
+    let shown : ShowsTree nodes start last = λ x y. sym (same x y) in
+    ok_as result _ _ (λ identity found. (last, picture_after next p cells last n nodes start shows is shown, found)) (told last shown)

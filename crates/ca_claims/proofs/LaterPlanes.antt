@@ -21,6 +21,7 @@ use Rattle.ca_quad.specs.Boxes.{IsDead, IsLeastWideBox}
 use Rattle.ca_quad.specs.Trees as trees
 use Rattle.ca_quad.specs.Trimmed.{IsTrimmed, HoldsAll}
 use Rattle.ca_quad.specs.Sound.{IsSoundStore}
+use Rattle.ca_quad.proofs.Listed.{tree_population}
 use Rattle.ca_quad.proofs.Reach.{low_fits}
 use Rattle.ca_quad.proofs.Shifts.{some_level}
 use Rattle.ca_macro.specs.Pattern.{AreInRange}
@@ -140,6 +141,10 @@ module _ (f : ℤ → ℤ → ℕ) where
   -- so cells of which so many are live have a picture
   pub picture_of : (count : ℕ) → HasPopulation f count → (picture : Picture) × ((x y : ℤ) → f x y ≡ plane.cell picture x y)
   picture_of count has = (listed has.0, picture_of_places has.0 has.1)
+
+-- so each tree has one
+pub tree_picture : (nodes : List Node) (tree : Tree) → (picture : Picture) × ((x y : ℤ) → trees.cell nodes tree x y ≡ plane.cell picture x y)
+tree_picture nodes tree = picture_of (trees.cell nodes tree) _ (tree_population nodes tree)
 
 -- ---- low trees
 

@@ -37,10 +37,13 @@ pub mod Deaths
 pub mod DividedReturns
 pub mod Reasoned
 pub mod LifeSpans
+pub mod LaterPlanes
+pub mod Starts
 pub mod Stages
 pub mod Identities
+pub mod IdentityRefusals
 pub mod UnknownRules
 pub mod AddedTables
 pub mod RuleLines
-pub mod LaterPlanes
 pub mod ReachedFiles
+pub mod IdentifiedFiles

@@ -1,5 +1,5 @@
 -- One of a claim's one or two patterns, which is bad, after one that is good.
-use Rattle.std.proofs.Common.{◌≡◌, ℕ, List, [], ◌∷◌, map, Option, inl, inr, refl, ap, sym, subst}
+use Rattle.std.proofs.Common.{◌≡◌, ℕ, List, [], ◌∷◌, map, Option, Vec, Global, inl, inr, refl, ap, sym, subst}
 use Rattle.std.specs.List.{AllByRecursion, AllZip}
 use Rattle.ca_claims.specs.declared.claims.line.Named.{Named}
 use Rattle.ca_claims.specs.declared.refusal.About.{About}
@@ -57,27 +57,27 @@ named_part paths Good Bad Second (n ∷ m ∷ ns) pattern is bad = inr (bad.0, i
 
 module _ (files : List (List ℕ × List ℕ)) (rules : List (List ℕ)) where
   -- what is said of a pattern is said of it in other words
-  of_pattern : (F H : (Good Bad : List ℕ → Type 0) → Type 0) → ((Good Bad : List ℕ → Type 0) → F Good Bad → H Good Bad) → (cause : Cause) (line : Option ℕ)
-      → IsOfPattern files rules cause F line → IsOfPattern files rules cause H line
-  of_pattern F H f NoFile line is = (is.0, f _ _ is.1)
-  of_pattern F H f (BadPattern fault) line is = f _ _ is
-  of_pattern F H f (BadRule fault) line is = (is.0, is.1, is.2, f _ _ is.3)
-  of_pattern F H f StateTooLarge line is = (is.0, is.1, is.2, f _ _ is.3)
-  of_pattern F H f TooManyCells line is = (is.0, is.1, is.2, f _ _ is.3)
-  of_pattern F H f cause line is = absurd is
+  of_pattern : (F H : (Good Bad : List ℕ → Type 0) → Type 0) → ((Good Bad : List ℕ → Type 0) → F Good Bad → H Good Bad) → (cause : Cause) (line : Option ℕ) (text : Option (Vec ℕ Global))
+      → IsOfPattern files rules cause F line text → IsOfPattern files rules cause H line text
+  of_pattern F H f NoFile line text is = (is.0, is.1, f _ _ is.2)
+  of_pattern F H f (BadPattern fault) line text is = (is.0, f _ _ is.1)
+  of_pattern F H f (BadRule fault) line text is = (is.0, is.1, is.2, f _ _ is.3)
+  of_pattern F H f StateTooLarge line text is = (is.0, is.1, is.2, is.3, f _ _ is.4)
+  of_pattern F H f TooManyCells line text is = (is.0, is.1, is.2, is.3, f _ _ is.4)
+  of_pattern F H f cause line text is = absurd is
 
   -- so it is told by its name and path
-  pub told_part : (paths : List (List ℕ)) (part : Part) (patterns : List Named) (pattern : Named) → IsListPart part patterns pattern → (cause : Cause) (line : Option ℕ)
-      → IsOfPattern files rules cause (FirstBadAt part (map (λ n. path_at paths n.path) patterns)) line
-      → IsOfPattern files rules cause (IsFirstBad (map (named_path paths) patterns) pattern.name.now (path_at paths pattern.path)) line
+  pub told_part : (paths : List (List ℕ)) (part : Part) (patterns : List Named) (pattern : Named) → IsListPart part patterns pattern → (cause : Cause) (line : Option ℕ) (text : Option (Vec ℕ Global))
+      → IsOfPattern files rules cause (FirstBadAt part (map (λ n. path_at paths n.path) patterns)) line text
+      → IsOfPattern files rules cause (IsFirstBad (map (named_path paths) patterns) pattern.name.now (path_at paths pattern.path)) line text
   told_part paths part patterns pattern is = of_pattern (FirstBadAt part (map (λ n. path_at paths n.path) patterns)) (IsFirstBad (map (named_path paths) patterns) pattern.name.now (path_at paths pattern.path))
       (λ Good Bad bad. named_part paths Good Bad part patterns pattern is bad)
 
   -- and a cause is about the same of patterns of which two may be one
   pub on_all : (paths each all : List (List ℕ)) → IsEachOnce each all → (cause : Cause) (on : About) → IsOn files paths rules each cause on → IsOn files paths rules all cause on
   on_all paths each all once cause about.Claim is = is
-  on_all paths each all once cause (about.Pattern part line) is =
-      of_pattern (FirstBadAt part each) (FirstBadAt part all) (λ Good Bad bad. once_part Good Bad part each all once bad) cause line is
+  on_all paths each all once cause (about.Pattern part line text) is =
+      of_pattern (FirstBadAt part each) (FirstBadAt part all) (λ Good Bad bad. once_part Good Bad part each all once bad) cause line text is
   on_all paths each all once cause (about.RuleFile place) is = (is.0, of_file cause (path_at paths place) is.1)
     where
       -- where each file is there, all are

@@ -1,5 +1,5 @@
 -- The patterns of files that were read into a store, and what they say of the files' paths.
-use Rattle.std.proofs.Common.{◌≡◌, ◌≢◌, ℕ, ◌≤◌, ◌<◌, List, get_or, Option, Some, inr, refl, sym, subst, ◌∙◌, arith}
+use Rattle.std.proofs.Common.{◌≡◌, ◌≢◌, ℕ, ◌≤◌, ◌<◌, List, get_or, Option, Some, Vec, Global, inr, refl, sym, subst, ◌∙◌, arith}
 use Rattle.std.specs.Prelude.{ℤ}
 use Rattle.std.specs.List.{All}
 use Rattle.ca_plane.specs.declared.point.Point.{Point}
@@ -22,11 +22,12 @@ use Rattle.ca_claims.specs.declared.pattern.Loaded.{Loaded}
 use Rattle.ca_claims.specs.declared.format.Format.{Format}
 use Rattle.ca_claims.specs.declared.format.Format.TheVariants.{Rle, Mc}
 use Rattle.ca_claims.specs.declared.ruled.Ruled.{Ruled}
-use Rattle.ca_claims.specs.Means.{bytes_at, format_of, IsReadableAs, IsReadable, MayWantMemoryAs, MayWantMemory}
+use Rattle.ca_claims.specs.declared.ruled.Unnamed.{Unnamed}
+use Rattle.ca_claims.specs.Means.{bytes_at, format_of, HoldsPattern, IsReadableAs, IsReadable, MayWantMemoryAs, MayWantMemory}
 use Rattle.ca_claims.specs.declared.verdict.PatternFault.{PatternFault}
 use Rattle.ca_claims.specs.declared.verdict.PatternFault.TheVariants as pattern_fault
-use Rattle.ca_claims.specs.Answers.{IsPatternFault, IsPatternFaultOn, IsRuled, HasSmallStates, IsReadableFile, HasRule, IsSmall, IsLarge, IsUnnamed, IsGoodPattern}
-use Rattle.ca_claims.specs.inner.Patterns.{IsReadFrom, IsUnreadFor, HasName, rule_of, IsRuledAs, ShowsLarge, ShowsSmall}
+use Rattle.ca_claims.specs.Answers.{IsPatternFault, IsPatternFaultOn, IsRuled, HasSmallStates, IsReadableFile, HasRule, IsSmall, IsLarge, IsUnnamed, IsUnnamedBy, IsGoodPattern}
+use Rattle.ca_claims.specs.inner.Patterns.{IsReadFrom, IsUnreadFor, HasName, IsUnnamedFor, rule_of, IsRuledAs, ShowsLarge, ShowsSmall}
 use Rattle.ca_claims.proofs.Shown.{small_shown, large_shown, many_shown}
 
 -- ---- files that read
@@ -99,6 +100,16 @@ module _ (nodes : List Node) (files : List (List ℕ × List ℕ)) (path : List 
 
     pub path_has_fault : (tables : List TableRule) (fault : RuleFault) → IsRuleFault pattern.rule_text.items tables fault → IsUnnamed files tables fault path
     path_has_fault tables fault wrong = (at.bytes, at.at_path, (at.read.cells, pattern.rule_text.items, pattern.generation, at.read.loaded.holds, wrong))
+
+    pub path_is_unnamed : (tables : List TableRule) (unnamed : Unnamed) → IsUnnamedFor tables pattern unnamed → IsUnnamedBy files tables unnamed.fault (Some unnamed.rule_text) path
+    path_is_unnamed tables unnamed is = (
+      at.bytes,
+      at.at_path,
+      (
+        (at.read.cells, pattern.generation, subst (λ (t : Vec ℕ Global). HoldsPattern at.bytes at.read.cells t.items pattern.generation) (sym is.0) at.read.loaded.holds),
+        subst (λ (t : Vec ℕ Global). IsRuleFault t.items tables unnamed.fault) (sym is.0) is.1,
+      ),
+    )
 
     pub path_is_ruled : (tables : List TableRule) (rule : RuleValue) → NamesRule pattern.rule_text.items tables rule → IsRuled files tables path at.read.cells rule
     path_is_ruled tables rule names = (at.bytes, at.at_path, (pattern.generation, record { rule_text = pattern.rule_text.items; holds = at.read.loaded.holds; names = names }))

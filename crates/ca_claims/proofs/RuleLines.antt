@@ -1,5 +1,5 @@
 -- A text with one more rule line at its end.
-use Rattle.std.proofs.Common.{◌≡◌, ℕ, ◌<◌, true, false, not, List, [], ◌∷◌, ◌++◌, map, filter, slice_get, length, All, Some, unwrap_or, inl, inr, refl, sym, ap, ◌∙◌}
+use Rattle.std.proofs.Common.{◌≡◌, ℕ, ◌<◌, false, not, List, [], ◌∷◌, ◌++◌, map, filter, slice_get, length, All, Some, unwrap_or, inl, inr, refl, sym, ap, ◌∙◌}
 use Rattle.std.specs.List.{AllByRecursion, IsDistinct}
 use Rattle.std.specs.Str.{bytes_eq}
 use Rattle.std.proofs.lemmas.Bool.{cases_Bool, false≢true}
@@ -12,7 +12,7 @@ use Rattle.ca_claims.specs.declared.claims.line.Place.{Place}
 use Rattle.ca_claims.specs.Places.{path_at, claim_with_names, IsNamed}
 use Rattle.ca_claims.specs.Text.{ClaimText, by_path, named_patterns, paths_once, with_rule_line}
 use Rattle.ca_claims.specs.inner.Reading.{with_path}
-use Rattle.ca_claims.proofs.PathLists.{paths_once-push, bytes_eq_self}
+use Rattle.ca_claims.proofs.PathLists.{paths_once-push}
 use Rattle.ca_claims.proofs.ReadOn.{grown_same, grown_path, rules_kept, places_kept, all_kept, all_there}
 
 -- a path unlike all others is taken out of none of them

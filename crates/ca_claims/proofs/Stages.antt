@@ -1,5 +1,5 @@
 -- What a live pattern's plane shows some generations on: which vectors may move the pattern there, and how far they are.
-use Rattle.std.proofs.Common.{◌≡◌, ◌≢◌, ℕ, ◌+◌, ◌*◌, ◌^◌, ◌≤◌, ◌<◌, List, inl, inr, refl, sym, subst, ◌∙◌, arith}
+use Rattle.std.proofs.Common.{◌≡◌, ◌≢◌, ℕ, zero, suc, ◌+◌, ◌*◌, ◌^◌, ◌≤◌, ◌<◌, List, inl, inr, refl, sym, subst, ◌∙◌, arith}
 use Rattle.std.proofs.Math.Nat.{mul-le-mul_right}
 use Rattle.std.specs.Prelude.{ℤ, pos, neg_ℤ, ◌+ℤ◌, ◌-ℤ◌, ◌≤ℤ◌, replicate}
 use Rattle.std.proofs.lemmas.Bool.{cases_eq}
@@ -9,27 +9,26 @@ use Rattle.ca_plane.specs.Sparse.{IsInPlane}
 use Rattle.ca_quad.specs.declared.node.Node.{Node}
 use Rattle.ca_quad.specs.declared.tree.Tree.{Tree}
 use Rattle.ca_quad.specs.declared.tree.WideBounds.{WideBounds}
-use Rattle.ca_macro.specs.Pattern.{AreInRange}
 use Rattle.ca_quad.specs.Sound.{IsSoundStore, Grows}
 use Rattle.ca_quad.specs.Boxes.{IsLeastWideBox, IsInWideBox}
 use Rattle.ca_quad.specs.Trees.{cell}
-use Rattle.ca_quad.specs.Trimmed.{IsTrimmed}
+use Rattle.ca_quad.specs.Trimmed.{IsTrimmed, HoldsAll}
 use Rattle.ca_quad.proofs.Growth.{below_or_not}
 use Rattle.ca_quad.proofs.Trims.{trees_stay}
 use Rattle.ca_run.specs.Later.{IsWithin}
 use Rattle.ca_run.proofs.After.{after_dead, after_same, after_again}
 use Rattle.ca_run.proofs.Costs.{power_more}
-use Rattle.ca_claims.specs.Identified.{MayNeedWork}
+use Rattle.ca_claims.specs.Identified.{run_work}
 use Rattle.ca_claims.specs.Text.{longest_period}
 use Rattle.ca_claims.specs.declared.identification.stage.First.{First}
 use Rattle.ca_claims.specs.declared.identification.stage.Stage.{Stage}
 use Rattle.ca_claims.specs.declared.identification.stage.Stage.TheVariants.{Empty, Back, Other}
-use Rattle.ca_claims.specs.inner.Stages.{IsNear, IsFirst, AreMoved, AreMovedNowhere, IsStage, IsLaterTree, AreOtherUpTo, TakesSteps}
-use Rattle.ca_claims.specs.inner.Subjects.{IsPattern}
+use Rattle.ca_claims.specs.inner.Spending.{Takes}
+use Rattle.ca_claims.specs.inner.Stages.{IsNear, IsStart, IsFirst, AreMoved, AreMovedNowhere, IsStage, IsLaterTree, AreOtherUpTo, TakesSteps, TakesRun, TakesRunAndSteps}
 use Rattle.ca_claims.proofs.Corners.{live_after, not_above}
-use Rattle.ca_claims.proofs.Leapt.{near_pattern, near_stays, pattern_stays}
-use Rattle.ca_claims.proofs.Nearby.{later_outside}
+use Rattle.ca_claims.proofs.Leapt.{near_stays}
 use Rattle.ca_claims.proofs.Searches.{search_within}
+use Rattle.ca_claims.proofs.Starts.{near_start, start_stays, start_near}
 use Rattle.ca_claims.proofs.Times.{moved_nowhere}
 
 -- later cells that the first ones are moved onto by no vector differ from them somewhere
@@ -119,25 +118,25 @@ later_stays next p n old new sound grows tree is =
 -- so does a first pattern
 pub first_stays : (old new : List Node) → IsSoundStore old → Grows old new → (first : First) → IsFirst old first → IsFirst new first
 first_stays old new sound grows first is = record {
-  pattern = pattern_stays old new sound grows first.tree is.pattern;
-  box = least_as (cell old first.tree) (cell new first.tree) first.bounds (λ x y. sym (trees_stay old new sound grows first.tree is.pattern.is_tree x y)) is.box;
+  start = start_stays old new sound grows first.tree is.start;
+  box = least_as (cell old first.tree) (cell new first.tree) first.bounds (λ x y. sym (trees_stay old new sound grows first.tree is.start.is_tree x y)) is.box;
 }
 
 -- ---- one generation on
 
 -- no generation on
-pub first_tree : (next : List ℕ → ℕ) (nodes : List Node) (tree now : Tree) → now ≡ tree → IsPattern nodes tree → IsLaterTree next (cell nodes tree) 0 nodes now
+pub first_tree : (next : List ℕ → ℕ) (nodes : List Node) (tree now : Tree) → now ≡ tree → IsStart nodes tree → IsLaterTree next (cell nodes tree) 0 nodes now
 first_tree next nodes tree now same is =
     subst (IsLaterTree next (cell nodes tree) 0 nodes) (sym same)
-    (record { near = near_pattern nodes tree is; low = let low = is.low in omega (arith, low); trimmed = is.trimmed; shows = λ x y. refl })
+    (record { near = near_start nodes tree is; low = let low = is.low in omega (arith, low); trimmed = is.trimmed; shows = λ x y. refl })
 
 module _ (next : List ℕ → ℕ) (p : ℤ → ℤ → ℕ) (n : ℕ) (nodes : List Node) (now : Tree) (is : IsLaterTree next p n nodes now) where
   one_on : (x y : ℤ) → cells_after next (cell nodes now) 1 x y ≡ cells_after next p (n + 1) x y
   one_on x y = after_same next (cell nodes now) (cells_after next p n) 1 is.shows x y ∙ after_again next p n 1 x y
 
-  -- few generations after cells in range none lies outside the square of a plane
-  pub near_next : next (replicate 9 0) ≡ 0 → AreInRange p → n < longest_period → IsNear (cells_after next (cell nodes now) 1)
-  near_next quiet range few = λ x y out. one_on x y ∙ later_outside next p (n + 1) quiet range (omega (arith, few)) x y out
+  -- few generations after the start no live cell lies outside the square of a plane
+  pub near_next : next (replicate 9 0) ≡ 0 → HoldsAll 62 p → n < longest_period → IsNear (cells_after next (cell nodes now) 1)
+  near_next quiet within few = λ x y out. one_on x y ∙ start_near next p (n + 1) quiet within (omega (arith, few)) x y out
 
   -- the tree that is one generation on from this one
   pub later_next : (new : List Node) (tree : Tree) → IsLaterTree next (cell nodes now) 1 new tree → IsLaterTree next p (n + 1) new tree
@@ -159,7 +158,7 @@ one_more_other next p n before now m some within =
 
 module _ {R : Type 0} (next_of : R → List ℕ → ℕ) {rule later : R} (same : later ≡ rule) {s0 s : List Node} (sound : IsSoundStore s0) (grows : Grows s0 s) {first : First} (is : IsFirst s0 first) (n : ℕ) where
   first_same : (x y : ℤ) → cell s first.tree x y ≡ cell s0 first.tree x y
-  first_same = trees_stay s0 s sound grows first.tree is.pattern.is_tree
+  first_same = trees_stay s0 s sound grows first.tree is.start.is_tree
 
   -- the tree from which it goes on
   pub step_from : (now : Tree) → IsLaterTree (next_of rule) (cell s0 first.tree) n s now → IsLaterTree (next_of later) (cell s first.tree) n s now
@@ -187,8 +186,11 @@ pub no_step : (old new : ℕ) (stages : ℕ → ℤ → ℤ → ℕ) (limit : �
 no_step old new stages limit same level some holds = omega (arith, same)
 
 -- one
-pub one_step : (old new level : ℕ) → new ≤ old + 14 ^ (level + 1 + 2) → new ≤ old + 14 ^ (level + 3)
-one_step old new level takes = let same : level + 1 + 2 ≡ level + 3 = omega arith in subst (λ e. new ≤ old + 14 ^ e) same takes
+pub one_step : (old new level : ℕ) → Takes old new 1 level 1 → new ≤ old + 14 ^ (level + 3)
+one_step old new level takes =
+    let most = takes 1 (omega arith) in
+    let same : level + 1 + 2 ≡ level + 3 = omega arith in
+    subst (λ e. new ≤ old + 14 ^ e) same (omega (arith, most))
 
 -- one more, from a trimmed tree of the live cells before it
 pub one_more_step : (old mid new : ℕ) (stages : ℕ → ℤ → ℤ → ℕ) (limit n : ℕ) (nodes : List Node) (tree : Tree) → IsTrimmed nodes tree → ((x y : ℤ) → cell nodes tree x y ≡ stages n x y)
@@ -216,12 +218,15 @@ pub last_step : (old mid new : ℕ) (stages : ℕ → ℤ → ℤ → ℕ) (limi
 last_step old mid new stages limit n nodes tree trimmed shows less before takes =
     fewer_steps old new stages limit (n + 1) (omega (arith, less)) (one_more_step old mid new stages limit n nodes tree trimmed shows less before takes)
 
--- so all the work that may be done is no more than steps may need
-pub steps_need : (old new work : ℕ) (stages : ℕ → ℤ → ℤ → ℕ) (limit : ℕ) → old ≡ 0 → new ≡ work → TakesSteps old new stages limit limit → MayNeedWork work stages limit
-steps_need old new work stages limit none all takes level some holds =
-    let most = takes level some holds in
-    omega (arith, none, all, most)
+-- a run, and steps from there
+pub run_then_steps : (next : List ℕ → ℕ) (p : ℤ → ℤ → ℕ) (old mid new level n limit : ℕ) (nodes : List Node) (start : Tree) → IsLaterTree next p n nodes start
+    → TakesRun old mid level n → TakesSteps mid new (cells_after next (cell nodes start)) limit limit → TakesRunAndSteps old new level n (cells_after next p) limit
+run_then_steps next p old mid new level n limit nodes start is run steps digits height short some holds =
+    let first = run digits short in
+    let most = steps height some (λ m less x y live. holds m less x y (λ none. live (after_same next (cell nodes start) (cells_after next p n) m is.shows x y ∙ after_again next p n m x y ∙ none))) in
+    omega (arith, first, most)
 
--- the same of cells that are the same at every x and y
-pub need_as : (work : ℕ) (f g : ℕ → ℤ → ℤ → ℕ) (limit : ℕ) → ((n : ℕ) (x y : ℤ) → f n x y ≡ g n x y) → MayNeedWork work f limit → MayNeedWork work g limit
-need_as work f g limit same need level some holds = need level some (λ n less x y live. holds n less x y (λ none. live (same n x y ∙ none)))
+-- a run of a higher tree may need more
+pub run_more : (n low high digits : ℕ) → low ≤ high → run_work n low digits ≤ run_work n high digits
+run_more zero low high digits less = omega arith
+run_more (suc n) low high digits less = power_more (low + digits + 2) (high + digits + 2) (omega (arith, less))

@@ -7,7 +7,7 @@ use Rattle.ca_plane.specs.Plane.{Picture, cell, shifted}
 use Rattle.ca_plane.proofs.Shifts.{cell-shifted}
 use Rattle.ca_quad.specs.Shifted.{shifted_cells}
 use Rattle.ca_claims.specs.Text.{IsShift}
-use Rattle.ca_claims.specs.inner.Returns.{IsWide}
+use Rattle.ca_claims.specs.inner.Returns.{IsBroad, IsWide}
 
 -- a picture that is moved by (0, 0) shows what it showed
 pub unmoved : (p : Picture) (dx dy x y : ℤ) → dx ≡ pos 0 → dy ≡ pos 0 → cell (shifted p dx dy) x y ≡ cell p x y
@@ -44,18 +44,22 @@ wide_reads n wide = let fits : FitsSigned w128 n = omega (arith, ints, wide) in 
 pub wide_again : (n : ℤ) → IsWide n → IsWide (to_z w128 (of_z w128 n))
 wide_again n wide = subst IsWide (sym (wide_reads n wide)) wide
 
--- so does a shift
-pub shift_wide : (d : ℤ) → IsShift d → IsWide d
-shift_wide d shift = (omega (arith, ints, shift), omega (arith, ints, shift))
+-- so does one at most half as far from 0,
+pub broad_wide : (n : ℤ) → IsBroad n → IsWide n
+broad_wide n broad = (omega (arith, ints, broad), omega (arith, ints, broad))
 
-pub wide_shift_again : (d : ℤ) → IsShift d → IsShift (to_z w128 (of_z w128 d))
-wide_shift_again d shift = subst IsShift (sym (wide_reads d (shift_wide d shift))) shift
+pub broad_again : (n : ℤ) → IsBroad n → IsBroad (to_z w128 (of_z w128 n))
+broad_again n broad = subst IsBroad (sym (wide_reads n (broad_wide n broad))) broad
+
+-- as a shift is
+pub shift_broad : (d : ℤ) → IsShift d → IsBroad d
+shift_broad d shift = (omega (arith, ints, shift), omega (arith, ints, shift))
 
 -- and the distance between them as an `i64`
-pub distance_reads : (from to d result : ℤ) → IsShift from → IsWide to → result ≡ to_z w128 (of_z w128 to) -ℤ to_z w128 (of_z w128 from) → d ≡ to -ℤ from → d ≡ to_z w64 (of_z w64 result)
-distance_reads from to d result shift wide is e =
-    let far : result ≡ to -ℤ from = is ∙ ap₂ (λ a b. a -ℤ b) (wide_reads to wide) (wide_reads from (shift_wide from shift)) in
-    let fits : FitsSigned w64 result = omega (arith, ints, far, shift, wide) in
+pub distance_reads : (from to d result : ℤ) → IsBroad from → IsWide to → result ≡ to_z w128 (of_z w128 to) -ℤ to_z w128 (of_z w128 from) → d ≡ to -ℤ from → d ≡ to_z w64 (of_z w64 result)
+distance_reads from to d result broad wide is e =
+    let far : result ≡ to -ℤ from = is ∙ ap₂ (λ a b. a -ℤ b) (wide_reads to wide) (wide_reads from (broad_wide from broad)) in
+    let fits : FitsSigned w64 result = omega (arith, ints, far, broad, wide) in
     e ∙ sym far ∙ sym (to_z-of_z w64 result fits)
 
 -- what is as far from one coordinate as from another is so as an `i128`

@@ -1,5 +1,5 @@
 -- Patterns that are written in another form or summed up, from their files.
-use Rattle.std.proofs.Common.{ℕ, ◌≤◌, List, Result, Ok, Err, sym, subst, ◌∙◌, inl, inr, arith}
+use Rattle.std.proofs.Common.{◌≡◌, ℕ, ◌≤◌, List, None, Result, Ok, Err, refl, sym, subst, ◌∙◌, inl, inr, arith}
 use Rattle.std.specs.Prelude.{ℤ}
 use Rattle.std.specs.Result.{IfOk, IfErr}
 use Rattle.std.proofs.lemmas.Bool.{cases_order}
@@ -19,10 +19,12 @@ use Rattle.ca_claims.specs.declared.conversion.ConvertFault.{ConvertFault}
 use Rattle.ca_claims.specs.declared.conversion.ConvertFault.TheVariants.{BadPattern, BadRule, StateTooLarge, TooManyCells, Memory}
 use Rattle.ca_claims.specs.Means.{format_of, HoldsRuledPattern}
 use Rattle.ca_claims.specs.Answers.{HasSmallStates}
+use Rattle.ca_claims.specs.declared.refused.Refused.{Refused}
+use Rattle.ca_claims.specs.Refused.{IsDetailOf, HasDetail}
 use Rattle.ca_claims.specs.Converted.{IsConverted, IsSummary, IsConvertFault}
 use Rattle.ca_claims.specs.inner.Glance.{IsTold}
 use Rattle.ca_claims.specs.inner.Patterns.{IsReadFrom, rule_of}
-use Rattle.ca_claims.specs.inner.Ready.{IsReady, HoldsCells, IsWrittenAs, AreUnwritten}
+use Rattle.ca_claims.specs.inner.Ready.{IsReady, HoldsCells, IsWrittenAs, AreUnwritten, with_no_detail}
 use Rattle.ca_claims.specs.inner.Subjects.{IsPattern}
 use Rattle.ca_claims.proofs.PatternsRead.{wanted}
 use Rattle.ca_claims.proofs.Shown.{small_shown, many_shown, population_shown}
@@ -49,6 +51,14 @@ pub ready_file : (nodes : List Node) (bytes : List ℕ) (tables : List TableRule
 ready_file nodes bytes tables ruled ready =
     record { picture = ready.read.cells; holds = holds_ruled nodes bytes tables ruled ready.read ready.names; shows = ready.read.loaded.shows; small = ready.small }
 
+-- no more is known of why it isn't written
+pub undetailed : (bytes : List ℕ) (f : ℤ → ℤ → ℕ) (target : Format) (fault : ConvertFault) → AreUnwritten target f fault → IsDetailOf bytes fault None None
+undetailed bytes f target (BadPattern fault) h = absurd h
+undetailed bytes f target (BadRule fault) h = absurd h
+undetailed bytes f target StateTooLarge h = (refl, refl)
+undetailed bytes f target TooManyCells h = (refl, refl)
+undetailed bytes f target Memory h = (refl, refl)
+
 module _ (bytes : List ℕ) (tables : List TableRule) (f : ℤ → ℤ → ℕ) (rule : RuleValue) (generation : ℕ) (file : HoldsCells bytes tables f rule generation) where
   small : HasSmallStates rule (cell file.picture)
   small = small_shown f (cell file.picture) file.shows rule file.small
@@ -61,9 +71,14 @@ module _ (bytes : List ℕ) (tables : List TableRule) (f : ℤ → ℤ → ℕ) 
   unwritten target TooManyCells h = (h.0, file.picture, rule, generation, file.holds, small, many_shown f (cell file.picture) file.shows h.1)
   unwritten target Memory h = wanted bytes file.holds.holds.readable
 
-  pub unconverted : (A : Type 0) (target : Format) (r : Result A ConvertFault) → IfErr r (AreUnwritten target f) → IfErr r (IsConvertFault bytes tables target)
-  unconverted A target (Ok a) h = h
-  unconverted A target (Err e) h = unwritten target e h
+  pub refused : (A : Type 0) (target : Format) (r : Result A ConvertFault) (w : Result A (Refused ConvertFault)) → w ≡ with_no_detail r → IfErr r (AreUnwritten target f)
+      → IfErr w (λ k. IsConvertFault bytes tables target k.fault)
+  refused A target (Ok a) w e h = rw e tt
+  refused A target (Err fault) w e h = rw e (unwritten target fault h)
+
+  pub refused_plainly : (A : Type 0) (target : Format) (r : Result A ConvertFault) (w : Result A (Refused ConvertFault)) → w ≡ with_no_detail r → IfErr r (AreUnwritten target f) → IfErr w (HasDetail bytes)
+  refused_plainly A target (Ok a) w e h = rw e tt
+  refused_plainly A target (Err fault) w e h = rw e (undetailed bytes f target fault h)
 
   -- what is written of it is what its file is converted to
   converted : (target : Format) (text : List ℕ) → IsWrittenAs target f rule generation text → IsConverted bytes tables target text
@@ -80,9 +95,10 @@ module _ (bytes : List ℕ) (tables : List TableRule) (f : ℤ → ℤ → ℕ) 
     tidy = written.tidy;
   }
 
-  pub converted_ok : {A : Type 0} (items : A → List ℕ) (target : Format) (r : Result A ConvertFault) → IfOk r (λ a. IsWrittenAs target f rule generation (items a)) → IfOk r (λ a. IsConverted bytes tables target (items a))
-  converted_ok items target (Ok a) written = converted target (items a) written
-  converted_ok items target (Err e) written = written
+  pub converted_ok : {A : Type 0} (items : A → List ℕ) (target : Format) (r : Result A ConvertFault) (w : Result A (Refused ConvertFault)) → w ≡ with_no_detail r
+      → IfOk r (λ a. IsWrittenAs target f rule generation (items a)) → IfOk w (λ a. IsConverted bytes tables target (items a))
+  converted_ok items target (Ok a) w e written = rw e (converted target (items a) written)
+  converted_ok items target (Err fault) w e written = rw e tt
 
   -- what is told of it is the summary of its file
   pub summed_up : (summary : Summary) → IsTold (format_of bytes) f rule generation summary → IsSummary bytes tables summary

@@ -1,5 +1,5 @@
 -- Rule texts that name no rule, and the files that have them.
-use Rattle.std.proofs.Common.{◌≡◌, ◌≢◌, ℕ, zero, suc, ◌+◌, ◌<◌, ◌||◌, ltb, true, false, Bool, IsTrue, List, [], ◌∷◌, ◌++◌, map, slice_get, get_or, length, Bor, Option, Some, None, Result, Ok, Err, IfOk, Vec, Global, ◌⊎◌, inl, inr, ◌↔◌, refl, sym, ap, subst, ◌∙◌, arith}
+use Rattle.std.proofs.Common.{◌≡◌, ℕ, zero, suc, ◌+◌, ◌<◌, ltb, true, false, Bool, IsTrue, List, [], ◌∷◌, map, slice_get, get_or, length, Bor, Option, Some, None, Result, Ok, Err, IfOk, Vec, Global, ◌⊎◌, inl, inr, ◌↔◌, refl, sym, ap, subst, ◌∙◌, arith}
 use Rattle.std.specs.List.{list_any, AllZip}
 use Rattle.std.specs.Option.{option_copied}
 use Rattle.std.specs.Str.{bytes_eq}
@@ -10,24 +10,20 @@ use Rattle.std.proofs.lemmas.Slice.Eq.{bytes_eq-Decides}
 use Rattle.ca_rule.specs.TableNext.{TableRule}
 use Rattle.ca_rule.specs.Rule.{IsRuleFault}
 use Rattle.ca_rule.specs.declared.fault.RuleFault.TheVariants.{Unknown}
-use Rattle.ca_rule.specs.declared.table.fault.TableFault.{TableFault}
-use Rattle.ca_rule.specs.declared.table.fault.TableFault.TheVariants as table_fault
-use Rattle.ca_rule.proofs.OneTable.{one_table}
 use Rattle.ca_claims.specs.declared.verifier.tables.FaultyTable.{FaultyTable}
 use Rattle.ca_claims.specs.Text.{ClaimText}
 use Rattle.ca_claims.specs.Places.{path_at}
 use Rattle.ca_claims.specs.Needed.{IsNeeded}
-use Rattle.ca_claims.specs.Means.{bytes_at}
-use Rattle.ca_claims.specs.Answers.{IsTableAt, AreTables, IsThere, IsMissing, HoldsTable, FirstBad, IsQuietTable, IsTableFault}
-use Rattle.ca_claims.specs.Unknown.{HoldsRuleText, HoldsUnknownRule, IsUnknownRule, AreUnknownRules, HoldsTableNamed}
+use Rattle.ca_claims.specs.Means.{bytes_at, HoldsRuleText}
+use Rattle.ca_claims.specs.Answers.{IsTableAt, AreTables, IsThere, IsMissing, HoldsTable, FirstBad}
+use Rattle.ca_claims.specs.Unknown.{IsUnreadFile, HoldsUnknownRule, IsUnknownRule, AreUnknownRules}
 use Rattle.ca_claims.specs.inner.Reading.{with_path}
 use Rattle.ca_claims.specs.declared.verifier.tables.Tables.{Tables}
 use Rattle.ca_claims.specs.declared.verifier.tables.Tables.TheVariants.{Missing, Faulty, Read}
 use Rattle.ca_claims.specs.inner.Tables.{IsFaultyAt, AreRead}
-use Rattle.ca_claims.specs.inner.Unknown.{IsUnreadFile, AsksFor, IsAskedBefore, AreAskedBefore, AddsAsked}
+use Rattle.ca_claims.specs.inner.Unknown.{AsksFor, IsAskedBefore, AreAskedBefore, AddsAsked}
 use Rattle.ca_claims.proofs.Causes.{bytes_found}
 use Rattle.ca_claims.proofs.FoundFiles.{found-length}
-use Rattle.ca_claims.proofs.PathLists.{bytes_eq_self}
 use Rattle.ca_claims.proofs.Verdicts.{one_meaning, reads_without_fault, one_tables, tables_there, there_or_none, all_or_some, table_or_fault}
 use Rattle.ca_claims.proofs.Zipped.{first_weaker, some_first, zip_left}
 
@@ -198,19 +194,3 @@ pub unread_tables : (files : List (List ℕ × List ℕ)) (paths rules : List (L
 unread_tables files paths rules (Missing place) other read us are = none_missing files rules us are (path_at paths place) read.1
 unread_tables files paths rules (Faulty faulty) other read us are = none_bad files rules us are paths faulty read.2
 unread_tables files paths rules (Read ts) other read us are = absurd (other ts refl)
-
--- ---- a table of a name
-
--- the text of a table holds one of this name exactly where its own name is that
-pub named_table : (name bytes : List ℕ) (table : TableRule) → IsQuietTable bytes table → bytes_eq table.name name ≡ true ↔ HoldsTableNamed name bytes
-named_table name bytes table is = (
-  λ same. (table, is, (bytes_eq-Decides table.name name).0 same),
-  λ h. (bytes_eq-Decides table.name name).1 (ap (λ t. t.name) (one_table bytes table h.0 is.0 h.1.0) ∙ h.2),
-)
-
--- a faulty text holds none
-pub no_named_table : (name bytes : List ℕ) (fault : TableFault) → IsTableFault bytes fault → HoldsTableNamed name bytes → ⊥
-no_named_table name bytes fault wrong h = table_or_fault ((name, bytes) ∷ []) name fault (h.0, (bytes, at, h.1)) (bytes, at, wrong)
-  where
-    at : bytes_at ((name, bytes) ∷ []) name ≡ Some bytes
-    at = rw (bytes_eq_self name) refl

@@ -1,5 +1,6 @@
 -- True answers: what a yes, a no and a refusal say of the files that were handed in, and what a refusal is about.
-use Rattle.std.specs.Prelude.{◌≡◌, ◌≢◌, ℕ, ◌≤◌, ◌<◌, ℤ, IsTrue, List, [], ◌∷◌, replicate, Option, Some, None, ◌⊎◌}
+use Rattle.std.specs.Prelude.{◌≡◌, ◌≢◌, ℕ, ◌≤◌, ◌<◌, ℤ, IsTrue, List, [], ◌∷◌, replicate, Option, Some, None, Vec, ◌⊎◌}
+use Rattle.std.specs.declared.alloc.Global.{Global}
 use Rattle.std.specs.List.{AllZip, AllByRecursion}
 use Rattle.ca_plane.specs.Plane.{Picture, cell}
 use Rattle.ca_plane.specs.Population.{HasFewCells, HasTooManyCells}
@@ -9,7 +10,7 @@ use Rattle.ca_rule.specs.TableFaults as table_faults
 use Rattle.ca_rule.specs.declared.fault.RuleFault.{RuleFault}
 use Rattle.ca_rule.specs.declared.table.fault.TableFault.{TableFault}
 use Rattle.ca_rule.specs.declared.table.fault.TableFault.TheVariants as table_fault
-use Rattle.ca_rule.specs.Rule.{RuleValue, states_of, next_of, IsSameRule}
+use Rattle.ca_rule.specs.Rule.{RuleValue, states_of, next_of, IsRuleFault, IsSameRule}
 use Rattle.ca_rle.specs.Faults as rle_faults
 use Rattle.ca_rle.specs.FaultyLine as rle_lines
 use Rattle.ca_rle.specs.declared.fault.RleFault.TheVariants as rle_fault
@@ -26,7 +27,7 @@ use Rattle.ca_claims.specs.declared.verdict.Cause.TheVariants.{NoFile, BadTable,
 use Rattle.ca_claims.specs.declared.claims.asks.Asks.{Asks}
 use Rattle.ca_claims.specs.Limited.{MayBeUsedUp}
 use Rattle.ca_claims.specs.Text.{Claim, patterns_of}
-use Rattle.ca_claims.specs.Means.{bytes_at, format_of, IsReadable, HoldsRuledPattern, HasRuleFault, MayWantMemory}
+use Rattle.ca_claims.specs.Means.{bytes_at, format_of, IsReadable, HoldsRuleText, HoldsRuledPattern, HasRuleFault, MayWantMemory}
 use Rattle.ca_claims.specs.Truth.{asks_of, wanted_cells, IsTrueClaim, IsReason}
 
 -- the fault for which the bytes of a pattern aren't read; out of memory is none of them
@@ -130,6 +131,11 @@ IsBadPatternOn files fault line path = HoldsOfFile files (λ bytes. IsPatternFau
 abbrev pub IsUnnamed : List (List ℕ × List ℕ) → List TableRule → RuleFault → List ℕ → Type 0
 IsUnnamed files tables fault path = HoldsOfFile files (λ bytes. HasRuleFault bytes tables fault) path
 
+-- and that rule text is this
+abbrev pub IsUnnamedBy : List (List ℕ × List ℕ) → List TableRule → RuleFault → Option (Vec ℕ Global) → List ℕ → Type 0
+IsUnnamedBy files tables fault None path = ⊥
+IsUnnamedBy files tables fault (Some text) path = HoldsOfFile files (λ bytes. HoldsRuleText text.items bytes × IsRuleFault text.items tables fault) path
+
 -- it has a rule, and some state that is too large for it
 abbrev pub IsLarge : List (List ℕ × List ℕ) → List TableRule → List ℕ → Type 0
 IsLarge files tables path = (cells : Picture) × (rule : RuleValue) × IsRuled files tables path cells rule × HasLargeState rule (cell cells)
@@ -220,17 +226,18 @@ abbrev pub IsOfClaim : Cause → Type 0
 IsOfClaim cause = (cause ≡ MixedRules) ⊎ ((cause ≡ Work) ⊎ (cause ≡ Memory))
 
 -- one of the claim's patterns: what `First` tells of it, by what is good of the paths before it and what is bad of its own. Only a file
--- that isn't read has a line; `rules` are the paths of the text's rule lines
-abbrev pub IsOfPattern : List (List ℕ × List ℕ) → List (List ℕ) → Cause → (First : (Good Bad : List ℕ → Type 0) → Type 0) → Option ℕ → Type 0
-IsOfPattern files rules NoFile First line = (line ≡ None) × First (IsThere files) (IsMissing files)
-IsOfPattern files rules (BadPattern fault) First line = First (IsReadableFile files) (IsBadPatternOn files fault line)
-IsOfPattern files rules (BadRule fault) First line =
-    (line ≡ None) × (tables : List TableRule) × AreTables files rules tables × First (HasRule files tables) (IsUnnamed files tables fault)
-IsOfPattern files rules StateTooLarge First line =
-    (line ≡ None) × (tables : List TableRule) × AreTables files rules tables × First (IsSmall files tables) (IsLarge files tables)
-IsOfPattern files rules TooManyCells First line =
-    (line ≡ None) × (tables : List TableRule) × AreTables files rules tables × First (IsSmall files tables) (IsCrowded files tables)
-IsOfPattern files rules cause First line = ⊥
+-- that isn't read has a line, and only one whose rule text names no rule has that text; `rules` are the paths of the text's rule lines
+abbrev pub IsOfPattern : List (List ℕ × List ℕ) → List (List ℕ) → Cause → (First : (Good Bad : List ℕ → Type 0) → Type 0) → Option ℕ
+    → Option (Vec ℕ Global) → Type 0
+IsOfPattern files rules NoFile First line text = (line ≡ None) × (text ≡ None) × First (IsThere files) (IsMissing files)
+IsOfPattern files rules (BadPattern fault) First line text = (text ≡ None) × First (IsReadableFile files) (IsBadPatternOn files fault line)
+IsOfPattern files rules (BadRule fault) First line text =
+    (line ≡ None) × (tables : List TableRule) × AreTables files rules tables × First (HasRule files tables) (IsUnnamedBy files tables fault text)
+IsOfPattern files rules StateTooLarge First line text =
+    (line ≡ None) × (text ≡ None) × (tables : List TableRule) × AreTables files rules tables × First (IsSmall files tables) (IsLarge files tables)
+IsOfPattern files rules TooManyCells First line text =
+    (line ≡ None) × (text ≡ None) × (tables : List TableRule) × AreTables files rules tables × First (IsSmall files tables) (IsCrowded files tables)
+IsOfPattern files rules cause First line text = ⊥
 
 -- a rule line's file, which has this path: it is the first that is missing, where all patterns' files are there; or the first that is no
 -- good table. `patterns` are the paths of the claim's patterns

@@ -1,7 +1,10 @@
 -- What a pattern is found to be, by the claims that are true of it, and why that isn't found out.
-use Rattle.std.specs.Prelude.{◌≡◌, ℕ, ◌+◌, ◌*◌, ◌^◌, ◌≤◌, ◌<◌, ℤ, List, Option, None}
+use Rattle.std.specs.Prelude.{◌≡◌, ℕ, zero, suc, ◌+◌, ◌*◌, ◌^◌, ◌≤◌, ◌<◌, ℤ, List, Option, None, Some, Vec}
+use Rattle.std.specs.declared.alloc.Global.{Global}
 use Rattle.ca_plane.specs.Plane.{Picture, cell, IsLive}
-use Rattle.ca_plane.specs.Generations.{after}
+use Rattle.ca_plane.specs.Box.{IsLeastBox}
+use Rattle.ca_plane.specs.Generations.{after, IsAfter}
+use Rattle.ca_plane.specs.Population.{HasPopulation}
 use Rattle.ca_quad.specs.Trimmed.{HoldsAll}
 use Rattle.ca_rule.specs.TableNext.{TableRule}
 use Rattle.ca_rule.specs.Rule.{RuleValue, next_of}
@@ -9,12 +12,13 @@ use Rattle.ca_claims.specs.declared.claims.line.Kind.{Kind}
 use Rattle.ca_claims.specs.declared.claims.line.Kind.TheVariants as kind
 use Rattle.ca_claims.specs.declared.identity.Identity.{Identity}
 use Rattle.ca_claims.specs.declared.identity.Identity.TheVariants.{Empty, StillLife, Oscillator, Spaceship, Dies, Unknown}
+use Rattle.ca_claims.specs.declared.identity.Growth.{Growth}
 use Rattle.ca_claims.specs.declared.identity.Unidentified.{Unidentified}
 use Rattle.ca_claims.specs.declared.verdict.Cause.{Cause}
 use Rattle.ca_claims.specs.declared.verdict.Cause.TheVariants.{NoFile, BadTable, BadPattern, BadRule, StateTooLarge, MixedRules, TooManyCells, Work, Memory}
 use Rattle.ca_claims.specs.Text.{HasGoodNumbers}
 use Rattle.ca_claims.specs.Truth.{asks_of, IsTrueClaim}
-use Rattle.ca_claims.specs.Means.{HoldsRuledPattern, HasRuleFault, MayWantMemory}
+use Rattle.ca_claims.specs.Means.{HoldsRuleText, HoldsRuledPattern, HasRuleFault, MayWantMemory}
 use Rattle.ca_claims.specs.Answers.{IsPatternFaultOn, HasLargeState, HasSmallStates}
 
 -- a claim of this kind is about one pattern alone
@@ -37,14 +41,25 @@ abbrev pub HasNoTrueClaim : (List ℕ → ℕ) → Picture → ℕ → Type 0
 HasNoTrueClaim next cells limit = (kind : Kind) → IsOfOnePattern kind → 1 ≤ (asks_of kind).generations → (asks_of kind).generations ≤ limit
     → IsTrueClaim next cells cells (asks_of kind) → ⊥
 
--- the cells are what is found of them: the claim that says it is true; or none is, since no cell is live or within the limit
+-- so many cells of the plane are live, and this is the least box round them
+pub record IsGrowth (cells : Picture) (growth : Growth) : Type 0 where
+  pub population : HasPopulation (cell cells) growth.cells
+  pub bounds : IsLeastBox cells growth.bounds
+
+-- the cells are what is found of them: the claim that says it is true; or none is, since no cell is live or within the limit. Where none is within
+-- the limit, the growth is that of the plane after as many generations
 abbrev pub IsIdentity : (List ℕ → ℕ) → Picture → (limit : ℕ) → Identity → Type 0
 IsIdentity next cells limit Empty = IsLive cells → ⊥
 IsIdentity next cells limit StillLife = IsTrueWithin next cells limit kind.Still
 IsIdentity next cells limit (Oscillator period) = IsTrueWithin next cells limit (kind.Oscillator period)
 IsIdentity next cells limit (Spaceship period dx dy) = IsTrueWithin next cells limit (kind.Spaceship period dx dy)
 IsIdentity next cells limit (Dies generations) = IsTrueWithin next cells limit (kind.Dies generations)
-IsIdentity next cells limit Unknown = IsLive cells × HasNoTrueClaim next cells limit
+IsIdentity next cells limit (Unknown growth) = IsLive cells × HasNoTrueClaim next cells limit
+    × (later : Picture) × IsAfter next cells limit later × IsGrowth later growth
+
+-- n generations on from these cells the plane is what is found of it
+abbrev pub IsIdentityAfter : (List ℕ → ℕ) → Picture → (n limit : ℕ) → Identity → Type 0
+IsIdentityAfter next cells n limit identity = (later : Picture) × IsAfter next cells n later × IsIdentity next later limit identity
 
 -- the bytes are a file whose pattern has these cells, of small states, under the rule that its rule text names
 pub record HoldsSmallPattern (bytes : List ℕ) (tables : List TableRule) (cells : Picture) (rule : RuleValue) : Type 0 where
@@ -57,10 +72,25 @@ abbrev pub IsIdentified : List ℕ → List TableRule → (limit : ℕ) → Iden
 IsIdentified bytes tables limit identity = (cells : Picture) × (rule : RuleValue) × HoldsSmallPattern bytes tables cells rule
     × IsIdentity (next_of rule) cells limit identity
 
+-- it is that of the plane n generations on from the cells that the file means, under its rule
+abbrev pub IsIdentifiedAfter : List ℕ → List TableRule → (n limit : ℕ) → Identity → Type 0
+IsIdentifiedAfter bytes tables n limit identity = (cells : Picture) × (rule : RuleValue) × HoldsSmallPattern bytes tables cells rule
+    × IsIdentityAfter (next_of rule) cells n limit identity
+
 -- the work is no more than so many steps of one generation may need, of a tree of a level that holds every live cell before each of them:
 -- 14 to the power of the level and 3
 abbrev pub MayNeedWork : ℕ → (ℕ → ℤ → ℤ → ℕ) → (limit : ℕ) → Type 0
 MayNeedWork work stages limit = (level : ℕ) → 1 ≤ level → ((n : ℕ) → n < limit → HoldsAll level (stages n)) → work ≤ limit * 14 ^ (level + 3)
+
+-- what a run of n generations may need: nothing where n is 0, and else 14 to the power of a level that holds the first cells, the binary digits of n, and 2
+abbrev pub run_work : (n level digits : ℕ) → ℕ
+run_work zero level digits = 0
+run_work (suc n) level digits = 14 ^ (level + digits + 2)
+
+-- the work is no more than a run of n generations and then so many steps of one generation may need together
+abbrev pub MayNeedWorkAfter : (work n : ℕ) → (ℕ → ℤ → ℤ → ℕ) → (limit : ℕ) → Type 0
+MayNeedWorkAfter work n stages limit = (start digits level : ℕ) → 1 ≤ start → HoldsAll start (stages 0) → n < 2 ^ digits
+    → 1 ≤ level → ((m : ℕ) → m < limit → HoldsAll level (stages (n + m))) → work ≤ run_work n start digits + limit * 14 ^ (level + 3)
 
 -- the first reason for which it isn't found out what a pattern is, and its line, which only a fault of the file's spelling has: the bytes
 -- aren't read, or their rule text names no rule, or a state is too large, or work is out. Out of memory may come before any of them, where
@@ -78,5 +108,29 @@ IsUnidentifiedFor bytes tables work limit Work line = (line ≡ None) × (cells 
     × HoldsSmallPattern bytes tables cells rule × MayNeedWork work (after (next_of rule) cells) limit
 IsUnidentifiedFor bytes tables work limit Memory line = (line ≡ None) × MayWantMemory bytes
 
+-- the rule text that comes with it: that of the bytes, where it names no rule
+abbrev pub IsTextOf : List ℕ → Cause → Option (Vec ℕ Global) → Type 0
+IsTextOf bytes (BadRule fault) None = ⊥
+IsTextOf bytes (BadRule fault) (Some text) = HoldsRuleText text.items bytes
+IsTextOf bytes cause text = text ≡ None
+
 abbrev pub IsUnidentified : List ℕ → List TableRule → (work limit : ℕ) → Unidentified → Type 0
-IsUnidentified bytes tables work limit unidentified = IsUnidentifiedFor bytes tables work limit unidentified.cause unidentified.line
+IsUnidentified bytes tables work limit unidentified =
+    IsUnidentifiedFor bytes tables work limit unidentified.cause unidentified.line × IsTextOf bytes unidentified.cause unidentified.rule_text
+
+-- the first reason for which it isn't found out what the plane of a pattern is n generations on: the same, but that the run to there takes work too
+abbrev pub IsUnidentifiedAfterFor : List ℕ → List TableRule → (work n limit : ℕ) → Cause → Option ℕ → Type 0
+IsUnidentifiedAfterFor bytes tables work n limit NoFile line = IsUnidentifiedFor bytes tables work limit NoFile line
+IsUnidentifiedAfterFor bytes tables work n limit (BadTable fault) line = IsUnidentifiedFor bytes tables work limit (BadTable fault) line
+IsUnidentifiedAfterFor bytes tables work n limit (BadPattern fault) line = IsUnidentifiedFor bytes tables work limit (BadPattern fault) line
+IsUnidentifiedAfterFor bytes tables work n limit (BadRule fault) line = IsUnidentifiedFor bytes tables work limit (BadRule fault) line
+IsUnidentifiedAfterFor bytes tables work n limit StateTooLarge line = IsUnidentifiedFor bytes tables work limit StateTooLarge line
+IsUnidentifiedAfterFor bytes tables work n limit MixedRules line = IsUnidentifiedFor bytes tables work limit MixedRules line
+IsUnidentifiedAfterFor bytes tables work n limit TooManyCells line = IsUnidentifiedFor bytes tables work limit TooManyCells line
+IsUnidentifiedAfterFor bytes tables work n limit Work line = (line ≡ None) × (cells : Picture) × (rule : RuleValue)
+    × HoldsSmallPattern bytes tables cells rule × MayNeedWorkAfter work n (after (next_of rule) cells) limit
+IsUnidentifiedAfterFor bytes tables work n limit Memory line = IsUnidentifiedFor bytes tables work limit Memory line
+
+abbrev pub IsUnidentifiedAfter : List ℕ → List TableRule → (work n limit : ℕ) → Unidentified → Type 0
+IsUnidentifiedAfter bytes tables work n limit unidentified =
+    IsUnidentifiedAfterFor bytes tables work n limit unidentified.cause unidentified.line × IsTextOf bytes unidentified.cause unidentified.rule_text

@@ -55,6 +55,10 @@ pub record HoldsPattern (bytes : List ℕ) (cells : Picture) (rule_text : List �
   pub readable : IsReadable bytes
   pub means : Means bytes cells rule_text generation
 
+-- this is its rule text
+abbrev pub HoldsRuleText : (text bytes : List ℕ) → Type 0
+HoldsRuleText text bytes = (cells : Picture) × (generation : ℕ) × HoldsPattern bytes cells text generation
+
 -- and its rule text names this rule among the tables
 pub record HoldsRuledPattern (bytes : List ℕ) (tables : List TableRule) (cells : Picture) (rule : RuleValue) (generation : ℕ) : Type 0 where
   pub rule_text : List ℕ

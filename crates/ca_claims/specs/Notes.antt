@@ -17,8 +17,8 @@ abbrev pub IsNote : List (List ℕ × List ℕ) → List (List ℕ) → List (Li
 IsNote files rules patterns verdict Nothing = Unit {0}
 IsNote files rules patterns verdict (Cell name) = (x : ℤ) × (y : ℤ) × (found : ℕ) × (wanted : ℕ) × (generations : ℕ)
     × (verdict ≡ No (Differs x y found wanted generations)) × FirstIs (λ p. p.0 ≡ name.now) patterns
-IsNote files rules patterns verdict (Pattern name path line) = (cause : Cause) × (verdict ≡ Refused cause)
-    × IsOfPattern files rules cause (IsFirstBad patterns name.now path.now) line
+IsNote files rules patterns verdict (Pattern name path line text) = (cause : Cause) × (verdict ≡ Refused cause)
+    × IsOfPattern files rules cause (IsFirstBad patterns name.now path.now) line text
 IsNote files rules patterns verdict (RuleFile path) = (cause : Cause) × (verdict ≡ Refused cause) × IsOfRuleFile files rules (map (λ p. p.1) patterns) cause path.now
 
 -- on these verdicts a note is always given: cells that differ, and all refusals but those whose cause is about the claim as a whole

@@ -1,21 +1,23 @@
 -- Rule texts that name no rule, and tables that would give them one.
-use Rattle.std.specs.Prelude.{◌≡◌, ◌↔◌, ℕ, List, Some, IsTrue, slice_get}
+use Rattle.std.specs.Prelude.{◌≡◌, ◌≢◌, ◌↔◌, ℕ, List, Some, IsTrue, slice_get}
 use Rattle.std.specs.List.{list_any}
 use Rattle.std.specs.Str.{bytes_eq}
-use Rattle.ca_plane.specs.Plane.{Picture}
 use Rattle.ca_rule.specs.TableNext.{TableRule}
 use Rattle.ca_rule.specs.Rule.{IsRuleFault}
 use Rattle.ca_rule.specs.declared.fault.RuleFault.TheVariants.{Unknown}
 use Rattle.ca_claims.specs.Text.{ClaimText}
 use Rattle.ca_claims.specs.Needed.{IsNeeded}
-use Rattle.ca_claims.specs.Means.{HoldsPattern}
-use Rattle.ca_claims.specs.Answers.{AreTables, HoldsOfFile, IsQuietTable}
+use Rattle.ca_claims.specs.Means.{HoldsRuleText}
+use Rattle.ca_claims.specs.declared.verdict.PatternFault.{PatternFault}
+use Rattle.ca_claims.specs.declared.unknown.NamedTable.{NamedTable}
+use Rattle.ca_claims.specs.declared.unknown.NamedTable.TheVariants.{Good, OtherName, Faulty}
+use Rattle.ca_claims.specs.Answers.{IsPatternFault, AreTables, HoldsOfFile, IsQuietTable, IsTableFault}
 
--- the bytes are a pattern file that is read, and this is its rule text
-abbrev pub HoldsRuleText : (text bytes : List ℕ) → Type 0
-HoldsRuleText text bytes = (cells : Picture) × (generation : ℕ) × HoldsPattern bytes cells text generation
+-- the bytes have a fault as a pattern file, and aren't read
+abbrev pub IsUnreadFile : List ℕ → Type 0
+IsUnreadFile bytes = (fault : PatternFault) × IsPatternFault bytes fault
 
--- and it is a name: no rule of its own, and no table's
+-- the bytes are a pattern file that is read, and this is its rule text, which is a name: no rule of its own, and no table's
 abbrev pub HoldsUnknownRule : List TableRule → (name bytes : List ℕ) → Type 0
 HoldsUnknownRule tables name bytes = HoldsRuleText name bytes × IsRuleFault name tables Unknown
 
@@ -33,6 +35,8 @@ pub record IsUnknownRule (files : List (List ℕ × List ℕ)) (asked : ClaimTex
 abbrev pub AreUnknownRules : List (List ℕ × List ℕ) → ClaimText → List (List ℕ) → Type 0
 AreUnknownRules files asked names = (name : List ℕ) → IsTrue (list_any (bytes_eq name) names) ↔ IsUnknownRule files asked name
 
--- the text of a rule file is a good table of this name
-abbrev pub HoldsTableNamed : (name bytes : List ℕ) → Type 0
-HoldsTableNamed name bytes = (table : TableRule) × IsQuietTable bytes table × (table.name ≡ name)
+-- what the text of a rule file holds that is looked for by a name: a good table of this name, or of another; or it has this fault
+abbrev pub IsNamedTable : (name bytes : List ℕ) → NamedTable → Type 0
+IsNamedTable name bytes Good = (table : TableRule) × IsQuietTable bytes table × (table.name ≡ name)
+IsNamedTable name bytes OtherName = (table : TableRule) × IsQuietTable bytes table × (table.name ≢ name)
+IsNamedTable name bytes (Faulty fault) = IsTableFault bytes fault

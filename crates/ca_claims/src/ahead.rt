@@ -1,6 +1,6 @@
 //! Patterns that are taken some generations on.
 
-ghost use Rattle.std.specs.Prelude.{◌≡◌, ◌≤◌, ◌<◌, ◌+◌, ℤ, IfOk, IfErr, MatchOption};
+ghost use Rattle.std.specs.Prelude.{◌≡◌, ◌≤◌, ◌<◌, ◌+◌, ℤ, None, IfOk, IfErr, MatchOption};
 ghost use Rattle.ca_plane.specs.Bytes.{IsWord};
 ghost use Rattle.ca_plane.specs.Limits.{generation_limit};
 ghost use Rattle.ca_quad.specs.Trees.{cell};
@@ -9,7 +9,9 @@ ghost use Rattle.ca_run.specs.Leaping.{LeaperGrows};
 ghost use Rattle.ca_run.specs.Spent.{EndsAtLimit};
 ghost use Rattle.ca_claims.specs.Ahead.{IsReached, IsReachFault, IsSummaryAfter, IsConvertedAfter};
 ghost use Rattle.ca_claims.specs.Ahead.{IsConvertFaultAfter};
+ghost use Rattle.ca_claims.specs.declared.reached.ReachFault.TheVariants.{Convert};
 ghost use Rattle.ca_claims.specs.Limited.{AreGoodLimits};
+ghost use Rattle.ca_claims.specs.Refused.{HasReachDetail};
 ghost use Rattle.ca_claims.specs.Text.{most_generations};
 ghost use Rattle.ca_claims.specs.inner.Ready.{IsWritableTree, IsWrittenAs, AreUnwritten};
 ghost use Rattle.ca_claims.specs.inner.Spending.{Takes};
@@ -25,6 +27,7 @@ use crate::limits::Limits;
 use crate::observer::Observer;
 use crate::pattern::Summary;
 use crate::reached::{ReachFault, Reached};
+use crate::refused::Refused;
 use crate::ruled::read_ruled;
 use ca_plane::Automaton;
 use ca_plane::limits::GENERATION_LIMIT;
@@ -56,16 +59,43 @@ pub fn run_on<'t, O: Observer>(
     ensures reached { IfOk result (IsReached bytes.now tables.now generations) }
     ensures fault { IfErr result (IsReachFault bytes.now tables.now generations limits.work) }
 {
+    match run_on_with_detail(alloc, bytes, tables, generations, limits, observer) {
+        Ok(reached) => Ok(reached),
+        Err(refused) => Err(refused.fault),
+    }
+}
+
+/// The plane of a pattern file so many generations on, as `run_on` gives it. A fault comes with what is known of
+/// it.
+///
+/// # Errors
+///
+/// As for `run_on`.
+pub fn run_on_with_detail<'t, O: Observer>(
+    alloc: Global,
+    bytes: &[u8],
+    tables: &'t [Table],
+    generations: u64,
+    limits: Limits,
+    observer: &mut O,
+) -> Result<Reached<'t>, Refused<ReachFault>>
+    requires limits { AreGoodLimits limits }
+    requires few { generations ≤ most_generations }
+    ensures reached { IfOk result (IsReached bytes.now tables.now generations) }
+    ensures fault { IfErr result
+        (λ refused. IsReachFault bytes.now tables.now generations limits.work refused.fault) }
+    ensures detail { IfErr result (HasReachDetail bytes.now) }
+{
     let mut store = Store::new(alloc);
     let ruled = match read_ruled(alloc, &mut store, bytes, tables) {
         Ok(ruled) => ruled,
-        Err(fault) => return Err(ReachFault::Convert(fault)),
+        Err(refused) => return Err(unreached(refused)),
     };
     let Some(generation) = later_generation(ruled.pattern.generation, generations) else {
-        return Err(ReachFault::GenTooLarge);
+        return Err(Refused::of(ReachFault::GenTooLarge));
     };
     let Ok(mut leaper) = Leaper::new(alloc, store, ruled.rule, limits.memo, limits.work) else {
-        return Err(OUT_OF_MEMORY);
+        return Err(Refused::of(OUT_OF_MEMORY));
     };
     match end_of(
         alloc,
@@ -81,8 +111,21 @@ pub fn run_on<'t, O: Observer>(
             rule: ruled.rule,
             generation,
         }),
-        Err(LeapFault::Memory) => Err(OUT_OF_MEMORY),
-        Err(LeapFault::Work) => Err(ReachFault::Work),
+        Err(LeapFault::Memory) => Err(Refused::of(OUT_OF_MEMORY)),
+        Err(LeapFault::Work) => Err(Refused::of(ReachFault::Work)),
+    }
+}
+
+/// A fault of a pattern file as one of a plane that isn't reached.
+fn unreached(refused: Refused<ConvertFault>) -> Refused<ReachFault>
+    ensures fault { result.fault ≡ Convert refused.fault }
+    ensures line { result.line ≡ refused.line }
+    ensures rule_text { result.rule_text ≡ refused.rule_text }
+{
+    Refused {
+        fault: ReachFault::Convert(refused.fault),
+        line: refused.line,
+        rule_text: refused.rule_text,
     }
 }
 
@@ -105,7 +148,35 @@ pub fn summary_after<O: Observer>(
     ensures word { IfOk result (λ s. IsWord s.rule_text.items) }
     ensures fault { IfErr result (IsReachFault bytes.now tables.now generations limits.work) }
 {
-    let reached = run_on(alloc, bytes, tables, generations, limits, observer)?;
+    match summary_after_with_detail(alloc, bytes, tables, generations, limits, observer) {
+        Ok(summary) => Ok(summary),
+        Err(refused) => Err(refused.fault),
+    }
+}
+
+/// The summary of the plane of a pattern file so many generations on, as `summary_after` gives it. A fault comes
+/// with what is known of it.
+///
+/// # Errors
+///
+/// As for `run_on`.
+pub fn summary_after_with_detail<O: Observer>(
+    alloc: Global,
+    bytes: &[u8],
+    tables: &[Table],
+    generations: u64,
+    limits: Limits,
+    observer: &mut O,
+) -> Result<Summary, Refused<ReachFault>>
+    requires limits { AreGoodLimits limits }
+    requires few { generations ≤ most_generations }
+    ensures summary { IfOk result (IsSummaryAfter bytes.now tables.now generations) }
+    ensures word { IfOk result (λ s. IsWord s.rule_text.items) }
+    ensures fault { IfErr result
+        (λ refused. IsReachFault bytes.now tables.now generations limits.work refused.fault) }
+    ensures detail { IfErr result (HasReachDetail bytes.now) }
+{
+    let reached = run_on_with_detail(alloc, bytes, tables, generations, limits, observer)?;
     match sum_up(
         alloc,
         &reached.store,
@@ -115,7 +186,7 @@ pub fn summary_after<O: Observer>(
         reached.generation,
     ) {
         Ok(summary) => Ok(summary),
-        Err(_) => Err(OUT_OF_MEMORY),
+        Err(_) => Err(Refused::of(OUT_OF_MEMORY)),
     }
 }
 
@@ -141,15 +212,44 @@ pub fn convert_after<O: Observer>(
         (λ text. IsConvertedAfter bytes.now tables.now generations target text.items) }
     ensures fault { IfErr result (IsConvertFaultAfter bytes.now tables.now generations limits.work target) }
 {
-    let reached = run_on(alloc, bytes, tables, generations, limits, observer)?;
+    match convert_after_with_detail(alloc, bytes, target, tables, generations, limits, observer) {
+        Ok(text) => Ok(text),
+        Err(refused) => Err(refused.fault),
+    }
+}
+
+/// What the plane of a pattern file so many generations on is written as, as `convert_after` gives it. A fault
+/// comes with what is known of it.
+///
+/// # Errors
+///
+/// As for `convert_after`.
+pub fn convert_after_with_detail<O: Observer>(
+    alloc: Global,
+    bytes: &[u8],
+    target: Format,
+    tables: &[Table],
+    generations: u64,
+    limits: Limits,
+    observer: &mut O,
+) -> Result<Vec<u8>, Refused<ReachFault>>
+    requires limits { AreGoodLimits limits }
+    requires few { generations ≤ most_generations }
+    ensures converted { IfOk result
+        (λ text. IsConvertedAfter bytes.now tables.now generations target text.items) }
+    ensures fault { IfErr result
+        (λ refused. IsConvertFaultAfter bytes.now tables.now generations limits.work target refused.fault) }
+    ensures detail { IfErr result (HasReachDetail bytes.now) }
+{
+    let reached = run_on_with_detail(alloc, bytes, tables, generations, limits, observer)?;
     match are_in_range(alloc, &reached.store, reached.tree) {
         Ok(true) => {}
-        Ok(false) => return Err(ReachFault::Range),
-        Err(_) => return Err(OUT_OF_MEMORY),
+        Ok(false) => return Err(Refused::of(ReachFault::Range)),
+        Err(_) => return Err(Refused::of(OUT_OF_MEMORY)),
     }
     match text_of(alloc, reached, target) {
         Ok(text) => Ok(text),
-        Err(fault) => Err(ReachFault::Convert(fault)),
+        Err(fault) => Err(Refused::of(ReachFault::Convert(fault))),
     }
 }
 

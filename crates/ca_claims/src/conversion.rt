@@ -1,16 +1,19 @@
 //! Patterns that are written in another form.
 
-ghost use Rattle.std.specs.Prelude.{IfOk, IfErr};
+ghost use Rattle.std.specs.Prelude.{◌≡◌, IfOk, IfErr};
 ghost use Rattle.ca_plane.specs.Plane.{cell as plane_cell};
 ghost use Rattle.ca_quad.specs.Trees.{cell};
 ghost use Rattle.ca_rule.specs.Rule.{rule_value};
 ghost use Rattle.ca_claims.specs.declared.format.Format.TheVariants.{Rle, Mc};
 ghost use Rattle.ca_claims.specs.Converted.{IsConverted, IsConvertFault};
+ghost use Rattle.ca_claims.specs.Refused.{HasDetail};
 ghost use Rattle.ca_claims.specs.inner.Ready.{IsWritableTree, IsWritablePlane, IsWrittenAs, AreUnwritten};
+ghost use Rattle.ca_claims.specs.inner.Ready.{with_no_detail};
 
 use crate::cells::plane_of;
 use crate::format::Format;
 use crate::read::format_of;
+use crate::refused::Refused;
 use crate::ruled::{read_ruled, read_ruled_plane};
 use crate::verdict::PatternFault;
 use ca_macro::write_macro;
@@ -60,6 +63,27 @@ pub fn convert(
     ensures converted { IfOk result (λ text. IsConverted bytes.now tables.now target text.items) }
     ensures fault { IfErr result (IsConvertFault bytes.now tables.now target) }
 {
+    match convert_with_detail(alloc, bytes, target, tables) {
+        Ok(text) => Ok(text),
+        Err(refused) => Err(refused.fault),
+    }
+}
+
+/// What a pattern file is converted to, as `convert` gives it. A fault comes with what is known of it.
+///
+/// # Errors
+///
+/// As for `convert`.
+pub fn convert_with_detail(
+    alloc: Global,
+    bytes: &[u8],
+    target: Format,
+    tables: &[Table],
+) -> Result<Vec<u8>, Refused<ConvertFault>>
+    ensures converted { IfOk result (λ text. IsConverted bytes.now tables.now target text.items) }
+    ensures fault { IfErr result (λ refused. IsConvertFault bytes.now tables.now target refused.fault) }
+    ensures detail { IfErr result (HasDetail bytes.now) }
+{
     match target {
         Format::Rle => to_rle(alloc, bytes, tables),
         Format::Mc => to_macro(alloc, bytes, tables),
@@ -67,39 +91,51 @@ pub fn convert(
 }
 
 /// The tidy RLE that a file is converted to. An RLE is written from the plane of its cells, without squares.
-fn to_rle(alloc: Global, bytes: &[u8], tables: &[Table]) -> Result<Vec<u8>, ConvertFault>
+fn to_rle(alloc: Global, bytes: &[u8], tables: &[Table]) -> Result<Vec<u8>, Refused<ConvertFault>>
     ensures converted { IfOk result (λ text. IsConverted bytes.now tables.now Rle text.items) }
-    ensures fault { IfErr result (IsConvertFault bytes.now tables.now Rle) }
+    ensures fault { IfErr result (λ refused. IsConvertFault bytes.now tables.now Rle refused.fault) }
+    ensures detail { IfErr result (HasDetail bytes.now) }
 {
     match format_of(bytes) {
         Format::Rle => {
             let ruled = read_ruled_plane(alloc, bytes, tables)?;
-            rle_of_plane(alloc, &ruled.cells, &ruled.rule, ruled.generation)
+            written(rle_of_plane(alloc, &ruled.cells, &ruled.rule, ruled.generation))
         }
         Format::Mc => {
             let mut store = Store::new(alloc);
             let ruled = read_ruled(alloc, &mut store, bytes, tables)?;
             let pattern = &ruled.pattern;
-            rle_of_tree(alloc, &store, pattern.tree, &ruled.rule, pattern.generation)
+            written(rle_of_tree(alloc, &store, pattern.tree, &ruled.rule, pattern.generation))
         }
     }
 }
 
 /// The tidy macrocell that a file is converted to.
-fn to_macro(alloc: Global, bytes: &[u8], tables: &[Table]) -> Result<Vec<u8>, ConvertFault>
+fn to_macro(alloc: Global, bytes: &[u8], tables: &[Table]) -> Result<Vec<u8>, Refused<ConvertFault>>
     ensures converted { IfOk result (λ text. IsConverted bytes.now tables.now Mc text.items) }
-    ensures fault { IfErr result (IsConvertFault bytes.now tables.now Mc) }
+    ensures fault { IfErr result (λ refused. IsConvertFault bytes.now tables.now Mc refused.fault) }
+    ensures detail { IfErr result (HasDetail bytes.now) }
 {
     let mut store = Store::new(alloc);
     let ruled = read_ruled(alloc, &mut store, bytes, tables)?;
     let pattern = &ruled.pattern;
-    macro_of(
+    written(macro_of(
         alloc,
         &mut store,
         pattern.tree,
         &ruled.rule,
         pattern.generation,
-    )
+    ))
+}
+
+/// What is written, or why nothing is.
+fn written(text: Result<Vec<u8>, ConvertFault>) -> Result<Vec<u8>, Refused<ConvertFault>>
+    ensures { result ≡ with_no_detail text }
+{
+    match text {
+        Ok(text) => Ok(text),
+        Err(fault) => Err(Refused::of(fault)),
+    }
 }
 
 /// The tidy RLE of the cells of a plane.

@@ -9,6 +9,7 @@ ghost use Rattle.ca_rule.specs.Rule.{rule_value};
 ghost use Rattle.ca_claims.specs.declared.format.Format.TheVariants.{Rle, Mc};
 ghost use Rattle.ca_claims.specs.Converted.{IsSummary, IsSummaryFault};
 ghost use Rattle.ca_claims.specs.Means.{format_of};
+ghost use Rattle.ca_claims.specs.Refused.{HasDetail};
 ghost use Rattle.ca_claims.specs.inner.Glance.{AreNearBounds, IsLowTree, IsTold};
 
 use crate::conversion::ConvertFault;
@@ -16,6 +17,7 @@ use crate::decide::copy;
 use crate::format::Format;
 use crate::pattern::Summary;
 use crate::read::format_of;
+use crate::refused::Refused;
 use crate::ruled::{read_ruled, read_ruled_plane};
 use ca_plane::{Bounds, Memory};
 use ca_quad::{Store, Tree, WideBounds};
@@ -32,6 +34,27 @@ pub fn summary(alloc: Global, bytes: &[u8], tables: &[Table]) -> Result<Summary,
     ensures word { IfOk result (λ s. IsWord s.rule_text.items) }
     ensures fault { IfErr result (IsSummaryFault bytes.now tables.now) }
 {
+    match summary_with_detail(alloc, bytes, tables) {
+        Ok(summary) => Ok(summary),
+        Err(refused) => Err(refused.fault),
+    }
+}
+
+/// The summary of a pattern file, as `summary` gives it. A fault comes with what is known of it.
+///
+/// # Errors
+///
+/// As for `summary`.
+pub fn summary_with_detail(
+    alloc: Global,
+    bytes: &[u8],
+    tables: &[Table],
+) -> Result<Summary, Refused<ConvertFault>>
+    ensures summary { IfOk result (IsSummary bytes.now tables.now) }
+    ensures word { IfOk result (λ s. IsWord s.rule_text.items) }
+    ensures fault { IfErr result (λ refused. IsSummaryFault bytes.now tables.now refused.fault) }
+    ensures detail { IfErr result (HasDetail bytes.now) }
+{
     match format_of(bytes) {
         Format::Rle => rle_summary(alloc, bytes, tables),
         Format::Mc => macro_summary(alloc, bytes, tables),
@@ -39,15 +62,20 @@ pub fn summary(alloc: Global, bytes: &[u8], tables: &[Table]) -> Result<Summary,
 }
 
 /// The summary of an RLE file, from the plane of its cells, without squares.
-fn rle_summary(alloc: Global, bytes: &[u8], tables: &[Table]) -> Result<Summary, ConvertFault>
+fn rle_summary(
+    alloc: Global,
+    bytes: &[u8],
+    tables: &[Table],
+) -> Result<Summary, Refused<ConvertFault>>
     requires { format_of bytes.now ≡ Rle }
     ensures summary { IfOk result (IsSummary bytes.now tables.now) }
     ensures word { IfOk result (λ s. IsWord s.rule_text.items) }
-    ensures fault { IfErr result (IsSummaryFault bytes.now tables.now) }
+    ensures fault { IfErr result (λ refused. IsSummaryFault bytes.now tables.now refused.fault) }
+    ensures detail { IfErr result (HasDetail bytes.now) }
 {
     let ruled = read_ruled_plane(alloc, bytes, tables)?;
     let Ok(rule_text) = ruled.rule.text(alloc) else {
-        return Err(ConvertFault::Memory);
+        return Err(Refused::of(ConvertFault::Memory));
     };
     Ok(Summary {
         kind: Format::Rle,
@@ -59,11 +87,16 @@ fn rle_summary(alloc: Global, bytes: &[u8], tables: &[Table]) -> Result<Summary,
 }
 
 /// The summary of a macrocell file, from its squares.
-fn macro_summary(alloc: Global, bytes: &[u8], tables: &[Table]) -> Result<Summary, ConvertFault>
+fn macro_summary(
+    alloc: Global,
+    bytes: &[u8],
+    tables: &[Table],
+) -> Result<Summary, Refused<ConvertFault>>
     requires { format_of bytes.now ≡ Mc }
     ensures summary { IfOk result (IsSummary bytes.now tables.now) }
     ensures word { IfOk result (λ s. IsWord s.rule_text.items) }
-    ensures fault { IfErr result (IsSummaryFault bytes.now tables.now) }
+    ensures fault { IfErr result (λ refused. IsSummaryFault bytes.now tables.now refused.fault) }
+    ensures detail { IfErr result (HasDetail bytes.now) }
 {
     let mut store = Store::new(alloc);
     let ruled = read_ruled(alloc, &mut store, bytes, tables)?;
@@ -77,7 +110,7 @@ fn macro_summary(alloc: Global, bytes: &[u8], tables: &[Table]) -> Result<Summar
         pattern.generation,
     ) {
         Ok(summary) => Ok(summary),
-        Err(_) => Err(ConvertFault::Memory),
+        Err(_) => Err(Refused::of(ConvertFault::Memory)),
     }
 }
 
@@ -107,7 +140,7 @@ pub(crate) fn sum_up(
 }
 
 /// The least box round the live cells of a tree, where there are any.
-fn bounds_of(alloc: Global, store: &Store, tree: Tree) -> Result<Option<Bounds>, Memory>
+pub(crate) fn bounds_of(alloc: Global, store: &Store, tree: Tree) -> Result<Option<Bounds>, Memory>
     requires { IsLowTree store.now tree }
     ensures { (cells : Picture) → ((x y : ℤ) → cell store.now tree x y ≡ plane_cell cells x y)
         → IfOk result (λ found. MatchOption found (IsLive cells → ⊥) (IsLeastBox cells)) }

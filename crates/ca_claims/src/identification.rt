@@ -8,28 +8,34 @@ ghost use Rattle.ca_rule.specs.TableNext.{TableRule};
 ghost use Rattle.ca_run.specs.Leaping.{LeaperGrows};
 ghost use Rattle.ca_run.specs.Spent.{EndsAtLimit};
 ghost use Rattle.ca_claims.specs.Identified.{IsIdentity, IsIdentified, IsUnidentified};
+ghost use Rattle.ca_claims.specs.Identified.{IsIdentityAfter, IsIdentifiedAfter, IsUnidentifiedAfter};
 ghost use Rattle.ca_claims.specs.Limited.{AreGoodLimits};
-ghost use Rattle.ca_claims.specs.Text.{longest_period};
-ghost use Rattle.ca_claims.specs.inner.Patterns.{IsUnread};
+ghost use Rattle.ca_claims.specs.Converted.{IsSummaryFault};
+ghost use Rattle.ca_claims.specs.Refused.{HasDetail};
+ghost use Rattle.ca_claims.specs.Text.{longest_period, most_generations};
+ghost use Rattle.ca_claims.specs.inner.Patterns.{cause_of};
 ghost use Rattle.ca_claims.specs.inner.Ready.{IsReady};
-ghost use Rattle.ca_claims.specs.inner.Stages.{TakesSteps};
+ghost use Rattle.ca_claims.specs.inner.Stages.{IsStart, TakesSteps, TakesRunAndSteps};
 ghost use Rattle.ca_claims.specs.inner.Subjects.{ShowsTree, IsPattern};
 
+mod growth;
+mod later;
 mod search;
 mod stage;
 
-use crate::cells::has_large_state;
+use crate::conversion::ConvertFault;
 use crate::decide::copy;
 use crate::identity::{Identity, Unidentified};
 use crate::limits::Limits;
 use crate::observer::Observer;
-use crate::read::{BadPattern, read_with_line};
-use crate::ruled::{Ruled, with_rule};
-use crate::verdict::{Cause, PatternFault};
+use crate::refused::Refused;
+use crate::ruled::{Ruled, read_ruled};
+use crate::verdict::Cause;
 use ca_plane::Automaton;
 use ca_quad::{Store, Tree};
 use ca_rule::Table;
 use ca_run::{LeapFault, Leaper};
+use later::start_tree;
 use search::search;
 use stage::First;
 use std::alloc::Global;
@@ -38,12 +44,14 @@ use std::alloc::Global;
 const OUT_OF_MEMORY: Unidentified = Unidentified {
     cause: Cause::Memory,
     line: None,
+    rule_text: None,
 };
 
 /// What the pattern of a file is, under the rule that its rule text names, B/S or among the tables: the one
 /// claim about it that is true of those that name one pattern (`still`, `oscillator`, `spaceship`, `dies`);
-/// or that none is whose period or generations are from 1 to the limit. The limit is from 1 to 4294967295
-/// generations. The observer sees each generation that is looked at, and no line.
+/// or that none is whose period or generations are from 1 to the limit, and how far the plane has grown then.
+/// The limit is from 1 to 4294967295 generations. The observer sees each generation that is looked at, and no
+/// line.
 ///
 /// # Errors
 ///
@@ -64,24 +72,63 @@ pub fn identify<O: Observer>(
     ensures identified { IfOk result (IsIdentified bytes.now tables.now limit) }
     ensures unidentified { IfErr result (IsUnidentified bytes.now tables.now limits.work limit) }
 {
+    identify_after(alloc, bytes, tables, 0, limits, limit, observer)
+}
+
+/// What the plane of a file's pattern is so many generations on, at most 1152921504606846976: the same as
+/// `identify` finds of a pattern. So the periods, and the generations up to the limit, are counted from there. The
+/// observer sees besides how far the run to there is.
+///
+/// # Errors
+///
+/// As for `identify`; the run takes of the work too.
+pub fn identify_after<O: Observer>(
+    alloc: Global,
+    bytes: &[u8],
+    tables: &[Table],
+    generations: u64,
+    limits: Limits,
+    limit: u64,
+    observer: &mut O,
+) -> Result<Identity, Unidentified>
+    requires limits { AreGoodLimits limits }
+    requires few { generations ≤ most_generations }
+    requires some { 1 ≤ limit }
+    requires most { limit ≤ longest_period }
+    ensures identified { IfOk result (IsIdentifiedAfter bytes.now tables.now generations limit) }
+    ensures unidentified { IfErr result
+        (IsUnidentifiedAfter bytes.now tables.now limits.work generations limit) }
+{
     let mut store = Store::new(alloc);
     let Ruled { pattern, rule } = read_small(alloc, &mut store, bytes, tables)?;
     let Ok(mut leaper) = Leaper::new(alloc, store, rule, limits.memo, limits.work) else {
         return Err(OUT_OF_MEMORY);
     };
-    match identity_of(alloc, &mut leaper, pattern.tree, limit, observer) {
+    match identity_after(
+        alloc,
+        &mut leaper,
+        pattern.tree,
+        generations,
+        limit,
+        observer,
+    ) {
         Ok(identity) => Ok(identity),
         Err(LeapFault::Memory) => Err(OUT_OF_MEMORY),
         Err(LeapFault::Work) => Err(of_file(Cause::Work)),
     }
 }
 
-/// A cause without a line.
+/// A cause without a line or a rule text.
 fn of_file(cause: Cause) -> Unidentified
     ensures cause { result.cause ≡ cause }
     ensures line { result.line ≡ None }
+    ensures rule_text { result.rule_text ≡ None }
 {
-    Unidentified { cause, line: None }
+    Unidentified {
+        cause,
+        line: None,
+        rule_text: None,
+    }
 }
 
 /// Reads a pattern file into the store: a pattern of small states under a rule that its rule text names among
@@ -93,38 +140,68 @@ fn read_small<'t>(
     tables: &'t [Table],
 ) -> Result<Ruled<'t>, Unidentified>
     ensures ready { IfOk result (IsReady store.new bytes.now tables.now) }
-    ensures unidentified { (work limit : ℕ) → IfErr result (IsUnidentified bytes.now tables.now work limit) }
+    ensures unidentified { (work n limit : ℕ)
+        → IfErr result (IsUnidentifiedAfter bytes.now tables.now work n limit) }
 {
-    let pattern = match read_with_line(alloc, store, bytes) {
-        Ok(pattern) => pattern,
-        Err(bad) => return Err(of_pattern(bad)),
-    };
-    let ruled = match with_rule(pattern, tables) {
-        Ok(ruled) => ruled,
-        Err(fault) => return Err(of_file(Cause::BadRule(fault))),
-    };
-    match has_large_state(alloc, store, copy(&ruled.pattern.tree), &ruled.rule) {
-        Ok(false) => Ok(ruled),
-        Ok(true) => Err(of_file(Cause::StateTooLarge)),
-        Err(_) => Err(OUT_OF_MEMORY),
+    match read_ruled(alloc, store, bytes, tables) {
+        Ok(ruled) => Ok(ruled),
+        Err(refused) => Err(unidentified(refused)),
     }
 }
 
-/// Why the pattern of a file that isn't read isn't identified.
-fn of_pattern(bad: BadPattern) -> Unidentified
-    ensures { (bytes : List ℕ) (tables : List TableRule) (work limit : ℕ) → IsUnread bytes bad
-        → IsUnidentified bytes tables work limit result }
+/// Why the pattern of a file that isn't taken up isn't identified.
+fn unidentified(refused: Refused<ConvertFault>) -> Unidentified
+    ensures { (bytes : List ℕ) (tables : List TableRule) (work n limit : ℕ)
+        → IsSummaryFault bytes tables refused.fault → HasDetail bytes refused
+        → IsUnidentifiedAfter bytes tables work n limit result }
 {
-    match bad.fault {
-        PatternFault::Memory => OUT_OF_MEMORY,
-        fault => Unidentified {
-            cause: Cause::BadPattern(fault),
-            line: bad.line,
-        },
+    Unidentified {
+        cause: cause_of(refused.fault),
+        line: refused.line,
+        rule_text: refused.rule_text,
     }
 }
 
-/// What the pattern of a tree is under the leaper's rule, within so many generations.
+/// A fault of a pattern file as a cause.
+fn cause_of(fault: ConvertFault) -> Cause
+    ensures { result ≡ cause_of fault }
+{
+    match fault {
+        ConvertFault::BadPattern(fault) => Cause::BadPattern(fault),
+        ConvertFault::BadRule(fault) => Cause::BadRule(fault),
+        ConvertFault::StateTooLarge => Cause::StateTooLarge,
+        ConvertFault::TooManyCells => Cause::TooManyCells,
+        ConvertFault::Memory => Cause::Memory,
+    }
+}
+
+/// What the plane of a pattern's tree is so many generations on, within the limit from there.
+fn identity_after<A: Automaton, O: Observer>(
+    alloc: Global,
+    leaper: &mut Leaper<A>,
+    pattern: Tree,
+    generations: u64,
+    limit: u64,
+    observer: &mut O,
+) -> Result<Identity, LeapFault>
+    requires pattern { IsPattern leaper.old.nodes pattern }
+    requires few { generations ≤ most_generations }
+    requires some { 1 ≤ limit }
+    requires most { limit ≤ longest_period }
+    ensures identity { (cells : Picture) → ShowsTree leaper.old.nodes pattern cells
+        → IfOk result (IsIdentityAfter (A.next_of leaper.old.rule) cells generations limit) }
+    ensures goes_on { LeaperGrows A leaper.old leaper.new }
+    ensures takes { TakesRunAndSteps leaper.old.spent.used leaper.new.spent.used pattern.level generations
+        (cells_after (A.next_of leaper.old.rule) (cell leaper.old.nodes pattern)) limit }
+    ensures work { EndsAtLimit leaper.new.spent result }
+{
+    // Says what holds of every leaper.
+    let _ = leaper.store();
+    let start = start_tree(leaper, pattern, generations, observer)?;
+    identity_of(alloc, leaper, start, limit, observer)
+}
+
+/// What the plane of a tree is under the leaper's rule, within so many generations.
 fn identity_of<A: Automaton, O: Observer>(
     alloc: Global,
     leaper: &mut Leaper<A>,
@@ -132,7 +209,7 @@ fn identity_of<A: Automaton, O: Observer>(
     limit: u64,
     observer: &mut O,
 ) -> Result<Identity, LeapFault>
-    requires pattern { IsPattern leaper.old.nodes tree }
+    requires start { IsStart leaper.old.nodes tree }
     requires some { 1 ≤ limit }
     requires most { limit ≤ longest_period }
     ensures identity { (cells : Picture) → ShowsTree leaper.old.nodes tree cells

@@ -1,6 +1,7 @@
 //! What a pattern is.
 
 use crate::verdict::Cause;
+use ca_plane::Bounds;
 
 /// What a pattern is found to be, by what its plane shows after one generation after the other, up to a
 /// limit. One of these holds of each pattern, and no other.
@@ -18,12 +19,20 @@ pub enum Identity {
     Spaceship { period: u64, dx: i64, dy: i64 },
     /// The pattern is live, after the generations its plane is empty, and at no earlier time it is.
     Dies { generations: u64 },
-    /// The pattern is live, and it is none of these within the limit.
-    Unknown,
+    /// The pattern is live, and it is none of these within the limit. The growth is that of its plane after as
+    /// many generations as the limit.
+    Unknown { growth: Growth },
+}
+
+/// How far a live plane has grown: how many cells are live, and the smallest box round them.
+#[derive(Clone, Copy, Debug, PartialEq, Eq)]
+pub struct Growth {
+    pub cells: u128,
+    pub bounds: Bounds,
 }
 
 /// Why it isn't found out what a pattern is.
-#[derive(Clone, Copy, Debug, PartialEq, Eq)]
+#[derive(Debug, PartialEq, Eq, Drop)]
 pub struct Unidentified {
     /// The cause: that the file doesn't read, that its rule text names no rule, that a state is too large, or
     /// that work or memory is out.
@@ -31,4 +40,6 @@ pub struct Unidentified {
     /// Where the cause is a fault that stands on a line of the file, this is the line. Lines are counted from
     /// 1.
     pub line: Option<u64>,
+    /// Where the file's rule text names no rule, this is the text.
+    pub rule_text: Option<Vec<u8>>,
 }

@@ -24,6 +24,7 @@ mod pattern;
 mod reached;
 mod read;
 mod refusal;
+mod refused;
 mod rule_names;
 mod ruled;
 mod unknown;
@@ -31,15 +32,18 @@ mod verdict;
 pub mod verdict_laws;
 mod verifier;
 
-pub use ahead::{convert_after, run_on, summary_after};
+pub use ahead::{
+    convert_after, convert_after_with_detail, run_on, run_on_with_detail, summary_after,
+    summary_after_with_detail,
+};
 pub use claims::{Claims, read_claims};
-pub use conversion::{ConvertFault, convert};
+pub use conversion::{ConvertFault, convert, convert_with_detail};
 pub use fault::ClaimFault;
 pub use file::File;
 pub use format::{Format, Format as Target};
-pub use glance::summary;
-pub use identification::identify;
-pub use identity::{Identity, Unidentified};
+pub use glance::{summary, summary_with_detail};
+pub use identification::{identify, identify_after};
+pub use identity::{Growth, Identity, Unidentified};
 pub use judge::Judge;
 pub use laws::{no_fault_in_claim_text, one_fault, one_meaning, worked_examples};
 pub use limits::{Limits, MOST_MEMO, USUAL_MEMO};
@@ -48,7 +52,8 @@ pub use observer::Observer;
 pub use pattern::{Loaded, Summary};
 pub use reached::{ReachFault, Reached};
 pub use read::read_pattern;
+pub use refused::Refused;
 pub use rule_names::RuleNames;
-pub use unknown::{is_table_named, unknown_rules};
+pub use unknown::{NamedTable, rule_text_of, table_named, unknown_rules};
 pub use verdict::{Answer, Cause, PatternFault, Verdict, Why};
 pub use verifier::verify;

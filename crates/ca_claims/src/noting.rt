@@ -31,12 +31,20 @@ pub(crate) fn note_on<'a>(
         (Verdict::No(Why::Differs { .. }), _) => Note::Cell {
             name: named_part(patterns, Part::First).name,
         },
-        (Verdict::Refused(_), About::Pattern { part, line }) => {
+        (
+            Verdict::Refused(_),
+            About::Pattern {
+                part,
+                line,
+                rule_text,
+            },
+        ) => {
             let pattern = named_part(patterns, part);
             Note::Pattern {
                 name: pattern.name,
                 path: claims.path(pattern.path),
                 line,
+                rule_text,
             }
         }
         (Verdict::Refused(_), About::RuleFile(place)) => match claims.path_at(place) {

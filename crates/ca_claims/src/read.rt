@@ -1,6 +1,6 @@
 //! Pattern files of both formats, read into a store of squares.
 
-ghost use Rattle.std.specs.Prelude.{◌≡◌, ◌≢◌, ◌<◌, ℤ, IfOk, IfErr, IsErrOf, MatchResult};
+ghost use Rattle.std.specs.Prelude.{◌≡◌, ◌≢◌, ℕ, ◌<◌, ℤ, List, IfOk, IfErr, IsErrOf, MatchResult};
 ghost use Rattle.ca_plane.specs.Plane.{Picture};
 ghost use Rattle.ca_plane.specs.Bytes.{IsWord};
 ghost use Rattle.ca_plane.specs.Limits.{generation_limit};
@@ -8,7 +8,9 @@ ghost use Rattle.ca_quad.specs.Sound.{Grows};
 ghost use Rattle.ca_quad.specs.Trees.{IsTree, cell};
 ghost use Rattle.ca_quad.specs.Trimmed.{IsTrimmed};
 ghost use Rattle.ca_macro.specs.Pattern.{AreInRange};
-ghost use Rattle.ca_rle.specs.Pattern.{packed_cell};
+ghost use Rattle.ca_rle.specs.FaultyLine.{IsRleFaultOn};
+ghost use Rattle.ca_rle.specs.Pattern.{IsReadableRle, packed_cell};
+ghost use Rattle.ca_rle.specs.declared.fault.RleFault.TheVariants as rle_fault;
 ghost use Rattle.ca_claims.specs.declared.format.Format.TheVariants.{Rle, Mc};
 ghost use Rattle.ca_claims.specs.declared.verdict.PatternFault.TheVariants as pattern_fault;
 ghost use Rattle.ca_claims.specs.Means.{format_of, MayWantMemory};
@@ -88,6 +90,20 @@ pub(crate) fn format_of(bytes: &[u8]) -> Format
     Format::Rle
 }
 
+/// Why an RLE file isn't read.
+pub(crate) fn bad_rle(found: RleLineFault) -> BadPattern
+    ensures { (bytes : List ℕ) → format_of bytes ≡ Rle → IsRleFaultOn bytes found.fault found.line
+        → (found.fault ≡ rle_fault.Memory → IsReadableRle bytes) → IsUnread bytes result }
+{
+    match found.fault {
+        RleFault::Memory => OUT_OF_MEMORY,
+        fault => BadPattern {
+            fault: PatternFault::Rle(fault),
+            line: found.line,
+        },
+    }
+}
+
 /// Reads an RLE file into the store.
 fn load_rle(alloc: Global, store: &mut Store, bytes: &[u8]) -> Result<Loaded, BadPattern>
     requires { format_of bytes.now ≡ Rle }
@@ -97,18 +113,7 @@ fn load_rle(alloc: Global, store: &mut Store, bytes: &[u8]) -> Result<Loaded, Ba
     let _ = store.count();
     let pattern = match read_packed_rle(alloc, bytes) {
         Ok(pattern) => pattern,
-        Err(
-            RleLineFault {
-                fault: RleFault::Memory,
-                ..
-            },
-        ) => return Err(OUT_OF_MEMORY),
-        Err(RleLineFault { fault, line }) => {
-            return Err(BadPattern {
-                fault: PatternFault::Rle(fault),
-                line,
-            });
-        }
+        Err(found) => return Err(bad_rle(found)),
     };
     let Ok(tree) = tree_of(store, pattern.cells) else {
         return Err(OUT_OF_MEMORY);

@@ -3,19 +3,24 @@
 use crate::verdict::{Cause, Verdict};
 
 /// Why a claim isn't judged, and what the cause is about.
-#[derive(Clone, Copy)]
+#[derive(Drop)]
 pub(crate) struct Refusal {
     pub(crate) cause: Cause,
     pub(crate) about: About,
 }
 
 /// What the cause of a refusal is about.
-#[derive(Clone, Copy)]
+#[derive(Drop)]
 pub(crate) enum About {
     /// The claim as a whole: its patterns' rules differ, or work or memory is out.
     Claim,
-    /// One of its patterns. Where the cause is a fault that stands on a line of the file, this is the line.
-    Pattern { part: Part, line: Option<u64> },
+    /// One of its patterns. Where the cause is a fault that stands on a line of the file, this is the line;
+    /// where the file's rule text names no rule, this is the text.
+    Pattern {
+        part: Part,
+        line: Option<u64>,
+        rule_text: Option<Vec<u8>>,
+    },
     /// The file of a rule line, whose path has this index among the text's paths.
     RuleFile(usize),
 }
@@ -28,7 +33,7 @@ pub(crate) enum Part {
 }
 
 /// A verdict, and what its cause is about where it is a refusal.
-#[derive(Clone, Copy)]
+#[derive(Drop)]
 pub(crate) struct Judged {
     pub(crate) verdict: Verdict,
     pub(crate) about: About,

@@ -1,21 +1,25 @@
 //! Patterns with their rules.
 
-ghost use Rattle.std.specs.Prelude.{◌≡◌, IfOk, IfErr, MatchResult};
-ghost use Rattle.ca_rule.specs.Rule.{IsRuleFault};
+ghost use Rattle.std.specs.Prelude.{◌≡◌, ℕ, List, Some, None, IfOk, IfErr, MatchResult};
+ghost use Rattle.ca_rule.specs.TableNext.{TableRule};
+ghost use Rattle.ca_claims.specs.declared.conversion.ConvertFault.TheVariants.{BadRule};
 ghost use Rattle.ca_claims.specs.Converted.{IsSummaryFault};
+ghost use Rattle.ca_claims.specs.Refused.{HasDetail};
 ghost use Rattle.ca_claims.specs.declared.format.Format.TheVariants.{Rle};
 ghost use Rattle.ca_claims.specs.Means.{format_of};
 ghost use Rattle.ca_claims.specs.inner.Ready.{IsReady, IsReadyPlane};
-ghost use Rattle.ca_claims.specs.inner.Patterns.{IsRuledAs};
+ghost use Rattle.ca_claims.specs.inner.Patterns.{IsUnread, IsUnnamedFor, IsRuledAs};
 
 use crate::cells::{has_large_cell, has_large_state};
 use crate::conversion::ConvertFault;
+use crate::decide::copy;
 use crate::pattern::Loaded;
-use crate::read::read_pattern;
+use crate::read::{BadPattern, bad_rle, read_with_line};
+use crate::refused::Refused;
 use crate::verdict::PatternFault;
 use ca_plane::Plane;
 use ca_quad::Store;
-use ca_rle::{Pattern, RleFault, read_rle};
+use ca_rle::{Pattern, read_rle_with_line};
 use ca_rule::{Rule, RuleFault, Table, resolve};
 use std::alloc::Global;
 
@@ -26,13 +30,55 @@ pub(crate) struct Ruled<'t> {
     pub rule: Rule<'t>,
 }
 
+/// A rule text that names no rule, and what is wrong with it.
+#[derive(Drop)]
+pub(crate) struct Unnamed {
+    pub fault: RuleFault,
+    pub rule_text: Vec<u8>,
+}
+
 /// The pattern with the rule that its rule text names among the tables, or what is wrong with the text.
-pub(crate) fn with_rule<'t>(pattern: Loaded, tables: &'t [Table]) -> Result<Ruled<'t>, RuleFault>
-    ensures { MatchResult result (IsRuledAs tables.now pattern)
-        (IsRuleFault pattern.rule_text.items tables.now) }
+pub(crate) fn with_rule<'t>(pattern: Loaded, tables: &'t [Table]) -> Result<Ruled<'t>, Unnamed>
+    ensures { MatchResult result (IsRuledAs tables.now pattern) (IsUnnamedFor tables.now pattern) }
 {
-    let rule = resolve(&pattern.rule_text, tables)?;
-    Ok(Ruled { pattern, rule })
+    match resolve(&pattern.rule_text, tables) {
+        Ok(rule) => Ok(Ruled { pattern, rule }),
+        Err(fault) => Err(Unnamed {
+            fault,
+            rule_text: pattern.rule_text,
+        }),
+    }
+}
+
+/// Why a pattern file isn't taken up that isn't read.
+fn unread(bad: BadPattern) -> Refused<ConvertFault>
+    ensures fault { (bytes : List ℕ) (tables : List TableRule) → IsUnread bytes bad
+        → IsSummaryFault bytes tables result.fault }
+    ensures detail { (bytes : List ℕ) → IsUnread bytes bad → HasDetail bytes result }
+{
+    match bad.fault {
+        PatternFault::Memory => Refused::of(ConvertFault::Memory),
+        fault => Refused {
+            fault: ConvertFault::BadPattern(fault),
+            line: bad.line,
+            rule_text: None,
+        },
+    }
+}
+
+/// Why a pattern file isn't taken up whose rule text names no rule.
+fn unruled(unnamed: Unnamed) -> Refused<ConvertFault>
+    ensures { result ≡ record {
+      fault = BadRule unnamed.fault;
+      line = None;
+      rule_text = Some unnamed.rule_text;
+    } }
+{
+    Refused {
+        fault: ConvertFault::BadRule(unnamed.fault),
+        line: None,
+        rule_text: Some(unnamed.rule_text),
+    }
 }
 
 /// Reads a pattern file into the store: a pattern of small states under a rule that its rule text names among
@@ -42,23 +88,23 @@ pub(crate) fn read_ruled<'t>(
     store: &mut Store,
     bytes: &[u8],
     tables: &'t [Table],
-) -> Result<Ruled<'t>, ConvertFault>
+) -> Result<Ruled<'t>, Refused<ConvertFault>>
     ensures ready { IfOk result (IsReady store.new bytes.now tables.now) }
-    ensures fault { IfErr result (IsSummaryFault bytes.now tables.now) }
+    ensures fault { IfErr result (λ refused. IsSummaryFault bytes.now tables.now refused.fault) }
+    ensures detail { IfErr result (HasDetail bytes.now) }
 {
-    let pattern = match read_pattern(alloc, store, bytes) {
+    let pattern = match read_with_line(alloc, store, bytes) {
         Ok(pattern) => pattern,
-        Err(PatternFault::Memory) => return Err(ConvertFault::Memory),
-        Err(fault) => return Err(ConvertFault::BadPattern(fault)),
+        Err(bad) => return Err(unread(bad)),
     };
-    let rule = match resolve(&pattern.rule_text, tables) {
-        Ok(rule) => rule,
-        Err(fault) => return Err(ConvertFault::BadRule(fault)),
+    let ruled = match with_rule(pattern, tables) {
+        Ok(ruled) => ruled,
+        Err(unnamed) => return Err(unruled(unnamed)),
     };
-    match has_large_state(alloc, store, pattern.tree, &rule) {
-        Ok(false) => Ok(Ruled { pattern, rule }),
-        Ok(true) => Err(ConvertFault::StateTooLarge),
-        Err(_) => Err(ConvertFault::Memory),
+    match has_large_state(alloc, store, copy(&ruled.pattern.tree), &ruled.rule) {
+        Ok(false) => Ok(ruled),
+        Ok(true) => Err(Refused::of(ConvertFault::StateTooLarge)),
+        Err(_) => Err(Refused::of(ConvertFault::Memory)),
     }
 }
 
@@ -76,26 +122,26 @@ pub(crate) fn read_ruled_plane<'t>(
     alloc: Global,
     bytes: &[u8],
     tables: &'t [Table],
-) -> Result<RuledPlane<'t>, ConvertFault>
+) -> Result<RuledPlane<'t>, Refused<ConvertFault>>
     requires { format_of bytes.now ≡ Rle }
     ensures ready { IfOk result (IsReadyPlane bytes.now tables.now) }
-    ensures fault { IfErr result (IsSummaryFault bytes.now tables.now) }
+    ensures fault { IfErr result (λ refused. IsSummaryFault bytes.now tables.now refused.fault) }
+    ensures detail { IfErr result (HasDetail bytes.now) }
 {
     let Pattern {
         cells,
         rule_text,
         generation,
-    } = match read_rle(alloc, bytes) {
+    } = match read_rle_with_line(alloc, bytes) {
         Ok(pattern) => pattern,
-        Err(RleFault::Memory) => return Err(ConvertFault::Memory),
-        Err(fault) => return Err(ConvertFault::BadPattern(PatternFault::Rle(fault))),
+        Err(found) => return Err(unread(bad_rle(found))),
     };
     let rule = match resolve(&rule_text, tables) {
         Ok(rule) => rule,
-        Err(fault) => return Err(ConvertFault::BadRule(fault)),
+        Err(fault) => return Err(unruled(Unnamed { fault, rule_text })),
     };
     if has_large_cell(&cells, &rule) {
-        return Err(ConvertFault::StateTooLarge);
+        return Err(Refused::of(ConvertFault::StateTooLarge));
     }
     Ok(RuledPlane {
         cells,

@@ -6,9 +6,10 @@ ghost use Rattle.ca_rule.specs.Rule.{IsRuleFault};
 ghost use Rattle.ca_rule.specs.TableFaults.{IsTableTextFault};
 ghost use Rattle.ca_rule.specs.declared.fault.RuleFault.TheVariants as rule_fault;
 ghost use Rattle.ca_rule.specs.declared.table.fault.TableFault.TheVariants as table_fault;
-ghost use Rattle.ca_claims.specs.Means.{contents, MayWantMemory};
-ghost use Rattle.ca_claims.specs.Unknown.{HoldsRuleText, HoldsUnknownRule, AreUnknownRules, HoldsTableNamed};
-ghost use Rattle.ca_claims.specs.inner.Unknown.{IsUnreadFile, AreAskedBefore, AddsAsked};
+ghost use Rattle.ca_claims.specs.Means.{contents, HoldsRuleText, MayWantMemory};
+ghost use Rattle.ca_claims.specs.Unknown.{IsUnreadFile, HoldsUnknownRule, AreUnknownRules};
+ghost use Rattle.ca_claims.specs.Unknown.{IsNamedTable};
+ghost use Rattle.ca_claims.specs.inner.Unknown.{AreAskedBefore, AddsAsked};
 
 use crate::claims::Claims;
 use crate::file::File;
@@ -106,8 +107,13 @@ fn unknown_rule(alloc: Global, bytes: &[u8], tables: &[Table]) -> Result<Option<
     Ok(None)
 }
 
-/// The rule text of a pattern file that is read.
-fn rule_text_of(alloc: Global, bytes: &[u8]) -> Result<Option<Vec<u8>>, Memory>
+/// The rule text of the pattern file with these bytes: what its header or its `#R` line says, else `B3/S23`.
+/// None where the file isn't read.
+///
+/// # Errors
+///
+/// Fails where there is no memory for the pattern of the file.
+pub fn rule_text_of(alloc: Global, bytes: &[u8]) -> Result<Option<Vec<u8>>, Memory>
     ensures text { IfOk result (λ found. MatchOption found (IsUnreadFile bytes.now)
         (λ text. HoldsRuleText text.items bytes.now)) }
     ensures memory { OnErr result (MayWantMemory bytes.now) }
@@ -133,20 +139,33 @@ fn is_unknown(text: &[u8], tables: &[Table]) -> bool
     }
 }
 
-/// Whether the text of a rule file is a good table of this name.
+/// What a rule file holds that is looked for by a name.
+#[derive(Clone, Copy, Debug, PartialEq, Eq)]
+pub enum NamedTable {
+    /// A good table of that name.
+    Good,
+    /// A good table of another name.
+    OtherName,
+    /// No good table, for this fault, which is never `Memory`.
+    Faulty(TableFault),
+}
+
+/// What the text of a rule file holds that is looked for by this name.
 ///
 /// # Errors
 ///
 /// Fails where there is no memory for the table.
-pub fn is_table_named(alloc: Global, name: &[u8], text: &[u8]) -> Result<bool, Memory>
-    ensures named { IfOk result (λ yes. IsTrue yes ↔ HoldsTableNamed name.now text.now) }
+pub fn table_named(alloc: Global, name: &[u8], text: &[u8]) -> Result<NamedTable, Memory>
+    ensures named { IfOk result (IsNamedTable name.now text.now) }
     ensures memory { OnErr result (IsTableTextFault text.now table_fault.Memory) }
 {
-    match Table::parse(alloc, text) {
-        Ok(table) => Ok(table.name() == name),
-        Err(fault) => match fault {
-            TableFault::Memory => Err(Memory),
-            _ => Ok(false),
-        },
+    let table = match Table::parse(alloc, text) {
+        Ok(table) => table,
+        Err(TableFault::Memory) => return Err(Memory),
+        Err(fault) => return Ok(NamedTable::Faulty(fault)),
+    };
+    if table.name() == name {
+        return Ok(NamedTable::Good);
     }
+    Ok(NamedTable::OtherName)
 }

@@ -4,6 +4,7 @@ use Rattle.std.specs.List.{AllByRecursion}
 use Rattle.ca_claims.specs.declared.verifier.one_or_two.OneOrTwo.{OneOrTwo}
 use Rattle.ca_claims.specs.declared.verifier.one_or_two.OneOrTwo.TheVariants.{One, Two}
 use Rattle.ca_claims.specs.declared.ruled.Ruled.{Ruled}
+use Rattle.ca_claims.specs.declared.ruled.Unnamed.{Unnamed}
 use Rattle.ca_claims.specs.declared.decide.Subject.{Subject}
 use Rattle.ca_plane.specs.Plane.{Picture}
 use Rattle.ca_plane.specs.Bytes.{IsWord}
@@ -11,10 +12,14 @@ use Rattle.ca_plane.specs.Limits.{generation_limit}
 use Rattle.ca_quad.specs.declared.node.Node.{Node}
 use Rattle.ca_quad.specs.Trees.{cell}
 use Rattle.ca_rule.specs.TableNext.{TableRule}
-use Rattle.ca_rule.specs.Rule.{RuleValue, rule_value, IsSameRule, NamesRule}
+use Rattle.ca_rule.specs.Rule.{RuleValue, rule_value, IsSameRule, NamesRule, IsRuleFault}
 use Rattle.ca_macro.specs.Pattern.{AreInRange}
 use Rattle.ca_claims.specs.declared.pattern.Loaded.{Loaded}
 use Rattle.ca_claims.specs.declared.read.BadPattern.{BadPattern}
+use Rattle.ca_claims.specs.declared.conversion.ConvertFault.{ConvertFault}
+use Rattle.ca_claims.specs.declared.conversion.ConvertFault.TheVariants as convert_fault
+use Rattle.ca_claims.specs.declared.verdict.Cause.{Cause}
+use Rattle.ca_claims.specs.declared.verdict.Cause.TheVariants as cause
 use Rattle.ca_claims.specs.declared.refusal.Part.{Part}
 use Rattle.ca_claims.specs.declared.refusal.Part.TheVariants.{First, Second}
 use Rattle.ca_claims.specs.declared.verdict.PatternFault.{PatternFault}
@@ -53,6 +58,14 @@ IsUnreadFor bytes Memory line = MayWantMemory bytes
 abbrev pub IsUnread : List ℕ → BadPattern → Type 0
 IsUnread bytes bad = IsUnreadFor bytes bad.fault bad.line
 
+-- a fault of a pattern file as a cause
+abbrev pub cause_of : ConvertFault → Cause
+cause_of (convert_fault.BadPattern fault) = cause.BadPattern fault
+cause_of (convert_fault.BadRule fault) = cause.BadRule fault
+cause_of convert_fault.StateTooLarge = cause.StateTooLarge
+cause_of convert_fault.TooManyCells = cause.TooManyCells
+cause_of convert_fault.Memory = cause.Memory
+
 -- of one or two, this one is bad, and one before it is good
 abbrev pub FirstBadAt : {X : Type 0} → Part → List X → (Good Bad : X → Type 0) → Type 0
 FirstBadAt First [] Good Bad = ⊥
@@ -72,6 +85,10 @@ IsListPart Second (y ∷ z ∷ zs) x = x ≡ z
 -- the pattern's rule text names a rule among the tables
 abbrev pub HasName : List TableRule → Loaded → Type 0
 HasName tables pattern = (rule : RuleValue) × NamesRule pattern.rule_text.items tables rule
+
+-- it names none, and this is the rule text and what is wrong with it
+abbrev pub IsUnnamedFor : List TableRule → Loaded → Unnamed → Type 0
+IsUnnamedFor tables pattern unnamed = (unnamed.rule_text ≡ pattern.rule_text) × IsRuleFault pattern.rule_text.items tables unnamed.fault
 
 -- the rule of a pattern
 abbrev pub rule_of : Ruled → RuleValue

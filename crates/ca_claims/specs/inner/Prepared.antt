@@ -60,7 +60,7 @@ AreFewCounted nodes asks subject = IsCounted asks → IfSome (wanted_tree asks.w
 
 -- the refusal of a claim with a pattern that has too many cells
 abbrev pub refusal_for_count : Part → Refusal
-refusal_for_count part = record { cause = TooManyCells; about = about.Pattern part None }
+refusal_for_count part = record { cause = TooManyCells; about = about.Pattern part None None }
 
 -- why they aren't known to be few: no memory, or there are too many
 abbrev pub IsCountRefused : List Node → Asks → Subject → Part → Refusal → Type 0
@@ -70,8 +70,8 @@ IsCountRefused nodes asks subject other refusal = (refusal ≡ record { cause = 
 
 -- the refusal of a claim with a pattern that isn't read
 abbrev pub refusal_for : Part → PatternFault → Option ℕ → Refusal
-refusal_for part (pattern_fault.Rle fault) line = record { cause = BadPattern (pattern_fault.Rle fault); about = about.Pattern part line }
-refusal_for part (pattern_fault.Macro fault) line = record { cause = BadPattern (pattern_fault.Macro fault); about = about.Pattern part line }
+refusal_for part (pattern_fault.Rle fault) line = record { cause = BadPattern (pattern_fault.Rle fault); about = about.Pattern part line None }
+refusal_for part (pattern_fault.Macro fault) line = record { cause = BadPattern (pattern_fault.Macro fault); about = about.Pattern part line None }
 refusal_for part pattern_fault.Memory line = record { cause = cause.Memory; about = about.Claim }
 
 abbrev pub reading_refusal : BadPart Unread → Refusal
@@ -79,7 +79,7 @@ reading_refusal unread = refusal_for unread.part unread.why.fault unread.why.lin
 
 -- the refusal of a claim whose patterns have no one rule under which their states are small
 abbrev pub disagreement_refusal : Disagreement → Refusal
-disagreement_refusal (Large part) = record { cause = StateTooLarge; about = about.Pattern part None }
+disagreement_refusal (Large part) = record { cause = StateTooLarge; about = about.Pattern part None None }
 disagreement_refusal Mixed = record { cause = MixedRules; about = about.Claim }
 disagreement_refusal disagreement.Memory = record { cause = cause.Memory; about = about.Claim }
 

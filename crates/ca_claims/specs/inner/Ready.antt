@@ -1,5 +1,5 @@
 -- Patterns that are ready to be written and told of, and what is written.
-use Rattle.std.specs.Prelude.{◌≡◌, ℕ, ◌<◌, ◌≤◌, ℤ, List, length}
+use Rattle.std.specs.Prelude.{◌≡◌, ℕ, ◌<◌, ◌≤◌, ℤ, List, length, None, Result, Ok, Err}
 use Rattle.ca_plane.specs.Plane.{Picture}
 use Rattle.ca_plane.specs.Plane as plane
 use Rattle.ca_plane.specs.Limits.{generation_limit, most_cells}
@@ -11,6 +11,7 @@ use Rattle.ca_quad.specs.Trees.{IsTree, cell}
 use Rattle.ca_macro.specs.Pattern.{AreInRange}
 use Rattle.ca_rule.specs.TableNext.{TableRule}
 use Rattle.ca_rule.specs.Rule.{RuleValue, rule_value, states_of, printed_form, NamesRule}
+use Rattle.ca_claims.specs.declared.refused.Refused.{Refused}
 use Rattle.ca_claims.specs.declared.ruled.Ruled.{Ruled}
 use Rattle.ca_claims.specs.declared.ruled.RuledPlane.{RuledPlane}
 use Rattle.ca_claims.specs.declared.format.Format.{Format}
@@ -73,3 +74,8 @@ AreUnwritten target cells (BadRule fault) = ⊥
 AreUnwritten target cells StateTooLarge = ⊥
 AreUnwritten target cells TooManyCells = (target ≡ Rle) × HasTooManyCells cells
 AreUnwritten target cells Memory = Unit {0}
+
+-- the same, where nothing more is known of a fault
+abbrev pub with_no_detail : {T : Type 0} → Result T ConvertFault → Result T (Refused ConvertFault)
+with_no_detail (Ok made) = Ok made
+with_no_detail (Err fault) = Err (record { fault = fault; line = None; rule_text = None })

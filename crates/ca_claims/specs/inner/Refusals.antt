@@ -17,7 +17,7 @@ use Rattle.ca_claims.specs.inner.Patterns.{FirstBadAt}
 -- claim's patterns
 abbrev pub IsOn : List (List ℕ × List ℕ) → (paths rules patterns : List (List ℕ)) → Cause → About → Type 0
 IsOn files paths rules patterns cause about.Claim = IsOfClaim cause
-IsOn files paths rules patterns cause (about.Pattern part line) = IsOfPattern files rules cause (FirstBadAt part patterns) line
+IsOn files paths rules patterns cause (about.Pattern part line text) = IsOfPattern files rules cause (FirstBadAt part patterns) line text
 IsOn files paths rules patterns cause (about.RuleFile place) = (place < length paths) × IsOfRuleFile files rules patterns cause (path_at paths place)
 
 -- a claim that asks this of these patterns is refused for this cause, which is about this, before any work is done

@@ -12,6 +12,10 @@ use Rattle.ca_claims.specs.Truth.{IsLiveAfter, ShowsNothingBarred, MayReturnBy}
 abbrev pub IsWide : ℤ → Type 0
 IsWide n = (neg_ℤ (pos (2 ^ 62)) ≤ℤ n) × (n ≤ℤ pos (2 ^ 62))
 
+-- a coordinate at most half as far from 0
+abbrev pub IsBroad : ℤ → Type 0
+IsBroad n = (neg_ℤ (pos (2 ^ 61)) ≤ℤ n) × (n ≤ℤ pos (2 ^ 61))
+
 -- at no time from 1 on before n is what is barred shown
 abbrev pub IsSparedBefore : (List ℕ → ℕ) → Picture → Barred → ℕ → Type 0
 IsSparedBefore next cells barred n = (k : ℕ) → 1 ≤ k → k < n → ShowsNothingBarred next cells barred k

@@ -8,29 +8,38 @@ use Rattle.ca_quad.specs.declared.tree.Tree.{Tree}
 use Rattle.ca_quad.specs.declared.tree.WideBounds.{WideBounds}
 use Rattle.ca_quad.specs.Boxes.{IsDead, IsLeastWideBox}
 use Rattle.ca_quad.specs.Shifted.{shifted_cells}
-use Rattle.ca_quad.specs.Trees.{cell}
+use Rattle.ca_quad.specs.Trees.{IsTree, cell}
 use Rattle.ca_quad.specs.Trimmed.{IsTrimmed, HoldsAll}
 use Rattle.ca_claims.specs.declared.identification.stage.First.{First}
 use Rattle.ca_claims.specs.declared.identification.stage.Stage.{Stage}
 use Rattle.ca_claims.specs.declared.identification.stage.Stage.TheVariants.{Empty, Back, Other}
+use Rattle.ca_claims.specs.declared.identity.Growth.{Growth}
+use Rattle.ca_claims.specs.Identified.{IsGrowth, run_work}
 use Rattle.ca_claims.specs.Text.{IsShift}
 use Rattle.ca_claims.specs.Truth.{IsChanged, IsNowhere}
-use Rattle.ca_claims.specs.inner.Returns.{IsWide}
-use Rattle.ca_claims.specs.inner.Subjects.{IsPattern, IsNearTree, HasLive}
+use Rattle.ca_claims.specs.inner.Returns.{IsBroad, IsWide}
+use Rattle.ca_claims.specs.inner.Subjects.{ShowsTree, IsNearTree, HasLive}
 
 -- no live cell lies outside the square of a plane
 abbrev pub IsNear : (ℤ → ℤ → ℕ) → Type 0
 IsNear cells = (x y : ℤ) → (IsInPlane (record { y = y; x = x }) → ⊥) → cells x y ≡ 0
 
--- a live pattern's tree, and the least box round its cells
+-- the tree of a plane that is looked at: a low one, no larger than it need be, whose live cells are at most 2^61 from 0
+pub record IsStart (nodes : List Node) (tree : Tree) : Type 0 where
+  pub is_tree : IsTree nodes tree
+  pub low : tree.level ≤ 63
+  pub trimmed : IsTrimmed nodes tree
+  pub within : HoldsAll 62 (cell nodes tree)
+
+-- the tree of a live plane that is looked at, and the least box round its cells
 pub record IsFirst (nodes : List Node) (first : First) : Type 0 where
-  pub pattern : IsPattern nodes first.tree
+  pub start : IsStart nodes first.tree
   pub box : IsLeastWideBox (cell nodes first.tree) first.bounds
 
--- the sides of the box lie in the square of a plane, and its corner is as near as a shift
+-- the sides of the box lie in the square of a plane, and its corner is at most half as far
 pub record IsFirstBox (box : WideBounds) : Type 0 where
-  pub left : IsShift box.x0
-  pub top : IsShift box.y0
+  pub left : IsBroad box.x0
+  pub top : IsBroad box.y0
   pub right : IsWide box.x1
   pub bottom : IsWide box.y1
 
@@ -66,6 +75,10 @@ pub record IsLaterTree (next : List ℕ → ℕ) (first : ℤ → ℤ → ℕ) (
   pub trimmed : IsTrimmed nodes tree
   pub shows : (x y : ℤ) → cell nodes tree x y ≡ cells_after next first n x y
 
+-- the growth is that of the tree's plane
+abbrev pub IsGrowthOf : List Node → Tree → Growth → Type 0
+IsGrowthOf nodes tree growth = (cells : Picture) × ShowsTree nodes tree cells × IsGrowth cells growth
+
 -- after none of the generations from 1 to n are the cells dead or the first ones, moved
 abbrev pub AreOtherUpTo : (List ℕ → ℕ) → (ℤ → ℤ → ℕ) → ℕ → Type 0
 AreOtherUpTo next first n = (m : ℕ) → 1 ≤ m → m ≤ n → IsStage first (cells_after next first m) Other
@@ -73,6 +86,15 @@ AreOtherUpTo next first n = (m : ℕ) → 1 ≤ m → m ≤ n → IsStage first 
 -- from the old count of work to the new one it is at most n steps of a tree of a level that holds the live cells before each of them
 abbrev pub TakesSteps : (old new : ℕ) → (stages : ℕ → ℤ → ℤ → ℕ) → (limit n : ℕ) → Type 0
 TakesSteps old new stages limit n = (level : ℕ) → 1 ≤ level → ((m : ℕ) → m < limit → HoldsAll level (stages m)) → new ≤ old + n * 14 ^ (level + 3)
+
+-- from the old count of work to the new one it is at most a run of n generations of a tree of this level
+abbrev pub TakesRun : (old new level n : ℕ) → Type 0
+TakesRun old new level n = (digits : ℕ) → n < 2 ^ digits → new ≤ old + run_work n level digits
+
+-- and then at most so many steps of a tree of a level that holds the live cells before each of them
+abbrev pub TakesRunAndSteps : (old new start n : ℕ) → (stages : ℕ → ℤ → ℤ → ℕ) → (limit : ℕ) → Type 0
+TakesRunAndSteps old new start n stages limit = (digits level : ℕ) → n < 2 ^ digits → 1 ≤ level → ((m : ℕ) → m < limit → HoldsAll level (stages (n + m)))
+    → new ≤ old + run_work n start digits + limit * 14 ^ (level + 3)
 
 -- a live pattern is back for the first time after so many generations, by this vector
 pub record IsReturn (next : List ℕ → ℕ) (cells : Picture) (generations : ℕ) (dx dy : ℤ) : Type 0 where

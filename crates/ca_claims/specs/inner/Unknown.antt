@@ -4,13 +4,7 @@ use Rattle.std.specs.Borrow.{Bor}
 use Rattle.std.specs.List.{list_any}
 use Rattle.std.specs.Str.{bytes_eq}
 use Rattle.ca_rule.specs.TableNext.{TableRule}
-use Rattle.ca_claims.specs.Answers.{IsPatternFault}
-use Rattle.ca_claims.specs.declared.verdict.PatternFault.{PatternFault}
 use Rattle.ca_claims.specs.Unknown.{HoldsUnknownRule}
-
--- the bytes have a fault, and aren't read
-abbrev pub IsUnreadFile : List ℕ → Type 0
-IsUnreadFile bytes = (fault : PatternFault) × IsPatternFault bytes fault
 
 -- the file is needed and was found, and its rule text is this name of no rule
 abbrev pub AsksFor : List TableRule → (needed : Bool) → Option (Bor (List ℕ)) → List ℕ → Type 0

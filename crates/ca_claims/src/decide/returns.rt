@@ -7,9 +7,8 @@ ghost use Rattle.ca_quad.specs.Trees.{cell};
 ghost use Rattle.ca_run.specs.Leaping.{LeaperGrows};
 ghost use Rattle.ca_run.specs.Spent.{EndsAtLimit};
 ghost use Rattle.ca_claims.specs.inner.Spending.{Takes};
-ghost use Rattle.ca_claims.specs.Text.{IsShift};
 ghost use Rattle.ca_claims.specs.Truth.{MayReturnBy, ShowsNothingBarred};
-ghost use Rattle.ca_claims.specs.inner.Returns.{IsSparedBefore, IsFirstReturn, IsWide};
+ghost use Rattle.ca_claims.specs.inner.Returns.{IsSparedBefore, IsFirstReturn, IsBroad, IsWide};
 ghost use Rattle.ca_claims.specs.inner.Subjects.{ShowsTree, IsNearTree, IsPattern, BarsReturn, HasLive};
 ghost use Rattle.ca_claims.specs.inner.Subjects.{IsMove, IsNoMove, IsOnlyMove, IsBackBy};
 
@@ -160,7 +159,7 @@ fn corner_vector(
 
 /// How far it is from one coordinate to another.
 pub(crate) fn distance(from: i128, to: i128) -> i64
-    requires from { IsShift from }
+    requires from { IsBroad from }
     requires to { IsWide to }
     ensures { result ≡ to -ℤ from }
 {

@@ -12,13 +12,15 @@ ghost use Rattle.ca_claims.specs.inner.Subjects.{ShowsTree};
 ghost use Rattle.ca_claims.specs.inner.Stages.{IsNear, IsFirst, IsStage, IsLaterTree, IsReturn};
 ghost use Rattle.ca_claims.specs.inner.Stages.{TakesSteps};
 
+use super::growth::growth_of;
+use super::later::later_tree;
 use super::stage::{First, Stage, stage_of};
 use crate::decide::copy;
 use crate::identity::Identity;
 use crate::observer::Observer;
-use ca_plane::{Automaton, MoveFault};
+use ca_plane::Automaton;
 use ca_quad::Tree;
-use ca_run::{LeapFault, Leaper};
+use ca_run::{LeapFault, Leaper, Unwatched};
 use std::alloc::Global;
 
 /// What a live pattern is, within so many generations.
@@ -54,7 +56,8 @@ pub(super) fn search<A: Automaton, O: Observer>(
             Stage::Other => {}
         }
     }
-    Ok(Identity::Unknown)
+    let growth = growth_of(alloc, leaper.store(), now)?;
+    Ok(Identity::Unknown { growth })
 }
 
 // A tree, and what it shows of the pattern.
@@ -89,30 +92,9 @@ fn step<A: Automaton>(
     // Says what holds of every leaper.
     let _ = leaper.store();
     let _ = generations;
-    let tree = next_tree(leaper, now)?;
+    let tree = later_tree(leaper, now, 1, &mut Unwatched)?;
     let stage = stage_of(alloc, leaper, first, &tree)?;
     Ok(Later { tree, stage })
-}
-
-// The tree one generation on, of the smallest level.
-fn next_tree<A: Automaton>(leaper: &mut Leaper<A>, tree: Tree) -> Result<Tree, LeapFault>
-    requires tree { IsTree leaper.old.nodes tree }
-    requires low { tree.level ≤ 64 }
-    requires near { IsNear (cells_after (A.next_of leaper.old.rule) (cell leaper.old.nodes tree) 1) }
-    ensures later { IfOk result
-        (IsLaterTree (A.next_of leaper.old.rule) (cell leaper.old.nodes tree) 1 leaper.new.nodes) }
-    ensures goes_on { LeaperGrows A leaper.old leaper.new }
-    ensures takes { leaper.new.spent.used ≤ leaper.old.spent.used + 14 ^ (tree.level + 3) }
-    ensures work { EndsAtLimit leaper.new.spent result }
-{
-    // Says what holds of every leaper.
-    let _ = leaper.store();
-    let later = leaper.advance(tree, 1)?;
-    match leaper.shifted(later, 0, 0) {
-        Ok(trimmed) => Ok(trimmed),
-        Err(MoveFault::Memory) => Err(LeapFault::Memory),
-        Err(MoveFault::Range) => unreachable!(),
-    }
 }
 
 // What a pattern is that is back for the first time after so many generations, by this vector.

@@ -5,8 +5,8 @@ ghost use Rattle.ca_quad.specs.Boxes.{IsLeastWideBox};
 ghost use Rattle.ca_quad.specs.Trees.{cell};
 ghost use Rattle.ca_run.specs.Leaping.{LeaperGrows};
 ghost use Rattle.ca_run.specs.Spent.{EndsAtLimit};
-ghost use Rattle.ca_claims.specs.inner.Subjects.{IsNearTree, IsPattern, IsMove, IsNoMove, IsOnlyMove};
-ghost use Rattle.ca_claims.specs.inner.Stages.{IsFirst, IsFirstBox, IsWideBox, IsStage};
+ghost use Rattle.ca_claims.specs.inner.Subjects.{IsNearTree, IsMove, IsNoMove, IsOnlyMove};
+ghost use Rattle.ca_claims.specs.inner.Stages.{IsStart, IsFirst, IsFirstBox, IsWideBox, IsStage};
 ghost use Rattle.ca_claims.specs.inner.Stages.{AreMovedNowhere, AreMovedOnlyBy};
 
 use crate::decide::{copy, distance, vector_if_same};
@@ -86,7 +86,7 @@ fn vector_if_back<A: Automaton>(
     dy: i64,
 ) -> Result<Option<(i64, i64)>, LeapFault>
     requires now { IsNearTree leaper.old.nodes now }
-    requires first { IsPattern leaper.old.nodes first }
+    requires first { IsStart leaper.old.nodes first }
     requires only { IsOnlyMove leaper.old.nodes now first (dx, dy) }
     ensures back { IfOk result (λ back. MatchOption back (IsNoMove leaper.old.nodes now first)
         (λ v. IsMove leaper.old.nodes now first v.0 v.1)) }

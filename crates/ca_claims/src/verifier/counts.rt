@@ -110,6 +110,10 @@ fn refusal_for_count(part: Part) -> Refusal
 {
     Refusal {
         cause: Cause::TooManyCells,
-        about: About::Pattern { part, line: None },
+        about: About::Pattern {
+            part,
+            line: None,
+            rule_text: None,
+        },
     }
 }

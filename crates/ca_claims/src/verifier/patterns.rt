@@ -2,22 +2,22 @@
 
 ghost use Rattle.std.specs.Prelude.{IfOk, IfErr};
 ghost use Rattle.std.specs.List.{AllZip};
-ghost use Rattle.ca_rule.specs.Rule.{IsRuleFault};
 ghost use Rattle.ca_claims.specs.Means.{IsReadable};
-ghost use Rattle.ca_claims.specs.inner.Patterns.{items, FirstBadAt, IsReadFrom, IsUnread, HasName, IsRuledAs};
+ghost use Rattle.ca_claims.specs.inner.Patterns.{items, FirstBadAt, IsReadFrom, IsUnread, HasName};
+ghost use Rattle.ca_claims.specs.inner.Patterns.{IsUnnamedFor, IsRuledAs};
 
 use super::library::Library;
 use super::one_or_two::OneOrTwo;
 use crate::pattern::Loaded;
 use crate::read::BadPattern;
 use crate::refusal::Part;
-use crate::ruled::{Ruled, with_rule};
+use crate::ruled::{Ruled, Unnamed, with_rule};
 use ca_quad::Store;
-use ca_rule::{RuleFault, Table};
+use ca_rule::Table;
 use std::alloc::Global;
 
 /// Which of a claim's patterns is bad, and why.
-#[derive(Clone, Copy)]
+#[derive(Drop)]
 pub(crate) struct BadPart<W> {
     pub(crate) part: Part,
     pub(crate) why: W,
@@ -69,11 +69,11 @@ pub(crate) fn read_each<'a>(
 pub(crate) fn with_rules<'t>(
     patterns: OneOrTwo<Loaded>,
     tables: &'t [Table],
-) -> Result<OneOrTwo<Ruled<'t>>, BadPart<RuleFault>>
+) -> Result<OneOrTwo<Ruled<'t>>, BadPart<Unnamed>>
     ensures named { IfOk result (λ ruled. AllZip (IsRuledAs tables.now) (items patterns) (items ruled)) }
     ensures unnamed { IfErr result
         (λ bad. FirstBadAt bad.part (items patterns) (HasName tables.now)
-        (λ p. IsRuleFault p.rule_text.items tables.now bad.why)) }
+        (λ p. IsUnnamedFor tables.now p bad.why)) }
 {
     match patterns {
         OneOrTwo::One(only) => match with_rule(only, tables) {

@@ -9,6 +9,7 @@ ghost use Rattle.ca_claims.specs.Means.{bytes_at};
 ghost use Rattle.ca_claims.specs.Answers.{AreTables};
 ghost use Rattle.ca_claims.specs.Limited.{AreGoodLimits};
 ghost use Rattle.ca_claims.specs.declared.refusal.About.TheVariants as abouts;
+ghost use Rattle.ca_claims.specs.declared.verdict.Cause.TheVariants as causes;
 ghost use Rattle.ca_claims.specs.inner.Found.{IsFound};
 ghost use Rattle.ca_claims.specs.inner.Patterns.{items, FirstBadAt};
 ghost use Rattle.ca_claims.specs.inner.Prepared.{IsPrepared, IsFit, reading_refusal};
@@ -27,6 +28,7 @@ use crate::decide::Subject;
 use crate::limits::Limits;
 use crate::read::BadPattern;
 use crate::refusal::{About, Part, Refusal};
+use crate::ruled::Unnamed;
 use crate::verdict::{Cause, PatternFault};
 use ca_quad::Store;
 use ca_rule::{Rule, Table};
@@ -90,7 +92,7 @@ fn prepare_by<'a, 't>(
     };
     let patterns = match with_rules(patterns, tables) {
         Ok(patterns) => patterns,
-        Err(unnamed) => return Err(of_pattern(Cause::BadRule(unnamed.why), unnamed.part, None)),
+        Err(unnamed) => return Err(naming_refusal(unnamed)),
     };
     let rule = match agreed_rule(alloc, &store, &patterns) {
         Ok(rule) => rule,
@@ -106,11 +108,32 @@ fn prepare_by<'a, 't>(
 
 /// A refusal for one of the claim's patterns.
 fn of_pattern(cause: Cause, part: Part, line: Option<u64>) -> Refusal
-    ensures { result ≡ record { cause = cause; about = abouts.Pattern part line } }
+    ensures { result ≡ record { cause = cause; about = abouts.Pattern part line None } }
 {
     Refusal {
         cause,
-        about: About::Pattern { part, line },
+        about: About::Pattern {
+            part,
+            line,
+            rule_text: None,
+        },
+    }
+}
+
+/// The refusal of a claim with a pattern whose rule text names no rule.
+fn naming_refusal(unnamed: BadPart<Unnamed>) -> Refusal
+    ensures { result ≡ record {
+      cause = causes.BadRule unnamed.why.fault;
+      about = abouts.Pattern unnamed.part None (Some unnamed.why.rule_text);
+    } }
+{
+    Refusal {
+        cause: Cause::BadRule(unnamed.why.fault),
+        about: About::Pattern {
+            part: unnamed.part,
+            line: None,
+            rule_text: Some(unnamed.why.rule_text),
+        },
     }
 }
 

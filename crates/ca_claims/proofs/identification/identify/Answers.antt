@@ -1,51 +1,8 @@
-use Rattle.std.proofs.Common.{sym, subst, ◌∙◌}
-use Rattle.ca_plane.specs.Generations.{cells_after}
-use Rattle.ca_quad.specs.Trees.{cell}
-use Rattle.ca_rule.specs.Rule.{rule_value, next_of}
-use Rattle.ca_claims.specs.Identified.{IsIdentity, IsUnidentifiedFor, MayNeedWork}
-use Rattle.ca_claims.specs.inner.Subjects.{ShowsTree, IsPattern}
-use Rattle.ca_claims.proofs.Identities.{file_shows, file_holds, file_needs}
-use Rattle.ca_claims.proofs.Stages.{steps_need}
-use Rattle.ca_claims.proofs.Told.{read_pattern}
+use Rattle.ca_claims.proofs.IdentifiedFiles.{identified_now, unidentified_now}
 use Rattle.ca_claims.proofs.identification.identify.Goals as goal
 
-pub identity_of-requires-clause-pattern : goal.identity_of-requires-clause-pattern
-identity_of-requires-clause-pattern g c =
-    let ruled = c.in_ok-pattern.field-0 in
-    subst (λ s. IsPattern s ruled.pattern.tree) (sym c.in-Ok.ensures.store) (read_pattern c.read_small.new.store c.args.bytes.now ruled.pattern c.in_ok-pattern.ensures.ready.read)
-
-pub returns-in-Ok-identity_of-clause-identified : goal.returns-in-Ok-identity_of-clause-identified
-returns-in-Ok-identity_of-clause-identified g c =
-    let store = c.read_small.new.store in
-    let ruled = c.in_ok-pattern.field-0 in
-    let ready = c.in_ok-pattern.ensures.ready in
-    let cells = ready.read.cells in
-    let shows = subst (λ s. ShowsTree s ruled.pattern.tree cells) (sym c.in-Ok.ensures.store) (file_shows store c.args.bytes.now c.args.tables.now ruled ready) in (
-      cells,
-      rule_value ruled.rule,
-      file_holds store c.args.bytes.now c.args.tables.now ruled ready,
-      subst (λ r. IsIdentity (next_of (rule_value r)) cells c.args.limit c.in-Ok-identity_of.identity) c.in-Ok.ensures.rule (c.in-Ok-identity_of.ensures.identity cells shows),
-    )
+pub returns-clause-identified : goal.returns-clause-identified
+returns-clause-identified g c = identified_now c.args.bytes.now c.args.tables.now c.args.limit c.identify_after.result c.identify_after.ensures.identified
 
 pub returns-clause-unidentified : goal.returns-clause-unidentified
-returns-clause-unidentified g c =
-    let store = c.read_small.new.store in
-    let ruled = c.in_ok-pattern.field-0 in
-    let tree = ruled.pattern.tree in
-    let ready = c.in_ok-pattern.ensures.ready in
-    let work = c.args.limits.work in
-    let limit = c.args.limit in
-    let leaper = c.in-Ok.leaper in
-    let told = c.in-Err-Work.ensures in
-    let need = steps_need leaper.spent.used c.identity_of.new.leaper.spent.used work (cells_after (next_of (rule_value leaper.rule)) (cell leaper.nodes tree)) limit
-    c.in-Ok.ensures.used (told.work c.in-Err-Work.field-0-is ∙ told.goes_on.spends.limit ∙ c.in-Ok.ensures.limit) told.takes in
-    let of_file =
-    subst (λ r. MayNeedWork work (cells_after (next_of (rule_value r)) (cell store tree)) limit) c.in-Ok.ensures.rule
-    (subst (λ s. MayNeedWork work (cells_after (next_of (rule_value leaper.rule)) (cell s tree)) limit) c.in-Ok.ensures.store need) in
-    subst (λ k. IsUnidentifiedFor c.args.bytes.now c.args.tables.now work limit k c.of_file.result.line) (sym c.of_file.ensures.cause) (
-      c.of_file.ensures.line,
-      ready.read.cells,
-      rule_value ruled.rule,
-      file_holds store c.args.bytes.now c.args.tables.now ruled ready,
-      file_needs store c.args.bytes.now c.args.tables.now ruled ready work limit of_file,
-    )
+returns-clause-unidentified g c = unidentified_now c.args.bytes.now c.args.tables.now c.args.limits.work c.args.limit c.requires.some c.identify_after.result c.identify_after.ensures.unidentified

@@ -1,6 +1,10 @@
-use Rattle.std.proofs.Common.{subst}
+use Rattle.std.proofs.Common.{refl, sym, subst}
 use Rattle.ca_plane.specs.Plane.{cell}
 use Rattle.ca_rule.specs.Rule.{rule_value, NamesRule, IsRuleFault}
+use Rattle.ca_claims.specs.declared.conversion.ConvertFault.{ConvertFault}
+use Rattle.ca_claims.specs.declared.refused.Refused.{Refused}
+use Rattle.ca_claims.specs.Converted.{IsSummaryFault}
+use Rattle.ca_claims.specs.Refused.{HasDetail}
 use Rattle.ca_claims.proofs.Shown.{large_shown}
 use Rattle.ca_claims.proofs.RleFiles.{picture, holds, holds_cells, file_is_writable}
 use Rattle.ca_claims.proofs.ruled.read_ruled_plane.Goals as goal
@@ -17,10 +21,22 @@ returns-clause-ready c =
       writable = file_is_writable bytes found.0 _ _ _ c.requires found.1 found.2 found.3.0 rule found.3.1 small;
     }
 
+pub returns-in-Err-clause-fault : goal.returns-in-Err-clause-fault
+returns-in-Err-clause-fault c =
+    c.unread.ensures.fault c.args.bytes.now c.args.tables.now (c.bad_rle.ensures c.args.bytes.now c.requires c.in-Err.ensures.fault c.in-Err.ensures.memory)
+
+pub returns-in-Err-resolve-clause-detail : goal.returns-in-Err-resolve-clause-detail
+returns-in-Err-resolve-clause-detail c =
+    let found = c.in-Ok.ensures.found in
+    let bytes = c.args.bytes.now in
+    subst (HasDetail bytes) (sym c.unruled.ensures)
+    (refl, (picture bytes found.0 _ _ _ c.requires found.1 found.2 found.3.0, c.in-Ok.pattern.generation, holds bytes found.0 _ _ _ c.requires found.1 found.2 found.3.0))
+
 pub returns-in-Err-resolve-clause-fault : goal.returns-in-Err-resolve-clause-fault
 returns-in-Err-resolve-clause-fault c =
     let found = c.in-Ok.ensures.found in
-    let bytes = c.args.bytes.now in (
+    let bytes = c.args.bytes.now in
+    subst (λ (r : Refused ConvertFault). IsSummaryFault bytes c.args.tables.now r.fault) (sym c.unruled.ensures) (
       picture bytes found.0 _ _ _ c.requires found.1 found.2 found.3.0,
       c.in-Ok.pattern.rule_text.items,
       c.in-Ok.pattern.generation,
@@ -33,7 +49,8 @@ returns-then-has_large_cell-clause-fault c =
     let found = c.in-Ok.ensures.found in
     let bytes = c.args.bytes.now in
     let rule = rule_value c.in-Ok-resolve.rule in
-    let cells = picture bytes found.0 _ _ _ c.requires found.1 found.2 found.3.0 in (
+    let cells = picture bytes found.0 _ _ _ c.requires found.1 found.2 found.3.0 in
+    subst (λ (r : Refused ConvertFault). IsSummaryFault bytes c.args.tables.now r.fault) (sym c.of.ensures) (
       cells,
       rule,
       c.in-Ok.pattern.generation,

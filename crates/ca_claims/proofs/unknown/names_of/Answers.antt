@@ -1,4 +1,4 @@
-use Rattle.ca_claims.proofs.UnknownRules.{none_asked, asked_next}
+use Rattle.ca_claims.proofs.UnknownRules.{asked_next}
 use Rattle.ca_claims.proofs.unknown.names_of.Goals as goal
 
 pub files-preserved : goal.files-preserved

@@ -1,12 +1,15 @@
-use Rattle.std.proofs.Common.{rules, ◌+◌, refl, sym, subst, arith, w64, SFits, to_z, of_z}
+use Rattle.std.proofs.Common.{rules, ◌≡◌, ◌+◌, refl, sym, subst, arith, w64, SFits, to_z, of_z}
 use Rattle.std.proofs.lemmas.Int.{to_z-of_z}
 use Rattle.ca_plane.specs.Generations.{cells_after}
 use Rattle.ca_quad.specs.Trees.{cell}
 use Rattle.ca_run.proofs.Leap.{goes_on_same}
 use Rattle.ca_run.proofs.Shown.{goes_on_again}
-use Rattle.ca_claims.specs.inner.Stages.{IsStage, IsReturn}
-use Rattle.ca_claims.proofs.Identities.{found_none, found_death, found_return}
-use Rattle.ca_claims.proofs.Stages.{first_tree, first_stays, others_at_first, one_more_other, step_from, step_to, stage_to, no_step, one_more_step, last_step}
+use Rattle.ca_claims.specs.inner.Glance.{IsLowTree}
+use Rattle.ca_claims.specs.inner.Stages.{IsStage, IsReturn, IsLaterTree, AreOtherUpTo, IsGrowthOf}
+use Rattle.ca_claims.specs.inner.Subjects.{HasLive}
+use Rattle.ca_claims.proofs.Identities.{last_live, found_none, found_death, found_return}
+use Rattle.ca_claims.proofs.Starts.{start_is_low}
+use Rattle.ca_claims.proofs.Stages.{first_tree, first_stays, others_at_first, one_more_other, step_from, step_to, stage_to, no_step, one_more_step, fewer_steps, last_step}
 use Rattle.ca_claims.proofs.identification.search.search.Goals as goal
 
 pub generations-init : goal.generations-init
@@ -16,7 +19,7 @@ generations-init g c =
     let first = cell s0 c.args.first.now.tree in
     record {
       goes_on = goes_on_same _ c.args.leaper.now c.store.ensures.sound;
-      now = first_tree next s0 c.args.first.now.tree c.copy-now.result c.copy-now.ensures c.requires.first.pattern;
+      now = first_tree next s0 c.args.first.now.tree c.copy-now.result c.copy-now.ensures c.requires.first.start;
       others = others_at_first next first;
       within = omega arith;
       takes = no_step _ _ (cells_after next first) c.args.limit refl;
@@ -92,7 +95,39 @@ generations-preserved g c =
       takes = one_more_step _ _ _ stages c.args.limit n s c.generations.now inv.now.trimmed inv.now.shows (omega (arith, c.generations-test.true)) inv.takes c.step.ensures.takes;
     }
 
+pub growth_of-requires-clause-low : goal.growth_of-requires-clause-low
+growth_of-requires-clause-low g c =
+    let inv = c.generations.invariant in
+    let next = g.A.Automaton.next_of c.args.leaper.now.rule in
+    let p = cell c.args.leaper.now.nodes c.args.first.now.tree in
+    let quiet = g.met.A.Automaton.quiet c.args.leaper.now.rule c.store.ensures.rule in
+    let low = start_is_low next p c.generations.generations quiet c.requires.first.start.within (let within = inv.within in let most = c.requires.most in omega (arith, within, most)) c.generations.leaper.nodes c.generations.now inv.now.trimmed inv.now.shows in
+    subst (λ s. IsLowTree s c.generations.now) (sym c.store-2.ensures.nodes) (record { is_tree = inv.now.near.is_tree; low = omega (arith, low) })
+
+pub growth_of-requires-clause-live : goal.growth_of-requires-clause-live
+growth_of-requires-clause-live g c =
+    let inv = c.generations.invariant in
+    let next = g.A.Automaton.next_of c.args.leaper.now.rule in
+    let p = cell c.args.leaper.now.nodes c.args.first.now.tree in
+    subst (λ s. HasLive (cell s c.generations.now)) (sym c.store-2.ensures.nodes)
+    (last_live next p c.generations.generations c.generations.leaper.nodes c.generations.now inv.now inv.others (omega (arith, c.generations-test.false, c.requires.some)))
+
 pub returns-clause-identity : goal.returns-clause-identity
 returns-clause-identity g c = λ cells shows.
-    found_none (g.A.Automaton.next_of c.args.leaper.now.rule) (g.met.A.Automaton.quiet c.args.leaper.now.rule c.store.ensures.rule) c.args.leaper.now.nodes c.args.first.now c.requires.first cells shows
-    c.args.limit (λ m some within. c.generations.invariant.others m some (omega (arith, within, c.generations-test.false)))
+    let inv = c.generations.invariant in
+    let next = g.A.Automaton.next_of c.args.leaper.now.rule in
+    let p = cell c.args.leaper.now.nodes c.args.first.now.tree in
+    let all : c.generations.generations ≡ c.args.limit = let within = inv.within in omega (arith, within, c.generations-test.false) in
+    found_none next (g.met.A.Automaton.quiet c.args.leaper.now.rule c.store.ensures.rule) c.args.leaper.now.nodes c.args.first.now c.requires.first cells shows c.args.limit
+    (subst (AreOtherUpTo next p) all inv.others) c.generations.leaper.nodes c.generations.now (subst (λ n. IsLaterTree next p n c.generations.leaper.nodes c.generations.now) all inv.now)
+    c.in_ok-growth.growth (subst (λ s. IsGrowthOf s c.generations.now c.in_ok-growth.growth) c.store-2.ensures.nodes c.in_ok-growth.ensures)
+
+pub returns-clause-takes : goal.returns-clause-takes
+returns-clause-takes g c =
+    fewer_steps _ _ (cells_after (g.A.Automaton.next_of c.args.leaper.now.rule) (cell c.args.leaper.now.nodes c.args.first.now.tree)) c.args.limit c.generations.generations
+    c.generations.invariant.within c.generations.invariant.takes
+
+pub returns-in_err-growth-clause-takes : goal.returns-in_err-growth-clause-takes
+returns-in_err-growth-clause-takes g c =
+    fewer_steps _ _ (cells_after (g.A.Automaton.next_of c.args.leaper.now.rule) (cell c.args.leaper.now.nodes c.args.first.now.tree)) c.args.limit c.generations.generations
+    c.generations.invariant.within c.generations.invariant.takes

@@ -4,8 +4,8 @@ use Rattle.ca_quad.specs.Boxes.{IsDead, IsLeastWideBox}
 use Rattle.ca_quad.specs.Shifted.{shifted_cells}
 use Rattle.ca_quad.specs.Trees.{cell}
 use Rattle.ca_claims.specs.inner.Subjects.{IsMove, IsNoMove}
-use Rattle.ca_claims.proofs.Corners.{corner_shift, corner_wide, far_corner_wide}
-use Rattle.ca_claims.proofs.Leapt.{near_pattern}
+use Rattle.ca_claims.proofs.Corners.{corner_broad, corner_wide, far_corner_wide}
+use Rattle.ca_claims.proofs.Starts.{near_start}
 use Rattle.ca_claims.proofs.identification.stage.stage_of.Goals as goal
 
 pub returns-in_default-clause-stage : goal.returns-in_default-clause-stage
@@ -17,8 +17,8 @@ pub vector_between-requires-clause-from : goal.vector_between-requires-clause-fr
 vector_between-requires-clause-from g c =
     let nodes = c.args.leaper.now.nodes in
     let first = c.args.first.now in
-    let corner = corner_shift (cell nodes first.tree) first.bounds c.requires.first.box c.requires.first.pattern.range in
-    let far = far_corner_wide (cell nodes first.tree) first.bounds c.requires.first.box (near_pattern nodes first.tree c.requires.first.pattern).near in
+    let corner = corner_broad (cell nodes first.tree) first.bounds c.requires.first.box c.requires.first.start.within in
+    let far = far_corner_wide (cell nodes first.tree) first.bounds c.requires.first.box (near_start nodes first.tree c.requires.first.start).near in
     record { left = corner.0; top = corner.1; right = far.0; bottom = far.1 }
 
 pub vector_between-requires-clause-to : goal.vector_between-requires-clause-to

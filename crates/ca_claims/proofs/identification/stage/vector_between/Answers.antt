@@ -1,5 +1,5 @@
 use Rattle.ca_claims.proofs.Corners.{corner_moved, far_corner_moved}
-use Rattle.ca_claims.proofs.Times.{distance_reads, shift_wide, same_far}
+use Rattle.ca_claims.proofs.Times.{distance_reads, broad_wide, same_far}
 use Rattle.ca_claims.proofs.identification.stage.vector_between.Goals as goal
 
 pub returns-then-to-from : goal.returns-then-to-from
@@ -8,7 +8,7 @@ returns-then-to-from c = λ p q least least_later dx dy moved.
     let to = c.args.to.now in
     let vector = corner_moved p q dx dy moved from to least least_later in
     let far = far_corner_moved p q dx dy moved from to least least_later in
-    c.if-to-from.true (same_far to.x1 from.x1 to.x0 from.x0 dx c.requires.to.right c.requires.from.right c.requires.to.left (shift_wide from.x0 c.requires.from.left) far.0 vector.0)
+    c.if-to-from.true (same_far to.x1 from.x1 to.x0 from.x0 dx c.requires.to.right c.requires.from.right c.requires.to.left (broad_wide from.x0 c.requires.from.left) far.0 vector.0)
 
 pub returns-then-to-from-2 : goal.returns-then-to-from-2
 returns-then-to-from-2 c = λ p q least least_later dx dy moved.
@@ -16,7 +16,7 @@ returns-then-to-from-2 c = λ p q least least_later dx dy moved.
     let to = c.args.to.now in
     let vector = corner_moved p q dx dy moved from to least least_later in
     let far = far_corner_moved p q dx dy moved from to least least_later in
-    c.if-to-from-2.true (same_far to.y1 from.y1 to.y0 from.y0 dy c.requires.to.bottom c.requires.from.bottom c.requires.to.top (shift_wide from.y0 c.requires.from.top) far.1 vector.1)
+    c.if-to-from-2.true (same_far to.y1 from.y1 to.y0 from.y0 dy c.requires.to.bottom c.requires.from.bottom c.requires.to.top (broad_wide from.y0 c.requires.from.top) far.1 vector.1)
 
 pub returns : goal.returns
 returns c = λ p q least least_later dx dy moved.

@@ -7,12 +7,13 @@ use Rattle.ca_quad.specs.Trees.{cell}
 use Rattle.ca_quad.proofs.Trims.{trees_stay}
 use Rattle.ca_run.proofs.Shown.{goes_on_again}
 use Rattle.ca_claims.proofs.Corners.{not_leaves, fits_near, moved_or_none}
-use Rattle.ca_claims.proofs.Leapt.{near_stays, near_pattern, ok_as}
+use Rattle.ca_claims.proofs.Leapt.{near_stays, ok_as}
+use Rattle.ca_claims.proofs.Starts.{near_start}
 use Rattle.ca_claims.proofs.Times.{moved_nowhere}
 use Rattle.ca_claims.proofs.identification.stage.vector_if_back.Goals as goal
 
 pub vector_if_same-requires-clause-moved : goal.vector_if_same-requires-clause-moved
-vector_if_same-requires-clause-moved g c = near_pattern c.args.leaper.now.nodes c.args.first c.requires.first
+vector_if_same-requires-clause-moved g c = near_start c.args.leaper.now.nodes c.args.first c.requires.first
 
 pub returns-then-dy-eq0-clause-back : goal.returns-then-dy-eq0-clause-back
 returns-then-dy-eq0-clause-back g c =

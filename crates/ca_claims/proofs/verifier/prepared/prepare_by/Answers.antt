@@ -19,7 +19,7 @@ returns-in-Err-with_rules-clause-prepared c = λ files paths rules each there ar
     let patterns = items c.in-Ok.patterns in
     let unnamed_one = c.in-Err-with_rules.unnamed in
     let read = read_at nodes files each (items c.args.there.now) patterns there c.in-Ok.ensures.read in
-    subst (IsRefusal files paths rules c.args.asks each) (sym c.of_pattern.ensures)
+    subst (IsRefusal files paths rules c.args.asks each) (sym c.naming_refusal.ensures)
     (unnamed files paths rules c.args.asks c.args.tables.now are nodes each patterns unnamed_one.part unnamed_one.why read c.in-Err-with_rules.ensures.unnamed)
 
 pub agreed_rule-requires : goal.agreed_rule-requires

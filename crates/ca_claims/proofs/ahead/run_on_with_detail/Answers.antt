@@ -2,12 +2,15 @@ use Rattle.std.proofs.Common.{◌<◌, subst, sym, ◌∙◌}
 use Rattle.ca_plane.specs.Limits.{generation_limit}
 use Rattle.ca_quad.specs.Trees.{cell}
 use Rattle.ca_rule.specs.Rule.{rule_value, next_of}
+use Rattle.ca_claims.specs.declared.reached.ReachFault.{ReachFault}
+use Rattle.ca_claims.specs.declared.refused.Refused.{Refused}
+use Rattle.ca_claims.specs.Ahead.{IsReachFault}
 use Rattle.ca_claims.specs.Answers.{HasSmallStates}
 use Rattle.ca_claims.specs.inner.Stages.{IsLaterTree}
 use Rattle.ca_claims.specs.inner.Subjects.{IsPattern}
 use Rattle.ca_claims.proofs.ReachedFiles.{file_reaches, file_needs_run, file_wants_work, file_wants_memory}
 use Rattle.ca_claims.proofs.Told.{read_pattern}
-use Rattle.ca_claims.proofs.ahead.run_on.Goals as goal
+use Rattle.ca_claims.proofs.ahead.run_on_with_detail.Goals as goal
 
 pub end_of-requires-clause-pattern : goal.end_of-requires-clause-pattern
 end_of-requires-clause-pattern g c =
@@ -32,7 +35,9 @@ returns-in-Ok-end_of-clause-reached g c =
     file_reaches store c.args.bytes.now c.args.tables.now ruled ready n c.in-Some.generation c.in-Some.ensures.0 c.in-Some.ensures.1 end.store end.tree told.level later small
 
 pub returns-in-Err-Memory-clause-fault : goal.returns-in-Err-Memory-clause-fault
-returns-in-Err-Memory-clause-fault g c = file_wants_memory c.read_ruled.new.store c.args.bytes.now c.args.tables.now c.in-Ok.ruled c.in-Ok.ensures.ready
+returns-in-Err-Memory-clause-fault g c =
+    subst (λ (r : Refused ReachFault). IsReachFault c.args.bytes.now c.args.tables.now c.args.generations c.args.limits.work r.fault) (sym c.of-in-Err-Memory.ensures)
+    (file_wants_memory c.read_ruled.new.store c.args.bytes.now c.args.tables.now c.in-Ok.ruled c.in-Ok.ensures.ready)
 
 pub returns-clause-fault : goal.returns-clause-fault
 returns-clause-fault g c =
@@ -45,4 +50,5 @@ returns-clause-fault g c =
     let low = subst (λ g. g < generation_limit) c.in-Some.ensures.0 c.in-Some.ensures.1 in
     let need = file_needs_run store c.args.bytes.now c.args.tables.now ruled ready n leaper.spent.used c.end_of.new.leaper.spent.used c.args.limits.work
     c.in-Ok-new.ensures.used (told.work c.in-Err-Work.field-0-is ∙ told.goes_on.spends.limit ∙ c.in-Ok-new.ensures.limit) told.takes in
-    file_wants_work store c.args.bytes.now c.args.tables.now ruled ready n low c.args.limits.work need
+    subst (λ (r : Refused ReachFault). IsReachFault c.args.bytes.now c.args.tables.now n c.args.limits.work r.fault) (sym c.of-in-Err-Work.ensures)
+    (file_wants_work store c.args.bytes.now c.args.tables.now ruled ready n low c.args.limits.work need)

@@ -1,26 +1,25 @@
-use Rattle.std.proofs.Common.{◌+◌, ◌≤◌, ◌^◌, refl, sym, subst, ◌∙◌, arith}
+use Rattle.std.proofs.Common.{refl, sym, subst, ◌∙◌, arith}
 use Rattle.std.specs.Prelude.{pos}
 use Rattle.ca_quad.specs.Shifted.{shifted_cells, IsShiftRefused}
 use Rattle.ca_quad.specs.Trees.{cell}
-use Rattle.ca_run.specs.Spent.{Spent}
 use Rattle.ca_claims.proofs.Corners.{fits_near}
-use Rattle.ca_claims.proofs.Stages.{one_step}
+use Rattle.ca_claims.proofs.Spending.{takes_one, takes_before}
 use Rattle.ca_claims.proofs.Times.{moved_nowhere}
-use Rattle.ca_claims.proofs.identification.search.next_tree.Goals as goal
+use Rattle.ca_claims.proofs.identification.later.later_tree.Goals as goal
 
 pub returns-in_err-later-clause-takes : goal.returns-in_err-later-clause-takes
-returns-in_err-later-clause-takes g c = one_step _ _ c.args.tree.level (c.advance.ensures.costs 1 (omega arith)).most
+returns-in_err-later-clause-takes g c = takes_one c.args.leaper.now c.advance_watched.new.self c.args.tree.level c.args.generations c.advance_watched.ensures.costs
 
 pub unreachable-requires : goal.unreachable-requires
 unreachable-requires g c =
-    let later = cell c.advance.new.self.nodes c.in_ok-later.later in
+    let later = cell c.advance_watched.new.self.nodes c.in_ok-later.later in
     let leaves = subst (IsShiftRefused (shifted_cells later (pos 0) (pos 0))) c.in-Err-Range.field-0-is c.in-Err-Range.ensures.fault in
     leaves.2
     (sym (moved_nowhere later (pos 0) (pos 0) leaves.0 leaves.1 refl refl) ∙ c.in_ok-later.ensures.advanced.cells leaves.0 leaves.1 ∙ c.requires.near leaves.0 leaves.1 leaves.3)
 
 pub returns-in-Ok-clause-later : goal.returns-in-Ok-clause-later
 returns-in-Ok-clause-later g c =
-    let later = cell c.advance.new.self.nodes c.in_ok-later.later in
+    let later = cell c.advance_watched.new.self.nodes c.in_ok-later.later in
     let trimmed = c.in-Ok.ensures in
     record {
       near = record { is_tree = trimmed.tree; low = omega (arith, trimmed.level); near = fits_near _ trimmed.fits };
@@ -31,10 +30,10 @@ returns-in-Ok-clause-later g c =
 
 pub returns-in-Ok-clause-takes : goal.returns-in-Ok-clause-takes
 returns-in-Ok-clause-takes g c =
-    subst (λ (s : Spent). s.used ≤ c.args.leaper.now.spent.used + 14 ^ (c.args.tree.level + 3)) (sym c.in-Ok.ensures.spent)
-    (one_step _ _ c.args.tree.level (c.in_ok-later.ensures.costs 1 (omega arith)).most)
+    takes_before c.args.leaper.now.spent.used c.advance_watched.new.self.spent c.shifted.new.self.spent 1 c.args.tree.level c.args.generations c.in-Ok.ensures.spent
+    (takes_one c.args.leaper.now c.advance_watched.new.self c.args.tree.level c.args.generations c.in_ok-later.ensures.costs)
 
 pub returns-in-Err-Memory-clause-takes : goal.returns-in-Err-Memory-clause-takes
 returns-in-Err-Memory-clause-takes g c =
-    subst (λ (s : Spent). s.used ≤ c.args.leaper.now.spent.used + 14 ^ (c.args.tree.level + 3)) (sym c.in-Err-Memory.ensures.spent)
-    (one_step _ _ c.args.tree.level (c.in_ok-later.ensures.costs 1 (omega arith)).most)
+    takes_before c.args.leaper.now.spent.used c.advance_watched.new.self.spent c.shifted.new.self.spent 1 c.args.tree.level c.args.generations c.in-Err-Memory.ensures.spent
+    (takes_one c.args.leaper.now c.advance_watched.new.self c.args.tree.level c.args.generations c.in_ok-later.ensures.costs)

@@ -1,0 +1,145 @@
+-- What is found of the plane of a file's pattern, and what finding it may need.
+use Rattle.std.proofs.Common.{◌≡◌, ℕ, ◌+◌, ◌≤◌, List, Option, Result, Ok, Err, refl, sym, subst, ◌∙◌, inl, inr, arith}
+use Rattle.std.specs.Prelude.{ℤ, ◌-ℤ◌, IfOk, IfErr}
+use Rattle.ca_plane.specs.Plane.{Picture, IsLive, shifted}
+use Rattle.ca_plane.specs.Plane as plane
+use Rattle.ca_plane.specs.Generations.{after, cells_after}
+use Rattle.ca_plane.proofs.Shifts.{cell-shifted}
+use Rattle.ca_quad.specs.declared.node.Node.{Node}
+use Rattle.ca_quad.specs.Trees as trees
+use Rattle.ca_quad.specs.Trimmed.{HoldsAll}
+use Rattle.ca_quad.proofs.Growth.{below_or_not}
+use Rattle.ca_rule.specs.TableNext.{TableRule}
+use Rattle.ca_rule.specs.Rule.{next_of}
+use Rattle.ca_run.proofs.After.{after_same}
+use Rattle.ca_claims.specs.declared.claims.asks.Asks.{Asks}
+use Rattle.ca_claims.specs.declared.claims.asks.Wanted.{Wanted}
+use Rattle.ca_claims.specs.declared.claims.asks.Wanted.TheVariants.{Own, Other, NoCells}
+use Rattle.ca_claims.specs.declared.claims.asks.Barred.{Barred}
+use Rattle.ca_claims.specs.declared.claims.asks.Barred.TheVariants.{Nothing, InPlace, Anywhere, EmptyPlane}
+use Rattle.ca_claims.specs.declared.claims.line.Kind.{Kind}
+use Rattle.ca_claims.specs.declared.identity.Identity.{Identity}
+use Rattle.ca_claims.specs.declared.identity.Identity.TheVariants.{Empty, StillLife, Oscillator, Spaceship, Dies, Unknown}
+use Rattle.ca_claims.specs.declared.identity.Unidentified.{Unidentified}
+use Rattle.ca_claims.specs.declared.ruled.Ruled.{Ruled}
+use Rattle.ca_claims.specs.declared.verdict.Cause.{Cause}
+use Rattle.ca_claims.specs.declared.verdict.Cause.TheVariants.{NoFile, BadTable, BadPattern, BadRule, StateTooLarge, MixedRules, TooManyCells, Work, Memory}
+use Rattle.ca_claims.specs.Identified.{IsTrueWithin, IsIdentity, IsIdentified, IsIdentifiedAfter, HoldsSmallPattern, MayNeedWork, MayNeedWorkAfter, IsUnidentifiedFor, IsUnidentified, IsUnidentifiedAfterFor, IsUnidentifiedAfter}
+use Rattle.ca_claims.specs.Truth.{asks_of, wanted_cells, IsTrueClaim, ShowsNothingBarred}
+use Rattle.ca_claims.specs.inner.Patterns.{rule_of}
+use Rattle.ca_claims.specs.inner.Ready.{IsReady}
+use Rattle.ca_claims.specs.inner.Stages.{TakesRunAndSteps}
+use Rattle.ca_claims.specs.inner.Subjects.{ShowsTree}
+use Rattle.ca_claims.proofs.Shown.{small_shown}
+use Rattle.ca_claims.proofs.Stages.{run_more}
+
+module _ (nodes : List Node) (bytes : List ℕ) (tables : List TableRule) (ruled : Ruled) (ready : IsReady nodes bytes tables ruled) where
+  -- a file means the cells that its tree shows
+  pub file_shows : ShowsTree nodes ruled.pattern.tree ready.read.cells
+  file_shows = λ x y. sym (ready.read.loaded.shows x y)
+
+  -- which are of small states
+  pub file_holds : HoldsSmallPattern bytes tables ready.read.cells (rule_of ruled)
+  file_holds = record {
+    generation = ruled.pattern.generation;
+    holds = record { rule_text = ruled.pattern.rule_text.items; holds = ready.read.loaded.holds; names = ready.names };
+    small = small_shown (trees.cell nodes ruled.pattern.tree) (plane.cell ready.read.cells) ready.read.loaded.shows (rule_of ruled) ready.small;
+  }
+
+  -- and for which a run and steps may need so much work, where all of it is used up
+  pub file_needs : (old new work n limit : ℕ) → old ≡ 0 → new ≡ work → TakesRunAndSteps old new ruled.pattern.tree.level n (cells_after (next_of (rule_of ruled)) (trees.cell nodes ruled.pattern.tree)) limit
+      → MayNeedWorkAfter work n (after (next_of (rule_of ruled)) ready.read.cells) limit
+  file_needs old new work n limit none all takes start digits level first held short some holds =
+      let next = next_of (rule_of ruled) in
+      let tree = ruled.pattern.tree in
+      let same : (m : ℕ) (x y : ℤ) → cells_after next (trees.cell nodes tree) m x y ≡ after next ready.read.cells m x y =
+      λ m x y. after_same next (trees.cell nodes tree) (plane.cell ready.read.cells) m ready.read.loaded.shows x y in
+      elim (below_or_not start tree.level) [
+        | inl less ↦ absurd (ready.read.loaded.trimmed start first less (λ x y live. held x y (λ dead. live (same 0 x y ∙ dead))))
+        | inr high ↦
+            let most = takes digits level short some (λ m less x y live. holds m less x y (λ dead. live (same (n + m) x y ∙ dead))) in
+            let more = run_more n tree.level start digits (omega (arith, high)) in
+            omega (arith, none, all, most, more)
+      ]
+
+-- ---- after no generations
+
+-- what is true of one picture is true of another one with the same cells
+module _ (next : List ℕ → ℕ) (p q : Picture) (same : (x y : ℤ) → plane.cell p x y ≡ plane.cell q x y) where
+  same_later : (n : ℕ) (x y : ℤ) → after next p n x y ≡ after next q n x y
+  same_later n x y = after_same next (plane.cell p) (plane.cell q) n same x y
+
+  pub same_live : IsLive p → IsLive q
+  same_live live = (live.0, live.1, λ none. live.2 (same live.0 live.1 ∙ none))
+
+  same_shifted : (dx dy x y : ℤ) → plane.cell (shifted p dx dy) x y ≡ plane.cell (shifted q dx dy) x y
+  same_shifted dx dy x y = cell-shifted p dx dy x y ∙ same (x -ℤ dx) (y -ℤ dy) ∙ sym (cell-shifted q dx dy x y)
+
+  same_claimed : (wanted : Wanted) (dx dy x y : ℤ) → plane.cell (shifted (wanted_cells wanted p p) dx dy) x y ≡ plane.cell (shifted (wanted_cells wanted q q) dx dy) x y
+  same_claimed Own dx dy x y = same_shifted dx dy x y
+  same_claimed Other dx dy x y = same_shifted dx dy x y
+  same_claimed NoCells dx dy x y = refl
+
+  same_barred : (barred : Barred) (m : ℕ) → ShowsNothingBarred next p barred m → ShowsNothingBarred next q barred m
+  same_barred Nothing m none = tt
+  same_barred InPlace m changed = (changed.0, changed.1, λ e. changed.2 (same_later m changed.0 changed.1 ∙ e ∙ sym (same changed.0 changed.1)))
+  same_barred Anywhere m nowhere = λ dx dy is. nowhere dx dy (λ x y. same_later m x y ∙ is x y ∙ sym (same_shifted dx dy x y))
+  same_barred EmptyPlane m live = (live.0, live.1, λ none. live.2 (same_later m live.0 live.1 ∙ none))
+
+  pub same_claim : (asks : Asks) → IsTrueClaim next p p asks → IsTrueClaim next q q asks
+  same_claim asks true = record {
+    live = λ must. same_live (true.live must);
+    stands = λ x y. sym (same_later asks.generations x y) ∙ true.stands x y ∙ same_claimed asks.wanted asks.dx asks.dy x y;
+    least = λ m some less. same_barred asks.barred m (true.least m some less);
+  }
+
+  same_within : (limit : ℕ) (kind : Kind) → IsTrueWithin next p limit kind → IsTrueWithin next q limit kind
+  same_within limit kind true = record { numbers = true.numbers; within = true.within; holds = same_claim (asks_of kind) true.holds }
+
+module _ (next : List ℕ → ℕ) (p q : Picture) (same : (x y : ℤ) → plane.cell p x y ≡ plane.cell q x y) (limit : ℕ) where
+  other_way : (x y : ℤ) → plane.cell q x y ≡ plane.cell p x y
+  other_way x y = sym (same x y)
+
+  pub same_identity : (identity : Identity) → IsIdentity next p limit identity → IsIdentity next q limit identity
+  same_identity Empty dead = λ live. dead (same_live next q p other_way live)
+  same_identity StillLife true = same_within next p q same limit _ true
+  same_identity (Oscillator period) true = same_within next p q same limit _ true
+  same_identity (Spaceship period dx dy) true = same_within next p q same limit _ true
+  same_identity (Dies generations) true = same_within next p q same limit _ true
+  same_identity (Unknown growth) (live, none, later, stands, grown) = (
+    same_live next p q same live,
+    (λ kind one some within true. none kind one some within (same_claim next q p other_way (asks_of kind) true)),
+    later,
+    (λ x y. sym (same_later next p q same limit x y) ∙ stands x y),
+    grown,
+  )
+
+-- so what is found of a file's pattern after no generations is found of it
+pub identified_now : (bytes : List ℕ) (tables : List TableRule) (limit : ℕ) (result : Result Identity Unidentified) → IfOk result (IsIdentifiedAfter bytes tables 0 limit) → IfOk result (IsIdentified bytes tables limit)
+identified_now bytes tables limit (Ok identity) (cells, rule, holds, (later, stands, is)) = (cells, rule, holds, same_identity (next_of rule) later cells (λ x y. sym (stands x y)) limit identity is)
+identified_now bytes tables limit (Err why) none = tt
+
+-- steps alone may need what they may need after no generations
+needs_now : (work : ℕ) (stages : ℕ → ℤ → ℤ → ℕ) (limit : ℕ) → 1 ≤ limit → MayNeedWorkAfter work 0 stages limit → MayNeedWork work stages limit
+needs_now work stages limit more need level some holds =
+    let most = need level 0 level some (holds 0 (omega (arith, more))) (omega arith) some
+    (λ m less. let same : m ≡ 0 + m = omega arith in subst (λ k. HoldsAll level (stages k)) same (holds m less)) in
+    omega (arith, most)
+
+-- and where it isn't found out, this is the reason
+reason_now : (bytes : List ℕ) (tables : List TableRule) (work limit : ℕ) → 1 ≤ limit → (cause : Cause) (line : Option ℕ) → IsUnidentifiedAfterFor bytes tables work 0 limit cause line
+    → IsUnidentifiedFor bytes tables work limit cause line
+reason_now bytes tables work limit more NoFile line h = h
+reason_now bytes tables work limit more (BadTable fault) line h = h
+reason_now bytes tables work limit more (BadPattern fault) line h = h
+reason_now bytes tables work limit more (BadRule fault) line h = h
+reason_now bytes tables work limit more StateTooLarge line h = h
+reason_now bytes tables work limit more MixedRules line h = h
+reason_now bytes tables work limit more TooManyCells line h = h
+reason_now bytes tables work limit more Work line (none, cells, rule, holds, need) = (none, cells, rule, holds, needs_now work (after (next_of rule) cells) limit more need)
+reason_now bytes tables work limit more Memory line h = h
+
+pub unidentified_now : (bytes : List ℕ) (tables : List TableRule) (work limit : ℕ) → 1 ≤ limit → (result : Result Identity Unidentified) → IfErr result (IsUnidentifiedAfter bytes tables work 0 limit)
+    → IfErr result (IsUnidentified bytes tables work limit)
+unidentified_now bytes tables work limit more (Ok identity) none = tt
+unidentified_now bytes tables work limit more (Err why) (reason, text) = (reason_now bytes tables work limit more why.cause why.line reason, text)
