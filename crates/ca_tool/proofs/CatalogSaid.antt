@@ -1,5 +1,5 @@
 -- What the text of entries says.
-use Rattle.std.proofs.Common.{◌≡◌, ℕ, true, false, List, [], ◌∷◌, ◌++◌, map, None, Some, codes, decimal, nat_eq, refl, ap, sym, ◌∙◌, inl, inr, subst, arith}
+use Rattle.std.proofs.Common.{◌≡◌, ℕ, ◌+◌, true, false, List, [], ◌∷◌, ◌++◌, map, None, Some, codes, decimal, nat_eq, refl, ap, sym, ◌∙◌, inl, inr, subst, arith}
 use Rattle.std.specs.Prelude.{IsSome}
 use Rattle.std.specs.Fmt.{signed_decimal}
 use Rattle.std.specs.List.{flat_map, list_any}
@@ -11,10 +11,12 @@ use Rattle.std.proofs.lemmas.Slice.Eq.{bytes_eq-Decides}
 use Rattle.ca_plane.specs.Bytes.{Every, IsWord, lines_of}
 use Rattle.ca_plane.specs.Plane.{Picture}
 use Rattle.ca_plane.proofs.Decimals.{decimal_writes, signed_writes}
+use Rattle.ca_plane.proofs.Fronts.{every_append}
 use Rattle.ca_rule.specs.TableNext.{TableRule}
 use Rattle.ca_claims.specs.declared.claims.line.Kind.TheVariants as kind
 use Rattle.ca_claims.specs.declared.file.File.{File}
 use Rattle.ca_claims.specs.declared.identity.Identity.{Identity}
+use Rattle.ca_claims.specs.declared.identity.Growth.{Growth}
 use Rattle.ca_claims.specs.declared.identity.Identity.TheVariants.{Empty, StillLife, Oscillator, Spaceship, Dies, Unknown}
 use Rattle.ca_claims.specs.Text.{ClaimTextLine, Version, Rule, Load, Claims, greatest_shift, is_second, path_of, ClaimLinesSay}
 use Rattle.ca_claims.specs.Identified.{IsIdentity}
@@ -26,17 +28,43 @@ use Rattle.ca_tool.specs.declared.entry.Subject.{Subject}
 use Rattle.ca_tool.specs.declared.entry.Outcome.{Outcome}
 use Rattle.ca_tool.specs.declared.entry.Outcome.TheVariants.{Unnameable, Identified, Refused}
 use Rattle.ca_tool.specs.declared.entry.Entry.{Entry}
-use Rattle.ca_tool.specs.Printed.{cause_text, at_line, generations_word}
+use Rattle.ca_tool.specs.Printed.{cause_text, at_line, generations_word, side_length}
 use Rattle.ca_tool.specs.Names.{is_claim_path, is_taken}
-use Rattle.ca_tool.specs.Catalog.{identity_line, line_byte, entry_lines, outcome_lines, rule_line, version_line, catalog_text, is_death, IsContentOutcome, IsEntry, AreEntries}
-use Rattle.ca_tool.specs.CatalogSays.{claim_line, identity_says, outcome_says, entry_says, version_says, AreRuleWords, SaysItsClaims}
+use Rattle.ca_tool.specs.Catalog.{cells_word, growth_text, none_text, later_text, later_line, found_line, claims_death, identity_line, line_byte, entry_lines, outcome_lines, rule_line, version_line, catalog_text, is_death, IsContentOutcome, IsEntry, AreEntries}
+use Rattle.ca_tool.specs.CatalogSays.{claim_line, identity_says, found_says, outcome_says, entry_says, version_says, AreRuleWords, SaysItsClaims}
 use Rattle.ca_tool.proofs.Saying.{is_inner, TextSays, says_none, says_then, says_words, says_comment, inner_word, line_end, line_more}
-use Rattle.ca_tool.proofs.NameWords.{word_by_test, path_word, free_word, digits_word, integer_word, decimal_inner, line_bytes_inner}
+use Rattle.ca_tool.proofs.NameWords.{word_by_test, path_word, free_word, digits_word, integer_word, decimal_inner, signed_inner, line_bytes_inner}
 use Rattle.ca_tool.proofs.CauseLines.{cause_inner, at_inner}
 use Rattle.ca_tool.proofs.Statuses.{any_more}
 
+-- the words on a pattern of which no claim is true are on one line
 generations_inner : (n : ℕ) → Every is_inner (generations_word n)
 generations_inner n = elim (cases_Bool (nat_eq n 1)) [ inl e ↦ rw e refl | inr e ↦ rw e refl ]
+
+cells_inner : (n : ℕ) → Every is_inner (cells_word n)
+cells_inner n = elim (cases_Bool (nat_eq n 1)) [ inl e ↦ rw e refl | inr e ↦ rw e refl ]
+
+-- a text with another one on the same line after it
+inner_then : (text more : List ℕ) → Every is_inner text → Every is_inner more → Every is_inner (text ++ more)
+inner_then text more first then = every_append is_inner text more first then
+
+growth_inner : (growth : Growth) → Every is_inner (growth_text growth)
+growth_inner growth =
+    let width = signed_decimal (side_length growth.bounds.x0 growth.bounds.x1) in
+    let height = signed_decimal (side_length growth.bounds.y0 growth.bounds.y1) in
+    let by = codes " by " ++ height in
+    let box = codes ", in a box of " ++ (width ++ by) in
+    inner_then (decimal growth.cells) (cells_word growth.cells ++ box) (decimal_inner growth.cells) (inner_then (cells_word growth.cells) box (cells_inner growth.cells)
+    (inner_then (codes ", in a box of ") (width ++ by) refl (inner_then width by (signed_inner (side_length growth.bounds.x0 growth.bounds.x1))
+    (inner_then (codes " by ") height refl (signed_inner (side_length growth.bounds.y0 growth.bounds.y1))))))
+
+none_inner : (limit last : ℕ) (growth : Growth) → Every is_inner (none_text limit last growth)
+none_inner limit last growth =
+    let after = codes ", after " ++ decimal last in
+    let told = codes ": " ++ (growth_text growth ++ after) in
+    inner_then (codes "none of these within " ++ decimal limit) (generations_word limit ++ told) (inner_then (codes "none of these within ") (decimal limit) refl (decimal_inner limit))
+    (inner_then (generations_word limit) told (generations_inner limit) (inner_then (codes ": ") (growth_text growth ++ after) refl
+    (inner_then (growth_text growth) after (growth_inner growth) (inner_then (codes ", after ") (decimal last) refl (decimal_inner last)))))
 
 -- the line on what a pattern is says its claim, after lines that load the name, and begin with the version where the pattern dies
 identity_said : (next : List ℕ → ℕ) (cells : Picture) (limit : ℕ) (earlier : List ClaimTextLine) (name : List ℕ) (identity : Identity)
@@ -64,9 +92,35 @@ identity_said next cells limit earlier name (Dies generations) is word loaded se
     let writes = decimal_writes generations (omega (arith, good.1)) in
     says_words earlier (codes "dies" ∷ name ∷ decimal generations ∷ []) (claim_line name (kind.Dies generations)) (refl, (word, (digits_word (decimal generations) writes.0, tt))) refl
     ((decimal generations, refl, writes.0, writes.1, refl), second refl) (good, (loaded, tt))
-identity_said next cells limit earlier name Unknown is word loaded second =
-    says_comment earlier _ (line_more name _ (inner_word name word) (line_more (codes ": none of these within ") _ refl
-    (line_more (decimal limit) _ (decimal_inner limit) (line_more (generations_word limit) _ (generations_inner limit) line_end))))
+identity_said next cells limit earlier name (Unknown growth) is word loaded second =
+    says_comment earlier _ (line_more name _ (inner_word name word) (line_more (codes ": ") _ refl (line_more (none_text limit limit growth) _ (none_inner limit limit growth) line_end)))
+
+-- the words on what a plane is some generations on are on one line
+later_inner : (n limit : ℕ) (identity : Identity) → Every is_inner (later_text n limit identity)
+later_inner n limit Empty = refl
+later_inner n limit StillLife = refl
+later_inner n limit (Oscillator period) = inner_then (codes "oscillator ") (decimal period) refl (decimal_inner period)
+later_inner n limit (Spaceship period dx dy) =
+    let down = 32 ∷ signed_decimal dy in
+    let vector = 32 ∷ (signed_decimal dx ++ down) in
+    inner_then (codes "spaceship ") (decimal period ++ vector) refl (inner_then (decimal period) vector (decimal_inner period) (inner_then (signed_decimal dx) down (signed_inner dx) (signed_inner dy)))
+later_inner n limit (Dies generations) = inner_then (codes "dies ") (decimal generations) refl (decimal_inner generations)
+later_inner n limit (Unknown growth) = none_inner limit (n + limit) growth
+
+-- so the line on it says nothing
+later_said : (n limit : ℕ) (earlier : List ClaimTextLine) (name : List ℕ) (identity : Identity) → IsWord name → TextSays earlier (later_line n limit name identity) []
+later_said n limit earlier name identity word =
+    says_comment earlier _ (line_more name _ (inner_word name word) (line_more (codes " after " ++ decimal n) _ (inner_then (codes " after ") (decimal n) refl (decimal_inner n))
+    (line_more (generations_word n) _ (generations_inner n) (line_more (codes ": ") _ refl (line_more (later_text n limit identity) _ (later_inner n limit identity) line_end)))))
+
+-- the line on what is found says the claim where it is found of the pattern itself
+found_said : (next : List ℕ → ℕ) (cells : Picture) (n limit : ℕ) (earlier : List ClaimTextLine) (name : List ℕ) (identity : Identity)
+    → IsIdentity next cells limit identity → IsWord name → IsSome (path_of earlier name) → (nat_eq n 0 ≡ true → is_death (Identified identity) ≡ true → is_second earlier ≡ true)
+    → TextSays earlier (found_line n limit name identity) (found_says n name identity)
+found_said next cells n limit earlier name identity is word loaded second = elim (cases_Bool (nat_eq n 0)) [
+  | inl e ↦ rw e (identity_said next cells limit earlier name identity is word loaded (second e))
+  | inr e ↦ rw e (later_said n limit earlier name identity word)
+]
 
 -- a name that is loaded
 loaded_now : (earlier : List ClaimTextLine) (name path : List ℕ) → path_of earlier name ≡ None → IsSome (path_of (earlier ++ Load name path ∷ []) name)
@@ -83,34 +137,34 @@ second_stays (Load name path ∷ ls) more h = absurd (false≢true h)
 second_stays (Claims claim ∷ ls) more h = absurd (false≢true h)
 
 -- the lines on a file say its name and its claim, after lines that don't load the name
-outcome_said : (tables : List TableRule) (work limit : ℕ) (earlier : List ClaimTextLine) (name path : List ℕ) (content : Content) (outcome : Outcome)
-    → is_claim_path path ≡ true → IsContentOutcome tables work limit content outcome → IsWord name → path_of earlier name ≡ None → (is_death outcome ≡ true → is_second earlier ≡ true)
-    → TextSays earlier (outcome_lines limit name path outcome) (outcome_says name path outcome)
-outcome_said tables work limit earlier name path content Unnameable fits is word free second = absurd is
-outcome_said tables work limit earlier name path content (Refused why) fits is word free second =
+outcome_said : (tables : List TableRule) (work n limit : ℕ) (earlier : List ClaimTextLine) (name path : List ℕ) (content : Content) (outcome : Outcome)
+    → is_claim_path path ≡ true → IsContentOutcome tables work n limit content outcome → IsWord name → path_of earlier name ≡ None → (nat_eq n 0 ≡ true → is_death outcome ≡ true → is_second earlier ≡ true)
+    → TextSays earlier (outcome_lines n limit name path outcome) (outcome_says n name path outcome)
+outcome_said tables work n limit earlier name path content Unnameable fits is word free second = absurd is
+outcome_said tables work n limit earlier name path content (Refused why) fits is word free second =
     says_comment earlier _ (line_more name _ (inner_word name word) (line_more (codes ": ") _ refl (line_more path _ (inner_word path (path_word path fits)) (line_more (codes ": ") _ refl
     (line_more (cause_text why.cause) _ (cause_inner why.cause) (line_more (at_line why.line) _ (at_inner why.line) line_end))))))
-outcome_said tables work limit earlier name path (Missing cause) (Identified identity) fits is word free second = absurd is
-outcome_said tables work limit earlier name path (Bytes bytes) (Identified identity) fits (cells, rule, holds, is) word free second =
-    says_then earlier _ _ (Load name path ∷ []) (identity_says name identity)
+outcome_said tables work n limit earlier name path (Missing cause) (Identified identity) fits is word free second = absurd is
+outcome_said tables work n limit earlier name path (Bytes bytes) (Identified identity) fits (cells, rule, holds, (later, stands, is)) word free second =
+    says_then earlier _ _ (Load name path ∷ []) (found_says n name identity)
     (says_words earlier (codes "load" ∷ name ∷ path ∷ []) (Load name path) (refl, (word, (path_word path fits, tt))) refl refl free)
-    (identity_said _ cells limit (earlier ++ Load name path ∷ []) name identity is word (loaded_now earlier name path free) (λ dies. second_stays earlier (Load name path ∷ []) (second dies)))
+    (found_said _ later n limit (earlier ++ Load name path ∷ []) name identity is word (loaded_now earlier name path free) (λ now dies. second_stays earlier (Load name path ∷ []) (second now dies)))
 
 -- the comment on a file that can't be named says nothing
-unnameable_said : (limit : ℕ) (earlier : List ClaimTextLine) (name path : List ℕ) (outcome : Outcome) → outcome ≡ Unnameable → IsWord name
-    → TextSays earlier (outcome_lines limit name path outcome) (outcome_says name path outcome)
-unnameable_said limit earlier name path outcome e word =
-    subst (λ (o : Outcome). TextSays earlier (outcome_lines limit name path o) (outcome_says name path o)) (sym e)
+unnameable_said : (n limit : ℕ) (earlier : List ClaimTextLine) (name path : List ℕ) (outcome : Outcome) → outcome ≡ Unnameable → IsWord name
+    → TextSays earlier (outcome_lines n limit name path outcome) (outcome_says n name path outcome)
+unnameable_said n limit earlier name path outcome e word =
+    subst (λ (o : Outcome). TextSays earlier (outcome_lines n limit name path o) (outcome_says n name path o)) (sym e)
     (says_comment earlier _ (line_more name _ (inner_word name word) (line_more (codes ": ") _ refl (line_more (map line_byte path) _ (line_bytes_inner path)
     (line_more (codes ": no claim text can name this path") _ refl line_end)))))
 
-entry_said : (tables : List TableRule) (work limit : ℕ) (taken : List (List ℕ)) (earlier : List ClaimTextLine) (subject : Subject) (entry : Entry) → IsEntry tables work limit taken subject entry
-    → path_of earlier entry.name.items ≡ None → (is_death entry.outcome ≡ true → is_second earlier ≡ true) → TextSays earlier (entry_lines limit entry) (entry_says entry)
-entry_said tables work limit taken earlier subject entry is free second =
+entry_said : (tables : List TableRule) (work n limit : ℕ) (taken : List (List ℕ)) (earlier : List ClaimTextLine) (subject : Subject) (entry : Entry) → IsEntry tables work n limit taken subject entry
+    → path_of earlier entry.name.items ≡ None → (nat_eq n 0 ≡ true → is_death entry.outcome ≡ true → is_second earlier ≡ true) → TextSays earlier (entry_lines n limit entry) (entry_says n entry)
+entry_said tables work n limit taken earlier subject entry is free second =
     let word = free_word taken subject.path.now entry.name.items is.name in
     elim is.outcome [
-      | inl (none, e) ↦ unnameable_said limit earlier entry.name.items entry.path.now entry.outcome e word
-      | inr (fits, of) ↦ outcome_said tables work limit earlier entry.name.items entry.path.now subject.content entry.outcome (ap is_claim_path is.path ∙ fits) of word free second
+      | inl (none, e) ↦ unnameable_said n limit earlier entry.name.items entry.path.now entry.outcome e word
+      | inr (fits, of) ↦ outcome_said tables work n limit earlier entry.name.items entry.path.now subject.content entry.outcome (ap is_claim_path is.path ∙ fits) of word free second
     ]
 
 -- equal bytes are so in either order
@@ -120,16 +174,23 @@ other_way a b h = elim (cases_Bool (bytes_eq b a)) [
   | inr e ↦ e
 ]
 
+-- a claim loads no name
+claim_loads : (name other : List ℕ) (identity : Identity) → path_of (identity_says name identity) other ≡ None
+claim_loads name other Empty = refl
+claim_loads name other StillLife = refl
+claim_loads name other (Oscillator period) = refl
+claim_loads name other (Spaceship period dx dy) = refl
+claim_loads name other (Dies generations) = refl
+claim_loads name other (Unknown growth) = refl
+
+found_loads : (n : ℕ) (name other : List ℕ) (identity : Identity) → path_of (found_says n name identity) other ≡ None
+found_loads n name other identity = elim (cases_Bool (nat_eq n 0)) [ inl e ↦ rw e (claim_loads name other identity) | inr e ↦ rw e refl ]
+
 -- the lines on a file load no other name
-no_other : (name path other : List ℕ) (outcome : Outcome) → bytes_eq name other ≡ false → path_of (outcome_says name path outcome) other ≡ None
-no_other name path other Unnameable h = refl
-no_other name path other (Refused why) h = refl
-no_other name path other (Identified Empty) h = rw h refl
-no_other name path other (Identified StillLife) h = rw h refl
-no_other name path other (Identified (Oscillator period)) h = rw h refl
-no_other name path other (Identified (Spaceship period dx dy)) h = rw h refl
-no_other name path other (Identified (Dies generations)) h = rw h refl
-no_other name path other (Identified Unknown) h = rw h refl
+no_other : (n : ℕ) (name path other : List ℕ) (outcome : Outcome) → bytes_eq name other ≡ false → path_of (outcome_says n name path outcome) other ≡ None
+no_other n name path other Unnameable h = refl
+no_other n name path other (Refused why) h = refl
+no_other n name path other (Identified identity) h = rw h (found_loads n name other identity)
 
 -- a name that is none of those taken and of one more
 free_after : (taken : List (List ℕ)) (name other : List ℕ) → is_taken (taken ++ name ∷ []) other ≡ false → (is_taken taken other ≡ false) × (bytes_eq other name ≡ false)
@@ -138,21 +199,21 @@ free_after taken name other h =
     (parts.0, (or_parts (bytes_eq other name) false parts.1).0)
 
 -- the text of entries says their names and claims, after lines that load none of their names, and begin with the version where some pattern dies
-entries_said : (tables : List TableRule) (work limit : ℕ) (taken : List (List ℕ)) (earlier : List ClaimTextLine) (subjects : List Subject) (entries : List Entry)
-    → AreEntries tables work limit taken subjects entries → ((name : List ℕ) → is_taken taken name ≡ false → path_of earlier name ≡ None)
-    → (list_any (λ (e : Entry). is_death e.outcome) entries ≡ true → is_second earlier ≡ true) → TextSays earlier (flat_map (entry_lines limit) entries) (flat_map entry_says entries)
-entries_said tables work limit taken earlier [] [] all free second = says_none earlier
-entries_said tables work limit taken earlier [] (e ∷ es) all free second = absurd all
-entries_said tables work limit taken earlier (s ∷ ss) [] all free second = absurd all
-entries_said tables work limit taken earlier (s ∷ ss) (e ∷ es) all free second =
-    let one = entry_said tables work limit taken earlier s e all.0 (free e.name.items all.0.name.new) (λ dies. second (or_left (is_death e.outcome) (list_any (λ (f : Entry). is_death f.outcome) es) dies)) in
-    says_then earlier _ _ (entry_says e) (flat_map entry_says es) one
-    (entries_said tables work limit (taken ++ e.name.items ∷ []) (earlier ++ entry_says e) ss es all.1
+entries_said : (tables : List TableRule) (work n limit : ℕ) (taken : List (List ℕ)) (earlier : List ClaimTextLine) (subjects : List Subject) (entries : List Entry)
+    → AreEntries tables work n limit taken subjects entries → ((name : List ℕ) → is_taken taken name ≡ false → path_of earlier name ≡ None)
+    → (nat_eq n 0 ≡ true → list_any (λ (e : Entry). is_death e.outcome) entries ≡ true → is_second earlier ≡ true) → TextSays earlier (flat_map (entry_lines n limit) entries) (flat_map (entry_says n) entries)
+entries_said tables work n limit taken earlier [] [] all free second = says_none earlier
+entries_said tables work n limit taken earlier [] (e ∷ es) all free second = absurd all
+entries_said tables work n limit taken earlier (s ∷ ss) [] all free second = absurd all
+entries_said tables work n limit taken earlier (s ∷ ss) (e ∷ es) all free second =
+    let one = entry_said tables work n limit taken earlier s e all.0 (free e.name.items all.0.name.new) (λ now dies. second now (or_left (is_death e.outcome) (list_any (λ (f : Entry). is_death f.outcome) es) dies)) in
+    says_then earlier _ _ (entry_says n e) (flat_map (entry_says n) es) one
+    (entries_said tables work n limit (taken ++ e.name.items ∷ []) (earlier ++ entry_says n e) ss es all.1
     (λ name new.
     let parts = free_after taken e.name.items name new in
-    path_of-append earlier (entry_says e) name ∙ ap (λ p. option_or p (path_of (entry_says e) name)) (free name parts.0)
-    ∙ no_other e.name.items e.path.now name e.outcome (other_way name e.name.items parts.1))
-    (λ dies. second_stays earlier (entry_says e) (second (or_right (is_death e.outcome) (list_any (λ (f : Entry). is_death f.outcome) es) dies))))
+    path_of-append earlier (entry_says n e) name ∙ ap (λ p. option_or p (path_of (entry_says n e) name)) (free name parts.0)
+    ∙ no_other n e.name.items e.path.now name e.outcome (other_way name e.name.items parts.1))
+    (λ now dies. second_stays earlier (entry_says n e) (second now (or_right (is_death e.outcome) (list_any (λ (f : Entry). is_death f.outcome) es) dies))))
 
 -- what the lines of rule files say
 abbrev rules_say : List File → List ClaimTextLine
@@ -170,26 +231,26 @@ rules_load [] name = refl
 rules_load (f ∷ fs) name = rules_load fs name
 
 -- the line of the version says it
-version_said : (entries : List Entry) → TextSays [] (version_line entries) (version_says entries)
-version_said entries = elim (cases_Bool (list_any (λ (e : Entry). is_death e.outcome) entries)) [
+version_said : (n : ℕ) (entries : List Entry) → TextSays [] (version_line n entries) (version_says n entries)
+version_said n entries = elim (cases_Bool (claims_death n entries)) [
   | inl e ↦ rw e (says_words [] (codes "claims" ∷ codes "2" ∷ []) Version (refl, (refl, tt)) refl (refl, refl) tt)
   | inr e ↦ rw e (says_none [])
 ]
 
-version_loads : (entries : List Entry) (name : List ℕ) → path_of (version_says entries) name ≡ None
-version_loads entries name = elim (cases_Bool (list_any (λ (e : Entry). is_death e.outcome) entries)) [ inl e ↦ rw e refl | inr e ↦ rw e refl ]
+version_loads : (n : ℕ) (entries : List Entry) (name : List ℕ) → path_of (version_says n entries) name ≡ None
+version_loads n entries name = elim (cases_Bool (claims_death n entries)) [ inl e ↦ rw e refl | inr e ↦ rw e refl ]
 
 -- the whole text says all that
 pub catalog_said : SaysItsClaims
-catalog_said subjects rules work limit text code words catalog =
+catalog_said subjects rules work n limit text code words catalog =
     let entries = catalog.entries in
-    let version = version_says entries in
+    let version = version_says n entries in
     let before = version ++ rules_say rules in
-    let all = says_then [] (version_line entries) (flat_map rule_line rules ++ flat_map (entry_lines limit) entries) version (rules_say rules ++ flat_map entry_says entries) (version_said entries)
-    (says_then version (flat_map rule_line rules) (flat_map (entry_lines limit) entries) (rules_say rules) (flat_map entry_says entries) (rules_said version rules words)
-    (entries_said catalog.tables work limit [] before subjects entries catalog.holds
-    (λ name new. path_of-append version (rules_say rules) name ∙ ap (λ p. option_or p (path_of (rules_say rules) name)) (version_loads entries name) ∙ rules_load rules name)
-    (λ dies. second_stays version (rules_say rules) (rw dies refl)))) in
+    let all = says_then [] (version_line n entries) (flat_map rule_line rules ++ flat_map (entry_lines n limit) entries) version (rules_say rules ++ flat_map (entry_says n) entries) (version_said n entries)
+    (says_then version (flat_map rule_line rules) (flat_map (entry_lines n limit) entries) (rules_say rules) (flat_map (entry_says n) entries) (rules_said version rules words)
+    (entries_said catalog.tables work n limit [] before subjects entries catalog.holds
+    (λ name new. path_of-append version (rules_say rules) name ∙ ap (λ p. option_or p (path_of (rules_say rules) name)) (version_loads n entries name) ∙ rules_load rules name)
+    (λ now dies. second_stays version (rules_say rules) (rw (now, dies) refl)))) in
     let here : lines_of text ≡ all.lines =
-    ap lines_of catalog.lines ∙ ap lines_of (sym (append-nil (catalog_text limit rules entries))) ∙ all.split [] ∙ append-nil all.lines in
+    ap lines_of catalog.lines ∙ ap lines_of (sym (append-nil (catalog_text n limit rules entries))) ∙ all.split [] ∙ append-nil all.lines in
     record { said = all.said; reads = subst (λ ls. ClaimLinesSay [] ls all.said) (sym here) all.good; says = all.all }

@@ -1,5 +1,5 @@
 -- What is drawn of a file, and why nothing is.
-use Rattle.std.proofs.Common.{◌≡◌, ◌≢◌, ℕ, ℤ, List, Option, Result, Ok, Err, inl, inr, refl, subst, sym, ◌∙◌}
+use Rattle.std.proofs.Common.{◌≡◌, ◌≢◌, ℕ, ℤ, List, Option, None, Result, Ok, Err, inl, inr, refl, subst, sym, ◌∙◌}
 use Rattle.std.specs.Prelude.{IfOk}
 use Rattle.std.specs.Io.KnownBytes.{Appends}
 use Rattle.ca_plane.specs.Device.{Counted, AppendsPrefix}
@@ -18,7 +18,7 @@ use Rattle.ca_tool.specs.declared.drawing.DrawRequest.{DrawRequest}
 use Rattle.ca_tool.specs.declared.fault.ToolFault.{ToolFault}
 use Rattle.ca_tool.specs.declared.fault.ToolFault.TheVariants.{Input, BadTable, Convert, GenTooLarge, Work, Range, Window, Write, Memory}
 use Rattle.ca_tool.specs.declared.view.WindowFault.{WindowFault}
-use Rattle.ca_tool.specs.Runs.{IsTableRefusal}
+use Rattle.ca_tool.specs.Details.{IsRunDetailOf}
 use Rattle.ca_tool.specs.Views.{IsBoxShown}
 use Rattle.ca_tool.specs.Writing.{Sends, WritesOneOf}
 use Rattle.ca_tool.specs.Drawn.{IsPictureOf, HasNoWindow, IsDrawn, IsDrawFault}
@@ -90,6 +90,18 @@ undrawn_of bytes tables request reached (Window f) h none = record {
 undrawn_of bytes tables request reached Write h none = absurd none
 undrawn_of bytes tables request reached Memory h none = wanted bytes h.begins.holds.holds.readable
 
+-- of that no more is known
+pub undrawn_plainly : (bytes : List ℕ) (request : DrawRequest) (cells : ℤ → ℤ → ℕ) (fault : ToolFault) → IsUndrawn request cells fault → IsRunDetailOf bytes fault None None
+undrawn_plainly bytes request cells (Input f) none = absurd none
+undrawn_plainly bytes request cells (BadTable f) none = absurd none
+undrawn_plainly bytes request cells (Convert f) none = absurd none
+undrawn_plainly bytes request cells GenTooLarge none = absurd none
+undrawn_plainly bytes request cells Work none = absurd none
+undrawn_plainly bytes request cells Range none = absurd none
+undrawn_plainly bytes request cells (Window f) h = (refl, refl)
+undrawn_plainly bytes request cells Write none = absurd none
+undrawn_plainly bytes request cells Memory h = (refl, refl)
+
 -- ---- planes that aren't
 
 pub reach_told : (bytes : List ℕ) (tables : List TableRule) (request : DrawRequest) (fault : ReachFault) (told : ToolFault) → TellsReach fault told
@@ -115,17 +127,6 @@ draw_not_write bytes tables request Range h = λ is. cc
 draw_not_write bytes tables request (Window f) h = λ is. cc
 draw_not_write bytes tables request Write h = absurd h
 draw_not_write bytes tables request Memory h = λ is. cc
-
-pub table_not_write : (rule : Option (List ℕ)) (told : ToolFault) → IsTableRefusal rule told → told ≢ Write
-table_not_write rule (Input f) h = λ is. cc
-table_not_write rule (BadTable f) h = λ is. cc
-table_not_write rule (Convert f) h = λ is. cc
-table_not_write rule GenTooLarge h = λ is. cc
-table_not_write rule Work h = λ is. cc
-table_not_write rule Range h = λ is. cc
-table_not_write rule (Window f) h = λ is. cc
-table_not_write rule Write h = absurd h
-table_not_write rule Memory h = λ is. cc
 
 -- ---- what is written
 

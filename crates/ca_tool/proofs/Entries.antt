@@ -13,16 +13,16 @@ abbrev pub names_of : List Entry → List (List ℕ)
 names_of entries = map (λ (entry : Entry). entry.name.items) entries
 
 -- one entry more
-pub entries_more : (tables : List TableRule) (work limit : ℕ) (taken : List (List ℕ)) (subjects : List Subject) (entries : List Entry) (subject : Subject) (entry : Entry)
-    → AreEntries tables work limit taken subjects entries → IsEntry tables work limit (taken ++ names_of entries) subject entry
-    → AreEntries tables work limit taken (subjects ++ subject ∷ []) (entries ++ entry ∷ [])
-entries_more tables work limit taken [] [] subject entry all one = (subst (λ names. IsEntry tables work limit names subject entry) (append-nil taken) one, tt)
-entries_more tables work limit taken [] (e ∷ es) subject entry all one = absurd all
-entries_more tables work limit taken (s ∷ ss) [] subject entry all one = absurd all
-entries_more tables work limit taken (s ∷ ss) (e ∷ es) subject entry all one = (
+pub entries_more : (tables : List TableRule) (work n limit : ℕ) (taken : List (List ℕ)) (subjects : List Subject) (entries : List Entry) (subject : Subject) (entry : Entry)
+    → AreEntries tables work n limit taken subjects entries → IsEntry tables work n limit (taken ++ names_of entries) subject entry
+    → AreEntries tables work n limit taken (subjects ++ subject ∷ []) (entries ++ entry ∷ [])
+entries_more tables work n limit taken [] [] subject entry all one = (subst (λ names. IsEntry tables work n limit names subject entry) (append-nil taken) one, tt)
+entries_more tables work n limit taken [] (e ∷ es) subject entry all one = absurd all
+entries_more tables work n limit taken (s ∷ ss) [] subject entry all one = absurd all
+entries_more tables work n limit taken (s ∷ ss) (e ∷ es) subject entry all one = (
   all.0,
-  entries_more tables work limit (taken ++ e.name.items ∷ []) ss es subject entry all.1
-      (subst (λ names. IsEntry tables work limit names subject entry) (sym (append_assoc taken (e.name.items ∷ []) (names_of es))) one),
+  entries_more tables work n limit (taken ++ e.name.items ∷ []) ss es subject entry all.1
+      (subst (λ names. IsEntry tables work n limit names subject entry) (sym (append_assoc taken (e.name.items ∷ []) (names_of es))) one),
 )
 
 -- the first elements and the next one
@@ -30,12 +30,12 @@ take-more : {X : Type 0} (xs : List X) (i : ℕ) (x : X) → slice_get xs i ≡ 
 take-more xs i x e = rw (add-one, take-suc xs i x (slice_get_within xs i x e)) (ap (λ y. take i xs ++ y ∷ []) (get_or_from_slice_get xs i x x e))
 
 -- one file more was gone through
-pub entries_next : (tables : List TableRule) (work limit : ℕ) (subjects : List Subject) (i : ℕ) (subject : Subject) (entries next : List Entry) (entry : Entry) (names new : List (List ℕ))
-    → names ≡ names_of entries → AreEntries tables work limit [] (take i subjects) entries → slice_get subjects i ≡ Some subject → IsEntry tables work limit names subject entry
-    → new ≡ names ++ entry.name.items ∷ [] → next ≡ entries ++ entry ∷ [] → (new ≡ names_of next) × AreEntries tables work limit [] (take (i + 1) subjects) next
-entries_next tables work limit subjects i subject entries next entry names new before all at is put pushed = (
+pub entries_next : (tables : List TableRule) (work n limit : ℕ) (subjects : List Subject) (i : ℕ) (subject : Subject) (entries next : List Entry) (entry : Entry) (names new : List (List ℕ))
+    → names ≡ names_of entries → AreEntries tables work n limit [] (take i subjects) entries → slice_get subjects i ≡ Some subject → IsEntry tables work n limit names subject entry
+    → new ≡ names ++ entry.name.items ∷ [] → next ≡ entries ++ entry ∷ [] → (new ≡ names_of next) × AreEntries tables work n limit [] (take (i + 1) subjects) next
+entries_next tables work n limit subjects i subject entries next entry names new before all at is put pushed = (
   put ∙ ap (λ l. l ++ entry.name.items ∷ []) before ∙ sym (map-append (λ (e : Entry). e.name.items) entries (entry ∷ [])) ∙ ap names_of (sym pushed),
-  subst (AreEntries tables work limit [] (take (i + 1) subjects)) (sym pushed)
-      (subst (λ l. AreEntries tables work limit [] l (entries ++ entry ∷ [])) (sym (take-more subjects i subject at))
-      (entries_more tables work limit [] (take i subjects) entries subject entry all (subst (λ l. IsEntry tables work limit l subject entry) before is))),
+  subst (AreEntries tables work n limit [] (take (i + 1) subjects)) (sym pushed)
+      (subst (λ l. AreEntries tables work n limit [] l (entries ++ entry ∷ [])) (sym (take-more subjects i subject at))
+      (entries_more tables work n limit [] (take i subjects) entries subject entry all (subst (λ l. IsEntry tables work n limit l subject entry) before is))),
 )

@@ -15,7 +15,7 @@ use Rattle.ca_claims.specs.Judging.{Judging, JudgesAndNotes}
 use Rattle.ca_tool.specs.declared.finding.ReportStyle.{ReportStyle}
 use Rattle.ca_tool.specs.declared.finding.Finding.{Finding}
 use Rattle.ca_tool.specs.Printed.{answer_line, answer_lines, note_text, finding_text, findings_text, status_of}
-use Rattle.ca_tool.specs.Runs.{answers_of, AreTrueNotes, IsNotedDetail, AreFindings, IsPlainReport, IsReport, IsReportOnFirst}
+use Rattle.ca_tool.specs.Runs.{answers_of, AreTrueNotes, AreFindings, IsPlainReport, IsReport, IsReportOnFirst}
 use Rattle.ca_tool.specs.inner.Judged.{WereJudged, NoneLeft, IsReportUpTo, IsReportPart, WereAllJudged}
 
 -- pairs, and then other pairs
@@ -46,17 +46,16 @@ findings_then files rules work claims more patterns others xs ys first second = 
       (zip_append (λ (c : ℕ × Claim) (a : Answer). IsWithinWork files rules work c.1 a.verdict) claims (answers_of xs) more (answers_of ys) first.within second.within);
   notes = zip_append (λ its (f : Finding). IsNote files rules its f.answer.verdict f.note) patterns xs others ys first.notes second.notes;
   given = all_append (λ (f : Finding). HasItsNote f.answer.verdict f.note) xs ys first.given second.given;
-  details = all_append (λ (f : Finding). IsNotedDetail files f.note f.detail) xs ys first.details second.details;
 }
 
 -- no claim was judged yet
 pub judged_none : (judging : Judging) → WereJudged judging judging []
-judged_none judging = record { files = refl; rules = refl; work = refl; judged = []; claims = refl; theirs = []; patterns = refl; holds = record { answers = tt; within = tt; notes = tt; given = tt; details = tt } }
+judged_none judging = record { files = refl; rules = refl; work = refl; judged = []; claims = refl; theirs = []; patterns = refl; holds = record { answers = tt; within = tt; notes = tt; given = tt } }
 
 -- one was
-pub judged_one : (old new : Judging) (finding : Finding) → JudgesAndNotes old new finding.answer finding.note → HasItsNote finding.answer.verdict finding.note → IsNotedDetail old.files finding.note finding.detail
+pub judged_one : (old new : Judging) (finding : Finding) → JudgesAndNotes old new finding.answer finding.note → HasItsNote finding.answer.verdict finding.note
     → WereJudged old new (finding ∷ [])
-judged_one old new finding one given detail = record {
+judged_one old new finding one given = record {
   files = one.judges.files;
   rules = one.judges.rules;
   work = one.judges.work;
@@ -64,7 +63,7 @@ judged_one old new finding one given detail = record {
   claims = one.judges.claims;
   theirs = one.judges.its_patterns ∷ [];
   patterns = one.judges.patterns;
-  holds = record { answers = (one.judges.holds, tt); within = (one.judges.within, tt); notes = (one.noted, tt); given = (given, tt); details = (detail, tt) };
+  holds = record { answers = (one.judges.holds, tt); within = (one.judges.within, tt); notes = (one.noted, tt); given = (given, tt) };
 }
 
 -- some were, and then others
@@ -114,7 +113,6 @@ all_judged old new findings judged none = record {
   within = subst (λ cs. AreWithinWork old.files old.rules old.work cs (answers_of findings)) (sym (judged.claims ∙ ap (λ l. judged.judged ++ l) none.claims ∙ append-nil judged.judged)) judged.holds.within;
   notes = subst (λ ps. AreTrueNotes old.files old.rules ps findings) (sym (judged.patterns ∙ ap (λ l. judged.theirs ++ l) none.patterns ∙ append-nil judged.theirs)) judged.holds.notes;
   given = judged.holds.given;
-  details = judged.holds.details;
 }
 
 -- and so is the report
@@ -139,7 +137,6 @@ report_on_first old new style text (code, report) =
           within = subst (λ cs. AreWithinWork old.files old.rules old.work cs (answers_of findings)) (sym (ap (take (length findings)) judged.claims ∙ front judged.judged new.claims (length findings) answers)) judged.holds.within;
           notes = subst (λ ps. AreTrueNotes old.files old.rules ps findings) (sym (ap (take (length findings)) judged.patterns ∙ front judged.theirs new.patterns (length findings) notes)) judged.holds.notes;
           given = judged.holds.given;
-          details = judged.holds.details;
         };
         lines = report.lines;
         status = report.status;
@@ -151,8 +148,8 @@ plain_text : (style : ReportStyle) (findings : List Finding) → style.before.no
 plain_text style [] none off = refl
 plain_text style (finding ∷ findings) none off =
     ap (λ l. l ++ findings_text style findings)
-    (ap (λ b. (b ++ answer_line finding.answer) ++ (if style.explained then note_text style.before.now finding.answer.verdict finding.note finding.detail else [])) none
-    ∙ ap (λ e. answer_line finding.answer ++ (if e then note_text style.before.now finding.answer.verdict finding.note finding.detail else [])) off
+    (ap (λ b. (b ++ answer_line finding.answer) ++ (if style.explained then note_text style.before.now style.faulty.now finding.answer.verdict finding.note else [])) none
+    ∙ ap (λ e. answer_line finding.answer ++ (if e then note_text style.before.now style.faulty.now finding.answer.verdict finding.note else [])) off
     ∙ append-nil (answer_line finding.answer))
     ∙ ap (λ l. answer_line finding.answer ++ l) (plain_text style findings none off)
 

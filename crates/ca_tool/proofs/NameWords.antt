@@ -1,6 +1,6 @@
 -- Names and numbers are words of a claim text.
-use Rattle.std.proofs.Common.{◌≡◌, ℕ, zero, suc, ◌+◌, ◌/◌, ◌%◌, ◌<◌, ◌==◌, Bool, true, false, List, [], ◌∷◌, ◌++◌, ℤ, map, nat_eq, codes, decimal, refl, ap, sym, ◌∙◌, inl, inr, subst, arith}
-use Rattle.std.specs.Fmt.{digits, digits_onto, digit_glyph}
+use Rattle.std.proofs.Common.{◌≡◌, ℕ, zero, suc, ◌+◌, ◌/◌, ◌%◌, ◌<◌, ◌==◌, Bool, true, false, List, [], ◌∷◌, ◌++◌, ℤ, pos, negsuc, map, nat_eq, codes, decimal, refl, ap, sym, ◌∙◌, inl, inr, subst, arith}
+use Rattle.std.specs.Fmt.{digits, digits_onto, digit_glyph, signed_decimal}
 use Rattle.std.specs.List.{list_all}
 use Rattle.std.proofs.lemmas.Bool.{and_parts, and_from, cases_Bool, lt-ltb, false≢true}
 use Rattle.std.proofs.lemmas.Bool.Decides.{nat_tests}
@@ -65,6 +65,11 @@ digit_inner d small = grind (arith, nat_tests)
 -- a number is on one line
 pub decimal_inner : (n : ℕ) → Every is_inner (decimal n)
 decimal_inner n = digits_pass is_inner digit_inner n
+
+-- so is one with its sign
+pub signed_inner : (n : ℤ) → Every is_inner (signed_decimal n)
+signed_inner (pos n) = decimal_inner n
+signed_inner (negsuc n) = decimal_inner (suc n)
 
 -- a word with more bytes after it is a word
 word_append : (word more : List ℕ) → IsWord word → Every is_word_byte more → IsWord (word ++ more)

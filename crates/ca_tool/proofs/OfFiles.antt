@@ -10,7 +10,7 @@ use Rattle.ca_claims.specs.declared.reached.ReachFault.{ReachFault}
 use Rattle.ca_tool.specs.declared.fault.InputFault.TheVariants as inputs
 use Rattle.ca_tool.specs.declared.fault.ToolFault.{ToolFault}
 use Rattle.ca_tool.specs.declared.fault.ToolFault.TheVariants.{Input, BadTable, Convert, GenTooLarge, Work, Range, Window, Write, Memory}
-use Rattle.ca_tool.specs.Runs.{ReadsAll, AreKnownTables, HoldsOfTables, HoldsOfReadFile, TakesFile, IsBytesFault, IsFaultAfter, IsRunFault, WritesUnder, WritesAfter, RunsOver}
+use Rattle.ca_tool.specs.Runs.{ReadsAll, AreKnownTables, HoldsOfTables, HoldsOfReadFile, TakesFile, IsBytesFault, IsFaultAfter, IsRunFault, WritesUnder, WritesAfter, IsTableRefusal, RunsOver}
 use Rattle.ca_tool.specs.Writing.{Sends, WritesOneOf}
 use Rattle.ca_tool.specs.inner.Refusals.{TellsConvert, TellsReach}
 
@@ -66,6 +66,50 @@ pub refused : {W : Type 0} (contents : W → Option (List ℕ)) (output : Counte
     → WritesUnder contents output output rule IsText IsFault (Err told)
 refused contents output rule IsText IsFault fault told tells of =
     told_only contents output rule IsText (IsBytesFault rule IsFault) told (not_write fault told tells) (convert_told rule IsFault fault told tells of)
+
+-- a rule file that is no good table is no failed write
+pub table_not_write : (rule : Option (List ℕ)) (told : ToolFault) → IsTableRefusal rule told → told ≢ Write
+table_not_write rule (Input f) h = λ is. cc
+table_not_write rule (BadTable f) h = λ is. cc
+table_not_write rule (Convert f) h = λ is. cc
+table_not_write rule GenTooLarge h = λ is. cc
+table_not_write rule Work h = λ is. cc
+table_not_write rule Range h = λ is. cc
+table_not_write rule (Window f) h = λ is. cc
+table_not_write rule Write h = absurd h
+table_not_write rule Memory h = λ is. cc
+
+-- where it is none, the run tells that, and writes nothing
+table_told : (rule : Option (List ℕ)) (IsFault : List TableRule → ConvertFault → Type 0) (told : ToolFault) → IsTableRefusal rule told → IsBytesFault rule IsFault told
+table_told rule IsFault (Input f) none = absurd none
+table_told rule IsFault (BadTable f) is = is
+table_told rule IsFault (Convert f) none = absurd none
+table_told rule IsFault GenTooLarge none = absurd none
+table_told rule IsFault Work none = absurd none
+table_told rule IsFault Range none = absurd none
+table_told rule IsFault (Window f) none = absurd none
+table_told rule IsFault Write none = absurd none
+table_told rule IsFault Memory is = inl is
+
+table_told_after : (rule : Option (List ℕ)) (IsFault : List TableRule → ReachFault → Type 0) (told : ToolFault) → IsTableRefusal rule told → IsFaultAfter rule IsFault told
+table_told_after rule IsFault (Input f) none = absurd none
+table_told_after rule IsFault (BadTable f) is = is
+table_told_after rule IsFault (Convert f) none = absurd none
+table_told_after rule IsFault GenTooLarge none = absurd none
+table_told_after rule IsFault Work none = absurd none
+table_told_after rule IsFault Range none = absurd none
+table_told_after rule IsFault (Window f) none = absurd none
+table_told_after rule IsFault Write none = absurd none
+table_told_after rule IsFault Memory is = inl is
+
+pub no_table : {W : Type 0} (contents : W → Option (List ℕ)) (output : Counted W) (rule : Option (List ℕ)) (IsText : List TableRule → List ℕ → Type 0)
+    (IsFault : List TableRule → ConvertFault → Type 0) (told : ToolFault) → IsTableRefusal rule told → WritesUnder contents output output rule IsText IsFault (Err told)
+no_table contents output rule IsText IsFault told is = told_only contents output rule IsText (IsBytesFault rule IsFault) told (table_not_write rule told is) (table_told rule IsFault told is)
+
+pub no_table_after : {W : Type 0} (contents : W → Option (List ℕ)) (output : Counted W) (rule : Option (List ℕ)) (IsText : List TableRule → List ℕ → Type 0)
+    (IsFault : List TableRule → ReachFault → Type 0) (told : ToolFault) → IsTableRefusal rule told → WritesAfter contents output output rule IsText IsFault (Err told)
+no_table_after contents output rule IsText IsFault told is =
+    told_only contents output rule IsText (IsFaultAfter rule IsFault) told (table_not_write rule told is) (table_told_after rule IsFault told is)
 
 -- the same of a plane that isn't reached or told
 reach_told : (rule : Option (List ℕ)) (IsFault : List TableRule → ReachFault → Type 0) (fault : ReachFault) (told : ToolFault) → TellsReach fault told

@@ -1,5 +1,5 @@
 -- Windows that are asked for.
-use Rattle.std.proofs.Common.{◌≡◌, ℕ, Option, None, Some}
+use Rattle.std.proofs.Common.{ℕ, Option, None, Some}
 use Rattle.ca_quad.specs.declared.tree.Spot.{Spot}
 use Rattle.ca_quad.specs.declared.tree.WideBounds.{WideBounds}
 use Rattle.ca_draw.specs.declared.window.Window.{Window}

@@ -1,5 +1,5 @@
 -- What `identify` prints: a claim text with the claims that are true of files (our own; docs/CLAIMS.md).
-use Rattle.std.specs.Prelude.{◌≡◌, ◌≢◌, ℕ, List, [], ◌∷◌, ◌++◌, map, Bool, true, false, codes, decimal, if◌then◌else◌, None, ◌⊎◌}
+use Rattle.std.specs.Prelude.{◌≡◌, ◌≢◌, ℕ, List, [], ◌∷◌, ◌++◌, ◌+◌, map, Bool, true, false, ◌&&◌, codes, decimal, nat_eq, if◌then◌else◌, None, ◌⊎◌}
 use Rattle.std.specs.Fmt.{signed_decimal}
 use Rattle.std.specs.List.{flat_map, list_any, AllZip}
 use Rattle.ca_plane.specs.Bytes.{is_line_end}
@@ -7,9 +7,10 @@ use Rattle.ca_rule.specs.TableNext.{TableRule}
 use Rattle.ca_claims.specs.declared.file.File.{File}
 use Rattle.ca_claims.specs.declared.identity.Identity.{Identity}
 use Rattle.ca_claims.specs.declared.identity.Identity.TheVariants.{Empty, StillLife, Oscillator, Spaceship, Dies, Unknown}
+use Rattle.ca_claims.specs.declared.identity.Growth.{Growth}
 use Rattle.ca_claims.specs.declared.identity.Unidentified.{Unidentified}
 use Rattle.ca_claims.specs.Answers.{IsQuietTable, IsTableFault, FirstBad}
-use Rattle.ca_claims.specs.Identified.{IsIdentified, IsUnidentified}
+use Rattle.ca_claims.specs.Identified.{IsIdentifiedAfter, IsUnidentifiedAfter}
 use Rattle.ca_tool.specs.declared.entry.Content.{Content}
 use Rattle.ca_tool.specs.declared.entry.Content.TheVariants.{Bytes, Missing}
 use Rattle.ca_tool.specs.declared.entry.Subject.{Subject}
@@ -18,12 +19,26 @@ use Rattle.ca_tool.specs.declared.entry.Outcome.TheVariants.{Unnameable, Identif
 use Rattle.ca_tool.specs.declared.entry.Entry.{Entry}
 use Rattle.ca_tool.specs.declared.fault.ToolFault.{ToolFault}
 use Rattle.ca_tool.specs.declared.fault.ToolFault.TheVariants as tools
-use Rattle.ca_tool.specs.Printed.{cause_text, at_line, generations_word}
+use Rattle.ca_tool.specs.Printed.{cause_text, at_line, generations_word, side_length}
 use Rattle.ca_tool.specs.Names.{is_claim_path, claim_name, IsFreeName}
 
 -- the line that gives a name to a file
 abbrev pub load_line : List ℕ → List ℕ → List ℕ
 load_line name path = codes "load " ++ (name ++ (32 ∷ (path ++ 10 ∷ [])))
+
+-- the word for so many cells
+abbrev pub cells_word : ℕ → List ℕ
+cells_word n = if nat_eq n 1 then codes " cell" else codes " cells"
+
+-- how far a plane has grown: how many cells are live, and the width and height of the box round them
+abbrev pub growth_text : Growth → List ℕ
+growth_text growth = decimal growth.cells ++ (cells_word growth.cells ++ (codes ", in a box of "
+    ++ (signed_decimal (side_length growth.bounds.x0 growth.bounds.x1) ++ (codes " by " ++ signed_decimal (side_length growth.bounds.y0 growth.bounds.y1)))))
+
+-- none of the claims is true within the limit, and the plane of the last generation has grown so far
+abbrev pub none_text : (limit last : ℕ) → Growth → List ℕ
+none_text limit last growth =
+    (codes "none of these within " ++ decimal limit) ++ (generations_word limit ++ (codes ": " ++ (growth_text growth ++ (codes ", after " ++ decimal last))))
 
 -- the line of what a pattern is found to be: the claim that says it, or a comment where none of the claims is true within the limit
 abbrev pub identity_line : (limit : ℕ) → List ℕ → Identity → List ℕ
@@ -33,8 +48,24 @@ identity_line limit name (Oscillator period) = codes "oscillator " ++ (name ++ (
 identity_line limit name (Spaceship period dx dy) =
     codes "spaceship " ++ (name ++ (32 ∷ (decimal period ++ (32 ∷ (signed_decimal dx ++ (32 ∷ (signed_decimal dy ++ 10 ∷ [])))))))
 identity_line limit name (Dies generations) = codes "dies " ++ (name ++ (32 ∷ (decimal generations ++ 10 ∷ [])))
-identity_line limit name Unknown =
-    codes "# " ++ (name ++ (codes ": none of these within " ++ (decimal limit ++ (generations_word limit ++ 10 ∷ []))))
+identity_line limit name (Unknown growth) = codes "# " ++ (name ++ (codes ": " ++ (none_text limit limit growth ++ 10 ∷ [])))
+
+-- what the plane of a pattern is found to be n generations on, in the words of the claims: a comment, since no claim about the file says it
+abbrev pub later_text : (n limit : ℕ) → Identity → List ℕ
+later_text n limit Empty = codes "no cell is live"
+later_text n limit StillLife = codes "still"
+later_text n limit (Oscillator period) = codes "oscillator " ++ decimal period
+later_text n limit (Spaceship period dx dy) = codes "spaceship " ++ (decimal period ++ (32 ∷ (signed_decimal dx ++ (32 ∷ signed_decimal dy))))
+later_text n limit (Dies generations) = codes "dies " ++ decimal generations
+later_text n limit (Unknown growth) = none_text limit (n + limit) growth
+
+abbrev pub later_line : (n limit : ℕ) → List ℕ → Identity → List ℕ
+later_line n limit name identity =
+    codes "# " ++ (name ++ ((codes " after " ++ decimal n) ++ (generations_word n ++ (codes ": " ++ (later_text n limit identity ++ 10 ∷ [])))))
+
+-- the line of what is found: of the pattern, or of its plane n generations on
+abbrev pub found_line : (n limit : ℕ) → List ℕ → Identity → List ℕ
+found_line n limit name identity = if nat_eq n 0 then identity_line limit name identity else later_line n limit name identity
 
 -- the comment on a file that is refused: why, and on which line of the file, where it has such a line
 abbrev pub refused_line : List ℕ → List ℕ → Unidentified → List ℕ
@@ -49,13 +80,13 @@ abbrev pub unnameable_line : List ℕ → List ℕ → List ℕ
 unnameable_line name path = codes "# " ++ (name ++ (codes ": " ++ (map line_byte path ++ (codes ": no claim text can name this path" ++ 10 ∷ []))))
 
 -- the lines on a file by what came of it
-abbrev pub outcome_lines : (limit : ℕ) → List ℕ → List ℕ → Outcome → List ℕ
-outcome_lines limit name path Unnameable = unnameable_line name path
-outcome_lines limit name path (Refused why) = refused_line name path why
-outcome_lines limit name path (Identified identity) = load_line name path ++ identity_line limit name identity
+abbrev pub outcome_lines : (n limit : ℕ) → List ℕ → List ℕ → Outcome → List ℕ
+outcome_lines n limit name path Unnameable = unnameable_line name path
+outcome_lines n limit name path (Refused why) = refused_line name path why
+outcome_lines n limit name path (Identified identity) = load_line name path ++ found_line n limit name identity
 
-abbrev pub entry_lines : (limit : ℕ) → Entry → List ℕ
-entry_lines limit entry = outcome_lines limit entry.name.items entry.path.now entry.outcome
+abbrev pub entry_lines : (n limit : ℕ) → Entry → List ℕ
+entry_lines n limit entry = outcome_lines n limit entry.name.items entry.path.now entry.outcome
 
 -- the line that gives the table of a rule file to the text
 abbrev pub rule_line : File → List ℕ
@@ -70,15 +101,19 @@ is_death (Identified StillLife) = false
 is_death (Identified (Oscillator period)) = false
 is_death (Identified (Spaceship period dx dy)) = false
 is_death (Identified (Dies generations)) = true
-is_death (Identified Unknown) = false
+is_death (Identified (Unknown growth)) = false
+
+-- some pattern dies, and the text claims it
+abbrev pub claims_death : ℕ → List Entry → Bool
+claims_death n entries = nat_eq n 0 && list_any (λ entry. is_death entry.outcome) entries
 
 -- the first line of a text that needs the second version
-abbrev pub version_line : List Entry → List ℕ
-version_line entries = if list_any (λ entry. is_death entry.outcome) entries then codes "claims 2" ++ 10 ∷ [] else []
+abbrev pub version_line : ℕ → List Entry → List ℕ
+version_line n entries = if claims_death n entries then codes "claims 2" ++ 10 ∷ [] else []
 
 -- the whole text: its version, where it needs the second one, the rule files, and the lines on each file
-abbrev pub catalog_text : (limit : ℕ) → List File → List Entry → List ℕ
-catalog_text limit rules entries = version_line entries ++ (flat_map rule_line rules ++ flat_map (entry_lines limit) entries)
+abbrev pub catalog_text : (n limit : ℕ) → List File → List Entry → List ℕ
+catalog_text n limit rules entries = version_line n entries ++ (flat_map rule_line rules ++ flat_map (entry_lines n limit) entries)
 
 -- the file isn't identified
 abbrev pub is_refused : Outcome → Bool
@@ -90,46 +125,46 @@ is_refused (Identified identity) = false
 abbrev pub catalog_status : List Entry → ℕ
 catalog_status entries = if list_any (λ entry. is_refused entry.outcome) entries then 2 else 0
 
--- what came of a file that gave this is true of it: its pattern is this, or that isn't found out for this reason; or there are no bytes of it,
+-- what came of a file that gave this is true of it: n generations on its plane is this, or that isn't found out for this reason; or there are no bytes of it,
 -- for this cause
-abbrev pub IsContentOutcome : List TableRule → (work limit : ℕ) → Content → Outcome → Type 0
-IsContentOutcome tables work limit content Unnameable = ⊥
-IsContentOutcome tables work limit (Bytes bytes) (Identified identity) = IsIdentified bytes.now tables limit identity
-IsContentOutcome tables work limit (Bytes bytes) (Refused why) = IsUnidentified bytes.now tables work limit why
-IsContentOutcome tables work limit (Missing cause) (Identified identity) = ⊥
-IsContentOutcome tables work limit (Missing cause) (Refused why) = (why.cause ≡ cause) × (why.line ≡ None)
+abbrev pub IsContentOutcome : List TableRule → (work n limit : ℕ) → Content → Outcome → Type 0
+IsContentOutcome tables work n limit content Unnameable = ⊥
+IsContentOutcome tables work n limit (Bytes bytes) (Identified identity) = IsIdentifiedAfter bytes.now tables n limit identity
+IsContentOutcome tables work n limit (Bytes bytes) (Refused why) = IsUnidentifiedAfter bytes.now tables work n limit why
+IsContentOutcome tables work n limit (Missing cause) (Identified identity) = ⊥
+IsContentOutcome tables work n limit (Missing cause) (Refused why) = (why.cause ≡ cause) × (why.line ≡ None) × (why.rule_text ≡ None)
 
 -- no claim text can name the file's path; or one can, and what came of the file is true of what it gave
-abbrev pub IsOutcome : List TableRule → (work limit : ℕ) → Subject → Outcome → Type 0
-IsOutcome tables work limit subject outcome =
+abbrev pub IsOutcome : List TableRule → (work n limit : ℕ) → Subject → Outcome → Type 0
+IsOutcome tables work n limit subject outcome =
     ((is_claim_path subject.path.now ≡ false) × (outcome ≡ Unnameable))
-    ⊎ ((is_claim_path subject.path.now ≡ true) × IsContentOutcome tables work limit subject.content outcome)
+    ⊎ ((is_claim_path subject.path.now ≡ true) × IsContentOutcome tables work n limit subject.content outcome)
 
 -- an entry on a file, whose name is none of those taken
-pub record IsEntry (tables : List TableRule) (work limit : ℕ) (taken : List (List ℕ)) (subject : Subject) (entry : Entry) : Type 0 where
+pub record IsEntry (tables : List TableRule) (work n limit : ℕ) (taken : List (List ℕ)) (subject : Subject) (entry : Entry) : Type 0 where
   pub path : entry.path.now ≡ subject.path.now
   pub name : IsFreeName taken (claim_name subject.path.now) entry.name.items
-  pub outcome : IsOutcome tables work limit subject entry.outcome
+  pub outcome : IsOutcome tables work n limit subject entry.outcome
 
 -- an entry on each file, in order, whose names are different, and none of those taken before
-abbrev pub AreEntries : List TableRule → (work limit : ℕ) → (taken : List (List ℕ)) → List Subject → List Entry → Type 0
-AreEntries tables work limit taken [] [] = Unit {0}
-AreEntries tables work limit taken [] (e ∷ es) = ⊥
-AreEntries tables work limit taken (s ∷ ss) [] = ⊥
-AreEntries tables work limit taken (s ∷ ss) (e ∷ es) =
-    IsEntry tables work limit taken s e × AreEntries tables work limit (taken ++ e.name.items ∷ []) ss es
+abbrev pub AreEntries : List TableRule → (work n limit : ℕ) → (taken : List (List ℕ)) → List Subject → List Entry → Type 0
+AreEntries tables work n limit taken [] [] = Unit {0}
+AreEntries tables work n limit taken [] (e ∷ es) = ⊥
+AreEntries tables work n limit taken (s ∷ ss) [] = ⊥
+AreEntries tables work n limit taken (s ∷ ss) (e ∷ es) =
+    IsEntry tables work n limit taken s e × AreEntries tables work n limit (taken ++ e.name.items ∷ []) ss es
 
 -- the rule files hold these tables
 abbrev pub AreRuleTables : List File → List TableRule → Type 0
 AreRuleTables rules tables = AllZip (λ file table. IsQuietTable file.bytes.now table) rules tables
 
 -- the text has true entries on these files, under the tables of the rule files, and the code is their exit status
-pub record IsCatalog (subjects : List Subject) (rules : List File) (work limit : ℕ) (text : List ℕ) (code : ℕ) : Type 0 where
+pub record IsCatalog (subjects : List Subject) (rules : List File) (work n limit : ℕ) (text : List ℕ) (code : ℕ) : Type 0 where
   pub tables : List TableRule
   pub known : AreRuleTables rules tables
   pub entries : List Entry
-  pub holds : AreEntries tables work limit [] subjects entries
-  pub lines : text ≡ catalog_text limit rules entries
+  pub holds : AreEntries tables work n limit [] subjects entries
+  pub lines : text ≡ catalog_text n limit rules entries
   pub status : code ≡ catalog_status entries
 
 -- why no text is written: this is the fault of the first rule file that is no good table, or memory is out

@@ -1,7 +1,9 @@
 -- The bytes that are printed for an answer and for a fault (our own; docs/CLAIMS.md).
-use Rattle.std.specs.Prelude.{ℕ, ℤ, pos, ◌+ℤ◌, ◌-ℤ◌, List, [], ◌∷◌, ◌++◌, Bool, true, false, Option, None, Some, codes, decimal, nat_eq, if◌then◌else◌}
+use Rattle.std.specs.Prelude.{ℕ, ℤ, pos, ◌+ℤ◌, ◌-ℤ◌, List, [], ◌∷◌, ◌++◌, Bool, true, false, Option, None, Some, Vec, codes, decimal, nat_eq, if◌then◌else◌}
+use Rattle.std.specs.declared.alloc.Global.{Global}
 use Rattle.std.specs.Fmt.{signed_decimal}
 use Rattle.std.specs.List.{flat_map, list_any}
+use Rattle.std.specs.Str.{bytes_eq}
 use Rattle.ca_plane.specs.declared.point.Bounds.{Bounds}
 use Rattle.ca_rule.specs.declared.fault.RuleFault.{RuleFault}
 use Rattle.ca_rule.specs.declared.fault.RuleFault.TheVariants as rules
@@ -27,6 +29,7 @@ use Rattle.ca_claims.specs.declared.format.Format.TheVariants.{Rle, Mc}
 use Rattle.ca_claims.specs.declared.conversion.ConvertFault.{ConvertFault}
 use Rattle.ca_claims.specs.declared.conversion.ConvertFault.TheVariants as converts
 use Rattle.ca_claims.specs.declared.pattern.Summary.{Summary}
+use Rattle.ca_claims.specs.declared.refused.Refused.{Refused as RefusedFor}
 use Rattle.ca_tool.specs.declared.fault.Fault.{Fault}
 use Rattle.ca_tool.specs.declared.fault.Fault.TheVariants as faults
 use Rattle.ca_tool.specs.declared.fault.InputFault.{InputFault}
@@ -35,9 +38,8 @@ use Rattle.ca_tool.specs.declared.view.WindowFault.{WindowFault}
 use Rattle.ca_tool.specs.declared.view.WindowFault.TheVariants as windows
 use Rattle.ca_tool.specs.declared.fault.ToolFault.{ToolFault}
 use Rattle.ca_tool.specs.declared.fault.ToolFault.TheVariants as tools
-use Rattle.ca_tool.specs.declared.detail.Detail.{Detail}
-use Rattle.ca_tool.specs.declared.detail.Detail.TheVariants as details
 use Rattle.ca_tool.specs.declared.explanation.RunPaths.{RunPaths}
+use Rattle.ca_tool.specs.declared.finding.FaultyRule.{FaultyRule}
 use Rattle.ca_tool.specs.declared.finding.ReportStyle.{ReportStyle}
 use Rattle.ca_tool.specs.declared.finding.Finding.{Finding}
 
@@ -241,35 +243,50 @@ cause_line cause = None
 abbrev pub no_note_text : List ℕ → Why → Note → List ℕ
 no_note_text before why notes.Nothing = []
 no_note_text before why (notes.Cell name) = cell_line before name.now why
-no_note_text before why (notes.Pattern name path line) = []
+no_note_text before why (notes.Pattern name path line text) = []
 no_note_text before why (notes.RuleFile path) = []
 
--- what is told of a pattern file after its path: the line of its fault, or its rule text
-abbrev pub detail_text : Detail → List ℕ
-detail_text details.Nothing = []
-detail_text (details.Line line) = at_line (Some line)
-detail_text (details.Rule text) = codes ": rule " ++ text.items
+-- a rule text that names no rule
+abbrev pub rule_words : Option (Vec ℕ Global) → List ℕ
+rule_words None = []
+rule_words (Some text) = codes ": rule " ++ text.items
 
--- the line about the file of a pattern with this name: where it is faulty, and what more is told of it
-abbrev pub noted_line : List ℕ → List ℕ → List ℕ → Option ℕ → Detail → List ℕ
-noted_line before name path line detail = before ++ (codes "  " ++ (name ++ (codes ": " ++ (path ++ (at_line line ++ (detail_text detail ++ 10 ∷ []))))))
+-- the first of some faulty rule files that was looked for by this name
+abbrev pub faulty_named : List FaultyRule → List ℕ → Option FaultyRule
+faulty_named [] name = None
+faulty_named (f ∷ fs) name = if bytes_eq f.name.now name then Some f else faulty_named fs name
+
+-- the path of a faulty rule file, the line of its fault, and what is wrong there
+abbrev pub faulty_words : Option FaultyRule → List ℕ
+faulty_words None = []
+faulty_words (Some file) = codes ": " ++ (file.path.now ++ (codes ": " ++ table_text (λ line. codes "line " ++ decimal line) file.fault))
+
+-- the faulty rule file that was looked for by a rule text, where there is one
+abbrev pub faulty_rule_words : List FaultyRule → Option (Vec ℕ Global) → List ℕ
+faulty_rule_words faulty None = []
+faulty_rule_words faulty (Some text) = faulty_words (faulty_named faulty text.items)
+
+-- the line about the file of a pattern with this name: the line of its fault, or its rule text, and the rule file of that name that is faulty
+abbrev pub noted_line : List ℕ → List FaultyRule → List ℕ → List ℕ → Option ℕ → Option (Vec ℕ Global) → List ℕ
+noted_line before faulty name path line text = before ++ (codes "  " ++ (name ++ (codes ": " ++ (path ++ (at_line line ++ (rule_words text
+    ++ (faulty_rule_words faulty text ++ 10 ∷ [])))))))
 
 -- the line of a note on a refusal
-abbrev pub refusal_note_text : List ℕ → Cause → Note → Detail → List ℕ
-refusal_note_text before cause notes.Nothing detail = []
-refusal_note_text before cause (notes.Cell name) detail = []
-refusal_note_text before cause (notes.Pattern name path line) detail = noted_line before name.now path.now line detail
-refusal_note_text before cause (notes.RuleFile path) detail = file_line before (codes "rule file") path.now (cause_line cause)
+abbrev pub refusal_note_text : List ℕ → List FaultyRule → Cause → Note → List ℕ
+refusal_note_text before faulty cause notes.Nothing = []
+refusal_note_text before faulty cause (notes.Cell name) = []
+refusal_note_text before faulty cause (notes.Pattern name path line text) = noted_line before faulty name.now path.now line text
+refusal_note_text before faulty cause (notes.RuleFile path) = file_line before (codes "rule file") path.now (cause_line cause)
 
 -- the second line, of a note on a verdict, where there is something to tell
-abbrev pub note_text : List ℕ → Verdict → Note → Detail → List ℕ
-note_text before Yes note detail = []
-note_text before (No why) note detail = no_note_text before why note
-note_text before (Refused cause) note detail = refusal_note_text before cause note detail
+abbrev pub note_text : List ℕ → List FaultyRule → Verdict → Note → List ℕ
+note_text before faulty Yes note = []
+note_text before faulty (No why) note = no_note_text before why note
+note_text before faulty (Refused cause) note = refusal_note_text before faulty cause note
 
 -- the second line for a claim, where answers are explained
 abbrev pub second_line : ReportStyle → Finding → List ℕ
-second_line style finding = if style.explained then note_text style.before.now finding.answer.verdict finding.note finding.detail else []
+second_line style finding = if style.explained then note_text style.before.now style.faulty.now finding.answer.verdict finding.note else []
 
 -- what is printed for a claim: the line of its answer, and where answers are explained the second line
 abbrev pub finding_text : ReportStyle → Finding → List ℕ
@@ -280,21 +297,24 @@ abbrev pub findings_text : ReportStyle → List Finding → List ℕ
 findings_text style findings = flat_map (finding_text style) findings
 
 -- the line about a pattern file
-abbrev pub pattern_line : List ℕ → Detail → List ℕ
-pattern_line path detail = codes "  " ++ (path ++ (detail_text detail ++ 10 ∷ []))
+abbrev pub pattern_line : List ℕ → Option ℕ → Option (Vec ℕ Global) → List ℕ
+pattern_line path line text = codes "  " ++ (path ++ (at_line line ++ (rule_words text ++ 10 ∷ [])))
 
--- the line that explains a fault of a run over a pattern file: it names the rule file or the pattern file. A fault that names its file, or is about none,
--- has no such line
-abbrev pub explanation : ToolFault → Detail → RunPaths → List ℕ
-explanation (tools.Input fault) detail paths = []
-explanation (tools.BadTable fault) detail paths = file_line [] (codes "rule file") paths.rule.now (Some (table_line fault))
-explanation (tools.Convert fault) detail paths = pattern_line paths.pattern.now detail
-explanation tools.GenTooLarge detail paths = pattern_line paths.pattern.now detail
-explanation tools.Work detail paths = pattern_line paths.pattern.now detail
-explanation tools.Range detail paths = pattern_line paths.pattern.now detail
-explanation (tools.Window fault) detail paths = pattern_line paths.pattern.now detail
-explanation tools.Write detail paths = []
-explanation tools.Memory detail paths = []
+-- the line that explains a fault of a run over a pattern file: it names the rule file or the pattern file, with what is known of the fault. A fault
+-- that names its file, or is about none, has no such line
+abbrev pub explanation_of : ToolFault → Option ℕ → Option (Vec ℕ Global) → RunPaths → List ℕ
+explanation_of (tools.Input fault) line text paths = []
+explanation_of (tools.BadTable fault) line text paths = file_line [] (codes "rule file") paths.rule.now (Some (table_line fault))
+explanation_of (tools.Convert fault) line text paths = pattern_line paths.pattern.now line text
+explanation_of tools.GenTooLarge line text paths = pattern_line paths.pattern.now line text
+explanation_of tools.Work line text paths = pattern_line paths.pattern.now line text
+explanation_of tools.Range line text paths = pattern_line paths.pattern.now line text
+explanation_of (tools.Window fault) line text paths = pattern_line paths.pattern.now line text
+explanation_of tools.Write line text paths = []
+explanation_of tools.Memory line text paths = []
+
+abbrev pub explanation : RefusedFor ToolFault → RunPaths → List ℕ
+explanation refused paths = explanation_of refused.fault refused.line refused.rule_text paths
 
 -- the name of a format
 abbrev pub format_name : Format → List ℕ

@@ -10,9 +10,7 @@ use Rattle.ca_rule.specs.TableNext.{TableRule}
 use Rattle.ca_rule.specs.TableFaults as table_faults
 use Rattle.ca_rule.specs.declared.table.fault.TableFault.{TableFault}
 use Rattle.ca_rule.specs.declared.table.fault.TableFault.TheVariants as table_fault
-use Rattle.ca_claims.specs.Answers.{AreTrueAnswers, AreWithinWork, IsQuietTable, HoldsOfFile}
-use Rattle.ca_claims.specs.declared.note.Note.{Note}
-use Rattle.ca_claims.specs.declared.note.Note.TheVariants as notes
+use Rattle.ca_claims.specs.Answers.{AreTrueAnswers, AreWithinWork, IsQuietTable}
 use Rattle.ca_claims.specs.Converted.{IsSummary}
 use Rattle.ca_claims.specs.Ahead.{IsSummaryAfter}
 use Rattle.ca_claims.specs.declared.verdict.Answer.{Answer}
@@ -25,9 +23,6 @@ use Rattle.ca_tool.specs.declared.fault.InputFault.{InputFault}
 use Rattle.ca_tool.specs.declared.fault.InputFault.TheVariants as inputs
 use Rattle.ca_tool.specs.declared.fault.ToolFault.{ToolFault}
 use Rattle.ca_tool.specs.declared.fault.ToolFault.TheVariants.{Input, BadTable, Convert, GenTooLarge, Work, Range, Window, Write, Memory}
-use Rattle.ca_tool.specs.declared.detail.Detail.{Detail}
-use Rattle.ca_tool.specs.declared.detail.Detail.TheVariants as details
-use Rattle.ca_tool.specs.Details.{IsRuleText}
 use Rattle.ca_tool.specs.declared.finding.ReportStyle.{ReportStyle}
 use Rattle.ca_tool.specs.declared.finding.Finding.{Finding}
 use Rattle.ca_tool.specs.Printed.{answer_lines, findings_text, status_of, summary_text}
@@ -89,23 +84,12 @@ answers_of findings = map (λ finding. finding.answer) findings
 abbrev pub AreTrueNotes : List (List ℕ × List ℕ) → List (List ℕ) → List (List (List ℕ × List ℕ)) → List Finding → Type 0
 AreTrueNotes files rules patterns findings = AllZip (λ its finding. IsNote files rules its finding.answer.verdict finding.note) patterns findings
 
--- what more is told of the pattern that a note names is true: a rule text is that of its file
-abbrev pub IsNotedDetail : List (List ℕ × List ℕ) → Note → Detail → Type 0
-IsNotedDetail files note details.Nothing = Unit {0}
-IsNotedDetail files note (details.Line line) = ⊥
-IsNotedDetail files notes.Nothing (details.Rule text) = ⊥
-IsNotedDetail files (notes.Cell name) (details.Rule text) = ⊥
-IsNotedDetail files (notes.Pattern name path line) (details.Rule text) = HoldsOfFile files (λ bytes. IsRuleText bytes text.items) path.now
-IsNotedDetail files (notes.RuleFile path) (details.Rule text) = ⊥
-
--- findings on these claims: true answers to them, out of work only within what each may take, and true notes on the answers, where each verdict that has a note is given with it, and
--- true details
+-- findings on these claims: true answers to them, out of work only within what each may take, and true notes on the answers, where each verdict that has a note is given with it
 pub record AreFindings (judging : Judging) (findings : List Finding) : Type 0 where
   pub answers : AreTrueAnswers judging.files judging.rules judging.claims (answers_of findings)
   pub within : AreWithinWork judging.files judging.rules judging.work judging.claims (answers_of findings)
   pub notes : AreTrueNotes judging.files judging.rules judging.patterns findings
   pub given : AllByRecursion (λ finding. HasItsNote finding.answer.verdict finding.note) findings
-  pub details : AllByRecursion (λ finding. IsNotedDetail judging.files finding.note finding.detail) findings
 
 -- a report on these claims: the text is what is printed for findings on them, and the code is the exit status of the answers
 pub record IsReport (judging : Judging) (style : ReportStyle) (text : List ℕ) (code : ℕ) : Type 0 where

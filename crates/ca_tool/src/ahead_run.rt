@@ -1,114 +1,190 @@
 //! Runs of `show` and of `convert` some generations on, over the bytes of a pattern file.
 
-ghost use Rattle.std.specs.Prelude.{◌≤◌, IfOk, IfErr};
+ghost use Rattle.std.specs.Prelude.{ℕ, ◌≤◌, List, IfOk, IfErr};
 ghost use Rattle.std.specs.Option.{option_copied};
-ghost use Rattle.ca_claims.specs.Ahead.{IsReachFault, IsConvertedAfter, IsConvertFaultAfter};
+ghost use Rattle.ca_plane.specs.Bytes.{IsWord};
+ghost use Rattle.ca_claims.specs.Ahead.{IsReachFault, IsSummaryAfter, IsConvertedAfter, IsConvertFaultAfter};
 ghost use Rattle.ca_claims.specs.Limited.{AreGoodLimits};
+ghost use Rattle.ca_claims.specs.Refused.{HasReachDetail};
 ghost use Rattle.ca_claims.specs.Text.{most_generations};
+ghost use Rattle.ca_tool.specs.Details.{HasRunDetail, fault_alone};
 ghost use Rattle.ca_tool.specs.Runs.{IsShownAfter, WritesAfter};
 ghost use Rattle.ca_tool.specs.inner.Refusals.{TellsReach};
 
 use crate::fault::ToolFault;
 use crate::pattern_run::{convert_refusal, known_table, tables_of, write};
 use crate::summary::summary_lines;
-use ca_claims::{ConvertFault, Limits, ReachFault, Target, convert_after, summary_after};
+use ca_claims::{
+    ConvertFault, Limits, Observer, ReachFault, Refused, Summary, Target,
+    convert_after_with_detail, summary_after_with_detail,
+};
 use ca_plane::Dev;
 use ca_rule::Table;
-use ca_run::Unwatched;
 use std::alloc::Global;
 use std::io::Write;
 
 /// Writes the five lines that are shown of the plane of a pattern file so many generations on, at most
-/// 1152921504606846976, under the table of the rule file, if there is one. It answers the exit status 0.
+/// 1152921504606846976, under the table of the rule file, if there is one. It answers the exit status 0. The
+/// observer sees how far the generations are.
+///
 /// Nothing is written before all is judged.
-pub fn show_after<W: Write>(
+pub fn show_after<W: Write, O: Observer>(
     alloc: Global,
     bytes: &[u8],
     table: Option<&[u8]>,
     generations: u64,
     limits: Limits,
+    observer: &mut O,
     output: &mut Dev<W>,
-) -> Result<u8, ToolFault>
+) -> Result<u8, Refused<ToolFault>>
     requires limits { AreGoodLimits limits }
     requires few { generations ≤ most_generations }
     // The lines of a true summary are written, or a first part of them and then a write fails, or none for
     // another fault.
     ensures writes { WritesAfter W.contents output.old output.new (option_copied table.entry)
         (λ tables text. IsShownAfter bytes.now tables generations text)
-        (λ tables fault. IsReachFault bytes.now tables generations limits.work fault) result }
+        (λ tables fault. IsReachFault bytes.now tables generations limits.work fault) (fault_alone result) }
+    ensures detail { IfErr result (HasRunDetail bytes.now) }
 {
-    let table = known_table(alloc, table)?;
-    let text = match summary_text_after(alloc, bytes, tables_of(&table), generations, limits) {
+    let table = match known_table(alloc, table) {
+        Ok(table) => table,
+        Err(refused) => return Err(refused),
+    };
+    let tables = tables_of(&table);
+    let text = match summary_text_after(alloc, bytes, tables, generations, limits, observer) {
         Ok(text) => text,
-        Err(fault) => return Err(reach_refusal(fault)),
+        Err(refused) => return Err(reach_refusal(refused)),
     };
     write(output, &text)
 }
 
 /// Writes the file of the target's format of the plane of a pattern file so many generations on, at most
-/// 1152921504606846976, under the table of the rule file, if there is one. It answers the exit status 0.
+/// 1152921504606846976, under the table of the rule file, if there is one. It answers the exit status 0. The
+/// observer sees how far the generations are.
+///
 /// Nothing is written before all is judged.
-pub fn convert_bytes_after<W: Write>(
+pub fn convert_bytes_after<W: Write, O: Observer>(
     alloc: Global,
     bytes: &[u8],
     target: Target,
     table: Option<&[u8]>,
     generations: u64,
     limits: Limits,
+    observer: &mut O,
     output: &mut Dev<W>,
-) -> Result<u8, ToolFault>
+) -> Result<u8, Refused<ToolFault>>
     requires limits { AreGoodLimits limits }
     requires few { generations ≤ most_generations }
     // That file is written, or a first part of it and then a write fails, or nothing for another fault.
     ensures writes { WritesAfter W.contents output.old output.new (option_copied table.entry)
         (λ tables text. IsConvertedAfter bytes.now tables generations target text)
-        (λ tables fault. IsConvertFaultAfter bytes.now tables generations limits.work target fault) result }
+        (λ tables fault. IsConvertFaultAfter bytes.now tables generations limits.work target fault)
+        (fault_alone result) }
+    ensures detail { IfErr result (HasRunDetail bytes.now) }
 {
-    let table = known_table(alloc, table)?;
+    let table = match known_table(alloc, table) {
+        Ok(table) => table,
+        Err(refused) => return Err(refused),
+    };
     let tables = tables_of(&table);
-    let text = match convert_after(
+    let text = match seen_file(alloc, bytes, target, tables, generations, limits, observer) {
+        Ok(text) => text,
+        Err(refused) => return Err(reach_refusal(refused)),
+    };
+    write(output, &text)
+}
+
+// The file of a plane some generations on. The one file that is read is the first that the observer sees.
+fn seen_file<O: Observer>(
+    alloc: Global,
+    bytes: &[u8],
+    target: Target,
+    tables: &[Table],
+    generations: u64,
+    limits: Limits,
+    observer: &mut O,
+) -> Result<Vec<u8>, Refused<ReachFault>>
+    requires limits { AreGoodLimits limits }
+    requires few { generations ≤ most_generations }
+    ensures converted { IfOk result
+        (λ text. IsConvertedAfter bytes.now tables.now generations target text.items) }
+    ensures fault { IfErr result
+        (λ refused. IsConvertFaultAfter bytes.now tables.now generations limits.work target refused.fault) }
+    ensures detail { IfErr result (HasReachDetail bytes.now) }
+{
+    observer.begins(1);
+    let run = convert_after_with_detail(
         alloc,
         bytes,
         target,
         tables,
         generations,
         limits,
-        &mut Unwatched,
-    ) {
-        Ok(text) => text,
-        Err(fault) => return Err(reach_refusal(fault)),
-    };
-    write(output, &text)
+        observer,
+    );
+    observer.ends();
+    run
 }
 
-// The lines of the summary of a plane some generations on.
-fn summary_text_after(
+// The summary of a plane some generations on. The one file that is read is the first that the observer sees.
+fn seen_summary<O: Observer>(
     alloc: Global,
     bytes: &[u8],
     tables: &[Table],
     generations: u64,
     limits: Limits,
-) -> Result<Vec<u8>, ReachFault>
+    observer: &mut O,
+) -> Result<Summary, Refused<ReachFault>>
+    requires limits { AreGoodLimits limits }
+    requires few { generations ≤ most_generations }
+    ensures summary { IfOk result (IsSummaryAfter bytes.now tables.now generations) }
+    ensures word { IfOk result (λ s. IsWord s.rule_text.items) }
+    ensures fault { IfErr result
+        (λ refused. IsReachFault bytes.now tables.now generations limits.work refused.fault) }
+    ensures detail { IfErr result (HasReachDetail bytes.now) }
+{
+    observer.begins(1);
+    let run = summary_after_with_detail(alloc, bytes, tables, generations, limits, observer);
+    observer.ends();
+    run
+}
+
+// The lines of the summary of a plane some generations on.
+fn summary_text_after<O: Observer>(
+    alloc: Global,
+    bytes: &[u8],
+    tables: &[Table],
+    generations: u64,
+    limits: Limits,
+    observer: &mut O,
+) -> Result<Vec<u8>, Refused<ReachFault>>
     requires limits { AreGoodLimits limits }
     requires few { generations ≤ most_generations }
     ensures shown { IfOk result (λ text. IsShownAfter bytes.now tables.now generations text.items) }
-    ensures fault { IfErr result (IsReachFault bytes.now tables.now generations limits.work) }
+    ensures fault { IfErr result
+        (λ refused. IsReachFault bytes.now tables.now generations limits.work refused.fault) }
+    ensures detail { IfErr result (HasReachDetail bytes.now) }
 {
-    let summary = summary_after(alloc, bytes, tables, generations, limits, &mut Unwatched)?;
+    let summary = seen_summary(alloc, bytes, tables, generations, limits, observer)?;
     let Ok(text) = summary_lines(alloc, &summary) else {
-        return Err(ReachFault::Convert(ConvertFault::Memory));
+        return Err(Refused::of(ReachFault::Convert(ConvertFault::Memory)));
     };
     Ok(text)
 }
 
 /// What a run answers where a plane isn't reached or told.
-pub(crate) fn reach_refusal(fault: ReachFault) -> ToolFault
-    ensures { TellsReach fault result }
+pub(crate) fn reach_refusal(refused: Refused<ReachFault>) -> Refused<ToolFault>
+    ensures tells { TellsReach refused.fault result.fault }
+    ensures detail { (bytes : List ℕ) → HasReachDetail bytes refused → HasRunDetail bytes result }
 {
-    match fault {
-        ReachFault::Convert(fault) => convert_refusal(fault),
-        ReachFault::GenTooLarge => ToolFault::GenTooLarge,
-        ReachFault::Work => ToolFault::Work,
-        ReachFault::Range => ToolFault::Range,
+    match refused.fault {
+        ReachFault::Convert(fault) => convert_refusal(Refused {
+            fault,
+            line: refused.line,
+            rule_text: refused.rule_text,
+        }),
+        ReachFault::GenTooLarge => Refused::of(ToolFault::GenTooLarge),
+        ReachFault::Work => Refused::of(ToolFault::Work),
+        ReachFault::Range => Refused::of(ToolFault::Range),
     }
 }

@@ -1,14 +1,14 @@
 //! Runs of `identify`: pattern files in, a claim text out with the claims that are true of them.
 
-ghost use Rattle.std.specs.Prelude.{◌≡◌, ◌≢◌, ℕ, ◌≤◌, ◌++◌, ◌∷◌, [], IfOk, IfErr, OnOk, OnErr, ◌⊎◌};
+ghost use Rattle.std.specs.Prelude.{◌≡◌, ◌≢◌, ℕ, ◌≤◌, ◌<◌, ◌+◌, ◌^◌, ◌++◌, ◌∷◌, [], IfOk, IfErr, OnOk, OnErr, ◌⊎◌};
 ghost use Rattle.std.specs.List.{list_any, flat_map};
 ghost use Rattle.ca_plane.specs.Puts.{Puts};
 ghost use Rattle.ca_rule.specs.TableNext.{TableRule};
 ghost use Rattle.ca_rule.specs.declared.table.fault.TableFault.TheVariants as table_fault;
 ghost use Rattle.ca_claims.specs.Answers.{IsQuietTable, IsTableFault, FirstBad};
 ghost use Rattle.ca_claims.specs.Limited.{AreGoodLimits};
-ghost use Rattle.ca_claims.specs.Text.{longest_period};
-ghost use Rattle.ca_tool.specs.Catalog.{is_death, is_refused, version_line, rule_line, entry_lines, catalog_text};
+ghost use Rattle.ca_claims.specs.Text.{longest_period, most_generations};
+ghost use Rattle.ca_tool.specs.Catalog.{is_death, claims_death, is_refused, version_line, rule_line, entry_lines, catalog_text};
 ghost use Rattle.ca_tool.specs.Catalog.{catalog_status, IsContentOutcome, IsOutcome, IsEntry, AreEntries};
 ghost use Rattle.ca_tool.specs.Catalog.{AreRuleTables, IsCatalog, IsCatalogFault};
 ghost use Rattle.ca_tool.specs.CatalogSays.{SaysItsClaims};
@@ -18,7 +18,7 @@ use crate::entry::{Content, Entry, Outcome, Subject};
 use crate::entry_lines::{push_entry, push_rule};
 use crate::fault::ToolFault;
 use crate::names::{Names, is_claim_path};
-use ca_claims::{File, Identity, Limits, Observer, Unidentified, identify};
+use ca_claims::{File, Identity, Limits, Observer, Unidentified, identify_after};
 use ca_plane::text::push_text;
 use ca_plane::{Dev, Memory, send};
 use ca_rule::{Table, TableFault};
@@ -27,6 +27,8 @@ use std::io::Write;
 
 /// Identifies the patterns of files, and writes a claim text: for each file, in order, a `load` line and the claim
 /// that is true of its pattern, or a comment. It answers the exit status: 2 where a file isn't identified, else 0.
+/// Where some generations are asked for, at most 1152921504606846976, the planes that the patterns have then are
+/// identified in place of them, and the text says of these in comments alone.
 ///
 /// The patterns are looked at for as many generations as the limit says, from 1 to 4294967295, and each within the
 /// limits. Rules are looked for among the tables of the rule files, which the text names too. No two files have
@@ -40,17 +42,20 @@ pub fn identify_run<W: Write, O: Observer>(
     alloc: Global,
     subjects: &[Subject<'_>],
     rules: &[File<'_>],
+    generations: u64,
     limits: Limits,
     limit: u64,
     device: &mut Dev<W>,
     observer: &mut O,
 ) -> Result<u8, ToolFault>
+    requires few { generations ≤ most_generations }
     requires limits { AreGoodLimits limits }
     requires some { 1 ≤ limit }
     requires most { limit ≤ longest_period }
     ensures writes { WritesOneOf W.contents device.old device.new
-        (IsCatalog subjects.now rules.now limits.work limit)
-        (λ text. (code : ℕ) × IsCatalog subjects.now rules.now limits.work limit text code)
+        (IsCatalog subjects.now rules.now limits.work generations limit)
+        (λ text. (code : ℕ)
+        × IsCatalog subjects.now rules.now limits.work generations limit text code)
         (IsCatalogFault subjects.now rules.now) result }
 {
     let tables = match tables_of(alloc, rules) {
@@ -58,10 +63,18 @@ pub fn identify_run<W: Write, O: Observer>(
         Err(TableFault::Memory) => return Err(ToolFault::Memory),
         Err(fault) => return Err(ToolFault::BadTable(fault)),
     };
-    let Ok(entries) = entries_of(alloc, subjects, &tables, limits, limit, observer) else {
+    let Ok(entries) = entries_of(
+        alloc,
+        subjects,
+        &tables,
+        generations,
+        limits,
+        limit,
+        observer,
+    ) else {
         return Err(ToolFault::Memory);
     };
-    let Ok(text) = catalog_text(alloc, limit, rules, &entries) else {
+    let Ok(text) = catalog_text(alloc, generations, limit, rules, &entries) else {
         return Err(ToolFault::Memory);
     };
     if send(device, &text).is_err() {
@@ -96,22 +109,33 @@ fn entries_of<'a, O: Observer>(
     alloc: Global,
     subjects: &[Subject<'a>],
     tables: &[Table],
+    generations: u64,
     limits: Limits,
     limit: u64,
     observer: &mut O,
 ) -> Result<Vec<Entry<'a>>, Memory>
+    requires few { generations ≤ most_generations }
     requires limits { AreGoodLimits limits }
     requires some { 1 ≤ limit }
     requires most { limit ≤ longest_period }
     ensures entries { IfOk result
-        (λ entries. AreEntries tables.now limits.work limit [] subjects.now entries.items) }
+        (λ entries. AreEntries tables.now limits.work generations limit [] subjects.now entries.items) }
     ensures memory { OnErr result (subjects.now ≢ []) }
 {
     let mut names = Names::new(alloc);
     let mut entries = Vec::new(alloc);
     'subjects: for subject in subjects {
         observer.begins((entries.len() as u64).saturating_add(1));
-        let entry = entry_of(alloc, &mut names, subject, tables, limits, limit, observer)?;
+        let entry = entry_of(
+            alloc,
+            &mut names,
+            subject,
+            tables,
+            generations,
+            limits,
+            limit,
+            observer,
+        )?;
         observer.ends();
         if entries.push(entry).is_err() {
             return Err(Memory);
@@ -126,17 +150,19 @@ fn entry_of<'a, O: Observer>(
     names: &mut Names,
     subject: &Subject<'a>,
     tables: &[Table],
+    generations: u64,
     limits: Limits,
     limit: u64,
     observer: &mut O,
 ) -> Result<Entry<'a>, Memory>
+    requires few { generations ≤ most_generations }
     requires limits { AreGoodLimits limits }
     requires some { 1 ≤ limit }
     requires most { limit ≤ longest_period }
-    ensures entry { IfOk result (IsEntry tables.now limits.work limit names.old subject.now) }
+    ensures entry { IfOk result (IsEntry tables.now limits.work generations limit names.old subject.now) }
     ensures names { IfOk result (λ entry. names.new ≡ names.old ++ entry.name.items ∷ []) }
 {
-    let outcome = outcome_of(alloc, subject, tables, limits, limit, observer);
+    let outcome = outcome_of(alloc, subject, tables, generations, limits, limit, observer);
     let name = names.add(alloc, subject.path)?;
     Ok(Entry {
         name,
@@ -150,19 +176,29 @@ fn outcome_of<O: Observer>(
     alloc: Global,
     subject: &Subject<'_>,
     tables: &[Table],
+    generations: u64,
     limits: Limits,
     limit: u64,
     observer: &mut O,
 ) -> Outcome
+    requires few { generations ≤ most_generations }
     requires limits { AreGoodLimits limits }
     requires some { 1 ≤ limit }
     requires most { limit ≤ longest_period }
-    ensures { IsOutcome tables.now limits.work limit subject.now result }
+    ensures { IsOutcome tables.now limits.work generations limit subject.now result }
 {
     if !is_claim_path(subject.path) {
         return Outcome::Unnameable;
     }
-    content_outcome(alloc, subject.content, tables, limits, limit, observer)
+    content_outcome(
+        alloc,
+        subject.content,
+        tables,
+        generations,
+        limits,
+        limit,
+        observer,
+    )
 }
 
 // What comes of a file that gave this.
@@ -170,20 +206,28 @@ fn content_outcome<O: Observer>(
     alloc: Global,
     content: Content<'_>,
     tables: &[Table],
+    generations: u64,
     limits: Limits,
     limit: u64,
     observer: &mut O,
 ) -> Outcome
+    requires few { generations ≤ most_generations }
     requires limits { AreGoodLimits limits }
     requires some { 1 ≤ limit }
     requires most { limit ≤ longest_period }
-    ensures { IsContentOutcome tables.now limits.work limit content.entry result }
+    ensures { IsContentOutcome tables.now limits.work generations limit content.entry result }
 {
     let bytes = match content {
         Content::Bytes(bytes) => bytes,
-        Content::Missing(cause) => return Outcome::Refused(Unidentified { cause, line: None }),
+        Content::Missing(cause) => {
+            return Outcome::Refused(Unidentified {
+                cause,
+                line: None,
+                rule_text: None,
+            });
+        }
     };
-    match identify(alloc, bytes, tables, limits, limit, observer) {
+    match identify_after(alloc, bytes, tables, generations, limits, limit, observer) {
         Ok(identity) => Outcome::Identified(identity),
         Err(why) => Outcome::Refused(why),
     }
@@ -223,26 +267,35 @@ fn catalog_status(entries: &[Entry<'_>]) -> u8
 // The whole claim text.
 fn catalog_text(
     alloc: Global,
+    generations: u64,
     limit: u64,
     rules: &[File<'_>],
     entries: &[Entry<'_>],
 ) -> Result<Vec<u8>, Memory>
-    ensures text { IfOk result (λ text. text.items ≡ catalog_text limit rules.now entries.now) }
+    requires { generations + limit < 2 ^ 64 }
+    ensures text { IfOk result (λ text. text.items ≡ catalog_text generations limit rules.now entries.now) }
     ensures memory { OnErr result ((entries.now ≢ []) ⊎ (rules.now ≢ [])) }
 {
     let mut text = Vec::new(alloc);
-    push_version(&mut text, entries)?;
+    push_version(&mut text, generations, entries)?;
     push_rules(&mut text, rules)?;
-    push_entries(&mut text, limit, entries)?;
+    push_entries(&mut text, generations, limit, entries)?;
     Ok(text)
 }
 
+// Whether the text has a claim that some pattern dies.
+fn claims_death(generations: u64, entries: &[Entry<'_>]) -> bool
+    ensures { result ≡ claims_death generations entries.now }
+{
+    generations == 0 && has_death(entries)
+}
+
 // Puts the line of the version, where a text with these entries needs the second one.
-fn push_version(out: &mut Vec<u8>, entries: &[Entry<'_>]) -> Result<(), Memory>
-    ensures puts { OnOk result (Puts out.old.items out.new.items (version_line entries.now)) }
+fn push_version(out: &mut Vec<u8>, generations: u64, entries: &[Entry<'_>]) -> Result<(), Memory>
+    ensures puts { OnOk result (Puts out.old.items out.new.items (version_line generations entries.now)) }
     ensures memory { OnErr result (entries.now ≢ []) }
 {
-    if has_death(entries) {
+    if claims_death(generations, entries) {
         push_text(out, b"claims 2\n")?;
     }
     Ok(())
@@ -258,19 +311,26 @@ fn push_rules(out: &mut Vec<u8>, rules: &[File<'_>]) -> Result<(), Memory>
     Ok(())
 }
 
-fn push_entries(out: &mut Vec<u8>, limit: u64, entries: &[Entry<'_>]) -> Result<(), Memory>
-    ensures puts { OnOk result (Puts out.old.items out.new.items (flat_map (entry_lines limit) entries.now)) }
+fn push_entries(
+    out: &mut Vec<u8>,
+    generations: u64,
+    limit: u64,
+    entries: &[Entry<'_>],
+) -> Result<(), Memory>
+    requires { generations + limit < 2 ^ 64 }
+    ensures puts { OnOk result (Puts out.old.items out.new.items
+        (flat_map (entry_lines generations limit) entries.now)) }
     ensures memory { OnErr result (entries.now ≢ []) }
 {
     'entries: for entry in entries {
-        push_entry(out, limit, entry)?;
+        push_entry(out, generations, limit, entry)?;
     }
     Ok(())
 }
 
 /// A law: the text that `identify_run` writes is a claim text. Read as one, as `ca_claims::read_claims` reads it, it
 /// says just the names of the files that are identified and the claims that are true of them, and the rule files,
-/// whose paths have to be words; and no line of it is faulty.
+/// whose paths have to be words; and no line of it is faulty. Of planes some generations on it makes no claim.
 pub fn says_its_claims()
     ensures { SaysItsClaims }
 {}

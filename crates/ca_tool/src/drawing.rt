@@ -6,6 +6,7 @@ ghost use Rattle.ca_quad.specs.Trees.{IsTree, cell};
 ghost use Rattle.ca_draw.specs.Windows.{IsBox};
 ghost use Rattle.ca_claims.specs.Limited.{AreGoodLimits};
 ghost use Rattle.ca_claims.specs.Text.{most_generations};
+ghost use Rattle.ca_tool.specs.Details.{HasRunDetail, fault_alone};
 ghost use Rattle.ca_tool.specs.Views.{IsBoxShown};
 ghost use Rattle.ca_tool.specs.Drawn.{IsPictureOf, IsDrawn, IsDrawFault, WritesDrawn};
 ghost use Rattle.ca_tool.specs.inner.Refusals.{IsUndrawn};
@@ -14,7 +15,7 @@ use crate::ahead_run::reach_refusal;
 use crate::fault::ToolFault;
 use crate::pattern_run::{known_table, tables_of, write};
 use crate::view::View;
-use ca_claims::{Limits, Observer, run_on};
+use ca_claims::{Limits, Observer, Refused, run_on_with_detail};
 use ca_draw::laws::least_boxes;
 use ca_draw::{ImageFormat, Style, draw};
 use ca_plane::{Automaton, Dev, Memory};
@@ -55,40 +56,52 @@ pub fn draw_bytes<W: Write, O: Observer>(
     table: Option<&[u8]>,
     observer: &mut O,
     output: &mut Dev<W>,
-) -> Result<u8, ToolFault>
+) -> Result<u8, Refused<ToolFault>>
     requires limits { AreGoodLimits request.limits }
     requires few { request.generations ≤ most_generations }
     ensures writes { WritesDrawn W.contents output.old output.new (option_copied table.entry) bytes.now
-        request result }
+        request (fault_alone result) }
+    ensures detail { IfErr result (HasRunDetail bytes.now) }
 {
-    let table = known_table(alloc, table)?;
+    let table = match known_table(alloc, table) {
+        Ok(table) => table,
+        Err(refused) => return Err(refused),
+    };
     let text = match picture(alloc, bytes, tables_of(&table), request, observer) {
         Ok(text) => text,
-        Err(fault) => return Err(fault),
+        Err(refused) => return Err(refused),
     };
     write(output, &text)
 }
 
-// The picture of a pattern file.
+// The picture of a pattern file, which is the first that the observer sees.
 fn picture<O: Observer>(
     alloc: Global,
     bytes: &[u8],
     tables: &[Table],
     request: DrawRequest,
     observer: &mut O,
-) -> Result<Vec<u8>, ToolFault>
+) -> Result<Vec<u8>, Refused<ToolFault>>
     requires limits { AreGoodLimits request.limits }
     requires few { request.generations ≤ most_generations }
     ensures drawn { IfOk result (λ text. IsDrawn bytes.now tables.now request text.items) }
-    ensures fault { IfErr result (IsDrawFault bytes.now tables.now request) }
+    ensures fault { IfErr result (λ refused. IsDrawFault bytes.now tables.now request refused.fault) }
+    ensures detail { IfErr result (HasRunDetail bytes.now) }
 {
     let generations = request.generations;
-    let reached = match run_on(alloc, bytes, tables, generations, request.limits, observer) {
+    let limits = request.limits;
+    observer.begins(1);
+    let run = run_on_with_detail(alloc, bytes, tables, generations, limits, observer);
+    observer.ends();
+    let reached = match run {
         Ok(reached) => reached,
-        Err(fault) => return Err(reach_refusal(fault)),
+        Err(refused) => return Err(reach_refusal(refused)),
     };
     let states = reached.rule.states();
-    picture_of(alloc, &reached.store, &reached.tree, states, request)
+    match picture_of(alloc, &reached.store, &reached.tree, states, request) {
+        Ok(text) => Ok(text),
+        Err(fault) => Err(Refused::of(fault)),
+    }
 }
 
 // The picture of a tree's cells, of so many states.

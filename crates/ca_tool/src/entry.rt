@@ -20,7 +20,7 @@ pub struct Subject<'a> {
 }
 
 /// What came of a file that is to be identified.
-#[derive(Clone, Copy)]
+#[derive(Drop)]
 pub(crate) enum Outcome {
     /// No claim text can name its path.
     Unnameable,

@@ -1,19 +1,21 @@
 //! The lines of a claim text on the files that were to be identified.
 
-ghost use Rattle.std.specs.Prelude.{◌≡◌, ◌++◌, ◌∷◌, [], map, codes, decimal, OnOk};
+ghost use Rattle.std.specs.Prelude.{◌≡◌, ◌+◌, ◌<◌, ◌^◌, ◌++◌, ◌∷◌, [], map, codes, decimal, OnOk};
 ghost use Rattle.std.specs.Fmt.{signed_decimal};
 ghost use Rattle.ca_claims.specs.declared.identity.Identity.TheVariants.{Unknown};
 ghost use Rattle.ca_tool.specs.declared.entry.Outcome.TheVariants.{Identified};
 ghost use Rattle.ca_plane.specs.Puts.{Puts};
 ghost use Rattle.ca_tool.specs.Catalog.{load_line, identity_line, refused_line, line_byte, unnameable_line};
+ghost use Rattle.ca_tool.specs.Catalog.{later_text, later_line, found_line};
 ghost use Rattle.ca_tool.specs.Catalog.{outcome_lines, entry_lines, rule_line};
 ghost use Rattle.ca_tool.specs.inner.Pieces.{pieces_text};
 
 use crate::entry::{Entry, Outcome};
 use crate::finding::{at_pieces, generations_word};
-use crate::pieces::{NOTHING, Piece, push_pieces};
+use crate::growth::{push_counted, push_none};
+use crate::pieces::{Piece, push_pieces};
 use crate::printing::cause_pieces;
-use ca_claims::{File, Identity, Unidentified};
+use ca_claims::{File, Growth, Identity, Unidentified};
 use ca_plane::Memory;
 use ca_plane::text::push_text;
 
@@ -30,41 +32,28 @@ fn load_pieces<'a>(name: &'a [u8], path: &'a [u8]) -> [Piece<'a>; 5]
 }
 
 // The line of a claim about one number of generations in pieces.
-fn number_pieces<'a>(word: &'a [u8], name: &'a [u8], number: u64) -> [Piece<'a>; 9]
+fn number_pieces<'a>(word: &'a [u8], name: &'a [u8], number: u64) -> [Piece<'a>; 5]
     ensures { pieces_text result ≡ word.now ++ (name.now ++ (32 ∷ (decimal number ++ 10 ∷ []))) }
 {
-    let mut pieces = [NOTHING; 9];
-    pieces[0] = Piece::Text(word);
-    pieces[1] = Piece::Text(name);
-    pieces[2] = Piece::Text(b" ");
-    pieces[3] = Piece::Number(number);
-    pieces[4] = Piece::Text(b"\n");
-    pieces
+    [
+        Piece::Text(word),
+        Piece::Text(name),
+        Piece::Text(b" "),
+        Piece::Number(number),
+        Piece::Text(b"\n"),
+    ]
 }
 
 // A line of a word, a name and a text in pieces.
-fn word_pieces<'a>(word: &'a [u8], name: &'a [u8], text: &'a [u8]) -> [Piece<'a>; 9]
+fn word_pieces<'a>(word: &'a [u8], name: &'a [u8], text: &'a [u8]) -> [Piece<'a>; 4]
     ensures { pieces_text result ≡ word.now ++ (name.now ++ (text.now ++ 10 ∷ [])) }
 {
-    let mut pieces = [NOTHING; 9];
-    pieces[0] = Piece::Text(word);
-    pieces[1] = Piece::Text(name);
-    pieces[2] = Piece::Text(text);
-    pieces[3] = Piece::Text(b"\n");
-    pieces
-}
-
-fn unknown_pieces<'a>(limit: u64, name: &'a [u8]) -> [Piece<'a>; 9]
-    ensures { pieces_text result ≡ identity_line limit name.now Unknown }
-{
-    let mut pieces = [NOTHING; 9];
-    pieces[0] = Piece::Text(b"# ");
-    pieces[1] = Piece::Text(name);
-    pieces[2] = Piece::Text(b": none of these within ");
-    pieces[3] = Piece::Number(limit);
-    pieces[4] = Piece::Text(generations_word(limit));
-    pieces[5] = Piece::Text(b"\n");
-    pieces
+    [
+        Piece::Text(word),
+        Piece::Text(name),
+        Piece::Text(text),
+        Piece::Text(b"\n"),
+    ]
 }
 
 fn spaceship_pieces<'a>(name: &'a [u8], period: u64, dx: i64, dy: i64) -> [Piece<'a>; 9]
@@ -83,23 +72,120 @@ fn spaceship_pieces<'a>(name: &'a [u8], period: u64, dx: i64, dy: i64) -> [Piece
     ]
 }
 
-// The line of what a pattern is found to be in pieces.
-fn identity_pieces<'a>(limit: u64, name: &'a [u8], identity: Identity) -> [Piece<'a>; 9]
-    ensures { pieces_text result ≡ identity_line limit name.now identity }
+// Puts the comment on a pattern of which no claim is true within the limit.
+fn push_unknown(out: &mut Vec<u8>, limit: u64, name: &[u8], growth: Growth) -> Result<(), Memory>
+    ensures { OnOk result (Puts out.old.items out.new.items (identity_line limit name.now (Unknown growth))) }
+{
+    push_text(out, b"# ")?;
+    push_text(out, name)?;
+    push_text(out, b": ")?;
+    push_none(out, limit, limit, growth)?;
+    push_text(out, b"\n")
+}
+
+// Puts the line of what a pattern is found to be.
+fn push_identity(
+    out: &mut Vec<u8>,
+    limit: u64,
+    name: &[u8],
+    identity: Identity,
+) -> Result<(), Memory>
+    ensures { OnOk result (Puts out.old.items out.new.items (identity_line limit name.now identity)) }
 {
     match identity {
-        Identity::Empty => word_pieces(b"# ", name, b": no cell is live"),
-        Identity::StillLife => word_pieces(b"still ", name, b""),
-        Identity::Oscillator { period } => number_pieces(b"oscillator ", name, period),
-        Identity::Spaceship { period, dx, dy } => spaceship_pieces(name, period, dx, dy),
-        Identity::Dies { generations } => number_pieces(b"dies ", name, generations),
-        Identity::Unknown => unknown_pieces(limit, name),
+        Identity::Empty => push_pieces(out, &word_pieces(b"# ", name, b": no cell is live")),
+        Identity::StillLife => push_pieces(out, &word_pieces(b"still ", name, b"")),
+        Identity::Oscillator { period } => {
+            push_pieces(out, &number_pieces(b"oscillator ", name, period))
+        }
+        Identity::Spaceship { period, dx, dy } => {
+            push_pieces(out, &spaceship_pieces(name, period, dx, dy))
+        }
+        Identity::Dies { generations } => {
+            push_pieces(out, &number_pieces(b"dies ", name, generations))
+        }
+        Identity::Unknown { growth } => push_unknown(out, limit, name, growth),
     }
 }
 
+// Puts what the plane of a pattern is found to be some generations on.
+fn push_later_text(
+    out: &mut Vec<u8>,
+    generations: u64,
+    limit: u64,
+    identity: Identity,
+) -> Result<(), Memory>
+    requires { generations + limit < 2 ^ 64 }
+    ensures { OnOk result (Puts out.old.items out.new.items (later_text generations limit identity)) }
+{
+    match identity {
+        Identity::Empty => push_text(out, b"no cell is live"),
+        Identity::StillLife => push_text(out, b"still"),
+        Identity::Oscillator { period } => push_counted(out, b"oscillator ", period),
+        Identity::Spaceship { period, dx, dy } => {
+            push_pieces(out, &spaceship_words(period, dx, dy))
+        }
+        Identity::Dies { generations } => push_counted(out, b"dies ", generations),
+        Identity::Unknown { growth } => push_none(out, limit, generations + limit, growth),
+    }
+}
+
+fn spaceship_words<'a>(period: u64, dx: i64, dy: i64) -> [Piece<'a>; 6]
+    ensures { pieces_text result ≡ codes "spaceship "
+        ++ (decimal period ++ (32 ∷ (signed_decimal dx ++ (32 ∷ signed_decimal dy)))) }
+{
+    [
+        Piece::Text(b"spaceship "),
+        Piece::Number(period),
+        Piece::Text(b" "),
+        Piece::Integer(dx),
+        Piece::Text(b" "),
+        Piece::Integer(dy),
+    ]
+}
+
+// Puts the comment on what the plane of a pattern is found to be some generations on.
+fn push_later(
+    out: &mut Vec<u8>,
+    generations: u64,
+    limit: u64,
+    name: &[u8],
+    identity: Identity,
+) -> Result<(), Memory>
+    requires { generations + limit < 2 ^ 64 }
+    ensures { OnOk result (Puts out.old.items out.new.items
+        (later_line generations limit name.now identity)) }
+{
+    push_text(out, b"# ")?;
+    push_text(out, name)?;
+    push_counted(out, b" after ", generations)?;
+    push_text(out, generations_word(generations))?;
+    push_text(out, b": ")?;
+    push_later_text(out, generations, limit, identity)?;
+    push_text(out, b"\n")
+}
+
+// Puts the line of what is found of a pattern, or of its plane some generations on.
+fn push_found(
+    out: &mut Vec<u8>,
+    generations: u64,
+    limit: u64,
+    name: &[u8],
+    identity: Identity,
+) -> Result<(), Memory>
+    requires { generations + limit < 2 ^ 64 }
+    ensures { OnOk result (Puts out.old.items out.new.items
+        (found_line generations limit name.now identity)) }
+{
+    if generations == 0 {
+        return push_identity(out, limit, name, identity);
+    }
+    push_later(out, generations, limit, name, identity)
+}
+
 // The comment on a file that is refused in pieces.
-fn refused_pieces<'a>(name: &'a [u8], path: &'a [u8], why: Unidentified) -> [Piece<'a>; 10]
-    ensures { pieces_text result ≡ refused_line name.now path.now why }
+fn refused_pieces<'a>(name: &'a [u8], path: &'a [u8], why: &Unidentified) -> [Piece<'a>; 10]
+    ensures { pieces_text result ≡ refused_line name.now path.now why.now }
 {
     let [first, second] = cause_pieces(why.cause);
     let [at, number] = at_pieces(why.line);
@@ -145,33 +231,42 @@ fn push_unnameable(out: &mut Vec<u8>, name: &[u8], path: &[u8]) -> Result<(), Me
 }
 
 // Puts the lines on a file that is identified.
-fn push_identity(
+fn push_identified(
     out: &mut Vec<u8>,
+    generations: u64,
     limit: u64,
     name: &[u8],
     path: &[u8],
     identity: Identity,
 ) -> Result<(), Memory>
+    requires { generations + limit < 2 ^ 64 }
     ensures { OnOk result (Puts out.old.items out.new.items
-        (outcome_lines limit name.now path.now (Identified identity))) }
+        (outcome_lines generations limit name.now path.now (Identified identity))) }
 {
     push_pieces(out, &load_pieces(name, path))?;
-    push_pieces(out, &identity_pieces(limit, name, identity))
+    push_found(out, generations, limit, name, identity)
 }
 
-/// Puts the lines on a file after what `out` holds; `limit` is the number of generations that were looked at.
+/// Puts the lines on a file after what `out` holds: `limit` is the number of generations that were looked at, from
+/// so many `generations` on.
 ///
 /// # Errors
 ///
 /// Fails where there is no memory for them.
-pub(crate) fn push_entry(out: &mut Vec<u8>, limit: u64, entry: &Entry<'_>) -> Result<(), Memory>
-    ensures { OnOk result (Puts out.old.items out.new.items (entry_lines limit entry.now)) }
+pub(crate) fn push_entry(
+    out: &mut Vec<u8>,
+    generations: u64,
+    limit: u64,
+    entry: &Entry<'_>,
+) -> Result<(), Memory>
+    requires { generations + limit < 2 ^ 64 }
+    ensures { OnOk result (Puts out.old.items out.new.items (entry_lines generations limit entry.now)) }
 {
-    match entry.outcome {
+    match &entry.outcome {
         Outcome::Unnameable => push_unnameable(out, &entry.name, entry.path),
         Outcome::Refused(why) => push_pieces(out, &refused_pieces(&entry.name, entry.path, why)),
         Outcome::Identified(identity) => {
-            push_identity(out, limit, &entry.name, entry.path, identity)
+            push_identified(out, generations, limit, &entry.name, entry.path, *identity)
         }
     }
 }

@@ -5,11 +5,11 @@ ghost use Rattle.ca_tool.specs.Printed.{pattern_line, explanation};
 ghost use Rattle.ca_tool.specs.Writing.{Sends};
 ghost use Rattle.ca_tool.specs.inner.Pieces.{pieces_text};
 
-use crate::detail::{Detail, detail_pieces};
 use crate::fault::ToolFault;
-use crate::finding::file_pieces;
+use crate::finding::{at_pieces, file_pieces, rule_pieces};
 use crate::pieces::{NOTHING, Piece, send_pieces};
 use crate::texts::table_line;
+use ca_claims::Refused;
 use ca_plane::{Dev, WriteFault};
 use std::io::Write;
 
@@ -21,28 +21,27 @@ pub struct RunPaths<'a> {
 }
 
 // The line about a pattern file.
-fn pattern_pieces<'a>(path: &'a [u8], detail: &'a Detail) -> [Piece<'a>; 15]
-    ensures { pieces_text result ≡ pattern_line path.now detail.now }
+fn pattern_pieces<'a>(path: &'a [u8], refused: &'a Refused<ToolFault>) -> [Piece<'a>; 15]
+    ensures { pieces_text result ≡ pattern_line path.now refused.now.line refused.now.rule_text }
 {
-    let [word, text] = detail_pieces(detail);
+    let [at, number] = at_pieces(refused.line);
+    let [word, text] = rule_pieces(&refused.rule_text);
     let mut pieces = [NOTHING; 15];
     pieces[0] = Piece::Text(b"  ");
     pieces[1] = Piece::Text(path);
-    pieces[2] = word;
-    pieces[3] = text;
-    pieces[4] = Piece::Text(b"\n");
+    pieces[2] = at;
+    pieces[3] = number;
+    pieces[4] = word;
+    pieces[5] = text;
+    pieces[6] = Piece::Text(b"\n");
     pieces
 }
 
 // The line that explains a fault, where there is something to tell.
-fn explanation_pieces<'a>(
-    fault: ToolFault,
-    detail: &'a Detail,
-    paths: &RunPaths<'a>,
-) -> [Piece<'a>; 15]
-    ensures { pieces_text result ≡ explanation fault detail.now paths.now }
+fn explanation_pieces<'a>(refused: &'a Refused<ToolFault>, paths: &RunPaths<'a>) -> [Piece<'a>; 15]
+    ensures { pieces_text result ≡ explanation refused.now paths.now }
 {
-    match fault {
+    match refused.fault {
         ToolFault::BadTable(fault) => {
             file_pieces(b"", b"rule file", paths.rule, Some(table_line(fault)))
         }
@@ -50,24 +49,23 @@ fn explanation_pieces<'a>(
         | ToolFault::GenTooLarge
         | ToolFault::Work
         | ToolFault::Range
-        | ToolFault::Window(_) => pattern_pieces(paths.pattern, detail),
+        | ToolFault::Window(_) => pattern_pieces(paths.pattern, refused),
         _ => [NOTHING; 15],
     }
 }
 
 /// Writes the line that explains a fault of a run over a pattern file, where there is something to tell: the
-/// rule file with the line of its fault, or the pattern file with the detail. A fault that names its file, or is
-/// about none, has no such line.
+/// rule file with the line of its fault, or the pattern file with what is known of it. A fault that names its
+/// file, or is about none, has no such line.
 ///
 /// It takes no memory. After a failure some first part of the line was written, but not all of it.
 pub fn explain<W: Write>(
-    fault: ToolFault,
-    detail: &Detail,
+    refused: &Refused<ToolFault>,
     paths: &RunPaths<'_>,
     device: &mut Dev<W>,
 ) -> Result<(), WriteFault>
     ensures sends { Sends W.contents device.old device.new
-        (explanation fault detail.now paths.now) WriteFault.Write result }
+        (explanation refused.now paths.now) WriteFault.Write result }
 {
-    send_pieces(device, &explanation_pieces(fault, detail, paths))
+    send_pieces(device, &explanation_pieces(refused, paths))
 }

@@ -1,17 +1,18 @@
 //! What is printed for a claim: the line of its answer, and a second line that explains it.
 
-ghost use Rattle.std.specs.Prelude.{◌≡◌, OnOk, codes};
-ghost use Rattle.ca_tool.specs.Printed.{generations_word, cell_line, at_line, file_line, noted_line, cause_line};
-ghost use Rattle.ca_tool.specs.Printed.{note_text, second_line, finding_text};
+ghost use Rattle.std.specs.Prelude.{◌≡◌, Some, OnOk, codes};
+ghost use Rattle.ca_tool.specs.Printed.{generations_word, cell_line, at_line, file_line, rule_words};
+ghost use Rattle.ca_tool.specs.Printed.{faulty_named, faulty_words, faulty_rule_words, noted_line};
+ghost use Rattle.ca_tool.specs.Printed.{cause_line, note_text, second_line, finding_text};
 ghost use Rattle.ca_tool.specs.Writing.{Sends};
 ghost use Rattle.ca_tool.specs.inner.Pieces.{pieces_text};
 
-use crate::detail::{Detail, detail_pieces};
 use crate::pieces::{NOTHING, Piece, push_pieces, send_pieces};
 use crate::printing::answer_pieces;
-use crate::texts::table_line;
+use crate::texts::{table_kind, table_line};
 use ca_claims::{Answer, Cause, Note, Verdict, Why};
 use ca_plane::{Dev, Memory, WriteFault, send};
+use ca_rule::TableFault;
 use std::io::Write;
 
 /// How the answers of a text are printed.
@@ -21,14 +22,26 @@ pub struct ReportStyle<'a> {
     pub before: &'a [u8],
     /// Whether an answer that isn't a yes gets a second line, where there is more to tell.
     pub explained: bool,
+    /// The rule files that were looked for by the names of rules, and aren't good: a second line about a
+    /// pattern whose rule text is such a name tells the file too.
+    pub faulty: &'a [FaultyRule<'a>],
 }
 
-/// An answer, the note on it, and what more is known of the pattern that the note names.
+/// A rule file that was looked for by the name of a rule, and isn't good.
+#[derive(Clone, Copy, Debug)]
+pub struct FaultyRule<'a> {
+    /// The name, which is the rule text of a pattern.
+    pub name: &'a [u8],
+    pub path: &'a [u8],
+    /// What is wrong with the file. It is never `Memory`.
+    pub fault: TableFault,
+}
+
+/// An answer, and the note on it.
 #[derive(Drop)]
 pub(crate) struct Finding<'a> {
     pub(crate) answer: Answer,
     pub(crate) note: Note<'a>,
-    pub(crate) detail: Detail,
 }
 
 pub(crate) fn generations_word<'a>(generations: u64) -> &'a [u8]
@@ -111,20 +124,80 @@ pub(crate) fn file_pieces<'a>(
     ]
 }
 
+/// A rule text that names no rule.
+pub(crate) fn rule_pieces<'a>(rule_text: &'a Option<Vec<u8>>) -> [Piece<'a>; 2]
+    ensures { pieces_text result ≡ rule_words rule_text.now }
+{
+    match rule_text {
+        Some(text) => [Piece::Text(b": rule "), Piece::Text(text)],
+        None => [NOTHING; 2],
+    }
+}
+
+// The first of the faulty rule files that was looked for by this name.
+fn faulty_named<'a>(faulty: &[FaultyRule<'a>], name: &[u8]) -> Option<FaultyRule<'a>>
+    ensures { result ≡ faulty_named faulty.now name.now }
+{
+    'files: for index in 0..faulty.len() {
+        let file = faulty[index];
+        if file.name == name {
+            return Some(file);
+        }
+    }
+    None
+}
+
+// A faulty rule file, with the line of its fault and what is wrong there.
+fn faulty_pieces<'a>(file: FaultyRule<'a>) -> [Piece<'a>; 5]
+    ensures { pieces_text result ≡ faulty_words (Some file.entry) }
+{
+    if let TableFault::Memory = file.fault {
+        return [
+            Piece::Text(b": "),
+            Piece::Text(file.path),
+            Piece::Text(b": "),
+            Piece::Text(b"memory"),
+            NOTHING,
+        ];
+    }
+    [
+        Piece::Text(b": "),
+        Piece::Text(file.path),
+        Piece::Text(b": line "),
+        Piece::Number(table_line(file.fault)),
+        Piece::Text(table_kind(file.fault)),
+    ]
+}
+
+// The faulty rule file that was looked for by a rule text, where there is one.
+fn faulty_rule_pieces<'a>(faulty: &[FaultyRule<'a>], rule_text: &Option<Vec<u8>>) -> [Piece<'a>; 5]
+    ensures { pieces_text result ≡ faulty_rule_words faulty.now rule_text.now }
+{
+    let Some(text) = rule_text else {
+        return [NOTHING; 5];
+    };
+    match faulty_named(faulty, text) {
+        Some(file) => faulty_pieces(file),
+        None => [NOTHING; 5],
+    }
+}
+
 // The line about the file of a pattern, with the pattern's name.
 fn noted_pieces<'a>(
-    before: &'a [u8],
+    style: &ReportStyle<'a>,
     name: &'a [u8],
     path: &'a [u8],
     line: Option<u64>,
-    detail: &'a Detail,
+    rule_text: &'a Option<Vec<u8>>,
 ) -> [Piece<'a>; 15]
-    ensures { pieces_text result ≡ noted_line before.now name.now path.now line detail.now }
+    ensures { pieces_text result ≡ noted_line style.now.before.now style.now.faulty.now name.now path.now
+        line rule_text.now }
 {
     let [at, number] = at_pieces(line);
-    let [word, text] = detail_pieces(detail);
+    let [word, text] = rule_pieces(rule_text);
+    let [colon, file, at_fault, fault_line, kind] = faulty_rule_pieces(style.faulty, rule_text);
     [
-        Piece::Text(before),
+        Piece::Text(style.before),
         Piece::Text(b"  "),
         Piece::Text(name),
         Piece::Text(b": "),
@@ -133,12 +206,12 @@ fn noted_pieces<'a>(
         number,
         word,
         text,
+        colon,
+        file,
+        at_fault,
+        fault_line,
+        kind,
         Piece::Text(b"\n"),
-        NOTHING,
-        NOTHING,
-        NOTHING,
-        NOTHING,
-        NOTHING,
     ]
 }
 
@@ -153,21 +226,23 @@ fn cause_line(cause: Cause) -> Option<u64>
 }
 
 // The line of a note on a verdict, where there is something to tell.
-fn note_pieces<'a>(
-    before: &'a [u8],
-    verdict: Verdict,
-    note: Note<'a>,
-    detail: &'a Detail,
-) -> [Piece<'a>; 15]
-    ensures { pieces_text result ≡ note_text before.now verdict note.entry detail.now }
+fn note_pieces<'a>(style: &ReportStyle<'a>, verdict: Verdict, note: &'a Note<'a>) -> [Piece<'a>; 15]
+    ensures { pieces_text result
+        ≡ note_text style.now.before.now style.now.faulty.now verdict note.now }
 {
     match (verdict, note) {
-        (Verdict::No(why), Note::Cell { name }) => cell_pieces(before, name, why),
-        (Verdict::Refused(_), Note::Pattern { name, path, line }) => {
-            noted_pieces(before, name, path, line, detail)
-        }
+        (Verdict::No(why), Note::Cell { name }) => cell_pieces(style.before, name, why),
+        (
+            Verdict::Refused(_),
+            Note::Pattern {
+                name,
+                path,
+                line,
+                rule_text,
+            },
+        ) => noted_pieces(style, name, path, *line, rule_text),
         (Verdict::Refused(cause), Note::RuleFile { path }) => {
-            file_pieces(before, b"rule file", path, cause_line(cause))
+            file_pieces(style.before, b"rule file", path, cause_line(cause))
         }
         _ => [NOTHING; 15],
     }
@@ -180,12 +255,7 @@ fn second_pieces<'a>(style: &ReportStyle<'a>, finding: &'a Finding<'a>) -> [Piec
     if !style.explained {
         return [NOTHING; 15];
     }
-    note_pieces(
-        style.before,
-        finding.answer.verdict,
-        finding.note,
-        &finding.detail,
-    )
+    note_pieces(style, finding.answer.verdict, &finding.note)
 }
 
 // Puts the lines for a claim in place of what `out` holds.

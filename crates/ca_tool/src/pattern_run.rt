@@ -1,9 +1,11 @@
 //! Runs of `show` and of `convert`: a pattern file in, what is shown of it or another pattern file out.
 
-ghost use Rattle.std.specs.Prelude.{◌≡◌, IfOk, IfErr};
+ghost use Rattle.std.specs.Prelude.{◌≡◌, ℕ, List, IfOk, IfErr};
 ghost use Rattle.std.specs.Option.{option_copied, option_to_list};
 ghost use Rattle.ca_claims.specs.Converted.{IsConverted, IsSummaryFault, IsConvertFault};
 ghost use Rattle.ca_tool.specs.declared.fault.InputFault.TheVariants as inputs;
+ghost use Rattle.ca_claims.specs.Refused.{HasDetail};
+ghost use Rattle.ca_tool.specs.Details.{HasRunDetail, fault_alone};
 ghost use Rattle.ca_tool.specs.Writing.{Sends};
 ghost use Rattle.ca_tool.specs.Runs.{ReadsAll, TakesFile, AreKnownTables, IsShown, IsRuleFileFault, RunsOver};
 ghost use Rattle.ca_tool.specs.Runs.{WritesUnder, IsTableRefusal};
@@ -12,7 +14,7 @@ ghost use Rattle.ca_tool.specs.inner.Refusals.{TellsTable, TellsConvert, IsReadi
 use crate::fault::ToolFault;
 use crate::read::read_all;
 use crate::summary::summary_lines;
-use ca_claims::{ConvertFault, Target, convert, summary};
+use ca_claims::{ConvertFault, Refused, Target, convert_with_detail, summary_with_detail};
 use ca_plane::{Dev, send};
 use ca_rule::{Table, TableFault};
 use std::alloc::Global;
@@ -34,23 +36,27 @@ pub fn show_run<R: Read, W: Write>(
         output.old output.new IsShown IsSummaryFault result }
 {
     let bytes = read(alloc, input)?;
-    show_bytes(alloc, &bytes, table, output)
+    fault_alone(show_bytes(alloc, &bytes, table, output))
 }
 
-/// The same over the bytes of a pattern file that was read.
+/// The same over the bytes of a pattern file that was read. A fault comes with what is known of it.
 pub fn show_bytes<W: Write>(
     alloc: Global,
     bytes: &[u8],
     table: Option<&[u8]>,
     output: &mut Dev<W>,
-) -> Result<u8, ToolFault>
+) -> Result<u8, Refused<ToolFault>>
     ensures writes { WritesUnder W.contents output.old output.new (option_copied table.entry)
-        (IsShown bytes.now) (IsSummaryFault bytes.now) result }
+        (IsShown bytes.now) (IsSummaryFault bytes.now) (fault_alone result) }
+    ensures detail { IfErr result (HasRunDetail bytes.now) }
 {
-    let table = known_table(alloc, table)?;
+    let table = match known_table(alloc, table) {
+        Ok(table) => table,
+        Err(refused) => return Err(refused),
+    };
     let text = match file_summary(alloc, bytes, tables_of(&table)) {
         Ok(text) => text,
-        Err(fault) => return Err(convert_refusal(fault)),
+        Err(refused) => return Err(convert_refusal(refused)),
     };
     write(output, &text)
 }
@@ -73,25 +79,29 @@ pub fn convert_run<R: Read, W: Write>(
         (λ bytes tables fault. IsConvertFault bytes tables target fault) result }
 {
     let source = read(alloc, input)?;
-    convert_bytes(alloc, &source, target, table, output)
+    fault_alone(convert_bytes(alloc, &source, target, table, output))
 }
 
-/// The same over the bytes of a pattern file that was read.
+/// The same over the bytes of a pattern file that was read. A fault comes with what is known of it.
 pub fn convert_bytes<W: Write>(
     alloc: Global,
     bytes: &[u8],
     target: Target,
     table: Option<&[u8]>,
     output: &mut Dev<W>,
-) -> Result<u8, ToolFault>
+) -> Result<u8, Refused<ToolFault>>
     ensures writes { WritesUnder W.contents output.old output.new (option_copied table.entry)
         (λ tables text. IsConverted bytes.now tables target text)
-        (λ tables fault. IsConvertFault bytes.now tables target fault) result }
+        (λ tables fault. IsConvertFault bytes.now tables target fault) (fault_alone result) }
+    ensures detail { IfErr result (HasRunDetail bytes.now) }
 {
-    let table = known_table(alloc, table)?;
-    let text = match convert(alloc, bytes, target, tables_of(&table)) {
+    let table = match known_table(alloc, table) {
+        Ok(table) => table,
+        Err(refused) => return Err(refused),
+    };
+    let text = match convert_with_detail(alloc, bytes, target, tables_of(&table)) {
         Ok(text) => text,
-        Err(fault) => return Err(convert_refusal(fault)),
+        Err(refused) => return Err(convert_refusal(refused)),
     };
     write(output, &text)
 }
@@ -110,9 +120,13 @@ fn read<R: Read>(alloc: Global, input: &mut Dev<R>) -> Result<Vec<u8>, ToolFault
 }
 
 /// The table of the rule file's text, if there is one, or what a run answers where it is no good table.
-pub(crate) fn known_table(alloc: Global, rule: Option<&[u8]>) -> Result<Option<Table>, ToolFault>
+pub(crate) fn known_table(
+    alloc: Global,
+    rule: Option<&[u8]>,
+) -> Result<Option<Table>, Refused<ToolFault>>
     ensures known { IfOk result (λ table. AreKnownTables (option_copied rule.entry) (option_to_list table)) }
-    ensures fault { IfErr result (IsTableRefusal (option_copied rule.entry)) }
+    ensures fault { IfErr result (λ refused. IsTableRefusal (option_copied rule.entry) refused.fault) }
+    ensures detail { (bytes : List ℕ) → IfErr result (HasRunDetail bytes) }
 {
     match rule_table(alloc, rule) {
         Ok(table) => Ok(table),
@@ -140,44 +154,66 @@ pub(crate) fn tables_of(table: &Option<Table>) -> &[Table]
 }
 
 // What a run answers where the rule file holds no good table.
-fn table_refusal(fault: TableFault) -> ToolFault
-    ensures { TellsTable fault result }
+fn table_refusal(fault: TableFault) -> Refused<ToolFault>
+    ensures tells { TellsTable fault result.fault }
+    ensures detail { (bytes : List ℕ) → HasRunDetail bytes result }
 {
     match fault {
-        TableFault::Memory => ToolFault::Memory,
-        _ => ToolFault::BadTable(fault),
+        TableFault::Memory => Refused::of(ToolFault::Memory),
+        _ => Refused::of(ToolFault::BadTable(fault)),
     }
 }
 
 /// What a run answers where the pattern is refused.
-pub(crate) fn convert_refusal(fault: ConvertFault) -> ToolFault
-    ensures { TellsConvert fault result }
+pub(crate) fn convert_refusal(refused: Refused<ConvertFault>) -> Refused<ToolFault>
+    ensures tells { TellsConvert refused.fault result.fault }
+    ensures detail { (bytes : List ℕ) → HasDetail bytes refused → HasRunDetail bytes result }
 {
-    match fault {
-        ConvertFault::Memory => ToolFault::Memory,
-        _ => ToolFault::Convert(fault),
+    match refused.fault {
+        ConvertFault::Memory => Refused::of(ToolFault::Memory),
+        fault => Refused {
+            fault: ToolFault::Convert(fault),
+            line: refused.line,
+            rule_text: refused.rule_text,
+        },
     }
 }
 
 // The lines of a summary of a pattern file.
-fn file_summary(alloc: Global, bytes: &[u8], tables: &[Table]) -> Result<Vec<u8>, ConvertFault>
+fn file_summary(
+    alloc: Global,
+    bytes: &[u8],
+    tables: &[Table],
+) -> Result<Vec<u8>, Refused<ConvertFault>>
     ensures shown { IfOk result (λ text. IsShown bytes.now tables.now text.items) }
-    ensures fault { IfErr result (IsSummaryFault bytes.now tables.now) }
+    ensures fault { IfErr result (λ refused. IsSummaryFault bytes.now tables.now refused.fault) }
+    ensures detail { IfErr result (HasDetail bytes.now) }
 {
-    let summary = summary(alloc, bytes, tables)?;
+    let summary = summary_with_detail(alloc, bytes, tables)?;
     let Ok(text) = summary_lines(alloc, &summary) else {
-        return Err(ConvertFault::Memory);
+        return Err(Refused::of(ConvertFault::Memory));
     };
     Ok(text)
 }
 
 /// Writes the whole text, and answers the exit status.
-pub(crate) fn write<W: Write>(output: &mut Dev<W>, text: &[u8]) -> Result<u8, ToolFault>
-    ensures status { IfOk result (λ status. status ≡ 0) }
-    ensures sends { Sends W.contents output.old output.new text.now ToolFault.Write result }
+pub(crate) fn write<W: Write>(output: &mut Dev<W>, text: &[u8]) -> Result<u8, Refused<ToolFault>>
+    ensures status { IfOk (fault_alone result) (λ status. status ≡ 0) }
+    ensures sends { Sends W.contents output.old output.new text.now ToolFault.Write (fault_alone result) }
+    ensures detail { (bytes : List ℕ) → IfErr result (HasRunDetail bytes) }
 {
     if send(output, text).is_err() {
-        return Err(ToolFault::Write);
+        return Err(Refused::of(ToolFault::Write));
     }
     Ok(0)
+}
+
+// What a run answers, with the fault alone.
+fn fault_alone(answer: Result<u8, Refused<ToolFault>>) -> Result<u8, ToolFault>
+    ensures { result ≡ fault_alone answer }
+{
+    match answer {
+        Ok(status) => Ok(status),
+        Err(refused) => Err(refused.fault),
+    }
 }

@@ -97,7 +97,12 @@ fn push_sides(out: &mut Vec<u8>, bounds: Bounds) -> Result<(), Memory>
     push_side(out, bounds.y0, bounds.y1)
 }
 
-fn push_side(out: &mut Vec<u8>, first: i64, last: i64) -> Result<(), Memory>
+/// Puts how long the side of a box is that goes from the first coordinate to the last.
+///
+/// # Errors
+///
+/// Fails where there is no memory for it.
+pub(crate) fn push_side(out: &mut Vec<u8>, first: i64, last: i64) -> Result<(), Memory>
     ensures { OnOk result (Puts out.old.items out.new.items (signed_decimal (side_length first last))) }
 {
     let mut buffer = Buffer::new();

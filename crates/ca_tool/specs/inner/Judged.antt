@@ -2,10 +2,6 @@
 use Rattle.std.specs.Prelude.{◌≡◌, ℕ, List, [], ◌++◌}
 use Rattle.ca_claims.specs.Text.{Claim}
 use Rattle.ca_claims.specs.Judging.{Judging}
-use Rattle.ca_claims.specs.Answers.{HoldsOfFile}
-use Rattle.ca_tool.specs.declared.detail.Detail.{Detail}
-use Rattle.ca_tool.specs.declared.detail.Detail.TheVariants as details
-use Rattle.ca_tool.specs.Details.{IsRuleText}
 use Rattle.ca_tool.specs.declared.finding.ReportStyle.{ReportStyle}
 use Rattle.ca_tool.specs.declared.finding.Finding.{Finding}
 use Rattle.ca_tool.specs.Printed.{findings_text, status_of}
@@ -41,9 +37,3 @@ IsReportPart old new style text = (code : ℕ) × IsReportUpTo old new style tex
 -- all that was left was judged
 abbrev pub WereAllJudged : Judging → Judging → Type 0
 WereAllJudged old new = (findings : List Finding) × WereJudged old new findings × NoneLeft new
-
--- the rule text of the file of a path, or nothing
-abbrev pub IsRuleAt : List (List ℕ × List ℕ) → List ℕ → Detail → Type 0
-IsRuleAt files path details.Nothing = Unit {0}
-IsRuleAt files path (details.Line line) = ⊥
-IsRuleAt files path (details.Rule text) = HoldsOfFile files (λ bytes. IsRuleText bytes text.items) path

@@ -4,9 +4,10 @@ use super::devices::{Narrow, Refusal, expect};
 use super::writers::{MACROCELL, RLE, write_macro, write_rle};
 use ca_claims::{ClaimFault, Claims, File, Limits, Target, read_claims};
 use ca_plane::{Dev, WriteFault};
+use ca_run::Unwatched;
 use ca_tool::{
     Fault, InputFault, ReportStyle, ToolFault, complain, complain_with_path, convert_run, show_run,
-    verify_run, verify_styled,
+    verify_run, verify_watched,
 };
 use std::alloc::Global;
 use std::io::Read;
@@ -73,6 +74,7 @@ c:   bad: bad.rle, line 3
 const STYLE: ReportStyle<'static> = ReportStyle {
     before: b"c: ",
     explained: true,
+    faulty: &[],
 };
 
 const SHOWN: &[u8] = b"format rle\nrule B3/S23\ngen 0\ncells 5\nbox 0 0 3 3\n";
@@ -111,7 +113,8 @@ fn end_of(alloc: Global, run: &Run<'_>, out: &mut Dev<Narrow>) -> Result<u8, Too
     match run {
         Run::Verify(claims) => verify_run(alloc, claims, FILES, Limits::default(), out),
         Run::Explain(claims) => {
-            verify_styled(alloc, claims, FILES, Limits::default(), &STYLE, out)
+            let limits = Limits::default();
+            verify_watched(alloc, claims, FILES, limits, &STYLE, out, &mut Unwatched)
         }
         Run::Show => show(alloc, out),
         Run::Convert(target) => convert_run(alloc, &mut Dev::new(RLE), *target, None, out),

@@ -1,7 +1,8 @@
 //! What patterns are, found out from their files. Periods and life spans are those of the field's collections.
 
 use super::devices::expect;
-use ca_claims::{Cause, Identity, Limits, Unidentified, identify};
+use ca_claims::{Cause, Growth, Identity, Limits, Unidentified, identify};
+use ca_plane::Bounds;
 use ca_run::Unwatched;
 use std::alloc::Global;
 use std::test::*;
@@ -27,12 +28,9 @@ const IDENTITIES: &[(&[u8], u64, Identity)] = &[
     (b"x = 0, y = 0\n!", 1, Identity::Empty),
     (b"x = 2, y = 2\n2o$2o!", 1, Identity::StillLife),
     (b"x = 2, y = 2\n2o$2o!", 4294967295, Identity::StillLife),
-    (b"x = 3, y = 1\n3o!", 1, Identity::Unknown),
     (b"x = 3, y = 1\n3o!", 2, Identity::Oscillator { period: 2 }),
-    (PENTADECATHLON, 14, Identity::Unknown),
     (PENTADECATHLON, 15, Identity::Oscillator { period: 15 }),
     (PENTADECATHLON, 65536, Identity::Oscillator { period: 15 }),
-    (GLIDER, 3, Identity::Unknown),
     (
         GLIDER,
         4,
@@ -52,10 +50,67 @@ const IDENTITIES: &[(&[u8], u64, Identity)] = &[
         },
     ),
     (b"x = 1, y = 1\no!", 1, Identity::Dies { generations: 1 }),
-    (DIEHARD, 129, Identity::Unknown),
     (DIEHARD, 130, Identity::Dies { generations: 130 }),
-    (b"x = 3, y = 3\nb2o$2o$bo!", 100, Identity::Unknown),
     (PERIOD_57960, 65536, Identity::Oscillator { period: 57960 }),
+];
+
+/// Patterns of which no claim is true within a limit, the number of cells that are live then, and the smallest box round them.
+const GROWN: &[(&[u8], u64, u128, Bounds)] = &[
+    (
+        b"x = 3, y = 1\n3o!",
+        1,
+        3,
+        Bounds {
+            x0: 1,
+            y0: -1,
+            x1: 1,
+            y1: 1,
+        },
+    ),
+    (
+        PENTADECATHLON,
+        14,
+        16,
+        Bounds {
+            x0: -3,
+            y0: 0,
+            x1: 12,
+            y1: 2,
+        },
+    ),
+    (
+        GLIDER,
+        3,
+        5,
+        Bounds {
+            x0: 1,
+            y0: 1,
+            x1: 3,
+            y1: 3,
+        },
+    ),
+    (
+        DIEHARD,
+        129,
+        2,
+        Bounds {
+            x0: 0,
+            y0: 12,
+            x1: 0,
+            y1: 13,
+        },
+    ),
+    (
+        b"x = 3, y = 3\nb2o$2o$bo!",
+        100,
+        121,
+        Bounds {
+            x0: -34,
+            y0: -11,
+            x1: 15,
+            y1: 12,
+        },
+    ),
 ];
 
 /// What a pattern is, where the limit is a good one.
@@ -80,12 +135,28 @@ fn patterns_are_identified(rt: HostRuntime) {
 }
 
 #[test]
+fn growth_is_told(rt: HostRuntime) {
+    'patterns: for &(text, limit, cells, bounds) in GROWN {
+        let found = identity_of(rt.alloc(), text, Limits::default(), limit);
+        let identity = Identity::Unknown {
+            growth: Growth { cells, bounds },
+        };
+        expect(
+            &rt,
+            found == Some(Ok(identity)),
+            "how far a pattern has grown",
+        );
+    }
+}
+
+#[test]
 fn a_refused_pattern_has_its_cause(rt: HostRuntime) {
     let large = b"x = 1, y = 1, rule = B3/S23\nB!";
     let found = identity_of(rt.alloc(), large, Limits::default(), 1);
     let wanted = Unidentified {
         cause: Cause::StateTooLarge,
         line: None,
+        rule_text: None,
     };
     expect(&rt, found == Some(Err(wanted)), "a state that is too large");
     let limits = Limits { memo: 1, work: 0 };
@@ -93,6 +164,7 @@ fn a_refused_pattern_has_its_cause(rt: HostRuntime) {
     let wanted = Unidentified {
         cause: Cause::Work,
         line: None,
+        rule_text: None,
     };
     expect(&rt, found == Some(Err(wanted)), "no work");
     let found = identity_of(rt.alloc(), b"x = 1, y = 1\no\nq!", Limits::default(), 1);

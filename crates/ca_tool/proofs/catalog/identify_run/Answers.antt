@@ -16,8 +16,8 @@ returns-then-is_err g c = record {
           tables = c.in-Ok.tables.items;
           known = c.in-Ok.ensures.known;
           entries = c.in-Ok-entries_of.entries.items;
-          holds = subst (λ tables. AreEntries tables c.args.limits.work c.args.limit [] c.args.subjects.now c.in-Ok-entries_of.entries.items) c.deref.ensures.value c.in-Ok-entries_of.ensures.entries;
-          lines = c.deref-3.ensures.value ∙ c.in-Ok-catalog_text.ensures.text ∙ ap (catalog_text c.args.limit c.args.rules.now) c.deref-2.ensures.value;
+          holds = subst (λ tables. AreEntries tables c.args.limits.work c.args.generations c.args.limit [] c.args.subjects.now c.in-Ok-entries_of.entries.items) c.deref.ensures.value c.in-Ok-entries_of.ensures.entries;
+          lines = c.deref-3.ensures.value ∙ c.in-Ok-catalog_text.ensures.text ∙ ap (catalog_text c.args.generations c.args.limit c.args.rules.now) c.deref-2.ensures.value;
           status = refl;
         },
       ),

@@ -1,14 +1,22 @@
-use Rattle.std.proofs.lemmas.Result.{IfOk-weaker, IfErr-weaker}
-use Rattle.ca_tool.proofs.Drawn.{drawn_of, undrawn_of}
+use Rattle.std.proofs.Common.{subst, sym}
+use Rattle.ca_claims.specs.declared.refused.Refused.{Refused}
+use Rattle.ca_tool.specs.declared.fault.ToolFault.{ToolFault}
+use Rattle.ca_tool.specs.Details.{HasRunDetail}
+use Rattle.ca_tool.specs.Drawn.{IsDrawFault}
+use Rattle.ca_tool.proofs.Drawn.{drawn_of, undrawn_of, undrawn_plainly}
 use Rattle.ca_tool.proofs.drawing.picture.Goals as goal
 
 -- the picture of the tree is that of the plane
-pub returns-clause-drawn : goal.returns-clause-drawn
-returns-clause-drawn g c = IfOk-weaker c.picture_of.result _ _
-    (λ text h. drawn_of c.args.bytes.now c.args.tables.now c.args.request c.in-Ok.reached c.states-states.result text.items c.in-Ok.ensures.reached c.states-states.ensures.value h)
-    c.picture_of.ensures.drawn
+pub returns-in-Ok-picture_of-clause-drawn : goal.returns-in-Ok-picture_of-clause-drawn
+returns-in-Ok-picture_of-clause-drawn g c =
+    drawn_of c.args.bytes.now c.args.tables.now c.args.request c.in-Ok.reached c.states-states.result c.in-Ok-picture_of.text.items c.in-Ok.ensures.reached c.states-states.ensures.value c.in-Ok-picture_of.ensures.drawn
 
 -- and so is why there is none
 pub returns-clause-fault : goal.returns-clause-fault
-returns-clause-fault g c = IfErr-weaker c.picture_of.result _ _
-    (λ fault h. undrawn_of c.args.bytes.now c.args.tables.now c.args.request c.in-Ok.reached fault c.in-Ok.ensures.reached h) c.picture_of.ensures.fault
+returns-clause-fault g c =
+    subst (λ (r : Refused ToolFault). IsDrawFault c.args.bytes.now c.args.tables.now c.args.request r.fault) (sym c.of.ensures)
+    (undrawn_of c.args.bytes.now c.args.tables.now c.args.request c.in-Ok.reached c.in-Err-picture_of.fault c.in-Ok.ensures.reached c.in-Err-picture_of.ensures.fault)
+
+pub returns-clause-detail : goal.returns-clause-detail
+returns-clause-detail g c =
+    subst (HasRunDetail c.args.bytes.now) (sym c.of.ensures) (undrawn_plainly c.args.bytes.now c.args.request _ c.in-Err-picture_of.fault c.in-Err-picture_of.ensures.fault)

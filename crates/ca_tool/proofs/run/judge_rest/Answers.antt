@@ -1,5 +1,4 @@
 use Rattle.std.proofs.Common.{[], ◌∷◌, ◌++◌}
-use Rattle.ca_tool.specs.declared.detail.Detail.TheVariants.{Nothing}
 use Rattle.ca_tool.proofs.Judged.{judged_none, judged_one, judged_then}
 use Rattle.ca_tool.proofs.run.judge_rest.Goals as goal
 
@@ -12,5 +11,29 @@ claims-preserved c =
     let so_far = c.claims.invariant in (
       so_far.0 ++ _ ∷ [],
       judged_then _ _ _ so_far.0 _ so_far.1
-          (judged_one _ _ (record { answer = _; note = _; detail = Nothing }) c.in-Some.ensures.noted c.in-Some.ensures.given tt),
+          (judged_one _ _ (record { answer = _; note = _ }) c.in-Some.ensures.noted c.in-Some.ensures.given),
+    )
+
+pub claims-preserved-in-Some : goal.claims-preserved-in-Some
+claims-preserved-in-Some c =
+    let so_far = c.claims.invariant in (
+      so_far.0 ++ _ ∷ [],
+      judged_then _ _ _ so_far.0 _ so_far.1
+          (judged_one _ _ (record { answer = _; note = _ }) c.in-Some.ensures.noted c.in-Some.ensures.given),
+    )
+
+pub claims-preserved-in-Some-2 : goal.claims-preserved-in-Some-2
+claims-preserved-in-Some-2 c =
+    let so_far = c.claims.invariant in (
+      so_far.0 ++ _ ∷ [],
+      judged_then _ _ _ so_far.0 _ so_far.1
+          (judged_one _ _ (record { answer = _; note = _ }) c.in-Some.ensures.noted c.in-Some.ensures.given),
+    )
+
+pub claims-preserved-in-Some-3 : goal.claims-preserved-in-Some-3
+claims-preserved-in-Some-3 c =
+    let so_far = c.claims.invariant in (
+      so_far.0 ++ _ ∷ [],
+      judged_then _ _ _ so_far.0 _ so_far.1
+          (judged_one _ _ (record { answer = _; note = _ }) c.in-Some.ensures.noted c.in-Some.ensures.given),
     )

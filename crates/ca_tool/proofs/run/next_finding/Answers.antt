@@ -1,8 +1,5 @@
-use Rattle.std.proofs.Common.{subst, sym}
-use Rattle.ca_tool.specs.Runs.{IsNotedDetail}
 use Rattle.ca_tool.proofs.Judged.{judged_one}
 use Rattle.ca_tool.proofs.run.next_finding.Goals as goal
 
 pub returns : goal.returns
 returns g c = judged_one c.args.judge.now c.next_noted_watched.new.self _ c.in_ok-answer.ensures.noted c.in_ok-answer.ensures.given
-    (subst (λ files. IsNotedDetail files c.in_ok-answer.note c.noted_detail-detail.result) (sym c.requires) c.noted_detail-detail.ensures)

@@ -1,4 +1,4 @@
-use Rattle.std.proofs.Common.{◌++◌, ◌∙◌, rules, [], refl}
+use Rattle.std.proofs.Common.{◌++◌, rules, [], refl}
 use Rattle.std.proofs.KnownBytes.{Appends-nil}
 use Rattle.ca_plane.proofs.Sends.{sent_both}
 use Rattle.ca_tool.specs.Printed.{finding_text}
@@ -10,7 +10,6 @@ pub claims-init : goal.claims-init
 claims-init g c = record {
   reported = ([], record { findings = []; judged = judged_none _; lines = refl; status = refl }, Appends-nil _);
   kept = refl;
-  files = c.requires;
 }
 
 -- one claim more was reported in part
@@ -36,7 +35,6 @@ claims-preserved-else-is_err g c =
         sent_both _ _ _ text _ sent (search rules),
       );
       kept = search rules;
-      files = c.in-Some.ensures.files ∙ c.claims.invariant.files;
     }
 
 -- the same, on the other way
@@ -50,5 +48,17 @@ claims-preserved g c =
         sent_both _ _ _ text _ sent (search rules),
       );
       kept = search rules;
-      files = c.in-Some.ensures.files ∙ c.claims.invariant.files;
+    }
+
+-- and on the third way
+pub claims-preserved-else-is_err-2 : goal.claims-preserved-else-is_err-2
+claims-preserved-else-is_err-2 g c =
+    let (text, so_far, sent) = c.claims.invariant.reported in
+    record {
+      reported = (
+        text ++ finding_text c.args.style.now c.in-Some.finding,
+        report_more _ _ _ c.args.style.now c.in-Some.finding text _ _ so_far c.in-Some.ensures (c.worse_status-code.ensures (answers_of so_far.findings) so_far.status),
+        sent_both _ _ _ text _ sent (search rules),
+      );
+      kept = search rules;
     }

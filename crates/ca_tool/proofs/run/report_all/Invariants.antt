@@ -1,6 +1,5 @@
 use Rattle.std.proofs.Common.{◌≡◌, ℕ, List, length}
 use Rattle.std.specs.Io.KnownBytes.{Appends}
-use Rattle.ca_claims.specs.Means.{contents}
 use Rattle.ca_tool.specs.inner.Judged.{IsReportUpTo}
 use Rattle.ca_tool.proofs.run.report_all.Given as goal
 
@@ -9,7 +8,6 @@ abbrev pub invariant-claims : goal.invariant-claims
 invariant-claims g l = record {
   reported : (text : List ℕ) × IsReportUpTo l.fn.judge l.judge l.style text l.code × Appends (g.W.Write.contents l.fn.device.inner) (g.W.Write.contents l.device.inner) text;
   kept : l.device.failures ≡ l.fn.device.failures;
-  files : l.judge.files ≡ contents l.fn.files;
 }
 
 abbrev pub decreases-claims : goal.decreases-claims
