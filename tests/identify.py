@@ -1,6 +1,6 @@
 #!/usr/bin/env -S python3 -B
 """`identify`: the claim text that it prints, of files whose claims are known, of soups that are run here, and of all files of examples/, whose text is proved by
-`verify`; names, paths and rule files; files that are refused; and how far it looks."""
+`verify`; how far patterns grow of which no claim is true; names, paths and rule files; files that are refused; and how far it looks."""
 import os
 import re
 import tempfile
@@ -34,9 +34,27 @@ def entry(name, path, told):
     return f"load {name} {path}\n{claim_of(name, told)}\n"
 
 
-def none_within(limit):
-    """The comment on a pattern of which no claim is true within a limit."""
-    return f"# none of these within {limit} generation{'s' * (limit != 1)}"
+def later_entry(name, path, generations, told):
+    """The lines on a file of whose plane so many generations on this is told."""
+    return f"load {name} {path}\n# {name} after {generations} generation{'s' * (generations != 1)}: {told.removeprefix('# ')}\n"
+
+
+def none_within(limit, count, width, height, begun=0):
+    """The comment on a plane, so many generations after the pattern, of which no claim is true within a limit, and which has so many cells then, in a box of
+    this width and height."""
+    return f"# none of these within {limit} generation{'s' * (limit != 1)}: {count} cell{'s' * (count != 1)}, in a box of {width} by {height}, after {begun + limit}"
+
+
+def none_of(cells, limit, begun=0):
+    """The same by the cells after as many generations as the limit."""
+    across, down = [x for x, _ in cells], [y for _, y in cells]
+    return none_within(limit, len(cells), max(across) - min(across) + 1, max(down) - min(down) + 1, begun)
+
+
+def shown_after(path, limit, *words, begun=0):
+    """The same by what `show` tells of the plane then."""
+    told = dict(line.split(" ", 1) for line in run(["show", path, "--after", str(begun + limit), *words]).printed.decode().splitlines())
+    return none_within(limit, int(told["cells"]), *map(int, told["box"].split()[2:]), begun)
 
 
 def base_name(path):
@@ -105,8 +123,8 @@ def cells_of(text):
     return frozenset((x, y) for y, row in enumerate(text) for x, it in enumerate(row) if it == "o")
 
 
-def told_of(cells, birth, survival, limit):
-    """What a pattern is, by running it here."""
+def told_of(cells, birth, survival, limit, begun=0):
+    """What a plane is, so many generations after the pattern, by running it here."""
     if not cells:
         return "# no cell is live"
     left, top = min(x for x, _ in cells), min(y for _, y in cells)
@@ -120,7 +138,7 @@ def told_of(cells, birth, survival, limit):
             if (west, north) == (left, top):
                 return "still" if generation == 1 else f"oscillator {generation}"
             return f"spaceship {generation} {west - left} {north - top}"
-    return none_within(limit)
+    return none_of(now, limit, begun)
 
 
 def try_squares(tally, files):
@@ -150,11 +168,62 @@ def try_limits(tally):
         tally.expect(f"{path}, as far as {limit}", run(["identify", path, "--limit", str(limit)]), ample((version + entry(base_name(path), path, told)).encode()))
         if limit > 1:
             tally.expect(f"{path}, as far as {limit - 1}", run(["identify", path, "--limit", str(limit - 1)]),
-                         ample(entry(base_name(path), path, none_within(limit - 1)).encode()))
-    path = "examples/r_pentomino.rle"
-    tally.expect("the R-pentomino, as far as 1000", run(["identify", path, "--limit", "1000"]), ample(entry("r_pentomino", path, none_within(1000)).encode()))
+                         ample(entry(base_name(path), path, shown_after(path, limit - 1)).encode()))
+    path, now = "examples/r_pentomino.rle", {(1, 0), (2, 0), (0, 1), (1, 1), (1, 2)}
+    for generation in range(1, 1001):
+        now = next_cells(now, {3}, {2, 3})
+        if generation in (1, 7, 100, 1000):
+            tally.expect(f"the R-pentomino, as far as {generation}", run(["identify", path, "--limit", str(generation)]), ample(entry("r_pentomino", path, none_of(now, generation)).encode()))
     path = "examples/blinker.rle"
     tally.expect("as far as can be", run(["identify", path, "--limit", "4294967295"]), ample(entry("blinker", path, "oscillator 2").encode()))
+
+
+def try_growth(tally, files):
+    """One cell, and cells at the ends of the range."""
+    lone = files.path("lone.rle", "x = 1, y = 1, rule = 23/3/4\nA!\n")
+    tally.expect("a cell that ages", run(["identify", lone, "--limit", "1"]), ample(entry("lone", lone, none_within(1, 1, 1, 1)).encode()))
+    edge, side = 1 << 60, 1 << 61
+    corner = files.path("corner.rle", f"#CXRLE Pos={edge - 1},{-edge}\nx = 1, y = 1, rule = B1/S012345678\no!\n")
+    tally.expect("a cell in a corner of the range", run(["identify", corner, "--limit", "3"]), ample(entry("corner", corner, shown_after(corner, 3)).encode()))
+    ends = files.path("ends.rle", f"#CXRLE Pos={-edge},{-edge}\nx = {side}, y = {side}, rule = B3/S23\n3o{side - 2}${side - 2}b2o${side - 2}b2o!\n")
+    tally.expect("patterns in two corners of the range", run(["identify", ends, "--limit", "1"]), ample(entry("ends", ends, none_within(1, 7, side - 1, side + 1)).encode()))
+
+
+def try_after(tally, files):
+    """Planes some generations on: beside steps that are made here, of patterns that come back after any number, and far out. No line is a claim."""
+    limit = 30
+    for generations in (1, 2, 7, 40):
+        paths, tolds = [], []
+        for number in range(1, 512, 3):
+            cells = frozenset((place % 3, place // 3) for place in range(9) if number >> place & 1)
+            paths.append(files.path(f"later_{number}.rle", rle.tidy({it: 1 for it in cells}, "B3/S23", 5, 2)))
+            for _ in range(generations):
+                cells = next_cells(cells, {3}, {2, 3})
+            tolds.append(told_of(cells, {3}, {2, 3}, limit, generations))
+        lines = "".join(later_entry(name, path, generations, told) for name, path, told in zip(names_of(paths), paths, tolds))
+        got = run(["identify", "--after", str(generations), "--limit", str(limit), *paths])
+        kinds = {it.split()[0] for it in tolds}
+        tally.tell(f"squares after {generations}: {len(kinds)} kinds", ([] if len(kinds) > 2 else [str(kinds)]) + ([] if got == ample(lines.encode()) else [f"wanted {lines!r}", str(got)]))
+        tally.expect("verify reads the text, which has no claim", run(["verify", "-"], input=got.printed), ample(b""))
+    returning = {name: told for name, told in KNOWN.items() if not told.startswith("dies")}
+    paths = [f"examples/{name}" for name in returning]
+    for generations in (3, 1000003, 1 << 60):
+        lines = "".join(later_entry(name, path, generations, told) for name, path, told in zip(names_of(paths), paths, returning.values()))
+        tally.expect(f"patterns that come back, after {generations}", run(["identify", *paths, "--after", str(generations)]), ample(lines.encode()))
+    path = "examples/reactions/diehard.rle"
+    for generations, told in ((1, "dies 129"), (129, "dies 1"), (130, "no cell is live"), (1 << 60, "no cell is live")):
+        tally.expect(f"diehard, after {generations}", run(["identify", path, "--after", str(generations)]), ample(later_entry("diehard", path, generations, told).encode()))
+    edge, rule = 1 << 60, "B12345678/S012345678"
+    for at in ((0, 0), (edge - 1, -edge), (-edge, edge - 1)):
+        dot = files.path("dot.rle", f"#CXRLE Pos={at[0]},{at[1]}\nx = 1, y = 1, rule = {rule}\no!\n")
+        side = 2 * (edge + 3) + 1
+        tally.expect(f"a cell at {at} that grows, after 2^60", run(["identify", dot, "--after", str(edge), "--limit", "3"]),
+                     ample(later_entry("dot", dot, edge, none_within(3, side * side, side, side, edge)).encode()))
+    path = "examples/r_pentomino.rle"
+    tally.expect("the R-pentomino when it settles", run(["identify", path, "--after", "1103", "--limit", "50"]), ample(later_entry("r_pentomino", path, 1103, shown_after(path, 50, begun=1103)).encode()))
+    tally.expect("no work", run(["identify", path, "--after", "1103", "--work", "1"]), Outcome(f"# r_pentomino: {path}: work\n".encode(), b"", 2))
+    paths = all_examples()
+    tally.expect("all files of examples/ after none", run(["identify", "--limit", "4", "--after", "0", *paths]), run(["identify", "--limit", "4", *paths]))
 
 
 def refusals_by_verify(files, paths, rules):
@@ -213,8 +282,10 @@ def try_all(tally, files):
             complaints += [] if first == f"# {name}: {path}: {refusal}" else [f"{first}: {refusal}"]
             continue
         second = rest.pop(0)
-        right = (f"# {name}: no cell is live", f"# {name}: none of these within {limit} generations")
-        if first != f"load {name} {path}" or not (second in right or second.split()[:2] in ([word, name] for word in ("still", "oscillator", "spaceship", "dies"))):
+        right = f"# {name}: no cell is live"
+        if ": none of these" in second:
+            right = f"# {name}: {shown_after(path, limit, '--rules', rules)[2:]}"
+        if first != f"load {name} {path}" or not (second == right or second.split()[:2] in ([word, name] for word in ("still", "oscillator", "spaceship", "dies"))):
             complaints.append(f"{path}: {first}; {second}")
     tally.tell(f"all {len(paths)} pattern files of examples/: {len(claims)} claims are proved, {sum(map(bool, refusals))} files are refused", complaints + rest)
     whole = [it for it in (f"examples/{name}" for name in os.listdir(EXAMPLES)) if it.endswith(".rle")]
@@ -345,7 +416,7 @@ def main():
     try_known(tally)
     try_true_claims(tally)
     try_limits(tally)
-    for trial in (try_squares, try_all, try_names, try_refused, try_rules):
+    for trial in (try_squares, try_growth, try_after, try_all, try_names, try_refused, try_rules):
         with tempfile.TemporaryDirectory() as folder:
             trial(tally, Folder(folder))
     tally.finish()

@@ -1,10 +1,11 @@
 #!/usr/bin/env -S python3 -B
-"""On a terminal, and with `verify --progress` elsewhere too, a line on standard error tells how far a claim is that has taken a second, and is wiped before the
-verdict's; standard output is that of a run without the word, and a quick run writes nothing to standard error.
+"""On a terminal, and with `--progress` elsewhere too, a line on standard error tells how far a claim or a run of `--after` is that has taken a second, and is
+wiped before what is printed; standard output is that of a run without the word, and a quick run writes nothing to standard error.
 
 The clock is that of tests/refuse.c, which finds itself so many milliseconds further at each look, so that it is known what is shown. The program looks at it
 where a claim begins, and then wherever it may show a line. One run has the clock of the machine.
 """
+import itertools
 import os
 import pty
 import random
@@ -67,17 +68,17 @@ class Watched(ClaimText):
 
     def shown(self, milliseconds, before=b""):
         """What is shown of each claim, where each look at the clock finds it so much further: a list of writes for each."""
-        return [shown_of(answer.line, runs, milliseconds, before) for answer, runs in zip(self.answers, self.runs)]
+        return [shown_of(before + b"line %d" % answer.line, runs, milliseconds) for answer, runs in zip(self.answers, self.runs)]
 
 
-def shown_of(line, runs, milliseconds, before):
-    """What is shown of a claim."""
+def shown_of(heading, runs, milliseconds):
+    """What is shown of a claim or a file, after this heading."""
     lines, looks = [], 0
     for generations, reached in runs:
         for it in reached:
             looks += 1
             if looks * milliseconds >= 1000:
-                lines.append(before + b"line %d: %d of %d generation%s" % (line, it, generations, b"s" * (generations != 1)))
+                lines.append(heading + b": %d of %d generation%s" % (it, generations, b"s" * (generations != 1)))
     return b"".join(WIPE + it for it in lines) + (WIPE if lines else b"")
 
 
@@ -140,7 +141,7 @@ def try_claims(tally, refusing, files):
     before = f"{path}: ".encode()
     several = b"".join(it.text(False, before) for it in answers)
     other = b"examples/block.claims: "
-    shown = b"".join(text.shown(500, before)) + shown_of(2, [digits(1)], 500, other)
+    shown = b"".join(text.shown(500, before)) + shown_of(other + b"line 2", [digits(1)], 500)
     judge(tally, refusing, "several texts", ["--progress", path, "examples/block.claims"], several + other + b"line 2: yes\n", shown, 1, CLOCK_STEP=500)
 
 
@@ -191,7 +192,7 @@ def try_identify(tally, refusing, files):
     """`identify` shows the file's path and the generations that were looked at, at most twice a second."""
     looked_at = {"examples/glider.rle": (4, "load glider examples/glider.rle\nspaceship glider 4 1 1\n"), "examples/empty.rle": (0, "load empty examples/empty.rle\n# empty: no cell is live\n"),
                  "examples/pentadecathlon.rle": (15, "load pentadecathlon examples/pentadecathlon.rle\noscillator pentadecathlon 15\n"),
-                 PENTOMINO: (20, f"load r_pentomino {PENTOMINO}\n# r_pentomino: none of these within 20 generations\n"), "my block.rle": (0, "# my_block: my block.rle: no claim text can name this path\n"),
+                 PENTOMINO: (20, f"load r_pentomino {PENTOMINO}\n# r_pentomino: none of these within 20 generations: 32 cells, in a box of 12 by 8, after 20\n"), "my block.rle": (0, "# my_block: my block.rle: no claim text can name this path\n"),
                  "examples/lost.rle": (0, "# lost: examples/lost.rle: no file\n"), "examples/block.rle": (1, "load block examples/block.rle\nstill block\n")}
     words, printed = ["identify", "--limit", "20", *looked_at], "".join(it for _, it in looked_at.values()).encode()
     for step in STEPS:
@@ -204,6 +205,52 @@ def try_identify(tally, refusing, files):
         tally.tell(f"identify on a terminal, {step}", [] if got == (printed, shown) else [f"wanted {(printed, shown)}, got {got}"])
     got, _ = refusing.run([*words, "--progress"], {"CLOCK_FAILS": 1})
     tally.expect("identify, no clock", got, Outcome(printed, b"", 2))
+
+
+def try_after(tally, refusing, files):
+    """`show`, `convert` and `draw` with `--after` show the file's path and the generations that are reached, and wipe that before they print."""
+    dense = files.path("dense.rle", distinct_squares((4, 4, 4, 4), "B3/S23")[0])
+    runs = ((["examples/glider.rle"], digits(1000)), ([PENTOMINO], digits(1)), ([PENTOMINO], digits(0)), ([dense], each(300)),
+            (["examples/tables/spread.rle", "--rules", "examples/rules"], digits(5)))
+    for (file, run_of), kind in itertools.product(runs, (["show"], ["convert", "--to", "mc"], ["draw"])):
+        words = [*kind, *file, "--after", str(run_of[0])]
+        plain = run(words)
+        tally.tell(f"it prints something, {' '.join(words)}", [] if plain.printed and not plain.complaint and plain.status == 0 else [str(plain)])
+        for step in STEPS:
+            shown = shown_of(file[0].encode(), [run_of], step)
+            got, _ = refusing.run([*words, "--progress"], {"CLOCK_STEP": step})
+            tally.expect(f"{' '.join(words)}, {step}", got, Outcome(plain.printed, shown, 0))
+            got, _ = refusing.run(words, {"CLOCK_STEP": step})
+            tally.expect(f"without the word, {' '.join(words)}, {step}", got, plain)
+        shown = shown_of(file[0].encode(), [run_of], 500)
+        got, _ = refusing.run([*words, "--progress"], {"CLOCK_STEP": 500}, stderr=subprocess.STDOUT)
+        tally.expect(f"wiped before what is printed, {' '.join(words)}", got, Outcome(shown + plain.printed, b"", 0))
+        got = on_a_terminal(refusing, words, {"CLOCK_STEP": 500})
+        tally.tell(f"on a terminal, {' '.join(words)}", [] if got == (plain.printed, shown) else [f"wanted {(plain.printed, shown)}, got {got}"])
+        got, _ = refusing.run([*words, "--progress"], {"CLOCK_FAILS": 1})
+        tally.expect(f"no clock, {' '.join(words)}", got, plain)
+        got, _ = refusing.run([*kind, *file, "--progress"], {"CLOCK_STEP": 1000})
+        tally.expect(f"at once, {' '.join(words)}", got, run([*kind, *file]))
+    try_refused_after(tally, refusing)
+
+
+def try_refused_after(tally, refusing):
+    """The line is wiped before a run's fault is told, and a pattern that can't be taken up shows none."""
+    for kind in (["show"], ["convert", "--to", "rle"], ["draw"]):
+        words = [*kind, PENTOMINO, "--after", "1103", "--work", "20", "--progress"]
+        got, _ = refusing.run(words, {"CLOCK_STEP": 1000})
+        told = re.fullmatch(rb"((?:\r\x1b\[K[^\r]+)+)\r\x1b\[Kcafile: work\n", got.complaint)
+        first = WIPE + PENTOMINO.encode() + b": 0 of 1103 generations"
+        well = told and told[1].startswith(first) and (got.printed, got.status) == (b"", 2)
+        tally.tell(f"wiped before the fault, {' '.join(words)}", [] if well else [str(got)])
+        words = [*kind, "examples/bad/syntax.rle", "--after", "5"]
+        got, _ = refusing.run([*words, "--progress"], {"CLOCK_STEP": 1000})
+        tally.expect(f"a fault of the file, {' '.join(words)}", got, run(words))
+    with open(os.path.join(ROOT, "examples", "glider.rle"), "rb") as file:
+        content = file.read()
+    words = ["show", "-", "--after", "7"]
+    got, _ = refusing.run([*words, "--progress"], {"CLOCK_STEP": 1000}, input=content)
+    tally.expect("standard input", got, Outcome(run(words, input=content).printed, shown_of(b"-", [digits(7)], 1000), 0))
 
 
 def try_closed(tally, refusing, files):
@@ -310,7 +357,7 @@ def try_quick(tally, refusing, _):
 def main():
     tally = Tally()
     with refusing_program(tally, "progress") as (folder, refusing):
-        for it in (try_claims, try_identify, try_notes, try_dense, try_order, try_closed, try_terminal, try_results, try_the_clock, try_quick) if refusing else ():
+        for it in (try_claims, try_identify, try_after, try_notes, try_dense, try_order, try_closed, try_terminal, try_results, try_the_clock, try_quick) if refusing else ():
             inner = os.path.join(folder, it.__name__)
             os.mkdir(inner)
             it(tally, refusing, Folder(inner))

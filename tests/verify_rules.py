@@ -145,12 +145,18 @@ def try_faulty(files):
     files.table("Good")
     for name, content in (("Empty", ""), ("No", "@RULE No\n"), ("States", STILL.replace("n_states:3", "n_states:1").replace("NAME", "States")),
                           ("Bad", STILL.replace("NAME", "Bad") + "1,0,0,\n"), ("Wakes", STILL.replace("NAME", "Wakes") + "0,0,0,1\n")):
-        files.rule(f"{name}.rule", content)
+        rule = files.rule(f"{name}.rule", content)
         text = files.text()
         text.load("good", rle_of("Good"))
         text.load("block", "x = 2, y = 2\n2o$2o!\n")
         bad = text.load("bad", rle_of(name))
-        note = b"bad: " + bad + b": rule " + name.encode()
+        # The line of the fault, and what it is, are those that `show` tells of the rule file.
+        wrong = run(["show", bad, "--rule", rule]).complaint
+        told = wrong.removeprefix(b"cafile: bad table: ").removesuffix(b"\n")
+        files.count += 1
+        if not told.startswith(b"line ") or told == wrong:
+            files.complaints.append(f"{name}: show tells {wrong!r}")
+        note = b"bad: " + bad + b": rule " + name.encode() + b": " + rule.encode() + b": " + told
         text.claim("still good", "yes")
         text.claim("still bad", UNKNOWN, note)
         text.claim("still block", "yes")

@@ -12,12 +12,12 @@ MAX_FILE = 67108864
 
 # What the help of each command tells.
 HELP = {
-    "show": ("--rule", "--rules", "--explain", "--after", "--memo", "--work", "DIR/NAME.rule", "format macrocell", "rule B3/S23", "gen 4", "cells 5", "box 1 2 3 3", "- is standard input", "The status is 0, or 2"),
-    "convert": ("--to", "--rule", "--rules", "--explain", "--after", "--memo", "--work", "DIR/NAME.rule", "rle, mc", "- is standard input", "The status is 0, or 2"),
-    "draw": ("--at", "--size", "--scale", "--to", "text, pgm", "--after", "--memo", "--work", "--rule", "--rules", "--explain", "DIR/NAME.rule", "80 by 40", "1024 by 1024", "8192 by 8192",
+    "show": ("--rule", "--rules", "--explain", "--after", "--progress", "--memo", "--work", "DIR/NAME.rule", "format macrocell", "rule B3/S23", "gen 4", "cells 5", "box 1 2 3 3", "- is standard input", "The status is 0, or 2"),
+    "convert": ("--to", "--rule", "--rules", "--explain", "--after", "--progress", "--memo", "--work", "DIR/NAME.rule", "rle, mc", "- is standard input", "The status is 0, or 2"),
+    "draw": ("--at", "--size", "--scale", "--to", "text, pgm", "--after", "--progress", "--memo", "--work", "--rule", "--rules", "--explain", "DIR/NAME.rule", "80 by 40", "1024 by 1024", "8192 by 8192",
              "window too large", "- is standard input", "The status is 0, or 2"),
-    "identify": ("FILE", "--limit", "--rule", "--rules", "--explain", "--progress", "--memo", "--work", "65536", "DIR/NAME.rule", "load NAME PATH", "still NAME", "oscillator NAME P",
-                 "spaceship NAME P DX DY", "dies NAME N", "claims 2", "# NAME: no cell is live", "# NAME: none of these within 65536 generations", "# NAME: PATH: bad pattern: rle no end",
+    "identify": ("FILE", "--limit", "--after", "# NAME after 1103 generations: still", "--rule", "--rules", "--explain", "--progress", "--memo", "--work", "65536", "DIR/NAME.rule", "load NAME PATH", "still NAME", "oscillator NAME P",
+                 "spaceship NAME P DX DY", "dies NAME N", "claims 2", "# NAME: no cell is live", "# NAME: none of these within 65536 generations: N cells, in a box of W by H, after 65536", "# NAME: PATH: bad pattern: rle no end",
                  "identify *.rle > mine.claims", "The status is 0, or 2"),
     "verify": ("CLAIMS", "--rules", "DIR/NAME.rule", "--explain", "--progress", "--memo", "--work", "rule PATH", "load NAME PATH", "still NAME", "oscillator NAME P", "spaceship NAME P DX DY", "becomes NAME N NAME2", "becomes NAME N NAME2 shift DX DY", "dies NAME N", "claims 2",
                "relative to the working directory", "hold no blanks", "- is standard input", "The status is 0", "1 where", "2 where"),
@@ -50,7 +50,7 @@ def try_words(tally):
         [], ["verify"], ["check", "examples/block.claims"], ["verify", "--fast", "examples/block.claims"], ["verify", "--explain"], ["verify", "--progress"],
         ["verify", "--explain", "--explain", "examples/block.claims"], ["verify", "--explain=yes", "examples/block.claims"], ["verify", "-e", "examples/block.claims"],
         ["show", "-", "-"], ["show", "--explain"], ["show", "--explain", "--explain", block], ["show", "--explain=yes", block], ["convert", "--explain", "--to", "rle"],
-        ["show", "--progress", block], ["show", block, "--rules"], ["show", block, "--rules", "a", "--rules", "b"], ["convert", block, "--to", "rle", "--rules"],
+        ["show", "--progress=yes", block], ["show", block, "--rules"], ["show", block, "--rules", "a", "--rules", "b"], ["convert", block, "--to", "rle", "--rules"],
         ["verify", "examples/block.claims", "--rules"], ["verify", "--rules", "a", "--rules", "b", "examples/block.claims"], ["verify", "--rules", "examples/rules"], ["verify", "examples/block.claims", "--to", "rle"],
         ["show"], ["show", block, block], ["show", block, "--rule"], ["show", block, "--to", "rle"], ["show", block, "--fast"], ["Show", block],
         ["show", "--rule", block], ["show", block, "--rule", block, "--rule", block], ["verify", "examples/block.claims", "--rule", block],
@@ -58,11 +58,11 @@ def try_words(tally):
         ["convert", block, "--to", "RLE"], ["convert", block, "--to", ""], ["convert", block, "rle"], ["convert", block, "--to", "rle", "mc"],
         ["convert", block, "--to", "rle", "--to", "mc"],
         ["identify"], ["identify", "--limit", "5"], ["identify", block, "--limit"], ["identify", block, "--limit", "0"], ["identify", block, "--limit", "4294967296"],
-        ["identify", block, "--limit", "-1"], ["identify", block, "--limit", "1e3"], ["identify", block, "--limit", ""], ["identify", block, "--limit", "5", "--limit", "5"],
+        ["identify", block, "--limit", "-1"], ["identify", block, "--after", "1152921504606846977"], ["identify", block, "--after", "-1"], ["identify", block, "--after"], ["identify", block, "--limit", "1e3"], ["identify", block, "--limit", ""], ["identify", block, "--limit", "5", "--limit", "5"],
         ["identify", block, "--rule"], ["identify", block, "--rule", "a", "--rule", "b"], ["identify", block, "--rules"], ["identify", block, "--rules", "a", "--rules", "b"],
         ["identify", block, "--memo", "0"], ["identify", block, "--memo", "16777217"], ["identify", block, "--work", "-1"], ["identify", block, "--work", "18446744073709551616"],
         ["identify", block, "--explain", "--explain"], ["identify", block, "--progress", "--progress"], ["identify", block, "--to", "rle"], ["identify", block, "--fast"],
-        ["draw"], ["draw", block, block], ["draw", block, "--to", "rle"], ["draw", block, "--progress"], ["show", block, "--at", "0,0"], ["show", block, "--scale", "0"],
+        ["draw"], ["draw", block, block], ["draw", block, "--to", "rle"], ["draw", block, "--progress", "--progress"], ["show", block, "--at", "0,0"], ["show", block, "--scale", "0"],
     ):
         outcome = run(words)
         well = outcome.complaint and (outcome.printed, outcome.status) == (b"", 2)

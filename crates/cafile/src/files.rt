@@ -3,9 +3,10 @@
 ghost use Rattle.std.specs.Prelude.{◌≡◌, ◌≢◌, [], map, IfOk, OnErr};
 
 use crate::streams::Source;
-use ca_claims::{Claims, File, RuleNames, is_table_named, unknown_rules};
+use ca_claims::{Claims, File, NamedTable, RuleNames, table_named, unknown_rules};
 use ca_plane::{Dev, Memory};
-use ca_tool::{InputFault, read_all, rule_path, rule_text_of};
+use ca_rule::TableFault;
+use ca_tool::{FaultyRule, InputFault, read_all, rule_path};
 use std::alloc::Global;
 use std::fs;
 use std::io::ErrorKind;
@@ -119,19 +120,6 @@ fn load_file<R: Files + AllocGlobal>(rt: &R, path: &[u8]) -> Result<Option<Loade
     }
 }
 
-/// The rule file in a folder that has the name of a pattern's rule, if it can be read; these are the bytes of
-/// the pattern's file.
-pub fn load_named_rule<R: Files + AllocGlobal>(
-    rt: &R,
-    folder: &str,
-    pattern: &[u8],
-) -> Result<Option<LoadedFile>, Memory> {
-    let Some(name) = rule_text_of(rt.alloc(), pattern)? else {
-        return Ok(None);
-    };
-    load_rule_file(rt, folder, &name)
-}
-
 /// The rule file with this name in a folder, if a file can have the name and it can be read.
 pub fn load_rule_file<R: Files + AllocGlobal>(
     rt: &R,
@@ -144,26 +132,65 @@ pub fn load_rule_file<R: Files + AllocGlobal>(
     load_file(rt, &path)
 }
 
-/// The claims and the files with the rule files of a folder that the claims' patterns name and no rule line
-/// gives: each whose table has the name that was looked for stands on a rule line at the text's end. One that is
-/// read is among the files in any case, and one that can't be read is as none.
+/// The claims of a text, the files that they need, and the rule files that were looked for by the names of their
+/// patterns' rules, and aren't good.
+#[derive(Drop)]
+pub struct LoadedText {
+    pub claims: Claims,
+    pub files: Vec<LoadedFile>,
+    pub faulty: Vec<FaultyFile>,
+}
+
+/// A rule file that was looked for by the name of a rule, and isn't good.
+#[derive(Drop)]
+pub struct FaultyFile {
+    name: Vec<u8>,
+    path: Vec<u8>,
+    fault: TableFault,
+}
+
+/// The same text with the rule files of a folder that the claims' patterns name and no rule line gives: each
+/// whose table has the name that was looked for stands on a rule line at the text's end. One that is read is among
+/// the files in any case, and one that can't be read is as none.
 pub fn with_named_rules<R: Files + AllocGlobal>(
     rt: &R,
     folder: &str,
-    mut claims: Claims,
-    mut files: Vec<LoadedFile>,
-) -> Result<(Claims, Vec<LoadedFile>), Memory> {
-    let names = unknown_names(rt.alloc(), &claims, &files)?;
+    mut text: LoadedText,
+) -> Result<LoadedText, Memory> {
+    let names = unknown_names(rt.alloc(), &text.claims, &text.files)?;
     for index in 0..names.len() {
         let name = names.name(index);
         if let Some(path) = rule_path(rt.alloc(), folder.as_bytes(), name)? {
-            load_once(rt, &path, &mut files)?;
-            if holds_table(rt.alloc(), name, &path, &files)? {
-                claims = claims.with_rule(rt.alloc(), &path)?;
-            }
+            load_once(rt, &path, &mut text.files)?;
+            text = with_named_rule(rt.alloc(), name, &path, text)?;
         }
     }
-    Ok((claims, files))
+    Ok(text)
+}
+
+// The same text with the rule file of this path, which was looked for by this name.
+fn with_named_rule(
+    alloc: Global,
+    name: &[u8],
+    path: &[u8],
+    mut text: LoadedText,
+) -> Result<LoadedText, Memory> {
+    let Some(bytes) = bytes_at(&text.files, path) else {
+        return Ok(text);
+    };
+    match table_named(alloc, name, bytes)? {
+        NamedTable::Good => {
+            let claims = text.claims.with_rule(alloc, path)?;
+            Ok(LoadedText { claims, ..text })
+        }
+        NamedTable::OtherName => Ok(text),
+        NamedTable::Faulty(fault) => {
+            let name = Vec::from_slice(alloc, name)?;
+            let path = Vec::from_slice(alloc, path)?;
+            text.faulty.push(FaultyFile { name, path, fault })?;
+            Ok(text)
+        }
+    }
 }
 
 // The rule texts of the claims' patterns that name no rule.
@@ -188,19 +215,6 @@ fn load_once<R: Files + AllocGlobal>(
     add_file(rt, path, files)
 }
 
-// Whether the file of a path is there, and is a good table of this name.
-fn holds_table(
-    alloc: Global,
-    name: &[u8],
-    path: &[u8],
-    files: &[LoadedFile],
-) -> Result<bool, Memory> {
-    match bytes_at(files, path) {
-        Some(bytes) => is_table_named(alloc, name, bytes),
-        None => Ok(false),
-    }
-}
-
 // The bytes of the first file with this path.
 fn bytes_at<'a>(files: &'a [LoadedFile], path: &[u8]) -> Option<&'a [u8]> {
     let file = files.iter().find(|file| file.path.as_slice() == path)?;
@@ -220,4 +234,20 @@ pub fn views<'a>(alloc: Global, loaded: &'a [LoadedFile]) -> Result<Vec<File<'a>
         views.push(file.view())?;
     }
     Ok(views)
+}
+
+/// The faulty rule files as `verify` takes them.
+pub fn faulty_rules<'a>(
+    alloc: Global,
+    faulty: &'a [FaultyFile],
+) -> Result<Vec<FaultyRule<'a>>, Memory> {
+    let mut rules = Vec::new(alloc);
+    'files: for file in faulty {
+        rules.push(FaultyRule {
+            name: file.name.as_slice(),
+            path: file.path.as_slice(),
+            fault: file.fault,
+        })?;
+    }
+    Ok(rules)
 }

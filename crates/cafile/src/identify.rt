@@ -5,16 +5,14 @@ use crate::files::{LoadedFile, load_rule_file, read_file, views};
 use crate::progress::{Heading, Progress};
 use crate::streams::Streams;
 use crate::words::IdentifyExtras;
-use ca_claims::{Cause, ConvertFault, File, summary};
+use ca_claims::{Cause, ConvertFault, File, Refused, rule_text_of, summary_with_detail};
 use ca_plane::{Dev, Memory};
 use ca_rule::{RuleFault, Table, TableFault, resolve};
-use ca_run::Unwatched;
 use ca_tool::{
-    Content, Detail, Fault, InputFault, RunPaths, Subject, ToolFault, complain, detail_of, explain,
-    identify_run, is_claim_path, rule_text_of,
+    Content, Fault, InputFault, RunPaths, Subject, ToolFault, complain, explain, identify_run,
+    is_claim_path,
 };
 use std::alloc::Global;
-use std::io::IsTerminal;
 use std::rt::{Clock, Files, Stderr};
 
 // What the file of a path gave.
@@ -272,33 +270,23 @@ fn run<R: Files + Clock + AllocGlobal>(
     let Ok(files) = views(rt.alloc(), &rules.files) else {
         return Err(ToolFault::Memory);
     };
-    let is_watched = extras.extras.progress || streams.errors.inner().is_terminal();
-    let limits = extras.extras.limits();
     let limit = extras.limit();
-    let output = &mut streams.output;
-    if is_watched {
-        let heading = Heading::Files { paths, limit };
-        let mut observer = Progress::new(rt, &mut streams.errors, heading);
-        identify_run(
-            rt.alloc(),
-            &subjects,
-            &files,
-            limits,
-            limit,
-            output,
-            &mut observer,
-        )
-    } else {
-        identify_run(
-            rt.alloc(),
-            &subjects,
-            &files,
-            limits,
-            limit,
-            output,
-            &mut Unwatched,
-        )
-    }
+    let heading = Heading::Files {
+        paths,
+        after: extras.after(),
+        limit,
+    };
+    let mut observer = Progress::new(rt, &mut streams.errors, heading, extras.extras.progress);
+    identify_run(
+        rt.alloc(),
+        &subjects,
+        &files,
+        extras.after(),
+        extras.extras.limits(),
+        limit,
+        &mut streams.output,
+        &mut observer,
+    )
 }
 
 // The files as `identify_run` takes them.
@@ -329,7 +317,7 @@ fn explain_failure(fault: Fault, rule: &Option<String>, errors: &mut Dev<Stderr>
             pattern: b"",
             rule: rule.as_bytes(),
         };
-        let _ = explain(fault, &Detail::Nothing, &paths, errors);
+        let _ = explain(&Refused::of(fault), &paths, errors);
     }
 }
 
@@ -363,29 +351,27 @@ fn explain_content(
                 pattern: path,
                 rule,
             };
-            let _ = explain(
-                ToolFault::BadTable(*fault),
-                &Detail::Nothing,
-                &paths,
-                errors,
-            );
+            let fault = ToolFault::BadTable(*fault);
+            let _ = explain(&Refused::of(fault), &paths, errors);
         }
     }
 }
 
-// Where there is no memory for the detail, the file alone is told.
 fn explain_bytes(alloc: Global, file: File<'_>, tables: &[Table], errors: &mut Dev<Stderr>) {
-    let fault = match summary(alloc, file.bytes, tables) {
-        Ok(_) | Err(ConvertFault::Memory) => return,
-        Err(fault) => ToolFault::Convert(fault),
+    let Err(refused) = summary_with_detail(alloc, file.bytes, tables) else {
+        return;
     };
-    let detail = match detail_of(alloc, file.bytes, fault) {
-        Ok(detail) => detail,
-        Err(_) => Detail::Nothing,
+    if refused.fault == ConvertFault::Memory {
+        return;
+    }
+    let refused = Refused {
+        fault: ToolFault::Convert(refused.fault),
+        line: refused.line,
+        rule_text: refused.rule_text,
     };
     let paths = RunPaths {
         pattern: file.path,
         rule: b"",
     };
-    let _ = explain(fault, &detail, &paths, errors);
+    let _ = explain(&refused, &paths, errors);
 }

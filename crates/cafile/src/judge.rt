@@ -3,18 +3,16 @@
 ghost use Rattle.std.specs.Prelude.{◌≡◌, ◌++◌, [], codes, IfOk, OnErr, IsTrue, if◌then◌else◌};
 
 use crate::FAULT;
-use crate::files::{LoadedFile, load_needed, read_source, views, with_named_rules};
+use crate::files::{LoadedText, faulty_rules, load_needed, read_source, views, with_named_rules};
 use crate::progress::{Heading, Progress};
 use crate::streams::Streams;
 use crate::words::Extras;
 use ca_claims::{Claims, read_claims};
 use ca_plane::Memory;
 use ca_tool::{
-    Fault, InputFault, ReportStyle, ToolFault, complain, complain_with_path, verify_styled,
-    verify_watched,
+    Fault, InputFault, ReportStyle, ToolFault, complain, complain_with_path, verify_watched,
 };
 use std::alloc::Global;
-use std::io::IsTerminal;
 use std::rt::{Clock, Files};
 
 /// Judges the claim texts of these paths, one after another, and answers the greatest of their exit statuses.
@@ -70,14 +68,18 @@ fn verify_text<R: Files + Clock + AllocGlobal>(
     let Ok(before) = line_prefix(rt.alloc(), path, is_named) else {
         return Err(Fault::Input(InputFault::Memory));
     };
+    let Ok(text) = load(rt, claims, folder) else {
+        return Err(Fault::Input(InputFault::Memory));
+    };
+    let Ok(faulty) = faulty_rules(rt.alloc(), &text.faulty) else {
+        return Err(Fault::Input(InputFault::Memory));
+    };
     let style = ReportStyle {
         before: &before,
         explained: extras.explained,
+        faulty: &faulty,
     };
-    let Ok((claims, loaded)) = load(rt, claims, folder) else {
-        return Err(Fault::Input(InputFault::Memory));
-    };
-    judge(rt, &claims, &loaded, &style, extras, streams)
+    judge(rt, &text, &style, extras, streams)
 }
 
 // The claims, and the files that they need. Where there is a folder, rules are looked for there.
@@ -85,11 +87,17 @@ fn load<R: Files + AllocGlobal>(
     rt: &R,
     claims: Claims,
     folder: &Option<String>,
-) -> Result<(Claims, Vec<LoadedFile>), Memory> {
-    let loaded = load_needed(rt, &claims)?;
+) -> Result<LoadedText, Memory> {
+    let files = load_needed(rt, &claims)?;
+    let faulty = Vec::new(rt.alloc());
+    let text = LoadedText {
+        claims,
+        files,
+        faulty,
+    };
     match folder {
-        Some(folder) => with_named_rules(rt, folder.as_str(), claims, loaded),
-        None => Ok((claims, loaded)),
+        Some(folder) => with_named_rules(rt, folder.as_str(), text),
+        None => Ok(text),
     }
 }
 
@@ -109,34 +117,28 @@ fn line_prefix(alloc: Global, path: &str, is_named: bool) -> Result<Vec<u8>, Mem
 // Judges the claims over the files.
 fn judge<R: Files + Clock + AllocGlobal>(
     rt: &R,
-    claims: &Claims,
-    loaded: &[LoadedFile],
+    text: &LoadedText,
     style: &ReportStyle<'_>,
     extras: Extras,
     streams: &mut Streams,
 ) -> Result<u8, Fault> {
-    let Ok(files) = views(rt.alloc(), loaded) else {
+    let Ok(files) = views(rt.alloc(), &text.files) else {
         return Err(Fault::Input(InputFault::Memory));
     };
-    let is_watched = extras.progress || streams.errors.inner().is_terminal();
     let limits = extras.limits();
     let output = &mut streams.output;
-    let result = if is_watched {
-        let heading = Heading::Claims {
-            before: style.before,
-        };
-        let mut observer = Progress::new(rt, &mut streams.errors, heading);
-        verify_watched(
-            rt.alloc(),
-            claims,
-            &files,
-            limits,
-            style,
-            output,
-            &mut observer,
-        )
-    } else {
-        verify_styled(rt.alloc(), claims, &files, limits, style, output)
+    let heading = Heading::Claims {
+        before: style.before,
     };
+    let mut observer = Progress::new(rt, &mut streams.errors, heading, extras.progress);
+    let result = verify_watched(
+        rt.alloc(),
+        &text.claims,
+        &files,
+        limits,
+        style,
+        output,
+        &mut observer,
+    );
     result.map_err(Fault::Tool)
 }

@@ -3,20 +3,21 @@
 ghost use Rattle.ca_claims.specs.Limited.{AreGoodLimits};
 
 use crate::FAULT;
-use crate::files::{LoadedFile, load_named_rule, open_source, read_file};
+use crate::files::{LoadedFile, load_rule_file, open_source, read_file};
+use crate::progress::{Heading, Progress};
 use crate::streams::Streams;
 use crate::words::{DrawWords, PatternExtras};
-use ca_claims::{ConvertFault, File, Limits, Target};
+use ca_claims::{ConvertFault, File, Limits, Observer, Refused, Target};
 use ca_plane::limits::MOST_GENERATIONS;
 use ca_plane::{Dev, Memory};
 use ca_rule::RuleFault;
 use ca_run::Unwatched;
 use ca_tool::{
-    Detail, Fault, InputFault, RunPaths, ToolFault, complain, convert_bytes, convert_bytes_after,
-    detail_of, draw_bytes, explain, read_all, show_after, show_bytes,
+    Fault, InputFault, RunPaths, ToolFault, complain, convert_bytes, convert_bytes_after,
+    draw_bytes, explain, read_all, show_after, show_bytes,
 };
 use std::alloc::Global;
-use std::rt::{Files, Stderr, Stdin, Stdout};
+use std::rt::{Clock, Files, Stderr, Stdin, Stdout};
 
 /// What is written of a pattern file.
 #[derive(Clone, Copy)]
@@ -30,7 +31,7 @@ pub enum Form {
 }
 
 /// Writes what is asked of the pattern file of a path, and answers the exit status.
-pub fn write_pattern<R: Files + AllocGlobal>(
+pub fn write_pattern<R: Files + Clock + AllocGlobal>(
     rt: &R,
     path: &str,
     form: Form,
@@ -49,17 +50,17 @@ pub fn write_pattern<R: Files + AllocGlobal>(
         bytes: bytes.as_slice(),
     };
     let rule = rule_file(&extras.rule, &rule);
-    let first = run(rt.alloc(), form, pattern, rule, extras, &mut streams.output);
-    match named_rule(rt, first, pattern, extras) {
+    let first = run(rt, form, pattern, rule, extras, streams);
+    match named_rule(rt, &first, extras) {
         Ok(Some(found)) => {
             let rule = Some(found.view());
-            let second = run(rt.alloc(), form, pattern, rule, extras, &mut streams.output);
-            exit_status(rt.alloc(), second, pattern, rule, extras, streams)
+            let second = run(rt, form, pattern, rule, extras, streams);
+            exit_status(second, pattern, rule, extras, streams)
         }
-        Ok(None) => exit_status(rt.alloc(), first, pattern, rule, extras, streams),
+        Ok(None) => exit_status(first, pattern, rule, extras, streams),
         Err(_) => {
-            let memory = Err(ToolFault::Memory);
-            exit_status(rt.alloc(), memory, pattern, rule, extras, streams)
+            let memory = Err(Refused::of(ToolFault::Memory));
+            exit_status(memory, pattern, rule, extras, streams)
         }
     }
 }
@@ -115,36 +116,57 @@ fn rule_file<'a>(path: &'a Option<String>, bytes: &'a Option<Vec<u8>>) -> Option
     }
 }
 
-fn run(
-    alloc: Global,
+// Writes what is asked of the pattern file. Where it is taken some generations on, the line of progress tells how far
+// that is.
+fn run<R: Clock + AllocGlobal>(
+    rt: &R,
     form: Form,
     pattern: File<'_>,
     rule: Option<File<'_>>,
     extras: &PatternExtras,
-    output: &mut Dev<Stdout>,
-) -> Result<u8, ToolFault> {
+    streams: &mut Streams,
+) -> Result<u8, Refused<ToolFault>> {
     let table = match rule {
         Some(rule) => Some(rule.bytes),
         None => None,
     };
-    if let Some(generations) = extras.after {
-        return run_after(
-            alloc,
-            form,
-            pattern.bytes,
-            table,
-            generations,
-            extras.limits(),
-            output,
-        );
-    }
+    let limits = extras.limits();
+    let output = &mut streams.output;
+    let Some(generations) = extras.after else {
+        return run_at_once(rt.alloc(), form, pattern.bytes, table, limits, output);
+    };
+    let heading = Heading::Run { path: pattern.path };
+    let mut observer = Progress::new(rt, &mut streams.errors, heading, extras.progress);
+    run_after(
+        rt.alloc(),
+        form,
+        pattern.bytes,
+        table,
+        generations,
+        limits,
+        &mut observer,
+        output,
+    )
+}
+
+// The same of the pattern as it is.
+fn run_at_once(
+    alloc: Global,
+    form: Form,
+    bytes: &[u8],
+    table: Option<&[u8]>,
+    limits: Limits,
+    output: &mut Dev<Stdout>,
+) -> Result<u8, Refused<ToolFault>>
+    requires { AreGoodLimits limits }
+{
     match form {
-        Form::Summary => show_bytes(alloc, pattern.bytes, table, output),
-        Form::File(target) => convert_bytes(alloc, pattern.bytes, target, table, output),
+        Form::Summary => show_bytes(alloc, bytes, table, output),
+        Form::File(target) => convert_bytes(alloc, bytes, target, table, output),
         Form::Picture(words) => draw_bytes(
             alloc,
-            pattern.bytes,
-            words.request(0, extras.limits()),
+            bytes,
+            words.request(0, limits),
             table,
             &mut Unwatched,
             output,
@@ -153,44 +175,52 @@ fn run(
 }
 
 // The same some generations on. The words keep these within their limit, and more are brought within.
-fn run_after(
+fn run_after<O: Observer>(
     alloc: Global,
     form: Form,
     bytes: &[u8],
     table: Option<&[u8]>,
     generations: u64,
     limits: Limits,
+    observer: &mut O,
     output: &mut Dev<Stdout>,
-) -> Result<u8, ToolFault>
+) -> Result<u8, Refused<ToolFault>>
     requires { AreGoodLimits limits }
 {
     let generations = generations.min(MOST_GENERATIONS);
     match form {
-        Form::Summary => show_after(alloc, bytes, table, generations, limits, output),
+        Form::Summary => show_after(alloc, bytes, table, generations, limits, observer, output),
         Form::File(target) => {
-            convert_bytes_after(alloc, bytes, target, table, generations, limits, output)
+            convert_bytes_after(
+                alloc,
+                bytes,
+                target,
+                table,
+                generations,
+                limits,
+                observer,
+                output,
+            )
         }
-        Form::Picture(words) => draw_bytes(
-            alloc,
-            bytes,
-            words.request(generations, limits),
-            table,
-            &mut Unwatched,
-            output,
-        ),
+        Form::Picture(words) => {
+            let request = words.request(generations, limits);
+            draw_bytes(alloc, bytes, request, table, observer, output)
+        }
     }
 }
 
 // The rule file that has the name of the pattern's rule, where a run knew no such rule.
 fn named_rule<R: Files + AllocGlobal>(
     rt: &R,
-    run: Result<u8, ToolFault>,
-    pattern: File<'_>,
+    run: &Result<u8, Refused<ToolFault>>,
     extras: &PatternExtras,
 ) -> Result<Option<LoadedFile>, Memory> {
-    match (run, &extras.folder) {
-        (Err(ToolFault::Convert(ConvertFault::BadRule(RuleFault::Unknown))), Some(folder)) => {
-            load_named_rule(rt, folder.as_str(), pattern.bytes)
+    let (Err(refused), Some(folder)) = (run, &extras.folder) else {
+        return Ok(None);
+    };
+    match (refused.fault, &refused.rule_text) {
+        (ToolFault::Convert(ConvertFault::BadRule(RuleFault::Unknown)), Some(name)) => {
+            load_rule_file(rt, folder.as_str(), name)
         }
         _ => Ok(None),
     }
@@ -198,36 +228,30 @@ fn named_rule<R: Files + AllocGlobal>(
 
 // The exit status of a run, whose fault is reported, and explained where that is asked for.
 fn exit_status(
-    alloc: Global,
-    run: Result<u8, ToolFault>,
+    run: Result<u8, Refused<ToolFault>>,
     pattern: File<'_>,
     rule: Option<File<'_>>,
     extras: &PatternExtras,
     streams: &mut Streams,
 ) -> u8 {
-    let fault = match run {
+    let refused = match run {
         Ok(status) => return status,
-        Err(fault) => fault,
+        Err(refused) => refused,
     };
-    let _ = complain(&Fault::Tool(fault), pattern.path, &mut streams.errors);
+    let fault = Fault::Tool(refused.fault);
+    let _ = complain(&fault, pattern.path, &mut streams.errors);
     if extras.explained {
-        explain_fault(alloc, fault, pattern, rule, &mut streams.errors);
+        explain_fault(&refused, pattern, rule, &mut streams.errors);
     }
     FAULT
 }
 
-// Where there is no memory for the detail, the file alone is told.
 fn explain_fault(
-    alloc: Global,
-    fault: ToolFault,
+    refused: &Refused<ToolFault>,
     pattern: File<'_>,
     rule: Option<File<'_>>,
     errors: &mut Dev<Stderr>,
 ) {
-    let detail = match detail_of(alloc, pattern.bytes, fault) {
-        Ok(detail) => detail,
-        Err(_) => Detail::Nothing,
-    };
     let rule_path: &[u8] = match rule {
         Some(rule) => rule.path,
         None => b"",
@@ -236,5 +260,5 @@ fn explain_fault(
         pattern: pattern.path,
         rule: rule_path,
     };
-    let _ = explain(fault, &detail, &paths, errors);
+    let _ = explain(refused, &paths, errors);
 }

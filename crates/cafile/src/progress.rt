@@ -1,9 +1,10 @@
-//! The line on standard error that tells how far a long claim is.
+//! The line on standard error that tells how far a long claim or run is.
 
 use ca_claims::Observer;
 use ca_plane::text::{push_number, push_text};
 use ca_plane::{Dev, Memory, send};
 use ca_run::{Milestone, Watch};
+use std::io::IsTerminal;
 use std::rt::{Clock, Stderr};
 use std::time::Instant;
 
@@ -20,19 +21,31 @@ const AGAIN: u128 = 500;
 #[derive(Clone, Copy)]
 pub enum Heading<'a> {
     /// The claims of a text. This stands before each of its lines.
-    Claims { before: &'a [u8] },
-    /// The files of these paths, of which each is looked at for so many generations. They have numbers, counted
-    /// from 1, in place of lines.
-    Files { paths: &'a [String], limit: u64 },
+    Claims {
+        before: &'a [u8],
+    },
+    /// The file of this path, whose pattern is taken some generations on.
+    Run {
+        path: &'a [u8],
+    },
+    /// The files of these paths, of which each is looked at for as many generations as the limit says, so many on.
+    /// They have numbers, counted from 1, in place of lines.
+    Files {
+        paths: &'a [String],
+        after: u64,
+        limit: u64,
+    },
 }
 
-/// Shows which claim is judged or which file is identified, how far that is and what was worked out, once it has taken
-/// a second, and wipes that when it is done.
+/// Shows which claim is judged, or which file is identified or taken some generations on, how far that is and what was
+/// worked out, once it has taken a second, and wipes that when it is done. It shows that only where it is asked for,
+/// or standard error is a terminal.
 #[derive(Drop)]
 pub struct Progress<'a, R> {
     rt: &'a R,
     errors: &'a mut Dev<Stderr>,
     heading: Heading<'a>,
+    is_shown: bool,
     line: u64,
     goal: u64,
     generations: u64,
@@ -45,11 +58,18 @@ pub struct Progress<'a, R> {
 
 impl<'a, R: Clock + AllocGlobal> Progress<'a, R> {
     /// Nothing is shown yet.
-    pub fn new(rt: &'a R, errors: &'a mut Dev<Stderr>, heading: Heading<'a>) -> Progress<'a, R> {
+    pub fn new(
+        rt: &'a R,
+        errors: &'a mut Dev<Stderr>,
+        heading: Heading<'a>,
+        is_asked_for: bool,
+    ) -> Progress<'a, R> {
+        let is_shown = is_asked_for || errors.inner().is_terminal();
         Progress {
             rt,
             errors,
             heading,
+            is_shown,
             line: 0,
             goal: 0,
             generations: 0,
@@ -118,6 +138,7 @@ impl<'a, R: Clock + AllocGlobal> Progress<'a, R> {
                 push_text(text, b"line ")?;
                 push_number(text, self.line)
             }
+            Heading::Run { path } => push_text(text, path),
             Heading::Files { paths, .. } => match paths.get(self.line.saturating_sub(1) as usize) {
                 Some(path) => push_text(text, path.as_bytes()),
                 None => Ok(()),
@@ -158,18 +179,25 @@ impl<R: Clock + AllocGlobal> Observer for Progress<'_, R> {
     fn begins(&mut self, line: u64) {
         self.line = line;
         self.results = 0;
-        self.start = Instant::now(self.rt).ok();
+        if let Heading::Files { after, .. } = self.heading {
+            self.goal = after;
+            self.generations = 0;
+        }
+        if self.is_shown {
+            self.start = Instant::now(self.rt).ok();
+        }
     }
 
     fn goes_to(&mut self, generations: u64) {
         match self.heading {
-            Heading::Claims { .. } => {
+            Heading::Claims { .. } | Heading::Run { .. } => {
                 self.goal = generations;
                 self.generations = 0;
                 self.show_from(FIRST);
             }
             Heading::Files { limit, .. } => {
                 self.goal = limit;
+                self.results = 0;
                 self.generations = generations.saturating_sub(1);
                 self.show_again();
             }

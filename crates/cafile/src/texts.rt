@@ -1,5 +1,47 @@
 //! What the help says after the words of each command.
 
+// The help of a command on a pattern file. After the first text stands what it says of the words for the pattern's rule,
+// and before the last one, after those in brackets, what it says of progress.
+macro_rules! pattern_help {
+    ($first:literal, [$($after:literal),*], $last:literal) => {
+        concat!(
+            $first,
+            "--rule is for a pattern whose rule is a table: it names the rule file with that table, in Golly NAME.rule.
+A pattern under a rule such as B3/S23 or 345/2/4 needs none. --rules names a folder, such as Golly's Rules: where
+the rule is NAME, and --rule doesn't give its table, the rule file is looked for there as DIR/NAME.rule.
+
+--explain adds a line to a refusal: the file with the line of its fault, or the rule that isn't known, as in
+`  codd.rle: rule Codd`.
+
+",
+            $($after,)*
+            "On a terminal, a line on standard error shows how far --after is where it takes over a second, as
+`examples/gun.rle: 488 of 1000 generations`. --progress shows it also where standard error is no terminal.
+
+",
+            $last
+        )
+    };
+}
+
+// The same with what it says of `--after`. The second text is what the command does with the pattern.
+macro_rules! after_help {
+    ($first:literal, $does:literal, $last:literal) => {
+        pattern_help!(
+            $first,
+            [
+                "--after N ",
+                $does,
+                " the pattern as it is N generations on, and adds N to its generation. --memo and --work bound what
+that takes, as `cafile verify --help` tells for claims.
+
+"
+            ],
+            $last
+        )
+    };
+}
+
 pub const EXAMPLES: &str = "Examples:
   cafile show examples/glider.rle
   cafile identify examples/glider.rle examples/blinker.rle
@@ -10,56 +52,43 @@ pub const EXAMPLES: &str = "Examples:
 
 `cafile verify --help` tells how claims are written.";
 
-pub const SHOW: &str = "Five lines are printed, for example:
+pub const SHOW: &str = after_help!(
+    "Five lines are printed, for example:
   format macrocell   the format: rle or macrocell
   rule B3/S23        the rule: as B3/S23 or 345/2/4, or the name of a table
   gen 4              the generation
   cells 5            the number of live cells
   box 1 2 3 3        the least box round them: left column, top row, width and height; or none
 
---rule is for a pattern whose rule is a table: it names the rule file with that table, in Golly NAME.rule.
-A pattern under a rule such as B3/S23 or 345/2/4 needs none. --rules names a folder, such as Golly's Rules: where
-the rule is NAME, and --rule doesn't give its table, the rule file is looked for there as DIR/NAME.rule.
-
---explain adds a line to a refusal: the file with the line of its fault, or the rule that isn't known, as in
-`  codd.rle: rule Codd`.
-
---after N shows the pattern as it is N generations on, and adds N to its generation. --memo and --work bound what
-that takes, as `cafile verify --help` tells for claims.
-
-The status is 0, or 2 where the pattern can't be shown. Then standard error says why.
+",
+    "shows",
+    "The status is 0, or 2 where the pattern can't be shown. Then standard error says why.
 
 Examples:
   cafile show examples/glider.rle
   cafile show examples/glider.rle --after 1000000
   cafile show examples/tables/spread.rle --rule examples/tables/spread.rule
   cafile show examples/tables/spread.rle --rules examples/rules
-  cat examples/glider.rle | cafile show -";
+  cat examples/glider.rle | cafile show -"
+);
 
-pub const CONVERT: &str =
+pub const CONVERT: &str = after_help!(
     "What is printed is a whole file in the wanted format: the same cells in the same places, with the rule and
 the generation.
 
---rule is for a pattern whose rule is a table: it names the rule file with that table, in Golly NAME.rule.
-A pattern under a rule such as B3/S23 or 345/2/4 needs none. --rules names a folder, such as Golly's Rules: where
-the rule is NAME, and --rule doesn't give its table, the rule file is looked for there as DIR/NAME.rule.
-
---explain adds a line to a refusal: the file with the line of its fault, or the rule that isn't known, as in
-`  codd.rle: rule Codd`.
-
---after N writes the pattern as it is N generations on, and adds N to its generation. --memo and --work bound what
-that takes, as `cafile verify --help` tells for claims.
-
-The status is 0, or 2 where the pattern can't be converted. Then standard error says why.
+",
+    "writes",
+    "The status is 0, or 2 where the pattern can't be converted. Then standard error says why.
 
 Examples:
   cafile convert examples/glider.rle --to mc
   cafile convert examples/gun.rle --after 1000 --to mc
   cafile convert examples/tables/spread_1.rle --to mc --rule examples/tables/spread.rule
   cafile convert examples/tables/spread_1.rle --to mc --rules examples/rules
-  cat examples/macrocell/gun.mc | cafile convert - --to rle";
+  cat examples/macrocell/gun.mc | cafile convert - --to rle"
+);
 
-pub const DRAW: &str =
+pub const DRAW: &str = pattern_help!(
     "The plane is drawn row by row: `.` where no cell is live, and `o` where one is. At scale K each character
 stands for 2^K by 2^K cells, and is `o` if one of them is live; the squares begin at multiples of 2^K. At scale
 0 the states of a rule with more than two are letters: A to X for 1 to 24, a to x for 25 to 48, and * above.
@@ -78,14 +107,9 @@ with --at. White is no live cell, black is a live one, and states above 1 are li
 --after N draws the plane N generations later. --memo and --work are limits for that, as for verify: a run that
 needs more than --work units of work ends as `work`.
 
---rule is for a pattern whose rule is a table: it names the rule file with that table, in Golly NAME.rule.
-A pattern under a rule such as B3/S23 or 345/2/4 needs none. --rules names a folder, such as Golly's Rules: where
-the rule is NAME, and --rule doesn't give its table, the rule file is looked for there as DIR/NAME.rule.
-
---explain adds a line to a refusal: the file with the line of its fault, or the rule that isn't known, as in
-`  codd.rle: rule Codd`.
-
-The status is 0, or 2 where the pattern can't be drawn. Then standard error says why.
+",
+    [],
+    "The status is 0, or 2 where the pattern can't be drawn. Then standard error says why.
 
 Examples:
   cafile draw examples/glider.rle
@@ -93,7 +117,8 @@ Examples:
   cafile draw examples/glider.rle --at -2,-2 --size 10,6
   cafile draw examples/tables/wireworld_clock.rle --rule examples/tables/wireworld.rule
   cafile draw examples/macrocell/gun.mc --to pgm --scale 0 --after 1000
-  cat examples/glider.rle | cafile draw -";
+  cat examples/glider.rle | cafile draw -"
+);
 
 pub const VERIFY: &str = "Each line of a claim text is one of these. An example stands below each.
   claims 2                the first line of a text that has one of the last two
@@ -163,15 +188,19 @@ folder. For each file the text has a line `load NAME PATH`, and the claim that i
   dies NAME N             N is the first after which no cell is live; the text then begins with `claims 2`
 or else a comment:
   # NAME: no cell is live
-  # NAME: none of these within 65536 generations
+  # NAME: none of these within 65536 generations: N cells, in a box of W by H, after 65536
   # NAME: PATH: bad pattern: rle no end
-The last one is of a file that can't be identified, with the reason as `cafile verify` tells it.
+The second one tells how far the plane has grown: the live cells and the smallest box round them. The last one is of a
+file that can't be identified, with the reason as `cafile verify` tells it.
 
 NAME is the file's name without its ending, with _ for blanks and for a # that it begins with. Where that is taken,
 it is followed by -2, -3 and so on. A path with a blank, and -, can't be in a claim text: such a file has a comment
 that says so.
 
 --limit N looks at N generations of each pattern. --memo N and --work N are as for verify, for each pattern.
+
+--after N identifies the plane that each pattern has N generations on. No claim about the file says what that is, so
+there are comments alone: `# NAME after 1103 generations: still`, and so on.
 
 --rule is for patterns whose rule is a table: it names the rule file with that table, in Golly NAME.rule. --rules
 names a folder, such as Golly's Rules: where a rule is NAME, and isn't known, the rule file is looked for there as
@@ -189,4 +218,5 @@ printed; then standard error says why.
 Examples:
   cafile identify examples/glider.rle examples/blinker.rle examples/reactions/diehard.rle
   cafile identify --limit 1000 examples/r_pentomino.rle
+  cafile identify --after 100 examples/reactions/diehard.rle
   cafile identify --rule examples/tables/wireworld.rule examples/tables/wireworld_clock.rle";

@@ -1,0 +1,74 @@
+//! The words that several commands have.
+
+use clap::{Arg, ArgAction, Command, value_parser};
+use std::alloc::{AllocError, Global};
+
+/// A word `--NAME` with a value after it.
+pub fn value_word<'a>(alloc: Global, name: &'a str, value: &'a str, help: &'a str) -> Arg<'a> {
+    Arg::new(alloc, name)
+        .long(name)
+        .value_name(value)
+        .help(help)
+}
+
+/// A word `--NAME` with no value.
+pub fn flag_word<'a>(alloc: Global, name: &'a str, help: &'a str) -> Arg<'a> {
+    Arg::new(alloc, name)
+        .long(name)
+        .action(ArgAction::SetTrue)
+        .help(help)
+}
+
+/// One path or more, which are required.
+pub fn path_words<'a>(alloc: Global, name: &'a str, help: &'a str) -> Arg<'a> {
+    Arg::new(alloc, name)
+        .required(true)
+        .num_args(1..)
+        .action(ArgAction::Append)
+        .help(help)
+}
+
+/// The path of a pattern file, which is required.
+pub fn file_word<'a>(alloc: Global) -> Arg<'a> {
+    Arg::new(alloc, "FILE").required(true).help(
+        "The path of the pattern file, RLE or macrocell; - is standard input",
+    )
+}
+
+/// The folder of `--rules`.
+pub fn folder_word<'a>(alloc: Global) -> Arg<'a> {
+    value_word(
+        alloc,
+        "rules",
+        "DIR",
+        "The folder where NAME.rule is looked for, if the pattern's rule is the name NAME",
+    )
+}
+
+/// How many entries a memo may have.
+pub fn memo_word<'a>(alloc: Global, help: &'a str) -> Arg<'a> {
+    value_word(alloc, "memo", "N", help).value_parser(value_parser!(u64).range(1..=16777216))
+}
+
+/// How much work may be done.
+pub fn work_word<'a>(alloc: Global, help: &'a str) -> Arg<'a> {
+    value_word(alloc, "work", "N", help).value_parser(value_parser!(u64))
+}
+
+/// The command with the words of a run on pattern files for their rules, and for why one is refused.
+pub fn with_rules<'a>(alloc: Global, command: Command<'a>) -> Result<Command<'a>, AllocError> {
+    command.args(vec![in alloc;
+        value_word(
+            alloc,
+            "rule",
+            "RULEFILE",
+            "The path of the rule file with the table that the pattern's rule names",
+        ),
+        folder_word(alloc),
+        flag_word(
+            alloc,
+            "explain",
+            "Tell also which file and line a refusal is about, and which rule isn't known",
+        ),
+    ]?)
+}

@@ -1,0 +1,72 @@
+//! What a run on claims is asked for besides these, and how much each may take.
+
+ghost use Rattle.ca_claims.specs.Limited.{AreGoodLimits};
+
+use crate::words::arguments::{flag_word, memo_word, work_word};
+use ca_claims::{Limits, MOST_MEMO};
+use clap::{ArgMatches, Command};
+use std::alloc::{AllocError, Global};
+
+/// What a run of `verify` is asked for besides verdicts.
+#[derive(Clone, Copy)]
+pub struct Extras {
+    /// What more there is to tell of each answer.
+    pub explained: bool,
+    /// How far a long claim is.
+    pub progress: bool,
+    /// How many entries the memo of each claim may have, where that is set.
+    pub memo: Option<usize>,
+    /// How much work each claim may take, where that is set.
+    pub work: Option<u64>,
+}
+
+impl Extras {
+    /// The limits of each claim.
+    pub fn limits(self) -> Limits
+        ensures { AreGoodLimits result }
+    {
+        limits_of(self.memo, self.work)
+    }
+}
+
+/// The limits that are set, and else the usual ones. The words keep a memo within its limits, and one outside
+/// is brought within.
+pub fn limits_of(memo: Option<usize>, work: Option<u64>) -> Limits
+    ensures { AreGoodLimits result }
+{
+    let usual = Limits::default();
+    Limits {
+        memo: memo.unwrap_or(usual.memo).clamp(1, MOST_MEMO),
+        work: work.unwrap_or(usual.work),
+    }
+}
+
+/// The command with the words for this.
+pub fn with_extras<'a>(alloc: Global, command: Command<'a>) -> Result<Command<'a>, AllocError> {
+    command.args(vec![in alloc;
+        flag_word(
+            alloc,
+            "progress",
+            "Show how far a long claim is, also where standard error is no terminal",
+        ),
+        memo_word(
+            alloc,
+            "How many entries each claim's memo may have: 1 to 16777216; unless set, 262144",
+        ),
+        work_word(
+            alloc,
+            "How many units of work each claim may take; unless set, 18446744073709551615",
+        ),
+    ]?)
+}
+
+/// What the words ask for.
+pub fn extras_of(words: &ArgMatches<'_>) -> Extras {
+    let explained = words.get_flag("explain");
+    Extras {
+        explained,
+        progress: words.get_flag("progress"),
+        memo: words.get_one("memo"),
+        work: words.get_one("work"),
+    }
+}

@@ -1,0 +1,95 @@
+//! The words of `identify`.
+
+ghost use Rattle.std.specs.Prelude.{◌≤◌};
+ghost use Rattle.ca_claims.specs.Text.{longest_period, most_generations};
+
+use crate::texts;
+use crate::words::arguments::{path_words, value_word, with_rules};
+use crate::words::extras::{Extras, extras_of, with_extras};
+use crate::words::pattern::after_word;
+use crate::words::values::{path_of, words_of};
+use crate::words::{Request, WordsFault};
+use ca_plane::limits::MOST_GENERATIONS;
+use clap::{Arg, ArgMatches, Command, value_parser};
+use std::alloc::{AllocError, Global};
+
+/// How many generations of a pattern are looked at, unless that is set, and at most.
+const USUAL_LIMIT: u64 = 65536;
+
+const MOST_LIMIT: u64 = 4294967295;
+
+/// What a run of `identify` is given and asked for besides its pattern files.
+#[derive(Drop)]
+pub struct IdentifyExtras {
+    /// How many generations of each pattern are looked at, where that is set.
+    pub limit: Option<u64>,
+    /// How many generations on that begins, where that is set.
+    pub after: Option<u64>,
+    /// The path of a rule file with the table that the patterns' rules may name.
+    pub rule: Option<String>,
+    /// The path of a folder where rule files are looked for by the names of the patterns' rules.
+    pub folder: Option<String>,
+    /// What more there is to tell, and how much each pattern may take.
+    pub extras: Extras,
+}
+
+impl IdentifyExtras {
+    /// How many generations of each pattern are looked at. The words keep them within their limits, and a number
+    /// outside is brought within.
+    pub fn limit(&self) -> u64
+        ensures some { 1 ≤ result }
+        ensures most { result ≤ longest_period }
+    {
+        self.limit.unwrap_or(USUAL_LIMIT).clamp(1, MOST_LIMIT)
+    }
+
+    /// How many generations on that begins. The words keep them within their limit, and more are brought within.
+    pub fn after(&self) -> u64
+        ensures { result ≤ most_generations }
+    {
+        self.after.unwrap_or(0).min(MOST_GENERATIONS)
+    }
+}
+
+/// The command `identify`.
+pub fn identify_command<'a>(alloc: Global) -> Result<Command<'a>, AllocError> {
+    let identify = Command::new(alloc, "identify")
+        .about("Writes a claim text with the claims that are true of the patterns of files")
+        .after_help(texts::IDENTIFY)
+        .arg(path_words(
+            alloc,
+            "FILE",
+            "The paths of pattern files, RLE or macrocell, as a claim text names them",
+        ))?
+        .arg(limit_word(alloc))?
+        .arg(after_word(alloc))?;
+    let identify = with_rules(alloc, identify)?;
+    with_extras(alloc, identify)
+}
+
+fn limit_word<'a>(alloc: Global) -> Arg<'a> {
+    value_word(
+        alloc,
+        "limit",
+        "N",
+        "How many generations to look at: 1 to 4294967295; unless set, 65536",
+    )
+    .value_parser(value_parser!(u64).range(1..=4294967295))
+}
+
+/// What the words of `identify` ask for.
+pub fn identify_request(alloc: Global, words: &ArgMatches<'_>) -> Result<Request, WordsFault> {
+    let paths = words_of(alloc, words, "FILE")?;
+    let extras = identify_extras(alloc, words)?;
+    Ok(Request::Identify { paths, extras })
+}
+
+fn identify_extras(alloc: Global, words: &ArgMatches<'_>) -> Result<IdentifyExtras, WordsFault> {
+    Ok(IdentifyExtras {
+        limit: words.get_one("limit"),
+        after: words.get_one("after"),
+        rule: path_of(alloc, words, "rule")?,
+        folder: path_of(alloc, words, "rules")?,
+        extras: extras_of(words),
+    })
+}

@@ -1,0 +1,51 @@
+//! The values of a command's words, copied.
+
+use crate::words::WordsFault;
+use clap::ArgMatches;
+use std::alloc::Global;
+
+/// The value of a word that is required.
+pub fn word_of(alloc: Global, words: &ArgMatches<'_>, name: &str) -> Result<String, WordsFault> {
+    let Some(word) = words.get_str(name) else {
+        return Err(WordsFault::Usage);
+    };
+    copy_word(alloc, word)
+}
+
+/// The values of a word that is required.
+pub fn words_of(
+    alloc: Global,
+    words: &ArgMatches<'_>,
+    name: &str,
+) -> Result<Vec<String>, WordsFault> {
+    let Some(values) = words.get_strs(name) else {
+        return Err(WordsFault::Usage);
+    };
+    let mut all = Vec::new(alloc);
+    'values: for word in values {
+        if all.push(copy_word(alloc, word)?).is_err() {
+            return Err(WordsFault::Memory);
+        }
+    }
+    Ok(all)
+}
+
+fn copy_word(alloc: Global, word: &str) -> Result<String, WordsFault> {
+    let Ok(text) = String::from_str(alloc, word) else {
+        return Err(WordsFault::Memory);
+    };
+    Ok(text)
+}
+
+/// The path that is given after a word, where that stands there.
+pub fn path_of(
+    alloc: Global,
+    words: &ArgMatches<'_>,
+    name: &str,
+) -> Result<Option<String>, WordsFault> {
+    if !words.contains_id(name) {
+        return Ok(None);
+    }
+    let path = word_of(alloc, words, name)?;
+    Ok(Some(path))
+}
