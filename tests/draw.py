@@ -94,7 +94,7 @@ FAULTY = (
     ["--at", f"{1 << 127},0"], ["--at", "1,1", "--at", "2,2"], ["--at", "--size", "5,5"], ["--size"], ["--size", "5"], ["--size", "0,5"], ["--size", "5,0"], ["--size", "8193,1"],
     ["--size", "1,8193"], ["--size", "-5,5"], ["--size=-5,5"], ["--size", "5x5"], ["--size", f"{1 << 64},5"], ["--scale"], ["--scale", "-1"], ["--scale=-1"], ["--scale", "125"], ["--scale", "x"],
     ["--scale", ""], ["--scale", "256"], ["--to"], ["--to", "png"], ["--to", "PGM"], ["--to", "rle"], ["--after"], ["--after", "-1"], ["--after", "x"], ["--after", "1152921504606846977"],
-    ["--memo", "0"], ["--memo", "16777217"], ["--work", "-1"], ["--work", "x"], ["--progress"], ["--explain=yes"], ["--rule"], ["--rules"], ["examples/block.rle"],
+    ["--memo", "0"], ["--memo", "16777217"], ["--work", "-1"], ["--work", "x"], ["--progress=yes"], ["--explain=yes"], ["--rule"], ["--rules"], ["examples/block.rle"],
 )
 
 
