@@ -65,9 +65,9 @@ def printing_runs(files):
     macrocell = files.path("dot.mc", MACROCELL)
     files.path("S.rule", RULE)
     unknown = files.path("unknown.rle", "x = 1, y = 1, rule = Z\nB!")
-    files.path("Z.rule", "faulty")
+    faulty = files.path("Z.rule", "faulty")
     named = files.path("named.claims", f"load s {state}\nload z {unknown}\nstill s\nstill z\n")
-    found = f"line 3: yes\nline 4: refused, bad rule: unknown\n  z: {unknown}: rule Z\n".encode()
+    found = f"line 3: yes\nline 4: refused, bad rule: unknown\n  z: {unknown}: rule Z: {faulty}: line 1 no rule line\n".encode()
     both = after_path(text, EXPLAINED) + after_path(lost, b"line 2: refused, no file\n  lost: nowhere.rle\n")
     return (
         (["verify", text], Outcome(PLAIN, b"", 1)), (["verify", "--explain", text], Outcome(EXPLAINED, b"", 1)),
