@@ -12,6 +12,7 @@ import random
 import re
 import subprocess
 import time
+from concurrent.futures import ThreadPoolExecutor
 
 from lib.claim_text import ClaimText
 from lib.planes import distinct_squares
@@ -284,11 +285,14 @@ def on_a_terminal(refusing, words, faults):
     """What a run prints whose standard error is a terminal, and what is shown there."""
     master, slave = pty.openpty()
     try:
-        try:
-            got, _ = refusing.run(words, faults, stderr=slave)
-        finally:
-            os.close(slave)
-        return got.printed, all_shown(master)
+        # read while the program runs, since a terminal takes only some thousand bytes that nobody reads
+        with ThreadPoolExecutor(1) as pool:
+            shown = pool.submit(all_shown, master)
+            try:
+                got, _ = refusing.run(words, faults, stderr=slave)
+            finally:
+                os.close(slave)
+            return got.printed, shown.result()
     finally:
         os.close(master)
 
