@@ -6,9 +6,7 @@ use Rattle.ca_quad.specs.declared.node.Node.{Node}
 use Rattle.ca_quad.specs.declared.tree.Tree.{Tree}
 use Rattle.ca_quad.specs.Trimmed.{IsTrimmed}
 use Rattle.ca_quad.proofs.Growth.{below_or_not}
-use Rattle.ca_run.specs.Costs.{Costs}
-use Rattle.ca_run.specs.Leaping.{LeaperView}
-use Rattle.ca_run.specs.Spent.{Spent}
+use Rattle.ca_run.specs.Leaping.{Costs, LeaperView, Spent}
 use Rattle.ca_run.proofs.Costs.{power_more}
 use Rattle.ca_claims.specs.declared.claims.asks.Asks.{Asks}
 use Rattle.ca_claims.specs.declared.claims.asks.Barred.{Barred}

@@ -7,8 +7,7 @@ use Rattle.ca_quad.specs.declared.node.Node.{Node}
 use Rattle.ca_quad.specs.Squares.{IsOf, dot, together, cell_of}
 use Rattle.ca_quad.specs.Sound.{IsSoundStore, Grows}
 use Rattle.ca_quad.specs.Trees.{ShowsSquare, AreFour, AreCorners, IsEmpty, from_corner}
-use Rattle.ca_run.specs.Centre.{IsCentre}
-use Rattle.ca_run.specs.RecentLeaps.{IsLeap}
+use Rattle.ca_run.specs.Centre.{IsCentre, IsLeap}
 use Rattle.ca_run.specs.inner.Shown.{Looks, ShowsAt, FourShow, sixteen}
 use Rattle.ca_run.proofs.After.{after_same, after_none}
 use Rattle.ca_run.proofs.Looks.{looks_together, looks_centre}

@@ -3,8 +3,7 @@ use Rattle.std.proofs.Common.{◌≡◌, ℕ, suc, ◌+◌, ◌-◌, ◌*◌, �
 use Rattle.std.proofs.Math.Nat.{pow-succ', one-le-pow, pow-le-pow_right, div-eq_of_lt, mod-le, mod-lt, mul-le-mul, mul-le-mul_right}
 use Rattle.std.proofs.Math.Pow.{pow_mono}
 use Rattle.ca_quad.proofs.Growth.{below_or_not}
-use Rattle.ca_run.specs.Leaping.{LeaperView}
-use Rattle.ca_run.specs.Costs.{Costs}
+use Rattle.ca_run.specs.Leaping.{LeaperView, Costs}
 
 module _ {Rule : Type 0} where
   -- one call after another

@@ -12,9 +12,7 @@ use Rattle.ca_quad.proofs.Growth.{grows_same}
 use Rattle.ca_run.specs.declared.leaper.dense.Reached.{Reached}
 use Rattle.ca_run.specs.declared.fault.LeapFault.{LeapFault}
 use Rattle.ca_run.specs.Advanced.{IsAdvanced}
-use Rattle.ca_run.specs.Costs.{Costs}
-use Rattle.ca_run.specs.Leaping.{LeaperView, LeaperGrows}
-use Rattle.ca_run.specs.Spent.{Spent, Spends}
+use Rattle.ca_run.specs.Leaping.{Costs, LeaperView, LeaperGrows, Spent, Spends}
 use Rattle.ca_run.specs.inner.Apart.{IsMoved}
 use Rattle.ca_run.specs.inner.Dense.{HasReached, IsIdle, IsDense, HasLeapt, HasParted}
 use Rattle.ca_run.proofs.After.{after_same, after_again}

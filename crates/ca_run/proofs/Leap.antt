@@ -12,9 +12,8 @@ use Rattle.ca_quad.proofs.Growth.{grows_same, grows_on}
 use Rattle.ca_quad.proofs.Cells.{of_stays}
 use Rattle.ca_run.specs.declared.leaper.trio.Trio.{Trio}
 use Rattle.ca_run.specs.declared.leaper.trio.Rows.{Rows}
-use Rattle.ca_run.specs.Centre.{IsCentre}
+use Rattle.ca_run.specs.Centre.{IsCentre, IsLeap}
 use Rattle.ca_run.specs.Leaping.{LeaperView, LeaperGrows}
-use Rattle.ca_run.specs.RecentLeaps.{IsLeap}
 use Rattle.ca_run.specs.inner.Shown.{ShowsAt, FourShow, AreThree, ThreeShow, TwoShow, AreNine, NineShow, side}
 use Rattle.ca_run.proofs.Shown.{spends_same, at_stays, three_stay, three_are, four_was, four_stay, four_go, at_from, centre_at, is_centre_at, at_corner}
 

@@ -12,8 +12,7 @@ use Rattle.ca_quad.proofs.Filled.{place_on}
 use Rattle.ca_quad.proofs.Growth.{below_or_not}
 use Rattle.ca_quad.proofs.Reach.{tree_holds}
 use Rattle.ca_run.specs.inner.Beyond.{IsBeyond, DiesBeyond}
-use Rattle.ca_run.specs.Costs.{Costs}
-use Rattle.ca_run.specs.Leaping.{LeaperView}
+use Rattle.ca_run.specs.Leaping.{Costs, LeaperView}
 use Rattle.ca_run.specs.inner.Dense.{IsLow, HasLeapt}
 use Rattle.ca_run.proofs.Costs.{costs_none, costs_then, costs_more, power_more, digit_below, rising_cost, level_cost, first_digits, all_digits}
 use Rattle.ca_run.proofs.Trees.{tree_dies, later_dies, powers_fit}

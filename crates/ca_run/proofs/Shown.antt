@@ -13,15 +13,12 @@ use Rattle.ca_quad.specs.Trees.{ShowsSquare, AreFour, AreQuarters, from_corner}
 use Rattle.ca_quad.proofs.Growth.{grows_on}
 use Rattle.ca_quad.proofs.Cells.{cells_stay, of_stays}
 use Rattle.ca_run.specs.declared.leaper.trio.Trio.{Trio}
-use Rattle.ca_run.specs.Centre.{centre, IsCentre}
-use Rattle.ca_run.specs.Spent.{Spent, Spends}
-use Rattle.ca_run.specs.Leaping.{LeaperView, LeaperGrows}
+use Rattle.ca_run.specs.Centre.{centre, IsCentre, IsLeap}
+use Rattle.ca_run.specs.Leaping.{Spent, Spends, LeaperView, LeaperGrows}
 use Rattle.ca_run.specs.inner.Shown.{Looks, ShowsAt, FourShow, ThreeShow, TwoShow, AreThree, side}
 use Rattle.ca_run.specs.Pages.{MemoView, HasFullLeap, HasSingle, RemembersNoMore}
 use Rattle.ca_run.specs.Slots.{SlotsView, HasRecent}
-use Rattle.ca_run.specs.Memo.{AreFullLeaps, AreSingles, IsLeaper}
-use Rattle.ca_run.specs.RecentCentres.{AreRecentCentres}
-use Rattle.ca_run.specs.RecentLeaps.{IsLeap, AreRecentLeaps}
+use Rattle.ca_run.specs.Memo.{AreFullLeaps, AreSingles, IsLeaper, AreRecentCentres, AreRecentLeaps}
 use Rattle.ca_run.proofs.After.{after_again}
 use Rattle.ca_run.proofs.Looks.{looks_from, looks_together, looks_nw, looks_ne, looks_sw, looks_se, looks_centre}
 

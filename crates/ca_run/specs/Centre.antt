@@ -1,9 +1,10 @@
--- The centre of a square after some generations (Gosper, "Exploiting regularities in large cellular spaces").
-use Rattle.std.specs.Prelude.{◌≡◌, ℕ, suc, ◌+◌, ◌≤◌, ◌<◌, ◌^◌, pos, List}
+-- What is in the middle of squares after some generations (Gosper, "Exploiting regularities in large cellular spaces").
+use Rattle.std.specs.Prelude.{◌≡◌, ℕ, suc, ◌+◌, ◌≤◌, ◌<◌, ◌^◌, ℤ, pos, ◌+ℤ◌, List}
 use Rattle.ca_plane.specs.Generations.{cells_after}
 use Rattle.ca_quad.specs.declared.node.Node.{Node}
 use Rattle.ca_quad.specs.Squares.{IsOf, cell_of}
-use Rattle.ca_quad.specs.Trees.{from_corner}
+use Rattle.ca_quad.specs.Trees.{AreFour, from_corner}
+use Rattle.ca_run.specs.inner.Shown.{ShowsAt, FourShow, side}
 
 -- the centre of a square after n generations, counted from the centre's own corner: the square lies with its upper left
 -- cell at (0, 0), all else is empty, and the centre begins a quarter of the side further in
@@ -17,3 +18,11 @@ pub record IsCentre (next : List ℕ → ℕ) (nodes : List Node) (id k j half :
   pub is_half : IsOf nodes half (suc k)
   pub has_cells : (u v : ℕ) → u < 2 ^ suc k → v < 2 ^ suc k
       → cell_of nodes (suc k) half u v ≡ centre next (cell_of nodes (suc (suc k)) id) (2 ^ k) (2 ^ j) u v
+
+-- four squares of level k + 1, and the one in their middle as far on as it can be known: whatever plane they show, it shows
+-- what that is 2 ^ k generations later
+pub record IsLeap (next : List ℕ → ℕ) (nodes : List Node) (k nw ne sw se half : ℕ) : Type 0 where
+  pub are_four : AreFour nodes (suc k) nw ne sw se
+  pub is_half : IsOf nodes half (suc k)
+  pub shows : (p : ℤ → ℤ → ℕ) (a b : ℤ) → FourShow nodes (suc k) nw ne sw se p a b
+      → ShowsAt nodes half (suc k) (cells_after next p (2 ^ k)) (a +ℤ side k) (b +ℤ side k)

@@ -1,8 +1,23 @@
--- What a leaper works on, and what its calls leave.
-use Rattle.std.specs.Prelude.{◌≡◌, ℕ, List}
+-- What a leaper works on, and what its calls leave and cost.
+use Rattle.std.specs.Prelude.{◌≡◌, ℕ, ◌+◌, ◌*◌, ◌≤◌, List, length, Result, IfErr}
 use Rattle.ca_quad.specs.declared.node.Node.{Node}
 use Rattle.ca_quad.specs.Sound.{Grows}
-use Rattle.ca_run.specs.Spent.{Spent, Spends}
+use Rattle.ca_run.specs.declared.fault.LeapFault.{LeapFault}
+use Rattle.ca_run.specs.declared.fault.LeapFault.TheVariants.{Work}
+
+-- how many units of work are used up, and how many may be; a unit is a result that was worked out
+pub record Spent : Type 0 where
+  pub used : ℕ
+  pub limit : ℕ
+
+-- the limit is the same, and no unit is given back
+pub record Spends (old new : Spent) : Type 0 where
+  pub limit : new.limit ≡ old.limit
+  pub rises : old.used ≤ new.used
+
+-- want of work is told only where all that may be used is
+abbrev pub EndsAtLimit : {T : Type 0} → Spent → Result T LeapFault → Type 0
+EndsAtLimit spent result = IfErr result (λ fault. fault ≡ Work → spent.used ≡ spent.limit)
 
 -- a rule, the squares of a store, how many results may be remembered, and the work that was done and may be
 pub record LeaperView (Rule : Type 0) : Type 0 where
@@ -17,3 +32,8 @@ pub record LeaperGrows (Rule : Type 0) (old new : LeaperView Rule) : Type 0 wher
   pub grows : Grows old.nodes new.nodes
   pub memo : new.memo ≡ old.memo
   pub spends : Spends old.spent new.spent
+
+-- at most so many units of work were done, and at most 4096 squares added for each of them, and so many besides
+pub record Costs (Rule : Type 0) (old new : LeaperView Rule) (units squares : ℕ) : Type 0 where
+  pub most : new.spent.used ≤ old.spent.used + units
+  pub made : length new.nodes + 4096 * old.spent.used ≤ length old.nodes + 4096 * new.spent.used + squares

@@ -1,16 +1,12 @@
 pub mod Reach
 pub mod Later
 pub mod Centre
-pub mod Spent
 pub mod Leaping
-pub mod Costs
 pub mod Advanced
 pub mod Stepped
 pub mod Lanes
 pub mod Masks
 pub mod Slots
 pub mod Pages
-pub mod RecentCentres
-pub mod RecentLeaps
 pub mod Memo
 pub mod inner

@@ -2,11 +2,9 @@
 use Rattle.std.specs.Prelude.{ℕ, ◌+◌, ◌≤◌, List, Option, IfSome}
 use Rattle.ca_quad.specs.declared.node.Node.{Node}
 use Rattle.ca_quad.specs.Sound.{IsSoundStore}
-use Rattle.ca_run.specs.Centre.{IsCentre}
+use Rattle.ca_run.specs.Centre.{IsCentre, IsLeap}
 use Rattle.ca_run.specs.Pages.{MemoView, HasFullLeap, HasSingle}
-use Rattle.ca_run.specs.Slots.{SlotsView}
-use Rattle.ca_run.specs.RecentCentres.{AreRecentCentres}
-use Rattle.ca_run.specs.RecentLeaps.{AreRecentLeaps}
+use Rattle.ca_run.specs.Slots.{SlotsView, HasRecent}
 use Rattle.ca_run.specs.Masks.{GoesBy}
 
 -- each result that is remembered at full leap is the centre of its square
@@ -16,6 +14,15 @@ AreFullLeaps next nodes memo = (id half : ℕ) → HasFullLeap memo id half → 
 -- and so is each single one
 abbrev pub AreSingles : (List ℕ → ℕ) → List Node → MemoView → Type 0
 AreSingles next nodes memo = (id j half : ℕ) → HasSingle memo id j half → (k : ℕ) × IsCentre next nodes id k j half
+
+-- what a slot has for a square and a j is the square's centre after 2 ^ j generations
+abbrev pub AreRecentCentres : (List ℕ → ℕ) → List Node → List (Option ((ℕ × ℕ) × ℕ)) → Type 0
+AreRecentCentres next nodes slots = (id j half : ℕ) → HasRecent slots (id, j) half → (k : ℕ) × IsCentre next nodes id k j half
+
+-- what a slot has for four squares is the one in their middle, as far on as a leap goes
+abbrev pub AreRecentLeaps : (List ℕ → ℕ) → List Node → List (Option ((ℕ × ℕ × ℕ × ℕ) × ℕ)) → Type 0
+AreRecentLeaps next nodes slots = (nw ne sw se half : ℕ) → HasRecent slots (nw, ne, sw, se) half
+    → (k : ℕ) × IsLeap next nodes k nw ne sw se half
 
 -- all that is remembered is no more than may be: the entries of the memo, and the slots of the two tables
 abbrev pub IsWithin : MemoView → SlotsView (ℕ × ℕ) → SlotsView (ℕ × ℕ × ℕ × ℕ) → ℕ → Type 0

@@ -1,7 +1,7 @@
 //! Work that is counted.
 
 ghost use Rattle.std.specs.Prelude.{◌≡◌, ◌+◌, ◌≤◌, OnOk};
-ghost use Rattle.ca_run.specs.Spent.{Spends, EndsAtLimit};
+ghost use Rattle.ca_run.specs.Leaping.{Spends, EndsAtLimit};
 
 use crate::fault::LeapFault;
 use std::marker::Model;
@@ -15,7 +15,7 @@ pub(crate) struct Work {
 
 impl Model for Work {
     ghost use Rattle.std.specs.Prelude.{◌≤◌};
-    ghost use Rattle.ca_run.specs.Spent.{Spent};
+    ghost use Rattle.ca_run.specs.Leaping.{Spent};
 
     ghost Value = { Spent };
 

@@ -3,8 +3,7 @@
 ghost use Rattle.std.specs.Prelude.{◌≤◌, ◌^◌, IfOk};
 ghost use Rattle.ca_plane.specs.Generations.{cells_after};
 ghost use Rattle.ca_quad.specs.Trees.{IsTree, cell};
-ghost use Rattle.ca_run.specs.Leaping.{LeaperGrows};
-ghost use Rattle.ca_run.specs.Spent.{EndsAtLimit};
+ghost use Rattle.ca_run.specs.Leaping.{LeaperGrows, EndsAtLimit};
 ghost use Rattle.ca_claims.specs.Text.{most_generations};
 ghost use Rattle.ca_claims.specs.inner.Spending.{Takes};
 ghost use Rattle.ca_claims.specs.inner.Stages.{IsNear, IsStart, IsLaterTree, TakesRun};

@@ -3,8 +3,7 @@
 ghost use Rattle.std.specs.Prelude.{◌≡◌, ℕ, ℤ, IfOk, MatchOption};
 ghost use Rattle.ca_quad.specs.Boxes.{IsLeastWideBox};
 ghost use Rattle.ca_quad.specs.Trees.{cell};
-ghost use Rattle.ca_run.specs.Leaping.{LeaperGrows};
-ghost use Rattle.ca_run.specs.Spent.{EndsAtLimit};
+ghost use Rattle.ca_run.specs.Leaping.{LeaperGrows, EndsAtLimit};
 ghost use Rattle.ca_claims.specs.inner.Subjects.{IsNearTree, IsMove, IsNoMove, IsOnlyMove};
 ghost use Rattle.ca_claims.specs.inner.Stages.{IsStart, IsFirst, IsFirstBox, IsWideBox, IsStage};
 ghost use Rattle.ca_claims.specs.inner.Stages.{AreMovedNowhere, AreMovedOnlyBy};

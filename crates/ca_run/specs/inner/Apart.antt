@@ -4,8 +4,7 @@ use Rattle.ca_quad.specs.declared.node.Node.{Node}
 use Rattle.ca_quad.specs.declared.tree.Tree.{Tree}
 use Rattle.ca_quad.specs.Sound.{IsSoundStore}
 use Rattle.ca_quad.specs.Trees.{IsTree, cell}
-use Rattle.ca_run.specs.Leaping.{LeaperView}
-use Rattle.ca_run.specs.Spent.{Spends}
+use Rattle.ca_run.specs.Leaping.{LeaperView, Spends}
 
 -- the tree has the level and the cells of a tree of another store
 pub record IsMoved (old : List Node) (tree : Tree) (new : List Node) (copy : Tree) : Type 0 where

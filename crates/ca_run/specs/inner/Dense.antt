@@ -6,8 +6,7 @@ use Rattle.ca_quad.specs.Trees.{IsTree, cell}
 use Rattle.ca_quad.specs.declared.tree.Tree.{Tree}
 use Rattle.ca_quad.specs.Trimmed.{HoldsAll}
 use Rattle.ca_run.specs.declared.fault.LeapFault.{LeapFault}
-use Rattle.ca_run.specs.Costs.{Costs}
-use Rattle.ca_run.specs.Leaping.{LeaperView}
+use Rattle.ca_run.specs.Leaping.{Costs, LeaperView}
 use Rattle.ca_run.specs.declared.leaper.dense.Reached.{Reached}
 
 -- the tree's level is at most any that holds all its live cells, from some level on

@@ -4,7 +4,7 @@ ghost use Rattle.std.specs.Prelude.{◌≡◌, ℕ, ◌+◌, ◌*◌, ◌<◌, �
 ghost use Rattle.std.specs.Prelude.{length, if◌then◌else◌, OnOk, IfOk};
 ghost use Rattle.ca_plane.specs.Generations.{cells_after};
 ghost use Rattle.ca_quad.specs.Trees.{cell};
-ghost use Rattle.ca_run.specs.Spent.{Spends, EndsAtLimit};
+ghost use Rattle.ca_run.specs.Leaping.{Spends, EndsAtLimit};
 ghost use Rattle.ca_run.specs.inner.Bricks.{WallShows, HasNeighbours, IsNotIn};
 ghost use Rattle.ca_run.specs.inner.Bricks.{AllHaveNeighbours, CanGoOn, IsInPlace, HasBlankEdge};
 

@@ -5,9 +5,7 @@ ghost use Rattle.ca_quad.specs.Sound.{IsSoundStore};
 ghost use Rattle.ca_quad.specs.Trees.{IsTree, cell};
 ghost use Rattle.ca_quad.specs.Trimmed.{IsTrimmed};
 ghost use Rattle.ca_run.specs.Advanced.{CanAdvance, IsAdvanced, Advances};
-ghost use Rattle.ca_run.specs.Costs.{Costs};
-ghost use Rattle.ca_run.specs.Leaping.{LeaperGrows};
-ghost use Rattle.ca_run.specs.Spent.{EndsAtLimit};
+ghost use Rattle.ca_run.specs.Leaping.{Costs, LeaperGrows, EndsAtLimit};
 ghost use Rattle.ca_run.specs.inner.Dense.{HasReached, HasLeapt, HasParted};
 ghost use Rattle.ca_run.specs.inner.Padded.{IsPadded};
 

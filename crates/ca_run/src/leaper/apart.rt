@@ -5,8 +5,7 @@ ghost use Rattle.std.specs.Prelude.{◌≡◌, ℕ, ◌+◌, ◌*◌, ◌≤◌,
 ghost use Rattle.ca_quad.specs.Sound.{Grows};
 ghost use Rattle.ca_quad.specs.Trees.{IsTree, cell};
 ghost use Rattle.ca_run.specs.Advanced.{CanAdvance, IsAdvanced};
-ghost use Rattle.ca_run.specs.Leaping.{LeaperGrows};
-ghost use Rattle.ca_run.specs.Spent.{Spends, EndsAtLimit};
+ghost use Rattle.ca_run.specs.Leaping.{LeaperGrows, Spends, EndsAtLimit};
 ghost use Rattle.ca_run.specs.inner.Apart.{IsMoved, KeepsOn};
 ghost use Rattle.ca_run.specs.inner.Dense.{HasReached, HasParted};
 

@@ -3,10 +3,8 @@
 ghost use Rattle.std.specs.Prelude.{◌≡◌, IfOk};
 ghost use Rattle.ca_quad.specs.Squares.{IsOf, cell_of, together};
 ghost use Rattle.ca_quad.specs.Trees.{AreFour};
-ghost use Rattle.ca_run.specs.Centre.{IsCentre};
-ghost use Rattle.ca_run.specs.Costs.{Costs};
-ghost use Rattle.ca_run.specs.Leaping.{LeaperGrows};
-ghost use Rattle.ca_run.specs.RecentLeaps.{IsLeap};
+ghost use Rattle.ca_run.specs.Centre.{IsCentre, IsLeap};
+ghost use Rattle.ca_run.specs.Leaping.{Costs, LeaperGrows};
 ghost use Rattle.ca_run.specs.inner.Shown.{sixteen};
 
 use super::Leaper;

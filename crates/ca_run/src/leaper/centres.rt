@@ -5,11 +5,8 @@ ghost use Rattle.std.specs.Prelude.{List, Option, IfOk, IfSome, ◌*◌, ◌-◌
 ghost use Rattle.ca_plane.specs.Generations.{cells_after};
 ghost use Rattle.ca_quad.specs.Squares.{IsOf};
 ghost use Rattle.ca_quad.specs.Trees.{AreFour};
-ghost use Rattle.ca_run.specs.Centre.{IsCentre};
-ghost use Rattle.ca_run.specs.Costs.{Costs};
-ghost use Rattle.ca_run.specs.Leaping.{LeaperGrows};
-ghost use Rattle.ca_run.specs.RecentLeaps.{IsLeap};
-ghost use Rattle.ca_run.specs.Spent.{EndsAtLimit};
+ghost use Rattle.ca_run.specs.Centre.{IsCentre, IsLeap};
+ghost use Rattle.ca_run.specs.Leaping.{Costs, LeaperGrows, EndsAtLimit};
 ghost use Rattle.ca_run.specs.inner.Centres.{HasCentre};
 ghost use Rattle.ca_run.specs.inner.Shown.{ShowsAt, FourShow, TwoShow, ThreeShow, NineShow, AreThree};
 ghost use Rattle.ca_run.specs.inner.Shown.{AreNine, side, generations, IsTimely};

@@ -4,10 +4,8 @@ ghost use Rattle.std.specs.Prelude.{◌≡◌, ℕ, ◌+◌, ◌*◌, ◌<◌, �
 ghost use Rattle.std.specs.Prelude.{length, Ok, None, IfOk, IsOk, IfSome};
 ghost use Rattle.ca_plane.specs.Generations.{cells_after};
 ghost use Rattle.ca_quad.specs.Trees.{IsTree, cell};
-ghost use Rattle.ca_run.specs.Costs.{Costs};
-ghost use Rattle.ca_run.specs.Leaping.{LeaperGrows};
+ghost use Rattle.ca_run.specs.Leaping.{Costs, LeaperGrows, EndsAtLimit};
 ghost use Rattle.ca_run.specs.Masks.{GoesBy};
-ghost use Rattle.ca_run.specs.Spent.{EndsAtLimit};
 ghost use Rattle.ca_run.specs.inner.Bricks.{WallShows, IsInPlace, LiesNear, IsAligned};
 ghost use Rattle.ca_run.specs.inner.Dense.{HasReached, IsIdle, IsDense};
 

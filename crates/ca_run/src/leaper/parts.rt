@@ -4,8 +4,7 @@ ghost use Rattle.std.specs.Prelude.{◌≡◌, ℕ, suc, ◌≤◌, ◌^◌, ℤ
 ghost use Rattle.ca_quad.specs.Squares.{IsOf};
 ghost use Rattle.ca_quad.specs.Sound.{IsSoundStore};
 ghost use Rattle.ca_quad.specs.Trees.{AreFour};
-ghost use Rattle.ca_run.specs.Costs.{Costs};
-ghost use Rattle.ca_run.specs.Leaping.{LeaperGrows};
+ghost use Rattle.ca_run.specs.Leaping.{Costs, LeaperGrows};
 ghost use Rattle.ca_run.specs.inner.Shown.{ShowsAt, FourShow, TwoShow, side};
 
 use super::Leaper;

@@ -2,8 +2,7 @@
 
 ghost use Rattle.std.specs.Prelude.{ℕ, ℤ, IfOk, IfSome};
 ghost use Rattle.ca_quad.specs.Squares.{IsOf};
-ghost use Rattle.ca_run.specs.Costs.{Costs};
-ghost use Rattle.ca_run.specs.Leaping.{LeaperGrows};
+ghost use Rattle.ca_run.specs.Leaping.{Costs, LeaperGrows};
 ghost use Rattle.ca_run.specs.inner.Shown.{ShowsAt};
 ghost use Rattle.ca_run.specs.inner.Words.{WordShows, WordsShow, WideSquareShows};
 

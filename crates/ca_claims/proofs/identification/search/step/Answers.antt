@@ -2,7 +2,7 @@ use Rattle.std.proofs.Common.{◌+◌, ◌≤◌, ◌^◌, sym, subst}
 use Rattle.ca_plane.specs.Generations.{cells_after}
 use Rattle.ca_quad.specs.Trees.{cell}
 use Rattle.ca_quad.proofs.Trims.{trees_stay}
-use Rattle.ca_run.specs.Spent.{Spent}
+use Rattle.ca_run.specs.Leaping.{Spent}
 use Rattle.ca_run.proofs.Shown.{goes_on_again}
 use Rattle.ca_claims.proofs.Stages.{one_step, near_next, later_next, later_stays, first_stays, stage_as}
 use Rattle.ca_claims.proofs.identification.search.step.Goals as goal

@@ -8,10 +8,8 @@ use Rattle.ca_quad.specs.Sound.{IsSoundStore}
 use Rattle.ca_quad.specs.Trees.{AreFour}
 use Rattle.ca_quad.proofs.Growth.{grows_on}
 use Rattle.ca_quad.proofs.Cells.{of_stays}
-use Rattle.ca_run.specs.Centre.{IsCentre}
-use Rattle.ca_run.specs.RecentLeaps.{IsLeap}
-use Rattle.ca_run.specs.Costs.{Costs}
-use Rattle.ca_run.specs.Leaping.{LeaperGrows}
+use Rattle.ca_run.specs.Centre.{IsCentre, IsLeap}
+use Rattle.ca_run.specs.Leaping.{Costs, LeaperGrows}
 use Rattle.ca_run.specs.inner.Shown.{ShowsAt, FourShow, side, generations}
 use Rattle.ca_run.proofs.Shown.{goes_on_again, three_go_on, four_go_on, at_stays, three_stay, three_are, four_of, four_go, four_stay, four_between, four_halfway, four_inner}
 use Rattle.ca_run.proofs.Leap.{goes_on_same, rule_on, leap_shows, leap_square, leap_of_join, centre_ok, nine_centre, trio_are, nine_are, west_four, east_four, pair_at, trio_at, nine_at, four_at}

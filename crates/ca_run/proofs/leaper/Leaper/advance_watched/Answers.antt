@@ -3,7 +3,7 @@ use Rattle.std.proofs.lemmas.Result.{err_from_is_err_and}
 use Rattle.ca_quad.specs.Sound.{IsSoundStore}
 use Rattle.ca_quad.proofs.Cells.{of_stays}
 use Rattle.ca_run.specs.Advanced.{IsAdvanced}
-use Rattle.ca_run.specs.Spent.{EndsAtLimit}
+use Rattle.ca_run.specs.Leaping.{EndsAtLimit}
 use Rattle.ca_run.specs.inner.Dense.{HasReached}
 use Rattle.ca_run.proofs.DenseRuns.{reached_now, advanced_before, stepped_cost, whole_cost, parted_cost}
 use Rattle.ca_run.proofs.Shown.{goes_on_again}

@@ -1,5 +1,5 @@
 use Rattle.std.proofs.Common.{sym, subst, arith}
-use Rattle.ca_run.specs.RecentLeaps.{IsLeap}
+use Rattle.ca_run.specs.Centre.{IsLeap}
 use Rattle.ca_run.proofs.Shown.{leaps_more}
 use Rattle.ca_run.proofs.leaper.Leaper.remember_leap.Goals as goal
 

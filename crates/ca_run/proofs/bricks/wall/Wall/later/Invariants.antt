@@ -1,7 +1,7 @@
 use Rattle.std.proofs.Common.{◌≡◌, ℕ, ◌+◌, ◌-◌, ◌*◌, ◌≤◌, length, []}
 use Rattle.ca_plane.specs.Generations.{cells_after}
 use Rattle.ca_quad.specs.Trees.{cell}
-use Rattle.ca_run.specs.Spent.{Spends}
+use Rattle.ca_run.specs.Leaping.{Spends}
 use Rattle.ca_run.specs.inner.Bricks.{WallShows, IsInPlace, AllHaveNeighbours, HasNeighbours, IsNotIn, IsNextBrick, Rest, HasBlankEdge}
 use Rattle.ca_run.proofs.bricks.wall.Wall.later.Given as goal
 
